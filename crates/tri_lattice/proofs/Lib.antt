@@ -1,0 +1,5 @@
+pub mod Nodes
+pub mod Steps
+pub mod Boxes
+pub mod Paths
+mod Samples

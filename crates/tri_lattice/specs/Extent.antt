@@ -1,0 +1,41 @@
+-- A box of nodes, and the numbers of its nodes. Its bounds and the numbering are this project's profile.
+use Rattle.std.specs.Prelude.{ℕ, ℤ, pos, negsuc, ◌+ℤ◌, ◌-ℤ◌, ◌≤ℤ◌, nat_lt, is_some, ◌+◌, ◌*◌, ◌/◌, ◌%◌, ◌≤◌, Bool, if◌then◌else◌}
+use Rattle.std.specs.declared.option.Option.{Option}
+use Rattle.std.specs.Option.{option_and_then, option_map}
+use Rattle.std.specs.declared.option.Option.TheVariants.{Some, None}
+use Rattle.tri_lattice.specs.declared.node.Node.{Node}
+
+-- where a box begins, and how wide and high it is
+pub record Extent : Type 0 where
+  pub x0 : ℤ
+  pub y0 : ℤ
+  pub w : ℕ
+  pub h : ℕ
+
+-- a box that may be an area: it begins within -4096..=4096, and its sides are 1 to 128 nodes
+pub record IsArea (a : Extent) : Type 0 where
+  pub x_low : negsuc 4095 ≤ℤ a.x0
+  pub x_high : a.x0 ≤ℤ pos 4096
+  pub y_low : negsuc 4095 ≤ℤ a.y0
+  pub y_high : a.y0 ≤ℤ pos 4096
+  pub w_low : 1 ≤ a.w
+  pub w_high : a.w ≤ 128
+  pub h_low : 1 ≤ a.h
+  pub h_high : a.h ≤ 128
+
+-- the place in a side of this length of what lies so far from its beginning; none outside
+abbrev pub place : ℤ → ℕ → Option ℕ
+place (pos n) side = if nat_lt n side then Some n else None
+place (negsuc n) side = None
+
+-- the number of a node of the box, row by row: (y - y0) * w + (x - x0); none outside
+abbrev pub index_of : Extent → Node → Option ℕ
+index_of a v = option_and_then (λ i. option_map (λ j. j * a.w + i) (place (v.y -ℤ a.y0) a.h)) (place (v.x -ℤ a.x0) a.w)
+
+-- the node lies in the box
+abbrev pub is_in : Extent → Node → Bool
+is_in a v = is_some (index_of a v)
+
+-- the node with a number
+abbrev pub node_at : Extent → ℕ → Node
+node_at a n = record { x = a.x0 +ℤ pos (n % a.w); y = a.y0 +ℤ pos (n / a.w) }

@@ -1,0 +1,4 @@
+pub mod Lattice
+pub mod Extent
+pub mod Sets
+pub mod Laws
