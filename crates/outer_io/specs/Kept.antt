@@ -1,0 +1,26 @@
+-- What a sink of a fixed room keeps of what it is given.
+use Rattle.std.specs.Prelude.{ℕ, ◌+◌, ◌-◌, List, [], ◌++◌, length, take, Bool, true, ◌&&◌, nat_le, if◌then◌else◌}
+use Rattle.std.specs.declared.option.Option.{Option}
+use Rattle.std.specs.declared.option.Option.TheVariants.{Some, None}
+
+-- the room in bytes, the bytes kept, and whether these are all that it was given
+pub record Kept : Type 0 where
+  pub room : ℕ
+  pub bytes : List ℕ
+  pub is_whole : Bool
+
+-- before the first write
+abbrev pub nothing_kept : ℕ → Kept
+nothing_kept room = record { room = room; bytes = []; is_whole = true }
+
+-- after one more piece: the front of it for which there is room is kept, and what does not fit is dropped
+abbrev pub kept_after : Kept → List ℕ → Kept
+kept_after kept piece = record {
+  room = kept.room;
+  bytes = kept.bytes ++ take (kept.room - length kept.bytes) piece;
+  is_whole = kept.is_whole && nat_le (length kept.bytes + length piece) kept.room;
+}
+
+-- the bytes are told while none was dropped
+abbrev pub written_of : Kept → Option (List ℕ)
+written_of kept = if kept.is_whole then Some kept.bytes else None

@@ -1,0 +1,21 @@
+//! Where bytes come from and go to: sources and sinks that may tell their bytes and that count their faults,
+//! with a reader of whole documents and a writer of whole texts over them.
+#![tactic(auto)]
+
+mod errors;
+mod reading;
+mod std_sink;
+mod std_source;
+mod sure_sink;
+mod sure_source;
+#[cfg(test)]
+mod tests;
+mod writing;
+
+pub use errors::{Failed, NoMemory, ReadError, WriteFault};
+pub use reading::{Document, Source, read_document};
+pub use std_sink::StdSink;
+pub use std_source::StdSource;
+pub use sure_sink::SureSink;
+pub use sure_source::SureSource;
+pub use writing::{Sink, write_all};

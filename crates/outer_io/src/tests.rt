@@ -1,0 +1,163 @@
+ghost use Rattle.std.specs.Prelude.{ℕ, ◌≤◌, List};
+ghost use Rattle.std.specs.declared.option.Option.TheVariants.{Some, None};
+
+use crate::{
+    Failed, ReadError, Sink, Source, StdSink, StdSource, SureSink, SureSource, WriteFault,
+    read_document, write_all,
+};
+use std::io::{self, ErrorKind, Read};
+use std::test::Fail;
+
+/// Gives at most three bytes a read.
+#[derive(Drop)]
+struct Slow {
+    source: SureSource,
+}
+
+impl Source for Slow {
+    ghost left = { λ slow. Some slow.source };
+
+    ghost faults = { λ _. 0 };
+
+    fn read(&mut self, piece: &mut [u8]) -> Result<usize, Failed> {
+        let count = piece.len().min(3);
+        self.source.read(&mut piece[..count])
+    }
+}
+
+/// Never ends, and gives two bytes a read.
+#[derive(Drop)]
+struct Endless {
+    given: u64,
+}
+
+impl Source for Endless {
+    ghost left = { λ _. None };
+
+    ghost faults = { λ _. 0 };
+
+    fn read(&mut self, piece: &mut [u8]) -> Result<usize, Failed> {
+        let count = piece.len().min(2);
+        self.given = self.given.saturating_add(count as u64);
+        Ok(count)
+    }
+}
+
+/// Gives one byte, and then fails.
+#[derive(Drop)]
+struct Torn {
+    is_read: bool,
+}
+
+impl Read for Torn {
+    fn read(&mut self, piece: &mut [u8]) -> io::Result<usize> {
+        if self.is_read {
+            return Err(io::Error::from(ErrorKind::Other));
+        }
+        self.is_read = true;
+        Ok(piece.len().min(1))
+    }
+}
+
+/// Takes two bytes a write, and keeps what the first three writes were given.
+#[derive(Drop)]
+struct Nibbling {
+    writes: usize,
+    given: [usize; 3],
+}
+
+impl Sink for Nibbling {
+    ghost written = { λ _. None };
+
+    ghost faults = { λ _. 0 };
+
+    fn write(&mut self, piece: &[u8]) -> Result<usize, Failed> {
+        if self.writes < 3 {
+            self.given[self.writes] = piece.len();
+            self.writes += 1;
+        }
+        Ok(piece.len().min(2))
+    }
+}
+
+#[test]
+fn a_document_comes_in_pieces(rt: HostRuntime) -> Result<(), Fail> {
+    for (limit, fits) in [(4, false), (5, true), (6, true)] {
+        let source = SureSource::new(rt.alloc(), b"hello")?;
+        let mut slow = Slow { source };
+        match read_document(rt.alloc(), &mut slow, limit) {
+            Ok(document) => assert!(rt; fits && document.bytes() == b"hello".as_slice()),
+            Err(error) => assert!(rt; !fits && error == ReadError::TooLong),
+        }
+    }
+    Ok(())
+}
+
+#[test]
+fn a_long_document_comes_whole(rt: HostRuntime) -> Result<(), Fail> {
+    let bytes = vec![in rt.alloc(); 7; 10_000]?;
+    let mut source = SureSource::new(rt.alloc(), &bytes)?;
+    let document = read_document(rt.alloc(), &mut source, u32::MAX)?;
+    assert!(rt; document.bytes() == bytes.as_slice());
+    Ok(())
+}
+
+#[test]
+fn one_byte_above_the_limit_is_asked_for(rt: HostRuntime) {
+    let mut source = Endless { given: 0 };
+    match read_document(rt.alloc(), &mut source, 9_000) {
+        Ok(_) => assert!(rt; false),
+        Err(error) => assert_eq!(rt; error, ReadError::TooLong),
+    }
+    assert_eq!(rt; source.given, 9_001);
+}
+
+#[test]
+fn std_readers_and_writers_serve(rt: HostRuntime) -> Result<(), Fail> {
+    let mut source = StdSource::new(b"ping".as_slice());
+    let document = read_document(rt.alloc(), &mut source, 4)?;
+    let mut written = Vec::new(rt.alloc());
+    write_all(&mut StdSink::new(&mut written), document.bytes())?;
+    assert!(rt; written.as_slice() == b"ping".as_slice());
+    Ok(())
+}
+
+#[test]
+fn a_reader_that_fails_is_a_read_fault(rt: HostRuntime) {
+    let mut source = StdSource::new(Torn { is_read: false });
+    match read_document(rt.alloc(), &mut source, 4) {
+        Ok(_) => assert!(rt; false),
+        Err(error) => assert_eq!(rt; error, ReadError::ReadFault),
+    }
+}
+
+#[test]
+fn a_writer_that_takes_nothing_is_a_write_fault(rt: HostRuntime) {
+    let mut room = [0u8; 3];
+    let outcome = write_all(&mut StdSink::new(room.as_mut_slice()), b"abcd");
+    assert_eq!(rt; outcome, Err(WriteFault));
+    assert!(rt; room == *b"abc");
+}
+
+#[test]
+fn each_write_is_given_all_that_is_left(rt: HostRuntime) -> Result<(), Fail> {
+    let mut sink = Nibbling {
+        writes: 0,
+        given: [0; 3],
+    };
+    write_all(&mut sink, b"")?;
+    assert_eq!(rt; sink.writes, 0);
+    write_all(&mut sink, b"abcde")?;
+    assert_eq!(rt; sink.given, [5, 3, 1]);
+    Ok(())
+}
+
+#[test]
+fn a_sure_sink_keeps_what_fits(rt: HostRuntime) -> Result<(), Fail> {
+    let mut sink = SureSink::new(rt.alloc(), 4)?;
+    write_all(&mut sink, b"ab")?;
+    assert!(rt; sink.whole() && sink.bytes() == b"ab".as_slice());
+    write_all(&mut sink, b"cde")?;
+    assert!(rt; !sink.whole() && sink.bytes() == b"abcd".as_slice());
+    Ok(())
+}
