@@ -1,5 +1,5 @@
 -- The two ends of a chain of three nodes are not connected without its middle.
-use Rattle.std.proofs.Common.{◌≡◌, ◌≢◌, ℕ, zero, suc, ◌<◌, ℤ, pos, Bool, false, ◌||◌, true, arith, refl, sym, ap, subst, inl, inr}
+use Rattle.std.proofs.Common.{◌≡◌, zero, suc, ℤ, pos, Bool, false, ◌||◌, true, arith, refl, sym, ap, subst, inl, inr}
 use Rattle.std.proofs.lemmas.Bool.{or_cases, false_from_ne_true}
 use Rattle.std.specs.Prelude.{IsTrue}
 use Rattle.tri_lattice.specs.declared.node.Node.{Node}

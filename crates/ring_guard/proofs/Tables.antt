@@ -66,7 +66,7 @@ pub implies_from : (p q : Bool) → (p ≡ true → q ≡ true) → implies p q 
 implies_from true q h = h refl
 implies_from false q h = refl
 
-beq-true : (p q : Bool) → beq p q ≡ true → p ≡ q
+pub beq-true : (p q : Bool) → beq p q ≡ true → p ≡ q
 beq-true true true e = refl
 beq-true true false e = absurd (false≢true e)
 beq-true false true e = absurd (false≢true e)
@@ -114,11 +114,11 @@ ends_below xs zero = 0
 ends_below xs (suc n) = ends_below xs n + cond (is_end xs n) 1 0
 
 -- the six entries, as a list of their own
-abbrev six : List Bool → List Bool
+abbrev pub six : List Bool → List Bool
 six xs = entry xs 0 ∷ entry xs 1 ∷ entry xs 2 ∷ entry xs 3 ∷ entry xs 4 ∷ entry xs 5 ∷ []
 
 -- a test that computes true on each of the 64 rings
-ring_table : (f : List Bool → Bool) → each_list 6 f ≡ true → (xs : List Bool) → f (six xs) ≡ true
+pub ring_table : (f : List Bool → Bool) → each_list 6 f ≡ true → (xs : List Bool) → f (six xs) ≡ true
 ring_table f e xs = each_list_at 6 f e (six xs) refl
 
 -- one arc, by the number of ends

@@ -1,9 +1,9 @@
 -- What one arc says of a connected set, and which rings are one arc.
-use Rattle.std.specs.Prelude.{◌≡◌, ◌↔◌, ℕ, ◌<◌, ◌/◌, ◌%◌, ◌==◌, Bool, IsTrue, List, [], ◌∷◌}
+use Rattle.std.specs.Prelude.{◌≡◌, ◌↔◌, ℕ, ◌<◌, ◌/◌, ◌%◌, ◌==◌, Bool, IsTrue, List, [], ◌∷◌, length}
 use Rattle.std.specs.List.{list_any}
 use Rattle.tri_lattice.specs.declared.node.Node.{Node}
 use Rattle.tri_lattice.specs.Sets.{IsConnected, TakesOut}
-use Rattle.ring_guard.specs.Rings.{IsOneArc, ring_in, HasEmptyRing}
+use Rattle.ring_guard.specs.Rings.{IsOneArc, IsRun, ring_in, HasEmptyRing}
 
 -- taking out a node whose ring is one arc leaves a connected set connected
 abbrev pub TakingKeeps : Type 0
@@ -16,6 +16,10 @@ TakingLeaves = (S T : Node → Bool) (v : Node) → IsOneArc (ring_in S v) → T
 -- a node of a connected set with no neighbour in it is the whole set
 abbrev pub AloneIsAll : Type 0
 AloneIsAll = (S : Node → Bool) (v : Node) → IsConnected S → IsTrue (S v) → HasEmptyRing S v → (a : Node) → IsTrue (S a) → a ≡ v
+
+-- a ring is one arc exactly where its true entries stand in a row round the ring, and there is one
+abbrev pub ArcsAreRuns : Type 0
+ArcsAreRuns = (xs : List Bool) → length xs ≡ 6 → IsOneArc xs ↔ IsRun xs
 
 -- the ring whose entry i is bit i of a number below 64
 abbrev pub ring_of : ℕ → List Bool

@@ -1,5 +1,5 @@
 -- Rings of six entries, and the arcs of the true ones.
-use Rattle.std.specs.Prelude.{◌≡◌, ℕ, ◌+◌, ◌%◌, ◌<◌, Bool, false, IsTrue, List, map, slice_index_or}
+use Rattle.std.specs.Prelude.{◌≡◌, ℕ, ◌+◌, ◌-◌, ◌%◌, ◌<◌, ◌≤◌, Bool, false, IsTrue, List, [], ◌∷◌, map, slice_index_or, nat_lt}
 use Rattle.tri_lattice.specs.declared.node.Node.{Node}
 use Rattle.tri_lattice.specs.Lattice.{ring}
 
@@ -15,6 +15,19 @@ IsEnd xs i = IsTrue (entry xs i) × (entry xs ((i + 1) % 6) ≡ false)
 pub record IsOneArc (xs : List Bool) : Type 0 where
   pub some : (i : ℕ) × (i < 6) × IsTrue (entry xs i)
   pub once : (i j : ℕ) → i < 6 → j < 6 → IsEnd xs i → IsEnd xs j → i ≡ j
+
+-- the ring whose true entries are those of n directions in a row, from one on round
+abbrev pub run : ℕ → ℕ → List Bool
+run from n = map (λ i. nat_lt ((i + 6 - from) % 6) n) (0 ∷ 1 ∷ 2 ∷ 3 ∷ 4 ∷ 5 ∷ [])
+
+-- the true entries stand in a row round the ring, and there is one
+pub record IsRun (xs : List Bool) : Type 0 where
+  pub from : ℕ
+  pub count : ℕ
+  pub below : from < 6
+  pub some : 1 ≤ count
+  pub most : count ≤ 6
+  pub is : xs ≡ run from count
 
 -- which of the six neighbours of a node are in a set
 abbrev pub ring_in : (Node → Bool) → Node → List Bool
