@@ -134,7 +134,7 @@ impl Reader<'_> {
         ensures plain { IfOk result (λ bots. All IsPlain bots.items) }
     {
         let mut bots = Vec::new(alloc);
-        for _ in 0..MOST_BOTS {
+        for _id in 0..MOST_BOTS {
             if self.scanner.peek() != Token::Word(b"bot") {
                 break;
             }
@@ -198,7 +198,7 @@ impl Reader<'_> {
         ensures there { IfOk result (λ ids. All (λ id. id < bots) ids.items) }
     {
         let mut ids = Vec::new(alloc);
-        for _ in 0..MOST_IDS {
+        for _place in 0..MOST_IDS {
             if !matches!(self.scanner.peek(), Token::Number(_)) {
                 break;
             }
