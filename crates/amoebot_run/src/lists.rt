@@ -1,5 +1,5 @@
 ghost use Rattle.std.specs.Prelude.{◌≡◌, ◌+◌, ◌*◌, ◌<◌, ◌≤◌, ◌∷◌, ◌++◌, [], length, IfOk, OnOk, OnErr};
-ghost use Rattle.amoebot_run.specs.Turns.{CallerLists, IsList, AreFew, bot_of};
+ghost use Rattle.amoebot_run.specs.Turns.{CallerLists, IsList, AreFew, AreLists, bot_of};
 
 use amoebot_state::NoMemory;
 use std::alloc::Global;
@@ -55,7 +55,7 @@ impl Lists {
     /// How many callers there are, at most 16.
     pub fn callers(&self) -> u8
         ensures value { result ≡ length self.now.ids }
-        ensures few { AreFew result self.now.turns }
+        ensures lists { AreLists self.now }
     {
         self.ids.len() as u8
     }
