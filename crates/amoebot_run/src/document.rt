@@ -19,17 +19,62 @@ pub struct Run {
 }
 
 const VERSION: u32 = 1;
+
 const MOST_BOTS: u16 = 4096;
+
 const MOST_IDS: u16 = 4096;
+
 const MOST_TURNS: u32 = 65_536;
 
 /// The words of the language, which name no action.
 const RESERVED: [&str; 47] = [
-    "amoebot", "program", "guard", "on", "off", "var", "action", "do", "move", "end", "if", "then",
-    "else", "fi", "for", "od", "let", "in", "ports", "free", "true", "false", "contracted",
-    "expanded", "not", "and", "or", "any", "all", "count", "first", "head", "tail", "turn", "dir",
-    "peer_dir", "peer_head", "peer_expanded", "at_head", "linked", "inner", "mod6", "none",
-    "expand", "contract", "push", "pull",
+    "amoebot",
+    "program",
+    "guard",
+    "on",
+    "off",
+    "var",
+    "action",
+    "do",
+    "move",
+    "end",
+    "if",
+    "then",
+    "else",
+    "fi",
+    "for",
+    "od",
+    "let",
+    "in",
+    "ports",
+    "free",
+    "true",
+    "false",
+    "contracted",
+    "expanded",
+    "not",
+    "and",
+    "or",
+    "any",
+    "all",
+    "count",
+    "first",
+    "head",
+    "tail",
+    "turn",
+    "dir",
+    "peer_dir",
+    "peer_head",
+    "peer_expanded",
+    "at_head",
+    "linked",
+    "inner",
+    "mod6",
+    "none",
+    "expand",
+    "contract",
+    "push",
+    "pull",
 ];
 
 /// Reads a document of the first grammar: one action that expands a contracted amoebot, no variables, at most one list.

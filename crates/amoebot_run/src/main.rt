@@ -12,17 +12,15 @@ mod report;
 mod run;
 mod scan;
 mod serial;
-mod texts;
-
 #[cfg(test)]
 mod tests;
+mod texts;
 
 use gate::NoGate;
 use outer_io::{StdSink, StdSource};
 use run::run;
-use std::env;
-use std::io;
 use std::process::ExitCode;
+use std::{env, io};
 
 /// The status where no memory is left for the list of words.
 const NO_MEMORY: u8 = 6;
@@ -33,7 +31,9 @@ const NO_WORDS: u8 = 8;
 fn main(rt: HostRuntime) -> ExitCode {
     let args = match env::args(&rt) {
         Ok(args) => args,
-        Err(error) if error.kind() == io::ErrorKind::OutOfMemory => return ExitCode::from(NO_MEMORY),
+        Err(error) if error.kind() == io::ErrorKind::OutOfMemory => return ExitCode::from(
+            NO_MEMORY,
+        ),
         Err(_) => return ExitCode::from(NO_WORDS),
     };
     let mut words = Vec::new(rt.alloc());

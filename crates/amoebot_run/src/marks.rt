@@ -9,9 +9,16 @@ use std::marker::Model;
 #[derive(Clone, Copy, Debug, PartialEq, Eq)]
 pub enum Mark {
     /// The turn committed the entry with this number.
-    Done { place: u32 },
-    Idle { place: u32 },
-    Failed { failure: Failure, place: u32 },
+    Done {
+        place: u32,
+    },
+    Idle {
+        place: u32,
+    },
+    Failed {
+        failure: Failure,
+        place: u32,
+    },
     /// A cell of the zone was held, in that turn of that caller on that amoebot.
     Busy {
         cell: CellName,

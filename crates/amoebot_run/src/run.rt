@@ -98,7 +98,8 @@ pub fn run<R: Threads + Wait + Sync, S: Source, K: Sink, G: Gate>(
     ensures done { result.status ≡ Status.Done → (document text : List ℕ)
         × Consumes (S.left input.old) (S.left input.new) document × IsAtEnd (S.left input.new)
         × (length document ≤ 1048576)
-        × Grows (K.written out.old) (K.written out.new) text }
+        × Grows (K.written out.old) (K.written out.new) text
+        × IsRun (map string_bytes words.now) }
 
     // Where the words are no command, nothing is read, and only a write that fails hides that.
     ensures words { result.status ≡ Status.Words → ¬ IsRun (map string_bytes words.now) }
@@ -209,7 +210,14 @@ pub fn run_text<R: Threads + Wait + Sync>(
     words: &[String],
     bytes: &[u8],
     out: &mut SureSink,
-) -> Ended {
+) -> Ended
+    ensures report { IsSome result.report ↔ (result.status ≡ Status.Done) }
+    ensures words { result.status ≡ Status.Words → ¬ IsRun (map string_bytes words.now) }
+
+    // Bytes in memory have no faults.
+    ensures no_read_fault { result.status ≢ Status.ReadFault }
+    ensures no_write_fault { result.status ≢ Status.WriteFault }
+{
     match SureSource::new(alloc, bytes) {
         Ok(mut input) => run(rt, alloc, words, &mut input, out, &NoGate),
         Err(_) => end_with(Status::NoMemory),

@@ -16,6 +16,7 @@ pub enum Token<'a> {
 }
 
 const LONGEST_WORD: usize = 24;
+
 const MOST_DIGITS: usize = 9;
 
 /// The tokens of a document, of which the first is known.

@@ -24,13 +24,15 @@ loop-turn-preserved g c = record {
   kept = c.loop-turn.invariant.kept;
   caller = c.loop-turn.invariant.caller;
   entries = elim c.match-activate.branch [
-    in-Done w ↦ omega (arith, ap (λ j. length j.entries) w.journal-is, ap length w.push.ensures.entries, length-append c.loop-turn.journal.entries (w.in-Done.entry ∷ []))
+    | in-Done w ↦ omega (arith, ap (λ j. length j.entries) w.journal-is, ap length w.push.ensures.entries, length-append c.loop-turn.journal.entries (w.in-Done.entry ∷ []))
     | in-Idle w ↦ omega (arith, ap (λ j. length j.entries) w.journal-is)
-    | in-Failed w ↦ omega (arith, ap (λ j. length j.entries) w.journal-is) ];
+    | in-Failed w ↦ omega (arith, ap (λ j. length j.entries) w.journal-is)
+  ];
   spare = elim c.match-activate.branch [
-    in-Done w ↦ omega (arith, ap (λ j. j.spare) w.journal-is)
+    | in-Done w ↦ omega (arith, ap (λ j. j.spare) w.journal-is)
     | in-Idle w ↦ omega (arith, ap (λ j. j.spare) w.journal-is)
-    | in-Failed w ↦ omega (arith, ap (λ j. j.spare) w.journal-is) ];
+    | in-Failed w ↦ omega (arith, ap (λ j. j.spare) w.journal-is)
+  ];
   all_turns = ap (λ m. m.turns) c.add.ensures ∙ c.loop-turn.invariant.all_turns;
   callers = ap (λ m. length m.marks) c.add.ensures ∙ length-set _ _ _ ∙ c.loop-turn.invariant.callers;
   marked = ap (λ m. length (marks_of m 0)) c.add.ensures ∙ marks_of-add c.loop-turn.marks 0 c.match-activate.mark (omega (arith, c.loop-turn.invariant.caller)) ∙ ap (λ n. n + 1) c.loop-turn.invariant.marked;
