@@ -1,7 +1,6 @@
 -- What holds while the turns of the only caller are made.
-use Rattle.std.proofs.Common.{◌≡◌, ◌<◌, ◌≤◌, ◌+◌, ◌%◌, ℕ, List, [], ◌∷◌, ◌++◌, length, get_or, ap, sym, ◌∙◌, arith, get_or-set_same, length-append, refl, zero, suc}
-use Rattle.std.proofs.Math.ListN.{set, length-set, replicate}
-use Rattle.std.proofs.lemmas.List.{length-replicate}
+use Rattle.std.proofs.Common.{◌≡◌, ◌<◌, ◌≤◌, ◌+◌, ◌%◌, ℕ, [], ◌∷◌, ◌++◌, length, arith, get_or-set_same, length-append, refl, zero, suc}
+use Rattle.std.proofs.Math.ListN.{set, replicate}
 use Rattle.amoebot_state.specs.Configs.{Config}
 use Rattle.amoebot_run.specs.declared.marks.Mark.{Mark}
 use Rattle.amoebot_run.specs.Turns.{AreLists, CallerLists, HaveBots, Kept, MarkLists, bot_of, list_of, marks_of}

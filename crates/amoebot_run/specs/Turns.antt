@@ -1,5 +1,5 @@
 -- The callers' lists, the journal and the marks, as contracts see them.
-use Rattle.std.specs.Prelude.{◌≡◌, ℕ, ◌<◌, ◌≤◌, ◌*◌, ◌%◌, List, [], length, slice_index, slice_index_or}
+use Rattle.std.specs.Prelude.{ℕ, ◌<◌, ◌≤◌, ◌*◌, ◌%◌, List, [], length, slice_index, slice_index_or}
 use Rattle.std.specs.List.{All}
 use Rattle.amoebot_state.specs.Configs.{Config}
 use Rattle.amoebot_state.specs.declared.verdict.Entry.{Entry}

@@ -1,8 +1,8 @@
-use Rattle.std.proofs.Common.{◌≡◌, ◌<◌, ◌≤◌, ◌+◌, length, ap, sym, subst, ◌∙◌, arith, length-append, [], ◌∷◌}
+use Rattle.std.proofs.Common.{◌+◌, length, ap, sym, subst, ◌∙◌, arith, length-append, [], ◌∷◌}
 use Rattle.std.proofs.lemmas.List.{length-replicate}
 use Rattle.std.proofs.Math.ListN.{length-set}
 use Rattle.amoebot_run.specs.Turns.{HaveBots, marks_of}
-use Rattle.amoebot_run.proofs.Underway.{bot_of-there, marks_of-none, marks_of-add}
+use Rattle.amoebot_run.proofs.Underway.{marks_of-none, marks_of-add}
 use Rattle.amoebot_run.proofs.serial.run_serially.Goals as goal
 use Rattle.amoebot_run.proofs.serial.run_serially.Goals.{then-callers-eq0, else-callers-eq0, in-Done, in-Idle, in-Failed}
 
