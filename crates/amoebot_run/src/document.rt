@@ -27,7 +27,7 @@ const MOST_IDS: u16 = 4096;
 const MOST_TURNS: u32 = 65_536;
 
 /// The words of the language, which name no action.
-const RESERVED: [&str; 47] = [
+const RESERVED: [&str; 48] = [
     "amoebot",
     "program",
     "guard",
@@ -35,6 +35,7 @@ const RESERVED: [&str; 47] = [
     "off",
     "var",
     "action",
+    "when",
     "do",
     "move",
     "end",

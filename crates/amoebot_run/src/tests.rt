@@ -13,16 +13,16 @@ use std::thread::Threads;
 
 /// The parts of a document that the tests change. The document is one line.
 #[derive(Clone, Copy)]
-struct Parts {
-    version: &'static str,
-    action: &'static str,
-    shape: &'static str,
-    lists: &'static str,
-    rest: &'static str,
+struct Parts<'a> {
+    version: &'a str,
+    action: &'a str,
+    shape: &'a str,
+    lists: &'a str,
+    rest: &'a str,
 }
 
 /// The worked example: one amoebot, which expands and then is idle.
-const EXPANDS: Parts = Parts {
+const EXPANDS: Parts<'static> = Parts {
     version: "1",
     action: "out when contracted move expand head 0",
     shape: "area 0 0 8 8 bot 2 3 2 3 0 +",
@@ -30,7 +30,7 @@ const EXPANDS: Parts = Parts {
     rest: "",
 };
 
-fn document(alloc: Global, parts: Parts) -> Result<String, AllocError> {
+fn document(alloc: Global, parts: Parts<'_>) -> Result<String, AllocError> {
     format!(in alloc;
         "amoebot {} program action {} end shape {} end lists {} end{}",
         parts.version, parts.action, parts.shape, parts.lists, parts.rest
@@ -68,7 +68,7 @@ fn check<R: Abort + Threads + Wait + Sync>(
 fn check_parts<R: Abort + Threads + Wait + Sync>(
     rt: &R,
     alloc: Global,
-    parts: Parts,
+    parts: Parts<'_>,
     text: &str,
 ) -> Result<(), AllocError> {
     let document = document(alloc, parts)?;
@@ -117,7 +117,8 @@ fn expands_and_writes_what_happened(rt: HostRuntime) -> Result<(), Fail> {
         &rt,
         rt.alloc(),
         Parts {
-            version: "01#\u{e9}\n\t",
+            version: "000000001#\u{e9}\n\t",
+            action: "a23456789012345678901234 when contracted move expand head 0",
             shape: "area - 5 -7 4 6 bot -4 -003 -4 -3 0+",
             lists: "turns 1 list 0",
             rest: "# the last line",
@@ -178,8 +179,22 @@ fn says_why_nothing_happened(rt: HostRuntime) -> Result<(), Fail> {
 
 #[test]
 fn refuses_what_is_no_document(rt: HostRuntime) -> Result<(), Fail> {
+    let reserved =
+        "amoebot program guard on off var action when do move end if then else fi for od let in \
+                    ports free true false contracted expanded not and or any all count first head tail turn \
+                    dir peer_dir peer_head peer_expanded at_head linked inner mod6 none expand contract push pull";
+    for word in reserved.split_whitespace() {
+        let action = format!(in rt.alloc(); "{word} when contracted move expand head 0")?;
+        refuse_parts(
+            &rt,
+            rt.alloc(),
+            Parts {
+                action: action.as_str(),
+                ..EXPANDS
+            },
+        )?;
+    }
     let actions = [
-        "move when contracted move expand head 0",
         "out when contracted move expand head 6",
         "out when expanded move expand head 0",
         "a234567890123456789012345 when contracted move expand head 0",
@@ -228,7 +243,7 @@ fn refuses_what_is_no_document(rt: HostRuntime) -> Result<(), Fail> {
 fn refuse_parts<R: Abort + Threads + Wait + Sync>(
     rt: &R,
     alloc: Global,
-    parts: Parts,
+    parts: Parts<'_>,
 ) -> Result<(), AllocError> {
     let document = document(alloc, parts)?;
     check(rt, alloc, document.as_bytes(), 3, "refused 0 NotYet\n")?;
