@@ -1,0 +1,5 @@
+pub mod Scanning
+pub mod Standing
+pub mod Blanks
+pub mod Cutting
+pub mod Tokenizing

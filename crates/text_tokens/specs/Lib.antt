@@ -1,0 +1,5 @@
+pub mod Kinds
+pub mod Text
+pub mod Scan
+pub mod Cursor
+pub mod Inside

@@ -1,0 +1,10 @@
+//! The tokens of a text, what may be wrong with a text, and the laws of readers that read token by token.
+#![tactic(auto)]
+
+mod refusal;
+mod token;
+mod tokens;
+
+pub use refusal::{ReadRefusal, Refusal, RefusalKind};
+pub use token::{Token, TokenKind};
+pub use tokens::Tokens;
