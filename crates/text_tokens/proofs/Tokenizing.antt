@@ -12,6 +12,7 @@ use Rattle.text_tokens.specs.declared.refusal.RefusalKind.TheVariants.{BadByte, 
 use Rattle.text_tokens.specs.declared.tokens.Piece.{Piece}
 use Rattle.text_tokens.specs.Text.{is_blank, IsSkipped, Cuts, BeginsNoToken, most_bytes, Lexeme, end_of, line_at, Comes, IsToken, AreTokens, ends, bad_byte, too_long, token}
 use Rattle.text_tokens.specs.Scan.{Input, ready, sized, front, lexeme, past, len_of, with_front, scan, fault_at, scan_end, ahead_of, last_of}
+use Rattle.text_tokens.specs.Promises.{OneReading, Rises, SpansRise}
 use Rattle.text_tokens.proofs.Blanks.{IsPlace, place, at_place, place_is, line_past, ready_comes, comes_ready}
 use Rattle.text_tokens.proofs.Scanning.{ready_twice, ready_shorter, ahead_ok, ahead_err, last_ok, last_err, ahead_ready, last_ready}
 use Rattle.text_tokens.proofs.Cutting.{Front, at_end, no_token, cut, front_is, cut_front, cut_no_feed, cut_some}
@@ -103,3 +104,100 @@ from_place source (suc n) i h lt =
 -- the tokens of a whole text
 pub tokens_of_text : (source : List ℕ) → AreTokens source 0 (ahead_of (place source 0)) (last_of (place source 0))
 tokens_of_text source = from_place source (suc (length (drop 0 source))) (place source 0) (at_place source 0 (omega arith)) (omega arith)
+
+-- ---- no others are
+
+module _ (source : List ℕ) where
+  front_of : (l : Lexeme) → IsToken source l → front (drop l.from source) ≡ sized l.kind (length l.text)
+  front_of l t = ap front t.text ∙ cut_front l.kind l.text (drop (end_of l) source) t.cuts
+
+  end_within : (l : Lexeme) → l.from ≤ length source → IsToken source l → end_of l ≤ length source
+  end_within l le t = let e = ap length t.text in let some = cut_some l.kind l.text (drop (end_of l) source) t.cuts in omega (arith, length-drop l.from source, length-append l.text (drop (end_of l) source))
+
+  -- behind a token
+  behind_token : (l : Lexeme) → l.from ≤ length source → IsToken source l → past (place source l.from) (length l.text) ≡ place source (end_of l)
+  behind_token l le t =
+      let front_text : take (length l.text) (drop l.from source) ≡ l.text = ap (take (length l.text)) t.text ∙ take-append_seam l.text (drop (end_of l) source) in
+      let none : count_by (λ b. b == 10) (take (length l.text) (drop l.from source)) ≡ 0 = ap (count_by (λ b. b == 10)) front_text ∙ cut_no_feed l.kind l.text (drop (end_of l) source) t.cuts in
+      let some = end_within l le t in
+      place_is source (past (place source l.from) (length l.text)) (past_place source (place source l.from) (at_place source l.from le) (length l.text) (omega (arith, length-drop l.from source)) none)
+
+  here_is : (l : Lexeme) → IsToken source l → lexeme (place source l.from) (record { kind = l.kind; len = length l.text }) ≡ l
+  here_is l t =
+      ap (λ (text : List ℕ). record { kind = l.kind; text = text; «from» = l.from; line = line_at source l.from }) (ap (take (length l.text)) t.text ∙ take-append_seam l.text (drop (end_of l) source))
+      ∙ ap (λ (line : ℕ). record { kind = l.kind; text = l.text; «from» = l.from; line = line }) (sym t.line)
+
+  -- two answers for one text
+  pub record IsScan (at : ℕ) (ls : List Lexeme) (last : Refusal) : Type 0 where
+    pub tokens : ls ≡ ahead_of (place source at)
+    pub fault : last ≡ last_of (place source at)
+
+  scanned : (at from : ℕ) (ls : List Lexeme) (last : Refusal) → at ≤ length source → Comes source at from → ls ≡ ahead_of (place source from) → last ≡ last_of (place source from) → IsScan at ls last
+  scanned at from ls last le c p q =
+      let r = comes_ready source at from le c in
+      record {
+        tokens = p ∙ ap ahead_of (sym r) ∙ ahead_ready (place source at);
+        fault = q ∙ ap last_of (sym r) ∙ last_ready (place source at);
+      }
+
+  stays_ready : (at from : ℕ) → at ≤ length source → Comes source at from → ready (place source from) ≡ place source from
+  stays_ready at from le c = let r = comes_ready source at from le c in ap ready (sym r) ∙ ready_twice (place source at) ∙ r
+
+  fault_scanned : (at from : ℕ) (k : RefusalKind) → at ≤ length source → Comes source at from → front (drop from source) ≡ Err k → IsScan at [] (record { line = line_at source from; kind = k })
+  fault_scanned at from k le c e =
+      let r = stays_ready at from le c in
+      scanned at from [] (record { line = line_at source from; kind = k }) le c (sym (ahead_err (place source from) k r e)) (sym (last_err (place source from) k r e))
+
+  long_is : (l : Lexeme) → most_bytes l.kind < length l.text → sized l.kind (length l.text) ≡ Err WordTooLong
+  long_is l lt = let t : nat_lt (most_bytes l.kind) (length l.text) ≡ true = lt-ltb _ _ lt in rw t refl
+
+  short_is : (l : Lexeme) → length l.text ≤ most_bytes l.kind → sized l.kind (length l.text) ≡ Ok (record { kind = l.kind; len = length l.text })
+  short_is l le = let t : nat_lt (most_bytes l.kind) (length l.text) ≡ false = le-ltb _ _ le in rw t refl
+
+  not_here : (text : List ℕ) → IsSkipped text → BeginsNoToken text → 1 ≤ length text → Front text → front text ≡ Err BadByte
+  not_here text s none some (at_end e) = let l = ap length e in absurd (omega arith)
+  not_here text s none some (no_token n e m) = e
+  not_here text s none some (cut kind len cuts le e) = absurd (none kind (take len text) (drop len text) cuts (sym (take-append-drop len text)))
+
+  front_end : (at : ℕ) → length source ≤ at → front (drop at source) ≡ Err Truncated
+  unfolding front
+  front_end at le = ap front (drop_all at source le)
+
+  pub only_scan : (at : ℕ) (ls : List Lexeme) (last : Refusal) → at ≤ length source → AreTokens source at ls last → IsScan at ls last
+  only_scan at ls last le (ends c) = fault_scanned at (length source) Truncated le c (front_end (length source) (omega arith))
+  only_scan at ls last le (bad_byte b_from c lt none) =
+      fault_scanned at b_from BadByte le c (not_here (drop b_from source) c.skipped none (omega (arith, length-drop b_from source)) (front_is (drop b_from source)))
+  only_scan at ls last le (too_long l c t lt) =
+      let s = fault_scanned at l.from WordTooLong le c (front_of l t ∙ long_is l lt) in
+      record { tokens = s.tokens; fault = ap (λ (line : ℕ). record { line = line; kind = WordTooLong }) t.line ∙ s.fault }
+  only_scan at ls last le (token {ls = more} {last = end} l c t short rest) =
+      let w = c.within in
+      let r = stays_ready at l.from le c in
+      let f : front (drop l.from source) ≡ Ok (record { kind = l.kind; len = length l.text }) = front_of l t ∙ short_is l short in
+      let s = only_scan (end_of l) more end (end_within l c.within t) rest in
+      let b = behind_token l c.within t in
+      scanned at l.from (l ∷ more) end le c
+        (ap (λ (xs : List Lexeme). l ∷ xs) (s.tokens ∙ ap ahead_of (sym b)) ∙ ap (λ (x : Lexeme). x ∷ ahead_of (past (place source l.from) (length l.text))) (sym (here_is l t)) ∙ sym (ahead_ok (place source l.from) (record { kind = l.kind; len = length l.text }) r f))
+        (s.fault ∙ ap last_of (sym b) ∙ sym (last_ok (place source l.from) (record { kind = l.kind; len = length l.text }) r f))
+
+pub one_reading : OneReading
+one_reading source ls ms r s p q =
+    let a = only_scan source 0 ls r (omega arith) p in
+    let b = only_scan source 0 ms s (omega arith) q in
+    record { tokens = a.tokens ∙ sym b.tokens; last = a.fault ∙ sym b.fault }
+
+rising : (source : List ℕ) (at : ℕ) (ls : List Lexeme) (last : Refusal) → at ≤ length source → AreTokens source at ls last → Rises source at ls
+rising source at [] last le a = le
+rising source at ls last le (token {ls = more} {last = end} l c t short rest) = record {
+    behind = c.behind;
+    some = cut_some l.kind l.text (drop (end_of l) source) t.cuts;
+    slice = sym (ap (take (length l.text)) t.text ∙ take-append_seam l.text (drop (end_of l) source));
+    more = rising source (end_of l) more end (end_within source l c.within t) rest;
+  }
+
+pub spans_rise : SpansRise
+spans_rise source ls last a = rising source 0 ls last (omega arith) a
+
+-- what a text of these bytes computes to
+pub computed : (source : List ℕ) (ls : List Lexeme) (last : Refusal) → ahead_of (place source 0) ≡ ls → last_of (place source 0) ≡ last → AreTokens source 0 ls last
+computed source ls last p q = subst (λ (xs : List Lexeme). AreTokens source 0 xs last) p (subst (λ (r : Refusal). AreTokens source 0 (ahead_of (place source 0)) r) q (tokens_of_text source))

@@ -3,3 +3,4 @@ pub mod Text
 pub mod Scan
 pub mod Cursor
 pub mod Inside
+pub mod Promises
