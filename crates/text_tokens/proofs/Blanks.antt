@@ -1,6 +1,6 @@
 -- What is skipped between tokens, by the scan and by the definition.
-use Rattle.std.proofs.Common.{◌≡◌, ℕ, zero, suc, ◌+◌, ◌<◌, ◌≤◌, Bool, true, false, cond, List, [], ◌∷◌, ◌++◌, length, take, drop, refl, sym, ap, subst, ◌∙◌, arith, length-drop, drop-cons, get_or}
-use Rattle.std.proofs.lemmas.List.{drop-drop, drop_all}
+use Rattle.std.proofs.Common.{◌≡◌, ℕ, suc, ◌+◌, ◌≤◌, Bool, true, false, cond, List, [], ◌∷◌, ◌++◌, length, take, drop, refl, sym, ap, subst, ◌∙◌, arith, length-drop}
+use Rattle.std.proofs.lemmas.List.{drop-drop}
 use Rattle.std.proofs.lemmas.List.Sums.{sum_by-append}
 use Rattle.std.proofs.Math.Seq.{take-add}
 use Rattle.std.specs.List.{list_all, count_by}
@@ -186,10 +186,10 @@ step_line source text b at e = line_past source at 1 ∙ rw (← e) (omega arith
 
 step_place : (source text : List ℕ) (b at line : ℕ) (p : Bool) → (b == 10) ≡ p → IsPlace source (record { text = b ∷ text; at = at; line = line }) → IsPlace source (record { text = text; at = at + 1; line = line + cond p 1 0 })
 step_place source text b at line p e h = record {
-    text = step_text source text b at h.text;
-    within = step_within source text b at h.text;
-    line = ap (λ (n : ℕ). n + cond p 1 0) h.line ∙ ap (λ (q : Bool). line_at source at + cond q 1 0) (sym e) ∙ sym (step_line source text b at h.text);
-  }
+  text = step_text source text b at h.text;
+  within = step_within source text b at h.text;
+  line = ap (λ (n : ℕ). n + cond p 1 0) h.line ∙ ap (λ (q : Bool). line_at source at + cond q 1 0) (sym e) ∙ sym (step_line source text b at h.text);
+}
 
 later_cases : (source : List ℕ) (at : ℕ) (p inside q r : Bool) (x y z here : Input) → (p ≡ true → IsLater source at x) → (p ≡ false → IsLater source at y) → (p ≡ false → IsLater source at z) → IsLater source at here
     → IsLater source at (skip_by (cond p LineFeed (cond inside Blank (cond q Blank (cond r Comment Start)))) x y z here)
@@ -229,13 +229,15 @@ pub ready_comes : (source : List ℕ) (i : Input) → IsPlace source i → Comes
 unfolding ready
 ready_comes source i h =
     let l = skip_later source i.text false i.at i.line h in
-    let text : drop (skip false i.at i.line i.text).at source ≡ rest_of false (drop i.at source) = sym l.place.text ∙ skip_rest i.text false i.at i.line ∙ ap (rest_of false) h.text in
-    (record {
+    let text : drop (skip false i.at i.line i.text).at source ≡ rest_of false (drop i.at source) = sym l.place.text ∙ skip_rest i.text false i.at i.line ∙ ap (rest_of false) h.text in (
+      record {
         behind = l.later;
         within = l.place.within;
         skips = subst (λ (rest : List ℕ). Skips (drop i.at source) rest) (sym text) (rest_skips (drop i.at source));
         skipped = subst IsSkipped (sym text) (rest_skipped (drop i.at source) false);
-      }, l.place)
+      },
+      l.place,
+    )
 
 same_place : (source : List ℕ) (m n : ℕ) → m ≤ length source → n ≤ length source → drop m source ≡ drop n source → m ≡ n
 same_place source m n p q e = let l = ap length e in omega (arith, length-drop m source, length-drop n source)
@@ -246,6 +248,6 @@ unfolding ready
 comes_ready source at from le c =
     let l = skip_later source (drop at source) false at (line_at source at) (at_place source at le) in
     let text : drop (skip false at (line_at source at) (drop at source)).at source ≡ drop from source =
-        sym l.place.text ∙ skip_rest (drop at source) false at (line_at source at) ∙ skips_rest (drop at source) (drop from source) c.skips c.skipped in
+    sym l.place.text ∙ skip_rest (drop at source) false at (line_at source at) ∙ skips_rest (drop at source) (drop from source) c.skips c.skipped in
     place_is source (skip false at (line_at source at) (drop at source)) l.place
     ∙ ap (place source) (same_place source _ from l.place.within c.within text)

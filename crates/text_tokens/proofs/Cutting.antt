@@ -1,20 +1,16 @@
 -- One token, by the scan and by the definition.
-use Rattle.std.proofs.Common.{◌≡◌, ℕ, zero, suc, ◌+◌, ◌<◌, ◌≤◌, Bool, true, false, cond, List, [], ◌∷◌, ◌++◌, length, take, drop, Option, Some, None, Result, Ok, Err, refl, sym, ap, subst, ◌∙◌, arith, length-append}
-use Rattle.std.proofs.lemmas.List.{take-append-drop}
+use Rattle.std.proofs.Common.{◌≡◌, ℕ, suc, ◌+◌, ◌≤◌, Bool, true, false, cond, List, [], ◌∷◌, ◌++◌, length, take, drop, Ok, Err, refl, sym, ap, subst, ◌∙◌, arith, length-append}
 use Rattle.std.proofs.lemmas.List.Sums.{prefix_len-le-length}
-use Rattle.std.proofs.lemmas.Bool.{ltb-true, ltb-false}
-use Rattle.std.specs.List.{list_all, list_any, count_by, prefix_len}
-use Rattle.std.specs.Prelude.{◌==◌, ◌||◌, ◌&&◌, nat_lt, codes, if◌then◌else◌}
+use Rattle.std.specs.List.{list_all, count_by, prefix_len}
+use Rattle.std.specs.Prelude.{◌==◌, ◌||◌, nat_lt, codes, if◌then◌else◌}
 use Rattle.std.proofs.lemmas.Bool.Decides.{nat_tests}
 use Rattle.text_tokens.specs.declared.token.TokenKind.{TokenKind}
 use Rattle.text_tokens.specs.declared.token.TokenKind.TheVariants.{Word, Number, Sign}
-use Rattle.text_tokens.specs.declared.refusal.RefusalKind.{RefusalKind}
-use Rattle.text_tokens.specs.declared.refusal.RefusalKind.TheVariants.{BadByte, WordTooLong, Truncated}
+use Rattle.text_tokens.specs.declared.refusal.RefusalKind.TheVariants.{BadByte, WordTooLong}
 use Rattle.text_tokens.specs.declared.tokens.Piece.{Piece}
 use Rattle.text_tokens.specs.Text.{is_letter, is_digit, is_word_byte, is_one_of, is_sign, StopsRun, IsLongestSign, Cuts, word, number, sign, BeginsNoToken, most_bytes}
-use Rattle.text_tokens.specs.Scan.{sign_len, sized, sign_of, front, len_of}
+use Rattle.text_tokens.specs.Scan.{sign_len, sized, sign_of, front}
 use Rattle.text_tokens.proofs.Blanks.{and_true}
-use Rattle.text_tokens.proofs.Scanning.{sign_len-le}
 
 -- ---- runs of bytes that pass a test
 

@@ -1,14 +1,14 @@
 -- The scan of a text, step by step.
-use Rattle.std.proofs.Common.{◌≡◌, ℕ, zero, suc, ◌+◌, ◌-◌, ◌<◌, ◌≤◌, Bool, true, false, cond, List, [], ◌∷◌, length, get_or, take, drop, Result, Ok, Err, refl, sym, ap, ◌∙◌, arith, drop-cons, length-drop, add-one}
+use Rattle.std.proofs.Common.{◌≡◌, ℕ, zero, suc, ◌+◌, ◌<◌, ◌≤◌, Bool, true, false, cond, List, [], ◌∷◌, length, get_or, drop, Result, Ok, Err, refl, ap, ◌∙◌, arith, drop-cons, length-drop, add-one}
 use Rattle.std.proofs.lemmas.List.{drop_all}
 use Rattle.std.proofs.lemmas.List.Sums.{prefix_len-le-length}
 use Rattle.std.specs.List.{prefix_len}
 use Rattle.std.specs.Prelude.{nat_lt, ◌==◌}
 use Rattle.text_tokens.specs.declared.token.TokenKind.{TokenKind}
-use Rattle.text_tokens.specs.declared.token.TokenKind.TheVariants.{Word, Number, Sign}
+use Rattle.text_tokens.specs.declared.token.TokenKind.TheVariants.{Word, Number}
 use Rattle.text_tokens.specs.declared.refusal.Refusal.{Refusal}
 use Rattle.text_tokens.specs.declared.refusal.RefusalKind.{RefusalKind}
-use Rattle.text_tokens.specs.declared.refusal.RefusalKind.TheVariants.{BadByte, WordTooLong, Truncated}
+use Rattle.text_tokens.specs.declared.refusal.RefusalKind.TheVariants.{WordTooLong}
 use Rattle.text_tokens.specs.declared.tokens.Piece.{Piece}
 use Rattle.text_tokens.specs.declared.tokens.Between.{Between}
 use Rattle.text_tokens.specs.declared.tokens.Between.TheVariants.{LineFeed, Blank, Comment, Start}

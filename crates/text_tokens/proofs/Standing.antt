@@ -1,7 +1,6 @@
 -- What a `Tokens` that is ready shows.
-use Rattle.std.proofs.Common.{◌≡◌, ◌≢◌, ℕ, ◌+◌, ◌-◌, ◌<◌, ◌≤◌, ◌^◌, Bool, true, false, List, [], ◌∷◌, length, take, drop, Option, Some, None, Result, Ok, Err, refl, sym, ap, subst, ◌∙◌, arith, length-drop}
+use Rattle.std.proofs.Common.{◌≡◌, ℕ, ◌+◌, ◌-◌, ◌<◌, ◌≤◌, ◌^◌, Bool, false, List, [], ◌∷◌, length, drop, Some, Result, Ok, Err, refl, sym, ap, subst, ◌∙◌, arith, length-drop}
 use Rattle.std.proofs.lemmas.List.{drop-drop, length-take-le}
-use Rattle.text_tokens.specs.declared.token.TokenKind.{TokenKind}
 use Rattle.text_tokens.specs.declared.token.Token.{Token}
 use Rattle.text_tokens.specs.declared.refusal.Refusal.{Refusal}
 use Rattle.text_tokens.specs.declared.refusal.RefusalKind.{RefusalKind}
@@ -10,8 +9,8 @@ use Rattle.std.specs.Prelude.{IfOk, IfSome}
 use Rattle.text_tokens.specs.declared.tokens.Piece.{Piece}
 use Rattle.text_tokens.specs.declared.tokens.Tokens.TheInside.{Inside}
 use Rattle.text_tokens.specs.Text.{Lexeme}
-use Rattle.text_tokens.specs.Scan.{Input, skip, ready, front, lexeme, past, ahead_of, last_of}
-use Rattle.text_tokens.specs.Cursor.{Cursor, token_of, end_or, answer, tail, behind, refusal_at, line_of, is_spelled, next_passes, is_kind, same_kind, slice, IsSlice, FirstIs, Spells, at_input, at_place}
+use Rattle.text_tokens.specs.Scan.{Input, skip, ready, front, lexeme, past, ahead_of}
+use Rattle.text_tokens.specs.Cursor.{token_of, end_or, answer, behind, refusal_at, line_of, next_passes, Spells, at_input, at_place}
 use Rattle.text_tokens.specs.Inside.{input_of, cursor_of, IsReady}
 use Rattle.text_tokens.proofs.Scanning.{ready_twice, front_fits, ahead_ok, ahead_err, last_ok, last_err, ahead_ready, last_ready}
 

@@ -1,5 +1,5 @@
 -- The scan gives the tokens of a text, and no others are.
-use Rattle.std.proofs.Common.{◌≡◌, ℕ, zero, suc, ◌+◌, ◌<◌, ◌≤◌, Bool, true, false, cond, List, [], ◌∷◌, ◌++◌, length, take, drop, Result, Ok, Err, refl, sym, ap, subst, ◌∙◌, arith, length-drop, length-append}
+use Rattle.std.proofs.Common.{◌≡◌, ℕ, zero, suc, ◌+◌, ◌<◌, ◌≤◌, Bool, true, false, List, [], ◌∷◌, ◌++◌, length, take, drop, Ok, Err, refl, sym, ap, subst, ◌∙◌, arith, length-drop, length-append}
 use Rattle.std.proofs.lemmas.List.{drop-drop, drop_all, take-append-drop, length-take-le}
 use Rattle.std.proofs.Math.Seq.{take-append_seam}
 use Rattle.std.proofs.lemmas.Bool.{ltb-true, ltb-false, lt-ltb, le-ltb}
@@ -9,9 +9,8 @@ use Rattle.text_tokens.specs.declared.token.TokenKind.{TokenKind}
 use Rattle.text_tokens.specs.declared.refusal.Refusal.{Refusal}
 use Rattle.text_tokens.specs.declared.refusal.RefusalKind.{RefusalKind}
 use Rattle.text_tokens.specs.declared.refusal.RefusalKind.TheVariants.{BadByte, WordTooLong, Truncated}
-use Rattle.text_tokens.specs.declared.tokens.Piece.{Piece}
-use Rattle.text_tokens.specs.Text.{is_blank, IsSkipped, Cuts, BeginsNoToken, most_bytes, Lexeme, end_of, line_at, Comes, IsToken, AreTokens, ends, bad_byte, too_long, token}
-use Rattle.text_tokens.specs.Scan.{Input, ready, sized, front, lexeme, past, len_of, with_front, scan, fault_at, scan_end, ahead_of, last_of}
+use Rattle.text_tokens.specs.Text.{IsSkipped, Cuts, BeginsNoToken, most_bytes, Lexeme, end_of, line_at, Comes, IsToken, AreTokens, ends, bad_byte, too_long, token}
+use Rattle.text_tokens.specs.Scan.{Input, ready, sized, front, lexeme, past, ahead_of, last_of}
 use Rattle.text_tokens.specs.Promises.{OneReading, Rises, SpansRise}
 use Rattle.text_tokens.proofs.Blanks.{IsPlace, place, at_place, place_is, line_past, ready_comes, comes_ready}
 use Rattle.text_tokens.proofs.Scanning.{ready_twice, ready_shorter, ahead_ok, ahead_err, last_ok, last_err, ahead_ready, last_ready}
@@ -42,10 +41,10 @@ module _ (source : List ℕ) (j : Input) (h : IsPlace source j) where
 
     is_token : IsToken source found
     is_token = record {
-        cuts = subst (λ (rest : List ℕ). Cuts kind (take len j.text) rest) (sym behind_is) c;
-        text = sym (ap (λ (rest : List ℕ). take len j.text ++ rest) behind_is ∙ take-append-drop len j.text ∙ h.text);
-        line = h.line;
-      }
+      cuts = subst (λ (rest : List ℕ). Cuts kind (take len j.text) rest) (sym behind_is) c;
+      text = sym (ap (λ (rest : List ℕ). take len j.text ++ rest) behind_is ∙ take-append-drop len j.text ∙ h.text);
+      line = h.line;
+    }
 
     behind_place : IsPlace source (past j len)
     behind_place = past_place len le (cut_no_feed kind (take len j.text) (drop len j.text) c)
@@ -83,8 +82,8 @@ module _ (source : List ℕ) (n at : ℕ) (j : Input) (h : IsPlace source j) (r 
         let less : length (drop len j.text) < length j.text = omega (arith, len_is, length-drop len j.text) in
         let rest : AreTokens source (j.at + len) (ahead_of (past j len)) (last_of (past j len)) = more (past j len) (behind_place source j h kind len le cuts) less in
         rw (ahead_ok j (record { kind = kind; len = len }) r f, last_ok j (record { kind = kind; len = len }) r f)
-          (token (lexeme j (record { kind = kind; len = len })) c (is_token source j h kind len le cuts) short
-            (subst (λ (k : ℕ). AreTokens source k (ahead_of (past j len)) (last_of (past j len))) (sym (end_is source j h kind len le cuts)) rest))
+        (token (lexeme j (record { kind = kind; len = len })) c (is_token source j h kind len le cuts) short
+        (subst (λ (k : ℕ). AreTokens source k (ahead_of (past j len)) (last_of (past j len))) (sym (end_is source j h kind len le cuts)) rest))
 
   from_front : Front j.text → AreTokens source at (ahead_of j) (last_of j)
   unfolding front
@@ -98,8 +97,8 @@ from_place source (suc n) i h lt =
     let c = ready_comes source i h in
     let shorter = ready_shorter i in
     subst (λ (ls : List Lexeme). AreTokens source i.at ls (last_of i)) (ahead_ready i)
-      (subst (λ (last : Refusal). AreTokens source i.at (ahead_of (ready i)) last) (last_ready i)
-        (from_front source n i.at (ready i) c.1 (ready_twice i) c.0 (λ k p less. from_place source n k p (omega arith)) (front_is (ready i).text)))
+    (subst (λ (last : Refusal). AreTokens source i.at (ahead_of (ready i)) last) (last_ready i)
+    (from_front source n i.at (ready i) c.1 (ready_twice i) c.0 (λ k p less. from_place source n k p (omega arith)) (front_is (ready i).text)))
 
 -- the tokens of a whole text
 pub tokens_of_text : (source : List ℕ) → AreTokens source 0 (ahead_of (place source 0)) (last_of (place source 0))
@@ -177,8 +176,8 @@ module _ (source : List ℕ) where
       let s = only_scan (end_of l) more end (end_within l c.within t) rest in
       let b = behind_token l c.within t in
       scanned at l.from (l ∷ more) end le c
-        (ap (λ (xs : List Lexeme). l ∷ xs) (s.tokens ∙ ap ahead_of (sym b)) ∙ ap (λ (x : Lexeme). x ∷ ahead_of (past (place source l.from) (length l.text))) (sym (here_is l t)) ∙ sym (ahead_ok (place source l.from) (record { kind = l.kind; len = length l.text }) r f))
-        (s.fault ∙ ap last_of (sym b) ∙ sym (last_ok (place source l.from) (record { kind = l.kind; len = length l.text }) r f))
+      (ap (λ (xs : List Lexeme). l ∷ xs) (s.tokens ∙ ap ahead_of (sym b)) ∙ ap (λ (x : Lexeme). x ∷ ahead_of (past (place source l.from) (length l.text))) (sym (here_is l t)) ∙ sym (ahead_ok (place source l.from) (record { kind = l.kind; len = length l.text }) r f))
+      (s.fault ∙ ap last_of (sym b) ∙ sym (last_ok (place source l.from) (record { kind = l.kind; len = length l.text }) r f))
 
 pub one_reading : OneReading
 one_reading source ls ms r s p q =
@@ -189,11 +188,11 @@ one_reading source ls ms r s p q =
 rising : (source : List ℕ) (at : ℕ) (ls : List Lexeme) (last : Refusal) → at ≤ length source → AreTokens source at ls last → Rises source at ls
 rising source at [] last le a = le
 rising source at ls last le (token {ls = more} {last = end} l c t short rest) = record {
-    behind = c.behind;
-    some = cut_some l.kind l.text (drop (end_of l) source) t.cuts;
-    slice = sym (ap (take (length l.text)) t.text ∙ take-append_seam l.text (drop (end_of l) source));
-    more = rising source (end_of l) more end (end_within source l c.within t) rest;
-  }
+  behind = c.behind;
+  some = cut_some l.kind l.text (drop (end_of l) source) t.cuts;
+  slice = sym (ap (take (length l.text)) t.text ∙ take-append_seam l.text (drop (end_of l) source));
+  more = rising source (end_of l) more end (end_within source l c.within t) rest;
+}
 
 pub spans_rise : SpansRise
 spans_rise source ls last a = rising source 0 ls last (omega arith) a

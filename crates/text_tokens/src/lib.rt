@@ -10,3 +10,6 @@ pub use laws::{small_texts, spans_rise, tokens_are_one};
 pub use refusal::{ReadRefusal, Refusal, RefusalKind};
 pub use token::{Token, TokenKind};
 pub use tokens::Tokens;
+
+#[cfg(test)]
+mod tests;

@@ -99,17 +99,30 @@ fn sign_len(bytes: &[u8]) -> usize
 {
     match bytes {
         [b'!' | b'<' | b'>' | b':', b'=', ..] => 2,
-        [b'(' | b')' | b'.' | b';' | b'=' | b'<' | b'>' | b'+' | b'-', ..] => 1,
+        [
+            b'(' | b')' | b'.' | b';' | b'=' | b'<' | b'>' | b'+' | b'-',
+            ..
+        ] => 1,
         _ => 0,
     }
 }
 
+/// How many bytes a token may have.
+fn most_bytes(kind: TokenKind) -> usize
+    ensures { result ≡ text.most_bytes kind }
+{
+    match kind {
+        TokenKind::Word => 24,
+        TokenKind::Number => 9,
+        TokenKind::Sign => 2,
+    }
+}
+
 /// A token of so many bytes, if it may have so many.
-fn sized(kind: TokenKind, len: usize, most: usize) -> Result<Piece, RefusalKind>
-    requires { most ≡ text.most_bytes kind }
+fn sized(kind: TokenKind, len: usize) -> Result<Piece, RefusalKind>
     ensures { result ≡ scan.sized kind len }
 {
-    if len > most {
+    if len > most_bytes(kind) {
         Err(RefusalKind::WordTooLong)
     } else {
         Ok(Piece { kind, len })
@@ -138,9 +151,9 @@ fn front(bytes: &[u8]) -> Result<Piece, RefusalKind>
         [] => Err(RefusalKind::Truncated),
         [b, ..] => {
             if is_letter(*b) {
-                sized(TokenKind::Word, word_len(bytes), 24)
+                sized(TokenKind::Word, word_len(bytes))
             } else if is_digit(*b) {
-                sized(TokenKind::Number, digits_len(bytes), 9)
+                sized(TokenKind::Number, digits_len(bytes))
             } else {
                 sign(sign_len(bytes))
             }

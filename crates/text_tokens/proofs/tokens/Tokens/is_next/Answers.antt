@@ -1,4 +1,4 @@
-use Rattle.std.proofs.Common.{◌≡◌, sym, ◌∙◌, ap}
+use Rattle.std.proofs.Common.{sym}
 use Rattle.text_tokens.proofs.Standing.{within, tests, tests_none}
 use Rattle.text_tokens.specs.Cursor.{is_spelled}
 use Rattle.text_tokens.proofs.tokens.Tokens.is_next.Goals as goal

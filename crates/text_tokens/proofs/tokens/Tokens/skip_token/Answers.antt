@@ -1,5 +1,5 @@
-use Rattle.std.proofs.Common.{◌≡◌, sym, ◌∙◌, ap, arith}
-use Rattle.text_tokens.specs.Cursor.{Cursor, behind}
+use Rattle.std.proofs.Common.{◌∙◌, ap, arith}
+use Rattle.text_tokens.specs.Cursor.{behind}
 use Rattle.text_tokens.proofs.Standing.{within, fits_small, passes, stays}
 use Rattle.text_tokens.proofs.tokens.Tokens.skip_token.Goals as goal
 
