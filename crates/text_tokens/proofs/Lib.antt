@@ -3,3 +3,5 @@ pub mod Standing
 pub mod Blanks
 pub mod Cutting
 pub mod Tokenizing
+pub mod Marks
+pub mod Lawfulness

@@ -4,3 +4,6 @@ pub mod Scan
 pub mod Cursor
 pub mod Inside
 pub mod Promises
+pub mod Reading
+pub mod Grammar
+pub mod Lawful
