@@ -1,12 +1,13 @@
 -- One token, by the scan and by the definition.
 use Rattle.std.proofs.Common.{◌≡◌, ℕ, suc, ◌+◌, ◌≤◌, Bool, true, false, cond, List, [], ◌∷◌, ◌++◌, length, take, drop, Ok, Err, refl, sym, ap, subst, ◌∙◌, arith, length-append}
 use Rattle.std.proofs.lemmas.List.Sums.{prefix_len-le-length}
+use Rattle.std.proofs.lemmas.Bool.{ltb-false}
 use Rattle.std.specs.List.{list_all, count_by, prefix_len}
 use Rattle.std.specs.Prelude.{◌==◌, ◌||◌, nat_lt, codes, if◌then◌else◌}
 use Rattle.std.proofs.lemmas.Bool.Decides.{nat_tests}
 use Rattle.text_tokens.specs.declared.token.TokenKind.{TokenKind}
 use Rattle.text_tokens.specs.declared.token.TokenKind.TheVariants.{Word, Number, Sign}
-use Rattle.text_tokens.specs.declared.refusal.RefusalKind.TheVariants.{BadByte, WordTooLong}
+use Rattle.text_tokens.specs.declared.refusal.RefusalKind.TheVariants.{BadByte, WordTooLong, Truncated}
 use Rattle.text_tokens.specs.declared.tokens.Piece.{Piece}
 use Rattle.text_tokens.specs.Text.{is_letter, is_digit, is_word_byte, is_one_of, is_sign, StopsRun, IsLongestSign, Cuts, word, number, sign, BeginsNoToken, most_bytes}
 use Rattle.text_tokens.specs.Scan.{sign_len, sized, sign_of, front}
@@ -223,3 +224,21 @@ cut_some kind bytes rest (word e h s) = omega arith
 cut_some kind bytes rest (number e h s) = omega arith
 cut_some kind [] rest (sign e longest) = absurd cc
 cut_some kind (a ∷ bytes) rest (sign e longest) = omega arith
+
+-- a token that is cut is one of its kind, and not too long
+pub record Found (text : List ℕ) (p : Piece) : Type 0 where
+  pub cuts : Cuts p.kind (take p.len text) (drop p.len text)
+  pub sized : p.len ≤ most_bytes p.kind
+
+found_by : (text : List ℕ) (p : Piece) (kind : TokenKind) (len : ℕ) (t : Bool) → nat_lt (most_bytes kind) len ≡ t → Cuts kind (take len text) (drop len text) → cond t (Err WordTooLong) (Ok (record { kind = kind; len = len })) ≡ Ok p → Found text p
+found_by text p kind len true b c e = absurd cc
+found_by text p kind len false b c e = let same : record { kind = kind; len = len } ≡ p = cc in subst (λ (q : Piece). Found text q) same (record { cuts = c; sized = ltb-false _ _ b })
+
+found_at : (text : List ℕ) (p : Piece) → front text ≡ Ok p → Front text → Found text p
+unfolding front
+found_at text p e (at_end f) = let g : front text ≡ Err Truncated = ap front f in absurd cc
+found_at text p e (no_token none f some) = absurd cc
+found_at text p e (cut kind len c le f) = found_by text p kind len (nat_lt (most_bytes kind) len) refl c (sym f ∙ e)
+
+pub front_found : (text : List ℕ) (p : Piece) → front text ≡ Ok p → Found text p
+front_found text p e = found_at text p e (front_is text)

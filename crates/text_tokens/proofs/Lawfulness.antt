@@ -9,15 +9,10 @@ use Rattle.text_tokens.specs.Text.{Lexeme}
 use Rattle.text_tokens.specs.Cursor.{refusal_at}
 use Rattle.text_tokens.specs.Reading.{Answer, Reader, first, and_then, ◌>>=◌, pure, refuse, stop, choose, within, one_within, no_limit, one, verdict, judged, full_by, full_at, counted, starts_at, repeated, behind_one, separated}
 use Rattle.text_tokens.specs.Grammar.{Mark, with_token, tokens, first_fault, or_else, outcome_by, outcome, IsProper, Lang, refusal_of, mark, IsOne, is_one, Then, then, Made, made, IsNothing, is_nothing, IsVerdict, is_verdict, Judged, past_fault, past, Counted, counted_in, one_too_many, less, Repeated, no_more, one_more, BehindOne, Separated}
-use Rattle.text_tokens.specs.Lawful.{Got, Failed, misplaced, short, beyond, Report, Reads, Lawful, BeginsNone, IsText, Begins, IsFault, unexpected, ended, limit, Tells, Exact, LawfulAt, BeginsAt, IsBegun, Knows, StartsWith}
+use Rattle.text_tokens.specs.Lawful.{Got, Failed, misplaced, short, beyond, Report, Reads, Lawful, BeginsNone, IsText, Begins, IsFault, unexpected, ended, limit, Tells, Exact, LawfulAt, BeginsAt, IsBegun, Knows, StartsWith, SomeText}
 use Rattle.text_tokens.proofs.Marks.{tokens-append, regroup, fault-append, fine-append, faulty-append, proper-append, first-append, fault_proper}
 
 -- ---- some text of a grammar
-
-pub record SomeText {A : Type 0} (P : Lang A) : Type 0 where
-  pub text : List Mark
-  pub whole : A
-  pub is : P text whole
 
 some_text_failed : {A : Type 0} (P : Lang A) (p : Reader A) (last : Refusal) (ts : List Lexeme) (r : Refusal) → Failed P p last ts r → SomeText P
 some_text_failed P p last ts r (misplaced text more whole t rest e is fine steady) = record { text = text ++ more; whole = whole; is = is }
@@ -143,10 +138,13 @@ module _ {A B : Type 0} (P : Lang A) (Q : A → Lang B) (p : Reader A) (q : A �
     }
     second (Err r) f = second_failed r f
 
-  module _ (ends_p ends : Option Lexeme → Bool) (law_p : Lawful P p ends_p) (law_q : (xs : List Mark) (a : A) → P xs a → Lawful (Q a) (q a) ends) where
+  module _ (ends_p ends : Option Lexeme → Bool) (law_p : Lawful P p ends_p)
+      (law_q : (xs : List Mark) (a : A) → P xs a → first_fault xs ≡ None → Lawful (Q a) (q a) ends)
+      (some_q : (xs : List Mark) (a : A) → P xs a → SomeText (Q a))
+      (proper_q : (xs ys : List Mark) (a : A) (b : B) → P xs a → Q a ys b → IsProper ys) where
     goes_on : (last : Refusal) (text more : List Mark) (whole : A) → P (text ++ more) whole → SomeText (λ zs b. Then P Q (text ++ (more ++ zs)) b)
     goes_on last text more whole is =
-        let s = some_text (Q whole) (q whole) ends last (law_q (text ++ more) whole is) in
+        let s = some_q (text ++ more) whole is in
         record { text = s.text; whole = s.whole; is = subst (λ (zs : List Mark). Then P Q zs s.whole) (append_assoc text more s.text) (then whole is s.is) }
 
     first_failed : (last : Refusal) (ts : List Lexeme) (r : Refusal) → Failed P p last ts r → Failed (Then P Q) (p >>= q) last ts r
@@ -157,26 +155,32 @@ module _ {A B : Type 0} (P : Lang A) (Q : A → Lang B) (p : Reader A) (q : A �
     first_failed last ts r (beyond text more whole at rest e is fine f) = let s = goes_on last text (at ∷ more) whole is in beyond text (more ++ s.text) s.whole at rest e s.is fine f
 
     then_report_by : (last : Refusal) (ts : List Lexeme) (r : Answer A) → Report P p last ts r → Report (Then P Q) (p >>= q) last ts (and_then r (λ a us. q a last us))
-    then_report_by last ts (Ok r) g = second last ts r.0 r.1 g (q r.0 last r.1) ((law_q g.text r.0 g.is).report last r.1)
+    then_report_by last ts (Ok r) g = second last ts r.0 r.1 g (q r.0 last r.1) ((law_q g.text r.0 g.is g.fine).report last r.1)
     then_report_by last ts (Err r) f = first_failed last ts r f
 
     module _ (follows : (xs ys : List Mark) (a : A) (b : B) (rest : List Lexeme) → P xs a → Q a ys b → ends (first rest) ≡ true → ends_p (first (tokens ys ++ rest)) ≡ true) where
-      outcome_then : (last : Refusal) (o : Option Refusal) (ys : List Mark) (a : A) (b : B) (us rest : List Lexeme) → q a last us ≡ outcome ys b rest → and_then (outcome_by o a us) (λ a us. q a last us) ≡ outcome_by (or_else o (first_fault ys)) b rest
-      outcome_then last None ys a b us rest e = e
+      outcome_then : (last : Refusal) (o : Option Refusal) (ys : List Mark) (a : A) (b : B) (us rest : List Lexeme) → (o ≡ None → q a last us ≡ outcome ys b rest) → and_then (outcome_by o a us) (λ a us. q a last us) ≡ outcome_by (or_else o (first_fault ys)) b rest
+      outcome_then last None ys a b us rest e = e refl
       outcome_then last (Some r) ys a b us rest e = refl
 
       then_reads : (xs : List Mark) (b : B) → Then P Q xs b → Reads (Then P Q) (p >>= q) ends xs b
       then_reads zs b (then {xs = xs} {ys = ys} a px qy) = λ last rest e.
           ap (λ (vs : List Lexeme). and_then (p last vs) (λ a us. q a last us)) (regroup xs ys rest)
           ∙ ap (λ (r : Answer A). and_then r (λ a us. q a last us)) (law_p.reads xs a px last (tokens ys ++ rest) (follows xs ys a b rest px qy e))
-          ∙ outcome_then last (first_fault xs) ys a b (tokens ys ++ rest) rest ((law_q xs a px).reads ys b qy last rest e)
+          ∙ outcome_then last (first_fault xs) ys a b (tokens ys ++ rest) rest (λ fine. (law_q xs a px fine).reads ys b qy last rest e)
           ∙ ap (λ (o : Option Refusal). outcome_by o b rest) (sym (fault-append xs ys))
 
       then_proper : (xs : List Mark) (b : B) → Then P Q xs b → IsProper xs
-      then_proper zs b (then {xs = xs} {ys = ys} a px qy) = proper-append xs ys (law_p.proper xs a px) ((law_q xs a px).proper ys b qy)
+      then_proper zs b (then {xs = xs} {ys = ys} a px qy) = proper-append xs ys (law_p.proper xs a px) (proper_q xs ys a b px qy)
 
-      pub law_then : Lawful (Then P Q) (p >>= q) ends
-      law_then = record { report = λ last ts. then_report_by last ts (p last ts) (law_p.report last ts); reads = then_reads; proper = then_proper }
+      pub law_then_fine : Lawful (Then P Q) (p >>= q) ends
+      law_then_fine = record { report = λ last ts. then_report_by last ts (p last ts) (law_p.report last ts); reads = then_reads; proper = then_proper }
+
+-- where the second part is lawful whatever stands before
+pub law_then : {A B : Type 0} (P : Lang A) (Q : A → Lang B) (p : Reader A) (q : A → Reader B) (between ends : Option Lexeme → Bool) → Lawful P p between → ((xs : List Mark) (a : A) → P xs a → Lawful (Q a) (q a) ends)
+    → ((xs ys : List Mark) (a : A) (b : B) (rest : List Lexeme) → P xs a → Q a ys b → ends (first rest) ≡ true → between (first (tokens ys ++ rest)) ≡ true) → Lawful (Then P Q) (p >>= q) ends
+law_then P Q p q between ends law_p law_q follows = law_then_fine P Q p q between ends law_p (λ xs a is fine. law_q xs a is)
+    (λ xs a is. some_text (Q a) (q a) ends (record { line = 0; kind = Unexpected }) (law_q xs a is)) (λ xs ys a b px qy. (law_q xs a px).proper ys b qy) follows
 
 -- ---- what is read, made into something else
 

@@ -5,3 +5,6 @@ pub mod Cutting
 pub mod Tokenizing
 pub mod Marks
 pub mod Lawfulness
+pub mod Obeying
+pub mod Decimal
+pub mod Nesting

@@ -12,6 +12,7 @@ use Rattle.text_tokens.specs.Text.{Lexeme}
 use Rattle.text_tokens.specs.Scan.{Input, skip, ready, front, lexeme, past, ahead_of}
 use Rattle.text_tokens.specs.Cursor.{token_of, end_or, answer, behind, refusal_at, line_of, next_passes, Spells, at_input, at_place}
 use Rattle.text_tokens.specs.Inside.{input_of, cursor_of, IsReady}
+use Rattle.text_tokens.proofs.Cutting.{Found, front_found}
 use Rattle.text_tokens.proofs.Scanning.{ready_twice, front_fits, ahead_ok, ahead_err, last_ok, last_err, ahead_ready, last_ready}
 
 -- no token stands behind the last one
@@ -63,8 +64,16 @@ module _ (t : Inside) (h : IsReady t) where
 
     pub spells : Spells (cursor_of t) here
     spells =
+        let w = within in
+        let rest : List ℕ = drop t.at t.source.now in
         let len : t.at + p.len - t.at ≡ p.len = omega arith in
-        record { within = record { rises = omega arith; within = within }; bytes = rw (ahead_is, len) refl }
+        let found : Found rest p = front_found rest p cut in
+        record {
+          within = record { rises = omega arith; within = within };
+          bytes = rw (ahead_is, len) refl;
+          cuts = rw (len, ← drop-drop p.len t.at t.source.now) found.cuts;
+          sized = (let small = found.sized in rw (len, length-take-le p.len rest (omega (arith, length-drop t.at t.source.now))) small);
+        }
 
     pub passes : at_place t.source.now (t.at + p.len) t.line ≡ behind (cursor_of t)
     passes =

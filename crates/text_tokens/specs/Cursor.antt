@@ -1,5 +1,5 @@
 -- What a `Tokens` is: the source, the tokens ahead, and what is wrong behind the last of them where one more is needed.
-use Rattle.std.specs.Prelude.{◌≡◌, ◌≤◌, ◌-◌, ℕ, Bool, false, if◌then◌else◌, List, [], ◌∷◌, length, take, drop, Option, Some, None, Result, Ok, Err}
+use Rattle.std.specs.Prelude.{true, ◌&&◌, ◌+◌, ◌*◌, ◌^◌, ◌≡◌, ◌≤◌, ◌-◌, ℕ, Bool, false, if◌then◌else◌, List, [], ◌∷◌, length, take, drop, Option, Some, None, Result, Ok, Err}
 use Rattle.std.specs.Str.{bytes_eq}
 use denote.Enum.Bare.{sameb}
 use Rattle.text_tokens.specs.contracts.token.TokenKind.{the_type}
@@ -9,7 +9,8 @@ use Rattle.text_tokens.specs.declared.refusal.Refusal.{Refusal}
 use Rattle.text_tokens.specs.declared.refusal.RefusalKind.{RefusalKind}
 use Rattle.text_tokens.specs.declared.refusal.RefusalKind.TheVariants as kind
 use Rattle.text_tokens.specs.Scan.{Input, ahead_of, last_of}
-use Rattle.text_tokens.specs.Text.{Lexeme, end_of, AreTokens}
+use Rattle.std.specs.List.{list_all}
+use Rattle.text_tokens.specs.Text.{Lexeme, end_of, AreTokens, Cuts, most_bytes, is_digit}
 
 pub record Cursor : Type 0 where
   pub source : List ℕ
@@ -73,6 +74,10 @@ same_kind = sameb the_type
 abbrev pub is_kind : TokenKind → Lexeme → Bool
 is_kind kind l = same_kind l.kind kind
 
+-- this very token
+abbrev pub is_the : TokenKind → List ℕ → Lexeme → Bool
+is_the kind bytes l = is_kind kind l && is_spelled bytes l
+
 -- there is a next token, and it passes the test
 abbrev pub next_passes : (Lexeme → Bool) → List Lexeme → Bool
 next_passes test [] = false
@@ -99,7 +104,20 @@ abbrev pub FirstIs : List Lexeme → List ℕ → Type 0
 FirstIs [] bytes = ⊥
 FirstIs (l ∷ ls) bytes = l.text ≡ bytes
 
--- the token is a slice of the source, with the bytes of the next one ahead
+-- The token is a slice of the source, with the bytes of the next one ahead. They are a token of its kind, and not too many.
 pub record Spells (c : Cursor) (t : Token) : Type 0 where
   pub within : IsSlice c.source t
   pub bytes : FirstIs c.ahead (slice c.source t)
+  pub cuts : Cuts t.kind (slice c.source t) (drop t.to c.source)
+  pub sized : length (slice c.source t) ≤ most_bytes t.kind
+
+-- a number of at most nine digits, as a slice of the source
+pub record IsNumber (source : List ℕ) (t : Token) : Type 0 where
+  pub within : IsSlice source t
+  pub digits : list_all is_digit (slice source t) ≡ true
+  pub few : length (slice source t) ≤ 9
+
+-- what digits stand for: each is worth ten to the number of digits behind it
+abbrev pub value_of : List ℕ → ℕ
+value_of [] = 0
+value_of (b ∷ digits) = (b - 48) * 10 ^ length digits + value_of digits

@@ -80,6 +80,12 @@ module _ {A : Type 0} (P : Lang A) where
 
 -- ---- what combinators ask
 
+-- some text of a grammar
+pub record SomeText {A : Type 0} (P : Lang A) : Type 0 where
+  pub text : List Mark
+  pub whole : A
+  pub is : P text whole
+
 -- the laws where the next token is this one, or there is none
 pub record LawfulAt {A : Type 0} (next : Option Lexeme) (P : Lang A) (p : Reader A) (ends : Option Lexeme → Bool) : Type 0 where
   pub report : (last : Refusal) (ts : List Lexeme) → first ts ≡ next → Report P p last ts (p last ts)

@@ -7,3 +7,5 @@ pub mod Promises
 pub mod Reading
 pub mod Grammar
 pub mod Lawful
+pub mod Combinators
+pub mod Nested

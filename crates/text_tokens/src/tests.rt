@@ -332,19 +332,19 @@ fn texts_have_these_tokens(rt: HostRuntime) {
 #[test]
 fn an_expected_token_is_taken(rt: HostRuntime) {
     let mut tokens = Tokens::new(b"list 12\n)");
-    assert!(rt; tokens.is_next(b"list"));
+    assert!(rt; tokens.is_next(Word, b"list"));
     assert!(rt; tokens.take_kind(Number).is_err());
-    assert!(rt; tokens.take(b"list").is_ok());
+    assert!(rt; tokens.take(Word, b"list").is_ok());
     assert!(rt; tokens.is_next_kind(Number));
     assert!(rt; tokens.take_any().is_ok());
     assert_eq!(rt;
-        tokens.take(b"(").err(),
+        tokens.take(Sign, b"(").err(),
         Some(tokens.refusal(RefusalKind::Unexpected))
     );
-    assert!(rt; tokens.take(b")").is_ok());
+    assert!(rt; tokens.take(Sign, b")").is_ok());
     assert_eq!(rt; tokens.peek(), Ok(None));
     assert_eq!(rt;
-        tokens.take(b")").err(),
+        tokens.take(Sign, b")").err(),
         Some(Refusal {
             line: 2,
             kind: Truncated
@@ -356,4 +356,58 @@ fn an_expected_token_is_taken(rt: HostRuntime) {
 fn a_kind_has_a_name_and_a_number(rt: HostRuntime) {
     assert_eq!(rt; RefusalKind::NotAdjacent.name(), "NotAdjacent");
     assert_eq!(rt; RefusalKind::NotAdjacent.number(), 14);
+}
+
+impl Part for u8 {
+    ghost use Rattle.text_tokens.specs.Reading.{pure};
+    ghost use Rattle.text_tokens.specs.Grammar.{IsNothing};
+
+    ghost is = { IsNothing 0 };
+
+    ghost reads = { pure 0 };
+}
+
+impl PartAfter<u8> for u16 {
+    ghost use Rattle.text_tokens.specs.Reading.{pure};
+    ghost use Rattle.text_tokens.specs.Grammar.{IsNothing};
+
+    ghost is = { λ before. IsNothing before };
+
+    ghost reads = { λ before. pure before };
+}
+
+impl Element<u32> for u8 {
+    ghost use Rattle.std.specs.Prelude.{◌+◌};
+    ghost use Rattle.text_tokens.specs.Reading.{pure};
+    ghost use Rattle.text_tokens.specs.Grammar.{IsNothing};
+
+    ghost is = { λ room state. IsNothing room };
+
+    ghost reads = { λ room state. pure room };
+
+    ghost step = { λ state element. state + element };
+}
+
+fn laws_of<A: Part + Element<u32>, B: PartAfter<A>>() {
+    exact::<A>();
+    nothing::<A>();
+    choice::<A>();
+    sequence::<A, B>();
+    making::<A, B>();
+    judgement::<A>();
+    limit::<A>();
+    repetition::<u32, A>();
+    separation::<u32, A>();
+}
+
+#[test]
+fn laws_hold_at_a_type(rt: HostRuntime) {
+    one_token();
+    opening();
+    running_sum();
+    laws_of::<u8, u16>();
+    tokens_are_one();
+    spans_rise();
+    small_texts();
+    assert!(rt; RefusalKind::TooDeep.number() < RefusalKind::TooMany.number());
 }

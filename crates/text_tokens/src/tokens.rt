@@ -1,11 +1,11 @@
 //! A cursor over the tokens of a text, which cuts each as it is reached.
 
 ghost use Rattle.std.specs.Prelude.{◌≡◌, ◌<◌, ◌≤◌, ◌+◌, ◌^◌, ℕ, length, take, drop, IfOk, IfSome, OnOk, OnErr, true, false};
-ghost use Rattle.std.specs.List.{prefix_len};
+ghost use Rattle.std.specs.List.{list_all, prefix_len};
 ghost use Rattle.text_tokens.specs.Text as text;
 ghost use Rattle.text_tokens.specs.Scan as scan;
 ghost use Rattle.text_tokens.specs.Cursor as cursor;
-ghost use Rattle.text_tokens.specs.Cursor.{IsAtFront, IsSlice, Spells, next_passes, is_spelled, is_kind, expect};
+ghost use Rattle.text_tokens.specs.Cursor.{IsAtFront, IsNumber, IsSlice, Spells, value_of, next_passes, is_the, is_kind, expect};
 
 use crate::refusal::{Refusal, RefusalKind};
 use crate::token::{Token, TokenKind};
@@ -196,6 +196,20 @@ fn skip(bytes: &[u8], line: u32) -> (usize, u32)
     (bytes.len(), line_now)
 }
 
+/// What digits stand for.
+fn decimal(digits: &[u8]) -> u32
+    requires digits { list_all text.is_digit digits.now ≡ true }
+    requires few { length digits.now ≤ 9 }
+    ensures value { result ≡ value_of digits.now }
+    ensures small { result < 10 ^ 9 }
+{
+    let mut value: u32 = 0;
+    for digit in digits {
+        value = 10 * value + (*digit - b'0') as u32;
+    }
+    value
+}
+
 fn bytes_at(source: &[u8], from: usize, len: usize) -> &[u8]
     requires { from + len ≤ length source.now }
     ensures { result.now ≡ take len (drop from source.now) }
@@ -301,6 +315,15 @@ impl<'a> Tokens<'a> {
         &self.source[token.from as usize..token.to as usize]
     }
 
+    /// What a number of this text stands for, below 10^9.
+    pub fn number(&self, token: &Token) -> u32
+        requires { IsNumber self.now.source token.now }
+        ensures value { result ≡ value_of (cursor.slice self.now.source token.now) }
+        ensures small { result < 10 ^ 9 }
+    {
+        decimal(self.text(token))
+    }
+
     /// A refusal of this kind on the line of the next token; where there is none, what is wrong there, which is
     /// `Truncated` where the text ends.
     pub fn refusal(&self, kind: RefusalKind) -> Refusal
@@ -318,12 +341,12 @@ impl<'a> Tokens<'a> {
         }
     }
 
-    /// Whether the next token has these bytes.
-    pub fn is_next(&self, text: &[u8]) -> bool
-        ensures { result ≡ next_passes (is_spelled text.now) self.now.ahead }
+    /// Whether the next token is this one, by its kind and its bytes.
+    pub fn is_next(&self, kind: TokenKind, text: &[u8]) -> bool
+        ensures { result ≡ next_passes (is_the kind text.now) self.now.ahead }
     {
         match self.front {
-            Ok(piece) => bytes_at(self.source, self.at, piece.len) == text,
+            Ok(piece) => piece.kind == kind && bytes_at(self.source, self.at, piece.len) == text,
             Err(_) => false,
         }
     }
@@ -338,14 +361,15 @@ impl<'a> Tokens<'a> {
         }
     }
 
-    /// The next token, if it has these bytes. Else it is `Unexpected`, or what `refusal` says. An `Err` changes nothing.
-    pub fn take(&mut self, text: &[u8]) -> Result<Token, Refusal>
-        ensures answer { result ≡ expect (is_spelled text.now) self.old }
+    /// The next token, if it is this one, by its kind and its bytes. Else it is `Unexpected`, or what `refusal` says.
+    /// An `Err` changes nothing.
+    pub fn take(&mut self, kind: TokenKind, text: &[u8]) -> Result<Token, Refusal>
+        ensures answer { result ≡ expect (is_the kind text.now) self.old }
         ensures moves { OnOk result (self.new ≡ cursor.behind self.old) }
         ensures again { OnErr result (self.new ≡ self.old) }
         ensures spells { IfOk result (Spells self.old) }
     {
-        if !self.is_next(text) {
+        if !self.is_next(kind, text) {
             return Err(self.refusal(RefusalKind::Unexpected));
         }
         self.take_any()
