@@ -8,3 +8,4 @@ pub mod Lawfulness
 pub mod Obeying
 pub mod Decimal
 pub mod Nesting
+pub mod Stepping

@@ -15,14 +15,14 @@ use Rattle.text_tokens.specs.declared.refusal.RefusalKind.TheVariants.{Unexpecte
 use Rattle.text_tokens.specs.Text.{Lexeme}
 use Rattle.text_tokens.specs.Cursor.{is_the, is_kind, same_kind, is_spelled, value_of}
 use Rattle.text_tokens.specs.Reading.{Reader, first, ◌>>=◌, pure, refuse, choose, one, one_within, no_limit, opening, deep_at, weighed, past_sum, judged, counted, starts_at, repeated, behind_one, separated}
-use Rattle.text_tokens.specs.Grammar.{Mark, mark, tokens, first_fault, IsProper, Lang, IsOne, is_one, Then, then, Made, made, Judged, past, past_fault, less, Counted, counted_in, one_too_many, Repeated, no_more as no_more_in, one_more as one_more_in, BehindOne, Separated}
+use Rattle.text_tokens.specs.Grammar.{Mark, mark, with_token, is_verdict, tokens, first_fault, IsProper, Lang, IsOne, is_one, Then, then, Made, made, Judged, past, past_fault, less, Counted, counted_in, one_too_many, Repeated, no_more as no_more_in, one_more as one_more_in, BehindOne, Separated}
 use Rattle.text_tokens.specs.Lawful.{Lawful, LawfulAt, BeginsAt, IsBegun, Knows, StartsWith, SomeText, Exact}
 use Rattle.text_tokens.specs.Combinators.{Ends}
 use Rattle.text_tokens.specs.Nested as n
 use Rattle.text_tokens.specs.Nested.{Tree, Trees, number, list, none, more, Couple, Whole, is_number, is_open, is_close, is_semicolon, is_pair, value, IsThe, IsNumber, IsSummand, limited, IsElement, leaf, nest, IsList, parens, IsElements, elements, IsMore, no_more, one_more, Placed, IsPlaced, backwards, IsPair, add_low, IsPairs, IsNested, the_line, a_number, a_summand, trees, levels_left, begins_element, an_element, same_state, a_list, element_by, element_with, element_at, inside, placed, a_pair, begins_pair, all_pairs, nested}
 use Rattle.text_tokens.proofs.Marks.{proper-append, regroup}
 use Rattle.text_tokens.proofs.Blanks.{and_true}
-use Rattle.text_tokens.proofs.Lawfulness.{some_text, law_as, law_pure, law_one, law_then_fine, law_then, law_made, law_choose, law_branch, law_judged, law_counted, counted_full, law_repeated, law_separated}
+use Rattle.text_tokens.proofs.Lawfulness.{some_text, law_as, law_pure, law_one, law_then_fine, law_then, law_made, law_choose, law_branch, law_judged, law_counted, counted_full, law_repeated, law_separated, exact}
 use Rattle.text_tokens.proofs.Obeying.{deep_proper, sum_proper}
 
 abbrev pub any : Ends
@@ -376,3 +376,108 @@ law_inside (suc levels) below e = let same : levels ≡ below = cc in subst (λ 
 
 pub law_top : (levels : ℕ) → Lawful (IsList levels) (a_list levels (inside levels)) any
 law_top levels = law_list levels (inside levels) (law_inside levels)
+
+-- ---- pairs
+
+not_backwards : (b : Bool) (line : ℕ) → IfSome {T = Refusal} (cond b (Some (record { line = line; kind = BadEntry })) None) (λ r. r.kind ≢ Unexpected)
+not_backwards true line = λ e. absurd cc
+not_backwards false line = tt
+
+law_placed : (sum : ℕ) → Lawful (IsPlaced sum) (placed sum) any
+unfolding placed
+law_placed sum = law_then (IsThe is_pair) (λ line. Then (IsSummand sum) (λ low. Made IsNumber (λ high. record { line = line; couple = record { low = low; high = high } }))) (the_line is_pair) _ any any
+    (law_the is_pair (sample Word (codes "pair")) (passes_word (codes "pair") refl) any)
+    (λ xs line is. law_then (IsSummand sum) (λ low. Made IsNumber (λ high. record { line = line; couple = record { low = low; high = high } })) (a_summand sum) _ any any (law_summand sum any)
+      (λ ys low at. law_made IsNumber a_number (λ high. record { line = line; couple = record { low = low; high = high } }) any (law_number any)) (λ xs ys a b rest p q e. refl))
+    (λ xs ys a b rest p q e. refl)
+
+law_pair : (sum : ℕ) → Lawful (IsPair sum) (a_pair sum) any
+unfolding a_pair
+law_pair sum = law_made (Judged (IsPlaced sum) backwards) (judged (placed sum) backwards) (λ p. p.couple) any
+    (law_judged (IsPlaced sum) (placed sum) backwards any (λ p. not_backwards (nat_lt p.couple.high p.couple.low) p.line) (law_placed sum))
+
+placed_first : (sum : ℕ) (xs : List Mark) (p : Placed) → IsPlaced sum xs p → (ys : List Mark) → IsBegun begins_pair (xs ++ ys)
+placed_first sum us p (then {xs = xs} {ys = zs} line is q) ys = the_first xs line is zs ys
+  where
+    one_begun : (xs : List Mark) (u : Lexeme) → IsOne is_pair no_limit xs u → (zs ys : List Mark) → IsBegun begins_pair ((xs ++ zs) ++ ys)
+    one_begun xs u (is_one t e) zs ys = record { t = t; kind = TooMany; at = mark t None; more = zs ++ ys; parts = refl; token = refl; answer = rw e refl; fault = refl }
+
+    the_first : (xs : List Mark) (line : ℕ) → IsThe is_pair xs line → (zs ys : List Mark) → IsBegun begins_pair ((xs ++ zs) ++ ys)
+    the_first xs line (made u is) zs ys = one_begun xs u is zs ys
+
+judged_first : (sum : ℕ) (xs : List Mark) (p : Placed) → Judged (IsPlaced sum) backwards xs p → IsBegun begins_pair xs
+judged_first sum us p (then {xs = xs} {ys = ys} q is v) = placed_first sum xs q is ys
+
+pair_begun : (sum : ℕ) (xs : List Mark) (c : Couple) → IsPair sum xs c → IsBegun begins_pair xs
+pair_begun sum xs c (made p is) = judged_first sum xs p is
+
+one_number : Lexeme
+one_number = sample Number (codes "1")
+
+pair_of : (sum : ℕ) (t : Lexeme) → is_pair t ≡ true → IsPair sum (mark t None ∷ mark (sample Number (codes "1")) (past_sum value 100 sum (sample Number (codes "1"))) ∷ mark (sample Number (codes "1")) None ∷ record { token = None; fault = None } ∷ []) (record { low = 1; high = 1 })
+pair_of sum t e = made (record { line = t.line; couple = record { low = 1; high = 1 } })
+    (then (record { line = t.line; couple = record { low = 1; high = 1 } })
+      (then t.line (made t (a_one is_pair no_limit t None e refl))
+        (then 1 (made (sample Number (codes "1")) (is_one (sample Number (codes "1")) passes_number)) (made 1 (made (sample Number (codes "1")) (is_one (sample Number (codes "1")) passes_number)))))
+      is_verdict)
+
+pair_begins_by : (sum : ℕ) (t : Lexeme) (kind : RefusalKind) (b : Bool) → is_pair t ≡ b → cond b (Some TooMany) None ≡ Some kind → BeginsAt (IsPair sum) t kind
+pair_begins_by sum t kind true e k =
+    let same : TooMany ≡ kind = cc in
+    record { at = mark t None; more = _; whole = _; is = pair_of sum t e; token = refl; fault = ap (λ (x : RefusalKind). Some (record { line = t.line; kind = x })) same }
+pair_begins_by sum t kind false e k = absurd cc
+
+knows_pair : (sum : ℕ) → Knows (IsPair sum) begins_pair
+knows_pair sum = record { only = λ t kind e. pair_begins_by sum t kind (is_pair t) refl e; all = pair_begun sum }
+
+some_pair : (sum : ℕ) → SomeText (IsPair sum)
+some_pair sum = record { text = _; whole = _; is = pair_of sum (sample Word (codes "pair")) (passes_word (codes "pair") refl) }
+
+law_pair_in : (room sum : ℕ) → Lawful (Counted (IsPair sum) room) (counted begins_pair room (a_pair sum)) any
+law_pair_in room sum = law_counted (IsPair sum) begins_pair (a_pair sum) any (law_pair sum) (knows_pair sum) (some_pair sum) room
+
+pair_full : (sum : ℕ) (xs : List Mark) (c : Couple) → Counted (IsPair sum) zero xs c → (r : Refusal) × (first_fault xs ≡ Some r)
+pair_full sum xs c is = counted_full (IsPair sum) begins_pair (a_pair sum) any (law_pair sum) (knows_pair sum) (some_pair sum) xs c is
+
+answered_by : (b : Bool) (kind : RefusalKind) → cond b (Some TooMany) None ≡ Some kind → b ≡ true
+answered_by true kind e = refl
+answered_by false kind e = absurd cc
+
+starts_begun : (xs : List Mark) → IsBegun begins_pair xs → StartsWith is_pair xs
+starts_begun xs b = record { t = b.t; more = tokens b.more; parts = ap tokens b.parts ∙ ap (λ (o : Option Lexeme). with_token o (tokens b.more)) b.token; passes = answered_by (is_pair b.t) b.kind b.answer }
+
+past_tokens : (xs : List Mark) → tokens (past xs) ≡ tokens xs
+past_tokens [] = refl
+past_tokens (x ∷ xs) = refl
+
+pair_starts : (room sum : ℕ) (xs : List Mark) (c : Couple) → Counted (IsPair sum) room xs c → StartsWith is_pair xs
+pair_starts room sum xs c (counted_in is) = starts_begun xs (pair_begun sum xs c is)
+pair_starts room sum us c (one_too_many {xs = xs} is) =
+    let s = starts_begun xs (pair_begun sum xs c is) in
+    record { t = s.t; more = s.more; parts = past_tokens xs ∙ s.parts; passes = s.passes }
+
+law_pairs : Lawful IsPairs all_pairs (not_at is_pair)
+unfolding all_pairs
+law_pairs = law_repeated (λ room sum. Counted (IsPair sum) room) is_pair (λ room sum. counted begins_pair room (a_pair sum)) add_low any (not_at is_pair) law_pair_in pair_starts pair_full
+    (λ t e. refl) (λ o e. refl) (λ o e. not_true (starts_at is_pair o) e) 3 0
+
+-- ---- the whole
+
+not_pair : (t : Lexeme) → is_the Word (codes "end") t ≡ true → not_at is_pair (Some t) ≡ true
+not_pair t e = ap not (other_text Word (codes "end") (codes "pair") t refl e)
+
+end_follows : (ts : Trees) (ps : List Couple) (ys : List Mark) (w : Whole) (rest : List Lexeme) → Made (IsThe (is_the Word (codes "end"))) (λ _. record { list = ts; pairs = ps }) ys w → not_at is_pair (first (tokens ys ++ rest)) ≡ true
+end_follows ts ps ys w rest (made line is) = let f = made_first (is_the Word (codes "end")) no_limit (λ t. t.line) ys line is in ap (not_at is_pair) (next_is (is_the Word (codes "end")) ys rest f) ∙ not_pair f.t f.passes
+
+pub law_nested : Lawful IsNested nested any
+unfolding nested
+law_nested = law_then (IsThe (is_the Word (codes "nested"))) _ (the_line (is_the Word (codes "nested"))) _ any any (law_the (is_the Word (codes "nested")) (sample Word (codes "nested")) (passes_word (codes "nested") refl) any)
+    (λ xs begin is. law_then (IsList 3) _ (a_list 3 (inside 3)) _ any any (law_top 3)
+      (λ ys ts at. law_then IsPairs (λ ps. Made (IsThe (is_the Word (codes "end"))) (λ _. record { list = ts; pairs = ps })) all_pairs _ (not_at is_pair) any law_pairs
+        (λ zs ps in_pairs. law_made (IsThe (is_the Word (codes "end"))) (the_line (is_the Word (codes "end"))) (λ _. record { list = ts; pairs = ps }) any (law_the (is_the Word (codes "end")) (sample Word (codes "end")) (passes_word (codes "end") refl) any))
+        (λ zs us ps w rest p q e. end_follows ts ps us w rest q))
+      (λ xs ys a b rest p q e. refl))
+    (λ xs ys a b rest p q e. refl)
+
+pub exact_nested : Exact IsNested nested
+exact_nested = exact IsNested nested any law_nested refl

@@ -8,4 +8,6 @@ pub mod Reading
 pub mod Grammar
 pub mod Lawful
 pub mod Combinators
+pub mod Steps
 pub mod Nested
+pub mod NestedView

@@ -1,0 +1,32 @@
+-- What a function of the code that reads owes to a reader.
+use Rattle.std.specs.Prelude.{◌≡◌, ◌-◌, ℕ, Bool, if◌then◌else◌, List, Option, Some, None, Result, Ok, Err, length}
+use Rattle.text_tokens.specs.declared.token.Token.{Token}
+use Rattle.text_tokens.specs.declared.refusal.Refusal.{Refusal}
+use Rattle.text_tokens.specs.declared.refusal.ReadRefusal.{ReadRefusal}
+use Rattle.text_tokens.specs.declared.refusal.ReadRefusal.TheVariants.{Refused, NoMemory}
+use Rattle.text_tokens.specs.Text.{Lexeme}
+use Rattle.text_tokens.specs.Cursor.{Cursor, slice}
+use Rattle.text_tokens.specs.Reading.{Answer, Reader, ◌>>=◌, pure, choose, starts_at}
+
+-- a refusal is that of the reader; want of memory says nothing
+abbrev pub Fails : {A : Type 0} → ReadRefusal → Answer A → Type 0
+Fails NoMemory answer = Unit {0}
+Fails (Refused r) answer = answer ≡ Err r
+
+-- the source and what is wrong at the end stay
+pub record Stays (old new : Cursor) : Type 0 where
+  pub source : new.source ≡ old.source
+  pub last : new.last ≡ old.last
+
+-- What the code returned, seen by view, is what the reader answers, and the code stands where the reader does.
+abbrev pub Gives : {A B : Type 0} → (A → B) → Reader B → Cursor → Result A ReadRefusal → Cursor → Type 0
+Gives view p old (Ok a) new = (p old.last old.ahead ≡ Ok (view a, new.ahead)) × Stays old new
+Gives view p old (Err e) new = Fails e (p old.last old.ahead)
+
+-- a token of the source as the grammar sees it
+abbrev pub lexeme_of : List ℕ → Token → Lexeme
+lexeme_of source t = record { kind = t.kind; text = slice source t; «from» = t.«from»; line = t.line }
+
+-- the next element, if one begins there
+unfoldable pub another : {A : Type 0} → (Lexeme → Bool) → Reader A → Reader (Option A)
+another starts element = choose (λ next. if starts_at starts next then (element >>= λ a. pure (Some a)) else pure None)
