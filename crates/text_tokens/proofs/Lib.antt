@@ -9,3 +9,5 @@ pub mod Obeying
 pub mod Decimal
 pub mod Nesting
 pub mod Stepping
+pub mod Looping
+pub mod NestedSteps

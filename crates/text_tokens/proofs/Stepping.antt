@@ -5,7 +5,9 @@ use Rattle.text_tokens.specs.declared.token.TokenKind.TheVariants.{Word, Number,
 use Rattle.text_tokens.specs.declared.token.Token.{Token}
 use Rattle.text_tokens.specs.declared.refusal.Refusal.{Refusal}
 use Rattle.text_tokens.specs.declared.refusal.RefusalKind.{RefusalKind}
-use Rattle.text_tokens.specs.declared.refusal.RefusalKind.TheVariants.{Unexpected}
+use Rattle.text_tokens.specs.declared.refusal.RefusalKind.TheVariants.{Unexpected, TooDeep, TooMany}
+use Rattle.std.proofs.lemmas.Bool.{lt-ltb, le-ltb}
+use Rattle.std.specs.Prelude.{nat_lt}
 use Rattle.text_tokens.specs.declared.refusal.ReadRefusal.{ReadRefusal}
 use Rattle.text_tokens.specs.declared.refusal.ReadRefusal.TheVariants.{Refused, NoMemory}
 use Rattle.std.proofs.Common.{rules}
@@ -14,7 +16,7 @@ use Rattle.text_tokens.specs.contracts.token.TokenKind.{the_type}
 use Rattle.std.specs.List.{list_all}
 use Rattle.text_tokens.specs.Text.{Lexeme, Cuts, word, number, sign, is_digit, most_bytes}
 use Rattle.text_tokens.specs.Cursor.{Cursor, token_of, behind, tail, expect, expect_by, slice, FirstIs, IsSlice, Spells, IsNumber, is_kind, same_kind, next_passes, refusal_at}
-use Rattle.text_tokens.specs.Reading.{Answer, Reader, ◌>>=◌, pure, and_then, within, one, one_within, no_limit}
+use Rattle.text_tokens.specs.Reading.{Answer, Reader, ◌>>=◌, pure, and_then, within, one, one_within, no_limit, deep_at, past_sum}
 use Rattle.text_tokens.specs.Steps.{Fails, Stays, Gives, lexeme_of}
 use Rattle.text_tokens.proofs.Blanks.{and_true}
 
@@ -106,3 +108,59 @@ kind_by kind (l ∷ ls) last t e = kind_test (is_kind kind l) refl e
 pub kind_taken : (kind : TokenKind) (c : Cursor) (t : Token) → expect (is_kind kind) c ≡ Ok t → t.kind ≡ kind
 unfolding same_kind
 kind_taken kind c t e = same_true the_type (search rules) t.kind kind (kind_by kind c.ahead c.last t e)
+
+-- a token that was taken, and passes a limit
+module _ (test : Lexeme → Bool) (over : Lexeme → Option RefusalKind) where
+  past_test : (source : List ℕ) (l : Lexeme) (rest : List Lexeme) (last : Refusal) (t : Token) (k : RefusalKind) (b : Bool) → test l ≡ b → cond {A = Result Token Refusal} b (Ok (token_of l)) (Err (record { line = l.line; kind = Unexpected })) ≡ Ok t → l.text ≡ slice source t → over (lexeme_of source t) ≡ Some k
+      → one_within test over last (l ∷ rest) ≡ Err (record { line = t.line; kind = k })
+  unfolding one_within
+  past_test source l rest last t k true e same text past =
+      let is : token_of l ≡ t = cc in
+      let o : over l ≡ Some k = ap over (sym (seen source l t is text)) ∙ past in
+      rw (e, o) (ap (λ (u : Token). Err (record { line = u.line; kind = k })) is)
+  past_test source l rest last t k false e same text past = absurd cc
+
+  past_by : (source : List ℕ) (ls : List Lexeme) (last : Refusal) (t : Token) (k : RefusalKind) → expect_by test ls last ≡ Ok t → FirstIs ls (slice source t) → over (lexeme_of source t) ≡ Some k → one_within test over last ls ≡ Err (record { line = t.line; kind = k })
+  past_by source [] last t k e f past = absurd cc
+  past_by source (l ∷ ls) last t k e f past = past_test source l ls last t k (test l) refl e f past
+
+  pub goes_past : (c : Cursor) (t : Token) (k : RefusalKind) → expect test c ≡ Ok t → Spells c t → over (lexeme_of c.source t) ≡ Some k → one_within test over c.last c.ahead ≡ Err (record { line = t.line; kind = k })
+  goes_past c t k e s past = past_by c.source c.ahead c.last t k e s.bytes past
+
+pub deep_zero : (levels : ℕ) (t : Lexeme) → levels ≡ 0 → deep_at levels t ≡ Some TooDeep
+deep_zero levels t e = rw e refl
+
+pub deep_some : (levels : ℕ) (t : Lexeme) → 0 < levels → deep_at levels t ≡ None
+deep_some zero t e = absurd (omega arith)
+deep_some (suc levels) t e = refl
+
+pub sum_over : (weight : Lexeme → ℕ) (most sum : ℕ) (t : Lexeme) → most < sum + weight t → past_sum weight most sum t ≡ Some TooMany
+sum_over weight most sum t lt = let b : nat_lt most (sum + weight t) ≡ true = lt-ltb _ _ lt in rw b refl
+
+pub sum_within : (weight : Lexeme → ℕ) (most sum : ℕ) (t : Lexeme) → sum + weight t ≤ most → past_sum weight most sum t ≡ None
+sum_within weight most sum t le = let b : nat_lt most (sum + weight t) ≡ false = le-ltb _ _ le in rw b refl
+
+-- ---- what the code has read, one part behind the other
+
+-- the reader has read this, and the code stands behind it
+abbrev pub Reached : {A : Type 0} → Reader A → Cursor → A → Cursor → Type 0
+Reached p old a new = (p old.last old.ahead ≡ Ok (a, new.ahead)) × Stays old new
+
+moved : {B : Type 0} (r : Reader B) (last last' : Refusal) (ts : List Lexeme) → last' ≡ last → r last ts ≡ r last' ts
+moved r last last' ts e = ap (λ (l : Refusal). r l ts) (sym e)
+
+pub on : {A B : Type 0} (p : Reader A) (q : A → Reader B) (old mid new : Cursor) (a : A) (b : B) → Reached p old a mid → Reached (q a) mid b new → Reached (p >>= q) old b new
+on p q old mid new a b r s = (then_ok p q old.last old.ahead mid.ahead a (Ok (b, new.ahead)) r.0 (moved (q a) old.last mid.last mid.ahead r.1.last ∙ s.0), stays_on old mid new r.1 s.1)
+
+pub on_fails : {A B : Type 0} (p : Reader A) (q : A → Reader B) (e : ReadRefusal) (old mid : Cursor) (a : A) → Reached p old a mid → Fails e (q a mid.last mid.ahead) → Fails e ((p >>= q) old.last old.ahead)
+on_fails {B} p q e old mid a r h = fails_then p q e old.last old.ahead mid.ahead a r.0 (subst (λ (x : Answer B). Fails e x) (sym (moved (q a) old.last mid.last mid.ahead r.1.last)) h)
+
+pub on_made : {A B : Type 0} (p : Reader A) (f : A → B) (old new : Cursor) (a : A) → Reached p old a new → Reached (p >>= λ a. pure (f a)) old (f a) new
+on_made p f old new a r = (maps_ok p f old.last old.ahead new.ahead a r.0, r.1)
+
+-- the same reader
+pub fails_as : {A : Type 0} (e : ReadRefusal) (x y : Answer A) → x ≡ y → Fails e x → Fails e y
+fails_as {A} e x y s h = subst (λ (z : Answer A). Fails e z) s h
+
+pub reached_as : {A : Type 0} (p q : Reader A) (old new : Cursor) (a : A) → q old.last old.ahead ≡ p old.last old.ahead → Reached p old a new → Reached q old a new
+reached_as p q old new a s r = (s ∙ r.0, r.1)

@@ -12,7 +12,7 @@ use Rattle.text_tokens.specs.declared.refusal.RefusalKind.{RefusalKind}
 use Rattle.text_tokens.specs.declared.refusal.RefusalKind.TheVariants.{TooDeep, TooMany, BadEntry}
 use Rattle.text_tokens.specs.Text.{Lexeme}
 use Rattle.text_tokens.specs.Cursor.{is_the, is_kind, value_of}
-use Rattle.text_tokens.specs.Reading.{Reader, ◌>>=◌, pure, refuse, choose, one, one_within, no_limit, opening, deep_at, weighed, past_sum, judged, counted, starts_at, repeated, separated}
+use Rattle.text_tokens.specs.Reading.{Reader, ◌>>=◌, pure, refuse, choose, one, one_within, no_limit, opening, deep_at, weighed, past_sum, judged, counted, starts_at, repeated, behind_one, separated}
 use Rattle.text_tokens.specs.Grammar.{Mark, Lang, IsOne, Then, Made, Judged, past, less, Counted, Repeated}
 
 -- ---- what a text stands for
@@ -165,6 +165,17 @@ element_at (suc levels) = element_with (suc levels) (element_at levels)
 abbrev pub inside : ℕ → Reader Tree
 inside zero = refuse
 inside (suc levels) = element_at levels
+
+-- the parenthesis alone
+unfoldable pub opened : ℕ → Reader (Unit {0})
+opened levels = opening levels is_open >>= λ t. pure tt
+
+-- the elements of a list, without its parentheses
+unfoldable pub all_elements : ℕ → Reader (List Tree)
+all_elements levels = separated is_semicolon (an_element levels (element_at levels)) same_state 3 tt
+
+abbrev pub behind_semicolon : ℕ → ℕ → Unit {0} → Reader Tree
+behind_semicolon levels = behind_one is_semicolon (an_element levels (element_at levels))
 
 unfoldable pub placed : ℕ → Reader Placed
 placed sum = do

@@ -30,3 +30,7 @@ lexeme_of source t = record { kind = t.kind; text = slice source t; «from» = t
 -- the next element, if one begins there
 unfoldable pub another : {A : Type 0} → (Lexeme → Bool) → Reader A → Reader (Option A)
 another starts element = choose (λ next. if starts_at starts next then (element >>= λ a. pure (Some a)) else pure None)
+
+-- the reader answers with this refusal
+abbrev pub IsRefusal : (Option Lexeme → Reader (Unit {0})) → Refusal → List Lexeme → Refusal → Type 0
+IsRefusal by last ts r = choose by last ts ≡ Err r

@@ -2,8 +2,9 @@
 //! a section.
 
 ghost use Rattle.std.specs.Prelude.{◌≡◌, ◌<◌, ◌≤◌, ◌+◌, ◌^◌, ℕ, List, [], IfOk, IfSome, OnOk, map, option_map, codes, suc, length, nat_lt};
-ghost use Rattle.text_tokens.specs.Steps.{Gives, lexeme_of, another};
+ghost use Rattle.text_tokens.specs.Steps.{Gives, IsRefusal, another};
 ghost use Rattle.text_tokens.specs.Cursor.{is_the};
+ghost use Rattle.text_tokens.specs.declared.refusal.ReadRefusal.TheVariants.{Refused};
 ghost use Rattle.text_tokens.specs.Reading as reading;
 ghost use Rattle.text_tokens.specs.Nested as spec;
 ghost use Rattle.text_tokens.specs.NestedView as view;
@@ -50,4 +51,120 @@ fn number(tokens: &mut Tokens<'_>) -> Result<u32, ReadRefusal>
 {
     let token = tokens.take_kind(TokenKind::Number)?;
     Ok(tokens.number(&token))
+}
+
+/// A number that is added to a sum of at most 100.
+#[tactic(auto, unfolding(crate::specs::Nested::a_summand))]
+fn summand(tokens: &mut Tokens<'_>, sum: u32) -> Result<u32, ReadRefusal>
+    requires { sum ≤ 100 }
+    ensures reads { Gives (λ n. n) (spec.a_summand sum) tokens.old result tokens.new }
+    ensures small { IfOk result (λ n. sum + n ≤ 100) }
+{
+    let token = tokens.take_kind(TokenKind::Number)?;
+    let value = tokens.number(&token);
+    if sum + value > 100 {
+        return Err(beyond(token.line, RefusalKind::TooMany));
+    }
+    Ok(value)
+}
+
+/// The refusal of a token that was taken, and passes a limit.
+fn beyond(line: u32, kind: RefusalKind) -> ReadRefusal
+    ensures { result ≡ Refused (record { line = line; kind = kind }) }
+{
+    ReadRefusal::Refused(Refusal { line, kind })
+}
+
+/// The parenthesis that opens a list, where so many levels may be opened.
+fn opening(tokens: &mut Tokens<'_>, levels: u32) -> Result<(), ReadRefusal>
+    ensures reads { Gives (λ _. tt) (spec.opened levels) tokens.old result tokens.new }
+    ensures deep { OnOk result (0 < levels) }
+{
+    let token = tokens.take(TokenKind::Sign, b"(")?;
+    if levels == 0 {
+        return Err(beyond(token.line, RefusalKind::TooDeep));
+    }
+    Ok(())
+}
+
+/// Refuses one element too many, or what begins none.
+fn full_list(tokens: &Tokens<'_>, levels: u32) -> Refusal
+    ensures { IsRefusal (reading.full_at (spec.begins_element levels)) tokens.now.last tokens.now.ahead result }
+{
+    let kind = if tokens.is_next_kind(TokenKind::Number) {
+        RefusalKind::TooMany
+    } else if !tokens.is_next(TokenKind::Sign, b"(") {
+        RefusalKind::Unexpected
+    } else if levels == 0 {
+        RefusalKind::TooDeep
+    } else {
+        RefusalKind::TooMany
+    };
+    tokens.refusal(kind)
+}
+
+/// An element.
+#[cycle(lists)]
+fn read_element(alloc: Global, tokens: &mut Tokens<'_>, levels: u32) -> Result<Element, ReadRefusal>
+    ensures { Gives view.tree (spec.element_at levels) tokens.old result tokens.new }
+{
+    if tokens.is_next_kind(TokenKind::Number) {
+        return Ok(Element::Number(number(tokens)?));
+    }
+    Ok(Element::List(read_list(alloc, tokens, levels)?))
+}
+
+/// A list.
+#[cycle(lists)]
+fn read_list(
+    alloc: Global,
+    tokens: &mut Tokens<'_>,
+    levels: u32,
+) -> Result<Vec<Element>, ReadRefusal>
+    ensures { Gives (λ v. spec.trees (map view.tree v.items)) (spec.a_list levels (spec.inside levels)) tokens.old result tokens.new }
+{
+    opening(tokens, levels)?;
+    let found = read_elements(alloc, tokens, levels - 1)?;
+    the_line(tokens, TokenKind::Sign, b")")?;
+    Ok(found)
+}
+
+/// The elements of a list.
+#[cycle(lists)]
+fn read_elements(
+    alloc: Global,
+    tokens: &mut Tokens<'_>,
+    levels: u32,
+) -> Result<Vec<Element>, ReadRefusal>
+    ensures { Gives (λ v. map view.tree v.items) (spec.all_elements levels) tokens.old result tokens.new }
+{
+    let mut found = Vec::new(alloc);
+    found.push(read_element(alloc, tokens, levels)?)?;
+    let mut room = 3u32;
+    while let Some(next) = more_element(alloc, tokens, levels, room)? {
+        found.push(next)?;
+        room -= 1;
+    }
+    Ok(found)
+}
+
+/// One more element behind a semicolon, if a semicolon comes, where so many more may come.
+#[cycle(lists)]
+fn more_element(
+    alloc: Global,
+    tokens: &mut Tokens<'_>,
+    levels: u32,
+    room: u32,
+) -> Result<Option<Element>, ReadRefusal>
+    ensures reads { Gives (λ o. option_map view.tree o) (another spec.is_semicolon (spec.behind_semicolon levels room tt)) tokens.old result tokens.new }
+    ensures room { IfOk result (λ o. IfSome o (λ _. 0 < room)) }
+{
+    if !tokens.is_next(TokenKind::Sign, b";") {
+        return Ok(None);
+    }
+    tokens.take(TokenKind::Sign, b";")?;
+    if room == 0 {
+        return Err(full_list(tokens, levels).into());
+    }
+    Ok(Some(read_element(alloc, tokens, levels)?))
 }
