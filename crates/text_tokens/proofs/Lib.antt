@@ -11,3 +11,5 @@ pub mod Nesting
 pub mod Stepping
 pub mod Looping
 pub mod NestedSteps
+pub mod Settling
+pub mod PairSteps

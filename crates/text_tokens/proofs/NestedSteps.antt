@@ -47,12 +47,12 @@ element_list levels last ts e =
 
 -- ---- one more element
 
-counted_some : {A : Type 0} (begins : Lexeme → Option RefusalKind) (room : ℕ) (p : Reader A) → 0 < room → counted begins room p ≡ p
+pub counted_some : {A : Type 0} (begins : Lexeme → Option RefusalKind) (room : ℕ) (p : Reader A) → 0 < room → counted begins room p ≡ p
 unfolding counted
 counted_some begins zero p lt = absurd (omega arith)
 counted_some begins (suc room) p lt = refl
 
-counted_none : {A : Type 0} (begins : Lexeme → Option RefusalKind) (p : Reader A) (last : Refusal) (ts : List Lexeme) → counted begins zero p last ts ≡ choose (full_at begins) last ts
+pub counted_none : {A : Type 0} (begins : Lexeme → Option RefusalKind) (p : Reader A) (last : Refusal) (ts : List Lexeme) → counted begins zero p last ts ≡ choose (full_at begins) last ts
 unfolding counted
 counted_none begins p last ts = refl
 

@@ -190,8 +190,11 @@ a_pair sum = judged (placed sum) backwards >>= λ p. pure p.couple
 abbrev pub begins_pair : Lexeme → Option RefusalKind
 begins_pair t = if is_pair t then Some TooMany else None
 
+abbrev pub pair_in : ℕ → ℕ → Reader Couple
+pair_in room sum = counted begins_pair room (a_pair sum)
+
 unfoldable pub all_pairs : Reader (List Couple)
-all_pairs = repeated is_pair (λ room sum. counted begins_pair room (a_pair sum)) add_low 3 0
+all_pairs = repeated is_pair pair_in add_low 3 0
 
 unfoldable pub nested : Reader Whole
 nested = do

@@ -6,6 +6,8 @@ use Rattle.text_tokens.specs.declared.refusal.ReadRefusal.{ReadRefusal}
 use Rattle.text_tokens.specs.declared.refusal.ReadRefusal.TheVariants.{Refused, NoMemory}
 use Rattle.text_tokens.specs.Text.{Lexeme}
 use Rattle.text_tokens.specs.Cursor.{Cursor, slice}
+use Rattle.text_tokens.specs.Grammar.{Lang, Mark, tokens, first_fault}
+use Rattle.text_tokens.specs.Lawful.{IsText, IsFault}
 use Rattle.text_tokens.specs.Reading.{Answer, Reader, ◌>>=◌, pure, choose, starts_at}
 
 -- a refusal is that of the reader; want of memory says nothing
@@ -34,3 +36,20 @@ another starts element = choose (λ next. if starts_at starts next then (element
 -- the reader answers with this refusal
 abbrev pub IsRefusal : (Option Lexeme → Reader (Unit {0})) → Refusal → List Lexeme → Refusal → Type 0
 IsRefusal by last ts r = choose by last ts ≡ Err r
+
+-- ---- what a function of the code owes to a grammar
+
+-- What was read is a text of the grammar that passes no limit, and what was refused is the first fault. Want of memory says nothing.
+abbrev pub TellsOf : {A B : Type 0} → Lang B → (A → B) → Cursor → Result A ReadRefusal → Cursor → Type 0
+TellsOf P view old (Ok a) new = IsText P old.ahead (view a) new.ahead × Stays old new
+TellsOf P view old (Err NoMemory) new = Unit {0}
+TellsOf P view old (Err (Refused r)) new = IsFault P old.last old.ahead r
+
+-- what a text of the grammar is read as: what it stands for, or its first refusal
+abbrev pub Settles : {A B : Type 0} → (A → B) → List Mark → B → Result A ReadRefusal → Type 0
+Settles view xs b (Ok a) = (first_fault xs ≡ None) × (view a ≡ b)
+Settles view xs b (Err NoMemory) = Unit {0}
+Settles view xs b (Err (Refused r)) = first_fault xs ≡ Some r
+
+abbrev pub ReadsOf : {A B : Type 0} → Lang B → (A → B) → Cursor → Result A ReadRefusal → Type 0
+ReadsOf {A} {B} P view old result = (xs : List Mark) (b : B) → P xs b → old.ahead ≡ tokens xs → Settles view xs b result

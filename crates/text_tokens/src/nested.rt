@@ -2,7 +2,7 @@
 //! a section.
 
 ghost use Rattle.std.specs.Prelude.{◌≡◌, ◌<◌, ◌≤◌, ◌+◌, ◌^◌, ℕ, List, [], IfOk, IfSome, OnOk, map, option_map, codes, suc, length, nat_lt};
-ghost use Rattle.text_tokens.specs.Steps.{Gives, IsRefusal, another};
+ghost use Rattle.text_tokens.specs.Steps.{Gives, IsRefusal, ReadsOf, TellsOf, another};
 ghost use Rattle.text_tokens.specs.Cursor.{is_the};
 ghost use Rattle.text_tokens.specs.declared.refusal.ReadRefusal.TheVariants.{Refused};
 ghost use Rattle.text_tokens.specs.Reading as reading;
@@ -63,13 +63,13 @@ fn summand(tokens: &mut Tokens<'_>, sum: u32) -> Result<u32, ReadRefusal>
     let token = tokens.take_kind(TokenKind::Number)?;
     let value = tokens.number(&token);
     if sum + value > 100 {
-        return Err(beyond(token.line, RefusalKind::TooMany));
+        return Err(refused(token.line, RefusalKind::TooMany));
     }
     Ok(value)
 }
 
 /// The refusal of a token that was taken, and passes a limit.
-fn beyond(line: u32, kind: RefusalKind) -> ReadRefusal
+fn refused(line: u32, kind: RefusalKind) -> ReadRefusal
     ensures { result ≡ Refused (record { line = line; kind = kind }) }
 {
     ReadRefusal::Refused(Refusal { line, kind })
@@ -82,7 +82,7 @@ fn opening(tokens: &mut Tokens<'_>, levels: u32) -> Result<(), ReadRefusal>
 {
     let token = tokens.take(TokenKind::Sign, b"(")?;
     if levels == 0 {
-        return Err(beyond(token.line, RefusalKind::TooDeep));
+        return Err(refused(token.line, RefusalKind::TooDeep));
     }
     Ok(())
 }
@@ -167,4 +167,69 @@ fn more_element(
         return Err(full_list(tokens, levels).into());
     }
     Ok(Some(read_element(alloc, tokens, levels)?))
+}
+
+/// A pair, where the first numbers of the pairs before it have this sum.
+fn read_pair(tokens: &mut Tokens<'_>, sum: u32) -> Result<Pair, ReadRefusal>
+    requires { sum ≤ 100 }
+    ensures reads { Gives view.couple (spec.a_pair sum) tokens.old result tokens.new }
+    ensures small { IfOk result (λ p. sum + p.low ≤ 100) }
+{
+    let line = the_line(tokens, TokenKind::Word, b"pair")?;
+    let low = summand(tokens, sum)?;
+    let high = number(tokens)?;
+    if high < low {
+        return Err(refused(line, RefusalKind::BadEntry));
+    }
+    Ok(Pair { low, high })
+}
+
+/// One more pair, if one comes, where so many more may come.
+fn more_pair(tokens: &mut Tokens<'_>, room: u32, sum: u32) -> Result<Option<Pair>, ReadRefusal>
+    requires { sum ≤ 100 }
+    ensures reads { Gives (λ o. option_map view.couple o) (another spec.is_pair (spec.pair_in room sum)) tokens.old result tokens.new }
+    ensures room { IfOk result (λ o. IfSome o (λ p. (0 < room) × (sum + p.low ≤ 100))) }
+{
+    if !tokens.is_next(TokenKind::Word, b"pair") {
+        return Ok(None);
+    }
+    if room == 0 {
+        return Err(tokens.refusal(RefusalKind::TooMany).into());
+    }
+    Ok(Some(read_pair(tokens, sum)?))
+}
+
+fn read_pairs(alloc: Global, tokens: &mut Tokens<'_>) -> Result<Vec<Pair>, ReadRefusal>
+    ensures { Gives (λ v. map view.couple v.items) spec.all_pairs tokens.old result tokens.new }
+{
+    let mut found = Vec::new(alloc);
+    let mut room = 3u32;
+    let mut sum = 0u32;
+    while let Some(pair) = more_pair(tokens, room, sum)? {
+        found.push(pair)?;
+        room -= 1;
+        sum += pair.low;
+    }
+    Ok(found)
+}
+
+#[tactic(auto, unfolding(crate::specs::Nested::nested))]
+fn read_whole(alloc: Global, tokens: &mut Tokens<'_>) -> Result<Nested, ReadRefusal>
+    ensures { Gives view.whole spec.nested tokens.old result tokens.new }
+{
+    the_line(tokens, TokenKind::Word, b"nested")?;
+    let list = read_list(alloc, tokens, 3)?;
+    let pairs = read_pairs(alloc, tokens)?;
+    the_line(tokens, TokenKind::Word, b"end")?;
+    Ok(Nested { list, pairs })
+}
+
+/// Reads a text of the format up to its `end`.
+pub fn read_nested(alloc: Global, tokens: &mut Tokens<'_>) -> Result<Nested, ReadRefusal>
+    // What is read is a text of the grammar that passes no limit, and what is refused is the first fault. Only want of memory is free.
+    ensures tells { TellsOf spec.IsNested view.whole tokens.old result tokens.new }
+    // A text of the grammar is read as what it stands for, or refused at its first mark.
+    ensures reads { ReadsOf spec.IsNested view.whole tokens.old result }
+{
+    read_whole(alloc, tokens)
 }

@@ -17,7 +17,7 @@ returns-in_err-token-clause-reads c =
 pub returns-then-levels-eq0-clause-reads : goal.returns-then-levels-eq0-clause-reads
 unfolding opened
 returns-then-levels-eq0-clause-reads c =
-    rw c.beyond.ensures (then_err (opening c.args.levels is_open) (λ t. pure tt) c.args.tokens.now.last (record { line = c.in_ok-token.token.line; kind = TooDeep }) c.args.tokens.now.ahead
+    rw c.refused.ensures (then_err (opening c.args.levels is_open) (λ t. pure tt) c.args.tokens.now.last (record { line = c.in_ok-token.token.line; kind = TooDeep }) c.args.tokens.now.ahead
       (goes_past is_open (deep_at c.args.levels) c.args.tokens.now c.in_ok-token.token TooDeep (sym c.take.ensures.answer ∙ c.in_ok-token.was) c.in_ok-token.ensures.spells (deep_zero c.args.levels _ c.if-levels-eq0.true)))
 
 pub returns-clause-reads : goal.returns-clause-reads

@@ -27,7 +27,7 @@ returns-then-sum-value-gt100-clause-reads c =
     let same = ap (λ (v : Cursor). v.source) c.in_ok-token.ensures.moves in
     let v : c.number-value.result ≡ value (lexeme_of c.args.tokens.now.source c.in_ok-token.token) = c.number-value.ensures.value ∙ ap (λ (source : List ℕ). value_of (slice source c.in_ok-token.token)) same in
     let past : 100 < c.args.sum + value (lexeme_of c.args.tokens.now.source c.in_ok-token.token) = rw (← v) (omega arith) in
-    rw c.beyond.ensures (then_err (weighed is_number value 100 c.args.sum) (λ t. pure (value t)) c.args.tokens.now.last (record { line = c.in_ok-token.token.line; kind = TooMany }) c.args.tokens.now.ahead
+    rw c.refused.ensures (then_err (weighed is_number value 100 c.args.sum) (λ t. pure (value t)) c.args.tokens.now.last (record { line = c.in_ok-token.token.line; kind = TooMany }) c.args.tokens.now.ahead
       (goes_past is_number (past_sum value 100 c.args.sum) c.args.tokens.now c.in_ok-token.token TooMany (sym c.take_kind.ensures.answer ∙ c.in_ok-token.was) c.in_ok-token.ensures.spells (sum_over value 100 c.args.sum (lexeme_of c.args.tokens.now.source c.in_ok-token.token) past)))
 
 pub returns-clause-reads : goal.returns-clause-reads
