@@ -1,15 +1,14 @@
 -- The laws of each combinator.
-use Rattle.std.proofs.Common.{◌≡◌, ◌≢◌, ℕ, zero, suc, ◌+◌, Bool, true, false, cond, List, [], ◌∷◌, ◌++◌, Option, Some, None, Result, Ok, Err, refl, sym, ap, subst, ◌∙◌, append_assoc}
+use Rattle.std.proofs.Common.{◌≡◌, ◌≢◌, ℕ, zero, suc, Bool, true, false, cond, List, [], ◌∷◌, ◌++◌, Option, Some, None, Ok, Err, refl, sym, ap, subst, ◌∙◌, append_assoc}
 use Rattle.std.proofs.lemmas.List.{append-nil}
-use Rattle.std.specs.Prelude.{IfSome, nat_lt}
+use Rattle.std.specs.Prelude.{IfSome}
 use Rattle.text_tokens.specs.declared.refusal.Refusal.{Refusal}
 use Rattle.text_tokens.specs.declared.refusal.RefusalKind.{RefusalKind}
-use Rattle.text_tokens.specs.declared.refusal.RefusalKind.TheVariants.{Unexpected, TooDeep, TooMany}
+use Rattle.text_tokens.specs.declared.refusal.RefusalKind.TheVariants.{Unexpected}
 use Rattle.text_tokens.specs.Text.{Lexeme}
-use Rattle.text_tokens.specs.Cursor.{refusal_at}
-use Rattle.text_tokens.specs.Reading.{Answer, Reader, first, and_then, ◌>>=◌, pure, refuse, stop, choose, within, one_within, no_limit, one, verdict, judged, full_by, full_at, counted, starts_at, repeated, behind_one, separated}
-use Rattle.text_tokens.specs.Grammar.{Mark, with_token, tokens, first_fault, or_else, outcome_by, outcome, IsProper, Lang, refusal_of, mark, IsOne, is_one, Then, then, Made, made, IsNothing, is_nothing, IsVerdict, is_verdict, Judged, past_fault, past, Counted, counted_in, one_too_many, less, Repeated, no_more, one_more, BehindOne, Separated}
-use Rattle.text_tokens.specs.Lawful.{Got, Failed, misplaced, short, beyond, Report, Reads, Lawful, BeginsNone, IsText, Begins, IsFault, unexpected, ended, limit, Tells, Exact, LawfulAt, BeginsAt, IsBegun, Knows, StartsWith, SomeText}
+use Rattle.text_tokens.specs.Reading.{Answer, Reader, first, and_then, ◌>>=◌, pure, refuse, choose, within, one_within, no_limit, one, verdict, judged, full_by, full_at, counted, starts_at, repeated, behind_one, separated}
+use Rattle.text_tokens.specs.Grammar.{Mark, with_token, tokens, first_fault, or_else, outcome_by, outcome, IsProper, Lang, mark, IsOne, is_one, Then, then, Made, made, IsNothing, is_nothing, IsVerdict, is_verdict, Judged, past_fault, past, Counted, counted_in, one_too_many, less, Repeated, no_more, one_more, BehindOne, Separated}
+use Rattle.text_tokens.specs.Lawful.{Got, Failed, misplaced, short, beyond, Report, Reads, Lawful, BeginsNone, IsFault, unexpected, ended, limit, Tells, Exact, LawfulAt, IsBegun, Knows, StartsWith, SomeText}
 use Rattle.text_tokens.proofs.Marks.{tokens-append, regroup, fault-append, fine-append, faulty-append, proper-append, first-append, fault_proper}
 
 -- ---- some text of a grammar

@@ -1,24 +1,23 @@
 -- The parts of the small format's reader, as its code reads them.
-use Rattle.std.proofs.Common.{◌≡◌, ℕ, zero, suc, ◌-◌, ◌<◌, ◌+◌, Bool, true, false, cond, List, [], ◌∷◌, ◌++◌, map, Option, Some, None, Result, Ok, Err, refl, sym, ap, subst, ◌∙◌, arith, Vec}
+use Rattle.std.proofs.Common.{◌≡◌, ℕ, zero, suc, ◌<◌, Bool, true, false, cond, List, [], ◌∷◌, map, Option, Some, None, Ok, Err, refl, sym, ap, ◌∙◌, arith, Vec}
 use Rattle.std.specs.declared.alloc.Global.{Global}
-use Rattle.text_tokens.specs.declared.token.TokenKind.TheVariants.{Word, Number, Sign}
 use Rattle.text_tokens.specs.declared.refusal.Refusal.{Refusal}
 use Rattle.text_tokens.specs.declared.refusal.RefusalKind.{RefusalKind}
 use Rattle.text_tokens.specs.declared.refusal.ReadRefusal.{ReadRefusal}
 use Rattle.text_tokens.specs.declared.refusal.ReadRefusal.TheVariants.{Refused, NoMemory}
-use Rattle.text_tokens.specs.declared.nested.Element.{Element, fold-Element, fold-roll-Element}
+use Rattle.text_tokens.specs.declared.nested.Element.{Element, fold-roll-Element}
 use Rattle.text_tokens.specs.declared.nested.Element.TheVariants as variant
 use Rattle.text_tokens.specs.declared.nested.Element.TheVariants.{rolls-List, rolls-Number}
 use Rattle.text_tokens.specs.declared.nested.Element.TheOpen.{Element-F}
 use Rattle.text_tokens.specs.Text.{Lexeme}
 use Rattle.text_tokens.specs.Cursor.{Cursor, next_passes}
-use Rattle.text_tokens.specs.Reading.{Answer, Reader, first, and_then, ◌>>=◌, pure, choose, one, opening, starts_at, counted, full_at, full_by, repeated, separated}
+use Rattle.text_tokens.specs.Reading.{Answer, Reader, first, and_then, ◌>>=◌, pure, choose, one, opening, counted, full_at, full_by, repeated, separated}
 use Rattle.text_tokens.specs.Grammar.{less}
-use Rattle.text_tokens.specs.Steps.{Fails, Stays, another}
+use Rattle.text_tokens.specs.Steps.{Fails, another}
 use Rattle.text_tokens.specs.Nested.{Tree, Trees, number, list, is_number, is_open, is_close, is_semicolon, the_line, a_number, trees, begins_element, an_element, same_state, a_list, element_by, element_with, element_at, inside, opened, all_elements, behind_semicolon}
 use Rattle.text_tokens.specs.NestedView.{tree, tree_step}
 use Rattle.text_tokens.proofs.Stepping.{Reached, on, on_fails, on_made, then_err, then_ok, then_fails, fails_as, stays_on}
-use Rattle.text_tokens.proofs.Looping.{prepend, rest_in, another_none, another_some, passes_first}
+use Rattle.text_tokens.proofs.Looping.{prepend, rest_in, another_some, passes_first}
 
 pub list_tree : (v : Vec Element Global) → tree (variant.List v) ≡ list (trees (map tree v.items))
 list_tree v = ap tree (sym (rolls-List v)) ∙ fold-roll-Element Tree tree_step (Element-F.List v)
@@ -78,8 +77,8 @@ module _ (levels : ℕ) (old mid : Cursor) (t : Lexeme) (took : Reached (one is_
   pub too_many : (room : ℕ) (r : Refusal) → room ≡ 0 → choose (full_at {A = Unit {0}} (begins_element levels)) mid.last mid.ahead ≡ Err r → another is_semicolon (behind_semicolon levels room tt) old.last old.ahead ≡ Err r
   too_many room r e full =
       another_is room ∙ then_err (behind_semicolon levels room tt) (λ a. pure (Some a)) old.last r old.ahead
-        (on_fails (one is_semicolon) (λ t. an_element levels (element_at levels) room tt) (Refused r) old mid t took
-          (ap (λ (n : ℕ). an_element levels (element_at levels) n tt mid.last mid.ahead) e ∙ counted_none (begins_element levels) (element_at levels) mid.last mid.ahead ∙ full_any {A = Unit {0}} {B = Tree} (begins_element levels) mid.last mid.ahead r full))
+      (on_fails (one is_semicolon) (λ t. an_element levels (element_at levels) room tt) (Refused r) old mid t took
+      (ap (λ (n : ℕ). an_element levels (element_at levels) n tt mid.last mid.ahead) e ∙ counted_none (begins_element levels) (element_at levels) mid.last mid.ahead ∙ full_any {A = Unit {0}} {B = Tree} (begins_element levels) mid.last mid.ahead r full))
 
   here : (room : ℕ) → 0 < room → (p : Reader Tree) → an_element levels p room tt ≡ p
   here room lt p = counted_some (begins_element levels) room p lt

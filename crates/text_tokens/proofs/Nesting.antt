@@ -1,7 +1,7 @@
 -- The laws of the small format.
-use Rattle.std.proofs.Common.{◌≡◌, ◌≢◌, ℕ, zero, suc, ◌+◌, Bool, true, false, cond, List, [], ◌∷◌, ◌++◌, Option, Some, None, Result, Ok, Err, refl, sym, ap, subst, ◌∙◌, append_assoc}
+use Rattle.std.proofs.Common.{◌≡◌, ◌≢◌, ℕ, zero, suc, Bool, true, false, cond, List, [], ◌∷◌, ◌++◌, Option, Some, None, refl, sym, ap, subst, ◌∙◌}
 use Rattle.std.proofs.lemmas.List.{append-nil}
-use Rattle.std.specs.Prelude.{IfSome, nat_lt, codes, not, ◌&&◌}
+use Rattle.std.specs.Prelude.{IfSome, nat_lt, codes, not}
 use Rattle.std.specs.Str.{bytes_eq}
 use Rattle.std.proofs.lemmas.Slice.Eq.{bytes_eq-Decides}
 use Rattle.std.proofs.Common.{rules}
@@ -13,16 +13,15 @@ use Rattle.text_tokens.specs.declared.refusal.Refusal.{Refusal}
 use Rattle.text_tokens.specs.declared.refusal.RefusalKind.{RefusalKind}
 use Rattle.text_tokens.specs.declared.refusal.RefusalKind.TheVariants.{Unexpected, TooDeep, TooMany, BadEntry}
 use Rattle.text_tokens.specs.Text.{Lexeme}
-use Rattle.text_tokens.specs.Cursor.{is_the, is_kind, same_kind, is_spelled, value_of}
-use Rattle.text_tokens.specs.Reading.{Reader, first, ◌>>=◌, pure, refuse, choose, one, one_within, no_limit, opening, deep_at, weighed, past_sum, judged, counted, starts_at, repeated, behind_one, separated}
+use Rattle.text_tokens.specs.Cursor.{is_the, is_kind, same_kind, is_spelled}
+use Rattle.text_tokens.specs.Reading.{Reader, first, ◌>>=◌, pure, refuse, one, no_limit, opening, deep_at, weighed, past_sum, judged, counted, starts_at, separated}
 use Rattle.text_tokens.specs.Grammar.{Mark, mark, with_token, is_verdict, tokens, first_fault, IsProper, Lang, IsOne, is_one, Then, then, Made, made, Judged, past, past_fault, less, Counted, counted_in, one_too_many, Repeated, no_more as no_more_in, one_more as one_more_in, BehindOne, Separated}
 use Rattle.text_tokens.specs.Lawful.{Lawful, LawfulAt, BeginsAt, IsBegun, Knows, StartsWith, SomeText, Exact}
 use Rattle.text_tokens.specs.Combinators.{Ends}
-use Rattle.text_tokens.specs.Nested as n
 use Rattle.text_tokens.specs.Nested.{Tree, Trees, number, list, none, more, Couple, Whole, is_number, is_open, is_close, is_semicolon, is_pair, value, IsThe, IsNumber, IsSummand, limited, IsElement, leaf, nest, IsList, parens, IsElements, elements, IsMore, no_more, one_more, Placed, IsPlaced, backwards, IsPair, add_low, IsPairs, IsNested, the_line, a_number, a_summand, trees, levels_left, begins_element, an_element, same_state, a_list, element_by, element_with, element_at, inside, placed, a_pair, begins_pair, all_pairs, nested}
-use Rattle.text_tokens.proofs.Marks.{proper-append, regroup}
+use Rattle.text_tokens.proofs.Marks.{proper-append}
 use Rattle.text_tokens.proofs.Blanks.{and_true}
-use Rattle.text_tokens.proofs.Lawfulness.{some_text, law_as, law_pure, law_one, law_then_fine, law_then, law_made, law_choose, law_branch, law_judged, law_counted, counted_full, law_repeated, law_separated, exact}
+use Rattle.text_tokens.proofs.Lawfulness.{law_as, law_one, law_then_fine, law_then, law_made, law_choose, law_branch, law_judged, law_counted, counted_full, law_repeated, law_separated, exact}
 use Rattle.text_tokens.proofs.Obeying.{deep_proper, sum_proper}
 
 abbrev pub any : Ends
@@ -388,7 +387,7 @@ unfolding placed
 law_placed sum = law_then (IsThe is_pair) (λ line. Then (IsSummand sum) (λ low. Made IsNumber (λ high. record { line = line; couple = record { low = low; high = high } }))) (the_line is_pair) _ any any
     (law_the is_pair (sample Word (codes "pair")) (passes_word (codes "pair") refl) any)
     (λ xs line is. law_then (IsSummand sum) (λ low. Made IsNumber (λ high. record { line = line; couple = record { low = low; high = high } })) (a_summand sum) _ any any (law_summand sum any)
-      (λ ys low at. law_made IsNumber a_number (λ high. record { line = line; couple = record { low = low; high = high } }) any (law_number any)) (λ xs ys a b rest p q e. refl))
+    (λ ys low at. law_made IsNumber a_number (λ high. record { line = line; couple = record { low = low; high = high } }) any (law_number any)) (λ xs ys a b rest p q e. refl))
     (λ xs ys a b rest p q e. refl)
 
 law_pair : (sum : ℕ) → Lawful (IsPair sum) (a_pair sum) any
@@ -417,9 +416,9 @@ one_number = sample Number (codes "1")
 pair_of : (sum : ℕ) (t : Lexeme) → is_pair t ≡ true → IsPair sum (mark t None ∷ mark (sample Number (codes "1")) (past_sum value 100 sum (sample Number (codes "1"))) ∷ mark (sample Number (codes "1")) None ∷ record { token = None; fault = None } ∷ []) (record { low = 1; high = 1 })
 pair_of sum t e = made (record { line = t.line; couple = record { low = 1; high = 1 } })
     (then (record { line = t.line; couple = record { low = 1; high = 1 } })
-      (then t.line (made t (a_one is_pair no_limit t None e refl))
-        (then 1 (made (sample Number (codes "1")) (is_one (sample Number (codes "1")) passes_number)) (made 1 (made (sample Number (codes "1")) (is_one (sample Number (codes "1")) passes_number)))))
-      is_verdict)
+    (then t.line (made t (a_one is_pair no_limit t None e refl))
+    (then 1 (made (sample Number (codes "1")) (is_one (sample Number (codes "1")) passes_number)) (made 1 (made (sample Number (codes "1")) (is_one (sample Number (codes "1")) passes_number)))))
+    is_verdict)
 
 pair_begins_by : (sum : ℕ) (t : Lexeme) (kind : RefusalKind) (b : Bool) → is_pair t ≡ b → cond b (Some TooMany) None ≡ Some kind → BeginsAt (IsPair sum) t kind
 pair_begins_by sum t kind true e k =
@@ -473,10 +472,10 @@ pub law_nested : Lawful IsNested nested any
 unfolding nested
 law_nested = law_then (IsThe (is_the Word (codes "nested"))) _ (the_line (is_the Word (codes "nested"))) _ any any (law_the (is_the Word (codes "nested")) (sample Word (codes "nested")) (passes_word (codes "nested") refl) any)
     (λ xs begin is. law_then (IsList 3) _ (a_list 3 (inside 3)) _ any any (law_top 3)
-      (λ ys ts at. law_then IsPairs (λ ps. Made (IsThe (is_the Word (codes "end"))) (λ _. record { list = ts; pairs = ps })) all_pairs _ (not_at is_pair) any law_pairs
-        (λ zs ps in_pairs. law_made (IsThe (is_the Word (codes "end"))) (the_line (is_the Word (codes "end"))) (λ _. record { list = ts; pairs = ps }) any (law_the (is_the Word (codes "end")) (sample Word (codes "end")) (passes_word (codes "end") refl) any))
-        (λ zs us ps w rest p q e. end_follows ts ps us w rest q))
-      (λ xs ys a b rest p q e. refl))
+    (λ ys ts at. law_then IsPairs (λ ps. Made (IsThe (is_the Word (codes "end"))) (λ _. record { list = ts; pairs = ps })) all_pairs _ (not_at is_pair) any law_pairs
+    (λ zs ps in_pairs. law_made (IsThe (is_the Word (codes "end"))) (the_line (is_the Word (codes "end"))) (λ _. record { list = ts; pairs = ps }) any (law_the (is_the Word (codes "end")) (sample Word (codes "end")) (passes_word (codes "end") refl) any))
+    (λ zs us ps w rest p q e. end_follows ts ps us w rest q))
+    (λ xs ys a b rest p q e. refl))
     (λ xs ys a b rest p q e. refl)
 
 pub exact_nested : Exact IsNested nested

@@ -1,12 +1,11 @@
 -- The laws of each combinator, as its public function states them.
-use Rattle.std.proofs.Common.{◌≡◌, ◌≢◌, ℕ, zero, suc, Bool, true, false, cond, List, ◌∷◌, ◌++◌, Option, Some, None, sym, ap, ◌∙◌}
-use Rattle.std.specs.Prelude.{IfSome, nat_lt, ◌+◌}
-use Rattle.text_tokens.specs.declared.refusal.RefusalKind.{RefusalKind}
+use Rattle.std.proofs.Common.{◌≡◌, ℕ, zero, suc, Bool, true, false, cond, Some, None}
+use Rattle.std.specs.Prelude.{nat_lt, ◌+◌}
 use Rattle.text_tokens.specs.declared.refusal.RefusalKind.TheVariants.{Unexpected, TooDeep, TooMany}
 use Rattle.text_tokens.specs.Text.{Lexeme}
-use Rattle.text_tokens.specs.Reading.{Reader, ◌>>=◌, pure, choose, one_within, opening, deep_at, weighed, past_sum, judged, counted, repeated, separated}
-use Rattle.text_tokens.specs.Grammar.{Mark, Lang, IsOne, Then, Made, IsNothing, Judged, Counted, Repeated, Separated}
-use Rattle.text_tokens.specs.Lawful.{Lawful, Exact}
+use Rattle.text_tokens.specs.Reading.{Reader, ◌>>=◌, pure, choose, one_within, deep_at, past_sum, judged, counted, repeated, separated}
+use Rattle.text_tokens.specs.Grammar.{Lang, IsOne, Then, Made, IsNothing, Judged, Counted, Repeated, Separated}
+use Rattle.text_tokens.specs.Lawful.{Lawful}
 use Rattle.text_tokens.specs.Combinators.{Ends, Obeys, ExactLaw, NothingLaw, OneLaw, OpeningLaw, SumLaw, ChoiceLaw, SequenceLaw, MadeLaw, JudgementLaw, LimitLaw, RepetitionLaw, SeparationLaw}
 use Rattle.text_tokens.proofs.Lawfulness as laws
 

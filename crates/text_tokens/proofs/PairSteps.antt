@@ -1,18 +1,16 @@
 -- The pairs of the small format, as its code reads them.
-use Rattle.std.proofs.Common.{◌≡◌, ℕ, zero, suc, ◌<◌, ◌≤◌, Bool, true, false, cond, List, [], ◌∷◌, ◌++◌, Option, Some, None, Result, Ok, Err, refl, sym, ap, subst, ◌∙◌, arith}
+use Rattle.std.proofs.Common.{◌≡◌, ℕ, ◌<◌, ◌≤◌, true, false, List, [], ◌∷◌, Option, Some, None, Ok, Err, refl, sym, ap, ◌∙◌}
 use Rattle.std.proofs.lemmas.Bool.{lt-ltb, le-ltb}
 use Rattle.std.specs.Prelude.{nat_lt}
 use Rattle.text_tokens.specs.declared.refusal.Refusal.{Refusal}
-use Rattle.text_tokens.specs.declared.refusal.RefusalKind.{RefusalKind}
 use Rattle.text_tokens.specs.declared.refusal.RefusalKind.TheVariants.{TooMany, BadEntry}
 use Rattle.text_tokens.specs.declared.refusal.ReadRefusal.{ReadRefusal}
-use Rattle.text_tokens.specs.declared.refusal.ReadRefusal.TheVariants.{Refused}
 use Rattle.text_tokens.specs.Text.{Lexeme}
 use Rattle.text_tokens.specs.Cursor.{Cursor, next_passes, refusal_at}
-use Rattle.text_tokens.specs.Reading.{Answer, Reader, first, ◌>>=◌, pure, choose, verdict, judged, counted, full_at, full_by, repeated}
-use Rattle.text_tokens.specs.Steps.{Fails, Stays, another}
+use Rattle.text_tokens.specs.Reading.{Answer, Reader, ◌>>=◌, pure, choose, verdict, judged, full_at, repeated}
+use Rattle.text_tokens.specs.Steps.{Fails, another}
 use Rattle.text_tokens.specs.Nested.{Couple, Placed, is_pair, the_line, a_number, a_summand, placed, backwards, a_pair, begins_pair, pair_in, add_low, all_pairs}
-use Rattle.text_tokens.proofs.Stepping.{Reached, on, on_fails, on_made, then_err, then_ok, then_fails, fails_as, stays_on}
+use Rattle.text_tokens.proofs.Stepping.{Reached, on, on_fails, on_made, then_err, then_ok, then_fails, fails_as}
 use Rattle.text_tokens.proofs.Looping.{prepend, another_some}
 use Rattle.text_tokens.proofs.NestedSteps.{counted_some, counted_none}
 
@@ -83,7 +81,7 @@ module _ (room sum : ℕ) (old : Cursor) (comes : next_passes is_pair old.ahead 
   pub too_many_pairs : (r : Refusal) → room ≡ 0 → r ≡ refusal_at old.last TooMany old.ahead → another is_pair (pair_in room sum) old.last old.ahead ≡ Err r
   too_many_pairs r e same =
       another_is ∙ then_err (pair_in room sum) (λ p. pure (Some p)) old.last r old.ahead
-        (ap (λ (n : ℕ). pair_in n sum old.last old.ahead) e ∙ counted_none begins_pair (a_pair sum) old.last old.ahead ∙ full_pair old.last old.ahead comes ∙ ap (λ (x : Refusal). Err x) (sym same))
+      (ap (λ (n : ℕ). pair_in n sum old.last old.ahead) e ∙ counted_none begins_pair (a_pair sum) old.last old.ahead ∙ full_pair old.last old.ahead comes ∙ ap (λ (x : Refusal). Err x) (sym same))
 
   here : 0 < room → pair_in room sum ≡ a_pair sum
   here lt = counted_some begins_pair room (a_pair sum) lt

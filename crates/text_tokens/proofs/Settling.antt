@@ -1,14 +1,14 @@
 -- From an exact reader to what the code owes to its grammar.
-use Rattle.std.proofs.Common.{◌≡◌, List, [], ◌∷◌, Option, Some, None, Result, Ok, Err, refl, sym, ap, subst, ◌∙◌}
+use Rattle.std.proofs.Common.{◌≡◌, List, [], Option, Some, None, Result, Ok, Err, refl, sym, ap, subst, ◌∙◌}
 use Rattle.text_tokens.specs.declared.refusal.Refusal.{Refusal}
 use Rattle.text_tokens.specs.declared.refusal.ReadRefusal.{ReadRefusal}
 use Rattle.text_tokens.specs.declared.refusal.ReadRefusal.TheVariants.{Refused, NoMemory}
 use Rattle.text_tokens.specs.Text.{Lexeme}
 use Rattle.text_tokens.specs.Cursor.{Cursor}
 use Rattle.text_tokens.specs.Reading.{Answer, Reader}
-use Rattle.text_tokens.specs.Grammar.{Lang, Mark, tokens, first_fault, outcome_by}
-use Rattle.text_tokens.specs.Lawful.{Exact, IsText, IsFault, Tells}
-use Rattle.text_tokens.specs.Steps.{Gives, TellsOf, ReadsOf, Settles}
+use Rattle.text_tokens.specs.Grammar.{Lang, first_fault, outcome_by}
+use Rattle.text_tokens.specs.Lawful.{Exact, Tells}
+use Rattle.text_tokens.specs.Steps.{Gives, TellsOf, ReadsOf}
 
 module _ {A B : Type 0} (P : Lang B) (view : A → B) (p : Reader B) (exact : Exact P p) where
   pub tells_of : (old : Cursor) (result : Result A ReadRefusal) (new : Cursor) → Gives view p old result new → TellsOf P view old result new

@@ -1,7 +1,7 @@
 -- From what a `Tokens` answers to what a reader does.
-use Rattle.std.proofs.Common.{◌≡◌, ℕ, zero, suc, ◌-◌, ◌<◌, ◌≤◌, ◌+◌, Bool, true, false, cond, List, [], ◌∷◌, ◌++◌, length, take, drop, Option, Some, None, Result, Ok, Err, refl, sym, ap, subst, ◌∙◌, arith}
+use Rattle.std.proofs.Common.{◌≡◌, ℕ, zero, suc, ◌<◌, ◌≤◌, ◌+◌, Bool, true, false, cond, List, [], ◌∷◌, length, drop, Option, Some, None, Result, Ok, Err, refl, sym, ap, subst, ◌∙◌, arith}
 use Rattle.text_tokens.specs.declared.token.TokenKind.{TokenKind}
-use Rattle.text_tokens.specs.declared.token.TokenKind.TheVariants.{Word, Number, Sign}
+use Rattle.text_tokens.specs.declared.token.TokenKind.TheVariants.{Number}
 use Rattle.text_tokens.specs.declared.token.Token.{Token}
 use Rattle.text_tokens.specs.declared.refusal.Refusal.{Refusal}
 use Rattle.text_tokens.specs.declared.refusal.RefusalKind.{RefusalKind}
@@ -15,10 +15,9 @@ use denote.Enum.Bare.{same_true}
 use Rattle.text_tokens.specs.contracts.token.TokenKind.{the_type}
 use Rattle.std.specs.List.{list_all}
 use Rattle.text_tokens.specs.Text.{Lexeme, Cuts, word, number, sign, is_digit, most_bytes}
-use Rattle.text_tokens.specs.Cursor.{Cursor, token_of, behind, tail, expect, expect_by, slice, FirstIs, IsSlice, Spells, IsNumber, is_kind, same_kind, next_passes, refusal_at}
-use Rattle.text_tokens.specs.Reading.{Answer, Reader, ◌>>=◌, pure, and_then, within, one, one_within, no_limit, deep_at, past_sum}
-use Rattle.text_tokens.specs.Steps.{Fails, Stays, Gives, lexeme_of}
-use Rattle.text_tokens.proofs.Blanks.{and_true}
+use Rattle.text_tokens.specs.Cursor.{Cursor, token_of, behind, tail, expect, expect_by, slice, FirstIs, Spells, IsNumber, is_kind, same_kind}
+use Rattle.text_tokens.specs.Reading.{Answer, Reader, ◌>>=◌, pure, and_then, one_within, deep_at, past_sum}
+use Rattle.text_tokens.specs.Steps.{Fails, Stays, lexeme_of}
 
 -- what stays
 pub stays_behind : (old new : Cursor) → new ≡ behind old → Stays old new
@@ -92,10 +91,10 @@ cut_digits kind bytes rest (sign e l) k = absurd cc
 
 pub is_number_of : (c : Cursor) (t : Token) → Spells c t → t.kind ≡ Number → IsNumber c.source t
 is_number_of c t s k = record {
-    within = s.within;
-    digits = cut_digits t.kind (slice c.source t) (drop t.to c.source) s.cuts k;
-    few = (let n = s.sized in subst (λ (kind : TokenKind). length (slice c.source t) ≤ most_bytes kind) k n);
-  }
+  within = s.within;
+  digits = cut_digits t.kind (slice c.source t) (drop t.to c.source) s.cuts k;
+  few = (let n = s.sized in subst (λ (kind : TokenKind). length (slice c.source t) ≤ most_bytes kind) k n);
+}
 
 pub kind_by : (kind : TokenKind) (ls : List Lexeme) (last : Refusal) (t : Token) → expect_by (is_kind kind) ls last ≡ Ok t → is_kind kind (lexeme_of [] t) ≡ true
 kind_by kind [] last t e = absurd cc

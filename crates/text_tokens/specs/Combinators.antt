@@ -1,10 +1,10 @@
 -- The laws of each combinator: a reader that is put together of lawful readers is lawful, and exact where the input may end behind it.
-use Rattle.std.specs.Prelude.{◌≡◌, ◌≢◌, ℕ, zero, suc, Bool, true, false, List, ◌∷◌, ◌++◌, Option, Some, None, IfSome}
+use Rattle.std.specs.Prelude.{◌≡◌, ◌≢◌, ℕ, zero, Bool, true, false, List, ◌++◌, Option, Some, None, IfSome}
 use Rattle.text_tokens.specs.declared.refusal.Refusal.{Refusal}
 use Rattle.text_tokens.specs.declared.refusal.RefusalKind.{RefusalKind}
 use Rattle.text_tokens.specs.declared.refusal.RefusalKind.TheVariants.{Unexpected}
 use Rattle.text_tokens.specs.Text.{Lexeme}
-use Rattle.text_tokens.specs.Reading.{Reader, first, ◌>>=◌, pure, choose, one_within, one, no_limit, opening, deep_at, weighed, past_sum, judged, counted, starts_at, repeated, separated}
+use Rattle.text_tokens.specs.Reading.{Reader, first, ◌>>=◌, pure, choose, one_within, opening, deep_at, weighed, past_sum, judged, counted, starts_at, repeated, separated}
 use Rattle.text_tokens.specs.Grammar.{Mark, tokens, first_fault, IsProper, Lang, IsOne, Then, Made, IsNothing, Judged, Counted, Repeated, Separated}
 use Rattle.text_tokens.specs.Lawful.{Lawful, Exact, LawfulAt, Knows, StartsWith, SomeText}
 

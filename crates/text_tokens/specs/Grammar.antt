@@ -1,11 +1,11 @@
 -- Grammars: relations between the tokens of a text and what they stand for. The limits and the judgements of a
 -- grammar are marks in its texts: what is beyond them is a text of the grammar all the same.
-use Rattle.std.specs.Prelude.{◌≡◌, ◌≢◌, ℕ, zero, suc, Bool, true, false, if◌then◌else◌, List, [], ◌∷◌, ◌++◌, Option, Some, None, Result, Ok, Err, IfSome}
+use Rattle.std.specs.Prelude.{◌≡◌, ◌≢◌, ℕ, zero, suc, Bool, true, List, [], ◌∷◌, ◌++◌, Option, Some, None, Ok, Err, IfSome}
 use Rattle.text_tokens.specs.declared.refusal.Refusal.{Refusal}
 use Rattle.text_tokens.specs.declared.refusal.RefusalKind.{RefusalKind}
 use Rattle.text_tokens.specs.declared.refusal.RefusalKind.TheVariants.{Unexpected, TooMany}
 use Rattle.text_tokens.specs.Text.{Lexeme}
-use Rattle.text_tokens.specs.Reading.{Answer, Reader, first, one_within, choose, pure, refuse, ◌>>=◌, verdict, judged, counted, repeated, behind_one, separated, one, no_limit, starts_at}
+use Rattle.text_tokens.specs.Reading.{Answer, no_limit}
 
 -- A token, or a place between two, with how it is refused: a token for the limit that it passes, a place for what is wrong with the whole before it.
 pub record Mark : Type 0 where

@@ -5,14 +5,14 @@
 --   pair    := "pair" NUMBER NUMBER
 -- Limits: 3 levels of lists, 4 elements of a list, 3 pairs, 100 for the sum of their first numbers. A pair whose second
 -- number is below its first is refused once it is read, on the line of the word `pair`.
-use Rattle.std.specs.Prelude.{◌≡◌, ℕ, zero, suc, ◌+◌, Bool, true, false, if◌then◌else◌, nat_lt, List, [], ◌∷◌, ◌++◌, Option, Some, None, codes}
+use Rattle.std.specs.Prelude.{ℕ, zero, suc, ◌+◌, Bool, true, false, if◌then◌else◌, nat_lt, List, [], ◌∷◌, ◌++◌, Option, Some, None, codes}
 use Rattle.text_tokens.specs.declared.token.TokenKind.TheVariants.{Word, Number, Sign}
 use Rattle.text_tokens.specs.declared.refusal.Refusal.{Refusal}
 use Rattle.text_tokens.specs.declared.refusal.RefusalKind.{RefusalKind}
 use Rattle.text_tokens.specs.declared.refusal.RefusalKind.TheVariants.{TooDeep, TooMany, BadEntry}
 use Rattle.text_tokens.specs.Text.{Lexeme}
 use Rattle.text_tokens.specs.Cursor.{is_the, is_kind, value_of}
-use Rattle.text_tokens.specs.Reading.{Reader, ◌>>=◌, pure, refuse, choose, one, one_within, no_limit, opening, deep_at, weighed, past_sum, judged, counted, starts_at, repeated, behind_one, separated}
+use Rattle.text_tokens.specs.Reading.{Reader, ◌>>=◌, pure, refuse, choose, one, no_limit, opening, deep_at, weighed, past_sum, judged, counted, starts_at, repeated, behind_one, separated}
 use Rattle.text_tokens.specs.Grammar.{Mark, Lang, IsOne, Then, Made, Judged, past, less, Counted, Repeated}
 
 -- ---- what a text stands for

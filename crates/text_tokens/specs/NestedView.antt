@@ -1,10 +1,10 @@
 -- The values of the small format, as what its grammar says that a text stands for.
-use Rattle.std.specs.Prelude.{ℕ, List, [], ◌∷◌, map}
+use Rattle.std.specs.Prelude.{map}
 use Rattle.text_tokens.specs.declared.nested.Pair.{Pair}
 use Rattle.text_tokens.specs.declared.nested.Nested.{Nested}
 use Rattle.text_tokens.specs.declared.nested.Element.{Element, fold-Element}
 use Rattle.text_tokens.specs.declared.nested.Element.TheOpen.{Element-F}
-use Rattle.text_tokens.specs.Nested.{Tree, Trees, number, list, trees, Couple, Whole}
+use Rattle.text_tokens.specs.Nested.{Tree, number, list, trees, Couple, Whole}
 
 -- one level, with each element inside already seen as its tree
 abbrev pub tree_step : Element-F Tree → Tree

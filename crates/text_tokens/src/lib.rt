@@ -3,7 +3,7 @@
 
 mod combinators;
 mod laws;
-mod nested;
+pub mod nested;
 mod refusal;
 mod token;
 mod tokens;
@@ -13,7 +13,6 @@ pub use combinators::{
     repetition, running_sum, separation, sequence,
 };
 pub use laws::{small_texts, spans_rise, tokens_are_one};
-pub use nested::{Element as NestedElement, Nested, Pair};
 pub use refusal::{ReadRefusal, Refusal, RefusalKind};
 pub use token::{Token, TokenKind};
 pub use tokens::Tokens;

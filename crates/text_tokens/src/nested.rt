@@ -14,6 +14,18 @@ use crate::token::{Token, TokenKind};
 use crate::tokens::Tokens;
 use std::alloc::Global;
 
+/// How many levels of lists there may be.
+const LEVELS: u32 = 3;
+
+/// How many elements a list may have behind its first.
+const MORE_ELEMENTS: u32 = 3;
+
+/// How many pairs there may be.
+const PAIRS: u32 = 3;
+
+/// How much the first numbers of the pairs may be in all.
+const SUM: u32 = 100;
+
 /// An element of a list: a number, or a list again.
 #[derive(Drop)]
 pub enum Element {
@@ -62,7 +74,7 @@ fn summand(tokens: &mut Tokens<'_>, sum: u32) -> Result<u32, ReadRefusal>
 {
     let token = tokens.take_kind(TokenKind::Number)?;
     let value = tokens.number(&token);
-    if sum + value > 100 {
+    if sum + value > SUM {
         return Err(refused(token.line, RefusalKind::TooMany));
     }
     Ok(value)
@@ -140,7 +152,7 @@ fn read_elements(
 {
     let mut found = Vec::new(alloc);
     found.push(read_element(alloc, tokens, levels)?)?;
-    let mut room = 3u32;
+    let mut room = MORE_ELEMENTS;
     while let Some(next) = more_element(alloc, tokens, levels, room)? {
         found.push(next)?;
         room -= 1;
@@ -203,8 +215,8 @@ fn read_pairs(alloc: Global, tokens: &mut Tokens<'_>) -> Result<Vec<Pair>, ReadR
     ensures { Gives (λ v. map view.couple v.items) spec.all_pairs tokens.old result tokens.new }
 {
     let mut found = Vec::new(alloc);
-    let mut room = 3u32;
-    let mut sum = 0u32;
+    let mut room = PAIRS;
+    let mut sum = 0;
     while let Some(pair) = more_pair(tokens, room, sum)? {
         found.push(pair)?;
         room -= 1;
@@ -218,7 +230,7 @@ fn read_whole(alloc: Global, tokens: &mut Tokens<'_>) -> Result<Nested, ReadRefu
     ensures { Gives view.whole spec.nested tokens.old result tokens.new }
 {
     the_line(tokens, TokenKind::Word, b"nested")?;
-    let list = read_list(alloc, tokens, 3)?;
+    let list = read_list(alloc, tokens, LEVELS)?;
     let pairs = read_pairs(alloc, tokens)?;
     the_line(tokens, TokenKind::Word, b"end")?;
     Ok(Nested { list, pairs })

@@ -1,17 +1,13 @@
-use Rattle.std.proofs.Common.{◌≡◌, ℕ, zero, suc, ◌-◌, ◌<◌, ◌++◌, ◌∷◌, [], List, map, Option, Some, None, Ok, Err, true, false, refl, sym, ◌∙◌, ap, arith, rules, subst}
+use Rattle.std.proofs.Common.{◌≡◌, ℕ, suc, ◌-◌, ◌<◌, ◌++◌, ◌∷◌, [], List, map, Ok, refl, sym, ◌∙◌, ap, arith}
 use Rattle.std.proofs.lemmas.Result.{err_from_is_err_and}
 use Rattle.std.proofs.lemmas.List.{map_push}
 use Rattle.text_tokens.specs.declared.nested.Element.{Element}
 use Rattle.text_tokens.specs.declared.refusal.Refusal.{Refusal}
-use Rattle.text_tokens.specs.declared.refusal.ReadRefusal.{ReadRefusal}
-use Rattle.text_tokens.specs.declared.refusal.ReadRefusal.TheVariants.{Refused, NoMemory}
-use Rattle.text_tokens.specs.Text.{Lexeme}
-use Rattle.text_tokens.specs.Cursor.{Cursor, is_the}
-use Rattle.text_tokens.specs.Reading.{one, no_limit, pure, repeated, ◌>>=◌}
-use Rattle.text_tokens.specs.Steps.{Stays, lexeme_of, another, Fails}
-use Rattle.text_tokens.specs.Nested.{Tree, Trees, number, list, is_number, is_semicolon, is_close, a_number, a_list, trees, inside, same_state, behind_semicolon, element_at, all_elements, the_line}
+use Rattle.text_tokens.specs.Reading.{no_limit, pure, repeated}
+use Rattle.text_tokens.specs.Steps.{lexeme_of}
+use Rattle.text_tokens.specs.Nested.{Tree, Trees, number, list, is_semicolon, a_number, a_list, trees, inside, same_state, behind_semicolon, all_elements}
 use Rattle.text_tokens.specs.NestedView.{tree}
-use Rattle.text_tokens.proofs.Stepping.{Reached, took, missed, then_fails, fails_as, stays_on, on_made}
+use Rattle.text_tokens.proofs.Stepping.{took, then_fails, stays_on, on_made}
 use Rattle.text_tokens.proofs.Looping.{prepend, another_none, goes_on_at, is_over, fails}
 use Rattle.text_tokens.proofs.NestedSteps.{list_tree, number_tree, element_number, element_list, too_many, more_fails, more_reached, elements_fail, elements_begin, list_unopened, list_fails, list_unclosed, list_reached}
 use Rattle.text_tokens.proofs.nested.+lists.Goals as goal
@@ -72,7 +68,7 @@ read_elements-loop-found-init t w =
     let items : w.push.new.self.items ≡ w.in_ok-read_element.field-0 ∷ [] = w.in_ok-push.ensures.items ∙ ap (λ (xs : List Element). xs ++ w.in_ok-read_element.field-0 ∷ []) w.new-found.ensures.items in
     record {
       reads = elements_begin w.args.levels w.args.tokens.now w.read_element.new.tokens (tree w.in_ok-read_element.field-0) w.in_ok-read_element.ensures
-        ∙ ap (λ (xs : List Element). prepend (map tree xs) (repeated is_semicolon (behind_semicolon w.args.levels) same_state 3 tt w.read_element.new.tokens.last w.read_element.new.tokens.ahead)) (sym items);
+          ∙ ap (λ (xs : List Element). prepend (map tree xs) (repeated is_semicolon (behind_semicolon w.args.levels) same_state 3 tt w.read_element.new.tokens.last w.read_element.new.tokens.ahead)) (sym items);
       stays = w.in_ok-read_element.ensures.1;
     }
 
@@ -80,7 +76,7 @@ pub read_elements-returns-in_err-next : goal.read_elements-returns-in_err-next
 read_elements-returns-in_err-next t w =
     let p = err_from_is_err_and w.from_residual-in_err-next.result w.from_residual-in_err-next.ensures.1 in
     rw (p.1, p.2) (fails is_semicolon (behind_semicolon w.args.levels) same_state (map tree w.loop-found.found.items) tt w.loop-found.tokens.last w.loop-found.tokens.ahead w.in_err-next.field-0.0 w.loop-found.room
-      (all_elements w.args.levels w.args.tokens.now.last w.args.tokens.now.ahead) w.loop-found.invariant.reads w.in_err-next.ensures.reads)
+    (all_elements w.args.levels w.args.tokens.now.last w.args.tokens.now.ahead) w.loop-found.invariant.reads w.in_err-next.ensures.reads)
 
 pub read_elements-loop-found-preserved : goal.read_elements-loop-found-preserved
 read_elements-loop-found-preserved t w =
@@ -89,17 +85,18 @@ read_elements-loop-found-preserved t w =
     let pushed : map tree w.push-in-Some.new.self.items ≡ map tree w.loop-found.found.items ++ tree w.in-Some.next ∷ [] = rw w.in_ok-push-2.ensures.items (map_push tree w.loop-found.found.items w.in-Some.next) in
     record {
       reads = w.loop-found.invariant.reads
-        ∙ goes_on_at is_semicolon (behind_semicolon w.args.levels) same_state (map tree w.loop-found.found.items) tt w.loop-found.tokens.last w.loop-found.tokens.ahead w.loop-found.room (tree w.in-Some.next) w.more_element.new.tokens.ahead room r.0
-        ∙ ap (λ (last : Refusal). prepend (map tree w.loop-found.found.items ++ tree w.in-Some.next ∷ []) (repeated is_semicolon (behind_semicolon w.args.levels) same_state (w.loop-found.room - 1) tt last w.more_element.new.tokens.ahead)) (sym r.1.last)
-        ∙ ap (λ (ts : List Tree). prepend ts (repeated is_semicolon (behind_semicolon w.args.levels) same_state (w.loop-found.room - 1) tt w.more_element.new.tokens.last w.more_element.new.tokens.ahead)) (sym pushed);
+          ∙ goes_on_at is_semicolon (behind_semicolon w.args.levels) same_state (map tree w.loop-found.found.items) tt w.loop-found.tokens.last w.loop-found.tokens.ahead w.loop-found.room (tree w.in-Some.next) w.more_element.new.tokens.ahead room r.0
+          ∙ ap (λ (last : Refusal). prepend (map tree w.loop-found.found.items ++ tree w.in-Some.next ∷ []) (repeated is_semicolon (behind_semicolon w.args.levels) same_state (w.loop-found.room - 1) tt last w.more_element.new.tokens.ahead)) (sym r.1.last)
+          ∙ ap (λ (ts : List Tree). prepend ts (repeated is_semicolon (behind_semicolon w.args.levels) same_state (w.loop-found.room - 1) tt w.more_element.new.tokens.last w.more_element.new.tokens.ahead)) (sym pushed);
       stays = stays_on w.args.tokens.now w.loop-found.tokens w.more_element.new.tokens w.loop-found.invariant.stays r.1;
     }
 
 pub read_elements-returns : goal.read_elements-returns
 read_elements-returns t w =
-    let r = rw w.in_default.is at w.in_ok-next.ensures.reads in
-    (w.loop-found.invariant.reads ∙ is_over is_semicolon (behind_semicolon w.args.levels) same_state (map tree w.loop-found.found.items) tt w.loop-found.tokens.last w.loop-found.tokens.ahead w.loop-found.room w.more_element.new.tokens.ahead r.0,
-     stays_on w.args.tokens.now w.loop-found.tokens w.more_element.new.tokens w.loop-found.invariant.stays r.1)
+    let r = rw w.in_default.is at w.in_ok-next.ensures.reads in (
+      w.loop-found.invariant.reads ∙ is_over is_semicolon (behind_semicolon w.args.levels) same_state (map tree w.loop-found.found.items) tt w.loop-found.tokens.last w.loop-found.tokens.ahead w.loop-found.room w.more_element.new.tokens.ahead r.0,
+      stays_on w.args.tokens.now w.loop-found.tokens w.more_element.new.tokens w.loop-found.invariant.stays r.1,
+    )
 
 pub read_list-returns-in_err-opening : goal.read_list-returns-in_err-opening
 read_list-returns-in_err-opening t w =

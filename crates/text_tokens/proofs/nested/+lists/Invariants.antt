@@ -1,4 +1,4 @@
-use Rattle.std.proofs.Common.{◌≡◌, ◌≤◌, ◌+◌, ◌*◌, map}
+use Rattle.std.proofs.Common.{◌≡◌, ◌+◌, ◌*◌, map}
 use Rattle.text_tokens.specs.Reading.{repeated}
 use Rattle.text_tokens.specs.Steps.{Stays}
 use Rattle.text_tokens.specs.Nested.{is_semicolon, behind_semicolon, same_state, all_elements}
@@ -20,9 +20,9 @@ decreases-read_list l = 4 * l.levels
 
 abbrev pub invariant-read_elements-loop-found : goal.invariant-read_elements-loop-found
 invariant-read_elements-loop-found l = record {
-    reads : all_elements l.levels l.fn.tokens.last l.fn.tokens.ahead ≡ prepend (map tree l.found.items) (repeated is_semicolon (behind_semicolon l.levels) same_state l.room tt l.tokens.last l.tokens.ahead);
-    stays : Stays l.fn.tokens l.tokens;
-  }
+  reads : all_elements l.levels l.fn.tokens.last l.fn.tokens.ahead ≡ prepend (map tree l.found.items) (repeated is_semicolon (behind_semicolon l.levels) same_state l.room tt l.tokens.last l.tokens.ahead);
+  stays : Stays l.fn.tokens l.tokens;
+}
 
 abbrev pub decreases-read_elements-loop-found : goal.decreases-read_elements-loop-found
 decreases-read_elements-loop-found l = l.room

@@ -1,7 +1,7 @@
-use Rattle.std.proofs.Common.{◌≡◌, refl, sym, ◌∙◌, ap, subst, List, ℕ}
+use Rattle.std.proofs.Common.{refl, sym, ◌∙◌, ap, subst, List, ℕ}
 use Rattle.std.proofs.lemmas.Result.{err_from_is_err_and}
 use Rattle.text_tokens.specs.declared.token.TokenKind.TheVariants.{Number}
-use Rattle.text_tokens.specs.Cursor.{Cursor, is_kind, IsNumber, value_of, slice}
+use Rattle.text_tokens.specs.Cursor.{Cursor, IsNumber, value_of, slice}
 use Rattle.text_tokens.specs.Reading.{one, pure, no_limit}
 use Rattle.text_tokens.specs.Steps.{lexeme_of}
 use Rattle.text_tokens.specs.Nested.{a_number, is_number, value}

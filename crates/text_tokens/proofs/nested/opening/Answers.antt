@@ -1,6 +1,5 @@
-use Rattle.std.proofs.Common.{◌≡◌, ◌<◌, ◌∙◌, sym, arith}
+use Rattle.std.proofs.Common.{◌<◌, ◌∙◌, sym, arith}
 use Rattle.std.proofs.lemmas.Result.{err_from_is_err_and}
-use Rattle.text_tokens.specs.declared.refusal.Refusal.{Refusal}
 use Rattle.text_tokens.specs.declared.refusal.RefusalKind.TheVariants.{TooDeep}
 use Rattle.text_tokens.specs.Reading.{opening, deep_at, pure}
 use Rattle.text_tokens.specs.Steps.{lexeme_of}
@@ -18,7 +17,7 @@ pub returns-then-levels-eq0-clause-reads : goal.returns-then-levels-eq0-clause-r
 unfolding opened
 returns-then-levels-eq0-clause-reads c =
     rw c.refused.ensures (then_err (opening c.args.levels is_open) (λ t. pure tt) c.args.tokens.now.last (record { line = c.in_ok-token.token.line; kind = TooDeep }) c.args.tokens.now.ahead
-      (goes_past is_open (deep_at c.args.levels) c.args.tokens.now c.in_ok-token.token TooDeep (sym c.take.ensures.answer ∙ c.in_ok-token.was) c.in_ok-token.ensures.spells (deep_zero c.args.levels _ c.if-levels-eq0.true)))
+    (goes_past is_open (deep_at c.args.levels) c.args.tokens.now c.in_ok-token.token TooDeep (sym c.take.ensures.answer ∙ c.in_ok-token.was) c.in_ok-token.ensures.spells (deep_zero c.args.levels _ c.if-levels-eq0.true)))
 
 pub returns-clause-reads : goal.returns-clause-reads
 unfolding opened

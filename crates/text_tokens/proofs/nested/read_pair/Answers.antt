@@ -1,4 +1,3 @@
-use Rattle.std.proofs.Common.{◌≡◌, refl}
 use Rattle.std.proofs.lemmas.Result.{err_from_is_err_and}
 use Rattle.text_tokens.proofs.PairSteps.{line_fails, low_fails, high_fails, backward, forward}
 use Rattle.text_tokens.proofs.nested.read_pair.Goals as goal

@@ -8,10 +8,10 @@ use Rattle.text_tokens.proofs.nested.read_pairs.Given as goal
 
 abbrev pub invariant-loop-found : goal.invariant-loop-found
 invariant-loop-found l = record {
-    reads : all_pairs l.fn.tokens.last l.fn.tokens.ahead ≡ prepend (map couple l.found.items) (repeated is_pair pair_in add_low l.room l.sum l.tokens.last l.tokens.ahead);
-    stays : Stays l.fn.tokens l.tokens;
-    small : l.sum ≤ 100;
-  }
+  reads : all_pairs l.fn.tokens.last l.fn.tokens.ahead ≡ prepend (map couple l.found.items) (repeated is_pair pair_in add_low l.room l.sum l.tokens.last l.tokens.ahead);
+  stays : Stays l.fn.tokens l.tokens;
+  small : l.sum ≤ 100;
+}
 
 abbrev pub decreases-loop-found : goal.decreases-loop-found
 decreases-loop-found l = l.room

@@ -1,7 +1,6 @@
-use Rattle.std.proofs.Common.{◌≡◌, ◌<◌, ◌≤◌, ◌+◌, ◌∙◌, refl, sym, ap, subst, List, ℕ, arith}
+use Rattle.std.proofs.Common.{◌≡◌, ◌<◌, ◌≤◌, ◌+◌, ◌∙◌, sym, ap, subst, List, ℕ, arith}
 use Rattle.std.proofs.lemmas.Result.{err_from_is_err_and}
 use Rattle.text_tokens.specs.declared.token.TokenKind.TheVariants.{Number}
-use Rattle.text_tokens.specs.declared.refusal.Refusal.{Refusal}
 use Rattle.text_tokens.specs.declared.refusal.RefusalKind.TheVariants.{TooMany}
 use Rattle.text_tokens.specs.Cursor.{Cursor, IsNumber, value_of, slice}
 use Rattle.text_tokens.specs.Reading.{weighed, past_sum, pure}
@@ -21,14 +20,14 @@ number-value-requires c =
     let same = ap (λ (v : Cursor). v.source) c.in_ok-token.ensures.moves in
     subst (λ (source : List ℕ). IsNumber source c.in_ok-token.token) (sym same) (is_number_of c.args.tokens.now c.in_ok-token.token c.in_ok-token.ensures.spells (kind_taken Number c.args.tokens.now c.in_ok-token.token (sym c.take_kind.ensures.answer ∙ c.in_ok-token.was)))
 
-pub returns-then-sum-value-gt100-clause-reads : goal.returns-then-sum-value-gt100-clause-reads
+pub returns-then-sum-value-gt-SUM-clause-reads : goal.returns-then-sum-value-gt-SUM-clause-reads
 unfolding a_summand
-returns-then-sum-value-gt100-clause-reads c =
+returns-then-sum-value-gt-SUM-clause-reads c =
     let same = ap (λ (v : Cursor). v.source) c.in_ok-token.ensures.moves in
     let v : c.number-value.result ≡ value (lexeme_of c.args.tokens.now.source c.in_ok-token.token) = c.number-value.ensures.value ∙ ap (λ (source : List ℕ). value_of (slice source c.in_ok-token.token)) same in
     let past : 100 < c.args.sum + value (lexeme_of c.args.tokens.now.source c.in_ok-token.token) = rw (← v) (omega arith) in
     rw c.refused.ensures (then_err (weighed is_number value 100 c.args.sum) (λ t. pure (value t)) c.args.tokens.now.last (record { line = c.in_ok-token.token.line; kind = TooMany }) c.args.tokens.now.ahead
-      (goes_past is_number (past_sum value 100 c.args.sum) c.args.tokens.now c.in_ok-token.token TooMany (sym c.take_kind.ensures.answer ∙ c.in_ok-token.was) c.in_ok-token.ensures.spells (sum_over value 100 c.args.sum (lexeme_of c.args.tokens.now.source c.in_ok-token.token) past)))
+    (goes_past is_number (past_sum value 100 c.args.sum) c.args.tokens.now c.in_ok-token.token TooMany (sym c.take_kind.ensures.answer ∙ c.in_ok-token.was) c.in_ok-token.ensures.spells (sum_over value 100 c.args.sum (lexeme_of c.args.tokens.now.source c.in_ok-token.token) past)))
 
 pub returns-clause-reads : goal.returns-clause-reads
 unfolding a_summand

@@ -1,4 +1,4 @@
-use Rattle.std.proofs.Common.{◌≡◌, ◌<◌, ◌≤◌, ◌^◌, ◌∙◌, arith, get_or, sym}
+use Rattle.std.proofs.Common.{◌<◌, ◌^◌, ◌∙◌, arith, sym}
 use Rattle.text_tokens.proofs.Decimal.{digit_at, value_step, small_step, small_within, value_end}
 use Rattle.text_tokens.proofs.tokens.decimal.Goals as goal
 
