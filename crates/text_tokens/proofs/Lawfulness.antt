@@ -312,10 +312,10 @@ module _ {A : Type 0} (P : Lang A) (p : Reader A) (ends : Option Lexeme → Bool
   told last ts (Ok r) g = record { text = g.text; parts = g.parts; is = g.is; fine = g.fine }
   told last ts (Err r) f = fault_told last ts r f
 
-  pub exact : Exact P p
+  pub exact : Exact P p ends
   exact = record {
     tells = λ last ts. told last ts (p last ts) (law.report last ts);
-    reads = λ last xs a is. ap (p last) (sym (append-nil (tokens xs))) ∙ law.reads xs a is last [] at_end;
+    reads = λ last xs a rest is e. law.reads xs a is last rest e;
   }
 
 -- ---- a limit on elements

@@ -18,6 +18,7 @@ use Rattle.text_tokens.specs.Reading.{Reader, first, ◌>>=◌, pure, refuse, on
 use Rattle.text_tokens.specs.Grammar.{Mark, mark, with_token, is_verdict, tokens, first_fault, IsProper, Lang, IsOne, is_one, Then, then, Made, made, Judged, past, past_fault, less, Counted, counted_in, one_too_many, Repeated, no_more as no_more_in, one_more as one_more_in, BehindOne, Separated}
 use Rattle.text_tokens.specs.Lawful.{Lawful, LawfulAt, BeginsAt, IsBegun, Knows, StartsWith, SomeText, Exact}
 use Rattle.text_tokens.specs.Combinators.{Ends}
+use Rattle.text_tokens.specs.Steps.{anything}
 use Rattle.text_tokens.specs.Nested.{Tree, Trees, number, list, none, more, Couple, Whole, is_number, is_open, is_close, is_semicolon, is_pair, value, IsThe, IsNumber, IsSummand, limited, IsElement, leaf, nest, IsList, parens, IsElements, elements, IsMore, no_more, one_more, Placed, IsPlaced, backwards, IsPair, add_low, IsPairs, IsNested, the_line, a_number, a_summand, trees, levels_left, begins_element, an_element, same_state, a_list, element_by, element_with, element_at, inside, placed, a_pair, begins_pair, all_pairs, nested}
 use Rattle.text_tokens.proofs.Marks.{proper-append}
 use Rattle.text_tokens.proofs.Blanks.{and_true}
@@ -25,7 +26,7 @@ use Rattle.text_tokens.proofs.Lawfulness.{law_as, law_one, law_then_fine, law_th
 use Rattle.text_tokens.proofs.Obeying.{deep_proper, sum_proper}
 
 abbrev pub any : Ends
-any next = true
+any = anything
 
 abbrev pub not_at : (Lexeme → Bool) → Ends
 not_at test next = not (starts_at test next)
@@ -478,5 +479,5 @@ law_nested = law_then (IsThe (is_the Word (codes "nested"))) _ (the_line (is_the
     (λ xs ys a b rest p q e. refl))
     (λ xs ys a b rest p q e. refl)
 
-pub exact_nested : Exact IsNested nested
-exact_nested = exact IsNested nested any law_nested refl
+pub exact_nested : Exact IsNested nested anything
+exact_nested = exact IsNested nested anything law_nested refl

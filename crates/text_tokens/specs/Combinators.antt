@@ -15,10 +15,10 @@ Ends = Option Lexeme → Bool
 -- and a text of the grammar is read as what it stands for, or refused at its first mark.
 pub record Obeys {A : Type 0} (P : Lang A) (p : Reader A) (ends : Ends) : Type 0 where
   pub lawful : Lawful P p ends
-  pub exact : ends None ≡ true → Exact P p
+  pub exact : ends None ≡ true → Exact P p ends
 
 abbrev pub ExactLaw : {A : Type 0} → Lang A → Reader A → Type 0
-ExactLaw P p = (ends : Ends) → Lawful P p ends → ends None ≡ true → Exact P p
+ExactLaw P p = (ends : Ends) → Lawful P p ends → ends None ≡ true → Exact P p ends
 
 abbrev pub NothingLaw : {A : Type 0} → A → Type 0
 NothingLaw a = (ends : Ends) → Obeys (IsNothing a) (pure a) ends

@@ -73,10 +73,10 @@ module _ {A : Type 0} (P : Lang A) where
   Tells last ts (Ok r) = IsText ts r.0 r.1
   Tells last ts (Err r) = IsFault last ts r
 
-  -- What is read is in the grammar; a fault is the first; and a text of the grammar is read as what it stands for, or refused at its first mark.
-  pub record Exact (p : Reader A) : Type 0 where
+  -- What is read is in the grammar; a fault is the first; and a text of the grammar, with whatever the test allows behind it, is read as what it stands for, or refused at its first mark.
+  pub record Exact (p : Reader A) (ends : Option Lexeme → Bool) : Type 0 where
     pub tells : (last : Refusal) (ts : List Lexeme) → Tells last ts (p last ts)
-    pub reads : (last : Refusal) (xs : List Mark) (a : A) → P xs a → p last (tokens xs) ≡ outcome xs a []
+    pub reads : (last : Refusal) (xs : List Mark) (a : A) (rest : List Lexeme) → P xs a → ends (first rest) ≡ true → p last (tokens xs ++ rest) ≡ outcome xs a rest
 
 -- ---- what combinators ask
 

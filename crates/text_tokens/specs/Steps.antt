@@ -1,5 +1,5 @@
 -- What a function of the code that reads owes to a reader.
-use Rattle.std.specs.Prelude.{◌≡◌, ℕ, Bool, if◌then◌else◌, List, Option, Some, None, Result, Ok, Err}
+use Rattle.std.specs.Prelude.{◌++◌, true, ◌≡◌, ℕ, Bool, if◌then◌else◌, List, Option, Some, None, Result, Ok, Err}
 use Rattle.text_tokens.specs.declared.token.Token.{Token}
 use Rattle.text_tokens.specs.declared.refusal.Refusal.{Refusal}
 use Rattle.text_tokens.specs.declared.refusal.ReadRefusal.{ReadRefusal}
@@ -8,7 +8,7 @@ use Rattle.text_tokens.specs.Text.{Lexeme}
 use Rattle.text_tokens.specs.Cursor.{Cursor, slice}
 use Rattle.text_tokens.specs.Grammar.{Lang, Mark, tokens, first_fault}
 use Rattle.text_tokens.specs.Lawful.{IsText, IsFault}
-use Rattle.text_tokens.specs.Reading.{Answer, Reader, ◌>>=◌, pure, choose, starts_at}
+use Rattle.text_tokens.specs.Reading.{first, Answer, Reader, ◌>>=◌, pure, choose, starts_at}
 
 -- a refusal is that of the reader; want of memory says nothing
 abbrev pub Fails : {A : Type 0} → ReadRefusal → Answer A → Type 0
@@ -45,11 +45,15 @@ TellsOf P view old (Ok a) new = IsText P old.ahead (view a) new.ahead × Stays o
 TellsOf P view old (Err NoMemory) new = Unit {0}
 TellsOf P view old (Err (Refused r)) new = IsFault P old.last old.ahead r
 
--- what a text of the grammar is read as: what it stands for, or its first refusal
-abbrev pub Settles : {A B : Type 0} → (A → B) → List Mark → B → Result A ReadRefusal → Type 0
-Settles view xs b (Ok a) = (first_fault xs ≡ None) × (view a ≡ b)
-Settles view xs b (Err NoMemory) = Unit {0}
-Settles view xs b (Err (Refused r)) = first_fault xs ≡ Some r
+-- what a text of the grammar with these tokens behind it is read as: what it stands for, or its first refusal
+abbrev pub Settles : {A B : Type 0} → (A → B) → List Mark → B → List Lexeme → Result A ReadRefusal → Cursor → Type 0
+Settles view xs b rest (Ok a) new = (first_fault xs ≡ None) × (view a ≡ b) × (new.ahead ≡ rest)
+Settles view xs b rest (Err NoMemory) new = Unit {0}
+Settles view xs b rest (Err (Refused r)) new = first_fault xs ≡ Some r
 
-abbrev pub ReadsOf : {A B : Type 0} → Lang B → (A → B) → Cursor → Result A ReadRefusal → Type 0
-ReadsOf {A} {B} P view old result = (xs : List Mark) (b : B) → P xs b → old.ahead ≡ tokens xs → Settles view xs b result
+abbrev pub ReadsOf : {A B : Type 0} → Lang B → (Option Lexeme → Bool) → (A → B) → Cursor → Result A ReadRefusal → Cursor → Type 0
+ReadsOf {A} {B} P ends view old result new = (xs : List Mark) (b : B) (rest : List Lexeme) → P xs b → ends (first rest) ≡ true → old.ahead ≡ tokens xs ++ rest → Settles view xs b rest result new
+
+-- whatever stands behind
+abbrev pub anything : Option Lexeme → Bool
+anything next = true

@@ -2,7 +2,7 @@
 //! a section.
 
 ghost use Rattle.std.specs.Prelude.{◌≡◌, ◌<◌, ◌≤◌, ◌+◌, ◌^◌, ℕ, List, [], IfOk, IfSome, OnOk, map, option_map, codes, suc, length, nat_lt};
-ghost use Rattle.text_tokens.specs.Steps.{Gives, IsRefusal, ReadsOf, TellsOf, another};
+ghost use Rattle.text_tokens.specs.Steps.{Gives, IsRefusal, ReadsOf, TellsOf, another, anything};
 ghost use Rattle.text_tokens.specs.Cursor.{is_the};
 ghost use Rattle.text_tokens.specs.declared.refusal.ReadRefusal.TheVariants.{Refused};
 ghost use Rattle.text_tokens.specs.Reading as reading;
@@ -240,8 +240,8 @@ fn read_whole(alloc: Global, tokens: &mut Tokens<'_>) -> Result<Nested, ReadRefu
 pub fn read_nested(alloc: Global, tokens: &mut Tokens<'_>) -> Result<Nested, ReadRefusal>
     // What is read is a text of the grammar that passes no limit, and what is refused is the first fault. Only want of memory is free.
     ensures tells { TellsOf spec.IsNested view.whole tokens.old result tokens.new }
-    // A text of the grammar is read as what it stands for, or refused at its first mark.
-    ensures reads { ReadsOf spec.IsNested view.whole tokens.old result }
+    // A text of the grammar, whatever stands behind it, is read as what it stands for, or refused at its first mark.
+    ensures reads { ReadsOf spec.IsNested anything view.whole tokens.old result tokens.new }
 {
     read_whole(alloc, tokens)
 }
