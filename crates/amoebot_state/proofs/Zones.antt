@@ -1,0 +1,73 @@
+-- How a zone is found, and what it has.
+use Rattle.std.proofs.Common.{◌≡◌, ◌≤◌, ◌+◌, ℕ, List, [], ◌∷◌, ◌++◌, length, map, Bool, true, false, not, ◌&&◌, cond, ap, sym, ◌∙◌, refl, inl, inr, arith, Option, Some, None, filter, nat_eq}
+use Rattle.std.specs.List.{fold, filter_map}
+use Rattle.std.specs.Cmp.{IsEquivalence}
+use Rattle.std.proofs.lemmas.Bool.{cases_Bool}
+use Rattle.std.proofs.lemmas.List.Sums.{fold-append}
+use Rattle.std.proofs.lemmas.Cmp.{nat_eq_equiv}
+use Rattle.tri_lattice.specs.declared.node.Node.{Node}
+use Rattle.tri_lattice.specs.Extent.{Extent, is_in}
+use Rattle.tri_lattice.specs.Lattice.{node_eq}
+use Rattle.tri_lattice.proofs.Nodes.{node_eq-true, node_eq_same, eq-node_eq, cases_node}
+use Rattle.amoebot_state.specs.declared.bot.Bot.{Bot}
+use Rattle.amoebot_state.specs.declared.bot.Port.{Port}
+use Rattle.amoebot_state.specs.Ports.{own_nodes, is_contracted, is_port, all_ports, ports, behind}
+use Rattle.amoebot_state.specs.Configs.{Config, occupant}
+use Rattle.amoebot_state.specs.Storage.{with_new, with_port, with_other}
+use Rattle.amoebot_state.specs.Zones.{distinct, zone_nodes, others}
+use Rattle.amoebot_state.proofs.Distinct.{taken_from_none}
+
+-- node equality is an equivalence
+pub node_eq_equiv : IsEquivalence node_eq
+node_eq_equiv = record {
+  refl = node_eq_same;
+  symm = λ a b. elim (cases_node a b) [
+    | inl e ↦ eq-node_eq a b e ∙ sym (eq-node_eq b a (sym e))
+    | inr ne ↦ differs a b ne ∙ sym (differs b a (λ e. ne (sym e)))
+  ];
+  congr = λ a b c e. ap (λ v. node_eq v c) (node_eq-true a b e);
+}
+  where
+    differs : (a b : Node) → (a ≡ b → ⊥) → node_eq a b ≡ false
+    differs a b ne = elim (cases_Bool (node_eq a b)) [ inl t ↦ absurd (ne (node_eq-true a b t)) | inr f ↦ f ]
+
+-- a contracted amoebot's one node, or an expanded one's two, are distinct
+own_taken_up : (b : Bot) → fold (with_new node_eq) [] (own_nodes b) ≡ own_nodes b
+own_taken_up b = elim (cases_Bool (is_contracted b)) [
+  | inl t ↦ rw t refl
+  | inr f ↦ rw (f, f) refl
+]
+
+-- the nodes behind ports are taken up as the ports are gone through
+behind_taken_up : (a : Extent) (b : Bot) (ps : List Port) (vs : List Node) → fold (with_port a b) vs ps ≡ fold (with_new node_eq) vs (filter (is_in a) (map (behind b) (filter (is_port b) ps)))
+behind_taken_up a b [] vs = refl
+behind_taken_up a b (p ∷ ps) vs = elim (cases_Bool (is_port b p)) [
+  | inl t ↦ elim (cases_Bool (is_in a (behind b p))) [
+    | inl u ↦ rw (t, u) (behind_taken_up a b ps (with_new node_eq vs (behind b p)))
+    | inr f ↦ rw (t, f) (behind_taken_up a b ps vs)
+  ]
+  | inr f ↦ rw f (behind_taken_up a b ps vs)
+]
+
+-- going through the ports from the own nodes on gives the nodes of the zone
+pub ports_taken_up : (a : Extent) (b : Bot) → fold (with_port a b) (own_nodes b) all_ports ≡ zone_nodes a b
+ports_taken_up a b =
+    let behind_ports = filter (is_in a) (map (behind b) (ports b)) in
+    behind_taken_up a b all_ports (own_nodes b)
+    ∙ ap (λ vs. fold (with_new node_eq) vs behind_ports) (sym (own_taken_up b))
+    ∙ sym (fold-append (with_new node_eq) [] (own_nodes b) behind_ports)
+    ∙ taken_from_none node_eq_equiv (own_nodes b ++ behind_ports)
+
+-- the occupants are taken up as the nodes are gone through
+occupants_taken_up : (c : Config) (i : ℕ) (vs : List Node) (is : List ℕ) → fold (λ js v. with_other i js (occupant c v)) is vs ≡ fold (with_new nat_eq) is (filter (λ j. not (nat_eq j i)) (filter_map (occupant c) vs))
+occupants_taken_up c i [] is = refl
+occupants_taken_up c i (v ∷ vs) is = elim (occupant c v) as (λ o. occupant c v ≡ o → fold (λ js v. with_other i js (occupant c v)) is (v ∷ vs) ≡ fold (with_new nat_eq) is (filter (λ j. not (nat_eq j i)) (filter_map (occupant c) (v ∷ vs)))) [
+  | None ↦ λ e. rw e (occupants_taken_up c i vs is)
+  | Some j ↦ λ e. elim (cases_Bool (nat_eq j i)) [
+    | inl t ↦ rw (e, t) (occupants_taken_up c i vs is)
+    | inr f ↦ rw (e, f) (occupants_taken_up c i vs (with_new nat_eq is j))
+  ]
+] refl
+
+pub others_taken_up : (c : Config) (i : ℕ) (vs : List Node) → fold (λ js v. with_other i js (occupant c v)) [] vs ≡ others c i vs
+others_taken_up c i vs = occupants_taken_up c i vs [] ∙ taken_from_none nat_eq_equiv (filter (λ j. not (nat_eq j i)) (filter_map (occupant c) vs))

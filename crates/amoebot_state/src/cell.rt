@@ -1,0 +1,76 @@
+ghost use Rattle.std.specs.Prelude.{◌≡◌, ◌<◌, ◌∷◌, ◌++◌, [], length, IsTrue};
+ghost use Rattle.amoebot_state.specs.Pairs.{is_alike};
+
+use crate::bot::Bot;
+use arrayvec::ArrayVec;
+use std::marker::Model;
+use tri_lattice::Node;
+
+/// The name of a cell: a node, or the body of an amoebot by its id.
+#[derive(Clone, Copy, Debug, Drop, PartialEq, Eq)]
+pub enum CellName {
+    Spot(Node),
+    Body(u16),
+}
+
+/// What a cell holds: the id of a node's occupant, if it has one, or an amoebot.
+#[derive(Clone, Copy, Debug, Drop, PartialEq, Eq)]
+pub enum Cell {
+    Spot(Option<u16>),
+    Body(Bot),
+}
+
+impl Default for CellName {
+    fn default() -> Self {
+        CellName::Body(0)
+    }
+}
+
+impl Default for Cell {
+    fn default() -> Self {
+        Cell::Spot(None)
+    }
+}
+
+/// Cells with their new values: a list of at most 10 pairs, in each of which both parts are `Spot` or both are `Body`.
+#[derive(Drop)]
+pub struct Patch {
+    pairs: ArrayVec<(CellName, Cell), 10>,
+}
+
+impl Model for Patch {
+    ghost use Rattle.amoebot_state.specs.Pairs.{are_alike, Pairs};
+
+    ghost Value = { Pairs };
+
+    ghost view = { λ p. p.pairs.items };
+
+    ghost invariant = { λ p. are_alike p.pairs.items };
+}
+
+impl Patch {
+    /// No pair.
+    pub fn new() -> Patch
+        ensures { result ≡ [] }
+    {
+        Patch {
+            pairs: ArrayVec::new(),
+        }
+    }
+
+    /// Adds a pair last.
+    pub fn push(&mut self, name: CellName, cell: Cell)
+        requires room { length self.old < 10 }
+        requires alike { IsTrue (is_alike name cell) }
+        ensures { self.new ≡ self.old ++ (name, cell) ∷ [] }
+    {
+        self.pairs.push((name, cell));
+    }
+
+    /// The list of the pairs.
+    pub fn pairs(&self) -> &[(CellName, Cell)]
+        ensures { result.now ≡ self.now }
+    {
+        self.pairs.as_slice()
+    }
+}

@@ -1,0 +1,259 @@
+ghost use Rattle.std.specs.Prelude.{◌≡◌, ◌⊎◌, ◌+◌, ◌∷◌, ◌++◌, ◌<◌, ◌≤◌, [], OnOk, IfOk, IfErr, length, map, IsSome};
+ghost use Rattle.std.specs.List.{All, filter_map};
+ghost use Rattle.amoebot_state.specs.Configs.{Config, IsValid, bot_at, occupant, config_of, with_bot};
+ghost use Rattle.amoebot_state.specs.Zones.{shown, shown_cell, others};
+ghost use Rattle.amoebot_state.specs.Patches.{IsPatched, HasPatched};
+ghost use Rattle.amoebot_state.specs.Refusals.{IsPlain, bot_fault, first_fault};
+ghost use Rattle.arrayvec.specs.ArrayVec.{array_vec_len};
+
+use crate::bot::Bot;
+use crate::cell::{Cell, CellName, Patch};
+use crate::found::Found;
+use crate::grid::{has_values, is_joined, put_all, put_new};
+use crate::refusal::{NoMemory, WorldRefusal};
+use crate::zone::{push_new_id, zone_nodes};
+use arrayvec::ArrayVec;
+use std::alloc::Global;
+use std::marker::Model;
+use tri_lattice::{Area, Node};
+
+/// A world: an area, the maxima of the variables, and at most 4,096 amoebots, which are numbered from 0. It is valid: each
+/// amoebot stands in the area, on one node or on two adjacent ones; no node belongs to two amoebots; each rotation is below 6
+/// and no value is above its maximum.
+///
+/// Beside them it keeps the occupant of each node of the area.
+#[derive(Drop)]
+pub struct World {
+    area: Area,
+    maxes: [u8; 8],
+    amoebots: Vec<Bot>,
+    occupants: Vec<Option<u16>>,
+}
+
+impl Model for World {
+    ghost use Rattle.amoebot_state.specs.Configs.{Config, config_of, IsWorld};
+
+    ghost Value = { Config };
+
+    ghost view = { λ w. config_of w.area w.maxes w.amoebots.items };
+
+    ghost invariant = { λ w. IsWorld (config_of w.area w.maxes w.amoebots.items) w.occupants.items };
+}
+
+impl World {
+    /// A world of these amoebots, at most 4,096, whose ids are their places in the list. Otherwise the first fault of the first
+    /// amoebot that has one: OutOfBox, NotAdjacent, Overlap with an earlier one, BadValue, in this order. NoMemory may come in
+    /// place of any answer.
+    pub fn new(
+        alloc: Global,
+        area: Area,
+        maxes: [u8; 8],
+        bots: &[Bot],
+    ) -> Result<World, WorldRefusal>
+        requires few { length bots.now ≤ 4096 }
+        requires plain { All IsPlain bots.now }
+        ensures value { IfOk result (λ w. w ≡ config_of area maxes bots.now) }
+        ensures sound { OnOk result (first_fault (config_of area maxes []) bots.now ≡ None) }
+        ensures fault { IfErr result (λ e. (e ≡ WorldRefusal.NoMemory) ⊎ (first_fault (config_of area maxes []) bots.now ≡ Some e)) }
+    {
+        let mut world = World::empty(alloc, area, maxes, bots.len())?;
+        for bot in bots {
+            world.add(bot)?;
+        }
+        Ok(world)
+    }
+
+    fn empty(alloc: Global, area: Area, maxes: [u8; 8], room: usize) -> Result<World, WorldRefusal>
+        ensures value { IfOk result (λ w. w ≡ config_of area maxes []) }
+        ensures err { IfErr result (λ e. e ≡ WorldRefusal.NoMemory) }
+    {
+        let mut amoebots = Vec::new(alloc);
+        if amoebots.reserve_exact(room).is_err() {
+            return Err(WorldRefusal::NoMemory);
+        }
+        let mut occupants = Vec::new(alloc);
+        if occupants.resize(area.size() as usize, None).is_err() {
+            return Err(WorldRefusal::NoMemory);
+        }
+        Ok(World {
+            area,
+            maxes,
+            amoebots,
+            occupants,
+        })
+    }
+
+    /// The first fault of an amoebot that is to be the next.
+    fn fault(&self, bot: &Bot) -> Option<WorldRefusal>
+        requires few { length self.now.bots < 4096 }
+        requires plain { IsPlain bot.now }
+        ensures { result ≡ bot_fault self.now bot.now }
+    {
+        let id = self.amoebots.len() as u16;
+        if self.area.index(bot.head).is_none() || self.area.index(bot.tail).is_none() {
+            return Some(WorldRefusal::OutOfBox(id));
+        }
+        if !is_joined(bot.head, bot.tail) {
+            return Some(WorldRefusal::NotAdjacent(id));
+        }
+        if self.occupant(bot.head).is_some() || self.occupant(bot.tail).is_some() {
+            return Some(WorldRefusal::Overlap(id));
+        }
+        if !has_values(&self.maxes, &bot.mem) {
+            return Some(WorldRefusal::BadValue(id));
+        }
+        None
+    }
+
+    fn add(&mut self, bot: &Bot) -> Result<(), WorldRefusal>
+        requires few { length self.old.bots < 4096 }
+        requires plain { IsPlain bot.now }
+        ensures ok { OnOk result ((bot_fault self.old bot.now ≡ None) × (self.new ≡ with_bot self.old bot.now)) }
+        ensures err { IfErr result (λ e. (e ≡ WorldRefusal.NoMemory) ⊎ (bot_fault self.old bot.now ≡ Some e)) }
+    {
+        match self.fault(bot) {
+            Some(fault) => return Err(fault),
+            None => {}
+        }
+        let id = self.amoebots.len() as u16;
+        match put_new(&self.area, &mut self.amoebots, &mut self.occupants, id, bot) {
+            Ok(()) => Ok(()),
+            Err(_) => Err(WorldRefusal::NoMemory),
+        }
+    }
+
+    /// The area.
+    pub fn area(&self) -> Area
+        ensures { result ≡ self.now.area }
+    {
+        self.area
+    }
+
+    /// The greatest value of each variable.
+    pub fn maxes(&self) -> [u8; 8]
+        ensures { result ≡ self.now.maxes }
+    {
+        self.maxes
+    }
+
+    /// How many amoebots there are, at most 4,096.
+    pub fn bots(&self) -> u16
+        ensures value { result ≡ length self.now.bots }
+        ensures few { result ≤ 4096 }
+    {
+        self.amoebots.len() as u16
+    }
+
+    /// The amoebot with an id.
+    pub fn bot(&self, id: u16) -> &Bot
+        requires { id < length self.now.bots }
+        ensures { Some result.now ≡ bot_at self.now id }
+    {
+        &self.amoebots[usize::from(id)]
+    }
+
+    /// The id of a node's occupant; None for an empty node and for one outside the area.
+    pub fn occupant(&self, node: Node) -> Option<u16>
+        ensures { result ≡ occupant self.now node }
+    {
+        match self.area.index(node) {
+            Some(number) => self.occupants[number as usize],
+            None => None,
+        }
+    }
+
+    /// The same world once more.
+    pub fn copy(&self, alloc: Global) -> Result<World, NoMemory>
+        ensures { IfOk result (λ w. w ≡ self.now) }
+    {
+        let amoebots = match Vec::from_slice(alloc, self.amoebots.as_slice()) {
+            Ok(amoebots) => amoebots,
+            Err(_) => return Err(NoMemory),
+        };
+        let occupants = match Vec::from_slice(alloc, self.occupants.as_slice()) {
+            Ok(occupants) => occupants,
+            Err(_) => return Err(NoMemory),
+        };
+        Ok(World {
+            area: self.area,
+            maxes: self.maxes,
+            amoebots,
+            occupants,
+        })
+    }
+
+    /// What an amoebot is shown.
+    pub fn found(&self, bot: u16) -> Found
+        requires { bot < length self.now.bots }
+        ensures value { result ≡ shown self.now bot }
+        ensures valid { IsValid self.now }
+        ensures there { IsSome (bot_at self.now bot) }
+    {
+        let own = self.own(bot);
+        let nodes = zone_nodes(&self.area, &own);
+        let ids = self.others(bot, nodes.as_slice());
+        let mut cells = ArrayVec::new();
+        cells.push((CellName::Body(bot), Cell::Body(own)));
+        self.add_spots(&mut cells, nodes.as_slice());
+        self.add_bodies(&mut cells, ids.as_slice());
+        Found::of(self.area, self.maxes, bot, own, cells)
+    }
+
+    fn own(&self, id: u16) -> Bot
+        requires { id < length self.now.bots }
+        ensures value { bot_at self.now id ≡ Some result }
+        ensures plain { IsPlain result }
+    {
+        let _area = &self.area;
+        *self.bot(id)
+    }
+
+    /// The other amoebots on the nodes.
+    fn others(&self, id: u16, nodes: &[Node]) -> ArrayVec<u16, 14>
+        requires { length nodes.now ≤ 14 }
+        ensures value { result.items ≡ others self.now id nodes.now }
+        ensures few { array_vec_len result ≤ 14 }
+    {
+        let mut ids = ArrayVec::new();
+        for node in nodes {
+            if let Some(other) = self.occupant(*node) {
+                if other != id {
+                    push_new_id(&mut ids, other);
+                }
+            }
+        }
+        ids
+    }
+
+    fn add_spots(&self, cells: &mut ArrayVec<(CellName, Cell), 30>, nodes: &[Node])
+        requires { array_vec_len cells.old + length nodes.now ≤ 30 }
+        ensures { cells.new.items ≡ cells.old.items ++ map (λ v. (CellName.Spot v, Cell.Spot (occupant self.now v))) nodes.now }
+    {
+        for node in nodes {
+            cells.push((CellName::Spot(*node), Cell::Spot(self.occupant(*node))));
+        }
+    }
+
+    fn add_bodies(&self, cells: &mut ArrayVec<(CellName, Cell), 30>, ids: &[u16])
+        requires room { array_vec_len cells.old + length ids.now ≤ 30 }
+        requires there { All (λ i. i < length self.now.bots) ids.now }
+        ensures { cells.new.items ≡ cells.old.items ++ filter_map (λ i. shown_cell self.now (CellName.Body i)) ids.now }
+    {
+        for id in ids {
+            cells.push((CellName::Body(*id), Cell::Body(*self.bot(*id))));
+        }
+    }
+
+    /// Gives the cells of the patch their values, which have to lead to a valid world with the same ids.
+    pub fn apply(&mut self, patch: &Patch)
+        requires { HasPatched self.old patch.now }
+        ensures { IsPatched self.old patch.now self.new }
+    {
+        put_all(
+            &self.area,
+            &mut self.amoebots,
+            &mut self.occupants,
+            patch.pairs(),
+        );
+    }
+}

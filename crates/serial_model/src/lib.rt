@@ -1,0 +1,76 @@
+//! The model's runs, one activation at a time.
+#![tactic(auto)]
+
+ghost use Rattle.std.specs.Prelude.{◌≡◌, ◌<◌, length};
+
+use amoebot_state::{Decider, Entry, Failure, Verdict, World};
+use std::marker::Model;
+
+/// What a turn did: an entry for the journal, or nothing.
+#[derive(Drop)]
+pub enum Turned {
+    Done(Entry),
+    Idle,
+    Failed(Failure),
+}
+
+/// A world that is changed one activation at a time.
+#[derive(Drop)]
+pub struct Serial {
+    world: World,
+}
+
+impl Model for Serial {
+    ghost use Rattle.amoebot_state.specs.Configs.{Config};
+
+    ghost Value = { Config };
+
+    ghost view = { λ s. s.world };
+}
+
+impl Serial {
+    pub fn new(world: World) -> Serial
+        ensures { result ≡ world }
+    {
+        Serial { world }
+    }
+
+    /// One turn of a caller on an amoebot, which is one of the world's: what the amoebot is shown is decided on, and a change
+    /// is made. Where it is none, the world stays.
+    pub fn activate<D: Decider>(&mut self, decider: &D, caller: u8, turn: u32, bot: u16) -> Turned
+        requires { bot < length self.old.bots }
+        ensures { length self.new.bots ≡ length self.old.bots }
+    {
+        let found = self.world.found(bot);
+        match decider.decide(&found) {
+            Verdict::Idle => Turned::Idle,
+            Verdict::Failed(failure) => Turned::Failed(failure),
+            Verdict::Change(change) => {
+                self.world.apply(&change.patch);
+                Turned::Done(Entry {
+                    caller,
+                    turn,
+                    bot,
+                    action: change.action,
+                    moved: change.moved,
+                    patch: change.patch,
+                })
+            }
+        }
+    }
+
+    /// The world that was reached.
+    pub fn world(&self) -> &World
+        ensures { result.now ≡ self.now }
+    {
+        &self.world
+    }
+
+    /// The world that was reached, once no turn is to follow.
+    pub fn into_world(self) -> World
+        ensures { result ≡ self }
+    {
+        let Serial { world } = self;
+        world
+    }
+}
