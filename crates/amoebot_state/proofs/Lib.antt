@@ -4,3 +4,6 @@ pub mod Patched
 pub mod Added
 pub mod Distinct
 pub mod Zones
+pub mod Members
+pub mod Directions
+pub mod Gaps

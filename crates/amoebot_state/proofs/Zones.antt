@@ -1,8 +1,9 @@
 -- How a zone is found, and what it has.
-use Rattle.std.proofs.Common.{◌≡◌, ◌≤◌, ◌+◌, ℕ, List, [], ◌∷◌, ◌++◌, length, map, Bool, true, false, not, ◌&&◌, cond, ap, sym, ◌∙◌, refl, inl, inr, arith, Option, Some, None, filter, nat_eq}
-use Rattle.std.specs.List.{fold, filter_map}
+use Rattle.std.proofs.Common.{◌≡◌, ◌≢◌, ◌⊎◌, ◌<◌, ◌≤◌, ◌+◌, ℕ, List, [], ◌∷◌, ◌++◌, length, map, Bool, true, false, not, ◌&&◌, cond, ap, sym, ◌∙◌, refl, inl, inr, arith, Option, Some, None, filter, nat_eq}
+use Rattle.std.specs.List.{All, fold, filter_map}
 use Rattle.std.specs.Cmp.{IsEquivalence}
-use Rattle.std.proofs.lemmas.Bool.{cases_Bool}
+use Rattle.std.proofs.lemmas.Bool.{cases_Bool, both_ways, eqb-true, eq-eqb}
+use Rattle.std.proofs.lemmas.List.{length-append, length-map}
 use Rattle.std.proofs.lemmas.List.Sums.{fold-append}
 use Rattle.std.proofs.lemmas.Cmp.{nat_eq_equiv}
 use Rattle.tri_lattice.specs.declared.node.Node.{Node}
@@ -14,8 +15,12 @@ use Rattle.amoebot_state.specs.declared.bot.Port.{Port}
 use Rattle.amoebot_state.specs.Ports.{own_nodes, is_contracted, is_port, all_ports, ports, behind}
 use Rattle.amoebot_state.specs.Configs.{Config, occupant}
 use Rattle.amoebot_state.specs.Storage.{with_new, with_port, with_other}
-use Rattle.amoebot_state.specs.Zones.{distinct, zone_nodes, others}
+use Rattle.amoebot_state.specs.declared.cell.CellName.TheVariants as name
+use Rattle.amoebot_state.specs.Zones.{distinct, zone_nodes, others, zone_of}
 use Rattle.amoebot_state.proofs.Distinct.{taken_from_none}
+use Rattle.amoebot_state.proofs.Members.{Has, Has-distinct, distinct_has, Has-filter, filter_has, Has-filter_map, filter_map_has, All-from_Has, length-distinct-le, length-filter-le, length-filter_map-le}
+use Rattle.amoebot_state.proofs.Occupants.{covers_below, occupant_covers}
+use Rattle.amoebot_state.proofs.Directions.{beside_in_zone}
 
 -- node equality is an equivalence
 pub node_eq_equiv : IsEquivalence node_eq
@@ -71,3 +76,52 @@ occupants_taken_up c i (v ∷ vs) is = elim (occupant c v) as (λ o. occupant c 
 
 pub others_taken_up : (c : Config) (i : ℕ) (vs : List Node) → fold (λ js v. with_other i js (occupant c v)) [] vs ≡ others c i vs
 others_taken_up c i vs = occupants_taken_up c i vs [] ∙ taken_from_none nat_eq_equiv (filter (λ j. not (nat_eq j i)) (filter_map (occupant c) vs))
+
+-- an occupant of a node is the amoebot itself or one of the others
+pub occupant_in_zone : (c : Config) (i : ℕ) (v : Node) (vs : List Node) (j : ℕ) → Has v vs → occupant c v ≡ Some j → (j ≡ i) ⊎ Has j (others c i vs)
+occupant_in_zone c i v vs j has e = elim (cases_Bool (nat_eq j i)) [
+  | inl t ↦ inl (eqb-true j i t)
+  | inr f ↦ inr (Has-distinct nat_eq eqb-true (filter (λ k. not (nat_eq k i)) (filter_map (occupant c) vs)) (Has-filter (λ k. not (nat_eq k i)) (filter_map (occupant c) vs) (Has-filter_map (occupant c) vs has e) (ap not f)))
+]
+
+-- each of the others is an occupant of a node, and not the amoebot itself
+pub others_occupy : (c : Config) (i : ℕ) (vs : List Node) (j : ℕ) → Has j (others c i vs) → (v : Node) × Has v vs × (occupant c v ≡ Some j) × (j ≢ i)
+others_occupy c i vs j has =
+    let kept = filter_has (λ k. not (nat_eq k i)) (filter_map (occupant c) vs) (distinct_has nat_eq (filter (λ k. not (nat_eq k i)) (filter_map (occupant c) vs)) has) in
+    let found = filter_map_has (occupant c) vs kept.0 in
+    (found.0, found.1, found.2, λ e. both_ways _ (ap not (eq-eqb j i e)) kept.1)
+
+-- so each of them is there
+pub others_there : (c : Config) (i : ℕ) (vs : List Node) → All (λ j. j < length c.bots) (others c i vs)
+others_there c i vs = All-from_Has (λ j. j < length c.bots) (others c i vs) (λ j has.
+    let by = others_occupy c i vs j has in
+    covers_below c j by.0 (occupant_covers c by.0 j by.2))
+
+-- bounds that the code's lists have room for
+pub length-zone_nodes-le : (a : Extent) (b : Bot) → length (zone_nodes a b) ≤ 14
+length-zone_nodes-le a b =
+    let behind_ports = filter (is_in a) (map (behind b) (ports b)) in
+    let all = length-distinct-le node_eq (own_nodes b ++ behind_ports) in
+    let joined = length-append (own_nodes b) behind_ports in
+    let inside = length-filter-le (is_in a) (map (behind b) (ports b)) in
+    let mapped = length-map (ports b) (behind b) in
+    let some = length-filter-le (is_port b) all_ports in
+    let own = length-own_nodes-le b in
+    omega (arith, all, joined, inside, mapped, some, own)
+  where
+    length-own_nodes-le : (b : Bot) → length (own_nodes b) ≤ 2
+    length-own_nodes-le b = elim (cases_Bool (is_contracted b)) [ inl t ↦ rw t (omega arith) | inr f ↦ rw f (omega arith) ]
+
+pub length-others-le : (c : Config) (i : ℕ) (vs : List Node) → length (others c i vs) ≤ length vs
+length-others-le c i vs =
+    let kept = filter (λ j. not (nat_eq j i)) (filter_map (occupant c) vs) in
+    omega (arith, length-distinct-le nat_eq kept, length-filter-le (λ j. not (nat_eq j i)) (filter_map (occupant c) vs), length-filter_map-le (occupant c) vs)
+
+pub length-zone_of-le : (c : Config) (i : ℕ) (vs : List Node) → length vs ≤ 14 → length (zone_of c i vs) ≤ 29
+length-zone_of-le c i vs few =
+    let bodies = others c i vs in
+    let both = length-append (map name.Spot vs) (map name.Body bodies) in
+    let spots = length-map vs name.Spot in
+    let more = length-map bodies name.Body in
+    let lt = length-others-le c i vs in
+    omega (arith, both, spots, more, lt, few)
