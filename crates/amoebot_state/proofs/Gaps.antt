@@ -17,10 +17,10 @@ use Rattle.amoebot_state.specs.declared.cell.Cell.{Cell}
 use Rattle.amoebot_state.specs.declared.cell.Cell.TheVariants as cell
 use Rattle.amoebot_state.specs.Configs.{Config, IsValid, IsBot, bot_at, occupant, covers, value}
 use Rattle.amoebot_state.specs.Zones.{Shown, shown, shown_cell, zone, zone_at, zone_of, zone_nodes, others, distinct, with_id, spread, gap}
-use Rattle.amoebot_state.specs.Storage.{spot_in}
+use Rattle.amoebot_state.specs.Storage.{body_in}
 use Rattle.amoebot_state.proofs.Members.{Has, here, later, has_cases, not_in_none, Has-map, map_has, Has-append_left, Has-append_right, Has-append_cases}
 use Rattle.amoebot_state.proofs.Occupants.{occupant_at, occupant_none, nobody_covers, occupant_covers}
-use Rattle.amoebot_state.proofs.Zones.{occupant_in_zone, others_occupy}
+use Rattle.amoebot_state.proofs.Zones.{occupant_in_zone, others_occupy, zone_nodes_inside}
 
 with_id_same : (os : List (Option Bot)) (i : ℕ) (b : Bot) → get_or (with_id os i b) i None ≡ Some b
 with_id_same [] zero b = refl
@@ -37,13 +37,6 @@ with_id_other (o ∷ os) zero zero b ne = absurd (ne refl)
 with_id_other (o ∷ os) zero (suc j) b ne = refl
 with_id_other (o ∷ os) (suc i) zero b ne = refl
 with_id_other (o ∷ os) (suc i) (suc j) b ne = with_id_other os i j b (λ e. ne (ap suc e))
-
--- the amoebot that cells hold for an id
-abbrev pub body_in : List (CellName × Cell) → ℕ → Option Bot
-body_in [] j = None
-body_in ((name.Spot v, x) ∷ cells) j = body_in cells j
-body_in ((name.Body i, cell.Spot o) ∷ cells) j = body_in cells j
-body_in ((name.Body i, cell.Body b) ∷ cells) j = if nat_eq i j then Some b else body_in cells j
 
 pub spread_at : (cells : List (CellName × Cell)) (j : ℕ) → get_or (spread cells) j None ≡ body_in cells j
 spread_at [] j = refl
@@ -162,22 +155,27 @@ gap_zone c i b valid e =
     ∙ ap (λ is. name.Body i ∷ (map name.Spot vs ++ map name.Body (distinct nat_eq (filter (λ j. not (nat_eq j i)) is)))) (same_occupants c (gap (shown c i)) vs (λ v has. gap_occupant c i b v valid e has))
     ∙ sym (zone_is c i b e)
 
+-- a node of the zone, told from its cell
+pub spot_node : (c : Config) (i : ℕ) (b : Bot) (v : Node) → bot_at c i ≡ Some b → Has (name.Spot v) (zone c i) → Has v (zone_nodes c.area b)
+spot_node c i b v e has = elim (has_cases (subst (Has (name.Spot v)) (zone_is c i b e) has)) [
+  | inl f ↦ absurd (cc)
+  | inr r ↦ elim (Has-append_cases (map name.Spot (zone_nodes c.area b)) r) [
+    | inl s ↦ let found = map_has name.Spot (zone_nodes c.area b) s in let same : found.0 ≡ v = (let f = found.2 in cc) in subst (λ u. Has u (zone_nodes c.area b)) same found.1
+    | inr t ↦ let found = map_has name.Body (others c i (zone_nodes c.area b)) t in let f = found.2 in absurd (cc)
+  ]
+]
+
 -- a cell of the zone holds the same
 gap_value : (c : Config) (i : ℕ) (b : Bot) → IsValid c → bot_at c i ≡ Some b → (n : CellName) → Has n (zone c i) → value (gap (shown c i)) n ≡ value c n
 gap_value c i b valid e (name.Body j) has = ap (option_map cell.Body) (gap_has c i j has)
-gap_value c i b valid e (name.Spot v) has = ap (λ o. Some (cell.Spot o)) (gap_occupant c i b v valid e (spot_of (subst (Has (name.Spot v)) (zone_is c i b e) has)))
-  where
-    spot_of : Has (name.Spot v) (zone_of c i (zone_nodes c.area b)) → Has v (zone_nodes c.area b)
-    spot_of has = elim (has_cases has) [
-      | inl e ↦ absurd (cc)
-      | inr r ↦ elim (Has-append_cases (map name.Spot (zone_nodes c.area b)) r) [
-        | inl s ↦ let found = map_has name.Spot (zone_nodes c.area b) s in let same : found.0 ≡ v = (let f = found.2 in cc) in subst (λ u. Has u (zone_nodes c.area b)) same found.1
-        | inr t ↦ let found = map_has name.Body (others c i (zone_nodes c.area b)) t in let f = found.2 in absurd (cc)
-      ]
-    ]
+gap_value c i b valid e (name.Spot v) has = ap (λ o. Some (cell.Spot o)) (gap_occupant c i b v valid e (spot_node c i b v e has))
 
 -- the gap configuration shows what was shown
 pub gap_shows : (c : Config) (i : ℕ) (b : Bot) → IsValid c → bot_at c i ≡ Some b → shown (gap (shown c i)) i ≡ shown c i
 gap_shows c i b valid e =
     let made : List (CellName × Cell) → Shown = λ xs. record { area = c.area; maxes = c.maxes; bot = i; cells = xs } in
     ap made (ap (filter_map (shown_cell (gap (shown c i)))) (gap_zone c i b valid e) ∙ same_cells c (gap (shown c i)) (zone c i) (λ n has. gap_value c i b valid e n has))
+
+-- the nodes of the zone lie in the area
+pub zone_inside : (c : Config) (i : ℕ) (b : Bot) (v : Node) → IsValid c → bot_at c i ≡ Some b → Has (name.Spot v) (zone c i) → is_in c.area v ≡ true
+zone_inside c i b v valid e has = zone_nodes_inside c.area b v (valid.each i b e).head (valid.each i b e).tail (spot_node c i b v e has)

@@ -7,3 +7,4 @@ pub mod Zones
 pub mod Members
 pub mod Directions
 pub mod Gaps
+pub mod Shows

@@ -1,9 +1,10 @@
 -- Elements of lists.
-use Rattle.std.proofs.Common.{◌≡◌, ◌≢◌, ◌⊎◌, ◌≤◌, ◌<◌, ◌+◌, ℕ, zero, suc, List, [], ◌∷◌, ◌++◌, length, map, get_or, Bool, true, false, not, cond, ap, sym, ◌∙◌, refl, subst, inl, inr, arith, Option, Some, None, filter}
-use Rattle.std.specs.List.{All, Contains, filter_map}
+use Rattle.std.proofs.Common.{◌≡◌, ◌≢◌, ◌⊎◌, ◌≤◌, ◌<◌, ◌+◌, ℕ, zero, suc, List, [], ◌∷◌, ◌++◌, length, map, get_or, Bool, true, false, not, cond, ap, sym, ◌∙◌, refl, subst, inl, inr, arith, Option, Some, None, filter, take}
+use Rattle.std.specs.List.{All, Contains, filter_map, cons_option}
 use Rattle.std.proofs.lemmas.Bool.{cases_Bool, both_ways}
 use Rattle.std.proofs.lemmas.Option.{none-some, same_Some}
-use Rattle.std.proofs.lemmas.List.Elements.{All-nil, All-cons, recursion_from_All}
+use Rattle.std.proofs.lemmas.List.Elements.{All-nil, All-cons, recursion_from_All, filter_map-append}
+use Rattle.std.proofs.lemmas.List.{append_assoc, map_more, take_more}
 use Rattle.amoebot_state.specs.Zones.{distinct}
 
 -- x is an element
@@ -135,3 +136,16 @@ length-filter_map-le h (x ∷ xs) = let rest = length-filter_map-le h xs in elim
 pub length-distinct-le : {A : Type 0} (eq : A → A → Bool) (xs : List A) → length (distinct eq xs) ≤ length xs
 length-distinct-le eq [] = omega arith
 length-distinct-le eq (x ∷ xs) = omega (arith, length-filter-le (λ y. not (eq x y)) (distinct eq xs), length-distinct-le eq xs)
+
+-- a list that grew by what belongs to the element at k, after those before it
+pub more_mapped : {X Y : Type 0} (f : X → Y) (xs : List X) (k : ℕ) (d : X) (base now next : List Y) (y : Y) → k < length xs → now ≡ base ++ map f (take k xs) → next ≡ now ++ y ∷ [] → y ≡ f (get_or xs k d) → next ≡ base ++ map f (take (k + 1) xs)
+more_mapped f xs k d base now next y lt was grew is =
+    grew ∙ ap (λ zs. zs ++ y ∷ []) was ∙ append_assoc base (map f (take k xs)) (y ∷ [])
+    ∙ ap (λ z. base ++ (map f (take k xs) ++ z ∷ [])) is
+    ∙ ap (λ zs. base ++ zs) (sym (map_more f xs k d lt))
+
+pub more_kept : {X Y : Type 0} (h : X → Option Y) (xs : List X) (k : ℕ) (d : X) (base now next : List Y) (y : Y) → k < length xs → now ≡ base ++ filter_map h (take k xs) → next ≡ now ++ y ∷ [] → h (get_or xs k d) ≡ Some y → next ≡ base ++ filter_map h (take (k + 1) xs)
+more_kept h xs k d base now next y lt was grew is =
+    grew ∙ ap (λ zs. zs ++ y ∷ []) was ∙ append_assoc base (filter_map h (take k xs)) (y ∷ [])
+    ∙ ap (λ o. base ++ (filter_map h (take k xs) ++ cons_option o [])) (sym is)
+    ∙ ap (λ zs. base ++ zs) (sym (ap (filter_map h) (take_more xs k d lt) ∙ filter_map-append h (take k xs) (get_or xs k d ∷ [])))

@@ -18,7 +18,7 @@ use Rattle.amoebot_state.specs.Storage.{with_new, with_port, with_other}
 use Rattle.amoebot_state.specs.declared.cell.CellName.TheVariants as name
 use Rattle.amoebot_state.specs.Zones.{distinct, zone_nodes, others, zone_of}
 use Rattle.amoebot_state.proofs.Distinct.{taken_from_none}
-use Rattle.amoebot_state.proofs.Members.{Has, Has-distinct, distinct_has, Has-filter, filter_has, Has-filter_map, filter_map_has, All-from_Has, length-distinct-le, length-filter-le, length-filter_map-le}
+use Rattle.amoebot_state.proofs.Members.{Has, has_cases, not_in_none, Has-append_cases, Has-distinct, distinct_has, Has-filter, filter_has, Has-filter_map, filter_map_has, All-from_Has, length-distinct-le, length-filter-le, length-filter_map-le}
 use Rattle.amoebot_state.proofs.Occupants.{covers_below, occupant_covers}
 use Rattle.amoebot_state.proofs.Directions.{beside_in_zone}
 
@@ -125,3 +125,16 @@ length-zone_of-le c i vs few =
     let more = length-map bodies name.Body in
     let lt = length-others-le c i vs in
     omega (arith, both, spots, more, lt, few)
+
+-- the nodes of a zone lie in the area, if the amoebot's own do
+pub zone_nodes_inside : (a : Extent) (b : Bot) (v : Node) → is_in a b.head ≡ true → is_in a b.tail ≡ true → Has v (zone_nodes a b) → is_in a v ≡ true
+zone_nodes_inside a b v head tail has = elim (Has-append_cases (own_nodes b) (distinct_has node_eq (own_nodes b ++ filter (is_in a) (map (behind b) (ports b))) has)) [
+  | inl own ↦ elim (own_is b v own) [ inl h ↦ ap (is_in a) h ∙ head | inr t ↦ ap (is_in a) t ∙ tail ]
+  | inr next ↦ (filter_has (is_in a) (map (behind b) (ports b)) next).1
+]
+  where
+    own_is : (b : Bot) (v : Node) → Has v (own_nodes b) → (v ≡ b.head) ⊎ (v ≡ b.tail)
+    own_is b v = elim (cases_Bool (is_contracted b)) as (λ _. Has v (own_nodes b) → (v ≡ b.head) ⊎ (v ≡ b.tail)) [
+      | inl t ↦ rw t (λ h. elim (has_cases h) [ inl e ↦ inl e | inr r ↦ absurd (not_in_none r) ])
+      | inr f ↦ rw f (λ h. elim (has_cases h) [ inl e ↦ inl e | inr r ↦ elim (has_cases r) [ inl e ↦ inr e | inr q ↦ absurd (not_in_none q) ] ])
+    ]

@@ -1,10 +1,10 @@
-ghost use Rattle.std.specs.Prelude.{◌≡◌, ◌≤◌, length, IsTrue, slice_index_or};
+ghost use Rattle.std.specs.Prelude.{◌≡◌, ◌≤◌, length, IsTrue};
 ghost use Rattle.std.specs.Option.{option_copied};
 ghost use Rattle.amoebot_state.specs.Configs.{bot_at, bot_of, occupant};
 ghost use Rattle.amoebot_state.specs.Ports.{is_beside};
 ghost use Rattle.amoebot_state.specs.Refusals.{IsPlain};
-ghost use Rattle.amoebot_state.specs.Zones.{IsShown, IsFound, gap, spread};
-ghost use Rattle.amoebot_state.specs.Storage.{spot_in};
+ghost use Rattle.amoebot_state.specs.Zones.{IsShown, IsFound, gap};
+ghost use Rattle.amoebot_state.specs.Storage.{body_at, body_in, spot_at, spot_in};
 
 use crate::bot::Bot;
 use crate::cell::{Cell, CellName};
@@ -107,7 +107,7 @@ impl Found {
         requires { IsTrue (is_beside (bot_of (gap self.now) self.now.bot) node) }
         ensures { result ≡ occupant (gap self.now) node }
     {
-        occupant_in(self.cells.as_slice(), node)
+        spot_in(self.cells.as_slice(), node).unwrap_or(None)
     }
 
     /// The amoebot with an id; None exactly where its body is not in the zone.
@@ -118,37 +118,67 @@ impl Found {
     }
 }
 
-/// The occupant that the cells have for a node.
-fn occupant_in(cells: &[(CellName, Cell)], node: Node) -> Option<u16>
+/// The first amoebot that the cells hold for this id.
+fn body_in(cells: &[(CellName, Cell)], id: u16) -> Option<&Bot>
+    ensures { option_copied result ≡ body_in cells.now id }
+{
+    for (name, cell) in cells {
+        match body_at(name, cell, id) {
+            Some(bot) => return Some(bot),
+            None => {}
+        }
+    }
+    None
+}
+
+/// The amoebot of a cell, where that is the body of this id.
+fn body_at<'a>(name: &CellName, cell: &'a Cell, id: u16) -> Option<&'a Bot>
+    ensures { option_copied result ≡ body_at name.now cell.now id }
+{
+    match name {
+        CellName::Body(other) => match cell {
+            Cell::Body(bot) => {
+                if *other == id {
+                    Some(bot)
+                } else {
+                    None
+                }
+            }
+            Cell::Spot(_) => None,
+        },
+        CellName::Spot(_) => None,
+    }
+}
+
+/// The first occupant that the cells have for this node, if they have one.
+fn spot_in(cells: &[(CellName, Cell)], node: Node) -> Option<Option<u16>>
     ensures { result ≡ spot_in cells.now node }
 {
     for (name, cell) in cells {
-        if *name == CellName::Spot(node) {
-            if let Cell::Spot(occupant) = cell {
-                return *occupant;
-            }
+        match spot_at(name, cell, node) {
+            Some(occupant) => return Some(occupant),
+            None => {}
         }
     }
     None
 }
 
-/// The first amoebot that the cells hold under this id.
-fn body_in(cells: &[(CellName, Cell)], id: u16) -> Option<&Bot>
-    ensures { option_copied result ≡ slice_index_or (spread cells.now) id None }
+/// The occupant of a cell, where that is this node.
+fn spot_at(name: &CellName, cell: &Cell, node: Node) -> Option<Option<u16>>
+    ensures { result ≡ spot_at name.now cell.now node }
 {
-    for (name, cell) in cells {
-        if let Some(bot) = body_of(name, cell, id) {
-            return Some(bot);
-        }
-    }
-    None
-}
-
-/// The amoebot of a cell, if that is the body with this id.
-fn body_of<'a>(name: &CellName, cell: &'a Cell, id: u16) -> Option<&'a Bot> {
-    match (name, cell) {
-        (CellName::Body(other), Cell::Body(bot)) if *other == id => Some(bot),
-        _ => None,
+    match name {
+        CellName::Spot(other) => match cell {
+            Cell::Spot(occupant) => {
+                if *other == node {
+                    Some(*occupant)
+                } else {
+                    None
+                }
+            }
+            Cell::Body(_) => None,
+        },
+        CellName::Body(_) => None,
     }
 }
 

@@ -1,7 +1,7 @@
 ghost use Rattle.std.specs.Prelude.{◌≡◌, ◌⊎◌, ◌+◌, ◌∷◌, ◌++◌, ◌<◌, ◌≤◌, [], OnOk, IfOk, IfErr, length, map, IsSome};
 ghost use Rattle.std.specs.List.{All, filter_map};
 ghost use Rattle.amoebot_state.specs.Configs.{Config, IsValid, bot_at, occupant, config_of, with_bot};
-ghost use Rattle.amoebot_state.specs.Zones.{shown, shown_cell, others};
+ghost use Rattle.amoebot_state.specs.Zones.{shown, shown_cell, zone, others};
 ghost use Rattle.amoebot_state.specs.Patches.{IsPatched, HasPatched};
 ghost use Rattle.amoebot_state.specs.Refusals.{IsPlain, bot_fault, first_fault};
 ghost use Rattle.arrayvec.specs.ArrayVec.{array_vec_len};
@@ -11,7 +11,7 @@ use crate::cell::{Cell, CellName, Patch};
 use crate::found::Found;
 use crate::grid::{has_values, is_joined, put_all, put_new};
 use crate::refusal::{NoMemory, WorldRefusal};
-use crate::zone::{push_new_id, zone_nodes};
+use crate::zone::{push_other, zone_nodes};
 use arrayvec::ArrayVec;
 use std::alloc::Global;
 use std::marker::Model;
@@ -190,13 +190,23 @@ impl World {
         ensures there { IsSome (bot_at self.now bot) }
     {
         let own = self.own(bot);
-        let nodes = zone_nodes(&self.area, &own);
+        let cells = self.zone_cells(bot, &own);
+        Found::of(self.area, self.maxes, bot, own, cells)
+    }
+
+    /// The cells of an amoebot's zone with what they hold.
+    fn zone_cells(&self, bot: u16, own: &Bot) -> ArrayVec<(CellName, Cell), 30>
+        requires there { bot_at self.now bot ≡ Some own.now }
+        requires plain { IsPlain own.now }
+        ensures { result.items ≡ filter_map (shown_cell self.now) (zone self.now bot) }
+    {
+        let nodes = zone_nodes(&self.area, own);
         let ids = self.others(bot, nodes.as_slice());
         let mut cells = ArrayVec::new();
-        cells.push((CellName::Body(bot), Cell::Body(own)));
+        cells.push((CellName::Body(bot), Cell::Body(*own)));
         self.add_spots(&mut cells, nodes.as_slice());
         self.add_bodies(&mut cells, ids.as_slice());
-        Found::of(self.area, self.maxes, bot, own, cells)
+        cells
     }
 
     fn own(&self, id: u16) -> Bot
@@ -216,11 +226,7 @@ impl World {
     {
         let mut ids = ArrayVec::new();
         for node in nodes {
-            if let Some(other) = self.occupant(*node) {
-                if other != id {
-                    push_new_id(&mut ids, other);
-                }
-            }
+            push_other(&mut ids, id, self.occupant(*node));
         }
         ids
     }

@@ -3,7 +3,7 @@ ghost use Rattle.std.specs.List.{list_any};
 ghost use Rattle.tri_lattice.specs.Lattice.{node_eq};
 ghost use Rattle.amoebot_state.specs.Ports.{own_nodes};
 ghost use Rattle.amoebot_state.specs.Refusals.{IsPlain};
-ghost use Rattle.amoebot_state.specs.Storage.{with_new, with_port};
+ghost use Rattle.amoebot_state.specs.Storage.{with_new, with_other, with_port};
 ghost use Rattle.amoebot_state.specs.Zones.{zone_nodes};
 ghost use Rattle.arrayvec.specs.ArrayVec.{array_vec_len};
 
@@ -67,8 +67,20 @@ fn has_node(nodes: &[Node], node: Node) -> bool
     nodes.iter().any(|other| *other == node)
 }
 
-/// Adds an id that is not there yet.
-pub(crate) fn push_new_id(ids: &mut ArrayVec<u16, 14>, id: u16)
+/// Adds an occupant, where there is one that is another amoebot than `id` and not there yet.
+pub(crate) fn push_other(ids: &mut ArrayVec<u16, 14>, id: u16, occupant: Option<u16>)
+    requires { array_vec_len ids.old < 14 }
+    ensures value { ids.new.items ≡ with_other id ids.old.items occupant }
+    ensures few { array_vec_len ids.new ≤ array_vec_len ids.old + 1 }
+{
+    if let Some(other) = occupant {
+        if other != id {
+            push_new_id(ids, other);
+        }
+    }
+}
+
+fn push_new_id(ids: &mut ArrayVec<u16, 14>, id: u16)
     requires { array_vec_len ids.old < 14 }
     ensures value { ids.new.items ≡ with_new nat_eq ids.old.items id }
     ensures few { array_vec_len ids.new ≤ array_vec_len ids.old + 1 }
