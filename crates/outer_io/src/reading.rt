@@ -49,13 +49,17 @@ impl Document {
     }
 }
 
-/// How many bytes one read asks for at most.
+/// How many bytes one read asks for at most, so that a document of a mebibyte takes a few hundred reads.
 const PIECE: usize = 4096;
 
-/// Reads a source to its end.
+/// Reads a source to its end, and gives its bytes, which are at most `limit`.
 ///
-/// It asks for at most one byte more than `limit`, and so knows of a longer source without reading all of it.
-/// After a refusal the source stands behind the bytes that were got.
+/// It asks for at most one byte above the limit, so that it knows of a longer source without reading all of it. After
+/// a refusal the source stands behind the bytes that were got.
+///
+/// # Errors
+///
+/// `ReadFault` where a read failed, `TooLong` exactly where more than `limit` bytes were got, and `NoMemory`.
 pub fn read_document<S: Source>(
     alloc: Global,
     source: &mut S,

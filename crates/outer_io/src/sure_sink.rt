@@ -28,7 +28,7 @@ impl Model for SureSink {
 }
 
 impl SureSink {
-    /// A sink with room for so many bytes. It takes the memory for all of them now, and none later.
+    /// A sink with room for this many bytes. It takes the memory for all of them now, and none later.
     pub fn new(alloc: Global, room: u32) -> Result<SureSink, NoMemory>
         ensures { IfOk result (λ sink. sink ≡ nothing_kept room) }
     {

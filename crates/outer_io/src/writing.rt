@@ -25,9 +25,13 @@ pub trait Sink {
         ensures cause { OnErr result (Rose (faults self.old) (faults self.new)) };
 }
 
-/// Writes all the bytes, or up to the first write that fails.
+/// Writes all the bytes, or those up to the first write that fails.
 ///
 /// Each write is given all the bytes that are left. With no byte there is no write.
+///
+/// # Errors
+///
+/// `WriteFault` where a write failed. A front of the bytes was written then.
 pub fn write_all<K: Sink>(sink: &mut K, bytes: &[u8]) -> Result<(), WriteFault>
     ensures all { OnOk result (Grows (K.written sink.old) (K.written sink.new) bytes.now) }
     ensures nothing { bytes.now ≡ [] → sink.new ≡ sink.old }

@@ -1,11 +1,11 @@
 -- When nodes are equal, and what the six steps do.
-use Rattle.std.proofs.Common.{◌≡◌, ◌≢◌, ◌⊎◌, ℕ, zero, suc, ◌<◌, arith, refl, sym, ◌∙◌, ap, subst, inl, inr}
+use Rattle.std.proofs.Common.{◌≡◌, ◌≢◌, ◌⊎◌, zero, suc, arith, refl, sym, ◌∙◌, ap, subst, inl, inr}
 use Rattle.std.proofs.lemmas.Bool.{and_parts, and_from, both_ways, cases_Bool}
 use Rattle.std.proofs.lemmas.Bool.Decides.{Decides-int_eq}
 use Rattle.std.proofs.lemmas.Int.{ints}
 use Rattle.std.specs.Prelude.{IsTrue}
 use Rattle.tri_lattice.specs.declared.node.Node.{Node}
-use Rattle.tri_lattice.specs.Lattice.{step, turned, opposite, Adjacent, node_eq}
+use Rattle.tri_lattice.specs.Lattice.{step, opposite, node_eq}
 use Rattle.tri_lattice.specs.Laws.{OppositeLeadsBack, NextNeighboursMeet, StepsLeave, AdjacencyIsSymmetric, NodeTestIsEquality}
 
 -- nodes with equal coordinates are equal

@@ -1,15 +1,10 @@
 -- Paths joined end to end, and what keeps a set connected.
-use Rattle.std.proofs.Common.{◌≡◌, ◌≢◌, ◌⊎◌, ℕ, zero, suc, ◌<◌, Bool, true, false, arith, refl, sym, ◌∙◌, ap, subst, inl, inr}
-use Rattle.std.proofs.lemmas.Bool.{false≢true}
-use Rattle.std.proofs.lemmas.Bool.Decides.{Decides-int_eq}
-use Rattle.std.proofs.lemmas.Int.{ints}
+use Rattle.std.proofs.Common.{Bool, sym, ◌∙◌, ap, subst, inl, inr}
 use Rattle.std.specs.Prelude.{IsTrue}
 use Rattle.tri_lattice.specs.declared.node.Node.{Node}
-use Rattle.tri_lattice.specs.Lattice.{step}
-use Rattle.tri_lattice.specs.Sets.{Adjacent, Joined, here, along}
+use Rattle.tri_lattice.specs.Sets.{Joined, here, along}
 use Rattle.tri_lattice.specs.Laws.{SameKeeps, PuttingKeeps, FewAreConnected}
 use Rattle.tri_lattice.proofs.Nodes.{Adjacent-sym, cases_node}
-use Rattle.std.specs.Ordering.{int_eq}
 
 module _ (S : Node → Bool) where
   pub Joined-first : {a b : Node} → Joined S a b → IsTrue (S a)

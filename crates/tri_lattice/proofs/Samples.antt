@@ -1,9 +1,8 @@
 -- The definitions at small values, computed.
-use Rattle.std.proofs.Common.{◌≡◌, ℤ, pos, negsuc, List, [], ◌∷◌, true, false, refl, map}
-use Rattle.std.specs.declared.option.Option.{Option}
-use Rattle.std.specs.declared.option.Option.TheVariants.{Some, None}
+use Rattle.std.proofs.Common.{◌≡◌, ℤ, pos, negsuc, [], ◌∷◌, true, false, refl, map}
+use Rattle.std.specs.declared.option.Option.TheVariants.{Some}
 use Rattle.tri_lattice.specs.declared.node.Node.{Node}
-use Rattle.tri_lattice.specs.Lattice.{ring, turned, opposite, is_adjacent, node_eq, distance}
+use Rattle.tri_lattice.specs.Lattice.{ring, turned, opposite, is_adjacent, distance}
 use Rattle.tri_lattice.specs.Extent.{Extent, index_of, is_in, node_at}
 
 abbrev at : ℤ → ℤ → Node

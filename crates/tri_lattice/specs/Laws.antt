@@ -1,10 +1,9 @@
 -- What follows from the definitions alone.
-use Rattle.std.specs.Prelude.{◌≡◌, ◌≢◌, ◌↔◌, ℕ, ◌+◌, ◌*◌, ◌<◌, ℤ, pos, ◌+ℤ◌, ◌-ℤ◌, ◌*ℤ◌, ◌≤ℤ◌, ◌<ℤ◌, Bool, IsTrue}
-use Rattle.std.specs.declared.option.Option.{Option}
+use Rattle.std.specs.Prelude.{◌≡◌, ◌≢◌, ◌↔◌, ℕ, ◌*◌, ◌<◌, pos, ◌+ℤ◌, ◌-ℤ◌, ◌*ℤ◌, ◌≤ℤ◌, ◌<ℤ◌, Bool, IsTrue}
 use Rattle.std.specs.declared.option.Option.TheVariants.{Some}
 use Rattle.tri_lattice.specs.declared.node.Node.{Node}
 use Rattle.tri_lattice.specs.Lattice.{step, turned, opposite, Adjacent, node_eq, is_adjacent, distance}
-use Rattle.tri_lattice.specs.Extent.{Extent, IsArea, index_of, is_in, node_at}
+use Rattle.tri_lattice.specs.Extent.{Extent, index_of, is_in, node_at}
 use Rattle.tri_lattice.specs.Sets.{IsConnected, SameNodes, PutsIn, IsAtMostOne}
 
 -- a step and one in the opposite direction lead back

@@ -1,5 +1,5 @@
 -- Sets of nodes, given by a test of each node; paths in them, and the connected ones.
-use Rattle.std.specs.Prelude.{◌≡◌, ◌≢◌, ℕ, Bool, true, false, IsTrue}
+use Rattle.std.specs.Prelude.{◌≡◌, ◌≢◌, Bool, true, false, IsTrue}
 use Rattle.tri_lattice.specs.declared.node.Node.{Node}
 pub use Rattle.tri_lattice.specs.Lattice.{Adjacent}
 

@@ -1,0 +1,172 @@
+-- Tests that go through directions and rings, and what they answer.
+use Rattle.std.proofs.Common.{◌≡◌, ℕ, zero, suc, ◌+◌, ◌%◌, ◌<◌, ◌⊎◌, ◌↔◌, ◌∙◌, Bool, true, false, ◌&&◌, ◌||◌, not, cond, ltb, eqb, length, arith, refl, sym, ap, subst, inl, inr, List, [], ◌∷◌}
+use Rattle.std.proofs.lemmas.Bool.{and_parts, and_from, or_cases, or_left, or_right, false≢true, cases_eq, not-true, not_from_false, eqb-true, eq-eqb, agree_below, agree_below_at}
+use Rattle.std.proofs.Math.Bool.{beq}
+use Rattle.std.specs.List.{list_any}
+use Rattle.std.specs.Prelude.{IsTrue, ◌==◌}
+use Rattle.ring_guard.specs.Rings.{entry, IsEnd, IsOneArc}
+use Rattle.ring_guard.specs.Laws.{ring_of, arcs, ArcTable}
+
+-- a test holds of every number below n
+abbrev pub each_below : ℕ → (ℕ → Bool) → Bool
+each_below zero f = true
+each_below (suc n) f = each_below n f && f n
+
+pub each_below_at : (n : ℕ) (f : ℕ → Bool) → each_below n f ≡ true → (i : ℕ) → i < n → f i ≡ true
+each_below_at zero f e i l = absurd (omega arith)
+each_below_at (suc n) f e i l = elim (cases_eq i n) [
+  | inl s ↦ subst (λ (k : ℕ). f k ≡ true) (sym s) (and_parts _ _ e).1
+  | inr s ↦ each_below_at n f (and_parts _ _ e).0 i (omega arith)
+]
+
+pub each_below_from : (n : ℕ) (f : ℕ → Bool) → ((i : ℕ) → i < n → f i ≡ true) → each_below n f ≡ true
+each_below_from zero f h = refl
+each_below_from (suc n) f h = and_from _ _ (each_below_from n f (λ i l. h i (omega arith))) (h n (omega arith))
+
+-- it holds of some number below n
+abbrev pub some_below : ℕ → (ℕ → Bool) → Bool
+some_below zero f = false
+some_below (suc n) f = some_below n f || f n
+
+pub some_below_at : (n : ℕ) (f : ℕ → Bool) → some_below n f ≡ true → (i : ℕ) × (i < n) × (f i ≡ true)
+some_below_at zero f e = absurd (false≢true e)
+some_below_at (suc n) f e = elim (or_cases _ _ e) [
+  | inl s ↦ (let (i, l, t) = some_below_at n f s in (i, omega arith, t))
+  | inr t ↦ (n, omega arith, t)
+]
+
+pub some_below_from : (n : ℕ) (f : ℕ → Bool) (i : ℕ) → i < n → f i ≡ true → some_below n f ≡ true
+some_below_from zero f i l t = absurd (omega arith)
+some_below_from (suc n) f i l t = elim (cases_eq i n) [
+  | inl s ↦ or_right _ _ (subst (λ (k : ℕ). f k ≡ true) s t)
+  | inr s ↦ or_left _ _ (some_below_from n f i (omega arith) t)
+]
+
+-- it holds of every list of n entries
+abbrev pub each_list : ℕ → (List Bool → Bool) → Bool
+each_list zero f = f []
+each_list (suc n) f = each_list n (λ xs. f (true ∷ xs)) && each_list n (λ xs. f (false ∷ xs))
+
+pub each_list_at : (n : ℕ) (f : List Bool → Bool) → each_list n f ≡ true → (xs : List Bool) → length xs ≡ n → f xs ≡ true
+each_list_at zero f e [] l = e
+each_list_at zero f e (x ∷ xs) l = absurd (omega arith)
+each_list_at (suc n) f e [] l = absurd (omega arith)
+each_list_at (suc n) f e (true ∷ xs) l = each_list_at n _ (and_parts _ _ e).0 xs (omega arith)
+each_list_at (suc n) f e (false ∷ xs) l = each_list_at n _ (and_parts _ _ e).1 xs (omega arith)
+
+-- where the first test holds, so does the second
+abbrev pub implies : Bool → Bool → Bool
+implies p q = not p || q
+
+pub implies_at : (p q : Bool) → implies p q ≡ true → p ≡ true → q ≡ true
+implies_at true q e t = e
+implies_at false q e t = absurd (false≢true t)
+
+pub implies_from : (p q : Bool) → (p ≡ true → q ≡ true) → implies p q ≡ true
+implies_from true q h = h refl
+implies_from false q h = refl
+
+pub beq-true : (p q : Bool) → beq p q ≡ true → p ≡ q
+beq-true true true e = refl
+beq-true true false e = absurd (false≢true e)
+beq-true false true e = absurd (false≢true e)
+beq-true false false e = refl
+
+-- `IsEnd` as a test
+abbrev pub is_end : List Bool → ℕ → Bool
+is_end xs i = entry xs i && not (entry xs ((i + 1) % 6))
+
+pub is_end-true : (xs : List Bool) (i : ℕ) → is_end xs i ≡ true → IsEnd xs i
+is_end-true xs i e = let q = and_parts _ _ e in (q.0, not-true _ q.1)
+
+pub IsEnd-is_end : (xs : List Bool) (i : ℕ) → IsEnd xs i → is_end xs i ≡ true
+IsEnd-is_end xs i (t, f) = and_from _ _ t (not_from_false _ f)
+
+-- where arcs end in both directions, they are one
+abbrev one_end : List Bool → ℕ → ℕ → Bool
+one_end xs i j = implies (is_end xs i && is_end xs j) (eqb i j)
+
+-- `IsOneArc` as a test
+abbrev pub is_one_arc : List Bool → Bool
+is_one_arc xs = some_below 6 (entry xs) && each_below 6 (λ i. each_below 6 (one_end xs i))
+
+pub is_one_arc-true : (xs : List Bool) → is_one_arc xs ≡ true → IsOneArc xs
+is_one_arc-true xs e =
+    let q = and_parts _ _ e in
+    record {
+      some = some_below_at 6 (entry xs) q.0;
+      once = λ i j li lj ei ej.
+          let same = each_below_at 6 (one_end xs i) (each_below_at 6 (λ k. each_below 6 (one_end xs k)) q.1 i li) j lj in
+          eqb-true i j (implies_at _ _ same (and_from _ _ (IsEnd-is_end xs i ei) (IsEnd-is_end xs j ej)));
+    }
+
+pub IsOneArc-is_one_arc : (xs : List Bool) → IsOneArc xs → is_one_arc xs ≡ true
+IsOneArc-is_one_arc xs arc =
+    let same : (i : ℕ) → i < 6 → (j : ℕ) → j < 6 → one_end xs i j ≡ true = λ i li j lj. implies_from _ _ (λ both.
+    let q = and_parts _ _ both in
+    eq-eqb i j (arc.once i j li lj (is_end-true xs i q.0) (is_end-true xs j q.1))) in
+    let (i, l, t) = arc.some in
+    and_from _ _ (some_below_from 6 (entry xs) i l t) (each_below_from 6 (λ k. each_below 6 (one_end xs k)) (λ k lk. each_below_from 6 (one_end xs k) (same k lk)))
+
+-- how many arcs end in directions below n
+abbrev pub ends_below : List Bool → ℕ → ℕ
+ends_below xs zero = 0
+ends_below xs (suc n) = ends_below xs n + cond (is_end xs n) 1 0
+
+-- the six entries, as a list of their own
+abbrev pub six : List Bool → List Bool
+six xs = entry xs 0 ∷ entry xs 1 ∷ entry xs 2 ∷ entry xs 3 ∷ entry xs 4 ∷ entry xs 5 ∷ []
+
+-- a test that computes true on each of the 64 rings
+pub ring_table : (f : List Bool → Bool) → each_list 6 f ≡ true → (xs : List Bool) → f (six xs) ≡ true
+ring_table f e xs = each_list_at 6 f e (six xs) refl
+
+-- one arc, by the number of ends
+abbrev has_few_ends : List Bool → Bool
+has_few_ends xs = some_below 6 (entry xs) && ltb (ends_below xs 6) 2
+
+count_decides : each_list 6 (λ xs. beq (has_few_ends xs) (is_one_arc xs)) ≡ true
+count_decides = refl
+
+IsOneArc-count : (xs : List Bool) → IsTrue (has_few_ends xs) ↔ IsOneArc xs
+IsOneArc-count xs =
+    let same : has_few_ends xs ≡ is_one_arc xs = beq-true _ _ (ring_table (λ ys. beq (has_few_ends ys) (is_one_arc ys)) count_decides xs) in
+    (λ t. is_one_arc-true xs (sym same ∙ t), λ arc. same ∙ IsOneArc-is_one_arc xs arc)
+
+-- the answer of a loop that has passed all directions and found a true entry
+pub IsOneArc-found : (xs : List Bool) (some : Bool) (ends i : ℕ) → some ≡ true → i ≡ 6 → some ≡ some_below i (entry xs) → ends ≡ ends_below xs i
+    → IsTrue (ltb ends 2) ↔ IsOneArc xs
+IsOneArc-found xs some ends i t all found counted =
+    let some_is : some_below 6 (entry xs) ≡ true = ap (λ n. some_below n (entry xs)) (sym all) ∙ sym found ∙ t in
+    let ends_are : ends_below xs 6 ≡ ends = ap (ends_below xs) (sym all) ∙ sym counted in
+    let same : has_few_ends xs ≡ ltb ends 2 = ap (λ b. b && ltb (ends_below xs 6) 2) some_is ∙ ap (λ n. ltb n 2) ends_are in
+    let decides = IsOneArc-count xs in
+    (λ few. decides.0 (same ∙ few), λ arc. sym same ∙ decides.1 arc)
+
+-- entry j is reached from entry i over true entries, in at most n steps round
+abbrev pub reaches : List Bool → ℕ → ℕ → ℕ → Bool
+reaches xs zero i j = eqb i j
+reaches xs (suc n) i j = eqb i j || (entry xs ((i + 1) % 6) && reaches xs n ((i + 1) % 6) j)
+
+-- in one arc, two true entries reach each other one way round or the other
+abbrev links : List Bool → ℕ → ℕ → Bool
+links xs i j = implies (is_one_arc xs && (entry xs i && entry xs j)) (reaches xs 5 i j || reaches xs 5 j i)
+
+arcs_link : each_list 6 (λ xs. each_below 6 (λ i. each_below 6 (links xs i))) ≡ true
+arcs_link = refl
+
+pub linked : (xs : List Bool) → IsOneArc xs → (i j : ℕ) → i < 6 → j < 6 → IsTrue (entry xs i) → IsTrue (entry xs j)
+    → IsTrue (reaches xs 5 i j) ⊎ IsTrue (reaches xs 5 j i)
+linked xs arc i j li lj ti tj =
+    let row = ring_table (λ ys. each_below 6 (λ a. each_below 6 (links ys a))) arcs_link xs in
+    let at : links xs i j ≡ true = each_below_at 6 (links xs i) (each_below_at 6 (λ a. each_below 6 (links xs a)) row i li) j lj in
+    or_cases _ _ (implies_at _ _ at (and_from _ _ (IsOneArc-is_one_arc xs arc) (and_from _ _ ti tj)))
+
+-- the table of the 64 rings, computed
+table_computed : agree_below (λ n. is_one_arc (ring_of n)) (λ n. list_any (λ k. k == n) arcs) 64 ≡ true
+table_computed = refl
+
+pub arc_table : ArcTable
+arc_table n l =
+    let same = agree_below_at (λ m. is_one_arc (ring_of m)) (λ m. list_any (λ k. k == m) arcs) 64 n table_computed l in
+    (λ arc. sym same ∙ IsOneArc-is_one_arc (ring_of n) arc, λ t. is_one_arc-true (ring_of n) (same ∙ t))

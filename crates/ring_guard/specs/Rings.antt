@@ -1,0 +1,38 @@
+-- Rings of six entries, and the arcs of the true ones.
+use Rattle.std.specs.Prelude.{◌≡◌, ℕ, ◌+◌, ◌-◌, ◌%◌, ◌<◌, ◌≤◌, Bool, false, IsTrue, List, [], ◌∷◌, map, slice_index_or, nat_lt}
+use Rattle.tri_lattice.specs.declared.node.Node.{Node}
+use Rattle.tri_lattice.specs.Lattice.{ring}
+
+-- the entry in a direction, false outside
+abbrev pub entry : List Bool → ℕ → Bool
+entry xs i = slice_index_or xs i false
+
+-- an arc ends in direction i: its entry is true and the next one round is false
+abbrev pub IsEnd : List Bool → ℕ → Type 0
+IsEnd xs i = IsTrue (entry xs i) × (entry xs ((i + 1) % 6) ≡ false)
+
+-- at least one entry is true, and an arc ends in at most one direction (this project's profile)
+pub record IsOneArc (xs : List Bool) : Type 0 where
+  pub some : (i : ℕ) × (i < 6) × IsTrue (entry xs i)
+  pub once : (i j : ℕ) → i < 6 → j < 6 → IsEnd xs i → IsEnd xs j → i ≡ j
+
+-- the ring whose true entries are those of n directions in a row, from one on round
+abbrev pub run : ℕ → ℕ → List Bool
+run from n = map (λ i. nat_lt ((i + 6 - from) % 6) n) (0 ∷ 1 ∷ 2 ∷ 3 ∷ 4 ∷ 5 ∷ [])
+
+-- the true entries stand in a row round the ring, and there is one
+pub record IsRun (xs : List Bool) : Type 0 where
+  pub from : ℕ
+  pub count : ℕ
+  pub below : from < 6
+  pub some : 1 ≤ count
+  pub most : count ≤ 6
+  pub is : xs ≡ run from count
+
+-- which of the six neighbours of a node are in a set
+abbrev pub ring_in : (Node → Bool) → Node → List Bool
+ring_in S v = map S (ring v)
+
+-- no neighbour of the node is in the set
+abbrev pub HasEmptyRing : (Node → Bool) → Node → Type 0
+HasEmptyRing S v = (i : ℕ) → i < 6 → entry (ring_in S v) i ≡ false
