@@ -137,13 +137,7 @@ fn body_at<'a>(name: &CellName, cell: &'a Cell, id: u16) -> Option<&'a Bot>
 {
     match name {
         CellName::Body(other) => match cell {
-            Cell::Body(bot) => {
-                if *other == id {
-                    Some(bot)
-                } else {
-                    None
-                }
-            }
+            Cell::Body(bot) => { if *other == id { Some(bot) } else { None } }
             Cell::Spot(_) => None,
         },
         CellName::Spot(_) => None,
