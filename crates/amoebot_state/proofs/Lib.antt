@@ -7,3 +7,7 @@ pub mod Zones
 pub mod Members
 pub mod Directions
 pub mod Gaps
+pub mod Once
+pub mod Behind
+pub mod Shifts
+pub mod Counts
