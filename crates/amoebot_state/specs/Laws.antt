@@ -36,10 +36,12 @@ TenPortsLeadToEightNodes = (b : Bot) → b.rot < 6 → Adjacent b.head b.tail �
 abbrev pub ZoneListsEachCellOnce : Type 0
 ZoneListsEachCellOnce = (c : Config) (i : ℕ) → AllPairs (λ x y. x ≢ y) (zone c i)
 
+-- the cell is a node
 abbrev pub is_spot : CellName → Bool
 is_spot (name.Spot v) = true
 is_spot (name.Body i) = false
 
+-- the cell is a body
 abbrev pub is_body : CellName → Bool
 is_body (name.Spot v) = false
 is_body (name.Body i) = true
