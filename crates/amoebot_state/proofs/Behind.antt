@@ -1,9 +1,7 @@
 -- What lies behind ports is in the zone and is shown.
-use Rattle.std.proofs.Common.{◌≡◌, ◌<◌, ℕ, List, ◌++◌, map, Bool, true, false, ◌&&◌, ap, sym, ◌∙◌, refl, subst, arith, Option, Some, None, filter, ltb}
-use Rattle.std.specs.Prelude.{IsTrue, IsSome, if◌then◌else◌, not}
-use Rattle.std.specs.List.{Contains}
+use Rattle.std.proofs.Common.{◌≡◌, ◌<◌, ℕ, ◌++◌, map, true, refl, subst, arith, Option, Some, None, filter}
+use Rattle.std.specs.Prelude.{IsSome}
 use Rattle.std.proofs.lemmas.Bool.{and_parts, ltb-true, false≢true}
-use Rattle.tri_lattice.specs.declared.node.Node.{Node}
 use Rattle.tri_lattice.specs.Lattice.{node_eq}
 use Rattle.tri_lattice.specs.Extent.{Extent, is_in}
 use Rattle.tri_lattice.proofs.Nodes.{node_eq-true}
@@ -11,10 +9,9 @@ use Rattle.amoebot_state.specs.declared.bot.Bot.{Bot}
 use Rattle.amoebot_state.specs.declared.bot.Chir.{Chir}
 use Rattle.amoebot_state.specs.declared.bot.Chir.TheVariants as chir
 use Rattle.amoebot_state.specs.declared.bot.Port.{Port}
-use Rattle.amoebot_state.specs.declared.cell.CellName.TheVariants as name
-use Rattle.amoebot_state.specs.Ports.{global, local, turned_by, local_by, is_contracted, is_head, is_own, is_port, all_ports, ports, behind, own_nodes}
-use Rattle.amoebot_state.specs.Configs.{Config, IsValid, bot_at, occupant}
-use Rattle.amoebot_state.specs.Zones.{Shown, IsShown, distinct, zone, zone_nodes, shown, gap}
+use Rattle.amoebot_state.specs.Ports.{turned_by, is_port, all_ports, ports, behind, own_nodes}
+use Rattle.amoebot_state.specs.Configs.{bot_at}
+use Rattle.amoebot_state.specs.Zones.{Shown, zone, zone_nodes, shown, gap}
 use Rattle.amoebot_state.specs.Laws.{GlobalAndLocalAreInverse, NodeBehindPortIsInZone, OccupantBehindPortIsInZone, GapShowsWhatWasShown}
 use Rattle.amoebot_state.proofs.Members.{Has, Has-filter, Has-map, Has-distinct, Has-append_right, Contains-from_Has}
 use Rattle.amoebot_state.proofs.Directions.{listed, global_local, local_global}

@@ -1,19 +1,17 @@
 -- Lists that have no element twice.
 use Rattle.std.proofs.Common.{◌≡◌, ◌≢◌, ℕ, List, [], ◌∷◌, ◌++◌, map, Bool, true, false, not, ap, sym, ◌∙◌, refl, subst, inl, inr, arith, Option, Some, None, filter, nat_eq}
-use Rattle.std.specs.List.{AllPairs, filter_map}
-use Rattle.std.proofs.lemmas.Bool.{both_ways, eqb-true, eq-eqb}
+use Rattle.std.specs.List.{AllPairs}
+use Rattle.std.proofs.lemmas.Bool.{both_ways, eq-eqb}
 use Rattle.std.proofs.lemmas.List.Kept.{AllPairs-cons}
 use Rattle.tri_lattice.specs.declared.node.Node.{Node}
 use Rattle.tri_lattice.specs.Lattice.{node_eq}
 use Rattle.tri_lattice.proofs.Nodes.{node_eq_same}
 use Rattle.amoebot_state.specs.declared.bot.Bot.{Bot}
-use Rattle.amoebot_state.specs.declared.cell.CellName.{CellName}
 use Rattle.amoebot_state.specs.declared.cell.CellName.TheVariants as name
-use Rattle.amoebot_state.specs.Ports.{own_nodes, ports, behind}
-use Rattle.amoebot_state.specs.Configs.{Config, bot_at, occupant}
+use Rattle.amoebot_state.specs.Configs.{Config, bot_at}
 use Rattle.amoebot_state.specs.Zones.{distinct, zone_nodes, others, zone_of, zone_at}
 use Rattle.amoebot_state.specs.Laws.{ZoneListsEachCellOnce}
-use Rattle.amoebot_state.proofs.Members.{Has, here, later, not_in_none, has_cases, map_has, filter_has, Has-append_cases, All-from_Has}
+use Rattle.amoebot_state.proofs.Members.{Has, here, later, map_has, filter_has, Has-append_cases, All-from_Has}
 use Rattle.amoebot_state.proofs.Zones.{others_occupy}
 
 -- no element is an element of what follows it

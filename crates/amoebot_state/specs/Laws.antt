@@ -8,7 +8,7 @@ use Rattle.amoebot_state.specs.declared.bot.Bot.{Bot}
 use Rattle.amoebot_state.specs.declared.bot.Port.{Port}
 use Rattle.amoebot_state.specs.declared.cell.CellName.{CellName}
 use Rattle.amoebot_state.specs.declared.cell.CellName.TheVariants as name
-use Rattle.amoebot_state.specs.Ports.{global, local, is_contracted, is_port, ports, behind}
+use Rattle.amoebot_state.specs.Ports.{global, local, is_port, ports, behind}
 use Rattle.amoebot_state.specs.Configs.{Config, IsValid, bot_at, occupant}
 use Rattle.amoebot_state.specs.Zones.{Shown, IsShown, distinct, zone, shown, gap}
 
