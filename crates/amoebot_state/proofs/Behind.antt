@@ -1,4 +1,4 @@
--- What lies behind ports is in the zone and is shown.
+-- Local and global directions, what lies behind ports, and what the gap configuration shows.
 use Rattle.std.proofs.Common.{◌≡◌, ◌<◌, ℕ, ◌++◌, map, true, refl, subst, arith, Option, Some, None, filter}
 use Rattle.std.specs.Prelude.{IsSome}
 use Rattle.std.proofs.lemmas.Bool.{and_parts, ltb-true, false≢true}

@@ -44,6 +44,7 @@ eight_reached : (h : Chir) (r k : ℕ) → r < 6 → k < 6 → length (reached (
 eight_reached chir.Plus r k lr lk = eqb-true _ _ (all_pairs (λ r k. nat_eq (length (reached (placed chir.Plus r (step origin k)))) 8) refl r k lr lk)
 eight_reached chir.Minus r k lr lk = eqb-true _ _ (all_pairs (λ r k. nat_eq (length (reached (placed chir.Minus r (step origin k)))) 8) refl r k lr lk)
 
+-- the tail of any amoebot is where that of one at the origin is, shifted with its head
 tail_at_head : (b : Bot) → b.head ≡ b.tail → b.tail ≡ shift b.head origin
 tail_at_head b e = sym e ∙ at_origin b.head
 
@@ -62,6 +63,7 @@ six_ports_lead_to_six_nodes b rot e = behind_ports_shift b origin (tail_at_head 
 pub ten_ports_lead_to_eight_nodes : TenPortsLeadToEightNodes
 ten_ports_lead_to_eight_nodes b rot (k, lt, e) = behind_ports_shift b (step origin k) (tail_beside b k e) ∙ eight_reached b.chir b.rot k rot lt
 
+-- two filters may be exchanged
 filter_filter : {A : Type 0} (p q : A → Bool) (xs : List A) → filter p (filter q xs) ≡ filter q (filter p xs)
 filter_filter p q [] = refl
 filter_filter p q (x ∷ xs) = elim (cases_Bool (p x)) [
@@ -75,6 +77,7 @@ filter_filter p q (x ∷ xs) = elim (cases_Bool (p x)) [
   ]
 ]
 
+-- a filter is needless before one that lets fewer through
 filter_needless : {A : Type 0} (p q : A → Bool) → ((y : A) → p y ≡ true → q y ≡ true) → (xs : List A) → filter p (filter q xs) ≡ filter p xs
 filter_needless p q within [] = refl
 filter_needless p q within (x ∷ xs) = elim (cases_Bool (q x)) [
@@ -121,19 +124,19 @@ own_then_few a b =
     (rest, whole, omega (arith, few, same, length-filter-le (is_in a) (distinct node_eq nodes)))
 
 -- they are at most eight
-length-reached-le : (b : Bot) → b.rot < 6 → IsTrue (is_joined b.head b.tail) → length (reached b) ≤ 8
-length-reached-le b rot joined = elim (or_cases _ _ joined) [
+at_most_eight_reached : (b : Bot) → b.rot < 6 → IsTrue (is_joined b.head b.tail) → length (reached b) ≤ 8
+at_most_eight_reached b rot joined = elim (or_cases _ _ joined) [
   | inl t ↦ let six = six_ports_lead_to_six_nodes b rot (node_eq-true b.head b.tail t) in omega (arith, six)
   | inr t ↦ let eight = ten_ports_lead_to_eight_nodes b rot (is_adjacent-true b.head b.tail t) in omega (arith, eight)
 ]
 
-length-own_nodes-le : (b : Bot) → length (own_nodes b) ≤ 2
-length-own_nodes-le b = elim (cases_Bool (is_contracted b)) [ inl t ↦ rw t (omega arith) | inr f ↦ rw f (omega arith) ]
+at_most_two_own : (b : Bot) → length (own_nodes b) ≤ 2
+at_most_two_own b = elim (cases_Bool (is_contracted b)) [ inl t ↦ rw t (omega arith) | inr f ↦ rw f (omega arith) ]
 
-length-zone_nodes-le : (a : Extent) (b : Bot) → b.rot < 6 → IsTrue (is_joined b.head b.tail) → length (zone_nodes a b) ≤ 10
-length-zone_nodes-le a b rot joined =
+at_most_ten_nodes : (a : Extent) (b : Bot) → b.rot < 6 → IsTrue (is_joined b.head b.tail) → length (zone_nodes a b) ≤ 10
+at_most_ten_nodes a b rot joined =
     let (rest, whole, few) = own_then_few a b in
-    omega (arith, ap length whole, length-append (own_nodes b) rest, length-own_nodes-le b, few, length-reached-le b rot joined)
+    omega (arith, ap length whole, length-append (own_nodes b) rest, at_most_two_own b, few, at_most_eight_reached b rot joined)
 
 -- a node that the amoebot itself occupies has none of the others
 others_past_own : (c : Config) (i : ℕ) (v : Node) (vs : List Node) → occupant c v ≡ Some i → others c i (v ∷ vs) ≡ others c i vs
@@ -141,6 +144,7 @@ others_past_own c i v vs e =
     ap (λ o. distinct nat_eq (filter (λ j. not (nat_eq j i)) (cons_option o (filter_map (occupant c) vs)))) e
     ∙ ap (λ t. distinct nat_eq (if not t then i ∷ filter (λ j. not (nat_eq j i)) (filter_map (occupant c) vs) else filter (λ j. not (nat_eq j i)) (filter_map (occupant c) vs))) (eq-eqb i i refl)
 
+-- so the others are those on the nodes beyond its own
 others_beyond : (c : Config) (i : ℕ) (b : Bot) (rest : List Node) → IsValid c → bot_at c i ≡ Some b → others c i (own_nodes b ++ rest) ≡ others c i rest
 others_beyond c i b rest valid at =
     let head : occupant c b.head ≡ Some i = occupant_at c valid i b.head (ap (λ o. covers o b.head) at ∙ own_head b b.head refl) in
@@ -150,12 +154,13 @@ others_beyond c i b rest valid at =
       | inr f ↦ rw f (others_past_own c i b.head (b.tail ∷ rest) head ∙ others_past_own c i b.tail rest tail)
     ]
 
-length-zone_others-le : (c : Config) (i : ℕ) (b : Bot) → IsValid c → bot_at c i ≡ Some b → length (others c i (zone_nodes c.area b)) ≤ 8
-length-zone_others-le c i b valid at =
+-- each of them is on a node that a port leads to
+at_most_eight_others : (c : Config) (i : ℕ) (b : Bot) → IsValid c → bot_at c i ≡ Some b → length (others c i (zone_nodes c.area b)) ≤ 8
+at_most_eight_others c i b valid at =
     let fits = valid.each i b at in
     let (rest, whole, few) = own_then_few c.area b in
     let same : others c i (zone_nodes c.area b) ≡ others c i rest = ap (others c i) whole ∙ others_beyond c i b rest valid at in
-    omega (arith, ap length same, length-others-le c i rest, few, length-reached-le b fits.rot fits.joined)
+    omega (arith, ap length same, length-others-le c i rest, few, at_most_eight_reached b fits.rot fits.joined)
 
 -- how many cells of either kind a zone has
 all_pass : {A B : Type 0} (p : B → Bool) (f : A → B) → ((x : A) → p (f x) ≡ true) → (xs : List A) → length (filter p (map f xs)) ≡ length xs
@@ -189,11 +194,11 @@ zone_has_at_most_ten_nodes c i valid = elim (bot_at c i) as (λ o. bot_at c i �
   | None ↦ λ _. omega arith
   | Some b ↦ λ at.
       let fits = valid.each i b at in
-      omega (arith, spots_of c i (zone_nodes c.area b), length-zone_nodes-le c.area b fits.rot fits.joined)
+      omega (arith, spots_of c i (zone_nodes c.area b), at_most_ten_nodes c.area b fits.rot fits.joined)
 ] refl
 
 pub zone_has_at_most_nine_bodies : ZoneHasAtMostNineBodies
 zone_has_at_most_nine_bodies c i valid = elim (bot_at c i) as (λ o. bot_at c i ≡ o → count_by is_body (zone_at c i o) ≤ 9) [
   | None ↦ λ _. omega arith
-  | Some b ↦ λ at. omega (arith, bodies_of c i (zone_nodes c.area b), length-zone_others-le c i b valid at)
+  | Some b ↦ λ at. omega (arith, bodies_of c i (zone_nodes c.area b), at_most_eight_others c i b valid at)
 ] refl

@@ -37,8 +37,8 @@ Once-map {A} f injective (more {x = x} {xs = xs} new rest) = more (λ has. let f
 Once-append : {A : Type 0} {xs ys : List A} → Once xs → Once ys → ((x : A) → Has x xs → Has x ys → ⊥) → Once (xs ++ ys)
 Once-append none ys apart = ys
 Once-append {A} {xs} {ys} (more {x = x} {xs = rest} new once) other apart = more
-  (λ has. elim (Has-append_cases rest has) [ inl h ↦ new h | inr h ↦ apart x here h ])
-  (Once-append once other (λ y h. apart y (later h)))
+    (λ has. elim (Has-append_cases rest has) [ inl h ↦ new h | inr h ↦ apart x here h ])
+    (Once-append once other (λ y h. apart y (later h)))
 
 -- the distinct elements of a list are each there once
 Once-distinct : {A : Type 0} (eq : A → A → Bool) → ((x : A) → eq x x ≡ true) → (xs : List A) → Once (distinct eq xs)
@@ -56,14 +56,14 @@ spot_is_no_body v i e = cc
 
 zone_of_once : (c : Config) (i : ℕ) (vs : List Node) → Once vs → Once (zone_of c i vs)
 zone_of_once c i vs once = more
-  (λ has. elim (Has-append_cases (map name.Spot vs) has) [
-    | inl h ↦ let found = map_has name.Spot vs h in spot_is_no_body found.0 i (sym found.2)
-    | inr h ↦
-        let found = map_has name.Body (others c i vs) h in
-        let by = others_occupy c i vs found.0 found.1 in
-        by.3 (sym (same_body i found.0 found.2))
-  ])
-  (Once-append (Once-map name.Spot same_spot once) (Once-map name.Body same_body (Once-distinct nat_eq (λ j. eq-eqb j j refl) _)) (λ n spot body.
+    (λ has. elim (Has-append_cases (map name.Spot vs) has) [
+      | inl h ↦ let found = map_has name.Spot vs h in spot_is_no_body found.0 i (sym found.2)
+      | inr h ↦
+          let found = map_has name.Body (others c i vs) h in
+          let by = others_occupy c i vs found.0 found.1 in
+          by.3 (sym (same_body i found.0 found.2))
+    ])
+    (Once-append (Once-map name.Spot same_spot once) (Once-map name.Body same_body (Once-distinct nat_eq (λ j. eq-eqb j j refl) _)) (λ n spot body.
     let v = map_has name.Spot vs spot in
     let j = map_has name.Body (others c i vs) body in
     spot_is_no_body v.0 j.0 (sym v.2 ∙ j.2)))
