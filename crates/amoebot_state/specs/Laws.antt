@@ -1,1 +1,67 @@
--- Laws over the definitions.
+-- What follows from the definitions alone.
+use Rattle.std.specs.Prelude.{◌≡◌, ◌≢◌, ◌<◌, ◌≤◌, ℕ, Bool, true, false, map, length, IsTrue}
+use Rattle.std.specs.List.{AllPairs, Contains, count_by}
+use Rattle.std.specs.declared.option.Option.TheVariants.{Some}
+use Rattle.tri_lattice.specs.Lattice.{node_eq, Adjacent}
+use Rattle.tri_lattice.specs.Extent.{is_in}
+use Rattle.amoebot_state.specs.declared.bot.Bot.{Bot}
+use Rattle.amoebot_state.specs.declared.bot.Port.{Port}
+use Rattle.amoebot_state.specs.declared.cell.CellName.{CellName}
+use Rattle.amoebot_state.specs.declared.cell.CellName.TheVariants as name
+use Rattle.amoebot_state.specs.Ports.{global, local, is_port, ports, behind}
+use Rattle.amoebot_state.specs.Configs.{Config, IsValid, bot_at, occupant}
+use Rattle.amoebot_state.specs.Zones.{Shown, IsShown, distinct, zone, shown, gap}
+
+-- local and global directions are both 0 to 5, and the one is the inverse of the other, with either chirality
+abbrev pub GlobalAndLocalAreInverse : Type 0
+GlobalAndLocalAreInverse = (b : Bot) (d : ℕ) → b.rot < 6 → d < 6 → (global b d < 6) × (local b d < 6) × (local b (global b d) ≡ d) × (global b (local b d) ≡ d)
+
+-- a contracted amoebot has six ports
+abbrev pub ContractedHasSixPorts : Type 0
+ContractedHasSixPorts = (b : Bot) → b.head ≡ b.tail → length (ports b) ≡ 6
+
+-- an expanded amoebot has ten
+abbrev pub ExpandedHasTenPorts : Type 0
+ExpandedHasTenPorts = (b : Bot) → b.rot < 6 → Adjacent b.head b.tail → length (ports b) ≡ 10
+
+-- the six ports of a contracted amoebot lead to six nodes
+abbrev pub SixPortsLeadToSixNodes : Type 0
+SixPortsLeadToSixNodes = (b : Bot) → b.rot < 6 → b.head ≡ b.tail → length (distinct node_eq (map (behind b) (ports b))) ≡ 6
+
+-- the ten ports of an expanded amoebot lead to eight
+abbrev pub TenPortsLeadToEightNodes : Type 0
+TenPortsLeadToEightNodes = (b : Bot) → b.rot < 6 → Adjacent b.head b.tail → length (distinct node_eq (map (behind b) (ports b))) ≡ 8
+
+-- no cell stands twice in a zone
+abbrev pub ZoneListsEachCellOnce : Type 0
+ZoneListsEachCellOnce = (c : Config) (i : ℕ) → AllPairs (λ x y. x ≢ y) (zone c i)
+
+-- the cell is a node
+abbrev pub is_spot : CellName → Bool
+is_spot (name.Spot v) = true
+is_spot (name.Body i) = false
+
+-- the cell is a body
+abbrev pub is_body : CellName → Bool
+is_body (name.Spot v) = false
+is_body (name.Body i) = true
+
+-- a zone of a valid configuration has at most ten nodes
+abbrev pub ZoneHasAtMostTenNodes : Type 0
+ZoneHasAtMostTenNodes = (c : Config) (i : ℕ) → IsValid c → count_by is_spot (zone c i) ≤ 10
+
+-- and at most nine bodies
+abbrev pub ZoneHasAtMostNineBodies : Type 0
+ZoneHasAtMostNineBodies = (c : Config) (i : ℕ) → IsValid c → count_by is_body (zone c i) ≤ 9
+
+-- the node behind a port is in the zone, if it lies in the area
+abbrev pub NodeBehindPortIsInZone : Type 0
+NodeBehindPortIsInZone = (c : Config) (i : ℕ) (b : Bot) (p : Port) → bot_at c i ≡ Some b → IsTrue (is_port b p) → IsTrue (is_in c.area (behind b p)) → Contains (zone c i) (name.Spot (behind b p))
+
+-- and so is the body of its occupant; what is occupied lies in the area
+abbrev pub OccupantBehindPortIsInZone : Type 0
+OccupantBehindPortIsInZone = (c : Config) (i j : ℕ) (b : Bot) (p : Port) → IsValid c → bot_at c i ≡ Some b → IsTrue (is_port b p) → occupant c (behind b p) ≡ Some j → Contains (zone c i) (name.Body j)
+
+-- the configuration that has what is shown and no other amoebot shows just that
+abbrev pub GapShowsWhatWasShown : Type 0
+GapShowsWhatWasShown = (s : Shown) → IsShown s → shown (gap s) s.bot ≡ s

@@ -1,0 +1,56 @@
+ghost use Rattle.amoebot_state.specs.Laws.{GlobalAndLocalAreInverse, ContractedHasSixPorts, ExpandedHasTenPorts, SixPortsLeadToSixNodes, TenPortsLeadToEightNodes, ZoneListsEachCellOnce, ZoneHasAtMostTenNodes, ZoneHasAtMostNineBodies, NodeBehindPortIsInZone, OccupantBehindPortIsInZone, GapShowsWhatWasShown};
+
+/// Local and global directions are both 0 to 5, and the one is the inverse of the other, with either chirality.
+pub fn global_and_local_are_inverse()
+    ensures { GlobalAndLocalAreInverse }
+{}
+
+/// A contracted amoebot has six ports.
+pub fn contracted_has_six_ports()
+    ensures { ContractedHasSixPorts }
+{}
+
+/// An expanded amoebot has ten ports.
+pub fn expanded_has_ten_ports()
+    ensures { ExpandedHasTenPorts }
+{}
+
+/// The six ports of a contracted amoebot lead to six nodes.
+pub fn six_ports_lead_to_six_nodes()
+    ensures { SixPortsLeadToSixNodes }
+{}
+
+/// The ten ports of an expanded amoebot lead to eight nodes.
+pub fn ten_ports_lead_to_eight_nodes()
+    ensures { TenPortsLeadToEightNodes }
+{}
+
+/// No cell stands twice in a zone.
+pub fn zone_lists_each_cell_once()
+    ensures { ZoneListsEachCellOnce }
+{}
+
+/// A zone of a valid configuration has at most ten nodes.
+pub fn zone_has_at_most_ten_nodes()
+    ensures { ZoneHasAtMostTenNodes }
+{}
+
+/// A zone of a valid configuration has at most nine bodies.
+pub fn zone_has_at_most_nine_bodies()
+    ensures { ZoneHasAtMostNineBodies }
+{}
+
+/// The node behind a port is in the zone, if it lies in the area.
+pub fn node_behind_port_is_in_zone()
+    ensures { NodeBehindPortIsInZone }
+{}
+
+/// The body of the occupant of the node behind a port is in the zone.
+pub fn occupant_behind_port_is_in_zone()
+    ensures { OccupantBehindPortIsInZone }
+{}
+
+/// The configuration that has what is shown and no other amoebot shows just that.
+pub fn gap_shows_what_was_shown()
+    ensures { GapShowsWhatWasShown }
+{}
