@@ -1,10 +1,10 @@
 -- Local and global directions, and the ports that lead to a neighbour.
-use Rattle.std.proofs.Common.{◌≡◌, ◌⊎◌, ◌<◌, ◌+◌, ◌-◌, ◌%◌, ℕ, zero, suc, Bool, true, false, not, ◌&&◌, ◌||◌, ap, sym, ◌∙◌, refl, subst, inl, inr, arith, ltb, nat_eq, get_or, List, [], ◌∷◌, ◌++◌, map, filter}
+use Rattle.std.proofs.Common.{◌≡◌, ◌<◌, ℕ, zero, suc, Bool, true, false, not, ◌&&◌, ◌||◌, ap, sym, ◌∙◌, refl, subst, inl, inr, arith, ltb, nat_eq, get_or, [], ◌∷◌, ◌++◌, map, filter}
 use Rattle.std.specs.Prelude.{if◌then◌else◌}
 use Rattle.std.specs.List.{list_all, range_with_len}
 use Rattle.std.proofs.lemmas.List.Folds.{list_all_at}
 use Rattle.std.proofs.lemmas.List.FromFn.{get_or-range_with_len, length-range_with_len}
-use Rattle.std.proofs.lemmas.Bool.{cases_Bool, or_cases, or_parts, lt-ltb, ltb-true, eqb-true, both_ways}
+use Rattle.std.proofs.lemmas.Bool.{cases_Bool, lt-ltb, ltb-true, eqb-true, both_ways}
 use Rattle.tri_lattice.specs.declared.node.Node.{Node}
 use Rattle.tri_lattice.specs.Lattice.{step, node_eq, Adjacent, is_adjacent}
 use Rattle.tri_lattice.proofs.Nodes.{node_eq-true}
@@ -14,7 +14,6 @@ use Rattle.amoebot_state.specs.declared.bot.Chir.{Chir}
 use Rattle.amoebot_state.specs.declared.bot.Chir.TheVariants as chir
 use Rattle.amoebot_state.specs.declared.bot.End.{End}
 use Rattle.amoebot_state.specs.declared.bot.End.TheVariants.{Head, Tail}
-use Rattle.amoebot_state.specs.declared.bot.Port.{Port}
 use Rattle.amoebot_state.specs.Ports.{turned_by, local_by, global, local, end_node, is_head, is_own, is_contracted, is_port, port, behind, all_ports, ports, own_nodes, is_beside}
 use Rattle.amoebot_state.proofs.Members.{Has, here, later, Has-filter, Has-map, Has-distinct, Has-append_left, Has-append_right}
 use Rattle.amoebot_state.proofs.Owns.{own_cases}

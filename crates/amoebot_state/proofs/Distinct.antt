@@ -1,6 +1,6 @@
 -- Lists whose elements are taken up one by one, each once.
-use Rattle.std.proofs.Common.{◌≡◌, ◌≤◌, ◌+◌, List, [], ◌∷◌, ◌++◌, length, Bool, true, false, not, ◌&&◌, ◌||◌, cond, ap, sym, ◌∙◌, refl, inl, inr, append_assoc, append-nil, arith, Option, Some, None, filter}
-use Rattle.std.specs.List.{list_any, fold, filter_map}
+use Rattle.std.proofs.Common.{◌≡◌, List, [], ◌∷◌, ◌++◌, Bool, true, false, not, ◌&&◌, ◌||◌, cond, ap, sym, ◌∙◌, refl, inl, inr, append_assoc, append-nil, filter}
+use Rattle.std.specs.List.{list_any, fold}
 use Rattle.std.specs.Cmp.{IsEquivalence}
 use Rattle.std.proofs.lemmas.Bool.{cases_Bool, both_ways}
 use Rattle.std.proofs.lemmas.List.Folds.{list_any-append}

@@ -1,26 +1,22 @@
 -- The configuration that has what is shown and no other amoebot.
-use Rattle.std.proofs.Common.{◌≡◌, ◌≢◌, ◌⊎◌, ◌<◌, ◌≤◌, ◌+◌, ℕ, zero, suc, List, [], ◌∷◌, ◌++◌, length, map, get_or, Bool, true, false, not, ap, sym, ◌∙◌, refl, subst, inl, inr, arith, Option, Some, None, nat_eq, filter}
-use Rattle.std.specs.Prelude.{IsSome, IsTrue, if◌then◌else◌}
+use Rattle.std.proofs.Common.{◌≡◌, ◌≢◌, ℕ, zero, suc, List, [], ◌∷◌, ◌++◌, map, get_or, true, not, ap, sym, ◌∙◌, refl, subst, inl, inr, Option, Some, None, nat_eq, filter}
 use Rattle.std.specs.List.{filter_map, cons_option}
 use Rattle.std.specs.Option.{option_map}
-use Rattle.std.proofs.lemmas.Bool.{cases_Bool, cases_eq, both_ways, eqb-true, eq-eqb, false≢true}
-use Rattle.std.proofs.lemmas.List.Elements.{filter_map-append}
-use Rattle.std.proofs.lemmas.Option.{none-some, same_Some}
+use Rattle.std.proofs.lemmas.Bool.{cases_Bool, both_ways, eqb-true, eq-eqb, false≢true}
+use Rattle.std.proofs.lemmas.Option.{none-some}
 use Rattle.tri_lattice.specs.declared.node.Node.{Node}
-use Rattle.tri_lattice.specs.Lattice.{node_eq}
 use Rattle.tri_lattice.specs.Extent.{is_in}
-use Rattle.tri_lattice.proofs.Nodes.{node_eq-true, node_eq_same, eq-node_eq, cases_node}
 use Rattle.amoebot_state.specs.declared.bot.Bot.{Bot}
 use Rattle.amoebot_state.specs.declared.cell.CellName.{CellName}
 use Rattle.amoebot_state.specs.declared.cell.CellName.TheVariants as name
 use Rattle.amoebot_state.specs.declared.cell.Cell.{Cell}
 use Rattle.amoebot_state.specs.declared.cell.Cell.TheVariants as cell
-use Rattle.amoebot_state.specs.Configs.{Config, IsValid, IsBot, bot_at, occupant, covers, value}
+use Rattle.amoebot_state.specs.Configs.{Config, IsValid, bot_at, occupant, covers, value}
 use Rattle.amoebot_state.specs.Zones.{Shown, shown, shown_cell, zone, zone_at, zone_of, zone_nodes, others, distinct, with_id, spread, gap}
 use Rattle.amoebot_state.specs.Storage.{body_in}
 use Rattle.amoebot_state.proofs.Members.{Has, here, later, has_cases, not_in_none, Has-map, map_has, Has-append_left, Has-append_right, Has-append_cases}
 use Rattle.amoebot_state.proofs.Occupants.{occupant_at, occupant_none, nobody_covers, occupant_covers}
-use Rattle.amoebot_state.proofs.Zones.{occupant_in_zone, others_occupy, zone_nodes_inside}
+use Rattle.amoebot_state.proofs.Zones.{occupant_in_zone, zone_nodes_inside}
 
 with_id_same : (os : List (Option Bot)) (i : ℕ) (b : Bot) → get_or (with_id os i b) i None ≡ Some b
 with_id_same [] zero b = refl

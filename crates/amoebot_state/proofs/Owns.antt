@@ -1,13 +1,13 @@
 -- Which nodes an amoebot has.
-use Rattle.std.proofs.Common.{◌≡◌, ◌⊎◌, ◌+◌, Bool, true, false, refl, sym, ◌∙◌, ap, inl, inr}
+use Rattle.std.proofs.Common.{◌≡◌, ◌⊎◌, true, false, refl, sym, inl, inr}
 use Rattle.std.specs.Prelude.{ℕ, IfSome, IfNone, is_some}
 use Rattle.std.specs.declared.option.Option.{Option}
 use Rattle.std.specs.declared.option.Option.TheVariants.{Some, None}
 use Rattle.std.proofs.lemmas.Bool.{cases_Bool, or_cases, or_left, or_right, false≢true}
 use Rattle.tri_lattice.specs.declared.node.Node.{Node}
-use Rattle.tri_lattice.specs.Lattice.{node_eq, Leads, Adjacent, is_adjacent}
+use Rattle.tri_lattice.specs.Lattice.{Leads, Adjacent, is_adjacent}
 use Rattle.tri_lattice.proofs.Steps.{is_adjacent-true, Adjacent-is_adjacent}
-use Rattle.tri_lattice.proofs.Nodes.{node_eq-true, node_eq_same, eq-node_eq}
+use Rattle.tri_lattice.proofs.Nodes.{node_eq-true, eq-node_eq}
 use Rattle.amoebot_state.specs.declared.bot.Bot.{Bot}
 use Rattle.amoebot_state.specs.Ports.{is_own}
 use Rattle.amoebot_state.specs.Configs.{covers}

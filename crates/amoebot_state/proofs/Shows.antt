@@ -1,14 +1,13 @@
 -- What is shown, as the code makes and reads it.
-use Rattle.std.proofs.Common.{◌≡◌, ◌<◌, ◌≤◌, ◌+◌, ℕ, List, [], ◌∷◌, ◌++◌, length, map, get_or, Bool, true, false, ap, sym, ◌∙◌, refl, subst, inl, inr, arith, Option, Some, None, append_assoc}
+use Rattle.std.proofs.Common.{◌≡◌, ◌≤◌, ℕ, List, [], ◌∷◌, ◌++◌, length, map, true, false, ap, sym, ◌∙◌, refl, subst, inl, inr, arith, Option, Some, None}
 use Rattle.std.specs.Prelude.{IsSome, is_some, unwrap_or}
 use Rattle.std.specs.List.{filter_map, cons_option}
 use Rattle.std.specs.Option.{option_map}
 use Rattle.std.proofs.lemmas.Bool.{cases_Bool, both_ways, false≢true}
 use Rattle.std.proofs.lemmas.List.Elements.{filter_map-append}
-use Rattle.std.proofs.lemmas.Option.{none-some}
 use Rattle.tri_lattice.specs.declared.node.Node.{Node}
 use Rattle.tri_lattice.specs.Lattice.{node_eq}
-use Rattle.tri_lattice.specs.Extent.{Extent, is_in, index_of}
+use Rattle.tri_lattice.specs.Extent.{Extent, is_in}
 use Rattle.tri_lattice.proofs.Nodes.{node_eq-true, eq-node_eq}
 use Rattle.amoebot_state.specs.declared.bot.Bot.{Bot}
 use Rattle.amoebot_state.specs.declared.cell.CellName.{CellName}
@@ -16,12 +15,12 @@ use Rattle.amoebot_state.specs.declared.cell.CellName.TheVariants as name
 use Rattle.amoebot_state.specs.declared.cell.Cell.{Cell}
 use Rattle.amoebot_state.specs.declared.cell.Cell.TheVariants as cell
 use Rattle.amoebot_state.specs.Ports.{is_beside}
-use Rattle.amoebot_state.specs.Configs.{Config, IsValid, bot_at, bot_of, blank, occupant, value}
+use Rattle.amoebot_state.specs.Configs.{Config, IsValid, bot_at, bot_of, blank, occupant}
 use Rattle.amoebot_state.specs.Refusals.{IsPlain}
-use Rattle.amoebot_state.specs.Zones.{Shown, IsShown, IsFound, shown, shown_cell, zone, zone_of, zone_nodes, others, spread, gap}
+use Rattle.amoebot_state.specs.Zones.{Shown, IsShown, IsFound, shown, shown_cell, zone, zone_nodes, others, gap}
 use Rattle.amoebot_state.specs.Storage.{spot_in}
-use Rattle.amoebot_state.proofs.Members.{Has, here, later, has_cases, not_in_none, Has-map, length-filter_map-le}
-use Rattle.amoebot_state.proofs.Occupants.{plain_bot, outside_empty, covered_in}
+use Rattle.amoebot_state.proofs.Members.{Has, here, later, has_cases, not_in_none, length-filter_map-le}
+use Rattle.amoebot_state.proofs.Occupants.{plain_bot, outside_empty}
 use Rattle.amoebot_state.proofs.Directions.{beside_in_zone}
 use Rattle.amoebot_state.proofs.Zones.{length-zone_nodes-le, length-zone_of-le}
 use Rattle.amoebot_state.proofs.Gaps.{gap_own, gap_valid, gap_occupant, zone_is, spot_in_zone, zone_inside}

@@ -1,5 +1,5 @@
 -- How a zone is found, and what it has.
-use Rattle.std.proofs.Common.{◌≡◌, ◌≢◌, ◌⊎◌, ◌<◌, ◌≤◌, ◌+◌, ℕ, List, [], ◌∷◌, ◌++◌, length, map, Bool, true, false, not, ◌&&◌, cond, ap, sym, ◌∙◌, refl, inl, inr, arith, Option, Some, None, filter, nat_eq}
+use Rattle.std.proofs.Common.{◌≡◌, ◌≢◌, ◌⊎◌, ◌<◌, ◌≤◌, ℕ, List, [], ◌∷◌, ◌++◌, length, map, true, false, not, ap, sym, ◌∙◌, refl, inl, inr, arith, Some, None, filter, nat_eq}
 use Rattle.std.specs.List.{All, fold, filter_map}
 use Rattle.std.specs.Cmp.{IsEquivalence}
 use Rattle.std.proofs.lemmas.Bool.{cases_Bool, both_ways, eqb-true, eq-eqb}
@@ -16,11 +16,10 @@ use Rattle.amoebot_state.specs.Ports.{own_nodes, is_contracted, is_port, all_por
 use Rattle.amoebot_state.specs.Configs.{Config, occupant}
 use Rattle.amoebot_state.specs.Storage.{with_new, with_port, with_other}
 use Rattle.amoebot_state.specs.declared.cell.CellName.TheVariants as name
-use Rattle.amoebot_state.specs.Zones.{distinct, zone_nodes, others, zone_of}
+use Rattle.amoebot_state.specs.Zones.{zone_nodes, others, zone_of}
 use Rattle.amoebot_state.proofs.Distinct.{taken_from_none}
 use Rattle.amoebot_state.proofs.Members.{Has, has_cases, not_in_none, Has-append_cases, Has-distinct, distinct_has, Has-filter, filter_has, Has-filter_map, filter_map_has, All-from_Has, length-distinct-le, length-filter-le, length-filter_map-le}
 use Rattle.amoebot_state.proofs.Occupants.{covers_below, occupant_covers}
-use Rattle.amoebot_state.proofs.Directions.{beside_in_zone}
 
 -- node equality is an equivalence
 pub node_eq_equiv : IsEquivalence node_eq

@@ -1,5 +1,5 @@
 -- The model's operation Expand, on a whole configuration.
-use Rattle.std.specs.Prelude.{◌≡◌, ℕ, Bool, if◌then◌else◌, is_none}
+use Rattle.std.specs.Prelude.{ℕ, Bool, if◌then◌else◌, is_none}
 use Rattle.std.specs.declared.result.Result.{Result}
 use Rattle.std.specs.declared.result.Result.TheVariants.{Ok, Err}
 use Rattle.tri_lattice.specs.declared.node.Node.{Node}

@@ -1,5 +1,5 @@
 -- Patches: cells with new values, the configuration that a patch leads to, and the difference of two configurations.
-use Rattle.std.specs.Prelude.{◌≡◌, ◌≢◌, ℕ, ◌+◌, ◌*◌, List, [], ◌∷◌, ◌++◌, Bool, true, false, ◌&&◌, map, length, is_some, nat_eq, if◌then◌else◌}
+use Rattle.std.specs.Prelude.{◌≡◌, ◌≢◌, ℕ, ◌+◌, ◌*◌, List, ◌++◌, Bool, true, false, ◌&&◌, map, length, is_some, nat_eq, if◌then◌else◌}
 use Rattle.std.specs.List.{All, filter_map, range_with_len}
 use Rattle.std.specs.Cmp.Lexicographic.{pointwise}
 use Rattle.std.specs.List.Sorted.{IsStrictlyIncreasing}

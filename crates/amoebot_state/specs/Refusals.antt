@@ -1,5 +1,5 @@
 -- What a list of amoebots is refused for.
-use Rattle.std.specs.Prelude.{◌≡◌, ◌<◌, ℕ, List, [], ◌∷◌, not, ◌&&◌, ◌||◌, if◌then◌else◌, length, is_some}
+use Rattle.std.specs.Prelude.{◌<◌, List, [], ◌∷◌, not, ◌&&◌, ◌||◌, if◌then◌else◌, length, is_some}
 use Rattle.std.specs.declared.option.Option.{Option}
 use Rattle.std.specs.declared.option.Option.TheVariants.{Some, None}
 use Rattle.std.specs.Option.{option_or}

@@ -14,7 +14,7 @@ mod zone;
 
 pub use bot::{ALL_PORTS, Bot, Chir, End, Port};
 pub use cell::{Cell, CellName, Patch};
-pub use decider::Decider;
+pub use decider::{Decider, has_next, is_exact, touches_zone};
 pub use found::Found;
 pub use laws::{
     contracted_has_six_ports, expanded_has_ten_ports, gap_shows_what_was_shown,

@@ -1,4 +1,4 @@
-use Rattle.std.proofs.Common.{◌≡◌, ◌∙◌, ◌||◌, ap, sym}
+use Rattle.std.proofs.Common.{◌∙◌, ◌||◌, ap, sym}
 use Rattle.tri_lattice.specs.Lattice.{is_adjacent}
 use Rattle.amoebot_state.proofs.Owns.{adjacent_is}
 use Rattle.amoebot_state.proofs.grid.is_joined.Goals as goal

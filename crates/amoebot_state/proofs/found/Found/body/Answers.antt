@@ -1,4 +1,4 @@
-use Rattle.std.proofs.Common.{◌≡◌, ◌∙◌, ap, sym}
+use Rattle.std.proofs.Common.{◌∙◌, ap, sym}
 use Rattle.amoebot_state.specs.Storage.{body_in}
 use Rattle.amoebot_state.specs.Zones.{Shown, gap}
 use Rattle.amoebot_state.specs.Configs.{bot_at}

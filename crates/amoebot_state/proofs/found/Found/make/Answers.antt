@@ -1,4 +1,4 @@
-use Rattle.std.proofs.Common.{◌≡◌, ◌∙◌, ap, subst, sym, Some, List}
+use Rattle.std.proofs.Common.{◌∙◌, ap, subst, sym, List}
 use Rattle.std.specs.Option.{option_copied}
 use Rattle.amoebot_state.specs.declared.cell.CellName.{CellName}
 use Rattle.amoebot_state.specs.declared.cell.Cell.{Cell}

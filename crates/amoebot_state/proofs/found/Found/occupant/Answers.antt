@@ -1,4 +1,4 @@
-use Rattle.std.proofs.Common.{◌≡◌, ◌∙◌, ap, subst, None}
+use Rattle.std.proofs.Common.{◌∙◌, ap, subst, None}
 use Rattle.std.specs.Prelude.{unwrap_or}
 use Rattle.amoebot_state.specs.Storage.{spot_in}
 use Rattle.amoebot_state.specs.Zones.{Shown, IsShown}

@@ -1,10 +1,9 @@
-use Rattle.std.proofs.Common.{◌≡◌, ◌<◌, ap, sym, ◌∙◌, subst, List, ℕ, Option, None, Some, Ok, arith, length}
-use Rattle.std.specs.Prelude.{OnOk, map}
+use Rattle.std.proofs.Common.{◌≡◌, ◌<◌, ap, sym, ◌∙◌, subst, List, ℕ, Option, None, Some, arith, length}
 use Rattle.std.proofs.lemmas.List.{length-map}
 use Rattle.amoebot_state.specs.declared.bot.Bot.{Bot}
 use Rattle.amoebot_state.specs.Configs.{Config, IsWorld, config_of, with_bot}
 use Rattle.amoebot_state.specs.Refusals.{bot_fault}
-use Rattle.amoebot_state.proofs.Added.{MayCome, no_fault, world_made, config_push}
+use Rattle.amoebot_state.proofs.Added.{no_fault, world_made, config_push}
 use Rattle.amoebot_state.proofs.world.World.add.Goals as goal
 use Rattle.amoebot_state.proofs.world.World.add.Goals.{in-Ok, in-Err}
 

@@ -1,4 +1,4 @@
-use Rattle.std.proofs.Common.{◌≡◌, ◌∙◌, ap, sym, arith, get_or}
+use Rattle.std.proofs.Common.{ap, sym, arith, get_or}
 use Rattle.std.specs.Option.{option_map}
 use Rattle.amoebot_state.specs.declared.cell.CellName.TheVariants as name
 use Rattle.amoebot_state.specs.declared.cell.Cell.TheVariants as cell

@@ -1,4 +1,4 @@
-use Rattle.std.proofs.Common.{◌≡◌, ap, sym, ◌∙◌, subst, List, ℕ, Option}
+use Rattle.std.proofs.Common.{ap, sym, ◌∙◌, subst, List, ℕ, Option}
 use Rattle.amoebot_state.specs.declared.bot.Bot.{Bot}
 use Rattle.amoebot_state.specs.Configs.{Config, IsWorld, config_of}
 use Rattle.amoebot_state.specs.Patches.{IsPatched}

@@ -1,4 +1,4 @@
-use Rattle.std.proofs.Common.{◌≡◌, ◌∙◌, ap, sym, subst}
+use Rattle.std.proofs.Common.{◌∙◌, ap, sym, subst}
 use Rattle.amoebot_state.specs.Configs.{Config, IsValid}
 use Rattle.amoebot_state.proofs.Shows.{found_by, is_shown}
 use Rattle.amoebot_state.proofs.world.World.found.Goals as goal

@@ -1,4 +1,4 @@
-use Rattle.std.proofs.Common.{◌≡◌, sym, subst, Option, None, ℕ}
+use Rattle.std.proofs.Common.{◌≡◌, sym, subst, None}
 use Rattle.amoebot_state.specs.Configs.{Config, occupant}
 use Rattle.amoebot_state.proofs.Occupants.{outside_empty}
 use Rattle.amoebot_state.proofs.world.World.occupant.Goals as goal

@@ -1,4 +1,4 @@
-use Rattle.std.proofs.Common.{◌≡◌, ◌∙◌, ap, arith, sym, take, [], List, ℕ, get_or, pos}
+use Rattle.std.proofs.Common.{◌∙◌, ap, arith, sym, [], List, ℕ, get_or, pos}
 use Rattle.std.specs.List.{fold}
 use Rattle.std.proofs.lemmas.List.{take_all}
 use Rattle.std.proofs.lemmas.List.Sums.{fold_more}

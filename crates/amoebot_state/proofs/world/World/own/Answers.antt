@@ -1,7 +1,6 @@
-use Rattle.std.proofs.Common.{◌≡◌, sym, subst}
+use Rattle.std.proofs.Common.{sym, subst}
 use Rattle.amoebot_state.specs.Configs.{IsValid}
 use Rattle.amoebot_state.proofs.Occupants.{plain_bot}
-use Rattle.amoebot_state.proofs.Gaps.{spread_at}
 use Rattle.amoebot_state.proofs.world.World.own.Goals as goal
 
 pub returns-clause-plain : goal.returns-clause-plain
