@@ -14,18 +14,14 @@ use Rattle.amoebot_state.specs.Configs.{bot_at}
 use Rattle.amoebot_state.specs.Zones.{Shown, zone, zone_nodes, shown, gap}
 use Rattle.amoebot_state.specs.Laws.{GlobalAndLocalAreInverse, NodeBehindPortIsInZone, OccupantBehindPortIsInZone, GapShowsWhatWasShown}
 use Rattle.amoebot_state.proofs.Members.{Has, Has-filter, Has-map, Has-distinct, Has-append_right, Contains-from_Has}
-use Rattle.amoebot_state.proofs.Directions.{listed, global_local, local_global}
+use Rattle.amoebot_state.proofs.Directions.{listed, global_below, global_local, local_global}
 use Rattle.amoebot_state.proofs.Occupants.{occupant_covers, covered_in}
 use Rattle.amoebot_state.proofs.Gaps.{spot_in_zone, body_in_zone, gap_shows}
-
-turned_below : (h : Chir) (r d : ℕ) → turned_by h r d < 6
-turned_below chir.Plus r d = omega arith
-turned_below chir.Minus r d = omega arith
 
 pub global_and_local_are_inverse : GlobalAndLocalAreInverse
 global_and_local_are_inverse b d rot below =
     let back = global_local b d rot below in
-    (turned_below b.chir b.rot d, back.0, local_global b d rot below, back.1)
+    (global_below b d, back.0, local_global b d rot below, back.1)
 
 -- the node behind a port is one of the zone's, if it lies in the area
 behind_in_nodes : (a : Extent) (b : Bot) (p : Port) → is_port b p ≡ true → is_in a (behind b p) ≡ true → Has (behind b p) (zone_nodes a b)

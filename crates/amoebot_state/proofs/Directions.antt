@@ -47,6 +47,13 @@ local_below : (h : Chir) (r d : ℕ) → r < 6 → d < 6 → local_by h r d < 6
 local_below chir.Plus r d lr ld = ltb-true _ _ (all_pairs (λ r d. ltb (local_by chir.Plus r d) 6) refl r d lr ld)
 local_below chir.Minus r d lr ld = ltb-true _ _ (all_pairs (λ r d. ltb (local_by chir.Minus r d) 6) refl r d lr ld)
 
+turned_below : (h : Chir) (r i : ℕ) → turned_by h r i < 6
+turned_below chir.Plus r i = omega arith
+turned_below chir.Minus r i = omega arith
+
+pub global_below : (b : Bot) (i : ℕ) → global b i < 6
+global_below b i = turned_below b.chir b.rot i
+
 pub global_local : (b : Bot) (d : ℕ) → b.rot < 6 → d < 6 → (local b d < 6) × (global b (local b d) ≡ d)
 global_local b d lr ld = (local_below b.chir b.rot d lr ld, turned_local b.chir b.rot d lr ld)
 

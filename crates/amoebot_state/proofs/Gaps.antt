@@ -109,7 +109,7 @@ gap_valid c i valid = record {
 pub zone_is : (c : Config) (i : ℕ) (b : Bot) → bot_at c i ≡ Some b → zone c i ≡ zone_of c i (zone_nodes c.area b)
 zone_is c i b e = ap (zone_at c i) e
 
-own_in_zone : (c : Config) (i : ℕ) (b : Bot) → bot_at c i ≡ Some b → Has (name.Body i) (zone c i)
+pub own_in_zone : (c : Config) (i : ℕ) (b : Bot) → bot_at c i ≡ Some b → Has (name.Body i) (zone c i)
 own_in_zone c i b e = subst (Has (name.Body i)) (sym (zone_is c i b e)) here
 
 pub body_in_zone : (c : Config) (i : ℕ) (b : Bot) (v : Node) (j : ℕ) → bot_at c i ≡ Some b → Has v (zone_nodes c.area b) → occupant c v ≡ Some j → Has (name.Body j) (zone c i)

@@ -12,3 +12,4 @@ pub mod Patched
 pub mod Shifts
 pub mod Shows
 pub mod Zones
+pub mod Expands

@@ -1,9 +1,9 @@
 -- What a patch leaves: each amoebot and each occupant is that of the patched configuration.
 use Rattle.std.proofs.Common.{◌≡◌, ◌≢◌, ◌⊎◌, ◌<◌, ◌*◌, ℕ, List, [], ◌∷◌, map, length, get_or, set, ap, sym, ◌∙◌, refl, subst, inl, inr, arith, Option, Some, None}
 use Rattle.std.specs.Option.{option_map}
-use Rattle.std.specs.List.{fold, All, AllByRecursion}
+use Rattle.std.specs.List.{fold, All, AllByRecursion, Contains}
 use Rattle.std.proofs.lemmas.List.{get_or-set_same, get_or-set_other, length-set, length-map, ext_get_or, get_or-map, map-set}
-use Rattle.std.proofs.lemmas.List.Elements.{All-nil, All-cons, recursion_from_All}
+use Rattle.std.proofs.lemmas.List.Elements.{All-nil, All-cons, All-head, All-tail, recursion_from_All}
 use Rattle.std.proofs.lemmas.Bool.{cases_eq}
 use Rattle.std.proofs.lemmas.Option.{none-some, same_Some}
 use Rattle.tri_lattice.specs.declared.node.Node.{Node}
@@ -16,6 +16,10 @@ use Rattle.amoebot_state.specs.declared.cell.Cell.{Cell}
 use Rattle.amoebot_state.specs.declared.cell.Cell.TheVariants as cell
 use Rattle.amoebot_state.specs.Configs.{Config, IsValid, IsGrid, IsWorld, config_of, bot_at, occupant, value}
 use Rattle.amoebot_state.specs.Patches.{IsPatched}
+use Rattle.amoebot_state.specs.declared.verdict.Entry.{Entry}
+use Rattle.amoebot_state.specs.Steps.{Step, Run}
+use Rattle.amoebot_state.specs.Laws.{PatchedIsUnique, PatchListsWhatDiffers, StepHasOneResult, RunHasOneLast}
+use Rattle.amoebot_state.proofs.Members.{Has, here, later, has_cases, not_in_none, Has-map, Contains-from_Has}
 use Rattle.amoebot_state.specs.Storage.{put_bot, put_at, put_spot, put_bots, put_spots}
 use Rattle.tri_lattice.proofs.Nodes.{cases_node}
 
@@ -196,3 +200,61 @@ world_patched a maxes bs g ps new world patched =
           let e : length (map Some (put_bots bs ps)) ≡ length (map Some bs) = length-map (put_bots bs ps) Some ∙ length_puts ps bs ∙ sym (length-map bs Some) in
           let f = world.few in omega arith;
     }
+
+All-at : {A : Type 0} (P : A → Type 0) {x : A} (xs : List A) → All P xs → Has x xs → P x
+All-at P [] all has = absurd (not_in_none has)
+All-at {A} P {x} (y ∷ xs) all has = elim (has_cases has) [
+  | inl e ↦ subst P (sym e) (All-head P y xs all)
+  | inr r ↦ All-at P xs (All-tail P y xs all) r
+]
+
+-- a cell is listed, or no pair names it
+listed_or_not : (n : CellName) → ((m : CellName) → (m ≡ n) ⊎ (m ≡ n → ⊥)) → (ps : List (CellName × Cell)) → ((p : CellName × Cell) × Has p ps × (p.0 ≡ n)) ⊎ All (λ (p : CellName × Cell). p.0 ≢ n) ps
+listed_or_not n decide [] = inr (All-nil (λ (p : CellName × Cell). p.0 ≢ n))
+listed_or_not n decide (p ∷ ps) = elim (decide p.0) [
+  | inl e ↦ inl (p, here, e)
+  | inr ne ↦ elim (listed_or_not n decide ps) [
+    | inl found ↦ inl (found.0, later found.1, found.2)
+    | inr none ↦ inr (All-cons (λ (p : CellName × Cell). p.0 ≢ n) p ps ne none)
+  ]
+]
+
+decide_name : (n m : CellName) → (m ≡ n) ⊎ (m ≡ n → ⊥)
+decide_name (name.Spot v) m = decide_spot v m
+decide_name (name.Body i) m = decide_body i m
+
+-- two configurations that a patch leads to hold the same in each cell
+values_alike : (old one two : Config) (ps : List (CellName × Cell)) → IsPatched old ps one → IsPatched old ps two → (n : CellName) → value one n ≡ value two n
+values_alike old one two ps first second n = elim (listed_or_not n (decide_name n) ps) [
+  | inl found ↦
+      let p = found.0 in
+      ap (value one) (sym found.2) ∙ All-at (λ (p : CellName × Cell). value one p.0 ≡ Some p.1) ps first.given found.1
+      ∙ sym (ap (value two) (sym found.2) ∙ All-at (λ (p : CellName × Cell). value two p.0 ≡ Some p.1) ps second.given found.1)
+  | inr none ↦ first.kept n none ∙ sym (second.kept n none)
+]
+
+body_alike : (o q : Option Bot) → option_map cell.Body o ≡ option_map cell.Body q → o ≡ q
+body_alike None None e = refl
+body_alike None (Some b) e = absurd (cc)
+body_alike (Some b) None e = absurd (cc)
+body_alike (Some b) (Some c) e = cc
+
+pub patched_is_unique : PatchedIsUnique
+patched_is_unique old one two ps first second =
+    same_config one two (first.area ∙ sym second.area) (first.maxes ∙ sym second.maxes)
+    (ext_get_or None one.bots two.bots (first.size ∙ sym second.size) (λ i below. body_alike _ _ (values_alike old one two ps first second (name.Body i))))
+
+pub step_has_one_result : StepHasOneResult
+step_has_one_result f old e one two first second = patched_is_unique old one two e.patch first.patched second.patched
+
+pub run_has_one_last : RunHasOneLast
+run_has_one_last f old [] one two first second = first ∙ sym second
+run_has_one_last f old (e ∷ es) one two first second =
+    let same = step_has_one_result f old e first.0 second.0 first.1 second.1 in
+    run_has_one_last f second.0 es one two (subst (λ c. Run f c es one) same first.2) second.2
+
+pub patch_lists_what_differs : PatchListsWhatDiffers
+patch_lists_what_differs old new ps patched n differs = elim (listed_or_not n (decide_name n) ps) [
+  | inl found ↦ Contains-from_Has (map (λ (p : CellName × Cell). p.0) ps) (subst (λ m. Has m (map (λ (p : CellName × Cell). p.0) ps)) found.2 (Has-map (λ (p : CellName × Cell). p.0) found.1))
+  | inr none ↦ absurd (differs (patched.kept n none))
+]

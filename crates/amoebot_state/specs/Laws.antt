@@ -1,5 +1,5 @@
 -- What follows from the definitions alone.
-use Rattle.std.specs.Prelude.{◌≡◌, ◌≢◌, ◌<◌, ◌≤◌, ℕ, Bool, true, false, map, length, IsTrue}
+use Rattle.std.specs.Prelude.{◌≡◌, ◌≢◌, ◌<◌, ◌≤◌, ℕ, List, IsSome, Bool, true, false, map, length, IsTrue}
 use Rattle.std.specs.List.{AllPairs, Contains, count_by}
 use Rattle.std.specs.declared.option.Option.TheVariants.{Some}
 use Rattle.tri_lattice.specs.Lattice.{node_eq, Adjacent}
@@ -8,9 +8,15 @@ use Rattle.amoebot_state.specs.declared.bot.Bot.{Bot}
 use Rattle.amoebot_state.specs.declared.bot.Port.{Port}
 use Rattle.amoebot_state.specs.declared.cell.CellName.{CellName}
 use Rattle.amoebot_state.specs.declared.cell.CellName.TheVariants as name
+use Rattle.amoebot_state.specs.declared.cell.Cell.{Cell}
+use Rattle.amoebot_state.specs.declared.verdict.Entry.{Entry}
+use Rattle.amoebot_state.specs.declared.verdict.Verdict.{Verdict}
 use Rattle.amoebot_state.specs.Ports.{global, local, is_port, ports, behind}
-use Rattle.amoebot_state.specs.Configs.{Config, IsValid, bot_at, occupant}
+use Rattle.amoebot_state.specs.Configs.{Config, IsValid, bot_at, occupant, value}
 use Rattle.amoebot_state.specs.Zones.{Shown, IsShown, distinct, zone, shown, gap}
+use Rattle.amoebot_state.specs.Patches.{IsPatched}
+use Rattle.amoebot_state.specs.Steps.{Step, Run}
+use Rattle.amoebot_state.specs.Moves.{expands_when_contracted, expansion_decided}
 
 -- local and global directions are both 0 to 5, and the one is the inverse of the other, with either chirality
 abbrev pub GlobalAndLocalAreInverse : Type 0
@@ -65,3 +71,24 @@ OccupantBehindPortIsInZone = (c : Config) (i j : ℕ) (b : Bot) (p : Port) → I
 -- the configuration that has what is shown and no other amoebot shows just that
 abbrev pub GapShowsWhatWasShown : Type 0
 GapShowsWhatWasShown = (s : Shown) → IsShown s → shown (gap s) s.bot ≡ s
+
+-- at most one configuration is the one that a patch leads to
+abbrev pub PatchedIsUnique : Type 0
+PatchedIsUnique = (old one two : Config) (ps : List (CellName × Cell)) → IsPatched old ps one → IsPatched old ps two → one ≡ two
+
+-- a patch lists each cell whose value differs
+abbrev pub PatchListsWhatDiffers : Type 0
+PatchListsWhatDiffers = (old new : Config) (ps : List (CellName × Cell)) → IsPatched old ps new → (n : CellName) → value new n ≢ value old n → Contains (map (λ (p : CellName × Cell). p.0) ps) n
+
+-- a step has at most one result
+abbrev pub StepHasOneResult : Type 0
+StepHasOneResult = (f : Shown → Verdict) (old : Config) (e : Entry) (one two : Config) → Step f old e one → Step f old e two → one ≡ two
+
+-- so a run has at most one last configuration
+abbrev pub RunHasOneLast : Type 0
+RunHasOneLast = (f : Shown → Verdict) (old : Config) (es : List Entry) (one two : Config) → Run f old es one → Run f old es two → one ≡ two
+
+-- what the decider that expands contracted amoebots says of what a valid configuration shows is the verdict on that
+-- configuration
+abbrev pub ExpansionIsDecidedAlike : Type 0
+ExpansionIsDecidedAlike = (p : Port) (c : Config) (i : ℕ) → IsValid c → IsSome (bot_at c i) → expansion_decided p (shown c i) ≡ expands_when_contracted p c i

@@ -8,8 +8,14 @@ use Rattle.amoebot_state.specs.declared.bot.Bot.{Bot}
 use Rattle.amoebot_state.specs.declared.bot.Port.{Port}
 use Rattle.amoebot_state.specs.declared.verdict.Failure.{Failure}
 use Rattle.amoebot_state.specs.declared.verdict.Failure.TheVariants.{NotContracted, NoPort, Edge, Occupied}
+use Rattle.amoebot_state.specs.declared.verdict.Moved.{Moved}
+use Rattle.amoebot_state.specs.declared.verdict.Moved.TheVariants as moved
+use Rattle.amoebot_state.specs.declared.verdict.Verdict.{Verdict}
+use Rattle.amoebot_state.specs.declared.verdict.Verdict.TheVariants as verdict
 use Rattle.amoebot_state.specs.Ports.{is_contracted, is_port, behind}
 use Rattle.amoebot_state.specs.Configs.{Config, occupant, bot_of, set_bot}
+use Rattle.amoebot_state.specs.Patches.{diff}
+use Rattle.amoebot_state.specs.Zones.{Shown, gap}
 
 -- the answer, where the condition holds, and else the failure
 abbrev pub need : {A : Type 0} → Bool → Failure → Result A Failure → Result A Failure
@@ -29,3 +35,17 @@ expand c i p =
     (need (is_in c.area (behind b p)) Edge
     (need (is_none (occupant c (behind b p))) Occupied
     (Ok (set_bot c i (with_head b (behind b p)))))))
+
+-- the difference that an operation makes, as the change of an action; or its failure
+abbrev pub settled : Config → ℕ → Moved → Result Config Failure → Verdict
+settled old action by (Ok new) = verdict.Change (record { action = action; moved = by; patch = diff old new })
+settled old action by (Err f) = verdict.Failed f
+
+-- what a program decides on an amoebot of a configuration whose one action, of number 0, is to expand through a port when it
+-- is contracted: an expanded amoebot is idle (the paper's guarded actions)
+abbrev pub expands_when_contracted : Port → Config → ℕ → Verdict
+expands_when_contracted p c i = if is_contracted (bot_of c i) then settled c 0 (moved.Expand p) (expand c i p) else verdict.Idle
+
+-- the same, decided on what the amoebot is shown: on the configuration that has what is shown and no other amoebot
+abbrev pub expansion_decided : Port → Shown → Verdict
+expansion_decided p s = expands_when_contracted p (gap s) s.bot

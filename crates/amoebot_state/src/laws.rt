@@ -1,4 +1,4 @@
-ghost use Rattle.amoebot_state.specs.Laws.{GlobalAndLocalAreInverse, ContractedHasSixPorts, ExpandedHasTenPorts, SixPortsLeadToSixNodes, TenPortsLeadToEightNodes, ZoneListsEachCellOnce, ZoneHasAtMostTenNodes, ZoneHasAtMostNineBodies, NodeBehindPortIsInZone, OccupantBehindPortIsInZone, GapShowsWhatWasShown};
+ghost use Rattle.amoebot_state.specs.Laws.{GlobalAndLocalAreInverse, ContractedHasSixPorts, ExpandedHasTenPorts, SixPortsLeadToSixNodes, TenPortsLeadToEightNodes, ZoneListsEachCellOnce, ZoneHasAtMostTenNodes, ZoneHasAtMostNineBodies, NodeBehindPortIsInZone, OccupantBehindPortIsInZone, GapShowsWhatWasShown, PatchedIsUnique, PatchListsWhatDiffers, StepHasOneResult, RunHasOneLast, ExpansionIsDecidedAlike};
 
 /// Local and global directions are both 0 to 5, and the one is the inverse of the other, with either chirality.
 pub fn global_and_local_are_inverse()
@@ -53,4 +53,30 @@ pub fn occupant_behind_port_is_in_zone()
 /// The configuration that has what is shown and no other amoebot shows just that.
 pub fn gap_shows_what_was_shown()
     ensures { GapShowsWhatWasShown }
+{}
+
+/// At most one configuration is the one that a patch leads to.
+pub fn patched_is_unique()
+    ensures { PatchedIsUnique }
+{}
+
+/// A patch lists each cell whose value differs.
+pub fn patch_lists_what_differs()
+    ensures { PatchListsWhatDiffers }
+{}
+
+/// A step has at most one result.
+pub fn step_has_one_result()
+    ensures { StepHasOneResult }
+{}
+
+/// A run has at most one last configuration.
+pub fn run_has_one_last()
+    ensures { RunHasOneLast }
+{}
+
+/// The decider that expands contracted amoebots says of what a valid configuration shows what the program says of that
+/// configuration.
+pub fn expansion_is_decided_alike()
+    ensures { ExpansionIsDecidedAlike }
 {}

@@ -17,10 +17,11 @@ pub use cell::{Cell, CellName, Patch};
 pub use decider::{Decider, has_next, is_exact, touches_zone};
 pub use found::Found;
 pub use laws::{
-    contracted_has_six_ports, expanded_has_ten_ports, gap_shows_what_was_shown,
-    global_and_local_are_inverse, node_behind_port_is_in_zone, occupant_behind_port_is_in_zone,
-    six_ports_lead_to_six_nodes, ten_ports_lead_to_eight_nodes, zone_has_at_most_nine_bodies,
-    zone_has_at_most_ten_nodes, zone_lists_each_cell_once,
+    contracted_has_six_ports, expanded_has_ten_ports, expansion_is_decided_alike,
+    gap_shows_what_was_shown, global_and_local_are_inverse, node_behind_port_is_in_zone,
+    occupant_behind_port_is_in_zone, patch_lists_what_differs, patched_is_unique, run_has_one_last,
+    six_ports_lead_to_six_nodes, step_has_one_result, ten_ports_lead_to_eight_nodes,
+    zone_has_at_most_nine_bodies, zone_has_at_most_ten_nodes, zone_lists_each_cell_once,
 };
 pub use refusal::{NoMemory, WorldRefusal};
 pub use verdict::{Change, Entry, Failure, Moved, Verdict};
