@@ -388,3 +388,21 @@ expansion_is_exact p c i change changes =
 
     bot_of_cell : {a d : Bot} → Some (cell.Body a) ≡ Some (cell.Body d) → a ≡ d
     bot_of_cell e = let f = same_Some _ _ e in cc
+
+-- the node behind a port of a contracted amoebot is beside it
+pub port_beside : (s : Shown) (b : Bot) (p : Port) (q : Node) → Some b ≡ bot_at (gap s) s.bot → b.rot < 6 → is_contracted b ≡ true → is_port b p ≡ true → q ≡ behind b p → is_beside (bot_of (gap s) s.bot) q ≡ true
+port_beside s b p q at rot contracted port is =
+    ap (λ o. is_beside (unwrap_or o blank) q) (sym at)
+    ∙ ap (is_beside b) is
+    ∙ or_left _ _ (or_right _ _ (Adjacent-is_adjacent b.head (behind b p) (port_next b p rot contracted port)))
+
+-- where each condition holds, the verdict is this change
+pub change_decided : (s : Shown) (b : Bot) (p : Port) (q : Node) (patch : Pairs) → IsValid (gap s) → Some b ≡ bot_at (gap s) s.bot → is_contracted b ≡ true → is_port b p ≡ true → q ≡ behind b p → is_in s.area q ≡ true → occupant (gap s) q ≡ None → patch ≡ expansion s.bot b q → verdict.Change (record { action = 0; moved = moved.Expand p; patch = patch }) ≡ expansion_decided p s
+change_decided s b p q patch valid at contracted port is inside empty made =
+    let change : Pairs → Verdict = λ ps. verdict.Change (record { action = 0; moved = moved.Expand p; patch = ps }) in
+    ap change (made ∙ ap (expansion s.bot b) is)
+    ∙ sym (verdict_is p (gap s) s.bot b valid (sym at)
+    ∙ ap (λ t. outcome_of p s.bot b t (is_port b p) (is_in s.area (behind b p)) (is_none (occupant (gap s) (behind b p)))) contracted
+    ∙ ap (λ t. outcome_of p s.bot b true t (is_in s.area (behind b p)) (is_none (occupant (gap s) (behind b p)))) port
+    ∙ ap (λ t. outcome_of p s.bot b true true t (is_none (occupant (gap s) (behind b p)))) (ap (is_in s.area) (sym is) ∙ inside)
+    ∙ ap (λ t. outcome_of p s.bot b true true true t) (ap (λ v. is_none (occupant (gap s) v)) (sym is) ∙ ap is_none empty))

@@ -1,6 +1,6 @@
 ghost use Rattle.std.specs.Prelude.{◌≡◌, ◌≤◌, length, IsTrue};
 ghost use Rattle.std.specs.Option.{option_copied};
-ghost use Rattle.amoebot_state.specs.Configs.{bot_at, bot_of, occupant};
+ghost use Rattle.amoebot_state.specs.Configs.{IsValid, bot_at, bot_of, occupant};
 ghost use Rattle.amoebot_state.specs.Ports.{is_beside};
 ghost use Rattle.amoebot_state.specs.Refusals.{IsPlain};
 ghost use Rattle.amoebot_state.specs.Zones.{IsShown, IsFound, gap};
@@ -97,6 +97,7 @@ impl Found {
     pub fn own(&self) -> &Bot
         ensures value { Some result.now ≡ bot_at (gap self.now) self.now.bot }
         ensures plain { IsPlain result.now }
+        ensures valid { IsValid (gap self.now) }
     {
         &self.own
     }
