@@ -1,19 +1,17 @@
 -- One more amoebot.
-use Rattle.std.proofs.Common.{◌≡◌, ◌<◌, ℕ, List, [], ◌∷◌, ◌++◌, map, length, Bool, true, false, not, ◌&&◌, ◌||◌, cond, ap, sym, ◌∙◌, refl, subst, inl, inr, arith, Option, Some, None}
-use Rattle.std.specs.Prelude.{is_some}
-use Rattle.std.proofs.lemmas.List.{length-map, get_or_append_left, get_or_push, get_or_past, length_push, map_push}
+use Rattle.std.proofs.Common.{◌≡◌, ◌<◌, ◌+◌, ℕ, List, [], ◌∷◌, ◌++◌, map, length, take, get_or, Bool, true, false, not, ◌&&◌, ◌||◌, cond, ap, sym, ◌∙◌, refl, subst, inl, inr, arith, Option, Some, None}
+use Rattle.std.specs.Prelude.{is_some, slice_get}
+use Rattle.std.proofs.lemmas.List.{take_more, length-map, get_or_append_left, get_or_push, get_or_past, length_push, map_push}
 use Rattle.std.proofs.lemmas.Bool.{cases_eq, both_ways, cases_lt, or_parts, and_parts, false≢true}
 use Rattle.std.proofs.lemmas.Option.{none-some, same_Some}
 use Rattle.tri_lattice.specs.declared.node.Node.{Node}
 use Rattle.tri_lattice.specs.Extent.{Extent, index_of, is_in}
 use Rattle.tri_lattice.proofs.Boxes.{index_below}
 use Rattle.amoebot_state.specs.declared.bot.Bot.{Bot}
-use Rattle.amoebot_state.specs.declared.refusal.WorldRefusal.{WorldRefusal}
 use Rattle.amoebot_state.specs.Ports.{is_own}
 use Rattle.amoebot_state.specs.Configs.{Config, config_of, with_bot, IsBot, IsValid, IsGrid, IsWorld, bot_at, occupant, covers, is_joined, has_values}
 use Rattle.amoebot_state.specs.Storage.{put_at}
-use Rattle.amoebot_state.specs.Refusals.{bot_fault, first_fault, IsPlain}
-use Rattle.std.specs.Option.{option_or}
+use Rattle.amoebot_state.specs.Refusals.{bot_fault, IsPlain, IsFaultless}
 use Rattle.tri_lattice.proofs.Nodes.{cases_node}
 use Rattle.amoebot_state.proofs.Owns.{own_cases, own_head, own_tail, not_own}
 use Rattle.amoebot_state.proofs.Occupants.{none_passes, position_push}
@@ -46,7 +44,7 @@ no_fault c b plain h =
     let free = or_parts _ _ three.0 in
     let four = passes (has_values c.maxes b.mem) _ _ three.1 in
     record {
-      fits = record { head = ins.0; tail = ins.1; joined = two.0; rot = plain.rot; values = four.0 };
+      fits = record { head = ins.0; tail = ins.1; joined = two.0; rot = plain.rot; values = four.0; eight = plain.eight };
       head_free = empty_if _ free.0;
       tail_free = empty_if _ free.1;
     }
@@ -98,6 +96,7 @@ each_with c b valid may i a h = elim (cases_lt i (length c.bots)) [
 pub valid_with : (c : Config) (b : Bot) → IsValid c → MayCome c b → IsValid (with_bot c b)
 valid_with c b valid may = record {
   area = valid.area;
+  eight = valid.eight;
   each = each_with c b valid may;
   apart = λ i j v h h'. meet c b v i j valid may (who c b v i h) (who c b v j h');
 }
@@ -156,10 +155,15 @@ world_made a maxes bs cs g h b n size few may world longer grid =
     let to : put_at (put_at g (index_of a b.head) (Some (length (map Some bs)))) (index_of a b.tail) (Some (length (map Some bs))) ≡ h = ap (λ k. put_at (put_at g (index_of a b.head) (Some k)) (index_of a b.tail) (Some k)) (sym long) ∙ sym grid in
     subst Q same (subst P to (world_with (config_of a maxes bs) b g (subst (λ k. k < 4096) long few) may world))
 
--- the first fault goes on behind an amoebot without one
-pub fault_on : (c d : Config) (bs rest : List Bot) (b : Bot) (first : Option WorldRefusal) → first ≡ first_fault c bs → bs ≡ b ∷ rest → bot_fault c b ≡ None → d ≡ with_bot c b → first ≡ first_fault d rest
-fault_on c d bs rest b first was split none next = was ∙ ap (first_fault c) split ∙ ap (λ o. option_or o (first_fault (with_bot c b) rest)) none ∙ ap (λ e. first_fault e rest) (sym next)
+-- an amoebot without a fault behind amoebots without one
+pub faultless_more : (a : Extent) (maxes : List ℕ) (bots : List Bot) (i : ℕ) (b : Bot) (c : Config) → slice_get bots i ≡ Some b → c ≡ config_of a maxes (take i bots) → IsFaultless a maxes bots i → bot_fault c b ≡ None → IsFaultless a maxes bots (i + 1)
+faultless_more a maxes bots i b c at is before none j d lt e = elim (cases_eq j i) [
+  | inl same ↦
+      let one : d ≡ b = same_Some d b (sym e ∙ ap (slice_get bots) same ∙ at) in
+      ap (λ k. bot_fault (config_of a maxes (take k bots)) d) same ∙ ap (bot_fault (config_of a maxes (take i bots))) one ∙ ap (λ f. bot_fault f b) (sym is) ∙ none
+  | inr ne ↦ before j d (omega arith) e
+]
 
--- an amoebot's fault is the first
-pub fault_here : (c : Config) (bs rest : List Bot) (b : Bot) (e : WorldRefusal) (first : Option WorldRefusal) → first ≡ first_fault c bs → bs ≡ b ∷ rest → bot_fault c b ≡ Some e → first ≡ Some e
-fault_here c bs rest b e first was split some = was ∙ ap (first_fault c) split ∙ ap (λ o. option_or o (first_fault (with_bot c b) rest)) some
+-- the world with one amoebot more has one amoebot more of the list
+pub world_more : (a : Extent) (maxes : List ℕ) (bots : List Bot) (i : ℕ) (d : Bot) (c e : Config) → i < length bots → c ≡ config_of a maxes (take i bots) → e ≡ with_bot c (get_or bots i d) → e ≡ config_of a maxes (take (i + 1) bots)
+world_more a maxes bots i d c e lt is more = more ∙ ap (λ f. with_bot f (get_or bots i d)) is ∙ sym (ap (config_of a maxes) (take_more bots i d lt) ∙ config_push a maxes (take i bots) (get_or bots i d))

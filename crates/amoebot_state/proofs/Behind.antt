@@ -1,15 +1,13 @@
 -- Local and global directions, what lies behind ports, and what the gap configuration shows.
-use Rattle.std.proofs.Common.{◌≡◌, ◌<◌, ℕ, ◌++◌, map, true, refl, subst, arith, Option, Some, None, filter}
+use Rattle.std.proofs.Common.{◌≡◌, ◌<◌, ◌++◌, map, true, refl, subst, Option, Some, None, filter}
 use Rattle.std.specs.Prelude.{IsSome}
 use Rattle.std.proofs.lemmas.Bool.{and_parts, ltb-true, false≢true}
 use Rattle.tri_lattice.specs.Lattice.{node_eq}
 use Rattle.tri_lattice.specs.Extent.{Extent, is_in}
 use Rattle.tri_lattice.proofs.Nodes.{node_eq-true}
 use Rattle.amoebot_state.specs.declared.bot.Bot.{Bot}
-use Rattle.amoebot_state.specs.declared.bot.Chir.{Chir}
-use Rattle.amoebot_state.specs.declared.bot.Chir.TheVariants as chir
 use Rattle.amoebot_state.specs.declared.bot.Port.{Port}
-use Rattle.amoebot_state.specs.Ports.{turned_by, is_port, all_ports, ports, behind, own_nodes}
+use Rattle.amoebot_state.specs.Ports.{is_port, all_ports, ports, behind, own_nodes}
 use Rattle.amoebot_state.specs.Configs.{bot_at}
 use Rattle.amoebot_state.specs.Zones.{Shown, zone, zone_nodes, shown, gap}
 use Rattle.amoebot_state.specs.Laws.{GlobalAndLocalAreInverse, NodeBehindPortIsInZone, OccupantBehindPortIsInZone, GapShowsWhatWasShown}

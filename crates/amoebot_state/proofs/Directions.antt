@@ -14,7 +14,7 @@ use Rattle.amoebot_state.specs.declared.bot.Chir.{Chir}
 use Rattle.amoebot_state.specs.declared.bot.Chir.TheVariants as chir
 use Rattle.amoebot_state.specs.declared.bot.End.{End}
 use Rattle.amoebot_state.specs.declared.bot.End.TheVariants.{Head, Tail}
-use Rattle.amoebot_state.specs.Ports.{turned_by, local_by, global, local, end_node, is_head, is_own, is_contracted, is_port, port, behind, all_ports, ports, own_nodes, is_beside}
+use Rattle.amoebot_state.specs.Ports.{global_by, local_by, global, local, end_node, is_head, is_own, is_contracted, is_port, port, behind, all_ports, ports, own_nodes, is_beside}
 use Rattle.amoebot_state.proofs.Members.{Has, here, later, Has-filter, Has-map, Has-distinct, Has-append_left, Has-append_right}
 use Rattle.amoebot_state.proofs.Owns.{own_cases}
 use Rattle.amoebot_state.specs.Zones.{zone_nodes}
@@ -35,19 +35,19 @@ pub all_pairs : (p : ℕ → ℕ → Bool) → list_all (λ r. list_all (p r) (r
 all_pairs p all r d lr ld = all_below (p r) 6 (all_below (λ s. list_all (p s) (range_with_len 0 6)) 6 all r lr) d ld
 
 -- the local direction of a global one leads back to it, and the other way round
-turned_local : (h : Chir) (r d : ℕ) → r < 6 → d < 6 → turned_by h r (local_by h r d) ≡ d
-turned_local chir.Plus r d lr ld = eqb-true _ _ (all_pairs (λ r d. nat_eq (turned_by chir.Plus r (local_by chir.Plus r d)) d) refl r d lr ld)
-turned_local chir.Minus r d lr ld = eqb-true _ _ (all_pairs (λ r d. nat_eq (turned_by chir.Minus r (local_by chir.Minus r d)) d) refl r d lr ld)
+turned_local : (h : Chir) (r d : ℕ) → r < 6 → d < 6 → global_by h r (local_by h r d) ≡ d
+turned_local chir.Plus r d lr ld = eqb-true _ _ (all_pairs (λ r d. nat_eq (global_by chir.Plus r (local_by chir.Plus r d)) d) refl r d lr ld)
+turned_local chir.Minus r d lr ld = eqb-true _ _ (all_pairs (λ r d. nat_eq (global_by chir.Minus r (local_by chir.Minus r d)) d) refl r d lr ld)
 
-local_turned : (h : Chir) (r i : ℕ) → r < 6 → i < 6 → local_by h r (turned_by h r i) ≡ i
-local_turned chir.Plus r i lr li = eqb-true _ _ (all_pairs (λ r i. nat_eq (local_by chir.Plus r (turned_by chir.Plus r i)) i) refl r i lr li)
-local_turned chir.Minus r i lr li = eqb-true _ _ (all_pairs (λ r i. nat_eq (local_by chir.Minus r (turned_by chir.Minus r i)) i) refl r i lr li)
+local_turned : (h : Chir) (r i : ℕ) → r < 6 → i < 6 → local_by h r (global_by h r i) ≡ i
+local_turned chir.Plus r i lr li = eqb-true _ _ (all_pairs (λ r i. nat_eq (local_by chir.Plus r (global_by chir.Plus r i)) i) refl r i lr li)
+local_turned chir.Minus r i lr li = eqb-true _ _ (all_pairs (λ r i. nat_eq (local_by chir.Minus r (global_by chir.Minus r i)) i) refl r i lr li)
 
 local_below : (h : Chir) (r d : ℕ) → r < 6 → d < 6 → local_by h r d < 6
 local_below chir.Plus r d lr ld = ltb-true _ _ (all_pairs (λ r d. ltb (local_by chir.Plus r d) 6) refl r d lr ld)
 local_below chir.Minus r d lr ld = ltb-true _ _ (all_pairs (λ r d. ltb (local_by chir.Minus r d) 6) refl r d lr ld)
 
-turned_below : (h : Chir) (r i : ℕ) → turned_by h r i < 6
+turned_below : (h : Chir) (r i : ℕ) → global_by h r i < 6
 turned_below chir.Plus r i = omega arith
 turned_below chir.Minus r i = omega arith
 

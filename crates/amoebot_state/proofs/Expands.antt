@@ -1,22 +1,21 @@
 -- What Expand makes of a configuration, and that it is decided alike on what is shown.
-use Rattle.std.proofs.Common.{◌≡◌, ◌≢◌, ◌⊎◌, ◌<◌, ◌≤◌, ◌+◌, ◌*◌, ℕ, zero, suc, List, [], ◌∷◌, ◌++◌, length, map, get_or, set, Bool, true, false, not, ◌&&◌, ◌||◌, cond, ap, sym, ◌∙◌, refl, subst, inl, inr, arith, Option, Some, None, nat_eq}
-use Rattle.std.specs.Prelude.{IsTrue, IsSome, is_some, is_none, unwrap_or, if◌then◌else◌}
+use Rattle.std.proofs.Common.{◌≡◌, ◌≢◌, ◌⊎◌, ◌<◌, ◌≤◌, ◌+◌, ◌*◌, ℕ, zero, suc, List, [], ◌∷◌, ◌++◌, length, map, Bool, true, false, not, ◌||◌, ap, sym, ◌∙◌, refl, subst, inl, inr, arith, Option, Some, None}
+use Rattle.std.specs.Prelude.{is_some, is_none, unwrap_or, if◌then◌else◌}
 use Rattle.std.specs.List.{All, Contains, filter_map, cons_option, range_with_len}
 use Rattle.std.specs.List.Sorted.{IsStrictlyIncreasing}
 use Rattle.std.specs.Option.{option_map}
-use Rattle.std.specs.declared.result.Result.{Result}
-use Rattle.std.specs.declared.result.Result.TheVariants.{Ok, Err}
-use Rattle.std.proofs.lemmas.Bool.{cases_Bool, cases_eq, cases_lt, both_ways, eqb-true, eq-eqb, false≢true, or_left, or_right, and_parts, and_from, ltb-true}
+use Rattle.std.specs.declared.result.Result.TheVariants.{Ok}
+use Rattle.std.proofs.lemmas.Bool.{cases_Bool, cases_eq, cases_lt, both_ways, eq-eqb, false≢true, or_left, or_right, and_parts, and_from, ltb-true}
 use Rattle.std.proofs.lemmas.Cmp.{nat_list_eq_equiv}
 use Rattle.std.proofs.lemmas.List.{get_or-set_same, get_or-set_other, length-set, get_or_past}
 use Rattle.std.proofs.lemmas.List.Elements.{filter_map-append, All-nil, All-cons, All-head, All-tail}
 use Rattle.std.proofs.lemmas.Option.{none-some, same_Some}
 use Rattle.tri_lattice.specs.declared.node.Node.{Node}
-use Rattle.tri_lattice.specs.Lattice.{node_eq, step, Adjacent, is_adjacent}
-use Rattle.tri_lattice.specs.Extent.{Extent, index_of, is_in, node_at}
-use Rattle.tri_lattice.proofs.Nodes.{node_eq-true, node_eq_same, eq-node_eq, cases_node, Adjacent-sym, step_leaves}
+use Rattle.tri_lattice.specs.Lattice.{node_eq, step, Adjacent}
+use Rattle.tri_lattice.specs.Extent.{index_of, is_in, node_at}
+use Rattle.tri_lattice.proofs.Nodes.{node_eq-true, node_eq_same, Adjacent-sym, step_leaves}
 use Rattle.tri_lattice.proofs.Steps.{Adjacent-is_adjacent}
-use Rattle.tri_lattice.proofs.Boxes.{index_below, index_of_node_at, node_at_index_of}
+use Rattle.tri_lattice.proofs.Boxes.{index_of_node_at, node_at_index_of}
 use Rattle.amoebot_state.specs.declared.bot.Bot.{Bot}
 use Rattle.amoebot_state.specs.declared.bot.Chir.{Chir}
 use Rattle.amoebot_state.specs.declared.bot.Chir.TheVariants as chir
@@ -27,7 +26,6 @@ use Rattle.amoebot_state.specs.declared.cell.CellName.{CellName}
 use Rattle.amoebot_state.specs.declared.cell.CellName.TheVariants as name
 use Rattle.amoebot_state.specs.declared.cell.Cell.{Cell}
 use Rattle.amoebot_state.specs.declared.cell.Cell.TheVariants as cell
-use Rattle.amoebot_state.specs.declared.verdict.Failure.{Failure}
 use Rattle.amoebot_state.specs.declared.verdict.Failure.TheVariants.{NotContracted, NoPort, Edge, Occupied}
 use Rattle.amoebot_state.specs.declared.verdict.Change.{Change}
 use Rattle.amoebot_state.specs.declared.verdict.Moved.TheVariants as moved
@@ -36,13 +34,13 @@ use Rattle.amoebot_state.specs.declared.verdict.Verdict.TheVariants as verdict
 use Rattle.amoebot_state.specs.Pairs.{Pairs}
 use Rattle.amoebot_state.specs.Ports.{is_own, is_head, is_contracted, is_port, behind, global, end_node, is_beside}
 use Rattle.amoebot_state.specs.Configs.{Config, IsValid, IsBot, bot_at, bot_of, blank, covers, occupant, value, set_bot, is_joined}
-use Rattle.amoebot_state.specs.Zones.{Shown, shown, zone, zone_nodes, shown_cell, gap}
-use Rattle.amoebot_state.specs.Patches.{IsPatched, HasPatched, IsOrdered, diff, changed, all_cells, same_value, id_eq, chir_eq, bot_eq}
+use Rattle.amoebot_state.specs.Zones.{Shown, shown, zone, shown_cell, gap}
+use Rattle.amoebot_state.specs.Patches.{IsPatched, HasPatched, IsOrdered, diff, changed, same_value, id_eq, chir_eq, bot_eq}
 use Rattle.amoebot_state.specs.Steps.{Changes, TouchesZone, HasNext, IsExact}
-use Rattle.amoebot_state.specs.Laws.{ExpansionIsDecidedAlike}
-use Rattle.amoebot_state.specs.Moves.{need, expand, with_head, settled, expands_when_contracted, expansion_decided}
+use Rattle.amoebot_state.specs.Laws.{ExpansionVerdictIsShown}
+use Rattle.amoebot_state.specs.Moves.{need, with_head, verdict_by, expansion_verdict, expansion_verdict_shown}
 use Rattle.amoebot_state.proofs.Owns.{own_cases, own_head, own_tail}
-use Rattle.amoebot_state.proofs.Occupants.{occupant_at, occupant_none, nobody_covers, occupant_covers, occupant_same, covers_below, plain_bot, covered_in}
+use Rattle.amoebot_state.proofs.Occupants.{occupant_at, nobody_covers, occupant_same, plain_bot}
 use Rattle.amoebot_state.proofs.Directions.{beside_in_zone, global_below}
 use Rattle.amoebot_state.proofs.Gaps.{gap_own, gap_valid, gap_occupant, own_in_zone, spot_in_zone}
 use Rattle.amoebot_state.proofs.Members.{Contains-from_Has}
@@ -141,11 +139,12 @@ module _ (c : Config) (i : ℕ) (b : Bot) (q : Node) (may : MayExpand c i b q) w
   after_valid : IsValid (after c i b q)
   after_valid = record {
     area = may.valid.area;
+    eight = may.valid.eight;
     each = λ j a e. elim (cases_eq j i) [
       | inl same ↦
           let fits = may.valid.each i b may.there in
           let P : Bot → Type 0 = IsBot c.area c.maxes in
-          subst P (same_Some _ _ (sym at_own ∙ ap (bot_at (after c i b q)) (sym same) ∙ e)) (record { head = may.inside; tail = fits.tail; joined = new_joined; rot = fits.rot; values = fits.values })
+          subst P (same_Some _ _ (sym at_own ∙ ap (bot_at (after c i b q)) (sym same) ∙ e)) (record { head = may.inside; tail = fits.tail; joined = new_joined; rot = fits.rot; values = fits.values; eight = fits.eight })
       | inr ne ↦ may.valid.each j a (sym (at_other j ne) ∙ e)
     ];
     apart = λ j k v s t. elim (who j v s) [
@@ -186,8 +185,7 @@ module _ (c : Config) (i : ℕ) (b : Bot) (q : Node) (may : MayExpand c i b q) w
   expanded : IsPatched c (expansion i b q) (after c i b q)
   expanded = record {
     valid = after_valid;
-    area = refl;
-    maxes = refl;
+    rest = refl;
     size = length-set c.bots i (Some (with_head b q));
     ids = λ j. elim (cases_eq j i) [
       | inl e ↦ ap is_some (ap (bot_at (after c i b q)) e ∙ at_own) ∙ sym (ap is_some (ap (bot_at c) e ∙ may.there))
@@ -254,7 +252,7 @@ outcome p i b inside empty = outcome_of p i b (is_contracted b) (is_port b p) in
 
 -- the conditions of Expand, each tried once the guard holds
 by_conditions : (old new : Config) (p : Port) (patch : Pairs) (contracted port inside empty : Bool) → (contracted ≡ true → port ≡ true → inside ≡ true → empty ≡ true → diff old new ≡ patch) →
-    (if contracted then settled old 0 (moved.Expand p) (need contracted NotContracted (need port NoPort (need inside Edge (need empty Occupied (Ok new))))) else verdict.Idle)
+    (if contracted then verdict_by old 0 (moved.Expand p) (need contracted NotContracted (need port NoPort (need inside Edge (need empty Occupied (Ok new))))) else verdict.Idle)
     ≡ (if contracted then if port then if inside then if empty then verdict.Change (record { action = 0; moved = moved.Expand p; patch = patch }) else verdict.Failed Occupied else verdict.Failed Edge else verdict.Failed NoPort else verdict.Idle)
 by_conditions old new p patch false port inside empty same = refl
 by_conditions old new p patch true false inside empty same = refl
@@ -288,9 +286,9 @@ may_expand c i b p valid at contracted port inside empty = record {
 }
 
 -- the verdict on a configuration is that outcome
-pub verdict_is : (p : Port) (c : Config) (i : ℕ) (b : Bot) → IsValid c → bot_at c i ≡ Some b → expands_when_contracted p c i ≡ outcome p i b (is_in c.area (behind b p)) (is_none (occupant c (behind b p)))
+pub verdict_is : (p : Port) (c : Config) (i : ℕ) (b : Bot) → IsValid c → bot_at c i ≡ Some b → expansion_verdict p c i ≡ outcome p i b (is_in c.area (behind b p)) (is_none (occupant c (behind b p)))
 verdict_is p c i b valid at =
-    let of_bot : Bot → Verdict = λ a. if is_contracted a then settled c 0 (moved.Expand p) (need (is_contracted a) NotContracted (need (is_port a p) NoPort (need (is_in c.area (behind a p)) Edge (need (is_none (occupant c (behind a p))) Occupied (Ok (set_bot c i (with_head a (behind a p)))))))) else verdict.Idle in
+    let of_bot : Bot → Verdict = λ a. if is_contracted a then verdict_by c 0 (moved.Expand p) (need (is_contracted a) NotContracted (need (is_port a p) NoPort (need (is_in c.area (behind a p)) Edge (need (is_none (occupant c (behind a p))) Occupied (Ok (set_bot c i (with_head a (behind a p)))))))) else verdict.Idle in
     ap of_bot (ap (λ o. unwrap_or o blank) at)
     ∙ by_conditions c (after c i b (behind b p)) p (expansion i b (behind b p)) (is_contracted b) (is_port b p) (is_in c.area (behind b p)) (is_none (occupant c (behind b p))) (λ contracted port inside empty. diff_is c i b (behind b p) (may_expand c i b p valid at contracted port inside empty))
 
@@ -315,8 +313,8 @@ there_is None t = absurd (false≢true t)
 there_is (Some b) t = (b, refl)
 
 -- it is the verdict on each valid configuration that shows it
-pub expansion_is_decided_alike : ExpansionIsDecidedAlike
-expansion_is_decided_alike p c i valid there =
+pub expansion_verdict_is_shown : ExpansionVerdictIsShown
+expansion_verdict_is_shown p c i valid there =
     let own = there_is (bot_at c i) there in
     let b = own.0 in
     let rot = (plain_bot c valid i b own.1).rot in
@@ -340,20 +338,20 @@ pub record Expansion (p : Port) (c : Config) (i : ℕ) (change : Change) : Type 
   pub may : MayExpand c i bot (behind bot p)
   pub patch : change.patch ≡ expansion i bot (behind bot p)
 
-pub expansion_of : (p : Port) (c : Config) (i : ℕ) (change : Change) → Changes (expansion_decided p) c i change → Expansion p c i change
+pub expansion_of : (p : Port) (c : Config) (i : ℕ) (change : Change) → Changes (expansion_verdict_shown p) c i change → Expansion p c i change
 expansion_of p c i change changes =
     let own = there_is (bot_at c i) changes.there in
     let b = own.0 in
-    let told = change_tells p i b (is_in c.area (behind b p)) (is_none (occupant c (behind b p))) change (sym (verdict_is p c i b changes.valid own.1) ∙ sym (expansion_is_decided_alike p c i changes.valid changes.there) ∙ changes.decided) in
+    let told = change_tells p i b (is_in c.area (behind b p)) (is_none (occupant c (behind b p))) change (sym (verdict_is p c i b changes.valid own.1) ∙ sym (expansion_verdict_is_shown p c i changes.valid changes.there) ∙ changes.decided) in
     record { bot = b; may = may_expand c i b p changes.valid own.1 told.0 told.1 told.2 told.3; patch = told.4 }
 
-pub expansion_has_next : (p : Port) → HasNext (expansion_decided p)
+pub expansion_has_next : (p : Port) → HasNext (expansion_verdict_shown p)
 expansion_has_next p c i change changes =
     let e = expansion_of p c i change changes in
     let P : Pairs → Type 0 = λ ps. HasPatched c ps in
     subst P (sym e.patch) (after c i e.bot (behind e.bot p), expanded c i e.bot (behind e.bot p) e.may)
 
-pub expansion_touches_zone : (p : Port) → TouchesZone (expansion_decided p)
+pub expansion_touches_zone : (p : Port) → TouchesZone (expansion_verdict_shown p)
 expansion_touches_zone p c i change changes =
     let e = expansion_of p c i change changes in
     let b = e.bot in
@@ -365,7 +363,7 @@ expansion_touches_zone p c i change changes =
     (Contains-from_Has (zone c i) (spot_in_zone c i b q e.may.there (beside_in_zone c.area b q rot beside e.may.inside)))
     (All-cons P (name.Body i, cell.Body (with_head b q)) [] (Contains-from_Has (zone c i) (own_in_zone c i b e.may.there)) (All-nil P)))
 
-pub expansion_is_exact : (p : Port) → IsExact (expansion_decided p)
+pub expansion_is_exact : (p : Port) → IsExact (expansion_verdict_shown p)
 expansion_is_exact p c i change changes =
     let e = expansion_of p c i change changes in
     let b = e.bot in
@@ -397,7 +395,7 @@ port_beside s b p q at rot contracted port is =
     ∙ or_left _ _ (or_right _ _ (Adjacent-is_adjacent b.head (behind b p) (port_next b p rot contracted port)))
 
 -- where each condition holds, the verdict is this change
-pub change_decided : (s : Shown) (b : Bot) (p : Port) (q : Node) (patch : Pairs) → IsValid (gap s) → Some b ≡ bot_at (gap s) s.bot → is_contracted b ≡ true → is_port b p ≡ true → q ≡ behind b p → is_in s.area q ≡ true → occupant (gap s) q ≡ None → patch ≡ expansion s.bot b q → verdict.Change (record { action = 0; moved = moved.Expand p; patch = patch }) ≡ expansion_decided p s
+pub change_decided : (s : Shown) (b : Bot) (p : Port) (q : Node) (patch : Pairs) → IsValid (gap s) → Some b ≡ bot_at (gap s) s.bot → is_contracted b ≡ true → is_port b p ≡ true → q ≡ behind b p → is_in s.area q ≡ true → occupant (gap s) q ≡ None → patch ≡ expansion s.bot b q → verdict.Change (record { action = 0; moved = moved.Expand p; patch = patch }) ≡ expansion_verdict_shown p s
 change_decided s b p q patch valid at contracted port is inside empty made =
     let change : Pairs → Verdict = λ ps. verdict.Change (record { action = 0; moved = moved.Expand p; patch = ps }) in
     ap change (made ∙ ap (expansion s.bot b) is)

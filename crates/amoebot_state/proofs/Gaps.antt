@@ -101,6 +101,7 @@ gap_covers c i j v t = elim (bot_at (gap (shown c i)) j) as (λ o. bot_at (gap (
 pub gap_valid : (c : Config) (i : ℕ) → IsValid c → IsValid (gap (shown c i))
 gap_valid c i valid = record {
   area = valid.area;
+  eight = valid.eight;
   each = λ j b e. valid.each j b (gap_only c i j b e).0;
   apart = λ j k v s t. valid.apart j k v (gap_covers c i j v s) (gap_covers c i k v t);
 }

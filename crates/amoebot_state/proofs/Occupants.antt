@@ -114,4 +114,4 @@ outside_empty c valid v e =
 pub plain_bot : (c : Config) → IsValid c → (i : ℕ) (b : Bot) → bot_at c i ≡ Some b → IsPlain b
 plain_bot c valid i b at =
     let fits = valid.each i b at in
-    record { head = near_in c.area b.head valid.area fits.head; tail = near_in c.area b.tail valid.area fits.tail; rot = fits.rot }
+    record { head = near_in c.area b.head valid.area fits.head; tail = near_in c.area b.tail valid.area fits.tail; rot = fits.rot; eight = fits.eight }

@@ -1,7 +1,7 @@
 -- What a patch leaves: each amoebot and each occupant is that of the patched configuration.
 use Rattle.std.proofs.Common.{◌≡◌, ◌≢◌, ◌⊎◌, ◌<◌, ◌*◌, ℕ, List, [], ◌∷◌, map, length, get_or, set, ap, sym, ◌∙◌, refl, subst, inl, inr, arith, Option, Some, None}
 use Rattle.std.specs.Option.{option_map}
-use Rattle.std.specs.List.{fold, All, AllByRecursion, Contains}
+use Rattle.std.specs.List.{fold, All, AllByRecursion}
 use Rattle.std.proofs.lemmas.List.{get_or-set_same, get_or-set_other, length-set, length-map, ext_get_or, get_or-map, map-set}
 use Rattle.std.proofs.lemmas.List.Elements.{All-nil, All-cons, All-head, All-tail, recursion_from_All}
 use Rattle.std.proofs.lemmas.Bool.{cases_eq}
@@ -16,8 +16,7 @@ use Rattle.amoebot_state.specs.declared.cell.Cell.{Cell}
 use Rattle.amoebot_state.specs.declared.cell.Cell.TheVariants as cell
 use Rattle.amoebot_state.specs.Configs.{Config, IsValid, IsGrid, IsWorld, config_of, bot_at, occupant, value}
 use Rattle.amoebot_state.specs.Patches.{IsPatched}
-use Rattle.amoebot_state.specs.declared.verdict.Entry.{Entry}
-use Rattle.amoebot_state.specs.Steps.{Step, Run}
+use Rattle.amoebot_state.specs.Steps.{Run}
 use Rattle.amoebot_state.specs.Laws.{PatchedIsUnique, PatchListsWhatDiffers, StepHasOneResult, RunHasOneLast}
 use Rattle.amoebot_state.proofs.Members.{Has, here, later, has_cases, not_in_none, Has-map, Contains-from_Has}
 use Rattle.amoebot_state.specs.Storage.{put_bot, put_at, put_spot, put_bots, put_spots}
@@ -185,7 +184,7 @@ same_config a b x y z = λ i. record { area = x i; maxes = y i; bots = z i }
 
 -- the fields after the patch are those of the patched configuration
 pub is_patched : (a : Extent) (maxes : List ℕ) (bs : List Bot) (ps : List (CellName × Cell)) (new : Config) → IsPatched (config_of a maxes bs) ps new → new ≡ config_of a maxes (put_bots bs ps)
-is_patched a maxes bs ps new patched = same_config _ _ patched.area patched.maxes (sym (bots_patched a maxes bs ps new patched))
+is_patched a maxes bs ps new patched = patched.rest ∙ ap (λ (os : List (Option Bot)). let c : Config = record { area = a; maxes = maxes; bots = os } in c) (sym (bots_patched a maxes bs ps new patched))
 
 -- a world stays one
 pub world_patched : (a : Extent) (maxes : List ℕ) (bs : List Bot) (g : List (Option ℕ)) (ps : List (CellName × Cell)) (new : Config) → IsWorld (config_of a maxes bs) g → IsPatched (config_of a maxes bs) ps new → IsWorld (config_of a maxes (put_bots bs ps)) (put_spots a g ps)
@@ -195,7 +194,7 @@ world_patched a maxes bs g ps new world patched =
       valid = subst IsValid same patched.valid;
       kept =
           let P : Config → Type 0 = λ c. IsGrid c (put_spots c.area g ps) in
-          subst P same (grid_patched (config_of a maxes bs) new g ps world.kept patched patched.area);
+          subst P same (grid_patched (config_of a maxes bs) new g ps world.kept patched (ap (λ (c : Config). c.area) patched.rest));
       few =
           let e : length (map Some (put_bots bs ps)) ≡ length (map Some bs) = length-map (put_bots bs ps) Some ∙ length_puts ps bs ∙ sym (length-map bs Some) in
           let f = world.few in omega arith;
@@ -241,7 +240,7 @@ body_alike (Some b) (Some c) e = cc
 
 pub patched_is_unique : PatchedIsUnique
 patched_is_unique old one two ps first second =
-    same_config one two (first.area ∙ sym second.area) (first.maxes ∙ sym second.maxes)
+    same_config one two (ap (λ (c : Config). c.area) first.rest ∙ sym (ap (λ (c : Config). c.area) second.rest)) (ap (λ (c : Config). c.maxes) first.rest ∙ sym (ap (λ (c : Config). c.maxes) second.rest))
     (ext_get_or None one.bots two.bots (first.size ∙ sym second.size) (λ i below. body_alike _ _ (values_alike old one two ps first second (name.Body i))))
 
 pub step_has_one_result : StepHasOneResult

@@ -1,8 +1,8 @@
 -- What is shown, as the code makes and reads it.
-use Rattle.std.proofs.Common.{◌≡◌, ◌≤◌, ℕ, List, [], ◌∷◌, ◌++◌, length, map, true, false, ap, sym, ◌∙◌, refl, subst, inl, inr, arith, Option, Some, None}
-use Rattle.std.specs.Prelude.{IsSome, is_some, unwrap_or}
+use Rattle.std.proofs.Common.{◌≡◌, ◌≤◌, ℕ, List, [], ◌∷◌, ◌++◌, length, map, true, false, ap, sym, ◌∙◌, refl, subst, inl, inr, arith, Bor, Option, Some, None}
+use Rattle.std.specs.Prelude.{IfSome, IsSome, is_some, unwrap_or}
 use Rattle.std.specs.List.{filter_map, cons_option}
-use Rattle.std.specs.Option.{option_map}
+use Rattle.std.specs.Option.{option_map, option_copied}
 use Rattle.std.proofs.lemmas.Bool.{cases_Bool, both_ways, false≢true}
 use Rattle.std.proofs.lemmas.List.Elements.{filter_map-append}
 use Rattle.tri_lattice.specs.declared.node.Node.{Node}
@@ -142,3 +142,8 @@ spot_told s is v beside =
 
 pub is_shown : (c : Config) (i : ℕ) (a : Extent) (maxes : List ℕ) (cells : List (CellName × Cell)) → a ≡ c.area → maxes ≡ c.maxes → cells ≡ filter_map (shown_cell c) (zone c i) → (let s : Shown = record { area = a; maxes = maxes; bot = i; cells = cells } in s) ≡ shown c i
 is_shown c i a maxes cells e m x = λ t. record { area = e t; maxes = m t; bot = i; cells = x t }
+
+-- an amoebot that the gap configuration has
+pub plain_if : (s : Shown) → IsShown s → (r : Option (Bor Bot)) (i : ℕ) → option_copied r ≡ bot_at (gap s) i → IfSome r (λ b. IsPlain b.now)
+plain_if s is None i e = tt
+plain_if s is (Some b) i e = plain_bot (gap s) (shown_valid s is) i b.now (sym e)

@@ -15,6 +15,7 @@ use Rattle.amoebot_state.specs.declared.cell.Cell.{Cell}
 use Rattle.amoebot_state.specs.declared.cell.Cell.TheVariants as cell
 use Rattle.amoebot_state.specs.Ports.{is_own}
 
+-- (the paper's configuration of amoebots; the area, the maxima and the ids are this project's profile)
 pub record Config : Type 0 where
   pub area : Extent
   pub maxes : List ℕ
@@ -28,7 +29,7 @@ bot_at c i = slice_index_or c.bots i None
 abbrev pub blank : Bot
 blank = let origin : Node = record { x = pos 0; y = pos 0 } in record { head = origin; tail = origin; rot = 0; chir = chir.Plus; mem = 0 ∷ 0 ∷ 0 ∷ 0 ∷ 0 ∷ 0 ∷ 0 ∷ 0 ∷ [] }
 
--- the amoebot with an id, or a blank one
+-- the amoebot with an id that is there; else a blank one, so that the word is total
 abbrev pub bot_of : Config → ℕ → Bot
 bot_of c i = unwrap_or (bot_at c i) blank
 
@@ -37,7 +38,7 @@ abbrev pub covers : Option Bot → Node → Bool
 covers None v = false
 covers (Some b) v = is_own b v
 
--- the id whose amoebot has the node, if one has
+-- the id whose amoebot has the node as its head or its tail, if one has
 abbrev pub occupant : Config → Node → Option ℕ
 occupant c v = position (λ o. covers o v) c.bots
 
@@ -57,18 +58,21 @@ variables = 0 ∷ 1 ∷ 2 ∷ 3 ∷ 4 ∷ 5 ∷ 6 ∷ 7 ∷ []
 abbrev pub has_values : List ℕ → List ℕ → Bool
 has_values maxes values = list_all (λ k. nat_le (slice_index values k) (slice_index maxes k)) variables
 
--- an amoebot that may stand in the area
+-- an amoebot that may stand in the area: it is there on one node or on two adjacent ones (the paper's geometric variant), has
+-- a rotation of 0 to 5, and no value above its maximum (this project's profile)
 pub record IsBot (area : Extent) (maxes : List ℕ) (b : Bot) : Type 0 where
   pub head : IsTrue (is_in area b.head)
   pub tail : IsTrue (is_in area b.tail)
   pub joined : IsTrue (is_joined b.head b.tail)
   pub rot : b.rot < 6
   pub values : IsTrue (has_values maxes b.mem)
+  pub eight : length b.mem ≡ 8
 
 -- each amoebot may stand in the area, and no node belongs to two ids (the paper's geometric variant, within this project's
 -- area)
 pub record IsValid (c : Config) : Type 0 where
   pub area : IsArea c.area
+  pub eight : length c.maxes ≡ 8
   pub each : (i : ℕ) (b : Bot) → bot_at c i ≡ Some b → IsBot c.area c.maxes b
   pub apart : (i j : ℕ) (v : Node) → IsTrue (covers (bot_at c i) v) → IsTrue (covers (bot_at c j) v) → i ≡ j
 
@@ -78,11 +82,11 @@ config_of a maxes bots = record { area = a; maxes = maxes; bots = map Some bots 
 
 -- the configuration with one more amoebot
 abbrev pub with_bot : Config → Bot → Config
-with_bot c b = record { area = c.area; maxes = c.maxes; bots = c.bots ++ Some b ∷ [] }
+with_bot c b = record c { bots = c.bots ++ Some b ∷ [] }
 
 -- the configuration in which the id has this amoebot
 abbrev pub set_bot : Config → ℕ → Bot → Config
-set_bot c i b = record { area = c.area; maxes = c.maxes; bots = slice_set c.bots i (Some b) }
+set_bot c i b = record c { bots = slice_set c.bots i (Some b) }
 
 -- the occupant of each node of the area, by the nodes' numbers
 pub record IsGrid (c : Config) (grid : List (Option ℕ)) : Type 0 where

@@ -8,15 +8,15 @@ use Rattle.amoebot_state.specs.declared.bot.Bot.{Bot}
 use Rattle.amoebot_state.specs.declared.bot.Port.{Port}
 use Rattle.amoebot_state.specs.declared.cell.CellName.{CellName}
 use Rattle.amoebot_state.specs.declared.cell.CellName.TheVariants as name
-use Rattle.amoebot_state.specs.declared.cell.Cell.{Cell}
 use Rattle.amoebot_state.specs.declared.verdict.Entry.{Entry}
 use Rattle.amoebot_state.specs.declared.verdict.Verdict.{Verdict}
+use Rattle.amoebot_state.specs.Pairs.{Pairs, cell_of}
 use Rattle.amoebot_state.specs.Ports.{global, local, is_port, ports, behind}
 use Rattle.amoebot_state.specs.Configs.{Config, IsValid, bot_at, occupant, value}
 use Rattle.amoebot_state.specs.Zones.{Shown, IsShown, distinct, zone, shown, gap}
 use Rattle.amoebot_state.specs.Patches.{IsPatched}
 use Rattle.amoebot_state.specs.Steps.{Step, Run}
-use Rattle.amoebot_state.specs.Moves.{expands_when_contracted, expansion_decided}
+use Rattle.amoebot_state.specs.Moves.{expansion_verdict, expansion_verdict_shown}
 
 -- local and global directions are both 0 to 5, and the one is the inverse of the other, with either chirality
 abbrev pub GlobalAndLocalAreInverse : Type 0
@@ -74,11 +74,11 @@ GapShowsWhatWasShown = (s : Shown) → IsShown s → shown (gap s) s.bot ≡ s
 
 -- at most one configuration is the one that a patch leads to
 abbrev pub PatchedIsUnique : Type 0
-PatchedIsUnique = (old one two : Config) (ps : List (CellName × Cell)) → IsPatched old ps one → IsPatched old ps two → one ≡ two
+PatchedIsUnique = (old one two : Config) (ps : Pairs) → IsPatched old ps one → IsPatched old ps two → one ≡ two
 
 -- a patch lists each cell whose value differs
 abbrev pub PatchListsWhatDiffers : Type 0
-PatchListsWhatDiffers = (old new : Config) (ps : List (CellName × Cell)) → IsPatched old ps new → (n : CellName) → value new n ≢ value old n → Contains (map (λ (p : CellName × Cell). p.0) ps) n
+PatchListsWhatDiffers = (old new : Config) (ps : Pairs) → IsPatched old ps new → (n : CellName) → value new n ≢ value old n → Contains (map cell_of ps) n
 
 -- a step has at most one result
 abbrev pub StepHasOneResult : Type 0
@@ -90,5 +90,5 @@ RunHasOneLast = (f : Shown → Verdict) (old : Config) (es : List Entry) (one tw
 
 -- what the decider that expands contracted amoebots says of what a valid configuration shows is the verdict on that
 -- configuration
-abbrev pub ExpansionIsDecidedAlike : Type 0
-ExpansionIsDecidedAlike = (p : Port) (c : Config) (i : ℕ) → IsValid c → IsSome (bot_at c i) → expansion_decided p (shown c i) ≡ expands_when_contracted p c i
+abbrev pub ExpansionVerdictIsShown : Type 0
+ExpansionVerdictIsShown = (p : Port) (c : Config) (i : ℕ) → IsValid c → IsSome (bot_at c i) → expansion_verdict_shown p (shown c i) ≡ expansion_verdict p c i

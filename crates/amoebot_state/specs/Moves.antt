@@ -25,8 +25,8 @@ abbrev pub with_head : Bot → Node → Bot
 with_head b v = record b { head = v }
 
 -- Expand through a port: a contracted amoebot enters the node behind it, if that lies in the area and is empty. The head moves
--- there, and the old node is the tail. The conditions are tried in this order (the paper's operation; the order of its
--- failures is this project's profile)
+-- there, and the old node is the tail. The conditions are tried in this order (the name is the paper's; the
+-- conditions, failures and their order are this project's profile). The id has to be there
 abbrev pub expand : Config → ℕ → Port → Result Config Failure
 expand c i p =
     let b = bot_of c i in
@@ -37,15 +37,15 @@ expand c i p =
     (Ok (set_bot c i (with_head b (behind b p)))))))
 
 -- the difference that an operation makes, as the change of an action; or its failure
-abbrev pub settled : Config → ℕ → Moved → Result Config Failure → Verdict
-settled old action by (Ok new) = verdict.Change (record { action = action; moved = by; patch = diff old new })
-settled old action by (Err f) = verdict.Failed f
+abbrev pub verdict_by : Config → ℕ → Moved → Result Config Failure → Verdict
+verdict_by old action by (Ok new) = verdict.Change (record { action = action; moved = by; patch = diff old new })
+verdict_by old action by (Err f) = verdict.Failed f
 
 -- what a program decides on an amoebot of a configuration whose one action, of number 0, is to expand through a port when it
--- is contracted: an expanded amoebot is idle (the paper's guarded actions)
-abbrev pub expands_when_contracted : Port → Config → ℕ → Verdict
-expands_when_contracted p c i = if is_contracted (bot_of c i) then settled c 0 (moved.Expand p) (expand c i p) else verdict.Idle
+-- is contracted: an expanded amoebot is idle (guarded actions are the paper's; the verdict is this project's profile)
+abbrev pub expansion_verdict : Port → Config → ℕ → Verdict
+expansion_verdict p c i = if is_contracted (bot_of c i) then verdict_by c 0 (moved.Expand p) (expand c i p) else verdict.Idle
 
 -- the same, decided on what the amoebot is shown: on the configuration that has what is shown and no other amoebot
-abbrev pub expansion_decided : Port → Shown → Verdict
-expansion_decided p s = expands_when_contracted p (gap s) s.bot
+abbrev pub expansion_verdict_shown : Port → Shown → Verdict
+expansion_verdict_shown p s = expansion_verdict p (gap s) s.bot

@@ -14,20 +14,19 @@ use Rattle.amoebot_state.specs.declared.cell.CellName.{CellName}
 use Rattle.amoebot_state.specs.declared.cell.CellName.TheVariants as name
 use Rattle.amoebot_state.specs.declared.cell.Cell.{Cell}
 use Rattle.amoebot_state.specs.declared.cell.Cell.TheVariants as cell
-use Rattle.amoebot_state.specs.Pairs.{Pairs}
+use Rattle.amoebot_state.specs.Pairs.{Pairs, cell_of, value_of}
 use Rattle.amoebot_state.specs.Configs.{Config, IsValid, bot_at, value}
 use Rattle.amoebot_state.specs.Zones.{shown_cell}
 
--- new is the configuration with the values of the patch: it is valid, has the same ids, the patch's values in the patch's
--- cells, and the old values in all others
+-- new is the configuration with the values of the patch: it is valid, differs from the old one in its amoebots at most, has
+-- the same ids, the patch's values in the patch's cells, and the old values in all others (this project's profile)
 pub record IsPatched (old : Config) (patch : Pairs) (new : Config) : Type 0 where
   pub valid : IsValid new
-  pub area : new.area ≡ old.area
-  pub maxes : new.maxes ≡ old.maxes
+  pub rest : new ≡ record old { bots = new.bots }
   pub size : length new.bots ≡ length old.bots
   pub ids : (i : ℕ) → is_some (bot_at new i) ≡ is_some (bot_at old i)
-  pub given : All (λ (p : CellName × Cell). value new p.0 ≡ Some p.1) patch
-  pub kept : (n : CellName) → All (λ (p : CellName × Cell). p.0 ≢ n) patch → value new n ≡ value old n
+  pub given : All (λ (p : CellName × Cell). value new (cell_of p) ≡ Some (value_of p)) patch
+  pub kept : (n : CellName) → All (λ (p : CellName × Cell). cell_of p ≢ n) patch → value new n ≡ value old n
 
 -- the patch leads from the configuration to one
 abbrev pub HasPatched : Config → Pairs → Type 0
@@ -38,9 +37,9 @@ abbrev pub rank : CellName → ℕ
 rank (name.Spot v) = 0
 rank (name.Body i) = i + 1
 
--- at most one node, which stands first, and the bodies in rising id
+-- at most one node, which stands first, and the bodies in rising id (this project's profile)
 abbrev pub IsOrdered : Pairs → Type 0
-IsOrdered ps = IsStrictlyIncreasing (map (λ (p : CellName × Cell). rank p.0) ps)
+IsOrdered ps = IsStrictlyIncreasing (map (λ (p : CellName × Cell). rank (cell_of p)) ps)
 
 abbrev pub chir_eq : Chir → Chir → Bool
 chir_eq chir.Plus chir.Plus = true
@@ -77,6 +76,6 @@ changed old new n = if same_value (value old n) (value new n) then None else sho
 abbrev pub all_cells : Config → List CellName
 all_cells c = map (λ k. name.Spot (node_at c.area k)) (range_with_len 0 (c.area.w * c.area.h)) ++ map name.Body (range_with_len 0 (length c.bots))
 
--- the cells whose value differs, with their new values
+-- the cells whose value differs, with their new values: first the nodes, then the bodies in rising id
 abbrev pub diff : Config → Config → Pairs
 diff old new = filter_map (changed old new) (all_cells old)

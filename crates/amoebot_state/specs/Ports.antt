@@ -19,12 +19,12 @@ is_own b v = node_eq b.head v || node_eq b.tail v
 
 -- the global direction of a local one: with one chirality the local directions go round as the global ones, with the
 -- other against them (this project's profile)
-abbrev pub turned_by : Chir → ℕ → ℕ → ℕ
-turned_by chir.Plus rot i = (rot + i) % 6
-turned_by chir.Minus rot i = (rot + (6 - i)) % 6
+abbrev pub global_by : Chir → ℕ → ℕ → ℕ
+global_by chir.Plus rot i = (rot + i) % 6
+global_by chir.Minus rot i = (rot + (6 - i)) % 6
 
 abbrev pub global : Bot → ℕ → ℕ
-global b i = turned_by b.chir b.rot i
+global b i = global_by b.chir b.rot i
 
 -- the local direction of a global one
 abbrev pub local_by : Chir → ℕ → ℕ → ℕ
@@ -39,7 +39,7 @@ abbrev pub end_node : Bot → End → Node
 end_node b Head = b.head
 end_node b Tail = b.tail
 
--- the node behind a pair of an end and a local direction
+-- the node behind a pair of an end and a local direction: one step from the end's node (the paper's geometric variant)
 abbrev pub behind : Bot → Port → Node
 behind b p = step (end_node b p.end) (global b p.dir)
 
@@ -47,7 +47,8 @@ abbrev pub is_head : End → Bool
 is_head Head = true
 is_head Tail = false
 
--- contracted: the six pairs of the head; expanded: the pairs of both ends that lead to no node of its own
+-- contracted: the six pairs of the head; expanded: the pairs of both ends that lead to no node of its
+-- own (the paper's geometric variant)
 abbrev pub is_port : Bot → Port → Bool
 is_port b p = nat_lt p.dir 6 && (if is_contracted b then is_head p.end else not (is_own b (behind b p)))
 

@@ -40,7 +40,7 @@ zone_at c i (Some b) = zone_of c i (zone_nodes c.area b)
 abbrev pub zone : Config → ℕ → List CellName
 zone c i = zone_at c i (bot_at c i)
 
--- a closed neighbourhood: the area, the greatest values, the id that is shown it, and cells with what they hold
+-- a closed neighbourhood (this project's profile): the area, the greatest values, the id that is shown it, and cells with what they hold
 pub record Shown : Type 0 where
   pub area : Extent
   pub maxes : List ℕ
@@ -73,7 +73,7 @@ spread ((name.Spot v, x) ∷ cells) = spread cells
 spread ((name.Body i, cell.Spot o) ∷ cells) = spread cells
 spread ((name.Body i, cell.Body b) ∷ cells) = with_id (spread cells) i b
 
--- the configuration that has what is shown and no other amoebot
+-- the configuration that has what is shown and no other amoebot: the ids that are not shown are gaps in it
 abbrev pub gap : Shown → Config
 gap s = record { area = s.area; maxes = s.maxes; bots = spread s.cells }
 

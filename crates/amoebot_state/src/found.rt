@@ -1,4 +1,4 @@
-ghost use Rattle.std.specs.Prelude.{◌≡◌, ◌≤◌, length, IsTrue};
+ghost use Rattle.std.specs.Prelude.{◌≡◌, ◌≤◌, length, IfSome, IsTrue};
 ghost use Rattle.std.specs.Option.{option_copied};
 ghost use Rattle.amoebot_state.specs.Configs.{IsValid, bot_at, bot_of, occupant};
 ghost use Rattle.amoebot_state.specs.Ports.{is_beside};
@@ -97,6 +97,7 @@ impl Found {
     pub fn own(&self) -> &Bot
         ensures value { Some result.now ≡ bot_at (gap self.now) self.now.bot }
         ensures plain { IsPlain result.now }
+        ensures shown { IsShown self.now }
         ensures valid { IsValid (gap self.now) }
     {
         &self.own
@@ -113,7 +114,8 @@ impl Found {
 
     /// The amoebot with an id; None exactly where its body is not in the zone.
     pub fn body(&self, id: u16) -> Option<&Bot>
-        ensures { option_copied result ≡ bot_at (gap self.now) id }
+        ensures value { option_copied result ≡ bot_at (gap self.now) id }
+        ensures plain { IfSome result (λ b. IsPlain b.now) }
     {
         body_in(self.cells.as_slice(), id)
     }

@@ -1,4 +1,4 @@
-ghost use Rattle.amoebot_state.specs.Laws.{GlobalAndLocalAreInverse, ContractedHasSixPorts, ExpandedHasTenPorts, SixPortsLeadToSixNodes, TenPortsLeadToEightNodes, ZoneListsEachCellOnce, ZoneHasAtMostTenNodes, ZoneHasAtMostNineBodies, NodeBehindPortIsInZone, OccupantBehindPortIsInZone, GapShowsWhatWasShown, PatchedIsUnique, PatchListsWhatDiffers, StepHasOneResult, RunHasOneLast, ExpansionIsDecidedAlike};
+ghost use Rattle.amoebot_state.specs.Laws.{GlobalAndLocalAreInverse, ContractedHasSixPorts, ExpandedHasTenPorts, SixPortsLeadToSixNodes, TenPortsLeadToEightNodes, ZoneListsEachCellOnce, ZoneHasAtMostTenNodes, ZoneHasAtMostNineBodies, NodeBehindPortIsInZone, OccupantBehindPortIsInZone, GapShowsWhatWasShown, PatchedIsUnique, PatchListsWhatDiffers, StepHasOneResult, RunHasOneLast, ExpansionVerdictIsShown};
 
 /// Local and global directions are both 0 to 5, and the one is the inverse of the other, with either chirality.
 pub fn global_and_local_are_inverse()
@@ -77,6 +77,6 @@ pub fn run_has_one_last()
 
 /// The decider that expands contracted amoebots says of what a valid configuration shows what the program says of that
 /// configuration.
-pub fn expansion_is_decided_alike()
-    ensures { ExpansionIsDecidedAlike }
+pub fn expansion_verdict_is_shown()
+    ensures { ExpansionVerdictIsShown }
 {}

@@ -17,7 +17,7 @@ pub use cell::{Cell, CellName, Patch};
 pub use decider::{Decider, has_next, is_exact, touches_zone};
 pub use found::Found;
 pub use laws::{
-    contracted_has_six_ports, expanded_has_ten_ports, expansion_is_decided_alike,
+    contracted_has_six_ports, expanded_has_ten_ports, expansion_verdict_is_shown,
     gap_shows_what_was_shown, global_and_local_are_inverse, node_behind_port_is_in_zone,
     occupant_behind_port_is_in_zone, patch_lists_what_differs, patched_is_unique, run_has_one_last,
     six_ports_lead_to_six_nodes, step_has_one_result, ten_ports_lead_to_eight_nodes,

@@ -3,7 +3,7 @@ ghost use Rattle.std.specs.List.{All, filter_map};
 ghost use Rattle.amoebot_state.specs.Configs.{Config, IsValid, bot_at, occupant, config_of, with_bot};
 ghost use Rattle.amoebot_state.specs.Zones.{shown, shown_cell, zone, others};
 ghost use Rattle.amoebot_state.specs.Patches.{IsPatched, HasPatched};
-ghost use Rattle.amoebot_state.specs.Refusals.{IsPlain, bot_fault, first_fault};
+ghost use Rattle.amoebot_state.specs.Refusals.{IsPlain, IsFaultless, IsFirstFault, bot_fault};
 ghost use Rattle.arrayvec.specs.ArrayVec.{array_vec_len};
 
 use crate::bot::Bot;
@@ -53,8 +53,8 @@ impl World {
         requires few { length bots.now ≤ 4096 }
         requires plain { All IsPlain bots.now }
         ensures value { IfOk result (λ w. w ≡ config_of area maxes bots.now) }
-        ensures sound { OnOk result (first_fault (config_of area maxes []) bots.now ≡ None) }
-        ensures fault { IfErr result (λ e. (e ≡ WorldRefusal.NoMemory) ⊎ (first_fault (config_of area maxes []) bots.now ≡ Some e)) }
+        ensures faultless { OnOk result (IsFaultless area maxes bots.now (length bots.now)) }
+        ensures fault { IfErr result (λ e. (e ≡ WorldRefusal.NoMemory) ⊎ IsFirstFault area maxes bots.now e) }
     {
         let mut world = World::empty(alloc, area, maxes, bots.len())?;
         for bot in bots {
@@ -122,6 +122,14 @@ impl World {
         }
     }
 
+    /// What a world keeps: it is valid, and has at most 4,096 amoebots.
+    pub fn keeps(&self)
+        ensures valid { IsValid self.now }
+        ensures few { length self.now.bots ≤ 4096 }
+    {
+        let _area = &self.area;
+    }
+
     /// The area.
     pub fn area(&self) -> Area
         ensures { result ≡ self.now.area }
@@ -147,7 +155,8 @@ impl World {
     /// The amoebot with an id.
     pub fn bot(&self, id: u16) -> &Bot
         requires { id < length self.now.bots }
-        ensures { Some result.now ≡ bot_at self.now id }
+        ensures value { Some result.now ≡ bot_at self.now id }
+        ensures plain { IsPlain result.now }
     {
         &self.amoebots[usize::from(id)]
     }
