@@ -1,0 +1,38 @@
+ghost use Rattle.std.specs.Prelude.{◌≡◌};
+
+use amoebot_state::{Cell, CellName, Change, Decider, Failure, Found, Moved, Patch, Port, Verdict};
+
+/// The program of one action, whose guard is that the amoebot is contracted and which expands it into the node behind a port.
+#[derive(Drop)]
+pub struct FirstAction {
+    pub port: Port,
+}
+
+impl Decider for FirstAction {
+    fn decide(&self, found: &Found) -> Verdict {
+        let own = *found.own();
+        if !own.is_contracted() {
+            return Verdict::Idle;
+        }
+        if !own.is_port(self.port) {
+            return Verdict::Failed(Failure::NoPort);
+        }
+        let node = own.behind(self.port);
+        if found.area().index(node).is_none() {
+            return Verdict::Failed(Failure::Edge);
+        }
+        if found.occupant(node).is_some() {
+            return Verdict::Failed(Failure::Occupied);
+        }
+        let mut expanded = own;
+        expanded.head = node;
+        let mut patch = Patch::new();
+        patch.push(CellName::Spot(node), Cell::Spot(Some(found.bot())));
+        patch.push(CellName::Body(found.bot()), Cell::Body(expanded));
+        Verdict::Change(Change {
+            action: 0,
+            moved: Moved::Expand(self.port),
+            patch,
+        })
+    }
+}

@@ -1,0 +1,56 @@
+//! The program: it reads a document from standard input, runs it, and writes what happened to standard output.
+#![tactic(auto)]
+
+mod decider;
+mod document;
+mod gate;
+mod journal;
+mod lists;
+mod marks;
+mod refusal;
+mod report;
+mod run;
+mod scan;
+mod serial;
+#[cfg(test)]
+mod tests;
+mod texts;
+
+use gate::NoGate;
+use outer_io::{StdSink, StdSource};
+use run::run;
+use std::process::ExitCode;
+use std::{env, io};
+
+/// The status where no memory is left for the list of words.
+const NO_MEMORY: u8 = 6;
+
+/// The status where the system refuses the words, as it does where one is not UTF-8.
+const NO_WORDS: u8 = 8;
+
+fn main(rt: HostRuntime) -> ExitCode {
+    let args = match env::args(&rt) {
+        Ok(args) => args,
+        Err(error) if error.kind() == io::ErrorKind::OutOfMemory => return ExitCode::from(
+            NO_MEMORY,
+        ),
+        Err(_) => return ExitCode::from(NO_WORDS),
+    };
+    let mut words = Vec::new(rt.alloc());
+    for word in args.skip(1) {
+        if words.push(word).is_err() {
+            return ExitCode::from(NO_MEMORY);
+        }
+    }
+    let mut input = StdSource::new(rt.stdin());
+    let mut out = StdSink::new(rt.stdout());
+    let ended = run(
+        &rt,
+        rt.alloc(),
+        words.as_slice(),
+        &mut input,
+        &mut out,
+        &NoGate,
+    );
+    ExitCode::from(ended.status.number())
+}

@@ -1,0 +1,225 @@
+ghost use Rattle.std.specs.Prelude.{◌≡◌, ◌≢◌, ◌≤◌, ◌↔◌, ◌⊎◌, ℕ, List, map, length, IsTrue, IsSome, None};
+ghost use Rattle.std.specs.String.{string_bytes};
+ghost use Rattle.std.specs.Io.KnownBytes.{Consumes, IsAtEnd};
+ghost use Rattle.outer_io.specs.Told.{Rose, Grows};
+ghost use Rattle.amoebot_run.specs.Commands.{IsRun};
+
+use crate::decider::FirstAction;
+use crate::document::{Unread, read_run};
+use crate::gate::{Gate, NoGate};
+use crate::refusal::{Refusal, RefusalKind};
+use crate::report::Report;
+use crate::serial::run_serially;
+use crate::texts::{Text, print_report};
+use arrayvec::ArrayString;
+use itoa::Buffer;
+use outer_io::{
+    ReadError, Sink, Source, SureSink, SureSource, WriteFault, read_document, write_all,
+};
+use std::alloc::Global;
+use std::sync::Wait;
+use std::thread::Threads;
+
+/// How a command ended.
+#[derive(Clone, Copy, Debug, PartialEq, Eq)]
+pub enum Status {
+    /// The whole text was written.
+    Done,
+    /// The words are no command.
+    Words,
+    /// The document has a fault.
+    Refused(Refusal),
+    /// A read failed.
+    ReadFault,
+    /// A write failed.
+    WriteFault,
+    /// There was not enough memory.
+    NoMemory,
+}
+
+impl Status {
+    /// The status with which the program ends.
+    pub fn number(self) -> u8 {
+        match self {
+            Status::Done => 0,
+            Status::Words => 2,
+            Status::Refused(_) => 3,
+            Status::ReadFault => 4,
+            Status::WriteFault => 5,
+            Status::NoMemory => 6,
+        }
+    }
+}
+
+/// How a command ended, and what a run left.
+#[derive(Drop)]
+pub struct Ended {
+    pub status: Status,
+    pub report: Option<Report>,
+}
+
+/// The most bytes that a document may have.
+const LIMIT: u32 = 1_048_576;
+
+/// What is written where the words are no command.
+const USAGE: &str =
+    "usage: run / interleave / replay / check / measure / show NAME / sample NUMBER\n";
+
+/// What is written where a read failed.
+const READ_FAULT: &str = "read fault\n";
+
+/// A document with more bytes than the limit.
+const TOO_LONG: Refusal = Refusal {
+    line: 0,
+    kind: RefusalKind::TooLong,
+};
+
+/// A document that is none of the first grammar.
+const NOT_YET: Refusal = Refusal {
+    line: 0,
+    kind: RefusalKind::NotYet,
+};
+
+/// Does what the words ask for: the single word `run` reads a document, runs it and writes what happened.
+///
+/// The words are judged first. Then the input is read to its end, then the document is judged and run, and its whole text is made
+/// before the first byte is written. No memory is taken for the line that another status than `Done` has.
+pub fn run<R: Threads + Wait + Sync, S: Source, K: Sink, G: Gate>(
+    _rt: &R,
+    alloc: Global,
+    words: &[String],
+    input: &mut S,
+    out: &mut K,
+    _gate: &G,
+) -> Ended
+    ensures report { IsSome result.report ↔ (result.status ≡ Status.Done) }
+
+    // The text is whole, of a document that was read to its end.
+    ensures done { result.status ≡ Status.Done → (document text : List ℕ)
+        × Consumes (S.left input.old) (S.left input.new) document × IsAtEnd (S.left input.new)
+        × (length document ≤ 1048576)
+        × Grows (K.written out.old) (K.written out.new) text
+        × IsRun (map string_bytes words.now) }
+
+    // Where the words are no command, nothing is read, and only a write that fails hides that.
+    ensures words { result.status ≡ Status.Words → ¬ IsRun (map string_bytes words.now) }
+    ensures unread { ¬ IsRun (map string_bytes words.now) → input.new ≡ input.old }
+    ensures no_command { ¬ IsRun (map string_bytes words.now) → (result.status ≡ Status.Words) ⊎ (result.status ≡ Status.WriteFault) }
+    ensures usage { result.status ≡ Status.Words → Grows (K.written out.old) (K.written out.new) USAGE.now }
+
+    // A document is refused for one of two reasons.
+    ensures refused { (refusal : Refusal) → result.status ≡ Status.Refused refusal → (refusal ≡ TOO_LONG) ⊎ (refusal ≡ NOT_YET) }
+    ensures too_long { result.status ≡ Status.Refused TOO_LONG → (got : List ℕ)
+        × Consumes (S.left input.old) (S.left input.new) got × (length got ≡ 1048577) }
+    ensures not_yet { result.status ≡ Status.Refused NOT_YET → (document : List ℕ)
+        × Consumes (S.left input.old) (S.left input.new) document × IsAtEnd (S.left input.new)
+        × (length document ≤ 1048576) }
+
+    // A fault is that of the object that was handed in.
+    ensures read_fault { result.status ≡ Status.ReadFault → Rose (S.faults input.old) (S.faults input.new) }
+    ensures read_fault_line { result.status ≡ Status.ReadFault → Grows (K.written out.old) (K.written out.new) READ_FAULT.now }
+    ensures write_fault { result.status ≡ Status.WriteFault → Rose (K.faults out.old) (K.faults out.new) }
+
+    ensures no_memory { result.status ≡ Status.NoMemory → out.new ≡ out.old }
+{
+    if !is_run(words) {
+        return end_with_line(out, USAGE, Status::Words);
+    }
+    let document = match read_document(alloc, input, LIMIT) {
+        Ok(document) => document,
+        Err(ReadError::ReadFault) => return end_with_line(out, READ_FAULT, Status::ReadFault),
+        Err(ReadError::TooLong) => return end_refused(out, TOO_LONG),
+        Err(ReadError::NoMemory) => return end_with(Status::NoMemory),
+    };
+    match run_document(alloc, document.bytes()) {
+        Ok((report, text)) => match write_all(out, text.bytes()) {
+            Ok(()) => Ended {
+                status: Status::Done,
+                report: Some(report),
+            },
+            Err(WriteFault) => end_with(Status::WriteFault),
+        },
+        Err(Unread::NotYet) => end_refused(out, NOT_YET),
+        Err(Unread::NoMemory) => end_with(Status::NoMemory),
+    }
+}
+
+/// Runs a document, and makes the text of the run.
+fn run_document(alloc: Global, bytes: &[u8]) -> Result<(Report, Text), Unread> {
+    let document = read_run(alloc, bytes)?;
+    let decider = FirstAction {
+        port: document.port,
+    };
+    let report = run_serially(alloc, &decider, document.world, &document.lists)?;
+    let text = print_report(alloc, &report)?;
+    Ok((report, text))
+}
+
+fn end_with(status: Status) -> Ended
+    ensures { result ≡ record { status = status; report = None } }
+{
+    Ended {
+        status,
+        report: None,
+    }
+}
+
+/// Writes the line that a status other than `Done` has.
+fn end_with_line<K: Sink>(out: &mut K, line: &str, status: Status) -> Ended
+    ensures { ((result ≡ record { status = status; report = None }) × Grows (K.written out.old) (K.written out.new) line.now)
+        ⊎ ((result ≡ record { status = Status.WriteFault; report = None }) × Rose (K.faults out.old) (K.faults out.new)) }
+{
+    match write_all(out, line.as_bytes()) {
+        Ok(()) => end_with(status),
+        Err(WriteFault) => end_with(Status::WriteFault),
+    }
+}
+
+/// Writes the line of a refusal.
+fn end_refused<K: Sink>(out: &mut K, refusal: Refusal) -> Ended
+    ensures { (result ≡ record { status = Status.Refused refusal; report = None })
+        ⊎ ((result ≡ record { status = Status.WriteFault; report = None }) × Rose (K.faults out.old) (K.faults out.new)) }
+{
+    let line = refusal_line(refusal);
+    end_with_line(out, line.as_str(), Status::Refused(refusal))
+}
+
+fn refusal_line(refusal: Refusal) -> ArrayString<32> {
+    let mut line = ArrayString::new();
+    line.push_str("refused ");
+    line.push_str(Buffer::new().format(refusal.line));
+    line.push_str(" ");
+    line.push_str(refusal.kind.name());
+    line.push_str("\n");
+    line
+}
+
+fn is_run(words: &[String]) -> bool
+    ensures { IsTrue result ↔ IsRun (map string_bytes words.now) }
+{
+    match words {
+        [word] => word.as_str() == "run",
+        _ => false,
+    }
+}
+
+/// `run` over bytes in memory and without a gate. Where no memory is left for the bytes, that is its status.
+pub fn run_text<R: Threads + Wait + Sync>(
+    rt: &R,
+    alloc: Global,
+    words: &[String],
+    bytes: &[u8],
+    out: &mut SureSink,
+) -> Ended
+    ensures report { IsSome result.report ↔ (result.status ≡ Status.Done) }
+    ensures words { result.status ≡ Status.Words → ¬ IsRun (map string_bytes words.now) }
+
+    // Bytes in memory have no faults.
+    ensures no_read_fault { result.status ≢ Status.ReadFault }
+    ensures no_write_fault { result.status ≢ Status.WriteFault }
+{
+    match SureSource::new(alloc, bytes) {
+        Ok(mut input) => run(rt, alloc, words, &mut input, out, &NoGate),
+        Err(_) => end_with(Status::NoMemory),
+    }
+}
