@@ -20,7 +20,7 @@ loop-turn-init g c = record {
 
 pub loop-turn-preserved : goal.loop-turn-preserved
 loop-turn-preserved g c = record {
-  bots = subst (λ n. HaveBots n c.args.lists.now) (sym c.activate.ensures) c.loop-turn.invariant.bots;
+  bots = subst (λ n. HaveBots n c.args.lists.now) (sym c.activate.ensures.size) c.loop-turn.invariant.bots;
   kept = c.loop-turn.invariant.kept;
   caller = c.loop-turn.invariant.caller;
   entries = elim c.match-activate.branch [
