@@ -5,20 +5,17 @@ use Rattle.std.specs.List.{All, Contains, filter_map, cons_option, range_with_le
 use Rattle.std.specs.List.Sorted.{IsStrictlyIncreasing}
 use Rattle.std.specs.Option.{option_map}
 use Rattle.std.specs.declared.result.Result.TheVariants.{Ok}
-use Rattle.std.proofs.lemmas.Bool.{cases_Bool, cases_eq, cases_lt, both_ways, eq-eqb, false≢true, or_left, or_right, and_parts, and_from, ltb-true}
-use Rattle.std.proofs.lemmas.Cmp.{nat_list_eq_equiv}
+use Rattle.std.proofs.lemmas.Bool.{cases_Bool, cases_eq, cases_lt, both_ways, false≢true, or_left, or_right, and_parts, ltb-true}
 use Rattle.std.proofs.lemmas.List.{get_or-set_same, get_or-set_other, length-set, get_or_past}
 use Rattle.std.proofs.lemmas.List.Elements.{filter_map-append, All-nil, All-cons, All-head, All-tail}
 use Rattle.std.proofs.lemmas.Option.{none-some, same_Some}
 use Rattle.tri_lattice.specs.declared.node.Node.{Node}
 use Rattle.tri_lattice.specs.Lattice.{node_eq, step, Adjacent}
 use Rattle.tri_lattice.specs.Extent.{index_of, is_in, node_at}
-use Rattle.tri_lattice.proofs.Nodes.{node_eq-true, node_eq_same, Adjacent-sym, step_leaves}
+use Rattle.tri_lattice.proofs.Nodes.{node_eq-true, Adjacent-sym, step_leaves}
 use Rattle.tri_lattice.proofs.Steps.{Adjacent-is_adjacent}
 use Rattle.tri_lattice.proofs.Boxes.{index_of_node_at, node_at_index_of}
 use Rattle.amoebot_state.specs.declared.bot.Bot.{Bot}
-use Rattle.amoebot_state.specs.declared.bot.Chir.{Chir}
-use Rattle.amoebot_state.specs.declared.bot.Chir.TheVariants as chir
 use Rattle.amoebot_state.specs.declared.bot.End.{End}
 use Rattle.amoebot_state.specs.declared.bot.End.TheVariants.{Head, Tail}
 use Rattle.amoebot_state.specs.declared.bot.Port.{Port}
@@ -35,7 +32,7 @@ use Rattle.amoebot_state.specs.Pairs.{Pairs}
 use Rattle.amoebot_state.specs.Ports.{is_own, is_head, is_contracted, is_port, behind, global, end_node, is_beside}
 use Rattle.amoebot_state.specs.Configs.{Config, IsValid, IsBot, bot_at, bot_of, blank, covers, occupant, value, set_bot, is_joined}
 use Rattle.amoebot_state.specs.Zones.{Shown, shown, zone, shown_cell, gap}
-use Rattle.amoebot_state.specs.Patches.{IsPatched, HasPatched, IsOrdered, diff, changed, same_value, id_eq, chir_eq, bot_eq}
+use Rattle.amoebot_state.specs.Patches.{IsPatched, HasPatched, IsOrdered, diff, changed, same_value, id_eq, bot_eq}
 use Rattle.amoebot_state.specs.Steps.{Changes, TouchesZone, HasNext, IsExact}
 use Rattle.amoebot_state.specs.Laws.{ExpansionVerdictIsShown}
 use Rattle.amoebot_state.specs.Moves.{need, with_head, verdict_by, expansion_verdict, expansion_verdict_shown}
@@ -44,6 +41,7 @@ use Rattle.amoebot_state.proofs.Occupants.{occupant_at, nobody_covers, occupant_
 use Rattle.amoebot_state.proofs.Directions.{beside_in_zone, global_below}
 use Rattle.amoebot_state.proofs.Gaps.{gap_own, gap_valid, gap_occupant, own_in_zone, spot_in_zone}
 use Rattle.amoebot_state.proofs.Members.{Contains-from_Has}
+use Rattle.amoebot_state.proofs.Values.{value_same}
 
 -- an amoebot that may expand into a node
 pub record MayExpand (c : Config) (i : ℕ) (b : Bot) (q : Node) : Type 0 where
@@ -64,22 +62,6 @@ expansion i b q = (name.Spot q, cell.Spot (Some i)) ∷ (name.Body i, cell.Body 
 twice : (x : Bool) → (x || x) ≡ x
 twice true = refl
 twice false = refl
-
-id_eq_same : (o : Option ℕ) → id_eq o o ≡ true
-id_eq_same None = refl
-id_eq_same (Some i) = eq-eqb i i refl
-
-chir_eq_same : (h : Chir) → chir_eq h h ≡ true
-chir_eq_same chir.Plus = refl
-chir_eq_same chir.Minus = refl
-
-bot_eq_same : (b : Bot) → bot_eq b b ≡ true
-bot_eq_same b = and_from _ _ (and_from _ _ (and_from _ _ (and_from _ _ (node_eq_same b.head) (node_eq_same b.tail)) (eq-eqb b.rot b.rot refl)) (chir_eq_same b.chir)) (nat_list_eq_equiv.refl b.mem)
-
-value_same : (o : Option Cell) → same_value o o ≡ true
-value_same None = refl
-value_same (Some (cell.Spot o)) = id_eq_same o
-value_same (Some (cell.Body b)) = bot_eq_same b
 
 -- a cell whose value stays is no part of a difference
 unchanged : (c d : Config) (n : CellName) → value d n ≡ value c n → changed c d n ≡ None

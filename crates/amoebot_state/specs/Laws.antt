@@ -1,20 +1,25 @@
 -- What follows from the definitions alone.
-use Rattle.std.specs.Prelude.{◌≡◌, ◌≢◌, ◌<◌, ◌≤◌, ℕ, List, IsSome, Bool, true, false, map, length, IsTrue}
-use Rattle.std.specs.List.{AllPairs, Contains, count_by}
+use Rattle.std.specs.Prelude.{◌≡◌, ◌≢◌, ◌↔◌, ◌⊎◌, ◌<◌, ◌≤◌, ℕ, List, IsSome, Bool, true, false, map, length, is_some, IsTrue}
+use Rattle.std.specs.List.{All, AllPairs, Contains, count_by}
+use Rattle.std.specs.declared.option.Option.{Option}
 use Rattle.std.specs.declared.option.Option.TheVariants.{Some}
+use Rattle.tri_lattice.specs.declared.node.Node.{Node}
 use Rattle.tri_lattice.specs.Lattice.{node_eq, Adjacent}
-use Rattle.tri_lattice.specs.Extent.{is_in}
+use Rattle.tri_lattice.specs.Extent.{Extent, IsArea, is_in}
 use Rattle.amoebot_state.specs.declared.bot.Bot.{Bot}
 use Rattle.amoebot_state.specs.declared.bot.Port.{Port}
 use Rattle.amoebot_state.specs.declared.cell.CellName.{CellName}
 use Rattle.amoebot_state.specs.declared.cell.CellName.TheVariants as name
+use Rattle.amoebot_state.specs.declared.cell.Cell.{Cell}
 use Rattle.amoebot_state.specs.declared.verdict.Entry.{Entry}
 use Rattle.amoebot_state.specs.declared.verdict.Verdict.{Verdict}
-use Rattle.amoebot_state.specs.Pairs.{Pairs, cell_of}
+use Rattle.amoebot_state.specs.Pairs.{Pairs, cell_of, value_of}
 use Rattle.amoebot_state.specs.Ports.{global, local, is_port, ports, behind}
-use Rattle.amoebot_state.specs.Configs.{Config, IsValid, bot_at, occupant, value}
+use Rattle.amoebot_state.specs.Configs.{Config, IsValid, bot_at, occupant, value, config_of}
 use Rattle.amoebot_state.specs.Zones.{Shown, IsShown, distinct, zone, shown, gap}
-use Rattle.amoebot_state.specs.Patches.{IsPatched}
+use Rattle.amoebot_state.specs.Patches.{IsPatched, same_value, diff}
+use Rattle.amoebot_state.specs.Refusals.{IsPlain, IsFaultless}
+use Rattle.amoebot_state.specs.Occupied.{occupied}
 use Rattle.amoebot_state.specs.Steps.{Step, Run}
 use Rattle.amoebot_state.specs.Moves.{expansion_verdict, expansion_verdict_shown}
 
@@ -92,3 +97,28 @@ RunHasOneLast = (f : Shown → Verdict) (old : Config) (es : List Entry) (one tw
 -- configuration
 abbrev pub ExpansionVerdictIsShown : Type 0
 ExpansionVerdictIsShown = (p : Port) (c : Config) (i : ℕ) → IsValid c → IsSome (bot_at c i) → expansion_verdict_shown p (shown c i) ≡ expansion_verdict p c i
+
+-- the test of what cells hold answers whether it is equal
+abbrev pub SameValueIsEquality : Type 0
+SameValueIsEquality = (x y : Option Cell) → IsTrue (same_value x y) ↔ (x ≡ y)
+
+-- the difference of two valid configurations that differ in their amoebots at most and have the same ids leads from the old
+-- one to the new one, and each cell that it lists differs
+abbrev pub DiffLeads : Type 0
+DiffLeads = (old new : Config) → IsValid old → IsValid new → new ≡ record old { bots = new.bots } → length new.bots ≡ length old.bots → ((i : ℕ) → is_some (bot_at new i) ≡ is_some (bot_at old i)) → IsPatched old (diff old new) new × All (λ (p : CellName × Cell). value old (cell_of p) ≢ Some (value_of p)) (diff old new)
+
+-- no amoebot of a valid configuration is refused
+abbrev pub ValidIsFaultless : Type 0
+ValidIsFaultless = (a : Extent) (maxes : List ℕ) (bots : List Bot) → IsValid (config_of a maxes bots) → IsFaultless a maxes bots (length bots)
+
+-- amoebots of which none is refused make a valid configuration
+abbrev pub FaultlessIsValid : Type 0
+FaultlessIsValid = (a : Extent) (maxes : List ℕ) (bots : List Bot) → IsArea a → length maxes ≡ 8 → All IsPlain bots → IsFaultless a maxes bots (length bots) → IsValid (config_of a maxes bots)
+
+-- the configuration that has what is shown and no other amoebot is valid
+abbrev pub GapIsValid : Type 0
+GapIsValid = (s : Shown) → IsShown s → IsValid (gap s)
+
+-- in a valid configuration a node is occupied exactly where it is the head or the tail of an amoebot of it
+abbrev pub OccupiedIsOccupant : Type 0
+OccupiedIsOccupant = (c : Config) (v : Node) → IsValid c → IsTrue (occupied c v) ↔ ((i : ℕ) × (b : Bot) × (bot_at c i ≡ Some b) × ((b.head ≡ v) ⊎ (b.tail ≡ v)))

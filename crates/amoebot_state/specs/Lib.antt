@@ -7,4 +7,5 @@ pub mod Refusals
 pub mod Steps
 pub mod Moves
 pub mod Storage
+pub mod Occupied
 pub mod Laws

@@ -1,4 +1,4 @@
-ghost use Rattle.amoebot_state.specs.Laws.{GlobalAndLocalAreInverse, ContractedHasSixPorts, ExpandedHasTenPorts, SixPortsLeadToSixNodes, TenPortsLeadToEightNodes, ZoneListsEachCellOnce, ZoneHasAtMostTenNodes, ZoneHasAtMostNineBodies, NodeBehindPortIsInZone, OccupantBehindPortIsInZone, GapShowsWhatWasShown, PatchedIsUnique, PatchListsWhatDiffers, StepHasOneResult, RunHasOneLast, ExpansionVerdictIsShown};
+ghost use Rattle.amoebot_state.specs.Laws.{GlobalAndLocalAreInverse, ContractedHasSixPorts, ExpandedHasTenPorts, SixPortsLeadToSixNodes, TenPortsLeadToEightNodes, ZoneListsEachCellOnce, ZoneHasAtMostTenNodes, ZoneHasAtMostNineBodies, NodeBehindPortIsInZone, OccupantBehindPortIsInZone, GapShowsWhatWasShown, PatchedIsUnique, PatchListsWhatDiffers, StepHasOneResult, RunHasOneLast, ExpansionVerdictIsShown, SameValueIsEquality, DiffLeads, ValidIsFaultless, FaultlessIsValid, GapIsValid, OccupiedIsOccupant};
 
 /// Local and global directions are both 0 to 5, and the one is the inverse of the other, with either chirality.
 pub fn global_and_local_are_inverse()
@@ -79,4 +79,35 @@ pub fn run_has_one_last()
 /// configuration.
 pub fn expansion_verdict_is_shown()
     ensures { ExpansionVerdictIsShown }
+{}
+
+/// The test of what cells hold answers whether it is equal.
+pub fn same_value_is_equality()
+    ensures { SameValueIsEquality }
+{}
+
+/// The difference of two valid configurations with the same area, the same greatest values and the same ids leads from
+/// the old one to the new one, and each cell that it lists differs.
+pub fn diff_leads()
+    ensures { DiffLeads }
+{}
+
+/// No amoebot of a valid configuration is refused.
+pub fn valid_is_faultless()
+    ensures { ValidIsFaultless }
+{}
+
+/// Amoebots of which none is refused make a valid configuration.
+pub fn faultless_is_valid()
+    ensures { FaultlessIsValid }
+{}
+
+/// The configuration that has what is shown and no other amoebot is valid.
+pub fn gap_is_valid()
+    ensures { GapIsValid }
+{}
+
+/// A node of a valid configuration is occupied exactly where it is the head or the tail of an amoebot.
+pub fn occupied_is_occupant()
+    ensures { OccupiedIsOccupant }
 {}
