@@ -9,6 +9,7 @@ pub mod Occupants
 pub mod Once
 pub mod Owns
 pub mod Patched
+mod Samples
 pub mod Shifts
 pub mod Shows
 pub mod Zones
