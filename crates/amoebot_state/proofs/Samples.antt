@@ -1,10 +1,14 @@
 -- The definitions at small values, computed: what is expected was written out by hand.
-use Rattle.std.proofs.Common.{◌≡◌, ℕ, List, Bool, pos, [], ◌∷◌, true, false, refl, map, None, Some, Option}
+use Rattle.std.proofs.Common.{◌≡◌, ◌≢◌, ℕ, zero, suc, List, pos, [], ◌∷◌, refl, map, ap, inl, inr, None, Some, Option}
+use Rattle.std.specs.Prelude.{is_some}
+use Rattle.std.proofs.lemmas.Bool.{cases_Bool}
+use Rattle.std.proofs.lemmas.List.Elements.{All-from_recursion, recursion_from_All}
+use Rattle.tri_lattice.specs.Lattice.{node_eq}
+use Rattle.tri_lattice.proofs.Nodes.{node_eq-true}
 use Rattle.std.specs.declared.result.Result.TheVariants.{Ok, Err}
 use Rattle.tri_lattice.specs.declared.node.Node.{Node}
 use Rattle.tri_lattice.specs.Extent.{Extent}
 use Rattle.amoebot_state.specs.declared.bot.Bot.{Bot}
-use Rattle.amoebot_state.specs.declared.bot.Chir.{Chir}
 use Rattle.amoebot_state.specs.declared.bot.Chir.TheVariants.{Plus, Minus}
 use Rattle.amoebot_state.specs.declared.bot.End.TheVariants.{Head, Tail}
 use Rattle.amoebot_state.specs.declared.cell.CellName.{CellName}
@@ -15,54 +19,54 @@ use Rattle.amoebot_state.specs.declared.refusal.WorldRefusal.{WorldRefusal}
 use Rattle.amoebot_state.specs.declared.refusal.WorldRefusal.TheVariants.{OutOfBox, NotAdjacent, Overlap, BadValue}
 use Rattle.amoebot_state.specs.declared.verdict.Failure.TheVariants.{NotContracted, NoPort, Edge, Occupied}
 use Rattle.amoebot_state.specs.Ports.{port, ports, global, local}
-use Rattle.amoebot_state.specs.Configs.{Config, config_of, occupant}
+use Rattle.amoebot_state.specs.Configs.{Config, IsValid, config_of, bot_at, value}
 use Rattle.amoebot_state.specs.Zones.{Shown, zone, shown, gap}
-use Rattle.amoebot_state.specs.Patches.{diff}
+use Rattle.amoebot_state.specs.Patches.{IsPatched, diff}
 use Rattle.amoebot_state.specs.Refusals.{first_fault}
 use Rattle.amoebot_state.specs.Moves.{expand}
 
-abbrev at : ℕ → ℕ → Node
+abbrev pub at : ℕ → ℕ → Node
 at x y = record { x = pos x; y = pos y }
 
-abbrev spot : ℕ → ℕ → CellName
+abbrev pub spot : ℕ → ℕ → CellName
 spot x y = name.Spot (at x y)
 
-abbrev body : ℕ → CellName
+abbrev pub body : ℕ → CellName
 body i = name.Body i
 
 -- a node that has this occupant, and one that has none
-abbrev held : ℕ → ℕ → ℕ → CellName × Cell
+abbrev pub held : ℕ → ℕ → ℕ → CellName × Cell
 held x y i = (spot x y, cell.Spot (Some i))
 
-abbrev free : ℕ → ℕ → CellName × Cell
+abbrev pub free : ℕ → ℕ → CellName × Cell
 free x y = (spot x y, cell.Spot None)
 
-abbrev with_body : ℕ → Bot → CellName × Cell
+abbrev pub with_body : ℕ → Bot → CellName × Cell
 with_body i b = (body i, cell.Body b)
 
 -- eight variables, of which the first has this value
-abbrev first : ℕ → List ℕ
+abbrev pub first : ℕ → List ℕ
 first n = n ∷ 0 ∷ 0 ∷ 0 ∷ 0 ∷ 0 ∷ 0 ∷ 0 ∷ []
 
 -- an amoebot with rotation 0 that goes round as the global directions, by its head and its tail
-abbrev expanded : Node → Node → Bot
+abbrev pub expanded : Node → Node → Bot
 expanded head tail = record { head = head; tail = tail; rot = 0; chir = Plus; mem = first 0 }
 
-abbrev contracted : Node → Bot
+abbrev pub contracted : Node → Bot
 contracted v = expanded v v
 
 -- one that goes round against them
 abbrev against : ℕ → Node → Bot
 against rot v = record { head = v; tail = v; rot = rot; chir = Minus; mem = first 0 }
 
-abbrev eight : Extent
+abbrev pub eight : Extent
 eight = record { x0 = pos 0; y0 = pos 0; w = 8; h = 8 }
 
 -- amoebots in the area 0 0 8 8, with one variable, of 0 or 1
-abbrev world : List Bot → Config
+abbrev pub world : List Bot → Config
 world bots = config_of eight (first 1) bots
 
-abbrev shows : ℕ → List (CellName × Cell) → Shown
+abbrev pub shows : ℕ → List (CellName × Cell) → Shown
 shows i cells = record { area = eight; maxes = first 1; bot = i; cells = cells }
 
 -- local directions 0 to 5, with either chirality
@@ -76,7 +80,7 @@ local_against : map (local (against 4 (at 2 3))) (0 ∷ 1 ∷ 2 ∷ 3 ∷ 4 ∷ 
 local_against = refl
 
 -- one amoebot, on (2, 3), with no neighbour
-abbrev alone : Config
+abbrev pub alone : Config
 alone = world (contracted (at 2 3) ∷ [])
 
 zone_alone : zone alone 0 ≡ body 0 ∷ spot 2 3 ∷ spot 3 3 ∷ spot 2 4 ∷ spot 1 4 ∷ spot 1 3 ∷ spot 2 2 ∷ spot 3 2 ∷ []
@@ -86,14 +90,43 @@ shown_alone : shown alone 0 ≡ shows 0 (with_body 0 (contracted (at 2 3)) ∷ h
 shown_alone = refl
 
 -- it expands to (3, 3), which changes that node and its body
-abbrev alone_out : Config
+abbrev pub alone_out : Config
 alone_out = world (expanded (at 3 3) (at 2 3) ∷ [])
 
 alone_expands : expand alone 0 (port Head 0) ≡ Ok alone_out
 alone_expands = refl
 
-alone_changes : diff alone alone_out ≡ held 3 3 0 ∷ with_body 0 (expanded (at 3 3) (at 2 3)) ∷ []
+abbrev pub going_out : List (CellName × Cell)
+going_out = held 3 3 0 ∷ with_body 0 (expanded (at 3 3) (at 2 3)) ∷ []
+
+alone_changes : diff alone alone_out ≡ going_out
 alone_changes = refl
+
+-- these values lead there
+pub alone_patched : IsValid alone_out → IsPatched alone going_out alone_out
+alone_patched valid = record {
+  valid = valid;
+  area = refl;
+  maxes = refl;
+  size = refl;
+  ids = same_ids;
+  given = All-from_recursion (λ (p : CellName × Cell). value alone_out p.0 ≡ Some p.1) going_out (refl, (refl, tt));
+  kept = λ n none. kept n (recursion_from_All (λ (p : CellName × Cell). p.0 ≢ n) going_out none);
+}
+  where
+    same_ids : (i : ℕ) → is_some (bot_at alone_out i) ≡ is_some (bot_at alone i)
+    same_ids zero = refl
+    same_ids (suc i) = refl
+    kept : (n : CellName) → (spot 3 3 ≢ n) × ((body 0 ≢ n) × Unit {0}) → value alone_out n ≡ value alone n
+    kept (name.Body zero) ne = absurd (ne.1.0 refl)
+    kept (name.Body (suc i)) ne = refl
+    kept (name.Spot v) ne = elim (cases_Bool (node_eq (at 3 3) v)) [
+      | inl there ↦ absurd (ne.0 (ap name.Spot (node_eq-true (at 3 3) v there)))
+      | inr apart ↦ rw apart (elim (cases_Bool (node_eq (at 2 3) v)) [
+        | inl t ↦ rw t refl
+        | inr f ↦ rw f refl
+      ])
+    ]
 
 -- and does not expand once more, nor through what is no port of it
 out_stays : expand alone_out 0 (port Head 0) ≡ Err NotContracted
@@ -106,7 +139,7 @@ no_tail_port : expand alone 0 (port Tail 0) ≡ Err NoPort
 no_tail_port = refl
 
 -- an amoebot at the right edge: two nodes round it lie outside
-abbrev edge : Config
+abbrev pub edge : Config
 edge = world (contracted (at 7 3) ∷ [])
 
 zone_edge : zone edge 0 ≡ body 0 ∷ spot 7 3 ∷ spot 7 4 ∷ spot 6 4 ∷ spot 6 3 ∷ spot 7 2 ∷ []
@@ -139,7 +172,7 @@ turned_changes : diff turned (world (turned_out ∷ [])) ≡ held 2 2 0 ∷ with
 turned_changes = refl
 
 -- two neighbours: nine cells each
-abbrev pair : Config
+abbrev pub pair : Config
 pair = world (contracted (at 2 3) ∷ contracted (at 3 3) ∷ [])
 
 zone_pair_0 : zone pair 0 ≡ body 0 ∷ spot 2 3 ∷ spot 3 3 ∷ spot 2 4 ∷ spot 1 4 ∷ spot 1 3 ∷ spot 2 2 ∷ spot 3 2 ∷ body 1 ∷ []
@@ -165,10 +198,10 @@ marking_changes : diff pair (world (marked ∷ contracted (at 3 3) ∷ [])) ≡ 
 marking_changes = refl
 
 -- an expanded amoebot, with a neighbour behind its tail: ten ports lead to eight nodes, and the zone has twelve cells
-abbrev stretched : Bot
+abbrev pub stretched : Bot
 stretched = expanded (at 3 3) (at 2 3)
 
-abbrev train : Config
+abbrev pub train : Config
 train = world (stretched ∷ contracted (at 1 3) ∷ [])
 
 ports_stretched : ports stretched ≡ port Head 0 ∷ port Head 1 ∷ port Head 2 ∷ port Head 4 ∷ port Head 5 ∷ port Tail 1 ∷ port Tail 2 ∷ port Tail 3 ∷ port Tail 4 ∷ port Tail 5 ∷ []
