@@ -12,6 +12,7 @@ pub mod Occupied
 pub mod Once
 pub mod Owns
 pub mod Patched
+mod Samples
 pub mod Shifts
 pub mod Shows
 pub mod Values

@@ -28,3 +28,6 @@ pub use laws::{
 pub use refusal::{NoMemory, WorldRefusal};
 pub use verdict::{Change, Entry, Failure, Moved, Verdict};
 pub use world::World;
+
+#[cfg(test)]
+mod tests;

@@ -77,3 +77,6 @@ impl Serial {
         world
     }
 }
+
+#[cfg(test)]
+mod tests;
