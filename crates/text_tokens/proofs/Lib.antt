@@ -1,0 +1,15 @@
+pub mod Scanning
+pub mod Standing
+pub mod Blanks
+pub mod Cutting
+pub mod Tokenizing
+pub mod Marks
+pub mod Lawfulness
+pub mod Obeying
+pub mod Decimal
+pub mod Nesting
+pub mod Stepping
+pub mod Looping
+pub mod NestedSteps
+pub mod Settling
+pub mod PairSteps

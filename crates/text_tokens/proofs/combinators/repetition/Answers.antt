@@ -1,0 +1,5 @@
+use Rattle.text_tokens.proofs.Obeying as obeying
+use Rattle.text_tokens.proofs.combinators.repetition.Goals as goal
+
+pub returns : goal.returns
+returns g c = obeying.repetition_law g.A.Element.is g.A.Element.reads g.A.Element.step

@@ -1,0 +1,5 @@
+use Rattle.text_tokens.proofs.Tokenizing as tokenizing
+use Rattle.text_tokens.proofs.laws.spans_rise.Goals as goal
+
+pub returns : goal.returns
+returns c = tokenizing.spans_rise

@@ -1,0 +1,5 @@
+use Rattle.text_tokens.proofs.Tokenizing as tokenizing
+use Rattle.text_tokens.proofs.laws.tokens_are_one.Goals as goal
+
+pub returns : goal.returns
+returns c = tokenizing.one_reading

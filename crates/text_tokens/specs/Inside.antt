@@ -1,0 +1,19 @@
+-- What a `Tokens` keeps.
+use Rattle.std.specs.Prelude.{◌≡◌, ◌<◌, ◌≤◌, ◌+◌, ◌^◌, length, drop}
+use Rattle.text_tokens.specs.declared.tokens.Tokens.TheInside.{Inside}
+use Rattle.text_tokens.specs.Scan.{Input, ready, front}
+use Rattle.text_tokens.specs.Cursor.{Cursor, at_input}
+
+abbrev pub input_of : Inside → Input
+input_of t = record { text = drop t.at t.source.now; at = t.at; line = t.line }
+
+abbrev pub cursor_of : Inside → Cursor
+cursor_of t = at_input t.source.now (input_of t)
+
+-- it stands at a token or a fault, which is cut
+pub record IsReady (t : Inside) : Type 0 where
+  pub skipped : ready (input_of t) ≡ input_of t
+  pub front : t.front ≡ front (drop t.at t.source.now)
+  pub within : t.at ≤ length t.source.now
+  pub line : t.line ≤ t.at + 1
+  pub small : length t.source.now + 1 < 2 ^ 32

@@ -1,0 +1,13 @@
+pub mod Kinds
+pub mod Text
+pub mod Scan
+pub mod Cursor
+pub mod Inside
+pub mod Promises
+pub mod Reading
+pub mod Grammar
+pub mod Lawful
+pub mod Combinators
+pub mod Steps
+pub mod Nested
+pub mod NestedView

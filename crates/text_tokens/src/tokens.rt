@@ -1,0 +1,403 @@
+//! A cursor over the tokens of a text, which cuts each as it is reached.
+
+ghost use Rattle.std.specs.Prelude.{◌≡◌, ◌<◌, ◌≤◌, ◌+◌, ◌^◌, ℕ, length, take, drop, IfOk, IfSome, OnOk, OnErr, true, false};
+ghost use Rattle.std.specs.List.{list_all, prefix_len};
+ghost use Rattle.text_tokens.specs.Text as text;
+ghost use Rattle.text_tokens.specs.Scan as scan;
+ghost use Rattle.text_tokens.specs.Cursor as cursor;
+ghost use Rattle.text_tokens.specs.Cursor.{IsAtFront, IsNumber, IsSlice, Spells, value_of, next_passes, is_the, is_kind, expect};
+
+use crate::refusal::{Refusal, RefusalKind};
+use crate::token::{Token, TokenKind};
+use std::marker::Model;
+
+/// A token at the front of a text: its kind, and how many bytes it has.
+#[derive(Clone, Copy)]
+struct Piece {
+    kind: TokenKind,
+    len: usize,
+}
+
+/// What a byte is between tokens.
+#[derive(Clone, Copy)]
+enum Between {
+    LineFeed,
+    Blank,
+    Comment,
+    Start,
+}
+
+/// The tokens of a text, from left to right. Contracts see the source, the tokens that are ahead, and what is wrong
+/// behind the last of them where one more is needed.
+#[derive(Drop)]
+pub struct Tokens<'a> {
+    source: &'a [u8],
+    at: usize,
+    line: u32,
+    /// What stands at `at`. Where the text ends there, it is `Truncated`.
+    front: Result<Piece, RefusalKind>,
+}
+
+impl<'a> Model for Tokens<'a> {
+    ghost use Rattle.text_tokens.specs.Cursor.{Cursor};
+
+    ghost Value = { Cursor };
+
+    ghost use Rattle.text_tokens.specs.Inside.{cursor_of, IsReady};
+
+    ghost view = { cursor_of };
+
+    ghost invariant = { IsReady };
+}
+
+fn is_letter(b: u8) -> bool
+    ensures { result ≡ text.is_letter b }
+{
+    b.is_ascii_alphabetic() || b == b'_'
+}
+
+fn is_digit(b: u8) -> bool
+    ensures { result ≡ text.is_digit b }
+{
+    b.is_ascii_digit()
+}
+
+fn is_word_byte(b: u8) -> bool
+    ensures { result ≡ text.is_word_byte b }
+{
+    is_letter(b) || is_digit(b)
+}
+
+/// How many bytes of a word stand at the front.
+fn word_len(bytes: &[u8]) -> usize
+    ensures { result ≡ prefix_len text.is_word_byte bytes.now }
+{
+    for (i, b) in bytes.iter().enumerate() {
+        if !is_word_byte(*b) {
+            return i;
+        }
+    }
+    bytes.len()
+}
+
+/// How many digits stand at the front.
+fn digits_len(bytes: &[u8]) -> usize
+    ensures { result ≡ prefix_len text.is_digit bytes.now }
+{
+    for (i, b) in bytes.iter().enumerate() {
+        if !is_digit(*b) {
+            return i;
+        }
+    }
+    bytes.len()
+}
+
+/// The length of the longest sign at the front, or 0.
+#[tactic(auto, unfolding(crate::specs::Scan::sign_len))]
+fn sign_len(bytes: &[u8]) -> usize
+    ensures { result ≡ scan.sign_len bytes.now }
+{
+    match bytes {
+        [b'!' | b'<' | b'>' | b':', b'=', ..] => 2,
+        [
+            b'(' | b')' | b'.' | b';' | b'=' | b'<' | b'>' | b'+' | b'-',
+            ..
+        ] => 1,
+        _ => 0,
+    }
+}
+
+/// How many bytes a token may have.
+fn most_bytes(kind: TokenKind) -> usize
+    ensures { result ≡ text.most_bytes kind }
+{
+    match kind {
+        TokenKind::Word => 24,
+        TokenKind::Number => 9,
+        TokenKind::Sign => 2,
+    }
+}
+
+/// A token of so many bytes, if it may have so many.
+fn sized(kind: TokenKind, len: usize) -> Result<Piece, RefusalKind>
+    ensures { result ≡ scan.sized kind len }
+{
+    if len > most_bytes(kind) {
+        Err(RefusalKind::WordTooLong)
+    } else {
+        Ok(Piece { kind, len })
+    }
+}
+
+fn sign(len: usize) -> Result<Piece, RefusalKind>
+    ensures { result ≡ scan.sign_of len }
+{
+    if len == 0 {
+        Err(RefusalKind::BadByte)
+    } else {
+        Ok(Piece {
+            kind: TokenKind::Sign,
+            len,
+        })
+    }
+}
+
+/// The token at the front, or what is wrong there.
+#[tactic(auto, unfolding(crate::specs::Scan::front))]
+fn front(bytes: &[u8]) -> Result<Piece, RefusalKind>
+    ensures { result ≡ scan.front bytes.now }
+{
+    match bytes {
+        [] => Err(RefusalKind::Truncated),
+        [b, ..] => {
+            if is_letter(*b) {
+                sized(TokenKind::Word, word_len(bytes))
+            } else if is_digit(*b) {
+                sized(TokenKind::Number, digits_len(bytes))
+            } else {
+                sign(sign_len(bytes))
+            }
+        }
+    }
+}
+
+fn between_at(inside: bool, b: u8) -> Between
+    ensures { result ≡ scan.between_at inside b }
+{
+    match b {
+        b'\n' => Between::LineFeed,
+        _ if inside => Between::Blank,
+        b' ' | b'\t' | b'\r' => Between::Blank,
+        b'#' => Between::Comment,
+        _ => Between::Start,
+    }
+}
+
+/// How many bytes of blanks and comments stand at the front, and the line behind them.
+fn skip(bytes: &[u8], line: u32) -> (usize, u32)
+    requires { line + length bytes.now < 2 ^ 32 }
+    ensures skipped { (at : ℕ) → scan.skip false at line bytes.now ≡ record { text = drop result.0 bytes.now; at = at + result.0; line = result.1 } }
+    ensures within { result.0 ≤ length bytes.now }
+    ensures line { result.1 ≤ line + result.0 }
+{
+    let mut line_now = line;
+    let mut inside = false;
+    for (i, b) in bytes.iter().enumerate() {
+        match between_at(inside, *b) {
+            Between::LineFeed => {
+                line_now += 1;
+                inside = false;
+            }
+            Between::Blank => {}
+            Between::Comment => inside = true,
+            Between::Start => return (i, line_now),
+        }
+    }
+    (bytes.len(), line_now)
+}
+
+/// What digits stand for.
+fn decimal(digits: &[u8]) -> u32
+    requires digits { list_all text.is_digit digits.now ≡ true }
+    requires few { length digits.now ≤ 9 }
+    ensures value { result ≡ value_of digits.now }
+    ensures small { result < 10 ^ 9 }
+{
+    let mut value: u32 = 0;
+    for digit in digits {
+        value = 10 * value + (*digit - b'0') as u32;
+    }
+    value
+}
+
+fn bytes_at(source: &[u8], from: usize, len: usize) -> &[u8]
+    requires { from + len ≤ length source.now }
+    ensures { result.now ≡ take len (drop from source.now) }
+{
+    &source[from..from + len]
+}
+
+/// A piece as a token, where it stands.
+fn token_at(piece: Piece, at: usize, line: u32) -> Token
+    requires { at + piece.len < 2 ^ 32 }
+    ensures { result ≡ record { kind = piece.kind; «from» = at; to = at + piece.len; line = line } }
+{
+    Token {
+        kind: piece.kind,
+        from: at as u32,
+        to: (at + piece.len) as u32,
+        line,
+    }
+}
+
+/// What stands behind the last token: the end, or else a fault.
+fn end_or(line: u32, kind: RefusalKind) -> Result<Option<Token>, Refusal>
+    ensures { result ≡ cursor.end_or (record { line = line; kind = kind }) kind }
+{
+    match kind {
+        RefusalKind::Truncated => Ok(None),
+        _ => Err(Refusal { line, kind }),
+    }
+}
+
+impl<'a> Tokens<'a> {
+    /// The tokens of a text of fewer than 2^32 - 1 bytes.
+    pub fn new(bytes: &'a [u8]) -> Tokens<'a>
+        requires { length bytes.now + 1 < 2 ^ 32 }
+        ensures { IsAtFront bytes.now result }
+    {
+        Tokens::at_next(bytes, 0, 1)
+    }
+
+    /// Stands at the first token or fault from a place on, which lies on this line.
+    fn at_next(source: &'a [u8], at: usize, line: u32) -> Tokens<'a>
+        requires within { at ≤ length source.now }
+        requires line { line ≤ at + 1 }
+        requires small { length source.now + 1 < 2 ^ 32 }
+        ensures { result ≡ cursor.at_place source.now at line }
+    {
+        let (blanks, line) = skip(&source[at..], line);
+        let at = at + blanks;
+        Tokens {
+            source,
+            at,
+            line,
+            front: front(&source[at..]),
+        }
+    }
+
+    /// What `next` answers: it stays the same until a token is taken.
+    pub fn peek(&self) -> Result<Option<Token>, Refusal>
+        ensures answer { result ≡ cursor.answer self.now }
+        ensures spells { IfOk result (λ found. IfSome found (Spells self.now)) }
+    {
+        match self.front {
+            Ok(piece) => Ok(Some(token_at(piece, self.at, self.line))),
+            Err(kind) => end_or(self.line, kind),
+        }
+    }
+
+    /// The next token, and `None` exactly where the text ends. A refusal, as `None`, changes nothing, so it comes again.
+    pub fn next(&mut self) -> Result<Option<Token>, Refusal>
+        ensures answer { result ≡ cursor.answer self.old }
+        ensures moves { self.new ≡ cursor.behind self.old }
+        ensures again { OnErr result (self.new ≡ self.old) }
+        ensures spells { IfOk result (λ found. IfSome found (Spells self.old)) }
+    {
+        let found = self.peek()?;
+        if found.is_some() {
+            self.skip_token();
+        }
+        Ok(found)
+    }
+
+    /// Moves behind the next token, if there is one.
+    fn skip_token(&mut self)
+        ensures { self.new ≡ cursor.behind self.old }
+    {
+        if let Ok(piece) = self.front {
+            *self = Tokens::at_next(self.source, self.at + piece.len, self.line);
+        }
+    }
+
+    /// The line of the next token, or else the line of the fault or of the end, where the text ends or goes on with a fault.
+    pub fn line(&self) -> u32
+        ensures { result ≡ cursor.line_of self.now.ahead self.now.last }
+    {
+        self.line
+    }
+
+    /// The bytes of a token of this text.
+    pub fn text(&self, token: &Token) -> &'a [u8]
+        requires { IsSlice self.now.source token.now }
+        ensures { result.now ≡ cursor.slice self.now.source token.now }
+    {
+        &self.source[token.from as usize..token.to as usize]
+    }
+
+    /// What a number of this text stands for, below 10^9.
+    pub fn number(&self, token: &Token) -> u32
+        requires { IsNumber self.now.source token.now }
+        ensures value { result ≡ value_of (cursor.slice self.now.source token.now) }
+        ensures small { result < 10 ^ 9 }
+    {
+        decimal(self.text(token))
+    }
+
+    /// A refusal of this kind on the line of the next token; where there is none, what is wrong there, which is
+    /// `Truncated` where the text ends.
+    pub fn refusal(&self, kind: RefusalKind) -> Refusal
+        ensures { result ≡ cursor.refusal_at self.now.last kind self.now.ahead }
+    {
+        match self.front {
+            Ok(_) => Refusal {
+                line: self.line,
+                kind,
+            },
+            Err(fault) => Refusal {
+                line: self.line,
+                kind: fault,
+            },
+        }
+    }
+
+    /// Whether the next token is this one, by its kind and its bytes.
+    pub fn is_next(&self, kind: TokenKind, text: &[u8]) -> bool
+        ensures { result ≡ next_passes (is_the kind text.now) self.now.ahead }
+    {
+        match self.front {
+            Ok(piece) => piece.kind == kind && bytes_at(self.source, self.at, piece.len) == text,
+            Err(_) => false,
+        }
+    }
+
+    /// Whether the next token is of this kind.
+    pub fn is_next_kind(&self, kind: TokenKind) -> bool
+        ensures { result ≡ next_passes (is_kind kind) self.now.ahead }
+    {
+        match self.front {
+            Ok(piece) => piece.kind == kind,
+            Err(_) => false,
+        }
+    }
+
+    /// The next token, if it is this one, by its kind and its bytes. Else it is `Unexpected`, or what `refusal` says.
+    /// An `Err` changes nothing.
+    pub fn take(&mut self, kind: TokenKind, text: &[u8]) -> Result<Token, Refusal>
+        ensures answer { result ≡ expect (is_the kind text.now) self.old }
+        ensures moves { OnOk result (self.new ≡ cursor.behind self.old) }
+        ensures again { OnErr result (self.new ≡ self.old) }
+        ensures spells { IfOk result (Spells self.old) }
+    {
+        if !self.is_next(kind, text) {
+            return Err(self.refusal(RefusalKind::Unexpected));
+        }
+        self.take_any()
+    }
+
+    /// The next token, if it is of this kind. Else it is `Unexpected`, or what `refusal` says. An `Err` changes nothing.
+    pub fn take_kind(&mut self, kind: TokenKind) -> Result<Token, Refusal>
+        ensures answer { result ≡ expect (is_kind kind) self.old }
+        ensures moves { OnOk result (self.new ≡ cursor.behind self.old) }
+        ensures again { OnErr result (self.new ≡ self.old) }
+        ensures spells { IfOk result (Spells self.old) }
+    {
+        if !self.is_next_kind(kind) {
+            return Err(self.refusal(RefusalKind::Unexpected));
+        }
+        self.take_any()
+    }
+
+    /// The next token, whichever it is. Where there is none, it is refused as `refusal` says.
+    pub fn take_any(&mut self) -> Result<Token, Refusal>
+        ensures answer { result ≡ expect (λ _. true) self.old }
+        ensures moves { OnOk result (self.new ≡ cursor.behind self.old) }
+        ensures again { OnErr result (self.new ≡ self.old) }
+        ensures spells { IfOk result (Spells self.old) }
+    {
+        match self.next()? {
+            Some(token) => Ok(token),
+            None => Err(self.refusal(RefusalKind::Truncated)),
+        }
+    }
+}
