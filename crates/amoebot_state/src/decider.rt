@@ -27,17 +27,14 @@ pub trait Decider: Sync {
 /// The first law of a decider, for a caller that needs it: its patches touch cells of the zone alone.
 pub fn touches_zone<D: Decider>(_decider: &D)
     ensures { TouchesZone (D.verdict _decider.now) }
-{
-}
+{}
 
 /// The second law: each valid configuration that shows what was found has one that the patch leads to.
 pub fn has_next<D: Decider>(_decider: &D)
     ensures { HasNext (D.verdict _decider.now) }
-{
-}
+{}
 
 /// The third law: its patches are in their order, and hold only cells whose value differs.
 pub fn is_exact<D: Decider>(_decider: &D)
     ensures { IsExact (D.verdict _decider.now) }
-{
-}
+{}
