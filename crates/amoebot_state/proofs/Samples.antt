@@ -117,6 +117,7 @@ alone_patched valid = record {
     same_ids : (i : ℕ) → is_some (bot_at alone_out i) ≡ is_some (bot_at alone i)
     same_ids zero = refl
     same_ids (suc i) = refl
+
     kept : (n : CellName) → (spot 3 3 ≢ n) × ((body 0 ≢ n) × Unit {0}) → value alone_out n ≡ value alone n
     kept (name.Body zero) ne = absurd (ne.1.0 refl)
     kept (name.Body (suc i)) ne = refl

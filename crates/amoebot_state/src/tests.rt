@@ -9,8 +9,11 @@ use std::test::Fail;
 use tri_lattice::{Area, Node};
 
 const MAXES: [u8; 8] = [1, 0, 0, 0, 0, 0, 0, 0];
+
 const HERE: Node = Node { x: 2, y: 3 };
+
 const NEXT: Node = Node { x: 3, y: 3 };
+
 const ALONE: Bot = Bot {
     head: HERE,
     tail: HERE,
@@ -18,18 +21,26 @@ const ALONE: Bot = Bot {
     chir: Chir::Plus,
     mem: [0, 0, 0, 0, 0, 0, 0, 0],
 };
-const STRETCHED: Bot = Bot { head: NEXT, ..ALONE };
+
+const STRETCHED: Bot = Bot {
+    head: NEXT,
+    ..ALONE
+};
+
 const BEHIND: Bot = Bot {
     head: Node { x: 1, y: 3 },
     tail: Node { x: 1, y: 3 },
     ..ALONE
 };
+
 const AWAY: Bot = Bot {
     head: Node { x: 6, y: 6 },
     tail: Node { x: 6, y: 6 },
     ..ALONE
 };
+
 const EDGE: Node = Node { x: 7, y: 3 };
+
 const AT_EDGE: Bot = Bot {
     head: EDGE,
     tail: EDGE,
@@ -68,10 +79,22 @@ fn a_world_is_refused_for_its_first_fault(rt: HostRuntime) {
         mem: [2, 0, 0, 0, 0, 0, 0, 0],
         ..ALONE
     };
-    assert_eq!(rt; refusal(rt.alloc(), ALONE, outside), Some(WorldRefusal::OutOfBox(1)));
-    assert_eq!(rt; refusal(rt.alloc(), torn, ALONE), Some(WorldRefusal::NotAdjacent(0)));
-    assert_eq!(rt; refusal(rt.alloc(), STRETCHED, ALONE), Some(WorldRefusal::Overlap(1)));
-    assert_eq!(rt; refusal(rt.alloc(), high, outside), Some(WorldRefusal::BadValue(0)));
+    assert_eq!(rt;
+        refusal(rt.alloc(), ALONE, outside),
+        Some(WorldRefusal::OutOfBox(1))
+    );
+    assert_eq!(rt;
+        refusal(rt.alloc(), torn, ALONE),
+        Some(WorldRefusal::NotAdjacent(0))
+    );
+    assert_eq!(rt;
+        refusal(rt.alloc(), STRETCHED, ALONE),
+        Some(WorldRefusal::Overlap(1))
+    );
+    assert_eq!(rt;
+        refusal(rt.alloc(), high, outside),
+        Some(WorldRefusal::BadValue(0))
+    );
     assert_eq!(rt; refusal(rt.alloc(), ALONE, BEHIND), None);
 }
 

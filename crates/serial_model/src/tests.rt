@@ -1,4 +1,5 @@
-ghost use Rattle.std.specs.Prelude.{◌≡◌, subst};
+ghost use Rattle.std.proofs.Common.{subst};
+ghost use Rattle.amoebot_state.specs.declared.verdict.Verdict.{Verdict};
 ghost use Rattle.amoebot_state.specs.declared.verdict.Verdict.TheVariants as verdict;
 ghost use Rattle.amoebot_state.specs.declared.verdict.Failure.TheVariants as failure;
 
@@ -7,34 +8,17 @@ use amoebot_state::{Bot, Chir, Decider, Failure, Found, Verdict, World};
 use std::test::Fail;
 use tri_lattice::{Area, Node};
 
-/// Whatever is found, nothing is to be done.
-struct Resting;
-
-impl Decider for Resting {
-    ghost verdict = { λ _ _. verdict.Idle };
-
-    ghost touches_zone = { λ _ c i change h. absurd (subst (λ v. elim v [ verdict.Idle ↦ Unit {0} | verdict.Failed _ ↦ Unit {0} | verdict.Change _ ↦ ⊥ ]) h.decided tt) };
-
-    ghost has_next = { λ _ c i change h. absurd (subst (λ v. elim v [ verdict.Idle ↦ Unit {0} | verdict.Failed _ ↦ Unit {0} | verdict.Change _ ↦ ⊥ ]) h.decided tt) };
-
-    ghost is_exact = { λ _ c i change h. absurd (subst (λ v. elim v [ verdict.Idle ↦ Unit {0} | verdict.Failed _ ↦ Unit {0} | verdict.Change _ ↦ ⊥ ]) h.decided tt) };
-
-    fn decide(&self, _found: &Found) -> Verdict {
-        Verdict::Idle
-    }
-}
-
 /// Whatever is found, the amoebot runs against the edge.
 struct Blocked;
 
 impl Decider for Blocked {
     ghost verdict = { λ _ _. verdict.Failed failure.Edge };
 
-    ghost touches_zone = { λ _ c i change h. absurd (subst (λ v. elim v [ verdict.Idle ↦ Unit {0} | verdict.Failed _ ↦ Unit {0} | verdict.Change _ ↦ ⊥ ]) h.decided tt) };
+    ghost touches_zone = { λ _ c i change h. let Stays : Verdict → Type 0 = λ v. elim v [ verdict.Idle ↦ Unit {0} | verdict.Failed _ ↦ Unit {0} | verdict.Change _ ↦ ⊥ ] in absurd (subst Stays h.decided tt) };
 
-    ghost has_next = { λ _ c i change h. absurd (subst (λ v. elim v [ verdict.Idle ↦ Unit {0} | verdict.Failed _ ↦ Unit {0} | verdict.Change _ ↦ ⊥ ]) h.decided tt) };
+    ghost has_next = { λ _ c i change h. let Stays : Verdict → Type 0 = λ v. elim v [ verdict.Idle ↦ Unit {0} | verdict.Failed _ ↦ Unit {0} | verdict.Change _ ↦ ⊥ ] in absurd (subst Stays h.decided tt) };
 
-    ghost is_exact = { λ _ c i change h. absurd (subst (λ v. elim v [ verdict.Idle ↦ Unit {0} | verdict.Failed _ ↦ Unit {0} | verdict.Change _ ↦ ⊥ ]) h.decided tt) };
+    ghost is_exact = { λ _ c i change h. let Stays : Verdict → Type 0 = λ v. elim v [ verdict.Idle ↦ Unit {0} | verdict.Failed _ ↦ Unit {0} | verdict.Change _ ↦ ⊥ ] in absurd (subst Stays h.decided tt) };
 
     fn decide(&self, _found: &Found) -> Verdict {
         Verdict::Failed(Failure::Edge)
@@ -42,7 +26,7 @@ impl Decider for Blocked {
 }
 
 #[test]
-fn a_turn_without_a_change_leaves_the_world(rt: HostRuntime) -> Result<(), Fail> {
+fn a_failed_turn_leaves_the_world(rt: HostRuntime) -> Result<(), Fail> {
     let area = Area::new(0, 0, 8, 8).ok_or("an area")?;
     let alone = Bot {
         head: Node { x: 7, y: 3 },
@@ -52,8 +36,12 @@ fn a_turn_without_a_change_leaves_the_world(rt: HostRuntime) -> Result<(), Fail>
         mem: [0; 8],
     };
     let mut serial = Serial::new(World::new(rt.alloc(), area, [0; 8], &[alone])?);
-    assert!(rt; matches!(&serial.activate(&Resting, 0, 0, 0), Turned::Idle));
-    assert!(rt; matches!(&serial.activate(&Blocked, 0, 1, 0), Turned::Failed(Failure::Edge)));
+    assert!(rt;
+        matches!(
+            &serial.activate(&Blocked, 0, 0, 0),
+            Turned::Failed(Failure::Edge)
+        )
+    );
     assert_eq!(rt; *serial.world().bot(0), alone);
     let world = serial.into_world();
     assert_eq!(rt; world.bots(), 1);

@@ -8,8 +8,7 @@ use Rattle.amoebot_state.proofs.tests.a_neighbourhood_is_made_of_its_cells.Goals
 pub make-found-requires : goal.make-found-requires
 make-found-requires g c =
     let is = c.in_ok-world.ensures in
-    let within : Extent → Shown = λ a. record { area = a; maxes = first 1; bot = 0; cells = (shown edge 0).cells } in
-    (
+    let within : Extent → Shown = λ a. record { area = a; maxes = first 1; bot = 0; cells = (shown edge 0).cells } in (
       c.in_ok-world.world,
       c.found.ensures.valid,
       c.found.ensures.there,

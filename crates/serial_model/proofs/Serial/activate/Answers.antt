@@ -1,4 +1,4 @@
-use Rattle.std.proofs.Common.{◌≡◌, ap, sym, ◌∙◌}
+use Rattle.std.proofs.Common.{ap, sym, ◌∙◌}
 use Rattle.serial_model.proofs.Serial.activate.Goals as goal
 
 pub apply-requires : goal.apply-requires
