@@ -9,7 +9,7 @@ use Rattle.text_tokens.specs.Text.{Lexeme}
 use Rattle.text_tokens.specs.Reading.{Answer, Reader, first, and_then, ◌>>=◌, pure, refuse, choose, within, one_within, no_limit, one, verdict, judged, full_by, full_at, counted, starts_at, repeated, behind_one, separated}
 use Rattle.text_tokens.specs.Grammar.{Mark, with_token, tokens, first_fault, or_else, outcome_by, outcome, IsProper, Lang, mark, IsOne, is_one, Then, then, Made, made, IsNothing, is_nothing, IsVerdict, is_verdict, Judged, past_fault, past, Counted, counted_in, one_too_many, less, Repeated, no_more, one_more, BehindOne, Separated}
 use Rattle.text_tokens.specs.Lawful.{Got, Failed, misplaced, short, beyond, Report, Reads, Lawful, BeginsNone, IsFault, unexpected, ended, limit, Tells, Exact, LawfulAt, IsBegun, Knows, StartsWith, SomeText}
-use Rattle.text_tokens.proofs.Marks.{tokens-append, regroup, fault-append, fine-append, faulty-append, proper-append, first-append, fault_proper}
+use Rattle.text_tokens.proofs.Marks.{tokens-append, regroup, fault-append, fine-append, faulty-append, proper-append, first-append, fault_proper, past_proper}
 
 -- ---- some text of a grammar
 
@@ -321,15 +321,6 @@ module _ {A : Type 0} (P : Lang A) (p : Reader A) (ends : Option Lexeme → Bool
 -- ---- a limit on elements
 
 module _ {A : Type 0} (P : Lang A) (begins : Lexeme → Option RefusalKind) (element : Reader A) (ends : Option Lexeme → Bool) (law : Lawful P element ends) (knows : Knows P begins) (some : SomeText P) where
-  past_fault_proper : (o : Option Lexeme) (f : Option Refusal) → IfSome f (λ r. r.kind ≢ Unexpected) → IfSome (past_fault o f) (λ r. r.kind ≢ Unexpected)
-  past_fault_proper o (Some r) h = h
-  past_fault_proper None None h = tt
-  past_fault_proper (Some t) None h = λ e. absurd cc
-
-  past_proper : (xs : List Mark) → IsProper xs → IsProper (past xs)
-  past_proper [] h = tt
-  past_proper (x ∷ xs) h = (past_fault_proper x.token x.fault h.0, h.1)
-
   -- one too many is refused
   full_is : (last : Refusal) (ts : List Lexeme) → counted begins zero element last ts ≡ full_at {A = A} begins (first ts) last ts
   unfolding counted

@@ -1,11 +1,11 @@
 -- Texts with marks, one behind the other.
-use Rattle.std.proofs.Common.{◌≡◌, ◌≢◌, List, [], ◌∷◌, ◌++◌, Option, Some, None, refl, ap, subst, ◌∙◌, append_assoc}
+use Rattle.std.proofs.Common.{Bool, true, false, cond, ◌≡◌, ◌≢◌, List, [], ◌∷◌, ◌++◌, Option, Some, None, refl, ap, subst, ◌∙◌, append_assoc}
 use Rattle.std.specs.Prelude.{IfSome}
 use Rattle.text_tokens.specs.declared.refusal.Refusal.{Refusal}
-use Rattle.text_tokens.specs.declared.refusal.RefusalKind.TheVariants.{Unexpected}
+use Rattle.text_tokens.specs.declared.refusal.RefusalKind.TheVariants.{Unexpected, TooMany}
 use Rattle.text_tokens.specs.Text.{Lexeme}
 use Rattle.text_tokens.specs.Reading.{first}
-use Rattle.text_tokens.specs.Grammar.{Mark, with_token, tokens, or_else, first_fault, IsProper}
+use Rattle.text_tokens.specs.Grammar.{is_deep, past_fault, past, Mark, with_token, tokens, or_else, first_fault, IsProper}
 
 with-append : (o : Option Lexeme) (ts us : List Lexeme) → with_token o (ts ++ us) ≡ with_token o ts ++ us
 with-append None ts us = refl
@@ -49,3 +49,17 @@ fault_proper_by (Some s) p r h k e = let same : s ≡ r = cc in subst (λ (x : R
 pub fault_proper : (xs : List Mark) (r : Refusal) → IsProper xs → first_fault xs ≡ Some r → r.kind ≢ Unexpected
 fault_proper [] r h e = absurd cc
 fault_proper (x ∷ xs) r h e = fault_proper_by x.fault (first_fault xs) r h.0 (λ f. fault_proper xs r h.1 f) e
+
+deep_or_many : (b : Bool) (t : Lexeme) (r : Refusal) → r.kind ≢ Unexpected → (cond {A = Refusal} b r (record { line = t.line; kind = TooMany })).kind ≢ Unexpected
+deep_or_many true t r h = h
+deep_or_many false t r h = λ e. absurd cc
+
+past_fault_proper : (o : Option Lexeme) (f : Option Refusal) → IfSome f (λ r. r.kind ≢ Unexpected) → IfSome (past_fault o f) (λ r. r.kind ≢ Unexpected)
+past_fault_proper None f h = h
+past_fault_proper (Some t) None h = λ e. absurd cc
+past_fault_proper (Some t) (Some r) h = deep_or_many (is_deep r.kind) t r h
+
+-- one too many is refused for no token that does not belong
+pub past_proper : (xs : List Mark) → IsProper xs → IsProper (past xs)
+past_proper [] h = tt
+past_proper (x ∷ xs) h = (past_fault_proper x.token x.fault h.0, h.1)

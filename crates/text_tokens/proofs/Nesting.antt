@@ -15,12 +15,12 @@ use Rattle.text_tokens.specs.declared.refusal.RefusalKind.TheVariants.{Unexpecte
 use Rattle.text_tokens.specs.Text.{Lexeme}
 use Rattle.text_tokens.specs.Cursor.{is_the, is_kind, same_kind, is_spelled}
 use Rattle.text_tokens.specs.Reading.{Reader, first, ◌>>=◌, pure, refuse, one, no_limit, opening, deep_at, weighed, past_sum, judged, counted, starts_at, separated}
-use Rattle.text_tokens.specs.Grammar.{Mark, mark, with_token, is_verdict, tokens, first_fault, IsProper, Lang, IsOne, is_one, Then, then, Made, made, Judged, past, past_fault, less, Counted, counted_in, one_too_many, Repeated, no_more as no_more_in, one_more as one_more_in, BehindOne, Separated}
+use Rattle.text_tokens.specs.Grammar.{Mark, mark, with_token, is_verdict, tokens, first_fault, IsProper, Lang, IsOne, is_one, Then, then, Made, made, Judged, past, less, Counted, counted_in, one_too_many, Repeated, no_more as no_more_in, one_more as one_more_in, BehindOne, Separated}
 use Rattle.text_tokens.specs.Lawful.{Lawful, LawfulAt, BeginsAt, IsBegun, Knows, StartsWith, SomeText, Exact}
 use Rattle.text_tokens.specs.Combinators.{Ends}
 use Rattle.text_tokens.specs.Steps.{anything}
 use Rattle.text_tokens.specs.Nested.{Tree, Trees, number, list, none, more, Couple, Whole, is_number, is_open, is_close, is_semicolon, is_pair, value, IsThe, IsNumber, IsSummand, limited, IsElement, leaf, nest, IsList, parens, IsElements, elements, IsMore, no_more, one_more, Placed, IsPlaced, backwards, IsPair, add_low, IsPairs, IsNested, the_line, a_number, a_summand, trees, levels_left, begins_element, an_element, same_state, a_list, element_by, element_with, element_at, inside, placed, a_pair, begins_pair, all_pairs, nested}
-use Rattle.text_tokens.proofs.Marks.{proper-append}
+use Rattle.text_tokens.proofs.Marks.{proper-append, past_proper}
 use Rattle.text_tokens.proofs.Blanks.{and_true}
 use Rattle.text_tokens.proofs.Lawfulness.{law_as, law_one, law_then_fine, law_then, law_made, law_choose, law_branch, law_judged, law_counted, counted_full, law_repeated, law_separated, exact}
 use Rattle.text_tokens.proofs.Obeying.{deep_proper, sum_proper}
@@ -97,17 +97,8 @@ one_proper test over h s e xs t is = (law_one test over s e h any).proper xs t i
 
 -- ---- elements and lists as texts
 
-past_proper_at : (xs : List Mark) → IsProper xs → IsProper (past xs)
-past_proper_at [] h = tt
-past_proper_at (x ∷ xs) h = (fault_proper x.token x.fault h.0, h.1)
-  where
-    fault_proper : (o : Option Lexeme) (f : Option Refusal) → IfSome f (λ r. r.kind ≢ Unexpected) → IfSome (past_fault o f) (λ r. r.kind ≢ Unexpected)
-    fault_proper o (Some r) h = h
-    fault_proper None None h = tt
-    fault_proper (Some t) None h = λ e. absurd cc
-
 limited_proper : (room : ℕ) (xs : List Mark) → IsProper xs → IsProper (limited room xs)
-limited_proper zero xs h = past_proper_at xs h
+limited_proper zero xs h = past_proper xs h
 limited_proper (suc room) xs h = h
 
 mutual

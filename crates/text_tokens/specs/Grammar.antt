@@ -1,9 +1,9 @@
 -- Grammars: relations between the tokens of a text and what they stand for. The limits and the judgements of a
 -- grammar are marks in its texts: what is beyond them is a text of the grammar all the same.
-use Rattle.std.specs.Prelude.{◌≡◌, ◌≢◌, ℕ, zero, suc, Bool, true, List, [], ◌∷◌, ◌++◌, Option, Some, None, Ok, Err, IfSome}
+use Rattle.std.specs.Prelude.{◌≡◌, ◌≢◌, ℕ, zero, suc, Bool, true, false, if◌then◌else◌, List, [], ◌∷◌, ◌++◌, Option, Some, None, Ok, Err, IfSome}
 use Rattle.text_tokens.specs.declared.refusal.Refusal.{Refusal}
 use Rattle.text_tokens.specs.declared.refusal.RefusalKind.{RefusalKind}
-use Rattle.text_tokens.specs.declared.refusal.RefusalKind.TheVariants.{Unexpected, TooMany}
+use Rattle.text_tokens.specs.declared.refusal.RefusalKind.TheVariants.{Unexpected, TooDeep, TooMany}
 use Rattle.text_tokens.specs.Text.{Lexeme}
 use Rattle.text_tokens.specs.Reading.{Answer, no_limit}
 
@@ -77,11 +77,15 @@ pub data IsVerdict {A : Type 0} (wrong : Option Refusal) (a : A) : List Mark →
 abbrev pub Judged : {A : Type 0} → Lang A → (A → Option Refusal) → Lang A
 Judged P wrong = Then P (λ a. IsVerdict (wrong a) a)
 
--- the first token of one too many, unless it passes a limit that comes before
+abbrev pub is_deep : RefusalKind → Bool
+is_deep TooDeep = true
+is_deep _ = false
+
+-- the first token of one too many: of what else may be wrong with it only a level too deep comes before
 abbrev pub past_fault : Option Lexeme → Option Refusal → Option Refusal
-past_fault o (Some r) = Some r
-past_fault None None = None
+past_fault None o = o
 past_fault (Some t) None = Some (record { line = t.line; kind = TooMany })
+past_fault (Some t) (Some r) = Some (if is_deep r.kind then r else record { line = t.line; kind = TooMany })
 
 abbrev pub past : List Mark → List Mark
 past [] = []
