@@ -19,10 +19,11 @@ use Rattle.amoebot_state.specs.declared.refusal.WorldRefusal.{WorldRefusal}
 use Rattle.amoebot_state.specs.declared.refusal.WorldRefusal.TheVariants.{OutOfBox, NotAdjacent, Overlap, BadValue}
 use Rattle.amoebot_state.specs.declared.verdict.Failure.TheVariants.{NotContracted, NoPort, Edge, Occupied}
 use Rattle.amoebot_state.specs.Ports.{port, ports, global, local}
-use Rattle.amoebot_state.specs.Configs.{Config, IsValid, config_of, bot_at, value}
+use Rattle.amoebot_state.specs.Configs.{Config, with_bot, IsValid, config_of, bot_at, value}
 use Rattle.amoebot_state.specs.Zones.{Shown, zone, shown, gap}
 use Rattle.amoebot_state.specs.Patches.{IsPatched, diff}
-use Rattle.amoebot_state.specs.Refusals.{first_fault}
+use Rattle.std.specs.Option.{option_or}
+use Rattle.amoebot_state.specs.Refusals.{bot_fault}
 use Rattle.amoebot_state.specs.Moves.{expand}
 
 abbrev pub at : ℕ → ℕ → Node
@@ -106,8 +107,7 @@ alone_changes = refl
 pub alone_patched : IsValid alone_out → IsPatched alone going_out alone_out
 alone_patched valid = record {
   valid = valid;
-  area = refl;
-  maxes = refl;
+  rest = refl;
   size = refl;
   ids = same_ids;
   given = All-from_recursion (λ (p : CellName × Cell). value alone_out p.0 ≡ Some p.1) going_out (refl, (refl, tt));
@@ -250,9 +250,13 @@ gap_shows = refl
 no_zone : zone (gap (shown scattered 1)) 2 ≡ []
 no_zone = refl
 
--- what a list of amoebots is refused for
+-- what a list of amoebots is refused for: each is judged beside those before it
+abbrev fault_beside : Config → List Bot → Option WorldRefusal
+fault_beside c [] = None
+fault_beside c (b ∷ bots) = option_or (bot_fault c b) (fault_beside (with_bot c b) bots)
+
 abbrev fault : List Bot → Option WorldRefusal
-fault bots = first_fault (world []) bots
+fault bots = fault_beside (world []) bots
 
 no_fault : fault (stretched ∷ contracted (at 1 3) ∷ []) ≡ None
 no_fault = refl
@@ -294,3 +298,10 @@ overlap_before_value = refl
 -- of the faults of several amoebots those of the first one, whatever their order
 first_amoebot_first : fault (too_high (at 2 3) (at 2 3) ∷ contracted (at 9 3) ∷ []) ≡ Some (BadValue 0)
 first_amoebot_first = refl
+
+-- a rotation counts with the local direction with chirality `+`
+abbrev with_rotation : ℕ → Bot
+with_rotation rot = record { head = at 2 3; tail = at 2 3; rot = rot; chir = Plus; mem = first 0 }
+
+plus_goes_with : global (with_rotation 5) 3 ≡ 2
+plus_goes_with = refl
