@@ -1,3 +1,4 @@
 pub mod Commands
 pub mod Turns
 pub mod Rooms
+pub mod Texts
