@@ -1,3 +1,5 @@
 pub mod Commands
 pub mod Turns
 pub mod Rooms
+pub mod Good
+pub mod SerialRuns
