@@ -1,4 +1,6 @@
 pub mod Commands
-pub mod Turns
+pub mod Good
 pub mod Rooms
+pub mod SerialRuns
 pub mod Texts
+pub mod Turns
