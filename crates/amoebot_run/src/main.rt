@@ -10,7 +10,6 @@ mod marks;
 mod refusal;
 mod report;
 mod run;
-mod scan;
 mod serial;
 #[cfg(test)]
 mod tests;

@@ -1,0 +1,29 @@
+-- What a call of the program comes to.
+use Rattle.std.specs.Prelude.{◌⊎◌, ℕ, ◌≤◌, List, length}
+use Rattle.amoebot_state.specs.declared.bot.Port.{Port}
+use Rattle.amoebot_state.specs.Configs.{Config}
+use Rattle.amoebot_state.specs.Moves.{expansion_verdict_shown}
+use Rattle.amoebot_run.specs.declared.report.Report.{Report}
+use Rattle.amoebot_run.specs.Documents.{IsRunDocument}
+use Rattle.amoebot_run.specs.Good.{Good}
+use Rattle.amoebot_run.specs.SerialRuns.{SerialRun, all_turns, left_by}
+use Rattle.amoebot_run.specs.Turns.{CallerLists}
+
+-- the report is one of a run of the program, from the world at the start, of the lists: it is good, and it is what the turns of
+-- the one list leave, one after another, each the verdict on the world reached and none Busy
+pub record IsRunOf (port : Port) (start : Config) (lists : CallerLists) (report : Report) : Type 0 where
+  pub few : length lists.ids ≤ 1
+  pub good : Good (expansion_verdict_shown port) start lists report
+  pub determined : SerialRun (expansion_verdict_shown port) start lists (all_turns lists) (left_by report)
+
+-- the bytes are a document, and the report is one of the run that it asks for
+pub record IsRunOfDocument (bytes : List ℕ) (report : Report) : Type 0 where
+  pub port : Port
+  pub start : Config
+  pub lists : CallerLists
+  pub document : IsRunDocument bytes port start lists
+  pub run : IsRunOf port start lists report
+
+-- the bytes are no document
+abbrev pub IsNoDocument : List ℕ → Type 0
+IsNoDocument bytes = (port : Port) (start : Config) (lists : CallerLists) → IsRunDocument bytes port start lists → ⊥
