@@ -15,7 +15,8 @@ use Rattle.amoebot_run.specs.declared.marks.Mark.TheVariants as mark
 use Rattle.amoebot_run.specs.declared.report.Report.{Report}
 use Rattle.amoebot_run.specs.Turns.{CallerLists, MarkLists, bot_of, marks_of}
 
--- the world at a place of a journal: the one that so many of its entries lead to from the first world
+-- the world at a place of a journal: the one that so many of its entries lead to from the first world, of which there is at
+-- most one
 pub record IsWorldAt (f : Shown → Verdict) (first : Config) (entries : List Entry) (place : ℕ) (world : Config) : Type 0 where
   pub within : place ≤ length entries
   pub reached : Run f first (take place entries) world

@@ -1,5 +1,5 @@
 -- The run of at most one list, whose turns are made one after another: what it leaves is determined.
-use Rattle.std.specs.Prelude.{◌≡◌, ℕ, zero, suc, ◌*◌, List, [], ◌∷◌, ◌++◌, length}
+use Rattle.std.specs.Prelude.{◌≡◌, ℕ, zero, suc, ◌*◌, ◌≤◌, List, [], ◌∷◌, ◌++◌, length}
 use Rattle.amoebot_state.specs.declared.verdict.Entry.{Entry}
 use Rattle.amoebot_state.specs.declared.verdict.Verdict.{Verdict}
 use Rattle.amoebot_state.specs.Configs.{Config}
@@ -11,6 +11,7 @@ use Rattle.amoebot_run.specs.declared.marks.Mark.{Mark}
 use Rattle.amoebot_run.specs.declared.marks.Mark.TheVariants as mark
 use Rattle.amoebot_run.specs.declared.report.Report.{Report}
 use Rattle.amoebot_run.specs.Turns.{CallerLists, bot_of, marks_of}
+use Rattle.amoebot_run.specs.Good.{Good}
 
 -- what the turns so far left: their marks, the entries of the journal, and the world
 pub record Left : Type 0 where
@@ -53,3 +54,7 @@ left_by report = record { marks = marks_of report.turns 0; entries = report.jour
 -- so many turns leave at most one thing
 abbrev pub SerialRunIsDetermined : Type 0
 SerialRunIsDetermined = (f : Shown → Verdict) (w0 : Config) (lists : CallerLists) (turns : ℕ) (one two : Left) → SerialRun f w0 lists turns one → SerialRun f w0 lists turns two → one ≡ two
+
+-- so two good reports of one run of at most one list have one world, the same entries and the same marks
+abbrev pub SerialReportIsDetermined : Type 0
+SerialReportIsDetermined = (f : Shown → Verdict) (w0 : Config) (lists : CallerLists) (one two : Report) → length lists.ids ≤ 1 → Good f w0 lists one → Good f w0 lists two → SerialRun f w0 lists (all_turns lists) (left_by one) → SerialRun f w0 lists (all_turns lists) (left_by two) → (one.world ≡ two.world) × (one.journal.entries ≡ two.journal.entries) × (one.turns.marks ≡ two.turns.marks)

@@ -1,7 +1,7 @@
 ghost use Rattle.std.specs.Prelude.{◌≤◌, length, IfOk};
 ghost use Rattle.amoebot_run.specs.Turns.{HaveBots};
 ghost use Rattle.amoebot_run.specs.Good.{Good};
-ghost use Rattle.amoebot_run.specs.SerialRuns.{SerialRun, SerialRunIsDetermined, all_turns, left_by};
+ghost use Rattle.amoebot_run.specs.SerialRuns.{SerialRun, SerialRunIsDetermined, SerialReportIsDetermined, all_turns, left_by};
 
 use crate::journal::Journal;
 use crate::lists::Lists;
@@ -27,7 +27,8 @@ pub fn run_serially<D: Decider>(
     requires one { length lists.now.ids ≤ 1 }
     requires bots { HaveBots (length world.bots) lists.now }
     ensures good { IfOk result (λ report. Good (D.verdict decider.now) world lists.now report) }
-    ensures determined { IfOk result (λ report. SerialRun (D.verdict decider.now) world lists.now (all_turns lists.now) (left_by report)) }
+    ensures determined { IfOk result (λ report.
+        SerialRun (D.verdict decider.now) world lists.now (all_turns lists.now) (left_by report)) }
 {
     world.keeps();
     let turns = if lists.callers() == 0 {
@@ -59,9 +60,11 @@ pub fn run_serially<D: Decider>(
     })
 }
 
-/// What the turns of the only caller leave is determined: by the decider, the first world, the list and the number of turns.
+/// What the turns of the only caller leave is determined: by the decider, the first world, the list and the number of turns. So
+/// two reports of such a run have one last world, one journal and the same marks.
 pub fn serial_run_is_determined()
-    ensures { SerialRunIsDetermined }
+    ensures left { SerialRunIsDetermined }
+    ensures report { SerialReportIsDetermined }
 {
     step_has_one_result();
 }

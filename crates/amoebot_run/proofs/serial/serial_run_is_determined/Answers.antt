@@ -1,4 +1,4 @@
-use Rattle.std.proofs.Common.{◌≡◌, ◌∷◌, ◌++◌, [], ℕ, zero, suc, List, ap, sym, subst, refl, ◌∙◌, length}
+use Rattle.std.proofs.Common.{◌≡◌, ◌≤◌, ◌∷◌, ◌++◌, [], ℕ, zero, suc, List, ap, sym, subst, refl, ◌∙◌, length, get_or, arith}
 use Rattle.amoebot_state.specs.declared.verdict.Change.{Change}
 use Rattle.amoebot_state.specs.declared.verdict.Entry.{Entry}
 use Rattle.amoebot_state.specs.declared.verdict.Verdict.{Verdict}
@@ -12,7 +12,7 @@ use Rattle.serial_model.specs.declared.Turned.TheVariants as turned
 use Rattle.serial_model.specs.Turns.{Turns, IsOfTurn}
 use Rattle.amoebot_run.specs.declared.marks.Mark.{Mark}
 use Rattle.amoebot_run.specs.Turns.{CallerLists, bot_of}
-use Rattle.amoebot_run.specs.SerialRuns.{Left, SerialRun, MakesTurn, mark_at, entries_by}
+use Rattle.amoebot_run.specs.SerialRuns.{Left, SerialRun, MakesTurn, mark_at, entries_by, all_turns, left_by}
 use Rattle.amoebot_run.proofs.serial.serial_run_is_determined.Goals as goal
 
 -- what f decides on the turn's amoebot
@@ -68,5 +68,19 @@ determined law f w0 lists (suc turns) one two first second =
     let same = determined law f w0 lists turns first.0 second.0 first.1 second.1 in
     left_alike law f lists turns first.0 one two first.2 (subst (λ l. MakesTurn f lists turns l two) (sym same) second.2)
 
-pub returns : goal.returns
-returns c = determined c.step_has_one_result.ensures
+-- lists of at most one caller's marks are told by that caller's
+same_marks : (xs ys : List (List Mark)) → length xs ≡ length ys → length xs ≤ 1 → get_or xs 0 [] ≡ get_or ys 0 [] → xs ≡ ys
+same_marks [] [] alike few own = refl
+same_marks [] (y ∷ ys) alike few own = absurd (omega arith)
+same_marks (x ∷ xs) [] alike few own = absurd (omega arith)
+same_marks (x ∷ []) (y ∷ []) alike few own = ap (λ z. z ∷ []) own
+same_marks (x ∷ []) (y ∷ z ∷ ys) alike few own = absurd (omega arith)
+same_marks (x ∷ z ∷ xs) (y ∷ ys) alike few own = absurd (omega arith)
+
+pub returns-clause-left : goal.returns-clause-left
+returns-clause-left c = determined c.step_has_one_result.ensures
+
+pub returns-clause-report : goal.returns-clause-report
+returns-clause-report c f w0 lists one two few good other first second =
+    let same = determined c.step_has_one_result.ensures f w0 lists (all_turns lists) (left_by one) (left_by two) first second in
+    (ap (λ l. l.world) same, ap (λ l. l.entries) same, same_marks one.turns.marks two.turns.marks (good.marks.callers ∙ sym other.marks.callers) (omega (arith, good.marks.callers)) (ap (λ l. l.marks) same))
