@@ -1,5 +1,5 @@
 -- What a call of the program comes to.
-use Rattle.std.specs.Prelude.{◌⊎◌, ℕ, ◌≤◌, List, length}
+use Rattle.std.specs.Prelude.{◌≡◌, ℕ, ◌≤◌, List, length, codes}
 use Rattle.amoebot_state.specs.declared.bot.Port.{Port}
 use Rattle.amoebot_state.specs.Configs.{Config}
 use Rattle.amoebot_state.specs.Moves.{expansion_verdict_shown}
@@ -7,6 +7,7 @@ use Rattle.amoebot_run.specs.declared.report.Report.{Report}
 use Rattle.amoebot_run.specs.Documents.{IsRunDocument}
 use Rattle.amoebot_run.specs.Good.{Good}
 use Rattle.amoebot_run.specs.SerialRuns.{SerialRun, all_turns, left_by}
+use Rattle.amoebot_run.specs.Texts.{report_text}
 use Rattle.amoebot_run.specs.Turns.{CallerLists}
 
 -- the report is one of a run of the program, from the world at the start, of the lists: it is good, and it is what the turns of
@@ -27,3 +28,13 @@ pub record IsRunOfDocument (bytes : List ℕ) (report : Report) : Type 0 where
 -- the bytes are no document
 abbrev pub IsNoDocument : List ℕ → Type 0
 IsNoDocument bytes = (port : Port) (start : Config) (lists : CallerLists) → IsRunDocument bytes port start lists → ⊥
+
+-- the text or the line that a call has to write: the usage line where the words are no command; that of a fault where a read
+-- failed; that of a refusal, where more bytes than the limit were got, or where the whole input is no document; or the text of a
+-- run of the whole input
+pub data IsOwed (Command ReadFailed : Type 0) (Got Whole : List ℕ → Type 0) : List ℕ → Type 0 where
+  usage : (Command → ⊥) → IsOwed Command ReadFailed Got Whole (codes "usage: run / interleave / replay / check / measure / show NAME / sample NUMBER\n")
+  read_fault : ReadFailed → IsOwed Command ReadFailed Got Whole (codes "read fault\n")
+  too_long : (got : List ℕ) → Got got → length got ≡ 1048577 → IsOwed Command ReadFailed Got Whole (codes "refused 0 TooLong\n")
+  not_yet : (bytes : List ℕ) → Whole bytes → IsNoDocument bytes → IsOwed Command ReadFailed Got Whole (codes "refused 0 NotYet\n")
+  run : (bytes : List ℕ) (report : Report) → Whole bytes → IsRunOfDocument bytes report → IsOwed Command ReadFailed Got Whole (report_text report)

@@ -1,9 +1,13 @@
-ghost use Rattle.std.specs.Prelude.{◌≡◌, ◌≢◌, ◌≤◌, ◌↔◌, ◌⊎◌, ℕ, List, map, length, IsTrue, IsSome, IfSome, IfOk, IfErr, None};
+ghost use Rattle.std.specs.Prelude.{◌≡◌, ◌≢◌, ◌≤◌, ◌↔◌, ◌⊎◌, ℕ, List, map, length, IsTrue, IsSome, IfSome, IfOk, IfErr, Some, None};
 ghost use Rattle.std.specs.String.{string_bytes};
 ghost use Rattle.std.specs.Io.KnownBytes.{Consumes, IsAtEnd};
-ghost use Rattle.outer_io.specs.Told.{Rose, Grows};
+ghost use Rattle.outer_io.specs.Told.{Rose, Grows, GrowsByFront};
 ghost use Rattle.amoebot_run.specs.Commands.{IsRun};
-ghost use Rattle.amoebot_run.specs.Headline.{IsRunOfDocument, IsNoDocument};
+ghost use Rattle.amoebot_run.specs.Headline.{IsRunOfDocument, IsNoDocument, IsOwed};
+ghost use Rattle.amoebot_run.specs.Documents.{IsRunDocument};
+ghost use Rattle.amoebot_run.specs.Turns.{CallerLists};
+ghost use Rattle.amoebot_state.specs.Configs.{Config};
+ghost use Rattle.amoebot_state.specs.declared.bot.Port.{Port as PortValue};
 ghost use Rattle.amoebot_run.specs.Texts.{report_text};
 
 use crate::decider::FirstAction;
@@ -129,7 +133,19 @@ pub fn run<R: Threads + Wait + Sync, S: Source, K: Sink, G: Gate>(
     ensures read_fault_line { result.status ≡ Status.ReadFault → Grows (K.written out.old) (K.written out.new) READ_FAULT.now }
     ensures write_fault { result.status ≡ Status.WriteFault → Rose (K.faults out.old) (K.faults out.new) }
 
+    ensures front { result.status ≡ Status.WriteFault → (text : List ℕ)
+        × IsOwed (IsRun (map string_bytes words.now)) (Rose (S.faults input.old) (S.faults input.new))
+        (Consumes (S.left input.old) (S.left input.new))
+        (λ document. Consumes (S.left input.old) (S.left input.new) document × IsAtEnd (S.left input.new) × (length document ≤ 1048576))
+        text
+        × GrowsByFront (K.written out.old) (K.written out.new) text }
+
     ensures no_memory { result.status ≡ Status.NoMemory → out.new ≡ out.old }
+
+    // A document within the limit is run, unless memory is wanting or a read or a write fails.
+    ensures complete { IsRun (map string_bytes words.now) → (document : List ℕ) (port : PortValue) (start : Config) (lists : CallerLists)
+        → S.left input.old ≡ Some document → length document ≤ 1048576 → IsRunDocument document port start lists
+        → (result.status ≡ Status.Done) ⊎ ((result.status ≡ Status.NoMemory) ⊎ ((result.status ≡ Status.ReadFault) ⊎ (result.status ≡ Status.WriteFault))) }
 {
     if !is_run(words) {
         return end_with_line(out, USAGE, Status::Words);
@@ -160,7 +176,7 @@ fn run_document(alloc: Global, bytes: &[u8]) -> Result<(Report, Text), Unread>
     requires { length bytes.now ≤ 1048576 }
     ensures run { IfOk result (λ made. IsRunOfDocument bytes.now made.0) }
     ensures text { IfOk result (λ made. made.1 ≡ report_text made.0) }
-    ensures none { IfErr result (λ why. (why ≡ Unread.NoMemory) ⊎ IsNoDocument bytes.now) }
+    ensures none { result ≡ Err Unread.NotYet → IsNoDocument bytes.now }
 {
     let document = match read_run(alloc, bytes) {
         Ok(document) => document,
@@ -191,7 +207,7 @@ fn end_with(status: Status) -> Ended
 /// Writes the line that a status other than `Done` has.
 fn end_with_line<K: Sink>(out: &mut K, line: &str, status: Status) -> Ended
     ensures { ((result ≡ record { status = status; report = None }) × Grows (K.written out.old) (K.written out.new) line.now)
-        ⊎ ((result ≡ record { status = Status.WriteFault; report = None }) × Rose (K.faults out.old) (K.faults out.new)) }
+        ⊎ ((result ≡ record { status = Status.WriteFault; report = None }) × Rose (K.faults out.old) (K.faults out.new) × GrowsByFront (K.written out.old) (K.written out.new) line.now) }
 {
     match write_all(out, line.as_bytes()) {
         Ok(()) => end_with(status),
