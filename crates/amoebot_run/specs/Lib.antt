@@ -1,3 +1,7 @@
 pub mod Commands
 pub mod Turns
 pub mod Rooms
+pub mod Phrases
+pub mod Documents
+pub mod Readers
+pub mod DocumentViews

@@ -2,12 +2,12 @@ ghost use Rattle.std.specs.Prelude.{◌≡◌, ◌≢◌, ◌≤◌, ◌↔◌, 
 ghost use Rattle.std.specs.String.{string_bytes};
 ghost use Rattle.std.specs.Io.KnownBytes.{Consumes, IsAtEnd};
 ghost use Rattle.outer_io.specs.Told.{Rose, Grows};
+ghost use Rattle.text_tokens.specs.Kinds.{name};
 ghost use Rattle.amoebot_run.specs.Commands.{IsRun};
 
 use crate::decider::FirstAction;
 use crate::document::{Unread, read_run};
 use crate::gate::{Gate, NoGate};
-use crate::refusal::{Refusal, RefusalKind};
 use crate::report::Report;
 use crate::serial::run_serially;
 use crate::texts::{Text, print_report};
@@ -19,6 +19,7 @@ use outer_io::{
 use std::alloc::Global;
 use std::sync::Wait;
 use std::thread::Threads;
+use text_tokens::{Refusal, RefusalKind};
 
 /// How a command ended.
 #[derive(Clone, Copy, Debug, PartialEq, Eq)]
@@ -145,7 +146,9 @@ pub fn run<R: Threads + Wait + Sync, S: Source, K: Sink, G: Gate>(
 }
 
 /// Runs a document, and makes the text of the run.
-fn run_document(alloc: Global, bytes: &[u8]) -> Result<(Report, Text), Unread> {
+fn run_document(alloc: Global, bytes: &[u8]) -> Result<(Report, Text), Unread>
+    requires { length bytes.now ≤ 1048576 }
+{
     let document = read_run(alloc, bytes)?;
     let decider = FirstAction {
         port: document.port,
@@ -189,9 +192,16 @@ fn refusal_line(refusal: Refusal) -> ArrayString<32> {
     line.push_str("refused ");
     line.push_str(Buffer::new().format(refusal.line));
     line.push_str(" ");
-    line.push_str(refusal.kind.name());
+    line.push_str(kind_name(refusal.kind));
     line.push_str("\n");
     line
+}
+
+fn kind_name(kind: RefusalKind) -> &'static str
+    ensures name { result.now ≡ name kind }
+    ensures short { length result.now ≤ 12 }
+{
+    kind.name()
 }
 
 fn is_run(words: &[String]) -> bool
