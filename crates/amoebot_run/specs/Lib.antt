@@ -2,10 +2,10 @@ pub mod Commands
 pub mod DocumentViews
 pub mod Documents
 pub mod Good
+pub mod Headline
 pub mod Phrases
 pub mod Readers
 pub mod Rooms
 pub mod SerialRuns
 pub mod Texts
 pub mod Turns
-pub mod Headline

@@ -8,8 +8,6 @@ use Rattle.text_tokens.specs.Text.{Lexeme}
 use Rattle.text_tokens.specs.Cursor.{Cursor, next_passes, is_the, is_kind}
 use Rattle.amoebot_state.specs.declared.bot.Bot.{Bot}
 use Rattle.amoebot_state.specs.declared.bot.Port.{Port}
-use Rattle.amoebot_state.specs.declared.bot.End.{End}
-use Rattle.amoebot_state.specs.declared.bot.Chir.{Chir}
 use Rattle.text_tokens.specs.declared.refusal.RefusalKind.TheVariants.{Truncated}
 use Rattle.amoebot_run.specs.declared.document.Unread.{Unread}
 use Rattle.amoebot_run.specs.declared.document.Unread.TheVariants.{NotYet, NoMemory}

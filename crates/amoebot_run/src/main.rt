@@ -7,7 +7,6 @@ mod gate;
 mod journal;
 mod lists;
 mod marks;
-mod refusal;
 mod report;
 mod run;
 mod serial;

@@ -13,7 +13,6 @@ ghost use Rattle.amoebot_run.specs.Texts.{report_text};
 use crate::decider::FirstAction;
 use crate::document::{Unread, read_run};
 use crate::gate::{Gate, NoGate};
-use crate::refusal::{Refusal, RefusalKind};
 use crate::report::Report;
 use crate::serial::run_serially;
 use crate::texts::{Text, print_report};
@@ -24,6 +23,7 @@ use outer_io::{
 use std::alloc::Global;
 use std::sync::Wait;
 use std::thread::Threads;
+use text_tokens::{Refusal, RefusalKind};
 
 /// How a command ended.
 #[derive(Clone, Copy, Debug, PartialEq, Eq)]
