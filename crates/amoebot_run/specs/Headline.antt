@@ -29,12 +29,24 @@ pub record IsRunOfDocument (bytes : List ℕ) (report : Report) : Type 0 where
 abbrev pub IsNoDocument : List ℕ → Type 0
 IsNoDocument bytes = (port : Port) (start : Config) (lists : CallerLists) → IsRunDocument bytes port start lists → ⊥
 
+abbrev pub usage_line : List ℕ
+usage_line = codes "usage: run / interleave / replay / check / measure / show NAME / sample NUMBER\n"
+
+abbrev pub read_fault_line : List ℕ
+read_fault_line = codes "read fault\n"
+
+abbrev pub too_long_line : List ℕ
+too_long_line = codes "refused 0 TooLong\n"
+
+abbrev pub not_yet_line : List ℕ
+not_yet_line = codes "refused 0 NotYet\n"
+
 -- the text or the line that a call has to write: the usage line where the words are no command; that of a fault where a read
 -- failed; that of a refusal, where more bytes than the limit were got, or where the whole input is no document; or the text of a
 -- run of the whole input
 pub data IsOwed (Command ReadFailed : Type 0) (Got Whole : List ℕ → Type 0) : List ℕ → Type 0 where
-  usage : (Command → ⊥) → IsOwed Command ReadFailed Got Whole (codes "usage: run / interleave / replay / check / measure / show NAME / sample NUMBER\n")
-  read_fault : ReadFailed → IsOwed Command ReadFailed Got Whole (codes "read fault\n")
-  too_long : (got : List ℕ) → Got got → length got ≡ 1048577 → IsOwed Command ReadFailed Got Whole (codes "refused 0 TooLong\n")
-  not_yet : (bytes : List ℕ) → Whole bytes → IsNoDocument bytes → IsOwed Command ReadFailed Got Whole (codes "refused 0 NotYet\n")
+  usage : (Command → ⊥) → IsOwed Command ReadFailed Got Whole usage_line
+  read_fault : ReadFailed → IsOwed Command ReadFailed Got Whole read_fault_line
+  too_long : (got : List ℕ) → Got got → length got ≡ 1048577 → IsOwed Command ReadFailed Got Whole too_long_line
+  not_yet : (bytes : List ℕ) → Whole bytes → IsNoDocument bytes → IsOwed Command ReadFailed Got Whole not_yet_line
   run : (bytes : List ℕ) (report : Report) → Whole bytes → IsRunOfDocument bytes report → IsOwed Command ReadFailed Got Whole (report_text report)

@@ -3,7 +3,7 @@ ghost use Rattle.std.specs.String.{string_bytes};
 ghost use Rattle.std.specs.Io.KnownBytes.{Consumes, IsAtEnd};
 ghost use Rattle.outer_io.specs.Told.{Rose, Grows, GrowsByFront};
 ghost use Rattle.amoebot_run.specs.Commands.{IsRun};
-ghost use Rattle.amoebot_run.specs.Headline.{IsRunOfDocument, IsNoDocument, IsOwed};
+ghost use Rattle.amoebot_run.specs.Headline.{IsRunOfDocument, IsNoDocument, IsOwed, usage_line, read_fault_line, too_long_line, not_yet_line};
 ghost use Rattle.amoebot_run.specs.Documents.{IsRunDocument};
 ghost use Rattle.amoebot_run.specs.Turns.{CallerLists};
 ghost use Rattle.amoebot_state.specs.Configs.{Config};
@@ -116,21 +116,21 @@ pub fn run<R: Threads + Wait + Sync, S: Source, K: Sink, G: Gate>(
     ensures words { result.status ≡ Status.Words → ¬ IsRun (map string_bytes words.now) }
     ensures unread { ¬ IsRun (map string_bytes words.now) → input.new ≡ input.old }
     ensures no_command { ¬ IsRun (map string_bytes words.now) → (result.status ≡ Status.Words) ⊎ (result.status ≡ Status.WriteFault) }
-    ensures usage { result.status ≡ Status.Words → Grows (K.written out.old) (K.written out.new) USAGE.now }
+    ensures usage { result.status ≡ Status.Words → Grows (K.written out.old) (K.written out.new) usage_line }
 
     // A document is refused for one of two reasons, with the bytes that show it.
     ensures refused { (refusal : Refusal) → result.status ≡ Status.Refused refusal → (refusal ≡ TOO_LONG) ⊎ (refusal ≡ NOT_YET) }
     ensures too_long { result.status ≡ Status.Refused TOO_LONG → (got : List ℕ)
         × Consumes (S.left input.old) (S.left input.new) got × (length got ≡ 1048577) }
-    ensures too_long_line { result.status ≡ Status.Refused TOO_LONG → Grows (K.written out.old) (K.written out.new) TOO_LONG_LINE.now }
+    ensures too_long_line { result.status ≡ Status.Refused TOO_LONG → Grows (K.written out.old) (K.written out.new) too_long_line }
     ensures not_yet { result.status ≡ Status.Refused NOT_YET → (document : List ℕ)
         × Consumes (S.left input.old) (S.left input.new) document × IsAtEnd (S.left input.new) × (length document ≤ 1048576)
         × IsNoDocument document }
-    ensures not_yet_line { result.status ≡ Status.Refused NOT_YET → Grows (K.written out.old) (K.written out.new) NOT_YET_LINE.now }
+    ensures not_yet_line { result.status ≡ Status.Refused NOT_YET → Grows (K.written out.old) (K.written out.new) not_yet_line }
 
     // A fault is that of the object that was handed in.
     ensures read_fault { result.status ≡ Status.ReadFault → Rose (S.faults input.old) (S.faults input.new) }
-    ensures read_fault_line { result.status ≡ Status.ReadFault → Grows (K.written out.old) (K.written out.new) READ_FAULT.now }
+    ensures read_fault_line { result.status ≡ Status.ReadFault → Grows (K.written out.old) (K.written out.new) read_fault_line }
     ensures write_fault { result.status ≡ Status.WriteFault → Rose (K.faults out.old) (K.faults out.new) }
 
     ensures front { result.status ≡ Status.WriteFault → (text : List ℕ)
