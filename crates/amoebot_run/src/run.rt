@@ -1,6 +1,7 @@
 ghost use Rattle.std.specs.Prelude.{◌≡◌, ◌≢◌, ◌≤◌, ◌↔◌, ◌⊎◌, ℕ, List, map, length, IsTrue, IsSome, IfSome, IfOk, IfErr, Some, None};
 ghost use Rattle.std.specs.String.{string_bytes};
 ghost use Rattle.std.specs.Io.KnownBytes.{Consumes, IsAtEnd};
+ghost use Rattle.outer_io.specs.Kept.{written_of};
 ghost use Rattle.outer_io.specs.Told.{Rose, Grows, GrowsByFront};
 ghost use Rattle.amoebot_run.specs.Commands.{IsRun};
 ghost use Rattle.amoebot_run.specs.Headline.{IsRunOfDocument, IsNoDocument, IsOwed, usage_line, read_fault_line, too_long_line, not_yet_line};
@@ -233,7 +234,10 @@ pub fn run_text<R: Threads + Wait + Sync>(
     out: &mut SureSink,
 ) -> Ended
     ensures report { IsSome result.report ↔ (result.status ≡ Status.Done) }
+    ensures headline { IfSome result.report (λ report. IsRunOfDocument bytes.now report
+        × Grows (written_of out.old) (written_of out.new) (report_text report)) }
     ensures words { result.status ≡ Status.Words → ¬ IsRun (map string_bytes words.now) }
+    ensures not_yet { result.status ≡ Status.Refused NOT_YET → IsNoDocument bytes.now }
 
     // Bytes in memory have no faults.
     ensures no_read_fault { result.status ≢ Status.ReadFault }
