@@ -5,3 +5,4 @@ pub mod Phrases
 pub mod Documents
 pub mod Readers
 pub mod DocumentViews
+pub mod Samples
