@@ -6,6 +6,7 @@ pub mod Headline
 pub mod Phrases
 pub mod Readers
 pub mod Rooms
+pub mod Samples
 pub mod SerialRuns
 pub mod Texts
 pub mod Turns

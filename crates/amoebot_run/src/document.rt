@@ -9,6 +9,7 @@ ghost use Rattle.amoebot_state.specs.Refusals.{IsPlain, IsFaultless};
 ghost use Rattle.amoebot_run.specs.Turns.{CallerLists, IsList, HaveBots};
 ghost use Rattle.amoebot_run.specs.Documents as spec;
 ghost use Rattle.amoebot_run.specs.Documents.{DocumentIsOne, IsRunDocument, zeros};
+ghost use Rattle.amoebot_run.specs.Samples.{SmallDocuments};
 ghost use Rattle.amoebot_run.specs.Readers as reader;
 ghost use Rattle.amoebot_run.specs.Readers.{Gives, IsOver, one};
 ghost use Rattle.amoebot_run.specs.DocumentViews as view;
@@ -149,6 +150,11 @@ pub fn read_run(alloc: Global, bytes: &[u8]) -> Result<Run, Unread>
 /// A text is a document in one way at most.
 pub fn document_is_one()
     ensures { DocumentIsOne }
+{}
+
+/// A document with what it asks for, and near ones that are none.
+pub fn small_documents()
+    ensures { SmallDocuments }
 {}
 
 /// The run of a document with these parts. It is no document where its amoebots break a rule of worlds.
