@@ -1,3 +1,12 @@
 pub mod Commands
-pub mod Turns
+pub mod DocumentViews
+pub mod Documents
+pub mod Good
+pub mod Headline
+pub mod Phrases
+pub mod Readers
 pub mod Rooms
+pub mod Samples
+pub mod SerialRuns
+pub mod Texts
+pub mod Turns

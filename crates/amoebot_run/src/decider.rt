@@ -9,6 +9,11 @@ pub struct FirstAction {
 }
 
 impl Decider for FirstAction {
+    ghost use Rattle.amoebot_state.specs.Moves.{expansion_verdict_shown};
+    ghost use Rattle.amoebot_state.proofs.Expands.{expansion_touches_zone, expansion_has_next, expansion_is_exact};
+
+    ghost verdict = { λ d. expansion_verdict_shown d.port };
+
     fn decide(&self, found: &Found) -> Verdict {
         let own = *found.own();
         if !own.is_contracted() {
@@ -35,4 +40,10 @@ impl Decider for FirstAction {
             patch,
         })
     }
+
+    ghost touches_zone = { λ d. expansion_touches_zone d.port };
+
+    ghost has_next = { λ d. expansion_has_next d.port };
+
+    ghost is_exact = { λ d. expansion_is_exact d.port };
 }

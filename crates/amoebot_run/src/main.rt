@@ -7,10 +7,8 @@ mod gate;
 mod journal;
 mod lists;
 mod marks;
-mod refusal;
 mod report;
 mod run;
-mod scan;
 mod serial;
 #[cfg(test)]
 mod tests;

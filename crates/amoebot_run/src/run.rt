@@ -1,24 +1,30 @@
-ghost use Rattle.std.specs.Prelude.{◌≡◌, ◌≢◌, ◌≤◌, ◌↔◌, ◌⊎◌, ℕ, List, map, length, IsTrue, IsSome, None};
+ghost use Rattle.std.specs.Prelude.{◌≡◌, ◌≢◌, ◌≤◌, ◌↔◌, ◌⊎◌, ℕ, List, map, length, IsTrue, IsSome, IfSome, IfOk, IfErr, Some, None};
 ghost use Rattle.std.specs.String.{string_bytes};
 ghost use Rattle.std.specs.Io.KnownBytes.{Consumes, IsAtEnd};
-ghost use Rattle.outer_io.specs.Told.{Rose, Grows};
+ghost use Rattle.outer_io.specs.Kept.{written_of};
+ghost use Rattle.outer_io.specs.Told.{Rose, Grows, GrowsByFront};
 ghost use Rattle.amoebot_run.specs.Commands.{IsRun};
+ghost use Rattle.amoebot_run.specs.Headline.{IsRunOfDocument, IsNoDocument, IsOwed, usage_line, read_fault_line, too_long_line, not_yet_line};
+ghost use Rattle.amoebot_run.specs.Documents.{IsRunDocument};
+ghost use Rattle.amoebot_run.specs.Turns.{CallerLists};
+ghost use Rattle.amoebot_state.specs.Configs.{Config};
+ghost use Rattle.amoebot_state.specs.declared.bot.Port.{Port as PortValue};
+ghost use Rattle.amoebot_run.specs.Texts.{report_text};
 
 use crate::decider::FirstAction;
 use crate::document::{Unread, read_run};
 use crate::gate::{Gate, NoGate};
-use crate::refusal::{Refusal, RefusalKind};
 use crate::report::Report;
 use crate::serial::run_serially;
 use crate::texts::{Text, print_report};
-use arrayvec::ArrayString;
-use itoa::Buffer;
+use amoebot_state::NoMemory;
 use outer_io::{
     ReadError, Sink, Source, SureSink, SureSource, WriteFault, read_document, write_all,
 };
 use std::alloc::Global;
 use std::sync::Wait;
 use std::thread::Threads;
+use text_tokens::{Refusal, RefusalKind};
 
 /// How a command ended.
 #[derive(Clone, Copy, Debug, PartialEq, Eq)]
@@ -74,6 +80,12 @@ const TOO_LONG: Refusal = Refusal {
     kind: RefusalKind::TooLong,
 };
 
+/// What is written where a document is too long.
+const TOO_LONG_LINE: &str = "refused 0 TooLong\n";
+
+/// What is written where the bytes are no document.
+const NOT_YET_LINE: &str = "refused 0 NotYet\n";
+
 /// A document that is none of the first grammar.
 const NOT_YET: Refusal = Refusal {
     line: 0,
@@ -92,35 +104,49 @@ pub fn run<R: Threads + Wait + Sync, S: Source, K: Sink, G: Gate>(
     out: &mut K,
     _gate: &G,
 ) -> Ended
+    // A report comes exactly with Done. Then the input was read to its end, the bytes read are a document, the report is one of the
+    // run that it asks for, and what was written grew by the text of that report.
     ensures report { IsSome result.report ↔ (result.status ≡ Status.Done) }
-
-    // The text is whole, of a document that was read to its end.
-    ensures done { result.status ≡ Status.Done → (document text : List ℕ)
-        × Consumes (S.left input.old) (S.left input.new) document × IsAtEnd (S.left input.new)
-        × (length document ≤ 1048576)
-        × Grows (K.written out.old) (K.written out.new) text
-        × IsRun (map string_bytes words.now) }
+    ensures headline { IfSome result.report (λ report. (document : List ℕ)
+        × Consumes (S.left input.old) (S.left input.new) document × IsAtEnd (S.left input.new) × (length document ≤ 1048576)
+        × IsRunOfDocument document report
+        × Grows (K.written out.old) (K.written out.new) (report_text report)) }
+    ensures done { result.status ≡ Status.Done → IsRun (map string_bytes words.now) }
 
     // Where the words are no command, nothing is read, and only a write that fails hides that.
     ensures words { result.status ≡ Status.Words → ¬ IsRun (map string_bytes words.now) }
     ensures unread { ¬ IsRun (map string_bytes words.now) → input.new ≡ input.old }
     ensures no_command { ¬ IsRun (map string_bytes words.now) → (result.status ≡ Status.Words) ⊎ (result.status ≡ Status.WriteFault) }
-    ensures usage { result.status ≡ Status.Words → Grows (K.written out.old) (K.written out.new) USAGE.now }
+    ensures usage { result.status ≡ Status.Words → Grows (K.written out.old) (K.written out.new) usage_line }
 
-    // A document is refused for one of two reasons.
+    // A document is refused for one of two reasons, with the bytes that show it.
     ensures refused { (refusal : Refusal) → result.status ≡ Status.Refused refusal → (refusal ≡ TOO_LONG) ⊎ (refusal ≡ NOT_YET) }
     ensures too_long { result.status ≡ Status.Refused TOO_LONG → (got : List ℕ)
         × Consumes (S.left input.old) (S.left input.new) got × (length got ≡ 1048577) }
+    ensures too_long_line { result.status ≡ Status.Refused TOO_LONG → Grows (K.written out.old) (K.written out.new) too_long_line }
     ensures not_yet { result.status ≡ Status.Refused NOT_YET → (document : List ℕ)
-        × Consumes (S.left input.old) (S.left input.new) document × IsAtEnd (S.left input.new)
-        × (length document ≤ 1048576) }
+        × Consumes (S.left input.old) (S.left input.new) document × IsAtEnd (S.left input.new) × (length document ≤ 1048576)
+        × IsNoDocument document }
+    ensures not_yet_line { result.status ≡ Status.Refused NOT_YET → Grows (K.written out.old) (K.written out.new) not_yet_line }
 
     // A fault is that of the object that was handed in.
     ensures read_fault { result.status ≡ Status.ReadFault → Rose (S.faults input.old) (S.faults input.new) }
-    ensures read_fault_line { result.status ≡ Status.ReadFault → Grows (K.written out.old) (K.written out.new) READ_FAULT.now }
+    ensures read_fault_line { result.status ≡ Status.ReadFault → Grows (K.written out.old) (K.written out.new) read_fault_line }
     ensures write_fault { result.status ≡ Status.WriteFault → Rose (K.faults out.old) (K.faults out.new) }
 
+    ensures front { result.status ≡ Status.WriteFault → (text : List ℕ)
+        × IsOwed (IsRun (map string_bytes words.now)) (Rose (S.faults input.old) (S.faults input.new))
+        (Consumes (S.left input.old) (S.left input.new))
+        (λ document. Consumes (S.left input.old) (S.left input.new) document × IsAtEnd (S.left input.new) × (length document ≤ 1048576))
+        text
+        × GrowsByFront (K.written out.old) (K.written out.new) text }
+
     ensures no_memory { result.status ≡ Status.NoMemory → out.new ≡ out.old }
+
+    // A document within the limit is run, unless memory is wanting or a read or a write fails.
+    ensures complete { IsRun (map string_bytes words.now) → (document : List ℕ) (port : PortValue) (start : Config) (lists : CallerLists)
+        → S.left input.old ≡ Some document → length document ≤ 1048576 → IsRunDocument document port start lists
+        → (result.status ≡ Status.Done) ⊎ ((result.status ≡ Status.NoMemory) ⊎ ((result.status ≡ Status.ReadFault) ⊎ (result.status ≡ Status.WriteFault))) }
 {
     if !is_run(words) {
         return end_with_line(out, USAGE, Status::Words);
@@ -128,7 +154,9 @@ pub fn run<R: Threads + Wait + Sync, S: Source, K: Sink, G: Gate>(
     let document = match read_document(alloc, input, LIMIT) {
         Ok(document) => document,
         Err(ReadError::ReadFault) => return end_with_line(out, READ_FAULT, Status::ReadFault),
-        Err(ReadError::TooLong) => return end_refused(out, TOO_LONG),
+        Err(ReadError::TooLong) => {
+            return end_with_line(out, TOO_LONG_LINE, Status::Refused(TOO_LONG));
+        }
         Err(ReadError::NoMemory) => return end_with(Status::NoMemory),
     };
     match run_document(alloc, document.bytes()) {
@@ -139,20 +167,33 @@ pub fn run<R: Threads + Wait + Sync, S: Source, K: Sink, G: Gate>(
             },
             Err(WriteFault) => end_with(Status::WriteFault),
         },
-        Err(Unread::NotYet) => end_refused(out, NOT_YET),
+        Err(Unread::NotYet) => end_with_line(out, NOT_YET_LINE, Status::Refused(NOT_YET)),
         Err(Unread::NoMemory) => end_with(Status::NoMemory),
     }
 }
 
 /// Runs a document, and makes the text of the run.
-fn run_document(alloc: Global, bytes: &[u8]) -> Result<(Report, Text), Unread> {
-    let document = read_run(alloc, bytes)?;
+fn run_document(alloc: Global, bytes: &[u8]) -> Result<(Report, Text), Unread>
+    requires { length bytes.now ≤ 1048576 }
+    ensures run { IfOk result (λ made. IsRunOfDocument bytes.now made.0) }
+    ensures text { IfOk result (λ made. made.1 ≡ report_text made.0) }
+    ensures none { result ≡ Err Unread.NotYet → IsNoDocument bytes.now }
+{
+    let document = match read_run(alloc, bytes) {
+        Ok(document) => document,
+        Err(why) => return Err(why),
+    };
     let decider = FirstAction {
         port: document.port,
     };
-    let report = run_serially(alloc, &decider, document.world, &document.lists)?;
-    let text = print_report(alloc, &report)?;
-    Ok((report, text))
+    let report = match run_serially(alloc, &decider, document.world, &document.lists) {
+        Ok(report) => report,
+        Err(NoMemory) => return Err(Unread::NoMemory),
+    };
+    match print_report(alloc, &report) {
+        Ok(text) => Ok((report, text)),
+        Err(NoMemory) => Err(Unread::NoMemory),
+    }
 }
 
 fn end_with(status: Status) -> Ended
@@ -167,31 +208,12 @@ fn end_with(status: Status) -> Ended
 /// Writes the line that a status other than `Done` has.
 fn end_with_line<K: Sink>(out: &mut K, line: &str, status: Status) -> Ended
     ensures { ((result ≡ record { status = status; report = None }) × Grows (K.written out.old) (K.written out.new) line.now)
-        ⊎ ((result ≡ record { status = Status.WriteFault; report = None }) × Rose (K.faults out.old) (K.faults out.new)) }
+        ⊎ ((result ≡ record { status = Status.WriteFault; report = None }) × Rose (K.faults out.old) (K.faults out.new) × GrowsByFront (K.written out.old) (K.written out.new) line.now) }
 {
     match write_all(out, line.as_bytes()) {
         Ok(()) => end_with(status),
         Err(WriteFault) => end_with(Status::WriteFault),
     }
-}
-
-/// Writes the line of a refusal.
-fn end_refused<K: Sink>(out: &mut K, refusal: Refusal) -> Ended
-    ensures { (result ≡ record { status = Status.Refused refusal; report = None })
-        ⊎ ((result ≡ record { status = Status.WriteFault; report = None }) × Rose (K.faults out.old) (K.faults out.new)) }
-{
-    let line = refusal_line(refusal);
-    end_with_line(out, line.as_str(), Status::Refused(refusal))
-}
-
-fn refusal_line(refusal: Refusal) -> ArrayString<32> {
-    let mut line = ArrayString::new();
-    line.push_str("refused ");
-    line.push_str(Buffer::new().format(refusal.line));
-    line.push_str(" ");
-    line.push_str(refusal.kind.name());
-    line.push_str("\n");
-    line
 }
 
 fn is_run(words: &[String]) -> bool
@@ -212,7 +234,10 @@ pub fn run_text<R: Threads + Wait + Sync>(
     out: &mut SureSink,
 ) -> Ended
     ensures report { IsSome result.report ↔ (result.status ≡ Status.Done) }
+    ensures headline { IfSome result.report (λ report. IsRunOfDocument bytes.now report
+        × Grows (written_of out.old) (written_of out.new) (report_text report)) }
     ensures words { result.status ≡ Status.Words → ¬ IsRun (map string_bytes words.now) }
+    ensures not_yet { result.status ≡ Status.Refused NOT_YET → IsNoDocument bytes.now }
 
     // Bytes in memory have no faults.
     ensures no_read_fault { result.status ≢ Status.ReadFault }

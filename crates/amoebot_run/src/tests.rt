@@ -3,6 +3,7 @@ ghost use Rattle.std.specs.declared.option.Option.{Option};
 
 use crate::gate::NoGate;
 use crate::run::{Ended, run, run_text};
+use crate::texts::{print_journal, print_shape, print_turns};
 use arrayvec::ArrayVec;
 use outer_io::{Failed, Sink, Source, SureSink};
 use std::alloc::{AllocError, Global};
@@ -73,6 +74,35 @@ fn check_parts<R: Abort + Threads + Wait + Sync>(
 ) -> Result<(), AllocError> {
     let document = document(alloc, parts)?;
     check(rt, alloc, document.as_bytes(), 0, text)?;
+    Ok(())
+}
+
+#[test]
+fn each_section_is_printed_alone(rt: HostRuntime) -> Result<(), Fail> {
+    let alloc = rt.alloc();
+    let document = document(alloc, EXPANDS)?;
+    let words = words(alloc, &["run"])?;
+    let mut out = SureSink::new(alloc, 4096).ok().ok_or("no room")?;
+    let ended = run_text(&rt, alloc, words.as_slice(), document.as_bytes(), &mut out);
+    let report = ended.report.ok_or("no report")?;
+    let journal = print_journal(alloc, report.journal.entries(), 0)
+        .ok()
+        .ok_or("no journal")?;
+    let line = "entry 0 0 0 0 0 expand head 0 spot 3 3 0 body 0 3 3 2 3 0 +";
+    let wanted = format!(in alloc; "journal\n{line}\nend\n")?;
+    assert_eq!(rt; journal.bytes(), wanted.as_bytes());
+    let shape = print_shape(alloc, "final", &report.world, 0)
+        .ok()
+        .ok_or("no shape")?;
+    assert_eq!(rt;
+        shape.bytes(),
+        b"final\narea 0 0 8 8\nbot 3 3 2 3 0 +\nend\n".as_slice()
+    );
+    let turns = print_turns(alloc, &report.turns).ok().ok_or("no turns")?;
+    assert_eq!(rt;
+        turns.bytes(),
+        b"turns\nturn 0 0 done 0\nturn 0 1 idle 1\nend\n".as_slice()
+    );
     Ok(())
 }
 

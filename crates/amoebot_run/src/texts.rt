@@ -1,4 +1,7 @@
-ghost use Rattle.std.specs.Prelude.{◌≡◌, ◌≤◌, List, ℕ};
+ghost use Rattle.std.specs.Prelude.{◌≡◌, ◌<◌, ◌≤◌, [], ◌∷◌, ◌++◌, List, ℕ, codes, decimal, length, map, IfOk, OnOk};
+ghost use Rattle.std.specs.List.{enumerate_from, flat_map};
+ghost use Rattle.amoebot_run.specs.Texts.{area_words, bot_line, bot_words, caller_lines, cell_words, chir_word, end_word, entry_numbers, entry_words, failure_word, journal_text, line_text, mark_words, moved_words, node_words, pair_words, port_words, present, report_text, shape_text, spaced, turn_words, turns_text, value_words};
+ghost use Rattle.amoebot_run.specs.Turns.{marks_of};
 
 use crate::marks::{Mark, Marks};
 use crate::report::Report;
@@ -6,7 +9,7 @@ use amoebot_state::{Bot, Cell, CellName, Chir, End, Entry, Failure, Moved, NoMem
 use itoa::{Buffer, Integer};
 use std::alloc::Global;
 use std::marker::Model;
-use tri_lattice::Node;
+use tri_lattice::{Area, Node};
 
 /// A text that was made whole.
 #[derive(Drop)]
@@ -29,214 +32,181 @@ impl Text {
 }
 
 /// The text of a run without variables: the sections `journal`, `final` and `turns`.
-pub fn print_report(alloc: Global, report: &Report) -> Result<Text, NoMemory> {
-    let journal = print_journal(alloc, report.journal.entries(), 0)?;
-    let shape = print_shape(alloc, "final", &report.world, 0)?;
-    let turns = print_turns(alloc, &report.turns)?;
-    let mut bytes = journal.bytes;
-    for part in [shape, turns] {
-        if bytes.extend_from_slice(part.bytes()).is_err() {
-            return Err(NoMemory);
-        }
-    }
-    Ok(Text { bytes })
+pub fn print_report(alloc: Global, report: &Report) -> Result<Text, NoMemory>
+    ensures { IfOk result (λ text. text ≡ report_text report.now) }
+{
+    let mut lines = Lines::new(alloc);
+    lines.journal(report.journal.entries(), 0)?;
+    lines.shape("final", &report.world, 0)?;
+    lines.turns(&report.turns)?;
+    Ok(lines.text())
 }
 
 /// The section `journal`, with the values of so many variables, at most 8.
 pub fn print_journal(alloc: Global, entries: &[Entry], vars: u8) -> Result<Text, NoMemory>
     requires { vars ≤ 8 }
+    ensures { IfOk result (λ text. text ≡ journal_text vars entries.now) }
 {
     let mut lines = Lines::new(alloc);
-    lines.word("journal")?;
-    lines.end()?;
-    for (place, entry) in entries.iter().enumerate() {
-        lines.entry(place, entry, vars)?;
-    }
-    lines.section_end()
+    lines.journal(entries, vars)?;
+    Ok(lines.text())
 }
 
 /// The section of a shape under the given word, with the values of so many variables, at most 8.
 pub fn print_shape(alloc: Global, word: &str, world: &World, vars: u8) -> Result<Text, NoMemory>
     requires { vars ≤ 8 }
+    ensures { IfOk result (λ text. text ≡ shape_text word.now vars world.now) }
 {
-    let area = world.area();
     let mut lines = Lines::new(alloc);
-    lines.word(word)?;
-    lines.end()?;
-    lines.word("area")?;
-    lines.number(area.x0())?;
-    lines.number(area.y0())?;
-    lines.number(area.w())?;
-    lines.number(area.h())?;
-    lines.end()?;
-    for id in 0..world.bots() {
-        lines.word("bot")?;
-        lines.bot(world.bot(id), vars)?;
-        lines.end()?;
-    }
-    lines.section_end()
+    lines.shape(word, world, vars)?;
+    Ok(lines.text())
 }
 
 /// The section `turns`: by rising caller, then by rising turn.
-pub fn print_turns(alloc: Global, marks: &Marks) -> Result<Text, NoMemory> {
+pub fn print_turns(alloc: Global, marks: &Marks) -> Result<Text, NoMemory>
+    ensures { IfOk result (λ text. text ≡ turns_text marks.now) }
+{
     let mut lines = Lines::new(alloc);
-    lines.word("turns")?;
-    lines.end()?;
-    for caller in 0..marks.callers() {
-        for turn in 0..marks.count(caller) {
-            lines.word("turn")?;
-            lines.number(caller)?;
-            lines.number(turn)?;
-            lines.mark(marks.mark(caller, turn))?;
-            lines.end()?;
-        }
-    }
-    lines.section_end()
+    lines.turns(marks)?;
+    Ok(lines.text())
 }
 
-/// The lines of a section as they are made. The tokens of a line have one space between them.
+/// The lines of sections as they are made. The tokens of a line have one space between them.
 #[derive(Drop)]
 struct Lines {
     bytes: Vec<u8>,
-    in_line: bool,
 }
 
 impl Lines {
-    fn new(alloc: Global) -> Lines {
+    fn new(alloc: Global) -> Lines
+        ensures { result.bytes.items ≡ [] }
+    {
         Lines {
             bytes: Vec::new(alloc),
-            in_line: false,
         }
     }
 
-    fn section_end(mut self) -> Result<Text, NoMemory> {
-        self.word("end")?;
-        self.end()?;
-        Ok(Text { bytes: self.bytes })
-    }
-
-    fn end(&mut self) -> Result<(), NoMemory> {
-        self.in_line = false;
-        self.put(b"\n")
-    }
-
-    fn word(&mut self, word: &str) -> Result<(), NoMemory> {
-        if self.in_line {
-            self.put(b" ")?;
-        }
-        self.in_line = true;
-        self.put(word.as_bytes())
-    }
-
-    fn put(&mut self, bytes: &[u8]) -> Result<(), NoMemory> {
-        match self.bytes.extend_from_slice(bytes) {
-            Ok(()) => Ok(()),
-            Err(_) => Err(NoMemory),
-        }
-    }
-
-    fn number<I: Integer + Drop>(&mut self, number: I) -> Result<(), NoMemory> {
-        let mut buffer = Buffer::new();
-        self.word(buffer.format(number))
-    }
-
-    fn node(&mut self, node: Node) -> Result<(), NoMemory> {
-        self.number(node.x)?;
-        self.number(node.y)
-    }
-
-    fn end_of_bot(&mut self, end: End) -> Result<(), NoMemory> {
-        self.word(match end {
-            End::Head => "head",
-            End::Tail => "tail",
-        })
-    }
-
-    fn port(&mut self, port: Port) -> Result<(), NoMemory> {
-        self.end_of_bot(port.end)?;
-        self.number(port.dir)
-    }
-
-    /// The nodes, the rotation, the chirality and the first values of an amoebot.
-    fn bot(&mut self, bot: &Bot, vars: u8) -> Result<(), NoMemory>
-        requires { vars ≤ 8 }
+    fn text(self) -> Text
+        ensures { result ≡ self.bytes.items }
     {
-        self.node(bot.head)?;
-        self.node(bot.tail)?;
-        self.number(bot.rot)?;
-        self.word(match bot.chir {
-            Chir::Plus => "+",
-            Chir::Minus => "-",
-        })?;
-        for value in &bot.mem[..usize::from(vars)] {
-            self.number(*value)?;
+        Text { bytes: self.bytes }
+    }
+
+    fn journal(&mut self, entries: &[Entry], vars: u8) -> Result<(), NoMemory>
+        requires { vars ≤ 8 }
+        ensures { OnOk result (self.new.bytes.items ≡ self.old.bytes.items ++ journal_text vars entries.now) }
+    {
+        self.line("journal")?;
+        self.entries(entries, vars)?;
+        self.line("end")
+    }
+
+    fn shape(&mut self, word: &str, world: &World, vars: u8) -> Result<(), NoMemory>
+        requires { vars ≤ 8 }
+        ensures { OnOk result (self.new.bytes.items ≡ self.old.bytes.items ++ shape_text word.now vars world.now) }
+    {
+        self.line(word)?;
+        self.area(world.area())?;
+        self.bots(world, vars)?;
+        self.line("end")
+    }
+
+    fn turns(&mut self, marks: &Marks) -> Result<(), NoMemory>
+        ensures { OnOk result (self.new.bytes.items ≡ self.old.bytes.items ++ turns_text marks.now) }
+    {
+        self.line("turns")?;
+        self.callers(marks)?;
+        self.line("end")
+    }
+
+    fn entries(&mut self, entries: &[Entry], vars: u8) -> Result<(), NoMemory>
+        requires { vars ≤ 8 }
+        ensures { OnOk result (self.new.bytes.items ≡ self.old.bytes.items ++ flat_map line_text (map (entry_words vars) (enumerate_from 0 entries.now))) }
+    {
+        for (place, entry) in entries.iter().enumerate() {
+            self.entry(place, entry, vars)?;
         }
         Ok(())
     }
 
     fn entry(&mut self, place: usize, entry: &Entry, vars: u8) -> Result<(), NoMemory>
         requires { vars ≤ 8 }
+        ensures { OnOk result (self.new.bytes.items ≡ self.old.bytes.items ++ line_text (entry_words vars (place, entry.now))) }
     {
-        self.word("entry")?;
+        self.begin("entry")?;
+        self.numbers(place, entry)?;
+        self.moved(entry.moved)?;
+        self.pairs(entry.patch.pairs(), vars)?;
+        self.end()
+    }
+
+    /// The five numbers with which an entry begins.
+    fn numbers(&mut self, place: usize, entry: &Entry) -> Result<(), NoMemory>
+        ensures { OnOk result (self.new.bytes.items ≡ self.old.bytes.items ++ spaced (entry_numbers place entry.now)) }
+    {
         self.number(place)?;
         self.number(entry.caller)?;
         self.number(entry.turn)?;
         self.number(entry.bot)?;
-        self.number(entry.action)?;
-        self.moved(entry.moved)?;
-        for (name, cell) in entry.patch.pairs() {
-            self.pair(*name, cell, vars)?;
-        }
+        self.number(entry.action)
+    }
+
+    fn area(&mut self, area: Area) -> Result<(), NoMemory>
+        ensures { OnOk result (self.new.bytes.items ≡ self.old.bytes.items ++ line_text (area_words area)) }
+    {
+        self.begin("area")?;
+        self.number(area.x0())?;
+        self.number(area.y0())?;
+        self.number(area.w())?;
+        self.number(area.h())?;
         self.end()
     }
 
-    fn moved(&mut self, moved: Moved) -> Result<(), NoMemory> {
-        match moved {
-            Moved::None => self.word("none"),
-            Moved::Expand(port) => {
-                self.word("expand")?;
-                self.port(port)
-            }
-            Moved::Contract(end) => {
-                self.word("contract")?;
-                self.end_of_bot(end)
-            }
-            Moved::Push(port) => {
-                self.word("push")?;
-                self.port(port)
-            }
-            Moved::Pull(port) => {
-                self.word("pull")?;
-                self.port(port)
-            }
-        }
-    }
-
-    fn pair(&mut self, name: CellName, cell: &Cell, vars: u8) -> Result<(), NoMemory>
+    /// The amoebots, each on a line.
+    fn bots(&mut self, world: &World, vars: u8) -> Result<(), NoMemory>
         requires { vars ≤ 8 }
+        ensures { OnOk result (self.new.bytes.items ≡ self.old.bytes.items ++ flat_map line_text (map (bot_line vars) (present world.now.bots))) }
     {
-        self.cell_name(name)?;
-        match cell {
-            Cell::Spot(Some(id)) => self.number(*id),
-            Cell::Spot(None) => self.word("empty"),
-            Cell::Body(bot) => self.bot(bot, vars),
+        for id in 0..world.bots() {
+            self.begin("bot")?;
+            self.bot(world.bot(id), vars)?;
+            self.end()?;
         }
+        Ok(())
     }
 
-    fn cell_name(&mut self, name: CellName) -> Result<(), NoMemory> {
-        match name {
-            CellName::Spot(node) => {
-                self.word("spot")?;
-                self.node(node)
-            }
-            CellName::Body(id) => {
-                self.word("body")?;
-                self.number(id)
-            }
+    fn callers(&mut self, marks: &Marks) -> Result<(), NoMemory>
+        ensures { OnOk result (self.new.bytes.items ≡ self.old.bytes.items ++ flat_map line_text (flat_map caller_lines (enumerate_from 0 marks.now.marks))) }
+    {
+        for caller in 0..marks.callers() {
+            self.caller(marks, caller)?;
         }
+        Ok(())
     }
 
-    fn mark(&mut self, mark: Mark) -> Result<(), NoMemory> {
+    fn caller(&mut self, marks: &Marks, caller: u8) -> Result<(), NoMemory>
+        requires { caller < length marks.now.marks }
+        ensures { OnOk result (self.new.bytes.items ≡ self.old.bytes.items ++ flat_map line_text (caller_lines (caller, marks_of marks.now caller))) }
+    {
+        for turn in 0..marks.count(caller) {
+            self.turn(caller, turn, marks.mark(caller, turn))?;
+        }
+        Ok(())
+    }
+
+    fn turn(&mut self, caller: u8, turn: u32, mark: Mark) -> Result<(), NoMemory>
+        ensures { OnOk result (self.new.bytes.items ≡ self.old.bytes.items ++ line_text (turn_words caller (turn, mark))) }
+    {
+        self.begin("turn")?;
+        self.number(caller)?;
+        self.number(turn)?;
+        self.mark(mark)?;
+        self.end()
+    }
+
+    fn mark(&mut self, mark: Mark) -> Result<(), NoMemory>
+        ensures { OnOk result (self.new.bytes.items ≡ self.old.bytes.items ++ spaced (mark_words mark)) }
+    {
         match mark {
             Mark::Done { place } => {
                 self.word("done")?;
@@ -259,7 +229,7 @@ impl Lines {
                 place,
             } => {
                 self.word("busy")?;
-                self.cell_name(cell)?;
+                self.cell(cell)?;
                 self.word("by")?;
                 self.number(by_caller)?;
                 self.number(by_turn)?;
@@ -269,9 +239,170 @@ impl Lines {
             }
         }
     }
+
+    fn pairs(&mut self, pairs: &[(CellName, Cell)], vars: u8) -> Result<(), NoMemory>
+        requires { vars ≤ 8 }
+        ensures { OnOk result (self.new.bytes.items ≡ self.old.bytes.items ++ spaced (flat_map (pair_words vars) pairs.now)) }
+    {
+        for (name, value) in pairs {
+            self.cell(*name)?;
+            self.value(value, vars)?;
+        }
+        Ok(())
+    }
+
+    fn cell(&mut self, name: CellName) -> Result<(), NoMemory>
+        ensures { OnOk result (self.new.bytes.items ≡ self.old.bytes.items ++ spaced (cell_words name)) }
+    {
+        match name {
+            CellName::Spot(node) => {
+                self.word("spot")?;
+                self.node(node)
+            }
+            CellName::Body(id) => {
+                self.word("body")?;
+                self.number(id)
+            }
+        }
+    }
+
+    fn value(&mut self, value: &Cell, vars: u8) -> Result<(), NoMemory>
+        requires { vars ≤ 8 }
+        ensures { OnOk result (self.new.bytes.items ≡ self.old.bytes.items ++ spaced (value_words vars value.now)) }
+    {
+        match value {
+            Cell::Spot(Some(id)) => self.number(*id),
+            Cell::Spot(None) => self.word("empty"),
+            Cell::Body(bot) => self.bot(bot, vars),
+        }
+    }
+
+    /// The nodes, the rotation, the chirality and the first values of an amoebot.
+    fn bot(&mut self, bot: &Bot, vars: u8) -> Result<(), NoMemory>
+        requires { vars ≤ 8 }
+        ensures { OnOk result (self.new.bytes.items ≡ self.old.bytes.items ++ spaced (bot_words vars bot.now)) }
+    {
+        self.node(bot.head)?;
+        self.node(bot.tail)?;
+        self.number(bot.rot)?;
+        self.word(chir_word(bot.chir))?;
+        self.values(&bot.mem[..usize::from(vars)])
+    }
+
+    fn values(&mut self, values: &[u8]) -> Result<(), NoMemory>
+        ensures { OnOk result (self.new.bytes.items ≡ self.old.bytes.items ++ spaced (map decimal values.now)) }
+    {
+        for value in values {
+            self.number(*value)?;
+        }
+        Ok(())
+    }
+
+    fn moved(&mut self, moved: Moved) -> Result<(), NoMemory>
+        ensures { OnOk result (self.new.bytes.items ≡ self.old.bytes.items ++ spaced (moved_words moved)) }
+    {
+        match moved {
+            Moved::None => self.word("none"),
+            Moved::Expand(port) => {
+                self.word("expand")?;
+                self.port(port)
+            }
+            Moved::Contract(end) => {
+                self.word("contract")?;
+                self.word(end_word(end))
+            }
+            Moved::Push(port) => {
+                self.word("push")?;
+                self.port(port)
+            }
+            Moved::Pull(port) => {
+                self.word("pull")?;
+                self.port(port)
+            }
+        }
+    }
+
+    fn port(&mut self, port: Port) -> Result<(), NoMemory>
+        ensures { OnOk result (self.new.bytes.items ≡ self.old.bytes.items ++ spaced (port_words port)) }
+    {
+        self.word(end_word(port.end))?;
+        self.number(port.dir)
+    }
+
+    fn node(&mut self, node: Node) -> Result<(), NoMemory>
+        ensures { OnOk result (self.new.bytes.items ≡ self.old.bytes.items ++ spaced (node_words node)) }
+    {
+        self.number(node.x)?;
+        self.number(node.y)
+    }
+
+    fn number<I: Integer + Drop>(&mut self, number: I) -> Result<(), NoMemory>
+        ensures { OnOk result (self.new.bytes.items ≡ self.old.bytes.items ++ 32 ∷ I.text number) }
+    {
+        let mut buffer = Buffer::new();
+        self.word(buffer.format(number))
+    }
+
+    /// A line of one token.
+    fn line(&mut self, word: &str) -> Result<(), NoMemory>
+        ensures { OnOk result (self.new.bytes.items ≡ self.old.bytes.items ++ line_text (word.now ∷ [])) }
+    {
+        self.begin(word)?;
+        self.end()
+    }
+
+    /// The first token of a line.
+    fn begin(&mut self, word: &str) -> Result<(), NoMemory>
+        ensures { OnOk result (self.new.bytes.items ≡ self.old.bytes.items ++ word.now) }
+    {
+        self.put(word.as_bytes())
+    }
+
+    /// A further token of a line.
+    fn word(&mut self, word: &str) -> Result<(), NoMemory>
+        ensures { OnOk result (self.new.bytes.items ≡ self.old.bytes.items ++ 32 ∷ word.now) }
+    {
+        self.put(b" ")?;
+        self.put(word.as_bytes())
+    }
+
+    fn end(&mut self) -> Result<(), NoMemory>
+        ensures { OnOk result (self.new.bytes.items ≡ self.old.bytes.items ++ codes "\n") }
+    {
+        self.put(b"\n")
+    }
+
+    fn put(&mut self, bytes: &[u8]) -> Result<(), NoMemory>
+        ensures { OnOk result (self.new.bytes.items ≡ self.old.bytes.items ++ bytes.now) }
+    {
+        match self.bytes.extend_from_slice(bytes) {
+            Ok(()) => Ok(()),
+            Err(_) => Err(NoMemory),
+        }
+    }
 }
 
-fn failure_word(failure: Failure) -> &'static str {
+fn end_word(end: End) -> &'static str
+    ensures { result.now ≡ end_word end }
+{
+    match end {
+        End::Head => "head",
+        End::Tail => "tail",
+    }
+}
+
+fn chir_word(chir: Chir) -> &'static str
+    ensures { result.now ≡ chir_word chir }
+{
+    match chir {
+        Chir::Plus => "+",
+        Chir::Minus => "-",
+    }
+}
+
+fn failure_word(failure: Failure) -> &'static str
+    ensures { result.now ≡ failure_word failure }
+{
     match failure {
         Failure::NoPort => "no_port",
         Failure::NoNeighbour => "no_neighbour",

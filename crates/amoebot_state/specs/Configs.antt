@@ -1,12 +1,21 @@
 -- Configurations: an area, the greatest values of the variables, and the amoebots by their ids. An id may have none.
-use Rattle.std.specs.Prelude.{◌≡◌, ℕ, ◌<◌, ◌≤◌, ◌*◌, List, [], ◌∷◌, ◌++◌, map, length, slice_index_or}
-use Rattle.std.specs.List.{All}
+use Rattle.std.specs.Prelude.{◌≡◌, ℕ, ◌<◌, ◌≤◌, ◌*◌, List, [], ◌∷◌, ◌++◌, Bool, false, ◌||◌, map, length, slice_index, slice_index_or, slice_set, IsTrue, nat_le, pos, unwrap_or}
+use Rattle.std.specs.List.{list_all, position}
+use Rattle.std.specs.Option.{option_map}
 use Rattle.std.specs.declared.option.Option.{Option}
 use Rattle.std.specs.declared.option.Option.TheVariants.{Some, None}
-use Rattle.tri_lattice.specs.Extent.{Extent}
-use Rattle.tri_lattice.specs.Lattice.{IsNear}
+use Rattle.tri_lattice.specs.declared.node.Node.{Node}
+use Rattle.tri_lattice.specs.Extent.{Extent, IsArea, index_of, is_in}
+use Rattle.tri_lattice.specs.Lattice.{node_eq, is_adjacent}
 use Rattle.amoebot_state.specs.declared.bot.Bot.{Bot}
+use Rattle.amoebot_state.specs.declared.bot.Chir.TheVariants as chir
+use Rattle.amoebot_state.specs.declared.cell.CellName.{CellName}
+use Rattle.amoebot_state.specs.declared.cell.CellName.TheVariants as name
+use Rattle.amoebot_state.specs.declared.cell.Cell.{Cell}
+use Rattle.amoebot_state.specs.declared.cell.Cell.TheVariants as cell
+use Rattle.amoebot_state.specs.Ports.{is_own}
 
+-- (the paper's configuration of amoebots; the area, the maxima and the ids are this project's profile)
 pub record Config : Type 0 where
   pub area : Extent
   pub maxes : List ℕ
@@ -16,22 +25,76 @@ pub record Config : Type 0 where
 abbrev pub bot_at : Config → ℕ → Option Bot
 bot_at c i = slice_index_or c.bots i None
 
+-- an amoebot that stands nowhere in particular
+abbrev pub blank : Bot
+blank = let origin : Node = record { x = pos 0; y = pos 0 } in record { head = origin; tail = origin; rot = 0; chir = chir.Plus; mem = 0 ∷ 0 ∷ 0 ∷ 0 ∷ 0 ∷ 0 ∷ 0 ∷ 0 ∷ [] }
+
+-- the amoebot with an id that is there; else a blank one, so that the word is total
+abbrev pub bot_of : Config → ℕ → Bot
+bot_of c i = unwrap_or (bot_at c i) blank
+
+-- there is an amoebot, and the node is one of its own
+abbrev pub covers : Option Bot → Node → Bool
+covers None v = false
+covers (Some b) v = is_own b v
+
+-- the id whose amoebot has the node as its head or its tail, if one has
+abbrev pub occupant : Config → Node → Option ℕ
+occupant c v = position (λ o. covers o v) c.bots
+
+-- what a cell holds: a node its occupant or none; a body the amoebot, if there is one
+abbrev pub value : Config → CellName → Option Cell
+value c (name.Spot v) = Some (cell.Spot (occupant c v))
+value c (name.Body i) = option_map cell.Body (bot_at c i)
+
+-- the nodes are equal or adjacent
+abbrev pub is_joined : Node → Node → Bool
+is_joined a b = node_eq a b || is_adjacent a b
+
+abbrev pub variables : List ℕ
+variables = 0 ∷ 1 ∷ 2 ∷ 3 ∷ 4 ∷ 5 ∷ 6 ∷ 7 ∷ []
+
+-- no value is above its maximum
+abbrev pub has_values : List ℕ → List ℕ → Bool
+has_values maxes values = list_all (λ k. nat_le (slice_index values k) (slice_index maxes k)) variables
+
+-- an amoebot that may stand in the area: it is there on one node or on two adjacent ones (the paper's geometric variant), has
+-- a rotation of 0 to 5, and no value above its maximum (this project's profile)
+pub record IsBot (area : Extent) (maxes : List ℕ) (b : Bot) : Type 0 where
+  pub head : IsTrue (is_in area b.head)
+  pub tail : IsTrue (is_in area b.tail)
+  pub joined : IsTrue (is_joined b.head b.tail)
+  pub rot : b.rot < 6
+  pub values : IsTrue (has_values maxes b.mem)
+  pub eight : length b.mem ≡ 8
+
+-- each amoebot may stand in the area, and no node belongs to two ids (the paper's geometric variant, within this project's
+-- area)
+pub record IsValid (c : Config) : Type 0 where
+  pub area : IsArea c.area
+  pub eight : length c.maxes ≡ 8
+  pub each : (i : ℕ) (b : Bot) → bot_at c i ≡ Some b → IsBot c.area c.maxes b
+  pub apart : (i j : ℕ) (v : Node) → IsTrue (covers (bot_at c i) v) → IsTrue (covers (bot_at c j) v) → i ≡ j
+
 -- the amoebots of a list, each with its place as its id
 abbrev pub config_of : Extent → List ℕ → List Bot → Config
 config_of a maxes bots = record { area = a; maxes = maxes; bots = map Some bots }
 
 -- the configuration with one more amoebot
 abbrev pub with_bot : Config → Bot → Config
-with_bot c b = record { area = c.area; maxes = c.maxes; bots = c.bots ++ Some b ∷ [] }
+with_bot c b = record c { bots = c.bots ++ Some b ∷ [] }
 
--- an amoebot whose nodes have neighbours, and whose rotation is one
-pub record IsPlain (b : Bot) : Type 0 where
-  pub head : IsNear b.head
-  pub tail : IsNear b.tail
-  pub rot : b.rot < 6
+-- the configuration in which the id has this amoebot
+abbrev pub set_bot : Config → ℕ → Bot → Config
+set_bot c i b = record c { bots = slice_set c.bots i (Some b) }
 
--- what a world keeps of its fields
-pub record IsKept (size : ℕ) (bots : List Bot) (grid : List (Option ℕ)) : Type 0 where
-  pub plain : All IsPlain bots
-  pub few : length bots ≤ 4096
-  pub covered : length grid ≡ size
+-- the occupant of each node of the area, by the nodes' numbers
+pub record IsGrid (c : Config) (grid : List (Option ℕ)) : Type 0 where
+  pub size : length grid ≡ c.area.w * c.area.h
+  pub right : (v : Node) (k : ℕ) → index_of c.area v ≡ Some k → slice_index_or grid k None ≡ occupant c v
+
+-- what a world keeps: it is valid, has at most 4,096 amoebots, and knows the occupant of each node
+pub record IsWorld (c : Config) (grid : List (Option ℕ)) : Type 0 where
+  pub valid : IsValid c
+  pub kept : IsGrid c grid
+  pub few : length c.bots ≤ 4096

@@ -1,3 +1,11 @@
 pub mod Ports
 pub mod Pairs
 pub mod Configs
+pub mod Zones
+pub mod Patches
+pub mod Refusals
+pub mod Steps
+pub mod Moves
+pub mod Storage
+pub mod Occupied
+pub mod Laws

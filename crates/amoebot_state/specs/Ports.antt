@@ -1,17 +1,13 @@
 -- Amoebots: their nodes, their directions and their ports.
-use Rattle.std.specs.Prelude.{◌≡◌, ℕ, ◌+◌, ◌-◌, ◌%◌, List, [], ◌∷◌, Bool, true, false, not, ◌&&◌, ◌||◌, if◌then◌else◌, filter, nat_lt}
-use Rattle.std.specs.Ordering.{int_eq}
+use Rattle.std.specs.Prelude.{ℕ, ◌+◌, ◌-◌, ◌%◌, List, [], ◌∷◌, Bool, true, false, not, ◌&&◌, ◌||◌, if◌then◌else◌, filter, nat_lt}
 use Rattle.tri_lattice.specs.declared.node.Node.{Node}
-use Rattle.tri_lattice.specs.Lattice.{step}
+use Rattle.tri_lattice.specs.Lattice.{step, node_eq, is_adjacent}
 use Rattle.amoebot_state.specs.declared.bot.Bot.{Bot}
 use Rattle.amoebot_state.specs.declared.bot.Chir.{Chir}
 use Rattle.amoebot_state.specs.declared.bot.Chir.TheVariants as chir
 use Rattle.amoebot_state.specs.declared.bot.End.{End}
 use Rattle.amoebot_state.specs.declared.bot.End.TheVariants.{Head, Tail}
 use Rattle.amoebot_state.specs.declared.bot.Port.{Port}
-
-abbrev pub node_eq : Node → Node → Bool
-node_eq a b = int_eq a.x b.x && int_eq a.y b.y
 
 -- head and tail are one node (the paper's geometric variant)
 abbrev pub is_contracted : Bot → Bool
@@ -23,12 +19,12 @@ is_own b v = node_eq b.head v || node_eq b.tail v
 
 -- the global direction of a local one: with one chirality the local directions go round as the global ones, with the
 -- other against them (this project's profile)
-abbrev pub turned_by : Chir → ℕ → ℕ → ℕ
-turned_by chir.Plus rot i = (rot + i) % 6
-turned_by chir.Minus rot i = (rot + (6 - i)) % 6
+abbrev pub global_by : Chir → ℕ → ℕ → ℕ
+global_by chir.Plus rot i = (rot + i) % 6
+global_by chir.Minus rot i = (rot + (6 - i)) % 6
 
 abbrev pub global : Bot → ℕ → ℕ
-global b i = turned_by b.chir b.rot i
+global b i = global_by b.chir b.rot i
 
 -- the local direction of a global one
 abbrev pub local_by : Chir → ℕ → ℕ → ℕ
@@ -43,7 +39,7 @@ abbrev pub end_node : Bot → End → Node
 end_node b Head = b.head
 end_node b Tail = b.tail
 
--- the node behind a pair of an end and a local direction
+-- the node behind a pair of an end and a local direction: one step from the end's node (the paper's geometric variant)
 abbrev pub behind : Bot → Port → Node
 behind b p = step (end_node b p.end) (global b p.dir)
 
@@ -51,7 +47,8 @@ abbrev pub is_head : End → Bool
 is_head Head = true
 is_head Tail = false
 
--- contracted: the six pairs of the head; expanded: the pairs of both ends that lead to no node of its own
+-- contracted: the six pairs of the head; expanded: the pairs of both ends that lead to no node of its
+-- own (the paper's geometric variant)
 abbrev pub is_port : Bot → Port → Bool
 is_port b p = nat_lt p.dir 6 && (if is_contracted b then is_head p.end else not (is_own b (behind b p)))
 
@@ -69,3 +66,7 @@ ports b = filter (is_port b) all_ports
 -- its nodes, the head first
 abbrev pub own_nodes : Bot → List Node
 own_nodes b = if is_contracted b then b.head ∷ [] else b.head ∷ b.tail ∷ []
+
+-- the node is one of the amoebot's, or adjacent to one
+abbrev pub is_beside : Bot → Node → Bool
+is_beside b v = is_own b v || is_adjacent b.head v || is_adjacent b.tail v

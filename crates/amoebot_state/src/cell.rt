@@ -1,5 +1,5 @@
-ghost use Rattle.std.specs.Prelude.{◌≡◌, ◌<◌, ◌∷◌, ◌++◌, [], length, IsTrue};
-ghost use Rattle.amoebot_state.specs.Pairs.{is_alike};
+ghost use Rattle.std.specs.Prelude.{◌≡◌, ◌<◌, ◌≤◌, ◌∷◌, ◌++◌, [], length, IsTrue};
+ghost use Rattle.amoebot_state.specs.Pairs.{is_alike, are_alike};
 
 use crate::bot::Bot;
 use arrayvec::ArrayVec;
@@ -20,6 +20,7 @@ pub enum Cell {
     Body(Bot),
 }
 
+// The defaults fill the free places of lists of fixed size, and mean nothing else.
 impl Default for CellName {
     fn default() -> Self {
         CellName::Body(0)
@@ -69,7 +70,9 @@ impl Patch {
 
     /// The list of the pairs.
     pub fn pairs(&self) -> &[(CellName, Cell)]
-        ensures { result.now ≡ self.now }
+        ensures value { result.now ≡ self.now }
+        ensures few { length self.now ≤ 10 }
+        ensures alike { are_alike self.now }
     {
         self.pairs.as_slice()
     }

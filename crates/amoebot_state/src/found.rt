@@ -1,9 +1,15 @@
-ghost use Rattle.std.specs.Prelude.{◌≡◌, ◌<◌, ◌≤◌, length};
-ghost use Rattle.tri_lattice.specs.Lattice.{IsNear};
+ghost use Rattle.std.specs.Prelude.{◌≡◌, ◌≤◌, length, IfSome, IsTrue};
+ghost use Rattle.std.specs.Option.{option_copied};
+ghost use Rattle.amoebot_state.specs.Configs.{IsValid, bot_at, bot_of, occupant};
+ghost use Rattle.amoebot_state.specs.Ports.{is_beside};
+ghost use Rattle.amoebot_state.specs.Refusals.{IsPlain};
+ghost use Rattle.amoebot_state.specs.Zones.{IsShown, IsFound, gap};
+ghost use Rattle.amoebot_state.specs.Storage.{body_at, body_in, spot_at, spot_in};
 
 use crate::bot::Bot;
 use crate::cell::{Cell, CellName};
 use arrayvec::ArrayVec;
+use std::marker::Model;
 use tri_lattice::{Area, Node};
 
 /// What an amoebot is shown of a world: its closed neighbourhood. That is the area, the maxima of the variables, and the
@@ -15,12 +21,38 @@ pub struct Found {
     bot: u16,
     own: Bot,
     cells: ArrayVec<(CellName, Cell), 30>,
-    ghost rot: { own.rot < 6 },
-    ghost head: { IsNear own.head },
-    ghost tail: { IsNear own.tail },
+}
+
+impl Model for Found {
+    ghost use Rattle.amoebot_state.specs.Zones.{Shown, IsFound};
+
+    ghost Value = { Shown };
+
+    ghost view = { λ f. record { area = f.area; maxes = f.maxes; bot = f.bot; cells = f.cells.items } };
+
+    ghost invariant = { λ f. IsFound (record { area = f.area; maxes = f.maxes; bot = f.bot; cells = f.cells.items }) f.own };
 }
 
 impl Found {
+    /// The closed neighbourhood that has these cells, which are the whole zone of an amoebot of some valid world, in zone
+    /// order, with what they hold there. It takes no memory.
+    pub fn make(area: Area, maxes: [u8; 8], bot: u16, cells: &[(CellName, Cell)]) -> Found
+        requires { IsShown (record { area = area; maxes = maxes; bot = bot; cells = cells.now }) }
+        ensures { result ≡ record { area = area; maxes = maxes; bot = bot; cells = cells.now } }
+    {
+        let own = match body_in(cells, bot) {
+            Some(own) => *own,
+            None => unreachable!(),
+        };
+        Found {
+            area,
+            maxes,
+            bot,
+            own,
+            cells: copied(cells),
+        }
+    }
+
     pub(crate) fn of(
         area: Area,
         maxes: [u8; 8],
@@ -28,9 +60,8 @@ impl Found {
         own: Bot,
         cells: ArrayVec<(CellName, Cell), 30>,
     ) -> Found
-        requires rot { own.rot < 6 }
-        requires head { IsNear own.head }
-        requires tail { IsNear own.tail }
+        requires { IsFound (record { area = area; maxes = maxes; bot = bot; cells = cells.items }) own }
+        ensures { result ≡ record { area = area; maxes = maxes; bot = bot; cells = cells.items } }
     {
         Found {
             area,
@@ -42,50 +73,119 @@ impl Found {
     }
 
     /// The id of the amoebot that is shown this.
-    pub fn bot(&self) -> u16 {
+    pub fn bot(&self) -> u16
+        ensures { result ≡ self.now.bot }
+    {
         self.bot
     }
 
-    pub fn area(&self) -> Area {
+    /// The area of the world.
+    pub fn area(&self) -> Area
+        ensures { result ≡ self.now.area }
+    {
         self.area
     }
 
     /// The greatest value of each variable.
-    pub fn maxes(&self) -> [u8; 8] {
+    pub fn maxes(&self) -> [u8; 8]
+        ensures { result ≡ self.now.maxes }
+    {
         self.maxes
     }
 
     /// The amoebot that is shown this.
     pub fn own(&self) -> &Bot
-        ensures rot { result.now.rot < 6 }
-        ensures head { IsNear result.now.head }
-        ensures tail { IsNear result.now.tail }
+        ensures value { Some result.now ≡ bot_at (gap self.now) self.now.bot }
+        ensures plain { IsPlain result.now }
+        ensures shown { IsShown self.now }
+        ensures valid { IsValid (gap self.now) }
     {
         &self.own
     }
 
     /// The id of a node's occupant; None for an empty node and for one outside the area. The node is an own one or adjacent to
     /// one.
-    pub fn occupant(&self, node: Node) -> Option<u16> {
-        for (name, cell) in self.cells.as_slice() {
-            if *name == CellName::Spot(node) {
-                if let Cell::Spot(occupant) = cell {
-                    return *occupant;
-                }
-            }
-        }
-        None
+    pub fn occupant(&self, node: Node) -> Option<u16>
+        requires { IsTrue (is_beside (bot_of (gap self.now) self.now.bot) node) }
+        ensures { result ≡ occupant (gap self.now) node }
+    {
+        spot_in(self.cells.as_slice(), node).unwrap_or(None)
     }
 
-    /// The amoebot with an id; None where its body is not in the zone.
-    pub fn body(&self, id: u16) -> Option<&Bot> {
-        for (name, cell) in self.cells.as_slice() {
-            if *name == CellName::Body(id) {
-                if let Cell::Body(bot) = cell {
-                    return Some(bot);
+    /// The amoebot with an id; None exactly where its body is not in the zone.
+    pub fn body(&self, id: u16) -> Option<&Bot>
+        ensures value { option_copied result ≡ bot_at (gap self.now) id }
+        ensures plain { IfSome result (λ b. IsPlain b.now) }
+    {
+        body_in(self.cells.as_slice(), id)
+    }
+}
+
+/// The first amoebot that the cells hold for this id.
+fn body_in(cells: &[(CellName, Cell)], id: u16) -> Option<&Bot>
+    ensures { option_copied result ≡ body_in cells.now id }
+{
+    for (name, cell) in cells {
+        match body_at(name, cell, id) {
+            Some(bot) => return Some(bot),
+            None => {}
+        }
+    }
+    None
+}
+
+/// The amoebot of a cell, where that is the body of this id.
+fn body_at<'a>(name: &CellName, cell: &'a Cell, id: u16) -> Option<&'a Bot>
+    ensures { option_copied result ≡ body_at name.now cell.now id }
+{
+    match name {
+        CellName::Body(other) => match cell {
+            Cell::Body(bot) => { if *other == id { Some(bot) } else { None } }
+            Cell::Spot(_) => None,
+        },
+        CellName::Spot(_) => None,
+    }
+}
+
+/// The first occupant that the cells have for this node, if they have one.
+fn spot_in(cells: &[(CellName, Cell)], node: Node) -> Option<Option<u16>>
+    ensures { result ≡ spot_in cells.now node }
+{
+    for (name, cell) in cells {
+        match spot_at(name, cell, node) {
+            Some(occupant) => return Some(occupant),
+            None => {}
+        }
+    }
+    None
+}
+
+/// The occupant of a cell, where that is this node.
+fn spot_at(name: &CellName, cell: &Cell, node: Node) -> Option<Option<u16>>
+    ensures { result ≡ spot_at name.now cell.now node }
+{
+    match name {
+        CellName::Spot(other) => match cell {
+            Cell::Spot(occupant) => {
+                if *other == node {
+                    Some(*occupant)
+                } else {
+                    None
                 }
             }
-        }
-        None
+            Cell::Body(_) => None,
+        },
+        CellName::Body(_) => None,
     }
+}
+
+fn copied(cells: &[(CellName, Cell)]) -> ArrayVec<(CellName, Cell), 30>
+    requires { length cells.now ≤ 30 }
+    ensures { result.items ≡ cells.now }
+{
+    let mut copy = ArrayVec::new();
+    for cell in cells {
+        copy.push(*cell);
+    }
+    copy
 }

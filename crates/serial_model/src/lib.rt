@@ -2,8 +2,9 @@
 #![tactic(auto)]
 
 ghost use Rattle.std.specs.Prelude.{◌≡◌, ◌<◌, length};
+ghost use Rattle.serial_model.specs.Turns.{Turns};
 
-use amoebot_state::{Decider, Entry, Failure, Verdict, World};
+use amoebot_state::{Decider, Entry, Failure, Verdict, World, has_next};
 use std::marker::Model;
 
 /// What a turn did: an entry for the journal, or nothing.
@@ -39,9 +40,11 @@ impl Serial {
     /// is made. Where it is none, the world stays.
     pub fn activate<D: Decider>(&mut self, decider: &D, caller: u8, turn: u32, bot: u16) -> Turned
         requires { bot < length self.old.bots }
-        ensures { length self.new.bots ≡ length self.old.bots }
+        ensures turns { Turns (D.verdict decider.now) caller turn bot self.old result self.new }
+        ensures size { length self.new.bots ≡ length self.old.bots }
     {
         let found = self.world.found(bot);
+        has_next(decider);
         match decider.decide(&found) {
             Verdict::Idle => Turned::Idle,
             Verdict::Failed(failure) => Turned::Failed(failure),
@@ -74,3 +77,6 @@ impl Serial {
         world
     }
 }
+
+#[cfg(test)]
+mod tests;

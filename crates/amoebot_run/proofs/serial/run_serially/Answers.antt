@@ -1,26 +1,51 @@
-use Rattle.std.proofs.Common.{◌+◌, length, ap, sym, subst, ◌∙◌, arith, length-append, [], ◌∷◌}
-use Rattle.std.proofs.lemmas.List.{length-replicate}
+use Rattle.std.proofs.Common.{◌≡◌, ◌+◌, length, ap, sym, subst, ◌∙◌, arith, length-append, [], ◌∷◌, ◌++◌}
+use Rattle.std.proofs.lemmas.List.{length-replicate, append-nil}
 use Rattle.std.proofs.Math.ListN.{length-set}
+use Rattle.serial_model.specs.Turns.{Turns}
+use Rattle.amoebot_run.specs.declared.marks.Mark.TheVariants as mark
 use Rattle.amoebot_run.specs.Turns.{HaveBots, marks_of}
-use Rattle.amoebot_run.proofs.Underway.{marks_of-none, marks_of-add}
+use Rattle.amoebot_run.specs.SerialRuns.{mark_at, entries_by, all_turns}
+use Rattle.amoebot_run.proofs.Underway.{so_far, same_so_far, marks_of-none, marks_of-add, one_more}
+use Rattle.amoebot_run.proofs.SerialReports.{no_list, one_list, serial_run_is_good}
 use Rattle.amoebot_run.proofs.serial.run_serially.Goals as goal
 use Rattle.amoebot_run.proofs.serial.run_serially.Goals.{then-callers-eq0, else-callers-eq0, in-Done, in-Idle, in-Failed}
 
 pub loop-turn-init : goal.loop-turn-init
 loop-turn-init g c = record {
-  bots = subst (λ w. HaveBots (length w.bots) c.args.lists.now) (sym c.new-serial.ensures) c.requires;
+  run = same_so_far c.new-serial.result c.args.world c.reserve.new.self c.in_ok-marks.marks (ap (λ m. marks_of m 0) c.in_ok-marks.ensures ∙ marks_of-none c.callers-2.result c.if-callers-eq0.turns) (c.reserve.ensures.entries ∙ c.in_ok-journal.ensures.entries) c.new-serial.ensures;
+  first = c.reserve.ensures.first ∙ c.in_ok-journal.ensures.first;
+  bots = subst (λ w. HaveBots (length w.bots) c.args.lists.now) (sym c.new-serial.ensures) c.requires.bots;
   kept = c.callers.ensures.lists;
   caller = elim c.if-callers-eq0.branch [ then-callers-eq0 w ↦ λ some. omega arith | else-callers-eq0 w ↦ λ some. omega arith ];
   entries = omega (arith, ap length c.reserve.ensures.entries, ap length c.in_ok-journal.ensures.entries);
   spare = omega (arith, c.in_ok-reserve.ensures.ok);
   all_turns = ap (λ m. m.turns) c.in_ok-marks.ensures;
   callers = ap (λ m. length m.marks) c.in_ok-marks.ensures ∙ length-replicate _ _ ∙ c.callers-2.ensures.value;
-  marked = ap (λ m. length (marks_of m 0)) c.in_ok-marks.ensures ∙ marks_of-none c.callers-2.result c.if-callers-eq0.turns;
+  marked = ap (λ m. length (marks_of m 0)) c.in_ok-marks.ensures ∙ ap length (marks_of-none c.callers-2.result c.if-callers-eq0.turns);
 }
 
 pub loop-turn-preserved : goal.loop-turn-preserved
 loop-turn-preserved g c = record {
-  bots = subst (λ n. HaveBots n c.args.lists.now) (sym c.activate.ensures) c.loop-turn.invariant.bots;
+  run = one_more _ _ _ _ (so_far c.loop-turn.serial c.loop-turn.journal c.loop-turn.marks) _ c.loop-turn.invariant.run (record {
+    turned = c.activate.result;
+    made = subst (λ b. Turns (g.D.Decider.verdict c.args.decider.now) 0 c.loop-turn.turn b c.loop-turn.serial c.activate.result c.activate.new.self) c.bot-bot.ensures c.activate.ensures.turns;
+    marks = ap (λ m. marks_of m 0) c.add.ensures ∙ marks_of-add c.loop-turn.marks 0 c.match-activate.mark (omega (arith, c.loop-turn.invariant.caller)) ∙ ap (λ m. marks_of c.loop-turn.marks 0 ++ m ∷ []) (elim c.match-activate.branch [
+      | in-Done w ↦ w.mark-is ∙ ap (λ es. mark.Done (length es)) c.entries.ensures ∙ ap (mark_at (length c.loop-turn.journal.entries)) (sym w.in-Done.is)
+      | in-Idle w ↦ w.mark-is ∙ ap (λ es. mark.Idle (length es)) c.entries.ensures ∙ ap (mark_at (length c.loop-turn.journal.entries)) (sym w.in-Idle.is)
+      | in-Failed w ↦ w.mark-is ∙ ap (λ es. mark.Failed w.in-Failed.failure (length es)) c.entries.ensures ∙ ap (mark_at (length c.loop-turn.journal.entries)) (sym w.in-Failed.is)
+    ]);
+    entries = elim c.match-activate.branch [
+      | in-Done w ↦ ap (λ j. j.entries) w.journal-is ∙ w.push.ensures.entries ∙ ap (λ t. c.loop-turn.journal.entries ++ entries_by t) (sym w.in-Done.is)
+      | in-Idle w ↦ ap (λ j. j.entries) w.journal-is ∙ sym (append-nil c.loop-turn.journal.entries) ∙ ap (λ t. c.loop-turn.journal.entries ++ entries_by t) (sym w.in-Idle.is)
+      | in-Failed w ↦ ap (λ j. j.entries) w.journal-is ∙ sym (append-nil c.loop-turn.journal.entries) ∙ ap (λ t. c.loop-turn.journal.entries ++ entries_by t) (sym w.in-Failed.is)
+    ];
+  });
+  first = elim c.match-activate.branch [
+    | in-Done w ↦ ap (λ j. j.first) w.journal-is ∙ w.push.ensures.first ∙ c.loop-turn.invariant.first
+    | in-Idle w ↦ ap (λ j. j.first) w.journal-is ∙ c.loop-turn.invariant.first
+    | in-Failed w ↦ ap (λ j. j.first) w.journal-is ∙ c.loop-turn.invariant.first
+  ];
+  bots = subst (λ n. HaveBots n c.args.lists.now) (sym c.activate.ensures.size) c.loop-turn.invariant.bots;
   kept = c.loop-turn.invariant.kept;
   caller = c.loop-turn.invariant.caller;
   entries = elim c.match-activate.branch [
@@ -35,5 +60,20 @@ loop-turn-preserved g c = record {
   ];
   all_turns = ap (λ m. m.turns) c.add.ensures ∙ c.loop-turn.invariant.all_turns;
   callers = ap (λ m. length m.marks) c.add.ensures ∙ length-set _ _ _ ∙ c.loop-turn.invariant.callers;
-  marked = ap (λ m. length (marks_of m 0)) c.add.ensures ∙ marks_of-add c.loop-turn.marks 0 c.match-activate.mark (omega (arith, c.loop-turn.invariant.caller)) ∙ ap (λ n. n + 1) c.loop-turn.invariant.marked;
+  marked = ap (λ m. length (marks_of m 0)) c.add.ensures ∙ ap length (marks_of-add c.loop-turn.marks 0 c.match-activate.mark (omega (arith, c.loop-turn.invariant.caller))) ∙ length-append _ _ ∙ ap (λ n. n + 1) c.loop-turn.invariant.marked;
 }
+
+-- all turns were made
+all_made : (g : _) (c : goal.After-into_world g) → c.loop-turn.turn ≡ all_turns c.args.lists.now
+all_made g c =
+    let end : c.loop-turn.turn ≡ c.if-callers-eq0.turns = omega arith in
+    end ∙ (elim c.if-callers-eq0.branch [
+      | then-callers-eq0 w ↦ w.turns-is ∙ sym (no_list _ _ (omega arith))
+      | else-callers-eq0 w ↦ w.turns-is ∙ w.turns-turns.ensures ∙ sym (one_list _ _ (omega arith) c.requires.one)
+    ])
+
+pub returns-clause-determined : goal.returns-clause-determined
+returns-clause-determined g c = rw (← all_made g c, c.into_world.ensures) c.loop-turn.invariant.run
+
+pub returns-clause-good : goal.returns-clause-good
+returns-clause-good g c = serial_run_is_good _ c.args.world c.args.lists.now _ c.keeps.ensures.valid c.requires.one c.loop-turn.invariant.first c.loop-turn.invariant.callers (returns-clause-determined g c)

@@ -1,0 +1,53 @@
+use Rattle.std.proofs.Common.{◌≡◌, ap, sym, subst, ◌∙◌, Err, inl, inr, length, List, ℕ}
+use Rattle.std.proofs.lemmas.Bool.{false≢true}
+use Rattle.outer_io.specs.Told.{GrowsByFront}
+use Rattle.outer_io.specs.Refused.{IsGotAt}
+use Rattle.amoebot_run.specs.declared.run.Ended.{Ended}
+use Rattle.amoebot_run.specs.Headline.{IsNoDocument, IsRunOfDocument, IsOwed, usage, read_fault, too_long, not_yet, run}
+use Rattle.amoebot_run.proofs.Fronts.{whole_is}
+use Rattle.amoebot_run.proofs.run.run.Goals as goal
+
+pub returns-in-Err-NotYet-clause-not_yet : goal.returns-in-Err-NotYet-clause-not_yet
+returns-in-Err-NotYet-clause-not_yet g c = λ _. (c.in-Ok.document, c.in-Ok.ensures.all, c.in-Ok.ensures.end, c.in-Ok.ensures.within, subst IsNoDocument c.bytes.ensures (c.run_document.ensures.none (c.in-Err-NotYet.is ∙ ap Err c.in-Err-NotYet.field-0-is)))
+
+pub returns-then-not-is_run-clause-front : goal.returns-then-not-is_run-clause-front
+returns-then-not-is_run-clause-front g c = λ e. elim c.end_with_line.ensures [
+  | inl x ↦ let f = ap (λ (r : Ended). r.status) x.0 in absurd (cc)
+  | inr y ↦ (_, usage (λ is. false≢true (c.if-not-is_run.ensures.1 is)), y.2)
+]
+
+pub returns-in-Err-ReadFault-clause-front : goal.returns-in-Err-ReadFault-clause-front
+returns-in-Err-ReadFault-clause-front g c = λ e. elim c.end_with_line-in-Err-ReadFault.ensures [
+  | inl x ↦ let f = ap (λ (r : Ended). r.status) x.0 in absurd (cc)
+  | inr y ↦ (_, read_fault (c.in-Err-ReadFault.ensures.fault (ap Err c.in-Err-ReadFault.field-0-is)), y.2)
+]
+
+pub returns-in-Err-TooLong-clause-front : goal.returns-in-Err-TooLong-clause-front
+returns-in-Err-TooLong-clause-front g c = λ e. elim c.end_with_line-in-Err-TooLong.ensures [
+  | inl x ↦ let f = ap (λ (r : Ended). r.status) x.0 in absurd (cc)
+  | inr y ↦
+      let got = c.in-Err-TooLong.ensures.refused in
+      (_, too_long got.0 got.1 (subst (λ w. IsGotAt 1048576 w (length got.0)) c.in-Err-TooLong.field-0-is got.2), y.2)
+]
+
+pub returns-in-Ok-run_document-clause-front : goal.returns-in-Ok-run_document-clause-front
+returns-in-Ok-run_document-clause-front g c = λ e. (
+  _,
+  run c.in-Ok.document c.in-Ok-run_document.report (c.in-Ok.ensures.all, c.in-Ok.ensures.end, c.in-Ok.ensures.within) (subst (λ bytes. IsRunOfDocument bytes c.in-Ok-run_document.report) c.bytes.ensures c.in-Ok-run_document.ensures.run),
+  subst (λ text. GrowsByFront (g.K.Sink.written c.args.out.now) (g.K.Sink.written c.write_all.new.sink) text) (c.bytes-in-Ok-run_document.ensures ∙ c.in-Ok-run_document.ensures.text) c.in-Err.ensures.front,
+)
+
+pub returns-in-Err-NotYet-clause-front : goal.returns-in-Err-NotYet-clause-front
+returns-in-Err-NotYet-clause-front g c = λ e. elim c.end_with_line-in-Err-NotYet.ensures [
+  | inl x ↦ let f = ap (λ (r : Ended). r.status) x.0 in absurd (cc)
+  | inr y ↦ (
+    _,
+    not_yet c.in-Ok.document (c.in-Ok.ensures.all, c.in-Ok.ensures.end, c.in-Ok.ensures.within) (subst IsNoDocument c.bytes.ensures (c.run_document.ensures.none (c.in-Err-NotYet.is ∙ ap Err c.in-Err-NotYet.field-0-is))),
+    y.2,
+  )
+]
+
+pub returns-in-Err-NotYet-clause-complete : goal.returns-in-Err-NotYet-clause-complete
+returns-in-Err-NotYet-clause-complete g c = λ command document port start lists left few is.
+    let same = whole_is _ _ document c.in-Ok.document left c.in-Ok.ensures.all c.in-Ok.ensures.end in
+    absurd (subst IsNoDocument same (subst IsNoDocument c.bytes.ensures (c.run_document.ensures.none (c.in-Err-NotYet.is ∙ ap Err c.in-Err-NotYet.field-0-is))) port start lists is)

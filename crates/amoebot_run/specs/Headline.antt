@@ -1,0 +1,52 @@
+-- What a call of the program comes to.
+use Rattle.std.specs.Prelude.{◌≡◌, ℕ, ◌≤◌, List, length, codes}
+use Rattle.amoebot_state.specs.declared.bot.Port.{Port}
+use Rattle.amoebot_state.specs.Configs.{Config}
+use Rattle.amoebot_state.specs.Moves.{expansion_verdict_shown}
+use Rattle.amoebot_run.specs.declared.report.Report.{Report}
+use Rattle.amoebot_run.specs.Documents.{IsRunDocument}
+use Rattle.amoebot_run.specs.Good.{Good}
+use Rattle.amoebot_run.specs.SerialRuns.{SerialRun, all_turns, left_by}
+use Rattle.amoebot_run.specs.Texts.{report_text}
+use Rattle.amoebot_run.specs.Turns.{CallerLists}
+
+-- the report is one of a run of the program, from the world at the start, of the lists: it is good, and it is what the turns of
+-- the one list leave, one after another, each the verdict on the world reached and none Busy
+pub record IsRunOf (port : Port) (start : Config) (lists : CallerLists) (report : Report) : Type 0 where
+  pub few : length lists.ids ≤ 1
+  pub good : Good (expansion_verdict_shown port) start lists report
+  pub determined : SerialRun (expansion_verdict_shown port) start lists (all_turns lists) (left_by report)
+
+-- the bytes are a document, and the report is one of the run that it asks for
+pub record IsRunOfDocument (bytes : List ℕ) (report : Report) : Type 0 where
+  pub port : Port
+  pub start : Config
+  pub lists : CallerLists
+  pub document : IsRunDocument bytes port start lists
+  pub run : IsRunOf port start lists report
+
+-- the bytes are no document
+abbrev pub IsNoDocument : List ℕ → Type 0
+IsNoDocument bytes = (port : Port) (start : Config) (lists : CallerLists) → IsRunDocument bytes port start lists → ⊥
+
+abbrev pub usage_line : List ℕ
+usage_line = codes "usage: run / interleave / replay / check / measure / show NAME / sample NUMBER\n"
+
+abbrev pub read_fault_line : List ℕ
+read_fault_line = codes "read fault\n"
+
+abbrev pub too_long_line : List ℕ
+too_long_line = codes "refused 0 TooLong\n"
+
+abbrev pub not_yet_line : List ℕ
+not_yet_line = codes "refused 0 NotYet\n"
+
+-- the text or the line that a call has to write: the usage line where the words are no command; that of a fault where a read
+-- failed; that of a refusal, where more bytes than the limit were got, or where the whole input is no document; or the text of a
+-- run of the whole input
+pub data IsOwed (Command ReadFailed : Type 0) (Got Whole : List ℕ → Type 0) : List ℕ → Type 0 where
+  usage : (Command → ⊥) → IsOwed Command ReadFailed Got Whole usage_line
+  read_fault : ReadFailed → IsOwed Command ReadFailed Got Whole read_fault_line
+  too_long : (got : List ℕ) → Got got → length got ≡ 1048577 → IsOwed Command ReadFailed Got Whole too_long_line
+  not_yet : (bytes : List ℕ) → Whole bytes → IsNoDocument bytes → IsOwed Command ReadFailed Got Whole not_yet_line
+  run : (bytes : List ℕ) (report : Report) → Whole bytes → IsRunOfDocument bytes report → IsOwed Command ReadFailed Got Whole (report_text report)

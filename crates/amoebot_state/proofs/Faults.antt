@@ -1,0 +1,84 @@
+-- That amoebots without a fault are those of a valid configuration.
+use Rattle.std.proofs.Common.{◌≡◌, ◌<◌, ◌≤◌, ℕ, zero, suc, List, length, map, take, get_or, Bool, true, false, not, ◌&&◌, ◌||◌, cond, ap, sym, ◌∙◌, refl, subst, inl, inr, arith, Option, Some, None}
+use Rattle.std.specs.Prelude.{is_some}
+use Rattle.std.specs.List.{All}
+use Rattle.std.proofs.Math.Seq.{take-suc, take-length}
+use Rattle.std.proofs.lemmas.Bool.{cases_Bool, and_from, or_from, false≢true}
+use Rattle.std.proofs.lemmas.List.{get_or-map, get_or-take, take-map, length-map, length-take-le}
+use Rattle.std.proofs.lemmas.List.Elements.{All-get_or}
+use Rattle.std.proofs.lemmas.Option.{get_or_from_slice_get, slice_get-get_or, none-some}
+use Rattle.tri_lattice.specs.declared.node.Node.{Node}
+use Rattle.tri_lattice.specs.Extent.{Extent, IsArea, is_in}
+use Rattle.amoebot_state.specs.declared.bot.Bot.{Bot}
+use Rattle.amoebot_state.specs.Ports.{is_own}
+use Rattle.amoebot_state.specs.Configs.{Config, config_of, IsValid, blank, bot_at, occupant, covers, is_joined, has_values}
+use Rattle.amoebot_state.specs.Refusals.{bot_fault, IsPlain, IsFaultless}
+use Rattle.amoebot_state.specs.Laws.{ValidIsFaultless, FaultlessIsValid}
+use Rattle.amoebot_state.proofs.Added.{MayCome, no_fault, valid_with, config_push}
+use Rattle.amoebot_state.proofs.Occupants.{covers_below, occupant_none}
+use Rattle.amoebot_state.proofs.Owns.{own_head, own_tail}
+
+pass : {E : Type 0} (x : Bool) (e : E) (r : Option E) → x ≡ true → r ≡ None → cond (not x) (Some e) r ≡ None
+pass true e r t none = none
+pass false e r t none = absurd (false≢true t)
+
+unblocked : {E : Type 0} (x : Bool) (e : E) (r : Option E) → x ≡ false → r ≡ None → cond x (Some e) r ≡ None
+unblocked true e r f none = absurd (false≢true (sym f))
+unblocked false e r f none = none
+
+-- an amoebot that may come has no fault
+fault_free : (c : Config) (b : Bot) → MayCome c b → bot_fault c b ≡ None
+fault_free c b may =
+    pass (is_in c.area b.head && is_in c.area b.tail) _ _ (and_from _ _ may.fits.head may.fits.tail)
+    (pass (is_joined b.head b.tail) _ _ may.fits.joined
+    (unblocked (is_some (occupant c b.head) || is_some (occupant c b.tail)) _ _ (or_from _ _ (ap is_some may.head_free) (ap is_some may.tail_free))
+    (pass (has_values c.maxes b.mem) _ _ may.fits.values refl)))
+
+module _ (a : Extent) (maxes : List ℕ) (bots : List Bot) where
+  -- the amoebots before a place have the same ids as in the whole list
+  before_at : (j k : ℕ) → k < j → bot_at (config_of a maxes (take j bots)) k ≡ bot_at (config_of a maxes bots) k
+  before_at j k lt = ap (λ os. get_or os k None) (sym (take-map Some j bots)) ∙ get_or-take j (map Some bots) k None lt
+
+  -- none of them has a node of the one at that place
+  node_free : IsValid (config_of a maxes bots) → (j : ℕ) (b : Bot) (v : Node) → j < length bots → bot_at (config_of a maxes bots) j ≡ Some b → is_own b v ≡ true → occupant (config_of a maxes (take j bots)) v ≡ None
+  node_free valid j b v within at own = occupant_none (config_of a maxes (take j bots)) v (λ k. elim (cases_Bool (covers (bot_at (config_of a maxes (take j bots)) k) v)) [
+    | inl t ↦
+        let below = covers_below (config_of a maxes (take j bots)) k v t in
+        let long : length (map Some (take j bots)) ≡ j = length-map (take j bots) Some ∙ length-take-le j bots (omega arith) in
+        let lt : k < j = omega arith in
+        let same : k ≡ j = valid.apart k j v (ap (λ o. covers o v) (sym (before_at j k lt)) ∙ t) (ap (λ o. covers o v) at ∙ own) in
+        absurd (omega arith)
+    | inr f ↦ f
+  ])
+
+pub valid_is_faultless : ValidIsFaultless
+valid_is_faultless a maxes bots valid j b lt there =
+    let at : bot_at (config_of a maxes bots) j ≡ Some b = get_or-map Some bots j b None lt ∙ ap Some (get_or_from_slice_get bots j b b there) in
+    fault_free (config_of a maxes (take j bots)) b (record {
+      fits = valid.each j b at;
+      head_free = node_free a maxes bots valid j b b.head lt at (own_head b b.head refl);
+      tail_free = node_free a maxes bots valid j b b.tail lt at (own_tail b b.tail refl);
+    })
+
+none_valid : (a : Extent) (maxes : List ℕ) → IsArea a → length maxes ≡ 8 → (bots : List Bot) → IsValid (config_of a maxes (take 0 bots))
+none_valid a maxes area eight bots = record {
+  area = area;
+  eight = eight;
+  each = λ i b e. absurd (none-some b e);
+  apart = λ i j v one two. absurd (false≢true one);
+}
+
+-- the amoebots before a place are those of a valid configuration
+before_valid : (a : Extent) (maxes : List ℕ) (bots : List Bot) → IsArea a → length maxes ≡ 8 → All IsPlain bots → (n : ℕ) → n ≤ length bots → IsFaultless a maxes bots n → IsValid (config_of a maxes (take n bots))
+before_valid a maxes bots area eight plain zero le faultless = none_valid a maxes area eight bots
+before_valid a maxes bots area eight plain (suc n) le faultless =
+    let lt : n < length bots = omega arith in
+    let b = get_or bots n blank in
+    let c = config_of a maxes (take n bots) in
+    let may = no_fault c b (All-get_or IsPlain bots n blank lt plain) (faultless n b (omega arith) (slice_get-get_or bots n blank lt)) in
+    let valid = before_valid a maxes bots area eight plain n (omega arith) (λ j d below at. faultless j d (omega arith) at) in
+    subst IsValid (sym (ap (config_of a maxes) (take-suc bots n blank lt) ∙ config_push a maxes (take n bots) b)) (valid_with c b valid may)
+
+pub faultless_is_valid : FaultlessIsValid
+faultless_is_valid a maxes bots area eight plain faultless =
+    subst (λ (bs : List Bot). IsValid (config_of a maxes bs)) (take-length bots) (before_valid a maxes bots area eight plain (length bots) (omega arith) faultless)

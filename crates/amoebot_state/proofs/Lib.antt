@@ -1,0 +1,20 @@
+pub mod Added
+pub mod Behind
+pub mod Counts
+pub mod Differences
+pub mod Directions
+pub mod Distinct
+pub mod Faults
+pub mod Gaps
+pub mod Members
+pub mod Occupants
+pub mod Occupied
+pub mod Once
+pub mod Owns
+pub mod Patched
+mod Samples
+pub mod Shifts
+pub mod Shows
+pub mod Values
+pub mod Zones
+pub mod Expands

@@ -1,0 +1,149 @@
+-- What is shown, as the code makes and reads it.
+use Rattle.std.proofs.Common.{◌≡◌, ◌≤◌, ℕ, List, [], ◌∷◌, ◌++◌, length, map, true, false, ap, sym, ◌∙◌, refl, subst, inl, inr, arith, Bor, Option, Some, None}
+use Rattle.std.specs.Prelude.{IfSome, IsSome, is_some, unwrap_or}
+use Rattle.std.specs.List.{filter_map, cons_option}
+use Rattle.std.specs.Option.{option_map, option_copied}
+use Rattle.std.proofs.lemmas.Bool.{cases_Bool, both_ways, false≢true}
+use Rattle.std.proofs.lemmas.List.Elements.{filter_map-append}
+use Rattle.tri_lattice.specs.declared.node.Node.{Node}
+use Rattle.tri_lattice.specs.Lattice.{node_eq}
+use Rattle.tri_lattice.specs.Extent.{Extent, is_in}
+use Rattle.tri_lattice.proofs.Nodes.{node_eq-true, eq-node_eq}
+use Rattle.amoebot_state.specs.declared.bot.Bot.{Bot}
+use Rattle.amoebot_state.specs.declared.cell.CellName.{CellName}
+use Rattle.amoebot_state.specs.declared.cell.CellName.TheVariants as name
+use Rattle.amoebot_state.specs.declared.cell.Cell.{Cell}
+use Rattle.amoebot_state.specs.declared.cell.Cell.TheVariants as cell
+use Rattle.amoebot_state.specs.Ports.{is_beside}
+use Rattle.amoebot_state.specs.Configs.{Config, IsValid, bot_at, bot_of, blank, occupant}
+use Rattle.amoebot_state.specs.Refusals.{IsPlain}
+use Rattle.amoebot_state.specs.Zones.{Shown, IsShown, IsFound, shown, shown_cell, zone, zone_nodes, others, gap}
+use Rattle.amoebot_state.specs.Storage.{spot_in}
+use Rattle.amoebot_state.proofs.Members.{Has, here, later, has_cases, not_in_none, length-filter_map-le}
+use Rattle.amoebot_state.proofs.Occupants.{plain_bot, outside_empty}
+use Rattle.amoebot_state.proofs.Directions.{beside_in_zone}
+use Rattle.amoebot_state.proofs.Zones.{length-zone_nodes-le, length-zone_of-le}
+use Rattle.amoebot_state.proofs.Gaps.{gap_own, gap_valid, gap_occupant, zone_is, spot_in_zone, zone_inside}
+
+-- the cells of nodes and of bodies
+spot_cells : (c : Config) (vs : List Node) → filter_map (shown_cell c) (map name.Spot vs) ≡ map (λ v. (name.Spot v, cell.Spot (occupant c v))) vs
+spot_cells c [] = refl
+spot_cells c (v ∷ vs) = ap (λ xs. (name.Spot v, cell.Spot (occupant c v)) ∷ xs) (spot_cells c vs)
+
+body_cells : (c : Config) (is : List ℕ) → filter_map (shown_cell c) (map name.Body is) ≡ filter_map (λ i. shown_cell c (name.Body i)) is
+body_cells c [] = refl
+body_cells c (i ∷ is) = ap (cons_option (shown_cell c (name.Body i))) (body_cells c is)
+
+-- the cells that are put together one after another are those that are shown
+pub cells_made : (c : Config) (i : ℕ) (own : Bot) (nodes : List Node) (ids : List ℕ) (cells : List (CellName × Cell)) → bot_at c i ≡ Some own → nodes ≡ zone_nodes c.area own → ids ≡ others c i nodes → cells ≡ ((name.Body i, cell.Body own) ∷ map (λ v. (name.Spot v, cell.Spot (occupant c v))) nodes) ++ filter_map (λ j. shown_cell c (name.Body j)) ids → cells ≡ filter_map (shown_cell c) (zone c i)
+cells_made c i own nodes ids cells at ns is made =
+    let first : CellName × Cell = (name.Body i, cell.Body own) in
+    let spots : List Node → List (CellName × Cell) = λ vs. map (λ v. (name.Spot v, cell.Spot (occupant c v))) vs in
+    let bodies : List ℕ → List (CellName × Cell) = λ js. filter_map (λ j. shown_cell c (name.Body j)) js in
+    made
+    ∙ ap (λ js. (first ∷ spots nodes) ++ bodies js) is
+    ∙ ap (λ vs. first ∷ (spots vs ++ bodies (others c i vs))) ns
+    ∙ ap (λ xs. first ∷ (xs ++ bodies (others c i (zone_nodes c.area own)))) (sym (spot_cells c (zone_nodes c.area own)))
+    ∙ ap (λ xs. first ∷ (filter_map (shown_cell c) (map name.Spot (zone_nodes c.area own)) ++ xs)) (sym (body_cells c (others c i (zone_nodes c.area own))))
+    ∙ ap (λ xs. first ∷ xs) (sym (filter_map-append (shown_cell c) (map name.Spot (zone_nodes c.area own)) (map name.Body (others c i (zone_nodes c.area own)))))
+    ∙ ap (λ o. cons_option (option_map (λ y. (name.Body i, y)) (option_map cell.Body o)) (filter_map (shown_cell c) (map name.Spot (zone_nodes c.area own) ++ map name.Body (others c i (zone_nodes c.area own))))) (sym at)
+    ∙ ap (filter_map (shown_cell c)) (sym (zone_is c i own at))
+
+-- what a valid configuration shows to this amoebot is found by it
+pub found_by : (c : Config) (i : ℕ) (own : Bot) (s : Shown) → IsValid c → bot_at c i ≡ Some own → shown c i ≡ s → IsFound s own
+found_by c i own s valid at is =
+    let P : Shown → Type 0 = λ t. IsFound t own in
+    subst P is (record { shown = (c, valid, is_there (bot_at c i) own at, refl); owner = gap_own c i own at })
+  where
+    is_there : (o : Option Bot) (b : Bot) → o ≡ Some b → IsSome o
+    is_there o b e = ap is_some e
+
+there_is : (o : Option Bot) → IsSome o → (b : Bot) × (o ≡ Some b)
+there_is None h = absurd (false≢true h)
+there_is (Some b) h = (b, refl)
+
+-- the gap configuration of what is shown is valid
+pub shown_valid : (s : Shown) → IsShown s → IsValid (gap s)
+shown_valid s is = let P : Shown → Type 0 = λ t. IsValid (gap t) in subst P is.3 (gap_valid is.0 s.bot is.1)
+
+-- the amoebot that is shown it
+pub shown_owner : (s : Shown) → IsShown s → (b : Bot) × (bot_at (gap s) s.bot ≡ Some b)
+shown_owner s is =
+    let own = there_is (bot_at is.0 s.bot) is.2 in
+    (own.0, subst (λ (t : Shown). bot_at (gap t) s.bot ≡ Some own.0) is.3 (gap_own is.0 s.bot own.0 own.1))
+
+pub shown_plain : (s : Shown) (b : Bot) → IsFound s b → IsPlain b
+shown_plain s b is = plain_bot (gap s) (shown_valid s is.shown) s.bot b is.owner
+
+-- the code's room is enough
+pub length-shown-le : (s : Shown) → IsShown s → length s.cells ≤ 30
+length-shown-le s is =
+    let c = is.0 in
+    let own = there_is (bot_at c s.bot) is.2 in
+    let names = zone c s.bot in
+    let few : length names ≤ 29 = subst (λ xs. length xs ≤ 29) (sym (zone_is c s.bot own.0 own.1)) (length-zone_of-le c s.bot (zone_nodes c.area own.0) (length-zone_nodes-le c.area own.0)) in
+    let le : length (filter_map (shown_cell c) names) ≤ length names = length-filter_map-le (shown_cell c) names in
+    let all : length (filter_map (shown_cell c) names) ≤ 30 = omega arith in
+    subst (λ (t : Shown). length t.cells ≤ 30) is.3 all
+
+-- a node of the zone has its occupant among the cells
+spot_found : (c : Config) (names : List CellName) (v : Node) → Has (name.Spot v) names → spot_in (filter_map (shown_cell c) names) v ≡ Some (occupant c v)
+spot_found c [] v has = absurd (not_in_none has)
+spot_found c (name.Body i ∷ names) v has = elim (bot_at c i) as (λ o. bot_at c i ≡ o → spot_in (filter_map (shown_cell c) (name.Body i ∷ names)) v ≡ Some (occupant c v)) [
+  | None ↦ λ e. rw e (spot_found c names v (rest has))
+  | Some b ↦ λ e. rw e (spot_found c names v (rest has))
+] refl
+  where
+    rest : Has (name.Spot v) (name.Body i ∷ names) → Has (name.Spot v) names
+    rest h = elim (has_cases h) [ inl e ↦ absurd (cc) | inr r ↦ r ]
+spot_found c (name.Spot u ∷ names) v has = elim (cases_Bool (node_eq u v)) [
+  | inl t ↦ rw t (ap (λ w. Some (occupant c w)) (node_eq-true u v t))
+  | inr f ↦ rw f (elim (has_cases has) [
+    | inl e ↦ let same : v ≡ u = cc in absurd (both_ways _ f (eq-node_eq u v (sym same)))
+    | inr r ↦ spot_found c names v r
+  ])
+]
+
+-- a node that is not in the zone has none there
+spot_absent : (c : Config) (names : List CellName) (v : Node) → (Has (name.Spot v) names → ⊥) → spot_in (filter_map (shown_cell c) names) v ≡ None
+spot_absent c [] v lacks = refl
+spot_absent c (name.Body i ∷ names) v lacks = elim (bot_at c i) as (λ o. bot_at c i ≡ o → spot_in (filter_map (shown_cell c) (name.Body i ∷ names)) v ≡ None) [
+  | None ↦ λ e. rw e (spot_absent c names v (λ h. lacks (later h)))
+  | Some b ↦ λ e. rw e (spot_absent c names v (λ h. lacks (later h)))
+] refl
+spot_absent c (name.Spot u ∷ names) v lacks = elim (cases_Bool (node_eq u v)) [
+  | inl t ↦ absurd (lacks (subst (λ w. Has (name.Spot w) (name.Spot u ∷ names)) (node_eq-true u v t) here))
+  | inr f ↦ rw f (spot_absent c names v (λ h. lacks (later h)))
+]
+
+-- for a node that is the amoebot's own or beside one, the cells tell the occupant
+pub spot_told : (s : Shown) → IsShown s → (v : Node) → is_beside (bot_of (gap s) s.bot) v ≡ true → unwrap_or (spot_in s.cells v) None ≡ occupant (gap s) v
+spot_told s is v beside =
+    let c = is.0 in
+    let valid = is.1 in
+    let own = there_is (bot_at c s.bot) is.2 in
+    let b = own.0 in
+    let i = s.bot in
+    let P : Shown → Type 0 = λ t. is_beside (bot_of (gap t) i) v ≡ true → unwrap_or (spot_in t.cells v) None ≡ occupant (gap t) v in
+    subst P is.3 (λ near.
+    let beside_own : is_beside b v ≡ true = ap (λ o. is_beside (unwrap_or o blank) v) (sym (gap_own c i b own.1)) ∙ near in
+    elim (cases_Bool (is_in c.area v)) [
+      | inl inside ↦
+          let has = beside_in_zone c.area b v (plain_bot c valid i b own.1).rot beside_own inside in
+          ap (λ o. unwrap_or o None) (spot_found c (zone c i) v (spot_in_zone c i b v own.1 has)) ∙ sym (gap_occupant c i b v valid own.1 has)
+      | inr outside ↦
+          ap (λ o. unwrap_or o None) (spot_absent c (zone c i) v (λ has. both_ways _ outside (zone_inside c i b v valid own.1 has)))
+          ∙ outside_empty (gap (shown c i)) (gap_valid c i valid) v (none_if _ outside)
+    ]) beside
+  where
+    none_if : {A : Type 0} (o : Option A) → is_some o ≡ false → o ≡ None
+    none_if None e = refl
+    none_if (Some x) e = absurd (false≢true (sym e))
+
+pub is_shown : (c : Config) (i : ℕ) (a : Extent) (maxes : List ℕ) (cells : List (CellName × Cell)) → a ≡ c.area → maxes ≡ c.maxes → cells ≡ filter_map (shown_cell c) (zone c i) → (let s : Shown = record { area = a; maxes = maxes; bot = i; cells = cells } in s) ≡ shown c i
+is_shown c i a maxes cells e m x = λ t. record { area = e t; maxes = m t; bot = i; cells = x t }
+
+-- an amoebot that the gap configuration has
+pub plain_if : (s : Shown) → IsShown s → (r : Option (Bor Bot)) (i : ℕ) → option_copied r ≡ bot_at (gap s) i → IfSome r (λ b. IsPlain b.now)
+plain_if s is None i e = tt
+plain_if s is (Some b) i e = plain_bot (gap s) (shown_valid s is) i b.now (sym e)

@@ -1,0 +1,4 @@
+use Rattle.amoebot_state.proofs.decider.is_exact.Goals as goal
+
+pub returns : goal.returns
+returns g c = (g.met.D.Decider g.world.𝓛 g.world.𝓜 g.world.𝓡 (λ s h. h, λ h. h, λ h. h, λ h. h)).is_exact c.args._decider.now

@@ -1,0 +1,21 @@
+use Rattle.std.proofs.Common.{◌≡◌, ◌∙◌, ap, sym, subst}
+use Rattle.amoebot_state.specs.Storage.{body_in}
+use Rattle.amoebot_state.specs.Zones.{Shown, IsShown, gap}
+use Rattle.std.specs.Option.{option_copied}
+use Rattle.amoebot_state.specs.Configs.{bot_at}
+use Rattle.amoebot_state.proofs.Gaps.{spread_at}
+use Rattle.amoebot_state.proofs.Shows.{plain_if}
+use Rattle.amoebot_state.proofs.found.Found.body.Goals as goal
+
+value : (c : goal.After-body_in) → option_copied c.body_in.result ≡ bot_at (gap c.args.self.now) c.args.id
+value c =
+    c.body_in.ensures
+    ∙ ap (λ cells. body_in cells c.args.id) c.as_slice.ensures.value
+    ∙ sym (spread_at c.self.inside.cells.items c.args.id)
+    ∙ ap (λ (s : Shown). bot_at (gap s) c.args.id) c.self.view_is
+
+pub returns-clause-value : goal.returns-clause-value
+returns-clause-value c = value c
+
+pub returns-clause-plain : goal.returns-clause-plain
+returns-clause-plain c = plain_if c.args.self.now (subst IsShown c.self.view_is c.self.invariant.shown) c.body_in.result c.args.id (value c)

@@ -1,0 +1,5 @@
+use Rattle.amoebot_state.proofs.Differences.{diff_leads}
+use Rattle.amoebot_state.proofs.laws.diff_leads.Goals as goal
+
+pub returns : goal.returns
+returns c = diff_leads

@@ -1,0 +1,5 @@
+use Rattle.amoebot_state.proofs.Counts.{zone_has_at_most_ten_nodes}
+use Rattle.amoebot_state.proofs.laws.zone_has_at_most_ten_nodes.Goals as goal
+
+pub returns : goal.returns
+returns c = zone_has_at_most_ten_nodes

@@ -1,0 +1,9 @@
+use Rattle.std.proofs.Common.{◌≡◌, sym, subst, None}
+use Rattle.amoebot_state.specs.Configs.{Config, occupant}
+use Rattle.amoebot_state.proofs.Occupants.{outside_empty}
+use Rattle.amoebot_state.proofs.world.World.occupant.Goals as goal
+
+pub returns-in-None : goal.returns-in-None
+returns-in-None c =
+    let P : Config → Type 0 = λ x. None ≡ occupant x c.args.node in
+    subst P c.self.view_is (outside_empty _ c.self.invariant.valid c.args.node (sym c.in-None.ensures.value))

@@ -1,0 +1,124 @@
+-- What follows from the definitions alone.
+use Rattle.std.specs.Prelude.{◌≡◌, ◌≢◌, ◌↔◌, ◌⊎◌, ◌<◌, ◌≤◌, ℕ, List, IsSome, Bool, true, false, map, length, is_some, IsTrue}
+use Rattle.std.specs.List.{All, AllPairs, Contains, count_by}
+use Rattle.std.specs.declared.option.Option.{Option}
+use Rattle.std.specs.declared.option.Option.TheVariants.{Some}
+use Rattle.tri_lattice.specs.declared.node.Node.{Node}
+use Rattle.tri_lattice.specs.Lattice.{node_eq, Adjacent}
+use Rattle.tri_lattice.specs.Extent.{Extent, IsArea, is_in}
+use Rattle.amoebot_state.specs.declared.bot.Bot.{Bot}
+use Rattle.amoebot_state.specs.declared.bot.Port.{Port}
+use Rattle.amoebot_state.specs.declared.cell.CellName.{CellName}
+use Rattle.amoebot_state.specs.declared.cell.CellName.TheVariants as name
+use Rattle.amoebot_state.specs.declared.cell.Cell.{Cell}
+use Rattle.amoebot_state.specs.declared.verdict.Entry.{Entry}
+use Rattle.amoebot_state.specs.declared.verdict.Verdict.{Verdict}
+use Rattle.amoebot_state.specs.Pairs.{Pairs, cell_of, value_of}
+use Rattle.amoebot_state.specs.Ports.{global, local, is_port, ports, behind}
+use Rattle.amoebot_state.specs.Configs.{Config, IsValid, bot_at, occupant, value, config_of}
+use Rattle.amoebot_state.specs.Zones.{Shown, IsShown, distinct, zone, shown, gap}
+use Rattle.amoebot_state.specs.Patches.{IsPatched, same_value, diff}
+use Rattle.amoebot_state.specs.Refusals.{IsPlain, IsFaultless}
+use Rattle.amoebot_state.specs.Occupied.{occupied}
+use Rattle.amoebot_state.specs.Steps.{Step, Run}
+use Rattle.amoebot_state.specs.Moves.{expansion_verdict, expansion_verdict_shown}
+
+-- local and global directions are both 0 to 5, and the one is the inverse of the other, with either chirality
+abbrev pub GlobalAndLocalAreInverse : Type 0
+GlobalAndLocalAreInverse = (b : Bot) (d : ℕ) → b.rot < 6 → d < 6 → (global b d < 6) × (local b d < 6) × (local b (global b d) ≡ d) × (global b (local b d) ≡ d)
+
+-- a contracted amoebot has six ports
+abbrev pub ContractedHasSixPorts : Type 0
+ContractedHasSixPorts = (b : Bot) → b.head ≡ b.tail → length (ports b) ≡ 6
+
+-- an expanded amoebot has ten
+abbrev pub ExpandedHasTenPorts : Type 0
+ExpandedHasTenPorts = (b : Bot) → b.rot < 6 → Adjacent b.head b.tail → length (ports b) ≡ 10
+
+-- the six ports of a contracted amoebot lead to six nodes
+abbrev pub SixPortsLeadToSixNodes : Type 0
+SixPortsLeadToSixNodes = (b : Bot) → b.rot < 6 → b.head ≡ b.tail → length (distinct node_eq (map (behind b) (ports b))) ≡ 6
+
+-- the ten ports of an expanded amoebot lead to eight
+abbrev pub TenPortsLeadToEightNodes : Type 0
+TenPortsLeadToEightNodes = (b : Bot) → b.rot < 6 → Adjacent b.head b.tail → length (distinct node_eq (map (behind b) (ports b))) ≡ 8
+
+-- no cell stands twice in a zone
+abbrev pub ZoneListsEachCellOnce : Type 0
+ZoneListsEachCellOnce = (c : Config) (i : ℕ) → AllPairs (λ x y. x ≢ y) (zone c i)
+
+-- the cell is a node
+abbrev pub is_spot : CellName → Bool
+is_spot (name.Spot v) = true
+is_spot (name.Body i) = false
+
+-- the cell is a body
+abbrev pub is_body : CellName → Bool
+is_body (name.Spot v) = false
+is_body (name.Body i) = true
+
+-- a zone of a valid configuration has at most ten nodes
+abbrev pub ZoneHasAtMostTenNodes : Type 0
+ZoneHasAtMostTenNodes = (c : Config) (i : ℕ) → IsValid c → count_by is_spot (zone c i) ≤ 10
+
+-- and at most nine bodies
+abbrev pub ZoneHasAtMostNineBodies : Type 0
+ZoneHasAtMostNineBodies = (c : Config) (i : ℕ) → IsValid c → count_by is_body (zone c i) ≤ 9
+
+-- the node behind a port is in the zone, if it lies in the area
+abbrev pub NodeBehindPortIsInZone : Type 0
+NodeBehindPortIsInZone = (c : Config) (i : ℕ) (b : Bot) (p : Port) → bot_at c i ≡ Some b → IsTrue (is_port b p) → IsTrue (is_in c.area (behind b p)) → Contains (zone c i) (name.Spot (behind b p))
+
+-- and so is the body of its occupant; what is occupied lies in the area
+abbrev pub OccupantBehindPortIsInZone : Type 0
+OccupantBehindPortIsInZone = (c : Config) (i j : ℕ) (b : Bot) (p : Port) → IsValid c → bot_at c i ≡ Some b → IsTrue (is_port b p) → occupant c (behind b p) ≡ Some j → Contains (zone c i) (name.Body j)
+
+-- the configuration that has what is shown and no other amoebot shows just that
+abbrev pub GapShowsWhatWasShown : Type 0
+GapShowsWhatWasShown = (s : Shown) → IsShown s → shown (gap s) s.bot ≡ s
+
+-- at most one configuration is the one that a patch leads to
+abbrev pub PatchedIsUnique : Type 0
+PatchedIsUnique = (old one two : Config) (ps : Pairs) → IsPatched old ps one → IsPatched old ps two → one ≡ two
+
+-- a patch lists each cell whose value differs
+abbrev pub PatchListsWhatDiffers : Type 0
+PatchListsWhatDiffers = (old new : Config) (ps : Pairs) → IsPatched old ps new → (n : CellName) → value new n ≢ value old n → Contains (map cell_of ps) n
+
+-- a step has at most one result
+abbrev pub StepHasOneResult : Type 0
+StepHasOneResult = (f : Shown → Verdict) (old : Config) (e : Entry) (one two : Config) → Step f old e one → Step f old e two → one ≡ two
+
+-- so a run has at most one last configuration
+abbrev pub RunHasOneLast : Type 0
+RunHasOneLast = (f : Shown → Verdict) (old : Config) (es : List Entry) (one two : Config) → Run f old es one → Run f old es two → one ≡ two
+
+-- what the decider that expands contracted amoebots says of what a valid configuration shows is the verdict on that
+-- configuration
+abbrev pub ExpansionVerdictIsShown : Type 0
+ExpansionVerdictIsShown = (p : Port) (c : Config) (i : ℕ) → IsValid c → IsSome (bot_at c i) → expansion_verdict_shown p (shown c i) ≡ expansion_verdict p c i
+
+-- the test of what cells hold answers whether it is equal
+abbrev pub SameValueIsEquality : Type 0
+SameValueIsEquality = (x y : Option Cell) → IsTrue (same_value x y) ↔ (x ≡ y)
+
+-- the difference of two valid configurations that differ in their amoebots at most and have the same ids leads from the old
+-- one to the new one, and each cell that it lists differs
+abbrev pub DiffLeads : Type 0
+DiffLeads = (old new : Config) → IsValid old → IsValid new → new ≡ record old { bots = new.bots } → length new.bots ≡ length old.bots → ((i : ℕ) → is_some (bot_at new i) ≡ is_some (bot_at old i)) → IsPatched old (diff old new) new × All (λ (p : CellName × Cell). value old (cell_of p) ≢ Some (value_of p)) (diff old new)
+
+-- no amoebot of a valid configuration is refused
+abbrev pub ValidIsFaultless : Type 0
+ValidIsFaultless = (a : Extent) (maxes : List ℕ) (bots : List Bot) → IsValid (config_of a maxes bots) → IsFaultless a maxes bots (length bots)
+
+-- amoebots of which none is refused make a valid configuration
+abbrev pub FaultlessIsValid : Type 0
+FaultlessIsValid = (a : Extent) (maxes : List ℕ) (bots : List Bot) → IsArea a → length maxes ≡ 8 → All IsPlain bots → IsFaultless a maxes bots (length bots) → IsValid (config_of a maxes bots)
+
+-- the configuration that has what is shown and no other amoebot is valid
+abbrev pub GapIsValid : Type 0
+GapIsValid = (s : Shown) → IsShown s → IsValid (gap s)
+
+-- in a valid configuration a node is occupied exactly where it is the head or the tail of an amoebot of it
+abbrev pub OccupiedIsOccupant : Type 0
+OccupiedIsOccupant = (c : Config) (v : Node) → IsValid c → IsTrue (occupied c v) ↔ ((i : ℕ) × (b : Bot) × (bot_at c i ≡ Some b) × ((b.head ≡ v) ⊎ (b.tail ≡ v)))

@@ -1,0 +1,81 @@
+-- Patches: cells with new values, the configuration that a patch leads to, and the difference of two configurations.
+use Rattle.std.specs.Prelude.{◌≡◌, ◌≢◌, ℕ, ◌+◌, ◌*◌, List, ◌++◌, Bool, true, false, ◌&&◌, map, length, is_some, nat_eq, if◌then◌else◌}
+use Rattle.std.specs.List.{All, filter_map, range_with_len}
+use Rattle.std.specs.Cmp.Lexicographic.{pointwise}
+use Rattle.std.specs.List.Sorted.{IsStrictlyIncreasing}
+use Rattle.std.specs.declared.option.Option.{Option}
+use Rattle.std.specs.declared.option.Option.TheVariants.{Some, None}
+use Rattle.tri_lattice.specs.Lattice.{node_eq}
+use Rattle.tri_lattice.specs.Extent.{node_at}
+use Rattle.amoebot_state.specs.declared.bot.Bot.{Bot}
+use Rattle.amoebot_state.specs.declared.bot.Chir.{Chir}
+use Rattle.amoebot_state.specs.declared.bot.Chir.TheVariants as chir
+use Rattle.amoebot_state.specs.declared.cell.CellName.{CellName}
+use Rattle.amoebot_state.specs.declared.cell.CellName.TheVariants as name
+use Rattle.amoebot_state.specs.declared.cell.Cell.{Cell}
+use Rattle.amoebot_state.specs.declared.cell.Cell.TheVariants as cell
+use Rattle.amoebot_state.specs.Pairs.{Pairs, cell_of, value_of}
+use Rattle.amoebot_state.specs.Configs.{Config, IsValid, bot_at, value}
+use Rattle.amoebot_state.specs.Zones.{shown_cell}
+
+-- new is the configuration with the values of the patch: it is valid, differs from the old one in its amoebots at most, has
+-- the same ids, the patch's values in the patch's cells, and the old values in all others (this project's profile)
+pub record IsPatched (old : Config) (patch : Pairs) (new : Config) : Type 0 where
+  pub valid : IsValid new
+  pub rest : new ≡ record old { bots = new.bots }
+  pub size : length new.bots ≡ length old.bots
+  pub ids : (i : ℕ) → is_some (bot_at new i) ≡ is_some (bot_at old i)
+  pub given : All (λ (p : CellName × Cell). value new (cell_of p) ≡ Some (value_of p)) patch
+  pub kept : (n : CellName) → All (λ (p : CellName × Cell). cell_of p ≢ n) patch → value new n ≡ value old n
+
+-- the patch leads from the configuration to one
+abbrev pub HasPatched : Config → Pairs → Type 0
+HasPatched old patch = (new : Config) × IsPatched old patch new
+
+-- the place of a cell in a patch: a node first, then the bodies by their ids
+abbrev pub rank : CellName → ℕ
+rank (name.Spot v) = 0
+rank (name.Body i) = i + 1
+
+-- at most one node, which stands first, and the bodies in rising id (this project's profile)
+abbrev pub IsOrdered : Pairs → Type 0
+IsOrdered ps = IsStrictlyIncreasing (map (λ (p : CellName × Cell). rank (cell_of p)) ps)
+
+abbrev pub chir_eq : Chir → Chir → Bool
+chir_eq chir.Plus chir.Plus = true
+chir_eq chir.Plus chir.Minus = false
+chir_eq chir.Minus chir.Plus = false
+chir_eq chir.Minus chir.Minus = true
+
+abbrev pub bot_eq : Bot → Bot → Bool
+bot_eq a b = node_eq a.head b.head && node_eq a.tail b.tail && nat_eq a.rot b.rot && chir_eq a.chir b.chir && pointwise nat_eq a.mem b.mem
+
+abbrev pub id_eq : Option ℕ → Option ℕ → Bool
+id_eq None None = true
+id_eq None (Some j) = false
+id_eq (Some i) None = false
+id_eq (Some i) (Some j) = nat_eq i j
+
+abbrev pub cell_eq : Cell → Cell → Bool
+cell_eq (cell.Spot a) (cell.Spot b) = id_eq a b
+cell_eq (cell.Spot a) (cell.Body b) = false
+cell_eq (cell.Body a) (cell.Spot b) = false
+cell_eq (cell.Body a) (cell.Body b) = bot_eq a b
+
+abbrev pub same_value : Option Cell → Option Cell → Bool
+same_value None None = true
+same_value None (Some y) = false
+same_value (Some x) None = false
+same_value (Some x) (Some y) = cell_eq x y
+
+-- a cell whose value differs, with its new value
+abbrev pub changed : Config → Config → CellName → Option (CellName × Cell)
+changed old new n = if same_value (value old n) (value new n) then None else shown_cell new n
+
+-- all cells: the nodes of the area in the order of their numbers, then the bodies in rising id
+abbrev pub all_cells : Config → List CellName
+all_cells c = map (λ k. name.Spot (node_at c.area k)) (range_with_len 0 (c.area.w * c.area.h)) ++ map name.Body (range_with_len 0 (length c.bots))
+
+-- the cells whose value differs, with their new values: first the nodes, then the bodies in rising id
+abbrev pub diff : Config → Config → Pairs
+diff old new = filter_map (changed old new) (all_cells old)

@@ -1,0 +1,48 @@
+-- What a decider promises, and the steps and runs of the model: one activation after another.
+use Rattle.std.specs.Prelude.{◌≡◌, ◌≢◌, ℕ, List, [], ◌∷◌, IsSome}
+use Rattle.std.specs.List.{All, Contains}
+use Rattle.std.specs.declared.option.Option.TheVariants.{Some}
+use Rattle.amoebot_state.specs.declared.cell.CellName.{CellName}
+use Rattle.amoebot_state.specs.declared.cell.Cell.{Cell}
+use Rattle.amoebot_state.specs.declared.verdict.Verdict.{Verdict}
+use Rattle.amoebot_state.specs.declared.verdict.Verdict.TheVariants as verdict
+use Rattle.amoebot_state.specs.declared.verdict.Change.{Change}
+use Rattle.amoebot_state.specs.declared.verdict.Entry.{Entry}
+use Rattle.amoebot_state.specs.Pairs.{cell_of, value_of}
+use Rattle.amoebot_state.specs.Configs.{Config, IsValid, bot_at, value}
+use Rattle.amoebot_state.specs.Zones.{Shown, shown, zone}
+use Rattle.amoebot_state.specs.Patches.{IsPatched, HasPatched, IsOrdered}
+
+-- f decides this change on what a valid configuration shows to an amoebot of its own
+pub record Changes (f : Shown → Verdict) (c : Config) (i : ℕ) (change : Change) : Type 0 where
+  pub valid : IsValid c
+  pub there : IsSome (bot_at c i)
+  pub decided : f (shown c i) ≡ verdict.Change change
+
+-- a patch touches cells of the zone alone
+abbrev pub TouchesZone : (Shown → Verdict) → Type 0
+TouchesZone f = (c : Config) (i : ℕ) (change : Change) → Changes f c i change → All (λ (p : CellName × Cell). Contains (zone c i) (cell_of p)) change.patch
+
+-- each valid configuration that shows what was found has one that the patch leads to
+abbrev pub HasNext : (Shown → Verdict) → Type 0
+HasNext f = (c : Config) (i : ℕ) (change : Change) → Changes f c i change → HasPatched c change.patch
+
+-- a patch is in its order, and holds exactly the cells whose value differs: each that it lists differs, and that each other
+-- cell stays is a part of `IsPatched`
+abbrev pub IsExact : (Shown → Verdict) → Type 0
+IsExact f = (c : Config) (i : ℕ) (change : Change) → Changes f c i change → IsOrdered change.patch × All (λ (p : CellName × Cell). value c (cell_of p) ≢ Some (value_of p)) change.patch
+
+abbrev pub change_of : Entry → Change
+change_of e = record { action = e.action; moved = e.moved; patch = e.patch }
+
+-- an activation that is one of the model, whole in one step (the paper's activation, under this project's profile): f decides the entry's change on what the old configuration shows to the entry's
+-- amoebot, which is there, and its patch leads from the old configuration to the new one
+pub record Step (f : Shown → Verdict) (old : Config) (e : Entry) (new : Config) : Type 0 where
+  pub there : IsSome (bot_at old e.bot)
+  pub decided : f (shown old e.bot) ≡ verdict.Change (change_of e)
+  pub patched : IsPatched old e.patch new
+
+-- the entries, one after another, are steps that lead from old to last
+abbrev pub Run : (Shown → Verdict) → Config → List Entry → Config → Type 0
+Run f old [] last = last ≡ old
+Run f old (e ∷ es) last = (mid : Config) × Step f old e mid × Run f mid es last

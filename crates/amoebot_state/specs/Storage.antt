@@ -1,0 +1,74 @@
+-- How a world writes into its lists. No public clause cites these.
+use Rattle.std.specs.Prelude.{ℕ, List, [], ◌∷◌, ◌++◌, Bool, not, ◌&&◌, if◌then◌else◌, slice_set, nat_eq}
+use Rattle.std.specs.List.{list_any, fold}
+use Rattle.std.specs.Option.{option_or}
+use Rattle.std.specs.declared.option.Option.{Option}
+use Rattle.std.specs.declared.option.Option.TheVariants.{Some, None}
+use Rattle.tri_lattice.specs.declared.node.Node.{Node}
+use Rattle.tri_lattice.specs.Extent.{Extent, index_of, is_in}
+use Rattle.tri_lattice.specs.Lattice.{node_eq}
+use Rattle.amoebot_state.specs.declared.bot.Bot.{Bot}
+use Rattle.amoebot_state.specs.declared.bot.Port.{Port}
+use Rattle.amoebot_state.specs.Ports.{is_port, behind}
+use Rattle.amoebot_state.specs.declared.cell.CellName.{CellName}
+use Rattle.amoebot_state.specs.declared.cell.CellName.TheVariants as name
+use Rattle.amoebot_state.specs.declared.cell.Cell.{Cell}
+use Rattle.amoebot_state.specs.declared.cell.Cell.TheVariants as cell
+
+-- the list with x at its end, where it does not have it
+abbrev pub with_new : {A : Type 0} → (A → A → Bool) → List A → A → List A
+with_new eq xs x = if list_any (λ y. eq y x) xs then xs else xs ++ x ∷ []
+
+-- the occupants with o at a number
+abbrev pub put_at : List (Option ℕ) → Option ℕ → Option ℕ → List (Option ℕ)
+put_at g None o = g
+put_at g (Some k) o = slice_set g k o
+
+-- the amoebots after one pair of a patch
+abbrev pub put_bot : List Bot → CellName → Cell → List Bot
+put_bot bs (name.Body i) (cell.Body b) = slice_set bs i b
+put_bot bs (name.Body i) (cell.Spot o) = bs
+put_bot bs (name.Spot v) x = bs
+
+-- the occupants after one pair
+abbrev pub put_spot : Extent → List (Option ℕ) → CellName → Cell → List (Option ℕ)
+put_spot a g (name.Spot v) (cell.Spot o) = put_at g (index_of a v) o
+put_spot a g (name.Spot v) (cell.Body b) = g
+put_spot a g (name.Body i) x = g
+
+abbrev pub put_bots : List Bot → List (CellName × Cell) → List Bot
+put_bots bs ps = fold (λ cs (p : CellName × Cell). put_bot cs p.0 p.1) bs ps
+
+abbrev pub put_spots : Extent → List (Option ℕ) → List (CellName × Cell) → List (Option ℕ)
+put_spots a g ps = fold (λ h (p : CellName × Cell). put_spot a h p.0 p.1) g ps
+
+-- the amoebot of a cell, where that is the body of the id
+abbrev pub body_at : CellName → Cell → ℕ → Option Bot
+body_at (name.Body i) (cell.Body b) j = if nat_eq i j then Some b else None
+body_at (name.Body i) (cell.Spot o) j = None
+body_at (name.Spot v) x j = None
+
+-- the amoebot that cells hold for an id
+abbrev pub body_in : List (CellName × Cell) → ℕ → Option Bot
+body_in [] j = None
+body_in (p ∷ ps) j = option_or (body_at p.0 p.1 j) (body_in ps j)
+
+-- the occupant of a cell, where that is the node
+abbrev pub spot_at : CellName → Cell → Node → Option (Option ℕ)
+spot_at (name.Spot u) (cell.Spot o) v = if node_eq u v then Some o else None
+spot_at (name.Spot u) (cell.Body b) v = None
+spot_at (name.Body i) x v = None
+
+-- the occupant that cells have for a node
+abbrev pub spot_in : List (CellName × Cell) → Node → Option (Option ℕ)
+spot_in [] v = None
+spot_in (p ∷ ps) v = option_or (spot_at p.0 p.1 v) (spot_in ps v)
+
+-- the nodes with the one behind a port, where it is a port, the node lies in the area and is new
+abbrev pub with_port : Extent → Bot → List Node → Port → List Node
+with_port a b vs p = if is_port b p && is_in a (behind b p) then with_new node_eq vs (behind b p) else vs
+
+-- the ids with an occupant, where it is another amoebot and new
+abbrev pub with_other : ℕ → List ℕ → Option ℕ → List ℕ
+with_other i is None = is
+with_other i is (Some j) = if not (nat_eq j i) then with_new nat_eq is j else is

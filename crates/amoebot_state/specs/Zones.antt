@@ -1,0 +1,83 @@
+-- The zone of an amoebot, and what it is shown of a configuration.
+use Rattle.std.specs.Prelude.{◌≡◌, ℕ, zero, suc, List, [], ◌∷◌, ◌++◌, Bool, not, map, filter, nat_eq, IsSome}
+use Rattle.std.specs.List.{filter_map}
+use Rattle.std.specs.Option.{option_map}
+use Rattle.std.specs.declared.option.Option.{Option}
+use Rattle.std.specs.declared.option.Option.TheVariants.{Some, None}
+use Rattle.tri_lattice.specs.declared.node.Node.{Node}
+use Rattle.tri_lattice.specs.Lattice.{node_eq}
+use Rattle.tri_lattice.specs.Extent.{Extent, is_in}
+use Rattle.amoebot_state.specs.declared.bot.Bot.{Bot}
+use Rattle.amoebot_state.specs.declared.cell.CellName.{CellName}
+use Rattle.amoebot_state.specs.declared.cell.CellName.TheVariants as name
+use Rattle.amoebot_state.specs.declared.cell.Cell.{Cell}
+use Rattle.amoebot_state.specs.declared.cell.Cell.TheVariants as cell
+use Rattle.amoebot_state.specs.Ports.{own_nodes, ports, behind}
+use Rattle.amoebot_state.specs.Configs.{Config, IsValid, bot_at, occupant, value}
+
+-- the list without the elements that equal an earlier one
+abbrev pub distinct : {A : Type 0} → (A → A → Bool) → List A → List A
+distinct eq [] = []
+distinct eq (x ∷ xs) = x ∷ filter (λ y. not (eq x y)) (distinct eq xs)
+
+-- the nodes of a zone: the amoebot's own, then those behind its ports that lie in the area, each once
+abbrev pub zone_nodes : Extent → Bot → List Node
+zone_nodes a b = distinct node_eq (own_nodes b ++ filter (is_in a) (map (behind b) (ports b)))
+
+-- the other amoebots on the nodes, in the order of the nodes, each once
+abbrev pub others : Config → ℕ → List Node → List ℕ
+others c i vs = distinct nat_eq (filter (λ j. not (nat_eq j i)) (filter_map (occupant c) vs))
+
+-- the body, the nodes, the bodies of the others
+abbrev pub zone_of : Config → ℕ → List Node → List CellName
+zone_of c i vs = name.Body i ∷ (map name.Spot vs ++ map name.Body (others c i vs))
+
+-- the zone of an id, in zone order; empty where there is no amoebot (this project's profile)
+abbrev pub zone_at : Config → ℕ → Option Bot → List CellName
+zone_at c i None = []
+zone_at c i (Some b) = zone_of c i (zone_nodes c.area b)
+
+abbrev pub zone : Config → ℕ → List CellName
+zone c i = zone_at c i (bot_at c i)
+
+-- a closed neighbourhood (this project's profile): the area, the greatest values, the id that is shown it, and cells with what they hold
+pub record Shown : Type 0 where
+  pub area : Extent
+  pub maxes : List ℕ
+  pub bot : ℕ
+  pub cells : List (CellName × Cell)
+
+-- a cell with what it holds
+abbrev pub shown_cell : Config → CellName → Option (CellName × Cell)
+shown_cell c n = option_map (λ x. (n, x)) (value c n)
+
+-- what an amoebot is shown: each cell of its zone with what it holds
+abbrev pub shown : Config → ℕ → Shown
+shown c i = record { area = c.area; maxes = c.maxes; bot = i; cells = filter_map (shown_cell c) (zone c i) }
+
+-- some valid configuration shows it to an amoebot of its own
+abbrev pub IsShown : Shown → Type 0
+IsShown s = (c : Config) × IsValid c × IsSome (bot_at c s.bot) × (shown c s.bot ≡ s)
+
+-- the list in which place i has this amoebot, with gaps up to it where the list was shorter
+abbrev pub with_id : List (Option Bot) → ℕ → Bot → List (Option Bot)
+with_id [] zero b = Some b ∷ []
+with_id [] (suc i) b = None ∷ with_id [] i b
+with_id (o ∷ os) zero b = Some b ∷ os
+with_id (o ∷ os) (suc i) b = o ∷ with_id os i b
+
+-- the amoebots that the cells hold, at their ids, and no other
+abbrev pub spread : List (CellName × Cell) → List (Option Bot)
+spread [] = []
+spread ((name.Spot v, x) ∷ cells) = spread cells
+spread ((name.Body i, cell.Spot o) ∷ cells) = spread cells
+spread ((name.Body i, cell.Body b) ∷ cells) = with_id (spread cells) i b
+
+-- the configuration that has what is shown and no other amoebot: the ids that are not shown are gaps in it
+abbrev pub gap : Shown → Config
+gap s = record { area = s.area; maxes = s.maxes; bots = spread s.cells }
+
+-- a neighbourhood that some configuration shows to this amoebot
+pub record IsFound (s : Shown) (own : Bot) : Type 0 where
+  pub shown : IsShown s
+  pub owner : bot_at (gap s) s.bot ≡ Some own

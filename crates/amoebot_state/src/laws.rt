@@ -1,0 +1,113 @@
+ghost use Rattle.amoebot_state.specs.Laws.{GlobalAndLocalAreInverse, ContractedHasSixPorts, ExpandedHasTenPorts, SixPortsLeadToSixNodes, TenPortsLeadToEightNodes, ZoneListsEachCellOnce, ZoneHasAtMostTenNodes, ZoneHasAtMostNineBodies, NodeBehindPortIsInZone, OccupantBehindPortIsInZone, GapShowsWhatWasShown, PatchedIsUnique, PatchListsWhatDiffers, StepHasOneResult, RunHasOneLast, ExpansionVerdictIsShown, SameValueIsEquality, DiffLeads, ValidIsFaultless, FaultlessIsValid, GapIsValid, OccupiedIsOccupant};
+
+/// Local and global directions are both 0 to 5, and the one is the inverse of the other, with either chirality.
+pub fn global_and_local_are_inverse()
+    ensures { GlobalAndLocalAreInverse }
+{}
+
+/// A contracted amoebot has six ports.
+pub fn contracted_has_six_ports()
+    ensures { ContractedHasSixPorts }
+{}
+
+/// An expanded amoebot has ten ports.
+pub fn expanded_has_ten_ports()
+    ensures { ExpandedHasTenPorts }
+{}
+
+/// The six ports of a contracted amoebot lead to six nodes.
+pub fn six_ports_lead_to_six_nodes()
+    ensures { SixPortsLeadToSixNodes }
+{}
+
+/// The ten ports of an expanded amoebot lead to eight nodes.
+pub fn ten_ports_lead_to_eight_nodes()
+    ensures { TenPortsLeadToEightNodes }
+{}
+
+/// No cell stands twice in a zone.
+pub fn zone_lists_each_cell_once()
+    ensures { ZoneListsEachCellOnce }
+{}
+
+/// A zone of a valid configuration has at most ten nodes.
+pub fn zone_has_at_most_ten_nodes()
+    ensures { ZoneHasAtMostTenNodes }
+{}
+
+/// A zone of a valid configuration has at most nine bodies.
+pub fn zone_has_at_most_nine_bodies()
+    ensures { ZoneHasAtMostNineBodies }
+{}
+
+/// The node behind a port is in the zone, if it lies in the area.
+pub fn node_behind_port_is_in_zone()
+    ensures { NodeBehindPortIsInZone }
+{}
+
+/// The body of the occupant of the node behind a port is in the zone.
+pub fn occupant_behind_port_is_in_zone()
+    ensures { OccupantBehindPortIsInZone }
+{}
+
+/// The configuration that has what is shown and no other amoebot shows just that.
+pub fn gap_shows_what_was_shown()
+    ensures { GapShowsWhatWasShown }
+{}
+
+/// At most one configuration is the one that a patch leads to.
+pub fn patched_is_unique()
+    ensures { PatchedIsUnique }
+{}
+
+/// A patch lists each cell whose value differs.
+pub fn patch_lists_what_differs()
+    ensures { PatchListsWhatDiffers }
+{}
+
+/// A step has at most one result.
+pub fn step_has_one_result()
+    ensures { StepHasOneResult }
+{}
+
+/// A run has at most one last configuration.
+pub fn run_has_one_last()
+    ensures { RunHasOneLast }
+{}
+
+/// The decider that expands contracted amoebots says of what a valid configuration shows what the program says of that
+/// configuration.
+pub fn expansion_verdict_is_shown()
+    ensures { ExpansionVerdictIsShown }
+{}
+
+/// The test of what cells hold answers whether it is equal.
+pub fn same_value_is_equality()
+    ensures { SameValueIsEquality }
+{}
+
+/// The difference of two valid configurations with the same area, the same greatest values and the same ids leads from
+/// the old one to the new one, and each cell that it lists differs.
+pub fn diff_leads()
+    ensures { DiffLeads }
+{}
+
+/// No amoebot of a valid configuration is refused.
+pub fn valid_is_faultless()
+    ensures { ValidIsFaultless }
+{}
+
+/// Amoebots of which none is refused make a valid configuration.
+pub fn faultless_is_valid()
+    ensures { FaultlessIsValid }
+{}
+
+/// The configuration that has what is shown and no other amoebot is valid.
+pub fn gap_is_valid()
+    ensures { GapIsValid }
+{}
+
+/// A node of a valid configuration is occupied exactly where it is the head or the tail of an amoebot.
+pub fn occupied_is_occupant()
+    ensures { OccupiedIsOccupant }
+{}

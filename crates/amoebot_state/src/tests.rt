@@ -1,0 +1,151 @@
+ghost use Rattle.std.specs.Prelude.{◌≡◌, ◌≤◌, ◌∷◌, [], length, pos, IfOk};
+ghost use Rattle.std.specs.List.{All};
+ghost use Rattle.amoebot_state.specs.Configs.{config_of};
+ghost use Rattle.amoebot_state.specs.Refusals.{IsPlain};
+
+use crate::{Bot, Cell, CellName, Chir, Found, Patch, World, WorldRefusal};
+use std::alloc::Global;
+use std::test::Fail;
+use tri_lattice::{Area, Node};
+
+const MAXES: [u8; 8] = [1, 0, 0, 0, 0, 0, 0, 0];
+
+const HERE: Node = Node { x: 2, y: 3 };
+
+const NEXT: Node = Node { x: 3, y: 3 };
+
+const ALONE: Bot = Bot {
+    head: HERE,
+    tail: HERE,
+    rot: 0,
+    chir: Chir::Plus,
+    mem: [0, 0, 0, 0, 0, 0, 0, 0],
+};
+
+const STRETCHED: Bot = Bot {
+    head: NEXT,
+    ..ALONE
+};
+
+const BEHIND: Bot = Bot {
+    head: Node { x: 1, y: 3 },
+    tail: Node { x: 1, y: 3 },
+    ..ALONE
+};
+
+const AWAY: Bot = Bot {
+    head: Node { x: 6, y: 6 },
+    tail: Node { x: 6, y: 6 },
+    ..ALONE
+};
+
+const EDGE: Node = Node { x: 7, y: 3 };
+
+const AT_EDGE: Bot = Bot {
+    head: EDGE,
+    tail: EDGE,
+    ..ALONE
+};
+
+/// A world of these amoebots in the area 0 0 8 8.
+fn world_of(alloc: Global, bots: &[Bot]) -> Result<World, Fail>
+    requires few { length bots.now ≤ 4096 }
+    requires plain { All IsPlain bots.now }
+    ensures { IfOk result (λ w. w ≡ config_of (record { x0 = pos 0; y0 = pos 0; w = 8; h = 8 }) (1 ∷ 0 ∷ 0 ∷ 0 ∷ 0 ∷ 0 ∷ 0 ∷ 0 ∷ []) bots.now) }
+{
+    let area = Area::new(0, 0, 8, 8).ok_or("an area")?;
+    Ok(World::new(alloc, area, MAXES, bots)?)
+}
+
+fn refusal(alloc: Global, first: Bot, second: Bot) -> Option<WorldRefusal>
+    requires first { IsPlain first }
+    requires second { IsPlain second }
+{
+    let area = Area::new(0, 0, 8, 8)?;
+    World::new(alloc, area, MAXES, &[first, second]).err()
+}
+
+#[test]
+fn a_world_is_refused_for_its_first_fault(rt: HostRuntime) {
+    let outside = Bot {
+        head: Node { x: 9, y: 3 },
+        ..ALONE
+    };
+    let torn = Bot {
+        head: Node { x: 4, y: 3 },
+        ..ALONE
+    };
+    let high = Bot {
+        mem: [2, 0, 0, 0, 0, 0, 0, 0],
+        ..ALONE
+    };
+    assert_eq!(rt;
+        refusal(rt.alloc(), ALONE, outside),
+        Some(WorldRefusal::OutOfBox(1))
+    );
+    assert_eq!(rt;
+        refusal(rt.alloc(), torn, ALONE),
+        Some(WorldRefusal::NotAdjacent(0))
+    );
+    assert_eq!(rt;
+        refusal(rt.alloc(), STRETCHED, ALONE),
+        Some(WorldRefusal::Overlap(1))
+    );
+    assert_eq!(rt;
+        refusal(rt.alloc(), high, outside),
+        Some(WorldRefusal::BadValue(0))
+    );
+    assert_eq!(rt; refusal(rt.alloc(), ALONE, BEHIND), None);
+}
+
+#[test]
+fn a_copy_shows_what_stands_round_an_amoebot(rt: HostRuntime) -> Result<(), Fail> {
+    let world = world_of(rt.alloc(), &[AWAY, STRETCHED, BEHIND])?;
+    let copy = world.copy(rt.alloc())?;
+    assert_eq!(rt; copy.bots(), 3);
+    assert_eq!(rt; *copy.bot(2), BEHIND);
+    assert_eq!(rt; copy.occupant(HERE), Some(1));
+    let found = copy.found(1);
+    assert_eq!(rt; found.bot(), 1);
+    assert_eq!(rt; *found.own(), STRETCHED);
+    assert_eq!(rt; found.occupant(Node { x: 1, y: 3 }), Some(2));
+    assert_eq!(rt; found.occupant(Node { x: 4, y: 3 }), None);
+    assert_eq!(rt; found.body(2).copied(), Some(BEHIND));
+    assert_eq!(rt; found.body(0).copied(), None);
+    Ok(())
+}
+
+#[test]
+fn an_expansion_is_applied(rt: HostRuntime) -> Result<(), Fail> {
+    let mut world = world_of(rt.alloc(), &[ALONE])?;
+    let goal = world_of(rt.alloc(), &[STRETCHED])?;
+    assert_eq!(rt; goal.found(0).bot(), 0);
+    let mut patch = Patch::new();
+    patch.push(CellName::Spot(NEXT), Cell::Spot(Some(0)));
+    patch.push(CellName::Body(0), Cell::Body(STRETCHED));
+    assert_eq!(rt; patch.pairs().len(), 2);
+    world.apply(&patch);
+    assert_eq!(rt; *world.bot(0), STRETCHED);
+    assert_eq!(rt; world.occupant(NEXT), Some(0));
+    assert_eq!(rt; world.occupant(HERE), Some(0));
+    Ok(())
+}
+
+#[test]
+fn a_neighbourhood_is_made_of_its_cells(rt: HostRuntime) -> Result<(), Fail> {
+    let world = world_of(rt.alloc(), &[AT_EDGE])?;
+    assert_eq!(rt; world.found(0).bot(), 0);
+    let cells = [
+        (CellName::Body(0), Cell::Body(AT_EDGE)),
+        (CellName::Spot(EDGE), Cell::Spot(Some(0))),
+        (CellName::Spot(Node { x: 7, y: 4 }), Cell::Spot(None)),
+        (CellName::Spot(Node { x: 6, y: 4 }), Cell::Spot(None)),
+        (CellName::Spot(Node { x: 6, y: 3 }), Cell::Spot(None)),
+        (CellName::Spot(Node { x: 7, y: 2 }), Cell::Spot(None)),
+    ];
+    let found = Found::make(world.area(), MAXES, 0, &cells);
+    assert_eq!(rt; *found.own(), AT_EDGE);
+    assert_eq!(rt; found.area(), world.area());
+    assert_eq!(rt; found.maxes(), MAXES);
+    Ok(())
+}

@@ -1,0 +1,97 @@
+ghost use Rattle.std.specs.Prelude.{◌≡◌, ◌<◌, ◌≤◌, ◌+◌, nat_eq};
+ghost use Rattle.std.specs.List.{list_any};
+ghost use Rattle.tri_lattice.specs.Lattice.{node_eq};
+ghost use Rattle.amoebot_state.specs.Ports.{own_nodes};
+ghost use Rattle.amoebot_state.specs.Refusals.{IsPlain};
+ghost use Rattle.amoebot_state.specs.Storage.{with_new, with_other, with_port};
+ghost use Rattle.amoebot_state.specs.Zones.{zone_nodes};
+ghost use Rattle.arrayvec.specs.ArrayVec.{array_vec_len};
+
+use crate::bot::{ALL_PORTS, Bot, Port};
+use arrayvec::ArrayVec;
+use tri_lattice::{Area, Node};
+
+/// The nodes of an amoebot's zone: its own, and those behind its ports that lie in the area, each once.
+pub(crate) fn zone_nodes(area: &Area, bot: &Bot) -> ArrayVec<Node, 14>
+    requires { IsPlain bot.now }
+    ensures value { result.items ≡ zone_nodes area.now bot.now }
+    ensures few { array_vec_len result ≤ 14 }
+{
+    let mut nodes = own_nodes(bot);
+    for port in ALL_PORTS.iter() {
+        push_port(area, bot, *port, &mut nodes);
+    }
+    nodes
+}
+
+fn own_nodes(bot: &Bot) -> ArrayVec<Node, 14>
+    ensures value { result.items ≡ own_nodes bot.now }
+    ensures few { array_vec_len result ≤ 2 }
+{
+    let mut nodes = ArrayVec::new();
+    nodes.push(bot.head);
+    if !bot.is_contracted() {
+        nodes.push(bot.tail);
+    }
+    nodes
+}
+
+/// Adds the node behind a port, where it lies in the area and is new.
+fn push_port(area: &Area, bot: &Bot, port: Port, nodes: &mut ArrayVec<Node, 14>)
+    requires plain { IsPlain bot.now }
+    requires room { array_vec_len nodes.old < 14 }
+    ensures value { nodes.new.items ≡ with_port area.now bot.now nodes.old.items port }
+    ensures few { array_vec_len nodes.new ≤ array_vec_len nodes.old + 1 }
+{
+    if bot.is_port(port) {
+        let node = bot.behind(port);
+        if area.index(node).is_some() {
+            push_new_node(nodes, node);
+        }
+    }
+}
+
+fn push_new_node(nodes: &mut ArrayVec<Node, 14>, node: Node)
+    requires { array_vec_len nodes.old < 14 }
+    ensures value { nodes.new.items ≡ with_new node_eq nodes.old.items node }
+    ensures few { array_vec_len nodes.new ≤ array_vec_len nodes.old + 1 }
+{
+    if !has_node(nodes.as_slice(), node) {
+        nodes.push(node);
+    }
+}
+
+fn has_node(nodes: &[Node], node: Node) -> bool
+    ensures { result ≡ list_any (λ other. node_eq other node) nodes.now }
+{
+    nodes.iter().any(|other| *other == node)
+}
+
+/// Adds an occupant, where there is one that is another amoebot than `id` and not there yet.
+pub(crate) fn push_other(ids: &mut ArrayVec<u16, 14>, id: u16, occupant: Option<u16>)
+    requires { array_vec_len ids.old < 14 }
+    ensures value { ids.new.items ≡ with_other id ids.old.items occupant }
+    ensures few { array_vec_len ids.new ≤ array_vec_len ids.old + 1 }
+{
+    if let Some(other) = occupant {
+        if other != id {
+            push_new_id(ids, other);
+        }
+    }
+}
+
+fn push_new_id(ids: &mut ArrayVec<u16, 14>, id: u16)
+    requires { array_vec_len ids.old < 14 }
+    ensures value { ids.new.items ≡ with_new nat_eq ids.old.items id }
+    ensures few { array_vec_len ids.new ≤ array_vec_len ids.old + 1 }
+{
+    if !has_id(ids.as_slice(), id) {
+        ids.push(id);
+    }
+}
+
+fn has_id(ids: &[u16], id: u16) -> bool
+    ensures { result ≡ list_any (λ other. nat_eq other id) ids.now }
+{
+    ids.iter().any(|other| *other == id)
+}
