@@ -267,6 +267,9 @@ fn refuses_what_is_no_document(rt: HostRuntime) -> Result<(), Fail> {
         },
     )?;
     check(&rt, rt.alloc(), b"", 3, "refused 0 NotYet\n")?;
+    let cut =
+        b"amoebot 1\nprogram\naction out when contracted move expand head 0\nend\nshape\narea 0 0 8 8\nbot 2 3";
+    check(&rt, rt.alloc(), cut, 3, "refused 0 NotYet\n")?;
     Ok(())
 }
 
