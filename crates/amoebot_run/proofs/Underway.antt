@@ -25,13 +25,6 @@ pub record IsUnderway (f : Shown → Verdict) (w0 : Config) (lists : CallerLists
   pub callers : length marks.marks ≡ length lists.ids
   pub marked : length (marks_of marks 0) ≡ done
 
--- the amoebot of a turn is there
-pub bot_of-there : (n : ℕ) (lists : CallerLists) (caller turn : ℕ) → AreLists lists → HaveBots n lists → caller < length lists.ids → bot_of lists caller turn < n
-bot_of-there n lists caller turn kept bots inside =
-    let some = (kept.each caller [] inside).some in
-    let below : turn % length (list_of lists caller) < length (list_of lists caller) = omega arith in
-    bots caller [] inside (turn % length (list_of lists caller)) 0 below
-
 -- without a mark
 pub marks_of-none : (callers turns : ℕ) → marks_of (record { turns = turns; marks = replicate callers [] }) 0 ≡ []
 marks_of-none zero turns = refl

@@ -1,9 +1,9 @@
-ghost use Rattle.std.specs.Prelude.{◌≡◌, ◌≢◌, ◌≤◌, ◌↔◌, ◌⊎◌, ℕ, List, map, length, IsTrue, IsSome, IfSome, IfOk, IfErr, Some, None};
+ghost use Rattle.std.specs.Prelude.{◌≡◌, ◌≢◌, ◌≤◌, ◌<◌, ◌↔◌, ◌⊎◌, ℕ, List, map, length, IsTrue, IsSome, IfSome, IfOk, IfErr, Some, None};
 ghost use Rattle.std.specs.String.{string_bytes};
 ghost use Rattle.std.specs.Io.KnownBytes.{Consumes, IsAtEnd};
 ghost use Rattle.outer_io.specs.Kept.{written_of};
 ghost use Rattle.outer_io.specs.Told.{Rose, Grows, GrowsByFront};
-ghost use Rattle.amoebot_run.specs.Commands.{IsRun};
+ghost use Rattle.amoebot_run.specs.Commands.{IsRun, status_number};
 ghost use Rattle.amoebot_run.specs.Headline.{IsRunOfDocument, IsNoDocument, IsOwed, usage_line, read_fault_line, too_long_line, not_yet_line};
 ghost use Rattle.amoebot_run.specs.Documents.{IsRunDocument};
 ghost use Rattle.amoebot_run.specs.Turns.{CallerLists};
@@ -44,8 +44,11 @@ pub enum Status {
 }
 
 impl Status {
-    /// The status with which the program ends.
-    pub fn number(self) -> u8 {
+    /// The number with which the program ends.
+    #[tactic(auto, unfolding(crate::specs::Commands::status_number))]
+    pub fn number(self) -> u8
+        ensures { result ≡ status_number self }
+    {
         match self {
             Status::Done => 0,
             Status::Words => 2,
@@ -225,7 +228,8 @@ fn is_run(words: &[String]) -> bool
     }
 }
 
-/// `run` over bytes in memory and without a gate. Where no memory is left for the bytes, that is its status.
+/// `run` over bytes in memory and without a gate. Where no memory is left for a copy of the bytes, that is its status, whatever the
+/// words are.
 pub fn run_text<R: Threads + Wait + Sync>(
     rt: &R,
     alloc: Global,
@@ -233,15 +237,35 @@ pub fn run_text<R: Threads + Wait + Sync>(
     bytes: &[u8],
     out: &mut SureSink,
 ) -> Ended
+    // A report comes exactly with Done. Then the bytes are a document, the report is one of the run that it asks for, and what was
+    // written grew by the text of that report.
     ensures report { IsSome result.report ↔ (result.status ≡ Status.Done) }
-    ensures headline { IfSome result.report (λ report. IsRunOfDocument bytes.now report
+    ensures headline { IfSome result.report (λ report. (length bytes.now ≤ 1048576)
+        × IsRunOfDocument bytes.now report
         × Grows (written_of out.old) (written_of out.new) (report_text report)) }
+    ensures done { result.status ≡ Status.Done → IsRun (map string_bytes words.now) }
+
     ensures words { result.status ≡ Status.Words → ¬ IsRun (map string_bytes words.now) }
-    ensures not_yet { result.status ≡ Status.Refused NOT_YET → IsNoDocument bytes.now }
+    ensures no_command { ¬ IsRun (map string_bytes words.now) → (result.status ≡ Status.Words) ⊎ (result.status ≡ Status.NoMemory) }
+    ensures usage { result.status ≡ Status.Words → Grows (written_of out.old) (written_of out.new) usage_line }
+
+    // A document is refused for one of two reasons.
+    ensures refused { (refusal : Refusal) → result.status ≡ Status.Refused refusal → (refusal ≡ TOO_LONG) ⊎ (refusal ≡ NOT_YET) }
+    ensures too_long { result.status ≡ Status.Refused TOO_LONG → 1048576 < length bytes.now }
+    ensures too_long_line { result.status ≡ Status.Refused TOO_LONG → Grows (written_of out.old) (written_of out.new) too_long_line }
+    ensures not_yet { result.status ≡ Status.Refused NOT_YET → (length bytes.now ≤ 1048576) × IsNoDocument bytes.now }
+    ensures not_yet_line { result.status ≡ Status.Refused NOT_YET → Grows (written_of out.old) (written_of out.new) not_yet_line }
 
     // Bytes in memory have no faults.
     ensures no_read_fault { result.status ≢ Status.ReadFault }
     ensures no_write_fault { result.status ≢ Status.WriteFault }
+
+    ensures no_memory { result.status ≡ Status.NoMemory → out.new ≡ out.old }
+
+    // A document within the limit is run, unless memory is wanting.
+    ensures complete { IsRun (map string_bytes words.now) → (port : PortValue) (start : Config) (lists : CallerLists)
+        → length bytes.now ≤ 1048576 → IsRunDocument bytes.now port start lists
+        → (result.status ≡ Status.Done) ⊎ (result.status ≡ Status.NoMemory) }
 {
     match SureSource::new(alloc, bytes) {
         Ok(mut input) => run(rt, alloc, words, &mut input, out, &NoGate),

@@ -1,9 +1,9 @@
-use Rattle.std.proofs.Common.{◌≡◌, ap, sym, subst, ◌∙◌, Err, inl, inr, length, List, ℕ}
+use Rattle.std.proofs.Common.{ap, subst, ◌∙◌, Err, inl, inr, length}
 use Rattle.std.proofs.lemmas.Bool.{false≢true}
 use Rattle.outer_io.specs.Told.{GrowsByFront}
 use Rattle.outer_io.specs.Refused.{IsGotAt}
 use Rattle.amoebot_run.specs.declared.run.Ended.{Ended}
-use Rattle.amoebot_run.specs.Headline.{IsNoDocument, IsRunOfDocument, IsOwed, usage, read_fault, too_long, not_yet, run}
+use Rattle.amoebot_run.specs.Headline.{IsNoDocument, IsRunOfDocument, usage, read_fault, too_long, not_yet, run}
 use Rattle.amoebot_run.proofs.Fronts.{whole_is}
 use Rattle.amoebot_run.proofs.run.run.Goals as goal
 

@@ -1,4 +1,4 @@
-use Rattle.std.proofs.Common.{◌≡◌, inl, inr, Err}
+use Rattle.std.proofs.Common.{inl, inr}
 use Rattle.amoebot_run.proofs.run.run_document.Goals as goal
 
 pub returns-in-Err-clause-none : goal.returns-in-Err-clause-none
