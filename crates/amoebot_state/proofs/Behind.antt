@@ -10,11 +10,11 @@ use Rattle.amoebot_state.specs.declared.bot.Port.{Port}
 use Rattle.amoebot_state.specs.Ports.{is_port, all_ports, ports, behind, own_nodes}
 use Rattle.amoebot_state.specs.Configs.{bot_at}
 use Rattle.amoebot_state.specs.Zones.{Shown, zone, zone_nodes, shown, gap}
-use Rattle.amoebot_state.specs.Laws.{GlobalAndLocalAreInverse, NodeBehindPortIsInZone, OccupantBehindPortIsInZone, GapShowsWhatWasShown}
-use Rattle.amoebot_state.proofs.Members.{Has, Has-filter, Has-map, Has-distinct, Has-append_right, Contains-from_Has}
+use Rattle.amoebot_state.specs.Laws.{GlobalAndLocalAreInverse, NodeBehindPortIsInZone, OccupantBehindPortIsInZone, GapShowsWhatWasShown, GapHoldsTheSame}
+use Rattle.amoebot_state.proofs.Members.{Has, Has-filter, Has-map, Has-distinct, Has-append_right, Contains-from_Has, Has-from_Contains}
 use Rattle.amoebot_state.proofs.Directions.{listed, global_below, global_local, local_global}
 use Rattle.amoebot_state.proofs.Occupants.{occupant_covers, covered_in}
-use Rattle.amoebot_state.proofs.Gaps.{spot_in_zone, body_in_zone, gap_shows}
+use Rattle.amoebot_state.proofs.Gaps.{spot_in_zone, body_in_zone, gap_shows, gap_value}
 
 pub global_and_local_are_inverse : GlobalAndLocalAreInverse
 global_and_local_are_inverse b d rot below =
@@ -45,3 +45,8 @@ pub gap_shows_what_was_shown : GapShowsWhatWasShown
 gap_shows_what_was_shown s (c, valid, has, e) =
     let b = there (bot_at c s.bot) has in
     subst (λ (t : Shown). shown (gap t) s.bot ≡ t) e (gap_shows c s.bot b.0 valid b.1)
+
+pub gap_holds_the_same : GapHoldsTheSame
+gap_holds_the_same c i n valid has listed =
+    let b = there (bot_at c i) has in
+    gap_value c i b.0 valid b.1 n (Has-from_Contains (zone c i) listed)

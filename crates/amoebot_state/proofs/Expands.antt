@@ -10,7 +10,7 @@ use Rattle.std.proofs.lemmas.List.{get_or-set_same, get_or-set_other, length-set
 use Rattle.std.proofs.lemmas.List.Elements.{filter_map-append, All-nil, All-cons, All-head, All-tail}
 use Rattle.std.proofs.lemmas.Option.{none-some, same_Some}
 use Rattle.tri_lattice.specs.declared.node.Node.{Node}
-use Rattle.tri_lattice.specs.Lattice.{node_eq, step, Adjacent}
+use Rattle.tri_lattice.specs.Lattice.{node_eq, step, Adjacent, is_adjacent}
 use Rattle.tri_lattice.specs.Extent.{index_of, is_in, node_at}
 use Rattle.tri_lattice.proofs.Nodes.{node_eq-true, Adjacent-sym, step_leaves}
 use Rattle.tri_lattice.proofs.Steps.{Adjacent-is_adjacent}
@@ -30,11 +30,11 @@ use Rattle.amoebot_state.specs.declared.verdict.Verdict.{Verdict}
 use Rattle.amoebot_state.specs.declared.verdict.Verdict.TheVariants as verdict
 use Rattle.amoebot_state.specs.Pairs.{Pairs}
 use Rattle.amoebot_state.specs.Ports.{is_own, is_head, is_contracted, is_port, behind, global, end_node, is_beside}
-use Rattle.amoebot_state.specs.Configs.{Config, IsValid, IsBot, bot_at, bot_of, blank, covers, occupant, value, set_bot, is_joined}
-use Rattle.amoebot_state.specs.Zones.{Shown, shown, zone, shown_cell, gap}
+use Rattle.amoebot_state.specs.Configs.{Config, IsValid, IsBot, bot_at, blank, covers, occupant, value, set_bot, is_joined}
+use Rattle.amoebot_state.specs.Zones.{shown, zone, shown_cell, gap}
 use Rattle.amoebot_state.specs.Patches.{IsPatched, HasPatched, IsOrdered, diff, changed, same_value, id_eq, bot_eq}
 use Rattle.amoebot_state.specs.Steps.{Changes, TouchesZone, HasNext, IsExact}
-use Rattle.amoebot_state.specs.Laws.{ExpansionVerdictIsShown}
+use Rattle.amoebot_state.specs.Laws.{ExpansionVerdictIsShown, PortLeadsBeside, ExpansionChanges}
 use Rattle.amoebot_state.specs.Moves.{need, with_head, verdict_by, expansion_verdict, expansion_verdict_shown}
 use Rattle.amoebot_state.proofs.Owns.{own_cases, own_head, own_tail}
 use Rattle.amoebot_state.proofs.Occupants.{occupant_at, nobody_covers, occupant_same, plain_bot}
@@ -369,20 +369,21 @@ expansion_is_exact p c i change changes =
     bot_of_cell : {a d : Bot} → Some (cell.Body a) ≡ Some (cell.Body d) → a ≡ d
     bot_of_cell e = let f = same_Some _ _ e in cc
 
--- the node behind a port of a contracted amoebot is beside it
-pub port_beside : (s : Shown) (b : Bot) (p : Port) (q : Node) → Some b ≡ bot_at (gap s) s.bot → b.rot < 6 → is_contracted b ≡ true → is_port b p ≡ true → q ≡ behind b p → is_beside (bot_of (gap s) s.bot) q ≡ true
-port_beside s b p q at rot contracted port is =
-    ap (λ o. is_beside (unwrap_or o blank) q) (sym at)
-    ∙ ap (is_beside b) is
-    ∙ or_left _ _ (or_right _ _ (Adjacent-is_adjacent b.head (behind b p) (port_next b p rot contracted port)))
+-- one step from an end leads beside the amoebot
+pub port_leads_beside : PortLeadsBeside
+port_leads_beside b p = by_end p.end
+  where
+    next : (e : End) → is_adjacent (end_node b e) (step (end_node b e) (global b p.dir)) ≡ true
+    next e = Adjacent-is_adjacent (end_node b e) (step (end_node b e) (global b p.dir)) (global b p.dir, global_below b p.dir, refl)
 
--- where each condition holds, the verdict is this change
-pub change_decided : (s : Shown) (b : Bot) (p : Port) (q : Node) (patch : Pairs) → IsValid (gap s) → Some b ≡ bot_at (gap s) s.bot → is_contracted b ≡ true → is_port b p ≡ true → q ≡ behind b p → is_in s.area q ≡ true → occupant (gap s) q ≡ None → patch ≡ expansion s.bot b q → verdict.Change (record { action = 0; moved = moved.Expand p; patch = patch }) ≡ expansion_verdict_shown p s
-change_decided s b p q patch valid at contracted port is inside empty made =
-    let change : Pairs → Verdict = λ ps. verdict.Change (record { action = 0; moved = moved.Expand p; patch = ps }) in
-    ap change (made ∙ ap (expansion s.bot b) is)
-    ∙ sym (verdict_is p (gap s) s.bot b valid (sym at)
+    by_end : (e : End) → is_beside b (step (end_node b e) (global b p.dir)) ≡ true
+    by_end Head = or_left _ _ (or_right _ _ (next Head))
+    by_end Tail = or_right _ _ (next Tail)
+
+pub expansion_changes : ExpansionChanges
+expansion_changes p s b valid at contracted port inside empty =
+    verdict_is p (gap s) s.bot b valid at
     ∙ ap (λ t. outcome_of p s.bot b t (is_port b p) (is_in s.area (behind b p)) (is_none (occupant (gap s) (behind b p)))) contracted
     ∙ ap (λ t. outcome_of p s.bot b true t (is_in s.area (behind b p)) (is_none (occupant (gap s) (behind b p)))) port
-    ∙ ap (λ t. outcome_of p s.bot b true true t (is_none (occupant (gap s) (behind b p)))) (ap (is_in s.area) (sym is) ∙ inside)
-    ∙ ap (λ t. outcome_of p s.bot b true true true t) (ap (λ v. is_none (occupant (gap s) v)) (sym is) ∙ ap is_none empty))
+    ∙ ap (λ t. outcome_of p s.bot b true true t (is_none (occupant (gap s) (behind b p)))) inside
+    ∙ ap (λ t. outcome_of p s.bot b true true true t) (ap is_none empty)

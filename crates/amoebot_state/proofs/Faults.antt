@@ -60,7 +60,8 @@ valid_is_faultless a maxes bots valid j b lt there =
       tail_free = node_free a maxes bots valid j b b.tail lt at (own_tail b b.tail refl);
     })
 
-none_valid : (a : Extent) (maxes : List ℕ) → IsArea a → length maxes ≡ 8 → (bots : List Bot) → IsValid (config_of a maxes (take 0 bots))
+-- no amoebot at all
+pub none_valid : (a : Extent) (maxes : List ℕ) → IsArea a → length maxes ≡ 8 → (bots : List Bot) → IsValid (config_of a maxes (take 0 bots))
 none_valid a maxes area eight bots = record {
   area = area;
   eight = eight;

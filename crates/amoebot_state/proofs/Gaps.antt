@@ -163,7 +163,7 @@ spot_node c i b v e has = elim (has_cases (subst (Has (name.Spot v)) (zone_is c 
 ]
 
 -- a cell of the zone holds the same
-gap_value : (c : Config) (i : ℕ) (b : Bot) → IsValid c → bot_at c i ≡ Some b → (n : CellName) → Has n (zone c i) → value (gap (shown c i)) n ≡ value c n
+pub gap_value : (c : Config) (i : ℕ) (b : Bot) → IsValid c → bot_at c i ≡ Some b → (n : CellName) → Has n (zone c i) → value (gap (shown c i)) n ≡ value c n
 gap_value c i b valid e (name.Body j) has = ap (option_map cell.Body) (gap_has c i j has)
 gap_value c i b valid e (name.Spot v) has = ap (λ o. Some (cell.Spot o)) (gap_occupant c i b v valid e (spot_node c i b v e has))
 

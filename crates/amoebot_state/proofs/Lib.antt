@@ -12,7 +12,9 @@ pub mod Occupied
 pub mod Once
 pub mod Owns
 pub mod Patched
+mod Counterexamples
 mod Samples
+mod StepSamples
 pub mod Shifts
 pub mod Shows
 pub mod Values

@@ -117,6 +117,11 @@ Contains-from_Has {A} {x} (y ∷ xs) h = elim (has_cases h) [
   | inr r ↦ let found = Contains-from_Has xs r in let at = found.2 in let lt = found.1 in (suc found.0, omega arith, at)
 ]
 
+pub Has-from_Contains : {A : Type 0} {x : A} (xs : List A) → Contains xs x → Has x xs
+Has-from_Contains [] (k, lt, at) = absurd (omega (arith, lt))
+Has-from_Contains {A} {x} (y ∷ xs) (zero, lt, at) = subst (λ z. Has x (z ∷ xs)) (sym at) here
+Has-from_Contains (y ∷ xs) (suc k, lt, at) = later (Has-from_Contains xs (k, omega arith, at))
+
 -- none of these makes a list longer
 pub length-filter-le : {A : Type 0} (p : A → Bool) (xs : List A) → length (filter p xs) ≤ length xs
 length-filter-le p [] = omega arith

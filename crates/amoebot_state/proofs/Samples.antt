@@ -57,7 +57,7 @@ abbrev pub contracted : Node → Bot
 contracted v = expanded v v
 
 -- one that goes round against them
-abbrev against : ℕ → Node → Bot
+abbrev pub against : ℕ → Node → Bot
 against rot v = record { head = v; tail = v; rot = rot; chir = Minus; mem = first 0 }
 
 abbrev pub eight : Extent
@@ -153,7 +153,7 @@ edge_stays : expand edge 0 (port Head 0) ≡ Err Edge
 edge_stays = refl
 
 -- an amoebot that goes round against the global directions, with rotation 5
-abbrev turned : Config
+abbrev pub turned : Config
 turned = world (against 5 (at 2 3) ∷ [])
 
 zone_turned : zone turned 0 ≡ body 0 ∷ spot 2 3 ∷ spot 3 2 ∷ spot 2 2 ∷ spot 1 3 ∷ spot 1 4 ∷ spot 2 4 ∷ spot 3 3 ∷ []
@@ -163,7 +163,7 @@ shown_turned : shown turned 0 ≡ shows 0 (with_body 0 (against 5 (at 2 3)) ∷ 
 shown_turned = refl
 
 -- its local direction 1 is the global direction 4
-abbrev turned_out : Bot
+abbrev pub turned_out : Bot
 turned_out = record { head = at 2 2; tail = at 2 3; rot = 5; chir = Minus; mem = first 0 }
 
 turned_expands : expand turned 0 (port Head 1) ≡ Ok (world (turned_out ∷ []))
@@ -192,7 +192,7 @@ pair_stays : expand pair 0 (port Head 0) ≡ Err Occupied
 pair_stays = refl
 
 -- a change of memory alone changes the body alone
-abbrev marked : Bot
+abbrev pub marked : Bot
 marked = record { head = at 2 3; tail = at 2 3; rot = 0; chir = Plus; mem = first 1 }
 
 marking_changes : diff pair (world (marked ∷ contracted (at 3 3) ∷ [])) ≡ with_body 0 marked ∷ []
@@ -221,7 +221,7 @@ shown_train_1 : shown train 1 ≡ shows 1 (with_body 1 (contracted (at 1 3)) ∷
 shown_train_1 = refl
 
 -- after it pulled the neighbour: the one zone has nine cells, and the other twelve
-abbrev pulled : Config
+abbrev pub pulled : Config
 pulled = world (contracted (at 3 3) ∷ expanded (at 2 3) (at 1 3) ∷ [])
 
 pulling_changes : diff train pulled ≡ held 2 3 1 ∷ with_body 0 (contracted (at 3 3)) ∷ with_body 1 (expanded (at 2 3) (at 1 3)) ∷ []

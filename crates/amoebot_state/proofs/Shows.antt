@@ -66,12 +66,6 @@ there_is (Some b) h = (b, refl)
 pub shown_valid : (s : Shown) → IsShown s → IsValid (gap s)
 shown_valid s is = let P : Shown → Type 0 = λ t. IsValid (gap t) in subst P is.3 (gap_valid is.0 s.bot is.1)
 
--- the amoebot that is shown it
-pub shown_owner : (s : Shown) → IsShown s → (b : Bot) × (bot_at (gap s) s.bot ≡ Some b)
-shown_owner s is =
-    let own = there_is (bot_at is.0 s.bot) is.2 in
-    (own.0, subst (λ (t : Shown). bot_at (gap t) s.bot ≡ Some own.0) is.3 (gap_own is.0 s.bot own.0 own.1))
-
 pub shown_plain : (s : Shown) (b : Bot) → IsFound s b → IsPlain b
 shown_plain s b is = plain_bot (gap s) (shown_valid s is.shown) s.bot b is.owner
 

@@ -1,4 +1,5 @@
--- Configurations: an area, the greatest values of the variables, and the amoebots by their ids. An id may have none.
+-- Configurations: an area, the greatest values of the variables, and the amoebots by their ids. An id may have none. Configurations
+-- of amoebots on nodes are the paper's; areas, maxima, ids, cells and gaps are this project's profile.
 use Rattle.std.specs.Prelude.{◌≡◌, ℕ, ◌<◌, ◌≤◌, ◌*◌, List, [], ◌∷◌, ◌++◌, Bool, false, ◌||◌, map, length, slice_index, slice_index_or, slice_set, IsTrue, nat_le, pos, unwrap_or}
 use Rattle.std.specs.List.{list_all, position}
 use Rattle.std.specs.Option.{option_map}
@@ -15,7 +16,7 @@ use Rattle.amoebot_state.specs.declared.cell.Cell.{Cell}
 use Rattle.amoebot_state.specs.declared.cell.Cell.TheVariants as cell
 use Rattle.amoebot_state.specs.Ports.{is_own}
 
--- (the paper's configuration of amoebots; the area, the maxima and the ids are this project's profile)
+-- an area, the greatest value of each of eight variables, and the amoebot of each id, if it has one
 pub record Config : Type 0 where
   pub area : Extent
   pub maxes : List ℕ
@@ -38,11 +39,11 @@ abbrev pub covers : Option Bot → Node → Bool
 covers None v = false
 covers (Some b) v = is_own b v
 
--- the id whose amoebot has the node as its head or its tail, if one has
+-- the id whose amoebot has the node as its head or its tail, if one has (the paper's geometric variant; ids are this project's)
 abbrev pub occupant : Config → Node → Option ℕ
 occupant c v = position (λ o. covers o v) c.bots
 
--- what a cell holds: a node its occupant or none; a body the amoebot, if there is one
+-- what a cell holds: a node its occupant or none; a body the amoebot, if there is one (this project's profile)
 abbrev pub value : Config → CellName → Option Cell
 value c (name.Spot v) = Some (cell.Spot (occupant c v))
 value c (name.Body i) = option_map cell.Body (bot_at c i)
@@ -51,6 +52,7 @@ value c (name.Body i) = option_map cell.Body (bot_at c i)
 abbrev pub is_joined : Node → Node → Bool
 is_joined a b = node_eq a b || is_adjacent a b
 
+-- the numbers of the variables
 abbrev pub variables : List ℕ
 variables = 0 ∷ 1 ∷ 2 ∷ 3 ∷ 4 ∷ 5 ∷ 6 ∷ 7 ∷ []
 

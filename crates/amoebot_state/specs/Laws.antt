@@ -1,8 +1,8 @@
 -- What follows from the definitions alone.
-use Rattle.std.specs.Prelude.{◌≡◌, ◌≢◌, ◌↔◌, ◌⊎◌, ◌<◌, ◌≤◌, ℕ, List, IsSome, Bool, true, false, map, length, is_some, IsTrue}
+use Rattle.std.specs.Prelude.{◌≡◌, ◌≢◌, ◌↔◌, ◌⊎◌, ◌<◌, ◌≤◌, ℕ, List, [], ◌∷◌, IsSome, Bool, true, false, map, length, is_some, IsTrue}
 use Rattle.std.specs.List.{All, AllPairs, Contains, count_by}
 use Rattle.std.specs.declared.option.Option.{Option}
-use Rattle.std.specs.declared.option.Option.TheVariants.{Some}
+use Rattle.std.specs.declared.option.Option.TheVariants.{Some, None}
 use Rattle.tri_lattice.specs.declared.node.Node.{Node}
 use Rattle.tri_lattice.specs.Lattice.{node_eq, Adjacent}
 use Rattle.tri_lattice.specs.Extent.{Extent, IsArea, is_in}
@@ -11,17 +11,20 @@ use Rattle.amoebot_state.specs.declared.bot.Port.{Port}
 use Rattle.amoebot_state.specs.declared.cell.CellName.{CellName}
 use Rattle.amoebot_state.specs.declared.cell.CellName.TheVariants as name
 use Rattle.amoebot_state.specs.declared.cell.Cell.{Cell}
+use Rattle.amoebot_state.specs.declared.cell.Cell.TheVariants as cell
 use Rattle.amoebot_state.specs.declared.verdict.Entry.{Entry}
+use Rattle.amoebot_state.specs.declared.verdict.Moved.TheVariants as moved
 use Rattle.amoebot_state.specs.declared.verdict.Verdict.{Verdict}
+use Rattle.amoebot_state.specs.declared.verdict.Verdict.TheVariants as verdict
 use Rattle.amoebot_state.specs.Pairs.{Pairs, cell_of, value_of}
-use Rattle.amoebot_state.specs.Ports.{global, local, is_port, ports, behind}
+use Rattle.amoebot_state.specs.Ports.{global, local, is_port, ports, behind, is_contracted, is_beside}
 use Rattle.amoebot_state.specs.Configs.{Config, IsValid, bot_at, occupant, value, config_of}
 use Rattle.amoebot_state.specs.Zones.{Shown, IsShown, distinct, zone, shown, gap}
 use Rattle.amoebot_state.specs.Patches.{IsPatched, same_value, diff}
 use Rattle.amoebot_state.specs.Refusals.{IsPlain, IsFaultless}
 use Rattle.amoebot_state.specs.Occupied.{occupied}
-use Rattle.amoebot_state.specs.Steps.{Step, Run}
-use Rattle.amoebot_state.specs.Moves.{expansion_verdict, expansion_verdict_shown}
+use Rattle.amoebot_state.specs.Steps.{Step, Run, TouchesZone, HasNext, IsExact}
+use Rattle.amoebot_state.specs.Moves.{expansion_verdict, expansion_verdict_shown, with_head}
 
 -- local and global directions are both 0 to 5, and the one is the inverse of the other, with either chirality
 abbrev pub GlobalAndLocalAreInverse : Type 0
@@ -42,6 +45,10 @@ SixPortsLeadToSixNodes = (b : Bot) → b.rot < 6 → b.head ≡ b.tail → lengt
 -- the ten ports of an expanded amoebot lead to eight
 abbrev pub TenPortsLeadToEightNodes : Type 0
 TenPortsLeadToEightNodes = (b : Bot) → b.rot < 6 → Adjacent b.head b.tail → length (distinct node_eq (map (behind b) (ports b))) ≡ 8
+
+-- the node behind a pair of an end and a direction, as a port is one, is beside the amoebot
+abbrev pub PortLeadsBeside : Type 0
+PortLeadsBeside = (b : Bot) (p : Port) → IsTrue (is_beside b (behind b p))
 
 -- no cell stands twice in a zone
 abbrev pub ZoneListsEachCellOnce : Type 0
@@ -98,6 +105,19 @@ RunHasOneLast = (f : Shown → Verdict) (old : Config) (es : List Entry) (one tw
 abbrev pub ExpansionVerdictIsShown : Type 0
 ExpansionVerdictIsShown = (p : Port) (c : Config) (i : ℕ) → IsValid c → IsSome (bot_at c i) → expansion_verdict_shown p (shown c i) ≡ expansion_verdict p c i
 
+-- where a contracted amoebot is shown that the node behind the port is in the area and empty, the decider's change is the node
+-- that is entered and the amoebot's body
+abbrev pub ExpansionChanges : Type 0
+ExpansionChanges = (p : Port) (s : Shown) (b : Bot) → IsValid (gap s) → bot_at (gap s) s.bot ≡ Some b → IsTrue (is_contracted b) → IsTrue (is_port b p) → IsTrue (is_in s.area (behind b p)) → occupant (gap s) (behind b p) ≡ None → expansion_verdict_shown p s ≡ verdict.Change (record {
+  action = 0;
+  moved = moved.Expand p;
+  patch = (name.Spot (behind b p), cell.Spot (Some s.bot)) ∷ (name.Body s.bot, cell.Body (with_head b (behind b p))) ∷ [];
+})
+
+-- and it keeps the three laws of deciders
+abbrev pub ExpansionKeepsLaws : Type 0
+ExpansionKeepsLaws = (p : Port) → TouchesZone (expansion_verdict_shown p) × HasNext (expansion_verdict_shown p) × IsExact (expansion_verdict_shown p)
+
 -- the test of what cells hold answers whether it is equal
 abbrev pub SameValueIsEquality : Type 0
 SameValueIsEquality = (x y : Option Cell) → IsTrue (same_value x y) ↔ (x ≡ y)
@@ -118,6 +138,10 @@ FaultlessIsValid = (a : Extent) (maxes : List ℕ) (bots : List Bot) → IsArea 
 -- the configuration that has what is shown and no other amoebot is valid
 abbrev pub GapIsValid : Type 0
 GapIsValid = (s : Shown) → IsShown s → IsValid (gap s)
+
+-- each cell of a zone holds in the configuration that has what is shown and no other amoebot what it holds in the one that shows it
+abbrev pub GapHoldsTheSame : Type 0
+GapHoldsTheSame = (c : Config) (i : ℕ) (n : CellName) → IsValid c → IsSome (bot_at c i) → Contains (zone c i) n → value (gap (shown c i)) n ≡ value c n
 
 -- in a valid configuration a node is occupied exactly where it is the head or the tail of an amoebot of it
 abbrev pub OccupiedIsOccupant : Type 0

@@ -1,4 +1,5 @@
--- The model's operation Expand, on a whole configuration.
+-- The model's operation Expand, on a whole configuration, and what a program of one action decides. Expand and guarded actions are
+-- the paper's; the conditions with their failures, and verdicts, are this project's profile.
 use Rattle.std.specs.Prelude.{ℕ, Bool, if◌then◌else◌, is_none}
 use Rattle.std.specs.declared.result.Result.{Result}
 use Rattle.std.specs.declared.result.Result.TheVariants.{Ok, Err}
@@ -21,12 +22,12 @@ use Rattle.amoebot_state.specs.Zones.{Shown, gap}
 abbrev pub need : {A : Type 0} → Bool → Failure → Result A Failure → Result A Failure
 need holds f answer = if holds then answer else Err f
 
+-- the amoebot with its head at a node
 abbrev pub with_head : Bot → Node → Bot
 with_head b v = record b { head = v }
 
 -- Expand through a port: a contracted amoebot enters the node behind it, if that lies in the area and is empty. The head moves
--- there, and the old node is the tail. The conditions are tried in this order (the name is the paper's; the
--- conditions, failures and their order are this project's profile). The id has to be there
+-- there, and the old node is the tail. The conditions are tried in this order. The id has to be there
 abbrev pub expand : Config → ℕ → Port → Result Config Failure
 expand c i p =
     let b = bot_of c i in

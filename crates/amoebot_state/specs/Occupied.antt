@@ -1,4 +1,4 @@
--- The nodes that are occupied, as a set.
+-- The nodes that are occupied, as a set (the paper's geometric variant).
 use Rattle.std.specs.Prelude.{Bool, is_some}
 use Rattle.tri_lattice.specs.declared.node.Node.{Node}
 use Rattle.amoebot_state.specs.Configs.{Config, occupant}

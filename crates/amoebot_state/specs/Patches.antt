@@ -1,4 +1,5 @@
--- Patches: cells with new values, the configuration that a patch leads to, and the difference of two configurations.
+-- Patches: cells with new values, the configuration that a patch leads to, and the difference of two configurations. All of it is
+-- this project's profile: the paper tells what an activation changes by its operations.
 use Rattle.std.specs.Prelude.{◌≡◌, ◌≢◌, ℕ, ◌+◌, ◌*◌, List, ◌++◌, Bool, true, false, ◌&&◌, map, length, is_some, nat_eq, if◌then◌else◌}
 use Rattle.std.specs.List.{All, filter_map, range_with_len}
 use Rattle.std.specs.Cmp.Lexicographic.{pointwise}
@@ -41,27 +42,32 @@ rank (name.Body i) = i + 1
 abbrev pub IsOrdered : Pairs → Type 0
 IsOrdered ps = IsStrictlyIncreasing (map (λ (p : CellName × Cell). rank (cell_of p)) ps)
 
+-- tests of equality: of chiralities,
 abbrev pub chir_eq : Chir → Chir → Bool
 chir_eq chir.Plus chir.Plus = true
 chir_eq chir.Plus chir.Minus = false
 chir_eq chir.Minus chir.Plus = false
 chir_eq chir.Minus chir.Minus = true
 
+-- of amoebots,
 abbrev pub bot_eq : Bot → Bot → Bool
 bot_eq a b = node_eq a.head b.head && node_eq a.tail b.tail && nat_eq a.rot b.rot && chir_eq a.chir b.chir && pointwise nat_eq a.mem b.mem
 
+-- of the occupants of nodes,
 abbrev pub id_eq : Option ℕ → Option ℕ → Bool
 id_eq None None = true
 id_eq None (Some j) = false
 id_eq (Some i) None = false
 id_eq (Some i) (Some j) = nat_eq i j
 
+-- of what cells hold,
 abbrev pub cell_eq : Cell → Cell → Bool
 cell_eq (cell.Spot a) (cell.Spot b) = id_eq a b
 cell_eq (cell.Spot a) (cell.Body b) = false
 cell_eq (cell.Body a) (cell.Spot b) = false
 cell_eq (cell.Body a) (cell.Body b) = bot_eq a b
 
+-- and of values, where there may be none
 abbrev pub same_value : Option Cell → Option Cell → Bool
 same_value None None = true
 same_value None (Some y) = false

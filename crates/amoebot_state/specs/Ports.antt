@@ -1,4 +1,6 @@
--- Amoebots: their nodes, their directions and their ports.
+-- Amoebots: their nodes, their directions and their ports. Heads and tails, and that an amoebot has one or two nodes and a port
+-- to each neighbour of them, are the paper's geometric variant; rotations, the numbers and the order of ports are this project's
+-- profile.
 use Rattle.std.specs.Prelude.{ℕ, ◌+◌, ◌-◌, ◌%◌, List, [], ◌∷◌, Bool, true, false, not, ◌&&◌, ◌||◌, if◌then◌else◌, filter, nat_lt}
 use Rattle.tri_lattice.specs.declared.node.Node.{Node}
 use Rattle.tri_lattice.specs.Lattice.{step, node_eq, is_adjacent}
@@ -23,14 +25,16 @@ abbrev pub global_by : Chir → ℕ → ℕ → ℕ
 global_by chir.Plus rot i = (rot + i) % 6
 global_by chir.Minus rot i = (rot + (6 - i)) % 6
 
+-- the same for an amoebot, by its chirality and its rotation
 abbrev pub global : Bot → ℕ → ℕ
 global b i = global_by b.chir b.rot i
 
--- the local direction of a global one
+-- the local direction of a global one, the other way round
 abbrev pub local_by : Chir → ℕ → ℕ → ℕ
 local_by chir.Plus rot d = (d + (6 - rot)) % 6
 local_by chir.Minus rot d = (rot + (6 - d)) % 6
 
+-- the same for an amoebot
 abbrev pub local : Bot → ℕ → ℕ
 local b d = local_by b.chir b.rot d
 
@@ -43,6 +47,7 @@ end_node b Tail = b.tail
 abbrev pub behind : Bot → Port → Node
 behind b p = step (end_node b p.end) (global b p.dir)
 
+-- the end is the head
 abbrev pub is_head : End → Bool
 is_head Head = true
 is_head Tail = false
@@ -52,6 +57,7 @@ is_head Tail = false
 abbrev pub is_port : Bot → Port → Bool
 is_port b p = nat_lt p.dir 6 && (if is_contracted b then is_head p.end else not (is_own b (behind b p)))
 
+-- the pair of an end and a local direction
 abbrev pub port : End → ℕ → Port
 port e i = record { end = e; dir = i }
 

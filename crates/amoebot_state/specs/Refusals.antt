@@ -1,4 +1,4 @@
--- What a list of amoebots is refused for.
+-- What a list of amoebots is refused for. The conditions are those of a valid configuration; their order is this project's profile.
 use Rattle.std.specs.Prelude.{◌≡◌, ℕ, ◌<◌, List, not, ◌&&◌, ◌||◌, if◌then◌else◌, length, is_some, slice_get, take}
 use Rattle.std.specs.declared.option.Option.{Option}
 use Rattle.std.specs.declared.option.Option.TheVariants.{Some, None}

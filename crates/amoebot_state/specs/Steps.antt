@@ -1,4 +1,5 @@
--- What a decider promises, and the steps and runs of the model: one activation after another.
+-- What a decider promises, and the steps and runs of the model: one activation after another. Activations and their sequential
+-- runs are the paper's; deciders, patches and what they promise are this project's profile.
 use Rattle.std.specs.Prelude.{◌≡◌, ◌≢◌, ℕ, List, [], ◌∷◌, IsSome}
 use Rattle.std.specs.List.{All, Contains}
 use Rattle.std.specs.declared.option.Option.TheVariants.{Some}
@@ -32,10 +33,11 @@ HasNext f = (c : Config) (i : ℕ) (change : Change) → Changes f c i change �
 abbrev pub IsExact : (Shown → Verdict) → Type 0
 IsExact f = (c : Config) (i : ℕ) (change : Change) → Changes f c i change → IsOrdered change.patch × All (λ (p : CellName × Cell). value c (cell_of p) ≢ Some (value_of p)) change.patch
 
+-- the change that an entry tells
 abbrev pub change_of : Entry → Change
 change_of e = record { action = e.action; moved = e.moved; patch = e.patch }
 
--- an activation that is one of the model, whole in one step (the paper's activation, under this project's profile): f decides the entry's change on what the old configuration shows to the entry's
+-- an activation of the model, whole in one step: f decides the entry's change on what the old configuration shows to the entry's
 -- amoebot, which is there, and its patch leads from the old configuration to the new one
 pub record Step (f : Shown → Verdict) (old : Config) (e : Entry) (new : Config) : Type 0 where
   pub there : IsSome (bot_at old e.bot)

@@ -1,4 +1,5 @@
--- The zone of an amoebot, and what it is shown of a configuration.
+-- The zone of an amoebot, and what it is shown of a configuration. That an activation sees the amoebot, the nodes behind its ports and
+-- its neighbours is the paper's; the cells, their order, and what is shown of them are this project's profile.
 use Rattle.std.specs.Prelude.{◌≡◌, ℕ, zero, suc, List, [], ◌∷◌, ◌++◌, Bool, not, map, filter, nat_eq, IsSome}
 use Rattle.std.specs.List.{filter_map}
 use Rattle.std.specs.Option.{option_map}
@@ -37,6 +38,7 @@ abbrev pub zone_at : Config → ℕ → Option Bot → List CellName
 zone_at c i None = []
 zone_at c i (Some b) = zone_of c i (zone_nodes c.area b)
 
+-- the same for the amoebot that the configuration has there
 abbrev pub zone : Config → ℕ → List CellName
 zone c i = zone_at c i (bot_at c i)
 

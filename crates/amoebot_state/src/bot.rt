@@ -1,6 +1,6 @@
 ghost use Rattle.std.specs.Prelude.{◌≡◌, ◌<◌, true};
 ghost use Rattle.tri_lattice.specs.Lattice.{IsNear};
-ghost use Rattle.amoebot_state.specs.Ports.{global, local, is_port, behind, end_node, is_contracted, is_own, all_ports};
+ghost use Rattle.amoebot_state.specs.Ports.{global, local, is_port, behind, end_node, is_contracted, is_own};
 
 use tri_lattice::{Dir, Node};
 

@@ -1,4 +1,4 @@
-ghost use Rattle.std.specs.Prelude.{◌≡◌, ◌<◌, ◌≤◌, ◌∷◌, ◌++◌, [], length, IsTrue};
+ghost use Rattle.std.specs.Prelude.{◌≡◌, ◌<◌, ◌≤◌, ◌∷◌, ◌++◌, [], length, IsTrue, None};
 ghost use Rattle.amoebot_state.specs.Pairs.{is_alike, are_alike};
 
 use crate::bot::Bot;
@@ -22,13 +22,17 @@ pub enum Cell {
 
 // The defaults fill the free places of lists of fixed size, and mean nothing else.
 impl Default for CellName {
-    fn default() -> Self {
+    fn default() -> Self
+        ensures { result ≡ CellName.Body 0 }
+    {
         CellName::Body(0)
     }
 }
 
 impl Default for Cell {
-    fn default() -> Self {
+    fn default() -> Self
+        ensures { result ≡ Cell.Spot None }
+    {
         Cell::Spot(None)
     }
 }

@@ -1,4 +1,4 @@
-ghost use Rattle.amoebot_state.specs.Laws.{GlobalAndLocalAreInverse, ContractedHasSixPorts, ExpandedHasTenPorts, SixPortsLeadToSixNodes, TenPortsLeadToEightNodes, ZoneListsEachCellOnce, ZoneHasAtMostTenNodes, ZoneHasAtMostNineBodies, NodeBehindPortIsInZone, OccupantBehindPortIsInZone, GapShowsWhatWasShown, PatchedIsUnique, PatchListsWhatDiffers, StepHasOneResult, RunHasOneLast, ExpansionVerdictIsShown, SameValueIsEquality, DiffLeads, ValidIsFaultless, FaultlessIsValid, GapIsValid, OccupiedIsOccupant};
+ghost use Rattle.amoebot_state.specs.Laws.{GlobalAndLocalAreInverse, ContractedHasSixPorts, ExpandedHasTenPorts, SixPortsLeadToSixNodes, TenPortsLeadToEightNodes, ZoneListsEachCellOnce, ZoneHasAtMostTenNodes, ZoneHasAtMostNineBodies, NodeBehindPortIsInZone, OccupantBehindPortIsInZone, GapShowsWhatWasShown, PatchedIsUnique, PatchListsWhatDiffers, StepHasOneResult, RunHasOneLast, ExpansionVerdictIsShown, SameValueIsEquality, DiffLeads, ValidIsFaultless, FaultlessIsValid, GapIsValid, GapHoldsTheSame, OccupiedIsOccupant, PortLeadsBeside, ExpansionChanges, ExpansionKeepsLaws};
 
 /// Local and global directions are both 0 to 5, and the one is the inverse of the other, with either chirality.
 pub fn global_and_local_are_inverse()
@@ -23,6 +23,11 @@ pub fn six_ports_lead_to_six_nodes()
 /// The ten ports of an expanded amoebot lead to eight nodes.
 pub fn ten_ports_lead_to_eight_nodes()
     ensures { TenPortsLeadToEightNodes }
+{}
+
+/// The node behind a port is beside the amoebot.
+pub fn port_leads_beside()
+    ensures { PortLeadsBeside }
 {}
 
 /// No cell stands twice in a zone.
@@ -81,6 +86,16 @@ pub fn expansion_verdict_is_shown()
     ensures { ExpansionVerdictIsShown }
 {}
 
+/// What that decider changes: the node that is entered, and the amoebot's body.
+pub fn expansion_changes()
+    ensures { ExpansionChanges }
+{}
+
+/// That decider keeps the three laws of deciders.
+pub fn expansion_keeps_laws()
+    ensures { ExpansionKeepsLaws }
+{}
+
 /// The test of what cells hold answers whether it is equal.
 pub fn same_value_is_equality()
     ensures { SameValueIsEquality }
@@ -105,6 +120,11 @@ pub fn faultless_is_valid()
 /// The configuration that has what is shown and no other amoebot is valid.
 pub fn gap_is_valid()
     ensures { GapIsValid }
+{}
+
+/// Each cell of a zone holds in that configuration what it holds in the one that shows it.
+pub fn gap_holds_the_same()
+    ensures { GapHoldsTheSame }
 {}
 
 /// A node of a valid configuration is occupied exactly where it is the head or the tail of an amoebot.

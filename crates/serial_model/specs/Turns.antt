@@ -1,4 +1,4 @@
--- What one turn does.
+-- What one turn does. That one activation after another is a run is the paper's; turns and callers are this project's profile.
 use Rattle.std.specs.Prelude.{◌≡◌, ℕ}
 use Rattle.amoebot_state.specs.declared.verdict.Verdict.{Verdict}
 use Rattle.amoebot_state.specs.declared.verdict.Verdict.TheVariants as verdict

@@ -115,9 +115,6 @@ elements_begin levels old mid a r =
     ∙ prepended a (repeated is_semicolon (behind_semicolon levels) same_state 3 tt old.last mid.ahead)
     ∙ ap (λ (last : Refusal). prepend (a ∷ []) (repeated is_semicolon (behind_semicolon levels) same_state 3 tt last mid.ahead)) (sym r.1.last)
 
-abbrev behind_opening : ℕ → Reader (List Tree)
-behind_opening below = all_elements below
-
 list_is : (levels below : ℕ) → levels ≡ suc below → (last : Refusal) (ts : List Lexeme) → a_list levels (inside levels) last ts
     ≡ (opening levels is_open >>= λ t. all_elements below >>= λ ts. the_line is_close >>= λ line. pure (trees ts)) last ts
 unfolding a_list all_elements

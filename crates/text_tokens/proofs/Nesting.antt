@@ -402,9 +402,6 @@ judged_first sum us p (then {xs = xs} {ys = ys} q is v) = placed_first sum xs q 
 pair_begun : (sum : ℕ) (xs : List Mark) (c : Couple) → IsPair sum xs c → IsBegun begins_pair xs
 pair_begun sum xs c (made p is) = judged_first sum xs p is
 
-one_number : Lexeme
-one_number = sample Number (codes "1")
-
 pair_of : (sum : ℕ) (t : Lexeme) → is_pair t ≡ true → IsPair sum (mark t None ∷ mark (sample Number (codes "1")) (past_sum value 100 sum (sample Number (codes "1"))) ∷ mark (sample Number (codes "1")) None ∷ record { token = None; fault = None } ∷ []) (record { low = 1; high = 1 })
 pair_of sum t e = made (record { line = t.line; couple = record { low = 1; high = 1 } })
     (then (record { line = t.line; couple = record { low = 1; high = 1 } })

@@ -23,9 +23,6 @@ use Rattle.text_tokens.specs.Steps.{Fails, Stays, lexeme_of}
 pub stays_behind : (old new : Cursor) → new ≡ behind old → Stays old new
 stays_behind old new e = record { source = ap (λ (c : Cursor). c.source) e; last = ap (λ (c : Cursor). c.last) e }
 
-pub stays_same : (old new : Cursor) → new ≡ old → Stays old new
-stays_same old new e = record { source = ap (λ (c : Cursor). c.source) e; last = ap (λ (c : Cursor). c.last) e }
-
 pub stays_on : (a b c : Cursor) → Stays a b → Stays b c → Stays a c
 stays_on a b c p q = record { source = q.source ∙ p.source; last = q.last ∙ p.last }
 
@@ -160,6 +157,3 @@ on_made p f old new a r = (maps_ok p f old.last old.ahead new.ahead a r.0, r.1)
 -- the same reader
 pub fails_as : {A : Type 0} (e : ReadRefusal) (x y : Answer A) → x ≡ y → Fails e x → Fails e y
 fails_as {A} e x y s h = subst (λ (z : Answer A). Fails e z) s h
-
-pub reached_as : {A : Type 0} (p q : Reader A) (old new : Cursor) (a : A) → q old.last old.ahead ≡ p old.last old.ahead → Reached p old a new → Reached q old a new
-reached_as p q old new a s r = (s ∙ r.0, r.1)

@@ -4,6 +4,7 @@ use Rattle.text_tokens.specs.declared.token.TokenKind.TheVariants.{Word, Number,
 use Rattle.text_tokens.specs.declared.refusal.Refusal.{Refusal}
 use Rattle.text_tokens.specs.declared.refusal.RefusalKind.TheVariants.{BadByte, WordTooLong, Truncated}
 use Rattle.text_tokens.specs.Text.{Lexeme, end_of, AreTokens}
+use Rattle.text_tokens.specs.Cursor.{IsAtFront, at_place}
 
 pub record Same (ls ms : List Lexeme) (r s : Refusal) : Type 0 where
   pub tokens : ls ≡ ms
@@ -12,6 +13,10 @@ pub record Same (ls ms : List Lexeme) (r s : Refusal) : Type 0 where
 -- a text has no more than one list of tokens, and one fault or end behind them
 abbrev pub OneReading : Type 0
 OneReading = (source : List ℕ) (ls ms : List Lexeme) (r s : Refusal) → AreTokens source 0 ls r → AreTokens source 0 ms s → Same ls ms r s
+
+-- every text has one: the list that is cut from its front on
+abbrev pub TokensAreCut : Type 0
+TokensAreCut = (source : List ℕ) → IsAtFront source (at_place source 0 1)
 
 -- Each token is a slice of the source with a byte at least, behind the place and behind the tokens before it.
 pub record RisesBy (source : List ℕ) (at : ℕ) (l : Lexeme) (Rest : Type 0) : Type 0 where

@@ -12,7 +12,7 @@ pub use combinators::{
     Element, Part, PartAfter, choice, exact, judgement, limit, making, nothing, one_token, opening,
     repetition, running_sum, separation, sequence,
 };
-pub use laws::{small_texts, spans_rise, tokens_are_one};
+pub use laws::{small_texts, spans_rise, tokens_are_cut, tokens_are_one};
 pub use refusal::{ReadRefusal, Refusal, RefusalKind};
 pub use token::{Token, TokenKind};
 pub use tokens::Tokens;

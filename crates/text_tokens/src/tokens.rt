@@ -2,6 +2,7 @@
 
 ghost use Rattle.std.specs.Prelude.{◌≡◌, ◌<◌, ◌≤◌, ◌+◌, ◌^◌, ℕ, length, take, drop, IfOk, IfSome, OnOk, OnErr, true, false};
 ghost use Rattle.std.specs.List.{list_all, prefix_len};
+ghost use Rattle.text_tokens.specs.declared.token.TokenKind.TheVariants.{Number};
 ghost use Rattle.text_tokens.specs.Text as text;
 ghost use Rattle.text_tokens.specs.Scan as scan;
 ghost use Rattle.text_tokens.specs.Cursor as cursor;
@@ -375,12 +376,14 @@ impl<'a> Tokens<'a> {
         self.take_any()
     }
 
-    /// The next token, if it is of this kind. Else it is `Unexpected`, or what `refusal` says. An `Err` changes nothing.
+    /// The next token, if it is of this kind. Else it is `Unexpected`, or what `refusal` says. An `Err` changes nothing. A number
+    /// that was taken is one for `number`.
     pub fn take_kind(&mut self, kind: TokenKind) -> Result<Token, Refusal>
         ensures answer { result ≡ expect (is_kind kind) self.old }
         ensures moves { OnOk result (self.new ≡ cursor.behind self.old) }
         ensures again { OnErr result (self.new ≡ self.old) }
         ensures spells { IfOk result (Spells self.old) }
+        ensures number { IfOk result (λ token. kind ≡ Number → IsNumber self.new.source token) }
     {
         if !self.is_next_kind(kind) {
             return Err(self.refusal(RefusalKind::Unexpected));

@@ -1,4 +1,4 @@
--- A box of nodes, and the numbers of its nodes. Its bounds and the numbering are this project's profile.
+-- A box of nodes, and the numbers of its nodes. All of it is this project's profile: the paper's lattice has no bounds.
 use Rattle.std.specs.Prelude.{ℕ, ℤ, pos, negsuc, ◌+ℤ◌, ◌-ℤ◌, ◌≤ℤ◌, nat_lt, is_some, ◌+◌, ◌*◌, ◌/◌, ◌%◌, ◌≤◌, Bool, if◌then◌else◌}
 use Rattle.std.specs.declared.option.Option.{Option}
 use Rattle.std.specs.Option.{option_and_then, option_map}

@@ -1,0 +1,5 @@
+use Rattle.amoebot_state.proofs.Expands.{port_leads_beside}
+use Rattle.amoebot_state.proofs.laws.port_leads_beside.Goals as goal
+
+pub returns : goal.returns
+returns c = port_leads_beside
