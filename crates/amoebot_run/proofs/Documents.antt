@@ -11,7 +11,7 @@ use Rattle.text_tokens.specs.declared.refusal.Refusal.{Refusal}
 use Rattle.text_tokens.specs.declared.refusal.RefusalKind.TheVariants.{Truncated}
 use Rattle.text_tokens.specs.Text.{Lexeme}
 use Rattle.text_tokens.specs.Cursor.{Cursor, IsAtFront}
-use Rattle.text_tokens.proofs.Tokenizing.{one_reading}
+use Rattle.text_tokens.specs.Promises.{OneReading}
 use Rattle.amoebot_state.specs.declared.bot.Bot.{Bot}
 use Rattle.amoebot_state.specs.declared.bot.Port.{Port}
 use Rattle.amoebot_state.specs.Configs.{Config, config_of}
@@ -38,9 +38,9 @@ not_both : (o : Option (Parts × List Lexeme)) (r : Parts × List Lexeme) → o 
 not_both None r e f = absurd cc
 not_both (Some x) r e f = absurd cc
 
-pub one_document : DocumentIsOne
-one_document bytes p q c d l m a b =
-    let tokens : a.tokens ≡ b.tokens = (one_reading bytes a.tokens b.tokens a.text.last b.text.last a.text.are b.text.are).tokens in
+pub one_document : OneReading → DocumentIsOne
+one_document one bytes p q c d l m a b =
+    let tokens : a.tokens ≡ b.tokens = (one bytes a.tokens b.tokens a.text.last b.text.last a.text.are b.text.are).tokens in
     let same : a.parts ≡ b.parts = ap (parts_in a.parts) (sym (whole a.tokens a.parts a.grammar) ∙ ap the_parts tokens ∙ whole b.tokens b.parts b.grammar) in
     record {
       port = a.its_port ∙ ap (λ (x : Parts). x.port) same ∙ sym b.its_port;
@@ -51,13 +51,13 @@ one_document bytes p q c d l m a b =
 abbrev Faultless : Parts → Type 0
 Faultless x = IsFaultless x.shape.area zeros x.shape.bots (length x.shape.bots)
 
-module _ (bytes : List ℕ) (c : Cursor) (front : IsAtFront bytes c) where
+module _ (one : OneReading) (bytes : List ℕ) (c : Cursor) (front : IsAtFront bytes c) where
   module _ (p : Port) (w : Config) (l : CallerLists) (d : IsRunDocument bytes p w l) where
     read_so : the_parts c.ahead ≡ Some (d.parts, [])
-    read_so = ap the_parts (one_reading bytes c.ahead d.tokens c.last d.text.last front.tokens d.text.are).tokens ∙ whole d.tokens d.parts d.grammar
+    read_so = ap the_parts (one bytes c.ahead d.tokens c.last d.text.last front.tokens d.text.are).tokens ∙ whole d.tokens d.parts d.grammar
 
     ends_so : c.last.kind ≡ Truncated
-    ends_so = ap (λ (r : Refusal). r.kind) (one_reading bytes c.ahead d.tokens c.last d.text.last front.tokens d.text.are).last ∙ d.text.ends
+    ends_so = ap (λ (r : Refusal). r.kind) (one bytes c.ahead d.tokens c.last d.text.last front.tokens d.text.are).last ∙ d.text.ends
 
     pub is_read : the_parts c.ahead ≡ None → ⊥
     is_read none = not_both (the_parts c.ahead) (d.parts, []) none read_so

@@ -1,11 +1,11 @@
 -- What holds while the turns of the only caller are made.
-use Rattle.std.proofs.Common.{◌≡◌, ◌<◌, ◌≤◌, ◌+◌, ◌%◌, ℕ, [], ◌∷◌, ◌++◌, length, arith, get_or-set_same, refl, zero, suc, add-one}
+use Rattle.std.proofs.Common.{◌≡◌, ◌<◌, ◌≤◌, ◌+◌, ℕ, [], ◌∷◌, ◌++◌, length, get_or-set_same, refl, zero, suc, add-one}
 use Rattle.std.proofs.Math.ListN.{set, replicate}
 use Rattle.amoebot_state.specs.declared.verdict.Verdict.{Verdict}
 use Rattle.amoebot_state.specs.Configs.{Config}
 use Rattle.amoebot_state.specs.Zones.{Shown}
 use Rattle.amoebot_run.specs.declared.marks.Mark.{Mark}
-use Rattle.amoebot_run.specs.Turns.{AreLists, CallerLists, HaveBots, Kept, MarkLists, bot_of, list_of, marks_of}
+use Rattle.amoebot_run.specs.Turns.{AreLists, CallerLists, HaveBots, Kept, MarkLists, marks_of}
 use Rattle.amoebot_run.specs.SerialRuns.{Left, SerialRun, MakesTurn}
 
 -- what stands in the world, the journal and the marks so far

@@ -1,5 +1,8 @@
 -- What a call of the program comes to.
-use Rattle.std.specs.Prelude.{◌≡◌, ℕ, ◌≤◌, List, length, codes}
+use Rattle.std.specs.Prelude.{◌≡◌, ℕ, ◌≤◌, List, [], ◌∷◌, length, codes, decimal}
+use Rattle.text_tokens.specs.declared.refusal.Refusal.{Refusal}
+use Rattle.text_tokens.specs.declared.refusal.RefusalKind.TheVariants as kind
+use Rattle.text_tokens.specs.Kinds.{name}
 use Rattle.amoebot_state.specs.declared.bot.Port.{Port}
 use Rattle.amoebot_state.specs.Configs.{Config}
 use Rattle.amoebot_state.specs.Moves.{expansion_verdict_shown}
@@ -7,7 +10,7 @@ use Rattle.amoebot_run.specs.declared.report.Report.{Report}
 use Rattle.amoebot_run.specs.Documents.{IsRunDocument}
 use Rattle.amoebot_run.specs.Good.{Good}
 use Rattle.amoebot_run.specs.SerialRuns.{SerialRun, all_turns, left_by}
-use Rattle.amoebot_run.specs.Texts.{report_text}
+use Rattle.amoebot_run.specs.Texts.{line_text, report_text}
 use Rattle.amoebot_run.specs.Turns.{CallerLists}
 
 -- the report is one of a run of the program, from the world at the start, of the lists: it is good, and it is what the turns of
@@ -29,24 +32,35 @@ pub record IsRunOfDocument (bytes : List ℕ) (report : Report) : Type 0 where
 abbrev pub IsNoDocument : List ℕ → Type 0
 IsNoDocument bytes = (port : Port) (start : Config) (lists : CallerLists) → IsRunDocument bytes port start lists → ⊥
 
+-- so a document has one text
+abbrev pub TextIsDetermined : Type 0
+TextIsDetermined = (bytes : List ℕ) (one two : Report) → IsRunOfDocument bytes one → IsRunOfDocument bytes two → report_text one ≡ report_text two
+
+-- the lines of the other answers
 abbrev pub usage_line : List ℕ
 usage_line = codes "usage: run / interleave / replay / check / measure / show NAME / sample NUMBER\n"
 
 abbrev pub read_fault_line : List ℕ
 read_fault_line = codes "read fault\n"
 
-abbrev pub too_long_line : List ℕ
-too_long_line = codes "refused 0 TooLong\n"
+-- the refusal of a document with more bytes than the limit
+abbrev pub refused_too_long : Refusal
+refused_too_long = record { line = 0; kind = kind.TooLong }
 
-abbrev pub not_yet_line : List ℕ
-not_yet_line = codes "refused 0 NotYet\n"
+-- the refusal of bytes that are no document
+abbrev pub refused_not_yet : Refusal
+refused_not_yet = record { line = 0; kind = kind.NotYet }
 
--- the text or the line that a call has to write: the usage line where the words are no command; that of a fault where a read
--- failed; that of a refusal, where more bytes than the limit were got, or where the whole input is no document; or the text of a
--- run of the whole input
+-- the line of a refusal: its line and the name of its kind
+abbrev pub refusal_line : Refusal → List ℕ
+refusal_line r = line_text (codes "refused" ∷ decimal r.line ∷ name r.kind ∷ [])
+
+-- the text or the line that a call has to write: the usage line where the words are no command; and where they are, that of a fault
+-- where a read failed, that of a refusal where more bytes than the limit were got or where the whole input is no document, or the
+-- text of a run of the whole input
 pub data IsOwed (Command ReadFailed : Type 0) (Got Whole : List ℕ → Type 0) : List ℕ → Type 0 where
   usage : (Command → ⊥) → IsOwed Command ReadFailed Got Whole usage_line
-  read_fault : ReadFailed → IsOwed Command ReadFailed Got Whole read_fault_line
-  too_long : (got : List ℕ) → Got got → length got ≡ 1048577 → IsOwed Command ReadFailed Got Whole too_long_line
-  not_yet : (bytes : List ℕ) → Whole bytes → IsNoDocument bytes → IsOwed Command ReadFailed Got Whole not_yet_line
-  run : (bytes : List ℕ) (report : Report) → Whole bytes → IsRunOfDocument bytes report → IsOwed Command ReadFailed Got Whole (report_text report)
+  read_fault : Command → ReadFailed → IsOwed Command ReadFailed Got Whole read_fault_line
+  too_long : Command → (got : List ℕ) → Got got → length got ≡ 1048577 → IsOwed Command ReadFailed Got Whole (refusal_line refused_too_long)
+  not_yet : Command → (bytes : List ℕ) → Whole bytes → IsNoDocument bytes → IsOwed Command ReadFailed Got Whole (refusal_line refused_not_yet)
+  run : Command → (bytes : List ℕ) (report : Report) → Whole bytes → IsRunOfDocument bytes report → IsOwed Command ReadFailed Got Whole (report_text report)

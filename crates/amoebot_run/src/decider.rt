@@ -1,6 +1,9 @@
 ghost use Rattle.std.specs.Prelude.{◌≡◌};
 
-use amoebot_state::{Cell, CellName, Change, Decider, Failure, Found, Moved, Patch, Port, Verdict};
+use amoebot_state::{
+    Cell, CellName, Change, Decider, Failure, Found, Moved, Patch, Port, Verdict,
+    expansion_changes, port_leads_beside,
+};
 
 /// The program of one action, whose guard is that the amoebot is contracted and which expands it into the node behind a port.
 #[derive(Drop)]
@@ -15,6 +18,8 @@ impl Decider for FirstAction {
     ghost verdict = { λ d. expansion_verdict_shown d.port };
 
     fn decide(&self, found: &Found) -> Verdict {
+        port_leads_beside();
+        expansion_changes();
         let own = *found.own();
         if !own.is_contracted() {
             return Verdict::Idle;

@@ -18,7 +18,7 @@ ghost use Rattle.amoebot_run.specs.declared.document.Unread.TheVariants as unrea
 use crate::lists::Lists;
 use amoebot_state::{Bot, Chir, End, NoMemory, Port, World, WorldRefusal};
 use std::alloc::{AllocFailed, Global};
-use text_tokens::{TokenKind, Tokens};
+use text_tokens::{TokenKind, Tokens, tokens_are_cut, tokens_are_one};
 use tri_lattice::{Area, Node};
 
 /// What a document asks for: the port of its one action, the world at the start, and the lists.
@@ -139,6 +139,7 @@ pub fn read_run(alloc: Global, bytes: &[u8]) -> Result<Run, Unread>
     ensures bots { IfOk result (λ r. HaveBots (length r.world.bots) r.lists) }
     ensures one { IfOk result (λ r. length r.lists.ids ≤ 1) }
 {
+    tokens_are_one();
     let mut tokens = Tokens::new(bytes);
     let parts = read_parts(alloc, &mut tokens)?;
     if !is_over(&tokens) {
@@ -150,12 +151,17 @@ pub fn read_run(alloc: Global, bytes: &[u8]) -> Result<Run, Unread>
 /// A text is a document in one way at most.
 pub fn document_is_one()
     ensures { DocumentIsOne }
-{}
+{
+    tokens_are_one();
+}
 
 /// A document with what it asks for, and near ones that are none.
 pub fn small_documents()
     ensures { SmallDocuments }
-{}
+{
+    tokens_are_one();
+    tokens_are_cut();
+}
 
 /// The run of a document with these parts. It is no document where its amoebots break a rule of worlds.
 fn start(alloc: Global, parts: Parts) -> Result<Run, Unread>

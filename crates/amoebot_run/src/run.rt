@@ -4,7 +4,7 @@ ghost use Rattle.std.specs.Io.KnownBytes.{Consumes, IsAtEnd};
 ghost use Rattle.outer_io.specs.Kept.{written_of};
 ghost use Rattle.outer_io.specs.Told.{Rose, Grows, GrowsByFront};
 ghost use Rattle.amoebot_run.specs.Commands.{IsRun, status_number};
-ghost use Rattle.amoebot_run.specs.Headline.{IsRunOfDocument, IsNoDocument, IsOwed, usage_line, read_fault_line, too_long_line, not_yet_line};
+ghost use Rattle.amoebot_run.specs.Headline.{IsRunOfDocument, IsNoDocument, IsOwed, usage_line, read_fault_line, refused_too_long, refused_not_yet, refusal_line, TextIsDetermined};
 ghost use Rattle.amoebot_run.specs.Documents.{IsRunDocument};
 ghost use Rattle.amoebot_run.specs.Turns.{CallerLists};
 ghost use Rattle.amoebot_state.specs.Configs.{Config};
@@ -12,10 +12,10 @@ ghost use Rattle.amoebot_state.specs.declared.bot.Port.{Port as PortValue};
 ghost use Rattle.amoebot_run.specs.Texts.{report_text};
 
 use crate::decider::FirstAction;
-use crate::document::{Unread, read_run};
+use crate::document::{Unread, document_is_one, read_run};
 use crate::gate::{Gate, NoGate};
 use crate::report::Report;
-use crate::serial::run_serially;
+use crate::serial::{run_serially, serial_run_is_determined};
 use crate::texts::{Text, print_report};
 use amoebot_state::NoMemory;
 use outer_io::{
@@ -123,14 +123,13 @@ pub fn run<R: Threads + Wait + Sync, S: Source, K: Sink, G: Gate>(
     ensures usage { result.status ≡ Status.Words → Grows (K.written out.old) (K.written out.new) usage_line }
 
     // A document is refused for one of two reasons, with the bytes that show it.
-    ensures refused { (refusal : Refusal) → result.status ≡ Status.Refused refusal → (refusal ≡ TOO_LONG) ⊎ (refusal ≡ NOT_YET) }
-    ensures too_long { result.status ≡ Status.Refused TOO_LONG → (got : List ℕ)
+    ensures refused { (refusal : Refusal) → result.status ≡ Status.Refused refusal → (refusal ≡ refused_too_long) ⊎ (refusal ≡ refused_not_yet) }
+    ensures too_long { result.status ≡ Status.Refused refused_too_long → (got : List ℕ)
         × Consumes (S.left input.old) (S.left input.new) got × (length got ≡ 1048577) }
-    ensures too_long_line { result.status ≡ Status.Refused TOO_LONG → Grows (K.written out.old) (K.written out.new) too_long_line }
-    ensures not_yet { result.status ≡ Status.Refused NOT_YET → (document : List ℕ)
+    ensures not_yet { result.status ≡ Status.Refused refused_not_yet → (document : List ℕ)
         × Consumes (S.left input.old) (S.left input.new) document × IsAtEnd (S.left input.new) × (length document ≤ 1048576)
         × IsNoDocument document }
-    ensures not_yet_line { result.status ≡ Status.Refused NOT_YET → Grows (K.written out.old) (K.written out.new) not_yet_line }
+    ensures refusal_line { (refusal : Refusal) → result.status ≡ Status.Refused refusal → Grows (K.written out.old) (K.written out.new) (refusal_line refusal) }
 
     // A fault is that of the object that was handed in.
     ensures read_fault { result.status ≡ Status.ReadFault → Rose (S.faults input.old) (S.faults input.new) }
@@ -228,6 +227,14 @@ fn is_run(words: &[String]) -> bool
     }
 }
 
+/// The text of a run is determined by the document.
+pub fn text_is_determined()
+    ensures { TextIsDetermined }
+{
+    document_is_one();
+    serial_run_is_determined();
+}
+
 /// `run` over bytes in memory and without a gate. Where no memory is left for a copy of the bytes, that is its status, whatever the
 /// words are.
 pub fn run_text<R: Threads + Wait + Sync>(
@@ -250,11 +257,10 @@ pub fn run_text<R: Threads + Wait + Sync>(
     ensures usage { result.status ≡ Status.Words → Grows (written_of out.old) (written_of out.new) usage_line }
 
     // A document is refused for one of two reasons.
-    ensures refused { (refusal : Refusal) → result.status ≡ Status.Refused refusal → (refusal ≡ TOO_LONG) ⊎ (refusal ≡ NOT_YET) }
-    ensures too_long { result.status ≡ Status.Refused TOO_LONG → 1048576 < length bytes.now }
-    ensures too_long_line { result.status ≡ Status.Refused TOO_LONG → Grows (written_of out.old) (written_of out.new) too_long_line }
-    ensures not_yet { result.status ≡ Status.Refused NOT_YET → (length bytes.now ≤ 1048576) × IsNoDocument bytes.now }
-    ensures not_yet_line { result.status ≡ Status.Refused NOT_YET → Grows (written_of out.old) (written_of out.new) not_yet_line }
+    ensures refused { (refusal : Refusal) → result.status ≡ Status.Refused refusal → (refusal ≡ refused_too_long) ⊎ (refusal ≡ refused_not_yet) }
+    ensures too_long { result.status ≡ Status.Refused refused_too_long → 1048576 < length bytes.now }
+    ensures not_yet { result.status ≡ Status.Refused refused_not_yet → (length bytes.now ≤ 1048576) × IsNoDocument bytes.now }
+    ensures refusal_line { (refusal : Refusal) → result.status ≡ Status.Refused refusal → Grows (written_of out.old) (written_of out.new) (refusal_line refusal) }
 
     // Bytes in memory have no faults.
     ensures no_read_fault { result.status ≢ Status.ReadFault }

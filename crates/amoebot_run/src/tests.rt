@@ -2,7 +2,7 @@ ghost use Rattle.std.specs.Prelude.{ℕ, List};
 ghost use Rattle.std.specs.declared.option.Option.{Option};
 
 use crate::gate::NoGate;
-use crate::run::{Ended, run, run_text};
+use crate::run::{Ended, Status, run, run_text};
 use crate::texts::{print_journal, print_shape, print_turns};
 use arrayvec::ArrayVec;
 use outer_io::{Failed, Sink, Source, SureSink};
@@ -11,6 +11,7 @@ use std::process::Abort;
 use std::sync::Wait;
 use std::test::Fail;
 use std::thread::Threads;
+use text_tokens::{Refusal, RefusalKind};
 
 /// The parts of a document that the tests change. The document is one line.
 #[derive(Clone, Copy)]
@@ -31,6 +32,16 @@ const EXPANDS: Parts<'static> = Parts {
     rest: "",
 };
 
+const NOT_YET: Status = Status::Refused(Refusal {
+    line: 0,
+    kind: RefusalKind::NotYet,
+});
+
+const TOO_LONG: Status = Status::Refused(Refusal {
+    line: 0,
+    kind: RefusalKind::TooLong,
+});
+
 fn document(alloc: Global, parts: Parts<'_>) -> Result<String, AllocError> {
     format!(in alloc;
         "amoebot {} program action {} end shape {} end lists {} end{}",
@@ -46,12 +57,12 @@ fn words(alloc: Global, texts: &[&str]) -> Result<Vec<String>, AllocError> {
     Ok(words)
 }
 
-/// Runs the document, and compares the status and the text. A report is there exactly where the status is 0.
+/// Runs the document, and compares the status and the text. A report is there exactly where the status is Done.
 fn check<R: Abort + Threads + Wait + Sync>(
     rt: &R,
     alloc: Global,
     document: &[u8],
-    status: u8,
+    status: Status,
     text: &str,
 ) -> Result<Ended, AllocError> {
     let words = words(alloc, &["run"])?;
@@ -61,8 +72,8 @@ fn check<R: Abort + Threads + Wait + Sync>(
     let ended = run_text(rt, alloc, words.as_slice(), document, &mut out);
     assert_eq!(rt; out.bytes(), text.as_bytes());
     assert!(rt; out.whole());
-    assert_eq!(rt; ended.status.number(), status);
-    assert_eq!(rt; ended.report.is_some(), status == 0);
+    assert_eq!(rt; ended.status, status);
+    assert_eq!(rt; ended.report.is_some(), status == Status::Done);
     Ok(ended)
 }
 
@@ -73,7 +84,7 @@ fn check_parts<R: Abort + Threads + Wait + Sync>(
     text: &str,
 ) -> Result<(), AllocError> {
     let document = document(alloc, parts)?;
-    check(rt, alloc, document.as_bytes(), 0, text)?;
+    check(rt, alloc, document.as_bytes(), Status::Done, text)?;
     Ok(())
 }
 
@@ -113,7 +124,7 @@ fn expands_and_writes_what_happened(rt: HostRuntime) -> Result<(), Fail> {
         &rt,
         rt.alloc(),
         document.as_bytes(),
-        0,
+        Status::Done,
         "journal\nentry 0 0 0 0 0 expand head 0 spot 3 3 0 body 0 3 3 2 3 0 +\nend\n\
          final\narea 0 0 8 8\nbot 3 3 2 3 0 +\nend\n\
          turns\nturn 0 0 done 0\nturn 0 1 idle 1\nend\n",
@@ -239,6 +250,7 @@ fn refuses_what_is_no_document(rt: HostRuntime) -> Result<(), Fail> {
         "area 0 0 8 8 bot 10000 3 2 3 0 +",
         "area 0 0 8 8 bot 9 3 9 3 0 +",
         "area 0 0 8 8 bot 2 3 4 3 0 +",
+        "area 0 0 8 8 bot 2 3 2 3 0 + bot 2 3 2 3 0 +",
         "area 0 0 8 8 bot 2 3 2 3 0 + bot 3 3 2 3 0 +",
         "area 0 0 8 8 bot 2 3 2 3 0 + 0",
     ];
@@ -255,7 +267,7 @@ fn refuses_what_is_no_document(rt: HostRuntime) -> Result<(), Fail> {
     for lists in lists {
         refuse_parts(&rt, rt.alloc(), Parts { lists, ..EXPANDS })?;
     }
-    for rest in [" more", " $", ":"] {
+    for rest in ["\nmore\n", " $", ":"] {
         refuse_parts(&rt, rt.alloc(), Parts { rest, ..EXPANDS })?;
     }
     refuse_parts(
@@ -266,10 +278,10 @@ fn refuses_what_is_no_document(rt: HostRuntime) -> Result<(), Fail> {
             ..EXPANDS
         },
     )?;
-    check(&rt, rt.alloc(), b"", 3, "refused 0 NotYet\n")?;
+    check(&rt, rt.alloc(), b"", NOT_YET, "refused 0 NotYet\n")?;
     let cut =
         b"amoebot 1\nprogram\naction out when contracted move expand head 0\nend\nshape\narea 0 0 8 8\nbot 2 3";
-    check(&rt, rt.alloc(), cut, 3, "refused 0 NotYet\n")?;
+    check(&rt, rt.alloc(), cut, NOT_YET, "refused 0 NotYet\n")?;
     Ok(())
 }
 
@@ -279,16 +291,34 @@ fn refuse_parts<R: Abort + Threads + Wait + Sync>(
     parts: Parts<'_>,
 ) -> Result<(), AllocError> {
     let document = document(alloc, parts)?;
-    check(rt, alloc, document.as_bytes(), 3, "refused 0 NotYet\n")?;
+    check(
+        rt,
+        alloc,
+        document.as_bytes(),
+        NOT_YET,
+        "refused 0 NotYet\n",
+    )?;
     Ok(())
 }
 
 #[test]
 fn looks_at_no_document_above_the_limit(rt: HostRuntime) -> Result<(), Fail> {
     let mut blanks = vec![in rt.alloc(); b' '; 1_048_576]?;
-    check(&rt, rt.alloc(), blanks.as_slice(), 3, "refused 0 NotYet\n")?;
+    check(
+        &rt,
+        rt.alloc(),
+        blanks.as_slice(),
+        NOT_YET,
+        "refused 0 NotYet\n",
+    )?;
     blanks.push(b' ')?;
-    check(&rt, rt.alloc(), blanks.as_slice(), 3, "refused 0 TooLong\n")?;
+    check(
+        &rt,
+        rt.alloc(),
+        blanks.as_slice(),
+        TOO_LONG,
+        "refused 0 TooLong\n",
+    )?;
     Ok(())
 }
 
@@ -347,7 +377,7 @@ impl Sink for FailingSink {
 #[test]
 fn judges_the_words_before_it_reads(rt: HostRuntime) -> Result<(), Fail> {
     let usage = "usage: run / interleave / replay / check / measure / show NAME / sample NUMBER\n";
-    let wrong: [&[&str]; 4] = [&["run", "now"], &[], &["-1"], &["Run"]];
+    let wrong: [&[&str]; 4] = [&["run", "now"], &[], &["sample", "-1"], &["Run"]];
     for texts in wrong {
         let words = words(rt.alloc(), texts)?;
         let mut input = FailingSource { good: 0, faults: 0 };
@@ -360,7 +390,7 @@ fn judges_the_words_before_it_reads(rt: HostRuntime) -> Result<(), Fail> {
             &mut out,
             &NoGate,
         );
-        assert_eq!(rt; ended.status.number(), 2);
+        assert_eq!(rt; ended.status, Status::Words);
         assert!(rt; ended.report.is_none());
         assert_eq!(rt; out.bytes(), usage.as_bytes());
         assert!(rt; out.whole());
@@ -383,7 +413,7 @@ fn answers_a_read_that_fails(rt: HostRuntime) -> Result<(), Fail> {
             &mut out,
             &NoGate,
         );
-        assert_eq!(rt; ended.status.number(), 4);
+        assert_eq!(rt; ended.status, Status::ReadFault);
         assert!(rt; ended.report.is_none());
         assert_eq!(rt; out.bytes(), b"read fault\n".as_slice());
         assert!(rt; out.whole());
@@ -417,9 +447,26 @@ fn answers_a_write_that_fails(rt: HostRuntime) -> Result<(), Fail> {
             &mut out,
             &NoGate,
         );
-        assert_eq!(rt; ended.status.number(), 5);
+        assert_eq!(rt; ended.status, Status::WriteFault);
         assert!(rt; ended.report.is_none());
         assert_eq!(rt; out.taken.as_slice(), taken.as_bytes());
+    }
+    Ok(())
+}
+
+#[test]
+fn each_status_has_its_number(rt: HostRuntime) -> Result<(), Fail> {
+    let numbers = [
+        (Status::Done, 0),
+        (Status::Words, 2),
+        (NOT_YET, 3),
+        (TOO_LONG, 3),
+        (Status::ReadFault, 4),
+        (Status::WriteFault, 5),
+        (Status::NoMemory, 6),
+    ];
+    for (status, number) in numbers {
+        assert_eq!(rt; status.number(), number);
     }
     Ok(())
 }

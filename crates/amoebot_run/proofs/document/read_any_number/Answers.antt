@@ -1,8 +1,7 @@
-use Rattle.std.proofs.Common.{◌≡◌, ℕ, List, Some, None, refl, sym, ap, subst, ◌∙◌, true, false}
+use Rattle.std.proofs.Common.{◌≡◌, ℕ, List, Some, None, refl, sym, ap, ◌∙◌, true, false}
 use Rattle.text_tokens.specs.declared.token.TokenKind.TheVariants.{Number}
-use Rattle.text_tokens.specs.Cursor.{Cursor, IsNumber, is_kind, slice, value_of}
+use Rattle.text_tokens.specs.Cursor.{Cursor, is_kind, slice, value_of}
 use Rattle.text_tokens.specs.Text.{Lexeme}
-use Rattle.text_tokens.proofs.Stepping.{is_number_of, kind_taken}
 use Rattle.amoebot_run.specs.Documents.{number_if}
 use Rattle.amoebot_run.proofs.Taking.{always, took, missed}
 use Rattle.amoebot_run.proofs.document.read_any_number.Goals as goal
@@ -12,9 +11,6 @@ some_number t text n k e v = rw (k, v, e) refl
 
 no_number : (t : Lexeme) → is_kind Number t ≡ false → number_if always t ≡ None
 no_number t k = rw k refl
-
-pub number-requires : goal.number-requires
-number-requires c = subst (λ (source : List ℕ). IsNumber source c.in-Ok.token) (sym (ap (λ (t : Cursor). t.source) c.in-Ok.ensures.moves)) (is_number_of c.args.tokens.now c.in-Ok.token c.in-Ok.ensures.spells (kind_taken Number c.args.tokens.now c.in-Ok.token (sym c.take_kind.ensures.answer ∙ c.in-Ok.is)))
 
 pub returns-in-Ok : goal.returns-in-Ok
 returns-in-Ok c =

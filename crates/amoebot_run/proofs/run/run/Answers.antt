@@ -1,10 +1,11 @@
-use Rattle.std.proofs.Common.{ap, subst, ◌∙◌, Err, inl, inr, length}
+use Rattle.std.proofs.Common.{ap, sym, subst, refl, ◌∙◌, Err, inl, inr, length}
 use Rattle.std.proofs.lemmas.Bool.{false≢true}
-use Rattle.outer_io.specs.Told.{GrowsByFront}
+use Rattle.outer_io.specs.Told.{Grows, GrowsByFront}
 use Rattle.outer_io.specs.Refused.{IsGotAt}
 use Rattle.amoebot_run.specs.declared.run.Ended.{Ended}
-use Rattle.amoebot_run.specs.Headline.{IsNoDocument, IsRunOfDocument, usage, read_fault, too_long, not_yet, run}
+use Rattle.amoebot_run.specs.Headline.{IsNoDocument, IsRunOfDocument, refusal_line, refused_too_long, refused_not_yet, usage, read_fault, too_long, not_yet, run}
 use Rattle.amoebot_run.proofs.Fronts.{whole_is}
+use Rattle.amoebot_run.proofs.RefusalLines.{too_long_line, not_yet_line, same_refusal, not_refused}
 use Rattle.amoebot_run.proofs.run.run.Goals as goal
 
 pub returns-in-Err-NotYet-clause-not_yet : goal.returns-in-Err-NotYet-clause-not_yet
@@ -19,7 +20,7 @@ returns-then-not-is_run-clause-front g c = λ e. elim c.end_with_line.ensures [
 pub returns-in-Err-ReadFault-clause-front : goal.returns-in-Err-ReadFault-clause-front
 returns-in-Err-ReadFault-clause-front g c = λ e. elim c.end_with_line-in-Err-ReadFault.ensures [
   | inl x ↦ let f = ap (λ (r : Ended). r.status) x.0 in absurd (cc)
-  | inr y ↦ (_, read_fault (c.in-Err-ReadFault.ensures.fault (ap Err c.in-Err-ReadFault.field-0-is)), y.2)
+  | inr y ↦ (_, read_fault (c.if-not-is_run.ensures.0 refl) (c.in-Err-ReadFault.ensures.fault (ap Err c.in-Err-ReadFault.field-0-is)), y.2)
 ]
 
 pub returns-in-Err-TooLong-clause-front : goal.returns-in-Err-TooLong-clause-front
@@ -27,13 +28,13 @@ returns-in-Err-TooLong-clause-front g c = λ e. elim c.end_with_line-in-Err-TooL
   | inl x ↦ let f = ap (λ (r : Ended). r.status) x.0 in absurd (cc)
   | inr y ↦
       let got = c.in-Err-TooLong.ensures.refused in
-      (_, too_long got.0 got.1 (subst (λ w. IsGotAt 1048576 w (length got.0)) c.in-Err-TooLong.field-0-is got.2), y.2)
+      (_, too_long (c.if-not-is_run.ensures.0 refl) got.0 got.1 (subst (λ w. IsGotAt 1048576 w (length got.0)) c.in-Err-TooLong.field-0-is got.2), subst (GrowsByFront (g.K.Sink.written c.args.out.now) (g.K.Sink.written c.end_with_line-in-Err-TooLong.new.out)) too_long_line y.2)
 ]
 
 pub returns-in-Ok-run_document-clause-front : goal.returns-in-Ok-run_document-clause-front
 returns-in-Ok-run_document-clause-front g c = λ e. (
   _,
-  run c.in-Ok.document c.in-Ok-run_document.report (c.in-Ok.ensures.all, c.in-Ok.ensures.end, c.in-Ok.ensures.within) (subst (λ bytes. IsRunOfDocument bytes c.in-Ok-run_document.report) c.bytes.ensures c.in-Ok-run_document.ensures.run),
+  run (c.if-not-is_run.ensures.0 refl) c.in-Ok.document c.in-Ok-run_document.report (c.in-Ok.ensures.all, c.in-Ok.ensures.end, c.in-Ok.ensures.within) (subst (λ bytes. IsRunOfDocument bytes c.in-Ok-run_document.report) c.bytes.ensures c.in-Ok-run_document.ensures.run),
   subst (λ text. GrowsByFront (g.K.Sink.written c.args.out.now) (g.K.Sink.written c.write_all.new.sink) text) (c.bytes-in-Ok-run_document.ensures ∙ c.in-Ok-run_document.ensures.text) c.in-Err.ensures.front,
 )
 
@@ -42,8 +43,8 @@ returns-in-Err-NotYet-clause-front g c = λ e. elim c.end_with_line-in-Err-NotYe
   | inl x ↦ let f = ap (λ (r : Ended). r.status) x.0 in absurd (cc)
   | inr y ↦ (
     _,
-    not_yet c.in-Ok.document (c.in-Ok.ensures.all, c.in-Ok.ensures.end, c.in-Ok.ensures.within) (subst IsNoDocument c.bytes.ensures (c.run_document.ensures.none (c.in-Err-NotYet.is ∙ ap Err c.in-Err-NotYet.field-0-is))),
-    y.2,
+    not_yet (c.if-not-is_run.ensures.0 refl) c.in-Ok.document (c.in-Ok.ensures.all, c.in-Ok.ensures.end, c.in-Ok.ensures.within) (subst IsNoDocument c.bytes.ensures (c.run_document.ensures.none (c.in-Err-NotYet.is ∙ ap Err c.in-Err-NotYet.field-0-is))),
+    subst (GrowsByFront (g.K.Sink.written c.args.out.now) (g.K.Sink.written c.end_with_line-in-Err-NotYet.new.out)) not_yet_line y.2,
   )
 ]
 
@@ -51,3 +52,15 @@ pub returns-in-Err-NotYet-clause-complete : goal.returns-in-Err-NotYet-clause-co
 returns-in-Err-NotYet-clause-complete g c = λ command document port start lists left few is.
     let same = whole_is _ _ document c.in-Ok.document left c.in-Ok.ensures.all c.in-Ok.ensures.end in
     absurd (subst IsNoDocument same (subst IsNoDocument c.bytes.ensures (c.run_document.ensures.none (c.in-Err-NotYet.is ∙ ap Err c.in-Err-NotYet.field-0-is))) port start lists is)
+
+pub returns-in-Err-TooLong-clause-refusal_line : goal.returns-in-Err-TooLong-clause-refusal_line
+returns-in-Err-TooLong-clause-refusal_line g c = λ refusal e. elim c.end_with_line-in-Err-TooLong.ensures [
+  | inl x ↦ subst (Grows (g.K.Sink.written c.args.out.now) (g.K.Sink.written c.end_with_line-in-Err-TooLong.new.out)) (too_long_line ∙ ap refusal_line (same_refusal refused_too_long refusal (sym (ap (λ (r : Ended). r.status) x.0) ∙ e))) x.1
+  | inr y ↦ absurd (not_refused refusal (sym (ap (λ (r : Ended). r.status) y.0) ∙ e))
+]
+
+pub returns-in-Err-NotYet-clause-refusal_line : goal.returns-in-Err-NotYet-clause-refusal_line
+returns-in-Err-NotYet-clause-refusal_line g c = λ refusal e. elim c.end_with_line-in-Err-NotYet.ensures [
+  | inl x ↦ subst (Grows (g.K.Sink.written c.args.out.now) (g.K.Sink.written c.end_with_line-in-Err-NotYet.new.out)) (not_yet_line ∙ ap refusal_line (same_refusal refused_not_yet refusal (sym (ap (λ (r : Ended). r.status) x.0) ∙ e))) x.1
+  | inr y ↦ absurd (not_refused refusal (sym (ap (λ (r : Ended). r.status) y.0) ∙ e))
+]
