@@ -10,6 +10,7 @@ ghost use Rattle.amoebot_run.specs.Turns.{CallerLists};
 ghost use Rattle.amoebot_state.specs.Configs.{Config};
 ghost use Rattle.amoebot_state.specs.declared.bot.Port.{Port as PortValue};
 ghost use Rattle.amoebot_run.specs.Texts.{report_text};
+ghost use Rattle.amoebot_run.specs.declared.report.Report.{Report as ReportValue};
 
 use crate::decider::FirstAction;
 use crate::document::{Unread, document_is_one, read_run};
@@ -116,6 +117,11 @@ pub fn run<R: Threads + Wait + Sync, S: Source, K: Sink, G: Gate>(
         × Grows (K.written out.old) (K.written out.new) (report_text report)) }
     ensures done { result.status ≡ Status.Done → IsRun (map string_bytes words.now) }
 
+    // So a document whose bytes are told has one text.
+    ensures determined { IfSome result.report (λ _. (document : List ℕ) (other : ReportValue)
+        → S.left input.old ≡ Some document → IsRunOfDocument document other
+        → Grows (K.written out.old) (K.written out.new) (report_text other)) }
+
     // Where the words are no command, nothing is read, and only a write that fails hides that.
     ensures words { result.status ≡ Status.Words → ¬ IsRun (map string_bytes words.now) }
     ensures unread { ¬ IsRun (map string_bytes words.now) → input.new ≡ input.old }
@@ -150,6 +156,7 @@ pub fn run<R: Threads + Wait + Sync, S: Source, K: Sink, G: Gate>(
         → S.left input.old ≡ Some document → length document ≤ 1048576 → IsRunDocument document port start lists
         → (result.status ≡ Status.Done) ⊎ ((result.status ≡ Status.NoMemory) ⊎ ((result.status ≡ Status.ReadFault) ⊎ (result.status ≡ Status.WriteFault))) }
 {
+    text_is_determined();
     if !is_run(words) {
         return end_with_line(out, USAGE, Status::Words);
     }
@@ -251,6 +258,8 @@ pub fn run_text<R: Threads + Wait + Sync>(
         × IsRunOfDocument bytes.now report
         × Grows (written_of out.old) (written_of out.new) (report_text report)) }
     ensures done { result.status ≡ Status.Done → IsRun (map string_bytes words.now) }
+    ensures determined { IfSome result.report (λ _. (other : ReportValue) → IsRunOfDocument bytes.now other
+        → Grows (written_of out.old) (written_of out.new) (report_text other)) }
 
     ensures words { result.status ≡ Status.Words → ¬ IsRun (map string_bytes words.now) }
     ensures no_command { ¬ IsRun (map string_bytes words.now) → (result.status ≡ Status.Words) ⊎ (result.status ≡ Status.NoMemory) }

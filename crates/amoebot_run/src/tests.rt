@@ -13,7 +13,7 @@ use std::test::Fail;
 use std::thread::Threads;
 use text_tokens::{Refusal, RefusalKind};
 
-/// The parts of a document that the tests change. The document is one line.
+/// The parts of a document that the tests change.
 #[derive(Clone, Copy)]
 struct Parts<'a> {
     version: &'a str,
@@ -27,9 +27,9 @@ struct Parts<'a> {
 const EXPANDS: Parts<'static> = Parts {
     version: "1",
     action: "out when contracted move expand head 0",
-    shape: "area 0 0 8 8 bot 2 3 2 3 0 +",
-    lists: "turns 2 list 0",
-    rest: "",
+    shape: "area 0 0 8 8\nbot 2 3 2 3 0 +",
+    lists: "turns 2\nlist 0",
+    rest: "\n",
 };
 
 const NOT_YET: Status = Status::Refused(Refusal {
@@ -44,7 +44,7 @@ const TOO_LONG: Status = Status::Refused(Refusal {
 
 fn document(alloc: Global, parts: Parts<'_>) -> Result<String, AllocError> {
     format!(in alloc;
-        "amoebot {} program action {} end shape {} end lists {} end{}",
+        "amoebot {}\nprogram\naction {}\nend\nshape\n{}\nend\nlists\n{}\nend{}",
         parts.version, parts.action, parts.shape, parts.lists, parts.rest
     )
 }
@@ -129,6 +129,18 @@ fn expands_and_writes_what_happened(rt: HostRuntime) -> Result<(), Fail> {
          final\narea 0 0 8 8\nbot 3 3 2 3 0 +\nend\n\
          turns\nturn 0 0 done 0\nturn 0 1 idle 1\nend\n",
     )?;
+    let one_line =
+        "amoebot 1 program action out when contracted move expand head 0 end shape area 0 0 8 8 bot 2 3 2 3 0 + \
+                    end lists turns 2 list 0 end";
+    check(
+        &rt,
+        rt.alloc(),
+        one_line.as_bytes(),
+        Status::Done,
+        "journal\nentry 0 0 0 0 0 expand head 0 spot 3 3 0 body 0 3 3 2 3 0 +\nend\n\
+         final\narea 0 0 8 8\nbot 3 3 2 3 0 +\nend\n\
+         turns\nturn 0 0 done 0\nturn 0 1 idle 1\nend\n",
+    )?;
     let report = ended.report.ok_or("no report")?;
     assert_eq!(rt; report.journal.first().bots(), 1);
     assert_eq!(rt; report.journal.entries().len(), 1);
@@ -146,8 +158,8 @@ fn expands_and_writes_what_happened(rt: HostRuntime) -> Result<(), Fail> {
         rt.alloc(),
         Parts {
             action: "a when contracted move expand head 1",
-            shape: "area 0 0 8 8 bot 2 3 2 3 5 -",
-            lists: "turns 1 list 0",
+            shape: "area 0 0 8 8\nbot 2 3 2 3 5 -",
+            lists: "turns 1\nlist 0",
             ..EXPANDS
         },
         "journal\nentry 0 0 0 0 0 expand head 1 spot 2 2 0 body 0 2 2 2 3 5 -\nend\n\
@@ -160,8 +172,8 @@ fn expands_and_writes_what_happened(rt: HostRuntime) -> Result<(), Fail> {
         Parts {
             version: "000000001#\u{e9}\n\t",
             action: "a23456789012345678901234 when contracted move expand head 0",
-            shape: "area - 5 -7 4 6 bot -4 -003 -4 -3 0+",
-            lists: "turns 1 list 0",
+            shape: "area - 5 -7 4 6\nbot -4 -003 -4 -3 0+",
+            lists: "turns 1\nlist 0",
             rest: "# the last line",
             ..EXPANDS
         },
@@ -178,8 +190,8 @@ fn says_why_nothing_happened(rt: HostRuntime) -> Result<(), Fail> {
         &rt,
         rt.alloc(),
         Parts {
-            shape: "area 0 0 8 8 bot 7 3 7 3 0 +",
-            lists: "turns 1 list 0",
+            shape: "area 0 0 8 8\nbot 7 3 7 3 0 +",
+            lists: "turns 1\nlist 0",
             ..EXPANDS
         },
         "journal\nend\nfinal\narea 0 0 8 8\nbot 7 3 7 3 0 +\nend\nturns\nturn 0 0 failed edge 0\nend\n",
@@ -189,7 +201,7 @@ fn says_why_nothing_happened(rt: HostRuntime) -> Result<(), Fail> {
         rt.alloc(),
         Parts {
             action: "out when contracted move expand tail 0",
-            lists: "turns 1 list 0",
+            lists: "turns 1\nlist 0",
             ..EXPANDS
         },
         "journal\nend\nfinal\narea 0 0 8 8\nbot 2 3 2 3 0 +\nend\nturns\nturn 0 0 failed no_port 0\nend\n",
@@ -198,8 +210,8 @@ fn says_why_nothing_happened(rt: HostRuntime) -> Result<(), Fail> {
         &rt,
         rt.alloc(),
         Parts {
-            shape: "area 0 0 8 8 bot 2 3 2 3 0 + bot 3 3 3 3 3 +",
-            lists: "turns 2 list 0 1",
+            shape: "area 0 0 8 8\nbot 2 3 2 3 0 +\nbot 3 3 3 3 3 +",
+            lists: "turns 2\nlist 0 1",
             ..EXPANDS
         },
         "journal\nend\nfinal\narea 0 0 8 8\nbot 2 3 2 3 0 +\nbot 3 3 3 3 3 +\nend\n\
@@ -209,8 +221,8 @@ fn says_why_nothing_happened(rt: HostRuntime) -> Result<(), Fail> {
         &rt,
         rt.alloc(),
         Parts {
-            shape: "area 0 0 8 8 bot 3 3 2 3 0 +",
-            lists: "turns 1 list 0",
+            shape: "area 0 0 8 8\nbot 3 3 2 3 0 +",
+            lists: "turns 1\nlist 0",
             ..EXPANDS
         },
         "journal\nend\nfinal\narea 0 0 8 8\nbot 3 3 2 3 0 +\nend\nturns\nturn 0 0 idle 0\nend\n",
@@ -244,25 +256,25 @@ fn refuses_what_is_no_document(rt: HostRuntime) -> Result<(), Fail> {
         refuse_parts(&rt, rt.alloc(), Parts { action, ..EXPANDS })?;
     }
     let shapes = [
-        "area 0 0 129 8 bot 2 3 2 3 0 +",
-        "area 0 4097 8 8 bot 2 3 2 3 0 +",
-        "area 0 0 8 8 bot 2 3 2 3 6 +",
-        "area 0 0 8 8 bot 10000 3 2 3 0 +",
-        "area 0 0 8 8 bot 9 3 9 3 0 +",
-        "area 0 0 8 8 bot 2 3 4 3 0 +",
-        "area 0 0 8 8 bot 2 3 2 3 0 + bot 2 3 2 3 0 +",
-        "area 0 0 8 8 bot 2 3 2 3 0 + bot 3 3 2 3 0 +",
-        "area 0 0 8 8 bot 2 3 2 3 0 + 0",
+        "area 0 0 129 8\nbot 2 3 2 3 0 +",
+        "area 0 4097 8 8\nbot 2 3 2 3 0 +",
+        "area 0 0 8 8\nbot 2 3 2 3 6 +",
+        "area 0 0 8 8\nbot 10000 3 2 3 0 +",
+        "area 0 0 8 8\nbot 9 3 9 3 0 +",
+        "area 0 0 8 8\nbot 2 3 4 3 0 +",
+        "area 0 0 8 8\nbot 2 3 2 3 0 +\nbot 2 3 2 3 0 +",
+        "area 0 0 8 8\nbot 2 3 2 3 0 +\nbot 3 3 2 3 0 +",
+        "area 0 0 8 8\nbot 2 3 2 3 0 + 0",
     ];
     for shape in shapes {
         refuse_parts(&rt, rt.alloc(), Parts { shape, ..EXPANDS })?;
     }
     let lists = [
-        "turns 65537 list 0",
-        "turns 0000000002 list 0",
-        "turns 2 list",
-        "turns 2 list 1",
-        "turns 2 list 0 list 0",
+        "turns 65537\nlist 0",
+        "turns 0000000002\nlist 0",
+        "turns 2\nlist",
+        "turns 2\nlist 1",
+        "turns 2\nlist 0\nlist 0",
     ];
     for lists in lists {
         refuse_parts(&rt, rt.alloc(), Parts { lists, ..EXPANDS })?;

@@ -5,7 +5,7 @@ use crate::{
     Failed, ReadError, Sink, Source, StdSink, StdSource, SureSink, SureSource, WriteFault,
     read_document, write_all,
 };
-use std::io::{self, ErrorKind, Read};
+use std::io::{self, ErrorKind, Read, Write};
 use std::test::Fail;
 
 /// Gives at most three bytes a read.
@@ -43,19 +43,44 @@ impl Source for Endless {
     }
 }
 
-/// Gives one byte, and then fails.
+/// Gives one byte, fails once, and then ends.
 #[derive(Drop)]
 struct Torn {
-    is_read: bool,
+    reads: u32,
 }
 
 impl Read for Torn {
     fn read(&mut self, piece: &mut [u8]) -> io::Result<usize> {
-        if self.is_read {
-            return Err(io::Error::from(ErrorKind::Other));
+        self.reads = self.reads.saturating_add(1);
+        match self.reads {
+            1 => Ok(piece.len().min(1)),
+            2 => Err(io::Error::from(ErrorKind::Other)),
+            _ => Ok(0),
         }
-        self.is_read = true;
-        Ok(piece.len().min(1))
+    }
+}
+
+/// Takes two bytes, then none once, and then whatever it is given.
+#[derive(Drop)]
+struct Halting {
+    writes: u32,
+    taken: usize,
+}
+
+impl Write for Halting {
+    fn write(&mut self, piece: &[u8]) -> io::Result<usize> {
+        self.writes = self.writes.saturating_add(1);
+        let count = match self.writes {
+            1 => piece.len().min(2),
+            2 => 0,
+            _ => piece.len(),
+        };
+        self.taken = self.taken.saturating_add(count);
+        Ok(count)
+    }
+
+    fn flush(&mut self) -> io::Result<()> {
+        Ok(())
     }
 }
 
@@ -123,12 +148,13 @@ fn std_readers_and_writers_serve(rt: HostRuntime) -> Result<(), Fail> {
 }
 
 #[test]
-fn a_reader_that_fails_is_a_read_fault(rt: HostRuntime) {
-    let mut source = StdSource::new(Torn { is_read: false });
-    match read_document(rt.alloc(), &mut source, 4) {
+fn a_read_that_failed_is_not_tried_again(rt: HostRuntime) {
+    let mut torn = Torn { reads: 0 };
+    match read_document(rt.alloc(), &mut StdSource::new(&mut torn), 4) {
         Ok(_) => assert!(rt; false),
         Err(error) => assert_eq!(rt; error, ReadError::ReadFault),
     }
+    assert_eq!(rt; torn.reads, 2);
 }
 
 #[test]
@@ -137,6 +163,18 @@ fn a_writer_that_takes_nothing_is_a_write_fault(rt: HostRuntime) {
     let outcome = write_all(&mut StdSink::new(room.as_mut_slice()), b"abcd");
     assert_eq!(rt; outcome, Err(WriteFault));
     assert!(rt; room == *b"abc");
+}
+
+#[test]
+fn a_write_that_failed_is_not_tried_again(rt: HostRuntime) {
+    let mut halting = Halting {
+        writes: 0,
+        taken: 0,
+    };
+    let outcome = write_all(&mut StdSink::new(&mut halting), b"abcd");
+    assert_eq!(rt; outcome, Err(WriteFault));
+    assert_eq!(rt; halting.writes, 2);
+    assert_eq!(rt; halting.taken, 2);
 }
 
 #[test]

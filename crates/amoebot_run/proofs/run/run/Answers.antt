@@ -64,3 +64,9 @@ returns-in-Err-NotYet-clause-refusal_line g c = λ refusal e. elim c.end_with_li
   | inl x ↦ subst (Grows (g.K.Sink.written c.args.out.now) (g.K.Sink.written c.end_with_line-in-Err-NotYet.new.out)) (not_yet_line ∙ ap refusal_line (same_refusal refused_not_yet refusal (sym (ap (λ (r : Ended). r.status) x.0) ∙ e))) x.1
   | inr y ↦ absurd (not_refused refusal (sym (ap (λ (r : Ended). r.status) y.0) ∙ e))
 ]
+
+pub returns-in-Ok-write_all-clause-determined : goal.returns-in-Ok-write_all-clause-determined
+returns-in-Ok-write_all-clause-determined g c = λ document other left is.
+    let same = whole_is _ _ document c.in-Ok.document left c.in-Ok.ensures.all c.in-Ok.ensures.end in
+    let ours = subst (λ bytes. IsRunOfDocument bytes c.in-Ok-run_document.report) (c.bytes.ensures ∙ same) c.in-Ok-run_document.ensures.run in
+    subst (Grows (g.K.Sink.written c.args.out.now) (g.K.Sink.written c.write_all.new.sink)) (c.bytes-in-Ok-run_document.ensures ∙ c.in-Ok-run_document.ensures.text ∙ c.text_is_determined.ensures document c.in-Ok-run_document.report other ours is) c.in-Ok-write_all.ensures.all

@@ -1,6 +1,10 @@
-use Rattle.std.proofs.Common.{◌≤◌, length, ap, subst, inl, inr, Some, arith}
-use Rattle.outer_io.specs.Told.{Rose}
-use Rattle.amoebot_run.specs.Headline.{IsNoDocument}
+use Rattle.std.proofs.Common.{◌≡◌, ℕ, List, Option, None, ◌≤◌, length, ap, subst, inl, inr, Some, arith}
+use Rattle.std.specs.Prelude.{IfSome}
+use Rattle.outer_io.specs.Kept.{written_of}
+use Rattle.outer_io.specs.Told.{Rose, Grows}
+use Rattle.amoebot_run.specs.declared.report.Report.{Report}
+use Rattle.amoebot_run.specs.Texts.{report_text}
+use Rattle.amoebot_run.specs.Headline.{IsNoDocument, IsRunOfDocument}
 use Rattle.amoebot_run.proofs.Fronts.{whole_is}
 use Rattle.amoebot_run.proofs.run.run_text.Goals as goal
 
@@ -22,3 +26,11 @@ returns-in-Ok-clause-complete g c = λ command port start lists within is.
       | inr (inr (inl read)) ↦ absurd (not_risen (c.run.ensures.read_fault read))
       | inr (inr (inr write)) ↦ absurd (not_risen (c.run.ensures.write_fault write))
     ]
+
+-- what is said of each document that is told is said of the bytes
+said_of : {A : Type 0} (r : Option A) (P : List ℕ → Report → Type 0) (input bytes : List ℕ) → input ≡ bytes → IfSome r (λ _. (document : List ℕ) (other : Report) → Some input ≡ Some document → P document other) → IfSome r (λ _. (other : Report) → P bytes other)
+said_of None P input bytes same said = tt
+said_of (Some a) P input bytes same said = λ other. said bytes other (ap Some same)
+
+pub returns-in-Ok-clause-determined : goal.returns-in-Ok-clause-determined
+returns-in-Ok-clause-determined g c = said_of c.run.result.report (λ document other. IsRunOfDocument document other → Grows (written_of c.args.out.now) (written_of c.run.new.out) (report_text other)) c.in-Ok.input c.args.bytes.now c.in-Ok.ensures c.run.ensures.determined
