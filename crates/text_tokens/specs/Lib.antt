@@ -11,3 +11,6 @@ pub mod Combinators
 pub mod Steps
 pub mod Nested
 pub mod NestedView
+pub mod Journal
+pub mod JournalFaults
+pub mod Needed

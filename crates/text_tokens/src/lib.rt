@@ -2,6 +2,7 @@
 #![tactic(auto)]
 
 mod combinators;
+mod examples;
 mod laws;
 pub mod nested;
 mod refusal;
@@ -9,9 +10,10 @@ mod token;
 mod tokens;
 
 pub use combinators::{
-    Element, Part, PartAfter, choice, exact, judgement, limit, making, nothing, one_token, opening,
-    repetition, running_sum, separation, sequence,
+    Element, Part, PartAfter, PartOf, branch, choice, exact, judgement, limit, making, nothing,
+    one_token, opening, refusing, repetition, running_sum, separation, sequence,
 };
+pub use examples::{agreement_is_needed, journal_is_decided, nested_is_decided};
 pub use laws::{small_texts, spans_rise, tokens_are_cut, tokens_are_one};
 pub use refusal::{ReadRefusal, Refusal, RefusalKind};
 pub use token::{Token, TokenKind};
