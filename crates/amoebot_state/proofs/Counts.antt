@@ -1,5 +1,5 @@
 -- How many ports, nodes and bodies there are.
-use Rattle.std.proofs.Common.{◌≡◌, ◌<◌, ◌≤◌, ◌+◌, ℕ, suc, List, [], ◌∷◌, ◌++◌, map, length, Bool, true, false, not, ap, sym, ◌∙◌, refl, inl, inr, arith, Some, None, filter, nat_eq}
+use Rattle.std.proofs.Common.{◌≡◌, ◌<◌, ◌≤◌, ◌+◌, ℕ, suc, List, [], ◌∷◌, ◌++◌, map, length, Bool, true, false, not, ap, sym, ◌∙◌, refl, inl, inr, arith, Option, Some, None, filter, nat_eq}
 use Rattle.std.specs.Prelude.{IsTrue, if◌then◌else◌}
 use Rattle.std.specs.List.{filter_map, cons_option, count_by}
 use Rattle.std.proofs.lemmas.Bool.{cases_Bool, both_ways, or_cases, eqb-true, eq-eqb}
@@ -139,13 +139,13 @@ at_most_ten_nodes a b rot joined =
     omega (arith, ap length whole, length-append (own_nodes b) rest, at_most_two_own b, few, at_most_eight_reached b rot joined)
 
 -- a node that the amoebot itself occupies has none of the others
-others_past_own : (c : Config) (i : ℕ) (v : Node) (vs : List Node) → occupant c v ≡ Some i → others c i (v ∷ vs) ≡ others c i vs
+others_past_own : (c : Config) (i : ℕ) (v : Node) (vs : List Node) → occupant c v ≡ Some i → others (occupant c) i (v ∷ vs) ≡ others (occupant c) i vs
 others_past_own c i v vs e =
     ap (λ o. distinct nat_eq (filter (λ j. not (nat_eq j i)) (cons_option o (filter_map (occupant c) vs)))) e
     ∙ ap (λ t. distinct nat_eq (if not t then i ∷ filter (λ j. not (nat_eq j i)) (filter_map (occupant c) vs) else filter (λ j. not (nat_eq j i)) (filter_map (occupant c) vs))) (eq-eqb i i refl)
 
 -- so the others are those on the nodes beyond its own
-others_beyond : (c : Config) (i : ℕ) (b : Bot) (rest : List Node) → IsValid c → bot_at c i ≡ Some b → others c i (own_nodes b ++ rest) ≡ others c i rest
+others_beyond : (c : Config) (i : ℕ) (b : Bot) (rest : List Node) → IsValid c → bot_at c i ≡ Some b → others (occupant c) i (own_nodes b ++ rest) ≡ others (occupant c) i rest
 others_beyond c i b rest valid at =
     let head : occupant c b.head ≡ Some i = occupant_at c valid i b.head (ap (λ o. covers o b.head) at ∙ own_head b b.head refl) in
     let tail : occupant c b.tail ≡ Some i = occupant_at c valid i b.tail (ap (λ o. covers o b.tail) at ∙ own_tail b b.tail refl) in
@@ -155,12 +155,12 @@ others_beyond c i b rest valid at =
     ]
 
 -- each of them is on a node that a port leads to
-at_most_eight_others : (c : Config) (i : ℕ) (b : Bot) → IsValid c → bot_at c i ≡ Some b → length (others c i (zone_nodes c.area b)) ≤ 8
+at_most_eight_others : (c : Config) (i : ℕ) (b : Bot) → IsValid c → bot_at c i ≡ Some b → length (others (occupant c) i (zone_nodes c.area b)) ≤ 8
 at_most_eight_others c i b valid at =
     let fits = valid.each i b at in
     let (rest, whole, few) = own_then_few c.area b in
-    let same : others c i (zone_nodes c.area b) ≡ others c i rest = ap (others c i) whole ∙ others_beyond c i b rest valid at in
-    omega (arith, ap length same, length-others-le c i rest, few, at_most_eight_reached b fits.rot fits.joined)
+    let same : others (occupant c) i (zone_nodes c.area b) ≡ others (occupant c) i rest = ap (others (occupant c) i) whole ∙ others_beyond c i b rest valid at in
+    omega (arith, ap length same, length-others-le (occupant c) i rest, few, at_most_eight_reached b fits.rot fits.joined)
 
 -- how many cells of either kind a zone has
 all_pass : {A B : Type 0} (p : B → Bool) (f : A → B) → ((x : A) → p (f x) ≡ true) → (xs : List A) → length (filter p (map f xs)) ≡ length xs
@@ -171,34 +171,34 @@ none_pass : {A B : Type 0} (p : B → Bool) (f : A → B) → ((x : A) → p (f 
 none_pass p f fail [] = refl
 none_pass p f fail (x ∷ xs) = rw (fail x) (none_pass p f fail xs)
 
-spots_of : (c : Config) (i : ℕ) (vs : List Node) → count_by is_spot (zone_of c i vs) ≡ length vs
-spots_of c i vs =
-    let ids = others c i vs in
+spots_of : (on : Node → Option ℕ) (i : ℕ) (vs : List Node) → count_by is_spot (zone_of on i vs) ≡ length vs
+spots_of on i vs =
+    let ids = others on i vs in
     let parts = ap length (filter-append is_spot (map name.Spot vs) (map name.Body ids)) in
     let both = length-append (filter is_spot (map name.Spot vs)) (filter is_spot (map name.Body ids)) in
     let spots = all_pass is_spot name.Spot (λ v. refl) vs in
     let bodies = none_pass is_spot name.Body (λ j. refl) ids in
-    sym (length-filter is_spot (zone_of c i vs)) ∙ omega (arith, parts, both, spots, bodies)
+    sym (length-filter is_spot (zone_of on i vs)) ∙ omega (arith, parts, both, spots, bodies)
 
-bodies_of : (c : Config) (i : ℕ) (vs : List Node) → count_by is_body (zone_of c i vs) ≡ 1 + length (others c i vs)
-bodies_of c i vs =
-    let ids = others c i vs in
+bodies_of : (on : Node → Option ℕ) (i : ℕ) (vs : List Node) → count_by is_body (zone_of on i vs) ≡ 1 + length (others on i vs)
+bodies_of on i vs =
+    let ids = others on i vs in
     let parts = ap length (filter-append is_body (map name.Spot vs) (map name.Body ids)) in
     let both = length-append (filter is_body (map name.Spot vs)) (filter is_body (map name.Body ids)) in
     let spots = none_pass is_body name.Spot (λ v. refl) vs in
     let bodies = all_pass is_body name.Body (λ j. refl) ids in
-    sym (length-filter is_body (zone_of c i vs)) ∙ omega (arith, parts, both, spots, bodies)
+    sym (length-filter is_body (zone_of on i vs)) ∙ omega (arith, parts, both, spots, bodies)
 
 pub zone_has_at_most_ten_nodes : ZoneHasAtMostTenNodes
-zone_has_at_most_ten_nodes c i valid = elim (bot_at c i) as (λ o. bot_at c i ≡ o → count_by is_spot (zone_at c i o) ≤ 10) [
+zone_has_at_most_ten_nodes c i valid = elim (bot_at c i) as (λ o. bot_at c i ≡ o → count_by is_spot (zone_at c.area (occupant c) i o) ≤ 10) [
   | None ↦ λ _. omega arith
   | Some b ↦ λ at.
       let fits = valid.each i b at in
-      omega (arith, spots_of c i (zone_nodes c.area b), at_most_ten_nodes c.area b fits.rot fits.joined)
+      omega (arith, spots_of (occupant c) i (zone_nodes c.area b), at_most_ten_nodes c.area b fits.rot fits.joined)
 ] refl
 
 pub zone_has_at_most_nine_bodies : ZoneHasAtMostNineBodies
-zone_has_at_most_nine_bodies c i valid = elim (bot_at c i) as (λ o. bot_at c i ≡ o → count_by is_body (zone_at c i o) ≤ 9) [
+zone_has_at_most_nine_bodies c i valid = elim (bot_at c i) as (λ o. bot_at c i ≡ o → count_by is_body (zone_at c.area (occupant c) i o) ≤ 9) [
   | None ↦ λ _. omega arith
-  | Some b ↦ λ at. omega (arith, bodies_of c i (zone_nodes c.area b), at_most_eight_others c i b valid at)
+  | Some b ↦ λ at. omega (arith, bodies_of (occupant c) i (zone_nodes c.area b), at_most_eight_others c i b valid at)
 ] refl

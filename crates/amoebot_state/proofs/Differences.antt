@@ -1,25 +1,28 @@
 -- That a difference leads from the old configuration to the new one.
 use Rattle.std.proofs.Common.{◌≡◌, ◌≢◌, ◌<◌, ◌≤◌, ◌+◌, ◌*◌, ℕ, zero, suc, length, map, Bool, true, false, ap, sym, ◌∙◌, refl, subst, inl, inr, arith, Option, Some, None}
-use Rattle.std.specs.Prelude.{is_some, if◌then◌else◌}
+use Rattle.std.specs.Prelude.{is_some, if◌then◌else◌, unwrap_or}
 use Rattle.std.specs.List.{All, range_with_len}
 use Rattle.std.specs.Option.{option_map}
 use Rattle.std.proofs.lemmas.Bool.{cases_Bool, cases_eq, cases_lt, both_ways, false≢true}
 use Rattle.std.proofs.lemmas.List.{get_or_past}
 use Rattle.std.proofs.lemmas.List.Elements.{All-contains}
+use Rattle.std.proofs.lemmas.List.Kept.{AllPairs-from_increasing}
 use Rattle.std.proofs.lemmas.Option.{none-some, same_Some}
 use Rattle.tri_lattice.specs.declared.node.Node.{Node}
 use Rattle.tri_lattice.specs.Extent.{Extent, index_of, node_at}
-use Rattle.tri_lattice.proofs.Boxes.{node_at_index_of}
+use Rattle.tri_lattice.proofs.Boxes.{node_at_index_of, index_of_node_at, index_below}
 use Rattle.amoebot_state.specs.declared.cell.CellName.{CellName}
 use Rattle.amoebot_state.specs.declared.cell.CellName.TheVariants as name
 use Rattle.amoebot_state.specs.declared.cell.Cell.{Cell}
 use Rattle.amoebot_state.specs.declared.cell.Cell.TheVariants as cell
 use Rattle.amoebot_state.specs.Pairs.{cell_of, value_of}
 use Rattle.amoebot_state.specs.Configs.{Config, IsValid, bot_at, value}
-use Rattle.amoebot_state.specs.Patches.{same_value, changed, all_cells, diff}
-use Rattle.amoebot_state.specs.Laws.{DiffLeads}
-use Rattle.amoebot_state.proofs.Members.{Has, here, later, Has-append_left, Has-append_right, Has-map, Has-filter_map, filter_map_has, All-from_Has, Contains-from_Has}
+use Rattle.amoebot_state.specs.Patches.{same_value, changed, all_cells, diff, rank}
+use Rattle.amoebot_state.specs.Laws.{DiffLeads, OrderedPatchIsDiff}
+use Rattle.amoebot_state.proofs.Members.{Has, here, later, Has-append_left, Has-append_right, Has-map, map_has, Has-filter_map, filter_map_has, All-from_Has, Contains-from_Has, Has-from_Contains}
 use Rattle.amoebot_state.proofs.Occupants.{outside_empty}
+use Rattle.amoebot_state.proofs.Patched.{patch_lists_what_differs}
+use Rattle.amoebot_state.proofs.Rising.{Rising, Rising-append, Rising-map, Rising-filter_map, Rising-weaker, Rising-range, Rising-from_increasing, Rising-same, range_below}
 use Rattle.amoebot_state.proofs.Values.{value_same, value_same-true}
 
 Has-range_with_len : (a n k : ℕ) → a ≤ k → k < a + n → Has k (range_with_len a n)
@@ -98,3 +101,80 @@ diff_leads old new was is rest size ids =
       },
       All-from_Has Differs (diff old new) (λ p has. (listed_differs old new p has).1),
     )
+
+-- ---- the difference is the one ordered patch that leads from the old configuration to the new one and lists what differs
+
+-- a number for each cell: the nodes of the area by their own, then the bodies
+abbrev place_in : Extent → CellName → ℕ
+place_in a (name.Spot v) = unwrap_or (index_of a v) 0
+place_in a (name.Body i) = a.w * a.h + i
+
+abbrev pair_place : Extent → CellName × Cell → ℕ
+pair_place a p = place_in a (cell_of p)
+
+-- all cells stand in the order of these numbers
+all_cells_rise : (c : Config) → Rising (place_in c.area) (all_cells c)
+all_cells_rise c =
+    let n = c.area.w * c.area.h in
+    let spot : ℕ → CellName = λ k. name.Spot (node_at c.area k) in
+    let at : (k : ℕ) → Has k (range_with_len 0 n) → place_in c.area (spot k) ≡ k = λ k has. ap (λ o. unwrap_or o 0) (index_of_node_at c.area k (omega (arith, (range_below 0 n k has).1))) in
+    let bodies : Rising (λ i. n + i) (range_with_len 0 (length c.bots)) = Rising-weaker (λ i. i) (λ i. n + i) (λ i j hi hj lt. omega (arith, lt)) (Rising-range 0 (length c.bots)) in
+    Rising-append (place_in c.area)
+    (Rising-map (λ k. k) (place_in c.area) spot at (Rising-range 0 n))
+    (Rising-map (λ i. n + i) (place_in c.area) name.Body (λ i has. refl) bodies)
+    (λ x y hx hy.
+    let (k, hk, ex) = map_has spot (range_with_len 0 n) hx in
+    let (i, hi, ey) = map_has name.Body (range_with_len 0 (length c.bots)) hy in
+    let below = (range_below 0 n k hk).1 in
+    omega (arith, below, ap (place_in c.area) ex, at k hk, ap (place_in c.area) ey))
+
+-- and so does the difference
+diff_rises : (old new : Config) → Rising (pair_place old.area) (diff old new)
+diff_rises old new = Rising-filter_map (place_in old.area) (pair_place old.area) (changed old new) (λ n p e. ap (place_in old.area) (sym (told (same_value (value old n) (value new n)) n (value new n) p e).1)) (all_cells_rise old)
+
+-- a node whose value differs lies in the area
+differs_inside : (old new : Config) → IsValid old → IsValid new → new.area ≡ old.area → (v : Node) → value new (name.Spot v) ≢ value old (name.Spot v) → (k : ℕ) × (index_of old.area v ≡ Some k)
+differs_inside old new was is area v differs = elim (index_of old.area v) as (λ o. index_of old.area v ≡ o → (k : ℕ) × (index_of old.area v ≡ Some k)) [
+  | None ↦ λ e. absurd (differs (ap (λ o. Some (cell.Spot o)) (sym (outside_empty new is v (ap (λ (a : Extent). index_of a v) area ∙ e)) ∙ outside_empty old was v e)))
+  | Some k ↦ λ e. (k, e)
+] refl
+
+-- of two cells whose values differ, the one that a patch has to list before the other has the lower number
+before_is_lower : (old new : Config) → IsValid old → IsValid new → new.area ≡ old.area → (m n : CellName) → value new m ≢ value old m → rank m < rank n → place_in old.area m < place_in old.area n
+before_is_lower old new was is area (name.Spot u) (name.Spot v) differs lt = absurd (omega (arith, lt))
+before_is_lower old new was is area (name.Spot u) (name.Body j) differs lt =
+    let (k, e) = differs_inside old new was is area u differs in
+    omega (arith, index_below old.area u k e, ap (λ o. unwrap_or o 0) e)
+before_is_lower old new was is area (name.Body i) (name.Spot v) differs lt = absurd (omega (arith, lt))
+before_is_lower old new was is area (name.Body i) (name.Body j) differs lt = omega (arith, lt)
+
+-- a cell whose value differs is one of all cells
+differs_listed : (old new : Config) → IsValid old → IsValid new → new.area ≡ old.area → length new.bots ≡ length old.bots → (n : CellName) (x : Cell) → value new n ≡ Some x → value new n ≢ value old n → Has n (all_cells old)
+differs_listed old new was is area size (name.Spot v) x e differs =
+    let (k, at) = differs_inside old new was is area v differs in
+    spot_in_all old v k at
+differs_listed old new was is area size (name.Body i) x e differs = elim (cases_lt i (length old.bots)) [
+  | inl lt ↦ body_in_all old i lt
+  | inr ge ↦ absurd (none-some x (sym (ap (option_map cell.Body) (get_or_past new.bots i None (omega arith))) ∙ e))
+]
+
+pub ordered_patch_is_diff : OrderedPatchIsDiff
+ordered_patch_is_diff old new ps was patched ordered differ =
+    let area : new.area ≡ old.area = ap (λ (c : Config). c.area) patched.rest in
+    let given : (p : CellName × Cell) → Has p ps → value new (cell_of p) ≡ Some (value_of p) = λ p has. All-contains (λ (q : CellName × Cell). value new (cell_of q) ≡ Some (value_of q)) ps p patched.given (Contains-from_Has ps has) in
+    let differs : (p : CellName × Cell) → Has p ps → value new (cell_of p) ≢ value old (cell_of p) = λ p has e. All-contains (λ (q : CellName × Cell). value old (cell_of q) ≢ Some (value_of q)) ps p differ (Contains-from_Has ps has) (sym e ∙ given p has) in
+    let rises : Rising (pair_place old.area) ps = Rising-weaker (λ (p : CellName × Cell). rank (cell_of p)) (pair_place old.area) (λ p q hp hq lt. before_is_lower old new was patched.valid area (cell_of p) (cell_of q) (differs p hp) lt) (Rising-from_increasing (λ (p : CellName × Cell). rank (cell_of p)) ps (AllPairs-from_increasing (map (λ (p : CellName × Cell). rank (cell_of p)) ps) ordered)) in
+    Rising-same (pair_place old.area) rises (diff_rises old new)
+    (λ p has. Has-filter_map (changed old new) (all_cells old) (differs_listed old new was patched.valid area patched.size (cell_of p) (value_of p) (given p has) (differs p has)) (changed_is old new p (given p has) (differs p has)))
+    (λ p has.
+    let (now, not_was) = listed_differs old new p has in
+    let (q, hq, e) = map_has cell_of ps (Has-from_Contains (map cell_of ps) (patch_lists_what_differs old new ps patched (cell_of p) (λ e. not_was (sym e ∙ now)))) in
+    let same : value_of q ≡ value_of p = same_Some (value_of q) (value_of p) (sym (given q hq) ∙ ap (value new) (sym e) ∙ now) in
+    let P : CellName × Cell → Type 0 = λ r. Has r ps in
+    subst P (λ i. (sym e i, same i)) hq)
+  where
+    changed_is : (old new : Config) (p : CellName × Cell) → value new (cell_of p) ≡ Some (value_of p) → value new (cell_of p) ≢ value old (cell_of p) → changed old new (cell_of p) ≡ Some p
+    changed_is old new p now differs = elim (cases_Bool (same_value (value old (cell_of p)) (value new (cell_of p)))) [
+      | inl t ↦ absurd (differs (sym (value_same-true _ _ t)))
+      | inr f ↦ ap (λ t. if t then None else option_map (λ z. (cell_of p, z)) (value new (cell_of p))) f ∙ ap (option_map (λ z. (cell_of p, z))) now
+    ]

@@ -1,6 +1,6 @@
 -- The configuration that has what is shown and no other amoebot.
-use Rattle.std.proofs.Common.{◌≡◌, ◌≢◌, ℕ, zero, suc, List, [], ◌∷◌, ◌++◌, map, get_or, true, not, ap, sym, ◌∙◌, refl, subst, inl, inr, Option, Some, None, nat_eq, filter}
-use Rattle.std.specs.List.{filter_map, cons_option}
+use Rattle.std.proofs.Common.{◌≡◌, ◌≢◌, ℕ, zero, suc, List, [], ◌∷◌, map, get_or, true, ap, sym, ◌∙◌, refl, subst, inl, inr, Option, Some, None, nat_eq}
+use Rattle.std.specs.List.{filter_map}
 use Rattle.std.specs.Option.{option_map}
 use Rattle.std.proofs.lemmas.Bool.{cases_Bool, both_ways, eqb-true, eq-eqb, false≢true}
 use Rattle.std.proofs.lemmas.Option.{none-some}
@@ -12,11 +12,11 @@ use Rattle.amoebot_state.specs.declared.cell.CellName.TheVariants as name
 use Rattle.amoebot_state.specs.declared.cell.Cell.{Cell}
 use Rattle.amoebot_state.specs.declared.cell.Cell.TheVariants as cell
 use Rattle.amoebot_state.specs.Configs.{Config, IsValid, bot_at, occupant, covers, value}
-use Rattle.amoebot_state.specs.Zones.{Shown, shown, shown_cell, zone, zone_at, zone_of, zone_nodes, others, distinct, with_id, spread, gap}
+use Rattle.amoebot_state.specs.Zones.{Shown, shown, shown_cell, zone, zone_at, zone_of, zone_nodes, others, with_id, spread, gap}
 use Rattle.amoebot_state.specs.Storage.{body_in}
-use Rattle.amoebot_state.proofs.Members.{Has, here, later, has_cases, not_in_none, Has-map, map_has, Has-append_left, Has-append_right, Has-append_cases}
+use Rattle.amoebot_state.proofs.Members.{Has, here, later, has_cases, not_in_none, Has-map, map_has, Has-append_left, Has-append_right, Has-append_cases, Has-from_Contains, filter_map-same}
 use Rattle.amoebot_state.proofs.Occupants.{occupant_at, occupant_none, nobody_covers, occupant_covers}
-use Rattle.amoebot_state.proofs.Zones.{occupant_in_zone, zone_nodes_inside}
+use Rattle.amoebot_state.proofs.Zones.{occupant_in_zone, zone_is_determined, zone_nodes_inside}
 
 with_id_same : (os : List (Option Bot)) (i : ℕ) (b : Bot) → get_or (with_id os i b) i None ≡ Some b
 with_id_same [] zero b = refl
@@ -107,20 +107,20 @@ gap_valid c i valid = record {
 }
 
 -- the zone of an amoebot that is there
-pub zone_is : (c : Config) (i : ℕ) (b : Bot) → bot_at c i ≡ Some b → zone c i ≡ zone_of c i (zone_nodes c.area b)
-zone_is c i b e = ap (zone_at c i) e
+pub zone_is : (c : Config) (i : ℕ) (b : Bot) → bot_at c i ≡ Some b → zone c i ≡ zone_of (occupant c) i (zone_nodes c.area b)
+zone_is c i b e = ap (zone_at c.area (occupant c) i) e
 
 pub own_in_zone : (c : Config) (i : ℕ) (b : Bot) → bot_at c i ≡ Some b → Has (name.Body i) (zone c i)
 own_in_zone c i b e = subst (Has (name.Body i)) (sym (zone_is c i b e)) here
 
 pub body_in_zone : (c : Config) (i : ℕ) (b : Bot) (v : Node) (j : ℕ) → bot_at c i ≡ Some b → Has v (zone_nodes c.area b) → occupant c v ≡ Some j → Has (name.Body j) (zone c i)
-body_in_zone c i b v j e has o = elim (occupant_in_zone c i v (zone_nodes c.area b) j has o) [
+body_in_zone c i b v j e has o = elim (occupant_in_zone (occupant c) i v (zone_nodes c.area b) j has o) [
   | inl same ↦ subst (λ k. Has (name.Body k) (zone c i)) (sym same) (own_in_zone c i b e)
   | inr other ↦ subst (Has (name.Body j)) (sym (zone_is c i b e)) (later (Has-append_right (map name.Spot (zone_nodes c.area b)) (Has-map name.Body other)))
 ]
 
 pub spot_in_zone : (c : Config) (i : ℕ) (b : Bot) (v : Node) → bot_at c i ≡ Some b → Has v (zone_nodes c.area b) → Has (name.Spot v) (zone c i)
-spot_in_zone c i b v e has = subst (Has (name.Spot v)) (sym (zone_is c i b e)) (later (Has-append_left (map name.Body (others c i (zone_nodes c.area b))) (Has-map name.Spot has)))
+spot_in_zone c i b v e has = subst (Has (name.Spot v)) (sym (zone_is c i b e)) (later (Has-append_left (map name.Body (others (occupant c) i (zone_nodes c.area b))) (Has-map name.Spot has)))
 
 -- the amoebot itself is there
 pub gap_own : (c : Config) (i : ℕ) (b : Bot) → bot_at c i ≡ Some b → bot_at (gap (shown c i)) i ≡ Some b
@@ -136,20 +136,11 @@ gap_occupant c i b v valid e has = elim (occupant c v) as (λ o. occupant c v �
   | Some j ↦ λ o. occupant_at (gap (shown c i)) (gap_valid c i valid) j v (ap (λ q. covers q v) (gap_has c i j (body_in_zone c i b v j e has o)) ∙ occupant_covers c v j o)
 ] refl
 
--- lists of the occupants of the same nodes
-same_occupants : (c d : Config) (vs : List Node) → ((v : Node) → Has v vs → occupant d v ≡ occupant c v) → filter_map (occupant d) vs ≡ filter_map (occupant c) vs
-same_occupants c d [] same = refl
-same_occupants c d (v ∷ vs) same = ap (λ o. cons_option o (filter_map (occupant d) vs)) (same v here) ∙ ap (cons_option (occupant c v)) (same_occupants c d vs (λ u h. same u (later h)))
-
-same_cells : (c d : Config) (names : List CellName) → ((n : CellName) → Has n names → value d n ≡ value c n) → filter_map (shown_cell d) names ≡ filter_map (shown_cell c) names
-same_cells c d [] same = refl
-same_cells c d (n ∷ names) same = ap (λ x. cons_option (option_map (λ y. (n, y)) x) (filter_map (shown_cell d) names)) (same n here) ∙ ap (cons_option (shown_cell c n)) (same_cells c d names (λ m h. same m (later h)))
-
 gap_zone : (c : Config) (i : ℕ) (b : Bot) → IsValid c → bot_at c i ≡ Some b → zone (gap (shown c i)) i ≡ zone c i
 gap_zone c i b valid e =
     let vs = zone_nodes c.area b in
     zone_is (gap (shown c i)) i b (gap_own c i b e)
-    ∙ ap (λ is. name.Body i ∷ (map name.Spot vs ++ map name.Body (distinct nat_eq (filter (λ j. not (nat_eq j i)) is)))) (same_occupants c (gap (shown c i)) vs (λ v has. gap_occupant c i b v valid e has))
+    ∙ zone_is_determined c.area i b (occupant (gap (shown c i))) (occupant c) (λ v has. gap_occupant c i b v valid e (Has-from_Contains vs has))
     ∙ sym (zone_is c i b e)
 
 -- a node of the zone, told from its cell
@@ -158,7 +149,7 @@ spot_node c i b v e has = elim (has_cases (subst (Has (name.Spot v)) (zone_is c 
   | inl f ↦ absurd (cc)
   | inr r ↦ elim (Has-append_cases (map name.Spot (zone_nodes c.area b)) r) [
     | inl s ↦ let found = map_has name.Spot (zone_nodes c.area b) s in let same : found.0 ≡ v = (let f = found.2 in cc) in subst (λ u. Has u (zone_nodes c.area b)) same found.1
-    | inr t ↦ let found = map_has name.Body (others c i (zone_nodes c.area b)) t in let f = found.2 in absurd (cc)
+    | inr t ↦ let found = map_has name.Body (others (occupant c) i (zone_nodes c.area b)) t in let f = found.2 in absurd (cc)
   ]
 ]
 
@@ -171,7 +162,7 @@ gap_value c i b valid e (name.Spot v) has = ap (λ o. Some (cell.Spot o)) (gap_o
 pub gap_shows : (c : Config) (i : ℕ) (b : Bot) → IsValid c → bot_at c i ≡ Some b → shown (gap (shown c i)) i ≡ shown c i
 gap_shows c i b valid e =
     let made : List (CellName × Cell) → Shown = λ xs. record { area = c.area; maxes = c.maxes; bot = i; cells = xs } in
-    ap made (ap (filter_map (shown_cell (gap (shown c i)))) (gap_zone c i b valid e) ∙ same_cells c (gap (shown c i)) (zone c i) (λ n has. gap_value c i b valid e n has))
+    ap made (ap (filter_map (shown_cell (gap (shown c i)))) (gap_zone c i b valid e) ∙ filter_map-same (shown_cell (gap (shown c i))) (shown_cell c) (zone c i) (λ n has. ap (option_map (λ x. (n, x))) (gap_value c i b valid e n has)))
 
 -- the nodes of the zone lie in the area
 pub zone_inside : (c : Config) (i : ℕ) (b : Bot) (v : Node) → IsValid c → bot_at c i ≡ Some b → Has (name.Spot v) (zone c i) → is_in c.area v ≡ true

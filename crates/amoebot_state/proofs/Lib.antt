@@ -12,6 +12,7 @@ pub mod Occupied
 pub mod Once
 pub mod Owns
 pub mod Patched
+pub mod Rising
 mod Counterexamples
 mod Samples
 mod StepSamples

@@ -88,6 +88,11 @@ filter_map_has {A} {B} h {y} (z ∷ xs) = elim (h z) as (λ o. h z ≡ o → Has
   ])
 ] refl
 
+-- functions that are alike on the elements give the same
+pub filter_map-same : {A B : Type 0} (g h : A → Option B) (xs : List A) → ((x : A) → Has x xs → g x ≡ h x) → filter_map g xs ≡ filter_map h xs
+filter_map-same g h [] same = refl
+filter_map-same g h (x ∷ xs) same = ap (λ o. cons_option o (filter_map g xs)) (same x here) ∙ ap (cons_option (h x)) (filter_map-same g h xs (λ y has. same y (later has)))
+
 -- the distinct elements are the elements
 pub Has-distinct : {A : Type 0} (eq : A → A → Bool) → ((x y : A) → eq x y ≡ true → x ≡ y) → {x : A} (xs : List A) → Has x xs → Has x (distinct eq xs)
 Has-distinct eq exact [] h = absurd (not_in_none h)

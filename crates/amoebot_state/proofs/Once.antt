@@ -4,11 +4,12 @@ use Rattle.std.specs.List.{AllPairs}
 use Rattle.std.proofs.lemmas.Bool.{both_ways, eq-eqb}
 use Rattle.std.proofs.lemmas.List.Kept.{AllPairs-cons}
 use Rattle.tri_lattice.specs.declared.node.Node.{Node}
+use Rattle.tri_lattice.specs.Extent.{Extent}
 use Rattle.tri_lattice.specs.Lattice.{node_eq}
 use Rattle.tri_lattice.proofs.Nodes.{node_eq_same}
 use Rattle.amoebot_state.specs.declared.bot.Bot.{Bot}
 use Rattle.amoebot_state.specs.declared.cell.CellName.TheVariants as name
-use Rattle.amoebot_state.specs.Configs.{Config, bot_at}
+use Rattle.amoebot_state.specs.Configs.{bot_at, occupant}
 use Rattle.amoebot_state.specs.Zones.{distinct, zone_nodes, others, zone_of, zone_at}
 use Rattle.amoebot_state.specs.Laws.{ZoneListsEachCellOnce}
 use Rattle.amoebot_state.proofs.Members.{Has, here, later, map_has, filter_has, Has-append_cases, All-from_Has}
@@ -54,23 +55,23 @@ same_body i j e = cc
 spot_is_no_body : (v : Node) (i : ℕ) → name.Spot v ≡ name.Body i → ⊥
 spot_is_no_body v i e = cc
 
-zone_of_once : (c : Config) (i : ℕ) (vs : List Node) → Once vs → Once (zone_of c i vs)
-zone_of_once c i vs once = more
+zone_of_once : (on : Node → Option ℕ) (i : ℕ) (vs : List Node) → Once vs → Once (zone_of on i vs)
+zone_of_once on i vs once = more
     (λ has. elim (Has-append_cases (map name.Spot vs) has) [
       | inl h ↦ let found = map_has name.Spot vs h in spot_is_no_body found.0 i (sym found.2)
       | inr h ↦
-          let found = map_has name.Body (others c i vs) h in
-          let by = others_occupy c i vs found.0 found.1 in
+          let found = map_has name.Body (others on i vs) h in
+          let by = others_occupy on i vs found.0 found.1 in
           by.3 (sym (same_body i found.0 found.2))
     ])
     (Once-append (Once-map name.Spot same_spot once) (Once-map name.Body same_body (Once-distinct nat_eq (λ j. eq-eqb j j refl) _)) (λ n spot body.
     let v = map_has name.Spot vs spot in
-    let j = map_has name.Body (others c i vs) body in
+    let j = map_has name.Body (others on i vs) body in
     spot_is_no_body v.0 j.0 (sym v.2 ∙ j.2)))
 
-zone_at_once : (c : Config) (i : ℕ) (o : Option Bot) → Once (zone_at c i o)
-zone_at_once c i None = none
-zone_at_once c i (Some b) = zone_of_once c i (zone_nodes c.area b) (Once-distinct node_eq node_eq_same _)
+zone_at_once : (a : Extent) (on : Node → Option ℕ) (i : ℕ) (o : Option Bot) → Once (zone_at a on i o)
+zone_at_once a on i None = none
+zone_at_once a on i (Some b) = zone_of_once on i (zone_nodes a b) (Once-distinct node_eq node_eq_same _)
 
 pub zone_lists_each_cell_once : ZoneListsEachCellOnce
-zone_lists_each_cell_once c i = AllPairs-from_Once (zone_at_once c i (bot_at c i))
+zone_lists_each_cell_once c i = AllPairs-from_Once (zone_at_once c.area (occupant c) i (bot_at c i))

@@ -35,18 +35,18 @@ body_cells c [] = refl
 body_cells c (i ∷ is) = ap (cons_option (shown_cell c (name.Body i))) (body_cells c is)
 
 -- the cells that are put together one after another are those that are shown
-pub cells_made : (c : Config) (i : ℕ) (own : Bot) (nodes : List Node) (ids : List ℕ) (cells : List (CellName × Cell)) → bot_at c i ≡ Some own → nodes ≡ zone_nodes c.area own → ids ≡ others c i nodes → cells ≡ ((name.Body i, cell.Body own) ∷ map (λ v. (name.Spot v, cell.Spot (occupant c v))) nodes) ++ filter_map (λ j. shown_cell c (name.Body j)) ids → cells ≡ filter_map (shown_cell c) (zone c i)
+pub cells_made : (c : Config) (i : ℕ) (own : Bot) (nodes : List Node) (ids : List ℕ) (cells : List (CellName × Cell)) → bot_at c i ≡ Some own → nodes ≡ zone_nodes c.area own → ids ≡ others (occupant c) i nodes → cells ≡ ((name.Body i, cell.Body own) ∷ map (λ v. (name.Spot v, cell.Spot (occupant c v))) nodes) ++ filter_map (λ j. shown_cell c (name.Body j)) ids → cells ≡ filter_map (shown_cell c) (zone c i)
 cells_made c i own nodes ids cells at ns is made =
     let first : CellName × Cell = (name.Body i, cell.Body own) in
     let spots : List Node → List (CellName × Cell) = λ vs. map (λ v. (name.Spot v, cell.Spot (occupant c v))) vs in
     let bodies : List ℕ → List (CellName × Cell) = λ js. filter_map (λ j. shown_cell c (name.Body j)) js in
     made
     ∙ ap (λ js. (first ∷ spots nodes) ++ bodies js) is
-    ∙ ap (λ vs. first ∷ (spots vs ++ bodies (others c i vs))) ns
-    ∙ ap (λ xs. first ∷ (xs ++ bodies (others c i (zone_nodes c.area own)))) (sym (spot_cells c (zone_nodes c.area own)))
-    ∙ ap (λ xs. first ∷ (filter_map (shown_cell c) (map name.Spot (zone_nodes c.area own)) ++ xs)) (sym (body_cells c (others c i (zone_nodes c.area own))))
-    ∙ ap (λ xs. first ∷ xs) (sym (filter_map-append (shown_cell c) (map name.Spot (zone_nodes c.area own)) (map name.Body (others c i (zone_nodes c.area own)))))
-    ∙ ap (λ o. cons_option (option_map (λ y. (name.Body i, y)) (option_map cell.Body o)) (filter_map (shown_cell c) (map name.Spot (zone_nodes c.area own) ++ map name.Body (others c i (zone_nodes c.area own))))) (sym at)
+    ∙ ap (λ vs. first ∷ (spots vs ++ bodies (others (occupant c) i vs))) ns
+    ∙ ap (λ xs. first ∷ (xs ++ bodies (others (occupant c) i (zone_nodes c.area own)))) (sym (spot_cells c (zone_nodes c.area own)))
+    ∙ ap (λ xs. first ∷ (filter_map (shown_cell c) (map name.Spot (zone_nodes c.area own)) ++ xs)) (sym (body_cells c (others (occupant c) i (zone_nodes c.area own))))
+    ∙ ap (λ xs. first ∷ xs) (sym (filter_map-append (shown_cell c) (map name.Spot (zone_nodes c.area own)) (map name.Body (others (occupant c) i (zone_nodes c.area own)))))
+    ∙ ap (λ o. cons_option (option_map (λ y. (name.Body i, y)) (option_map cell.Body o)) (filter_map (shown_cell c) (map name.Spot (zone_nodes c.area own) ++ map name.Body (others (occupant c) i (zone_nodes c.area own))))) (sym at)
     ∙ ap (filter_map (shown_cell c)) (sym (zone_is c i own at))
 
 -- what a valid configuration shows to this amoebot is found by it
@@ -75,7 +75,7 @@ length-shown-le s is =
     let c = is.0 in
     let own = there_is (bot_at c s.bot) is.2 in
     let names = zone c s.bot in
-    let few : length names ≤ 29 = subst (λ xs. length xs ≤ 29) (sym (zone_is c s.bot own.0 own.1)) (length-zone_of-le c s.bot (zone_nodes c.area own.0) (length-zone_nodes-le c.area own.0)) in
+    let few : length names ≤ 29 = subst (λ xs. length xs ≤ 29) (sym (zone_is c s.bot own.0 own.1)) (length-zone_of-le (occupant c) s.bot (zone_nodes c.area own.0) (length-zone_nodes-le c.area own.0)) in
     let le : length (filter_map (shown_cell c) names) ≤ length names = length-filter_map-le (shown_cell c) names in
     let all : length (filter_map (shown_cell c) names) ≤ 30 = omega arith in
     subst (λ (t : Shown). length t.cells ≤ 30) is.3 all

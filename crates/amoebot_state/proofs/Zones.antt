@@ -1,5 +1,5 @@
 -- How a zone is found, and what it has.
-use Rattle.std.proofs.Common.{◌≡◌, ◌≢◌, ◌⊎◌, ◌<◌, ◌≤◌, ℕ, List, [], ◌∷◌, ◌++◌, length, map, true, false, not, ap, sym, ◌∙◌, refl, inl, inr, arith, Some, None, filter, nat_eq}
+use Rattle.std.proofs.Common.{◌≡◌, ◌≢◌, ◌⊎◌, ◌<◌, ◌≤◌, ℕ, List, [], ◌∷◌, ◌++◌, length, map, true, false, not, ap, sym, ◌∙◌, refl, inl, inr, arith, Option, Some, None, filter, nat_eq}
 use Rattle.std.specs.List.{All, fold, filter_map}
 use Rattle.std.specs.Cmp.{IsEquivalence}
 use Rattle.std.proofs.lemmas.Bool.{cases_Bool, both_ways, eqb-true, eq-eqb}
@@ -16,9 +16,10 @@ use Rattle.amoebot_state.specs.Ports.{own_nodes, is_contracted, is_port, all_por
 use Rattle.amoebot_state.specs.Configs.{Config, occupant}
 use Rattle.amoebot_state.specs.Storage.{with_new, with_port, with_other}
 use Rattle.amoebot_state.specs.declared.cell.CellName.TheVariants as name
-use Rattle.amoebot_state.specs.Zones.{zone_nodes, others, zone_of}
+use Rattle.amoebot_state.specs.Zones.{distinct, zone_nodes, others, zone_of}
+use Rattle.amoebot_state.specs.Laws.{ZoneIsDetermined}
 use Rattle.amoebot_state.proofs.Distinct.{taken_from_none}
-use Rattle.amoebot_state.proofs.Members.{Has, has_cases, not_in_none, Has-append_cases, Has-distinct, distinct_has, Has-filter, filter_has, Has-filter_map, filter_map_has, All-from_Has, length-distinct-le, length-filter-le, length-filter_map-le}
+use Rattle.amoebot_state.proofs.Members.{Has, has_cases, not_in_none, Has-append_cases, Has-distinct, distinct_has, Has-filter, filter_has, Has-filter_map, filter_map_has, filter_map-same, Contains-from_Has, All-from_Has, length-distinct-le, length-filter-le, length-filter_map-le}
 use Rattle.amoebot_state.proofs.Occupants.{covers_below, occupant_covers}
 
 -- node equality is an equivalence
@@ -63,37 +64,41 @@ ports_taken_up a b =
     ∙ taken_from_none node_eq_equiv (own_nodes b ++ behind_ports)
 
 -- the occupants are taken up as the nodes are gone through
-occupants_taken_up : (c : Config) (i : ℕ) (vs : List Node) (is : List ℕ) → fold (λ js v. with_other i js (occupant c v)) is vs ≡ fold (with_new nat_eq) is (filter (λ j. not (nat_eq j i)) (filter_map (occupant c) vs))
-occupants_taken_up c i [] is = refl
-occupants_taken_up c i (v ∷ vs) is = elim (occupant c v) as (λ o. occupant c v ≡ o → fold (λ js v. with_other i js (occupant c v)) is (v ∷ vs) ≡ fold (with_new nat_eq) is (filter (λ j. not (nat_eq j i)) (filter_map (occupant c) (v ∷ vs)))) [
-  | None ↦ λ e. rw e (occupants_taken_up c i vs is)
+occupants_taken_up : (on : Node → Option ℕ) (i : ℕ) (vs : List Node) (is : List ℕ) → fold (λ js v. with_other i js (on v)) is vs ≡ fold (with_new nat_eq) is (filter (λ j. not (nat_eq j i)) (filter_map on vs))
+occupants_taken_up on i [] is = refl
+occupants_taken_up on i (v ∷ vs) is = elim (on v) as (λ o. on v ≡ o → fold (λ js v. with_other i js (on v)) is (v ∷ vs) ≡ fold (with_new nat_eq) is (filter (λ j. not (nat_eq j i)) (filter_map on (v ∷ vs)))) [
+  | None ↦ λ e. rw e (occupants_taken_up on i vs is)
   | Some j ↦ λ e. elim (cases_Bool (nat_eq j i)) [
-    | inl t ↦ rw (e, t) (occupants_taken_up c i vs is)
-    | inr f ↦ rw (e, f) (occupants_taken_up c i vs (with_new nat_eq is j))
+    | inl t ↦ rw (e, t) (occupants_taken_up on i vs is)
+    | inr f ↦ rw (e, f) (occupants_taken_up on i vs (with_new nat_eq is j))
   ]
 ] refl
 
-pub others_taken_up : (c : Config) (i : ℕ) (vs : List Node) → fold (λ js v. with_other i js (occupant c v)) [] vs ≡ others c i vs
-others_taken_up c i vs = occupants_taken_up c i vs [] ∙ taken_from_none nat_eq_equiv (filter (λ j. not (nat_eq j i)) (filter_map (occupant c) vs))
+pub others_taken_up : (on : Node → Option ℕ) (i : ℕ) (vs : List Node) → fold (λ js v. with_other i js (on v)) [] vs ≡ others on i vs
+others_taken_up on i vs = occupants_taken_up on i vs [] ∙ taken_from_none nat_eq_equiv (filter (λ j. not (nat_eq j i)) (filter_map on vs))
+
+-- who is on the nodes of a zone, with the own amoebot, determines it
+pub zone_is_determined : ZoneIsDetermined
+zone_is_determined a i b on by same = ap (λ js. name.Body i ∷ (map name.Spot (zone_nodes a b) ++ map name.Body (distinct nat_eq (filter (λ j. not (nat_eq j i)) js)))) (filter_map-same on by (zone_nodes a b) (λ v has. same v (Contains-from_Has (zone_nodes a b) has)))
 
 -- an occupant of a node is the amoebot itself or one of the others
-pub occupant_in_zone : (c : Config) (i : ℕ) (v : Node) (vs : List Node) (j : ℕ) → Has v vs → occupant c v ≡ Some j → (j ≡ i) ⊎ Has j (others c i vs)
-occupant_in_zone c i v vs j has e = elim (cases_Bool (nat_eq j i)) [
+pub occupant_in_zone : (on : Node → Option ℕ) (i : ℕ) (v : Node) (vs : List Node) (j : ℕ) → Has v vs → on v ≡ Some j → (j ≡ i) ⊎ Has j (others on i vs)
+occupant_in_zone on i v vs j has e = elim (cases_Bool (nat_eq j i)) [
   | inl t ↦ inl (eqb-true j i t)
-  | inr f ↦ inr (Has-distinct nat_eq eqb-true (filter (λ k. not (nat_eq k i)) (filter_map (occupant c) vs)) (Has-filter (λ k. not (nat_eq k i)) (filter_map (occupant c) vs) (Has-filter_map (occupant c) vs has e) (ap not f)))
+  | inr f ↦ inr (Has-distinct nat_eq eqb-true (filter (λ k. not (nat_eq k i)) (filter_map on vs)) (Has-filter (λ k. not (nat_eq k i)) (filter_map on vs) (Has-filter_map on vs has e) (ap not f)))
 ]
 
 -- each of the others is an occupant of a node, and not the amoebot itself
-pub others_occupy : (c : Config) (i : ℕ) (vs : List Node) (j : ℕ) → Has j (others c i vs) → (v : Node) × Has v vs × (occupant c v ≡ Some j) × (j ≢ i)
-others_occupy c i vs j has =
-    let kept = filter_has (λ k. not (nat_eq k i)) (filter_map (occupant c) vs) (distinct_has nat_eq (filter (λ k. not (nat_eq k i)) (filter_map (occupant c) vs)) has) in
-    let found = filter_map_has (occupant c) vs kept.0 in
+pub others_occupy : (on : Node → Option ℕ) (i : ℕ) (vs : List Node) (j : ℕ) → Has j (others on i vs) → (v : Node) × Has v vs × (on v ≡ Some j) × (j ≢ i)
+others_occupy on i vs j has =
+    let kept = filter_has (λ k. not (nat_eq k i)) (filter_map on vs) (distinct_has nat_eq (filter (λ k. not (nat_eq k i)) (filter_map on vs)) has) in
+    let found = filter_map_has on vs kept.0 in
     (found.0, found.1, found.2, λ e. both_ways _ (ap not (eq-eqb j i e)) kept.1)
 
 -- so each of them is there
-pub others_there : (c : Config) (i : ℕ) (vs : List Node) → All (λ j. j < length c.bots) (others c i vs)
-others_there c i vs = All-from_Has (λ j. j < length c.bots) (others c i vs) (λ j has.
-    let by = others_occupy c i vs j has in
+pub others_there : (c : Config) (i : ℕ) (vs : List Node) → All (λ j. j < length c.bots) (others (occupant c) i vs)
+others_there c i vs = All-from_Has (λ j. j < length c.bots) (others (occupant c) i vs) (λ j has.
+    let by = others_occupy (occupant c) i vs j has in
     covers_below c j by.0 (occupant_covers c by.0 j by.2))
 
 -- bounds that the code's lists have room for
@@ -111,18 +116,18 @@ length-zone_nodes-le a b =
     length-own_nodes-le : (b : Bot) → length (own_nodes b) ≤ 2
     length-own_nodes-le b = elim (cases_Bool (is_contracted b)) [ inl t ↦ rw t (omega arith) | inr f ↦ rw f (omega arith) ]
 
-pub length-others-le : (c : Config) (i : ℕ) (vs : List Node) → length (others c i vs) ≤ length vs
-length-others-le c i vs =
-    let kept = filter (λ j. not (nat_eq j i)) (filter_map (occupant c) vs) in
-    omega (arith, length-distinct-le nat_eq kept, length-filter-le (λ j. not (nat_eq j i)) (filter_map (occupant c) vs), length-filter_map-le (occupant c) vs)
+pub length-others-le : (on : Node → Option ℕ) (i : ℕ) (vs : List Node) → length (others on i vs) ≤ length vs
+length-others-le on i vs =
+    let kept = filter (λ j. not (nat_eq j i)) (filter_map on vs) in
+    omega (arith, length-distinct-le nat_eq kept, length-filter-le (λ j. not (nat_eq j i)) (filter_map on vs), length-filter_map-le on vs)
 
-pub length-zone_of-le : (c : Config) (i : ℕ) (vs : List Node) → length vs ≤ 14 → length (zone_of c i vs) ≤ 29
-length-zone_of-le c i vs few =
-    let bodies = others c i vs in
+pub length-zone_of-le : (on : Node → Option ℕ) (i : ℕ) (vs : List Node) → length vs ≤ 14 → length (zone_of on i vs) ≤ 29
+length-zone_of-le on i vs few =
+    let bodies = others on i vs in
     let both = length-append (map name.Spot vs) (map name.Body bodies) in
     let spots = length-map vs name.Spot in
     let more = length-map bodies name.Body in
-    let lt = length-others-le c i vs in
+    let lt = length-others-le on i vs in
     omega (arith, both, spots, more, lt, few)
 
 -- the nodes of a zone lie in the area, if the amoebot's own do

@@ -19,8 +19,8 @@ use Rattle.amoebot_state.specs.declared.verdict.Verdict.TheVariants as verdict
 use Rattle.amoebot_state.specs.Pairs.{Pairs, cell_of, value_of}
 use Rattle.amoebot_state.specs.Ports.{global, local, is_port, ports, behind, is_contracted, is_beside}
 use Rattle.amoebot_state.specs.Configs.{Config, IsValid, bot_at, occupant, value, config_of}
-use Rattle.amoebot_state.specs.Zones.{Shown, IsShown, distinct, zone, shown, gap}
-use Rattle.amoebot_state.specs.Patches.{IsPatched, same_value, diff}
+use Rattle.amoebot_state.specs.Zones.{Shown, IsShown, distinct, zone_nodes, zone_at, zone, shown, gap}
+use Rattle.amoebot_state.specs.Patches.{IsPatched, IsOrdered, same_value, diff}
 use Rattle.amoebot_state.specs.Refusals.{IsPlain, IsFaultless}
 use Rattle.amoebot_state.specs.Occupied.{occupied}
 use Rattle.amoebot_state.specs.Steps.{Step, Run, TouchesZone, HasNext, IsExact}
@@ -49,6 +49,10 @@ TenPortsLeadToEightNodes = (b : Bot) → b.rot < 6 → Adjacent b.head b.tail �
 -- the node behind a pair of an end and a direction, as a port is one, is beside the amoebot
 abbrev pub PortLeadsBeside : Type 0
 PortLeadsBeside = (b : Bot) (p : Port) → IsTrue (is_beside b (behind b p))
+
+-- the own amoebot and the occupants of the zone's nodes determine the zone
+abbrev pub ZoneIsDetermined : Type 0
+ZoneIsDetermined = (a : Extent) (i : ℕ) (b : Bot) (on by : Node → Option ℕ) → ((v : Node) → Contains (zone_nodes a b) v → on v ≡ by v) → zone_at a on i (Some b) ≡ zone_at a by i (Some b)
 
 -- no cell stands twice in a zone
 abbrev pub ZoneListsEachCellOnce : Type 0
@@ -126,6 +130,10 @@ SameValueIsEquality = (x y : Option Cell) → IsTrue (same_value x y) ↔ (x ≡
 -- one to the new one, and each cell that it lists differs
 abbrev pub DiffLeads : Type 0
 DiffLeads = (old new : Config) → IsValid old → IsValid new → new ≡ record old { bots = new.bots } → length new.bots ≡ length old.bots → ((i : ℕ) → is_some (bot_at new i) ≡ is_some (bot_at old i)) → IsPatched old (diff old new) new × All (λ (p : CellName × Cell). value old (cell_of p) ≢ Some (value_of p)) (diff old new)
+
+-- an ordered patch that leads from one valid configuration to another, and each of whose pairs differs, is their difference
+abbrev pub OrderedPatchIsDiff : Type 0
+OrderedPatchIsDiff = (old new : Config) (ps : Pairs) → IsValid old → IsPatched old ps new → IsOrdered ps → All (λ (p : CellName × Cell). value old (cell_of p) ≢ Some (value_of p)) ps → ps ≡ diff old new
 
 -- no amoebot of a valid configuration is refused
 abbrev pub ValidIsFaultless : Type 0

@@ -25,22 +25,23 @@ distinct eq (x ∷ xs) = x ∷ filter (λ y. not (eq x y)) (distinct eq xs)
 abbrev pub zone_nodes : Extent → Bot → List Node
 zone_nodes a b = distinct node_eq (own_nodes b ++ filter (is_in a) (map (behind b) (ports b)))
 
--- the other amoebots on the nodes, in the order of the nodes, each once
-abbrev pub others : Config → ℕ → List Node → List ℕ
-others c i vs = distinct nat_eq (filter (λ j. not (nat_eq j i)) (filter_map (occupant c) vs))
+-- the other amoebots on the nodes, in the order of the nodes, each once; `on` says who is on a node
+abbrev pub others : (Node → Option ℕ) → ℕ → List Node → List ℕ
+others on i vs = distinct nat_eq (filter (λ j. not (nat_eq j i)) (filter_map on vs))
 
--- the body, the nodes, the bodies of the others
-abbrev pub zone_of : Config → ℕ → List Node → List CellName
-zone_of c i vs = name.Body i ∷ (map name.Spot vs ++ map name.Body (others c i vs))
+-- the body, the nodes, the bodies of the others on them
+abbrev pub zone_of : (Node → Option ℕ) → ℕ → List Node → List CellName
+zone_of on i vs = name.Body i ∷ (map name.Spot vs ++ map name.Body (others on i vs))
 
--- the zone of an id, in zone order; empty where there is no amoebot (this project's profile)
-abbrev pub zone_at : Config → ℕ → Option Bot → List CellName
-zone_at c i None = []
-zone_at c i (Some b) = zone_of c i (zone_nodes c.area b)
+-- the zone of an id in an area, in zone order, where this amoebot is the id's own, and `on` says who is on a node; empty where
+-- the id has no amoebot (this project's profile)
+abbrev pub zone_at : Extent → (Node → Option ℕ) → ℕ → Option Bot → List CellName
+zone_at a on i None = []
+zone_at a on i (Some b) = zone_of on i (zone_nodes a b)
 
--- the same for the amoebot that the configuration has there
+-- the zone in a configuration: with its area, its occupants, and the amoebot that it has there
 abbrev pub zone : Config → ℕ → List CellName
-zone c i = zone_at c i (bot_at c i)
+zone c i = zone_at c.area (occupant c) i (bot_at c i)
 
 -- a closed neighbourhood (this project's profile): the area, the greatest values, the id that is shown it, and cells with what they hold
 pub record Shown : Type 0 where

@@ -1,4 +1,4 @@
-ghost use Rattle.amoebot_state.specs.Laws.{GlobalAndLocalAreInverse, ContractedHasSixPorts, ExpandedHasTenPorts, SixPortsLeadToSixNodes, TenPortsLeadToEightNodes, ZoneListsEachCellOnce, ZoneHasAtMostTenNodes, ZoneHasAtMostNineBodies, NodeBehindPortIsInZone, OccupantBehindPortIsInZone, GapShowsWhatWasShown, PatchedIsUnique, PatchListsWhatDiffers, StepHasOneResult, RunHasOneLast, ExpansionVerdictIsShown, SameValueIsEquality, DiffLeads, ValidIsFaultless, FaultlessIsValid, GapIsValid, GapHoldsTheSame, OccupiedIsOccupant, PortLeadsBeside, ExpansionChanges, ExpansionKeepsLaws};
+ghost use Rattle.amoebot_state.specs.Laws.{GlobalAndLocalAreInverse, ContractedHasSixPorts, ExpandedHasTenPorts, SixPortsLeadToSixNodes, TenPortsLeadToEightNodes, ZoneIsDetermined, ZoneListsEachCellOnce, ZoneHasAtMostTenNodes, ZoneHasAtMostNineBodies, NodeBehindPortIsInZone, OccupantBehindPortIsInZone, GapShowsWhatWasShown, PatchedIsUnique, PatchListsWhatDiffers, StepHasOneResult, RunHasOneLast, ExpansionVerdictIsShown, SameValueIsEquality, DiffLeads, OrderedPatchIsDiff, ValidIsFaultless, FaultlessIsValid, GapIsValid, GapHoldsTheSame, OccupiedIsOccupant, PortLeadsBeside, ExpansionChanges, ExpansionKeepsLaws};
 
 /// Local and global directions are both 0 to 5, and the one is the inverse of the other, with either chirality.
 pub fn global_and_local_are_inverse()
@@ -28,6 +28,11 @@ pub fn ten_ports_lead_to_eight_nodes()
 /// The node behind a port is beside the amoebot.
 pub fn port_leads_beside()
     ensures { PortLeadsBeside }
+{}
+
+/// The own amoebot and the occupants of the zone's nodes determine the zone.
+pub fn zone_is_determined()
+    ensures { ZoneIsDetermined }
 {}
 
 /// No cell stands twice in a zone.
@@ -105,6 +110,11 @@ pub fn same_value_is_equality()
 /// the old one to the new one, and each cell that it lists differs.
 pub fn diff_leads()
     ensures { DiffLeads }
+{}
+
+/// An ordered patch that leads from one valid configuration to another, and each of whose pairs differs, is their difference.
+pub fn ordered_patch_is_diff()
+    ensures { OrderedPatchIsDiff }
 {}
 
 /// No amoebot of a valid configuration is refused.

@@ -21,10 +21,10 @@ pub use laws::{
     expansion_keeps_laws, expansion_verdict_is_shown, faultless_is_valid, gap_holds_the_same,
     gap_is_valid, gap_shows_what_was_shown, global_and_local_are_inverse,
     node_behind_port_is_in_zone, occupant_behind_port_is_in_zone, occupied_is_occupant,
-    patch_lists_what_differs, patched_is_unique, port_leads_beside, run_has_one_last,
-    same_value_is_equality, six_ports_lead_to_six_nodes, step_has_one_result,
+    ordered_patch_is_diff, patch_lists_what_differs, patched_is_unique, port_leads_beside,
+    run_has_one_last, same_value_is_equality, six_ports_lead_to_six_nodes, step_has_one_result,
     ten_ports_lead_to_eight_nodes, valid_is_faultless, zone_has_at_most_nine_bodies,
-    zone_has_at_most_ten_nodes, zone_lists_each_cell_once,
+    zone_has_at_most_ten_nodes, zone_is_determined, zone_lists_each_cell_once,
 };
 pub use refusal::{NoMemory, WorldRefusal};
 pub use verdict::{Change, Entry, Failure, Moved, Verdict};

@@ -230,7 +230,7 @@ impl World {
     /// The other amoebots on the nodes.
     fn others(&self, id: u16, nodes: &[Node]) -> ArrayVec<u16, 14>
         requires { length nodes.now ≤ 14 }
-        ensures value { result.items ≡ others self.now id nodes.now }
+        ensures value { result.items ≡ others (occupant self.now) id nodes.now }
         ensures few { array_vec_len result ≤ 14 }
     {
         let mut ids = ArrayVec::new();

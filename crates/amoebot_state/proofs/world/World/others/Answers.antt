@@ -24,4 +24,4 @@ returns-clause-value c =
     let add : List ℕ → Node → List ℕ = λ is v. with_other c.args.id is (occupant c.args.self.now v) in
     c.loop-node.invariant.0
     ∙ ap (fold add []) (take_all c.loop-node.node-index c.args.nodes.now c.loop-node-test.false)
-    ∙ others_taken_up c.args.self.now c.args.id c.args.nodes.now
+    ∙ others_taken_up (occupant c.args.self.now) c.args.id c.args.nodes.now

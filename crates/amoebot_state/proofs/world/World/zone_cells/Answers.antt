@@ -25,7 +25,7 @@ returns c =
     cells_made w c.args.bot c.args.own.now c.zone_nodes-nodes.result.items c.others-ids.result.items c.add_bodies.new.cells.items
     c.requires.there
     (c.zone_nodes-nodes.ensures.value ∙ ap (λ (d : Config). zone_nodes d.area c.args.own.now) c.self.view_is)
-    (c.others-ids.ensures.value ∙ ap (others w c.args.bot) c.as_slice.ensures.value)
+    (c.others-ids.ensures.value ∙ ap (others (occupant w) c.args.bot) c.as_slice.ensures.value)
     (c.add_bodies.ensures
     ∙ ap (λ is. c.add_spots.new.cells.items ++ bodies is) c.as_slice-3.ensures.value
     ∙ ap (λ xs. xs ++ bodies c.others-ids.result.items) (c.add_spots.ensures
