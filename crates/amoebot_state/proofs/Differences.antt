@@ -72,7 +72,7 @@ stays old new n has alike none = elim (cases_Bool (same_value (value old n) (val
   ] refl
 ]
 
-is_some-option_map : {A B : Type 0} (f : A → B) (o : Option A) → is_some (option_map f o) ≡ is_some o
+pub is_some-option_map : {A B : Type 0} (f : A → B) (o : Option A) → is_some (option_map f o) ≡ is_some o
 is_some-option_map f None = refl
 is_some-option_map f (Some x) = refl
 

@@ -13,7 +13,7 @@ use Rattle.amoebot_state.specs.declared.cell.Cell.{Cell}
 use Rattle.amoebot_state.specs.declared.cell.Cell.TheVariants as cell
 use Rattle.amoebot_state.specs.Configs.{Config, IsValid, bot_at, occupant, covers, value}
 use Rattle.amoebot_state.specs.Zones.{Shown, shown, shown_cell, zone, zone_at, zone_of, zone_nodes, others, with_id, spread, gap}
-use Rattle.amoebot_state.specs.Storage.{body_in}
+use Rattle.amoebot_state.specs.Pairs.{body_in}
 use Rattle.amoebot_state.proofs.Members.{Has, here, later, has_cases, not_in_none, Has-map, map_has, Has-append_left, Has-append_right, Has-append_cases, Has-from_Contains, filter_map-same}
 use Rattle.amoebot_state.proofs.Occupants.{occupant_at, occupant_none, nobody_covers, occupant_covers}
 use Rattle.amoebot_state.proofs.Zones.{occupant_in_zone, zone_is_determined, zone_nodes_inside}
@@ -44,7 +44,7 @@ spread_at ((name.Body i, cell.Body b) ∷ cells) j = elim (cases_Bool (nat_eq i 
 ]
 
 -- where the names have the body, the cells hold the amoebot that the configuration has
-body_shown : (c : Config) (names : List CellName) (j : ℕ) → Has (name.Body j) names → body_in (filter_map (shown_cell c) names) j ≡ bot_at c j
+pub body_shown : (c : Config) (names : List CellName) (j : ℕ) → Has (name.Body j) names → body_in (filter_map (shown_cell c) names) j ≡ bot_at c j
 body_shown c [] j has = absurd (not_in_none has)
 body_shown c (name.Spot v ∷ names) j has = elim (has_cases has) [ inl e ↦ absurd (cc) | inr r ↦ body_shown c names j r ]
 body_shown c (name.Body i ∷ names) j has = elim (bot_at c i) as (λ o. bot_at c i ≡ o → body_in (filter_map (shown_cell c) (name.Body i ∷ names)) j ≡ bot_at c j) [

@@ -5,7 +5,9 @@ pub mod Differences
 pub mod Directions
 pub mod Distinct
 pub mod Faults
+pub mod Fronts
 pub mod Gaps
+pub mod Known
 pub mod Members
 pub mod Occupants
 pub mod Occupied

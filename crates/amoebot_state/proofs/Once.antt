@@ -9,8 +9,8 @@ use Rattle.tri_lattice.specs.Lattice.{node_eq}
 use Rattle.tri_lattice.proofs.Nodes.{node_eq_same}
 use Rattle.amoebot_state.specs.declared.bot.Bot.{Bot}
 use Rattle.amoebot_state.specs.declared.cell.CellName.TheVariants as name
-use Rattle.amoebot_state.specs.Configs.{bot_at, occupant}
-use Rattle.amoebot_state.specs.Zones.{distinct, zone_nodes, others, zone_of, zone_at}
+use Rattle.amoebot_state.specs.Configs.{Config, bot_at, occupant}
+use Rattle.amoebot_state.specs.Zones.{distinct, zone_nodes, others, zone_of, zone_at, zone}
 use Rattle.amoebot_state.specs.Laws.{ZoneListsEachCellOnce}
 use Rattle.amoebot_state.proofs.Members.{Has, here, later, map_has, filter_has, Has-append_cases, All-from_Has}
 use Rattle.amoebot_state.proofs.Zones.{others_occupy}
@@ -19,6 +19,19 @@ use Rattle.amoebot_state.proofs.Zones.{others_occupy}
 pub data Once {A : Type 0} : List A → Type 0 where
   none : Once []
   more : {x : A} {xs : List A} → (Has x xs → ⊥) → Once xs → Once (x ∷ xs)
+
+pub once_parts : {A : Type 0} {x : A} {xs : List A} → Once (x ∷ xs) → (Has x xs → ⊥) × Once xs
+once_parts {A} {x} {xs} once = split once refl
+  where
+    head_is : {a b : A} {ys zs : List A} → a ∷ ys ≡ b ∷ zs → a ≡ b
+    head_is e = cc
+
+    tail_is : {a b : A} {ys zs : List A} → a ∷ ys ≡ b ∷ zs → ys ≡ zs
+    tail_is e = cc
+
+    split : {zs : List A} → Once zs → zs ≡ x ∷ xs → (Has x xs → ⊥) × Once xs
+    split none e = cc
+    split (more {x = y} {xs = ys} new rest) e = (λ has. new (subst (λ z. Has z ys) (sym (head_is e)) (subst (Has x) (sym (tail_is e)) has)), subst Once (tail_is e) rest)
 
 AllPairs-from_Once : {A : Type 0} {xs : List A} → Once xs → AllPairs (λ x y. x ≢ y) xs
 AllPairs-from_Once none = λ i j d before within. absurd (omega arith)
@@ -42,17 +55,17 @@ Once-append {A} {xs} {ys} (more {x = x} {xs = rest} new once) other apart = more
     (Once-append once other (λ y h. apart y (later h)))
 
 -- the distinct elements of a list are each there once
-Once-distinct : {A : Type 0} (eq : A → A → Bool) → ((x : A) → eq x x ≡ true) → (xs : List A) → Once (distinct eq xs)
+pub Once-distinct : {A : Type 0} (eq : A → A → Bool) → ((x : A) → eq x x ≡ true) → (xs : List A) → Once (distinct eq xs)
 Once-distinct eq same [] = none
 Once-distinct eq same (x ∷ xs) = more (λ has. both_ways _ (ap not (same x)) (filter_has (λ y. not (eq x y)) (distinct eq xs) has).1) (Once-filter (λ y. not (eq x y)) (Once-distinct eq same xs))
 
-same_spot : (u v : Node) → name.Spot u ≡ name.Spot v → u ≡ v
+pub same_spot : (u v : Node) → name.Spot u ≡ name.Spot v → u ≡ v
 same_spot u v e = cc
 
-same_body : (i j : ℕ) → name.Body i ≡ name.Body j → i ≡ j
+pub same_body : (i j : ℕ) → name.Body i ≡ name.Body j → i ≡ j
 same_body i j e = cc
 
-spot_is_no_body : (v : Node) (i : ℕ) → name.Spot v ≡ name.Body i → ⊥
+pub spot_is_no_body : (v : Node) (i : ℕ) → name.Spot v ≡ name.Body i → ⊥
 spot_is_no_body v i e = cc
 
 zone_of_once : (on : Node → Option ℕ) (i : ℕ) (vs : List Node) → Once vs → Once (zone_of on i vs)
@@ -73,5 +86,8 @@ zone_at_once : (a : Extent) (on : Node → Option ℕ) (i : ℕ) (o : Option Bot
 zone_at_once a on i None = none
 zone_at_once a on i (Some b) = zone_of_once on i (zone_nodes a b) (Once-distinct node_eq node_eq_same _)
 
+pub zone_once : (c : Config) (i : ℕ) → Once (zone c i)
+zone_once c i = zone_at_once c.area (occupant c) i (bot_at c i)
+
 pub zone_lists_each_cell_once : ZoneListsEachCellOnce
-zone_lists_each_cell_once c i = AllPairs-from_Once (zone_at_once c.area (occupant c) i (bot_at c i))
+zone_lists_each_cell_once c i = AllPairs-from_Once (zone_once c i)

@@ -1,6 +1,6 @@
 -- The definitions at small values, computed: what is expected was written out by hand.
 use Rattle.std.proofs.Common.{◌≡◌, ◌≢◌, ℕ, zero, suc, List, pos, [], ◌∷◌, refl, map, ap, inl, inr, None, Some, Option}
-use Rattle.std.specs.Prelude.{is_some}
+use Rattle.std.specs.Prelude.{is_some, take}
 use Rattle.std.proofs.lemmas.Bool.{cases_Bool}
 use Rattle.std.proofs.lemmas.List.Elements.{All-from_recursion, recursion_from_All}
 use Rattle.tri_lattice.specs.Lattice.{node_eq}
@@ -21,6 +21,7 @@ use Rattle.amoebot_state.specs.declared.verdict.Failure.TheVariants.{NotContract
 use Rattle.amoebot_state.specs.Ports.{port, ports, global, local}
 use Rattle.amoebot_state.specs.Configs.{Config, with_bot, IsValid, config_of, bot_at, value}
 use Rattle.amoebot_state.specs.Zones.{Shown, zone, shown, gap}
+use Rattle.amoebot_state.specs.Known.{known_zone, next_cell}
 use Rattle.amoebot_state.specs.Patches.{IsPatched, diff}
 use Rattle.std.specs.Option.{option_or}
 use Rattle.amoebot_state.specs.Refusals.{bot_fault}
@@ -213,6 +214,25 @@ zone_train_0 = refl
 
 shown_train_0 : shown train 0 ≡ shows 0 (with_body 0 stretched ∷ held 3 3 0 ∷ held 2 3 0 ∷ free 4 3 ∷ free 3 4 ∷ free 2 4 ∷ free 3 2 ∷ free 4 2 ∷ free 1 4 ∷ held 1 3 1 ∷ free 2 2 ∷ with_body 1 (contracted (at 1 3)) ∷ [])
 shown_train_0 = refl
+
+-- the same zone as it is read: the body first; then its nodes are known, and the neighbour once the node that it is on was read
+abbrev read_train : ℕ → List (CellName × Cell)
+read_train n = take n (with_body 0 stretched ∷ held 3 3 0 ∷ held 2 3 0 ∷ free 4 3 ∷ free 3 4 ∷ free 2 4 ∷ free 3 2 ∷ free 4 2 ∷ free 1 4 ∷ held 1 3 1 ∷ free 2 2 ∷ with_body 1 (contracted (at 1 3)) ∷ [])
+
+known_of_nothing : known_zone eight 0 (read_train 0) ≡ body 0 ∷ []
+known_of_nothing = refl
+
+known_of_the_body : known_zone eight 0 (read_train 1) ≡ body 0 ∷ spot 3 3 ∷ spot 2 3 ∷ spot 4 3 ∷ spot 3 4 ∷ spot 2 4 ∷ spot 3 2 ∷ spot 4 2 ∷ spot 1 4 ∷ spot 1 3 ∷ spot 2 2 ∷ []
+known_of_the_body = refl
+
+known_before_the_neighbour : known_zone eight 0 (read_train 9) ≡ known_zone eight 0 (read_train 1)
+known_before_the_neighbour = refl
+
+known_with_the_neighbour : known_zone eight 0 (read_train 10) ≡ body 0 ∷ spot 3 3 ∷ spot 2 3 ∷ spot 4 3 ∷ spot 3 4 ∷ spot 2 4 ∷ spot 3 2 ∷ spot 4 2 ∷ spot 1 4 ∷ spot 1 3 ∷ spot 2 2 ∷ body 1 ∷ []
+known_with_the_neighbour = refl
+
+next_cells : map (λ n. next_cell eight 0 (read_train n)) (0 ∷ 1 ∷ 2 ∷ 9 ∷ 10 ∷ 11 ∷ 12 ∷ []) ≡ Some (body 0) ∷ Some (spot 3 3) ∷ Some (spot 2 3) ∷ Some (spot 1 3) ∷ Some (spot 2 2) ∷ Some (body 1) ∷ None ∷ []
+next_cells = refl
 
 zone_train_1 : zone train 1 ≡ body 1 ∷ spot 1 3 ∷ spot 2 3 ∷ spot 1 4 ∷ spot 0 4 ∷ spot 0 3 ∷ spot 1 2 ∷ spot 2 2 ∷ body 0 ∷ []
 zone_train_1 = refl

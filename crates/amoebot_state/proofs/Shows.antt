@@ -18,7 +18,7 @@ use Rattle.amoebot_state.specs.Ports.{is_beside}
 use Rattle.amoebot_state.specs.Configs.{Config, IsValid, bot_at, bot_of, blank, occupant}
 use Rattle.amoebot_state.specs.Refusals.{IsPlain}
 use Rattle.amoebot_state.specs.Zones.{Shown, IsShown, IsFound, shown, shown_cell, zone, zone_nodes, others, gap}
-use Rattle.amoebot_state.specs.Storage.{spot_in}
+use Rattle.amoebot_state.specs.Pairs.{spot_in}
 use Rattle.amoebot_state.proofs.Members.{Has, here, later, has_cases, not_in_none, length-filter_map-le}
 use Rattle.amoebot_state.proofs.Occupants.{plain_bot, outside_empty}
 use Rattle.amoebot_state.proofs.Directions.{beside_in_zone}
@@ -58,7 +58,7 @@ found_by c i own s valid at is =
     is_there : (o : Option Bot) (b : Bot) → o ≡ Some b → IsSome o
     is_there o b e = ap is_some e
 
-there_is : (o : Option Bot) → IsSome o → (b : Bot) × (o ≡ Some b)
+pub there_is : (o : Option Bot) → IsSome o → (b : Bot) × (o ≡ Some b)
 there_is None h = absurd (false≢true h)
 there_is (Some b) h = (b, refl)
 
@@ -81,7 +81,7 @@ length-shown-le s is =
     subst (λ (t : Shown). length t.cells ≤ 30) is.3 all
 
 -- a node of the zone has its occupant among the cells
-spot_found : (c : Config) (names : List CellName) (v : Node) → Has (name.Spot v) names → spot_in (filter_map (shown_cell c) names) v ≡ Some (occupant c v)
+pub spot_found : (c : Config) (names : List CellName) (v : Node) → Has (name.Spot v) names → spot_in (filter_map (shown_cell c) names) v ≡ Some (occupant c v)
 spot_found c [] v has = absurd (not_in_none has)
 spot_found c (name.Body i ∷ names) v has = elim (bot_at c i) as (λ o. bot_at c i ≡ o → spot_in (filter_map (shown_cell c) (name.Body i ∷ names)) v ≡ Some (occupant c v)) [
   | None ↦ λ e. rw e (spot_found c names v (rest has))
@@ -99,7 +99,7 @@ spot_found c (name.Spot u ∷ names) v has = elim (cases_Bool (node_eq u v)) [
 ]
 
 -- a node that is not in the zone has none there
-spot_absent : (c : Config) (names : List CellName) (v : Node) → (Has (name.Spot v) names → ⊥) → spot_in (filter_map (shown_cell c) names) v ≡ None
+pub spot_absent : (c : Config) (names : List CellName) (v : Node) → (Has (name.Spot v) names → ⊥) → spot_in (filter_map (shown_cell c) names) v ≡ None
 spot_absent c [] v lacks = refl
 spot_absent c (name.Body i ∷ names) v lacks = elim (bot_at c i) as (λ o. bot_at c i ≡ o → spot_in (filter_map (shown_cell c) (name.Body i ∷ names)) v ≡ None) [
   | None ↦ λ e. rw e (spot_absent c names v (λ h. lacks (later h)))

@@ -1,5 +1,5 @@
 -- What follows from the definitions alone.
-use Rattle.std.specs.Prelude.{◌≡◌, ◌≢◌, ◌↔◌, ◌⊎◌, ◌<◌, ◌≤◌, ℕ, List, [], ◌∷◌, IsSome, Bool, true, false, map, length, is_some, IsTrue}
+use Rattle.std.specs.Prelude.{◌≡◌, ◌≢◌, ◌↔◌, ◌⊎◌, ◌<◌, ◌≤◌, ℕ, List, [], ◌∷◌, ◌++◌, IsSome, Bool, true, false, map, length, is_some, slice_get, IsTrue}
 use Rattle.std.specs.List.{All, AllPairs, Contains, count_by}
 use Rattle.std.specs.declared.option.Option.{Option}
 use Rattle.std.specs.declared.option.Option.TheVariants.{Some, None}
@@ -20,6 +20,7 @@ use Rattle.amoebot_state.specs.Pairs.{Pairs, cell_of, value_of}
 use Rattle.amoebot_state.specs.Ports.{global, local, is_port, ports, behind, is_contracted, is_beside}
 use Rattle.amoebot_state.specs.Configs.{Config, IsValid, bot_at, occupant, value, config_of}
 use Rattle.amoebot_state.specs.Zones.{Shown, IsShown, distinct, zone_nodes, zone_at, zone, shown, gap}
+use Rattle.amoebot_state.specs.Known.{IsFront, known_zone, next_cell}
 use Rattle.amoebot_state.specs.Patches.{IsPatched, IsOrdered, same_value, diff}
 use Rattle.amoebot_state.specs.Refusals.{IsPlain, IsFaultless}
 use Rattle.amoebot_state.specs.Occupied.{occupied}
@@ -53,6 +54,43 @@ PortLeadsBeside = (b : Bot) (p : Port) → IsTrue (is_beside b (behind b p))
 -- the own amoebot and the occupants of the zone's nodes determine the zone
 abbrev pub ZoneIsDetermined : Type 0
 ZoneIsDetermined = (a : Extent) (i : ℕ) (b : Bot) (on by : Node → Option ℕ) → ((v : Node) → Contains (zone_nodes a b) v → on v ≡ by v) → zone_at a on i (Some b) ≡ zone_at a by i (Some b)
+
+-- what an amoebot is shown lists the cells of its zone, in zone order
+abbrev pub ShownListsZone : Type 0
+ShownListsZone = (c : Config) (i : ℕ) → map cell_of (shown c i).cells ≡ zone c i
+
+-- and each with what it holds
+abbrev pub ShownHoldsValues : Type 0
+ShownHoldsValues = (c : Config) (i : ℕ) → All (λ (p : CellName × Cell). value c (cell_of p) ≡ Some (value_of p)) (shown c i).cells
+
+-- what is known of a zone, when a front of it was read, is a front of it
+abbrev pub KnownIsFront : Type 0
+KnownIsFront = (c : Config) (i : ℕ) (cells : Pairs) → IsSome (bot_at c i) → IsFront cells (shown c i).cells → IsFront (known_zone c.area i cells) (zone c i)
+
+-- the next cell is then the zone's next one; there is none where there is none in the zone
+abbrev pub NextIsInZone : Type 0
+NextIsInZone = (c : Config) (i : ℕ) (cells : Pairs) → IsSome (bot_at c i) → IsFront cells (shown c i).cells → next_cell c.area i cells ≡ slice_get (zone c i) (length cells)
+
+-- the next cell has a value, and with it the cells that were read are a front again
+abbrev pub FrontGrows : Type 0
+FrontGrows = (c : Config) (i : ℕ) (cells : Pairs) (n : CellName) → IsSome (bot_at c i) → IsFront cells (shown c i).cells → next_cell c.area i cells ≡ Some n → (x : Cell) × (value c n ≡ Some x) × IsFront (cells ++ (n, x) ∷ []) (shown c i).cells
+
+-- it is none of those that were read
+abbrev pub NextIsNew : Type 0
+NextIsNew = (c : Config) (i : ℕ) (cells : Pairs) (n : CellName) → IsSome (bot_at c i) → IsFront cells (shown c i).cells → next_cell c.area i cells ≡ Some n → All (λ (p : CellName × Cell). cell_of p ≢ n) cells
+
+-- what is known grows at its end alone: further cells that are read leave the cells before as they were
+abbrev pub KnownGrowsAtItsEnd : Type 0
+KnownGrowsAtItsEnd = (c : Config) (i : ℕ) (cells more : Pairs) → IsSome (bot_at c i) → IsFront (cells ++ more) (shown c i).cells → IsFront (known_zone c.area i cells) (known_zone c.area i (cells ++ more))
+
+-- there is no next cell exactly where what was read is all that the amoebot is shown
+abbrev pub WholeZoneIsShown : Type 0
+WholeZoneIsShown = (c : Config) (i : ℕ) (cells : Pairs) → IsSome (bot_at c i) → IsFront cells (shown c i).cells → (next_cell c.area i cells ≡ None) ↔ (cells ≡ (shown c i).cells)
+
+-- what was read of one configuration is a front of the zone in each other one with the same area in which the cells that were
+-- read hold the same
+abbrev pub FrontStands : Type 0
+FrontStands = (c d : Config) (i : ℕ) (cells : Pairs) → d.area ≡ c.area → IsFront cells (shown c i).cells → All (λ (p : CellName × Cell). value d (cell_of p) ≡ Some (value_of p)) cells → IsFront cells (shown d i).cells
 
 -- no cell stands twice in a zone
 abbrev pub ZoneListsEachCellOnce : Type 0

@@ -2,6 +2,7 @@ pub mod Ports
 pub mod Pairs
 pub mod Configs
 pub mod Zones
+pub mod Known
 pub mod Patches
 pub mod Refusals
 pub mod Steps

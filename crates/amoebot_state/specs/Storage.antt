@@ -1,7 +1,6 @@
 -- How a world writes into its lists. No public clause cites these.
 use Rattle.std.specs.Prelude.{ℕ, List, [], ◌∷◌, ◌++◌, Bool, not, ◌&&◌, if◌then◌else◌, slice_set, nat_eq}
 use Rattle.std.specs.List.{list_any, fold}
-use Rattle.std.specs.Option.{option_or}
 use Rattle.std.specs.declared.option.Option.{Option}
 use Rattle.std.specs.declared.option.Option.TheVariants.{Some, None}
 use Rattle.tri_lattice.specs.declared.node.Node.{Node}
@@ -41,28 +40,6 @@ put_bots bs ps = fold (λ cs (p : CellName × Cell). put_bot cs p.0 p.1) bs ps
 
 abbrev pub put_spots : Extent → List (Option ℕ) → List (CellName × Cell) → List (Option ℕ)
 put_spots a g ps = fold (λ h (p : CellName × Cell). put_spot a h p.0 p.1) g ps
-
--- the amoebot of a cell, where that is the body of the id
-abbrev pub body_at : CellName → Cell → ℕ → Option Bot
-body_at (name.Body i) (cell.Body b) j = if nat_eq i j then Some b else None
-body_at (name.Body i) (cell.Spot o) j = None
-body_at (name.Spot v) x j = None
-
--- the amoebot that cells hold for an id
-abbrev pub body_in : List (CellName × Cell) → ℕ → Option Bot
-body_in [] j = None
-body_in (p ∷ ps) j = option_or (body_at p.0 p.1 j) (body_in ps j)
-
--- the occupant of a cell, where that is the node
-abbrev pub spot_at : CellName → Cell → Node → Option (Option ℕ)
-spot_at (name.Spot u) (cell.Spot o) v = if node_eq u v then Some o else None
-spot_at (name.Spot u) (cell.Body b) v = None
-spot_at (name.Body i) x v = None
-
--- the occupant that cells have for a node
-abbrev pub spot_in : List (CellName × Cell) → Node → Option (Option ℕ)
-spot_in [] v = None
-spot_in (p ∷ ps) v = option_or (spot_at p.0 p.1 v) (spot_in ps v)
 
 -- the nodes with the one behind a port, where it is a port, the node lies in the area and is new
 abbrev pub with_port : Extent → Bot → List Node → Port → List Node

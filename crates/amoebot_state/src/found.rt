@@ -4,7 +4,7 @@ ghost use Rattle.amoebot_state.specs.Configs.{IsValid, bot_at, bot_of, occupant}
 ghost use Rattle.amoebot_state.specs.Ports.{is_beside};
 ghost use Rattle.amoebot_state.specs.Refusals.{IsPlain};
 ghost use Rattle.amoebot_state.specs.Zones.{IsShown, IsFound, gap};
-ghost use Rattle.amoebot_state.specs.Storage.{body_at, body_in, spot_at, spot_in};
+ghost use Rattle.amoebot_state.specs.Pairs.{body_at, body_in, spot_at, spot_in};
 
 use crate::bot::Bot;
 use crate::cell::{Cell, CellName};
@@ -122,7 +122,7 @@ impl Found {
 }
 
 /// The first amoebot that the cells hold for this id.
-fn body_in(cells: &[(CellName, Cell)], id: u16) -> Option<&Bot>
+pub(crate) fn body_in(cells: &[(CellName, Cell)], id: u16) -> Option<&Bot>
     ensures { option_copied result ≡ body_in cells.now id }
 {
     for (name, cell) in cells {
@@ -148,7 +148,7 @@ fn body_at<'a>(name: &CellName, cell: &'a Cell, id: u16) -> Option<&'a Bot>
 }
 
 /// The first occupant that the cells have for this node, if they have one.
-fn spot_in(cells: &[(CellName, Cell)], node: Node) -> Option<Option<u16>>
+pub(crate) fn spot_in(cells: &[(CellName, Cell)], node: Node) -> Option<Option<u16>>
     ensures { result ≡ spot_in cells.now node }
 {
     for (name, cell) in cells {

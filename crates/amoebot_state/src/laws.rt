@@ -1,4 +1,4 @@
-ghost use Rattle.amoebot_state.specs.Laws.{GlobalAndLocalAreInverse, ContractedHasSixPorts, ExpandedHasTenPorts, SixPortsLeadToSixNodes, TenPortsLeadToEightNodes, ZoneIsDetermined, ZoneListsEachCellOnce, ZoneHasAtMostTenNodes, ZoneHasAtMostNineBodies, NodeBehindPortIsInZone, OccupantBehindPortIsInZone, GapShowsWhatWasShown, PatchedIsUnique, PatchListsWhatDiffers, StepHasOneResult, RunHasOneLast, ExpansionVerdictIsShown, SameValueIsEquality, DiffLeads, OrderedPatchIsDiff, ValidIsFaultless, FaultlessIsValid, GapIsValid, GapHoldsTheSame, OccupiedIsOccupant, PortLeadsBeside, ExpansionChanges, ExpansionKeepsLaws};
+ghost use Rattle.amoebot_state.specs.Laws.{GlobalAndLocalAreInverse, ContractedHasSixPorts, ExpandedHasTenPorts, SixPortsLeadToSixNodes, TenPortsLeadToEightNodes, ZoneIsDetermined, ShownListsZone, ShownHoldsValues, KnownIsFront, NextIsInZone, FrontGrows, NextIsNew, KnownGrowsAtItsEnd, WholeZoneIsShown, FrontStands, ZoneListsEachCellOnce, ZoneHasAtMostTenNodes, ZoneHasAtMostNineBodies, NodeBehindPortIsInZone, OccupantBehindPortIsInZone, GapShowsWhatWasShown, PatchedIsUnique, PatchListsWhatDiffers, StepHasOneResult, RunHasOneLast, ExpansionVerdictIsShown, SameValueIsEquality, DiffLeads, OrderedPatchIsDiff, ValidIsFaultless, FaultlessIsValid, GapIsValid, GapHoldsTheSame, OccupiedIsOccupant, PortLeadsBeside, ExpansionChanges, ExpansionKeepsLaws};
 
 /// Local and global directions are both 0 to 5, and the one is the inverse of the other, with either chirality.
 pub fn global_and_local_are_inverse()
@@ -33,6 +33,51 @@ pub fn port_leads_beside()
 /// The own amoebot and the occupants of the zone's nodes determine the zone.
 pub fn zone_is_determined()
     ensures { ZoneIsDetermined }
+{}
+
+/// What an amoebot is shown lists the cells of its zone, in zone order.
+pub fn shown_lists_zone()
+    ensures { ShownListsZone }
+{}
+
+/// Each cell that it is shown is shown with what it holds.
+pub fn shown_holds_values()
+    ensures { ShownHoldsValues }
+{}
+
+/// What is known of a zone, when a front of it was read, is a front of it.
+pub fn known_is_front()
+    ensures { KnownIsFront }
+{}
+
+/// The next cell is then the next one of the zone; there is none where there is none in the zone.
+pub fn next_is_in_zone()
+    ensures { NextIsInZone }
+{}
+
+/// The next cell has a value, and with it the cells that were read are a front again.
+pub fn front_grows()
+    ensures { FrontGrows }
+{}
+
+/// The next cell is none of those that were read.
+pub fn next_is_new()
+    ensures { NextIsNew }
+{}
+
+/// What is known of a zone grows at its end alone.
+pub fn known_grows_at_its_end()
+    ensures { KnownGrowsAtItsEnd }
+{}
+
+/// There is no next cell exactly where what was read is all that the amoebot is shown.
+pub fn whole_zone_is_shown()
+    ensures { WholeZoneIsShown }
+{}
+
+/// What was read of one configuration is a front of the zone in each other one in which these cells hold the same.
+pub fn front_stands()
+    ensures { FrontStands }
 {}
 
 /// No cell stands twice in a zone.

@@ -3,7 +3,7 @@ ghost use Rattle.std.specs.List.{All};
 ghost use Rattle.amoebot_state.specs.Configs.{config_of};
 ghost use Rattle.amoebot_state.specs.Refusals.{IsPlain};
 
-use crate::{Bot, Cell, CellName, Chir, Found, Patch, World, WorldRefusal};
+use crate::{Bot, Cell, CellName, Chir, Found, Patch, World, WorldRefusal, next_cell};
 use std::alloc::Global;
 use std::test::Fail;
 use tri_lattice::{Area, Node};
@@ -147,5 +147,33 @@ fn a_neighbourhood_is_made_of_its_cells(rt: HostRuntime) -> Result<(), Fail> {
     assert_eq!(rt; *found.own(), AT_EDGE);
     assert_eq!(rt; found.area(), world.area());
     assert_eq!(rt; found.maxes(), MAXES);
+    Ok(())
+}
+
+#[test]
+fn a_zone_is_found_while_its_cells_are_read(rt: HostRuntime) -> Result<(), Fail> {
+    let area = Area::new(0, 0, 8, 8).ok_or("an area")?;
+    let node = |x, y| CellName::Spot(Node { x, y });
+    let empty = Cell::Spot(None);
+    let cells = [
+        (CellName::Body(0), Cell::Body(STRETCHED)),
+        (node(3, 3), Cell::Spot(Some(0))),
+        (node(2, 3), Cell::Spot(Some(0))),
+        (node(4, 3), empty),
+        (node(3, 4), empty),
+        (node(2, 4), empty),
+        (node(3, 2), empty),
+        (node(4, 2), empty),
+        (node(1, 4), empty),
+        (node(1, 3), Cell::Spot(Some(1))),
+        (node(2, 2), empty),
+        (CellName::Body(1), Cell::Body(BEHIND)),
+    ];
+    assert_eq!(rt; next_cell(&area, 0, &[]), Some(CellName::Body(0)));
+    assert_eq!(rt; next_cell(&area, 0, &cells[..1]), Some(node(3, 3)));
+    assert_eq!(rt; next_cell(&area, 0, &cells[..9]), Some(node(1, 3)));
+    assert_eq!(rt; next_cell(&area, 0, &cells[..10]), Some(node(2, 2)));
+    assert_eq!(rt; next_cell(&area, 0, &cells[..11]), Some(CellName::Body(1)));
+    assert_eq!(rt; next_cell(&area, 0, &cells), None);
     Ok(())
 }

@@ -1,5 +1,5 @@
 use Rattle.std.proofs.Common.{◌≡◌, drop}
-use Rattle.amoebot_state.specs.Storage.{body_in}
+use Rattle.amoebot_state.specs.Pairs.{body_in}
 use Rattle.amoebot_state.proofs.found.body_in.Given as goal
 
 abbrev pub invariant-loop-name : goal.invariant-loop-name

@@ -1,5 +1,5 @@
 use Rattle.std.proofs.Common.{◌≡◌, drop}
-use Rattle.amoebot_state.specs.Storage.{spot_in}
+use Rattle.amoebot_state.specs.Pairs.{spot_in}
 use Rattle.amoebot_state.proofs.found.spot_in.Given as goal
 
 abbrev pub invariant-loop-name : goal.invariant-loop-name

@@ -1,5 +1,5 @@
 use Rattle.std.proofs.Common.{◌≡◌, ◌∙◌, ap, sym, subst}
-use Rattle.amoebot_state.specs.Storage.{body_in}
+use Rattle.amoebot_state.specs.Pairs.{body_in}
 use Rattle.amoebot_state.specs.Zones.{Shown, IsShown, gap}
 use Rattle.std.specs.Option.{option_copied}
 use Rattle.amoebot_state.specs.Configs.{bot_at}

@@ -1,6 +1,6 @@
 use Rattle.std.proofs.Common.{◌∙◌, ap, subst, None}
 use Rattle.std.specs.Prelude.{unwrap_or}
-use Rattle.amoebot_state.specs.Storage.{spot_in}
+use Rattle.amoebot_state.specs.Pairs.{spot_in}
 use Rattle.amoebot_state.specs.Zones.{Shown, IsShown}
 use Rattle.amoebot_state.proofs.Shows.{spot_told}
 use Rattle.amoebot_state.proofs.found.Found.occupant.Goals as goal
