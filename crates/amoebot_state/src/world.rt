@@ -1,4 +1,4 @@
-ghost use Rattle.std.specs.Prelude.{◌≡◌, ◌⊎◌, ◌+◌, ◌∷◌, ◌++◌, ◌<◌, ◌≤◌, [], OnOk, IfOk, IfErr, length, map, IsSome};
+ghost use Rattle.std.specs.Prelude.{◌≡◌, ◌⊎◌, ◌+◌, ◌∷◌, ◌++◌, ◌<◌, ◌≤◌, [], OnOk, IfOk, IfErr, length, map, IsSome, Decides};
 ghost use Rattle.std.specs.List.{All, filter_map};
 ghost use Rattle.amoebot_state.specs.Configs.{Config, IsValid, bot_at, occupant, config_of, with_bot};
 ghost use Rattle.amoebot_state.specs.Zones.{shown, shown_cell, zone, others};
@@ -171,6 +171,15 @@ impl World {
         }
     }
 
+    /// Whether the worlds are equal: in area, maxima and amoebots.
+    pub fn same(&self, other: &World) -> bool
+        ensures { Decides result (self.now ≡ other.now) }
+    {
+        self.area == other.area
+            && self.maxes == other.maxes
+            && same_bots(self.amoebots.as_slice(), other.amoebots.as_slice())
+    }
+
     /// The same world once more.
     pub fn copy(&self, alloc: Global) -> Result<World, NoMemory>
         ensures { IfOk result (λ w. w ≡ self.now) }
@@ -271,4 +280,10 @@ impl World {
             patch.pairs(),
         );
     }
+}
+
+fn same_bots(bots: &[Bot], others: &[Bot]) -> bool
+    ensures { Decides result (bots.now ≡ others.now) }
+{
+    bots == others
 }
