@@ -68,13 +68,9 @@ impl World {
         ensures err { IfErr result (λ e. e ≡ WorldRefusal.NoMemory) }
     {
         let mut amoebots = Vec::new(alloc);
-        if amoebots.reserve_exact(room).is_err() {
-            return Err(WorldRefusal::NoMemory);
-        }
+        amoebots.reserve_exact(room)?;
         let mut occupants = Vec::new(alloc);
-        if occupants.resize(area.size() as usize, None).is_err() {
-            return Err(WorldRefusal::NoMemory);
-        }
+        occupants.resize(area.size() as usize, None)?;
         Ok(World {
             area,
             maxes,
@@ -116,10 +112,8 @@ impl World {
             None => {}
         }
         let id = self.amoebots.len() as u16;
-        match put_new(&self.area, &mut self.amoebots, &mut self.occupants, id, bot) {
-            Ok(()) => Ok(()),
-            Err(_) => Err(WorldRefusal::NoMemory),
-        }
+        put_new(&self.area, &mut self.amoebots, &mut self.occupants, id, bot)?;
+        Ok(())
     }
 
     /// What a world keeps: it is valid, and has at most 4,096 amoebots.
@@ -184,14 +178,8 @@ impl World {
     pub fn copy(&self, alloc: Global) -> Result<World, NoMemory>
         ensures { IfOk result (λ w. w ≡ self.now) }
     {
-        let amoebots = match Vec::from_slice(alloc, self.amoebots.as_slice()) {
-            Ok(amoebots) => amoebots,
-            Err(_) => return Err(NoMemory),
-        };
-        let occupants = match Vec::from_slice(alloc, self.occupants.as_slice()) {
-            Ok(occupants) => occupants,
-            Err(_) => return Err(NoMemory),
-        };
+        let amoebots = Vec::from_slice(alloc, self.amoebots.as_slice())?;
+        let occupants = Vec::from_slice(alloc, self.occupants.as_slice())?;
         Ok(World {
             area: self.area,
             maxes: self.maxes,
