@@ -4,16 +4,17 @@ use Rattle.std.specs.Prelude.{if◌then◌else◌}
 use Rattle.std.specs.List.{list_all, range_with_len}
 use Rattle.std.proofs.lemmas.List.Folds.{list_all_at}
 use Rattle.std.proofs.lemmas.List.FromFn.{get_or-range_with_len, length-range_with_len}
-use Rattle.std.proofs.lemmas.Bool.{cases_Bool, lt-ltb, ltb-true, eqb-true, both_ways}
+use Rattle.std.proofs.lemmas.Bool.{cases_Bool, lt-ltb, ltb-true, eqb-true, both_ways, or_left, or_right}
 use Rattle.tri_lattice.specs.declared.node.Node.{Node}
 use Rattle.tri_lattice.specs.Lattice.{step, node_eq, Adjacent, is_adjacent}
 use Rattle.tri_lattice.proofs.Nodes.{node_eq-true}
-use Rattle.tri_lattice.proofs.Steps.{is_adjacent-true}
+use Rattle.tri_lattice.proofs.Steps.{is_adjacent-true, Adjacent-is_adjacent}
 use Rattle.amoebot_state.specs.declared.bot.Bot.{Bot}
 use Rattle.amoebot_state.specs.declared.bot.Chir.{Chir}
 use Rattle.amoebot_state.specs.declared.bot.Chir.TheVariants as chir
 use Rattle.amoebot_state.specs.declared.bot.End.{End}
 use Rattle.amoebot_state.specs.declared.bot.End.TheVariants.{Head, Tail}
+use Rattle.amoebot_state.specs.Laws.{PortLeadsBeside}
 use Rattle.amoebot_state.specs.Ports.{global_by, local_by, global, local, end_node, is_head, is_own, is_contracted, is_port, port, behind, all_ports, ports, own_nodes, is_beside}
 use Rattle.amoebot_state.proofs.Members.{Has, here, later, Has-filter, Has-map, Has-distinct, Has-append_left, Has-append_right}
 use Rattle.amoebot_state.proofs.Owns.{own_cases}
@@ -122,3 +123,14 @@ beside_in_zone a b v rot beside inside = Has-distinct node_eq node_eq-true (own_
   where
     last_of : {x y z : Bool} → x ≡ false → y ≡ false → (x || y || z) ≡ true → z ≡ true
     last_of {x} {y} {z} e f t = sym (ap (λ w. w || z) (ap (λ w. w || y) e ∙ f)) ∙ t
+
+-- one step from an end leads beside the amoebot
+pub port_leads_beside : PortLeadsBeside
+port_leads_beside b p = by_end p.end
+  where
+    next : (e : End) → is_adjacent (end_node b e) (step (end_node b e) (global b p.dir)) ≡ true
+    next e = Adjacent-is_adjacent (end_node b e) (step (end_node b e) (global b p.dir)) (global b p.dir, global_below b p.dir, refl)
+
+    by_end : (e : End) → is_beside b (step (end_node b e) (global b p.dir)) ≡ true
+    by_end Head = or_left _ _ (or_right _ _ (next Head))
+    by_end Tail = or_right _ _ (next Tail)

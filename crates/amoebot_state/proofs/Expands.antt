@@ -1,20 +1,18 @@
 -- What Expand makes of a configuration, and that it is decided alike on what is shown.
-use Rattle.std.proofs.Common.{◌≡◌, ◌≢◌, ◌⊎◌, ◌<◌, ◌≤◌, ◌+◌, ◌*◌, ℕ, zero, suc, List, [], ◌∷◌, ◌++◌, length, map, Bool, true, false, not, ◌||◌, ap, sym, ◌∙◌, refl, subst, inl, inr, arith, Option, Some, None}
+use Rattle.std.proofs.Common.{◌≡◌, ◌≢◌, ◌⊎◌, ◌<◌, ℕ, zero, suc, [], ◌∷◌, length, Bool, true, false, not, ◌||◌, ap, sym, ◌∙◌, refl, subst, inl, inr, arith, Option, Some, None}
 use Rattle.std.specs.Prelude.{is_some, is_none, unwrap_or, if◌then◌else◌}
-use Rattle.std.specs.List.{All, Contains, filter_map, cons_option, range_with_len}
-use Rattle.std.specs.List.Sorted.{IsStrictlyIncreasing}
+use Rattle.std.specs.List.{All, Contains}
 use Rattle.std.specs.Option.{option_map}
 use Rattle.std.specs.declared.result.Result.TheVariants.{Ok}
 use Rattle.std.proofs.lemmas.Bool.{cases_Bool, cases_eq, cases_lt, both_ways, false≢true, or_left, or_right, and_parts, ltb-true}
 use Rattle.std.proofs.lemmas.List.{get_or-set_same, get_or-set_other, length-set, get_or_past}
-use Rattle.std.proofs.lemmas.List.Elements.{filter_map-append, All-nil, All-cons, All-head, All-tail}
+use Rattle.std.proofs.lemmas.List.Elements.{All-nil, All-cons, All-head, All-tail}
 use Rattle.std.proofs.lemmas.Option.{none-some, same_Some}
 use Rattle.tri_lattice.specs.declared.node.Node.{Node}
-use Rattle.tri_lattice.specs.Lattice.{node_eq, step, Adjacent, is_adjacent}
-use Rattle.tri_lattice.specs.Extent.{index_of, is_in, node_at}
+use Rattle.tri_lattice.specs.Lattice.{node_eq, step, Adjacent}
+use Rattle.tri_lattice.specs.Extent.{is_in}
 use Rattle.tri_lattice.proofs.Nodes.{node_eq-true, Adjacent-sym, step_leaves}
 use Rattle.tri_lattice.proofs.Steps.{Adjacent-is_adjacent}
-use Rattle.tri_lattice.proofs.Boxes.{index_of_node_at, node_at_index_of}
 use Rattle.amoebot_state.specs.declared.bot.Bot.{Bot}
 use Rattle.amoebot_state.specs.declared.bot.End.{End}
 use Rattle.amoebot_state.specs.declared.bot.End.TheVariants.{Head, Tail}
@@ -28,20 +26,19 @@ use Rattle.amoebot_state.specs.declared.verdict.Change.{Change}
 use Rattle.amoebot_state.specs.declared.verdict.Moved.TheVariants as moved
 use Rattle.amoebot_state.specs.declared.verdict.Verdict.{Verdict}
 use Rattle.amoebot_state.specs.declared.verdict.Verdict.TheVariants as verdict
-use Rattle.amoebot_state.specs.Pairs.{Pairs}
+use Rattle.amoebot_state.specs.Pairs.{Pairs, cell_of, value_of}
 use Rattle.amoebot_state.specs.Ports.{is_own, is_head, is_contracted, is_port, behind, global, end_node, is_beside}
 use Rattle.amoebot_state.specs.Configs.{Config, IsValid, IsBot, bot_at, blank, covers, occupant, value, set_bot, is_joined}
-use Rattle.amoebot_state.specs.Zones.{shown, zone, shown_cell, gap}
-use Rattle.amoebot_state.specs.Patches.{IsPatched, HasPatched, IsOrdered, diff, changed, same_value, id_eq, bot_eq}
+use Rattle.amoebot_state.specs.Zones.{shown, zone, gap}
+use Rattle.amoebot_state.specs.Patches.{IsPatched, HasPatched, IsOrdered, diff}
 use Rattle.amoebot_state.specs.Steps.{Changes, TouchesZone, HasNext, IsExact}
-use Rattle.amoebot_state.specs.Laws.{ExpansionVerdictIsShown, PortLeadsBeside, ExpansionChanges}
-use Rattle.amoebot_state.specs.Moves.{need, with_head, verdict_by, expansion_verdict, expansion_verdict_shown}
+use Rattle.amoebot_state.specs.Moves.{need, with_head, verdict_by, expansion_verdict, expansion_verdict_shown, ExpansionVerdictIsShown, ExpansionChanges, ExpansionKeepsLaws}
 use Rattle.amoebot_state.proofs.Owns.{own_cases, own_head, own_tail}
 use Rattle.amoebot_state.proofs.Occupants.{occupant_at, nobody_covers, occupant_same, plain_bot}
+use Rattle.amoebot_state.proofs.Differences.{ordered_patch_is_diff}
 use Rattle.amoebot_state.proofs.Directions.{beside_in_zone, global_below}
 use Rattle.amoebot_state.proofs.Gaps.{gap_own, gap_valid, gap_occupant, own_in_zone, spot_in_zone}
 use Rattle.amoebot_state.proofs.Members.{Contains-from_Has}
-use Rattle.amoebot_state.proofs.Values.{value_same}
 
 -- an amoebot that may expand into a node
 pub record MayExpand (c : Config) (i : ℕ) (b : Bot) (q : Node) : Type 0 where
@@ -62,26 +59,6 @@ expansion i b q = (name.Spot q, cell.Spot (Some i)) ∷ (name.Body i, cell.Body 
 twice : (x : Bool) → (x || x) ≡ x
 twice true = refl
 twice false = refl
-
--- a cell whose value stays is no part of a difference
-unchanged : (c d : Config) (n : CellName) → value d n ≡ value c n → changed c d n ≡ None
-unchanged c d n e = ap (λ t. if t then None else shown_cell d n) (ap (same_value (value c n)) e ∙ value_same (value c n))
-
-filter_map_map : {X Y Z : Type 0} (h : Y → Option Z) (f : X → Y) (xs : List X) → filter_map h (map f xs) ≡ filter_map (λ x. h (f x)) xs
-filter_map_map h f [] = refl
-filter_map_map h f (x ∷ xs) = ap (cons_option (h (f x))) (filter_map_map h f xs)
-
--- numbers of which none, or one alone, gives something
-none_of_range : {Y : Type 0} (h : ℕ → Option Y) (a n : ℕ) → ((j : ℕ) → a ≤ j → j < a + n → h j ≡ None) → filter_map h (range_with_len a n) ≡ []
-none_of_range h a zero none = refl
-none_of_range h a (suc n) none = ap (λ o. cons_option o (filter_map h (range_with_len (a + 1) n))) (none a (omega arith) (omega arith)) ∙ none_of_range h (a + 1) n (λ j low high. none j (omega arith) (omega arith))
-
-one_of_range : {Y : Type 0} (h : ℕ → Option Y) (a n k : ℕ) (y : Y) → a ≤ k → k < a + n → h k ≡ Some y → ((j : ℕ) → a ≤ j → j < a + n → j ≢ k → h j ≡ None) → filter_map h (range_with_len a n) ≡ y ∷ []
-one_of_range h a zero k y low high some others = absurd (omega arith)
-one_of_range h a (suc n) k y low high some others = elim (cases_eq a k) [
-  | inl e ↦ ap (λ o. cons_option o (filter_map h (range_with_len (a + 1) n))) (ap h e ∙ some) ∙ ap (λ ys. y ∷ ys) (none_of_range h (a + 1) n (λ j l r. others j (omega arith) (omega arith) (λ same. absurd (omega arith))))
-  | inr ne ↦ ap (λ o. cons_option o (filter_map h (range_with_len (a + 1) n))) (others a (omega arith) (omega arith) ne) ∙ one_of_range h (a + 1) n k y (omega arith) (omega arith) some (λ j l r. others j (omega arith) (omega arith))
-]
 
 module _ (c : Config) (i : ℕ) (b : Bot) (q : Node) (may : MayExpand c i b q) where
   id_below : i < length c.bots
@@ -183,39 +160,27 @@ module _ (c : Config) (i : ℕ) (b : Bot) (q : Node) (may : MayExpand c i b q) w
         value_stays n (λ e. spot (sym e)) (λ e. body (sym e));
   }
 
-  spot_changed : changed c (after c i b q) (name.Spot q) ≡ Some (name.Spot q, cell.Spot (Some i))
-  spot_changed = ap (λ o. if id_eq o (occupant (after c i b q) q) then None else Some (name.Spot q, cell.Spot (occupant (after c i b q) q))) may.empty ∙ ap (λ o. if id_eq None o then None else Some (name.Spot q, cell.Spot o)) occupied_after
+  ordered : IsOrdered (expansion i b q)
+  ordered zero lt = omega arith
+  ordered (suc k) lt = absurd (omega arith)
 
-  body_changed : changed c (after c i b q) (name.Body i) ≡ Some (name.Body i, cell.Body (with_head b q))
-  body_changed = ap (λ o. if same_value (option_map cell.Body o) (option_map cell.Body (bot_at (after c i b q) i)) then None else option_map (λ x. (name.Body i, x)) (option_map cell.Body (bot_at (after c i b q) i))) may.there
-      ∙ ap (λ o. if same_value (Some (cell.Body b)) (option_map cell.Body o) then None else option_map (λ x. (name.Body i, x)) (option_map cell.Body o)) at_own
-      ∙ ap (λ t. if t then None else Some (name.Body i, cell.Body (with_head b q))) moved_on
+  -- both cells differ
+  differ : All (λ (p : CellName × Cell). value c (cell_of p) ≢ Some (value_of p)) (expansion i b q)
+  differ =
+      let Differs : CellName × Cell → Type 0 = λ p. value c (cell_of p) ≢ Some (value_of p) in
+      All-cons Differs (name.Spot q, cell.Spot (Some i)) ((name.Body i, cell.Body (with_head b q)) ∷ [])
+      (λ same. none-some i (spot_of (sym (ap (λ o. Some (cell.Spot o)) may.empty) ∙ same)))
+      (All-cons Differs (name.Body i, cell.Body (with_head b q)) [] (λ same. not_there (ap (λ (a : Bot). a.head) (body_of (sym (ap (option_map cell.Body) may.there) ∙ same)))) (All-nil Differs))
     where
-      moved_on : bot_eq b (with_head b q) ≡ false
-      moved_on = elim (cases_Bool (bot_eq b (with_head b q))) [
-        | inl t ↦ absurd (not_there (node_eq-true b.head q (and_parts _ _ (and_parts _ _ (and_parts _ _ (and_parts _ _ t).0).0).0).0))
-        | inr f ↦ f
-      ]
+      spot_of : {o q : Option ℕ} → Some (cell.Spot o) ≡ Some (cell.Spot q) → o ≡ q
+      spot_of e = let f = same_Some _ _ e in cc
 
-  -- the difference is the patch
+      body_of : {a d : Bot} → Some (cell.Body a) ≡ Some (cell.Body d) → a ≡ d
+      body_of e = let f = same_Some _ _ e in cc
+
+  -- so the difference is the patch
   diff_is : diff c (after c i b q) ≡ expansion i b q
-  diff_is =
-      let h = changed c (after c i b q) in
-      let size = c.area.w * c.area.h in
-      let at = index_some (index_of c.area q) may.inside in
-      let k = at.0 in
-      let there = node_at_index_of c.area q k at.1 in
-      filter_map-append h (map (λ k. name.Spot (node_at c.area k)) (range_with_len 0 size)) (map name.Body (range_with_len 0 (length c.bots)))
-      ∙ ap (λ xs. xs ++ filter_map h (map name.Body (range_with_len 0 (length c.bots)))) (filter_map_map h (λ k. name.Spot (node_at c.area k)) (range_with_len 0 size)
-      ∙ one_of_range (λ k. h (name.Spot (node_at c.area k))) 0 size k (name.Spot q, cell.Spot (Some i)) (omega arith) (omega (arith, there.0)) (ap (λ v. h (name.Spot v)) there.1 ∙ spot_changed)
-      (λ j low high ne. unchanged c (after c i b q) (name.Spot (node_at c.area j)) (ap (λ o. Some (cell.Spot o)) (occupant_stays (node_at c.area j) (λ e. ne (same_Some j k (sym (index_of_node_at c.area j (omega arith)) ∙ ap (index_of c.area) (sym e) ∙ at.1)))))))
-      ∙ ap (λ xs. (name.Spot q, cell.Spot (Some i)) ∷ xs) (filter_map_map h name.Body (range_with_len 0 (length c.bots))
-      ∙ one_of_range (λ j. h (name.Body j)) 0 (length c.bots) i (name.Body i, cell.Body (with_head b q)) (omega arith) (omega (arith, id_below)) body_changed
-      (λ j low high ne. unchanged c (after c i b q) (name.Body j) (ap (option_map cell.Body) (at_other j ne))))
-    where
-      index_some : (o : Option ℕ) → is_some o ≡ true → (k : ℕ) × (o ≡ Some k)
-      index_some None t = absurd (false≢true t)
-      index_some (Some k) t = (k, refl)
+  diff_is = sym (ordered_patch_is_diff c (after c i b q) (expansion i b q) may.valid expanded ordered differ)
 
 -- the verdict by what the amoebot is and what is on the node behind the port
 abbrev pub outcome_of : Port → ℕ → Bot → Bool → Bool → Bool → Bool → Verdict
@@ -350,35 +315,12 @@ expansion_is_exact p c i change changes =
     let e = expansion_of p c i change changes in
     let b = e.bot in
     let q = behind b p in
-    let Differs : CellName × Cell → Type 0 = λ x. value c x.0 ≢ Some x.1 in
+    let Differs : CellName × Cell → Type 0 = λ x. value c (cell_of x) ≢ Some (value_of x) in
     let P : Pairs → Type 0 = λ ps. IsOrdered ps × All Differs ps in
-    subst P (sym e.patch) (
-      in_order i,
-      All-cons Differs (name.Spot q, cell.Spot (Some i)) ((name.Body i, cell.Body (with_head b q)) ∷ [])
-          (λ same. none-some i (spot_of (sym (ap (λ o. Some (cell.Spot o)) e.may.empty) ∙ same)))
-          (All-cons Differs (name.Body i, cell.Body (with_head b q)) [] (λ same. not_there c i b q e.may (ap (λ (a : Bot). a.head) (bot_of_cell (sym (ap (option_map cell.Body) e.may.there) ∙ same)))) (All-nil Differs)),
-    )
-  where
-    in_order : (i : ℕ) → IsStrictlyIncreasing (0 ∷ (i + 1) ∷ [])
-    in_order i zero lt = omega arith
-    in_order i (suc k) lt = absurd (omega arith)
+    subst P (sym e.patch) (ordered c i b q e.may, differ c i b q e.may)
 
-    spot_of : {o q : Option ℕ} → Some (cell.Spot o) ≡ Some (cell.Spot q) → o ≡ q
-    spot_of e = let f = same_Some _ _ e in cc
-
-    bot_of_cell : {a d : Bot} → Some (cell.Body a) ≡ Some (cell.Body d) → a ≡ d
-    bot_of_cell e = let f = same_Some _ _ e in cc
-
--- one step from an end leads beside the amoebot
-pub port_leads_beside : PortLeadsBeside
-port_leads_beside b p = by_end p.end
-  where
-    next : (e : End) → is_adjacent (end_node b e) (step (end_node b e) (global b p.dir)) ≡ true
-    next e = Adjacent-is_adjacent (end_node b e) (step (end_node b e) (global b p.dir)) (global b p.dir, global_below b p.dir, refl)
-
-    by_end : (e : End) → is_beside b (step (end_node b e) (global b p.dir)) ≡ true
-    by_end Head = or_left _ _ (or_right _ _ (next Head))
-    by_end Tail = or_right _ _ (next Tail)
+pub expansion_keeps_laws : ExpansionKeepsLaws
+expansion_keeps_laws p = (expansion_touches_zone p, expansion_has_next p, expansion_is_exact p)
 
 pub expansion_changes : ExpansionChanges
 expansion_changes p s b valid at contracted port inside empty =

@@ -16,10 +16,11 @@ pub mod Owns
 pub mod Patched
 pub mod Rising
 mod Counterexamples
-mod Samples
-mod StepSamples
+pub mod Samples
+pub mod StepSamples
 pub mod Shifts
 pub mod Shows
 pub mod Values
 pub mod Zones
 pub mod Expands
+mod ExpansionSamples

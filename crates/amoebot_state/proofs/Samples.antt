@@ -5,7 +5,6 @@ use Rattle.std.proofs.lemmas.Bool.{cases_Bool}
 use Rattle.std.proofs.lemmas.List.Elements.{All-from_recursion, recursion_from_All}
 use Rattle.tri_lattice.specs.Lattice.{node_eq}
 use Rattle.tri_lattice.proofs.Nodes.{node_eq-true}
-use Rattle.std.specs.declared.result.Result.TheVariants.{Ok, Err}
 use Rattle.tri_lattice.specs.declared.node.Node.{Node}
 use Rattle.tri_lattice.specs.Extent.{Extent}
 use Rattle.amoebot_state.specs.declared.bot.Bot.{Bot}
@@ -17,7 +16,6 @@ use Rattle.amoebot_state.specs.declared.cell.Cell.{Cell}
 use Rattle.amoebot_state.specs.declared.cell.Cell.TheVariants as cell
 use Rattle.amoebot_state.specs.declared.refusal.WorldRefusal.{WorldRefusal}
 use Rattle.amoebot_state.specs.declared.refusal.WorldRefusal.TheVariants.{OutOfBox, NotAdjacent, Overlap, BadValue}
-use Rattle.amoebot_state.specs.declared.verdict.Failure.TheVariants.{NotContracted, NoPort, Edge, Occupied}
 use Rattle.amoebot_state.specs.Ports.{port, ports, global, local}
 use Rattle.amoebot_state.specs.Configs.{Config, with_bot, IsValid, config_of, bot_at, value}
 use Rattle.amoebot_state.specs.Zones.{Shown, zone, shown, gap}
@@ -25,7 +23,6 @@ use Rattle.amoebot_state.specs.Known.{known_zone, next_cell}
 use Rattle.amoebot_state.specs.Patches.{IsPatched, diff}
 use Rattle.std.specs.Option.{option_or}
 use Rattle.amoebot_state.specs.Refusals.{bot_fault}
-use Rattle.amoebot_state.specs.Moves.{expand}
 
 abbrev pub at : ℕ → ℕ → Node
 at x y = record { x = pos x; y = pos y }
@@ -91,12 +88,9 @@ zone_alone = refl
 shown_alone : shown alone 0 ≡ shows 0 (with_body 0 (contracted (at 2 3)) ∷ held 2 3 0 ∷ free 3 3 ∷ free 2 4 ∷ free 1 4 ∷ free 1 3 ∷ free 2 2 ∷ free 3 2 ∷ [])
 shown_alone = refl
 
--- it expands to (3, 3), which changes that node and its body
+-- expanded to (3, 3): that node and its body have changed
 abbrev pub alone_out : Config
 alone_out = world (expanded (at 3 3) (at 2 3) ∷ [])
-
-alone_expands : expand alone 0 (port Head 0) ≡ Ok alone_out
-alone_expands = refl
 
 abbrev pub going_out : List (CellName × Cell)
 going_out = held 3 3 0 ∷ with_body 0 (expanded (at 3 3) (at 2 3)) ∷ []
@@ -130,16 +124,6 @@ alone_patched valid = record {
       ])
     ]
 
--- and does not expand once more, nor through what is no port of it
-out_stays : expand alone_out 0 (port Head 0) ≡ Err NotContracted
-out_stays = refl
-
-no_seventh_port : expand alone 0 (port Head 6) ≡ Err NoPort
-no_seventh_port = refl
-
-no_tail_port : expand alone 0 (port Tail 0) ≡ Err NoPort
-no_tail_port = refl
-
 -- an amoebot at the right edge: two nodes round it lie outside
 abbrev pub edge : Config
 edge = world (contracted (at 7 3) ∷ [])
@@ -149,9 +133,6 @@ zone_edge = refl
 
 shown_edge : shown edge 0 ≡ shows 0 (with_body 0 (contracted (at 7 3)) ∷ held 7 3 0 ∷ free 7 4 ∷ free 6 4 ∷ free 6 3 ∷ free 7 2 ∷ [])
 shown_edge = refl
-
-edge_stays : expand edge 0 (port Head 0) ≡ Err Edge
-edge_stays = refl
 
 -- an amoebot that goes round against the global directions, with rotation 5
 abbrev pub turned : Config
@@ -166,9 +147,6 @@ shown_turned = refl
 -- its local direction 1 is the global direction 4
 abbrev pub turned_out : Bot
 turned_out = record { head = at 2 2; tail = at 2 3; rot = 5; chir = Minus; mem = first 0 }
-
-turned_expands : expand turned 0 (port Head 1) ≡ Ok (world (turned_out ∷ []))
-turned_expands = refl
 
 turned_changes : diff turned (world (turned_out ∷ [])) ≡ held 2 2 0 ∷ with_body 0 turned_out ∷ []
 turned_changes = refl
@@ -188,9 +166,6 @@ shown_pair_0 = refl
 
 shown_pair_1 : shown pair 1 ≡ shows 1 (with_body 1 (contracted (at 3 3)) ∷ held 3 3 1 ∷ free 4 3 ∷ free 3 4 ∷ free 2 4 ∷ held 2 3 0 ∷ free 3 2 ∷ free 4 2 ∷ with_body 0 (contracted (at 2 3)) ∷ [])
 shown_pair_1 = refl
-
-pair_stays : expand pair 0 (port Head 0) ≡ Err Occupied
-pair_stays = refl
 
 -- a change of memory alone changes the body alone
 abbrev pub marked : Bot

@@ -9,7 +9,6 @@ use Rattle.amoebot_state.specs.declared.bot.Chir.TheVariants.{Plus}
 use Rattle.amoebot_state.specs.declared.bot.End.TheVariants.{Head, Tail}
 use Rattle.amoebot_state.specs.declared.verdict.Change.{Change}
 use Rattle.amoebot_state.specs.declared.verdict.Entry.{Entry}
-use Rattle.amoebot_state.specs.declared.verdict.Failure.TheVariants.{NoPort, Edge, Occupied}
 use Rattle.amoebot_state.specs.declared.verdict.Moved.TheVariants as moved
 use Rattle.amoebot_state.specs.declared.verdict.Verdict.{Verdict}
 use Rattle.amoebot_state.specs.declared.verdict.Verdict.TheVariants as verdict
@@ -19,11 +18,10 @@ use Rattle.amoebot_state.specs.Refusals.{IsPlain, bot_fault}
 use Rattle.amoebot_state.specs.Zones.{Shown, shown}
 use Rattle.amoebot_state.specs.Patches.{IsPatched, diff}
 use Rattle.amoebot_state.specs.Steps.{Step, Run, change_of}
-use Rattle.amoebot_state.specs.Moves.{expansion_verdict, expansion_verdict_shown}
 use Rattle.amoebot_state.proofs.Added.{no_fault, valid_with}
 use Rattle.amoebot_state.proofs.Faults.{none_valid}
 use Rattle.amoebot_state.proofs.Differences.{diff_leads}
-use Rattle.amoebot_state.proofs.Samples.{at, held, free, shows, with_body, first, expanded, contracted, against, eight, world, alone, alone_out, going_out, edge, pair, marked, stretched, train, pulled, turned, turned_out}
+use Rattle.amoebot_state.proofs.Samples.{at, held, free, shows, with_body, first, expanded, contracted, against, eight, world, alone, alone_out, going_out, pair, marked, stretched, train, pulled, turned, turned_out}
 
 -- worlds of one amoebot and of two are valid, where none has a fault
 eight_is_area : IsArea eight
@@ -63,17 +61,11 @@ two_lead a b c d old new = (diff_leads (world (a ∷ b ∷ [])) (world (c ∷ d 
     same (suc zero) = refl
     same (suc (suc i)) = refl
 
--- one amoebot, on (2, 3): it expands to (3, 3), which is the whole run, and then it is idle
-abbrev goes_out : Change
+-- one amoebot, on (2, 3), that expands to (3, 3)
+abbrev pub goes_out : Change
 goes_out = record { action = 0; moved = moved.Expand (port Head 0); patch = going_out }
 
-alone_decides : expansion_verdict (port Head 0) alone 0 ≡ verdict.Change goes_out
-alone_decides = refl
-
-alone_decides_shown : expansion_verdict_shown (port Head 0) (shown alone 0) ≡ verdict.Change goes_out
-alone_decides_shown = refl
-
-abbrev out_entry : Entry
+abbrev pub out_entry : Entry
 out_entry = record { caller = 0; turn = 0; bot = 0; action = 0; moved = moved.Expand (port Head 0); patch = going_out }
 
 alone_valid : IsValid alone
@@ -82,33 +74,12 @@ alone_valid = valid_one (contracted (at 2 3)) (plain (contracted (at 2 3)) refl 
 alone_out_valid : IsValid alone_out
 alone_out_valid = valid_one stretched (plain stretched refl refl (omega arith) refl) refl
 
-alone_runs : Run (expansion_verdict_shown (port Head 0)) alone (out_entry ∷ []) alone_out
-alone_runs = (alone_out, record { there = refl; decided = refl; patched = one_leads (contracted (at 2 3)) stretched alone_valid alone_out_valid }, refl)
-
-out_is_idle : expansion_verdict (port Head 0) alone_out 0 ≡ verdict.Idle
-out_is_idle = refl
-
-out_is_idle_shown : expansion_verdict_shown (port Head 0) (shown alone_out 0) ≡ verdict.Idle
-out_is_idle_shown = refl
-
--- no step at the edge, beside another amoebot, or through what is no port
-edge_fails : expansion_verdict (port Head 0) edge 0 ≡ verdict.Failed Edge
-edge_fails = refl
-
-edge_fails_shown : expansion_verdict_shown (port Head 0) (shown edge 0) ≡ verdict.Failed Edge
-edge_fails_shown = refl
-
-pair_fails : expansion_verdict (port Head 0) pair 0 ≡ verdict.Failed Occupied
-pair_fails = refl
-
-pair_fails_shown : expansion_verdict_shown (port Head 0) (shown pair 0) ≡ verdict.Failed Occupied
-pair_fails_shown = refl
-
-tail_fails : expansion_verdict (port Tail 0) alone 0 ≡ verdict.Failed NoPort
-tail_fails = refl
+-- whatever decides so makes this run
+pub alone_runs : (f : Shown → Verdict) → f (shown alone 0) ≡ verdict.Change goes_out → Run f alone (out_entry ∷ []) alone_out
+alone_runs f one = (alone_out, record { there = refl; decided = one; patched = one_leads (contracted (at 2 3)) stretched alone_valid alone_out_valid }, refl)
 
 -- an amoebot that goes round against the global directions: its local direction 1 is the global direction 4
-abbrev turned_entry : Entry
+abbrev pub turned_entry : Entry
 turned_entry = record { caller = 0; turn = 0; bot = 0; action = 0; moved = moved.Expand (port Head 1); patch = held 2 2 0 ∷ with_body 0 turned_out ∷ [] }
 
 turned_valid : IsValid turned
@@ -117,8 +88,8 @@ turned_valid = valid_one (against 5 (at 2 3)) (plain (against 5 (at 2 3)) refl r
 turned_out_valid : IsValid (world (turned_out ∷ []))
 turned_out_valid = valid_one turned_out (plain turned_out refl refl (omega arith) refl) refl
 
-turned_steps : Step (expansion_verdict_shown (port Head 1)) turned turned_entry (world (turned_out ∷ []))
-turned_steps = record { there = refl; decided = refl; patched = one_leads (against 5 (at 2 3)) turned_out turned_valid turned_out_valid }
+pub turned_steps : (f : Shown → Verdict) → f (shown turned 0) ≡ verdict.Change (change_of turned_entry) → Step f turned turned_entry (world (turned_out ∷ []))
+turned_steps f one = record { there = refl; decided = one; patched = one_leads (against 5 (at 2 3)) turned_out turned_valid turned_out_valid }
 
 -- two neighbours, each of which sets its variable: the second is shown what the first one left
 abbrev marking : ℕ → Bot → Entry

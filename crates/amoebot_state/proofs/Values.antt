@@ -1,14 +1,20 @@
 -- When values are the same.
-use Rattle.std.proofs.Common.{◌≡◌, ℕ, true, ap, refl, subst, Option, Some, None}
-use Rattle.std.specs.Cmp.Lexicographic.{bytes_decides}
+use Rattle.std.proofs.Common.{◌≡◌, ℕ, List, [], ◌∷◌, map, Bool, int_eq, true, ◌&&◌, nat_eq, ap, sym, ◌∙◌, refl, subst, Option, Some, None}
+use Rattle.std.specs.Bool.{Decides}
+use Rattle.std.specs.List.{filter_map}
+use Rattle.std.specs.Cmp.Lexicographic.{bytes_decides, pointwise}
 use Rattle.std.proofs.lemmas.Bool.{eqb-true, eq-eqb, false≢true, and_parts, and_from}
+use Rattle.std.proofs.lemmas.Bool.Decides.{Decides-int_eq}
 use Rattle.std.proofs.lemmas.Cmp.{nat_list_eq_equiv}
+use Rattle.tri_lattice.specs.Extent.{Extent}
+use Rattle.tri_lattice.specs.Lattice.{node_eq}
 use Rattle.tri_lattice.proofs.Nodes.{node_eq-true, node_eq_same}
 use Rattle.amoebot_state.specs.declared.bot.Bot.{Bot}
 use Rattle.amoebot_state.specs.declared.bot.Chir.{Chir}
 use Rattle.amoebot_state.specs.declared.bot.Chir.TheVariants as chir
 use Rattle.amoebot_state.specs.declared.cell.Cell.{Cell}
 use Rattle.amoebot_state.specs.declared.cell.Cell.TheVariants as cell
+use Rattle.amoebot_state.specs.Configs.{Config, config_of}
 use Rattle.amoebot_state.specs.Patches.{chir_eq, bot_eq, id_eq, cell_eq, same_value}
 use Rattle.amoebot_state.specs.Laws.{SameValueIsEquality}
 
@@ -54,6 +60,22 @@ bot_eq-true a b t =
     let mem = (bytes_decides a.mem b.mem).0 all.1 in
     λ i. record { head = head i; tail = tail i; rot = rot i; chir = way i; mem = mem i }
 
+-- the test field by field, whatever tests the chirality
+pub fields_decide : (a b : Bot) (way : Bool) → Decides way (a.chir ≡ b.chir) → Decides (node_eq a.head b.head && (node_eq a.tail b.tail && (nat_eq a.rot b.rot && (way && pointwise nat_eq a.mem b.mem)))) (a ≡ b)
+fields_decide a b way decides = (
+  λ t.
+      let nodes = and_parts (node_eq a.head b.head) (node_eq a.tail b.tail && (nat_eq a.rot b.rot && (way && pointwise nat_eq a.mem b.mem))) t in
+      let tails = and_parts (node_eq a.tail b.tail) (nat_eq a.rot b.rot && (way && pointwise nat_eq a.mem b.mem)) nodes.1 in
+      let rots = and_parts (nat_eq a.rot b.rot) (way && pointwise nat_eq a.mem b.mem) tails.1 in
+      let ways = and_parts way (pointwise nat_eq a.mem b.mem) rots.1 in
+      let same : bot_eq a b ≡ true = and_from _ _ (and_from _ _ (and_from _ _ (and_from _ _ nodes.0 tails.0) rots.0) (ap (chir_eq a.chir) (sym (decides.0 ways.0)) ∙ chir_eq_same a.chir)) ways.1 in
+      bot_eq-true a b same,
+  λ e. all e,
+)
+  where
+    all : a ≡ b → (node_eq a.head b.head && (node_eq a.tail b.tail && (nat_eq a.rot b.rot && (way && pointwise nat_eq a.mem b.mem)))) ≡ true
+    all e = and_from _ _ (ap (λ (c : Bot). node_eq a.head c.head) (sym e) ∙ node_eq_same a.head) (and_from _ _ (ap (λ (c : Bot). node_eq a.tail c.tail) (sym e) ∙ node_eq_same a.tail) (and_from _ _ (ap (λ (c : Bot). nat_eq a.rot c.rot) (sym e) ∙ eq-eqb a.rot a.rot refl) (and_from _ _ (decides.1 (ap (λ (c : Bot). c.chir) e)) (ap (λ (c : Bot). pointwise nat_eq a.mem c.mem) (sym e) ∙ nat_list_eq_equiv.refl a.mem))))
+
 cell_eq-true : (x y : Cell) → cell_eq x y ≡ true → x ≡ y
 cell_eq-true (cell.Spot o) (cell.Spot q) t = ap cell.Spot (id_eq-true o q t)
 cell_eq-true (cell.Spot o) (cell.Body b) t = absurd (false≢true t)
@@ -69,3 +91,27 @@ value_same-true (Some x) (Some y) t = ap Some (cell_eq-true x y t)
 
 pub same_value_is_equality : SameValueIsEquality
 same_value_is_equality x y = (value_same-true x y, λ e. subst (λ z. same_value x z ≡ true) e (value_same x))
+
+-- ---- when configurations are the same
+
+pub same_extent : (a b : Extent) → (int_eq a.x0 b.x0 && (int_eq a.y0 b.y0 && (nat_eq a.w b.w && nat_eq a.h b.h))) ≡ true → a ≡ b
+same_extent a b t =
+    let lefts = and_parts (int_eq a.x0 b.x0) (int_eq a.y0 b.y0 && (nat_eq a.w b.w && nat_eq a.h b.h)) t in
+    let lows = and_parts (int_eq a.y0 b.y0) (nat_eq a.w b.w && nat_eq a.h b.h) lefts.1 in
+    let sides = and_parts (nat_eq a.w b.w) (nat_eq a.h b.h) lows.1 in
+    let x0 = (Decides-int_eq a.x0 b.x0).0 lefts.0 in
+    let y0 = (Decides-int_eq a.y0 b.y0).0 lows.0 in
+    let w = eqb-true a.w b.w sides.0 in
+    let h = eqb-true a.h b.h sides.1 in
+    λ i. record { x0 = x0 i; y0 = y0 i; w = w i; h = h i }
+
+-- configurations of listed amoebots are equal exactly where the lists are, if the rest is
+pub same_configs : (a b : Extent) (m n : List ℕ) (xs ys : List Bot) (r : Bool) → a ≡ b → m ≡ n → Decides r (xs ≡ ys) → Decides r (config_of a m xs ≡ config_of b n ys)
+same_configs a b m n xs ys r areas maxes decides = (
+  λ t. let bots = decides.0 t in λ i. config_of (areas i) (maxes i) (bots i),
+  λ e. decides.1 (sym (listed xs) ∙ ap (λ (c : Config). filter_map (λ o. o) c.bots) e ∙ listed ys),
+)
+  where
+    listed : (bots : List Bot) → filter_map (λ o. o) (map Some bots) ≡ bots
+    listed [] = refl
+    listed (x ∷ bots) = ap (λ zs. x ∷ zs) (listed bots)

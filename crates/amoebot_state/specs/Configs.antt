@@ -14,6 +14,7 @@ use Rattle.amoebot_state.specs.declared.cell.CellName.{CellName}
 use Rattle.amoebot_state.specs.declared.cell.CellName.TheVariants as name
 use Rattle.amoebot_state.specs.declared.cell.Cell.{Cell}
 use Rattle.amoebot_state.specs.declared.cell.Cell.TheVariants as cell
+use Rattle.amoebot_state.specs.Limits.{most_bots}
 use Rattle.amoebot_state.specs.Ports.{is_own}
 
 -- an area, the greatest value of each of eight variables, and the amoebot of each id, if it has one
@@ -99,4 +100,4 @@ pub record IsGrid (c : Config) (grid : List (Option ℕ)) : Type 0 where
 pub record IsWorld (c : Config) (grid : List (Option ℕ)) : Type 0 where
   pub valid : IsValid c
   pub kept : IsGrid c grid
-  pub few : length c.bots ≤ 4096
+  pub few : length c.bots ≤ most_bots

@@ -11,21 +11,17 @@ use Rattle.amoebot_state.specs.declared.bot.Port.{Port}
 use Rattle.amoebot_state.specs.declared.cell.CellName.{CellName}
 use Rattle.amoebot_state.specs.declared.cell.CellName.TheVariants as name
 use Rattle.amoebot_state.specs.declared.cell.Cell.{Cell}
-use Rattle.amoebot_state.specs.declared.cell.Cell.TheVariants as cell
 use Rattle.amoebot_state.specs.declared.verdict.Entry.{Entry}
-use Rattle.amoebot_state.specs.declared.verdict.Moved.TheVariants as moved
 use Rattle.amoebot_state.specs.declared.verdict.Verdict.{Verdict}
-use Rattle.amoebot_state.specs.declared.verdict.Verdict.TheVariants as verdict
 use Rattle.amoebot_state.specs.Pairs.{Pairs, cell_of, value_of}
-use Rattle.amoebot_state.specs.Ports.{global, local, is_port, ports, behind, is_contracted, is_beside}
+use Rattle.amoebot_state.specs.Ports.{global, local, is_port, ports, behind, is_beside}
 use Rattle.amoebot_state.specs.Configs.{Config, IsValid, bot_at, occupant, value, config_of}
 use Rattle.amoebot_state.specs.Zones.{Shown, IsShown, distinct, zone_nodes, zone_at, zone, shown, gap}
 use Rattle.amoebot_state.specs.Known.{IsFront, known_zone, next_cell}
 use Rattle.amoebot_state.specs.Patches.{IsPatched, IsOrdered, same_value, diff}
 use Rattle.amoebot_state.specs.Refusals.{IsPlain, IsFaultless}
 use Rattle.amoebot_state.specs.Occupied.{occupied}
-use Rattle.amoebot_state.specs.Steps.{Step, Run, TouchesZone, HasNext, IsExact}
-use Rattle.amoebot_state.specs.Moves.{expansion_verdict, expansion_verdict_shown, with_head}
+use Rattle.amoebot_state.specs.Steps.{Step, Run}
 
 -- local and global directions are both 0 to 5, and the one is the inverse of the other, with either chirality
 abbrev pub GlobalAndLocalAreInverse : Type 0
@@ -141,24 +137,6 @@ StepHasOneResult = (f : Shown → Verdict) (old : Config) (e : Entry) (one two :
 -- so a run has at most one last configuration
 abbrev pub RunHasOneLast : Type 0
 RunHasOneLast = (f : Shown → Verdict) (old : Config) (es : List Entry) (one two : Config) → Run f old es one → Run f old es two → one ≡ two
-
--- what the decider that expands contracted amoebots says of what a valid configuration shows is the verdict on that
--- configuration
-abbrev pub ExpansionVerdictIsShown : Type 0
-ExpansionVerdictIsShown = (p : Port) (c : Config) (i : ℕ) → IsValid c → IsSome (bot_at c i) → expansion_verdict_shown p (shown c i) ≡ expansion_verdict p c i
-
--- where a contracted amoebot is shown that the node behind the port is in the area and empty, the decider's change is the node
--- that is entered and the amoebot's body
-abbrev pub ExpansionChanges : Type 0
-ExpansionChanges = (p : Port) (s : Shown) (b : Bot) → IsValid (gap s) → bot_at (gap s) s.bot ≡ Some b → IsTrue (is_contracted b) → IsTrue (is_port b p) → IsTrue (is_in s.area (behind b p)) → occupant (gap s) (behind b p) ≡ None → expansion_verdict_shown p s ≡ verdict.Change (record {
-  action = 0;
-  moved = moved.Expand p;
-  patch = (name.Spot (behind b p), cell.Spot (Some s.bot)) ∷ (name.Body s.bot, cell.Body (with_head b (behind b p))) ∷ [];
-})
-
--- and it keeps the three laws of deciders
-abbrev pub ExpansionKeepsLaws : Type 0
-ExpansionKeepsLaws = (p : Port) → TouchesZone (expansion_verdict_shown p) × HasNext (expansion_verdict_shown p) × IsExact (expansion_verdict_shown p)
 
 -- the test of what cells hold answers whether it is equal
 abbrev pub SameValueIsEquality : Type 0

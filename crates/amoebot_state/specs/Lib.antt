@@ -1,3 +1,4 @@
+pub mod Limits
 pub mod Ports
 pub mod Pairs
 pub mod Configs

@@ -1,4 +1,5 @@
 ghost use Rattle.std.specs.Prelude.{◌≡◌, ◌<◌, ◌≤◌, ◌∷◌, ◌++◌, [], length, IsTrue, None};
+ghost use Rattle.amoebot_state.specs.Limits.{most_pairs};
 ghost use Rattle.amoebot_state.specs.Pairs.{is_alike, are_alike};
 
 use crate::bot::Bot;
@@ -37,10 +38,19 @@ impl Default for Cell {
     }
 }
 
+/// The most pairs of a patch.
+const MOST_PAIRS: usize = 10;
+
+/// The cells of a zone with what they hold.
+pub(crate) type Cells = ArrayVec<(CellName, Cell), CELL_ROOM>;
+
+/// Room for the cells of a zone.
+pub(crate) const CELL_ROOM: usize = 30;
+
 /// Cells with their new values: a list of at most 10 pairs, in each of which both parts are `Spot` or both are `Body`.
 #[derive(Drop)]
 pub struct Patch {
-    pairs: ArrayVec<(CellName, Cell), 10>,
+    pairs: ArrayVec<(CellName, Cell), MOST_PAIRS>,
 }
 
 impl Model for Patch {
@@ -65,7 +75,7 @@ impl Patch {
 
     /// Adds a pair last.
     pub fn push(&mut self, name: CellName, cell: Cell)
-        requires room { length self.old < 10 }
+        requires room { length self.old < most_pairs }
         requires alike { IsTrue (is_alike name cell) }
         ensures { self.new ≡ self.old ++ (name, cell) ∷ [] }
     {
@@ -75,7 +85,7 @@ impl Patch {
     /// The list of the pairs.
     pub fn pairs(&self) -> &[(CellName, Cell)]
         ensures value { result.now ≡ self.now }
-        ensures few { length self.now ≤ 10 }
+        ensures few { length self.now ≤ most_pairs }
         ensures alike { are_alike self.now }
     {
         self.pairs.as_slice()

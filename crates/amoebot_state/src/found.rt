@@ -1,5 +1,6 @@
 ghost use Rattle.std.specs.Prelude.{◌≡◌, ◌≤◌, length, IfSome, IsTrue};
 ghost use Rattle.std.specs.Option.{option_copied};
+ghost use Rattle.amoebot_state.specs.Limits.{cell_room};
 ghost use Rattle.amoebot_state.specs.Configs.{IsValid, bot_at, bot_of, occupant};
 ghost use Rattle.amoebot_state.specs.Ports.{is_beside};
 ghost use Rattle.amoebot_state.specs.Refusals.{IsPlain};
@@ -7,7 +8,7 @@ ghost use Rattle.amoebot_state.specs.Zones.{IsShown, IsFound, gap};
 ghost use Rattle.amoebot_state.specs.Pairs.{body_at, body_in, spot_at, spot_in};
 
 use crate::bot::Bot;
-use crate::cell::{Cell, CellName};
+use crate::cell::{Cell, CellName, Cells};
 use arrayvec::ArrayVec;
 use std::marker::Model;
 use tri_lattice::{Area, Node};
@@ -20,7 +21,7 @@ pub struct Found {
     maxes: [u8; 8],
     bot: u16,
     own: Bot,
-    cells: ArrayVec<(CellName, Cell), 30>,
+    cells: Cells,
 }
 
 impl Model for Found {
@@ -53,13 +54,7 @@ impl Found {
         }
     }
 
-    pub(crate) fn of(
-        area: Area,
-        maxes: [u8; 8],
-        bot: u16,
-        own: Bot,
-        cells: ArrayVec<(CellName, Cell), 30>,
-    ) -> Found
+    pub(crate) fn of(area: Area, maxes: [u8; 8], bot: u16, own: Bot, cells: Cells) -> Found
         requires { IsFound (record { area = area; maxes = maxes; bot = bot; cells = cells.items }) own }
         ensures { result ≡ record { area = area; maxes = maxes; bot = bot; cells = cells.items } }
     {
@@ -179,8 +174,8 @@ fn spot_at(name: &CellName, cell: &Cell, node: Node) -> Option<Option<u16>>
     }
 }
 
-fn copied(cells: &[(CellName, Cell)]) -> ArrayVec<(CellName, Cell), 30>
-    requires { length cells.now ≤ 30 }
+fn copied(cells: &[(CellName, Cell)]) -> Cells
+    requires { length cells.now ≤ cell_room }
     ensures { result.items ≡ cells.now }
 {
     let mut copy = ArrayVec::new();

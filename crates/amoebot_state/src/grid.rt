@@ -45,9 +45,7 @@ pub(crate) fn put_new(
     ensures bots_stay { OnErr result (amoebots.new.items ≡ amoebots.old.items) }
     ensures grid_stays { OnErr result (occupants.new.items ≡ occupants.old.items) }
 {
-    if amoebots.push(*bot).is_err() {
-        return Err(AllocError);
-    }
+    amoebots.push(*bot)?;
     put_at(occupants, area.index(bot.head), Some(id));
     put_at(occupants, area.index(bot.tail), Some(id));
     Ok(())

@@ -1,4 +1,4 @@
-ghost use Rattle.amoebot_state.specs.Laws.{GlobalAndLocalAreInverse, ContractedHasSixPorts, ExpandedHasTenPorts, SixPortsLeadToSixNodes, TenPortsLeadToEightNodes, ZoneIsDetermined, ShownListsZone, ShownHoldsValues, KnownIsFront, NextIsInZone, FrontGrows, NextIsNew, KnownGrowsAtItsEnd, WholeZoneIsShown, FrontStands, ZoneListsEachCellOnce, ZoneHasAtMostTenNodes, ZoneHasAtMostNineBodies, NodeBehindPortIsInZone, OccupantBehindPortIsInZone, GapShowsWhatWasShown, PatchedIsUnique, PatchListsWhatDiffers, StepHasOneResult, RunHasOneLast, ExpansionVerdictIsShown, SameValueIsEquality, DiffLeads, OrderedPatchIsDiff, ValidIsFaultless, FaultlessIsValid, GapIsValid, GapHoldsTheSame, OccupiedIsOccupant, PortLeadsBeside, ExpansionChanges, ExpansionKeepsLaws};
+ghost use Rattle.amoebot_state.specs.Laws.{GlobalAndLocalAreInverse, ContractedHasSixPorts, ExpandedHasTenPorts, SixPortsLeadToSixNodes, TenPortsLeadToEightNodes, ZoneIsDetermined, ShownListsZone, ShownHoldsValues, KnownIsFront, NextIsInZone, FrontGrows, NextIsNew, KnownGrowsAtItsEnd, WholeZoneIsShown, FrontStands, ZoneListsEachCellOnce, ZoneHasAtMostTenNodes, ZoneHasAtMostNineBodies, NodeBehindPortIsInZone, OccupantBehindPortIsInZone, GapShowsWhatWasShown, PatchedIsUnique, PatchListsWhatDiffers, StepHasOneResult, RunHasOneLast, SameValueIsEquality, DiffLeads, OrderedPatchIsDiff, ValidIsFaultless, FaultlessIsValid, GapIsValid, GapHoldsTheSame, OccupiedIsOccupant, PortLeadsBeside};
 
 /// Local and global directions are both 0 to 5, and the one is the inverse of the other, with either chirality.
 pub fn global_and_local_are_inverse()
@@ -128,22 +128,6 @@ pub fn step_has_one_result()
 /// A run has at most one last configuration.
 pub fn run_has_one_last()
     ensures { RunHasOneLast }
-{}
-
-/// The decider that expands contracted amoebots says of what a valid configuration shows what the program says of that
-/// configuration.
-pub fn expansion_verdict_is_shown()
-    ensures { ExpansionVerdictIsShown }
-{}
-
-/// What that decider changes: the node that is entered, and the amoebot's body.
-pub fn expansion_changes()
-    ensures { ExpansionChanges }
-{}
-
-/// That decider keeps the three laws of deciders.
-pub fn expansion_keeps_laws()
-    ensures { ExpansionKeepsLaws }
 {}
 
 /// The test of what cells hold answers whether it is equal.

@@ -4,6 +4,7 @@
 mod bot;
 mod cell;
 mod decider;
+mod expansion;
 mod found;
 mod grid;
 mod laws;
@@ -16,10 +17,10 @@ mod zone;
 pub use bot::{ALL_PORTS, Bot, Chir, End, Port};
 pub use cell::{Cell, CellName, Patch};
 pub use decider::{Decider, has_next, is_exact, touches_zone};
+pub use expansion::{expansion_changes, expansion_keeps_laws, expansion_verdict_is_shown};
 pub use found::Found;
 pub use laws::{
-    contracted_has_six_ports, diff_leads, expanded_has_ten_ports, expansion_changes,
-    expansion_keeps_laws, expansion_verdict_is_shown, faultless_is_valid, front_grows,
+    contracted_has_six_ports, diff_leads, expanded_has_ten_ports, faultless_is_valid, front_grows,
     front_stands, gap_holds_the_same, gap_is_valid, gap_shows_what_was_shown,
     global_and_local_are_inverse, known_grows_at_its_end, known_is_front, next_is_in_zone,
     next_is_new, node_behind_port_is_in_zone, occupant_behind_port_is_in_zone,

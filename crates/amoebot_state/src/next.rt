@@ -1,15 +1,19 @@
 ghost use Rattle.std.specs.Prelude.{◌≡◌, ◌<◌, ◌≤◌, ◌+◌, ◌++◌, IfSome, length, map};
+ghost use Rattle.amoebot_state.specs.Limits.{node_room, cell_room};
 ghost use Rattle.amoebot_state.specs.Known.{read_on, known_zone, next_cell};
 ghost use Rattle.amoebot_state.specs.Pairs.{body_in};
 ghost use Rattle.amoebot_state.specs.Refusals.{IsPlain};
 ghost use Rattle.amoebot_state.specs.Zones.{others};
 ghost use Rattle.arrayvec.specs.ArrayVec.{array_vec_len};
 
-use crate::cell::{Cell, CellName};
+use crate::cell::{CELL_ROOM, Cell, CellName};
 use crate::found::{body_in, spot_in};
-use crate::zone::{push_other, zone_nodes};
+use crate::zone::{Ids, push_other, zone_nodes};
 use arrayvec::ArrayVec;
 use tri_lattice::{Area, Node};
+
+/// The cells of a zone.
+type Names = ArrayVec<CellName, CELL_ROOM>;
 
 /// The cell of an amoebot's zone to be read next, after these, which were read in zone order, the first one first: its own body,
 /// then the nodes that follow from this, then the bodies that follow from the occupants that were read. None exactly where the
@@ -23,7 +27,7 @@ pub fn next_cell(area: &Area, bot: u16, cells: &[(CellName, Cell)]) -> Option<Ce
 }
 
 /// The zone as the cells that were read tell it.
-fn known_zone(area: &Area, bot: u16, cells: &[(CellName, Cell)]) -> ArrayVec<CellName, 30>
+fn known_zone(area: &Area, bot: u16, cells: &[(CellName, Cell)]) -> Names
     requires plain { IfSome (body_in cells.now bot) IsPlain }
     ensures { result.items ≡ known_zone area.now bot cells.now }
 {
@@ -42,10 +46,10 @@ fn known_zone(area: &Area, bot: u16, cells: &[(CellName, Cell)]) -> ArrayVec<Cel
 }
 
 /// The other amoebots that were read on the nodes.
-fn others_read(cells: &[(CellName, Cell)], bot: u16, nodes: &[Node]) -> ArrayVec<u16, 14>
-    requires { length nodes.now ≤ 14 }
+fn others_read(cells: &[(CellName, Cell)], bot: u16, nodes: &[Node]) -> Ids
+    requires { length nodes.now ≤ node_room }
     ensures value { result.items ≡ others (read_on cells.now) bot nodes.now }
-    ensures few { array_vec_len result ≤ 14 }
+    ensures few { array_vec_len result ≤ node_room }
 {
     let mut ids = ArrayVec::new();
     for node in nodes {
@@ -54,8 +58,8 @@ fn others_read(cells: &[(CellName, Cell)], bot: u16, nodes: &[Node]) -> ArrayVec
     ids
 }
 
-fn push_spots(zone: &mut ArrayVec<CellName, 30>, nodes: &[Node])
-    requires { array_vec_len zone.old + length nodes.now ≤ 30 }
+fn push_spots(zone: &mut Names, nodes: &[Node])
+    requires { array_vec_len zone.old + length nodes.now ≤ cell_room }
     ensures { zone.new.items ≡ zone.old.items ++ map CellName.Spot nodes.now }
 {
     for node in nodes {
@@ -63,8 +67,8 @@ fn push_spots(zone: &mut ArrayVec<CellName, 30>, nodes: &[Node])
     }
 }
 
-fn push_bodies(zone: &mut ArrayVec<CellName, 30>, ids: &[u16])
-    requires { array_vec_len zone.old + length ids.now ≤ 30 }
+fn push_bodies(zone: &mut Names, ids: &[u16])
+    requires { array_vec_len zone.old + length ids.now ≤ cell_room }
     ensures { zone.new.items ≡ zone.old.items ++ map CellName.Body ids.now }
 {
     for id in ids {

@@ -1,6 +1,23 @@
+ghost use Rattle.std.specs.Prelude.{◌≡◌};
+ghost use Rattle.amoebot_state.specs.declared.refusal.WorldRefusal.TheVariants as refusal;
+
+use std::alloc::{AllocError, AllocFailed};
+
 /// There was not enough memory.
 #[derive(Clone, Copy, Debug, Drop, PartialEq, Eq)]
 pub struct NoMemory;
+
+impl From<AllocError> for NoMemory {
+    fn from(_error: AllocError) -> NoMemory {
+        NoMemory
+    }
+}
+
+impl<T: Drop> From<AllocFailed<T>> for NoMemory {
+    fn from(_error: AllocFailed<T>) -> NoMemory {
+        NoMemory
+    }
+}
 
 /// Why there is no world. All but `NoMemory` carry the id of the amoebot at fault, which is its place in the list.
 #[derive(Clone, Copy, Debug, Drop, PartialEq, Eq)]
@@ -15,4 +32,12 @@ pub enum WorldRefusal {
     BadValue(u16),
     /// There was not enough memory.
     NoMemory,
+}
+
+impl From<AllocError> for WorldRefusal {
+    ghost from_gives = { λ _ e. e ≡ refusal.NoMemory };
+
+    fn from(_error: AllocError) -> WorldRefusal {
+        WorldRefusal::NoMemory
+    }
 }

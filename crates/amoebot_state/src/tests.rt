@@ -124,7 +124,9 @@ fn an_expansion_is_applied(rt: HostRuntime) -> Result<(), Fail> {
     patch.push(CellName::Spot(NEXT), Cell::Spot(Some(0)));
     patch.push(CellName::Body(0), Cell::Body(STRETCHED));
     assert_eq!(rt; patch.pairs().len(), 2);
+    assert_eq!(rt; world.same(&goal), false);
     world.apply(&patch);
+    assert_eq!(rt; world.same(&goal), true);
     assert_eq!(rt; *world.bot(0), STRETCHED);
     assert_eq!(rt; world.occupant(NEXT), Some(0));
     assert_eq!(rt; world.occupant(HERE), Some(0));

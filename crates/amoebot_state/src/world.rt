@@ -1,5 +1,6 @@
-ghost use Rattle.std.specs.Prelude.{◌≡◌, ◌⊎◌, ◌+◌, ◌∷◌, ◌++◌, ◌<◌, ◌≤◌, [], OnOk, IfOk, IfErr, length, map, IsSome};
+ghost use Rattle.std.specs.Prelude.{◌≡◌, ◌⊎◌, ◌+◌, ◌∷◌, ◌++◌, ◌<◌, ◌≤◌, [], OnOk, IfOk, IfErr, length, map, IsSome, Decides};
 ghost use Rattle.std.specs.List.{All, filter_map};
+ghost use Rattle.amoebot_state.specs.Limits.{most_bots, node_room, cell_room};
 ghost use Rattle.amoebot_state.specs.Configs.{Config, IsValid, bot_at, occupant, config_of, with_bot};
 ghost use Rattle.amoebot_state.specs.Zones.{shown, shown_cell, zone, others};
 ghost use Rattle.amoebot_state.specs.Patches.{IsPatched, HasPatched};
@@ -7,11 +8,11 @@ ghost use Rattle.amoebot_state.specs.Refusals.{IsPlain, IsFaultless, IsFirstFaul
 ghost use Rattle.arrayvec.specs.ArrayVec.{array_vec_len};
 
 use crate::bot::Bot;
-use crate::cell::{Cell, CellName, Patch};
+use crate::cell::{Cell, CellName, Cells, Patch};
 use crate::found::Found;
 use crate::grid::{has_values, is_joined, put_all, put_new};
 use crate::refusal::{NoMemory, WorldRefusal};
-use crate::zone::{push_other, zone_nodes};
+use crate::zone::{Ids, push_other, zone_nodes};
 use arrayvec::ArrayVec;
 use std::alloc::Global;
 use std::marker::Model;
@@ -50,7 +51,7 @@ impl World {
         maxes: [u8; 8],
         bots: &[Bot],
     ) -> Result<World, WorldRefusal>
-        requires few { length bots.now ≤ 4096 }
+        requires few { length bots.now ≤ most_bots }
         requires plain { All IsPlain bots.now }
         ensures value { IfOk result (λ w. w ≡ config_of area maxes bots.now) }
         ensures faultless { OnOk result (IsFaultless area maxes bots.now (length bots.now)) }
@@ -68,13 +69,9 @@ impl World {
         ensures err { IfErr result (λ e. e ≡ WorldRefusal.NoMemory) }
     {
         let mut amoebots = Vec::new(alloc);
-        if amoebots.reserve_exact(room).is_err() {
-            return Err(WorldRefusal::NoMemory);
-        }
+        amoebots.reserve_exact(room)?;
         let mut occupants = Vec::new(alloc);
-        if occupants.resize(area.size() as usize, None).is_err() {
-            return Err(WorldRefusal::NoMemory);
-        }
+        occupants.resize(area.size() as usize, None)?;
         Ok(World {
             area,
             maxes,
@@ -85,7 +82,7 @@ impl World {
 
     /// The first fault of an amoebot that is to be the next.
     fn fault(&self, bot: &Bot) -> Option<WorldRefusal>
-        requires few { length self.now.bots < 4096 }
+        requires few { length self.now.bots < most_bots }
         requires plain { IsPlain bot.now }
         ensures { result ≡ bot_fault self.now bot.now }
     {
@@ -106,7 +103,7 @@ impl World {
     }
 
     fn add(&mut self, bot: &Bot) -> Result<(), WorldRefusal>
-        requires few { length self.old.bots < 4096 }
+        requires few { length self.old.bots < most_bots }
         requires plain { IsPlain bot.now }
         ensures ok { OnOk result ((bot_fault self.old bot.now ≡ None) × (self.new ≡ with_bot self.old bot.now)) }
         ensures err { IfErr result (λ e. (e ≡ WorldRefusal.NoMemory) ⊎ (bot_fault self.old bot.now ≡ Some e)) }
@@ -116,16 +113,14 @@ impl World {
             None => {}
         }
         let id = self.amoebots.len() as u16;
-        match put_new(&self.area, &mut self.amoebots, &mut self.occupants, id, bot) {
-            Ok(()) => Ok(()),
-            Err(_) => Err(WorldRefusal::NoMemory),
-        }
+        put_new(&self.area, &mut self.amoebots, &mut self.occupants, id, bot)?;
+        Ok(())
     }
 
     /// What a world keeps: it is valid, and has at most 4,096 amoebots.
     pub fn keeps(&self)
         ensures valid { IsValid self.now }
-        ensures few { length self.now.bots ≤ 4096 }
+        ensures few { length self.now.bots ≤ most_bots }
     {
         let _area = &self.area;
     }
@@ -147,7 +142,7 @@ impl World {
     /// How many amoebots there are, at most 4,096.
     pub fn bots(&self) -> u16
         ensures value { result ≡ length self.now.bots }
-        ensures few { result ≤ 4096 }
+        ensures few { result ≤ most_bots }
     {
         self.amoebots.len() as u16
     }
@@ -171,18 +166,21 @@ impl World {
         }
     }
 
+    /// Whether the worlds are equal: in area, maxima and amoebots.
+    pub fn same(&self, other: &World) -> bool
+        ensures { Decides result (self.now ≡ other.now) }
+    {
+        self.area == other.area
+            && self.maxes == other.maxes
+            && same_bots(self.amoebots.as_slice(), other.amoebots.as_slice())
+    }
+
     /// The same world once more.
     pub fn copy(&self, alloc: Global) -> Result<World, NoMemory>
         ensures { IfOk result (λ w. w ≡ self.now) }
     {
-        let amoebots = match Vec::from_slice(alloc, self.amoebots.as_slice()) {
-            Ok(amoebots) => amoebots,
-            Err(_) => return Err(NoMemory),
-        };
-        let occupants = match Vec::from_slice(alloc, self.occupants.as_slice()) {
-            Ok(occupants) => occupants,
-            Err(_) => return Err(NoMemory),
-        };
+        let amoebots = Vec::from_slice(alloc, self.amoebots.as_slice())?;
+        let occupants = Vec::from_slice(alloc, self.occupants.as_slice())?;
         Ok(World {
             area: self.area,
             maxes: self.maxes,
@@ -204,7 +202,7 @@ impl World {
     }
 
     /// The cells of an amoebot's zone with what they hold.
-    fn zone_cells(&self, bot: u16, own: &Bot) -> ArrayVec<(CellName, Cell), 30>
+    fn zone_cells(&self, bot: u16, own: &Bot) -> Cells
         requires there { bot_at self.now bot ≡ Some own.now }
         requires plain { IsPlain own.now }
         ensures { result.items ≡ filter_map (shown_cell self.now) (zone self.now bot) }
@@ -228,10 +226,10 @@ impl World {
     }
 
     /// The other amoebots on the nodes.
-    fn others(&self, id: u16, nodes: &[Node]) -> ArrayVec<u16, 14>
-        requires { length nodes.now ≤ 14 }
+    fn others(&self, id: u16, nodes: &[Node]) -> Ids
+        requires { length nodes.now ≤ node_room }
         ensures value { result.items ≡ others (occupant self.now) id nodes.now }
-        ensures few { array_vec_len result ≤ 14 }
+        ensures few { array_vec_len result ≤ node_room }
     {
         let mut ids = ArrayVec::new();
         for node in nodes {
@@ -240,8 +238,8 @@ impl World {
         ids
     }
 
-    fn add_spots(&self, cells: &mut ArrayVec<(CellName, Cell), 30>, nodes: &[Node])
-        requires { array_vec_len cells.old + length nodes.now ≤ 30 }
+    fn add_spots(&self, cells: &mut Cells, nodes: &[Node])
+        requires { array_vec_len cells.old + length nodes.now ≤ cell_room }
         ensures { cells.new.items ≡ cells.old.items ++ map (λ v. (CellName.Spot v, Cell.Spot (occupant self.now v))) nodes.now }
     {
         for node in nodes {
@@ -249,8 +247,8 @@ impl World {
         }
     }
 
-    fn add_bodies(&self, cells: &mut ArrayVec<(CellName, Cell), 30>, ids: &[u16])
-        requires room { array_vec_len cells.old + length ids.now ≤ 30 }
+    fn add_bodies(&self, cells: &mut Cells, ids: &[u16])
+        requires room { array_vec_len cells.old + length ids.now ≤ cell_room }
         requires there { All (λ i. i < length self.now.bots) ids.now }
         ensures { cells.new.items ≡ cells.old.items ++ filter_map (λ i. shown_cell self.now (CellName.Body i)) ids.now }
     {
@@ -271,4 +269,10 @@ impl World {
             patch.pairs(),
         );
     }
+}
+
+fn same_bots(bots: &[Bot], others: &[Bot]) -> bool
+    ensures { Decides result (bots.now ≡ others.now) }
+{
+    bots == others
 }

@@ -1,6 +1,7 @@
 ghost use Rattle.std.specs.Prelude.{◌≡◌, ◌<◌, ◌≤◌, ◌+◌, nat_eq};
 ghost use Rattle.std.specs.List.{list_any};
 ghost use Rattle.tri_lattice.specs.Lattice.{node_eq};
+ghost use Rattle.amoebot_state.specs.Limits.{node_room};
 ghost use Rattle.amoebot_state.specs.Ports.{own_nodes};
 ghost use Rattle.amoebot_state.specs.Refusals.{IsPlain};
 ghost use Rattle.amoebot_state.specs.Storage.{with_new, with_other, with_port};
@@ -11,11 +12,20 @@ use crate::bot::{ALL_PORTS, Bot, Port};
 use arrayvec::ArrayVec;
 use tri_lattice::{Area, Node};
 
+/// Room for two own nodes and those behind twelve pairs of an end and a direction.
+const ROOM: usize = 14;
+
+/// The nodes of a zone.
+pub(crate) type Nodes = ArrayVec<Node, ROOM>;
+
+/// The other amoebots on them.
+pub(crate) type Ids = ArrayVec<u16, ROOM>;
+
 /// The nodes of an amoebot's zone: its own, and those behind its ports that lie in the area, each once.
-pub(crate) fn zone_nodes(area: &Area, bot: &Bot) -> ArrayVec<Node, 14>
+pub(crate) fn zone_nodes(area: &Area, bot: &Bot) -> Nodes
     requires { IsPlain bot.now }
     ensures value { result.items ≡ zone_nodes area.now bot.now }
-    ensures few { array_vec_len result ≤ 14 }
+    ensures few { array_vec_len result ≤ node_room }
 {
     let mut nodes = own_nodes(bot);
     for port in ALL_PORTS.iter() {
@@ -24,7 +34,7 @@ pub(crate) fn zone_nodes(area: &Area, bot: &Bot) -> ArrayVec<Node, 14>
     nodes
 }
 
-fn own_nodes(bot: &Bot) -> ArrayVec<Node, 14>
+fn own_nodes(bot: &Bot) -> Nodes
     ensures value { result.items ≡ own_nodes bot.now }
     ensures few { array_vec_len result ≤ 2 }
 {
@@ -37,9 +47,9 @@ fn own_nodes(bot: &Bot) -> ArrayVec<Node, 14>
 }
 
 /// Adds the node behind a port, where it lies in the area and is new.
-fn push_port(area: &Area, bot: &Bot, port: Port, nodes: &mut ArrayVec<Node, 14>)
+fn push_port(area: &Area, bot: &Bot, port: Port, nodes: &mut Nodes)
     requires plain { IsPlain bot.now }
-    requires room { array_vec_len nodes.old < 14 }
+    requires room { array_vec_len nodes.old < node_room }
     ensures value { nodes.new.items ≡ with_port area.now bot.now nodes.old.items port }
     ensures few { array_vec_len nodes.new ≤ array_vec_len nodes.old + 1 }
 {
@@ -51,8 +61,8 @@ fn push_port(area: &Area, bot: &Bot, port: Port, nodes: &mut ArrayVec<Node, 14>)
     }
 }
 
-fn push_new_node(nodes: &mut ArrayVec<Node, 14>, node: Node)
-    requires { array_vec_len nodes.old < 14 }
+fn push_new_node(nodes: &mut Nodes, node: Node)
+    requires { array_vec_len nodes.old < node_room }
     ensures value { nodes.new.items ≡ with_new node_eq nodes.old.items node }
     ensures few { array_vec_len nodes.new ≤ array_vec_len nodes.old + 1 }
 {
@@ -68,8 +78,8 @@ fn has_node(nodes: &[Node], node: Node) -> bool
 }
 
 /// Adds an occupant, where there is one that is another amoebot than `id` and not there yet.
-pub(crate) fn push_other(ids: &mut ArrayVec<u16, 14>, id: u16, occupant: Option<u16>)
-    requires { array_vec_len ids.old < 14 }
+pub(crate) fn push_other(ids: &mut Ids, id: u16, occupant: Option<u16>)
+    requires { array_vec_len ids.old < node_room }
     ensures value { ids.new.items ≡ with_other id ids.old.items occupant }
     ensures few { array_vec_len ids.new ≤ array_vec_len ids.old + 1 }
 {
@@ -80,8 +90,8 @@ pub(crate) fn push_other(ids: &mut ArrayVec<u16, 14>, id: u16, occupant: Option<
     }
 }
 
-fn push_new_id(ids: &mut ArrayVec<u16, 14>, id: u16)
-    requires { array_vec_len ids.old < 14 }
+fn push_new_id(ids: &mut Ids, id: u16)
+    requires { array_vec_len ids.old < node_room }
     ensures value { ids.new.items ≡ with_new nat_eq ids.old.items id }
     ensures few { array_vec_len ids.new ≤ array_vec_len ids.old + 1 }
 {

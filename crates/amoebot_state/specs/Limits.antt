@@ -1,0 +1,18 @@
+-- How many there may be. All of it is this project's profile.
+use Rattle.std.specs.Prelude.{ℕ}
+
+-- the most amoebots of a world
+abbrev pub most_bots : ℕ
+most_bots = 4096
+
+-- the most pairs of a patch
+abbrev pub most_pairs : ℕ
+most_pairs = 10
+
+-- room for the nodes of a zone: two own ones and one for each pair of an end and a direction; and for the amoebots on them
+abbrev pub node_room : ℕ
+node_room = 14
+
+-- room for the cells of a zone
+abbrev pub cell_room : ℕ
+cell_room = 30
