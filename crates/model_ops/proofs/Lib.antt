@@ -1,0 +1,4 @@
+mod Samples
+pub mod Told
+pub mod Becomes
+pub mod OneArcs

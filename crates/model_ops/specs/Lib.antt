@@ -1,0 +1,5 @@
+pub mod Guard
+pub mod Operations
+pub mod Reaches
+pub mod WorkingCopies
+pub mod Laws
