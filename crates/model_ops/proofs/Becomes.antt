@@ -88,7 +88,7 @@ module _ (c : Config) (i : ℕ) (a b : Bot) (may : MayBecome c i a b) where
   others_as_before v j ne = ap (λ o. covers o v) (at_other c i b j ne)
 
   -- a node that the amoebot had and has no more is empty
-  left_empty : (v : Node) → is_own b v ≡ false → is_own a v ≡ true → occupant (set_bot c i b) v ≡ None
+  pub left_empty : (v : Node) → is_own b v ≡ false → is_own a v ≡ true → occupant (set_bot c i b) v ≡ None
   left_empty v now was = occupant_none (set_bot c i b) v (λ j. elim (cases_eq j i) [
     | inl e ↦ ap (λ k. covers (bot_at (set_bot c i b) k) v) e ∙ own_now v ∙ now
     | inr ne ↦ others_as_before v j ne ∙ elim (cases_Bool (covers (bot_at c j) v)) [

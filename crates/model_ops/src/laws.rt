@@ -1,6 +1,24 @@
-ghost use Rattle.model_ops.specs.Laws.{OneArcTestIsOneArc};
+ghost use Rattle.model_ops.specs.Laws.{OneArcTestIsOneArc, ReachedKeepsRest, OperationsKeepConnected, ReachedStaysConnected, UnguardedSplits};
 
 /// The test of one arc answers whether a ring is one arc.
 pub fn one_arc_test_is_one_arc()
     ensures { OneArcTestIsOneArc }
+{}
+
+/// What an activation reaches from a valid configuration is valid, has the same ids, the same area and the same greatest values,
+/// and differs in cells of the zone alone.
+pub fn reached_keeps_rest()
+    ensures { ReachedKeepsRest }
+{}
+
+/// Occupied nodes that are connected stay connected under each operation that changes something and succeeds, Contract with the
+/// guard on, and so under a whole activation with the guard on.
+pub fn reached_stays_connected()
+    ensures operations { OperationsKeepConnected }
+    ensures reached { ReachedStaysConnected }
+{}
+
+/// Without the guard some Contract splits a connected shape.
+pub fn unguarded_contract_splits()
+    ensures { UnguardedSplits }
 {}

@@ -4,5 +4,7 @@
 mod laws;
 mod peer;
 
-pub use laws::one_arc_test_is_one_arc;
+pub use laws::{
+    one_arc_test_is_one_arc, reached_keeps_rest, reached_stays_connected, unguarded_contract_splits,
+};
 pub use peer::Peer;
