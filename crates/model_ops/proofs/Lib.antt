@@ -10,3 +10,10 @@ pub mod Written
 pub mod KeepsRest
 pub mod StaysConnected
 pub mod Splits
+pub mod Alike
+pub mod Agrees
+pub mod AgreesAfter
+pub mod ShownAlike
+pub mod Cells
+pub mod RisingRanks
+pub mod SameDiff

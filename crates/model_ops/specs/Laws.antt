@@ -1,20 +1,26 @@
 -- What follows from the definitions alone.
-use Rattle.std.specs.Prelude.{◌≡◌, ◌↔◌, ℕ, ℤ, length, is_some, Bool, true, false, List, IsSome, IsTrue}
-use Rattle.std.specs.List.{Contains}
+use Rattle.std.specs.Prelude.{◌≡◌, ◌≢◌, ◌↔◌, ℕ, ℤ, length, is_some, Bool, true, false, List, IsSome, IsTrue}
+use Rattle.std.specs.List.{All, Contains}
+use Rattle.std.specs.Result.{result_err}
 use Rattle.std.specs.declared.option.Option.{Option}
+use Rattle.std.specs.declared.option.Option.TheVariants.{Some}
 use Rattle.std.specs.declared.result.Result.TheVariants.{Ok, Err}
 use Rattle.tri_lattice.specs.Sets.{IsConnected}
 use Rattle.ring_guard.specs.Rings.{IsOneArc}
 use Rattle.amoebot_state.specs.declared.bot.End.{End}
 use Rattle.amoebot_state.specs.declared.bot.Port.{Port}
 use Rattle.amoebot_state.specs.declared.cell.CellName.{CellName}
+use Rattle.amoebot_state.specs.declared.cell.Cell.{Cell}
 use Rattle.amoebot_state.specs.declared.verdict.Failure.TheVariants.{WouldSplit}
 use Rattle.amoebot_state.specs.Configs.{Config, IsValid, bot_at, value}
 use Rattle.amoebot_state.specs.Occupied.{occupied}
-use Rattle.amoebot_state.specs.Zones.{zone}
+use Rattle.amoebot_state.specs.Pairs.{cell_of, value_of}
+use Rattle.amoebot_state.specs.Patches.{IsPatched, IsOrdered, diff}
+use Rattle.amoebot_state.specs.Zones.{zone, shown}
 use Rattle.model_ops.specs.Guard.{is_one_arc}
 use Rattle.model_ops.specs.Operations.{write, expand, contract, push, pull}
-use Rattle.model_ops.specs.Reaches.{Acts, Reaches, perform}
+use Rattle.model_ops.specs.Reaches.{Writing, Acts, Reaches, write_all, perform}
+use Rattle.model_ops.specs.Sights.{sight}
 
 -- the test of one arc answers what it is named for
 abbrev pub OneArcTestIsOneArc : Type 0
@@ -61,3 +67,46 @@ pub record UnguardedSplits : Type 0 where
   pub unguarded : contract before id false end ≡ Ok after
   pub split : IsConnected (occupied after) → ⊥
   pub guarded : contract before id true end ≡ Err WouldSplit
+
+-- on d the operations of i answer as on c: those that ask, wholly; those that change something succeed on both, or fail alike
+pub record AnswersAlike (i : ℕ) (c d : Config) : Type 0 where
+  pub asked : sight d i ≡ sight c i
+  pub writes : (p : Option Port) (x : ℕ) (s : ℤ) → result_err (write d i p x s) ≡ result_err (write c i p x s)
+  pub expands : (p : Port) → result_err (expand d i p) ≡ result_err (expand c i p)
+  pub contracts : (guard : Bool) (e : End) → result_err (contract d i guard e) ≡ result_err (contract c i guard e)
+  pub pushes : (p : Port) → result_err (push d i p) ≡ result_err (push c i p)
+  pub pulls : (p : Port) → result_err (pull d i p) ≡ result_err (pull c i p)
+
+-- an activation meets the same answers on d as on c: the same writes succeed on both, or fail alike; behind writes that succeed each
+-- operation answers alike; and so whole acts succeed on both, or fail alike
+pub record MeetsTheSame (i : ℕ) (c d : Config) : Type 0 where
+  pub writes : (ws : List Writing) → result_err (write_all d i ws) ≡ result_err (write_all c i ws)
+  pub behind : (ws : List Writing) (m n : Config) → write_all c i ws ≡ Ok m → write_all d i ws ≡ Ok n → AnswersAlike i m n
+  pub acts : (acts : Acts) → result_err (perform d i acts) ≡ result_err (perform c i acts)
+
+-- so it is on each two valid configurations that show the same
+abbrev pub ShownMeetsTheSame : Type 0
+ShownMeetsTheSame = (c d : Config) (i : ℕ) → IsValid c → IsValid d → IsSome (bot_at c i) → shown d i ≡ shown c i → MeetsTheSame i c d
+
+-- the difference of d to c is in the order of a patch, with at most one node; each cell that it lists differs, and is one of the zone
+-- of i
+pub record DiffIsExact (c : Config) (i : ℕ) (d : Config) : Type 0 where
+  pub ordered : IsOrdered (diff c d)
+  pub differs : All (λ (p : CellName × Cell). value c (cell_of p) ≢ Some (value_of p)) (diff c d)
+  pub listed : All (λ (p : CellName × Cell). Contains (zone c i) (cell_of p)) (diff c d)
+
+-- so it is with what an activation reaches from a valid configuration
+abbrev pub ReachedDiffIsExact : Type 0
+ReachedDiffIsExact = (c : Config) (i : ℕ) (d : Config) → IsValid c → IsSome (bot_at c i) → Reaches c i d → DiffIsExact c i d
+
+-- the acts that lead from c to `to` lead from d to a configuration, to which the difference of the one leads from d; it is the
+-- difference there
+pub record LeadsAlso (c : Config) (i : ℕ) (acts : Acts) (to d : Config) : Type 0 where
+  pub reached : Config
+  pub performed : perform d i acts ≡ Ok reached
+  pub patched : IsPatched d (diff c to) reached
+  pub same : diff d reached ≡ diff c to
+
+-- so it is with each valid configuration that shows the same
+abbrev pub ReachedLeadsAlso : Type 0
+ReachedLeadsAlso = (c d : Config) (i : ℕ) (acts : Acts) (to : Config) → IsValid c → IsValid d → IsSome (bot_at c i) → shown d i ≡ shown c i → perform c i acts ≡ Ok to → LeadsAlso c i acts to d

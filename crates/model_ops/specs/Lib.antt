@@ -1,5 +1,6 @@
 pub mod Guard
 pub mod Operations
+pub mod Sights
 pub mod Reaches
 pub mod WorkingCopies
 pub mod Laws

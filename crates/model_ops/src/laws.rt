@@ -1,4 +1,4 @@
-ghost use Rattle.model_ops.specs.Laws.{OneArcTestIsOneArc, ReachedKeepsRest, OperationsKeepConnected, ReachedStaysConnected, UnguardedSplits};
+ghost use Rattle.model_ops.specs.Laws.{OneArcTestIsOneArc, ReachedKeepsRest, ReachedDiffIsExact, ReachedLeadsAlso, ShownMeetsTheSame, OperationsKeepConnected, ReachedStaysConnected, UnguardedSplits};
 
 /// The test of one arc answers whether a ring is one arc.
 pub fn one_arc_test_is_one_arc()
@@ -9,6 +9,20 @@ pub fn one_arc_test_is_one_arc()
 /// and differs in cells of the zone alone.
 pub fn reached_keeps_rest()
     ensures { ReachedKeepsRest }
+{}
+
+/// The difference that an activation makes lists at most one node, which stands first, and the bodies in rising id; each cell that
+/// it lists differs, and is one of the zone. On each valid configuration that shows the same, the same acts succeed, and make the
+/// same difference.
+pub fn reached_differs_exactly()
+    ensures exact { ReachedDiffIsExact }
+    ensures everywhere { ReachedLeadsAlso }
+{}
+
+/// On each two valid configurations that show the same, ids without an amoebot allowed, each operation answers alike, at first and
+/// behind any writes that succeed.
+pub fn shown_meets_the_same()
+    ensures { ShownMeetsTheSame }
 {}
 
 /// Occupied nodes that are connected stay connected under each operation that changes something and succeeds, Contract with the
