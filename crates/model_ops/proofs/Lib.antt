@@ -17,3 +17,5 @@ pub mod ShownAlike
 pub mod Cells
 pub mod RisingRanks
 pub mod SameDiff
+pub mod PeerLooksBack
+pub mod CopiesStand

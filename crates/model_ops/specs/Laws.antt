@@ -1,10 +1,11 @@
 -- What follows from the definitions alone.
-use Rattle.std.specs.Prelude.{◌≡◌, ◌≢◌, ◌↔◌, ℕ, ℤ, length, is_some, Bool, true, false, List, IsSome, IsTrue}
+use Rattle.std.specs.Prelude.{◌≡◌, ◌≢◌, ◌↔◌, ◌<◌, ℕ, ℤ, length, is_some, Bool, true, false, List, IsSome, IsTrue}
 use Rattle.std.specs.List.{All, Contains}
 use Rattle.std.specs.Result.{result_err}
 use Rattle.std.specs.declared.option.Option.{Option}
 use Rattle.std.specs.declared.option.Option.TheVariants.{Some}
 use Rattle.std.specs.declared.result.Result.TheVariants.{Ok, Err}
+use Rattle.tri_lattice.specs.Lattice.{step}
 use Rattle.tri_lattice.specs.Sets.{IsConnected}
 use Rattle.ring_guard.specs.Rings.{IsOneArc}
 use Rattle.amoebot_state.specs.declared.bot.End.{End}
@@ -12,19 +13,36 @@ use Rattle.amoebot_state.specs.declared.bot.Port.{Port}
 use Rattle.amoebot_state.specs.declared.cell.CellName.{CellName}
 use Rattle.amoebot_state.specs.declared.cell.Cell.{Cell}
 use Rattle.amoebot_state.specs.declared.verdict.Failure.TheVariants.{WouldSplit}
-use Rattle.amoebot_state.specs.Configs.{Config, IsValid, bot_at, value}
+use Rattle.amoebot_state.specs.declared.verdict.Moved.{Moved}
+use Rattle.amoebot_state.specs.Configs.{Config, IsValid, bot_at, bot_of, occupant, value}
 use Rattle.amoebot_state.specs.Occupied.{occupied}
 use Rattle.amoebot_state.specs.Pairs.{cell_of, value_of}
 use Rattle.amoebot_state.specs.Patches.{IsPatched, IsOrdered, diff}
-use Rattle.amoebot_state.specs.Zones.{zone, shown}
+use Rattle.amoebot_state.specs.Ports.{behind, end_node, global}
+use Rattle.amoebot_state.specs.Zones.{Shown, IsShown, zone, shown}
 use Rattle.model_ops.specs.Guard.{is_one_arc}
-use Rattle.model_ops.specs.Operations.{write, expand, contract, push, pull}
-use Rattle.model_ops.specs.Reaches.{Writing, Acts, Reaches, write_all, perform}
+use Rattle.model_ops.specs.declared.peer.Peer.{Peer}
+use Rattle.model_ops.specs.Operations.{write, peer, expand, contract, push, pull}
+use Rattle.model_ops.specs.Reaches.{Writing, Acts, Reaches, ReachesUnmoved, write_all, move, perform}
 use Rattle.model_ops.specs.Sights.{sight}
+use Rattle.model_ops.specs.WorkingCopies.{WorkingCopy, opened, own_id, IsWorking, IsUnmoved, changes}
 
 -- the test of one arc answers what it is named for
 abbrev pub OneArcTestIsOneArc : Type 0
 OneArcTestIsOneArc = (xs : List Bool) → IsTrue (is_one_arc xs) ↔ IsOneArc xs
+
+-- the answer of Peer is of the occupant behind the port; its direction is the only one of that amoebot's local directions that leads
+-- back from the node behind the port to the node that the port is on; and the edge is at the head of a contracted neighbour
+pub record LooksBack (c : Config) (i : ℕ) (p : Port) (seen : Peer) : Type 0 where
+  pub peer_id : ℕ
+  pub by : occupant c (behind (bot_of c i) p) ≡ Some peer_id
+  pub below : seen.dir < 6
+  pub back : step (behind (bot_of c i) p) (global (bot_of c peer_id) seen.dir) ≡ end_node (bot_of c i) p.end
+  pub alone : (k : ℕ) → k < 6 → step (behind (bot_of c i) p) (global (bot_of c peer_id) k) ≡ end_node (bot_of c i) p.end → k ≡ seen.dir
+  pub at_head : seen.expanded ≡ false → seen.at_head ≡ true
+
+abbrev pub PeerLooksBack : Type 0
+PeerLooksBack = (c : Config) (i : ℕ) (p : Port) (seen : Peer) → IsValid c → IsSome (bot_at c i) → peer c i p ≡ Ok seen → LooksBack c i p seen
 
 -- d is valid, differs from c in its amoebots at most, has the same ids, and holds what c holds in each cell that is not of the
 -- zone of i
@@ -110,3 +128,22 @@ pub record LeadsAlso (c : Config) (i : ℕ) (acts : Acts) (to d : Config) : Type
 -- so it is with each valid configuration that shows the same
 abbrev pub ReachedLeadsAlso : Type 0
 ReachedLeadsAlso = (c d : Config) (i : ℕ) (acts : Acts) (to : Config) → IsValid c → IsValid d → IsSome (bot_at c i) → shown d i ≡ shown c i → perform c i acts ≡ Ok to → LeadsAlso c i acts to d
+
+-- a working copy is one from the first; writes leave it unmoved, and a movement leaves it a working copy
+pub record CopiesWork : Type 0 where
+  pub opens : (s : Shown) → IsShown s → IsWorking (opened s) × IsUnmoved (opened s)
+  pub writes : (w : WorkingCopy) (p : Option Port) (x : ℕ) (s : ℤ) (d : Config) → IsWorking w → IsUnmoved w → write w.reached (own_id w) p x s ≡ Ok d → IsWorking (record w { reached = d }) × IsUnmoved (record w { reached = d })
+  pub moves : (w : WorkingCopy) (guard : Bool) (m : Moved) (d : Config) → IsWorking w → IsUnmoved w → move w.reached (own_id w) guard m ≡ Ok d → IsWorking (record w { reached = d })
+
+-- a working copy stands for a configuration: the same acts lead from there to another one, and the copy's changes lead there and are
+-- its difference; as long as the copy is unmoved, the operations answer alike on both
+pub record StandsFor (w : WorkingCopy) (d : Config) : Type 0 where
+  pub reached : Config
+  pub reaches : Reaches d (own_id w) reached
+  pub patched : IsPatched d (changes w) reached
+  pub same : diff d reached ≡ changes w
+  pub unmoved : IsUnmoved w → ReachesUnmoved d (own_id w) reached × AnswersAlike (own_id w) w.reached reached
+
+-- so it does for each valid configuration that shows what was found
+abbrev pub CopyStandsForWorlds : Type 0
+CopyStandsForWorlds = (w : WorkingCopy) (d : Config) → IsWorking w → IsValid d → shown d (own_id w) ≡ w.found → StandsFor w d

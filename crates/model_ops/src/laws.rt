@@ -1,4 +1,4 @@
-ghost use Rattle.model_ops.specs.Laws.{OneArcTestIsOneArc, ReachedKeepsRest, ReachedDiffIsExact, ReachedLeadsAlso, ShownMeetsTheSame, OperationsKeepConnected, ReachedStaysConnected, UnguardedSplits};
+ghost use Rattle.model_ops.specs.Laws.{OneArcTestIsOneArc, ReachedKeepsRest, ReachedDiffIsExact, ReachedLeadsAlso, ShownMeetsTheSame, OperationsKeepConnected, ReachedStaysConnected, UnguardedSplits, PeerLooksBack, CopiesWork, CopyStandsForWorlds};
 
 /// The test of one arc answers whether a ring is one arc.
 pub fn one_arc_test_is_one_arc()
@@ -35,4 +35,17 @@ pub fn reached_stays_connected()
 /// Without the guard some Contract splits a connected shape.
 pub fn unguarded_contract_splits()
     ensures { UnguardedSplits }
+{}
+
+/// Peer answers of the occupant behind the port, and the direction that it answers is that amoebot's only one that leads back.
+pub fn peer_looks_back()
+    ensures { PeerLooksBack }
+{}
+
+/// A working copy stands for each valid configuration that shows what was found: what is reached on the copy is reached there by
+/// the same acts, its changes are the difference there, and the operations answer alike as long as no movement has succeeded.
+/// Writes and a movement that succeed lead from a working copy to one.
+pub fn copies_stand_for_worlds()
+    ensures work { CopiesWork }
+    ensures stand { CopyStandsForWorlds }
 {}
