@@ -12,7 +12,7 @@ use Rattle.amoebot_state.proofs.Gaps.{gap_own}
 use Rattle.amoebot_state.proofs.Patched.{patched_is_unique}
 use Rattle.amoebot_state.proofs.Shows.{shown_valid}
 use Rattle.model_ops.specs.Operations.{and_then, write}
-use Rattle.model_ops.specs.Reaches.{Writing, Acts, Reaches, ReachesUnmoved, write_all, move}
+use Rattle.model_ops.specs.Reaches.{Writing, Acts, Reaches, ReachesUnmoved, write_all, move, perform}
 use Rattle.model_ops.specs.WorkingCopies.{own_id, changes}
 use Rattle.model_ops.specs.Laws.{CopiesWork, CopyStandsForWorlds}
 use Rattle.model_ops.proofs.Told.{then_told}
@@ -21,18 +21,18 @@ use Rattle.model_ops.proofs.ShownAlike.{shown_meets_the_same}
 use Rattle.model_ops.proofs.SameDiff.{reached_leads_also}
 
 -- one part behind another
-then_is : {A B : Type 0} (r : Result A Failure) (next : A → Result B Failure) (x : A) (y : B) → r ≡ Ok x → next x ≡ Ok y → and_then r next ≡ Ok y
+pub then_is : {A B : Type 0} (r : Result A Failure) (next : A → Result B Failure) (x : A) (y : B) → r ≡ Ok x → next x ≡ Ok y → and_then r next ≡ Ok y
 then_is r next x y e f = ap (λ s. and_then s next) e ∙ f
 
 -- writes alone are acts
 abbrev writing : List Writing → Acts
 writing ws = record { writes = ws; guard = false; moved = moved.None }
 
-unmoved_reaches : (c : Config) (i : ℕ) (d : Config) → ReachesUnmoved c i d → Reaches c i d
+pub unmoved_reaches : (c : Config) (i : ℕ) (d : Config) → ReachesUnmoved c i d → Reaches c i d
 unmoved_reaches c i d (ws, e) = (writing ws, then_is (write_all c i ws) Ok d d e refl)
 
 -- one write more
-one_more : (c : Config) (i : ℕ) (ws : List Writing) (w : Writing) (m d : Config) → write_all c i ws ≡ Ok m → write m i w.port w.var w.value ≡ Ok d → write_all c i (ws ++ w ∷ []) ≡ Ok d
+pub one_more : (c : Config) (i : ℕ) (ws : List Writing) (w : Writing) (m d : Config) → write_all c i ws ≡ Ok m → write m i w.port w.var w.value ≡ Ok d → write_all c i (ws ++ w ∷ []) ≡ Ok d
 one_more c i [] w m d e f = then_is (write c i w.port w.var w.value) Ok d d (ap (λ r. and_then r (λ x. write x i w.port w.var w.value)) e ∙ f) refl
 one_more c i (v ∷ ws) w m d e f =
     let (n, first, rest) = then_told (write c i v.port v.var v.value) _ m e in
@@ -51,7 +51,7 @@ copies_work = record {
 }
 
 -- what was found is shown by the configuration that has it and no other amoebot, to an amoebot of it
-gap_there : (s : Shown) → IsShown s → IsSome (bot_at (gap s) s.bot)
+pub gap_there : (s : Shown) → IsShown s → IsSome (bot_at (gap s) s.bot)
 gap_there s (c, valid, has, is) = subst (λ (t : Shown). IsSome (bot_at (gap t) s.bot)) is (ap (λ o. is_some o) (gap_own c s.bot _ (own_there c s.bot has)))
 
 pub copy_stands_for_worlds : CopyStandsForWorlds
@@ -62,18 +62,18 @@ copy_stands_for_worlds w d works valid same =
     let shows : shown d i ≡ shown c i = same ∙ sym (gap_shows_what_was_shown s works.shown) in
     let there = gap_there s works.shown in
     let valid_c = shown_valid s works.shown in
-    let (acts, e) = works.reached in
-    let also = reached_leads_also c d i acts w.reached valid_c valid there shows e in
+    let (first, e) = works.reached in
+    let also = reached_leads_also c d i first w.reached valid_c valid there shows e in
+    let same_acts : (acts : Acts) → perform c i acts ≡ Ok w.reached → perform d i acts ≡ Ok also.reached = λ acts f.
+    let more = reached_leads_also c d i acts w.reached valid_c valid there shows f in
+    more.performed ∙ ap Ok (patched_is_unique d more.reached also.reached (changes w) more.patched also.patched) in
     record {
       reached = also.reached;
-      reaches = (acts, also.performed);
+      same_acts = same_acts;
       patched = also.patched;
-      same = also.same;
-      unmoved = λ still.
+      same_changes = also.same;
+      alike = λ still.
           let (ws, f) = still in
-          let more = reached_leads_also c d i (writing ws) w.reached valid_c valid there shows (then_is (write_all c i ws) Ok w.reached w.reached f refl) in
-          let one : more.reached ≡ also.reached = patched_is_unique d more.reached also.reached (changes w) more.patched also.patched in
-          let (m, g, last) = then_told (write_all d i ws) _ more.reached more.performed in
-          let to : write_all d i ws ≡ Ok also.reached = g ∙ last ∙ ap Ok one in
-          ((ws, to), (shown_meets_the_same c d i valid_c valid there shows).behind ws w.reached also.reached f to);
+          let (m, g, last) = then_told (write_all d i ws) _ also.reached (same_acts (writing ws) (then_is (write_all c i ws) Ok w.reached w.reached f refl)) in
+          (shown_meets_the_same c d i valid_c valid there shows).behind ws w.reached also.reached f (g ∙ last);
     }

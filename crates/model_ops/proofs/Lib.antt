@@ -19,3 +19,4 @@ pub mod RisingRanks
 pub mod SameDiff
 pub mod PeerLooksBack
 pub mod CopiesStand
+pub mod ActsDecide

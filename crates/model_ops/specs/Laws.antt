@@ -14,17 +14,21 @@ use Rattle.amoebot_state.specs.declared.cell.CellName.{CellName}
 use Rattle.amoebot_state.specs.declared.cell.Cell.{Cell}
 use Rattle.amoebot_state.specs.declared.verdict.Failure.TheVariants.{WouldSplit}
 use Rattle.amoebot_state.specs.declared.verdict.Moved.{Moved}
+use Rattle.amoebot_state.specs.declared.verdict.Entry.{Entry}
+use Rattle.amoebot_state.specs.declared.verdict.Verdict.{Verdict}
 use Rattle.amoebot_state.specs.Configs.{Config, IsValid, bot_at, bot_of, occupant, value}
 use Rattle.amoebot_state.specs.Occupied.{occupied}
 use Rattle.amoebot_state.specs.Pairs.{cell_of, value_of}
 use Rattle.amoebot_state.specs.Patches.{IsPatched, IsOrdered, diff}
 use Rattle.amoebot_state.specs.Ports.{behind, end_node, global}
-use Rattle.amoebot_state.specs.Zones.{Shown, IsShown, zone, shown}
+use Rattle.amoebot_state.specs.Zones.{Shown, IsShown, zone, shown, gap}
+use Rattle.amoebot_state.specs.Steps.{Step, TouchesZone, HasNext, IsExact}
 use Rattle.model_ops.specs.Guard.{is_one_arc}
 use Rattle.model_ops.specs.declared.peer.Peer.{Peer}
 use Rattle.model_ops.specs.Operations.{write, peer, expand, contract, push, pull}
-use Rattle.model_ops.specs.Reaches.{Writing, Acts, Reaches, ReachesUnmoved, write_all, move, perform}
+use Rattle.model_ops.specs.Reaches.{Writing, Acts, Reaches, write_all, move, perform}
 use Rattle.model_ops.specs.Sights.{sight}
+use Rattle.model_ops.specs.Deciders.{DecidesByActs, DecidesGuarded}
 use Rattle.model_ops.specs.WorkingCopies.{WorkingCopy, opened, own_id, IsWorking, IsUnmoved, changes}
 
 -- the test of one arc answers what it is named for
@@ -117,7 +121,7 @@ pub record DiffIsExact (c : Config) (i : ℕ) (d : Config) : Type 0 where
 abbrev pub ReachedDiffIsExact : Type 0
 ReachedDiffIsExact = (c : Config) (i : ℕ) (d : Config) → IsValid c → IsSome (bot_at c i) → Reaches c i d → DiffIsExact c i d
 
--- the acts that lead from c to `to` lead from d to a configuration, to which the difference of the one leads from d; it is the
+-- the acts that lead from c to `to` lead from d to a configuration; the difference of `to` to c leads there from d, and is the
 -- difference there
 pub record LeadsAlso (c : Config) (i : ℕ) (acts : Acts) (to d : Config) : Type 0 where
   pub reached : Config
@@ -135,15 +139,23 @@ pub record CopiesWork : Type 0 where
   pub writes : (w : WorkingCopy) (p : Option Port) (x : ℕ) (s : ℤ) (d : Config) → IsWorking w → IsUnmoved w → write w.reached (own_id w) p x s ≡ Ok d → IsWorking (record w { reached = d }) × IsUnmoved (record w { reached = d })
   pub moves : (w : WorkingCopy) (guard : Bool) (m : Moved) (d : Config) → IsWorking w → IsUnmoved w → move w.reached (own_id w) guard m ≡ Ok d → IsWorking (record w { reached = d })
 
--- a working copy stands for a configuration: the same acts lead from there to another one, and the copy's changes lead there and are
--- its difference; as long as the copy is unmoved, the operations answer alike on both
+-- a working copy stands for a configuration: acts that lead to what the copy reached lead from there to one other configuration; the
+-- copy's changes lead there, and are the difference there; as long as the copy is unmoved, the operations answer alike on both
 pub record StandsFor (w : WorkingCopy) (d : Config) : Type 0 where
   pub reached : Config
-  pub reaches : Reaches d (own_id w) reached
+  pub same_acts : (acts : Acts) → perform (gap w.found) (own_id w) acts ≡ Ok w.reached → perform d (own_id w) acts ≡ Ok reached
   pub patched : IsPatched d (changes w) reached
-  pub same : diff d reached ≡ changes w
-  pub unmoved : IsUnmoved w → ReachesUnmoved d (own_id w) reached × AnswersAlike (own_id w) w.reached reached
+  pub same_changes : diff d reached ≡ changes w
+  pub alike : IsUnmoved w → AnswersAlike (own_id w) w.reached reached
 
 -- so it does for each valid configuration that shows what was found
 abbrev pub CopyStandsForWorlds : Type 0
 CopyStandsForWorlds = (w : WorkingCopy) (d : Config) → IsWorking w → IsValid d → shown d (own_id w) ≡ w.found → StandsFor w d
+
+-- what decides by acts keeps the three laws of deciders
+abbrev pub ActsKeepDeciderLaws : Type 0
+ActsKeepDeciderLaws = (f : Shown → Verdict) → DecidesByActs f → TouchesZone f × HasNext f × IsExact f
+
+-- and with the guard on, a step from a valid configuration leaves the occupied nodes connected
+abbrev pub GuardedStepsStayConnected : Type 0
+GuardedStepsStayConnected = (f : Shown → Verdict) (old : Config) (e : Entry) (new : Config) → DecidesGuarded f → IsValid old → Step f old e new → StaysConnected old new

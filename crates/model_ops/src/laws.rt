@@ -1,4 +1,4 @@
-ghost use Rattle.model_ops.specs.Laws.{OneArcTestIsOneArc, ReachedKeepsRest, ReachedDiffIsExact, ReachedLeadsAlso, ShownMeetsTheSame, OperationsKeepConnected, ReachedStaysConnected, UnguardedSplits, PeerLooksBack, CopiesWork, CopyStandsForWorlds};
+ghost use Rattle.model_ops.specs.Laws.{OneArcTestIsOneArc, ReachedKeepsRest, ReachedDiffIsExact, ReachedLeadsAlso, ShownMeetsTheSame, OperationsKeepConnected, ReachedStaysConnected, UnguardedSplits, PeerLooksBack, CopiesWork, CopyStandsForWorlds, ActsKeepDeciderLaws, GuardedStepsStayConnected};
 
 /// The test of one arc answers whether a ring is one arc.
 pub fn one_arc_test_is_one_arc()
@@ -48,4 +48,11 @@ pub fn peer_looks_back()
 pub fn copies_stand_for_worlds()
     ensures work { CopiesWork }
     ensures stand { CopyStandsForWorlds }
+{}
+
+/// A decider whose changes are the differences that acts make keeps the three laws of deciders; where the acts have the guard on, its
+/// steps leave connected occupied nodes connected.
+pub fn acts_decide()
+    ensures laws { ActsKeepDeciderLaws }
+    ensures connected { GuardedStepsStayConnected }
 {}
