@@ -1,0 +1,22 @@
+mod Samples
+pub mod Told
+pub mod Becomes
+pub mod OneArcs
+pub mod SmallMoves
+pub mod Neighbours
+pub mod Movements
+pub mod Moved
+pub mod Written
+pub mod KeepsRest
+pub mod StaysConnected
+pub mod Splits
+pub mod Alike
+pub mod Agrees
+pub mod AgreesAfter
+pub mod ShownAlike
+pub mod Cells
+pub mod RisingRanks
+pub mod SameDiff
+pub mod PeerLooksBack
+pub mod CopiesStand
+pub mod ActsDecide

@@ -1,0 +1,12 @@
+//! The operations of the model, and what an activation reaches by them.
+#![tactic(auto)]
+
+mod laws;
+mod peer;
+
+pub use laws::{
+    acts_decide, copies_stand_for_worlds, one_arc_test_is_one_arc, peer_looks_back,
+    reached_differs_exactly, reached_keeps_rest, reached_stays_connected, shown_meets_the_same,
+    unguarded_contract_splits,
+};
+pub use peer::Peer;
