@@ -1,0 +1,4 @@
+pub mod Good
+pub mod Rooms
+pub mod SerialRuns
+pub mod Turns
