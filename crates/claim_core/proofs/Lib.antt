@@ -1,2 +1,14 @@
+pub mod Claims
+pub mod Commits
+pub mod Frames
+pub mod Freeing
+pub mod Fronts
+pub mod Holding
 pub mod Inner
+pub mod Moved
+pub mod Nexts
+pub mod Numbers
+pub mod Places
+pub mod Sounds
 pub mod Stays
+pub mod Tags

@@ -1,4 +1,9 @@
+pub mod Cells
 pub mod Good
+pub mod Laws
+pub mod Machine
 pub mod Rooms
 pub mod SerialRuns
+pub mod Soundness
+pub mod Tags
 pub mod Turns

@@ -1,3 +1,4 @@
+ghost use Rattle.claim_core.specs.Laws.{IsAlwaysSound};
 ghost use Rattle.claim_core.specs.SerialRuns.{SerialRunIsDetermined, SerialReportIsDetermined};
 
 use amoebot_state::step_has_one_result;
@@ -10,3 +11,8 @@ pub fn serial_run_is_determined()
 {
     step_has_one_result();
 }
+
+/// After any list of steps the state is sound.
+pub fn is_always_sound()
+    ensures { IsAlwaysSound }
+{}

@@ -6,11 +6,13 @@ mod laws;
 mod lists;
 mod marks;
 mod report;
+mod state;
 #[cfg(test)]
 mod tests;
 
 pub use journal::Journal;
-pub use laws::serial_run_is_determined;
+pub use laws::{is_always_sound, serial_run_is_determined};
 pub use lists::Lists;
 pub use marks::{Mark, Marks};
 pub use report::Report;
+pub use state::{Caller, Committed, Look, Phase};
