@@ -14,7 +14,7 @@ use Rattle.amoebot_state.specs.declared.cell.CellName.TheVariants as name
 use Rattle.amoebot_state.specs.declared.cell.Cell.{Cell}
 use Rattle.amoebot_state.specs.declared.cell.Cell.TheVariants as cell
 use Rattle.amoebot_state.specs.Pairs.{Pairs, cell_of, value_of}
-use Rattle.amoebot_state.specs.Configs.{Config, IsValid, bot_at, value}
+use Rattle.amoebot_state.specs.Configs.{Config, IsValid, bot_at, occupant, value}
 use Rattle.amoebot_state.specs.Zones.{Shown, shown, shown_cell, zone, zone_nodes, others}
 use Rattle.amoebot_state.proofs.Members.{Has, has_cases, map_has, Has-map, not_in_none, Has-append_cases, Has-append_left, Has-append_right, here, later, Contains-from_Has}
 use Rattle.amoebot_state.proofs.Once.{zone_lists_each_cell_once}
@@ -84,9 +84,9 @@ zone_value c i (name.Body j) valid there has =
       | inr behind ↦ elim (Has-append_cases (map name.Spot vs) behind) [
         | inl spot ↦ let found = map_has name.Spot vs spot in absurd (cc (found.2))
         | inr other ↦
-            let found = map_has name.Body (others c i vs) other in
+            let found = map_has name.Body (others (occupant c) i vs) other in
             let same : j ≡ found.0 = let e = found.2 in cc in
-            let by = others_occupy c i vs found.0 found.1 in
+            let by = others_occupy (occupant c) i vs found.0 found.1 in
             let is = covered (bot_at c found.0) by.0 (occupant_covers c by.0 found.0 by.2) in
             body j is.0 (ap (bot_at c) same ∙ is.1)
       ]

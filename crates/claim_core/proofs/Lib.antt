@@ -1,5 +1,7 @@
 pub mod Claims
+pub mod Commitments
 pub mod Commits
+pub mod Ends
 pub mod Frames
 pub mod Freeing
 pub mod Fronts
@@ -8,7 +10,9 @@ pub mod Inner
 pub mod Moved
 pub mod Nexts
 pub mod Numbers
+pub mod OneList
 pub mod Places
 pub mod Sounds
 pub mod Stays
+pub mod Steady
 pub mod Tags

@@ -17,7 +17,7 @@ use Rattle.amoebot_state.specs.declared.cell.CellName.TheVariants as name
 use Rattle.amoebot_state.specs.declared.cell.Cell.{Cell}
 use Rattle.amoebot_state.specs.declared.cell.Cell.TheVariants as cell
 use Rattle.amoebot_state.specs.Pairs.{Pairs, cell_of, value_of}
-use Rattle.amoebot_state.specs.Configs.{Config, bot_at, blank, occupant, value}
+use Rattle.amoebot_state.specs.Configs.{Config, bot_at, bot_of, blank, occupant, value}
 use Rattle.amoebot_state.specs.Patches.{IsPatched, all_cells}
 use Rattle.claim_core.specs.Cells.{number, at, put, held_by, values_of, name_eq, given, patched}
 use Rattle.claim_core.proofs.Places.{at-put_here, at-put_else, length-put, get-append_left, get-append_right}
@@ -111,6 +111,10 @@ module _ (c : Config) where
           by None none = absurd (none-some x (sym (ap (option_map (held_by c)) none) ∙ got))
           by (Some m) is =
               same_Some x (held_by c m) (sym (sym (ap (option_map (held_by c)) is) ∙ got)) ∙ ap (held_by c) (cell_at n m (ap (at (all_cells c)) some ∙ is))
+
+  -- the value of a body
+  pub value_of_body : (i : ℕ) → i < length c.bots → at (values_of c) (number c.area (name.Body i)) ≡ Some (cell.Body (bot_of c i))
+  value_of_body i lt = slice_get-map (held_by c) (all_cells c) (size + i) ∙ ap (option_map (held_by c)) (body_at (size + i) i refl lt)
 
 -- a cell that has a value holds it
 pub value_held : (c : Config) (n : CellName) (x : Cell) → value c n ≡ Some x → held_by c n ≡ x

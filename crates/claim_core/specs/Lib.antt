@@ -2,6 +2,7 @@ pub mod Cells
 pub mod Good
 pub mod Laws
 pub mod Machine
+pub mod Reached
 pub mod Rooms
 pub mod SerialRuns
 pub mod Soundness
