@@ -11,6 +11,7 @@ use Rattle.amoebot_state.specs.declared.verdict.Verdict.{Verdict}
 use Rattle.amoebot_state.specs.declared.verdict.Verdict.TheVariants as verdict
 use Rattle.amoebot_state.specs.Pairs.{Pairs, cell_of}
 use Rattle.amoebot_state.specs.Configs.{Config, bot_at, value}
+use Rattle.amoebot_state.specs.Known.{next_cell}
 use Rattle.amoebot_state.specs.Zones.{Shown, zone}
 use Rattle.amoebot_state.proofs.Members.{Has, here, Has-append_right}
 use Rattle.claim_core.specs.declared.state.Look.TheVariants as look
@@ -170,7 +171,7 @@ module _ (g : Setup) (ok : IsSetup g) (old : State) (s : Sound g old) (c : ℕ) 
       front_more = ap (λ ns. ns ++ front.0) (names-more (n, x) k.held) ∙ append_assoc (names k.held) (n ∷ []) front.0 ∙ front.1
 
       next_more : next_of g own more ≡ slice_get front.0 0
-      next_more = ap (λ a. g.next_cell a own (reverse more)) (sym (same_area g ok old s)) ∙ next_is g.next_cell ok.next s.last own more front.0 (framed g ok old s).valid there_own valued_more front_more
+      next_more = ap (λ a. next_cell a own (reverse more)) (sym (same_area g ok old s)) ∙ next_is s.last own more front.0 there_own valued_more front_more
 
       -- in any phase of this turn
       in_phase : (q : Phase) → IsTurn g.lists.turns q k.turn → HasFront g new s.last c (record k { phase = q; held = more }) q → (IsCommitting q → ⊥) → length k.marks ≡ marked q k.turn → IsRefused g new c q → CallerOk g new s.last c (record k { phase = q; held = more })

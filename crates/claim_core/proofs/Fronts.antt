@@ -5,9 +5,8 @@ use Rattle.std.specs.List.{All, AllPairs, Contains, filter_map, cons_option}
 use Rattle.std.specs.Option.{option_map}
 use Rattle.std.proofs.lemmas.Bool.{false≢true}
 use Rattle.std.proofs.lemmas.List.{append-nil, append_assoc, reverse-append, map-append, length-map, length-reverse, get_or_at, get_or_append_left}
-use Rattle.std.proofs.lemmas.List.Elements.{All-head, All-tail, All-push}
+use Rattle.std.proofs.lemmas.List.Elements.{filter_map-append, All-head, All-tail, All-push}
 use Rattle.std.proofs.lemmas.Option.{same_Some, none-some}
-use Rattle.tri_lattice.specs.Extent.{Extent}
 use Rattle.amoebot_state.specs.declared.bot.Bot.{Bot}
 use Rattle.amoebot_state.specs.declared.cell.CellName.{CellName}
 use Rattle.amoebot_state.specs.declared.cell.CellName.TheVariants as name
@@ -18,12 +17,16 @@ use Rattle.amoebot_state.specs.Configs.{Config, IsValid, bot_at, occupant, value
 use Rattle.amoebot_state.specs.Zones.{Shown, shown, shown_cell, zone, zone_nodes, others}
 use Rattle.amoebot_state.proofs.Members.{Has, has_cases, map_has, Has-map, not_in_none, Has-append_cases, Has-append_left, Has-append_right, here, later, Contains-from_Has}
 use Rattle.amoebot_state.proofs.Once.{zone_lists_each_cell_once}
+use Rattle.amoebot_state.specs.Known.{IsFront, next_cell}
+use Rattle.amoebot_state.proofs.Fronts.{front_of_append}
 use Rattle.amoebot_state.proofs.Gaps.{zone_is}
+use Rattle.amoebot_state.proofs.Known.{next_is_in_zone}
 use Rattle.amoebot_state.proofs.Occupants.{occupant_covers}
 use Rattle.amoebot_state.proofs.Owns.{covered}
 use Rattle.amoebot_state.proofs.Zones.{others_occupy}
 use Rattle.claim_core.specs.Cells.{held_by}
-use Rattle.claim_core.specs.Soundness.{names, IsNextOfZone}
+use Rattle.claim_core.specs.Soundness.{names}
+use Rattle.claim_core.proofs.Places.{get-append_right}
 
 -- one more cell is the last one in the order won
 pub reverse-more : {A : Type 0} (x : A) (xs : List A) → reverse (x ∷ xs) ≡ reverse xs ++ x ∷ []
@@ -111,39 +114,43 @@ whole_shown c i held valued whole =
     let cells = ap (filter_map (shown_cell c)) (sym whole) ∙ shown_as c (reverse held) (All-reverse (Valued c) held valued) in
     λ t. record { area = c.area; maxes = c.maxes; bot = i; cells = cells t }
 
-module _ (next_cell : Extent → ℕ → Pairs → Option CellName) (law : IsNextOfZone next_cell) where
-  -- the next cell is the zone's
-  pub next_is : (c : Config) (i : ℕ) (held : Pairs) (rest : List CellName) → IsValid c → IsSome (bot_at c i) → All (Valued c) held → names held ++ rest ≡ zone c i → next_cell c.area i (reverse held) ≡ slice_get rest 0
-  next_is c i held rest valid there valued front = law c i (reverse held) rest valid there front (All-reverse (Valued c) held valued)
+-- the next cell is the zone's
+pub next_is : (c : Config) (i : ℕ) (held : Pairs) (rest : List CellName) → IsSome (bot_at c i) → All (Valued c) held → names held ++ rest ≡ zone c i → next_cell c.area i (reverse held) ≡ slice_get rest 0
+next_is c i held rest there valued front =
+    let all = All-reverse (Valued c) held valued in
+    let cells : (shown c i).cells ≡ reverse held ++ filter_map (shown_cell c) rest =
+        ap (filter_map (shown_cell c)) (sym front) ∙ filter_map-append (shown_cell c) (names held) rest ∙ ap (λ ps. ps ++ filter_map (shown_cell c) rest) (shown_as c (reverse held) all) in
+    next_is_in_zone c i (reverse held) there (subst (IsFront (reverse held)) (sym cells) (front_of_append (reverse held) (filter_map (shown_cell c) rest)))
+    ∙ ap (λ ns. slice_get ns (length (reverse held))) (sym front) ∙ get-append_right (names held) rest 0 (length (reverse held)) (omega (arith, length-map (reverse held) cell_of))
 
-  -- a front of the zone of one configuration is one of the other's zone, with the same next cell, where both hold the same in it
-  pub front_kept : (c d : Config) (i : ℕ) (held : Pairs) (rest : List CellName) → IsValid c → IsValid d → d.area ≡ c.area → IsSome (bot_at c i) → IsSome (bot_at d i) → All (Valued c) held → All (Valued d) held → names held ++ rest ≡ zone c i → (more : List CellName) × (names held ++ more ≡ zone d i) × (slice_get more 0 ≡ slice_get rest 0)
-  front_kept c d i held rest vc vd area tc td old new front =
-      let again = grown held rest old new front in
-      (again.0, again.1, sym (next_is d i held again.0 vd td new again.1) ∙ ap (λ a. next_cell a i (reverse held)) area ∙ next_is c i held rest vc tc old front)
-    where
-      -- the first element of a list
-      first : (ns : List CellName) (n : CellName) → slice_get ns 0 ≡ Some n → (more : List CellName) × (ns ≡ n ∷ more)
-      first [] n e = absurd (none-some n e)
-      first (m ∷ ns) n e = (ns, ap (λ k. k ∷ ns) (same_Some m n e))
+-- a front of the zone of one configuration is one of the other's zone, with the same next cell, where both hold the same in it
+pub front_kept : (c d : Config) (i : ℕ) (held : Pairs) (rest : List CellName) → d.area ≡ c.area → IsSome (bot_at c i) → IsSome (bot_at d i) → All (Valued c) held → All (Valued d) held → names held ++ rest ≡ zone c i → (more : List CellName) × (names held ++ more ≡ zone d i) × (slice_get more 0 ≡ slice_get rest 0)
+front_kept c d i held rest area tc td old new front =
+    let again = grown held rest old new front in
+    (again.0, again.1, sym (next_is d i held again.0 td new again.1) ∙ ap (λ a. next_cell a i (reverse held)) area ∙ next_is c i held rest tc old front)
+  where
+    -- the first element of a list
+    first : (ns : List CellName) (n : CellName) → slice_get ns 0 ≡ Some n → (more : List CellName) × (ns ≡ n ∷ more)
+    first [] n e = absurd (none-some n e)
+    first (m ∷ ns) n e = (ns, ap (λ k. k ∷ ns) (same_Some m n e))
 
-      grown : (ps : Pairs) (rest : List CellName) → All (Valued c) ps → All (Valued d) ps → names ps ++ rest ≡ zone c i → (more : List CellName) × (names ps ++ more ≡ zone d i)
-      grown [] rest a b f = (zone d i, refl)
-      grown (p ∷ ps) rest a b f =
-          let before : names ps ++ cell_of p ∷ rest ≡ zone c i = sym (append_assoc (names ps) (cell_of p ∷ []) rest) ∙ ap (λ ns. ns ++ rest) (sym (names-more p ps)) ∙ f in
-          let a' = All-tail (Valued c) p ps a in
-          let b' = All-tail (Valued d) p ps b in
-          let ih = grown ps (cell_of p ∷ rest) a' b' before in
-          let next : slice_get ih.0 0 ≡ Some (cell_of p) = sym (next_is d i ps ih.0 vd td b' ih.1) ∙ ap (λ x. next_cell x i (reverse ps)) area ∙ next_is c i ps (cell_of p ∷ rest) vc tc a' before in
-          let split = first ih.0 (cell_of p) next in
-          (split.0, ap (λ ns. ns ++ split.0) (names-more p ps) ∙ append_assoc (names ps) (cell_of p ∷ []) split.0 ∙ ap (λ ns. names ps ++ ns) (sym split.1) ∙ ih.1)
+    grown : (ps : Pairs) (rest : List CellName) → All (Valued c) ps → All (Valued d) ps → names ps ++ rest ≡ zone c i → (more : List CellName) × (names ps ++ more ≡ zone d i)
+    grown [] rest a b f = (zone d i, refl)
+    grown (p ∷ ps) rest a b f =
+        let before : names ps ++ cell_of p ∷ rest ≡ zone c i = sym (append_assoc (names ps) (cell_of p ∷ []) rest) ∙ ap (λ ns. ns ++ rest) (sym (names-more p ps)) ∙ f in
+        let a' = All-tail (Valued c) p ps a in
+        let b' = All-tail (Valued d) p ps b in
+        let ih = grown ps (cell_of p ∷ rest) a' b' before in
+        let next : slice_get ih.0 0 ≡ Some (cell_of p) = sym (next_is d i ps ih.0 td b' ih.1) ∙ ap (λ x. next_cell x i (reverse ps)) area ∙ next_is c i ps (cell_of p ∷ rest) tc a' before in
+        let split = first ih.0 (cell_of p) next in
+        (split.0, ap (λ ns. ns ++ split.0) (names-more p ps) ∙ append_assoc (names ps) (cell_of p ∷ []) split.0 ∙ ap (λ ns. names ps ++ ns) (sym split.1) ∙ ih.1)
 
-  -- a whole zone stays one
-  pub whole_kept : (c d : Config) (i : ℕ) (held : Pairs) → IsValid c → IsValid d → d.area ≡ c.area → IsSome (bot_at c i) → IsSome (bot_at d i) → All (Valued c) held → All (Valued d) held → names held ≡ zone c i → names held ≡ zone d i
-  whole_kept c d i held vc vd area tc td old new whole =
-      let kept = front_kept c d i held [] vc vd area tc td old new (append-nil (names held) ∙ whole) in
-      ends kept.0 kept.2 kept.1
-    where
-      ends : (more : List CellName) → slice_get more 0 ≡ None → names held ++ more ≡ zone d i → names held ≡ zone d i
-      ends [] e f = sym (append-nil (names held)) ∙ f
-      ends (n ∷ more) e f = absurd (none-some n (sym e))
+-- a whole zone stays one
+pub whole_kept : (c d : Config) (i : ℕ) (held : Pairs) → d.area ≡ c.area → IsSome (bot_at c i) → IsSome (bot_at d i) → All (Valued c) held → All (Valued d) held → names held ≡ zone c i → names held ≡ zone d i
+whole_kept c d i held area tc td old new whole =
+    let kept = front_kept c d i held [] area tc td old new (append-nil (names held) ∙ whole) in
+    ends kept.0 kept.2 kept.1
+  where
+    ends : (more : List CellName) → slice_get more 0 ≡ None → names held ++ more ≡ zone d i → names held ≡ zone d i
+    ends [] e f = sym (append-nil (names held)) ∙ f
+    ends (n ∷ more) e f = absurd (none-some n (sym e))

@@ -4,6 +4,7 @@ use Rattle.std.specs.Prelude.{slice_get}
 use Rattle.std.specs.List.{All, Contains}
 use Rattle.std.proofs.lemmas.List.Elements.{All-contains, All-weaker, Contains-append_left}
 use Rattle.std.proofs.lemmas.Option.{same_Some, slice_get_within}
+use Rattle.amoebot_state.specs.Known.{next_cell}
 use Rattle.amoebot_state.specs.declared.cell.CellName.{CellName}
 use Rattle.amoebot_state.specs.Pairs.{Pairs}
 use Rattle.amoebot_state.specs.Configs.{Config}
@@ -92,8 +93,8 @@ module _ (g : Setup) (ok : IsSetup g) (old : State) (s : Sound g old) where
         let is = s.each c k at_c in
         let front = subst (HasFront g old s.last c k) p is.front in
         let known = is_known c k at_c in
-        let by = next_is g.next_cell ok.next s.last (bot g c k.turn) k.held (front.0 ∷ front.1.0) framed.valid (own_stays g ok c k.turn known s.last framed) (valued c k is) front.1.1 in
-        let same : n ≡ front.0 = same_Some n front.0 (sym next ∙ ap (λ a. g.next_cell a (bot g c k.turn) (Rattle.std.proofs.Common.reverse k.held)) (sym same_area) ∙ by) in
+        let by = next_is s.last (bot g c k.turn) k.held (front.0 ∷ front.1.0) (own_stays g ok c k.turn known s.last framed) (valued c k is) front.1.1 in
+        let same : n ≡ front.0 = same_Some n front.0 (sym next ∙ ap (λ a. next_cell a (bot g c k.turn) (Rattle.std.proofs.Common.reverse k.held)) (sym same_area) ∙ by) in
         (front.1.0, ap (λ m. names k.held ++ m ∷ front.1.0) same ∙ front.1.1)
 
     -- a tag that is found there names another caller's turn, which holds the cell, or has its mark

@@ -153,7 +153,7 @@ module _ (g : Setup) (old new : State) (c : ℕ) (k next : Caller) (mv : Moves g
 
       before_stays : (n : CellName) (rest : List CellName) → names j.held ++ n ∷ rest ≡ zone s.last own → (more : List CellName) × (names j.held ++ n ∷ more ≡ zone last own)
       before_stays n rest front =
-          let kept = front_kept g.next_cell ok.next s.last last own j.held (n ∷ rest) was_framed.valid framed.valid same_area (own_stays g ok d j.turn known s.last was_framed) (own_stays g ok d j.turn known last framed) was is front in
+          let kept = front_kept s.last last own j.held (n ∷ rest) same_area (own_stays g ok d j.turn known s.last was_framed) (own_stays g ok d j.turn known last framed) was is front in
           first kept.0 kept.2 kept.1
         where
           first : (more : List CellName) → slice_get more 0 ≡ Some n → names j.held ++ more ≡ zone last own → (more : List CellName) × (names j.held ++ n ∷ more ≡ zone last own)
@@ -162,7 +162,7 @@ module _ (g : Setup) (old new : State) (c : ℕ) (k next : Caller) (mv : Moves g
 
       decided_stays : (v : Verdict) → IsDecided g s.last own j.held v → IsDecided g last own j.held v
       decided_stays v by =
-          let whole = whole_kept g.next_cell ok.next s.last last own j.held was_framed.valid framed.valid same_area (own_stays g ok d j.turn known s.last was_framed) (own_stays g ok d j.turn known last framed) was is by.whole in
+          let whole = whole_kept s.last last own j.held same_area (own_stays g ok d j.turn known s.last was_framed) (own_stays g ok d j.turn known last framed) was is by.whole in
           record {
             whole = whole;
             verdict = ap g.verdict (whole_shown last own j.held is whole ∙ (λ i. let x : Shown = record { area = same_area i; maxes = same_maxes i; bot = own; cells = Rattle.std.proofs.Common.reverse j.held } in x) ∙ sym (whole_shown s.last own j.held was by.whole)) ∙ by.verdict;

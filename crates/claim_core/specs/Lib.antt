@@ -4,6 +4,7 @@ pub mod Laws
 pub mod Machine
 pub mod Reached
 pub mod Rooms
+pub mod Rounds
 pub mod SerialRuns
 pub mod Soundness
 pub mod Tags

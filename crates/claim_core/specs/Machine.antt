@@ -2,7 +2,6 @@
 use Rattle.std.specs.Prelude.{ℕ, ◌+◌, List, [], ◌∷◌, ◌++◌, map, length, reverse, nat_eq, nat_lt, if◌then◌else◌, slice_get, slice_set, unwrap_or}
 use Rattle.std.specs.declared.option.Option.{Option}
 use Rattle.std.specs.declared.option.Option.TheVariants.{Some, None}
-use Rattle.tri_lattice.specs.Extent.{Extent}
 use Rattle.amoebot_state.specs.declared.cell.CellName.{CellName}
 use Rattle.amoebot_state.specs.declared.cell.Cell.{Cell}
 use Rattle.amoebot_state.specs.declared.verdict.Change.{Change}
@@ -12,6 +11,7 @@ use Rattle.amoebot_state.specs.declared.verdict.Verdict.TheVariants as verdict
 use Rattle.amoebot_state.specs.Pairs.{Pairs, cell_of, value_of}
 use Rattle.amoebot_state.specs.Configs.{Config}
 use Rattle.amoebot_state.specs.Zones.{Shown}
+use Rattle.amoebot_state.specs.Known.{next_cell}
 use Rattle.claim_core.specs.declared.marks.Mark.{Mark}
 use Rattle.claim_core.specs.declared.marks.Mark.TheVariants as mark
 use Rattle.claim_core.specs.declared.state.Look.{Look}
@@ -29,7 +29,6 @@ pub record Setup : Type 0 where
   pub verdict : Shown → Verdict
   pub world : Config
   pub lists : CallerLists
-  pub next_cell : Extent → ℕ → List (CellName × Cell) → Option CellName
 
 -- the tag and the value of each cell, by the cells' numbers; the journal, and the caller that holds it, if one does; the callers
 pub record State : Type 0 where
@@ -69,7 +68,7 @@ module _ (g : Setup) where
 
   -- the next cell of the zone of an amoebot, by what is known of those that are held
   abbrev pub next_of : ℕ → Pairs → Option CellName
-  next_of b held = g.next_cell g.world.area b (reverse held)
+  next_of b held = next_cell g.world.area b (reverse held)
 
   -- the phase of a caller with its decision
   abbrev pub decided : Verdict → Phase

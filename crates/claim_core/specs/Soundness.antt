@@ -2,7 +2,6 @@
 -- the whole zone, in Releasing a front of the zone at the turn's mark.
 use Rattle.std.specs.Prelude.{◌≡◌, ◌≢◌, ◌⊎◌, ℕ, ◌+◌, ◌<◌, ◌≤◌, List, [], ◌∷◌, ◌++◌, map, length, reverse, slice_get, IsSome}
 use Rattle.std.specs.List.{All, AllPairs, Contains}
-use Rattle.std.specs.declared.option.Option.{Option}
 use Rattle.std.specs.declared.option.Option.TheVariants.{Some}
 use Rattle.amoebot_state.specs.declared.cell.CellName.{CellName}
 use Rattle.amoebot_state.specs.declared.cell.Cell.{Cell}
@@ -69,10 +68,6 @@ IsTurn turns Ended t = t ≡ turns
 abbrev pub AreBefore : Config → ℕ → Pairs → CellName → Type 0
 AreBefore world b held n = (rest : List CellName) × (names held ++ n ∷ rest ≡ zone world b)
 
--- the law on the next cell: where the cells that are known are a front of a zone, with what they hold, it is the zone's next one
-abbrev pub IsNextOfZone : (Rattle.tri_lattice.specs.Extent.Extent → ℕ → Pairs → Option CellName) → Type 0
-IsNextOfZone next_cell = (c : Config) (i : ℕ) (cells : Pairs) (rest : List CellName) → IsValid c → IsSome (bot_at c i) → map cell_of cells ++ rest ≡ zone c i → All (λ (p : CellName × Cell). value c (cell_of p) ≡ Some (value_of p)) cells → next_cell c.area i cells ≡ slice_get rest 0
-
 -- what a run may be about: a valid world of at most 4,096 amoebots, lists of ids of amoebots of it, and a decider that keeps its laws
 pub record IsSetup (g : Setup) : Type 0 where
   pub valid : IsValid g.world
@@ -81,7 +76,6 @@ pub record IsSetup (g : Setup) : Type 0 where
   pub bots : All (All (λ id. IsSome (bot_at g.world id))) g.lists.ids
   pub touches : TouchesZone g.verdict
   pub leads : HasNext g.verdict
-  pub next : IsNextOfZone g.next_cell
 
 module _ (g : Setup) where
   -- the marks of all callers so far
