@@ -177,10 +177,10 @@ committed_is_shown g ok c (d ∷ steps) =
           let by = subst (HasFront g s sound.last d k) some.2.phase is.front in
           let fr = framed g ok s sound in
           let shows : found g (bot g d k.turn) k.held ≡ shown sound.last (bot g d k.turn) =
-              (λ i. let a : Shown = record { area = sym (same_area g ok s sound) i; maxes = ap (λ (x : Config). x.maxes) (sym fr.rest) i; bot = bot g d k.turn; cells = reverse k.held } in a)
-              ∙ sym (whole_shown sound.last (bot g d k.turn) k.held (valued g ok s sound d k is) by.whole) in
+          (λ i. let a : Shown = record { area = sym (same_area g ok s sound) i; maxes = ap (λ (x : Config). x.maxes) (sym fr.rest) i; bot = bot g d k.turn; cells = reverse k.held } in a)
+          ∙ sym (whole_shown sound.last (bot g d k.turn) k.held (valued g ok s sound d k is) by.whole) in
           let at : IsWorldAt g.verdict g.world (next g d s).journal (length s.journal) sound.last =
-              subst (λ es. IsWorldAt g.verdict g.world es (length s.journal) sound.last) (sym grown) (IsWorldAt-append g.verdict g.world sound.last s.journal (map entry_in (commit_by g d s (slice_get s.callers d))) (length s.journal) (world_last g.verdict g.world sound.last s.journal sound.run)) in
+          subst (λ es. IsWorldAt g.verdict g.world es (length s.journal) sound.last) (sym grown) (IsWorldAt-append g.verdict g.world sound.last s.journal (map entry_in (commit_by g d s (slice_get s.callers d))) (length s.journal) (world_last g.verdict g.world sound.last s.journal sound.run)) in
           subst (All (IsShownAt g (next g d s).journal)) (sym some.2.commit) (All-cons (IsShownAt g (next g d s).journal) _ [] (sound.last, at, shows) (All-nil (IsShownAt g (next g d s).journal)))
     ]
 

@@ -39,8 +39,8 @@ same_bot (Some b) (Some o) alike e = cc
 
 same_bots : (c d : Config) → c.area ≡ d.area → length c.bots ≡ length d.bots → ((i : ℕ) → is_some (bot_at c i) ≡ is_some (bot_at d i)) → values_of c ≡ values_of d → c.bots ≡ d.bots
 same_bots c d area size ids values = ext_get_or None c.bots d.bots size (λ i inside. same_bot (bot_at c i) (bot_at d i) (ids i) (same_Some _ _ (
-      sym (value_of_body c i inside) ∙ ap (λ (vs : List Cell). at vs (number c.area (name.Body i))) values ∙ ap (λ a. at (values_of d) (number a (name.Body i))) area
-      ∙ value_of_body d i (omega arith)
+    sym (value_of_body c i inside) ∙ ap (λ (vs : List Cell). at vs (number c.area (name.Body i))) values ∙ ap (λ a. at (values_of d) (number a (name.Body i))) area
+    ∙ value_of_body d i (omega arith)
     )))
 
 the_config : (c d : Config) → c.area ≡ d.area → c.maxes ≡ d.maxes → c.bots ≡ d.bots → c ≡ d
@@ -68,12 +68,18 @@ module _ (g : Setup) (ok : IsSetup g) (s : State) (sound : Sound g s) (ended : H
   settled c t (mark.Idle place) is = is
   settled c t (mark.Failed why place) is = is
   settled c t (mark.Busy n by_caller by_turn by_bot place) is = (
-      is.0,
-      record { listed = is.1.listed; other = is.1.other; turn = is.1.turn; bot = is.1.of; in_zone = elim is.1.holds [
+    is.0,
+    record {
+      listed = is.1.listed;
+      other = is.1.other;
+      turn = is.1.turn;
+      bot = is.1.of;
+      in_zone = elim is.1.holds [
         | inl holds ↦ absurd (let all = all_marked by_caller holds.record_of holds.there in let none = holds.unmarked in let lt = is.1.turn in omega arith)
         | inr held ↦ (held.told, held.marked, held.in_zone)
-      ] },
-    )
+      ];
+    },
+  )
 
   each_marks : (P : List Mark → Type 0) → ((c : ℕ) (k : Caller) → slice_get s.callers c ≡ Some k → P k.marks) → All P (map (λ (k : Caller). k.marks) s.callers)
   each_marks P each = All-map P (λ (k : Caller). k.marks) s.callers (λ i d inside. each i (get_or s.callers i d) (slice_get-get_or s.callers i d inside))

@@ -119,7 +119,7 @@ pub next_is : (c : Config) (i : ℕ) (held : Pairs) (rest : List CellName) → I
 next_is c i held rest there valued front =
     let all = All-reverse (Valued c) held valued in
     let cells : (shown c i).cells ≡ reverse held ++ filter_map (shown_cell c) rest =
-        ap (filter_map (shown_cell c)) (sym front) ∙ filter_map-append (shown_cell c) (names held) rest ∙ ap (λ ps. ps ++ filter_map (shown_cell c) rest) (shown_as c (reverse held) all) in
+    ap (filter_map (shown_cell c)) (sym front) ∙ filter_map-append (shown_cell c) (names held) rest ∙ ap (λ ps. ps ++ filter_map (shown_cell c) rest) (shown_as c (reverse held) all) in
     next_is_in_zone c i (reverse held) there (subst (IsFront (reverse held)) (sym cells) (front_of_append (reverse held) (filter_map (shown_cell c) rest)))
     ∙ ap (λ ns. slice_get ns (length (reverse held))) (sym front) ∙ get-append_right (names held) rest 0 (length (reverse held)) (omega (arith, length-map (reverse held) cell_of))
 

@@ -112,7 +112,7 @@ module _ (g : Setup) (ok : IsSetup g) (old : State) (s : Sound g old) where
         let turn : tag_turn t ≡ j.turn = ap tag_turn same ∙ parts.1 in
         let of : tag_bot t ≡ bot g d j.turn = ap tag_bot same ∙ parts.2 in
         let not_mine : d ≢ c = λ e.
-            let mine : j ≡ k = one_at (slice_get old.callers c) j k (ap (slice_get old.callers) (sym e) ∙ by.2) at_c in
-            not_twice s.last (bot g c k.turn) (names k.held) next.0 n next.1 (subst (λ (x : Caller). Contains (names x.held) n) mine by.3) in
+        let mine : j ≡ k = one_at (slice_get old.callers c) j k (ap (slice_get old.callers) (sym e) ∙ by.2) at_c in
+        not_twice s.last (bot g c k.turn) (names k.held) next.0 n next.1 (subst (λ (x : Caller). Contains (names x.held) n) mine by.3) in
         let is_holder : IsHolder g old c n d j.turn (bot g d j.turn) = record { listed = known; other = not_mine; turn = turns; of = refl; holds = holding d j by.2 n by.3 } in
         subst (λ (z : ℕ × ℕ × ℕ). IsHolder g old c n z.0 z.1 z.2) (λ i. (sym caller i, sym turn i, sym of i)) is_holder

@@ -13,6 +13,7 @@ pub mod Numbers
 pub mod OneList
 pub mod Places
 pub mod Sounds
+pub mod Ranks
 pub mod Stays
 pub mod Steady
 pub mod Tags

@@ -112,16 +112,23 @@ module _ (f : Shown → Verdict) (w0 : Config) (lists : CallerLists) (report : R
           within = let inside = slice_get_within journal so.place e at in omega arith;
           world = by.2.0;
           run = by.2.2;
-          left = (record { marks = take t own; entries = take so.place journal; world = so.world }, so.left, record {
-            turned = turned.Done e;
-            made = (subst (λ w. Step f w e by.2.0) (sym old) by.2.1, record {
-              by = only so.place e at;
-              at = turn;
-              of = (listed so.place e at).bot ∙ (λ i. bot_of lists (only so.place e at i) (turn i));
-            });
-            marks = take_next own t (mark.Done place) marked ∙ ap (λ n. take t own ++ mark.Done n ∷ []) (next ∙ sym full);
-            entries = longer;
-          });
+          left = (
+            record { marks = take t own; entries = take so.place journal; world = so.world },
+            so.left,
+            record {
+              turned = turned.Done e;
+              made = (
+                subst (λ w. Step f w e by.2.0) (sym old) by.2.1,
+                record {
+                  by = only so.place e at;
+                  at = turn;
+                  of = (listed so.place e at).bot ∙ (λ i. bot_of lists (only so.place e at i) (turn i));
+                },
+              );
+              marks = take_next own t (mark.Done place) marked ∙ ap (λ n. take t own ++ mark.Done n ∷ []) (next ∙ sym full);
+              entries = longer;
+            },
+          );
           before = λ k x found lt. elim (cases_lt k so.place) [
             | inl less ↦ let b = so.before k x found less in omega arith
             | inr ge ↦
@@ -157,12 +164,16 @@ module _ (f : Shown → Verdict) (w0 : Config) (lists : CallerLists) (report : R
           within = so.within;
           world = so.world;
           run = so.run;
-          left = (record { marks = take t own; entries = take so.place journal; world = so.world }, so.left, record {
-            turned = done_by;
-            made = makes so.world (ap (λ w. f (shown w (bot_of lists 0 t))) old ∙ has.2);
-            marks = take_next own t m marked ∙ ap (λ x. take t own ++ x ∷ []) (is_mark ∙ ap (λ p. mark_at p done_by) (here ∙ sym full));
-            entries = sym (append-nil (take so.place journal)) ∙ ap (λ es. take so.place journal ++ es) (sym nothing);
-          });
+          left = (
+            record { marks = take t own; entries = take so.place journal; world = so.world },
+            so.left,
+            record {
+              turned = done_by;
+              made = makes so.world (ap (λ w. f (shown w (bot_of lists 0 t))) old ∙ has.2);
+              marks = take_next own t m marked ∙ ap (λ x. take t own ++ x ∷ []) (is_mark ∙ ap (λ p. mark_at p done_by) (here ∙ sym full));
+              entries = sym (append-nil (take so.place journal)) ∙ ap (λ es. take so.place journal ++ es) (sym nothing);
+            },
+          );
           before = λ k x found lt. let b = so.before k x found lt in omega arith;
           behind = λ k x found le. let b = so.behind k x found le in let ne = not_turn k x found in omega arith;
         }

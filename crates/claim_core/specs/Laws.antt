@@ -21,7 +21,8 @@ use Rattle.claim_core.specs.Tags.{tag, tag_caller, tag_turn, tag_bot}
 use Rattle.claim_core.specs.Cells.{number, at}
 use Rattle.claim_core.specs.Machine.{Setup, State, next, after, committed}
 use Rattle.claim_core.specs.Soundness.{IsSetup, Sound, names}
-use Rattle.claim_core.specs.Reached.{Reached, entries_of}
+use Rattle.claim_core.specs.Reached.{HaveEnded, Reached, entries_of}
+use Rattle.claim_core.specs.Rounds.{rounds, rounds_enough}
 
 -- a tag tells its caller, its turn and its amoebot, and is not 0
 abbrev pub TagTellsItsOwner : Type 0
@@ -66,3 +67,7 @@ HoldsNothingHasNoTag = (g : Setup) → IsSetup g → (steps : List ℕ) (c : ℕ
 -- no cell is held by two callers
 abbrev pub HeldByOne : Type 0
 HeldByOne = (g : Setup) → IsSetup g → (steps : List ℕ) (c d : ℕ) (k j : Caller) → slice_get (after g steps).callers c ≡ Some k → slice_get (after g steps).callers d ≡ Some j → (n : CellName) → Contains (names k.held) n → Contains (names j.held) n → c ≡ d
+
+-- after any steps, so many rounds are enough for all callers to end
+abbrev pub RoundsEnd : Type 0
+RoundsEnd = (g : Setup) → IsSetup g → (steps : List ℕ) → HaveEnded (rounds g (rounds_enough g.lists) (after g steps))

@@ -1,4 +1,4 @@
-ghost use Rattle.claim_core.specs.Laws.{TagTellsItsOwner, IsAlwaysSound, ReachedIsGood, EntryIsDecided, CommittedIsJournal, CommittedIsShown, OneListIsNeverBusy, OneListIsSerial, EndedStays, HoldsNothingHasNoTag, HeldByOne};
+ghost use Rattle.claim_core.specs.Laws.{TagTellsItsOwner, IsAlwaysSound, ReachedIsGood, EntryIsDecided, CommittedIsJournal, CommittedIsShown, OneListIsNeverBusy, OneListIsSerial, EndedStays, HoldsNothingHasNoTag, HeldByOne, RoundsEnd};
 ghost use Rattle.claim_core.specs.SerialRuns.{SerialRunIsDetermined, SerialReportIsDetermined};
 
 use amoebot_state::step_has_one_result;
@@ -65,4 +65,9 @@ pub fn holds_nothing_has_no_tag()
 /// No cell is held by two callers.
 pub fn held_by_one()
     ensures { HeldByOne }
+{}
+
+/// After any steps, 40 rounds for each turn of all callers together are enough for all callers to end.
+pub fn rounds_are_enough()
+    ensures { RoundsEnd }
 {}
