@@ -1,0 +1,11 @@
+pub mod Cells
+pub mod Good
+pub mod Laws
+pub mod Machine
+pub mod Reached
+pub mod Rooms
+pub mod Rounds
+pub mod SerialRuns
+pub mod Soundness
+pub mod Tags
+pub mod Turns

@@ -1,0 +1,16 @@
+-- The owner of a cell as one number.
+use Rattle.std.specs.Prelude.{ℕ, ◌+◌, ◌-◌, ◌*◌, ◌/◌, ◌%◌}
+
+-- the tag of a caller in a turn on an amoebot; 0 is that of a free cell
+abbrev pub tag : ℕ → ℕ → ℕ → ℕ
+tag caller turn bot = 1 + bot + 4096 * (turn + 65536 * caller)
+
+-- the caller in a tag, the turn and the amoebot
+abbrev pub tag_caller : ℕ → ℕ
+tag_caller t = (t - 1) / 4096 / 65536
+
+abbrev pub tag_turn : ℕ → ℕ
+tag_turn t = (t - 1) / 4096 % 65536
+
+abbrev pub tag_bot : ℕ → ℕ
+tag_bot t = (t - 1) % 4096

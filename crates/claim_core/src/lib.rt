@@ -1,0 +1,22 @@
+//! The callers' lists, the journal and the marks of a concurrent run, and what makes a report of it a good one.
+#![tactic(auto)]
+
+mod journal;
+mod laws;
+mod lists;
+mod marks;
+mod report;
+mod state;
+#[cfg(test)]
+mod tests;
+
+pub use journal::Journal;
+pub use laws::{
+    committed_is_journal, committed_is_shown, ended_stays, entry_is_decided, held_by_one,
+    holds_nothing_has_no_tag, is_always_sound, one_list_is_never_busy, one_list_is_serial,
+    reached_is_good, rounds_are_enough, serial_run_is_determined, tag_tells_its_owner,
+};
+pub use lists::Lists;
+pub use marks::{Mark, Marks};
+pub use report::Report;
+pub use state::{Caller, Committed, Look, Phase};
