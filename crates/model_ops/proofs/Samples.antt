@@ -13,7 +13,11 @@ use Rattle.amoebot_state.specs.declared.cell.Cell.TheVariants as cell
 use Rattle.amoebot_state.specs.declared.verdict.Failure.TheVariants.{NoPort, NoNeighbour, OutOfRange, Occupied, NotContracted, NotExpanded, PeerNotExpanded, PeerNotContracted, Edge, WouldSplit}
 use Rattle.amoebot_state.specs.declared.verdict.Moved.TheVariants as moved
 use Rattle.amoebot_state.specs.Ports.{port}
+use Rattle.amoebot_state.specs.declared.bot.Port.{Port}
 use Rattle.amoebot_state.specs.Configs.{Config, config_of}
+use Rattle.amoebot_state.specs.Zones.{shown, gap}
+use Rattle.amoebot_state.specs.Moves as moves
+use Rattle.model_ops.specs.WorkingCopies.{changes}
 use Rattle.amoebot_state.specs.Patches.{diff}
 use Rattle.model_ops.specs.Operations.{connected, is_free, read, write, peer, expand, contract, push, pull}
 use Rattle.model_ops.specs.Reaches.{perform}
@@ -156,3 +160,23 @@ outside = refl
 
 outside_is_empty : connected (world 0 (bot (at 7 3) (at 7 3) 0 ∷ [])) 0 (port Head 0) ≡ Ok false
 outside_is_empty = refl
+
+-- an amoebot that is not shown leaves its id without one: there the push answers as in the whole configuration, and changes the same
+abbrev far : Config
+far = world 0 (bot (at 7 7) (at 7 7) 0 ∷ bot (at 2 3) (at 2 3) 0 ∷ bot (at 3 3) (at 4 3) 0 ∷ bot (at 0 7) (at 0 7) 0 ∷ [])
+
+abbrev gap_pushed : Config
+gap_pushed = record far { bots = None ∷ Some (bot (at 3 3) (at 2 3) 0) ∷ Some (bot (at 4 3) (at 4 3) 0) ∷ [] }
+
+push_in_gap : push (gap (shown far 1)) 1 (port Head 0) ≡ Ok gap_pushed
+push_in_gap = refl
+
+push_far : push far 1 (port Head 0) ≡ Ok (world 0 (bot (at 7 7) (at 7 7) 0 ∷ bot (at 3 3) (at 2 3) 0 ∷ bot (at 4 3) (at 4 3) 0 ∷ bot (at 0 7) (at 0 7) 0 ∷ []))
+push_far = refl
+
+push_changes_in_gap : changes (record { found = shown far 1; reached = gap_pushed }) ≡ held 3 3 1 ∷ body 1 (bot (at 3 3) (at 2 3) 0) ∷ body 2 (bot (at 4 3) (at 4 3) 0) ∷ []
+push_changes_in_gap = refl
+
+-- Expand is what the decider of the first grammar decides by
+expand_as_before : (c : Config) (i : ℕ) (p : Port) → moves.expand c i p ≡ expand c i p
+expand_as_before c i p = refl
