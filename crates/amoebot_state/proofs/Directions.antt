@@ -1,5 +1,5 @@
 -- Local and global directions, and the ports that lead to a neighbour.
-use Rattle.std.proofs.Common.{◌≡◌, ◌<◌, ℕ, zero, suc, Bool, true, false, not, ◌&&◌, ◌||◌, ap, sym, ◌∙◌, refl, subst, inl, inr, arith, ltb, nat_eq, get_or, [], ◌∷◌, ◌++◌, map, filter}
+use Rattle.std.proofs.Common.{◌≡◌, ◌<◌, ℕ, Bool, true, false, not, ◌&&◌, ◌||◌, ap, sym, ◌∙◌, refl, subst, inl, inr, arith, ltb, nat_eq, get_or, [], ◌∷◌, ◌++◌, map, filter}
 use Rattle.std.specs.Prelude.{if◌then◌else◌}
 use Rattle.std.specs.List.{list_all, range_with_len}
 use Rattle.std.proofs.lemmas.List.Folds.{list_all_at}
@@ -7,7 +7,7 @@ use Rattle.std.proofs.lemmas.List.FromFn.{get_or-range_with_len, length-range_wi
 use Rattle.std.proofs.lemmas.Bool.{cases_Bool, lt-ltb, ltb-true, eqb-true, both_ways, or_left, or_right}
 use Rattle.tri_lattice.specs.declared.node.Node.{Node}
 use Rattle.tri_lattice.specs.Lattice.{step, node_eq, Adjacent, is_adjacent}
-use Rattle.tri_lattice.proofs.Nodes.{node_eq-true}
+use Rattle.tri_lattice.proofs.Nodes.{node_eq-true, each_direction}
 use Rattle.tri_lattice.proofs.Steps.{is_adjacent-true, Adjacent-is_adjacent}
 use Rattle.amoebot_state.specs.declared.bot.Bot.{Bot}
 use Rattle.amoebot_state.specs.declared.bot.Chir.{Chir}
@@ -63,20 +63,8 @@ local_global b i lr li = local_turned b.chir b.rot i lr li
 
 -- each pair of an end and a local direction is listed
 pub listed : (e : End) (i : ℕ) → i < 6 → Has (port e i) all_ports
-listed Head zero lt = here
-listed Head (suc zero) lt = later here
-listed Head (suc (suc zero)) lt = later (later here)
-listed Head (suc (suc (suc zero))) lt = later (later (later here))
-listed Head (suc (suc (suc (suc zero)))) lt = later (later (later (later here)))
-listed Head (suc (suc (suc (suc (suc zero))))) lt = later (later (later (later (later here))))
-listed Head (suc (suc (suc (suc (suc (suc i)))))) lt = absurd (omega arith)
-listed Tail zero lt = later (later (later (later (later (later here)))))
-listed Tail (suc zero) lt = later (later (later (later (later (later (later here))))))
-listed Tail (suc (suc zero)) lt = later (later (later (later (later (later (later (later here)))))))
-listed Tail (suc (suc (suc zero))) lt = later (later (later (later (later (later (later (later (later here))))))))
-listed Tail (suc (suc (suc (suc zero)))) lt = later (later (later (later (later (later (later (later (later (later here)))))))))
-listed Tail (suc (suc (suc (suc (suc zero))))) lt = later (later (later (later (later (later (later (later (later (later (later here))))))))))
-listed Tail (suc (suc (suc (suc (suc (suc i)))))) lt = absurd (omega arith)
+listed Head = each_direction (λ i. Has (port Head i) all_ports) here (later here) (later (later here)) (later (later (later here))) (later (later (later (later here)))) (later (later (later (later (later here)))))
+listed Tail = each_direction (λ i. Has (port Tail i) all_ports) (later (later (later (later (later (later here)))))) (later (later (later (later (later (later (later here))))))) (later (later (later (later (later (later (later (later here)))))))) (later (later (later (later (later (later (later (later (later here))))))))) (later (later (later (later (later (later (later (later (later (later here)))))))))) (later (later (later (later (later (later (later (later (later (later (later here)))))))))))
 
 -- a pair that leads to a node which is not the amoebot's own is a port, and the head's of a contracted one is in any case
 leads_to_port : (b : Bot) (e : End) (i : ℕ) → i < 6 → is_own b (behind b (port e i)) ≡ false → (is_contracted b ≡ true → is_head e ≡ true) → Has (port e i) (ports b)
