@@ -10,6 +10,7 @@ use Rattle.tri_lattice.specs.declared.node.Node.{Node}
 use Rattle.tri_lattice.specs.Lattice.{step, node_eq}
 use Rattle.tri_lattice.specs.Extent.{Extent, is_in}
 use Rattle.tri_lattice.proofs.Nodes.{node_eq-true}
+use Rattle.tri_lattice.proofs.Tests.{each_below_at, each_two}
 use Rattle.tri_lattice.proofs.Steps.{is_adjacent-true}
 use Rattle.amoebot_state.specs.declared.bot.Bot.{Bot}
 use Rattle.amoebot_state.specs.declared.bot.Chir.{Chir}
@@ -20,7 +21,6 @@ use Rattle.amoebot_state.specs.Configs.{Config, IsValid, bot_at, occupant, cover
 use Rattle.amoebot_state.specs.Zones.{distinct, zone_at, zone_of, zone_nodes, others}
 use Rattle.amoebot_state.specs.Laws.{ContractedHasSixPorts, ExpandedHasTenPorts, SixPortsLeadToSixNodes, TenPortsLeadToEightNodes, is_spot, is_body, ZoneHasAtMostTenNodes, ZoneHasAtMostNineBodies}
 use Rattle.amoebot_state.proofs.Distinct.{filter_needless}
-use Rattle.amoebot_state.proofs.Directions.{all_below, all_pairs}
 use Rattle.amoebot_state.proofs.Members.{length-filter-le}
 use Rattle.amoebot_state.proofs.Occupants.{occupant_at}
 use Rattle.amoebot_state.proofs.Owns.{own_head, own_tail}
@@ -33,17 +33,17 @@ reached b = distinct node_eq (map (behind b) (ports b))
 
 -- computed for the amoebots with their head at the origin: the contracted ones
 six_reached : (h : Chir) (r : ℕ) → r < 6 → length (reached (placed h r origin)) ≡ 6
-six_reached chir.Plus r lt = eqb-true _ _ (all_below (λ r. nat_eq (length (reached (placed chir.Plus r origin))) 6) 6 refl r lt)
-six_reached chir.Minus r lt = eqb-true _ _ (all_below (λ r. nat_eq (length (reached (placed chir.Minus r origin))) 6) 6 refl r lt)
+six_reached chir.Plus r lt = eqb-true _ _ (each_below_at 6 (λ r. nat_eq (length (reached (placed chir.Plus r origin))) 6) refl r lt)
+six_reached chir.Minus r lt = eqb-true _ _ (each_below_at 6 (λ r. nat_eq (length (reached (placed chir.Minus r origin))) 6) refl r lt)
 
 -- and the expanded ones, with their tail in each direction
 ten_ports : (h : Chir) (r k : ℕ) → r < 6 → k < 6 → length (ports (placed h r (step origin k))) ≡ 10
-ten_ports chir.Plus r k lr lk = eqb-true _ _ (all_pairs (λ r k. nat_eq (length (ports (placed chir.Plus r (step origin k)))) 10) refl r k lr lk)
-ten_ports chir.Minus r k lr lk = eqb-true _ _ (all_pairs (λ r k. nat_eq (length (ports (placed chir.Minus r (step origin k)))) 10) refl r k lr lk)
+ten_ports chir.Plus r k lr lk = eqb-true _ _ (each_two (λ r k. nat_eq (length (ports (placed chir.Plus r (step origin k)))) 10) refl r k lr lk)
+ten_ports chir.Minus r k lr lk = eqb-true _ _ (each_two (λ r k. nat_eq (length (ports (placed chir.Minus r (step origin k)))) 10) refl r k lr lk)
 
 eight_reached : (h : Chir) (r k : ℕ) → r < 6 → k < 6 → length (reached (placed h r (step origin k))) ≡ 8
-eight_reached chir.Plus r k lr lk = eqb-true _ _ (all_pairs (λ r k. nat_eq (length (reached (placed chir.Plus r (step origin k)))) 8) refl r k lr lk)
-eight_reached chir.Minus r k lr lk = eqb-true _ _ (all_pairs (λ r k. nat_eq (length (reached (placed chir.Minus r (step origin k)))) 8) refl r k lr lk)
+eight_reached chir.Plus r k lr lk = eqb-true _ _ (each_two (λ r k. nat_eq (length (reached (placed chir.Plus r (step origin k)))) 8) refl r k lr lk)
+eight_reached chir.Minus r k lr lk = eqb-true _ _ (each_two (λ r k. nat_eq (length (reached (placed chir.Minus r (step origin k)))) 8) refl r k lr lk)
 
 -- the tail of any amoebot is where that of one at the origin is, shifted with its head
 tail_at_head : (b : Bot) → b.head ≡ b.tail → b.tail ≡ shift b.head origin
