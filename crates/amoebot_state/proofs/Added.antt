@@ -2,7 +2,7 @@
 use Rattle.std.proofs.Common.{◌≡◌, ◌<◌, ◌+◌, ℕ, List, [], ◌∷◌, ◌++◌, map, length, take, get_or, Bool, true, false, not, ◌&&◌, ◌||◌, cond, ap, sym, ◌∙◌, refl, subst, inl, inr, arith, Option, Some, None}
 use Rattle.std.specs.Prelude.{is_some, slice_get}
 use Rattle.std.proofs.lemmas.List.{take_more, length-map, get_or_append_left, get_or_push, get_or_past, length_push, map_push}
-use Rattle.std.proofs.lemmas.Bool.{cases_eq, both_ways, cases_lt, or_parts, and_parts, false≢true}
+use Rattle.std.proofs.lemmas.Bool.{cases_eq, both_ways, cases_lt, or_parts, and_parts}
 use Rattle.std.proofs.lemmas.Option.{none-some, same_Some}
 use Rattle.tri_lattice.specs.declared.node.Node.{Node}
 use Rattle.tri_lattice.specs.Extent.{Extent, index_of, is_in}
@@ -14,6 +14,7 @@ use Rattle.amoebot_state.specs.Storage.{put_at}
 use Rattle.amoebot_state.specs.Refusals.{bot_fault, IsPlain, IsFaultless}
 use Rattle.tri_lattice.proofs.Nodes.{cases_node}
 use Rattle.amoebot_state.proofs.Owns.{own_cases, own_head, own_tail, not_own}
+use Rattle.amoebot_state.proofs.Options.{none_if}
 use Rattle.amoebot_state.proofs.Occupants.{none_passes, position_push}
 use Rattle.amoebot_state.proofs.Patched.{fix_at, keep_at, length_put_at}
 
@@ -24,10 +25,6 @@ passes false e r h = absurd (none-some _ (sym h))
 blocks : {E : Type 0} (x : Bool) (e : E) (r : Option E) → cond x (Some e) r ≡ None → (x ≡ false) × (r ≡ None)
 blocks true e r h = absurd (none-some _ (sym h))
 blocks false e r h = (refl, h)
-
-empty_if : {A : Type 0} (o : Option A) → is_some o ≡ false → o ≡ None
-empty_if None e = refl
-empty_if (Some x) e = absurd (false≢true (sym e))
 
 -- an amoebot without a fault
 pub record MayCome (c : Config) (b : Bot) : Type 0 where
@@ -45,8 +42,8 @@ no_fault c b plain h =
     let four = passes (has_values c.maxes b.mem) _ _ three.1 in
     record {
       fits = record { head = ins.0; tail = ins.1; joined = two.0; rot = plain.rot; values = four.0; eight = plain.eight };
-      head_free = empty_if _ free.0;
-      tail_free = empty_if _ free.1;
+      head_free = none_if _ free.0;
+      tail_free = none_if _ free.1;
     }
 
 pick : Option ℕ → Bool → ℕ → Option ℕ

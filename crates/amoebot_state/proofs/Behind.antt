@@ -1,7 +1,6 @@
 -- Local and global directions, what lies behind ports, and what the gap configuration shows.
-use Rattle.std.proofs.Common.{◌≡◌, ◌<◌, ◌++◌, map, true, refl, subst, Option, Some, None, filter}
-use Rattle.std.specs.Prelude.{IsSome}
-use Rattle.std.proofs.lemmas.Bool.{and_parts, ltb-true, false≢true}
+use Rattle.std.proofs.Common.{◌≡◌, ◌<◌, ◌++◌, map, true, subst, filter}
+use Rattle.std.proofs.lemmas.Bool.{and_parts, ltb-true}
 use Rattle.tri_lattice.specs.Lattice.{node_eq}
 use Rattle.tri_lattice.specs.Extent.{Extent, is_in}
 use Rattle.tri_lattice.proofs.Nodes.{node_eq-true}
@@ -13,6 +12,7 @@ use Rattle.amoebot_state.specs.Zones.{Shown, zone, zone_nodes, shown, gap}
 use Rattle.amoebot_state.specs.Laws.{GlobalAndLocalAreInverse, NodeBehindPortIsInZone, OccupantBehindPortIsInZone, GapShowsWhatWasShown, GapHoldsTheSame}
 use Rattle.amoebot_state.proofs.Members.{Has, Has-filter, Has-map, Has-distinct, Has-append_right, Contains-from_Has, Has-from_Contains}
 use Rattle.amoebot_state.proofs.Directions.{listed, global_below, global_local, local_global}
+use Rattle.amoebot_state.proofs.Options.{there_is}
 use Rattle.amoebot_state.proofs.Occupants.{occupant_covers, covered_in}
 use Rattle.amoebot_state.proofs.Gaps.{spot_in_zone, body_in_zone, gap_shows, gap_value}
 
@@ -37,16 +37,12 @@ occupant_behind_port_is_in_zone c i j b p valid at port by =
     let inside = covered_in c valid j (behind b p) (occupant_covers c (behind b p) j by) in
     Contains-from_Has (zone c i) (body_in_zone c i b (behind b p) j at (behind_in_nodes c.area b p port inside) by)
 
-there : (o : Option Bot) → IsSome o → (b : Bot) × (o ≡ Some b)
-there None t = absurd (false≢true t)
-there (Some b) t = (b, refl)
-
 pub gap_shows_what_was_shown : GapShowsWhatWasShown
 gap_shows_what_was_shown s (c, valid, has, e) =
-    let b = there (bot_at c s.bot) has in
+    let b = there_is (bot_at c s.bot) has in
     subst (λ (t : Shown). shown (gap t) s.bot ≡ t) e (gap_shows c s.bot b.0 valid b.1)
 
 pub gap_holds_the_same : GapHoldsTheSame
 gap_holds_the_same c i n valid has listed =
-    let b = there (bot_at c i) has in
+    let b = there_is (bot_at c i) has in
     gap_value c i b.0 valid b.1 n (Has-from_Contains (zone c i) listed)

@@ -10,6 +10,7 @@ use Rattle.tri_lattice.specs.declared.node.Node.{Node}
 use Rattle.tri_lattice.specs.Lattice.{step, node_eq}
 use Rattle.tri_lattice.specs.Extent.{Extent, is_in}
 use Rattle.tri_lattice.proofs.Nodes.{node_eq-true}
+use Rattle.tri_lattice.proofs.Tests.{each_below_at, each_two}
 use Rattle.tri_lattice.proofs.Steps.{is_adjacent-true}
 use Rattle.amoebot_state.specs.declared.bot.Bot.{Bot}
 use Rattle.amoebot_state.specs.declared.bot.Chir.{Chir}
@@ -19,12 +20,12 @@ use Rattle.amoebot_state.specs.Ports.{ports, behind, own_nodes, is_contracted}
 use Rattle.amoebot_state.specs.Configs.{Config, IsValid, bot_at, occupant, covers, is_joined}
 use Rattle.amoebot_state.specs.Zones.{distinct, zone_at, zone_of, zone_nodes, others}
 use Rattle.amoebot_state.specs.Laws.{ContractedHasSixPorts, ExpandedHasTenPorts, SixPortsLeadToSixNodes, TenPortsLeadToEightNodes, is_spot, is_body, ZoneHasAtMostTenNodes, ZoneHasAtMostNineBodies}
-use Rattle.amoebot_state.proofs.Directions.{all_below, all_pairs}
+use Rattle.amoebot_state.proofs.Distinct.{filter_needless}
 use Rattle.amoebot_state.proofs.Members.{length-filter-le}
 use Rattle.amoebot_state.proofs.Occupants.{occupant_at}
 use Rattle.amoebot_state.proofs.Owns.{own_head, own_tail}
 use Rattle.amoebot_state.proofs.Shifts.{shift, origin, placed, at_origin, step_shift, ports_shift, behind_ports_shift}
-use Rattle.amoebot_state.proofs.Zones.{length-others-le}
+use Rattle.amoebot_state.proofs.Zones.{length-own_nodes-le, length-others-le}
 
 -- the nodes that the ports of an amoebot lead to, each once
 abbrev reached : Bot → List Node
@@ -32,17 +33,17 @@ reached b = distinct node_eq (map (behind b) (ports b))
 
 -- computed for the amoebots with their head at the origin: the contracted ones
 six_reached : (h : Chir) (r : ℕ) → r < 6 → length (reached (placed h r origin)) ≡ 6
-six_reached chir.Plus r lt = eqb-true _ _ (all_below (λ r. nat_eq (length (reached (placed chir.Plus r origin))) 6) 6 refl r lt)
-six_reached chir.Minus r lt = eqb-true _ _ (all_below (λ r. nat_eq (length (reached (placed chir.Minus r origin))) 6) 6 refl r lt)
+six_reached chir.Plus r lt = eqb-true _ _ (each_below_at 6 (λ r. nat_eq (length (reached (placed chir.Plus r origin))) 6) refl r lt)
+six_reached chir.Minus r lt = eqb-true _ _ (each_below_at 6 (λ r. nat_eq (length (reached (placed chir.Minus r origin))) 6) refl r lt)
 
 -- and the expanded ones, with their tail in each direction
 ten_ports : (h : Chir) (r k : ℕ) → r < 6 → k < 6 → length (ports (placed h r (step origin k))) ≡ 10
-ten_ports chir.Plus r k lr lk = eqb-true _ _ (all_pairs (λ r k. nat_eq (length (ports (placed chir.Plus r (step origin k)))) 10) refl r k lr lk)
-ten_ports chir.Minus r k lr lk = eqb-true _ _ (all_pairs (λ r k. nat_eq (length (ports (placed chir.Minus r (step origin k)))) 10) refl r k lr lk)
+ten_ports chir.Plus r k lr lk = eqb-true _ _ (each_two (λ r k. nat_eq (length (ports (placed chir.Plus r (step origin k)))) 10) refl r k lr lk)
+ten_ports chir.Minus r k lr lk = eqb-true _ _ (each_two (λ r k. nat_eq (length (ports (placed chir.Minus r (step origin k)))) 10) refl r k lr lk)
 
 eight_reached : (h : Chir) (r k : ℕ) → r < 6 → k < 6 → length (reached (placed h r (step origin k))) ≡ 8
-eight_reached chir.Plus r k lr lk = eqb-true _ _ (all_pairs (λ r k. nat_eq (length (reached (placed chir.Plus r (step origin k)))) 8) refl r k lr lk)
-eight_reached chir.Minus r k lr lk = eqb-true _ _ (all_pairs (λ r k. nat_eq (length (reached (placed chir.Minus r (step origin k)))) 8) refl r k lr lk)
+eight_reached chir.Plus r k lr lk = eqb-true _ _ (each_two (λ r k. nat_eq (length (reached (placed chir.Plus r (step origin k)))) 8) refl r k lr lk)
+eight_reached chir.Minus r k lr lk = eqb-true _ _ (each_two (λ r k. nat_eq (length (reached (placed chir.Minus r (step origin k)))) 8) refl r k lr lk)
 
 -- the tail of any amoebot is where that of one at the origin is, shifted with its head
 tail_at_head : (b : Bot) → b.head ≡ b.tail → b.tail ≡ shift b.head origin
@@ -77,20 +78,6 @@ filter_filter p q (x ∷ xs) = elim (cases_Bool (p x)) [
   ]
 ]
 
--- a filter is needless before one that lets fewer through
-filter_needless : {A : Type 0} (p q : A → Bool) → ((y : A) → p y ≡ true → q y ≡ true) → (xs : List A) → filter p (filter q xs) ≡ filter p xs
-filter_needless p q within [] = refl
-filter_needless p q within (x ∷ xs) = elim (cases_Bool (q x)) [
-  | inl t ↦ elim (cases_Bool (p x)) [
-    | inl u ↦ rw (t, u, filter_needless p q within xs) refl
-    | inr f ↦ rw (t, f, filter_needless p q within xs) refl
-  ]
-  | inr f ↦ elim (cases_Bool (p x)) [
-    | inl u ↦ absurd (both_ways _ f (within x u))
-    | inr g ↦ rw (f, g, filter_needless p q within xs) refl
-  ]
-]
-
 -- the distinct ones of those that pass are those that pass of the distinct ones
 distinct_filter : {A : Type 0} (eq : A → A → Bool) → ((x y : A) → eq x y ≡ true → x ≡ y) → (p : A → Bool) (xs : List A) → distinct eq (filter p xs) ≡ filter p (distinct eq xs)
 distinct_filter eq exact p [] = refl
@@ -101,7 +88,7 @@ distinct_filter {A} eq exact p (x ∷ xs) = elim (cases_Bool (p x)) [
         | inl e ↦ absurd (both_ways _ f (ap p (exact x y e) ∙ u))
         | inr g ↦ ap not g
       ] in
-      rw f (distinct_filter eq exact p xs ∙ sym (filter_needless p (λ y. not (eq x y)) apart (distinct eq xs)))
+      rw f (distinct_filter eq exact p xs ∙ sym (filter_needless (λ y. not (eq x y)) p apart (distinct eq xs)))
 ]
 
 -- the distinct nodes of a list after the amoebot's own are its own, and then no more than the list has distinct ones
@@ -130,13 +117,10 @@ at_most_eight_reached b rot joined = elim (or_cases _ _ joined) [
   | inr t ↦ let eight = ten_ports_lead_to_eight_nodes b rot (is_adjacent-true b.head b.tail t) in omega (arith, eight)
 ]
 
-at_most_two_own : (b : Bot) → length (own_nodes b) ≤ 2
-at_most_two_own b = elim (cases_Bool (is_contracted b)) [ inl t ↦ rw t (omega arith) | inr f ↦ rw f (omega arith) ]
-
 at_most_ten_nodes : (a : Extent) (b : Bot) → b.rot < 6 → IsTrue (is_joined b.head b.tail) → length (zone_nodes a b) ≤ 10
 at_most_ten_nodes a b rot joined =
     let (rest, whole, few) = own_then_few a b in
-    omega (arith, ap length whole, length-append (own_nodes b) rest, at_most_two_own b, few, at_most_eight_reached b rot joined)
+    omega (arith, ap length whole, length-append (own_nodes b) rest, length-own_nodes-le b, few, at_most_eight_reached b rot joined)
 
 -- a node that the amoebot itself occupies has none of the others
 others_past_own : (c : Config) (i : ℕ) (v : Node) (vs : List Node) → occupant c v ≡ Some i → others (occupant c) i (v ∷ vs) ≡ others (occupant c) i vs

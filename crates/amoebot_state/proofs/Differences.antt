@@ -3,7 +3,7 @@ use Rattle.std.proofs.Common.{◌≡◌, ◌≢◌, ◌<◌, ◌≤◌, ◌+◌,
 use Rattle.std.specs.Prelude.{is_some, if◌then◌else◌, unwrap_or}
 use Rattle.std.specs.List.{All, range_with_len}
 use Rattle.std.specs.Option.{option_map}
-use Rattle.std.proofs.lemmas.Bool.{cases_Bool, cases_eq, cases_lt, both_ways, false≢true}
+use Rattle.std.proofs.lemmas.Bool.{cases_Bool, cases_eq, cases_lt, both_ways}
 use Rattle.std.proofs.lemmas.List.{get_or_past}
 use Rattle.std.proofs.lemmas.List.Elements.{All-contains}
 use Rattle.std.proofs.lemmas.List.Kept.{AllPairs-from_increasing}
@@ -20,6 +20,7 @@ use Rattle.amoebot_state.specs.Configs.{Config, IsValid, bot_at, value}
 use Rattle.amoebot_state.specs.Patches.{same_value, changed, all_cells, diff, rank}
 use Rattle.amoebot_state.specs.Laws.{DiffLeads, OrderedPatchIsDiff}
 use Rattle.amoebot_state.proofs.Members.{Has, here, later, Has-append_left, Has-append_right, Has-map, map_has, Has-filter_map, filter_map_has, All-from_Has, Contains-from_Has, Has-from_Contains}
+use Rattle.amoebot_state.proofs.Options.{none_if, is_some-option_map}
 use Rattle.amoebot_state.proofs.Occupants.{outside_empty}
 use Rattle.amoebot_state.proofs.Patched.{patch_lists_what_differs}
 use Rattle.amoebot_state.proofs.Rising.{Rising, Rising-append, Rising-map, Rising-filter_map, Rising-weaker, Rising-range, Rising-from_increasing, Rising-same, range_below}
@@ -56,10 +57,6 @@ changed_differs old new n p e =
 listed_differs : (old new : Config) (p : CellName × Cell) → Has p (diff old new) → (value new (cell_of p) ≡ Some (value_of p)) × (value old (cell_of p) ≢ Some (value_of p))
 listed_differs old new p has = let found = filter_map_has (changed old new) (all_cells old) has in changed_differs old new found.0 p found.2
 
-none_if : {A : Type 0} (o : Option A) → is_some o ≡ false → o ≡ None
-none_if None e = refl
-none_if (Some x) e = absurd (false≢true (sym e))
-
 -- one of all cells that the difference does not list stays
 stays : (old new : Config) (n : CellName) → Has n (all_cells old) → is_some (value new n) ≡ is_some (value old n) → All (λ (p : CellName × Cell). cell_of p ≢ n) (diff old new) → value new n ≡ value old n
 stays old new n has alike none = elim (cases_Bool (same_value (value old n) (value new n))) [
@@ -71,10 +68,6 @@ stays old new n has alike none = elim (cases_Bool (same_value (value old n) (val
         absurd (All-contains (λ (p : CellName × Cell). cell_of p ≢ n) (diff old new) (n, x) none (Contains-from_Has (diff old new) (Has-filter_map (changed old new) (all_cells old) has now)) refl)
   ] refl
 ]
-
-pub is_some-option_map : {A B : Type 0} (f : A → B) (o : Option A) → is_some (option_map f o) ≡ is_some o
-is_some-option_map f None = refl
-is_some-option_map f (Some x) = refl
 
 -- a cell that the difference does not list stays: what is none of all cells holds nothing in either
 kept : (old new : Config) → IsValid old → IsValid new → new.area ≡ old.area → length new.bots ≡ length old.bots → ((i : ℕ) → is_some (bot_at new i) ≡ is_some (bot_at old i)) → (n : CellName) → All (λ (p : CellName × Cell). cell_of p ≢ n) (diff old new) → value new n ≡ value old n

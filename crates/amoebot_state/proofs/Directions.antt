@@ -1,13 +1,11 @@
 -- Local and global directions, and the ports that lead to a neighbour.
-use Rattle.std.proofs.Common.{◌≡◌, ◌<◌, ℕ, zero, suc, Bool, true, false, not, ◌&&◌, ◌||◌, ap, sym, ◌∙◌, refl, subst, inl, inr, arith, ltb, nat_eq, get_or, [], ◌∷◌, ◌++◌, map, filter}
+use Rattle.std.proofs.Common.{◌≡◌, ◌<◌, ℕ, Bool, true, false, not, ◌&&◌, ◌||◌, ap, sym, ◌∙◌, refl, subst, inl, inr, arith, ltb, nat_eq, [], ◌∷◌, ◌++◌, map, filter}
 use Rattle.std.specs.Prelude.{if◌then◌else◌}
-use Rattle.std.specs.List.{list_all, range_with_len}
-use Rattle.std.proofs.lemmas.List.Folds.{list_all_at}
-use Rattle.std.proofs.lemmas.List.FromFn.{get_or-range_with_len, length-range_with_len}
 use Rattle.std.proofs.lemmas.Bool.{cases_Bool, lt-ltb, ltb-true, eqb-true, both_ways, or_left, or_right}
 use Rattle.tri_lattice.specs.declared.node.Node.{Node}
 use Rattle.tri_lattice.specs.Lattice.{step, node_eq, Adjacent, is_adjacent}
-use Rattle.tri_lattice.proofs.Nodes.{node_eq-true}
+use Rattle.tri_lattice.proofs.Nodes.{node_eq-true, each_direction}
+use Rattle.tri_lattice.proofs.Tests.{each_two}
 use Rattle.tri_lattice.proofs.Steps.{is_adjacent-true, Adjacent-is_adjacent}
 use Rattle.amoebot_state.specs.declared.bot.Bot.{Bot}
 use Rattle.amoebot_state.specs.declared.bot.Chir.{Chir}
@@ -21,32 +19,18 @@ use Rattle.amoebot_state.proofs.Owns.{own_cases}
 use Rattle.amoebot_state.specs.Zones.{zone_nodes}
 use Rattle.tri_lattice.specs.Extent.{Extent, is_in}
 
--- what is computed for each number below n holds of each
-pub all_below : (p : ℕ → Bool) (n : ℕ) → list_all p (range_with_len 0 n) ≡ true → (d : ℕ) → d < n → p d ≡ true
-all_below p n all d lt = elim (cases_Bool (p d)) [
-  | inl t ↦ t
-  | inr f ↦
-      let at : get_or (range_with_len 0 n) d 0 ≡ d = get_or-range_with_len 0 n d 0 lt ∙ omega arith in
-      let long = length-range_with_len 0 n in
-      absurd (both_ways _ (list_all_at p (range_with_len 0 n) d 0 (omega (arith, long)) (ap p at ∙ f)) all)
-]
-
--- what is computed for each pair of directions holds of each
-pub all_pairs : (p : ℕ → ℕ → Bool) → list_all (λ r. list_all (p r) (range_with_len 0 6)) (range_with_len 0 6) ≡ true → (r d : ℕ) → r < 6 → d < 6 → p r d ≡ true
-all_pairs p all r d lr ld = all_below (p r) 6 (all_below (λ s. list_all (p s) (range_with_len 0 6)) 6 all r lr) d ld
-
 -- the local direction of a global one leads back to it, and the other way round
 turned_local : (h : Chir) (r d : ℕ) → r < 6 → d < 6 → global_by h r (local_by h r d) ≡ d
-turned_local chir.Plus r d lr ld = eqb-true _ _ (all_pairs (λ r d. nat_eq (global_by chir.Plus r (local_by chir.Plus r d)) d) refl r d lr ld)
-turned_local chir.Minus r d lr ld = eqb-true _ _ (all_pairs (λ r d. nat_eq (global_by chir.Minus r (local_by chir.Minus r d)) d) refl r d lr ld)
+turned_local chir.Plus r d lr ld = eqb-true _ _ (each_two (λ r d. nat_eq (global_by chir.Plus r (local_by chir.Plus r d)) d) refl r d lr ld)
+turned_local chir.Minus r d lr ld = eqb-true _ _ (each_two (λ r d. nat_eq (global_by chir.Minus r (local_by chir.Minus r d)) d) refl r d lr ld)
 
 local_turned : (h : Chir) (r i : ℕ) → r < 6 → i < 6 → local_by h r (global_by h r i) ≡ i
-local_turned chir.Plus r i lr li = eqb-true _ _ (all_pairs (λ r i. nat_eq (local_by chir.Plus r (global_by chir.Plus r i)) i) refl r i lr li)
-local_turned chir.Minus r i lr li = eqb-true _ _ (all_pairs (λ r i. nat_eq (local_by chir.Minus r (global_by chir.Minus r i)) i) refl r i lr li)
+local_turned chir.Plus r i lr li = eqb-true _ _ (each_two (λ r i. nat_eq (local_by chir.Plus r (global_by chir.Plus r i)) i) refl r i lr li)
+local_turned chir.Minus r i lr li = eqb-true _ _ (each_two (λ r i. nat_eq (local_by chir.Minus r (global_by chir.Minus r i)) i) refl r i lr li)
 
 local_below : (h : Chir) (r d : ℕ) → r < 6 → d < 6 → local_by h r d < 6
-local_below chir.Plus r d lr ld = ltb-true _ _ (all_pairs (λ r d. ltb (local_by chir.Plus r d) 6) refl r d lr ld)
-local_below chir.Minus r d lr ld = ltb-true _ _ (all_pairs (λ r d. ltb (local_by chir.Minus r d) 6) refl r d lr ld)
+local_below chir.Plus r d lr ld = ltb-true _ _ (each_two (λ r d. ltb (local_by chir.Plus r d) 6) refl r d lr ld)
+local_below chir.Minus r d lr ld = ltb-true _ _ (each_two (λ r d. ltb (local_by chir.Minus r d) 6) refl r d lr ld)
 
 turned_below : (h : Chir) (r i : ℕ) → global_by h r i < 6
 turned_below chir.Plus r i = omega arith
@@ -63,20 +47,8 @@ local_global b i lr li = local_turned b.chir b.rot i lr li
 
 -- each pair of an end and a local direction is listed
 pub listed : (e : End) (i : ℕ) → i < 6 → Has (port e i) all_ports
-listed Head zero lt = here
-listed Head (suc zero) lt = later here
-listed Head (suc (suc zero)) lt = later (later here)
-listed Head (suc (suc (suc zero))) lt = later (later (later here))
-listed Head (suc (suc (suc (suc zero)))) lt = later (later (later (later here)))
-listed Head (suc (suc (suc (suc (suc zero))))) lt = later (later (later (later (later here))))
-listed Head (suc (suc (suc (suc (suc (suc i)))))) lt = absurd (omega arith)
-listed Tail zero lt = later (later (later (later (later (later here)))))
-listed Tail (suc zero) lt = later (later (later (later (later (later (later here))))))
-listed Tail (suc (suc zero)) lt = later (later (later (later (later (later (later (later here)))))))
-listed Tail (suc (suc (suc zero))) lt = later (later (later (later (later (later (later (later (later here))))))))
-listed Tail (suc (suc (suc (suc zero)))) lt = later (later (later (later (later (later (later (later (later (later here)))))))))
-listed Tail (suc (suc (suc (suc (suc zero))))) lt = later (later (later (later (later (later (later (later (later (later (later here))))))))))
-listed Tail (suc (suc (suc (suc (suc (suc i)))))) lt = absurd (omega arith)
+listed Head = each_direction (λ i. Has (port Head i) all_ports) here (later here) (later (later here)) (later (later (later here))) (later (later (later (later here)))) (later (later (later (later (later here)))))
+listed Tail = each_direction (λ i. Has (port Tail i) all_ports) (later (later (later (later (later (later here)))))) (later (later (later (later (later (later (later here))))))) (later (later (later (later (later (later (later (later here)))))))) (later (later (later (later (later (later (later (later (later here))))))))) (later (later (later (later (later (later (later (later (later (later here)))))))))) (later (later (later (later (later (later (later (later (later (later (later here)))))))))))
 
 -- a pair that leads to a node which is not the amoebot's own is a port, and the head's of a contracted one is in any case
 leads_to_port : (b : Bot) (e : End) (i : ℕ) → i < 6 → is_own b (behind b (port e i)) ≡ false → (is_contracted b ≡ true → is_head e ≡ true) → Has (port e i) (ports b)

@@ -20,16 +20,16 @@ filter_cons p x xs true e = rw e refl
 filter_cons p x xs false e = rw e refl
 
 -- a filter that lets all through that another lets through makes that other one needless before it
-filter_twice : {A : Type 0} (p q : A → Bool) → ((y : A) → q y ≡ true → p y ≡ true) → (xs : List A) → filter q (filter p xs) ≡ filter q xs
-filter_twice p q within [] = refl
-filter_twice p q within (x ∷ xs) = elim (cases_Bool (p x)) [
+pub filter_needless : {A : Type 0} (p q : A → Bool) → ((y : A) → q y ≡ true → p y ≡ true) → (xs : List A) → filter q (filter p xs) ≡ filter q xs
+filter_needless p q within [] = refl
+filter_needless p q within (x ∷ xs) = elim (cases_Bool (p x)) [
   | inl t ↦ elim (cases_Bool (q x)) [
-    | inl u ↦ rw (t, u, filter_twice p q within xs) refl
-    | inr f ↦ rw (t, f, filter_twice p q within xs) refl
+    | inl u ↦ rw (t, u, filter_needless p q within xs) refl
+    | inr f ↦ rw (t, f, filter_needless p q within xs) refl
   ]
   | inr f ↦ elim (cases_Bool (q x)) [
     | inl u ↦ absurd (both_ways _ f (within x u))
-    | inr g ↦ rw (f, g, filter_twice p q within xs) refl
+    | inr g ↦ rw (f, g, filter_needless p q within xs) refl
   ]
 ]
 
@@ -75,7 +75,7 @@ taken_up {A} {eq} laws (x ∷ xs) taken = elim (cases_Bool (is_among eq taken x)
       ] in
       ap (λ ys. fold (with_new eq) ys xs) (ap (λ b. cond b taken (taken ++ x ∷ [])) t)
       ∙ taken_up laws xs taken
-      ∙ ap (λ ys. taken ++ ys) (sym (filter_cons (λ y. not (is_among eq taken y)) x (filter (λ y. not (eq x y)) (distinct eq xs)) false (ap not t) ∙ filter_twice (λ y. not (eq x y)) (λ y. not (is_among eq taken y)) known (distinct eq xs)))
+      ∙ ap (λ ys. taken ++ ys) (sym (filter_cons (λ y. not (is_among eq taken y)) x (filter (λ y. not (eq x y)) (distinct eq xs)) false (ap not t) ∙ filter_needless (λ y. not (eq x y)) (λ y. not (is_among eq taken y)) known (distinct eq xs)))
   | inr f ↦
       ap (λ ys. fold (with_new eq) ys xs) (ap (λ b. cond b taken (taken ++ x ∷ [])) f)
       ∙ taken_up laws xs (taken ++ x ∷ [])

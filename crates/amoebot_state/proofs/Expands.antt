@@ -34,6 +34,7 @@ use Rattle.amoebot_state.specs.Patches.{IsPatched, HasPatched, IsOrdered, diff}
 use Rattle.amoebot_state.specs.Steps.{Changes, TouchesZone, HasNext, IsExact}
 use Rattle.amoebot_state.specs.Moves.{need, with_head, verdict_by, expansion_verdict, expansion_verdict_shown, ExpansionVerdictIsShown, ExpansionChanges, ExpansionKeepsLaws}
 use Rattle.amoebot_state.proofs.Owns.{own_cases, own_head, own_tail}
+use Rattle.amoebot_state.proofs.Options.{there_is}
 use Rattle.amoebot_state.proofs.Occupants.{occupant_at, nobody_covers, occupant_same, plain_bot}
 use Rattle.amoebot_state.proofs.Differences.{ordered_patch_is_diff}
 use Rattle.amoebot_state.proofs.Directions.{beside_in_zone, global_below}
@@ -254,10 +255,6 @@ change_tells p i b inside empty change = told (is_contracted b) (is_port b p) in
     told true true false empty e = absurd (cc)
     told true true true false e = absurd (cc)
     told true true true true e = (refl, refl, refl, refl, sym (ap patch_of e))
-
-there_is : (o : Option Bot) → is_some o ≡ true → (b : Bot) × (o ≡ Some b)
-there_is None t = absurd (false≢true t)
-there_is (Some b) t = (b, refl)
 
 -- it is the verdict on each valid configuration that shows it
 pub expansion_verdict_is_shown : ExpansionVerdictIsShown

@@ -23,7 +23,7 @@ use Rattle.amoebot_state.specs.Zones.{distinct, zone_nodes, others, zone_of, zon
 use Rattle.amoebot_state.specs.Storage.{with_new}
 use Rattle.amoebot_state.specs.Known.{IsFront, read_on, known_from, known_zone, next_cell}
 use Rattle.amoebot_state.specs.Laws.{ShownListsZone, ShownHoldsValues, KnownIsFront, NextIsInZone, FrontGrows, NextIsNew, KnownGrowsAtItsEnd, WholeZoneIsShown, FrontStands}
-use Rattle.amoebot_state.proofs.Differences.{is_some-option_map}
+use Rattle.amoebot_state.proofs.Options.{there_is, is_some-option_map}
 use Rattle.amoebot_state.proofs.Distinct.{without, taken_up, taken_from_none}
 use Rattle.amoebot_state.proofs.Fronts.{front_rest, front_take, front_takes, front_kept, front_map, front_behind, front_left, front_next, front_push, Has-from_slice_get, slice_get_left, take-filter_map, map-filter_map, filter_map-none}
 use Rattle.amoebot_state.proofs.Gaps.{zone_is, body_shown}
@@ -31,7 +31,7 @@ use Rattle.amoebot_state.proofs.Members.{Has, here, later, has_cases, not_in_non
 use Rattle.amoebot_state.proofs.Occupants.{occupant_covers}
 use Rattle.amoebot_state.proofs.Once.{Once, once_parts, Once-distinct, zone_once, same_spot, same_body, spot_is_no_body}
 use Rattle.amoebot_state.proofs.Owns.{covered}
-use Rattle.amoebot_state.proofs.Shows.{there_is, spot_found, spot_absent}
+use Rattle.amoebot_state.proofs.Shows.{spot_found, spot_absent}
 use Rattle.amoebot_state.proofs.Zones.{others_occupy}
 
 -- ---- what is shown lists the zone

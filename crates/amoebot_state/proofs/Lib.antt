@@ -12,6 +12,7 @@ pub mod Members
 pub mod Occupants
 pub mod Occupied
 pub mod Once
+pub mod Options
 pub mod Owns
 pub mod Patched
 pub mod Rising

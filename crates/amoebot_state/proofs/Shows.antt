@@ -1,9 +1,9 @@
 -- What is shown, as the code makes and reads it.
-use Rattle.std.proofs.Common.{◌≡◌, ◌≤◌, ℕ, List, [], ◌∷◌, ◌++◌, length, map, true, false, ap, sym, ◌∙◌, refl, subst, inl, inr, arith, Bor, Option, Some, None}
+use Rattle.std.proofs.Common.{◌≡◌, ◌≤◌, ℕ, List, [], ◌∷◌, ◌++◌, length, map, true, ap, sym, ◌∙◌, refl, subst, inl, inr, arith, Bor, Option, Some, None}
 use Rattle.std.specs.Prelude.{IfSome, IsSome, is_some, unwrap_or}
 use Rattle.std.specs.List.{filter_map, cons_option}
 use Rattle.std.specs.Option.{option_map, option_copied}
-use Rattle.std.proofs.lemmas.Bool.{cases_Bool, both_ways, false≢true}
+use Rattle.std.proofs.lemmas.Bool.{cases_Bool, both_ways}
 use Rattle.std.proofs.lemmas.List.Elements.{filter_map-append}
 use Rattle.tri_lattice.specs.declared.node.Node.{Node}
 use Rattle.tri_lattice.specs.Lattice.{node_eq}
@@ -20,6 +20,7 @@ use Rattle.amoebot_state.specs.Refusals.{IsPlain}
 use Rattle.amoebot_state.specs.Zones.{Shown, IsShown, IsFound, shown, shown_cell, zone, zone_nodes, others, gap}
 use Rattle.amoebot_state.specs.Pairs.{spot_in}
 use Rattle.amoebot_state.proofs.Members.{Has, here, later, has_cases, not_in_none, length-filter_map-le}
+use Rattle.amoebot_state.proofs.Options.{there_is, none_if}
 use Rattle.amoebot_state.proofs.Occupants.{plain_bot, outside_empty}
 use Rattle.amoebot_state.proofs.Directions.{beside_in_zone}
 use Rattle.amoebot_state.proofs.Zones.{length-zone_nodes-le, length-zone_of-le}
@@ -57,10 +58,6 @@ found_by c i own s valid at is =
   where
     is_there : (o : Option Bot) (b : Bot) → o ≡ Some b → IsSome o
     is_there o b e = ap is_some e
-
-pub there_is : (o : Option Bot) → IsSome o → (b : Bot) × (o ≡ Some b)
-there_is None h = absurd (false≢true h)
-there_is (Some b) h = (b, refl)
 
 -- the gap configuration of what is shown is valid
 pub shown_valid : (s : Shown) → IsShown s → IsValid (gap s)
@@ -129,10 +126,6 @@ spot_told s is v beside =
           ap (λ o. unwrap_or o None) (spot_absent c (zone c i) v (λ has. both_ways _ outside (zone_inside c i b v valid own.1 has)))
           ∙ outside_empty (gap (shown c i)) (gap_valid c i valid) v (none_if _ outside)
     ]) beside
-  where
-    none_if : {A : Type 0} (o : Option A) → is_some o ≡ false → o ≡ None
-    none_if None e = refl
-    none_if (Some x) e = absurd (false≢true (sym e))
 
 pub is_shown : (c : Config) (i : ℕ) (a : Extent) (maxes : List ℕ) (cells : List (CellName × Cell)) → a ≡ c.area → maxes ≡ c.maxes → cells ≡ filter_map (shown_cell c) (zone c i) → (let s : Shown = record { area = a; maxes = maxes; bot = i; cells = cells } in s) ≡ shown c i
 is_shown c i a maxes cells e m x = λ t. record { area = e t; maxes = m t; bot = i; cells = x t }

@@ -101,6 +101,10 @@ others_there c i vs = All-from_Has (λ j. j < length c.bots) (others (occupant c
     let by = others_occupy (occupant c) i vs j has in
     covers_below c j by.0 (occupant_covers c by.0 j by.2))
 
+-- an amoebot has at most two nodes
+pub length-own_nodes-le : (b : Bot) → length (own_nodes b) ≤ 2
+length-own_nodes-le b = elim (cases_Bool (is_contracted b)) [ inl t ↦ rw t (omega arith) | inr f ↦ rw f (omega arith) ]
+
 -- bounds that the code's lists have room for
 pub length-zone_nodes-le : (a : Extent) (b : Bot) → length (zone_nodes a b) ≤ 14
 length-zone_nodes-le a b =
@@ -112,9 +116,6 @@ length-zone_nodes-le a b =
     let some = length-filter-le (is_port b) all_ports in
     let own = length-own_nodes-le b in
     omega (arith, all, joined, inside, mapped, some, own)
-  where
-    length-own_nodes-le : (b : Bot) → length (own_nodes b) ≤ 2
-    length-own_nodes-le b = elim (cases_Bool (is_contracted b)) [ inl t ↦ rw t (omega arith) | inr f ↦ rw f (omega arith) ]
 
 pub length-others-le : (on : Node → Option ℕ) (i : ℕ) (vs : List Node) → length (others on i vs) ≤ length vs
 length-others-le on i vs =

@@ -1,23 +1,17 @@
 -- The two ends of a chain of three nodes are not connected without its middle.
-use Rattle.std.proofs.Common.{◌≡◌, zero, suc, ℤ, pos, Bool, false, ◌||◌, true, arith, refl, sym, ap, subst, inl, inr}
+use Rattle.std.proofs.Common.{◌≡◌, ℤ, pos, Bool, false, ◌||◌, true, arith, refl, sym, ap, subst, inl, inr}
 use Rattle.std.proofs.lemmas.Bool.{or_cases, false_from_ne_true}
 use Rattle.std.specs.Prelude.{IsTrue}
 use Rattle.tri_lattice.specs.declared.node.Node.{Node}
 use Rattle.tri_lattice.specs.Sets.{Joined, here, along, IsConnected, TakesOut}
-use Rattle.tri_lattice.proofs.Nodes.{node_eq-true}
+use Rattle.tri_lattice.proofs.Nodes.{node_eq-true, each_direction}
 use Rattle.tri_lattice.proofs.Paths.{Joined-trans, Joined-sym}
-use Rattle.ring_guard.specs.Rings.{HasEmptyRing}
+use Rattle.ring_guard.specs.Rings.{HasEmptyRing, entry, ring_in}
 use Rattle.ring_guard.specs.Gap.{left, middle, right, chain, pair, GapSplits}
 use Rattle.ring_guard.proofs.Arcs.{alone_is_all, taking_keeps}
 
 left_is_alone : HasEmptyRing pair left
-left_is_alone zero l = refl
-left_is_alone (suc zero) l = refl
-left_is_alone (suc (suc zero)) l = refl
-left_is_alone (suc (suc (suc zero))) l = refl
-left_is_alone (suc (suc (suc (suc zero)))) l = refl
-left_is_alone (suc (suc (suc (suc (suc zero))))) l = refl
-left_is_alone (suc (suc (suc (suc (suc (suc i)))))) l = absurd (omega arith)
+left_is_alone = each_direction (λ i. entry (ring_in pair left) i ≡ false) refl refl refl refl refl refl
 
 pair_is_split : IsConnected pair → ⊥
 pair_is_split connected =

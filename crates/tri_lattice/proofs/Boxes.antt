@@ -1,5 +1,5 @@
 -- Places, numbers and nodes of a box.
-use Rattle.std.proofs.Common.{◌≡◌, ℕ, zero, suc, ℤ, ◌<◌, ◌*◌, ◌/◌, ◌%◌, arith, pos, negsuc, ltb, cond, refl, ◌+◌, ◌+ℤ◌, ap, sym, ◌∙◌}
+use Rattle.std.proofs.Common.{◌≡◌, ℕ, zero, suc, ℤ, ◌<◌, ◌*◌, ◌/◌, ◌%◌, arith, pos, negsuc, ltb, cond, refl, ◌+◌, ap, sym, ◌∙◌}
 use Rattle.std.proofs.Math.Nat.{mul_comm, div-lt_iff_lt-mul}
 use Rattle.std.specs.declared.option.Option.{Option}
 use Rattle.std.specs.declared.option.Option.TheVariants.{Some, None}
@@ -7,7 +7,7 @@ use Rattle.std.specs.Option.{option_and_then, option_map}
 use Rattle.std.proofs.lemmas.Nat.{mul-add-lt, same_from_place, mod_below, div-add-mod'}
 use Rattle.std.proofs.lemmas.Bool.{lt-ltb, ltb-true, false≢true}
 use Rattle.std.proofs.lemmas.Option.{cond_some, none-some, same_Some}
-use Rattle.tri_lattice.proofs.Nodes.{same_node}
+use Rattle.tri_lattice.proofs.Nodes.{same_node, stepped}
 use Rattle.tri_lattice.specs.declared.node.Node.{Node}
 use Rattle.tri_lattice.specs.Extent.{Extent, place, index_of, is_in, node_at, IsArea}
 use Rattle.tri_lattice.specs.Laws.{IsWithin, BoxIsItsBounds, NodesHaveNumbers, NumbersHaveNodes}
@@ -100,9 +100,6 @@ box_is_its_bounds a v = (in_within a v, within_in a v)
 has_width : (w h k : ℕ) → k < w * h → 0 < w
 has_width zero h k l = absurd (omega arith)
 has_width (suc w) h k l = omega arith
-
-stepped : (x z : ℤ) → (x +ℤ z) -ℤ x ≡ z
-stepped x z = omega (arith, ints)
 
 -- a number is that of the node with it
 pub index_of_node_at : NodesHaveNumbers

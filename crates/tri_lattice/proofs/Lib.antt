@@ -1,3 +1,4 @@
+pub mod Tests
 pub mod Nodes
 pub mod Steps
 pub mod Boxes

@@ -7,7 +7,7 @@ use Rattle.std.specs.Prelude.{IsTrue, unsigned_abs}
 use Rattle.tri_lattice.specs.declared.node.Node.{Node}
 use Rattle.tri_lattice.specs.Lattice.{dx, dy, step, ring, Adjacent, node_eq, is_adjacent, distance}
 use Rattle.tri_lattice.specs.Laws.{NeighboursAreDistinct, NeighboursAreAtOne, AdjacentTestIsAdjacency}
-use Rattle.tri_lattice.proofs.Nodes.{same_node, node_eq-true, eq-node_eq}
+use Rattle.tri_lattice.proofs.Nodes.{same_node, node_eq-true, eq-node_eq, each_direction, stepped}
 
 -- the direction that has these offsets
 abbrev direction : ℤ → ℤ → ℕ
@@ -20,13 +20,7 @@ direction (negsuc m) (pos (suc n)) = 2
 direction (negsuc m) (negsuc n) = 3
 
 direction_of : (d : ℕ) → d < 6 → direction (dx d) (dy d) ≡ d
-direction_of zero l = refl
-direction_of (suc zero) l = refl
-direction_of (suc (suc zero)) l = refl
-direction_of (suc (suc (suc zero))) l = refl
-direction_of (suc (suc (suc (suc zero)))) l = refl
-direction_of (suc (suc (suc (suc (suc zero))))) l = refl
-direction_of (suc (suc (suc (suc (suc (suc d)))))) l = absurd (omega arith)
+direction_of = each_direction (λ d. direction (dx d) (dy d) ≡ d) refl refl refl refl refl refl
 
 same_offset : (x a b : ℤ) → x +ℤ a ≡ x +ℤ b → a ≡ b
 same_offset x a b e = omega (arith, ints)
@@ -39,13 +33,7 @@ neighbours_are_distinct v d e ld le same =
 
 -- the ring has the neighbour in direction d at place d
 pub ring_at : (v u : Node) (d : ℕ) → d < 6 → get_or (ring v) d u ≡ step v d
-ring_at v u zero l = refl
-ring_at v u (suc zero) l = refl
-ring_at v u (suc (suc zero)) l = refl
-ring_at v u (suc (suc (suc zero))) l = refl
-ring_at v u (suc (suc (suc (suc zero)))) l = refl
-ring_at v u (suc (suc (suc (suc (suc zero))))) l = refl
-ring_at v u (suc (suc (suc (suc (suc (suc d)))))) l = absurd (omega arith)
+ring_at v u = each_direction (λ d. get_or (ring v) d u ≡ step v d) refl refl refl refl refl refl
 
 pub is_adjacent-true : (a b : Node) → IsTrue (is_adjacent a b) → Adjacent a b
 is_adjacent-true a b t = elim (or_cases _ _ t) [
@@ -80,15 +68,7 @@ abbrev size : ℤ → ℤ → ℕ
 size x y = max (max (unsigned_abs x) (unsigned_abs y)) (unsigned_abs (x +ℤ y))
 
 size_of : (d : ℕ) → d < 6 → size (dx d) (dy d) ≡ 1
-size_of zero l = refl
-size_of (suc zero) l = refl
-size_of (suc (suc zero)) l = refl
-size_of (suc (suc (suc zero))) l = refl
-size_of (suc (suc (suc (suc zero)))) l = refl
-size_of (suc (suc (suc (suc (suc d))))) l = refl
-
-stepped : (x z : ℤ) → (x +ℤ z) -ℤ x ≡ z
-stepped x z = omega (arith, ints)
+size_of = each_direction (λ d. size (dx d) (dy d) ≡ 1) refl refl refl refl refl refl
 
 -- one step leads to distance 1
 pub distance_adjacent : (a b : Node) → Adjacent a b → distance a b ≡ 1

@@ -4,7 +4,7 @@ ghost use Rattle.tri_lattice.specs.Lattice.{step, ring, distance, IsNear, Leads,
 use crate::dir::Dir;
 
 /// A node of the lattice, by its coordinates.
-#[derive(Clone, Copy, Debug, Default, PartialEq, Eq, PartialOrd, Ord, Hash)]
+#[derive(Clone, Copy, Debug, Default, PartialEq, Eq)]
 pub struct Node {
     pub x: i16,
     pub y: i16,
