@@ -1,5 +1,7 @@
 -- What a call of the program comes to.
 use Rattle.std.specs.Prelude.{◌≡◌, ℕ, ◌≤◌, List, [], ◌∷◌, length, codes, decimal}
+use Rattle.std.specs.declared.option.Option.{Option}
+use Rattle.std.specs.declared.option.Option.TheVariants.{Some, None}
 use Rattle.text_tokens.specs.declared.refusal.Refusal.{Refusal}
 use Rattle.text_tokens.specs.declared.refusal.RefusalKind.TheVariants as kind
 use Rattle.text_tokens.specs.Kinds.{name}
@@ -7,6 +9,9 @@ use Rattle.amoebot_state.specs.declared.bot.Port.{Port}
 use Rattle.amoebot_state.specs.Configs.{Config}
 use Rattle.amoebot_state.specs.Moves.{expansion_verdict_shown}
 use Rattle.amoebot_run.specs.declared.report.Report.{Report}
+use Rattle.amoebot_run.specs.declared.run.Ended.{Ended}
+use Rattle.amoebot_run.specs.declared.run.Status.{Status}
+use Rattle.amoebot_run.specs.declared.run.Status.TheVariants as status
 use Rattle.amoebot_run.specs.Documents.{IsRunDocument}
 use Rattle.amoebot_run.specs.Good.{Good}
 use Rattle.amoebot_run.specs.SerialRuns.{SerialRun, all_turns, left_by}
@@ -58,9 +63,22 @@ refusal_line r = line_text (codes "refused" ∷ decimal r.line ∷ name r.kind �
 -- the text or the line that a call has to write: the usage line where the words are no command; and where they are, that of a fault
 -- where a read failed, that of a refusal where more bytes than the limit were got or where the whole input is no document, or the
 -- text of a run of the whole input
-pub data IsOwed (Command ReadFailed : Type 0) (Got Whole : List ℕ → Type 0) : List ℕ → Type 0 where
-  usage : (Command → ⊥) → IsOwed Command ReadFailed Got Whole usage_line
-  read_fault : Command → ReadFailed → IsOwed Command ReadFailed Got Whole read_fault_line
-  too_long : Command → (got : List ℕ) → Got got → length got ≡ 1048577 → IsOwed Command ReadFailed Got Whole (refusal_line refused_too_long)
-  not_yet : Command → (bytes : List ℕ) → Whole bytes → IsNoDocument bytes → IsOwed Command ReadFailed Got Whole (refusal_line refused_not_yet)
-  run : Command → (bytes : List ℕ) (report : Report) → Whole bytes → IsRunOfDocument bytes report → IsOwed Command ReadFailed Got Whole (report_text report)
+pub data IsOwed (Command : Type 0) (UpToFault Above Whole : List ℕ → Type 0) : List ℕ → Type 0 where
+  usage : (Command → ⊥) → IsOwed Command UpToFault Above Whole usage_line
+  read_fault : Command → (got : List ℕ) → UpToFault got → IsOwed Command UpToFault Above Whole read_fault_line
+  too_long : Command → (got : List ℕ) → Above got → IsOwed Command UpToFault Above Whole (refusal_line refused_too_long)
+  not_yet : Command → (bytes : List ℕ) → Whole bytes → IsNoDocument bytes → IsOwed Command UpToFault Above Whole (refusal_line refused_not_yet)
+  run : Command → (bytes : List ℕ) (report : Report) → Whole bytes → IsRunOfDocument bytes report → IsOwed Command UpToFault Above Whole (report_text report)
+
+-- what goes out whole with a status and a report: nothing where memory is wanting, and of what a write fault cut off no whole
+abbrev pub text_with : Status → Option Report → List ℕ
+text_with status.Done (Some report) = report_text report
+text_with status.Done None = []
+text_with status.Words report = usage_line
+text_with (status.Refused refusal) report = refusal_line refusal
+text_with status.ReadFault report = read_fault_line
+text_with status.WriteFault report = []
+text_with status.NoMemory report = []
+
+abbrev pub text_of : Ended → List ℕ
+text_of ended = text_with ended.status ended.report

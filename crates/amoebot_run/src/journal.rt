@@ -1,4 +1,4 @@
-ghost use Rattle.std.specs.Prelude.{◌≡◌, ◌+◌, ◌-◌, ◌<◌, ◌≤◌, ◌∷◌, ◌++◌, [], IfOk, OnOk};
+ghost use Rattle.std.specs.Prelude.{◌≡◌, ◌+◌, ◌<◌, ◌∷◌, ◌++◌, [], max, IfOk, OnOk, OnErr};
 ghost use Rattle.amoebot_run.specs.Turns.{Kept};
 
 use amoebot_state::{Entry, NoMemory, World};
@@ -33,11 +33,10 @@ impl Journal {
         })
     }
 
-    /// Takes memory for so many more entries.
+    /// Takes memory for so many more entries, unless there is room for them.
     pub fn reserve(&mut self, _alloc: Global, more: u32) -> Result<(), NoMemory>
-        ensures first { self.new.first ≡ self.old.first }
-        ensures entries { self.new.entries ≡ self.old.entries }
-        ensures ok { OnOk result (more ≤ self.new.spare) }
+        ensures ok { OnOk result (self.new ≡ record self.old { spare = max self.old.spare more }) }
+        ensures err { OnErr result (self.new ≡ self.old) }
     {
         match self.entries.reserve_exact(more as usize) {
             Ok(()) => Ok(()),

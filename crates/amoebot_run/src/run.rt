@@ -1,10 +1,11 @@
 ghost use Rattle.std.specs.Prelude.{◌≡◌, ◌≢◌, ◌≤◌, ◌<◌, ◌↔◌, ◌⊎◌, ℕ, List, map, length, IsTrue, IsSome, IfSome, IfOk, IfErr, Some, None};
 ghost use Rattle.std.specs.String.{string_bytes};
-ghost use Rattle.std.specs.Io.KnownBytes.{Consumes, IsAtEnd};
-ghost use Rattle.outer_io.specs.Kept.{written_of};
-ghost use Rattle.outer_io.specs.Told.{Rose, Grows, GrowsByFront};
-ghost use Rattle.amoebot_run.specs.Commands.{IsRun, status_number};
-ghost use Rattle.amoebot_run.specs.Headline.{IsRunOfDocument, IsNoDocument, IsOwed, usage_line, read_fault_line, refused_too_long, refused_not_yet, refusal_line, TextIsDetermined};
+ghost use Rattle.outer_io.specs.Kept.{kept_after, written_of};
+ghost use Rattle.outer_io.specs.Readings.{ReadsWhole, ReadsAbove, ReadsSome, ReadsUpToFault};
+ghost use Rattle.outer_io.specs.Told.{Rose, Grows};
+ghost use Rattle.outer_io.specs.Writings.{WritesAll, WritesFront};
+ghost use Rattle.amoebot_run.specs.Commands.{IsRun, document_limit, status_number};
+ghost use Rattle.amoebot_run.specs.Headline.{IsRunOfDocument, IsNoDocument, IsOwed, usage_line, read_fault_line, refused_too_long, refused_not_yet, refusal_line, text_of, TextIsDetermined};
 ghost use Rattle.amoebot_run.specs.Documents.{IsRunDocument};
 ghost use Rattle.amoebot_run.specs.Turns.{CallerLists};
 ghost use Rattle.amoebot_state.specs.Configs.{Config};
@@ -18,9 +19,9 @@ use crate::gate::{Gate, NoGate};
 use crate::report::Report;
 use crate::serial::{run_serially, serial_run_is_determined};
 use crate::texts::{Text, print_report};
-use amoebot_state::NoMemory;
 use outer_io::{
-    ReadError, Sink, Source, SureSink, SureSource, WriteFault, read_document, write_all,
+    ReadError, Sink, Source, SureSink, SureSource, WriteFault, pieces_are_kept_as_one,
+    read_document, write_all,
 };
 use std::alloc::Global;
 use std::sync::Wait;
@@ -109,51 +110,55 @@ pub fn run<R: Threads + Wait + Sync, S: Source, K: Sink, G: Gate>(
     _gate: &G,
 ) -> Ended
     // A report comes exactly with Done. Then the input was read to its end, the bytes read are a document, the report is one of the
-    // run that it asks for, and what was written grew by the text of that report.
+    // run that it asks for, and the text of that report was written.
     ensures report { IsSome result.report ↔ (result.status ≡ Status.Done) }
     ensures headline { IfSome result.report (λ report. (document : List ℕ)
-        × Consumes (S.left input.old) (S.left input.new) document × IsAtEnd (S.left input.new) × (length document ≤ 1048576)
+        × ReadsWhole S.left S.gives document_limit input.old input.new document
         × IsRunOfDocument document report
-        × Grows (K.written out.old) (K.written out.new) (report_text report)) }
+        × WritesAll K.written K.takes out.old out.new (report_text report)) }
     ensures done { result.status ≡ Status.Done → IsRun (map string_bytes words.now) }
 
     // So a document whose bytes are told has one text.
     ensures determined { IfSome result.report (λ _. (document : List ℕ) (other : ReportValue)
         → S.left input.old ≡ Some document → IsRunOfDocument document other
-        → Grows (K.written out.old) (K.written out.new) (report_text other)) }
+        → WritesAll K.written K.takes out.old out.new (report_text other)) }
 
     // Where the words are no command, nothing is read, and only a write that fails hides that.
     ensures words { result.status ≡ Status.Words → ¬ IsRun (map string_bytes words.now) }
     ensures unread { ¬ IsRun (map string_bytes words.now) → input.new ≡ input.old }
     ensures no_command { ¬ IsRun (map string_bytes words.now) → (result.status ≡ Status.Words) ⊎ (result.status ≡ Status.WriteFault) }
-    ensures usage { result.status ≡ Status.Words → Grows (K.written out.old) (K.written out.new) usage_line }
+    ensures usage { result.status ≡ Status.Words → WritesAll K.written K.takes out.old out.new usage_line }
 
     // A document is refused for one of two reasons, with the bytes that show it.
     ensures refused { (refusal : Refusal) → result.status ≡ Status.Refused refusal → (refusal ≡ refused_too_long) ⊎ (refusal ≡ refused_not_yet) }
     ensures too_long { result.status ≡ Status.Refused refused_too_long → (got : List ℕ)
-        × Consumes (S.left input.old) (S.left input.new) got × (length got ≡ 1048577) }
+        × ReadsAbove S.left S.gives document_limit input.old input.new got }
     ensures not_yet { result.status ≡ Status.Refused refused_not_yet → (document : List ℕ)
-        × Consumes (S.left input.old) (S.left input.new) document × IsAtEnd (S.left input.new) × (length document ≤ 1048576)
-        × IsNoDocument document }
-    ensures refusal_line { (refusal : Refusal) → result.status ≡ Status.Refused refusal → Grows (K.written out.old) (K.written out.new) (refusal_line refusal) }
+        × ReadsWhole S.left S.gives document_limit input.old input.new document × IsNoDocument document }
+    ensures refusal_line { (refusal : Refusal) → result.status ≡ Status.Refused refusal → WritesAll K.written K.takes out.old out.new (refusal_line refusal) }
 
-    // A fault is that of the object that was handed in.
+    // A fault is that of the object that was handed in, and ends its reading or writing.
     ensures read_fault { result.status ≡ Status.ReadFault → Rose (S.faults input.old) (S.faults input.new) }
-    ensures read_fault_line { result.status ≡ Status.ReadFault → Grows (K.written out.old) (K.written out.new) read_fault_line }
+    ensures one_reading { result.status ≡ Status.ReadFault → (got : List ℕ)
+        × ReadsUpToFault S.left S.gives S.fails document_limit input.old input.new got }
+    ensures read_fault_line { result.status ≡ Status.ReadFault → WritesAll K.written K.takes out.old out.new read_fault_line }
     ensures write_fault { result.status ≡ Status.WriteFault → Rose (K.faults out.old) (K.faults out.new) }
-
     ensures front { result.status ≡ Status.WriteFault → (text : List ℕ)
-        × IsOwed (IsRun (map string_bytes words.now)) (Rose (S.faults input.old) (S.faults input.new))
-        (Consumes (S.left input.old) (S.left input.new))
-        (λ document. Consumes (S.left input.old) (S.left input.new) document × IsAtEnd (S.left input.new) × (length document ≤ 1048576))
+        × IsOwed (IsRun (map string_bytes words.now))
+        (λ got. Rose (S.faults input.old) (S.faults input.new) × ReadsUpToFault S.left S.gives S.fails document_limit input.old input.new got)
+        (ReadsAbove S.left S.gives document_limit input.old input.new)
+        (ReadsWhole S.left S.gives document_limit input.old input.new)
         text
-        × GrowsByFront (K.written out.old) (K.written out.new) text }
+        × WritesFront K.written K.takes K.fails out.old out.new text }
 
+    // Without memory nothing is written, and no more is read than for a document.
     ensures no_memory { result.status ≡ Status.NoMemory → out.new ≡ out.old }
+    ensures no_memory_read { result.status ≡ Status.NoMemory → (got : List ℕ)
+        × ReadsSome S.left S.gives document_limit input.old input.new got }
 
     // A document within the limit is run, unless memory is wanting or a read or a write fails.
     ensures complete { IsRun (map string_bytes words.now) → (document : List ℕ) (port : PortValue) (start : Config) (lists : CallerLists)
-        → S.left input.old ≡ Some document → length document ≤ 1048576 → IsRunDocument document port start lists
+        → S.left input.old ≡ Some document → length document ≤ document_limit → IsRunDocument document port start lists
         → (result.status ≡ Status.Done) ⊎ ((result.status ≡ Status.NoMemory) ⊎ ((result.status ≡ Status.ReadFault) ⊎ (result.status ≡ Status.WriteFault))) }
 {
     text_is_determined();
@@ -183,26 +188,18 @@ pub fn run<R: Threads + Wait + Sync, S: Source, K: Sink, G: Gate>(
 
 /// Runs a document, and makes the text of the run.
 fn run_document(alloc: Global, bytes: &[u8]) -> Result<(Report, Text), Unread>
-    requires { length bytes.now ≤ 1048576 }
+    requires { length bytes.now ≤ document_limit }
     ensures run { IfOk result (λ made. IsRunOfDocument bytes.now made.0) }
     ensures text { IfOk result (λ made. made.1 ≡ report_text made.0) }
     ensures none { result ≡ Err Unread.NotYet → IsNoDocument bytes.now }
 {
-    let document = match read_run(alloc, bytes) {
-        Ok(document) => document,
-        Err(why) => return Err(why),
-    };
+    let document = read_run(alloc, bytes)?;
     let decider = FirstAction {
         port: document.port,
     };
-    let report = match run_serially(alloc, &decider, document.world, &document.lists) {
-        Ok(report) => report,
-        Err(NoMemory) => return Err(Unread::NoMemory),
-    };
-    match print_report(alloc, &report) {
-        Ok(text) => Ok((report, text)),
-        Err(NoMemory) => Err(Unread::NoMemory),
-    }
+    let report = run_serially(alloc, &decider, document.world, &document.lists)?;
+    let text = print_report(alloc, &report)?;
+    Ok((report, text))
 }
 
 fn end_with(status: Status) -> Ended
@@ -216,8 +213,9 @@ fn end_with(status: Status) -> Ended
 
 /// Writes the line that a status other than `Done` has.
 fn end_with_line<K: Sink>(out: &mut K, line: &str, status: Status) -> Ended
-    ensures { ((result ≡ record { status = status; report = None }) × Grows (K.written out.old) (K.written out.new) line.now)
-        ⊎ ((result ≡ record { status = Status.WriteFault; report = None }) × Rose (K.faults out.old) (K.faults out.new) × GrowsByFront (K.written out.old) (K.written out.new) line.now) }
+    ensures { ((result ≡ record { status = status; report = None }) × WritesAll K.written K.takes out.old out.new line.now)
+        ⊎ ((result ≡ record { status = Status.WriteFault; report = None }) × Rose (K.faults out.old) (K.faults out.new)
+        × WritesFront K.written K.takes K.fails out.old out.new line.now) }
 {
     match write_all(out, line.as_bytes()) {
         Ok(()) => end_with(status),
@@ -243,7 +241,7 @@ pub fn text_is_determined()
 }
 
 /// `run` over bytes in memory and without a gate. Where no memory is left for a copy of the bytes, that is its status, whatever the
-/// words are.
+/// words are. The sink is left as one write of the text or line leaves it.
 pub fn run_text<R: Threads + Wait + Sync>(
     rt: &R,
     alloc: Global,
@@ -254,7 +252,7 @@ pub fn run_text<R: Threads + Wait + Sync>(
     // A report comes exactly with Done. Then the bytes are a document, the report is one of the run that it asks for, and what was
     // written grew by the text of that report.
     ensures report { IsSome result.report ↔ (result.status ≡ Status.Done) }
-    ensures headline { IfSome result.report (λ report. (length bytes.now ≤ 1048576)
+    ensures headline { IfSome result.report (λ report. (length bytes.now ≤ document_limit)
         × IsRunOfDocument bytes.now report
         × Grows (written_of out.old) (written_of out.new) (report_text report)) }
     ensures done { result.status ≡ Status.Done → IsRun (map string_bytes words.now) }
@@ -267,9 +265,12 @@ pub fn run_text<R: Threads + Wait + Sync>(
 
     // A document is refused for one of two reasons.
     ensures refused { (refusal : Refusal) → result.status ≡ Status.Refused refusal → (refusal ≡ refused_too_long) ⊎ (refusal ≡ refused_not_yet) }
-    ensures too_long { result.status ≡ Status.Refused refused_too_long → 1048576 < length bytes.now }
-    ensures not_yet { result.status ≡ Status.Refused refused_not_yet → (length bytes.now ≤ 1048576) × IsNoDocument bytes.now }
+    ensures too_long { result.status ≡ Status.Refused refused_too_long → document_limit < length bytes.now }
+    ensures not_yet { result.status ≡ Status.Refused refused_not_yet → (length bytes.now ≤ document_limit) × IsNoDocument bytes.now }
     ensures refusal_line { (refusal : Refusal) → result.status ≡ Status.Refused refusal → Grows (written_of out.old) (written_of out.new) (refusal_line refusal) }
+
+    // The sink that comes back is the one that was handed in, with the text or line that goes with the answer.
+    ensures sink { out.new ≡ kept_after out.old (text_of result) }
 
     // Bytes in memory have no faults.
     ensures no_read_fault { result.status ≢ Status.ReadFault }
@@ -279,9 +280,10 @@ pub fn run_text<R: Threads + Wait + Sync>(
 
     // A document within the limit is run, unless memory is wanting.
     ensures complete { IsRun (map string_bytes words.now) → (port : PortValue) (start : Config) (lists : CallerLists)
-        → length bytes.now ≤ 1048576 → IsRunDocument bytes.now port start lists
+        → length bytes.now ≤ document_limit → IsRunDocument bytes.now port start lists
         → (result.status ≡ Status.Done) ⊎ (result.status ≡ Status.NoMemory) }
 {
+    pieces_are_kept_as_one();
     match SureSource::new(alloc, bytes) {
         Ok(mut input) => run(rt, alloc, words, &mut input, out, &NoGate),
         Err(_) => end_with(Status::NoMemory),

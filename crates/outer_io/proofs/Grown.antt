@@ -1,10 +1,11 @@
 -- Lemmas on bytes that grow a piece at a time.
-use Rattle.std.proofs.Common.{◌≡◌, ℕ, ◌+◌, ◌≤◌, List, take, drop, length, ◌++◌, ap, sym, ◌∙◌, append_assoc}
+use Rattle.std.proofs.Common.{◌≡◌, ℕ, ◌+◌, ◌≤◌, List, take, drop, length, ◌++◌, ap, sym, subst, ◌∙◌, append_assoc}
 use Rattle.std.specs.declared.option.Option.{Option}
 use Rattle.std.specs.declared.option.Option.TheVariants.{Some, None}
 use Rattle.std.proofs.Math.Seq.{take-add}
-use Rattle.std.proofs.lemmas.List.{length-append, length-take-le}
+use Rattle.std.proofs.lemmas.List.{length-append, length-take-le, take-append-le}
 use Rattle.outer_io.specs.Told.{Grows}
+use Rattle.outer_io.specs.Calls.{Passed, more}
 
 -- a front, and then a front of what is left, make a longer front
 pub Grows-take : (old mid new : Option (List ℕ)) (bytes piece : List ℕ) (from taken : ℕ) → piece ≡ drop from bytes → Grows old mid (take from bytes) → Grows mid new (take taken piece) → Grows old new (take (from + taken) bytes)
@@ -17,3 +18,12 @@ Grows-take (Some x) (Some y) (Some z) bytes piece from taken e p q =
 -- the number of bytes got, with a piece of which only the front was filled
 pub length-append_take : (xs ys : List ℕ) (n : ℕ) → n ≤ length ys → length (xs ++ take n ys) ≡ length xs + n
 length-append_take xs ys n h = length-append xs (take n ys) ∙ ap (λ k. length xs + k) (length-take-le n ys h)
+
+-- the same of what writes did, one after another
+pub Passed-take : {T : Type 0} {passes : T → List ℕ → T → Type 0} {first mid last : T} (bytes piece : List ℕ) (from taken : ℕ) → piece ≡ drop from bytes → Passed passes first (take from bytes) mid → passes mid (take taken piece) last → Passed passes first (take (from + taken) bytes) last
+Passed-take {T} {passes} {first} {mid} {last} bytes piece from taken e before now =
+    subst (λ all. Passed passes first all last) (ap (λ l. take from bytes ++ take taken l) e ∙ sym (take-add from taken bytes)) (more before now)
+
+-- a piece of which only the front was filled, read from a longer one
+pub got_front : (bytes piece rest : List ℕ) (n : ℕ) → n ≤ length piece → bytes ++ take n piece ≡ bytes ++ take n (piece ++ rest)
+got_front bytes piece rest n h = ap (λ l. bytes ++ l) (sym (take-append-le n piece rest h))

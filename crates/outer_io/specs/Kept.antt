@@ -1,7 +1,8 @@
 -- What a sink of a fixed room keeps of what it is given.
-use Rattle.std.specs.Prelude.{ℕ, ◌+◌, ◌-◌, List, [], ◌++◌, length, take, Bool, true, ◌&&◌, nat_le, if◌then◌else◌}
+use Rattle.std.specs.Prelude.{◌≡◌, ℕ, ◌-◌, List, [], ◌++◌, length, take, Bool, true, ◌&&◌, nat_le, if◌then◌else◌}
 use Rattle.std.specs.declared.option.Option.{Option}
 use Rattle.std.specs.declared.option.Option.TheVariants.{Some, None}
+use Rattle.outer_io.specs.Calls.{Passed}
 
 -- the room in bytes, the bytes kept, and whether these are all that it was given
 pub record Kept : Type 0 where
@@ -18,9 +19,17 @@ abbrev pub kept_after : Kept → List ℕ → Kept
 kept_after kept piece = record {
   room = kept.room;
   bytes = kept.bytes ++ take (kept.room - length kept.bytes) piece;
-  is_whole = kept.is_whole && nat_le (length kept.bytes + length piece) kept.room;
+  is_whole = kept.is_whole && nat_le (length piece) (kept.room - length kept.bytes);
 }
+
+-- what a write of these bytes makes of the sink
+abbrev pub KeepsPiece : Kept → List ℕ → Kept → Type 0
+KeepsPiece old piece new = new ≡ kept_after old piece
 
 -- the bytes are told while none was dropped
 abbrev pub written_of : Kept → Option (List ℕ)
 written_of kept = if kept.is_whole then Some kept.bytes else None
+
+-- what is kept of a text does not depend on how it is cut into pieces
+abbrev pub PiecesAreKeptAsOne : Type 0
+PiecesAreKeptAsOne = (old new : Kept) (bytes : List ℕ) → Passed KeepsPiece old bytes new → new ≡ kept_after old bytes

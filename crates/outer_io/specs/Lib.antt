@@ -1,4 +1,6 @@
 pub mod Told
-pub mod Refused
+pub mod Calls
+pub mod Readings
+pub mod Writings
 pub mod Kept
 pub mod Counted

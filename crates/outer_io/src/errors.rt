@@ -1,3 +1,6 @@
+ghost use Rattle.std.specs.Prelude.{◌≡◌};
+ghost use Rattle.outer_io.specs.declared.errors.ReadError.TheVariants as read_error;
+
 use std::alloc::{AllocError, AllocFailed};
 
 /// No memory was left.
@@ -33,4 +36,12 @@ pub enum ReadError {
     TooLong,
     /// No memory was left for the bytes.
     NoMemory,
+}
+
+impl From<AllocError> for ReadError {
+    ghost from_gives = { λ _ error. error ≡ read_error.NoMemory };
+
+    fn from(_error: AllocError) -> ReadError {
+        ReadError::NoMemory
+    }
 }

@@ -1,9 +1,10 @@
-ghost use Rattle.std.specs.Prelude.{◌≡◌, ℕ, ◌+◌, ◌<◌, ◌≤◌, List, length, IfOk, OnOk, IfErr, OnErr, IsErrOf};
+ghost use Rattle.std.specs.Prelude.{◌≡◌, ℕ, ◌<◌, ◌≤◌, List, length, ⊤, IfOk, IfErr, OnErr, IsErrOf};
 ghost use Rattle.std.specs.declared.option.Option.{Option};
 ghost use Rattle.std.specs.Io.{ReadsAtMost};
-ghost use Rattle.std.specs.Io.KnownBytes.{ReadConsumes, Consumes, IsAtEnd};
+ghost use Rattle.std.specs.Io.KnownBytes.{ReadConsumes};
 ghost use Rattle.outer_io.specs.Told.{Rose};
-ghost use Rattle.outer_io.specs.Refused.{IsGotAt};
+ghost use Rattle.outer_io.specs.Calls.{Calls};
+ghost use Rattle.outer_io.specs.Readings.{ReadsWhole, ReadsUpTo};
 
 use crate::errors::{Failed, ReadError};
 use std::alloc::Global;
@@ -17,6 +18,12 @@ pub trait Source {
     /// How often a read failed. The count never falls, and may stay at 2^64 - 1, its last value.
     ghost faults: { Self → ℕ };
 
+    /// What a read that gave these bytes may make of the source. A source that does not say lets it be anything.
+    ghost gives: { Self → List ℕ → Self → Type 0 } = { λ _ _ _. ⊤ };
+
+    /// What a read that failed may make of the source. A source that does not say lets it be anything.
+    ghost fails: { Self → Self → Type 0 } = { λ _ _. ⊤ };
+
     /// Reads some of the bytes that are left into the front of `piece`, and gives their number.
     ///
     /// 0 is the end of input. After a failure the bytes that are left are those that were left before.
@@ -24,6 +31,7 @@ pub trait Source {
         requires { 0 < length piece.old }
         ensures bound { ReadsAtMost result piece.new }
         ensures bytes { ReadConsumes (left self.old) (left self.new) result piece.new }
+        ensures call { Calls gives fails self.old self.new result piece.new }
         ensures never_falls { faults self.old ≤ faults self.new }
         ensures cause { OnErr result (Rose (faults self.old) (faults self.new)) };
 }
@@ -54,8 +62,8 @@ const PIECE: usize = 4096;
 
 /// Reads a source to its end, and gives its bytes, which are at most `limit`.
 ///
-/// It asks for at most one byte above the limit, so that it knows of a longer source without reading all of it. After
-/// a refusal the source stands behind the bytes that were got.
+/// It asks for at most one byte above the limit, so that it knows of a longer source without reading all of it. A read
+/// that fails is the last one. After a refusal the source stands behind the bytes that were got.
 ///
 /// # Errors
 ///
@@ -65,11 +73,9 @@ pub fn read_document<S: Source>(
     source: &mut S,
     limit: u32,
 ) -> Result<Document, ReadError>
-    ensures all { IfOk result (λ document. Consumes (S.left source.old) (S.left source.new) document) }
-    ensures end { OnOk result (IsAtEnd (S.left source.new)) }
-    ensures within { IfOk result (λ document. length document ≤ limit) }
+    ensures whole { IfOk result (ReadsWhole S.left S.gives limit source.old source.new) }
+    ensures refused { IfErr result (λ error. (got : List ℕ) × ReadsUpTo S.left S.gives S.fails limit error source.old source.new got) }
 
-    ensures refused { IfErr result (λ error. (got : List ℕ) × Consumes (S.left source.old) (S.left source.new) got × IsGotAt limit error (length got)) }
     ensures never_falls { S.faults source.old ≤ S.faults source.new }
     ensures fault { IsErrOf result ReadError.ReadFault → Rose (S.faults source.old) (S.faults source.new) }
 {
@@ -88,8 +94,6 @@ pub fn read_document<S: Source>(
         if bytes.len() + got > most {
             return Err(ReadError::TooLong);
         }
-        if bytes.extend_from_slice(&piece[..got]).is_err() {
-            return Err(ReadError::NoMemory);
-        }
+        bytes.extend_from_slice(&piece[..got])?;
     }
 }

@@ -1,6 +1,6 @@
 ghost use Rattle.std.specs.Prelude.{◌≡◌, ◌<◌, ◌≤◌, length, IfOk, OnOk, OnErr};
 ghost use Rattle.std.specs.declared.option.Option.TheVariants.{None};
-ghost use Rattle.std.specs.Io.KnownBytes.{WriteAppends};
+ghost use Rattle.std.specs.Io.KnownBytes.{WriteAppends, Appends, Keeps};
 ghost use Rattle.outer_io.specs.Counted.{one_more};
 
 use crate::errors::Failed;
@@ -36,6 +36,10 @@ impl<T: Write + Drop> Sink for StdSink<T> {
     ghost written = { λ _. None };
 
     ghost faults = { λ counted. counted.faults };
+
+    ghost takes = { λ old bytes new. Appends (T.contents old.inner) (T.contents new.inner) bytes × (new.faults ≡ old.faults) };
+
+    ghost fails = { λ old new. Keeps (T.contents old.inner) (T.contents new.inner) × (new.faults ≡ one_more old.faults) };
 
     /// Writes once. An error of the writer, or a write that took nothing, raises the count, which stays once it
     /// stands at its last value.

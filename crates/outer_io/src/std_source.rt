@@ -1,7 +1,7 @@
 ghost use Rattle.std.specs.Prelude.{◌≡◌, ◌<◌, ◌≤◌, length, OnOk, OnErr};
 ghost use Rattle.std.specs.declared.option.Option.TheVariants.{None};
 ghost use Rattle.std.specs.Io.{ReadsAtMost};
-ghost use Rattle.std.specs.Io.KnownBytes.{ReadConsumes};
+ghost use Rattle.std.specs.Io.KnownBytes.{ReadConsumes, Consumes, Keeps};
 ghost use Rattle.outer_io.specs.Counted.{one_more};
 
 use crate::errors::Failed;
@@ -37,6 +37,10 @@ impl<T: Read + Drop> Source for StdSource<T> {
     ghost left = { λ _. None };
 
     ghost faults = { λ counted. counted.faults };
+
+    ghost gives = { λ old bytes new. Consumes (T.remaining old.inner) (T.remaining new.inner) bytes × (new.faults ≡ old.faults) };
+
+    ghost fails = { λ old new. Keeps (T.remaining old.inner) (T.remaining new.inner) × (new.faults ≡ one_more old.faults) };
 
     /// Reads once. An error of the reader raises the count, which stays once it stands at its last value.
     fn read(&mut self, piece: &mut [u8]) -> Result<usize, Failed>

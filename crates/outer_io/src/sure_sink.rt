@@ -1,5 +1,5 @@
 ghost use Rattle.std.specs.Prelude.{◌≡◌, ◌<◌, ◌↔◌, length, IfOk, IsTrue, IsSome};
-ghost use Rattle.outer_io.specs.Kept.{nothing_kept, kept_after, written_of};
+ghost use Rattle.outer_io.specs.Kept.{nothing_kept, kept_after, KeepsPiece, written_of, PiecesAreKeptAsOne};
 
 use crate::errors::{Failed, NoMemory};
 use crate::writing::Sink;
@@ -62,6 +62,10 @@ impl Sink for SureSink {
 
     ghost faults = { λ _. 0 };
 
+    ghost takes = { KeepsPiece };
+
+    ghost fails = { λ _ _. ⊥ };
+
     /// Takes the piece whole, and drops the bytes of it that no longer fit.
     fn write(&mut self, piece: &[u8]) -> Result<usize, Failed>
         requires { 0 < length piece.now }
@@ -78,3 +82,8 @@ impl Sink for SureSink {
         Ok(piece.len())
     }
 }
+
+/// A text that goes to a `SureSink` in several writes leaves it as one write of the whole text does.
+pub fn pieces_are_kept_as_one()
+    ensures { PiecesAreKeptAsOne }
+{}

@@ -1,4 +1,4 @@
-ghost use Rattle.std.specs.Prelude.{◌≡◌, length, take, min, IfOk};
+ghost use Rattle.std.specs.Prelude.{◌≡◌, ◌++◌, length, take, min, IfOk};
 ghost use Rattle.std.specs.declared.option.Option.TheVariants.{Some};
 
 use crate::errors::{Failed, NoMemory};
@@ -37,6 +37,10 @@ impl Source for SureSource {
     ghost left = { λ bytes. Some bytes };
 
     ghost faults = { λ _. 0 };
+
+    ghost gives = { λ old bytes new. old ≡ bytes ++ new };
+
+    ghost fails = { λ _ _. ⊥ };
 
     fn read(&mut self, piece: &mut [u8]) -> Result<usize, Failed> {
         let count = copy_front(piece, &self.bytes[self.from..]);

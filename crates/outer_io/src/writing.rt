@@ -1,6 +1,8 @@
-ghost use Rattle.std.specs.Prelude.{◌≡◌, ℕ, ◌<◌, ◌≤◌, List, [], length, IfOk, OnOk, OnErr};
+ghost use Rattle.std.specs.Prelude.{◌≡◌, ℕ, ◌<◌, ◌≤◌, List, [], length, ⊤, IfOk, OnOk, OnErr};
 ghost use Rattle.std.specs.declared.option.Option.{Option};
-ghost use Rattle.outer_io.specs.Told.{Rose, Grows, GrowsByFront, TakesFront};
+ghost use Rattle.outer_io.specs.Told.{Rose, TakesFront};
+ghost use Rattle.outer_io.specs.Calls.{Calls};
+ghost use Rattle.outer_io.specs.Writings.{WritesAll, WritesFront};
 
 use crate::errors::{Failed, WriteFault};
 
@@ -14,6 +16,12 @@ pub trait Sink {
     /// How often a write failed. The count never falls, and may stay at 2^64 - 1, its last value.
     ghost faults: { Self → ℕ };
 
+    /// What a write that took these bytes may make of the sink. A sink that does not say lets it be anything.
+    ghost takes: { Self → List ℕ → Self → Type 0 } = { λ _ _ _. ⊤ };
+
+    /// What a write that failed may make of the sink. A sink that does not say lets it be anything.
+    ghost fails: { Self → Self → Type 0 } = { λ _ _. ⊤ };
+
     /// Takes at least one byte from the front of `piece`, and gives the number of bytes taken.
     ///
     /// After a failure none of them was taken.
@@ -21,22 +29,23 @@ pub trait Sink {
         requires { 0 < length piece.now }
         ensures bound { IfOk result (λ taken. (1 ≤ taken) × (taken ≤ length piece.now)) }
         ensures bytes { TakesFront (written self.old) (written self.new) result piece.now }
+        ensures call { Calls takes fails self.old self.new result piece.now }
         ensures never_falls { faults self.old ≤ faults self.new }
         ensures cause { OnErr result (Rose (faults self.old) (faults self.new)) };
 }
 
 /// Writes all the bytes, or those up to the first write that fails.
 ///
-/// Each write is given all the bytes that are left. With no byte there is no write.
+/// Each write is given all the bytes that are left, and one that fails is the last. With no byte there is no write.
 ///
 /// # Errors
 ///
 /// `WriteFault` where a write failed. A front of the bytes was written then.
 pub fn write_all<K: Sink>(sink: &mut K, bytes: &[u8]) -> Result<(), WriteFault>
-    ensures all { OnOk result (Grows (K.written sink.old) (K.written sink.new) bytes.now) }
+    ensures all { OnOk result (WritesAll K.written K.takes sink.old sink.new bytes.now) }
     ensures nothing { bytes.now ≡ [] → sink.new ≡ sink.old }
 
-    ensures front { OnErr result (GrowsByFront (K.written sink.old) (K.written sink.new) bytes.now) }
+    ensures front { OnErr result (WritesFront K.written K.takes K.fails sink.old sink.new bytes.now) }
     ensures never_falls { K.faults sink.old ≤ K.faults sink.new }
     ensures fault { OnErr result (Rose (K.faults sink.old) (K.faults sink.new)) }
 {

@@ -1,3 +1,4 @@
+pub mod LineLemmas
 pub mod Scanning
 pub mod Standing
 pub mod Blanks

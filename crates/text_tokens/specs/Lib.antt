@@ -1,4 +1,5 @@
 pub mod Kinds
+pub mod Lines
 pub mod Text
 pub mod Scan
 pub mod Cursor

@@ -4,6 +4,7 @@
 mod combinators;
 mod examples;
 mod laws;
+mod lines;
 pub mod nested;
 mod refusal;
 mod token;
@@ -15,6 +16,7 @@ pub use combinators::{
 };
 pub use examples::{agreement_is_needed, journal_is_decided, nested_is_decided};
 pub use laws::{small_texts, spans_rise, tokens_are_cut, tokens_are_one};
+pub use lines::{Lines, Text, lines_add_up};
 pub use refusal::{ReadRefusal, Refusal, RefusalKind};
 pub use token::{Token, TokenKind};
 pub use tokens::Tokens;

@@ -12,13 +12,13 @@ use Rattle.amoebot_run.proofs.serial.run_serially.Goals.{then-callers-eq0, else-
 
 pub loop-turn-init : goal.loop-turn-init
 loop-turn-init g c = record {
-  run = same_so_far c.new-serial.result c.args.world c.reserve.new.self c.in_ok-marks.marks (ap (λ m. marks_of m 0) c.in_ok-marks.ensures ∙ marks_of-none c.callers-2.result c.if-callers-eq0.turns) (c.reserve.ensures.entries ∙ c.in_ok-journal.ensures.entries) c.new-serial.ensures;
-  first = c.reserve.ensures.first ∙ c.in_ok-journal.ensures.first;
+  run = same_so_far c.new-serial.result c.args.world c.reserve.new.self c.in_ok-marks.marks (ap (λ m. marks_of m 0) c.in_ok-marks.ensures ∙ marks_of-none c.callers-2.result c.if-callers-eq0.turns) (ap (λ j. j.entries) c.in_ok-reserve.ensures.ok ∙ c.in_ok-journal.ensures.entries) c.new-serial.ensures;
+  first = ap (λ j. j.first) c.in_ok-reserve.ensures.ok ∙ c.in_ok-journal.ensures.first;
   bots = subst (λ w. HaveBots (length w.bots) c.args.lists.now) (sym c.new-serial.ensures) c.requires.bots;
   kept = c.callers.ensures.lists;
   caller = elim c.if-callers-eq0.branch [ then-callers-eq0 w ↦ λ some. omega arith | else-callers-eq0 w ↦ λ some. omega arith ];
-  entries = omega (arith, ap length c.reserve.ensures.entries, ap length c.in_ok-journal.ensures.entries);
-  spare = omega (arith, c.in_ok-reserve.ensures.ok);
+  entries = omega (arith, ap (λ j. length j.entries) c.in_ok-reserve.ensures.ok, ap length c.in_ok-journal.ensures.entries);
+  spare = omega (arith, ap (λ j. j.spare) c.in_ok-reserve.ensures.ok);
   all_turns = ap (λ m. m.turns) c.in_ok-marks.ensures;
   callers = ap (λ m. length m.marks) c.in_ok-marks.ensures ∙ length-replicate _ _ ∙ c.callers-2.ensures.value;
   marked = ap (λ m. length (marks_of m 0)) c.in_ok-marks.ensures ∙ ap length (marks_of-none c.callers-2.result c.if-callers-eq0.turns);

@@ -1,12 +1,31 @@
-use Rattle.std.proofs.Common.{arith}
+use Rattle.std.proofs.Common.{arith, rules, refl}
+use Rattle.std.proofs.lemmas.Grind.{common_steps}
 use Rattle.std.proofs.lemmas.List.{take_rest}
-use Rattle.outer_io.proofs.Grown.{Grows-take}
+use Rattle.outer_io.specs.Calls.{none}
+use Rattle.outer_io.proofs.Grown.{Grows-take, Passed-take}
 use Rattle.outer_io.proofs.writing.write_all.Goals as goal
+
+pub loop-from-init : goal.loop-from-init
+loop-from-init g c = record {
+  in_range = omega arith;
+  front = search rules;
+  writes = none;
+  nothing = λ _. refl;
+  never_falls = omega arith;
+}
 
 pub loop-from-preserved : goal.loop-from-preserved
 loop-from-preserved g c = record {
   in_range = omega (arith, c.in-Ok.ensures.bound.1);
   front = Grows-take _ _ _ c.args.bytes.now _ c.loop-from.from c.in-Ok.taken (take_rest c.args.bytes.now c.loop-from.from) c.loop-from.invariant.front c.in-Ok.ensures.bytes;
+  writes = Passed-take c.args.bytes.now _ c.loop-from.from c.in-Ok.taken (take_rest c.args.bytes.now c.loop-from.from) c.loop-from.invariant.writes c.in-Ok.ensures.call;
   nothing = λ none. absurd (omega (arith, c.in-Ok.ensures.bound.0));
   never_falls = omega arith;
+}
+
+pub returns-in-Err-clause-front : goal.returns-in-Err-clause-front
+returns-in-Err-clause-front g c = record {
+  told = (c.loop-from.from, grind (arith, common_steps));
+  count = c.loop-from.from;
+  writes = record { before = c.loop-from.sink; passed = c.loop-from.invariant.writes; failed = c.in-Err.ensures.call };
 }
