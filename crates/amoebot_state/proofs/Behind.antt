@@ -1,5 +1,5 @@
--- Local and global directions, what lies behind ports, and what the gap configuration shows.
-use Rattle.std.proofs.Common.{◌≡◌, ◌<◌, ◌++◌, map, true, subst, filter}
+-- What lies behind ports is in the zone.
+use Rattle.std.proofs.Common.{◌≡◌, ◌<◌, ◌++◌, map, true, filter}
 use Rattle.std.proofs.lemmas.Bool.{and_parts, ltb-true}
 use Rattle.tri_lattice.specs.Lattice.{node_eq}
 use Rattle.tri_lattice.specs.Extent.{Extent, is_in}
@@ -7,19 +7,12 @@ use Rattle.tri_lattice.proofs.Nodes.{node_eq-true}
 use Rattle.amoebot_state.specs.declared.bot.Bot.{Bot}
 use Rattle.amoebot_state.specs.declared.bot.Port.{Port}
 use Rattle.amoebot_state.specs.Ports.{is_port, all_ports, ports, behind, own_nodes}
-use Rattle.amoebot_state.specs.Configs.{bot_at}
-use Rattle.amoebot_state.specs.Zones.{Shown, zone, zone_nodes, shown, gap}
-use Rattle.amoebot_state.specs.Laws.{GlobalAndLocalAreInverse, NodeBehindPortIsInZone, OccupantBehindPortIsInZone, GapShowsWhatWasShown, GapHoldsTheSame}
-use Rattle.amoebot_state.proofs.Members.{Has, Has-filter, Has-map, Has-distinct, Has-append_right, Contains-from_Has, Has-from_Contains}
-use Rattle.amoebot_state.proofs.Directions.{listed, global_below, global_local, local_global}
-use Rattle.amoebot_state.proofs.Options.{there_is}
+use Rattle.amoebot_state.specs.Zones.{zone, zone_nodes}
+use Rattle.amoebot_state.specs.Laws.{NodeBehindPortIsInZone, OccupantBehindPortIsInZone}
+use Rattle.amoebot_state.proofs.Members.{Has, Has-filter, Has-map, Has-distinct, Has-append_right, Contains-from_Has}
+use Rattle.amoebot_state.proofs.Directions.{listed}
 use Rattle.amoebot_state.proofs.Occupants.{occupant_covers, covered_in}
-use Rattle.amoebot_state.proofs.Gaps.{spot_in_zone, body_in_zone, gap_shows, gap_value}
-
-pub global_and_local_are_inverse : GlobalAndLocalAreInverse
-global_and_local_are_inverse b d rot below =
-    let back = global_local b d rot below in
-    (global_below b d, back.0, local_global b d rot below, back.1)
+use Rattle.amoebot_state.proofs.Gaps.{spot_in_zone, body_in_zone}
 
 -- the node behind a port is one of the zone's, if it lies in the area
 behind_in_nodes : (a : Extent) (b : Bot) (p : Port) → is_port b p ≡ true → is_in a (behind b p) ≡ true → Has (behind b p) (zone_nodes a b)
@@ -36,13 +29,3 @@ pub occupant_behind_port_is_in_zone : OccupantBehindPortIsInZone
 occupant_behind_port_is_in_zone c i j b p valid at port by =
     let inside = covered_in c valid j (behind b p) (occupant_covers c (behind b p) j by) in
     Contains-from_Has (zone c i) (body_in_zone c i b (behind b p) j at (behind_in_nodes c.area b p port inside) by)
-
-pub gap_shows_what_was_shown : GapShowsWhatWasShown
-gap_shows_what_was_shown s (c, valid, has, e) =
-    let b = there_is (bot_at c s.bot) has in
-    subst (λ (t : Shown). shown (gap t) s.bot ≡ t) e (gap_shows c s.bot b.0 valid b.1)
-
-pub gap_holds_the_same : GapHoldsTheSame
-gap_holds_the_same c i n valid has listed =
-    let b = there_is (bot_at c i) has in
-    gap_value c i b.0 valid b.1 n (Has-from_Contains (zone c i) listed)

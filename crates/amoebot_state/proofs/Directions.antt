@@ -12,7 +12,7 @@ use Rattle.amoebot_state.specs.declared.bot.Chir.{Chir}
 use Rattle.amoebot_state.specs.declared.bot.Chir.TheVariants as chir
 use Rattle.amoebot_state.specs.declared.bot.End.{End}
 use Rattle.amoebot_state.specs.declared.bot.End.TheVariants.{Head, Tail}
-use Rattle.amoebot_state.specs.Laws.{PortLeadsBeside}
+use Rattle.amoebot_state.specs.Laws.{GlobalAndLocalAreInverse, PortLeadsBeside}
 use Rattle.amoebot_state.specs.Ports.{global_by, local_by, global, local, end_node, is_head, is_own, is_contracted, is_port, port, behind, all_ports, ports, own_nodes, is_beside}
 use Rattle.amoebot_state.proofs.Members.{Has, here, later, Has-filter, Has-map, Has-distinct, Has-append_left, Has-append_right}
 use Rattle.amoebot_state.proofs.Owns.{own_cases}
@@ -44,6 +44,11 @@ global_local b d lr ld = (local_below b.chir b.rot d lr ld, turned_local b.chir 
 
 pub local_global : (b : Bot) (i : ℕ) → b.rot < 6 → i < 6 → local b (global b i) ≡ i
 local_global b i lr li = local_turned b.chir b.rot i lr li
+
+pub global_and_local_are_inverse : GlobalAndLocalAreInverse
+global_and_local_are_inverse b d rot below =
+    let back = global_local b d rot below in
+    (global_below b d, back.0, local_global b d rot below, back.1)
 
 -- each pair of an end and a local direction is listed
 pub listed : (e : End) (i : ℕ) → i < 6 → Has (port e i) all_ports

@@ -14,6 +14,8 @@ use Rattle.amoebot_state.specs.declared.cell.Cell.TheVariants as cell
 use Rattle.amoebot_state.specs.Configs.{Config, IsValid, bot_at, occupant, covers, value}
 use Rattle.amoebot_state.specs.Zones.{Shown, shown, shown_cell, zone, zone_at, zone_of, zone_nodes, others, with_id, spread, gap}
 use Rattle.amoebot_state.specs.Pairs.{body_in}
+use Rattle.amoebot_state.specs.Laws.{GapShowsWhatWasShown, GapHoldsTheSame}
+use Rattle.amoebot_state.proofs.Options.{there_is}
 use Rattle.amoebot_state.proofs.Members.{Has, here, later, has_cases, not_in_none, Has-map, map_has, Has-append_left, Has-append_right, Has-append_cases, Has-from_Contains, filter_map-same}
 use Rattle.amoebot_state.proofs.Occupants.{occupant_at, occupant_none, nobody_covers, occupant_covers}
 use Rattle.amoebot_state.proofs.Zones.{occupant_in_zone, zone_is_determined, zone_nodes_inside}
@@ -167,3 +169,13 @@ gap_shows c i b valid e =
 -- the nodes of the zone lie in the area
 pub zone_inside : (c : Config) (i : ℕ) (b : Bot) (v : Node) → IsValid c → bot_at c i ≡ Some b → Has (name.Spot v) (zone c i) → is_in c.area v ≡ true
 zone_inside c i b v valid e has = zone_nodes_inside c.area b v (valid.each i b e).head (valid.each i b e).tail (spot_node c i b v e has)
+
+pub gap_shows_what_was_shown : GapShowsWhatWasShown
+gap_shows_what_was_shown s (c, valid, has, e) =
+    let b = there_is (bot_at c s.bot) has in
+    subst (λ (t : Shown). shown (gap t) s.bot ≡ t) e (gap_shows c s.bot b.0 valid b.1)
+
+pub gap_holds_the_same : GapHoldsTheSame
+gap_holds_the_same c i n valid has listed =
+    let b = there_is (bot_at c i) has in
+    gap_value c i b.0 valid b.1 n (Has-from_Contains (zone c i) listed)

@@ -1,4 +1,4 @@
-use Rattle.amoebot_state.proofs.Behind.{global_and_local_are_inverse}
+use Rattle.amoebot_state.proofs.Directions.{global_and_local_are_inverse}
 use Rattle.amoebot_state.proofs.laws.global_and_local_are_inverse.Goals as goal
 
 pub returns : goal.returns
