@@ -9,7 +9,7 @@ use Rattle.tri_lattice.specs.Extent.{Extent, index_of, is_in}
 use Rattle.tri_lattice.proofs.Boxes.{index_below}
 use Rattle.amoebot_state.specs.declared.bot.Bot.{Bot}
 use Rattle.amoebot_state.specs.Ports.{is_own}
-use Rattle.amoebot_state.specs.Configs.{Config, config_of, with_bot, IsBot, IsValid, IsGrid, IsWorld, bot_at, occupant, covers, is_joined, has_values}
+use Rattle.amoebot_state.specs.Configs.{Config, config_of, with_bot, IsBot, IsValid, IsGrid, IsWorld, bot_at, occupant, covers, is_close, has_values}
 use Rattle.amoebot_state.specs.Storage.{put_at}
 use Rattle.amoebot_state.specs.Refusals.{bot_fault, IsPlain, IsFaultless}
 use Rattle.tri_lattice.proofs.Nodes.{cases_node}
@@ -36,12 +36,12 @@ pub no_fault : (c : Config) (b : Bot) → IsPlain b → bot_fault c b ≡ None �
 no_fault c b plain h =
     let one = passes (is_in c.area b.head && is_in c.area b.tail) _ _ h in
     let ins = and_parts _ _ one.0 in
-    let two = passes (is_joined b.head b.tail) _ _ one.1 in
+    let two = passes (is_close b.head b.tail) _ _ one.1 in
     let three = blocks (is_some (occupant c b.head) || is_some (occupant c b.tail)) _ _ two.1 in
     let free = or_parts _ _ three.0 in
     let four = passes (has_values c.maxes b.mem) _ _ three.1 in
     record {
-      fits = record { head = ins.0; tail = ins.1; joined = two.0; rot = plain.rot; values = four.0; eight = plain.eight };
+      fits = record { head = ins.0; tail = ins.1; close = two.0; rot = plain.rot; values = four.0; eight = plain.eight };
       head_free = none_if _ free.0;
       tail_free = none_if _ free.1;
     }

@@ -12,7 +12,7 @@ use Rattle.amoebot_state.specs.Laws.{NodeBehindPortIsInZone, OccupantBehindPortI
 use Rattle.amoebot_state.proofs.Members.{Has, Has-filter, Has-map, Has-distinct, Has-append_right, Contains-from_Has}
 use Rattle.amoebot_state.proofs.Directions.{listed}
 use Rattle.amoebot_state.proofs.Occupants.{occupant_covers, covered_in}
-use Rattle.amoebot_state.proofs.Gaps.{spot_in_zone, body_in_zone}
+use Rattle.amoebot_state.proofs.Zones.{spot_in_zone, body_in_zone}
 
 -- the node behind a port is one of the zone's, if it lies in the area
 behind_in_nodes : (a : Extent) (b : Bot) (p : Port) → is_port b p ≡ true → is_in a (behind b p) ≡ true → Has (behind b p) (zone_nodes a b)

@@ -17,7 +17,7 @@ use Rattle.amoebot_state.specs.declared.bot.Chir.{Chir}
 use Rattle.amoebot_state.specs.declared.bot.Chir.TheVariants as chir
 use Rattle.amoebot_state.specs.declared.cell.CellName.TheVariants as name
 use Rattle.amoebot_state.specs.Ports.{ports, behind, own_nodes, is_contracted}
-use Rattle.amoebot_state.specs.Configs.{Config, IsValid, bot_at, occupant, covers, is_joined}
+use Rattle.amoebot_state.specs.Configs.{Config, IsValid, bot_at, occupant, covers, is_close}
 use Rattle.amoebot_state.specs.Zones.{distinct, zone_at, zone_of, zone_nodes, others}
 use Rattle.amoebot_state.specs.Laws.{ContractedHasSixPorts, ExpandedHasTenPorts, SixPortsLeadToSixNodes, TenPortsLeadToEightNodes, is_spot, is_body, ZoneHasAtMostTenNodes, ZoneHasAtMostNineBodies}
 use Rattle.amoebot_state.proofs.Distinct.{filter_needless}
@@ -111,13 +111,13 @@ own_then_few a b =
     (rest, whole, omega (arith, few, same, length-filter-le (is_in a) (distinct node_eq nodes)))
 
 -- they are at most eight
-at_most_eight_reached : (b : Bot) → b.rot < 6 → IsTrue (is_joined b.head b.tail) → length (reached b) ≤ 8
+at_most_eight_reached : (b : Bot) → b.rot < 6 → IsTrue (is_close b.head b.tail) → length (reached b) ≤ 8
 at_most_eight_reached b rot joined = elim (or_cases _ _ joined) [
   | inl t ↦ let six = six_ports_lead_to_six_nodes b rot (node_eq-true b.head b.tail t) in omega (arith, six)
   | inr t ↦ let eight = ten_ports_lead_to_eight_nodes b rot (is_adjacent-true b.head b.tail t) in omega (arith, eight)
 ]
 
-at_most_ten_nodes : (a : Extent) (b : Bot) → b.rot < 6 → IsTrue (is_joined b.head b.tail) → length (zone_nodes a b) ≤ 10
+at_most_ten_nodes : (a : Extent) (b : Bot) → b.rot < 6 → IsTrue (is_close b.head b.tail) → length (zone_nodes a b) ≤ 10
 at_most_ten_nodes a b rot joined =
     let (rest, whole, few) = own_then_few a b in
     omega (arith, ap length whole, length-append (own_nodes b) rest, length-own_nodes-le b, few, at_most_eight_reached b rot joined)
@@ -144,7 +144,7 @@ at_most_eight_others c i b valid at =
     let fits = valid.each i b at in
     let (rest, whole, few) = own_then_few c.area b in
     let same : others (occupant c) i (zone_nodes c.area b) ≡ others (occupant c) i rest = ap (others (occupant c) i) whole ∙ others_beyond c i b rest valid at in
-    omega (arith, ap length same, length-others-le (occupant c) i rest, few, at_most_eight_reached b fits.rot fits.joined)
+    omega (arith, ap length same, length-others-le (occupant c) i rest, few, at_most_eight_reached b fits.rot fits.close)
 
 -- how many cells of either kind a zone has
 all_pass : {A B : Type 0} (p : B → Bool) (f : A → B) → ((x : A) → p (f x) ≡ true) → (xs : List A) → length (filter p (map f xs)) ≡ length xs
@@ -178,7 +178,7 @@ zone_has_at_most_ten_nodes c i valid = elim (bot_at c i) as (λ o. bot_at c i �
   | None ↦ λ _. omega arith
   | Some b ↦ λ at.
       let fits = valid.each i b at in
-      omega (arith, spots_of (occupant c) i (zone_nodes c.area b), at_most_ten_nodes c.area b fits.rot fits.joined)
+      omega (arith, spots_of (occupant c) i (zone_nodes c.area b), at_most_ten_nodes c.area b fits.rot fits.close)
 ] refl
 
 pub zone_has_at_most_nine_bodies : ZoneHasAtMostNineBodies

@@ -15,7 +15,7 @@ use Rattle.amoebot_state.specs.declared.cell.CellName.{CellName}
 use Rattle.amoebot_state.specs.declared.cell.CellName.TheVariants as name
 use Rattle.amoebot_state.specs.declared.cell.Cell.{Cell}
 use Rattle.amoebot_state.specs.declared.cell.Cell.TheVariants as cell
-use Rattle.amoebot_state.specs.Pairs.{cell_of, value_of}
+use Rattle.amoebot_state.specs.Pairs.{cell_of, cell_value}
 use Rattle.amoebot_state.specs.Configs.{Config, IsValid, bot_at, value}
 use Rattle.amoebot_state.specs.Patches.{same_value, changed, all_cells, diff, rank}
 use Rattle.amoebot_state.specs.Laws.{DiffLeads, OrderedPatchIsDiff}
@@ -49,12 +49,12 @@ told true n y p e = absurd (none-some p e)
 told false n None p e = absurd (none-some p e)
 told false n (Some z) p e = let is = same_Some (n, z) p e in (refl, ap (λ (q : CellName × Cell). q.0) is, ap (λ (q : CellName × Cell). Some q.1) is)
 
-changed_differs : (old new : Config) (n : CellName) (p : CellName × Cell) → changed old new n ≡ Some p → (value new (cell_of p) ≡ Some (value_of p)) × (value old (cell_of p) ≢ Some (value_of p))
+changed_differs : (old new : Config) (n : CellName) (p : CellName × Cell) → changed old new n ≡ Some p → (value new (cell_of p) ≡ Some (cell_value p)) × (value old (cell_of p) ≢ Some (cell_value p))
 changed_differs old new n p e =
     let is = told (same_value (value old n) (value new n)) n (value new n) p e in
     (ap (value new) (sym is.1) ∙ is.2, λ was. both_ways _ is.0 (ap (same_value (value old n)) (is.2 ∙ sym (ap (value old) is.1 ∙ was)) ∙ value_same (value old n)))
 
-listed_differs : (old new : Config) (p : CellName × Cell) → Has p (diff old new) → (value new (cell_of p) ≡ Some (value_of p)) × (value old (cell_of p) ≢ Some (value_of p))
+listed_differs : (old new : Config) (p : CellName × Cell) → Has p (diff old new) → (value new (cell_of p) ≡ Some (cell_value p)) × (value old (cell_of p) ≢ Some (cell_value p))
 listed_differs old new p has = let found = filter_map_has (changed old new) (all_cells old) has in changed_differs old new found.0 p found.2
 
 -- one of all cells that the difference does not list stays
@@ -82,8 +82,8 @@ kept old new was is area size ids (name.Body i) none = elim (cases_lt i (length 
 
 pub diff_leads : DiffLeads
 diff_leads old new was is rest size ids =
-    let Given : CellName × Cell → Type 0 = λ p. value new (cell_of p) ≡ Some (value_of p) in
-    let Differs : CellName × Cell → Type 0 = λ p. value old (cell_of p) ≢ Some (value_of p) in (
+    let Given : CellName × Cell → Type 0 = λ p. value new (cell_of p) ≡ Some (cell_value p) in
+    let Differs : CellName × Cell → Type 0 = λ p. value old (cell_of p) ≢ Some (cell_value p) in (
       record {
         valid = is;
         rest = rest;
@@ -154,19 +154,19 @@ differs_listed old new was is area size (name.Body i) x e differs = elim (cases_
 pub ordered_patch_is_diff : OrderedPatchIsDiff
 ordered_patch_is_diff old new ps was patched ordered differ =
     let area : new.area ≡ old.area = ap (λ (c : Config). c.area) patched.rest in
-    let given : (p : CellName × Cell) → Has p ps → value new (cell_of p) ≡ Some (value_of p) = λ p has. All-contains (λ (q : CellName × Cell). value new (cell_of q) ≡ Some (value_of q)) ps p patched.given (Contains-from_Has ps has) in
-    let differs : (p : CellName × Cell) → Has p ps → value new (cell_of p) ≢ value old (cell_of p) = λ p has e. All-contains (λ (q : CellName × Cell). value old (cell_of q) ≢ Some (value_of q)) ps p differ (Contains-from_Has ps has) (sym e ∙ given p has) in
+    let given : (p : CellName × Cell) → Has p ps → value new (cell_of p) ≡ Some (cell_value p) = λ p has. All-contains (λ (q : CellName × Cell). value new (cell_of q) ≡ Some (cell_value q)) ps p patched.given (Contains-from_Has ps has) in
+    let differs : (p : CellName × Cell) → Has p ps → value new (cell_of p) ≢ value old (cell_of p) = λ p has e. All-contains (λ (q : CellName × Cell). value old (cell_of q) ≢ Some (cell_value q)) ps p differ (Contains-from_Has ps has) (sym e ∙ given p has) in
     let rises : Rising (pair_place old.area) ps = Rising-weaker (λ (p : CellName × Cell). rank (cell_of p)) (pair_place old.area) (λ p q hp hq lt. before_is_lower old new was patched.valid area (cell_of p) (cell_of q) (differs p hp) lt) (Rising-from_increasing (λ (p : CellName × Cell). rank (cell_of p)) ps (AllPairs-from_increasing (map (λ (p : CellName × Cell). rank (cell_of p)) ps) ordered)) in
     Rising-same (pair_place old.area) rises (diff_rises old new)
-    (λ p has. Has-filter_map (changed old new) (all_cells old) (differs_listed old new was patched.valid area patched.size (cell_of p) (value_of p) (given p has) (differs p has)) (changed_is old new p (given p has) (differs p has)))
+    (λ p has. Has-filter_map (changed old new) (all_cells old) (differs_listed old new was patched.valid area patched.size (cell_of p) (cell_value p) (given p has) (differs p has)) (changed_is old new p (given p has) (differs p has)))
     (λ p has.
     let (now, not_was) = listed_differs old new p has in
     let (q, hq, e) = map_has cell_of ps (Has-from_Contains (map cell_of ps) (patch_lists_what_differs old new ps patched (cell_of p) (λ e. not_was (sym e ∙ now)))) in
-    let same : value_of q ≡ value_of p = same_Some (value_of q) (value_of p) (sym (given q hq) ∙ ap (value new) (sym e) ∙ now) in
+    let same : cell_value q ≡ cell_value p = same_Some (cell_value q) (cell_value p) (sym (given q hq) ∙ ap (value new) (sym e) ∙ now) in
     let P : CellName × Cell → Type 0 = λ r. Has r ps in
     subst P (λ i. (sym e i, same i)) hq)
   where
-    changed_is : (old new : Config) (p : CellName × Cell) → value new (cell_of p) ≡ Some (value_of p) → value new (cell_of p) ≢ value old (cell_of p) → changed old new (cell_of p) ≡ Some p
+    changed_is : (old new : Config) (p : CellName × Cell) → value new (cell_of p) ≡ Some (cell_value p) → value new (cell_of p) ≢ value old (cell_of p) → changed old new (cell_of p) ≡ Some p
     changed_is old new p now differs = elim (cases_Bool (same_value (value old (cell_of p)) (value new (cell_of p)))) [
       | inl t ↦ absurd (differs (sym (value_same-true _ _ t)))
       | inr f ↦ ap (λ t. if t then None else option_map (λ z. (cell_of p, z)) (value new (cell_of p))) f ∙ ap (option_map (λ z. (cell_of p, z))) now

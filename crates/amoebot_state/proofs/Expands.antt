@@ -26,10 +26,10 @@ use Rattle.amoebot_state.specs.declared.verdict.Change.{Change}
 use Rattle.amoebot_state.specs.declared.verdict.Moved.TheVariants as moved
 use Rattle.amoebot_state.specs.declared.verdict.Verdict.{Verdict}
 use Rattle.amoebot_state.specs.declared.verdict.Verdict.TheVariants as verdict
-use Rattle.amoebot_state.specs.Pairs.{Pairs, cell_of, value_of}
+use Rattle.amoebot_state.specs.Pairs.{Pairs, cell_of, cell_value}
 use Rattle.amoebot_state.specs.Ports.{is_own, is_head, is_contracted, is_port, behind, global, end_node, is_beside}
-use Rattle.amoebot_state.specs.Configs.{Config, IsValid, IsBot, bot_at, blank, covers, occupant, value, set_bot, is_joined}
-use Rattle.amoebot_state.specs.Zones.{shown, zone, gap}
+use Rattle.amoebot_state.specs.Configs.{Config, IsValid, IsBot, bot_at, blank, covers, occupant, value, set_bot, is_close}
+use Rattle.amoebot_state.specs.Zones.{shown, zone, shown_alone}
 use Rattle.amoebot_state.specs.Patches.{IsPatched, HasPatched, IsOrdered, diff}
 use Rattle.amoebot_state.specs.Steps.{Changes, TouchesZone, HasNext, IsExact}
 use Rattle.amoebot_state.specs.Moves.{need, with_head, verdict_by, expansion_verdict, expansion_verdict_shown, ExpansionVerdictIsShown, ExpansionChanges, ExpansionKeepsLaws}
@@ -38,7 +38,8 @@ use Rattle.amoebot_state.proofs.Options.{there_is}
 use Rattle.amoebot_state.proofs.Occupants.{occupant_at, nobody_covers, occupant_same, plain_bot}
 use Rattle.amoebot_state.proofs.Differences.{ordered_patch_is_diff}
 use Rattle.amoebot_state.proofs.Directions.{beside_in_zone, global_below}
-use Rattle.amoebot_state.proofs.Gaps.{gap_own, gap_valid, gap_occupant, own_in_zone, spot_in_zone}
+use Rattle.amoebot_state.proofs.ShownAlone.{alone_own, alone_valid, alone_occupant}
+use Rattle.amoebot_state.proofs.Zones.{own_in_zone, spot_in_zone}
 use Rattle.amoebot_state.proofs.Members.{Contains-from_Has}
 
 -- an amoebot that may expand into a node
@@ -93,7 +94,7 @@ module _ (c : Config) (i : ℕ) (b : Bot) (q : Node) (may : MayExpand c i b q) w
   nobody_there : (j : ℕ) (v : Node) → q ≡ v → covers (bot_at c j) v ≡ true → ⊥
   nobody_there j v e t = both_ways _ (ap (covers (bot_at c j)) (sym e) ∙ nobody_covers c q may.empty j) t
 
-  new_joined : is_joined q b.tail ≡ true
+  new_joined : is_close q b.tail ≡ true
   new_joined = or_right _ _ (Adjacent-is_adjacent q b.tail (Adjacent-sym b.tail q (subst (λ u. Adjacent u q) one_node may.next)))
 
   after_valid : IsValid (after c i b q)
@@ -104,7 +105,7 @@ module _ (c : Config) (i : ℕ) (b : Bot) (q : Node) (may : MayExpand c i b q) w
       | inl same ↦
           let fits = may.valid.each i b may.there in
           let P : Bot → Type 0 = IsBot c.area c.maxes in
-          subst P (same_Some _ _ (sym at_own ∙ ap (bot_at (after c i b q)) (sym same) ∙ e)) (record { head = may.inside; tail = fits.tail; joined = new_joined; rot = fits.rot; values = fits.values; eight = fits.eight })
+          subst P (same_Some _ _ (sym at_own ∙ ap (bot_at (after c i b q)) (sym same) ∙ e)) (record { head = may.inside; tail = fits.tail; close = new_joined; rot = fits.rot; values = fits.values; eight = fits.eight })
       | inr ne ↦ may.valid.each j a (sym (at_other j ne) ∙ e)
     ];
     apart = λ j k v s t. elim (who j v s) [
@@ -166,9 +167,9 @@ module _ (c : Config) (i : ℕ) (b : Bot) (q : Node) (may : MayExpand c i b q) w
   ordered (suc k) lt = absurd (omega arith)
 
   -- both cells differ
-  differ : All (λ (p : CellName × Cell). value c (cell_of p) ≢ Some (value_of p)) (expansion i b q)
+  differ : All (λ (p : CellName × Cell). value c (cell_of p) ≢ Some (cell_value p)) (expansion i b q)
   differ =
-      let Differs : CellName × Cell → Type 0 = λ p. value c (cell_of p) ≢ Some (value_of p) in
+      let Differs : CellName × Cell → Type 0 = λ p. value c (cell_of p) ≢ Some (cell_value p) in
       All-cons Differs (name.Spot q, cell.Spot (Some i)) ((name.Body i, cell.Body (with_head b q)) ∷ [])
       (λ same. none-some i (spot_of (sym (ap (λ o. Some (cell.Spot o)) may.empty) ∙ same)))
       (All-cons Differs (name.Body i, cell.Body (with_head b q)) [] (λ same. not_there (ap (λ (a : Bot). a.head) (body_of (sym (ap (option_map cell.Body) may.there) ∙ same)))) (All-nil Differs))
@@ -262,9 +263,9 @@ expansion_verdict_is_shown p c i valid there =
     let own = there_is (bot_at c i) there in
     let b = own.0 in
     let rot = (plain_bot c valid i b own.1).rot in
-    verdict_is p (gap (shown c i)) i b (gap_valid c i valid) (gap_own c i b own.1)
+    verdict_is p (shown_alone (shown c i)) i b (alone_valid c i valid) (alone_own c i b own.1)
     ∙ same_outcome i b (is_contracted b) (is_port b p) (is_in c.area (behind b p)) _ _ (λ contracted port inside.
-    ap is_none (gap_occupant c i b (behind b p) valid own.1 (beside_in_zone c.area b (behind b p) rot (next_beside b (behind b p) (port_next b p rot contracted port)) inside)))
+    ap is_none (alone_occupant c i b (behind b p) valid own.1 (beside_in_zone c.area b (behind b p) rot (next_beside b (behind b p) (port_next b p rot contracted port)) inside)))
     ∙ sym (verdict_is p c i b valid own.1)
   where
     next_beside : (b : Bot) (q : Node) → Adjacent b.head q → is_beside b q ≡ true
@@ -312,7 +313,7 @@ expansion_is_exact p c i change changes =
     let e = expansion_of p c i change changes in
     let b = e.bot in
     let q = behind b p in
-    let Differs : CellName × Cell → Type 0 = λ x. value c (cell_of x) ≢ Some (value_of x) in
+    let Differs : CellName × Cell → Type 0 = λ x. value c (cell_of x) ≢ Some (cell_value x) in
     let P : Pairs → Type 0 = λ ps. IsOrdered ps × All Differs ps in
     subst P (sym e.patch) (ordered c i b q e.may, differ c i b q e.may)
 
@@ -321,8 +322,8 @@ expansion_keeps_laws p = (expansion_touches_zone p, expansion_has_next p, expans
 
 pub expansion_changes : ExpansionChanges
 expansion_changes p s b valid at contracted port inside empty =
-    verdict_is p (gap s) s.bot b valid at
-    ∙ ap (λ t. outcome_of p s.bot b t (is_port b p) (is_in s.area (behind b p)) (is_none (occupant (gap s) (behind b p)))) contracted
-    ∙ ap (λ t. outcome_of p s.bot b true t (is_in s.area (behind b p)) (is_none (occupant (gap s) (behind b p)))) port
-    ∙ ap (λ t. outcome_of p s.bot b true true t (is_none (occupant (gap s) (behind b p)))) inside
+    verdict_is p (shown_alone s) s.bot b valid at
+    ∙ ap (λ t. outcome_of p s.bot b t (is_port b p) (is_in s.area (behind b p)) (is_none (occupant (shown_alone s) (behind b p)))) contracted
+    ∙ ap (λ t. outcome_of p s.bot b true t (is_in s.area (behind b p)) (is_none (occupant (shown_alone s) (behind b p)))) port
+    ∙ ap (λ t. outcome_of p s.bot b true true t (is_none (occupant (shown_alone s) (behind b p)))) inside
     ∙ ap (λ t. outcome_of p s.bot b true true true t) (ap is_none empty)

@@ -11,7 +11,7 @@ use Rattle.tri_lattice.specs.declared.node.Node.{Node}
 use Rattle.tri_lattice.specs.Extent.{Extent, IsArea, is_in}
 use Rattle.amoebot_state.specs.declared.bot.Bot.{Bot}
 use Rattle.amoebot_state.specs.Ports.{is_own}
-use Rattle.amoebot_state.specs.Configs.{Config, config_of, IsValid, blank, bot_at, occupant, covers, is_joined, has_values}
+use Rattle.amoebot_state.specs.Configs.{Config, config_of, IsValid, blank, bot_at, occupant, covers, is_close, has_values}
 use Rattle.amoebot_state.specs.Refusals.{bot_fault, IsPlain, IsFaultless}
 use Rattle.amoebot_state.specs.Laws.{ValidIsFaultless, FaultlessIsValid}
 use Rattle.amoebot_state.proofs.Added.{MayCome, no_fault, valid_with, config_push}
@@ -30,7 +30,7 @@ unblocked false e r f none = none
 fault_free : (c : Config) (b : Bot) → MayCome c b → bot_fault c b ≡ None
 fault_free c b may =
     pass (is_in c.area b.head && is_in c.area b.tail) _ _ (and_from _ _ may.fits.head may.fits.tail)
-    (pass (is_joined b.head b.tail) _ _ may.fits.joined
+    (pass (is_close b.head b.tail) _ _ may.fits.close
     (unblocked (is_some (occupant c b.head) || is_some (occupant c b.tail)) _ _ (or_from _ _ (ap is_some may.head_free) (ap is_some may.tail_free))
     (pass (has_values c.maxes b.mem) _ _ may.fits.values refl)))
 

@@ -17,7 +17,7 @@ use Rattle.amoebot_state.specs.declared.cell.CellName.{CellName}
 use Rattle.amoebot_state.specs.declared.cell.CellName.TheVariants as name
 use Rattle.amoebot_state.specs.declared.cell.Cell.{Cell}
 use Rattle.amoebot_state.specs.declared.cell.Cell.TheVariants as cell
-use Rattle.amoebot_state.specs.Pairs.{Pairs, cell_of, value_of, body_in}
+use Rattle.amoebot_state.specs.Pairs.{Pairs, cell_of, cell_value, body_in}
 use Rattle.amoebot_state.specs.Configs.{Config, bot_at, occupant, value}
 use Rattle.amoebot_state.specs.Zones.{distinct, zone_nodes, others, zone_of, zone, shown, shown_cell}
 use Rattle.amoebot_state.specs.Storage.{with_new}
@@ -26,7 +26,8 @@ use Rattle.amoebot_state.specs.Laws.{ShownListsZone, ShownHoldsValues, KnownIsFr
 use Rattle.amoebot_state.proofs.Options.{there_is, is_some-option_map}
 use Rattle.amoebot_state.proofs.Distinct.{without, taken_up, taken_from_none}
 use Rattle.amoebot_state.proofs.Fronts.{front_rest, front_take, front_takes, front_kept, front_map, front_behind, front_left, front_next, front_push, Has-from_slice_get, slice_get_left, take-filter_map, map-filter_map, filter_map-none}
-use Rattle.amoebot_state.proofs.Gaps.{zone_is, body_shown}
+use Rattle.amoebot_state.proofs.ShownAlone.{body_shown}
+use Rattle.amoebot_state.proofs.Zones.{zone_is}
 use Rattle.amoebot_state.proofs.Members.{Has, here, later, has_cases, not_in_none, map_has, Has-map, Has-append_left, Has-append_right, Has-append_cases, filter_map-same, filter_map_has, All-from_Has, Contains-from_Has}
 use Rattle.amoebot_state.proofs.Occupants.{occupant_covers}
 use Rattle.amoebot_state.proofs.Once.{Once, once_parts, Once-distinct, zone_once, same_spot, same_body, spot_is_no_body}
@@ -63,14 +64,14 @@ shown_lists_zone c i = elim (bot_at c i) as (λ o. bot_at c i ≡ o → map cell
   | Some b ↦ λ at. map-filter_map cell_of (shown_cell c) (zone c i) (λ n has. pair_there c i b n at has)
 ] refl
 
-holds_value : (c : Config) (n : CellName) (p : CellName × Cell) → shown_cell c n ≡ Some p → value c (cell_of p) ≡ Some (value_of p)
-holds_value c n p = elim (value c n) as (λ o. value c n ≡ o → shown_cell c n ≡ Some p → value c (cell_of p) ≡ Some (value_of p)) [
+holds_value : (c : Config) (n : CellName) (p : CellName × Cell) → shown_cell c n ≡ Some p → value c (cell_of p) ≡ Some (cell_value p)
+holds_value c n p = elim (value c n) as (λ o. value c n ≡ o → shown_cell c n ≡ Some p → value c (cell_of p) ≡ Some (cell_value p)) [
   | None ↦ λ e s. absurd (none-some p (sym (ap (option_map (λ x. (n, x))) e) ∙ s))
   | Some x ↦ λ e s. let is : (n, x) ≡ p = same_Some (n, x) p (sym (ap (option_map (λ y. (n, y))) e) ∙ s) in ap (λ (q : CellName × Cell). value c q.0) (sym is) ∙ e ∙ ap (λ (q : CellName × Cell). Some q.1) is
 ] refl
 
 pub shown_holds_values : ShownHoldsValues
-shown_holds_values c i = All-from_Has (λ (p : CellName × Cell). value c (cell_of p) ≡ Some (value_of p)) (shown c i).cells (λ p has. let found = filter_map_has (shown_cell c) (zone c i) has in holds_value c found.0 p found.2)
+shown_holds_values c i = All-from_Has (λ (p : CellName × Cell). value c (cell_of p) ≡ Some (cell_value p)) (shown c i).cells (λ p has. let found = filter_map_has (shown_cell c) (zone c i) has in holds_value c found.0 p found.2)
 
 -- ---- what is known after the body and the first m further cells were read
 
@@ -222,8 +223,8 @@ shown_at c i k n e =
       | None ↦ λ none. absurd (none-some n (sym (ap (option_map cell_of) none) ∙ named))
       | Some p ↦ λ at.
           let same : cell_of p ≡ n = same_Some (cell_of p) n (sym (ap (option_map cell_of) at) ∙ named) in
-          let holds = All-contains (λ (q : CellName × Cell). value c (cell_of q) ≡ Some (value_of q)) (shown c i).cells p (shown_holds_values c i) (Contains-from_Has (shown c i).cells (Has-from_slice_get (shown c i).cells k p at)) in
-          (value_of p, ap (value c) (sym same) ∙ holds, at ∙ ap (λ m. Some (m, value_of p)) same)
+          let holds = All-contains (λ (q : CellName × Cell). value c (cell_of q) ≡ Some (cell_value q)) (shown c i).cells p (shown_holds_values c i) (Contains-from_Has (shown c i).cells (Has-from_slice_get (shown c i).cells k p at)) in
+          (cell_value p, ap (value c) (sym same) ∙ holds, at ∙ ap (λ m. Some (m, cell_value p)) same)
     ] refl
 
 pub front_grows : FrontGrows
@@ -277,15 +278,15 @@ whole_zone_is_shown c i cells is front =
     )
 
 -- cells that are read further on are those of the other configuration too
-stands_further : (c d : Config) (i : ℕ) (done rest : Pairs) → d.area ≡ c.area → IsSome (bot_at c i) → IsSome (bot_at d i) → IsFront (done ++ rest) (shown c i).cells → All (λ (p : CellName × Cell). value d (cell_of p) ≡ Some (value_of p)) rest → IsFront done (shown d i).cells → IsFront (done ++ rest) (shown d i).cells
+stands_further : (c d : Config) (i : ℕ) (done rest : Pairs) → d.area ≡ c.area → IsSome (bot_at c i) → IsSome (bot_at d i) → IsFront (done ++ rest) (shown c i).cells → All (λ (p : CellName × Cell). value d (cell_of p) ≡ Some (cell_value p)) rest → IsFront done (shown d i).cells → IsFront (done ++ rest) (shown d i).cells
 stands_further c d i done [] area own_c own_d front holds stands = subst (λ ps. IsFront ps (shown d i).cells) (sym (append-nil done)) stands
 stands_further c d i done (p ∷ rest) area own_c own_d front holds stands =
-    let P : CellName × Cell → Type 0 = λ q. value d (cell_of q) ≡ Some (value_of q) in
+    let P : CellName × Cell → Type 0 = λ q. value d (cell_of q) ≡ Some (cell_value q) in
     let at : slice_get (shown c i).cells (length done) ≡ Some p = front_next done p rest (shown c i).cells front in
     let named : slice_get (zone c i) (length done) ≡ Some (cell_of p) = ap (λ ns. slice_get ns (length done)) (sym (shown_lists_zone c i)) ∙ slice_get-map cell_of (shown c i).cells (length done) ∙ ap (option_map cell_of) at in
     let next : next_cell d.area i done ≡ Some (cell_of p) = ap (λ a. next_cell a i done) area ∙ next_is_in_zone c i done own_c (front_left done (p ∷ rest) (shown c i).cells front) ∙ named in
     let (x, now, grown) = front_grows d i done (cell_of p) own_d stands next in
-    let same : x ≡ value_of p = same_Some x (value_of p) (sym now ∙ All-head P p rest holds) in
+    let same : x ≡ cell_value p = same_Some x (cell_value p) (sym now ∙ All-head P p rest holds) in
     let longer : IsFront (done ++ p ∷ []) (shown d i).cells = subst (λ y. IsFront (done ++ (cell_of p, y) ∷ []) (shown d i).cells) same grown in
     let regroup = append_assoc done (p ∷ []) rest in
     subst (λ ps. IsFront ps (shown d i).cells) regroup (stands_further c d i (done ++ p ∷ []) rest area own_c own_d (subst (λ ps. IsFront ps (shown c i).cells) (sym regroup) front) (All-tail P p rest holds) longer)
@@ -293,7 +294,7 @@ stands_further c d i done (p ∷ rest) area own_c own_d front holds stands =
 pub front_stands : FrontStands
 front_stands c d i [] area front holds = refl
 front_stands c d i (p ∷ rest) area front holds =
-    let P : CellName × Cell → Type 0 = λ q. value d (cell_of q) ≡ Some (value_of q) in
+    let P : CellName × Cell → Type 0 = λ q. value d (cell_of q) ≡ Some (cell_value q) in
     elim (bot_at c i) as (λ o. bot_at c i ≡ o → IsFront (p ∷ rest) (shown d i).cells) [
       | None ↦ λ e. absurd (no_front p rest (front ∙ ap (λ ns. take (suc (length rest)) (filter_map (shown_cell c) ns)) (no_zone c i e)))
       | Some b ↦ λ at.

@@ -6,7 +6,7 @@ pub mod Directions
 pub mod Distinct
 pub mod Faults
 pub mod Fronts
-pub mod Gaps
+pub mod ShownAlone
 pub mod Known
 pub mod Members
 pub mod Occupants

@@ -18,7 +18,7 @@ use Rattle.amoebot_state.specs.declared.refusal.WorldRefusal.{WorldRefusal}
 use Rattle.amoebot_state.specs.declared.refusal.WorldRefusal.TheVariants.{OutOfBox, NotAdjacent, Overlap, BadValue}
 use Rattle.amoebot_state.specs.Ports.{port, ports, global, local}
 use Rattle.amoebot_state.specs.Configs.{Config, with_bot, IsValid, config_of, bot_at, value}
-use Rattle.amoebot_state.specs.Zones.{Shown, zone, shown, gap}
+use Rattle.amoebot_state.specs.Zones.{Shown, zone, shown, shown_alone}
 use Rattle.amoebot_state.specs.Known.{known_zone, next_cell}
 use Rattle.amoebot_state.specs.Patches.{IsPatched, diff}
 use Rattle.std.specs.Option.{option_or}
@@ -85,8 +85,8 @@ alone = world (contracted (at 2 3) ∷ [])
 zone_alone : zone alone 0 ≡ body 0 ∷ spot 2 3 ∷ spot 3 3 ∷ spot 2 4 ∷ spot 1 4 ∷ spot 1 3 ∷ spot 2 2 ∷ spot 3 2 ∷ []
 zone_alone = refl
 
-shown_alone : shown alone 0 ≡ shows 0 (with_body 0 (contracted (at 2 3)) ∷ held 2 3 0 ∷ free 3 3 ∷ free 2 4 ∷ free 1 4 ∷ free 1 3 ∷ free 2 2 ∷ free 3 2 ∷ [])
-shown_alone = refl
+alone_is_shown : shown alone 0 ≡ shows 0 (with_body 0 (contracted (at 2 3)) ∷ held 2 3 0 ∷ free 3 3 ∷ free 2 4 ∷ free 1 4 ∷ free 1 3 ∷ free 2 2 ∷ free 3 2 ∷ [])
+alone_is_shown = refl
 
 -- expanded to (3, 3): that node and its body have changed
 abbrev pub alone_out : Config
@@ -235,14 +235,14 @@ zone_pulled_1 = refl
 abbrev scattered : Config
 scattered = world (contracted (at 6 6) ∷ contracted (at 2 3) ∷ contracted (at 0 0) ∷ contracted (at 3 3) ∷ [])
 
-gap_scattered : gap (shown scattered 1) ≡ record { area = eight; maxes = first 1; bots = None ∷ Some (contracted (at 2 3)) ∷ None ∷ Some (contracted (at 3 3)) ∷ [] }
-gap_scattered = refl
+alone_scattered : shown_alone (shown scattered 1) ≡ record { area = eight; maxes = first 1; bots = None ∷ Some (contracted (at 2 3)) ∷ None ∷ Some (contracted (at 3 3)) ∷ [] }
+alone_scattered = refl
 
-gap_shows : shown (gap (shown scattered 1)) 1 ≡ shown scattered 1
-gap_shows = refl
+alone_shows : shown (shown_alone (shown scattered 1)) 1 ≡ shown scattered 1
+alone_shows = refl
 
 -- an id that has no amoebot has no zone
-no_zone : zone (gap (shown scattered 1)) 2 ≡ []
+no_zone : zone (shown_alone (shown scattered 1)) 2 ≡ []
 no_zone = refl
 
 -- what a list of amoebots is refused for: each is judged beside those before it

@@ -17,14 +17,15 @@ use Rattle.amoebot_state.specs.declared.cell.Cell.TheVariants as cell
 use Rattle.amoebot_state.specs.Ports.{is_beside}
 use Rattle.amoebot_state.specs.Configs.{Config, IsValid, bot_at, bot_of, blank, occupant}
 use Rattle.amoebot_state.specs.Refusals.{IsPlain}
-use Rattle.amoebot_state.specs.Zones.{Shown, IsShown, IsFound, shown, shown_cell, zone, zone_nodes, others, gap}
+use Rattle.amoebot_state.specs.Zones.{Shown, IsShown, IsFound, shown, shown_cell, zone, zone_nodes, others, shown_alone}
 use Rattle.amoebot_state.specs.Pairs.{spot_in}
 use Rattle.amoebot_state.proofs.Members.{Has, here, later, has_cases, not_in_none, length-filter_map-le}
 use Rattle.amoebot_state.proofs.Options.{there_is, none_if}
 use Rattle.amoebot_state.proofs.Occupants.{plain_bot, outside_empty}
 use Rattle.amoebot_state.proofs.Directions.{beside_in_zone}
 use Rattle.amoebot_state.proofs.Zones.{length-zone_nodes-le, length-zone_of-le}
-use Rattle.amoebot_state.proofs.Gaps.{gap_own, gap_valid, gap_occupant, zone_is, spot_in_zone, zone_inside}
+use Rattle.amoebot_state.proofs.ShownAlone.{alone_own, alone_valid, alone_occupant}
+use Rattle.amoebot_state.proofs.Zones.{zone_is, spot_in_zone, zone_inside}
 
 -- the cells of nodes and of bodies
 spot_cells : (c : Config) (vs : List Node) → filter_map (shown_cell c) (map name.Spot vs) ≡ map (λ v. (name.Spot v, cell.Spot (occupant c v))) vs
@@ -54,17 +55,17 @@ cells_made c i own nodes ids cells at ns is made =
 pub found_by : (c : Config) (i : ℕ) (own : Bot) (s : Shown) → IsValid c → bot_at c i ≡ Some own → shown c i ≡ s → IsFound s own
 found_by c i own s valid at is =
     let P : Shown → Type 0 = λ t. IsFound t own in
-    subst P is (record { shown = (c, valid, is_there (bot_at c i) own at, refl); owner = gap_own c i own at })
+    subst P is (record { shown = (c, valid, is_there (bot_at c i) own at, refl); owner = alone_own c i own at })
   where
     is_there : (o : Option Bot) (b : Bot) → o ≡ Some b → IsSome o
     is_there o b e = ap is_some e
 
--- the gap configuration of what is shown is valid
-pub shown_valid : (s : Shown) → IsShown s → IsValid (gap s)
-shown_valid s is = let P : Shown → Type 0 = λ t. IsValid (gap t) in subst P is.3 (gap_valid is.0 s.bot is.1)
+-- what is shown alone is valid
+pub shown_valid : (s : Shown) → IsShown s → IsValid (shown_alone s)
+shown_valid s is = let P : Shown → Type 0 = λ t. IsValid (shown_alone t) in subst P is.3 (alone_valid is.0 s.bot is.1)
 
 pub shown_plain : (s : Shown) (b : Bot) → IsFound s b → IsPlain b
-shown_plain s b is = plain_bot (gap s) (shown_valid s is.shown) s.bot b is.owner
+shown_plain s b is = plain_bot (shown_alone s) (shown_valid s is.shown) s.bot b is.owner
 
 -- the code's room is enough
 pub length-shown-le : (s : Shown) → IsShown s → length s.cells ≤ 30
@@ -108,29 +109,29 @@ spot_absent c (name.Spot u ∷ names) v lacks = elim (cases_Bool (node_eq u v)) 
 ]
 
 -- for a node that is the amoebot's own or beside one, the cells tell the occupant
-pub spot_told : (s : Shown) → IsShown s → (v : Node) → is_beside (bot_of (gap s) s.bot) v ≡ true → unwrap_or (spot_in s.cells v) None ≡ occupant (gap s) v
+pub spot_told : (s : Shown) → IsShown s → (v : Node) → is_beside (bot_of (shown_alone s) s.bot) v ≡ true → unwrap_or (spot_in s.cells v) None ≡ occupant (shown_alone s) v
 spot_told s is v beside =
     let c = is.0 in
     let valid = is.1 in
     let own = there_is (bot_at c s.bot) is.2 in
     let b = own.0 in
     let i = s.bot in
-    let P : Shown → Type 0 = λ t. is_beside (bot_of (gap t) i) v ≡ true → unwrap_or (spot_in t.cells v) None ≡ occupant (gap t) v in
+    let P : Shown → Type 0 = λ t. is_beside (bot_of (shown_alone t) i) v ≡ true → unwrap_or (spot_in t.cells v) None ≡ occupant (shown_alone t) v in
     subst P is.3 (λ near.
-    let beside_own : is_beside b v ≡ true = ap (λ o. is_beside (unwrap_or o blank) v) (sym (gap_own c i b own.1)) ∙ near in
+    let beside_own : is_beside b v ≡ true = ap (λ o. is_beside (unwrap_or o blank) v) (sym (alone_own c i b own.1)) ∙ near in
     elim (cases_Bool (is_in c.area v)) [
       | inl inside ↦
           let has = beside_in_zone c.area b v (plain_bot c valid i b own.1).rot beside_own inside in
-          ap (λ o. unwrap_or o None) (spot_found c (zone c i) v (spot_in_zone c i b v own.1 has)) ∙ sym (gap_occupant c i b v valid own.1 has)
+          ap (λ o. unwrap_or o None) (spot_found c (zone c i) v (spot_in_zone c i b v own.1 has)) ∙ sym (alone_occupant c i b v valid own.1 has)
       | inr outside ↦
           ap (λ o. unwrap_or o None) (spot_absent c (zone c i) v (λ has. both_ways _ outside (zone_inside c i b v valid own.1 has)))
-          ∙ outside_empty (gap (shown c i)) (gap_valid c i valid) v (none_if _ outside)
+          ∙ outside_empty (shown_alone (shown c i)) (alone_valid c i valid) v (none_if _ outside)
     ]) beside
 
 pub is_shown : (c : Config) (i : ℕ) (a : Extent) (maxes : List ℕ) (cells : List (CellName × Cell)) → a ≡ c.area → maxes ≡ c.maxes → cells ≡ filter_map (shown_cell c) (zone c i) → (let s : Shown = record { area = a; maxes = maxes; bot = i; cells = cells } in s) ≡ shown c i
 is_shown c i a maxes cells e m x = λ t. record { area = e t; maxes = m t; bot = i; cells = x t }
 
--- an amoebot that the gap configuration has
-pub plain_if : (s : Shown) → IsShown s → (r : Option (Bor Bot)) (i : ℕ) → option_copied r ≡ bot_at (gap s) i → IfSome r (λ b. IsPlain b.now)
+-- an amoebot of what is shown alone
+pub plain_if : (s : Shown) → IsShown s → (r : Option (Bor Bot)) (i : ℕ) → option_copied r ≡ bot_at (shown_alone s) i → IfSome r (λ b. IsPlain b.now)
 plain_if s is None i e = tt
-plain_if s is (Some b) i e = plain_bot (gap s) (shown_valid s is) i b.now (sym e)
+plain_if s is (Some b) i e = plain_bot (shown_alone s) (shown_valid s is) i b.now (sym e)

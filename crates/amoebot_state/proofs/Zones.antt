@@ -1,5 +1,5 @@
 -- How a zone is found, and what it has.
-use Rattle.std.proofs.Common.{◌≡◌, ◌≢◌, ◌⊎◌, ◌<◌, ◌≤◌, ℕ, List, [], ◌∷◌, ◌++◌, length, map, true, false, not, ap, sym, ◌∙◌, refl, inl, inr, arith, Option, Some, None, filter, nat_eq}
+use Rattle.std.proofs.Common.{◌≡◌, ◌≢◌, ◌⊎◌, ◌<◌, ◌≤◌, ℕ, List, [], ◌∷◌, ◌++◌, length, map, true, false, not, ap, sym, ◌∙◌, refl, inl, inr, arith, subst, Option, Some, None, filter, nat_eq}
 use Rattle.std.specs.List.{All, fold, filter_map}
 use Rattle.std.specs.Cmp.{IsEquivalence}
 use Rattle.std.proofs.lemmas.Bool.{cases_Bool, both_ways, eqb-true, eq-eqb}
@@ -13,13 +13,13 @@ use Rattle.tri_lattice.proofs.Nodes.{node_eq-true, node_eq_same, eq-node_eq, cas
 use Rattle.amoebot_state.specs.declared.bot.Bot.{Bot}
 use Rattle.amoebot_state.specs.declared.bot.Port.{Port}
 use Rattle.amoebot_state.specs.Ports.{own_nodes, is_contracted, is_port, all_ports, ports, behind}
-use Rattle.amoebot_state.specs.Configs.{Config, occupant}
+use Rattle.amoebot_state.specs.Configs.{Config, IsValid, bot_at, occupant}
 use Rattle.amoebot_state.specs.Storage.{with_new, with_port, with_other}
 use Rattle.amoebot_state.specs.declared.cell.CellName.TheVariants as name
-use Rattle.amoebot_state.specs.Zones.{distinct, zone_nodes, others, zone_of}
+use Rattle.amoebot_state.specs.Zones.{distinct, zone_nodes, others, zone_of, zone_at, zone}
 use Rattle.amoebot_state.specs.Laws.{ZoneIsDetermined}
 use Rattle.amoebot_state.proofs.Distinct.{taken_from_none}
-use Rattle.amoebot_state.proofs.Members.{Has, has_cases, not_in_none, Has-append_cases, Has-distinct, distinct_has, Has-filter, filter_has, Has-filter_map, filter_map_has, filter_map-same, Contains-from_Has, All-from_Has, length-distinct-le, length-filter-le, length-filter_map-le}
+use Rattle.amoebot_state.proofs.Members.{Has, here, later, Has-map, map_has, Has-append_left, Has-append_right, has_cases, not_in_none, Has-append_cases, Has-distinct, distinct_has, Has-filter, filter_has, Has-filter_map, filter_map_has, filter_map-same, Contains-from_Has, All-from_Has, length-distinct-le, length-filter-le, length-filter_map-le}
 use Rattle.amoebot_state.proofs.Occupants.{covers_below, occupant_covers}
 
 -- node equality is an equivalence
@@ -143,3 +143,35 @@ zone_nodes_inside a b v head tail has = elim (Has-append_cases (own_nodes b) (di
       | inl t ↦ rw t (λ h. elim (has_cases h) [ inl e ↦ inl e | inr r ↦ absurd (not_in_none r) ])
       | inr f ↦ rw f (λ h. elim (has_cases h) [ inl e ↦ inl e | inr r ↦ elim (has_cases r) [ inl e ↦ inr e | inr q ↦ absurd (not_in_none q) ] ])
     ]
+
+-- ---- which cells the zone of a configuration has
+
+-- the zone of an amoebot that is there
+pub zone_is : (c : Config) (i : ℕ) (b : Bot) → bot_at c i ≡ Some b → zone c i ≡ zone_of (occupant c) i (zone_nodes c.area b)
+zone_is c i b e = ap (zone_at c.area (occupant c) i) e
+
+pub own_in_zone : (c : Config) (i : ℕ) (b : Bot) → bot_at c i ≡ Some b → Has (name.Body i) (zone c i)
+own_in_zone c i b e = subst (Has (name.Body i)) (sym (zone_is c i b e)) here
+
+pub body_in_zone : (c : Config) (i : ℕ) (b : Bot) (v : Node) (j : ℕ) → bot_at c i ≡ Some b → Has v (zone_nodes c.area b) → occupant c v ≡ Some j → Has (name.Body j) (zone c i)
+body_in_zone c i b v j e has o = elim (occupant_in_zone (occupant c) i v (zone_nodes c.area b) j has o) [
+  | inl same ↦ subst (λ k. Has (name.Body k) (zone c i)) (sym same) (own_in_zone c i b e)
+  | inr other ↦ subst (Has (name.Body j)) (sym (zone_is c i b e)) (later (Has-append_right (map name.Spot (zone_nodes c.area b)) (Has-map name.Body other)))
+]
+
+pub spot_in_zone : (c : Config) (i : ℕ) (b : Bot) (v : Node) → bot_at c i ≡ Some b → Has v (zone_nodes c.area b) → Has (name.Spot v) (zone c i)
+spot_in_zone c i b v e has = subst (Has (name.Spot v)) (sym (zone_is c i b e)) (later (Has-append_left (map name.Body (others (occupant c) i (zone_nodes c.area b))) (Has-map name.Spot has)))
+
+-- a node of the zone, told from its cell
+pub spot_node : (c : Config) (i : ℕ) (b : Bot) (v : Node) → bot_at c i ≡ Some b → Has (name.Spot v) (zone c i) → Has v (zone_nodes c.area b)
+spot_node c i b v e has = elim (has_cases (subst (Has (name.Spot v)) (zone_is c i b e) has)) [
+  | inl f ↦ absurd (cc)
+  | inr r ↦ elim (Has-append_cases (map name.Spot (zone_nodes c.area b)) r) [
+    | inl s ↦ let found = map_has name.Spot (zone_nodes c.area b) s in let same : found.0 ≡ v = (let f = found.2 in cc) in subst (λ u. Has u (zone_nodes c.area b)) same found.1
+    | inr t ↦ let found = map_has name.Body (others (occupant c) i (zone_nodes c.area b)) t in let f = found.2 in absurd (cc)
+  ]
+]
+
+-- the nodes of the zone lie in the area
+pub zone_inside : (c : Config) (i : ℕ) (b : Bot) (v : Node) → IsValid c → bot_at c i ≡ Some b → Has (name.Spot v) (zone c i) → is_in c.area v ≡ true
+zone_inside c i b v valid e has = zone_nodes_inside c.area b v (valid.each i b e).head (valid.each i b e).tail (spot_node c i b v e has)

@@ -50,8 +50,8 @@ value c (name.Spot v) = Some (cell.Spot (occupant c v))
 value c (name.Body i) = option_map cell.Body (bot_at c i)
 
 -- the nodes are equal or adjacent
-abbrev pub is_joined : Node → Node → Bool
-is_joined a b = node_eq a b || is_adjacent a b
+abbrev pub is_close : Node → Node → Bool
+is_close a b = node_eq a b || is_adjacent a b
 
 -- the numbers of the variables
 abbrev pub variables : List ℕ
@@ -66,7 +66,7 @@ has_values maxes values = list_all (λ k. nat_le (slice_index values k) (slice_i
 pub record IsBot (area : Extent) (maxes : List ℕ) (b : Bot) : Type 0 where
   pub head : IsTrue (is_in area b.head)
   pub tail : IsTrue (is_in area b.tail)
-  pub joined : IsTrue (is_joined b.head b.tail)
+  pub close : IsTrue (is_close b.head b.tail)
   pub rot : b.rot < 6
   pub values : IsTrue (has_values maxes b.mem)
   pub eight : length b.mem ≡ 8

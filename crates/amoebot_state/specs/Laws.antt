@@ -13,10 +13,10 @@ use Rattle.amoebot_state.specs.declared.cell.CellName.TheVariants as name
 use Rattle.amoebot_state.specs.declared.cell.Cell.{Cell}
 use Rattle.amoebot_state.specs.declared.verdict.Entry.{Entry}
 use Rattle.amoebot_state.specs.declared.verdict.Verdict.{Verdict}
-use Rattle.amoebot_state.specs.Pairs.{Pairs, cell_of, value_of}
+use Rattle.amoebot_state.specs.Pairs.{Pairs, cell_of, cell_value}
 use Rattle.amoebot_state.specs.Ports.{global, local, is_port, ports, behind, is_beside}
 use Rattle.amoebot_state.specs.Configs.{Config, IsValid, bot_at, occupant, value, config_of}
-use Rattle.amoebot_state.specs.Zones.{Shown, IsShown, distinct, zone_nodes, zone_at, zone, shown, gap}
+use Rattle.amoebot_state.specs.Zones.{Shown, IsShown, distinct, zone_nodes, zone_at, zone, shown, shown_alone}
 use Rattle.amoebot_state.specs.Known.{IsFront, known_zone, next_cell}
 use Rattle.amoebot_state.specs.Patches.{IsPatched, IsOrdered, same_value, diff}
 use Rattle.amoebot_state.specs.Refusals.{IsPlain, IsFaultless}
@@ -57,7 +57,7 @@ ShownListsZone = (c : Config) (i : ℕ) → map cell_of (shown c i).cells ≡ zo
 
 -- and each with what it holds
 abbrev pub ShownHoldsValues : Type 0
-ShownHoldsValues = (c : Config) (i : ℕ) → All (λ (p : CellName × Cell). value c (cell_of p) ≡ Some (value_of p)) (shown c i).cells
+ShownHoldsValues = (c : Config) (i : ℕ) → All (λ (p : CellName × Cell). value c (cell_of p) ≡ Some (cell_value p)) (shown c i).cells
 
 -- what is known of a zone, when a front of it was read, is a front of it
 abbrev pub KnownIsFront : Type 0
@@ -86,7 +86,7 @@ WholeZoneIsShown = (c : Config) (i : ℕ) (cells : Pairs) → IsSome (bot_at c i
 -- what was read of one configuration is a front of the zone in each other one with the same area in which the cells that were
 -- read hold the same
 abbrev pub FrontStands : Type 0
-FrontStands = (c d : Config) (i : ℕ) (cells : Pairs) → d.area ≡ c.area → IsFront cells (shown c i).cells → All (λ (p : CellName × Cell). value d (cell_of p) ≡ Some (value_of p)) cells → IsFront cells (shown d i).cells
+FrontStands = (c d : Config) (i : ℕ) (cells : Pairs) → d.area ≡ c.area → IsFront cells (shown c i).cells → All (λ (p : CellName × Cell). value d (cell_of p) ≡ Some (cell_value p)) cells → IsFront cells (shown d i).cells
 
 -- no cell stands twice in a zone
 abbrev pub ZoneListsEachCellOnce : Type 0
@@ -119,8 +119,8 @@ abbrev pub OccupantBehindPortIsInZone : Type 0
 OccupantBehindPortIsInZone = (c : Config) (i j : ℕ) (b : Bot) (p : Port) → IsValid c → bot_at c i ≡ Some b → IsTrue (is_port b p) → occupant c (behind b p) ≡ Some j → Contains (zone c i) (name.Body j)
 
 -- the configuration that has what is shown and no other amoebot shows just that
-abbrev pub GapShowsWhatWasShown : Type 0
-GapShowsWhatWasShown = (s : Shown) → IsShown s → shown (gap s) s.bot ≡ s
+abbrev pub ShownAloneShowsTheSame : Type 0
+ShownAloneShowsTheSame = (s : Shown) → IsShown s → shown (shown_alone s) s.bot ≡ s
 
 -- at most one configuration is the one that a patch leads to
 abbrev pub PatchedIsUnique : Type 0
@@ -145,11 +145,11 @@ SameValueIsEquality = (x y : Option Cell) → IsTrue (same_value x y) ↔ (x ≡
 -- the difference of two valid configurations that differ in their amoebots at most and have the same ids leads from the old
 -- one to the new one, and each cell that it lists differs
 abbrev pub DiffLeads : Type 0
-DiffLeads = (old new : Config) → IsValid old → IsValid new → new ≡ record old { bots = new.bots } → length new.bots ≡ length old.bots → ((i : ℕ) → is_some (bot_at new i) ≡ is_some (bot_at old i)) → IsPatched old (diff old new) new × All (λ (p : CellName × Cell). value old (cell_of p) ≢ Some (value_of p)) (diff old new)
+DiffLeads = (old new : Config) → IsValid old → IsValid new → new ≡ record old { bots = new.bots } → length new.bots ≡ length old.bots → ((i : ℕ) → is_some (bot_at new i) ≡ is_some (bot_at old i)) → IsPatched old (diff old new) new × All (λ (p : CellName × Cell). value old (cell_of p) ≢ Some (cell_value p)) (diff old new)
 
 -- an ordered patch that leads from one valid configuration to another, and each of whose pairs differs, is their difference
 abbrev pub OrderedPatchIsDiff : Type 0
-OrderedPatchIsDiff = (old new : Config) (ps : Pairs) → IsValid old → IsPatched old ps new → IsOrdered ps → All (λ (p : CellName × Cell). value old (cell_of p) ≢ Some (value_of p)) ps → ps ≡ diff old new
+OrderedPatchIsDiff = (old new : Config) (ps : Pairs) → IsValid old → IsPatched old ps new → IsOrdered ps → All (λ (p : CellName × Cell). value old (cell_of p) ≢ Some (cell_value p)) ps → ps ≡ diff old new
 
 -- no amoebot of a valid configuration is refused
 abbrev pub ValidIsFaultless : Type 0
@@ -160,12 +160,12 @@ abbrev pub FaultlessIsValid : Type 0
 FaultlessIsValid = (a : Extent) (maxes : List ℕ) (bots : List Bot) → IsArea a → length maxes ≡ 8 → All IsPlain bots → IsFaultless a maxes bots (length bots) → IsValid (config_of a maxes bots)
 
 -- the configuration that has what is shown and no other amoebot is valid
-abbrev pub GapIsValid : Type 0
-GapIsValid = (s : Shown) → IsShown s → IsValid (gap s)
+abbrev pub ShownAloneIsValid : Type 0
+ShownAloneIsValid = (s : Shown) → IsShown s → IsValid (shown_alone s)
 
 -- each cell of a zone holds in the configuration that has what is shown and no other amoebot what it holds in the one that shows it
-abbrev pub GapHoldsTheSame : Type 0
-GapHoldsTheSame = (c : Config) (i : ℕ) (n : CellName) → IsValid c → IsSome (bot_at c i) → Contains (zone c i) n → value (gap (shown c i)) n ≡ value c n
+abbrev pub ShownAloneHoldsTheSame : Type 0
+ShownAloneHoldsTheSame = (c : Config) (i : ℕ) (n : CellName) → IsValid c → IsSome (bot_at c i) → Contains (zone c i) n → value (shown_alone (shown c i)) n ≡ value c n
 
 -- in a valid configuration a node is occupied exactly where it is the head or the tail of an amoebot of it
 abbrev pub OccupiedIsOccupant : Type 0

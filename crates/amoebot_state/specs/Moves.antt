@@ -19,7 +19,7 @@ use Rattle.amoebot_state.specs.declared.verdict.Verdict.TheVariants as verdict
 use Rattle.amoebot_state.specs.Ports.{is_contracted, is_port, behind}
 use Rattle.amoebot_state.specs.Configs.{Config, IsValid, occupant, bot_at, bot_of, set_bot}
 use Rattle.amoebot_state.specs.Patches.{diff}
-use Rattle.amoebot_state.specs.Zones.{Shown, shown, gap}
+use Rattle.amoebot_state.specs.Zones.{Shown, shown, shown_alone}
 use Rattle.amoebot_state.specs.Steps.{TouchesZone, HasNext, IsExact}
 
 -- the answer, where the condition holds, and else the failure
@@ -53,7 +53,7 @@ expansion_verdict p c i = if is_contracted (bot_of c i) then verdict_by c 0 (mov
 
 -- the same, decided on what the amoebot is shown: on the configuration that has what is shown and no other amoebot
 abbrev pub expansion_verdict_shown : Port → Shown → Verdict
-expansion_verdict_shown p s = expansion_verdict p (gap s) s.bot
+expansion_verdict_shown p s = expansion_verdict p (shown_alone s) s.bot
 
 -- what the decider that expands contracted amoebots says of what a valid configuration shows is the verdict on that
 -- configuration
@@ -63,7 +63,7 @@ ExpansionVerdictIsShown = (p : Port) (c : Config) (i : ℕ) → IsValid c → Is
 -- where a contracted amoebot is shown that the node behind the port is in the area and empty, the decider's change is the node
 -- that is entered and the amoebot's body
 abbrev pub ExpansionChanges : Type 0
-ExpansionChanges = (p : Port) (s : Shown) (b : Bot) → IsValid (gap s) → bot_at (gap s) s.bot ≡ Some b → IsTrue (is_contracted b) → IsTrue (is_port b p) → IsTrue (is_in s.area (behind b p)) → occupant (gap s) (behind b p) ≡ None → expansion_verdict_shown p s ≡ verdict.Change (record {
+ExpansionChanges = (p : Port) (s : Shown) (b : Bot) → IsValid (shown_alone s) → bot_at (shown_alone s) s.bot ≡ Some b → IsTrue (is_contracted b) → IsTrue (is_port b p) → IsTrue (is_in s.area (behind b p)) → occupant (shown_alone s) (behind b p) ≡ None → expansion_verdict_shown p s ≡ verdict.Change (record {
   action = 0;
   moved = moved.Expand p;
   patch = (name.Spot (behind b p), cell.Spot (Some s.bot)) ∷ (name.Body s.bot, cell.Body (with_head b (behind b p))) ∷ [];

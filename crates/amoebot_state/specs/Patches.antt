@@ -15,7 +15,7 @@ use Rattle.amoebot_state.specs.declared.cell.CellName.{CellName}
 use Rattle.amoebot_state.specs.declared.cell.CellName.TheVariants as name
 use Rattle.amoebot_state.specs.declared.cell.Cell.{Cell}
 use Rattle.amoebot_state.specs.declared.cell.Cell.TheVariants as cell
-use Rattle.amoebot_state.specs.Pairs.{Pairs, cell_of, value_of}
+use Rattle.amoebot_state.specs.Pairs.{Pairs, cell_of, cell_value}
 use Rattle.amoebot_state.specs.Configs.{Config, IsValid, bot_at, value}
 use Rattle.amoebot_state.specs.Zones.{shown_cell}
 
@@ -26,7 +26,7 @@ pub record IsPatched (old : Config) (patch : Pairs) (new : Config) : Type 0 wher
   pub rest : new ≡ record old { bots = new.bots }
   pub size : length new.bots ≡ length old.bots
   pub ids : (i : ℕ) → is_some (bot_at new i) ≡ is_some (bot_at old i)
-  pub given : All (λ (p : CellName × Cell). value new (cell_of p) ≡ Some (value_of p)) patch
+  pub given : All (λ (p : CellName × Cell). value new (cell_of p) ≡ Some (cell_value p)) patch
   pub kept : (n : CellName) → All (λ (p : CellName × Cell). cell_of p ≢ n) patch → value new n ≡ value old n
 
 -- the patch leads from the configuration to one

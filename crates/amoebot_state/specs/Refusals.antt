@@ -7,7 +7,7 @@ use Rattle.tri_lattice.specs.Lattice.{IsNear}
 use Rattle.amoebot_state.specs.declared.bot.Bot.{Bot}
 use Rattle.amoebot_state.specs.declared.refusal.WorldRefusal.{WorldRefusal}
 use Rattle.amoebot_state.specs.declared.refusal.WorldRefusal.TheVariants.{OutOfBox, NotAdjacent, Overlap, BadValue}
-use Rattle.amoebot_state.specs.Configs.{Config, occupant, is_joined, has_values, config_of}
+use Rattle.amoebot_state.specs.Configs.{Config, occupant, is_close, has_values, config_of}
 
 -- an amoebot from whose nodes each step stays in range, and whose rotation is 0 to 5
 pub record IsPlain (b : Bot) : Type 0 where
@@ -21,7 +21,7 @@ pub record IsPlain (b : Bot) : Type 0 where
 abbrev pub bot_fault : Config → Bot → Option WorldRefusal
 bot_fault c b =
     if not (is_in c.area b.head && is_in c.area b.tail) then Some (OutOfBox (length c.bots))
-    else if not (is_joined b.head b.tail) then Some (NotAdjacent (length c.bots))
+    else if not (is_close b.head b.tail) then Some (NotAdjacent (length c.bots))
     else if is_some (occupant c b.head) || is_some (occupant c b.tail) then Some (Overlap (length c.bots))
     else if not (has_values c.maxes b.mem) then Some (BadValue (length c.bots))
     else None

@@ -9,7 +9,7 @@ use Rattle.amoebot_state.specs.declared.verdict.Verdict.{Verdict}
 use Rattle.amoebot_state.specs.declared.verdict.Verdict.TheVariants as verdict
 use Rattle.amoebot_state.specs.declared.verdict.Change.{Change}
 use Rattle.amoebot_state.specs.declared.verdict.Entry.{Entry}
-use Rattle.amoebot_state.specs.Pairs.{cell_of, value_of}
+use Rattle.amoebot_state.specs.Pairs.{cell_of, cell_value}
 use Rattle.amoebot_state.specs.Configs.{Config, IsValid, bot_at, value}
 use Rattle.amoebot_state.specs.Zones.{Shown, shown, zone}
 use Rattle.amoebot_state.specs.Patches.{IsPatched, HasPatched, IsOrdered}
@@ -31,7 +31,7 @@ HasNext f = (c : Config) (i : ℕ) (change : Change) → Changes f c i change �
 -- a patch is in its order, and holds exactly the cells whose value differs: each that it lists differs, and that each other
 -- cell stays is a part of `IsPatched`
 abbrev pub IsExact : (Shown → Verdict) → Type 0
-IsExact f = (c : Config) (i : ℕ) (change : Change) → Changes f c i change → IsOrdered change.patch × All (λ (p : CellName × Cell). value c (cell_of p) ≢ Some (value_of p)) change.patch
+IsExact f = (c : Config) (i : ℕ) (change : Change) → Changes f c i change → IsOrdered change.patch × All (λ (p : CellName × Cell). value c (cell_of p) ≢ Some (cell_value p)) change.patch
 
 -- the change that an entry tells
 abbrev pub change_of : Entry → Change

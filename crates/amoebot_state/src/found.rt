@@ -4,7 +4,7 @@ ghost use Rattle.amoebot_state.specs.Limits.{cell_room};
 ghost use Rattle.amoebot_state.specs.Configs.{IsValid, bot_at, bot_of, occupant};
 ghost use Rattle.amoebot_state.specs.Ports.{is_beside};
 ghost use Rattle.amoebot_state.specs.Refusals.{IsPlain};
-ghost use Rattle.amoebot_state.specs.Zones.{IsShown, IsFound, gap};
+ghost use Rattle.amoebot_state.specs.Zones.{IsShown, IsFound, shown_alone};
 ghost use Rattle.amoebot_state.specs.Pairs.{body_at, body_in, spot_at, spot_in};
 
 use crate::bot::Bot;
@@ -90,10 +90,10 @@ impl Found {
 
     /// The amoebot that is shown this.
     pub fn own(&self) -> &Bot
-        ensures value { Some result.now ≡ bot_at (gap self.now) self.now.bot }
+        ensures value { Some result.now ≡ bot_at (shown_alone self.now) self.now.bot }
         ensures plain { IsPlain result.now }
         ensures shown { IsShown self.now }
-        ensures valid { IsValid (gap self.now) }
+        ensures valid { IsValid (shown_alone self.now) }
     {
         &self.own
     }
@@ -101,15 +101,15 @@ impl Found {
     /// The id of a node's occupant; None for an empty node and for one outside the area. The node is an own one or adjacent to
     /// one.
     pub fn occupant(&self, node: Node) -> Option<u16>
-        requires { IsTrue (is_beside (bot_of (gap self.now) self.now.bot) node) }
-        ensures { result ≡ occupant (gap self.now) node }
+        requires { IsTrue (is_beside (bot_of (shown_alone self.now) self.now.bot) node) }
+        ensures { result ≡ occupant (shown_alone self.now) node }
     {
         spot_in(self.cells.as_slice(), node).unwrap_or(None)
     }
 
     /// The amoebot with an id; None exactly where its body is not in the zone.
     pub fn body(&self, id: u16) -> Option<&Bot>
-        ensures value { option_copied result ≡ bot_at (gap self.now) id }
+        ensures value { option_copied result ≡ bot_at (shown_alone self.now) id }
         ensures plain { IfSome result (λ b. IsPlain b.now) }
     {
         body_in(self.cells.as_slice(), id)

@@ -1,5 +1,5 @@
 ghost use Rattle.std.specs.Prelude.{◌≡◌, ◌∷◌, ◌++◌, [], OnOk, OnErr};
-ghost use Rattle.amoebot_state.specs.Configs.{is_joined, has_values};
+ghost use Rattle.amoebot_state.specs.Configs.{is_close, has_values};
 ghost use Rattle.amoebot_state.specs.Storage.{put_at, put_bot, put_spot, put_bots, put_spots};
 ghost use Rattle.tri_lattice.specs.Lattice.{IsNear};
 ghost use Rattle.tri_lattice.specs.Extent.{index_of};
@@ -10,10 +10,10 @@ use std::alloc::AllocError;
 use tri_lattice::{Area, Node, adjacent};
 
 /// Whether the nodes are equal or adjacent.
-pub(crate) fn is_joined(a: Node, b: Node) -> bool
+pub(crate) fn is_close(a: Node, b: Node) -> bool
     requires a_near { IsNear a }
     requires b_near { IsNear b }
-    ensures { result ≡ is_joined a b }
+    ensures { result ≡ is_close a b }
 {
     a == b || adjacent(a, b).is_some()
 }

@@ -1,4 +1,4 @@
-ghost use Rattle.amoebot_state.specs.Laws.{GlobalAndLocalAreInverse, ContractedHasSixPorts, ExpandedHasTenPorts, SixPortsLeadToSixNodes, TenPortsLeadToEightNodes, ZoneIsDetermined, ShownListsZone, ShownHoldsValues, KnownIsFront, NextIsInZone, FrontGrows, NextIsNew, KnownGrowsAtItsEnd, WholeZoneIsShown, FrontStands, ZoneListsEachCellOnce, ZoneHasAtMostTenNodes, ZoneHasAtMostNineBodies, NodeBehindPortIsInZone, OccupantBehindPortIsInZone, GapShowsWhatWasShown, PatchedIsUnique, PatchListsWhatDiffers, StepHasOneResult, RunHasOneLast, SameValueIsEquality, DiffLeads, OrderedPatchIsDiff, ValidIsFaultless, FaultlessIsValid, GapIsValid, GapHoldsTheSame, OccupiedIsOccupant, PortLeadsBeside};
+ghost use Rattle.amoebot_state.specs.Laws.{GlobalAndLocalAreInverse, ContractedHasSixPorts, ExpandedHasTenPorts, SixPortsLeadToSixNodes, TenPortsLeadToEightNodes, ZoneIsDetermined, ShownListsZone, ShownHoldsValues, KnownIsFront, NextIsInZone, FrontGrows, NextIsNew, KnownGrowsAtItsEnd, WholeZoneIsShown, FrontStands, ZoneListsEachCellOnce, ZoneHasAtMostTenNodes, ZoneHasAtMostNineBodies, NodeBehindPortIsInZone, OccupantBehindPortIsInZone, ShownAloneShowsTheSame, PatchedIsUnique, PatchListsWhatDiffers, StepHasOneResult, RunHasOneLast, SameValueIsEquality, DiffLeads, OrderedPatchIsDiff, ValidIsFaultless, FaultlessIsValid, ShownAloneIsValid, ShownAloneHoldsTheSame, OccupiedIsOccupant, PortLeadsBeside};
 
 /// Local and global directions are both 0 to 5, and the one is the inverse of the other, with either chirality.
 pub fn global_and_local_are_inverse()
@@ -106,8 +106,8 @@ pub fn occupant_behind_port_is_in_zone()
 {}
 
 /// The configuration that has what is shown and no other amoebot shows just that.
-pub fn gap_shows_what_was_shown()
-    ensures { GapShowsWhatWasShown }
+pub fn shown_alone_shows_the_same()
+    ensures { ShownAloneShowsTheSame }
 {}
 
 /// At most one configuration is the one that a patch leads to.
@@ -157,13 +157,13 @@ pub fn faultless_is_valid()
 {}
 
 /// The configuration that has what is shown and no other amoebot is valid.
-pub fn gap_is_valid()
-    ensures { GapIsValid }
+pub fn shown_alone_is_valid()
+    ensures { ShownAloneIsValid }
 {}
 
 /// Each cell of a zone holds in that configuration what it holds in the one that shows it.
-pub fn gap_holds_the_same()
-    ensures { GapHoldsTheSame }
+pub fn shown_alone_holds_the_same()
+    ensures { ShownAloneHoldsTheSame }
 {}
 
 /// A node of a valid configuration is occupied exactly where it is the head or the tail of an amoebot.

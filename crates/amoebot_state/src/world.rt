@@ -10,7 +10,7 @@ ghost use Rattle.arrayvec.specs.ArrayVec.{array_vec_len};
 use crate::bot::Bot;
 use crate::cell::{Cell, CellName, Cells, Patch};
 use crate::found::Found;
-use crate::grid::{has_values, is_joined, put_all, put_new};
+use crate::grid::{has_values, is_close, put_all, put_new};
 use crate::refusal::{NoMemory, WorldRefusal};
 use crate::zone::{Ids, push_other, zone_nodes};
 use arrayvec::ArrayVec;
@@ -90,7 +90,7 @@ impl World {
         if self.area.index(bot.head).is_none() || self.area.index(bot.tail).is_none() {
             return Some(WorldRefusal::OutOfBox(id));
         }
-        if !is_joined(bot.head, bot.tail) {
+        if !is_close(bot.head, bot.tail) {
             return Some(WorldRefusal::NotAdjacent(id));
         }
         if self.occupant(bot.head).is_some() || self.occupant(bot.tail).is_some() {

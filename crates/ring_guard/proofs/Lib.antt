@@ -1,4 +1,4 @@
 pub mod Tables
-pub mod Runs
+pub mod Rows
 pub mod Arcs
 pub mod Gaps

@@ -3,7 +3,7 @@ use Rattle.std.specs.Prelude.{◌≡◌, ◌↔◌, ℕ, ◌<◌, ◌/◌, ◌%�
 use Rattle.std.specs.List.{list_any}
 use Rattle.tri_lattice.specs.declared.node.Node.{Node}
 use Rattle.tri_lattice.specs.Sets.{IsConnected, TakesOut}
-use Rattle.ring_guard.specs.Rings.{IsOneArc, IsRun, ring_in, HasEmptyRing}
+use Rattle.ring_guard.specs.Rings.{IsOneArc, IsRow, ring_in, HasEmptyRing}
 
 -- taking out a node whose ring is one arc leaves a connected set connected
 abbrev pub TakingKeeps : Type 0
@@ -18,8 +18,8 @@ abbrev pub AloneIsAll : Type 0
 AloneIsAll = (S : Node → Bool) (v : Node) → IsConnected S → IsTrue (S v) → HasEmptyRing S v → (a : Node) → IsTrue (S a) → a ≡ v
 
 -- a ring is one arc exactly where its true entries stand in a row round the ring, and there is one
-abbrev pub ArcsAreRuns : Type 0
-ArcsAreRuns = (xs : List Bool) → length xs ≡ 6 → IsOneArc xs ↔ IsRun xs
+abbrev pub ArcsAreRows : Type 0
+ArcsAreRows = (xs : List Bool) → length xs ≡ 6 → IsOneArc xs ↔ IsRow xs
 
 -- the ring whose entry i is bit i of a number below 64
 abbrev pub ring_of : ℕ → List Bool

@@ -17,17 +17,17 @@ pub record IsOneArc (xs : List Bool) : Type 0 where
   pub once : (i j : ℕ) → i < 6 → j < 6 → IsEnd xs i → IsEnd xs j → i ≡ j
 
 -- the ring whose true entries are those of n directions in a row, from one on round
-abbrev pub run : ℕ → ℕ → List Bool
-run from n = map (λ i. nat_lt ((i + 6 - from) % 6) n) (0 ∷ 1 ∷ 2 ∷ 3 ∷ 4 ∷ 5 ∷ [])
+abbrev pub row : ℕ → ℕ → List Bool
+row from n = map (λ i. nat_lt ((i + 6 - from) % 6) n) (0 ∷ 1 ∷ 2 ∷ 3 ∷ 4 ∷ 5 ∷ [])
 
 -- the true entries stand in a row round the ring, and there is one
-pub record IsRun (xs : List Bool) : Type 0 where
+pub record IsRow (xs : List Bool) : Type 0 where
   pub from : ℕ
   pub count : ℕ
   pub below : from < 6
   pub some : 1 ≤ count
   pub most : count ≤ 6
-  pub is : xs ≡ run from count
+  pub is : xs ≡ row from count
 
 -- which of the six neighbours of a node are in a set
 abbrev pub ring_in : (Node → Bool) → Node → List Bool

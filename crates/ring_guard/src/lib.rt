@@ -6,7 +6,7 @@
 
 ghost use Rattle.std.specs.Prelude.{◌↔◌, IsTrue};
 ghost use Rattle.ring_guard.specs.Gap.{GapSplits};
-ghost use Rattle.ring_guard.specs.Laws.{TakingKeeps, TakingLeaves, AloneIsAll, ArcsAreRuns, ArcTable};
+ghost use Rattle.ring_guard.specs.Laws.{TakingKeeps, TakingLeaves, AloneIsAll, ArcsAreRows, ArcTable};
 ghost use Rattle.ring_guard.specs.Rings.{IsOneArc};
 
 /// Whether the true entries of a ring form one arc.
@@ -34,7 +34,7 @@ pub fn arc_laws()
     ensures keeps { TakingKeeps }
     ensures leaves { TakingLeaves }
     ensures alone { AloneIsAll }
-    ensures runs { ArcsAreRuns }
+    ensures rows { ArcsAreRows }
     ensures table { ArcTable }
 {}
 

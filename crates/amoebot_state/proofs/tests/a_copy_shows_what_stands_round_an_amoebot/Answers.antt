@@ -3,15 +3,15 @@ use Rattle.std.specs.Prelude.{IsTrue}
 use Rattle.tri_lattice.specs.declared.node.Node.{Node}
 use Rattle.amoebot_state.specs.Ports.{is_beside}
 use Rattle.amoebot_state.specs.Configs.{Config, bot_of}
-use Rattle.amoebot_state.specs.Zones.{Shown, shown, gap}
+use Rattle.amoebot_state.specs.Zones.{Shown, shown, shown_alone}
 use Rattle.amoebot_state.proofs.Samples.{at, contracted, stretched, world}
 use Rattle.amoebot_state.proofs.tests.a_copy_shows_what_stands_round_an_amoebot.Goals as goal
 
 abbrev three : Config
 three = world (contracted (at 6 6) ∷ stretched ∷ contracted (at 1 3) ∷ [])
 
-beside : (s : Shown) → s ≡ shown three 1 → (v : Node) → IsTrue (is_beside stretched v) → IsTrue (is_beside (bot_of (gap s) s.bot) v)
-beside s is v near = subst (λ (t : Shown). IsTrue (is_beside (bot_of (gap t) t.bot) v)) (sym is) near
+beside : (s : Shown) → s ≡ shown three 1 → (v : Node) → IsTrue (is_beside stretched v) → IsTrue (is_beside (bot_of (shown_alone s) s.bot) v)
+beside s is v near = subst (λ (t : Shown). IsTrue (is_beside (bot_of (shown_alone t) t.bot) v)) (sym is) near
 
 pub occupant-requires-2 : goal.occupant-requires-2
 occupant-requires-2 g c = beside c.found-found.result (c.found-found.ensures.value ∙ ap (λ w. shown w 1) (c.in_ok-copy.ensures ∙ c.in_ok-world.ensures)) (at 1 3) refl

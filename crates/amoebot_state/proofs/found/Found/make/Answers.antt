@@ -3,7 +3,7 @@ use Rattle.std.specs.Option.{option_copied}
 use Rattle.amoebot_state.specs.declared.cell.CellName.{CellName}
 use Rattle.amoebot_state.specs.declared.cell.Cell.{Cell}
 use Rattle.amoebot_state.specs.Zones.{Shown, IsFound}
-use Rattle.amoebot_state.proofs.Gaps.{spread_at}
+use Rattle.amoebot_state.proofs.ShownAlone.{spread_at}
 use Rattle.amoebot_state.proofs.Shows.{length-shown-le}
 use Rattle.amoebot_state.proofs.found.Found.make.Goals as goal
 

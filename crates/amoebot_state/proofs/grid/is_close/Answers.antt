@@ -1,7 +1,7 @@
 use Rattle.std.proofs.Common.{◌∙◌, ◌||◌, ap, sym}
 use Rattle.tri_lattice.specs.Lattice.{is_adjacent}
 use Rattle.amoebot_state.proofs.Owns.{adjacent_is}
-use Rattle.amoebot_state.proofs.grid.is_joined.Goals as goal
+use Rattle.amoebot_state.proofs.grid.is_close.Goals as goal
 
 pub returns-else-eq : goal.returns-else-eq
 returns-else-eq c =

@@ -1,5 +1,5 @@
 use Rattle.amoebot_state.proofs.Shows.{shown_valid}
-use Rattle.amoebot_state.proofs.laws.gap_is_valid.Goals as goal
+use Rattle.amoebot_state.proofs.laws.shown_alone_is_valid.Goals as goal
 
 pub returns : goal.returns
 returns c = shown_valid
