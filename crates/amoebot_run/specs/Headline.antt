@@ -5,6 +5,7 @@ use Rattle.std.specs.declared.option.Option.TheVariants.{Some, None}
 use Rattle.text_tokens.specs.declared.refusal.Refusal.{Refusal}
 use Rattle.text_tokens.specs.declared.refusal.RefusalKind.TheVariants as kind
 use Rattle.text_tokens.specs.Kinds.{name}
+use Rattle.text_tokens.specs.Lines.{line_text}
 use Rattle.amoebot_state.specs.declared.bot.Port.{Port}
 use Rattle.amoebot_state.specs.Configs.{Config}
 use Rattle.amoebot_state.specs.Moves.{expansion_verdict_shown}
@@ -15,7 +16,7 @@ use Rattle.amoebot_run.specs.declared.run.Status.TheVariants as status
 use Rattle.amoebot_run.specs.Documents.{IsRunDocument}
 use Rattle.amoebot_run.specs.Good.{Good}
 use Rattle.amoebot_run.specs.SerialRuns.{SerialRun, all_turns, left_by}
-use Rattle.amoebot_run.specs.Texts.{line_text, report_text}
+use Rattle.amoebot_run.specs.Texts.{report_text}
 use Rattle.amoebot_run.specs.Turns.{CallerLists}
 
 -- the report is one of a run of the program, from the world at the start, of the lists: it is good, and it is what the turns of

@@ -1,11 +1,12 @@
--- The texts of a run. A token, a line and a text are bytes.
+-- The texts of a run.
 use Rattle.std.specs.Prelude.{ℕ, List, [], ◌∷◌, ◌++◌, codes, decimal, map, take}
 use Rattle.std.specs.Fmt.{signed_decimal}
-use Rattle.std.specs.List.{join_with_byte, flat_map, filter_map, enumerate_from}
+use Rattle.std.specs.List.{flat_map, filter_map, enumerate_from}
 use Rattle.std.specs.declared.option.Option.{Option}
 use Rattle.std.specs.declared.option.Option.TheVariants.{Some, None}
 use Rattle.tri_lattice.specs.declared.node.Node.{Node}
 use Rattle.tri_lattice.specs.Extent.{Extent}
+use Rattle.text_tokens.specs.Lines.{Words, section_text}
 use Rattle.amoebot_state.specs.declared.bot.Bot.{Bot}
 use Rattle.amoebot_state.specs.declared.bot.Chir.{Chir}
 use Rattle.amoebot_state.specs.declared.bot.Chir.TheVariants as chir
@@ -27,18 +28,6 @@ use Rattle.amoebot_run.specs.declared.marks.Mark.{Mark}
 use Rattle.amoebot_run.specs.declared.marks.Mark.TheVariants as mark
 use Rattle.amoebot_run.specs.declared.report.Report.{Report}
 use Rattle.amoebot_run.specs.Turns.{MarkLists}
-
--- the tokens of a line
-abbrev pub Words : Type 0
-Words = List (List ℕ)
-
--- the tokens of a line have one space (32) between them, and the line ends with one LF
-abbrev pub line_text : Words → List ℕ
-line_text words = join_with_byte 32 words ++ codes "\n"
-
--- a section: its word on a line, its items one to a line, and `end` on a line
-abbrev pub section_text : List ℕ → List Words → List ℕ
-section_text word items = flat_map line_text ((word ∷ []) ∷ items ++ (codes "end" ∷ []) ∷ [])
 
 -- the coordinates of a node, where a negative one has a `-` directly before its digits
 abbrev pub node_words : Node → Words
@@ -139,7 +128,3 @@ turns_text m = section_text (codes "turns") (flat_map caller_lines (enumerate_fr
 -- the journal, the last shape and the turns of a run without variables
 abbrev pub report_text : Report → List ℕ
 report_text r = journal_text 0 r.journal.entries ++ shape_text (codes "final") 0 r.world ++ turns_text r.turns
-
--- each token after a space, as the tokens behind the first of a line. No public clause cites it
-abbrev pub spaced : Words → List ℕ
-spaced words = flat_map (λ word. 32 ∷ word) words

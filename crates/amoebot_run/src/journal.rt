@@ -38,10 +38,8 @@ impl Journal {
         ensures ok { OnOk result (self.new ≡ record self.old { spare = max self.old.spare more }) }
         ensures err { OnErr result (self.new ≡ self.old) }
     {
-        match self.entries.reserve_exact(more as usize) {
-            Ok(()) => Ok(()),
-            Err(_) => Err(NoMemory),
-        }
+        self.entries.reserve_exact(more as usize)?;
+        Ok(())
     }
 
     /// Adds an entry last. It takes no memory.

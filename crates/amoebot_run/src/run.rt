@@ -18,7 +18,7 @@ use crate::document::{Unread, document_is_one, read_run};
 use crate::gate::{Gate, NoGate};
 use crate::report::Report;
 use crate::serial::{run_serially, serial_run_is_determined};
-use crate::texts::{Text, print_report};
+use crate::texts::print_report;
 use outer_io::{
     ReadError, Sink, Source, SureSink, SureSource, WriteFault, pieces_are_kept_as_one,
     read_document, write_all,
@@ -26,7 +26,7 @@ use outer_io::{
 use std::alloc::Global;
 use std::sync::Wait;
 use std::thread::Threads;
-use text_tokens::{Refusal, RefusalKind};
+use text_tokens::{Refusal, RefusalKind, Text};
 
 /// How a command ended.
 #[derive(Clone, Copy, Debug, PartialEq, Eq)]

@@ -1,44 +1,24 @@
-ghost use Rattle.std.specs.Prelude.{◌≡◌, ◌<◌, ◌≤◌, [], ◌∷◌, ◌++◌, List, ℕ, codes, decimal, length, map, IfOk, OnOk};
+ghost use Rattle.std.specs.Prelude.{◌≡◌, ◌<◌, ◌≤◌, ◌++◌, decimal, length, map, IfOk, OnOk};
 ghost use Rattle.std.specs.List.{enumerate_from, flat_map};
-ghost use Rattle.amoebot_run.specs.Texts.{area_words, bot_line, bot_words, caller_lines, cell_words, chir_word, end_word, entry_numbers, entry_words, failure_word, journal_text, line_text, mark_words, moved_words, node_words, pair_words, port_words, present, report_text, shape_text, spaced, turn_words, turns_text, value_words};
+ghost use Rattle.text_tokens.specs.Lines.{line_text, lines_text, spaced};
+ghost use Rattle.amoebot_run.specs.Texts.{area_words, bot_line, bot_words, caller_lines, cell_words, chir_word, end_word, entry_numbers, entry_words, failure_word, journal_text, mark_words, moved_words, node_words, pair_words, port_words, present, report_text, shape_text, turn_words, turns_text, value_words};
 ghost use Rattle.amoebot_run.specs.Turns.{marks_of};
 
 use crate::marks::{Mark, Marks};
 use crate::report::Report;
 use amoebot_state::{Bot, Cell, CellName, Chir, End, Entry, Failure, Moved, NoMemory, Port, World};
-use itoa::{Buffer, Integer};
-use std::alloc::Global;
-use std::marker::Model;
+use std::alloc::{AllocError, Global};
+use text_tokens::{Lines, Text};
 use tri_lattice::{Area, Node};
-
-/// A text that was made whole.
-#[derive(Drop)]
-pub struct Text {
-    bytes: Vec<u8>,
-}
-
-impl Model for Text {
-    ghost Value = { List ℕ };
-
-    ghost view = { λ text. text.bytes.items };
-}
-
-impl Text {
-    pub fn bytes(&self) -> &[u8]
-        ensures { result.now ≡ self.now }
-    {
-        self.bytes.as_slice()
-    }
-}
 
 /// The text of a run without variables: the sections `journal`, `final` and `turns`.
 pub fn print_report(alloc: Global, report: &Report) -> Result<Text, NoMemory>
     ensures { IfOk result (λ text. text ≡ report_text report.now) }
 {
     let mut lines = Lines::new(alloc);
-    lines.journal(report.journal.entries(), 0)?;
-    lines.shape("final", &report.world, 0)?;
-    lines.turns(&report.turns)?;
+    put_journal(&mut lines, report.journal.entries(), 0)?;
+    put_shape(&mut lines, "final", &report.world, 0)?;
+    put_turns(&mut lines, &report.turns)?;
     Ok(lines.text())
 }
 
@@ -48,7 +28,7 @@ pub fn print_journal(alloc: Global, entries: &[Entry], vars: u8) -> Result<Text,
     ensures { IfOk result (λ text. text ≡ journal_text vars entries.now) }
 {
     let mut lines = Lines::new(alloc);
-    lines.journal(entries, vars)?;
+    put_journal(&mut lines, entries, vars)?;
     Ok(lines.text())
 }
 
@@ -58,7 +38,7 @@ pub fn print_shape(alloc: Global, word: &str, world: &World, vars: u8) -> Result
     ensures { IfOk result (λ text. text ≡ shape_text word.now vars world.now) }
 {
     let mut lines = Lines::new(alloc);
-    lines.shape(word, world, vars)?;
+    put_shape(&mut lines, word, world, vars)?;
     Ok(lines.text())
 }
 
@@ -67,319 +47,252 @@ pub fn print_turns(alloc: Global, marks: &Marks) -> Result<Text, NoMemory>
     ensures { IfOk result (λ text. text ≡ turns_text marks.now) }
 {
     let mut lines = Lines::new(alloc);
-    lines.turns(marks)?;
+    put_turns(&mut lines, marks)?;
     Ok(lines.text())
 }
 
-/// The lines of sections as they are made. The tokens of a line have one space between them.
-#[derive(Drop)]
-struct Lines {
-    bytes: Vec<u8>,
+fn put_journal(lines: &mut Lines, entries: &[Entry], vars: u8) -> Result<(), AllocError>
+    requires { vars ≤ 8 }
+    ensures { OnOk result (lines.new ≡ lines.old ++ journal_text vars entries.now) }
+{
+    lines.open_section("journal")?;
+    put_entries(lines, entries, vars)?;
+    lines.close_section()
 }
 
-impl Lines {
-    fn new(alloc: Global) -> Lines
-        ensures { result.bytes.items ≡ [] }
-    {
-        Lines {
-            bytes: Vec::new(alloc),
+fn put_shape(lines: &mut Lines, word: &str, world: &World, vars: u8) -> Result<(), AllocError>
+    requires { vars ≤ 8 }
+    ensures { OnOk result (lines.new ≡ lines.old ++ shape_text word.now vars world.now) }
+{
+    lines.open_section(word)?;
+    put_area(lines, world.area())?;
+    put_bots(lines, world, vars)?;
+    lines.close_section()
+}
+
+fn put_turns(lines: &mut Lines, marks: &Marks) -> Result<(), AllocError>
+    ensures { OnOk result (lines.new ≡ lines.old ++ turns_text marks.now) }
+{
+    lines.open_section("turns")?;
+    put_callers(lines, marks)?;
+    lines.close_section()
+}
+
+fn put_entries(lines: &mut Lines, entries: &[Entry], vars: u8) -> Result<(), AllocError>
+    requires { vars ≤ 8 }
+    ensures { OnOk result (lines.new ≡ lines.old ++ lines_text (map (entry_words vars) (enumerate_from 0 entries.now))) }
+{
+    for (place, entry) in entries.iter().enumerate() {
+        put_entry(lines, place, entry, vars)?;
+    }
+    Ok(())
+}
+
+fn put_entry(lines: &mut Lines, place: usize, entry: &Entry, vars: u8) -> Result<(), AllocError>
+    requires { vars ≤ 8 }
+    ensures { OnOk result (lines.new ≡ lines.old ++ line_text (entry_words vars (place, entry.now))) }
+{
+    lines.begin("entry")?;
+    put_numbers(lines, place, entry)?;
+    put_moved(lines, entry.moved)?;
+    put_pairs(lines, entry.patch.pairs(), vars)?;
+    lines.end()
+}
+
+/// The five numbers with which an entry begins.
+fn put_numbers(lines: &mut Lines, place: usize, entry: &Entry) -> Result<(), AllocError>
+    ensures { OnOk result (lines.new ≡ lines.old ++ spaced (entry_numbers place entry.now)) }
+{
+    lines.number(place)?;
+    lines.number(entry.caller)?;
+    lines.number(entry.turn)?;
+    lines.number(entry.bot)?;
+    lines.number(entry.action)
+}
+
+fn put_area(lines: &mut Lines, area: Area) -> Result<(), AllocError>
+    ensures { OnOk result (lines.new ≡ lines.old ++ line_text (area_words area)) }
+{
+    lines.begin("area")?;
+    lines.number(area.x0())?;
+    lines.number(area.y0())?;
+    lines.number(area.w())?;
+    lines.number(area.h())?;
+    lines.end()
+}
+
+/// The amoebots, each on a line.
+fn put_bots(lines: &mut Lines, world: &World, vars: u8) -> Result<(), AllocError>
+    requires { vars ≤ 8 }
+    ensures { OnOk result (lines.new ≡ lines.old ++ lines_text (map (bot_line vars) (present world.now.bots))) }
+{
+    for id in 0..world.bots() {
+        lines.begin("bot")?;
+        put_bot(lines, world.bot(id), vars)?;
+        lines.end()?;
+    }
+    Ok(())
+}
+
+fn put_callers(lines: &mut Lines, marks: &Marks) -> Result<(), AllocError>
+    ensures { OnOk result (lines.new ≡ lines.old ++ lines_text (flat_map caller_lines (enumerate_from 0 marks.now.marks))) }
+{
+    for caller in 0..marks.callers() {
+        put_caller(lines, marks, caller)?;
+    }
+    Ok(())
+}
+
+fn put_caller(lines: &mut Lines, marks: &Marks, caller: u8) -> Result<(), AllocError>
+    requires { caller < length marks.now.marks }
+    ensures { OnOk result (lines.new ≡ lines.old ++ lines_text (caller_lines (caller, marks_of marks.now caller))) }
+{
+    for turn in 0..marks.count(caller) {
+        put_turn(lines, caller, turn, marks.mark(caller, turn))?;
+    }
+    Ok(())
+}
+
+fn put_turn(lines: &mut Lines, caller: u8, turn: u32, mark: Mark) -> Result<(), AllocError>
+    ensures { OnOk result (lines.new ≡ lines.old ++ line_text (turn_words caller (turn, mark))) }
+{
+    lines.begin("turn")?;
+    lines.number(caller)?;
+    lines.number(turn)?;
+    put_mark(lines, mark)?;
+    lines.end()
+}
+
+fn put_mark(lines: &mut Lines, mark: Mark) -> Result<(), AllocError>
+    ensures { OnOk result (lines.new ≡ lines.old ++ spaced (mark_words mark)) }
+{
+    match mark {
+        Mark::Done { place } => {
+            lines.word("done")?;
+            lines.number(place)
+        }
+        Mark::Idle { place } => {
+            lines.word("idle")?;
+            lines.number(place)
+        }
+        Mark::Failed { failure, place } => {
+            lines.word("failed")?;
+            lines.word(failure_word(failure))?;
+            lines.number(place)
+        }
+        Mark::Busy {
+            cell,
+            by_caller,
+            by_turn,
+            by_bot,
+            place,
+        } => {
+            lines.word("busy")?;
+            put_cell(lines, cell)?;
+            lines.word("by")?;
+            lines.number(by_caller)?;
+            lines.number(by_turn)?;
+            lines.number(by_bot)?;
+            lines.word("place")?;
+            lines.number(place)
         }
     }
+}
 
-    fn text(self) -> Text
-        ensures { result ≡ self.bytes.items }
-    {
-        Text { bytes: self.bytes }
+fn put_pairs(lines: &mut Lines, pairs: &[(CellName, Cell)], vars: u8) -> Result<(), AllocError>
+    requires { vars ≤ 8 }
+    ensures { OnOk result (lines.new ≡ lines.old ++ spaced (flat_map (pair_words vars) pairs.now)) }
+{
+    for (name, value) in pairs {
+        put_cell(lines, *name)?;
+        put_value(lines, value, vars)?;
     }
+    Ok(())
+}
 
-    fn journal(&mut self, entries: &[Entry], vars: u8) -> Result<(), NoMemory>
-        requires { vars ≤ 8 }
-        ensures { OnOk result (self.new.bytes.items ≡ self.old.bytes.items ++ journal_text vars entries.now) }
-    {
-        self.line("journal")?;
-        self.entries(entries, vars)?;
-        self.line("end")
-    }
-
-    fn shape(&mut self, word: &str, world: &World, vars: u8) -> Result<(), NoMemory>
-        requires { vars ≤ 8 }
-        ensures { OnOk result (self.new.bytes.items ≡ self.old.bytes.items ++ shape_text word.now vars world.now) }
-    {
-        self.line(word)?;
-        self.area(world.area())?;
-        self.bots(world, vars)?;
-        self.line("end")
-    }
-
-    fn turns(&mut self, marks: &Marks) -> Result<(), NoMemory>
-        ensures { OnOk result (self.new.bytes.items ≡ self.old.bytes.items ++ turns_text marks.now) }
-    {
-        self.line("turns")?;
-        self.callers(marks)?;
-        self.line("end")
-    }
-
-    fn entries(&mut self, entries: &[Entry], vars: u8) -> Result<(), NoMemory>
-        requires { vars ≤ 8 }
-        ensures { OnOk result (self.new.bytes.items ≡ self.old.bytes.items ++ flat_map line_text (map (entry_words vars) (enumerate_from 0 entries.now))) }
-    {
-        for (place, entry) in entries.iter().enumerate() {
-            self.entry(place, entry, vars)?;
+fn put_cell(lines: &mut Lines, name: CellName) -> Result<(), AllocError>
+    ensures { OnOk result (lines.new ≡ lines.old ++ spaced (cell_words name)) }
+{
+    match name {
+        CellName::Spot(node) => {
+            lines.word("spot")?;
+            put_node(lines, node)
         }
-        Ok(())
-    }
-
-    fn entry(&mut self, place: usize, entry: &Entry, vars: u8) -> Result<(), NoMemory>
-        requires { vars ≤ 8 }
-        ensures { OnOk result (self.new.bytes.items ≡ self.old.bytes.items ++ line_text (entry_words vars (place, entry.now))) }
-    {
-        self.begin("entry")?;
-        self.numbers(place, entry)?;
-        self.moved(entry.moved)?;
-        self.pairs(entry.patch.pairs(), vars)?;
-        self.end()
-    }
-
-    /// The five numbers with which an entry begins.
-    fn numbers(&mut self, place: usize, entry: &Entry) -> Result<(), NoMemory>
-        ensures { OnOk result (self.new.bytes.items ≡ self.old.bytes.items ++ spaced (entry_numbers place entry.now)) }
-    {
-        self.number(place)?;
-        self.number(entry.caller)?;
-        self.number(entry.turn)?;
-        self.number(entry.bot)?;
-        self.number(entry.action)
-    }
-
-    fn area(&mut self, area: Area) -> Result<(), NoMemory>
-        ensures { OnOk result (self.new.bytes.items ≡ self.old.bytes.items ++ line_text (area_words area)) }
-    {
-        self.begin("area")?;
-        self.number(area.x0())?;
-        self.number(area.y0())?;
-        self.number(area.w())?;
-        self.number(area.h())?;
-        self.end()
-    }
-
-    /// The amoebots, each on a line.
-    fn bots(&mut self, world: &World, vars: u8) -> Result<(), NoMemory>
-        requires { vars ≤ 8 }
-        ensures { OnOk result (self.new.bytes.items ≡ self.old.bytes.items ++ flat_map line_text (map (bot_line vars) (present world.now.bots))) }
-    {
-        for id in 0..world.bots() {
-            self.begin("bot")?;
-            self.bot(world.bot(id), vars)?;
-            self.end()?;
-        }
-        Ok(())
-    }
-
-    fn callers(&mut self, marks: &Marks) -> Result<(), NoMemory>
-        ensures { OnOk result (self.new.bytes.items ≡ self.old.bytes.items ++ flat_map line_text (flat_map caller_lines (enumerate_from 0 marks.now.marks))) }
-    {
-        for caller in 0..marks.callers() {
-            self.caller(marks, caller)?;
-        }
-        Ok(())
-    }
-
-    fn caller(&mut self, marks: &Marks, caller: u8) -> Result<(), NoMemory>
-        requires { caller < length marks.now.marks }
-        ensures { OnOk result (self.new.bytes.items ≡ self.old.bytes.items ++ flat_map line_text (caller_lines (caller, marks_of marks.now caller))) }
-    {
-        for turn in 0..marks.count(caller) {
-            self.turn(caller, turn, marks.mark(caller, turn))?;
-        }
-        Ok(())
-    }
-
-    fn turn(&mut self, caller: u8, turn: u32, mark: Mark) -> Result<(), NoMemory>
-        ensures { OnOk result (self.new.bytes.items ≡ self.old.bytes.items ++ line_text (turn_words caller (turn, mark))) }
-    {
-        self.begin("turn")?;
-        self.number(caller)?;
-        self.number(turn)?;
-        self.mark(mark)?;
-        self.end()
-    }
-
-    fn mark(&mut self, mark: Mark) -> Result<(), NoMemory>
-        ensures { OnOk result (self.new.bytes.items ≡ self.old.bytes.items ++ spaced (mark_words mark)) }
-    {
-        match mark {
-            Mark::Done { place } => {
-                self.word("done")?;
-                self.number(place)
-            }
-            Mark::Idle { place } => {
-                self.word("idle")?;
-                self.number(place)
-            }
-            Mark::Failed { failure, place } => {
-                self.word("failed")?;
-                self.word(failure_word(failure))?;
-                self.number(place)
-            }
-            Mark::Busy {
-                cell,
-                by_caller,
-                by_turn,
-                by_bot,
-                place,
-            } => {
-                self.word("busy")?;
-                self.cell(cell)?;
-                self.word("by")?;
-                self.number(by_caller)?;
-                self.number(by_turn)?;
-                self.number(by_bot)?;
-                self.word("place")?;
-                self.number(place)
-            }
+        CellName::Body(id) => {
+            lines.word("body")?;
+            lines.number(id)
         }
     }
+}
 
-    fn pairs(&mut self, pairs: &[(CellName, Cell)], vars: u8) -> Result<(), NoMemory>
-        requires { vars ≤ 8 }
-        ensures { OnOk result (self.new.bytes.items ≡ self.old.bytes.items ++ spaced (flat_map (pair_words vars) pairs.now)) }
-    {
-        for (name, value) in pairs {
-            self.cell(*name)?;
-            self.value(value, vars)?;
+fn put_value(lines: &mut Lines, value: &Cell, vars: u8) -> Result<(), AllocError>
+    requires { vars ≤ 8 }
+    ensures { OnOk result (lines.new ≡ lines.old ++ spaced (value_words vars value.now)) }
+{
+    match value {
+        Cell::Spot(Some(id)) => lines.number(*id),
+        Cell::Spot(None) => lines.word("empty"),
+        Cell::Body(bot) => put_bot(lines, bot, vars),
+    }
+}
+
+/// The nodes, the rotation, the chirality and the first values of an amoebot.
+fn put_bot(lines: &mut Lines, bot: &Bot, vars: u8) -> Result<(), AllocError>
+    requires { vars ≤ 8 }
+    ensures { OnOk result (lines.new ≡ lines.old ++ spaced (bot_words vars bot.now)) }
+{
+    put_node(lines, bot.head)?;
+    put_node(lines, bot.tail)?;
+    lines.number(bot.rot)?;
+    lines.word(chir_word(bot.chir))?;
+    put_values(lines, &bot.mem[..usize::from(vars)])
+}
+
+fn put_values(lines: &mut Lines, values: &[u8]) -> Result<(), AllocError>
+    ensures { OnOk result (lines.new ≡ lines.old ++ spaced (map decimal values.now)) }
+{
+    for value in values {
+        lines.number(*value)?;
+    }
+    Ok(())
+}
+
+fn put_moved(lines: &mut Lines, moved: Moved) -> Result<(), AllocError>
+    ensures { OnOk result (lines.new ≡ lines.old ++ spaced (moved_words moved)) }
+{
+    match moved {
+        Moved::None => lines.word("none"),
+        Moved::Expand(port) => {
+            lines.word("expand")?;
+            put_port(lines, port)
         }
-        Ok(())
-    }
-
-    fn cell(&mut self, name: CellName) -> Result<(), NoMemory>
-        ensures { OnOk result (self.new.bytes.items ≡ self.old.bytes.items ++ spaced (cell_words name)) }
-    {
-        match name {
-            CellName::Spot(node) => {
-                self.word("spot")?;
-                self.node(node)
-            }
-            CellName::Body(id) => {
-                self.word("body")?;
-                self.number(id)
-            }
+        Moved::Contract(end) => {
+            lines.word("contract")?;
+            lines.word(end_word(end))
         }
-    }
-
-    fn value(&mut self, value: &Cell, vars: u8) -> Result<(), NoMemory>
-        requires { vars ≤ 8 }
-        ensures { OnOk result (self.new.bytes.items ≡ self.old.bytes.items ++ spaced (value_words vars value.now)) }
-    {
-        match value {
-            Cell::Spot(Some(id)) => self.number(*id),
-            Cell::Spot(None) => self.word("empty"),
-            Cell::Body(bot) => self.bot(bot, vars),
+        Moved::Push(port) => {
+            lines.word("push")?;
+            put_port(lines, port)
         }
-    }
-
-    /// The nodes, the rotation, the chirality and the first values of an amoebot.
-    fn bot(&mut self, bot: &Bot, vars: u8) -> Result<(), NoMemory>
-        requires { vars ≤ 8 }
-        ensures { OnOk result (self.new.bytes.items ≡ self.old.bytes.items ++ spaced (bot_words vars bot.now)) }
-    {
-        self.node(bot.head)?;
-        self.node(bot.tail)?;
-        self.number(bot.rot)?;
-        self.word(chir_word(bot.chir))?;
-        self.values(&bot.mem[..usize::from(vars)])
-    }
-
-    fn values(&mut self, values: &[u8]) -> Result<(), NoMemory>
-        ensures { OnOk result (self.new.bytes.items ≡ self.old.bytes.items ++ spaced (map decimal values.now)) }
-    {
-        for value in values {
-            self.number(*value)?;
-        }
-        Ok(())
-    }
-
-    fn moved(&mut self, moved: Moved) -> Result<(), NoMemory>
-        ensures { OnOk result (self.new.bytes.items ≡ self.old.bytes.items ++ spaced (moved_words moved)) }
-    {
-        match moved {
-            Moved::None => self.word("none"),
-            Moved::Expand(port) => {
-                self.word("expand")?;
-                self.port(port)
-            }
-            Moved::Contract(end) => {
-                self.word("contract")?;
-                self.word(end_word(end))
-            }
-            Moved::Push(port) => {
-                self.word("push")?;
-                self.port(port)
-            }
-            Moved::Pull(port) => {
-                self.word("pull")?;
-                self.port(port)
-            }
+        Moved::Pull(port) => {
+            lines.word("pull")?;
+            put_port(lines, port)
         }
     }
+}
 
-    fn port(&mut self, port: Port) -> Result<(), NoMemory>
-        ensures { OnOk result (self.new.bytes.items ≡ self.old.bytes.items ++ spaced (port_words port)) }
-    {
-        self.word(end_word(port.end))?;
-        self.number(port.dir)
-    }
+fn put_port(lines: &mut Lines, port: Port) -> Result<(), AllocError>
+    ensures { OnOk result (lines.new ≡ lines.old ++ spaced (port_words port)) }
+{
+    lines.word(end_word(port.end))?;
+    lines.number(port.dir)
+}
 
-    fn node(&mut self, node: Node) -> Result<(), NoMemory>
-        ensures { OnOk result (self.new.bytes.items ≡ self.old.bytes.items ++ spaced (node_words node)) }
-    {
-        self.number(node.x)?;
-        self.number(node.y)
-    }
-
-    fn number<I: Integer + Drop>(&mut self, number: I) -> Result<(), NoMemory>
-        ensures { OnOk result (self.new.bytes.items ≡ self.old.bytes.items ++ 32 ∷ I.text number) }
-    {
-        let mut buffer = Buffer::new();
-        self.word(buffer.format(number))
-    }
-
-    /// A line of one token.
-    fn line(&mut self, word: &str) -> Result<(), NoMemory>
-        ensures { OnOk result (self.new.bytes.items ≡ self.old.bytes.items ++ line_text (word.now ∷ [])) }
-    {
-        self.begin(word)?;
-        self.end()
-    }
-
-    /// The first token of a line.
-    fn begin(&mut self, word: &str) -> Result<(), NoMemory>
-        ensures { OnOk result (self.new.bytes.items ≡ self.old.bytes.items ++ word.now) }
-    {
-        self.put(word.as_bytes())
-    }
-
-    /// A further token of a line.
-    fn word(&mut self, word: &str) -> Result<(), NoMemory>
-        ensures { OnOk result (self.new.bytes.items ≡ self.old.bytes.items ++ 32 ∷ word.now) }
-    {
-        self.put(b" ")?;
-        self.put(word.as_bytes())
-    }
-
-    fn end(&mut self) -> Result<(), NoMemory>
-        ensures { OnOk result (self.new.bytes.items ≡ self.old.bytes.items ++ codes "\n") }
-    {
-        self.put(b"\n")
-    }
-
-    fn put(&mut self, bytes: &[u8]) -> Result<(), NoMemory>
-        ensures { OnOk result (self.new.bytes.items ≡ self.old.bytes.items ++ bytes.now) }
-    {
-        match self.bytes.extend_from_slice(bytes) {
-            Ok(()) => Ok(()),
-            Err(_) => Err(NoMemory),
-        }
-    }
+fn put_node(lines: &mut Lines, node: Node) -> Result<(), AllocError>
+    ensures { OnOk result (lines.new ≡ lines.old ++ spaced (node_words node)) }
+{
+    lines.number(node.x)?;
+    lines.number(node.y)
 }
 
 fn end_word(end: End) -> &'static str

@@ -9,7 +9,8 @@ use Rattle.amoebot_run.specs.declared.marks.Mark.{Mark}
 use Rattle.amoebot_run.specs.declared.report.Report.{Report}
 use Rattle.amoebot_run.specs.Turns.{CallerLists}
 use Rattle.amoebot_run.specs.Headline.{IsRunOf}
-use Rattle.amoebot_run.specs.Texts.{report_text, journal_text, shape_text, section_text, caller_lines}
+use Rattle.text_tokens.specs.Lines.{section_text}
+use Rattle.amoebot_run.specs.Texts.{report_text, journal_text, shape_text, caller_lines}
 use Rattle.amoebot_run.proofs.run.text_is_determined.Goals as goal
 
 -- a text is made of the entries, the world and the marks

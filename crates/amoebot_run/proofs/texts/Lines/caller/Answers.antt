@@ -1,8 +1,0 @@
-use Rattle.amoebot_run.specs.Turns.{marks_of}
-use Rattle.amoebot_run.specs.Texts.{turn_words}
-use Rattle.amoebot_run.proofs.TextLines.{line_more, line_next}
-use Rattle.amoebot_run.proofs.texts.Lines.caller.Goals as goal
-
-pub loop-turn-preserved : goal.loop-turn-preserved
-loop-turn-preserved c =
-    line_more _ _ _ _ (turn_words c.args.caller (c.loop-turn.turn, c.mark.result)) _ c.loop-turn.invariant c.in_ok-turn.ensures (line_next (turn_words c.args.caller) (marks_of c.args.marks.now c.args.caller) c.loop-turn.turn c.mark.result c.mark.ensures)
