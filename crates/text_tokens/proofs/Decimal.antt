@@ -5,7 +5,7 @@ use Rattle.std.proofs.Math.Nat.{add-mul, mul_assoc, mul_comm, pow-succ', pow-le-
 use Rattle.std.proofs.lemmas.Bool.Decides.{nat_tests}
 use Rattle.std.specs.List.{list_all}
 use Rattle.text_tokens.specs.Text.{is_digit}
-use Rattle.text_tokens.specs.Cursor.{value_of}
+use Rattle.text_tokens.specs.Cursor.{number_value}
 use Rattle.text_tokens.proofs.Blanks.{and_true}
 
 digit_passes : (digits : List ℕ) (i : ℕ) → i < length digits → list_all is_digit digits ≡ true → is_digit (get_or digits i 0) ≡ true
@@ -26,16 +26,16 @@ shift v d p r =
     omega arith
 
 pub value_step : (digits : List ℕ) (i v : ℕ) → i < length digits
-    → (10 * v + (get_or digits i 0 - 48)) * 10 ^ (length digits - (i + 1)) + value_of (drop (i + 1) digits) ≡ v * 10 ^ (length digits - i) + value_of (drop i digits)
+    → (10 * v + (get_or digits i 0 - 48)) * 10 ^ (length digits - (i + 1)) + number_value (drop (i + 1) digits) ≡ v * 10 ^ (length digits - i) + number_value (drop i digits)
 value_step digits i v lt =
     let n : length digits - i ≡ suc (length digits - (i + 1)) = omega arith in
     let p : 10 ^ (length digits - i) ≡ 10 * 10 ^ (length digits - (i + 1)) = ap (λ (k : ℕ). 10 ^ k) n ∙ pow-succ' 10 (length digits - (i + 1)) in
     let s : drop (suc i) digits ≡ drop (i + 1) digits = ap (λ (k : ℕ). drop k digits) (sym (add-one i)) in
     let l : length (drop (suc i) digits) ≡ length digits - (i + 1) = ap length s ∙ length-drop (i + 1) digits in
-    let r : value_of (drop i digits) ≡ (get_or digits i 0 - 48) * 10 ^ (length digits - (i + 1)) + value_of (drop (i + 1) digits) =
-    ap value_of (drop-cons digits i 0 lt) ∙ ap (λ (k : ℕ). (get_or digits i 0 - 48) * 10 ^ k + value_of (drop (suc i) digits)) l ∙ ap (λ (ds : List ℕ). (get_or digits i 0 - 48) * 10 ^ (length digits - (i + 1)) + value_of ds) s in
-    shift v (get_or digits i 0 - 48) (10 ^ (length digits - (i + 1))) (value_of (drop (i + 1) digits))
-    ∙ ap (λ (q : ℕ). v * q + ((get_or digits i 0 - 48) * 10 ^ (length digits - (i + 1)) + value_of (drop (i + 1) digits))) (sym p)
+    let r : number_value (drop i digits) ≡ (get_or digits i 0 - 48) * 10 ^ (length digits - (i + 1)) + number_value (drop (i + 1) digits) =
+    ap number_value (drop-cons digits i 0 lt) ∙ ap (λ (k : ℕ). (get_or digits i 0 - 48) * 10 ^ k + number_value (drop (suc i) digits)) l ∙ ap (λ (ds : List ℕ). (get_or digits i 0 - 48) * 10 ^ (length digits - (i + 1)) + number_value ds) s in
+    shift v (get_or digits i 0 - 48) (10 ^ (length digits - (i + 1))) (number_value (drop (i + 1) digits))
+    ∙ ap (λ (q : ℕ). v * q + ((get_or digits i 0 - 48) * 10 ^ (length digits - (i + 1)) + number_value (drop (i + 1) digits))) (sym p)
     ∙ ap (λ (q : ℕ). v * 10 ^ (length digits - i) + q) (sym r)
 
 pub small_step : (v d i : ℕ) → v < 10 ^ i → d ≤ 9 → 10 * v + d < 10 ^ (i + 1)
@@ -46,7 +46,7 @@ small_step v d i lt le =
 pub small_within : (v i n : ℕ) → v < 10 ^ i → i ≤ n → v < 10 ^ n
 small_within v i n lt le = let h : 10 ^ i ≤ 10 ^ n = pow-le-pow_right (omega arith) le in omega arith
 
-pub value_end : (digits : List ℕ) (i v : ℕ) → length digits ≤ i → v * 10 ^ (length digits - i) + value_of (drop i digits) ≡ v
+pub value_end : (digits : List ℕ) (i v : ℕ) → length digits ≤ i → v * 10 ^ (length digits - i) + number_value (drop i digits) ≡ v
 value_end digits i v le =
     let n : length digits - i ≡ 0 = omega arith in
     rw (n, drop_all i digits le) (omega arith)

@@ -1,40 +1,57 @@
 -- A loop over elements: what was found, and what is still read.
-use Rattle.std.proofs.Common.{◌≡◌, ◌<◌, ◌-◌, arith, ℕ, zero, suc, Bool, true, false, cond, List, [], ◌∷◌, ◌++◌, Option, Some, None, Ok, Err, refl, sym, ap, ◌∙◌, append_assoc}
+use Rattle.std.proofs.Common.{◌≡◌, ◌<◌, ◌-◌, arith, ℕ, zero, suc, Bool, true, false, cond, List, [], ◌∷◌, ◌++◌, length, Option, Some, None, Result, Ok, Err, refl, sym, ap, ◌∙◌, append_assoc}
 use Rattle.std.proofs.lemmas.List.{append-nil}
 use Rattle.text_tokens.specs.declared.refusal.Refusal.{Refusal}
 use Rattle.text_tokens.specs.declared.refusal.ReadRefusal.{ReadRefusal}
 use Rattle.text_tokens.specs.declared.refusal.ReadRefusal.TheVariants.{Refused, NoMemory}
 use Rattle.text_tokens.specs.Text.{Lexeme}
-use Rattle.text_tokens.specs.Cursor.{next_passes}
-use Rattle.text_tokens.specs.Reading.{Answer, Reader, first, and_then, ◌>>=◌, pure, starts_at, repeated}
-use Rattle.text_tokens.specs.Steps.{Fails, another}
-use Rattle.text_tokens.proofs.Stepping.{then_err}
+use Rattle.text_tokens.specs.Cursor.{Cursor}
+use Rattle.text_tokens.specs.Reading.{Answer, Reader, first, and_then, ◌>>=◌, pure, starts_at, either, repeated, less}
+use Rattle.text_tokens.specs.Grammar.{Lang}
+use Rattle.text_tokens.specs.Lawful.{AreElements}
+use Rattle.text_tokens.specs.Steps.{Fails, Stays, another}
+use Rattle.text_tokens.proofs.Stepping.{Reached, Failed, stays, stays_on}
+use Rattle.text_tokens.proofs.Repeating.{steps_repeated, fewer}
 
 -- more, behind what was found
 abbrev pub prepend : {A : Type 0} → List A → Answer (List A) → Answer (List A)
 prepend found (Ok r) = Ok (found ++ r.0, r.1)
 prepend found (Err r) = Err r
 
-pub passes_first : (test : Lexeme → Bool) (ts : List Lexeme) → next_passes test ts ≡ starts_at test (first ts)
-passes_first test [] = refl
-passes_first test (t ∷ ts) = refl
+-- from the start the reader answers what was found, and then what the other answers here
+pub record StillReads {A : Type 0} (p : Reader (List A)) (start : Cursor) (found : List A) (q : Reader (List A)) (here : Cursor) : Type 0 where
+  pub reads : p start.last start.ahead ≡ prepend found (q here.last here.ahead)
+  pub stays : Stays start here
 
-module _ {A : Type 0} (starts : Lexeme → Bool) (element : Reader A) (last : Refusal) (ts : List Lexeme) where
-  -- no element begins there
-  pub another_none : next_passes starts ts ≡ false → another starts element last ts ≡ Ok (None, ts)
-  unfolding another
-  another_none e = let b : starts_at starts (first ts) ≡ false = sym (passes_first starts ts) ∙ e in rw b refl
+nothing_before : {A : Type 0} (r : Answer (List A)) → r ≡ prepend [] r
+nothing_before (Ok r) = refl
+nothing_before (Err r) = refl
 
-  -- one begins
-  pub another_some : next_passes starts ts ≡ true → another starts element last ts ≡ and_then (element last ts) (λ a us. Ok (Some a, us))
-  unfolding another
-  another_some e = let b : starts_at starts (first ts) ≡ true = sym (passes_first starts ts) ∙ e in rw b refl
+one_before : {A : Type 0} (a : A) (r : Answer (List A)) → and_then r (λ rest us. Ok (a ∷ rest, us)) ≡ prepend (a ∷ []) r
+one_before a (Ok r) = refl
+one_before a (Err r) = refl
+
+one_more_before : {A : Type 0} (found : List A) (a : A) (r : Answer (List A)) → prepend found (and_then r (λ rest us. Ok (a ∷ rest, us))) ≡ prepend (found ++ a ∷ []) r
+one_more_before {A} found a (Ok r) = ap (λ (all : List A). Ok (all, r.1)) (sym (append_assoc found (a ∷ []) r.0))
+one_more_before found a (Err r) = refl
+
+-- before the first
+pub loop_begins : {A : Type 0} (p : Reader (List A)) (start : Cursor) (found : List A) → found ≡ [] → StillReads p start found p start
+loop_begins p start found e = record { reads = nothing_before (p start.last start.ahead) ∙ ap (λ (fs : List _). prepend fs (p start.last start.ahead)) (sym e); stays = stays start }
+
+-- behind the first of those that separators join
+pub loop_joins : {A : Type 0} (p : Reader A) (q : Reader (List A)) (start here : Cursor) (a : A) (found : List A) → found ≡ a ∷ [] → Reached p start a here → StillReads (p >>= λ a. q >>= λ rest. pure (a ∷ rest)) start found q here
+loop_joins {A} p q start here a found e r = record {
+  reads = ap (λ (x : Answer A). and_then x (λ a us. and_then (q start.last us) (λ rest vs. Ok (a ∷ rest, vs)))) r.0 ∙ one_before a (q start.last here.ahead) ∙ ap (λ (last : Refusal). prepend (a ∷ []) (q last here.ahead)) (sym r.1.last)
+      ∙ ap (λ (fs : List A). prepend fs (q here.last here.ahead)) (sym e);
+  stays = r.1;
+}
 
 abbrev option_in : {A : Type 0} → Answer (Option A) → Option A
 option_in (Ok r) = r.0
 option_in (Err r) = None
 
-abbrev pub rest_in : {A : Type 0} → Answer A → List Lexeme
+abbrev rest_in : {A : Type 0} → Answer A → List Lexeme
 rest_in (Ok r) = r.1
 rest_in (Err r) = []
 
@@ -46,80 +63,66 @@ some_of {A} (Ok r) a us e =
     ap (λ (z : A). Ok (z, r.1)) x ∙ ap (λ (z : List Lexeme). Ok (a, z)) y
 some_of (Err r) a us e = absurd cc
 
-never_none_at : {A : Type 0} (r : Answer A) (us : List Lexeme) → and_then r (λ a us. Ok (Some a, us)) ≡ Ok (None, us) → ⊥
-never_none_at {A} (Ok r) us e = let o : Some r.0 ≡ None = ap option_in e in absurd cc
-never_none_at (Err r) us e = absurd cc
+never_none : {A : Type 0} (r : Answer A) (us : List Lexeme) → and_then r (λ a us. Ok (Some a, us)) ≡ Ok (None, us) → ⊥
+never_none {A} (Ok r) us e = let o : Some r.0 ≡ None = ap option_in e in absurd cc
+never_none (Err r) us e = absurd cc
 
 err_of : {A : Type 0} (r : Answer A) (e : Refusal) → and_then r (λ a us. Ok (Some a, us)) ≡ Err e → r ≡ Err e
 err_of (Ok r) e h = absurd cc
 err_of (Err r) e h = let x : r ≡ e = cc in ap (λ (z : Refusal). Err z) x
 
-regroup : {A : Type 0} (found : List A) (a : A) (r : Answer (List A)) → prepend found (and_then r (λ rest us. Ok (a ∷ rest, us))) ≡ prepend (found ++ a ∷ []) r
-regroup {A} found a (Ok r) = ap (λ (all : List A). Ok (all, r.1)) (sym (append_assoc found (a ∷ []) r.0))
-regroup found a (Err r) = refl
+module _ {A S : Type 0} (E : S → Lang A) (element : S → Reader A) (step : S → A → S) (starts between stop : Lexeme → Bool) (e : AreElements E element starts between stop) (p : Reader (List A)) (start : Cursor) (found : List A) (s : S) (here : Cursor) (still : StillReads p start found (repeated starts element step s) here) where
+  abbrev Tried : Bool → Answer (Option A)
+  Tried b = cond {A = Reader (Option A)} b (element s >>= λ a. pure (Some a)) (pure None) here.last here.ahead
 
-module _ {A S : Type 0} (starts : Lexeme → Bool) (element : ℕ → S → Reader A) (step : S → A → S) (found : List A) (s : S) (last : Refusal) (ts : List Lexeme) where
-  abbrev Tried : ℕ → Bool → Answer (Option A)
-  Tried room b = cond {A = Reader (Option A)} b (element room s >>= λ a. pure (Some a)) (pure None) last ts
+  tried : another starts (element s) here.last here.ahead ≡ Tried (starts_at starts (first here.ahead))
+  unfolding either
+  tried = refl
 
-  tried : (room : ℕ) → another starts (element room s) last ts ≡ Tried room (starts_at starts (first ts))
-  unfolding another
-  tried room = refl
+  abbrev Goes : Bool → Answer (List A)
+  Goes b = cond b (and_then (element s here.last here.ahead) (λ a us. and_then (repeated starts element step (step s a) here.last us) (λ rest vs. Ok (a ∷ rest, vs)))) (Ok ([], here.ahead))
 
-  abbrev Goes : ℕ → Bool → Answer (List A)
-  Goes room b = cond {A = Reader (List A)} b (element (suc room) s >>= λ a. repeated starts element step room (step s a) >>= λ rest. pure (a ∷ rest)) (pure []) last ts
+  goes : repeated starts element step s here.last here.ahead ≡ Goes (starts_at starts (first here.ahead))
+  goes = steps_repeated E element step starts between stop e s here.last here.ahead
 
-  goes : (room : ℕ) → repeated starts element step (suc room) s last ts ≡ Goes room (starts_at starts (first ts))
-  unfolding repeated
-  goes room = refl
+  more_by : (a : A) (us : List Lexeme) (b : Bool) → Tried b ≡ Ok (Some a, us) → (prepend found (Goes b) ≡ prepend (found ++ a ∷ []) (repeated starts element step (step s a) here.last us)) × (element s here.last here.ahead ≡ Ok (a, us))
+  more_by a us true h = let f = some_of (element s here.last here.ahead) a us h in (rw f (one_more_before found a (repeated starts element step (step s a) here.last us)), f)
+  more_by a us false h = let o : None ≡ Some a = ap option_in h in absurd cc
 
-  abbrev Ends_so : Bool → Answer (List A)
-  Ends_so b = cond {A = Reader (List A)} b (element zero s >>= λ a. pure (a ∷ [])) (pure []) last ts
+  module _ (a : A) (mid : Cursor) (next : Reached (another starts (element s)) here (Some a) mid) where
+    -- one more was found
+    pub loop_goes_on : (more : List A) → more ≡ found ++ a ∷ [] → StillReads p start more (repeated starts element step (step s a)) mid
+    loop_goes_on more same = record {
+      reads = still.reads ∙ ap (prepend found) goes ∙ (more_by a mid.ahead (starts_at starts (first here.ahead)) (sym tried ∙ next.0)).0
+          ∙ ap (λ (last : Refusal). prepend (found ++ a ∷ []) (repeated starts element step (step s a) last mid.ahead)) (sym next.1.last)
+          ∙ ap (λ (fs : List A). prepend fs (repeated starts element step (step s a) mid.last mid.ahead)) (sym same);
+      stays = stays_on start here mid still.stays next.1;
+    }
 
-  ends_so : repeated starts element step zero s last ts ≡ Ends_so (starts_at starts (first ts))
-  unfolding repeated
-  ends_so = refl
+    -- and fewer tokens are left
+    pub loop_falls : length mid.ahead < length here.ahead
+    loop_falls = fewer E element step starts between stop e s here.last here.ahead a mid.ahead (more_by a mid.ahead (starts_at starts (first here.ahead)) (sym tried ∙ next.0)).1
 
-  more_by : (room : ℕ) (a : A) (us : List Lexeme) (b : Bool) → Tried (suc room) b ≡ Ok (Some a, us) → prepend found (Goes room b) ≡ prepend (found ++ a ∷ []) (repeated starts element step room (step s a) last us)
-  more_by room a us true e = rw (some_of (element (suc room) s last ts) a us e) (regroup found a (repeated starts element step room (step s a) last us))
-  more_by room a us false e = let o : None ≡ Some a = ap option_in e in absurd cc
+  none_by : (us : List Lexeme) (b : Bool) → Tried b ≡ Ok (None, us) → (b ≡ false) × (here.ahead ≡ us)
+  none_by us true h = absurd (never_none (element s here.last here.ahead) us h)
+  none_by us false h = (refl, ap rest_in h)
 
-  pub goes_on : (room : ℕ) (a : A) (us : List Lexeme) → another starts (element (suc room) s) last ts ≡ Ok (Some a, us)
-      → prepend found (repeated starts element step (suc room) s last ts) ≡ prepend (found ++ a ∷ []) (repeated starts element step room (step s a) last us)
-  goes_on room a us e = ap (prepend found) (goes room) ∙ more_by room a us (starts_at starts (first ts)) (sym (tried (suc room)) ∙ e)
+  -- all were found
+  pub loop_is_over : (new : Cursor) → Reached (another starts (element s)) here None new → Reached p start found new
+  loop_is_over new next =
+      let n = none_by new.ahead (starts_at starts (first here.ahead)) (sym tried ∙ next.0) in
+      (still.reads ∙ ap (prepend found) (goes ∙ ap Goes n.0) ∙ ap (λ (all : List A). Ok (all, here.ahead)) (append-nil found) ∙ ap (λ (z : List Lexeme). Ok (found, z)) n.1, stays_on start here new still.stays next.1)
 
-  none_by : (room : ℕ) (us : List Lexeme) (b : Bool) → Tried room b ≡ Ok (None, us) → (b ≡ false) × (ts ≡ us)
-  none_by room us true e = absurd (never_none_at (element room s last ts) us e)
-  none_by room us false e = (refl, ap rest_in e)
+  fault_by : (r : Refusal) (b : Bool) → Tried b ≡ Err r → prepend found (Goes b) ≡ Err r
+  fault_by r true h = rw (err_of (element s here.last here.ahead) r h) refl
+  fault_by r false h = absurd cc
 
-  pub is_over : (room : ℕ) (us : List Lexeme) → another starts (element room s) last ts ≡ Ok (None, us) → prepend found (repeated starts element step room s last ts) ≡ Ok (found, us)
-  is_over zero us e =
-      let n = none_by zero us (starts_at starts (first ts)) (sym (tried zero) ∙ e) in
-      ap (prepend found) (ends_so ∙ ap Ends_so n.0) ∙ ap (λ (all : List A). Ok (all, ts)) (append-nil found) ∙ ap (λ (z : List Lexeme). Ok (found, z)) n.1
-  is_over (suc room) us e =
-      let n = none_by (suc room) us (starts_at starts (first ts)) (sym (tried (suc room)) ∙ e) in
-      ap (prepend found) (goes room ∙ ap (Goes room) n.0) ∙ ap (λ (all : List A). Ok (all, ts)) (append-nil found) ∙ ap (λ (z : List Lexeme). Ok (found, z)) n.1
+  -- one was refused
+  pub loop_fails : (k : ReadRefusal) (new : Cursor) → Failed (another starts (element s)) k here new → Failed p k start new
+  loop_fails NoMemory new f = (tt, stays_on start here new still.stays f.1)
+  loop_fails (Refused r) new f = (still.reads ∙ ap (prepend found) goes ∙ fault_by r (starts_at starts (first here.ahead)) (sym tried ∙ f.0), stays_on start here new still.stays f.1)
 
-  fault_by : (room : ℕ) (r : Refusal) (b : Bool) → Tried room b ≡ Err r → (b ≡ true) × (element room s last ts ≡ Err r)
-  fault_by room r true e = (refl, err_of (element room s last ts) r e)
-  fault_by room r false e = absurd cc
-
-  faults : (room : ℕ) (r : Refusal) → another starts (element room s) last ts ≡ Err r → prepend found (repeated starts element step room s last ts) ≡ Err r
-  faults zero r e =
-      let f = fault_by zero r (starts_at starts (first ts)) (sym (tried zero) ∙ e) in
-      ap (prepend found) (ends_so ∙ ap Ends_so f.0 ∙ then_err (element zero s) (λ a. pure (a ∷ [])) last r ts f.1)
-  faults (suc room) r e =
-      let f = fault_by (suc room) r (starts_at starts (first ts)) (sym (tried (suc room)) ∙ e) in
-      ap (prepend found) (goes room ∙ ap (Goes room) f.0 ∙ then_err (element (suc room) s) (λ a. repeated starts element step room (step s a) >>= λ rest. pure (a ∷ rest)) last r ts f.1)
-
-  pub fails : (e : ReadRefusal) (room : ℕ) (total : Answer (List A)) → total ≡ prepend found (repeated starts element step room s last ts) → Fails e (another starts (element room s) last ts) → Fails e total
-  fails NoMemory room total so h = tt
-  fails (Refused r) room total so h = so ∙ faults room r h
-
--- with the room as the code counts it
-pub goes_on_at : {A S : Type 0} (starts : Lexeme → Bool) (element : ℕ → S → Reader A) (step : S → A → S) (found : List A) (s : S) (last : Refusal) (ts : List Lexeme) (room : ℕ) (a : A) (us : List Lexeme) → 0 < room
-    → another starts (element room s) last ts ≡ Ok (Some a, us) → prepend found (repeated starts element step room s last ts) ≡ prepend (found ++ a ∷ []) (repeated starts element step (room - 1) (step s a) last us)
-goes_on_at starts element step found s last ts zero a us lt e = absurd (omega arith)
-goes_on_at starts element step found s last ts (suc room) a us lt e =
-    let n : suc room - 1 ≡ room = omega arith in
-    rw n (goes_on starts element step found s last ts room a us e)
+-- room as the code counts it
+pub less_is : (room : ℕ) → less room ≡ room - 1
+less_is zero = omega arith
+less_is (suc room) = omega arith

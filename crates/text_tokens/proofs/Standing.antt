@@ -10,7 +10,7 @@ use Rattle.text_tokens.specs.declared.tokens.Piece.{Piece}
 use Rattle.text_tokens.specs.declared.tokens.Tokens.TheInside.{Inside}
 use Rattle.text_tokens.specs.Text.{Lexeme}
 use Rattle.text_tokens.specs.Scan.{Input, skip, ready, front, lexeme, past, ahead_of}
-use Rattle.text_tokens.specs.Cursor.{token_of, end_or, answer, behind, refusal_at, line_of, next_passes, Spells, at_input, at_place}
+use Rattle.text_tokens.specs.Cursor.{token_of, end_or, answer, past_token, refusal_at, line_of, next_passes, Spells, at_input, at_place}
 use Rattle.text_tokens.specs.Inside.{input_of, cursor_of, IsReady}
 use Rattle.text_tokens.proofs.Cutting.{Found, front_found}
 use Rattle.text_tokens.proofs.Scanning.{ready_twice, front_fits, ahead_ok, ahead_err, last_ok, last_err, ahead_ready, last_ready}
@@ -75,7 +75,7 @@ module _ (t : Inside) (h : IsReady t) where
           sized = (let small = found.sized in rw (len, length-take-le p.len rest (omega (arith, length-drop t.at t.source.now))) small);
         }
 
-    pub passes : at_place t.source.now (t.at + p.len) t.line ≡ behind (cursor_of t)
+    pub passes : at_place t.source.now (t.at + p.len) t.line ≡ past_token (cursor_of t)
     passes =
         let text : drop p.len (drop t.at t.source.now) ≡ drop (t.at + p.len) t.source.now = drop-drop p.len t.at t.source.now in
         rw (ahead_is, last_ok (input_of t) p h.skipped cut, text) refl
@@ -100,7 +100,7 @@ module _ (t : Inside) (h : IsReady t) where
     pub answers_none : answer (cursor_of t) ≡ end_or (record { line = t.line; kind = k }) k
     answers_none = rw (none_ahead, last_is) refl
 
-    pub stays : cursor_of t ≡ behind (cursor_of t)
+    pub stays : cursor_of t ≡ past_token (cursor_of t)
     stays = rw none_ahead refl
 
     pub line_err : line_of (cursor_of t).ahead (cursor_of t).last ≡ t.line

@@ -15,18 +15,34 @@ use denote.Enum.Bare.{same_true}
 use Rattle.text_tokens.specs.contracts.token.TokenKind.{the_type}
 use Rattle.std.specs.List.{list_all}
 use Rattle.text_tokens.specs.Text.{Lexeme, Cuts, word, number, sign, is_digit, most_bytes}
-use Rattle.text_tokens.specs.Cursor.{Cursor, token_of, behind, tail, expect, expect_by, slice, FirstIs, Spells, IsNumber, is_kind, same_kind}
-use Rattle.text_tokens.specs.Reading.{Answer, Reader, ◌>>=◌, pure, and_then, one_within, deep_at, past_sum}
-use Rattle.text_tokens.specs.Steps.{Fails, Stays, lexeme_of}
+use Rattle.text_tokens.specs.Cursor.{Cursor, next_passes, refusal_at, token_of, past_token, tail, expect, expect_by, slice, FirstIs, Spells, IsDigits, is_kind, same_kind}
+use Rattle.text_tokens.specs.Reading.{Answer, Reader, first, ◌>>=◌, pure, and_then, starts_at, one_within, either, full_at, counted, deep_at, past_sum, value, above, verdict, judged}
+use Rattle.text_tokens.specs.Steps.{Fails, Stays, Gives, lexeme_of, another}
 
--- what stays
-pub stays_behind : (old new : Cursor) → new ≡ behind old → Stays old new
-stays_behind old new e = record { source = ap (λ (c : Cursor). c.source) e; last = ap (λ (c : Cursor). c.last) e }
+-- ---- what stays
+
+pub stays : (c : Cursor) → Stays c c
+stays c = record { source = refl; last = refl }
+
+pub stays_as : (old new : Cursor) → new ≡ old → Stays old new
+stays_as old new e = record { source = ap (λ (c : Cursor). c.source) e; last = ap (λ (c : Cursor). c.last) e }
+
+pub stays_past : (old new : Cursor) → new ≡ past_token old → Stays old new
+stays_past old new e = record { source = ap (λ (c : Cursor). c.source) e; last = ap (λ (c : Cursor). c.last) e }
 
 pub stays_on : (a b c : Cursor) → Stays a b → Stays b c → Stays a c
 stays_on a b c p q = record { source = q.source ∙ p.source; last = q.last ∙ p.last }
 
--- a token that was taken
+-- ---- one token
+
+-- the reader has read this, and the code stands behind it
+abbrev pub Reached : {A : Type 0} → Reader A → Cursor → A → Cursor → Type 0
+Reached p old a new = (p old.last old.ahead ≡ Ok (a, new.ahead)) × Stays old new
+
+-- the reader has refused
+abbrev pub Failed : {A : Type 0} → Reader A → ReadRefusal → Cursor → Cursor → Type 0
+Failed p e old new = Fails e (p old.last old.ahead) × Stays old new
+
 seen : (source : List ℕ) (l : Lexeme) (t : Token) → token_of l ≡ t → l.text ≡ slice source t → lexeme_of source t ≡ l
 seen source l t e f = ap (λ (text : List ℕ). record { kind = t.kind; text = text; «from» = t.«from»; line = t.line }) (sym f) ∙ ap (λ (u : Token). record { kind = u.kind; text = l.text; «from» = u.«from»; line = u.line }) (sym e)
 
@@ -45,8 +61,8 @@ module _ (test : Lexeme → Bool) (over : Lexeme → Option RefusalKind) where
   took_by source [] last t e f fine = absurd cc
   took_by source (l ∷ ls) last t e f fine = took_test source l ls last t (test l) refl e f fine
 
-  pub took : (old new : Cursor) (t : Token) → expect test old ≡ Ok t → new ≡ behind old → Spells old t → over (lexeme_of old.source t) ≡ None → (one_within test over old.last old.ahead ≡ Ok (lexeme_of old.source t, new.ahead)) × Stays old new
-  took old new t e moves s fine = (took_by old.source old.ahead old.last t e s.bytes fine ∙ ap (λ (ls : List Lexeme). Ok (lexeme_of old.source t, ls)) (sym (ap (λ (c : Cursor). c.ahead) moves)), stays_behind old new moves)
+  pub took : (old new : Cursor) (t : Token) → expect test old ≡ Ok t → new ≡ past_token old → Spells old t → over (lexeme_of old.source t) ≡ None → Reached (one_within test over) old (lexeme_of old.source t) new
+  took old new t e moves s fine = (took_by old.source old.ahead old.last t e s.bytes fine ∙ ap (λ (ls : List Lexeme). Ok (lexeme_of old.source t, ls)) (sym (ap (λ (c : Cursor). c.ahead) moves)), stays_past old new moves)
 
   missed_test : (l : Lexeme) (rest : List Lexeme) (last r : Refusal) (b : Bool) → test l ≡ b → cond {A = Result Token Refusal} b (Ok (token_of l)) (Err (record { line = l.line; kind = Unexpected })) ≡ Err r → one_within test over last (l ∷ rest) ≡ Err r
   unfolding one_within
@@ -58,27 +74,8 @@ module _ (test : Lexeme → Bool) (over : Lexeme → Option RefusalKind) where
   missed_by [] last r e = let is : last ≡ r = cc in ap (λ (x : Refusal). Err x) is
   missed_by (l ∷ ls) last r e = missed_test l ls last r (test l) refl e
 
-  pub missed : (old : Cursor) (r : Refusal) → expect test old ≡ Err r → one_within test over old.last old.ahead ≡ Err r
-  missed old r e = missed_by old.ahead old.last r e
-
--- made into something else
-pub maps_ok : {A B : Type 0} (p : Reader A) (f : A → B) (last : Refusal) (ts us : List Lexeme) (a : A) → p last ts ≡ Ok (a, us) → (p >>= λ a. pure (f a)) last ts ≡ Ok (f a, us)
-maps_ok {A} p f last ts us a e = ap (λ (r : Answer A). and_then r (λ a us. pure (f a) last us)) e
-
-pub then_ok : {A B : Type 0} (p : Reader A) (q : A → Reader B) (last : Refusal) (ts us : List Lexeme) (a : A) (r : Answer B) → p last ts ≡ Ok (a, us) → q a last us ≡ r → (p >>= q) last ts ≡ r
-then_ok {A} p q last ts us a r e f = ap (λ (r : Answer A). and_then r (λ a us. q a last us)) e ∙ f
-
-pub then_err : {A B : Type 0} (p : Reader A) (q : A → Reader B) (last r : Refusal) (ts : List Lexeme) → p last ts ≡ Err r → (p >>= q) last ts ≡ Err r
-then_err {A} p q last r ts e = ap (λ (r : Answer A). and_then r (λ a us. q a last us)) e
-
-pub then_fails : {A B : Type 0} (p : Reader A) (q : A → Reader B) (e : ReadRefusal) (last : Refusal) (ts : List Lexeme) → Fails e (p last ts) → Fails e ((p >>= q) last ts)
-then_fails p q NoMemory last ts h = tt
-then_fails p q (Refused r) last ts h = then_err p q last r ts h
-
--- a fault behind what was read
-pub fails_then : {A B : Type 0} (p : Reader A) (q : A → Reader B) (e : ReadRefusal) (last : Refusal) (ts us : List Lexeme) (a : A) → p last ts ≡ Ok (a, us) → Fails e (q a last us) → Fails e ((p >>= q) last ts)
-fails_then p q NoMemory last ts us a g h = tt
-fails_then p q (Refused r) last ts us a g h = then_ok p q last ts us a (Err r) g h
+  pub missed : (old new : Cursor) (r : Refusal) → expect test old ≡ Err r → new ≡ old → Failed (one_within test over) (Refused r) old new
+  missed old new r e same = (missed_by old.ahead old.last r e, stays_as old new same)
 
 -- a number is one for `number`
 cut_digits : (kind : TokenKind) (bytes rest : List ℕ) → Cuts kind bytes rest → kind ≡ Number → list_all is_digit bytes ≡ true
@@ -86,7 +83,7 @@ cut_digits kind bytes rest (word e h s) k = absurd cc
 cut_digits kind bytes rest (number e h s) k = rw e h
 cut_digits kind bytes rest (sign e l) k = absurd cc
 
-pub is_number_of : (c : Cursor) (t : Token) → Spells c t → t.kind ≡ Number → IsNumber c.source t
+pub is_number_of : (c : Cursor) (t : Token) → Spells c t → t.kind ≡ Number → IsDigits c.source t
 is_number_of c t s k = record {
   within = s.within;
   digits = cut_digits t.kind (slice c.source t) (drop t.to c.source) s.cuts k;
@@ -120,8 +117,8 @@ module _ (test : Lexeme → Bool) (over : Lexeme → Option RefusalKind) where
   past_by source [] last t k e f past = absurd cc
   past_by source (l ∷ ls) last t k e f past = past_test source l ls last t k (test l) refl e f past
 
-  pub goes_past : (c : Cursor) (t : Token) (k : RefusalKind) → expect test c ≡ Ok t → Spells c t → over (lexeme_of c.source t) ≡ Some k → one_within test over c.last c.ahead ≡ Err (record { line = t.line; kind = k })
-  goes_past c t k e s past = past_by c.source c.ahead c.last t k e s.bytes past
+  pub goes_past : (old new : Cursor) (t : Token) (k : RefusalKind) → expect test old ≡ Ok t → new ≡ past_token old → Spells old t → over (lexeme_of old.source t) ≡ Some k → Failed (one_within test over) (Refused (record { line = t.line; kind = k })) old new
+  goes_past old new t k e moves s past = (past_by old.source old.ahead old.last t k e s.bytes past, stays_past old new moves)
 
 pub deep_zero : (levels : ℕ) (t : Lexeme) → levels ≡ 0 → deep_at levels t ≡ Some TooDeep
 deep_zero levels t e = rw e refl
@@ -136,24 +133,96 @@ sum_over weight most sum t lt = let b : nat_lt most (sum + weight t) ≡ true = 
 pub sum_within : (weight : Lexeme → ℕ) (most sum : ℕ) (t : Lexeme) → sum + weight t ≤ most → past_sum weight most sum t ≡ None
 sum_within weight most sum t le = let b : nat_lt most (sum + weight t) ≡ false = le-ltb _ _ le in rw b refl
 
--- ---- what the code has read, one part behind the other
+pub above_most : (most : ℕ) (kind : RefusalKind) (t : Lexeme) → most < value t → above most kind t ≡ Some kind
+above_most most kind t lt = let b : nat_lt most (value t) ≡ true = lt-ltb _ _ lt in rw b refl
 
--- the reader has read this, and the code stands behind it
-abbrev pub Reached : {A : Type 0} → Reader A → Cursor → A → Cursor → Type 0
-Reached p old a new = (p old.last old.ahead ≡ Ok (a, new.ahead)) × Stays old new
+pub up_to_most : (most : ℕ) (kind : RefusalKind) (t : Lexeme) → value t ≤ most → above most kind t ≡ None
+up_to_most most kind t le = let b : nat_lt most (value t) ≡ false = le-ltb _ _ le in rw b refl
+
+-- ---- parts, one behind the other
 
 moved : {B : Type 0} (r : Reader B) (last last' : Refusal) (ts : List Lexeme) → last' ≡ last → r last ts ≡ r last' ts
 moved r last last' ts e = ap (λ (l : Refusal). r l ts) (sym e)
 
-pub on : {A B : Type 0} (p : Reader A) (q : A → Reader B) (old mid new : Cursor) (a : A) (b : B) → Reached p old a mid → Reached (q a) mid b new → Reached (p >>= q) old b new
-on p q old mid new a b r s = (then_ok p q old.last old.ahead mid.ahead a (Ok (b, new.ahead)) r.0 (moved (q a) old.last mid.last mid.ahead r.1.last ∙ s.0), stays_on old mid new r.1 s.1)
+-- a reader that answers the same there
+pub gives_as : {A B : Type 0} (view : A → B) (p q : Reader B) (old new : Cursor) (r : Result A ReadRefusal) → p old.last old.ahead ≡ q old.last old.ahead → Gives view q old r new → Gives view p old r new
+gives_as view p q old new (Ok a) e g = (e ∙ g.0, g.1)
+gives_as {B = B} view p q old new (Err k) e g = (subst (λ (x : Answer B). Fails k x) (sym e) g.0, g.1)
 
-pub on_fails : {A B : Type 0} (p : Reader A) (q : A → Reader B) (e : ReadRefusal) (old mid : Cursor) (a : A) → Reached p old a mid → Fails e (q a mid.last mid.ahead) → Fails e ((p >>= q) old.last old.ahead)
-on_fails {B} p q e old mid a r h = fails_then p q e old.last old.ahead mid.ahead a r.0 (subst (λ (x : Answer B). Fails e x) (sym (moved (q a) old.last mid.last mid.ahead r.1.last)) h)
+-- the first part was read, and then the code gives what the second does
+pub on : {A B C : Type 0} (view : C → B) (p : Reader A) (q : A → Reader B) (old mid new : Cursor) (a : A) (r : Result C ReadRefusal) → Reached p old a mid → Gives view (q a) mid r new → Gives view (p >>= q) old r new
+on {A} view p q old mid new a (Ok c) s g = (ap (λ (x : Answer A). and_then x (λ a us. q a old.last us)) s.0 ∙ moved (q a) old.last mid.last mid.ahead s.1.last ∙ g.0, stays_on old mid new s.1 g.1)
+on {A} {B} view p q old mid new a (Err k) s g = (subst (λ (x : Answer B). Fails k x) (sym (ap (λ (x : Answer A). and_then x (λ a us. q a old.last us)) s.0 ∙ moved (q a) old.last mid.last mid.ahead s.1.last)) g.0, stays_on old mid new s.1 g.1)
 
+-- the first part was refused
+pub fails : {A B : Type 0} (p : Reader A) (q : A → Reader B) (k : ReadRefusal) (old new : Cursor) → Failed p k old new → Failed (p >>= q) k old new
+fails p q NoMemory old new f = (tt, f.1)
+fails {A} p q (Refused r) old new f = (ap (λ (x : Answer A). and_then x (λ a us. q a old.last us)) f.0, f.1)
+
+-- the last part was read, and is made into something else
 pub on_made : {A B : Type 0} (p : Reader A) (f : A → B) (old new : Cursor) (a : A) → Reached p old a new → Reached (p >>= λ a. pure (f a)) old (f a) new
-on_made p f old new a r = (maps_ok p f old.last old.ahead new.ahead a r.0, r.1)
+on_made {A} p f old new a s = (ap (λ (x : Answer A). and_then x (λ a us. pure (f a) old.last us)) s.0, s.1)
 
--- the same reader
-pub fails_as : {A : Type 0} (e : ReadRefusal) (x y : Answer A) → x ≡ y → Fails e x → Fails e y
-fails_as {A} e x y s h = subst (λ (z : Answer A). Fails e z) s h
+-- ---- a judgement
+
+module _ {A : Type 0} (p : Reader A) (wrong : A → Option Refusal) (old new : Cursor) (a : A) (s : Reached p old a new) where
+  pub judged_wrong : (r : Refusal) → wrong a ≡ Some r → Failed (judged p wrong) (Refused r) old new
+  judged_wrong r e = on (λ (a : A). a) p (λ a. verdict (wrong a) a) old new new a (Err (Refused r)) s (ap (λ (o : Option Refusal). verdict o a new.last new.ahead) e, stays new)
+
+  pub judged_fine : wrong a ≡ None → Reached (judged p wrong) old a new
+  judged_fine e = on (λ (a : A). a) p (λ a. verdict (wrong a) a) old new new a (Ok a) s (ap (λ (o : Option Refusal). verdict o a new.last new.ahead) e, stays new)
+
+-- ---- choices and limits
+
+pub passes_first : (test : Lexeme → Bool) (ts : List Lexeme) → next_passes test ts ≡ starts_at test (first ts)
+passes_first test [] = refl
+passes_first test (t ∷ ts) = refl
+
+module _ {A : Type 0} (starts : Lexeme → Bool) (p q : Reader A) (last : Refusal) (ts : List Lexeme) where
+  pub is_first : next_passes starts ts ≡ true → either starts p q last ts ≡ p last ts
+  unfolding either
+  is_first e = let b : starts_at starts (first ts) ≡ true = sym (passes_first starts ts) ∙ e in rw b refl
+
+  pub is_second : next_passes starts ts ≡ false → either starts p q last ts ≡ q last ts
+  unfolding either
+  is_second e = let b : starts_at starts (first ts) ≡ false = sym (passes_first starts ts) ∙ e in rw b refl
+
+-- one more, where one begins
+module _ {A : Type 0} (starts : Lexeme → Bool) (p : Reader A) (old : Cursor) where
+  pub another_none : next_passes starts old.ahead ≡ false → Reached (another starts p) old None old
+  another_none e = (is_second starts (p >>= λ a. pure (Some a)) (pure None) old.last old.ahead e, stays old)
+
+  module _ (comes : next_passes starts old.ahead ≡ true) where
+    as_some : another starts p old.last old.ahead ≡ (p >>= λ a. pure (Some a)) old.last old.ahead
+    as_some = is_first starts (p >>= λ a. pure (Some a)) (pure None) old.last old.ahead comes
+
+    pub another_some : (a : A) (new : Cursor) → Reached p old a new → Reached (another starts p) old (Some a) new
+    another_some a new r = let m = on_made p (λ (a : A). Some a) old new a r in (as_some ∙ m.0, m.1)
+
+    pub another_fails : (k : ReadRefusal) (new : Cursor) → Failed p k old new → Failed (another starts p) k old new
+    another_fails k new f = gives_as (λ (o : Option A). o) (another starts p) (p >>= λ a. pure (Some a)) old new (Err k) as_some (fails p (λ a. pure (Some a)) k old new f)
+
+-- with room and without
+module _ {A : Type 0} (starts : Lexeme → Bool) (over : Lexeme → Option RefusalKind) (room : ℕ) (p : Reader A) where
+  room_by : (room : ℕ) → 0 < room → counted starts over room p ≡ p
+  unfolding counted
+  room_by zero lt = absurd (omega arith)
+  room_by (suc room) lt = refl
+
+  pub with_room : {B : Type 0} (view : B → A) (old new : Cursor) (r : Result B ReadRefusal) → 0 < room → Gives view p old r new → Gives view (counted starts over room p) old r new
+  with_room view old new r lt g = gives_as view (counted starts over room p) p old new r (ap (λ (q : Reader A). q old.last old.ahead) (room_by room lt)) g
+
+  full_is : (last : Refusal) (ts : List Lexeme) → counted starts over zero p last ts ≡ full_at {A = A} starts over (first ts) last ts
+  unfolding counted
+  full_is last ts = refl
+
+  pub without_room : (old : Cursor) (r : Refusal) → room ≡ 0 → full_at {A = A} starts over (first old.ahead) old.last old.ahead ≡ Err r → Failed (counted starts over room p) (Refused r) old old
+  without_room old r e full = (ap (λ (n : ℕ). counted starts over n p old.last old.ahead) e ∙ full_is old.last old.ahead ∙ full, stays old)
+
+  full_by : (last : Refusal) (ts : List Lexeme) → next_passes starts ts ≡ true → ((t : Lexeme) → over t ≡ None) → full_at {A = A} starts over (first ts) last ts ≡ Err (refusal_at last TooMany ts)
+  full_by last [] comes none = absurd cc
+  full_by last (t ∷ ts) comes none = rw (comes, none t) refl
+
+  -- one too many, that passes no other limit
+  pub one_too_many : (old : Cursor) → room ≡ 0 → next_passes starts old.ahead ≡ true → ((t : Lexeme) → over t ≡ None) → Failed (counted starts over room p) (Refused (refusal_at old.last TooMany old.ahead)) old old
+  one_too_many old e comes none = without_room old (refusal_at old.last TooMany old.ahead) e (full_by old.last old.ahead comes none)

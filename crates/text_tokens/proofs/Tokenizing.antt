@@ -9,7 +9,7 @@ use Rattle.text_tokens.specs.declared.token.TokenKind.{TokenKind}
 use Rattle.text_tokens.specs.declared.refusal.Refusal.{Refusal}
 use Rattle.text_tokens.specs.declared.refusal.RefusalKind.{RefusalKind}
 use Rattle.text_tokens.specs.declared.refusal.RefusalKind.TheVariants.{BadByte, WordTooLong, Truncated}
-use Rattle.text_tokens.specs.Text.{IsSkipped, Cuts, BeginsNoToken, most_bytes, Lexeme, end_of, line_at, Comes, IsToken, AreTokens, ends, bad_byte, too_long, token}
+use Rattle.text_tokens.specs.Text.{IsSkipped, Cuts, BeginsNoToken, most_bytes, Lexeme, token_end, line_at, Comes, IsToken, AreTokens, ends, bad_byte, too_long, token}
 use Rattle.text_tokens.specs.Scan.{Input, ready, sized, front, lexeme, past, ahead_of, last_of}
 use Rattle.text_tokens.specs.Promises.{OneReading, Rises, SpansRise}
 use Rattle.text_tokens.proofs.Blanks.{IsPlace, place, at_place, place_is, line_past, ready_comes, comes_ready}
@@ -33,10 +33,10 @@ module _ (source : List ℕ) (j : Input) (h : IsPlace source j) where
     abbrev found : Lexeme
     found = lexeme j (record { kind = kind; len = len })
 
-    end_is : end_of found ≡ j.at + len
+    end_is : token_end found ≡ j.at + len
     end_is = ap (λ (k : ℕ). j.at + k) (length-take-le len j.text le)
 
-    behind_is : drop (end_of found) source ≡ drop len j.text
+    behind_is : drop (token_end found) source ≡ drop len j.text
     behind_is = ap (λ (k : ℕ). drop k source) end_is ∙ sym (drop-drop len j.at source) ∙ ap (drop len) (sym h.text)
 
     is_token : IsToken source found
@@ -108,22 +108,22 @@ tokens_of_text source = from_place source (suc (length (drop 0 source))) (place 
 
 module _ (source : List ℕ) where
   front_of : (l : Lexeme) → IsToken source l → front (drop l.from source) ≡ sized l.kind (length l.text)
-  front_of l t = ap front t.text ∙ cut_front l.kind l.text (drop (end_of l) source) t.cuts
+  front_of l t = ap front t.text ∙ cut_front l.kind l.text (drop (token_end l) source) t.cuts
 
-  end_within : (l : Lexeme) → l.from ≤ length source → IsToken source l → end_of l ≤ length source
-  end_within l le t = let e = ap length t.text in let some = cut_some l.kind l.text (drop (end_of l) source) t.cuts in omega (arith, length-drop l.from source, length-append l.text (drop (end_of l) source))
+  end_within : (l : Lexeme) → l.from ≤ length source → IsToken source l → token_end l ≤ length source
+  end_within l le t = let e = ap length t.text in let some = cut_some l.kind l.text (drop (token_end l) source) t.cuts in omega (arith, length-drop l.from source, length-append l.text (drop (token_end l) source))
 
   -- behind a token
-  behind_token : (l : Lexeme) → l.from ≤ length source → IsToken source l → past (place source l.from) (length l.text) ≡ place source (end_of l)
+  behind_token : (l : Lexeme) → l.from ≤ length source → IsToken source l → past (place source l.from) (length l.text) ≡ place source (token_end l)
   behind_token l le t =
-      let front_text : take (length l.text) (drop l.from source) ≡ l.text = ap (take (length l.text)) t.text ∙ take-append_seam l.text (drop (end_of l) source) in
-      let none : count_by (λ b. b == 10) (take (length l.text) (drop l.from source)) ≡ 0 = ap (count_by (λ b. b == 10)) front_text ∙ cut_no_feed l.kind l.text (drop (end_of l) source) t.cuts in
+      let front_text : take (length l.text) (drop l.from source) ≡ l.text = ap (take (length l.text)) t.text ∙ take-append_seam l.text (drop (token_end l) source) in
+      let none : count_by (λ b. b == 10) (take (length l.text) (drop l.from source)) ≡ 0 = ap (count_by (λ b. b == 10)) front_text ∙ cut_no_feed l.kind l.text (drop (token_end l) source) t.cuts in
       let some = end_within l le t in
       place_is source (past (place source l.from) (length l.text)) (past_place source (place source l.from) (at_place source l.from le) (length l.text) (omega (arith, length-drop l.from source)) none)
 
   here_is : (l : Lexeme) → IsToken source l → lexeme (place source l.from) (record { kind = l.kind; len = length l.text }) ≡ l
   here_is l t =
-      ap (λ (text : List ℕ). record { kind = l.kind; text = text; «from» = l.from; line = line_at source l.from }) (ap (take (length l.text)) t.text ∙ take-append_seam l.text (drop (end_of l) source))
+      ap (λ (text : List ℕ). record { kind = l.kind; text = text; «from» = l.from; line = line_at source l.from }) (ap (take (length l.text)) t.text ∙ take-append_seam l.text (drop (token_end l) source))
       ∙ ap (λ (line : ℕ). record { kind = l.kind; text = l.text; «from» = l.from; line = line }) (sym t.line)
 
   -- two answers for one text
@@ -173,7 +173,7 @@ module _ (source : List ℕ) where
       let w = c.within in
       let r = stays_ready at l.from le c in
       let f : front (drop l.from source) ≡ Ok (record { kind = l.kind; len = length l.text }) = front_of l t ∙ short_is l short in
-      let s = only_scan (end_of l) more end (end_within l c.within t) rest in
+      let s = only_scan (token_end l) more end (end_within l c.within t) rest in
       let b = behind_token l c.within t in
       scanned at l.from (l ∷ more) end le c
       (ap (λ (xs : List Lexeme). l ∷ xs) (s.tokens ∙ ap ahead_of (sym b)) ∙ ap (λ (x : Lexeme). x ∷ ahead_of (past (place source l.from) (length l.text))) (sym (here_is l t)) ∙ sym (ahead_ok (place source l.from) (record { kind = l.kind; len = length l.text }) r f))
@@ -189,9 +189,9 @@ rising : (source : List ℕ) (at : ℕ) (ls : List Lexeme) (last : Refusal) → 
 rising source at [] last le a = le
 rising source at ls last le (token {ls = more} {last = end} l c t short rest) = record {
   behind = c.behind;
-  some = cut_some l.kind l.text (drop (end_of l) source) t.cuts;
-  slice = sym (ap (take (length l.text)) t.text ∙ take-append_seam l.text (drop (end_of l) source));
-  more = rising source (end_of l) more end (end_within source l c.within t) rest;
+  some = cut_some l.kind l.text (drop (token_end l) source) t.cuts;
+  slice = sym (ap (take (length l.text)) t.text ∙ take-append_seam l.text (drop (token_end l) source));
+  more = rising source (token_end l) more end (end_within source l c.within t) rest;
 }
 
 pub spans_rise : SpansRise

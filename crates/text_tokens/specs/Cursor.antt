@@ -10,7 +10,7 @@ use Rattle.text_tokens.specs.declared.refusal.RefusalKind.{RefusalKind}
 use Rattle.text_tokens.specs.declared.refusal.RefusalKind.TheVariants as kind
 use Rattle.text_tokens.specs.Scan.{Input, ahead_of, last_of}
 use Rattle.std.specs.List.{list_all}
-use Rattle.text_tokens.specs.Text.{Lexeme, end_of, AreTokens, Cuts, most_bytes, is_digit}
+use Rattle.text_tokens.specs.Text.{Lexeme, token_end, AreTokens, Cuts, most_bytes, is_digit}
 
 pub record Cursor : Type 0 where
   pub source : List ℕ
@@ -31,7 +31,7 @@ pub record IsAtFront (bytes : List ℕ) (c : Cursor) : Type 0 where
 
 -- a token as the reader gives it
 abbrev pub token_of : Lexeme → Token
-token_of l = record { kind = l.kind; «from» = l.from; to = end_of l; line = l.line }
+token_of l = record { kind = l.kind; «from» = l.from; to = token_end l; line = l.line }
 
 -- nothing is wrong behind the last token but that there is no more
 abbrev pub end_or : Refusal → RefusalKind → Result (Option Token) Refusal
@@ -50,14 +50,23 @@ abbrev pub tail : List Lexeme → List Lexeme
 tail [] = []
 tail (l ∷ ls) = ls
 
--- behind the next token, if there is one
-abbrev pub behind : Cursor → Cursor
-behind c = record { source = c.source; ahead = tail c.ahead; last = c.last }
+-- past the next token, if there is one
+abbrev pub past_token : Cursor → Cursor
+past_token c = record { source = c.source; ahead = tail c.ahead; last = c.last }
 
 -- a refusal of this kind at the next token, or else what is wrong where the tokens end
 abbrev pub refusal_at : Refusal → RefusalKind → List Lexeme → Refusal
 refusal_at last kind [] = last
 refusal_at last kind (l ∷ ls) = record { line = l.line; kind = kind }
+
+abbrev pub end_by : Refusal → RefusalKind → Result (Unit {0}) Refusal
+end_by last kind.Truncated = Ok tt
+end_by last _ = Err last
+
+-- the text ends there; else a token is refused for this, and what is no token for what is wrong with it
+abbrev pub at_end : RefusalKind → Refusal → List Lexeme → Result (Unit {0}) Refusal
+at_end kind last [] = end_by last last.kind
+at_end kind last (l ∷ ls) = Err (record { line = l.line; kind = kind })
 
 -- the line of the next token, or that of the fault or the end
 abbrev pub line_of : List Lexeme → Refusal → ℕ
@@ -112,12 +121,12 @@ pub record Spells (c : Cursor) (t : Token) : Type 0 where
   pub sized : length (slice c.source t) ≤ most_bytes t.kind
 
 -- a number of at most nine digits, as a slice of the source
-pub record IsNumber (source : List ℕ) (t : Token) : Type 0 where
+pub record IsDigits (source : List ℕ) (t : Token) : Type 0 where
   pub within : IsSlice source t
   pub digits : list_all is_digit (slice source t) ≡ true
   pub few : length (slice source t) ≤ 9
 
 -- what digits stand for: each is worth ten to the number of digits behind it
-abbrev pub value_of : List ℕ → ℕ
-value_of [] = 0
-value_of (b ∷ digits) = (b - 48) * 10 ^ length digits + value_of digits
+abbrev pub number_value : List ℕ → ℕ
+number_value [] = 0
+number_value (b ∷ digits) = (b - 48) * 10 ^ length digits + number_value digits

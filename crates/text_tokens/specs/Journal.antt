@@ -1,69 +1,79 @@
 -- A small format in which something is judged that may still go on.
 --   journal := { entry } "end"
---   entry   := "entry" { "pair" }
--- Limits: 3 entries, 2 pairs of one. An entry of one pair is refused on its own line, once what stands behind it is no further pair.
-use Rattle.std.specs.Prelude.{ℕ, Bool, if◌then◌else◌, List, [], ◌∷◌, Option, Some, None, codes}
+--   entry   := "entry" NUMBER { "pair" NUMBER }
+-- Limits: 2 pairs of one entry, 9 for the number of a pair. An entry whose number is not that of its pairs is refused on its own line, once what stands
+-- behind it is no further pair.
+use Rattle.std.specs.Prelude.{ℕ, Bool, ◌==◌, if◌then◌else◌, List, length, Option, Some, None, codes}
 use Rattle.text_tokens.specs.declared.token.TokenKind.TheVariants.{Word}
 use Rattle.text_tokens.specs.declared.refusal.Refusal.{Refusal}
-use Rattle.text_tokens.specs.declared.refusal.RefusalKind.{RefusalKind}
-use Rattle.text_tokens.specs.declared.refusal.RefusalKind.TheVariants.{TooMany, BadEntry}
+use Rattle.text_tokens.specs.declared.refusal.RefusalKind.TheVariants.{BadRange, BadEntry}
 use Rattle.text_tokens.specs.Text.{Lexeme}
 use Rattle.text_tokens.specs.Cursor.{is_the}
-use Rattle.text_tokens.specs.Reading.{Reader, ◌>>=◌, pure, judged, counted, repeated}
-use Rattle.text_tokens.specs.Grammar.{Lang, Then, Made, Judged, Counted, Repeated}
-use Rattle.text_tokens.specs.Nested.{is_pair, begins_pair, IsThe, the_line}
+use Rattle.text_tokens.specs.Reading.{Reader, ◌>>=◌, pure, no_limit, the_line, above, numeral, closed, judged, counted, repeated, at_most}
+use Rattle.text_tokens.specs.Grammar.{Lang, Then, Made, IsThe, IsNumeral, Closed, Judged, Repeated, AtMost}
 
 abbrev pub is_entry : Lexeme → Bool
 is_entry = is_the Word (codes "entry")
 
+abbrev pub is_pair : Lexeme → Bool
+is_pair = is_the Word (codes "pair")
+
 abbrev pub is_end : Lexeme → Bool
 is_end = is_the Word (codes "end")
 
--- an entry, by its line and the lines of its pairs
+-- an entry, with the line of its word
 pub record Noted : Type 0 where
   pub line : ℕ
+  pub count : ℕ
   pub pairs : List ℕ
 
 -- what is wrong with an entry
-abbrev pub alone : ℕ → List ℕ → Option Refusal
-alone line [] = None
-alone line (p ∷ []) = Some (record { line = line; kind = BadEntry })
-alone line (p ∷ (q ∷ more)) = None
+abbrev pub miscounted : Noted → Option Refusal
+miscounted e = if length e.pairs == e.count then None else Some (record { line = e.line; kind = BadEntry })
 
-abbrev pub is_alone : Noted → Option Refusal
-is_alone e = alone e.line e.pairs
+-- ---- the grammar
 
-abbrev pub same : Unit {0} → ℕ → Unit {0}
-same s n = s
-
-abbrev pub IsLines : Lang (List ℕ)
-IsLines = Repeated (λ room s. Counted (IsThe is_pair) room) same 2 tt
+abbrev pub IsPair : Lang ℕ
+IsPair = Then (IsThe is_pair) (λ line. IsNumeral (above 9 BadRange))
 
 abbrev pub IsNoted : Lang Noted
-IsNoted = Then (IsThe is_entry) (λ line. Made IsLines (λ ps. record { line = line; pairs = ps }))
+IsNoted = Then (IsThe is_entry) (λ line. Then (IsNumeral no_limit) (λ count. Made (AtMost 2 IsPair) (λ ps. record { line = line; count = count; pairs = ps })))
 
 abbrev pub IsEntry : Lang Noted
-IsEntry = Judged IsNoted is_alone
+IsEntry = Judged IsNoted miscounted
 
 abbrev pub as_before : Unit {0} → Noted → Unit {0}
 as_before s e = s
 
-abbrev pub Entries : Lang (List Noted)
-Entries = Repeated (λ room s. Counted IsEntry room) as_before 3 tt
-
 abbrev pub IsJournal : Lang (List Noted)
-IsJournal = Then Entries (λ es. Made (IsThe is_end) (λ line. es))
+IsJournal = Closed (Repeated (λ s. IsEntry) as_before tt) is_end
 
 -- ---- reading it
 
-unfoldable pub the_pairs : Reader (List ℕ)
-the_pairs = repeated is_pair (λ room s. counted begins_pair room (the_line is_pair)) same 2 tt
+unfoldable pub a_pair : Reader ℕ
+a_pair = the_line is_pair >>= λ line. numeral (above 9 BadRange)
 
-abbrev pub begins_entry : Lexeme → Option RefusalKind
-begins_entry t = if is_entry t then Some TooMany else None
+abbrev pub pair_in : ℕ → Reader ℕ
+pair_in room = counted is_pair no_limit room a_pair
+
+unfoldable pub all_pairs : Reader (List ℕ)
+all_pairs = at_most is_pair no_limit 2 a_pair
+
+unfoldable pub noted : Reader Noted
+noted = do
+  line ← the_line is_entry
+  count ← numeral no_limit
+  ps ← all_pairs
+  pure (record { line = line; count = count; pairs = ps })
 
 unfoldable pub an_entry : Reader Noted
-an_entry = judged (the_line is_entry >>= λ line. the_pairs >>= λ ps. pure (record { line = line; pairs = ps })) is_alone
+an_entry = judged noted miscounted
+
+abbrev pub entry_in : Unit {0} → Reader Noted
+entry_in s = an_entry
+
+unfoldable pub all_entries : Reader (List Noted)
+all_entries = repeated is_entry entry_in as_before tt
 
 unfoldable pub journal : Reader (List Noted)
-journal = repeated is_entry (λ room s. counted begins_entry room an_entry) as_before 3 tt >>= λ es. the_line is_end >>= λ line. pure es
+journal = closed all_entries is_end

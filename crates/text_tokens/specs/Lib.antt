@@ -8,10 +8,12 @@ pub mod Promises
 pub mod Reading
 pub mod Grammar
 pub mod Lawful
+pub mod Inputs
 pub mod Combinators
 pub mod Steps
 pub mod Nested
 pub mod NestedView
 pub mod Journal
+pub mod JournalView
 pub mod JournalFaults
-pub mod Needed
+pub mod Agreement

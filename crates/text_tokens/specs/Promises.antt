@@ -3,7 +3,7 @@ use Rattle.std.specs.Prelude.{◌≡◌, ◌≤◌, ℕ, List, [], ◌∷◌, le
 use Rattle.text_tokens.specs.declared.token.TokenKind.TheVariants.{Word, Number, Sign}
 use Rattle.text_tokens.specs.declared.refusal.Refusal.{Refusal}
 use Rattle.text_tokens.specs.declared.refusal.RefusalKind.TheVariants.{BadByte, WordTooLong, Truncated}
-use Rattle.text_tokens.specs.Text.{Lexeme, end_of, AreTokens}
+use Rattle.text_tokens.specs.Text.{Lexeme, token_end, AreTokens}
 use Rattle.text_tokens.specs.Cursor.{IsAtFront, at_place}
 
 pub record Same (ls ms : List Lexeme) (r s : Refusal) : Type 0 where
@@ -27,7 +27,7 @@ pub record RisesBy (source : List ℕ) (at : ℕ) (l : Lexeme) (Rest : Type 0) :
 
 abbrev pub Rises : List ℕ → ℕ → List Lexeme → Type 0
 Rises source at [] = at ≤ length source
-Rises source at (l ∷ ls) = RisesBy source at l (Rises source (end_of l) ls)
+Rises source at (l ∷ ls) = RisesBy source at l (Rises source (token_end l) ls)
 
 abbrev pub SpansRise : Type 0
 SpansRise = (source : List ℕ) (ls : List Lexeme) (last : Refusal) → AreTokens source 0 ls last → Rises source 0 ls

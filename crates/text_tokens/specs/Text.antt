@@ -87,8 +87,8 @@ pub record Lexeme : Type 0 where
   pub line : ℕ
 
 -- the place behind a token
-abbrev pub end_of : Lexeme → ℕ
-end_of l = l.from + length l.text
+abbrev pub token_end : Lexeme → ℕ
+token_end l = l.from + length l.text
 
 -- the line of the byte at a place: one more than the number of LF before it
 abbrev pub line_at : List ℕ → ℕ → ℕ
@@ -103,8 +103,8 @@ pub record Comes (source : List ℕ) (at from : ℕ) : Type 0 where
 
 -- such a token stands in the source
 pub record IsToken (source : List ℕ) (l : Lexeme) : Type 0 where
-  pub cuts : Cuts l.kind l.text (drop (end_of l) source)
-  pub text : drop l.from source ≡ l.text ++ drop (end_of l) source
+  pub cuts : Cuts l.kind l.text (drop (token_end l) source)
+  pub text : drop l.from source ≡ l.text ++ drop (token_end l) source
   pub line : l.line ≡ line_at source l.from
 
 -- The tokens of a source from a place on, and what is wrong behind the last of them where one more is needed:
@@ -113,4 +113,4 @@ pub data AreTokens (source : List ℕ) : ℕ → List Lexeme → Refusal → Typ
   ends : {at : ℕ} → Comes source at (length source) → AreTokens source at [] (record { line = line_at source (length source); kind = Truncated })
   bad_byte : {at : ℕ} → (from : ℕ) → Comes source at from → from < length source → BeginsNoToken (drop from source) → AreTokens source at [] (record { line = line_at source from; kind = BadByte })
   too_long : {at : ℕ} → (l : Lexeme) → Comes source at l.from → IsToken source l → most_bytes l.kind < length l.text → AreTokens source at [] (record { line = l.line; kind = WordTooLong })
-  token : {at : ℕ} {ls : List Lexeme} {last : Refusal} → (l : Lexeme) → Comes source at l.from → IsToken source l → length l.text ≤ most_bytes l.kind → AreTokens source (end_of l) ls last → AreTokens source at (l ∷ ls) last
+  token : {at : ℕ} {ls : List Lexeme} {last : Refusal} → (l : Lexeme) → Comes source at l.from → IsToken source l → length l.text ≤ most_bytes l.kind → AreTokens source (token_end l) ls last → AreTokens source at (l ∷ ls) last

@@ -3,21 +3,26 @@
 
 mod combinators;
 mod examples;
+pub mod journal;
 mod laws;
 mod lines;
 pub mod nested;
 mod refusal;
+mod terminals;
 mod token;
 mod tokens;
 
 pub use combinators::{
-    Element, Part, PartAfter, PartOf, branch, choice, exact, judgement, limit, making, nothing,
-    one_token, opening, refusing, repetition, running_sum, separation, sequence,
+    OtherPart, Part, PartBehind, PartBy, Recursive, as_often, behind_token, branch, choice,
+    choice_by_role, closing, exact, joining, judgement, limit, making, nesting, nothing,
+    one_of_two, one_token, opening, option, refusing, repetition, running_sum, same_texts,
+    sequence, stopping, whole_input,
 };
 pub use examples::{agreement_is_needed, journal_is_decided, nested_is_decided};
 pub use laws::{small_texts, spans_rise, tokens_are_cut, tokens_are_one};
 pub use lines::{Lines, Text, lines_add_up};
 pub use refusal::{ReadRefusal, Refusal, RefusalKind};
+pub use terminals::{number, number_up_to, open_level, refused, the_line, this_token};
 pub use token::{Token, TokenKind};
 pub use tokens::Tokens;
 

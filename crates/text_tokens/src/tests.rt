@@ -1,7 +1,8 @@
 use super::*;
+use crate::journal::read_input;
 use crate::nested::read_nested;
 use crate::refusal::RefusalKind::{
-    BadByte, BadEntry, TooDeep, TooMany, Truncated, Unexpected, WordTooLong,
+    BadByte, BadEntry, BadRange, TooDeep, TooMany, Trailing, Truncated, Unexpected, WordTooLong,
 };
 use crate::token::TokenKind::{Number, Sign, Word};
 use std::alloc::Global;
@@ -409,6 +410,52 @@ fn nested_texts_are_read_or_refused(rt: HostRuntime) {
     }
 }
 
+/// Whether bytes are a journal, or refused so.
+fn is_input(alloc: Global, bytes: &[u8], refusal: Option<(u32, RefusalKind)>) -> bool {
+    if bytes.len() > 100 {
+        return false;
+    }
+    match read_input(alloc, bytes) {
+        Ok(_) => refusal.is_none(),
+        Err(ReadRefusal::Refused(found)) => refusal == Some((found.line, found.kind)),
+        Err(ReadRefusal::NoMemory) => false,
+    }
+}
+
+#[test]
+fn journals_are_read_or_refused(rt: HostRuntime) {
+    for (bytes, refusal) in [
+        (b"end".as_slice(), None),
+        (b"entry 0 entry 2 pair 7 pair 9 end # \xff", None),
+        (b"entry 2\npair 7 end", Some((1, BadEntry))),
+        (b"entry 2\npair 7 entry", Some((1, BadEntry))),
+        (b"entry 2\npair 7 foo", Some((1, BadEntry))),
+        (b"entry 2\npair 7 !", Some((1, BadEntry))),
+        (b"entry 2\npair 7", Some((1, BadEntry))),
+        (b"entry 2\npair 7 pair !", Some((2, BadByte))),
+        (b"entry 3\npair 7 pair 10", Some((2, BadRange))),
+        (b"entry 3 pair 7 pair 8\npair 9 end", Some((2, TooMany))),
+        (b"entry 1 pair 7 foo", Some((1, Unexpected))),
+        (b"entry 1 pair 7\n", Some((2, Truncated))),
+        (b"entry 1 pair 7 end\nend", Some((2, Trailing))),
+        (b"entry 1 pair 7 end\n!", Some((2, BadByte))),
+        (b"end\n1234567890", Some((2, WordTooLong))),
+    ] {
+        assert!(rt; is_input(rt.alloc(), bytes, refusal));
+    }
+}
+
+#[test]
+fn parts_of_one_token_are_read(rt: HostRuntime) {
+    let mut tokens = Tokens::new(b"( if\n7 9");
+    assert!(rt; open_level(&mut tokens, Sign, b"(", 0).is_err());
+    assert!(rt; this_token(&mut tokens, Word, b"then").is_err());
+    assert!(rt; this_token(&mut tokens, Word, b"if").is_ok());
+    assert!(rt; number(&mut tokens).is_ok());
+    assert!(rt; number_up_to(&mut tokens, 8, BadRange).is_err());
+    assert!(rt; tokens.end(Trailing).is_ok());
+}
+
 impl Part for u8 {
     ghost use Rattle.text_tokens.specs.Reading.{pure};
     ghost use Rattle.text_tokens.specs.Grammar.{IsNothing};
@@ -418,7 +465,16 @@ impl Part for u8 {
     ghost reads = { pure 0 };
 }
 
-impl PartAfter<u8> for u16 {
+impl OtherPart for u8 {
+    ghost use Rattle.text_tokens.specs.Reading.{pure};
+    ghost use Rattle.text_tokens.specs.Grammar.{IsNothing};
+
+    ghost is = { IsNothing 1 };
+
+    ghost reads = { pure 1 };
+}
+
+impl PartBy<u8> for u16 {
     ghost use Rattle.text_tokens.specs.Reading.{pure};
     ghost use Rattle.text_tokens.specs.Grammar.{IsNothing};
 
@@ -427,28 +483,62 @@ impl PartAfter<u8> for u16 {
     ghost reads = { λ before. pure before };
 }
 
-impl Element<u32> for u8 {
-    ghost use Rattle.std.specs.Prelude.{◌+◌};
+impl PartBy<u32> for u8 {
     ghost use Rattle.text_tokens.specs.Reading.{pure};
     ghost use Rattle.text_tokens.specs.Grammar.{IsNothing};
 
-    ghost is = { λ room state. IsNothing room };
+    ghost is = { λ role. IsNothing role };
 
-    ghost reads = { λ room state. pure room };
-
-    ghost step = { λ state element. state + element };
+    ghost reads = { λ role. pure role };
 }
 
-fn laws_of<A: Part + Element<u32>, B: PartAfter<A>>() {
+impl PartBehind<u32> for u8 {
+    ghost use Rattle.text_tokens.specs.Reading.{pure};
+    ghost use Rattle.text_tokens.specs.Grammar.{IsNothing};
+
+    ghost is = { λ sign state. IsNothing state };
+
+    ghost reads = { λ sign state. pure state };
+}
+
+impl Recursive for u8 {
+    ghost use Rattle.std.specs.Prelude.{ℕ};
+    ghost use Rattle.text_tokens.specs.Reading.{pure};
+    ghost use Rattle.text_tokens.specs.Grammar.{IsNothing};
+
+    ghost value = { λ kind. ℕ };
+
+    ghost is = { λ levels kind. IsNothing levels };
+
+    ghost level = { λ levels inside kind. pure levels };
+}
+
+fn laws_of<A, B>()
+where
+    A: Part + OtherPart + PartBy<u32> + PartBehind<u32> + Recursive,
+    B: PartBy<A>,
+{
     exact::<A>();
+    whole_input::<A>();
     nothing::<A>();
-    choice::<A>();
-    sequence::<A, B>();
     making::<A, B>();
+    same_texts::<A>();
     judgement::<A>();
+    sequence::<A, B>();
+    behind_token::<u32, A>();
+    closing::<A>();
+    choice::<A>();
+    branch::<A>();
+    refusing::<A>();
+    stopping::<A>();
+    one_of_two::<A>();
+    option::<A>();
+    choice_by_role::<u32, A>();
     limit::<A>();
+    as_often::<A>();
     repetition::<u32, A>();
-    separation::<u32, A>();
+    joining::<A, u32, A, B>();
+    nesting::<A>();
 }
 
 #[test]
@@ -457,6 +547,10 @@ fn laws_hold_at_a_type(rt: HostRuntime) {
     opening();
     running_sum();
     laws_of::<u8, u16>();
+    nested_is_decided();
+    journal_is_decided();
+    agreement_is_needed();
+    tokens_are_cut();
     tokens_are_one();
     spans_rise();
     small_texts();

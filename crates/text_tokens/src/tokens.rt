@@ -6,7 +6,7 @@ ghost use Rattle.text_tokens.specs.declared.token.TokenKind.TheVariants.{Number}
 ghost use Rattle.text_tokens.specs.Text as text;
 ghost use Rattle.text_tokens.specs.Scan as scan;
 ghost use Rattle.text_tokens.specs.Cursor as cursor;
-ghost use Rattle.text_tokens.specs.Cursor.{IsAtFront, IsNumber, IsSlice, Spells, value_of, next_passes, is_the, is_kind, expect};
+ghost use Rattle.text_tokens.specs.Cursor.{IsAtFront, IsDigits, IsSlice, Spells, number_value, next_passes, is_the, is_kind, expect};
 
 use crate::refusal::{Refusal, RefusalKind};
 use crate::token::{Token, TokenKind};
@@ -201,7 +201,7 @@ fn skip(bytes: &[u8], line: u32) -> (usize, u32)
 fn decimal(digits: &[u8]) -> u32
     requires digits { list_all text.is_digit digits.now ≡ true }
     requires few { length digits.now ≤ 9 }
-    ensures value { result ≡ value_of digits.now }
+    ensures value { result ≡ number_value digits.now }
     ensures small { result < 10 ^ 9 }
 {
     let mut value: u32 = 0;
@@ -281,7 +281,7 @@ impl<'a> Tokens<'a> {
     /// The next token, and `None` exactly where the text ends. A refusal, as `None`, changes nothing, so it comes again.
     pub fn next(&mut self) -> Result<Option<Token>, Refusal>
         ensures answer { result ≡ cursor.answer self.old }
-        ensures moves { self.new ≡ cursor.behind self.old }
+        ensures moves { self.new ≡ cursor.past_token self.old }
         ensures again { OnErr result (self.new ≡ self.old) }
         ensures spells { IfOk result (λ found. IfSome found (Spells self.old)) }
     {
@@ -294,7 +294,7 @@ impl<'a> Tokens<'a> {
 
     /// Moves behind the next token, if there is one.
     fn skip_token(&mut self)
-        ensures { self.new ≡ cursor.behind self.old }
+        ensures { self.new ≡ cursor.past_token self.old }
     {
         if let Ok(piece) = self.front {
             *self = Tokens::at_next(self.source, self.at + piece.len, self.line);
@@ -318,8 +318,8 @@ impl<'a> Tokens<'a> {
 
     /// What a number of this text stands for, below 10^9.
     pub fn number(&self, token: &Token) -> u32
-        requires { IsNumber self.now.source token.now }
-        ensures value { result ≡ value_of (cursor.slice self.now.source token.now) }
+        requires { IsDigits self.now.source token.now }
+        ensures value { result ≡ number_value (cursor.slice self.now.source token.now) }
         ensures small { result < 10 ^ 9 }
     {
         decimal(self.text(token))
@@ -339,6 +339,17 @@ impl<'a> Tokens<'a> {
                 line: self.line,
                 kind: fault,
             },
+        }
+    }
+
+    /// Nothing where the text ends. A token is refused for this kind, and a byte that begins none or a word that is too
+    /// long for what is wrong with it.
+    pub fn end(&self, kind: RefusalKind) -> Result<(), Refusal>
+        ensures { result ≡ cursor.at_end kind self.now.last self.now.ahead }
+    {
+        match self.peek()? {
+            Some(_) => Err(self.refusal(kind)),
+            None => Ok(()),
         }
     }
 
@@ -366,7 +377,7 @@ impl<'a> Tokens<'a> {
     /// An `Err` changes nothing.
     pub fn take(&mut self, kind: TokenKind, text: &[u8]) -> Result<Token, Refusal>
         ensures answer { result ≡ expect (is_the kind text.now) self.old }
-        ensures moves { OnOk result (self.new ≡ cursor.behind self.old) }
+        ensures moves { OnOk result (self.new ≡ cursor.past_token self.old) }
         ensures again { OnErr result (self.new ≡ self.old) }
         ensures spells { IfOk result (Spells self.old) }
     {
@@ -380,10 +391,10 @@ impl<'a> Tokens<'a> {
     /// that was taken is one for `number`.
     pub fn take_kind(&mut self, kind: TokenKind) -> Result<Token, Refusal>
         ensures answer { result ≡ expect (is_kind kind) self.old }
-        ensures moves { OnOk result (self.new ≡ cursor.behind self.old) }
+        ensures moves { OnOk result (self.new ≡ cursor.past_token self.old) }
         ensures again { OnErr result (self.new ≡ self.old) }
         ensures spells { IfOk result (Spells self.old) }
-        ensures number { IfOk result (λ token. kind ≡ Number → IsNumber self.new.source token) }
+        ensures number { IfOk result (λ token. kind ≡ Number → IsDigits self.new.source token) }
     {
         if !self.is_next_kind(kind) {
             return Err(self.refusal(RefusalKind::Unexpected));
@@ -394,7 +405,7 @@ impl<'a> Tokens<'a> {
     /// The next token, whichever it is. Where there is none, it is refused as `refusal` says.
     pub fn take_any(&mut self) -> Result<Token, Refusal>
         ensures answer { result ≡ expect (λ _. true) self.old }
-        ensures moves { OnOk result (self.new ≡ cursor.behind self.old) }
+        ensures moves { OnOk result (self.new ≡ cursor.past_token self.old) }
         ensures again { OnErr result (self.new ≡ self.old) }
         ensures spells { IfOk result (Spells self.old) }
     {

@@ -1,15 +1,16 @@
 use Rattle.std.proofs.Common.{◌≡◌, List, [], ◌∷◌, Err, refl, sym, ap, subst, ◌∙◌}
 use Rattle.std.specs.Prelude.{codes}
 use Rattle.text_tokens.specs.declared.refusal.Refusal.{Refusal}
-use Rattle.text_tokens.specs.declared.refusal.RefusalKind.TheVariants.{BadByte, Unexpected, BadEntry}
+use Rattle.text_tokens.specs.declared.refusal.RefusalKind.{RefusalKind}
+use Rattle.text_tokens.specs.declared.refusal.RefusalKind.TheVariants.{BadByte, Unexpected, TooMany, BadEntry, Trailing}
 use Rattle.text_tokens.specs.Text.{Lexeme}
 use Rattle.text_tokens.specs.Cursor.{same_kind}
-use Rattle.text_tokens.specs.Reading.{Answer, one_within, counted, repeated}
-use Rattle.text_tokens.specs.Nested.{the_line}
+use Rattle.text_tokens.specs.Reading.{Answer, one_within, the_line, numeral, either, counted, elements, repeated}
 use Rattle.text_tokens.specs.Lawful.{IsFault, Tells}
-use Rattle.text_tokens.specs.Journal.{Noted, IsJournal, the_pairs, an_entry, journal}
-use Rattle.text_tokens.specs.JournalFaults.{word, entry, bad_entry, at_foo, bad_byte, too_many}
+use Rattle.text_tokens.specs.Journal.{Noted, IsJournal, a_pair, all_pairs, noted, an_entry, all_entries, journal}
+use Rattle.text_tokens.specs.JournalFaults.{word, half, pair, at, IsFirst}
 use Rattle.text_tokens.proofs.Obeying.{decided}
+use Rattle.text_tokens.proofs.Enclosing.{decided_input}
 use Rattle.text_tokens.proofs.JournalLaws.{exact_journal}
 use Rattle.text_tokens.proofs.examples.journal_is_decided.Goals as goal
 
@@ -19,42 +20,54 @@ returns-clause-exact c = exact_journal
 pub returns-clause-decided : goal.returns-clause-decided
 returns-clause-decided c = decided IsJournal journal exact_journal
 
-abbrev Answers : List Lexeme → Refusal → Type 0
-Answers ts r = ◌≡◌ {A = Answer (List Noted)} (journal bad_byte ts) (Err r)
+pub returns-clause-input : goal.returns-clause-input
+returns-clause-input c = decided_input IsJournal Trailing journal exact_journal
 
-goes_on : Answers (entry (word 3 (codes "pair") ∷ [])) bad_byte
-unfolding same_kind one_within counted repeated the_line the_pairs an_entry journal
+abbrev Answers : List Lexeme → Refusal → Type 0
+Answers ts r = ◌≡◌ {A = Answer (List Noted)} (journal (at 3 BadByte) ts) (Err r)
+
+goes_on : Answers (half (pair 3 [])) (at 3 BadByte)
+unfolding same_kind one_within the_line numeral either counted elements repeated a_pair all_pairs noted an_entry all_entries journal
 goes_on = refl
 
-before_foo : Answers (entry (word 3 (codes "foo") ∷ [])) bad_entry
-unfolding same_kind one_within counted repeated the_line the_pairs an_entry journal
+before_foo : Answers (half (word 3 (codes "foo") ∷ [])) (at 1 BadEntry)
+unfolding same_kind one_within the_line numeral either counted elements repeated a_pair all_pairs noted an_entry all_entries journal
 before_foo = refl
 
-before_entry : Answers (entry (word 3 (codes "entry") ∷ [])) bad_entry
-unfolding same_kind one_within counted repeated the_line the_pairs an_entry journal
+before_entry : Answers (half (word 3 (codes "entry") ∷ [])) (at 1 BadEntry)
+unfolding same_kind one_within the_line numeral either counted elements repeated a_pair all_pairs noted an_entry all_entries journal
 before_entry = refl
 
-before_end : Answers (entry []) bad_entry
-unfolding same_kind one_within counted repeated the_line the_pairs an_entry journal
+before_end : Answers (half (word 3 (codes "end") ∷ [])) (at 1 BadEntry)
+unfolding same_kind one_within the_line numeral either counted elements repeated a_pair all_pairs noted an_entry all_entries journal
 before_end = refl
 
-beyond : Answers (entry (word 3 (codes "pair") ∷ word 4 (codes "pair") ∷ [])) too_many
-unfolding same_kind one_within counted repeated the_line the_pairs an_entry journal
+before_byte : Answers (half []) (at 1 BadEntry)
+unfolding same_kind one_within the_line numeral either counted elements repeated a_pair all_pairs noted an_entry all_entries journal
+before_byte = refl
+
+within : Answers (half (word 3 (codes "pair") ∷ [])) (at 3 BadByte)
+unfolding same_kind one_within the_line numeral either counted elements repeated a_pair all_pairs noted an_entry all_entries journal
+within = refl
+
+beyond : Answers (half (pair 3 (pair 4 []))) (at 4 TooMany)
+unfolding same_kind one_within the_line numeral either counted elements repeated a_pair all_pairs noted an_entry all_entries journal
 beyond = refl
 
-is_it : (ts : List Lexeme) (r : Refusal) → Answers ts r → IsFault IsJournal bad_byte ts r
-is_it ts r e = subst (λ (s : Answer (List Noted)). Tells IsJournal bad_byte ts s) e (exact_journal.tells bad_byte ts)
+is_it : (ts : List Lexeme) (r : Refusal) → Answers ts r → IsFirst ts r
+is_it ts r e = subst (λ (s : Answer (List Noted)). Tells IsJournal (at 3 BadByte) ts s) e (exact_journal.tells (at 3 BadByte) ts)
 
-is_other : (ts : List Lexeme) (r s : Refusal) → Answers ts r → IsFault IsJournal bad_byte ts s → r ≡ s
-is_other ts r s e f = let g : ◌≡◌ {A = Answer (List Noted)} (Err r) (Err s) = sym e ∙ exact_journal.only bad_byte ts (Err s) f in cc
+is_other : (ts : List Lexeme) (r s : Refusal) → Answers ts r → IsFirst ts s → r.kind ≡ s.kind
+is_other ts r s e f = let g : ◌≡◌ {A = Answer (List Noted)} (Err r) (Err s) = sym e ∙ exact_journal.only (at 3 BadByte) ts (Err s) f in let h : r ≡ s = cc in ap (λ (r : Refusal). r.kind) h
 
-pub returns-clause-pinned : goal.returns-clause-pinned
-returns-clause-pinned c = record {
-  not_early = λ f. let e : bad_byte ≡ bad_entry = is_other _ bad_byte bad_entry goes_on f in let k : BadByte ≡ BadEntry = ap (λ (r : Refusal). r.kind) e in absurd cc;
-  judged = is_it _ bad_entry before_foo;
-  not_late = λ f. let e : bad_entry ≡ at_foo = is_other _ bad_entry at_foo before_foo f in let k : BadEntry ≡ Unexpected = ap (λ (r : Refusal). r.kind) e in absurd cc;
-  not_later = λ f. let e : bad_entry ≡ bad_byte = is_other _ bad_entry bad_byte before_entry f in let k : BadEntry ≡ BadByte = ap (λ (r : Refusal). r.kind) e in absurd cc;
-  not_at_end = λ f. let e : bad_entry ≡ bad_byte = is_other _ bad_entry bad_byte before_end f in let k : BadEntry ≡ BadByte = ap (λ (r : Refusal). r.kind) e in absurd cc;
-  judged_at_end = is_it _ bad_entry before_end;
-  many = is_it _ too_many beyond;
+pub returns-clause-judged : goal.returns-clause-judged
+returns-clause-judged c = record {
+  not_early = λ f. let k : BadByte ≡ BadEntry = is_other _ (at 3 BadByte) (at 1 BadEntry) goes_on f in absurd cc;
+  judged = is_it _ (at 1 BadEntry) before_foo;
+  not_late = λ f. let k : BadEntry ≡ Unexpected = is_other _ (at 1 BadEntry) (at 3 Unexpected) before_foo f in absurd cc;
+  before_entry = is_it _ (at 1 BadEntry) before_entry;
+  before_end = is_it _ (at 1 BadEntry) before_end;
+  before_byte = is_it _ (at 1 BadEntry) before_byte;
+  within = is_it _ (at 3 BadByte) within;
+  one_too_many = is_it _ (at 4 TooMany) beyond;
 }

@@ -1,47 +1,44 @@
-use Rattle.std.proofs.Common.{◌≡◌, ◌-◌, ◌+◌, ◌++◌, ◌∷◌, [], ◌∙◌, List, map, refl, sym, ap, arith}
+use Rattle.std.proofs.Common.{◌≡◌, ◌-◌, ◌+◌, ◌++◌, ◌∷◌, [], ◌∙◌, ℕ, List, map, sym, ap, subst, arith}
 use Rattle.std.proofs.lemmas.Result.{err_from_is_err_and}
 use Rattle.std.proofs.lemmas.List.{map_push}
 use Rattle.text_tokens.specs.declared.nested.Pair.{Pair}
-use Rattle.text_tokens.specs.declared.refusal.Refusal.{Refusal}
 use Rattle.text_tokens.specs.Reading.{repeated}
-use Rattle.text_tokens.specs.Nested.{Couple, is_pair, pair_in, add_low, all_pairs}
+use Rattle.text_tokens.specs.Grammar.{Counted}
+use Rattle.text_tokens.specs.Lawful.{always}
+use Rattle.text_tokens.specs.Nested.{Tally, is_pair, is_end, IsPair, pair_in, tallied, all_pairs}
 use Rattle.text_tokens.specs.NestedView.{couple}
-use Rattle.text_tokens.proofs.Stepping.{stays_on}
-use Rattle.text_tokens.proofs.Looping.{prepend, goes_on_at, is_over, fails}
-use Rattle.text_tokens.proofs.PairSteps.{pairs_begin}
+use Rattle.text_tokens.proofs.NestedLaws.{PairIn, pair_elements}
+use Rattle.text_tokens.proofs.Looping.{StillReads, loop_begins, loop_goes_on, loop_is_over, loop_fails, less_is}
 use Rattle.text_tokens.proofs.nested.read_pairs.Goals as goal
 
+abbrev tally : ℕ → ℕ → Tally
+tally room sum = record { room = room; sum = sum }
+
 pub loop-found-init : goal.loop-found-init
+unfolding all_pairs
 loop-found-init c = record {
-  reads = pairs_begin c.args.tokens.now.last c.args.tokens.now.ahead
-      ∙ ap (λ (ps : List Pair). prepend (map couple ps) (repeated is_pair pair_in add_low 3 0 c.args.tokens.now.last c.args.tokens.now.ahead)) (sym c.new-found.ensures.items);
-  stays = record { source = refl; last = refl };
+  reads = loop_begins all_pairs c.args.tokens.now (map couple c.new-found.result.items) (ap (λ (ps : List Pair). map couple ps) c.new-found.ensures.items);
   small = omega arith;
 }
 
 pub returns-in_err-pair : goal.returns-in_err-pair
 returns-in_err-pair c =
     let p = err_from_is_err_and c.from_residual.result c.from_residual.ensures.1 in
-    rw (p.1, p.2) (fails is_pair pair_in add_low (map couple c.loop-found.found.items) c.loop-found.sum c.loop-found.tokens.last c.loop-found.tokens.ahead c.in_err-pair.field-0.0 c.loop-found.room
-    (all_pairs c.args.tokens.now.last c.args.tokens.now.ahead) c.loop-found.invariant.reads c.in_err-pair.ensures.reads)
+    rw (p.1, p.2) (loop_fails PairIn pair_in tallied is_pair always is_end pair_elements all_pairs c.args.tokens.now (map couple c.loop-found.found.items) (tally c.loop-found.room c.loop-found.sum) c.loop-found.tokens c.loop-found.invariant.reads
+    c.in_err-pair.field-0.0 c.more_pair.new.tokens c.in_err-pair.ensures.reads)
 
 pub loop-found-preserved : goal.loop-found-preserved
 loop-found-preserved c =
-    let r = rw c.in-Some.is at c.in_ok-pair.ensures.reads in
+    let next = rw c.in-Some.is at c.in_ok-pair.ensures.reads in
     let room = rw c.in-Some.is at c.in_ok-pair.ensures.room in
     let pushed : map couple c.push.new.self.items ≡ map couple c.loop-found.found.items ++ couple c.in-Some.pair ∷ [] = rw c.in_ok-push.ensures.items (map_push couple c.loop-found.found.items c.in-Some.pair) in
+    let more = loop_goes_on PairIn pair_in tallied is_pair always is_end pair_elements all_pairs c.args.tokens.now (map couple c.loop-found.found.items) (tally c.loop-found.room c.loop-found.sum) c.loop-found.tokens c.loop-found.invariant.reads
+    (couple c.in-Some.pair) c.more_pair.new.tokens next (map couple c.push.new.self.items) pushed in
     record {
-      reads = c.loop-found.invariant.reads
-          ∙ goes_on_at is_pair pair_in add_low (map couple c.loop-found.found.items) c.loop-found.sum c.loop-found.tokens.last c.loop-found.tokens.ahead c.loop-found.room (couple c.in-Some.pair) c.more_pair.new.tokens.ahead room.0 r.0
-          ∙ ap (λ (last : Refusal). prepend (map couple c.loop-found.found.items ++ couple c.in-Some.pair ∷ []) (repeated is_pair pair_in add_low (c.loop-found.room - 1) (c.loop-found.sum + c.in-Some.pair.low) last c.more_pair.new.tokens.ahead)) (sym r.1.last)
-          ∙ ap (λ (ps : List Couple). prepend ps (repeated is_pair pair_in add_low (c.loop-found.room - 1) (c.loop-found.sum + c.in-Some.pair.low) c.more_pair.new.tokens.last c.more_pair.new.tokens.ahead)) (sym pushed);
-      stays = stays_on c.args.tokens.now c.loop-found.tokens c.more_pair.new.tokens c.loop-found.invariant.stays r.1;
+      reads = subst (λ (room : ℕ). StillReads all_pairs c.args.tokens.now (map couple c.push.new.self.items) (repeated is_pair pair_in tallied (tally room (c.loop-found.sum + c.in-Some.pair.low))) c.more_pair.new.tokens) (less_is c.loop-found.room) more;
       small = room.1;
     }
 
 pub returns : goal.returns
-returns c =
-    let r = rw c.in_default.is at c.in_ok-pair.ensures.reads in (
-      c.loop-found.invariant.reads ∙ is_over is_pair pair_in add_low (map couple c.loop-found.found.items) c.loop-found.sum c.loop-found.tokens.last c.loop-found.tokens.ahead c.loop-found.room c.more_pair.new.tokens.ahead r.0,
-      stays_on c.args.tokens.now c.loop-found.tokens c.more_pair.new.tokens c.loop-found.invariant.stays r.1,
-    )
+returns c = loop_is_over PairIn pair_in tallied is_pair always is_end pair_elements all_pairs c.args.tokens.now (map couple c.loop-found.found.items) (tally c.loop-found.room c.loop-found.sum) c.loop-found.tokens c.loop-found.invariant.reads
+    c.more_pair.new.tokens (rw c.in_default.is at c.in_ok-pair.ensures.reads)

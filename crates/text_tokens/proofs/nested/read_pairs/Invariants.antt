@@ -1,15 +1,13 @@
-use Rattle.std.proofs.Common.{◌≡◌, ◌≤◌, map}
+use Rattle.std.proofs.Common.{◌≤◌, map}
 use Rattle.text_tokens.specs.Reading.{repeated}
-use Rattle.text_tokens.specs.Steps.{Stays}
-use Rattle.text_tokens.specs.Nested.{is_pair, pair_in, add_low, all_pairs}
+use Rattle.text_tokens.specs.Nested.{is_pair, pair_in, tallied, all_pairs}
 use Rattle.text_tokens.specs.NestedView.{couple}
-use Rattle.text_tokens.proofs.Looping.{prepend}
+use Rattle.text_tokens.proofs.Looping.{StillReads}
 use Rattle.text_tokens.proofs.nested.read_pairs.Given as goal
 
 abbrev pub invariant-loop-found : goal.invariant-loop-found
 invariant-loop-found l = record {
-  reads : all_pairs l.fn.tokens.last l.fn.tokens.ahead ≡ prepend (map couple l.found.items) (repeated is_pair pair_in add_low l.room l.sum l.tokens.last l.tokens.ahead);
-  stays : Stays l.fn.tokens l.tokens;
+  reads : StillReads all_pairs l.fn.tokens (map couple l.found.items) (repeated is_pair pair_in tallied (record { room = l.room; sum = l.sum })) l.tokens;
   small : l.sum ≤ 100;
 }
 

@@ -1,9 +1,9 @@
 use Rattle.std.proofs.Common.{◌≡◌, ◌+◌, ◌-◌, ◌*◌, ◌^◌, ◌<◌, drop, length}
-use Rattle.text_tokens.specs.Cursor.{value_of}
+use Rattle.text_tokens.specs.Cursor.{number_value}
 use Rattle.text_tokens.proofs.tokens.decimal.Given as goal
 
 abbrev pub invariant-loop-digit : goal.invariant-loop-digit
 invariant-loop-digit l = record {
-  rest : l.value * 10 ^ (length l.digits - l.digit-index) + value_of (drop l.digit-index l.digits) ≡ value_of l.digits;
+  rest : l.value * 10 ^ (length l.digits - l.digit-index) + number_value (drop l.digit-index l.digits) ≡ number_value l.digits;
   small : l.value < 10 ^ l.digit-index;
 }

@@ -1,0 +1,82 @@
+//! Parts of one token.
+
+ghost use Rattle.std.specs.Prelude.{◌≡◌, ◌<◌, ◌≤◌, ◌^◌, IfOk, OnOk};
+ghost use Rattle.text_tokens.specs.Steps.{Gives, lexeme_of};
+ghost use Rattle.text_tokens.specs.Cursor.{is_the};
+ghost use Rattle.text_tokens.specs.Reading as reading;
+ghost use Rattle.text_tokens.specs.declared.refusal.ReadRefusal.TheVariants.{Refused};
+
+use crate::refusal::{ReadRefusal, Refusal, RefusalKind};
+use crate::token::{Token, TokenKind};
+use crate::tokens::Tokens;
+
+/// The refusal of a token that was taken, on its line.
+pub fn refused(line: u32, kind: RefusalKind) -> ReadRefusal
+    ensures { result ≡ Refused (record { line = line; kind = kind }) }
+{
+    ReadRefusal::Refused(Refusal { line, kind })
+}
+
+/// This token. Any other is `Unexpected`.
+pub fn this_token(
+    tokens: &mut Tokens<'_>,
+    kind: TokenKind,
+    text: &[u8],
+) -> Result<Token, ReadRefusal>
+    ensures { Gives (lexeme_of tokens.old.source) (reading.one (is_the kind text.now)) tokens.old result tokens.new }
+{
+    Ok(tokens.take(kind, text)?)
+}
+
+/// This token, which opens a level, where so many more may be opened. Without one it is `TooDeep`.
+pub fn open_level(
+    tokens: &mut Tokens<'_>,
+    kind: TokenKind,
+    text: &[u8],
+    levels: u32,
+) -> Result<Token, ReadRefusal>
+    ensures reads { Gives (lexeme_of tokens.old.source) (reading.opening levels (is_the kind text.now)) tokens.old result tokens.new }
+    ensures deep { OnOk result (0 < levels) }
+{
+    let token = tokens.take(kind, text)?;
+    if levels == 0 {
+        return Err(refused(token.line, RefusalKind::TooDeep));
+    }
+    Ok(token)
+}
+
+/// This token, for its line.
+#[tactic(auto, unfolding(crate::specs::Reading::the_line))]
+pub fn the_line(tokens: &mut Tokens<'_>, kind: TokenKind, text: &[u8]) -> Result<u32, ReadRefusal>
+    ensures { Gives (λ line. line) (reading.the_line (is_the kind text.now)) tokens.old result tokens.new }
+{
+    Ok(this_token(tokens, kind, text)?.line)
+}
+
+/// A number, for what it stands for.
+#[tactic(auto, unfolding(crate::specs::Reading::numeral))]
+pub fn number(tokens: &mut Tokens<'_>) -> Result<u32, ReadRefusal>
+    ensures reads { Gives (λ n. n) (reading.numeral reading.no_limit) tokens.old result tokens.new }
+    ensures small { IfOk result (λ n. n < 10 ^ 9) }
+{
+    let token = tokens.take_kind(TokenKind::Number)?;
+    Ok(tokens.number(&token))
+}
+
+/// A number of at most so much. A number above is refused for this kind.
+#[tactic(auto, unfolding(crate::specs::Reading::numeral))]
+pub fn number_up_to(
+    tokens: &mut Tokens<'_>,
+    most: u32,
+    kind: RefusalKind,
+) -> Result<u32, ReadRefusal>
+    ensures reads { Gives (λ n. n) (reading.numeral (reading.above most kind)) tokens.old result tokens.new }
+    ensures within { IfOk result (λ n. n ≤ most) }
+{
+    let token = tokens.take_kind(TokenKind::Number)?;
+    let value = tokens.number(&token);
+    if value > most {
+        return Err(refused(token.line, kind));
+    }
+    Ok(value)
+}
