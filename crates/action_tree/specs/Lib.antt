@@ -1,0 +1,5 @@
+pub mod Trees
+pub mod Stored
+pub mod Views
+pub mod Words
+pub mod Writable

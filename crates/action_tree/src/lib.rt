@@ -1,0 +1,12 @@
+//! Programs of guarded actions as trees.
+#![tactic(auto)]
+
+mod expression;
+mod program;
+mod statement;
+mod word;
+
+pub use expression::{Cmp, DirTerm, Guard, Part, PortExpr, PortSet, Sum, Term};
+pub use program::{Action, Program, Var};
+pub use statement::{Move, Stmt};
+pub use word::{Lit, Word};
