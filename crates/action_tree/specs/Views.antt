@@ -1,5 +1,5 @@
 -- The trees that values stand for. A `Vec` is seen as its list, a `Box` as what is in it, a word as its bytes.
-use Rattle.std.specs.Prelude.{Bool, List, [], ◌∷◌, map}
+use Rattle.std.specs.Prelude.{Bool, List, map}
 use Rattle.action_tree.specs.declared.word.Word.{Word}
 use Rattle.action_tree.specs.declared.word.Lit.{Lit}
 use Rattle.action_tree.specs.declared.expression.DirTerm as directions

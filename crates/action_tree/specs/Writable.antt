@@ -1,7 +1,7 @@
 -- Which trees the grammar gives within its limits, lines aside. Each family of trees has three measures here: how many levels are
 -- open at once, at the least, in a text of the tree; how many names are in force at once; and whether its counts, names and numbers
 -- are those of a text.
-use Rattle.std.specs.Prelude.{ℕ, suc, max, Bool, true, false, ◌&&◌, nat_le, List, length}
+use Rattle.std.specs.Prelude.{ℕ, suc, max, Bool, true, false, ◌&&◌, nat_le, length}
 use Rattle.std.specs.List.{list_all}
 use Rattle.action_tree.specs.Trees.{Name, Literal, DirTerm, fixed, held, Guard, atom, negation, conjunction, disjunction, quantified, tested, comparison, Guards, no_guards, guard_then, Sum, no_terms, term_then, Term, number, own, of_port, count, direction, inner, mod6, PortExpr, bound, at_end, turned, first, Stmt, put, put_of, let_be, if_then, for_each, Stmts, no_stmts, stmt_then, Move, no_move, through, contract, Var, Action, Program}
 use Rattle.action_tree.specs.Words.{is_name, is_number}
@@ -201,7 +201,7 @@ abbrev mutual
   is_guard (disjunction gs) = is_count_from 2 (guard_count gs) && are_guards gs
   is_guard (quantified q v s g) = named v && is_guard g
   is_guard (tested t p) = is_port p
-  is_guard (comparison a c b) = is_count_from 1 (term_count a) && are_terms a && is_count_from 1 (term_count b) && are_terms b
+  is_guard (comparison a c b) = (is_count_from 1 (term_count a) && are_terms a) && (is_count_from 1 (term_count b) && are_terms b)
 
   pub are_guards : Guards → Bool
   are_guards no_guards = true
