@@ -1,0 +1,5 @@
+pub mod Conditions
+pub mod Measured
+pub mod MeasuredStatements
+pub mod Produced
+pub mod ProducedStatements

@@ -1,0 +1,14 @@
+//! Programs of guarded actions as trees.
+#![tactic(auto)]
+
+mod expression;
+mod laws;
+mod program;
+mod statement;
+mod word;
+
+pub use expression::{Cmp, DirTerm, Guard, Part, PortExpr, PortSet, Sum, Term};
+pub use laws::writable_is_given;
+pub use program::{Action, Program, Var};
+pub use statement::{Move, Stmt};
+pub use word::{Lit, Word};
