@@ -10,7 +10,7 @@ use Rattle.tri_lattice.specs.declared.node.Node.{Node}
 use Rattle.tri_lattice.specs.Lattice.{step, node_eq}
 use Rattle.tri_lattice.specs.Extent.{Extent, is_in}
 use Rattle.tri_lattice.proofs.Nodes.{node_eq-true}
-use Rattle.tri_lattice.proofs.Tests.{each_below_at, each_two}
+use Rattle.tri_lattice.proofs.EachBelow.{each_below_at, each_two}
 use Rattle.tri_lattice.proofs.Steps.{is_adjacent-true}
 use Rattle.amoebot_state.specs.declared.bot.Bot.{Bot}
 use Rattle.amoebot_state.specs.declared.bot.Chir.{Chir}

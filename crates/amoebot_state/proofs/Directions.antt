@@ -5,7 +5,7 @@ use Rattle.std.proofs.lemmas.Bool.{cases_Bool, lt-ltb, ltb-true, eqb-true, both_
 use Rattle.tri_lattice.specs.declared.node.Node.{Node}
 use Rattle.tri_lattice.specs.Lattice.{step, node_eq, Adjacent, is_adjacent}
 use Rattle.tri_lattice.proofs.Nodes.{node_eq-true, each_direction}
-use Rattle.tri_lattice.proofs.Tests.{each_two}
+use Rattle.tri_lattice.proofs.EachBelow.{each_two}
 use Rattle.tri_lattice.proofs.Steps.{is_adjacent-true, Adjacent-is_adjacent}
 use Rattle.amoebot_state.specs.declared.bot.Bot.{Bot}
 use Rattle.amoebot_state.specs.declared.bot.Chir.{Chir}

@@ -4,7 +4,7 @@ use Rattle.std.proofs.lemmas.Bool.{and_parts, and_from, or_cases, false≢true, 
 use Rattle.std.proofs.Math.Bool.{beq}
 use Rattle.std.specs.List.{list_any}
 use Rattle.std.specs.Prelude.{IsTrue, ◌==◌}
-pub use Rattle.tri_lattice.proofs.Tests.{each_below, each_below_at, each_below_from, some_below, some_below_at, some_below_from}
+pub use Rattle.tri_lattice.proofs.EachBelow.{each_below, each_below_at, each_below_from, some_below, some_below_at, some_below_from}
 use Rattle.ring_guard.specs.Rings.{entry, IsEnd, IsOneArc}
 use Rattle.ring_guard.specs.Laws.{ring_of, arcs, ArcTable}
 

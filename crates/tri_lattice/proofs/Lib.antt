@@ -1,4 +1,4 @@
-pub mod Tests
+pub mod EachBelow
 pub mod Nodes
 pub mod Steps
 pub mod Boxes
