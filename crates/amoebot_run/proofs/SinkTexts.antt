@@ -4,7 +4,7 @@ use Rattle.std.specs.Prelude.{IsSome, IfSome}
 use Rattle.std.proofs.lemmas.Bool.{false≢true}
 use Rattle.text_tokens.specs.declared.refusal.Refusal.{Refusal}
 use Rattle.outer_io.specs.Calls.{none}
-use Rattle.outer_io.specs.Kept.{Kept, kept_after, KeepsPiece, PiecesAreKeptAsOne, written_of}
+use Rattle.outer_io.specs.Kept.{KeptBytes, kept_after, KeepsPiece, PiecesAreKeptAsOne, written_of}
 use Rattle.outer_io.specs.Writings.{WritesAll}
 use Rattle.amoebot_run.specs.declared.report.Report.{Report}
 use Rattle.amoebot_run.specs.declared.run.Status.{Status}
@@ -13,7 +13,7 @@ use Rattle.amoebot_run.specs.Headline.{usage_line, read_fault_line, refusal_line
 use Rattle.amoebot_run.specs.Texts.{report_text}
 
 -- what is written of each answer
-pub record Writes (old new : Kept) (answer : Status) (report : Option Report) : Type 0 where
+pub record Writes (old new : KeptBytes) (answer : Status) (report : Option Report) : Type 0 where
   pub reported : IsSome report ↔ (answer ≡ status.Done)
   pub text : (its : Report) → report ≡ Some its → WritesAll written_of KeepsPiece old new (report_text its)
   pub usage : answer ≡ status.Words → WritesAll written_of KeepsPiece old new usage_line
@@ -22,7 +22,7 @@ pub record Writes (old new : Kept) (answer : Status) (report : Option Report) : 
   pub write_fault : answer ≡ status.WriteFault → ⊥
   pub no_memory : answer ≡ status.NoMemory → new ≡ old
 
-pub sink_has : PiecesAreKeptAsOne → (old new : Kept) (answer : Status) (report : Option Report) → Writes old new answer report → new ≡ kept_after old (text_with answer report)
+pub sink_has : PiecesAreKeptAsOne → (old new : KeptBytes) (answer : Status) (report : Option Report) → Writes old new answer report → new ≡ kept_after old (text_with answer report)
 sink_has law old new status.Done (Some report) writes = law old new _ (writes.text report refl).writes
 sink_has law old new status.Done None writes = absurd (false≢true (writes.reported.1 refl))
 sink_has law old new status.Words report writes = law old new _ (writes.usage refl).writes

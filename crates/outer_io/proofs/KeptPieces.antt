@@ -5,10 +5,10 @@ use Rattle.std.proofs.Math.Bool.{and-true, and_assoc}
 use Rattle.std.proofs.Math.Dec.{leb-zero}
 use Rattle.std.proofs.lemmas.Bool.Decides.{leb_tells}
 use Rattle.std.proofs.lemmas.List.{append-nil, length-append, length-take}
-use Rattle.outer_io.specs.Kept.{Kept, kept_after, PiecesAreKeptAsOne}
+use Rattle.outer_io.specs.Kept.{KeptBytes, kept_after, PiecesAreKeptAsOne}
 use Rattle.outer_io.specs.Calls.{none, more}
 
-abbrev the_kept : ℕ → List ℕ → Bool → Kept
+abbrev the_kept : ℕ → List ℕ → Bool → KeptBytes
 the_kept room bytes whole = record { room = room; bytes = bytes; is_whole = whole }
 
 same_kept : (room : ℕ) (bytes other : List ℕ) (whole all : Bool) → bytes ≡ other → whole ≡ all → the_kept room bytes whole ≡ the_kept room other all
@@ -18,7 +18,7 @@ take_of_none : (n : ℕ) → take {A = ℕ} n [] ≡ []
 take_of_none zero = refl
 take_of_none (suc n) = refl
 
-nothing : (kept : Kept) → kept ≡ kept_after kept []
+nothing : (kept : KeptBytes) → kept ≡ kept_after kept []
 nothing kept =
     let free = kept.room - length kept.bytes in
     same_kept kept.room kept.bytes _ kept.is_whole _ (sym (ap (λ bs. kept.bytes ++ bs) (take_of_none free) ∙ append-nil kept.bytes)) (sym (ap (λ b. kept.is_whole && b) (leb-zero free) ∙ and-true kept.is_whole))
@@ -36,10 +36,10 @@ front_of_two (suc free) (x ∷ xs) two =
     ap (λ n. x ∷ (take free xs ++ take n two)) same ∙ ap (λ bs. x ∷ bs) (front_of_two free xs two)
 
 -- the room behind the front of a piece
-room_behind : (kept : Kept) (one : List ℕ) → kept.room - length (kept.bytes ++ take (kept.room - length kept.bytes) one) ≡ kept.room - length kept.bytes - length one
+room_behind : (kept : KeptBytes) (one : List ℕ) → kept.room - length (kept.bytes ++ take (kept.room - length kept.bytes) one) ≡ kept.room - length kept.bytes - length one
 room_behind kept one = omega (arith, length-append kept.bytes (take (kept.room - length kept.bytes) one), length-take (kept.room - length kept.bytes) one)
 
-twice : (kept : Kept) (one two : List ℕ) → kept_after (kept_after kept one) two ≡ kept_after kept (one ++ two)
+twice : (kept : KeptBytes) (one two : List ℕ) → kept_after (kept_after kept one) two ≡ kept_after kept (one ++ two)
 twice kept one two =
     let free = kept.room - length kept.bytes in
     let behind = room_behind kept one in

@@ -5,17 +5,17 @@ use Rattle.std.specs.declared.option.Option.TheVariants.{Some, None}
 use Rattle.outer_io.specs.Calls.{Passed}
 
 -- the room in bytes, the bytes kept, and whether these are all that it was given
-pub record Kept : Type 0 where
+pub record KeptBytes : Type 0 where
   pub room : ℕ
   pub bytes : List ℕ
   pub is_whole : Bool
 
 -- before the first write
-abbrev pub nothing_kept : ℕ → Kept
+abbrev pub nothing_kept : ℕ → KeptBytes
 nothing_kept room = record { room = room; bytes = []; is_whole = true }
 
 -- after one more piece: the front of it for which there is room is kept, and what does not fit is dropped
-abbrev pub kept_after : Kept → List ℕ → Kept
+abbrev pub kept_after : KeptBytes → List ℕ → KeptBytes
 kept_after kept piece = record {
   room = kept.room;
   bytes = kept.bytes ++ take (kept.room - length kept.bytes) piece;
@@ -23,13 +23,13 @@ kept_after kept piece = record {
 }
 
 -- what a write of these bytes makes of the sink
-abbrev pub KeepsPiece : Kept → List ℕ → Kept → Type 0
+abbrev pub KeepsPiece : KeptBytes → List ℕ → KeptBytes → Type 0
 KeepsPiece old piece new = new ≡ kept_after old piece
 
 -- the bytes are told while none was dropped
-abbrev pub written_of : Kept → Option (List ℕ)
+abbrev pub written_of : KeptBytes → Option (List ℕ)
 written_of kept = if kept.is_whole then Some kept.bytes else None
 
 -- what is kept of a text does not depend on how it is cut into pieces
 abbrev pub PiecesAreKeptAsOne : Type 0
-PiecesAreKeptAsOne = (old new : Kept) (bytes : List ℕ) → Passed KeepsPiece old bytes new → new ≡ kept_after old bytes
+PiecesAreKeptAsOne = (old new : KeptBytes) (bytes : List ℕ) → Passed KeepsPiece old bytes new → new ≡ kept_after old bytes

@@ -18,9 +18,9 @@ pub struct SureSink {
 
 impl Model for SureSink {
     ghost use Rattle.std.specs.Prelude.{◌≤◌, vec_len, vec_capacity};
-    ghost use Rattle.outer_io.specs.Kept.{Kept};
+    ghost use Rattle.outer_io.specs.Kept.{KeptBytes};
 
-    ghost Value = { Kept };
+    ghost Value = { KeptBytes };
 
     ghost view = { λ sink. record { room = sink.room; bytes = sink.bytes.items; is_whole = sink.whole } };
 
