@@ -20,3 +20,7 @@ pub mod SameDiff
 pub mod PeerLooksBack
 pub mod CopiesStand
 pub mod ActsDecide
+pub mod Members
+pub mod Answered
+pub mod Gathered
+pub mod Opened

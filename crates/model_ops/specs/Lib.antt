@@ -4,4 +4,6 @@ pub mod Sights
 pub mod Reaches
 pub mod WorkingCopies
 pub mod Deciders
+pub mod Members
+pub mod Sites
 pub mod Laws

@@ -2,7 +2,9 @@
 #![tactic(auto)]
 
 mod laws;
+mod member;
 mod peer;
+mod site;
 
 pub use laws::{
     acts_decide, copies_stand_for_worlds, one_arc_test_is_one_arc, peer_looks_back,
@@ -10,3 +12,4 @@ pub use laws::{
     unguarded_contract_splits,
 };
 pub use peer::Peer;
+pub use site::Site;

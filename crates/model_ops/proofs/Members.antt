@@ -1,0 +1,223 @@
+-- Look-ups among members in rising id, and the write of one.
+use Rattle.std.proofs.Common.{◌≡◌, ◌≢◌, ◌<◌, ◌≤◌, ◌+◌, ℕ, zero, suc, List, [], ◌∷◌, length, map, get_or, set, Bool, true, false, cond, ap, sym, ◌∙◌, refl, subst, inl, inr, arith, Option, Some, None, nat_eq}
+use Rattle.std.specs.Prelude.{is_some, slice_get}
+use Rattle.std.proofs.lemmas.List.Elements.{All-set}
+use Rattle.std.proofs.Math.Seq.{map-set_same}
+use Rattle.std.proofs.lemmas.List.Folds.{find_at}
+use Rattle.std.proofs.lemmas.Option.{cond_some, none-some, slice_get-get_or, slice_get_past}
+use Rattle.std.specs.List.{find, position, position_or_len}
+use Rattle.std.specs.Option.{option_map, option_or}
+use Rattle.std.proofs.lemmas.Bool.{cases_Bool, cases_eq, cases_lt, both_ways, eqb-true, eq-eqb, lt-ltb, le-ltb}
+use Rattle.std.proofs.lemmas.List.{length-set, get_or-set_same, get_or-set_other, ext_get_or}
+use Rattle.std.proofs.lemmas.List.Quantifiers.{position-Some}
+use Rattle.tri_lattice.specs.declared.node.Node.{Node}
+use Rattle.tri_lattice.specs.Extent.{Extent, IsArea, is_in}
+use Rattle.tri_lattice.specs.Lattice.{IsNear}
+use Rattle.tri_lattice.proofs.Boxes.{near_in}
+use Rattle.amoebot_state.proofs.Owns.{own_cases}
+use Rattle.amoebot_state.specs.declared.bot.Bot.{Bot}
+use Rattle.amoebot_state.specs.Ports.{is_own}
+use Rattle.amoebot_state.specs.Configs.{Config, bot_at, covers, occupant, set_bot}
+use Rattle.amoebot_state.specs.Pairs.{body_in}
+use Rattle.amoebot_state.specs.Zones.{Shown, IsShown, spread, with_id, shown, gap}
+use Rattle.amoebot_state.proofs.Gaps.{spread_at}
+use Rattle.arrayvec.specs.ArrayVec.{ArrayVec, with_items}
+use Rattle.arrayvec.proofs.ArrayVecLemmas.{items-with_items}
+use Rattle.amoebot_state.specs.Refusals.{IsPlain}
+use Rattle.model_ops.specs.declared.member.Member.{Member}
+use Rattle.model_ops.specs.WorkingCopies.{WorkingCopy}
+use Rattle.model_ops.specs.Members.{IsBelow, AreRising, IsSite, body_found, body_now, config_found, config_now, copy_of}
+use Rattle.model_ops.proofs.Becomes.{same_ids}
+
+-- the member with another amoebot
+abbrev pub with_now : Member → Bot → Member
+with_now m b = record m { now = b }
+
+-- the amoebot with an id is that of the first member with it
+pub body_of : (ms : List Member) (i : ℕ) → body_in (map body_now ms) i ≡ option_map (λ (m : Member). m.now) (find (λ m. nat_eq m.id i) ms)
+body_of [] i = refl
+body_of (m ∷ ms) i = elim (cases_Bool (nat_eq m.id i)) [
+  | inl t ↦ rw t refl
+  | inr f ↦ rw f (body_of ms i)
+]
+
+-- the first place that passes, one place on
+position_cons : {X : Type 0} (p : X → Bool) (x : X) (xs : List X) → position p (x ∷ xs) ≡ cond (p x) (Some 0) (option_map suc (position p xs))
+position_cons p x xs = elim (cases_Bool (p x)) [
+  | inl t ↦ rw t (ap (λ l. cond l (Some 0) None) (lt-ltb 0 (suc (length xs)) (omega arith)))
+  | inr f ↦ rw f (elim (cases_lt (position_or_len p xs) (length xs)) [
+    | inl lt ↦ ap (λ l. cond l (Some (1 + position_or_len p xs)) None) (lt-ltb (1 + position_or_len p xs) (suc (length xs)) (omega arith)) ∙ ap Some (one_more (position_or_len p xs)) ∙ sym (ap (λ l. option_map suc (cond l (Some (position_or_len p xs)) None)) (lt-ltb (position_or_len p xs) (length xs) lt))
+    | inr ge ↦ ap (λ l. cond l (Some (1 + position_or_len p xs)) None) (le-ltb (1 + position_or_len p xs) (suc (length xs)) (omega arith)) ∙ sym (ap (λ l. option_map suc (cond l (Some (position_or_len p xs)) None)) (le-ltb (position_or_len p xs) (length xs) (omega arith)))
+  ])
+]
+  where
+    one_more : (n : ℕ) → 1 + n ≡ suc n
+    one_more n = omega arith
+
+over : (t : Bool) (i : ℕ) (o : Option ℕ) → option_map suc (cond t (Some i) o) ≡ cond t (Some (suc i)) (option_map suc o)
+over true i o = refl
+over false i o = refl
+
+-- the first place that passes where one more is put below all that are there
+position_with_id : (p : Option Bot → Bool) → p None ≡ false → (os : List (Option Bot)) (i : ℕ) (b : Bot) → ((k : ℕ) → k ≤ i → get_or os k None ≡ None) → position p (with_id os i b) ≡ cond (p (Some b)) (Some i) (position p os)
+position_with_id p none [] zero b below = position_cons p (Some b) []
+position_with_id p none [] (suc i) b below = position_cons p None (with_id [] i b) ∙ ap (λ t. cond t (Some 0) (option_map suc (position p (with_id [] i b)))) none ∙ ap (option_map suc) (position_with_id p none [] i b (λ k le. refl)) ∙ over (p (Some b)) i None
+position_with_id p none (o ∷ os) zero b below =
+    position_cons p (Some b) os
+    ∙ ap (cond (p (Some b)) (Some 0)) (sym (position_cons p o os ∙ ap (λ t. cond t (Some 0) (option_map suc (position p os))) (ap p (below 0 (omega arith)) ∙ none)))
+position_with_id p none (o ∷ os) (suc i) b below =
+    position_cons p o (with_id os i b)
+    ∙ ap (λ t. cond t (Some 0) (option_map suc (position p (with_id os i b)))) (ap p (below 0 (omega arith)) ∙ none)
+    ∙ ap (option_map suc) (position_with_id p none os i b (λ k le. below (suc k) (omega arith)))
+    ∙ over (p (Some b)) i (position p os)
+    ∙ ap (cond (p (Some b)) (Some (suc i))) (sym (position_cons p o os ∙ ap (λ t. cond t (Some 0) (option_map suc (position p os))) (ap p (below 0 (omega arith)) ∙ none)))
+
+-- below all members there is nobody
+nobody_below : (ms : List Member) (i k : ℕ) → IsBelow i ms → k ≤ i → body_in (map body_now ms) k ≡ None
+nobody_below [] i k below le = refl
+nobody_below (m ∷ ms) i k below le = elim (cases_Bool (nat_eq m.id k)) [
+  | inl t ↦ let e = eqb-true m.id k t in absurd (omega (arith, below.0))
+  | inr f ↦ rw f (nobody_below ms i k below.1 le)
+]
+
+-- the occupant of a node is the first member that has it
+pub occupant_of : (a : Extent) (maxes : List ℕ) (ms : List Member) (v : Node) → AreRising ms → occupant (config_now a maxes ms) v ≡ option_map (λ (m : Member). m.id) (find (λ m. is_own m.now v) ms)
+occupant_of a maxes [] v rising = refl
+occupant_of a maxes (m ∷ ms) v rising =
+    let rest = map body_now ms in
+    position_with_id (λ o. covers o v) refl (spread rest) m.id m.now (λ k le. spread_at rest k ∙ nobody_below ms m.id k rising.0 le)
+    ∙ elim (cases_Bool (is_own m.now v)) [
+      | inl t ↦ rw t refl
+      | inr f ↦ rw f (occupant_of a maxes ms v rising.1)
+    ]
+
+-- the list is as long whatever the amoebots are
+length-with_id : (os qs : List (Option Bot)) (i : ℕ) (b d : Bot) → length os ≡ length qs → length (with_id os i b) ≡ length (with_id qs i d)
+length-with_id [] [] zero b d e = refl
+length-with_id [] [] (suc i) b d e = ap suc (length-with_id [] [] i b d refl)
+length-with_id [] (q ∷ qs) i b d e = absurd (cc)
+length-with_id (o ∷ os) [] i b d e = absurd (cc)
+length-with_id (o ∷ os) (q ∷ qs) zero b d e = e
+length-with_id (o ∷ os) (q ∷ qs) (suc i) b d e = ap suc (length-with_id os qs i b d (cc))
+
+length-with_now : (ms : List Member) (k : ℕ) (d : Member) (b : Bot) → length (spread (map body_now (set ms k (with_now (get_or ms k d) b)))) ≡ length (spread (map body_now ms))
+length-with_now [] k d b = refl
+length-with_now (m ∷ ms) zero d b = length-with_id (spread (map body_now ms)) (spread (map body_now ms)) m.id b m.now refl
+length-with_now (m ∷ ms) (suc k) d b = length-with_id (spread (map body_now (set ms k (with_now (get_or ms k d) b)))) (spread (map body_now ms)) m.id m.now m.now (length-with_now ms k d b)
+
+-- the amoebots after one member's is replaced, where it is the first with its id
+body_with_now : (ms : List Member) (k i j : ℕ) (d : Member) (b : Bot) → k < length ms → nat_eq (get_or ms k d).id i ≡ true → ((l : ℕ) → l < k → nat_eq (get_or ms l d).id i ≡ false) → body_in (map body_now (set ms k (with_now (get_or ms k d) b))) j ≡ cond (nat_eq i j) (Some b) (body_in (map body_now ms) j)
+body_with_now [] k i j d b lt here before = absurd (omega arith)
+body_with_now (m ∷ ms) zero i j d b lt here before =
+    let rest = body_in (map body_now ms) j in
+    at_first (nat_eq m.id j) rest ∙ ap (λ x. cond (nat_eq x j) (Some b) (option_or (cond (nat_eq m.id j) (Some m.now) None) rest)) (eqb-true m.id i here)
+  where
+    at_first : (t : Bool) (o : Option Bot) → option_or (cond t (Some b) None) o ≡ cond t (Some b) (option_or (cond t (Some m.now) None) o)
+    at_first true o = refl
+    at_first false o = refl
+body_with_now (m ∷ ms) (suc k) i j d b lt here before =
+    let now = body_in (map body_now (set ms k (with_now (get_or ms k d) b))) j in
+    let rest = body_in (map body_now ms) j in
+    elim (cases_Bool (nat_eq m.id j)) [
+      | inl t ↦
+          let other : nat_eq i j ≡ false = elim (cases_Bool (nat_eq i j)) [
+            | inl u ↦ absurd (both_ways _ (before 0 (omega arith)) (eq-eqb m.id i (eqb-true m.id j t ∙ sym (eqb-true i j u))))
+            | inr f ↦ f
+          ] in
+          ap (λ x. option_or (cond x (Some m.now) None) now) t
+          ∙ sym (ap (λ x. cond x (Some b) (option_or (cond (nat_eq m.id j) (Some m.now) None) rest)) other ∙ ap (λ x. option_or (cond x (Some m.now) None) rest) t)
+      | inr f ↦
+          ap (λ x. option_or (cond x (Some m.now) None) now) f
+          ∙ body_with_now ms k i j d b (omega arith) here (λ l below. before (suc l) (omega arith))
+          ∙ sym (ap (λ x. cond (nat_eq i j) (Some b) (option_or (cond x (Some m.now) None) rest)) f)
+    ]
+
+-- the configuration in which the first member with an id has another amoebot
+pub set_bot_of : (a : Extent) (maxes : List ℕ) (ms : List Member) (i k : ℕ) (d : Member) (b : Bot) → position (λ (m : Member). nat_eq m.id i) ms ≡ Some k → config_now a maxes (set ms k (with_now (get_or ms k d) b)) ≡ set_bot (config_now a maxes ms) i b
+set_bot_of a maxes ms i k d b found =
+    let at = position-Some (λ (m : Member). nat_eq m.id i) ms k d found in
+    let old = spread (map body_now ms) in
+    let new = spread (map body_now (set ms k (with_now (get_or ms k d) b))) in
+    let looked : (j : ℕ) → get_or new j None ≡ cond (nat_eq i j) (Some b) (get_or old j None) = λ j.
+    spread_at (map body_now (set ms k (with_now (get_or ms k d) b))) j
+    ∙ body_with_now ms k i j d b at.0 at.1 at.2
+    ∙ ap (cond (nat_eq i j) (Some b)) (sym (spread_at (map body_now ms) j)) in
+    let size : length new ≡ length old = length-with_now ms k d b in
+    ap (λ (os : List (Option Bot)). let c : Config = record { area = a; maxes = maxes; bots = os } in c)
+    (ext_get_or None new (set old i (Some b)) (size ∙ sym (length-set old i (Some b))) (λ j lt. looked j ∙ elim (cases_eq j i) [
+      | inl e ↦ ap (λ t. cond t (Some b) (get_or old j None)) (eq-eqb i j (sym e)) ∙ sym (ap (λ l. get_or (set old i (Some b)) l None) e ∙ get_or-set_same old i (Some b) None (omega arith))
+      | inr ne ↦ ap (λ t. cond t (Some b) (get_or old j None)) (differs i j ne) ∙ sym (get_or-set_other old i j (Some b) None ne)
+    ]))
+  where
+    differs : (i j : ℕ) → j ≢ i → nat_eq i j ≡ false
+    differs i j ne = elim (cases_Bool (nat_eq i j)) [ inl t ↦ absurd (ne (sym (eqb-true i j t))) | inr f ↦ f ]
+
+-- what the first place that passes tells of the first element that does
+find_placed : {X : Type 0} (p : X → Bool) (xs : List X) (k : ℕ) (d : X) → position p xs ≡ Some k → find p xs ≡ Some (get_or xs k d)
+find_placed p xs k d found =
+    let at = cond_some _ _ k found in
+    find_at p xs ∙ ap (slice_get xs) at.1 ∙ slice_get-get_or xs k d (position-Some p xs k d found).0
+
+find_missing : {X : Type 0} (p : X → Bool) (xs : List X) → position p xs ≡ None → find p xs ≡ None
+find_missing p xs missing = find_at p xs ∙ slice_get_past xs (position_or_len p xs) (elim (cases_lt (position_or_len p xs) (length xs)) [
+  | inl lt ↦ absurd (none-some _ (sym missing ∙ ap (λ l. cond l (Some (position_or_len p xs)) None) (lt-ltb (position_or_len p xs) (length xs) lt)))
+  | inr ge ↦ omega arith
+])
+
+-- the amoebot with an id
+pub bot_placed : (a : Extent) (maxes : List ℕ) (ms : List Member) (i k : ℕ) (d : Member) → position (λ (m : Member). nat_eq m.id i) ms ≡ Some k → bot_at (config_now a maxes ms) i ≡ Some (get_or ms k d).now
+bot_placed a maxes ms i k d found = spread_at (map body_now ms) i ∙ body_of ms i ∙ ap (option_map (λ (m : Member). m.now)) (find_placed (λ (m : Member). nat_eq m.id i) ms k d found)
+
+pub bot_missing : (a : Extent) (maxes : List ℕ) (ms : List Member) (i : ℕ) → position (λ (m : Member). nat_eq m.id i) ms ≡ None → bot_at (config_now a maxes ms) i ≡ None
+bot_missing a maxes ms i missing = spread_at (map body_now ms) i ∙ body_of ms i ∙ ap (option_map (λ (m : Member). m.now)) (find_missing (λ (m : Member). nat_eq m.id i) ms missing)
+
+-- what stands below all members stands below them when one of them has another amoebot
+below_with_now : (ms : List Member) (i k : ℕ) (d : Member) (b : Bot) → IsBelow i ms → IsBelow i (set ms k (with_now (get_or ms k d) b))
+below_with_now [] i k d b below = below
+below_with_now (m ∷ ms) i zero d b below = below
+below_with_now (m ∷ ms) i (suc k) d b below = (below.0, below_with_now ms i k d b below.1)
+
+rising_with_now : (ms : List Member) (k : ℕ) (d : Member) (b : Bot) → AreRising ms → AreRising (set ms k (with_now (get_or ms k d) b))
+rising_with_now [] k d b rising = rising
+rising_with_now (m ∷ ms) zero d b rising = rising
+rising_with_now (m ∷ ms) (suc k) d b rising = (below_with_now ms m.id k d b rising.0, rising_with_now ms k d b rising.1)
+
+-- what was found stays
+found_with_now : (a : Extent) (maxes : List ℕ) (ms : List Member) (k : ℕ) (d : Member) (b : Bot) → config_found a maxes (set ms k (with_now (get_or ms k d) b)) ≡ config_found a maxes ms
+found_with_now a maxes ms k d b =
+    ap (λ cells. let c : Config = record { area = a; maxes = maxes; bots = spread cells } in c) (map-set_same body_found ms k (with_now (get_or ms k d) b) d refl)
+
+module _ (a : Extent) (maxes : List ℕ) (own : ℕ) (ms : List Member) (i k : ℕ) (d : Member) (b : Bot) (found : position (λ (m : Member). nat_eq m.id i) ms ≡ Some k) where
+  -- a site stays one
+  pub site_with_now : IsSite a maxes own ms → IsPlain b → IsSite a maxes own (set ms k (with_now (get_or ms k d) b))
+  site_with_now is plain =
+      let same = sym (found_with_now a maxes ms k d b) in
+      record {
+        rising = rising_with_now ms k d b is.rising;
+        plain = All-set (λ (m : Member). IsPlain m.now) ms k (with_now (get_or ms k d) b) plain is.plain;
+        there = ap (λ (c : Config). is_some (bot_at c own)) (set_bot_of a maxes ms i k d b found) ∙ same_ids (config_now a maxes ms) i (get_or ms k d).now b (bot_placed a maxes ms i k d found) own ∙ is.there;
+        few = subst (λ n. n ≤ 9) (sym (length-set ms k (with_now (get_or ms k d) b))) is.few;
+        was_shown = subst (λ (c : Config). IsShown (shown c own)) same is.was_shown;
+        whole = subst (λ (c : Config). gap (shown c own) ≡ c) same is.whole;
+      }
+
+  -- and what it stands for has the other amoebot
+  pub copy_with_now : copy_of a maxes own (set ms k (with_now (get_or ms k d) b)) ≡ record (copy_of a maxes own ms) { reached = set_bot (config_now a maxes ms) i b }
+  copy_with_now =
+      let made : Config → Config → WorkingCopy = λ c e. record { found = shown c own; reached = e } in
+      ap (λ c. made c (config_now a maxes (set ms k (with_now (get_or ms k d) b)))) (found_with_now a maxes ms k d b) ∙ ap (made (config_found a maxes ms)) (set_bot_of a maxes ms i k d b found)
+
+-- the members after a write through the slice of them
+pub written_items : (v : ArrayVec Member) (xs : List Member) (k : ℕ) (d : Member) (b : Bot) → xs ≡ v.items → (with_items v (set xs k (with_now (get_or xs k d) b))).items ≡ set v.items k (with_now (get_or v.items k d) b)
+written_items v xs k d b is =
+    items-with_items v (set xs k (with_now (get_or xs k d) b)) (length-set xs k (with_now (get_or xs k d) b) ∙ ap length is)
+    ∙ ap (λ (ys : List Member). set ys k (with_now (get_or ys k d) b)) is
+
+-- a node of the area is near enough to step from, and so is a node of an amoebot
+pub near_site : (a : Extent) (maxes : List ℕ) (own : ℕ) (ms : List Member) (v : Node) → IsSite a maxes own ms → is_in a v ≡ true → IsNear v
+near_site a maxes own ms v is inside =
+    let area : is.was_shown.0.area ≡ a = ap (λ (s : Shown). s.area) is.was_shown.3 in
+    near_in a v (subst IsArea area is.was_shown.1.area) inside
+
+pub near_own : (b : Bot) (v : Node) → IsPlain b → is_own b v ≡ true → IsNear v
+near_own b v plain own = elim (own_cases b v own) [ inl h ↦ subst IsNear h plain.head | inr t ↦ subst IsNear t plain.tail ]

@@ -1,0 +1,100 @@
+ghost use Rattle.std.specs.Prelude.{◌≡◌, ◌<◌, ◌≤◌, ◌+◌, nat_eq, nat_lt};
+ghost use Rattle.std.specs.List.{find, position};
+ghost use Rattle.std.specs.Option.{option_map};
+ghost use Rattle.amoebot_state.specs.Configs.{bot_of};
+ghost use Rattle.amoebot_state.specs.Ports.{is_own};
+ghost use Rattle.amoebot_state.specs.Zones.{IsShown, gap};
+ghost use Rattle.arrayvec.specs.ArrayVec.{array_vec_len};
+ghost use Rattle.model_ops.specs.Members.{gathered, has_id, unchanged, with_member, with_neighbour};
+
+use amoebot_state::{ALL_PORTS, Bot, Found, Port};
+use arrayvec::ArrayVec;
+use tri_lattice::Node;
+
+/// An amoebot of a neighbourhood, as it was found and as it is now.
+#[derive(Clone, Copy, Default, Drop)]
+pub(crate) struct Member {
+    pub(crate) id: u16,
+    pub(crate) found: Bot,
+    pub(crate) now: Bot,
+}
+
+/// The place of the member with an id.
+pub(crate) fn place_of(members: &[Member], id: u16) -> Option<usize>
+    ensures { result ≡ position (λ m. nat_eq m.id id) members.now }
+{
+    members.iter().position(|member| member.id == id)
+}
+
+/// The id of the first member that has a node.
+pub(crate) fn id_on(members: &[Member], node: Node) -> Option<u16>
+    ensures { result ≡ option_map (λ m. m.id) (find (λ m. is_own m.now node) members.now) }
+{
+    let member = members.iter().find(|member| member.now.is_own(node))?;
+    Some(member.id)
+}
+
+/// The place of the first member with a higher id.
+fn place_above(members: &[Member], id: u16) -> Option<usize>
+    ensures { result ≡ position (λ m. nat_lt id m.id) members.now }
+{
+    members.iter().position(|member| member.id > id)
+}
+
+/// Adds a member at its place in rising id.
+fn add(members: &mut ArrayVec<Member, 13>, id: u16, bot: &Bot)
+    requires { array_vec_len members.old < 13 }
+    ensures value { members.new.items ≡ with_member members.old.items (unchanged id bot.now) }
+    ensures longer { array_vec_len members.new ≡ array_vec_len members.old + 1 }
+{
+    let place = place_above(members.as_slice(), id).unwrap_or(members.len());
+    members.insert(
+        place,
+        Member {
+            id,
+            found: *bot,
+            now: *bot,
+        },
+    );
+}
+
+/// Adds the occupant behind a port, if it has one that is new.
+fn add_neighbour(members: &mut ArrayVec<Member, 13>, found: &Found, port: Port)
+    requires { array_vec_len members.old < 13 }
+    ensures value { members.new.items ≡ with_neighbour (gap found.now) (bot_of (gap found.now) found.now.bot) members.old.items port }
+    ensures few { array_vec_len members.new ≤ array_vec_len members.old + 1 }
+{
+    let own = found.own();
+    if !own.is_port(port) {
+        return;
+    }
+    let Some(id) = found.occupant(own.behind(port)) else {
+        return;
+    };
+    if has_id(members.as_slice(), id) {
+        return;
+    }
+    match found.body(id) {
+        Some(bot) => add(members, id, bot),
+        None => unreachable!(),
+    }
+}
+
+fn has_id(members: &[Member], id: u16) -> bool
+    ensures { result ≡ has_id members.now id }
+{
+    members.iter().any(|member| member.id == id)
+}
+
+/// The amoebots of a neighbourhood.
+pub(crate) fn members_of(found: &Found) -> ArrayVec<Member, 13>
+    ensures value { result.items ≡ gathered found.now }
+    ensures shown { IsShown found.now }
+{
+    let mut members = ArrayVec::new();
+    add(&mut members, found.bot(), found.own());
+    for port in ALL_PORTS.iter() {
+        add_neighbour(&mut members, found, *port);
+    }
+    members
+}
