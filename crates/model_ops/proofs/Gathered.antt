@@ -21,7 +21,7 @@ use Rattle.amoebot_state.specs.declared.bot.Bot.{Bot}
 use Rattle.amoebot_state.specs.declared.bot.Port.{Port}
 use Rattle.amoebot_state.specs.Ports.{is_own, is_contracted, is_port, all_ports, ports, behind, own_nodes}
 use Rattle.amoebot_state.specs.Configs.{Config, IsValid, bot_at, bot_of, covers, occupant}
-use Rattle.amoebot_state.specs.Storage.{body_in}
+use Rattle.amoebot_state.specs.Pairs.{body_in}
 use Rattle.model_ops.specs.Members.{IsBelow, AreRising, has_id, body_found, with_member, with_occupant, with_neighbour, unchanged, gathered}
 use Rattle.model_ops.proofs.Told.{bot_is, occupant_told}
 
@@ -154,12 +154,12 @@ module _ (c : Config) (b : Bot) where
   ]
 
 -- a body of the zone is the amoebot's own, or that of another one on a node of the zone
-body_told : (c : Config) (i j : ℕ) (vs : List Node) → Has (name.Body j) (zone_of c i vs) → (j ≡ i) ⊎ Has j (others c i vs)
-body_told c i j vs has = elim (has_cases has) [
+body_told : (on : Node → Option ℕ) (i j : ℕ) (vs : List Node) → Has (name.Body j) (zone_of on i vs) → (j ≡ i) ⊎ Has j (others on i vs)
+body_told on i j vs has = elim (has_cases has) [
   | inl e ↦ inl (cc)
   | inr rest ↦ elim (Has-append_cases (map name.Spot vs) rest) [
     | inl s ↦ let e = (map_has name.Spot vs s).2 in absurd (cc)
-    | inr t ↦ let found = map_has name.Body (others c i vs) t in let e : found.0 ≡ j = (let f = found.2 in cc) in inr (subst (λ k. Has k (others c i vs)) e found.1)
+    | inr t ↦ let found = map_has name.Body (others on i vs) t in let e : found.0 ≡ j = (let f = found.2 in cc) in inr (subst (λ k. Has k (others on i vs)) e found.1)
   ]
 ]
 
@@ -188,10 +188,10 @@ module _ (c : Config) (i : ℕ) (b : Bot) (valid : IsValid c) (at : bot_at c i �
       let own : bot_of g i ≡ b = bot_is g i b (gap_own c i b at) in
       let first = unchanged i (bot_of g i) ∷ [] in
       let vs = zone_nodes c.area b in
-      elim (body_told c i j vs (subst (Has (name.Body j)) (zone_is c i b at) (gap_only c i j a there).1)) [
+      elim (body_told (occupant c) i j vs (subst (Has (name.Body j)) (zone_is c i b at) (gap_only c i j a there).1)) [
         | inl e ↦ neighbours_have g (bot_of g i) all_ports first j (or_left (nat_eq i j) false (eq-eqb i j (sym e)))
         | inr other ↦
-            let by = others_occupy c i vs j other in
+            let by = others_occupy (occupant c) i vs j other in
             elim (node_told c.area b by.0 by.1) [
               | inl mine ↦ absurd (by.3 (same_Some j i (sym by.2 ∙ occupant_at c valid i by.0 (ap (λ o. covers o by.0) at ∙ own_told b by.0 mine))))
               | inr next ↦

@@ -24,3 +24,5 @@ pub mod Members
 pub mod Answered
 pub mod Gathered
 pub mod Opened
+pub mod OneNode
+pub mod Patching

@@ -1,13 +1,13 @@
 -- Look-ups among members in rising id, and the write of one.
-use Rattle.std.proofs.Common.{◌≡◌, ◌≢◌, ◌<◌, ◌≤◌, ◌+◌, ℕ, zero, suc, List, [], ◌∷◌, length, map, get_or, set, Bool, true, false, cond, ap, sym, ◌∙◌, refl, subst, inl, inr, arith, Option, Some, None, nat_eq}
+use Rattle.std.proofs.Common.{◌≡◌, ◌≢◌, ◌<◌, ◌≤◌, ◌+◌, ℕ, zero, suc, List, [], ◌∷◌, length, map, get_or, set, Bool, true, false, cond, ◌||◌, ap, sym, ◌∙◌, refl, subst, inl, inr, arith, Option, Some, None, nat_eq}
 use Rattle.std.specs.Prelude.{is_some, slice_get}
 use Rattle.std.proofs.lemmas.List.Elements.{All-set}
 use Rattle.std.proofs.Math.Seq.{map-set_same}
 use Rattle.std.proofs.lemmas.List.Folds.{find_at}
-use Rattle.std.proofs.lemmas.Option.{cond_some, none-some, slice_get-get_or, slice_get_past}
-use Rattle.std.specs.List.{find, position, position_or_len}
+use Rattle.std.proofs.lemmas.Option.{cond_some, slice_get-get_or}
+use Rattle.std.specs.List.{find, list_any, position, position_or_len}
 use Rattle.std.specs.Option.{option_map, option_or}
-use Rattle.std.proofs.lemmas.Bool.{cases_Bool, cases_eq, cases_lt, both_ways, eqb-true, eq-eqb, lt-ltb, le-ltb}
+use Rattle.std.proofs.lemmas.Bool.{false≢true, cases_Bool, cases_eq, cases_lt, both_ways, eqb-true, eq-eqb, lt-ltb, le-ltb}
 use Rattle.std.proofs.lemmas.List.{length-set, get_or-set_same, get_or-set_other, ext_get_or}
 use Rattle.std.proofs.lemmas.List.Quantifiers.{position-Some}
 use Rattle.tri_lattice.specs.declared.node.Node.{Node}
@@ -18,7 +18,7 @@ use Rattle.amoebot_state.proofs.Owns.{own_cases}
 use Rattle.amoebot_state.specs.declared.bot.Bot.{Bot}
 use Rattle.amoebot_state.specs.Ports.{is_own}
 use Rattle.amoebot_state.specs.Configs.{Config, bot_at, covers, occupant, set_bot}
-use Rattle.amoebot_state.specs.Storage.{body_in}
+use Rattle.amoebot_state.specs.Pairs.{body_in}
 use Rattle.amoebot_state.specs.Zones.{Shown, IsShown, spread, with_id, shown, gap}
 use Rattle.amoebot_state.proofs.Gaps.{spread_at}
 use Rattle.arrayvec.specs.ArrayVec.{ArrayVec, with_items}
@@ -26,7 +26,7 @@ use Rattle.arrayvec.proofs.ArrayVecLemmas.{items-with_items}
 use Rattle.amoebot_state.specs.Refusals.{IsPlain}
 use Rattle.model_ops.specs.declared.member.Member.{Member}
 use Rattle.model_ops.specs.WorkingCopies.{WorkingCopy}
-use Rattle.model_ops.specs.Members.{IsBelow, AreRising, IsSite, body_found, body_now, config_found, config_now, copy_of}
+use Rattle.model_ops.specs.Members.{IsBelow, AreRising, IsSite, has_id, body_by, config_by, id_by, body_found, body_now, config_found, config_now, copy_of}
 use Rattle.model_ops.proofs.Becomes.{same_ids}
 
 -- the member with another amoebot
@@ -34,11 +34,11 @@ abbrev pub with_now : Member → Bot → Member
 with_now m b = record m { now = b }
 
 -- the amoebot with an id is that of the first member with it
-pub body_of : (ms : List Member) (i : ℕ) → body_in (map body_now ms) i ≡ option_map (λ (m : Member). m.now) (find (λ m. nat_eq m.id i) ms)
-body_of [] i = refl
-body_of (m ∷ ms) i = elim (cases_Bool (nat_eq m.id i)) [
+pub body_of : (part : Member → Bot) (ms : List Member) (i : ℕ) → body_in (map (body_by part) ms) i ≡ option_map part (find (λ m. nat_eq m.id i) ms)
+body_of part [] i = refl
+body_of part (m ∷ ms) i = elim (cases_Bool (nat_eq m.id i)) [
   | inl t ↦ rw t refl
-  | inr f ↦ rw f (body_of ms i)
+  | inr f ↦ rw f (body_of part ms i)
 ]
 
 -- the first place that passes, one place on
@@ -73,22 +73,22 @@ position_with_id p none (o ∷ os) (suc i) b below =
     ∙ ap (cond (p (Some b)) (Some (suc i))) (sym (position_cons p o os ∙ ap (λ t. cond t (Some 0) (option_map suc (position p os))) (ap p (below 0 (omega arith)) ∙ none)))
 
 -- below all members there is nobody
-nobody_below : (ms : List Member) (i k : ℕ) → IsBelow i ms → k ≤ i → body_in (map body_now ms) k ≡ None
-nobody_below [] i k below le = refl
-nobody_below (m ∷ ms) i k below le = elim (cases_Bool (nat_eq m.id k)) [
+nobody_below : (part : Member → Bot) (ms : List Member) (i k : ℕ) → IsBelow i ms → k ≤ i → body_in (map (body_by part) ms) k ≡ None
+nobody_below part [] i k below le = refl
+nobody_below part (m ∷ ms) i k below le = elim (cases_Bool (nat_eq m.id k)) [
   | inl t ↦ let e = eqb-true m.id k t in absurd (omega (arith, below.0))
-  | inr f ↦ rw f (nobody_below ms i k below.1 le)
+  | inr f ↦ rw f (nobody_below part ms i k below.1 le)
 ]
 
 -- the occupant of a node is the first member that has it
-pub occupant_of : (a : Extent) (maxes : List ℕ) (ms : List Member) (v : Node) → AreRising ms → occupant (config_now a maxes ms) v ≡ option_map (λ (m : Member). m.id) (find (λ m. is_own m.now v) ms)
-occupant_of a maxes [] v rising = refl
-occupant_of a maxes (m ∷ ms) v rising =
-    let rest = map body_now ms in
-    position_with_id (λ o. covers o v) refl (spread rest) m.id m.now (λ k le. spread_at rest k ∙ nobody_below ms m.id k rising.0 le)
-    ∙ elim (cases_Bool (is_own m.now v)) [
+pub occupant_of : (part : Member → Bot) (a : Extent) (maxes : List ℕ) (ms : List Member) (v : Node) → AreRising ms → occupant (config_by part a maxes ms) v ≡ id_by part ms v
+occupant_of part a maxes [] v rising = refl
+occupant_of part a maxes (m ∷ ms) v rising =
+    let rest = map (body_by part) ms in
+    position_with_id (λ o. covers o v) refl (spread rest) m.id (part m) (λ k le. spread_at rest k ∙ nobody_below part ms m.id k rising.0 le)
+    ∙ elim (cases_Bool (is_own (part m) v)) [
       | inl t ↦ rw t refl
-      | inr f ↦ rw f (occupant_of a maxes ms v rising.1)
+      | inr f ↦ rw f (occupant_of part a maxes ms v rising.1)
     ]
 
 -- the list is as long whatever the amoebots are
@@ -153,23 +153,40 @@ set_bot_of a maxes ms i k d b found =
     differs i j ne = elim (cases_Bool (nat_eq i j)) [ inl t ↦ absurd (ne (sym (eqb-true i j t))) | inr f ↦ f ]
 
 -- what the first place that passes tells of the first element that does
-find_placed : {X : Type 0} (p : X → Bool) (xs : List X) (k : ℕ) (d : X) → position p xs ≡ Some k → find p xs ≡ Some (get_or xs k d)
+pub find_placed : {X : Type 0} (p : X → Bool) (xs : List X) (k : ℕ) (d : X) → position p xs ≡ Some k → find p xs ≡ Some (get_or xs k d)
 find_placed p xs k d found =
     let at = cond_some _ _ k found in
     find_at p xs ∙ ap (slice_get xs) at.1 ∙ slice_get-get_or xs k d (position-Some p xs k d found).0
 
-find_missing : {X : Type 0} (p : X → Bool) (xs : List X) → position p xs ≡ None → find p xs ≡ None
-find_missing p xs missing = find_at p xs ∙ slice_get_past xs (position_or_len p xs) (elim (cases_lt (position_or_len p xs) (length xs)) [
-  | inl lt ↦ absurd (none-some _ (sym missing ∙ ap (λ l. cond l (Some (position_or_len p xs)) None) (lt-ltb (position_or_len p xs) (length xs) lt)))
-  | inr ge ↦ omega arith
-])
-
 -- the amoebot with an id
-pub bot_placed : (a : Extent) (maxes : List ℕ) (ms : List Member) (i k : ℕ) (d : Member) → position (λ (m : Member). nat_eq m.id i) ms ≡ Some k → bot_at (config_now a maxes ms) i ≡ Some (get_or ms k d).now
-bot_placed a maxes ms i k d found = spread_at (map body_now ms) i ∙ body_of ms i ∙ ap (option_map (λ (m : Member). m.now)) (find_placed (λ (m : Member). nat_eq m.id i) ms k d found)
+pub bot_by : (part : Member → Bot) (a : Extent) (maxes : List ℕ) (ms : List Member) (i : ℕ) → bot_at (config_by part a maxes ms) i ≡ option_map part (find (λ m. nat_eq m.id i) ms)
+bot_by part a maxes ms i = spread_at (map (body_by part) ms) i ∙ body_of part ms i
 
-pub bot_missing : (a : Extent) (maxes : List ℕ) (ms : List Member) (i : ℕ) → position (λ (m : Member). nat_eq m.id i) ms ≡ None → bot_at (config_now a maxes ms) i ≡ None
-bot_missing a maxes ms i missing = spread_at (map body_now ms) i ∙ body_of ms i ∙ ap (option_map (λ (m : Member). m.now)) (find_missing (λ (m : Member). nat_eq m.id i) ms missing)
+pub bot_placed : (part : Member → Bot) (a : Extent) (maxes : List ℕ) (ms : List Member) (i k : ℕ) (d : Member) → position (λ (m : Member). nat_eq m.id i) ms ≡ Some k → bot_at (config_by part a maxes ms) i ≡ Some (part (get_or ms k d))
+bot_placed part a maxes ms i k d found = bot_by part a maxes ms i ∙ ap (option_map part) (find_placed (λ (m : Member). nat_eq m.id i) ms k d found)
+
+-- an element that passes has a place
+pub any_placed : {X : Type 0} (p : X → Bool) (xs : List X) → list_any p xs ≡ true → is_some (position p xs) ≡ true
+any_placed p [] = λ t. absurd (false≢true t)
+any_placed p (x ∷ xs) = λ t. ap is_some (position_cons p x xs) ∙ elim (cases_Bool (p x)) [
+  | inl u ↦ ap (λ b. is_some (cond b (Some 0) (option_map suc (position p xs)))) u
+  | inr f ↦ ap (λ b. is_some (cond b (Some 0) (option_map suc (position p xs)))) f ∙ one_on (position p xs) ∙ any_placed p xs (sym (ap (λ b. b || list_any p xs) f) ∙ t)
+]
+  where
+    one_on : (o : Option ℕ) → is_some (option_map suc o) ≡ is_some o
+    one_on None = refl
+    one_on (Some k) = refl
+
+-- an amoebot is there exactly where a member has its id
+pub has_bot : (part : Member → Bot) (a : Extent) (maxes : List ℕ) (ms : List Member) (i : ℕ) → is_some (bot_at (config_by part a maxes ms) i) ≡ has_id ms i
+has_bot part a maxes ms i = ap is_some (bot_by part a maxes ms i) ∙ found_any part ms
+  where
+    found_any : (part : Member → Bot) (ms : List Member) → is_some (option_map part (find (λ (m : Member). nat_eq m.id i) ms)) ≡ has_id ms i
+    found_any part [] = refl
+    found_any part (m ∷ ms) = elim (cases_Bool (nat_eq m.id i)) [
+      | inl t ↦ rw t refl
+      | inr f ↦ rw f (found_any part ms)
+    ]
 
 -- what stands below all members stands below them when one of them has another amoebot
 below_with_now : (ms : List Member) (i k : ℕ) (d : Member) (b : Bot) → IsBelow i ms → IsBelow i (set ms k (with_now (get_or ms k d) b))
@@ -195,7 +212,7 @@ module _ (a : Extent) (maxes : List ℕ) (own : ℕ) (ms : List Member) (i k : �
       record {
         rising = rising_with_now ms k d b is.rising;
         plain = All-set (λ (m : Member). IsPlain m.now) ms k (with_now (get_or ms k d) b) plain is.plain;
-        there = ap (λ (c : Config). is_some (bot_at c own)) (set_bot_of a maxes ms i k d b found) ∙ same_ids (config_now a maxes ms) i (get_or ms k d).now b (bot_placed a maxes ms i k d found) own ∙ is.there;
+        there = ap (λ (c : Config). is_some (bot_at c own)) (set_bot_of a maxes ms i k d b found) ∙ same_ids (config_now a maxes ms) i (get_or ms k d).now b (bot_placed (λ (m : Member). m.now) a maxes ms i k d found) own ∙ is.there;
         few = subst (λ n. n ≤ 9) (sym (length-set ms k (with_now (get_or ms k d) b))) is.few;
         was_shown = subst (λ (c : Config). IsShown (shown c own)) same is.was_shown;
         whole = subst (λ (c : Config). gap (shown c own) ≡ c) same is.whole;

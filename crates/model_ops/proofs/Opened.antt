@@ -16,7 +16,7 @@ use Rattle.amoebot_state.specs.declared.cell.Cell.TheVariants as cell
 use Rattle.amoebot_state.specs.Configs.{Config, IsValid, bot_at}
 use Rattle.amoebot_state.specs.Laws.{is_body}
 use Rattle.amoebot_state.specs.Refusals.{IsPlain}
-use Rattle.amoebot_state.specs.Storage.{body_in}
+use Rattle.amoebot_state.specs.Pairs.{body_in}
 use Rattle.amoebot_state.specs.Zones.{Shown, IsShown, shown, gap, spread, with_id, zone}
 use Rattle.amoebot_state.proofs.Counts.{zone_has_at_most_nine_bodies}
 use Rattle.amoebot_state.proofs.Gaps.{spread_at, gap_own, gap_only, gap_shows, gap_valid}

@@ -19,7 +19,7 @@ use Rattle.amoebot_state.proofs.Members.{Has, here, map_has, filter_map_has, Has
 use Rattle.amoebot_state.proofs.Rising.{Rising, none, more, Rising-append, Rising-map, Rising-filter_map, Rising-weaker, Rising-range, range_below}
 
 -- numbers that rise do so from one to the next
-increasing-from_Rising : {A : Type 0} (key : A → ℕ) (xs : List A) → Rising key xs → IsStrictlyIncreasing (map key xs)
+pub increasing-from_Rising : {A : Type 0} (key : A → ℕ) (xs : List A) → Rising key xs → IsStrictlyIncreasing (map key xs)
 increasing-from_Rising key [] none k lt = absurd (omega arith)
 increasing-from_Rising key (x ∷ []) (more below rest) k lt = absurd (omega arith)
 increasing-from_Rising key (x ∷ y ∷ ys) (more below rest) zero lt = below y here

@@ -1,8 +1,10 @@
 -- The amoebots of a neighbourhood, each as it was found and as it is now, as a site keeps them. No public clause cites these.
-use Rattle.std.specs.Prelude.{◌≡◌, ℕ, ◌<◌, ◌≤◌, List, [], ◌∷◌, IsSome, length, map, Bool, if◌then◌else◌, nat_eq, nat_lt}
-use Rattle.std.specs.List.{All, fold, list_any}
+use Rattle.std.specs.Prelude.{◌≡◌, ℕ, ◌<◌, ◌≤◌, List, [], ◌∷◌, ◌++◌, IsSome, length, map, Bool, not, if◌then◌else◌, nat_eq, nat_lt}
+use Rattle.std.specs.List.{All, filter_map, find, fold, list_any}
+use Rattle.std.specs.Option.{option_map}
 use Rattle.std.specs.declared.option.Option.{Option}
 use Rattle.std.specs.declared.option.Option.TheVariants.{Some, None}
+use Rattle.tri_lattice.specs.declared.node.Node.{Node}
 use Rattle.tri_lattice.specs.Extent.{Extent}
 use Rattle.amoebot_state.specs.declared.cell.CellName.{CellName}
 use Rattle.amoebot_state.specs.declared.cell.CellName.TheVariants as name
@@ -10,8 +12,9 @@ use Rattle.amoebot_state.specs.declared.cell.Cell.{Cell}
 use Rattle.amoebot_state.specs.declared.cell.Cell.TheVariants as cell
 use Rattle.amoebot_state.specs.declared.bot.Bot.{Bot}
 use Rattle.amoebot_state.specs.declared.bot.Port.{Port}
-use Rattle.amoebot_state.specs.Ports.{is_port, all_ports, behind}
+use Rattle.amoebot_state.specs.Ports.{is_own, is_port, all_ports, behind}
 use Rattle.amoebot_state.specs.Configs.{Config, bot_at, bot_of, occupant}
+use Rattle.amoebot_state.specs.Patches.{id_eq, bot_eq}
 use Rattle.amoebot_state.specs.Refusals.{IsPlain}
 use Rattle.amoebot_state.specs.Zones.{Shown, IsShown, spread, shown, gap}
 use Rattle.model_ops.specs.declared.member.Member.{Member}
@@ -27,19 +30,25 @@ abbrev pub AreRising : List Member → Type 0
 AreRising [] = Unit {0}
 AreRising (m ∷ ms) = IsBelow m.id ms × AreRising ms
 
--- a member's body as it was found, and as it is now
+-- a member's body, with one of its amoebots: as it was found, or as it is now
+abbrev pub body_by : (Member → Bot) → Member → CellName × Cell
+body_by part m = (name.Body m.id, cell.Body (part m))
+
 abbrev pub body_found : Member → CellName × Cell
-body_found m = (name.Body m.id, cell.Body m.found)
+body_found = body_by (λ m. m.found)
 
 abbrev pub body_now : Member → CellName × Cell
-body_now m = (name.Body m.id, cell.Body m.now)
+body_now = body_by (λ m. m.now)
 
--- the configuration that has the members as they were found, and the one that has them as they are now
+-- the configuration that has the members so, and no other amoebot
+abbrev pub config_by : (Member → Bot) → Extent → List ℕ → List Member → Config
+config_by part a maxes ms = record { area = a; maxes = maxes; bots = spread (map (body_by part) ms) }
+
 abbrev pub config_found : Extent → List ℕ → List Member → Config
-config_found a maxes ms = record { area = a; maxes = maxes; bots = spread (map body_found ms) }
+config_found = config_by (λ m. m.found)
 
 abbrev pub config_now : Extent → List ℕ → List Member → Config
-config_now a maxes ms = record { area = a; maxes = maxes; bots = spread (map body_now ms) }
+config_now = config_by (λ m. m.now)
 
 -- the working copy: what the members as found show to the amoebot, and the configuration of the members as they are
 abbrev pub copy_of : Extent → List ℕ → ℕ → List Member → WorkingCopy
@@ -83,3 +92,34 @@ gathered s =
     let c = gap s in
     let b = bot_of c s.bot in
     fold (with_neighbour c b) (unchanged s.bot b ∷ []) all_ports
+
+-- the id on a node: that of the first member that has the node, as it was found or as it is now
+abbrev pub id_by : (Member → Bot) → List Member → Node → Option ℕ
+id_by part ms v = option_map (λ (m : Member). m.id) (find (λ m. is_own (part m) v) ms)
+
+abbrev pub id_found_on : List Member → Node → Option ℕ
+id_found_on = id_by (λ m. m.found)
+
+abbrev pub id_on : List Member → Node → Option ℕ
+id_on = id_by (λ m. m.now)
+
+-- who is on the node has changed
+abbrev pub has_changed : List Member → Node → Bool
+has_changed ms v = not (id_eq (id_found_on ms v) (id_on ms v))
+
+-- the nodes of a member, as it is now and as it was found
+abbrev pub nodes_of : Member → List Node
+nodes_of m = m.now.head ∷ m.now.tail ∷ m.found.head ∷ m.found.tail ∷ []
+
+-- a node with its new occupant, if there is one
+abbrev pub changed_spot : List Member → Option Node → List (CellName × Cell)
+changed_spot ms None = []
+changed_spot ms (Some v) = (name.Spot v, cell.Spot (id_on ms v)) ∷ []
+
+-- a member's body with its new value, where it has changed
+abbrev pub changed_body : Member → Option (CellName × Cell)
+changed_body m = if bot_eq m.found m.now then None else Some (body_now m)
+
+-- the first node of a member whose occupant has changed, and then the bodies that have
+abbrev pub changed_cells : List Member → Member → List (CellName × Cell)
+changed_cells ms m = changed_spot ms (find (has_changed ms) (nodes_of m)) ++ filter_map changed_body ms

@@ -1,6 +1,7 @@
 //! The operations of the model, and what an activation reaches by them.
 #![tactic(auto)]
 
+mod changes;
 mod laws;
 mod member;
 mod peer;

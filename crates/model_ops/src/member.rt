@@ -1,11 +1,9 @@
-ghost use Rattle.std.specs.Prelude.{◌≡◌, ◌<◌, ◌≤◌, ◌+◌, nat_eq, nat_lt};
-ghost use Rattle.std.specs.List.{find, position};
-ghost use Rattle.std.specs.Option.{option_map};
+ghost use Rattle.std.specs.Prelude.{◌≡◌, ◌<◌, ◌≤◌, ◌+◌, IsTrue, nat_eq, nat_lt};
+ghost use Rattle.std.specs.List.{position};
 ghost use Rattle.amoebot_state.specs.Configs.{bot_of};
-ghost use Rattle.amoebot_state.specs.Ports.{is_own};
 ghost use Rattle.amoebot_state.specs.Zones.{IsShown, gap};
 ghost use Rattle.arrayvec.specs.ArrayVec.{array_vec_len};
-ghost use Rattle.model_ops.specs.Members.{gathered, has_id, unchanged, with_member, with_neighbour};
+ghost use Rattle.model_ops.specs.Members.{gathered, has_id, id_found_on, id_on, unchanged, with_member, with_neighbour};
 
 use amoebot_state::{ALL_PORTS, Bot, Found, Port};
 use arrayvec::ArrayVec;
@@ -19,18 +17,33 @@ pub(crate) struct Member {
     pub(crate) now: Bot,
 }
 
-/// The place of the member with an id.
-pub(crate) fn place_of(members: &[Member], id: u16) -> Option<usize>
+/// The place of the member with an id, which is one of theirs.
+pub(crate) fn place_of(members: &[Member], id: u16) -> usize
+    requires { IsTrue (has_id members.now id) }
+    ensures { position (λ m. nat_eq m.id id) members.now ≡ Some result }
+{
+    first_with(members, id).unwrap()
+}
+
+fn first_with(members: &[Member], id: u16) -> Option<usize>
     ensures { result ≡ position (λ m. nat_eq m.id id) members.now }
 {
     members.iter().position(|member| member.id == id)
 }
 
-/// The id of the first member that has a node.
+/// The id on a node, as the members are now: that of the first one that has the node.
 pub(crate) fn id_on(members: &[Member], node: Node) -> Option<u16>
-    ensures { result ≡ option_map (λ m. m.id) (find (λ m. is_own m.now node) members.now) }
+    ensures { result ≡ id_on members.now node }
 {
     let member = members.iter().find(|member| member.now.is_own(node))?;
+    Some(member.id)
+}
+
+/// The id on a node, as the members were found.
+pub(crate) fn id_found_on(members: &[Member], node: Node) -> Option<u16>
+    ensures { result ≡ id_found_on members.now node }
+{
+    let member = members.iter().find(|member| member.found.is_own(node))?;
     Some(member.id)
 }
 

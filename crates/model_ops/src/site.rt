@@ -7,12 +7,15 @@ ghost use Rattle.tri_lattice.specs.Lattice.{IsNear};
 ghost use Rattle.ring_guard.specs.Rings.{ring_in};
 ghost use Rattle.amoebot_state.specs.Occupied.{occupied};
 ghost use Rattle.model_ops.specs.Operations.{need, connected, is_free, is_free_node, owner, read, write, is_value, peer, seen_over, expand, contract, push, pull, may_leave, grow, shrink};
-ghost use Rattle.model_ops.specs.WorkingCopies.{opened, own_id, own_bot, after};
+ghost use Rattle.model_ops.specs.Reaches.{Reaches};
+ghost use Rattle.amoebot_state.specs.Zones.{gap};
+ghost use Rattle.model_ops.specs.WorkingCopies.{opened, own_id, own_bot, after, changes};
 ghost use Rattle.model_ops.specs.Sites.{done};
 
+use crate::changes::changed_cells;
 use crate::member::{Member, id_on, members_of, place_of};
 use crate::peer::Peer;
-use amoebot_state::{Bot, End, Failure, Found, Port};
+use amoebot_state::{Bot, End, Failure, Found, Patch, Port};
 use arrayvec::ArrayVec;
 use ring_guard::one_arc;
 use std::marker::Model;
@@ -175,6 +178,16 @@ impl Site {
         Ok(())
     }
 
+    /// The cells that differ from what was found, with their values now: at most one node, which stands first, and the bodies in
+    /// rising id. What the copy has reached is reached by writes and then at most one movement.
+    pub fn patch(&self) -> Patch
+        requires { Reaches (gap self.now.found) (own_id self.now) self.now.reached }
+        ensures { result ≡ changes self.now }
+    {
+        let place = place_of(self.members.as_slice(), self.own);
+        changed_cells(self.members.as_slice(), &self.members[place])
+    }
+
     /// The id of the amoebot itself.
     fn own_id(&self) -> u16
         ensures value { result ≡ own_id self.now }
@@ -197,10 +210,8 @@ impl Site {
         ensures value { bot_at self.now.reached id ≡ Some result.now }
         ensures plain { IsPlain result.now }
     {
-        match place_of(self.members.as_slice(), id) {
-            Some(place) => &self.members[place].now,
-            None => unreachable!(),
-        }
+        let place = place_of(self.members.as_slice(), id);
+        &self.members[place].now
     }
 
     /// The id of a node's occupant.
@@ -327,10 +338,8 @@ impl Site {
         requires plain { IsPlain bot }
         ensures { self.new ≡ record self.old { reached = set_bot self.old.reached id bot } }
     {
-        match place_of(self.members.as_slice(), id) {
-            Some(place) => self.members[place].now = bot,
-            None => unreachable!(),
-        }
+        let place = place_of(self.members.as_slice(), id);
+        self.members[place].now = bot;
     }
 }
 

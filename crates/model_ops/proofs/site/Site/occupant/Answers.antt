@@ -13,5 +13,5 @@ returns c =
     let s = c.self.inside in
     c.id_on.ensures
     ∙ ap (λ (ms : List Member). option_map (λ (m : Member). m.id) (find (λ m. is_own m.now c.args.node) ms)) c.as_slice.ensures.value
-    ∙ sym (occupant_of s.area s.maxes s.members.items c.args.node c.self.invariant.rising)
+    ∙ sym (occupant_of (λ (m : Member). m.now) s.area s.maxes s.members.items c.args.node c.self.invariant.rising)
     ∙ ap (λ (w : WorkingCopy). occupant w.reached c.args.node) c.self.view_is
