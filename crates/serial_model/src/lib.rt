@@ -84,4 +84,6 @@ impl Serial {
 }
 
 #[cfg(test)]
+mod replay_tests;
+#[cfg(test)]
 mod tests;
