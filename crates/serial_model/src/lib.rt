@@ -4,7 +4,12 @@
 ghost use Rattle.std.specs.Prelude.{◌≡◌, ◌<◌, length};
 ghost use Rattle.serial_model.specs.Turns.{Turns};
 
+mod laws;
+mod replays;
+
 use amoebot_state::{Decider, Entry, Failure, Verdict, World, has_next};
+pub use laws::{first_no_step_is_unique, run_has_only_steps, run_or_first_no_step};
+pub use replays::{Differs, replay};
 use std::marker::Model;
 
 /// What a turn did: an entry for the journal, or nothing.
@@ -78,5 +83,7 @@ impl Serial {
     }
 }
 
+#[cfg(test)]
+mod replay_tests;
 #[cfg(test)]
 mod tests;

@@ -1,0 +1,2 @@
+pub mod FirstNoSteps
+pub mod SameChanges

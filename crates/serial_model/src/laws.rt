@@ -1,0 +1,16 @@
+ghost use Rattle.serial_model.specs.Laws.{FirstNoStepIsUnique, RunHasOnlySteps, RunOrFirstNoStep};
+
+/// At most one place is the first that is no step.
+pub fn first_no_step_is_unique()
+    ensures { FirstNoStepIsUnique }
+{}
+
+/// Entries that are a run have no place that is no step.
+pub fn run_has_only_steps()
+    ensures { RunHasOnlySteps }
+{}
+
+/// Entries are a run, or have a first place that is no step.
+pub fn run_or_first_no_step()
+    ensures { RunOrFirstNoStep }
+{}
