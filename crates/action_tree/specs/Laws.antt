@@ -4,7 +4,7 @@ use Rattle.std.specs.List.{list_all}
 use Rattle.action_tree.specs.Trees.{Program}
 use Rattle.action_tree.specs.Writable.{is_writable}
 use Rattle.action_tree.specs.Productions.{OfProgram}
-use Rattle.action_tree.specs.Samples.{line, erosion, hexagon}
+use Rattle.action_tree.specs.Samples.{line, erosion, hexagon, every_form}
 use Rattle.action_tree.specs.Edges.{is_sharp, levels, names, counts, leasts, spellings}
 
 abbrev pub WritableIsGiven : Type 0
@@ -15,7 +15,7 @@ GivenIsWritable = (p : Program) → OfProgram p → is_writable p ≡ true
 
 -- the shipped programs
 abbrev pub SamplesAreWritable : Type 0
-SamplesAreWritable = (is_writable line ≡ true) × (is_writable erosion ≡ true) × (is_writable hexagon ≡ true)
+SamplesAreWritable = (is_writable line ≡ true) × (is_writable erosion ≡ true) × (is_writable hexagon ≡ true) × (is_writable every_form ≡ true)
 
 -- of each limit the test lets what just keeps it pass, and not what just passes it
 abbrev pub LimitsAreSharp : Type 0

@@ -1,10 +1,10 @@
 -- Trees of whole programs, as their texts give them but for the lines, which are all 0.
 use Rattle.std.specs.Prelude.{ℕ, Bool, true, false, List, [], ◌∷◌, codes}
 use Rattle.amoebot_state.specs.declared.bot.End.TheVariants.{Head, Tail}
-use Rattle.action_tree.specs.declared.expression.PortSet.TheVariants.{Ports}
-use Rattle.action_tree.specs.declared.expression.Cmp.TheVariants.{Eq}
+use Rattle.action_tree.specs.declared.expression.PortSet.TheVariants.{Ports, Free}
+use Rattle.action_tree.specs.declared.expression.Cmp.TheVariants.{Eq, Ne, Lt, Le, Gt, Ge}
 use Rattle.action_tree.specs.Trees as tree
-use Rattle.action_tree.specs.Trees.{Name, Literal, Guard, Sum, Term, PortExpr, Stmt, Stmts, Move, Var, Action, Program, atom, negation, conjunction, disjunction, quantified, any, tested, comparison, guards, term_then, no_terms, number, own, of_port, count, direction, own_side, peer_side, inner, mod6, bound, at_end, fixed, turned, first, put, put_of, let_be, no_stmts, stmts, no_move, through, contract, expand, pull}
+use Rattle.action_tree.specs.Trees.{Name, Literal, Guard, Sum, Term, PortExpr, Stmt, Stmts, Move, Var, Action, Program, atom, negation, conjunction, disjunction, quantified, any, tested, comparison, guards, term_then, no_terms, number, own, of_port, count, direction, own_side, peer_side, inner, mod6, bound, at_end, fixed, held, turned, first, put, put_of, let_be, no_stmts, stmts, no_move, through, contract, expand, pull}
 
 abbrev pub word : List ℕ → Name
 word text = record { text = text; line = 0 }
@@ -114,5 +114,55 @@ hexagon = record {
       ∷ action (codes "rest") (and (atom tree.expanded ∷ in_state 2 3
               ∷ negation (some_port (or (there_is p (codes "state") 0 ∷ and (negation (tested tree.at_head p) ∷ there_is p (codes "state") 2 ∷ tested tree.peer_head p ∷ points_here (codes "parent") ∷ []) ∷ []))) ∷ [])) []
           (contract Tail)
+      ∷ [];
+}
+
+-- ---- each form of the grammar
+
+abbrev x : Name
+x = word (codes "x")
+
+abbrev x_of_p : Term
+x_of_p = of_port p x
+
+abbrev pub every_port : List PortExpr
+every_port = p ∷ head_0 ∷ at_end Tail (held x) ∷ turned p (literal 1) ∷ first_port (atom tree.always) ∷ []
+
+abbrev pub every_sum : Sum
+every_sum =
+    term_then true (number (literal 1)) (term_then false (own x) (term_then true x_of_p (term_then false (count (word (codes "p")) Ports (atom tree.always))
+        (term_then false (direction own_side p) (term_then false (direction peer_side p) (term_then false inner (one (mod6 (one (own x))))))))))
+
+abbrev pub every_comparison : List Guard
+every_comparison =
+    comparison every_sum Eq (one inner) ∷ comparison (one inner) Ne (one inner) ∷ comparison (one inner) Lt (one inner)
+        ∷ comparison (one inner) Le (one inner) ∷ comparison (one inner) Gt (one inner) ∷ comparison (one inner) Ge (one inner) ∷ []
+
+abbrev pub every_guard : Guard
+every_guard =
+    or (and (atom tree.always ∷ atom tree.contracted ∷ atom tree.expanded ∷ negation (atom tree.never) ∷ [])
+        ∷ some_port (tested tree.linked p)
+        ∷ quantified tree.all (word (codes "p")) Free (tested tree.free head_0)
+        ∷ tested tree.at_head (at_end Tail (held x))
+        ∷ tested tree.peer_expanded (turned p (literal 1))
+        ∷ tested tree.peer_head (first_port (atom tree.always))
+        ∷ and every_comparison ∷ [])
+
+abbrev pub every_stmt : List Stmt
+every_stmt =
+    put x every_sum ∷ put_of p x (one inner) ∷ let_be (word (codes "q")) p
+        ∷ tree.if_then (atom tree.always) (stmts (put x (one inner) ∷ [])) (stmts (put x (one inner) ∷ []))
+        ∷ tree.for_each (word (codes "p")) Ports (atom tree.always) (stmts (put x (one inner) ∷ [])) ∷ []
+
+abbrev pub every_form : Program
+every_form = record {
+  guard = true;
+  vars = var (codes "x") 1 ∷ [];
+  actions =
+      action (codes "a") every_guard every_stmt no_move
+      ∷ action (codes "b") (atom tree.always) [] (through expand p)
+      ∷ action (codes "c") (atom tree.always) [] (contract Head)
+      ∷ action (codes "d") (atom tree.always) [] (through tree.push p)
+      ∷ action (codes "e") (atom tree.always) [] (through pull p)
       ∷ [];
 }
