@@ -3,3 +3,4 @@ pub mod Measured
 pub mod MeasuredStatements
 pub mod Produced
 pub mod ProducedStatements
+pub mod Spelling

@@ -1,7 +1,8 @@
 -- A tree that the productions give opens no more levels, binds no more names, and is formed as the test asks.
 use Rattle.std.proofs.Common.{◌≡◌, ℕ, suc, Bool, true, false, ◌≤◌, refl, arith}
 use Rattle.action_tree.specs.Trees.{Guard, atom, negation, conjunction, disjunction, quantified, tested, comparison, Guards, no_guards, guard_then, Sum, term_then, Term, PortExpr}
-use Rattle.action_tree.specs.Writable.{most_elements, is_conj, is_unit, parens_unless, guard_levels, unit_levels, conj_levels, sum_levels, term_levels, port_levels, guard_names, guards_names, sum_names, term_names, port_names, guard_count, term_count, is_guard, are_guards, are_terms, is_term, is_port, is_sum, is_dirterm}
+use Rattle.action_tree.specs.Limits.{most_elements}
+use Rattle.action_tree.specs.Writable.{is_conj, is_unit, parens_unless, guard_levels, unit_levels, conj_levels, sum_levels, term_levels, port_levels, guard_names, guards_names, sum_names, term_names, port_names, guard_count, term_count, is_guard, are_guards, are_terms, is_term, is_port, is_sum, is_dirterm}
 use Rattle.action_tree.specs.Productions.{all_of, any_of, OfDirTerm, dir_number, dir_name, OfExpr, joined_by_or, OfConjs, no_conj, or_conj, OfConj, joined_by_and, OfUnits, no_unit, and_unit, OfUnit, one_word, not_unit, in_parens, some_or_each, asked, compared, OfSum, added, OfTerms, no_term, and_term, OfTerm, a_number, own_name, port_name, counted, directed, own_direction, modulo, OfPort, bound_name, end_and_dir, turned_by, first_in}
 use Rattle.action_tree.proofs.Conditions.{both, within}
 

@@ -2,7 +2,10 @@ pub mod Trees
 pub mod Stored
 pub mod Views
 pub mod Words
+pub mod Limits
 pub mod Writable
 pub mod Productions
 pub mod Lines
+pub mod Samples
+pub mod Edges
 pub mod Laws

@@ -6,6 +6,7 @@ use Rattle.action_tree.specs.declared.expression.PortSet.{PortSet}
 use Rattle.action_tree.specs.declared.expression.Cmp.{Cmp}
 use Rattle.action_tree.specs.Trees.{Name, Literal, DirTerm, fixed, held, Atom, Quantifier, PortTest, Side, PortMove, Guard, atom, negation, conjunction, disjunction, quantified, tested, comparison, Guards, no_guards, guard_then, Sum, no_terms, term_then, Term, number, own, of_port, count, direction, inner, mod6, PortExpr, bound, at_end, turned, first, Stmt, put, put_of, let_be, if_then, for_each, Stmts, no_stmts, stmt_then, Move, no_move, through, contract, Var, Action, Program}
 use Rattle.action_tree.specs.Words.{is_name, is_number}
+use Rattle.action_tree.specs.Limits.{most_levels, most_names, most_further, most_vars, most_actions}
 
 -- a NAME, and a NUMBER
 abbrev pub IsName : Name → Type 0
@@ -30,14 +31,14 @@ pub data OfDirTerm : DirTerm → Type 0 where
 -- lists go on with at most so many more elements
 mutual
   pub data OfExpr : ℕ → ℕ → Guard → Type 0 where
-    joined_by_or : {n left : ℕ} {g : Guard} {gs : Guards} → OfConj n left g → OfConjs n left 63 gs → OfExpr n left (any_of g gs)
+    joined_by_or : {n left : ℕ} {g : Guard} {gs : Guards} → OfConj n left g → OfConjs n left most_further gs → OfExpr n left (any_of g gs)
 
   pub data OfConjs : ℕ → ℕ → ℕ → Guards → Type 0 where
     no_conj : {n left room : ℕ} → OfConjs n left room no_guards
     or_conj : {n left room : ℕ} {g : Guard} {gs : Guards} → OfConj n left g → OfConjs n left room gs → OfConjs n left (suc room) (guard_then g gs)
 
   pub data OfConj : ℕ → ℕ → Guard → Type 0 where
-    joined_by_and : {n left : ℕ} {g : Guard} {gs : Guards} → OfUnit n left g → OfUnits n left 63 gs → OfConj n left (all_of g gs)
+    joined_by_and : {n left : ℕ} {g : Guard} {gs : Guards} → OfUnit n left g → OfUnits n left most_further gs → OfConj n left (all_of g gs)
 
   pub data OfUnits : ℕ → ℕ → ℕ → Guards → Type 0 where
     no_unit : {n left room : ℕ} → OfUnits n left room no_guards
@@ -52,7 +53,7 @@ mutual
     compared : {n left : ℕ} {a b : Sum} (c : Cmp) → OfSum n left a → OfSum n left b → OfUnit n left (comparison a c b)
 
   pub data OfSum : ℕ → ℕ → Sum → Type 0 where
-    added : {n left : ℕ} {t : Term} {ts : Sum} (minus : Bool) → OfTerm n left t → OfTerms n left 63 ts → OfSum n left (term_then minus t ts)
+    added : {n left : ℕ} {t : Term} {ts : Sum} (minus : Bool) → OfTerm n left t → OfTerms n left most_further ts → OfSum n left (term_then minus t ts)
 
   pub data OfTerms : ℕ → ℕ → ℕ → Sum → Type 0 where
     no_term : {n left room : ℕ} → OfTerms n left room no_terms
@@ -95,7 +96,7 @@ mutual
     given : {n left : ℕ} {ss : Stmts} → OfStmts n left ss → OfOptional n left ss
 
   pub data OfStmts : ℕ → ℕ → Stmts → Type 0 where
-    one_and_more : {n left : ℕ} {s : Stmt} {ss : Stmts} → OfStmt n left s → OfMore n (after left s) 63 ss → OfStmts n left (stmt_then s ss)
+    one_and_more : {n left : ℕ} {s : Stmt} {ss : Stmts} → OfStmt n left s → OfMore n (after left s) most_further ss → OfStmts n left (stmt_then s ss)
 
   pub data OfMore : ℕ → ℕ → ℕ → Stmts → Type 0 where
     no_more : {n left room : ℕ} → OfMore n left room no_stmts
@@ -117,9 +118,9 @@ pub record OfVar (v : Var) : Type 0 where
 -- at the start no level is open, and no name is in force
 pub record OfAction (a : Action) : Type 0 where
   pub name : IsName a.name
-  pub guard : OfExpr 32 4 a.guard
-  pub body : OfBody 32 4 a.body
-  pub moved : OfMove 32 (after_all 4 a.body) a.moved
+  pub guard : OfExpr most_levels most_names a.guard
+  pub body : OfBody most_levels most_names a.body
+  pub moved : OfMove most_levels (after_all most_names a.body) a.moved
 
 pub data OfVars : ℕ → List Var → Type 0 where
   no_var : {room : ℕ} → OfVars room []
@@ -130,5 +131,5 @@ pub data OfActions : ℕ → List Action → Type 0 where
   and_action : {room : ℕ} {a : Action} {more : List Action} → OfAction a → OfActions room more → OfActions (suc room) (a ∷ more)
 
 pub record OfProgram (p : Program) : Type 0 where
-  pub vars : OfVars 8 p.vars
-  pub actions : OfActions 32 p.actions
+  pub vars : OfVars most_vars p.vars
+  pub actions : OfActions most_actions p.actions

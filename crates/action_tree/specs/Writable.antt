@@ -5,26 +5,7 @@ use Rattle.std.specs.Prelude.{ℕ, suc, max, Bool, true, false, ◌&&◌, nat_le
 use Rattle.std.specs.List.{list_all}
 use Rattle.action_tree.specs.Trees.{Name, Literal, DirTerm, fixed, held, Guard, atom, negation, conjunction, disjunction, quantified, tested, comparison, Guards, no_guards, guard_then, Sum, no_terms, term_then, Term, number, own, of_port, count, direction, inner, mod6, PortExpr, bound, at_end, turned, first, Stmt, put, put_of, let_be, if_then, for_each, Stmts, no_stmts, stmt_then, Move, no_move, through, contract, Var, Action, Program}
 use Rattle.action_tree.specs.Words.{is_name, is_number}
-
--- ---- the limits
-
--- of levels open at once
-abbrev pub most_levels : ℕ
-most_levels = 32
-
--- of names in force at once
-abbrev pub most_names : ℕ
-most_names = 4
-
--- of the elements of an `and` or an `or`, the terms of a sum, the statements of a list
-abbrev pub most_elements : ℕ
-most_elements = 64
-
-abbrev pub most_vars : ℕ
-most_vars = 8
-
-abbrev pub most_actions : ℕ
-most_actions = 32
+use Rattle.action_tree.specs.Limits.{most_levels, most_names, most_elements, most_vars, most_actions}
 
 -- ---- Levels. `(`, `not`, `turn`, `if` and `for` each open one, which lasts to the end of their construct.
 

@@ -1,10 +1,20 @@
 //! What holds of the definitions. The functions do nothing: their clauses are the laws.
 
-ghost use Rattle.action_tree.specs.Laws.{WritableIsGiven, GivenIsWritable};
+ghost use Rattle.action_tree.specs.Laws.{WritableIsGiven, GivenIsWritable, SamplesAreWritable, LimitsAreSharp};
 
 /// The test passes exactly the trees that the productions of the grammar give.
 #[tactic(auto, using(crate::proofs::ProducedStatements::program_from, crate::proofs::MeasuredStatements::program_passes))]
 pub fn writable_is_given()
     ensures given { WritableIsGiven }
     ensures writable { GivenIsWritable }
+{}
+
+/// The trees of the shipped programs pass it.
+pub fn samples_are_writable()
+    ensures { SamplesAreWritable }
+{}
+
+/// It keeps each limit exactly.
+pub fn limits_are_sharp()
+    ensures { LimitsAreSharp }
 {}

@@ -1,12 +1,34 @@
 //! Names and numbers, each with the line that it stands on.
 
+ghost use Rattle.std.specs.Prelude.{◌≡◌, true};
+ghost use Rattle.action_tree.specs.Views.{name_of};
+ghost use Rattle.action_tree.specs.Words.{is_word};
+
 use arrayvec::ArrayString;
 
-/// A word, and the line that it stands on.
+/// A word, and the line that it stands on. Lines count from 1; a word that no text has may have line 0.
 #[derive(Clone, Copy)]
 pub struct Word {
     pub text: ArrayString<24>,
     pub line: u32,
+}
+
+impl Word {
+    /// The word with these bytes, on this line.
+    pub fn new(text: &[u8], line: u32) -> Word
+        requires { is_word text.now ≡ true }
+        ensures { name_of result ≡ record { text = text.now; line = line } }
+    {
+        let mut copy = ArrayString::new();
+        if let Ok(text) = std::str::from_utf8(text) {
+            if copy.try_push_str(text).is_err() {
+                unreachable!();
+            }
+        } else {
+            unreachable!();
+        }
+        Word { text: copy, line }
+    }
 }
 
 /// A number, and the line that it stands on.
