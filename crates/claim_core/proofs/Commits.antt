@@ -11,7 +11,7 @@ use Rattle.amoebot_state.specs.declared.cell.Cell.{Cell}
 use Rattle.amoebot_state.specs.declared.verdict.Change.{Change}
 use Rattle.amoebot_state.specs.declared.verdict.Entry.{Entry}
 use Rattle.amoebot_state.specs.declared.verdict.Verdict.TheVariants as verdict
-use Rattle.amoebot_state.specs.Pairs.{Pairs, cell_of, value_of}
+use Rattle.amoebot_state.specs.Pairs.{Pairs, cell_of, cell_value}
 use Rattle.amoebot_state.specs.Configs.{Config, bot_at}
 use Rattle.amoebot_state.specs.Zones.{zone}
 use Rattle.amoebot_state.specs.Patches.{IsPatched}
@@ -176,7 +176,7 @@ module _ (g : Setup) (ok : IsSetup g) (old : State) (s : Sound g old) (c : ℕ) 
 
     own_held : All (IsHeld g new last c k.turn) cells
     own_held = All-map (IsHeld g new last c k.turn) (renewed change.patch) k.held (All-weaker (IsHeld g old s.last c k.turn) (λ q. IsHeld g new last c k.turn (renewed change.patch q))
-        (λ q was. record { tag = was.tag; value = value_patched s.last last change.patch is_patched (cell_of q) (value_of q) was.value }) k.held is.held)
+        (λ q was. record { tag = was.tag; value = value_patched s.last last change.patch is_patched (cell_of q) (cell_value q) was.value }) k.held is.held)
 
     marked_now : Marked g new last c k.turn cells more
     marked_now = record {

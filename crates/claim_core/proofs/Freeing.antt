@@ -12,7 +12,7 @@ use Rattle.amoebot_state.specs.declared.cell.Cell.{Cell}
 use Rattle.amoebot_state.specs.Pairs.{Pairs, cell_of}
 use Rattle.amoebot_state.specs.Configs.{Config, bot_at}
 use Rattle.amoebot_state.specs.Zones.{zone}
-use Rattle.amoebot_state.proofs.Gaps.{zone_is}
+use Rattle.amoebot_state.proofs.Zones.{zone_is}
 use Rattle.amoebot_state.proofs.Members.{Has, Contains-from_Has, here, Has-append_right}
 use Rattle.claim_core.specs.declared.marks.Mark.{Mark}
 use Rattle.claim_core.specs.declared.marks.Mark.TheVariants as mark

@@ -12,18 +12,17 @@ use Rattle.amoebot_state.specs.declared.cell.CellName.{CellName}
 use Rattle.amoebot_state.specs.declared.cell.CellName.TheVariants as name
 use Rattle.amoebot_state.specs.declared.cell.Cell.{Cell}
 use Rattle.amoebot_state.specs.declared.cell.Cell.TheVariants as cell
-use Rattle.amoebot_state.specs.Pairs.{Pairs, cell_of, value_of}
+use Rattle.amoebot_state.specs.Pairs.{Pairs, cell_of, cell_value}
 use Rattle.amoebot_state.specs.Configs.{Config, IsValid, bot_at, occupant, value}
 use Rattle.amoebot_state.specs.Zones.{Shown, shown, shown_cell, zone, zone_nodes, others}
 use Rattle.amoebot_state.proofs.Members.{Has, has_cases, map_has, Has-map, not_in_none, Has-append_cases, Has-append_left, Has-append_right, here, later, Contains-from_Has}
 use Rattle.amoebot_state.proofs.Once.{zone_lists_each_cell_once}
-use Rattle.amoebot_state.specs.Known.{IsFront, next_cell}
 use Rattle.amoebot_state.proofs.Fronts.{front_of_append}
-use Rattle.amoebot_state.proofs.Gaps.{zone_is}
+use Rattle.amoebot_state.proofs.Zones.{zone_is, others_occupy}
 use Rattle.amoebot_state.proofs.Known.{next_is_in_zone}
 use Rattle.amoebot_state.proofs.Occupants.{occupant_covers}
 use Rattle.amoebot_state.proofs.Owns.{covered}
-use Rattle.amoebot_state.proofs.Zones.{others_occupy}
+use Rattle.amoebot_state.specs.Known.{IsFront, next_cell}
 use Rattle.claim_core.specs.Cells.{held_by}
 use Rattle.claim_core.specs.Soundness.{names}
 use Rattle.claim_core.proofs.Places.{get-append_right}
@@ -100,7 +99,7 @@ zone_value c i (name.Body j) valid there has =
 
 -- cells with what they hold are shown as they are
 abbrev pub Valued : Config → CellName × Cell → Type 0
-Valued c p = value c (cell_of p) ≡ Some (value_of p)
+Valued c p = value c (cell_of p) ≡ Some (cell_value p)
 
 shown_as : (c : Config) (ps : Pairs) → All (Valued c) ps → filter_map (shown_cell c) (map cell_of ps) ≡ ps
 shown_as c [] all = refl

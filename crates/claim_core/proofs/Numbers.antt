@@ -16,7 +16,7 @@ use Rattle.amoebot_state.specs.declared.cell.CellName.{CellName}
 use Rattle.amoebot_state.specs.declared.cell.CellName.TheVariants as name
 use Rattle.amoebot_state.specs.declared.cell.Cell.{Cell}
 use Rattle.amoebot_state.specs.declared.cell.Cell.TheVariants as cell
-use Rattle.amoebot_state.specs.Pairs.{Pairs, cell_of, value_of}
+use Rattle.amoebot_state.specs.Pairs.{Pairs, cell_of, cell_value}
 use Rattle.amoebot_state.specs.Configs.{Config, bot_at, bot_of, blank, occupant, value}
 use Rattle.amoebot_state.specs.Patches.{IsPatched, all_cells}
 use Rattle.claim_core.specs.Cells.{number, at, put, held_by, values_of, name_eq, given, patched}
@@ -137,7 +137,7 @@ held_same c d (name.Body i) e = split (bot_at c i) (bot_at d i) e
     split (Some b) (Some o) f = cc
 
 -- the value that a patch gives is one of its pairs', and where it gives none no pair names the cell
-given_is : (ps : Pairs) (n : CellName) (x : Cell) (P : CellName → Cell → Type 0) → All (λ (p : CellName × Cell). P (cell_of p) (value_of p)) ps → given ps n ≡ Some x → P n x
+given_is : (ps : Pairs) (n : CellName) (x : Cell) (P : CellName → Cell → Type 0) → All (λ (p : CellName × Cell). P (cell_of p) (cell_value p)) ps → given ps n ≡ Some x → P n x
 given_is [] n x P all e = absurd (none-some x e)
 given_is (p ∷ ps) n x P all e = elim (cases_Bool (name_eq p.0 n)) [
   | inl t ↦

@@ -24,7 +24,7 @@ use Rattle.amoebot_state.specs.Laws.{is_spot, is_body}
 use Rattle.amoebot_state.specs.Known.{next_cell}
 use Rattle.amoebot_state.specs.Patches.{all_cells}
 use Rattle.amoebot_state.proofs.Counts.{zone_has_at_most_ten_nodes, zone_has_at_most_nine_bodies}
-use Rattle.amoebot_state.proofs.Gaps.{zone_inside}
+use Rattle.amoebot_state.proofs.Zones.{zone_inside}
 use Rattle.amoebot_state.proofs.Members.{Has, here, Has-append_right}
 use Rattle.claim_core.specs.declared.marks.Mark.{Mark}
 use Rattle.claim_core.specs.declared.marks.Mark.TheVariants as mark

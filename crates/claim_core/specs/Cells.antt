@@ -8,7 +8,7 @@ use Rattle.amoebot_state.specs.declared.cell.CellName.{CellName}
 use Rattle.amoebot_state.specs.declared.cell.CellName.TheVariants as name
 use Rattle.amoebot_state.specs.declared.cell.Cell.{Cell}
 use Rattle.amoebot_state.specs.declared.cell.Cell.TheVariants as cell
-use Rattle.amoebot_state.specs.Pairs.{Pairs, cell_of, value_of}
+use Rattle.amoebot_state.specs.Pairs.{Pairs, cell_of, cell_value}
 use Rattle.amoebot_state.specs.Configs.{Config, bot_of, occupant}
 use Rattle.amoebot_state.specs.Patches.{all_cells}
 
@@ -46,9 +46,9 @@ name_eq (name.Body i) (name.Body j) = nat_eq i j
 -- the value that a patch gives a cell, if it does
 abbrev pub given : Pairs → CellName → Option Cell
 given [] n = None
-given (p ∷ ps) n = if name_eq (cell_of p) n then Some (value_of p) else given ps n
+given (p ∷ ps) n = if name_eq (cell_of p) n then Some (cell_value p) else given ps n
 
 -- the values with those of a patch in its cells
 abbrev pub patched : Extent → Pairs → List Cell → List Cell
 patched a [] values = values
-patched a (p ∷ ps) values = put (patched a ps values) (number a (cell_of p)) (value_of p)
+patched a (p ∷ ps) values = put (patched a ps values) (number a (cell_of p)) (cell_value p)

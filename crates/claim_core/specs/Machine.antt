@@ -8,7 +8,7 @@ use Rattle.amoebot_state.specs.declared.verdict.Change.{Change}
 use Rattle.amoebot_state.specs.declared.verdict.Entry.{Entry}
 use Rattle.amoebot_state.specs.declared.verdict.Verdict.{Verdict}
 use Rattle.amoebot_state.specs.declared.verdict.Verdict.TheVariants as verdict
-use Rattle.amoebot_state.specs.Pairs.{Pairs, cell_of, value_of}
+use Rattle.amoebot_state.specs.Pairs.{Pairs, cell_of, cell_value}
 use Rattle.amoebot_state.specs.Configs.{Config}
 use Rattle.amoebot_state.specs.Zones.{Shown}
 use Rattle.amoebot_state.specs.Known.{next_cell}
@@ -43,7 +43,7 @@ caller t p h m = record { turn = t; phase = p; held = h; marks = m }
 
 -- the value of a held cell once a patch is committed
 abbrev pub renewed : Pairs → CellName × Cell → CellName × Cell
-renewed patch p = (cell_of p, unwrap_or (given patch (cell_of p)) (value_of p))
+renewed patch p = (cell_of p, unwrap_or (given patch (cell_of p)) (cell_value p))
 
 -- the mark of a turn that changes nothing
 abbrev pub looked : Look → ℕ → Mark

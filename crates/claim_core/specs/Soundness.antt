@@ -8,7 +8,7 @@ use Rattle.amoebot_state.specs.declared.cell.Cell.{Cell}
 use Rattle.amoebot_state.specs.declared.verdict.Entry.{Entry}
 use Rattle.amoebot_state.specs.declared.verdict.Verdict.{Verdict}
 use Rattle.amoebot_state.specs.declared.verdict.Verdict.TheVariants as verdict
-use Rattle.amoebot_state.specs.Pairs.{Pairs, cell_of, value_of}
+use Rattle.amoebot_state.specs.Pairs.{Pairs, cell_of, cell_value}
 use Rattle.amoebot_state.specs.Configs.{Config, IsValid, bot_at, value}
 use Rattle.amoebot_state.specs.Zones.{shown, zone}
 use Rattle.amoebot_state.specs.Steps.{Run, TouchesZone, HasNext}
@@ -149,7 +149,7 @@ module _ (g : Setup) where
   -- a held cell has the tag of its caller's turn, and its recorded value is what it holds in the last world
   pub record IsHeld (s : State) (last : Config) (c t : ℕ) (p : CellName × Cell) : Type 0 where
     pub tag : at s.tags (number g.world.area (cell_of p)) ≡ Some (own_tag g c t)
-    pub value : value last (cell_of p) ≡ Some (value_of p)
+    pub value : value last (cell_of p) ≡ Some (cell_value p)
 
   -- what holds of a caller
   pub record CallerOk (s : State) (last : Config) (c : ℕ) (k : Caller) : Type 0 where

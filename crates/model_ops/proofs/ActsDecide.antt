@@ -4,12 +4,12 @@ use Rattle.std.specs.Prelude.{IsSome}
 use Rattle.std.specs.List.{All, Contains}
 use Rattle.amoebot_state.specs.declared.cell.CellName.{CellName}
 use Rattle.amoebot_state.specs.declared.cell.Cell.{Cell}
-use Rattle.amoebot_state.specs.Pairs.{Pairs, cell_of, value_of}
+use Rattle.amoebot_state.specs.Pairs.{Pairs, cell_of, cell_value}
 use Rattle.amoebot_state.specs.Configs.{Config, IsValid, bot_at, value}
 use Rattle.amoebot_state.specs.Patches.{HasPatched, IsOrdered, IsPatched}
-use Rattle.amoebot_state.specs.Zones.{IsShown, zone, shown, gap}
+use Rattle.amoebot_state.specs.Zones.{IsShown, zone, shown, shown_alone}
 use Rattle.amoebot_state.specs.Steps.{change_of}
-use Rattle.amoebot_state.proofs.Behind.{gap_shows_what_was_shown}
+use Rattle.amoebot_state.proofs.ShownAlone.{shown_alone_shows_the_same}
 use Rattle.amoebot_state.proofs.Patched.{patched_is_unique}
 use Rattle.amoebot_state.proofs.Shows.{shown_valid}
 use Rattle.model_ops.specs.Deciders.{ActsFor}
@@ -19,17 +19,17 @@ use Rattle.model_ops.proofs.StaysConnected.{reached_stays_connected}
 use Rattle.model_ops.proofs.CopiesStand.{gap_there}
 
 -- the acts that make a change lead from each configuration that shows it too
-acts_lead : (c : Config) (i : ℕ) (patch : Pairs) → IsValid c → IsSome (bot_at c i) → (by : ActsFor (shown c i) patch) → LeadsAlso (gap (shown c i)) i by.acts by.reached c
+acts_lead : (c : Config) (i : ℕ) (patch : Pairs) → IsValid c → IsSome (bot_at c i) → (by : ActsFor (shown c i) patch) → LeadsAlso (shown_alone (shown c i)) i by.acts by.reached c
 acts_lead c i patch valid there by =
     let s = shown c i in
     let is : IsShown s = (c, valid, there, refl) in
-    reached_leads_also (gap s) c i by.acts by.reached (shown_valid s is) valid (gap_there s is) (sym (gap_shows_what_was_shown s is)) by.performed
+    reached_leads_also (shown_alone s) c i by.acts by.reached (shown_valid s is) valid (gap_there s is) (sym (shown_alone_shows_the_same s is)) by.performed
 
 -- and the patch is what they change there
 record Kept (c : Config) (i : ℕ) (patch : Pairs) : Type 0 where
   next : HasPatched c patch
   ordered : IsOrdered patch
-  differs : All (λ (p : CellName × Cell). value c (cell_of p) ≢ Some (value_of p)) patch
+  differs : All (λ (p : CellName × Cell). value c (cell_of p) ≢ Some (cell_value p)) patch
   listed : All (λ (p : CellName × Cell). Contains (zone c i) (cell_of p)) patch
 
 acts_keep : (c : Config) (i : ℕ) (patch : Pairs) → IsValid c → IsSome (bot_at c i) → ActsFor (shown c i) patch → Kept c i patch

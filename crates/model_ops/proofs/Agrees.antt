@@ -18,7 +18,7 @@ use Rattle.amoebot_state.specs.declared.verdict.Moved.TheVariants as moved
 use Rattle.amoebot_state.specs.Ports.{is_contracted, is_port, behind, end_node, is_beside}
 use Rattle.amoebot_state.specs.Configs.{Config, IsValid, bot_at, bot_of, blank, occupant}
 use Rattle.amoebot_state.specs.Occupied.{occupied}
-use Rattle.amoebot_state.proofs.Expands.{port_leads_beside}
+use Rattle.amoebot_state.proofs.Directions.{port_leads_beside}
 use Rattle.model_ops.specs.Guard.{is_one_arc}
 use Rattle.model_ops.specs.Operations.{connected, is_free, is_free_node, owner, read, write, peer, seen_over, is_value, expand, contract, push, pull}
 use Rattle.model_ops.specs.Reaches.{move}

@@ -6,9 +6,8 @@ use Rattle.std.specs.declared.result.Result.TheVariants.{Ok}
 use Rattle.amoebot_state.specs.declared.verdict.Failure.{Failure}
 use Rattle.amoebot_state.specs.declared.verdict.Moved.TheVariants as moved
 use Rattle.amoebot_state.specs.Configs.{Config, bot_at}
-use Rattle.amoebot_state.specs.Zones.{Shown, IsShown, shown, gap}
-use Rattle.amoebot_state.proofs.Behind.{gap_shows_what_was_shown}
-use Rattle.amoebot_state.proofs.Gaps.{gap_own}
+use Rattle.amoebot_state.specs.Zones.{Shown, IsShown, shown, shown_alone}
+use Rattle.amoebot_state.proofs.ShownAlone.{shown_alone_shows_the_same, alone_own}
 use Rattle.amoebot_state.proofs.Patched.{patched_is_unique}
 use Rattle.amoebot_state.proofs.Shows.{shown_valid}
 use Rattle.model_ops.specs.Operations.{and_then, write}
@@ -41,25 +40,25 @@ one_more c i (v ∷ ws) w m d e f =
 pub copies_work : CopiesWork
 copies_work = record {
   opens = λ s is.
-      let still : ReachesUnmoved (gap s) s.bot (gap s) = ([], refl) in
-      (record { shown = is; reached = unmoved_reaches (gap s) s.bot (gap s) still }, still);
+      let still : ReachesUnmoved (shown_alone s) s.bot (shown_alone s) = ([], refl) in
+      (record { shown = is; reached = unmoved_reaches (shown_alone s) s.bot (shown_alone s) still }, still);
   writes = λ w p x s d works (ws, e) f.
-      let still : ReachesUnmoved (gap w.found) (own_id w) d = (ws ++ record { port = p; var = x; value = s } ∷ [], one_more (gap w.found) (own_id w) ws (record { port = p; var = x; value = s }) w.reached d e f) in
-      (record { shown = works.shown; reached = unmoved_reaches (gap w.found) (own_id w) d still }, still);
+      let still : ReachesUnmoved (shown_alone w.found) (own_id w) d = (ws ++ record { port = p; var = x; value = s } ∷ [], one_more (shown_alone w.found) (own_id w) ws (record { port = p; var = x; value = s }) w.reached d e f) in
+      (record { shown = works.shown; reached = unmoved_reaches (shown_alone w.found) (own_id w) d still }, still);
   moves = λ w guard m d works (ws, e) f.
-      record { shown = works.shown; reached = (record { writes = ws; guard = guard; moved = m }, then_is (write_all (gap w.found) (own_id w) ws) (λ x. move x (own_id w) guard m) w.reached d e f) };
+      record { shown = works.shown; reached = (record { writes = ws; guard = guard; moved = m }, then_is (write_all (shown_alone w.found) (own_id w) ws) (λ x. move x (own_id w) guard m) w.reached d e f) };
 }
 
 -- what was found is shown by the configuration that has it and no other amoebot, to an amoebot of it
-pub gap_there : (s : Shown) → IsShown s → IsSome (bot_at (gap s) s.bot)
-gap_there s (c, valid, has, is) = subst (λ (t : Shown). IsSome (bot_at (gap t) s.bot)) is (ap (λ o. is_some o) (gap_own c s.bot _ (own_there c s.bot has)))
+pub gap_there : (s : Shown) → IsShown s → IsSome (bot_at (shown_alone s) s.bot)
+gap_there s (c, valid, has, is) = subst (λ (t : Shown). IsSome (bot_at (shown_alone t) s.bot)) is (ap (λ o. is_some o) (alone_own c s.bot _ (own_there c s.bot has)))
 
 pub copy_stands_for_worlds : CopyStandsForWorlds
 copy_stands_for_worlds w d works valid same =
     let i = own_id w in
     let s = w.found in
-    let c = gap s in
-    let shows : shown d i ≡ shown c i = same ∙ sym (gap_shows_what_was_shown s works.shown) in
+    let c = shown_alone s in
+    let shows : shown d i ≡ shown c i = same ∙ sym (shown_alone_shows_the_same s works.shown) in
     let there = gap_there s works.shown in
     let valid_c = shown_valid s works.shown in
     let (first, e) = works.reached in

@@ -10,12 +10,12 @@ use Rattle.tri_lattice.specs.declared.node.Node.{Node}
 use Rattle.tri_lattice.specs.Lattice.{node_eq}
 use Rattle.tri_lattice.specs.Extent.{Extent, is_in}
 use Rattle.amoebot_state.specs.declared.cell.CellName.TheVariants as name
-use Rattle.amoebot_state.specs.Zones.{shown, gap, zone_of, zone_nodes, others}
-use Rattle.amoebot_state.proofs.Gaps.{gap_own, gap_only, gap_occupant, zone_is}
+use Rattle.amoebot_state.specs.Zones.{shown, shown_alone, zone_of, zone_nodes, others}
+use Rattle.amoebot_state.proofs.ShownAlone.{alone_own, alone_only, alone_occupant}
+use Rattle.amoebot_state.proofs.Zones.{zone_is, others_occupy}
 use Rattle.amoebot_state.proofs.Members.{Has, has_cases, not_in_none, Has-append_cases, map_has, distinct_has, filter_has}
 use Rattle.amoebot_state.proofs.Occupants.{occupant_at}
 use Rattle.amoebot_state.proofs.Owns.{own_head, own_tail}
-use Rattle.amoebot_state.proofs.Zones.{others_occupy}
 use Rattle.model_ops.specs.declared.member.Member.{Member}
 use Rattle.amoebot_state.specs.declared.bot.Bot.{Bot}
 use Rattle.amoebot_state.specs.declared.bot.Port.{Port}
@@ -181,14 +181,14 @@ own_told b v = elim (cases_Bool (is_contracted b)) as (λ _. Has v (own_nodes b)
 
 module _ (c : Config) (i : ℕ) (b : Bot) (valid : IsValid c) (at : bot_at c i ≡ Some b) where
   -- each amoebot that is shown is gathered
-  pub all_gathered : (j : ℕ) (a : Bot) → bot_at (gap (shown c i)) j ≡ Some a → has_id (gathered (shown c i)) j ≡ true
+  pub all_gathered : (j : ℕ) (a : Bot) → bot_at (shown_alone (shown c i)) j ≡ Some a → has_id (gathered (shown c i)) j ≡ true
   unfolding gathered
   all_gathered j a there =
-      let g = gap (shown c i) in
-      let own : bot_of g i ≡ b = bot_is g i b (gap_own c i b at) in
+      let g = shown_alone (shown c i) in
+      let own : bot_of g i ≡ b = bot_is g i b (alone_own c i b at) in
       let first = unchanged i (bot_of g i) ∷ [] in
       let vs = zone_nodes c.area b in
-      elim (body_told (occupant c) i j vs (subst (Has (name.Body j)) (zone_is c i b at) (gap_only c i j a there).1)) [
+      elim (body_told (occupant c) i j vs (subst (Has (name.Body j)) (zone_is c i b at) (alone_only c i j a there).1)) [
         | inl e ↦ neighbours_have g (bot_of g i) all_ports first j (or_left (nat_eq i j) false (eq-eqb i j (sym e)))
         | inr other ↦
             let by = others_occupy (occupant c) i vs j other in
@@ -197,14 +197,14 @@ module _ (c : Config) (i : ℕ) (b : Bot) (valid : IsValid c) (at : bot_at c i �
               | inr next ↦
                   let listed = filter_has (is_port b) all_ports next.1 in
                   neighbours_taken g (bot_of g i) all_ports first next.0 j listed.0 (ap (λ (d : Bot). is_port d next.0) own ∙ listed.1)
-                  (ap (λ (d : Bot). occupant g (behind d next.0)) own ∙ ap (occupant g) (sym next.2) ∙ gap_occupant c i b by.0 valid at by.1 ∙ by.2)
+                  (ap (λ (d : Bot). occupant g (behind d next.0)) own ∙ ap (occupant g) (sym next.2) ∙ alone_occupant c i b by.0 valid at by.1 ∙ by.2)
             ]
       ]
 
   -- and they are gathered in rising id
-  pub some_gathered : Gathered (gap (shown c i)) (gathered (shown c i))
+  pub some_gathered : Gathered (shown_alone (shown c i)) (gathered (shown c i))
   unfolding gathered
   some_gathered =
-      let g = gap (shown c i) in
-      let own : bot_at g i ≡ Some (bot_of g i) = gap_own c i b at ∙ ap Some (sym (bot_is g i b (gap_own c i b at))) in
+      let g = shown_alone (shown c i) in
+      let own : bot_at g i ≡ Some (bot_of g i) = alone_own c i b at ∙ ap Some (sym (bot_is g i b (alone_own c i b at))) in
       neighbours_keep g (bot_of g i) all_ports (unchanged i (bot_of g i) ∷ []) (record { rising = (tt, tt); fresh = ((own, refl), tt) })

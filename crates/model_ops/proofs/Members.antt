@@ -15,12 +15,12 @@ use Rattle.tri_lattice.specs.Extent.{Extent, IsArea, is_in}
 use Rattle.tri_lattice.specs.Lattice.{IsNear}
 use Rattle.tri_lattice.proofs.Boxes.{near_in}
 use Rattle.amoebot_state.proofs.Owns.{own_cases}
+use Rattle.amoebot_state.proofs.ShownAlone.{spread_at}
 use Rattle.amoebot_state.specs.declared.bot.Bot.{Bot}
 use Rattle.amoebot_state.specs.Ports.{is_own}
 use Rattle.amoebot_state.specs.Configs.{Config, bot_at, covers, occupant, set_bot}
 use Rattle.amoebot_state.specs.Pairs.{body_in}
-use Rattle.amoebot_state.specs.Zones.{Shown, IsShown, spread, with_id, shown, gap}
-use Rattle.amoebot_state.proofs.Gaps.{spread_at}
+use Rattle.amoebot_state.specs.Zones.{Shown, IsShown, spread, with_id, shown, shown_alone}
 use Rattle.arrayvec.specs.ArrayVec.{ArrayVec, with_items}
 use Rattle.arrayvec.proofs.ArrayVecLemmas.{items-with_items}
 use Rattle.amoebot_state.specs.Refusals.{IsPlain}
@@ -215,7 +215,7 @@ module _ (a : Extent) (maxes : List ℕ) (own : ℕ) (ms : List Member) (i k : �
         there = ap (λ (c : Config). is_some (bot_at c own)) (set_bot_of a maxes ms i k d b found) ∙ same_ids (config_now a maxes ms) i (get_or ms k d).now b (bot_placed (λ (m : Member). m.now) a maxes ms i k d found) own ∙ is.there;
         few = subst (λ n. n ≤ 9) (sym (length-set ms k (with_now (get_or ms k d) b))) is.few;
         was_shown = subst (λ (c : Config). IsShown (shown c own)) same is.was_shown;
-        whole = subst (λ (c : Config). gap (shown c own) ≡ c) same is.whole;
+        whole = subst (λ (c : Config). shown_alone (shown c own) ≡ c) same is.whole;
       }
 
   -- and what it stands for has the other amoebot

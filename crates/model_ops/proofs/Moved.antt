@@ -13,9 +13,8 @@ use Rattle.amoebot_state.specs.Ports.{is_own, behind, end_node, is_beside}
 use Rattle.amoebot_state.specs.Configs.{Config, IsValid, bot_at, bot_of, occupant, covers}
 use Rattle.amoebot_state.specs.Zones.{zone}
 use Rattle.amoebot_state.proofs.Members.{Has}
-use Rattle.amoebot_state.proofs.Directions.{beside_in_zone}
-use Rattle.amoebot_state.proofs.Expands.{port_leads_beside}
-use Rattle.amoebot_state.proofs.Gaps.{spot_in_zone, body_in_zone, own_in_zone}
+use Rattle.amoebot_state.proofs.Directions.{beside_in_zone, port_leads_beside}
+use Rattle.amoebot_state.proofs.Zones.{spot_in_zone, body_in_zone, own_in_zone}
 use Rattle.amoebot_state.proofs.Occupants.{covered_in, occupant_covers}
 use Rattle.model_ops.specs.Operations.{grow, shrink}
 use Rattle.model_ops.specs.Reaches.{move}

@@ -17,9 +17,9 @@ use Rattle.amoebot_state.specs.Configs.{Config, IsValid, bot_at}
 use Rattle.amoebot_state.specs.Laws.{is_body}
 use Rattle.amoebot_state.specs.Refusals.{IsPlain}
 use Rattle.amoebot_state.specs.Pairs.{body_in}
-use Rattle.amoebot_state.specs.Zones.{Shown, IsShown, shown, gap, spread, with_id, zone}
+use Rattle.amoebot_state.specs.Zones.{Shown, IsShown, shown, shown_alone, spread, with_id, zone}
 use Rattle.amoebot_state.proofs.Counts.{zone_has_at_most_nine_bodies}
-use Rattle.amoebot_state.proofs.Gaps.{spread_at, gap_own, gap_only, gap_shows, gap_valid}
+use Rattle.amoebot_state.proofs.ShownAlone.{spread_at, alone_own, alone_only, alone_shows, alone_valid}
 use Rattle.amoebot_state.proofs.Members.{Has, has_cases, not_in_none}
 use Rattle.amoebot_state.proofs.Occupants.{plain_bot}
 use Rattle.model_ops.specs.declared.member.Member.{Member}
@@ -140,41 +140,41 @@ fresh_now c [] fresh = refl
 fresh_now c (m ∷ ms) fresh = (λ t. (name.Body m.id, cell.Body (fresh.0.1 t)) ∷ fresh_now c ms fresh.1 t)
 
 -- members that are all of what is shown
-module _ (c : Config) (i : ℕ) (b : Bot) (valid : IsValid c) (at : bot_at c i ≡ Some b) (ms : List Member) (some : Gathered (gap (shown c i)) ms) (all : (j : ℕ) (a : Bot) → bot_at (gap (shown c i)) j ≡ Some a → has_id ms j ≡ true) where
-  found_at : (j : ℕ) → body_in (map body_found ms) j ≡ bot_at (gap (shown c i)) j
-  found_at j = elim (body_in (map body_found ms) j) as (λ o. body_in (map body_found ms) j ≡ o → o ≡ bot_at (gap (shown c i)) j) [
-    | Some a ↦ λ e. sym (fresh_found (gap (shown c i)) ms j a some.fresh e)
-    | None ↦ λ e. elim (bot_at (gap (shown c i)) j) as (λ o. bot_at (gap (shown c i)) j ≡ o → None ≡ o) [
+module _ (c : Config) (i : ℕ) (b : Bot) (valid : IsValid c) (at : bot_at c i ≡ Some b) (ms : List Member) (some : Gathered (shown_alone (shown c i)) ms) (all : (j : ℕ) (a : Bot) → bot_at (shown_alone (shown c i)) j ≡ Some a → has_id ms j ≡ true) where
+  found_at : (j : ℕ) → body_in (map body_found ms) j ≡ bot_at (shown_alone (shown c i)) j
+  found_at j = elim (body_in (map body_found ms) j) as (λ o. body_in (map body_found ms) j ≡ o → o ≡ bot_at (shown_alone (shown c i)) j) [
+    | Some a ↦ λ e. sym (fresh_found (shown_alone (shown c i)) ms j a some.fresh e)
+    | None ↦ λ e. elim (bot_at (shown_alone (shown c i)) j) as (λ o. bot_at (shown_alone (shown c i)) j ≡ o → None ≡ o) [
       | None ↦ λ f. refl
       | Some a ↦ λ f. absurd (false≢true (sym (ap is_some e) ∙ has_found ms j ∙ all j a f))
     ] refl
   ] refl
 
-  found_is : config_found c.area c.maxes ms ≡ gap (shown c i)
+  found_is : config_found c.area c.maxes ms ≡ shown_alone (shown c i)
   found_is =
       let made : List (Option Bot) → Config = λ os. record { area = c.area; maxes = c.maxes; bots = os } in
       ap made (same_spread (map body_found ms) (shown c i).cells (λ j. found_at j ∙ spread_at (shown c i).cells j))
 
-  now_is : config_now c.area c.maxes ms ≡ gap (shown c i)
+  now_is : config_now c.area c.maxes ms ≡ shown_alone (shown c i)
   now_is =
       let made : List (CellName × Cell) → Config = λ cells. record { area = c.area; maxes = c.maxes; bots = spread cells } in
-      ap made (fresh_now (gap (shown c i)) ms some.fresh) ∙ found_is
+      ap made (fresh_now (shown_alone (shown c i)) ms some.fresh) ∙ found_is
 
   shows_is : shown (config_found c.area c.maxes ms) i ≡ shown c i
-  shows_is = ap (λ (d : Config). shown d i) found_is ∙ gap_shows c i b valid at
+  shows_is = ap (λ (d : Config). shown d i) found_is ∙ alone_shows c i b valid at
 
   pub site_gathered : IsSite c.area c.maxes i ms
   site_gathered = record {
     rising = some.rising;
-    plain = All-from_recursion (λ (m : Member). IsPlain m.now) ms (each (λ m fresh. subst IsPlain (sym fresh.1) (plain_bot (gap (shown c i)) (gap_valid c i valid) m.id m.found fresh.0)) ms some.fresh);
-    there = ap (λ (d : Config). is_some (bot_at d i)) now_is ∙ ap is_some (gap_own c i b at);
+    plain = All-from_recursion (λ (m : Member). IsPlain m.now) ms (each (λ m fresh. subst IsPlain (sym fresh.1) (plain_bot (shown_alone (shown c i)) (alone_valid c i valid) m.id m.found fresh.0)) ms some.fresh);
+    there = ap (λ (d : Config). is_some (bot_at d i)) now_is ∙ ap is_some (alone_own c i b at);
     few =
-        let fit = length-members-le (zone c i) ms some.rising (each (λ m fresh. (gap_only c i m.id m.found fresh.0).1) ms some.fresh) in
+        let fit = length-members-le (zone c i) ms some.rising (each (λ m fresh. (alone_only c i m.id m.found fresh.0).1) ms some.fresh) in
         let nine = zone_has_at_most_nine_bodies c i valid in
         let counted = length-filter is_body (zone c i) in
         omega arith;
     was_shown = (c, valid, ap is_some at, sym shows_is);
-    whole = ap gap shows_is ∙ sym found_is;
+    whole = ap shown_alone shows_is ∙ sym found_is;
   }
 
   pub copy_gathered : copy_of c.area c.maxes i ms ≡ opened (shown c i)

@@ -16,10 +16,10 @@ use Rattle.tri_lattice.specs.Extent.{Extent}
 use Rattle.tri_lattice.proofs.Nodes.{cases_node}
 use Rattle.amoebot_state.specs.declared.bot.Bot.{Bot}
 use Rattle.amoebot_state.specs.Ports.{is_own}
-use Rattle.amoebot_state.specs.Pairs.{cell_of, value_of}
+use Rattle.amoebot_state.specs.Pairs.{cell_of, cell_value}
 use Rattle.amoebot_state.specs.Configs.{Config, IsValid, bot_at, bot_of, occupant, value}
 use Rattle.amoebot_state.specs.Patches.{IsOrdered, bot_eq, id_eq, rank, diff}
-use Rattle.amoebot_state.specs.Zones.{shown, gap}
+use Rattle.amoebot_state.specs.Zones.{shown, shown_alone}
 use Rattle.amoebot_state.proofs.Differences.{ordered_patch_is_diff}
 use Rattle.amoebot_state.proofs.Shows.{shown_valid}
 use Rattle.amoebot_state.proofs.Members.{Has, here, later, has_cases, not_in_none, Has-append_cases, Has-append_right, Has-filter_map, filter_map_has, All-from_Has, Contains-from_Has}
@@ -168,17 +168,17 @@ module _ (a : Extent) (maxes : List ℕ) (own : ℕ) (ms : List Member) (m : Mem
       let told = changed_told n p e in
       (n, listed, told.0, told.1)
 
-  given : (p : CellName × Cell) → Has p (spots ++ bodies) → value new (cell_of p) ≡ Some (value_of p)
+  given : (p : CellName × Cell) → Has p (spots ++ bodies) → value new (cell_of p) ≡ Some (cell_value p)
   given p has =
-      let P : CellName × Cell → Type 0 = λ q. value new (cell_of q) ≡ Some (value_of q) in
+      let P : CellName × Cell → Type 0 = λ q. value new (cell_of q) ≡ Some (cell_value q) in
       elim (Has-append_cases spots has) [
         | inl s ↦ let (v, t, e) = spot_told p (find (has_changed ms) (nodes_of m)) refl s in subst P (sym e) (ap (λ o. Some (cell.Spot o)) (sym (occupants v).1))
         | inr b ↦ let (n, listed, e, ne) = body_told p b in subst P (sym e) (ap (option_map cell.Body) (now n listed))
       ]
 
-  differs : (p : CellName × Cell) → Has p (spots ++ bodies) → value old (cell_of p) ≢ Some (value_of p)
+  differs : (p : CellName × Cell) → Has p (spots ++ bodies) → value old (cell_of p) ≢ Some (cell_value p)
   differs p has =
-      let P : CellName × Cell → Type 0 = λ q. value old (cell_of q) ≢ Some (value_of q) in
+      let P : CellName × Cell → Type 0 = λ q. value old (cell_of q) ≢ Some (cell_value q) in
       elim (Has-append_cases spots has) [
         | inl s ↦ let (v, t, e) = spot_told p (find (has_changed ms) (nodes_of m)) refl s in subst P (sym e) (λ h. let same : occupant old v ≡ id_on ms v = cc in spot_differs v t (sym (occupants v).1 ∙ sym same))
         | inr b ↦ let (n, listed, e, ne) = body_told p b in subst P (sym e) (λ h. let f = sym (ap (option_map cell.Body) (was n listed)) ∙ h in let same : n.found ≡ n.now = cc in ne same)
@@ -241,12 +241,12 @@ module _ (a : Extent) (maxes : List ℕ) (own : ℕ) (ms : List Member) (m : Mem
     rest = keeps.rest;
     size = keeps.size;
     ids = keeps.ids;
-    given = All-from_Has (λ (p : CellName × Cell). value new (cell_of p) ≡ Some (value_of p)) (spots ++ bodies) given;
+    given = All-from_Has (λ (p : CellName × Cell). value new (cell_of p) ≡ Some (cell_value p)) (spots ++ bodies) given;
     kept = kept;
-  }) ordered (All-from_Has (λ (p : CellName × Cell). value old (cell_of p) ≢ Some (value_of p)) (spots ++ bodies) differs)
+  }) ordered (All-from_Has (λ (p : CellName × Cell). value old (cell_of p) ≢ Some (cell_value p)) (spots ++ bodies) differs)
 
 -- what a site gives as its patch, where an activation reaches its configuration
-pub patches : (a : Extent) (maxes : List ℕ) (own : ℕ) (ms : List Member) (k : ℕ) (d : Member) → IsSite a maxes own ms → position (λ (n : Member). nat_eq n.id own) ms ≡ Some k → Reaches (gap (shown (config_found a maxes ms) own)) own (config_now a maxes ms) → changed_cells ms (get_or ms k d) ≡ diff (gap (shown (config_found a maxes ms) own)) (config_now a maxes ms)
+pub patches : (a : Extent) (maxes : List ℕ) (own : ℕ) (ms : List Member) (k : ℕ) (d : Member) → IsSite a maxes own ms → position (λ (n : Member). nat_eq n.id own) ms ≡ Some k → Reaches (shown_alone (shown (config_found a maxes ms) own)) own (config_now a maxes ms) → changed_cells ms (get_or ms k d) ≡ diff (shown_alone (shown (config_found a maxes ms) own)) (config_now a maxes ms)
 patches a maxes own ms k d is placed reaches =
     let old = config_found a maxes ms in
     let new = config_now a maxes ms in

@@ -13,13 +13,14 @@ use Rattle.amoebot_state.specs.declared.cell.CellName.{CellName}
 use Rattle.amoebot_state.specs.declared.cell.CellName.TheVariants as name
 use Rattle.amoebot_state.specs.declared.cell.Cell.{Cell}
 use Rattle.amoebot_state.specs.declared.cell.Cell.TheVariants as cell
-use Rattle.amoebot_state.specs.Pairs.{Pairs, cell_of, value_of}
+use Rattle.amoebot_state.specs.Pairs.{Pairs, cell_of, cell_value}
 use Rattle.amoebot_state.specs.Configs.{Config, IsValid, bot_at, bot_of, value}
-use Rattle.amoebot_state.specs.Zones.{zone, zone_nodes, shown, gap}
+use Rattle.amoebot_state.specs.Zones.{zone, zone_nodes, shown, shown_alone}
 use Rattle.amoebot_state.specs.Patches.{IsPatched, diff, changed, same_value}
 use Rattle.amoebot_state.proofs.Members.{Has, All-from_Has, Contains-from_Has, Has-from_Contains, filter_map-same}
 use Rattle.amoebot_state.proofs.Differences.{diff_leads}
-use Rattle.amoebot_state.proofs.Gaps.{gap_has, spot_node, spot_in_zone}
+use Rattle.amoebot_state.proofs.ShownAlone.{alone_has}
+use Rattle.amoebot_state.proofs.Zones.{spot_node, spot_in_zone}
 use Rattle.model_ops.specs.Reaches.{perform}
 use Rattle.model_ops.specs.Laws.{KeepsRest, ReachedDiffIsExact, ReachedLeadsAlso}
 use Rattle.model_ops.proofs.Alike.{ok_alike}
@@ -30,7 +31,7 @@ use Rattle.model_ops.proofs.AgreesAfter.{SameOn, writes_agree, move_same, same_o
 use Rattle.model_ops.proofs.ShownAlike.{Seen, IsShownBot, agrees_at_first, acts_alike, same_rest}
 
 -- the difference leads to what was reached, and lists what differs
-leads : (c d : Config) (i : ℕ) → IsValid c → KeepsRest c i d → IsPatched c (diff c d) d × All (λ (p : CellName × Cell). value c (cell_of p) ≢ Some (value_of p)) (diff c d)
+leads : (c d : Config) (i : ℕ) → IsValid c → KeepsRest c i d → IsPatched c (diff c d) d × All (λ (p : CellName × Cell). value c (cell_of p) ≢ Some (cell_value p)) (diff c d)
 leads c d i valid keeps = diff_leads c d valid keeps.valid keeps.rest keeps.size keeps.ids
 
 -- a pair of the difference
@@ -38,7 +39,7 @@ listed : (c d : Config) (i : ℕ) → IsValid c → KeepsRest c i d → (p : Cel
 listed c d i valid keeps p has same =
     let (patched, differs) = leads c d i valid keeps in
     let in' = Contains-from_Has (diff c d) has in
-    All-contains (λ (q : CellName × Cell). value c (cell_of q) ≢ Some (value_of q)) (diff c d) p differs in' (sym same ∙ All-contains (λ (q : CellName × Cell). value d (cell_of q) ≡ Some (value_of q)) (diff c d) p patched.given in')
+    All-contains (λ (q : CellName × Cell). value c (cell_of q) ≢ Some (cell_value q)) (diff c d) p differs in' (sym same ∙ All-contains (λ (q : CellName × Cell). value d (cell_of q) ≡ Some (cell_value q)) (diff c d) p patched.given in')
 
 pub reached_diff_is_exact : ReachedDiffIsExact
 reached_diff_is_exact c i d valid there (acts, e) =
@@ -97,10 +98,10 @@ none_if None e = refl
 none_if (Some x) e = absurd (false≢true (sym e))
 
 -- an amoebot that is not shown does not change
-unshown_stays : (c c' : Config) (i j : ℕ) → KeepsRest c i c' → bot_at (gap (shown c i)) j ≡ None → value c' (name.Body j) ≡ value c (name.Body j)
+unshown_stays : (c c' : Config) (i j : ℕ) → KeepsRest c i c' → bot_at (shown_alone (shown c i)) j ≡ None → value c' (name.Body j) ≡ value c (name.Body j)
 unshown_stays c c' i j keeps none = elim (has_or_not (name.Body j) (zone c i)) [
   | inl has ↦
-      let gone : bot_at c j ≡ None = sym (gap_has c i j has) ∙ none in
+      let gone : bot_at c j ≡ None = sym (alone_has c i j has) ∙ none in
       ap (option_map cell.Body) (none_if (bot_at c' j) (keeps.ids j ∙ ap is_some gone) ∙ sym gone)
   | inr out ↦ keeps.beyond (name.Body j) (λ has. out (Has-from_Contains (zone c i) has))
 ]
@@ -134,8 +135,8 @@ module _ (c c' d d' : Config) (i : ℕ) (valid : IsValid c) (valid_too : IsValid
         same_values (name.Spot v) (ap (λ o. Some (cell.Spot o)) (agree.spots v seen)) (ap (λ o. Some (cell.Spot o)) (after.spots v seen))
     | inr out ↦ both_stay (name.Spot v) (keeps.beyond (name.Spot v) (λ h. out (Has-from_Contains (zone c i) h))) (keeps_too.beyond (name.Spot v) (λ h. out (spot_too v (Has-from_Contains (zone d i) h))))
   ]
-  changed_alike (name.Body j) = elim (bot_at (gap (shown c i)) j) as (λ o. bot_at (gap (shown c i)) j ≡ o → changed d d' (name.Body j) ≡ changed c c' (name.Body j)) [
-    | None ↦ λ e. both_stay (name.Body j) (unshown_stays c c' i j keeps e) (unshown_stays d d' i j keeps_too (ap (λ s. bot_at (gap s) j) same ∙ e))
+  changed_alike (name.Body j) = elim (bot_at (shown_alone (shown c i)) j) as (λ o. bot_at (shown_alone (shown c i)) j ≡ o → changed d d' (name.Body j) ≡ changed c c' (name.Body j)) [
+    | None ↦ λ e. both_stay (name.Body j) (unshown_stays c c' i j keeps e) (unshown_stays d d' i j keeps_too (ap (λ s. bot_at (shown_alone s) j) same ∙ e))
     | Some b ↦ λ e. let shown : IsShownBot c i j = ap is_some e in same_values (name.Body j) (ap (option_map cell.Body) (agree.bots j shown)) (ap (option_map cell.Body) (after.bots j shown))
   ] refl
 

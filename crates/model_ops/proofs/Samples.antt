@@ -15,7 +15,7 @@ use Rattle.amoebot_state.specs.declared.verdict.Moved.TheVariants as moved
 use Rattle.amoebot_state.specs.Ports.{port}
 use Rattle.amoebot_state.specs.declared.bot.Port.{Port}
 use Rattle.amoebot_state.specs.Configs.{Config, config_of}
-use Rattle.amoebot_state.specs.Zones.{shown, gap}
+use Rattle.amoebot_state.specs.Zones.{shown, shown_alone}
 use Rattle.amoebot_state.specs.Moves as moves
 use Rattle.model_ops.specs.WorkingCopies.{changes}
 use Rattle.amoebot_state.specs.Patches.{diff}
@@ -168,7 +168,7 @@ far = world 0 (bot (at 7 7) (at 7 7) 0 ∷ bot (at 2 3) (at 2 3) 0 ∷ bot (at 3
 abbrev gap_pushed : Config
 gap_pushed = record far { bots = None ∷ Some (bot (at 3 3) (at 2 3) 0) ∷ Some (bot (at 4 3) (at 4 3) 0) ∷ [] }
 
-push_in_gap : push (gap (shown far 1)) 1 (port Head 0) ≡ Ok gap_pushed
+push_in_gap : push (shown_alone (shown far 1)) 1 (port Head 0) ≡ Ok gap_pushed
 push_in_gap = refl
 
 push_far : push far 1 (port Head 0) ≡ Ok (world 0 (bot (at 7 7) (at 7 7) 0 ∷ bot (at 3 3) (at 2 3) 0 ∷ bot (at 4 3) (at 4 3) 0 ∷ bot (at 0 7) (at 0 7) 0 ∷ []))

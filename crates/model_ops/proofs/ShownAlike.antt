@@ -7,10 +7,11 @@ use Rattle.tri_lattice.specs.declared.node.Node.{Node}
 use Rattle.tri_lattice.specs.Extent.{Extent, index_of, is_in}
 use Rattle.amoebot_state.specs.declared.bot.Bot.{Bot}
 use Rattle.amoebot_state.specs.Configs.{Config, IsValid, bot_at, bot_of, occupant}
-use Rattle.amoebot_state.specs.Zones.{Shown, zone_nodes, shown, gap}
+use Rattle.amoebot_state.specs.Zones.{Shown, zone_nodes, shown, shown_alone}
 use Rattle.amoebot_state.proofs.Members.{Has}
 use Rattle.amoebot_state.proofs.Directions.{beside_in_zone}
-use Rattle.amoebot_state.proofs.Gaps.{gap_own, gap_has, gap_only, gap_occupant, body_in_zone}
+use Rattle.amoebot_state.proofs.ShownAlone.{alone_own, alone_has, alone_only, alone_occupant}
+use Rattle.amoebot_state.proofs.Zones.{body_in_zone}
 use Rattle.amoebot_state.proofs.Occupants.{covered_in, occupant_covers, outside_empty}
 use Rattle.model_ops.specs.Reaches.{Writing, Acts, write_all, move, perform}
 use Rattle.model_ops.specs.Operations.{write}
@@ -27,18 +28,18 @@ Seen c i v = is_in c.area v ≡ true → Has v (zone_nodes c.area (bot_of c i))
 
 -- the amoebot with this id is shown
 abbrev pub IsShownBot : Config → ℕ → ℕ → Type 0
-IsShownBot c i j = IsSome (bot_at (gap (shown c i)) j)
+IsShownBot c i j = IsSome (bot_at (shown_alone (shown c i)) j)
 
 module _ (c d : Config) (i : ℕ) (valid : IsValid c) (valid_too : IsValid d) (has : IsSome (bot_at c i)) (same : shown d i ≡ shown c i) where
   at : bot_at c i ≡ Some (bot_of c i)
   at = own_there c i has
 
   -- d has what is shown
-  pub shown_too : (j : ℕ) (b : Bot) → bot_at (gap (shown c i)) j ≡ Some b → bot_at d j ≡ Some b
-  shown_too j b e = (gap_only d i j b (ap (λ s. bot_at (gap s) j) same ∙ e)).0
+  pub shown_too : (j : ℕ) (b : Bot) → bot_at (shown_alone (shown c i)) j ≡ Some b → bot_at d j ≡ Some b
+  shown_too j b e = (alone_only d i j b (ap (λ s. bot_at (shown_alone s) j) same ∙ e)).0
 
   own_too : bot_at d i ≡ Some (bot_of c i)
-  own_too = shown_too i (bot_of c i) (gap_own c i (bot_of c i) at)
+  own_too = shown_too i (bot_of c i) (alone_own c i (bot_of c i) at)
 
   same_area : d.area ≡ c.area
   same_area = ap (λ (s : Shown). s.area) same
@@ -54,15 +55,15 @@ module _ (c d : Config) (i : ℕ) (valid : IsValid c) (valid_too : IsValid d) (h
   same_spots v seen = elim (cases_Bool (is_in c.area v)) [
     | inl t ↦
         let listed = seen t in
-        let of_d = gap_occupant d i (bot_of c i) v valid_too own_too (subst (λ (a : Extent). Has v (zone_nodes a (bot_of c i))) (sym same_area) listed) in
-        sym of_d ∙ ap (λ s. occupant (gap s) v) same ∙ gap_occupant c i (bot_of c i) v valid at listed
+        let of_d = alone_occupant d i (bot_of c i) v valid_too own_too (subst (λ (a : Extent). Has v (zone_nodes a (bot_of c i))) (sym same_area) listed) in
+        sym of_d ∙ ap (λ s. occupant (shown_alone s) v) same ∙ alone_occupant c i (bot_of c i) v valid at listed
     | inr f ↦
         let out : index_of c.area v ≡ None = none_if (index_of c.area v) f in
         sym (outside_empty d valid_too v (ap (λ a. index_of a v) same_area ∙ out)) ∙ outside_empty c valid v out
   ]
 
   same_bots : (j : ℕ) → IsShownBot c i j → bot_at d j ≡ bot_at c j
-  same_bots j t = let (b, e) = there_is (bot_at (gap (shown c i)) j) t in shown_too j b e ∙ sym (gap_only c i j b e).0
+  same_bots j t = let (b, e) = there_is (bot_at (shown_alone (shown c i)) j) t in shown_too j b e ∙ sym (alone_only c i j b e).0
 
   pub agrees_at_first : Agrees (Seen c i) (IsShownBot c i) i c d
   agrees_at_first = record {
@@ -73,11 +74,11 @@ module _ (c d : Config) (i : ℕ) (valid : IsValid c) (valid_too : IsValid d) (h
     rest = same_rest;
     spots = same_spots;
     bots = same_bots;
-    own = ap is_some (gap_own c i (bot_of c i) at);
+    own = ap is_some (alone_own c i (bot_of c i) at);
     near = λ v beside inside. beside_in_zone c.area (bot_of c i) v (valid.each i (bot_of c i) at).rot beside inside;
     held = λ v n seen by.
         let listed = seen (covered_in c valid n v (occupant_covers c v n by)) in
-        ap is_some (gap_has c i n (body_in_zone c i (bot_of c i) v n at listed by) ∙ (occupant_told c v n by).0);
+        ap is_some (alone_has c i n (body_in_zone c i (bot_of c i) v n at listed by) ∙ (occupant_told c v n by).0);
   }
 
 writes_alike : (V : Node → Type 0) (B : ℕ → Type 0) (i : ℕ) (c d : Config) → Agrees V B i c d → (ws : List Writing) → result_err (write_all d i ws) ≡ result_err (write_all c i ws)

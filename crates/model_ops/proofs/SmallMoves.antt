@@ -94,7 +94,7 @@ module _ (c : Config) (i : ℕ) (v : Node) (may : MayShrink c i v) where
       record {
         valid = may.valid;
         there = may.there;
-        fits = record { head = inside; tail = inside; joined = or_left _ _ (node_eq_same o); rot = fits.rot; values = fits.values; eight = fits.eight };
+        fits = record { head = inside; tail = inside; close = or_left _ _ (node_eq_same o); rot = fits.rot; values = fits.values; eight = fits.eight };
         free = λ u own. inl (ap (is_own b) (sym (in_other b o u own)) ∙ other_own b v which);
       }
 
@@ -133,7 +133,7 @@ module _ (c : Config) (i : ℕ) (v : Node) (may : MayGrow c i v) where
       record {
         valid = may.valid;
         there = may.there;
-        fits = record { head = may.inside; tail = fits.tail; joined = or_right _ _ (Adjacent-is_adjacent v b.tail (Adjacent-sym b.tail v (subst (λ u. Adjacent u v) one_node may.next))); rot = fits.rot; values = fits.values; eight = fits.eight };
+        fits = record { head = may.inside; tail = fits.tail; close = or_right _ _ (Adjacent-is_adjacent v b.tail (Adjacent-sym b.tail v (subst (λ u. Adjacent u v) one_node may.next))); rot = fits.rot; values = fits.values; eight = fits.eight };
         free = λ u own. elim (own_cases (with_head b v) u own) [
           | inl h ↦ inr (ap (occupant c) (sym h) ∙ may.empty)
           | inr h ↦ inl (own_tail b u h)

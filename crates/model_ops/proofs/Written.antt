@@ -14,8 +14,8 @@ use Rattle.amoebot_state.specs.declared.cell.CellName.TheVariants as name
 use Rattle.amoebot_state.specs.Ports.{is_port, behind}
 use Rattle.amoebot_state.specs.Configs.{Config, IsValid, bot_at, bot_of, blank, occupant, set_bot, has_values}
 use Rattle.amoebot_state.specs.Zones.{zone, zone_nodes, distinct}
-use Rattle.amoebot_state.proofs.Expands.{port_leads_beside}
-use Rattle.amoebot_state.proofs.Gaps.{own_in_zone, zone_is}
+use Rattle.amoebot_state.proofs.Directions.{port_leads_beside}
+use Rattle.amoebot_state.proofs.Zones.{own_in_zone, zone_is}
 use Rattle.amoebot_state.proofs.Members.{Has}
 use Rattle.model_ops.specs.Operations.{owner, write, with_value, is_value}
 use Rattle.model_ops.specs.Reaches.{Writing, write_all}
@@ -96,7 +96,7 @@ may_write c n x s valid at ok =
     record {
       valid = valid;
       there = at;
-      fits = record { head = fits.head; tail = fits.tail; joined = fits.joined; rot = fits.rot; values = value_fits c.maxes b.mem x (unsigned_abs s) fits.eight (number_fits c.maxes x s ok) fits.values; eight = length-set b.mem x (unsigned_abs s) ∙ fits.eight };
+      fits = record { head = fits.head; tail = fits.tail; close = fits.close; rot = fits.rot; values = value_fits c.maxes b.mem x (unsigned_abs s) fits.eight (number_fits c.maxes x s ok) fits.values; eight = length-set b.mem x (unsigned_abs s) ∙ fits.eight };
       free = λ v own. inl own;
     }
 

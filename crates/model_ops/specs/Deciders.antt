@@ -7,15 +7,15 @@ use Rattle.amoebot_state.specs.declared.verdict.Verdict.TheVariants as verdict
 use Rattle.amoebot_state.specs.Configs.{Config}
 use Rattle.amoebot_state.specs.Pairs.{Pairs}
 use Rattle.amoebot_state.specs.Patches.{diff}
-use Rattle.amoebot_state.specs.Zones.{Shown, IsShown, gap}
+use Rattle.amoebot_state.specs.Zones.{Shown, IsShown, shown_alone}
 use Rattle.model_ops.specs.Reaches.{Acts, perform}
 
 -- acts that lead somewhere from the configuration that has what is shown and no other amoebot; the patch is their difference
 pub record ActsFor (s : Shown) (patch : Pairs) : Type 0 where
   pub acts : Acts
   pub reached : Config
-  pub performed : perform (gap s) s.bot acts ≡ Ok reached
-  pub is : patch ≡ diff (gap s) reached
+  pub performed : perform (shown_alone s) s.bot acts ≡ Ok reached
+  pub is : patch ≡ diff (shown_alone s) reached
 
 -- each change that f decides is made by acts
 abbrev pub DecidesByActs : (Shown → Verdict) → Type 0

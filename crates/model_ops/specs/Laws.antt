@@ -18,10 +18,10 @@ use Rattle.amoebot_state.specs.declared.verdict.Entry.{Entry}
 use Rattle.amoebot_state.specs.declared.verdict.Verdict.{Verdict}
 use Rattle.amoebot_state.specs.Configs.{Config, IsValid, bot_at, bot_of, occupant, value}
 use Rattle.amoebot_state.specs.Occupied.{occupied}
-use Rattle.amoebot_state.specs.Pairs.{cell_of, value_of}
+use Rattle.amoebot_state.specs.Pairs.{cell_of, cell_value}
 use Rattle.amoebot_state.specs.Patches.{IsPatched, IsOrdered, diff}
 use Rattle.amoebot_state.specs.Ports.{behind, end_node, global}
-use Rattle.amoebot_state.specs.Zones.{Shown, IsShown, zone, shown, gap}
+use Rattle.amoebot_state.specs.Zones.{Shown, IsShown, zone, shown, shown_alone}
 use Rattle.amoebot_state.specs.Steps.{Step, TouchesZone, HasNext, IsExact}
 use Rattle.model_ops.specs.Guard.{is_one_arc}
 use Rattle.model_ops.specs.declared.peer.Peer.{Peer}
@@ -114,7 +114,7 @@ ShownMeetsTheSame = (c d : Config) (i : ℕ) → IsValid c → IsValid d → IsS
 -- of i
 pub record DiffIsExact (c : Config) (i : ℕ) (d : Config) : Type 0 where
   pub ordered : IsOrdered (diff c d)
-  pub differs : All (λ (p : CellName × Cell). value c (cell_of p) ≢ Some (value_of p)) (diff c d)
+  pub differs : All (λ (p : CellName × Cell). value c (cell_of p) ≢ Some (cell_value p)) (diff c d)
   pub listed : All (λ (p : CellName × Cell). Contains (zone c i) (cell_of p)) (diff c d)
 
 -- so it is with what an activation reaches from a valid configuration
@@ -143,7 +143,7 @@ pub record CopiesWork : Type 0 where
 -- copy's changes lead there, and are the difference there; as long as the copy is unmoved, the operations answer alike on both
 pub record StandsFor (w : WorkingCopy) (d : Config) : Type 0 where
   pub reached : Config
-  pub same_acts : (acts : Acts) → perform (gap w.found) (own_id w) acts ≡ Ok w.reached → perform d (own_id w) acts ≡ Ok reached
+  pub same_acts : (acts : Acts) → perform (shown_alone w.found) (own_id w) acts ≡ Ok w.reached → perform d (own_id w) acts ≡ Ok reached
   pub patched : IsPatched d (changes w) reached
   pub same_changes : diff d reached ≡ changes w
   pub alike : IsUnmoved w → AnswersAlike (own_id w) w.reached reached

@@ -16,7 +16,7 @@ use Rattle.amoebot_state.specs.Ports.{is_own, is_port, all_ports, behind}
 use Rattle.amoebot_state.specs.Configs.{Config, bot_at, bot_of, occupant}
 use Rattle.amoebot_state.specs.Patches.{id_eq, bot_eq}
 use Rattle.amoebot_state.specs.Refusals.{IsPlain}
-use Rattle.amoebot_state.specs.Zones.{Shown, IsShown, spread, shown, gap}
+use Rattle.amoebot_state.specs.Zones.{Shown, IsShown, spread, shown, shown_alone}
 use Rattle.model_ops.specs.declared.member.Member.{Member}
 use Rattle.model_ops.specs.WorkingCopies.{WorkingCopy}
 
@@ -62,7 +62,7 @@ pub record IsSite (a : Extent) (maxes : List ℕ) (own : ℕ) (ms : List Member)
   pub there : IsSome (bot_at (config_now a maxes ms) own)
   pub few : length ms ≤ 9
   pub was_shown : IsShown (shown (config_found a maxes ms) own)
-  pub whole : gap (shown (config_found a maxes ms) own) ≡ config_found a maxes ms
+  pub whole : shown_alone (shown (config_found a maxes ms) own) ≡ config_found a maxes ms
 
 -- an amoebot as it was found, which has not changed yet
 abbrev pub unchanged : ℕ → Bot → Member
@@ -89,7 +89,7 @@ with_neighbour c b ms p = if is_port b p then with_occupant c ms (occupant c (be
 -- the members of what is shown: the amoebot, and the neighbours behind its ports
 unfoldable pub gathered : Shown → List Member
 gathered s =
-    let c = gap s in
+    let c = shown_alone s in
     let b = bot_of c s.bot in
     fold (with_neighbour c b) (unchanged s.bot b ∷ []) all_ports
 

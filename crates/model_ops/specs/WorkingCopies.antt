@@ -6,7 +6,7 @@ use Rattle.amoebot_state.specs.declared.verdict.Failure.{Failure}
 use Rattle.amoebot_state.specs.Pairs.{Pairs}
 use Rattle.amoebot_state.specs.Configs.{Config, bot_of}
 use Rattle.amoebot_state.specs.declared.bot.Bot.{Bot}
-use Rattle.amoebot_state.specs.Zones.{Shown, IsShown, gap}
+use Rattle.amoebot_state.specs.Zones.{Shown, IsShown, shown_alone}
 use Rattle.amoebot_state.specs.Patches.{diff}
 use Rattle.model_ops.specs.Reaches.{Reaches, ReachesUnmoved}
 
@@ -17,7 +17,7 @@ pub record WorkingCopy : Type 0 where
 
 -- the copy at first: the configuration that has what was found and no other amoebot
 abbrev pub opened : Shown → WorkingCopy
-opened s = record { found = s; reached = gap s }
+opened s = record { found = s; reached = shown_alone s }
 
 -- the id that works on it
 abbrev pub own_id : WorkingCopy → ℕ
@@ -30,15 +30,15 @@ own_bot w = bot_of w.reached (own_id w)
 -- some valid configuration shows what was found, and an activation reaches the one reached so far
 pub record IsWorking (w : WorkingCopy) : Type 0 where
   pub shown : IsShown w.found
-  pub reached : Reaches (gap w.found) w.found.bot w.reached
+  pub reached : Reaches (shown_alone w.found) w.found.bot w.reached
 
 -- no movement has succeeded: writes alone reach it
 abbrev pub IsUnmoved : WorkingCopy → Type 0
-IsUnmoved w = ReachesUnmoved (gap w.found) w.found.bot w.reached
+IsUnmoved w = ReachesUnmoved (shown_alone w.found) w.found.bot w.reached
 
 -- the cells that differ from what was found, with their values now
 abbrev pub changes : WorkingCopy → Pairs
-changes w = diff (gap w.found) w.reached
+changes w = diff (shown_alone w.found) w.reached
 
 -- the copy after an operation on it: where that succeeds, its configuration is reached; a failure leaves the copy as it is
 abbrev pub after : WorkingCopy → Result Config Failure → WorkingCopy

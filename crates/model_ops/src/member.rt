@@ -1,7 +1,7 @@
 ghost use Rattle.std.specs.Prelude.{◌≡◌, ◌<◌, ◌≤◌, ◌+◌, IsTrue, nat_eq, nat_lt};
 ghost use Rattle.std.specs.List.{position};
 ghost use Rattle.amoebot_state.specs.Configs.{bot_of};
-ghost use Rattle.amoebot_state.specs.Zones.{IsShown, gap};
+ghost use Rattle.amoebot_state.specs.Zones.{IsShown, shown_alone};
 ghost use Rattle.arrayvec.specs.ArrayVec.{array_vec_len};
 ghost use Rattle.model_ops.specs.Members.{gathered, has_id, id_found_on, id_on, unchanged, with_member, with_neighbour};
 
@@ -74,7 +74,7 @@ fn add(members: &mut ArrayVec<Member, 13>, id: u16, bot: &Bot)
 /// Adds the occupant behind a port, if it has one that is new.
 fn add_neighbour(members: &mut ArrayVec<Member, 13>, found: &Found, port: Port)
     requires { array_vec_len members.old < 13 }
-    ensures value { members.new.items ≡ with_neighbour (gap found.now) (bot_of (gap found.now) found.now.bot) members.old.items port }
+    ensures value { members.new.items ≡ with_neighbour (shown_alone found.now) (bot_of (shown_alone found.now) found.now.bot) members.old.items port }
     ensures few { array_vec_len members.new ≤ array_vec_len members.old + 1 }
 {
     let own = found.own();

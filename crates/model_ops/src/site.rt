@@ -8,7 +8,7 @@ ghost use Rattle.ring_guard.specs.Rings.{ring_in};
 ghost use Rattle.amoebot_state.specs.Occupied.{occupied};
 ghost use Rattle.model_ops.specs.Operations.{need, connected, is_free, is_free_node, owner, read, write, is_value, peer, seen_over, expand, contract, push, pull, may_leave, grow, shrink};
 ghost use Rattle.model_ops.specs.Reaches.{Reaches};
-ghost use Rattle.amoebot_state.specs.Zones.{gap};
+ghost use Rattle.amoebot_state.specs.Zones.{shown_alone};
 ghost use Rattle.model_ops.specs.WorkingCopies.{opened, own_id, own_bot, after, changes};
 ghost use Rattle.model_ops.specs.Sites.{done};
 
@@ -181,7 +181,7 @@ impl Site {
     /// The cells that differ from what was found, with their values now: at most one node, which stands first, and the bodies in
     /// rising id. What the copy has reached is reached by writes and then at most one movement.
     pub fn patch(&self) -> Patch
-        requires { Reaches (gap self.now.found) (own_id self.now) self.now.reached }
+        requires { Reaches (shown_alone self.now.found) (own_id self.now) self.now.reached }
         ensures { result ≡ changes self.now }
     {
         let place = place_of(self.members.as_slice(), self.own);

@@ -1,6 +1,6 @@
 use Rattle.std.proofs.Common.{◌∙◌, ap, sym, subst, get_or, List, nat_eq}
 use Rattle.std.specs.List.{position}
-use Rattle.amoebot_state.specs.Zones.{gap}
+use Rattle.amoebot_state.specs.Zones.{shown_alone}
 use Rattle.model_ops.specs.declared.member.Member.{Member}
 use Rattle.model_ops.specs.Members.{has_id, changed_cells}
 use Rattle.model_ops.specs.Reaches.{Reaches}
@@ -22,7 +22,7 @@ returns c =
     let ms = s.members.items in
     let k = c.place_of-place.result in
     let placed = ap (λ (xs : List Member). position (λ m. nat_eq m.id s.own) xs) (sym c.as_slice.ensures.value) ∙ c.place_of-place.ensures in
-    let reaches = subst (λ (w : WorkingCopy). Reaches (gap w.found) (own_id w) w.reached) (sym c.self.view_is) c.requires in
+    let reaches = subst (λ (w : WorkingCopy). Reaches (shown_alone w.found) (own_id w) w.reached) (sym c.self.view_is) c.requires in
     c.changed_cells.ensures
     ∙ ap (λ (xs : List Member). changed_cells xs (get_or {A = Member} c.deref.result.now k _)) c.as_slice-2.ensures.value
     ∙ ap (λ (xs : List Member). changed_cells ms (get_or {A = Member} xs k _)) c.deref.ensures.0
