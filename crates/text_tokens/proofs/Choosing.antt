@@ -1,16 +1,16 @@
 -- Choices by the next token.
-use Rattle.std.proofs.Common.{◌≡◌, ℕ, zero, suc, Bool, true, false, cond, List, [], ◌∷◌, ◌++◌, Option, Some, None, Ok, Err, refl, sym, ap, subst, ◌∙◌}
+use Rattle.std.proofs.Common.{◌≡◌, ℕ, zero, suc, Bool, true, false, cond, List, [], ◌∷◌, ◌++◌, Option, Some, None, Err, refl, sym, ap, subst, ◌∙◌}
 use Rattle.text_tokens.specs.declared.refusal.Refusal.{Refusal}
 use Rattle.text_tokens.specs.declared.refusal.RefusalKind.{RefusalKind}
 use Rattle.text_tokens.specs.Text.{Lexeme}
 use Rattle.text_tokens.specs.Reading.{Answer, Reader, first, pure, refuse, stop, choose, starts_at, either, optional, role_at, by_role, past_kind, full_at, counted}
-use Rattle.text_tokens.specs.Grammar.{Symbol, symbol, refusal_of, tokens, first_fault, or_else, outcome, Lang, IsNothing, Either, of_first, of_second, IsOptional, past, Counted, counted_in, one_too_many}
-use Rattle.text_tokens.specs.Lawful.{Next, GoesOn, Stops, IsWhole, limit, stuck, Tells, LawfulOn, Lawful, LawfulAt, Halts, always, IsPart, SomeText, SomeFrom, BeginsWith, Starts, limit_at, BeginsNone, IsBranch, IsForeign, IsStopped, IsChoice, InRole, IsHandled, handled, no_role, HasRoles}
+use Rattle.text_tokens.specs.Grammar.{Symbol, symbol, tokens, first_fault, or_else, outcome, Lang, IsNothing, Either, of_first, of_second, IsOptional, past, Counted, counted_in, one_too_many}
+use Rattle.text_tokens.specs.Lawful.{Next, GoesOn, Stops, limit, stuck, Tells, Lawful, LawfulAt, Halts, always, IsPart, SomeText, SomeFrom, Starts, limit_at, BeginsNone, IsBranch, IsForeign, IsStopped, IsChoice, IsHandled, handled, no_role, HasRoles}
 use Rattle.text_tokens.proofs.Symbols.{tokens-append}
-use Rattle.text_tokens.proofs.Exactness.{some_is, tokens-mark, tokens-place, stops_same}
+use Rattle.text_tokens.proofs.Exactness.{some_is}
 use Rattle.text_tokens.proofs.Carrying.{law_carried, law_of_some, unmapped, next_as, whole_as, part_same}
-use Rattle.text_tokens.proofs.Parts.{nil_not, some_text, part_less, part_nothing}
-use Rattle.text_tokens.proofs.Beginnings.{head_or, first_head, first_at, front_token, begins_tokens, starts_in, starts_some, starts_on, starts_place, past_first, starts_counted, starts_in_nothing}
+use Rattle.text_tokens.proofs.Parts.{some_text, part_less, part_nothing}
+use Rattle.text_tokens.proofs.Beginnings.{head_or, first_head, first_at, front_token, begins_tokens, starts_in, starts_some, starts_on, starts_place, starts_counted, starts_in_nothing}
 
 pub law_choose : {A : Type 0} (R : Lang A) (by : Option Lexeme → Reader A) → ((next : Option Lexeme) → LawfulAt R next (by next)) → Lawful R (choose by)
 law_choose R by laws = record {

@@ -1,13 +1,13 @@
 -- Grammars that contain themselves, and whole inputs.
-use Rattle.std.proofs.Common.{◌≡◌, ℕ, zero, suc, Bool, List, [], ◌∷◌, Option, Some, None, Result, Ok, Err, refl, sym, ap, subst, ◌∙◌}
+use Rattle.std.proofs.Common.{◌≡◌, ℕ, zero, suc, Bool, List, [], ◌∷◌, Result, Ok, Err, refl, sym, ap, subst, ◌∙◌}
 use Rattle.text_tokens.specs.declared.refusal.Refusal.{Refusal}
 use Rattle.text_tokens.specs.declared.refusal.RefusalKind.{RefusalKind}
 use Rattle.text_tokens.specs.declared.refusal.RefusalKind.TheVariants.{BadByte, WordTooLong, Unexpected, TooDeep, TooMany, Truncated, UnknownName, TwiceNamed, WrongType, BadRange, BadId, OutOfBox, Overlap, NotAdjacent, BadValue, Trailing, WrongSection, BadEntry, BadPlace, TooLong, NotYet}
 use Rattle.text_tokens.specs.Text.{Lexeme}
 use Rattle.text_tokens.specs.Cursor.{end_by, at_end}
-use Rattle.text_tokens.specs.Reading.{Answer, Reader, refuse, deep_at, less, by_levels, and_end, end_of_input, whole_input}
+use Rattle.text_tokens.specs.Reading.{Answer, Reader, refuse, by_levels, and_end, end_of_input, whole_input}
 use Rattle.text_tokens.specs.Grammar.{Lang}
-use Rattle.text_tokens.specs.Lawful.{IsText, Tells, Exact, Lawful, IsPart}
+use Rattle.text_tokens.specs.Lawful.{IsText, Tells, Exact, IsPart}
 use Rattle.text_tokens.specs.Inputs.{IsRefused, within, trailing, no_token, TellsInput, IsDecidedInput, ExactInput}
 use Rattle.text_tokens.specs.Combinators.{IsLevel}
 

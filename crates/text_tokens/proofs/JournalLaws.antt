@@ -1,16 +1,16 @@
 -- The laws of the small journal.
-use Rattle.std.proofs.Common.{◌≡◌, ℕ, Bool, true, false, List, [], ◌∷◌, Option, Some, None, refl, ap}
+use Rattle.std.proofs.Common.{◌≡◌, ℕ, Bool, true, false, refl, ap}
 use Rattle.std.specs.Prelude.{codes, not}
 use Rattle.text_tokens.specs.declared.token.TokenKind.TheVariants.{Word}
 use Rattle.text_tokens.specs.declared.refusal.RefusalKind.TheVariants.{BadRange}
 use Rattle.text_tokens.specs.Text.{Lexeme}
-use Rattle.text_tokens.specs.Reading.{Reader, ◌>>=◌, pure, no_limit, the_line, above, numeral, less, counted}
-use Rattle.text_tokens.specs.Grammar.{Lang, Then, Made, IsThe, IsNumeral, Counted, Repeated, AtMost, no_more}
+use Rattle.text_tokens.specs.Reading.{◌>>=◌, pure, no_limit, the_line, above, numeral, less}
+use Rattle.text_tokens.specs.Grammar.{Lang, Then, Made, IsThe, IsNumeral, Counted, Repeated, AtMost}
 use Rattle.text_tokens.specs.Lawful.{Exact, IsPart, always, Starts, AreElements}
 use Rattle.text_tokens.specs.Journal.{is_entry, is_pair, is_end, Noted, miscounted, IsPair, IsNoted, IsEntry, as_before, IsJournal, a_pair, pair_in, all_pairs, noted, an_entry, entry_in, all_entries, journal}
 use Rattle.text_tokens.proofs.Exactness.{exact}
 use Rattle.text_tokens.proofs.Carrying.{part_made}
-use Rattle.text_tokens.proofs.Parts.{some_text, part_less, part_behind, part_closed, part_judged}
+use Rattle.text_tokens.proofs.Parts.{some_text, part_behind, part_closed, part_judged}
 use Rattle.text_tokens.proofs.Beginnings.{starts_then, starts_judged}
 use Rattle.text_tokens.proofs.Repeating.{at_most_elements, part_repeated}
 use Rattle.text_tokens.proofs.Distinguishing.{sample, passes, other_text, a_token, a_numeral, starts_the}

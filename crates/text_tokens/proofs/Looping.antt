@@ -1,5 +1,5 @@
 -- A loop over elements: what was found, and what is still read.
-use Rattle.std.proofs.Common.{◌≡◌, ◌<◌, ◌-◌, arith, ℕ, zero, suc, Bool, true, false, cond, List, [], ◌∷◌, ◌++◌, length, Option, Some, None, Result, Ok, Err, refl, sym, ap, ◌∙◌, append_assoc}
+use Rattle.std.proofs.Common.{◌≡◌, ◌<◌, ◌-◌, arith, ℕ, zero, suc, Bool, true, false, cond, List, [], ◌∷◌, ◌++◌, length, Option, Some, None, Ok, Err, refl, sym, ap, ◌∙◌, append_assoc}
 use Rattle.std.proofs.lemmas.List.{append-nil}
 use Rattle.text_tokens.specs.declared.refusal.Refusal.{Refusal}
 use Rattle.text_tokens.specs.declared.refusal.ReadRefusal.{ReadRefusal}
@@ -9,7 +9,7 @@ use Rattle.text_tokens.specs.Cursor.{Cursor}
 use Rattle.text_tokens.specs.Reading.{Answer, Reader, first, and_then, ◌>>=◌, pure, starts_at, either, repeated, less}
 use Rattle.text_tokens.specs.Grammar.{Lang}
 use Rattle.text_tokens.specs.Lawful.{AreElements}
-use Rattle.text_tokens.specs.Steps.{Fails, Stays, another}
+use Rattle.text_tokens.specs.Steps.{Stays, another}
 use Rattle.text_tokens.proofs.Stepping.{Reached, Failed, stays, stays_on}
 use Rattle.text_tokens.proofs.Repeating.{steps_repeated, fewer}
 

@@ -1,22 +1,22 @@
 -- The laws of the small format.
-use Rattle.std.proofs.Common.{◌≡◌, ℕ, zero, suc, Bool, true, false, cond, List, [], ◌∷◌, ◌++◌, Option, Some, None, refl, sym, ap, subst, ◌∙◌}
+use Rattle.std.proofs.Common.{◌≡◌, ℕ, zero, suc, Bool, true, false, cond, List, ◌∷◌, Option, Some, None, refl, sym, ap, ◌∙◌}
 use Rattle.std.specs.Prelude.{codes, ◌||◌}
 use Rattle.text_tokens.specs.declared.token.TokenKind.TheVariants.{Word, Sign}
 use Rattle.text_tokens.specs.declared.refusal.RefusalKind.{RefusalKind}
 use Rattle.text_tokens.specs.Text.{Lexeme}
-use Rattle.text_tokens.specs.Reading.{Reader, first, ◌>>=◌, pure, no_limit, opening, deep_at, the_line, is_number, numeral, closed, judged, either, repeated, less, by_levels}
-use Rattle.text_tokens.specs.Grammar.{Symbol, symbol, tokens, Lang, IsOne, is_one, Then, then, Made, made, IsThe, IsNumeral, Closed, Judged, Either, Counted, Repeated, Joined}
-use Rattle.text_tokens.specs.Lawful.{Exact, Lawful, IsPart, always, BeginsWith, SomeFrom, Starts, AreElements, AreJoined, limit_at}
+use Rattle.text_tokens.specs.Reading.{Reader, first, ◌>>=◌, pure, no_limit, deep_at, the_line, is_number, numeral, closed, judged, less}
+use Rattle.text_tokens.specs.Grammar.{Symbol, symbol, tokens, Lang, IsOne, Then, Made, IsThe, IsNumeral, Closed, Judged, Either, Counted}
+use Rattle.text_tokens.specs.Lawful.{Exact, IsPart, always, BeginsWith, SomeFrom, Starts, AreElements, AreJoined, limit_at}
 use Rattle.text_tokens.specs.Combinators.{IsLevel}
-use Rattle.text_tokens.specs.Nested.{Tree, Trees, number, list, more, Couple, Whole, is_nested, is_open, is_close, is_semicolon, is_pair, is_end, IsElement, leaf, nest, IsList, IsElements, Placed, too_much, IsPlaced, backwards, IsPair, Tally, tallied, full_tally, IsPairs, IsNested, begins_element, element_limit, trees, element_in, further, all_elements, a_list, element_with, element_level, element_at, inside, placed, a_pair, pair_in, all_pairs, nested}
-use Rattle.text_tokens.proofs.Exactness.{exact, some_is}
+use Rattle.text_tokens.specs.Nested.{Tree, number, list, Couple, Whole, is_nested, is_open, is_close, is_semicolon, is_pair, is_end, IsElement, leaf, nest, IsList, IsElements, Placed, too_much, IsPlaced, backwards, IsPair, Tally, tallied, full_tally, IsPairs, IsNested, begins_element, element_limit, trees, element_in, further, all_elements, a_list, element_with, element_level, element_at, inside, placed, a_pair, pair_in, all_pairs, nested}
+use Rattle.text_tokens.proofs.Exactness.{exact}
 use Rattle.text_tokens.proofs.Carrying.{part_same, part_made}
-use Rattle.text_tokens.proofs.Parts.{some_text, part_less, part_one, part_then, part_behind, part_after, part_closed, part_judged}
+use Rattle.text_tokens.proofs.Parts.{some_text, part_behind, part_after, part_closed, part_judged}
 use Rattle.text_tokens.proofs.Beginnings.{starts_in, starts_some, starts_one, starts_made, starts_then, starts_judged, starts_counted, starts_as}
 use Rattle.text_tokens.proofs.Choosing.{part_either, part_counted}
 use Rattle.text_tokens.proofs.Repeating.{part_repeated, behind_elements, part_joined}
 use Rattle.text_tokens.proofs.Enclosing.{part_levels}
-use Rattle.text_tokens.proofs.Distinguishing.{sample, passes, passes_number, sign_no_number, other_text, a_token, a_numeral, starts_the, starts_numeral}
+use Rattle.text_tokens.proofs.Distinguishing.{sample, passes, sign_no_number, other_text, a_token, a_numeral, starts_the, starts_numeral}
 use Rattle.text_tokens.proofs.NestedTwins.{ElementIn, Behind, JoinedElements, from_joined, to_joined, Inner, Parens, from_parens, to_parens, Leaf, Nest, from_either, to_either, some_inner}
 
 -- ---- with what elements begin

@@ -1,14 +1,13 @@
 -- The grammar of the small format, written by the combinators.
-use Rattle.std.proofs.Common.{◌≡◌, ℕ, zero, suc, Bool, true, false, cond, List, [], ◌∷◌, ◌++◌, Option, Some, None, refl, sym, ap, subst, ◌∙◌}
-use Rattle.std.specs.Prelude.{codes, ◌||◌}
+use Rattle.std.proofs.Common.{◌≡◌, ℕ, zero, suc, List, [], ◌∷◌, ◌++◌, refl, sym, ap, subst}
+use Rattle.std.specs.Prelude.{codes}
 use Rattle.text_tokens.specs.declared.token.TokenKind.TheVariants.{Number, Sign}
-use Rattle.text_tokens.specs.declared.refusal.RefusalKind.{RefusalKind}
 use Rattle.text_tokens.specs.Text.{Lexeme}
-use Rattle.text_tokens.specs.Reading.{no_limit, deep_at, less, is_number, value}
-use Rattle.text_tokens.specs.Grammar.{Symbol, symbol, Lang, IsOne, is_one, Then, then, Made, made, IsThe, IsNumeral, Closed, Either, of_first, of_second, Counted, counted_in, one_too_many, Repeated, no_more as no_more_in, one_more as one_more_in, BehindSign, Joined}
-use Rattle.text_tokens.specs.Lawful.{SomeText, BeginsWith, SomeFrom, Starts}
-use Rattle.text_tokens.specs.Nested.{Tree, Trees, number, list, none, more, is_open, is_close, is_semicolon, limited, IsElement, leaf, nest, IsList, parens, IsElements, elements, IsMore, no_more, one_more, begins_element, element_limit, trees}
-use Rattle.text_tokens.proofs.Distinguishing.{sample, passes, passes_number, sign_no_number, starts_numeral}
+use Rattle.text_tokens.specs.Reading.{no_limit, deep_at, less}
+use Rattle.text_tokens.specs.Grammar.{Symbol, Lang, IsOne, is_one, Then, then, Made, made, IsThe, IsNumeral, Closed, Either, of_first, of_second, Counted, counted_in, one_too_many, Repeated, no_more as no_more_in, one_more as one_more_in, BehindSign, Joined}
+use Rattle.text_tokens.specs.Lawful.{SomeText}
+use Rattle.text_tokens.specs.Nested.{Tree, Trees, number, list, none, more, is_open, is_close, is_semicolon, limited, IsElement, leaf, nest, IsList, parens, IsElements, elements, IsMore, no_more, one_more, trees}
+use Rattle.text_tokens.proofs.Distinguishing.{sample, passes, passes_number, starts_numeral}
 
 -- ---- elements behind semicolons
 

@@ -1,16 +1,16 @@
 -- Any number of elements. On so many tokens the grammar and its reader agree with those of so many elements at most.
-use Rattle.std.proofs.Common.{◌≡◌, ◌<◌, ℕ, zero, suc, ◌+◌, Bool, true, false, cond, List, [], ◌∷◌, ◌++◌, length, Option, Some, None, Ok, Err, refl, sym, ap, subst, ◌∙◌, append_assoc, arith}
+use Rattle.std.proofs.Common.{◌≡◌, ◌<◌, ℕ, zero, suc, ◌+◌, Bool, true, false, cond, List, [], ◌∷◌, ◌++◌, length, Option, Some, Ok, Err, refl, sym, ap, subst, ◌∙◌, append_assoc, arith}
 use Rattle.std.proofs.lemmas.List.{append-nil, length-append}
 use Rattle.text_tokens.specs.declared.refusal.Refusal.{Refusal}
 use Rattle.text_tokens.specs.declared.refusal.RefusalKind.{RefusalKind}
 use Rattle.text_tokens.specs.Text.{Lexeme}
-use Rattle.text_tokens.specs.Reading.{Answer, Reader, first, and_then, ◌>>=◌, pure, one, no_limit, starts_at, either, times, elements, repeated, behind_sign, joined, counted, at_most, less}
-use Rattle.text_tokens.specs.Grammar.{Symbol, symbol, tokens, first_fault, Lang, IsOne, Then, then, Made, made, IsNothing, is_nothing, Either, of_first, of_second, Times, Counted, Repeated, no_more, one_more, AtMost, BehindSign, Joined}
-use Rattle.text_tokens.specs.Lawful.{Next, GoesOn, IsText, Tells, LawfulOn, Lawful, Halts, always, IsPart, SomeText, Starts, StartsIn, Meets, AreElements, AreJoined, limit_at}
+use Rattle.text_tokens.specs.Reading.{Answer, Reader, first, and_then, ◌>>=◌, pure, one, no_limit, starts_at, either, times, elements, repeated, behind_sign, joined, counted}
+use Rattle.text_tokens.specs.Grammar.{Symbol, tokens, Lang, IsOne, Then, then, Made, made, IsNothing, is_nothing, Either, of_first, of_second, Times, Counted, Repeated, no_more, one_more, BehindSign, Joined}
+use Rattle.text_tokens.specs.Lawful.{Next, IsText, Tells, LawfulOn, Lawful, Halts, always, IsPart, Starts, StartsIn, AreElements, AreJoined, limit_at}
 use Rattle.text_tokens.proofs.Symbols.{tokens-append}
 use Rattle.text_tokens.proofs.Splitting.{Lies, in_first, in_second, lies}
 use Rattle.text_tokens.proofs.Exactness.{exact}
-use Rattle.text_tokens.proofs.Carrying.{Carries, law_carried, law_of_some, unmapped, next_as, whole_as, part_made}
+use Rattle.text_tokens.proofs.Carrying.{law_carried, law_of_some, unmapped, next_as, whole_as, part_made}
 use Rattle.text_tokens.proofs.Parts.{nil_not, some_text, part_less, part_nothing, part_one, part_before, part_behind}
 use Rattle.text_tokens.proofs.Beginnings.{begins_tokens, starts_in, starts_one, starts_then, starts_counted, starts_in_made, starts_in_nothing, starts_in_either, starts_in_repeated}
 use Rattle.text_tokens.proofs.Choosing.{part_either, part_counted}

@@ -12,7 +12,7 @@ use Rattle.text_tokens.specs.declared.refusal.RefusalKind.{RefusalKind}
 use Rattle.text_tokens.specs.declared.refusal.RefusalKind.TheVariants.{BadEntry}
 use Rattle.text_tokens.specs.Text.{Lexeme}
 use Rattle.text_tokens.specs.Cursor.{is_the}
-use Rattle.text_tokens.specs.Reading.{Reader, ◌>>=◌, pure, refuse, one, no_limit, opening, deep_at, past_sum, the_line, is_number, value, numeral, closed, judged, either, counted, repeated, less, behind_sign, joined, by_levels}
+use Rattle.text_tokens.specs.Reading.{Reader, ◌>>=◌, pure, refuse, no_limit, opening, deep_at, past_sum, the_line, is_number, value, numeral, closed, judged, either, counted, repeated, less, behind_sign, joined, by_levels}
 use Rattle.text_tokens.specs.Grammar.{Symbol, Lang, IsOne, Then, Made, IsThe, IsNumeral, Closed, Judged, past, Counted, Repeated}
 
 -- ---- what a text stands for

@@ -1,12 +1,11 @@
 use Rattle.std.proofs.Common.{◌≡◌, List, [], ◌∷◌, Err, refl, sym, ap, subst, ◌∙◌}
 use Rattle.std.specs.Prelude.{codes}
 use Rattle.text_tokens.specs.declared.refusal.Refusal.{Refusal}
-use Rattle.text_tokens.specs.declared.refusal.RefusalKind.{RefusalKind}
 use Rattle.text_tokens.specs.declared.refusal.RefusalKind.TheVariants.{BadByte, Unexpected, TooMany, BadEntry, Trailing}
 use Rattle.text_tokens.specs.Text.{Lexeme}
 use Rattle.text_tokens.specs.Cursor.{same_kind}
 use Rattle.text_tokens.specs.Reading.{Answer, one_within, the_line, numeral, either, counted, elements, repeated}
-use Rattle.text_tokens.specs.Lawful.{IsFault, Tells}
+use Rattle.text_tokens.specs.Lawful.{Tells}
 use Rattle.text_tokens.specs.Journal.{Noted, IsJournal, a_pair, all_pairs, noted, an_entry, all_entries, journal}
 use Rattle.text_tokens.specs.JournalFaults.{word, half, pair, at, IsFirst}
 use Rattle.text_tokens.proofs.Obeying.{decided}

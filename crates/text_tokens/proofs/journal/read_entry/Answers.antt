@@ -7,7 +7,7 @@ use Rattle.text_tokens.specs.declared.refusal.RefusalKind.TheVariants.{BadEntry}
 use Rattle.text_tokens.specs.declared.refusal.ReadRefusal.{ReadRefusal}
 use Rattle.text_tokens.specs.declared.refusal.ReadRefusal.TheVariants.{Refused}
 use Rattle.text_tokens.specs.Cursor.{Cursor}
-use Rattle.text_tokens.specs.Reading.{Reader, ◌>>=◌, pure, no_limit, the_line, numeral, verdict, judged}
+use Rattle.text_tokens.specs.Reading.{Reader, ◌>>=◌, pure, no_limit, the_line, numeral, verdict}
 use Rattle.text_tokens.specs.Journal.{Noted, is_entry, miscounted, all_pairs, noted, an_entry}
 use Rattle.text_tokens.proofs.Stepping.{Reached, Failed, on, fails, on_made, judged_wrong, judged_fine}
 use Rattle.text_tokens.proofs.journal.read_entry.Goals as goal
