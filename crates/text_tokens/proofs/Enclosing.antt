@@ -8,7 +8,7 @@ use Rattle.text_tokens.specs.Cursor.{end_by, at_end}
 use Rattle.text_tokens.specs.Reading.{Answer, Reader, refuse, by_levels, and_end, end_of_input, whole_input}
 use Rattle.text_tokens.specs.Grammar.{Lang}
 use Rattle.text_tokens.specs.Lawful.{IsText, Tells, Exact, IsPart}
-use Rattle.text_tokens.specs.Inputs.{IsRefused, within, trailing, no_token, TellsInput, IsDecidedInput, ExactInput}
+use Rattle.text_tokens.specs.Inputs.{IsInputFault, within, trailing, no_token, TellsInput, IsDecidedInput, ExactInput}
 use Rattle.text_tokens.specs.Combinators.{IsLevel}
 
 -- ---- levels
@@ -69,7 +69,7 @@ module _ {A : Type 0} (P : Lang A) (kind : RefusalKind) where
     reads_so : (last : Refusal) (ts : List Lexeme) (r : Answer A) → Tells P last ts r → whole_input kind p last ts ≡ end_of_input kind last r
     reads_so last ts r is = ap (λ (s : Answer A). end_of_input kind last s) (exact.only last ts r is)
 
-    refused_by : (last : Refusal) (ts : List Lexeme) (r : Refusal) → IsRefused P kind last ts r → whole_input kind p last ts ≡ Err r
+    refused_by : (last : Refusal) (ts : List Lexeme) (r : Refusal) → IsInputFault P kind last ts r → whole_input kind p last ts ≡ Err r
     refused_by last ts r (within is) = reads_so last ts (Err r) is
     refused_by last ts r (trailing a t rest is) = reads_so last ts (Ok (a, t ∷ rest)) is
     refused_by last ts r (no_token a is n) = reads_so last ts (Ok (a, [])) is ∙ ap (and_end a) (ends_not last n (at_which last last.kind))

@@ -14,7 +14,7 @@ mod tokens;
 
 pub use combinators::{
     OtherPart, Part, PartBehind, PartBy, Recursive, as_often, behind_token, branch, choice,
-    choice_by_role, closing, exact, joining, judgement, limit, making, nesting, nothing,
+    choice_by_role, closing, exact, chaining, judgement, limit, making, nesting, nothing,
     one_of_two, one_token, opening, option, refusing, repetition, running_sum, same_texts,
     sequence, stopping, whole_input,
 };
