@@ -10,7 +10,7 @@ use Rattle.text_tokens.specs.Agreement.{r0, Two, short, long, two, AllButAgreeme
 use Rattle.text_tokens.proofs.Exactness.{none_stops, some_is}
 use Rattle.text_tokens.proofs.Parts.{single}
 
--- where a mark may be
+-- where a symbol may be
 data At (us : List Lexeme) (x : Symbol) : Type 0 where
   refused : (t : Lexeme) → us ≡ [] → x ≡ record { token = Some t; fault = Some r0 } → At us x
   passed : (t : Lexeme) → us ≡ [] → x ≡ record { token = Some t; fault = None } → At us x

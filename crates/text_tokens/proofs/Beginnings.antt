@@ -1,20 +1,20 @@
 -- With which tokens the texts of a grammar begin.
-use Rattle.std.proofs.Common.{◌≡◌, ℕ, zero, suc, Bool, true, false, List, [], ◌∷◌, ◌++◌, Option, Some, None, refl, sym, ap, subst, ◌∙◌}
+use Rattle.std.proofs.Common.{◌≡◌, ℕ, zero, suc, Bool, true, List, [], ◌∷◌, ◌++◌, Option, Some, None, refl, sym, ap, subst, ◌∙◌}
 use Rattle.text_tokens.specs.declared.refusal.Refusal.{Refusal}
 use Rattle.text_tokens.specs.declared.refusal.RefusalKind.{RefusalKind}
 use Rattle.text_tokens.specs.Text.{Lexeme}
 use Rattle.text_tokens.specs.Reading.{first, past_kind}
-use Rattle.text_tokens.specs.Grammar.{Symbol, symbol, refusal_of, with_token, tokens, Lang, IsOne, is_one, Then, then, Made, made, IsNothing, is_nothing, IsVerdict, is_verdict, Judged, Either, of_first, of_second, past_symbol, past, Counted, counted_in, one_too_many, Repeated, no_more, one_more}
+use Rattle.text_tokens.specs.Grammar.{Symbol, symbol, refusal_of, with_token, tokens, Lang, IsOne, is_one, Then, then, Made, made, IsNothing, is_nothing, IsJudgement, is_judgement, Judged, Either, of_first, of_second, past_symbol, past, Limited, in_limit, one_too_many, Repeated, no_more, one_more}
 use Rattle.text_tokens.specs.Lawful.{Next, GoesOn, SomeText, BeginsWith, SomeFrom, Starts, StartsIn, HasTokens, limit_at}
 use Rattle.text_tokens.proofs.Symbols.{tokens-append}
-use Rattle.text_tokens.proofs.Exactness.{some_is, tokens-mark}
+use Rattle.text_tokens.proofs.Exactness.{some_is, tokens-token}
 
 pub begins_tokens : (starts : Lexeme → Bool) (over : Lexeme → Option RefusalKind) (xs : List Symbol) (b : BeginsWith starts over xs) → tokens xs ≡ b.t ∷ tokens b.more
 begins_tokens starts over xs b = ap tokens b.parts
 
 -- the first token of a text up to a symbol of a token
 pub first_at : (text : List Symbol) (x : Symbol) (more : List Symbol) (us : List Lexeme) (t : Lexeme) → x.token ≡ Some t → tokens text ≡ us → first (tokens (text ++ x ∷ more)) ≡ first (us ++ t ∷ tokens more)
-first_at text x more us t e f = ap first (tokens-mark text x more t e ∙ ap (λ (us : List Lexeme). us ++ t ∷ tokens more) f)
+first_at text x more us t e f = ap first (tokens-token text x more t e ∙ ap (λ (us : List Lexeme). us ++ t ∷ tokens more) f)
 
 abbrev pub head_or : List Lexeme → Lexeme → Lexeme
 head_or [] t = t
@@ -80,7 +80,7 @@ starts_then {B = B} P Q starts over s some = record { begins = begins; each = ea
     each t e = let i = s.each t e in let r = some i.whole in record { more = i.more ++ r.text; whole = r.whole; is = then i.whole i.is r.is }
 
 pub starts_judged : {A : Type 0} (P : Lang A) (wrong : A → Option Refusal) (starts : Lexeme → Bool) (over : Lexeme → Option RefusalKind) → Starts P starts over → Starts (Judged P wrong) starts over
-starts_judged P wrong starts over s = starts_then P (λ a. IsVerdict (wrong a) a) starts over s (λ a. record { text = _; whole = a; is = is_verdict })
+starts_judged P wrong starts over s = starts_then P (λ a. IsJudgement (wrong a) a) starts over s (λ a. record { text = _; whole = a; is = is_judgement })
 
 -- how the first token is refused of one too many
 past_is : (t : Lexeme) (o : Option RefusalKind) → past_symbol (Some t) (refusal_of t o) ≡ refusal_of t (Some (past_kind o))
@@ -90,16 +90,16 @@ past_is t (Some kind) = refl
 pub past_first : (t : Lexeme) (o : Option RefusalKind) (more : List Symbol) → past (symbol t o ∷ more) ≡ symbol t (Some (past_kind o)) ∷ more
 past_first t o more = ap (λ (fault : Option Refusal). record { token = Some t; fault = fault } ∷ more) (past_is t o)
 
-pub starts_counted : {A : Type 0} (P : Lang A) (starts : Lexeme → Bool) (over : Lexeme → Option RefusalKind) → Starts P starts over → (room : ℕ) → Starts (Counted P room) starts (limit_at over room)
-starts_counted {A} P starts over s room = record { begins = begins room; each = each room }
+pub starts_limited : {A : Type 0} (P : Lang A) (starts : Lexeme → Bool) (over : Lexeme → Option RefusalKind) → Starts P starts over → (room : ℕ) → Starts (Limited P room) starts (limit_at over room)
+starts_limited {A} P starts over s room = record { begins = begins room; each = each room }
   where
-    begins : (room : ℕ) (xs : List Symbol) (a : A) → Counted P room xs a → BeginsWith starts (limit_at over room) xs
-    begins room xs a (counted_in is) = let i = s.begins xs a is in record { t = i.t; more = i.more; parts = i.parts; passes = i.passes }
+    begins : (room : ℕ) (xs : List Symbol) (a : A) → Limited P room xs a → BeginsWith starts (limit_at over room) xs
+    begins room xs a (in_limit is) = let i = s.begins xs a is in record { t = i.t; more = i.more; parts = i.parts; passes = i.passes }
     begins room us a (one_too_many {xs = xs} is) = let i = s.begins xs a is in record { t = i.t; more = i.more; parts = ap past i.parts ∙ past_first i.t (over i.t) i.more; passes = i.passes }
 
-    each : (room : ℕ) (t : Lexeme) → starts t ≡ true → SomeFrom (Counted P room) (symbol t (limit_at over room t))
-    each zero t e = let i = s.each t e in record { more = i.more; whole = i.whole; is = subst (λ (xs : List Symbol). Counted P zero xs i.whole) (past_first t (over t) i.more) (one_too_many i.is) }
-    each (suc room) t e = let i = s.each t e in record { more = i.more; whole = i.whole; is = counted_in i.is }
+    each : (room : ℕ) (t : Lexeme) → starts t ≡ true → SomeFrom (Limited P room) (symbol t (limit_at over room t))
+    each zero t e = let i = s.each t e in record { more = i.more; whole = i.whole; is = subst (λ (xs : List Symbol). Limited P zero xs i.whole) (past_first t (over t) i.more) (one_too_many i.is) }
+    each (suc room) t e = let i = s.each t e in record { more = i.more; whole = i.whole; is = in_limit i.is }
 
 -- ---- the first token lies within a test
 

@@ -166,7 +166,7 @@ pub record IsPlace (source : List ℕ) (i : Input) : Type 0 where
 
 -- a place that is no earlier
 pub record IsLater (source : List ℕ) (at : ℕ) (i : Input) : Type 0 where
-  pub place : IsPlace source i
+  pub point : IsPlace source i
   pub later : at ≤ i.at
 
 -- behind some bytes of the text
@@ -200,28 +200,28 @@ later_cases source at false false false true x y z here f g k h = k refl
 later_cases source at false false false false x y z here f g k h = h
 
 one_later : (source : List ℕ) (at : ℕ) (i : Input) → IsLater source (at + 1) i → IsLater source at i
-one_later source at i h = let l = h.later in record { place = h.place; later = omega arith }
+one_later source at i h = let l = h.later in record { point = h.point; later = omega arith }
 
 same_line : (source text : List ℕ) (at line : ℕ) → IsPlace source (record { text = text; at = at; line = line + 0 }) → IsPlace source (record { text = text; at = at; line = line })
 same_line source text at line h = let l = h.line in record { text = h.text; within = h.within; line = omega arith }
 
 pub skip_later : (source text : List ℕ) (inside : Bool) (at line : ℕ) → IsPlace source (record { text = text; at = at; line = line }) → IsLater source at (skip inside at line text)
 unfolding skip
-skip_later source [] inside at line h = record { place = h; later = omega arith }
+skip_later source [] inside at line h = record { point = h; later = omega arith }
 skip_later source (b ∷ text) inside at line h = later_cases source at (b == 10) inside (is_blank b) (b == 35) _ _ _ (record { text = b ∷ text; at = at; line = line })
     (λ e. one_later source at _ (skip_later source text false (at + 1) (line + 1) (step_place source text b at line true e h)))
     (λ e. one_later source at _ (skip_later source text inside (at + 1) line (same_line source text (at + 1) line (step_place source text b at line false e h))))
     (λ e. one_later source at _ (skip_later source text true (at + 1) line (same_line source text (at + 1) line (step_place source text b at line false e h))))
-    (record { place = h; later = omega arith })
+    (record { point = h; later = omega arith })
 
 -- the place with its line
-abbrev pub place : List ℕ → ℕ → Input
-place source at = record { text = drop at source; at = at; line = line_at source at }
+abbrev pub point : List ℕ → ℕ → Input
+point source at = record { text = drop at source; at = at; line = line_at source at }
 
-pub at_place : (source : List ℕ) (at : ℕ) → at ≤ length source → IsPlace source (place source at)
+pub at_place : (source : List ℕ) (at : ℕ) → at ≤ length source → IsPlace source (point source at)
 at_place source at le = record { text = refl; within = le; line = refl }
 
-pub place_is : (source : List ℕ) (i : Input) → IsPlace source i → i ≡ place source i.at
+pub place_is : (source : List ℕ) (i : Input) → IsPlace source i → i ≡ point source i.at
 place_is source i h = ap (λ (text : List ℕ). record { text = text; at = i.at; line = i.line }) h.text ∙ ap (λ (line : ℕ). record { text = drop i.at source; at = i.at; line = line }) h.line
 
 -- what comes next by the scan
@@ -229,25 +229,25 @@ pub ready_comes : (source : List ℕ) (i : Input) → IsPlace source i → Comes
 unfolding ready
 ready_comes source i h =
     let l = skip_later source i.text false i.at i.line h in
-    let text : drop (skip false i.at i.line i.text).at source ≡ rest_of false (drop i.at source) = sym l.place.text ∙ skip_rest i.text false i.at i.line ∙ ap (rest_of false) h.text in (
+    let text : drop (skip false i.at i.line i.text).at source ≡ rest_of false (drop i.at source) = sym l.point.text ∙ skip_rest i.text false i.at i.line ∙ ap (rest_of false) h.text in (
       record {
         behind = l.later;
-        within = l.place.within;
+        within = l.point.within;
         skips = subst (λ (rest : List ℕ). Skips (drop i.at source) rest) (sym text) (rest_skips (drop i.at source));
         skipped = subst IsSkipped (sym text) (rest_skipped (drop i.at source) false);
       },
-      l.place,
+      l.point,
     )
 
 same_place : (source : List ℕ) (m n : ℕ) → m ≤ length source → n ≤ length source → drop m source ≡ drop n source → m ≡ n
 same_place source m n p q e = let l = ap length e in omega (arith, length-drop m source, length-drop n source)
 
 -- and by the definition
-pub comes_ready : (source : List ℕ) (at from : ℕ) → at ≤ length source → Comes source at from → ready (place source at) ≡ place source from
+pub comes_ready : (source : List ℕ) (at from : ℕ) → at ≤ length source → Comes source at from → ready (point source at) ≡ point source from
 unfolding ready
 comes_ready source at from le c =
     let l = skip_later source (drop at source) false at (line_at source at) (at_place source at le) in
     let text : drop (skip false at (line_at source at) (drop at source)).at source ≡ drop from source =
-    sym l.place.text ∙ skip_rest (drop at source) false at (line_at source at) ∙ skips_rest (drop at source) (drop from source) c.skips c.skipped in
-    place_is source (skip false at (line_at source at) (drop at source)) l.place
-    ∙ ap (place source) (same_place source _ from l.place.within c.within text)
+    sym l.point.text ∙ skip_rest (drop at source) false at (line_at source at) ∙ skips_rest (drop at source) (drop from source) c.skips c.skipped in
+    place_is source (skip false at (line_at source at) (drop at source)) l.point
+    ∙ ap (point source) (same_place source _ from l.point.within c.within text)

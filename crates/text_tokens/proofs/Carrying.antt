@@ -3,9 +3,9 @@ use Rattle.std.proofs.Common.{◌≡◌, Bool, List, [], ◌∷◌, ◌++◌, Op
 use Rattle.std.proofs.lemmas.List.{append-nil}
 use Rattle.text_tokens.specs.declared.refusal.Refusal.{Refusal}
 use Rattle.text_tokens.specs.Text.{Lexeme}
-use Rattle.text_tokens.specs.Reading.{Answer, Reader, first, and_then, ◌>>=◌, pure}
+use Rattle.text_tokens.specs.Reading.{Answer, Reader, and_then, ◌>>=◌, pure}
 use Rattle.text_tokens.specs.Grammar.{Symbol, tokens, first_fault, outcome_by, outcome, Lang, Made, made}
-use Rattle.text_tokens.specs.Lawful.{Next, GoesOn, Stops, IsWhole, Begun, IsStuck, IsText, IsFault, limit, due, stuck, Tells, LawfulOn, Lawful, Halts, IsPart}
+use Rattle.text_tokens.specs.Lawful.{Next, GoesOn, Stops, IsWhole, Begun, IsStuck, IsFault, limit, due, stuck, Tells, LawfulOn, Lawful, Halts, IsPart}
 use Rattle.text_tokens.proofs.Exactness.{begun_whole, begun_next, stops_same}
 
 module _ {A B : Type 0} (P : Lang A) (R : Lang B) (f : A → B) (on : List Lexeme → Type 0) where

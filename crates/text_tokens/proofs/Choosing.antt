@@ -1,16 +1,16 @@
 -- Choices by the next token.
-use Rattle.std.proofs.Common.{◌≡◌, ℕ, zero, suc, Bool, true, false, cond, List, [], ◌∷◌, ◌++◌, Option, Some, None, Ok, Err, refl, sym, ap, subst, ◌∙◌}
+use Rattle.std.proofs.Common.{◌≡◌, ℕ, zero, suc, Bool, true, false, cond, List, [], ◌∷◌, ◌++◌, Option, Some, None, Err, refl, sym, ap, subst, ◌∙◌}
 use Rattle.text_tokens.specs.declared.refusal.Refusal.{Refusal}
 use Rattle.text_tokens.specs.declared.refusal.RefusalKind.{RefusalKind}
 use Rattle.text_tokens.specs.Text.{Lexeme}
-use Rattle.text_tokens.specs.Reading.{Answer, Reader, first, pure, refuse, stop, choose, starts_at, either, optional, role_at, by_role, past_kind, full_at, counted}
-use Rattle.text_tokens.specs.Grammar.{Symbol, symbol, refusal_of, tokens, first_fault, or_else, outcome, Lang, IsNothing, Either, of_first, of_second, IsOptional, past, Counted, counted_in, one_too_many}
-use Rattle.text_tokens.specs.Lawful.{Next, GoesOn, Stops, IsWhole, limit, stuck, Tells, LawfulOn, Lawful, LawfulAt, Halts, always, IsPart, SomeText, SomeFrom, BeginsWith, Starts, limit_at, BeginsNone, IsBranch, IsForeign, IsStopped, IsChoice, InRole, IsHandled, handled, no_role, HasRoles}
+use Rattle.text_tokens.specs.Reading.{Answer, Reader, first, pure, refuse, stop, choose, starts_at, either, optional, role_at, by_role, past_kind, full_at, limited}
+use Rattle.text_tokens.specs.Grammar.{Symbol, symbol, tokens, first_fault, or_else, outcome, Lang, IsNothing, Either, of_first, of_second, IsOptional, past, Limited, in_limit, one_too_many}
+use Rattle.text_tokens.specs.Lawful.{Next, GoesOn, Stops, limit, stuck, Tells, Lawful, LawfulAt, Halts, always, IsPart, SomeText, SomeFrom, Starts, limit_at, BeginsNone, IsBranch, IsForeign, IsStopped, IsChoice, IsHandled, handled, no_role, HasRoles}
 use Rattle.text_tokens.proofs.Symbols.{tokens-append}
-use Rattle.text_tokens.proofs.Exactness.{some_is, tokens-mark, tokens-place, stops_same}
+use Rattle.text_tokens.proofs.Exactness.{some_is}
 use Rattle.text_tokens.proofs.Carrying.{law_carried, law_of_some, unmapped, next_as, whole_as, part_same}
-use Rattle.text_tokens.proofs.Parts.{nil_not, some_text, part_less, part_nothing}
-use Rattle.text_tokens.proofs.Beginnings.{head_or, first_head, first_at, front_token, begins_tokens, starts_in, starts_some, starts_on, starts_place, past_first, starts_counted, starts_in_nothing}
+use Rattle.text_tokens.proofs.Parts.{some_text, part_less, part_nothing}
+use Rattle.text_tokens.proofs.Beginnings.{head_or, first_head, first_at, front_token, begins_tokens, starts_in, starts_some, starts_on, starts_place, starts_limited, starts_in_nothing}
 
 pub law_choose : {A : Type 0} (R : Lang A) (by : Option Lexeme → Reader A) → ((next : Option Lexeme) → LawfulAt R next (by next)) → Lawful R (choose by)
 law_choose R by laws = record {
@@ -285,49 +285,49 @@ module _ {A K : Type 0} (role : Lexeme → K) (over : Lexeme → Option RefusalK
 -- ---- where so many may come
 
 module _ {A : Type 0} (P : Lang A) (p : Reader A) (starts : Lexeme → Bool) (over : Lexeme → Option RefusalKind) (start : Starts P starts over) (stop_at : Lexeme → Bool) (part : IsPart P p stop_at) where
-  some_full : SomeText (Counted P zero)
+  some_full : SomeText (Limited P zero)
   some_full = let s = some_text P p part.law in record { text = past s.text; whole = s.whole; is = one_too_many s.is }
 
-  full_starts : Starts (Counted P zero) starts (limit_at over zero)
-  full_starts = starts_counted P starts over start zero
+  full_starts : Starts (Limited P zero) starts (limit_at over zero)
+  full_starts = starts_limited P starts over start zero
 
-  foreign : (next : Option Lexeme) → starts_at starts next ≡ false → IsForeign next (Counted P zero)
+  foreign : (next : Option Lexeme) → starts_at starts next ≡ false → IsForeign next (Limited P zero)
   foreign next n = record {
-    none = λ xs a t is e same. let f : true ≡ false = sym (starts_in (Counted P zero) starts (limit_at over zero) full_starts xs a t is e) ∙ ap (starts_at starts) (sym same) ∙ n in absurd cc;
-    never = starts_some (Counted P zero) starts (limit_at over zero) full_starts;
-    front = λ x m e. absurd (starts_place (Counted P zero) starts (limit_at over zero) full_starts x m e);
+    none = λ xs a t is e same. let f : true ≡ false = sym (starts_in (Limited P zero) starts (limit_at over zero) full_starts xs a t is e) ∙ ap (starts_at starts) (sym same) ∙ n in absurd cc;
+    never = starts_some (Limited P zero) starts (limit_at over zero) full_starts;
+    front = λ x m e. absurd (starts_place (Limited P zero) starts (limit_at over zero) full_starts x m e);
   }
 
-  stopped : (t : Lexeme) → starts t ≡ true → IsStopped t (past_kind (over t)) (Counted P zero)
+  stopped : (t : Lexeme) → starts t ≡ true → IsStopped t (past_kind (over t)) (Limited P zero)
   stopped t y = record { some = full_starts.each t y; only = only }
     where
-      only : (xs : List Symbol) (a : A) → Counted P zero xs a → first (tokens xs) ≡ Some t → (more : List Symbol) × (xs ≡ symbol t (Some (past_kind (over t))) ∷ more)
+      only : (xs : List Symbol) (a : A) → Limited P zero xs a → first (tokens xs) ≡ Some t → (more : List Symbol) × (xs ≡ symbol t (Some (past_kind (over t))) ∷ more)
       only xs a is e =
           let b = full_starts.begins xs a is in
           let same : b.t ≡ t = some_is (sym (ap first (begins_tokens starts (limit_at over zero) xs b)) ∙ e) in
           (b.more, b.parts ∙ ap (λ (u : Lexeme). symbol u (Some (past_kind (over u))) ∷ b.more) same)
 
-  full_by : (t : Lexeme) (b : Bool) → starts t ≡ b → LawfulAt (Counted P zero) (Some t) (cond b (stop (past_kind (over t))) refuse)
-  full_by t true e = law_stop t (past_kind (over t)) (Counted P zero) (stopped t e)
-  full_by t false e = law_refuse (Some t) (Counted P zero) some_full (foreign (Some t) e)
+  full_by : (t : Lexeme) (b : Bool) → starts t ≡ b → LawfulAt (Limited P zero) (Some t) (cond b (stop (past_kind (over t))) refuse)
+  full_by t true e = law_stop t (past_kind (over t)) (Limited P zero) (stopped t e)
+  full_by t false e = law_refuse (Some t) (Limited P zero) some_full (foreign (Some t) e)
 
-  full_next : (next : Option Lexeme) → LawfulAt (Counted P zero) next (full_at starts over next)
-  full_next None = law_refuse None (Counted P zero) some_full (foreign None refl)
+  full_next : (next : Option Lexeme) → LawfulAt (Limited P zero) next (full_at starts over next)
+  full_next None = law_refuse None (Limited P zero) some_full (foreign None refl)
   full_next (Some t) = full_by t (starts t) refl
 
   -- behind the first token of one too many nothing comes
-  full_halts : Halts (Counted P zero) stop_at
+  full_halts : Halts (Limited P zero) stop_at
   full_halts xs a t is e g =
       let b = full_starts.begins xs a is in
       let n = g.next in
       let c = full_starts.begins (n.text ++ g.at ∷ n.more) n.whole n.is in
-      let f = stopped_next c.t (past_kind (over c.t)) (Counted P zero) (stopped c.t c.passes) n.text g.at n.more c.more c.parts n.fine in
+      let f = stopped_next c.t (past_kind (over c.t)) (Limited P zero) (stopped c.t c.passes) n.text g.at n.more c.more c.parts n.fine in
       let h : b.t ∷ tokens b.more ≡ [] = sym (begins_tokens starts (limit_at over zero) xs b) ∙ sym n.parts ∙ ap tokens f.0 in absurd cc
 
-  uncounted : (room : ℕ) (xs : List Symbol) (a : A) → Counted P (suc room) xs a → P xs a
-  uncounted room xs a (counted_in is) = is
+  unlimited : (room : ℕ) (xs : List Symbol) (a : A) → Limited P (suc room) xs a → P xs a
+  unlimited room xs a (in_limit is) = is
 
-  pub part_counted : (room : ℕ) → IsPart (Counted P room) (counted starts over room p) stop_at
-  unfolding counted
-  part_counted zero = record { law = law_choose (Counted P zero) (full_at starts over) full_next; halts = full_halts }
-  part_counted (suc room) = part_same P (Counted P (suc room)) (λ xs a is. counted_in is) (uncounted room) p stop_at part
+  pub part_limited : (room : ℕ) → IsPart (Limited P room) (limited starts over room p) stop_at
+  unfolding limited
+  part_limited zero = record { law = law_choose (Limited P zero) (full_at starts over) full_next; halts = full_halts }
+  part_limited (suc room) = part_same P (Limited P (suc room)) (λ xs a is. in_limit is) (unlimited room) p stop_at part

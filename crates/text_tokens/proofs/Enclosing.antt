@@ -1,14 +1,14 @@
 -- Grammars that contain themselves, and whole inputs.
-use Rattle.std.proofs.Common.{◌≡◌, ℕ, zero, suc, Bool, List, [], ◌∷◌, Option, Some, None, Result, Ok, Err, refl, sym, ap, subst, ◌∙◌}
+use Rattle.std.proofs.Common.{◌≡◌, ℕ, zero, suc, Bool, List, [], ◌∷◌, Result, Ok, Err, refl, sym, ap, subst, ◌∙◌}
 use Rattle.text_tokens.specs.declared.refusal.Refusal.{Refusal}
 use Rattle.text_tokens.specs.declared.refusal.RefusalKind.{RefusalKind}
 use Rattle.text_tokens.specs.declared.refusal.RefusalKind.TheVariants.{BadByte, WordTooLong, Unexpected, TooDeep, TooMany, Truncated, UnknownName, TwiceNamed, WrongType, BadRange, BadId, OutOfBox, Overlap, NotAdjacent, BadValue, Trailing, WrongSection, BadEntry, BadPlace, TooLong, NotYet}
 use Rattle.text_tokens.specs.Text.{Lexeme}
 use Rattle.text_tokens.specs.Cursor.{end_by, at_end}
-use Rattle.text_tokens.specs.Reading.{Answer, Reader, refuse, deep_at, less, by_levels, and_end, end_of_input, whole_input}
+use Rattle.text_tokens.specs.Reading.{Answer, Reader, refuse, by_levels, and_end, end_of_input, whole_input}
 use Rattle.text_tokens.specs.Grammar.{Lang}
-use Rattle.text_tokens.specs.Lawful.{IsText, Tells, Exact, Lawful, IsPart}
-use Rattle.text_tokens.specs.Inputs.{IsRefused, within, trailing, no_token, TellsInput, IsDecidedInput, ExactInput}
+use Rattle.text_tokens.specs.Lawful.{IsText, Tells, Exact, IsPart}
+use Rattle.text_tokens.specs.Inputs.{IsInputFault, within, trailing, no_token, TellsInput, IsDecidedInput, ExactInput}
 use Rattle.text_tokens.specs.Combinators.{IsLevel}
 
 -- ---- levels
@@ -69,7 +69,7 @@ module _ {A : Type 0} (P : Lang A) (kind : RefusalKind) where
     reads_so : (last : Refusal) (ts : List Lexeme) (r : Answer A) → Tells P last ts r → whole_input kind p last ts ≡ end_of_input kind last r
     reads_so last ts r is = ap (λ (s : Answer A). end_of_input kind last s) (exact.only last ts r is)
 
-    refused_by : (last : Refusal) (ts : List Lexeme) (r : Refusal) → IsRefused P kind last ts r → whole_input kind p last ts ≡ Err r
+    refused_by : (last : Refusal) (ts : List Lexeme) (r : Refusal) → IsInputFault P kind last ts r → whole_input kind p last ts ≡ Err r
     refused_by last ts r (within is) = reads_so last ts (Err r) is
     refused_by last ts r (trailing a t rest is) = reads_so last ts (Ok (a, t ∷ rest)) is
     refused_by last ts r (no_token a is n) = reads_so last ts (Ok (a, [])) is ∙ ap (and_end a) (ends_not last n (at_which last last.kind))

@@ -1,16 +1,16 @@
 -- The laws of the small journal.
-use Rattle.std.proofs.Common.{◌≡◌, ℕ, Bool, true, false, List, [], ◌∷◌, Option, Some, None, refl, ap}
+use Rattle.std.proofs.Common.{◌≡◌, ℕ, Bool, true, false, refl, ap}
 use Rattle.std.specs.Prelude.{codes, not}
 use Rattle.text_tokens.specs.declared.token.TokenKind.TheVariants.{Word}
 use Rattle.text_tokens.specs.declared.refusal.RefusalKind.TheVariants.{BadRange}
 use Rattle.text_tokens.specs.Text.{Lexeme}
-use Rattle.text_tokens.specs.Reading.{Reader, ◌>>=◌, pure, no_limit, the_line, above, numeral, less, counted}
-use Rattle.text_tokens.specs.Grammar.{Lang, Then, Made, IsThe, IsNumeral, Counted, Repeated, AtMost, no_more}
+use Rattle.text_tokens.specs.Reading.{◌>>=◌, pure, no_limit, the_line, too_large, numeral, less}
+use Rattle.text_tokens.specs.Grammar.{Lang, Then, Made, IsThe, IsNumeral, Limited, Repeated, AtMost}
 use Rattle.text_tokens.specs.Lawful.{Exact, IsPart, always, Starts, AreElements}
 use Rattle.text_tokens.specs.Journal.{is_entry, is_pair, is_end, Noted, miscounted, IsPair, IsNoted, IsEntry, as_before, IsJournal, a_pair, pair_in, all_pairs, noted, an_entry, entry_in, all_entries, journal}
 use Rattle.text_tokens.proofs.Exactness.{exact}
 use Rattle.text_tokens.proofs.Carrying.{part_made}
-use Rattle.text_tokens.proofs.Parts.{some_text, part_less, part_behind, part_closed, part_judged}
+use Rattle.text_tokens.proofs.Parts.{some_text, part_behind, part_closed, part_judged}
 use Rattle.text_tokens.proofs.Beginnings.{starts_then, starts_judged}
 use Rattle.text_tokens.proofs.Repeating.{at_most_elements, part_repeated}
 use Rattle.text_tokens.proofs.Distinguishing.{sample, passes, other_text, a_token, a_numeral, starts_the}
@@ -19,10 +19,10 @@ use Rattle.text_tokens.proofs.Distinguishing.{sample, passes, other_text, a_toke
 
 part_pair : IsPart IsPair a_pair always
 unfolding a_pair
-part_pair = part_behind (IsThe is_pair) (the_line is_pair) (λ line. IsNumeral (above 9 BadRange)) (λ line. numeral (above 9 BadRange)) always (a_token Word (codes "pair") refl) (λ line. a_numeral (above 9 BadRange))
+part_pair = part_behind (IsThe is_pair) (the_line is_pair) (λ line. IsNumeral (too_large 9 BadRange)) (λ line. numeral (too_large 9 BadRange)) always (a_token Word (codes "pair") refl) (λ line. a_numeral (too_large 9 BadRange))
 
 starts_pair : Starts IsPair is_pair no_limit
-starts_pair = starts_then (IsThe is_pair) (λ line. IsNumeral (above 9 BadRange)) is_pair no_limit (starts_the is_pair) (λ line. some_text (IsNumeral (above 9 BadRange)) (numeral (above 9 BadRange)) (a_numeral (above 9 BadRange)).law)
+starts_pair = starts_then (IsThe is_pair) (λ line. IsNumeral (too_large 9 BadRange)) is_pair no_limit (starts_the is_pair) (λ line. some_text (IsNumeral (too_large 9 BadRange)) (numeral (too_large 9 BadRange)) (a_numeral (too_large 9 BadRange)).law)
 
 -- nothing but a pair goes on behind the pairs of an entry
 abbrev pub no_pair : Lexeme → Bool
@@ -33,7 +33,7 @@ not_false true e = absurd cc
 not_false false e = refl
 
 abbrev pub PairIn : ℕ → Lang ℕ
-PairIn room = Counted IsPair room
+PairIn room = Limited IsPair room
 
 pub pair_elements : AreElements PairIn pair_in is_pair always no_pair
 pair_elements = at_most_elements IsPair a_pair is_pair no_limit always no_pair starts_pair part_pair (λ t e. refl) (λ t e. refl) (λ t e. not_false (is_pair t) e)

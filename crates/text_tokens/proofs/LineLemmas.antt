@@ -4,7 +4,7 @@ use Rattle.std.specs.Fmt.{digits}
 use Rattle.std.specs.List.{join_with_byte}
 use Rattle.std.proofs.lemmas.Grind.{flat_map-append}
 use Rattle.std.proofs.lemmas.List.{append-nil, flat_map_more}
-use Rattle.text_tokens.specs.Lines.{Words, line_text, lines_text, section_text, spaced, LineIsItsTokens, SectionIsItsLines, TextsAddUp, SmallSections}
+use Rattle.text_tokens.specs.Lines.{Words, line_text, lines_text, spaced, LineIsItsTokens, SectionIsItsLines, TextsAddUp, SmallSections}
 
 -- the tokens of a line, joined: the first, and each other one after a space
 joined : (word : List ℕ) (words : Words) → join_with_byte 32 (word ∷ words) ≡ word ++ spaced words

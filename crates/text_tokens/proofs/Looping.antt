@@ -1,5 +1,5 @@
 -- A loop over elements: what was found, and what is still read.
-use Rattle.std.proofs.Common.{◌≡◌, ◌<◌, ◌-◌, arith, ℕ, zero, suc, Bool, true, false, cond, List, [], ◌∷◌, ◌++◌, length, Option, Some, None, Result, Ok, Err, refl, sym, ap, ◌∙◌, append_assoc}
+use Rattle.std.proofs.Common.{◌≡◌, ◌<◌, ◌-◌, arith, ℕ, zero, suc, Bool, true, false, cond, List, [], ◌∷◌, ◌++◌, length, Option, Some, None, Ok, Err, refl, sym, ap, ◌∙◌, append_assoc}
 use Rattle.std.proofs.lemmas.List.{append-nil}
 use Rattle.text_tokens.specs.declared.refusal.Refusal.{Refusal}
 use Rattle.text_tokens.specs.declared.refusal.ReadRefusal.{ReadRefusal}
@@ -9,7 +9,7 @@ use Rattle.text_tokens.specs.Cursor.{Cursor}
 use Rattle.text_tokens.specs.Reading.{Answer, Reader, first, and_then, ◌>>=◌, pure, starts_at, either, repeated, less}
 use Rattle.text_tokens.specs.Grammar.{Lang}
 use Rattle.text_tokens.specs.Lawful.{AreElements}
-use Rattle.text_tokens.specs.Steps.{Fails, Stays, another}
+use Rattle.text_tokens.specs.Steps.{SameSource, another}
 use Rattle.text_tokens.proofs.Stepping.{Reached, Failed, stays, stays_on}
 use Rattle.text_tokens.proofs.Repeating.{steps_repeated, fewer}
 
@@ -21,7 +21,7 @@ prepend found (Err r) = Err r
 -- from the start the reader answers what was found, and then what the other answers here
 pub record StillReads {A : Type 0} (p : Reader (List A)) (start : Cursor) (found : List A) (q : Reader (List A)) (here : Cursor) : Type 0 where
   pub reads : p start.last start.ahead ≡ prepend found (q here.last here.ahead)
-  pub stays : Stays start here
+  pub stays : SameSource start here
 
 nothing_before : {A : Type 0} (r : Answer (List A)) → r ≡ prepend [] r
 nothing_before (Ok r) = refl
@@ -40,8 +40,8 @@ pub loop_begins : {A : Type 0} (p : Reader (List A)) (start : Cursor) (found : L
 loop_begins p start found e = record { reads = nothing_before (p start.last start.ahead) ∙ ap (λ (fs : List _). prepend fs (p start.last start.ahead)) (sym e); stays = stays start }
 
 -- behind the first of those that separators join
-pub loop_joins : {A : Type 0} (p : Reader A) (q : Reader (List A)) (start here : Cursor) (a : A) (found : List A) → found ≡ a ∷ [] → Reached p start a here → StillReads (p >>= λ a. q >>= λ rest. pure (a ∷ rest)) start found q here
-loop_joins {A} p q start here a found e r = record {
+pub loop_chains : {A : Type 0} (p : Reader A) (q : Reader (List A)) (start here : Cursor) (a : A) (found : List A) → found ≡ a ∷ [] → Reached p start a here → StillReads (p >>= λ a. q >>= λ rest. pure (a ∷ rest)) start found q here
+loop_chains {A} p q start here a found e r = record {
   reads = ap (λ (x : Answer A). and_then x (λ a us. and_then (q start.last us) (λ rest vs. Ok (a ∷ rest, vs)))) r.0 ∙ one_before a (q start.last here.ahead) ∙ ap (λ (last : Refusal). prepend (a ∷ []) (q last here.ahead)) (sym r.1.last)
       ∙ ap (λ (fs : List A). prepend fs (q here.last here.ahead)) (sym e);
   stays = r.1;

@@ -1,28 +1,28 @@
 -- The laws of the small format.
-use Rattle.std.proofs.Common.{◌≡◌, ℕ, zero, suc, Bool, true, false, cond, List, [], ◌∷◌, ◌++◌, Option, Some, None, refl, sym, ap, subst, ◌∙◌}
+use Rattle.std.proofs.Common.{◌≡◌, ℕ, zero, suc, Bool, true, false, cond, List, ◌∷◌, Option, Some, None, refl, sym, ap, ◌∙◌}
 use Rattle.std.specs.Prelude.{codes, ◌||◌}
 use Rattle.text_tokens.specs.declared.token.TokenKind.TheVariants.{Word, Sign}
 use Rattle.text_tokens.specs.declared.refusal.RefusalKind.{RefusalKind}
 use Rattle.text_tokens.specs.Text.{Lexeme}
-use Rattle.text_tokens.specs.Reading.{Reader, first, ◌>>=◌, pure, no_limit, opening, deep_at, the_line, is_number, numeral, closed, judged, either, repeated, less, by_levels}
-use Rattle.text_tokens.specs.Grammar.{Symbol, symbol, tokens, Lang, IsOne, is_one, Then, then, Made, made, IsThe, IsNumeral, Closed, Judged, Either, Counted, Repeated, Joined}
-use Rattle.text_tokens.specs.Lawful.{Exact, Lawful, IsPart, always, BeginsWith, SomeFrom, Starts, AreElements, AreJoined, limit_at}
+use Rattle.text_tokens.specs.Reading.{Reader, first, ◌>>=◌, pure, no_limit, deep_at, the_line, is_number, numeral, closed, judged, less}
+use Rattle.text_tokens.specs.Grammar.{Symbol, symbol, tokens, Lang, IsOne, Then, Made, IsThe, IsNumeral, Closed, Judged, Either, Limited}
+use Rattle.text_tokens.specs.Lawful.{Exact, IsPart, always, BeginsWith, SomeFrom, Starts, AreElements, AreChained, limit_at}
 use Rattle.text_tokens.specs.Combinators.{IsLevel}
-use Rattle.text_tokens.specs.Nested.{Tree, Trees, number, list, more, Couple, Whole, is_nested, is_open, is_close, is_semicolon, is_pair, is_end, IsElement, leaf, nest, IsList, IsElements, Placed, too_much, IsPlaced, backwards, IsPair, Tally, tallied, full_tally, IsPairs, IsNested, begins_element, element_limit, trees, element_in, further, all_elements, a_list, element_with, element_level, element_at, inside, placed, a_pair, pair_in, all_pairs, nested}
-use Rattle.text_tokens.proofs.Exactness.{exact, some_is}
+use Rattle.text_tokens.specs.Nested.{Tree, number, list, Couple, Whole, is_nested, is_open, is_close, is_semicolon, is_pair, is_end, IsElement, leaf, nest, IsNestedList, IsElements, Placed, too_much, IsPlaced, backwards, IsPair, Tally, tallied, full_tally, IsPairs, IsNested, begins_element, element_limit, trees, element_in, further, all_elements, a_list, element_with, element_level, element_at, inside, placed, a_pair, pair_in, all_pairs, nested}
+use Rattle.text_tokens.proofs.Exactness.{exact}
 use Rattle.text_tokens.proofs.Carrying.{part_same, part_made}
-use Rattle.text_tokens.proofs.Parts.{some_text, part_less, part_one, part_then, part_behind, part_after, part_closed, part_judged}
-use Rattle.text_tokens.proofs.Beginnings.{starts_in, starts_some, starts_one, starts_made, starts_then, starts_judged, starts_counted, starts_as}
-use Rattle.text_tokens.proofs.Choosing.{part_either, part_counted}
-use Rattle.text_tokens.proofs.Repeating.{part_repeated, behind_elements, part_joined}
+use Rattle.text_tokens.proofs.Parts.{some_text, part_behind, part_after, part_closed, part_judged}
+use Rattle.text_tokens.proofs.Beginnings.{starts_in, starts_some, starts_one, starts_made, starts_then, starts_judged, starts_limited, starts_as}
+use Rattle.text_tokens.proofs.Choosing.{part_either, part_limited}
+use Rattle.text_tokens.proofs.Repeating.{part_repeated, behind_elements, part_chained}
 use Rattle.text_tokens.proofs.Enclosing.{part_levels}
-use Rattle.text_tokens.proofs.Distinguishing.{sample, passes, passes_number, sign_no_number, other_text, a_token, a_numeral, starts_the, starts_numeral}
-use Rattle.text_tokens.proofs.NestedTwins.{ElementIn, Behind, JoinedElements, from_joined, to_joined, Inner, Parens, from_parens, to_parens, Leaf, Nest, from_either, to_either, some_inner}
+use Rattle.text_tokens.proofs.Distinguishing.{sample, passes, sign_no_number, other_text, a_token, a_numeral, starts_the, starts_numeral}
+use Rattle.text_tokens.proofs.NestedTwins.{ElementIn, Behind, ChainedElements, from_chained, to_chained, Inner, Parens, from_parens, to_parens, Leaf, Nest, from_either, to_either, some_inner}
 
 -- ---- with what elements begin
 
-starts_list : (levels : ℕ) → Starts (IsList levels) is_open (deep_at levels)
-starts_list levels = starts_as (Parens levels) (IsList levels) is_open (deep_at levels) (from_parens levels) (to_parens levels) (starts_then (IsOne is_open (deep_at levels)) (λ t. Inner levels) is_open (deep_at levels) (starts_one is_open (deep_at levels)) (λ t. some_inner levels))
+starts_list : (levels : ℕ) → Starts (IsNestedList levels) is_open (deep_at levels)
+starts_list levels = starts_as (Parens levels) (IsNestedList levels) is_open (deep_at levels) (from_parens levels) (to_parens levels) (starts_then (IsOne is_open (deep_at levels)) (λ t. Inner levels) is_open (deep_at levels) (starts_one is_open (deep_at levels)) (λ t. some_inner levels))
 
 module _ (levels : ℕ) where
   number_begins : (xs : List Symbol) → BeginsWith is_number no_limit xs → BeginsWith begins_element (element_limit levels) xs
@@ -53,34 +53,34 @@ close_no_semicolon : (t : Lexeme) → is_close t ≡ true → is_semicolon t ≡
 close_no_semicolon t e = other_text Sign (codes ")") (codes ";") t refl e
 
 module _ (levels : ℕ) (element : Reader Tree) (part : IsPart (IsElement levels) element always) where
-  element_joined : AreJoined (IsElement levels) element is_semicolon (ElementIn levels) (element_in levels element) always is_close
-  element_joined = record {
+  element_chained : AreChained (IsElement levels) element is_semicolon (ElementIn levels) (element_in levels element) always is_close
+  element_chained = record {
     sample = sample Sign (codes ";");
     passes = passes Sign (codes ";") refl;
     before = part;
-    part = λ sign room. part_counted (IsElement levels) element begins_element (element_limit levels) (starts_element levels) always part room;
+    part = λ sign room. part_limited (IsElement levels) element begins_element (element_limit levels) (starts_element levels) always part room;
     again = λ t e. refl;
     ends = λ t e. refl;
     differ = close_no_semicolon;
   }
 
   pub further_elements : AreElements (Behind levels) (further levels element) is_semicolon always is_close
-  further_elements = behind_elements (IsElement levels) element is_semicolon (ElementIn levels) (element_in levels element) always is_close element_joined (λ room t. less room) (λ t. 3) (λ t ts. t ∷ ts)
+  further_elements = behind_elements (IsElement levels) element is_semicolon (ElementIn levels) (element_in levels element) always is_close element_chained (λ room t. less room) (λ t. 3) (λ t ts. t ∷ ts)
 
   part_elements : IsPart (IsElements levels) (all_elements levels element >>= λ ts. pure (trees ts)) is_close
   unfolding all_elements
-  part_elements = part_same (Made (JoinedElements levels) trees) (IsElements levels) (from_joined levels) (to_joined levels) _ is_close
-      (part_made (JoinedElements levels) trees (all_elements levels element) is_close (part_joined (IsElement levels) element is_semicolon (ElementIn levels) (element_in levels element) always is_close element_joined (λ room t. less room) (λ t. 3) (λ t ts. t ∷ ts)))
+  part_elements = part_same (Made (ChainedElements levels) trees) (IsElements levels) (from_chained levels) (to_chained levels) _ is_close
+      (part_made (ChainedElements levels) trees (all_elements levels element) is_close (part_chained (IsElement levels) element is_semicolon (ElementIn levels) (element_in levels element) always is_close element_chained (λ room t. less room) (λ t. 3) (λ t ts. t ∷ ts)))
 
 module _ (levels : ℕ) (element : Reader Tree) (under : (t : Lexeme) → deep_at levels t ≡ None → IsPart (IsElement (less levels)) element always) where
-  part_list : IsPart (IsList levels) (a_list levels element) always
+  part_list : IsPart (IsNestedList levels) (a_list levels element) always
   unfolding a_list
-  part_list = part_same (Parens levels) (IsList levels) (from_parens levels) (to_parens levels) _ always
+  part_list = part_same (Parens levels) (IsNestedList levels) (from_parens levels) (to_parens levels) _ always
       (part_after is_open (deep_at levels) (sample Sign (codes "(")) (passes Sign (codes "(") refl) (λ t. Inner levels) (λ t. closed (all_elements (less levels) element >>= λ ts. pure (trees ts)) is_close) always (λ t. some_inner levels)
       (λ t e fine. part_closed (IsElements (less levels)) (all_elements (less levels) element >>= λ ts. pure (trees ts)) is_close (sample Sign (codes ")")) (passes Sign (codes ")") refl) (part_elements (less levels) element (under t fine))))
 
   starts_nest : Starts (Nest levels) is_open (deep_at levels)
-  starts_nest = starts_made (IsList levels) list is_open (deep_at levels) (starts_list levels)
+  starts_nest = starts_made (IsNestedList levels) list is_open (deep_at levels) (starts_list levels)
 
   no_number : (xs : List Symbol) (a : Tree) (t : Lexeme) → Nest levels xs a → first (tokens xs) ≡ Some t → is_number t ≡ false
   no_number xs a t is e = sign_no_number (codes "(") t (starts_in (Nest levels) is_open (deep_at levels) starts_nest xs a t is e)
@@ -89,7 +89,7 @@ module _ (levels : ℕ) (element : Reader Tree) (under : (t : Lexeme) → deep_a
   unfolding element_with
   part_element = part_same (Either Leaf (Nest levels)) (IsElement levels) (from_either levels) (to_either levels) _ always (part_either Leaf (Nest levels) _ _ is_number no_limit always (record {
     one = part_made (IsNumeral no_limit) number (numeral no_limit) always (a_numeral no_limit);
-    other = part_made (IsList levels) list (a_list levels element) always part_list;
+    other = part_made (IsNestedList levels) list (a_list levels element) always part_list;
     start = starts_made (IsNumeral no_limit) number is_number no_limit (starts_numeral no_limit);
     differ = no_number;
     ends = λ xs t u is e f. absurd (starts_some (Nest levels) is_open (deep_at levels) starts_nest xs t is e);
@@ -102,7 +102,7 @@ pub part_element_at : (levels : ℕ) → IsPart (IsElement levels) (element_at l
 unfolding element_at
 part_element_at levels = part_levels {K = Unit {0}} {A = λ k. Tree} (λ levels k. IsElement levels) element_level (λ k. always) element_is_level levels tt
 
-part_top : (levels : ℕ) → IsPart (IsList levels) (a_list levels (inside levels)) always
+part_top : (levels : ℕ) → IsPart (IsNestedList levels) (a_list levels (inside levels)) always
 part_top zero = part_list zero (inside zero) (λ t e. absurd cc)
 part_top (suc levels) = part_list (suc levels) (inside (suc levels)) (λ t e. part_element_at levels)
 
@@ -136,13 +136,13 @@ starts_pair sum = starts_made (Judged (IsPlaced sum) backwards) (λ p. p.couple)
     (starts_then (IsThe is_pair) (Low sum) is_pair no_limit (starts_the is_pair) (λ line. some_text (Low sum line) _ (part_low sum line).law)))
 
 abbrev pub PairIn : Tally → Lang Couple
-PairIn s = Counted (IsPair s.sum) s.room
+PairIn s = Limited (IsPair s.sum) s.room
 
 pub pair_elements : AreElements PairIn pair_in is_pair always is_end
 pair_elements = record {
   over = λ s. limit_at no_limit s.room;
-  start = λ s. starts_counted (IsPair s.sum) is_pair no_limit (starts_pair s.sum) s.room;
-  part = λ s. part_counted (IsPair s.sum) (a_pair s.sum) is_pair no_limit (starts_pair s.sum) always (part_pair s.sum) s.room;
+  start = λ s. starts_limited (IsPair s.sum) is_pair no_limit (starts_pair s.sum) s.room;
+  part = λ s. part_limited (IsPair s.sum) (a_pair s.sum) is_pair no_limit (starts_pair s.sum) always (part_pair s.sum) s.room;
   again = λ t e. refl;
   ends = λ t e. refl;
   differ = λ t e. other_text Word (codes "end") (codes "pair") t refl e;
@@ -155,10 +155,10 @@ part_pairs = part_repeated PairIn pair_in tallied is_pair always is_end pair_ele
 -- ---- the whole
 
 abbrev Body : Lang Whole
-Body = Then (IsList 3) (λ ts. Made IsPairs (λ ps. record { list = ts; pairs = ps }))
+Body = Then (IsNestedList 3) (λ ts. Made IsPairs (λ ps. record { list = ts; pairs = ps }))
 
 part_body : IsPart Body (a_list 3 (inside 3) >>= λ ts. all_pairs >>= λ ps. pure (record { list = ts; pairs = ps })) is_end
-part_body = part_behind (IsList 3) (a_list 3 (inside 3)) (λ ts. Made IsPairs (λ ps. record { list = ts; pairs = ps })) _ is_end (part_top 3)
+part_body = part_behind (IsNestedList 3) (a_list 3 (inside 3)) (λ ts. Made IsPairs (λ ps. record { list = ts; pairs = ps })) _ is_end (part_top 3)
     (λ ts. part_made IsPairs (λ ps. record { list = ts; pairs = ps }) all_pairs is_end part_pairs)
 
 pub part_nested : IsPart IsNested nested always

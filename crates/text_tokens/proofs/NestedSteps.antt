@@ -1,19 +1,15 @@
 -- The elements of the small format, as its code reads them.
-use Rattle.std.proofs.Common.{◌≡◌, ℕ, zero, suc, ◌<◌, ◌-◌, Bool, true, false, cond, List, [], ◌∷◌, map, Option, Some, None, Result, Ok, Err, refl, sym, ap, ◌∙◌, arith, Vec}
+use Rattle.std.proofs.Common.{◌≡◌, ℕ, zero, suc, ◌<◌, ◌-◌, Bool, true, false, cond, List, [], ◌∷◌, map, Err, refl, sym, ap, ◌∙◌, arith, Vec}
 use Rattle.std.specs.declared.alloc.Global.{Global}
 use Rattle.text_tokens.specs.declared.refusal.Refusal.{Refusal}
-use Rattle.text_tokens.specs.declared.refusal.RefusalKind.{RefusalKind}
-use Rattle.text_tokens.specs.declared.refusal.ReadRefusal.{ReadRefusal}
-use Rattle.text_tokens.specs.declared.refusal.ReadRefusal.TheVariants.{Refused, NoMemory}
 use Rattle.text_tokens.specs.declared.nested.Element.{Element, fold-roll-Element}
 use Rattle.text_tokens.specs.declared.nested.Element.TheVariants as variant
 use Rattle.text_tokens.specs.declared.nested.Element.TheVariants.{rolls-List, rolls-Number}
 use Rattle.text_tokens.specs.declared.nested.Element.TheOpen.{Element-F}
 use Rattle.text_tokens.specs.Text.{Lexeme}
-use Rattle.text_tokens.specs.Cursor.{Cursor, next_passes}
-use Rattle.text_tokens.specs.Reading.{Answer, Reader, first, and_then, ◌>>=◌, pure, choose, refuse, no_limit, past_kind, opening, numeral, is_number, stop, full_at, either, by_levels, less, closed, one, counted}
-use Rattle.text_tokens.specs.Steps.{Fails, Gives, another}
-use Rattle.text_tokens.specs.Nested.{Tree, Trees, number, list, is_open, is_close, is_semicolon, trees, begins_element, element_limit, element_in, further, all_elements, a_list, element_with, element_at, inside}
+use Rattle.text_tokens.specs.Cursor.{next_passes}
+use Rattle.text_tokens.specs.Reading.{Answer, Reader, first, ◌>>=◌, pure, refuse, no_limit, past_kind, opening, numeral, is_number, stop, full_at, either, by_levels, less, closed}
+use Rattle.text_tokens.specs.Nested.{Tree, Trees, number, list, is_open, is_close, trees, begins_element, element_limit, all_elements, a_list, element_with, element_at, inside}
 use Rattle.text_tokens.specs.NestedView.{tree, tree_step}
 use Rattle.text_tokens.proofs.Stepping.{is_first, is_second}
 use Rattle.text_tokens.proofs.Looping.{less_is}

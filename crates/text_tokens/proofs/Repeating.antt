@@ -1,19 +1,19 @@
 -- Any number of elements. On so many tokens the grammar and its reader agree with those of so many elements at most.
-use Rattle.std.proofs.Common.{◌≡◌, ◌<◌, ℕ, zero, suc, ◌+◌, Bool, true, false, cond, List, [], ◌∷◌, ◌++◌, length, Option, Some, None, Ok, Err, refl, sym, ap, subst, ◌∙◌, append_assoc, arith}
+use Rattle.std.proofs.Common.{◌≡◌, ◌<◌, ℕ, zero, suc, ◌+◌, Bool, true, false, cond, List, [], ◌∷◌, ◌++◌, length, Option, Some, Ok, Err, refl, sym, ap, subst, ◌∙◌, append_assoc, arith}
 use Rattle.std.proofs.lemmas.List.{append-nil, length-append}
 use Rattle.text_tokens.specs.declared.refusal.Refusal.{Refusal}
 use Rattle.text_tokens.specs.declared.refusal.RefusalKind.{RefusalKind}
 use Rattle.text_tokens.specs.Text.{Lexeme}
-use Rattle.text_tokens.specs.Reading.{Answer, Reader, first, and_then, ◌>>=◌, pure, one, no_limit, starts_at, either, times, elements, repeated, behind_sign, joined, counted, at_most, less}
-use Rattle.text_tokens.specs.Grammar.{Symbol, symbol, tokens, first_fault, Lang, IsOne, Then, then, Made, made, IsNothing, is_nothing, Either, of_first, of_second, Times, Counted, Repeated, no_more, one_more, AtMost, BehindSign, Joined}
-use Rattle.text_tokens.specs.Lawful.{Next, GoesOn, IsText, Tells, LawfulOn, Lawful, Halts, always, IsPart, SomeText, Starts, StartsIn, Meets, AreElements, AreJoined, limit_at}
+use Rattle.text_tokens.specs.Reading.{Answer, Reader, first, and_then, ◌>>=◌, pure, one, no_limit, starts_at, either, times, elements, repeated, behind_sign, chained, limited}
+use Rattle.text_tokens.specs.Grammar.{Symbol, tokens, Lang, IsOne, Then, then, Made, made, IsNothing, is_nothing, Either, of_first, of_second, Times, Limited, Repeated, no_more, one_more, BehindSign, Chained}
+use Rattle.text_tokens.specs.Lawful.{Next, IsText, Tells, LawfulOn, Lawful, Halts, always, IsPart, Starts, StartsIn, AreElements, AreChained, limit_at}
 use Rattle.text_tokens.proofs.Symbols.{tokens-append}
 use Rattle.text_tokens.proofs.Splitting.{Lies, in_first, in_second, lies}
 use Rattle.text_tokens.proofs.Exactness.{exact}
-use Rattle.text_tokens.proofs.Carrying.{Carries, law_carried, law_of_some, unmapped, next_as, whole_as, part_made}
+use Rattle.text_tokens.proofs.Carrying.{law_carried, law_of_some, unmapped, next_as, whole_as, part_made}
 use Rattle.text_tokens.proofs.Parts.{nil_not, some_text, part_less, part_nothing, part_one, part_before, part_behind}
-use Rattle.text_tokens.proofs.Beginnings.{begins_tokens, starts_in, starts_one, starts_then, starts_counted, starts_in_made, starts_in_nothing, starts_in_either, starts_in_repeated}
-use Rattle.text_tokens.proofs.Choosing.{part_either, part_counted}
+use Rattle.text_tokens.proofs.Beginnings.{begins_tokens, starts_in, starts_one, starts_then, starts_limited, starts_in_made, starts_in_nothing, starts_in_either, starts_in_repeated}
+use Rattle.text_tokens.proofs.Choosing.{part_either, part_limited}
 
 -- ---- a part so many times
 
@@ -184,11 +184,11 @@ module _ {A S : Type 0} (E : S → Lang A) (element : S → Reader A) (step : S 
 -- ---- at most so many
 
 pub at_most_elements : {A : Type 0} (P : Lang A) (p : Reader A) (starts : Lexeme → Bool) (over : Lexeme → Option RefusalKind) (between stop : Lexeme → Bool) → Starts P starts over → IsPart P p between → ((t : Lexeme) → starts t ≡ true → between t ≡ true) → ((t : Lexeme) → stop t ≡ true → between t ≡ true) → ((t : Lexeme) → stop t ≡ true → starts t ≡ false)
-    → AreElements (λ room. Counted P room) (λ room. counted starts over room p) starts between stop
+    → AreElements (λ room. Limited P room) (λ room. limited starts over room p) starts between stop
 at_most_elements P p starts over between stop start part again ends differ = record {
   over = λ room. limit_at over room;
-  start = λ room. starts_counted P starts over start room;
-  part = λ room. part_counted P p starts over start between part room;
+  start = λ room. starts_limited P starts over start room;
+  part = λ room. part_limited P p starts over start between part room;
   again = again;
   ends = ends;
   differ = differ;
@@ -196,7 +196,7 @@ at_most_elements P p starts over between stop start part again ends differ = rec
 
 -- ---- behind separators
 
-module _ {F A B S : Type 0} (P : Lang F) (p : Reader F) (separates : Lexeme → Bool) (E : Lexeme → S → Lang A) (element : Lexeme → S → Reader A) (between stop : Lexeme → Bool) (j : AreJoined P p separates E element between stop) (step : S → A → S) (start : F → S) (whole : F → List A → B) where
+module _ {F A B S : Type 0} (P : Lang F) (p : Reader F) (separates : Lexeme → Bool) (E : Lexeme → S → Lang A) (element : Lexeme → S → Reader A) (between stop : Lexeme → Bool) (j : AreChained P p separates E element between stop) (step : S → A → S) (start : F → S) (whole : F → List A → B) where
   pub behind_elements : AreElements (λ s. BehindSign separates E s) (λ s. behind_sign separates element s) separates between stop
   behind_elements = record {
     over = λ s. no_limit;
@@ -216,7 +216,7 @@ module _ {F A B S : Type 0} (P : Lang F) (p : Reader F) (separates : Lexeme → 
   further_starts : (s : S) → StartsIn (Further s) separates
   further_starts s = starts_in_repeated (λ s. BehindSign separates E s) step separates (λ s. starts_in (BehindSign separates E s) separates (behind_elements.over s) (behind_elements.start s)) s
 
-  pub part_joined : IsPart (Joined P separates E step start whole) (joined p separates element step start whole) stop
-  part_joined = part_before P p (λ a. Made (Further (start a)) (λ more. whole a more)) (λ a. repeated separates (λ s. behind_sign separates element s) step (start a) >>= λ more. pure (whole a more)) between stop j.before
+  pub part_chained : IsPart (Chained P separates E step start whole) (chained p separates element step start whole) stop
+  part_chained = part_before P p (λ a. Made (Further (start a)) (λ more. whole a more)) (λ a. repeated separates (λ s. behind_sign separates element s) step (start a) >>= λ more. pure (whole a more)) between stop j.before
       (λ a. part_made (Further (start a)) (λ more. whole a more) (repeated separates (λ s. behind_sign separates element s) step (start a)) stop (further (start a)))
       (λ a. record { begins = λ ys c t m f. j.again t (starts_in_made (Further (start a)) (λ more. whole a more) separates (further_starts (start a)) ys c t m f); empty = λ ys c t m f g. j.ends t g })

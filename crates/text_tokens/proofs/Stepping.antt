@@ -16,32 +16,32 @@ use Rattle.text_tokens.specs.contracts.token.TokenKind.{the_type}
 use Rattle.std.specs.List.{list_all}
 use Rattle.text_tokens.specs.Text.{Lexeme, Cuts, word, number, sign, is_digit, most_bytes}
 use Rattle.text_tokens.specs.Cursor.{Cursor, next_passes, refusal_at, token_of, past_token, tail, expect, expect_by, slice, FirstIs, Spells, IsDigits, is_kind, same_kind}
-use Rattle.text_tokens.specs.Reading.{Answer, Reader, first, ◌>>=◌, pure, and_then, starts_at, one_within, either, full_at, counted, deep_at, past_sum, value, above, verdict, judged}
-use Rattle.text_tokens.specs.Steps.{Fails, Stays, Gives, lexeme_of, another}
+use Rattle.text_tokens.specs.Reading.{Answer, Reader, first, ◌>>=◌, pure, and_then, starts_at, one_within, either, full_at, limited, deep_at, past_sum, value, too_large, judge, judged}
+use Rattle.text_tokens.specs.Steps.{Fails, SameSource, Gives, lexeme_of, another}
 
 -- ---- what stays
 
-pub stays : (c : Cursor) → Stays c c
+pub stays : (c : Cursor) → SameSource c c
 stays c = record { source = refl; last = refl }
 
-pub stays_as : (old new : Cursor) → new ≡ old → Stays old new
+pub stays_as : (old new : Cursor) → new ≡ old → SameSource old new
 stays_as old new e = record { source = ap (λ (c : Cursor). c.source) e; last = ap (λ (c : Cursor). c.last) e }
 
-pub stays_past : (old new : Cursor) → new ≡ past_token old → Stays old new
+pub stays_past : (old new : Cursor) → new ≡ past_token old → SameSource old new
 stays_past old new e = record { source = ap (λ (c : Cursor). c.source) e; last = ap (λ (c : Cursor). c.last) e }
 
-pub stays_on : (a b c : Cursor) → Stays a b → Stays b c → Stays a c
+pub stays_on : (a b c : Cursor) → SameSource a b → SameSource b c → SameSource a c
 stays_on a b c p q = record { source = q.source ∙ p.source; last = q.last ∙ p.last }
 
 -- ---- one token
 
 -- the reader has read this, and the code stands behind it
 abbrev pub Reached : {A : Type 0} → Reader A → Cursor → A → Cursor → Type 0
-Reached p old a new = (p old.last old.ahead ≡ Ok (a, new.ahead)) × Stays old new
+Reached p old a new = (p old.last old.ahead ≡ Ok (a, new.ahead)) × SameSource old new
 
 -- the reader has refused
 abbrev pub Failed : {A : Type 0} → Reader A → ReadRefusal → Cursor → Cursor → Type 0
-Failed p e old new = Fails e (p old.last old.ahead) × Stays old new
+Failed p e old new = Fails e (p old.last old.ahead) × SameSource old new
 
 seen : (source : List ℕ) (l : Lexeme) (t : Token) → token_of l ≡ t → l.text ≡ slice source t → lexeme_of source t ≡ l
 seen source l t e f = ap (λ (text : List ℕ). record { kind = t.kind; text = text; «from» = t.«from»; line = t.line }) (sym f) ∙ ap (λ (u : Token). record { kind = u.kind; text = l.text; «from» = u.«from»; line = u.line }) (sym e)
@@ -133,11 +133,11 @@ sum_over weight most sum t lt = let b : nat_lt most (sum + weight t) ≡ true = 
 pub sum_within : (weight : Lexeme → ℕ) (most sum : ℕ) (t : Lexeme) → sum + weight t ≤ most → past_sum weight most sum t ≡ None
 sum_within weight most sum t le = let b : nat_lt most (sum + weight t) ≡ false = le-ltb _ _ le in rw b refl
 
-pub above_most : (most : ℕ) (kind : RefusalKind) (t : Lexeme) → most < value t → above most kind t ≡ Some kind
-above_most most kind t lt = let b : nat_lt most (value t) ≡ true = lt-ltb _ _ lt in rw b refl
+pub larger : (most : ℕ) (kind : RefusalKind) (t : Lexeme) → most < value t → too_large most kind t ≡ Some kind
+larger most kind t lt = let b : nat_lt most (value t) ≡ true = lt-ltb _ _ lt in rw b refl
 
-pub up_to_most : (most : ℕ) (kind : RefusalKind) (t : Lexeme) → value t ≤ most → above most kind t ≡ None
-up_to_most most kind t le = let b : nat_lt most (value t) ≡ false = le-ltb _ _ le in rw b refl
+pub not_larger : (most : ℕ) (kind : RefusalKind) (t : Lexeme) → value t ≤ most → too_large most kind t ≡ None
+not_larger most kind t le = let b : nat_lt most (value t) ≡ false = le-ltb _ _ le in rw b refl
 
 -- ---- parts, one behind the other
 
@@ -167,10 +167,10 @@ on_made {A} p f old new a s = (ap (λ (x : Answer A). and_then x (λ a us. pure 
 
 module _ {A : Type 0} (p : Reader A) (wrong : A → Option Refusal) (old new : Cursor) (a : A) (s : Reached p old a new) where
   pub judged_wrong : (r : Refusal) → wrong a ≡ Some r → Failed (judged p wrong) (Refused r) old new
-  judged_wrong r e = on (λ (a : A). a) p (λ a. verdict (wrong a) a) old new new a (Err (Refused r)) s (ap (λ (o : Option Refusal). verdict o a new.last new.ahead) e, stays new)
+  judged_wrong r e = on (λ (a : A). a) p (λ a. judge (wrong a) a) old new new a (Err (Refused r)) s (ap (λ (o : Option Refusal). judge o a new.last new.ahead) e, stays new)
 
   pub judged_fine : wrong a ≡ None → Reached (judged p wrong) old a new
-  judged_fine e = on (λ (a : A). a) p (λ a. verdict (wrong a) a) old new new a (Ok a) s (ap (λ (o : Option Refusal). verdict o a new.last new.ahead) e, stays new)
+  judged_fine e = on (λ (a : A). a) p (λ a. judge (wrong a) a) old new new a (Ok a) s (ap (λ (o : Option Refusal). judge o a new.last new.ahead) e, stays new)
 
 -- ---- choices and limits
 
@@ -204,25 +204,25 @@ module _ {A : Type 0} (starts : Lexeme → Bool) (p : Reader A) (old : Cursor) w
 
 -- with room and without
 module _ {A : Type 0} (starts : Lexeme → Bool) (over : Lexeme → Option RefusalKind) (room : ℕ) (p : Reader A) where
-  room_by : (room : ℕ) → 0 < room → counted starts over room p ≡ p
-  unfolding counted
+  room_by : (room : ℕ) → 0 < room → limited starts over room p ≡ p
+  unfolding limited
   room_by zero lt = absurd (omega arith)
   room_by (suc room) lt = refl
 
-  pub with_room : {B : Type 0} (view : B → A) (old new : Cursor) (r : Result B ReadRefusal) → 0 < room → Gives view p old r new → Gives view (counted starts over room p) old r new
-  with_room view old new r lt g = gives_as view (counted starts over room p) p old new r (ap (λ (q : Reader A). q old.last old.ahead) (room_by room lt)) g
+  pub with_room : {B : Type 0} (view : B → A) (old new : Cursor) (r : Result B ReadRefusal) → 0 < room → Gives view p old r new → Gives view (limited starts over room p) old r new
+  with_room view old new r lt g = gives_as view (limited starts over room p) p old new r (ap (λ (q : Reader A). q old.last old.ahead) (room_by room lt)) g
 
-  full_is : (last : Refusal) (ts : List Lexeme) → counted starts over zero p last ts ≡ full_at {A = A} starts over (first ts) last ts
-  unfolding counted
+  full_is : (last : Refusal) (ts : List Lexeme) → limited starts over zero p last ts ≡ full_at {A = A} starts over (first ts) last ts
+  unfolding limited
   full_is last ts = refl
 
-  pub without_room : (old : Cursor) (r : Refusal) → room ≡ 0 → full_at {A = A} starts over (first old.ahead) old.last old.ahead ≡ Err r → Failed (counted starts over room p) (Refused r) old old
-  without_room old r e full = (ap (λ (n : ℕ). counted starts over n p old.last old.ahead) e ∙ full_is old.last old.ahead ∙ full, stays old)
+  pub without_room : (old : Cursor) (r : Refusal) → room ≡ 0 → full_at {A = A} starts over (first old.ahead) old.last old.ahead ≡ Err r → Failed (limited starts over room p) (Refused r) old old
+  without_room old r e full = (ap (λ (n : ℕ). limited starts over n p old.last old.ahead) e ∙ full_is old.last old.ahead ∙ full, stays old)
 
   full_by : (last : Refusal) (ts : List Lexeme) → next_passes starts ts ≡ true → ((t : Lexeme) → over t ≡ None) → full_at {A = A} starts over (first ts) last ts ≡ Err (refusal_at last TooMany ts)
   full_by last [] comes none = absurd cc
   full_by last (t ∷ ts) comes none = rw (comes, none t) refl
 
   -- one too many, that passes no other limit
-  pub one_too_many : (old : Cursor) → room ≡ 0 → next_passes starts old.ahead ≡ true → ((t : Lexeme) → over t ≡ None) → Failed (counted starts over room p) (Refused (refusal_at old.last TooMany old.ahead)) old old
+  pub one_too_many : (old : Cursor) → room ≡ 0 → next_passes starts old.ahead ≡ true → ((t : Lexeme) → over t ≡ None) → Failed (limited starts over room p) (Refused (refusal_at old.last TooMany old.ahead)) old old
   one_too_many old e comes none = without_room old (refusal_at old.last TooMany old.ahead) e (full_by old.last old.ahead comes none)

@@ -12,7 +12,7 @@ use Rattle.text_tokens.specs.declared.refusal.RefusalKind.TheVariants.{BadByte, 
 use Rattle.text_tokens.specs.Text.{IsSkipped, Cuts, BeginsNoToken, most_bytes, Lexeme, token_end, line_at, Comes, IsToken, AreTokens, ends, bad_byte, too_long, token}
 use Rattle.text_tokens.specs.Scan.{Input, ready, sized, front, lexeme, past, ahead_of, last_of}
 use Rattle.text_tokens.specs.Promises.{OneReading, Rises, SpansRise}
-use Rattle.text_tokens.proofs.Blanks.{IsPlace, place, at_place, place_is, line_past, ready_comes, comes_ready}
+use Rattle.text_tokens.proofs.Blanks.{IsPlace, point, at_place, place_is, line_past, ready_comes, comes_ready}
 use Rattle.text_tokens.proofs.Scanning.{ready_twice, ready_shorter, ahead_ok, ahead_err, last_ok, last_err, ahead_ready, last_ready}
 use Rattle.text_tokens.proofs.Cutting.{Front, at_end, no_token, cut, front_is, cut_front, cut_no_feed, cut_some}
 
@@ -101,8 +101,8 @@ from_place source (suc n) i h lt =
     (from_front source n i.at (ready i) c.1 (ready_twice i) c.0 (λ k p less. from_place source n k p (omega arith)) (front_is (ready i).text)))
 
 -- the tokens of a whole text
-pub tokens_of_text : (source : List ℕ) → AreTokens source 0 (ahead_of (place source 0)) (last_of (place source 0))
-tokens_of_text source = from_place source (suc (length (drop 0 source))) (place source 0) (at_place source 0 (omega arith)) (omega arith)
+pub tokens_of_text : (source : List ℕ) → AreTokens source 0 (ahead_of (point source 0)) (last_of (point source 0))
+tokens_of_text source = from_place source (suc (length (drop 0 source))) (point source 0) (at_place source 0 (omega arith)) (omega arith)
 
 -- ---- no others are
 
@@ -114,38 +114,38 @@ module _ (source : List ℕ) where
   end_within l le t = let e = ap length t.text in let some = cut_some l.kind l.text (drop (token_end l) source) t.cuts in omega (arith, length-drop l.from source, length-append l.text (drop (token_end l) source))
 
   -- behind a token
-  behind_token : (l : Lexeme) → l.from ≤ length source → IsToken source l → past (place source l.from) (length l.text) ≡ place source (token_end l)
+  behind_token : (l : Lexeme) → l.from ≤ length source → IsToken source l → past (point source l.from) (length l.text) ≡ point source (token_end l)
   behind_token l le t =
       let front_text : take (length l.text) (drop l.from source) ≡ l.text = ap (take (length l.text)) t.text ∙ take-append_seam l.text (drop (token_end l) source) in
       let none : count_by (λ b. b == 10) (take (length l.text) (drop l.from source)) ≡ 0 = ap (count_by (λ b. b == 10)) front_text ∙ cut_no_feed l.kind l.text (drop (token_end l) source) t.cuts in
       let some = end_within l le t in
-      place_is source (past (place source l.from) (length l.text)) (past_place source (place source l.from) (at_place source l.from le) (length l.text) (omega (arith, length-drop l.from source)) none)
+      place_is source (past (point source l.from) (length l.text)) (past_place source (point source l.from) (at_place source l.from le) (length l.text) (omega (arith, length-drop l.from source)) none)
 
-  here_is : (l : Lexeme) → IsToken source l → lexeme (place source l.from) (record { kind = l.kind; len = length l.text }) ≡ l
+  here_is : (l : Lexeme) → IsToken source l → lexeme (point source l.from) (record { kind = l.kind; len = length l.text }) ≡ l
   here_is l t =
       ap (λ (text : List ℕ). record { kind = l.kind; text = text; «from» = l.from; line = line_at source l.from }) (ap (take (length l.text)) t.text ∙ take-append_seam l.text (drop (token_end l) source))
       ∙ ap (λ (line : ℕ). record { kind = l.kind; text = l.text; «from» = l.from; line = line }) (sym t.line)
 
   -- two answers for one text
   pub record IsScan (at : ℕ) (ls : List Lexeme) (last : Refusal) : Type 0 where
-    pub tokens : ls ≡ ahead_of (place source at)
-    pub fault : last ≡ last_of (place source at)
+    pub tokens : ls ≡ ahead_of (point source at)
+    pub fault : last ≡ last_of (point source at)
 
-  scanned : (at from : ℕ) (ls : List Lexeme) (last : Refusal) → at ≤ length source → Comes source at from → ls ≡ ahead_of (place source from) → last ≡ last_of (place source from) → IsScan at ls last
+  scanned : (at from : ℕ) (ls : List Lexeme) (last : Refusal) → at ≤ length source → Comes source at from → ls ≡ ahead_of (point source from) → last ≡ last_of (point source from) → IsScan at ls last
   scanned at from ls last le c p q =
       let r = comes_ready source at from le c in
       record {
-        tokens = p ∙ ap ahead_of (sym r) ∙ ahead_ready (place source at);
-        fault = q ∙ ap last_of (sym r) ∙ last_ready (place source at);
+        tokens = p ∙ ap ahead_of (sym r) ∙ ahead_ready (point source at);
+        fault = q ∙ ap last_of (sym r) ∙ last_ready (point source at);
       }
 
-  stays_ready : (at from : ℕ) → at ≤ length source → Comes source at from → ready (place source from) ≡ place source from
-  stays_ready at from le c = let r = comes_ready source at from le c in ap ready (sym r) ∙ ready_twice (place source at) ∙ r
+  stays_ready : (at from : ℕ) → at ≤ length source → Comes source at from → ready (point source from) ≡ point source from
+  stays_ready at from le c = let r = comes_ready source at from le c in ap ready (sym r) ∙ ready_twice (point source at) ∙ r
 
   fault_scanned : (at from : ℕ) (k : RefusalKind) → at ≤ length source → Comes source at from → front (drop from source) ≡ Err k → IsScan at [] (record { line = line_at source from; kind = k })
   fault_scanned at from k le c e =
       let r = stays_ready at from le c in
-      scanned at from [] (record { line = line_at source from; kind = k }) le c (sym (ahead_err (place source from) k r e)) (sym (last_err (place source from) k r e))
+      scanned at from [] (record { line = line_at source from; kind = k }) le c (sym (ahead_err (point source from) k r e)) (sym (last_err (point source from) k r e))
 
   long_is : (l : Lexeme) → most_bytes l.kind < length l.text → sized l.kind (length l.text) ≡ Err WordTooLong
   long_is l lt = let t : nat_lt (most_bytes l.kind) (length l.text) ≡ true = lt-ltb _ _ lt in rw t refl
@@ -176,8 +176,8 @@ module _ (source : List ℕ) where
       let s = only_scan (token_end l) more end (end_within l c.within t) rest in
       let b = behind_token l c.within t in
       scanned at l.from (l ∷ more) end le c
-      (ap (λ (xs : List Lexeme). l ∷ xs) (s.tokens ∙ ap ahead_of (sym b)) ∙ ap (λ (x : Lexeme). x ∷ ahead_of (past (place source l.from) (length l.text))) (sym (here_is l t)) ∙ sym (ahead_ok (place source l.from) (record { kind = l.kind; len = length l.text }) r f))
-      (s.fault ∙ ap last_of (sym b) ∙ sym (last_ok (place source l.from) (record { kind = l.kind; len = length l.text }) r f))
+      (ap (λ (xs : List Lexeme). l ∷ xs) (s.tokens ∙ ap ahead_of (sym b)) ∙ ap (λ (x : Lexeme). x ∷ ahead_of (past (point source l.from) (length l.text))) (sym (here_is l t)) ∙ sym (ahead_ok (point source l.from) (record { kind = l.kind; len = length l.text }) r f))
+      (s.fault ∙ ap last_of (sym b) ∙ sym (last_ok (point source l.from) (record { kind = l.kind; len = length l.text }) r f))
 
 pub one_reading : OneReading
 one_reading source ls ms r s p q =
@@ -198,5 +198,5 @@ pub spans_rise : SpansRise
 spans_rise source ls last a = rising source 0 ls last (omega arith) a
 
 -- what a text of these bytes computes to
-pub computed : (source : List ℕ) (ls : List Lexeme) (last : Refusal) → ahead_of (place source 0) ≡ ls → last_of (place source 0) ≡ last → AreTokens source 0 ls last
-computed source ls last p q = subst (λ (xs : List Lexeme). AreTokens source 0 xs last) p (subst (λ (r : Refusal). AreTokens source 0 (ahead_of (place source 0)) r) q (tokens_of_text source))
+pub computed : (source : List ℕ) (ls : List Lexeme) (last : Refusal) → ahead_of (point source 0) ≡ ls → last_of (point source 0) ≡ last → AreTokens source 0 ls last
+computed source ls last p q = subst (λ (xs : List Lexeme). AreTokens source 0 xs last) p (subst (λ (r : Refusal). AreTokens source 0 (ahead_of (point source 0)) r) q (tokens_of_text source))

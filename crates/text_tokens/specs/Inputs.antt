@@ -15,14 +15,14 @@ module _ {A : Type 0} (P : Lang A) (kind : RefusalKind) where
     pub ends : last.kind ≡ Truncated
 
   -- the first fault of an input: one of its text, or else what stands behind it, a token or what is none
-  pub data IsRefused (last : Refusal) (ts : List Lexeme) : Refusal → Type 0 where
-    within : {r : Refusal} → IsFault P last ts r → IsRefused last ts r
-    trailing : (a : A) (t : Lexeme) (rest : List Lexeme) → IsText P ts a (t ∷ rest) → IsRefused last ts (record { line = t.line; kind = kind })
-    no_token : (a : A) → IsText P ts a [] → (last.kind ≡ Truncated → ⊥) → IsRefused last ts last
+  pub data IsInputFault (last : Refusal) (ts : List Lexeme) : Refusal → Type 0 where
+    within : {r : Refusal} → IsFault P last ts r → IsInputFault last ts r
+    trailing : (a : A) (t : Lexeme) (rest : List Lexeme) → IsText P ts a (t ∷ rest) → IsInputFault last ts (record { line = t.line; kind = kind })
+    no_token : (a : A) → IsText P ts a [] → (last.kind ≡ Truncated → ⊥) → IsInputFault last ts last
 
   abbrev pub TellsInput : Refusal → List Lexeme → Result A Refusal → Type 0
   TellsInput last ts (Ok a) = IsInput last ts a
-  TellsInput last ts (Err r) = IsRefused last ts r
+  TellsInput last ts (Err r) = IsInputFault last ts r
 
   -- each input is read in one way, or has one first fault
   pub record IsDecidedInput : Type 0 where

@@ -9,7 +9,7 @@ use Rattle.text_tokens.specs.declared.refusal.Refusal.{Refusal}
 use Rattle.text_tokens.specs.declared.refusal.RefusalKind.TheVariants.{BadRange, BadEntry}
 use Rattle.text_tokens.specs.Text.{Lexeme}
 use Rattle.text_tokens.specs.Cursor.{is_the}
-use Rattle.text_tokens.specs.Reading.{Reader, ◌>>=◌, pure, no_limit, the_line, above, numeral, closed, judged, counted, repeated, at_most}
+use Rattle.text_tokens.specs.Reading.{Reader, ◌>>=◌, pure, no_limit, the_line, too_large, numeral, closed, judged, limited, repeated, at_most}
 use Rattle.text_tokens.specs.Grammar.{Lang, Then, Made, IsThe, IsNumeral, Closed, Judged, Repeated, AtMost}
 
 abbrev pub is_entry : Lexeme → Bool
@@ -34,7 +34,7 @@ miscounted e = if length e.pairs == e.count then None else Some (record { line =
 -- ---- the grammar
 
 abbrev pub IsPair : Lang ℕ
-IsPair = Then (IsThe is_pair) (λ line. IsNumeral (above 9 BadRange))
+IsPair = Then (IsThe is_pair) (λ line. IsNumeral (too_large 9 BadRange))
 
 abbrev pub IsNoted : Lang Noted
 IsNoted = Then (IsThe is_entry) (λ line. Then (IsNumeral no_limit) (λ count. Made (AtMost 2 IsPair) (λ ps. record { line = line; count = count; pairs = ps })))
@@ -51,10 +51,10 @@ IsJournal = Closed (Repeated (λ s. IsEntry) as_before tt) is_end
 -- ---- reading it
 
 unfoldable pub a_pair : Reader ℕ
-a_pair = the_line is_pair >>= λ line. numeral (above 9 BadRange)
+a_pair = the_line is_pair >>= λ line. numeral (too_large 9 BadRange)
 
 abbrev pub pair_in : ℕ → Reader ℕ
-pair_in room = counted is_pair no_limit room a_pair
+pair_in room = limited is_pair no_limit room a_pair
 
 unfoldable pub all_pairs : Reader (List ℕ)
 all_pairs = at_most is_pair no_limit 2 a_pair

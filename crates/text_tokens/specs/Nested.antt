@@ -12,8 +12,8 @@ use Rattle.text_tokens.specs.declared.refusal.RefusalKind.{RefusalKind}
 use Rattle.text_tokens.specs.declared.refusal.RefusalKind.TheVariants.{BadEntry}
 use Rattle.text_tokens.specs.Text.{Lexeme}
 use Rattle.text_tokens.specs.Cursor.{is_the}
-use Rattle.text_tokens.specs.Reading.{Reader, ◌>>=◌, pure, refuse, one, no_limit, opening, deep_at, past_sum, the_line, is_number, value, numeral, closed, judged, either, counted, repeated, less, behind_sign, joined, by_levels}
-use Rattle.text_tokens.specs.Grammar.{Symbol, Lang, IsOne, Then, Made, IsThe, IsNumeral, Closed, Judged, past, Counted, Repeated}
+use Rattle.text_tokens.specs.Reading.{Reader, ◌>>=◌, pure, refuse, no_limit, opening, deep_at, past_sum, the_line, is_number, value, numeral, closed, judged, either, limited, repeated, less, behind_sign, chained, by_levels}
+use Rattle.text_tokens.specs.Grammar.{Symbol, Lang, IsOne, Then, Made, IsThe, IsNumeral, Closed, Judged, past, Limited, Repeated}
 
 -- ---- what a text stands for
 
@@ -57,18 +57,18 @@ is_end = is_the Word (codes "end")
 -- ---- the grammar
 
 -- an element's tokens, where so many more may come
-abbrev pub limited : ℕ → List Symbol → List Symbol
-limited zero xs = past xs
-limited (suc room) xs = xs
+abbrev pub limited_text : ℕ → List Symbol → List Symbol
+limited_text zero xs = past xs
+limited_text (suc room) xs = xs
 
 mutual
   -- an element, where so many more levels may be opened
   pub data IsElement : ℕ → List Symbol → Tree → Type 0 where
     leaf : {levels : ℕ} {xs : List Symbol} {n : ℕ} → IsNumeral no_limit xs n → IsElement levels xs (number n)
-    nest : {levels : ℕ} {xs : List Symbol} {ts : Trees} → IsList levels xs ts → IsElement levels xs (list ts)
+    nest : {levels : ℕ} {xs : List Symbol} {ts : Trees} → IsNestedList levels xs ts → IsElement levels xs (list ts)
 
-  pub data IsList : ℕ → List Symbol → Trees → Type 0 where
-    parens : {levels : ℕ} {xs ys zs : List Symbol} {t : Lexeme} {ts : Trees} {line : ℕ} → IsOne is_open (deep_at levels) xs t → IsElements (less levels) ys ts → IsThe is_close zs line → IsList levels (xs ++ (ys ++ zs)) ts
+  pub data IsNestedList : ℕ → List Symbol → Trees → Type 0 where
+    parens : {levels : ℕ} {xs ys zs : List Symbol} {t : Lexeme} {ts : Trees} {line : ℕ} → IsOne is_open (deep_at levels) xs t → IsElements (less levels) ys ts → IsThe is_close zs line → IsNestedList levels (xs ++ (ys ++ zs)) ts
 
   pub data IsElements : ℕ → List Symbol → Trees → Type 0 where
     elements : {levels : ℕ} {xs ys : List Symbol} {t : Tree} {ts : Trees} → IsElement levels xs t → IsMore levels 3 ys ts → IsElements levels (xs ++ ys) (more t ts)
@@ -77,7 +77,7 @@ mutual
   pub data IsMore : ℕ → ℕ → List Symbol → Trees → Type 0 where
     no_more : {levels room : ℕ} → IsMore levels room [] none
     one_more : {levels room : ℕ} {xs ys zs : List Symbol} {s : Lexeme} {t : Tree} {ts : Trees} → IsOne is_semicolon no_limit xs s → IsElement levels ys t → IsMore levels (less room) zs ts
-        → IsMore levels room ((xs ++ limited room ys) ++ zs) (more t ts)
+        → IsMore levels room ((xs ++ limited_text room ys) ++ zs) (more t ts)
 
 -- a pair with the line of its word
 pub record Placed : Type 0 where
@@ -110,10 +110,10 @@ abbrev pub full_tally : Tally
 full_tally = record { room = 3; sum = 0 }
 
 abbrev pub IsPairs : Lang (List Couple)
-IsPairs = Repeated (λ s. Counted (IsPair s.sum) s.room) tallied full_tally
+IsPairs = Repeated (λ s. Limited (IsPair s.sum) s.room) tallied full_tally
 
 abbrev pub IsNested : Lang Whole
-IsNested = Then (IsThe is_nested) (λ line. Closed (Then (IsList 3) (λ ts. Made IsPairs (λ ps. record { list = ts; pairs = ps }))) is_end)
+IsNested = Then (IsThe is_nested) (λ line. Closed (Then (IsNestedList 3) (λ ts. Made IsPairs (λ ps. record { list = ts; pairs = ps }))) is_end)
 
 -- ---- reading it
 
@@ -129,7 +129,7 @@ trees [] = none
 trees (t ∷ ts) = more t (trees ts)
 
 abbrev pub element_in : ℕ → Reader Tree → Lexeme → ℕ → Reader Tree
-element_in levels element sign room = counted begins_element (element_limit levels) room element
+element_in levels element sign room = limited begins_element (element_limit levels) room element
 
 -- an element behind a semicolon
 abbrev pub further : ℕ → Reader Tree → ℕ → Reader Tree
@@ -137,7 +137,7 @@ further levels element = behind_sign is_semicolon (element_in levels element)
 
 -- the elements of a list, by the reader of one
 unfoldable pub all_elements : ℕ → Reader Tree → Reader (List Tree)
-all_elements levels element = joined element is_semicolon (element_in levels element) (λ room t. less room) (λ t. 3) (λ t ts. t ∷ ts)
+all_elements levels element = chained element is_semicolon (element_in levels element) (λ room t. less room) (λ t. 3) (λ t ts. t ∷ ts)
 
 -- a list, where so many more levels may be opened, with the elements inside
 unfoldable pub a_list : ℕ → Reader Tree → Reader Trees
@@ -168,7 +168,7 @@ unfoldable pub a_pair : ℕ → Reader Couple
 a_pair sum = judged (placed sum) backwards >>= λ p. pure p.couple
 
 abbrev pub pair_in : Tally → Reader Couple
-pair_in s = counted is_pair no_limit s.room (a_pair s.sum)
+pair_in s = limited is_pair no_limit s.room (a_pair s.sum)
 
 unfoldable pub all_pairs : Reader (List Couple)
 all_pairs = repeated is_pair pair_in tallied full_tally

@@ -1,5 +1,5 @@
 -- Readers: from left to right over a list of tokens, up to the first fault.
-use Rattle.std.specs.Prelude.{ℕ, zero, suc, ◌+◌, Bool, true, false, if◌then◌else◌, nat_lt, List, [], ◌∷◌, length, Option, Some, None, Result, Ok, Err}
+use Rattle.std.specs.Prelude.{ℕ, zero, suc, ◌+◌, Bool, false, if◌then◌else◌, nat_lt, List, [], ◌∷◌, length, Option, Some, None, Result, Ok, Err}
 use Rattle.text_tokens.specs.declared.token.TokenKind.TheVariants.{Number}
 use Rattle.text_tokens.specs.declared.refusal.Refusal.{Refusal}
 use Rattle.text_tokens.specs.declared.refusal.RefusalKind.{RefusalKind}
@@ -82,8 +82,8 @@ abbrev pub value : Lexeme → ℕ
 value t = number_value t.text
 
 -- a number above the most is refused for this
-abbrev pub above : ℕ → RefusalKind → Lexeme → Option RefusalKind
-above most kind t = if nat_lt most (value t) then Some kind else None
+abbrev pub too_large : ℕ → RefusalKind → Lexeme → Option RefusalKind
+too_large most kind t = if nat_lt most (value t) then Some kind else None
 
 -- what a number stands for, unless it passes a limit
 unfoldable pub numeral : (Lexeme → Option RefusalKind) → Reader ℕ
@@ -96,13 +96,13 @@ closed p closes = p >>= λ a. the_line closes >>= λ line. pure a
 -- ---- judgements
 
 -- behind what is whole: what is wrong with it, be it on the line of an earlier token
-abbrev pub verdict : {A : Type 0} → Option Refusal → A → Reader A
-verdict None a = pure a
-verdict (Some r) a = λ last ts. Err r
+abbrev pub judge : {A : Type 0} → Option Refusal → A → Reader A
+judge None a = pure a
+judge (Some r) a = λ last ts. Err r
 
 -- a whole, that is judged when it is complete
 abbrev pub judged : {A : Type 0} → Reader A → (A → Option Refusal) → Reader A
-judged p wrong = p >>= λ a. verdict (wrong a) a
+judged p wrong = p >>= λ a. judge (wrong a) a
 
 -- ---- choices
 
@@ -143,9 +143,9 @@ full_at starts over None = refuse
 full_at starts over (Some t) = if starts t then stop (past_kind (over t)) else refuse
 
 -- a part, where so many may come
-unfoldable pub counted : {A : Type 0} → (Lexeme → Bool) → (Lexeme → Option RefusalKind) → ℕ → Reader A → Reader A
-counted starts over zero p = choose (full_at starts over)
-counted starts over (suc room) p = p
+unfoldable pub limited : {A : Type 0} → (Lexeme → Bool) → (Lexeme → Option RefusalKind) → ℕ → Reader A → Reader A
+limited starts over zero p = choose (full_at starts over)
+limited starts over (suc room) p = p
 
 -- ---- many
 
@@ -169,15 +169,15 @@ less (suc n) = n
 
 -- a part any number of times, where so many may come
 abbrev pub at_most : {A : Type 0} → (Lexeme → Bool) → (Lexeme → Option RefusalKind) → ℕ → Reader A → Reader (List A)
-at_most starts over most p = repeated starts (λ room. counted starts over room p) (λ room a. less room) most
+at_most starts over most p = repeated starts (λ room. limited starts over room p) (λ room a. less room) most
 
 -- what stands behind a separator, and with which
 abbrev pub behind_sign : {A S : Type 0} → (Lexeme → Bool) → (Lexeme → S → Reader A) → S → Reader A
 behind_sign separates element s = one separates >>= λ sign. element sign s
 
 -- A first part, and further ones behind a separator each, which may have a meaning. The state starts from the first part and changes with each further one.
-abbrev pub joined : {F A B S : Type 0} → Reader F → (Lexeme → Bool) → (Lexeme → S → Reader A) → (S → A → S) → (F → S) → (F → List A → B) → Reader B
-joined p separates element step start whole = p >>= λ a. repeated separates (behind_sign separates element) step (start a) >>= λ more. pure (whole a more)
+abbrev pub chained : {F A B S : Type 0} → Reader F → (Lexeme → Bool) → (Lexeme → S → Reader A) → (S → A → S) → (F → S) → (F → List A → B) → Reader B
+chained p separates element step start whole = p >>= λ a. repeated separates (behind_sign separates element) step (start a) >>= λ more. pure (whole a more)
 
 -- ---- readers that contain themselves
 

@@ -13,10 +13,10 @@ mod token;
 mod tokens;
 
 pub use combinators::{
-    OtherPart, Part, PartBehind, PartBy, Recursive, as_often, behind_token, branch, choice,
-    choice_by_role, closing, exact, joining, judgement, limit, making, nesting, nothing,
-    one_of_two, one_token, opening, option, refusing, repetition, running_sum, same_texts,
-    sequence, stopping, whole_input,
+    OtherPart, Part, PartBehind, PartBy, Recursive, as_often, behind_token, branch, chaining,
+    choice, choice_by_role, closing, exact, judgement, limit, making, nesting, nothing, one_of_two,
+    one_token, opening, option, refusing, repetition, running_sum, same_texts, sequence, stopping,
+    whole_input,
 };
 pub use examples::{agreement_is_needed, journal_is_decided, nested_is_decided};
 pub use laws::{small_texts, spans_rise, tokens_are_cut, tokens_are_one};

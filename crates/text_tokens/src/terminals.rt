@@ -70,7 +70,7 @@ pub fn number_up_to(
     most: u32,
     kind: RefusalKind,
 ) -> Result<u32, ReadRefusal>
-    ensures reads { Gives (λ n. n) (reading.numeral (reading.above most kind)) tokens.old result tokens.new }
+    ensures reads { Gives (λ n. n) (reading.numeral (reading.too_large most kind)) tokens.old result tokens.new }
     ensures within { IfOk result (λ n. n ≤ most) }
 {
     let token = tokens.take_kind(TokenKind::Number)?;

@@ -537,7 +537,7 @@ where
     limit::<A>();
     as_often::<A>();
     repetition::<u32, A>();
-    joining::<A, u32, A, B>();
+    chaining::<A, u32, A, B>();
     nesting::<A>();
 }
 

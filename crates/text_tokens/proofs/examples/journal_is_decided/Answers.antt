@@ -1,12 +1,11 @@
 use Rattle.std.proofs.Common.{◌≡◌, List, [], ◌∷◌, Err, refl, sym, ap, subst, ◌∙◌}
 use Rattle.std.specs.Prelude.{codes}
 use Rattle.text_tokens.specs.declared.refusal.Refusal.{Refusal}
-use Rattle.text_tokens.specs.declared.refusal.RefusalKind.{RefusalKind}
 use Rattle.text_tokens.specs.declared.refusal.RefusalKind.TheVariants.{BadByte, Unexpected, TooMany, BadEntry, Trailing}
 use Rattle.text_tokens.specs.Text.{Lexeme}
 use Rattle.text_tokens.specs.Cursor.{same_kind}
-use Rattle.text_tokens.specs.Reading.{Answer, one_within, the_line, numeral, either, counted, elements, repeated}
-use Rattle.text_tokens.specs.Lawful.{IsFault, Tells}
+use Rattle.text_tokens.specs.Reading.{Answer, one_within, the_line, numeral, either, limited, elements, repeated}
+use Rattle.text_tokens.specs.Lawful.{Tells}
 use Rattle.text_tokens.specs.Journal.{Noted, IsJournal, a_pair, all_pairs, noted, an_entry, all_entries, journal}
 use Rattle.text_tokens.specs.JournalFaults.{word, half, pair, at, IsFirst}
 use Rattle.text_tokens.proofs.Obeying.{decided}
@@ -27,31 +26,31 @@ abbrev Answers : List Lexeme → Refusal → Type 0
 Answers ts r = ◌≡◌ {A = Answer (List Noted)} (journal (at 3 BadByte) ts) (Err r)
 
 goes_on : Answers (half (pair 3 [])) (at 3 BadByte)
-unfolding same_kind one_within the_line numeral either counted elements repeated a_pair all_pairs noted an_entry all_entries journal
+unfolding same_kind one_within the_line numeral either limited elements repeated a_pair all_pairs noted an_entry all_entries journal
 goes_on = refl
 
 before_foo : Answers (half (word 3 (codes "foo") ∷ [])) (at 1 BadEntry)
-unfolding same_kind one_within the_line numeral either counted elements repeated a_pair all_pairs noted an_entry all_entries journal
+unfolding same_kind one_within the_line numeral either limited elements repeated a_pair all_pairs noted an_entry all_entries journal
 before_foo = refl
 
 before_entry : Answers (half (word 3 (codes "entry") ∷ [])) (at 1 BadEntry)
-unfolding same_kind one_within the_line numeral either counted elements repeated a_pair all_pairs noted an_entry all_entries journal
+unfolding same_kind one_within the_line numeral either limited elements repeated a_pair all_pairs noted an_entry all_entries journal
 before_entry = refl
 
 before_end : Answers (half (word 3 (codes "end") ∷ [])) (at 1 BadEntry)
-unfolding same_kind one_within the_line numeral either counted elements repeated a_pair all_pairs noted an_entry all_entries journal
+unfolding same_kind one_within the_line numeral either limited elements repeated a_pair all_pairs noted an_entry all_entries journal
 before_end = refl
 
 before_byte : Answers (half []) (at 1 BadEntry)
-unfolding same_kind one_within the_line numeral either counted elements repeated a_pair all_pairs noted an_entry all_entries journal
+unfolding same_kind one_within the_line numeral either limited elements repeated a_pair all_pairs noted an_entry all_entries journal
 before_byte = refl
 
 within : Answers (half (word 3 (codes "pair") ∷ [])) (at 3 BadByte)
-unfolding same_kind one_within the_line numeral either counted elements repeated a_pair all_pairs noted an_entry all_entries journal
+unfolding same_kind one_within the_line numeral either limited elements repeated a_pair all_pairs noted an_entry all_entries journal
 within = refl
 
 beyond : Answers (half (pair 3 (pair 4 []))) (at 4 TooMany)
-unfolding same_kind one_within the_line numeral either counted elements repeated a_pair all_pairs noted an_entry all_entries journal
+unfolding same_kind one_within the_line numeral either limited elements repeated a_pair all_pairs noted an_entry all_entries journal
 beyond = refl
 
 is_it : (ts : List Lexeme) (r : Refusal) → Answers ts r → IsFirst ts r

@@ -1,8 +1,8 @@
-use Rattle.std.proofs.Common.{◌≡◌, ◌++◌, ◌∷◌, [], ◌∙◌, List, map, ap}
+use Rattle.std.proofs.Common.{◌≡◌, ◌++◌, ◌∷◌, [], List, map, ap}
 use Rattle.std.proofs.lemmas.Result.{err_from_is_err_and}
 use Rattle.std.proofs.lemmas.List.{map_push}
 use Rattle.text_tokens.specs.declared.journal.Entry.{Entry}
-use Rattle.text_tokens.specs.Journal.{is_entry, is_end, IsEntry, as_before, entry_in, all_entries}
+use Rattle.text_tokens.specs.Journal.{is_entry, is_end, as_before, entry_in, all_entries}
 use Rattle.text_tokens.specs.JournalView.{noted}
 use Rattle.text_tokens.proofs.JournalLaws.{EntryIn, no_pair, entry_elements}
 use Rattle.text_tokens.proofs.Looping.{loop_begins, loop_goes_on, loop_falls, loop_is_over, loop_fails}

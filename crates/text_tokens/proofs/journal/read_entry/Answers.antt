@@ -7,7 +7,7 @@ use Rattle.text_tokens.specs.declared.refusal.RefusalKind.TheVariants.{BadEntry}
 use Rattle.text_tokens.specs.declared.refusal.ReadRefusal.{ReadRefusal}
 use Rattle.text_tokens.specs.declared.refusal.ReadRefusal.TheVariants.{Refused}
 use Rattle.text_tokens.specs.Cursor.{Cursor}
-use Rattle.text_tokens.specs.Reading.{Reader, ◌>>=◌, pure, no_limit, the_line, numeral, verdict, judged}
+use Rattle.text_tokens.specs.Reading.{Reader, ◌>>=◌, pure, no_limit, the_line, numeral, judge}
 use Rattle.text_tokens.specs.Journal.{Noted, is_entry, miscounted, all_pairs, noted, an_entry}
 use Rattle.text_tokens.proofs.Stepping.{Reached, Failed, on, fails, on_made, judged_wrong, judged_fine}
 use Rattle.text_tokens.proofs.journal.read_entry.Goals as goal
@@ -23,7 +23,7 @@ behind_count line count = all_pairs >>= λ ps. pure (put line count ps)
 
 unnoted : (e : ReadRefusal) (old new : Cursor) → Failed noted e old new → Failed an_entry e old new
 unfolding an_entry
-unnoted e old new f = fails noted (λ a. verdict (miscounted a) a) e old new f
+unnoted e old new f = fails noted (λ a. judge (miscounted a) a) e old new f
 
 pub returns-in_err-line : goal.returns-in_err-line
 unfolding noted

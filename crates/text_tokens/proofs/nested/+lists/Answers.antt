@@ -1,4 +1,4 @@
-use Rattle.std.proofs.Common.{◌≡◌, ℕ, ◌-◌, ◌<◌, ◌++◌, ◌∷◌, [], List, map, Result, Ok, Err, refl, sym, ◌∙◌, ap, subst, arith}
+use Rattle.std.proofs.Common.{◌≡◌, ℕ, ◌-◌, ◌<◌, ◌++◌, ◌∷◌, [], List, map, Result, Ok, Err, sym, ◌∙◌, ap, subst, arith}
 use Rattle.std.proofs.lemmas.Result.{err_from_is_err_and}
 use Rattle.std.proofs.lemmas.List.{map_push}
 use Rattle.text_tokens.specs.declared.nested.Element.{Element}
@@ -6,15 +6,15 @@ use Rattle.text_tokens.specs.declared.refusal.ReadRefusal.{ReadRefusal}
 use Rattle.text_tokens.specs.declared.refusal.ReadRefusal.TheVariants.{Refused}
 use Rattle.text_tokens.specs.Text.{Lexeme}
 use Rattle.text_tokens.specs.Cursor.{Cursor}
-use Rattle.text_tokens.specs.Reading.{Reader, ◌>>=◌, pure, no_limit, one, opening, the_line, numeral, closed, counted, repeated, less}
+use Rattle.text_tokens.specs.Reading.{Reader, ◌>>=◌, pure, no_limit, one, opening, the_line, numeral, closed, repeated, less}
 use Rattle.text_tokens.specs.Lawful.{always}
 use Rattle.text_tokens.specs.Steps.{Gives, lexeme_of}
 use Rattle.text_tokens.specs.Nested.{Tree, Trees, number, list, is_open, is_close, is_semicolon, begins_element, element_limit, element_in, further, element_at, a_list, trees, inside, all_elements}
 use Rattle.text_tokens.specs.NestedView.{tree}
 use Rattle.text_tokens.proofs.NestedTwins.{Behind}
 use Rattle.text_tokens.proofs.NestedLaws.{part_element_at, further_elements}
-use Rattle.text_tokens.proofs.Stepping.{Reached, Failed, gives_as, on, fails, on_made, another_none, another_some, another_fails, with_room, without_room}
-use Rattle.text_tokens.proofs.Looping.{StillReads, loop_joins, loop_goes_on, loop_is_over, loop_fails, less_is}
+use Rattle.text_tokens.proofs.Stepping.{Reached, gives_as, on, fails, on_made, another_none, another_some, another_fails, with_room, without_room}
+use Rattle.text_tokens.proofs.Looping.{StillReads, loop_chains, loop_goes_on, loop_is_over, loop_fails, less_is}
 use Rattle.text_tokens.proofs.NestedSteps.{list_tree, number_tree, element_number, element_list, inner, list_is, full_as}
 use Rattle.text_tokens.proofs.nested.+lists.Goals as goal
 
@@ -111,7 +111,7 @@ unfolding all_elements
 read_elements-loop-found-init t w =
     let first = w.in_ok-read_element.field-0 in
     let items : w.push.new.self.items ≡ first ∷ [] = w.in_ok-push.ensures.items ∙ ap (λ (xs : List Element). xs ++ first ∷ []) w.new-found.ensures.items in
-    loop_joins (element_at w.args.levels) (repeated is_semicolon (further w.args.levels (element_at w.args.levels)) (λ room t. less room) 3) w.args.tokens.now w.read_element.new.tokens (tree first) (map tree w.push.new.self.items) (ap (λ (xs : List Element). map tree xs) items) w.in_ok-read_element.ensures
+    loop_chains (element_at w.args.levels) (repeated is_semicolon (further w.args.levels (element_at w.args.levels)) (λ room t. less room) 3) w.args.tokens.now w.read_element.new.tokens (tree first) (map tree w.push.new.self.items) (ap (λ (xs : List Element). map tree xs) items) w.in_ok-read_element.ensures
 
 pub read_elements-returns-in_err-next : goal.read_elements-returns-in_err-next
 read_elements-returns-in_err-next t w =

@@ -1,4 +1,4 @@
-use Rattle.std.proofs.Common.{◌≡◌, ◌<◌, ◌≤◌, ℕ, true, false, Some, None, Ok, Err, refl}
+use Rattle.std.proofs.Common.{◌≡◌, ◌<◌, ◌≤◌, ℕ, true, false, Ok, Err, refl}
 use Rattle.std.specs.Prelude.{nat_lt}
 use Rattle.std.proofs.lemmas.Bool.{lt-ltb, le-ltb}
 use Rattle.std.proofs.lemmas.Result.{err_from_is_err_and}
@@ -6,7 +6,7 @@ use Rattle.text_tokens.specs.declared.refusal.RefusalKind.TheVariants.{BadEntry}
 use Rattle.text_tokens.specs.declared.refusal.ReadRefusal.{ReadRefusal}
 use Rattle.text_tokens.specs.declared.refusal.ReadRefusal.TheVariants.{Refused}
 use Rattle.text_tokens.specs.Cursor.{Cursor}
-use Rattle.text_tokens.specs.Reading.{Reader, ◌>>=◌, pure, no_limit, the_line, numeral, verdict, judged}
+use Rattle.text_tokens.specs.Reading.{Reader, ◌>>=◌, pure, no_limit, the_line, numeral, judge, judged}
 use Rattle.text_tokens.specs.Nested.{Placed, is_pair, too_much, placed, backwards, a_pair}
 use Rattle.text_tokens.proofs.Stepping.{Reached, Failed, on, fails, on_made, judged_wrong, judged_fine}
 use Rattle.text_tokens.proofs.nested.read_pair.Goals as goal
@@ -22,7 +22,7 @@ behind_low line low = numeral no_limit >>= λ high. pure (put line low high)
 
 unplaced : (sum : ℕ) (e : ReadRefusal) (old new : Cursor) → Failed (placed sum) e old new → Failed (a_pair sum) e old new
 unfolding a_pair
-unplaced sum e old new f = fails (judged (placed sum) backwards) (λ p. pure p.couple) e old new (fails (placed sum) (λ a. verdict (backwards a) a) e old new f)
+unplaced sum e old new f = fails (judged (placed sum) backwards) (λ p. pure p.couple) e old new (fails (placed sum) (λ a. judge (backwards a) a) e old new f)
 
 pub returns-in_err-line-clause-reads : goal.returns-in_err-line-clause-reads
 unfolding placed

@@ -1,11 +1,10 @@
-use Rattle.std.proofs.Common.{◌≡◌, ◌-◌, ◌+◌, ◌++◌, ◌∷◌, [], ◌∙◌, ℕ, List, map, sym, ap, subst, arith}
+use Rattle.std.proofs.Common.{◌≡◌, ◌+◌, ◌++◌, ◌∷◌, [], ℕ, List, map, ap, subst, arith}
 use Rattle.std.proofs.lemmas.Result.{err_from_is_err_and}
 use Rattle.std.proofs.lemmas.List.{map_push}
 use Rattle.text_tokens.specs.declared.nested.Pair.{Pair}
 use Rattle.text_tokens.specs.Reading.{repeated}
-use Rattle.text_tokens.specs.Grammar.{Counted}
 use Rattle.text_tokens.specs.Lawful.{always}
-use Rattle.text_tokens.specs.Nested.{Tally, is_pair, is_end, IsPair, pair_in, tallied, all_pairs}
+use Rattle.text_tokens.specs.Nested.{Tally, is_pair, is_end, pair_in, tallied, all_pairs}
 use Rattle.text_tokens.specs.NestedView.{couple}
 use Rattle.text_tokens.proofs.NestedLaws.{PairIn, pair_elements}
 use Rattle.text_tokens.proofs.Looping.{StillReads, loop_begins, loop_goes_on, loop_is_over, loop_fails, less_is}
