@@ -7,7 +7,7 @@ use Rattle.text_tokens.specs.contracts.token.TokenKind.{the_type}
 use Rattle.text_tokens.specs.declared.token.TokenKind.{TokenKind}
 use Rattle.text_tokens.specs.declared.token.TokenKind.TheVariants.{Number}
 use Rattle.text_tokens.specs.Text.{Lexeme}
-use Rattle.text_tokens.specs.Cursor.{next_passes, is_kind, is_the, same_kind, value_of}
+use Rattle.text_tokens.specs.Cursor.{next_passes, is_kind, is_the, same_kind, number_value}
 use Rattle.amoebot_run.specs.Phrases.{Phrase, IsOne, is_one, Then, then, Made, made}
 use Rattle.amoebot_run.specs.Documents.{this, number_if}
 
@@ -48,8 +48,8 @@ number_by true true n m e = let same : n ≡ m = cc in (refl, refl, same)
 number_by true false n m e = absurd cc
 number_by false b n m e = absurd cc
 
-pub number_is : (passes : ℕ → Bool) (t : Lexeme) (n : ℕ) → number_if passes t ≡ Some n → (is_kind Number t ≡ true) × (passes (value_of t.text) ≡ true) × (value_of t.text ≡ n)
-number_is passes t n e = number_by (is_kind Number t) (passes (value_of t.text)) (value_of t.text) n e
+pub number_is : (passes : ℕ → Bool) (t : Lexeme) (n : ℕ) → number_if passes t ≡ Some n → (is_kind Number t ≡ true) × (passes (number_value t.text) ≡ true) × (number_value t.text ≡ n)
+number_is passes t n e = number_by (is_kind Number t) (passes (number_value t.text)) (number_value t.text) n e
 
 -- ---- how a phrase begins
 

@@ -8,7 +8,7 @@ use Rattle.text_tokens.specs.declared.token.Token.{Token}
 use Rattle.text_tokens.specs.declared.refusal.Refusal.{Refusal}
 use Rattle.text_tokens.specs.declared.refusal.RefusalKind.TheVariants.{Unexpected}
 use Rattle.text_tokens.specs.Text.{Lexeme}
-use Rattle.text_tokens.specs.Cursor.{Cursor, token_of, behind, tail, expect, expect_by, slice, FirstIs, Spells, is_kind, is_the, next_passes, value_of}
+use Rattle.text_tokens.specs.Cursor.{Cursor, token_of, past_token, tail, expect, expect_by, slice, FirstIs, Spells, is_kind, is_the, next_passes, number_value}
 use Rattle.amoebot_run.specs.declared.document.Unread.{Unread}
 use Rattle.amoebot_run.specs.declared.document.Unread.TheVariants.{NotYet, NoMemory}
 use Rattle.amoebot_run.specs.Documents.{this, number_if, either_of, signed}
@@ -42,7 +42,7 @@ module _ {A : Type 0} (test : Lexeme → Bool) (meaning : Lexeme → Option A) w
   took_by source (l ∷ ls) last t o e f h = took_test source l ls last t o (test l) refl e f h
 
   -- such a token was taken
-  pub took : (old new : Cursor) (t : Token) (o : Option A) → expect test old ≡ Ok t → new ≡ behind old → Spells old t → ((l : Lexeme) → test l ≡ true → l.text ≡ slice old.source t → meaning l ≡ o) → one meaning old.ahead ≡ option_map (before new.ahead) o
+  pub took : (old new : Cursor) (t : Token) (o : Option A) → expect test old ≡ Ok t → new ≡ past_token old → Spells old t → ((l : Lexeme) → test l ≡ true → l.text ≡ slice old.source t → meaning l ≡ o) → one meaning old.ahead ≡ option_map (before new.ahead) o
   took old new t o e moves s h = took_by old.source old.ahead old.last t o e s.bytes h ∙ ap (λ (ls : List Lexeme). option_map (before ls) o) (sym (ap (λ (c : Cursor). c.ahead) moves))
 
 -- ---- numbers
@@ -67,7 +67,7 @@ number_by passes false v n ts us b e f = absurd cc
 pub number_tested : (passes : ℕ → Bool) (ts : List Lexeme) (n : ℕ) (us : List Lexeme) (b : Bool) → any_number ts ≡ Some (n, us) → passes n ≡ b → one (number_if passes) ts ≡ cond b (Some (n, us)) None
 unfolding one
 number_tested passes [] n us b e f = absurd cc
-number_tested passes (t ∷ ts) n us b e f = number_by passes (is_kind Number t) (value_of t.text) n ts us b e f
+number_tested passes (t ∷ ts) n us b e f = number_by passes (is_kind Number t) (number_value t.text) n ts us b e f
 
 no_number_by : (passes : ℕ → Bool) (k : Bool) (v : ℕ) (ts : List Lexeme) → option_map (before ts) (cond (k && true) (Some v) None) ≡ None → option_map (before ts) (cond (k && passes v) (Some v) None) ≡ None
 no_number_by passes true v ts e = absurd cc
@@ -76,7 +76,7 @@ no_number_by passes false v ts e = refl
 no_number : (passes : ℕ → Bool) (ts : List Lexeme) → any_number ts ≡ None → one (number_if passes) ts ≡ None
 unfolding one
 no_number passes [] e = refl
-no_number passes (t ∷ ts) e = no_number_by passes (is_kind Number t) (value_of t.text) ts e
+no_number passes (t ∷ ts) e = no_number_by passes (is_kind Number t) (number_value t.text) ts e
 
 pub number_fails : (passes : ℕ → Bool) (ts : List Lexeme) (e : Unread) → Fails e (any_number ts) → Fails e (one (number_if passes) ts)
 number_fails passes ts NotYet h = no_number passes ts h

@@ -16,7 +16,7 @@ use Rattle.text_tokens.specs.declared.token.TokenKind.TheVariants.{Word, Number,
 use Rattle.text_tokens.specs.declared.refusal.Refusal.{Refusal}
 use Rattle.text_tokens.specs.declared.refusal.RefusalKind.TheVariants.{Truncated}
 use Rattle.text_tokens.specs.Text.{Lexeme, AreTokens}
-use Rattle.text_tokens.specs.Cursor.{is_the, is_kind, value_of}
+use Rattle.text_tokens.specs.Cursor.{is_the, is_kind, number_value}
 use Rattle.amoebot_state.specs.declared.bot.Bot.{Bot}
 use Rattle.amoebot_state.specs.declared.bot.Port.{Port}
 use Rattle.amoebot_state.specs.declared.bot.End.{End}
@@ -39,7 +39,7 @@ IsWord text = IsOne (this Word text)
 
 -- a number that passes the test
 abbrev pub number_if : (ℕ → Bool) → Lexeme → Option ℕ
-number_if passes t = if is_kind Number t && passes (value_of t.text) then Some (value_of t.text) else None
+number_if passes t = if is_kind Number t && passes (number_value t.text) then Some (number_value t.text) else None
 
 abbrev pub is_within : ℕ → ℕ → ℕ → Bool
 is_within least most n = nat_le least n && nat_le n most

@@ -22,7 +22,7 @@ use Rattle.amoebot_state.specs.declared.verdict.Failure.{Failure}
 use Rattle.amoebot_state.specs.declared.verdict.Failure.TheVariants as failure
 use Rattle.amoebot_state.specs.declared.verdict.Moved.{Moved}
 use Rattle.amoebot_state.specs.declared.verdict.Moved.TheVariants as moved
-use Rattle.amoebot_state.specs.Pairs.{cell_of, value_of}
+use Rattle.amoebot_state.specs.Pairs.{cell_of, cell_value}
 use Rattle.amoebot_state.specs.Configs.{Config}
 use Rattle.amoebot_run.specs.declared.marks.Mark.{Mark}
 use Rattle.amoebot_run.specs.declared.marks.Mark.TheVariants as mark
@@ -59,7 +59,7 @@ value_words vars (cell.Body b) = bot_words vars b
 
 -- a cell and its new value
 abbrev pub pair_words : ℕ → CellName × Cell → Words
-pair_words vars p = cell_words (cell_of p) ++ value_words vars (value_of p)
+pair_words vars p = cell_words (cell_of p) ++ value_words vars (cell_value p)
 
 abbrev pub moved_words : Moved → Words
 moved_words moved.None = codes "none" ∷ []

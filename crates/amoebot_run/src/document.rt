@@ -2,7 +2,7 @@ ghost use Rattle.std.specs.Prelude.{◌≡◌, ◌<◌, ◌≤◌, ◌≤ℤ◌,
 ghost use Rattle.std.specs.List.{All, list_any};
 ghost use Rattle.std.specs.Str.{bytes_eq};
 ghost use Rattle.tri_lattice.specs.Lattice.{IsNear};
-ghost use Rattle.text_tokens.specs.Cursor.{value_of};
+ghost use Rattle.text_tokens.specs.Cursor.{number_value};
 ghost use Rattle.amoebot_state.specs.declared.bot.Port.{Port as PortValue};
 ghost use Rattle.amoebot_state.specs.Configs.{Config, config_of};
 ghost use Rattle.amoebot_state.specs.Refusals.{IsPlain, IsFaultless};

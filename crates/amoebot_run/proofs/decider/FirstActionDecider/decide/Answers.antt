@@ -11,7 +11,7 @@ use Rattle.amoebot_state.specs.declared.verdict.Verdict.TheVariants as verdict
 use Rattle.amoebot_state.specs.Pairs.{Pairs}
 use Rattle.amoebot_state.specs.Ports.{is_beside}
 use Rattle.amoebot_state.specs.Configs.{blank, occupant}
-use Rattle.amoebot_state.specs.Zones.{gap}
+use Rattle.amoebot_state.specs.Zones.{shown_alone}
 use Rattle.amoebot_state.specs.Moves.{with_head}
 use Rattle.amoebot_run.proofs.decider.FirstActionDecider.decide.Goals as goal
 
@@ -43,4 +43,4 @@ returns c =
     let empty = sym c.occupant.ensures ∙ none_there c.occupant.result (sym c.if-is_some.ensures) in
     ap change made ∙ sym (c.expansion_changes.ensures p s b c.own.ensures.valid (sym c.own.ensures.value) (sym c.if-not-is_contracted.ensures) (sym c.if-not-is_port.ensures.value)
     (ap (is_in s.area) (sym c.behind-node.ensures) ∙ inside)
-    (ap (occupant (gap s)) (sym c.behind-node.ensures) ∙ empty))
+    (ap (occupant (shown_alone s)) (sym c.behind-node.ensures) ∙ empty))
