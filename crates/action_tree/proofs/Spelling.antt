@@ -15,8 +15,8 @@ by_either false b f g e = g e
 letter_is_ascii : (b : ℕ) → is_letter b ≡ true → b < 128
 letter_is_ascii b =
     by_either ((nat_le 65 b && nat_le b 90) || (nat_le 97 b && nat_le b 122)) (b == 95)
-        (by_either (nat_le 65 b && nat_le b 90) (nat_le 97 b && nat_le b 122) (λ e. omega (arith, upto 65 b 90 e)) (λ e. omega (arith, upto 97 b 122 e)))
-        (λ e. omega (arith, eqb-true b 95 e))
+    (by_either (nat_le 65 b && nat_le b 90) (nat_le 97 b && nat_le b 122) (λ e. omega (arith, upto 65 b 90 e)) (λ e. omega (arith, upto 97 b 122 e)))
+    (λ e. omega (arith, eqb-true b 95 e))
 
 byte_is_ascii : (b : ℕ) → is_word_byte b ≡ true → b < 128
 byte_is_ascii b = by_either (is_letter b) (is_digit b) (letter_is_ascii b) (λ e. omega (arith, upto 48 b 57 e))

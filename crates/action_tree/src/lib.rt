@@ -12,3 +12,6 @@ pub use laws::{limits_are_sharp, samples_are_writable, writable_is_given};
 pub use program::{Action, Program, Var};
 pub use statement::{Move, Stmt};
 pub use word::{Lit, Word};
+
+#[cfg(test)]
+mod tests;
