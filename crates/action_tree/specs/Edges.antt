@@ -1,6 +1,5 @@
 -- Pairs of programs on both sides of each limit: one that just keeps it, and one that just passes it.
 use Rattle.std.specs.Prelude.{ℕ, zero, suc, Bool, true, false, not, ◌&&◌, List, [], ◌∷◌, ◌++◌, codes}
-use Rattle.std.specs.List.{list_all}
 use Rattle.action_tree.specs.declared.expression.PortSet.TheVariants.{Ports, Free}
 use Rattle.action_tree.specs.declared.expression.Cmp.TheVariants.{Lt}
 use Rattle.amoebot_state.specs.declared.bot.End.TheVariants.{Tail}

@@ -1,5 +1,5 @@
 -- Trees of whole programs, as their texts give them but for the lines, which are all 0.
-use Rattle.std.specs.Prelude.{ℕ, Bool, true, false, List, [], ◌∷◌, codes}
+use Rattle.std.specs.Prelude.{ℕ, true, false, List, [], ◌∷◌, codes}
 use Rattle.amoebot_state.specs.declared.bot.End.TheVariants.{Head, Tail}
 use Rattle.action_tree.specs.declared.expression.PortSet.TheVariants.{Ports, Free}
 use Rattle.action_tree.specs.declared.expression.Cmp.TheVariants.{Eq, Ne, Lt, Le, Gt, Ge}
@@ -37,20 +37,20 @@ var v most = record { name = word v; max = literal most }
 abbrev pub action : List ℕ → Guard → List Stmt → Move → Action
 action v g body moved = record { name = word v; guard = g; body = stmts body; moved = moved }
 
-abbrev p : PortExpr
+abbrev pub p : PortExpr
 p = bound (word (codes "p"))
 
 abbrev q : PortExpr
 q = bound (word (codes "q"))
 
 -- `any p in ports ( .. )`, `first p in ports ( .. )`
-abbrev some_port : Guard → Guard
+abbrev pub some_port : Guard → Guard
 some_port g = quantified any (word (codes "p")) Ports g
 
-abbrev first_port : Guard → PortExpr
+abbrev pub first_port : Guard → PortExpr
 first_port g = first (word (codes "p")) Ports g
 
-abbrev head_0 : PortExpr
+abbrev pub head_0 : PortExpr
 head_0 = at_end Head (fixed (literal 0))
 
 -- the amoebots of one row gather at the border
@@ -71,12 +71,12 @@ erosion = record {
   vars = var (codes "cand") 1 ∷ var (codes "leader") 1 ∷ [];
   actions =
       action (codes "lead") (and (own_is (codes "cand") 1 ∷ own_is (codes "leader") 0 ∷ negation (some_port (there_is p (codes "cand") 1)) ∷ []))
-          (put (word (codes "leader")) (one (number (literal 1))) ∷ []) no_move
+      (put (word (codes "leader")) (one (number (literal 1))) ∷ []) no_move
       ∷ action (codes "erode")
-          (and (own_is (codes "cand") 1
-              ∷ equals (count (word (codes "p")) Ports (and (there_is p (codes "cand") 1 ∷ negation (and (tested tree.linked (turned p (literal 1)) ∷ there_is (turned p (literal 1)) (codes "cand") 1 ∷ [])) ∷ []))) (number (literal 1))
-              ∷ []))
-          (put (word (codes "cand")) (one (number (literal 0))) ∷ []) no_move
+      (and (own_is (codes "cand") 1
+      ∷ equals (count (word (codes "p")) Ports (and (there_is p (codes "cand") 1 ∷ negation (and (tested tree.linked (turned p (literal 1)) ∷ there_is (turned p (literal 1)) (codes "cand") 1 ∷ [])) ∷ []))) (number (literal 1))
+      ∷ []))
+      (put (word (codes "cand")) (one (number (literal 0))) ∷ []) no_move
       ∷ [];
 }
 
@@ -100,59 +100,65 @@ hexagon = record {
   actions =
       action (codes "root") (and (atom tree.contracted ∷ in_state 0 2 ∷ some_port (state_is p 1 4) ∷ [])) (set_to (codes "parent") 6 ∷ set_to (codes "state") 3 ∷ []) no_move
       ∷ action (codes "follow") (and (atom tree.contracted ∷ own_is (codes "state") 0 ∷ some_port (state_is p 2 3) ∷ []))
-          (let_be (word (codes "q")) (first_port (state_is p 2 3)) ∷ put (word (codes "parent")) (one (direction own_side q)) ∷ set_to (codes "state") 2 ∷ []) no_move
+      (let_be (word (codes "q")) (first_port (state_is p 2 3)) ∷ put (word (codes "parent")) (one (direction own_side q)) ∷ set_to (codes "state") 2 ∷ []) no_move
       ∷ action (codes "retire") (and (atom tree.contracted ∷ own_is (codes "state") 3 ∷ some_port (and (state_is p 1 4 ∷ points_here (codes "aim") ∷ [])) ∷ []))
-          (let_be (word (codes "q")) (first_port (and (state_is p 1 4 ∷ negation (and (tested tree.linked (turned p (literal 5)) ∷ state_is (turned p (literal 5)) 1 4 ∷ [])) ∷ [])))
-          ∷ put (word (codes "aim")) (one (direction own_side (turned q (literal 5)))) ∷ set_to (codes "state") 4 ∷ []) no_move
+      (let_be (word (codes "q")) (first_port (and (state_is p 1 4 ∷ negation (and (tested tree.linked (turned p (literal 5)) ∷ state_is (turned p (literal 5)) 1 4 ∷ [])) ∷ [])))
+      ∷ put (word (codes "aim")) (one (direction own_side (turned q (literal 5)))) ∷ set_to (codes "state") 4 ∷ []) no_move
       ∷ action (codes "go") (and (atom tree.contracted ∷ own_is (codes "state") 3 ∷ some_port (and (state_is p 1 4 ∷ tested tree.free (turned p (literal 1)) ∷ [])) ∷ [])) []
-          (through expand (turned (first_port (and (state_is p 1 4 ∷ tested tree.free (turned p (literal 1)) ∷ []))) (literal 1)))
+      (through expand (turned (first_port (and (state_is p 1 4 ∷ tested tree.free (turned p (literal 1)) ∷ []))) (literal 1)))
       ∷ action (codes "drag") (and (atom tree.expanded ∷ in_state 2 3 ∷ negation (some_port (there_is p (codes "state") 0))
-              ∷ some_port (and (negation (tested tree.at_head p) ∷ there_is p (codes "state") 2 ∷ negation (tested tree.peer_expanded p) ∷ points_here (codes "parent") ∷ [])) ∷ []))
-          (let_be (word (codes "q")) (first_port (and (negation (tested tree.at_head p) ∷ there_is p (codes "state") 2 ∷ negation (tested tree.peer_expanded p) ∷ points_here (codes "parent") ∷ [])))
-          ∷ put_of q (word (codes "parent")) (one (mod6 (term_then false inner (term_then true (direction own_side q) (term_then false (direction peer_side q) (one (number (literal 3))))))))
-          ∷ []) (through pull q)
+      ∷ some_port (and (negation (tested tree.at_head p) ∷ there_is p (codes "state") 2 ∷ negation (tested tree.peer_expanded p) ∷ points_here (codes "parent") ∷ [])) ∷ []))
+      (let_be (word (codes "q")) (first_port (and (negation (tested tree.at_head p) ∷ there_is p (codes "state") 2 ∷ negation (tested tree.peer_expanded p) ∷ points_here (codes "parent") ∷ [])))
+      ∷ put_of q (word (codes "parent")) (one (mod6 (term_then false inner (term_then true (direction own_side q) (term_then false (direction peer_side q) (one (number (literal 3))))))))
+      ∷ []) (through pull q)
       ∷ action (codes "rest") (and (atom tree.expanded ∷ in_state 2 3
-              ∷ negation (some_port (or (there_is p (codes "state") 0 ∷ and (negation (tested tree.at_head p) ∷ there_is p (codes "state") 2 ∷ tested tree.peer_head p ∷ points_here (codes "parent") ∷ []) ∷ []))) ∷ [])) []
-          (contract Tail)
+      ∷ negation (some_port (or (there_is p (codes "state") 0 ∷ and (negation (tested tree.at_head p) ∷ there_is p (codes "state") 2 ∷ tested tree.peer_head p ∷ points_here (codes "parent") ∷ []) ∷ []))) ∷ [])) []
+      (contract Tail)
       ∷ [];
 }
 
 -- ---- each form of the grammar
 
-abbrev x : Name
+abbrev pub x : Name
 x = word (codes "x")
 
-abbrev x_of_p : Term
+abbrev pub tail_x : PortExpr
+tail_x = at_end Tail (held x)
+
+abbrev pub x_of_p : Term
 x_of_p = of_port p x
 
 abbrev pub every_port : List PortExpr
-every_port = p ∷ head_0 ∷ at_end Tail (held x) ∷ turned p (literal 1) ∷ first_port (atom tree.always) ∷ []
+every_port = p ∷ head_0 ∷ tail_x ∷ turned p (literal 1) ∷ first_port (atom tree.always) ∷ []
 
 abbrev pub every_sum : Sum
 every_sum =
     term_then true (number (literal 1)) (term_then false (own x) (term_then true x_of_p (term_then false (count (word (codes "p")) Ports (atom tree.always))
-        (term_then false (direction own_side p) (term_then false (direction peer_side p) (term_then false inner (one (mod6 (one (own x))))))))))
+    (term_then false (direction own_side p) (term_then false (direction peer_side p) (term_then false inner (one (mod6 (one (own x))))))))))
 
 abbrev pub every_comparison : List Guard
 every_comparison =
     comparison every_sum Eq (one inner) ∷ comparison (one inner) Ne (one inner) ∷ comparison (one inner) Lt (one inner)
-        ∷ comparison (one inner) Le (one inner) ∷ comparison (one inner) Gt (one inner) ∷ comparison (one inner) Ge (one inner) ∷ []
+    ∷ comparison (one inner) Le (one inner) ∷ comparison (one inner) Gt (one inner) ∷ comparison (one inner) Ge (one inner) ∷ []
 
 abbrev pub every_guard : Guard
 every_guard =
     or (and (atom tree.always ∷ atom tree.contracted ∷ atom tree.expanded ∷ negation (atom tree.never) ∷ [])
-        ∷ some_port (tested tree.linked p)
-        ∷ quantified tree.all (word (codes "p")) Free (tested tree.free head_0)
-        ∷ tested tree.at_head (at_end Tail (held x))
-        ∷ tested tree.peer_expanded (turned p (literal 1))
-        ∷ tested tree.peer_head (first_port (atom tree.always))
-        ∷ and every_comparison ∷ [])
+    ∷ some_port (tested tree.linked p)
+    ∷ quantified tree.all (word (codes "p")) Free (tested tree.free head_0)
+    ∷ tested tree.at_head tail_x
+    ∷ tested tree.peer_expanded (turned p (literal 1))
+    ∷ tested tree.peer_head (first_port (atom tree.always))
+    ∷ and every_comparison ∷ [])
+
+abbrev pub put_inner : List Stmt
+put_inner = put x (one inner) ∷ []
 
 abbrev pub every_stmt : List Stmt
 every_stmt =
     put x every_sum ∷ put_of p x (one inner) ∷ let_be (word (codes "q")) p
-        ∷ tree.if_then (atom tree.always) (stmts (put x (one inner) ∷ [])) (stmts (put x (one inner) ∷ []))
-        ∷ tree.for_each (word (codes "p")) Ports (atom tree.always) (stmts (put x (one inner) ∷ [])) ∷ []
+    ∷ tree.if_then (atom tree.always) (stmts put_inner) (stmts put_inner)
+    ∷ tree.for_each (word (codes "p")) Ports (atom tree.always) (stmts put_inner) ∷ []
 
 abbrev pub every_form : Program
 every_form = record {

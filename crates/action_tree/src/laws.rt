@@ -1,6 +1,6 @@
 //! What holds of the definitions. The functions do nothing: their clauses are the laws.
 
-ghost use Rattle.action_tree.specs.Laws.{WritableIsGiven, GivenIsWritable, SamplesAreWritable, LimitsAreSharp};
+ghost use Rattle.action_tree.specs.Laws.{WritableIsGiven, GivenIsWritable, WordsAreTokens, TokensAreWords, SamplesAreWritable, LimitsAreSharp};
 
 /// The test passes exactly the trees that the productions of the grammar give.
 #[tactic(auto, using(crate::proofs::ProducedStatements::program_from, crate::proofs::MeasuredStatements::program_passes))]
@@ -17,4 +17,11 @@ pub fn samples_are_writable()
 /// It keeps each limit exactly.
 pub fn limits_are_sharp()
     ensures { LimitsAreSharp }
+{}
+
+/// A word is what a text has as a token.
+#[tactic(auto, using(crate::proofs::Spelling::word_is_cut, crate::proofs::Spelling::cut_is_word))]
+pub fn words_are_tokens()
+    ensures word { WordsAreTokens }
+    ensures token { TokensAreWords }
 {}

@@ -8,7 +8,10 @@ mod statement;
 mod word;
 
 pub use expression::{Cmp, DirTerm, Guard, Part, PortExpr, PortSet, Sum, Term};
-pub use laws::{limits_are_sharp, samples_are_writable, writable_is_given};
+pub use laws::{limits_are_sharp, samples_are_writable, words_are_tokens, writable_is_given};
 pub use program::{Action, Program, Var};
 pub use statement::{Move, Stmt};
 pub use word::{Lit, Word};
+
+#[cfg(test)]
+mod tests;

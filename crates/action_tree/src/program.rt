@@ -63,6 +63,13 @@ impl Program {
         }
     }
 
+    /// The same program with the guard of movements on or off.
+    pub fn with_guard(self, guard: bool) -> Program
+        ensures { result ≡ record self { guard = guard } }
+    {
+        Program { guard, ..self }
+    }
+
     /// Whether movements are guarded.
     pub fn guard(&self) -> bool
         ensures { result ≡ self.now.guard }
@@ -79,7 +86,8 @@ impl Program {
 
     /// The actions, in the order of the text.
     pub fn actions(&self) -> &[Action]
-        ensures { map action_of result.now ≡ self.now.actions }
+        ensures actions { map action_of result.now ≡ self.now.actions }
+        ensures writable { is_writable self.now ≡ true }
     {
         &self.actions
     }
