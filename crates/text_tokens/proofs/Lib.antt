@@ -21,6 +21,7 @@ pub mod NestedTwins
 pub mod NestedLaws
 pub mod JournalLaws
 pub mod Agreeing
+pub mod PutLaws
 pub mod Stepping
 pub mod Looping
 pub mod NestedSteps

@@ -17,3 +17,5 @@ pub mod Journal
 pub mod JournalView
 pub mod JournalFaults
 pub mod Agreement
+pub mod Puts
+pub mod PutTexts

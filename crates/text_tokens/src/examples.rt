@@ -1,4 +1,4 @@
-//! What two small formats say of their tokens. The functions do nothing: their clauses are the laws.
+//! What three small formats say of their tokens. The functions do nothing: their clauses are the laws.
 
 ghost use Rattle.text_tokens.specs.declared.refusal.RefusalKind.TheVariants.{Trailing};
 ghost use Rattle.text_tokens.specs.Nested.{IsNested, nested};
@@ -7,6 +7,8 @@ ghost use Rattle.text_tokens.specs.Lawful.{Exact, IsDecided};
 ghost use Rattle.text_tokens.specs.Inputs.{IsDecidedInput};
 ghost use Rattle.text_tokens.specs.Agreement.{AllButAgreement};
 ghost use Rattle.text_tokens.specs.JournalFaults.{EntriesAreJudged};
+ghost use Rattle.text_tokens.specs.Puts.{IsPut, put};
+ghost use Rattle.text_tokens.specs.PutTexts.{PutsAreRead};
 
 /// The tokens of the format of `nested` are read in one way, or have one first fault, and its reader answers that.
 pub fn nested_is_decided()
@@ -21,6 +23,13 @@ pub fn journal_is_decided()
     ensures decided { IsDecided IsJournal }
     ensures input { IsDecidedInput IsJournal Trailing }
     ensures judged { EntriesAreJudged }
+{}
+
+/// So are those of a format of which two forms begin alike, and whose separators have a meaning.
+pub fn puts_are_decided()
+    ensures exact { Exact IsPut put }
+    ensures decided { IsDecided IsPut }
+    ensures read { PutsAreRead }
 {}
 
 /// Where a token is refused in one text and not in another, a grammar can say two things, though every other law holds.

@@ -549,6 +549,7 @@ fn laws_hold_at_a_type(rt: HostRuntime) {
     laws_of::<u8, u16>();
     nested_is_decided();
     journal_is_decided();
+    puts_are_decided();
     agreement_is_needed();
     tokens_are_cut();
     tokens_are_one();

@@ -109,9 +109,9 @@ read_elements-returns-in_err-read_element t w =
 pub read_elements-loop-found-init : goal.read_elements-loop-found-init
 unfolding all_elements
 read_elements-loop-found-init t w =
-    let first = w.in_ok-read_element.field-0 in
-    let items : w.push.new.self.items ≡ first ∷ [] = w.in_ok-push.ensures.items ∙ ap (λ (xs : List Element). xs ++ first ∷ []) w.new-found.ensures.items in
-    loop_chains (element_at w.args.levels) (repeated is_semicolon (further w.args.levels (element_at w.args.levels)) (λ room t. less room) 3) w.args.tokens.now w.read_element.new.tokens (tree first) (map tree w.push.new.self.items) (ap (λ (xs : List Element). map tree xs) items) w.in_ok-read_element.ensures
+    let items : w.push.new.self.items ≡ w.in_ok-read_element.field-0 ∷ [] = w.in_ok-push.ensures.items ∙ ap (λ (xs : List Element). xs ++ w.in_ok-read_element.field-0 ∷ []) w.new-found.ensures.items in
+    loop_chains (element_at w.args.levels) (repeated is_semicolon (further w.args.levels (element_at w.args.levels)) (λ room t. less room) 3) w.args.tokens.now w.read_element.new.tokens (tree w.in_ok-read_element.field-0) (map tree w.push.new.self.items)
+    (ap (λ (xs : List Element). map tree xs) items) w.in_ok-read_element.ensures
 
 pub read_elements-returns-in_err-next : goal.read_elements-returns-in_err-next
 read_elements-returns-in_err-next t w =
