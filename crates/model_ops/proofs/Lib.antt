@@ -26,3 +26,4 @@ pub mod Gathered
 pub mod Opened
 pub mod OneNode
 pub mod Patching
+pub mod Carried

@@ -14,3 +14,6 @@ pub use laws::{
 };
 pub use peer::Peer;
 pub use site::Site;
+
+#[cfg(test)]
+mod tests;

@@ -9,6 +9,9 @@ use amoebot_state::{ALL_PORTS, Bot, Found, Port};
 use arrayvec::ArrayVec;
 use tri_lattice::Node;
 
+/// Room for the amoebot itself and one more behind each pair of an end and a direction.
+pub(crate) const ROOM: usize = 13;
+
 /// An amoebot of a neighbourhood, as it was found and as it is now.
 #[derive(Clone, Copy, Default, Drop)]
 pub(crate) struct Member {
@@ -55,8 +58,8 @@ fn place_above(members: &[Member], id: u16) -> Option<usize>
 }
 
 /// Adds a member at its place in rising id.
-fn add(members: &mut ArrayVec<Member, 13>, id: u16, bot: &Bot)
-    requires { array_vec_len members.old < 13 }
+fn add(members: &mut ArrayVec<Member, ROOM>, id: u16, bot: &Bot)
+    requires { array_vec_len members.old < ROOM }
     ensures value { members.new.items ≡ with_member members.old.items (unchanged id bot.now) }
     ensures longer { array_vec_len members.new ≡ array_vec_len members.old + 1 }
 {
@@ -72,9 +75,9 @@ fn add(members: &mut ArrayVec<Member, 13>, id: u16, bot: &Bot)
 }
 
 /// Adds the occupant behind a port, if it has one that is new.
-fn add_neighbour(members: &mut ArrayVec<Member, 13>, found: &Found, port: Port)
-    requires { array_vec_len members.old < 13 }
-    ensures value { members.new.items ≡ with_neighbour (shown_alone found.now) (bot_of (shown_alone found.now) found.now.bot) members.old.items port }
+fn add_neighbour(members: &mut ArrayVec<Member, ROOM>, found: &Found, port: Port)
+    requires { array_vec_len members.old < ROOM }
+    ensures value { members.new.items ≡ with_neighbour (gap found.now) (bot_of (gap found.now) found.now.bot) members.old.items port }
     ensures few { array_vec_len members.new ≤ array_vec_len members.old + 1 }
 {
     let own = found.own();
@@ -100,7 +103,7 @@ fn has_id(members: &[Member], id: u16) -> bool
 }
 
 /// The amoebots of a neighbourhood.
-pub(crate) fn members_of(found: &Found) -> ArrayVec<Member, 13>
+pub(crate) fn members_of(found: &Found) -> ArrayVec<Member, ROOM>
     ensures value { result.items ≡ gathered found.now }
     ensures shown { IsShown found.now }
 {

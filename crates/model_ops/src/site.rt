@@ -13,7 +13,7 @@ ghost use Rattle.model_ops.specs.WorkingCopies.{opened, own_id, own_bot, after, 
 ghost use Rattle.model_ops.specs.Sites.{done};
 
 use crate::changes::changed_cells;
-use crate::member::{Member, id_on, members_of, place_of};
+use crate::member::{Member, ROOM, id_on, members_of, place_of};
 use crate::peer::Peer;
 use amoebot_state::{Bot, End, Failure, Found, Patch, Port};
 use arrayvec::ArrayVec;
@@ -27,7 +27,7 @@ pub struct Site {
     area: Area,
     maxes: [u8; 8],
     own: u16,
-    members: ArrayVec<Member, 13>,
+    members: ArrayVec<Member, ROOM>,
 }
 
 impl Model for Site {
