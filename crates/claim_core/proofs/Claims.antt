@@ -99,7 +99,7 @@ module _ (g : Setup) (ok : IsSetup g) (old : State) (s : Sound g old) (c : ℕ) 
         holder = λ none. absurd none;
         counted = count;
         right = right_same g old new c k (record k { phase = Refusing n t }) mv c k.marks is.right;
-        refused = holder_stays g old new c k (record k { phase = Refusing n t }) mv c n _ _ _ (refused_by g ok old s c k there n t front found some);
+        refused = (some, holder_stays g old new c k (record k { phase = Refusing n t }) mv c n _ _ _ (refused_by g ok old s c k there n t front found some));
         rising = is.rising;
         within = is.within;
       }
@@ -187,7 +187,7 @@ module _ (g : Setup) (ok : IsSetup g) (old : State) (s : Sound g old) (c : ℕ) 
         within = is.within;
       }
 
-      by_verdict : (v : Verdict) → IsDecided g s.last own more v → CallerOk g new s.last c (record k { phase = decided g v; held = more })
+      by_verdict : (v : Verdict) → IsDecided g s.last own more v → CallerOk g new s.last c (record k { phase = decided v; held = more })
       by_verdict verdict.Idle by = in_phase (Looking look.Idle) turns by (λ h. h) count tt
       by_verdict (verdict.Failed why) by = in_phase (Looking (look.Failed why)) turns by (λ h. h) count tt
       by_verdict (verdict.Change change) by = in_phase (Taking change) turns by (λ h. h) count tt

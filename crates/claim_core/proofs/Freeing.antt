@@ -157,7 +157,7 @@ module _ (g : Setup) (ok : IsSetup g) (old : State) (s : Sound g old) (c : ℕ) 
   pub refusing : (n : CellName) (t : ℕ) → k.phase ≡ Refusing n t → Sound g (looks g c old k (refused n t (length old.journal)))
   refusing n t p =
       let front = subst (HasFront g old s.last c k) p is.front in
-      let holder = subst (Rattle.claim_core.specs.Soundness.IsRefused g old c) p is.refused in
+      let holder = (subst (Rattle.claim_core.specs.Soundness.IsRefused g old c) p is.refused).1 in
       looks_sound (refused n t (length old.journal)) (n ∷ front.0) (subst (λ q. IsTurn g.lists.turns q k.turn) p is.turn) (is.counted ∙ ap (λ q. marked q k.turn) p) (λ h. subst IsCommitting p h) front.1 refl refl
       ((s.last, here_now, Contains-from_Has (zone s.last own) (subst (Has n) front.1 (Has-append_right (names k.held) here))), holder)
 

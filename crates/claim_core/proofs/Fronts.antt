@@ -37,7 +37,7 @@ names-more p held = ap (map cell_of) (reverse-more p held) ∙ map-append cell_o
 pub length-names : (held : Pairs) → length (names held) ≡ length held
 length-names held = length-map (reverse held) cell_of ∙ length-reverse held
 
-All-reverse : {A : Type 0} (P : A → Type 0) (xs : List A) → All P xs → All P (reverse xs)
+pub All-reverse : {A : Type 0} (P : A → Type 0) (xs : List A) → All P xs → All P (reverse xs)
 All-reverse P [] all = all
 All-reverse P (x ∷ xs) all = subst (All P) (sym (reverse-more x xs)) (All-push P (reverse xs) x (All-reverse P xs (All-tail P x xs all)) (All-head P x xs all))
 

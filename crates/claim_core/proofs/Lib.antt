@@ -1,7 +1,9 @@
+pub mod Claiming
 pub mod Claims
 pub mod Commitments
 pub mod Commits
 pub mod Ends
+pub mod Finishing
 pub mod Frames
 pub mod Freeing
 pub mod Fronts
@@ -11,9 +13,13 @@ pub mod Moved
 pub mod Nexts
 pub mod Numbers
 pub mod OneList
+pub mod Opening
 pub mod Places
-pub mod Sounds
 pub mod Ranks
+pub mod Reporting
+pub mod Seats
+pub mod Sounds
 pub mod Stays
 pub mod Steady
+pub mod Stepping
 pub mod Tags

@@ -116,7 +116,7 @@ module _ (g : Setup) (old new : State) (c : ℕ) (k next : Caller) (mv : Moves g
 
   pub refused_stays : (d : ℕ) (p : Phase) → IsRefused g old d p → IsRefused g new d p
   refused_stays d Claim is = is
-  refused_stays d (Refusing n t) is = holder_stays d n _ _ _ is
+  refused_stays d (Refusing n t) is = (is.0, holder_stays d n _ _ _ is.1)
   refused_stays d (Looking l) is = is
   refused_stays d (Taking change) is = is
   refused_stays d (Committing change) is = is

@@ -59,7 +59,7 @@ spots_and_bodies [] = refl
 spots_and_bodies (name.Spot v ∷ ns) = let ih = spots_and_bodies ns in omega arith
 spots_and_bodies (name.Body i ∷ ns) = let ih = spots_and_bodies ns in omega arith
 
-length-values : (c : Config) → length (values_of c) ≡ c.area.w * c.area.h + length c.bots
+pub length-values : (c : Config) → length (values_of c) ≡ c.area.w * c.area.h + length c.bots
 length-values c = length-map (all_cells c) (held_by c) ∙ length-all_cells c
 
 -- so a zone has at most nineteen cells
@@ -67,7 +67,7 @@ length-zone : (c : Config) (i : ℕ) → IsValid c → length (zone c i) ≤ 19
 length-zone c i valid = omega (arith, spots_and_bodies (zone c i), length-filter is_spot (zone c i), length-filter is_body (zone c i), zone_has_at_most_ten_nodes c i valid, zone_has_at_most_nine_bodies c i valid)
 
 -- a cell of a zone has a number
-number_in_world : (c : Config) (i : ℕ) (n : CellName) → IsValid c → IsSome (bot_at c i) → Has n (zone c i) → (m : ℕ) × (number c.area n ≡ Some m) × (m < length (values_of c))
+pub number_in_world : (c : Config) (i : ℕ) (n : CellName) → IsValid c → IsSome (bot_at c i) → Has n (zone c i) → (m : ℕ) × (number c.area n ≡ Some m) × (m < length (values_of c))
 number_in_world c i (name.Spot v) valid there has =
     let own = there_is (bot_at c i) there in
     let at_v = there_is (index_of c.area v) (zone_inside c i own.0 v valid own.1 has) in
@@ -150,21 +150,21 @@ module _ (g : Setup) where
 
     -- in Claim some cell is next, and it has a tag and a value
     module _ (p : k.phase ≡ Claim) where
-      abbrev front : HasFront g s sound.last c k Claim
+      abbrev pub front : HasFront g s sound.last c k Claim
       front = subst (HasFront g s sound.last c k) p is.front
 
-      next_is_there : next_of g own k.held ≡ Some front.0
+      pub next_is_there : next_of g own k.held ≡ Some front.0
       next_is_there = ap (λ a. next_cell a own (Rattle.std.proofs.Common.reverse k.held)) (sym (same_area g ok s sound)) ∙ next_is sound.last own k.held (front.0 ∷ front.1.0) own_at (valued g ok s sound c k is) front.1.1
 
-      few : length k.held ≤ 18
+      pub few : length k.held ≤ 18
       few =
           let all : length (names k.held ++ front.0 ∷ front.1.0) ≤ 19 = subst (λ ns. length ns ≤ 19) (sym front.1.1) (length-zone sound.last own (framed g ok s sound).valid) in
           omega (arith, all, length-append (names k.held) (front.0 ∷ front.1.0), length-names k.held)
 
-      in_zone : Has front.0 (zone sound.last own)
+      pub in_zone : Has front.0 (zone sound.last own)
       in_zone = subst (Has front.0) front.1.1 (Has-append_right (names k.held) here)
 
-      placed : (m : ℕ) × (number g.world.area front.0 ≡ Some m) × (m < length s.values)
+      pub placed : (m : ℕ) × (number g.world.area front.0 ≡ Some m) × (m < length s.values)
       placed =
           let at_n = number_in_world sound.last own front.0 (framed g ok s sound).valid own_at in_zone in
           (at_n.0, ap (λ a. number a front.0) (sym (same_area g ok s sound)) ∙ at_n.1, omega (arith, at_n.2, ap (λ (vs : List Cell). length vs) sound.values))
@@ -178,7 +178,7 @@ module _ (g : Setup) where
       rank_won : (x : Cell) → rank (won g c k front.0 x) < rank k
       rank_won x = by (next_of g own ((front.0, x) ∷ k.held))
         where
-          decide : (v : Verdict) → rank (record k { phase = decided g v; held = (front.0, x) ∷ k.held }) < rank k
+          decide : (v : Verdict) → rank (record k { phase = decided v; held = (front.0, x) ∷ k.held }) < rank k
           decide verdict.Idle = omega (arith, rank_in Claim p, few)
           decide (verdict.Failed why) = omega (arith, rank_in Claim p, few)
           decide (verdict.Change change) = omega (arith, rank_in Claim p, few)
@@ -270,7 +270,7 @@ module _ (g : Setup) where
       let by = sound.holder d h in
       absurd (none_committing s d by.0 by.1 by.2 (all d (let inside = slice_get_within s.callers d by.0 by.1 in omega (arith, sound.callers))))
 
-  round_lowers : IsSetup g → (s : State) → Sound g s → (total (round g s) < total s) ⊎ HaveEnded s
+  pub round_lowers : IsSetup g → (s : State) → Sound g s → (total (round g s) < total s) ⊎ HaveEnded s
   round_lowers ok s sound = elim (below_lowers ok s sound (length g.lists.ids)) [
     | inl lt ↦ inl lt
     | inr same ↦ inr (λ i d inside.
@@ -291,7 +291,7 @@ module _ (g : Setup) where
   rounds_sound ok s sound zero = sound
   rounds_sound ok s sound (suc n) = below_sound ok (rounds g n s) (rounds_sound ok s sound n) (length g.lists.ids)
 
-  rounds_lower : IsSetup g → (s : State) → Sound g s → (n : ℕ) → (total (rounds g n s) + n ≤ total s) ⊎ HaveEnded (rounds g n s)
+  pub rounds_lower : IsSetup g → (s : State) → Sound g s → (n : ℕ) → (total (rounds g n s) + n ≤ total s) ⊎ HaveEnded (rounds g n s)
   rounds_lower ok s sound zero = inl (omega arith)
   rounds_lower ok s sound (suc n) = elim (rounds_lower ok s sound n) [
     | inl le ↦ elim (round_lowers ok (rounds g n s) (rounds_sound ok s sound n)) [

@@ -1,4 +1,5 @@
 pub mod Cells
+pub mod Cores
 pub mod Good
 pub mod Laws
 pub mod Machine

@@ -45,6 +45,12 @@ caller t p h m = record { turn = t; phase = p; held = h; marks = m }
 abbrev pub renewed : Pairs → CellName × Cell → CellName × Cell
 renewed patch p = (cell_of p, unwrap_or (given patch (cell_of p)) (cell_value p))
 
+-- the phase of a caller with its decision
+abbrev pub decided : Verdict → Phase
+decided verdict.Idle = Looking look.Idle
+decided (verdict.Failed why) = Looking (look.Failed why)
+decided (verdict.Change change) = Taking change
+
 -- the mark of a turn that changes nothing
 abbrev pub looked : Look → ℕ → Mark
 looked look.Idle place = mark.Idle place
@@ -69,12 +75,6 @@ module _ (g : Setup) where
   -- the next cell of the zone of an amoebot, by what is known of those that are held
   abbrev pub next_of : ℕ → Pairs → Option CellName
   next_of b held = next_cell g.world.area b (reverse held)
-
-  -- the phase of a caller with its decision
-  abbrev pub decided : Verdict → Phase
-  decided verdict.Idle = Looking look.Idle
-  decided (verdict.Failed why) = Looking (look.Failed why)
-  decided (verdict.Change change) = Taking change
 
   -- the phase after a cell was won: with the last one of the zone comes the decision
   abbrev pub after_win : ℕ → Pairs → Option CellName → Phase

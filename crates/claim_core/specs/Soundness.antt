@@ -111,10 +111,10 @@ module _ (g : Setup) where
   TurnOkSoFar s c t (mark.Failed why place) = HasVerdict g.verdict g.world s.journal place (bot g c t) (verdict.Failed why)
   TurnOkSoFar s c t (mark.Busy n by_caller by_turn by_bot place) = HasInZone g.verdict g.world s.journal place (bot g c t) n × IsHolder s c n by_caller by_turn by_bot
 
-  -- the tag that was found names such a turn
+  -- the tag that was found is one, and names such a turn
   abbrev pub IsRefused : State → ℕ → Phase → Type 0
   IsRefused s c Claim = Unit {0}
-  IsRefused s c (Refusing n t) = IsHolder s c n (tag_caller t) (tag_turn t) (tag_bot t)
+  IsRefused s c (Refusing n t) = (t ≢ 0) × IsHolder s c n (tag_caller t) (tag_turn t) (tag_bot t)
   IsRefused s c (Looking l) = Unit {0}
   IsRefused s c (Taking change) = Unit {0}
   IsRefused s c (Committing change) = Unit {0}

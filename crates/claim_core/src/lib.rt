@@ -1,9 +1,11 @@
-//! The callers' lists, the journal and the marks of a concurrent run, and what makes a report of it a good one.
+//! The callers' lists, the journal, the marks and the report of a concurrent run, what makes a report a good one, and the machine that the callers'
+//! claims, decisions, commits and releases step.
 #![tactic(auto)]
 
 mod journal;
 mod laws;
 mod lists;
+mod machine;
 mod marks;
 mod report;
 mod state;
@@ -17,6 +19,7 @@ pub use laws::{
     reached_is_good, rounds_are_enough, serial_run_is_determined, tag_tells_its_owner,
 };
 pub use lists::Lists;
+pub use machine::Core;
 pub use marks::{Mark, Marks};
 pub use report::Report;
 pub use state::{Caller, Committed, Look, Phase};

@@ -52,6 +52,17 @@ impl Lists {
         }
     }
 
+    /// The same lists once more.
+    pub(crate) fn copy(&self, alloc: Global) -> Result<Lists, NoMemory>
+        ensures { IfOk result (λ lists. lists ≡ self.now) }
+    {
+        let mut lists = Lists::new(alloc, self.turns)?;
+        for ids in &self.ids {
+            lists.add(alloc, ids.as_slice())?;
+        }
+        Ok(lists)
+    }
+
     /// How many callers there are, at most 16.
     pub fn callers(&self) -> u8
         ensures value { result ≡ length self.now.ids }

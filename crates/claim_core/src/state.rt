@@ -10,6 +10,7 @@ pub enum Look {
 }
 
 /// What a caller does next.
+#[derive(Drop)]
 pub enum Phase {
     /// It tries the next cell of the zone.
     Claim,

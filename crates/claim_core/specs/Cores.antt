@@ -1,0 +1,121 @@
+-- The core as contracts see it: the decider, the first world, the lists, and the state.
+use Rattle.std.specs.Prelude.{◌≡◌, ℕ, ◌+◌, ◌-◌, ◌<◌, ◌≤◌, List, [], ◌∷◌, length, reverse, nat_lt, if◌then◌else◌, slice_get}
+use Rattle.std.specs.declared.option.Option.{Option}
+use Rattle.std.specs.declared.option.Option.TheVariants.{Some, None}
+use Rattle.amoebot_state.specs.declared.cell.CellName.{CellName}
+use Rattle.amoebot_state.specs.declared.cell.CellName.TheVariants as name
+use Rattle.amoebot_state.specs.declared.verdict.Verdict.{Verdict}
+use Rattle.amoebot_state.specs.Configs.{Config}
+use Rattle.amoebot_state.specs.Zones.{Shown}
+use Rattle.amoebot_state.specs.Steps.{Run}
+use Rattle.claim_core.specs.declared.marks.Mark.{Mark}
+use Rattle.claim_core.specs.declared.machine.Seat.{Seat}
+use Rattle.claim_core.specs.declared.state.Caller.{Caller}
+use Rattle.claim_core.specs.declared.state.Phase.{Phase}
+use Rattle.claim_core.specs.declared.state.Phase.TheVariants as phase
+use Rattle.claim_core.specs.Turns.{CallerLists, MarkLists, Kept}
+use Rattle.claim_core.specs.Cells.{values_of}
+use Rattle.claim_core.specs.Machine.{Setup, State, decided, looks, next, opening, after}
+use Rattle.claim_core.specs.Soundness.{IsSetup}
+use Rattle.claim_core.specs.Reached.{HaveEnded}
+use Rattle.claim_core.specs.Rounds.{rounds, rounds_enough}
+
+pub record Running (D : Type 0) : Type 0 where
+  pub decider : D
+  pub first : Config
+  pub lists : CallerLists
+  pub state : State
+
+-- what the run is about
+abbrev pub setup_of : {D : Type 0} → (D → Shown → Verdict) → Running D → Setup
+setup_of verdict r = record { verdict = verdict r.decider; world = r.first; lists = r.lists }
+
+-- the core after a step of a caller
+abbrev pub stepped : {D : Type 0} → (D → Shown → Verdict) → ℕ → Running D → Running D
+stepped verdict c r = record r { state = next (setup_of verdict r) c r.state }
+
+-- the core before the first step
+abbrev pub opened : {D : Type 0} → (D → Shown → Verdict) → D → Config → CallerLists → Running D
+opened verdict decider first lists = record { decider = decider; first = first; lists = lists; state = opening (record { verdict = verdict decider; world = first; lists = lists }) }
+
+-- the core after so many rounds, of which the last one is the first by which all callers have ended
+pub record IsFinished {D : Type 0} (verdict : D → Shown → Verdict) (old new : Running D) : Type 0 where
+  pub count : ℕ
+  pub few : count ≤ rounds_enough old.lists
+  pub state : new ≡ record old { state = rounds (setup_of verdict old) count old.state }
+  pub ended : HaveEnded new.state
+  pub first : (n : ℕ) → n < count → HaveEnded (rounds (setup_of verdict old) n old.state) → ⊥
+
+-- a caller is in this phase
+abbrev pub HasPhase : List Caller → ℕ → Phase → Type 0
+HasPhase callers c p = (k : Caller) × (slice_get callers c ≡ Some k) × (k.phase ≡ p)
+
+-- a caller in a turn, of so many, that has no mark yet
+pub record IsUnmarked (turns : ℕ) (callers : List Caller) (c : ℕ) : Type 0 where
+  pub record_of : Caller
+  pub there : slice_get callers c ≡ Some record_of
+  pub turn : record_of.turn < turns
+  pub counted : length record_of.marks ≡ record_of.turn
+
+-- the state after a look of a caller, which gives it this mark
+abbrev pub looks_at : Setup → ℕ → State → Option Caller → Mark → State
+looks_at g c s None m = s
+looks_at g c s (Some k) m = looks g c s k m
+
+-- a caller with its marks
+abbrev pub caller_of : Seat → List Mark → Caller
+caller_of s marks = record { turn = s.turn; phase = s.phase; held = reverse s.held.items; marks = marks }
+
+abbrev pub callers_of : List Seat → List (List Mark) → List Caller
+callers_of [] ms = []
+callers_of (s ∷ ss) [] = []
+callers_of (s ∷ ss) (m ∷ ms) = caller_of s m ∷ callers_of ss ms
+
+-- the phase in which a turn begins, of so many
+abbrev pub opens_by : ℕ → ℕ → Phase
+opens_by turns t = if nat_lt t turns then phase.Claim else phase.Ended
+
+-- the phase after a cell was won, where this is what was read and this is the next cell
+abbrev pub phase_after : (Shown → Verdict) → Shown → Option CellName → Phase
+phase_after verdict found None = decided (verdict found)
+phase_after verdict found (Some n) = phase.Claim
+
+-- a cell of a configuration with so many ids
+abbrev pub IsCell : ℕ → CellName → Type 0
+IsCell ids (name.Spot v) = Unit {0}
+IsCell ids (name.Body i) = i < ids
+
+-- a caller at the beginning of a turn, of so many
+pub record Begins (turns t : ℕ) (s : Seat) : Type 0 where
+  pub turn : s.turn ≡ t
+  pub phase : s.phase ≡ opens_by turns t
+  pub held : s.held.items ≡ []
+
+-- a caller that goes on to free its cells
+pub record Stays (old new : Seat) : Type 0 where
+  pub turn : new.turn ≡ old.turn
+  pub phase : new.phase ≡ phase.Releasing
+  pub held : new.held.items ≡ old.held.items
+
+abbrev pub Frees : ℕ → Seat → Seat → Type 0
+Frees turns old new = (old.held.items ≡ [] → Begins turns (old.turn + 1) new) × (0 < length old.held.items → Stays old new)
+
+-- the turns that have no mark yet
+abbrev pub unmarked : ℕ → List (List Mark) → ℕ
+unmarked turns [] = 0
+unmarked turns (m ∷ ms) = (turns - length m) + unmarked turns ms
+
+abbrev pub state_of : List ℕ → Config → Kept → Option ℕ → List Seat → MarkLists → State
+state_of tags world journal holder seats marks = record { tags = tags; values = values_of world; journal = journal.entries; holder = holder; callers = callers_of seats marks.marks }
+
+-- what a core keeps: some steps led to its state, its world is the last one of the run, and there is room in the journal for all turns that
+-- have no mark yet
+pub record IsCore (verdict : Shown → Verdict) (lists : CallerLists) (tags : List ℕ) (world : Config) (journal : Kept) (holder : Option ℕ) (seats : List Seat) (marks : MarkLists) : Type 0 where
+  pub setup : let g : Setup = record { verdict = verdict; world = journal.first; lists = lists } in IsSetup g
+  pub steps : List ℕ
+  pub reached : state_of tags world journal holder seats marks ≡ after (record { verdict = verdict; world = journal.first; lists = lists }) steps
+  pub run : Run verdict journal.first journal.entries world
+  pub turns : marks.turns ≡ lists.turns
+  pub each : length marks.marks ≡ length seats
+  pub room : unmarked lists.turns marks.marks ≤ journal.spare
+  pub few : length journal.entries + unmarked lists.turns marks.marks ≤ 65536

@@ -1,0 +1,430 @@
+ghost use Rattle.std.specs.Prelude.{◌≡◌, ◌<◌, ◌≤◌, ◌+◌, ◌∷◌, ◌++◌, [], List, length, reverse, map, IfOk, IsSome, slice_get, Some, None, IfSome, IsTrue, ◌↔◌};
+ghost use Rattle.amoebot_state.specs.Pairs.{body_in};
+ghost use Rattle.amoebot_state.specs.Refusals.{IsPlain};
+ghost use Rattle.amoebot_state.specs.Zones.{IsShown};
+ghost use Rattle.amoebot_state.specs.Known.{next_cell};
+ghost use Rattle.std.specs.List.{All};
+ghost use Rattle.claim_core.specs.Tags.{tag, tag_caller, tag_turn, tag_bot};
+ghost use Rattle.claim_core.specs.Cells.{number, held_by};
+ghost use Rattle.claim_core.specs.Machine.{decided, refused, looked, next};
+ghost use Rattle.amoebot_state.specs.Configs.{bot_at};
+ghost use Rattle.claim_core.specs.Good.{Good};
+ghost use Rattle.claim_core.specs.Reached.{HaveEnded, Reached};
+ghost use Rattle.claim_core.specs.Rounds.{round};
+ghost use Rattle.amoebot_state.specs.declared.verdict.Change.{Change};
+ghost use Rattle.claim_core.specs.declared.state.Phase.TheVariants as phase;
+ghost use Rattle.claim_core.specs.Cores.{Begins, Frees, IsFinished, opened, HasPhase, IsUnmarked, IsCell, looks_at, opens_by, phase_after, stepped, setup_of};
+
+use crate::journal::Journal;
+use crate::lists::Lists;
+use crate::marks::{Mark, Marks};
+use crate::report::Report;
+use crate::state::{Look, Phase};
+use amoebot_state::{
+    Cell, CellName, Decider, Entry, Found, NoMemory, Verdict, World, has_next, next_cell,
+    touches_zone,
+};
+use arrayvec::ArrayVec;
+use std::alloc::Global;
+use std::marker::Model;
+use std::mem::replace;
+use tri_lattice::Area;
+
+/// A caller: its turn, what it does next, and the cells that it holds, in the order in which they were won, each with its value as
+/// it was recorded.
+#[derive(Drop)]
+struct Seat {
+    turn: u32,
+    phase: Phase,
+    held: ArrayVec<(CellName, Cell), 30>,
+}
+
+impl Seat {
+    /// A caller that begins a turn, of so many.
+    fn at(turn: u32, turns: u32) -> Seat
+        ensures { Begins turns turn result }
+    {
+        Seat {
+            turn,
+            phase: opening_phase(turn, turns),
+            held: ArrayVec::new(),
+        }
+    }
+
+    /// Goes on to free what is held; where that is nothing, the next turn begins.
+    fn free(&mut self, turns: u32)
+        requires { self.old.turn < turns }
+        ensures { Frees turns self.old self.new }
+    {
+        if self.held.is_empty() {
+            self.turn += 1;
+            self.phase = opening_phase(self.turn, turns);
+        } else {
+            self.phase = Phase::Releasing;
+        }
+    }
+}
+
+/// The phase in which a turn begins, of so many.
+fn opening_phase(turn: u32, turns: u32) -> Phase
+    ensures { result ≡ opens_by turns turn }
+{
+    if turn < turns {
+        Phase::Claim
+    } else {
+        Phase::Ended
+    }
+}
+
+/// The claim protocol of all callers of a run, stepped one caller at a time.
+#[derive(Drop)]
+pub struct Core<'d, D: Decider> {
+    decider: &'d D,
+    lists: Lists,
+    world: World,
+    tags: Vec<u64>,
+    journal: Journal,
+    holder: Option<u8>,
+    seats: Vec<Seat>,
+    marks: Marks,
+}
+
+impl<'d, D: Decider> Model for Core<'d, D> {
+    ghost use Rattle.claim_core.specs.Cores.{Running};
+
+    ghost Value = { Running D };
+
+    ghost use Rattle.claim_core.specs.Cores.{state_of, IsCore};
+
+    ghost view = { λ c. record { decider = c.decider.now; first = c.journal.first; lists = c.lists; state = state_of c.tags.items c.world c.journal c.holder c.seats.items c.marks } };
+
+    ghost invariant = { λ c. IsCore (D.verdict c.decider.now) c.lists c.tags.items c.world c.journal c.holder c.seats.items c.marks };
+}
+
+impl<'d, D: Decider> Core<'d, D> {
+    /// The core before the first step, over lists of ids of amoebots of the world. It takes all memory.
+    pub fn make(
+        alloc: Global,
+        decider: &'d D,
+        world: World,
+        lists: &Lists,
+    ) -> Result<Core<'d, D>, NoMemory>
+        requires { All (All (λ id. IsSome (bot_at world id))) lists.now.ids }
+        ensures { IfOk result (λ core. core ≡ opened D.verdict decider.now world lists.now) }
+    {
+        world.keeps();
+        touches_zone(decider);
+        has_next(decider);
+        let lists = lists.copy(alloc)?;
+        let callers = lists.callers();
+        let turns = lists.turns();
+        let mut journal = Journal::make(alloc, &world)?;
+        journal.reserve(alloc, u32::from(callers) * turns)?;
+        let marks = Marks::make(alloc, callers, turns)?;
+        let mut tags = Vec::new(alloc);
+        let cells = world.area().size() as usize + usize::from(world.bots());
+        if tags.resize(cells, 0).is_err() {
+            return Err(NoMemory);
+        }
+        let mut seats = Vec::new(alloc);
+        for _caller in 0..callers {
+            if seats.push(Seat::at(0, turns)).is_err() {
+                return Err(NoMemory);
+            }
+        }
+        Ok(Core {
+            decider,
+            lists,
+            world,
+            tags,
+            journal,
+            holder: None,
+            seats,
+            marks,
+        })
+    }
+
+    /// The one step of a caller.
+    pub fn step(&mut self, caller: u8)
+        requires { caller < length self.old.state.callers }
+        ensures { self.new ≡ stepped D.verdict caller self.old }
+    {
+        let place = self.journal.entries().len() as u32;
+        match &self.seats[usize::from(caller)].phase {
+            Phase::Claim => self.claim(caller),
+            Phase::Refusing(name, tag) => {
+                let mark = busy(*name, *tag, place);
+                self.settle(caller, mark);
+            }
+            Phase::Looking(look) => {
+                let mark = mark_of(*look, place);
+                self.settle(caller, mark);
+            }
+            Phase::Taking(_) => self.take(caller),
+            Phase::Committing(_) => self.commit(caller),
+            Phase::Releasing => self.release(caller),
+            Phase::Ended => {}
+        }
+    }
+
+    /// Claim: a try for the next cell of the zone.
+    fn claim(&mut self, caller: u8)
+        requires { HasPhase self.old.state.callers caller phase.Claim }
+        ensures { self.new ≡ stepped D.verdict caller self.old }
+    {
+        let seat = &mut self.seats[usize::from(caller)];
+        let bot = self.lists.bot(caller, seat.turn);
+        let area = self.world.area();
+        let name = match next_cell(&area, bot, seat.held.as_slice()) {
+            Some(name) => name,
+            None => unreachable!(),
+        };
+        let number = match number(&area, name) {
+            Some(number) => number,
+            None => unreachable!(),
+        };
+        let found = self.tags[number];
+        if found != 0 {
+            seat.phase = Phase::Refusing(name, found);
+            return;
+        }
+        self.tags[number] = tag(caller, seat.turn, bot);
+        seat.held.push((name, value_of(&self.world, name)));
+        seat.phase = after_win(
+            self.decider,
+            area,
+            self.world.maxes(),
+            bot,
+            seat.held.as_slice(),
+        );
+    }
+
+    /// Refusing, Looking and the end of Committing: the turn gets its mark.
+    fn settle(&mut self, caller: u8, mark: Mark)
+        requires unmarked { IsUnmarked self.old.lists.turns self.old.state.callers caller }
+        requires next { next (setup_of D.verdict self.old) caller self.old.state ≡ looks_at (setup_of D.verdict self.old) caller self.old.state (slice_get self.old.state.callers caller) mark }
+        ensures { self.new ≡ stepped D.verdict caller self.old }
+    {
+        let turns = self.lists.turns();
+        self.marks.add(caller, mark);
+        let seat = &mut self.seats[usize::from(caller)];
+        seat.free(turns);
+    }
+
+    /// Taking: the journal, if nobody holds it.
+    fn take(&mut self, caller: u8)
+        requires { (change : Change) × HasPhase self.old.state.callers caller (phase.Taking change) }
+        ensures { self.new ≡ stepped D.verdict caller self.old }
+    {
+        if self.holder.is_none() {
+            self.holder = Some(caller);
+            let seat = &mut self.seats[usize::from(caller)];
+            match replace(&mut seat.phase, Phase::Releasing) {
+                Phase::Taking(change) => seat.phase = Phase::Committing(change),
+                _ => unreachable!(),
+            }
+        }
+    }
+
+    /// Committing: the entry joins the journal, the patch the world, and the journal is free.
+    fn commit(&mut self, caller: u8)
+        requires { (change : Change) × HasPhase self.old.state.callers caller (phase.Committing change) }
+        ensures { self.new ≡ stepped D.verdict caller self.old }
+    {
+        let turns = self.lists.turns();
+        let place = self.journal.entries().len() as u32;
+        let seat = &mut self.seats[usize::from(caller)];
+        let bot = self.lists.bot(caller, seat.turn);
+        match replace(&mut seat.phase, Phase::Releasing) {
+            Phase::Committing(change) => {
+                self.world.apply(&change.patch);
+                record_again(&self.world, seat.held.as_mut_slice());
+                self.journal.push(Entry {
+                    caller,
+                    turn: seat.turn,
+                    bot,
+                    action: change.action,
+                    moved: change.moved,
+                    patch: change.patch,
+                });
+                self.holder = None;
+                self.marks.add(caller, Mark::Done { place });
+                seat.free(turns);
+            }
+            _ => unreachable!(),
+        }
+    }
+
+    /// Releasing: the cell that was won last is freed.
+    fn release(&mut self, caller: u8)
+        requires { HasPhase self.old.state.callers caller phase.Releasing }
+        ensures { self.new ≡ stepped D.verdict caller self.old }
+    {
+        let turns = self.lists.turns();
+        let area = self.world.area();
+        let seat = &mut self.seats[usize::from(caller)];
+        let name = match seat.held.pop() {
+            Some((name, _value)) => name,
+            None => unreachable!(),
+        };
+        match number(&area, name) {
+            Some(number) => self.tags[number] = 0,
+            None => unreachable!(),
+        }
+        seat.free(turns);
+    }
+
+    /// Whether every caller has ended.
+    pub fn ended(&self) -> bool
+        ensures { IsTrue result ↔ HaveEnded self.now.state }
+    {
+        have_ended(self.seats.as_slice())
+    }
+
+    /// Rounds of one step for each caller, in rising number, until all have ended: at most 40 for each turn of all callers together.
+    pub fn finish(&mut self)
+        ensures { IsFinished D.verdict self.old self.new }
+    {
+        let _lists = &self.lists;
+        while !self.ended() {
+            self.round();
+        }
+    }
+
+    /// One step of each caller, in rising number.
+    fn round(&mut self)
+        ensures { self.new ≡ record self.old { state = round (setup_of D.verdict self.old) self.old.state } }
+    {
+        let callers = self.lists.callers();
+        for caller in 0..callers {
+            self.step(caller);
+        }
+    }
+
+    /// What the run leaves, once every caller has ended.
+    pub fn report(self) -> Report
+        requires { HaveEnded self.state }
+        ensures reached { Reached (setup_of D.verdict self.entry) result }
+        ensures good { Good (D.verdict self.entry.decider) self.entry.first self.entry.lists result }
+    {
+        let Core {
+            world,
+            journal,
+            marks,
+            ..
+        } = self;
+        Report {
+            world,
+            journal,
+            turns: marks,
+        }
+    }
+}
+
+/// Whether each of the callers has ended.
+fn have_ended(seats: &[Seat]) -> bool
+    ensures { IsTrue result ↔ All (λ seat. seat.phase ≡ phase.Ended) seats.now }
+{
+    for seat in seats {
+        match seat.phase {
+            Phase::Ended => {}
+            _ => return false,
+        }
+    }
+    true
+}
+
+/// The number of a cell: the nodes of the area by their numbers, then the bodies by their ids; None for a node outside.
+fn number(area: &Area, name: CellName) -> Option<usize>
+    ensures { result ≡ number area.now name }
+{
+    match name {
+        CellName::Spot(node) => match area.index(node) {
+            Some(index) => Some(index as usize),
+            None => None,
+        },
+        CellName::Body(id) => Some(area.size() as usize + usize::from(id)),
+    }
+}
+
+/// What a cell holds; a body is that of an amoebot that is there.
+fn value_of(world: &World, name: CellName) -> Cell
+    requires { IsCell (length world.now.bots) name }
+    ensures { result ≡ held_by world.now name }
+{
+    match name {
+        CellName::Spot(node) => Cell::Spot(world.occupant(node)),
+        CellName::Body(id) => Cell::Body(*world.bot(id)),
+    }
+}
+
+/// Records what the cells hold again.
+fn record_again(world: &World, held: &mut [(CellName, Cell)])
+    requires { All (λ p. IsCell (length world.now.bots) p.0) held.old }
+    ensures { held.new ≡ map (λ p. (p.0, held_by world.now p.0)) held.old }
+{
+    for pair in held.iter_mut() {
+        pair.1 = value_of(world, pair.0);
+    }
+}
+
+/// The tag of a caller in a turn on an amoebot.
+fn tag(caller: u8, turn: u32, bot: u16) -> u64
+    ensures { result ≡ tag caller turn bot }
+{
+    1 + u64::from(bot) + 4096 * (u64::from(turn) + 65_536 * u64::from(caller))
+}
+
+/// The mark of a turn that found a tag at a cell.
+fn busy(cell: CellName, tag: u64, place: u32) -> Mark
+    requires known { tag_caller tag < 256 }
+    requires found { 0 < tag }
+    ensures { result ≡ refused cell tag place }
+{
+    Mark::Busy {
+        cell,
+        by_caller: ((tag - 1) / 4096 / 65_536) as u8,
+        by_turn: ((tag - 1) / 4096 % 65_536) as u32,
+        by_bot: ((tag - 1) % 4096) as u16,
+        place,
+    }
+}
+
+/// The mark of a turn that changes nothing.
+fn mark_of(look: Look, place: u32) -> Mark
+    ensures { result ≡ looked look place }
+{
+    match look {
+        Look::Idle => Mark::Idle { place },
+        Look::Failed(failure) => Mark::Failed { failure, place },
+    }
+}
+
+/// What a caller does after it won a cell: with the last one of the zone comes the decision.
+fn after_win<D: Decider>(
+    decider: &D,
+    area: Area,
+    maxes: [u8; 8],
+    bot: u16,
+    cells: &[(CellName, Cell)],
+) -> Phase
+    requires plain { IfSome (body_in cells.now bot) IsPlain }
+    requires shown { next_cell area bot cells.now ≡ None → IsShown (record { area = area; maxes = maxes; bot = bot; cells = cells.now }) }
+    ensures { result ≡ phase_after (D.verdict decider.now) (record { area = area; maxes = maxes; bot = bot; cells = cells.now }) (next_cell area bot cells.now) }
+{
+    match next_cell(&area, bot, cells) {
+        Some(_) => Phase::Claim,
+        None => phase_of(decider.decide(&Found::make(area, maxes, bot, cells))),
+    }
+}
+
+/// The phase of a caller with its decision.
+fn phase_of(verdict: Verdict) -> Phase
+    ensures { result ≡ decided verdict }
+{
+    match verdict {
+        Verdict::Idle => Phase::Looking(Look::Idle),
+        Verdict::Failed(failure) => Phase::Looking(Look::Failed(failure)),
+        Verdict::Change(change) => Phase::Taking(change),
+    }
+}
