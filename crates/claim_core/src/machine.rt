@@ -189,7 +189,7 @@ impl<'d, D: Decider> Core<'d, D> {
             return;
         }
         self.tags[number] = tag(caller, seat.turn, bot);
-        seat.held.push((name, cell_value(&self.world, name)));
+        seat.held.push((name, value_of(&self.world, name)));
         seat.phase = after_win(
             self.decider,
             area,
@@ -348,7 +348,7 @@ fn number(area: &Area, name: CellName) -> Option<usize>
 }
 
 /// What a cell holds; a body is that of an amoebot that is there.
-fn cell_value(world: &World, name: CellName) -> Cell
+fn value_of(world: &World, name: CellName) -> Cell
     requires { IsCell (length world.now.bots) name }
     ensures { result ≡ held_by world.now name }
 {
@@ -364,7 +364,7 @@ fn record_again(world: &World, held: &mut [(CellName, Cell)])
     ensures { held.new ≡ map (λ p. (p.0, held_by world.now p.0)) held.old }
 {
     for pair in held.iter_mut() {
-        pair.1 = cell_value(world, pair.0);
+        pair.1 = value_of(world, pair.0);
     }
 }
 

@@ -127,7 +127,7 @@ after_win-seat-requires-clause-plain g c =
     let asked : next_cell c.self.inside.world.area (bot_of c.self.inside.lists c.args.caller c.index_mut-seat.result.now.turn) c.index_mut-seat.result.now.held.items ≡ c.next_cell.result = (λ j. next_cell (sym c.area-area.ensures j) (sym c.bot-bot.ensures j) (sym c.as_slice.ensures.value j)) ∙ sym c.next_cell.ensures in
     let nx = asked ∙ c.in-Some.is in
     let at_n = ap (λ a. number a c.in-Some.name) (sym c.area-area.ensures) ∙ sym c.number.ensures ∙ c.in-Some-number.is in
-    let cells : c.as_slice-2.result.now ≡ c.index_mut-seat.result.now.held.items ++ (c.in-Some.name, held_by c.self.inside.world c.in-Some.name) ∷ [] = c.as_slice-2.ensures.value ∙ c.push.ensures.items ∙ ap (λ x. c.index_mut-seat.result.now.held.items ++ (c.in-Some.name, x) ∷ []) c.cell_value.ensures in
+    let cells : c.as_slice-2.result.now ≡ c.index_mut-seat.result.now.held.items ++ (c.in-Some.name, held_by c.self.inside.world c.in-Some.name) ∷ [] = c.as_slice-2.ensures.value ∙ c.push.ensures.items ∙ ap (λ x. c.index_mut-seat.result.now.held.items ++ (c.in-Some.name, x) ∷ []) c.value_of.ensures in
     let plain = claim_more_plain _ _ _ _ _ _ _ _ c.self.invariant c.args.caller c.from.result c.index_mut-seat.result.now c.from.ensures inside c.index_mut-seat.ensures.value ph c.in-Some.name nx c.in-Some-number.number at_n c.index-found.result.now c.index-found.ensures c.if-found-ne0.false in
     λ ks known. subst (λ (z : Pairs × ℕ). IfSome (body_in z.0 z.1) IsPlain) (λ j. (sym cells j, sym c.bot-bot.ensures j)) plain
 
@@ -139,7 +139,7 @@ after_win-seat-requires-clause-shown g c =
     let asked : next_cell c.self.inside.world.area (bot_of c.self.inside.lists c.args.caller c.index_mut-seat.result.now.turn) c.index_mut-seat.result.now.held.items ≡ c.next_cell.result = (λ j. next_cell (sym c.area-area.ensures j) (sym c.bot-bot.ensures j) (sym c.as_slice.ensures.value j)) ∙ sym c.next_cell.ensures in
     let nx = asked ∙ c.in-Some.is in
     let at_n = ap (λ a. number a c.in-Some.name) (sym c.area-area.ensures) ∙ sym c.number.ensures ∙ c.in-Some-number.is in
-    let cells : c.as_slice-2.result.now ≡ c.index_mut-seat.result.now.held.items ++ (c.in-Some.name, held_by c.self.inside.world c.in-Some.name) ∷ [] = c.as_slice-2.ensures.value ∙ c.push.ensures.items ∙ ap (λ x. c.index_mut-seat.result.now.held.items ++ (c.in-Some.name, x) ∷ []) c.cell_value.ensures in
+    let cells : c.as_slice-2.result.now ≡ c.index_mut-seat.result.now.held.items ++ (c.in-Some.name, held_by c.self.inside.world c.in-Some.name) ∷ [] = c.as_slice-2.ensures.value ∙ c.push.ensures.items ∙ ap (λ x. c.index_mut-seat.result.now.held.items ++ (c.in-Some.name, x) ∷ []) c.value_of.ensures in
     λ ks known none.
     let shown = claim_shown _ _ _ _ _ _ _ _ c.self.invariant c.args.caller c.from.result c.index_mut-seat.result.now c.from.ensures inside c.index_mut-seat.ensures.value ph c.in-Some.name nx c.in-Some-number.number at_n c.index-found.result.now c.index-found.ensures c.if-found-ne0.false ((λ j. next_cell (sym c.area-area.ensures j) (sym c.bot-bot.ensures j) (sym cells j)) ∙ none) in
     subst IsShown (λ j. the_shown (sym c.area-area.ensures j) (sym c.maxes.ensures j) (sym c.bot-bot.ensures j) (sym cells j)) shown
@@ -152,11 +152,11 @@ invariant_of-self-2 g c =
     let asked : next_cell c.self.inside.world.area (bot_of c.self.inside.lists c.args.caller c.index_mut-seat.result.now.turn) c.index_mut-seat.result.now.held.items ≡ c.next_cell.result = (λ j. next_cell (sym c.area-area.ensures j) (sym c.bot-bot.ensures j) (sym c.as_slice.ensures.value j)) ∙ sym c.next_cell.ensures in
     let nx = asked ∙ c.in-Some.is in
     let at_n = ap (λ a. number a c.in-Some.name) (sym c.area-area.ensures) ∙ sym c.number.ensures ∙ c.in-Some-number.is in
-    let cells : c.as_slice-2.result.now ≡ c.index_mut-seat.result.now.held.items ++ (c.in-Some.name, held_by c.self.inside.world c.in-Some.name) ∷ [] = c.as_slice-2.ensures.value ∙ c.push.ensures.items ∙ ap (λ x. c.index_mut-seat.result.now.held.items ++ (c.in-Some.name, x) ∷ []) c.cell_value.ensures in
+    let cells : c.as_slice-2.result.now ≡ c.index_mut-seat.result.now.held.items ++ (c.in-Some.name, held_by c.self.inside.world c.in-Some.name) ∷ [] = c.as_slice-2.ensures.value ∙ c.push.ensures.items ∙ ap (λ x. c.index_mut-seat.result.now.held.items ++ (c.in-Some.name, x) ∷ []) c.value_of.ensures in
     let own = bot_of c.self.inside.lists c.args.caller c.index_mut-seat.result.now.turn in
     let ph2 : c.after_win-seat.result ≡ phase_after (g.D.Decider.verdict c.self.inside.decider.now) (the_shown c.self.inside.world.area c.self.inside.world.maxes own (c.index_mut-seat.result.now.held.items ++ (c.in-Some.name, held_by c.self.inside.world c.in-Some.name) ∷ [])) (next_cell c.self.inside.world.area own (c.index_mut-seat.result.now.held.items ++ (c.in-Some.name, held_by c.self.inside.world c.in-Some.name) ∷ [])) =
     c.after_win-seat.ensures ∙ (λ j. phase_after (g.D.Decider.verdict c.self.inside.decider.now) (the_shown (c.area-area.ensures j) (c.maxes.ensures j) (c.bot-bot.ensures j) (cells j)) (next_cell (c.area-area.ensures j) (c.bot-bot.ensures j) (cells j))) in
-    let held = c.push.ensures.items ∙ ap (λ x. c.index_mut-seat.result.now.held.items ++ (c.in-Some.name, x) ∷ []) c.cell_value.ensures in
+    let held = c.push.ensures.items ∙ ap (λ x. c.index_mut-seat.result.now.held.items ++ (c.in-Some.name, x) ∷ []) c.value_of.ensures in
     let new = record c.index_mut-seat.result.now { phase = c.after_win-seat.result; held = c.push.new.self } in
     let won = claim_won _ _ _ _ _ _ _ _ c.self.invariant c.args.caller c.from.result c.index_mut-seat.result.now c.from.ensures inside c.index_mut-seat.ensures.value ph c.in-Some.name nx c.in-Some-number.number at_n c.index-found.result.now c.index-found.ensures c.if-found-ne0.false new refl held ph2 in
     let tagged : c.tag.result ≡ tag c.args.caller c.index_mut-seat.result.now.turn own = c.tag.ensures ∙ ap (tag c.args.caller c.index_mut-seat.result.now.turn) c.bot-bot.ensures in
@@ -171,11 +171,11 @@ returns g c =
     let asked : next_cell c.self.inside.world.area (bot_of c.self.inside.lists c.args.caller c.index_mut-seat.result.now.turn) c.index_mut-seat.result.now.held.items ≡ c.next_cell.result = (λ j. next_cell (sym c.area-area.ensures j) (sym c.bot-bot.ensures j) (sym c.as_slice.ensures.value j)) ∙ sym c.next_cell.ensures in
     let nx = asked ∙ c.in-Some.is in
     let at_n = ap (λ a. number a c.in-Some.name) (sym c.area-area.ensures) ∙ sym c.number.ensures ∙ c.in-Some-number.is in
-    let cells : c.as_slice-2.result.now ≡ c.index_mut-seat.result.now.held.items ++ (c.in-Some.name, held_by c.self.inside.world c.in-Some.name) ∷ [] = c.as_slice-2.ensures.value ∙ c.push.ensures.items ∙ ap (λ x. c.index_mut-seat.result.now.held.items ++ (c.in-Some.name, x) ∷ []) c.cell_value.ensures in
+    let cells : c.as_slice-2.result.now ≡ c.index_mut-seat.result.now.held.items ++ (c.in-Some.name, held_by c.self.inside.world c.in-Some.name) ∷ [] = c.as_slice-2.ensures.value ∙ c.push.ensures.items ∙ ap (λ x. c.index_mut-seat.result.now.held.items ++ (c.in-Some.name, x) ∷ []) c.value_of.ensures in
     let own = bot_of c.self.inside.lists c.args.caller c.index_mut-seat.result.now.turn in
     let ph2 : c.after_win-seat.result ≡ phase_after (g.D.Decider.verdict c.self.inside.decider.now) (the_shown c.self.inside.world.area c.self.inside.world.maxes own (c.index_mut-seat.result.now.held.items ++ (c.in-Some.name, held_by c.self.inside.world c.in-Some.name) ∷ [])) (next_cell c.self.inside.world.area own (c.index_mut-seat.result.now.held.items ++ (c.in-Some.name, held_by c.self.inside.world c.in-Some.name) ∷ [])) =
     c.after_win-seat.ensures ∙ (λ j. phase_after (g.D.Decider.verdict c.self.inside.decider.now) (the_shown (c.area-area.ensures j) (c.maxes.ensures j) (c.bot-bot.ensures j) (cells j)) (next_cell (c.area-area.ensures j) (c.bot-bot.ensures j) (cells j))) in
-    let held = c.push.ensures.items ∙ ap (λ x. c.index_mut-seat.result.now.held.items ++ (c.in-Some.name, x) ∷ []) c.cell_value.ensures in
+    let held = c.push.ensures.items ∙ ap (λ x. c.index_mut-seat.result.now.held.items ++ (c.in-Some.name, x) ∷ []) c.value_of.ensures in
     let new = record c.index_mut-seat.result.now { phase = c.after_win-seat.result; held = c.push.new.self } in
     let won = claim_won _ _ _ _ _ _ _ _ c.self.invariant c.args.caller c.from.result c.index_mut-seat.result.now c.from.ensures inside c.index_mut-seat.ensures.value ph c.in-Some.name nx c.in-Some-number.number at_n c.index-found.result.now c.index-found.ensures c.if-found-ne0.false new refl held ph2 in
     let tagged : c.tag.result ≡ tag c.args.caller c.index_mut-seat.result.now.turn own = c.tag.ensures ∙ ap (tag c.args.caller c.index_mut-seat.result.now.turn) c.bot-bot.ensures in
