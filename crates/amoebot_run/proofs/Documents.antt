@@ -20,7 +20,7 @@ use Rattle.amoebot_run.specs.declared.document.Unread.{Unread}
 use Rattle.amoebot_run.specs.declared.document.Unread.TheVariants.{NotYet, NoMemory}
 use Rattle.amoebot_run.specs.declared.document.Parts as parts_read
 use Rattle.amoebot_run.specs.DocumentViews as view
-use Rattle.amoebot_run.specs.Turns.{CallerLists, HaveBots}
+use Rattle.claim_core.specs.Turns.{CallerLists, HaveBots}
 use Rattle.amoebot_run.specs.Documents.{zeros, Parts, IsRunText, IsRunDocument, DocumentIsOne}
 use Rattle.amoebot_run.specs.Readers.{unread_of}
 use Rattle.amoebot_run.proofs.Grammar.{decided_input}

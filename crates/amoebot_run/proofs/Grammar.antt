@@ -27,7 +27,7 @@ use Rattle.amoebot_state.specs.declared.bot.End.{End}
 use Rattle.amoebot_state.specs.declared.bot.End.TheVariants.{Head, Tail}
 use Rattle.amoebot_state.specs.declared.bot.Chir.{Chir}
 use Rattle.amoebot_state.specs.declared.bot.Chir.TheVariants.{Plus, Minus}
-use Rattle.amoebot_run.specs.Turns.{CallerLists}
+use Rattle.claim_core.specs.Turns.{CallerLists}
 use Rattle.amoebot_run.specs.Documents.{word, sign, is_end, IsWord, Means, outside, IsNumber, no_bot, IsId, is_reserved, is_name, IsName, IsEnd, IsChirality, negative, IsInt, IsPort, IsMove, IsAction, IsProgram, IsAreaLine, IsNode, zeros, IsBotLine, Shape, IsShape, AreIds, IsCallerList, AtMostOneList, IsLists, Parts, IsRunText}
 use Rattle.amoebot_run.specs.Readers.{a_word, means, a_number, an_id, an_end, a_chirality, an_int, a_port, a_move, an_action, a_program, an_area, a_node, a_bot, is_bot, bot_in, all_bots, a_shape, id_in, all_ids, is_list, a_list, all_lists, some_turns, the_lists, the_parts}
 

@@ -14,13 +14,13 @@ use Rattle.amoebot_state.specs.Steps.{Step, Run}
 use Rattle.serial_model.specs.declared.Turned.{Turned}
 use Rattle.serial_model.specs.declared.Turned.TheVariants as turned
 use Rattle.serial_model.specs.Turns.{Turns, IsOfTurn}
-use Rattle.amoebot_run.specs.declared.marks.Mark.{Mark}
-use Rattle.amoebot_run.specs.declared.marks.Mark.TheVariants as mark
-use Rattle.amoebot_run.specs.declared.report.Report.{Report}
-use Rattle.amoebot_run.specs.Turns.{CallerLists, MarkLists, bot_of}
-use Rattle.amoebot_run.specs.Good.{Good, TurnOk, mark_of, place_of, place_after}
-use Rattle.amoebot_run.specs.SerialRuns.{Left, SerialRun, mark_at, entries_by, all_turns, left_by}
-use Rattle.amoebot_run.proofs.Stays.{slice_get-push, slice_get-push_last, slice_get-pushed, run_push, world_last, TurnOk-push}
+use Rattle.claim_core.specs.declared.marks.Mark.{Mark}
+use Rattle.claim_core.specs.declared.marks.Mark.TheVariants as mark
+use Rattle.claim_core.specs.declared.report.Report.{Report}
+use Rattle.claim_core.specs.Turns.{CallerLists, MarkLists, bot_of}
+use Rattle.claim_core.specs.Good.{Good, TurnOk, mark_of, place_of, place_after}
+use Rattle.claim_core.specs.SerialRuns.{Left, SerialRun, mark_at, entries_by, all_turns, left_by}
+use Rattle.claim_core.proofs.Stays.{slice_get-push, slice_get-push_last, slice_get-pushed, run_push, world_last, TurnOk-push}
 
 -- the turns of one caller rise
 abbrev Rises : Entry → Entry → Type 0

@@ -6,7 +6,7 @@ use Rattle.text_tokens.specs.declared.refusal.Refusal.{Refusal}
 use Rattle.outer_io.specs.Calls.{none}
 use Rattle.outer_io.specs.Kept.{KeptBytes, kept_after, KeepsPiece, PiecesAreKeptAsOne, written_of}
 use Rattle.outer_io.specs.Writings.{WritesAll}
-use Rattle.amoebot_run.specs.declared.report.Report.{Report}
+use Rattle.claim_core.specs.declared.report.Report.{Report}
 use Rattle.amoebot_run.specs.declared.run.Status.{Status}
 use Rattle.amoebot_run.specs.declared.run.Status.TheVariants as status
 use Rattle.amoebot_run.specs.Headline.{usage_line, read_fault_line, refusal_line, text_with}

@@ -11,7 +11,7 @@ use Rattle.amoebot_state.specs.declared.verdict.Entry.{Entry}
 use Rattle.amoebot_state.specs.declared.verdict.Failure.TheVariants as failure
 use Rattle.amoebot_state.specs.declared.verdict.Moved.TheVariants as moved
 use Rattle.amoebot_state.specs.Configs.{Config}
-use Rattle.amoebot_run.specs.declared.marks.Mark.TheVariants as mark
+use Rattle.claim_core.specs.declared.marks.Mark.TheVariants as mark
 use Rattle.amoebot_run.specs.Texts.{journal_text, shape_text, turns_text, report_text}
 
 abbrev at : ℤ → ℤ → Node

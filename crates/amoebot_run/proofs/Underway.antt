@@ -4,9 +4,9 @@ use Rattle.std.proofs.Math.ListN.{set, replicate}
 use Rattle.amoebot_state.specs.declared.verdict.Verdict.{Verdict}
 use Rattle.amoebot_state.specs.Configs.{Config}
 use Rattle.amoebot_state.specs.Zones.{Shown}
-use Rattle.amoebot_run.specs.declared.marks.Mark.{Mark}
-use Rattle.amoebot_run.specs.Turns.{AreLists, CallerLists, HaveBots, Kept, MarkLists, marks_of}
-use Rattle.amoebot_run.specs.SerialRuns.{Left, SerialRun, MakesTurn}
+use Rattle.claim_core.specs.declared.marks.Mark.{Mark}
+use Rattle.claim_core.specs.Turns.{AreLists, CallerLists, HaveBots, Kept, MarkLists, marks_of}
+use Rattle.claim_core.specs.SerialRuns.{Left, SerialRun, MakesTurn}
 
 -- what stands in the world, the journal and the marks so far
 abbrev pub so_far : Config → Kept → MarkLists → Left

@@ -9,15 +9,15 @@ use Rattle.text_tokens.specs.Lines.{line_text}
 use Rattle.amoebot_state.specs.declared.bot.Port.{Port}
 use Rattle.amoebot_state.specs.Configs.{Config}
 use Rattle.amoebot_state.specs.Moves.{expansion_verdict_shown}
-use Rattle.amoebot_run.specs.declared.report.Report.{Report}
+use Rattle.claim_core.specs.declared.report.Report.{Report}
 use Rattle.amoebot_run.specs.declared.run.Ended.{Ended}
 use Rattle.amoebot_run.specs.declared.run.Status.{Status}
 use Rattle.amoebot_run.specs.declared.run.Status.TheVariants as status
 use Rattle.amoebot_run.specs.Documents.{IsRunDocument}
-use Rattle.amoebot_run.specs.Good.{Good}
-use Rattle.amoebot_run.specs.SerialRuns.{SerialRun, all_turns, left_by}
+use Rattle.claim_core.specs.Good.{Good}
+use Rattle.claim_core.specs.SerialRuns.{SerialRun, all_turns, left_by}
 use Rattle.amoebot_run.specs.Texts.{report_text}
-use Rattle.amoebot_run.specs.Turns.{CallerLists}
+use Rattle.claim_core.specs.Turns.{CallerLists}
 
 -- the report is one of a run of the program, from the world at the start, of the lists: it is good, and it is what the turns of
 -- the one list leave, one after another, each the verdict on the world reached and none Busy

@@ -1,11 +1,7 @@
 pub mod Commands
 pub mod DocumentViews
 pub mod Documents
-pub mod Good
 pub mod Headline
 pub mod Readers
-pub mod Rooms
 pub mod Samples
-pub mod SerialRuns
 pub mod Texts
-pub mod Turns

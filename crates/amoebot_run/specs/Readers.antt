@@ -15,7 +15,7 @@ use Rattle.amoebot_state.specs.declared.bot.Chir.{Chir}
 use Rattle.amoebot_state.specs.declared.bot.Chir.TheVariants.{Plus, Minus}
 use Rattle.amoebot_run.specs.declared.document.Unread.{Unread}
 use Rattle.amoebot_run.specs.declared.document.Unread.TheVariants as unread
-use Rattle.amoebot_run.specs.Turns.{CallerLists}
+use Rattle.claim_core.specs.Turns.{CallerLists}
 use Rattle.amoebot_run.specs.Documents.{word, sign, is_end, outside, no_bot, is_name, negative, zeros, Shape, Parts}
 use Rattle.std.specs.Prelude.{Bool}
 

@@ -24,10 +24,10 @@ use Rattle.amoebot_state.specs.declared.verdict.Moved.{Moved}
 use Rattle.amoebot_state.specs.declared.verdict.Moved.TheVariants as moved
 use Rattle.amoebot_state.specs.Pairs.{cell_of, cell_value}
 use Rattle.amoebot_state.specs.Configs.{Config}
-use Rattle.amoebot_run.specs.declared.marks.Mark.{Mark}
-use Rattle.amoebot_run.specs.declared.marks.Mark.TheVariants as mark
-use Rattle.amoebot_run.specs.declared.report.Report.{Report}
-use Rattle.amoebot_run.specs.Turns.{MarkLists}
+use Rattle.claim_core.specs.declared.marks.Mark.{Mark}
+use Rattle.claim_core.specs.declared.marks.Mark.TheVariants as mark
+use Rattle.claim_core.specs.declared.report.Report.{Report}
+use Rattle.claim_core.specs.Turns.{MarkLists}
 
 -- the coordinates of a node, where a negative one has a `-` directly before its digits
 abbrev pub node_words : Node → Words

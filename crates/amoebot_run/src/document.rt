@@ -8,7 +8,7 @@ ghost use Rattle.text_tokens.specs.Steps.{Gives, ReadsInput, another, lexeme_of}
 ghost use Rattle.amoebot_state.specs.declared.bot.Port.{Port as PortValue};
 ghost use Rattle.amoebot_state.specs.Configs.{Config, config_of};
 ghost use Rattle.amoebot_state.specs.Refusals.{IsPlain, IsFaultless};
-ghost use Rattle.amoebot_run.specs.Turns.{CallerLists, IsList, HaveBots};
+ghost use Rattle.claim_core.specs.Turns.{CallerLists, IsList, HaveBots};
 ghost use Rattle.amoebot_run.specs.Documents as spec;
 ghost use Rattle.amoebot_run.specs.Documents.{DocumentIsOne, IsRunDocument, zeros};
 ghost use Rattle.amoebot_run.specs.Samples.{SmallDocuments};
@@ -16,7 +16,7 @@ ghost use Rattle.amoebot_run.specs.Readers as reader;
 ghost use Rattle.amoebot_run.specs.DocumentViews as view;
 ghost use Rattle.amoebot_run.specs.declared.document.Unread.TheVariants as unread;
 
-use crate::lists::Lists;
+use claim_core::Lists;
 use amoebot_state::{Bot, Chir, End, NoMemory, Port, World, WorldRefusal};
 use std::alloc::{AllocFailed, Global};
 use text_tokens::{

@@ -4,10 +4,6 @@
 mod decider;
 mod document;
 mod gate;
-mod journal;
-mod lists;
-mod marks;
-mod report;
 mod run;
 mod serial;
 #[cfg(test)]

@@ -7,17 +7,17 @@ ghost use Rattle.outer_io.specs.Writings.{WritesAll, WritesFront};
 ghost use Rattle.amoebot_run.specs.Commands.{IsRun, document_limit, status_number};
 ghost use Rattle.amoebot_run.specs.Headline.{IsRunOfDocument, IsNoDocument, IsOwed, usage_line, read_fault_line, refused_too_long, refused_not_yet, refusal_line, text_of, TextIsDetermined};
 ghost use Rattle.amoebot_run.specs.Documents.{IsRunDocument};
-ghost use Rattle.amoebot_run.specs.Turns.{CallerLists};
+ghost use Rattle.claim_core.specs.Turns.{CallerLists};
 ghost use Rattle.amoebot_state.specs.Configs.{Config};
 ghost use Rattle.amoebot_state.specs.declared.bot.Port.{Port as PortValue};
 ghost use Rattle.amoebot_run.specs.Texts.{report_text};
-ghost use Rattle.amoebot_run.specs.declared.report.Report.{Report as ReportValue};
+ghost use Rattle.claim_core.specs.declared.report.Report.{Report as ReportValue};
 
 use crate::decider::FirstAction;
 use crate::document::{Unread, document_is_one, read_run};
 use crate::gate::{Gate, NoGate};
-use crate::report::Report;
-use crate::serial::{run_serially, serial_run_is_determined};
+use claim_core::{Report, serial_run_is_determined};
+use crate::serial::run_serially;
 use crate::texts::print_report;
 use outer_io::{
     ReadError, Sink, Source, SureSink, SureSource, WriteFault, pieces_are_kept_as_one,

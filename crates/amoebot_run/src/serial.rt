@@ -1,13 +1,10 @@
 ghost use Rattle.std.specs.Prelude.{◌≤◌, length, IfOk};
-ghost use Rattle.amoebot_run.specs.Turns.{HaveBots};
-ghost use Rattle.amoebot_run.specs.Good.{Good};
-ghost use Rattle.amoebot_run.specs.SerialRuns.{SerialRun, SerialRunIsDetermined, SerialReportIsDetermined, all_turns, left_by};
+ghost use Rattle.claim_core.specs.Turns.{HaveBots};
+ghost use Rattle.claim_core.specs.Good.{Good};
+ghost use Rattle.claim_core.specs.SerialRuns.{SerialRun, all_turns, left_by};
 
-use crate::journal::Journal;
-use crate::lists::Lists;
-use crate::marks::{Mark, Marks};
-use crate::report::Report;
-use amoebot_state::{Decider, NoMemory, World, step_has_one_result};
+use claim_core::{Journal, Lists, Mark, Marks, Report};
+use amoebot_state::{Decider, NoMemory, World};
 use serial_model::{Serial, Turned};
 use std::alloc::Global;
 
@@ -58,13 +55,4 @@ pub fn run_serially<D: Decider>(
         journal,
         turns: marks,
     })
-}
-
-/// What the turns of the only caller leave is determined: by the decider, the first world, the list and the number of turns. So
-/// two reports of such a run have one last world, one journal and the same marks.
-pub fn serial_run_is_determined()
-    ensures left { SerialRunIsDetermined }
-    ensures report { SerialReportIsDetermined }
-{
-    step_has_one_result();
 }

@@ -33,15 +33,13 @@ impl Journal {
         })
     }
 
-    /// Takes memory for so many more entries, where that much room is not there yet. It is unchanged after `NoMemory`.
+    /// Takes memory for so many more entries, unless there is room for them.
     pub fn reserve(&mut self, _alloc: Global, more: u32) -> Result<(), NoMemory>
         ensures ok { OnOk result (self.new ≡ record self.old { spare = max self.old.spare more }) }
         ensures err { OnErr result (self.new ≡ self.old) }
     {
-        match self.entries.reserve_exact(more as usize) {
-            Ok(()) => Ok(()),
-            Err(_) => Err(NoMemory),
-        }
+        self.entries.reserve_exact(more as usize)?;
+        Ok(())
     }
 
     /// Adds an entry last. It takes no memory.

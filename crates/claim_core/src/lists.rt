@@ -42,14 +42,9 @@ impl Lists {
         ensures ok { OnOk result (self.new ≡ record { turns = self.old.turns; ids = self.old.ids ++ ids.now ∷ [] }) }
         ensures err { OnErr result (self.new ≡ self.old) }
     {
-        let ids = match Vec::from_slice(alloc, ids) {
-            Ok(ids) => ids,
-            Err(_) => return Err(NoMemory),
-        };
-        match self.ids.push(ids) {
-            Ok(()) => Ok(()),
-            Err(_) => Err(NoMemory),
-        }
+        let ids = Vec::from_slice(alloc, ids)?;
+        self.ids.push(ids)?;
+        Ok(())
     }
 
     /// The same lists once more.

@@ -57,9 +57,8 @@ impl Marks {
         let mut marks = Vec::new(alloc);
         for _caller in 0..callers {
             let mut room: Vec<Mark> = Vec::new(alloc);
-            if room.reserve_exact(turns as usize).is_err() || marks.push(room).is_err() {
-                return Err(NoMemory);
-            }
+            room.reserve_exact(turns as usize)?;
+            marks.push(room)?;
         }
         Ok(Marks { turns, marks })
     }

@@ -2,7 +2,7 @@ use Rattle.std.proofs.Common.{◌≡◌, ℕ, List, Ok, sym, ap, ◌∙◌}
 use Rattle.std.specs.Prelude.{codes}
 use Rattle.std.proofs.lemmas.Result.{err_from_is_err_and}
 use Rattle.text_tokens.specs.Reading.{Reader, ◌>>=◌, pure, closed}
-use Rattle.amoebot_run.specs.Turns.{CallerLists}
+use Rattle.claim_core.specs.Turns.{CallerLists}
 use Rattle.amoebot_run.specs.Documents.{is_end}
 use Rattle.amoebot_run.specs.Readers.{a_word, some_turns, all_lists, the_lists}
 use Rattle.amoebot_run.proofs.Chaining.{all_left, past_part, part_fails, regroup}

@@ -3,7 +3,7 @@ use Rattle.std.specs.Prelude.{codes}
 use Rattle.std.proofs.lemmas.Result.{err_from_is_err_and}
 use Rattle.text_tokens.specs.Reading.{Reader, ◌>>=◌, pure}
 use Rattle.amoebot_state.specs.declared.bot.Port.{Port}
-use Rattle.amoebot_run.specs.Turns.{CallerLists}
+use Rattle.claim_core.specs.Turns.{CallerLists}
 use Rattle.amoebot_run.specs.Documents.{Shape, Parts}
 use Rattle.amoebot_run.specs.DocumentViews as view
 use Rattle.amoebot_run.specs.Readers.{a_word, a_number, a_program, a_shape, the_lists, the_parts}

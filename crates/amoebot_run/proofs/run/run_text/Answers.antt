@@ -3,7 +3,7 @@ use Rattle.std.specs.Prelude.{IfSome}
 use Rattle.outer_io.specs.Kept.{KeepsPiece, written_of}
 use Rattle.outer_io.specs.Writings.{WritesAll}
 use Rattle.outer_io.specs.Told.{Rose, Grows}
-use Rattle.amoebot_run.specs.declared.report.Report.{Report}
+use Rattle.claim_core.specs.declared.report.Report.{Report}
 use Rattle.amoebot_run.specs.Commands.{document_limit}
 use Rattle.amoebot_run.specs.Texts.{report_text}
 use Rattle.amoebot_run.specs.Headline.{IsNoDocument, IsRunOfDocument}

@@ -5,9 +5,9 @@ use Rattle.amoebot_state.specs.declared.bot.Port.{Port}
 use Rattle.amoebot_state.specs.declared.verdict.Entry.{Entry}
 use Rattle.amoebot_state.specs.Configs.{Config}
 use Rattle.amoebot_state.specs.Moves.{expansion_verdict_shown}
-use Rattle.amoebot_run.specs.declared.marks.Mark.{Mark}
-use Rattle.amoebot_run.specs.declared.report.Report.{Report}
-use Rattle.amoebot_run.specs.Turns.{CallerLists}
+use Rattle.claim_core.specs.declared.marks.Mark.{Mark}
+use Rattle.claim_core.specs.declared.report.Report.{Report}
+use Rattle.claim_core.specs.Turns.{CallerLists}
 use Rattle.amoebot_run.specs.Headline.{IsRunOf}
 use Rattle.text_tokens.specs.Lines.{section_text}
 use Rattle.amoebot_run.specs.Texts.{report_text, journal_text, shape_text, caller_lines}

@@ -2,9 +2,9 @@ use Rattle.std.proofs.Common.{◌≡◌, ◌+◌, length, ap, sym, subst, ◌∙
 use Rattle.std.proofs.lemmas.List.{length-replicate, append-nil}
 use Rattle.std.proofs.Math.ListN.{length-set}
 use Rattle.serial_model.specs.Turns.{Turns}
-use Rattle.amoebot_run.specs.declared.marks.Mark.TheVariants as mark
-use Rattle.amoebot_run.specs.Turns.{HaveBots, marks_of}
-use Rattle.amoebot_run.specs.SerialRuns.{mark_at, entries_by, all_turns}
+use Rattle.claim_core.specs.declared.marks.Mark.TheVariants as mark
+use Rattle.claim_core.specs.Turns.{HaveBots, marks_of}
+use Rattle.claim_core.specs.SerialRuns.{mark_at, entries_by, all_turns}
 use Rattle.amoebot_run.proofs.Underway.{so_far, same_so_far, marks_of-none, marks_of-add, one_more}
 use Rattle.amoebot_run.proofs.SerialReports.{no_list, one_list, serial_run_is_good}
 use Rattle.amoebot_run.proofs.serial.run_serially.Goals as goal

@@ -1,4 +1,4 @@
-use Rattle.amoebot_run.specs.Turns.{marks_of}
+use Rattle.claim_core.specs.Turns.{marks_of}
 use Rattle.amoebot_run.specs.Texts.{turn_words}
 use Rattle.text_tokens.proofs.LineLemmas.{line_more}
 use Rattle.amoebot_run.proofs.NextLines.{line_next}

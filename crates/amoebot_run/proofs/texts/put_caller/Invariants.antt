@@ -1,5 +1,5 @@
 use Rattle.std.proofs.Common.{◌≡◌, ◌++◌, take}
-use Rattle.amoebot_run.specs.Turns.{marks_of}
+use Rattle.claim_core.specs.Turns.{marks_of}
 use Rattle.text_tokens.specs.Lines.{lines_text}
 use Rattle.amoebot_run.specs.Texts.{caller_lines}
 use Rattle.amoebot_run.proofs.texts.put_caller.Given as goal

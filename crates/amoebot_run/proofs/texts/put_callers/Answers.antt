@@ -1,6 +1,6 @@
 use Rattle.std.proofs.Common.{◌<◌, [], length, arith}
 use Rattle.std.proofs.lemmas.Option.{slice_get-get_or}
-use Rattle.amoebot_run.specs.Turns.{marks_of}
+use Rattle.claim_core.specs.Turns.{marks_of}
 use Rattle.amoebot_run.specs.Texts.{caller_lines}
 use Rattle.text_tokens.proofs.LineLemmas.{lines_more}
 use Rattle.amoebot_run.proofs.NextLines.{lines_next}
