@@ -35,8 +35,8 @@ use Rattle.claim_core.specs.declared.state.Look.{Look}
 use Rattle.claim_core.specs.Cells.{number, at, put, held_by, values_of, patched}
 use Rattle.claim_core.specs.Machine.{Setup, State, bot, own_tag, entry, renewed, looks, looked, refused, found, next_of, after_win, won, wins, claims, finds, tries, with_caller, frees, takes, releases, by_phase, acts, next, after}
 use Rattle.claim_core.specs.Soundness.{IsSetup, IsTurn, IsRefused, marked, IsDecided, HasFront, IsHeld, Sound}
-use Rattle.claim_core.specs.Cores.{Running, stepped, phase_after, IsCell, HasPhase, IsUnmarked, looks_at, caller_of, callers_of, Frees, unmarked, state_of, IsCore}
-use Rattle.claim_core.proofs.Sounds.{always}
+use Rattle.claim_core.specs.Cores.{Running, setup_of, stepped, phase_after, IsCell, HasPhase, IsUnmarked, looks_at, caller_of, callers_of, Frees, unmarked, state_of, IsCore}
+use Rattle.claim_core.proofs.Sounds.{one_step, always}
 use Rattle.claim_core.proofs.Fronts.{Valued, All-reverse, reverse-more}
 use Rattle.claim_core.proofs.Stays.{run_push}
 use Rattle.claim_core.proofs.Frames.{run_framed, own_stays}
@@ -59,6 +59,10 @@ turn_below turns callers c n k has there same = let mine : has.record_of.turn �
 reverse-map : {A B : Type 0} (f : A → B) (xs : List A) → reverse (map f xs) ≡ map f (reverse xs)
 reverse-map f [] = refl
 reverse-map f (x ∷ xs) = reverse-more (f x) (map f xs) ∙ ap (λ ys. ys ++ f x ∷ []) (reverse-map f xs) ∙ sym (map-append f (reverse xs) (x ∷ [])) ∙ ap (map f) (sym (reverse-more x xs))
+
+-- a step leaves the number of callers
+pub length-stepped : {D : Type 0} (verdict : D → Shown → Verdict) (c : ℕ) (old new : Running D) → IsSetup (setup_of verdict old) → Sound (setup_of verdict old) old.state → new ≡ stepped verdict c old → length new.state.callers ≡ length old.state.callers
+length-stepped {D} verdict c old new ok sound made = ap (λ (r : Running D). length r.state.callers) made ∙ (one_step (setup_of verdict old) ok old.state sound c).callers ∙ sym sound.callers
 
 -- what contracts see after a step
 pub closes : {D : Type 0} (verdict : D → Shown → Verdict) (decider : D) (first new_first : Config) (lists : CallerLists) (old new : State) (now : Running D) (c : ℕ) → (let r : Running D = record { decider = decider; first = first; lists = lists; state = old } in r) ≡ now → new_first ≡ first → new ≡ next (record { verdict = verdict decider; world = first; lists = lists }) c old → (let r : Running D = record { decider = decider; first = new_first; lists = lists; state = new } in r) ≡ stepped verdict c now

@@ -110,7 +110,8 @@ impl<'d, D: Decider> Core<'d, D> {
         lists: &Lists,
     ) -> Result<Core<'d, D>, NoMemory>
         requires { All (All (λ id. IsSome (bot_at world id))) lists.now.ids }
-        ensures { IfOk result (λ core. core ≡ opened D.verdict decider.now world lists.now) }
+        ensures opened { IfOk result (λ core. core ≡ opened D.verdict decider.now world lists.now) }
+        ensures callers { IfOk result (λ core. length core.state.callers ≡ length lists.now.ids) }
     {
         world.keeps();
         touches_zone(decider);
@@ -146,6 +147,16 @@ impl<'d, D: Decider> Core<'d, D> {
 
     /// The one step of a caller.
     pub fn step(&mut self, caller: u8)
+        requires { caller < length self.old.state.callers }
+        ensures step { self.new ≡ stepped D.verdict caller self.old }
+        ensures callers { length self.new.state.callers ≡ length self.old.state.callers }
+    {
+        let _lists = &self.lists;
+        self.act(caller);
+    }
+
+    /// The step of a caller in its phase.
+    fn act(&mut self, caller: u8)
         requires { caller < length self.old.state.callers }
         ensures { self.new ≡ stepped D.verdict caller self.old }
     {

@@ -1,6 +1,7 @@
 use Rattle.std.proofs.Common.{◌≡◌, ◌+◌, ◌*◌, ◌∷◌, ◌++◌, [], List, ℕ, Bool, length, ap, sym, subst, ◌∙◌, arith, length-append}
 use Rattle.std.specs.Prelude.{vec_len, replicate, if◌then◌else◌}
 use Rattle.std.specs.List.{All}
+use Rattle.std.proofs.lemmas.List.{length-map}
 use Rattle.std.proofs.lemmas.List.Elements.{All-push}
 use Rattle.tri_lattice.specs.Extent.{Extent}
 use Rattle.amoebot_state.specs.declared.verdict.Verdict.{Verdict}
@@ -8,7 +9,7 @@ use Rattle.amoebot_state.specs.Zones.{Shown}
 use Rattle.amoebot_state.specs.Configs.{Config}
 use Rattle.claim_core.specs.declared.machine.Seat.{Seat}
 use Rattle.claim_core.specs.Turns.{CallerLists, MarkLists}
-use Rattle.claim_core.specs.Machine.{Setup}
+use Rattle.claim_core.specs.Machine.{Setup, fresh}
 use Rattle.claim_core.specs.Soundness.{IsSetup}
 use Rattle.claim_core.specs.Cores.{Begins, opened}
 use Rattle.claim_core.proofs.Opening.{grown, opens_so, is_core}
@@ -46,8 +47,8 @@ invariant_of-result g c =
     let asked : c.from.result * c.turns-turns.result ≡ length c.in_ok-lists.lists.ids * c.in_ok-lists.lists.turns = λ i. (c.from.ensures ∙ c.callers-callers.ensures.value) i * c.turns-turns.ensures i in
     is_core (g.D.Decider.verdict c.args.decider.now) c.args.world c.in_ok-lists.lists c.resize.new.self.items c.reserve.new.self c.loop-caller.seats.items c.in_ok-marks.marks first entries free many begin told ok (omega (arith, ap (λ j. j.spare) c.in_ok-reserve.ensures.ok, asked))
 
-pub returns : goal.returns
-returns g c =
+pub returns-clause-opened : goal.returns-clause-opened
+returns-clause-opened g c =
     let first = ap (λ j. j.first) c.in_ok-reserve.ensures.ok ∙ c.in_ok-journal.ensures.first in
     let entries = ap (λ j. j.entries) c.in_ok-reserve.ensures.ok ∙ c.in_ok-journal.ensures.entries in
     let nodes : c.size.result ≡ c.args.world.area.w * c.args.world.area.h = c.size.ensures.value ∙ ap (λ (a : Extent). a.w * a.h) c.area.ensures in
@@ -58,3 +59,6 @@ returns g c =
     let told = c.in_ok-marks.ensures ∙ (λ i. the_marks (c.turns-turns.ensures i) (c.callers-callers.ensures.value i)) in
     let opens = opens_so (g.D.Decider.verdict c.args.decider.now) c.args.world c.in_ok-lists.lists c.resize.new.self.items c.reserve.new.self c.loop-caller.seats.items c.in_ok-marks.marks first entries free many begin told in
     (λ i. record { decider = c.args.decider.now; first = first i; lists = c.in_ok-lists.lists; state = opens i }) ∙ ap (opened g.D.Decider.verdict c.args.decider.now c.args.world) c.in_ok-lists.ensures
+
+pub returns-clause-callers : goal.returns-clause-callers
+returns-clause-callers g c = ap (λ r. length r.state.callers) (returns-clause-opened g c) ∙ length-map c.args.lists.now.ids (λ _. fresh (the_setup (g.D.Decider.verdict c.args.decider.now) c.args.world c.args.lists.now))
