@@ -1,130 +1,195 @@
--- The parts of a document are read exactly, so a text is a document in one way at most.
-use Rattle.std.proofs.Common.{◌≡◌, ℕ, Bool, true, false, ◌||◌, List, length, Some, refl}
+-- The reader of a document is a part for its grammar.
+use Rattle.std.proofs.Common.{◌≡◌, ℕ, pos, Bool, true, false, List, [], ◌∷◌, length, Option, refl}
 use Rattle.std.specs.Prelude.{codes}
+use Rattle.std.specs.Str.{bytes_eq}
 use Rattle.text_tokens.specs.declared.token.TokenKind.TheVariants.{Word, Number, Sign}
+use Rattle.text_tokens.specs.declared.refusal.RefusalKind.{RefusalKind}
+use Rattle.text_tokens.specs.declared.refusal.RefusalKind.TheVariants.{TooMany, Trailing}
 use Rattle.text_tokens.specs.Text.{Lexeme}
-use Rattle.text_tokens.specs.Cursor.{is_kind, is_the, same_kind}
-use Rattle.amoebot_run.specs.Phrases.{Phrase, IsOne, Made, UpTo, Behind}
-use Rattle.amoebot_run.specs.Documents.{this, number_if, is_within, is_below, name_of, end_of, chirality_of, IsWord, IsNumber, IsId, IsName, Ended, signed, IsInt, IsPort, IsProgram, IsAreaLine, IsNode, IsBotLine, IsShape, IsCallerList, IsLists, AreParts}
-use Rattle.amoebot_run.specs.Readers.{Reader, ◌>>=◌, pure, one, up_to, a_word, ended, a_number, an_id, is_minus, an_int, a_port, a_program, an_area, a_node, a_bot, is_bot, all_bots, a_shape, is_number, more_ids, a_list, is_list, all_lists, the_lists, the_parts}
-use Rattle.amoebot_run.proofs.Exactness.{Exact, never, law_one, law_then, law_then_at, law_made, law_up_to}
-use Rattle.amoebot_run.proofs.Meanings.{this_is, number_is, other_kind, other_text, spelled, one_begins, then_begins, made_begins}
+use Rattle.text_tokens.specs.Cursor.{same_kind}
+use Rattle.text_tokens.specs.Reading.{Reader, ◌>>=◌, pure, one, is_number, too_large, no_limit, less, closed, either, at_most}
+use Rattle.text_tokens.specs.Grammar.{Lang, Then, Made, IsThe, Closed, Either, Limited, AtMost}
+use Rattle.text_tokens.specs.Lawful.{Exact, IsPart, Starts, AreElements, always}
+use Rattle.text_tokens.specs.Inputs.{IsDecidedInput}
+use Rattle.text_tokens.proofs.Exactness.{exact}
+use Rattle.text_tokens.proofs.Obeying.{input_law}
+use Rattle.text_tokens.proofs.Carrying.{part_made}
+use Rattle.text_tokens.proofs.Parts.{some_text, part_less, part_one, part_behind, part_closed}
+use Rattle.text_tokens.proofs.Beginnings.{starts_in, starts_some, starts_made, starts_then}
+use Rattle.text_tokens.proofs.Choosing.{part_either, part_optional}
+use Rattle.text_tokens.proofs.Repeating.{at_most_elements, part_repeated}
+use Rattle.text_tokens.proofs.Distinguishing.{sample, passes, kind_is, other_kind, other_text, a_token, a_numeral, starts_the, starts_numeral}
+use Rattle.amoebot_state.specs.declared.bot.Bot.{Bot}
+use Rattle.amoebot_state.specs.declared.bot.End.TheVariants.{Head, Tail}
+use Rattle.amoebot_state.specs.declared.bot.Chir.TheVariants.{Plus, Minus}
+use Rattle.amoebot_run.specs.Documents.{word, sign, is_end, IsWord, outside, IsNumber, no_bot, IsId, is_reserved, is_name, IsName, IsEnd, IsChirality, negative, IsInt, IsPort, IsMove, IsAction, IsProgram, IsAreaLine, IsNode, zeros, IsBotLine, IsShape, AreIds, IsCallerList, AtMostOneList, IsLists, IsRunText}
+use Rattle.amoebot_run.specs.Readers.{a_word, a_number, an_id, an_end, a_chirality, an_int, a_port, a_move, an_action, a_program, an_area, a_node, a_bot, is_bot, bot_in, all_bots, a_shape, id_in, all_ids, is_list, a_list, all_lists, the_lists, the_parts}
 
-law_word : (text : List ℕ) → Exact (IsWord text) (a_word text) never
-law_word text = law_one (this Word text)
+-- ---- forms
 
-law_behind : {A : Type 0} (text : List ℕ) (P : Phrase A) (p : Reader A) (stop : Lexeme → Bool) → Exact P p stop → Exact (Behind (IsWord text) P) (a_word text >>= λ w. p) stop
-law_behind text P p stop law = law_then (IsWord text) (λ _. P) (a_word text) (λ w. p) stop (law_word text) (λ w. law)
+-- behind a part with which no token goes on
+behind : {A B : Type 0} {P : Lang A} {p : Reader A} {Q : A → Lang B} {q : A → Reader B} {stop : Lexeme → Bool} → IsPart P p always → ((a : A) → IsPart (Q a) (q a) stop) → IsPart (Then P Q) (p >>= q) stop
+behind {P = P} {p = p} {Q = Q} {q = q} {stop = stop} before part = part_behind P p Q q stop before part
 
-law_end : {A : Type 0} (a : A) → Exact (Made (IsWord (codes "end")) (λ _. a)) (a_word (codes "end") >>= λ w. pure a) never
-law_end a = law_made (IsWord (codes "end")) (a_word (codes "end")) (λ _. a) never (law_word (codes "end"))
+into : {A B : Type 0} {P : Lang A} {p : Reader A} {stop : Lexeme → Bool} (f : A → B) → IsPart P p stop → IsPart (Made P f) (p >>= λ a. pure (f a)) stop
+into {P = P} {p = p} {stop = stop} f part = part_made P f p stop part
 
--- a part that may not go on with the word `end`
-law_ended : {A : Type 0} (P : Phrase A) (p : Reader A) (stop : Lexeme → Bool) → Exact P p stop → ((t : Lexeme) → is_the Word (codes "end") t ≡ true → stop t ≡ false) → Exact (Ended P) (ended p) never
-law_ended P p stop law apart = law_then_at P (λ a. Made (IsWord (codes "end")) (λ _. a)) p (λ a. a_word (codes "end") >>= λ w. pure a) stop never law law_end
-    (λ ys a b rest is s. made_begins (this Word (codes "end")) stop false (λ t u e. apart t (this_is Word (codes "end") t u e)) (λ _. a) ys b rest is)
+up_to_end : {A : Type 0} {P : Lang A} {p : Reader A} → IsPart P p is_end → IsPart (Closed P is_end) (closed p is_end) always
+up_to_end {P = P} {p = p} part = part_closed P p is_end (sample Word (codes "end")) (passes Word (codes "end") refl) part
 
--- ---- numbers
+-- one of two that begin with different tokens
+one_of_two : {A : Type 0} {P Q : Lang A} {p q : Reader A} (starts other : Lexeme → Bool) (over past : Lexeme → Option RefusalKind) → Starts P starts over → Starts Q other past → ((t : Lexeme) → other t ≡ true → starts t ≡ false) → IsPart P p always → IsPart Q q always → IsPart (Either P Q) (either starts p q) always
+one_of_two {A} {P = P} {Q = Q} {p = p} {q = q} starts other over past s o differ part second = part_either P Q p q starts over always (record {
+  one = part;
+  other = second;
+  start = s;
+  differ = λ xs a t is e. differ t (starts_in Q other past o xs a t is e);
+  ends = λ xs a t is e f. absurd (starts_some Q other past o xs a is e);
+})
 
-abbrev stops_minus : Lexeme → Bool
-stops_minus t = is_minus t || never t
+-- ---- tokens
 
-number_not : (passes : ℕ → Bool) (t : Lexeme) (n : ℕ) → number_if passes t ≡ Some n → stops_minus t ≡ false
+part_word : (text : List ℕ) → bytes_eq text text ≡ true → IsPart (IsWord text) (a_word text) always
+part_word text e = a_token Word text e
+
+abbrev name_sample : Lexeme
+name_sample = sample Word (codes "a")
+
+name_passes : is_name name_sample ≡ true
+unfolding same_kind is_reserved
+name_passes = refl
+
+part_name : IsPart IsName (one is_name) always
+part_name = part_one is_name no_limit name_sample name_passes
+
+part_end : IsPart IsEnd an_end always
+unfolding an_end
+part_end = one_of_two (word (codes "head")) (word (codes "tail")) no_limit no_limit
+    (starts_made (IsThe (word (codes "head"))) (λ line. Head) (word (codes "head")) no_limit (starts_the (word (codes "head"))))
+    (starts_made (IsThe (word (codes "tail"))) (λ line. Tail) (word (codes "tail")) no_limit (starts_the (word (codes "tail"))))
+    (λ t e. other_text Word (codes "tail") (codes "head") t refl e)
+    (into (λ line. Head) (a_token Word (codes "head") refl))
+    (into (λ line. Tail) (a_token Word (codes "tail") refl))
+
+part_chirality : IsPart IsChirality a_chirality always
+unfolding a_chirality
+part_chirality = one_of_two (sign (codes "+")) (sign (codes "-")) no_limit no_limit
+    (starts_made (IsThe (sign (codes "+"))) (λ line. Plus) (sign (codes "+")) no_limit (starts_the (sign (codes "+"))))
+    (starts_made (IsThe (sign (codes "-"))) (λ line. Minus) (sign (codes "-")) no_limit (starts_the (sign (codes "-"))))
+    (λ t e. other_text Sign (codes "-") (codes "+") t refl e)
+    (into (λ line. Plus) (a_token Sign (codes "+") refl))
+    (into (λ line. Minus) (a_token Sign (codes "-") refl))
+
+number_no_sign : (text : List ℕ) (t : Lexeme) → is_number t ≡ true → sign text t ≡ false
 unfolding same_kind
-number_not passes t n e = let k : is_kind Sign t ≡ false = other_kind t Number Sign refl (number_is passes t n e).0 in rw k refl
+number_no_sign text t e = rw (kind_is Number t e) refl
 
-law_int : (most : ℕ) → Exact (IsInt most) (an_int most) never
+word_no_number : (text : List ℕ) (t : Lexeme) → word text t ≡ true → is_number t ≡ false
+unfolding same_kind
+word_no_number text t e = other_kind Word Number text t refl e
+
+until : {A : Type 0} (P : Lang A) (p : Reader A) → IsPart P p always → IsPart P p is_end
+until P p part = part_less P p always is_end (λ t e. refl) part
+
+-- ---- parts
+
+part_number : (least most : ℕ) → IsPart (IsNumber least most) (a_number least most) always
+part_number least most = a_numeral (outside least most)
+
+part_int : (most : ℕ) → IsPart (IsInt most) (an_int most) always
 unfolding an_int
-law_int most = law_then_at (UpTo (IsOne (this Sign (codes "-"))) 1) (λ minus. Made (IsNumber 0 most) (signed minus)) (up_to is_minus (one (this Sign (codes "-"))) 1) (λ minus. a_number 0 most >>= λ n. pure (signed minus n)) stops_minus never
-    (law_up_to (IsOne (this Sign (codes "-"))) (one (this Sign (codes "-"))) is_minus never (law_one (this Sign (codes "-")))
-    (one_begins (this Sign (codes "-")) is_minus true (λ t u e. this_is Sign (codes "-") t u e)) (λ t e. refl) 1)
-    (λ minus. law_made (IsNumber 0 most) (a_number 0 most) (signed minus) never (law_one (number_if (is_within 0 most))))
-    (λ ys minus z rest is s. made_begins (number_if (is_within 0 most)) stops_minus false (λ t n e. number_not (is_within 0 most) t n e) (signed minus) ys z rest is)
+part_int most = one_of_two (sign (codes "-")) is_number no_limit (outside 0 most)
+    (starts_then (IsThe (sign (codes "-"))) (λ line. Made (IsNumber 0 most) negative) (sign (codes "-")) no_limit (starts_the (sign (codes "-"))) (λ line. some_text (Made (IsNumber 0 most) negative) _ (into negative (part_number 0 most)).law))
+    (starts_made (IsNumber 0 most) (λ n. pos n) is_number (outside 0 most) (starts_numeral (outside 0 most)))
+    (λ t e. number_no_sign (codes "-") t e)
+    (behind (a_token Sign (codes "-") refl) (λ line. into negative (part_number 0 most)))
+    (into (λ n. pos n) (part_number 0 most))
 
--- ---- the program
-
-law_port : Exact IsPort a_port never
+part_port : IsPart IsPort a_port always
 unfolding a_port
-law_port = law_then (IsOne end_of) _ (one end_of) _ never (law_one end_of) (λ end. law_made (IsNumber 0 5) (a_number 0 5) _ never (law_one (number_if (is_within 0 5))))
+part_port = behind part_end (λ end. into (λ dir. record { end = end; dir = dir }) (part_number 0 5))
 
-law_program : Exact IsProgram a_program never
+part_move : IsPart IsMove a_move always
+unfolding a_move
+part_move = behind (part_word (codes "move") refl) (λ line. behind (part_word (codes "expand") refl) (λ line. part_port))
+
+part_action : IsPart IsAction an_action always
+unfolding an_action
+part_action = behind (part_word (codes "action") refl) (λ line. behind part_name (λ name. behind (part_word (codes "when") refl) (λ line. behind (part_word (codes "contracted") refl) (λ line. part_move))))
+
+part_program : IsPart IsProgram a_program always
 unfolding a_program
-law_program =
-    law_behind (codes "program") _ _ never (law_behind (codes "action") _ _ never (law_then IsName _ (one name_of) _ never (law_one name_of) (λ name.
-    law_behind (codes "when") _ _ never (law_behind (codes "contracted") _ _ never (law_behind (codes "move") _ _ never (law_behind (codes "expand") _ _ never
-    (law_ended IsPort a_port never law_port (λ t e. refl))))))))
+part_program = behind (part_word (codes "program") refl) (λ line. up_to_end (until IsAction an_action part_action))
 
--- ---- the shape
-
-law_area : Exact IsAreaLine an_area never
+part_area : IsPart IsAreaLine an_area always
 unfolding an_area
-law_area =
-    law_behind (codes "area") _ _ never (law_then (IsInt 4096) _ (an_int 4096) _ never (law_int 4096) (λ x0. law_then (IsInt 4096) _ (an_int 4096) _ never (law_int 4096) (λ y0.
-    law_then (IsNumber 1 128) _ (a_number 1 128) _ never (law_one (number_if (is_within 1 128))) (λ w. law_made (IsNumber 1 128) (a_number 1 128) _ never (law_one (number_if (is_within 1 128)))))))
+part_area = behind (part_word (codes "area") refl) (λ line. behind (part_int 4096) (λ x0. behind (part_int 4096) (λ y0. behind (part_number 1 128) (λ w. into (λ h. record { x0 = x0; y0 = y0; w = w; h = h }) (part_number 1 128)))))
 
-law_node : Exact IsNode a_node never
+part_node : IsPart IsNode a_node always
 unfolding a_node
-law_node = law_then (IsInt 9999) _ (an_int 9999) _ never (law_int 9999) (λ x. law_made (IsInt 9999) (an_int 9999) _ never (law_int 9999))
+part_node = behind (part_int 9999) (λ x. into (λ y. record { x = x; y = y }) (part_int 9999))
 
-law_bot : Exact IsBotLine a_bot never
+part_bot : IsPart IsBotLine a_bot always
 unfolding a_bot
-law_bot =
-    law_behind (codes "bot") _ _ never (law_then IsNode _ a_node _ never law_node (λ head. law_then IsNode _ a_node _ never law_node (λ tail.
-    law_then (IsNumber 0 5) _ (a_number 0 5) _ never (law_one (number_if (is_within 0 5))) (λ rot. law_made (IsOne chirality_of) (one chirality_of) _ never (law_one chirality_of)))))
+part_bot = behind (part_word (codes "bot") refl) (λ line. behind part_node (λ head. behind part_node (λ tail. behind (part_number 0 5) (λ rot. into (λ chir. record { head = head; tail = tail; rot = rot; chir = chir; mem = zeros }) part_chirality))))
 
-abbrev stops_bots : Lexeme → Bool
-stops_bots t = is_bot t || never t
+starts_bot : Starts IsBotLine is_bot no_limit
+starts_bot = starts_then (IsWord (codes "bot")) _ is_bot no_limit (starts_the is_bot) (λ line. some_text _ _ (behind part_node (λ head. behind part_node (λ tail. behind (part_number 0 5) (λ rot. into (λ chir. record { head = head; tail = tail; rot = rot; chir = chir; mem = zeros }) part_chirality)))).law)
 
-law_bots : Exact (UpTo IsBotLine 4096) all_bots stops_bots
+-- ---- lists
+
+abbrev pub BotIn : ℕ → Lang Bot
+BotIn room = Limited IsBotLine room
+
+pub bot_elements : AreElements BotIn bot_in is_bot always is_end
+bot_elements = at_most_elements IsBotLine a_bot is_bot no_limit always is_end starts_bot part_bot (λ t e. refl) (λ t e. refl) (λ t e. other_text Word (codes "end") (codes "bot") t refl e)
+
+part_bots : IsPart (AtMost 4096 IsBotLine) all_bots is_end
 unfolding all_bots
-law_bots = law_up_to IsBotLine a_bot is_bot never law_bot (then_begins (this Word (codes "bot")) is_bot true (λ t u e. this_is Word (codes "bot") t u e) _) (λ t e. refl) 4096
+part_bots = part_repeated BotIn bot_in (λ room a. less room) is_bot always is_end bot_elements 4096
 
-law_shape : Exact IsShape a_shape never
+part_shape : IsPart IsShape a_shape always
 unfolding a_shape
-law_shape =
-    law_behind (codes "shape") _ _ never (law_then IsAreaLine _ an_area _ never law_area (λ area. law_made (Ended (UpTo IsBotLine 4096)) (ended all_bots) _ never
-    (law_ended (UpTo IsBotLine 4096) all_bots stops_bots law_bots (λ t e. let no_bot = other_text Word Word (codes "end") (codes "bot") t refl e in rw no_bot refl))))
+part_shape = behind (part_word (codes "shape") refl) (λ line. up_to_end (behind part_area (λ area. into (λ bots. record { area = area; bots = bots }) part_bots)))
 
--- ---- the lists
+module _ (bots : ℕ) where
+  abbrev pub IdIn : ℕ → Lang ℕ
+  IdIn room = Limited (IsId bots) room
 
-abbrev stops_ids : Lexeme → Bool
-stops_ids t = is_number t || never t
+  pub id_elements : AreElements IdIn (id_in bots) is_number always is_end
+  id_elements = at_most_elements (IsId bots) (an_id bots) is_number (no_bot bots) always is_end (starts_numeral (no_bot bots)) (a_numeral (no_bot bots)) (λ t e. refl) (λ t e. refl) (λ t e. word_no_number (codes "end") t e)
 
-law_more_ids : (bots : ℕ) → Exact (UpTo (IsId bots) 4095) (more_ids bots) stops_ids
-unfolding more_ids
-law_more_ids bots =
-    law_up_to (IsId bots) (an_id bots) is_number never (law_one (number_if (is_below bots))) (one_begins (number_if (is_below bots)) is_number true (λ t n e. (number_is (is_below bots) t n e).0)) (λ t e. refl) 4095
+  part_more_ids : IsPart (AtMost 4095 (IsId bots)) (at_most is_number (no_bot bots) 4095 (an_id bots)) is_end
+  part_more_ids = part_repeated IdIn (id_in bots) (λ room a. less room) is_number always is_end id_elements 4095
 
-law_list : (bots : ℕ) → Exact (IsCallerList bots) (a_list bots) stops_ids
-unfolding a_list
-law_list bots =
-    law_behind (codes "list") _ _ stops_ids (law_then (IsId bots) _ (an_id bots) _ stops_ids (law_one (number_if (is_below bots))) (λ id. law_made (UpTo (IsId bots) 4095) (more_ids bots) _ stops_ids (law_more_ids bots)))
+  part_ids : IsPart (AreIds bots) (all_ids bots) is_end
+  unfolding all_ids
+  part_ids = behind (a_numeral (no_bot bots)) (λ id. into (λ more. id ∷ more) part_more_ids)
 
-abbrev stops_lists : Lexeme → Bool
-stops_lists t = is_list t || stops_ids t
+  part_list : IsPart (IsCallerList bots) (a_list bots) is_end
+  unfolding a_list
+  part_list = behind (part_word (codes "list") refl) (λ line. part_ids)
 
-no_number : (text : List ℕ) (t : Lexeme) → is_the Word text t ≡ true → stops_ids t ≡ false
-unfolding same_kind
-no_number text t e = let no : is_kind Number t ≡ false = other_kind t Word Number refl (spelled Word text t e).0 in rw no refl
+  starts_list : Starts (IsCallerList bots) is_list no_limit
+  starts_list = starts_then (IsWord (codes "list")) (λ line. AreIds bots) is_list no_limit (starts_the is_list) (λ line. some_text (AreIds bots) (all_ids bots) part_ids.law)
 
-law_all_lists : (bots : ℕ) → Exact (UpTo (IsCallerList bots) 1) (all_lists bots) stops_lists
-unfolding all_lists
-law_all_lists bots =
-    law_up_to (IsCallerList bots) (a_list bots) is_list stops_ids (law_list bots) (then_begins (this Word (codes "list")) is_list true (λ t u e. this_is Word (codes "list") t u e) _) (no_number (codes "list")) 1
+  part_all_lists : IsPart (AtMostOneList bots) (all_lists bots) is_end
+  unfolding all_lists
+  part_all_lists = part_optional [] (Made (IsCallerList bots) (λ ids. ids ∷ [])) (a_list bots >>= λ ids. pure (ids ∷ [])) is_list no_limit is_end
+      (starts_made (IsCallerList bots) (λ ids. ids ∷ []) is_list no_limit starts_list) (into (λ ids. ids ∷ []) part_list) (λ t e. other_text Word (codes "end") (codes "list") t refl e)
 
-no_list : (t : Lexeme) → is_the Word (codes "end") t ≡ true → stops_lists t ≡ false
-no_list t e = let list : is_list t ≡ false = other_text Word Word (codes "end") (codes "list") t refl e in rw list (no_number (codes "end") t e)
+  part_lists : IsPart (IsLists bots) (the_lists bots) always
+  unfolding the_lists
+  part_lists = behind (part_word (codes "lists") refl) (λ line. behind (part_word (codes "turns") refl) (λ line. behind (a_numeral (too_large 65536 TooMany)) (λ turns. into (λ ids. record { turns = turns; ids = ids }) (up_to_end part_all_lists))))
 
-law_lists : (bots : ℕ) → Exact (IsLists bots) (the_lists bots) never
-unfolding the_lists
-law_lists bots =
-    law_behind (codes "lists") _ _ never (law_behind (codes "turns") _ _ never (law_then (IsNumber 0 65536) _ (a_number 0 65536) _ never (law_one (number_if (is_within 0 65536)))
-    (λ turns. law_made (Ended (UpTo (IsCallerList bots) 1)) (ended (all_lists bots)) _ never (law_ended (UpTo (IsCallerList bots) 1) (all_lists bots) stops_lists (law_all_lists bots) no_list))))
+-- ---- the whole
 
--- ---- all of it
-
-pub law_parts : Exact AreParts the_parts never
+pub part_text : IsPart IsRunText the_parts always
 unfolding the_parts
-law_parts =
-    law_behind (codes "amoebot") _ _ never (law_then (IsNumber 1 1) _ (a_number 1 1) _ never (law_one (number_if (is_within 1 1))) (λ version. law_then IsProgram _ a_program _ never law_program
-    (λ port. law_then IsShape _ a_shape _ never law_shape (λ shape. law_made (IsLists (length shape.bots)) (the_lists (length shape.bots)) _ never (law_lists (length shape.bots))))))
+part_text = behind (part_word (codes "amoebot") refl) (λ line. behind (part_number 1 1) (λ version. behind part_program (λ port. behind part_shape (λ shape. into (λ lists. record { port = port; shape = shape; lists = lists }) (part_lists (length shape.bots))))))
+
+pub exact_text : Exact IsRunText the_parts
+exact_text = exact IsRunText the_parts part_text.law
+
+pub decided_input : IsDecidedInput IsRunText Trailing
+decided_input = (input_law IsRunText the_parts Trailing part_text.law).1

@@ -3,7 +3,6 @@ pub mod DocumentViews
 pub mod Documents
 pub mod Good
 pub mod Headline
-pub mod Phrases
 pub mod Readers
 pub mod Rooms
 pub mod Samples

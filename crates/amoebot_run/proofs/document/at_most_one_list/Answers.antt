@@ -1,42 +1,42 @@
-use Rattle.std.proofs.Common.{◌≡◌, ℕ, true, false, ◌∷◌, ◌++◌, [], List, Some, refl, sym, ap, ◌∙◌}
+use Rattle.std.proofs.Common.{◌≡◌, ℕ, true, false, ◌∷◌, ◌++◌, [], List, Ok, sym, ap, ◌∙◌}
 use Rattle.std.proofs.lemmas.Result.{err_from_is_err_and}
-use Rattle.text_tokens.specs.Text.{Lexeme}
-use Rattle.text_tokens.specs.Cursor.{next_passes}
-use Rattle.amoebot_run.specs.declared.document.Unread.{Unread}
+use Rattle.text_tokens.specs.Reading.{Reader, ◌>>=◌, pure}
+use Rattle.text_tokens.specs.Cursor.{Cursor, next_passes}
+use Rattle.text_tokens.proofs.Stepping.{is_first, is_second, stays}
 use Rattle.amoebot_run.specs.Turns.{CallerLists}
-use Rattle.amoebot_run.specs.Readers.{all_lists, a_list, is_list, up_to, Fails}
-use Rattle.amoebot_run.proofs.Taking.{then_fails}
+use Rattle.amoebot_run.specs.Readers.{all_lists, a_list, is_list}
+use Rattle.amoebot_run.proofs.Chaining.{Left, part_fails, made_left}
 use Rattle.amoebot_run.proofs.document.at_most_one_list.Goals as goal
 
-module _ (bots : ℕ) (ts : List Lexeme) where
-  no_list : next_passes is_list ts ≡ false → all_lists bots ts ≡ Some ([], ts)
-  unfolding all_lists up_to
-  no_list f = rw f refl
+module _ (bots : ℕ) (here : Cursor) where
+  abbrev one_list : Reader (List (List ℕ))
+  one_list = a_list bots >>= λ ids. pure (ids ∷ [])
 
-  one_list : (ids : List ℕ) (us : List Lexeme) → next_passes is_list ts ≡ true → a_list bots ts ≡ Some (ids, us) → all_lists bots ts ≡ Some (ids ∷ [], us)
-  unfolding all_lists up_to
-  one_list ids us f e = rw (f, e) refl
+  with_list : next_passes is_list here.ahead ≡ true → Left (all_lists bots) here one_list here
+  unfolding all_lists
+  with_list e = record { reads = is_first is_list one_list (pure []) here.last here.ahead e; stays = stays here }
 
-  wrong_list : (e : Unread) → next_passes is_list ts ≡ true → Fails e (a_list bots ts) → Fails e (all_lists bots ts)
-  unfolding all_lists up_to
-  wrong_list e f h = rw f (then_fails (a_list bots ts) _ e h)
+  no_list : next_passes is_list here.ahead ≡ false → Left (all_lists bots) here (pure []) here
+  unfolding all_lists
+  no_list e = record { reads = is_second is_list one_list (pure []) here.last here.ahead e; stays = stays here }
 
 pub returns-then-not-is_next-clause-reads : goal.returns-then-not-is_next-clause-reads
 returns-then-not-is_next-clause-reads c =
-    (no_list c.args.bots c.args.tokens.now.ahead (sym c.is_next.ensures ∙ c.if-not-is_next.true) ∙ ap (λ (ids : List (List ℕ)). Some (ids, c.args.tokens.now.ahead)) (sym (ap (λ (l : CallerLists). l.ids) c.in_ok-lists.ensures)), refl)
+    let l0 = no_list c.args.bots c.args.tokens.now (sym c.is_next.ensures ∙ c.if-not-is_next.true) in
+    (l0.reads ∙ ap (λ (ids : List (List ℕ)). Ok (ids, c.args.tokens.now.ahead)) (sym (ap (λ (l : CallerLists). l.ids) c.in-Ok.ensures)), l0.stays)
 
 pub returns-in_err-ids-clause-reads : goal.returns-in_err-ids-clause-reads
 returns-in_err-ids-clause-reads c =
-    let p = err_from_is_err_and c.from_residual-in_err-ids.result c.from_residual-in_err-ids.ensures.1 in
-    rw (p.1, p.2) (wrong_list c.args.bots c.args.tokens.now.ahead c.in_err-ids.field-0.0 (sym c.is_next.ensures ∙ c.if-not-is_next.false) c.in_err-ids.ensures.reads)
+    let p = err_from_is_err_and c.from_residual.result c.from_residual.ensures.1 in
+    let l0 = with_list c.args.bots c.args.tokens.now (sym c.is_next.ensures ∙ c.if-not-is_next.false) in
+    rw (p.1, p.2) (part_fails (a_list c.args.bots) (λ ids. pure (ids ∷ [])) l0 c.in_err-ids.field-0.0 c.read_list.new.tokens c.in_err-ids.ensures.reads)
 
-pub returns-clause-reads : goal.returns-clause-reads
-returns-clause-reads c =
+pub returns-in-Ok-add-clause-reads : goal.returns-in-Ok-add-clause-reads
+returns-in-Ok-add-clause-reads c =
+    let l0 = with_list c.args.bots c.args.tokens.now (sym c.is_next.ensures ∙ c.if-not-is_next.false) in
+    let m = made_left (a_list c.args.bots) (λ ids. ids ∷ []) l0 c.in_ok-ids.ids.items c.read_list.new.tokens c.in_ok-ids.ensures.reads in
     let added : c.add.new.self.ids ≡ c.in_ok-ids.ids.items ∷ [] =
-    ap (λ (l : CallerLists). l.ids) c.in_ok-add.ensures.ok
-    ∙ ap (λ (l : CallerLists). l.ids ++ c.as_slice.result.now ∷ []) c.in_ok-lists.ensures
+    ap (λ (l : CallerLists). l.ids) c.in-Ok-add.ensures.ok
+    ∙ ap (λ (l : CallerLists). l.ids ++ c.as_slice.result.now ∷ []) c.in-Ok.ensures
     ∙ ap (λ (ids : List ℕ). ids ∷ []) c.as_slice.ensures.value
-    in (
-      one_list c.args.bots c.args.tokens.now.ahead c.in_ok-ids.ids.items c.read_list.new.tokens.ahead (sym c.is_next.ensures ∙ c.if-not-is_next.false) c.in_ok-ids.ensures.reads.0 ∙ ap (λ (ids : List (List ℕ)). Some (ids, c.read_list.new.tokens.ahead)) (sym added),
-      c.in_ok-ids.ensures.reads.1,
-    )
+    in (m.0 ∙ ap (λ (ids : List (List ℕ)). Ok (ids, c.read_list.new.tokens.ahead)) (sym added), m.1)

@@ -1,26 +1,42 @@
-use Rattle.std.proofs.Common.{sym, ◌∙◌}
+use Rattle.std.proofs.Common.{◌∙◌, Ok, Err, sym}
 use Rattle.std.specs.Prelude.{codes}
 use Rattle.std.proofs.lemmas.Result.{err_from_is_err_and}
-use Rattle.text_tokens.specs.declared.token.TokenKind.TheVariants.{Word}
+use Rattle.text_tokens.specs.Reading.{the_line, pure}
+use Rattle.text_tokens.proofs.Stepping.{fails, on_made, is_first, is_second, gives_as}
+use Rattle.amoebot_state.specs.declared.bot.End.{End}
 use Rattle.amoebot_state.specs.declared.bot.End.TheVariants.{Head, Tail}
-use Rattle.amoebot_run.specs.Documents.{end_of}
-use Rattle.amoebot_run.specs.Readers.{one}
-use Rattle.amoebot_run.proofs.Taking.{first_read, second_read, seen_fails, second_fails}
+use Rattle.amoebot_run.specs.Documents.{word}
+use Rattle.amoebot_run.specs.Readers.{means, an_end}
 use Rattle.amoebot_run.proofs.document.read_end.Goals as goal
 
-pub returns-in_err-take_word : goal.returns-in_err-take_word
-returns-in_err-take_word c =
+pub returns-in_err-read_word : goal.returns-in_err-read_word
+unfolding an_end
+returns-in_err-read_word c =
     let p = err_from_is_err_and c.from_residual.result c.from_residual.ensures.1 in
-    rw (p.1, p.2) (seen_fails Word (codes "head") c.args.tokens.now.ahead c.in_err-take_word.field-0.0 (sym c.is_next.ensures ∙ c.if-is_next.true) c.in_err-take_word.ensures (one end_of c.args.tokens.now.ahead))
+    let now = c.args.tokens.now in
+    let e = c.in_err-read_word.field-0.0 in
+    rw (p.1, p.2) (gives_as (λ (a : End). a) an_end (means (word (codes "head")) Head) now c.read_word.new.tokens (Err e) (is_first (word (codes "head")) (means (word (codes "head")) Head) (means (word (codes "tail")) Tail) now.last now.ahead (sym c.is_next.ensures ∙ c.if-is_next.true))
+    (fails (the_line (word (codes "head"))) (λ line. pure Head) e now c.read_word.new.tokens c.in_err-read_word.ensures))
 
-pub returns-in_err-take_word-2 : goal.returns-in_err-take_word-2
-returns-in_err-take_word-2 c =
-    let p = err_from_is_err_and c.from_residual-in_err-take_word-2.result c.from_residual-in_err-take_word-2.ensures.1 in
-    rw (p.1, p.2) (second_fails Word (codes "head") Head Word (codes "tail") Tail c.args.tokens.now.ahead c.in_err-take_word-2.field-0.0 (sym c.is_next.ensures ∙ c.if-is_next.false) c.in_err-take_word-2.ensures)
+pub returns-in_err-read_word-2 : goal.returns-in_err-read_word-2
+unfolding an_end
+returns-in_err-read_word-2 c =
+    let p = err_from_is_err_and c.from_residual-in_err-read_word-2.result c.from_residual-in_err-read_word-2.ensures.1 in
+    let now = c.args.tokens.now in
+    let e = c.in_err-read_word-2.field-0.0 in
+    rw (p.1, p.2) (gives_as (λ (a : End). a) an_end (means (word (codes "tail")) Tail) now c.read_word-else-is_next.new.tokens (Err e) (is_second (word (codes "head")) (means (word (codes "head")) Head) (means (word (codes "tail")) Tail) now.last now.ahead (sym c.is_next.ensures ∙ c.if-is_next.false))
+    (fails (the_line (word (codes "tail"))) (λ line. pure Tail) e now c.read_word-else-is_next.new.tokens c.in_err-read_word-2.ensures))
 
-pub returns-in_ok-take_word : goal.returns-in_ok-take_word
-returns-in_ok-take_word c = (first_read Word (codes "head") Head Word (codes "tail") Tail c.args.tokens.now.ahead c.take_word.new.tokens.ahead tt c.in_ok-take_word.ensures.0, c.in_ok-take_word.ensures.1)
+pub returns-in_ok-read_word : goal.returns-in_ok-read_word
+unfolding an_end
+returns-in_ok-read_word c =
+    let now = c.args.tokens.now in
+    gives_as (λ (a : End). a) an_end (means (word (codes "head")) Head) now c.read_word.new.tokens (Ok Head) (is_first (word (codes "head")) (means (word (codes "head")) Head) (means (word (codes "tail")) Tail) now.last now.ahead (sym c.is_next.ensures ∙ c.if-is_next.true))
+    (on_made (the_line (word (codes "head"))) (λ line. Head) now c.read_word.new.tokens c.in_ok-read_word.field-0 c.in_ok-read_word.ensures)
 
-pub returns-in_ok-take_word-2 : goal.returns-in_ok-take_word-2
-returns-in_ok-take_word-2 c =
-    (second_read Word (codes "head") Head Word (codes "tail") Tail c.args.tokens.now.ahead c.take_word-else-is_next.new.tokens.ahead tt (sym c.is_next.ensures ∙ c.if-is_next.false) c.in_ok-take_word-2.ensures.0, c.in_ok-take_word-2.ensures.1)
+pub returns-in_ok-read_word-2 : goal.returns-in_ok-read_word-2
+unfolding an_end
+returns-in_ok-read_word-2 c =
+    let now = c.args.tokens.now in
+    gives_as (λ (a : End). a) an_end (means (word (codes "tail")) Tail) now c.read_word-else-is_next.new.tokens (Ok Tail) (is_second (word (codes "head")) (means (word (codes "head")) Head) (means (word (codes "tail")) Tail) now.last now.ahead (sym c.is_next.ensures ∙ c.if-is_next.false))
+    (on_made (the_line (word (codes "tail"))) (λ line. Tail) now c.read_word-else-is_next.new.tokens c.in_ok-read_word-2.field-0 c.in_ok-read_word-2.ensures)

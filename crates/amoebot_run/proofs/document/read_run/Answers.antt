@@ -1,26 +1,18 @@
-use Rattle.std.proofs.Common.{inr, sym, ◌∙◌}
-use Rattle.std.proofs.lemmas.Bool.{false≢true}
 use Rattle.std.proofs.lemmas.Result.{err_from_is_err_and}
 use Rattle.amoebot_run.specs.DocumentViews as view
-use Rattle.amoebot_run.proofs.Documents.{is_over, unread, started, not_started, ids_there}
+use Rattle.amoebot_run.proofs.Documents.{unread, started, not_started, ids_there}
 use Rattle.amoebot_run.proofs.document.read_run.Goals as goal
 
 pub returns-in_err-parts-clause-err : goal.returns-in_err-parts-clause-err
 returns-in_err-parts-clause-err c =
     let p = err_from_is_err_and c.from_residual.result c.from_residual.ensures.1 in
-    rw (p.1, p.2) (unread c.tokens_are_one.ensures c.args.bytes.now c.new-tokens.result c.new-tokens.ensures c.in_err-parts.field-0.0 c.in_err-parts.ensures.reads)
-
-pub returns-then-not-is_over-clause-err : goal.returns-then-not-is_over-clause-err
-returns-then-not-is_over-clause-err c =
-    inr (λ p w l d. false≢true (sym c.if-not-is_over.true ∙ c.is_over.ensures.1 (is_over c.tokens_are_one.ensures c.args.bytes.now c.new-tokens.result c.new-tokens.ensures p w l d c.read_parts.new.tokens (view.parts c.in_ok-parts.parts) c.in_ok-parts.ensures.reads.0 c.in_ok-parts.ensures.reads.1)))
+    rw (p.1, p.2) (unread c.tokens_are_one.ensures c.tokens_are_cut.ensures c.args.bytes.now c.in_err-parts.field-0.0 c.in_err-parts.ensures.reads)
 
 pub returns-clause-ok : goal.returns-clause-ok
-returns-clause-ok c =
-    started c.tokens_are_one.ensures c.args.bytes.now c.new-tokens.result c.new-tokens.ensures c.read_parts.new.tokens (view.parts c.in_ok-parts.parts) c.in_ok-parts.ensures.reads.0 c.in_ok-parts.ensures.reads.1 (c.is_over.ensures.0 c.if-not-is_over.false)
-    c.start.result c.start.ensures.port c.start.ensures.start c.start.ensures.lists c.start.ensures.faultless
+returns-clause-ok c = started c.tokens_are_one.ensures c.tokens_are_cut.ensures c.args.bytes.now c.in_ok-parts.parts c.in_ok-parts.ensures.reads c.start.result c.start.ensures.port c.start.ensures.start c.start.ensures.lists c.start.ensures.faultless
 
 pub returns-clause-err : goal.returns-clause-err
-returns-clause-err c = not_started c.tokens_are_one.ensures c.args.bytes.now c.new-tokens.result c.new-tokens.ensures c.start.result c.read_parts.new.tokens (view.parts c.in_ok-parts.parts) c.in_ok-parts.ensures.reads.0 c.start.ensures.faulty
+returns-clause-err c = not_started c.tokens_are_one.ensures c.tokens_are_cut.ensures c.args.bytes.now c.in_ok-parts.parts c.in_ok-parts.ensures.reads c.start.result c.start.ensures.faulty
 
 pub returns-clause-bots : goal.returns-clause-bots
 returns-clause-bots c = ids_there c.start.result (view.parts c.in_ok-parts.parts) c.in_ok-parts.ensures.bots c.start.ensures.start c.start.ensures.lists
