@@ -7,7 +7,7 @@ use Rattle.text_tokens.specs.Text.{Lexeme}
 use Rattle.text_tokens.specs.Cursor.{Cursor}
 use Rattle.text_tokens.specs.Reading.{Answer, Reader, ◌>>=◌, pure, and_then}
 use Rattle.text_tokens.specs.Steps.{SameSource, Gives}
-use Rattle.text_tokens.proofs.Stepping.{Reached, Failed, stays, stays_on, fails, on_made, gives_as}
+use Rattle.text_tokens.proofs.Stepping.{Reached, Failed, stays, stays_on, fails, on_made}
 
 pub record Left {A : Type 0} (p : Reader A) (start : Cursor) (q : Reader A) (here : Cursor) : Type 0 where
   pub reads : p start.last start.ahead ≡ q here.last here.ahead

@@ -1,5 +1,5 @@
 -- When the bytes are a document, and when they are none.
-use Rattle.std.proofs.Common.{◌≡◌, ℕ, List, length, Option, Some, Result, Ok, Err, ◌⊎◌, inl, inr, refl, sym, ap, subst, ◌∙◌}
+use Rattle.std.proofs.Common.{◌≡◌, ℕ, List, length, Some, Result, Ok, Err, ◌⊎◌, inl, inr, refl, sym, ap, subst, ◌∙◌}
 use Rattle.std.specs.Prelude.{IfOk, IfErr, OnOk}
 use Rattle.std.proofs.lemmas.List.{length-map}
 use Rattle.text_tokens.specs.declared.refusal.Refusal.{Refusal}
@@ -7,8 +7,8 @@ use Rattle.text_tokens.specs.declared.refusal.RefusalKind.TheVariants.{Trailing}
 use Rattle.text_tokens.specs.declared.refusal.ReadRefusal.{ReadRefusal}
 use Rattle.text_tokens.specs.declared.refusal.ReadRefusal.TheVariants as reading
 use Rattle.text_tokens.specs.Text.{Lexeme, AreTokens}
-use Rattle.text_tokens.specs.Cursor.{Cursor, IsAtFront, at_place}
-use Rattle.text_tokens.specs.Inputs.{IsInput, IsInputFault, TellsInput}
+use Rattle.text_tokens.specs.Cursor.{Cursor, at_place}
+use Rattle.text_tokens.specs.Inputs.{IsInput, IsInputFault}
 use Rattle.text_tokens.specs.Promises.{OneReading, TokensAreCut}
 use Rattle.text_tokens.specs.Steps.{ReadsInput}
 use Rattle.amoebot_state.specs.declared.bot.Bot.{Bot}
@@ -17,7 +17,7 @@ use Rattle.amoebot_state.specs.Configs.{Config, config_of}
 use Rattle.amoebot_state.specs.Refusals.{IsFaultless}
 use Rattle.amoebot_run.specs.declared.document.Run.{Run}
 use Rattle.amoebot_run.specs.declared.document.Unread.{Unread}
-use Rattle.amoebot_run.specs.declared.document.Unread.TheVariants.{NotYet, NoMemory}
+use Rattle.amoebot_run.specs.declared.document.Unread.TheVariants.{NoMemory}
 use Rattle.amoebot_run.specs.declared.document.Parts as parts_read
 use Rattle.amoebot_run.specs.DocumentViews as view
 use Rattle.claim_core.specs.Turns.{CallerLists, HaveBots}

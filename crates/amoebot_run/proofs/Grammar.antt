@@ -1,17 +1,15 @@
 -- The reader of a document is a part for its grammar.
-use Rattle.std.proofs.Common.{◌≡◌, ℕ, ℤ, pos, Bool, true, false, List, [], ◌∷◌, length, Option, Some, None, refl}
-use Rattle.std.specs.Prelude.{codes, not, ◌-ℤ◌}
+use Rattle.std.proofs.Common.{◌≡◌, ℕ, pos, Bool, true, false, List, [], ◌∷◌, length, Option, refl}
+use Rattle.std.specs.Prelude.{codes}
 use Rattle.std.specs.Str.{bytes_eq}
-use Rattle.tri_lattice.specs.declared.node.Node.{Node}
-use Rattle.tri_lattice.specs.Extent.{Extent}
 use Rattle.text_tokens.specs.declared.token.TokenKind.TheVariants.{Word, Number, Sign}
 use Rattle.text_tokens.specs.declared.refusal.RefusalKind.{RefusalKind}
 use Rattle.text_tokens.specs.declared.refusal.RefusalKind.TheVariants.{TooMany, Trailing}
 use Rattle.text_tokens.specs.Text.{Lexeme}
-use Rattle.text_tokens.specs.Cursor.{is_kind, same_kind}
-use Rattle.text_tokens.specs.Reading.{Reader, ◌>>=◌, pure, first, one, is_number, numeral, too_large, no_limit, less, the_line, closed, either, at_most}
-use Rattle.text_tokens.specs.Grammar.{Symbol, Lang, tokens, IsOne, Then, Made, IsThe, IsNumeral, Closed, Either, Limited, AtMost}
-use Rattle.text_tokens.specs.Lawful.{Exact, IsPart, SomeText, Starts, AreElements, always}
+use Rattle.text_tokens.specs.Cursor.{same_kind}
+use Rattle.text_tokens.specs.Reading.{Reader, ◌>>=◌, pure, one, is_number, too_large, no_limit, less, closed, either, at_most}
+use Rattle.text_tokens.specs.Grammar.{Lang, Then, Made, IsThe, Closed, Either, Limited, AtMost}
+use Rattle.text_tokens.specs.Lawful.{Exact, IsPart, Starts, AreElements, always}
 use Rattle.text_tokens.specs.Inputs.{IsDecidedInput}
 use Rattle.text_tokens.proofs.Exactness.{exact}
 use Rattle.text_tokens.proofs.Obeying.{input_law}
@@ -20,16 +18,12 @@ use Rattle.text_tokens.proofs.Parts.{some_text, part_less, part_one, part_behind
 use Rattle.text_tokens.proofs.Beginnings.{starts_in, starts_some, starts_made, starts_then}
 use Rattle.text_tokens.proofs.Choosing.{part_either, part_optional}
 use Rattle.text_tokens.proofs.Repeating.{at_most_elements, part_repeated}
-use Rattle.text_tokens.proofs.Distinguishing.{sample, passes, sign_no_number, kind_is, other_kind, other_text, a_token, a_numeral, starts_the, starts_numeral}
+use Rattle.text_tokens.proofs.Distinguishing.{sample, passes, kind_is, other_kind, other_text, a_token, a_numeral, starts_the, starts_numeral}
 use Rattle.amoebot_state.specs.declared.bot.Bot.{Bot}
-use Rattle.amoebot_state.specs.declared.bot.Port.{Port}
-use Rattle.amoebot_state.specs.declared.bot.End.{End}
 use Rattle.amoebot_state.specs.declared.bot.End.TheVariants.{Head, Tail}
-use Rattle.amoebot_state.specs.declared.bot.Chir.{Chir}
 use Rattle.amoebot_state.specs.declared.bot.Chir.TheVariants.{Plus, Minus}
-use Rattle.claim_core.specs.Turns.{CallerLists}
-use Rattle.amoebot_run.specs.Documents.{word, sign, is_end, IsWord, Means, outside, IsNumber, no_bot, IsId, is_reserved, is_name, IsName, IsEnd, IsChirality, negative, IsInt, IsPort, IsMove, IsAction, IsProgram, IsAreaLine, IsNode, zeros, IsBotLine, Shape, IsShape, AreIds, IsCallerList, AtMostOneList, IsLists, Parts, IsRunText}
-use Rattle.amoebot_run.specs.Readers.{a_word, means, a_number, an_id, an_end, a_chirality, an_int, a_port, a_move, an_action, a_program, an_area, a_node, a_bot, is_bot, bot_in, all_bots, a_shape, id_in, all_ids, is_list, a_list, all_lists, some_turns, the_lists, the_parts}
+use Rattle.amoebot_run.specs.Documents.{word, sign, is_end, IsWord, outside, IsNumber, no_bot, IsId, is_reserved, is_name, IsName, IsEnd, IsChirality, negative, IsInt, IsPort, IsMove, IsAction, IsProgram, IsAreaLine, IsNode, zeros, IsBotLine, IsShape, AreIds, IsCallerList, AtMostOneList, IsLists, IsRunText}
+use Rattle.amoebot_run.specs.Readers.{a_word, a_number, an_id, an_end, a_chirality, an_int, a_port, a_move, an_action, a_program, an_area, a_node, a_bot, is_bot, bot_in, all_bots, a_shape, id_in, all_ids, is_list, a_list, all_lists, the_lists, the_parts}
 
 -- ---- forms
 

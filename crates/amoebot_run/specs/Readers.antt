@@ -1,5 +1,5 @@
 -- The grammar of a document as a reader, put together as the grammar is.
-use Rattle.std.specs.Prelude.{ℕ, ℤ, pos, List, [], ◌∷◌, length, Option, codes}
+use Rattle.std.specs.Prelude.{ℕ, ℤ, pos, List, [], ◌∷◌, length, codes}
 use Rattle.tri_lattice.specs.declared.node.Node.{Node}
 use Rattle.tri_lattice.specs.Extent.{Extent}
 use Rattle.text_tokens.specs.declared.refusal.ReadRefusal.{ReadRefusal}

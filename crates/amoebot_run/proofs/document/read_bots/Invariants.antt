@@ -1,4 +1,4 @@
-use Rattle.std.proofs.Common.{◌≡◌, ◌≤◌, ◌+◌, vec_len}
+use Rattle.std.proofs.Common.{◌≤◌, ◌+◌, vec_len}
 use Rattle.std.specs.List.{All}
 use Rattle.text_tokens.specs.Reading.{repeated, less}
 use Rattle.text_tokens.proofs.Looping.{StillReads}

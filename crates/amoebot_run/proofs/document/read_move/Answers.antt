@@ -1,6 +1,6 @@
-use Rattle.std.specs.Prelude.{codes, List, [], ◌∷◌, length}
+use Rattle.std.specs.Prelude.{codes}
 use Rattle.std.proofs.lemmas.Result.{err_from_is_err_and}
-use Rattle.text_tokens.specs.Reading.{◌>>=◌, pure, the_line, one}
+use Rattle.text_tokens.specs.Reading.{◌>>=◌}
 use Rattle.amoebot_state.specs.declared.bot.Port.{Port}
 use Rattle.amoebot_run.specs.Readers.{a_word, a_port, a_move}
 use Rattle.amoebot_run.proofs.Chaining.{all_left, past_part, part_fails, gives_left}

@@ -1,12 +1,12 @@
 use Rattle.std.proofs.Common.{◌≡◌, arith, w16}
 use Rattle.std.proofs.lemmas.Int.{to_z-of_z, ints}
 use mir.Val.{to_z, of_z}
-use Rattle.std.specs.Prelude.{ℤ, codes}
+use Rattle.std.specs.Prelude.{ℤ}
 use Rattle.std.proofs.lemmas.Result.{err_from_is_err_and}
-use Rattle.text_tokens.specs.Reading.{◌>>=◌, pure, the_line}
+use Rattle.text_tokens.specs.Reading.{◌>>=◌, pure}
 use Rattle.tri_lattice.specs.declared.node.Node.{Node}
 use Rattle.amoebot_run.specs.Readers.{an_int, a_node}
-use Rattle.amoebot_run.proofs.Chaining.{all_left, past_part, part_fails, gives_left, regroup}
+use Rattle.amoebot_run.proofs.Chaining.{all_left, past_part, part_fails}
 use Rattle.amoebot_run.proofs.document.read_node.Goals as goal
 
 abbrev node : ℤ → ℤ → Node

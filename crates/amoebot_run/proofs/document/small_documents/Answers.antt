@@ -1,4 +1,4 @@
-use Rattle.std.proofs.Common.{◌≡◌, ℕ, zero, suc, List, [], ◌∷◌, length, Some, None, Ok, Err, refl, subst, arith}
+use Rattle.std.proofs.Common.{◌≡◌, ℕ, zero, suc, List, [], ◌∷◌, None, Ok, Err, refl, subst, arith}
 use Rattle.std.specs.Prelude.{codes, pos}
 use Rattle.text_tokens.specs.declared.token.TokenKind.TheVariants.{Word}
 use Rattle.text_tokens.specs.declared.refusal.Refusal.{Refusal}
@@ -8,7 +8,7 @@ use Rattle.text_tokens.specs.Text.{Lexeme}
 use Rattle.text_tokens.specs.Scan.{skip, ready, sign_len, front, scan, scan_end, ahead_of, last_of}
 use Rattle.text_tokens.specs.Cursor.{Cursor, at_place, same_kind}
 use Rattle.text_tokens.specs.Reading.{Answer, one_within, the_line, numeral, either, limited, elements, repeated}
-use Rattle.text_tokens.specs.Lawful.{Tells, IsText}
+use Rattle.text_tokens.specs.Lawful.{Tells}
 use Rattle.text_tokens.specs.Inputs.{within, trailing, no_token}
 use Rattle.text_tokens.specs.Promises.{OneReading, TokensAreCut}
 use Rattle.amoebot_state.specs.declared.bot.Bot.{Bot}
