@@ -151,10 +151,10 @@ pub fn run<R: Threads + Wait + Sync, S: Source, K: Sink, G: Gate>(
         text
         × WritesFront K.written K.takes K.fails out.old out.new text }
 
-    // Without memory nothing is written, and no more is read than for a document.
+    // Without memory nothing is written, and no more is read than for a document, of which the end may have been read or not.
     ensures no_memory { result.status ≡ Status.NoMemory → out.new ≡ out.old }
     ensures no_memory_read { result.status ≡ Status.NoMemory → (got : List ℕ)
-        × ReadsSome S.left S.gives document_limit input.old input.new got }
+        × (ReadsSome S.left S.gives document_limit input.old input.new got ⊎ ReadsWhole S.left S.gives document_limit input.old input.new got) }
 
     // A document within the limit is run, unless memory is wanting or a read or a write fails.
     ensures complete { IsRun (map string_bytes words.now) → (document : List ℕ) (port : PortValue) (start : Config) (lists : CallerLists)

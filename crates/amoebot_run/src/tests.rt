@@ -5,7 +5,7 @@ use crate::gate::NoGate;
 use crate::run::{Ended, Status, run, run_text};
 use crate::texts::{print_journal, print_shape, print_turns};
 use arrayvec::ArrayVec;
-use outer_io::{Failed, Sink, Source, SureSink};
+use outer_io::{Failed, Sink, Source, SureSink, SureSource};
 use std::alloc::{AllocError, Global};
 use std::process::Abort;
 use std::sync::Wait;
@@ -359,6 +359,32 @@ impl Source for FailingSource {
     }
 }
 
+/// A source of a document, of which each read behind the one that told the end fails.
+#[derive(Drop)]
+struct EndingSource {
+    source: SureSource,
+    ended: bool,
+    faults: u64,
+}
+
+impl Source for EndingSource {
+    ghost use Rattle.std.specs.declared.option.Option.TheVariants.{None};
+
+    ghost left = { λ _. None };
+
+    ghost faults = { λ source. source.faults };
+
+    fn read(&mut self, piece: &mut [u8]) -> Result<usize, Failed> {
+        if self.ended {
+            self.faults = self.faults.saturating_add(1);
+            return Err(Failed);
+        }
+        let count = self.source.read(piece)?;
+        self.ended = count == 0;
+        Ok(count)
+    }
+}
+
 /// A sink that takes ten bytes at a time, and fails after so many writes.
 #[derive(Drop)]
 struct FailingSink {
@@ -434,6 +460,33 @@ fn answers_a_read_that_fails(rt: HostRuntime) -> Result<(), Fail> {
 }
 
 #[test]
+fn reads_nothing_behind_the_end(rt: HostRuntime) -> Result<(), Fail> {
+    let document = document(rt.alloc(), EXPANDS)?;
+    let words = words(rt.alloc(), &["run"])?;
+    let source = SureSource::new(rt.alloc(), document.as_bytes())
+        .ok()
+        .ok_or("no memory")?;
+    let mut input = EndingSource {
+        source,
+        ended: false,
+        faults: 0,
+    };
+    let mut out = SureSink::new(rt.alloc(), 4096).ok().ok_or("no memory")?;
+    let ended = run(
+        &rt,
+        rt.alloc(),
+        words.as_slice(),
+        &mut input,
+        &mut out,
+        &NoGate,
+    );
+    assert_eq!(rt; ended.status, Status::Done);
+    assert!(rt; input.ended);
+    assert_eq!(rt; input.faults, 0);
+    Ok(())
+}
+
+#[test]
 fn answers_a_write_that_fails(rt: HostRuntime) -> Result<(), Fail> {
     let document = document(rt.alloc(), EXPANDS)?;
     let writes: [(&[&str], u32, &str); 3] = [
@@ -443,7 +496,7 @@ fn answers_a_write_that_fails(rt: HostRuntime) -> Result<(), Fail> {
     ];
     for (texts, good, taken) in writes {
         let words = words(rt.alloc(), texts)?;
-        let mut input = outer_io::SureSource::new(rt.alloc(), document.as_bytes())
+        let mut input = SureSource::new(rt.alloc(), document.as_bytes())
             .ok()
             .ok_or("no memory")?;
         let mut out = FailingSink {

@@ -1,5 +1,5 @@
 -- Lemmas on bytes that grow a piece at a time.
-use Rattle.std.proofs.Common.{◌≡◌, ℕ, ◌+◌, ◌≤◌, List, take, drop, length, ◌++◌, ap, sym, subst, ◌∙◌, append_assoc}
+use Rattle.std.proofs.Common.{◌≡◌, ℕ, ◌+◌, ◌≤◌, ◌<◌, List, take, drop, length, ◌++◌, ap, sym, subst, ◌∙◌, append_assoc}
 use Rattle.std.specs.declared.option.Option.{Option}
 use Rattle.std.specs.declared.option.Option.TheVariants.{Some, None}
 use Rattle.std.proofs.Math.Seq.{take-add}
@@ -19,10 +19,14 @@ Grows-take (Some x) (Some y) (Some z) bytes piece from taken e p q =
 pub length-append_take : (xs ys : List ℕ) (n : ℕ) → n ≤ length ys → length (xs ++ take n ys) ≡ length xs + n
 length-append_take xs ys n h = length-append xs (take n ys) ∙ ap (λ k. length xs + k) (length-take-le n ys h)
 
+-- a front of some bytes has some
+pub some_taken : (piece : List ℕ) (taken : ℕ) → 0 < taken → taken ≤ length piece → 0 < length (take taken piece)
+some_taken piece taken some fits = subst (λ count. 0 < count) (sym (length-take-le taken piece fits)) some
+
 -- the same of what writes did, one after another
-pub Passed-take : {T : Type 0} {passes : T → List ℕ → T → Type 0} {first mid last : T} (bytes piece : List ℕ) (from taken : ℕ) → piece ≡ drop from bytes → Passed passes first (take from bytes) mid → passes mid (take taken piece) last → Passed passes first (take (from + taken) bytes) last
-Passed-take {T} {passes} {first} {mid} {last} bytes piece from taken e before now =
-    subst (λ all. Passed passes first all last) (ap (λ l. take from bytes ++ take taken l) e ∙ sym (take-add from taken bytes)) (more before now)
+pub Passed-take : {T : Type 0} {passes : T → List ℕ → T → Type 0} {first mid last : T} (bytes piece : List ℕ) (from taken : ℕ) → piece ≡ drop from bytes → Passed passes first (take from bytes) mid → 0 < taken → taken ≤ length piece → passes mid (take taken piece) last → Passed passes first (take (from + taken) bytes) last
+Passed-take {T} {passes} {first} {mid} {last} bytes piece from taken e before some fits now =
+    subst (λ all. Passed passes first all last) (ap (λ l. take from bytes ++ take taken l) e ∙ sym (take-add from taken bytes)) (more before (some_taken piece taken some fits) now)
 
 -- a piece of which only the front was filled, read from a longer one
 pub got_front : (bytes piece rest : List ℕ) (n : ℕ) → n ≤ length piece → bytes ++ take n piece ≡ bytes ++ take n (piece ++ rest)

@@ -49,4 +49,4 @@ twice kept one two =
 
 pub pieces : PiecesAreKeptAsOne
 pieces old new bytes none = nothing old
-pieces old new bytes (more {bytes = got} {piece = piece} {mid = mid} before now) = now ∙ ap (λ kept. kept_after kept piece) (pieces old mid got before) ∙ twice old got piece
+pieces old new bytes (more {bytes = got} {piece = piece} {mid = mid} before some now) = now ∙ ap (λ kept. kept_after kept piece) (pieces old mid got before) ∙ twice old got piece

@@ -22,7 +22,3 @@ Stays old (Some now) = old ≡ Some now
 -- a write took the first bytes of a piece, as many as its answer says, and none where it failed
 abbrev pub TakesFront : {E : Type 0} → Option (List ℕ) → Option (List ℕ) → Result ℕ E → List ℕ → Type 0
 TakesFront old new answer piece = MatchResult answer (λ taken. Grows old new (take taken piece)) (λ _. Stays old new)
-
--- bytes that are told now were told before, and grew by some front of `bytes`
-abbrev pub GrowsByFront : Option (List ℕ) → Option (List ℕ) → List ℕ → Type 0
-GrowsByFront old new bytes = (count : ℕ) × Grows old new (take count bytes)

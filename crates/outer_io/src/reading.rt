@@ -63,7 +63,7 @@ const PIECE: usize = 4096;
 /// Reads a source to its end, and gives its bytes, which are at most `limit`.
 ///
 /// It asks for at most one byte above the limit, so that it knows of a longer source without reading all of it. A read
-/// that fails is the last one. After a refusal the source stands behind the bytes that were got.
+/// that fails or tells the end is the last one. After a refusal the source stands behind the bytes that were got.
 ///
 /// # Errors
 ///

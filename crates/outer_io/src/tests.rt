@@ -60,6 +60,23 @@ impl Read for Torn {
     }
 }
 
+/// Gives four bytes, then tells its end, and then fails.
+#[derive(Drop)]
+struct Ending {
+    reads: u32,
+}
+
+impl Read for Ending {
+    fn read(&mut self, piece: &mut [u8]) -> io::Result<usize> {
+        self.reads = self.reads.saturating_add(1);
+        match self.reads {
+            1 => Ok(piece.len().min(4)),
+            2 => Ok(0),
+            _ => Err(io::Error::from(ErrorKind::Other)),
+        }
+    }
+}
+
 /// Takes two bytes, then none once, and then whatever it is given.
 #[derive(Drop)]
 struct Halting {
@@ -155,6 +172,15 @@ fn a_read_that_failed_is_not_tried_again(rt: HostRuntime) {
         Err(error) => assert_eq!(rt; error, ReadError::ReadFault),
     }
     assert_eq!(rt; torn.reads, 2);
+}
+
+#[test]
+fn no_read_follows_the_end(rt: HostRuntime) -> Result<(), Fail> {
+    let mut ending = Ending { reads: 0 };
+    let document = read_document(rt.alloc(), &mut StdSource::new(&mut ending), 4)?;
+    assert_eq!(rt; document.bytes().len(), 4);
+    assert_eq!(rt; ending.reads, 2);
+    Ok(())
 }
 
 #[test]

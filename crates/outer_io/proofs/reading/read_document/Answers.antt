@@ -1,13 +1,13 @@
-use Rattle.std.proofs.Common.{◌≡◌, ◌++◌, take, Result, Ok, Err, arith, rules, subst, sym, ap, ◌∙◌}
+use Rattle.std.proofs.Common.{◌≡◌, ◌++◌, take, Result, Ok, Err, arith, rules, subst, sym, ◌∙◌}
 use Rattle.std.specs.Prelude.{IfErr, IsErrAnd}
 use Rattle.std.specs.Io.KnownBytes.{Consumes}
-use Rattle.std.proofs.lemmas.List.{length-take, append-nil}
+use Rattle.std.proofs.lemmas.List.{length-take}
 use Rattle.std.proofs.lemmas.Grind.{common_steps}
 use Rattle.std.proofs.KnownBytes.{Consumes-trans}
 use Rattle.outer_io.specs.declared.errors.ReadError.{ReadError}
 use Rattle.outer_io.specs.declared.errors.ReadError.TheVariants.{NoMemory}
 use Rattle.outer_io.specs.Calls.{Passed, none, more}
-use Rattle.outer_io.proofs.Grown.{length-append_take, got_front}
+use Rattle.outer_io.proofs.Grown.{length-append_take, got_front, some_taken}
 use Rattle.outer_io.proofs.reading.read_document.Goals as goal
 
 pub reads-init : goal.reads-init
@@ -23,20 +23,22 @@ reads-preserved g c =
     let items = got_front c.reads.bytes.items c.read.new.piece _ c.in-Ok.got c.in-Ok.ensures.bound.0 ∙ sym c.in_ok-extend_from_slice.ensures.items in
     record {
       got = subst (λ bytes. Consumes (g.S.Source.left c.args.source.now) (g.S.Source.left c.read.new.self) bytes) items (Consumes-trans _ _ _ _ _ c.reads.invariant.got c.in-Ok.ensures.bytes.0);
-      reads = subst (λ bytes. Passed g.S.Source.gives c.args.source.now bytes c.read.new.self) items (more c.reads.invariant.reads c.in-Ok.ensures.call);
+      reads = subst (λ bytes. Passed g.S.Source.gives c.args.source.now bytes c.read.new.self) items (more c.reads.invariant.reads (some_taken c.read.new.piece c.in-Ok.got (omega arith) c.in-Ok.ensures.bound.0) c.in-Ok.ensures.call);
       within = search rules;
       never_falls = omega arith;
     }
 
 pub returns-then-got-eq0-clause-whole : goal.returns-then-got-eq0-clause-whole
-returns-then-got-eq0-clause-whole g c =
-    let items = ap (λ count. c.reads.bytes.items ++ take count c.read.new.piece) c.if-got-eq0.true ∙ append-nil c.reads.bytes.items in
-    record {
-      all = search rules;
-      end = search rules;
-      within = search rules;
-      reads = subst (λ bytes. Passed g.S.Source.gives c.args.source.now bytes c.read.new.self) items (more c.reads.invariant.reads c.in-Ok.ensures.call);
-    }
+returns-then-got-eq0-clause-whole g c = record {
+  all = search rules;
+  end = search rules;
+  within = search rules;
+  reads = record {
+    before = c.reads.source;
+    passed = c.reads.invariant.reads;
+    ended = subst (λ count. g.S.Source.gives c.reads.source (take count c.read.new.piece) c.read.new.self) c.if-got-eq0.true c.in-Ok.ensures.call;
+  };
+}
 
 pub returns-in-Err-clause-refused : goal.returns-in-Err-clause-refused
 returns-in-Err-clause-refused g c = (
@@ -54,7 +56,7 @@ returns-then-len-got-clause-refused g c = (
   record {
     all = Consumes-trans _ _ _ _ _ c.reads.invariant.got c.in-Ok.ensures.bytes.0;
     above = omega (arith, length-append_take c.reads.bytes.items c.read.new.piece c.in-Ok.got, c.in-Ok.ensures.bound, length-take c.min-room.result c.reads.piece);
-    reads = more c.reads.invariant.reads c.in-Ok.ensures.call;
+    reads = more c.reads.invariant.reads (some_taken c.read.new.piece c.in-Ok.got (omega arith) c.in-Ok.ensures.bound.0) c.in-Ok.ensures.call;
   },
 )
 
@@ -69,6 +71,6 @@ returns-in_err-extend_from_slice-clause-refused g c = of_no_memory c.from_residu
   record {
     all = Consumes-trans _ _ _ _ _ c.reads.invariant.got c.in-Ok.ensures.bytes.0;
     within = omega (arith, length-append_take c.reads.bytes.items c.read.new.piece c.in-Ok.got, c.in-Ok.ensures.bound, length-take c.min-room.result c.reads.piece);
-    reads = more c.reads.invariant.reads c.in-Ok.ensures.call;
+    reads = more c.reads.invariant.reads (some_taken c.read.new.piece c.in-Ok.got (omega arith) c.in-Ok.ensures.bound.0) c.in-Ok.ensures.call;
   },
 )

@@ -18,14 +18,15 @@ pub loop-from-preserved : goal.loop-from-preserved
 loop-from-preserved g c = record {
   in_range = omega (arith, c.in-Ok.ensures.bound.1);
   front = Grows-take _ _ _ c.args.bytes.now _ c.loop-from.from c.in-Ok.taken (take_rest c.args.bytes.now c.loop-from.from) c.loop-from.invariant.front c.in-Ok.ensures.bytes;
-  writes = Passed-take c.args.bytes.now _ c.loop-from.from c.in-Ok.taken (take_rest c.args.bytes.now c.loop-from.from) c.loop-from.invariant.writes c.in-Ok.ensures.call;
+  writes = Passed-take c.args.bytes.now _ c.loop-from.from c.in-Ok.taken (take_rest c.args.bytes.now c.loop-from.from) c.loop-from.invariant.writes c.in-Ok.ensures.bound.0 c.in-Ok.ensures.bound.1 c.in-Ok.ensures.call;
   nothing = λ none. absurd (omega (arith, c.in-Ok.ensures.bound.0));
   never_falls = omega arith;
 }
 
 pub returns-in-Err-clause-front : goal.returns-in-Err-clause-front
 returns-in-Err-clause-front g c = record {
-  told = (c.loop-from.from, grind (arith, common_steps));
   count = c.loop-from.from;
+  short = omega arith;
+  told = grind (arith, common_steps);
   writes = record { before = c.loop-from.sink; passed = c.loop-from.invariant.writes; failed = c.in-Err.ensures.call };
 }
