@@ -13,9 +13,11 @@ pub mod Combinators
 pub mod Steps
 pub mod Nested
 pub mod NestedView
+pub mod NestedTexts
 pub mod Journal
 pub mod JournalView
 pub mod JournalFaults
+pub mod JournalTexts
 pub mod Agreement
 pub mod Puts
 pub mod PutTexts

@@ -6,7 +6,9 @@ ghost use Rattle.text_tokens.specs.Journal.{IsJournal, journal};
 ghost use Rattle.text_tokens.specs.Lawful.{Exact, IsDecided};
 ghost use Rattle.text_tokens.specs.Inputs.{IsDecidedInput};
 ghost use Rattle.text_tokens.specs.Agreement.{AllButAgreement};
+ghost use Rattle.text_tokens.specs.NestedTexts.{NestedIsRead};
 ghost use Rattle.text_tokens.specs.JournalFaults.{EntriesAreJudged};
+ghost use Rattle.text_tokens.specs.JournalTexts.{JournalsAreRead};
 ghost use Rattle.text_tokens.specs.Puts.{IsPut, put};
 ghost use Rattle.text_tokens.specs.PutTexts.{PutsAreRead};
 
@@ -15,6 +17,7 @@ pub fn nested_is_decided()
     ensures exact { Exact IsNested nested }
     ensures decided { IsDecided IsNested }
     ensures input { IsDecidedInput IsNested Trailing }
+    ensures read { NestedIsRead }
 {}
 
 /// So are those of a journal, whose entries are judged once nothing more belongs to them.
@@ -23,6 +26,7 @@ pub fn journal_is_decided()
     ensures decided { IsDecided IsJournal }
     ensures input { IsDecidedInput IsJournal Trailing }
     ensures judged { EntriesAreJudged }
+    ensures read { JournalsAreRead }
 {}
 
 /// So are those of a format of which two forms begin alike, and whose separators have a meaning.
