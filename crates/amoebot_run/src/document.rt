@@ -16,8 +16,8 @@ ghost use Rattle.amoebot_run.specs.Readers as reader;
 ghost use Rattle.amoebot_run.specs.DocumentViews as view;
 ghost use Rattle.amoebot_run.specs.declared.document.Unread.TheVariants as unread;
 
-use claim_core::Lists;
 use amoebot_state::{Bot, Chir, End, NoMemory, Port, World, WorldRefusal};
+use claim_core::Lists;
 use std::alloc::{AllocFailed, Global};
 use text_tokens::{
     ReadRefusal, RefusalKind, Token, TokenKind, Tokens, number_up_to, refused, the_line,

@@ -16,9 +16,9 @@ ghost use Rattle.claim_core.specs.declared.report.Report.{Report as ReportValue}
 use crate::decider::FirstAction;
 use crate::document::{Unread, document_is_one, read_run};
 use crate::gate::{Gate, NoGate};
-use claim_core::{Report, serial_run_is_determined};
 use crate::serial::run_serially;
 use crate::texts::print_report;
+use claim_core::{Report, serial_run_is_determined};
 use outer_io::{
     ReadError, Sink, Source, SureSink, SureSource, WriteFault, pieces_are_kept_as_one,
     read_document, write_all,

@@ -3,8 +3,8 @@ ghost use Rattle.claim_core.specs.Turns.{HaveBots};
 ghost use Rattle.claim_core.specs.Good.{Good};
 ghost use Rattle.claim_core.specs.SerialRuns.{SerialRun, all_turns, left_by};
 
-use claim_core::{Journal, Lists, Mark, Marks, Report};
 use amoebot_state::{Decider, NoMemory, World};
+use claim_core::{Journal, Lists, Mark, Marks, Report};
 use serial_model::{Serial, Turned};
 use std::alloc::Global;
 

@@ -4,8 +4,8 @@ ghost use Rattle.text_tokens.specs.Lines.{line_text, lines_text, spaced};
 ghost use Rattle.amoebot_run.specs.Texts.{area_words, bot_line, bot_words, caller_lines, cell_words, chir_word, end_word, entry_numbers, entry_words, failure_word, journal_text, mark_words, moved_words, node_words, pair_words, port_words, present, report_text, shape_text, turn_words, turns_text, value_words};
 ghost use Rattle.claim_core.specs.Turns.{marks_of};
 
-use claim_core::{Mark, Marks, Report};
 use amoebot_state::{Bot, Cell, CellName, Chir, End, Entry, Failure, Moved, NoMemory, Port, World};
+use claim_core::{Mark, Marks, Report};
 use std::alloc::{AllocError, Global};
 use text_tokens::{Lines, Text};
 use tri_lattice::{Area, Node};

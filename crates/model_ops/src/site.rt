@@ -22,6 +22,9 @@ use std::marker::Model;
 use tri_lattice::{Area, Node};
 
 /// A working copy of what an amoebot was shown, on which it operates before anything is committed.
+///
+/// Until a movement succeeds, its answers are those of each world that shows what was found. Once one has, the nodes round a new
+/// place were not found: what stands there is not known to the copy, which takes them for empty.
 #[derive(Drop)]
 pub struct Site {
     area: Area,
@@ -109,7 +112,8 @@ impl Site {
         ensures value { result ≡ done (expand self.old.reached (own_id self.old) port) }
         ensures after { self.new ≡ after self.old (expand self.old.reached (own_id self.old) port) }
     {
-        if !self.own().is_contracted() {
+        let own = self.own();
+        if !own.is_contracted() {
             return Err(Failure::NotContracted);
         }
         let node = self.behind(port)?;
@@ -129,10 +133,11 @@ impl Site {
         ensures value { result ≡ done (contract self.old.reached (own_id self.old) guard end) }
         ensures after { self.new ≡ after self.old (contract self.old.reached (own_id self.old) guard end) }
     {
-        if self.own().is_contracted() {
+        let own = self.own();
+        if own.is_contracted() {
             return Err(Failure::NotExpanded);
         }
-        let node = self.own().end_node(end);
+        let node = own.end_node(end);
         if !self.may_leave(guard, node) {
             return Err(Failure::WouldSplit);
         }
