@@ -177,7 +177,6 @@ fn the_guard_holds_a_node_between_two(rt: HostRuntime) -> Result<(), Fail> {
 
 #[test]
 fn two_ports_lead_to_one_neighbour(rt: HostRuntime) -> Result<(), Fail> {
-    let _probe = 0u8;
     let other = bot((2, 4), (2, 4));
     let shown = found(rt.alloc(), &[bot((3, 3), (2, 3)), other])?;
     let mut site = Site::new(&shown);
@@ -202,7 +201,6 @@ fn what_stays_as_it_was_found_is_not_listed(rt: HostRuntime) -> Result<(), Fail>
 
 #[test]
 fn a_neighbour_is_expanded_across_two_ports(rt: HostRuntime) -> Result<(), Fail> {
-    let _probe = 0u8;
     let other = turned_bot((4, 3), (3, 4), 2, Chir::Minus);
     let shown = found(rt.alloc(), &[bot((3, 3), (3, 3)), other])?;
     let site = Site::new(&shown);
@@ -242,7 +240,6 @@ const LOCALS: [(u8, Chir, [u8; 6]); 4] = [
 
 #[test]
 fn pushes_go_by_local_directions(rt: HostRuntime) -> Result<(), Fail> {
-    let _probe = 0u8;
     for (rot, chir, locals) in LOCALS {
         for dir in 0..6 {
             let (next, far) = (NEXT[dir], FAR[dir]);
@@ -336,7 +333,6 @@ const OF_CONTRACTED: [(Call, End, u8, Failure); 25] = [
 
 #[test]
 fn a_contracted_amoebot_fails_by_the_first_condition(rt: HostRuntime) -> Result<(), Fail> {
-    let _probe = 0u8;
     let shown = found(
         rt.alloc(),
         &[
