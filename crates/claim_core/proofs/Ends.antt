@@ -24,7 +24,7 @@ use Rattle.claim_core.specs.Cells.{number, at, values_of}
 use Rattle.claim_core.specs.Machine.{Setup, State, after}
 use Rattle.claim_core.specs.Soundness.{IsSetup, IsTurn, TurnOkSoFar, Sound, marks_so_far, marked}
 use Rattle.claim_core.specs.Reached.{HaveEnded, HasValues}
-use Rattle.claim_core.specs.Laws.{ReachedIsGood, EntryIsDecided}
+use Rattle.claim_core.specs.Laws.{ReachedIsGood, StateHasOneReport, EntryIsDecided}
 use Rattle.claim_core.proofs.Numbers.{value_of_body}
 use Rattle.claim_core.proofs.Frames.{IsFramed, run_framed}
 use Rattle.claim_core.proofs.Moved.{told_by}
@@ -51,6 +51,13 @@ same_world g s world last has framed values =
     let area : world.area ≡ last.area = ap (λ (c : Config). c.area) has.rest ∙ sym (ap (λ (c : Config). c.area) framed.rest) in
     the_config world last area (ap (λ (c : Config). c.maxes) has.rest ∙ sym (ap (λ (c : Config). c.maxes) framed.rest))
     (same_bots world last area (has.size ∙ sym framed.size) (λ i. has.ids i ∙ sym (framed.ids i)) (has.values ∙ values))
+
+pub state_has_one_report : StateHasOneReport
+state_has_one_report g s one two first second =
+    let area : one.world.area ≡ two.world.area = ap (λ (c : Config). c.area) first.world.rest ∙ sym (ap (λ (c : Config). c.area) second.world.rest) in
+    let maxes : one.world.maxes ≡ two.world.maxes = ap (λ (c : Config). c.maxes) first.world.rest ∙ sym (ap (λ (c : Config). c.maxes) second.world.rest) in
+    let bots = same_bots one.world two.world area (first.world.size ∙ sym second.world.size) (λ i. first.world.ids i ∙ sym (second.world.ids i)) (first.world.values ∙ sym second.world.values) in
+    (the_config one.world two.world area maxes bots, first.first ∙ sym second.first, first.entries ∙ sym second.entries, first.marks ∙ sym second.marks)
 
 module _ (g : Setup) (ok : IsSetup g) (s : State) (sound : Sound g s) (ended : HaveEnded s) where
   has_ended : (c : ℕ) (k : Caller) → slice_get s.callers c ≡ Some k → k.phase ≡ Ended

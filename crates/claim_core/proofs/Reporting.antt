@@ -22,7 +22,7 @@ module _ (verdict : Shown → Verdict) (lists : CallerLists) (tags : List ℕ) (
   abbrev report : Report
   report = record { world = world; journal = journal; turns = marks }
 
-  left : IsReportOf g now report
+  pub left : IsReportOf g now report
   left =
       let framed = run_framed verdict journal.first world journal.entries is.setup.valid is.run in
       record {

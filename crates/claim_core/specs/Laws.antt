@@ -21,7 +21,7 @@ use Rattle.claim_core.specs.Tags.{tag, tag_caller, tag_turn, tag_bot}
 use Rattle.claim_core.specs.Cells.{number, at}
 use Rattle.claim_core.specs.Machine.{Setup, State, next, after, committed}
 use Rattle.claim_core.specs.Soundness.{IsSetup, Sound, names}
-use Rattle.claim_core.specs.Reached.{HaveEnded, Reached, entries_of}
+use Rattle.claim_core.specs.Reached.{HaveEnded, IsReportOf, Reached, entries_of}
 use Rattle.claim_core.specs.Rounds.{rounds, rounds_enough}
 
 -- a tag tells its caller, its turn and its amoebot, and is not 0
@@ -35,6 +35,11 @@ IsAlwaysSound = (g : Setup) → IsSetup g → (steps : List ℕ) → Sound g (af
 -- a report that some interleaving gives is a good one
 abbrev pub ReachedIsGood : Type 0
 ReachedIsGood = (g : Setup) → IsSetup g → (report : Report) → Reached g report → Good g.verdict g.world g.lists report
+
+-- a state has at most one report: two of them have one world, journals of one first world and the same entries, and the same marks. So
+-- they are one, but for the room in their journals
+abbrev pub StateHasOneReport : Type 0
+StateHasOneReport = (g : Setup) (s : State) (one two : Report) → IsReportOf g s one → IsReportOf g s two → (one.world ≡ two.world) × (one.journal.first ≡ two.journal.first) × (one.journal.entries ≡ two.journal.entries) × (one.turns ≡ two.turns)
 
 -- each entry's change was decided on what the run shows its amoebot at its place
 abbrev pub EntryIsDecided : Type 0

@@ -1,4 +1,4 @@
-ghost use Rattle.claim_core.specs.Laws.{TagTellsItsOwner, IsAlwaysSound, ReachedIsGood, EntryIsDecided, CommittedIsJournal, CommittedIsShown, OneListIsNeverBusy, OneListIsSerial, EndedStays, HoldsNothingHasNoTag, HeldByOne, RoundsEnd};
+ghost use Rattle.claim_core.specs.Laws.{TagTellsItsOwner, IsAlwaysSound, ReachedIsGood, StateHasOneReport, EntryIsDecided, CommittedIsJournal, CommittedIsShown, OneListIsNeverBusy, OneListIsSerial, EndedStays, HoldsNothingHasNoTag, HeldByOne, RoundsEnd};
 ghost use Rattle.claim_core.specs.SerialRuns.{SerialRunIsDetermined, SerialReportIsDetermined};
 
 use amoebot_state::step_has_one_result;
@@ -20,6 +20,11 @@ pub fn tag_tells_its_owner()
 /// After any list of steps the state is sound.
 pub fn is_always_sound()
     ensures { IsAlwaysSound }
+{}
+
+/// A state has at most one report.
+pub fn state_has_one_report()
+    ensures { StateHasOneReport }
 {}
 
 /// A report that some interleaving gives is a good one, with what its Busy say of the other turn.

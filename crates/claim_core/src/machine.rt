@@ -9,7 +9,7 @@ ghost use Rattle.claim_core.specs.Cells.{number, held_by};
 ghost use Rattle.claim_core.specs.Machine.{decided, refused, looked, next};
 ghost use Rattle.amoebot_state.specs.Configs.{bot_at};
 ghost use Rattle.claim_core.specs.Good.{Good};
-ghost use Rattle.claim_core.specs.Reached.{HaveEnded, Reached};
+ghost use Rattle.claim_core.specs.Reached.{HaveEnded, IsReportOf, Reached};
 ghost use Rattle.claim_core.specs.Rounds.{round};
 ghost use Rattle.amoebot_state.specs.declared.verdict.Change.{Change};
 ghost use Rattle.claim_core.specs.declared.state.Phase.TheVariants as phase;
@@ -315,6 +315,7 @@ impl<'d, D: Decider> Core<'d, D> {
     /// What the run leaves, once every caller has ended.
     pub fn report(self) -> Report
         requires { HaveEnded self.state }
+        ensures left { IsReportOf (setup_of D.verdict self.entry) self.entry.state result }
         ensures reached { Reached (setup_of D.verdict self.entry) result }
         ensures good { Good (D.verdict self.entry.decider) self.entry.first self.entry.lists result }
     {

@@ -1,10 +1,13 @@
 use Rattle.std.proofs.Common.{sym, subst}
 use Rattle.claim_core.specs.Good.{Good}
-use Rattle.claim_core.specs.Reached.{HaveEnded, Reached}
+use Rattle.claim_core.specs.Reached.{HaveEnded, IsReportOf, Reached}
 use Rattle.claim_core.specs.Cores.{setup_of}
 use Rattle.claim_core.proofs.Ends.{reached_is_good}
-use Rattle.claim_core.proofs.Reporting.{reported}
+use Rattle.claim_core.proofs.Reporting.{left, reported}
 use Rattle.claim_core.proofs.machine.Core.report.Goals as goal
+
+pub returns-clause-left : goal.returns-clause-left
+returns-clause-left g c = subst (λ r. IsReportOf (setup_of g.D.Decider.verdict r) r.state (record { world = c.self.inside.world; journal = c.self.inside.journal; turns = c.self.inside.marks })) c.self.view_is (left _ _ _ _ _ _ _ _ c.self.invariant)
 
 pub returns-clause-reached : goal.returns-clause-reached
 returns-clause-reached g c =

@@ -1,4 +1,4 @@
-use Rattle.std.proofs.Common.{◌≡◌, subst, length}
+use Rattle.std.proofs.Common.{subst}
 use Rattle.claim_core.specs.Soundness.{IsSetup, Sound}
 use Rattle.claim_core.specs.Cores.{setup_of}
 use Rattle.claim_core.proofs.Stepping.{is_sound, length-stepped}
