@@ -1,4 +1,4 @@
-ghost use Rattle.std.specs.Prelude.{◌≡◌, ◌⊎◌, ◌+◌, ◌∷◌, ◌++◌, ◌<◌, ◌≤◌, [], OnOk, IfOk, IfErr, length, map, IsSome, Decides};
+ghost use Rattle.std.specs.Prelude.{ℕ, ◌≡◌, ◌⊎◌, ◌+◌, ◌∷◌, ◌++◌, ◌<◌, ◌≤◌, [], OnOk, IfOk, IfErr, length, map, IsSome, Decides};
 ghost use Rattle.std.specs.List.{All, filter_map};
 ghost use Rattle.amoebot_state.specs.Limits.{most_bots, node_room, cell_room};
 ghost use Rattle.amoebot_state.specs.Configs.{Config, IsValid, bot_at, occupant, config_of, with_bot};
@@ -117,10 +117,11 @@ impl World {
         Ok(())
     }
 
-    /// What a world keeps: it is valid, and has at most 4,096 amoebots.
+    /// What a world keeps: it is valid, has at most 4,096 amoebots, and each id below their number is an amoebot's.
     pub fn keeps(&self)
         ensures valid { IsValid self.now }
         ensures few { length self.now.bots ≤ most_bots }
+        ensures no_gaps { (id : ℕ) → id < length self.now.bots → IsSome (bot_at self.now id) }
     {
         let _area = &self.area;
     }

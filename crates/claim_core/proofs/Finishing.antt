@@ -56,6 +56,10 @@ module _ {D : Type 0} (verdict : D → Shown → Verdict) (old : Running D) wher
         let after_is = made ∙ ap (λ (r : Running D). let s : Running D = record r { state = round (setup_of verdict r) r.state } in s) is.state in
         subst (λ (z : Running D × Running D). total (setup_of verdict z.0) z.0.state < total (setup_of verdict z.1) z.1.state) (λ i. (sym after_is i, sym is.state i)) lt
 
+    -- and as many callers are there
+    pub same_callers : (now : Running D) → IsUnderway verdict old now → length now.state.callers ≡ length old.state.callers
+    same_callers now is = ap (λ (r : Running D). length r.state.callers) is.state ∙ (rounds_sound g ok old.state sound is.count).callers ∙ sym sound.callers
+
     pub finishes : (now : Running D) → IsUnderway verdict old now → HaveEnded now.state → IsFinished verdict old now
     finishes now is ended = record { count = is.count; few = by is.count is.first; state = is.state; ended = ended; first = is.first }
       where

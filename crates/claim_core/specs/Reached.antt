@@ -28,6 +28,11 @@ pub record IsReportOf (g : Setup) (s : State) (report : Report) : Type 0 where
   pub world : HasValues g s report.world
   pub marks : report.turns ≡ marks_so_far g s
 
+-- steps of the callers, the last one first, lead from the opening to the state
+pub record IsReachedState (g : Setup) (s : State) : Type 0 where
+  pub steps : List ℕ
+  pub led : s ≡ after g steps
+
 -- a report that some interleaving gives: steps of the callers, the last one first, lead from the opening to a state in which every
 -- caller has ended, and the report is that state's. A step of a number that is no caller's changes nothing
 pub record Reached (g : Setup) (report : Report) : Type 0 where

@@ -9,7 +9,8 @@ ghost use Rattle.claim_core.specs.Cells.{number, held_by};
 ghost use Rattle.claim_core.specs.Machine.{decided, refused, looked, next};
 ghost use Rattle.amoebot_state.specs.Configs.{bot_at};
 ghost use Rattle.claim_core.specs.Good.{Good};
-ghost use Rattle.claim_core.specs.Reached.{HaveEnded, IsReportOf, Reached};
+ghost use Rattle.claim_core.specs.Reached.{HaveEnded, IsReachedState, IsReportOf, Reached};
+ghost use Rattle.claim_core.specs.Soundness.{IsSetup, Sound};
 ghost use Rattle.claim_core.specs.Rounds.{round};
 ghost use Rattle.amoebot_state.specs.declared.verdict.Change.{Change};
 ghost use Rattle.claim_core.specs.declared.state.Phase.TheVariants as phase;
@@ -143,6 +144,16 @@ impl<'d, D: Decider> Core<'d, D> {
             seats,
             marks,
         })
+    }
+
+    /// What a core keeps: what it is about may be run, some steps led to its state, which so is sound, and each list has its caller.
+    pub fn keeps(&self)
+        ensures setup { IsSetup (setup_of D.verdict self.now) }
+        ensures reached { IsReachedState (setup_of D.verdict self.now) self.now.state }
+        ensures sound { Sound (setup_of D.verdict self.now) self.now.state }
+        ensures callers { length self.now.state.callers ≡ length self.now.lists.ids }
+    {
+        let _lists = &self.lists;
     }
 
     /// The one step of a caller.
@@ -294,7 +305,8 @@ impl<'d, D: Decider> Core<'d, D> {
 
     /// Rounds of one step for each caller, in rising number, until all have ended: at most 40 for each turn of all callers together.
     pub fn finish(&mut self)
-        ensures { IsFinished D.verdict self.old self.new }
+        ensures finished { IsFinished D.verdict self.old self.new }
+        ensures callers { length self.new.state.callers ≡ length self.old.state.callers }
     {
         let _lists = &self.lists;
         while !self.ended() {
