@@ -8,12 +8,12 @@ use Rattle.text_tokens.specs.Kinds.{name}
 use Rattle.text_tokens.specs.Lines.{line_text}
 use Rattle.amoebot_state.specs.declared.bot.Port.{Port}
 use Rattle.amoebot_state.specs.Configs.{Config}
-use Rattle.amoebot_state.specs.Moves.{expansion_verdict_shown}
 use Rattle.claim_core.specs.declared.report.Report.{Report}
 use Rattle.amoebot_run.specs.declared.run.Ended.{Ended}
 use Rattle.amoebot_run.specs.declared.run.Status.{Status}
 use Rattle.amoebot_run.specs.declared.run.Status.TheVariants as status
 use Rattle.amoebot_run.specs.Documents.{IsRunDocument}
+use Rattle.amoebot_run.specs.Expansion.{expansion_verdict_shown}
 use Rattle.claim_core.specs.Good.{Good}
 use Rattle.claim_core.specs.SerialRuns.{SerialRun, all_turns, left_by}
 use Rattle.amoebot_run.specs.Texts.{report_text}

@@ -1,9 +1,8 @@
 ghost use Rattle.std.specs.Prelude.{◌≡◌};
+ghost use Rattle.amoebot_run.specs.Expansion.{ExpansionVerdictIsShown};
 
-use amoebot_state::{
-    Cell, CellName, Change, Decider, Failure, Found, Moved, Patch, Port, Verdict,
-    expansion_changes, port_leads_beside,
-};
+use amoebot_state::{Change, Decider, Found, Moved, Port, Verdict};
+use model_ops::Site;
 
 /// The program of one action, whose guard is that the amoebot is contracted and which expands it into the node behind a port.
 #[derive(Drop)]
@@ -12,38 +11,24 @@ pub struct FirstAction {
 }
 
 impl Decider for FirstAction {
-    ghost use Rattle.amoebot_state.specs.Moves.{expansion_verdict_shown};
-    ghost use Rattle.amoebot_state.proofs.Expands.{expansion_touches_zone, expansion_has_next, expansion_is_exact};
+    ghost use Rattle.amoebot_run.specs.Expansion.{expansion_verdict_shown};
+    ghost use Rattle.amoebot_run.specs.ExpansionLaws.{expansion_touches_zone, expansion_has_next, expansion_is_exact};
 
     ghost verdict = { λ d. expansion_verdict_shown d.port };
 
     fn decide(&self, found: &Found) -> Verdict {
-        port_leads_beside();
-        expansion_changes();
-        let own = *found.own();
-        if !own.is_contracted() {
+        if !found.own().is_contracted() {
             return Verdict::Idle;
         }
-        if !own.is_port(self.port) {
-            return Verdict::Failed(Failure::NoPort);
+        let mut site = Site::new(found);
+        match site.expand(self.port) {
+            Ok(()) => Verdict::Change(Change {
+                action: 0,
+                moved: Moved::Expand(self.port),
+                patch: site.patch(),
+            }),
+            Err(failure) => Verdict::Failed(failure),
         }
-        let node = own.behind(self.port);
-        if found.area().index(node).is_none() {
-            return Verdict::Failed(Failure::Edge);
-        }
-        if found.occupant(node).is_some() {
-            return Verdict::Failed(Failure::Occupied);
-        }
-        let mut expanded = own;
-        expanded.head = node;
-        let mut patch = Patch::new();
-        patch.push(CellName::Spot(node), Cell::Spot(Some(found.bot())));
-        patch.push(CellName::Body(found.bot()), Cell::Body(expanded));
-        Verdict::Change(Change {
-            action: 0,
-            moved: Moved::Expand(self.port),
-            patch,
-        })
     }
 
     ghost touches_zone = { λ d. expansion_touches_zone d.port };
@@ -52,3 +37,8 @@ impl Decider for FirstAction {
 
     ghost is_exact = { λ d. expansion_is_exact d.port };
 }
+
+/// What that decider says of what a valid configuration shows is the verdict on that configuration.
+pub fn expansion_verdict_is_shown()
+    ensures { ExpansionVerdictIsShown }
+{}

@@ -23,5 +23,3 @@ pub mod Shifts
 pub mod Shows
 pub mod Values
 pub mod Zones
-pub mod Expands
-mod ExpansionSamples

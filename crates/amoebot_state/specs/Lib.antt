@@ -7,7 +7,6 @@ pub mod Known
 pub mod Patches
 pub mod Refusals
 pub mod Steps
-pub mod Moves
 pub mod Storage
 pub mod Occupied
 pub mod Laws

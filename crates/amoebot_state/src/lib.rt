@@ -4,7 +4,6 @@
 mod bot;
 mod cell;
 mod decider;
-mod expansion;
 mod found;
 mod grid;
 mod laws;
@@ -17,7 +16,6 @@ mod zone;
 pub use bot::{ALL_PORTS, Bot, Chir, End, Port};
 pub use cell::{Cell, CellName, Patch};
 pub use decider::{Decider, has_next, is_exact, touches_zone};
-pub use expansion::{expansion_changes, expansion_keeps_laws, expansion_verdict_is_shown};
 pub use found::Found;
 pub use laws::{
     contracted_has_six_ports, diff_leads, expanded_has_ten_ports, faultless_is_valid, front_grows,

@@ -16,7 +16,6 @@ use Rattle.amoebot_state.specs.Ports.{port}
 use Rattle.amoebot_state.specs.declared.bot.Port.{Port}
 use Rattle.amoebot_state.specs.Configs.{Config, config_of}
 use Rattle.amoebot_state.specs.Zones.{shown, shown_alone}
-use Rattle.amoebot_state.specs.Moves as moves
 use Rattle.model_ops.specs.WorkingCopies.{changes}
 use Rattle.amoebot_state.specs.Patches.{diff}
 use Rattle.model_ops.specs.Operations.{connected, is_free, read, write, peer, expand, contract, push, pull}
@@ -59,6 +58,36 @@ own_write = refl
 
 write_then_blocked : perform neighbours 0 (record { writes = record { port = None; var = 0; value = pos 2 } ∷ []; guard = false; moved = moved.Expand (port Head 0) }) ≡ Err Occupied
 write_then_blocked = refl
+
+-- an expansion
+abbrev alone : Config
+alone = world 0 (bot (at 2 3) (at 2 3) 0 ∷ [])
+
+abbrev alone_out : Config
+alone_out = world 0 (bot (at 3 3) (at 2 3) 0 ∷ [])
+
+expands : expand alone 0 (port Head 0) ≡ Ok alone_out
+expands = refl
+
+expansion_changes : diff alone alone_out ≡ held 3 3 0 ∷ body 0 (bot (at 3 3) (at 2 3) 0) ∷ []
+expansion_changes = refl
+
+-- it does not expand once more, nor through what is no port of it, nor into another amoebot
+expanded_stays : expand alone_out 0 (port Head 0) ≡ Err NotContracted
+expanded_stays = refl
+
+no_seventh_port : expand alone 0 (port Head 6) ≡ Err NoPort
+no_seventh_port = refl
+
+occupied_is_not_entered : expand neighbours 0 (port Head 0) ≡ Err Occupied
+occupied_is_not_entered = refl
+
+-- local direction 1 of one that goes round against the global directions, with rotation 5
+abbrev against : Node → Bot
+against head = record { head = head; tail = at 2 3; rot = 5; chir = Minus; mem = first 0 }
+
+against_expands : expand (world 0 (against (at 2 3) ∷ [])) 0 (port Head 1) ≡ Ok (world 0 (against (at 2 2) ∷ []))
+against_expands = refl
 
 -- a push of an expanded neighbour, whose head is on the node that is entered
 abbrev before_push : Config
@@ -176,7 +205,3 @@ push_far = refl
 
 push_changes_in_gap : changes (record { found = shown far 1; reached = gap_pushed }) ≡ held 3 3 1 ∷ body 1 (bot (at 3 3) (at 2 3) 0) ∷ body 2 (bot (at 4 3) (at 4 3) 0) ∷ []
 push_changes_in_gap = refl
-
--- Expand is what the decider of the first grammar decides by
-expand_as_before : (c : Config) (i : ℕ) (p : Port) → moves.expand c i p ≡ expand c i p
-expand_as_before c i p = refl
