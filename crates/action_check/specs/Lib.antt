@@ -1,0 +1,6 @@
+pub mod Limits
+pub mod Scopes
+pub mod Faults
+pub mod Rules
+pub mod Rows
+pub mod Laws

@@ -1,0 +1,6 @@
+//! The rules on the names and the numbers of a program.
+#![tactic(auto)]
+
+mod laws;
+
+pub use laws::{faultless_is_kept, rows_are_derived};
