@@ -1,0 +1,6 @@
+pub mod Names
+pub mod Choices
+pub mod Values
+pub mod Effects
+pub mod Verdicts
+pub mod Laws

@@ -1,0 +1,6 @@
+//! What a program decides.
+#![tactic(auto)]
+
+mod laws;
+
+pub use laws::verdict_is_shown;
