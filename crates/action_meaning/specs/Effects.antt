@@ -1,5 +1,5 @@
 -- What statements do to a configuration and to the names in force.
-use Rattle.std.specs.Prelude.{ℕ, ℤ, Bool, List, [], ◌∷◌, if◌then◌else◌}
+use Rattle.std.specs.Prelude.{ℕ, List, [], ◌∷◌, if◌then◌else◌}
 use Rattle.std.specs.declared.option.Option.TheVariants.{Some, None}
 use Rattle.std.specs.declared.result.Result.{Result}
 use Rattle.std.specs.declared.result.Result.TheVariants.{Ok}
@@ -8,9 +8,9 @@ use Rattle.amoebot_state.specs.declared.verdict.Failure.{Failure}
 use Rattle.amoebot_state.specs.Configs.{Config}
 use Rattle.model_ops.specs.Operations.{and_then, write}
 use Rattle.model_ops.specs.Sights.{sight}
-use Rattle.action_tree.specs.Trees.{Name, Stmt, put, put_of, let_be, if_then, for_each, Stmts, no_stmts, stmt_then}
-use Rattle.action_eval.specs.Names.{Names, var_number, bind}
-use Rattle.action_eval.specs.Values.{guard_value, sum_value, port_value, ports_of}
+use Rattle.action_tree.specs.Trees.{Stmt, put, put_of, let_be, if_then, for_each, Stmts, no_stmts, stmt_then}
+use Rattle.action_meaning.specs.Names.{Names, var_number, bind}
+use Rattle.action_meaning.specs.Values.{guard_value, sum_value, port_value, ports_of}
 
 -- the configuration reached so far, and the names in force
 pub record Moment : Type 0 where

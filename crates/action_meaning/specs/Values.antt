@@ -1,6 +1,6 @@
 -- The value of a guard, a sum or a port, by cases on the tree, or the failure that comes first from left to right. It is a value of what
 -- the amoebot can ask before it moves, with the names in force. The failures and their order are this project's profile.
-use Rattle.std.specs.Prelude.{ℕ, zero, suc, ◌+◌, ◌%◌, ℤ, pos, ◌+ℤ◌, neg_ℤ, int_lt, int_le, Bool, true, false, not, List, filter, if◌then◌else◌, nat_le}
+use Rattle.std.specs.Prelude.{ℕ, ◌+◌, ◌%◌, ℤ, pos, ◌+ℤ◌, neg_ℤ, int_lt, int_le, Bool, true, false, not, List, filter, if◌then◌else◌, nat_le}
 use Rattle.std.specs.List.{find}
 use Rattle.std.specs.Int.{int_rem_euclid}
 use Rattle.std.specs.Ordering.{int_eq}
@@ -8,7 +8,7 @@ use Rattle.std.specs.Option.{unwrap_or}
 use Rattle.std.specs.declared.option.Option.{Option}
 use Rattle.std.specs.declared.option.Option.TheVariants.{Some, None}
 use Rattle.std.specs.declared.result.Result.{Result}
-use Rattle.std.specs.declared.result.Result.TheVariants.{Ok, Err}
+use Rattle.std.specs.declared.result.Result.TheVariants.{Ok}
 use Rattle.tri_lattice.specs.Lattice.{step, node_eq}
 use Rattle.amoebot_state.specs.declared.bot.Bot.{Bot}
 use Rattle.amoebot_state.specs.declared.bot.Port.{Port}
@@ -23,8 +23,8 @@ use Rattle.action_tree.specs.declared.expression.PortSet.TheVariants as port_set
 use Rattle.action_tree.specs.declared.expression.Cmp.{Cmp}
 use Rattle.action_tree.specs.declared.expression.Cmp.TheVariants as cmp
 use Rattle.action_tree.specs.Trees as tree
-use Rattle.action_eval.specs.Names.{Names, var_number, port_named, bind}
-use Rattle.action_eval.specs.Choices.{is_true, any_of, all_of, first_of, count_of}
+use Rattle.action_meaning.specs.Names.{Names, var_number, port_named, bind}
+use Rattle.action_meaning.specs.Choices.{is_true, any_of, all_of, first_of, count_of}
 
 -- the ports of a set, in port order: the connected ones, or those whose node behind is in the area and empty
 abbrev pub ports_of : Sight → PortSet → List Port

@@ -1,6 +1,6 @@
 -- What a program decides on an amoebot of a configuration. Guarded actions, of which one is run, are the paper's; that the first one in
 -- the order of the text is run, and that a failure ends the activation, is this project's profile.
-use Rattle.std.specs.Prelude.{ℕ, zero, suc, Bool, true, false, List, [], ◌∷◌, map}
+use Rattle.std.specs.Prelude.{ℕ, zero, suc, Bool, true, false, List, [], ◌∷◌}
 use Rattle.std.specs.declared.result.Result.{Result}
 use Rattle.std.specs.declared.result.Result.TheVariants.{Ok, Err}
 use Rattle.amoebot_state.specs.declared.verdict.Failure.{Failure}
@@ -17,9 +17,9 @@ use Rattle.model_ops.specs.Reaches.{move}
 use Rattle.model_ops.specs.Sights.{Sight, sight}
 use Rattle.action_tree.specs.Trees.{PortMove, expand, push, pull, Move, no_move, through, contract, Action, Program}
 use Rattle.action_check.specs.Faults.{names_of_vars}
-use Rattle.action_eval.specs.Names.{Names}
-use Rattle.action_eval.specs.Values.{guard_value, port_value}
-use Rattle.action_eval.specs.Effects.{Moment, moment, stmts_effect}
+use Rattle.action_meaning.specs.Names.{Names}
+use Rattle.action_meaning.specs.Values.{guard_value, port_value}
+use Rattle.action_meaning.specs.Effects.{Moment, moment, stmts_effect}
 
 abbrev pub moved_through : PortMove → Port → Moved
 moved_through expand p = moved.Expand p

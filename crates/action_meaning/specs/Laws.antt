@@ -7,7 +7,7 @@ use Rattle.amoebot_state.specs.Steps.{Step, Run}
 use Rattle.model_ops.specs.Deciders.{DecidesByActs, DecidesGuarded}
 use Rattle.model_ops.specs.Laws.{StaysConnected}
 use Rattle.action_tree.specs.Trees.{Program}
-use Rattle.action_eval.specs.Verdicts.{verdict_on, verdict_shown}
+use Rattle.action_meaning.specs.Verdicts.{verdict_on, verdict_shown}
 
 -- on what a valid configuration shows, gaps in its ids allowed, a program decides what it decides on that configuration
 abbrev pub VerdictIsShown : Type 0

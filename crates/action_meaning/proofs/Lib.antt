@@ -1,0 +1,3 @@
+-- Lemmas.
+pub mod Alongside
+pub mod Decided

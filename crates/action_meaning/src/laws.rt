@@ -1,0 +1,23 @@
+//! What holds of verdicts. The functions do nothing: their clauses are the laws.
+
+ghost use Rattle.action_meaning.specs.Laws.{VerdictIsShown, ProgramsDecideByActs, GuardedProgramsDecideGuarded, GuardedStepsStayConnected, GuardedRunsStayConnected};
+
+/// The verdict on what a valid configuration shows is the verdict on that configuration, ids without an amoebot allowed.
+#[tactic(auto, using(crate::proofs::Decided::verdict_is_shown))]
+pub fn verdict_is_shown()
+    ensures { VerdictIsShown }
+{}
+
+/// Each change that a program decides is made by operations of the model, with the guard on or off as the program has it.
+#[tactic(auto, using(crate::proofs::Decided::programs_decide_by_acts, crate::proofs::Decided::guarded_programs_decide_guarded))]
+pub fn changes_are_acts()
+    ensures acts { ProgramsDecideByActs }
+    ensures guarded { GuardedProgramsDecideGuarded }
+{}
+
+/// With the guard on, connected occupied nodes stay connected under each step and each run of a program.
+#[tactic(auto, using(crate::proofs::Decided::guarded_steps_stay_connected, crate::proofs::Decided::guarded_runs_stay_connected))]
+pub fn guarded_runs_stay_connected()
+    ensures steps { GuardedStepsStayConnected }
+    ensures runs { GuardedRunsStayConnected }
+{}

@@ -1,0 +1,6 @@
+//! What a program decides.
+#![tactic(auto)]
+
+mod laws;
+
+pub use laws::{changes_are_acts, guarded_runs_stay_connected, verdict_is_shown};
