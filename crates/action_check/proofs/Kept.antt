@@ -4,14 +4,10 @@ use Rattle.action_tree.specs.Trees.{Name, DirTerm, fixed, held, Guard, atom, neg
 use Rattle.action_tree.specs.Limits.{most_names}
 use Rattle.action_tree.specs.Writable.{guard_names, guards_names, sum_names, term_names, port_names, behind, stmt_names, stmts_names, move_names, action_names}
 use Rattle.action_check.specs.Limits.{most_literal, most_direction}
-use Rattle.action_check.specs.Scopes.{Scope, bind, after, after_all}
+use Rattle.action_check.specs.Scopes.{Scope, HasRoom, bind, after, after_all}
 use Rattle.action_check.specs.Faults.{dirterm_faults, guard_faults, guards_faults, sum_faults, term_faults, port_faults, stmt_faults, stmts_faults, move_faults, action_faults}
 use Rattle.action_check.specs.Rules.{DirTermKept, GuardKept, GuardsKept, SumKept, TermKept, PortKept, StmtKept, StmtsKept, MoveKept, ActionKept}
 use Rattle.action_check.proofs.Known.{left_empty, right_empty, is_var, is_in_force, is_new, is_within}
-
--- so many more names may be bound
-abbrev pub HasRoom : Scope → ℕ → Type 0
-HasRoom sc more = length sc.bound + more ≤ most_names
 
 pub room_behind : (sc : Scope) (v : Name) (more : ℕ) → HasRoom sc (suc more) → HasRoom (bind sc v) more
 room_behind sc v more room = omega (arith, length-append sc.bound (v.text ∷ []))

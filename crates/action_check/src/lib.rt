@@ -1,6 +1,8 @@
 //! The rules on the names and the numbers of a program.
 #![tactic(auto)]
 
+mod expression;
 mod laws;
+mod scope;
 
 pub use laws::{faultless_is_kept, rows_are_derived};
