@@ -5,10 +5,11 @@ use Rattle.std.proofs.Math.ListN.{drop_of_length-le}
 use Rattle.text_tokens.specs.declared.refusal.Refusal.{Refusal}
 use Rattle.action_tree.specs.declared.expression.Guard as code
 use Rattle.action_tree.specs.declared.expression.Part as code_part
-use Rattle.action_tree.specs.Views.{guard_of, guards_of, term_of, terms_of}
-use Rattle.action_tree.specs.Writable.{guard_names, guards_names, sum_names, term_names}
-use Rattle.action_check.specs.Scopes.{Scope, HasRoom}
-use Rattle.action_check.specs.Faults.{guard_faults, guards_faults, sum_faults, term_faults}
+use Rattle.action_tree.specs.declared.statement.Stmt as code_stmt
+use Rattle.action_tree.specs.Views.{guard_of, guards_of, term_of, terms_of, stmt_of, stmts_of}
+use Rattle.action_tree.specs.Writable.{guard_names, guards_names, sum_names, term_names, behind, stmt_names, stmts_names}
+use Rattle.action_check.specs.Scopes.{Scope, HasRoom, after, after_all}
+use Rattle.action_check.specs.Faults.{guard_faults, guards_faults, sum_faults, term_faults, stmt_faults, stmts_faults}
 use Rattle.action_check.specs.Told.{first_of}
 use Rattle.action_check.proofs.Opened.{part_opened}
 use Rattle.action_check.proofs.Firsts.{first_behind, first_before}
@@ -66,3 +67,9 @@ parts_fail sc ps i p r left l is wrong =
 
 pub parts_over : (sc : Scope) (ps : List code_part.Part) (i : ℕ) → PartsLeft sc ps i → length ps ≤ i → first_of (sum_faults sc (terms_of ps)) ≡ Ok tt
 parts_over sc ps i left l = rw (drop_of_length-le ps l) at left.told
+
+-- ---- statements
+
+pub record StmtsLeft (start sc : Scope) (ss : List code_stmt.Stmt) (i : ℕ) : Type 0 where
+  pub left : IsLeft (λ s ts. stmts_faults s (stmts_of ts)) (λ ts. stmts_names 0 (stmts_of ts)) start sc ss i
+  pub behind : after_all start (stmts_of ss) ≡ after_all sc (stmts_of (drop i ss))

@@ -58,7 +58,7 @@ fn check_guards(guards: &[Guard], scope: &Scope<'_>) -> Result<(), Refusal>
 /// A guard in the parenthesis of a name.
 #[tactic(auto, using(crate::proofs::Firsts::first_behind, crate::proofs::Firsts::first_before))]
 #[cycle(expressions)]
-fn check_inside(name: &Word, guard: &Guard, scope: &Scope<'_>) -> Result<(), Refusal>
+pub fn check_inside(name: &Word, guard: &Guard, scope: &Scope<'_>) -> Result<(), Refusal>
     requires { HasRoom (known scope.now) (suc (guard_names (view.guard_of guard.now))) }
     ensures { result ≡ first_of (spec.binding_faults (known scope.now) (view.name_of name.now) ++ spec.guard_faults (bind (known scope.now) (view.name_of name.now)) (view.guard_of guard.now)) }
 {

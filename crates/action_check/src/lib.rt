@@ -4,5 +4,6 @@
 mod expression;
 mod laws;
 mod scope;
+mod statement;
 
 pub use laws::{faultless_is_kept, rows_are_derived};

@@ -56,21 +56,29 @@ impl<'a> Scope<'a> {
         self.bound.contains(&name.text)
     }
 
+    /// The same names again.
+    pub fn copy(&self) -> Scope<'a>
+        ensures { known result ≡ known self.now }
+    {
+        let mut bound = ArrayVec::new();
+        for text in self.bound.iter() {
+            bound.push(*text);
+        }
+        Scope {
+            vars: self.vars,
+            bound,
+        }
+    }
+
     /// What is known behind the binding of one more name.
     #[tactic(auto, using(crate::proofs::Texts::texts_length))]
     pub fn bind(&self, name: &Word) -> Scope<'a>
         requires { HasRoom (known self.now) 1 }
         ensures { known result ≡ spec_bind (known self.now) (name_of name.now) }
     {
-        let mut bound = ArrayVec::new();
-        for text in self.bound.iter() {
-            bound.push(*text);
-        }
-        bound.push(name.text);
-        Scope {
-            vars: self.vars,
-            bound,
-        }
+        let mut scope = self.copy();
+        scope.bound.push(name.text);
+        scope
     }
 
     /// The use of a variable.
