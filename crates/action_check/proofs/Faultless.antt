@@ -50,7 +50,7 @@ mutual
   stmt_fine sc (put_of p v s) k = both_empty _ _ (port_fine sc p k.0) (both_empty _ _ (var_is_fine sc v k.1) (sum_fine sc s k.2))
   stmt_fine sc (let_be v p) k = both_empty _ _ (new_is_fine sc v k.0) (port_fine sc p k.1)
   stmt_fine sc (if_then g ss es) k = both_empty _ _ (guard_fine sc g k.0) (both_empty _ _ (stmts_fine sc ss k.1) (stmts_fine sc es k.2))
-  stmt_fine sc (for_each v s g ss) k = both_empty _ _ (new_is_fine sc v k.0) (both_empty _ _ (guard_fine (bind sc v) g k.1) (stmts_fine (bind sc v) ss k.2))
+  stmt_fine sc (for_each v s g ss) k = both_empty _ _ (both_empty _ _ (new_is_fine sc v k.0) (guard_fine (bind sc v) g k.1)) (stmts_fine (bind sc v) ss k.2)
 
   pub stmts_fine : (sc : Scope) (ss : Stmts) → StmtsKept sc ss → stmts_faults sc ss ≡ []
   stmts_fine sc no_stmts k = refl

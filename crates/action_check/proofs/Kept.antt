@@ -4,14 +4,10 @@ use Rattle.action_tree.specs.Trees.{Name, DirTerm, fixed, held, Guard, atom, neg
 use Rattle.action_tree.specs.Limits.{most_names}
 use Rattle.action_tree.specs.Writable.{guard_names, guards_names, sum_names, term_names, port_names, behind, stmt_names, stmts_names, move_names, action_names}
 use Rattle.action_check.specs.Limits.{most_literal, most_direction}
-use Rattle.action_check.specs.Scopes.{Scope, bind, after, after_all}
+use Rattle.action_check.specs.Scopes.{Scope, HasRoom, bind, after, after_all}
 use Rattle.action_check.specs.Faults.{dirterm_faults, guard_faults, guards_faults, sum_faults, term_faults, port_faults, stmt_faults, stmts_faults, move_faults, action_faults}
 use Rattle.action_check.specs.Rules.{DirTermKept, GuardKept, GuardsKept, SumKept, TermKept, PortKept, StmtKept, StmtsKept, MoveKept, ActionKept}
 use Rattle.action_check.proofs.Known.{left_empty, right_empty, is_var, is_in_force, is_new, is_within}
-
--- so many more names may be bound
-abbrev pub HasRoom : Scope → ℕ → Type 0
-HasRoom sc more = length sc.bound + more ≤ most_names
 
 pub room_behind : (sc : Scope) (v : Name) (more : ℕ) → HasRoom sc (suc more) → HasRoom (bind sc v) more
 room_behind sc v more room = omega (arith, length-append sc.bound (v.text ∷ []))
@@ -75,7 +71,7 @@ mutual
   stmt_kept sc (for_each v s g ss) more room _ e =
       let inside : HasRoom sc (suc (guard_names g)) = omega arith in
       let within : HasRoom sc (suc (stmts_names 0 ss)) = omega arith in
-      (is_new sc v (omega arith) (left_empty _ _ e), guard_kept (bind sc v) g (room_behind sc v _ inside) (left_empty _ _ (right_empty _ _ e)), stmts_kept (bind sc v) ss 0 (room_behind sc v _ within) (right_empty _ _ (right_empty _ _ e)))
+      (is_new sc v (omega arith) (left_empty _ _ (left_empty _ _ e)), guard_kept (bind sc v) g (room_behind sc v _ inside) (right_empty _ _ (left_empty _ _ e)), stmts_kept (bind sc v) ss 0 (room_behind sc v _ within) (right_empty _ _ e))
 
   -- a list that goes on with what has so many names
   pub stmts_kept : (sc : Scope) (ss : Stmts) (more : ℕ) → HasRoom sc (stmts_names more ss) → stmts_faults sc ss ≡ [] → StmtsKept sc ss
@@ -86,6 +82,18 @@ mutual
 pub room_after_all : (sc : Scope) (ss : Stmts) (more : ℕ) → HasRoom sc (stmts_names more ss) → HasRoom (after_all sc ss) more
 room_after_all sc no_stmts more room = room
 room_after_all sc (stmt_then s ss) more room = room_after_all (after sc s) ss more (room_after sc s _ (omega arith))
+
+-- what goes on with less has fewer names
+fewer_behind : (s : Stmt) (a b : ℕ) → a ≤ b → behind s a ≤ behind s b
+fewer_behind (let_be v p) a b le = omega arith
+fewer_behind (put v s) a b le = le
+fewer_behind (put_of p v s) a b le = le
+fewer_behind (if_then g ss es) a b le = le
+fewer_behind (for_each v s g ss) a b le = le
+
+pub fewer_names : (ss : Stmts) (a b : ℕ) → a ≤ b → stmts_names a ss ≤ stmts_names b ss
+fewer_names no_stmts a b le = le
+fewer_names (stmt_then s ss) a b le = omega (arith, fewer_behind s _ _ (fewer_names ss a b le))
 
 move_kept : (sc : Scope) (m : Move) → HasRoom sc (move_names m) → move_faults sc m ≡ [] → MoveKept sc m
 move_kept sc no_move room e = tt

@@ -1,3 +1,7 @@
+pub mod Texts
+pub mod Opened
+pub mod Firsts
+pub mod Walking
 pub mod Known
 pub mod Distinct
 pub mod Kept

@@ -79,7 +79,7 @@ abbrev mutual
   stmt_faults sc (put_of p v s) = port_faults sc p ++ (var_faults sc v ++ sum_faults sc s)
   stmt_faults sc (let_be v p) = binding_faults sc v ++ port_faults sc p
   stmt_faults sc (if_then g ss es) = guard_faults sc g ++ (stmts_faults sc ss ++ stmts_faults sc es)
-  stmt_faults sc (for_each v s g ss) = binding_faults sc v ++ (guard_faults (bind sc v) g ++ stmts_faults (bind sc v) ss)
+  stmt_faults sc (for_each v s g ss) = (binding_faults sc v ++ guard_faults (bind sc v) g) ++ stmts_faults (bind sc v) ss
 
   pub stmts_faults : Scope → Stmts → List Refusal
   stmts_faults sc no_stmts = []

@@ -2,5 +2,6 @@ pub mod Limits
 pub mod Scopes
 pub mod Faults
 pub mod Rules
+pub mod Told
 pub mod Rows
 pub mod Laws

@@ -1,7 +1,8 @@
 -- Which names are known where a part of a program stands.
-use Rattle.std.specs.Prelude.{ℕ, Bool, List, [], ◌∷◌, ◌++◌}
+use Rattle.std.specs.Prelude.{ℕ, ◌+◌, ◌≤◌, Bool, List, [], ◌∷◌, ◌++◌, length}
 use Rattle.std.specs.List.{list_any}
 use Rattle.std.specs.Str.{bytes_eq}
+use Rattle.action_tree.specs.Limits.{most_names}
 use Rattle.action_tree.specs.Trees.{Name, Stmt, let_be, Stmts, no_stmts, stmt_then}
 
 -- the variables of the program, and the names in force, which stand for ports, each in the order of the text
@@ -15,6 +16,10 @@ is_among known v = list_any (bytes_eq v.text) known
 -- the names known behind the binding of one more, in its parenthesis or its statements
 abbrev pub bind : Scope → Name → Scope
 bind sc v = record { vars = sc.vars; bound = sc.bound ++ v.text ∷ [] }
+
+-- so many more names may be in force
+abbrev pub HasRoom : Scope → ℕ → Type 0
+HasRoom sc more = length sc.bound + more ≤ most_names
 
 -- the names known behind a statement of a list, and behind all of them: a `let` binds its name from there on
 abbrev pub after : Scope → Stmt → Scope

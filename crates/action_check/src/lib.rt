@@ -1,6 +1,9 @@
 //! The rules on the names and the numbers of a program.
 #![tactic(auto)]
 
+mod expression;
 mod laws;
+mod scope;
+mod statement;
 
 pub use laws::{faultless_is_kept, rows_are_derived};

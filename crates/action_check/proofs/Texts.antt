@@ -1,0 +1,30 @@
+-- Names without their lines.
+use Rattle.std.proofs.Common.{◌≡◌, ℕ, Bool, ◌||◌, List, [], ◌∷◌, length, refl, ap, sym}
+use Rattle.std.proofs.lemmas.List.{length-map}
+use Rattle.std.specs.Bool.{Decides}
+use Rattle.std.specs.List.{list_any}
+use Rattle.std.specs.Str.{bytes_eq}
+use Rattle.std.proofs.lemmas.Bool.Decides.{same_from_decides}
+use Rattle.std.proofs.lemmas.Slice.Eq.{bytes_eq-Decides}
+use Rattle.arrayvec.specs.ArrayString.{ArrayString}
+use Rattle.action_check.specs.Told.{texts}
+
+pub any_text : (test : List ℕ → Bool) (names : List ArrayString) → list_any test (texts names) ≡ list_any (λ name. test name.bytes) names
+any_text test [] = refl
+any_text test (name ∷ names) = ap (λ rest. test name.bytes || rest) (any_text test names)
+
+same_either_way : (a b : List ℕ) → bytes_eq a b ≡ bytes_eq b a
+same_either_way a b =
+    let d = bytes_eq-Decides b a in
+    let turned : Decides (bytes_eq b a) (a ≡ b) = ((λ e. sym (d.0 e)), (λ e. d.1 (sym e))) in
+    same_from_decides _ _ (bytes_eq-Decides a b) turned
+
+pub any_same_text : (text : List ℕ) (names : List ArrayString) → list_any (bytes_eq text) (texts names) ≡ list_any (λ name. bytes_eq name.bytes text) names
+any_same_text text [] = refl
+any_same_text text (name ∷ names) =
+    let e = same_either_way text name.bytes in
+    let f = any_same_text text names in
+    cc
+
+pub texts_length : (names : List ArrayString) → length (texts names) ≡ length names
+texts_length names = length-map names (λ name. name.bytes)
