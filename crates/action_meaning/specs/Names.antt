@@ -1,5 +1,6 @@
 -- What names stand for where a part of a program is evaluated.
-use Rattle.std.specs.Prelude.{ℕ, zero, suc, List, [], ◌∷◌, ◌++◌, if◌then◌else◌}
+use Rattle.std.specs.Prelude.{ℕ, List, [], ◌∷◌, ◌++◌, if◌then◌else◌}
+use Rattle.std.specs.List.{position_or_len}
 use Rattle.std.specs.Str.{bytes_eq}
 use Rattle.amoebot_state.specs.declared.bot.End.TheVariants.{Head}
 use Rattle.amoebot_state.specs.declared.bot.Port.{Port}
@@ -17,12 +18,8 @@ pub record Names : Type 0 where
   pub bound : List Bound
 
 -- the number of a variable: how many were declared before it
-abbrev pub number_in : List (List ℕ) → List ℕ → ℕ
-number_in [] text = zero
-number_in (x ∷ xs) text = if bytes_eq x text then zero else suc (number_in xs text)
-
 abbrev pub var_number : Names → Name → ℕ
-var_number xs v = number_in xs.vars v.text
+var_number xs v = position_or_len (λ x. bytes_eq x v.text) xs.vars
 
 -- the port that a name in force stands for; a program that keeps the rules on names asks for no other name
 abbrev pub port_in : List Bound → List ℕ → Port

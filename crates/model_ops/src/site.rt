@@ -201,8 +201,8 @@ impl Site {
         self.own
     }
 
-    /// The amoebot itself.
-    fn own(&self) -> &Bot
+    /// The amoebot itself, as it is now.
+    pub fn own(&self) -> &Bot
         ensures value { bot_at self.now.reached (own_id self.now) ≡ Some result.now }
         ensures plain { IsPlain result.now }
     {
