@@ -439,3 +439,6 @@ fn phase_of(verdict: Verdict) -> Phase
         Verdict::Change(change) => Phase::Taking(change),
     }
 }
+
+#[cfg(test)]
+mod tests;
