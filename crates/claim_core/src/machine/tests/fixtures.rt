@@ -123,6 +123,16 @@ pub fn spread(head: (u8, u8), tail: (u8, u8), value: u8) -> Bot
     }
 }
 
+/// A contracted amoebot whose local direction 0 is the global direction 3.
+pub fn turned(x: u8, y: u8) -> Bot
+    ensures { IsPlain result }
+{
+    Bot {
+        rot: 3,
+        ..standing(x, y, 0)
+    }
+}
+
 /// A node with its occupant.
 pub fn spot(x: u8, y: u8, occupant: Option<u16>) -> (CellName, Cell) {
     (CellName::Spot(node(x, y)), Cell::Spot(occupant))
