@@ -452,3 +452,6 @@ fn phase_of(verdict: Verdict) -> Phase
         Verdict::Change(change) => Phase::Taking(change),
     }
 }
+
+#[cfg(test)]
+mod tests;
