@@ -20,7 +20,8 @@ use Rattle.claim_core.specs.declared.report.Report.{Report}
 use Rattle.claim_core.specs.Turns.{CallerLists, MarkLists, bot_of}
 use Rattle.claim_core.specs.Good.{Good, TurnOk, mark_of, place_of, place_after}
 use Rattle.claim_core.specs.SerialRuns.{Left, SerialRun, mark_at, entries_by, all_turns, left_by}
-use Rattle.claim_core.proofs.Stays.{slice_get-push, slice_get-push_last, slice_get-pushed, run_push, world_last, TurnOk-push}
+use Rattle.amoebot_state.proofs.Runs.{run_push}
+use Rattle.claim_core.proofs.Stays.{slice_get-push, slice_get-push_last, slice_get-pushed, world_last, TurnOk-push}
 
 -- the turns of one caller rise
 abbrev Rises : Entry → Entry → Type 0
