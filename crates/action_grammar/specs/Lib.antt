@@ -5,3 +5,4 @@ pub mod Programs
 pub mod ExpressionReaders
 pub mod StatementReaders
 pub mod ProgramReaders
+pub mod Laws

@@ -1,6 +1,8 @@
-//! The grammar of programs: which texts are programs, and of which trees.
+//! The grammar of programs: which texts are programs, and which trees they stand for.
 #![tactic(auto)]
 
+mod laws;
 mod role;
 
+pub use laws::{program_is_decided, program_is_exact, words_are_reserved};
 pub use role::Role;
