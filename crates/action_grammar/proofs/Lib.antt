@@ -5,3 +5,5 @@ pub mod Stating
 pub mod StatementLaws
 pub mod ProgramLaws
 pub mod Naming
+pub mod Fine
+pub mod Deriving

@@ -198,7 +198,7 @@ module _ (n left : ℕ) where
   unfolding an_action
   part_action = part_next ActionWord no_limit (λ a. Then (IsA AName) When) _ (ends stops_action) (λ a. some_named) (λ a e. part_next AName no_limit When _ (ends stops_action) some_when (λ v e. part_when v))
 
-  starts_action : Starts (IsAction n left) (is_a ActionWord) no_limit
+  pub starts_action : Starts (IsAction n left) (is_a ActionWord) no_limit
   starts_action = starts_then (IsA ActionWord) (λ a. Then (IsA AName) When) (is_a ActionWord) no_limit (starts_one (is_a ActionWord) no_limit) (λ a. some_named)
 
 -- ---- variables
@@ -213,7 +213,7 @@ part_var : IsPart IsVar a_var always
 unfolding a_var
 part_var = part_next VarWord no_limit (λ t. Then (IsA AName) Most) _ always (λ t. some_var) (λ t e. part_led AName no_limit (IsA ANumber) (one (is_a ANumber)) var_of always (some_a ANumber) (λ v e. part_a ANumber))
 
-starts_var : Starts IsVar (is_a VarWord) no_limit
+pub starts_var : Starts IsVar (is_a VarWord) no_limit
 starts_var = starts_then (IsA VarWord) (λ t. Then (IsA AName) Most) (is_a VarWord) no_limit (starts_one (is_a VarWord) no_limit) (λ t. some_var)
 
 -- ---- the guard of movements

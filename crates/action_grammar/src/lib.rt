@@ -4,5 +4,7 @@
 mod laws;
 mod role;
 
-pub use laws::{program_is_decided, program_is_exact, words_are_reserved};
+pub use laws::{
+    program_is_decided, program_is_exact, texts_give_writable_trees, words_are_reserved,
+};
 pub use role::Role;
