@@ -3,7 +3,7 @@
 ghost use Rattle.text_tokens.specs.Lawful.{Exact, IsDecided};
 ghost use Rattle.action_grammar.specs.Programs.{IsProgram};
 ghost use Rattle.action_grammar.specs.ProgramReaders.{a_program};
-ghost use Rattle.action_grammar.specs.Laws.{WordsAreReserved, NamesAreNotReserved, TextsGiveWritable};
+ghost use Rattle.action_grammar.specs.Laws.{WordsAreReserved, NamesAreNotReserved, TextsGiveWritable, BytesGiveWritable};
 
 /// Of any tokens the grammar says one thing: they are read as one program, or have one first fault.
 pub fn program_is_decided()
@@ -23,5 +23,6 @@ pub fn words_are_reserved()
 
 /// A text within its limits gives a tree that a program can be made of.
 pub fn texts_give_writable_trees()
-    ensures { TextsGiveWritable }
+    ensures tokens { TextsGiveWritable }
+    ensures bytes { BytesGiveWritable }
 {}
