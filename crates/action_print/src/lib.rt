@@ -1,0 +1,6 @@
+//! Programs as their canonical texts.
+#![tactic(auto)]
+
+mod laws;
+
+pub use laws::canon_is_pinned;
