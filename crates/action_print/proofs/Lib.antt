@@ -1,1 +1,3 @@
 pub mod PinLemmas
+pub mod RowLemmas
+pub mod ViewLemmas

@@ -1,11 +1,11 @@
 -- Canonical texts of a few programs, as bytes.
-use Rattle.std.specs.Prelude.{◌≡◌, true, false, List, [], ◌∷◌, ◌++◌, codes, ℕ}
+use Rattle.std.specs.Prelude.{◌≡◌, false, List, [], ◌∷◌, ◌++◌, codes, ℕ}
 use Rattle.text_tokens.specs.Lines.{line_text}
 use Rattle.amoebot_state.specs.declared.bot.End.TheVariants.{Tail}
 use Rattle.action_tree.specs.declared.expression.Cmp.TheVariants.{Gt}
 use Rattle.action_tree.specs.Trees as tree
 use Rattle.action_tree.specs.Trees.{Guard, Program, atom, negation, comparison, own, number, put, if_then, no_stmts, stmts, contract, term_then}
-use Rattle.action_tree.specs.Samples.{word, literal, one, own_is, and, or, var, action, x, line, erosion, hexagon, every_form}
+use Rattle.action_tree.specs.Samples.{word, literal, one, own_is, and, or, var, action, line, erosion, hexagon, every_form}
 use Rattle.action_print.specs.Canon.{guard_words, canon}
 
 -- it counts to 2, and begins again
