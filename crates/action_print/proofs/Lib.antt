@@ -1,3 +1,5 @@
 pub mod PinLemmas
 pub mod RowLemmas
 pub mod ViewLemmas
+pub mod PrintedTokens
+pub mod Reading

@@ -145,8 +145,8 @@ abbrev mutual
   stmt_words (put v s) = v.text ∷ codes ":=" ∷ sum_words s
   stmt_words (put_of p v s) = port_words p ++ codes "." ∷ v.text ∷ codes ":=" ∷ sum_words s
   stmt_words (let_be v p) = codes "let" ∷ v.text ∷ codes ":=" ∷ port_words p
-  stmt_words (if_then g ss es) = codes "if" ∷ guard_words g ++ codes "then" ∷ joined (codes ";") (each_stmt ss) ++ else_words es ++ codes "fi" ∷ []
-  stmt_words (for_each v s g ss) = codes "for" ∷ choice_words v.text s (guard_words g) ++ codes "do" ∷ joined (codes ";") (each_stmt ss) ++ codes "od" ∷ []
+  stmt_words (if_then g ss es) = codes "if" ∷ guard_words g ++ (codes "then" ∷ joined (codes ";") (each_stmt ss) ++ (else_words es ++ codes "fi" ∷ []))
+  stmt_words (for_each v s g ss) = codes "for" ∷ choice_words v.text s (guard_words g) ++ (codes "do" ∷ joined (codes ";") (each_stmt ss) ++ codes "od" ∷ [])
 
   pub each_stmt : Stmts → List Words
   each_stmt no_stmts = []
