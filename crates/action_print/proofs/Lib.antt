@@ -3,3 +3,5 @@ pub mod RowLemmas
 pub mod ViewLemmas
 pub mod PrintedTokens
 pub mod Reading
+pub mod Leaves
+pub mod ExpressionsRead
