@@ -1,25 +1,23 @@
 -- The canonical tokens of ports, sums and guards are texts of the grammar, which stand for the same trees, lines aside.
-use Rattle.std.proofs.Common.{◌≡◌, ℕ, zero, suc, ◌≤◌, Bool, true, false, List, [], ◌∷◌, ◌++◌, codes, flat_map, refl, sym, ap, subst, ◌∙◌, arith}
-use Rattle.text_tokens.specs.Text.{Lexeme}
+use Rattle.std.proofs.Common.{◌≡◌, ℕ, zero, suc, ◌≤◌, Bool, true, List, ◌∷◌, ◌++◌, codes, flat_map, refl, sym, ap, subst, arith}
 use Rattle.text_tokens.specs.Lines.{Words}
-use Rattle.text_tokens.specs.Grammar.{Symbol, IsOne}
+use Rattle.text_tokens.specs.Grammar.{Symbol}
 use Rattle.action_tree.specs.declared.expression.PortSet.{PortSet}
-use Rattle.action_tree.specs.declared.expression.Cmp.{Cmp}
-use Rattle.action_tree.specs.Trees.{Name, Guard, atom, negation, conjunction, disjunction, quantified, tested, comparison, Guards, no_guards, guard_then, Sum, no_terms, term_then, Term, number, own, of_port, count, direction, inner, mod6, PortExpr, bound, at_end, turned, first, Atom}
-use Rattle.action_tree.specs.Lines.{bare_name, bare_literal, bare_dirterm, bare_guard, bare_guards, bare_sum, bare_term, bare_port}
+use Rattle.action_tree.specs.Trees.{Name, Guard, atom, negation, conjunction, disjunction, quantified, tested, comparison, Guards, no_guards, guard_then, Sum, no_terms, term_then, Term, number, own, of_port, count, direction, inner, mod6, PortExpr, bound, at_end, turned, first}
+use Rattle.action_tree.specs.Lines.{bare_name, bare_guard, bare_guards, bare_sum, bare_term, bare_port}
 use Rattle.action_tree.specs.Productions.{all_of, any_of}
 use Rattle.action_tree.specs.Limits.{most_elements, most_further}
 use Rattle.action_tree.specs.Words.{is_name}
 use Rattle.action_tree.specs.Writable.{is_conj, is_unit, parens_unless, guard_levels, unit_levels, conj_levels, sum_levels, term_levels, port_levels, guard_names, guards_names, sum_names, term_names, port_names, guard_count, term_count, is_count_from, is_guard, are_guards, are_terms, is_term, is_port}
 use Rattle.action_tree.specs.Writable as writable
 use Rattle.action_tree.proofs.Conditions.{left_of, right_of, from, upto}
-use Rattle.action_grammar.specs.declared.role.Role.TheVariants.{AName, ANumber, OpenSign, CloseSign, DotSign, MinusSign, CompareSign, AtomWord, NotWord, AndWord, OrWord, QuantifierWord, InWord, CountWord, SideWord, InnerWord, Mod6Word, EndWord, TurnWord, FirstWord}
-use Rattle.action_grammar.specs.Roles.{is_a, as_name, as_literal, as_dirterm, as_set, as_end, as_atom, as_quantifier, as_test, as_side, as_cmp}
+use Rattle.action_grammar.specs.declared.role.Role.TheVariants.{OpenSign, CloseSign, DotSign, MinusSign, NotWord, AndWord, OrWord, InWord, CountWord, InnerWord, Mod6Word, TurnWord, FirstWord}
+use Rattle.action_grammar.specs.Roles.{is_a, as_name, as_literal, as_dirterm, as_end, as_atom, as_quantifier, as_test, as_side, as_cmp}
 use Rattle.action_grammar.specs.Expressions as grammar
 use Rattle.action_grammar.specs.Expressions.{Choice, choice, IsPort, is_bound, is_end, is_turn, is_first, IsChoice, is_choice, IsTerm, is_number, is_own, is_of_port, is_count, is_direction, is_inner, is_mod6, IsSum, is_sum, IsTerms, no_more_terms, more_terms, IsUnit, is_atom, is_not, is_parens, is_quantified, is_tested, is_compared, IsConj, IsUnits, no_more_units, more_units, IsExpr, is_expr, IsConjs, no_more_conjs, more_conjs}
 use Rattle.action_print.specs.Canon as canon
 use Rattle.action_print.specs.Canon.{joined, in_parens, choice_words, guard_words, units, conjs, sum_words, further_terms, term_words, port_words}
-use Rattle.action_print.proofs.Reading.{Reads, reads_as, reads_two, Both, reads_both, reads_three, reads_four, reads_six, reads_alone, reads_nothing}
+use Rattle.action_print.proofs.Reading.{Reads, reads_as, reads_two, reads_both, reads_three, reads_four, reads_six, reads_alone, reads_nothing}
 use Rattle.action_print.proofs.Leaves.{a_word, a_sign, free_of, opens_fine, binds_fine, a_name, a_number, an_atom, a_quantifier, a_side, an_end, a_comparison, a_test, a_set, a_dirterm, a_minus, a_joint}
 
 -- ---- what is read is the same tree, lines aside

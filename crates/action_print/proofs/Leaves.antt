@@ -1,12 +1,12 @@
 -- Single tokens of a canonical text, by their roles.
-use Rattle.std.proofs.Common.{◌≡◌, ℕ, suc, ◌+◌, ◌<◌, ◌≤◌, ◌-◌, ◌*◌, Bool, true, false, List, [], ◌∷◌, ◌++◌, Option, None, length, map, codes, refl, sym, ap, subst, ◌∙◌, arith}
+use Rattle.std.proofs.Common.{◌≡◌, ℕ, suc, ◌<◌, ◌≤◌, Bool, true, false, List, [], ◌∷◌, Option, None, length, map, codes, refl, ap, ◌∙◌, arith}
 use Rattle.std.specs.Prelude.{◌&&◌, ◌||◌, ◌^◌, decimal, not, if◌then◌else◌}
 use Rattle.std.specs.Int.{IsInRange}
 use Rattle.std.specs.List.{list_all, list_any}
 use Rattle.std.specs.Str.{bytes_eq}
 use Rattle.std.proofs.lemmas.Bool.{ltb-true}
 use Rattle.std.proofs.lemmas.Bool.Decides.{nat_tests}
-use Rattle.std.proofs.lemmas.Str.Parse.{IsNumeralModel, IsDigitsTest, WeighsDigits, numerals_by_weight}
+use Rattle.std.proofs.lemmas.Str.Parse.{IsNumeralModel, IsDigitsTest, numerals_by_weight}
 use Rattle.std.proofs.lemmas.Fmt.{digits_decimal, digits_value-decimal, length-decimal-le, decimal_nonempty}
 use Rattle.amoebot_state.specs.declared.bot.End.{End}
 use Rattle.amoebot_state.specs.declared.bot.End.TheVariants.{Head, Tail}
@@ -15,7 +15,7 @@ use Rattle.text_tokens.specs.declared.refusal.RefusalKind.{RefusalKind}
 use Rattle.text_tokens.specs.Text.{is_digit, is_letter, is_word_byte, is_sign, Lexeme}
 use Rattle.text_tokens.specs.Cursor.{number_value}
 use Rattle.text_tokens.specs.Reading.{no_limit, deep_at}
-use Rattle.text_tokens.specs.Grammar.{IsOne, Made, made, is_nothing, of_first, of_second}
+use Rattle.text_tokens.specs.Grammar.{IsOne, made, is_nothing, of_first, of_second}
 use Rattle.text_tokens.proofs.Blanks.{and_true}
 use Rattle.action_tree.specs.declared.expression.PortSet.{PortSet}
 use Rattle.action_tree.specs.declared.expression.PortSet.TheVariants.{Ports, Free}
@@ -26,10 +26,10 @@ use Rattle.action_tree.specs.Lines.{bare_name, bare_literal, bare_dirterm}
 use Rattle.action_tree.specs.Words.{is_word, is_reserved, is_name, is_number, reserved}
 use Rattle.action_tree.specs.Writable.{is_dirterm}
 use Rattle.action_grammar.specs.declared.role.Role.{Role}
-use Rattle.action_grammar.specs.declared.role.Role.TheVariants.{AName, ANumber, OpenSign, CloseSign, DotSign, PlusSign, MinusSign, CompareSign, BecomesSign, SemicolonSign, AtomWord, QuantifierWord, TestWord, FreeWord, PortsWord, SideWord, EndWord, ThroughWord, SwitchWord}
+use Rattle.action_grammar.specs.declared.role.Role.TheVariants.{AName, ANumber, PlusSign, MinusSign, CompareSign, AtomWord, QuantifierWord, TestWord, FreeWord, PortsWord, SideWord, EndWord, ThroughWord, SwitchWord}
 use Rattle.action_grammar.specs.Roles as roles
 use Rattle.action_grammar.specs.Roles.{Entry, look_up, words, role_by, role, same_role, is_a, is_test, is_set, is_plus_or_minus, as_name, as_literal, as_dirterm, as_set, as_switch, as_end, as_atom, as_quantifier, as_test, as_side, as_port_move, as_cmp}
-use Rattle.action_grammar.specs.Expressions.{IsA, Opens, bound_at, Binds, IsMinus}
+use Rattle.action_grammar.specs.Expressions.{IsA, bound_at, IsMinus}
 use Rattle.action_grammar.proofs.Playing.{is_in}
 use Rattle.action_print.specs.Canon.{atom_word, quantifier_word, set_word, test_word, cmp_sign, side_word, end_word, move_word, literal_word, dirterm_word, first_sign, further_sign}
 use Rattle.action_print.proofs.PrintedTokens.{kind_of, IsOneToken, word_is_token, number_is_token, sign_is_token}

@@ -5,3 +5,5 @@ pub mod PrintedTokens
 pub mod Reading
 pub mod Leaves
 pub mod ExpressionsRead
+pub mod StatementsRead
+pub mod ProgramsRead

@@ -1,12 +1,6 @@
 -- Tokens with the bytes of a row are a text of a grammar, part by part.
-use Rattle.std.proofs.Common.{◌≡◌, ℕ, suc, ◌<◌, ◌≤◌, Bool, true, false, List, [], ◌∷◌, ◌++◌, Option, None, length, refl, sym, ap, subst, ◌∙◌, arith}
-use Rattle.std.specs.Prelude.{◌&&◌, ◌^◌, decimal, not}
-use Rattle.std.specs.List.{list_all, list_any}
-use Rattle.std.specs.Str.{bytes_eq}
+use Rattle.std.proofs.Common.{◌≡◌, ℕ, Bool, true, List, [], ◌∷◌, ◌++◌, Option, None, refl, sym, ap, subst, ◌∙◌}
 use Rattle.std.proofs.lemmas.List.{append-nil}
-use Rattle.std.proofs.lemmas.Bool.{ltb-true}
-use Rattle.text_tokens.specs.declared.token.TokenKind.{TokenKind}
-use Rattle.text_tokens.specs.declared.token.TokenKind.TheVariants.{Word, Number, Sign}
 use Rattle.text_tokens.specs.declared.refusal.RefusalKind.{RefusalKind}
 use Rattle.text_tokens.specs.Text.{Lexeme}
 use Rattle.text_tokens.specs.Lines.{Words}
@@ -143,6 +137,7 @@ reads_one {test = test} {over = over} w is passes fine = record { read = λ ts s
   where
     fine_symbol : (t : Lexeme) (o : Option RefusalKind) → o ≡ None → first_fault (symbol t o ∷ []) ≡ None
     fine_symbol t o e = rw e refl
+
     from_one : (ts : List Lexeme) → AreSpelled ts (w ∷ []) → Read (IsOne test over) (IsSpelled w) ts
     from_one ts (token_more {t = t} k b no_tokens) = record {
       text = symbol t (over t) ∷ [];

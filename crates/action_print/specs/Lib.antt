@@ -1,3 +1,4 @@
 pub mod Canon
 pub mod Pins
 pub mod Rows
+pub mod ReadsBack
