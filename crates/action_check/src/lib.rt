@@ -1,6 +1,7 @@
 //! The rules on the names and the numbers of a program.
 #![tactic(auto)]
 
+mod declaration;
 mod expression;
 mod laws;
 mod scope;
