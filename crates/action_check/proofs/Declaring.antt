@@ -3,6 +3,8 @@ use Rattle.std.proofs.Common.{◌≡◌, ◌<◌, ◌≤◌, ◌+◌, ℕ, Bool,
 use Rattle.std.specs.Prelude.{Result, Ok, Err}
 use Rattle.std.specs.List.{list_all}
 use Rattle.text_tokens.specs.declared.refusal.Refusal.{Refusal}
+use Rattle.text_tokens.specs.declared.refusal.ReadRefusal.{ReadRefusal}
+use Rattle.text_tokens.specs.declared.refusal.ReadRefusal.TheVariants.{Refused, NoMemory}
 use Rattle.action_tree.specs.declared.program.Var as code_var
 use Rattle.action_tree.specs.declared.program.Action as code_action
 use Rattle.action_tree.specs.Views.{name_of, literal_of, var_of, action_of}
@@ -11,7 +13,7 @@ use Rattle.action_tree.proofs.Conditions.{left_of, right_of}
 use Rattle.action_check.specs.Limits.{most_value}
 use Rattle.action_check.specs.Scopes.{Scope, HasRoom}
 use Rattle.action_check.specs.Faults.{declared_faults, range_faults, action_faults, vars_faults, actions_faults, names_of_vars}
-use Rattle.action_check.specs.Told.{first_of}
+use Rattle.action_check.specs.Told.{first_of, TellsFirst}
 use Rattle.action_check.proofs.Firsts.{first_behind}
 use Rattle.action_check.proofs.Kept.{few_names}
 use Rattle.action_check.proofs.Walking.{here}
@@ -42,3 +44,9 @@ actions_next sc more names further i a left l is new fine same =
     let told = rw (here more i a l is) at left.told in
     let formed = rw (here more i a l is) at left.formed in
     rw same (record { told = told ∙ (first_behind _ _ new ∙ first_behind _ _ fine); formed = right_of _ _ formed })
+
+-- ---- the whole
+
+pub tells_behind : (xs ys : List Refusal) (e : ReadRefusal) → first_of xs ≡ Ok tt → TellsFirst ys e → TellsFirst (xs ++ ys) e
+tells_behind xs ys (Refused r) fine tells = first_behind xs ys fine ∙ tells
+tells_behind xs ys NoMemory fine tells = tt

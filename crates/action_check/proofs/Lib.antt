@@ -8,3 +8,4 @@ pub mod Whole
 pub mod Firsts
 pub mod Walking
 pub mod Declaring
+pub mod Filling
