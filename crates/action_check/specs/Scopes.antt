@@ -1,0 +1,31 @@
+-- Which names are known where a part of a program stands.
+use Rattle.std.specs.Prelude.{ℕ, ◌+◌, ◌≤◌, Bool, List, [], ◌∷◌, ◌++◌, length}
+use Rattle.std.specs.List.{list_any}
+use Rattle.std.specs.Str.{bytes_eq}
+use Rattle.action_tree.specs.Limits.{most_names}
+use Rattle.action_tree.specs.Trees.{Name, Stmt, let_be, Stmts, no_stmts, stmt_then}
+
+-- the variables of the program, and the names in force, which stand for ports, each in the order of the text
+pub record Scope : Type 0 where
+  pub vars : List (List ℕ)
+  pub bound : List (List ℕ)
+
+abbrev pub is_among : List (List ℕ) → Name → Bool
+is_among known v = list_any (bytes_eq v.text) known
+
+-- the names known behind the binding of one more, in its parenthesis or its statements
+abbrev pub bind : Scope → Name → Scope
+bind sc v = record { vars = sc.vars; bound = sc.bound ++ v.text ∷ [] }
+
+-- so many more names may be in force
+abbrev pub HasRoom : Scope → ℕ → Type 0
+HasRoom sc more = length sc.bound + more ≤ most_names
+
+-- the names known behind a statement of a list, and behind all of them: a `let` binds its name from there on
+abbrev pub after : Scope → Stmt → Scope
+after sc (let_be v p) = bind sc v
+after sc _ = sc
+
+abbrev pub after_all : Scope → Stmts → Scope
+after_all sc no_stmts = sc
+after_all sc (stmt_then s ss) = after_all (after sc s) ss
