@@ -1,0 +1,4 @@
+pub mod PartLaws
+pub mod JournalLaws
+pub mod TurnLaws
+pub mod Saying
