@@ -2,3 +2,4 @@ pub mod PartLaws
 pub mod JournalLaws
 pub mod TurnLaws
 pub mod Saying
+pub mod NextLines

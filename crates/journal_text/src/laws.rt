@@ -6,6 +6,7 @@ ghost use Rattle.journal_text.specs.Journals.{IsJournal};
 ghost use Rattle.journal_text.specs.JournalRows.{JournalsAreRead};
 ghost use Rattle.journal_text.specs.Turns.{IsTurns};
 ghost use Rattle.journal_text.specs.TurnRows.{TurnsAreRead};
+ghost use Rattle.journal_text.specs.TextRows.{TextsArePrinted};
 ghost use Rattle.journal_text.specs.Readers.{journal, the_turns};
 
 /// Of any tokens the grammar of a journal says one thing, and its reader answers that.
@@ -20,4 +21,9 @@ pub fn turns_are_decided()
     ensures exact { Exact IsTurns the_turns }
     ensures decided { IsDecided IsTurns }
     ensures read { TurnsAreRead }
+{}
+
+/// Small journals and turns with their texts.
+pub fn texts_are_printed()
+    ensures { TextsArePrinted }
 {}
