@@ -22,25 +22,31 @@ use Rattle.amoebot_state.specs.declared.verdict.Entry.{Entry}
 use Rattle.amoebot_state.specs.declared.verdict.Moved.{Moved}
 use Rattle.amoebot_state.specs.declared.verdict.Moved.TheVariants as moved
 use Rattle.journal_text.specs.Parts.{word, is_end, IsWord, Means, IsNumber, IsNode, IsEnd, IsPort, IsBot}
-use Rattle.journal_text.specs.Journals.{IsMovedBy, IsContracted, IsMoved, is_spot, is_body, is_cell, IsCell, IsOccupant, IsValueOf, a_pair_of, IsPair, is_entry, Numbers, numbers_of, AreNumbers, Written, written_of, past_entries, IsWritten, wrong, IsEntry, one_more, AreEntries, IsJournal}
-use Rattle.journal_text.specs.Readers.{a_word, a_number, moved_by, a_contraction, a_movement, a_cell, an_occupant, a_value, a_pair, pair_in, all_pairs, the_numbers, written, an_entry, entries_from, journal, a_bot, a_node, an_end, a_port}
+use Rattle.journal_text.specs.Journals.{IsPortBehind, IsEndBehind, IsMovedBy, IsContracted, IsMoved, is_spot, is_body, is_cell, IsCell, IsOccupant, IsValueOf, a_pair_of, IsPair, is_entry, Numbers, numbers_of, AreNumbers, Written, written_of, past_entries, IsEntryWord, IsWritten, wrong, IsEntry, one_more, AreEntries, IsJournal}
+use Rattle.journal_text.specs.Readers.{a_word, a_number, port_behind, end_behind, moved_by, a_contraction, a_movement, a_cell, an_occupant, a_value, a_pair, pair_in, all_pairs, the_numbers, entry_word, written, an_entry, entries_from, journal, a_bot, a_node, an_end, a_port}
 use Rattle.journal_text.proofs.PartLaws.{behind, into, up_to_end, one_of_two, some_either, starts_word, part_word, part_number, starts_means, number_no_word, part_end, part_node, part_port, part_bot}
 
 -- ---- movements
 
+part_port_behind : (text : List ℕ) → IsPart (IsWord text) (a_word text) always → IsPart (IsPortBehind text) (port_behind text) always
+unfolding port_behind
+part_port_behind text w = behind w (λ line. part_port)
+
+part_end_behind : (text : List ℕ) → IsPart (IsWord text) (a_word text) always → IsPart (IsEndBehind text) (end_behind text) always
+unfolding end_behind
+part_end_behind text w = behind w (λ line. part_end)
+
 part_moved_by : (text : List ℕ) (make : Port → Moved) → IsPart (IsWord text) (a_word text) always → IsPart (IsMovedBy text make) (moved_by text make) always
-unfolding moved_by
-part_moved_by text make w = behind w (λ line. into make part_port)
+part_moved_by text make w = into make (part_port_behind text w)
 
 starts_moved_by : (text : List ℕ) (make : Port → Moved) → Starts (IsMovedBy text make) (word text) no_limit
-starts_moved_by text make = starts_word text (λ line. Made IsPort make) (λ line. a_port >>= λ p. pure (make p)) always (λ line. into make part_port)
+starts_moved_by text make = starts_made (IsPortBehind text) make (word text) no_limit (starts_word text (λ line. IsPort) (λ line. a_port) always (λ line. part_port))
 
 part_contraction : IsPart IsContracted a_contraction always
-unfolding a_contraction
-part_contraction = behind (part_word (codes "contract") refl) (λ line. into (λ end. moved.Contract end) part_end)
+part_contraction = into moved.Contract (part_end_behind (codes "contract") (part_word (codes "contract") refl))
 
 starts_contraction : Starts IsContracted (word (codes "contract")) no_limit
-starts_contraction = starts_word (codes "contract") (λ line. Made IsEnd (λ end. moved.Contract end)) (λ line. an_end >>= λ end. pure (moved.Contract end)) always (λ line. into (λ end. moved.Contract end) part_end)
+starts_contraction = starts_made (IsEndBehind (codes "contract")) moved.Contract (word (codes "contract")) no_limit (starts_word (codes "contract") (λ line. IsEnd) (λ line. an_end) always (λ line. part_end))
 
 -- a token that passes neither test
 pub not_either : (a b c : Lexeme → Bool) (t : Lexeme) → (a t ≡ true → c t ≡ false) → (b t ≡ true → c t ≡ false) → (a t || b t) ≡ true → c t ≡ false
@@ -203,21 +209,28 @@ module _ (vars : ℕ) where
   unfolding the_numbers
   part_numbers = behind part_number (λ place. behind part_number (λ caller. behind part_number (λ turn. behind part_number (λ bot. into (λ action. numbers_of place caller turn bot action) part_number))))
 
-  abbrev BehindWord : Lexeme → Lang Written
-  BehindWord t = Then AreNumbers (λ n. Then IsMoved (λ m. Made (AtMost 10 (IsPair vars)) (λ pairs. written_of t.line n m pairs)))
+  abbrev BehindWord : ℕ → Lang Written
+  BehindWord line = Then AreNumbers (λ n. Then IsMoved (λ m. Made (AtMost 10 (IsPair vars)) (λ pairs. written_of line n m pairs)))
 
-  abbrev behind_word : Lexeme → Reader Written
-  behind_word t = the_numbers >>= λ n. a_movement >>= λ m. all_pairs vars >>= λ pairs. pure (written_of t.line n m pairs)
+  abbrev behind_word : ℕ → Reader Written
+  behind_word line = the_numbers >>= λ n. a_movement >>= λ m. all_pairs vars >>= λ pairs. pure (written_of line n m pairs)
 
-  part_behind_word : (t : Lexeme) → IsPart (BehindWord t) (behind_word t) no_pair
-  part_behind_word t = behind part_numbers (λ n. behind part_movement (λ m. into (λ pairs. written_of t.line n m pairs) part_pairs))
+  part_behind_word : (line : ℕ) → IsPart (BehindWord line) (behind_word line) no_pair
+  part_behind_word line = behind part_numbers (λ n. behind part_movement (λ m. into (λ pairs. written_of line n m pairs) part_pairs))
+
+  part_entry_word : (before : ℕ) → IsPart (IsEntryWord before) (entry_word before) always
+  unfolding entry_word
+  part_entry_word before = into (λ t. t.line) (part_one is_entry (past_entries before) (sample Word (codes "entry")) (passes Word (codes "entry") refl))
+
+  starts_entry_word : (before : ℕ) → Starts (IsEntryWord before) is_entry (past_entries before)
+  starts_entry_word before = starts_made (IsOne is_entry (past_entries before)) (λ t. t.line) is_entry (past_entries before) (starts_one is_entry (past_entries before))
 
   part_written : (before : ℕ) → IsPart (IsWritten vars before) (written vars before) no_pair
   unfolding written
-  part_written before = behind (part_one is_entry (past_entries before) (sample Word (codes "entry")) (passes Word (codes "entry") refl)) part_behind_word
+  part_written before = behind (part_entry_word before) part_behind_word
 
   starts_written : (before : ℕ) → Starts (IsWritten vars before) is_entry (past_entries before)
-  starts_written before = starts_then (IsOne is_entry (past_entries before)) BehindWord is_entry (past_entries before) (starts_one is_entry (past_entries before)) (λ t. some_text (BehindWord t) (behind_word t) (part_behind_word t).law)
+  starts_written before = starts_then (IsEntryWord before) BehindWord is_entry (past_entries before) (starts_entry_word before) (λ line. some_text (BehindWord line) (behind_word line) (part_behind_word line).law)
 
   module _ (bots actions : ℕ) where
     part_entry : (before : ℕ) → IsPart (IsEntry bots actions vars before) (an_entry bots actions vars before) no_pair

@@ -3,3 +3,6 @@ pub mod JournalLaws
 pub mod TurnLaws
 pub mod Saying
 pub mod NextLines
+pub mod Chaining
+pub mod Times
+pub mod Knowing

@@ -13,6 +13,7 @@ use Rattle.text_tokens.specs.declared.refusal.RefusalKind.{RefusalKind}
 use Rattle.text_tokens.specs.declared.refusal.RefusalKind.TheVariants.{TooMany, BadEntry, BadPlace}
 use Rattle.text_tokens.specs.Text.{Lexeme}
 use Rattle.text_tokens.specs.Grammar.{Lang, IsOne, Then, Made, Closed, Judged, Either, Repeated, AtMost}
+use Rattle.amoebot_state.specs.declared.bot.End.{End}
 use Rattle.amoebot_state.specs.declared.bot.Port.{Port}
 use Rattle.amoebot_state.specs.declared.cell.CellName.{CellName}
 use Rattle.amoebot_state.specs.declared.cell.CellName.TheVariants as name
@@ -26,12 +27,18 @@ use Rattle.journal_text.specs.Parts.{word, is_end, IsWord, Means, IsNumber, IsNo
 
 -- ---- movements
 
--- a movement with a port
+-- a port behind this word, and an end
+abbrev pub IsPortBehind : List ℕ → Lang Port
+IsPortBehind text = Then (IsWord text) (λ line. IsPort)
+
+abbrev pub IsEndBehind : List ℕ → Lang End
+IsEndBehind text = Then (IsWord text) (λ line. IsEnd)
+
 abbrev pub IsMovedBy : List ℕ → (Port → Moved) → Lang Moved
-IsMovedBy text make = Then (IsWord text) (λ line. Made IsPort make)
+IsMovedBy text make = Made (IsPortBehind text) make
 
 abbrev pub IsContracted : Lang Moved
-IsContracted = Then (IsWord (codes "contract")) (λ line. Made IsEnd (λ end. moved.Contract end))
+IsContracted = Made (IsEndBehind (codes "contract")) moved.Contract
 
 abbrev pub IsMoved : Lang Moved
 IsMoved = Either (Means (word (codes "none")) moved.None) (Either (IsMovedBy (codes "expand") moved.Expand) (Either IsContracted (Either (IsMovedBy (codes "push") moved.Push) (IsMovedBy (codes "pull") moved.Pull))))
@@ -100,8 +107,12 @@ most_entries = 65536
 abbrev pub past_entries : ℕ → Lexeme → Option RefusalKind
 past_entries before t = if nat_lt before most_entries then None else Some TooMany
 
+-- the word of an entry behind so many, for its line
+abbrev pub IsEntryWord : ℕ → Lang ℕ
+IsEntryWord before = Made (IsOne is_entry (past_entries before)) (λ t. t.line)
+
 abbrev pub IsWritten : ℕ → ℕ → Lang Written
-IsWritten vars before = Then (IsOne is_entry (past_entries before)) (λ t. Then AreNumbers (λ n. Then IsMoved (λ m. Made (AtMost 10 (IsPair vars)) (λ pairs. written_of t.line n m pairs))))
+IsWritten vars before = Then (IsEntryWord before) (λ line. Then AreNumbers (λ n. Then IsMoved (λ m. Made (AtMost 10 (IsPair vars)) (λ pairs. written_of line n m pairs))))
 
 -- ---- judgements
 

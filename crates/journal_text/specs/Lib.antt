@@ -6,3 +6,4 @@ pub mod Texts
 pub mod TextRows
 pub mod TurnRows
 pub mod Turns
+pub mod Views

@@ -65,11 +65,17 @@ a_bot vars = do
 
 -- ---- movements
 
-unfoldable pub moved_by : List ℕ → (Port → Moved) → Reader Moved
-moved_by text make = a_word text >>= λ line. a_port >>= λ p. pure (make p)
+unfoldable pub port_behind : List ℕ → Reader Port
+port_behind text = a_word text >>= λ line. a_port
 
-unfoldable pub a_contraction : Reader Moved
-a_contraction = a_word (codes "contract") >>= λ line. an_end >>= λ end. pure (moved.Contract end)
+unfoldable pub end_behind : List ℕ → Reader End
+end_behind text = a_word text >>= λ line. an_end
+
+abbrev pub moved_by : List ℕ → (Port → Moved) → Reader Moved
+moved_by text make = port_behind text >>= λ p. pure (make p)
+
+abbrev pub a_contraction : Reader Moved
+a_contraction = end_behind (codes "contract") >>= λ end. pure (moved.Contract end)
 
 unfoldable pub a_movement : Reader Moved
 a_movement = either (word (codes "none")) (means (word (codes "none")) moved.None) (either (word (codes "expand")) (moved_by (codes "expand") moved.Expand)
@@ -107,13 +113,16 @@ the_numbers = do
   action ← a_number
   pure (numbers_of place caller turn bot action)
 
+unfoldable pub entry_word : ℕ → Reader ℕ
+entry_word before = one_within is_entry (past_entries before) >>= λ t. pure t.line
+
 unfoldable pub written : ℕ → ℕ → Reader Written
 written vars before = do
-  t ← one_within is_entry (past_entries before)
+  line ← entry_word before
   n ← the_numbers
   m ← a_movement
   pairs ← all_pairs vars
-  pure (written_of t.line n m pairs)
+  pure (written_of line n m pairs)
 
 module _ (bots actions vars : ℕ) where
   unfoldable pub an_entry : ℕ → Reader Entry

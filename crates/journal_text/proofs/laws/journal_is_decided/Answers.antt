@@ -10,7 +10,7 @@ use Rattle.journal_text.proofs.Saying.{says}
 use Rattle.amoebot_state.specs.declared.verdict.Entry.{Entry}
 use Rattle.journal_text.specs.Journals.{AreEntries, IsJournal}
 use Rattle.journal_text.specs.JournalRows.{Says}
-use Rattle.journal_text.specs.Readers.{an_int, a_node, an_end, a_chirality, a_port, a_bot, moved_by, a_contraction, a_movement, a_cell, an_occupant, a_value, a_pair, all_pairs, the_numbers, written, an_entry, entries_from, journal}
+use Rattle.journal_text.specs.Readers.{an_int, a_node, an_end, a_chirality, a_port, a_bot, port_behind, end_behind, a_movement, a_cell, an_occupant, a_value, a_pair, all_pairs, the_numbers, entry_word, written, an_entry, entries_from, journal}
 use Rattle.journal_text.proofs.JournalLaws.{part_journal, exact_journal, exact_entries}
 use Rattle.journal_text.proofs.laws.journal_is_decided.Goals as goal
 
@@ -24,7 +24,7 @@ told : (text : List ℕ) (answer : Result (List Entry) Refusal) → whole_input 
 told text answer e = says (IsJournal 3 2 1) (journal 3 2 1) (exact_journal 3 2 1) text answer e
 
 pub returns-clause-read : goal.returns-clause-read
-unfolding skip ready sign_len front scan scan_end ahead_of last_of same_kind one_within the_line numeral either limited times elements repeated an_int a_node an_end a_chirality a_port a_bot moved_by a_contraction a_movement a_cell an_occupant a_value a_pair all_pairs the_numbers written an_entry entries_from journal
+unfolding skip ready sign_len front scan scan_end ahead_of last_of same_kind one_within the_line numeral either limited times elements repeated an_int a_node an_end a_chirality a_port a_bot port_behind end_behind a_movement a_cell an_occupant a_value a_pair all_pairs the_numbers entry_word written an_entry entries_from journal
 returns-clause-read c = record {
   nothing = told _ _ refl;
   expand = told _ _ refl;
