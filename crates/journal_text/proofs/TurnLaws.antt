@@ -4,11 +4,11 @@ use Rattle.std.specs.Prelude.{codes, ◌||◌}
 use Rattle.text_tokens.specs.declared.token.TokenKind.TheVariants.{Word}
 use Rattle.text_tokens.specs.Text.{Lexeme}
 use Rattle.text_tokens.specs.Cursor.{same_kind}
-use Rattle.text_tokens.specs.Reading.{Reader, ◌>>=◌, pure, one, no_limit}
-use Rattle.text_tokens.specs.Grammar.{Lang, IsOne, Then, Either, Closed, Repeated}
+use Rattle.text_tokens.specs.Reading.{Reader, ◌>>=◌, pure, the_line, no_limit}
+use Rattle.text_tokens.specs.Grammar.{Lang, IsThe, Then, Either, Closed, Repeated}
 use Rattle.text_tokens.specs.Lawful.{Exact, IsPart, always, Starts, AreElements}
 use Rattle.text_tokens.proofs.Exactness.{exact}
-use Rattle.text_tokens.proofs.Parts.{part_less, part_one}
+use Rattle.text_tokens.proofs.Parts.{part_the}
 use Rattle.text_tokens.proofs.Beginnings.{starts_in, starts_some}
 use Rattle.text_tokens.proofs.Repeating.{part_repeated}
 use Rattle.text_tokens.proofs.Distinguishing.{sample, other_text}
@@ -33,15 +33,15 @@ passes_failure : is_failure (sample Word (codes "edge")) ≡ true
 unfolding same_kind names_failure
 passes_failure = refl
 
-part_behind_failed : IsPart (Then (IsOne is_failure no_limit) (λ t. Unheeded IsNumber)) (one is_failure >>= λ t. unheeded a_number) always
-part_behind_failed = behind (part_one is_failure no_limit (sample Word (codes "edge")) passes_failure) (λ t. part_unheeded)
+part_behind_failed : IsPart (Then (IsThe is_failure) (λ line. Unheeded IsNumber)) (the_line is_failure >>= λ line. unheeded a_number) always
+part_behind_failed = behind (part_the is_failure (sample Word (codes "edge")) passes_failure) (λ line. part_unheeded)
 
 part_failed : IsPart IsFailed a_failed always
 unfolding a_failed
 part_failed = behind (part_word (codes "failed") refl) (λ line. part_behind_failed)
 
 starts_failed : Starts IsFailed (word (codes "failed")) no_limit
-starts_failed = starts_word (codes "failed") _ (λ line. one is_failure >>= λ t. unheeded a_number) always (λ line. part_behind_failed)
+starts_failed = starts_word (codes "failed") _ (λ line. the_line is_failure >>= λ line. unheeded a_number) always (λ line. part_behind_failed)
 
 part_claimant : IsPart IsClaimant a_claimant always
 unfolding a_claimant
@@ -125,7 +125,7 @@ part_turns = part_repeated TurnIn turn_in as_before is_turn always is_end turn_e
 
 pub part_the_turns : IsPart IsTurns the_turns always
 unfolding the_turns
-part_the_turns = behind (part_word (codes "turns") refl) (λ line. into (λ ts. tt) (up_to_end part_turns))
+part_the_turns = behind (part_word (codes "turns") refl) (λ line. up_to_end (into (λ ts. tt) part_turns))
 
 pub exact_turns : Exact IsTurns the_turns
 exact_turns = exact IsTurns the_turns part_the_turns.law

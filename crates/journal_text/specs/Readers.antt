@@ -3,7 +3,7 @@ use Rattle.std.specs.Prelude.{ℕ, ℤ, pos, Bool, List, Option, Some, None, cod
 use Rattle.tri_lattice.specs.declared.node.Node.{Node}
 use Rattle.text_tokens.specs.declared.refusal.RefusalKind.TheVariants.{BadRange}
 use Rattle.text_tokens.specs.Text.{Lexeme}
-use Rattle.text_tokens.specs.Reading.{Reader, ◌>>=◌, pure, one, one_within, the_line, numeral, too_large, no_limit, closed, judged, either, limited, times, repeated, at_most}
+use Rattle.text_tokens.specs.Reading.{Reader, ◌>>=◌, pure, one_within, the_line, numeral, too_large, no_limit, closed, judged, either, limited, times, repeated, at_most}
 use Rattle.amoebot_state.specs.declared.bot.Bot.{Bot}
 use Rattle.amoebot_state.specs.declared.bot.Chir.{Chir}
 use Rattle.amoebot_state.specs.declared.bot.Chir.TheVariants.{Plus, Minus}
@@ -147,7 +147,7 @@ unfoldable pub placed : List ℕ → Reader Nothing
 placed text = a_word text >>= λ line. unheeded a_number
 
 unfoldable pub a_failed : Reader Nothing
-a_failed = a_word (codes "failed") >>= λ line. one is_failure >>= λ t. unheeded a_number
+a_failed = a_word (codes "failed") >>= λ line. the_line is_failure >>= λ line. unheeded a_number
 
 unfoldable pub a_claimant : Reader Nothing
 a_claimant = a_word (codes "by") >>= λ line. a_number >>= λ caller. a_number >>= λ turn. unheeded a_number
@@ -168,4 +168,4 @@ unfoldable pub all_turns : Reader (List Nothing)
 all_turns = repeated is_turn turn_in as_before tt
 
 unfoldable pub the_turns : Reader Nothing
-the_turns = a_word (codes "turns") >>= λ line. unheeded (closed all_turns is_end)
+the_turns = a_word (codes "turns") >>= λ line. closed (unheeded all_turns) is_end

@@ -10,8 +10,7 @@ use Rattle.std.specs.Str.{bytes_eq}
 use Rattle.text_tokens.specs.declared.token.TokenKind.TheVariants.{Word}
 use Rattle.text_tokens.specs.Text.{Lexeme}
 use Rattle.text_tokens.specs.Cursor.{is_kind}
-use Rattle.text_tokens.specs.Reading.{no_limit}
-use Rattle.text_tokens.specs.Grammar.{Lang, IsOne, Then, Made, Closed, Either, Repeated}
+use Rattle.text_tokens.specs.Grammar.{Lang, Then, Made, IsThe, Closed, Either, Repeated}
 use Rattle.journal_text.specs.Parts.{word, is_end, IsWord, IsNumber}
 use Rattle.journal_text.specs.Journals.{IsCell}
 
@@ -39,7 +38,7 @@ abbrev pub IsPlaced : List ℕ → Lang Nothing
 IsPlaced text = Then (IsWord text) (λ line. Unheeded IsNumber)
 
 abbrev pub IsFailed : Lang Nothing
-IsFailed = Then (IsWord (codes "failed")) (λ line. Then (IsOne is_failure no_limit) (λ t. Unheeded IsNumber))
+IsFailed = Then (IsWord (codes "failed")) (λ line. Then (IsThe is_failure) (λ line. Unheeded IsNumber))
 
 -- the caller, the turn and the amoebot of a claim
 abbrev pub IsClaimant : Lang Nothing
@@ -66,4 +65,4 @@ abbrev pub AreTurns : Lang (List Nothing)
 AreTurns = Repeated (λ s. IsTurn) as_before tt
 
 abbrev pub IsTurns : Lang Nothing
-IsTurns = Then (IsWord (codes "turns")) (λ line. Unheeded (Closed AreTurns is_end))
+IsTurns = Then (IsWord (codes "turns")) (λ line. Closed (Unheeded AreTurns) is_end)
