@@ -18,7 +18,7 @@ use Rattle.text_tokens.specs.Text.{is_digit, is_letter, Lexeme, AreTokens}
 use Rattle.text_tokens.specs.Cursor.{is_the, is_kind, same_kind, number_value}
 use Rattle.text_tokens.specs.Lines.{Words, lines_text}
 use Rattle.text_tokens.specs.Reading.{is_number, value, no_limit}
-use Rattle.text_tokens.specs.Grammar.{Symbol, symbol, tokens, first_fault, Lang, IsOne, is_one, Then, then, Made, made, IsThe, IsNumeral, IsJudgement, is_judgement, Judged, Either, of_first, of_second, point}
+use Rattle.text_tokens.specs.Grammar.{Symbol, symbol, tokens, first_fault, Lang, IsOne, is_one, Then, then, Made, made, IsThe, IsNumeral, IsJudgement, is_judgement, Judged, Either, of_first, of_second, point, Repeated, one_more}
 use Rattle.text_tokens.specs.Lawful.{IsWhole, IsText}
 use Rattle.text_tokens.specs.Inputs.{IsInput}
 use Rattle.text_tokens.proofs.Blanks.{and_true}
@@ -274,3 +274,40 @@ lines_say P a lines p ts last are =
     let s = spelled_tokens (lines_text lines) p.spelled (lines_spell lines p.spelled p.printed) ts last are in
     let f = p.read ts s.0 in
     record { text = record { us = ts; parts = sym (append-nil ts); whole = subst (λ x. IsWhole P ts x) f.holds f.whole; stops = none_stops P ts }; ends = s.1 }
+
+-- ---- many
+
+-- by other words for the texts
+pub rereads_into : {A : Type 0} {P Q : Lang A} {R : A → Type 0} (words : Words) → ((xs : List Symbol) (a : A) → P xs a → Q xs a) → Rereads P R words → Rereads Q R words
+rereads_into words into p = record { spelled = p.spelled; printed = p.printed; read = λ ts s. (let f = p.read ts s in record { value = f.value; whole = record { text = f.whole.text; is = into f.whole.text f.value f.whole.is; parts = f.whole.parts; fine = f.whole.fine }; holds = f.holds }) }
+
+pub lines_into : {A : Type 0} {P Q : Lang A} {R : A → Type 0} (lines : List Words) → ((xs : List Symbol) (a : A) → P xs a → Q xs a) → RereadsLines P R lines → RereadsLines Q R lines
+lines_into lines into p = record { spelled = p.spelled; printed = p.printed; read = λ ts s. (let f = p.read ts s in record { value = f.value; whole = record { text = f.whole.text; is = into f.whole.text f.value f.whole.is; parts = f.whole.parts; fine = f.whole.fine }; holds = f.holds }) }
+
+-- lines behind lines that stand for just this, and behind any
+pub lines_then : {A B : Type 0} {P : Lang A} {Q : A → Lang B} {S : B → Type 0} (lines more : List Words) (a : A) → RereadsLines P (Is a) lines → RereadsLines (Q a) S more → RereadsLines (Then P Q) S (lines ++ more)
+lines_then {A} {Q = Q} {S = S} lines more a p q = lines_behind_line lines more p q.spelled q.printed (λ b e ts s. subst (λ (x : A). Found (Q x) S ts) (sym e) (q.read ts s))
+
+pub lines_next : {A B : Type 0} {P : Lang A} {Q : Lang B} {R : A → Type 0} {S : B → Type 0} (lines more : List Words) → RereadsLines P R lines → RereadsLines Q S more → RereadsLines (Then P (λ a. Q)) S (lines ++ more)
+lines_next lines more p q = lines_behind_line lines more p q.spelled q.printed (λ b e ts s. q.read ts s)
+
+-- no line
+pub lines_nothing : {A : Type 0} {P : Lang A} (a : A) → P [] a → RereadsLines P (Is a) []
+lines_nothing {P = P} a is = record { spelled = []; printed = no_lines; read = λ ts s. from_nothing ts s }
+  where
+    from_nothing : (ts : List Lexeme) → AreSpelled ts [] → Found P (Is a) ts
+    from_nothing ts no_tokens = record { value = a; whole = record { text = []; is = is; parts = refl; fine = refl }; holds = refl }
+
+module _ {A S : Type 0} (E : S → Lang A) (step : S → A → S) (s : S) where
+  more_made : (a : A) (xs ys : List Symbol) (many : List A) → E s xs a → Made (Repeated E step (step s a)) (λ rest. a ∷ rest) ys many → Repeated E step s (xs ++ ys) many
+  more_made a xs ys many is (made rest m) = one_more a is m
+
+  more_of : (zs : List Symbol) (many : List A) → Then (E s) (λ a. Made (Repeated E step (step s a)) (λ rest. a ∷ rest)) zs many → Repeated E step s zs many
+  more_of zs many (then {xs = xs} {ys = ys} a is m) = more_made a xs ys many is m
+
+  -- one more element
+  pub rereads_more : (words more : Words) (a : A) (rest : List A) → Rereads (E s) (Is a) words → Rereads (Repeated E step (step s a)) (Is rest) more → Rereads (Repeated E step s) (Is (a ∷ rest)) (words ++ more)
+  rereads_more words more a rest p q = rereads_into (words ++ more) more_of (rereads_then words more a p (rereads_as (λ rest. a ∷ rest) more rest q))
+
+  pub lines_more : (lines more : List Words) (a : A) (rest : List A) → RereadsLines (E s) (Is a) lines → RereadsLines (Repeated E step (step s a)) (Is rest) more → RereadsLines (Repeated E step s) (Is (a ∷ rest)) (lines ++ more)
+  lines_more lines more a rest p q = lines_into (lines ++ more) more_of (lines_then lines more a p (lines_made (λ rest. a ∷ rest) more (λ b e. ap (λ (rest : List A). a ∷ rest) e) q))
