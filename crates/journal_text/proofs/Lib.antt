@@ -3,6 +3,7 @@ pub mod JournalLaws
 pub mod TurnLaws
 pub mod Saying
 pub mod NextLines
-pub mod Chaining
 pub mod Times
 pub mod Knowing
+pub mod Respelling
+pub mod JournalsReread

@@ -6,6 +6,7 @@ ghost use Rattle.journal_text.specs.Journals.{IsJournal};
 ghost use Rattle.journal_text.specs.JournalRows.{JournalsAreRead};
 ghost use Rattle.journal_text.specs.Turns.{IsTurns};
 ghost use Rattle.journal_text.specs.TurnRows.{TurnsAreRead};
+ghost use Rattle.journal_text.specs.Rereading.{JournalsReadBack};
 ghost use Rattle.journal_text.specs.TextRows.{TextsArePrinted};
 ghost use Rattle.journal_text.specs.Readers.{journal, the_turns};
 
@@ -26,4 +27,9 @@ pub fn turns_are_decided()
 /// Small journals and turns with their texts.
 pub fn texts_are_printed()
     ensures { TextsArePrinted }
+{}
+
+/// Entries that break no limit are read back from their text.
+pub fn journals_read_back()
+    ensures { JournalsReadBack }
 {}

@@ -8,7 +8,7 @@ mod printing;
 mod turns;
 
 pub use journal::{Entries, read_journal};
-pub use laws::{journal_is_decided, texts_are_printed, turns_are_decided};
+pub use laws::{journal_is_decided, journals_read_back, texts_are_printed, turns_are_decided};
 pub use parts::{
     read_bot, read_chirality, read_end, read_int, read_node, read_port, read_up_to, read_word,
 };

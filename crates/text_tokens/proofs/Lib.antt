@@ -1,4 +1,5 @@
 pub mod LineLemmas
+pub mod PrintedTokens
 pub mod Scanning
 pub mod Standing
 pub mod Blanks

@@ -8,7 +8,7 @@ use Rattle.amoebot_state.specs.declared.cell.CellName.{CellName}
 use Rattle.amoebot_state.specs.declared.cell.CellName.TheVariants as name
 use Rattle.journal_text.specs.Journals.{is_spot}
 use Rattle.journal_text.specs.Readers.{a_word, a_number, a_node, a_cell}
-use Rattle.journal_text.proofs.Chaining.{Left, past_part, part_fails, made_left}
+use Rattle.text_tokens.proofs.Rows.{Left, past_part, part_fails, made_left}
 use Rattle.journal_text.proofs.journal.read_cell.Goals as goal
 
 abbrev a_spot : Reader CellName

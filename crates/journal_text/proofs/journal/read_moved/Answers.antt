@@ -9,7 +9,7 @@ use Rattle.amoebot_state.specs.declared.verdict.Moved.{Moved}
 use Rattle.amoebot_state.specs.declared.verdict.Moved.TheVariants as moved
 use Rattle.journal_text.specs.Parts.{word}
 use Rattle.journal_text.specs.Readers.{a_word, means, port_behind, end_behind, moved_by, a_contraction, a_movement}
-use Rattle.journal_text.proofs.Chaining.{Left, part_fails, made_left}
+use Rattle.text_tokens.proofs.Rows.{Left, part_fails, made_left}
 use Rattle.journal_text.proofs.journal.read_moved.Goals as goal
 
 -- the forms from each on

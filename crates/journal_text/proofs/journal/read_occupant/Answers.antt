@@ -8,7 +8,7 @@ use Rattle.amoebot_state.specs.declared.cell.Cell.{Cell}
 use Rattle.amoebot_state.specs.declared.cell.Cell.TheVariants as cell
 use Rattle.journal_text.specs.Parts.{word}
 use Rattle.journal_text.specs.Readers.{means, a_number, an_occupant}
-use Rattle.journal_text.proofs.Chaining.{Left, part_fails, made_left}
+use Rattle.text_tokens.proofs.Rows.{Left, part_fails, made_left}
 use Rattle.journal_text.proofs.journal.read_occupant.Goals as goal
 
 abbrev no_occupant : Reader Cell

@@ -6,7 +6,7 @@ use Rattle.amoebot_state.specs.declared.bot.Bot.{Bot}
 use Rattle.amoebot_state.specs.declared.bot.Chir.{Chir}
 use Rattle.journal_text.specs.Parts.{memory, a_bot_of}
 use Rattle.journal_text.specs.Readers.{up_to, a_chirality, a_node, values, a_bot}
-use Rattle.journal_text.proofs.Chaining.{all_left, past_part, part_fails}
+use Rattle.text_tokens.proofs.Rows.{all_left, past_part, part_fails}
 use Rattle.journal_text.proofs.parts.read_bot.Goals as goal
 
 abbrev bot_with : Node → Node → ℕ → Chir → List ℕ → Bot

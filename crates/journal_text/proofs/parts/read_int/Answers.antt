@@ -10,7 +10,7 @@ use Rattle.text_tokens.specs.Reading.{Reader, ◌>>=◌, pure, the_line}
 use Rattle.text_tokens.proofs.Stepping.{is_first, is_second, stays}
 use Rattle.journal_text.specs.Parts.{is_minus, negative}
 use Rattle.journal_text.specs.Readers.{up_to, an_int}
-use Rattle.journal_text.proofs.Chaining.{Left, past_part, part_fails, made_left}
+use Rattle.text_tokens.proofs.Rows.{Left, past_part, part_fails, made_left}
 use Rattle.journal_text.proofs.parts.read_int.Goals as goal
 
 abbrev plain : ℕ → Reader ℤ

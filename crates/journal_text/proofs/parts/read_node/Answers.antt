@@ -7,7 +7,7 @@ use Rattle.text_tokens.specs.Reading.{◌>>=◌, pure}
 use Rattle.tri_lattice.specs.declared.node.Node.{Node}
 use Rattle.journal_text.specs.Parts.{a_node_of}
 use Rattle.journal_text.specs.Readers.{an_int, a_node}
-use Rattle.journal_text.proofs.Chaining.{all_left, past_part, part_fails}
+use Rattle.text_tokens.proofs.Rows.{all_left, past_part, part_fails}
 use Rattle.journal_text.proofs.parts.read_node.Goals as goal
 
 pub returns-in_err-x-clause-reads : goal.returns-in_err-x-clause-reads
