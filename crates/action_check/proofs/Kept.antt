@@ -1,8 +1,10 @@
 -- Where nothing is wrong, each part is what an evaluation relies on.
-use Rattle.std.proofs.Common.{◌≡◌, ◌≤◌, ◌+◌, ℕ, suc, [], ◌∷◌, length, length-append, arith}
+use Rattle.std.proofs.Common.{true, ◌≡◌, ◌≤◌, ◌+◌, ℕ, suc, [], ◌∷◌, length, length-append, arith}
 use Rattle.action_tree.specs.Trees.{Name, DirTerm, fixed, held, Guard, atom, negation, conjunction, disjunction, quantified, tested, comparison, Guards, no_guards, guard_then, Sum, no_terms, term_then, Term, number, own, of_port, count, direction, inner, mod6, PortExpr, bound, at_end, turned, first, Stmt, put, put_of, let_be, if_then, for_each, Stmts, no_stmts, stmt_then, Move, no_move, through, contract, Action}
 use Rattle.action_tree.specs.Limits.{most_names}
-use Rattle.action_tree.specs.Writable.{guard_names, guards_names, sum_names, term_names, port_names, behind, stmt_names, stmts_names, move_names, action_names}
+use Rattle.action_tree.specs.Writable.{guard_names, guards_names, sum_names, term_names, port_names, behind, stmt_names, stmts_names, move_names, action_names, is_action}
+use Rattle.action_tree.proofs.Conditions.{right_of}
+use Rattle.std.proofs.lemmas.Bool.{leb-true}
 use Rattle.action_check.specs.Limits.{most_literal, most_direction}
 use Rattle.action_check.specs.Scopes.{Scope, HasRoom, bind, after, after_all}
 use Rattle.action_check.specs.Faults.{dirterm_faults, guard_faults, guards_faults, sum_faults, term_faults, port_faults, stmt_faults, stmts_faults, move_faults, action_faults}
@@ -99,6 +101,9 @@ move_kept : (sc : Scope) (m : Move) → HasRoom sc (move_names m) → move_fault
 move_kept sc no_move room e = tt
 move_kept sc (through m p) room e = port_kept sc p room e
 move_kept sc (contract e) room f = tt
+
+pub few_names : (a : Action) → is_action a ≡ true → action_names a ≤ most_names
+few_names a f = leb-true (action_names a) most_names (right_of _ _ f)
 
 pub action_kept : (sc : Scope) (a : Action) → HasRoom sc (action_names a) → action_faults sc a ≡ [] → ActionKept sc a
 action_kept sc a room e =

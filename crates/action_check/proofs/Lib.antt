@@ -1,9 +1,11 @@
 pub mod Texts
 pub mod Opened
-pub mod Firsts
-pub mod Walking
 pub mod Known
 pub mod Distinct
 pub mod Kept
 pub mod Faultless
 pub mod Whole
+pub mod Firsts
+pub mod Walking
+pub mod Declaring
+pub mod Filling

@@ -1,7 +1,6 @@
 -- Whole programs: what the rules say of them holds exactly where nothing is wrong.
 use Rattle.std.proofs.Common.{◌≡◌, ◌≤◌, true, List, [], ◌∷◌, ◌++◌, length, ap, refl, arith}
 use Rattle.std.specs.List.{All, list_all}
-use Rattle.std.proofs.lemmas.Bool.{leb-true}
 use Rattle.std.proofs.lemmas.List.Elements.{All-nil, All-cons, All-head, All-tail}
 use Rattle.action_tree.specs.Trees.{Var, Action, Program}
 use Rattle.action_tree.specs.Limits.{most_names}
@@ -13,7 +12,7 @@ use Rattle.action_check.specs.Faults.{vars_faults, actions_faults, names_of_vars
 use Rattle.action_check.specs.Rules.{IsWithin, ActionKept, ProgramKept}
 use Rattle.action_check.proofs.Known.{left_empty, right_empty, both_empty, is_fresh, fresh_is_fine, is_within, within_is_fine}
 use Rattle.action_check.proofs.Distinct.{AreFresh, none_distinct, distinct_from, fresh_from}
-use Rattle.action_check.proofs.Kept.{action_kept}
+use Rattle.action_check.proofs.Kept.{few_names, action_kept}
 use Rattle.action_check.proofs.Faultless.{action_fine}
 
 -- ---- variables
@@ -44,8 +43,7 @@ actions_fresh sc earlier (a ∷ more) e = (is_fresh earlier a.name (left_empty _
 actions_kept : (sc : Scope) (earlier : List _) (more : List Action) → sc.bound ≡ [] → list_all is_action more ≡ true → actions_faults sc earlier more ≡ [] → All (ActionKept sc) more
 actions_kept sc earlier [] none f e = All-nil (ActionKept sc)
 actions_kept sc earlier (a ∷ more) none f e =
-    let few : action_names a ≤ most_names = leb-true (action_names a) most_names (right_of _ _ (left_of _ _ f)) in
-    let room : HasRoom sc (action_names a) = omega (arith, ap length none) in
+    let room : HasRoom sc (action_names a) = omega (arith, ap length none, few_names a (left_of _ _ f)) in
     All-cons (ActionKept sc) a more (action_kept sc a room (left_empty _ _ (right_empty _ _ e)))
     (actions_kept sc (earlier ++ a.name.text ∷ []) more none (right_of _ _ f) (right_empty _ _ (right_empty _ _ e)))
 

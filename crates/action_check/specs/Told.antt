@@ -1,7 +1,9 @@
 -- What a check that stops at the first fault answers, and what its scope stands for.
-use Rattle.std.specs.Prelude.{ℕ, List, [], ◌∷◌, map, Result, Ok, Err}
+use Rattle.std.specs.Prelude.{◌≡◌, ℕ, List, [], ◌∷◌, map, Result, Ok, Err}
 use Rattle.arrayvec.specs.ArrayString.{ArrayString}
 use Rattle.text_tokens.specs.declared.refusal.Refusal.{Refusal}
+use Rattle.text_tokens.specs.declared.refusal.ReadRefusal.{ReadRefusal}
+use Rattle.text_tokens.specs.declared.refusal.ReadRefusal.TheVariants.{Refused, NoMemory}
 use Rattle.action_check.specs.declared.scope.Scope as code
 use Rattle.action_check.specs.Scopes.{Scope}
 
@@ -16,3 +18,8 @@ texts names = map (λ name. name.bytes) names
 -- the names that a scope knows
 abbrev pub known : code.Scope → Scope
 known sc = record { vars = texts sc.vars.now.keys; bound = texts sc.bound.items }
+
+-- why a program is refused: the first of these faults, or that there was no memory, which says nothing
+abbrev pub TellsFirst : List Refusal → ReadRefusal → Type 0
+TellsFirst faults (Refused r) = first_of faults ≡ Err r
+TellsFirst faults NoMemory = Unit {0}

@@ -22,7 +22,7 @@ pub struct Scope<'a> {
 }
 
 /// The refusal of a name.
-fn refused(name: &Word, kind: RefusalKind) -> Result<(), Refusal>
+pub fn refused(name: &Word, kind: RefusalKind) -> Result<(), Refusal>
     ensures { result ≡ first_of (spec.blamed kind name.now.line) }
 {
     Err(Refusal {

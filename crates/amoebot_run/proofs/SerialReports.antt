@@ -13,14 +13,15 @@ use Rattle.amoebot_state.specs.Zones.{Shown}
 use Rattle.amoebot_state.specs.Steps.{Step, Run}
 use Rattle.serial_model.specs.declared.Turned.{Turned}
 use Rattle.serial_model.specs.declared.Turned.TheVariants as turned
-use Rattle.serial_model.specs.Turns.{Turns, IsOfTurn}
+use Rattle.serial_model.specs.SerialTurns.{SerialTurn, IsOfTurn}
 use Rattle.claim_core.specs.declared.marks.Mark.{Mark}
 use Rattle.claim_core.specs.declared.marks.Mark.TheVariants as mark
 use Rattle.claim_core.specs.declared.report.Report.{Report}
 use Rattle.claim_core.specs.Turns.{CallerLists, MarkLists, bot_of}
 use Rattle.claim_core.specs.Good.{Good, TurnOk, mark_of, place_of, place_after}
 use Rattle.claim_core.specs.SerialRuns.{Left, SerialRun, mark_at, entries_by, all_turns, left_by}
-use Rattle.claim_core.proofs.Stays.{slice_get-push, slice_get-push_last, slice_get-pushed, run_push, world_last, TurnOk-push}
+use Rattle.amoebot_state.proofs.Runs.{run_push}
+use Rattle.claim_core.proofs.Stays.{slice_get-push, slice_get-push_last, slice_get-pushed, world_last, TurnOk-push}
 
 -- the turns of one caller rise
 abbrev Rises : Entry → Entry → Type 0
@@ -97,7 +98,7 @@ steps f w0 lists turns left e new good step of =
     }
 
 -- the same of each answer
-turns_on : (f : Shown → Verdict) (w0 : Config) (lists : CallerLists) (turns : ℕ) (left : Left) (t : Turned) (new : Config) → IsGoodSoFar f w0 lists turns left → Turns f 0 turns (bot_of lists 0 turns) left.world t new → IsGoodSoFar f w0 lists (suc turns) (record { marks = left.marks ++ mark_at (length left.entries) t ∷ []; entries = left.entries ++ entries_by t; world = new })
+turns_on : (f : Shown → Verdict) (w0 : Config) (lists : CallerLists) (turns : ℕ) (left : Left) (t : Turned) (new : Config) → IsGoodSoFar f w0 lists turns left → SerialTurn f 0 turns (bot_of lists 0 turns) left.world t new → IsGoodSoFar f w0 lists (suc turns) (record { marks = left.marks ++ mark_at (length left.entries) t ∷ []; entries = left.entries ++ entries_by t; world = new })
 turns_on f w0 lists turns left (turned.Done e) new good made = steps f w0 lists turns left e new good made.0 made.1
 turns_on f w0 lists turns left turned.Idle new good made =
     rw (append-nil, made.1) (stays f w0 lists turns left (mark.Idle (length left.entries)) good (λ marks. (left.world, world_last f w0 left.world left.entries good.run, made.0)) refl refl)

@@ -4,7 +4,9 @@ ghost use Rattle.std.specs.declared.option.Option.{Option};
 use crate::gate::NoGate;
 use crate::run::{Ended, Status, run, run_text};
 use crate::texts::{print_journal, print_shape, print_turns};
+use amoebot_state::NoMemory;
 use arrayvec::ArrayVec;
+use claim_core::Report;
 use outer_io::{Failed, Sink, Source, SureSink, SureSource};
 use std::alloc::{AllocError, Global};
 use std::process::Abort;
@@ -17,6 +19,7 @@ use text_tokens::{Refusal, RefusalKind};
 #[derive(Clone, Copy)]
 struct Parts<'a> {
     version: &'a str,
+    name: &'a str,
     action: &'a str,
     shape: &'a str,
     lists: &'a str,
@@ -26,16 +29,29 @@ struct Parts<'a> {
 /// The worked example: one amoebot, which expands and then is idle.
 const EXPANDS: Parts<'static> = Parts {
     version: "1",
-    action: "out when contracted move expand head 0",
+    name: "out",
+    action: "when contracted move expand head 0",
     shape: "area 0 0 8 8\nbot 2 3 2 3 0 +",
     lists: "turns 2\nlist 0",
     rest: "\n",
 };
 
+/// The worked example on one line.
+const ON_ONE_LINE: &str =
+    "amoebot 1 program action out when contracted move expand head 0 end shape area 0 0 8 8 bot 2 3 2 3 0 + \
+                    end lists turns 2 list 0 end";
+
+/// What is written of it.
+const EXPANDED: &str = "journal\nentry 0 0 0 0 0 expand head 0 spot 3 3 0 body 0 3 3 2 3 0 +\nend\n\
+         final\narea 0 0 8 8\nbot 3 3 2 3 0 +\nend\n\
+         turns\nturn 0 0 done 0\nturn 0 1 idle 1\nend\n";
+
 const NOT_YET: Status = Status::Refused(Refusal {
     line: 0,
     kind: RefusalKind::NotYet,
 });
+
+const NOT_YET_LINE: &str = "refused 0 NotYet\n";
 
 const TOO_LONG: Status = Status::Refused(Refusal {
     line: 0,
@@ -44,8 +60,8 @@ const TOO_LONG: Status = Status::Refused(Refusal {
 
 fn document(alloc: Global, parts: Parts<'_>) -> Result<String, AllocError> {
     format!(in alloc;
-        "amoebot {}\nprogram\naction {}\nend\nshape\n{}\nend\nlists\n{}\nend{}",
-        parts.version, parts.action, parts.shape, parts.lists, parts.rest
+        "amoebot {}\nprogram\naction {} {}\nend\nshape\n{}\nend\nlists\n{}\nend{}",
+        parts.version, parts.name, parts.action, parts.shape, parts.lists, parts.rest
     )
 }
 
@@ -57,11 +73,11 @@ fn words(alloc: Global, texts: &[&str]) -> Result<Vec<String>, AllocError> {
     Ok(words)
 }
 
-/// Runs the document, and compares the status and the text. A report is there exactly where the status is Done.
+/// Runs the bytes, and compares the status and the text. A report is there exactly where the status is Done.
 fn check<R: Abort + Threads + Wait + Sync>(
     rt: &R,
     alloc: Global,
-    document: &[u8],
+    bytes: &[u8],
     status: Status,
     text: &str,
 ) -> Result<Ended, AllocError> {
@@ -69,7 +85,7 @@ fn check<R: Abort + Threads + Wait + Sync>(
     let Ok(mut out) = SureSink::new(alloc, 4096) else {
         return Err(AllocError);
     };
-    let ended = run_text(rt, alloc, words.as_slice(), document, &mut out);
+    let ended = run_text(rt, alloc, words.as_slice(), bytes, &mut out);
     assert_eq!(rt; out.bytes(), text.as_bytes());
     assert!(rt; out.whole());
     assert_eq!(rt; ended.status, status);
@@ -77,87 +93,126 @@ fn check<R: Abort + Threads + Wait + Sync>(
     Ok(ended)
 }
 
+/// Runs the document that has these parts.
 fn check_parts<R: Abort + Threads + Wait + Sync>(
     rt: &R,
     alloc: Global,
     parts: Parts<'_>,
+    status: Status,
     text: &str,
 ) -> Result<(), AllocError> {
     let document = document(alloc, parts)?;
-    check(rt, alloc, document.as_bytes(), Status::Done, text)?;
+    check(rt, alloc, document.as_bytes(), status, text)?;
+    Ok(())
+}
+
+/// Runs each document, and compares the texts that are written.
+fn check_runs<R: Abort + Threads + Wait + Sync>(
+    rt: &R,
+    alloc: Global,
+    runs: &[(Parts<'_>, &str)],
+) -> Result<(), AllocError> {
+    for (parts, text) in runs {
+        check_parts(rt, alloc, *parts, Status::Done, text)?;
+    }
+    Ok(())
+}
+
+/// Looks at each document, and compares the refusal.
+fn check_refused<R: Abort + Threads + Wait + Sync>(
+    rt: &R,
+    alloc: Global,
+    documents: &[Parts<'_>],
+) -> Result<(), AllocError> {
+    for parts in documents {
+        check_parts(rt, alloc, *parts, NOT_YET, NOT_YET_LINE)?;
+    }
+    Ok(())
+}
+
+/// Looks at documents whose actions have these names, and compares the refusal.
+fn check_names<R: Abort + Threads + Wait + Sync>(
+    rt: &R,
+    alloc: Global,
+    names: &[&str],
+) -> Result<(), AllocError> {
+    for name in names {
+        check_parts(rt, alloc, Parts { name, ..EXPANDS }, NOT_YET, NOT_YET_LINE)?;
+    }
+    Ok(())
+}
+
+/// Calls `run` with the words.
+fn call<R: Threads + Wait + Sync, S: Source, K: Sink>(
+    rt: &R,
+    alloc: Global,
+    texts: &[&str],
+    input: &mut S,
+    out: &mut K,
+) -> Result<Ended, AllocError> {
+    let words = words(alloc, texts)?;
+    Ok(run(rt, alloc, words.as_slice(), input, out, &NoGate))
+}
+
+/// Calls `run` with the words, and compares the status and what is written of it. No report comes.
+fn check_line<R: Abort + Threads + Wait + Sync, S: Source>(
+    rt: &R,
+    alloc: Global,
+    texts: &[&str],
+    input: &mut S,
+    status: Status,
+    line: &str,
+) -> Result<(), AllocError> {
+    let Ok(mut out) = SureSink::new(alloc, 100) else {
+        return Err(AllocError);
+    };
+    let ended = call(rt, alloc, texts, input, &mut out)?;
+    assert_eq!(rt; ended.status, status);
+    assert!(rt; ended.report.is_none());
+    assert_eq!(rt; out.bytes(), line.as_bytes());
+    assert!(rt; out.whole());
+    Ok(())
+}
+
+/// Prints each section of the report of the worked example, and compares the texts.
+fn check_sections(rt: &impl Abort, alloc: Global, report: &Report) -> Result<(), NoMemory> {
+    let journal = print_journal(alloc, report.journal.entries(), 0)?;
+    let entry = "journal\nentry 0 0 0 0 0 expand head 0 spot 3 3 0 body 0 3 3 2 3 0 +\nend\n";
+    assert_eq!(rt; journal.bytes(), entry.as_bytes());
+    let shape = print_shape(alloc, "final", &report.world, 0)?;
+    let last = "final\narea 0 0 8 8\nbot 3 3 2 3 0 +\nend\n";
+    assert_eq!(rt; shape.bytes(), last.as_bytes());
+    let turns = print_turns(alloc, &report.turns)?;
+    let marks = "turns\nturn 0 0 done 0\nturn 0 1 idle 1\nend\n";
+    assert_eq!(rt; turns.bytes(), marks.as_bytes());
     Ok(())
 }
 
 #[test]
 fn each_section_is_printed_alone(rt: HostRuntime) -> Result<(), Fail> {
-    let alloc = rt.alloc();
-    let document = document(alloc, EXPANDS)?;
-    let words = words(alloc, &["run"])?;
-    let mut out = SureSink::new(alloc, 4096).ok().ok_or("no room")?;
-    let ended = run_text(&rt, alloc, words.as_slice(), document.as_bytes(), &mut out);
-    let report = ended.report.ok_or("no report")?;
-    let journal = print_journal(alloc, report.journal.entries(), 0)
-        .ok()
-        .ok_or("no journal")?;
-    let line = "entry 0 0 0 0 0 expand head 0 spot 3 3 0 body 0 3 3 2 3 0 +";
-    let wanted = format!(in alloc; "journal\n{line}\nend\n")?;
-    assert_eq!(rt; journal.bytes(), wanted.as_bytes());
-    let shape = print_shape(alloc, "final", &report.world, 0)
-        .ok()
-        .ok_or("no shape")?;
-    assert_eq!(rt;
-        shape.bytes(),
-        b"final\narea 0 0 8 8\nbot 3 3 2 3 0 +\nend\n".as_slice()
-    );
-    let turns = print_turns(alloc, &report.turns).ok().ok_or("no turns")?;
-    assert_eq!(rt;
-        turns.bytes(),
-        b"turns\nturn 0 0 done 0\nturn 0 1 idle 1\nend\n".as_slice()
-    );
-    Ok(())
-}
-
-#[test]
-fn expands_and_writes_what_happened(rt: HostRuntime) -> Result<(), Fail> {
-    let document = document(rt.alloc(), EXPANDS)?;
-    let ended = check(
-        &rt,
-        rt.alloc(),
-        document.as_bytes(),
-        Status::Done,
-        "journal\nentry 0 0 0 0 0 expand head 0 spot 3 3 0 body 0 3 3 2 3 0 +\nend\n\
-         final\narea 0 0 8 8\nbot 3 3 2 3 0 +\nend\n\
-         turns\nturn 0 0 done 0\nturn 0 1 idle 1\nend\n",
-    )?;
-    let one_line =
-        "amoebot 1 program action out when contracted move expand head 0 end shape area 0 0 8 8 bot 2 3 2 3 0 + \
-                    end lists turns 2 list 0 end";
-    check(
-        &rt,
-        rt.alloc(),
-        one_line.as_bytes(),
-        Status::Done,
-        "journal\nentry 0 0 0 0 0 expand head 0 spot 3 3 0 body 0 3 3 2 3 0 +\nend\n\
-         final\narea 0 0 8 8\nbot 3 3 2 3 0 +\nend\n\
-         turns\nturn 0 0 done 0\nturn 0 1 idle 1\nend\n",
-    )?;
+    let one_line = ON_ONE_LINE.as_bytes();
+    let ended = check(&rt, rt.alloc(), one_line, Status::Done, EXPANDED)?;
     let report = ended.report.ok_or("no report")?;
     assert_eq!(rt; report.journal.first().bots(), 1);
     assert_eq!(rt; report.journal.entries().len(), 1);
-    check_parts(
-        &rt,
-        rt.alloc(),
+    check_sections(&rt, rt.alloc(), &report)?;
+    Ok(())
+}
+
+/// Documents whose amoebot expands or is asked for no turn, with what is written of each.
+static RUNS: [(Parts<'static>, &str); 4] = [
+    (EXPANDS, EXPANDED),
+    (
         Parts {
             lists: "turns 0",
             ..EXPANDS
         },
         "journal\nend\nfinal\narea 0 0 8 8\nbot 2 3 2 3 0 +\nend\nturns\nend\n",
-    )?;
-    check_parts(
-        &rt,
-        rt.alloc(),
+    ),
+    (
         Parts {
-            action: "a when contracted move expand head 1",
+            name: "a",
+            action: "when contracted move expand head 1",
             shape: "area 0 0 8 8\nbot 2 3 2 3 5 -",
             lists: "turns 1\nlist 0",
             ..EXPANDS
@@ -165,13 +220,11 @@ fn expands_and_writes_what_happened(rt: HostRuntime) -> Result<(), Fail> {
         "journal\nentry 0 0 0 0 0 expand head 1 spot 2 2 0 body 0 2 2 2 3 5 -\nend\n\
          final\narea 0 0 8 8\nbot 2 2 2 3 5 -\nend\n\
          turns\nturn 0 0 done 0\nend\n",
-    )?;
-    check_parts(
-        &rt,
-        rt.alloc(),
+    ),
+    (
         Parts {
             version: "000000001#\u{e9}\n\t",
-            action: "a23456789012345678901234 when contracted move expand head 0",
+            name: "a23456789012345678901234",
             shape: "area - 5 -7 4 6\nbot -4 -003 -4 -3 0+",
             lists: "turns 1\nlist 0",
             rest: "# the last line",
@@ -180,35 +233,34 @@ fn expands_and_writes_what_happened(rt: HostRuntime) -> Result<(), Fail> {
         "journal\nentry 0 0 0 0 0 expand head 0 spot -3 -3 0 body 0 -3 -3 -4 -3 0 +\nend\n\
          final\narea -5 -7 4 6\nbot -3 -3 -4 -3 0 +\nend\n\
          turns\nturn 0 0 done 0\nend\n",
-    )?;
+    ),
+];
+
+#[test]
+fn expands_and_writes_what_happened(rt: HostRuntime) -> Result<(), Fail> {
+    check_runs(&rt, rt.alloc(), &RUNS)?;
     Ok(())
 }
 
-#[test]
-fn says_why_nothing_happened(rt: HostRuntime) -> Result<(), Fail> {
-    check_parts(
-        &rt,
-        rt.alloc(),
+/// Documents in whose runs nothing happens: at the edge, through no port, beside another amoebot, and of an expanded amoebot.
+static NO_STEPS: [(Parts<'static>, &str); 4] = [
+    (
         Parts {
             shape: "area 0 0 8 8\nbot 7 3 7 3 0 +",
             lists: "turns 1\nlist 0",
             ..EXPANDS
         },
         "journal\nend\nfinal\narea 0 0 8 8\nbot 7 3 7 3 0 +\nend\nturns\nturn 0 0 failed edge 0\nend\n",
-    )?;
-    check_parts(
-        &rt,
-        rt.alloc(),
+    ),
+    (
         Parts {
-            action: "out when contracted move expand tail 0",
+            action: "when contracted move expand tail 0",
             lists: "turns 1\nlist 0",
             ..EXPANDS
         },
         "journal\nend\nfinal\narea 0 0 8 8\nbot 2 3 2 3 0 +\nend\nturns\nturn 0 0 failed no_port 0\nend\n",
-    )?;
-    check_parts(
-        &rt,
-        rt.alloc(),
+    ),
+    (
         Parts {
             shape: "area 0 0 8 8\nbot 2 3 2 3 0 +\nbot 3 3 3 3 3 +",
             lists: "turns 2\nlist 0 1",
@@ -216,113 +268,180 @@ fn says_why_nothing_happened(rt: HostRuntime) -> Result<(), Fail> {
         },
         "journal\nend\nfinal\narea 0 0 8 8\nbot 2 3 2 3 0 +\nbot 3 3 3 3 3 +\nend\n\
          turns\nturn 0 0 failed occupied 0\nturn 0 1 failed occupied 0\nend\n",
-    )?;
-    check_parts(
-        &rt,
-        rt.alloc(),
+    ),
+    (
         Parts {
             shape: "area 0 0 8 8\nbot 3 3 2 3 0 +",
             lists: "turns 1\nlist 0",
             ..EXPANDS
         },
         "journal\nend\nfinal\narea 0 0 8 8\nbot 3 3 2 3 0 +\nend\nturns\nturn 0 0 idle 0\nend\n",
-    )?;
+    ),
+];
+
+#[test]
+fn says_why_nothing_happened(rt: HostRuntime) -> Result<(), Fail> {
+    check_runs(&rt, rt.alloc(), &NO_STEPS)?;
     Ok(())
 }
+
+/// Near documents, each with another fault.
+static NEAR_ONES: [Parts<'static>; 21] = [
+    Parts {
+        action: "when contracted move expand head 6",
+        ..EXPANDS
+    },
+    Parts {
+        action: "when expanded move expand head 0",
+        ..EXPANDS
+    },
+    Parts {
+        name: "a234567890123456789012345",
+        ..EXPANDS
+    },
+    Parts {
+        shape: "area 0 0 129 8\nbot 2 3 2 3 0 +",
+        ..EXPANDS
+    },
+    Parts {
+        shape: "area 0 4097 8 8\nbot 2 3 2 3 0 +",
+        ..EXPANDS
+    },
+    Parts {
+        shape: "area 0 0 8 8\nbot 2 3 2 3 6 +",
+        ..EXPANDS
+    },
+    Parts {
+        shape: "area 0 0 8 8\nbot 10000 3 2 3 0 +",
+        ..EXPANDS
+    },
+    Parts {
+        shape: "area 0 0 8 8\nbot 9 3 9 3 0 +",
+        ..EXPANDS
+    },
+    Parts {
+        shape: "area 0 0 8 8\nbot 2 3 4 3 0 +",
+        ..EXPANDS
+    },
+    Parts {
+        shape: "area 0 0 8 8\nbot 2 3 2 3 0 +\nbot 2 3 2 3 0 +",
+        ..EXPANDS
+    },
+    Parts {
+        shape: "area 0 0 8 8\nbot 2 3 2 3 0 +\nbot 3 3 2 3 0 +",
+        ..EXPANDS
+    },
+    Parts {
+        shape: "area 0 0 8 8\nbot 2 3 2 3 0 + 0",
+        ..EXPANDS
+    },
+    Parts {
+        lists: "turns 65537\nlist 0",
+        ..EXPANDS
+    },
+    Parts {
+        lists: "turns 0000000002\nlist 0",
+        ..EXPANDS
+    },
+    Parts {
+        lists: "turns 2\nlist",
+        ..EXPANDS
+    },
+    Parts {
+        lists: "turns 2\nlist 1",
+        ..EXPANDS
+    },
+    Parts {
+        lists: "turns 2\nlist 0\nlist 0",
+        ..EXPANDS
+    },
+    Parts {
+        rest: "\nmore\n",
+        ..EXPANDS
+    },
+    Parts {
+        rest: " $",
+        ..EXPANDS
+    },
+    Parts {
+        rest: ":",
+        ..EXPANDS
+    },
+    Parts {
+        version: "2",
+        ..EXPANDS
+    },
+];
+
+/// The words that name no action.
+static RESERVED: [&str; 48] = [
+    "amoebot",
+    "program",
+    "guard",
+    "on",
+    "off",
+    "var",
+    "action",
+    "when",
+    "do",
+    "move",
+    "end",
+    "if",
+    "then",
+    "else",
+    "fi",
+    "for",
+    "od",
+    "let",
+    "in",
+    "ports",
+    "free",
+    "true",
+    "false",
+    "contracted",
+    "expanded",
+    "not",
+    "and",
+    "or",
+    "any",
+    "all",
+    "count",
+    "first",
+    "head",
+    "tail",
+    "turn",
+    "dir",
+    "peer_dir",
+    "peer_head",
+    "peer_expanded",
+    "at_head",
+    "linked",
+    "inner",
+    "mod6",
+    "none",
+    "expand",
+    "contract",
+    "push",
+    "pull",
+];
+
+/// The front of a document.
+const CUT: &str =
+    "amoebot 1\nprogram\naction out when contracted move expand head 0\nend\nshape\narea 0 0 8 8\nbot 2 3";
 
 #[test]
 fn refuses_what_is_no_document(rt: HostRuntime) -> Result<(), Fail> {
-    let reserved =
-        "amoebot program guard on off var action when do move end if then else fi for od let in \
-                    ports free true false contracted expanded not and or any all count first head tail turn \
-                    dir peer_dir peer_head peer_expanded at_head linked inner mod6 none expand contract push pull";
-    for word in reserved.split_whitespace() {
-        let action = format!(in rt.alloc(); "{word} when contracted move expand head 0")?;
-        refuse_parts(
-            &rt,
-            rt.alloc(),
-            Parts {
-                action: action.as_str(),
-                ..EXPANDS
-            },
-        )?;
-    }
-    let actions = [
-        "out when contracted move expand head 6",
-        "out when expanded move expand head 0",
-        "a234567890123456789012345 when contracted move expand head 0",
-    ];
-    for action in actions {
-        refuse_parts(&rt, rt.alloc(), Parts { action, ..EXPANDS })?;
-    }
-    let shapes = [
-        "area 0 0 129 8\nbot 2 3 2 3 0 +",
-        "area 0 4097 8 8\nbot 2 3 2 3 0 +",
-        "area 0 0 8 8\nbot 2 3 2 3 6 +",
-        "area 0 0 8 8\nbot 10000 3 2 3 0 +",
-        "area 0 0 8 8\nbot 9 3 9 3 0 +",
-        "area 0 0 8 8\nbot 2 3 4 3 0 +",
-        "area 0 0 8 8\nbot 2 3 2 3 0 +\nbot 2 3 2 3 0 +",
-        "area 0 0 8 8\nbot 2 3 2 3 0 +\nbot 3 3 2 3 0 +",
-        "area 0 0 8 8\nbot 2 3 2 3 0 + 0",
-    ];
-    for shape in shapes {
-        refuse_parts(&rt, rt.alloc(), Parts { shape, ..EXPANDS })?;
-    }
-    let lists = [
-        "turns 65537\nlist 0",
-        "turns 0000000002\nlist 0",
-        "turns 2\nlist",
-        "turns 2\nlist 1",
-        "turns 2\nlist 0\nlist 0",
-    ];
-    for lists in lists {
-        refuse_parts(&rt, rt.alloc(), Parts { lists, ..EXPANDS })?;
-    }
-    for rest in ["\nmore\n", " $", ":"] {
-        refuse_parts(&rt, rt.alloc(), Parts { rest, ..EXPANDS })?;
-    }
-    refuse_parts(
-        &rt,
-        rt.alloc(),
-        Parts {
-            version: "2",
-            ..EXPANDS
-        },
-    )?;
-    check(&rt, rt.alloc(), b"", NOT_YET, "refused 0 NotYet\n")?;
-    let cut =
-        b"amoebot 1\nprogram\naction out when contracted move expand head 0\nend\nshape\narea 0 0 8 8\nbot 2 3";
-    check(&rt, rt.alloc(), cut, NOT_YET, "refused 0 NotYet\n")?;
-    Ok(())
-}
-
-fn refuse_parts<R: Abort + Threads + Wait + Sync>(
-    rt: &R,
-    alloc: Global,
-    parts: Parts<'_>,
-) -> Result<(), AllocError> {
-    let document = document(alloc, parts)?;
-    check(
-        rt,
-        alloc,
-        document.as_bytes(),
-        NOT_YET,
-        "refused 0 NotYet\n",
-    )?;
+    check_refused(&rt, rt.alloc(), &NEAR_ONES)?;
+    check_names(&rt, rt.alloc(), &RESERVED)?;
+    check(&rt, rt.alloc(), b"", NOT_YET, NOT_YET_LINE)?;
+    check(&rt, rt.alloc(), CUT.as_bytes(), NOT_YET, NOT_YET_LINE)?;
     Ok(())
 }
 
 #[test]
 fn looks_at_no_document_above_the_limit(rt: HostRuntime) -> Result<(), Fail> {
     let mut blanks = vec![in rt.alloc(); b' '; 1_048_576]?;
-    check(
-        &rt,
-        rt.alloc(),
-        blanks.as_slice(),
-        NOT_YET,
-        "refused 0 NotYet\n",
-    )?;
+    check(&rt, rt.alloc(), blanks.as_slice(), NOT_YET, NOT_YET_LINE)?;
     blanks.push(b' ')?;
     check(
         &rt,
@@ -417,21 +536,8 @@ fn judges_the_words_before_it_reads(rt: HostRuntime) -> Result<(), Fail> {
     let usage = "usage: run / interleave / replay / check / measure / show NAME / sample NUMBER\n";
     let wrong: [&[&str]; 4] = [&["run", "now"], &[], &["sample", "-1"], &["Run"]];
     for texts in wrong {
-        let words = words(rt.alloc(), texts)?;
         let mut input = FailingSource { good: 0, faults: 0 };
-        let mut out = SureSink::new(rt.alloc(), 100).ok().ok_or("no memory")?;
-        let ended = run(
-            &rt,
-            rt.alloc(),
-            words.as_slice(),
-            &mut input,
-            &mut out,
-            &NoGate,
-        );
-        assert_eq!(rt; ended.status, Status::Words);
-        assert!(rt; ended.report.is_none());
-        assert_eq!(rt; out.bytes(), usage.as_bytes());
-        assert!(rt; out.whole());
+        check_line(&rt, rt.alloc(), texts, &mut input, Status::Words, usage)?;
         assert_eq!(rt; input.faults, 0);
     }
     Ok(())
@@ -439,47 +545,30 @@ fn judges_the_words_before_it_reads(rt: HostRuntime) -> Result<(), Fail> {
 
 #[test]
 fn answers_a_read_that_fails(rt: HostRuntime) -> Result<(), Fail> {
-    let words = words(rt.alloc(), &["run"])?;
     for good in [0, 3] {
         let mut input = FailingSource { good, faults: 0 };
-        let mut out = SureSink::new(rt.alloc(), 100).ok().ok_or("no memory")?;
-        let ended = run(
+        check_line(
             &rt,
             rt.alloc(),
-            words.as_slice(),
+            &["run"],
             &mut input,
-            &mut out,
-            &NoGate,
-        );
-        assert_eq!(rt; ended.status, Status::ReadFault);
-        assert!(rt; ended.report.is_none());
-        assert_eq!(rt; out.bytes(), b"read fault\n".as_slice());
-        assert!(rt; out.whole());
+            Status::ReadFault,
+            "read fault\n",
+        )?;
     }
     Ok(())
 }
 
 #[test]
 fn reads_nothing_behind_the_end(rt: HostRuntime) -> Result<(), Fail> {
-    let document = document(rt.alloc(), EXPANDS)?;
-    let words = words(rt.alloc(), &["run"])?;
-    let source = SureSource::new(rt.alloc(), document.as_bytes())
-        .ok()
-        .ok_or("no memory")?;
+    let source = SureSource::new(rt.alloc(), ON_ONE_LINE.as_bytes())?;
     let mut input = EndingSource {
         source,
         ended: false,
         faults: 0,
     };
-    let mut out = SureSink::new(rt.alloc(), 4096).ok().ok_or("no memory")?;
-    let ended = run(
-        &rt,
-        rt.alloc(),
-        words.as_slice(),
-        &mut input,
-        &mut out,
-        &NoGate,
-    );
+    let mut out = SureSink::new(rt.alloc(), 4096)?;
+    let ended = call(&rt, rt.alloc(), &["run"], &mut input, &mut out)?;
     assert_eq!(rt; ended.status, Status::Done);
     assert!(rt; input.ended);
     assert_eq!(rt; input.faults, 0);
@@ -488,30 +577,19 @@ fn reads_nothing_behind_the_end(rt: HostRuntime) -> Result<(), Fail> {
 
 #[test]
 fn answers_a_write_that_fails(rt: HostRuntime) -> Result<(), Fail> {
-    let document = document(rt.alloc(), EXPANDS)?;
     let writes: [(&[&str], u32, &str); 3] = [
         (&["run"], 1, "journal\nen"),
         (&["run"], 0, ""),
         (&["walk"], 2, "usage: run / interle"),
     ];
     for (texts, good, taken) in writes {
-        let words = words(rt.alloc(), texts)?;
-        let mut input = SureSource::new(rt.alloc(), document.as_bytes())
-            .ok()
-            .ok_or("no memory")?;
+        let mut input = SureSource::new(rt.alloc(), ON_ONE_LINE.as_bytes())?;
         let mut out = FailingSink {
             good,
             taken: ArrayVec::new(),
             faults: 0,
         };
-        let ended = run(
-            &rt,
-            rt.alloc(),
-            words.as_slice(),
-            &mut input,
-            &mut out,
-            &NoGate,
-        );
+        let ended = call(&rt, rt.alloc(), texts, &mut input, &mut out)?;
         assert_eq!(rt; ended.status, Status::WriteFault);
         assert!(rt; ended.report.is_none());
         assert_eq!(rt; out.taken.as_slice(), taken.as_bytes());

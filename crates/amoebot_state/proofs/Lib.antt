@@ -16,6 +16,7 @@ pub mod Options
 pub mod Owns
 pub mod Patched
 pub mod Rising
+pub mod Runs
 mod Counterexamples
 pub mod Samples
 pub mod StepSamples

@@ -36,13 +36,13 @@ eight_is_area = record {
   h_high = omega arith;
 }
 
-plain : (b : Bot) → IsTrue (is_in eight b.head) → IsTrue (is_in eight b.tail) → b.rot < 6 → length b.mem ≡ 8 → IsPlain b
+pub plain : (b : Bot) → IsTrue (is_in eight b.head) → IsTrue (is_in eight b.tail) → b.rot < 6 → length b.mem ≡ 8 → IsPlain b
 plain b head tail rot long = record { head = near_in eight b.head eight_is_area head; tail = near_in eight b.tail eight_is_area tail; rot = rot; eight = long }
 
 valid_one : (b : Bot) → IsPlain b → bot_fault (world []) b ≡ None → IsValid (world (b ∷ []))
 valid_one b fits fine = valid_with (world []) b (none_valid eight (first 1) eight_is_area refl []) (no_fault (world []) b fits fine)
 
-valid_two : (a b : Bot) → IsPlain a → IsPlain b → bot_fault (world []) a ≡ None → bot_fault (world (a ∷ [])) b ≡ None → IsValid (world (a ∷ b ∷ []))
+pub valid_two : (a b : Bot) → IsPlain a → IsPlain b → bot_fault (world []) a ≡ None → bot_fault (world (a ∷ [])) b ≡ None → IsValid (world (a ∷ b ∷ []))
 valid_two a b one two fine apart = valid_with (world (a ∷ [])) b (valid_one a one fine) (no_fault (world (a ∷ [])) b two apart)
 
 -- the difference of two leads from the one to the other

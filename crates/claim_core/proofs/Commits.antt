@@ -25,7 +25,8 @@ use Rattle.claim_core.specs.Good.{IsWorldAt, IsListed, Order, mark_of, place_of,
 use Rattle.claim_core.specs.Cells.{values_of, patched}
 use Rattle.claim_core.specs.Machine.{Setup, State, bot, renewed, frees, entry, takes, commits}
 use Rattle.claim_core.specs.Soundness.{IsSetup, names, IsCommitting, marked, IsTurn, marks_so_far, IsDecided, HasFront, IsHeld, CallerOk, Sound}
-use Rattle.claim_core.proofs.Stays.{slice_get-push_last, slice_get-pushed, run_push, world_last}
+use Rattle.amoebot_state.proofs.Runs.{run_push}
+use Rattle.claim_core.proofs.Stays.{slice_get-push_last, slice_get-pushed, world_last}
 use Rattle.claim_core.proofs.Places.{one_at}
 use Rattle.claim_core.proofs.Numbers.{value_patched, values-patched, length-patched}
 use Rattle.claim_core.proofs.Nexts.{frees-marks, frees-held}

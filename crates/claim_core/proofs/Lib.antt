@@ -17,6 +17,7 @@ pub mod Opening
 pub mod Places
 pub mod Ranks
 pub mod Reporting
+pub mod Samples
 pub mod Seats
 pub mod Sounds
 pub mod Stays

@@ -14,7 +14,7 @@ use Rattle.amoebot_state.specs.Steps.{Step, Run}
 use Rattle.amoebot_state.proofs.Patched.{run_has_one_last}
 use Rattle.serial_model.specs.declared.Turned.{Turned}
 use Rattle.serial_model.specs.declared.Turned.TheVariants as turned
-use Rattle.serial_model.specs.Turns.{Turns}
+use Rattle.serial_model.specs.SerialTurns.{SerialTurn}
 use Rattle.claim_core.specs.declared.marks.Mark.{Mark}
 use Rattle.claim_core.specs.declared.marks.Mark.TheVariants as mark
 use Rattle.claim_core.specs.declared.report.Report.{Report}
@@ -155,7 +155,7 @@ module _ (f : Shown → Verdict) (w0 : Config) (lists : CallerLists) (report : R
         ]
 
     -- a turn that commits nothing was made at the same place
-    stays : (t : ℕ) (so : SoFar t) (m : Mark) (done_by : Turned) (v : Verdict) → slice_get own t ≡ Some m → m ≡ mark_at (place_of m) done_by → entries_by done_by ≡ [] → ((w : Config) → f (shown w (bot_of lists 0 t)) ≡ v → Turns f 0 t (bot_of lists 0 t) w done_by w) → HasVerdict f w0 journal (place_of m) (bot_of lists 0 t) v → place_after m ≡ place_of m → ((place : ℕ) → m ≡ mark.Done place → ⊥) → SoFar (suc t)
+    stays : (t : ℕ) (so : SoFar t) (m : Mark) (done_by : Turned) (v : Verdict) → slice_get own t ≡ Some m → m ≡ mark_at (place_of m) done_by → entries_by done_by ≡ [] → ((w : Config) → f (shown w (bot_of lists 0 t)) ≡ v → SerialTurn f 0 t (bot_of lists 0 t) w done_by w) → HasVerdict f w0 journal (place_of m) (bot_of lists 0 t) v → place_after m ≡ place_of m → ((place : ℕ) → m ≡ mark.Done place → ⊥) → SoFar (suc t)
     stays t so m done_by v marked is_mark nothing makes has after not_done =
         let old : so.world ≡ has.0 = world_is so.place so.world has.0 so.run (subst (λ p. Run f w0 (take p journal) has.0) here has.1.reached) in
         let full : length (take so.place journal) ≡ so.place = length-take-le so.place journal so.within in

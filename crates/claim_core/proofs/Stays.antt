@@ -8,7 +8,7 @@ use Rattle.amoebot_state.specs.declared.verdict.Entry.{Entry}
 use Rattle.amoebot_state.specs.declared.verdict.Verdict.{Verdict}
 use Rattle.amoebot_state.specs.Configs.{Config}
 use Rattle.amoebot_state.specs.Zones.{Shown}
-use Rattle.amoebot_state.specs.Steps.{Step, Run}
+use Rattle.amoebot_state.specs.Steps.{Run}
 use Rattle.claim_core.specs.declared.marks.Mark.{Mark}
 use Rattle.claim_core.specs.declared.marks.Mark.TheVariants as mark
 use Rattle.claim_core.specs.Turns.{CallerLists, MarkLists}
@@ -31,11 +31,6 @@ slice_get-pushed [] x y zero e = inr (refl, cc)
 slice_get-pushed [] x y (suc k) e = absurd (cc)
 slice_get-pushed (z ∷ xs) x y zero e = inl e
 slice_get-pushed (z ∷ xs) x y (suc k) e = elim (slice_get-pushed xs x y k e) [ inl was ↦ inl was | inr new ↦ inr (ap suc new.0, new.1) ]
-
--- one more step
-pub run_push : (f : Shown → Verdict) (old mid new : Config) (es : List Entry) (e : Entry) → Run f old es mid → Step f mid e new → Run f old (es ++ e ∷ []) new
-run_push f old mid new [] e run step = (new, subst (λ c. Step f c e new) run step, refl)
-run_push f old mid new (x ∷ es) e run step = (run.0, run.1, run_push f run.0 mid new es e run.2 step)
 
 -- the last world
 pub world_last : (f : Shown → Verdict) (first world : Config) (es : List Entry) → Run f first es world → IsWorldAt f first es (length es) world

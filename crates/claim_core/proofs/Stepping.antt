@@ -38,7 +38,7 @@ use Rattle.claim_core.specs.Soundness.{IsSetup, IsTurn, IsRefused, marked, IsDec
 use Rattle.claim_core.specs.Cores.{Running, setup_of, stepped, phase_after, IsCell, HasPhase, IsUnmarked, looks_at, caller_of, callers_of, Frees, unmarked, state_of, IsCore}
 use Rattle.claim_core.proofs.Sounds.{one_step, always}
 use Rattle.claim_core.proofs.Fronts.{Valued, All-reverse, reverse-more}
-use Rattle.claim_core.proofs.Stays.{run_push}
+use Rattle.amoebot_state.proofs.Runs.{run_push}
 use Rattle.claim_core.proofs.Frames.{run_framed, own_stays}
 use Rattle.claim_core.proofs.Holding.{is_known}
 use Rattle.claim_core.proofs.Numbers.{value_at, value_held, value_patched, values-patched}

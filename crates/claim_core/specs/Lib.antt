@@ -6,6 +6,7 @@ pub mod Machine
 pub mod Reached
 pub mod Rooms
 pub mod Rounds
+pub mod Samples
 pub mod SerialRuns
 pub mod Soundness
 pub mod Tags

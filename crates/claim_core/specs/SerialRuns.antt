@@ -6,7 +6,7 @@ use Rattle.amoebot_state.specs.Configs.{Config}
 use Rattle.amoebot_state.specs.Zones.{Shown}
 use Rattle.serial_model.specs.declared.Turned.{Turned}
 use Rattle.serial_model.specs.declared.Turned.TheVariants as turned
-use Rattle.serial_model.specs.Turns.{Turns}
+use Rattle.serial_model.specs.SerialTurns.{SerialTurn}
 use Rattle.claim_core.specs.declared.marks.Mark.{Mark}
 use Rattle.claim_core.specs.declared.marks.Mark.TheVariants as mark
 use Rattle.claim_core.specs.declared.report.Report.{Report}
@@ -34,7 +34,7 @@ entries_by (turned.Failed why) = []
 -- the only caller's turn: it is the verdict on the world reached, a step of the model or none, and its mark and entry stand last
 pub record MakesTurn (f : Shown → Verdict) (lists : CallerLists) (turn : ℕ) (old new : Left) : Type 0 where
   pub turned : Turned
-  pub made : Turns f 0 turn (bot_of lists 0 turn) old.world turned new.world
+  pub made : SerialTurn f 0 turn (bot_of lists 0 turn) old.world turned new.world
   pub marks : new.marks ≡ old.marks ++ mark_at (length old.entries) turned ∷ []
   pub entries : new.entries ≡ old.entries ++ entries_by turned
 

@@ -146,7 +146,8 @@ impl<'d, D: Decider> Core<'d, D> {
         })
     }
 
-    /// What a core keeps: what it is about may be run, some steps led to its state, which so is sound, and each list has its caller.
+    /// What a core keeps: what it is about may be run; some steps led from the opening to its state, so that it is sound; and each
+    /// list has its caller.
     pub fn keeps(&self)
         ensures setup { IsSetup (setup_of D.verdict self.now) }
         ensures reached { IsReachedState (setup_of D.verdict self.now) self.now.state }
@@ -452,3 +453,6 @@ fn phase_of(verdict: Verdict) -> Phase
         Verdict::Change(change) => Phase::Taking(change),
     }
 }
+
+#[cfg(test)]
+mod tests;

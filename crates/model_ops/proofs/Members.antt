@@ -188,6 +188,10 @@ has_bot part a maxes ms i = ap is_some (bot_by part a maxes ms i) ∙ found_any 
       | inr f ↦ rw f (found_any part ms)
     ]
 
+-- so an id that is there in the copy has a member
+pub member_there : (a : Extent) (maxes : List ℕ) (own : ℕ) (ms : List Member) (w : WorkingCopy) (i : ℕ) → copy_of a maxes own ms ≡ w → is_some (bot_at w.reached i) ≡ true → has_id ms i ≡ true
+member_there a maxes own ms w i is there = sym (has_bot (λ (m : Member). m.now) a maxes ms i) ∙ ap (λ (x : WorkingCopy). is_some (bot_at x.reached i)) is ∙ there
+
 -- what stands below all members stands below them when one of them has another amoebot
 below_with_now : (ms : List Member) (i k : ℕ) (d : Member) (b : Bot) → IsBelow i ms → IsBelow i (set ms k (with_now (get_or ms k d) b))
 below_with_now [] i k d b below = below

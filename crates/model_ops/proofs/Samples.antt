@@ -13,7 +13,6 @@ use Rattle.amoebot_state.specs.declared.cell.Cell.TheVariants as cell
 use Rattle.amoebot_state.specs.declared.verdict.Failure.TheVariants.{NoPort, NoNeighbour, OutOfRange, Occupied, NotContracted, NotExpanded, PeerNotExpanded, PeerNotContracted, Edge, WouldSplit}
 use Rattle.amoebot_state.specs.declared.verdict.Moved.TheVariants as moved
 use Rattle.amoebot_state.specs.Ports.{port}
-use Rattle.amoebot_state.specs.declared.bot.Port.{Port}
 use Rattle.amoebot_state.specs.Configs.{Config, config_of}
 use Rattle.amoebot_state.specs.Zones.{shown, shown_alone}
 use Rattle.model_ops.specs.WorkingCopies.{changes}

@@ -166,6 +166,7 @@ impl Site {
 
     /// The amoebot leaves the node that a port is on, and the head of the neighbour behind the port enters it. NotExpanded;
     /// NoPort; NoNeighbour; PeerNotContracted, the neighbour is expanded.
+    #[tactic(auto, using(crate::proofs::Answered::neighbour_next))]
     pub fn pull(&mut self, port: Port) -> Result<(), Failure>
         ensures value { result ≡ done (pull self.old.reached (own_id self.old) port) }
         ensures after { self.new ≡ after self.old (pull self.old.reached (own_id self.old) port) }

@@ -350,9 +350,24 @@ fn a_contracted_amoebot_fails_by_the_first_condition(rt: HostRuntime) -> Result<
     }
     assert_eq!(rt; site.contract(End::Head, true), Err(Failure::NotExpanded));
     assert_eq!(rt; site.write(None, 0, 4), Err(Failure::OutOfRange));
-    assert_eq!(rt; site.connected(head(0)), Ok(false));
-    assert_eq!(rt; site.is_free(head(0)), Ok(false));
-    assert_eq!(rt; site.is_free(head(2)), Ok(true));
+    Ok(())
+}
+
+#[test]
+fn outside_the_area_nothing_is_there_and_nothing_is_free(rt: HostRuntime) -> Result<(), Fail> {
+    let shown = found(rt.alloc(), &[bot((7, 7), (7, 7))])?;
+    let site = Site::new(&shown);
+    for (dir, is_free) in [
+        (0, false),
+        (1, false),
+        (2, false),
+        (3, true),
+        (4, true),
+        (5, false),
+    ] {
+        assert_eq!(rt; site.connected(head(dir)), Ok(false));
+        assert_eq!(rt; site.is_free(head(dir)), Ok(is_free));
+    }
     Ok(())
 }
 

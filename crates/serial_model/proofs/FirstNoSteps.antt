@@ -1,5 +1,5 @@
 -- Where entries stop to be a run.
-use Rattle.std.proofs.Common.{◌≡◌, ℕ, zero, suc, List, [], ◌∷◌, ◌++◌, take, ◌⊎◌, inl, inr, ap, sym, ◌∙◌, refl, subst, Option, Some, None}
+use Rattle.std.proofs.Common.{◌≡◌, ℕ, zero, suc, List, [], ◌∷◌, take, ◌⊎◌, inl, inr, ap, sym, ◌∙◌, refl, subst, Option, Some, None}
 use Rattle.std.specs.Prelude.{IsSome}
 use Rattle.std.proofs.lemmas.Bool.{false≢true}
 use Rattle.std.proofs.lemmas.Option.{none-some, same_Some}
@@ -15,11 +15,6 @@ use Rattle.amoebot_state.proofs.Patched.{step_has_one_result}
 use Rattle.serial_model.specs.Replays.{IsNoStep, IsFirstNoStep}
 use Rattle.serial_model.specs.Laws.{FirstNoStepIsUnique, RunHasOnlySteps, RunOrFirstNoStep}
 use Rattle.serial_model.proofs.SameChanges.{same_or_not}
-
--- one more step
-pub run_push : (f : Shown → Verdict) (old mid new : Config) (es : List Entry) (e : Entry) → Run f old es mid → Step f mid e new → Run f old (es ++ e ∷ []) new
-run_push f old mid new [] e run step = (new, subst (λ c. Step f c e new) run step, refl)
-run_push f old mid new (x ∷ es) e run step = (run.0, run.1, run_push f run.0 mid new es e run.2 step)
 
 -- behind a step, a first place that is no step is one place on
 later : (f : Shown → Verdict) (start next : Config) (e : Entry) (es : List Entry) (place : ℕ) → Step f start e next → IsFirstNoStep f next es place → IsFirstNoStep f start (e ∷ es) (suc place)

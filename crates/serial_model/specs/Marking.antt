@@ -1,4 +1,6 @@
--- A decider for tests: it sets variable 0 from 0 to 1, and is idle elsewhere.
+-- Support of tests, and no part of the model: a decider that sets variable 0 from 0 to 1 and is idle elsewhere, with the proofs that it
+-- keeps the laws of deciders. A decider gives its laws as ghost items, which may cite no term of the crate's own proofs/, so they stand
+-- here; the tests of the crates above decide by it too.
 use Rattle.std.proofs.Common.{◌≡◌, ◌≢◌, ◌<◌, ◌&&◌, ℕ, zero, suc, List, [], ◌∷◌, length, Bool, true, false, nat_eq, ap, sym, ◌∙◌, refl, subst, inl, inr, arith, Option, Some, None}
 use Rattle.std.specs.Prelude.{is_some, nat_le, slice_index, slice_set, if◌then◌else◌}
 use Rattle.std.specs.List.{All, Contains}

@@ -2,7 +2,7 @@
 #![tactic(auto)]
 
 ghost use Rattle.std.specs.Prelude.{◌≡◌, ◌<◌, length};
-ghost use Rattle.serial_model.specs.Turns.{Turns};
+ghost use Rattle.serial_model.specs.SerialTurns.{SerialTurn};
 
 mod laws;
 mod replays;
@@ -45,7 +45,7 @@ impl Serial {
     /// is made. Where it is none, the world stays.
     pub fn activate<D: Decider>(&mut self, decider: &D, caller: u8, turn: u32, bot: u16) -> Turned
         requires { bot < length self.old.bots }
-        ensures turns { Turns (D.verdict decider.now) caller turn bot self.old result self.new }
+        ensures turns { SerialTurn (D.verdict decider.now) caller turn bot self.old result self.new }
         ensures size { length self.new.bots ≡ length self.old.bots }
     {
         let found = self.world.found(bot);

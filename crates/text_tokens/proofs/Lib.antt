@@ -1,4 +1,5 @@
 pub mod LineLemmas
+pub mod PrintedTokens
 pub mod Scanning
 pub mod Standing
 pub mod Blanks
@@ -24,5 +25,6 @@ pub mod Agreeing
 pub mod PutLaws
 pub mod Stepping
 pub mod Looping
+pub mod Rows
 pub mod NestedSteps
 pub mod Settling

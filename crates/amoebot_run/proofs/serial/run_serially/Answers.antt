@@ -1,7 +1,7 @@
 use Rattle.std.proofs.Common.{◌≡◌, ◌+◌, length, ap, sym, subst, ◌∙◌, arith, length-append, [], ◌∷◌, ◌++◌}
 use Rattle.std.proofs.lemmas.List.{length-replicate, append-nil}
 use Rattle.std.proofs.Math.ListN.{length-set}
-use Rattle.serial_model.specs.Turns.{Turns}
+use Rattle.serial_model.specs.SerialTurns.{SerialTurn}
 use Rattle.claim_core.specs.declared.marks.Mark.TheVariants as mark
 use Rattle.claim_core.specs.Turns.{HaveBots, marks_of}
 use Rattle.claim_core.specs.SerialRuns.{mark_at, entries_by, all_turns}
@@ -28,7 +28,7 @@ pub loop-turn-preserved : goal.loop-turn-preserved
 loop-turn-preserved g c = record {
   run = one_more _ _ _ _ (so_far c.loop-turn.serial c.loop-turn.journal c.loop-turn.marks) _ c.loop-turn.invariant.run (record {
     turned = c.activate.result;
-    made = subst (λ b. Turns (g.D.Decider.verdict c.args.decider.now) 0 c.loop-turn.turn b c.loop-turn.serial c.activate.result c.activate.new.self) c.bot-bot.ensures c.activate.ensures.turns;
+    made = subst (λ b. SerialTurn (g.D.Decider.verdict c.args.decider.now) 0 c.loop-turn.turn b c.loop-turn.serial c.activate.result c.activate.new.self) c.bot-bot.ensures c.activate.ensures.turns;
     marks = ap (λ m. marks_of m 0) c.add.ensures ∙ marks_of-add c.loop-turn.marks 0 c.match-activate.mark (omega (arith, c.loop-turn.invariant.caller)) ∙ ap (λ m. marks_of c.loop-turn.marks 0 ++ m ∷ []) (elim c.match-activate.branch [
       | in-Done w ↦ w.mark-is ∙ ap (λ es. mark.Done (length es)) c.entries.ensures ∙ ap (mark_at (length c.loop-turn.journal.entries)) (sym w.in-Done.is)
       | in-Idle w ↦ w.mark-is ∙ ap (λ es. mark.Idle (length es)) c.entries.ensures ∙ ap (mark_at (length c.loop-turn.journal.entries)) (sym w.in-Idle.is)

@@ -9,7 +9,7 @@ use Rattle.amoebot_state.specs.Laws.{StepHasOneResult}
 use Rattle.amoebot_state.specs.Steps.{Step, change_of}
 use Rattle.serial_model.specs.declared.Turned.{Turned}
 use Rattle.serial_model.specs.declared.Turned.TheVariants as turned
-use Rattle.serial_model.specs.Turns.{Turns, IsOfTurn}
+use Rattle.serial_model.specs.SerialTurns.{SerialTurn, IsOfTurn}
 use Rattle.claim_core.specs.declared.marks.Mark.{Mark}
 use Rattle.claim_core.specs.Turns.{CallerLists, bot_of}
 use Rattle.claim_core.specs.SerialRuns.{Left, SerialRun, MakesTurn, mark_at, entries_by, all_turns, left_by}
@@ -33,7 +33,7 @@ same_entry turn bot e x one two same =
     by_parts c d t u b o one two callers turns bots changes = cc
 
 -- the turn on a world is determined
-turn_alike : StepHasOneResult → (f : Shown → Verdict) (turn bot : ℕ) (old : Config) (t u : Turned) (one two : Config) → Turns f 0 turn bot old t one → Turns f 0 turn bot old u two → (t ≡ u) × (one ≡ two)
+turn_alike : StepHasOneResult → (f : Shown → Verdict) (turn bot : ℕ) (old : Config) (t u : Turned) (one two : Config) → SerialTurn f 0 turn bot old t one → SerialTurn f 0 turn bot old u two → (t ≡ u) × (one ≡ two)
 turn_alike law f turn bot old (turned.Done e) (turned.Done x) one two first second =
     let same = same_entry turn bot e x first.1 second.1 (sym (decided_on f turn bot old one e first.0 first.1) ∙ decided_on f turn bot old two x second.0 second.1) in
     (ap turned.Done same, law f old e one two first.0 (subst (λ y. Step f old y two) (sym same) second.0))

@@ -1,7 +1,7 @@
 use Rattle.std.proofs.Common.{◌<◌, ◌++◌, [], ◌∷◌, length, take, arith, ap, sym, ◌∙◌, subst}
 use Rattle.std.proofs.lemmas.List.{take_more}
 use Rattle.amoebot_state.specs.Steps.{Run}
-use Rattle.serial_model.proofs.FirstNoSteps.{run_push}
+use Rattle.amoebot_state.proofs.Runs.{run_push}
 use Rattle.serial_model.proofs.replays.replay.Goals as goal
 
 pub loop-place-preserved : goal.loop-place-preserved

@@ -1,20 +1,16 @@
 use Rattle.std.proofs.Common.{◌∙◌, ap, sym, subst, List, nat_eq}
-use Rattle.std.specs.Prelude.{is_some}
 use Rattle.std.specs.List.{position}
-use Rattle.amoebot_state.specs.Configs.{bot_at, set_bot}
+use Rattle.amoebot_state.specs.Configs.{set_bot}
 use Rattle.model_ops.specs.declared.member.Member.{Member}
 use Rattle.model_ops.specs.WorkingCopies.{WorkingCopy}
 use Rattle.model_ops.specs.Members.{IsSite, copy_of, has_id}
-use Rattle.model_ops.proofs.Members.{has_bot, site_with_now, copy_with_now, written_items}
+use Rattle.model_ops.proofs.Members.{member_there, site_with_now, copy_with_now, written_items}
 use Rattle.model_ops.proofs.site.Site.put.Goals as goal
 
 pub place_of-place-requires : goal.place_of-place-requires
 place_of-place-requires c =
     let s = c.self.inside in
-    ap (λ (ms : List Member). has_id ms c.args.id) c.as_slice.ensures.value
-    ∙ sym (has_bot (λ (m : Member). m.now) s.area s.maxes s.members.items c.args.id)
-    ∙ ap (λ (w : WorkingCopy). is_some (bot_at w.reached c.args.id)) c.self.view_is
-    ∙ c.requires.there
+    ap (λ (ms : List Member). has_id ms c.args.id) c.as_slice.ensures.value ∙ member_there s.area s.maxes s.own s.members.items _ c.args.id c.self.view_is c.requires.there
 
 pub invariant_of-self : goal.invariant_of-self
 invariant_of-self c =

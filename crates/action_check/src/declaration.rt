@@ -1,0 +1,62 @@
+//! The rules on the declarations of a program.
+
+ghost use Rattle.std.specs.Prelude.{◌≡◌, [], ◌∷◌, ◌++◌, true, map, OnOk, IfOk, IfErr, Ok};
+ghost use Rattle.std.specs.List.{list_all};
+ghost use Rattle.action_tree.specs.Views.{name_of, var_of, action_of};
+ghost use Rattle.action_tree.specs.Writable.{is_action};
+ghost use Rattle.action_check.specs.Faults as spec;
+ghost use Rattle.action_check.specs.Told.{first_of, texts, TellsFirst};
+
+use crate::scope::{Scope, Text, refused, within};
+use crate::statement::check_action;
+use action_tree::{Action, Var, Word};
+use indexmap::IndexSet;
+use std::alloc::Global;
+use text_tokens::{ReadRefusal, RefusalKind};
+
+/// The greatest maximum that a variable may have.
+const MOST_VALUE: u32 = 255;
+
+/// Declares a name behind these.
+fn declare(names: &mut IndexSet<Text>, name: &Word) -> Result<(), ReadRefusal>
+    ensures fine { OnOk result (first_of (spec.declared_faults (texts names.old.keys) (name_of name.now)) ≡ Ok tt) }
+    ensures names { OnOk result (texts names.new.keys ≡ texts names.old.keys ++ name.now.text.bytes ∷ []) }
+    ensures wrong { IfErr result (TellsFirst (spec.declared_faults (texts names.old.keys) (name_of name.now))) }
+{
+    if !names.insert(name.text)? {
+        refused(name, RefusalKind::TwiceNamed)?;
+    }
+    Ok(())
+}
+
+/// The variables, whose names are given back in the order of their declaration.
+pub fn check_vars(alloc: Global, vars: &[Var]) -> Result<IndexSet<Text>, ReadRefusal>
+    ensures fine { OnOk result (first_of (spec.vars_faults [] (map var_of vars.now)) ≡ Ok tt) }
+    ensures names { IfOk result (λ names. texts names.keys ≡ spec.names_of_vars (map var_of vars.now)) }
+    ensures wrong { IfErr result (TellsFirst (spec.vars_faults [] (map var_of vars.now))) }
+{
+    let mut names = IndexSet::new(alloc);
+    for var in vars {
+        declare(&mut names, &var.name)?;
+        within(MOST_VALUE, &var.max)?;
+    }
+    Ok(names)
+}
+
+/// The actions of a program with these variables.
+pub fn check_actions(
+    alloc: Global,
+    actions: &[Action],
+    vars: &IndexSet<Text>,
+) -> Result<(), ReadRefusal>
+    requires { list_all is_action (map action_of actions.now) ≡ true }
+    ensures fine { OnOk result (first_of (spec.actions_faults (record { vars = texts vars.now.keys; bound = [] }) [] (map action_of actions.now)) ≡ Ok tt) }
+    ensures wrong { IfErr result (TellsFirst (spec.actions_faults (record { vars = texts vars.now.keys; bound = [] }) [] (map action_of actions.now))) }
+{
+    let mut names = IndexSet::new(alloc);
+    for action in actions {
+        declare(&mut names, &action.name)?;
+        check_action(action, Scope::new(vars))?;
+    }
+    Ok(())
+}

@@ -1,0 +1,9 @@
+pub mod PinLemmas
+pub mod RowLemmas
+pub mod ViewLemmas
+pub mod PrintedTokens
+pub mod Reading
+pub mod Leaves
+pub mod ExpressionsRead
+pub mod StatementsRead
+pub mod ProgramsRead

@@ -1,0 +1,4 @@
+pub mod Canon
+pub mod Pins
+pub mod Rows
+pub mod ReadsBack

@@ -1,0 +1,22 @@
+-- The canonical text of a program is a text of the grammar.
+use Rattle.std.specs.Prelude.{◌≡◌, true, List, []}
+use Rattle.text_tokens.specs.declared.refusal.Refusal.{Refusal}
+use Rattle.text_tokens.specs.declared.refusal.RefusalKind.TheVariants.{Truncated}
+use Rattle.text_tokens.specs.Text.{Lexeme, AreTokens}
+use Rattle.text_tokens.specs.Lawful.{IsText}
+use Rattle.action_tree.specs.Trees.{Program}
+use Rattle.action_tree.specs.Writable.{is_writable}
+use Rattle.action_tree.specs.Lines.{without_lines}
+use Rattle.action_grammar.specs.Programs.{IsProgram}
+use Rattle.action_print.specs.Canon.{canon}
+
+-- The tokens are a text of the grammar within its limits, which stands for the same program, lines aside, and nothing stands behind it.
+pub record AreReadAs (p : Program) (ts : List Lexeme) (last : Refusal) : Type 0 where
+  pub program : Program
+  pub text : IsText IsProgram ts program []
+  pub same : without_lines program ≡ without_lines p
+  pub ends : last.kind ≡ Truncated
+
+-- so are the tokens of the canonical text of each program
+abbrev pub CanonReadsBack : Type 0
+CanonReadsBack = (p : Program) → is_writable p ≡ true → (ts : List Lexeme) (last : Refusal) → AreTokens (canon p) 0 ts last → AreReadAs p ts last

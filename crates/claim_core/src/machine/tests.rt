@@ -1,0 +1,6 @@
+mod checker;
+mod fixtures;
+mod rows;
+mod schedules;
+mod tables;
+mod tampered;

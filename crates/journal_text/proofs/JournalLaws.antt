@@ -1,0 +1,263 @@
+-- The reader of a journal is a part for its grammar.
+use Rattle.std.proofs.Common.{◌≡◌, ℕ, Bool, true, false, List, [], ◌∷◌, Option, Some, None, refl, ap, ◌∙◌}
+use Rattle.std.specs.Prelude.{codes, not, ◌||◌}
+use Rattle.std.proofs.lemmas.Bool.{not-true}
+use Rattle.text_tokens.specs.declared.token.TokenKind.TheVariants.{Word}
+use Rattle.text_tokens.specs.Text.{Lexeme}
+use Rattle.text_tokens.specs.Reading.{Reader, ◌>>=◌, pure, is_number, no_limit, limited, less}
+use Rattle.text_tokens.specs.Grammar.{Symbol, symbol, Lang, IsOne, Then, Made, Judged, Either, of_first, of_second, Limited, Repeated, AtMost}
+use Rattle.text_tokens.specs.Lawful.{Exact, IsPart, always, Starts, StartsIn, HasTokens, BeginsWith, SomeFrom, AreElements}
+use Rattle.text_tokens.proofs.Exactness.{exact}
+use Rattle.text_tokens.proofs.Carrying.{part_made}
+use Rattle.text_tokens.proofs.Parts.{some_text, part_less, part_one, part_behind, part_judged}
+use Rattle.text_tokens.proofs.Beginnings.{starts_in, starts_some, starts_one, starts_made, starts_then, starts_judged, starts_in_more, starts_in_either}
+use Rattle.text_tokens.proofs.Repeating.{at_most_elements, part_repeated}
+use Rattle.text_tokens.proofs.Distinguishing.{sample, passes, other_text, starts_numeral}
+use Rattle.amoebot_state.specs.declared.bot.Port.{Port}
+use Rattle.amoebot_state.specs.declared.cell.CellName.{CellName}
+use Rattle.amoebot_state.specs.declared.cell.CellName.TheVariants as name
+use Rattle.amoebot_state.specs.declared.cell.Cell.{Cell}
+use Rattle.amoebot_state.specs.declared.cell.Cell.TheVariants as cell
+use Rattle.amoebot_state.specs.declared.verdict.Entry.{Entry}
+use Rattle.amoebot_state.specs.declared.verdict.Moved.{Moved}
+use Rattle.amoebot_state.specs.declared.verdict.Moved.TheVariants as moved
+use Rattle.journal_text.specs.Parts.{word, is_end, IsWord, Means, IsNumber, IsNode, IsEnd, IsPort, IsBot}
+use Rattle.journal_text.specs.Journals.{IsPortBehind, IsEndBehind, IsMovedBy, IsContracted, IsMoved, is_spot, is_body, is_cell, IsCell, IsOccupant, IsValueOf, a_pair_of, IsPair, is_entry, Numbers, numbers_of, AreNumbers, Written, written_of, past_entries, IsEntryWord, IsWritten, wrong, IsEntry, one_more, AreEntries, IsJournal}
+use Rattle.journal_text.specs.Readers.{a_word, a_number, port_behind, end_behind, moved_by, a_contraction, a_movement, a_cell, an_occupant, a_value, a_pair, pair_in, all_pairs, the_numbers, entry_word, written, an_entry, entries_from, journal, a_bot, a_node, an_end, a_port}
+use Rattle.journal_text.proofs.PartLaws.{behind, into, up_to_end, one_of_two, some_either, starts_word, part_word, part_number, starts_means, number_no_word, part_end, part_node, part_port, part_bot}
+
+-- ---- movements
+
+part_port_behind : (text : List ℕ) → IsPart (IsWord text) (a_word text) always → IsPart (IsPortBehind text) (port_behind text) always
+unfolding port_behind
+part_port_behind text w = behind w (λ line. part_port)
+
+part_end_behind : (text : List ℕ) → IsPart (IsWord text) (a_word text) always → IsPart (IsEndBehind text) (end_behind text) always
+unfolding end_behind
+part_end_behind text w = behind w (λ line. part_end)
+
+part_moved_by : (text : List ℕ) (make : Port → Moved) → IsPart (IsWord text) (a_word text) always → IsPart (IsMovedBy text make) (moved_by text make) always
+part_moved_by text make w = into make (part_port_behind text w)
+
+starts_moved_by : (text : List ℕ) (make : Port → Moved) → Starts (IsMovedBy text make) (word text) no_limit
+starts_moved_by text make = starts_made (IsPortBehind text) make (word text) no_limit (starts_word text (λ line. IsPort) (λ line. a_port) always (λ line. part_port))
+
+part_contraction : IsPart IsContracted a_contraction always
+part_contraction = into moved.Contract (part_end_behind (codes "contract") (part_word (codes "contract") refl))
+
+starts_contraction : Starts IsContracted (word (codes "contract")) no_limit
+starts_contraction = starts_made (IsEndBehind (codes "contract")) moved.Contract (word (codes "contract")) no_limit (starts_word (codes "contract") (λ line. IsEnd) (λ line. an_end) always (λ line. part_end))
+
+-- a token that passes neither test
+pub not_either : (a b c : Lexeme → Bool) (t : Lexeme) → (a t ≡ true → c t ≡ false) → (b t ≡ true → c t ≡ false) → (a t || b t) ≡ true → c t ≡ false
+not_either a b c t f g e = by (a t) refl e
+  where
+    by : (x : Bool) → a t ≡ x → (x || b t) ≡ true → c t ≡ false
+    by true h k = f h
+    by false h k = g k
+
+left_true : (a b : Bool) → a ≡ true → (a || b) ≡ true
+left_true a b e = rw e refl
+
+right_true : (a b : Bool) → b ≡ true → (a || b) ≡ true
+right_true true b e = refl
+right_true false b e = e
+
+-- what begins one or the other of two
+begins_either : {A : Type 0} (P Q : Lang A) (a b : Lexeme → Bool) → StartsIn P a → StartsIn Q b → StartsIn (Either P Q) (λ t. a t || b t)
+begins_either P Q a b s r = starts_in_either P Q (λ t. a t || b t) (starts_in_more P a (λ t. a t || b t) (λ t e. left_true (a t) (b t) e) s) (starts_in_more Q b (λ t. a t || b t) (λ t e. right_true (a t) (b t) e) r)
+
+-- a text begins with the first token of one or the other
+pub starts_either : {A : Type 0} (P Q : Lang A) (a b : Lexeme → Bool) → Starts P a no_limit → Starts Q b no_limit → Starts (Either P Q) (λ t. a t || b t) no_limit
+starts_either {A} P Q a b s r = record { begins = begins; each = λ t e. each t (a t) refl e }
+  where
+    begins : (xs : List Symbol) (x : A) → Either P Q xs x → BeginsWith (λ t. a t || b t) no_limit xs
+    begins xs x (of_first is) = let i = s.begins xs x is in record { t = i.t; more = i.more; parts = i.parts; passes = left_true (a i.t) (b i.t) i.passes }
+    begins xs x (of_second is) = let i = r.begins xs x is in record { t = i.t; more = i.more; parts = i.parts; passes = right_true (a i.t) (b i.t) i.passes }
+
+    each : (t : Lexeme) (x : Bool) → a t ≡ x → (x || b t) ≡ true → SomeFrom (Either P Q) (symbol t None)
+    each t true f e = let i = s.each t f in record { more = i.more; whole = i.whole; is = of_first i.is }
+    each t false f e = let i = r.each t e in record { more = i.more; whole = i.whole; is = of_second i.is }
+
+abbrev by_push : Lexeme → Bool
+by_push = word (codes "push")
+
+abbrev by_pull : Lexeme → Bool
+by_pull = word (codes "pull")
+
+abbrev by_contract : Lexeme → Bool
+by_contract = word (codes "contract")
+
+abbrev by_expand : Lexeme → Bool
+by_expand = word (codes "expand")
+
+abbrev Pushed : Lang Moved
+Pushed = IsMovedBy (codes "push") moved.Push
+
+abbrev Pulled : Lang Moved
+Pulled = IsMovedBy (codes "pull") moved.Pull
+
+abbrev Expanded : Lang Moved
+Expanded = IsMovedBy (codes "expand") moved.Expand
+
+abbrev Last2 : Lang Moved
+Last2 = Either Pushed Pulled
+
+abbrev Last3 : Lang Moved
+Last3 = Either IsContracted Last2
+
+abbrev Last4 : Lang Moved
+Last4 = Either Expanded Last3
+
+starts_last2 : Starts Last2 (λ t. by_push t || by_pull t) no_limit
+starts_last2 = starts_either Pushed Pulled by_push by_pull (starts_moved_by (codes "push") moved.Push) (starts_moved_by (codes "pull") moved.Pull)
+
+starts_last3 : Starts Last3 (λ t. by_contract t || (by_push t || by_pull t)) no_limit
+starts_last3 = starts_either IsContracted Last2 by_contract (λ t. by_push t || by_pull t) starts_contraction starts_last2
+
+starts_last4 : Starts Last4 (λ t. by_expand t || (by_contract t || (by_push t || by_pull t))) no_limit
+starts_last4 = starts_either Expanded Last3 by_expand (λ t. by_contract t || (by_push t || by_pull t)) (starts_moved_by (codes "expand") moved.Expand) starts_last3
+
+part_movement : IsPart IsMoved a_movement always
+unfolding a_movement
+part_movement = one_of_two (word (codes "none")) _ no_limit (starts_means (word (codes "none")) moved.None) (starts_in Last4 _ no_limit starts_last4) (starts_some Last4 _ no_limit starts_last4)
+    (λ t e. not_either by_expand (λ t. by_contract t || (by_push t || by_pull t)) (word (codes "none")) t (λ e. other_text Word (codes "expand") (codes "none") t refl e)
+    (λ e. not_either by_contract (λ t. by_push t || by_pull t) (word (codes "none")) t (λ e. other_text Word (codes "contract") (codes "none") t refl e)
+    (λ e. not_either by_push by_pull (word (codes "none")) t (λ e. other_text Word (codes "push") (codes "none") t refl e) (λ e. other_text Word (codes "pull") (codes "none") t refl e) e) e) e)
+    (into (λ line. moved.None) (part_word (codes "none") refl))
+    (one_of_two by_expand _ no_limit (starts_moved_by (codes "expand") moved.Expand) (starts_in Last3 _ no_limit starts_last3) (starts_some Last3 _ no_limit starts_last3)
+    (λ t e. not_either by_contract (λ t. by_push t || by_pull t) by_expand t (λ e. other_text Word (codes "contract") (codes "expand") t refl e)
+    (λ e. not_either by_push by_pull by_expand t (λ e. other_text Word (codes "push") (codes "expand") t refl e) (λ e. other_text Word (codes "pull") (codes "expand") t refl e) e) e)
+    (part_moved_by (codes "expand") moved.Expand (part_word (codes "expand") refl))
+    (one_of_two by_contract _ no_limit starts_contraction (starts_in Last2 _ no_limit starts_last2) (starts_some Last2 _ no_limit starts_last2)
+    (λ t e. not_either by_push by_pull by_contract t (λ e. other_text Word (codes "push") (codes "contract") t refl e) (λ e. other_text Word (codes "pull") (codes "contract") t refl e) e)
+    part_contraction
+    (one_of_two by_push by_pull no_limit (starts_moved_by (codes "push") moved.Push) (starts_in Pulled by_pull no_limit (starts_moved_by (codes "pull") moved.Pull)) (starts_some Pulled by_pull no_limit (starts_moved_by (codes "pull") moved.Pull))
+    (λ t e. other_text Word (codes "pull") (codes "push") t refl e)
+    (part_moved_by (codes "push") moved.Push (part_word (codes "push") refl))
+    (part_moved_by (codes "pull") moved.Pull (part_word (codes "pull") refl)))))
+
+-- ---- pairs
+
+abbrev SpotCell : Lang CellName
+SpotCell = Then (IsWord (codes "spot")) (λ line. Made IsNode (λ v. name.Spot v))
+
+abbrev BodyCell : Lang CellName
+BodyCell = Then (IsWord (codes "body")) (λ line. Made IsNumber (λ id. name.Body id))
+
+starts_spot : Starts SpotCell is_spot no_limit
+starts_spot = starts_word (codes "spot") (λ line. Made IsNode (λ v. name.Spot v)) (λ line. a_node >>= λ v. pure (name.Spot v)) always (λ line. into (λ v. name.Spot v) part_node)
+
+starts_body : Starts BodyCell is_body no_limit
+starts_body = starts_word (codes "body") (λ line. Made IsNumber (λ id. name.Body id)) (λ line. a_number >>= λ id. pure (name.Body id)) always (λ line. into (λ id. name.Body id) part_number)
+
+pub part_cell : IsPart IsCell a_cell always
+unfolding a_cell
+part_cell = one_of_two is_spot is_body no_limit starts_spot (starts_in BodyCell is_body no_limit starts_body) (starts_some BodyCell is_body no_limit starts_body)
+    (λ t e. other_text Word (codes "body") (codes "spot") t refl e)
+    (behind (part_word (codes "spot") refl) (λ line. into (λ v. name.Spot v) part_node))
+    (behind (part_word (codes "body") refl) (λ line. into (λ id. name.Body id) part_number))
+
+starts_cell : Starts IsCell is_cell no_limit
+starts_cell = starts_either SpotCell BodyCell is_spot is_body starts_spot starts_body
+
+starts_id : Starts (Made IsNumber (λ id. cell.Spot (Some id))) is_number no_limit
+starts_id = starts_made IsNumber (λ id. cell.Spot (Some id)) is_number no_limit (starts_numeral no_limit)
+
+part_occupant : IsPart IsOccupant an_occupant always
+unfolding an_occupant
+part_occupant = one_of_two (word (codes "empty")) is_number no_limit (starts_means (word (codes "empty")) (cell.Spot None))
+    (starts_in (Made IsNumber (λ id. cell.Spot (Some id))) is_number no_limit starts_id) (starts_some (Made IsNumber (λ id. cell.Spot (Some id))) is_number no_limit starts_id)
+    (λ t e. number_no_word (codes "empty") t e)
+    (into (λ line. cell.Spot None) (part_word (codes "empty") refl))
+    (into (λ id. cell.Spot (Some id)) part_number)
+
+module _ (vars : ℕ) where
+  part_value : (c : CellName) → IsPart (IsValueOf vars c) (a_value vars c) always
+  unfolding a_value
+  part_value (name.Spot v) = part_occupant
+  part_value (name.Body id) = into (λ b. cell.Body b) (part_bot vars)
+
+  part_made_pair : (c : CellName) → IsPart (Made (IsValueOf vars c) (λ x. a_pair_of c x)) (a_value vars c >>= λ x. pure (a_pair_of c x)) always
+  part_made_pair c = into (λ x. a_pair_of c x) (part_value c)
+
+  part_pair : IsPart (IsPair vars) (a_pair vars) always
+  unfolding a_pair
+  part_pair = behind part_cell part_made_pair
+
+  starts_pair : Starts (IsPair vars) is_cell no_limit
+  starts_pair = starts_then IsCell (λ c. Made (IsValueOf vars c) (λ x. a_pair_of c x)) is_cell no_limit starts_cell (λ c. some_text (Made (IsValueOf vars c) (λ x. a_pair_of c x)) (a_value vars c >>= λ x. pure (a_pair_of c x)) (part_made_pair c).law)
+
+  abbrev pub PairIn : ℕ → Lang (CellName × Cell)
+  PairIn room = Limited (IsPair vars) room
+
+  -- nothing but a pair goes on behind the pairs of an entry
+  pub no_pair : Lexeme → Bool
+  no_pair t = not (is_cell t)
+
+  pub pair_elements : AreElements PairIn (pair_in vars) is_cell always no_pair
+  unfolding no_pair
+  pair_elements = at_most_elements (IsPair vars) (a_pair vars) is_cell no_limit always no_pair starts_pair part_pair (λ t e. refl) (λ t e. refl) (λ t e. not-true (is_cell t) e)
+
+  part_pairs : IsPart (AtMost 10 (IsPair vars)) (all_pairs vars) no_pair
+  unfolding all_pairs
+  part_pairs = part_repeated PairIn (pair_in vars) (λ room a. less room) is_cell always no_pair pair_elements 10
+
+  -- ---- entries
+
+  part_numbers : IsPart AreNumbers the_numbers always
+  unfolding the_numbers
+  part_numbers = behind part_number (λ place. behind part_number (λ caller. behind part_number (λ turn. behind part_number (λ bot. into (λ action. numbers_of place caller turn bot action) part_number))))
+
+  abbrev BehindWord : ℕ → Lang Written
+  BehindWord line = Then AreNumbers (λ n. Then IsMoved (λ m. Made (AtMost 10 (IsPair vars)) (λ pairs. written_of line n m pairs)))
+
+  abbrev behind_word : ℕ → Reader Written
+  behind_word line = the_numbers >>= λ n. a_movement >>= λ m. all_pairs vars >>= λ pairs. pure (written_of line n m pairs)
+
+  part_behind_word : (line : ℕ) → IsPart (BehindWord line) (behind_word line) no_pair
+  part_behind_word line = behind part_numbers (λ n. behind part_movement (λ m. into (λ pairs. written_of line n m pairs) part_pairs))
+
+  part_entry_word : (before : ℕ) → IsPart (IsEntryWord before) (entry_word before) always
+  unfolding entry_word
+  part_entry_word before = into (λ t. t.line) (part_one is_entry (past_entries before) (sample Word (codes "entry")) (passes Word (codes "entry") refl))
+
+  starts_entry_word : (before : ℕ) → Starts (IsEntryWord before) is_entry (past_entries before)
+  starts_entry_word before = starts_made (IsOne is_entry (past_entries before)) (λ t. t.line) is_entry (past_entries before) (starts_one is_entry (past_entries before))
+
+  part_written : (before : ℕ) → IsPart (IsWritten vars before) (written vars before) no_pair
+  unfolding written
+  part_written before = behind (part_entry_word before) part_behind_word
+
+  starts_written : (before : ℕ) → Starts (IsWritten vars before) is_entry (past_entries before)
+  starts_written before = starts_then (IsEntryWord before) BehindWord is_entry (past_entries before) (starts_entry_word before) (λ line. some_text (BehindWord line) (behind_word line) (part_behind_word line).law)
+
+  module _ (bots actions : ℕ) where
+    part_entry : (before : ℕ) → IsPart (IsEntry bots actions vars before) (an_entry bots actions vars before) no_pair
+    unfolding an_entry
+    part_entry before = part_made (Judged (IsWritten vars before) (wrong bots actions before)) (λ w. w.entry) _ no_pair (part_judged (IsWritten vars before) (written vars before) (wrong bots actions before) no_pair (part_written before))
+
+    pub entry_elements : AreElements (IsEntry bots actions vars) (an_entry bots actions vars) is_entry no_pair is_end
+    unfolding no_pair
+    entry_elements = record {
+      over = past_entries;
+      start = λ before. starts_made (Judged (IsWritten vars before) (wrong bots actions before)) (λ w. w.entry) is_entry (past_entries before) (starts_judged (IsWritten vars before) (wrong bots actions before) is_entry (past_entries before) (starts_written before));
+      part = part_entry;
+      again = λ t e. rw (other_text Word (codes "entry") (codes "spot") t refl e, other_text Word (codes "entry") (codes "body") t refl e) refl;
+      ends = λ t e. rw (other_text Word (codes "end") (codes "spot") t refl e, other_text Word (codes "end") (codes "body") t refl e) refl;
+      differ = λ t e. other_text Word (codes "end") (codes "entry") t refl e;
+    }
+
+    part_entries : (before : ℕ) → IsPart (AreEntries bots actions vars before) (entries_from bots actions vars before) is_end
+    unfolding entries_from
+    part_entries before = part_repeated (IsEntry bots actions vars) (an_entry bots actions vars) (one_more bots actions vars) is_entry no_pair is_end entry_elements before
+
+pub part_journal : (bots actions vars : ℕ) → IsPart (IsJournal bots actions vars) (journal bots actions vars) always
+unfolding journal
+part_journal bots actions vars = behind (part_word (codes "journal") refl) (λ line. up_to_end (part_entries vars bots actions 0))
+
+pub exact_journal : (bots actions vars : ℕ) → Exact (IsJournal bots actions vars) (journal bots actions vars)
+exact_journal bots actions vars = exact (IsJournal bots actions vars) (journal bots actions vars) (part_journal bots actions vars).law
+
+pub exact_entries : (bots actions vars before : ℕ) → Exact (AreEntries bots actions vars before) (entries_from bots actions vars before)
+exact_entries bots actions vars before = exact (AreEntries bots actions vars before) (entries_from bots actions vars before) (part_entries vars bots actions before).law

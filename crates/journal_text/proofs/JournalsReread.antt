@@ -1,0 +1,329 @@
+-- The text of a journal is read as its entries.
+use Rattle.std.proofs.Common.{◌≡◌, ℕ, ℤ, pos, negsuc, zero, suc, ◌+◌, ◌-◌, ◌<◌, ◌≤◌, Bool, true, false, List, [], ◌∷◌, ◌++◌, length, map, take, drop, replicate, Option, Some, None, Ok, codes, refl, sym, ap, subst, ◌∙◌, arith, append_assoc, length-take-le, take-append-drop}
+use Rattle.std.specs.Prelude.{◌&&◌, ◌^◌, ◌==◌, decimal, bytes_eq, nat_lt, nat_le}
+use Rattle.std.specs.Fmt.{signed_decimal}
+use Rattle.std.specs.List.{All, list_all, flat_map, enumerate_from}
+use Rattle.std.proofs.lemmas.List.{append-nil}
+use Rattle.std.proofs.lemmas.List.Folds.{list_all-append}
+use Rattle.std.proofs.lemmas.List.Elements.{All-head, All-tail}
+use Rattle.std.proofs.lemmas.Bool.{ltb-true, leb-true, lt-ltb, le-ltb}
+use Rattle.std.proofs.lemmas.Int.{ints}
+use Rattle.std.proofs.lemmas.Bool.Decides.{nat_tests}
+use Rattle.tri_lattice.specs.declared.node.Node.{Node}
+use Rattle.text_tokens.specs.declared.token.TokenKind.TheVariants.{Word, Number, Sign}
+use Rattle.text_tokens.specs.declared.refusal.Refusal.{Refusal}
+use Rattle.text_tokens.specs.declared.refusal.RefusalKind.{RefusalKind}
+use Rattle.text_tokens.specs.declared.refusal.RefusalKind.TheVariants.{BadRange, BadEntry, BadPlace}
+use Rattle.text_tokens.specs.Text.{Lexeme, is_letter, is_word_byte, is_sign, is_one_of, IsLongestSign, Cuts, sign}
+use Rattle.text_tokens.specs.Cursor.{is_the}
+use Rattle.text_tokens.specs.Lines.{Words, lines_text}
+use Rattle.text_tokens.specs.Reading.{value, no_limit, too_large, less}
+use Rattle.text_tokens.specs.Grammar.{Symbol, Lang, IsOne, Then, then, Made, made, IsThe, IsNumeral, Either, of_first, Closed, Times, is_nothing, Limited, in_limit, Repeated, no_more, one_more, AtMost}
+use Rattle.text_tokens.specs.Lawful.{IsWhole}
+use Rattle.text_tokens.proofs.Blanks.{and_true}
+use Rattle.text_tokens.proofs.PrintedTokens.{kind_of, AreSpelled, Spells, spells_token, ArePrinted, none_printed, word_printed, LinesArePrinted, no_lines, line_printed, IsOneToken, IsPrinted, EndsToken, word_is_token, sign_is_token}
+use Rattle.amoebot_state.specs.declared.bot.Bot.{Bot}
+use Rattle.amoebot_state.specs.declared.bot.Chir.{Chir}
+use Rattle.amoebot_state.specs.declared.bot.Chir.TheVariants as chir
+use Rattle.amoebot_state.specs.declared.bot.End.{End}
+use Rattle.amoebot_state.specs.declared.bot.End.TheVariants as end
+use Rattle.amoebot_state.specs.declared.bot.Port.{Port}
+use Rattle.amoebot_state.specs.declared.cell.CellName.{CellName}
+use Rattle.amoebot_state.specs.declared.cell.CellName.TheVariants as name
+use Rattle.amoebot_state.specs.declared.cell.Cell.{Cell}
+use Rattle.amoebot_state.specs.declared.cell.Cell.TheVariants as cell
+use Rattle.amoebot_state.specs.declared.verdict.Entry.{Entry}
+use Rattle.amoebot_state.specs.declared.verdict.Moved.{Moved}
+use Rattle.amoebot_state.specs.declared.verdict.Moved.TheVariants as moved
+use Rattle.amoebot_state.specs.Pairs.{Pairs, cell_of, cell_value}
+use Rattle.journal_text.specs.Parts.{word, is_minus, is_end, IsWord, Means, IsNumber, IsUpTo, negative, IsInt, a_node_of, IsNode, IsEnd, IsChirality, a_port_of, IsPort, IsValues, memory, a_bot_of, IsBot}
+use Rattle.journal_text.specs.Journals.{IsPortBehind, IsEndBehind, IsMovedBy, IsContracted, IsMoved, IsCell, IsOccupant, IsValueOf, a_pair_of, IsPair, is_entry, Numbers, numbers_of, AreNumbers, Written, written_of, most_entries, past_entries, IsEntryWord, IsWritten, ids_of, ids_of_pair, ids_of_name, ids_of_value, is_known, wrong, IsEntry, one_more as next_place, AreEntries, IsJournal}
+use Rattle.journal_text.specs.JournalRows.{Says}
+use Rattle.journal_text.specs.Texts.{node_words, end_word, port_words, chir_word, bot_words, cell_words, value_words, pair_words, moved_words, entry_numbers, entry_words, journal_text}
+use Rattle.journal_text.specs.Rereading.{size, HasCoordinates, HasLimits, IsWritable, IsPossible, KeepsLimits, JournalsReadBack}
+use Rattle.journal_text.proofs.Respelling.{Found, Is, Any, Rereads, RereadsLines, rereads_behind, lines_behind_line, rereads_then, rereads_next, rereads_made, lines_made, rereads_as, rereads_first, rereads_second, rereads_judged, rereads_nothing, rereads_into, rereads_more, lines_more, lines_then, lines_next, lines_nothing, rereads_same, the_passes, rereads_the, rereads_number, number_token, number_kind, whole_then, parted, behind_found, found_made, one_found, the_found, number_found, one_rereads, reread_line, lines_say}
+
+-- ---- words and numbers
+
+within : (most n : ℕ) → n ≤ most → (t : Lexeme) → value t ≡ n → too_large most BadRange t ≡ None
+within most n le t e = let b : nat_lt most n ≡ false = le-ltb _ _ le in rw (e, b) refl
+
+up_to : (most n : ℕ) → n ≤ most → most < 10 ^ 9 → Rereads (IsUpTo most) (Is n) (decimal n ∷ [])
+up_to most n le small = rereads_number n (omega arith) (too_large most BadRange) (within most n le)
+
+any_number : (n : ℕ) → n < 10 ^ 9 → Rereads IsNumber (Is n) (decimal n ∷ [])
+any_number n small = rereads_number n small no_limit (λ t e. refl)
+
+-- nothing makes a minus longer
+minus_longest : (rest : List ℕ) → IsLongestSign (codes "-") rest
+minus_longest rest [] more is e = omega arith
+minus_longest rest (a ∷ []) more is e = omega arith
+minus_longest rest (a ∷ b ∷ []) more is e =
+    let same : 45 ≡ a = cc in
+    let no : is_one_of (codes "!<>:") a ≡ true = (and_true (b == 61) (is_one_of (codes "!<>:") a) is).1 in
+    let yes : false ≡ true = ap (is_one_of (codes "!<>:")) same ∙ no in absurd cc
+minus_longest rest (a ∷ b ∷ c ∷ other) more is e = absurd cc
+
+-- a minus directly before digits
+minus_printed : (w : List ℕ) → IsOneToken w → IsPrinted (45 ∷ w) (codes "-" ∷ w ∷ [])
+minus_printed w is = record { spells = λ rest vs e s. spells_token (sign refl (minus_longest (w ++ rest))) (omega arith) (spells_token (is.cuts rest e) is.sized s) }
+
+negative_is : (n : ℕ) → negative (suc n) ≡ negsuc n
+negative_is n = omega (arith, ints)
+
+minus_token : IsOneToken (codes "-")
+minus_token = sign_is_token (codes "-") refl refl
+
+first_found : {A : Type 0} {P Q : Lang A} {R : A → Type 0} (ts : List Lexeme) → Found P R ts → Found (Either P Q) R ts
+first_found ts f = record { value = f.value; whole = record { text = f.whole.text; is = of_first f.whole.is; parts = f.whole.parts; fine = f.whole.fine }; holds = f.holds }
+
+module _ (most n : ℕ) (le : suc n ≤ most) (small : most < 10 ^ 9) where
+  minus_found : (ts : List Lexeme) → AreSpelled ts (codes "-" ∷ decimal (suc n) ∷ []) → Found (Then (IsThe is_minus) (λ line. Made (IsUpTo most) negative)) (Is (negsuc n)) ts
+  minus_found = behind_found {R = Any} (codes "-" ∷ []) (decimal (suc n) ∷ []) (the_found Sign (codes "-") refl refl)
+      (λ line x ts s. found_made negative (λ m e. ap negative e ∙ negative_is n) ts (number_found (suc n) (omega arith) (too_large most BadRange) (within most (suc n) le) ts s))
+
+  negative_int : Rereads (IsInt most) (Is (negsuc n)) (signed_decimal (negsuc n) ∷ [])
+  negative_int = record {
+    spelled = codes "-" ∷ decimal (suc n) ∷ [];
+    printed = word_printed (minus_printed (decimal (suc n)) (number_token (suc n) (omega arith))) none_printed;
+    read = λ ts s. first_found ts (minus_found ts s);
+  }
+
+an_int : (most : ℕ) (z : ℤ) → size z ≤ most → most < 10 ^ 9 → Rereads (IsInt most) (Is z) (signed_decimal z ∷ [])
+an_int most (pos n) le small = rereads_second (decimal n ∷ []) (rereads_as (λ n. pos n) (decimal n ∷ []) n (up_to most n le small))
+an_int most (negsuc n) le small = negative_int most n le small
+
+a_node : (v : Node) → HasCoordinates v → Rereads IsNode (Is v) (node_words v)
+a_node v c = rereads_then (signed_decimal v.x ∷ []) (signed_decimal v.y ∷ []) v.x (an_int 9999 v.x c.x (omega arith)) (rereads_as (λ y. a_node_of v.x y) (signed_decimal v.y ∷ []) v.y (an_int 9999 v.y c.y (omega arith)))
+
+-- a word of the format
+module _ (b : ℕ) (bytes : List ℕ) (letter : is_letter b ≡ true) (more : list_all is_word_byte bytes ≡ true) (few : length (b ∷ bytes) ≤ 24) (same : bytes_eq (b ∷ bytes) (b ∷ bytes) ≡ true) where
+  the_kind : kind_of (b ∷ bytes) ≡ Word
+  the_kind = rw letter refl
+
+  the_word : Rereads (IsWord (b ∷ bytes)) Any ((b ∷ bytes) ∷ [])
+  the_word = rereads_the Word (b ∷ bytes) (word_is_token b bytes letter more few) the_kind same
+
+means : {A : Type 0} (test : Lexeme → Bool) (a : A) (words : Words) → Rereads (IsThe test) Any words → Rereads (Means test a) (Is a) words
+means test a words p = rereads_made (λ line. a) words (λ line x. refl) p
+
+an_end : (e : End) → Rereads IsEnd (Is e) (end_word e ∷ [])
+an_end end.Head = rereads_first (codes "head" ∷ []) (means (word (codes "head")) end.Head (codes "head" ∷ []) (the_word _ _ refl refl (omega arith) refl))
+an_end end.Tail = rereads_second (codes "tail" ∷ []) (means (word (codes "tail")) end.Tail (codes "tail" ∷ []) (the_word _ _ refl refl (omega arith) refl))
+
+a_chirality : (c : Chir) → Rereads IsChirality (Is c) (chir_word c ∷ [])
+a_chirality chir.Plus = rereads_first (codes "+" ∷ []) (means (λ t. is_the Sign (codes "+") t) chir.Plus (codes "+" ∷ []) (rereads_the Sign (codes "+") (sign_is_token (codes "+") refl refl) refl refl))
+a_chirality chir.Minus = rereads_second (codes "-" ∷ []) (means is_minus chir.Minus (codes "-" ∷ []) (rereads_the Sign (codes "-") minus_token refl refl))
+
+a_port : (p : Port) → p.dir ≤ 5 → Rereads IsPort (Is p) (port_words p)
+a_port p le = rereads_then (end_word p.end ∷ []) (decimal p.dir ∷ []) p.end (an_end p.end) (rereads_as (λ dir. a_port_of p.end dir) (decimal p.dir ∷ []) p.dir (up_to 5 p.dir le (omega arith)))
+
+-- ---- amoebots
+
+many_values : (n : ℕ) (xs : List ℕ) → n ≤ length xs → All (λ v. v ≤ 255) xs → Rereads (IsValues n) (Is (take n xs)) (map decimal (take n xs))
+many_values zero xs le all = rereads_nothing [] is_nothing
+many_values (suc n) [] le all = absurd (omega arith)
+many_values (suc n) (x ∷ xs) le all =
+    rereads_then (decimal x ∷ []) (map decimal (take n xs)) x (up_to 255 x (All-head (λ v. v ≤ 255) x xs all) (omega arith))
+    (rereads_as (λ rest. x ∷ rest) (map decimal (take n xs)) (take n xs) (many_values n xs (omega arith) (All-tail (λ v. v ≤ 255) x xs all)))
+
+module _ (vars : ℕ) (le : vars ≤ 8) where
+  -- a memory that has 0 past the variables
+  its_memory : (b : Bot) → HasLimits vars b → memory (take vars b.mem) ≡ b.mem
+  its_memory b l =
+      let size : length (take vars b.mem) ≡ vars = length-take-le vars b.mem (let e = l.eight in omega arith) in
+      ap (λ n. take vars b.mem ++ replicate (8 - n) 0) size ∙ ap (λ rest. take vars b.mem ++ rest) (sym l.zeros) ∙ take-append-drop vars b.mem
+
+  a_bot : (b : Bot) → HasLimits vars b → Rereads (IsBot vars) (Is b) (bot_words vars b)
+  a_bot b l =
+      let vs = take vars b.mem in
+      let same : a_bot_of b.head b.tail b.rot b.chir vs ≡ b = ap (λ (mem : List ℕ). record { head = b.head; tail = b.tail; rot = b.rot; chir = b.chir; mem = mem }) (its_memory b l) in
+      rereads_then (node_words b.head) (node_words b.tail ++ decimal b.rot ∷ chir_word b.chir ∷ map decimal vs) b.head (a_node b.head l.head)
+      (rereads_then (node_words b.tail) (decimal b.rot ∷ chir_word b.chir ∷ map decimal vs) b.tail (a_node b.tail l.tail)
+      (rereads_then (decimal b.rot ∷ []) (chir_word b.chir ∷ map decimal vs) b.rot (up_to 5 b.rot l.rot (omega arith))
+      (rereads_then (chir_word b.chir ∷ []) (map decimal vs) b.chir (a_chirality b.chir)
+      (rereads_made (λ values. a_bot_of b.head b.tail b.rot b.chir values) (map decimal vs) (λ values e. ap (λ values. a_bot_of b.head b.tail b.rot b.chir values) e ∙ same)
+      (many_values vars b.mem (let e = l.eight in omega arith) l.values)))))
+
+-- ---- movements
+
+port_behind : (w : List ℕ) → Rereads (IsWord w) Any (w ∷ []) → (p : Port) → p.dir ≤ 5 → Rereads (IsPortBehind w) (Is p) (w ∷ port_words p)
+port_behind w first p le = rereads_next (w ∷ []) (port_words p) first (a_port p le)
+
+a_movement : (m : Moved) → IsPossible m → Rereads IsMoved (Is m) (moved_words m)
+a_movement moved.None le = rereads_first (codes "none" ∷ []) (means (word (codes "none")) moved.None (codes "none" ∷ []) (the_word _ _ refl refl (omega arith) refl))
+a_movement (moved.Expand p) le = rereads_second (codes "expand" ∷ port_words p) (rereads_first (codes "expand" ∷ port_words p) (rereads_as moved.Expand (codes "expand" ∷ port_words p) p (port_behind (codes "expand") (the_word _ _ refl refl (omega arith) refl) p le)))
+a_movement (moved.Contract e) le =
+    let words = codes "contract" ∷ end_word e ∷ [] in
+    rereads_second words (rereads_second words (rereads_first words (rereads_as moved.Contract words e (rereads_next (codes "contract" ∷ []) (end_word e ∷ []) (the_word _ _ refl refl (omega arith) refl) (an_end e)))))
+a_movement (moved.Push p) le =
+    let words = codes "push" ∷ port_words p in
+    rereads_second words (rereads_second words (rereads_second words (rereads_first words (rereads_as moved.Push words p (port_behind (codes "push") (the_word _ _ refl refl (omega arith) refl) p le)))))
+a_movement (moved.Pull p) le =
+    let words = codes "pull" ∷ port_words p in
+    rereads_second words (rereads_second words (rereads_second words (rereads_second words (rereads_as moved.Pull words p (port_behind (codes "pull") (the_word _ _ refl refl (omega arith) refl) p le)))))
+
+-- ---- pairs
+
+a_spot : (v : Node) → HasCoordinates v → Rereads IsCell (Is (name.Spot v)) (codes "spot" ∷ node_words v)
+a_spot v c = rereads_first (codes "spot" ∷ node_words v) (rereads_next (codes "spot" ∷ []) (node_words v) (the_word _ _ refl refl (omega arith) refl) (rereads_as (λ v. name.Spot v) (node_words v) v (a_node v c)))
+
+a_body : (id : ℕ) → id < 10 ^ 9 → Rereads IsCell (Is (name.Body id)) (codes "body" ∷ decimal id ∷ [])
+a_body id small = rereads_second (codes "body" ∷ decimal id ∷ []) (rereads_next (codes "body" ∷ []) (decimal id ∷ []) (the_word _ _ refl refl (omega arith) refl) (rereads_as (λ id. name.Body id) (decimal id ∷ []) id (any_number id small)))
+
+module _ (bots vars : ℕ) (few : bots < 2 ^ 16) (le : vars ≤ 8) where
+  abbrev there : ℕ → Bool
+  there id = nat_lt id bots
+
+  small : (id : ℕ) → there id ≡ true → id < 10 ^ 9
+  small id e = let lt = ltb-true id bots e in omega arith
+
+  a_pair : (p : CellName × Cell) → IsWritable vars p → list_all there (ids_of_pair p) ≡ true → Rereads (IsPair vars) (Is p) (pair_words vars p)
+  a_pair (name.Spot v, cell.Spot None) w e = rereads_then (codes "spot" ∷ node_words v) (codes "empty" ∷ []) (name.Spot v) (a_spot v w)
+      (rereads_as (λ x. a_pair_of (name.Spot v) x) (codes "empty" ∷ []) (cell.Spot None) (rereads_first (codes "empty" ∷ []) (means (word (codes "empty")) (cell.Spot None) (codes "empty" ∷ []) (the_word _ _ refl refl (omega arith) refl))))
+  a_pair (name.Spot v, cell.Spot (Some id)) w e = rereads_then (codes "spot" ∷ node_words v) (decimal id ∷ []) (name.Spot v) (a_spot v w)
+      (rereads_as (λ x. a_pair_of (name.Spot v) x) (decimal id ∷ []) (cell.Spot (Some id)) (rereads_second (decimal id ∷ []) (rereads_as (λ id. cell.Spot (Some id)) (decimal id ∷ []) id (any_number id (small id (and_true (there id) true e).0)))))
+  a_pair (name.Spot v, cell.Body b) w e = absurd w
+  a_pair (name.Body id, cell.Spot o) w e = absurd w
+  a_pair (name.Body id, cell.Body b) w e = rereads_then (codes "body" ∷ decimal id ∷ []) (bot_words vars b) (name.Body id) (a_body id (small id (and_true (there id) true e).0))
+      (rereads_as (λ x. a_pair_of (name.Body id) x) (bot_words vars b) (cell.Body b) (rereads_as (λ b. cell.Body b) (bot_words vars b) b (a_bot vars le b w)))
+
+  in_room : (room : ℕ) (p : CellName × Cell) → Rereads (IsPair vars) (Is p) (pair_words vars p) → Rereads (Limited (IsPair vars) (suc room)) (Is p) (pair_words vars p)
+  in_room room p r = rereads_into (pair_words vars p) (λ xs a is. in_limit is) r
+
+  many_pairs : (room : ℕ) (ps : Pairs) → length ps ≤ room → All (IsWritable vars) ps → list_all there (flat_map ids_of_pair ps) ≡ true → Rereads (Repeated (λ room. Limited (IsPair vars) room) (λ room a. less room) room) (Is ps) (flat_map (pair_words vars) ps)
+  many_pairs room [] fit all e = rereads_nothing [] no_more
+  many_pairs zero (p ∷ ps) fit all e = absurd (omega arith)
+  many_pairs (suc room) (p ∷ ps) fit all e =
+      let both = and_true (list_all there (ids_of_pair p)) (list_all there (flat_map ids_of_pair ps)) (sym (list_all-append there (ids_of_pair p) (flat_map ids_of_pair ps)) ∙ e) in
+      rereads_more (λ room. Limited (IsPair vars) room) (λ room a. less room) (suc room) (pair_words vars p) (flat_map (pair_words vars) ps) p ps
+      (in_room room p (a_pair p (All-head (IsWritable vars) p ps all) both.0)) (many_pairs room ps (omega arith) (All-tail (IsWritable vars) p ps all) both.1)
+
+-- ---- entries
+
+-- what the rest of an entry stands for, without the line of its word
+abbrev Rest : Type 0
+Rest = Numbers × Moved × Pairs
+
+abbrev a_rest : Numbers → Moved → Pairs → Rest
+a_rest n m ps = (n, m, ps)
+
+abbrev written_with : ℕ → Rest → Written
+written_with line r = written_of line r.0 r.1 r.2
+
+map_made : {A B C : Type 0} {P : Lang A} (f : A → B) (h : B → C) (xs : List Symbol) (b : B) → Made P f xs b → Made P (λ a. h (f a)) xs (h b)
+map_made f h xs b (made a is) = made a is
+
+map_then : {A B C : Type 0} {P : Lang A} {Q : A → Lang B} {U : A → Lang C} (h : B → C) → ((a : A) (ys : List Symbol) (b : B) → Q a ys b → U a ys (h b)) → (xs : List Symbol) (b : B) → Then P Q xs b → Then P U xs (h b)
+map_then h f zs b (then {xs = xs} {ys = ys} a is m) = then a is (f a ys b m)
+
+module _ (vars : ℕ) where
+  abbrev IsRest : Lang Rest
+  IsRest = Then AreNumbers (λ n. Then IsMoved (λ m. Made (AtMost 10 (IsPair vars)) (λ ps. a_rest n m ps)))
+
+  abbrev IsBehind : ℕ → Lang Written
+  IsBehind line = Then AreNumbers (λ n. Then IsMoved (λ m. Made (AtMost 10 (IsPair vars)) (λ ps. written_of line n m ps)))
+
+  with_line : (line : ℕ) (xs : List Symbol) (r : Rest) → IsRest xs r → IsBehind line xs (written_with line r)
+  with_line line xs r is = map_then (written_with line) (λ n ys s is. map_then (written_with line) (λ m zs q is. map_made (λ ps. a_rest n m ps) (written_with line) zs q is) ys s is) xs r is
+
+  found_with : (line : ℕ) (r : Rest) (ts : List Lexeme) → Found IsRest (Is r) ts → Found (IsBehind line) (λ w. (w.place ≡ (written_with line r).place) × (w.entry ≡ (written_with line r).entry)) ts
+  found_with line r ts f = record {
+    value = written_with line f.value;
+    whole = record { text = f.whole.text; is = with_line line f.whole.text f.value f.whole.is; parts = f.whole.parts; fine = f.whole.fine };
+    holds = (ap (λ (s : Rest). (written_with line s).place) f.holds, ap (λ (s : Rest). (written_with line s).entry) f.holds);
+  }
+
+same_number : (n : ℕ) → (n == n) ≡ true
+same_number n = grind (arith, nat_tests)
+
+module _ (bots actions vars : ℕ) (few_bots : bots < 2 ^ 16) (few_actions : actions < 2 ^ 8) (le : vars ≤ 8) where
+  -- what is known of an entry
+  record Ranges (e : Entry) : Type 0 where
+    pub caller : e.caller ≤ 15
+    pub turn : e.turn ≤ 65535
+    pub action : e.action < actions
+    pub bot : e.bot < bots
+    pub ids : list_all (λ id. nat_lt id bots) (flat_map ids_of_pair e.patch) ≡ true
+
+  ranges : (e : Entry) → is_known bots actions e ≡ true → Ranges e
+  ranges e known =
+      let all = list_all (λ id. nat_lt id bots) (ids_of e) in
+      let a = and_true (nat_le e.caller 15 && nat_le e.turn 65535 && nat_lt e.action actions) all known in
+      let b = and_true (nat_le e.caller 15 && nat_le e.turn 65535) (nat_lt e.action actions) a.0 in
+      let c = and_true (nat_le e.caller 15) (nat_le e.turn 65535) b.0 in
+      let d = and_true (nat_lt e.bot bots) (list_all (λ id. nat_lt id bots) (flat_map ids_of_pair e.patch)) a.1 in
+      record { caller = leb-true e.caller 15 c.0; turn = leb-true e.turn 65535 c.1; action = ltb-true e.action actions b.1; bot = ltb-true e.bot bots d.0; ids = d.1 }
+
+  module _ (before : ℕ) (room : before < most_entries) (e : Entry) (k : KeepsLimits bots actions vars e) where
+    abbrev its_numbers : Numbers
+    its_numbers = numbers_of before e.caller e.turn e.bot e.action
+
+    known : Ranges e
+    known = ranges e k.known
+
+    the_numbers : Rereads AreNumbers (Is its_numbers) (entry_numbers before e)
+    the_numbers =
+        let r = known in
+        rereads_then (decimal before ∷ []) (decimal e.caller ∷ decimal e.turn ∷ decimal e.bot ∷ decimal e.action ∷ []) before (any_number before (omega arith))
+        (rereads_then (decimal e.caller ∷ []) (decimal e.turn ∷ decimal e.bot ∷ decimal e.action ∷ []) e.caller (any_number e.caller (let b = r.caller in omega arith))
+        (rereads_then (decimal e.turn ∷ []) (decimal e.bot ∷ decimal e.action ∷ []) e.turn (any_number e.turn (let b = r.turn in omega arith))
+        (rereads_then (decimal e.bot ∷ []) (decimal e.action ∷ []) e.bot (any_number e.bot (let b = r.bot in omega arith))
+        (rereads_as (λ action. numbers_of before e.caller e.turn e.bot action) (decimal e.action ∷ []) e.action (any_number e.action (let b = r.action in omega arith))))))
+
+    abbrev its_rest : Rest
+    its_rest = a_rest its_numbers e.moved e.patch
+
+    abbrev rest_words : Words
+    rest_words = entry_numbers before e ++ (moved_words e.moved ++ flat_map (pair_words vars) e.patch)
+
+    the_rest : Rereads (IsRest vars) (Is its_rest) rest_words
+    the_rest =
+        rereads_then (entry_numbers before e) (moved_words e.moved ++ flat_map (pair_words vars) e.patch) its_numbers the_numbers
+        (rereads_then (moved_words e.moved) (flat_map (pair_words vars) e.patch) e.moved (a_movement e.moved k.movement)
+        (rereads_as (λ ps. a_rest its_numbers e.moved ps) (flat_map (pair_words vars) e.patch) e.patch (many_pairs bots vars few_bots le 10 e.patch k.few k.pairs known.ids)))
+
+    not_past : (t : Lexeme) → past_entries before t ≡ None
+    not_past t = let b : nat_lt before most_entries ≡ true = lt-ltb _ _ room in rw b refl
+
+    entry_token : IsOneToken (codes "entry")
+    entry_token = word_is_token _ _ refl refl (omega arith)
+
+    entry_kind : kind_of (codes "entry") ≡ Word
+    entry_kind = refl
+
+    the_entry_word : Rereads (IsEntryWord before) Any (codes "entry" ∷ [])
+    the_entry_word = rereads_made (λ (t : Lexeme). t.line) (codes "entry" ∷ []) (λ t s. tt) (one_rereads (codes "entry") entry_token (one_found (codes "entry") (the_passes Word (codes "entry") entry_kind refl) (λ t s. not_past t)))
+
+    the_written : Rereads (IsWritten vars before) (λ w. (w.place ≡ before) × (w.entry ≡ e)) (entry_words vars (before, e))
+    the_written = rereads_behind (codes "entry" ∷ []) rest_words the_entry_word the_rest.spelled the_rest.printed (λ line x ts s. found_with vars line its_rest ts (the_rest.read ts s))
+
+    not_wrong : (w : Written) → (w.place ≡ before) × (w.entry ≡ e) → wrong bots actions before w ≡ None
+    not_wrong w h =
+        let a : (w.place == before) ≡ true = ap (λ n. n == before) h.0 ∙ same_number before in
+        let b : is_known bots actions w.entry ≡ true = ap (is_known bots actions) h.1 ∙ k.known in
+        rw (a, b) refl
+
+    the_entry : Rereads (IsEntry bots actions vars before) (Is e) (entry_words vars (before, e))
+    the_entry = rereads_made (λ (w : Written). w.entry) (entry_words vars (before, e)) (λ w h. h.1) (rereads_judged (wrong bots actions before) (entry_words vars (before, e)) not_wrong the_written)
+
+  the_entries : (before : ℕ) (es : List Entry) → before + length es ≤ most_entries → All (KeepsLimits bots actions vars) es → RereadsLines (AreEntries bots actions vars before) (Is es) (map (entry_words vars) (enumerate_from before es))
+  the_entries before [] fit all = lines_nothing [] no_more
+  the_entries before (e ∷ es) fit all =
+      let one : suc before ≡ before + 1 = omega arith in
+      let more = the_entries (before + 1) es (omega arith) (All-tail (KeepsLimits bots actions vars) e es all) in
+      lines_more (IsEntry bots actions vars) (next_place bots actions vars) before (entry_words vars (before, e) ∷ []) (map (entry_words vars) (enumerate_from (before + 1) es)) e es
+      (reread_line (entry_words vars (before, e)) (the_entry before (omega arith) e (All-head (KeepsLimits bots actions vars) e es all)))
+      (subst (λ (n : ℕ). RereadsLines (AreEntries bots actions vars n) (Is es) (map (entry_words vars) (enumerate_from (before + 1) es))) (sym one) more)
+
+  the_journal : (es : List Entry) → length es ≤ most_entries → All (KeepsLimits bots actions vars) es → Says (IsJournal bots actions vars) (journal_text vars es) (Ok es)
+  the_journal es fit all =
+      let lines = map (entry_words vars) (enumerate_from 0 es) in
+      let last = reread_line (codes "end" ∷ []) (rereads_made (λ line. es) (codes "end" ∷ []) (λ line x. refl) (the_word _ _ refl refl (omega arith) refl)) in
+      let first = reread_line (codes "journal" ∷ []) (the_word _ _ refl refl (omega arith) refl) in
+      lines_say (IsJournal bots actions vars) es ((codes "journal" ∷ []) ∷ lines ++ (codes "end" ∷ []) ∷ [])
+      (lines_next ((codes "journal" ∷ []) ∷ []) (lines ++ (codes "end" ∷ []) ∷ []) first
+      (lines_then lines ((codes "end" ∷ []) ∷ []) es (the_entries 0 es (omega (arith, fit)) all) last))
+
+pub journals_reread : JournalsReadBack
+journals_reread bots actions vars es few_bots few_actions le fit all = the_journal bots actions vars few_bots few_actions le es fit all

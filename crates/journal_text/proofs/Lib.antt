@@ -1,0 +1,9 @@
+pub mod PartLaws
+pub mod JournalLaws
+pub mod TurnLaws
+pub mod Saying
+pub mod NextLines
+pub mod Times
+pub mod Knowing
+pub mod Respelling
+pub mod JournalsReread

@@ -1,0 +1,120 @@
+-- The readers of what several sections have are parts for their grammars.
+use Rattle.std.proofs.Common.{◌≡◌, ℕ, pos, Bool, true, false, List, [], ◌∷◌, Option, refl}
+use Rattle.std.specs.Prelude.{codes}
+use Rattle.std.specs.Str.{bytes_eq}
+use Rattle.text_tokens.specs.declared.token.TokenKind.TheVariants.{Word, Number, Sign}
+use Rattle.text_tokens.specs.declared.refusal.RefusalKind.{RefusalKind}
+use Rattle.text_tokens.specs.declared.refusal.RefusalKind.TheVariants.{BadRange}
+use Rattle.text_tokens.specs.Text.{Lexeme}
+use Rattle.text_tokens.specs.Cursor.{same_kind}
+use Rattle.text_tokens.specs.Reading.{Reader, ◌>>=◌, pure, is_number, too_large, no_limit, closed, either}
+use Rattle.text_tokens.specs.Grammar.{Symbol, tokens, Lang, Then, Made, IsThe, Closed, Either, of_first, of_second}
+use Rattle.text_tokens.specs.Lawful.{IsPart, Starts, StartsIn, HasTokens, always}
+use Rattle.text_tokens.proofs.Carrying.{part_made}
+use Rattle.text_tokens.proofs.Parts.{some_text, part_behind, part_closed}
+use Rattle.text_tokens.proofs.Beginnings.{starts_in, starts_some, starts_made, starts_then}
+use Rattle.text_tokens.proofs.Choosing.{part_either}
+use Rattle.text_tokens.proofs.Repeating.{part_times}
+use Rattle.text_tokens.proofs.Distinguishing.{sample, passes, kind_is, other_text, a_token, a_numeral, starts_the, starts_numeral}
+use Rattle.amoebot_state.specs.declared.bot.Chir.TheVariants.{Plus, Minus}
+use Rattle.amoebot_state.specs.declared.bot.End.TheVariants.{Head, Tail}
+use Rattle.journal_text.specs.Parts.{word, sign, is_minus, is_end, IsWord, Means, IsNumber, IsUpTo, negative, IsInt, a_node_of, IsNode, IsEnd, IsChirality, a_port_of, IsPort, IsValues, a_bot_of, IsBot}
+use Rattle.journal_text.specs.Readers.{a_word, means, a_number, up_to, an_int, a_node, an_end, a_chirality, a_port, values, a_bot}
+
+-- ---- forms
+
+-- behind a part with which no token goes on
+pub behind : {A B : Type 0} {P : Lang A} {p : Reader A} {Q : A → Lang B} {q : A → Reader B} {stop : Lexeme → Bool} → IsPart P p always → ((a : A) → IsPart (Q a) (q a) stop) → IsPart (Then P Q) (p >>= q) stop
+behind {P = P} {p = p} {Q = Q} {q = q} {stop = stop} before part = part_behind P p Q q stop before part
+
+pub into : {A B : Type 0} {P : Lang A} {p : Reader A} {stop : Lexeme → Bool} (f : A → B) → IsPart P p stop → IsPart (Made P f) (p >>= λ a. pure (f a)) stop
+into {P = P} {p = p} {stop = stop} f part = part_made P f p stop part
+
+pub up_to_end : {A : Type 0} {P : Lang A} {p : Reader A} → IsPart P p is_end → IsPart (Closed P is_end) (closed p is_end) always
+up_to_end {P = P} {p = p} part = part_closed P p is_end (sample Word (codes "end")) (passes Word (codes "end") refl) part
+
+-- one of two that begin with different tokens
+pub one_of_two : {A : Type 0} {P Q : Lang A} {p q : Reader A} (starts other : Lexeme → Bool) (over : Lexeme → Option RefusalKind) → Starts P starts over → StartsIn Q other → HasTokens Q → ((t : Lexeme) → other t ≡ true → starts t ≡ false) → IsPart P p always → IsPart Q q always → IsPart (Either P Q) (either starts p q) always
+one_of_two {P = P} {Q = Q} {p = p} {q = q} starts other over s within some differ part second = part_either P Q p q starts over always (record {
+  one = part;
+  other = second;
+  start = s;
+  differ = λ xs a t is e. differ t (within xs a t is e);
+  ends = λ xs a t is e f. absurd (some xs a is e);
+})
+
+-- with which tokens one of two begins
+pub some_either : {A : Type 0} (P Q : Lang A) → HasTokens P → HasTokens Q → HasTokens (Either P Q)
+some_either P Q p q xs a (of_first is) e = p xs a is e
+some_either P Q p q xs a (of_second is) e = q xs a is e
+
+-- a part that begins with this word
+pub starts_word : {B : Type 0} (text : List ℕ) (Q : ℕ → Lang B) (q : ℕ → Reader B) (stop : Lexeme → Bool) → ((line : ℕ) → IsPart (Q line) (q line) stop) → Starts (Then (IsWord text) Q) (word text) no_limit
+starts_word text Q q stop part = starts_then (IsWord text) Q (word text) no_limit (starts_the (word text)) (λ line. some_text (Q line) (q line) (part line).law)
+
+-- ---- tokens
+
+pub part_word : (text : List ℕ) → bytes_eq text text ≡ true → IsPart (IsWord text) (a_word text) always
+part_word text e = a_token Word text e
+
+pub part_number : IsPart IsNumber a_number always
+part_number = a_numeral no_limit
+
+pub part_up_to : (most : ℕ) → IsPart (IsUpTo most) (up_to most) always
+part_up_to most = a_numeral (too_large most BadRange)
+
+pub starts_means : {A : Type 0} (test : Lexeme → Bool) (a : A) → Starts (Means test a) test no_limit
+starts_means test a = starts_made (IsThe test) (λ line. a) test no_limit (starts_the test)
+
+number_no_sign : (text : List ℕ) (t : Lexeme) → is_number t ≡ true → sign text t ≡ false
+unfolding same_kind
+number_no_sign text t e = rw (kind_is Number t e) refl
+
+pub number_no_word : (text : List ℕ) (t : Lexeme) → is_number t ≡ true → word text t ≡ false
+unfolding same_kind
+number_no_word text t e = rw (kind_is Number t e) refl
+
+-- ---- parts
+
+pub part_end : IsPart IsEnd an_end always
+unfolding an_end
+part_end = one_of_two (word (codes "head")) (word (codes "tail")) no_limit (starts_means (word (codes "head")) Head)
+    (starts_in (Means (word (codes "tail")) Tail) (word (codes "tail")) no_limit (starts_means (word (codes "tail")) Tail)) (starts_some (Means (word (codes "tail")) Tail) (word (codes "tail")) no_limit (starts_means (word (codes "tail")) Tail))
+    (λ t e. other_text Word (codes "tail") (codes "head") t refl e)
+    (into (λ line. Head) (a_token Word (codes "head") refl))
+    (into (λ line. Tail) (a_token Word (codes "tail") refl))
+
+part_chirality : IsPart IsChirality a_chirality always
+unfolding a_chirality
+part_chirality = one_of_two (sign (codes "+")) (sign (codes "-")) no_limit (starts_means (sign (codes "+")) Plus)
+    (starts_in (Means (sign (codes "-")) Minus) (sign (codes "-")) no_limit (starts_means (sign (codes "-")) Minus)) (starts_some (Means (sign (codes "-")) Minus) (sign (codes "-")) no_limit (starts_means (sign (codes "-")) Minus))
+    (λ t e. other_text Sign (codes "-") (codes "+") t refl e)
+    (into (λ line. Plus) (a_token Sign (codes "+") refl))
+    (into (λ line. Minus) (a_token Sign (codes "-") refl))
+
+starts_positive : (most : ℕ) → Starts (Made (IsUpTo most) (λ n. pos n)) is_number (too_large most BadRange)
+starts_positive most = starts_made (IsUpTo most) (λ n. pos n) is_number (too_large most BadRange) (starts_numeral (too_large most BadRange))
+
+pub part_int : (most : ℕ) → IsPart (IsInt most) (an_int most) always
+unfolding an_int
+part_int most = one_of_two is_minus is_number no_limit
+    (starts_then (IsThe is_minus) (λ line. Made (IsUpTo most) negative) is_minus no_limit (starts_the is_minus) (λ line. some_text (Made (IsUpTo most) negative) _ (into negative (part_up_to most)).law))
+    (starts_in (Made (IsUpTo most) (λ n. pos n)) is_number (too_large most BadRange) (starts_positive most)) (starts_some (Made (IsUpTo most) (λ n. pos n)) is_number (too_large most BadRange) (starts_positive most))
+    (λ t e. number_no_sign (codes "-") t e)
+    (behind (a_token Sign (codes "-") refl) (λ line. into negative (part_up_to most)))
+    (into (λ n. pos n) (part_up_to most))
+
+pub part_node : IsPart IsNode a_node always
+unfolding a_node
+part_node = behind (part_int 9999) (λ x. into (λ y. a_node_of x y) (part_int 9999))
+
+pub part_port : IsPart IsPort a_port always
+unfolding a_port
+part_port = behind part_end (λ end. into (λ dir. a_port_of end dir) (part_up_to 5))
+
+part_values : (vars : ℕ) → IsPart (IsValues vars) (values vars) always
+part_values vars = part_times (IsUpTo 255) (up_to 255) (part_up_to 255) vars
+
+pub part_bot : (vars : ℕ) → IsPart (IsBot vars) (a_bot vars) always
+unfolding a_bot
+part_bot vars = behind part_node (λ head. behind part_node (λ tail. behind (part_up_to 5) (λ rot. behind part_chirality (λ chir. into (λ vs. a_bot_of head tail rot chir vs) (part_values vars)))))

@@ -1,0 +1,313 @@
+-- Printed words read as a text of a grammar, part by part.
+use Rattle.std.proofs.Common.{◌≡◌, ℕ, suc, ◌+◌, ◌<◌, ◌≤◌, Bool, true, false, List, [], ◌∷◌, ◌++◌, length, Option, Some, None, Ok, codes, refl, sym, ap, subst, ◌∙◌, arith, append_assoc}
+use Rattle.std.specs.Prelude.{◌&&◌, ◌^◌, decimal}
+use Rattle.std.specs.Int.{IsInRange}
+use Rattle.std.specs.List.{list_all}
+use Rattle.std.specs.Str.{bytes_eq}
+use Rattle.std.proofs.lemmas.List.{append-nil}
+use Rattle.std.proofs.lemmas.Bool.{ltb-true}
+use Rattle.std.proofs.lemmas.Bool.Decides.{nat_tests}
+use Rattle.std.proofs.lemmas.Str.Parse.{IsNumeralModel, IsDigitsTest, numerals_by_weight}
+use Rattle.std.proofs.lemmas.Fmt.{digits_decimal, digits_value-decimal, length-decimal-le, decimal_nonempty}
+use Rattle.text_tokens.specs.declared.token.TokenKind.{TokenKind}
+use Rattle.text_tokens.specs.declared.token.TokenKind.TheVariants.{Word, Number, Sign}
+use Rattle.text_tokens.specs.declared.refusal.Refusal.{Refusal}
+use Rattle.text_tokens.specs.declared.refusal.RefusalKind.{RefusalKind}
+use Rattle.text_tokens.specs.declared.refusal.RefusalKind.TheVariants.{Trailing}
+use Rattle.text_tokens.specs.Text.{is_digit, is_letter, Lexeme, AreTokens}
+use Rattle.text_tokens.specs.Cursor.{is_the, is_kind, same_kind, number_value}
+use Rattle.text_tokens.specs.Lines.{Words, lines_text}
+use Rattle.text_tokens.specs.Reading.{is_number, value, no_limit}
+use Rattle.text_tokens.specs.Grammar.{Symbol, symbol, tokens, first_fault, Lang, IsOne, is_one, Then, then, Made, made, IsThe, IsNumeral, IsJudgement, is_judgement, Judged, Either, of_first, of_second, point, Repeated, one_more}
+use Rattle.text_tokens.specs.Lawful.{IsWhole, IsText}
+use Rattle.text_tokens.specs.Inputs.{IsInput}
+use Rattle.text_tokens.proofs.Blanks.{and_true}
+use Rattle.text_tokens.proofs.Symbols.{tokens-append, fine-append}
+use Rattle.text_tokens.proofs.Exactness.{none_stops}
+use Rattle.text_tokens.proofs.PrintedTokens.{kind_of, AreSpelled, no_tokens, token_more, spelled_tokens, ArePrinted, none_printed, word_printed, LinesArePrinted, no_lines, line_printed, lines_spell, IsOneToken, one_printed, number_is_token}
+use Rattle.journal_text.specs.JournalRows.{Says}
+
+-- ---- what is found
+
+-- the tokens are a text of the grammar within its limits, and stand for something of which this holds
+pub record Found {A : Type 0} (P : Lang A) (R : A → Type 0) (ts : List Lexeme) : Type 0 where
+  pub value : A
+  pub whole : IsWhole P ts value
+  pub holds : R value
+
+-- just this
+abbrev pub Is : {A : Type 0} → A → A → Type 0
+Is a b = b ≡ a
+
+abbrev pub Any : {A : Type 0} → A → Type 0
+Any a = Unit {0}
+
+-- So are the tokens of these words, wherever they stand.
+pub record Rereads {A : Type 0} (P : Lang A) (R : A → Type 0) (words : Words) : Type 0 where
+  pub spelled : Words
+  pub printed : ArePrinted words spelled
+  pub read : (ts : List Lexeme) → AreSpelled ts spelled → Found P R ts
+
+-- and of these lines
+pub record RereadsLines {A : Type 0} (P : Lang A) (R : A → Type 0) (lines : List Words) : Type 0 where
+  pub spelled : Words
+  pub printed : LinesArePrinted lines spelled
+  pub read : (ts : List Lexeme) → AreSpelled ts spelled → Found P R ts
+
+-- ---- rows
+
+pub printed_behind : (words more us vs : Words) → ArePrinted words us → ArePrinted more vs → ArePrinted (words ++ more) (us ++ vs)
+printed_behind words more us vs none_printed q = q
+printed_behind words more us vs (word_printed {w = w} {ws = ws} {words = others} {vs = ts} p ps) q =
+    subst (λ (all : Words). ArePrinted (w ∷ others ++ more) all) (sym (append_assoc ws ts vs)) (word_printed p (printed_behind others more ts vs ps q))
+
+pub lines_behind : (lines more : List Words) (us vs : Words) → LinesArePrinted lines us → LinesArePrinted more vs → LinesArePrinted (lines ++ more) (us ++ vs)
+lines_behind lines more us vs no_lines q = q
+lines_behind lines more us vs (line_printed {line = line} {ws = ws} {lines = others} {vs = ts} p ps) q =
+    subst (λ (all : Words). LinesArePrinted (line ∷ others ++ more) all) (sym (append_assoc ws ts vs)) (line_printed p (lines_behind others more ts vs ps q))
+
+-- where the tokens of the first row end
+pub record Parted (us vs : Words) (ts : List Lexeme) : Type 0 where
+  pub front : List Lexeme
+  pub back : List Lexeme
+  pub whole : ts ≡ front ++ back
+  pub fronts : AreSpelled front us
+  pub backs : AreSpelled back vs
+
+pub parted : (us vs : Words) (ts : List Lexeme) → AreSpelled ts (us ++ vs) → Parted us vs ts
+parted [] vs ts s = record { front = []; back = ts; whole = refl; fronts = no_tokens; backs = s }
+parted (w ∷ us) vs ts (token_more {t = t} {ts = more} k b s) =
+    let p = parted us vs more s in
+    record { front = t ∷ p.front; back = p.back; whole = ap (λ (rest : List Lexeme). t ∷ rest) p.whole; fronts = token_more k b p.fronts; backs = p.backs }
+
+-- ---- parts
+
+pub whole_then : {A B : Type 0} {P : Lang A} {Q : A → Lang B} (us vs ts : List Lexeme) (a : A) (b : B) → ts ≡ us ++ vs → IsWhole P us a → IsWhole (Q a) vs b → IsWhole (Then P Q) ts b
+whole_then us vs ts a b e p q = record {
+  text = p.text ++ q.text;
+  is = then a p.is q.is;
+  parts = tokens-append p.text q.text ∙ ap (λ (ws : List Lexeme). ws ++ tokens q.text) p.parts ∙ ap (λ (ws : List Lexeme). us ++ ws) q.parts ∙ sym e;
+  fine = fine-append p.text q.text p.fine q.fine;
+}
+
+module _ {A B : Type 0} {P : Lang A} {Q : A → Lang B} {R : A → Type 0} {S : B → Type 0} where
+  pub behind_found : (us vs : Words) → ((ts : List Lexeme) → AreSpelled ts us → Found P R ts) → ((a : A) → R a → (ts : List Lexeme) → AreSpelled ts vs → Found (Q a) S ts) → (ts : List Lexeme) → AreSpelled ts (us ++ vs) → Found (Then P Q) S ts
+  behind_found us vs p q ts s =
+      let c = parted us vs ts s in
+      let a = p c.front c.fronts in
+      let b = q a.value a.holds c.back c.backs in
+      record { value = b.value; whole = whole_then c.front c.back ts a.value b.value c.whole a.whole b.whole; holds = b.holds }
+
+  -- one part behind another, whose words do not depend on it
+  pub rereads_behind : (words more : Words) → Rereads P R words → (spelled : Words) → ArePrinted more spelled → ((a : A) → R a → (ts : List Lexeme) → AreSpelled ts spelled → Found (Q a) S ts) → Rereads (Then P Q) S (words ++ more)
+  rereads_behind words more p spelled printed q = record {
+    spelled = p.spelled ++ spelled;
+    printed = printed_behind words more p.spelled spelled p.printed printed;
+    read = behind_found p.spelled spelled p.read q;
+  }
+
+  pub lines_behind_line : (lines more : List Words) → RereadsLines P R lines → (spelled : Words) → LinesArePrinted more spelled → ((a : A) → R a → (ts : List Lexeme) → AreSpelled ts spelled → Found (Q a) S ts) → RereadsLines (Then P Q) S (lines ++ more)
+  lines_behind_line lines more p spelled printed q = record {
+    spelled = p.spelled ++ spelled;
+    printed = lines_behind lines more p.spelled spelled p.printed printed;
+    read = behind_found p.spelled spelled p.read q;
+  }
+
+-- behind a part that stands for just this
+pub rereads_then : {A B : Type 0} {P : Lang A} {Q : A → Lang B} {S : B → Type 0} (words more : Words) (a : A) → Rereads P (Is a) words → Rereads (Q a) S more → Rereads (Then P Q) S (words ++ more)
+rereads_then {A} {Q = Q} {S = S} words more a p q = rereads_behind words more p q.spelled q.printed (λ b e ts s. subst (λ (x : A). Found (Q x) S ts) (sym e) (q.read ts s))
+
+-- behind a part whatever it stands for
+pub rereads_next : {A B : Type 0} {P : Lang A} {Q : Lang B} {R : A → Type 0} {S : B → Type 0} (words more : Words) → Rereads P R words → Rereads Q S more → Rereads (Then P (λ a. Q)) S (words ++ more)
+rereads_next words more p q = rereads_behind words more p q.spelled q.printed (λ b e ts s. q.read ts s)
+
+whole_made : {A B : Type 0} {P : Lang A} (f : A → B) (ts : List Lexeme) (a : A) → IsWhole P ts a → IsWhole (Made P f) ts (f a)
+whole_made f ts a p = record { text = p.text; is = made a p.is; parts = p.parts; fine = p.fine }
+
+pub found_made : {A B : Type 0} {P : Lang A} {R : A → Type 0} {S : B → Type 0} (f : A → B) → ((a : A) → R a → S (f a)) → (ts : List Lexeme) → Found P R ts → Found (Made P f) S ts
+found_made f h ts p = record { value = f p.value; whole = whole_made f ts p.value p.whole; holds = h p.value p.holds }
+
+pub rereads_made : {A B : Type 0} {P : Lang A} {R : A → Type 0} {S : B → Type 0} (f : A → B) (words : Words) → ((a : A) → R a → S (f a)) → Rereads P R words → Rereads (Made P f) S words
+rereads_made f words h p = record { spelled = p.spelled; printed = p.printed; read = λ ts s. found_made f h ts (p.read ts s) }
+
+pub lines_made : {A B : Type 0} {P : Lang A} {R : A → Type 0} {S : B → Type 0} (f : A → B) (lines : List Words) → ((a : A) → R a → S (f a)) → RereadsLines P R lines → RereadsLines (Made P f) S lines
+lines_made f lines h p = record { spelled = p.spelled; printed = p.printed; read = λ ts s. found_made f h ts (p.read ts s) }
+
+-- made of just this
+pub rereads_as : {A B : Type 0} {P : Lang A} (f : A → B) (words : Words) (a : A) → Rereads P (Is a) words → Rereads (Made P f) (Is (f a)) words
+rereads_as f words a p = rereads_made f words (λ b e. ap f e) p
+
+-- one of two
+pub rereads_first : {A : Type 0} {P Q : Lang A} {R : A → Type 0} (words : Words) → Rereads P R words → Rereads (Either P Q) R words
+rereads_first words p = record { spelled = p.spelled; printed = p.printed; read = λ ts s. (let f = p.read ts s in record { value = f.value; whole = record { text = f.whole.text; is = of_first f.whole.is; parts = f.whole.parts; fine = f.whole.fine }; holds = f.holds }) }
+
+pub rereads_second : {A : Type 0} {P Q : Lang A} {R : A → Type 0} (words : Words) → Rereads Q R words → Rereads (Either P Q) R words
+rereads_second words p = record { spelled = p.spelled; printed = p.printed; read = λ ts s. (let f = p.read ts s in record { value = f.value; whole = record { text = f.whole.text; is = of_second f.whole.is; parts = f.whole.parts; fine = f.whole.fine }; holds = f.holds }) }
+
+-- a judgement that is no refusal
+point_fine : (o : Option Refusal) → o ≡ None → first_fault (point o ∷ []) ≡ None
+point_fine o e = rw e refl
+
+pub rereads_judged : {A : Type 0} {P : Lang A} {R : A → Type 0} (wrong : A → Option Refusal) (words : Words) → ((a : A) → R a → wrong a ≡ None) → Rereads P R words → Rereads (Judged P wrong) R words
+rereads_judged {P = P} {R = R} wrong words none p = record { spelled = p.spelled; printed = p.printed; read = λ ts s. from_found ts (p.read ts s) }
+  where
+    from_found : (ts : List Lexeme) → Found P R ts → Found (Judged P wrong) R ts
+    from_found ts f = record {
+      value = f.value;
+      whole = whole_then ts [] ts f.value f.value (sym (append-nil ts)) f.whole (record { text = point (wrong f.value) ∷ []; is = is_judgement; parts = refl; fine = point_fine (wrong f.value) (none f.value f.holds) });
+      holds = f.holds;
+    }
+
+-- nothing
+pub rereads_nothing : {A : Type 0} {P : Lang A} (a : A) → P [] a → Rereads P (Is a) []
+rereads_nothing {P = P} a is = record { spelled = []; printed = none_printed; read = λ ts s. from_nothing ts s }
+  where
+    from_nothing : (ts : List Lexeme) → AreSpelled ts [] → Found P (Is a) ts
+    from_nothing ts no_tokens = record { value = a; whole = record { text = []; is = is; parts = refl; fine = refl }; holds = refl }
+
+-- by other words for the same
+pub rereads_same : {A : Type 0} {P : Lang A} {R : A → Type 0} (words more : Words) → words ≡ more → Rereads P R words → Rereads P R more
+rereads_same {P = P} {R = R} words more e p = subst (λ (ws : Words). Rereads P R ws) e p
+
+-- ---- single tokens
+
+pub record IsSpelled (w : List ℕ) (t : Lexeme) : Type 0 where
+  pub kind : t.kind ≡ kind_of w
+  pub text : t.text ≡ w
+
+symbol_fine : (t : Lexeme) (o : Option RefusalKind) → o ≡ None → first_fault (symbol t o ∷ []) ≡ None
+symbol_fine t o e = rw e refl
+
+pub one_found : {test : Lexeme → Bool} {over : Lexeme → Option RefusalKind} (w : List ℕ) → ((t : Lexeme) → IsSpelled w t → test t ≡ true) → ((t : Lexeme) → IsSpelled w t → over t ≡ None) → (ts : List Lexeme) → AreSpelled ts (w ∷ []) → Found (IsOne test over) (IsSpelled w) ts
+one_found {test = test} {over = over} w passes fine ts (token_more {t = t} k b no_tokens) =
+    let spelled : IsSpelled w t = record { kind = k; text = b } in
+    record { value = t; whole = record { text = symbol t (over t) ∷ []; is = is_one t (passes t spelled); parts = refl; fine = symbol_fine t (over t) (fine t spelled) }; holds = spelled }
+
+pub one_rereads : {A : Type 0} {P : Lang A} {R : A → Type 0} (w : List ℕ) → IsOneToken w → ((ts : List Lexeme) → AreSpelled ts (w ∷ []) → Found P R ts) → Rereads P R (w ∷ [])
+one_rereads w is read = record { spelled = w ∷ []; printed = word_printed (one_printed w is) none_printed; read = read }
+
+kind_passes : (kind : TokenKind) (t : Lexeme) → t.kind ≡ kind → is_kind kind t ≡ true
+unfolding same_kind
+kind_passes Word t e = rw e refl
+kind_passes Number t e = rw e refl
+kind_passes Sign t e = rw e refl
+
+pub the_passes : (kind : TokenKind) (w : List ℕ) → kind_of w ≡ kind → bytes_eq w w ≡ true → (t : Lexeme) → IsSpelled w t → is_the kind w t ≡ true
+the_passes kind w k e t s =
+    let a : is_kind kind t ≡ true = kind_passes kind t (s.kind ∙ k) in
+    let b : bytes_eq t.text w ≡ true = ap (λ (bs : List ℕ). bytes_eq bs w) s.text ∙ e in
+    rw (a, b) refl
+
+-- this very token
+pub the_found : (kind : TokenKind) (w : List ℕ) → kind_of w ≡ kind → bytes_eq w w ≡ true → (ts : List Lexeme) → AreSpelled ts (w ∷ []) → Found (IsThe (is_the kind w)) Any ts
+the_found kind w k e ts s = found_made (λ (t : Lexeme). t.line) (λ t x. tt) ts (one_found w (the_passes kind w k e) (λ t x. refl) ts s)
+
+pub rereads_the : (kind : TokenKind) (w : List ℕ) → IsOneToken w → kind_of w ≡ kind → bytes_eq w w ≡ true → Rereads (IsThe (is_the kind w)) Any (w ∷ [])
+rereads_the kind w is k e = one_rereads w is (the_found kind w k e)
+
+-- ---- numbers
+
+digit_in : (c : ℕ) → is_digit c ≡ true → IsInRange 48 57 c
+digit_in c e = grind (arith, nat_tests)
+
+digit_from : (c : ℕ) → IsInRange 48 57 c → is_digit c ≡ true
+digit_from c e = grind (arith, nat_tests)
+
+both_true : (a b : Bool) → a ≡ true → b ≡ true → (a && b) ≡ true
+both_true true b e f = f
+both_true false b e f = absurd cc
+
+digits_test : IsDigitsTest (λ ds. list_all is_digit ds ≡ true)
+digits_test = record {
+  empty = refl;
+  parts = λ c cs e. (let p = and_true (is_digit c) (list_all is_digit cs) e in (digit_in c p.0, p.1));
+  more = λ c cs r e. both_true _ _ (digit_from c r) e;
+}
+
+digits_model : IsNumeralModel (λ ds. list_all is_digit ds ≡ true) number_value
+digits_model = numerals_by_weight (λ ds. list_all is_digit ds ≡ true) digits_test number_value (record { empty = refl; more = λ c cs r. refl })
+
+digits_token : (ds : List ℕ) → list_all is_digit ds ≡ true → 0 < length ds → length ds ≤ 9 → IsOneToken ds
+digits_token [] e some few = absurd (omega arith)
+digits_token (b ∷ bytes) e some few = let p = and_true (is_digit b) (list_all is_digit bytes) e in number_is_token b bytes p.0 p.1 few
+
+digits_kind : (ds : List ℕ) → list_all is_digit ds ≡ true → 0 < length ds → kind_of ds ≡ Number
+digits_kind [] e some = absurd (omega arith)
+digits_kind (b ∷ bytes) e some =
+    let p = and_true (is_digit b) (list_all is_digit bytes) e in
+    let d = p.0 in
+    let n : is_letter b ≡ false = grind (arith, nat_tests) in
+    rw (n, d) refl
+
+module _ (n : ℕ) (small : n < 10 ^ 9) where
+  are_digits : list_all is_digit (decimal n) ≡ true
+  are_digits = digits_decimal digits_model n (omega arith)
+
+  pub number_token : IsOneToken (decimal n)
+  number_token = digits_token (decimal n) are_digits (decimal_nonempty n (omega arith)) (length-decimal-le 9 n (omega arith) small (omega arith))
+
+  pub number_kind : kind_of (decimal n) ≡ Number
+  number_kind = digits_kind (decimal n) are_digits (decimal_nonempty n (omega arith))
+
+  pub spelled_number : (t : Lexeme) → IsSpelled (decimal n) t → (is_number t ≡ true) × (value t ≡ n)
+  spelled_number t s = (kind_passes Number t (s.kind ∙ number_kind), ap number_value s.text ∙ digits_value-decimal digits_model n (omega arith))
+
+  -- a number within its limit
+  pub number_found : (over : Lexeme → Option RefusalKind) → ((t : Lexeme) → value t ≡ n → over t ≡ None) → (ts : List Lexeme) → AreSpelled ts (decimal n ∷ []) → Found (IsNumeral over) (Is n) ts
+  number_found over fine ts s = found_made value (λ t x. (spelled_number t x).1) ts (one_found (decimal n) (λ t x. (spelled_number t x).0) (λ t x. fine t (spelled_number t x).1) ts s)
+
+  pub rereads_number : (over : Lexeme → Option RefusalKind) → ((t : Lexeme) → value t ≡ n → over t ≡ None) → Rereads (IsNumeral over) (Is n) (decimal n ∷ [])
+  rereads_number over fine = one_rereads (decimal n) number_token (number_found over fine)
+
+-- ---- lines and whole texts
+
+pub reread_line : {A : Type 0} {P : Lang A} {R : A → Type 0} (words : Words) → Rereads P R words → RereadsLines P R (words ∷ [])
+reread_line {P = P} {R = R} words p = record {
+  spelled = p.spelled;
+  printed = subst (λ (ws : Words). LinesArePrinted (words ∷ []) ws) (append-nil p.spelled) (line_printed p.printed no_lines);
+  read = p.read;
+}
+
+-- lines of which all tokens are a text
+pub lines_say : {A : Type 0} (P : Lang A) (a : A) (lines : List Words) → RereadsLines P (Is a) lines → Says P (lines_text lines) (Ok a)
+lines_say P a lines p ts last are =
+    let s = spelled_tokens (lines_text lines) p.spelled (lines_spell lines p.spelled p.printed) ts last are in
+    let f = p.read ts s.0 in
+    record { text = record { us = ts; parts = sym (append-nil ts); whole = subst (λ x. IsWhole P ts x) f.holds f.whole; stops = none_stops P ts }; ends = s.1 }
+
+-- ---- many
+
+-- by other words for the texts
+pub rereads_into : {A : Type 0} {P Q : Lang A} {R : A → Type 0} (words : Words) → ((xs : List Symbol) (a : A) → P xs a → Q xs a) → Rereads P R words → Rereads Q R words
+rereads_into words into p = record { spelled = p.spelled; printed = p.printed; read = λ ts s. (let f = p.read ts s in record { value = f.value; whole = record { text = f.whole.text; is = into f.whole.text f.value f.whole.is; parts = f.whole.parts; fine = f.whole.fine }; holds = f.holds }) }
+
+pub lines_into : {A : Type 0} {P Q : Lang A} {R : A → Type 0} (lines : List Words) → ((xs : List Symbol) (a : A) → P xs a → Q xs a) → RereadsLines P R lines → RereadsLines Q R lines
+lines_into lines into p = record { spelled = p.spelled; printed = p.printed; read = λ ts s. (let f = p.read ts s in record { value = f.value; whole = record { text = f.whole.text; is = into f.whole.text f.value f.whole.is; parts = f.whole.parts; fine = f.whole.fine }; holds = f.holds }) }
+
+-- lines behind lines that stand for just this, and behind any
+pub lines_then : {A B : Type 0} {P : Lang A} {Q : A → Lang B} {S : B → Type 0} (lines more : List Words) (a : A) → RereadsLines P (Is a) lines → RereadsLines (Q a) S more → RereadsLines (Then P Q) S (lines ++ more)
+lines_then {A} {Q = Q} {S = S} lines more a p q = lines_behind_line lines more p q.spelled q.printed (λ b e ts s. subst (λ (x : A). Found (Q x) S ts) (sym e) (q.read ts s))
+
+pub lines_next : {A B : Type 0} {P : Lang A} {Q : Lang B} {R : A → Type 0} {S : B → Type 0} (lines more : List Words) → RereadsLines P R lines → RereadsLines Q S more → RereadsLines (Then P (λ a. Q)) S (lines ++ more)
+lines_next lines more p q = lines_behind_line lines more p q.spelled q.printed (λ b e ts s. q.read ts s)
+
+-- no line
+pub lines_nothing : {A : Type 0} {P : Lang A} (a : A) → P [] a → RereadsLines P (Is a) []
+lines_nothing {P = P} a is = record { spelled = []; printed = no_lines; read = λ ts s. from_nothing ts s }
+  where
+    from_nothing : (ts : List Lexeme) → AreSpelled ts [] → Found P (Is a) ts
+    from_nothing ts no_tokens = record { value = a; whole = record { text = []; is = is; parts = refl; fine = refl }; holds = refl }
+
+module _ {A S : Type 0} (E : S → Lang A) (step : S → A → S) (s : S) where
+  more_made : (a : A) (xs ys : List Symbol) (many : List A) → E s xs a → Made (Repeated E step (step s a)) (λ rest. a ∷ rest) ys many → Repeated E step s (xs ++ ys) many
+  more_made a xs ys many is (made rest m) = one_more a is m
+
+  more_of : (zs : List Symbol) (many : List A) → Then (E s) (λ a. Made (Repeated E step (step s a)) (λ rest. a ∷ rest)) zs many → Repeated E step s zs many
+  more_of zs many (then {xs = xs} {ys = ys} a is m) = more_made a xs ys many is m
+
+  -- one more element
+  pub rereads_more : (words more : Words) (a : A) (rest : List A) → Rereads (E s) (Is a) words → Rereads (Repeated E step (step s a)) (Is rest) more → Rereads (Repeated E step s) (Is (a ∷ rest)) (words ++ more)
+  rereads_more words more a rest p q = rereads_into (words ++ more) more_of (rereads_then words more a p (rereads_as (λ rest. a ∷ rest) more rest q))
+
+  pub lines_more : (lines more : List Words) (a : A) (rest : List A) → RereadsLines (E s) (Is a) lines → RereadsLines (Repeated E step (step s a)) (Is rest) more → RereadsLines (Repeated E step s) (Is (a ∷ rest)) (lines ++ more)
+  lines_more lines more a rest p q = lines_into (lines ++ more) more_of (lines_then lines more a p (lines_made (λ rest. a ∷ rest) more (λ b e. ap (λ (rest : List A). a ∷ rest) e) q))

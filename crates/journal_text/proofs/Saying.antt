@@ -1,0 +1,21 @@
+-- What an exact reader answers of the tokens of a text is what its grammar says of the text.
+use Rattle.std.proofs.Common.{◌≡◌, ℕ, List, Result, Ok, Err, subst}
+use Rattle.text_tokens.specs.declared.refusal.Refusal.{Refusal}
+use Rattle.text_tokens.specs.declared.refusal.RefusalKind.TheVariants.{Trailing}
+use Rattle.text_tokens.specs.Text.{Lexeme}
+use Rattle.text_tokens.specs.Scan.{ahead_of, last_of}
+use Rattle.text_tokens.specs.Reading.{Reader, whole_input}
+use Rattle.text_tokens.specs.Grammar.{Lang}
+use Rattle.text_tokens.specs.Lawful.{Exact}
+use Rattle.text_tokens.specs.Inputs.{TellsInput}
+use Rattle.text_tokens.proofs.Blanks.{point}
+use Rattle.text_tokens.proofs.Tokenizing.{one_reading, tokens_of_text}
+use Rattle.text_tokens.proofs.Enclosing.{exact_input}
+use Rattle.journal_text.specs.JournalRows.{Says}
+
+pub says : {A : Type 0} (P : Lang A) (p : Reader A) → Exact P p → (text : List ℕ) (answer : Result A Refusal) → whole_input Trailing p (last_of (point text 0)) (ahead_of (point text 0)) ≡ answer → Says P text answer
+says {A} P p e text answer same ts last are =
+    let one = one_reading text (ahead_of (point text 0)) ts (last_of (point text 0)) last (tokens_of_text text) are in
+    subst (λ (l : Refusal). TellsInput P Trailing l ts answer) one.last
+    (subst (λ (us : List Lexeme). TellsInput P Trailing (last_of (point text 0)) us answer) one.tokens
+    (subst (λ (r : Result A Refusal). TellsInput P Trailing (last_of (point text 0)) (ahead_of (point text 0)) r) same ((exact_input P Trailing p e).tells (last_of (point text 0)) (ahead_of (point text 0)))))

@@ -1,0 +1,131 @@
+-- The reader of turns is a part for its grammar.
+use Rattle.std.proofs.Common.{◌≡◌, ℕ, Bool, true, List, [], ◌∷◌, Option, refl}
+use Rattle.std.specs.Prelude.{codes, ◌||◌}
+use Rattle.text_tokens.specs.declared.token.TokenKind.TheVariants.{Word}
+use Rattle.text_tokens.specs.Text.{Lexeme}
+use Rattle.text_tokens.specs.Cursor.{same_kind}
+use Rattle.text_tokens.specs.Reading.{Reader, ◌>>=◌, pure, the_line, no_limit}
+use Rattle.text_tokens.specs.Grammar.{Lang, IsThe, Then, Either, Closed, Repeated}
+use Rattle.text_tokens.specs.Lawful.{Exact, IsPart, always, Starts, AreElements}
+use Rattle.text_tokens.proofs.Exactness.{exact}
+use Rattle.text_tokens.proofs.Parts.{part_the}
+use Rattle.text_tokens.proofs.Beginnings.{starts_in, starts_some}
+use Rattle.text_tokens.proofs.Repeating.{part_repeated}
+use Rattle.text_tokens.proofs.Distinguishing.{sample, other_text}
+use Rattle.journal_text.specs.Parts.{word, is_end, IsWord, IsNumber}
+use Rattle.journal_text.specs.Journals.{IsCell}
+use Rattle.journal_text.specs.Turns.{Nothing, Unheeded, names_failure, is_failure, IsPlaced, IsFailed, IsClaimant, IsBusy, IsMark, is_turn, IsTurn, as_before, AreTurns, IsTurns}
+use Rattle.journal_text.specs.Readers.{a_word, a_number, unheeded, placed, a_cell, a_failed, a_claimant, a_busy, a_mark, a_turn, turn_in, all_turns, the_turns}
+use Rattle.journal_text.proofs.PartLaws.{behind, into, up_to_end, one_of_two, starts_word, part_word, part_number}
+use Rattle.journal_text.proofs.JournalLaws.{not_either, starts_either, part_cell}
+
+part_unheeded : IsPart (Unheeded IsNumber) (unheeded a_number) always
+part_unheeded = into (λ n. tt) part_number
+
+part_placed : (text : List ℕ) → IsPart (IsWord text) (a_word text) always → IsPart (IsPlaced text) (placed text) always
+unfolding placed
+part_placed text w = behind w (λ line. part_unheeded)
+
+starts_placed : (text : List ℕ) → Starts (IsPlaced text) (word text) no_limit
+starts_placed text = starts_word text (λ line. Unheeded IsNumber) (λ line. unheeded a_number) always (λ line. part_unheeded)
+
+passes_failure : is_failure (sample Word (codes "edge")) ≡ true
+unfolding same_kind names_failure
+passes_failure = refl
+
+part_behind_failed : IsPart (Then (IsThe is_failure) (λ line. Unheeded IsNumber)) (the_line is_failure >>= λ line. unheeded a_number) always
+part_behind_failed = behind (part_the is_failure (sample Word (codes "edge")) passes_failure) (λ line. part_unheeded)
+
+part_failed : IsPart IsFailed a_failed always
+unfolding a_failed
+part_failed = behind (part_word (codes "failed") refl) (λ line. part_behind_failed)
+
+starts_failed : Starts IsFailed (word (codes "failed")) no_limit
+starts_failed = starts_word (codes "failed") _ (λ line. the_line is_failure >>= λ line. unheeded a_number) always (λ line. part_behind_failed)
+
+part_claimant : IsPart IsClaimant a_claimant always
+unfolding a_claimant
+part_claimant = behind (part_word (codes "by") refl) (λ line. behind part_number (λ caller. behind part_number (λ turn. part_unheeded)))
+
+part_behind_busy : IsPart (Then IsCell (λ c. Then IsClaimant (λ u. IsPlaced (codes "place")))) (a_cell >>= λ c. a_claimant >>= λ u. placed (codes "place")) always
+part_behind_busy = behind part_cell (λ c. behind part_claimant (λ u. part_placed (codes "place") (part_word (codes "place") refl)))
+
+part_busy : IsPart IsBusy a_busy always
+unfolding a_busy
+part_busy = behind (part_word (codes "busy") refl) (λ line. part_behind_busy)
+
+starts_busy : Starts IsBusy (word (codes "busy")) no_limit
+starts_busy = starts_word (codes "busy") _ (λ line. a_cell >>= λ c. a_claimant >>= λ u. placed (codes "place")) always (λ line. part_behind_busy)
+
+abbrev by_done : Lexeme → Bool
+by_done = word (codes "done")
+
+abbrev by_idle : Lexeme → Bool
+by_idle = word (codes "idle")
+
+abbrev by_failed : Lexeme → Bool
+by_failed = word (codes "failed")
+
+abbrev by_busy : Lexeme → Bool
+by_busy = word (codes "busy")
+
+abbrev Last2 : Lang Nothing
+Last2 = Either IsFailed IsBusy
+
+abbrev Last3 : Lang Nothing
+Last3 = Either (IsPlaced (codes "idle")) Last2
+
+starts_last2 : Starts Last2 (λ t. by_failed t || by_busy t) no_limit
+starts_last2 = starts_either IsFailed IsBusy by_failed by_busy starts_failed starts_busy
+
+starts_last3 : Starts Last3 (λ t. by_idle t || (by_failed t || by_busy t)) no_limit
+starts_last3 = starts_either (IsPlaced (codes "idle")) Last2 by_idle (λ t. by_failed t || by_busy t) (starts_placed (codes "idle")) starts_last2
+
+part_mark : IsPart IsMark a_mark always
+unfolding a_mark
+part_mark = one_of_two by_done _ no_limit (starts_placed (codes "done")) (starts_in Last3 _ no_limit starts_last3) (starts_some Last3 _ no_limit starts_last3)
+    (λ t e. not_either by_idle (λ t. by_failed t || by_busy t) by_done t (λ e. other_text Word (codes "idle") (codes "done") t refl e)
+    (λ e. not_either by_failed by_busy by_done t (λ e. other_text Word (codes "failed") (codes "done") t refl e) (λ e. other_text Word (codes "busy") (codes "done") t refl e) e) e)
+    (part_placed (codes "done") (part_word (codes "done") refl))
+    (one_of_two by_idle _ no_limit (starts_placed (codes "idle")) (starts_in Last2 _ no_limit starts_last2) (starts_some Last2 _ no_limit starts_last2)
+    (λ t e. not_either by_failed by_busy by_idle t (λ e. other_text Word (codes "failed") (codes "idle") t refl e) (λ e. other_text Word (codes "busy") (codes "idle") t refl e) e)
+    (part_placed (codes "idle") (part_word (codes "idle") refl))
+    (one_of_two by_failed by_busy no_limit starts_failed (starts_in IsBusy by_busy no_limit starts_busy) (starts_some IsBusy by_busy no_limit starts_busy)
+    (λ t e. other_text Word (codes "busy") (codes "failed") t refl e)
+    part_failed part_busy))
+
+-- ---- the section
+
+part_behind_turn : IsPart (Then IsNumber (λ caller. Then IsNumber (λ turn. IsMark))) (a_number >>= λ caller. a_number >>= λ turn. a_mark) always
+part_behind_turn = behind part_number (λ caller. behind part_number (λ turn. part_mark))
+
+part_turn : IsPart IsTurn a_turn always
+unfolding a_turn
+part_turn = behind (part_word (codes "turn") refl) (λ line. part_behind_turn)
+
+starts_turn : Starts IsTurn is_turn no_limit
+starts_turn = starts_word (codes "turn") _ (λ line. a_number >>= λ caller. a_number >>= λ turn. a_mark) always (λ line. part_behind_turn)
+
+abbrev pub TurnIn : Nothing → Lang Nothing
+TurnIn s = IsTurn
+
+pub turn_elements : AreElements TurnIn turn_in is_turn always is_end
+turn_elements = record {
+  over = λ s. no_limit;
+  start = λ s. starts_turn;
+  part = λ s. part_turn;
+  again = λ t e. refl;
+  ends = λ t e. refl;
+  differ = λ t e. other_text Word (codes "end") (codes "turn") t refl e;
+}
+
+part_turns : IsPart AreTurns all_turns is_end
+unfolding all_turns
+part_turns = part_repeated TurnIn turn_in as_before is_turn always is_end turn_elements tt
+
+pub part_the_turns : IsPart IsTurns the_turns always
+unfolding the_turns
+part_the_turns = behind (part_word (codes "turns") refl) (λ line. up_to_end (into (λ ts. tt) part_turns))
+
+pub exact_turns : Exact IsTurns the_turns
+exact_turns = exact IsTurns the_turns part_the_turns.law

@@ -1,0 +1,17 @@
+use Rattle.std.proofs.Common.{◌∙◌, sym}
+use Rattle.std.proofs.lemmas.Result.{err_from_is_err_and}
+use Rattle.text_tokens.proofs.Stepping.{another_none, another_some, another_fails}
+use Rattle.journal_text.specs.Journals.{is_entry}
+use Rattle.journal_text.specs.Readers.{an_entry}
+use Rattle.journal_text.proofs.journal.more_entry.Goals as goal
+
+pub returns-then-not-is_next-clause-reads : goal.returns-then-not-is_next-clause-reads
+returns-then-not-is_next-clause-reads c = another_none is_entry (an_entry c.args.bots c.args.actions c.args.vars c.args.before) c.args.tokens.now (sym c.is_next.ensures ∙ c.if-not-is_next.true)
+
+pub returns-in_err-read_entry-clause-reads : goal.returns-in_err-read_entry-clause-reads
+returns-in_err-read_entry-clause-reads c =
+    let p = err_from_is_err_and c.from_residual.result c.from_residual.ensures.1 in
+    rw (p.1, p.2) (another_fails is_entry (an_entry c.args.bots c.args.actions c.args.vars c.args.before) c.args.tokens.now (sym c.is_next.ensures ∙ c.if-not-is_next.false) c.in_err-read_entry.field-0.0 c.read_entry.new.tokens c.in_err-read_entry.ensures.reads)
+
+pub returns-clause-reads : goal.returns-clause-reads
+returns-clause-reads c = another_some is_entry (an_entry c.args.bots c.args.actions c.args.vars c.args.before) c.args.tokens.now (sym c.is_next.ensures ∙ c.if-not-is_next.false) c.in_ok-read_entry.field-0 c.read_entry.new.tokens c.in_ok-read_entry.ensures.reads

@@ -1,0 +1,11 @@
+use Rattle.text_tokens.proofs.Settling.{tells_of, reads_of}
+use Rattle.journal_text.specs.Turns.{Nothing, IsTurns}
+use Rattle.journal_text.specs.Readers.{the_turns}
+use Rattle.journal_text.proofs.TurnLaws.{exact_turns}
+use Rattle.journal_text.proofs.turns.read_turns.Goals as goal
+
+pub returns-clause-tells : goal.returns-clause-tells
+returns-clause-tells c = tells_of IsTurns (λ (u : Nothing). u) the_turns exact_turns c.args.tokens.now c.read_whole.result c.read_whole.new.tokens c.read_whole.ensures
+
+pub returns-clause-reads : goal.returns-clause-reads
+returns-clause-reads c = reads_of IsTurns (λ (u : Nothing). u) the_turns exact_turns c.args.tokens.now c.read_whole.result c.read_whole.new.tokens c.read_whole.ensures

@@ -1,0 +1,10 @@
+pub mod JournalRows
+pub mod Journals
+pub mod Parts
+pub mod Readers
+pub mod Rereading
+pub mod Texts
+pub mod TextRows
+pub mod TurnRows
+pub mod Turns
+pub mod Views

@@ -1,0 +1,59 @@
+-- Entries that break no limit are read back from their text.
+use Rattle.std.specs.Prelude.{◌≡◌, ◌<◌, ◌≤◌, ◌+◌, ◌-◌, ◌^◌, ℕ, ℤ, pos, negsuc, suc, true, List, length, take, drop, replicate, Ok}
+use Rattle.std.specs.List.{All}
+use Rattle.tri_lattice.specs.declared.node.Node.{Node}
+use Rattle.amoebot_state.specs.declared.bot.Bot.{Bot}
+use Rattle.amoebot_state.specs.declared.cell.CellName.{CellName}
+use Rattle.amoebot_state.specs.declared.cell.CellName.TheVariants as name
+use Rattle.amoebot_state.specs.declared.cell.Cell.{Cell}
+use Rattle.amoebot_state.specs.declared.cell.Cell.TheVariants as cell
+use Rattle.amoebot_state.specs.declared.verdict.Entry.{Entry}
+use Rattle.amoebot_state.specs.declared.verdict.Moved.{Moved}
+use Rattle.amoebot_state.specs.declared.verdict.Moved.TheVariants as moved
+use Rattle.journal_text.specs.Journals.{most_entries, is_known, IsJournal}
+use Rattle.journal_text.specs.JournalRows.{Says}
+use Rattle.journal_text.specs.Texts.{journal_text}
+
+-- how far a whole number is from 0
+abbrev pub size : ℤ → ℕ
+size (pos n) = n
+size (negsuc n) = suc n
+
+pub record HasCoordinates (v : Node) : Type 0 where
+  pub x : size v.x ≤ 9999
+  pub y : size v.y ≤ 9999
+
+-- an amoebot whose memory has 0 past the variables
+pub record HasLimits (vars : ℕ) (b : Bot) : Type 0 where
+  pub head : HasCoordinates b.head
+  pub tail : HasCoordinates b.tail
+  pub rot : b.rot ≤ 5
+  pub eight : length b.mem ≡ 8
+  pub values : All (λ v. v ≤ 255) b.mem
+  pub zeros : drop vars b.mem ≡ replicate (8 - vars) 0
+
+-- a node with its occupant, or a body with an amoebot
+abbrev pub IsWritable : ℕ → CellName × Cell → Type 0
+IsWritable vars (name.Spot v, cell.Spot o) = HasCoordinates v
+IsWritable vars (name.Spot v, cell.Body b) = ⊥
+IsWritable vars (name.Body i, cell.Spot o) = ⊥
+IsWritable vars (name.Body i, cell.Body b) = HasLimits vars b
+
+abbrev pub IsPossible : Moved → Type 0
+IsPossible moved.None = Unit {0}
+IsPossible (moved.Expand p) = p.dir ≤ 5
+IsPossible (moved.Contract e) = Unit {0}
+IsPossible (moved.Push p) = p.dir ≤ 5
+IsPossible (moved.Pull p) = p.dir ≤ 5
+
+-- an entry that breaks no limit
+pub record KeepsLimits (bots actions vars : ℕ) (e : Entry) : Type 0 where
+  pub known : is_known bots actions e ≡ true
+  pub movement : IsPossible e.moved
+  pub few : length e.patch ≤ 10
+  pub pairs : All (IsWritable vars) e.patch
+
+-- such entries, at most so many, are read back from their text, in a world of so many amoebots, with a program of so many actions
+abbrev pub JournalsReadBack : Type 0
+JournalsReadBack = (bots actions vars : ℕ) (entries : List Entry) → bots < 2 ^ 16 → actions < 2 ^ 8 → vars ≤ 8 → length entries ≤ most_entries → All (KeepsLimits bots actions vars) entries
+    → Says (IsJournal bots actions vars) (journal_text vars entries) (Ok entries)

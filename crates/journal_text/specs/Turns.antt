@@ -1,0 +1,68 @@
+-- The section `turns`. It is read by its grammar alone, and stands for nothing.
+--   turns   := "turns" { "turn" NUMBER NUMBER mark } "end"
+--   mark    := "done" NUMBER | "idle" NUMBER | "failed" failure NUMBER | "busy" cell "by" NUMBER NUMBER NUMBER "place" NUMBER
+--   cell    := "spot" node | "body" NUMBER
+--   failure := one of the words of failures
+-- There is no rule on ranges but that on the coordinates of cells, and no limit on the number of turns.
+use Rattle.std.specs.Prelude.{ℕ, Bool, ◌&&◌, List, [], ◌∷◌, codes}
+use Rattle.std.specs.List.{list_any}
+use Rattle.std.specs.Str.{bytes_eq}
+use Rattle.text_tokens.specs.declared.token.TokenKind.TheVariants.{Word}
+use Rattle.text_tokens.specs.Text.{Lexeme}
+use Rattle.text_tokens.specs.Cursor.{is_kind}
+use Rattle.text_tokens.specs.Grammar.{Lang, Then, Made, IsThe, Closed, Either, Repeated}
+use Rattle.journal_text.specs.Parts.{word, is_end, IsWord, IsNumber}
+use Rattle.journal_text.specs.Journals.{IsCell}
+
+abbrev pub Nothing : Type 0
+Nothing = Unit {0}
+
+-- a part, for nothing
+abbrev pub Unheeded : {A : Type 0} → Lang A → Lang Nothing
+Unheeded P = Made P (λ a. tt)
+
+abbrev pub failure_words : List (List ℕ)
+failure_words = codes "no_port" ∷ codes "no_neighbour" ∷ codes "out_of_range" ∷ codes "occupied" ∷ codes "not_contracted" ∷ codes "not_expanded" ∷ codes "peer_not_expanded"
+    ∷ codes "peer_not_contracted" ∷ codes "edge" ∷ codes "would_split" ∷ codes "no_choice" ∷ []
+
+unfoldable pub names_failure : List ℕ → Bool
+names_failure text = list_any (λ word. bytes_eq word text) failure_words
+
+abbrev pub is_failure : Lexeme → Bool
+is_failure t = is_kind Word t && names_failure t.text
+
+-- ---- marks
+
+-- a mark with a place
+abbrev pub IsPlaced : List ℕ → Lang Nothing
+IsPlaced text = Then (IsWord text) (λ line. Unheeded IsNumber)
+
+abbrev pub IsFailed : Lang Nothing
+IsFailed = Then (IsWord (codes "failed")) (λ line. Then (IsThe is_failure) (λ line. Unheeded IsNumber))
+
+-- the caller, the turn and the amoebot of a claim
+abbrev pub IsClaimant : Lang Nothing
+IsClaimant = Then (IsWord (codes "by")) (λ line. Then IsNumber (λ caller. Then IsNumber (λ turn. Unheeded IsNumber)))
+
+abbrev pub IsBusy : Lang Nothing
+IsBusy = Then (IsWord (codes "busy")) (λ line. Then IsCell (λ c. Then IsClaimant (λ u. IsPlaced (codes "place"))))
+
+abbrev pub IsMark : Lang Nothing
+IsMark = Either (IsPlaced (codes "done")) (Either (IsPlaced (codes "idle")) (Either IsFailed IsBusy))
+
+-- ---- the section
+
+abbrev pub is_turn : Lexeme → Bool
+is_turn = word (codes "turn")
+
+abbrev pub IsTurn : Lang Nothing
+IsTurn = Then (IsWord (codes "turn")) (λ line. Then IsNumber (λ caller. Then IsNumber (λ turn. IsMark)))
+
+abbrev pub as_before : Nothing → Nothing → Nothing
+as_before s u = s
+
+abbrev pub AreTurns : Lang (List Nothing)
+AreTurns = Repeated (λ s. IsTurn) as_before tt
+
+abbrev pub IsTurns : Lang Nothing
+IsTurns = Then (IsWord (codes "turns")) (λ line. Closed (Unheeded AreTurns) is_end)

@@ -1,0 +1,417 @@
+//! The section `journal` read.
+
+ghost use Rattle.std.specs.Prelude.{◌≡◌, ◌<◌, ◌≤◌, ◌^◌, length, map, option_map, nat_lt, if◌then◌else◌, IfOk, IfSome, Some, None};
+ghost use Rattle.std.specs.List.{flat_map, list_all};
+ghost use Rattle.text_tokens.specs.Cursor.{next_passes};
+ghost use Rattle.text_tokens.specs.Steps.{Gives, ReadsOf, TellsOf, another};
+ghost use Rattle.amoebot_state.specs.declared.cell.Cell.TheVariants as cell;
+ghost use Rattle.journal_text.specs.Journals as spec;
+ghost use Rattle.journal_text.specs.Readers as reader;
+ghost use Rattle.journal_text.specs.Views as view;
+
+use crate::parts::{read_bot, read_end, read_node, read_port, read_word};
+use amoebot_state::{Bot, Cell, CellName, End, Entry, Moved, Patch, Port};
+use arrayvec::ArrayVec;
+use std::alloc::Global;
+use std::marker::Model;
+use text_tokens::{ReadRefusal, RefusalKind, TokenKind, Tokens, number, refused};
+use tri_lattice::Node;
+
+const MOST_ENTRIES: u32 = 65_536;
+
+/// The most pairs of an entry.
+const MOST_PAIRS: usize = 10;
+
+const LAST_CALLER: u32 = 15;
+
+const LAST_TURN: u32 = 65_535;
+
+/// The entries of a journal. They are seen as a list.
+#[derive(Drop)]
+pub struct Entries {
+    entries: Vec<Entry>,
+}
+
+impl Model for Entries {
+    ghost use Rattle.std.specs.Prelude.{List};
+    ghost use Rattle.amoebot_state.specs.declared.verdict.Entry.{Entry as EntryValue};
+
+    ghost Value = { List EntryValue };
+
+    ghost view = { λ e. e.entries.items };
+}
+
+impl Entries {
+    pub fn entries(&self) -> &[Entry]
+        ensures { result.now ≡ self.now }
+    {
+        self.entries.as_slice()
+    }
+}
+
+/// A cell as it is written: the number of an amoebot may be any.
+#[derive(Clone, Copy, Debug, PartialEq, Eq)]
+pub(crate) enum WrittenCell {
+    Spot(Node),
+    Body(u32),
+}
+
+/// A cell with its new value, as they are written.
+#[derive(Clone, Copy, Debug, PartialEq, Eq)]
+enum WrittenPair {
+    Spot { node: Node, occupant: Option<u32> },
+    Body { id: u32, bot: Bot },
+}
+
+// The default fills the free places of a list of fixed size, and means nothing else.
+impl Default for WrittenPair {
+    fn default() -> Self {
+        WrittenPair::Spot {
+            node: Node { x: 0, y: 0 },
+            occupant: None,
+        }
+    }
+}
+
+/// The numbers with which an entry begins, as they are written.
+#[derive(Clone, Copy, Debug, PartialEq, Eq)]
+struct Numbers {
+    place: u32,
+    caller: u32,
+    turn: u32,
+    bot: u32,
+    action: u32,
+}
+
+/// An entry as it is written, with the line of its word.
+#[derive(Drop)]
+struct Written {
+    line: u32,
+    numbers: Numbers,
+    moved: Moved,
+    pairs: ArrayVec<WrittenPair, MOST_PAIRS>,
+}
+
+/// A port behind this word.
+#[tactic(auto, unfolding(crate::specs::Readers::port_behind))]
+fn read_port_behind(tokens: &mut Tokens<'_>, text: &[u8]) -> Result<Port, ReadRefusal>
+    ensures { Gives (λ p. p) (reader.port_behind text.now) tokens.old result tokens.new }
+{
+    read_word(tokens, text)?;
+    read_port(tokens)
+}
+
+/// An end behind this word.
+#[tactic(auto, unfolding(crate::specs::Readers::end_behind))]
+fn read_end_behind(tokens: &mut Tokens<'_>, text: &[u8]) -> Result<End, ReadRefusal>
+    ensures { Gives (λ e. e) (reader.end_behind text.now) tokens.old result tokens.new }
+{
+    read_word(tokens, text)?;
+    read_end(tokens)
+}
+
+fn read_moved(tokens: &mut Tokens<'_>) -> Result<Moved, ReadRefusal>
+    ensures { Gives (λ m. m) reader.a_movement tokens.old result tokens.new }
+{
+    if tokens.is_next(TokenKind::Word, b"none") {
+        read_word(tokens, b"none")?;
+        Ok(Moved::None)
+    } else if tokens.is_next(TokenKind::Word, b"expand") {
+        Ok(Moved::Expand(read_port_behind(tokens, b"expand")?))
+    } else if tokens.is_next(TokenKind::Word, b"contract") {
+        Ok(Moved::Contract(read_end_behind(tokens, b"contract")?))
+    } else if tokens.is_next(TokenKind::Word, b"push") {
+        Ok(Moved::Push(read_port_behind(tokens, b"push")?))
+    } else {
+        Ok(Moved::Pull(read_port_behind(tokens, b"pull")?))
+    }
+}
+
+/// A cell, with the number of any amoebot.
+pub(crate) fn read_cell(tokens: &mut Tokens<'_>) -> Result<WrittenCell, ReadRefusal>
+    ensures { Gives view.cell reader.a_cell tokens.old result tokens.new }
+{
+    if tokens.is_next(TokenKind::Word, b"spot") {
+        read_word(tokens, b"spot")?;
+        Ok(WrittenCell::Spot(read_node(tokens)?))
+    } else {
+        read_word(tokens, b"body")?;
+        Ok(WrittenCell::Body(number(tokens)?))
+    }
+}
+
+/// The number of an occupant, or that there is none.
+fn read_occupant(tokens: &mut Tokens<'_>) -> Result<Option<u32>, ReadRefusal>
+    ensures { Gives (λ o. cell.Spot o) reader.an_occupant tokens.old result tokens.new }
+{
+    if tokens.is_next(TokenKind::Word, b"empty") {
+        read_word(tokens, b"empty")?;
+        Ok(None)
+    } else {
+        Ok(Some(number(tokens)?))
+    }
+}
+
+#[tactic(auto, unfolding(crate::specs::Readers::a_pair, crate::specs::Readers::a_value))]
+fn read_pair(tokens: &mut Tokens<'_>, vars: u8) -> Result<WrittenPair, ReadRefusal>
+    requires { vars ≤ 8 }
+    ensures { Gives view.pair (reader.a_pair vars) tokens.old result tokens.new }
+{
+    match read_cell(tokens)? {
+        WrittenCell::Spot(node) => Ok(WrittenPair::Spot {
+            node,
+            occupant: read_occupant(tokens)?,
+        }),
+        WrittenCell::Body(id) => Ok(WrittenPair::Body {
+            id,
+            bot: read_bot(tokens, vars)?,
+        }),
+    }
+}
+
+/// Whether a word comes with which a cell begins.
+fn is_cell_next(tokens: &Tokens<'_>) -> bool
+    ensures { result ≡ next_passes spec.is_cell tokens.now.ahead }
+{
+    tokens.is_next(TokenKind::Word, b"spot") || tokens.is_next(TokenKind::Word, b"body")
+}
+
+/// One more pair, if one comes, where so many more may come.
+fn more_pair(
+    tokens: &mut Tokens<'_>,
+    vars: u8,
+    room: u32,
+) -> Result<Option<WrittenPair>, ReadRefusal>
+    requires { vars ≤ 8 }
+    ensures reads { Gives (λ o. option_map view.pair o) (another spec.is_cell (reader.pair_in vars room)) tokens.old result tokens.new }
+    ensures room { IfOk result (λ o. IfSome o (λ _. 0 < room)) }
+{
+    if !is_cell_next(tokens) {
+        return Ok(None);
+    }
+    if room == 0 {
+        return Err(tokens.refusal(RefusalKind::TooMany).into());
+    }
+    Ok(Some(read_pair(tokens, vars)?))
+}
+
+fn read_pairs(
+    tokens: &mut Tokens<'_>,
+    vars: u8,
+) -> Result<ArrayVec<WrittenPair, MOST_PAIRS>, ReadRefusal>
+    requires { vars ≤ 8 }
+    ensures { Gives (λ v. map view.pair v.items) (reader.all_pairs vars) tokens.old result tokens.new }
+{
+    let mut found = ArrayVec::new();
+    let mut room = MOST_PAIRS as u32;
+    while let Some(pair) = more_pair(tokens, vars, room)? {
+        found.push(pair);
+        room -= 1;
+    }
+    Ok(found)
+}
+
+#[tactic(auto, unfolding(crate::specs::Readers::the_numbers))]
+fn read_numbers(tokens: &mut Tokens<'_>) -> Result<Numbers, ReadRefusal>
+    ensures { Gives view.numbers reader.the_numbers tokens.old result tokens.new }
+{
+    let place = number(tokens)?;
+    let caller = number(tokens)?;
+    let turn = number(tokens)?;
+    let bot = number(tokens)?;
+    let action = number(tokens)?;
+    Ok(Numbers {
+        place,
+        caller,
+        turn,
+        bot,
+        action,
+    })
+}
+
+/// The word of an entry behind so many, for its line.
+#[tactic(auto, unfolding(crate::specs::Readers::entry_word))]
+fn read_entry_word(tokens: &mut Tokens<'_>, before: u32) -> Result<u32, ReadRefusal>
+    ensures reads { Gives (λ line. line) (reader.entry_word before) tokens.old result tokens.new }
+    ensures room { IfOk result (λ _. before < spec.most_entries) }
+{
+    let token = tokens.take(TokenKind::Word, b"entry")?;
+    if before >= MOST_ENTRIES {
+        return Err(refused(token.line, RefusalKind::TooMany));
+    }
+    Ok(token.line)
+}
+
+#[tactic(auto, unfolding(crate::specs::Readers::written))]
+fn read_written(tokens: &mut Tokens<'_>, vars: u8, before: u32) -> Result<Written, ReadRefusal>
+    requires { vars ≤ 8 }
+    ensures reads { Gives view.written (reader.written vars before) tokens.old result tokens.new }
+    ensures room { IfOk result (λ _. before < spec.most_entries) }
+{
+    let line = read_entry_word(tokens, before)?;
+    let numbers = read_numbers(tokens)?;
+    let moved = read_moved(tokens)?;
+    let pairs = read_pairs(tokens, vars)?;
+    Ok(Written {
+        line,
+        numbers,
+        moved,
+        pairs,
+    })
+}
+
+/// The pair, if the amoebots that it names are some of so many.
+fn known_pair(pair: WrittenPair, bots: u16) -> Option<(CellName, Cell)>
+    ensures { result ≡ if list_all (λ id. nat_lt id bots) (spec.ids_of_pair (view.pair pair)) then Some (view.pair pair) else None }
+{
+    match pair {
+        WrittenPair::Spot {
+            node,
+            occupant: None,
+        } => Some((CellName::Spot(node), Cell::Spot(None))),
+        WrittenPair::Spot {
+            node,
+            occupant: Some(id),
+        } if id < u32::from(bots) => Some((CellName::Spot(node), Cell::Spot(Some(id as u16)))),
+        WrittenPair::Body { id, bot } if id < u32::from(bots) => Some((
+            CellName::Body(id as u16),
+            Cell::Body(bot),
+        )),
+        _ => None,
+    }
+}
+
+/// The pairs, at most 10, if the amoebots that they name are some of so many.
+fn known_patch(pairs: &[WrittenPair], bots: u16) -> Option<Patch>
+    requires { length pairs.now ≤ 10 }
+    ensures { result ≡ if list_all (λ id. nat_lt id bots) (flat_map spec.ids_of_pair (map view.pair pairs.now)) then Some (map view.pair pairs.now) else None }
+{
+    let mut patch = Patch::new();
+    for pair in pairs {
+        let (name, cell) = known_pair(*pair, bots)?;
+        patch.push(name, cell);
+    }
+    Some(patch)
+}
+
+/// The entry, if its caller and turn are ones that there may be, and its action and amoebots some of so many.
+fn known_entry(written: &Written, bots: u16, actions: u8) -> Option<Entry>
+    ensures { result ≡ if spec.is_known bots actions (view.written written.now).entry then Some (view.written written.now).entry else None }
+{
+    let Numbers {
+        caller,
+        turn,
+        bot,
+        action,
+        ..
+    } = written.numbers;
+    if caller > LAST_CALLER
+        || turn > LAST_TURN
+        || action >= u32::from(actions)
+        || bot >= u32::from(bots)
+    {
+        return None;
+    }
+    let patch = known_patch(written.pairs.as_slice(), bots)?;
+    Some(Entry {
+        caller: caller as u8,
+        turn,
+        bot: bot as u16,
+        action: action as u8,
+        moved: written.moved,
+        patch,
+    })
+}
+
+/// An entry behind so many. It is judged once no further pair comes.
+#[tactic(auto, unfolding(crate::specs::Readers::an_entry))]
+fn read_entry(
+    tokens: &mut Tokens<'_>,
+    bots: u16,
+    actions: u8,
+    vars: u8,
+    before: u32,
+) -> Result<Entry, ReadRefusal>
+    requires { vars ≤ 8 }
+    ensures reads { Gives (λ e. e) (reader.an_entry bots actions vars before) tokens.old result tokens.new }
+    ensures room { IfOk result (λ _. before < spec.most_entries) }
+{
+    let written = read_written(tokens, vars, before)?;
+    if written.numbers.place != before {
+        return Err(refused(written.line, RefusalKind::BadPlace));
+    }
+    match known_entry(&written, bots, actions) {
+        Some(entry) => Ok(entry),
+        None => Err(refused(written.line, RefusalKind::BadEntry)),
+    }
+}
+
+/// One more entry, if one comes.
+fn more_entry(
+    tokens: &mut Tokens<'_>,
+    bots: u16,
+    actions: u8,
+    vars: u8,
+    before: u32,
+) -> Result<Option<Entry>, ReadRefusal>
+    requires { vars ≤ 8 }
+    ensures reads { Gives (λ o. o) (another spec.is_entry (reader.an_entry bots actions vars before)) tokens.old result tokens.new }
+    ensures room { IfOk result (λ o. IfSome o (λ _. before < spec.most_entries)) }
+{
+    if !tokens.is_next(TokenKind::Word, b"entry") {
+        return Ok(None);
+    }
+    Ok(Some(read_entry(tokens, bots, actions, vars, before)?))
+}
+
+fn read_entries(
+    alloc: Global,
+    tokens: &mut Tokens<'_>,
+    bots: u16,
+    actions: u8,
+    vars: u8,
+) -> Result<Vec<Entry>, ReadRefusal>
+    requires { vars ≤ 8 }
+    ensures { Gives (λ v. v.items) (reader.all_entries bots actions vars) tokens.old result tokens.new }
+{
+    let mut found = Vec::new(alloc);
+    let mut before = 0;
+    while let Some(entry) = more_entry(tokens, bots, actions, vars, before)? {
+        found.push(entry)?;
+        before += 1;
+    }
+    Ok(found)
+}
+
+#[tactic(auto, unfolding(crate::specs::Readers::journal))]
+fn read_whole(
+    alloc: Global,
+    tokens: &mut Tokens<'_>,
+    bots: u16,
+    actions: u8,
+    vars: u8,
+) -> Result<Entries, ReadRefusal>
+    requires { vars ≤ 8 }
+    ensures { Gives (λ e. e) (reader.journal bots actions vars) tokens.old result tokens.new }
+{
+    read_word(tokens, b"journal")?;
+    let entries = read_entries(alloc, tokens, bots, actions, vars)?;
+    read_word(tokens, b"end")?;
+    Ok(Entries { entries })
+}
+
+/// Reads a journal up to its `end`, of a world of so many amoebots, a program of so many actions, and so many variables, at
+/// most 8.
+pub fn read_journal(
+    alloc: Global,
+    tokens: &mut Tokens<'_>,
+    bots: u16,
+    actions: u8,
+    vars: u8,
+) -> Result<Entries, ReadRefusal>
+    requires { vars ≤ 8 }
+    ensures tells { TellsOf (spec.IsJournal bots actions vars) (λ e. e) tokens.old result tokens.new }
+    ensures reads { ReadsOf (spec.IsJournal bots actions vars) (λ e. e) tokens.old result tokens.new }
+{
+    read_whole(alloc, tokens, bots, actions, vars)
+}

@@ -1,0 +1,35 @@
+//! What the grammars of the sections say of their tokens. The functions do nothing: their clauses are the laws.
+
+ghost use Rattle.std.specs.Prelude.{ℕ};
+ghost use Rattle.text_tokens.specs.Lawful.{Exact, IsDecided};
+ghost use Rattle.journal_text.specs.Journals.{IsJournal};
+ghost use Rattle.journal_text.specs.JournalRows.{JournalsAreRead};
+ghost use Rattle.journal_text.specs.Turns.{IsTurns};
+ghost use Rattle.journal_text.specs.TurnRows.{TurnsAreRead};
+ghost use Rattle.journal_text.specs.Rereading.{JournalsReadBack};
+ghost use Rattle.journal_text.specs.TextRows.{TextsArePrinted};
+ghost use Rattle.journal_text.specs.Readers.{journal, the_turns};
+
+/// Of any tokens the grammar of a journal says one thing, and its reader answers that.
+pub fn journal_is_decided()
+    ensures exact { (bots actions vars : ℕ) → Exact (IsJournal bots actions vars) (journal bots actions vars) }
+    ensures decided { (bots actions vars : ℕ) → IsDecided (IsJournal bots actions vars) }
+    ensures read { JournalsAreRead }
+{}
+
+/// So does that of turns.
+pub fn turns_are_decided()
+    ensures exact { Exact IsTurns the_turns }
+    ensures decided { IsDecided IsTurns }
+    ensures read { TurnsAreRead }
+{}
+
+/// Small journals and turns with their texts.
+pub fn texts_are_printed()
+    ensures { TextsArePrinted }
+{}
+
+/// Entries that break no limit are read back from their text.
+pub fn journals_read_back()
+    ensures { JournalsReadBack }
+{}

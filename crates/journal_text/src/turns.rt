@@ -1,0 +1,154 @@
+//! The section `turns` read.
+
+ghost use Rattle.std.specs.Prelude.{◌≡◌};
+ghost use Rattle.std.specs.List.{list_any};
+ghost use Rattle.std.specs.Str.{bytes_eq};
+ghost use Rattle.text_tokens.specs.Reading as reading;
+ghost use Rattle.text_tokens.specs.Steps.{Gives, ReadsOf, TellsOf, another};
+ghost use Rattle.journal_text.specs.Turns as spec;
+ghost use Rattle.journal_text.specs.Readers as reader;
+
+use crate::journal::read_cell;
+use crate::parts::read_word;
+use text_tokens::{ReadRefusal, RefusalKind, TokenKind, Tokens, number, refused};
+
+/// The words of failures.
+const FAILURES: [&str; 11] = [
+    "no_port",
+    "no_neighbour",
+    "out_of_range",
+    "occupied",
+    "not_contracted",
+    "not_expanded",
+    "peer_not_expanded",
+    "peer_not_contracted",
+    "edge",
+    "would_split",
+    "no_choice",
+];
+
+fn names_failure(word: &[u8]) -> bool
+    ensures { result ≡ spec.names_failure word.now }
+{
+    is_one_of(word, &FAILURES)
+}
+
+fn is_one_of(word: &[u8], words: &[&str]) -> bool
+    ensures { result ≡ list_any (λ other. bytes_eq other.now word.now) words.now }
+{
+    words.iter().any(|other| other.as_bytes() == word)
+}
+
+/// The word of a failure, for its line.
+#[tactic(auto, unfolding(text_tokens::specs::Reading::the_line))]
+fn read_failure(tokens: &mut Tokens<'_>) -> Result<u32, ReadRefusal>
+    ensures { Gives (λ line. line) (reading.the_line spec.is_failure) tokens.old result tokens.new }
+{
+    let token = tokens.take_kind(TokenKind::Word)?;
+    if !names_failure(tokens.text(&token)) {
+        return Err(refused(token.line, RefusalKind::Unexpected));
+    }
+    Ok(token.line)
+}
+
+/// A number behind this word.
+#[tactic(auto, unfolding(crate::specs::Readers::placed))]
+fn read_placed(tokens: &mut Tokens<'_>, text: &[u8]) -> Result<(), ReadRefusal>
+    ensures { Gives (λ u. u) (reader.placed text.now) tokens.old result tokens.new }
+{
+    read_word(tokens, text)?;
+    number(tokens)?;
+    Ok(())
+}
+
+#[tactic(auto, unfolding(crate::specs::Readers::a_failed))]
+fn read_failed(tokens: &mut Tokens<'_>) -> Result<(), ReadRefusal>
+    ensures { Gives (λ u. u) reader.a_failed tokens.old result tokens.new }
+{
+    read_word(tokens, b"failed")?;
+    read_failure(tokens)?;
+    number(tokens)?;
+    Ok(())
+}
+
+/// The caller, the turn and the amoebot of a claim.
+#[tactic(auto, unfolding(crate::specs::Readers::a_claimant))]
+fn read_claimant(tokens: &mut Tokens<'_>) -> Result<(), ReadRefusal>
+    ensures { Gives (λ u. u) reader.a_claimant tokens.old result tokens.new }
+{
+    read_word(tokens, b"by")?;
+    number(tokens)?;
+    number(tokens)?;
+    number(tokens)?;
+    Ok(())
+}
+
+#[tactic(auto, unfolding(crate::specs::Readers::a_busy))]
+fn read_busy(tokens: &mut Tokens<'_>) -> Result<(), ReadRefusal>
+    ensures { Gives (λ u. u) reader.a_busy tokens.old result tokens.new }
+{
+    read_word(tokens, b"busy")?;
+    read_cell(tokens)?;
+    read_claimant(tokens)?;
+    read_placed(tokens, b"place")
+}
+
+fn read_mark(tokens: &mut Tokens<'_>) -> Result<(), ReadRefusal>
+    ensures { Gives (λ u. u) reader.a_mark tokens.old result tokens.new }
+{
+    if tokens.is_next(TokenKind::Word, b"done") {
+        read_placed(tokens, b"done")
+    } else if tokens.is_next(TokenKind::Word, b"idle") {
+        read_placed(tokens, b"idle")
+    } else if tokens.is_next(TokenKind::Word, b"failed") {
+        read_failed(tokens)
+    } else {
+        read_busy(tokens)
+    }
+}
+
+#[tactic(auto, unfolding(crate::specs::Readers::a_turn))]
+fn read_turn(tokens: &mut Tokens<'_>) -> Result<(), ReadRefusal>
+    ensures { Gives (λ u. u) reader.a_turn tokens.old result tokens.new }
+{
+    read_word(tokens, b"turn")?;
+    number(tokens)?;
+    number(tokens)?;
+    read_mark(tokens)
+}
+
+/// One more turn, if one comes.
+fn more_turn(tokens: &mut Tokens<'_>) -> Result<Option<()>, ReadRefusal>
+    ensures { Gives (λ o. o) (another spec.is_turn reader.a_turn) tokens.old result tokens.new }
+{
+    if !tokens.is_next(TokenKind::Word, b"turn") {
+        return Ok(None);
+    }
+    read_turn(tokens)?;
+    Ok(Some(()))
+}
+
+fn read_all_turns(tokens: &mut Tokens<'_>) -> Result<(), ReadRefusal>
+    ensures { Gives (λ u. u) (reader.unheeded reader.all_turns) tokens.old result tokens.new }
+{
+    while let Some(()) = more_turn(tokens)? {}
+    Ok(())
+}
+
+#[tactic(auto, unfolding(crate::specs::Readers::the_turns))]
+fn read_whole(tokens: &mut Tokens<'_>) -> Result<(), ReadRefusal>
+    ensures { Gives (λ u. u) reader.the_turns tokens.old result tokens.new }
+{
+    read_word(tokens, b"turns")?;
+    read_all_turns(tokens)?;
+    read_word(tokens, b"end")?;
+    Ok(())
+}
+
+/// Reads the section `turns` up to its `end`, by its grammar alone.
+pub fn read_turns(tokens: &mut Tokens<'_>) -> Result<(), ReadRefusal>
+    ensures tells { TellsOf spec.IsTurns (λ u. u) tokens.old result tokens.new }
+    ensures reads { ReadsOf spec.IsTurns (λ u. u) tokens.old result tokens.new }
+{
+    read_whole(tokens)
+}
