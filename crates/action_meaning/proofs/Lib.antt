@@ -1,3 +1,4 @@
 -- Lemmas.
 pub mod Alongside
 pub mod Decided
+pub mod Computed

@@ -1,6 +1,6 @@
 //! What holds of verdicts. The functions do nothing: their clauses are the laws.
 
-ghost use Rattle.action_meaning.specs.Laws.{VerdictIsShown, ProgramsDecideByActs, GuardedProgramsDecideGuarded, GuardedStepsStayConnected, GuardedRunsStayConnected};
+ghost use Rattle.action_meaning.specs.Laws.{VerdictIsShown, ProgramsDecideByActs, GuardedProgramsDecideGuarded, GuardedStepsStayConnected, GuardedRunsStayConnected, ValuesAreComputed};
 
 /// The verdict on what a valid configuration shows is the verdict on that configuration, ids without an amoebot allowed.
 #[tactic(auto, using(crate::proofs::Decided::verdict_is_shown))]
@@ -20,4 +20,10 @@ pub fn changes_are_acts()
 pub fn guarded_runs_stay_connected()
     ensures steps { GuardedStepsStayConnected }
     ensures runs { GuardedRunsStayConnected }
+{}
+
+/// Values, failures and verdicts of small expressions and programs on one configuration, of each form at least one.
+#[tactic(auto, using(crate::proofs::Computed::values_are_computed))]
+pub fn values_are_computed()
+    ensures { ValuesAreComputed }
 {}

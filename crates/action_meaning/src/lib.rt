@@ -3,4 +3,6 @@
 
 mod laws;
 
-pub use laws::{changes_are_acts, guarded_runs_stay_connected, verdict_is_shown};
+pub use laws::{
+    changes_are_acts, guarded_runs_stay_connected, values_are_computed, verdict_is_shown,
+};

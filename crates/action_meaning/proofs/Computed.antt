@@ -1,0 +1,6 @@
+-- The tables of values, computed.
+use Rattle.std.proofs.Common.{refl}
+use Rattle.action_meaning.specs.Laws.{ValuesAreComputed}
+
+pub values_are_computed : ValuesAreComputed
+values_are_computed = record { guards = refl; compared = refl; sums = refl; verdicts = refl }
