@@ -1,6 +1,8 @@
 -- A text that passes no limit gives a tree of the productions.
 use Rattle.std.proofs.Common.{◌≡◌, ℕ, suc, Bool, List, ◌∷◌, ◌++◌, sym, subst}
 use Rattle.text_tokens.specs.Text.{Lexeme}
+use Rattle.text_tokens.specs.Cursor.{AreCut}
+use Rattle.text_tokens.proofs.Tokenizing.{tokens_cut}
 use Rattle.text_tokens.specs.Reading.{less, no_limit}
 use Rattle.text_tokens.specs.Grammar.{Symbol, Lang, then, made, is_nothing, of_first, of_second, Limited, Repeated, no_more as no_more_in, one_more}
 use Rattle.text_tokens.specs.Lawful.{Starts, IsText}
@@ -15,11 +17,11 @@ use Rattle.action_grammar.specs.Programs.{IsMove, is_none, is_through, is_contra
 use Rattle.action_grammar.specs.ExpressionReaders.{level_limit, begins_term, begins_unit}
 use Rattle.action_grammar.specs.StatementReaders.{begins_stmt}
 use Rattle.action_tree.proofs.MeasuredStatements.{program_passes}
-use Rattle.action_grammar.specs.Laws.{TextsGiveWritable}
+use Rattle.action_grammar.specs.Laws.{TextsGiveWritable, BytesGiveWritable}
 use Rattle.action_grammar.proofs.Expressing.{made_case, limited_is, starts_term, starts_unit, starts_conj}
 use Rattle.action_grammar.proofs.Stating.{starts_stmt}
 use Rattle.action_grammar.proofs.ProgramLaws.{starts_var, starts_action}
-use Rattle.action_grammar.proofs.Fine.{IsFine, fine_parts, AreSound, tokens_sound, sound_front, fine_text, name_of, number_of, dirterm_of, opened, bound, roomy}
+use Rattle.action_grammar.proofs.Fine.{IsFine, fine_parts, cut_front, fine_text, name_of, number_of, dirterm_of, opened, bound, roomy}
 
 -- ---- what is given of a name for the ports of a set
 
@@ -248,9 +250,11 @@ program_given us p (then {xs = ws} w o (then {xs = gs} guard g (then {xs = xs} v
     let f4 = fine_parts ys es f3.1 in
     made_case (IsA LastWord) (λ e. program_of guard vars actions) es OfProgram (λ e q. record { vars = vars_given most_vars xs vars v f3.0; actions = actions_given most_actions ys actions a f4.0 }) p c
 
--- of the tokens of some bytes
-pub text_given : (ts rest : List Lexeme) (p : Program) → AreSound ts → IsText IsProgram ts p rest → OfProgram p
-text_given ts rest p s t = program_given t.whole.text p t.whole.is (fine_text t.whole.text t.whole.fine (subst AreSound (sym t.whole.parts) (sound_front t.us rest (subst AreSound t.parts s))))
+pub text_given : (ts rest : List Lexeme) (p : Program) → AreCut ts → IsText IsProgram ts p rest → OfProgram p
+text_given ts rest p c t = program_given t.whole.text p t.whole.is (fine_text t.whole.text t.whole.fine (subst AreCut (sym t.whole.parts) (cut_front t.us rest (subst AreCut t.parts c))))
 
 pub texts_give_writable : TextsGiveWritable
-texts_give_writable bytes at ts rest last p are t = program_passes p (text_given ts rest p (tokens_sound bytes at ts last are) t)
+texts_give_writable ts rest p c t = program_passes p (text_given ts rest p c t)
+
+pub bytes_give_writable : BytesGiveWritable
+bytes_give_writable bytes at ts rest last p are t = texts_give_writable ts rest p (tokens_cut bytes at ts last are) t

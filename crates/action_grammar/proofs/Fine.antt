@@ -1,5 +1,5 @@
 -- Texts that pass no limit, of tokens that a text can have.
-use Rattle.std.proofs.Common.{◌≡◌, ◌<◌, ◌≤◌, ◌-◌, ◌*◌, ◌^◌, ℕ, zero, suc, Bool, true, false, cond, ◌&&◌, ◌||◌, List, [], ◌∷◌, ◌++◌, length, drop, Option, Some, None, refl, sym, ap, subst, ◌∙◌, arith}
+use Rattle.std.proofs.Common.{◌≡◌, ◌<◌, ◌≤◌, ◌-◌, ◌*◌, ◌^◌, ℕ, zero, suc, Bool, true, false, cond, ◌&&◌, ◌||◌, List, [], ◌∷◌, ◌++◌, length, Option, Some, None, refl, sym, ap, subst, ◌∙◌, arith}
 use Rattle.std.specs.Prelude.{not}
 use Rattle.std.specs.List.{list_all}
 use Rattle.std.proofs.lemmas.Bool.{lt-ltb}
@@ -9,8 +9,8 @@ use Rattle.text_tokens.specs.declared.token.TokenKind.{TokenKind}
 use Rattle.text_tokens.specs.declared.token.TokenKind.TheVariants.{Word, Number}
 use Rattle.text_tokens.specs.declared.refusal.Refusal.{Refusal}
 use Rattle.text_tokens.specs.declared.refusal.RefusalKind.{RefusalKind}
-use Rattle.text_tokens.specs.Text.{Lexeme, token_end, AreTokens, ends, bad_byte, too_long, token, IsToken, Cuts, number, is_digit, most_bytes}
-use Rattle.text_tokens.specs.Cursor.{number_value, is_kind}
+use Rattle.text_tokens.specs.Text.{Lexeme, Cuts, number, is_digit, most_bytes}
+use Rattle.text_tokens.specs.Cursor.{IsCut, AreCut, number_value, is_kind}
 use Rattle.text_tokens.specs.Reading.{no_limit, deep_at, less, value, past_kind}
 use Rattle.text_tokens.specs.Grammar.{Symbol, symbol, with_token, tokens, or_else, first_fault, refusal_of, IsOne, is_one, past}
 use Rattle.text_tokens.specs.Lawful.{BeginsWith}
@@ -56,10 +56,10 @@ value_small (b ∷ digits) e =
 number_small : (text rest : List ℕ) → Cuts Number text rest → length text ≤ most_bytes Number → is_number (number_value text) ≡ true
 number_small text rest (number {b = b} {bytes = bytes} d all stops) few = lt-ltb _ _ (small_within (number_value (b ∷ bytes)) (length (b ∷ bytes)) 9 (value_small (b ∷ bytes) (both _ _ d all)) few)
 
-token_sound : (source : List ℕ) (l : Lexeme) → IsToken source l → length l.text ≤ most_bytes l.kind → IsSound l
-token_sound source l is few = record {
-  words = λ e. cut_is_word l.text _ (subst (λ (k : TokenKind). Cuts k l.text (drop (token_end l) source)) e is.cuts) (subst (λ (k : TokenKind). length l.text ≤ most_bytes k) e few);
-  numbers = λ e. number_small l.text _ (subst (λ (k : TokenKind). Cuts k l.text (drop (token_end l) source)) e is.cuts) (subst (λ (k : TokenKind). length l.text ≤ most_bytes k) e few);
+cut_sound : (t : Lexeme) → IsCut t → IsSound t
+cut_sound t c = record {
+  words = λ e. cut_is_word t.text c.behind (subst (λ (k : TokenKind). Cuts k t.text c.behind) e c.cuts) (subst (λ (k : TokenKind). length t.text ≤ most_bytes k) e c.sized);
+  numbers = λ e. number_small t.text c.behind (subst (λ (k : TokenKind). Cuts k t.text c.behind) e c.cuts) (subst (λ (k : TokenKind). length t.text ≤ most_bytes k) e c.sized);
 }
 
 -- ---- symbols
@@ -77,29 +77,19 @@ pub fine_parts : (xs ys : List Symbol) → IsFine (xs ++ ys) → IsFine xs × Is
 fine_parts [] ys f = (tt, f)
 fine_parts (x ∷ xs) ys f = let p = fine_parts xs ys f.2 in ((f.0, f.1, p.0), p.1)
 
-abbrev pub AreSound : List Lexeme → Type 0
-AreSound [] = Unit {0}
-AreSound (t ∷ ts) = IsSound t × AreSound ts
+pub cut_front : (us vs : List Lexeme) → AreCut (us ++ vs) → AreCut us
+cut_front [] vs s = tt
+cut_front (u ∷ us) vs s = (s.0, cut_front us vs s.1)
 
-pub tokens_sound : (source : List ℕ) (at : ℕ) (ts : List Lexeme) (last : Refusal) → AreTokens source at ts last → AreSound ts
-tokens_sound source at ts last (ends c) = tt
-tokens_sound source at ts last (bad_byte p c lt n) = tt
-tokens_sound source at ts last (too_long l c is lt) = tt
-tokens_sound source at us r (token {ls = ls} {last = last} l c is few more) = (token_sound source l is few, tokens_sound source (token_end l) ls last more)
-
-pub sound_front : (us vs : List Lexeme) → AreSound (us ++ vs) → AreSound us
-sound_front [] vs s = tt
-sound_front (u ∷ us) vs s = (s.0, sound_front us vs s.1)
-
-symbol_sound : (o : Option Lexeme) (ts : List Lexeme) → AreSound (with_token o ts) → SoundToken o × AreSound ts
+symbol_sound : (o : Option Lexeme) (ts : List Lexeme) → AreCut (with_token o ts) → SoundToken o × AreCut ts
 symbol_sound None ts s = (tt, s)
-symbol_sound (Some t) ts s = s
+symbol_sound (Some t) ts s = (cut_sound t s.0, s.1)
 
 none_first : (o p : Option Refusal) → or_else o p ≡ None → (o ≡ None) × (p ≡ None)
 none_first None p e = (refl, e)
 none_first (Some r) p e = absurd cc
 
-pub fine_text : (xs : List Symbol) → first_fault xs ≡ None → AreSound (tokens xs) → IsFine xs
+pub fine_text : (xs : List Symbol) → first_fault xs ≡ None → AreCut (tokens xs) → IsFine xs
 fine_text [] e s = tt
 fine_text (x ∷ xs) e s =
     let o = none_first x.fault (first_fault xs) e in

@@ -7,3 +7,4 @@ pub mod ProgramLaws
 pub mod Naming
 pub mod Fine
 pub mod Deriving
+pub mod Computing

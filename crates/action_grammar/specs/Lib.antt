@@ -6,3 +6,4 @@ pub mod ExpressionReaders
 pub mod StatementReaders
 pub mod ProgramReaders
 pub mod Laws
+pub mod Examples
