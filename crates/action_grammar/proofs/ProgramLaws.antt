@@ -194,7 +194,7 @@ module _ (n left : ℕ) where
   some_named : SomeText (Then (IsA AName) When)
   some_named = some_behind AName no_limit When some_when
 
-  part_action : IsPart (IsAction n left) (an_action n left) (ends stops_action)
+  pub part_action : IsPart (IsAction n left) (an_action n left) (ends stops_action)
   unfolding an_action
   part_action = part_next ActionWord no_limit (λ a. Then (IsA AName) When) _ (ends stops_action) (λ a. some_named) (λ a e. part_next AName no_limit When _ (ends stops_action) some_when (λ v e. part_when v))
 
@@ -209,7 +209,7 @@ Most v = Made (IsA ANumber) (var_of v)
 some_var : SomeText (Then (IsA AName) Most)
 some_var = some_behind AName no_limit Most (λ v. some_token ANumber (var_of v))
 
-part_var : IsPart IsVar a_var always
+pub part_var : IsPart IsVar a_var always
 unfolding a_var
 part_var = part_next VarWord no_limit (λ t. Then (IsA AName) Most) _ always (λ t. some_var) (λ t e. part_led AName no_limit (IsA ANumber) (one (is_a ANumber)) var_of always (some_a ANumber) (λ v e. part_a ANumber))
 
@@ -234,13 +234,13 @@ action_guarded : (r : Role) → stops_action r ≡ true → stops_guarded r ≡ 
 action_guarded VarWord e = refl
 action_guarded _ e = e
 
-action_var : (r : Role) → stops_action r ≡ true → same_role r VarWord ≡ false
+pub action_var : (r : Role) → stops_action r ≡ true → same_role r VarWord ≡ false
 unfolding same_role
 action_var ActionWord e = refl
 action_var LastWord e = refl
 action_var _ e = absurd cc
 
-last_no_action : same_role LastWord ActionWord ≡ false
+pub last_no_action : same_role LastWord ActionWord ≡ false
 unfolding same_role
 last_no_action = refl
 

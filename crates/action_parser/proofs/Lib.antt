@@ -1,0 +1,8 @@
+pub mod Tables
+pub mod Tokens
+pub mod Built
+pub mod Fullness
+pub mod Levels
+pub mod Elements
+pub mod Listing
+pub mod RoleFacts

@@ -1,0 +1,300 @@
+//! Statements, and the movement behind them.
+
+ghost use Rattle.std.specs.Prelude.{◌≡◌, ◌<◌, IfOk, IfSome, map, option_map};
+ghost use Rattle.text_tokens.specs.Steps.{Gives, another};
+ghost use Rattle.text_tokens.specs.Reading.{behind_sign};
+ghost use Rattle.action_tree.specs.Trees as tree;
+ghost use Rattle.action_tree.specs.Productions.{after, after_all};
+ghost use Rattle.action_tree.specs.Views.{stmt_of, stmts_of, port_of, move_of};
+ghost use Rattle.action_grammar.specs.Roles.{is_a};
+ghost use Rattle.action_grammar.specs.declared.role.Role.TheVariants as role;
+ghost use Rattle.action_grammar.specs.StatementReaders as spec;
+ghost use Rattle.action_grammar.specs.StatementReaders.{stmts_inside};
+ghost use Rattle.action_grammar.specs.ProgramReaders as programs;
+ghost use Rattle.action_parser.specs.Choices.{choice_of};
+
+use crate::choice::Choice;
+use crate::expression::{read_choice, read_guard, read_port, read_sum};
+use crate::full::full_stmts;
+use crate::roles::{is_next, next_role, open, token, unexpected};
+use crate::words::{bound_name, end, moved_through, name, text};
+use action_grammar::Role;
+use action_tree::{Move, PortExpr, Stmt};
+use std::alloc::Global;
+use text_tokens::{ReadRefusal, Tokens};
+
+/// How many statements of a list may stand behind its first.
+const MORE: u32 = 63;
+
+/// How many more names may be bound behind a statement: a `let` binds one.
+fn names_after(names: u32, stmt: &Stmt) -> u32
+    ensures { result ≡ after names (stmt_of stmt.now) }
+{
+    match stmt {
+        Stmt::Let(_, _) => names.saturating_sub(1),
+        _ => names,
+    }
+}
+
+/// How many more names may be bound behind these statements.
+fn names_behind(names: u32, stmts: &[Stmt]) -> u32
+    ensures { result ≡ after_all names (stmts_of stmts.now) }
+{
+    let mut left = names;
+    for stmt in stmts {
+        left = names_after(left, stmt);
+    }
+    left
+}
+
+/// Statements that semicolons join.
+#[cycle(statement)]
+pub fn read_stmts(
+    alloc: Global,
+    tokens: &mut Tokens<'_>,
+    levels: u32,
+    names: u32,
+) -> Result<Vec<Stmt>, ReadRefusal>
+    ensures { Gives (λ v. stmts_of v.items) (spec.stmts_at levels names) tokens.old result tokens.new }
+{
+    let first = read_stmt(alloc, tokens, levels, names)?;
+    let mut left = names_after(names, &first);
+    let mut found = Vec::new(alloc);
+    found.push(first)?;
+    let mut room = MORE;
+    while let Some(next) = more_stmt(alloc, tokens, levels, left, room)? {
+        left = names_after(left, &next);
+        found.push(next)?;
+        room -= 1;
+    }
+    Ok(found)
+}
+
+/// One more statement behind a semicolon, if one comes, where so many more may come.
+#[cycle(statement)]
+fn more_stmt(
+    alloc: Global,
+    tokens: &mut Tokens<'_>,
+    levels: u32,
+    names: u32,
+    room: u32,
+) -> Result<Option<Stmt>, ReadRefusal>
+    ensures reads { Gives (λ o. option_map stmt_of o) (another (is_a role.SemicolonSign) (behind_sign (is_a role.SemicolonSign) (spec.stmt_in levels (stmts_inside levels)) (record { room = room; left = names }))) tokens.old result tokens.new }
+    ensures room { IfOk result (λ o. IfSome o (λ _. 0 < room)) }
+{
+    if !is_next(tokens, Role::SemicolonSign) {
+        return Ok(None);
+    }
+    token(tokens, Role::SemicolonSign)?;
+    if room == 0 {
+        return Err(full_stmts(tokens, levels).into());
+    }
+    Ok(Some(read_stmt(alloc, tokens, levels, names)?))
+}
+
+/// A statement.
+#[cycle(statement)]
+fn read_stmt(
+    alloc: Global,
+    tokens: &mut Tokens<'_>,
+    levels: u32,
+    names: u32,
+) -> Result<Stmt, ReadRefusal>
+    ensures { Gives stmt_of (spec.a_stmt levels names (stmts_inside levels)) tokens.old result tokens.new }
+{
+    let Some(role) = next_role(tokens) else {
+        return Err(unexpected(tokens));
+    };
+    match role {
+        Role::AName => put_behind(alloc, tokens, levels, names),
+        Role::EndWord | Role::TurnWord | Role::FirstWord => {
+            let port = read_port(alloc, tokens, levels, names)?;
+            put_of(alloc, tokens, levels, names, port)
+        }
+        Role::LetWord => read_let(alloc, tokens, levels, names),
+        Role::IfWord => read_if(alloc, tokens, levels, names),
+        Role::ForWord => read_for(alloc, tokens, levels, names),
+        _ => Err(unexpected(tokens)),
+    }
+}
+
+/// A variable is put, or that of the neighbour behind a bound name where a dot comes behind it.
+fn put_behind(
+    alloc: Global,
+    tokens: &mut Tokens<'_>,
+    levels: u32,
+    names: u32,
+) -> Result<Stmt, ReadRefusal>
+    ensures { Gives stmt_of (spec.stmt_by levels names (stmts_inside levels) role.AName) tokens.old result tokens.new }
+{
+    let name = name(tokens)?;
+    let Some(role) = next_role(tokens) else {
+        return Err(unexpected(tokens));
+    };
+    match role {
+        Role::BecomesSign => {
+            token(tokens, Role::BecomesSign)?;
+            let sum = read_sum(alloc, tokens, levels, names)?;
+            Ok(Stmt::Put(name, sum))
+        }
+        Role::DotSign => put_of(alloc, tokens, levels, names, PortExpr::Name(name)),
+        _ => Err(unexpected(tokens)),
+    }
+}
+
+/// The variable of the neighbour behind a port is put.
+fn put_of(
+    alloc: Global,
+    tokens: &mut Tokens<'_>,
+    levels: u32,
+    names: u32,
+    port: PortExpr,
+) -> Result<Stmt, ReadRefusal>
+    ensures { Gives stmt_of (spec.put_member levels names (port_of port)) tokens.old result tokens.new }
+{
+    token(tokens, Role::DotSign)?;
+    let name = name(tokens)?;
+    token(tokens, Role::BecomesSign)?;
+    let sum = read_sum(alloc, tokens, levels, names)?;
+    Ok(Stmt::PutOf(port, name, sum))
+}
+
+/// A port gets a name, which is in force from the next statement on.
+fn read_let(
+    alloc: Global,
+    tokens: &mut Tokens<'_>,
+    levels: u32,
+    names: u32,
+) -> Result<Stmt, ReadRefusal>
+    ensures { Gives stmt_of (spec.stmt_by levels names (stmts_inside levels) role.LetWord) tokens.old result tokens.new }
+{
+    token(tokens, Role::LetWord)?;
+    let name = bound_name(tokens, names)?;
+    token(tokens, Role::BecomesSign)?;
+    let port = read_port(alloc, tokens, levels, names)?;
+    Ok(Stmt::Let(name, port))
+}
+
+#[cycle(statement)]
+fn read_if(
+    alloc: Global,
+    tokens: &mut Tokens<'_>,
+    levels: u32,
+    names: u32,
+) -> Result<Stmt, ReadRefusal>
+    ensures { Gives stmt_of (spec.an_if levels names (stmts_inside levels)) tokens.old result tokens.new }
+{
+    open(tokens, Role::IfWord, levels)?;
+    let guard = read_guard(alloc, tokens, levels - 1, names)?;
+    token(tokens, Role::ThenWord)?;
+    let body = read_stmts(alloc, tokens, levels - 1, names)?;
+    let otherwise = read_else(alloc, tokens, levels - 1, names)?;
+    token(tokens, Role::FiWord)?;
+    Ok(Stmt::If(guard, body, otherwise))
+}
+
+/// The statements behind `else`, if it comes.
+#[cycle(statement)]
+fn read_else(
+    alloc: Global,
+    tokens: &mut Tokens<'_>,
+    levels: u32,
+    names: u32,
+) -> Result<Vec<Stmt>, ReadRefusal>
+    ensures { Gives (λ v. stmts_of v.items) (spec.else_part (spec.stmts_at levels) names) tokens.old result tokens.new }
+{
+    if !is_next(tokens, Role::ElseWord) {
+        return Ok(Vec::new(alloc));
+    }
+    token(tokens, Role::ElseWord)?;
+    read_stmts(alloc, tokens, levels, names)
+}
+
+/// A `for` opens a level, and the parenthesis inside it another one. Its name is in force in both.
+#[cycle(statement)]
+fn read_for(
+    alloc: Global,
+    tokens: &mut Tokens<'_>,
+    levels: u32,
+    names: u32,
+) -> Result<Stmt, ReadRefusal>
+    ensures { Gives stmt_of (spec.a_for levels names (stmts_inside levels)) tokens.old result tokens.new }
+{
+    open(tokens, Role::ForWord, levels)?;
+    let choice = read_choice(alloc, tokens, levels - 1, names)?;
+    token(tokens, Role::DoWord)?;
+    let body = read_stmts(alloc, tokens, levels - 1, names.saturating_sub(1))?;
+    token(tokens, Role::OdWord)?;
+    Ok(for_each(choice, body))
+}
+
+/// A `for` of a choice and statements.
+fn for_each(choice: Choice, body: Vec<Stmt>) -> Stmt
+    ensures { stmt_of result ≡ tree.for_each (choice_of choice).name (choice_of choice).set (choice_of choice).guard (stmts_of body.items) }
+{
+    let Choice { name, set, guard } = choice;
+    Stmt::For(name, set, Box::into_inner(guard), body)
+}
+
+/// The statements of an action behind `do`, if it comes.
+pub fn read_body(
+    alloc: Global,
+    tokens: &mut Tokens<'_>,
+    levels: u32,
+    names: u32,
+) -> Result<Vec<Stmt>, ReadRefusal>
+    ensures { Gives (λ v. stmts_of v.items) (programs.a_body levels names) tokens.old result tokens.new }
+{
+    if !is_next(tokens, Role::DoWord) {
+        return Ok(Vec::new(alloc));
+    }
+    token(tokens, Role::DoWord)?;
+    read_stmts(alloc, tokens, levels, names)
+}
+
+/// The movement of an action behind `move`, if it comes. What a `let` of these statements binds is in force.
+pub fn read_moved(
+    alloc: Global,
+    tokens: &mut Tokens<'_>,
+    levels: u32,
+    names: u32,
+    body: &[Stmt],
+) -> Result<Move, ReadRefusal>
+    ensures { Gives move_of (programs.a_moved levels (after_all names (stmts_of body.now))) tokens.old result tokens.new }
+{
+    if !is_next(tokens, Role::MoveWord) {
+        return Ok(Move::None);
+    }
+    token(tokens, Role::MoveWord)?;
+    read_move(alloc, tokens, levels, names_behind(names, body))
+}
+
+fn read_move(
+    alloc: Global,
+    tokens: &mut Tokens<'_>,
+    levels: u32,
+    names: u32,
+) -> Result<Move, ReadRefusal>
+    ensures { Gives move_of (programs.a_move levels names) tokens.old result tokens.new }
+{
+    let Some(role) = next_role(tokens) else {
+        return Err(unexpected(tokens));
+    };
+    match role {
+        Role::NoneWord => {
+            token(tokens, Role::NoneWord)?;
+            Ok(Move::None)
+        }
+        Role::ThroughWord => {
+            let word = text(tokens, Role::ThroughWord)?;
+            let port = read_port(alloc, tokens, levels, names)?;
+            Ok(moved_through(word, port))
+        }
+        Role::ContractWord => {
+            token(tokens, Role::ContractWord)?;
+            let end = end(tokens)?;
+            Ok(Move::Contract(end))
+        }
+        _ => Err(unexpected(tokens)),
+    }
+}
