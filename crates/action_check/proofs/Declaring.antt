@@ -28,12 +28,6 @@ pub record ActionsLeft (sc : Scope) (more : List code_action.Action) (names : Li
   pub told : first_of (actions_faults sc [] (map action_of more)) ≡ first_of (actions_faults sc names (map action_of (drop i more)))
   pub formed : list_all is_action (map action_of (drop i more)) ≡ true
 
-pub vars_next : (vs : List code_var.Var) (names more : List (List ℕ)) (i : ℕ) (v : code_var.Var) → VarsLeft vs names i → i < length vs → v ≡ get_or vs i v → first_of (declared_faults names (name_of v.name)) ≡ Ok tt → first_of (range_faults most_value (literal_of v.max)) ≡ Ok tt → more ≡ names ++ (v.name.text.bytes ∷ []) → VarsLeft vs more (i + 1)
-vars_next vs names more i v left l is new small same =
-    let told = rw (here vs i v l is) at left.told in
-    let whole = rw (here vs i v l is) at left.whole in
-    rw same (record { told = told ∙ (first_behind _ _ new ∙ first_behind _ _ small); whole = rw append_assoc whole })
-
 pub action_room : (sc : Scope) (more : List code_action.Action) (names : List (List ℕ)) (i : ℕ) (a : code_action.Action) → sc.bound ≡ [] → ActionsLeft sc more names i → i < length more → a ≡ get_or more i a → HasRoom sc (action_names (action_of a))
 action_room sc more names i a none left l is =
     let formed = rw (here more i a l is) at left.formed in

@@ -28,31 +28,10 @@ here xs i x l is = rw (add-one) (let e = drop-cons xs i x l in cc)
 abbrev pub GuardsLeft : Scope → List code.Guard → ℕ → Type 0
 GuardsLeft sc gs i = IsLeft (λ s hs. guards_faults s (guards_of hs)) (λ hs. guards_names (guards_of hs)) sc sc gs i
 
-pub guard_room : (sc : Scope) (gs : List code.Guard) (i : ℕ) (g : code.Guard) → GuardsLeft sc gs i → i < length gs → g ≡ get_or gs i g → HasRoom sc (guard_names (guard_of g))
-guard_room sc gs i g left l is =
-    let room = rw (here gs i g l is) at left.room in
-    omega arith
-
-pub guards_next : (sc : Scope) (gs : List code.Guard) (i : ℕ) (g : code.Guard) → GuardsLeft sc gs i → i < length gs → g ≡ get_or gs i g → first_of (guard_faults sc (guard_of g)) ≡ Ok tt → GuardsLeft sc gs (i + 1)
-guards_next sc gs i g left l is fine =
-    let room = rw (here gs i g l is) at left.room in
-    let told = rw (here gs i g l is) at left.told in
-    record { room = omega arith; told = told ∙ first_behind _ _ fine }
-
-pub guards_fail : (sc : Scope) (gs : List code.Guard) (i : ℕ) (g : code.Guard) (r : Refusal) → GuardsLeft sc gs i → i < length gs → g ≡ get_or gs i g → first_of (guard_faults sc (guard_of g)) ≡ Err r → first_of (guards_faults sc (guards_of gs)) ≡ Err r
-guards_fail sc gs i g r left l is wrong =
-    let told = rw (here gs i g l is) at left.told in
-    told ∙ first_before _ _ r wrong
-
 -- ---- the parts of a sum
 
 abbrev pub PartsLeft : Scope → List code_part.Part → ℕ → Type 0
 PartsLeft sc ps i = IsLeft (λ s qs. sum_faults s (terms_of qs)) (λ qs. sum_names (terms_of qs)) sc sc ps i
-
-pub part_room : (sc : Scope) (ps : List code_part.Part) (i : ℕ) (p : code_part.Part) → PartsLeft sc ps i → i < length ps → p ≡ get_or ps i p → HasRoom sc (term_names (term_of p.term))
-part_room sc ps i p left l is =
-    let room = rw (here ps i p l is, part_opened p) at left.room in
-    omega arith
 
 pub parts_next : (sc : Scope) (ps : List code_part.Part) (i : ℕ) (p : code_part.Part) → PartsLeft sc ps i → i < length ps → p ≡ get_or ps i p → first_of (term_faults sc (term_of p.term)) ≡ Ok tt → PartsLeft sc ps (i + 1)
 parts_next sc ps i p left l is fine =

@@ -15,65 +15,65 @@ pub record Row : Type 0 where
 
 -- ---- parts
 
-abbrev name : List ℕ → ℕ → Name
+abbrev pub name : List ℕ → ℕ → Name
 name text line = record { text = text; line = line }
 
-abbrev x : ℕ → Name
+abbrev pub x : ℕ → Name
 x line = name (codes "x") line
 
-abbrev p : ℕ → Name
+abbrev pub p : ℕ → Name
 p line = name (codes "p") line
 
-abbrev q : ℕ → Name
+abbrev pub q : ℕ → Name
 q line = name (codes "q") line
 
-abbrev literal : ℕ → ℕ → Literal
+abbrev pub literal : ℕ → ℕ → Literal
 literal n line = record { value = n; line = line }
 
-abbrev var : Name → ℕ → ℕ → Var
+abbrev pub var : Name → ℕ → ℕ → Var
 var v most line = record { name = v; max = literal most line }
 
-abbrev action : Name → Guard → List Stmt → Move → Action
+abbrev pub action : Name → Guard → List Stmt → Move → Action
 action v g body moved = record { name = v; guard = g; body = stmts body; moved = moved }
 
-abbrev yes : Guard
+abbrev pub yes : Guard
 yes = atom tree.always
 
-abbrev one : Term → Sum
+abbrev pub one : Term → Sum
 one t = term_then false t no_terms
 
 -- ---- programs
 
 -- with the variable `x` on line 1, and then the action `a` on line 2
-abbrev of_action : Guard → List Stmt → Move → Program
+abbrev pub of_action : Guard → List Stmt → Move → Program
 of_action g body moved = record { guard = false; vars = var (x 1) 1 1 ∷ []; actions = action (name (codes "a") 2) g body moved ∷ [] }
 
-abbrev when : Guard → Program
+abbrev pub when : Guard → Program
 when g = of_action g [] no_move
 
-abbrev does : List Stmt → Program
+abbrev pub does : List Stmt → Program
 does body = of_action yes body no_move
 
-abbrev moves : PortExpr → Program
+abbrev pub moves : PortExpr → Program
 moves r = of_action yes [] (through tree.push r)
 
-abbrev declares : List Var → List Action → Program
+abbrev pub declares : List Var → List Action → Program
 declares vs actions = record { guard = false; vars = vs; actions = actions }
 
-abbrev asks : Term → Program
+abbrev pub asks : Term → Program
 asks t = when (comparison (one t) Lt (one (number (literal 65535 9))))
 
 -- `any p in ports ( .. )`, `first p in ports ( .. )`, `linked ..`
-abbrev some_p : ℕ → Guard → Guard
+abbrev pub some_p : ℕ → Guard → Guard
 some_p line g = quantified tree.any (p line) Ports g
 
-abbrev first_p : ℕ → Guard → PortExpr
+abbrev pub first_p : ℕ → Guard → PortExpr
 first_p line g = first (p line) Ports g
 
-abbrev linked : PortExpr → Guard
+abbrev pub linked : PortExpr → Guard
 linked r = tested tree.linked r
 
-abbrev and : Guard → Guard → Guard
+abbrev pub and : Guard → Guard → Guard
 and g h = conjunction (guards (g ∷ h ∷ []))
 
 -- ---- faults

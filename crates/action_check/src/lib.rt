@@ -10,3 +10,6 @@ mod statement;
 
 pub use checked::{Checked, check};
 pub use laws::{faultless_is_kept, rows_are_derived};
+
+#[cfg(test)]
+mod tests;

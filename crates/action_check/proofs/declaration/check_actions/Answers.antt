@@ -1,5 +1,5 @@
 use Rattle.std.proofs.Common.{◌≡◌, refl, sym, subst}
-use Rattle.std.specs.Prelude.{Result, Ok}
+use Rattle.std.specs.Prelude.{Ok}
 use Rattle.action_tree.specs.Views.{action_of}
 use Rattle.action_tree.specs.Writable.{action_names}
 use Rattle.action_check.specs.Scopes.{Scope, HasRoom}

@@ -1,8 +1,7 @@
 use Rattle.std.proofs.Common.{◌≡◌, ◌∙◌, sym}
 use Rattle.std.proofs.lemmas.Result.{err_from_is_err_and}
 use Rattle.action_tree.specs.Trees.{put_of, let_be}
-use Rattle.action_tree.specs.Views.{name_of, guard_of, port_of, sum_of, stmt_of}
-use Rattle.action_check.specs.Told.{first_of, known}
+use Rattle.action_tree.specs.Views.{name_of, port_of, sum_of, stmt_of}
 use Rattle.action_check.proofs.Firsts.{first_behind, first_before}
 use Rattle.action_check.proofs.Opened.{stmt_at_put_of, stmt_at_let}
 use Rattle.action_check.proofs.statement.+statements.Goals as goal
