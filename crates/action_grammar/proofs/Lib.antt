@@ -1,3 +1,10 @@
 pub mod Playing
 pub mod Expressing
 pub mod ExpressionLaws
+pub mod Stating
+pub mod StatementLaws
+pub mod ProgramLaws
+pub mod Naming
+pub mod Fine
+pub mod Deriving
+pub mod Computing

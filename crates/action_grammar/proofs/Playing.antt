@@ -33,6 +33,9 @@ plays r t e = same_true the_type (search rules) (role t) r e
 pub is_in : (r : Role) (t : Lexeme) → role t ≡ r → is_a r t ≡ true
 is_in r t e = ap (λ (q : Role). same_role q r) e ∙ same_self r
 
+pub other_role : (r s : Role) (t : Lexeme) → same_role r s ≡ false → is_a r t ≡ true → is_a s t ≡ false
+other_role r s t n e = ap (λ (q : Role). same_role q s) (plays r t e) ∙ n
+
 -- ---- some token of each role
 
 abbrev pub example : Role → Lexeme

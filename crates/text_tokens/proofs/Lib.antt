@@ -24,5 +24,6 @@ pub mod Agreeing
 pub mod PutLaws
 pub mod Stepping
 pub mod Looping
+pub mod Rows
 pub mod NestedSteps
 pub mod Settling

@@ -1,6 +1,6 @@
 -- The scan gives the tokens of a text, and no others are.
-use Rattle.std.proofs.Common.{◌≡◌, ℕ, zero, suc, ◌+◌, ◌<◌, ◌≤◌, Bool, true, false, List, [], ◌∷◌, ◌++◌, length, take, drop, Ok, Err, refl, sym, ap, subst, ◌∙◌, arith, length-drop, length-append}
-use Rattle.std.proofs.lemmas.List.{drop-drop, drop_all, take-append-drop, length-take-le}
+use Rattle.std.proofs.Common.{◌≡◌, ℕ, zero, suc, ◌+◌, ◌<◌, ◌≤◌, Bool, true, false, List, [], ◌∷◌, ◌++◌, length, take, drop, min, Result, Ok, Err, refl, sym, ap, subst, ◌∙◌, arith, length-drop, length-append}
+use Rattle.std.proofs.lemmas.List.{drop-drop, drop_all, take-append-drop, length-take, length-take-le}
 use Rattle.std.proofs.Math.Seq.{take-append_seam}
 use Rattle.std.proofs.lemmas.Bool.{ltb-true, ltb-false, lt-ltb, le-ltb}
 use Rattle.std.specs.List.{count_by}
@@ -10,11 +10,13 @@ use Rattle.text_tokens.specs.declared.refusal.Refusal.{Refusal}
 use Rattle.text_tokens.specs.declared.refusal.RefusalKind.{RefusalKind}
 use Rattle.text_tokens.specs.declared.refusal.RefusalKind.TheVariants.{BadByte, WordTooLong, Truncated}
 use Rattle.text_tokens.specs.Text.{IsSkipped, Cuts, BeginsNoToken, most_bytes, Lexeme, token_end, line_at, Comes, IsToken, AreTokens, ends, bad_byte, too_long, token}
-use Rattle.text_tokens.specs.Scan.{Input, ready, sized, front, lexeme, past, ahead_of, last_of}
+use Rattle.text_tokens.specs.Scan.{Input, ready, sized, front, lexeme, past, len_of, with_front, scan, ahead_of, last_of}
+use Rattle.text_tokens.specs.Cursor.{AreCut}
+use Rattle.text_tokens.specs.declared.tokens.Piece.{Piece}
 use Rattle.text_tokens.specs.Promises.{OneReading, Rises, SpansRise}
 use Rattle.text_tokens.proofs.Blanks.{IsPlace, point, at_place, place_is, line_past, ready_comes, comes_ready}
 use Rattle.text_tokens.proofs.Scanning.{ready_twice, ready_shorter, ahead_ok, ahead_err, last_ok, last_err, ahead_ready, last_ready}
-use Rattle.text_tokens.proofs.Cutting.{Front, at_end, no_token, cut, front_is, cut_front, cut_no_feed, cut_some}
+use Rattle.text_tokens.proofs.Cutting.{Front, at_end, no_token, cut, front_is, cut_front, cut_no_feed, cut_some, front_found}
 
 module _ (source : List ℕ) (j : Input) (h : IsPlace source j) where
   -- behind some bytes that have no line feed
@@ -200,3 +202,27 @@ spans_rise source ls last a = rising source 0 ls last (omega arith) a
 -- what a text of these bytes computes to
 pub computed : (source : List ℕ) (ls : List Lexeme) (last : Refusal) → ahead_of (point source 0) ≡ ls → last_of (point source 0) ≡ last → AreTokens source 0 ls last
 computed source ls last p q = subst (λ (xs : List Lexeme). AreTokens source 0 xs last) p (subst (λ (r : Refusal). AreTokens source 0 (ahead_of (point source 0)) r) q (tokens_of_text source))
+
+-- ---- each token is one that a text can have
+
+cut_by : (j : Input) (f : Result Piece RefusalKind) (ls : List Lexeme) → front j.text ≡ f → AreCut ls → AreCut (with_front j f ls)
+cut_by j (Err kind) ls e c = tt
+cut_by j (Ok p) ls e c =
+    let found = front_found j.text p e in
+    let few : length (take p.len j.text) ≡ min p.len (length j.text) = length-take p.len j.text in
+    (record { behind = drop p.len j.text; cuts = found.cuts; sized = omega (arith, few, found.sized) }, c)
+
+scan_cut : (n : ℕ) (i : Input) → AreCut (scan n i)
+unfolding scan
+scan_cut zero i = tt
+scan_cut (suc n) i = let j = ready i in cut_by j (front j.text) (scan n (past j (len_of (front j.text)))) refl (scan_cut n (past j (len_of (front j.text))))
+
+pub ahead_cut : (i : Input) → AreCut (ahead_of i)
+unfolding ahead_of
+ahead_cut i = scan_cut (suc (length i.text)) i
+
+pub tokens_cut : (source : List ℕ) (at : ℕ) (ls : List Lexeme) (last : Refusal) → AreTokens source at ls last → AreCut ls
+tokens_cut source at ls last (ends c) = tt
+tokens_cut source at ls last (bad_byte p c lt n) = tt
+tokens_cut source at ls last (too_long l c is lt) = tt
+tokens_cut source at us r (token {ls = ls} {last = last} l c is few more) = (record { behind = drop (token_end l) source; cuts = is.cuts; sized = few }, tokens_cut source (token_end l) ls last more)

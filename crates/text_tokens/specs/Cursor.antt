@@ -120,6 +120,16 @@ pub record Spells (c : Cursor) (t : Token) : Type 0 where
   pub cuts : Cuts t.kind (slice c.source t) (drop t.to c.source)
   pub sized : length (slice c.source t) ≤ most_bytes t.kind
 
+-- a text can have such tokens: each is one of its kind, and not too long
+pub record IsCut (l : Lexeme) : Type 0 where
+  pub behind : List ℕ
+  pub cuts : Cuts l.kind l.text behind
+  pub sized : length l.text ≤ most_bytes l.kind
+
+abbrev pub AreCut : List Lexeme → Type 0
+AreCut [] = Unit {0}
+AreCut (l ∷ ls) = IsCut l × AreCut ls
+
 -- a number of at most nine digits, as a slice of the source
 pub record IsDigits (source : List ℕ) (t : Token) : Type 0 where
   pub within : IsSlice source t

@@ -6,7 +6,7 @@ ghost use Rattle.text_tokens.specs.declared.token.TokenKind.TheVariants.{Number}
 ghost use Rattle.text_tokens.specs.Text as text;
 ghost use Rattle.text_tokens.specs.Scan as scan;
 ghost use Rattle.text_tokens.specs.Cursor as cursor;
-ghost use Rattle.text_tokens.specs.Cursor.{IsAtFront, IsDigits, IsSlice, Spells, number_value, next_passes, is_the, is_kind, expect};
+ghost use Rattle.text_tokens.specs.Cursor.{AreCut, IsAtFront, IsDigits, IsSlice, Spells, number_value, next_passes, is_the, is_kind, expect};
 
 use crate::refusal::{Refusal, RefusalKind};
 use crate::token::{Token, TokenKind};
@@ -340,6 +340,13 @@ impl<'a> Tokens<'a> {
                 kind: fault,
             },
         }
+    }
+
+    /// The tokens ahead are such as a text can have. It does nothing.
+    pub fn are_cut(&self)
+        ensures { AreCut self.now.ahead }
+    {
+        let _ = &self.source;
     }
 
     /// Nothing where the text ends. A token is refused for this kind, and a byte that begins none or a word that is too

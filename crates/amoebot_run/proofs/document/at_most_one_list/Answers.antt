@@ -5,7 +5,7 @@ use Rattle.text_tokens.specs.Cursor.{Cursor, next_passes}
 use Rattle.text_tokens.proofs.Stepping.{is_first, is_second, stays}
 use Rattle.claim_core.specs.Turns.{CallerLists}
 use Rattle.amoebot_run.specs.Readers.{all_lists, a_list, is_list}
-use Rattle.amoebot_run.proofs.Chaining.{Left, part_fails, made_left}
+use Rattle.text_tokens.proofs.Rows.{Left, part_fails, made_left}
 use Rattle.amoebot_run.proofs.document.at_most_one_list.Goals as goal
 
 module _ (bots : ℕ) (here : Cursor) where

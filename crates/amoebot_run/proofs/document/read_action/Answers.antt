@@ -7,7 +7,7 @@ use Rattle.text_tokens.specs.Steps.{lexeme_of}
 use Rattle.amoebot_state.specs.declared.bot.Port.{Port}
 use Rattle.amoebot_run.specs.Documents.{is_name}
 use Rattle.amoebot_run.specs.Readers.{a_word, a_move, an_action}
-use Rattle.amoebot_run.proofs.Chaining.{all_left, past_part, part_fails, gives_left}
+use Rattle.text_tokens.proofs.Rows.{all_left, past_part, part_fails, gives_left}
 use Rattle.amoebot_run.proofs.document.read_action.Goals as goal
 
 -- what is left behind each part

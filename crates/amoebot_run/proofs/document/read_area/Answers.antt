@@ -11,7 +11,7 @@ use Rattle.text_tokens.specs.Steps.{Gives}
 use Rattle.text_tokens.proofs.Stepping.{Reached}
 use Rattle.tri_lattice.specs.Extent.{Extent, IsArea}
 use Rattle.amoebot_run.specs.Readers.{a_word, a_number, an_int, an_area}
-use Rattle.amoebot_run.proofs.Chaining.{all_left, past_part, part_fails}
+use Rattle.text_tokens.proofs.Rows.{all_left, past_part, part_fails}
 use Rattle.amoebot_run.proofs.document.read_area.Goals as goal
 
 abbrev extent : ℤ → ℤ → ℕ → ℕ → Extent

@@ -7,7 +7,7 @@ use Rattle.amoebot_state.specs.declared.bot.Bot.{Bot}
 use Rattle.amoebot_state.specs.declared.bot.Chir.{Chir}
 use Rattle.amoebot_run.specs.Documents.{zeros}
 use Rattle.amoebot_run.specs.Readers.{a_word, a_number, a_chirality, a_node, a_bot}
-use Rattle.amoebot_run.proofs.Chaining.{all_left, past_part, part_fails}
+use Rattle.text_tokens.proofs.Rows.{all_left, past_part, part_fails}
 use Rattle.amoebot_run.proofs.document.read_bot.Goals as goal
 
 abbrev bot : Node → Node → ℕ → Chir → Bot

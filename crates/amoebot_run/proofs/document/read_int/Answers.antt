@@ -10,7 +10,7 @@ use Rattle.text_tokens.specs.Reading.{Reader, ◌>>=◌, pure, the_line}
 use Rattle.text_tokens.proofs.Stepping.{is_first, is_second, stays}
 use Rattle.amoebot_run.specs.Documents.{sign, negative}
 use Rattle.amoebot_run.specs.Readers.{a_number, an_int}
-use Rattle.amoebot_run.proofs.Chaining.{Left, past_part, part_fails, made_left}
+use Rattle.text_tokens.proofs.Rows.{Left, past_part, part_fails, made_left}
 use Rattle.amoebot_run.proofs.document.read_int.Goals as goal
 
 abbrev is_minus : Lexeme → Bool

@@ -4,7 +4,7 @@ use Rattle.std.proofs.lemmas.Result.{err_from_is_err_and}
 use Rattle.std.proofs.Common.{Vec}
 use Rattle.std.specs.declared.alloc.Global.{Global}
 use Rattle.amoebot_run.specs.Readers.{a_word, all_ids, a_list}
-use Rattle.amoebot_run.proofs.Chaining.{all_left, past_part, part_fails, gives_left}
+use Rattle.text_tokens.proofs.Rows.{all_left, past_part, part_fails, gives_left}
 use Rattle.amoebot_run.proofs.document.read_list.Goals as goal
 
 pub returns-in_err-read_word-clause-reads : goal.returns-in_err-read_word-clause-reads

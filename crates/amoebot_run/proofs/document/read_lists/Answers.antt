@@ -5,7 +5,7 @@ use Rattle.text_tokens.specs.Reading.{Reader, ◌>>=◌, pure, closed}
 use Rattle.claim_core.specs.Turns.{CallerLists}
 use Rattle.amoebot_run.specs.Documents.{is_end}
 use Rattle.amoebot_run.specs.Readers.{a_word, some_turns, all_lists, the_lists}
-use Rattle.amoebot_run.proofs.Chaining.{all_left, past_part, part_fails, regroup}
+use Rattle.text_tokens.proofs.Rows.{all_left, past_part, part_fails, regroup}
 use Rattle.amoebot_run.proofs.document.read_lists.Goals as goal
 
 abbrev lists : ℕ → List (List ℕ) → CallerLists

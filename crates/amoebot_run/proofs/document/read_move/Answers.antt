@@ -3,7 +3,7 @@ use Rattle.std.proofs.lemmas.Result.{err_from_is_err_and}
 use Rattle.text_tokens.specs.Reading.{◌>>=◌}
 use Rattle.amoebot_state.specs.declared.bot.Port.{Port}
 use Rattle.amoebot_run.specs.Readers.{a_word, a_port, a_move}
-use Rattle.amoebot_run.proofs.Chaining.{all_left, past_part, part_fails, gives_left}
+use Rattle.text_tokens.proofs.Rows.{all_left, past_part, part_fails, gives_left}
 use Rattle.amoebot_run.proofs.document.read_move.Goals as goal
 
 pub returns-in_err-read_word : goal.returns-in_err-read_word

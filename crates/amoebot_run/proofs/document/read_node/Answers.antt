@@ -6,7 +6,7 @@ use Rattle.std.proofs.lemmas.Result.{err_from_is_err_and}
 use Rattle.text_tokens.specs.Reading.{◌>>=◌, pure}
 use Rattle.tri_lattice.specs.declared.node.Node.{Node}
 use Rattle.amoebot_run.specs.Readers.{an_int, a_node}
-use Rattle.amoebot_run.proofs.Chaining.{all_left, past_part, part_fails}
+use Rattle.text_tokens.proofs.Rows.{all_left, past_part, part_fails}
 use Rattle.amoebot_run.proofs.document.read_node.Goals as goal
 
 abbrev node : ℤ → ℤ → Node

@@ -7,7 +7,7 @@ use Rattle.claim_core.specs.Turns.{CallerLists}
 use Rattle.amoebot_run.specs.Documents.{Shape, Parts}
 use Rattle.amoebot_run.specs.DocumentViews as view
 use Rattle.amoebot_run.specs.Readers.{a_word, a_number, a_program, a_shape, the_lists, the_parts}
-use Rattle.amoebot_run.proofs.Chaining.{all_left, past_part, part_fails}
+use Rattle.text_tokens.proofs.Rows.{all_left, past_part, part_fails}
 use Rattle.amoebot_run.proofs.document.read_parts.Goals as goal
 
 abbrev parts : Port → Shape → CallerLists → Parts

@@ -2,7 +2,7 @@ use Rattle.std.proofs.lemmas.Result.{err_from_is_err_and}
 use Rattle.text_tokens.specs.Reading.{◌>>=◌, pure}
 use Rattle.amoebot_state.specs.declared.bot.Port.{Port}
 use Rattle.amoebot_run.specs.Readers.{a_number, an_end, a_port}
-use Rattle.amoebot_run.proofs.Chaining.{all_left, past_part, part_fails}
+use Rattle.text_tokens.proofs.Rows.{all_left, past_part, part_fails}
 use Rattle.amoebot_run.proofs.document.read_port.Goals as goal
 use Rattle.std.specs.Prelude.{ℕ}
 use Rattle.amoebot_state.specs.declared.bot.End.{End}

@@ -2,7 +2,7 @@ use Rattle.std.specs.Prelude.{codes}
 use Rattle.std.proofs.lemmas.Result.{err_from_is_err_and}
 use Rattle.text_tokens.specs.Reading.{◌>>=◌, pure}
 use Rattle.amoebot_run.specs.Readers.{a_word, an_action, a_program}
-use Rattle.amoebot_run.proofs.Chaining.{all_left, past_part, part_fails}
+use Rattle.text_tokens.proofs.Rows.{all_left, past_part, part_fails}
 use Rattle.amoebot_run.proofs.document.read_program.Goals as goal
 
 pub returns-in_err-read_word : goal.returns-in_err-read_word

@@ -6,7 +6,7 @@ use Rattle.tri_lattice.specs.Extent.{Extent}
 use Rattle.amoebot_state.specs.declared.bot.Bot.{Bot}
 use Rattle.amoebot_run.specs.Documents.{is_end, Shape}
 use Rattle.amoebot_run.specs.Readers.{a_word, an_area, all_bots, a_shape}
-use Rattle.amoebot_run.proofs.Chaining.{all_left, past_part, part_fails, regroup}
+use Rattle.text_tokens.proofs.Rows.{all_left, past_part, part_fails, regroup}
 use Rattle.amoebot_run.proofs.document.read_shape.Goals as goal
 
 abbrev shape : Extent → List Bot → Shape

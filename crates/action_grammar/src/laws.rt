@@ -1,0 +1,28 @@
+//! What holds of the grammar of programs. The functions do nothing: their clauses are the laws.
+
+ghost use Rattle.text_tokens.specs.Lawful.{Exact, IsDecided};
+ghost use Rattle.action_grammar.specs.Programs.{IsProgram};
+ghost use Rattle.action_grammar.specs.ProgramReaders.{a_program};
+ghost use Rattle.action_grammar.specs.Laws.{WordsAreReserved, NamesAreNotReserved, TextsGiveWritable, BytesGiveWritable};
+
+/// Of any tokens the grammar says one thing: they are read as one program, or have one first fault.
+pub fn program_is_decided()
+    ensures { IsDecided IsProgram }
+{}
+
+/// The reader answers what the grammar says.
+pub fn program_is_exact()
+    ensures { Exact IsProgram a_program }
+{}
+
+/// The table of roles has the reserved words, and all others are names.
+pub fn words_are_reserved()
+    ensures table { WordsAreReserved }
+    ensures names { NamesAreNotReserved }
+{}
+
+/// A text within its limits gives a tree that a program can be made of.
+pub fn texts_give_writable_trees()
+    ensures tokens { TextsGiveWritable }
+    ensures bytes { BytesGiveWritable }
+{}
