@@ -1,9 +1,8 @@
 -- Single tokens of a canonical text, by their roles.
-use Rattle.std.proofs.Common.{◌≡◌, ℕ, suc, ◌<◌, ◌≤◌, Bool, true, false, List, [], ◌∷◌, Option, None, length, map, codes, refl, ap, ◌∙◌, arith}
-use Rattle.std.specs.Prelude.{◌&&◌, ◌||◌, ◌^◌, decimal, not, if◌then◌else◌}
+use Rattle.std.proofs.Common.{◌≡◌, ℕ, suc, ◌<◌, ◌≤◌, Bool, true, false, List, [], ◌∷◌, Option, None, length, codes, refl, ap, ◌∙◌, arith}
+use Rattle.std.specs.Prelude.{◌&&◌, ◌||◌, ◌^◌, decimal, not}
 use Rattle.std.specs.Int.{IsInRange}
-use Rattle.std.specs.List.{list_all, list_any}
-use Rattle.std.specs.Str.{bytes_eq}
+use Rattle.std.specs.List.{list_all}
 use Rattle.std.proofs.lemmas.Bool.{ltb-true}
 use Rattle.std.proofs.lemmas.Bool.Decides.{nat_tests}
 use Rattle.std.proofs.lemmas.Str.Parse.{IsNumeralModel, IsDigitsTest, numerals_by_weight}
@@ -13,7 +12,7 @@ use Rattle.amoebot_state.specs.declared.bot.End.TheVariants.{Head, Tail}
 use Rattle.text_tokens.specs.declared.token.TokenKind.TheVariants.{Word, Number, Sign}
 use Rattle.text_tokens.specs.declared.refusal.RefusalKind.{RefusalKind}
 use Rattle.text_tokens.specs.Text.{is_digit, is_letter, is_word_byte, is_sign, Lexeme}
-use Rattle.text_tokens.specs.Cursor.{number_value}
+use Rattle.text_tokens.specs.Cursor.{number_value, same_kind}
 use Rattle.text_tokens.specs.Reading.{no_limit, deep_at}
 use Rattle.text_tokens.specs.Grammar.{IsOne, made, is_nothing, of_first, of_second}
 use Rattle.text_tokens.proofs.Blanks.{and_true}
@@ -23,14 +22,15 @@ use Rattle.action_tree.specs.declared.expression.Cmp.{Cmp}
 use Rattle.action_tree.specs.declared.expression.Cmp.TheVariants.{Eq, Ne, Lt, Le, Gt, Ge}
 use Rattle.action_tree.specs.Trees.{Name, Literal, DirTerm, fixed, held, Atom, always, never, contracted, expanded, Quantifier, any, all, PortTest, linked, free, at_head, peer_expanded, peer_head, Side, own_side, peer_side, PortMove, expand, push, pull}
 use Rattle.action_tree.specs.Lines.{bare_name, bare_literal, bare_dirterm}
-use Rattle.action_tree.specs.Words.{is_word, is_reserved, is_name, is_number, reserved}
+use Rattle.action_tree.specs.Words.{is_word, is_reserved, is_name, is_number}
 use Rattle.action_tree.specs.Writable.{is_dirterm}
 use Rattle.action_grammar.specs.declared.role.Role.{Role}
 use Rattle.action_grammar.specs.declared.role.Role.TheVariants.{AName, ANumber, PlusSign, MinusSign, CompareSign, AtomWord, QuantifierWord, TestWord, FreeWord, PortsWord, SideWord, EndWord, ThroughWord, SwitchWord}
 use Rattle.action_grammar.specs.Roles as roles
 use Rattle.action_grammar.specs.Roles.{Entry, look_up, words, role_by, role, same_role, is_a, is_test, is_set, is_plus_or_minus, as_name, as_literal, as_dirterm, as_set, as_switch, as_end, as_atom, as_quantifier, as_test, as_side, as_port_move, as_cmp}
 use Rattle.action_grammar.specs.Expressions.{IsA, bound_at, IsMinus}
-use Rattle.action_grammar.proofs.Playing.{is_in}
+use Rattle.action_grammar.proofs.Naming.{names}
+use Rattle.action_grammar.proofs.Playing.{plays, is_in}
 use Rattle.action_print.specs.Canon.{atom_word, quantifier_word, set_word, test_word, cmp_sign, side_word, end_word, move_word, literal_word, dirterm_word, first_sign, further_sign}
 use Rattle.action_print.proofs.PrintedTokens.{kind_of, IsOneToken, word_is_token, number_is_token, sign_is_token}
 use Rattle.action_print.proofs.Reading.{Reads, reads_as, reads_nothing, IsSpelled, reads_one}
@@ -69,18 +69,6 @@ binds_fine left t = refl
 
 -- ---- names
 
-look_none : {A : Type 0} (a : A) (es : List (Entry A)) (text : List ℕ) → list_any (bytes_eq text) (map (λ e. e.text) es) ≡ false → look_up a es text ≡ a
-look_none a [] text h = refl
-look_none {A} a (e ∷ es) text h = by_first (bytes_eq text e.text) (λ f. look_none a es text f) h
-  where
-    by_first : (b : Bool) → (list_any (bytes_eq text) (map (λ (x : Entry A). x.text) es) ≡ false → look_up a es text ≡ a) → (b || list_any (bytes_eq text) (map (λ (x : Entry A). x.text) es)) ≡ false → (if b then e.value else look_up a es text) ≡ a
-    by_first true more f = absurd cc
-    by_first false more f = more f
-
-not_true : (b : Bool) → not b ≡ true → b ≡ false
-not_true true e = absurd cc
-not_true false e = refl
-
 name_kind : (w : List ℕ) → is_word w ≡ true → kind_of w ≡ Word
 name_kind [] e = absurd cc
 name_kind (b ∷ bytes) e =
@@ -88,22 +76,21 @@ name_kind (b ∷ bytes) e =
     let q = and_true (is_letter b) (list_all is_word_byte bytes) p.0 in
     rw q.0 refl
 
-all_words : map (λ (e : Entry Role). e.text) words ≡ reserved
-all_words = refl
-
-name_plays : (w : List ℕ) → is_name w ≡ true → role_by (kind_of w) w ≡ AName
-name_plays w e =
-    let p = and_true (is_word w) (not (is_reserved w)) e in
-    ap (λ k. role_by k w) (name_kind w p.0) ∙ look_none AName words w (ap (λ (ws : List (List ℕ)). list_any (bytes_eq w) ws) all_words ∙ not_true (is_reserved w) p.1)
-
 pub name_word : (w : List ℕ) → is_name w ≡ true → is_word w ≡ true
 name_word w e = (and_true (is_word w) (not (is_reserved w)) e).0
+
+name_role : (w : List ℕ) → is_name w ≡ true → (t : Lexeme) → IsSpelled w t → role t ≡ AName
+unfolding same_kind
+name_role w e t s =
+    let p = and_true (is_word w) (not (is_reserved w)) e in
+    plays AName t (names t ∙ ap (λ k. same_kind k Word && not (is_reserved t.text)) (s.kind ∙ name_kind w p.0) ∙ ap (λ (bs : List ℕ). not (is_reserved bs)) s.text ∙ p.1)
 
 abbrev pub IsNameOf : Name → Lexeme → Type 0
 IsNameOf v t = bare_name (as_name t) ≡ bare_name v
 
 pub a_name : {over : Lexeme → Option RefusalKind} → ((t : Lexeme) → over t ≡ None) → (v : Name) → is_name v.text ≡ true → Reads (IsOne (is_a AName) over) (IsNameOf v) (v.text ∷ [])
-a_name fine v e = reads_as (λ t. t) (λ xs t p. p) (λ t s. ap (λ (bs : List ℕ). record { text = bs; line = 0 }) s.text) (a_word fine AName v.text (name_plays v.text e) (name_word v.text e))
+a_name fine v e =
+    reads_as (λ t. t) (λ xs t p. p) (λ t s. ap (λ (bs : List ℕ). record { text = bs; line = 0 }) s.text) (reads_one v.text (word_token v.text (name_word v.text e)) (λ t s. is_in AName t (name_role v.text e t s)) fine)
 
 -- ---- numbers
 
@@ -234,8 +221,8 @@ a_dirterm (fixed m) e =
     reads_as (λ t. t) (λ xs t q. q) (λ t s. rw (is_a_by ANumber (decimal m.value) t s, number_plays m.value e) (ap fixed (spelled_literal m e t s)))
     (reads_one (decimal m.value) (number_token m.value e) (λ t s. by_one (is_a ANumber t) (is_a AName t) (is_in ANumber t (role_is (decimal m.value) t s ∙ number_plays m.value e))) free_of)
 a_dirterm (held v) e =
-    reads_as (λ t. t) (λ xs t q. q) (λ t s. rw (is_a_by ANumber v.text t s, name_plays v.text e) (ap (λ (bs : List ℕ). held (record { text = bs; line = 0 })) s.text))
-    (reads_one v.text (word_token v.text (name_word v.text e)) (λ t s. by_other (is_a ANumber t) (is_a AName t) (is_in AName t (role_is v.text t s ∙ name_plays v.text e))) free_of)
+    reads_as (λ t. t) (λ xs t q. q) (λ t s. rw (name_role v.text e t s) (ap (λ (bs : List ℕ). held (record { text = bs; line = 0 })) s.text))
+    (reads_one v.text (word_token v.text (name_word v.text e)) (λ t s. by_other (is_a ANumber t) (is_a AName t) (is_in AName t (name_role v.text e t s))) free_of)
 
 -- ---- signs of terms
 

@@ -1,5 +1,5 @@
 -- The same of movements, actions and whole programs, and the law of reading back.
-use Rattle.std.proofs.Common.{◌≡◌, ℕ, zero, suc, ◌≤◌, Bool, true, false, List, [], ◌∷◌, ◌++◌, length, map, codes, flat_map, refl, sym, ap, subst, ◌∙◌, arith, append_assoc}
+use Rattle.std.proofs.Common.{Ok, ◌&&◌, ◌≡◌, ℕ, zero, suc, ◌≤◌, Bool, true, false, List, [], ◌∷◌, ◌++◌, length, map, codes, flat_map, refl, sym, ap, subst, ◌∙◌, arith, append_assoc}
 use Rattle.std.specs.List.{list_all}
 use Rattle.std.proofs.lemmas.Bool.{leb-true}
 use Rattle.std.proofs.lemmas.Grind.{flat_map-append}
@@ -10,15 +10,16 @@ use Rattle.action_tree.specs.Trees.{Stmts, no_stmts, stmt_then, Move, no_move, t
 use Rattle.action_tree.specs.Lines.{bare_move, bare_var, bare_action, without_lines}
 use Rattle.action_tree.specs.Productions.{after_all}
 use Rattle.action_tree.specs.Limits.{most_levels, most_names, most_elements, most_vars, most_actions}
-use Rattle.action_tree.specs.Writable.{named, stmt_count, are_stmts, is_move, move_levels, move_names, stmts_names, stmts_levels, action_levels, action_names, is_var, is_action, is_writable}
+use Rattle.action_tree.specs.Writable.{named, is_guard, is_count_from, stmt_count, are_stmts, is_move, move_levels, move_names, stmts_names, stmts_levels, action_levels, action_names, is_var, is_action, is_writable}
 use Rattle.action_tree.proofs.Conditions.{left_of, right_of, upto}
 use Rattle.action_tree.proofs.ProducedStatements.{rest_of_all}
 use Rattle.action_grammar.specs.declared.role.Role.TheVariants.{DoWord, MoveWord, NoneWord, ContractWord, ProgramWord, GuardWord, VarWord, ActionWord, WhenWord, LastWord}
 use Rattle.action_grammar.specs.Roles.{as_port_move, as_end}
 use Rattle.action_grammar.specs.Expressions.{IsExpr}
 use Rattle.action_grammar.specs.Programs.{IsMove, is_none, is_through, is_contract, IsBody, IsMoved, IsAction, action_of, IsVar, var_of, IsGuarded, IsProgram, program_of}
+use Rattle.action_grammar.proofs.ProgramLaws.{exact_program}
 use Rattle.action_print.specs.Canon.{guard_words, stmts_words, move_words, guard_line, var_line, do_lines, action_lines, program_lines, canon}
-use Rattle.action_print.specs.ReadsBack.{CanonReadsBack}
+use Rattle.action_print.specs.ReadsBack.{CanonReadsBack, CanonIsRead}
 use Rattle.action_print.proofs.PrintedTokens.{AreSpelled, ArePrinted, none_printed, word_printed, LinesArePrinted, no_lines, line_printed, one_printed, lines_spell, spelled_tokens}
 use Rattle.action_print.proofs.Reading.{AreTokenTexts, no_texts, text_more, Reads, reads_as, reads_two, reads_three, reads_five, reads_six, reads_nothing}
 use Rattle.action_print.proofs.Leaves.{a_word, free_of, a_name, a_number, an_end, a_port_move, a_switch}
@@ -63,14 +64,15 @@ parts_read a e guard body moved =
     (λ xs ys zs ls ms ns t v w g ss m p q r s u x. then t p (then v q (then w r (then g s (then ss u.is (made m (subst (λ (left : ℕ). IsMoved most_levels left ns m) (sym (after_all_same most_names a.body ss u.holds)) x)))))))
     (λ t v w g ss m p q r s u x. (cc)) (a_word free_of ActionWord (codes "action") refl refl) (a_name free_of a.name e) (a_word free_of WhenWord (codes "when") refl refl) guard (reads_kept body) moved
 
-action_read : (a : Action) → is_action a ≡ true → Reads (IsAction most_levels most_names) (IsActionOf a) (action_words a)
-action_read a is =
-    let l : action_levels a ≤ most_levels = leb-true (action_levels a) most_levels (right_of _ _ (left_of _ _ is)) in
-    let m : action_names a ≤ most_names = leb-true (action_names a) most_names (right_of _ _ is) in
-    let f = left_of _ _ (left_of _ _ is) in
+formed_read : (a : Action) → action_levels a ≤ most_levels → action_names a ≤ most_names → (named a.name && is_guard a.guard && is_count_from 0 (stmt_count a.body) && are_stmts a.body && is_move a.moved) ≡ true
+    → Reads (IsAction most_levels most_names) (IsActionOf a) (action_words a)
+formed_read a l m f =
     parts_read a (left_of _ _ (left_of _ _ (left_of _ _ (left_of _ _ f)))) (expr_read a.guard most_levels most_names (omega (arith, l)) (omega (arith, m)) (right_of _ _ (left_of _ _ (left_of _ _ (left_of _ _ f)))))
     (body_read a.body most_levels most_names (move_names a.moved) (omega (arith, l)) (omega (arith, m)) (upto 0 _ most_elements (right_of _ _ (left_of _ _ (left_of _ _ f)))) (right_of _ _ (left_of _ _ f)))
     (moved_read most_levels (after_all most_names a.body) a.moved (move_read a.moved most_levels (after_all most_names a.body) (omega (arith, l)) (rest_of_all a.body most_names (move_names a.moved) (omega (arith, m))) (right_of _ _ f)))
+
+action_read : (a : Action) → is_action a ≡ true → Reads (IsAction most_levels most_names) (IsActionOf a) (action_words a)
+action_read a is = formed_read a (leb-true _ most_levels (right_of _ _ (left_of _ _ is))) (leb-true _ most_names (right_of _ _ is)) (left_of _ _ (left_of _ _ is))
 
 -- ---- the tokens of lines, one line behind the other
 
@@ -167,3 +169,6 @@ canon_reads_back p f ts last are =
       same = r.holds;
       ends = spelled.1;
     }
+
+pub canon_is_read : CanonIsRead
+canon_is_read p f ts last are = let r = canon_reads_back p f ts last are in (r.program, exact_program.only last ts (Ok (r.program, [])) r.text, r.same)

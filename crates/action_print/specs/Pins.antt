@@ -4,22 +4,28 @@ use Rattle.text_tokens.specs.Lines.{line_text}
 use Rattle.amoebot_state.specs.declared.bot.End.TheVariants.{Tail}
 use Rattle.action_tree.specs.declared.expression.Cmp.TheVariants.{Gt}
 use Rattle.action_tree.specs.Trees as tree
-use Rattle.action_tree.specs.Trees.{Guard, Program, atom, negation, comparison, own, number, put, if_then, no_stmts, stmts, contract, term_then}
+use Rattle.action_tree.specs.Trees.{Guard, Sum, Term, Stmt, Program, atom, negation, comparison, own, number, put, if_then, no_stmts, stmts, contract, term_then}
 use Rattle.action_tree.specs.Samples.{word, literal, one, own_is, and, or, var, action, line, erosion, hexagon, every_form}
 use Rattle.action_print.specs.Canon.{guard_words, canon}
 
 -- it counts to 2, and begins again
+abbrev m : Term
+m = own (word (codes "m"))
+
+abbrev pub counting_guard : Guard
+counting_guard = and (or (own_is (codes "m") 0 ∷ own_is (codes "m") 1 ∷ []) ∷ negation (atom tree.contracted) ∷ [])
+
+abbrev pub one_more : Sum
+one_more = term_then false m (one (number (literal 1)))
+
+abbrev pub begin_again : Stmt
+begin_again = if_then (comparison (one m) Gt (one (number (literal 2)))) (stmts (put (word (codes "m")) (one (number (literal 0))) ∷ [])) no_stmts
+
+abbrev pub counting_body : List Stmt
+counting_body = put (word (codes "m")) one_more ∷ begin_again ∷ []
+
 abbrev pub counting : Program
-counting = record {
-  guard = false;
-  vars = var (codes "m") 3 ∷ [];
-  actions =
-      action (codes "a") (and (or (own_is (codes "m") 0 ∷ own_is (codes "m") 1 ∷ []) ∷ negation (atom tree.contracted) ∷ []))
-      (put (word (codes "m")) (term_then false (own (word (codes "m"))) (one (number (literal 1))))
-      ∷ if_then (comparison (one (own (word (codes "m")))) Gt (one (number (literal 2)))) (stmts (put (word (codes "m")) (one (number (literal 0))) ∷ [])) no_stmts
-      ∷ []) (contract Tail)
-      ∷ [];
-}
+counting = record { guard = false; vars = var (codes "m") 3 ∷ []; actions = action (codes "a") counting_guard counting_body (contract Tail) ∷ [] }
 
 abbrev counting_text : List ℕ
 counting_text =

@@ -1,7 +1,7 @@
 //! What holds of the canonical text. The functions do nothing: their clauses are the laws.
 
 ghost use Rattle.action_print.specs.Pins.{CanonIsPinned};
-ghost use Rattle.action_print.specs.ReadsBack.{CanonReadsBack};
+ghost use Rattle.action_print.specs.ReadsBack.{CanonIsRead, CanonReadsBack};
 
 /// The canonical texts of a few programs, as bytes.
 #[tactic(auto, using(crate::proofs::PinLemmas::canon_is_pinned))]
@@ -9,8 +9,9 @@ pub fn canon_is_pinned()
     ensures { CanonIsPinned }
 {}
 
-/// The canonical text of a program is a text of the grammar, which stands for the same program, lines aside.
-#[tactic(auto, using(crate::proofs::ProgramsRead::canon_reads_back))]
+/// The canonical text of a program is a text of the grammar, which stands for the same program, lines aside. So it is read as that program.
+#[tactic(auto, using(crate::proofs::ProgramsRead::canon_reads_back, crate::proofs::ProgramsRead::canon_is_read))]
 pub fn canon_reads_back()
-    ensures { CanonReadsBack }
+    ensures text { CanonReadsBack }
+    ensures reader { CanonIsRead }
 {}

@@ -9,3 +9,6 @@ mod token;
 
 pub use laws::{canon_is_pinned, canon_reads_back};
 pub use program::print_program;
+
+#[cfg(test)]
+mod tests;

@@ -4,6 +4,7 @@ ghost use Rattle.std.specs.Prelude.{◌≡◌, ◌∷◌, ◌++◌, [], codes, m
 ghost use Rattle.std.specs.List.{flat_map};
 ghost use Rattle.text_tokens.specs.Lines.{line_text, lines_text};
 ghost use Rattle.action_tree.specs.Views.{action_of, guard_of, move_of, name_of, stmts_of, var_of};
+ghost use Rattle.action_print.specs.ReadsBack.{ReadsBack};
 ghost use Rattle.action_print.specs.Canon.{action_lines, canon, do_lines, guard_line, guard_words, move_words, var_line};
 
 use crate::expression::put_guard;
@@ -14,9 +15,10 @@ use amoebot_state::NoMemory;
 use std::alloc::{AllocError, Global};
 use text_tokens::{Lines, Text};
 
-/// The canonical text of a program. Want of memory alone leaves none.
+/// The canonical text of a program, which is read back as that program, lines aside. Want of memory alone leaves none.
 pub fn print_program(alloc: Global, program: &Program) -> Result<Text, NoMemory>
-    ensures { IfOk result (λ text. text ≡ canon program.now) }
+    ensures text { IfOk result (λ text. text ≡ canon program.now) }
+    ensures reads_back { IfOk result (λ text. ReadsBack program.now text) }
 {
     let mut lines = Lines::new(alloc);
     lines.open_section("program")?;
