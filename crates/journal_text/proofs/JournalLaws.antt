@@ -1,15 +1,15 @@
 -- The reader of a journal is a part for its grammar.
-use Rattle.std.proofs.Common.{◌≡◌, ℕ, Bool, true, false, List, [], ◌∷◌, Option, Some, None, refl, ap, ◌∙◌}
+use Rattle.std.proofs.Common.{◌≡◌, ℕ, Bool, true, false, List, Some, None, refl}
 use Rattle.std.specs.Prelude.{codes, not, ◌||◌}
 use Rattle.std.proofs.lemmas.Bool.{not-true}
 use Rattle.text_tokens.specs.declared.token.TokenKind.TheVariants.{Word}
 use Rattle.text_tokens.specs.Text.{Lexeme}
-use Rattle.text_tokens.specs.Reading.{Reader, ◌>>=◌, pure, is_number, no_limit, limited, less}
-use Rattle.text_tokens.specs.Grammar.{Symbol, symbol, Lang, IsOne, Then, Made, Judged, Either, of_first, of_second, Limited, Repeated, AtMost}
-use Rattle.text_tokens.specs.Lawful.{Exact, IsPart, always, Starts, StartsIn, HasTokens, BeginsWith, SomeFrom, AreElements}
+use Rattle.text_tokens.specs.Reading.{Reader, ◌>>=◌, pure, is_number, no_limit, less}
+use Rattle.text_tokens.specs.Grammar.{Symbol, symbol, Lang, IsOne, Then, Made, Judged, Either, of_first, of_second, Limited, AtMost}
+use Rattle.text_tokens.specs.Lawful.{Exact, IsPart, always, Starts, StartsIn, BeginsWith, SomeFrom, AreElements}
 use Rattle.text_tokens.proofs.Exactness.{exact}
 use Rattle.text_tokens.proofs.Carrying.{part_made}
-use Rattle.text_tokens.proofs.Parts.{some_text, part_less, part_one, part_behind, part_judged}
+use Rattle.text_tokens.proofs.Parts.{some_text, part_one, part_judged}
 use Rattle.text_tokens.proofs.Beginnings.{starts_in, starts_some, starts_one, starts_made, starts_then, starts_judged, starts_in_more, starts_in_either}
 use Rattle.text_tokens.proofs.Repeating.{at_most_elements, part_repeated}
 use Rattle.text_tokens.proofs.Distinguishing.{sample, passes, other_text, starts_numeral}
@@ -18,13 +18,12 @@ use Rattle.amoebot_state.specs.declared.cell.CellName.{CellName}
 use Rattle.amoebot_state.specs.declared.cell.CellName.TheVariants as name
 use Rattle.amoebot_state.specs.declared.cell.Cell.{Cell}
 use Rattle.amoebot_state.specs.declared.cell.Cell.TheVariants as cell
-use Rattle.amoebot_state.specs.declared.verdict.Entry.{Entry}
 use Rattle.amoebot_state.specs.declared.verdict.Moved.{Moved}
 use Rattle.amoebot_state.specs.declared.verdict.Moved.TheVariants as moved
-use Rattle.journal_text.specs.Parts.{word, is_end, IsWord, Means, IsNumber, IsNode, IsEnd, IsPort, IsBot}
-use Rattle.journal_text.specs.Journals.{IsPortBehind, IsEndBehind, IsMovedBy, IsContracted, IsMoved, is_spot, is_body, is_cell, IsCell, IsOccupant, IsValueOf, a_pair_of, IsPair, is_entry, Numbers, numbers_of, AreNumbers, Written, written_of, past_entries, IsEntryWord, IsWritten, wrong, IsEntry, one_more, AreEntries, IsJournal}
-use Rattle.journal_text.specs.Readers.{a_word, a_number, port_behind, end_behind, moved_by, a_contraction, a_movement, a_cell, an_occupant, a_value, a_pair, pair_in, all_pairs, the_numbers, entry_word, written, an_entry, entries_from, journal, a_bot, a_node, an_end, a_port}
-use Rattle.journal_text.proofs.PartLaws.{behind, into, up_to_end, one_of_two, some_either, starts_word, part_word, part_number, starts_means, number_no_word, part_end, part_node, part_port, part_bot}
+use Rattle.journal_text.specs.Parts.{word, is_end, IsWord, IsNumber, IsNode, IsEnd, IsPort}
+use Rattle.journal_text.specs.Journals.{IsPortBehind, IsEndBehind, IsMovedBy, IsContracted, IsMoved, is_spot, is_body, is_cell, IsCell, IsOccupant, IsValueOf, a_pair_of, IsPair, is_entry, numbers_of, AreNumbers, Written, written_of, past_entries, IsEntryWord, IsWritten, wrong, IsEntry, one_more, AreEntries, IsJournal}
+use Rattle.journal_text.specs.Readers.{a_word, a_number, port_behind, end_behind, moved_by, a_contraction, a_movement, a_cell, an_occupant, a_value, a_pair, pair_in, all_pairs, the_numbers, entry_word, written, an_entry, entries_from, journal, a_node, an_end, a_port}
+use Rattle.journal_text.proofs.PartLaws.{behind, into, up_to_end, one_of_two, starts_word, part_word, part_number, starts_means, number_no_word, part_end, part_node, part_port, part_bot}
 
 -- ---- movements
 

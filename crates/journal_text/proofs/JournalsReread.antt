@@ -1,27 +1,23 @@
 -- The text of a journal is read as its entries.
-use Rattle.std.proofs.Common.{◌≡◌, ℕ, ℤ, pos, negsuc, zero, suc, ◌+◌, ◌-◌, ◌<◌, ◌≤◌, Bool, true, false, List, [], ◌∷◌, ◌++◌, length, map, take, drop, replicate, Option, Some, None, Ok, codes, refl, sym, ap, subst, ◌∙◌, arith, append_assoc, length-take-le, take-append-drop}
+use Rattle.std.proofs.Common.{◌≡◌, ℕ, ℤ, pos, negsuc, zero, suc, ◌+◌, ◌-◌, ◌<◌, ◌≤◌, Bool, true, false, List, [], ◌∷◌, ◌++◌, length, map, take, replicate, Some, None, Ok, codes, refl, sym, ap, subst, ◌∙◌, arith, length-take-le, take-append-drop}
 use Rattle.std.specs.Prelude.{◌&&◌, ◌^◌, ◌==◌, decimal, bytes_eq, nat_lt, nat_le}
 use Rattle.std.specs.Fmt.{signed_decimal}
 use Rattle.std.specs.List.{All, list_all, flat_map, enumerate_from}
-use Rattle.std.proofs.lemmas.List.{append-nil}
 use Rattle.std.proofs.lemmas.List.Folds.{list_all-append}
 use Rattle.std.proofs.lemmas.List.Elements.{All-head, All-tail}
 use Rattle.std.proofs.lemmas.Bool.{ltb-true, leb-true, lt-ltb, le-ltb}
 use Rattle.std.proofs.lemmas.Int.{ints}
 use Rattle.std.proofs.lemmas.Bool.Decides.{nat_tests}
 use Rattle.tri_lattice.specs.declared.node.Node.{Node}
-use Rattle.text_tokens.specs.declared.token.TokenKind.TheVariants.{Word, Number, Sign}
-use Rattle.text_tokens.specs.declared.refusal.Refusal.{Refusal}
-use Rattle.text_tokens.specs.declared.refusal.RefusalKind.{RefusalKind}
-use Rattle.text_tokens.specs.declared.refusal.RefusalKind.TheVariants.{BadRange, BadEntry, BadPlace}
-use Rattle.text_tokens.specs.Text.{Lexeme, is_letter, is_word_byte, is_sign, is_one_of, IsLongestSign, Cuts, sign}
+use Rattle.text_tokens.specs.declared.token.TokenKind.TheVariants.{Word, Sign}
+use Rattle.text_tokens.specs.declared.refusal.RefusalKind.TheVariants.{BadRange}
+use Rattle.text_tokens.specs.Text.{Lexeme, is_letter, is_word_byte, is_one_of, IsLongestSign, sign}
 use Rattle.text_tokens.specs.Cursor.{is_the}
-use Rattle.text_tokens.specs.Lines.{Words, lines_text}
+use Rattle.text_tokens.specs.Lines.{Words}
 use Rattle.text_tokens.specs.Reading.{value, no_limit, too_large, less}
-use Rattle.text_tokens.specs.Grammar.{Symbol, Lang, IsOne, Then, then, Made, made, IsThe, IsNumeral, Either, of_first, Closed, Times, is_nothing, Limited, in_limit, Repeated, no_more, one_more, AtMost}
-use Rattle.text_tokens.specs.Lawful.{IsWhole}
+use Rattle.text_tokens.specs.Grammar.{Symbol, Lang, Then, then, Made, made, IsThe, Either, of_first, is_nothing, Limited, in_limit, Repeated, no_more, AtMost}
 use Rattle.text_tokens.proofs.Blanks.{and_true}
-use Rattle.text_tokens.proofs.PrintedTokens.{kind_of, AreSpelled, Spells, spells_token, ArePrinted, none_printed, word_printed, LinesArePrinted, no_lines, line_printed, IsOneToken, IsPrinted, EndsToken, word_is_token, sign_is_token}
+use Rattle.text_tokens.proofs.PrintedTokens.{kind_of, AreSpelled, spells_token, none_printed, word_printed, IsOneToken, IsPrinted, word_is_token, sign_is_token}
 use Rattle.amoebot_state.specs.declared.bot.Bot.{Bot}
 use Rattle.amoebot_state.specs.declared.bot.Chir.{Chir}
 use Rattle.amoebot_state.specs.declared.bot.Chir.TheVariants as chir
@@ -35,13 +31,13 @@ use Rattle.amoebot_state.specs.declared.cell.Cell.TheVariants as cell
 use Rattle.amoebot_state.specs.declared.verdict.Entry.{Entry}
 use Rattle.amoebot_state.specs.declared.verdict.Moved.{Moved}
 use Rattle.amoebot_state.specs.declared.verdict.Moved.TheVariants as moved
-use Rattle.amoebot_state.specs.Pairs.{Pairs, cell_of, cell_value}
+use Rattle.amoebot_state.specs.Pairs.{Pairs}
 use Rattle.journal_text.specs.Parts.{word, is_minus, is_end, IsWord, Means, IsNumber, IsUpTo, negative, IsInt, a_node_of, IsNode, IsEnd, IsChirality, a_port_of, IsPort, IsValues, memory, a_bot_of, IsBot}
-use Rattle.journal_text.specs.Journals.{IsPortBehind, IsEndBehind, IsMovedBy, IsContracted, IsMoved, IsCell, IsOccupant, IsValueOf, a_pair_of, IsPair, is_entry, Numbers, numbers_of, AreNumbers, Written, written_of, most_entries, past_entries, IsEntryWord, IsWritten, ids_of, ids_of_pair, ids_of_name, ids_of_value, is_known, wrong, IsEntry, one_more as next_place, AreEntries, IsJournal}
+use Rattle.journal_text.specs.Journals.{IsPortBehind, IsMoved, IsCell, a_pair_of, IsPair, Numbers, numbers_of, AreNumbers, Written, written_of, most_entries, past_entries, IsEntryWord, IsWritten, ids_of, ids_of_pair, is_known, wrong, IsEntry, one_more as next_place, AreEntries, IsJournal}
 use Rattle.journal_text.specs.JournalRows.{Says}
-use Rattle.journal_text.specs.Texts.{node_words, end_word, port_words, chir_word, bot_words, cell_words, value_words, pair_words, moved_words, entry_numbers, entry_words, journal_text}
+use Rattle.journal_text.specs.Texts.{node_words, end_word, port_words, chir_word, bot_words, pair_words, moved_words, entry_numbers, entry_words, journal_text}
 use Rattle.journal_text.specs.Rereading.{size, HasCoordinates, HasLimits, IsWritable, IsPossible, KeepsLimits, JournalsReadBack}
-use Rattle.journal_text.proofs.Respelling.{Found, Is, Any, Rereads, RereadsLines, rereads_behind, lines_behind_line, rereads_then, rereads_next, rereads_made, lines_made, rereads_as, rereads_first, rereads_second, rereads_judged, rereads_nothing, rereads_into, rereads_more, lines_more, lines_then, lines_next, lines_nothing, rereads_same, the_passes, rereads_the, rereads_number, number_token, number_kind, whole_then, parted, behind_found, found_made, one_found, the_found, number_found, one_rereads, reread_line, lines_say}
+use Rattle.journal_text.proofs.Respelling.{Found, Is, Any, Rereads, RereadsLines, rereads_behind, rereads_then, rereads_next, rereads_made, rereads_as, rereads_first, rereads_second, rereads_judged, rereads_nothing, rereads_into, rereads_more, lines_more, lines_then, lines_next, lines_nothing, the_passes, rereads_the, rereads_number, number_token, behind_found, found_made, one_found, the_found, number_found, one_rereads, reread_line, lines_say}
 
 -- ---- words and numbers
 
@@ -51,7 +47,7 @@ within most n le t e = let b : nat_lt most n ≡ false = le-ltb _ _ le in rw (e,
 up_to : (most n : ℕ) → n ≤ most → most < 10 ^ 9 → Rereads (IsUpTo most) (Is n) (decimal n ∷ [])
 up_to most n le small = rereads_number n (omega arith) (too_large most BadRange) (within most n le)
 
-any_number : (n : ℕ) → n < 10 ^ 9 → Rereads IsNumber (Is n) (decimal n ∷ [])
+pub any_number : (n : ℕ) → n < 10 ^ 9 → Rereads IsNumber (Is n) (decimal n ∷ [])
 any_number n small = rereads_number n small no_limit (λ t e. refl)
 
 -- nothing makes a minus longer
@@ -98,10 +94,10 @@ a_node v c = rereads_then (signed_decimal v.x ∷ []) (signed_decimal v.y ∷ []
 
 -- a word of the format
 module _ (b : ℕ) (bytes : List ℕ) (letter : is_letter b ≡ true) (more : list_all is_word_byte bytes ≡ true) (few : length (b ∷ bytes) ≤ 24) (same : bytes_eq (b ∷ bytes) (b ∷ bytes) ≡ true) where
-  the_kind : kind_of (b ∷ bytes) ≡ Word
+  pub the_kind : kind_of (b ∷ bytes) ≡ Word
   the_kind = rw letter refl
 
-  the_word : Rereads (IsWord (b ∷ bytes)) Any ((b ∷ bytes) ∷ [])
+  pub the_word : Rereads (IsWord (b ∷ bytes)) Any ((b ∷ bytes) ∷ [])
   the_word = rereads_the Word (b ∷ bytes) (word_is_token b bytes letter more few) the_kind same
 
 means : {A : Type 0} (test : Lexeme → Bool) (a : A) (words : Words) → Rereads (IsThe test) Any words → Rereads (Means test a) (Is a) words
@@ -165,10 +161,10 @@ a_movement (moved.Pull p) le =
 
 -- ---- pairs
 
-a_spot : (v : Node) → HasCoordinates v → Rereads IsCell (Is (name.Spot v)) (codes "spot" ∷ node_words v)
+pub a_spot : (v : Node) → HasCoordinates v → Rereads IsCell (Is (name.Spot v)) (codes "spot" ∷ node_words v)
 a_spot v c = rereads_first (codes "spot" ∷ node_words v) (rereads_next (codes "spot" ∷ []) (node_words v) (the_word _ _ refl refl (omega arith) refl) (rereads_as (λ v. name.Spot v) (node_words v) v (a_node v c)))
 
-a_body : (id : ℕ) → id < 10 ^ 9 → Rereads IsCell (Is (name.Body id)) (codes "body" ∷ decimal id ∷ [])
+pub a_body : (id : ℕ) → id < 10 ^ 9 → Rereads IsCell (Is (name.Body id)) (codes "body" ∷ decimal id ∷ [])
 a_body id small = rereads_second (codes "body" ∷ decimal id ∷ []) (rereads_next (codes "body" ∷ []) (decimal id ∷ []) (the_word _ _ refl refl (omega arith) refl) (rereads_as (λ id. name.Body id) (decimal id ∷ []) id (any_number id small)))
 
 module _ (bots vars : ℕ) (few : bots < 2 ^ 16) (le : vars ≤ 8) where
@@ -316,14 +312,21 @@ module _ (bots actions vars : ℕ) (few_bots : bots < 2 ^ 16) (few_actions : act
       (reread_line (entry_words vars (before, e)) (the_entry before (omega arith) e (All-head (KeepsLimits bots actions vars) e es all)))
       (subst (λ (n : ℕ). RereadsLines (AreEntries bots actions vars n) (Is es) (map (entry_words vars) (enumerate_from (before + 1) es))) (sym one) more)
 
+  the_first_word : Rereads (IsWord (codes "journal")) Any (codes "journal" ∷ [])
+  the_first_word = the_word _ _ refl refl (omega arith) refl
+
+  the_last_word : Rereads (IsThe is_end) Any (codes "end" ∷ [])
+  the_last_word = the_word _ _ refl refl (omega arith) refl
+
   the_journal : (es : List Entry) → length es ≤ most_entries → All (KeepsLimits bots actions vars) es → Says (IsJournal bots actions vars) (journal_text vars es) (Ok es)
   the_journal es fit all =
+      let in_room : 0 + length es ≤ most_entries = omega (arith, fit) in
       let lines = map (entry_words vars) (enumerate_from 0 es) in
-      let last = reread_line (codes "end" ∷ []) (rereads_made (λ line. es) (codes "end" ∷ []) (λ line x. refl) (the_word _ _ refl refl (omega arith) refl)) in
-      let first = reread_line (codes "journal" ∷ []) (the_word _ _ refl refl (omega arith) refl) in
+      let last = reread_line (codes "end" ∷ []) (rereads_made (λ line. es) (codes "end" ∷ []) (λ line x. refl) the_last_word) in
+      let first = reread_line (codes "journal" ∷ []) the_first_word in
       lines_say (IsJournal bots actions vars) es ((codes "journal" ∷ []) ∷ lines ++ (codes "end" ∷ []) ∷ [])
       (lines_next ((codes "journal" ∷ []) ∷ []) (lines ++ (codes "end" ∷ []) ∷ []) first
-      (lines_then lines ((codes "end" ∷ []) ∷ []) es (the_entries 0 es (omega (arith, fit)) all) last))
+      (lines_then lines ((codes "end" ∷ []) ∷ []) es (the_entries 0 es in_room all) last))
 
 pub journals_reread : JournalsReadBack
 journals_reread bots actions vars es few_bots few_actions le fit all = the_journal bots actions vars few_bots few_actions le es fit all

@@ -7,3 +7,4 @@ pub mod Times
 pub mod Knowing
 pub mod Respelling
 pub mod JournalsReread
+pub mod TurnsReread

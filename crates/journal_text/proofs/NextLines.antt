@@ -1,5 +1,5 @@
 -- Lists that grow by their next element, as the lines of a section do.
-use Rattle.std.proofs.Common.{◌≡◌, ℕ, ◌+◌, List, [], ◌∷◌, ◌++◌, length, take, map, flat_map, slice_get, Option, Some, ap, ◌∙◌, arith, add-one}
+use Rattle.std.proofs.Common.{◌≡◌, ℕ, ◌+◌, List, [], ◌∷◌, ◌++◌, length, take, map, flat_map, slice_get, Some, ap, ◌∙◌, arith, add-one}
 use Rattle.std.specs.List.{enumerate_from}
 use Rattle.std.proofs.Math.Seq.{take-suc}
 use Rattle.std.proofs.lemmas.Grind.{flat_map-append}

@@ -1,5 +1,5 @@
 -- The readers of what several sections have are parts for their grammars.
-use Rattle.std.proofs.Common.{◌≡◌, ℕ, pos, Bool, true, false, List, [], ◌∷◌, Option, refl}
+use Rattle.std.proofs.Common.{◌≡◌, ℕ, pos, Bool, true, false, List, Option, refl}
 use Rattle.std.specs.Prelude.{codes}
 use Rattle.std.specs.Str.{bytes_eq}
 use Rattle.text_tokens.specs.declared.token.TokenKind.TheVariants.{Word, Number, Sign}
@@ -8,7 +8,7 @@ use Rattle.text_tokens.specs.declared.refusal.RefusalKind.TheVariants.{BadRange}
 use Rattle.text_tokens.specs.Text.{Lexeme}
 use Rattle.text_tokens.specs.Cursor.{same_kind}
 use Rattle.text_tokens.specs.Reading.{Reader, ◌>>=◌, pure, is_number, too_large, no_limit, closed, either}
-use Rattle.text_tokens.specs.Grammar.{Symbol, tokens, Lang, Then, Made, IsThe, Closed, Either, of_first, of_second}
+use Rattle.text_tokens.specs.Grammar.{Lang, Then, Made, IsThe, Closed, Either, of_first, of_second}
 use Rattle.text_tokens.specs.Lawful.{IsPart, Starts, StartsIn, HasTokens, always}
 use Rattle.text_tokens.proofs.Carrying.{part_made}
 use Rattle.text_tokens.proofs.Parts.{some_text, part_behind, part_closed}
@@ -19,7 +19,7 @@ use Rattle.text_tokens.proofs.Distinguishing.{sample, passes, kind_is, other_tex
 use Rattle.amoebot_state.specs.declared.bot.Chir.TheVariants.{Plus, Minus}
 use Rattle.amoebot_state.specs.declared.bot.End.TheVariants.{Head, Tail}
 use Rattle.journal_text.specs.Parts.{word, sign, is_minus, is_end, IsWord, Means, IsNumber, IsUpTo, negative, IsInt, a_node_of, IsNode, IsEnd, IsChirality, a_port_of, IsPort, IsValues, a_bot_of, IsBot}
-use Rattle.journal_text.specs.Readers.{a_word, means, a_number, up_to, an_int, a_node, an_end, a_chirality, a_port, values, a_bot}
+use Rattle.journal_text.specs.Readers.{a_word, a_number, up_to, an_int, a_node, an_end, a_chirality, a_port, values, a_bot}
 
 -- ---- forms
 

@@ -1,11 +1,10 @@
 -- Printed words read as a text of a grammar, part by part.
-use Rattle.std.proofs.Common.{◌≡◌, ℕ, suc, ◌+◌, ◌<◌, ◌≤◌, Bool, true, false, List, [], ◌∷◌, ◌++◌, length, Option, Some, None, Ok, codes, refl, sym, ap, subst, ◌∙◌, arith, append_assoc}
+use Rattle.std.proofs.Common.{◌≡◌, ℕ, ◌<◌, ◌≤◌, Bool, true, false, List, [], ◌∷◌, ◌++◌, length, Option, None, Ok, refl, sym, ap, subst, ◌∙◌, arith, append_assoc}
 use Rattle.std.specs.Prelude.{◌&&◌, ◌^◌, decimal}
 use Rattle.std.specs.Int.{IsInRange}
 use Rattle.std.specs.List.{list_all}
 use Rattle.std.specs.Str.{bytes_eq}
 use Rattle.std.proofs.lemmas.List.{append-nil}
-use Rattle.std.proofs.lemmas.Bool.{ltb-true}
 use Rattle.std.proofs.lemmas.Bool.Decides.{nat_tests}
 use Rattle.std.proofs.lemmas.Str.Parse.{IsNumeralModel, IsDigitsTest, numerals_by_weight}
 use Rattle.std.proofs.lemmas.Fmt.{digits_decimal, digits_value-decimal, length-decimal-le, decimal_nonempty}
@@ -13,14 +12,12 @@ use Rattle.text_tokens.specs.declared.token.TokenKind.{TokenKind}
 use Rattle.text_tokens.specs.declared.token.TokenKind.TheVariants.{Word, Number, Sign}
 use Rattle.text_tokens.specs.declared.refusal.Refusal.{Refusal}
 use Rattle.text_tokens.specs.declared.refusal.RefusalKind.{RefusalKind}
-use Rattle.text_tokens.specs.declared.refusal.RefusalKind.TheVariants.{Trailing}
-use Rattle.text_tokens.specs.Text.{is_digit, is_letter, Lexeme, AreTokens}
+use Rattle.text_tokens.specs.Text.{is_digit, is_letter, Lexeme}
 use Rattle.text_tokens.specs.Cursor.{is_the, is_kind, same_kind, number_value}
 use Rattle.text_tokens.specs.Lines.{Words, lines_text}
-use Rattle.text_tokens.specs.Reading.{is_number, value, no_limit}
-use Rattle.text_tokens.specs.Grammar.{Symbol, symbol, tokens, first_fault, Lang, IsOne, is_one, Then, then, Made, made, IsThe, IsNumeral, IsJudgement, is_judgement, Judged, Either, of_first, of_second, point, Repeated, one_more}
-use Rattle.text_tokens.specs.Lawful.{IsWhole, IsText}
-use Rattle.text_tokens.specs.Inputs.{IsInput}
+use Rattle.text_tokens.specs.Reading.{is_number, value}
+use Rattle.text_tokens.specs.Grammar.{Symbol, symbol, tokens, first_fault, Lang, IsOne, is_one, Then, then, Made, made, IsThe, IsNumeral, is_judgement, Judged, Either, of_first, of_second, point, Repeated, one_more}
+use Rattle.text_tokens.specs.Lawful.{IsWhole}
 use Rattle.text_tokens.proofs.Blanks.{and_true}
 use Rattle.text_tokens.proofs.Symbols.{tokens-append, fine-append}
 use Rattle.text_tokens.proofs.Exactness.{none_stops}
@@ -186,7 +183,7 @@ one_found {test = test} {over = over} w passes fine ts (token_more {t = t} k b n
 pub one_rereads : {A : Type 0} {P : Lang A} {R : A → Type 0} (w : List ℕ) → IsOneToken w → ((ts : List Lexeme) → AreSpelled ts (w ∷ []) → Found P R ts) → Rereads P R (w ∷ [])
 one_rereads w is read = record { spelled = w ∷ []; printed = word_printed (one_printed w is) none_printed; read = read }
 
-kind_passes : (kind : TokenKind) (t : Lexeme) → t.kind ≡ kind → is_kind kind t ≡ true
+pub kind_passes : (kind : TokenKind) (t : Lexeme) → t.kind ≡ kind → is_kind kind t ≡ true
 unfolding same_kind
 kind_passes Word t e = rw e refl
 kind_passes Number t e = rw e refl
@@ -302,7 +299,7 @@ module _ {A S : Type 0} (E : S → Lang A) (step : S → A → S) (s : S) where
   more_made : (a : A) (xs ys : List Symbol) (many : List A) → E s xs a → Made (Repeated E step (step s a)) (λ rest. a ∷ rest) ys many → Repeated E step s (xs ++ ys) many
   more_made a xs ys many is (made rest m) = one_more a is m
 
-  more_of : (zs : List Symbol) (many : List A) → Then (E s) (λ a. Made (Repeated E step (step s a)) (λ rest. a ∷ rest)) zs many → Repeated E step s zs many
+  pub more_of : (zs : List Symbol) (many : List A) → Then (E s) (λ a. Made (Repeated E step (step s a)) (λ rest. a ∷ rest)) zs many → Repeated E step s zs many
   more_of zs many (then {xs = xs} {ys = ys} a is m) = more_made a xs ys many is m
 
   -- one more element

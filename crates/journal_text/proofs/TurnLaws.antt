@@ -1,11 +1,11 @@
 -- The reader of turns is a part for its grammar.
-use Rattle.std.proofs.Common.{◌≡◌, ℕ, Bool, true, List, [], ◌∷◌, Option, refl}
+use Rattle.std.proofs.Common.{◌≡◌, ℕ, Bool, true, List, refl}
 use Rattle.std.specs.Prelude.{codes, ◌||◌}
 use Rattle.text_tokens.specs.declared.token.TokenKind.TheVariants.{Word}
 use Rattle.text_tokens.specs.Text.{Lexeme}
 use Rattle.text_tokens.specs.Cursor.{same_kind}
-use Rattle.text_tokens.specs.Reading.{Reader, ◌>>=◌, pure, the_line, no_limit}
-use Rattle.text_tokens.specs.Grammar.{Lang, IsThe, Then, Either, Closed, Repeated}
+use Rattle.text_tokens.specs.Reading.{◌>>=◌, the_line, no_limit}
+use Rattle.text_tokens.specs.Grammar.{Lang, IsThe, Then, Either}
 use Rattle.text_tokens.specs.Lawful.{Exact, IsPart, always, Starts, AreElements}
 use Rattle.text_tokens.proofs.Exactness.{exact}
 use Rattle.text_tokens.proofs.Parts.{part_the}

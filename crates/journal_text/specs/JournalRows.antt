@@ -1,6 +1,5 @@
 -- Some texts of journals, of a world of 3 amoebots, a program of 2 actions and 1 variable, with their entries or their first fault.
 use Rattle.std.specs.Prelude.{ℕ, ℤ, pos, negsuc, List, [], ◌∷◌, ◌++◌, Option, Some, None, Result, Ok, Err, codes}
-use Rattle.tri_lattice.specs.declared.node.Node.{Node}
 use Rattle.text_tokens.specs.declared.refusal.Refusal.{Refusal}
 use Rattle.text_tokens.specs.declared.refusal.RefusalKind.{RefusalKind}
 use Rattle.text_tokens.specs.declared.refusal.RefusalKind.TheVariants.{BadByte, WordTooLong, Unexpected, TooMany, Truncated, BadRange, BadEntry, BadPlace, Trailing}
@@ -20,7 +19,7 @@ use Rattle.amoebot_state.specs.declared.verdict.Moved.{Moved}
 use Rattle.amoebot_state.specs.declared.verdict.Moved.TheVariants as moved
 use Rattle.amoebot_state.specs.Pairs.{Pairs}
 use Rattle.journal_text.specs.Parts.{a_node_of, a_port_of, a_bot_of}
-use Rattle.journal_text.specs.Journals.{IsEntry, AreEntries, IsJournal}
+use Rattle.journal_text.specs.Journals.{AreEntries, IsJournal}
 
 -- what a grammar says of a whole text: what it stands for, or its first fault, where a token behind it is Trailing
 abbrev pub Says : {A : Type 0} → Lang A → List ℕ → Result A Refusal → Type 0

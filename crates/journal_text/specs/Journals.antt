@@ -6,7 +6,7 @@
 -- The 65,537th entry and the 11th pair of an entry are TooMany. Once no further pair comes, an entry is judged, and blamed at its word: its place has to be
 -- the number of entries before it (else BadPlace), its caller at most 15, its turn at most 65,535, its action one of the program's and each amoebot that it names
 -- one of the world's (else BadEntry).
-use Rattle.std.specs.Prelude.{ℕ, suc, ◌+◌, Bool, true, ◌&&◌, ◌||◌, ◌==◌, nat_le, nat_lt, if◌then◌else◌, List, [], ◌∷◌, ◌++◌, Option, Some, None, codes}
+use Rattle.std.specs.Prelude.{ℕ, suc, Bool, ◌&&◌, ◌||◌, ◌==◌, nat_le, nat_lt, if◌then◌else◌, List, [], ◌∷◌, ◌++◌, Option, Some, None, codes}
 use Rattle.std.specs.List.{list_all, flat_map}
 use Rattle.text_tokens.specs.declared.refusal.Refusal.{Refusal}
 use Rattle.text_tokens.specs.declared.refusal.RefusalKind.{RefusalKind}

@@ -1,5 +1,5 @@
 -- The grammars of the sections as readers, put together as the grammars are.
-use Rattle.std.specs.Prelude.{ℕ, ℤ, pos, Bool, List, Option, Some, None, codes}
+use Rattle.std.specs.Prelude.{ℕ, ℤ, pos, Bool, List, Some, None, codes}
 use Rattle.tri_lattice.specs.declared.node.Node.{Node}
 use Rattle.text_tokens.specs.declared.refusal.RefusalKind.TheVariants.{BadRange}
 use Rattle.text_tokens.specs.Text.{Lexeme}

@@ -1,5 +1,5 @@
--- Entries that break no limit are read back from their text.
-use Rattle.std.specs.Prelude.{◌≡◌, ◌<◌, ◌≤◌, ◌+◌, ◌-◌, ◌^◌, ℕ, ℤ, pos, negsuc, suc, true, List, length, take, drop, replicate, Ok}
+-- Entries that break no limit are read back from their text, and marks are read.
+use Rattle.std.specs.Prelude.{◌≡◌, ◌<◌, ◌≤◌, ◌-◌, ◌^◌, ℕ, ℤ, pos, negsuc, suc, true, List, length, drop, replicate, Ok}
 use Rattle.std.specs.List.{All}
 use Rattle.tri_lattice.specs.declared.node.Node.{Node}
 use Rattle.amoebot_state.specs.declared.bot.Bot.{Bot}
@@ -10,9 +10,13 @@ use Rattle.amoebot_state.specs.declared.cell.Cell.TheVariants as cell
 use Rattle.amoebot_state.specs.declared.verdict.Entry.{Entry}
 use Rattle.amoebot_state.specs.declared.verdict.Moved.{Moved}
 use Rattle.amoebot_state.specs.declared.verdict.Moved.TheVariants as moved
+use Rattle.claim_core.specs.declared.marks.Mark.{Mark}
+use Rattle.claim_core.specs.declared.marks.Mark.TheVariants as mark
+use Rattle.claim_core.specs.Turns.{MarkLists}
+use Rattle.journal_text.specs.Turns.{IsTurns}
 use Rattle.journal_text.specs.Journals.{most_entries, is_known, IsJournal}
 use Rattle.journal_text.specs.JournalRows.{Says}
-use Rattle.journal_text.specs.Texts.{journal_text}
+use Rattle.journal_text.specs.Texts.{journal_text, turns_text}
 
 -- how far a whole number is from 0
 abbrev pub size : ℤ → ℕ
@@ -57,3 +61,35 @@ pub record KeepsLimits (bots actions vars : ℕ) (e : Entry) : Type 0 where
 abbrev pub JournalsReadBack : Type 0
 JournalsReadBack = (bots actions vars : ℕ) (entries : List Entry) → bots < 2 ^ 16 → actions < 2 ^ 8 → vars ≤ 8 → length entries ≤ most_entries → All (KeepsLimits bots actions vars) entries
     → Says (IsJournal bots actions vars) (journal_text vars entries) (Ok entries)
+
+-- ---- marks
+
+-- a number of at most nine digits
+abbrev pub IsShort : ℕ → Type 0
+IsShort n = n < 10 ^ 9
+
+abbrev pub IsWritableCell : CellName → Type 0
+IsWritableCell (name.Spot v) = HasCoordinates v
+IsWritableCell (name.Body i) = IsShort i
+
+pub record IsClaim (c : CellName) (by_caller by_turn by_bot place : ℕ) : Type 0 where
+  pub cell : IsWritableCell c
+  pub caller : IsShort by_caller
+  pub turn : IsShort by_turn
+  pub bot : IsShort by_bot
+  pub at : IsShort place
+
+-- a mark of such numbers, and of a node with coordinates in range
+abbrev pub IsWritableMark : Mark → Type 0
+IsWritableMark (mark.Done place) = IsShort place
+IsWritableMark (mark.Idle place) = IsShort place
+IsWritableMark (mark.Failed f place) = IsShort place
+IsWritableMark (mark.Busy c by_caller by_turn by_bot place) = IsClaim c by_caller by_turn by_bot place
+
+pub record AreWritable (marks : List Mark) : Type 0 where
+  pub few : length marks ≤ 65536
+  pub each : All IsWritableMark marks
+
+-- the text of such marks, of at most 16 callers, is one of turns
+abbrev pub TurnsReadBack : Type 0
+TurnsReadBack = (m : MarkLists) → length m.marks ≤ 16 → All AreWritable m.marks → Says IsTurns (turns_text m) (Ok tt)

@@ -1,7 +1,7 @@
 -- Texts of small journals and turns.
-use Rattle.std.specs.Prelude.{◌≡◌, ◌++◌, pos, negsuc, List, [], ◌∷◌, Some, None, codes}
+use Rattle.std.specs.Prelude.{◌≡◌, pos, negsuc, [], ◌∷◌, Some, None, codes}
 use Rattle.amoebot_state.specs.declared.bot.Bot.{Bot}
-use Rattle.amoebot_state.specs.declared.bot.Chir.TheVariants.{Plus, Minus}
+use Rattle.amoebot_state.specs.declared.bot.Chir.TheVariants.{Minus}
 use Rattle.amoebot_state.specs.declared.bot.End.TheVariants.{Head, Tail}
 use Rattle.amoebot_state.specs.declared.cell.CellName.TheVariants as name
 use Rattle.amoebot_state.specs.declared.verdict.Failure.TheVariants as failure

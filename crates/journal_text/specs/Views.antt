@@ -1,5 +1,5 @@
 -- What the code reads, as what the grammars say that a text stands for.
-use Rattle.std.specs.Prelude.{ℕ, List, map, Option}
+use Rattle.std.specs.Prelude.{map}
 use Rattle.amoebot_state.specs.declared.cell.CellName.{CellName}
 use Rattle.amoebot_state.specs.declared.cell.CellName.TheVariants as name
 use Rattle.amoebot_state.specs.declared.cell.Cell.{Cell}

@@ -6,7 +6,7 @@ ghost use Rattle.journal_text.specs.Journals.{IsJournal};
 ghost use Rattle.journal_text.specs.JournalRows.{JournalsAreRead};
 ghost use Rattle.journal_text.specs.Turns.{IsTurns};
 ghost use Rattle.journal_text.specs.TurnRows.{TurnsAreRead};
-ghost use Rattle.journal_text.specs.Rereading.{JournalsReadBack};
+ghost use Rattle.journal_text.specs.Rereading.{JournalsReadBack, TurnsReadBack};
 ghost use Rattle.journal_text.specs.TextRows.{TextsArePrinted};
 ghost use Rattle.journal_text.specs.Readers.{journal, the_turns};
 
@@ -32,4 +32,9 @@ pub fn texts_are_printed()
 /// Entries that break no limit are read back from their text.
 pub fn journals_read_back()
     ensures { JournalsReadBack }
+{}
+
+/// The text of marks is one of turns.
+pub fn turns_read_back()
+    ensures { TurnsReadBack }
 {}

@@ -1,5 +1,5 @@
 use Rattle.std.proofs.Common.{◌≡◌, ◌<◌, ◌≤◌, Some, None, ℕ, refl, sym, ◌∙◌}
-use Rattle.std.specs.Prelude.{codes, nat_lt, false, true}
+use Rattle.std.specs.Prelude.{nat_lt, false, true}
 use Rattle.std.proofs.lemmas.Bool.{lt-ltb, le-ltb}
 use Rattle.std.proofs.lemmas.Result.{err_from_is_err_and}
 use Rattle.text_tokens.specs.declared.refusal.RefusalKind.TheVariants.{TooMany}

@@ -4,11 +4,10 @@ use Rattle.std.proofs.lemmas.Result.{err_from_is_err_and}
 use Rattle.text_tokens.specs.Cursor.{Cursor, next_passes}
 use Rattle.text_tokens.specs.Reading.{Reader, pure, the_line, either}
 use Rattle.text_tokens.proofs.Stepping.{is_first, is_second, stays}
-use Rattle.amoebot_state.specs.declared.bot.Port.{Port}
 use Rattle.amoebot_state.specs.declared.verdict.Moved.{Moved}
 use Rattle.amoebot_state.specs.declared.verdict.Moved.TheVariants as moved
 use Rattle.journal_text.specs.Parts.{word}
-use Rattle.journal_text.specs.Readers.{a_word, means, port_behind, end_behind, moved_by, a_contraction, a_movement}
+use Rattle.journal_text.specs.Readers.{means, port_behind, end_behind, moved_by, a_contraction, a_movement}
 use Rattle.text_tokens.proofs.Rows.{Left, part_fails, made_left}
 use Rattle.journal_text.proofs.journal.read_moved.Goals as goal
 

@@ -1,10 +1,7 @@
-use Rattle.std.proofs.Common.{◌≡◌, ℕ, List, Result, Err, refl}
-use Rattle.text_tokens.specs.declared.refusal.Refusal.{Refusal}
-use Rattle.text_tokens.specs.declared.refusal.RefusalKind.TheVariants.{Trailing}
+use Rattle.std.proofs.Common.{refl}
 use Rattle.text_tokens.specs.Scan.{skip, ready, sign_len, front, scan, scan_end, ahead_of, last_of}
 use Rattle.text_tokens.specs.Cursor.{same_kind}
-use Rattle.text_tokens.specs.Reading.{one_within, the_line, numeral, either, limited, times, elements, repeated, whole_input}
-use Rattle.text_tokens.proofs.Blanks.{point}
+use Rattle.text_tokens.specs.Reading.{one_within, the_line, numeral, either, limited, times, elements, repeated}
 use Rattle.text_tokens.proofs.Obeying.{exact_law}
 use Rattle.journal_text.proofs.Saying.{says}
 use Rattle.journal_text.specs.Turns.{names_failure, IsTurns}

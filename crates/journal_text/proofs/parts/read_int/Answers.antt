@@ -1,10 +1,9 @@
-use Rattle.std.proofs.Common.{◌≡◌, ◌<◌, ℕ, Bool, true, false, Ok, sym, ap, ◌∙◌, arith, w16}
-use Rattle.std.specs.Prelude.{codes, ℤ, pos, ◌-ℤ◌}
+use Rattle.std.proofs.Common.{◌≡◌, ◌<◌, ℕ, true, false, Ok, sym, ap, ◌∙◌, arith, w16}
+use Rattle.std.specs.Prelude.{ℤ, pos, ◌-ℤ◌}
 use Rattle.std.proofs.lemmas.Result.{err_from_is_err_and}
 use Rattle.std.proofs.Math.Facts.{to_z_pos}
 use Rattle.std.proofs.lemmas.Int.{to_z-of_z, ints}
 use mir.Val.{to_z, of_z}
-use Rattle.text_tokens.specs.Text.{Lexeme}
 use Rattle.text_tokens.specs.Cursor.{Cursor, next_passes}
 use Rattle.text_tokens.specs.Reading.{Reader, ◌>>=◌, pure, the_line}
 use Rattle.text_tokens.proofs.Stepping.{is_first, is_second, stays}

@@ -1,10 +1,8 @@
 use Rattle.std.proofs.Common.{◌≡◌, arith, w16}
 use Rattle.std.proofs.lemmas.Int.{to_z-of_z, ints}
 use mir.Val.{to_z, of_z}
-use Rattle.std.specs.Prelude.{ℤ}
 use Rattle.std.proofs.lemmas.Result.{err_from_is_err_and}
 use Rattle.text_tokens.specs.Reading.{◌>>=◌, pure}
-use Rattle.tri_lattice.specs.declared.node.Node.{Node}
 use Rattle.journal_text.specs.Parts.{a_node_of}
 use Rattle.journal_text.specs.Readers.{an_int, a_node}
 use Rattle.text_tokens.proofs.Rows.{all_left, past_part, part_fails}

@@ -1,12 +1,9 @@
 use Rattle.std.proofs.lemmas.Result.{err_from_is_err_and}
 use Rattle.text_tokens.specs.Reading.{◌>>=◌, pure}
-use Rattle.amoebot_state.specs.declared.bot.Port.{Port}
 use Rattle.journal_text.specs.Parts.{a_port_of}
 use Rattle.journal_text.specs.Readers.{up_to, an_end, a_port}
 use Rattle.text_tokens.proofs.Rows.{all_left, past_part, part_fails}
 use Rattle.journal_text.proofs.parts.read_port.Goals as goal
-use Rattle.std.specs.Prelude.{ℕ}
-use Rattle.amoebot_state.specs.declared.bot.End.{End}
 
 pub returns-in_err-end : goal.returns-in_err-end
 unfolding a_port

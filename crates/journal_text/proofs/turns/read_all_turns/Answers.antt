@@ -5,7 +5,7 @@ use Rattle.text_tokens.specs.Lawful.{always}
 use Rattle.text_tokens.proofs.Stepping.{fails, on_made}
 use Rattle.text_tokens.proofs.Looping.{loop_begins, loop_goes_on, loop_falls, loop_is_over, loop_fails}
 use Rattle.journal_text.specs.Parts.{is_end}
-use Rattle.journal_text.specs.Turns.{Nothing, is_turn, as_before}
+use Rattle.journal_text.specs.Turns.{is_turn, as_before}
 use Rattle.journal_text.specs.Readers.{turn_in, all_turns}
 use Rattle.journal_text.proofs.TurnLaws.{TurnIn, turn_elements}
 use Rattle.journal_text.proofs.turns.read_all_turns.Goals as goal

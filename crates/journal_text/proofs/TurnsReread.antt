@@ -1,0 +1,155 @@
+-- The text of marks is read as turns.
+use Rattle.std.proofs.Common.{◌≡◌, ℕ, ◌+◌, ◌≤◌, true, List, [], ◌∷◌, ◌++◌, length, map, codes, refl, ap, ◌∙◌, arith}
+use Rattle.std.specs.Prelude.{decimal}
+use Rattle.std.specs.List.{All, flat_map, enumerate_from}
+use Rattle.std.proofs.lemmas.List.Elements.{All-head, All-tail}
+use Rattle.text_tokens.specs.declared.token.TokenKind.TheVariants.{Word}
+use Rattle.text_tokens.specs.Text.{Lexeme}
+use Rattle.text_tokens.specs.Cursor.{is_kind}
+use Rattle.text_tokens.specs.Lines.{Words}
+use Rattle.text_tokens.specs.Grammar.{IsThe, no_more}
+use Rattle.text_tokens.proofs.PrintedTokens.{kind_of, IsOneToken, word_is_token}
+use Rattle.amoebot_state.specs.declared.cell.CellName.{CellName}
+use Rattle.amoebot_state.specs.declared.cell.CellName.TheVariants as name
+use Rattle.amoebot_state.specs.declared.verdict.Failure.{Failure}
+use Rattle.amoebot_state.specs.declared.verdict.Failure.TheVariants as failure
+use Rattle.claim_core.specs.declared.marks.Mark.{Mark}
+use Rattle.claim_core.specs.declared.marks.Mark.TheVariants as mark
+use Rattle.journal_text.specs.Parts.{is_end, IsWord, IsNumber}
+use Rattle.journal_text.specs.Journals.{IsCell}
+use Rattle.journal_text.specs.Texts.{cell_words, failure_word, mark_words, turn_words, caller_lines}
+use Rattle.journal_text.specs.Turns.{Nothing, Unheeded, names_failure, is_failure, IsPlaced, IsFailed, IsClaimant, IsBusy, IsMark, IsTurn, as_before, AreTurns, IsTurns}
+use Rattle.journal_text.specs.Rereading.{IsShort, IsWritableCell, IsClaim, IsWritableMark, AreWritable, TurnsReadBack}
+use Rattle.journal_text.proofs.Respelling.{Is, Any, Rereads, RereadsLines, IsSpelled, rereads_next, rereads_made, rereads_first, rereads_second, one_found, one_rereads, kind_passes, found_made, more_of, lines_into, lines_behind_line, lines_next, lines_then, lines_made, lines_nothing, reread_line, lines_say}
+use Rattle.journal_text.proofs.JournalsReread.{any_number, the_word, a_spot, a_body}
+
+-- ---- marks
+
+a_number : (n : ℕ) → IsShort n → Rereads (Unheeded IsNumber) (Is tt) (decimal n ∷ [])
+a_number n small = rereads_made (λ a. tt) (decimal n ∷ []) (λ a e. refl) (any_number n small)
+
+placed : (w : List ℕ) → Rereads (IsWord w) Any (w ∷ []) → (n : ℕ) → IsShort n → Rereads (IsPlaced w) (Is tt) (w ∷ decimal n ∷ [])
+placed w first n small = rereads_next (w ∷ []) (decimal n ∷ []) first (a_number n small)
+
+failure_token : (f : Failure) → IsOneToken (failure_word f)
+failure_token failure.NoPort = word_is_token _ _ refl refl (omega arith)
+failure_token failure.NoNeighbour = word_is_token _ _ refl refl (omega arith)
+failure_token failure.OutOfRange = word_is_token _ _ refl refl (omega arith)
+failure_token failure.Occupied = word_is_token _ _ refl refl (omega arith)
+failure_token failure.NotContracted = word_is_token _ _ refl refl (omega arith)
+failure_token failure.NotExpanded = word_is_token _ _ refl refl (omega arith)
+failure_token failure.PeerNotExpanded = word_is_token _ _ refl refl (omega arith)
+failure_token failure.PeerNotContracted = word_is_token _ _ refl refl (omega arith)
+failure_token failure.Edge = word_is_token _ _ refl refl (omega arith)
+failure_token failure.WouldSplit = word_is_token _ _ refl refl (omega arith)
+failure_token failure.NoChoice = word_is_token _ _ refl refl (omega arith)
+
+failure_kind : (f : Failure) → kind_of (failure_word f) ≡ Word
+failure_kind failure.NoPort = refl
+failure_kind failure.NoNeighbour = refl
+failure_kind failure.OutOfRange = refl
+failure_kind failure.Occupied = refl
+failure_kind failure.NotContracted = refl
+failure_kind failure.NotExpanded = refl
+failure_kind failure.PeerNotExpanded = refl
+failure_kind failure.PeerNotContracted = refl
+failure_kind failure.Edge = refl
+failure_kind failure.WouldSplit = refl
+failure_kind failure.NoChoice = refl
+
+failure_named : (f : Failure) → names_failure (failure_word f) ≡ true
+unfolding names_failure
+failure_named failure.NoPort = refl
+failure_named failure.NoNeighbour = refl
+failure_named failure.OutOfRange = refl
+failure_named failure.Occupied = refl
+failure_named failure.NotContracted = refl
+failure_named failure.NotExpanded = refl
+failure_named failure.PeerNotExpanded = refl
+failure_named failure.PeerNotContracted = refl
+failure_named failure.Edge = refl
+failure_named failure.WouldSplit = refl
+failure_named failure.NoChoice = refl
+
+failure_passes : (f : Failure) (t : Lexeme) → IsSpelled (failure_word f) t → is_failure t ≡ true
+failure_passes f t s =
+    let a : is_kind Word t ≡ true = kind_passes Word t (s.kind ∙ failure_kind f) in
+    let b : names_failure t.text ≡ true = ap names_failure s.text ∙ failure_named f in
+    rw (a, b) refl
+
+a_failure : (f : Failure) → Rereads (IsThe is_failure) Any (failure_word f ∷ [])
+a_failure f = rereads_made (λ (t : Lexeme). t.line) (failure_word f ∷ []) (λ t s. tt) (one_rereads (failure_word f) (failure_token f) (one_found (failure_word f) (failure_passes f) (λ t s. refl)))
+
+failed : (f : Failure) (n : ℕ) → IsShort n → Rereads IsFailed (Is tt) (codes "failed" ∷ failure_word f ∷ decimal n ∷ [])
+failed f n small = rereads_next (codes "failed" ∷ []) (failure_word f ∷ decimal n ∷ []) (the_word _ _ refl refl (omega arith) refl) (rereads_next (failure_word f ∷ []) (decimal n ∷ []) (a_failure f) (a_number n small))
+
+a_cell : (c : CellName) → IsWritableCell c → Rereads IsCell (Is c) (cell_words c)
+a_cell (name.Spot v) h = a_spot v h
+a_cell (name.Body i) h = a_body i h
+
+a_claimant : (a b n : ℕ) → IsShort a → IsShort b → IsShort n → Rereads IsClaimant (Is tt) (codes "by" ∷ decimal a ∷ decimal b ∷ decimal n ∷ [])
+a_claimant a b n p q r =
+    rereads_next (codes "by" ∷ []) (decimal a ∷ decimal b ∷ decimal n ∷ []) (the_word _ _ refl refl (omega arith) refl)
+    (rereads_next (decimal a ∷ []) (decimal b ∷ decimal n ∷ []) (any_number a p) (rereads_next (decimal b ∷ []) (decimal n ∷ []) (any_number b q) (a_number n r)))
+
+busy : (c : CellName) (a b n place : ℕ) → IsClaim c a b n place → Rereads IsBusy (Is tt) (codes "busy" ∷ cell_words c ++ codes "by" ∷ decimal a ∷ decimal b ∷ decimal n ∷ codes "place" ∷ decimal place ∷ [])
+busy c a b n place h =
+    let behind = codes "place" ∷ decimal place ∷ [] in
+    rereads_next (codes "busy" ∷ []) (cell_words c ++ codes "by" ∷ decimal a ∷ decimal b ∷ decimal n ∷ behind) (the_word _ _ refl refl (omega arith) refl)
+    (rereads_next (cell_words c) (codes "by" ∷ decimal a ∷ decimal b ∷ decimal n ∷ behind) (a_cell c h.cell)
+    (rereads_next (codes "by" ∷ decimal a ∷ decimal b ∷ decimal n ∷ []) behind (a_claimant a b n h.caller h.turn h.bot) (placed (codes "place") (the_word _ _ refl refl (omega arith) refl) place h.at)))
+
+a_mark : (m : Mark) → IsWritableMark m → Rereads IsMark (Is tt) (mark_words m)
+a_mark (mark.Done n) h = rereads_first (codes "done" ∷ decimal n ∷ []) (placed (codes "done") (the_word _ _ refl refl (omega arith) refl) n h)
+a_mark (mark.Idle n) h = rereads_second (codes "idle" ∷ decimal n ∷ []) (rereads_first (codes "idle" ∷ decimal n ∷ []) (placed (codes "idle") (the_word _ _ refl refl (omega arith) refl) n h))
+a_mark (mark.Failed f n) h = let words = codes "failed" ∷ failure_word f ∷ decimal n ∷ [] in rereads_second words (rereads_second words (rereads_first words (failed f n h)))
+a_mark (mark.Busy c a b n place) h =
+    let words = mark_words (mark.Busy c a b n place) in
+    rereads_second words (rereads_second words (rereads_second words (busy c a b n place h)))
+
+-- ---- turns
+
+a_turn : (caller turn : ℕ) (m : Mark) → IsShort caller → IsShort turn → IsWritableMark m → Rereads IsTurn Any (turn_words caller (turn, m))
+a_turn caller turn m p q h =
+    rereads_next (codes "turn" ∷ []) (decimal caller ∷ decimal turn ∷ mark_words m) (the_word _ _ refl refl (omega arith) refl)
+    (rereads_next (decimal caller ∷ []) (decimal turn ∷ mark_words m) (any_number caller p)
+    (rereads_next (decimal turn ∷ []) (mark_words m) (any_number turn q) (any_of (a_mark m h))))
+  where
+    any_of : Rereads IsMark (Is tt) (mark_words m) → Rereads IsMark Any (mark_words m)
+    any_of r = record { spelled = r.spelled; printed = r.printed; read = λ ts s. (let f = r.read ts s in record { value = f.value; whole = f.whole; holds = tt }) }
+
+one_more_turn : (words : Words) (more : List Words) → Rereads IsTurn Any words → RereadsLines AreTurns Any more → RereadsLines AreTurns Any (words ∷ more)
+one_more_turn words more p q =
+    lines_into (words ∷ more) (more_of (λ s. IsTurn) as_before tt)
+    (lines_behind_line (words ∷ []) more (reread_line words p) q.spelled q.printed (λ u x ts s. found_made (λ (rest : List Nothing). u ∷ rest) (λ rest y. tt) ts (q.read ts s)))
+
+callers_turns : (caller turn : ℕ) (marks : List Mark) → IsShort caller → turn + length marks ≤ 65536 → All IsWritableMark marks → (more : List Words) → RereadsLines AreTurns Any more → RereadsLines AreTurns Any (map (turn_words caller) (enumerate_from turn marks) ++ more)
+callers_turns caller turn [] p fit all more q = q
+callers_turns caller turn (m ∷ marks) p fit all more q =
+    one_more_turn (turn_words caller (turn, m)) (map (turn_words caller) (enumerate_from (turn + 1) marks) ++ more) (a_turn caller turn m p (omega arith) (All-head IsWritableMark m marks all))
+    (callers_turns caller (turn + 1) marks p (omega arith) (All-tail IsWritableMark m marks all) more q)
+
+all_turns : (caller : ℕ) (lists : List (List Mark)) → caller + length lists ≤ 16 → All AreWritable lists → RereadsLines AreTurns Any (flat_map caller_lines (enumerate_from caller lists))
+all_turns caller [] fit all = none
+  where
+    none : RereadsLines AreTurns Any []
+    none = let r = lines_nothing {P = AreTurns} [] no_more in record { spelled = r.spelled; printed = r.printed; read = λ ts s. (let f = r.read ts s in record { value = f.value; whole = f.whole; holds = tt }) }
+all_turns caller (marks ∷ lists) fit all =
+    let w = All-head AreWritable marks lists all in
+    callers_turns caller 0 marks (omega arith) (let few = w.few in omega arith) w.each (flat_map caller_lines (enumerate_from (caller + 1) lists)) (all_turns (caller + 1) lists (omega arith) (All-tail AreWritable marks lists all))
+
+the_first_word : Rereads (IsWord (codes "turns")) Any (codes "turns" ∷ [])
+the_first_word = the_word _ _ refl refl (omega arith) refl
+
+the_last_word : Rereads (IsThe is_end) Any (codes "end" ∷ [])
+the_last_word = the_word _ _ refl refl (omega arith) refl
+
+pub turns_reread : TurnsReadBack
+turns_reread m few all =
+    let in_room : 0 + length m.marks ≤ 16 = omega (arith, few) in
+    let lines = flat_map caller_lines (enumerate_from 0 m.marks) in
+    let first = reread_line (codes "turns" ∷ []) the_first_word in
+    let last = reread_line (codes "end" ∷ []) (rereads_made (λ line. tt) (codes "end" ∷ []) (λ line x. refl) the_last_word) in
+    lines_say IsTurns tt ((codes "turns" ∷ []) ∷ lines ++ (codes "end" ∷ []) ∷ [])
+    (lines_next ((codes "turns" ∷ []) ∷ []) (lines ++ (codes "end" ∷ []) ∷ []) first
+    (lines_then lines ((codes "end" ∷ []) ∷ []) tt (lines_made (λ ts. tt) lines (λ ts x. refl) (all_turns 0 m.marks in_room all)) last))
