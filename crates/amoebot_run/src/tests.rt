@@ -134,9 +134,9 @@ fn check_refused<R: Abort + Threads + Wait + Sync>(
 fn check_names<R: Abort + Threads + Wait + Sync>(
     rt: &R,
     alloc: Global,
-    names: &[&str],
+    names: &str,
 ) -> Result<(), AllocError> {
-    for name in names {
+    for name in names.split_whitespace() {
         check_parts(rt, alloc, Parts { name, ..EXPANDS }, NOT_YET, NOT_YET_LINE)?;
     }
     Ok(())
@@ -374,56 +374,10 @@ static NEAR_ONES: [Parts<'static>; 21] = [
 ];
 
 /// The words that name no action.
-static RESERVED: [&str; 48] = [
-    "amoebot",
-    "program",
-    "guard",
-    "on",
-    "off",
-    "var",
-    "action",
-    "when",
-    "do",
-    "move",
-    "end",
-    "if",
-    "then",
-    "else",
-    "fi",
-    "for",
-    "od",
-    "let",
-    "in",
-    "ports",
-    "free",
-    "true",
-    "false",
-    "contracted",
-    "expanded",
-    "not",
-    "and",
-    "or",
-    "any",
-    "all",
-    "count",
-    "first",
-    "head",
-    "tail",
-    "turn",
-    "dir",
-    "peer_dir",
-    "peer_head",
-    "peer_expanded",
-    "at_head",
-    "linked",
-    "inner",
-    "mod6",
-    "none",
-    "expand",
-    "contract",
-    "push",
-    "pull",
-];
+const RESERVED: &str =
+    "amoebot program guard on off var action when do move end if then else fi for od let in \
+                    ports free true false contracted expanded not and or any all count first head tail turn \
+                    dir peer_dir peer_head peer_expanded at_head linked inner mod6 none expand contract push pull";
 
 /// The front of a document.
 const CUT: &str =
@@ -432,7 +386,7 @@ const CUT: &str =
 #[test]
 fn refuses_what_is_no_document(rt: HostRuntime) -> Result<(), Fail> {
     check_refused(&rt, rt.alloc(), &NEAR_ONES)?;
-    check_names(&rt, rt.alloc(), &RESERVED)?;
+    check_names(&rt, rt.alloc(), RESERVED)?;
     check(&rt, rt.alloc(), b"", NOT_YET, NOT_YET_LINE)?;
     check(&rt, rt.alloc(), CUT.as_bytes(), NOT_YET, NOT_YET_LINE)?;
     Ok(())
