@@ -1,10 +1,8 @@
 ghost use Rattle.std.specs.Prelude.{◌≡◌, ◌<◌, length};
 
-use crate::lists::Lists;
-use crate::marks::{Mark, Marks};
-use crate::report::Report;
 use amoebot_state::{ALL_PORTS, CellName, Decider, Entry, Failure, Verdict, World};
 use arrayvec::ArrayVec;
+use claim_core::{Lists, Mark, Marks, Report};
 use serial_model::{Serial, Turned};
 use std::alloc::Global;
 use std::test::Fail;

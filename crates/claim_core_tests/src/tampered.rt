@@ -1,11 +1,9 @@
 ghost use Rattle.std.specs.Prelude.{◌≡◌, length};
 
-use super::checker::is_report;
-use super::fixtures::{Marker, lists_of, standing, world_of};
-use crate::journal::Journal;
-use crate::marks::{Mark, Marks};
-use crate::report::Report;
+use crate::checker::is_report;
+use crate::fixtures::{Marker, lists_of, standing, world_of};
 use amoebot_state::{Bot, Cell, CellName, Entry, Failure, Moved, Patch, World};
+use claim_core::{Journal, Mark, Marks, Report};
 use std::alloc::Global;
 use std::test::Fail;
 use tri_lattice::Node;

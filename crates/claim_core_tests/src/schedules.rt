@@ -2,12 +2,10 @@ ghost use Rattle.std.specs.Prelude.{◌≡◌, ◌<◌, ◌≤◌, length};
 ghost use Rattle.std.specs.List.{All};
 ghost use Rattle.amoebot_state.specs.Refusals.{IsPlain};
 
-use super::checker::is_report;
-use super::fixtures::{Expander, Marker, core_of, lists_of, standing, turned, world_of};
-use crate::machine::Core;
-use crate::marks::{Mark, Marks};
-use crate::report::Report;
+use crate::checker::is_report;
+use crate::fixtures::{Expander, Marker, core_of, lists_of, standing, turned, world_of};
 use amoebot_state::{Bot, Decider, End, Port};
+use claim_core::{Core, Mark, Marks, Report};
 use std::alloc::Global;
 use std::process::Abort;
 use std::test::Fail;
