@@ -1,6 +1,3 @@
-mod checker;
 mod fixtures;
 mod rows;
-mod schedules;
 mod tables;
-mod tampered;

@@ -1,4 +1,4 @@
-ghost use Rattle.std.specs.Prelude.{◌≡◌, ◌<◌, ◌≤◌, ◌+◌, ◌*◌, ◌∷◌, ◌++◌, [], length, replicate, IfOk, OnOk, IsSome};
+ghost use Rattle.std.specs.Prelude.{◌≡◌, ◌≤◌, ◌∷◌, ◌++◌, [], length, IfOk, OnOk, IsSome};
 ghost use Rattle.std.specs.Bool.{OnTrue};
 ghost use Rattle.std.specs.List.{All};
 ghost use Rattle.tri_lattice.specs.Lattice.{IsNear};
@@ -120,16 +120,6 @@ pub fn spread(head: (u8, u8), tail: (u8, u8), value: u8) -> Bot
         rot: 0,
         chir: Chir::Plus,
         mem: [value, 0, 0, 0, 0, 0, 0, 0],
-    }
-}
-
-/// A contracted amoebot whose local direction 0 is the global direction 3.
-pub fn turned(x: u8, y: u8) -> Bot
-    ensures { IsPlain result }
-{
-    Bot {
-        rot: 3,
-        ..standing(x, y, 0)
     }
 }
 

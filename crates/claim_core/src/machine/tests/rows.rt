@@ -69,7 +69,7 @@ fn busy_by_0(cell: CellName, place: u32) -> Mark {
 }
 
 /// Caller 0 holds its body and seven nodes when caller 1 wins its body and is refused its node.
-const BUSY_THEN_DONE: [Steps; 14] = [
+static BUSY_THEN_DONE: [Steps; 14] = [
     Steps(0, 0, 0, Doing::Claims, 0, 1, 8),
     Steps(1, 0, 1, Doing::Claims, 2, 1, 1),
     Steps(1, 0, 1, Doing::Refused(AT_1, TAG_0), 2, 1, 1),
@@ -116,7 +116,7 @@ fn a_turn_is_busy_at_a_held_node_and_the_next_one_commits(rt: HostRuntime) -> Re
 }
 
 /// Each of two callers is refused the node of the other one's amoebot.
-const BUSY_BY_EACH_OTHER: [Steps; 4] = [
+static BUSY_BY_EACH_OTHER: [Steps; 4] = [
     Steps(0, 0, 0, Doing::Claims, 0, 1, 2),
     Steps(1, 0, 1, Doing::Claims, 1, 1, 5),
     Steps(1, 0, 1, Doing::Refused(AT_0, TAG_0), 1, 5, 5),
@@ -184,7 +184,7 @@ fn spread_1() -> Bot {
 }
 
 /// Caller 1 commits before caller 0 has made a step.
-const SECOND_CALLER_FIRST: [Steps; 4] = [
+static SECOND_CALLER_FIRST: [Steps; 4] = [
     Steps(1, 0, 1, Doing::Claims, 0, 1, 7),
     Steps(1, 0, 1, Doing::Takes, 0, 8, 8),
     Steps(1, 0, 1, Doing::Commits, 0, 8, 8),
@@ -220,7 +220,7 @@ fn the_caller_that_commits_first_has_the_first_entry(rt: HostRuntime) -> Result<
 }
 
 /// Caller 1 tries for the journal three times, of which the first two find it taken by caller 0.
-const TRIES_MEET: [Steps; 10] = [
+static TRIES_MEET: [Steps; 10] = [
     Steps(0, 0, 0, Doing::Claims, 0, 1, 7),
     Steps(1, 0, 1, Doing::Claims, 2, 1, 7),
     Steps(0, 0, 0, Doing::Takes, 0, 8, 8),
@@ -264,7 +264,7 @@ fn a_try_for_a_taken_journal_is_made_again(rt: HostRuntime) -> Result<(), Fail> 
 }
 
 /// Caller 1 is refused its own body, as long as caller 0 holds it. When it has ended, its steps change nothing.
-const OWN_BODY_REFUSED: [Steps; 12] = [
+static OWN_BODY_REFUSED: [Steps; 12] = [
     Steps(0, 0, 0, Doing::Claims, 0, 1, 1),
     Steps(1, 0, 0, Doing::Refused(CellName::Body(0), TAG_0), 0, 0, 0),
     Steps(1, 1, 0, Doing::Claims, 0, 0, 0),
@@ -308,7 +308,7 @@ fn a_caller_refused_at_its_own_body_goes_on_until_it_has_ended(
 }
 
 /// Caller 1 is refused amoebot 0 before caller 0 moves it, and finds it moved in its next turn.
-const MOVED_BETWEEN: [Steps; 11] = [
+static MOVED_BETWEEN: [Steps; 11] = [
     Steps(0, 0, 0, Doing::Claims, 0, 1, 7),
     Steps(0, 0, 0, Doing::Takes, 0, 8, 8),
     Steps(1, 0, 0, Doing::Refused(CellName::Body(0), TAG_0), 2, 0, 0),
@@ -419,37 +419,33 @@ fn one_of_sixteen_callers_on_one_amoebot_commits(rt: HostRuntime) -> Result<(), 
 }
 
 #[test]
-fn with_no_list_all_have_ended_at_once(rt: HostRuntime) -> Result<(), Fail> {
-    let report = run(
-        &rt,
-        rt.alloc(),
-        &Marker,
-        &[standing(2, 3, 0)],
-        (2, &[]),
-        &[],
-        &[],
-    )?;
-    see_report(&rt, &report, &[], &[], &[standing(2, 3, 0)]);
-    Ok(())
-}
-
-#[test]
-fn with_no_turn_all_have_ended_at_once(rt: HostRuntime) -> Result<(), Fail> {
-    let report = run(
-        &rt,
-        rt.alloc(),
-        &Marker,
-        &[standing(2, 3, 0)],
-        (0, &[&[0], &[0]]),
-        &[&[]],
-        &[Steps(1, 0, 0, Doing::Ended, 0, 0, 0)],
-    )?;
-    see_report(&rt, &report, &[], &[&[], &[]], &[standing(2, 3, 0)]);
+fn with_no_list_or_no_turn_all_have_ended_at_once(rt: HostRuntime) -> Result<(), Fail> {
+    let lists: [(u32, &[&[u16]], &[Steps], &[&[Mark]]); 2] = [
+        (2, &[], &[], &[]),
+        (
+            0,
+            &[&[0], &[0]],
+            &[Steps(1, 0, 0, Doing::Ended, 0, 0, 0)],
+            &[&[], &[]],
+        ),
+    ];
+    for (turns, ids, table, marks) in lists {
+        let report = run(
+            &rt,
+            rt.alloc(),
+            &Marker,
+            &[standing(2, 3, 0)],
+            (turns, ids),
+            &[&[]],
+            table,
+        )?;
+        see_report(&rt, &report, &[], marks, &[standing(2, 3, 0)]);
+    }
     Ok(())
 }
 
 /// Caller 0 has the amoebots 0, 2 and 1 in turn, of which 2 stands at the edge.
-const FAILED_BETWEEN: [Steps; 14] = [
+static FAILED_BETWEEN: [Steps; 14] = [
     Steps(0, 0, 0, Doing::Claims, 0, 1, 7),
     Steps(0, 0, 0, Doing::Takes, 0, 8, 8),
     Steps(0, 0, 0, Doing::Commits, 0, 8, 8),

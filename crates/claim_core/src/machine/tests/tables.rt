@@ -14,7 +14,7 @@ use std::test::Fail;
 use tri_lattice::Area;
 
 /// What a caller does next.
-#[derive(Clone, Copy, Debug, PartialEq, Eq)]
+#[derive(Clone, Copy, PartialEq, Eq)]
 pub enum Doing {
     Claims,
     /// It was refused this cell, which had this tag.
@@ -95,25 +95,31 @@ impl<'a> Stands<'a> {
                     cells: zones[zone],
                     held: usize::from(held_after(from, to, step)),
                 };
-                self.see(rt, core);
+                assert!(rt;
+                    self.are_of(core),
+                    "caller {caller} turn {turn} step {step}"
+                );
             }
         }
     }
 
-    /// That the core stands so: turns, phases, held cells with what was recorded, the journal's holder, and the tag of each cell.
-    pub fn see<D: Decider>(&self, rt: &impl Abort, core: &Core<'_, D>) {
+    /// Whether the core stands so: turns, phases, held cells with what was recorded, the journal's holder, and the tag of each cell.
+    fn are_of<D: Decider>(&self, core: &Core<'_, D>) -> bool {
         for (caller, stand) in self.stands.iter().enumerate() {
             if let Some(seat) = core.seats.get(caller) {
-                see_seat(rt, seat, stand);
                 let holds = core.holder == Some(caller as u8);
-                assert_eq!(rt; holds, stand.doing == Doing::Commits, "caller {caller}");
+                if holds != (stand.doing == Doing::Commits) || !stand.is_of(seat) {
+                    return false;
+                }
             }
         }
         let area = core.world.area();
         for (number, tag) in core.tags.iter().enumerate() {
-            let cell = cell_at(&area, number);
-            assert_eq!(rt; *tag, self.tag_of(cell), "the tag of {cell:?}");
+            if *tag != self.tag_of(cell_at(&area, number)) {
+                return false;
+            }
         }
+        true
     }
 
     /// The tag of a cell by those who hold cells.
@@ -129,6 +135,22 @@ impl<'a> Stands<'a> {
 }
 
 impl Stand<'_> {
+    /// Whether the caller stands so.
+    fn is_of(&self, seat: &Seat) -> bool {
+        if seat.turn != self.turn || doing_of(&seat.phase) != self.doing {
+            return false;
+        }
+        if seat.held.len() != self.held || self.held > self.cells.len() {
+            return false;
+        }
+        for (pair, cell) in seat.held.as_slice().iter().zip(self.cells) {
+            if pair != cell {
+                return false;
+            }
+        }
+        true
+    }
+
     /// Whether the cell is held.
     fn has(&self, cell: CellName) -> bool {
         for (place, pair) in self.cells.iter().enumerate() {
@@ -145,16 +167,6 @@ fn held_after(from: u8, to: u8, step: u8) -> u8 {
         from.saturating_add(step)
     } else {
         from.saturating_sub(step)
-    }
-}
-
-fn see_seat(rt: &impl Abort, seat: &Seat, stand: &Stand<'_>) {
-    assert_eq!(rt; seat.turn, stand.turn);
-    assert_eq!(rt; doing_of(&seat.phase), stand.doing);
-    assert_eq!(rt; seat.held.len(), stand.held, "{:?}", stand.doing);
-    assert!(rt; stand.held <= stand.cells.len());
-    for (pair, cell) in seat.held.as_slice().iter().zip(stand.cells) {
-        assert_eq!(rt; *pair, *cell);
     }
 }
 
@@ -231,7 +243,7 @@ pub fn run<D: Decider>(
     } else {
         Doing::Claims
     });
-    stands.see(rt, &core);
+    assert!(rt; stands.are_of(&core));
     stands.follow(rt, &mut core, callers, zones, table);
     core.finish();
     assert!(rt; core.ended());
@@ -246,42 +258,64 @@ pub fn see_report(
     marks: &[&[Mark]],
     bots: &[Bot],
 ) {
-    assert_eq!(rt; usize::from(report.world.bots()), bots.len());
-    for (id, bot) in bots.iter().enumerate() {
-        see_bot(rt, &report.world, id, bot);
+    assert!(rt; are_entries(report.journal.entries(), entries));
+    assert!(rt; are_marks(&report.turns, marks));
+    assert!(rt; are_bots(&report.world, bots));
+}
+
+fn are_entries(entries: &[Entry], told: &[Told<'_>]) -> bool {
+    if entries.len() != told.len() {
+        return false;
     }
-    assert_eq!(rt; report.journal.entries().len(), entries.len());
-    for (entry, told) in report.journal.entries().iter().zip(entries) {
-        see_entry(rt, entry, told);
+    for (entry, told) in entries.iter().zip(told) {
+        if !is_entry(entry, told) {
+            return false;
+        }
     }
-    assert_eq!(rt; usize::from(report.turns.callers()), marks.len());
+    true
+}
+
+fn is_entry(entry: &Entry, told: &Told<'_>) -> bool {
+    entry.caller == told.caller
+        && entry.turn == told.turn
+        && entry.bot == told.bot
+        && entry.action == 0
+        && entry.moved == told.moved
+        && entry.patch.pairs() == told.pairs
+}
+
+fn are_marks(turns: &Marks, marks: &[&[Mark]]) -> bool {
+    if usize::from(turns.callers()) != marks.len() {
+        return false;
+    }
     for (caller, own) in marks.iter().enumerate() {
-        see_marks(rt, &report.turns, caller as u8, own);
+        if !are_own_marks(turns, caller as u8, own) {
+            return false;
+        }
     }
+    true
 }
 
-fn see_bot(rt: &impl Abort, world: &World, id: usize, bot: &Bot) {
-    assert!(rt; id < usize::from(world.bots()));
-    assert_eq!(rt; *world.bot(id as u16), *bot);
-}
-
-fn see_entry(rt: &impl Abort, entry: &Entry, told: &Told<'_>) {
-    assert_eq!(rt;
-        (entry.caller, entry.turn, entry.bot),
-        (told.caller, told.turn, told.bot)
-    );
-    assert_eq!(rt; (entry.action, entry.moved), (0, told.moved));
-    assert_eq!(rt; entry.patch.pairs(), told.pairs);
-}
-
-fn see_marks(rt: &impl Abort, turns: &Marks, caller: u8, marks: &[Mark]) {
-    assert!(rt; caller < turns.callers());
-    assert_eq!(rt; turns.count(caller) as usize, marks.len());
+fn are_own_marks(turns: &Marks, caller: u8, marks: &[Mark]) -> bool {
+    if caller >= turns.callers() || turns.count(caller) as usize != marks.len() {
+        return false;
+    }
     for (turn, mark) in marks.iter().enumerate() {
-        assert_eq!(rt;
-            turns.mark(caller, turn as u32),
-            *mark,
-            "caller {caller} turn {turn}"
-        );
+        if turns.mark(caller, turn as u32) != *mark {
+            return false;
+        }
     }
+    true
+}
+
+fn are_bots(world: &World, bots: &[Bot]) -> bool {
+    if usize::from(world.bots()) != bots.len() {
+        return false;
+    }
+    for (id, bot) in bots.iter().enumerate() {
+        if *world.bot(id as u16) != *bot {
+            return false;
+        }
+    }
+    true
 }

@@ -1,5 +1,5 @@
 use Rattle.std.proofs.Common.{◌≡◌, length}
-use Rattle.claim_core.proofs.machine.tests.schedules.wander.Given as goal
+use Rattle.claim_core_tests.proofs.schedules.wander.Given as goal
 
 abbrev pub invariant-loop-burst : goal.invariant-loop-burst
 invariant-loop-burst g l = length l.core.state.callers ≡ l.callers

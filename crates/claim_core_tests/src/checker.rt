@@ -1,10 +1,8 @@
 ghost use Rattle.std.specs.Prelude.{◌≡◌, ◌<◌, length};
 
-use crate::lists::Lists;
-use crate::marks::{Mark, Marks};
-use crate::report::Report;
 use amoebot_state::{ALL_PORTS, CellName, Decider, Entry, Failure, Verdict, World};
 use arrayvec::ArrayVec;
+use claim_core::{Lists, Mark, Marks, Report};
 use serial_model::{Serial, Turned};
 use std::alloc::Global;
 use std::test::Fail;
@@ -148,18 +146,20 @@ impl<D: Decider> Judge<'_, D> {
                 by_turn,
                 by_bot,
                 ..
-            } => {
-                if zone_place(&world, bot, cell).is_none()
-                    || by_caller == caller
-                    || self.bot(by_caller, by_turn) != Some(by_bot)
-                {
-                    return Ok(false);
-                }
-                let meet = self.seen_before(by_caller, by_turn) <= place
-                    && self.seen_before(caller, turn) <= self.seen_after(by_caller, by_turn);
-                Ok(meet && self.may_hold(alloc, by_caller, by_turn, by_bot, cell)?)
-            }
+            } => Ok(
+                zone_place(&world, bot, cell).is_some()
+                    && self.bot(by_caller, by_turn) == Some(by_bot)
+                    && self.can_meet(caller, turn, place, by_caller, by_turn)
+                    && self.may_hold(alloc, by_caller, by_turn, by_bot, cell)?,
+            ),
         }
+    }
+
+    /// Whether a turn that looked at a place can have met a turn of another caller: neither had begun when the other one was over.
+    fn can_meet(&self, caller: u8, turn: u32, place: u32, by_caller: u8, by_turn: u32) -> bool {
+        by_caller != caller
+            && self.seen_before(by_caller, by_turn) <= place
+            && self.seen_before(caller, turn) <= self.seen_after(by_caller, by_turn)
     }
 
     /// Whether the entry at a place is that turn's.

@@ -1,11 +1,9 @@
 ghost use Rattle.std.specs.Prelude.{◌≡◌, length};
 
-use super::checker::is_report;
-use super::fixtures::{Marker, lists_of, standing, world_of};
-use crate::journal::Journal;
-use crate::marks::{Mark, Marks};
-use crate::report::Report;
+use crate::checker::is_report;
+use crate::fixtures::{Marker, lists_of, standing, world_of};
 use amoebot_state::{Bot, Cell, CellName, Entry, Failure, Moved, Patch, World};
+use claim_core::{Journal, Mark, Marks, Report};
 use std::alloc::Global;
 use std::test::Fail;
 use tri_lattice::Node;
@@ -39,9 +37,9 @@ enum Entries {
 }
 
 /// A report of callers 0 and 1 with the lists 0 1 and 1 and two turns each, in the world of two amoebots side by side whose variable is 0:
-/// its entries; the marks of caller 0 and those of caller 1; the last values of the variable.
+/// its entries; the two marks of caller 0 and those of caller 1; the last values of the variable.
 #[derive(Clone, Copy)]
-struct Case(Entries, [Said; 4], (u8, u8));
+struct Case(Entries, Said, Said, Said, Said, u8, u8);
 
 /// The nodes of the amoebots, and one that is far from them.
 const AT_0: CellName = CellName::Spot(Node { x: 2, y: 3 });
@@ -52,138 +50,208 @@ const FAR: CellName = CellName::Spot(Node { x: 6, y: 6 });
 
 /// Caller 0 commits its turns while caller 1 is refused in its first turn; caller 1 finds both amoebots set. And: each is refused in its
 /// first turn by the other, and then caller 0 commits.
-const RIGHT: [Case; 2] = [
+static RIGHT: [Case; 2] = [
     Case(
         Entries::Both,
-        [Done(0), Done(1), Busy(AT_1, 0, 0, 0, 0), Idle(2)],
-        (1, 1),
+        Done(0),
+        Done(1),
+        Busy(AT_1, 0, 0, 0, 0),
+        Idle(2),
+        1,
+        1,
     ),
     Case(
         Entries::Second,
-        [
-            Busy(AT_1, 1, 0, 1, 0),
-            Done(0),
-            Busy(AT_0, 0, 0, 0, 0),
-            Idle(1),
-        ],
-        (0, 1),
+        Busy(AT_1, 1, 0, 1, 0),
+        Done(0),
+        Busy(AT_0, 0, 0, 0, 0),
+        Idle(1),
+        0,
+        1,
     ),
 ];
 
 /// Each differs from one of those in one thing.
-const WRONG: [Case; 18] = [
+static WRONG: [Case; 18] = [
     // 0: a Busy with a cell that is far from its amoebot
     Case(
         Entries::Both,
-        [Done(0), Done(1), Busy(FAR, 0, 0, 0, 0), Idle(2)],
-        (1, 1),
+        Done(0),
+        Done(1),
+        Busy(FAR, 0, 0, 0, 0),
+        Idle(2),
+        1,
+        1,
     ),
     // 1: by a turn of the same caller
     Case(
         Entries::Both,
-        [Done(0), Done(1), Busy(AT_1, 1, 1, 1, 0), Idle(2)],
-        (1, 1),
+        Done(0),
+        Done(1),
+        Busy(AT_1, 1, 1, 1, 0),
+        Idle(2),
+        1,
+        1,
     ),
     // 2: by another amoebot than that of the turn
     Case(
         Entries::Both,
-        [Done(0), Done(1), Busy(AT_1, 0, 0, 1, 0), Idle(2)],
-        (1, 1),
+        Done(0),
+        Done(1),
+        Busy(AT_1, 0, 0, 1, 0),
+        Idle(2),
+        1,
+        1,
     ),
     // 3: by a turn that is none of the lists'
     Case(
         Entries::Both,
-        [Done(0), Done(1), Busy(AT_1, 0, 2, 0, 0), Idle(2)],
-        (1, 1),
+        Done(0),
+        Done(1),
+        Busy(AT_1, 0, 2, 0, 0),
+        Idle(2),
+        1,
+        1,
     ),
     // 4: by a caller that is none of the lists'
     Case(
         Entries::Both,
-        [Done(0), Done(1), Busy(AT_1, 2, 0, 0, 0), Idle(2)],
-        (1, 1),
+        Done(0),
+        Done(1),
+        Busy(AT_1, 2, 0, 0, 0),
+        Idle(2),
+        1,
+        1,
     ),
     // 5: by a turn that had not begun at that place
     Case(
         Entries::Both,
-        [Done(0), Done(1), Busy(AT_1, 0, 1, 1, 0), Idle(2)],
-        (1, 1),
+        Done(0),
+        Done(1),
+        Busy(AT_1, 0, 1, 1, 0),
+        Idle(2),
+        1,
+        1,
     ),
     // 6: by a turn that was refused that very cell
     Case(
         Entries::Second,
-        [
-            Busy(AT_1, 1, 0, 1, 0),
-            Done(0),
-            Busy(AT_1, 0, 0, 0, 0),
-            Idle(1),
-        ],
-        (0, 1),
+        Busy(AT_1, 1, 0, 1, 0),
+        Done(0),
+        Busy(AT_1, 0, 0, 0, 0),
+        Idle(1),
+        0,
+        1,
     ),
     // 7: a place above the journal's length
     Case(
         Entries::Both,
-        [Done(0), Done(1), Busy(AT_1, 0, 0, 0, 0), Idle(3)],
-        (1, 1),
+        Done(0),
+        Done(1),
+        Busy(AT_1, 0, 0, 0, 0),
+        Idle(3),
+        1,
+        1,
     ),
     // 8: an Idle at a place where the amoebot still had something to do
     Case(
         Entries::Both,
-        [Done(0), Done(1), Busy(AT_1, 0, 0, 0, 0), Idle(1)],
-        (1, 1),
+        Done(0),
+        Done(1),
+        Busy(AT_1, 0, 0, 0, 0),
+        Idle(1),
+        1,
+        1,
     ),
     // 9: a failure of an idle amoebot
     Case(
         Entries::Both,
-        [Done(0), Done(1), Busy(AT_1, 0, 0, 0, 0), Failed(2)],
-        (1, 1),
+        Done(0),
+        Done(1),
+        Busy(AT_1, 0, 0, 0, 0),
+        Failed(2),
+        1,
+        1,
     ),
     // 10: a Done that is Idle
     Case(
         Entries::Both,
-        [Done(0), Done(1), Busy(AT_1, 0, 0, 0, 0), Done(1)],
-        (1, 1),
+        Done(0),
+        Done(1),
+        Busy(AT_1, 0, 0, 0, 0),
+        Done(1),
+        1,
+        1,
     ),
     // 11: an Idle that is Done
     Case(
         Entries::Both,
-        [Done(0), Idle(2), Busy(AT_1, 0, 0, 0, 0), Idle(2)],
-        (1, 1),
+        Done(0),
+        Idle(2),
+        Busy(AT_1, 0, 0, 0, 0),
+        Idle(2),
+        1,
+        1,
     ),
     // 12: the marks of two turns exchanged, so that places fall
     Case(
         Entries::Both,
-        [Done(0), Done(1), Idle(2), Busy(AT_1, 0, 0, 0, 0)],
-        (1, 1),
+        Done(0),
+        Done(1),
+        Idle(2),
+        Busy(AT_1, 0, 0, 0, 0),
+        1,
+        1,
     ),
     // 13: the entries of two turns exchanged
     Case(
         Entries::Exchanged,
-        [Done(1), Done(0), Busy(AT_1, 0, 0, 0, 0), Idle(2)],
-        (1, 1),
+        Done(1),
+        Done(0),
+        Busy(AT_1, 0, 0, 0, 0),
+        Idle(2),
+        1,
+        1,
     ),
     // 14: an entry twice
     Case(
         Entries::Twice,
-        [Done(0), Done(2), Busy(AT_1, 0, 0, 0, 0), Idle(3)],
-        (1, 1),
+        Done(0),
+        Done(2),
+        Busy(AT_1, 0, 0, 0, 0),
+        Idle(3),
+        1,
+        1,
     ),
     // 15: an entry left out
     Case(
         Entries::First,
-        [Done(0), Idle(1), Busy(AT_1, 0, 0, 0, 0), Idle(1)],
-        (1, 0),
+        Done(0),
+        Idle(1),
+        Busy(AT_1, 0, 0, 0, 0),
+        Idle(1),
+        1,
+        0,
     ),
     // 16: an entry with another amoebot than that of its turn
     Case(
         Entries::OneBot,
-        [Done(0), Done(1), Busy(AT_1, 0, 0, 0, 0), Idle(2)],
-        (1, 1),
+        Done(0),
+        Done(1),
+        Busy(AT_1, 0, 0, 0, 0),
+        Idle(2),
+        1,
+        1,
     ),
     // 17: a wrong value in the last world
     Case(
         Entries::Both,
-        [Done(0), Done(1), Busy(AT_1, 0, 0, 0, 0), Idle(2)],
-        (1, 0),
+        Done(0),
+        Done(1),
+        Busy(AT_1, 0, 0, 0, 0),
+        Idle(2),
+        1,
+        0,
     ),
 ];
 
@@ -257,21 +325,21 @@ fn marks_of(alloc: Global, said: [Said; 4]) -> Result<Marks, Fail> {
 
 /// Whether the checker takes the report for one of callers of its lists.
 fn passes(alloc: Global, case: Case) -> Result<bool, Fail> {
-    let Case(entries, said, last) = case;
+    let Case(entries, first_0, first_1, second_0, second_1, last_0, last_1) = case;
     let first = world_of(alloc, &[standing(2, 3, 0), standing(3, 3, 0)])?;
     let lists = lists_of(alloc, 2, &first, &[&[0, 1], &[1]])?;
     let report = Report {
-        world: world_of(alloc, &[standing(2, 3, last.0), standing(3, 3, last.1)])?,
+        world: world_of(alloc, &[standing(2, 3, last_0), standing(3, 3, last_1)])?,
         journal: journal_of(alloc, &first, entries)?,
-        turns: marks_of(alloc, said)?,
+        turns: marks_of(alloc, [first_0, first_1, second_0, second_1])?,
     };
     is_report(alloc, &Marker, &first, &lists, &report)
 }
 
 #[test]
 fn the_checker_refuses_reports_that_were_tampered_with(rt: HostRuntime) -> Result<(), Fail> {
-    for case in RIGHT {
-        assert!(rt; passes(rt.alloc(), case)?);
+    for case in &RIGHT {
+        assert!(rt; passes(rt.alloc(), *case)?);
     }
     for (number, case) in WRONG.iter().enumerate() {
         assert!(rt; !passes(rt.alloc(), *case)?, "case {number}");

@@ -2,12 +2,10 @@ ghost use Rattle.std.specs.Prelude.{◌≡◌, ◌<◌, ◌≤◌, length};
 ghost use Rattle.std.specs.List.{All};
 ghost use Rattle.amoebot_state.specs.Refusals.{IsPlain};
 
-use super::checker::is_report;
-use super::fixtures::{Expander, Marker, core_of, lists_of, standing, turned, world_of};
-use crate::machine::Core;
-use crate::marks::{Mark, Marks};
-use crate::report::Report;
+use crate::checker::is_report;
+use crate::fixtures::{Expander, Marker, core_of, lists_of, standing, turned, world_of};
 use amoebot_state::{Bot, Decider, End, Port};
+use claim_core::{Core, Mark, Marks, Report};
 use std::alloc::Global;
 use std::process::Abort;
 use std::test::Fail;
@@ -120,14 +118,20 @@ fn check_schedules<D: Decider>(
     let mut tally = NONE;
     for seed in 0..70 {
         let report = left_by(rt, alloc, decider, bots, lists, seed)?;
-        assert!(rt;
-            is_report(alloc, decider, &first, &made, &report)?,
-            "seed {seed}"
-        );
+        let passes = is_report(alloc, decider, &first, &made, &report)?;
+        assert!(rt; passes, "seed {seed}");
         tally.add_all(&report.turns);
     }
     Ok(tally)
 }
+
+/// Expands contracted amoebots through head 0.
+const EXPANDER: Expander = Expander {
+    port: Port {
+        end: End::Head,
+        dir: 0,
+    },
+};
 
 #[test]
 fn the_checker_passes_what_neighbours_that_set_their_variables_leave(
@@ -143,14 +147,6 @@ fn the_checker_passes_what_neighbours_that_set_their_variables_leave(
     assert!(rt; tally.done > 0 && tally.idle > 0 && tally.busy > 0);
     Ok(())
 }
-
-/// Expands contracted amoebots through head 0.
-const EXPANDER: Expander = Expander {
-    port: Port {
-        end: End::Head,
-        dir: 0,
-    },
-};
 
 #[test]
 fn the_checker_passes_what_amoebots_that_want_one_node_leave(rt: HostRuntime) -> Result<(), Fail> {
