@@ -10,3 +10,10 @@ mod statement;
 mod words;
 
 pub use program::parse_program;
+
+#[cfg(test)]
+mod samples;
+#[cfg(test)]
+mod tests;
+#[cfg(test)]
+mod walk;
