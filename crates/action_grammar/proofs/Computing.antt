@@ -18,10 +18,9 @@ use Rattle.action_grammar.specs.ExpressionReaders.{a_choice, a_port, a_term, a_m
 use Rattle.action_grammar.specs.StatementReaders.{an_if, a_for, a_stmt, all_stmts, stmts_inside, stmts_at}
 use Rattle.action_grammar.specs.ProgramReaders.{a_move, an_action, a_var, a_guarded, a_program}
 use Rattle.action_grammar.specs.Examples.{front_of, IsRead, IsRefused, line_text, erosion_text, every_form_text, SamplesAreRead, TreesAreRead, Wrong, AreRefused, wrong_programs, wrong_statements, wrong_expressions, FaultsAreFound, Limit, AreKept, expression_levels, statement_levels, expression_names, statement_names, element_counts, past_elements, statement_counts, program_counts, LimitsAreKept}
-use Rattle.action_grammar.proofs.ExpressionLaws.{parts_at}
-use Rattle.action_grammar.proofs.StatementLaws.{part_stmts}
+use Rattle.action_grammar.proofs.ExpressionLaws.{exact_expr}
+use Rattle.action_grammar.proofs.StatementLaws.{exact_stmts}
 use Rattle.action_grammar.proofs.ProgramLaws.{exact_program}
-use Rattle.text_tokens.proofs.Exactness.{exact}
 use Rattle.action_grammar.specs.Expressions.{IsExpr}
 use Rattle.action_grammar.specs.Statements.{IsStmts}
 
@@ -74,12 +73,6 @@ module _ {A : Type 0} (P : Lang A) (p : Reader A) (exact : Exact P p) where
       let first : answer_of l.passed ≡ fault_of l.passed = cc in
       let more : map (λ l. answer_of l.passed) ls ≡ map (λ l. fault_of l.passed) ls = cc in
       (whole_by l.kept _ refl (left_of _ _ k), is_refused P p exact l.passed.text l.passed.number l.passed.kind first, are_kept ls (right_of _ _ k) more)
-
-exact_expr : (n left : ℕ) → Exact (IsExpr n left) (expr_at n left)
-exact_expr n left = exact (IsExpr n left) (expr_at n left) (parts_at n left).expr.law
-
-exact_stmts : (n left : ℕ) → Exact (IsStmts n left) (stmts_at n left)
-exact_stmts n left = exact (IsStmts n left) (stmts_at n left) (part_stmts n left).law
 
 line_is_read : IsRead IsProgram without_lines line_text line
 unfolding same_kind same_role role scan.skip scan.ready scan.sign_len scan.front scan.scan scan.scan_end scan.ahead_of scan.last_of one_within either by_role limited elements repeated a_choice a_port a_term a_minus a_sum a_unit a_conj an_expr inside an_if a_for a_stmt all_stmts stmts_inside a_move an_action a_var a_guarded a_program

@@ -3,7 +3,8 @@ use Rattle.std.proofs.Common.{◌≡◌, ℕ, zero, suc, Bool, true, false, cond
 use Rattle.text_tokens.specs.Text.{Lexeme}
 use Rattle.text_tokens.specs.Reading.{Reader, ◌>>=◌, pure, refuse, one, no_limit, opening, deep_at, optional, less, chained}
 use Rattle.text_tokens.specs.Grammar.{Lang, IsOne, is_one, Then, Made, made, is_nothing, of_second, no_more}
-use Rattle.text_tokens.specs.Lawful.{IsPart, always, SomeText, Starts, IsHandled, handled, no_role}
+use Rattle.text_tokens.specs.Lawful.{Exact, IsPart, always, SomeText, Starts, IsHandled, handled, no_role}
+use Rattle.text_tokens.proofs.Exactness.{exact}
 use Rattle.text_tokens.proofs.Carrying.{part_same, part_made}
 use Rattle.text_tokens.proofs.Parts.{part_one, part_after, part_before}
 use Rattle.text_tokens.proofs.Beginnings.{starts_one, starts_made, starts_then}
@@ -16,7 +17,7 @@ use Rattle.action_grammar.specs.declared.role.Role.{Role}
 use Rattle.action_grammar.specs.declared.role.Role.TheVariants.{AName, ANumber, OpenSign, CloseSign, DotSign, PlusSign, MinusSign, CompareSign, AtomWord, NotWord, AndWord, OrWord, QuantifierWord, TestWord, FreeWord, PortsWord, InWord, CountWord, SideWord, InnerWord, Mod6Word, EndWord, TurnWord, FirstWord}
 use Rattle.action_grammar.specs.Roles.{role, is_a, is_test, is_set, is_dirterm, is_plus_or_minus, as_name, as_literal, as_dirterm, as_end, as_atom, as_quantifier, as_test, as_side, as_cmp}
 use Rattle.action_grammar.specs.Expressions.{IsA, Opens, bound_at, IsMinus, Choice, choice, IsPort, IsChoice, IsTerm, IsSum, IsUnit, IsConj, IsExpr}
-use Rattle.action_grammar.specs.ExpressionReaders.{level_limit, begins_term, begins_sum, begins_unit, Readers, a_choice, port_by, a_port, member, term_by, a_term, a_minus, part, part_in, a_sum, a_comparison, a_test, unit_by, a_unit, unit_in, a_conj, conj_in, an_expr, readers, inside}
+use Rattle.action_grammar.specs.ExpressionReaders.{level_limit, begins_term, begins_sum, begins_unit, Readers, a_choice, port_by, a_port, member, term_by, a_term, a_minus, part, part_in, a_sum, a_comparison, a_test, unit_by, a_unit, unit_in, a_conj, conj_in, an_expr, readers, inside, expr_at}
 use Rattle.action_grammar.proofs.Playing.{example, passes, passes_set, passes_dirterm, passes_sign, passes_test, ends, ends_at, stops_term, stops_sum, stops_conj, stops_expr, sum_term, conj_sum, expr_conj, sign_term, no_sign, no_dot, term_minus, no_and, no_or, some_made, some_then, some_a, some_token, some_behind, part_a, part_token, part_next, part_led, meets, part_joined, part_ended, some_ended, part_any}
 use Rattle.action_grammar.proofs.Expressing.{some_port, some_sum, some_unit, some_expr, some_choice, PortBy, roles_port, ChoiceBy, choice_from, choice_to, Member, Named, TermBy, roles_term, starts_term, signed, PartIn, Added, SumBy, sum_from, sum_to, Compared, Tested, OrNone, UnitBy, roles_unit, starts_unit, UnitIn, ConjBy, conj_from, conj_to, starts_conj, ConjIn, ExprBy, expr_from, expr_to}
 
@@ -238,3 +239,6 @@ parts_at n left = parts_with n left (inside n) (parts_inside n)
 
 pub part_choice_at : (n left : ℕ) → IsPart (IsChoice n left) (a_choice n left (inside n)) always
 part_choice_at n left = part_choice n left (inside n) (parts_inside n)
+
+pub exact_expr : (n left : ℕ) → Exact (IsExpr n left) (expr_at n left)
+exact_expr n left = exact (IsExpr n left) (expr_at n left) (parts_at n left).expr.law

@@ -3,7 +3,8 @@ use Rattle.std.proofs.Common.{◌≡◌, ℕ, zero, suc, Bool, true, false, [], 
 use Rattle.text_tokens.specs.Text.{Lexeme}
 use Rattle.text_tokens.specs.Reading.{Reader, ◌>>=◌, pure, one, no_limit, deep_at, less, by_role}
 use Rattle.text_tokens.specs.Grammar.{Lang, Then, Made, IsNothing}
-use Rattle.text_tokens.specs.Lawful.{IsPart, always, SomeText, StartsIn, HasTokens, Starts, IsHandled, handled, no_role}
+use Rattle.text_tokens.specs.Lawful.{Exact, IsPart, always, SomeText, StartsIn, HasTokens, Starts, IsHandled, handled, no_role}
+use Rattle.text_tokens.proofs.Exactness.{exact}
 use Rattle.text_tokens.proofs.Carrying.{part_same}
 use Rattle.text_tokens.proofs.Parts.{part_less, part_before}
 use Rattle.text_tokens.proofs.Beginnings.{starts_in, starts_some, starts_one, starts_made, starts_then, starts_in_nothing, starts_in_either, starts_in_then, starts_in_more, some_behind as tokens_behind}
@@ -221,3 +222,6 @@ part_stmts_inside (suc n) t e left = part_list n (stmts_inside n) (part_stmts_in
 
 pub part_stmts : (n left : ℕ) → IsPart (IsStmts n left) (stmts_at n left) (ends stops_stmts)
 part_stmts n left = part_list n (stmts_inside n) (part_stmts_inside n) left
+
+pub exact_stmts : (n left : ℕ) → Exact (IsStmts n left) (stmts_at n left)
+exact_stmts n left = exact (IsStmts n left) (stmts_at n left) (part_stmts n left).law

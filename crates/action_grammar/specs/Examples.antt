@@ -1,7 +1,7 @@
 -- Texts with what they stand for, and texts with their first fault.
 use Rattle.std.specs.Prelude.{◌≡◌, ℕ, zero, suc, true, false, ◌==◌, if◌then◌else◌, List, [], ◌∷◌, ◌++◌, map, codes}
 use Rattle.text_tokens.specs.declared.refusal.RefusalKind.{RefusalKind}
-use Rattle.text_tokens.specs.declared.refusal.RefusalKind.TheVariants.{Unexpected, TooDeep, TooMany, Truncated}
+use Rattle.text_tokens.specs.declared.refusal.RefusalKind.TheVariants.{BadByte, WordTooLong, Unexpected, TooDeep, TooMany, Truncated}
 use Rattle.text_tokens.specs.Cursor.{Cursor, at_place}
 use Rattle.text_tokens.specs.Grammar.{Lang}
 use Rattle.text_tokens.specs.Lawful.{IsText, IsFault}
@@ -134,6 +134,10 @@ wrong_programs =
     ∷ wrong Unexpected 2 (codes "program end2 end")
     ∷ wrong Unexpected 5 (codes "program action state when and end")
     ∷ wrong Unexpected 3 (codes "program action do when true end")
+    ∷ wrong BadByte 3 (codes "program guard ! on end")
+    ∷ wrong Unexpected 2 (codes "program on ! end")
+    ∷ wrong WordTooLong 3 (codes "program var abcdefghijklmnopqrstuvwxy 1 end")
+    ∷ wrong WordTooLong 4 (codes "program var x 1234567890 end")
     ∷ []
 
 -- what is no list of statements

@@ -3,11 +3,14 @@
 ghost use Rattle.text_tokens.specs.Lawful.{Exact, IsDecided};
 ghost use Rattle.action_grammar.specs.Programs.{IsProgram};
 ghost use Rattle.action_grammar.specs.ProgramReaders.{a_program};
-ghost use Rattle.action_grammar.specs.Laws.{WordsAreReserved, NamesAreNotReserved, TextsGiveWritable, BytesGiveWritable};
+ghost use Rattle.action_grammar.specs.Laws.{WordsAreReserved, NamesAreNotReserved, ExpressionsAreDecided, StatementsAreDecided, TextsGiveWritable, BytesGiveWritable};
 
-/// Of any tokens the grammar says one thing: they are read as one program, or have one first fault.
+/// Of any tokens the grammar says one thing: they are read as one program, or have one first fault. So does the grammar of
+/// expressions, and that of statements.
 pub fn program_is_decided()
-    ensures { IsDecided IsProgram }
+    ensures program { IsDecided IsProgram }
+    ensures expressions { ExpressionsAreDecided }
+    ensures statements { StatementsAreDecided }
 {}
 
 /// The reader answers what the grammar says.

@@ -1,8 +1,20 @@
 use Rattle.text_tokens.proofs.Obeying.{decided}
+use Rattle.action_grammar.specs.Expressions.{IsExpr}
+use Rattle.action_grammar.specs.Statements.{IsStmts}
 use Rattle.action_grammar.specs.Programs.{IsProgram}
+use Rattle.action_grammar.specs.ExpressionReaders.{expr_at}
+use Rattle.action_grammar.specs.StatementReaders.{stmts_at}
 use Rattle.action_grammar.specs.ProgramReaders.{a_program}
+use Rattle.action_grammar.proofs.ExpressionLaws.{exact_expr}
+use Rattle.action_grammar.proofs.StatementLaws.{exact_stmts}
 use Rattle.action_grammar.proofs.ProgramLaws.{exact_program}
 use Rattle.action_grammar.proofs.laws.program_is_decided.Goals as goal
 
-pub returns : goal.returns
-returns c = decided IsProgram a_program exact_program
+pub returns-clause-program : goal.returns-clause-program
+returns-clause-program c = decided IsProgram a_program exact_program
+
+pub returns-clause-expressions : goal.returns-clause-expressions
+returns-clause-expressions c = λ n left. decided (IsExpr n left) (expr_at n left) (exact_expr n left)
+
+pub returns-clause-statements : goal.returns-clause-statements
+returns-clause-statements c = λ n left. decided (IsStmts n left) (stmts_at n left) (exact_stmts n left)
