@@ -18,13 +18,10 @@ pub mod Repeating
 pub mod Enclosing
 pub mod Obeying
 pub mod Distinguishing
-pub mod NestedTwins
-pub mod NestedLaws
 pub mod JournalLaws
 pub mod Agreeing
 pub mod PutLaws
 pub mod Stepping
 pub mod Looping
 pub mod Rows
-pub mod NestedSteps
 pub mod Settling

@@ -11,9 +11,6 @@ pub mod Lawful
 pub mod Inputs
 pub mod Combinators
 pub mod Steps
-pub mod Nested
-pub mod NestedView
-pub mod NestedTexts
 pub mod Journal
 pub mod JournalView
 pub mod JournalFaults

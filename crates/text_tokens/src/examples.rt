@@ -1,26 +1,17 @@
-//! What three small formats say of their tokens. The functions do nothing: their clauses are the laws.
+//! What two small formats say of their tokens. The functions do nothing: their clauses are the laws.
 
 ghost use Rattle.text_tokens.specs.declared.refusal.RefusalKind.TheVariants.{Trailing};
-ghost use Rattle.text_tokens.specs.Nested.{IsNested, nested};
 ghost use Rattle.text_tokens.specs.Journal.{IsJournal, journal};
 ghost use Rattle.text_tokens.specs.Lawful.{Exact, IsDecided};
 ghost use Rattle.text_tokens.specs.Inputs.{IsDecidedInput};
 ghost use Rattle.text_tokens.specs.Agreement.{AllButAgreement};
-ghost use Rattle.text_tokens.specs.NestedTexts.{NestedIsRead};
 ghost use Rattle.text_tokens.specs.JournalFaults.{EntriesAreJudged};
 ghost use Rattle.text_tokens.specs.JournalTexts.{JournalsAreRead};
 ghost use Rattle.text_tokens.specs.Puts.{IsPut, put};
 ghost use Rattle.text_tokens.specs.PutTexts.{PutsAreRead};
 
-/// The tokens of the format of `nested` are read in one way, or have one first fault, and its reader answers that.
-pub fn nested_is_decided()
-    ensures exact { Exact IsNested nested }
-    ensures decided { IsDecided IsNested }
-    ensures input { IsDecidedInput IsNested Trailing }
-    ensures read { NestedIsRead }
-{}
-
-/// So are those of a journal, whose entries are judged once nothing more belongs to them.
+/// The tokens of a journal, whose entries are judged once nothing more belongs to them, are read in one way, or have one
+/// first fault, and its reader answers that.
 pub fn journal_is_decided()
     ensures exact { Exact IsJournal journal }
     ensures decided { IsDecided IsJournal }

@@ -1,6 +1,5 @@
 use super::*;
 use crate::journal::read_input;
-use crate::nested::read_nested;
 use crate::refusal::RefusalKind::{
     BadByte, BadEntry, BadRange, TooDeep, TooMany, Trailing, Truncated, Unexpected, WordTooLong,
 };
@@ -363,53 +362,6 @@ fn a_kind_has_a_name_and_a_number(rt: HostRuntime) {
     assert_eq!(rt; RefusalKind::NotAdjacent.number(), 14);
 }
 
-/// Whether a text of the small format is read, or refused so.
-fn is_read(alloc: Global, text: &[u8], refusal: Option<(u32, RefusalKind)>) -> bool {
-    if text.len() > 100 {
-        return false;
-    }
-    let mut tokens = Tokens::new(text);
-    match read_nested(alloc, &mut tokens) {
-        Ok(_) => refusal.is_none(),
-        Err(ReadRefusal::Refused(found)) => refusal == Some((found.line, found.kind)),
-        Err(ReadRefusal::NoMemory) => false,
-    }
-}
-
-#[test]
-fn nested_texts_are_read_or_refused(rt: HostRuntime) {
-    for (text, refusal) in [
-        (b"nested ( 1 ; ( 2 ) ) pair 1 2 end".as_slice(), None),
-        (b"nested ( ( ( 1 ) ) ) end", None),
-        (b"nested ( ( (\n( 1 ) ) ) ) end", Some((2, TooDeep))),
-        (b"nested ( 1 ; 2 ; 3 ; 4 ) end", None),
-        (b"nested ( 1 ; 2 ; 3 ; 4 ;\n5 ) end", Some((2, TooMany))),
-        (b"nested ( 1 ; 2 ; 3 ; 4 ;\n) end", Some((2, Unexpected))),
-        (b"nested ( 1 ; 2 ; 3 ; 4 ;\n", Some((2, Truncated))),
-        (b"nested ( ( ( 1 ; 2 ; 3 ; 4 ;\n( 5", Some((2, TooDeep))),
-        (b"nested ( ) end", Some((1, Unexpected))),
-        (b"nested ( 1 ;\n) end", Some((2, Unexpected))),
-        (b"nested ( 1 )\npair 3\n2\nend", Some((2, BadEntry))),
-        (b"nested ( 1 )\npair 3\n2\n!", Some((2, BadEntry))),
-        (b"nested ( 1 )\npair 3\n!", Some((3, BadByte))),
-        (b"nested ( 1 ) pair 60 60 pair 40 50 end", None),
-        (
-            b"nested ( 1 ) pair 60 60 pair\n41 50 end",
-            Some((2, TooMany)),
-        ),
-        (
-            b"nested ( 1 ) pair 1 1 pair 1 1 pair 1 1\npair 1 1 end",
-            Some((2, TooMany)),
-        ),
-        (b"nested ( 1 ) pair 1 1", Some((1, Truncated))),
-        (b"nested ( 1 ) 7 end", Some((1, Unexpected))),
-        (b"nested ( 1234567890 ) end", Some((1, WordTooLong))),
-        (b"list ( 1 ) end", Some((1, Unexpected))),
-    ] {
-        assert!(rt; is_read(rt.alloc(), text, refusal));
-    }
-}
-
 /// Whether bytes are a journal, or refused so.
 fn is_input(alloc: Global, bytes: &[u8], refusal: Option<(u32, RefusalKind)>) -> bool {
     if bytes.len() > 100 {
@@ -547,7 +499,6 @@ fn laws_hold_at_a_type(rt: HostRuntime) {
     opening();
     running_sum();
     laws_of::<u8, u16>();
-    nested_is_decided();
     journal_is_decided();
     puts_are_decided();
     agreement_is_needed();
