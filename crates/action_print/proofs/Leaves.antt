@@ -32,7 +32,7 @@ use Rattle.action_grammar.specs.Expressions.{IsA, bound_at, IsMinus}
 use Rattle.action_grammar.proofs.Naming.{names}
 use Rattle.action_grammar.proofs.Playing.{plays, is_in}
 use Rattle.action_print.specs.Canon.{atom_word, quantifier_word, set_word, test_word, cmp_sign, side_word, end_word, move_word, literal_word, dirterm_word, first_sign, further_sign}
-use Rattle.action_print.proofs.PrintedTokens.{kind_of, IsOneToken, word_is_token, number_is_token, sign_is_token}
+use Rattle.text_tokens.proofs.PrintedTokens.{kind_of, IsOneToken, word_is_token, number_is_token, sign_is_token}
 use Rattle.action_print.proofs.Reading.{Reads, reads_as, reads_nothing, IsSpelled, reads_one}
 
 -- ---- words and signs

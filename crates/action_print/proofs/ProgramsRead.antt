@@ -20,7 +20,7 @@ use Rattle.action_grammar.specs.Programs.{IsMove, is_none, is_through, is_contra
 use Rattle.action_grammar.proofs.ProgramLaws.{exact_program}
 use Rattle.action_print.specs.Canon.{guard_words, stmts_words, move_words, guard_line, var_line, do_lines, action_lines, program_lines, canon}
 use Rattle.action_print.specs.ReadsBack.{CanonReadsBack, CanonIsRead}
-use Rattle.action_print.proofs.PrintedTokens.{AreSpelled, ArePrinted, none_printed, word_printed, LinesArePrinted, no_lines, line_printed, one_printed, lines_spell, spelled_tokens}
+use Rattle.text_tokens.proofs.PrintedTokens.{AreSpelled, ArePrinted, none_printed, word_printed, LinesArePrinted, no_lines, line_printed, one_printed, lines_spell, spelled_tokens}
 use Rattle.action_print.proofs.Reading.{AreTokenTexts, no_texts, text_more, Reads, reads_as, reads_two, reads_three, reads_five, reads_six, reads_nothing}
 use Rattle.action_print.proofs.Leaves.{a_word, free_of, a_name, a_number, an_end, a_port_move, a_switch}
 use Rattle.action_print.proofs.ExpressionsRead.{IsGuardOf, port_read}

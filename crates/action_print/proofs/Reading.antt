@@ -6,7 +6,7 @@ use Rattle.text_tokens.specs.Text.{Lexeme}
 use Rattle.text_tokens.specs.Lines.{Words}
 use Rattle.text_tokens.specs.Grammar.{Symbol, symbol, tokens, first_fault, Lang, IsOne, is_one}
 use Rattle.text_tokens.proofs.Symbols.{tokens-append, fine-append}
-use Rattle.action_print.proofs.PrintedTokens.{kind_of, AreSpelled, no_tokens, token_more, IsOneToken}
+use Rattle.text_tokens.proofs.PrintedTokens.{kind_of, AreSpelled, no_tokens, token_more, IsOneToken}
 
 -- ---- rows of single tokens
 
