@@ -12,7 +12,7 @@ use Rattle.amoebot_state.specs.Configs.{Config, IsValid, bot_at, config_of}
 use Rattle.amoebot_state.specs.Refusals.{IsPlain}
 use Rattle.amoebot_state.proofs.Added.{no_fault, valid_with}
 use Rattle.amoebot_state.proofs.Faults.{none_valid}
-use Rattle.amoebot_state.proofs.Expands.{expansion_touches_zone, expansion_has_next}
+use Rattle.model_ops.proofs.ExpansionLaws.{expansion_touches_zone, expansion_has_next}
 use Rattle.claim_core.specs.declared.marks.Mark.TheVariants as mark
 use Rattle.claim_core.specs.Turns.{IsList}
 use Rattle.claim_core.specs.declared.state.Phase.TheVariants.{Ended}

@@ -3,12 +3,14 @@ ghost use Rattle.std.specs.Bool.{OnTrue};
 ghost use Rattle.std.specs.List.{All};
 ghost use Rattle.amoebot_state.specs.Configs.{bot_at};
 ghost use Rattle.amoebot_state.specs.Refusals.{IsPlain};
+ghost use Rattle.amoebot_state.specs.Zones.{shown_alone};
+ghost use Rattle.claim_core_tests.specs.Dragging.{drag, note, by_peer, by_link};
 
 use amoebot_state::{
     Bot, Cell, CellName, Change, Chir, Decider, Failure, Found, Moved, Patch, Port, Verdict, World,
-    expansion_changes, port_leads_beside,
 };
 use claim_core::{Core, Lists};
+use model_ops::{Peer, Site};
 use std::alloc::Global;
 use std::test::Fail;
 use tri_lattice::{Area, Node};
@@ -50,38 +52,24 @@ pub struct Expander {
 }
 
 impl Decider for Expander {
-    ghost use Rattle.amoebot_state.specs.Moves.{expansion_verdict_shown};
-    ghost use Rattle.amoebot_state.proofs.Expands.{expansion_touches_zone, expansion_has_next, expansion_is_exact};
+    ghost use Rattle.model_ops.specs.Expansion.{expansion_verdict_shown};
+    ghost use Rattle.model_ops.proofs.ExpansionLaws.{expansion_touches_zone, expansion_has_next, expansion_is_exact};
 
     ghost verdict = { λ d. expansion_verdict_shown d.port };
 
     fn decide(&self, found: &Found) -> Verdict {
-        port_leads_beside();
-        expansion_changes();
-        let own = *found.own();
-        if !own.is_contracted() {
+        if !found.own().is_contracted() {
             return Verdict::Idle;
         }
-        if !own.is_port(self.port) {
-            return Verdict::Failed(Failure::NoPort);
+        let mut site = Site::new(found);
+        match site.expand(self.port) {
+            Ok(()) => Verdict::Change(Change {
+                action: 0,
+                moved: Moved::Expand(self.port),
+                patch: site.patch(),
+            }),
+            Err(failure) => Verdict::Failed(failure),
         }
-        let node = own.behind(self.port);
-        if found.area().index(node).is_none() {
-            return Verdict::Failed(Failure::Edge);
-        }
-        if found.occupant(node).is_some() {
-            return Verdict::Failed(Failure::Occupied);
-        }
-        let mut expanded = own;
-        expanded.head = node;
-        let mut patch = Patch::new();
-        patch.push(CellName::Spot(node), Cell::Spot(Some(found.bot())));
-        patch.push(CellName::Body(found.bot()), Cell::Body(expanded));
-        Verdict::Change(Change {
-            action: 0,
-            moved: Moved::Expand(self.port),
-            patch,
-        })
     }
 
     ghost touches_zone = { λ d. expansion_touches_zone d.port };
@@ -89,6 +77,91 @@ impl Decider for Expander {
     ghost has_next = { λ d. expansion_has_next d.port };
 
     ghost is_exact = { λ d. expansion_is_exact d.port };
+}
+
+/// The program of two actions of an expanded amoebot: `drag`, when a contracted neighbour is behind a port, pulls it; else `note` sets
+/// variable 0 to 1.
+pub struct Dragger {
+    pub port: Port,
+}
+
+impl Decider for Dragger {
+    ghost use Rattle.claim_core_tests.specs.Dragging.{dragging_shown};
+    ghost use Rattle.claim_core_tests.specs.DraggingLaws.{dragging_touches_zone, dragging_has_next, dragging_is_exact};
+
+    ghost verdict = { λ d. dragging_shown d.port };
+
+    fn decide(&self, found: &Found) -> Verdict {
+        if found.own().is_contracted() {
+            return Verdict::Idle;
+        }
+        let site = Site::new(found);
+        by_link(found, self.port, site.connected(self.port))
+    }
+
+    ghost touches_zone = { λ d. dragging_touches_zone d.port };
+
+    ghost has_next = { λ d. dragging_has_next d.port };
+
+    ghost is_exact = { λ d. dragging_is_exact d.port };
+}
+
+/// What is decided where there is such a neighbour, or none.
+fn by_link(found: &Found, port: Port, link: Result<bool, Failure>) -> Verdict
+    ensures { result ≡ by_link port (shown_alone found.now) found.now.bot link }
+{
+    match link {
+        Ok(true) => {
+            let site = Site::new(found);
+            by_peer(found, port, site.peer(port))
+        }
+        Ok(false) => note(found),
+        Err(failure) => Verdict::Failed(failure),
+    }
+}
+
+/// What is decided by what is seen of it.
+fn by_peer(found: &Found, port: Port, seen: Result<Peer, Failure>) -> Verdict
+    ensures { result ≡ by_peer port (shown_alone found.now) found.now.bot seen }
+{
+    match seen {
+        Ok(peer) => {
+            if peer.expanded {
+                note(found)
+            } else {
+                drag(found, port)
+            }
+        }
+        Err(failure) => Verdict::Failed(failure),
+    }
+}
+
+fn drag(found: &Found, port: Port) -> Verdict
+    ensures { result ≡ drag port (shown_alone found.now) found.now.bot }
+{
+    let mut site = Site::new(found);
+    match site.pull(port) {
+        Ok(()) => Verdict::Change(Change {
+            action: 0,
+            moved: Moved::Pull(port),
+            patch: site.patch(),
+        }),
+        Err(failure) => Verdict::Failed(failure),
+    }
+}
+
+fn note(found: &Found) -> Verdict
+    ensures { result ≡ note (shown_alone found.now) found.now.bot }
+{
+    let mut site = Site::new(found);
+    match site.write(None, 0, 1) {
+        Ok(()) => Verdict::Change(Change {
+            action: 1,
+            moved: Moved::None,
+            patch: site.patch(),
+        }),
+        Err(failure) => Verdict::Failed(failure),
+    }
 }
 
 /// A contracted amoebot with a value of variable 0, whose local directions are the global ones.
@@ -105,6 +178,20 @@ pub fn standing(x: u8, y: u8, value: u8) -> Bot
         rot: 0,
         chir: Chir::Plus,
         mem: [value, 0, 0, 0, 0, 0, 0, 0],
+    }
+}
+
+/// An expanded amoebot whose head is to the right of its tail.
+pub fn spread(x: u8, y: u8, value: u8) -> Bot
+    ensures { IsPlain result }
+{
+    let tail = standing(x, y, value);
+    Bot {
+        head: Node {
+            x: i16::from(x) + 1,
+            y: i16::from(y),
+        },
+        ..tail
     }
 }
 

@@ -6,6 +6,8 @@ mod checker;
 #[cfg(test)]
 mod fixtures;
 #[cfg(test)]
+mod pulled;
+#[cfg(test)]
 mod schedules;
 #[cfg(test)]
 mod tampered;

@@ -27,3 +27,5 @@ pub mod Opened
 pub mod OneNode
 pub mod Patching
 pub mod Carried
+pub mod Decided
+pub mod ExpansionLaws

@@ -7,3 +7,4 @@ pub mod Deciders
 pub mod Members
 pub mod Sites
 pub mod Laws
+pub mod Expansion

@@ -8,9 +8,9 @@ ghost use Rattle.amoebot_state.specs.Refusals.{IsPlain};
 use crate::lists::Lists;
 use crate::machine::Core;
 use amoebot_state::{
-    Bot, Cell, CellName, Change, Chir, Decider, Failure, Found, Moved, Patch, Port, Verdict, World,
-    expansion_changes, port_leads_beside,
+    Bot, Cell, CellName, Change, Chir, Decider, Found, Moved, Patch, Port, Verdict, World,
 };
+use model_ops::Site;
 use std::alloc::Global;
 use std::test::Fail;
 use tri_lattice::{Area, Node};
@@ -52,38 +52,24 @@ pub struct Expander {
 }
 
 impl Decider for Expander {
-    ghost use Rattle.amoebot_state.specs.Moves.{expansion_verdict_shown};
-    ghost use Rattle.amoebot_state.proofs.Expands.{expansion_touches_zone, expansion_has_next, expansion_is_exact};
+    ghost use Rattle.model_ops.specs.Expansion.{expansion_verdict_shown};
+    ghost use Rattle.model_ops.proofs.ExpansionLaws.{expansion_touches_zone, expansion_has_next, expansion_is_exact};
 
     ghost verdict = { λ d. expansion_verdict_shown d.port };
 
     fn decide(&self, found: &Found) -> Verdict {
-        port_leads_beside();
-        expansion_changes();
-        let own = *found.own();
-        if !own.is_contracted() {
+        if !found.own().is_contracted() {
             return Verdict::Idle;
         }
-        if !own.is_port(self.port) {
-            return Verdict::Failed(Failure::NoPort);
+        let mut site = Site::new(found);
+        match site.expand(self.port) {
+            Ok(()) => Verdict::Change(Change {
+                action: 0,
+                moved: Moved::Expand(self.port),
+                patch: site.patch(),
+            }),
+            Err(failure) => Verdict::Failed(failure),
         }
-        let node = own.behind(self.port);
-        if found.area().index(node).is_none() {
-            return Verdict::Failed(Failure::Edge);
-        }
-        if found.occupant(node).is_some() {
-            return Verdict::Failed(Failure::Occupied);
-        }
-        let mut expanded = own;
-        expanded.head = node;
-        let mut patch = Patch::new();
-        patch.push(CellName::Spot(node), Cell::Spot(Some(found.bot())));
-        patch.push(CellName::Body(found.bot()), Cell::Body(expanded));
-        Verdict::Change(Change {
-            action: 0,
-            moved: Moved::Expand(self.port),
-            patch,
-        })
     }
 
     ghost touches_zone = { λ d. expansion_touches_zone d.port };

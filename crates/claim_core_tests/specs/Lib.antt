@@ -1,0 +1,2 @@
+pub mod Dragging
+pub mod DraggingLaws
