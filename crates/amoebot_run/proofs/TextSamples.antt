@@ -12,7 +12,8 @@ use Rattle.amoebot_state.specs.declared.verdict.Failure.TheVariants as failure
 use Rattle.amoebot_state.specs.declared.verdict.Moved.TheVariants as moved
 use Rattle.amoebot_state.specs.Configs.{Config}
 use Rattle.claim_core.specs.declared.marks.Mark.TheVariants as mark
-use Rattle.amoebot_run.specs.Texts.{journal_text, shape_text, turns_text, report_text}
+use Rattle.journal_text.specs.Texts.{journal_text, turns_text}
+use Rattle.amoebot_run.specs.Texts.{shape_text, report_text}
 
 abbrev at : ℤ → ℤ → Node
 at x y = record { x = x; y = y }

@@ -1,84 +1,14 @@
--- The texts of a run.
-use Rattle.std.specs.Prelude.{ℕ, List, [], ◌∷◌, ◌++◌, codes, decimal, map, take}
+-- The text of a run: its journal, its last shape and its turns.
+use Rattle.std.specs.Prelude.{ℕ, List, [], ◌∷◌, ◌++◌, codes, decimal, map}
 use Rattle.std.specs.Fmt.{signed_decimal}
-use Rattle.std.specs.List.{flat_map, filter_map, enumerate_from}
+use Rattle.std.specs.List.{filter_map}
 use Rattle.std.specs.declared.option.Option.{Option}
-use Rattle.std.specs.declared.option.Option.TheVariants.{Some, None}
-use Rattle.tri_lattice.specs.declared.node.Node.{Node}
 use Rattle.tri_lattice.specs.Extent.{Extent}
 use Rattle.text_tokens.specs.Lines.{Words, section_text}
 use Rattle.amoebot_state.specs.declared.bot.Bot.{Bot}
-use Rattle.amoebot_state.specs.declared.bot.Chir.{Chir}
-use Rattle.amoebot_state.specs.declared.bot.Chir.TheVariants as chir
-use Rattle.amoebot_state.specs.declared.bot.End.{End}
-use Rattle.amoebot_state.specs.declared.bot.End.TheVariants as end
-use Rattle.amoebot_state.specs.declared.bot.Port.{Port}
-use Rattle.amoebot_state.specs.declared.cell.CellName.{CellName}
-use Rattle.amoebot_state.specs.declared.cell.CellName.TheVariants as name
-use Rattle.amoebot_state.specs.declared.cell.Cell.{Cell}
-use Rattle.amoebot_state.specs.declared.cell.Cell.TheVariants as cell
-use Rattle.amoebot_state.specs.declared.verdict.Entry.{Entry}
-use Rattle.amoebot_state.specs.declared.verdict.Failure.{Failure}
-use Rattle.amoebot_state.specs.declared.verdict.Failure.TheVariants as failure
-use Rattle.amoebot_state.specs.declared.verdict.Moved.{Moved}
-use Rattle.amoebot_state.specs.declared.verdict.Moved.TheVariants as moved
-use Rattle.amoebot_state.specs.Pairs.{cell_of, cell_value}
 use Rattle.amoebot_state.specs.Configs.{Config}
-use Rattle.claim_core.specs.declared.marks.Mark.{Mark}
-use Rattle.claim_core.specs.declared.marks.Mark.TheVariants as mark
 use Rattle.claim_core.specs.declared.report.Report.{Report}
-use Rattle.claim_core.specs.Turns.{MarkLists}
-
--- the coordinates of a node, where a negative one has a `-` directly before its digits
-abbrev pub node_words : Node → Words
-node_words v = signed_decimal v.x ∷ signed_decimal v.y ∷ []
-
-abbrev pub end_word : End → List ℕ
-end_word end.Head = codes "head"
-end_word end.Tail = codes "tail"
-
-abbrev pub port_words : Port → Words
-port_words p = end_word p.end ∷ decimal p.dir ∷ []
-
-abbrev pub chir_word : Chir → List ℕ
-chir_word chir.Plus = codes "+"
-chir_word chir.Minus = codes "-"
-
--- head, tail, rotation, chirality, and as many values as there are variables
-abbrev pub bot_words : ℕ → Bot → Words
-bot_words vars b = node_words b.head ++ node_words b.tail ++ decimal b.rot ∷ chir_word b.chir ∷ map decimal (take vars b.mem)
-
-abbrev pub cell_words : CellName → Words
-cell_words (name.Spot v) = codes "spot" ∷ node_words v
-cell_words (name.Body i) = codes "body" ∷ decimal i ∷ []
-
-abbrev pub value_words : ℕ → Cell → Words
-value_words vars (cell.Spot (Some i)) = decimal i ∷ []
-value_words vars (cell.Spot None) = codes "empty" ∷ []
-value_words vars (cell.Body b) = bot_words vars b
-
--- a cell and its new value
-abbrev pub pair_words : ℕ → CellName × Cell → Words
-pair_words vars p = cell_words (cell_of p) ++ value_words vars (cell_value p)
-
-abbrev pub moved_words : Moved → Words
-moved_words moved.None = codes "none" ∷ []
-moved_words (moved.Expand p) = codes "expand" ∷ port_words p
-moved_words (moved.Contract e) = codes "contract" ∷ end_word e ∷ []
-moved_words (moved.Push p) = codes "push" ∷ port_words p
-moved_words (moved.Pull p) = codes "pull" ∷ port_words p
-
--- the number of an entry, and its caller, turn, amoebot and action
-abbrev pub entry_numbers : ℕ → Entry → Words
-entry_numbers place e = decimal place ∷ decimal e.caller ∷ decimal e.turn ∷ decimal e.bot ∷ decimal e.action ∷ []
-
--- an entry with its number
-abbrev pub entry_words : ℕ → ℕ × Entry → Words
-entry_words vars (place, e) = codes "entry" ∷ entry_numbers place e ++ (moved_words e.moved ++ flat_map (pair_words vars) e.patch)
-
--- the entries, numbered from 0
-abbrev pub journal_text : ℕ → List Entry → List ℕ
-journal_text vars entries = section_text (codes "journal") (map (entry_words vars) (enumerate_from 0 entries))
+use Rattle.journal_text.specs.Texts.{bot_words, journal_text, turns_text}
 
 abbrev pub area_words : Extent → Words
 area_words a = codes "area" ∷ signed_decimal a.x0 ∷ signed_decimal a.y0 ∷ decimal a.w ∷ decimal a.h ∷ []
@@ -93,37 +23,6 @@ present bots = filter_map (λ o. o) bots
 -- the area and the amoebots, in a section with this word
 abbrev pub shape_text : List ℕ → ℕ → Config → List ℕ
 shape_text word vars c = section_text word (area_words c.area ∷ map (bot_line vars) (present c.bots))
-
-abbrev pub failure_word : Failure → List ℕ
-failure_word failure.NoPort = codes "no_port"
-failure_word failure.NoNeighbour = codes "no_neighbour"
-failure_word failure.OutOfRange = codes "out_of_range"
-failure_word failure.Occupied = codes "occupied"
-failure_word failure.NotContracted = codes "not_contracted"
-failure_word failure.NotExpanded = codes "not_expanded"
-failure_word failure.PeerNotExpanded = codes "peer_not_expanded"
-failure_word failure.PeerNotContracted = codes "peer_not_contracted"
-failure_word failure.Edge = codes "edge"
-failure_word failure.WouldSplit = codes "would_split"
-failure_word failure.NoChoice = codes "no_choice"
-
-abbrev pub mark_words : Mark → Words
-mark_words (mark.Done place) = codes "done" ∷ decimal place ∷ []
-mark_words (mark.Idle place) = codes "idle" ∷ decimal place ∷ []
-mark_words (mark.Failed f place) = codes "failed" ∷ failure_word f ∷ decimal place ∷ []
-mark_words (mark.Busy c by_caller by_turn by_bot place) = codes "busy" ∷ cell_words c ++ codes "by" ∷ decimal by_caller ∷ decimal by_turn ∷ decimal by_bot ∷ codes "place" ∷ decimal place ∷ []
-
--- the mark of a caller's turn
-abbrev pub turn_words : ℕ → ℕ × Mark → Words
-turn_words caller (turn, m) = codes "turn" ∷ decimal caller ∷ decimal turn ∷ mark_words m
-
--- the marks of a caller, by rising turn
-abbrev pub caller_lines : ℕ × List Mark → List Words
-caller_lines (caller, marks) = map (turn_words caller) (enumerate_from 0 marks)
-
--- the marks of all callers, by rising caller and then by rising turn
-abbrev pub turns_text : MarkLists → List ℕ
-turns_text m = section_text (codes "turns") (flat_map caller_lines (enumerate_from 0 m.marks))
 
 -- the journal, the last shape and the turns of a run without variables
 abbrev pub report_text : Report → List ℕ

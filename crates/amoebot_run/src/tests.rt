@@ -3,10 +3,11 @@ ghost use Rattle.std.specs.declared.option.Option.{Option};
 
 use crate::gate::NoGate;
 use crate::run::{Ended, Status, run, run_text};
-use crate::texts::{print_journal, print_shape, print_turns};
+use crate::texts::print_shape;
 use amoebot_state::NoMemory;
 use arrayvec::ArrayVec;
 use claim_core::Report;
+use journal_text::{print_journal, print_turns};
 use outer_io::{Failed, Sink, Source, SureSink, SureSource};
 use std::alloc::{AllocError, Global};
 use std::process::Abort;

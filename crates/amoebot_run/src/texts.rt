@@ -1,14 +1,13 @@
-ghost use Rattle.std.specs.Prelude.{◌≡◌, ◌<◌, ◌≤◌, ◌++◌, decimal, length, map, IfOk, OnOk};
-ghost use Rattle.std.specs.List.{enumerate_from, flat_map};
-ghost use Rattle.text_tokens.specs.Lines.{line_text, lines_text, spaced};
-ghost use Rattle.amoebot_run.specs.Texts.{area_words, bot_line, bot_words, caller_lines, cell_words, chir_word, end_word, entry_numbers, entry_words, failure_word, journal_text, mark_words, moved_words, node_words, pair_words, port_words, present, report_text, shape_text, turn_words, turns_text, value_words};
-ghost use Rattle.claim_core.specs.Turns.{marks_of};
+ghost use Rattle.std.specs.Prelude.{◌≡◌, ◌≤◌, ◌++◌, map, IfOk, OnOk};
+ghost use Rattle.text_tokens.specs.Lines.{line_text, lines_text};
+ghost use Rattle.amoebot_run.specs.Texts.{area_words, bot_line, present, report_text, shape_text};
 
-use amoebot_state::{Bot, Cell, CellName, Chir, End, Entry, Failure, Moved, NoMemory, Port, World};
-use claim_core::{Mark, Marks, Report};
+use amoebot_state::{NoMemory, World};
+use claim_core::Report;
+use journal_text::{put_bot, put_journal, put_turns};
 use std::alloc::{AllocError, Global};
 use text_tokens::{Lines, Text};
-use tri_lattice::{Area, Node};
+use tri_lattice::Area;
 
 /// The text of a run without variables: the sections `journal`, `final` and `turns`.
 pub fn print_report(alloc: Global, report: &Report) -> Result<Text, NoMemory>
@@ -18,16 +17,6 @@ pub fn print_report(alloc: Global, report: &Report) -> Result<Text, NoMemory>
     put_journal(&mut lines, report.journal.entries(), 0)?;
     put_shape(&mut lines, "final", &report.world, 0)?;
     put_turns(&mut lines, &report.turns)?;
-    Ok(lines.text())
-}
-
-/// The section `journal`, with the values of so many variables, at most 8.
-pub fn print_journal(alloc: Global, entries: &[Entry], vars: u8) -> Result<Text, NoMemory>
-    requires { vars ≤ 8 }
-    ensures { IfOk result (λ text. text ≡ journal_text vars entries.now) }
-{
-    let mut lines = Lines::new(alloc);
-    put_journal(&mut lines, entries, vars)?;
     Ok(lines.text())
 }
 
@@ -41,24 +30,6 @@ pub fn print_shape(alloc: Global, word: &str, world: &World, vars: u8) -> Result
     Ok(lines.text())
 }
 
-/// The section `turns`: by rising caller, then by rising turn.
-pub fn print_turns(alloc: Global, marks: &Marks) -> Result<Text, NoMemory>
-    ensures { IfOk result (λ text. text ≡ turns_text marks.now) }
-{
-    let mut lines = Lines::new(alloc);
-    put_turns(&mut lines, marks)?;
-    Ok(lines.text())
-}
-
-fn put_journal(lines: &mut Lines, entries: &[Entry], vars: u8) -> Result<(), AllocError>
-    requires { vars ≤ 8 }
-    ensures { OnOk result (lines.new ≡ lines.old ++ journal_text vars entries.now) }
-{
-    lines.open_section("journal")?;
-    put_entries(lines, entries, vars)?;
-    lines.close_section()
-}
-
 fn put_shape(lines: &mut Lines, word: &str, world: &World, vars: u8) -> Result<(), AllocError>
     requires { vars ≤ 8 }
     ensures { OnOk result (lines.new ≡ lines.old ++ shape_text word.now vars world.now) }
@@ -67,46 +38,6 @@ fn put_shape(lines: &mut Lines, word: &str, world: &World, vars: u8) -> Result<(
     put_area(lines, world.area())?;
     put_bots(lines, world, vars)?;
     lines.close_section()
-}
-
-fn put_turns(lines: &mut Lines, marks: &Marks) -> Result<(), AllocError>
-    ensures { OnOk result (lines.new ≡ lines.old ++ turns_text marks.now) }
-{
-    lines.open_section("turns")?;
-    put_callers(lines, marks)?;
-    lines.close_section()
-}
-
-fn put_entries(lines: &mut Lines, entries: &[Entry], vars: u8) -> Result<(), AllocError>
-    requires { vars ≤ 8 }
-    ensures { OnOk result (lines.new ≡ lines.old ++ lines_text (map (entry_words vars) (enumerate_from 0 entries.now))) }
-{
-    for (place, entry) in entries.iter().enumerate() {
-        put_entry(lines, place, entry, vars)?;
-    }
-    Ok(())
-}
-
-fn put_entry(lines: &mut Lines, place: usize, entry: &Entry, vars: u8) -> Result<(), AllocError>
-    requires { vars ≤ 8 }
-    ensures { OnOk result (lines.new ≡ lines.old ++ line_text (entry_words vars (place, entry.now))) }
-{
-    lines.begin("entry")?;
-    put_numbers(lines, place, entry)?;
-    put_moved(lines, entry.moved)?;
-    put_pairs(lines, entry.patch.pairs(), vars)?;
-    lines.end()
-}
-
-/// The five numbers with which an entry begins.
-fn put_numbers(lines: &mut Lines, place: usize, entry: &Entry) -> Result<(), AllocError>
-    ensures { OnOk result (lines.new ≡ lines.old ++ spaced (entry_numbers place entry.now)) }
-{
-    lines.number(place)?;
-    lines.number(entry.caller)?;
-    lines.number(entry.turn)?;
-    lines.number(entry.bot)?;
-    lines.number(entry.action)
 }
 
 fn put_area(lines: &mut Lines, area: Area) -> Result<(), AllocError>
@@ -131,201 +62,4 @@ fn put_bots(lines: &mut Lines, world: &World, vars: u8) -> Result<(), AllocError
         lines.end()?;
     }
     Ok(())
-}
-
-fn put_callers(lines: &mut Lines, marks: &Marks) -> Result<(), AllocError>
-    ensures { OnOk result (lines.new ≡ lines.old ++ lines_text (flat_map caller_lines (enumerate_from 0 marks.now.marks))) }
-{
-    for caller in 0..marks.callers() {
-        put_caller(lines, marks, caller)?;
-    }
-    Ok(())
-}
-
-fn put_caller(lines: &mut Lines, marks: &Marks, caller: u8) -> Result<(), AllocError>
-    requires { caller < length marks.now.marks }
-    ensures { OnOk result (lines.new ≡ lines.old ++ lines_text (caller_lines (caller, marks_of marks.now caller))) }
-{
-    for turn in 0..marks.count(caller) {
-        put_turn(lines, caller, turn, marks.mark(caller, turn))?;
-    }
-    Ok(())
-}
-
-fn put_turn(lines: &mut Lines, caller: u8, turn: u32, mark: Mark) -> Result<(), AllocError>
-    ensures { OnOk result (lines.new ≡ lines.old ++ line_text (turn_words caller (turn, mark))) }
-{
-    lines.begin("turn")?;
-    lines.number(caller)?;
-    lines.number(turn)?;
-    put_mark(lines, mark)?;
-    lines.end()
-}
-
-fn put_mark(lines: &mut Lines, mark: Mark) -> Result<(), AllocError>
-    ensures { OnOk result (lines.new ≡ lines.old ++ spaced (mark_words mark)) }
-{
-    match mark {
-        Mark::Done { place } => {
-            lines.word("done")?;
-            lines.number(place)
-        }
-        Mark::Idle { place } => {
-            lines.word("idle")?;
-            lines.number(place)
-        }
-        Mark::Failed { failure, place } => {
-            lines.word("failed")?;
-            lines.word(failure_word(failure))?;
-            lines.number(place)
-        }
-        Mark::Busy {
-            cell,
-            by_caller,
-            by_turn,
-            by_bot,
-            place,
-        } => {
-            lines.word("busy")?;
-            put_cell(lines, cell)?;
-            lines.word("by")?;
-            lines.number(by_caller)?;
-            lines.number(by_turn)?;
-            lines.number(by_bot)?;
-            lines.word("place")?;
-            lines.number(place)
-        }
-    }
-}
-
-fn put_pairs(lines: &mut Lines, pairs: &[(CellName, Cell)], vars: u8) -> Result<(), AllocError>
-    requires { vars ≤ 8 }
-    ensures { OnOk result (lines.new ≡ lines.old ++ spaced (flat_map (pair_words vars) pairs.now)) }
-{
-    for (name, value) in pairs {
-        put_cell(lines, *name)?;
-        put_value(lines, value, vars)?;
-    }
-    Ok(())
-}
-
-fn put_cell(lines: &mut Lines, name: CellName) -> Result<(), AllocError>
-    ensures { OnOk result (lines.new ≡ lines.old ++ spaced (cell_words name)) }
-{
-    match name {
-        CellName::Spot(node) => {
-            lines.word("spot")?;
-            put_node(lines, node)
-        }
-        CellName::Body(id) => {
-            lines.word("body")?;
-            lines.number(id)
-        }
-    }
-}
-
-fn put_value(lines: &mut Lines, value: &Cell, vars: u8) -> Result<(), AllocError>
-    requires { vars ≤ 8 }
-    ensures { OnOk result (lines.new ≡ lines.old ++ spaced (value_words vars value.now)) }
-{
-    match value {
-        Cell::Spot(Some(id)) => lines.number(*id),
-        Cell::Spot(None) => lines.word("empty"),
-        Cell::Body(bot) => put_bot(lines, bot, vars),
-    }
-}
-
-/// The nodes, the rotation, the chirality and the first values of an amoebot.
-fn put_bot(lines: &mut Lines, bot: &Bot, vars: u8) -> Result<(), AllocError>
-    requires { vars ≤ 8 }
-    ensures { OnOk result (lines.new ≡ lines.old ++ spaced (bot_words vars bot.now)) }
-{
-    put_node(lines, bot.head)?;
-    put_node(lines, bot.tail)?;
-    lines.number(bot.rot)?;
-    lines.word(chir_word(bot.chir))?;
-    put_values(lines, &bot.mem[..usize::from(vars)])
-}
-
-fn put_values(lines: &mut Lines, values: &[u8]) -> Result<(), AllocError>
-    ensures { OnOk result (lines.new ≡ lines.old ++ spaced (map decimal values.now)) }
-{
-    for value in values {
-        lines.number(*value)?;
-    }
-    Ok(())
-}
-
-fn put_moved(lines: &mut Lines, moved: Moved) -> Result<(), AllocError>
-    ensures { OnOk result (lines.new ≡ lines.old ++ spaced (moved_words moved)) }
-{
-    match moved {
-        Moved::None => lines.word("none"),
-        Moved::Expand(port) => {
-            lines.word("expand")?;
-            put_port(lines, port)
-        }
-        Moved::Contract(end) => {
-            lines.word("contract")?;
-            lines.word(end_word(end))
-        }
-        Moved::Push(port) => {
-            lines.word("push")?;
-            put_port(lines, port)
-        }
-        Moved::Pull(port) => {
-            lines.word("pull")?;
-            put_port(lines, port)
-        }
-    }
-}
-
-fn put_port(lines: &mut Lines, port: Port) -> Result<(), AllocError>
-    ensures { OnOk result (lines.new ≡ lines.old ++ spaced (port_words port)) }
-{
-    lines.word(end_word(port.end))?;
-    lines.number(port.dir)
-}
-
-fn put_node(lines: &mut Lines, node: Node) -> Result<(), AllocError>
-    ensures { OnOk result (lines.new ≡ lines.old ++ spaced (node_words node)) }
-{
-    lines.number(node.x)?;
-    lines.number(node.y)
-}
-
-fn end_word(end: End) -> &'static str
-    ensures { result.now ≡ end_word end }
-{
-    match end {
-        End::Head => "head",
-        End::Tail => "tail",
-    }
-}
-
-fn chir_word(chir: Chir) -> &'static str
-    ensures { result.now ≡ chir_word chir }
-{
-    match chir {
-        Chir::Plus => "+",
-        Chir::Minus => "-",
-    }
-}
-
-fn failure_word(failure: Failure) -> &'static str
-    ensures { result.now ≡ failure_word failure }
-{
-    match failure {
-        Failure::NoPort => "no_port",
-        Failure::NoNeighbour => "no_neighbour",
-        Failure::OutOfRange => "out_of_range",
-        Failure::Occupied => "occupied",
-        Failure::NotContracted => "not_contracted",
-        Failure::NotExpanded => "not_expanded",
-        Failure::PeerNotExpanded => "peer_not_expanded",
-        Failure::PeerNotContracted => "peer_not_contracted",
-        Failure::Edge => "edge",
-        Failure::WouldSplit => "would_split",
-        Failure::NoChoice => "no_choice",
-    }
 }

@@ -10,7 +10,8 @@ use Rattle.claim_core.specs.declared.report.Report.{Report}
 use Rattle.claim_core.specs.Turns.{CallerLists}
 use Rattle.amoebot_run.specs.Headline.{IsRunOf}
 use Rattle.text_tokens.specs.Lines.{section_text}
-use Rattle.amoebot_run.specs.Texts.{report_text, journal_text, shape_text, caller_lines}
+use Rattle.journal_text.specs.Texts.{journal_text, caller_lines}
+use Rattle.amoebot_run.specs.Texts.{report_text, shape_text}
 use Rattle.amoebot_run.proofs.run.text_is_determined.Goals as goal
 
 -- a text is made of the entries, the world and the marks

@@ -1,6 +1,7 @@
 use Rattle.std.proofs.Common.{◌<◌, length, None, Some, ap, sym, ◌∙◌, codes, arith}
 use Rattle.std.proofs.lemmas.Option.{slice_get-get_or}
-use Rattle.amoebot_run.specs.Texts.{bot_line, bot_words}
+use Rattle.journal_text.specs.Texts.{bot_words}
+use Rattle.amoebot_run.specs.Texts.{bot_line}
 use Rattle.text_tokens.proofs.LineLemmas.{line_made, line_more}
 use Rattle.amoebot_run.proofs.NextLines.{bot_next}
 use Rattle.amoebot_run.proofs.texts.put_bots.Goals as goal
