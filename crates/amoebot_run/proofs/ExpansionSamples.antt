@@ -8,7 +8,7 @@ use Rattle.amoebot_state.specs.Zones.{shown}
 use Rattle.amoebot_state.specs.Steps.{Step, Run}
 use Rattle.amoebot_state.proofs.Samples.{world, alone, alone_out, edge, pair, turned, turned_out}
 use Rattle.amoebot_state.proofs.StepSamples.{goes_out, out_entry, alone_runs, turned_entry, turned_steps}
-use Rattle.amoebot_run.specs.Expansion.{expansion_verdict, expansion_verdict_shown}
+use Rattle.model_ops.specs.Expansion.{expansion_verdict, expansion_verdict_shown}
 
 alone_decides : expansion_verdict (port Head 0) alone 0 ≡ verdict.Change goes_out
 alone_decides = refl

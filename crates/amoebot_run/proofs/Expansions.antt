@@ -22,8 +22,9 @@ use Rattle.model_ops.specs.WorkingCopies.{WorkingCopy, opened, own_id, after, ch
 use Rattle.model_ops.proofs.CopiesStand.{gap_there}
 use Rattle.model_ops.proofs.SameDiff.{reached_leads_also}
 use Rattle.model_ops.proofs.ShownAlike.{shown_meets_the_same}
-use Rattle.amoebot_run.specs.Expansion.{ExpansionVerdictIsShown, verdict_by, expansion_verdict_shown}
-use Rattle.amoebot_run.specs.ExpansionLaws.{expanding}
+use Rattle.model_ops.specs.Expansion.{verdict_by, expansion_verdict_shown}
+use Rattle.amoebot_run.specs.Expansion.{ExpansionVerdictIsShown}
+use Rattle.model_ops.proofs.ExpansionLaws.{expanding}
 
 -- an operation that fails alike on two configurations, and makes the same difference where it succeeds, gives one verdict
 same_verdict : (m : Moved) (c d : Config) (r s : Result Config Failure) → result_err s ≡ result_err r → ((to : Config) → r ≡ Ok to → (reached : Config) × (s ≡ Ok reached) × (diff d reached ≡ diff c to)) → verdict_by c 0 m r ≡ verdict_by d 0 m s

@@ -13,7 +13,7 @@ use Rattle.amoebot_run.specs.declared.run.Ended.{Ended}
 use Rattle.amoebot_run.specs.declared.run.Status.{Status}
 use Rattle.amoebot_run.specs.declared.run.Status.TheVariants as status
 use Rattle.amoebot_run.specs.Documents.{IsRunDocument}
-use Rattle.amoebot_run.specs.Expansion.{expansion_verdict_shown}
+use Rattle.model_ops.specs.Expansion.{expansion_verdict_shown}
 use Rattle.claim_core.specs.Good.{Good}
 use Rattle.claim_core.specs.SerialRuns.{SerialRun, all_turns, left_by}
 use Rattle.amoebot_run.specs.Texts.{report_text}

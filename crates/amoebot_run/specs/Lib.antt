@@ -2,7 +2,6 @@ pub mod Commands
 pub mod DocumentViews
 pub mod Documents
 pub mod Expansion
-pub mod ExpansionLaws
 pub mod Headline
 pub mod Readers
 pub mod Samples

@@ -11,8 +11,8 @@ pub struct FirstAction {
 }
 
 impl Decider for FirstAction {
-    ghost use Rattle.amoebot_run.specs.Expansion.{expansion_verdict_shown};
-    ghost use Rattle.amoebot_run.specs.ExpansionLaws.{expansion_touches_zone, expansion_has_next, expansion_is_exact};
+    ghost use Rattle.model_ops.specs.Expansion.{expansion_verdict_shown};
+    ghost use Rattle.model_ops.proofs.ExpansionLaws.{expansion_touches_zone, expansion_has_next, expansion_is_exact};
 
     ghost verdict = { λ d. expansion_verdict_shown d.port };
 

@@ -1,4 +1,5 @@
--- Support of tests, and no part of the model: what a program of one action decides, which expands contracted amoebots.
+-- What a program of one action decides, which expands contracted amoebots. Guarded actions are the paper's; verdicts are this project's
+-- profile.
 use Rattle.std.specs.Prelude.{ℕ, if◌then◌else◌}
 use Rattle.std.specs.declared.result.Result.{Result}
 use Rattle.std.specs.declared.result.Result.TheVariants.{Ok, Err}
