@@ -1,10 +1,9 @@
 -- What a program of two actions decides: an expanded amoebot drags a contracted neighbour behind it by a Pull, and notes that it is
 -- expanded where there is none. Support of tests, and no part of the model.
-use Rattle.std.specs.Prelude.{ℕ, ℤ, pos, Bool, true, false, if◌then◌else◌}
+use Rattle.std.specs.Prelude.{ℕ, pos, Bool, true, false, if◌then◌else◌}
 use Rattle.std.specs.declared.option.Option.TheVariants.{None}
 use Rattle.std.specs.declared.result.Result.{Result}
 use Rattle.std.specs.declared.result.Result.TheVariants.{Ok, Err}
-use Rattle.amoebot_state.specs.declared.bot.End.TheVariants.{Tail}
 use Rattle.amoebot_state.specs.declared.bot.Port.{Port}
 use Rattle.amoebot_state.specs.declared.verdict.Failure.{Failure}
 use Rattle.amoebot_state.specs.declared.verdict.Moved.TheVariants as moved

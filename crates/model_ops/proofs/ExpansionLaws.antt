@@ -1,5 +1,5 @@
 -- The decider that expands makes its changes by acts, so it keeps the laws of deciders.
-use Rattle.std.proofs.Common.{◌≡◌, Bool, true, false, [], subst}
+use Rattle.std.proofs.Common.{Bool, true, false, [], subst}
 use Rattle.std.specs.Prelude.{if◌then◌else◌}
 use Rattle.amoebot_state.specs.declared.bot.Port.{Port}
 use Rattle.amoebot_state.specs.declared.verdict.Moved.TheVariants as moved
