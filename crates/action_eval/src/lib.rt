@@ -1,5 +1,0 @@
-//! The interpreter: what a checked program decides on what an amoebot is shown.
-#![tactic(auto)]
-
-mod names;
-mod value;
