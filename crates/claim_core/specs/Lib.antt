@@ -1,5 +1,7 @@
 pub mod Cells
 pub mod Cores
+pub mod Dragging
+pub mod DraggingLaws
 pub mod Good
 pub mod Laws
 pub mod Machine

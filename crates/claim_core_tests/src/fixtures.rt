@@ -4,7 +4,7 @@ ghost use Rattle.std.specs.List.{All};
 ghost use Rattle.amoebot_state.specs.Configs.{bot_at};
 ghost use Rattle.amoebot_state.specs.Refusals.{IsPlain};
 ghost use Rattle.amoebot_state.specs.Zones.{shown_alone};
-ghost use Rattle.claim_core_tests.specs.Dragging.{drag, note, by_peer, by_link};
+ghost use Rattle.claim_core.specs.Dragging.{drag, note, by_peer, by_link};
 
 use amoebot_state::{
     Bot, Cell, CellName, Change, Chir, Decider, Failure, Found, Moved, Patch, Port, Verdict, World,
@@ -86,8 +86,8 @@ pub struct Dragger {
 }
 
 impl Decider for Dragger {
-    ghost use Rattle.claim_core_tests.specs.Dragging.{dragging_shown};
-    ghost use Rattle.claim_core_tests.specs.DraggingLaws.{dragging_touches_zone, dragging_has_next, dragging_is_exact};
+    ghost use Rattle.claim_core.specs.Dragging.{dragging_shown};
+    ghost use Rattle.claim_core.specs.DraggingLaws.{dragging_touches_zone, dragging_has_next, dragging_is_exact};
 
     ghost verdict = { λ d. dragging_shown d.port };
 

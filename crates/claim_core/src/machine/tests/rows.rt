@@ -1,5 +1,7 @@
-use super::fixtures::{Expander, Marker, body, node, spot, spread, standing};
-use super::tables::{Doing, Steps, entry_of, run, see_report};
+ghost use Rattle.amoebot_state.specs.Refusals.{IsPlain};
+
+use super::fixtures::{Dragger, Expander, Marker, body, node, spot, spread, standing};
+use super::tables::{Doing, Steps, Told, entry_of, run, see_report};
 use crate::marks::Mark;
 use crate::state::Look;
 use amoebot_state::{Bot, Cell, CellName, End, Failure, Moved, Port};
@@ -370,6 +372,139 @@ fn a_turn_finds_the_zone_of_an_amoebot_that_another_caller_moved(
             &[busy_by_0(CellName::Body(0), 1), Mark::Idle { place: 1 }],
         ],
         &after,
+    );
+    Ok(())
+}
+
+const TAIL_3: Port = Port {
+    end: End::Tail,
+    dir: 3,
+};
+
+/// The program that pulls a contracted amoebot behind tail 3, and else notes that its own is expanded.
+const DRAGGER: Dragger = Dragger { port: TAIL_3 };
+
+/// Caller 1 finds its amoebot contracted, and nine cells. Caller 0 pulls it, and then caller 1 finds it expanded, and twelve cells.
+static PULLED_BETWEEN: [Steps; 14] = [
+    Steps(1, 0, 1, Doing::Claims, 0, 1, 8),
+    Steps(1, 0, 1, Doing::Looks(Look::Idle), 0, 9, 9),
+    Steps(1, 0, 1, Doing::Releases, 0, 9, 1),
+    Steps(1, 1, 1, Doing::Claims, 0, 0, 0),
+    Steps(0, 0, 0, Doing::Claims, 1, 1, 11),
+    Steps(0, 0, 0, Doing::Takes, 1, 12, 12),
+    Steps(0, 0, 0, Doing::Commits, 1, 12, 12),
+    Steps(0, 0, 0, Doing::Releases, 2, 12, 1),
+    Steps(0, 1, 0, Doing::Claims, 2, 0, 0),
+    Steps(1, 1, 1, Doing::Claims, 3, 1, 11),
+    Steps(1, 1, 1, Doing::Takes, 3, 12, 12),
+    Steps(1, 1, 1, Doing::Commits, 3, 12, 12),
+    Steps(1, 1, 1, Doing::Releases, 4, 12, 1),
+    Steps(1, 2, 1, Doing::Ended, 4, 0, 0),
+];
+
+/// Amoebot 0 with its head at (3, 3) and its tail at (2, 3), which pulls amoebot 1.
+fn dragging_0() -> Bot
+    ensures { IsPlain result }
+{
+    spread((3, 3), (2, 3), 0)
+}
+
+/// Amoebot 1 once it is pulled, with its value of variable 0.
+fn dragged_1(value: u8) -> Bot {
+    spread((2, 3), (1, 3), value)
+}
+
+/// The zone of amoebot 1 contracted at (1, 3).
+fn zone_before_pull_1() -> [(CellName, Cell); 9] {
+    [
+        body(1, standing(1, 3, 0)),
+        spot(1, 3, Some(1)),
+        spot(2, 3, Some(0)),
+        spot(1, 4, None),
+        spot(0, 4, None),
+        spot(0, 3, None),
+        spot(1, 2, None),
+        spot(2, 2, None),
+        body(0, dragging_0()),
+    ]
+}
+
+/// The cells that amoebot 0 is shown with its head at (3, 3) and its tail at (2, 3): its own nodes, those behind the ports of its head, of
+/// which that in direction 3 is none, those behind the ports of its tail that are new, and amoebot 1. The pull changes the value of three
+/// of them: both bodies, and who is on (2, 3).
+fn zone_of_pull_0(own: Bot, on_tail: u16, other: Bot) -> [(CellName, Cell); 12] {
+    [
+        body(0, own),
+        spot(3, 3, Some(0)),
+        spot(2, 3, Some(on_tail)),
+        spot(4, 3, None),
+        spot(3, 4, None),
+        spot(2, 4, None),
+        spot(3, 2, None),
+        spot(4, 2, None),
+        spot(1, 4, None),
+        spot(1, 3, Some(1)),
+        spot(2, 2, None),
+        body(1, other),
+    ]
+}
+
+/// The zone of amoebot 1 with its head at (2, 3) and its tail at (1, 3), in the same way, with its value of variable 0.
+fn zone_after_pull_1(value: u8) -> [(CellName, Cell); 12] {
+    [
+        body(1, dragged_1(value)),
+        spot(2, 3, Some(1)),
+        spot(1, 3, Some(1)),
+        spot(3, 3, Some(0)),
+        spot(2, 4, None),
+        spot(1, 4, None),
+        spot(2, 2, None),
+        spot(3, 2, None),
+        spot(0, 4, None),
+        spot(0, 3, None),
+        spot(1, 2, None),
+        body(0, standing(3, 3, 0)),
+    ]
+}
+
+#[test]
+fn a_turn_finds_the_zone_of_an_amoebot_that_another_caller_pulled(
+    rt: HostRuntime,
+) -> Result<(), Fail> {
+    let report = run(
+        &rt,
+        rt.alloc(),
+        &DRAGGER,
+        &[dragging_0(), standing(1, 3, 0)],
+        (2, &[&[0], &[1]]),
+        &[
+            &zone_before_pull_1(),
+            &zone_of_pull_0(dragging_0(), 0, standing(1, 3, 0)),
+            &zone_of_pull_0(standing(3, 3, 0), 1, dragged_1(0)),
+            &zone_after_pull_1(0),
+            &zone_after_pull_1(1),
+        ],
+        &PULLED_BETWEEN,
+    )?;
+    let pulled = [
+        spot(2, 3, Some(1)),
+        body(0, standing(3, 3, 0)),
+        body(1, dragged_1(0)),
+    ];
+    let noted = [body(1, dragged_1(1))];
+    let note = Told {
+        action: 1,
+        ..entry_of(1, 1, 1, Moved::None, &noted)
+    };
+    see_report(
+        &rt,
+        &report,
+        &[entry_of(0, 0, 0, Moved::Pull(TAIL_3), &pulled), note],
+        &[
+            &[Mark::Done { place: 0 }, Mark::Idle { place: 2 }],
+            &[Mark::Idle { place: 0 }, Mark::Done { place: 1 }],
+        ],
+        &[standing(3, 3, 0), dragged_1(1)],
     );
     Ok(())
 }

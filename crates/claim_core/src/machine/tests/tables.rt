@@ -198,11 +198,12 @@ pub struct Told<'a> {
     pub caller: u8,
     pub turn: u32,
     pub bot: u16,
+    pub action: u8,
     pub moved: Moved,
     pub pairs: &'a [(CellName, Cell)],
 }
 
-/// An entry of a turn of a caller on an amoebot.
+/// An entry of action 0, of a turn of a caller on an amoebot.
 pub fn entry_of<'a>(
     caller: u8,
     turn: u32,
@@ -214,6 +215,7 @@ pub fn entry_of<'a>(
         caller,
         turn,
         bot,
+        action: 0,
         moved,
         pairs,
     }
@@ -250,7 +252,7 @@ pub fn run<D: Decider>(
     Ok(core.report())
 }
 
-/// That the report has these entries, of action 0, these marks of each caller, and a last world of these amoebots.
+/// That the report has these entries, these marks of each caller, and a last world of these amoebots.
 pub fn see_report(
     rt: &impl Abort,
     report: &Report,
@@ -279,7 +281,7 @@ fn is_entry(entry: &Entry, told: &Told<'_>) -> bool {
     entry.caller == told.caller
         && entry.turn == told.turn
         && entry.bot == told.bot
-        && entry.action == 0
+        && entry.action == told.action
         && entry.moved == told.moved
         && entry.patch.pairs() == told.pairs
 }

@@ -1,5 +1,5 @@
--- The decider of that program makes its changes by acts, so it keeps the laws of deciders. These are terms, since a decider gives its laws
--- as ghost items.
+-- The decider of the program of Dragging makes its changes by acts, so it keeps the laws of deciders. These are terms, since a decider gives
+-- its laws as ghost items. Support of tests, as Dragging is.
 use Rattle.std.specs.Prelude.{◌≡◌, ◌∷◌, [], pos, Bool, true, false, if◌then◌else◌}
 use Rattle.std.specs.declared.option.Option.TheVariants.{None}
 use Rattle.std.specs.declared.result.Result.{Result}
@@ -19,7 +19,7 @@ use Rattle.model_ops.specs.Reaches.{Acts}
 use Rattle.model_ops.specs.Deciders.{DecidesByActs}
 use Rattle.model_ops.proofs.ActsDecide.{acts_keep_decider_laws}
 use Rattle.model_ops.proofs.Decided.{MadeByActs, made}
-use Rattle.claim_core_tests.specs.Dragging.{drag, note, by_peer, by_link, dragging_shown}
+use Rattle.claim_core.specs.Dragging.{drag, note, by_peer, by_link, dragging_shown}
 
 -- the Pull alone, and the write alone
 abbrev pub pulling : Port → Acts
