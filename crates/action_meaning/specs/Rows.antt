@@ -1,6 +1,6 @@
 -- Expressions and programs on one small configuration, each with its value or its failure, written out by hand.
 use Rattle.std.specs.Prelude.{ℕ, ℤ, pos, negsuc, Bool, true, false, List, [], ◌∷◌, codes}
-use Rattle.std.specs.declared.option.Option.TheVariants.{Some}
+use Rattle.std.specs.declared.option.Option.TheVariants.{Some, None}
 use Rattle.std.specs.declared.result.Result.{Result}
 use Rattle.std.specs.declared.result.Result.TheVariants.{Ok, Err}
 use Rattle.tri_lattice.specs.declared.node.Node.{Node}
@@ -339,4 +339,17 @@ verdict_rows =
     ∷ decided 0 (act yes [] (tree.through tree.pull (tree.at_end Head (tree.held y))) ∷ []) (verdict.Failed NoPort)
     ∷ decided 0 (act yes [] (tree.through tree.expand (head 0)) ∷ []) (verdict.Failed Occupied)
     ∷ decided 0 (act yes (set_x 1 ∷ []) (tree.contract Tail) ∷ []) (verdict.Failed NotExpanded)
+    -- a push, and a contraction that leaves the head
+    ∷ decided 0 (act yes [] (tree.through tree.push (head 0)) ∷ [])
+    (verdict.Change (record {
+      action = 0;
+      moved = moved.Push (port Head 0);
+      patch = (name.Spot (node 4 3), cell.Spot (Some 0)) ∷ patched 0 (body (node 4 3) (node 3 3) 0 chir.Plus 4 6) ∷ patched 1 (body (node 5 3) (node 5 3) 0 chir.Plus 2 0) ∷ [];
+    }))
+    ∷ decided 3 (act yes [] (tree.contract Head) ∷ [])
+    (verdict.Change (record {
+      action = 0;
+      moved = moved.Contract Head;
+      patch = (name.Spot (node 1 1), cell.Spot None) ∷ patched 3 (body (node 0 1) (node 0 1) 1 chir.Plus 0 0) ∷ [];
+    }))
     ∷ []
