@@ -20,7 +20,7 @@ use Rattle.claim_core.specs.declared.state.Caller.{Caller}
 use Rattle.claim_core.specs.Machine.{caller, after}
 use Rattle.claim_core.specs.Soundness.{IsSetup}
 use Rattle.claim_core.specs.Reached.{HaveEnded, IsReportOf, Reached}
-use Rattle.claim_core.specs.Samples.{zeros, node, bot_on, to_the_right, two_beside, interleaving, one_refused, SmallInterleaving}
+use Rattle.claim_core_tests.specs.Samples.{zeros, node, bot_on, to_the_right, two_beside, interleaving, one_refused, SmallInterleaving}
 use Rattle.claim_core.proofs.Ends.{reached_is_good}
 
 abbrev row : Extent

@@ -1,5 +1,5 @@
 use Rattle.std.proofs.Common.{◌≡◌, length}
-use Rattle.claim_core.proofs.machine.tests.tables.Stands.follow.Given as goal
+use Rattle.claim_core_tests.proofs.tables.Stands.follow.Given as goal
 
 abbrev pub invariant-loop-step : goal.invariant-loop-step
 invariant-loop-step g l = length l.core.state.callers ≡ l.callers

@@ -1,13 +1,10 @@
-ghost use Rattle.std.specs.Prelude.{◌≡◌, ◌≤◌, length};
+ghost use Rattle.std.specs.Prelude.{◌≡◌, ◌<◌, ◌≤◌, length};
 ghost use Rattle.std.specs.List.{All};
 ghost use Rattle.amoebot_state.specs.Refusals.{IsPlain};
 
-use super::fixtures::{core_of, lists_of, world_of};
-use crate::machine::{Core, Seat};
-use crate::marks::{Mark, Marks};
-use crate::report::Report;
-use crate::state::{Look, Phase};
+use crate::fixtures::{core_of, lists_of, the_area, world_of};
 use amoebot_state::{Bot, Cell, CellName, Decider, Entry, Moved, World};
+use claim_core::{Core, Look, Mark, Marks, Phase, Report};
 use std::alloc::Global;
 use std::process::Abort;
 use std::test::Fail;
@@ -96,25 +93,30 @@ impl<'a> Stands<'a> {
                     held: usize::from(held_after(from, to, step)),
                 };
                 assert!(rt;
-                    self.are_of(core),
+                    self.are_of(core, callers),
                     "caller {caller} turn {turn} step {step}"
                 );
             }
         }
     }
 
-    /// Whether the core stands so: turns, phases, held cells with what was recorded, the journal's holder, and the tag of each cell.
-    fn are_of<D: Decider>(&self, core: &Core<'_, D>) -> bool {
-        for (caller, stand) in self.stands.iter().enumerate() {
-            if let Some(seat) = core.seats.get(caller) {
-                let holds = core.holder == Some(caller as u8);
-                if holds != (stand.doing == Doing::Commits) || !stand.is_of(seat) {
+    /// Whether the core of so many callers stands so: turns, phases, held cells with what was recorded, the journal's holder, and the tag
+    /// of each cell.
+    fn are_of<D: Decider>(&self, core: &Core<'_, D>, callers: u8) -> bool
+        requires { length core.now.state.callers ≡ callers }
+    {
+        for caller in 0..callers {
+            if let Some(stand) = self.stands.get(usize::from(caller)) {
+                let holds = core.holder() == Some(caller);
+                if holds != (stand.doing == Doing::Commits) || !stand.is_of(core, caller) {
                     return false;
                 }
             }
         }
-        let area = core.world.area();
-        for (number, tag) in core.tags.iter().enumerate() {
+        let Some(area) = the_area() else {
+            return false;
+        };
+        for (number, tag) in core.tags().iter().enumerate() {
             if *tag != self.tag_of(cell_at(&area, number)) {
                 return false;
             }
@@ -136,14 +138,17 @@ impl<'a> Stands<'a> {
 
 impl Stand<'_> {
     /// Whether the caller stands so.
-    fn is_of(&self, seat: &Seat) -> bool {
-        if seat.turn != self.turn || doing_of(&seat.phase) != self.doing {
+    fn is_of<D: Decider>(&self, core: &Core<'_, D>, caller: u8) -> bool
+        requires { caller < length core.now.state.callers }
+    {
+        if core.turn(caller) != self.turn || doing_of(core.phase(caller)) != self.doing {
             return false;
         }
-        if seat.held.len() != self.held || self.held > self.cells.len() {
+        let held = core.held(caller);
+        if held.len() != self.held || self.held > self.cells.len() {
             return false;
         }
-        for (pair, cell) in seat.held.as_slice().iter().zip(self.cells) {
+        for (pair, cell) in held.iter().zip(self.cells) {
             if pair != cell {
                 return false;
             }
@@ -245,7 +250,7 @@ pub fn run<D: Decider>(
     } else {
         Doing::Claims
     });
-    assert!(rt; stands.are_of(&core));
+    assert!(rt; stands.are_of(&core, callers));
     stands.follow(rt, &mut core, callers, zones, table);
     core.finish();
     assert!(rt; core.ended());

@@ -19,7 +19,7 @@ use Rattle.model_ops.specs.Reaches.{Acts}
 use Rattle.model_ops.specs.Deciders.{DecidesByActs}
 use Rattle.model_ops.proofs.ActsDecide.{acts_keep_decider_laws}
 use Rattle.model_ops.proofs.Decided.{MadeByActs, made}
-use Rattle.claim_core.specs.Dragging.{drag, note, by_peer, by_link, dragging_shown}
+use Rattle.claim_core_tests.specs.Dragging.{drag, note, by_peer, by_link, dragging_shown}
 
 -- the Pull alone, and the write alone
 abbrev pub pulling : Port → Acts

@@ -1,5 +1,5 @@
-use crate::{Journal, Lists, Mark, Marks};
 use amoebot_state::World;
+use claim_core::{Journal, Lists, Mark, Marks};
 use std::process::Abort;
 use std::test::Fail;
 use tri_lattice::Area;

@@ -1,10 +1,9 @@
 ghost use Rattle.amoebot_state.specs.Refusals.{IsPlain};
 
-use super::fixtures::{Dragger, Expander, Marker, body, node, spot, spread, standing};
-use super::tables::{Doing, Steps, Told, entry_of, run, see_report};
-use crate::marks::Mark;
-use crate::state::Look;
+use crate::fixtures::{Dragger, Expander, Marker, body, node, spot, spread, standing};
+use crate::tables::{Doing, Steps, Told, entry_of, run, see_report};
 use amoebot_state::{Bot, Cell, CellName, End, Failure, Moved, Port};
+use claim_core::{Look, Mark};
 use std::test::Fail;
 use tri_lattice::Node;
 
