@@ -1,4 +1,5 @@
--- The trees of values that code builds.
+-- The tree of a value, by its variant and its parts: of one that code matches on or builds. A clause of a function computes so by itself; a proof
+-- by hand cites these.
 use Rattle.std.proofs.Common.{◌≡◌, Vec, Box, ap, sym, ◌∙◌}
 use Rattle.std.specs.declared.alloc.Global.{Global}
 use Rattle.amoebot_state.specs.declared.bot.End.{End}
@@ -12,18 +13,20 @@ use Rattle.action_tree.specs.declared.expression.Guard.TheVariants as guard
 use Rattle.action_tree.specs.declared.expression.PortExpr.{PortExpr}
 use Rattle.action_tree.specs.declared.expression.PortExpr.TheVariants as port
 use Rattle.action_tree.specs.declared.expression.Term.TheVariants as term
-use Rattle.std.specs.Prelude.{map}
-use Rattle.action_tree.specs.declared.expression.Sum.{Sum, roll-Sum}
+use Rattle.action_tree.specs.declared.expression.Sum.{Sum, roll-Sum, out-Sum}
 use Rattle.action_tree.specs.declared.expression.Part.{Part, roll-Part}
 use Rattle.action_tree.specs.declared.expression.Term.{Term}
 use Rattle.action_tree.specs.declared.expression.Guard.TheOpen.{Guard-F, PortExpr-F, Term-F, Part-F, Sum-F}
-use Rattle.action_tree.specs.declared.expression.Guard.TheFolds.{fold-roll-Guard, fold-roll-PortExpr, fold-roll-Term, fold-roll-Part, fold-roll-Sum}
+use Rattle.action_tree.specs.declared.expression.Guard.TheFolds.{fold-roll-Guard, fold-roll-PortExpr, fold-roll-Term, fold-roll-Part, fold-roll-Sum, fold_out-Part, fold_out-Sum}
 use Rattle.action_tree.specs.declared.statement.Stmt.{Stmt}
 use Rattle.action_tree.specs.declared.statement.Stmt.TheVariants as stmt
 use Rattle.action_tree.specs.declared.statement.Stmt.TheOpen.{Stmt-F}
 use Rattle.action_tree.specs.declared.statement.Stmt.TheFolds.{fold-roll-Stmt}
 use Rattle.action_tree.specs.Trees as tree
-use Rattle.action_tree.specs.Views.{guard_step, port_step, term_step, part_step, sum_step, stmt_step, name_of, literal_of, dirterm_of, guard_of, guards_of, sum_of, part_of, term_of, port_of, stmt_of, stmts_of}
+use Rattle.action_tree.specs.Views.{guard_step, port_step, term_step, part_step, sum_step, stmt_step, name_of, literal_of, dirterm_of, guard_of, guards_of, sum_of, part_of, term_of, port_of, terms_of, stmt_of, stmts_of}
+
+pub guard_contracted : guard_of guard.Contracted ≡ tree.atom tree.contracted
+guard_contracted = ap guard_of (sym guard.rolls-Contracted) ∙ fold-roll-Guard tree.Guard tree.PortExpr tree.Term tree.Part tree.Sum guard_step port_step term_step part_step sum_step Guard-F.Contracted
 
 pub guard_not : (b : Box Guard Global) → guard_of (guard.Not b) ≡ tree.negation (guard_of b.value)
 guard_not b = ap guard_of (sym (guard.rolls-Not b)) ∙ fold-roll-Guard tree.Guard tree.PortExpr tree.Term tree.Part tree.Sum guard_step port_step term_step part_step sum_step (Guard-F.Not b)
@@ -33,6 +36,27 @@ guard_and v = ap guard_of (sym (guard.rolls-And v)) ∙ fold-roll-Guard tree.Gua
 
 pub guard_or : (v : Vec Guard Global) → guard_of (guard.Or v) ≡ tree.disjunction (guards_of v.items)
 guard_or v = ap guard_of (sym (guard.rolls-Or v)) ∙ fold-roll-Guard tree.Guard tree.PortExpr tree.Term tree.Part tree.Sum guard_step port_step term_step part_step sum_step (Guard-F.Or v)
+
+pub guard_any : (w : Word) (s : PortSet) (b : Box Guard Global) → guard_of (guard.Any w s b) ≡ tree.quantified tree.any (name_of w) s (guard_of b.value)
+guard_any w s b = ap guard_of (sym (guard.rolls-Any w s b)) ∙ fold-roll-Guard tree.Guard tree.PortExpr tree.Term tree.Part tree.Sum guard_step port_step term_step part_step sum_step (Guard-F.Any w s b)
+
+pub guard_all : (w : Word) (s : PortSet) (b : Box Guard Global) → guard_of (guard.All w s b) ≡ tree.quantified tree.all (name_of w) s (guard_of b.value)
+guard_all w s b = ap guard_of (sym (guard.rolls-All w s b)) ∙ fold-roll-Guard tree.Guard tree.PortExpr tree.Term tree.Part tree.Sum guard_step port_step term_step part_step sum_step (Guard-F.All w s b)
+
+pub guard_linked : (p : PortExpr) → guard_of (guard.Linked p) ≡ tree.tested tree.linked (port_of p)
+guard_linked p = ap guard_of (sym (guard.rolls-Linked p)) ∙ fold-roll-Guard tree.Guard tree.PortExpr tree.Term tree.Part tree.Sum guard_step port_step term_step part_step sum_step (Guard-F.Linked p)
+
+pub guard_free : (p : PortExpr) → guard_of (guard.Free p) ≡ tree.tested tree.free (port_of p)
+guard_free p = ap guard_of (sym (guard.rolls-Free p)) ∙ fold-roll-Guard tree.Guard tree.PortExpr tree.Term tree.Part tree.Sum guard_step port_step term_step part_step sum_step (Guard-F.Free p)
+
+pub guard_at_head : (p : PortExpr) → guard_of (guard.AtHead p) ≡ tree.tested tree.at_head (port_of p)
+guard_at_head p = ap guard_of (sym (guard.rolls-AtHead p)) ∙ fold-roll-Guard tree.Guard tree.PortExpr tree.Term tree.Part tree.Sum guard_step port_step term_step part_step sum_step (Guard-F.AtHead p)
+
+pub guard_peer_expanded : (p : PortExpr) → guard_of (guard.PeerExpanded p) ≡ tree.tested tree.peer_expanded (port_of p)
+guard_peer_expanded p = ap guard_of (sym (guard.rolls-PeerExpanded p)) ∙ fold-roll-Guard tree.Guard tree.PortExpr tree.Term tree.Part tree.Sum guard_step port_step term_step part_step sum_step (Guard-F.PeerExpanded p)
+
+pub guard_peer_head : (p : PortExpr) → guard_of (guard.PeerHead p) ≡ tree.tested tree.peer_head (port_of p)
+guard_peer_head p = ap guard_of (sym (guard.rolls-PeerHead p)) ∙ fold-roll-Guard tree.Guard tree.PortExpr tree.Term tree.Part tree.Sum guard_step port_step term_step part_step sum_step (Guard-F.PeerHead p)
 
 pub guard_compare : (a : Sum) (c : Cmp) (b : Sum) → guard_of (guard.Compare a c b) ≡ tree.comparison (sum_of a) c (sum_of b)
 guard_compare a c b = ap guard_of (sym (guard.rolls-Compare a c b)) ∙ fold-roll-Guard tree.Guard tree.PortExpr tree.Term tree.Part tree.Sum guard_step port_step term_step part_step sum_step (Guard-F.Compare a c b)
@@ -67,11 +91,17 @@ port_turn b n = ap port_of (sym (port.rolls-Turn b n)) ∙ fold-roll-PortExpr tr
 pub port_first : (w : Word) (s : PortSet) (b : Box Guard Global) → port_of (port.First w s b) ≡ tree.first (name_of w) s (guard_of b.value)
 port_first w s b = ap port_of (sym (port.rolls-First w s b)) ∙ fold-roll-PortExpr tree.Guard tree.PortExpr tree.Term tree.Part tree.Sum guard_step port_step term_step part_step sum_step (PortExpr-F.First w s b)
 
-pub part_is : (p : Part-F Guard PortExpr Term Part Sum) → part_of (roll-Part p) ≡ record { minus = p.minus; term = term_of p.term }
-part_is p = fold-roll-Part tree.Guard tree.PortExpr tree.Term tree.Part tree.Sum guard_step port_step term_step part_step sum_step p
+pub part_built : (p : Part-F Guard PortExpr Term Part Sum) → part_of (roll-Part p) ≡ record { minus = p.minus; term = term_of p.term }
+part_built p = fold-roll-Part tree.Guard tree.PortExpr tree.Term tree.Part tree.Sum guard_step port_step term_step part_step sum_step p
 
-pub sum_is : (s : Sum-F Guard PortExpr Term Part Sum) → sum_of (roll-Sum s) ≡ tree.terms (map part_of s.parts.items)
-sum_is s = fold-roll-Sum tree.Guard tree.PortExpr tree.Term tree.Part tree.Sum guard_step port_step term_step part_step sum_step s
+pub sum_built : (s : Sum-F Guard PortExpr Term Part Sum) → sum_of (roll-Sum s) ≡ terms_of s.parts.items
+sum_built s = fold-roll-Sum tree.Guard tree.PortExpr tree.Term tree.Part tree.Sum guard_step port_step term_step part_step sum_step s
+
+pub part_opened : (p : Part) → part_of p ≡ record { minus = p.minus; term = term_of p.term }
+part_opened = fold_out-Part tree.Guard tree.PortExpr tree.Term tree.Part tree.Sum guard_step port_step term_step part_step sum_step
+
+pub sum_opened : (s : Sum) → sum_of s ≡ terms_of (out-Sum s).parts.items
+sum_opened = fold_out-Sum tree.Guard tree.PortExpr tree.Term tree.Part tree.Sum guard_step port_step term_step part_step sum_step
 
 -- ---- statements
 

@@ -1,6 +1,6 @@
-use crate::parse_program;
 use crate::samples::*;
 use crate::walk::written;
+use action_parser::parse_program;
 use std::alloc::{AllocError, Global};
 use std::process::Abort;
 use std::test::Fail;
