@@ -5,7 +5,7 @@ ghost use Rattle.text_tokens.specs.Lines.{spaced};
 ghost use Rattle.action_tree.specs.Views.{move_of, stmt_of, stmts_of};
 ghost use Rattle.action_print.specs.Canon.{else_words, move_words, stmt_words, stmts_words};
 
-use crate::expression::{put_selection, put_guard, put_port, put_sum};
+use crate::expression::{put_guard, put_port, put_selection, put_sum};
 use crate::token::{end_word, put_between, put_name};
 use action_tree::{Move, Stmt};
 use std::alloc::AllocError;
