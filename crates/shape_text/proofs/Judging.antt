@@ -1,7 +1,7 @@
 -- The first rule that the amoebots of a shape break is the one for which a world refuses them.
-use Rattle.std.proofs.Common.{◌≡◌, ℕ, zero, suc, ◌<◌, ◌+◌, Bool, true, false, List, [], ◌∷◌, ◌++◌, length, take, map, slice_get, Option, Some, None, refl, sym, ap, subst, ◌∙◌, arith, append_assoc}
+use Rattle.std.proofs.Common.{◌≡◌, ℕ, zero, suc, ◌<◌, Bool, true, false, List, [], ◌∷◌, ◌++◌, length, take, map, slice_get, Option, Some, None, refl, sym, ap, subst, ◌∙◌, arith, append_assoc}
 use Rattle.std.specs.Prelude.{not, ◌&&◌, ◌||◌, is_some, if◌then◌else◌}
-use Rattle.std.specs.Option.{option_map, option_and_then}
+use Rattle.std.specs.Option.{option_map}
 use Rattle.std.specs.List.{All}
 use Rattle.std.proofs.lemmas.List.{append-nil, length-map, length-take-le}
 use Rattle.std.proofs.lemmas.List.Elements.{All-map}
@@ -9,7 +9,6 @@ use Rattle.std.proofs.lemmas.Option.{slice_get_within, slice_get-map}
 use Rattle.text_tokens.specs.declared.refusal.Refusal.{Refusal}
 use Rattle.text_tokens.specs.declared.refusal.RefusalKind.{RefusalKind}
 use Rattle.text_tokens.specs.declared.refusal.RefusalKind.TheVariants as kind
-use Rattle.text_tokens.specs.Grammar.{or_else}
 use Rattle.tri_lattice.specs.Extent.{Extent, is_in}
 use Rattle.amoebot_state.specs.declared.bot.Bot.{Bot}
 use Rattle.amoebot_state.specs.declared.refusal.WorldRefusal.{WorldRefusal}
