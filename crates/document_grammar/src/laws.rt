@@ -1,0 +1,24 @@
+//! What holds of the frame, whatever its sections are. The functions do nothing: their clauses are the laws.
+
+ghost use Rattle.std.specs.Prelude.{List};
+ghost use Rattle.text_tokens.specs.Reading.{Reader};
+ghost use Rattle.text_tokens.specs.Grammar.{Symbol};
+ghost use Rattle.document_grammar.specs.declared.section.Section.{Section as SectionValue};
+ghost use Rattle.document_grammar.specs.FrameLaws.{FrameLaw, PlainLaw, FormsAreDistinct};
+
+/// The sections of a document, each in the state that those before it gave, with what it makes of the state.
+pub trait Sectioned {
+    ghost is: { SectionValue → Self → List Symbol → Self → Type 0 };
+
+    ghost reads: { SectionValue → Self → Reader Self };
+}
+
+/// Of any tokens the frame says one thing for each form: they are a document, or have one first fault, and its reader answers that.
+pub fn in_frame<S: Sectioned>()
+    ensures { FrameLaw S.is S.reads }
+{}
+/// The documents of a form are those of the form as it is written down, one section behind the other.
+pub fn forms_are_plain<S: Sectioned>()
+    ensures texts { PlainLaw S.is }
+    ensures forms { FormsAreDistinct }
+{}

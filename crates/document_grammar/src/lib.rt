@@ -1,0 +1,8 @@
+//! The frame of documents: a header, and then sections in the order of a form.
+#![tactic(auto)]
+
+mod laws;
+mod section;
+
+pub use laws::{Sectioned, forms_are_plain, in_frame};
+pub use section::{Form, Section};
