@@ -1,3 +1,5 @@
 pub mod Framing
 pub mod Plainness
 pub mod Continuing
+pub mod Sectioning
+pub mod Deciding

@@ -1,3 +1,5 @@
 pub mod Frame
 pub mod FrameReaders
 pub mod FrameLaws
+pub mod Documents
+pub mod DocumentReaders

@@ -4,6 +4,7 @@ ghost use Rattle.std.specs.Prelude.{List};
 ghost use Rattle.text_tokens.specs.Reading.{Reader};
 ghost use Rattle.text_tokens.specs.Grammar.{Symbol};
 ghost use Rattle.document_grammar.specs.declared.section.Section.{Section as SectionValue};
+ghost use Rattle.document_grammar.specs.Documents.{DocumentsAreDecided};
 ghost use Rattle.document_grammar.specs.FrameLaws.{FrameLaw, PlainLaw, FormsAreDistinct};
 
 /// The sections of a document, each in the state that those before it gave, with what it makes of the state.
@@ -21,4 +22,9 @@ pub fn in_frame<S: Sectioned>()
 pub fn forms_are_plain<S: Sectioned>()
     ensures texts { PlainLaw S.is }
     ensures forms { FormsAreDistinct }
+{}
+
+/// A text is a document of a form in one way, or has one first fault, and never both.
+pub fn documents_are_decided()
+    ensures { DocumentsAreDecided }
 {}

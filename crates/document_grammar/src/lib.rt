@@ -4,5 +4,5 @@
 mod laws;
 mod section;
 
-pub use laws::{Sectioned, forms_are_plain, in_frame};
+pub use laws::{Sectioned, documents_are_decided, forms_are_plain, in_frame};
 pub use section::{Form, Section};
