@@ -66,6 +66,12 @@ never_comes ends = refl
 never_comes (needs k c) = rw (no_word k) refl
 never_comes (may k c d) = rw (no_word k) (never_comes d)
 
+-- ---- the header
+
+pub part_header : IsPart IsHeader header always
+unfolding header
+part_header = part_behind (IsThe is_head) (the_line is_head) (λ line. IsNumeral other_version) (λ line. numeral other_version) always (a_token Word (codes "amoebot") refl) (λ line. a_numeral other_version)
+
 module _ {S : Type 0} (Body : Section → S → Lang S) (body : Section → S → Reader S) (are : AreSections Body body) where
   -- ---- texts
 
@@ -244,10 +250,6 @@ module _ {S : Type 0} (Body : Section → S → Lang S) (body : Section → S �
   law_rest c s = law_place c (λ next. found c next) s
 
   -- ---- the document
-
-  part_header : IsPart IsHeader header always
-  unfolding header
-  part_header = part_behind (IsThe is_head) (the_line is_head) (λ line. IsNumeral other_version) (λ line. numeral other_version) always (a_token Word (codes "amoebot") refl) (λ line. a_numeral other_version)
 
   pub law_frame : (c : Course) (s : S) → Lawful (IsInFrame Body c s) (in_frame body c s)
   unfolding in_frame

@@ -27,16 +27,16 @@ use Rattle.action_grammar.specs.ProgramReaders.{a_program}
 use Rattle.action_grammar.proofs.ProgramLaws.{part_program}
 use Rattle.action_check.specs.Faults.{faults}
 use Rattle.journal_text.specs.Parts.{IsWord}
-use Rattle.journal_text.proofs.PartLaws.{part_word}
 use Rattle.journal_text.proofs.JournalLaws.{part_journal}
 use Rattle.journal_text.proofs.TurnLaws.{part_the_turns}
-use Rattle.shape_text.proofs.ShapeLaws.{part_shape_under, starts_shape_under}
-use Rattle.shape_text.proofs.ListLaws.{part_lists, starts_lists, part_schedule, starts_schedule}
+use Rattle.shape_text.proofs.ShapeLaws.{part_shape, part_final, starts_shape, starts_final}
+use Rattle.schedule_text.proofs.ListLaws.{part_lists, starts_lists}
+use Rattle.schedule_text.proofs.ScheduleLaws.{part_schedule, starts_schedule}
 use Rattle.document_grammar.specs.declared.section.Section.{Section}
 use Rattle.document_grammar.specs.declared.section.Section.TheVariants.{Program, Shape, Lists, Schedule, Journal, Final, Turns}
 use Rattle.document_grammar.specs.Frame.{is_word}
 use Rattle.document_grammar.specs.FrameLaws.{AreSections}
-use Rattle.document_grammar.specs.Documents.{Contents, vars_of, actions_of, maxes_in, bots_of, callers_of, first_of, IsCheckedProgram, Body}
+use Rattle.document_grammar.specs.Documents.{Contents, vars_of, actions_of, maxes_in, bots_of, callers_of, first_in, IsCheckedProgram, Body}
 use Rattle.document_grammar.specs.DocumentReaders.{a_checked_program, body}
 
 -- ---- the word of a program
@@ -111,7 +111,7 @@ starts_program = starts_so (is_a ProgramWord) (is_word Program) program_word (st
 -- ---- the sections
 
 abbrev wrong : tree.Program → Option Refusal
-wrong p = first_of (faults p)
+wrong p = first_in (faults p)
 
 part_checked : IsPart IsCheckedProgram a_checked_program always
 unfolding a_checked_program
@@ -123,20 +123,20 @@ starts_checked = starts_judged IsProgram wrong (is_word Program) no_limit starts
 part_of : (k : Section) (s : Contents) → IsPart (Body k s) (body k s) always
 unfolding body
 part_of Program s = part_made IsCheckedProgram (λ p. record s { checked = Some p }) a_checked_program always part_checked
-part_of Shape s = part_made _ (λ c. record s { world = Some c }) _ always (part_shape_under (vars_of s.checked) (codes "shape") (part_word (codes "shape") refl) (maxes_in s.checked))
+part_of Shape s = part_made _ (λ c. record s { world = Some c }) _ always (part_shape (vars_of s.checked) (maxes_in s.checked))
 part_of Lists s = part_made _ (λ l. record s { lists = Some l }) _ always (part_lists (bots_of s.world))
 part_of Schedule s = part_made _ (λ steps. record s { schedule = Some steps }) _ always (part_schedule (callers_of s.lists))
 part_of Journal s = part_made _ (λ es. record s { entries = Some es }) _ always (part_journal (bots_of s.world) (actions_of s.checked) (vars_of s.checked))
-part_of Final s = part_made _ (λ c. record s { final_world = Some c }) _ always (part_shape_under (vars_of s.checked) (codes "final") (part_word (codes "final") refl) (maxes_in s.checked))
+part_of Final s = part_made _ (λ c. record s { final_world = Some c }) _ always (part_final (vars_of s.checked) (maxes_in s.checked))
 part_of Turns s = part_made _ (λ u. s) _ always part_the_turns
 
 start_of : (k : Section) (s : Contents) → Starts (Body k s) (is_word k) no_limit
 start_of Program s = starts_made IsCheckedProgram (λ p. record s { checked = Some p }) (is_word Program) no_limit starts_checked
-start_of Shape s = starts_made _ (λ c. record s { world = Some c }) (is_word Shape) no_limit (starts_shape_under (vars_of s.checked) (codes "shape") (maxes_in s.checked))
+start_of Shape s = starts_made _ (λ c. record s { world = Some c }) (is_word Shape) no_limit (starts_shape (vars_of s.checked) (maxes_in s.checked))
 start_of Lists s = starts_made _ (λ l. record s { lists = Some l }) (is_word Lists) no_limit (starts_lists (bots_of s.world))
 start_of Schedule s = starts_made _ (λ steps. record s { schedule = Some steps }) (is_word Schedule) no_limit (starts_schedule (callers_of s.lists))
 start_of Journal s = starts_made _ (λ es. record s { entries = Some es }) (is_word Journal) no_limit (starts_behind (IsWord (codes "journal")) _ _ (is_word Journal) (starts_the (is_word Journal)) (part_journal (bots_of s.world) (actions_of s.checked) (vars_of s.checked)))
-start_of Final s = starts_made _ (λ c. record s { final_world = Some c }) (is_word Final) no_limit (starts_shape_under (vars_of s.checked) (codes "final") (maxes_in s.checked))
+start_of Final s = starts_made _ (λ c. record s { final_world = Some c }) (is_word Final) no_limit (starts_final (vars_of s.checked) (maxes_in s.checked))
 start_of Turns s = starts_made _ (λ u. s) (is_word Turns) no_limit (starts_behind (IsWord (codes "turns")) _ _ (is_word Turns) (starts_the (is_word Turns)) part_the_turns)
 
 pub are_sections : AreSections Body body

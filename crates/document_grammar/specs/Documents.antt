@@ -15,7 +15,8 @@ use Rattle.action_check.specs.Maxes.{maxes_of}
 use Rattle.journal_text.specs.Journals.{IsJournal}
 use Rattle.journal_text.specs.Turns.{IsTurns}
 use Rattle.shape_text.specs.Shapes.{IsShape, IsFinal}
-use Rattle.shape_text.specs.Lists.{IsLists, IsSchedule}
+use Rattle.schedule_text.specs.Lists.{IsLists}
+use Rattle.schedule_text.specs.Schedules.{IsSchedule}
 use Rattle.document_grammar.specs.declared.section.Section.{Section}
 use Rattle.document_grammar.specs.declared.section.Section.TheVariants.{Program, Shape, Lists, Schedule, Journal, Final, Turns}
 use Rattle.document_grammar.specs.declared.section.Form.{Form}
@@ -63,21 +64,21 @@ callers_of (Some l) = length l.ids
 -- ---- the sections
 
 -- the first, if there is one
-abbrev pub first_of : List Refusal → Option Refusal
-first_of [] = None
-first_of (r ∷ rs) = Some r
+abbrev pub first_in : List Refusal → Option Refusal
+first_in [] = None
+first_in (r ∷ rs) = Some r
 
 -- a program that keeps the rules on names and ranges
 abbrev pub IsCheckedProgram : Lang tree.Program
-IsCheckedProgram = Judged IsProgram (λ p. first_of (faults p))
+IsCheckedProgram = Judged IsProgram (λ p. first_in (faults p))
 
 abbrev pub Body : Section → Contents → Lang Contents
 Body Program s = Made IsCheckedProgram (λ p. record s { checked = Some p })
-Body Shape s = Made (IsShape (maxes_in s.checked) (vars_of s.checked)) (λ c. record s { world = Some c })
+Body Shape s = Made (IsShape (vars_of s.checked) (maxes_in s.checked)) (λ c. record s { world = Some c })
 Body Lists s = Made (IsLists (bots_of s.world)) (λ l. record s { lists = Some l })
 Body Schedule s = Made (IsSchedule (callers_of s.lists)) (λ steps. record s { schedule = Some steps })
 Body Journal s = Made (IsJournal (bots_of s.world) (actions_of s.checked) (vars_of s.checked)) (λ es. record s { entries = Some es })
-Body Final s = Made (IsFinal (maxes_in s.checked) (vars_of s.checked)) (λ c. record s { final_world = Some c })
+Body Final s = Made (IsFinal (vars_of s.checked) (maxes_in s.checked)) (λ c. record s { final_world = Some c })
 Body Turns s = Made IsTurns (λ u. s)
 
 -- ---- documents
