@@ -1,0 +1,4 @@
+pub mod Lists
+pub mod Readers
+pub mod Schedules
+pub mod Views

@@ -1,0 +1,5 @@
+pub mod Readers
+pub mod Rereading
+pub mod Shapes
+pub mod Texts
+pub mod Views
