@@ -3,3 +3,4 @@ pub mod Plainness
 pub mod Continuing
 pub mod Sectioning
 pub mod Deciding
+pub mod Replaying

@@ -3,3 +3,4 @@ pub mod FrameReaders
 pub mod FrameLaws
 pub mod Documents
 pub mod DocumentReaders
+pub mod RunTexts

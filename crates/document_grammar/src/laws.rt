@@ -5,6 +5,7 @@ ghost use Rattle.text_tokens.specs.Reading.{Reader};
 ghost use Rattle.text_tokens.specs.Grammar.{Symbol};
 ghost use Rattle.document_grammar.specs.declared.section.Section.{Section as SectionValue};
 ghost use Rattle.document_grammar.specs.Documents.{DocumentsAreDecided};
+ghost use Rattle.document_grammar.specs.RunTexts.{RunsAreReplayed};
 ghost use Rattle.document_grammar.specs.FrameLaws.{FrameLaw, PlainLaw, FormsAreDistinct};
 
 /// The sections of a document, each in the state that those before it gave, with what it makes of the state.
@@ -27,4 +28,10 @@ pub fn forms_are_plain<S: Sectioned>()
 /// A text is a document of a form in one way, or has one first fault, and never both.
 pub fn documents_are_decided()
     ensures { DocumentsAreDecided }
+{}
+
+/// A document of the form Run whose last byte is a line feed, followed by the text of a run, is one of the form Replay, with the
+/// run's entries and its last configuration.
+pub fn runs_are_replayed()
+    ensures { RunsAreReplayed }
 {}
