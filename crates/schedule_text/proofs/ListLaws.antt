@@ -6,7 +6,7 @@ use Rattle.text_tokens.specs.declared.token.TokenKind.TheVariants.{Word, Number}
 use Rattle.text_tokens.specs.declared.refusal.RefusalKind.TheVariants.{TooMany}
 use Rattle.text_tokens.specs.Text.{Lexeme}
 use Rattle.text_tokens.specs.Cursor.{same_kind}
-use Rattle.text_tokens.specs.Reading.{Reader, ◌>>=◌, pure, is_number, no_limit, too_large, closed}
+use Rattle.text_tokens.specs.Reading.{Reader, ◌>>=◌, is_number, no_limit, too_large, closed}
 use Rattle.text_tokens.specs.Grammar.{Lang, IsOne, Then, Made, Closed}
 use Rattle.text_tokens.specs.Lawful.{Exact, IsPart, always, Starts, AreElements}
 use Rattle.text_tokens.proofs.Exactness.{exact}
@@ -15,8 +15,7 @@ use Rattle.text_tokens.proofs.Beginnings.{starts_one, starts_made, starts_then}
 use Rattle.text_tokens.proofs.Repeating.{part_repeated}
 use Rattle.text_tokens.proofs.Distinguishing.{sample, passes, other_kind, other_text, a_numeral, starts_numeral}
 use Rattle.claim_core.specs.Turns.{CallerLists}
-use Rattle.journal_text.specs.Parts.{word, is_end, IsWord}
-use Rattle.journal_text.specs.Readers.{a_word}
+use Rattle.journal_text.specs.Parts.{word, is_end}
 use Rattle.journal_text.proofs.PartLaws.{behind, into, up_to_end, starts_word, part_word}
 use Rattle.schedule_text.specs.Lists.{most_turns, past_ids, IsId, one_more_id, IdsFrom, AreIds, is_list, past_lists, IsListWord, IsCallerList, one_more_list, ListsFrom, lists_of, AreTurns, IsLists}
 use Rattle.schedule_text.specs.Readers.{an_id, ids_from, all_ids, list_word, a_list, lists_from, all_lists, some_turns, the_lists}

@@ -1,5 +1,5 @@
 -- A number with a limit, from what a `Tokens` answers to what the reader does.
-use Rattle.std.proofs.Common.{◌≡◌, ℕ, List, Option, Some, None, Ok, Err, sym, ap, ◌∙◌}
+use Rattle.std.proofs.Common.{◌≡◌, ℕ, List, Option, Some, None, Ok, Err, ap, ◌∙◌}
 use Rattle.text_tokens.specs.declared.token.Token.{Token}
 use Rattle.text_tokens.specs.declared.refusal.Refusal.{Refusal}
 use Rattle.text_tokens.specs.declared.refusal.RefusalKind.{RefusalKind}

@@ -1,11 +1,11 @@
 -- The readers of schedules are parts for their grammars.
-use Rattle.std.proofs.Common.{◌≡◌, ℕ, Bool, true, false, List, refl}
+use Rattle.std.proofs.Common.{ℕ, Bool, refl}
 use Rattle.std.specs.Prelude.{codes, not}
 use Rattle.std.proofs.lemmas.Bool.{not-true}
 use Rattle.text_tokens.specs.declared.token.TokenKind.TheVariants.{Word}
 use Rattle.text_tokens.specs.Text.{Lexeme}
 use Rattle.text_tokens.specs.Reading.{Reader, ◌>>=◌, pure, is_number, no_limit, closed}
-use Rattle.text_tokens.specs.Grammar.{Lang, Then, Made, IsNumeral, IsOptional, Closed}
+use Rattle.text_tokens.specs.Grammar.{Lang, Made, IsNumeral, IsOptional, Closed}
 use Rattle.text_tokens.specs.Lawful.{Exact, IsPart, always, Starts, AreElements}
 use Rattle.text_tokens.proofs.Exactness.{exact}
 use Rattle.text_tokens.proofs.Parts.{some_text, part_less}
@@ -13,8 +13,7 @@ use Rattle.text_tokens.proofs.Beginnings.{starts_then}
 use Rattle.text_tokens.proofs.Choosing.{part_optional}
 use Rattle.text_tokens.proofs.Repeating.{part_repeated}
 use Rattle.text_tokens.proofs.Distinguishing.{other_text, a_numeral, starts_numeral}
-use Rattle.journal_text.specs.Parts.{word, is_end, IsWord}
-use Rattle.journal_text.specs.Readers.{a_word}
+use Rattle.journal_text.specs.Parts.{word, is_end}
 use Rattle.journal_text.proofs.PartLaws.{behind, into, up_to_end, starts_word, part_word, number_no_word}
 use Rattle.schedule_text.specs.Schedules.{past_callers, past_times, is_times, Stretch, stretch_of, IsTimes, IsStretch, more_steps, StretchesFrom, steps_of, IsSchedule}
 use Rattle.schedule_text.specs.Readers.{a_caller, number_of_times, its_times, any_times, a_stretch, stretches_from, all_steps, a_schedule}

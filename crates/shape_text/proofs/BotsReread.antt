@@ -1,17 +1,16 @@
 -- The words of numbers, nodes and amoebots are read as such.
-use Rattle.std.proofs.Common.{◌≡◌, ℕ, ℤ, pos, negsuc, zero, suc, ◌+◌, ◌-◌, ◌<◌, ◌≤◌, Bool, true, false, List, [], ◌∷◌, ◌++◌, length, map, take, drop, replicate, Option, None, codes, refl, sym, ap, ◌∙◌, arith, length-take-le, take-append-drop}
-use Rattle.std.specs.Prelude.{◌&&◌, ◌^◌, ◌==◌, decimal, bytes_eq, nat_lt}
+use Rattle.std.proofs.Common.{◌≡◌, ℕ, ℤ, pos, negsuc, zero, suc, ◌-◌, ◌<◌, ◌≤◌, true, false, List, [], ◌∷◌, ◌++◌, length, map, take, replicate, None, codes, refl, sym, ap, ◌∙◌, arith, length-take-le, take-append-drop}
+use Rattle.std.specs.Prelude.{◌^◌, ◌==◌, decimal, nat_lt}
 use Rattle.std.specs.Fmt.{signed_decimal}
-use Rattle.std.specs.List.{All, list_all}
+use Rattle.std.specs.List.{All}
 use Rattle.std.proofs.lemmas.List.Elements.{All-head, All-tail}
 use Rattle.std.proofs.lemmas.Bool.{le-ltb}
 use Rattle.std.proofs.lemmas.Int.{ints}
 use Rattle.tri_lattice.specs.declared.node.Node.{Node}
-use Rattle.text_tokens.specs.declared.token.TokenKind.TheVariants.{Word, Sign}
+use Rattle.text_tokens.specs.declared.token.TokenKind.TheVariants.{Sign}
 use Rattle.text_tokens.specs.declared.refusal.RefusalKind.TheVariants.{BadRange}
 use Rattle.text_tokens.specs.Text.{Lexeme, is_one_of, IsLongestSign, sign}
 use Rattle.text_tokens.specs.Cursor.{is_the}
-use Rattle.text_tokens.specs.Lines.{Words}
 use Rattle.text_tokens.specs.Reading.{value, too_large}
 use Rattle.text_tokens.specs.Grammar.{Lang, Then, Made, IsThe, Either, of_first, is_nothing}
 use Rattle.text_tokens.proofs.Blanks.{and_true}

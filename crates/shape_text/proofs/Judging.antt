@@ -1,15 +1,14 @@
 -- The first rule that the amoebots of a shape break is the one for which a world refuses them.
-use Rattle.std.proofs.Common.{◌≡◌, ℕ, zero, suc, ◌<◌, ◌+◌, Bool, true, false, List, [], ◌∷◌, ◌++◌, length, take, map, slice_get, Option, Some, None, refl, sym, ap, subst, ◌∙◌, arith, append_assoc}
+use Rattle.std.proofs.Common.{◌≡◌, ℕ, zero, suc, ◌<◌, Bool, true, false, List, [], ◌∷◌, ◌++◌, length, take, map, slice_get, Option, Some, None, refl, sym, ap, subst, ◌∙◌, arith, append_assoc}
 use Rattle.std.specs.Prelude.{not, ◌&&◌, ◌||◌, is_some, if◌then◌else◌}
-use Rattle.std.specs.Option.{option_map, option_and_then}
+use Rattle.std.specs.Option.{option_map}
 use Rattle.std.specs.List.{All}
 use Rattle.std.proofs.lemmas.List.{append-nil, length-map, length-take-le}
 use Rattle.std.proofs.lemmas.List.Elements.{All-map}
-use Rattle.std.proofs.lemmas.Option.{slice_get_within}
+use Rattle.std.proofs.lemmas.Option.{slice_get_within, slice_get-map}
 use Rattle.text_tokens.specs.declared.refusal.Refusal.{Refusal}
 use Rattle.text_tokens.specs.declared.refusal.RefusalKind.{RefusalKind}
 use Rattle.text_tokens.specs.declared.refusal.RefusalKind.TheVariants as kind
-use Rattle.text_tokens.specs.Grammar.{or_else}
 use Rattle.tri_lattice.specs.Extent.{Extent, is_in}
 use Rattle.amoebot_state.specs.declared.bot.Bot.{Bot}
 use Rattle.amoebot_state.specs.declared.refusal.WorldRefusal.{WorldRefusal}
@@ -18,6 +17,7 @@ use Rattle.amoebot_state.specs.Configs.{Config, config_of, with_bot, occupant, i
 use Rattle.amoebot_state.specs.Refusals.{bot_fault, IsPlain, IsFaultless, IsFirstFault}
 use Rattle.shape_text.specs.declared.shape.WrittenBot as code_bot
 use Rattle.shape_text.specs.Shapes.{WrittenBot, WrittenShape, kind_of, on_line, broken, first_broken, bot_in, wrong}
+use Rattle.shape_text.specs.Judgements.{JudgedAsWorlds}
 use Rattle.shape_text.specs.Views as view
 use Rattle.shape_text.specs.Views.{blamed}
 
@@ -93,6 +93,17 @@ blames c b e f = by_box (not (is_in c.area b.head && is_in c.area b.tail)) (not 
     by_box true a o v s = is_this (world.OutOfBox n) s (record { kind = kind.OutOfBox; names = refl; breaks = refl })
     by_box false a o v s = by_close a o v s
 
+breaks_it : (c : Config) (w : WrittenBot) (e : WorldRefusal) (k : RefusalKind) → bot_fault c w.bot ≡ Some e → kind_of e ≡ Some k → broken c w ≡ Some (on_line w.line k)
+breaks_it c w e k f g = rw (f, g) refl
+
+first_refused : (maxes : List ℕ) (s : WrittenShape) (e : WorldRefusal) (f : IsFirstFault s.area maxes (map bot_in s.bots) e) (w : WrittenBot) (k : RefusalKind) → slice_get s.bots f.place ≡ Some w → kind_of e ≡ Some k → wrong maxes s ≡ Some (on_line w.line k)
+first_refused maxes s e f w k at kind =
+    let c = config_of s.area maxes (take f.place (map bot_in s.bots)) in
+    let there : Some f.bot ≡ Some w.bot = sym f.there ∙ slice_get-map bot_in s.bots f.place ∙ ap (option_map bot_in) at in
+    let same : f.bot ≡ w.bot = cc in
+    let fault : bot_fault c w.bot ≡ Some e = ap (bot_fault c) (sym same) ∙ f.fault in
+    one_broken (config_of s.area maxes []) s.bots f.place w (on_line w.line k) at (λ j b lt seen. f.before j b lt seen) (breaks_it c w e k fault kind)
+
 -- ---- the amoebots as the code has them
 
 abbrev Code : Type 0
@@ -149,9 +160,6 @@ module _ (a : Extent) (maxes : List ℕ) (ws : List Code) where
     pub names : blamed e ≡ Some (place, kind)
     pub first : first_broken start (map view.bot ws) ≡ Some (on_line one.line kind)
 
-  breaks_it : (c : Config) (w : WrittenBot) (e : WorldRefusal) (k : RefusalKind) → bot_fault c w.bot ≡ Some e → kind_of e ≡ Some k → broken c w ≡ Some (on_line w.line k)
-  breaks_it c w e k f g = rw (f, g) refl
-
   pub refusing : (e : WorldRefusal) → IsFirstFault a maxes Bots e → Refusing e
   refusing e f =
       let o = of_image its_bot ws f.place f.bot f.there in
@@ -181,3 +189,6 @@ faultless_fits a maxes bs fine s area bots =
     (subst (λ (n : ℕ). AreFine (config_of s.area maxes []) (map bot_in s.bots) n) size
     (subst (λ (cs : List Bot). AreFine (config_of s.area maxes []) cs (length bs)) (sym bots)
     (subst (λ (x : Config). AreFine x bs (length bs)) same here)))
+
+pub judged_as_worlds : JudgedAsWorlds
+judged_as_worlds = record { fine = λ maxes s fine. faultless_fits s.area maxes (map bot_in s.bots) (subst (λ (n : ℕ). IsFaultless s.area maxes (map bot_in s.bots) n) (sym (length-map s.bots bot_in)) fine) s refl refl; first = first_refused }

@@ -1,9 +1,8 @@
 -- The readers of shapes are parts for their grammars.
-use Rattle.std.proofs.Common.{◌≡◌, ℕ, Bool, true, List, refl}
-use Rattle.std.specs.Prelude.{codes, ℤ}
+use Rattle.std.proofs.Common.{ℕ, List, refl}
+use Rattle.std.specs.Prelude.{codes}
 use Rattle.text_tokens.specs.declared.token.TokenKind.TheVariants.{Word}
-use Rattle.text_tokens.specs.Text.{Lexeme}
-use Rattle.text_tokens.specs.Reading.{Reader, ◌>>=◌, pure, no_limit, closed, judged}
+use Rattle.text_tokens.specs.Reading.{Reader, ◌>>=◌, pure, no_limit, closed}
 use Rattle.text_tokens.specs.Grammar.{Lang, IsOne, Then, Made, Closed, Judged}
 use Rattle.text_tokens.specs.Lawful.{Exact, IsPart, always, Starts, AreElements}
 use Rattle.text_tokens.proofs.Exactness.{exact}
@@ -12,13 +11,11 @@ use Rattle.text_tokens.proofs.Parts.{some_text, part_one, part_judged}
 use Rattle.text_tokens.proofs.Beginnings.{starts_one, starts_made, starts_then, starts_judged}
 use Rattle.text_tokens.proofs.Repeating.{part_repeated}
 use Rattle.text_tokens.proofs.Distinguishing.{sample, passes, other_text, a_numeral}
-use Rattle.tri_lattice.specs.Extent.{Extent}
-use Rattle.amoebot_state.specs.Configs.{Config}
-use Rattle.journal_text.specs.Parts.{word, is_end, IsWord, IsInt, IsBot}
-use Rattle.journal_text.specs.Readers.{a_word, an_int, a_bot}
+use Rattle.journal_text.specs.Parts.{word, is_end, IsWord, IsBot}
+use Rattle.journal_text.specs.Readers.{a_word, a_bot}
 use Rattle.journal_text.proofs.PartLaws.{behind, into, up_to_end, starts_word, part_word, part_int, part_bot}
 use Rattle.shape_text.specs.Shapes.{outside, IsSide, an_area_of, IsAreaLine, is_bot, WrittenBot, written_bot, past_bots, IsBotWord, IsBotLine, one_more, AreBots, WrittenShape, written_shape, IsWritten, wrong, stands_for, IsShapeUnder, IsShape, IsFinal}
-use Rattle.shape_text.specs.Readers.{a_side, an_area, bot_word, a_bot_line, bots_from, all_bots, a_drawing, written, shape_under, a_shape, a_final}
+use Rattle.shape_text.specs.Readers.{a_side, an_area, bot_word, a_bot_line, bots_from, a_drawing, written, shape_under, a_shape, a_final}
 
 -- ---- the area
 

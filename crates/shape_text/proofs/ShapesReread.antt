@@ -1,6 +1,6 @@
 -- The text of a shape is read as its configuration.
-use Rattle.std.proofs.Common.{◌≡◌, ℕ, ℤ, pos, negsuc, zero, suc, ◌+◌, ◌-◌, ◌<◌, ◌≤◌, Bool, true, false, List, [], ◌∷◌, ◌++◌, length, map, drop, replicate, slice_get, Option, Some, None, Ok, codes, refl, sym, ap, subst, ◌∙◌, arith}
-use Rattle.std.specs.Prelude.{◌&&◌, ◌^◌, ◌≤ℤ◌, ◌-ℤ◌, decimal, nat_le, nat_lt, slice_index, slice_index_or, IsTrue}
+use Rattle.std.proofs.Common.{◌≡◌, ℕ, ℤ, pos, negsuc, zero, suc, ◌+◌, ◌<◌, ◌≤◌, true, List, [], ◌∷◌, ◌++◌, length, map, Option, Some, None, Ok, codes, refl, sym, ap, subst, ◌∙◌, arith}
+use Rattle.std.specs.Prelude.{◌≤ℤ◌, ◌-ℤ◌, decimal, nat_le, nat_lt, slice_index, slice_index_or, IsTrue}
 use Rattle.std.specs.Fmt.{signed_decimal}
 use Rattle.std.specs.Option.{IsSome}
 use Rattle.std.specs.List.{All}
@@ -16,22 +16,21 @@ use Rattle.text_tokens.specs.declared.refusal.Refusal.{Refusal}
 use Rattle.text_tokens.specs.Text.{Lexeme}
 use Rattle.text_tokens.specs.Lines.{Words}
 use Rattle.text_tokens.specs.Reading.{value}
-use Rattle.text_tokens.specs.Grammar.{Lang, Then, Made, Closed, Judged, is_judgement, point, first_fault, Repeated, no_more}
+use Rattle.text_tokens.specs.Grammar.{Lang, Then, Made, Closed, Judged, is_judgement, point, first_fault, no_more}
 use Rattle.text_tokens.proofs.Blanks.{and_true}
-use Rattle.text_tokens.proofs.PrintedTokens.{AreSpelled, word_is_token}
+use Rattle.text_tokens.proofs.PrintedTokens.{word_is_token}
 use Rattle.amoebot_state.specs.declared.bot.Bot.{Bot}
-use Rattle.amoebot_state.specs.Configs.{Config, config_of, IsValid, IsBot as IsBotOf, bot_at, has_values}
+use Rattle.amoebot_state.specs.Configs.{Config, config_of, IsValid, bot_at, has_values}
 use Rattle.amoebot_state.specs.Limits.{most_bots}
-use Rattle.amoebot_state.specs.Refusals.{IsFaultless}
 use Rattle.amoebot_state.proofs.Faults.{valid_is_faultless}
-use Rattle.journal_text.specs.Parts.{is_end, IsWord, IsInt, IsBot}
+use Rattle.journal_text.specs.Parts.{is_end, IsWord}
 use Rattle.journal_text.specs.JournalRows.{Says}
 use Rattle.journal_text.specs.Rereading.{size, HasCoordinates, HasLimits}
-use Rattle.journal_text.proofs.Respelling.{Found, Is, Any, Rereads, RereadsLines, rereads_then, rereads_next, rereads_made, rereads_as, rereads_number, rereads_behind, one_rereads, one_found, the_passes, whole_then, found_made, the_found, rereads_the, reread_line, lines_say, lines_into, lines_made, lines_then, lines_next, lines_behind_line, lines_nothing, more_of}
+use Rattle.journal_text.proofs.Respelling.{Found, Is, Any, Rereads, RereadsLines, rereads_then, rereads_next, rereads_made, rereads_as, rereads_number, rereads_behind, one_rereads, one_found, the_passes, whole_then, found_made, rereads_the, reread_line, lines_say, lines_into, lines_made, lines_then, lines_next, lines_behind_line, lines_nothing, more_of}
 use Rattle.journal_text.proofs.JournalsReread.{the_word}
-use Rattle.shape_text.specs.Shapes.{outside, IsSide, an_area_of, IsAreaLine, is_bot, WrittenBot, written_bot, bot_in, past_bots, IsBotWord, IsBotLine, one_more, AreBots, WrittenShape, written_shape, IsWritten, wrong, stands_for, first_broken, IsShapeUnder, IsShape, IsFinal}
+use Rattle.shape_text.specs.Shapes.{outside, IsSide, an_area_of, IsAreaLine, WrittenBot, written_bot, bot_in, past_bots, IsBotWord, IsBotLine, one_more, AreBots, WrittenShape, written_shape, wrong, stands_for, IsShapeUnder}
 use Rattle.shape_text.specs.Texts.{area_words, bot_line, present, shape_text}
-use Rattle.shape_text.specs.Rereading.{IsWritable, ReadsBack, ShapesReadBack}
+use Rattle.shape_text.specs.Rereading.{IsWritable, ShapesReadBack}
 use Rattle.shape_text.proofs.BotsReread.{an_int, a_bot}
 use Rattle.shape_text.proofs.Judging.{faultless_fits}
 

@@ -1,7 +1,5 @@
 -- What the code reads, as what the grammars say that it stands for.
-use Rattle.std.specs.Prelude.{◌≡◌, ℕ, ◌<◌, List, Option, Some, None, Result, Ok, Err, map, slice_get}
-use Rattle.std.specs.Option.{option_map}
-use Rattle.text_tokens.specs.declared.refusal.Refusal.{Refusal}
+use Rattle.std.specs.Prelude.{◌≡◌, ℕ, List, Option, Some, None, Result, Ok, Err, map, slice_get}
 use Rattle.text_tokens.specs.declared.refusal.RefusalKind.{RefusalKind}
 use Rattle.text_tokens.specs.declared.refusal.RefusalKind.TheVariants as kind
 use Rattle.text_tokens.specs.declared.refusal.ReadRefusal.{ReadRefusal}
@@ -11,7 +9,7 @@ use Rattle.amoebot_state.specs.declared.refusal.WorldRefusal.TheVariants as worl
 use Rattle.amoebot_state.specs.Configs.{Config}
 use Rattle.shape_text.specs.declared.shape.WrittenBot as code_bot
 use Rattle.shape_text.specs.declared.shape.WrittenShape as code_shape
-use Rattle.shape_text.specs.Shapes.{WrittenBot, WrittenShape, written_bot, written_shape, wrong, stands_for, on_line, kind_of}
+use Rattle.shape_text.specs.Shapes.{WrittenBot, WrittenShape, written_bot, written_shape, wrong, stands_for, on_line}
 
 abbrev pub bot : code_bot.WrittenBot → WrittenBot
 bot b = written_bot b.line b.bot

@@ -5,6 +5,11 @@ mod laws;
 mod printing;
 mod shape;
 
-pub use laws::{shapes_are_decided, shapes_read_back};
+pub use laws::{
+    shapes_are_decided, shapes_are_judged_as_worlds, shapes_read_back, texts_are_printed,
+};
 pub use printing::{print_shape, put_shape};
 pub use shape::{read_final, read_shape};
+
+#[cfg(test)]
+mod tests;

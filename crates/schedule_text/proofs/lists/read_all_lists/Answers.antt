@@ -1,4 +1,4 @@
-use Rattle.std.proofs.Common.{◌≡◌, ◌<◌, ◌≤◌, ◌+◌, ◌++◌, ◌∷◌, [], ◌∙◌, ℕ, suc, List, length, Some, Ok, refl, sym, ap, subst, arith}
+use Rattle.std.proofs.Common.{◌≡◌, ◌<◌, ◌+◌, ◌++◌, ◌∷◌, [], ◌∙◌, ℕ, suc, List, length, Ok, sym, ap, subst, arith}
 use Rattle.std.specs.List.{All}
 use Rattle.std.proofs.lemmas.List.Elements.{All-push}
 use Rattle.std.proofs.lemmas.Result.{err_from_is_err_and}
@@ -6,9 +6,9 @@ use Rattle.std.proofs.lemmas.List.{length-append}
 use Rattle.text_tokens.specs.Reading.{pure, repeated}
 use Rattle.text_tokens.proofs.Stepping.{fails, on_made}
 use Rattle.text_tokens.proofs.Looping.{StillReads, loop_begins, loop_goes_on, loop_is_over, loop_fails}
-use Rattle.claim_core.specs.Turns.{CallerLists, AreFew, HaveBots}
+use Rattle.claim_core.specs.Turns.{CallerLists, AreFew}
 use Rattle.journal_text.specs.Parts.{is_end}
-use Rattle.schedule_text.specs.Lists.{most_callers, is_list, one_more_list, lists_of, IsCallerList}
+use Rattle.schedule_text.specs.Lists.{is_list, one_more_list, lists_of, IsCallerList}
 use Rattle.schedule_text.specs.Readers.{a_list, lists_from, all_lists}
 use Rattle.schedule_text.proofs.ListLaws.{no_number, list_elements}
 use Rattle.schedule_text.proofs.lists.read_all_lists.Goals as goal

@@ -1,10 +1,10 @@
-use Rattle.std.proofs.Common.{◌≡◌, ◌<◌, ◌≤◌, ◌+◌, ◌-◌, ◌++◌, ◌∷◌, [], ◌∙◌, ℕ, suc, List, length, take, replicate, vec_len, Some, refl, sym, ap, subst, arith}
+use Rattle.std.proofs.Common.{◌≡◌, ◌<◌, ◌≤◌, ◌+◌, ◌-◌, ◌++◌, ◌∷◌, [], ◌∙◌, ℕ, List, length, take, replicate, vec_len, refl, sym, ap, subst, arith}
 use Rattle.std.specs.List.{All}
 use Rattle.std.proofs.lemmas.Grind.{flat_map-append}
 use Rattle.std.proofs.lemmas.List.{append-nil, take_all}
 use Rattle.std.proofs.lemmas.List.Elements.{All-append, All-replicate}
 use Rattle.std.proofs.lemmas.Result.{err_from_is_err_and}
-use Rattle.text_tokens.specs.Reading.{pure, is_number, repeated}
+use Rattle.text_tokens.specs.Reading.{pure, is_number}
 use Rattle.text_tokens.proofs.Stepping.{fails, on_made}
 use Rattle.text_tokens.proofs.Looping.{loop_begins, loop_goes_on, loop_is_over, loop_fails}
 use Rattle.journal_text.specs.Parts.{is_end}

@@ -1,6 +1,5 @@
 use Rattle.std.proofs.Common.{◌≡◌, ℕ, Option, Some, None, Ok, sym, ap, ◌∙◌, arith, w16}
 use Rattle.std.specs.Prelude.{ℤ, codes, IfSome}
-use Rattle.std.proofs.lemmas.Result.{err_from_is_err_and}
 use Rattle.std.specs.Option.{IsSome, ok_or}
 use Rattle.std.proofs.lemmas.Int.{to_z-of_z, ints}
 use mir.Val.{to_z, of_z}
@@ -12,7 +11,7 @@ use Rattle.text_tokens.proofs.Stepping.{Reached}
 use Rattle.tri_lattice.specs.Extent.{Extent, IsArea}
 use Rattle.journal_text.specs.Readers.{a_word, an_int}
 use Rattle.shape_text.specs.Readers.{a_side, an_area}
-use Rattle.text_tokens.proofs.Rows.{all_left, past_part, part_fails}
+use Rattle.text_tokens.proofs.Rows.{all_left, past_part}
 use Rattle.shape_text.proofs.shape.read_area.Goals as goal
 
 abbrev extent : ℤ → ℤ → ℕ → ℕ → Extent

@@ -1,9 +1,9 @@
-use Rattle.std.proofs.Common.{◌≡◌, ℕ, List, Result, Some, Ok, Err, refl, sym, ap, ◌∙◌}
+use Rattle.std.proofs.Common.{ℕ, List, Result, Ok, Err, sym, ap, ◌∙◌}
 use Rattle.std.proofs.lemmas.Result.{err_from_is_err_and}
 use Rattle.text_tokens.specs.declared.refusal.ReadRefusal.{ReadRefusal}
 use Rattle.text_tokens.specs.declared.refusal.ReadRefusal.TheVariants.{NoMemory, Refused}
 use Rattle.text_tokens.specs.Cursor.{Cursor}
-use Rattle.text_tokens.specs.Reading.{Reader, pure, judge, judged}
+use Rattle.text_tokens.specs.Reading.{pure, judge, judged}
 use Rattle.text_tokens.specs.Steps.{Gives}
 use Rattle.text_tokens.proofs.Stepping.{Reached, fails, on_made, judged_wrong, judged_fine}
 use Rattle.amoebot_state.specs.Configs.{Config}

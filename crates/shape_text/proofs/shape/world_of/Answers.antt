@@ -1,7 +1,7 @@
-use Rattle.std.proofs.Common.{◌≡◌, ◌<◌, ◌⊎◌, inl, inr, ℕ, List, length, map, Some, None, IfSome, Ok, Err, refl, sym, ap, subst, ◌∙◌}
+use Rattle.std.proofs.Common.{◌≡◌, ◌<◌, ◌⊎◌, inl, inr, ℕ, List, length, map, IfSome, Ok, Err, sym, ap, subst, ◌∙◌}
 use Rattle.std.specs.List.{All}
 use Rattle.text_tokens.specs.declared.refusal.ReadRefusal.{ReadRefusal}
-use Rattle.text_tokens.specs.declared.refusal.ReadRefusal.TheVariants.{NoMemory, Refused}
+use Rattle.text_tokens.specs.declared.refusal.ReadRefusal.TheVariants.{Refused}
 use Rattle.tri_lattice.specs.Extent.{Extent}
 use Rattle.amoebot_state.specs.declared.bot.Bot.{Bot}
 use Rattle.amoebot_state.specs.declared.refusal.WorldRefusal.{WorldRefusal}
@@ -11,7 +11,7 @@ use Rattle.amoebot_state.specs.Refusals.{IsPlain, IsFaultless, IsFirstFault}
 use Rattle.shape_text.specs.declared.shape.WrittenBot.{WrittenBot}
 use Rattle.shape_text.specs.Shapes.{on_line, written_shape}
 use Rattle.shape_text.specs.Views as view
-use Rattle.shape_text.proofs.Judging.{same_bots, plain_bots, is_faultless, refusing, Refusing}
+use Rattle.shape_text.proofs.Judging.{same_bots, plain_bots, is_faultless, refusing}
 use Rattle.shape_text.proofs.shape.world_of.Goals as goal
 
 abbrev its_bot : WrittenBot → Bot
