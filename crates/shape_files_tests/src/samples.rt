@@ -288,3 +288,35 @@ pub static JOURNALS: [Row; 34] = [
     (Replay, &[HEAD, PROGRAM, SHAPE, JOURNAL, FINAL, "turns\nturn 0 0 done\nend\n"], Err((17, Unexpected))),
     (Replay, &[HEAD, PROGRAM, SHAPE, JOURNAL, FINAL, "turns\nturn 0 0 done 0\n"], Err((17, Truncated))),
 ];
+
+/// A document of a form in pieces, each so many times.
+pub type Long = (Form, &'static [(&'static str, u32)], Expected);
+
+/// Limits on numbers, just kept and just passed.
+pub static LIMITS: [Long; 25] = [
+    (Measure, &[(HEAD, 1), (PROGRAM, 1), ("shape\narea 0 0 8 8\n", 1), ("bot 2 3 2 3 0 +\n", 4096), ("end\n", 1)], Err((8, Overlap))),
+    (Measure, &[(HEAD, 1), (PROGRAM, 1), ("shape\narea 0 0 8 8\n", 1), ("bot 2 3 2 3 0 +\n", 4097), ("end\n", 1)], Err((4103, TooMany))),
+    (Measure, &[(HEAD, 1), (PROGRAM, 1), ("shape\narea 0 0 8 8\n", 1), ("bot 2 3 2 3 0 +\n", 4096), ("lists\n", 1)], Err((4103, Unexpected))),
+    (Run, &[(HEAD, 1), (PROGRAM, 1), (SHAPE, 1), ("lists\nturns 0\n", 1), ("list 0\n", 16), ("end\n", 1)], Ok([1, 1, 16, -1, -1, -1])),
+    (Run, &[(HEAD, 1), (PROGRAM, 1), (SHAPE, 1), ("lists\nturns 0\n", 1), ("list 0\n", 17), ("end\n", 1)], Err((27, TooMany))),
+    (Run, &[(HEAD, 1), (PROGRAM, 1), (SHAPE, 1), ("lists\nturns 4096\n", 1), ("list 0\n", 16), ("end\n", 1)], Ok([1, 1, 16, -1, -1, -1])),
+    (Run, &[(HEAD, 1), (PROGRAM, 1), (SHAPE, 1), ("lists\nturns 4097\n", 1), ("list 0\n", 16), ("end\n", 1)], Err((26, TooMany))),
+    (Run, &[(HEAD, 1), (PROGRAM, 1), (SHAPE, 1), ("lists\nturns 4369\n", 1), ("list 0\n", 15), ("end\n", 1)], Ok([1, 1, 15, -1, -1, -1])),
+    (Run, &[(HEAD, 1), (PROGRAM, 1), (SHAPE, 1), ("lists\nturns 4370\n", 1), ("list 0\n", 15), ("end\n", 1)], Err((25, TooMany))),
+    (Run, &[(HEAD, 1), (PROGRAM, 1), (SHAPE, 1), ("lists\nturns 2\n", 1), ("list", 1), (" 0", 4096), ("\n", 1), ("end\n", 1)], Ok([1, 1, 1, -1, -1, -1])),
+    (Run, &[(HEAD, 1), (PROGRAM, 1), (SHAPE, 1), ("lists\nturns 2\n", 1), ("list", 1), (" 0", 4096), ("\n0\n", 1), ("end\n", 1)], Err((12, TooMany))),
+    (Run, &[(HEAD, 1), (PROGRAM, 1), (SHAPE, 1), ("lists\nturns 2\n", 1), ("list", 1), (" 0", 4096), ("\n1\n", 1), ("end\n", 1)], Err((12, TooMany))),
+    (Run, &[(HEAD, 1), (PROGRAM, 1), (SHAPE, 1), ("lists\nturns 2\n", 1), ("list", 1), (" 0", 4095), ("\n1\n", 1), ("end\n", 1)], Err((12, BadId))),
+    (Interleave, &[(HEAD, 1), (PROGRAM, 1), (SHAPE, 1), (LISTS, 1), ("schedule\n", 1), ("0 times 1000000\n", 1), ("end\n", 1)], Ok([1, 1, 1, 1000000, -1, -1])),
+    (Interleave, &[(HEAD, 1), (PROGRAM, 1), (SHAPE, 1), (LISTS, 1), ("schedule\n", 1), ("0 times 999999\n0\n", 1), ("end\n", 1)], Ok([1, 1, 1, 1000000, -1, -1])),
+    (Interleave, &[(HEAD, 1), (PROGRAM, 1), (SHAPE, 1), (LISTS, 1), ("schedule\n", 1), ("0 times 1000000\n0\n", 1), ("end\n", 1)], Err((15, TooMany))),
+    (Interleave, &[(HEAD, 1), (PROGRAM, 1), (SHAPE, 1), (LISTS, 1), ("schedule\n", 1), ("0 times 1000000\n1\n", 1), ("end\n", 1)], Err((15, TooMany))),
+    (Interleave, &[(HEAD, 1), (PROGRAM, 1), (SHAPE, 1), (LISTS, 1), ("schedule\n", 1), ("0 times 1000000\n0 times 0\n", 1), ("end\n", 1)], Err((15, TooMany))),
+    (Interleave, &[(HEAD, 1), (PROGRAM, 1), (SHAPE, 1), (LISTS, 1), ("schedule\n", 1), ("0 times 999999\n0\ntimes 2\n", 1), ("end\n", 1)], Err((16, TooMany))),
+    (Interleave, &[(HEAD, 1), (PROGRAM, 1), (SHAPE, 1), (LISTS, 1), ("schedule\n", 1), ("0 times 999999\n1\n", 1), ("end\n", 1)], Err((15, BadId))),
+    (Replay, &[(HEAD, 1), (PROGRAM, 1), (SHAPE, 1), ("journal\nentry 0 0 0 0 0 none\n", 1), ("spot 1 1 empty\n", 10), ("end\n", 1), (FINAL, 1)], Ok([1, 1, -1, -1, 1, 1])),
+    (Replay, &[(HEAD, 1), (PROGRAM, 1), (SHAPE, 1), ("journal\nentry 0 0 0 0 0 none\n", 1), ("spot 1 1 empty\n", 11), ("end\n", 1), (FINAL, 1)], Err((21, TooMany))),
+    (Replay, &[(HEAD, 1), (PROGRAM, 1), (SHAPE, 1), ("journal\nentry 0 0 0 0 0 none\n", 1), ("spot 1 1 empty\n", 10), ("body 0 2 3 2 3 0 +\n", 1), ("end\n", 1), (FINAL, 1)], Err((21, TooMany))),
+    (Replay, &[(HEAD, 1), (PROGRAM, 1), (SHAPE, 1), ("journal\nentry 0 0 0 0 0 none\n", 1), ("spot 1 1 1\n", 11), ("end\n", 1), (FINAL, 1)], Err((21, TooMany))),
+    (Replay, &[(HEAD, 1), (PROGRAM, 1), (SHAPE, 1), ("journal\nentry 0 0 0 0 0 none\n", 1), ("spot 1 1 1\n", 10), ("end\n", 1), (FINAL, 1)], Err((10, BadEntry))),
+];

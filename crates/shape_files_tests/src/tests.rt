@@ -65,6 +65,32 @@ fn are_read(rt: &impl Abort, alloc: Global, table: &[Row]) -> Result<(), AllocEr
     Ok(())
 }
 
+fn repeated(alloc: Global, pieces: &[(&str, u32)]) -> Result<String, AllocError> {
+    let mut text = String::new(alloc);
+    for (piece, times) in pieces {
+        for _ in 0..*times {
+            text.push_str(piece)?;
+        }
+    }
+    Ok(text)
+}
+
+/// Each long document of a table is read or refused as the table says.
+fn are_limited(rt: &impl Abort, alloc: Global, table: &[Long]) -> Result<(), AllocError> {
+    for (form, pieces, expected) in table {
+        let text = repeated(alloc, pieces)?;
+        let found = answer(alloc, text.as_bytes(), *form);
+        assert_eq!(rt; found, *expected, "{text}");
+    }
+    Ok(())
+}
+
+#[test]
+fn limits_are_kept_exactly(rt: HostRuntime) -> Result<(), Fail> {
+    are_limited(&rt, rt.alloc(), &LIMITS)?;
+    Ok(())
+}
+
 #[test]
 fn runs_are_read(rt: HostRuntime) -> Result<(), Fail> {
     are_read(&rt, rt.alloc(), &RUN_FORMS)?;
