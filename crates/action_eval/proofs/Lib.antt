@@ -7,3 +7,5 @@ pub mod Adding
 pub mod Nodes
 pub mod Falling
 pub mod Terms
+pub mod Running
+pub mod Deciding
