@@ -1,0 +1,11 @@
+pub mod Bound
+pub mod Asking
+pub mod Thens
+pub mod Sums
+pub mod Walking
+pub mod Adding
+pub mod Nodes
+pub mod Falling
+pub mod Terms
+pub mod Running
+pub mod Deciding

@@ -1,0 +1,21 @@
+use Rattle.std.proofs.Common.{◌∙◌, ap, sym, subst}
+use Rattle.std.specs.List.{list_all}
+use Rattle.action_tree.specs.Writable.{is_action}
+use Rattle.action_check.specs.Rules.{ProgramKept}
+use Rattle.action_meaning.specs.Verdicts.{verdict_shown}
+use Rattle.action_eval.proofs.Deciding.{actions_formed, all_kept, verdict_is}
+use Rattle.action_eval.proofs.runner.RunnerDecider.decide.Goals as goal
+
+pub actions_decide-requires-clause-kept : goal.actions_decide-requires-clause-kept
+actions_decide-requires-clause-kept c =
+    let kept = subst ProgramKept (sym c.program-program.ensures.program) c.program-program.ensures.kept in
+    all_kept c.program-program.result.now c.vars.result.now c.actions.result.now _ c.vars.ensures c.actions.ensures.actions c.new-names.ensures kept
+
+pub actions_decide-requires-clause-counted : goal.actions_decide-requires-clause-counted
+actions_decide-requires-clause-counted c = ap (list_all is_action) c.actions.ensures.actions ∙ actions_formed c.program-program.result.now c.actions.ensures.writable
+
+pub returns : goal.returns
+returns c =
+    c.actions_decide.ensures
+    ∙ verdict_is c.program-program.result.now c.args.found.now c.new.result c.guard.result c.vars.result.now c.actions.result.now _ c.guard.ensures c.new.ensures c.vars.ensures c.actions.ensures.actions c.new-names.ensures
+    ∙ ap (λ p. verdict_shown p c.args.found.now) (c.program-program.ensures.program ∙ c.self.view_is)

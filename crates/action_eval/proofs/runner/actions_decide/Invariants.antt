@@ -1,0 +1,6 @@
+use Rattle.action_eval.specs.Known.{known}
+use Rattle.action_eval.proofs.Deciding.{ActionsLeft}
+use Rattle.action_eval.proofs.runner.actions_decide.Given as goal
+
+abbrev pub invariant-loop-number : goal.invariant-loop-number
+invariant-loop-number l = ActionsLeft l.guard (known l.names) l.site l.actions l.number

@@ -1,0 +1,36 @@
+-- What the code's names in force stand for, and what its working copy lets an evaluation ask.
+use Rattle.std.specs.Prelude.{ℕ, List, map, Bool}
+use Rattle.amoebot_state.specs.declared.bot.Port.{Port}
+use Rattle.model_ops.specs.Sights.{Sight, sight}
+use Rattle.model_ops.specs.WorkingCopies.{WorkingCopy, own_id}
+use Rattle.action_tree.specs.declared.program.Var.{Var}
+use Rattle.action_tree.specs.declared.expression.PortSet.{PortSet}
+use Rattle.action_tree.specs.declared.expression.PortSet.TheVariants as port_set
+use Rattle.action_check.specs.Scopes.{Scope}
+use Rattle.action_meaning.specs.Names.{Names, Bound}
+use Rattle.action_meaning.specs.Choices.{is_true}
+use Rattle.action_eval.specs.declared.names.Names as code
+use Rattle.action_eval.specs.declared.names.Bound as code_bound
+
+abbrev pub bound_of : code_bound.Bound → Bound
+bound_of b = record { text = b.text.bytes; port = b.port }
+
+abbrev pub vars_of : List Var → List (List ℕ)
+vars_of vs = map (λ v. v.name.text.bytes) vs
+
+-- the names that an evaluation knows, with their ports
+abbrev pub known : code.Names → Names
+known xs = record { vars = vars_of xs.vars.now; bound = map bound_of xs.bound.items }
+
+-- the same without the ports
+abbrev pub scope_of : Names → Scope
+scope_of xs = record { vars = xs.vars; bound = map (λ (b : Bound). b.text) xs.bound }
+
+-- what its amoebot can ask of the configuration that a working copy has reached
+abbrev pub sight_of : WorkingCopy → Sight
+sight_of w = sight w.reached (own_id w)
+
+-- a pair is one of the ports that a name goes through
+abbrev pub is_in_set : Sight → PortSet → Port → Bool
+is_in_set s port_set.Ports p = is_true (s.connects p)
+is_in_set s port_set.Free p = is_true (s.frees p)

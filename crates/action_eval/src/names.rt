@@ -1,0 +1,103 @@
+//! What names stand for where a part of a program is evaluated.
+
+ghost use Rattle.std.specs.Prelude.{◌≡◌, ◌≤◌, length};
+ghost use Rattle.std.specs.List.{position};
+ghost use Rattle.std.specs.Str.{bytes_eq};
+ghost use Rattle.action_tree.specs.Limits.{most_vars};
+
+use action_tree::{Var, Word};
+use amoebot_state::{End, Port};
+use arrayvec::{ArrayString, ArrayVec};
+
+/// A name in force, and the port that it stands for.
+#[derive(Clone, Copy, Default)]
+pub struct Bound {
+    pub text: ArrayString<24>,
+    pub port: Port,
+}
+
+/// The variables in the order of their declaration, and the names in force in the order of the text.
+#[derive(Drop)]
+pub struct Names<'p> {
+    pub vars: &'p [Var],
+    pub bound: ArrayVec<Bound, 4>,
+    ghost few: { length vars.now ≤ most_vars },
+}
+
+impl<'p> Names<'p> {
+    ghost use Rattle.std.specs.Prelude.{◌<◌, []};
+    ghost use Rattle.action_tree.specs.Views.{name_of};
+    ghost use Rattle.action_check.specs.Rules.{IsVar};
+    ghost use Rattle.action_meaning.specs.Names.{var_number, port_named, bind as spec_bind};
+    ghost use Rattle.action_eval.specs.Known.{known, vars_of, scope_of};
+
+    /// The names at the start of an action: no name is in force.
+    pub fn new(vars: &'p [Var]) -> Names<'p>
+        requires { length vars.now ≤ most_vars }
+        ensures { known result ≡ record { vars = vars_of vars.now; bound = [] } }
+    {
+        Names {
+            vars,
+            bound: ArrayVec::new(),
+        }
+    }
+
+    /// The number of a variable: how many were declared before it.
+    pub fn var_number(&self, name: &Word) -> u8
+        requires { IsVar (scope_of (known self.now)) (name_of name.now) }
+        ensures value { result ≡ var_number (known self.now) (name_of name.now) }
+        ensures below { result < 8 }
+    {
+        let place = first_named(self.vars, name).unwrap();
+        place as u8
+    }
+
+    /// The port that a name in force stands for.
+    pub fn port_named(&self, name: &Word) -> Port
+        ensures { result ≡ port_named (known self.now) (name_of name.now) }
+    {
+        for bound in self.bound.iter() {
+            if bound.text == name.text {
+                return bound.port;
+            }
+        }
+        Port {
+            end: End::Head,
+            dir: 0,
+        }
+    }
+
+    /// The same names again.
+    pub fn copy(&self) -> Names<'p>
+        ensures { known result ≡ known self.now }
+    {
+        let mut bound = ArrayVec::new();
+        for name in self.bound.iter() {
+            bound.push(*name);
+        }
+        Names {
+            vars: self.vars,
+            bound,
+        }
+    }
+
+    /// With one more name in force.
+    pub fn bind(&self, name: &Word, port: Port) -> Names<'p>
+        requires { length (known self.now).bound < 4 }
+        ensures { known result ≡ spec_bind (known self.now) (name_of name.now) port }
+    {
+        let mut names = self.copy();
+        names.bound.push(Bound {
+            text: name.text,
+            port,
+        });
+        names
+    }
+}
+
+/// The place of the first variable with a name.
+fn first_named(vars: &[Var], name: &Word) -> Option<usize>
+    ensures { result ≡ position (λ v. bytes_eq v.name.text.bytes name.now.text.bytes) vars.now }
+{
+    vars.iter().position(|var| var.name.text == name.text)
+}

@@ -1,0 +1,334 @@
+//! The values of guards, sums and ports.
+
+ghost use Rattle.std.specs.Prelude.{◌≡◌, ◌<◌, ◌≤ℤ◌, pos, true, IfOk};
+ghost use Rattle.action_tree.specs.Views as view;
+ghost use Rattle.action_tree.specs.Writable.{is_guard, are_guards, is_sum, is_term, is_port as is_port_expr};
+ghost use Rattle.action_check.specs.Rules.{GuardKept, GuardsKept, SumKept, TermKept, PortKept, DirTermKept, IsNew};
+ghost use Rattle.action_check.specs.Scopes.{bind as scope_bind};
+ghost use Rattle.action_meaning.specs.Names.{bind};
+ghost use Rattle.action_meaning.specs.Choices.{any_of, all_of, first_of, count_of};
+ghost use Rattle.action_meaning.specs.Values as spec;
+ghost use Rattle.action_eval.specs.Known.{known, scope_of, sight_of};
+
+use crate::names::Names;
+use crate::number::{compare, signed};
+use crate::port::{inner_value, is_own_port, ports_of};
+use action_tree::{DirTerm, Guard, PortExpr, PortSet, Sum, Term, Word};
+use amoebot_state::{End, Failure, Port};
+use model_ops::Site;
+
+/// The value of a guard.
+#[tactic(auto, using(crate::proofs::Thens::then_fails, crate::proofs::Thens::then_goes, crate::proofs::Nodes::guard_at_any, crate::proofs::Nodes::guard_at_all, crate::proofs::Nodes::term_at_count, crate::proofs::Nodes::port_at_first, crate::proofs::Nodes::second))]
+#[cycle(values)]
+pub fn guard_value(guard: &Guard, site: &Site, names: &Names<'_>) -> Result<bool, Failure>
+    requires kept { GuardKept (scope_of (known names.now)) (view.guard_of guard.now) }
+    requires counted { is_guard (view.guard_of guard.now) ≡ true }
+    ensures { result ≡ spec.guard_value (sight_of site.now) (known names.now) (view.guard_of guard.now) }
+{
+    match guard {
+        Guard::True => Ok(true),
+        Guard::False => Ok(false),
+        Guard::Contracted => Ok(site.own().is_contracted()),
+        Guard::Expanded => Ok(!site.own().is_contracted()),
+        Guard::Not(guard) => {
+            let value = guard_value(guard, site, names)?;
+            Ok(!value)
+        }
+        Guard::And(guards) => each_value(guards, site, names),
+        Guard::Or(guards) => some_value(guards, site, names),
+        Guard::Any(name, set, guard) => any_value(name, *set, guard, site, names),
+        Guard::All(name, set, guard) => all_value(name, *set, guard, site, names),
+        Guard::Linked(port) => {
+            let port = port_value(port, site, names)?;
+            site.connected(port)
+        }
+        Guard::Free(port) => {
+            let port = port_value(port, site, names)?;
+            site.is_free(port)
+        }
+        Guard::AtHead(port) => {
+            let port = port_value(port, site, names)?;
+            if is_own_port(port, site) {
+                Ok(port.end == End::Head)
+            } else {
+                Err(Failure::NoPort)
+            }
+        }
+        Guard::PeerExpanded(port) => {
+            let port = port_value(port, site, names)?;
+            let seen = site.peer(port)?;
+            Ok(seen.expanded)
+        }
+        Guard::PeerHead(port) => {
+            let port = port_value(port, site, names)?;
+            let seen = site.peer(port)?;
+            Ok(seen.at_head)
+        }
+        Guard::Compare(left, cmp, right) => {
+            let left = sum_value(left, site, names)?;
+            let right = sum_value(right, site, names)?;
+            Ok(compare(*cmp, left, right))
+        }
+    }
+}
+
+/// `and` stops at the first false element.
+#[cycle(values)]
+fn each_value(guards: &[Guard], site: &Site, names: &Names<'_>) -> Result<bool, Failure>
+    requires kept { GuardsKept (scope_of (known names.now)) (view.guards_of guards.now) }
+    requires counted { are_guards (view.guards_of guards.now) ≡ true }
+    ensures { result ≡ spec.each_value (sight_of site.now) (known names.now) (view.guards_of guards.now) }
+{
+    for guard in guards {
+        match guard_value(guard, site, names) {
+            Ok(true) => {}
+            Ok(false) => return Ok(false),
+            Err(failure) => return Err(failure),
+        }
+    }
+    Ok(true)
+}
+
+/// `or` stops at the first true element.
+#[cycle(values)]
+fn some_value(guards: &[Guard], site: &Site, names: &Names<'_>) -> Result<bool, Failure>
+    requires kept { GuardsKept (scope_of (known names.now)) (view.guards_of guards.now) }
+    requires counted { are_guards (view.guards_of guards.now) ≡ true }
+    ensures { result ≡ spec.some_value (sight_of site.now) (known names.now) (view.guards_of guards.now) }
+{
+    for guard in guards {
+        match guard_value(guard, site, names) {
+            Ok(false) => {}
+            Ok(true) => return Ok(true),
+            Err(failure) => return Err(failure),
+        }
+    }
+    Ok(false)
+}
+
+/// A guard in the parenthesis of a name that stands for a port.
+#[cycle(values)]
+pub fn inside_value(
+    name: &Word,
+    port: Port,
+    guard: &Guard,
+    site: &Site,
+    names: &Names<'_>,
+) -> Result<bool, Failure>
+    requires new { IsNew (scope_of (known names.now)) (view.name_of name.now) }
+    requires kept { GuardKept (scope_bind (scope_of (known names.now)) (view.name_of name.now)) (view.guard_of guard.now) }
+    requires counted { is_guard (view.guard_of guard.now) ≡ true }
+    ensures { result ≡ spec.guard_value (sight_of site.now) (bind (known names.now) (view.name_of name.now) port) (view.guard_of guard.now) }
+{
+    guard_value(guard, site, &names.bind(name, port))
+}
+
+/// `any`: the first port of which the guard is not false decides.
+#[cycle(values)]
+fn any_value(
+    name: &Word,
+    set: PortSet,
+    guard: &Guard,
+    site: &Site,
+    names: &Names<'_>,
+) -> Result<bool, Failure>
+    requires new { IsNew (scope_of (known names.now)) (view.name_of name.now) }
+    requires kept { GuardKept (scope_bind (scope_of (known names.now)) (view.name_of name.now)) (view.guard_of guard.now) }
+    requires counted { is_guard (view.guard_of guard.now) ≡ true }
+    ensures { result ≡ any_of (λ p. spec.guard_value (sight_of site.now) (bind (known names.now) (view.name_of name.now) p) (view.guard_of guard.now)) (spec.ports_of (sight_of site.now) set) }
+{
+    let ports = ports_of(set, site);
+    for port in ports.iter() {
+        match inside_value(name, *port, guard, site, names) {
+            Ok(false) => {}
+            Ok(true) => return Ok(true),
+            Err(failure) => return Err(failure),
+        }
+    }
+    Ok(false)
+}
+
+/// `all`: the first port of which the guard is not true decides.
+#[cycle(values)]
+fn all_value(
+    name: &Word,
+    set: PortSet,
+    guard: &Guard,
+    site: &Site,
+    names: &Names<'_>,
+) -> Result<bool, Failure>
+    requires new { IsNew (scope_of (known names.now)) (view.name_of name.now) }
+    requires kept { GuardKept (scope_bind (scope_of (known names.now)) (view.name_of name.now)) (view.guard_of guard.now) }
+    requires counted { is_guard (view.guard_of guard.now) ≡ true }
+    ensures { result ≡ all_of (λ p. spec.guard_value (sight_of site.now) (bind (known names.now) (view.name_of name.now) p) (view.guard_of guard.now)) (spec.ports_of (sight_of site.now) set) }
+{
+    let ports = ports_of(set, site);
+    for port in ports.iter() {
+        match inside_value(name, *port, guard, site, names) {
+            Ok(true) => {}
+            Ok(false) => return Ok(false),
+            Err(failure) => return Err(failure),
+        }
+    }
+    Ok(true)
+}
+
+/// `first`: the first port of which the guard is not false. NoChoice, where there is none.
+#[cycle(values)]
+fn first_value(
+    name: &Word,
+    set: PortSet,
+    guard: &Guard,
+    site: &Site,
+    names: &Names<'_>,
+) -> Result<Port, Failure>
+    requires new { IsNew (scope_of (known names.now)) (view.name_of name.now) }
+    requires kept { GuardKept (scope_bind (scope_of (known names.now)) (view.name_of name.now)) (view.guard_of guard.now) }
+    requires counted { is_guard (view.guard_of guard.now) ≡ true }
+    ensures { result ≡ first_of (λ p. spec.guard_value (sight_of site.now) (bind (known names.now) (view.name_of name.now) p) (view.guard_of guard.now)) (spec.ports_of (sight_of site.now) set) }
+{
+    let ports = ports_of(set, site);
+    for port in ports.iter() {
+        match inside_value(name, *port, guard, site, names) {
+            Ok(false) => {}
+            Ok(true) => return Ok(*port),
+            Err(failure) => return Err(failure),
+        }
+    }
+    Err(Failure::NoChoice)
+}
+
+/// `count`: of how many ports the guard is true.
+#[cycle(values)]
+fn count_value(
+    name: &Word,
+    set: PortSet,
+    guard: &Guard,
+    site: &Site,
+    names: &Names<'_>,
+) -> Result<u8, Failure>
+    requires new { IsNew (scope_of (known names.now)) (view.name_of name.now) }
+    requires kept { GuardKept (scope_bind (scope_of (known names.now)) (view.name_of name.now)) (view.guard_of guard.now) }
+    requires counted { is_guard (view.guard_of guard.now) ≡ true }
+    ensures value { result ≡ count_of (λ p. spec.guard_value (sight_of site.now) (bind (known names.now) (view.name_of name.now) p) (view.guard_of guard.now)) (spec.ports_of (sight_of site.now) set) }
+    ensures few { IfOk result (λ n. n < 13) }
+{
+    let ports = ports_of(set, site);
+    let mut count = 0;
+    for port in ports.iter() {
+        let is_one = match inside_value(name, *port, guard, site, names) {
+            Ok(is_one) => is_one,
+            Err(failure) => return Err(failure),
+        };
+        if is_one {
+            count += 1;
+        }
+    }
+    Ok(count)
+}
+
+/// The value of a sum. It has at most 64 terms, each of at most 65,535 in size, so it stays far within 32 bits.
+#[tactic(auto, using(crate::proofs::Thens::then_fails, crate::proofs::Thens::then_goes, crate::proofs::Nodes::guard_at_any, crate::proofs::Nodes::guard_at_all, crate::proofs::Nodes::term_at_count, crate::proofs::Nodes::port_at_first, crate::proofs::Nodes::second))]
+#[cycle(values)]
+pub fn sum_value(sum: &Sum, site: &Site, names: &Names<'_>) -> Result<i32, Failure>
+    requires kept { SumKept (scope_of (known names.now)) (view.sum_of sum.now) }
+    requires counted { is_sum (view.sum_of sum.now) ≡ true }
+    ensures { result ≡ spec.sum_value (sight_of site.now) (known names.now) (view.sum_of sum.now) }
+{
+    let mut total = 0;
+    for part in &sum.parts {
+        let value = term_value(&part.term, site, names)?;
+        total += signed(part.minus, value);
+    }
+    Ok(total)
+}
+
+/// The value of a term without its sign.
+#[tactic(auto, using(crate::proofs::Thens::then_fails, crate::proofs::Thens::then_goes, crate::proofs::Nodes::guard_at_any, crate::proofs::Nodes::guard_at_all, crate::proofs::Nodes::term_at_count, crate::proofs::Nodes::port_at_first, crate::proofs::Nodes::second))]
+#[cycle(values)]
+fn term_value(term: &Term, site: &Site, names: &Names<'_>) -> Result<i32, Failure>
+    requires kept { TermKept (scope_of (known names.now)) (view.term_of term.now) }
+    requires counted { is_term (view.term_of term.now) ≡ true }
+    ensures value { result ≡ spec.term_value (sight_of site.now) (known names.now) (view.term_of term.now) }
+    ensures range { IfOk result (λ x. (pos 0 ≤ℤ x) × (x ≤ℤ pos 65535)) }
+{
+    match term {
+        Term::Number(number) => Ok(number.value as i32),
+        Term::Own(name) => {
+            let value = site.read(None, names.var_number(name))?;
+            Ok(i32::from(value))
+        }
+        Term::Of(port, name) => {
+            let port = port_value(port, site, names)?;
+            let value = site.read(Some(port), names.var_number(name))?;
+            Ok(i32::from(value))
+        }
+        Term::Count(name, set, guard) => {
+            let count = count_value(name, *set, guard, site, names)?;
+            Ok(i32::from(count))
+        }
+        Term::Dir(port) => {
+            let port = port_value(port, site, names)?;
+            if is_own_port(port, site) {
+                Ok(i32::from(port.dir))
+            } else {
+                Err(Failure::NoPort)
+            }
+        }
+        Term::PeerDir(port) => {
+            let port = port_value(port, site, names)?;
+            let seen = site.peer(port)?;
+            Ok(i32::from(seen.dir))
+        }
+        Term::Inner => {
+            let local = inner_value(site.own())?;
+            Ok(i32::from(local))
+        }
+        Term::Mod6(sum) => {
+            let value = sum_value(sum, site, names)?;
+            Ok(value.rem_euclid(6))
+        }
+    }
+}
+
+/// The pair that a port expression names.
+#[tactic(auto, using(crate::proofs::Thens::then_fails, crate::proofs::Thens::then_goes, crate::proofs::Nodes::guard_at_any, crate::proofs::Nodes::guard_at_all, crate::proofs::Nodes::term_at_count, crate::proofs::Nodes::port_at_first, crate::proofs::Nodes::second))]
+#[cycle(values)]
+pub fn port_value(port: &PortExpr, site: &Site, names: &Names<'_>) -> Result<Port, Failure>
+    requires kept { PortKept (scope_of (known names.now)) (view.port_of port.now) }
+    requires counted { is_port_expr (view.port_of port.now) ≡ true }
+    ensures { result ≡ spec.port_value (sight_of site.now) (known names.now) (view.port_of port.now) }
+{
+    match port {
+        PortExpr::Name(name) => Ok(names.port_named(name)),
+        PortExpr::At(end, direction) => {
+            let dir = direction_value(direction, site, names)?;
+            Ok(Port { end: *end, dir })
+        }
+        PortExpr::Turn(port, number) => {
+            let port = port_value(port, site, names)?;
+            Ok(Port {
+                end: port.end,
+                dir: ((u32::from(port.dir) + number.value) % 6) as u8,
+            })
+        }
+        PortExpr::First(name, set, guard) => first_value(name, *set, guard, site, names),
+    }
+}
+
+/// A local direction. NoPort, the value of the variable is none.
+fn direction_value(direction: &DirTerm, site: &Site, names: &Names<'_>) -> Result<u8, Failure>
+    requires kept { DirTermKept (scope_of (known names.now)) (view.dirterm_of direction.now) }
+    ensures { result ≡ spec.dirterm_value (sight_of site.now) (known names.now) (view.dirterm_of direction.now) }
+{
+    match direction {
+        DirTerm::Number(number) => Ok(number.value as u8),
+        DirTerm::Own(name) => {
+            let dir = site.read(None, names.var_number(name))?;
+            if dir > 5 {
+                return Err(Failure::NoPort);
+            }
+            Ok(dir)
+        }
+    }
+}
