@@ -10,3 +10,6 @@ mod values;
 pub use connected::is_connected;
 pub use hexagon::is_hexagon;
 pub use values::count_value;
+
+#[cfg(test)]
+mod tests;

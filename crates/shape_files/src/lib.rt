@@ -12,3 +12,4 @@ pub use document_grammar::Form;
 pub use head::read_head;
 pub use parts::{Parts, Sections};
 pub use schedule_text::Schedule;
+pub use shape_text::print_shape;
