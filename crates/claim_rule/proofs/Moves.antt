@@ -72,8 +72,8 @@ module _ {D : Type 0} (verdict : D → Shown → Verdict) (z : Terms D) (ok : Is
       let is = All-contains (IsHeld g core sound.last by.0 by.1.turn) by.1.held p.0 (sound.each by.0 by.1 by.2).held there_p in
       let read = at_there core.values core.tags (number z.world.area n) t sound.tagged there in
       let value : read.0 ≡ p.0.1 =
-          value_at sound.last n read.0 (ap (λ a. at (Rattle.claim_core.specs.Cells.values_of sound.last) (number a n)) (same_area g ok core sound) ∙ ap (λ xs. at xs (number z.world.area n)) (sym sound.values) ∙ read.1)
-          ∙ value_held sound.last n p.0.1 (ap (Rattle.amoebot_state.specs.Configs.value sound.last) p.2 ∙ is.value) in
+      value_at sound.last n read.0 (ap (λ a. at (Rattle.claim_core.specs.Cells.values_of sound.last) (number a n)) (same_area g ok core sound) ∙ ap (λ xs. at xs (number z.world.area n)) (sym sound.values) ∙ read.1)
+      ∙ value_held sound.last n p.0.1 (ap (Rattle.amoebot_state.specs.Configs.value sound.last) p.2 ∙ is.value) in
       (r.0, r.1, r.2, r.3, (p.0.1, subst (λ (q : Caller × CellName). Contains q.0.held (q.1, p.0.1)) (λ i. (same i, sym p.2 i)) there_p, read.1 ∙ ap (λ (x : Cell). Some x) value))
 
   module _ (s : Content D) (steps : List ℕ) (st : Stands verdict z s (after g steps)) (seat : ℕ) (r : Record) (there : get_elem? s.views seat ≡ home.some (view_of z (r ∷ []))) where

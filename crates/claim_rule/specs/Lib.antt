@@ -1,2 +1,4 @@
 pub mod Views
 pub mod Stands
+pub mod Plays
+pub mod Tokens

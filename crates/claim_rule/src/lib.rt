@@ -1,8 +1,12 @@
 //! The rule over the words, slots and views of the table that callers share, and the calls that are single steps on it.
 #![tactic(auto)]
 
+mod field;
 mod rule;
+mod seat;
 mod views;
 
+pub use field::Field;
 pub use rule::ClaimRule;
+pub use seat::Seat;
 pub use views::{Key, Record, Slot, Terms, View};
