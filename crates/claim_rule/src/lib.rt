@@ -4,6 +4,7 @@
 mod field;
 mod rule;
 mod seat;
+mod steps;
 mod views;
 
 pub use field::Field;
