@@ -4,3 +4,4 @@ pub mod Allowing
 pub mod Claims
 pub mod Releases
 pub mod Looks
+pub mod Activating

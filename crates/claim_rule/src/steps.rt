@@ -1,9 +1,9 @@
 //! The steps on words that callers make while they claim, look and release.
-ghost use Rattle.std.specs.Prelude.{◌≡◌, ◌∷◌, []};
+ghost use Rattle.std.specs.Prelude.{◌≡◌, ◌≤◌, ◌∷◌, []};
 ghost use mathlib.Core.Option.{none};
 ghost use Rattle.atomic_table.specs.Table.{step};
-ghost use Rattle.claim_rule.specs.Views.{own, view_of, cells};
-ghost use Rattle.claim_rule.specs.Plays.{IsToTry, IsToFree, Reads, claimed, freed, read};
+ghost use Rattle.claim_rule.specs.Views.{own, view_of, goes_on, cells};
+ghost use Rattle.claim_rule.specs.Plays.{IsToTry, IsToFree, Reads, about, marked_at, claimed, freed, read};
 
 use crate::field::Field;
 use crate::rule::{Claim, Free, Read};
@@ -46,5 +46,18 @@ impl<'d, D: Decider> Field<'d, D> {
     {
         let journal = self.world.area().size() as usize + usize::from(self.world.bots());
         self.table.shared.load::<Read>(seat, journal)
+    }
+
+    /// The journal's length, for the mark of the turn.
+    pub(crate) fn place(&self, seat: &mut Seat<Slot, View<D>>) -> u32
+        requires table { seat.old.table_id ≡ self.now.table }
+        requires alone { seat.old.me.0 ≡ view_of self.now.terms (own seat.old.me.0 ∷ []) }
+        requires reads { Reads (own seat.old.me.0).caller.phase }
+        ensures same { (seat.new.table_id ≡ seat.old.table_id) × (seat.new.id ≡ seat.old.id) }
+        ensures marked { seat.new.me.0 ≡ goes_on seat.old.me.0 (marked_at (about D.verdict seat.old.me.0) (own seat.old.me.0).caller result) }
+        ensures out { seat.new.me.1 ≡ seat.old.me.1 }
+        ensures few { result ≤ 65536 }
+    {
+        (self.read(seat) / 2) as u32
     }
 }
