@@ -1,4 +1,4 @@
-ghost use Rattle.std.specs.Prelude.{◌≡◌, ◌≤◌, None};
+ghost use Rattle.std.specs.Prelude.{◌≡◌, ◌<◌, ◌≤◌, None, length};
 ghost use Rattle.claim_core.specs.Machine.{decided};
 ghost use Rattle.claim_rule.specs.Plays.{about, marked_at};
 ghost use Rattle.claim_rule.specs.Tokens.{IsOf, IsToLook, IsMarked, number_in, doing, goes, next_in, found_in, verdict_in, seen_of};
@@ -107,10 +107,11 @@ pub fn look<D: Decider>(claimed: &mut Claimed<D>, field: &Field<'_, D>) -> Seen
     }
 }
 
-/// The turn has its mark, and its cells are to be freed.
+/// The turn has its mark, and its cells are to be freed. There is one at least, the own body.
 pub fn unseal<D: Decider>(claimed: Claimed<D>) -> Freeing<D>
     requires looked { IsMarked claimed }
-    ensures { result ≡ claimed }
+    ensures same { result ≡ claimed }
+    ensures some { 0 < length (doing claimed).held }
 {
     let Claimed {
         activation,

@@ -1,4 +1,4 @@
-ghost use Rattle.std.specs.Prelude.{◌≡◌, ◌<◌, length, Some, IfOk, IfErr};
+ghost use Rattle.std.specs.Prelude.{◌≡◌, ◌<◌, ◌≤◌, length, Some, IfOk, IfErr};
 ghost use Rattle.amoebot_state.specs.declared.cell.Cell.{Cell};
 ghost use Rattle.claim_core.specs.declared.state.Phase.TheVariants.{Refusing};
 ghost use Rattle.claim_core.specs.Machine.{won};
@@ -32,10 +32,12 @@ impl<D: Decider> Model for Held<D> {
 }
 
 impl<D: Decider> Held<D> {
-    /// The next cell of the zone by the values that were recorded; None exactly where the whole zone is held.
+    /// The next cell of the zone by the values that were recorded; None exactly where the whole zone is held. A zone has at most 19
+    /// cells.
     pub fn next(&self, _field: &Field<'_, D>) -> Option<CellName>
         requires { IsOf _field.now self.now }
-        ensures { result ≡ next_in D.verdict self.now }
+        ensures next { result ≡ next_in D.verdict self.now }
+        ensures few { length (doing self.now).held ≤ 19 }
     {
         let activation = &self.activation;
         next_cell(
@@ -57,7 +59,8 @@ impl<D: Decider> Held<D> {
 pub fn begin<D: Decider>(seat: Seat<D>, turn: u32, bot: u16) -> Held<D>
     requires turn { (turn ≡ (doing seat).turn) × (turn < (about D.verdict seat.view).lists.turns) }
     requires bot { bot ≡ bot_in D.verdict seat.view }
-    ensures { result ≡ seat }
+    ensures same { result ≡ seat }
+    ensures one { result ≡ goes seat (doing seat) }
 {
     let Seat {
         seat,
