@@ -1,3 +1,4 @@
 pub mod Tables
 pub mod Moves
 pub mod Allowing
+pub mod Dealing

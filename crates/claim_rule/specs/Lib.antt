@@ -2,3 +2,4 @@ pub mod Views
 pub mod Stands
 pub mod Plays
 pub mod Tokens
+pub mod Seating

@@ -4,6 +4,7 @@
 mod field;
 mod rule;
 mod seat;
+mod seating;
 mod views;
 
 pub use field::Field;
