@@ -2,3 +2,4 @@ pub mod Tables
 pub mod Moves
 pub mod Allowing
 pub mod Dealing
+pub mod Giving

@@ -5,9 +5,11 @@ mod field;
 mod rule;
 mod seat;
 mod seating;
+mod seats;
 mod views;
 
 pub use field::Field;
 pub use rule::ClaimRule;
 pub use seat::Seat;
+pub use seats::Seats;
 pub use views::{Key, Record, Slot, Terms, View};
