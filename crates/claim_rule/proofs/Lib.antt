@@ -3,3 +3,5 @@ pub mod Moves
 pub mod Allowing
 pub mod Dealing
 pub mod Giving
+pub mod FirstSlots
+pub mod Opens

@@ -3,3 +3,4 @@ pub mod Stands
 pub mod Plays
 pub mod Tokens
 pub mod Seating
+pub mod Opened

@@ -2,6 +2,7 @@
 #![tactic(auto)]
 
 mod field;
+mod make;
 mod rule;
 mod seat;
 mod seating;
