@@ -30,6 +30,7 @@ use Rattle.claim_rule.specs.declared.views.Terms.{Terms}
 use Rattle.claim_rule.specs.declared.views.View.{View}
 use Rattle.claim_rule.specs.Views.{record_of, setup, cells}
 use Rattle.claim_rule.specs.Stands.{IsFoundAt, HasCommitted, IsRecord, HasRecord, AreWords, AreHomes, AreViews, Stands, Holds, records_from, first_view, turns_left}
+use Rattle.claim_rule.specs.Tokens.{FieldOf, IsField}
 use Rattle.claim_rule.specs.Opened.{AreFirstSlots}
 
 zero_at : (n k : ℕ) → ◌≡◌ {A = ℕ} (get_or (replicate n 0) k 0) 0
@@ -137,3 +138,19 @@ module _ {D : Type 0} (verdict : D → Shown → Verdict) (z : Terms D) where
       tagged : (o : Option ℕ) (t : ℕ) → at start.tags o ≡ Some t → t ≡ 0
       tagged None t e = absurd (none-some t e)
       tagged (Some k) t e = zero_there (values_of z.world) k t e
+
+  -- a field with these terms keeps what a field keeps
+  pub is_field : (f : FieldOf D) → f.terms ≡ z → IsSetup g → f.table.words ≡ cells z.world + 1 → f.table.slots ≡ cells z.world + 1 → IsField verdict f z.decider z.world
+  is_field f same ok words slots = record {
+    run = subst (λ t. IsSetup (setup verdict t)) (sym same) ok;
+    words = words ∙ ap (λ (t : Terms D). cells t.world + 1) (sym same);
+    slots = slots ∙ ap (λ (t : Terms D). cells t.world + 1) (sym same);
+    decider = ap (λ (t : Terms D). t.decider) same;
+    world = ap (λ (t : Terms D). t.world) same;
+  }
+
+  -- there are as many slots as cells, and one more
+  pub slots_count : (slots : List Slot) → AreFirstSlots z.world z.lists slots → length slots ≡ cells z.world + 1
+  slots_count slots first =
+      ap (λ (xs : List Slot). length xs) first.are ∙ length-append (map (λ (x : Cell). slot.Cell x) (values_of z.world)) (slot.Journal first.journal ∷ [])
+      ∙ (let s = length-map (values_of z.world) (λ (x : Cell). slot.Cell x) in let n = length-values z.world in omega (arith, s, n))
