@@ -5,3 +5,4 @@ pub mod Dealing
 pub mod Giving
 pub mod FirstSlots
 pub mod Opens
+pub mod Deals

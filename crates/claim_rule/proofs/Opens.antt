@@ -74,7 +74,7 @@ module _ {D : Type 0} (verdict : D → Shown → Verdict) (z : Terms D) where
   there b zero (x ∷ ks) k e = ap (λ (y : Caller). Some (record_of b y)) (same_Some x k e) ∙ ap (λ n. Some (record_of n k)) (let n : b ≡ b + 0 = omega arith in n)
   there b (suc j) (x ∷ ks) k e = there (b + 1) j ks k e ∙ ap (λ n. Some (record_of n k)) (let n : b + 1 + j ≡ b + suc j = omega arith in n)
 
-  fresh_there : (ids : List (List ℕ)) (c : ℕ) → c < length ids → slice_get (map (λ (_ : List ℕ). machine.fresh g) ids) c ≡ Some (machine.fresh g)
+  pub fresh_there : (ids : List (List ℕ)) (c : ℕ) → c < length ids → slice_get (map (λ (_ : List ℕ). machine.fresh g) ids) c ≡ Some (machine.fresh g)
   fresh_there [] c lt = absurd (omega (arith, lt))
   fresh_there (x ∷ xs) zero lt = refl
   fresh_there (x ∷ xs) (suc c) lt = fresh_there xs c (omega (arith, lt))

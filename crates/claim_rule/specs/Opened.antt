@@ -25,14 +25,15 @@ pub record AreFirstSlots (world : Config) (lists : CallerLists) (slots : List Sl
   pub entries : journal.entries ≡ []
   pub room : length lists.ids * lists.turns ≤ journal.spare
 
+module _ {D : Type 0} where
+  -- the seat of a field that has one record
+  abbrev pub seat_with : FieldOf D → Record → Token D
+  seat_with f r = record { table = f.table; view = view_of f.terms (r ∷ []) }
+
 module _ {D : Type 0} (verdict : D → Shown → Verdict) where
   -- the records of all callers before their first turn, by their numbers
   abbrev pub first_records : Terms D → List Record
   first_records z = records_from verdict z 0 (map (λ (_ : List ℕ). fresh (setup verdict z)) z.lists.ids)
-
-  -- the seat that has one record
-  abbrev pub seat_with : FieldOf D → Record → Token D
-  seat_with f r = record { table = f.table; view = view_of f.terms (r ∷ []) }
 
   -- a seat for each caller, each before its first turn
   abbrev pub first_seats : FieldOf D → SeatsOf D
