@@ -5,3 +5,8 @@ pub mod Claims
 pub mod Releases
 pub mod Looks
 pub mod Activating
+pub mod Dealing
+pub mod Giving
+pub mod FirstSlots
+pub mod Opens
+pub mod Deals

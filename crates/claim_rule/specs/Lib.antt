@@ -2,3 +2,5 @@ pub mod Views
 pub mod Stands
 pub mod Plays
 pub mod Tokens
+pub mod Seating
+pub mod Opened

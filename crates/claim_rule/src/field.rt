@@ -12,7 +12,7 @@ use std::marker::Model;
 #[derive(Drop)]
 pub struct Field<'d, D: Decider> {
     pub(crate) table: Table<Slot, View<D>, Key<'d, D>, ClaimRule, Global>,
-    decider: &'d D,
+    pub(crate) decider: &'d D,
     pub(crate) world: World,
 }
 
