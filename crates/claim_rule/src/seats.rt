@@ -32,6 +32,7 @@ impl<D: Decider> Seats<D> {
         ensures none { (result ≡ None) ↔ All (λ seat. seat ≡ None) self.old.seats }
         ensures first { IfSome result (λ seat. IsFirst self.old.seats seat × (self.new ≡ record self.old { seats = slice_set self.old.seats (number_in seat) None })) }
         ensures stays { result ≡ None → self.new ≡ self.old }
+        ensures of { IfSome result (λ seat. (seat.table ≡ self.old.table) × (seat.view.terms ≡ self.old.terms)) }
     {
         let place = first_there(self.seats.as_slice())?;
         self.seats[place].take()

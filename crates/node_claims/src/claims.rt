@@ -5,8 +5,8 @@ ghost use Rattle.node_claims.specs.Claims.{IsClaimed, IsRefused, at_next, freed_
 
 use amoebot_state::Decider;
 use claim_rule::{
-    Claimed, Field, Freeing, Refused, Seat, Seen, begin, end, free_last, look, refuse, seal, unseal,
-    win,
+    Claimed, Field, Freeing, Refused, Seat, Seen, begin, end, free_last, look, refuse, seal,
+    unseal, win,
 };
 
 /// Claims the zone of the caller's next turn, cell by cell in zone order. It stops at the first cell that another caller holds, and

@@ -2,5 +2,7 @@
 #![tactic(auto)]
 
 mod claims;
+#[cfg(test)]
+mod tests;
 
 pub use claims::{place, release, try_claim};
