@@ -23,6 +23,7 @@ use Rattle.claim_rule.specs.declared.views.Terms.{Terms}
 use Rattle.claim_rule.specs.declared.views.View.{View}
 use Rattle.claim_rule.specs.Views.{Content, Seated, view_of, own, setup, cells}
 use Rattle.claim_rule.specs.Stands.{Stands, Holds, turns_left}
+use Rattle.claim_rule.specs.Nexts.{GoesOn}
 
 -- each cell has a tag and a value
 pub tags_count : (g : Setup) → IsSetup g → (s : State) → Sound g s → (length s.tags ≡ cells g.world) × (length s.values ≡ cells g.world)
@@ -42,14 +43,11 @@ pub turns_same : (g : Setup) (old new : State) (c : ℕ) (k k' : Caller) → sli
 turns_same g old new c k k' there now same = omega (arith, ap (λ (ks : List Caller). unmarked g.lists.turns (map (λ (j : Caller). j.marks) ks)) now, ap (unmarked g.lists.turns) (marks_same old.callers c k k' there same))
 
 module _ {D : Type 0} (verdict : D → Shown → Verdict) (z : Terms D) where
-  -- the step goes on: there is a new view, and an act on slots, that keep the rule and tell what is told
-  abbrev pub Goes : Content D → ℕ → ℕ → Seated D → (ℕ → Seated D → Type 0) → ℕ → Type 0
-  Goes s i seat me then x = (w : View D) × (a : Act Slot) × Valid s.homes me.1 a × Holds verdict z (stepped s i x seat me.1 w a) × then (slice_index s.words i) (w, carried_after me.1 a)
-
   -- a step is allowed where it goes on at each table that stands for a state and gives the seat one record
   pub allowed : (slots seat : ℕ) (me : Seated D) (i : ℕ) (f : ℕ → ℕ) (Fact : Seated D → Type 0) (then : Seated D → ℕ → Seated D → Type 0) → me.0 ≡ view_of z (own me.0 ∷ []) → Fact me
       → ((s : Content D) (steps : List ℕ) (r : Record) → Stands verdict z s (after (setup verdict z) steps) → get_elem? s.views seat ≡ home.some (view_of z (r ∷ [])) → Fact (view_of z (r ∷ []), me.1)
-      → Goes s i seat (view_of z (r ∷ []), me.1) (then (view_of z (r ∷ []), me.1)) (f (slice_index s.words i)))
+      → GoesOn verdict z s steps i seat (view_of z (r ∷ []), me.1) (then (view_of z (r ∷ []), me.1)) (f (slice_index s.words i)))
       → Allows (Holds verdict z) slots seat me i f (then me)
   allowed slots seat me i f Fact then one fact goes s h wide at _ =
-      subst (λ (m : Seated D). Fact m → get_elem? s.views seat ≡ home.some m.0 → Goes s i seat m (then m) (f (slice_index s.words i))) (λ q. (sym one q, me.1)) (λ t there. goes s h.0 (own me.0) h.1 there t) fact at
+      let on = subst (λ (m : Seated D). Fact m → get_elem? s.views seat ≡ home.some m.0 → GoesOn verdict z s h.0 i seat m (then m) (f (slice_index s.words i))) (λ q. (sym one q, me.1)) (λ t there. goes s h.0 (own me.0) h.1 there t) fact at in
+      (on.0, on.1, on.2, ((own me.0).number ∷ h.0, on.3), on.4)

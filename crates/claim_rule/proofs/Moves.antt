@@ -87,8 +87,8 @@ module _ {D : Type 0} (verdict : D → Shown → Verdict) (z : Terms D) (ok : Is
     pub moved : (new : State) (r' : Record) (words : List ℕ) (homes : List (home.Option Slot)) → new ≡ next g r.number core → r'.number ≡ r.number → new.callers ≡ set core.callers r.number r'.caller
         → AreWords g new words → AreHomes g new homes → ((q : Record) → q.number ≢ r.number → HasCommitted g core q.number q.committed q.taken → HasCommitted g new q.number q.committed q.taken)
         → HasCommitted g new r.number r'.committed r'.taken → length new.journal + turns_left g new ≤ 65536
-        → Holds verdict z (record { words = words; homes = homes; views = set s.views seat (view_of z (r' ∷ [])) })
-    moved new r' words homes step same callers words_are homes_are others own few = (r.number ∷ steps, subst (Stands verdict z _) step stands)
+        → Stands verdict z (record { words = words; homes = homes; views = set s.views seat (view_of z (r' ∷ [])) }) (after g (r.number ∷ steps))
+    moved new r' words homes step same callers words_are homes_are others own few = subst (Stands verdict z _) step stands
       where
         views : List (View D)
         views = later z s.views seat r r' there
@@ -134,7 +134,7 @@ module _ {D : Type 0} (verdict : D → Shown → Verdict) (z : Terms D) (ok : Is
 
     -- the same where the journal and its holder are as before, and no mark goes
     pub moves : (new : State) (k : Caller) (words : List ℕ) (homes : List (home.Option Slot)) → new ≡ next g r.number core → new.callers ≡ set core.callers r.number k → new.journal ≡ core.journal → new.holder ≡ core.holder → turns_left g new ≤ turns_left g core
-        → AreWords g new words → AreHomes g new homes → Holds verdict z (record { words = words; homes = homes; views = set s.views seat (view_of z (record r { caller = k } ∷ [])) })
+        → AreWords g new words → AreHomes g new homes → Stands verdict z (record { words = words; homes = homes; views = set s.views seat (view_of z (record r { caller = k } ∷ [])) }) (after g (r.number ∷ steps))
     moves new k words homes step callers journal holder fewer words_are homes_are = moved new (record r { caller = k }) words homes step refl callers words_are homes_are
         (λ q apart. committed_stays g core new q.number q.committed q.taken journal holder fewer) (committed_stays g core new r.number r.committed r.taken journal holder fewer mine.committed)
         (omega (arith, fewer, st.few, ap (λ (es : List _). length es) journal))
