@@ -1,0 +1,8 @@
+//! Claims of whole zones: all cells in zone order or none, and their release.
+#![tactic(auto)]
+
+mod claims;
+#[cfg(test)]
+mod tests;
+
+pub use claims::{place, release, try_claim};
