@@ -4,3 +4,4 @@ pub mod Plays
 pub mod Tokens
 pub mod Seating
 pub mod Opened
+pub mod Closing
