@@ -6,3 +6,4 @@ pub mod Giving
 pub mod FirstSlots
 pub mod Opens
 pub mod Deals
+pub mod Gathering

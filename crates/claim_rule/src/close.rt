@@ -1,45 +1,30 @@
 //! How a field ends.
-ghost use Rattle.std.specs.Prelude.{◌≡◌, ℕ, List, [], IsSome};
-ghost use Rattle.std.specs.List.{All};
-ghost use Rattle.claim_rule.specs.Seating.{AreOf};
-ghost use Rattle.claim_rule.specs.Closing.{ClosesAs};
+ghost use Rattle.std.specs.Prelude.{◌≡◌, ℕ, List, [], slice_get, Some};
+ghost use Rattle.claim_rule.specs.declared.views.Record.{Record};
+ghost use Rattle.claim_rule.specs.Views.{view_of};
+ghost use Rattle.claim_rule.specs.Tokens.{Token};
+ghost use Rattle.claim_rule.specs.Closing.{HaveAll};
 
 use crate::field::Field;
-use crate::seats::Seats;
+use crate::seat::Seat;
 use crate::views::{Slot, View};
-use amoebot_state::{Decider, Entry, World};
+use amoebot_state::Decider;
 use atomic_table::Seat as TableSeat;
-use claim_core::Journal;
 
-impl<'d, D: Decider> Field<'d, D> {
-    /// The last world and the journal, once all seats are back. It takes no memory.
-    pub fn close(self, seats: Seats<D>) -> (World, Journal)
-        requires field { AreOf self seats }
-        requires all { All (λ seat. IsSome seat) seats.seats }
-        ensures { ClosesAs D.verdict self.entry.terms seats.entry.seats result.0 result.1 }
-    {
-        let Seats { mut rest, seats } = seats;
-        for seat in seats {
-            if let Some(seat) = seat {
-                self.gather(&mut rest, seat.seat);
-            }
+/// All records come back to the first seat.
+pub(crate) fn gather_all<'d, D: Decider>(
+    field: &Field<'d, D>,
+    mut rest: TableSeat<Slot, View<D>>,
+    mut seats: Vec<Option<Seat<D>>>,
+) -> TableSeat<Slot, View<D>>
+    requires field { (rest.table_id ≡ field.now.table) × (rest.me ≡ (view_of field.now.terms [], [])) }
+    requires seats { (c : ℕ) (t : Token D) → slice_get seats.items c ≡ Some (Some t) → (t.table ≡ field.now.table) × (t.view.terms ≡ Some field.now.terms) }
+    ensures { (result.table_id ≡ field.now.table) × ((rs : List Record) × (result.me ≡ (view_of field.now.terms rs, [])) × HaveAll seats.items rs) }
+{
+    while let Some(place) = seats.pop() {
+        if let Some(seat) = place {
+            field.gather(&mut rest, seat.seat);
         }
-        let Field {
-            table,
-            decider: _,
-            mut world,
-        } = self;
-        let cells = world.area().size() as usize + usize::from(world.bots());
-        let mut closed = table.close_with(rest);
-        let journal = match closed.take(cells) {
-            Slot::Journal(journal) => journal,
-            _ => unreachable!(),
-        };
-        for cell in 0..cells {
-            drop(closed.take(cell));
-        }
-        closed.free();
-        follow(&mut world, journal.entries());
-        (world, journal)
     }
+    rest
 }

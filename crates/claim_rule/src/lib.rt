@@ -1,6 +1,7 @@
 //! The rule over the words, slots and views of the table that callers share, and the calls that are single steps on it.
 #![tactic(auto)]
 
+mod close;
 mod field;
 mod make;
 mod rule;
