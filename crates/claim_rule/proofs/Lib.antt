@@ -1,6 +1,10 @@
 pub mod Tables
 pub mod Moves
 pub mod Allowing
+pub mod Claims
+pub mod Releases
+pub mod Looks
+pub mod Activating
 pub mod Dealing
 pub mod Giving
 pub mod FirstSlots
