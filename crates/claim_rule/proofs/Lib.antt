@@ -11,3 +11,4 @@ pub mod FirstSlots
 pub mod Opens
 pub mod Deals
 pub mod Gathering
+pub mod Closes

@@ -1,7 +1,7 @@
 -- What a field leaves once all its seats are back.
 use Rattle.std.specs.Prelude.{◌≡◌, ℕ, List, slice_get}
 use Rattle.std.specs.declared.option.Option.{Option}
-use Rattle.std.specs.declared.option.Option.TheVariants.{Some}
+use Rattle.std.specs.declared.option.Option.TheVariants.{Some, None}
 use Rattle.amoebot_state.specs.declared.verdict.Verdict.{Verdict}
 use Rattle.amoebot_state.specs.Configs.{Config}
 use Rattle.amoebot_state.specs.Zones.{Shown}
@@ -22,6 +22,6 @@ pub record ClosesAs {D : Type 0} (verdict : D → Shown → Verdict) (z : Terms 
   pub entries : journal.entries ≡ (after (setup verdict z) steps).journal
   pub values : HasValues (setup verdict z) (after (setup verdict z) steps) world
 
--- the records of all seats that are there are among these
+-- the records of all seats that are there are among these, and none of them has the journal taken
 abbrev pub HaveAll : {D : Type 0} → List (Option (Token D)) → List Record → Type 0
-HaveAll {D} seats rs = (c : ℕ) (t : Token D) → slice_get seats c ≡ Some (Some t) → (place : ℕ) × (slice_get rs place ≡ Some (record_in t))
+HaveAll {D} seats rs = (c : ℕ) (t : Token D) → slice_get seats c ≡ Some (Some t) → (place : ℕ) × (slice_get rs place ≡ Some (record_in t)) × ((record_in t).taken ≡ None)
