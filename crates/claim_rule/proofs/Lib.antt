@@ -12,3 +12,4 @@ pub mod Opens
 pub mod Deals
 pub mod Gathering
 pub mod Closes
+pub mod Determined

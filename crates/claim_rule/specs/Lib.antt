@@ -5,3 +5,4 @@ pub mod Tokens
 pub mod Seating
 pub mod Opened
 pub mod Closing
+pub mod Laws
