@@ -46,7 +46,7 @@ follows f now next last es k e there run patched =
     subst (λ c. Run f c (drop (k + 1) es) last) (patched_is_unique now rest.0 next e.patch rest.1.patched patched) rest.2
 
 -- each of these places has a seat
-some_there : {A : Type 0} (xs : List (Option A)) (c : ℕ) → c < length xs → All (λ o. IsSome o) xs → (x : A) × (slice_get xs c ≡ Some (Some x))
+pub some_there : {A : Type 0} (xs : List (Option A)) (c : ℕ) → c < length xs → All (λ o. IsSome o) xs → (x : A) × (slice_get xs c ≡ Some (Some x))
 some_there {A} xs c lt all = by (get_or xs c None) (slice_get-get_or xs c None lt) (all c None lt)
   where
     by : (o : Option A) → slice_get xs c ≡ Some o → IsSome o → (x : A) × (slice_get xs c ≡ Some (Some x))

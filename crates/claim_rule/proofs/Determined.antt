@@ -67,7 +67,7 @@ same_entries n p (e ∷ es) (f ∷ fs) few few' same =
     ]
 
 -- lists with the same elements at the same places
-same_elements : {A : Type 0} (xs ys : List A) → length xs ≡ length ys → ((k : ℕ) → k < length xs → slice_get xs k ≡ slice_get ys k) → xs ≡ ys
+pub same_elements : {A : Type 0} (xs ys : List A) → length xs ≡ length ys → ((k : ℕ) → k < length xs → slice_get xs k ≡ slice_get ys k) → xs ≡ ys
 same_elements [] [] long each = refl
 same_elements [] (y ∷ ys) long each = absurd (omega (arith, long))
 same_elements (x ∷ xs) [] long each = absurd (omega (arith, long))

@@ -13,3 +13,4 @@ pub mod Deals
 pub mod Gathering
 pub mod Closes
 pub mod Determined
+pub mod Ends

@@ -23,7 +23,7 @@ pub use claimed::{Claimed, Seen, look, seal, unseal};
 pub use field::Field;
 pub use freeing::{Freeing, end, free_last};
 pub use held::{Held, begin, win};
-pub use laws::state_is_determined;
+pub use laws::{field_ends_one_way, state_is_determined};
 pub use rule::ClaimRule;
 pub use seat::Seat;
 pub use seats::Seats;
