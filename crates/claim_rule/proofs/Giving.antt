@@ -58,3 +58,10 @@ module _ {D : Type 0} (rest : Seated D) (table : TableId) (seats : List (Option 
       by (Some t) e =
           let first = first_is c t e least in
           (subst (λ (s : SeatsOf D). IsFirst s.seats t) is first.0, λ i. record { table = (is i).table; terms = (is i).terms; seats = set (is i).seats (first.1 i) (gone i) })
+
+  -- and it is one of the field
+  pub takes_own : (old : SeatsOf D) (r : Option (Token D)) (After : Token D → Type 0) → with_seats seats ≡ old → IfSome r (λ t. IsFirst old.seats t × After t) → IfSome r (λ t. (t.table ≡ old.table) × (t.view.terms ≡ old.terms))
+  takes_own old None After is has = has
+  takes_own old (Some t) After is has =
+      let of = are.each (number_in t) t (ap (λ (s : SeatsOf D). slice_get s.seats (number_in t)) is ∙ has.0.there) in
+      (of.0 ∙ ap (λ (s : SeatsOf D). s.table) is, of.1 ∙ sym (ap (λ (m : Seated D). m.0.terms) are.dealt) ∙ ap (λ (s : SeatsOf D). s.terms) is)

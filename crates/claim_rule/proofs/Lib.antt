@@ -10,3 +10,7 @@ pub mod Giving
 pub mod FirstSlots
 pub mod Opens
 pub mod Deals
+pub mod Gathering
+pub mod Closes
+pub mod Determined
+pub mod Ends

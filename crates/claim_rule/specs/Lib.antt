@@ -5,3 +5,5 @@ pub mod Nexts
 pub mod Tokens
 pub mod Seating
 pub mod Opened
+pub mod Closing
+pub mod Laws

@@ -28,6 +28,7 @@ impl<'d, D: Decider> Field<'d, D> {
         requires bots { All (All (λ id. IsSome (bot_at world id))) lists.now.ids }
         ensures terms { IfOk result (λ made. made.0.terms ≡ terms_of decider.now world lists.now) }
         ensures seats { IfOk result (λ made. made.1 ≡ first_seats D.verdict made.0) }
+        ensures all { IfOk result (λ made. All (λ seat. IsSome seat) made.1.seats) }
     {
         let (field, rest) = open(alloc, decider, world, lists)?;
         let seats = deal_all(alloc, &field, rest, lists.callers())?;

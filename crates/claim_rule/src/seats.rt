@@ -31,6 +31,7 @@ impl<D: Decider> Seats<D> {
     pub fn take(&mut self) -> Option<Seat<D>>
         ensures none { (result ≡ None) ↔ All (λ seat. seat ≡ None) self.old.seats }
         ensures first { IfSome result (λ seat. IsFirst self.old.seats seat × (self.new ≡ record self.old { seats = slice_set self.old.seats (number_in seat) None })) }
+        ensures of { IfSome result (λ seat. (seat.table ≡ self.old.table) × (seat.view.terms ≡ self.old.terms)) }
         ensures stays { result ≡ None → self.new ≡ self.old }
         ensures of { IfSome result (λ seat. (seat.table ≡ self.old.table) × (seat.view.terms ≡ self.old.terms)) }
     {
