@@ -33,7 +33,6 @@ impl<D: Decider> Seats<D> {
         ensures first { IfSome result (λ seat. IsFirst self.old.seats seat × (self.new ≡ record self.old { seats = slice_set self.old.seats (number_in seat) None })) }
         ensures of { IfSome result (λ seat. (seat.table ≡ self.old.table) × (seat.view.terms ≡ self.old.terms)) }
         ensures stays { result ≡ None → self.new ≡ self.old }
-        ensures of { IfSome result (λ seat. (seat.table ≡ self.old.table) × (seat.view.terms ≡ self.old.terms)) }
     {
         let place = first_there(self.seats.as_slice())?;
         self.seats[place].take()
