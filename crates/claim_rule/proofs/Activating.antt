@@ -84,8 +84,7 @@ module _ {D : Type 0} (verdict : D → Shown → Verdict) where
   pub begun : (m : Seated D) (c u t b : ℕ) (a : Extent) (greatest : List ℕ) (pairs : Pairs) → IsSeat verdict m c u a greatest → t ≡ (own m.0).caller.turn → t < (about verdict m.0).lists.turns → b ≡ bot_in verdict m.0 → pairs ≡ []
       → IsActivation verdict m c t b a greatest pairs × IsClaiming verdict m t b pairs
   begun m c u t b a greatest pairs is turn lt of none =
-      subst (λ ps. IsActivation verdict m c t b a greatest ps × IsClaiming verdict m t b ps) (sym none)
-      (
+      subst (λ ps. IsActivation verdict m c t b a greatest ps × IsClaiming verdict m t b ps) (sym none) (
         record {
           alone = is.alone;
           run = is.run;
@@ -200,11 +199,10 @@ module _ {D : Type 0} (verdict : D → Shown → Verdict) where
 
     -- the turn has its mark
     pub marks : (m' : Seated D) (place : ℕ) → (own m.0).caller.turn ≡ t → m'.0 ≡ goes_on m.0 (marked_at g (own m.0).caller place) → m'.1 ≡ m.1 → IsActivation verdict m' c t b a greatest pairs × IsFreeing verdict m' t pairs
-    marks m' place turn view out =
-        (
-          stays m' (marked_at g (own m.0).caller place) view (frees-held g (own m.0).caller.turn (own m.0).caller.held _) out,
-          subst (λ q. IsFreeing verdict q t pairs) (λ i. (sym view i, sym out i)) now,
-        )
+    marks m' place turn view out = (
+      stays m' (marked_at g (own m.0).caller place) view (frees-held g (own m.0).caller.turn (own m.0).caller.held _) out,
+      subst (λ q. IsFreeing verdict q t pairs) (λ i. (sym view i, sym out i)) now,
+    )
       where
         ms : List Mark
         ms = (own m.0).caller.marks ++ mark_at (own m.0).caller.phase place ∷ []
@@ -214,11 +212,10 @@ module _ {D : Type 0} (verdict : D → Shown → Verdict) where
 
     -- the turn of a whole zone has its mark
     pub looked : (m' : Seated D) (place : ℕ) (told : Shown) → IsWhole verdict m t b pairs told → m'.0 ≡ goes_on m.0 (marked_at g (own m.0).caller place) → m'.1 ≡ m.1 → IsActivation verdict m' c t b a greatest pairs × IsWhole verdict m' t b pairs told
-    looked m' place told wh view out =
-        (
-          (marks m' place wh.turn view out).0,
-          subst (λ q. IsWhole verdict q t b pairs told) (λ i. (sym view i, sym out i)) now,
-        )
+    looked m' place told wh view out = (
+      (marks m' place wh.turn view out).0,
+      subst (λ q. IsWhole verdict q t b pairs told) (λ i. (sym view i, sym out i)) now,
+    )
       where
         ms : List Mark
         ms = (own m.0).caller.marks ++ mark_at (own m.0).caller.phase place ∷ []

@@ -83,14 +83,13 @@ module _ {D : Type 0} (verdict : D → Shown → Verdict) (z : Terms D) (ok : Is
 
       -- the cell was free
       hits : old ≡ 0 → Goes verdict z s i seat (view_of z (r ∷ []), carried) (claimed verdict (step slots i 0 t home.none) (view_of z (r ∷ []), carried)) t
-      hits free =
-          (
-            view_of z (record r { caller = won g c k n x } ∷ []),
-            takes i (slot.Cell x),
-            st.homes.cell i x (ap (at core.tags) (sym to.placed.0) ∙ found_free) (ap (at core.values) (sym to.placed.0) ∙ value),
-            moves verdict z ok s steps st seat r there new (won g c k n x) (set s.words i t) (set s.homes i home.none) leads refl refl refl fewer words homes,
-            ((λ _. (x, refl, refl, known)), λ held. absurd (held free)),
-          )
+      hits free = (
+        view_of z (record r { caller = won g c k n x } ∷ []),
+        takes i (slot.Cell x),
+        st.homes.cell i x (ap (at core.tags) (sym to.placed.0) ∙ found_free) (ap (at core.values) (sym to.placed.0) ∙ value),
+        moves verdict z ok s steps st seat r there new (won g c k n x) (set s.words i t) (set s.homes i home.none) leads refl refl refl fewer words homes,
+        ((λ _. (x, refl, refl, known)), λ held. absurd (held free)),
+      )
         where
           x : Cell
           x = get_or core.values i (cell.Spot None)
@@ -141,14 +140,13 @@ module _ {D : Type 0} (verdict : D → Shown → Verdict) (z : Terms D) (ok : Is
 
       -- another's tag was found
       misses : old ≢ 0 → Goes verdict z s i seat (view_of z (r ∷ []), carried) (claimed verdict (step slots i 0 t home.none) (view_of z (r ∷ []), carried)) old
-      misses held =
-          (
-            view_of z (record r { caller = k' } ∷ []),
-            keeps,
-            tt,
-            moves verdict z ok s steps st seat r there new k' (set s.words i old) s.homes leads refl refl refl fewer words homes,
-            ((λ free. absurd (held free)), λ _. (refl, refl, others)),
-          )
+      misses held = (
+        view_of z (record r { caller = k' } ∷ []),
+        keeps,
+        tt,
+        moves verdict z ok s steps st seat r there new k' (set s.words i old) s.homes leads refl refl refl fewer words homes,
+        ((λ free. absurd (held free)), λ _. (refl, refl, others)),
+      )
         where
           k' : Caller
           k' = record k { phase = Refusing n old }

@@ -162,4 +162,4 @@ module _ {D : Type 0} (verdict : D → Shown → Verdict) (own f : FieldOf D) (f
     closes j world e run =
         subst (λ (p : Terms D × List (Option (Token D))). ClosesAs verdict p.0 p.1 world j) (λ i. (terms_are i, items_are i))
         (closed verdict own.terms keeps.run end.0 end.1.0.0 end.1.0.1 id gathered.0 mine items count all_there number gathered.2 xs end.4 j world (ap (get_elem? xs) place_is ∙ e)
-          (subst (λ (p : D × Config). Run (verdict p.0) p.1 j.entries world) (λ i. (sym keeps.decider i, sym keeps.world i)) run))
+        (subst (λ (p : D × Config). Run (verdict p.0) p.1 j.entries world) (λ i. (sym keeps.decider i, sym keeps.world i)) run))

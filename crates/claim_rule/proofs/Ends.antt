@@ -71,7 +71,7 @@ module _ {D : Type 0} (verdict : D → Shown → Verdict) (z : Terms D) (seats :
 
   same_callers : (one two : State) → Sound g one → Sound g two → Knows one → Knows two → one.callers ≡ two.callers
   same_callers one two sound sound' knows knows' = same_elements one.callers two.callers (sound.callers ∙ sym sound'.callers) (λ c lt.
-    let t = some_there seats c (omega (arith, lt, sound.callers, count)) full in knows c t.0 t.1 ∙ sym (knows' c t.0 t.1))
+      let t = some_there seats c (omega (arith, lt, sound.callers, count)) full in knows c t.0 t.1 ∙ sym (knows' c t.0 t.1))
 
   listed : (one : State) → Sound g one → (k : ℕ) (e : Entry) → slice_get one.journal k ≡ Some e → IsListed z.lists e
   listed one sound k e at = subst (IsListed z.lists) (get_or_from_slice_get one.journal k e e at) (sound.order.listed k e (slice_get_within one.journal k e at))
@@ -79,16 +79,19 @@ module _ {D : Type 0} (verdict : D → Shown → Verdict) (z : Terms D) (seats :
   entry_too : (one two : State) → Sound g one → Sound g two → one.callers ≡ two.callers → (k : ℕ) (e : Entry) → slice_get one.journal k ≡ Some e → (f : Entry) × (slice_get two.journal k ≡ Some f) × AreOfOneTurn e f
   entry_too one two sound sound' same k e at =
       let by = told_by g one e.caller e.turn (mark.Done k) (sound.committed k e at) in
-      let has = (sound'.each e.caller by.0 (ap (λ ks. slice_get ks e.caller) (sym same) ∙ by.1)).right e.turn (mark.Done k) by.2 in
-      (has.0, has.1, record {
-        caller = sym has.2;
-        turn = sym has.3;
-        bot = (listed one sound k e at).bot ∙ (λ i. bot_of z.lists (sym has.2 i) (sym has.3 i)) ∙ sym (listed two sound' k has.0 has.1).bot;
-      })
+      let has = (sound'.each e.caller by.0 (ap (λ ks. slice_get ks e.caller) (sym same) ∙ by.1)).right e.turn (mark.Done k) by.2 in (
+        has.0,
+        has.1,
+        record {
+          caller = sym has.2;
+          turn = sym has.3;
+          bot = (listed one sound k e at).bot ∙ (λ i. bot_of z.lists (sym has.2 i) (sym has.3 i)) ∙ sym (listed two sound' k has.0 has.1).bot;
+        },
+      )
 
   same_journals : (one two : State) → Sound g one → Sound g two → one.callers ≡ two.callers → one.journal ≡ two.journal
   same_journals one two sound sound' same = same_runs g.verdict g.world one.journal two.journal sound.last sound'.last sound.run sound'.run (entry_too one two sound sound' same)
-    (λ k f at. let e = entry_too two one sound' sound (sym same) k f at in (e.0, e.1))
+      (λ k f at. let e = entry_too two one sound' sound (sym same) k f at in (e.0, e.1))
 
   last_is : (s : State) (world : Config) (sound : Sound g s) → HasValues g s world → world ≡ sound.last
   last_is s world sound has = same_world g s world sound.last has (framed g ok s sound) sound.values

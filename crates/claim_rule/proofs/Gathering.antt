@@ -98,7 +98,11 @@ module _ {D : Type 0} (z : Terms D) where
 
     -- once no place is left, all records are there
     pub all_gathered : (left : List (Option (Token D))) (m : Seated D) → Gathered z all left m → length left ≡ 0 → (rs : List Record) × (m ≡ (view_of z rs, [])) × HaveAll all rs
-    all_gathered left m so_far none = (so_far.records, so_far.has, λ c t e. elim (so_far.each c t e) [
-      | inl lt ↦ absurd (omega (arith, lt, none))
-      | inr there ↦ there
-    ])
+    all_gathered left m so_far none = (
+      so_far.records,
+      so_far.has,
+      λ c t e. elim (so_far.each c t e) [
+        | inl lt ↦ absurd (omega (arith, lt, none))
+        | inr there ↦ there
+      ],
+    )

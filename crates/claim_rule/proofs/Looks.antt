@@ -67,14 +67,13 @@ module _ {D : Type 0} (verdict : D → Shown → Verdict) (z : Terms D) (ok : Is
     last = cells z.world
 
     pub look_goes : (slots : ℕ) (carried : List (ℕ × Slot)) → Reads k.phase → Goes verdict z s last seat (view_of z (r ∷ []), carried) (read verdict (step slots last 0 0 home.none) (view_of z (r ∷ []), carried)) (slice_index s.words last)
-    look_goes slots carried reads =
-        (
-          view_of z (record r { caller = k' } ∷ []),
-          keeps,
-          tt,
-          moves verdict z ok s steps st seat r there new k' (set s.words last (slice_index s.words last)) s.homes leads refl refl refl fewer words homes,
-          (ap (λ n. view_of z (record r { caller = marked_at g k n } ∷ [])) (sym length_is), refl, omega (arith, st.few, length_is)),
-        )
+    look_goes slots carried reads = (
+      view_of z (record r { caller = k' } ∷ []),
+      keeps,
+      tt,
+      moves verdict z ok s steps st seat r there new k' (set s.words last (slice_index s.words last)) s.homes leads refl refl refl fewer words homes,
+      (ap (λ n. view_of z (record r { caller = marked_at g k n } ∷ [])) (sym length_is), refl, omega (arith, st.few, length_is)),
+    )
       where
         length_is : slice_index s.words last / 2 ≡ length core.journal
         length_is = ap (λ n. n / 2) st.words.journal ∙ half (length core.journal) core.holder

@@ -54,14 +54,13 @@ module _ {D : Type 0} (verdict : D → Shown → Verdict) (z : Terms D) (ok : Is
     at_c = (mine verdict z ok s steps st seat r there).caller
 
     pub release_goes : (i slots : ℕ) (carried : List (ℕ × Slot)) → IsToFree verdict i (view_of z (r ∷ []), carried) → Goes verdict z s i seat (view_of z (r ∷ []), carried) (λ _. freed verdict (step slots i 0 0 home.none) (view_of z (r ∷ []), carried) 0) 0
-    release_goes i slots carried to =
-        (
-          view_of z (record r { caller = released g k } ∷ []),
-          gives,
-          tt,
-          moves verdict z ok s steps st seat r there new (released g k) (set s.words i 0) (put_back s.homes carried) leads callers refl refl fewer words homes,
-          (refl, refl),
-        )
+    release_goes i slots carried to = (
+      view_of z (record r { caller = released g k } ∷ []),
+      gives,
+      tt,
+      moves verdict z ok s steps st seat r there new (released g k) (set s.words i 0) (put_back s.homes carried) leads callers refl refl fewer words homes,
+      (refl, refl),
+    )
       where
         n : CellName
         n = to.last.0

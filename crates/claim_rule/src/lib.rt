@@ -17,6 +17,8 @@ mod seats;
 mod slots;
 mod steps;
 mod stopped;
+#[cfg(test)]
+mod tests;
 mod views;
 
 pub use claimed::{Claimed, Seen, look, seal, unseal};

@@ -26,9 +26,10 @@ loop-place-preserved-in-Some-place g c =
     let pops : c.loop-place.seats.items ≡ c.pop.new.self.items ++ Some c.in-Some-place.seat ∷ [] = c.in-Some.ensures.items ∙ (λ i. c.pop.new.self.items ++ c.in-Some-place.is i ∷ []) in
     let there = last_is z c.args.seats.items c.loop-place.seats.items c.pop.new.self.items (Some c.in-Some-place.seat) c.loop-place.rest.me c.loop-place.invariant.1 pops in
     let its = one_record z c.seat.inside.seat.me c.in-Some-place.seat c.seat.inside.seat.table_id c.seat.view_is c.seat.invariant.alone c.seat.invariant.out (c.requires.seats _ c.in-Some-place.seat there).1 in
-    let none = ap (λ (t : Token g.row.D.Denot). (record_in t).taken) (sym c.seat.view_is) ∙ c.seat.invariant.taken in
-    (c.gather.ensures.0 ∙ c.loop-place.invariant.0,
-      taken_in z c.args.seats.items c.loop-place.seats.items c.pop.new.self.items c.in-Some-place.seat c.loop-place.rest.me c.seat.inside.seat.me c.gather.new.seat.me c.loop-place.invariant.1 pops none its c.gather.ensures.1)
+    let none = ap (λ (t : Token g.row.D.Denot). (record_in t).taken) (sym c.seat.view_is) ∙ c.seat.invariant.taken in (
+      c.gather.ensures.0 ∙ c.loop-place.invariant.0,
+      taken_in z c.args.seats.items c.loop-place.seats.items c.pop.new.self.items c.in-Some-place.seat c.loop-place.rest.me c.seat.inside.seat.me c.gather.new.seat.me c.loop-place.invariant.1 pops none its c.gather.ensures.1,
+    )
 
 pub loop-place-preserved : goal.loop-place-preserved
 loop-place-preserved g c =

@@ -6,8 +6,7 @@ use Rattle.claim_rule.proofs.held.win.Goals as goal
 
 pub invariant_of-result : goal.invariant_of-result
 invariant_of-result g c =
-    let told = c.claim-found.ensures.told.1 c.if-found-ne0.true in
-    (
+    let told = c.claim-found.ensures.told.1 c.if-found-ne0.true in (
       stays g.D.Decider.verdict c.held.inside.activation.seat.me _ _ _ _ _ _ c.held.invariant.0 c.claim-found.new.seat.me _ told.0 refl told.1,
       record { turn = ap (λ v. (Rattle.claim_rule.specs.Views.own v).caller.turn) told.0 ∙ c.held.invariant.1.turn },
     )

@@ -35,10 +35,11 @@ loop-caller-preserved g c =
     let z = c.args.field.now.terms in
     let lt : c.loop-caller.caller < length z.lists.ids = omega (arith, c.loop-caller-test.true, c.requires.callers) in
     let view = ap (λ (m : Seated g.row.D.Denot). m.0) c.deal-seat.ensures.dealt.1 ∙ one_dealt g.D.Decider.verdict z c.loop-caller.rest.me c.loop-caller.caller lt c.loop-caller.invariant.1 in
-    let table = c.deal-seat.ensures.dealt.0 ∙ c.loop-caller.invariant.0 in
-    (c.deal-seat.ensures.rest.0 ∙ c.loop-caller.invariant.0,
+    let table = c.deal-seat.ensures.dealt.0 ∙ c.loop-caller.invariant.0 in (
+      c.deal-seat.ensures.rest.0 ∙ c.loop-caller.invariant.0,
       c.deal-seat.ensures.rest.1 ∙ others_left g.D.Decider.verdict z c.loop-caller.rest.me c.loop-caller.caller lt c.loop-caller.invariant.1,
-      c.in_ok-push.ensures.items ∙ dealt_so_far g.D.Decider.verdict c.args.field.now c.loop-caller.seats.items c.loop-caller.caller _ lt c.loop-caller.invariant.2 (λ i. record { table = table i; view = view i }))
+      c.in_ok-push.ensures.items ∙ dealt_so_far g.D.Decider.verdict c.args.field.now c.loop-caller.seats.items c.loop-caller.caller _ lt c.loop-caller.invariant.2 (λ i. record { table = table i; view = view i }),
+    )
 
 pub invariant_of-result : goal.invariant_of-result
 invariant_of-result g c =

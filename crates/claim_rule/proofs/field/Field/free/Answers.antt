@@ -9,8 +9,7 @@ pub store-requires : goal.store-requires
 store-requires g c =
     let me = c.args.seat.now.me in
     let alone = c.requires.alone ∙ ap (λ (f : FieldOf _). view_of f.terms (own me.0 ∷ [])) (sym c.self.view_is) in
-    let to = subst (λ (m : Seated _). IsToFree g.D.Decider.verdict c.args.cell m) (λ i. (alone i, me.1)) c.requires.last in
-    (
+    let to = subst (λ (m : Seated _). IsToFree g.D.Decider.verdict c.args.cell m) (λ i. (alone i, me.1)) c.requires.last in (
       c.requires.table ∙ ap (λ (f : FieldOf _). f.table) (sym c.self.view_is),
       omega (arith, to.inside, c.self.invariant.words),
       release_allowed g.D.Decider.verdict _ c.self.invariant.run _ _ me c.args.cell alone c.requires.last,

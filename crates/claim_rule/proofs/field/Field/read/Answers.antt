@@ -17,10 +17,9 @@ load-requires g c =
     let alone = c.requires.alone ∙ ap (λ (f : FieldOf _). view_of f.terms (own me.0 ∷ [])) (sym c.self.view_is) in
     let spots = c.size.ensures.value ∙ ap (λ (a : Extent). a.w * a.h) c.area.ensures in
     let bodies = c.from.ensures ∙ c.bots.ensures.value in
-    let number : c.size.result + c.from.result ≡ cells z.world = (λ i. spots i + bodies i) ∙ ap cells (sym c.self.invariant.world) in
-    (
+    let number : c.size.result + c.from.result ≡ cells z.world = (λ i. spots i + bodies i) ∙ ap cells (sym c.self.invariant.world) in (
       c.requires.table ∙ ap (λ (f : FieldOf _). f.table) (sym c.self.view_is),
       omega (arith, number, c.self.invariant.words),
       subst (λ w. Allows (Holds g.D.Decider.verdict z) slots c.args.seat.now.id me w (λ x. x) (read g.D.Decider.verdict (step slots w 0 0 none) me)) (sym number)
-      (look_allowed g.D.Decider.verdict z c.self.invariant.run slots _ me alone c.requires.reads),
+          (look_allowed g.D.Decider.verdict z c.self.invariant.run slots _ me alone c.requires.reads),
     )
