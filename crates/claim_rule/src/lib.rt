@@ -18,6 +18,8 @@ mod slots;
 mod step_laws;
 mod steps;
 mod stopped;
+#[cfg(test)]
+mod tests;
 mod views;
 
 pub use claimed::{Claimed, Seen, look, seal, unseal};
