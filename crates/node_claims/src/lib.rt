@@ -2,7 +2,5 @@
 #![tactic(auto)]
 
 mod claims;
-#[cfg(test)]
-mod tests;
 
 pub use claims::{place, release, try_claim};
