@@ -31,9 +31,10 @@ use Rattle.claim_rule.specs.declared.views.Terms.{Terms}
 use Rattle.claim_rule.specs.Views.{Content, Seated, view_of, own, setup, cells}
 use Rattle.claim_rule.specs.Stands.{turns_left, IsJournal, AreWords, AreHomes, Stands, Holds}
 use Rattle.claim_rule.specs.Plays.{IsPlaced, IsKnown, IsOthers, tried, IsToTry, claimed}
+use Rattle.claim_rule.specs.Nexts.{GoesOn, ClaimIsNext}
 use Rattle.claim_rule.proofs.Tables.{words_written, homes_kept}
 use Rattle.claim_rule.proofs.Moves.{mine, moves, journal_stays}
-use Rattle.claim_rule.proofs.Allowing.{tags_count, turns_same, Goes, allowed}
+use Rattle.claim_rule.proofs.Allowing.{tags_count, turns_same, allowed}
 
 -- the cell that a caller tries next is one of the area, or an amoebot's that is there
 pub is_placed : (g : Setup) (ok : IsSetup g) (s : State) (sound : Sound g s) (c : ℕ) (k : Caller) → slice_get s.callers c ≡ Some k → k.phase ≡ Claim → (n : CellName) → next_of g (bot g c k.turn) k.held ≡ Some n → (i : ℕ) × IsPlaced g n i
@@ -82,7 +83,7 @@ module _ {D : Type 0} (verdict : D → Shown → Verdict) (z : Terms D) (ok : Is
       claims_it = ap (acts g c core) at_c ∙ ap (by_phase g c core k) to.phase ∙ ap (tries g c core k) to.next ∙ ap (finds g c core k n) found_tag
 
       -- the cell was free
-      hits : old ≡ 0 → Goes verdict z s i seat (view_of z (r ∷ []), carried) (claimed verdict (step slots i 0 t home.none) (view_of z (r ∷ []), carried)) t
+      hits : old ≡ 0 → GoesOn verdict z s steps i seat (view_of z (r ∷ []), carried) (claimed verdict (step slots i 0 t home.none) (view_of z (r ∷ []), carried)) t
       hits free = (
         view_of z (record r { caller = won g c k n x } ∷ []),
         takes i (slot.Cell x),
@@ -139,7 +140,7 @@ module _ {D : Type 0} (verdict : D → Shown → Verdict) (z : Terms D) (ok : Is
           }
 
       -- another's tag was found
-      misses : old ≢ 0 → Goes verdict z s i seat (view_of z (r ∷ []), carried) (claimed verdict (step slots i 0 t home.none) (view_of z (r ∷ []), carried)) old
+      misses : old ≢ 0 → GoesOn verdict z s steps i seat (view_of z (r ∷ []), carried) (claimed verdict (step slots i 0 t home.none) (view_of z (r ∷ []), carried)) old
       misses held = (
         view_of z (record r { caller = k' } ∷ []),
         keeps,
@@ -171,10 +172,13 @@ module _ {D : Type 0} (verdict : D → Shown → Verdict) (z : Terms D) (ok : Is
               let by = refused_by g ok core sound c k at_c n old (before g ok core sound c k at_c n to.phase to.next) found_tag held in
               record { some = held; listed = by.listed; other = by.other; turn = by.turn; of = by.of }
 
-      pub claim_goes : Goes verdict z s i seat (view_of z (r ∷ []), carried) (claimed verdict (step slots i 0 t home.none) (view_of z (r ∷ []), carried)) (either (eqb old 0) t old)
-      claim_goes = exchanged old 0 t (Goes verdict z s i seat (view_of z (r ∷ []), carried) (claimed verdict (step slots i 0 t home.none) (view_of z (r ∷ []), carried))) hits misses
+      pub claim_goes : GoesOn verdict z s steps i seat (view_of z (r ∷ []), carried) (claimed verdict (step slots i 0 t home.none) (view_of z (r ∷ []), carried)) (either (eqb old 0) t old)
+      claim_goes = exchanged old 0 t (GoesOn verdict z s steps i seat (view_of z (r ∷ []), carried) (claimed verdict (step slots i 0 t home.none) (view_of z (r ∷ []), carried))) hits misses
 
   pub claim_allowed : (slots seat : ℕ) (me : Seated D) (i t : ℕ) → me.0 ≡ view_of z (own me.0 ∷ []) → IsToTry verdict i t me.0 → Allows (Holds verdict z) slots seat me i (λ x. either (eqb x 0) t x) (claimed verdict (step slots i 0 t home.none) me)
   claim_allowed slots seat me i t one to =
       allowed verdict z slots seat me i (λ x. either (eqb x 0) t x) (λ m. IsToTry verdict i t m.0) (claimed verdict (step slots i 0 t home.none)) one to
       (λ s steps r st there fact. claim_goes s steps r st seat there i t slots me.1 fact)
+
+pub claim_is_next : {D : Type 0} (verdict : D → Shown → Verdict) (z : Terms D) → ClaimIsNext verdict z
+claim_is_next verdict z s steps seat i t slots r out is to = claim_goes verdict z is.run s steps r is.stands seat is.there i t slots out to

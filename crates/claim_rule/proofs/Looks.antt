@@ -21,9 +21,10 @@ use Rattle.claim_rule.specs.declared.views.Terms.{Terms}
 use Rattle.claim_rule.specs.Views.{Content, Seated, view_of, own, setup, cells}
 use Rattle.claim_rule.specs.Stands.{is_held, turns_left, AreWords, AreHomes, Stands, Holds}
 use Rattle.claim_rule.specs.Plays.{Reads, mark_at, marked_at, about, read}
+use Rattle.claim_rule.specs.Nexts.{GoesOn, LookIsNext}
 use Rattle.claim_rule.proofs.Tables.{words_written, homes_kept}
 use Rattle.claim_rule.proofs.Moves.{mine, moves, journal_stays}
-use Rattle.claim_rule.proofs.Allowing.{Goes, allowed}
+use Rattle.claim_rule.proofs.Allowing.{allowed}
 
 -- half of the journal's word is its length
 half : (n : ℕ) (o : Option ℕ) → (2 * n + is_held o) / 2 ≡ n
@@ -66,7 +67,7 @@ module _ {D : Type 0} (verdict : D → Shown → Verdict) (z : Terms D) (ok : Is
     abbrev last : ℕ
     last = cells z.world
 
-    pub look_goes : (slots : ℕ) (carried : List (ℕ × Slot)) → Reads k.phase → Goes verdict z s last seat (view_of z (r ∷ []), carried) (read verdict (step slots last 0 0 home.none) (view_of z (r ∷ []), carried)) (slice_index s.words last)
+    pub look_goes : (slots : ℕ) (carried : List (ℕ × Slot)) → Reads k.phase → GoesOn verdict z s steps last seat (view_of z (r ∷ []), carried) (read verdict (step slots last 0 0 home.none) (view_of z (r ∷ []), carried)) (slice_index s.words last)
     look_goes slots carried reads = (
       view_of z (record r { caller = k' } ∷ []),
       keeps,
@@ -103,3 +104,6 @@ module _ {D : Type 0} (verdict : D → Shown → Verdict) (z : Terms D) (ok : Is
   look_allowed slots seat me one reads =
       allowed verdict z slots seat me (cells z.world) (λ x. x) (λ m. Reads (own m.0).caller.phase) (read verdict (step slots (cells z.world) 0 0 home.none)) one reads
       (λ s steps r st there fact. look_goes s steps r st seat there slots me.1 fact)
+
+pub look_is_next : {D : Type 0} (verdict : D → Shown → Verdict) (z : Terms D) → LookIsNext verdict z
+look_is_next verdict z s steps seat slots r out is reads = look_goes verdict z is.run s steps r is.stands seat is.there slots out reads

@@ -29,9 +29,10 @@ use Rattle.claim_rule.specs.declared.views.Terms.{Terms}
 use Rattle.claim_rule.specs.Views.{Content, Seated, view_of, own, setup, cells}
 use Rattle.claim_rule.specs.Stands.{turns_left, AreWords, AreHomes, Stands, Holds}
 use Rattle.claim_rule.specs.Plays.{but_last, released, IsToFree, freed}
+use Rattle.claim_rule.specs.Nexts.{GoesOn, ReleaseIsNext}
 use Rattle.claim_rule.proofs.Tables.{words_written, homes_kept}
 use Rattle.claim_rule.proofs.Moves.{mine, moves, journal_stays}
-use Rattle.claim_rule.proofs.Allowing.{tags_count, turns_same, Goes, allowed}
+use Rattle.claim_rule.proofs.Allowing.{tags_count, turns_same, allowed}
 
 module _ {D : Type 0} (verdict : D → Shown → Verdict) (z : Terms D) (ok : IsSetup (setup verdict z)) where
   abbrev g : Setup
@@ -53,7 +54,7 @@ module _ {D : Type 0} (verdict : D → Shown → Verdict) (z : Terms D) (ok : Is
     at_c : slice_get core.callers c ≡ Some k
     at_c = (mine verdict z ok s steps st seat r there).caller
 
-    pub release_goes : (i slots : ℕ) (carried : List (ℕ × Slot)) → IsToFree verdict i (view_of z (r ∷ []), carried) → Goes verdict z s i seat (view_of z (r ∷ []), carried) (λ _. freed verdict (step slots i 0 0 home.none) (view_of z (r ∷ []), carried) 0) 0
+    pub release_goes : (i slots : ℕ) (carried : List (ℕ × Slot)) → IsToFree verdict i (view_of z (r ∷ []), carried) → GoesOn verdict z s steps i seat (view_of z (r ∷ []), carried) (λ _. freed verdict (step slots i 0 0 home.none) (view_of z (r ∷ []), carried) 0) 0
     release_goes i slots carried to = (
       view_of z (record r { caller = released g k } ∷ []),
       gives,
@@ -125,3 +126,6 @@ module _ {D : Type 0} (verdict : D → Shown → Verdict) (z : Terms D) (ok : Is
   release_allowed slots seat me i one to =
       allowed verdict z slots seat me i (λ _. 0) (IsToFree verdict i) (λ m _. freed verdict (step slots i 0 0 home.none) m 0) one to
       (λ s steps r st there fact. release_goes s steps r st seat there i slots me.1 fact)
+
+pub release_is_next : {D : Type 0} (verdict : D → Shown → Verdict) (z : Terms D) → ReleaseIsNext verdict z
+release_is_next verdict z s steps seat i slots r out is to = release_goes verdict z is.run s steps r is.stands seat is.there i slots out to
