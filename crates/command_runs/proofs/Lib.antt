@@ -1,0 +1,8 @@
+pub mod Interleavings
+pub mod NextLines
+pub mod Replays
+pub mod Reported
+pub mod Samples
+pub mod Scheduled
+pub mod SerialReports
+pub mod Underway
