@@ -1,5 +1,4 @@
 pub mod Interleavings
-pub mod NextLines
 pub mod Replays
 pub mod Reported
 pub mod Samples

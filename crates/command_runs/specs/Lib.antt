@@ -5,4 +5,3 @@ pub mod Replay
 pub mod Reports
 pub mod Run
 pub mod Samples
-pub mod Shapes

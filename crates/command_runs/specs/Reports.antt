@@ -2,7 +2,7 @@
 use Rattle.std.specs.Prelude.{ℕ, List, ◌++◌, codes}
 use Rattle.journal_text.specs.Texts.{journal_text, turns_text}
 use Rattle.claim_core.specs.declared.report.Report.{Report}
-use Rattle.command_runs.specs.Shapes.{shape_text}
+use Rattle.shape_text.specs.Texts.{shape_text}
 
 -- its journal, its last shape under the word `final`, and its turns; an amoebot has the values of so many variables
 abbrev pub report_text : ℕ → Report → List ℕ

@@ -7,6 +7,7 @@ ghost use Rattle.command_runs.specs.Interleave.{IsInterleaveReport};
 
 use amoebot_state::{Decider, NoMemory, World};
 use claim_core::{Core, Lists, Report};
+use schedule_text::Schedule;
 use std::alloc::Global;
 
 /// Makes one step of each caller of the schedule in turn, and then rounds of one step for each caller in rising number, until all
@@ -18,7 +19,7 @@ pub fn run_interleaved<D: Decider>(
     decider: &D,
     world: World,
     lists: &Lists,
-    schedule: &[u8],
+    schedule: &Schedule,
 ) -> Result<Report, NoMemory>
     requires bots { HaveBots (length world.bots) lists.now }
     requires callers { All (λ caller. caller < length lists.now.ids) schedule.now }
@@ -32,12 +33,12 @@ pub fn run_interleaved<D: Decider>(
 }
 
 /// One step of each of the callers, one after another.
-fn step_all<D: Decider>(core: &mut Core<'_, D>, schedule: &[u8])
+fn step_all<D: Decider>(core: &mut Core<'_, D>, schedule: &Schedule)
     requires callers { All (λ caller. caller < length core.old.state.callers) schedule.now }
     requires opening { core.old ≡ opened D.verdict core.old.decider core.old.first core.old.lists }
     ensures { core.new ≡ record core.old { state = after (setup_of D.verdict core.old) (reverse schedule.now) } }
 {
-    for caller in schedule {
-        core.step(*caller);
+    for number in 0..schedule.steps() {
+        core.step(schedule.step(number));
     }
 }

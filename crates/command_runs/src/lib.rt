@@ -5,7 +5,6 @@ mod interleaving;
 mod laws;
 mod replaying;
 mod serial;
-mod shape;
 mod texts;
 
 pub use interleaving::run_interleaved;
@@ -15,7 +14,6 @@ pub use laws::{
 };
 pub use replaying::compare;
 pub use serial::run_serially;
-pub use shape::print_shape;
 pub use texts::{print_agrees, print_check, print_differs, print_report};
 
 #[cfg(test)]

@@ -6,17 +6,17 @@ ghost use Rattle.std.specs.List.{All};
 ghost use Rattle.amoebot_state.specs.Refusals.{IsPlain};
 ghost use Rattle.claim_core.specs.Turns.{HaveBots};
 
-use crate::{
-    compare, print_agrees, print_differs, print_report, print_shape, run_interleaved, run_serially,
-};
+use crate::{compare, print_agrees, print_differs, print_report, run_interleaved, run_serially};
 use amoebot_state::{
     Bot, Cell, CellName, Change, Chir, Decider, End, Entry, Found, Moved, Patch, Port, Verdict,
     World,
 };
 use claim_core::{Lists, Report};
 use model_ops::Site;
+use schedule_text::{Schedule, read_schedule};
 use std::alloc::Global;
 use std::test::Fail;
+use text_tokens::Tokens;
 use tri_lattice::{Area, Node};
 
 /// The program of one action, whose guard is that variable 0 is 0, and which sets it to 1.
@@ -140,20 +140,13 @@ fn add(alloc: Global, bots: u16, lists: &mut Lists, ids: &[u16]) -> Result<(), F
     Ok(())
 }
 
-/// The steps of callers below a number, each with how many it makes in a row.
-fn schedule_of(alloc: Global, callers: u8, steps: &[(u8, u8)]) -> Result<Vec<u8>, Fail>
-    ensures { IfOk result (λ schedule. All (λ caller. caller < callers) schedule.items) }
+/// The schedule that is read from a text, of callers below a number.
+fn schedule_of(alloc: Global, callers: u8, text: &str) -> Result<Schedule, Fail>
+    requires { length text.now < 1000 }
+    ensures { IfOk result (λ schedule. All (λ caller. caller < callers) schedule) }
 {
-    let mut schedule = Vec::new(alloc);
-    for (caller, times) in steps {
-        if *caller >= callers {
-            Err("no caller")?;
-        }
-        for _step in 0..*times {
-            schedule.push(*caller)?;
-        }
-    }
-    Ok(schedule)
+    let schedule = read_schedule(alloc, &mut Tokens::new(text.as_bytes()), callers);
+    Ok(schedule.ok().ok_or("a schedule")?)
 }
 
 /// What is left by the schedule and the rounds behind it.
@@ -162,16 +155,17 @@ fn interleaved<D: Decider>(
     decider: &D,
     bots: &[Bot],
     lists: (u32, &[&[u16]]),
-    steps: &[(u8, u8)],
+    schedule: &str,
 ) -> Result<Report, Fail>
     requires few { length bots.now ≤ 4096 }
     requires plain { All IsPlain bots.now }
+    requires text { length schedule.now < 1000 }
 {
     let (turns, ids) = lists;
     let world = world_of(alloc, bots)?;
     let lists = lists_of(alloc, turns, world.bots(), ids)?;
-    let schedule = schedule_of(alloc, lists.callers(), steps)?;
-    Ok(run_interleaved(alloc, decider, world, &lists, schedule.as_slice())?)
+    let schedule = schedule_of(alloc, lists.callers(), schedule)?;
+    Ok(run_interleaved(alloc, decider, world, &lists, &schedule)?)
 }
 
 /// The text of that report.
@@ -180,14 +174,15 @@ fn text_of<D: Decider>(
     decider: &D,
     bots: &[Bot],
     lists: (u32, &[&[u16]]),
-    steps: &[(u8, u8)],
+    schedule: &str,
     vars: u8,
 ) -> Result<text_tokens::Text, Fail>
     requires few { length bots.now ≤ 4096 }
     requires plain { All IsPlain bots.now }
     requires vars { vars ≤ 8 }
+    requires text { length schedule.now < 1000 }
 {
-    let report = interleaved(alloc, decider, bots, lists, steps)?;
+    let report = interleaved(alloc, decider, bots, lists, schedule)?;
     Ok(print_report(alloc, &report, vars)?)
 }
 
@@ -210,9 +205,6 @@ fn an_amoebot_expands_and_then_is_idle(rt: HostRuntime) -> Result<(), Fail> {
         turn 0 1 idle 1\n\
         end\n";
     assert_eq!(rt; text.bytes(), expected.as_bytes());
-    let shape = print_shape(rt.alloc(), "shape", &report.world, 1)?;
-    let expected = "shape\narea 0 0 8 8\nbot 3 3 2 3 0 + 0\nend\n";
-    assert_eq!(rt; shape.bytes(), expected.as_bytes());
     Ok(())
 }
 
@@ -236,7 +228,7 @@ fn a_caller_finds_a_node_held(rt: HostRuntime) -> Result<(), Fail> {
         &Marker,
         &[standing(2, 3, 0), standing(3, 3, 0)],
         (2, &[&[0], &[1]]),
-        &[(0, 8), (1, 4), (0, 12), (1, 20)],
+        "schedule 0 times 8 1 times 4 0 times 12 1 times 20 end",
         1,
     )?;
     let expected = "journal\n\
@@ -265,7 +257,7 @@ fn two_callers_find_each_other(rt: HostRuntime) -> Result<(), Fail> {
         &Marker,
         &[standing(2, 3, 0), standing(3, 3, 0)],
         (1, &[&[0], &[1]]),
-        &[(0, 2), (1, 6), (0, 1)],
+        "schedule 0 times 2 1 times 6 0 end",
         1,
     )?;
     let expected = "journal\n\
@@ -306,7 +298,7 @@ fn the_schedule_says_who_commits_first(rt: HostRuntime) -> Result<(), Fail> {
         &Expander,
         &bots,
         (1, &[&[0], &[1]]),
-        &[(1, 10)],
+        "schedule 1 times 10 end",
         0,
     )?;
     assert_eq!(rt; text.bytes(), FAR.as_bytes());
@@ -334,7 +326,13 @@ fn place_of<D: Decider>(
 #[test]
 fn a_journal_agrees_or_differs(rt: HostRuntime) -> Result<(), Fail> {
     let bots = [standing(1, 1, 0), standing(6, 6, 0)];
-    let report = interleaved(rt.alloc(), &Expander, &bots, (1, &[&[0], &[1]]), &[(1, 10)])?;
+    let report = interleaved(
+        rt.alloc(),
+        &Expander,
+        &bots,
+        (1, &[&[0], &[1]]),
+        "schedule 1 times 10 end",
+    )?;
     let start = world_of(rt.alloc(), &bots)?;
     let last = &report.world;
     let entries = report.journal.entries();

@@ -3,12 +3,12 @@ ghost use Rattle.command_runs.specs.Check.{check_text};
 ghost use Rattle.command_runs.specs.Replay.{agrees_line, differs_line};
 ghost use Rattle.command_runs.specs.Reports.{report_text};
 
-use crate::shape::put_shape;
 use action_print::put_program;
 use action_tree::Program;
 use amoebot_state::NoMemory;
 use claim_core::Report;
 use journal_text::{put_journal, put_turns};
+use shape_text::put_shape;
 use std::alloc::Global;
 use text_tokens::{Lines, Text};
 

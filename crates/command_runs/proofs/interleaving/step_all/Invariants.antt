@@ -2,5 +2,5 @@ use Rattle.std.proofs.Common.{◌≡◌, length, take}
 use Rattle.command_runs.proofs.Interleavings.{led}
 use Rattle.command_runs.proofs.interleaving.step_all.Given as goal
 
-abbrev pub invariant-loop-caller : goal.invariant-loop-caller
-invariant-loop-caller g l = (l.core ≡ led g.D.Decider.verdict (take l.caller-index l.schedule) l.fn.core) × (length l.core.state.callers ≡ length l.fn.core.state.callers)
+abbrev pub invariant-loop-number : goal.invariant-loop-number
+invariant-loop-number g l = (l.core ≡ led g.D.Decider.verdict (take l.number l.schedule) l.fn.core) × (length l.core.state.callers ≡ length l.fn.core.state.callers)
