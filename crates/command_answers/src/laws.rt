@@ -3,6 +3,7 @@
 ghost use Rattle.command_answers.specs.Laws.{CommandIsItsWord, OwedIsOne};
 ghost use Rattle.command_answers.specs.Samples.{SmallAnswers};
 
+use claim_core::{one_list_is_serial, reached_is_good};
 use command_runs::{interleave_text_is_one, replay_is_decided, run_text_is_one};
 use document_grammar::documents_are_decided;
 
@@ -21,7 +22,10 @@ pub fn owed_is_one()
     replay_is_decided();
 }
 
-/// For each status a call that owes it.
+/// For each status that an input can owe, a call that owes it.
 pub fn small_answers()
     ensures { SmallAnswers }
-{}
+{
+    reached_is_good();
+    one_list_is_serial();
+}

@@ -16,7 +16,7 @@ use Rattle.claim_core.specs.Soundness.{IsSetup}
 use Rattle.claim_core.specs.Reached.{HaveEnded, IsReportOf}
 use Rattle.claim_core.specs.SerialRuns.{Left, SerialRun}
 use Rattle.command_runs.specs.SmallRow.{node, two_beside, expanded, one_refused}
-use Rattle.command_runs.proofs.SmallRow.{IsThere, one_id, may_run, valid, same_ids, reached, good}
+use Rattle.command_runs.proofs.SmallRow.{IsThereIn, one_id, may_run, valid, same_ids, reached, good}
 use Rattle.command_runs.specs.Reports.{setup}
 use Rattle.command_runs.specs.Laws.{OneListIsReached}
 use Rattle.command_runs.specs.Interleave.{at_round, IsScheduled}
@@ -59,7 +59,7 @@ one_may_run = record {
   valid = valid;
   few = omega arith;
   lists = record { few = record { at_most_16 = omega arith; in_all = omega arith }; each = All-cons IsList (1 ∷ []) [] (one_id 1) (All-nil IsList) };
-  bots = All-cons (All IsThere) (1 ∷ []) [] (All-cons IsThere 1 [] refl (All-nil IsThere)) (All-nil (All IsThere));
+  bots = All-cons (All (IsThereIn start)) (1 ∷ []) [] (All-cons (IsThereIn start) 1 [] refl (All-nil (IsThereIn start))) (All-nil (All (IsThereIn start)));
   touches = may_run.touches;
   leads = may_run.leads;
 }

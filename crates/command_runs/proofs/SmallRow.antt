@@ -4,7 +4,7 @@ use Rattle.std.specs.Prelude.{is_some, IsSome, IsTrue, reverse}
 use Rattle.std.specs.List.{All}
 use Rattle.std.proofs.lemmas.Int.{ints}
 use Rattle.std.proofs.lemmas.List.Elements.{All-nil, All-cons}
-use Rattle.tri_lattice.specs.Extent.{Extent, IsArea, is_in}
+use Rattle.tri_lattice.specs.Extent.{IsArea, is_in}
 use Rattle.tri_lattice.proofs.Boxes.{near_in}
 use Rattle.amoebot_state.specs.declared.bot.Bot.{Bot}
 use Rattle.amoebot_state.specs.declared.cell.CellName.TheVariants as name
@@ -22,17 +22,14 @@ use Rattle.claim_core.specs.Soundness.{IsSetup}
 use Rattle.claim_core.specs.Good.{Good}
 use Rattle.claim_core.specs.Reached.{HaveEnded, IsReportOf, Reached}
 use Rattle.claim_core.proofs.Ends.{reached_is_good}
-use Rattle.command_runs.specs.SmallRow.{zeros, node, bot_on, to_the_right, two_beside, one_refused}
+use Rattle.command_runs.specs.SmallRow.{row, zeros, node, bot_on, to_the_right, two_beside, one_refused}
 
 -- Caller 1 wins body 1 and (1, 0); caller 0 wins body 0 and (0, 0), and finds (1, 0) held. Caller 1 wins (2, 0). Caller 0 reads the
 -- journal's length and frees its two cells. Caller 1 wins (0, 0) and body 0, takes the journal, commits, and frees its five cells
 abbrev interleaving : List ℕ
 interleaving = 1 ∷ 1 ∷ 0 ∷ 0 ∷ 0 ∷ 1 ∷ 0 ∷ 0 ∷ 0 ∷ 1 ∷ 1 ∷ 1 ∷ 1 ∷ 1 ∷ 1 ∷ 1 ∷ 1 ∷ 1 ∷ []
 
-abbrev row : Extent
-row = two_beside.world.area
-
-is_area : IsArea row
+pub is_area : IsArea row
 is_area = record {
   x_low = omega (arith, ints);
   x_high = omega (arith, ints);
@@ -44,7 +41,7 @@ is_area = record {
   h_high = omega arith;
 }
 
-plain : (b : Bot) → IsTrue (is_in row b.head) → IsTrue (is_in row b.tail) → b.rot < 6 → length b.mem ≡ 8 → IsPlain b
+pub plain : (b : Bot) → IsTrue (is_in row b.head) → IsTrue (is_in row b.tail) → b.rot < 6 → length b.mem ≡ 8 → IsPlain b
 plain b head tail rot long = record { head = near_in row b.head is_area head; tail = near_in row b.tail is_area tail; rot = rot; eight = long }
 
 abbrev one_beside : Config
@@ -59,8 +56,11 @@ valid = valid_with one_beside (bot_on 1 1) one_valid (no_fault one_beside (bot_o
 pub one_id : (i : ℕ) → IsList (i ∷ [])
 one_id i = record { some = omega arith; few = omega arith }
 
-abbrev pub IsThere : ℕ → Type 0
-IsThere i = IsSome (bot_at two_beside.world i)
+abbrev pub IsThereIn : Config → ℕ → Type 0
+IsThereIn c i = IsSome (bot_at c i)
+
+abbrev IsThere : ℕ → Type 0
+IsThere = IsThereIn two_beside.world
 
 both : {X : Type 0} (P : X → Type 0) (x y : X) → P x → P y → All P (x ∷ y ∷ [])
 both P x y first second = All-cons P x (y ∷ []) first (All-cons P y [] second (All-nil P))

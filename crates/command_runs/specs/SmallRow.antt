@@ -2,6 +2,7 @@
 use Rattle.std.specs.Prelude.{ℕ, List, [], ◌∷◌, pos}
 use Rattle.std.specs.declared.option.Option.TheVariants.{Some}
 use Rattle.tri_lattice.specs.declared.node.Node.{Node}
+use Rattle.tri_lattice.specs.Extent.{Extent}
 use Rattle.amoebot_state.specs.declared.bot.Bot.{Bot}
 use Rattle.amoebot_state.specs.declared.bot.Port.{Port}
 use Rattle.amoebot_state.specs.declared.bot.End.TheVariants.{Head}
@@ -19,15 +20,18 @@ use Rattle.claim_core.specs.Machine.{Setup}
 abbrev pub zeros : List ℕ
 zeros = 0 ∷ 0 ∷ 0 ∷ 0 ∷ 0 ∷ 0 ∷ 0 ∷ 0 ∷ []
 
--- a row of three nodes with these two amoebots, of which the first is contracted on the first node
+abbrev pub row : Extent
+row = record { x0 = pos 0; y0 = pos 0; w = 3; h = 1 }
+
 abbrev pub node : ℕ → Node
 node x = record { x = pos x; y = pos 0 }
 
 abbrev pub bot_on : ℕ → ℕ → Bot
 bot_on head tail = record { head = node head; tail = node tail; rot = 0; chir = Plus; mem = zeros }
 
+-- two amoebots, of which the first is contracted on the first node
 abbrev pub row_with : Bot → Config
-row_with second = config_of (record { x0 = pos 0; y0 = pos 0; w = 3; h = 1 }) zeros (bot_on 0 0 ∷ second ∷ [])
+row_with second = config_of row zeros (bot_on 0 0 ∷ second ∷ [])
 
 abbrev pub to_the_right : Port
 to_the_right = record { end = Head; dir = 0 }
