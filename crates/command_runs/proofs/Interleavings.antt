@@ -22,6 +22,10 @@ module _ {D : Type 0} (verdict : D → Shown → Verdict) where
   abbrev pub rounded : ℕ → Running D → Running D
   rounded count r = record r { state = rounds (setup_of verdict r) count r.state }
 
+  -- what it is at the opening
+  pub opens : (d : D) (start : Config) (lists : CallerLists) (made : Running D) → made ≡ opened verdict d start lists → made ≡ opened verdict made.decider made.first made.lists
+  opens d start lists made e = e ∙ sym (ap (λ (r : Running D). opened verdict r.decider r.first r.lists) e)
+
   pub interleaved : (d : D) (start : Config) (lists : CallerLists) (schedule : List ℕ) (made behind last : Running D) (report : Report) → made ≡ opened verdict d start lists → behind ≡ led schedule made → IsFinished verdict behind last → IsReportOf (setup_of verdict last) last.state report → Reached (setup_of verdict last) report → Good (verdict last.decider) last.first last.lists report → IsInterleaveReport (verdict d) start lists schedule report
   interleaved d start lists schedule made behind last report at_first by_steps is left reached good =
       let e = by_steps ∙ ap (led schedule) at_first in

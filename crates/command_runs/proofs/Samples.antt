@@ -11,7 +11,6 @@ use Rattle.claim_core.specs.declared.state.Caller.{Caller}
 use Rattle.claim_core.specs.declared.state.Phase.TheVariants.{Releasing, Ended}
 use Rattle.claim_core.specs.Machine.{State}
 use Rattle.claim_core.specs.Turns.{IsList}
-use Rattle.claim_core.specs.Good.{Good}
 use Rattle.claim_core.specs.Soundness.{IsSetup}
 use Rattle.claim_core.specs.Reached.{HaveEnded, IsReportOf}
 use Rattle.claim_core.specs.SerialRuns.{Left, SerialRun}
@@ -22,7 +21,7 @@ use Rattle.command_runs.specs.Laws.{OneListIsReached}
 use Rattle.command_runs.specs.Interleave.{at_round, IsScheduled}
 use Rattle.command_runs.specs.Replay.{DiffersAt, at_entry, at_end}
 use Rattle.command_runs.specs.Samples.{start, spread, decides, one_list, expansion, one_expanded, schedule, SmallCommands}
-use Rattle.command_runs.proofs.SerialReports.{serial_run_is_good}
+use Rattle.command_runs.proofs.SerialReports.{serial_run_is_reported}
 
 -- the second amoebot expands
 step : Step decides start expansion spread
@@ -50,9 +49,6 @@ serial = (
   (first, refl, record { turned = turned.Done expansion; made = (step, record { by = refl; at = refl; of = refl }); marks = refl; entries = refl }),
   record { turned = turned.Idle; made = (refl, refl); marks = refl; entries = refl },
 )
-
-one_good : Good decides start one_list one_expanded
-one_good = serial_run_is_good decides start one_list one_expanded valid (omega arith) refl refl serial
 
 one_may_run : IsSetup (setup decides start one_list)
 one_may_run = record {
@@ -102,7 +98,7 @@ other_shape = at_end spread run (λ same. let e = ap (λ (c : Config). occupant 
 pub small_commands : OneListIsReached → SmallCommands
 unfolding digits
 small_commands reaches = record {
-  run = record { few = omega arith; good = one_good; reached = reaches (setup decides start one_list) one_expanded one_may_run (omega arith) one_good refl; serial = serial };
+  run = serial_run_is_reported reaches decides start one_list one_expanded one_may_run (omega arith) refl refl refl serial;
   text = refl;
   interleave = record { good = good; reached = reached; scheduled = scheduled };
   agrees = run;

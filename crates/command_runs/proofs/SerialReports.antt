@@ -1,4 +1,4 @@
--- What the turns of the only caller leave is a good report.
+-- What the turns of the only caller leave is a good report, and one of the command `run`.
 use Rattle.std.proofs.Common.{◌≡◌, ◌<◌, ◌≤◌, ◌*◌, ℕ, zero, suc, List, [], ◌∷◌, ◌++◌, length, get_or, Some, inl, inr, ap, sym, subst, refl, ◌∙◌, arith, length-append}
 use Rattle.std.specs.Prelude.{slice_get}
 use Rattle.std.specs.List.{All, AllPairs}
@@ -20,6 +20,10 @@ use Rattle.claim_core.specs.declared.report.Report.{Report}
 use Rattle.claim_core.specs.Turns.{CallerLists, MarkLists, bot_of}
 use Rattle.claim_core.specs.Good.{Good, TurnOk, mark_of, place_of, place_after}
 use Rattle.claim_core.specs.SerialRuns.{Left, SerialRun, mark_at, entries_by, all_turns, left_by}
+use Rattle.claim_core.specs.Soundness.{IsSetup}
+use Rattle.command_runs.specs.Reports.{setup}
+use Rattle.command_runs.specs.Run.{IsRunReport}
+use Rattle.command_runs.specs.Laws.{OneListIsReached}
 use Rattle.amoebot_state.proofs.Runs.{run_push}
 use Rattle.claim_core.proofs.Stays.{slice_get-push, slice_get-push_last, slice_get-pushed, world_last, TurnOk-push}
 
@@ -154,7 +158,7 @@ one_list (suc zero) turns some few = omega arith
 one_list (suc (suc n)) turns some few = absurd (omega arith)
 
 -- what all turns of at most one list leave is a good report
-pub serial_run_is_good : (f : Shown → Verdict) (w0 : Config) (lists : CallerLists) (report : Report) → IsValid w0 → length lists.ids ≤ 1 → report.journal.first ≡ w0 → length report.turns.marks ≡ length lists.ids → SerialRun f w0 lists (all_turns lists) (left_by report) → Good f w0 lists report
+serial_run_is_good : (f : Shown → Verdict) (w0 : Config) (lists : CallerLists) (report : Report) → IsValid w0 → length lists.ids ≤ 1 → report.journal.first ≡ w0 → length report.turns.marks ≡ length lists.ids → SerialRun f w0 lists (all_turns lists) (left_by report) → Good f w0 lists report
 serial_run_is_good f w0 lists report valid few first callers run =
     let good = good_so_far f w0 lists (all_turns lists) (left_by report) run in
     let one : length report.turns.marks ≤ 1 = omega arith in
@@ -180,3 +184,8 @@ serial_run_is_good f w0 lists report valid few first callers run =
         rising = only_marks (AllPairs Follows) report.turns.marks one (λ some. good.places);
       };
     }
+
+pub serial_run_is_reported : OneListIsReached → (f : Shown → Verdict) (w0 : Config) (lists : CallerLists) (report : Report) → IsSetup (setup f w0 lists) → length lists.ids ≤ 1 → report.journal.first ≡ w0 → length report.turns.marks ≡ length lists.ids → report.turns.turns ≡ lists.turns → SerialRun f w0 lists (all_turns lists) (left_by report) → IsRunReport f w0 lists report
+serial_run_is_reported reaches f w0 lists report ok few first callers counted run =
+    let good = serial_run_is_good f w0 lists report ok.valid few first callers run in
+    record { few = few; good = good; reached = reaches (setup f w0 lists) report ok few good counted; serial = run }

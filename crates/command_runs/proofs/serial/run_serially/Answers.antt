@@ -8,7 +8,7 @@ use Rattle.claim_core.specs.SerialRuns.{SerialRun, mark_at, entries_by, all_turn
 use Rattle.claim_core.specs.Soundness.{IsSetup}
 use Rattle.command_runs.specs.Reports.{setup}
 use Rattle.command_runs.proofs.Underway.{so_far, same_so_far, marks_of-none, marks_of-add, one_more}
-use Rattle.command_runs.proofs.SerialReports.{no_list, one_list, serial_run_is_good}
+use Rattle.command_runs.proofs.SerialReports.{no_list, one_list, serial_run_is_reported}
 use Rattle.command_runs.proofs.serial.run_serially.Goals as goal
 use Rattle.command_runs.proofs.serial.run_serially.Goals.{then-callers-eq0, else-callers-eq0, in-Done, in-Idle, in-Failed}
 
@@ -79,7 +79,6 @@ all_made g c =
 pub returns : goal.returns
 returns g c =
     let serial : SerialRun (g.D.Decider.verdict c.args.decider.now) c.args.world c.args.lists.now (all_turns c.args.lists.now) (so_far c.into_world.result c.loop-turn.journal c.loop-turn.marks) = rw (← all_made g c, c.into_world.ensures) c.loop-turn.invariant.run in
-    let good = serial_run_is_good _ c.args.world c.args.lists.now _ c.keeps.ensures.valid c.requires.one c.loop-turn.invariant.first c.loop-turn.invariant.callers serial in
     let may_run : IsSetup (setup (g.D.Decider.verdict c.args.decider.now) c.args.world c.args.lists.now) = record {
       valid = c.keeps.ensures.valid;
       few = c.keeps.ensures.few;
@@ -88,4 +87,4 @@ returns g c =
       touches = c.touches_zone.ensures;
       leads = c.has_next.ensures;
     } in
-    record { few = c.requires.one; good = good; reached = c.one_list_is_reached.ensures _ _ may_run c.requires.one good c.loop-turn.invariant.all_turns; serial = serial }
+    serial_run_is_reported c.one_list_is_reached.ensures (g.D.Decider.verdict c.args.decider.now) c.args.world c.args.lists.now _ may_run c.requires.one c.loop-turn.invariant.first c.loop-turn.invariant.callers c.loop-turn.invariant.all_turns serial
