@@ -8,7 +8,7 @@ mod statement;
 mod token;
 
 pub use laws::{canon_is_pinned, canon_reads_back};
-pub use program::print_program;
+pub use program::{print_program, put_program};
 
 #[cfg(test)]
 mod tests;

@@ -21,12 +21,20 @@ pub fn print_program(alloc: Global, program: &Program) -> Result<Text, NoMemory>
     ensures reads_back { IfOk result (λ text. ReadsBack program.now text) }
 {
     let mut lines = Lines::new(alloc);
-    lines.open_section("program")?;
-    put_guarded(&mut lines, program.guard())?;
-    put_vars(&mut lines, program.vars())?;
-    put_actions(&mut lines, program.actions())?;
-    lines.close_section()?;
+    put_program(&mut lines, program)?;
     Ok(lines.text())
+}
+
+/// Adds the canonical text of a program to a text.
+pub fn put_program(lines: &mut Lines, program: &Program) -> Result<(), AllocError>
+    ensures text { OnOk result (lines.new ≡ lines.old ++ canon program.now) }
+    ensures reads_back { OnOk result (ReadsBack program.now (canon program.now)) }
+{
+    lines.open_section("program")?;
+    put_guarded(lines, program.guard())?;
+    put_vars(lines, program.vars())?;
+    put_actions(lines, program.actions())?;
+    lines.close_section()
 }
 
 /// Whether movements are guarded.

@@ -3,4 +3,5 @@ pub mod Plainness
 pub mod Continuing
 pub mod Sectioning
 pub mod Deciding
+pub mod Reading
 pub mod Replaying

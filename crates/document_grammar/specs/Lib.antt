@@ -4,3 +4,4 @@ pub mod FrameLaws
 pub mod Documents
 pub mod DocumentReaders
 pub mod RunTexts
+pub mod DocumentRows

@@ -1,0 +1,4 @@
+pub mod Owing
+pub mod Samples
+pub mod SmallDocuments
+pub mod Wording

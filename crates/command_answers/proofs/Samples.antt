@@ -1,0 +1,100 @@
+-- The answers of the samples: the steps of the schedule are computed, and what they leave is also what the turns leave.
+use Rattle.std.proofs.Common.{◌≡◌, ◌<◌, ℕ, List, [], ◌∷◌, ◌++◌, Some, None, Ok, Err, zero, suc, refl, ap, sym, subst, arith, codes}
+use Rattle.std.specs.Prelude.{is_some, reverse}
+use Rattle.std.specs.Fmt.{digits}
+use Rattle.std.specs.List.{All}
+use Rattle.std.proofs.lemmas.List.Elements.{All-nil, All-cons}
+use Rattle.text_tokens.specs.Kinds.{name}
+use Rattle.amoebot_state.specs.Configs.{Config, IsValid, bot_at, config_of, occupant}
+use Rattle.amoebot_state.proofs.Added.{no_fault, valid_with}
+use Rattle.amoebot_state.proofs.Faults.{none_valid}
+use Rattle.model_ops.proofs.ActsDecide.{acts_keep_decider_laws}
+use Rattle.claim_core.specs.declared.state.Phase.TheVariants.{Ended}
+use Rattle.claim_core.specs.declared.state.Caller.{Caller}
+use Rattle.claim_core.specs.Turns.{IsList}
+use Rattle.claim_core.specs.Good.{Good}
+use Rattle.claim_core.specs.Machine.{Setup, State, after}
+use Rattle.claim_core.specs.Soundness.{IsSetup}
+use Rattle.claim_core.specs.Reached.{HaveEnded, IsReportOf, Reached}
+use Rattle.claim_core.specs.Laws.{ReachedIsGood, OneListIsSerial}
+use Rattle.action_meaning.specs.Verdicts.{verdict_shown}
+use Rattle.action_meaning.proofs.Decided.{programs_decide_by_acts}
+use Rattle.document_grammar.specs.declared.section.Form.TheVariants as form
+use Rattle.command_runs.specs.SmallRow.{row, zeros, node, bot_on}
+use Rattle.command_runs.specs.Reports.{setup}
+use Rattle.command_runs.specs.Run.{IsRunReport}
+use Rattle.command_runs.specs.Interleave.{IsScheduled, IsInterleaveReport}
+use Rattle.command_runs.specs.Replay.{at_end}
+use Rattle.command_runs.proofs.SmallRow.{is_area, plain, one_id, IsThereIn}
+use Rattle.command_answers.specs.declared.command.Command.TheVariants.{Run, Interleave, Replay, Check}
+use Rattle.command_answers.specs.OfReplay.{HasJournal}
+use Rattle.command_answers.specs.Owed.{of_run, of_interleave, of_replay, of_check, usage, read_fault, longer, refused, later, differs, done}
+use Rattle.command_answers.specs.Samples.{program_text, with_shape, with_list, with_two_lists, with_schedule, journal_text, spread_text, still_text, out, start, spread, one_list, two_lists, schedule, expansion, only_program, and_list, and_two_lists, and_schedule, and_journal, told, told_text, empty_refused, SmallAnswers}
+use Rattle.command_answers.proofs.SmallDocuments.{says, are_answered}
+
+abbrev g : Setup
+g = setup (verdict_shown out) start one_list
+
+valid : IsValid start
+valid = valid_with (config_of row zeros []) (bot_on 1 1) (none_valid row zeros is_area refl []) (no_fault (config_of row zeros []) (bot_on 1 1) (plain (bot_on 1 1) refl refl (omega arith) refl) refl)
+
+may_run : IsSetup g
+may_run = record {
+  valid = valid;
+  few = omega arith;
+  lists = record { few = record { at_most_16 = omega arith; in_all = omega arith }; each = All-cons IsList (0 ∷ []) [] (one_id 0) (All-nil IsList) };
+  bots = All-cons (All (IsThereIn start)) (0 ∷ []) [] (All-cons (IsThereIn start) 0 [] refl (All-nil (IsThereIn start))) (All-nil (All (IsThereIn start)));
+  touches = (acts_keep_decider_laws (verdict_shown out) (programs_decide_by_acts out)).0;
+  leads = (acts_keep_decider_laws (verdict_shown out) (programs_decide_by_acts out)).1;
+}
+
+abbrev HasEnded : Caller → Type 0
+HasEnded k = k.phase ≡ Ended
+
+has_ended : (s : State) (k : Caller) → s.callers ≡ k ∷ [] → k.phase ≡ Ended → HaveEnded s
+has_ended s k is one = subst (All HasEnded) (sym is) (All-cons HasEnded k [] one (All-nil HasEnded))
+
+ended : HaveEnded (after g (reverse schedule))
+ended = has_ended (after g (reverse schedule)) _ refl refl
+
+same_ids : (i : ℕ) → is_some (bot_at spread i) ≡ is_some (bot_at start i)
+same_ids zero = refl
+same_ids (suc i) = refl
+
+left : IsReportOf g (after g (reverse schedule)) told
+left = record { first = refl; entries = refl; world = record { rest = refl; size = refl; ids = same_ids; values = refl }; marks = refl }
+
+reached : Reached g told
+reached = record { steps = reverse schedule; ended = ended; left = left }
+
+scheduled : IsScheduled g schedule told
+scheduled = record { count = 0; ended = ended; first = λ n lt. absurd (omega arith); left = left }
+
+has : (final : Config) → HasJournal (and_journal final) out start (expansion ∷ []) final
+has final = record { its_program = refl; its_shape = refl; its_journal = refl; its_final = refl }
+
+module _ (goods : ReachedIsGood) (serials : OneListIsSerial) where
+  good : Good (verdict_shown out) start one_list told
+  good = goods g may_run told reached
+
+  run_report : IsRunReport (verdict_shown out) start one_list told
+  run_report = record { few = omega arith; good = good; reached = reached; serial = serials (verdict_shown out) start one_list told (omega arith) good }
+
+  interleave_report : IsInterleaveReport (verdict_shown out) start one_list schedule told
+  interleave_report = record { good = good; reached = reached; scheduled = scheduled }
+
+  pub small_answers : SmallAnswers
+  unfolding digits name
+  small_answers = record {
+    no_words = usage;
+    two_words = usage;
+    fails = read_fault Run (codes "amoe");
+    long = λ bytes. longer Check bytes;
+    empty = refused Interleave [] empty_refused (says form.Interleave [] (Err empty_refused) are_answered.empty);
+    run = done Run with_list and_list (Some told) told_text (says form.Run with_list (Ok and_list) are_answered.list) (of_run told told_text (record { program = out; start = start; lists = one_list; its_program = refl; its_shape = refl; its_lists = refl; writes = record { run = run_report; whole = refl } }));
+    later = later with_two_lists and_two_lists (says form.Run with_two_lists (Ok and_two_lists) are_answered.two_lists) (record { lists = two_lists; its_lists = refl; several = omega arith });
+    interleave = done Interleave with_schedule and_schedule (Some told) told_text (says form.Interleave with_schedule (Ok and_schedule) are_answered.schedule) (of_interleave told told_text (record { program = out; start = start; lists = one_list; schedule = schedule; its_program = refl; its_shape = refl; its_lists = refl; its_schedule = refl; writes = record { run = interleave_report; whole = refl } }));
+    agrees = done Replay (with_shape ++ journal_text ++ spread_text) (and_journal spread) None (codes "agrees 1\n") (says form.Replay (with_shape ++ journal_text ++ spread_text) (Ok (and_journal spread)) are_answered.journal) (of_replay (codes "agrees 1\n") (record { program = out; start = start; entries = expansion ∷ []; final = spread; has = has spread; writes = record { agrees = good.run; whole = refl } }));
+    differs = differs (with_shape ++ journal_text ++ still_text) (and_journal start) 1 (says form.Replay (with_shape ++ journal_text ++ still_text) (Ok (and_journal start)) are_answered.other_final) (record { program = out; start = start; entries = expansion ∷ []; final = start; has = has start; differs = at_end spread good.run (λ same. let e = ap (λ (c : Config). occupant c (node 2)) same in cc) });
+    check = done Check program_text only_program None _ (says form.Check program_text (Ok only_program) are_answered.program) (of_check _ (record { program = out; its_program = refl; writes = refl }));
+  }

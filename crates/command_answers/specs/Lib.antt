@@ -1,0 +1,11 @@
+pub mod Answers
+pub mod Commands
+pub mod Laws
+pub mod Lines
+pub mod OfCheck
+pub mod OfInterleave
+pub mod OfReplay
+pub mod OfRun
+pub mod Owed
+pub mod Reads
+pub mod Samples

@@ -1,0 +1,25 @@
+-- The text of the command `run` for a document.
+use Rattle.std.specs.Prelude.{◌≡◌, ◌<◌, ℕ, List, length}
+use Rattle.std.specs.declared.option.Option.TheVariants.{Some}
+use Rattle.amoebot_state.specs.Configs.{Config}
+use Rattle.claim_core.specs.declared.report.Report.{Report}
+use Rattle.claim_core.specs.Turns.{CallerLists}
+use Rattle.action_tree.specs.Trees.{Program}
+use Rattle.document_grammar.specs.Documents.{Contents}
+use Rattle.command_runs.specs.Run.{IsRunText}
+
+-- the document has a program, a shape and lists, of which there is at most one, and the text is that of a report of their run
+pub record IsTextOfRun (a : Contents) (report : Report) (text : List ℕ) : Type 0 where
+  pub program : Program
+  pub start : Config
+  pub lists : CallerLists
+  pub its_program : a.checked ≡ Some program
+  pub its_shape : a.world ≡ Some start
+  pub its_lists : a.lists ≡ Some lists
+  pub writes : IsRunText program start lists report text
+
+-- the document has two lists or more: it waits for threads
+pub record IsForLater (a : Contents) : Type 0 where
+  pub lists : CallerLists
+  pub its_lists : a.lists ≡ Some lists
+  pub several : 1 < length lists.ids

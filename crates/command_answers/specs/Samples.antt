@@ -1,0 +1,139 @@
+-- For each status a call that owes it. The document has one amoebot on a row of three nodes, and its program expands a contracted amoebot to the right.
+use Rattle.std.specs.Prelude.{ℕ, false, List, [], ◌∷◌, ◌++◌, codes, replicate}
+use Rattle.std.specs.declared.option.Option.TheVariants.{Some, None}
+use Rattle.text_tokens.specs.declared.refusal.Refusal.{Refusal}
+use Rattle.text_tokens.specs.declared.refusal.RefusalKind.TheVariants as kind
+use Rattle.amoebot_state.specs.declared.bot.Bot.{Bot}
+use Rattle.amoebot_state.specs.declared.bot.End.TheVariants.{Head}
+use Rattle.amoebot_state.specs.declared.cell.CellName.TheVariants as name
+use Rattle.amoebot_state.specs.declared.cell.Cell.TheVariants as cell
+use Rattle.amoebot_state.specs.declared.verdict.Entry.{Entry}
+use Rattle.amoebot_state.specs.declared.verdict.Moved.TheVariants as moved
+use Rattle.amoebot_state.specs.Configs.{Config, config_of}
+use Rattle.claim_core.specs.declared.marks.Mark.TheVariants as mark
+use Rattle.claim_core.specs.declared.report.Report.{Report}
+use Rattle.claim_core.specs.Turns.{CallerLists}
+use Rattle.action_tree.specs.Trees as tree
+use Rattle.action_tree.specs.Trees.{Name, Literal, atom, through, expand, at_end, fixed, no_stmts}
+use Rattle.document_grammar.specs.Documents.{Contents}
+use Rattle.command_runs.specs.SmallRow.{row, zeros, node, bot_on, to_the_right}
+use Rattle.command_answers.specs.declared.status.Status.TheVariants as status
+use Rattle.command_answers.specs.Commands.{command_of}
+use Rattle.command_answers.specs.Lines.{usage_line, too_long, not_yet}
+use Rattle.command_answers.specs.Reads.{nothing, whole, above, up_to_fault}
+use Rattle.command_answers.specs.Owed.{IsOwed}
+
+-- ---- texts
+
+abbrev pub program_text : List ℕ
+program_text = codes "amoebot 1\nprogram\naction out when contracted move expand head 0\nend\n"
+
+abbrev pub with_shape : List ℕ
+with_shape = program_text ++ codes "shape\narea 0 0 3 1\nbot 1 0 1 0 0 +\nend\n"
+
+abbrev pub with_list : List ℕ
+with_list = with_shape ++ codes "lists\nturns 2\nlist 0\nend\n"
+
+abbrev pub with_two_lists : List ℕ
+with_two_lists = with_shape ++ codes "lists\nturns 1\nlist 0\nlist 0\nend\n"
+
+abbrev pub with_schedule : List ℕ
+with_schedule = with_list ++ codes "schedule 0 times 30 end\n"
+
+abbrev pub journal_text : List ℕ
+journal_text = codes "journal\nentry 0 0 0 0 0 expand head 0 spot 2 0 0 body 0 2 0 1 0 0 +\nend\n"
+
+abbrev pub spread_text : List ℕ
+spread_text = codes "final\narea 0 0 3 1\nbot 2 0 1 0 0 +\nend\n"
+
+-- the shape at the start, as the last one
+abbrev pub still_text : List ℕ
+still_text = codes "final\narea 0 0 3 1\nbot 1 0 1 0 0 +\nend\n"
+
+abbrev pub turns_text : List ℕ
+turns_text = codes "turns\nturn 0 0 done 0\nturn 0 1 idle 1\nend\n"
+
+-- ---- what they say
+
+abbrev pub out : tree.Program
+out =
+    let name : Name = record { text = codes "out"; line = 3 } in
+    let direction : Literal = record { value = 0; line = 3 } in
+    record { guard = false; vars = []; actions = record { name = name; guard = atom tree.contracted; body = no_stmts; moved = through expand (at_end Head (fixed direction)) } ∷ [] }
+
+abbrev pub alone : Bot → Config
+alone b = config_of row zeros (b ∷ [])
+
+abbrev pub start : Config
+start = alone (bot_on 1 1)
+
+abbrev pub spread : Config
+spread = alone (bot_on 2 1)
+
+abbrev pub lists : ℕ → List (List ℕ) → CallerLists
+lists turns ids = record { turns = turns; ids = ids }
+
+abbrev pub one_list : CallerLists
+one_list = lists 2 ((0 ∷ []) ∷ [])
+
+abbrev pub two_lists : CallerLists
+two_lists = lists 1 ((0 ∷ []) ∷ (0 ∷ []) ∷ [])
+
+abbrev pub schedule : List ℕ
+schedule = replicate 30 0
+
+abbrev pub expansion : Entry
+expansion = record { caller = 0; turn = 0; bot = 0; action = 0; moved = moved.Expand to_the_right; patch = (name.Spot (node 2), cell.Spot (Some 0)) ∷ (name.Body 0, cell.Body (bot_on 2 1)) ∷ [] }
+
+abbrev pub only_program : Contents
+only_program = record { checked = Some out; world = None; lists = None; schedule = None; entries = None; final_world = None }
+
+abbrev pub and_shape : Contents
+and_shape = record only_program { world = Some start }
+
+abbrev pub and_list : Contents
+and_list = record and_shape { lists = Some one_list }
+
+abbrev pub and_two_lists : Contents
+and_two_lists = record and_shape { lists = Some two_lists }
+
+abbrev pub and_schedule : Contents
+and_schedule = record and_list { schedule = Some schedule }
+
+abbrev pub and_journal : Config → Contents
+and_journal final = record and_shape { entries = Some (expansion ∷ []); final_world = Some final }
+
+-- ---- what is owed
+
+-- in its first turn the amoebot expands, and in its second it is idle
+abbrev pub told : Report
+told = record {
+  world = spread;
+  journal = record { first = start; entries = expansion ∷ []; spare = 1 };
+  turns = record { turns = 2; marks = (mark.Done 0 ∷ mark.Idle 1 ∷ []) ∷ [] };
+}
+
+abbrev pub told_text : List ℕ
+told_text = journal_text ++ spread_text ++ turns_text
+
+abbrev pub checked_text : List ℕ
+checked_text = codes "amoebot 1\nprogram\nguard off\naction out\nwhen contracted\nmove expand head 0\nend\n"
+
+-- the end of an empty input is where the header is needed
+abbrev pub empty_refused : Refusal
+empty_refused = record { line = 1; kind = kind.Truncated }
+
+pub record SmallAnswers : Type 0 where
+  pub no_words : IsOwed (command_of []) nothing status.Words None usage_line
+  pub two_words : IsOwed (command_of (codes "run" ∷ codes "now" ∷ [])) nothing status.Words None usage_line
+  pub fails : IsOwed (command_of (codes "run" ∷ [])) (up_to_fault (codes "amoe")) status.ReadFault None (codes "read fault\n")
+  pub long : (bytes : List ℕ) → IsOwed (command_of (codes "check" ∷ [])) (above bytes) (status.Refused too_long) None (codes "refused 0 TooLong\n")
+  pub empty : IsOwed (command_of (codes "interleave" ∷ [])) (whole []) (status.Refused empty_refused) None (codes "refused 1 Truncated\n")
+  pub run : IsOwed (command_of (codes "run" ∷ [])) (whole with_list) status.Done (Some told) told_text
+  -- two lists wait for threads
+  pub later : IsOwed (command_of (codes "run" ∷ [])) (whole with_two_lists) (status.Refused not_yet) None (codes "refused 0 NotYet\n")
+  pub interleave : IsOwed (command_of (codes "interleave" ∷ [])) (whole with_schedule) status.Done (Some told) told_text
+  pub agrees : IsOwed (command_of (codes "replay" ∷ [])) (whole (with_shape ++ journal_text ++ spread_text)) status.Done None (codes "agrees 1\n")
+  -- the final shape is that of the start
+  pub differs : IsOwed (command_of (codes "replay" ∷ [])) (whole (with_shape ++ journal_text ++ still_text)) (status.Differs 1) None (codes "differs 1\n")
+  pub check : IsOwed (command_of (codes "check" ∷ [])) (whole program_text) status.Done None checked_text

@@ -1,0 +1,174 @@
+//! What a command answers to a whole input.
+
+ghost use Rattle.std.specs.Prelude.{◌≡◌, ◌<◌, ◌≤◌, ◌+◌, length, IfOk, Some};
+ghost use Rattle.document_grammar.specs.Fitting.{Fits};
+ghost use Rattle.shape_files.specs.Views.{contents};
+ghost use Rattle.command_answers.specs.Answers.{IsAnswerTo, done_with, refused_with};
+ghost use Rattle.command_answers.specs.Commands.{form_of};
+ghost use Rattle.command_answers.specs.Owed.{IsOwed};
+ghost use Rattle.command_answers.specs.Reads.{whole};
+
+use crate::command::Command;
+use crate::status::Status;
+use action_eval::Runner;
+use amoebot_state::NoMemory;
+use claim_core::Report;
+use command_runs::{
+    compare, print_agrees, print_check, print_differs, print_report, run_interleaved, run_serially,
+};
+use document_grammar::documents_fit;
+use shape_files::{Parts, read_sections};
+use std::alloc::Global;
+use text_tokens::{Lines, ReadRefusal, Refusal, RefusalKind, Text};
+
+/// A document that waits for threads. It is refused on line 0, where no line of it is at fault.
+const NOT_YET: Refusal = Refusal {
+    line: 0,
+    kind: RefusalKind::NotYet,
+};
+
+/// What a command answers: how it ended, its report if it ran, and the text or line that is to be written.
+#[derive(Drop)]
+pub struct Answer {
+    pub status: Status,
+    pub report: Option<Report>,
+    pub text: Text,
+}
+
+/// What a command answers to a whole input. Without enough memory there is no answer.
+pub fn answer(alloc: Global, command: Command, bytes: &[u8]) -> Result<Answer, NoMemory>
+    requires { length bytes.now + 1 < 2 ^ 32 }
+    ensures { IfOk result (λ a. IsOwed (Some command) (whole bytes.now) a.status a.report a.text) }
+{
+    documents_fit();
+    match read_sections(alloc, bytes, command.form()) {
+        Ok(sections) => answer_document(alloc, command, sections.into_parts()),
+        Err(ReadRefusal::Refused(refusal)) => refuse(alloc, refusal),
+        Err(ReadRefusal::NoMemory) => Err(NoMemory),
+    }
+}
+
+/// What it answers to a document of its form.
+fn answer_document(alloc: Global, command: Command, parts: Parts) -> Result<Answer, NoMemory>
+    requires { Fits (form_of command) (contents parts) }
+    ensures { IfOk result (IsAnswerTo command (contents parts)) }
+{
+    match command {
+        Command::Run => answer_run(alloc, parts),
+        Command::Interleave => answer_interleave(alloc, parts),
+        Command::Replay => answer_replay(alloc, parts),
+        Command::Check => answer_check(alloc, parts),
+    }
+}
+
+fn refuse(alloc: Global, refusal: Refusal) -> Result<Answer, NoMemory>
+    ensures { IfOk result (λ a. a ≡ refused_with refusal) }
+{
+    let mut lines = Lines::new(alloc);
+    lines.begin("refused")?;
+    lines.number(refusal.line)?;
+    lines.word(refusal.kind.name())?;
+    lines.end()?;
+    Ok(Answer {
+        status: Status::Refused(refusal),
+        report: None,
+        text: lines.text(),
+    })
+}
+
+fn answer_run(alloc: Global, parts: Parts) -> Result<Answer, NoMemory>
+    requires { Fits (form_of Command.Run) (contents parts) }
+    ensures { IfOk result (IsAnswerTo Command.Run (contents parts)) }
+{
+    let Parts {
+        checked: Some(checked),
+        world: Some(world),
+        lists: Some(lists),
+        ..
+    } = parts
+    else {
+        unreachable!();
+    };
+    if lists.callers() > 1 {
+        return refuse(alloc, NOT_YET);
+    }
+    let vars = checked.vars();
+    let report = run_serially(alloc, &Runner::new(checked), world, &lists)?;
+    answer_report(alloc, report, vars)
+}
+
+fn answer_interleave(alloc: Global, parts: Parts) -> Result<Answer, NoMemory>
+    requires { Fits (form_of Command.Interleave) (contents parts) }
+    ensures { IfOk result (IsAnswerTo Command.Interleave (contents parts)) }
+{
+    let Parts {
+        checked: Some(checked),
+        world: Some(world),
+        lists: Some(lists),
+        schedule: Some(schedule),
+        ..
+    } = parts
+    else {
+        unreachable!();
+    };
+    let vars = checked.vars();
+    let report = run_interleaved(alloc, &Runner::new(checked), world, &lists, &schedule)?;
+    answer_report(alloc, report, vars)
+}
+
+fn answer_replay(alloc: Global, parts: Parts) -> Result<Answer, NoMemory>
+    requires { Fits (form_of Command.Replay) (contents parts) }
+    ensures { IfOk result (IsAnswerTo Command.Replay (contents parts)) }
+{
+    let Parts {
+        checked: Some(checked),
+        world: Some(world),
+        entries: Some(entries),
+        final_world: Some(last),
+        ..
+    } = parts
+    else {
+        unreachable!();
+    };
+    let entries = entries.entries();
+    let (status, text) = match compare(&Runner::new(checked), world, entries, &last) {
+        Ok(()) => (Status::Done, print_agrees(alloc, entries.len())?),
+        Err(differs) => (
+            Status::Differs(differs.place),
+            print_differs(alloc, differs.place)?,
+        ),
+    };
+    Ok(Answer {
+        status,
+        report: None,
+        text,
+    })
+}
+
+fn answer_check(alloc: Global, parts: Parts) -> Result<Answer, NoMemory>
+    requires { Fits (form_of Command.Check) (contents parts) }
+    ensures { IfOk result (IsAnswerTo Command.Check (contents parts)) }
+{
+    let Some(checked) = parts.checked else {
+        unreachable!();
+    };
+    let text = print_check(alloc, checked.program())?;
+    Ok(Answer {
+        status: Status::Done,
+        report: None,
+        text,
+    })
+}
+
+/// The answer that tells a report, where an amoebot has the values of so many variables.
+fn answer_report(alloc: Global, report: Report, vars: u8) -> Result<Answer, NoMemory>
+    requires { vars ≤ 8 }
+    ensures { IfOk result (λ a. a ≡ done_with vars report) }
+{
+    let text = print_report(alloc, &report, vars)?;
+    Ok(Answer {
+        status: Status::Done,
+        report: Some(report),
+        text,
+    })
+}

@@ -1,0 +1,12 @@
+//! What a call of the program owes, by its words and by what its input came to.
+#![tactic(auto)]
+
+mod answer;
+mod command;
+mod laws;
+mod status;
+
+pub use answer::{Answer, answer};
+pub use command::{Command, command_of};
+pub use laws::{command_is_its_word, owed_is_one, small_answers};
+pub use status::Status;

@@ -1,0 +1,110 @@
+-- The commands on a small shape, step by step.
+use Rattle.std.proofs.Common.{◌≡◌, ◌<◌, ℕ, zero, suc, List, [], ◌∷◌, length, get_or, refl, ap, sym, subst, arith}
+use Rattle.std.specs.Fmt.{digits}
+use Rattle.std.specs.List.{All}
+use Rattle.std.proofs.lemmas.List.Elements.{All-nil, All-cons}
+use Rattle.amoebot_state.specs.Configs.{Config, occupant}
+use Rattle.amoebot_state.specs.Steps.{Step, Run}
+use Rattle.serial_model.specs.declared.Turned.TheVariants as turned
+use Rattle.claim_core.specs.declared.marks.Mark.TheVariants as mark
+use Rattle.claim_core.specs.declared.state.Caller.{Caller}
+use Rattle.claim_core.specs.declared.state.Phase.TheVariants.{Releasing, Ended}
+use Rattle.claim_core.specs.Machine.{State}
+use Rattle.claim_core.specs.Turns.{IsList}
+use Rattle.claim_core.specs.Soundness.{IsSetup}
+use Rattle.claim_core.specs.Reached.{HaveEnded, IsReportOf}
+use Rattle.claim_core.specs.SerialRuns.{Left, SerialRun}
+use Rattle.command_runs.specs.SmallRow.{node, two_beside, expanded, one_refused}
+use Rattle.command_runs.proofs.SmallRow.{IsThereIn, one_id, may_run, valid, same_ids, reached, good}
+use Rattle.command_runs.specs.Reports.{setup}
+use Rattle.command_runs.specs.Laws.{OneListIsReached}
+use Rattle.command_runs.specs.Interleave.{at_round, IsScheduled}
+use Rattle.command_runs.specs.Replay.{DiffersAt, at_entry, at_end}
+use Rattle.command_runs.specs.Samples.{start, spread, decides, one_list, expansion, one_expanded, schedule, SmallCommands}
+use Rattle.command_runs.proofs.SerialReports.{serial_run_is_reported}
+
+-- the second amoebot expands
+step : Step decides start expansion spread
+step =
+    let run = good.run in
+    let s : Step decides start expanded spread = subst (λ (w : Config). Step decides start expanded w) (sym run.2) run.1 in
+    record { there = s.there; decided = s.decided; patched = s.patched }
+
+run : Run decides start (expansion ∷ []) spread
+run = (spread, step, refl)
+
+-- after no turn, and after one
+abbrev first : Left
+first = record { marks = []; entries = []; world = start }
+
+abbrev second : Left
+second = record { marks = mark.Done 0 ∷ []; entries = expansion ∷ []; world = spread }
+
+abbrev third : Left
+third = record { marks = mark.Done 0 ∷ mark.Idle 1 ∷ []; entries = expansion ∷ []; world = spread }
+
+serial : SerialRun decides start one_list 2 third
+serial = (
+  second,
+  (first, refl, record { turned = turned.Done expansion; made = (step, record { by = refl; at = refl; of = refl }); marks = refl; entries = refl }),
+  record { turned = turned.Idle; made = (refl, refl); marks = refl; entries = refl },
+)
+
+one_may_run : IsSetup (setup decides start one_list)
+one_may_run = record {
+  valid = valid;
+  few = omega arith;
+  lists = record { few = record { at_most_16 = omega arith; in_all = omega arith }; each = All-cons IsList (1 ∷ []) [] (one_id 1) (All-nil IsList) };
+  bots = All-cons (All (IsThereIn start)) (1 ∷ []) [] (All-cons (IsThereIn start) 1 [] refl (All-nil (IsThereIn start))) (All-nil (All (IsThereIn start)));
+  touches = may_run.touches;
+  leads = may_run.leads;
+}
+
+-- where the second caller frees its cells, not all have ended
+frees : (s : State) (k j : Caller) → s.callers ≡ k ∷ j ∷ [] → j.phase ≡ Releasing → HaveEnded s → ⊥
+frees s k j are phase ended =
+    let all : (i : ℕ) (d : Caller) → i < length (k ∷ j ∷ []) → (get_or (k ∷ j ∷ []) i d).phase ≡ Ended = subst (λ (ks : List Caller). (i : ℕ) (d : Caller) → i < length ks → (get_or ks i d).phase ≡ Ended) are ended in
+    let e : j.phase ≡ Ended = all 1 j (omega arith) in
+    cc
+
+first_round : (n : ℕ) → n < 4 → HaveEnded (at_round two_beside schedule n) → ⊥
+first_round zero lt = frees (at_round two_beside schedule 0) _ _ refl refl
+first_round (suc zero) lt = frees (at_round two_beside schedule 1) _ _ refl refl
+first_round (suc (suc zero)) lt = frees (at_round two_beside schedule 2) _ _ refl refl
+first_round (suc (suc (suc zero))) lt = frees (at_round two_beside schedule 3) _ _ refl refl
+first_round (suc (suc (suc (suc n)))) lt = absurd (omega arith)
+
+abbrev HasEnded : Caller → Type 0
+HasEnded k = k.phase ≡ Ended
+
+have_ended : (s : State) (k j : Caller) → s.callers ≡ k ∷ j ∷ [] → k.phase ≡ Ended → j.phase ≡ Ended → HaveEnded s
+have_ended s k j are one other = subst (All HasEnded) (sym are) (All-cons HasEnded k (j ∷ []) one (All-cons HasEnded j [] other (All-nil HasEnded)))
+
+ended : HaveEnded (at_round two_beside schedule 4)
+ended = have_ended (at_round two_beside schedule 4) _ _ refl refl refl
+
+left : IsReportOf two_beside (at_round two_beside schedule 4) one_refused
+left = record { first = refl; entries = refl; world = record { rest = refl; size = refl; ids = same_ids; values = refl }; marks = refl }
+
+scheduled : IsScheduled two_beside schedule one_refused
+scheduled = record { count = 4; ended = ended; first = first_round; left = left }
+
+no_step : DiffersAt decides start (expansion ∷ expansion ∷ []) spread 1
+no_step = at_entry 1 (record { entry = expansion; there = refl; world = spread; before = run; none = λ new s. let d = s.decided in cc })
+
+other_shape : DiffersAt decides start (expansion ∷ []) start 1
+other_shape = at_end spread run (λ same. let e = ap (λ (c : Config). occupant c (node 2)) same in cc)
+
+pub small_commands : OneListIsReached → SmallCommands
+unfolding digits
+small_commands reaches = record {
+  run = serial_run_is_reported reaches decides start one_list one_expanded one_may_run (omega arith) refl refl refl serial;
+  text = refl;
+  interleave = record { good = good; reached = reached; scheduled = scheduled };
+  agrees = run;
+  differs = no_step;
+  other_shape = other_shape;
+  agrees_line = refl;
+  check_text = refl;
+  differs_line = refl;
+}

@@ -1,0 +1,15 @@
+use Rattle.std.proofs.Common.{length, sym, ◌∙◌}
+use Rattle.command_runs.specs.Laws.{SameReport}
+use Rattle.command_runs.specs.Reports.{setup}
+use Rattle.action_meaning.specs.Verdicts.{verdict_shown}
+use Rattle.command_runs.proofs.Reported.{same_text}
+use Rattle.command_runs.proofs.Scheduled.{schedule_has_one_report}
+use Rattle.command_runs.proofs.laws.interleave_text_is_one.Goals as goal
+
+pub returns-clause-report : goal.returns-clause-report
+returns-clause-report c = schedule_has_one_report c.state_has_one_report.ensures
+
+pub returns-clause-text : goal.returns-clause-text
+returns-clause-text c = λ p start lists schedule one two text other x y.
+    let same = schedule_has_one_report c.state_has_one_report.ensures (setup (verdict_shown p) start lists) schedule one two x.run.scheduled y.run.scheduled in
+    (same, x.whole ∙ same_text (length p.vars) one two same ∙ sym y.whole)

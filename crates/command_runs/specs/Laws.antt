@@ -1,0 +1,54 @@
+-- What follows from the definitions alone.
+use Rattle.std.specs.Prelude.{◌≡◌, ◌≤◌, ℕ, true, List, length}
+use Rattle.tri_lattice.specs.Sets.{IsConnected}
+use Rattle.amoebot_state.specs.declared.verdict.Entry.{Entry}
+use Rattle.amoebot_state.specs.declared.verdict.Verdict.{Verdict}
+use Rattle.amoebot_state.specs.Configs.{Config}
+use Rattle.amoebot_state.specs.Occupied.{occupied}
+use Rattle.amoebot_state.specs.Zones.{Shown}
+use Rattle.claim_core.specs.declared.report.Report.{Report}
+use Rattle.claim_core.specs.Turns.{CallerLists}
+use Rattle.claim_core.specs.Good.{Good, IsWorldAt}
+use Rattle.claim_core.specs.Machine.{Setup}
+use Rattle.claim_core.specs.Soundness.{IsSetup}
+use Rattle.claim_core.specs.Reached.{Reached}
+use Rattle.action_tree.specs.Trees.{Program}
+use Rattle.action_meaning.specs.Verdicts.{verdict_shown}
+use Rattle.command_runs.specs.Run.{IsRunText}
+use Rattle.command_runs.specs.Interleave.{IsScheduled, IsInterleaveText}
+use Rattle.command_runs.specs.Replay.{Agrees, DiffersAt}
+
+-- one report, but for the room in its journal
+pub record SameReport (one two : Report) : Type 0 where
+  pub world : one.world ≡ two.world
+  pub entries : one.journal.entries ≡ two.journal.entries
+  pub marks : one.turns.marks ≡ two.turns.marks
+
+-- a document of `run` with at most one list has at most one text
+abbrev pub RunTextIsOne : Type 0
+RunTextIsOne = (p : Program) (start : Config) (lists : CallerLists) (one two : Report) (text other : List ℕ) → IsRunText p start lists one text → IsRunText p start lists two other → SameReport one two × (text ≡ other)
+
+-- a schedule gives at most one report
+abbrev pub ScheduleHasOneReport : Type 0
+ScheduleHasOneReport = (g : Setup) (schedule : List ℕ) (one two : Report) → IsScheduled g schedule one → IsScheduled g schedule two → SameReport one two
+
+-- so a document of `interleave` has at most one text
+abbrev pub InterleaveTextIsOne : Type 0
+InterleaveTextIsOne = (p : Program) (start : Config) (lists : CallerLists) (schedule : List ℕ) (one two : Report) (text other : List ℕ) → IsInterleaveText p start lists schedule one text → IsInterleaveText p start lists schedule two other → SameReport one two × (text ≡ other)
+
+-- a good report of at most one list, which says how many turns there are, is one that an interleaving gives
+abbrev pub OneListIsReached : Type 0
+OneListIsReached = (g : Setup) (report : Report) → IsSetup g → length g.lists.ids ≤ 1 → Good g.verdict g.world g.lists report → report.turns.turns ≡ g.lists.turns → Reached g report
+
+-- what agrees differs nowhere, and what differs does so at one place
+pub record ReplayIsDecided : Type 0 where
+  pub exclusive : (f : Shown → Verdict) (start final : Config) (entries : List Entry) (place : ℕ) → Agrees f start entries final → ¬ DiffersAt f start entries final place
+  pub one_place : (f : Shown → Verdict) (start final : Config) (entries : List Entry) (one two : ℕ) → DiffersAt f start entries final one → DiffersAt f start entries final two → one ≡ two
+
+-- with the guard on and a connected shape at the start, the shape is connected in each world of the run
+abbrev pub StaysConnectedIn : Program → Config → List Entry → Type 0
+StaysConnectedIn p start entries = p.guard ≡ true → IsConnected (occupied start) → (place : ℕ) (world : Config) → IsWorldAt (verdict_shown p) start entries place world → IsConnected (occupied world)
+
+-- so it is in each good report
+abbrev pub GoodStaysConnected : Type 0
+GoodStaysConnected = (p : Program) (start : Config) (lists : CallerLists) (report : Report) → Good (verdict_shown p) start lists report → StaysConnectedIn p start report.journal.entries

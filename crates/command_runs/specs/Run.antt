@@ -1,0 +1,26 @@
+-- The command `run` on a document of at most one list.
+use Rattle.std.specs.Prelude.{◌≡◌, ◌≤◌, ℕ, List, length}
+use Rattle.amoebot_state.specs.declared.verdict.Verdict.{Verdict}
+use Rattle.amoebot_state.specs.Configs.{Config}
+use Rattle.amoebot_state.specs.Zones.{Shown}
+use Rattle.claim_core.specs.declared.report.Report.{Report}
+use Rattle.claim_core.specs.Turns.{CallerLists}
+use Rattle.claim_core.specs.Good.{Good}
+use Rattle.claim_core.specs.SerialRuns.{SerialRun, all_turns, left_by}
+use Rattle.action_tree.specs.Trees.{Program}
+use Rattle.action_meaning.specs.Verdicts.{verdict_shown}
+use Rattle.claim_core.specs.Reached.{Reached}
+use Rattle.command_runs.specs.Reports.{setup, report_text}
+
+-- the report is a good one, which an interleaving gives; and it is what the turns of the one list leave, one after another, each the
+-- verdict on the world reached and none Busy
+pub record IsRunReport (f : Shown → Verdict) (start : Config) (lists : CallerLists) (report : Report) : Type 0 where
+  pub few : length lists.ids ≤ 1
+  pub good : Good f start lists report
+  pub reached : Reached (setup f start lists) report
+  pub serial : SerialRun f start lists (all_turns lists) (left_by report)
+
+-- what the command writes where a document has this program, this shape and these lists: the text of such a report
+pub record IsRunText (p : Program) (start : Config) (lists : CallerLists) (report : Report) (text : List ℕ) : Type 0 where
+  pub run : IsRunReport (verdict_shown p) start lists report
+  pub whole : text ≡ report_text (length p.vars) report

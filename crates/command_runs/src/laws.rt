@@ -1,0 +1,61 @@
+//! What holds of the commands. The functions do nothing: their clauses are the laws.
+
+ghost use Rattle.command_runs.specs.Laws.{GoodStaysConnected, InterleaveTextIsOne, OneListIsReached, ReplayIsDecided, RunTextIsOne, ScheduleHasOneReport};
+ghost use Rattle.command_runs.specs.Samples.{SmallCommands};
+
+use action_meaning::guarded_runs_stay_connected;
+use amoebot_state::run_has_one_last;
+use claim_core::{
+    is_always_sound, one_list_is_serial, reached_is_good, rounds_are_enough,
+    serial_run_is_determined, state_has_one_report,
+};
+use serial_model::{first_no_step_is_unique, run_has_only_steps};
+
+/// A document of `run` with at most one list has at most one report, and one text.
+pub fn run_text_is_one()
+    ensures { RunTextIsOne }
+{
+    serial_run_is_determined();
+}
+
+/// A schedule gives at most one report, and a document of `interleave` has at most one text.
+pub fn interleave_text_is_one()
+    ensures report { ScheduleHasOneReport }
+    ensures text { InterleaveTextIsOne }
+{
+    state_has_one_report();
+}
+
+/// A good report of at most one list is one that an interleaving gives.
+pub fn one_list_is_reached()
+    ensures { OneListIsReached }
+{
+    is_always_sound();
+    rounds_are_enough();
+    reached_is_good();
+    one_list_is_serial();
+    serial_run_is_determined();
+}
+
+/// A journal that agrees differs nowhere, and one that differs does so at one place.
+pub fn replay_is_decided()
+    ensures { ReplayIsDecided }
+{
+    first_no_step_is_unique();
+    run_has_only_steps();
+    run_has_one_last();
+}
+
+/// With the guard on and a connected shape at the start, the shape is connected in each world of a good report's run.
+pub fn good_stays_connected()
+    ensures { GoodStaysConnected }
+{
+    guarded_runs_stay_connected();
+}
+
+/// Reports of the commands on a small shape, and journals that agree and differ.
+pub fn small_commands()
+    ensures { SmallCommands }
+{
+    one_list_is_reached();
+}

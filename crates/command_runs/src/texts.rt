@@ -1,0 +1,59 @@
+ghost use Rattle.std.specs.Prelude.{◌≡◌, ◌≤◌, IfOk};
+ghost use Rattle.command_runs.specs.Check.{check_text};
+ghost use Rattle.command_runs.specs.Replay.{agrees_line, differs_line};
+ghost use Rattle.command_runs.specs.Reports.{report_text};
+
+use action_print::put_program;
+use action_tree::Program;
+use amoebot_state::NoMemory;
+use claim_core::Report;
+use journal_text::{put_journal, put_turns};
+use shape_text::put_shape;
+use std::alloc::Global;
+use text_tokens::{Lines, Text};
+
+/// The text of a run: the sections `journal`, `final` and `turns`, where an amoebot has the values of so many variables, at most 8.
+pub fn print_report(alloc: Global, report: &Report, vars: u8) -> Result<Text, NoMemory>
+    requires { vars ≤ 8 }
+    ensures { IfOk result (λ text. text ≡ report_text vars report.now) }
+{
+    let mut lines = Lines::new(alloc);
+    put_journal(&mut lines, report.journal.entries(), vars)?;
+    put_shape(&mut lines, "final", &report.world, vars)?;
+    put_turns(&mut lines, &report.turns)?;
+    Ok(lines.text())
+}
+
+/// The line of a journal of so many entries that is a run.
+pub fn print_agrees(alloc: Global, entries: usize) -> Result<Text, NoMemory>
+    ensures { IfOk result (λ text. text ≡ agrees_line entries) }
+{
+    let mut lines = Lines::new(alloc);
+    lines.begin("agrees")?;
+    lines.number(entries)?;
+    lines.end()?;
+    Ok(lines.text())
+}
+
+/// The line of a journal that differs at a place.
+pub fn print_differs(alloc: Global, place: u32) -> Result<Text, NoMemory>
+    ensures { IfOk result (λ text. text ≡ differs_line place) }
+{
+    let mut lines = Lines::new(alloc);
+    lines.begin("differs")?;
+    lines.number(place)?;
+    lines.end()?;
+    Ok(lines.text())
+}
+
+/// The canonical text of a program, under the first line of a document.
+pub fn print_check(alloc: Global, program: &Program) -> Result<Text, NoMemory>
+    ensures { IfOk result (λ text. text ≡ check_text program.now) }
+{
+    let mut lines = Lines::new(alloc);
+    lines.begin("amoebot")?;
+    lines.word("1")?;
+    lines.end()?;
+    put_program(&mut lines, program)?;
+    Ok(lines.text())
+}
