@@ -4,4 +4,6 @@ pub mod Continuing
 pub mod Sectioning
 pub mod Deciding
 pub mod Reading
+pub mod Fine
+pub mod Fitting
 pub mod Replaying

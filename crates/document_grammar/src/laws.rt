@@ -8,6 +8,7 @@ ghost use Rattle.document_grammar.specs.Documents.{Body, DocumentsAreDecided, Fo
 ghost use Rattle.document_grammar.specs.DocumentReaders.{body};
 ghost use Rattle.document_grammar.specs.DocumentRows.{DocumentsAreRead};
 ghost use Rattle.document_grammar.specs.RunTexts.{RunsAreReplayed};
+ghost use Rattle.document_grammar.specs.Fitting.{DocumentsFit};
 ghost use Rattle.document_grammar.specs.FrameLaws.{AreSections, FrameLaw, PlainLaw, FormsAreDistinct};
 
 /// The sections of a document, each in the state that those before it gave, with what it makes of the state.
@@ -42,4 +43,10 @@ pub fn documents_are_decided()
 /// run's entries and its last configuration.
 pub fn runs_are_replayed()
     ensures { RunsAreReplayed }
+{}
+
+/// What a document has fits together: it has the sections of its form, its maxima are those of its program, and its lists, its
+/// schedule and its entries name only amoebots, callers and actions that there are.
+pub fn documents_fit()
+    ensures { DocumentsFit }
 {}
