@@ -1,3 +1,4 @@
+pub mod Outcomes
 pub mod Owing
 pub mod Samples
 pub mod SmallDocuments

@@ -38,16 +38,17 @@ record IsOne (one two : Option Report) (first second : List ℕ) : Type 0 where
   report : SameIfAny one two
   text : first ≡ second
 
-module _ (documents : DocumentsAreDecided) (runs : RunTextIsOne) (interleaves : InterleaveTextIsOne) (replays : ReplayIsDecided) where
-  same_contents : (form : Form) (bytes : List ℕ) (a b : Contents) → Holds form bytes a → Holds form bytes b → a ≡ b
+module _ (documents : DocumentsAreDecided) where
+  pub same_contents : (form : Form) (bytes : List ℕ) (a b : Contents) → Holds form bytes a → Holds form bytes b → a ≡ b
   same_contents form bytes a b x y = let r : Result Contents Refusal = Ok a in let q : Result Contents Refusal = Ok b in let e : r ≡ q = (documents form).one bytes r q x y in cc
 
-  same_fault : (form : Form) (bytes : List ℕ) (r q : Refusal) → IsRefused form bytes r → IsRefused form bytes q → r ≡ q
+  pub same_fault : (form : Form) (bytes : List ℕ) (r q : Refusal) → IsRefused form bytes r → IsRefused form bytes q → r ≡ q
   same_fault form bytes r q x y = let o : Result Contents Refusal = Err r in let p : Result Contents Refusal = Err q in let e : o ≡ p = (documents form).one bytes o p x y in cc
 
-  not_both : (form : Form) (bytes : List ℕ) (a : Contents) (r : Refusal) → Holds form bytes a → IsRefused form bytes r → ⊥
+  pub not_both : (form : Form) (bytes : List ℕ) (a : Contents) (r : Refusal) → Holds form bytes a → IsRefused form bytes r → ⊥
   not_both form bytes a r x y = let o : Result Contents Refusal = Ok a in let p : Result Contents Refusal = Err r in let e : o ≡ p = (documents form).one bytes o p x y in cc
 
+module _ (documents : DocumentsAreDecided) (runs : RunTextIsOne) (interleaves : InterleaveTextIsOne) (replays : ReplayIsDecided) where
   run_is_one : (a : Contents) (one two : Report) (text other : List ℕ) → IsTextOfRun a one text → IsTextOfRun a two other → IsOne (Some one) (Some two) text other
   run_is_one a one two text other x y =
       let program = same_one y.program x.program y.its_program x.its_program in
@@ -96,17 +97,17 @@ module _ (documents : DocumentsAreDecided) (runs : RunTextIsOne) (interleaves : 
   owed_is_one c read s t one two text other usage usage = record { status = refl; report = tt; text = refl }
   owed_is_one c read s t one two text other (read_fault d got) (read_fault e more) = record { status = refl; report = tt; text = refl }
   owed_is_one c read s t one two text other (longer d got) (longer e more) = record { status = refl; report = tt; text = refl }
-  owed_is_one c read s t one two text other (refused d bytes r x) (refused e same q y) = let by = same_fault (form_of d) bytes r q x y in record { status = ap status.Refused by; report = tt; text = ap refusal_line by }
-  owed_is_one c read s t one two text other (refused d bytes r x) (later same a y l) = absurd (not_both form.Run bytes a r y x)
-  owed_is_one c read s t one two text other (refused d bytes r x) (differs same a place y l) = absurd (not_both form.Replay bytes a r y x)
-  owed_is_one c read s t one two text other (refused d bytes r x) (done e same a report u y l) = absurd (not_both (form_of d) bytes a r y x)
-  owed_is_one c read s t one two text other (later bytes a x l) (refused e same q y) = absurd (not_both form.Run bytes a q x y)
+  owed_is_one c read s t one two text other (refused d bytes r x) (refused e same q y) = let by = same_fault documents (form_of d) bytes r q x y in record { status = ap status.Refused by; report = tt; text = ap refusal_line by }
+  owed_is_one c read s t one two text other (refused d bytes r x) (later same a y l) = absurd (not_both documents form.Run bytes a r y x)
+  owed_is_one c read s t one two text other (refused d bytes r x) (differs same a place y l) = absurd (not_both documents form.Replay bytes a r y x)
+  owed_is_one c read s t one two text other (refused d bytes r x) (done e same a report u y l) = absurd (not_both documents (form_of d) bytes a r y x)
+  owed_is_one c read s t one two text other (later bytes a x l) (refused e same q y) = absurd (not_both documents form.Run bytes a q x y)
   owed_is_one c read s t one two text other (later bytes a x l) (later same b y m) = record { status = refl; report = tt; text = refl }
-  owed_is_one c read s t one two text other (later bytes a x l) (done e same b report u y m) = absurd (not_done b report u (subst IsForLater (same_contents form.Run bytes a b x y) l) m)
-  owed_is_one c read s t one two text other (differs bytes a place x l) (refused e same q y) = absurd (not_both form.Replay bytes a q x y)
-  owed_is_one c read s t one two text other (differs bytes a place x l) (differs same b other_place y m) = let by = same_place b place other_place (subst (λ (k : Contents). IsDiffering k place) (same_contents form.Replay bytes a b x y) l) m in record { status = ap status.Differs by; report = tt; text = ap differs_line by }
-  owed_is_one c read s t one two text other (differs bytes a place x l) (done e same b report u y m) = absurd (not_agreeing b place report u (subst (λ (k : Contents). IsDiffering k place) (same_contents form.Replay bytes a b x y) l) m)
-  owed_is_one c read s t one two text other (done d bytes a report v x l) (refused e same q y) = absurd (not_both (form_of d) bytes a q x y)
-  owed_is_one c read s t one two text other (done d bytes a report v x l) (later same b y m) = absurd (not_done a report v (subst IsForLater (same_contents form.Run bytes b a y x) m) l)
-  owed_is_one c read s t one two text other (done d bytes a report v x l) (differs same b place y m) = absurd (not_agreeing a place report v (subst (λ (k : Contents). IsDiffering k place) (same_contents form.Replay bytes b a y x) m) l)
-  owed_is_one c read s t one two text other (done d bytes a report v x l) (done e same b second u y m) = let by = text_is_one b d report second v u (subst (λ (k : Contents). IsTextOf k d report v) (same_contents (form_of d) bytes a b x y) l) m in record { status = refl; report = by.report; text = by.text }
+  owed_is_one c read s t one two text other (later bytes a x l) (done e same b report u y m) = absurd (not_done b report u (subst IsForLater (same_contents documents form.Run bytes a b x y) l) m)
+  owed_is_one c read s t one two text other (differs bytes a place x l) (refused e same q y) = absurd (not_both documents form.Replay bytes a q x y)
+  owed_is_one c read s t one two text other (differs bytes a place x l) (differs same b other_place y m) = let by = same_place b place other_place (subst (λ (k : Contents). IsDiffering k place) (same_contents documents form.Replay bytes a b x y) l) m in record { status = ap status.Differs by; report = tt; text = ap differs_line by }
+  owed_is_one c read s t one two text other (differs bytes a place x l) (done e same b report u y m) = absurd (not_agreeing b place report u (subst (λ (k : Contents). IsDiffering k place) (same_contents documents form.Replay bytes a b x y) l) m)
+  owed_is_one c read s t one two text other (done d bytes a report v x l) (refused e same q y) = absurd (not_both documents (form_of d) bytes a q x y)
+  owed_is_one c read s t one two text other (done d bytes a report v x l) (later same b y m) = absurd (not_done a report v (subst IsForLater (same_contents documents form.Run bytes b a y x) m) l)
+  owed_is_one c read s t one two text other (done d bytes a report v x l) (differs same b place y m) = absurd (not_agreeing a place report v (subst (λ (k : Contents). IsDiffering k place) (same_contents documents form.Replay bytes b a y x) m) l)
+  owed_is_one c read s t one two text other (done d bytes a report v x l) (done e same b second u y m) = let by = text_is_one b d report second v u (subst (λ (k : Contents). IsTextOf k d report v) (same_contents documents (form_of d) bytes a b x y) l) m in record { status = refl; report = by.report; text = by.text }

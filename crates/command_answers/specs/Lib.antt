@@ -1,11 +1,13 @@
 pub mod Answers
 pub mod Commands
+pub mod Headline
 pub mod Laws
 pub mod Lines
 pub mod OfCheck
 pub mod OfInterleave
 pub mod OfReplay
 pub mod OfRun
+pub mod Outcomes
 pub mod Owed
 pub mod Reads
 pub mod Samples

@@ -1,10 +1,12 @@
 //! What holds of the answers. The functions do nothing: their clauses are the laws.
 
-ghost use Rattle.command_answers.specs.Laws.{CommandIsItsWord, OwedIsOne};
+ghost use Rattle.command_answers.specs.Laws.{CommandIsItsWord, DocumentsHaveOutcomes, OwedIsOne, ReportsAreOfDocuments, ReportsAreOfTurns};
 ghost use Rattle.command_answers.specs.Samples.{SmallAnswers};
 
 use claim_core::{one_list_is_serial, reached_is_good};
-use command_runs::{interleave_text_is_one, replay_is_decided, run_text_is_one};
+use command_runs::{
+    good_stays_connected, interleave_text_is_one, replay_is_decided, run_text_is_one,
+};
 use document_grammar::documents_are_decided;
 
 /// The words are a command exactly where they are its word alone.
@@ -20,6 +22,22 @@ pub fn owed_is_one()
     run_text_is_one();
     interleave_text_is_one();
     replay_is_decided();
+}
+
+/// For a document of the command's form it is done; or, for `replay`, the journal differs; or, for `run`, there are two lists or more.
+pub fn documents_have_outcomes()
+    ensures { DocumentsHaveOutcomes }
+{
+    documents_are_decided();
+}
+
+/// A report is owed exactly where `run` or `interleave` is done. Then the input is a document, and the report is a good one of the
+/// lists' turns under its program, from its shape on: the headline.
+pub fn reports_are_of_documents()
+    ensures exactly { ReportsAreOfTurns }
+    ensures headline { ReportsAreOfDocuments }
+{
+    good_stays_connected();
 }
 
 /// For each status that an input can owe, a call that owes it.

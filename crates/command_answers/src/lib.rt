@@ -8,5 +8,8 @@ mod status;
 
 pub use answer::{Answer, answer};
 pub use command::{Command, command_of};
-pub use laws::{command_is_its_word, owed_is_one, small_answers};
+pub use laws::{
+    command_is_its_word, documents_have_outcomes, owed_is_one, reports_are_of_documents,
+    small_answers,
+};
 pub use status::Status;

@@ -1,0 +1,5 @@
+use Rattle.command_answers.proofs.Outcomes.{documents_have_outcomes}
+use Rattle.command_answers.proofs.laws.documents_have_outcomes.Goals as goal
+
+pub returns : goal.returns
+returns c = documents_have_outcomes c.documents_are_decided.ensures.decided
