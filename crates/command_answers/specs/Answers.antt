@@ -5,7 +5,7 @@ use Rattle.text_tokens.specs.declared.refusal.Refusal.{Refusal}
 use Rattle.claim_core.specs.declared.report.Report.{Report}
 use Rattle.document_grammar.specs.Documents.{Contents, Holds}
 use Rattle.command_runs.specs.Reports.{report_text}
-use Rattle.command_answers.specs.declared.answer.Answer.{Answer}
+use Rattle.command_answers.specs.declared.answering.Answer.{Answer}
 use Rattle.command_answers.specs.declared.command.Command.{Command}
 use Rattle.command_answers.specs.declared.status.Status.TheVariants as status
 use Rattle.command_answers.specs.Commands.{form_of}

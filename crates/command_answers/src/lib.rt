@@ -1,12 +1,12 @@
 //! What a call of the program owes, by its words and by what its input came to.
 #![tactic(auto)]
 
-mod answer;
+mod answering;
 mod command;
 mod laws;
 mod status;
 
-pub use answer::{Answer, answer};
+pub use answering::{Answer, answer_input};
 pub use command::{Command, command_of};
 pub use laws::{
     command_is_its_word, documents_have_outcomes, owed_is_one, reports_are_of_documents,

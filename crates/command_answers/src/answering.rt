@@ -36,7 +36,7 @@ pub struct Answer {
 }
 
 /// What a command answers to a whole input. Without enough memory there is no answer.
-pub fn answer(alloc: Global, command: Command, bytes: &[u8]) -> Result<Answer, NoMemory>
+pub fn answer_input(alloc: Global, command: Command, bytes: &[u8]) -> Result<Answer, NoMemory>
     requires { length bytes.now + 1 < 2 ^ 32 }
     ensures { IfOk result (λ a. IsOwed (Some command) (whole bytes.now) a.status a.report a.text) }
 {
