@@ -3,4 +3,7 @@ pub mod Plainness
 pub mod Continuing
 pub mod Sectioning
 pub mod Deciding
+pub mod Reading
+pub mod Fine
+pub mod Fitting
 pub mod Replaying

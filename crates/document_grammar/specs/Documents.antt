@@ -21,6 +21,7 @@ use Rattle.document_grammar.specs.declared.section.Section.{Section}
 use Rattle.document_grammar.specs.declared.section.Section.TheVariants.{Program, Shape, Lists, Schedule, Journal, Final, Turns}
 use Rattle.document_grammar.specs.declared.section.Form.{Form}
 use Rattle.document_grammar.specs.Frame.{course_of, IsInFrame}
+use Rattle.document_grammar.specs.FrameLaws.{SameTexts}
 
 -- What a document has: its program, the configuration at the start, the lists, the steps of the schedule, the entries of the journal and the
 -- configuration at the end. Its turns are read by their grammar alone.
@@ -108,3 +109,7 @@ pub record IsDecided (form : Form) : Type 0 where
 
 abbrev pub DocumentsAreDecided : Type 0
 DocumentsAreDecided = (form : Form) → IsDecided form
+
+-- The documents of each form, behind the header, are the form's sections one behind the other.
+abbrev pub FormsArePlain : Type 0
+FormsArePlain = (form : Form) → SameTexts Body (course_of form) nothing_yet

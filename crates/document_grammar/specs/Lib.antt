@@ -4,3 +4,5 @@ pub mod FrameLaws
 pub mod Documents
 pub mod DocumentReaders
 pub mod RunTexts
+pub mod Fitting
+pub mod DocumentRows

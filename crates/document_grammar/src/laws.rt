@@ -4,9 +4,12 @@ ghost use Rattle.std.specs.Prelude.{List};
 ghost use Rattle.text_tokens.specs.Reading.{Reader};
 ghost use Rattle.text_tokens.specs.Grammar.{Symbol};
 ghost use Rattle.document_grammar.specs.declared.section.Section.{Section as SectionValue};
-ghost use Rattle.document_grammar.specs.Documents.{DocumentsAreDecided};
+ghost use Rattle.document_grammar.specs.Documents.{Body, DocumentsAreDecided, FormsArePlain};
+ghost use Rattle.document_grammar.specs.DocumentReaders.{body};
+ghost use Rattle.document_grammar.specs.DocumentRows.{DocumentsAreRead};
 ghost use Rattle.document_grammar.specs.RunTexts.{RunsAreReplayed};
-ghost use Rattle.document_grammar.specs.FrameLaws.{FrameLaw, PlainLaw, FormsAreDistinct};
+ghost use Rattle.document_grammar.specs.Fitting.{DocumentsFit};
+ghost use Rattle.document_grammar.specs.FrameLaws.{AreSections, FrameLaw, PlainLaw, FormsAreDistinct};
 
 /// The sections of a document, each in the state that those before it gave, with what it makes of the state.
 pub trait Sectioned {
@@ -26,12 +29,24 @@ pub fn forms_are_plain<S: Sectioned>()
 {}
 
 /// A text is a document of a form in one way, or has one first fault, and never both.
+///
+/// The sections of documents are such as the frame asks for, each form is that which is written down, and some texts are
+/// documents or have this first fault.
 pub fn documents_are_decided()
-    ensures { DocumentsAreDecided }
+    ensures decided { DocumentsAreDecided }
+    ensures sections { AreSections Body body }
+    ensures plain { FormsArePlain }
+    ensures read { DocumentsAreRead }
 {}
 
 /// A document of the form Run whose last byte is a line feed, followed by the text of a run, is one of the form Replay, with the
 /// run's entries and its last configuration.
 pub fn runs_are_replayed()
     ensures { RunsAreReplayed }
+{}
+
+/// What a document has fits together: it has the sections of its form, its maxima are those of its program, and its lists, its
+/// schedule and its entries name only amoebots, callers and actions that there are.
+pub fn documents_fit()
+    ensures { DocumentsFit }
 {}

@@ -1,5 +1,19 @@
+use Rattle.document_grammar.specs.Frame.{course_of}
+use Rattle.document_grammar.specs.Documents.{nothing_yet, Body}
+use Rattle.document_grammar.proofs.Plainness.{plain, forms_are_distinct}
+use Rattle.document_grammar.proofs.Sectioning.{are_sections}
 use Rattle.document_grammar.proofs.Deciding.{is_decided}
+use Rattle.document_grammar.proofs.Reading.{documents_are_read}
 use Rattle.document_grammar.proofs.laws.documents_are_decided.Goals as goal
 
-pub returns : goal.returns
-returns c = is_decided
+pub returns-clause-decided : goal.returns-clause-decided
+returns-clause-decided c = is_decided
+
+pub returns-clause-sections : goal.returns-clause-sections
+returns-clause-sections c = are_sections
+
+pub returns-clause-plain : goal.returns-clause-plain
+returns-clause-plain c = λ form. plain Body are_sections.start (course_of form) (forms_are_distinct form) nothing_yet
+
+pub returns-clause-read : goal.returns-clause-read
+returns-clause-read c = documents_are_read
