@@ -1,8 +1,1 @@
-pub mod Commands
-pub mod DocumentViews
-pub mod Documents
-pub mod Expansion
-pub mod Headline
-pub mod Readers
-pub mod Samples
-pub mod Texts
+pub mod Endings

@@ -1,14 +1,12 @@
 //! The program: it reads a document from standard input, runs it, and writes what happened to standard output.
 #![tactic(auto)]
 
-mod decider;
-mod document;
 mod gate;
 mod run;
-mod serial;
+#[cfg(test)]
+mod samples;
 #[cfg(test)]
 mod tests;
-mod texts;
 
 use gate::NoGate;
 use outer_io::{StdSink, StdSource};

@@ -1,24 +1,25 @@
-ghost use Rattle.std.specs.Prelude.{◌≡◌, ◌≢◌, ◌≤◌, ◌<◌, ◌↔◌, ◌⊎◌, ℕ, List, map, length, IsTrue, IsSome, IfSome, IfOk, IfErr, Some, None};
+ghost use Rattle.std.specs.Prelude.{◌≡◌, ◌≢◌, ◌≤◌, ◌↔◌, ◌⊎◌, ℕ, List, map, length, IsSome, IfSome, Option, Some, None};
 ghost use Rattle.std.specs.String.{string_bytes};
-ghost use Rattle.outer_io.specs.Kept.{kept_after, written_of};
-ghost use Rattle.outer_io.specs.Readings.{ReadsWhole, ReadsAbove, ReadsSome, ReadsUpToFault};
-ghost use Rattle.outer_io.specs.Told.{Rose, Grows};
+ghost use Rattle.outer_io.specs.Told.{Rose};
 ghost use Rattle.outer_io.specs.Writings.{WritesAll, WritesFront};
-ghost use Rattle.amoebot_run.specs.Commands.{IsRun, document_limit, status_number};
-ghost use Rattle.amoebot_run.specs.Headline.{IsRunOfDocument, IsNoDocument, IsOwed, usage_line, read_fault_line, refused_too_long, refused_not_yet, refusal_line, text_of, TextIsDetermined};
-ghost use Rattle.amoebot_run.specs.Documents.{IsRunDocument};
-ghost use Rattle.claim_core.specs.Turns.{CallerLists};
-ghost use Rattle.amoebot_state.specs.Configs.{Config};
-ghost use Rattle.amoebot_state.specs.declared.bot.Port.{Port as PortValue};
-ghost use Rattle.amoebot_run.specs.Texts.{report_text};
 ghost use Rattle.claim_core.specs.declared.report.Report.{Report as ReportValue};
+ghost use Rattle.document_grammar.specs.Documents.{Contents, Holds};
+ghost use Rattle.command_answers.specs.declared.command.Command.{Command as CommandValue};
+ghost use Rattle.command_answers.specs.declared.status.Status.{Status as StatusValue};
+ghost use Rattle.command_answers.specs.Commands.{command_of, form_of};
+ghost use Rattle.command_answers.specs.Laws.{SameIfAny};
+ghost use Rattle.command_answers.specs.Reads.{IsReading, whole};
+ghost use Rattle.command_answers.specs.Owed.{IsOwed};
+ghost use Rattle.command_answers.specs.Headline.{MakesTurns};
+ghost use Rattle.amoebot_run.specs.Endings.{HasText, IsEnding, IsFailure, IsReadingOf, IsServed, IsTold, IsWritten, limit_for};
 
-use crate::decider::FirstAction;
-use crate::document::{Unread, document_is_one, read_run};
 use crate::gate::{Gate, NoGate};
-use crate::serial::run_serially;
-use crate::texts::print_report;
-use claim_core::{Report, serial_run_is_determined};
+use amoebot_state::NoMemory;
+use claim_core::Report;
+use command_answers::{
+    Answer, Status, answer_input, command_of, documents_have_outcomes, owed_is_one,
+    reports_are_of_documents,
+};
 use outer_io::{
     ReadError, Sink, Source, SureSink, SureSource, WriteFault, pieces_are_kept_as_one,
     read_document, write_all,
@@ -26,41 +27,7 @@ use outer_io::{
 use std::alloc::Global;
 use std::sync::Wait;
 use std::thread::Threads;
-use text_tokens::{Refusal, RefusalKind, Text};
-
-/// How a command ended.
-#[derive(Clone, Copy, Debug, PartialEq, Eq)]
-pub enum Status {
-    /// The whole text was written.
-    Done,
-    /// The words are no command.
-    Words,
-    /// The document has a fault.
-    Refused(Refusal),
-    /// A read failed.
-    ReadFault,
-    /// A write failed.
-    WriteFault,
-    /// There was not enough memory.
-    NoMemory,
-}
-
-impl Status {
-    /// The number with which the program ends.
-    #[tactic(auto, unfolding(crate::specs::Commands::status_number))]
-    pub fn number(self) -> u8
-        ensures { result ≡ status_number self }
-    {
-        match self {
-            Status::Done => 0,
-            Status::Words => 2,
-            Status::Refused(_) => 3,
-            Status::ReadFault => 4,
-            Status::WriteFault => 5,
-            Status::NoMemory => 6,
-        }
-    }
-}
+use text_tokens::{Refusal, RefusalKind};
 
 /// How a command ended, and what a run left.
 #[derive(Drop)]
@@ -68,9 +35,6 @@ pub struct Ended {
     pub status: Status,
     pub report: Option<Report>,
 }
-
-/// The most bytes that a document may have.
-const LIMIT: u32 = 1_048_576;
 
 /// What is written where the words are no command.
 const USAGE: &str =
@@ -88,19 +52,11 @@ const TOO_LONG: Refusal = Refusal {
 /// What is written where a document is too long.
 const TOO_LONG_LINE: &str = "refused 0 TooLong\n";
 
-/// What is written where the bytes are no document.
-const NOT_YET_LINE: &str = "refused 0 NotYet\n";
-
-/// A document that is none of the first grammar.
-const NOT_YET: Refusal = Refusal {
-    line: 0,
-    kind: RefusalKind::NotYet,
-};
-
-/// Does what the words ask for: the single word `run` reads a document, runs it and writes what happened.
+/// Does what the words ask for: each command reads a document of its form, and writes its text.
 ///
-/// The words are judged first. Then the input is read to its end, then the document is judged and run, and its whole text is made
-/// before the first byte is written. No memory is taken for the line that another status than `Done` has.
+/// The words are judged first. Then the input is read to its end, then the document is judged and the command does its work, and the
+/// whole text is made before the first byte is written. No memory is taken for the lines of the words, of a failed read and of an
+/// input that is too long.
 pub fn run<R: Threads + Wait + Sync, S: Source, K: Sink, G: Gate>(
     _rt: &R,
     alloc: Global,
@@ -109,63 +65,69 @@ pub fn run<R: Threads + Wait + Sync, S: Source, K: Sink, G: Gate>(
     out: &mut K,
     _gate: &G,
 ) -> Ended
-    // A report comes exactly with Done. Then the input was read to its end, the bytes read are a document, the report is one of the
-    // run that it asks for, and the text of that report was written.
-    ensures report { IsSome result.report ↔ (result.status ≡ Status.Done) }
-    ensures headline { IfSome result.report (λ report. (document : List ℕ)
-        × ReadsWhole S.left S.gives document_limit input.old input.new document
-        × IsRunOfDocument document report
-        × WritesAll K.written K.takes out.old out.new (report_text report)) }
-    ensures done { result.status ≡ Status.Done → IsRun (map string_bytes words.now) }
+    // What is owed for what was read was written whole; or a write of it failed; or memory was wanting and nothing was written.
+    ensures ending { IsEnding (command_of (map string_bytes words.now))
+        (IsReading S.left S.gives S.fails S.faults (limit_for (command_of (map string_bytes words.now))) input.old input.new)
+        (WritesAll K.written K.takes out.old out.new)
+        (λ text. Rose (K.faults out.old) (K.faults out.new) × WritesFront K.written K.takes K.fails out.old out.new text)
+        (out.new ≡ out.old)
+        result.status result.report }
 
-    // So a document whose bytes are told has one text.
-    ensures determined { IfSome result.report (λ _. (document : List ℕ) (other : ReportValue)
-        → S.left input.old ≡ Some document → IsRunOfDocument document other
-        → WritesAll K.written K.takes out.old out.new (report_text other)) }
+    // A report comes exactly with Done of `run` and `interleave`. Then the input was read to its end, the bytes read are a document, the report is a good one of
+    // its run, and the text of that report was written.
+    ensures report { IsSome result.report ↔ ((result.status ≡ Status.Done) × MakesTurns (command_of (map string_bytes words.now))) }
+    ensures headline { IfSome result.report (IsTold (command_of (map string_bytes words.now))
+        (IsReading S.left S.gives S.fails S.faults (limit_for (command_of (map string_bytes words.now))) input.old input.new)
+        (WritesAll K.written K.takes out.old out.new)) }
+
+    // What is owed for an input whose bytes are told is what the call answers, unless memory is wanting or a read or a write fails.
+    ensures determined { (document : List ℕ) (s : StatusValue) (report : Option ReportValue) (text : List ℕ)
+        → S.left input.old ≡ Some document → length document ≤ limit_for (command_of (map string_bytes words.now))
+        → IsOwed (command_of (map string_bytes words.now)) (whole document) s report text
+        → ((result.status ≡ s) × SameIfAny result.report report × WritesAll K.written K.takes out.old out.new text) ⊎ IsFailure result.status }
 
     // Where the words are no command, nothing is read, and only a write that fails hides that.
-    ensures words { result.status ≡ Status.Words → ¬ IsRun (map string_bytes words.now) }
-    ensures unread { ¬ IsRun (map string_bytes words.now) → input.new ≡ input.old }
-    ensures no_command { ¬ IsRun (map string_bytes words.now) → (result.status ≡ Status.Words) ⊎ (result.status ≡ Status.WriteFault) }
-    ensures usage { result.status ≡ Status.Words → WritesAll K.written K.takes out.old out.new usage_line }
+    ensures words { result.status ≡ Status.Words → command_of (map string_bytes words.now) ≡ None }
+    ensures no_command { command_of (map string_bytes words.now) ≡ None → (result.status ≡ Status.Words) ⊎ (result.status ≡ Status.WriteFault) }
+    ensures unread { command_of (map string_bytes words.now) ≡ None → input.new ≡ input.old }
 
-    // A document is refused for one of two reasons, with the bytes that show it.
-    ensures refused { (refusal : Refusal) → result.status ≡ Status.Refused refusal → (refusal ≡ refused_too_long) ⊎ (refusal ≡ refused_not_yet) }
-    ensures too_long { result.status ≡ Status.Refused refused_too_long → (got : List ℕ)
-        × ReadsAbove S.left S.gives document_limit input.old input.new got }
-    ensures not_yet { result.status ≡ Status.Refused refused_not_yet → (document : List ℕ)
-        × ReadsWhole S.left S.gives document_limit input.old input.new document × IsNoDocument document }
-    ensures refusal_line { (refusal : Refusal) → result.status ≡ Status.Refused refusal → WritesAll K.written K.takes out.old out.new (refusal_line refusal) }
-
-    // A fault is that of the object that was handed in, and ends its reading or writing.
+    // A fault is that of the object that was handed in. Without memory nothing is written.
     ensures read_fault { result.status ≡ Status.ReadFault → Rose (S.faults input.old) (S.faults input.new) }
-    ensures one_reading { result.status ≡ Status.ReadFault → (got : List ℕ)
-        × ReadsUpToFault S.left S.gives S.fails document_limit input.old input.new got }
-    ensures read_fault_line { result.status ≡ Status.ReadFault → WritesAll K.written K.takes out.old out.new read_fault_line }
     ensures write_fault { result.status ≡ Status.WriteFault → Rose (K.faults out.old) (K.faults out.new) }
-    ensures front { result.status ≡ Status.WriteFault → (text : List ℕ)
-        × IsOwed (IsRun (map string_bytes words.now))
-        (λ got. Rose (S.faults input.old) (S.faults input.new) × ReadsUpToFault S.left S.gives S.fails document_limit input.old input.new got)
-        (ReadsAbove S.left S.gives document_limit input.old input.new)
-        (ReadsWhole S.left S.gives document_limit input.old input.new)
-        text
-        × WritesFront K.written K.takes K.fails out.old out.new text }
-
-    // Without memory nothing is written, and no more is read than for a document, of which the end may have been read or not.
     ensures no_memory { result.status ≡ Status.NoMemory → out.new ≡ out.old }
-    ensures no_memory_read { result.status ≡ Status.NoMemory → (got : List ℕ)
-        × (ReadsSome S.left S.gives document_limit input.old input.new got ⊎ ReadsWhole S.left S.gives document_limit input.old input.new got) }
 
-    // A document within the limit is run, unless memory is wanting or a read or a write fails.
-    ensures complete { IsRun (map string_bytes words.now) → (document : List ℕ) (port : PortValue) (start : Config) (lists : CallerLists)
-        → S.left input.old ≡ Some document → length document ≤ document_limit → IsRunDocument document port start lists
-        → (result.status ≡ Status.Done) ⊎ ((result.status ≡ Status.NoMemory) ⊎ ((result.status ≡ Status.ReadFault) ⊎ (result.status ≡ Status.WriteFault))) }
+    // A document within the limit is served, unless memory is wanting or a read or a write fails.
+    ensures complete { (c : CommandValue) (document : List ℕ) (a : Contents)
+        → command_of (map string_bytes words.now) ≡ Some c → S.left input.old ≡ Some document
+        → length document ≤ limit_for (Some c) → Holds (form_of c) document a
+        → IsServed a c (WritesAll K.written K.takes out.old out.new) result.status result.report ⊎ IsFailure result.status }
 {
-    text_is_determined();
-    if !is_run(words) {
+    owed_is_one();
+    documents_have_outcomes();
+    reports_are_of_documents();
+    end(alloc, words, input, out)
+}
+
+/// What `run` does, which needs no handle.
+fn end<S: Source, K: Sink>(
+    alloc: Global,
+    words: &[String],
+    input: &mut S,
+    out: &mut K,
+) -> Ended
+    ensures ending { IsEnding (command_of (map string_bytes words.now))
+        (IsReading S.left S.gives S.fails S.faults (limit_for (command_of (map string_bytes words.now))) input.old input.new)
+        (WritesAll K.written K.takes out.old out.new)
+        (λ text. Rose (K.faults out.old) (K.faults out.new) × WritesFront K.written K.takes K.fails out.old out.new text)
+        (out.new ≡ out.old)
+        result.status result.report }
+    ensures no_command { command_of (map string_bytes words.now) ≡ None → (result.status ≡ Status.Words) ⊎ (result.status ≡ Status.WriteFault) }
+    ensures unread { command_of (map string_bytes words.now) ≡ None → input.new ≡ input.old }
+{
+    let Some(command) = command_of(words) else {
         return end_with_line(out, USAGE, Status::Words);
-    }
-    let document = match read_document(alloc, input, LIMIT) {
+    };
+    let document = match read_document(alloc, input, command.limit()) {
         Ok(document) => document,
         Err(ReadError::ReadFault) => return end_with_line(out, READ_FAULT, Status::ReadFault),
         Err(ReadError::TooLong) => {
@@ -173,33 +135,10 @@ pub fn run<R: Threads + Wait + Sync, S: Source, K: Sink, G: Gate>(
         }
         Err(ReadError::NoMemory) => return end_with(Status::NoMemory),
     };
-    match run_document(alloc, document.bytes()) {
-        Ok((report, text)) => match write_all(out, text.bytes()) {
-            Ok(()) => Ended {
-                status: Status::Done,
-                report: Some(report),
-            },
-            Err(WriteFault) => end_with(Status::WriteFault),
-        },
-        Err(Unread::NotYet) => end_with_line(out, NOT_YET_LINE, Status::Refused(NOT_YET)),
-        Err(Unread::NoMemory) => end_with(Status::NoMemory),
+    match answer_input(alloc, command, document.bytes()) {
+        Ok(answer) => end_with_answer(out, answer),
+        Err(NoMemory) => end_with(Status::NoMemory),
     }
-}
-
-/// Runs a document, and makes the text of the run.
-fn run_document(alloc: Global, bytes: &[u8]) -> Result<(Report, Text), Unread>
-    requires { length bytes.now ≤ document_limit }
-    ensures run { IfOk result (λ made. IsRunOfDocument bytes.now made.0) }
-    ensures text { IfOk result (λ made. made.1 ≡ report_text made.0) }
-    ensures none { result ≡ Err Unread.NotYet → IsNoDocument bytes.now }
-{
-    let document = read_run(alloc, bytes)?;
-    let decider = FirstAction {
-        port: document.port,
-    };
-    let report = run_serially(alloc, &decider, document.world, &document.lists)?;
-    let text = print_report(alloc, &report)?;
-    Ok((report, text))
 }
 
 fn end_with(status: Status) -> Ended
@@ -211,11 +150,10 @@ fn end_with(status: Status) -> Ended
     }
 }
 
-/// Writes the line that a status other than `Done` has.
+/// Writes the line of a status without a report.
 fn end_with_line<K: Sink>(out: &mut K, line: &str, status: Status) -> Ended
-    ensures { ((result ≡ record { status = status; report = None }) × WritesAll K.written K.takes out.old out.new line.now)
-        ⊎ ((result ≡ record { status = Status.WriteFault; report = None }) × Rose (K.faults out.old) (K.faults out.new)
-        × WritesFront K.written K.takes K.fails out.old out.new line.now) }
+    ensures written { IsWritten K.written K.takes K.fails K.faults out.old out.new status None line.now result }
+    ensures status { (result.status ≡ status) ⊎ (result.status ≡ Status.WriteFault) }
 {
     match write_all(out, line.as_bytes()) {
         Ok(()) => end_with(status),
@@ -223,21 +161,17 @@ fn end_with_line<K: Sink>(out: &mut K, line: &str, status: Status) -> Ended
     }
 }
 
-fn is_run(words: &[String]) -> bool
-    ensures { IsTrue result ↔ IsRun (map string_bytes words.now) }
+/// Writes the text of an answer.
+fn end_with_answer<K: Sink>(out: &mut K, answer: Answer) -> Ended
+    ensures { IsWritten K.written K.takes K.fails K.faults out.old out.new answer.status answer.report answer.text result }
 {
-    match words {
-        [word] => word.as_str() == "run",
-        _ => false,
+    match write_all(out, answer.text.bytes()) {
+        Ok(()) => Ended {
+            status: answer.status,
+            report: answer.report,
+        },
+        Err(WriteFault) => end_with(Status::WriteFault),
     }
-}
-
-/// The text of a run is determined by the document.
-pub fn text_is_determined()
-    ensures { TextIsDetermined }
-{
-    document_is_one();
-    serial_run_is_determined();
 }
 
 /// `run` over bytes in memory and without a gate. Where no memory is left for a copy of the bytes, that is its status, whatever the
@@ -249,39 +183,34 @@ pub fn run_text<R: Threads + Wait + Sync>(
     bytes: &[u8],
     out: &mut SureSink,
 ) -> Ended
-    // A report comes exactly with Done. Then the bytes are a document, the report is one of the run that it asks for, and what was
-    // written grew by the text of that report.
-    ensures report { IsSome result.report ↔ (result.status ≡ Status.Done) }
-    ensures headline { IfSome result.report (λ report. (length bytes.now ≤ document_limit)
-        × IsRunOfDocument bytes.now report
-        × Grows (written_of out.old) (written_of out.new) (report_text report)) }
-    ensures done { result.status ≡ Status.Done → IsRun (map string_bytes words.now) }
-    ensures determined { IfSome result.report (λ _. (other : ReportValue) → IsRunOfDocument bytes.now other
-        → Grows (written_of out.old) (written_of out.new) (report_text other)) }
+    // What is owed for the bytes was written whole; or memory was wanting and nothing was written. Bytes in memory have no faults.
+    ensures ending { IsEnding (command_of (map string_bytes words.now))
+        (IsReadingOf (limit_for (command_of (map string_bytes words.now))) bytes.now)
+        (HasText out.old out.new) (λ _. ⊥) (out.new ≡ out.old)
+        result.status result.report }
 
-    ensures words { result.status ≡ Status.Words → ¬ IsRun (map string_bytes words.now) }
-    ensures no_command { ¬ IsRun (map string_bytes words.now) → (result.status ≡ Status.Words) ⊎ (result.status ≡ Status.NoMemory) }
-    ensures usage { result.status ≡ Status.Words → Grows (written_of out.old) (written_of out.new) usage_line }
+    ensures report { IsSome result.report ↔ ((result.status ≡ Status.Done) × MakesTurns (command_of (map string_bytes words.now))) }
+    ensures headline { IfSome result.report (IsTold (command_of (map string_bytes words.now))
+        (IsReadingOf (limit_for (command_of (map string_bytes words.now))) bytes.now)
+        (HasText out.old out.new)) }
 
-    // A document is refused for one of two reasons.
-    ensures refused { (refusal : Refusal) → result.status ≡ Status.Refused refusal → (refusal ≡ refused_too_long) ⊎ (refusal ≡ refused_not_yet) }
-    ensures too_long { result.status ≡ Status.Refused refused_too_long → document_limit < length bytes.now }
-    ensures not_yet { result.status ≡ Status.Refused refused_not_yet → (length bytes.now ≤ document_limit) × IsNoDocument bytes.now }
-    ensures refusal_line { (refusal : Refusal) → result.status ≡ Status.Refused refusal → Grows (written_of out.old) (written_of out.new) (refusal_line refusal) }
+    // What is owed for the bytes is what the call answers, unless memory is wanting.
+    ensures determined { (s : StatusValue) (report : Option ReportValue) (text : List ℕ)
+        → length bytes.now ≤ limit_for (command_of (map string_bytes words.now))
+        → IsOwed (command_of (map string_bytes words.now)) (whole bytes.now) s report text
+        → ((result.status ≡ s) × SameIfAny result.report report × HasText out.old out.new text) ⊎ (result.status ≡ Status.NoMemory) }
 
-    // The sink that comes back is the one that was handed in, with the text or line that goes with the answer.
-    ensures sink { out.new ≡ kept_after out.old (text_of result) }
-
-    // Bytes in memory have no faults.
+    ensures words { result.status ≡ Status.Words → command_of (map string_bytes words.now) ≡ None }
+    ensures no_command { command_of (map string_bytes words.now) ≡ None → (result.status ≡ Status.Words) ⊎ (result.status ≡ Status.NoMemory) }
     ensures no_read_fault { result.status ≢ Status.ReadFault }
     ensures no_write_fault { result.status ≢ Status.WriteFault }
-
     ensures no_memory { result.status ≡ Status.NoMemory → out.new ≡ out.old }
 
-    // A document within the limit is run, unless memory is wanting.
-    ensures complete { IsRun (map string_bytes words.now) → (port : PortValue) (start : Config) (lists : CallerLists)
-        → length bytes.now ≤ document_limit → IsRunDocument bytes.now port start lists
-        → (result.status ≡ Status.Done) ⊎ (result.status ≡ Status.NoMemory) }
+    // A document within the limit is served, unless memory is wanting.
+    ensures complete { (c : CommandValue) (a : Contents)
+        → command_of (map string_bytes words.now) ≡ Some c
+        → length bytes.now ≤ limit_for (Some c) → Holds (form_of c) bytes.now a
+        → IsServed a c (HasText out.old out.new) result.status result.report ⊎ (result.status ≡ Status.NoMemory) }
 {
     pieces_are_kept_as_one();
     match SureSource::new(alloc, bytes) {

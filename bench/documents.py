@@ -1,0 +1,123 @@
+"""Documents of up to the largest size, made anew each time, for the measurements and for the merge gate.
+
+A list has each amoebot once, so that the turns go round; each amoebot has 16 turns.
+"""
+
+import pathlib
+import random
+
+EXAMPLES = pathlib.Path(__file__).resolve().parent.parent / "examples"
+TURNS_OF_EACH = 16
+
+OUT = "action out when contracted move expand head 0"
+MARK = "var m 1\naction mark when m = 0 do m := 1"
+
+
+def program_of(example):
+    """The program of an example, without the words `program` and `end`."""
+    text = (EXAMPLES / f"{example}.amoebot").read_text()
+    return text[text.index("program\n") + len("program\n"):text.index("\nend\nshape\n")]
+
+
+def spread(side):
+    """Every other node of every other row."""
+    return [(x, y) for y in range(0, side, 2) for x in range(0, side, 2)]
+
+
+def packed(side):
+    """A square of half the side in the corner."""
+    return [(x, y) for y in range(side // 2) for x in range(side // 2)]
+
+
+def middle(side):
+    """A square of half the side in the middle; the first amoebot is in the middle of it."""
+    quarter = side // 4
+    nodes = [(x + quarter, y + quarter) for x, y in packed(side)]
+    centre = (2 * quarter, 2 * quarter)
+    return [centre, *(node for node in nodes if node != centre)]
+
+
+def document(side, program, nodes, values="", lists=None, turns=None, schedule=None):
+    """The text of a document with contracted amoebots on these nodes. `values` are the values of each, or a function that gives those of a number."""
+    of = values if callable(values) else lambda number: values
+    lists = [range(len(nodes))] if lists is None else lists
+    lines = [
+        "amoebot 1",
+        "program",
+        program,
+        "end",
+        "shape",
+        f"area 0 0 {side} {side}",
+        *(f"bot {x} {y} {x} {y} 0 + {of(number)}".rstrip() for number, (x, y) in enumerate(nodes)),
+        "end",
+        "lists",
+        f"turns {TURNS_OF_EACH * len(nodes) if turns is None else turns}",
+        *("list " + " ".join(str(number) for number in each) for each in lists),
+        "end",
+    ]
+    if schedule is not None:
+        lines += ["schedule", *schedule, "end"]
+    return "\n".join(lines) + "\n"
+
+
+def hexagon(side):
+    return document(side, program_of("hexagon"), middle(side), lambda number: "0 6 6" if number else "1 6 0")
+
+
+def erosion(side):
+    return document(side, program_of("erosion"), middle(side), "1 0")
+
+
+def line(side):
+    return document(side, program_of("line"), spread(side))
+
+
+def mark(side):
+    return document(side, MARK, middle(side), "0")
+
+
+def expands(nodes):
+    return lambda side: document(side, OUT, nodes(side))
+
+
+# For each name the document of a side of the area; the amoebots are a quarter of its nodes.
+RUNS = {
+    "spread": expands(spread),
+    "packed": expands(packed),
+    "hexagon": hexagon,
+    "erosion": erosion,
+    "line": line,
+    "mark": mark,
+}
+
+
+def interleaved(side, callers, steps):
+    """Callers whose lists hold all ids, each from a place of its own on, and so many steps of callers that are drawn."""
+    nodes = middle(side)
+    count = len(nodes)
+    lists = [[(number + caller * count // callers) % count for number in range(count)] for caller in range(callers)]
+    drawn = random.Random(1)
+    schedule, left = [], steps
+    while left:
+        times = min(left, drawn.randrange(1, 60))
+        schedule.append(f"{drawn.randrange(callers)} times {times}")
+        left -= times
+    return document(side, MARK, nodes, "0", lists, TURNS_OF_EACH * count // callers, schedule)
+
+
+def filled(size=1_048_576):
+    """A small document of one mebibyte, nearly all of it comments and blanks."""
+    text = document(8, OUT, [(2, 3)])
+    filling = "# a comment that means nothing, up to the end of its line\n" + " " * 40 + "\n"
+    rest = size - len(text)
+    return filling * (rest // len(filling)) + " " * (rest % len(filling)) + text
+
+
+def long_program(size=1_048_576):
+    """A program of one mebibyte: 32 actions of 64 statements, each with a long sum."""
+    each = (size - 4_000) // (32 * 64)
+    term = " - 65535"
+    statement = "m := mod6 ( m" + term * ((each - 20) // len(term)) + " )"
+    actions = [f"action a{number} when m = {number}\ndo " + " ;\n".join([statement] * 64) for number in range(32)]
+    text = "amoebot 1\nprogram\nvar m 40\n" + "\n".join(actions) + "\nend\n"
+    return text + " " * (size - len(text))

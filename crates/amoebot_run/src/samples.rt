@@ -1,0 +1,503 @@
+//! Documents with the words, the status, the number of entries of the report, if there is one, and the text.
+
+use command_answers::Status::{self, Differs, Done};
+use text_tokens::Refusal;
+use text_tokens::RefusalKind::{
+    self, BadId, NotAdjacent, NotYet, OutOfBox, Overlap, Trailing, Truncated, Unexpected,
+};
+
+/// The word of a command, its document in pieces, the status, how many entries the report has, and the text in pieces.
+pub type Row = (
+    &'static str,
+    &'static [&'static str],
+    Status,
+    Option<usize>,
+    &'static [&'static str],
+);
+
+/// The word of a command, its document in pieces, and the line and the kind of the refusal, with its text.
+pub type Fault = (
+    &'static str,
+    &'static [&'static str],
+    u32,
+    RefusalKind,
+    &'static str,
+);
+
+// ---- programs
+
+/// A contracted amoebot expands. Four lines.
+const OUT: &str = "amoebot 1\nprogram\naction out when contracted move expand head 0\nend\n";
+
+/// An amoebot marks itself.
+const MARK: &str = "amoebot 1\nprogram\nvar m 1\naction mark when m = 0 do m := 1\nend\n";
+
+/// An expanded amoebot takes the one behind its tail along, and then makes a note.
+const DRAG: &str = "amoebot 1\nprogram\nvar m 1\n\
+    action drag when expanded and linked tail 3 and not peer_expanded tail 3 move pull tail 3\n\
+    action note when expanded do m := 1\nend\n";
+
+/// An expanded amoebot contracts, with the guard on and off.
+const GUARDED: &str =
+    "amoebot 1\nprogram\nguard on\naction a when expanded move contract tail\nend\n";
+
+const UNGUARDED: &str =
+    "amoebot 1\nprogram\nguard off\naction a when expanded move contract tail\nend\n";
+
+const PUSH: &str = "amoebot 1\nprogram\naction a when true move push head 0\nend\n";
+
+const PULL: &str = "amoebot 1\nprogram\naction a when true move pull tail 3\nend\n";
+
+// ---- shapes, of four lines where there is one amoebot
+
+const ONE: &str = "shape\narea 0 0 8 8\nbot 2 3 2 3 0 +\nend\n";
+
+/// Two amoebots side by side.
+const TWO: &str = "shape\narea 0 0 8 8\nbot 2 3 2 3 0 + 0\nbot 3 3 3 3 0 + 0\nend\n";
+
+/// Two amoebots far from each other.
+const FAR: &str = "shape\narea 0 0 8 8\nbot 1 1 1 1 0 +\nbot 6 6 6 6 0 +\nend\n";
+
+/// An expanded amoebot with a contracted one behind its tail.
+const TRAILED: &str = "shape\narea 0 0 8 8\nbot 3 3 2 3 0 +\nbot 1 3 1 3 0 +\nend\n";
+
+const TRAILED_0: &str = "shape\narea 0 0 8 8\nbot 3 3 2 3 0 + 0\nbot 1 3 1 3 0 + 0\nend\n";
+
+// ---- lists
+
+const ONE_TURN: &str = "lists\nturns 1\nlist 0\nend\n";
+
+const TWO_TURNS: &str = "lists\nturns 2\nlist 0\nend\n";
+
+const ONE_EACH: &str = "lists\nturns 1\nlist 0\nlist 1\nend\n";
+
+const TWO_EACH: &str = "lists\nturns 2\nlist 0\nlist 1\nend\n";
+
+// ---- what is written
+
+const NO_ENTRY: &str = "journal\nend\n";
+
+const DONE: &str = "turns\nturn 0 0 done 0\nend\n";
+
+const EXPANDED: &str =
+    "journal\nentry 0 0 0 0 0 expand head 0 spot 3 3 0 body 0 3 3 2 3 0 +\nend\n";
+
+const PULLED: &str = "journal\n\
+    entry 0 0 0 0 0 pull tail 3 spot 2 3 1 body 0 3 3 3 3 0 + body 1 2 3 1 3 0 +\nend\n";
+
+const FAR_JOURNAL: &str = "journal\n\
+    entry 0 1 0 1 0 expand head 0 spot 7 6 1 body 1 7 6 6 6 0 +\n\
+    entry 1 0 0 0 0 expand head 0 spot 2 1 0 body 0 2 1 1 1 0 +\n\
+    end\n";
+
+/// The two entries, the other way round.
+const FAR_EXCHANGED: &str = "journal\n\
+    entry 0 0 0 0 0 expand head 0 spot 2 1 0 body 0 2 1 1 1 0 +\n\
+    entry 1 1 0 1 0 expand head 0 spot 7 6 1 body 1 7 6 6 6 0 +\n\
+    end\n";
+
+const FAR_FINAL: &str = "final\narea 0 0 8 8\nbot 2 1 1 1 0 +\nbot 7 6 6 6 0 +\nend\n";
+
+const DRAGGED_JOURNAL: &str = "journal\n\
+    entry 0 0 0 0 0 pull tail 3 spot 2 3 1 body 0 3 3 3 3 0 + 0 body 1 2 3 1 3 0 + 0\n\
+    entry 1 1 1 1 1 none body 1 2 3 1 3 0 + 1\n\
+    end\n";
+
+/// The two entries, the other way round: an amoebot makes a note of what has not happened.
+const DRAGGED_EXCHANGED: &str = "journal\n\
+    entry 0 1 1 1 1 none body 1 2 3 1 3 0 + 1\n\
+    entry 1 0 0 0 0 pull tail 3 spot 2 3 1 body 0 3 3 3 3 0 + 0 body 1 2 3 1 3 0 + 0\n\
+    end\n";
+
+const DRAGGED_FINAL: &str = "final\narea 0 0 8 8\nbot 3 3 3 3 0 + 0\nbot 2 3 1 3 0 + 1\nend\n";
+
+// ---- what is answered
+
+/// Runs of the turns of at most one list, of which some fail.
+pub static RUNS: [Row; 13] = [
+    // An amoebot expands, and then it is idle.
+    (
+        "run",
+        &[OUT, ONE, TWO_TURNS],
+        Done,
+        Some(1),
+        &[
+            EXPANDED,
+            "final\narea 0 0 8 8\nbot 3 3 2 3 0 +\nend\n",
+            "turns\nturn 0 0 done 0\nturn 0 1 idle 1\nend\n",
+        ],
+    ),
+    // There is no list.
+    (
+        "run",
+        &[OUT, ONE, "lists\nturns 0\nend\n"],
+        Done,
+        Some(0),
+        &[
+            NO_ENTRY,
+            "final\narea 0 0 8 8\nbot 2 3 2 3 0 +\nend\n",
+            "turns\nend\n",
+        ],
+    ),
+    // The edge of the area is before it.
+    (
+        "run",
+        &[OUT, "shape\narea 0 0 8 8\nbot 7 3 7 3 0 +\nend\n", ONE_TURN],
+        Done,
+        Some(0),
+        &[
+            NO_ENTRY,
+            "final\narea 0 0 8 8\nbot 7 3 7 3 0 +\nend\n",
+            "turns\nturn 0 0 failed edge 0\nend\n",
+        ],
+    ),
+    // Another amoebot is before it, and what it wrote is not kept.
+    (
+        "run",
+        &[
+            "amoebot 1\nprogram\nvar m 3\naction a when true do m := 2 move expand head 0\nend\n",
+            TWO,
+            ONE_TURN,
+        ],
+        Done,
+        Some(0),
+        &[
+            NO_ENTRY,
+            "final\narea 0 0 8 8\nbot 2 3 2 3 0 + 0\nbot 3 3 3 3 0 + 0\nend\n",
+            "turns\nturn 0 0 failed occupied 0\nend\n",
+        ],
+    ),
+    // The amoebot is turned and mirrored: its direction 1 is the direction 4 of the lattice.
+    (
+        "run",
+        &[
+            "amoebot 1\nprogram\naction a when contracted move expand head 1\nend\n",
+            "shape\narea 0 0 8 8\nbot 2 3 2 3 5 -\nend\n",
+            ONE_TURN,
+        ],
+        Done,
+        Some(1),
+        &[
+            "journal\nentry 0 0 0 0 0 expand head 1 spot 2 2 0 body 0 2 2 2 3 5 -\nend\n",
+            "final\narea 0 0 8 8\nbot 2 2 2 3 5 -\nend\n",
+            DONE,
+        ],
+    ),
+    // It pushes an expanded amoebot.
+    (
+        "run",
+        &[
+            PUSH,
+            "shape\narea 0 0 8 8\nbot 2 3 2 3 0 +\nbot 3 3 4 3 0 +\nend\n",
+            ONE_TURN,
+        ],
+        Done,
+        Some(1),
+        &[
+            "journal\n\
+            entry 0 0 0 0 0 push head 0 spot 3 3 0 body 0 3 3 2 3 0 + body 1 4 3 4 3 0 +\nend\n",
+            "final\narea 0 0 8 8\nbot 3 3 2 3 0 +\nbot 4 3 4 3 0 +\nend\n",
+            DONE,
+        ],
+    ),
+    // A contracted one cannot be pushed.
+    (
+        "run",
+        &[
+            PUSH,
+            "shape\narea 0 0 8 8\nbot 2 3 2 3 0 +\nbot 3 3 3 3 0 +\nend\n",
+            ONE_TURN,
+        ],
+        Done,
+        Some(0),
+        &[
+            NO_ENTRY,
+            "final\narea 0 0 8 8\nbot 2 3 2 3 0 +\nbot 3 3 3 3 0 +\nend\n",
+            "turns\nturn 0 0 failed peer_not_expanded 0\nend\n",
+        ],
+    ),
+    // It pulls a contracted amoebot.
+    (
+        "run",
+        &[PULL, TRAILED, ONE_TURN],
+        Done,
+        Some(1),
+        &[
+            PULLED,
+            "final\narea 0 0 8 8\nbot 3 3 3 3 0 +\nbot 2 3 1 3 0 +\nend\n",
+            DONE,
+        ],
+    ),
+    // With the guard on it may not let its neighbour go.
+    (
+        "run",
+        &[GUARDED, TRAILED, ONE_TURN],
+        Done,
+        Some(0),
+        &[
+            NO_ENTRY,
+            "final\narea 0 0 8 8\nbot 3 3 2 3 0 +\nbot 1 3 1 3 0 +\nend\n",
+            "turns\nturn 0 0 failed would_split 0\nend\n",
+        ],
+    ),
+    // With the guard off it does.
+    (
+        "run",
+        &[UNGUARDED, TRAILED, ONE_TURN],
+        Done,
+        Some(1),
+        &[
+            "journal\nentry 0 0 0 0 0 contract tail spot 2 3 empty body 0 3 3 3 3 0 +\nend\n",
+            "final\narea 0 0 8 8\nbot 3 3 3 3 0 +\nbot 1 3 1 3 0 +\nend\n",
+            DONE,
+        ],
+    ),
+    // Two of its ports lead to one neighbour, whose value is read as it was written.
+    (
+        "run",
+        &[
+            "amoebot 1\nprogram\nvar m 3\n\
+            action a when true do head 2 . m := 1 ; tail 1 . m := head 2 . m + 1\nend\n",
+            "shape\narea 0 0 8 8\nbot 3 3 2 3 0 + 0\nbot 2 4 2 4 0 + 0\nend\n",
+            ONE_TURN,
+        ],
+        Done,
+        Some(1),
+        &[
+            "journal\nentry 0 0 0 0 0 none body 1 2 4 2 4 0 + 2\nend\n",
+            "final\narea 0 0 8 8\nbot 3 3 2 3 0 + 0\nbot 2 4 2 4 0 + 2\nend\n",
+            DONE,
+        ],
+    ),
+    // A value above the variable's maximum is not written.
+    (
+        "run",
+        &[
+            "amoebot 1\nprogram\nvar m 4\naction a when true do m := 5\nend\n",
+            "shape\narea 0 0 8 8\nbot 2 3 2 3 0 + 0\nend\n",
+            ONE_TURN,
+        ],
+        Done,
+        Some(0),
+        &[
+            NO_ENTRY,
+            "final\narea 0 0 8 8\nbot 2 3 2 3 0 + 0\nend\n",
+            "turns\nturn 0 0 failed out_of_range 0\nend\n",
+        ],
+    ),
+    // Two lists wait for threads.
+    (
+        "run",
+        &[OUT, FAR, ONE_EACH],
+        Status::Refused(Refusal {
+            line: 0,
+            kind: NotYet,
+        }),
+        None,
+        &["refused 0 NotYet\n"],
+    ),
+];
+
+/// Steps of two callers by schedules.
+pub static INTERLEAVINGS: [Row; 4] = [
+    // Caller 0 has its body and seven nodes when caller 1 wins its body and finds (3, 3) held.
+    (
+        "interleave",
+        &[
+            MARK,
+            TWO,
+            TWO_EACH,
+            "schedule 0 times 8 1 times 4 0 times 12 1 times 20 end\n",
+        ],
+        Done,
+        Some(2),
+        &[
+            "journal\n\
+            entry 0 0 0 0 0 none body 0 2 3 2 3 0 + 1\n\
+            entry 1 1 1 1 0 none body 1 3 3 3 3 0 + 1\n\
+            end\n",
+            "final\narea 0 0 8 8\nbot 2 3 2 3 0 + 1\nbot 3 3 3 3 0 + 1\nend\n",
+            "turns\n\
+            turn 0 0 done 0\n\
+            turn 0 1 idle 2\n\
+            turn 1 0 busy spot 3 3 by 0 0 0 place 0\n\
+            turn 1 1 done 1\n\
+            end\n",
+        ],
+    ),
+    // Each finds what the other holds.
+    (
+        "interleave",
+        &[MARK, TWO, ONE_EACH, "schedule 0 times 2 1 times 6 0 end\n"],
+        Done,
+        Some(0),
+        &[
+            NO_ENTRY,
+            "final\narea 0 0 8 8\nbot 2 3 2 3 0 + 0\nbot 3 3 3 3 0 + 0\nend\n",
+            "turns\n\
+            turn 0 0 busy spot 3 3 by 1 0 1 place 0\n\
+            turn 1 0 busy spot 2 3 by 0 0 0 place 0\n\
+            end\n",
+        ],
+    ),
+    // The second turn of caller 1 finds its amoebot expanded, with the larger zone.
+    (
+        "interleave",
+        &[
+            DRAG,
+            TRAILED_0,
+            TWO_EACH,
+            "schedule 1 times 19 0 times 26 1 times 26 end\n",
+        ],
+        Done,
+        Some(2),
+        &[
+            DRAGGED_JOURNAL,
+            DRAGGED_FINAL,
+            "turns\n\
+            turn 0 0 done 0\n\
+            turn 0 1 idle 2\n\
+            turn 1 0 idle 0\n\
+            turn 1 1 done 1\n\
+            end\n",
+        ],
+    ),
+    // The second caller commits first.
+    (
+        "interleave",
+        &[OUT, FAR, ONE_EACH, "schedule 1 times 10 end\n"],
+        Done,
+        Some(2),
+        &[
+            FAR_JOURNAL,
+            FAR_FINAL,
+            "turns\nturn 0 0 done 1\nturn 1 0 done 0\nend\n",
+        ],
+    ),
+];
+
+/// Journals that agree or differ, and a program that is printed.
+pub static COMPARED_AND_CHECKED: [Row; 5] = [
+    (
+        "replay",
+        &[OUT, FAR, FAR_JOURNAL, FAR_FINAL],
+        Done,
+        None,
+        &["agrees 2\n"],
+    ),
+    // What is far apart may happen in either order.
+    (
+        "replay",
+        &[OUT, FAR, FAR_EXCHANGED, FAR_FINAL],
+        Done,
+        None,
+        &["agrees 2\n"],
+    ),
+    (
+        "replay",
+        &[DRAG, TRAILED_0, DRAGGED_EXCHANGED, DRAGGED_FINAL],
+        Differs(0),
+        None,
+        &["differs 0\n"],
+    ),
+    // The last shape is that of the start.
+    (
+        "replay",
+        &[
+            OUT,
+            ONE,
+            EXPANDED,
+            "final\narea 0 0 8 8\nbot 2 3 2 3 0 +\nend\n",
+        ],
+        Differs(1),
+        None,
+        &["differs 1\n"],
+    ),
+    (
+        "check",
+        &[
+            "amoebot 1 program\n\
+            var  m 3 action a when(m=0 or m=1)and not contracted\n\
+            do m:=m+1;if m>2 then m:=0 fi move contract tail end\n",
+        ],
+        Done,
+        None,
+        &[
+            "amoebot 1\n\
+            program\n\
+            guard off\n\
+            var m 3\n\
+            action a\n\
+            when ( m = 0 or m = 1 ) and not contracted\n\
+            do m := m + 1 ; if m > 2 then m := 0 fi\n\
+            move contract tail\n\
+            end\n",
+        ],
+    ),
+];
+
+/// Documents that break off, or break a rule.
+pub static FAULTS: [Fault; 8] = [
+    (
+        "run",
+        &[OUT, "shape\narea 0 0 8 8\nbot 2 3"],
+        7,
+        Truncated,
+        "refused 7 Truncated\n",
+    ),
+    ("interleave", &[], 1, Truncated, "refused 1 Truncated\n"),
+    (
+        "check",
+        &["amoebot 1 program\nvar m 1\naction a when true move none do m := 0\nend\n"],
+        3,
+        Unexpected,
+        "refused 3 Unexpected\n",
+    ),
+    (
+        "run",
+        &[
+            OUT,
+            "shape\narea 0 0 8 8\nbot 9 3 9 3 0 +\nend\n",
+            TWO_TURNS,
+        ],
+        7,
+        OutOfBox,
+        "refused 7 OutOfBox\n",
+    ),
+    (
+        "run",
+        &[
+            OUT,
+            "shape\narea 0 0 8 8\nbot 2 3 4 3 0 +\nend\n",
+            TWO_TURNS,
+        ],
+        7,
+        NotAdjacent,
+        "refused 7 NotAdjacent\n",
+    ),
+    (
+        "run",
+        &[
+            OUT,
+            "shape\narea 0 0 8 8\nbot 2 3 2 3 0 +\nbot 2 3 2 3 0 +\nend\n",
+            TWO_TURNS,
+        ],
+        8,
+        Overlap,
+        "refused 8 Overlap\n",
+    ),
+    (
+        "run",
+        &[OUT, ONE, "lists\nturns 2\nlist 1\nend\n"],
+        11,
+        BadId,
+        "refused 11 BadId\n",
+    ),
+    (
+        "run",
+        &[OUT, ONE, TWO_TURNS, "more\n"],
+        13,
+        Trailing,
+        "refused 13 Trailing\n",
+    ),
+];
