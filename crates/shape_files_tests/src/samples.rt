@@ -15,27 +15,27 @@ pub type Expected = Result<[i64; 6], (u32, RefusalKind)>;
 pub type Row = (Form, &'static [&'static str], Expected);
 
 /// Line 1.
-const HEAD: &str = "amoebot 1\n";
+pub const HEAD: &str = "amoebot 1\n";
 
 /// Three lines, and four.
-const PROGRAM: &str = "program\naction a when true\nend\n";
+pub const PROGRAM: &str = "program\naction a when true\nend\n";
 
-const PROGRAM_OF_3: &str = "program\nvar m 3\naction a when true\nend\n";
+pub const PROGRAM_OF_3: &str = "program\nvar m 3\naction a when true\nend\n";
 
 /// Four lines.
-const SHAPE: &str = "shape\narea 0 0 8 8\nbot 2 3 2 3 0 +\nend\n";
+pub const SHAPE: &str = "shape\narea 0 0 8 8\nbot 2 3 2 3 0 +\nend\n";
 
-const LISTS: &str = "lists\nturns 2\nlist 0\nend\n";
+pub const LISTS: &str = "lists\nturns 2\nlist 0\nend\n";
 
-const FINAL: &str = "final\narea 0 0 8 8\nbot 2 3 2 3 0 +\nend\n";
+pub const FINAL: &str = "final\narea 0 0 8 8\nbot 2 3 2 3 0 +\nend\n";
 
 /// Three lines.
-const SCHEDULE: &str = "schedule\n0 times 3\nend\n";
+pub const SCHEDULE: &str = "schedule\n0 times 3\nend\n";
 
 /// Two lines.
-const JOURNAL: &str = "journal\nend\n";
+pub const JOURNAL: &str = "journal\nend\n";
 
-const TURNS: &str = "turns\nend\n";
+pub const TURNS: &str = "turns\nend\n";
 
 /// Sections of the form Run, in their order and out of it.
 pub static RUN_FORMS: [Row; 39] = [

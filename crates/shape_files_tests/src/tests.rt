@@ -1,10 +1,11 @@
+use crate::further::*;
 use crate::samples::*;
 use document_grammar::Form;
-use shape_files::{Sections, read_sections};
+use shape_files::{Sections, read_head, read_sections};
 use std::alloc::{AllocError, Global};
 use std::process::Abort;
 use std::test::Fail;
-use text_tokens::{ReadRefusal, Refusal, RefusalKind};
+use text_tokens::{ReadRefusal, Refusal, RefusalKind, TokenKind, Tokens};
 
 /// Counts in the order of `Expected`.
 fn counts(found: &Sections) -> [i64; 6] {
@@ -130,5 +131,107 @@ fn lists_and_schedules_are_read(rt: HostRuntime) -> Result<(), Fail> {
 #[test]
 fn journals_are_read(rt: HostRuntime) -> Result<(), Fail> {
     are_read(&rt, rt.alloc(), &JOURNALS)?;
+    Ok(())
+}
+
+#[test]
+fn a_run_and_its_changes_are_read(rt: HostRuntime) -> Result<(), Fail> {
+    are_read(&rt, rt.alloc(), &WORKED)?;
+    Ok(())
+}
+
+#[test]
+fn the_first_of_two_faults_is_told(rt: HostRuntime) -> Result<(), Fail> {
+    are_read(&rt, rt.alloc(), &TWO_FAULTS)?;
+    Ok(())
+}
+
+#[test]
+fn a_bad_byte_is_one_where_a_section_begins(rt: HostRuntime) -> Result<(), Fail> {
+    are_read(&rt, rt.alloc(), &BAD_BYTES)?;
+    Ok(())
+}
+
+#[test]
+fn limits_of_programs_are_kept_exactly(rt: HostRuntime) -> Result<(), Fail> {
+    are_limited(&rt, rt.alloc(), &PROGRAM_LIMITS)?;
+    Ok(())
+}
+
+/// The text of a document with so many entries that do nothing, and this behind them.
+fn with_entries(alloc: Global, entries: u32, behind: &str) -> Result<String, AllocError> {
+    let mut text = joined(alloc, &[HEAD, PROGRAM, SHAPE, "journal\n"])?;
+    for place in 0..entries {
+        let entry = format!(in alloc; "entry {place} 0 0 0 0 none\n")?;
+        text.push_str(&entry)?;
+    }
+    text.push_str(behind)?;
+    text.push_str(FINAL)?;
+    Ok(text)
+}
+
+fn have_entries(rt: &impl Abort, alloc: Global, table: &[Journal]) -> Result<(), AllocError> {
+    for (entries, behind, expected) in table {
+        let text = with_entries(alloc, *entries, behind)?;
+        let found = answer(alloc, text.as_bytes(), Form::Replay);
+        assert_eq!(rt; found, *expected, "{behind}");
+    }
+    Ok(())
+}
+
+#[test]
+fn a_document_has_at_most_65536_entries(rt: HostRuntime) -> Result<(), Fail> {
+    have_entries(&rt, rt.alloc(), &LONG_JOURNALS)?;
+    Ok(())
+}
+
+/// What is refused of the text before each byte of these lines, and that the whole text is a document.
+fn are_cut(rt: &impl Abort, alloc: Global, lines: &[(&str, &str)]) -> Result<(), AllocError> {
+    let mut text: Vec<u8> = Vec::new(alloc);
+    let mut line = 1u32;
+    for (bytes, kinds) in lines {
+        for (byte, kind) in bytes.bytes().zip(kinds.bytes()) {
+            let kind = if kind == b'x' {
+                RefusalKind::Unexpected
+            } else {
+                RefusalKind::Truncated
+            };
+            let found = answer(alloc, text.as_slice(), Form::Run);
+            assert_eq!(rt; found, Err((line, kind)), "{bytes}");
+            text.push(byte)?;
+        }
+        line = line.saturating_add(1);
+    }
+    assert!(rt; answer(alloc, text.as_slice(), Form::Run).is_ok());
+    Ok(())
+}
+
+#[test]
+fn beginnings_of_a_document_are_none(rt: HostRuntime) -> Result<(), Fail> {
+    are_cut(&rt, rt.alloc(), &CUTS)?;
+    Ok(())
+}
+
+#[test]
+fn a_header_is_read_alone(rt: HostRuntime) {
+    let mut tokens = Tokens::new(b"amoebot 1 program");
+    assert!(rt; read_head(&mut tokens).is_ok());
+    assert!(rt; tokens.is_next(TokenKind::Word, b"program"));
+}
+
+#[test]
+fn a_document_gives_its_parts(rt: HostRuntime) -> Result<(), Fail> {
+    let text = joined(rt.alloc(), &[HEAD, PROGRAM, SHAPE, LISTS])?;
+    assert!(rt; text.len() <= 1000);
+    let parts = read_sections(rt.alloc(), text.as_bytes(), Form::Run)
+        .ok()
+        .ok_or("not read")?
+        .into_parts();
+    assert!(rt; parts.checked.is_some());
+    assert!(rt; parts.world.is_some());
+    assert!(rt; parts.lists.is_some());
+    assert!(rt; parts.schedule.is_none());
+    assert!(rt; parts.entries.is_none());
+    assert!(rt; parts.final_world.is_none());
     Ok(())
 }
