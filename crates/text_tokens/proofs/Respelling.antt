@@ -195,6 +195,17 @@ rereads_none a is holds = record { spelled = []; printed = none_printed; read = 
 pub rereads_nothing : {A : Type 0} {P : Lang A} (a : A) → P [] a → Rereads P (Is a) []
 rereads_nothing a is = rereads_none a is refl
 
+-- what holds of what is read is known with it
+pub record Kept {A : Type 0} (P : Lang A) (R : A → Type 0) (xs : List Symbol) (a : A) : Type 0 where
+  pub is : P xs a
+  pub holds : R a
+
+kept_found : {A : Type 0} {P : Lang A} {R : A → Type 0} (ts : List Lexeme) → Found P R ts → Found (Kept P R) R ts
+kept_found ts f = record { value = f.value; whole = record { text = f.whole.text; is = record { is = f.whole.is; holds = f.holds }; parts = f.whole.parts; fine = f.whole.fine }; holds = f.holds }
+
+pub rereads_kept : {A : Type 0} {P : Lang A} {R : A → Type 0} {words : Words} → Rereads P R words → Rereads (Kept P R) R words
+rereads_kept p = record { spelled = p.spelled; printed = p.printed; read = λ ts s. kept_found ts (p.read ts s) }
+
 -- nothing is behind it
 pub rereads_alone : {A : Type 0} {P : Lang A} {R : A → Type 0} (words : Words) → Rereads P R (words ++ []) → Rereads P R words
 rereads_alone {P = P} {R = R} words p = subst (λ (ws : Words). Rereads P R ws) (append-nil words) p
@@ -228,8 +239,8 @@ the_passes kind w k e t s =
     let b : bytes_eq t.text w ≡ true = ap (λ (bs : List ℕ). bytes_eq bs w) s.text ∙ e in
     rw (a, b) refl
 
-pub rereads_one : {test : Lexeme → Bool} {over : Lexeme → Option RefusalKind} (w : List ℕ) → IsOneToken w → ((t : Lexeme) → IsSpelled w t → test t ≡ true) → ((t : Lexeme) → IsSpelled w t → over t ≡ None) → Rereads (IsOne test over) (IsSpelled w) (w ∷ [])
-rereads_one w is passes fine = one_rereads w is (one_found w passes fine)
+pub rereads_one : {test : Lexeme → Bool} {over : Lexeme → Option RefusalKind} (w : List ℕ) → IsOneToken w → ((t : Lexeme) → IsSpelled w t → test t ≡ true) → ((t : Lexeme) → over t ≡ None) → Rereads (IsOne test over) (IsSpelled w) (w ∷ [])
+rereads_one w is passes fine = one_rereads w is (one_found w passes (λ t s. fine t))
 
 -- this very token
 pub the_found : (kind : TokenKind) (w : List ℕ) → kind_of w ≡ kind → bytes_eq w w ≡ true → (ts : List Lexeme) → AreSpelled ts (w ∷ []) → Found (IsThe (is_the kind w)) Any ts
