@@ -1,6 +1,5 @@
 pub mod PinLemmas
 pub mod RowLemmas
-pub mod Reading
 pub mod Leaves
 pub mod ExpressionsRead
 pub mod StatementsRead

@@ -1,13 +1,13 @@
 -- Rows of tokens that grow by their next element.
 use Rattle.std.specs.Prelude.{◌==◌}
 use Rattle.std.proofs.lemmas.Bool.Decides.{nat_tests}
-use Rattle.std.proofs.Common.{◌≡◌, ℕ, suc, ◌+◌, Bool, false, List, [], ◌∷◌, ◌++◌, length, take, map, codes, flat_map, slice_get, Some, refl, sym, ap, ◌∙◌, arith, add-one, append_assoc}
-use Rattle.std.proofs.Math.Seq.{take-suc}
+use Rattle.std.proofs.Common.{◌≡◌, ℕ, suc, ◌+◌, Bool, false, List, [], ◌∷◌, ◌++◌, length, take, map, codes, flat_map, slice_get, Some, refl, sym, ap, ◌∙◌, arith, append_assoc}
 use Rattle.std.proofs.lemmas.Grind.{flat_map-append}
-use Rattle.std.proofs.lemmas.List.{map-append, length-take-le, append-nil}
-use Rattle.std.proofs.lemmas.Option.{slice_get_within, get_or_from_slice_get}
+use Rattle.std.proofs.lemmas.List.{map-append, length-map, length-take-le, append-nil}
+use Rattle.std.proofs.lemmas.Option.{slice_get_within}
 use Rattle.text_tokens.specs.Lines.{Words, spaced, line_text, lines_text}
 use Rattle.text_tokens.proofs.LineLemmas.{tokens_more}
+use Rattle.text_tokens.proofs.NextLines.{take_next}
 use Rattle.action_tree.specs.declared.expression.Guard as guard
 use Rattle.action_tree.specs.declared.expression.Part as part
 use Rattle.action_tree.specs.declared.statement.Stmt as stmt
@@ -32,9 +32,6 @@ row_more old now mid new row before element all so_far sep next whole =
 
 -- ---- one more element of a list
 
-take_next : {A : Type 0} (xs : List A) (i : ℕ) (x : A) → slice_get xs i ≡ Some x → take (i + 1) xs ≡ take i xs ++ x ∷ []
-take_next xs i x at = rw add-one (take-suc xs i x (slice_get_within xs i x at) ∙ ap (λ y. take i xs ++ y ∷ []) (get_or_from_slice_get xs i x x at))
-
 between_suc : (n : ℕ) (b : List ℕ) → between (suc n) b ≡ b ∷ []
 between_suc n b = let some : (suc n == 0) ≡ false = grind (arith, nat_tests) in rw some refl
 
@@ -47,13 +44,9 @@ joined_more b (first ∷ rows) row =
     ap (λ ws. first ++ ws) (flat_map-append (λ ws. b ∷ ws) rows (row ∷ []) ∙ ap (λ ws. flat_map (λ ws. b ∷ ws) rows ++ b ∷ ws) (append-nil row))
     ∙ sym (append_assoc first (flat_map (λ ws. b ∷ ws) rows) (b ∷ row)) ∙ ap (λ ws. joined b (first ∷ rows) ++ (ws ++ row)) (sym (between_suc (length rows) b))
 
-length-map : {A B : Type 0} (f : A → B) (xs : List A) → length (map f xs) ≡ length xs
-length-map f [] = refl
-length-map f (x ∷ xs) = ap suc (length-map f xs)
-
 module _ {A : Type 0} (b : List ℕ) (f : A → Words) (xs : List A) (i : ℕ) (x : A) (at : slice_get xs i ≡ Some x) where
   row_length : length (map f (take i xs)) ≡ i
-  row_length = let inside = slice_get_within xs i x at in length-map f (take i xs) ∙ length-take-le i xs (omega arith)
+  row_length = let inside = slice_get_within xs i x at in length-map (take i xs) f ∙ length-take-le i xs (omega arith)
 
   row_next : joined b (map f (take (i + 1) xs)) ≡ joined b (map f (take i xs)) ++ (between i b ++ f x)
   row_next =
@@ -113,7 +106,7 @@ sum_more (q ∷ ps) p =
 pub sum_next : (ps : List part.Part) (i : ℕ) (p : part.Part) → slice_get ps i ≡ Some p → sum_words (terms_of (take (i + 1) ps)) ≡ sum_words (terms_of (take i ps)) ++ part_words i (part_of p)
 sum_next ps i p at =
     let inside = slice_get_within ps i p at in
-    let same : length (map part_of (take i ps)) ≡ i = length-map part_of (take i ps) ∙ length-take-le i ps (omega arith) in
+    let same : length (map part_of (take i ps)) ≡ i = length-map (take i ps) part_of ∙ length-take-le i ps (omega arith) in
     ap (λ qs. sum_words (terms_of qs)) (take_next ps i p at) ∙ ap (λ qs. sum_words (terms qs)) (map-append part_of (take i ps) (p ∷ []))
     ∙ sum_more (map part_of (take i ps)) (part_of p) ∙ ap (λ n. sum_words (terms_of (take i ps)) ++ part_words n (part_of p)) same
 

@@ -2,6 +2,7 @@
 use Rattle.std.proofs.Common.{◌≡◌, ◌≢◌, ℕ, zero, suc, ◌*◌, ◌<◌, ◌≤◌, List, [], ◌∷◌, ◌++◌, length, get_or, take, Some, inl, inr, ap, sym, refl, subst, ◌∙◌, arith}
 use Rattle.std.specs.Prelude.{slice_get}
 use Rattle.std.specs.List.{All, AllPairs}
+use Rattle.std.proofs.Math.Seq.{take-suc}
 use Rattle.std.proofs.lemmas.Bool.{cases_lt, cases_eq}
 use Rattle.std.proofs.lemmas.List.{append-nil, take_all, length-take-le, nil_from_length}
 use Rattle.std.proofs.lemmas.Option.{same_Some, none-some, slice_get_within, slice_get-get_or, get_or_from_slice_get}
@@ -29,12 +30,6 @@ has_list : {A : Type 0} (xss : List (List A)) (c t : ℕ) (x : A) → slice_get 
 has_list [] c t x e = absurd (none-some x e)
 has_list (xs ∷ xss) zero t x e = omega arith
 has_list (xs ∷ xss) (suc c) t x e = let lt = has_list xss c t x e in omega arith
-
--- a list with one more of its elements
-take_next : {A : Type 0} (xs : List A) (k : ℕ) (x : A) → slice_get xs k ≡ Some x → take (suc k) xs ≡ take k xs ++ x ∷ []
-take_next [] k x e = absurd (none-some x e)
-take_next (y ∷ xs) zero x e = ap (λ z. z ∷ []) (same_Some y x e)
-take_next (y ∷ xs) (suc k) x e = ap (λ ys. y ∷ ys) (take_next xs k x e)
 
 -- what holds of two elements of which the one stands before the other
 pair_at : {A : Type 0} (R : A → A → Type 0) (xs : List A) (i j : ℕ) (x y : A) → AllPairs R xs → i < j → slice_get xs i ≡ Some x → slice_get xs j ≡ Some y → R x y
@@ -106,10 +101,11 @@ module _ (f : Shown → Verdict) (w0 : Config) (lists : CallerLists) (report : R
         let by = run_at f w0 report.world journal so.place e good.run at in
         let old : so.world ≡ by.0 = world_is so.place so.world by.0 so.run by.1 in
         let full : length (take so.place journal) ≡ so.place = length-take-le so.place journal so.within in
-        let longer : take (suc so.place) journal ≡ take so.place journal ++ e ∷ [] = take_next journal so.place e at in
+        let inside = slice_get_within journal so.place e at in
+        let longer : take (suc so.place) journal ≡ take so.place journal ++ e ∷ [] = take-suc journal so.place e inside ∙ ap (λ x. take so.place journal ++ x ∷ []) (get_or_from_slice_get journal so.place e e at) in
         record {
           place = suc so.place;
-          within = let inside = slice_get_within journal so.place e at in omega arith;
+          within = omega arith;
           world = by.2.0;
           run = by.2.2;
           left = (
@@ -125,7 +121,7 @@ module _ (f : Shown → Verdict) (w0 : Config) (lists : CallerLists) (report : R
                   of = (listed so.place e at).bot ∙ (λ i. bot_of lists (only so.place e at i) (turn i));
                 },
               );
-              marks = take_next own t (mark.Done place) marked ∙ ap (λ n. take t own ++ mark.Done n ∷ []) (next ∙ sym full);
+              marks = take-suc own t (mark.Done place) (slice_get_within own t (mark.Done place) marked) ∙ ap (λ x. take t own ++ x ∷ []) (get_or_from_slice_get own t (mark.Done place) (mark.Done place) marked) ∙ ap (λ n. take t own ++ mark.Done n ∷ []) (next ∙ sym full);
               entries = longer;
             },
           );
@@ -170,7 +166,7 @@ module _ (f : Shown → Verdict) (w0 : Config) (lists : CallerLists) (report : R
             record {
               turned = done_by;
               made = makes so.world (ap (λ w. f (shown w (bot_of lists 0 t))) old ∙ has.2);
-              marks = take_next own t m marked ∙ ap (λ x. take t own ++ x ∷ []) (is_mark ∙ ap (λ p. mark_at p done_by) (here ∙ sym full));
+              marks = take-suc own t m (slice_get_within own t m marked) ∙ ap (λ x. take t own ++ x ∷ []) (get_or_from_slice_get own t m m marked ∙ is_mark ∙ ap (λ p. mark_at p done_by) (here ∙ sym full));
               entries = sym (append-nil (take so.place journal)) ∙ ap (λ es. take so.place journal ++ es) (sym nothing);
             },
           );

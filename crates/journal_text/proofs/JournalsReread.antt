@@ -11,13 +11,13 @@ use Rattle.std.proofs.lemmas.Bool.Decides.{nat_tests}
 use Rattle.tri_lattice.specs.declared.node.Node.{Node}
 use Rattle.text_tokens.specs.declared.token.TokenKind.TheVariants.{Word, Sign}
 use Rattle.text_tokens.specs.declared.refusal.RefusalKind.TheVariants.{BadRange}
-use Rattle.text_tokens.specs.Text.{Lexeme, is_letter, is_word_byte, is_one_of, IsLongestSign, sign}
+use Rattle.text_tokens.specs.Text.{Lexeme, is_letter, is_word_byte}
 use Rattle.text_tokens.specs.Cursor.{is_the}
 use Rattle.text_tokens.specs.Lines.{Words}
 use Rattle.text_tokens.specs.Reading.{value, no_limit, too_large, less}
 use Rattle.text_tokens.specs.Grammar.{Symbol, Lang, Then, then, Made, made, IsThe, Either, of_first, is_nothing, Limited, in_limit, Repeated, no_more, AtMost}
 use Rattle.text_tokens.proofs.Blanks.{and_true}
-use Rattle.text_tokens.proofs.PrintedTokens.{kind_of, AreSpelled, spells_token, none_printed, word_printed, IsOneToken, IsPrinted, word_is_token, sign_is_token}
+use Rattle.text_tokens.proofs.PrintedTokens.{kind_of, AreSpelled, none_printed, word_printed, IsOneToken, word_is_token, sign_is_token, word_kind, minus_printed}
 use Rattle.amoebot_state.specs.declared.bot.Bot.{Bot}
 use Rattle.amoebot_state.specs.declared.bot.Chir.{Chir}
 use Rattle.amoebot_state.specs.declared.bot.Chir.TheVariants as chir
@@ -37,7 +37,8 @@ use Rattle.journal_text.specs.Journals.{IsPortBehind, IsMoved, IsCell, a_pair_of
 use Rattle.journal_text.specs.JournalRows.{Says}
 use Rattle.journal_text.specs.Texts.{node_words, end_word, port_words, chir_word, bot_words, pair_words, moved_words, entry_numbers, entry_words, journal_text}
 use Rattle.journal_text.specs.Rereading.{size, HasCoordinates, HasLimits, IsWritable, IsPossible, KeepsLimits, JournalsReadBack}
-use Rattle.journal_text.proofs.Respelling.{Found, Is, Any, Rereads, RereadsLines, rereads_behind, rereads_then, rereads_next, rereads_made, rereads_as, rereads_first, rereads_second, rereads_judged, rereads_nothing, rereads_into, rereads_more, lines_more, lines_then, lines_next, lines_nothing, the_passes, rereads_the, rereads_number, number_token, behind_found, found_made, one_found, the_found, number_found, one_rereads, reread_line, lines_say}
+use Rattle.text_tokens.proofs.Respelling.{Found, Is, Any, Rereads, RereadsLines, rereads_behind, rereads_then, rereads_next, rereads_made, rereads_as, rereads_first, rereads_second, rereads_judged, rereads_nothing, rereads_into, rereads_more, lines_more, lines_then, lines_next, lines_nothing, the_passes, rereads_the, rereads_number, number_token, behind_found, found_by, found_made, one_found, the_found, number_found, one_rereads, reread_line}
+use Rattle.journal_text.proofs.Saying.{lines_say}
 
 -- ---- words and numbers
 
@@ -50,28 +51,11 @@ up_to most n le small = rereads_number n (omega arith) (too_large most BadRange)
 pub any_number : (n : ℕ) → n < 10 ^ 9 → Rereads IsNumber (Is n) (decimal n ∷ [])
 any_number n small = rereads_number n small no_limit (λ t e. refl)
 
--- nothing makes a minus longer
-minus_longest : (rest : List ℕ) → IsLongestSign (codes "-") rest
-minus_longest rest [] more is e = omega arith
-minus_longest rest (a ∷ []) more is e = omega arith
-minus_longest rest (a ∷ b ∷ []) more is e =
-    let same : 45 ≡ a = cc in
-    let no : is_one_of (codes "!<>:") a ≡ true = (and_true (b == 61) (is_one_of (codes "!<>:") a) is).1 in
-    let yes : false ≡ true = ap (is_one_of (codes "!<>:")) same ∙ no in absurd cc
-minus_longest rest (a ∷ b ∷ c ∷ other) more is e = absurd cc
-
--- a minus directly before digits
-minus_printed : (w : List ℕ) → IsOneToken w → IsPrinted (45 ∷ w) (codes "-" ∷ w ∷ [])
-minus_printed w is = record { spells = λ rest vs e s. spells_token (sign refl (minus_longest (w ++ rest))) (omega arith) (spells_token (is.cuts rest e) is.sized s) }
-
 negative_is : (n : ℕ) → negative (suc n) ≡ negsuc n
 negative_is n = omega (arith, ints)
 
 minus_token : IsOneToken (codes "-")
 minus_token = sign_is_token (codes "-") refl refl
-
-first_found : {A : Type 0} {P Q : Lang A} {R : A → Type 0} (ts : List Lexeme) → Found P R ts → Found (Either P Q) R ts
-first_found ts f = record { value = f.value; whole = record { text = f.whole.text; is = of_first f.whole.is; parts = f.whole.parts; fine = f.whole.fine }; holds = f.holds }
 
 module _ (most n : ℕ) (le : suc n ≤ most) (small : most < 10 ^ 9) where
   minus_found : (ts : List Lexeme) → AreSpelled ts (codes "-" ∷ decimal (suc n) ∷ []) → Found (Then (IsThe is_minus) (λ line. Made (IsUpTo most) negative)) (Is (negsuc n)) ts
@@ -82,10 +66,10 @@ module _ (most n : ℕ) (le : suc n ≤ most) (small : most < 10 ^ 9) where
   negative_int = record {
     spelled = codes "-" ∷ decimal (suc n) ∷ [];
     printed = word_printed (minus_printed (decimal (suc n)) (number_token (suc n) (omega arith))) none_printed;
-    read = λ ts s. first_found ts (minus_found ts s);
+    read = λ ts s. found_by (λ z. z) (λ xs z is. of_first is) (λ z e. e) ts (minus_found ts s);
   }
 
-an_int : (most : ℕ) (z : ℤ) → size z ≤ most → most < 10 ^ 9 → Rereads (IsInt most) (Is z) (signed_decimal z ∷ [])
+pub an_int : (most : ℕ) (z : ℤ) → size z ≤ most → most < 10 ^ 9 → Rereads (IsInt most) (Is z) (signed_decimal z ∷ [])
 an_int most (pos n) le small = rereads_second (decimal n ∷ []) (rereads_as (λ n. pos n) (decimal n ∷ []) n (up_to most n le small))
 an_int most (negsuc n) le small = negative_int most n le small
 
@@ -95,7 +79,7 @@ a_node v c = rereads_then (signed_decimal v.x ∷ []) (signed_decimal v.y ∷ []
 -- a word of the format
 module _ (b : ℕ) (bytes : List ℕ) (letter : is_letter b ≡ true) (more : list_all is_word_byte bytes ≡ true) (few : length (b ∷ bytes) ≤ 24) (same : bytes_eq (b ∷ bytes) (b ∷ bytes) ≡ true) where
   pub the_kind : kind_of (b ∷ bytes) ≡ Word
-  the_kind = rw letter refl
+  the_kind = word_kind b bytes letter
 
   pub the_word : Rereads (IsWord (b ∷ bytes)) Any ((b ∷ bytes) ∷ [])
   the_word = rereads_the Word (b ∷ bytes) (word_is_token b bytes letter more few) the_kind same
@@ -130,7 +114,7 @@ module _ (vars : ℕ) (le : vars ≤ 8) where
       let size : length (take vars b.mem) ≡ vars = length-take-le vars b.mem (let e = l.eight in omega arith) in
       ap (λ n. take vars b.mem ++ replicate (8 - n) 0) size ∙ ap (λ rest. take vars b.mem ++ rest) (sym l.zeros) ∙ take-append-drop vars b.mem
 
-  a_bot : (b : Bot) → HasLimits vars b → Rereads (IsBot vars) (Is b) (bot_words vars b)
+  pub a_bot : (b : Bot) → HasLimits vars b → Rereads (IsBot vars) (Is b) (bot_words vars b)
   a_bot b l =
       let vs = take vars b.mem in
       let same : a_bot_of b.head b.tail b.rot b.chir vs ≡ b = ap (λ (mem : List ℕ). record { head = b.head; tail = b.tail; rot = b.rot; chir = b.chir; mem = mem }) (its_memory b l) in

@@ -10,7 +10,7 @@ use Rattle.std.proofs.lemmas.Option.{slice_get_within, get_or_from_slice_get}
 use Rattle.journal_text.specs.declared.journal.WrittenPair.{WrittenPair}
 use Rattle.journal_text.specs.Journals.{ids_of_pair}
 use Rattle.journal_text.specs.Views as view
-use Rattle.journal_text.proofs.NextLines.{take_next}
+use Rattle.text_tokens.proofs.NextLines.{take_next}
 
 module _ (bots : ℕ) where
   abbrev is_there : ℕ → Bool

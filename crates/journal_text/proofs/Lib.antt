@@ -2,9 +2,6 @@ pub mod PartLaws
 pub mod JournalLaws
 pub mod TurnLaws
 pub mod Saying
-pub mod NextLines
-pub mod Times
 pub mod Knowing
-pub mod Respelling
 pub mod JournalsReread
 pub mod TurnsReread

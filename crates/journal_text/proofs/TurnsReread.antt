@@ -21,7 +21,8 @@ use Rattle.journal_text.specs.Journals.{IsCell}
 use Rattle.journal_text.specs.Texts.{cell_words, failure_word, mark_words, turn_words, caller_lines}
 use Rattle.journal_text.specs.Turns.{Nothing, Unheeded, names_failure, is_failure, IsPlaced, IsFailed, IsClaimant, IsBusy, IsMark, IsTurn, as_before, AreTurns, IsTurns}
 use Rattle.journal_text.specs.Rereading.{IsShort, IsWritableCell, IsClaim, IsWritableMark, AreWritable, TurnsReadBack}
-use Rattle.journal_text.proofs.Respelling.{Is, Any, Rereads, RereadsLines, IsSpelled, rereads_next, rereads_made, rereads_first, rereads_second, one_found, one_rereads, kind_passes, found_made, more_of, lines_into, lines_behind_line, lines_next, lines_then, lines_made, lines_nothing, reread_line, lines_say}
+use Rattle.text_tokens.proofs.Respelling.{Is, Any, Rereads, RereadsLines, IsSpelled, rereads_next, rereads_made, rereads_first, rereads_second, one_found, one_rereads, kind_passes, found_made, more_of, lines_into, lines_behind_line, lines_next, lines_then, lines_made, lines_nothing, reread_line}
+use Rattle.journal_text.proofs.Saying.{lines_say}
 use Rattle.journal_text.proofs.JournalsReread.{any_number, the_word, a_spot, a_body}
 
 -- ---- marks

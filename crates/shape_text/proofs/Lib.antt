@@ -1,4 +1,3 @@
-pub mod BotsReread
 pub mod Judging
 pub mod NextLines
 pub mod ShapeLaws

@@ -4,7 +4,7 @@ use Rattle.std.proofs.lemmas.List.{map-append}
 use Rattle.std.proofs.lemmas.List.Elements.{filter_map-append}
 use Rattle.amoebot_state.specs.declared.bot.Bot.{Bot}
 use Rattle.text_tokens.specs.Lines.{Words}
-use Rattle.journal_text.proofs.NextLines.{take_next}
+use Rattle.text_tokens.proofs.NextLines.{take_next}
 use Rattle.shape_text.specs.Texts.{present}
 
 pub bot_next : (line : Bot → Words) (bots : List (Option Bot)) (i : ℕ) (b : Bot) → slice_get bots i ≡ Some (Some b) → map line (present (take (i + 1) bots)) ≡ map line (present (take i bots)) ++ line b ∷ []

@@ -26,12 +26,12 @@ use Rattle.amoebot_state.proofs.Faults.{valid_is_faultless}
 use Rattle.journal_text.specs.Parts.{is_end, IsWord}
 use Rattle.journal_text.specs.JournalRows.{Says}
 use Rattle.journal_text.specs.Rereading.{size, HasCoordinates, HasLimits}
-use Rattle.journal_text.proofs.Respelling.{Found, Is, Any, Rereads, RereadsLines, rereads_then, rereads_next, rereads_made, rereads_as, rereads_number, rereads_behind, one_rereads, one_found, the_passes, whole_then, found_made, rereads_the, reread_line, lines_say, lines_into, lines_made, lines_then, lines_next, lines_behind_line, lines_nothing, more_of}
-use Rattle.journal_text.proofs.JournalsReread.{the_word}
+use Rattle.text_tokens.proofs.Respelling.{Found, Is, Any, Rereads, RereadsLines, rereads_then, rereads_next, rereads_made, rereads_as, rereads_number, rereads_behind, one_rereads, one_found, the_passes, whole_then, found_made, rereads_the, reread_line, lines_into, lines_made, lines_then, lines_next, lines_behind_line, lines_nothing, more_of}
+use Rattle.journal_text.proofs.Saying.{lines_say}
+use Rattle.journal_text.proofs.JournalsReread.{the_word, an_int, a_bot}
 use Rattle.shape_text.specs.Shapes.{outside, IsSide, an_area_of, IsAreaLine, WrittenBot, written_bot, bot_in, past_bots, IsBotWord, IsBotLine, one_more, AreBots, WrittenShape, written_shape, wrong, stands_for, IsShapeUnder}
 use Rattle.shape_text.specs.Texts.{area_words, bot_line, present, shape_text}
 use Rattle.shape_text.specs.Rereading.{IsWritable, ShapesReadBack}
-use Rattle.shape_text.proofs.BotsReread.{an_int, a_bot}
 use Rattle.shape_text.proofs.Judging.{faultless_fits}
 
 -- ---- the area

@@ -1,4 +1,5 @@
 pub mod LineLemmas
+pub mod NextLines
 pub mod PrintedTokens
 pub mod Scanning
 pub mod Standing
@@ -9,6 +10,8 @@ pub mod Decimal
 pub mod Symbols
 pub mod Splitting
 pub mod Exactness
+pub mod Respelling
+pub mod InSequence
 pub mod Carrying
 pub mod Following
 pub mod Parts
@@ -23,5 +26,6 @@ pub mod Agreeing
 pub mod PutLaws
 pub mod Stepping
 pub mod Looping
+pub mod Times
 pub mod Rows
 pub mod Settling

@@ -215,11 +215,11 @@ blank_no_word_byte b e = grind (arith, nat_tests)
 blank_no_digit : (b : ℕ) → is_blank b ≡ true → is_digit b ≡ false
 blank_no_digit b e = grind (arith, nat_tests)
 
-word_kind : (b : ℕ) (bytes : List ℕ) → is_letter b ≡ true → kind_of (b ∷ bytes) ≡ Word
+pub word_kind : (b : ℕ) (bytes : List ℕ) → is_letter b ≡ true → kind_of (b ∷ bytes) ≡ Word
 word_kind b bytes e = rw e refl
 
-number_kind : (b : ℕ) (bytes : List ℕ) → is_digit b ≡ true → kind_of (b ∷ bytes) ≡ Number
-number_kind b bytes e = let n : is_letter b ≡ false = grind (arith, nat_tests) in rw (n, e) refl
+pub digit_kind : (b : ℕ) (bytes : List ℕ) → is_digit b ≡ true → kind_of (b ∷ bytes) ≡ Number
+digit_kind b bytes e = let n : is_letter b ≡ false = grind (arith, nat_tests) in rw (n, e) refl
 
 pub word_is_token : (b : ℕ) (bytes : List ℕ) → is_letter b ≡ true → list_all is_word_byte bytes ≡ true → length (b ∷ bytes) ≤ 24 → IsOneToken (b ∷ bytes)
 word_is_token b bytes e h le = record {
@@ -229,8 +229,8 @@ word_is_token b bytes e h le = record {
 
 pub number_is_token : (b : ℕ) (bytes : List ℕ) → is_digit b ≡ true → list_all is_digit bytes ≡ true → length (b ∷ bytes) ≤ 9 → IsOneToken (b ∷ bytes)
 number_is_token b bytes e h le = record {
-  cuts = λ rest stop. subst (λ (kind : TokenKind). Cuts kind (b ∷ bytes) rest) (sym (number_kind b bytes e)) (number e h (blank_stops is_digit blank_no_digit rest stop));
-  sized = subst (λ (kind : TokenKind). length (b ∷ bytes) ≤ most_bytes kind) (sym (number_kind b bytes e)) le;
+  cuts = λ rest stop. subst (λ (kind : TokenKind). Cuts kind (b ∷ bytes) rest) (sym (digit_kind b bytes e)) (number e h (blank_stops is_digit blank_no_digit rest stop));
+  sized = subst (λ (kind : TokenKind). length (b ∷ bytes) ≤ most_bytes kind) (sym (digit_kind b bytes e)) le;
 }
 
 -- a blank makes no sign longer
@@ -260,3 +260,17 @@ sign_is_token bytes e kind = record {
   cuts = λ rest stop. subst (λ (k : TokenKind). Cuts k bytes rest) (sym kind) (sign e (sign_longest bytes rest e stop));
   sized = subst (λ (k : TokenKind). length bytes ≤ most_bytes k) (sym kind) (short_by bytes e);
 }
+
+-- nothing makes a minus longer
+minus_longest : (rest : List ℕ) → IsLongestSign (codes "-") rest
+minus_longest rest [] more is e = omega arith
+minus_longest rest (a ∷ []) more is e = omega arith
+minus_longest rest (a ∷ b ∷ []) more is e =
+    let same : 45 ≡ a = cc in
+    let no : is_one_of (codes "!<>:") a ≡ true = (and_true (b == 61) (is_one_of (codes "!<>:") a) is).1 in
+    let yes : false ≡ true = ap (is_one_of (codes "!<>:")) same ∙ no in absurd cc
+minus_longest rest (a ∷ b ∷ c ∷ other) more is e = absurd cc
+
+-- a minus directly before digits
+pub minus_printed : (w : List ℕ) → IsOneToken w → IsPrinted (45 ∷ w) (codes "-" ∷ w ∷ [])
+minus_printed w is = record { spells = λ rest vs e s. spells_token (sign refl (minus_longest (w ++ rest))) (omega arith) (spells_token (is.cuts rest e) is.sized s) }

@@ -1,5 +1,5 @@
 -- From what a `Tokens` answers to what a reader does.
-use Rattle.std.proofs.Common.{◌≡◌, ℕ, zero, suc, ◌<◌, ◌≤◌, ◌+◌, Bool, true, false, cond, List, [], ◌∷◌, length, drop, Option, Some, None, Result, Ok, Err, refl, sym, ap, subst, ◌∙◌, arith}
+use Rattle.std.proofs.Common.{◌≡◌, ℕ, zero, suc, ◌<◌, ◌≤◌, Bool, true, false, cond, List, [], ◌∷◌, length, drop, Option, Some, None, Result, Ok, Err, refl, sym, ap, subst, ◌∙◌, arith}
 use Rattle.text_tokens.specs.declared.token.TokenKind.{TokenKind}
 use Rattle.text_tokens.specs.declared.token.TokenKind.TheVariants.{Number}
 use Rattle.text_tokens.specs.declared.token.Token.{Token}
@@ -16,7 +16,7 @@ use Rattle.text_tokens.specs.contracts.token.TokenKind.{the_type}
 use Rattle.std.specs.List.{list_all}
 use Rattle.text_tokens.specs.Text.{Lexeme, Cuts, word, number, sign, is_digit, most_bytes}
 use Rattle.text_tokens.specs.Cursor.{Cursor, next_passes, refusal_at, token_of, past_token, tail, expect, expect_by, slice, FirstIs, Spells, IsDigits, is_kind, same_kind}
-use Rattle.text_tokens.specs.Reading.{Answer, Reader, first, ◌>>=◌, pure, and_then, starts_at, one_within, either, full_at, limited, deep_at, past_sum, value, too_large, judge, judged}
+use Rattle.text_tokens.specs.Reading.{Answer, Reader, first, ◌>>=◌, pure, and_then, starts_at, one_within, either, full_at, limited, deep_at, value, too_large, judge, judged}
 use Rattle.text_tokens.specs.Steps.{Fails, SameSource, Gives, lexeme_of, another}
 
 -- ---- what stays
@@ -126,12 +126,6 @@ deep_zero levels t e = rw e refl
 pub deep_some : (levels : ℕ) (t : Lexeme) → 0 < levels → deep_at levels t ≡ None
 deep_some zero t e = absurd (omega arith)
 deep_some (suc levels) t e = refl
-
-pub sum_over : (weight : Lexeme → ℕ) (most sum : ℕ) (t : Lexeme) → most < sum + weight t → past_sum weight most sum t ≡ Some TooMany
-sum_over weight most sum t lt = let b : nat_lt most (sum + weight t) ≡ true = lt-ltb _ _ lt in rw b refl
-
-pub sum_within : (weight : Lexeme → ℕ) (most sum : ℕ) (t : Lexeme) → sum + weight t ≤ most → past_sum weight most sum t ≡ None
-sum_within weight most sum t le = let b : nat_lt most (sum + weight t) ≡ false = le-ltb _ _ le in rw b refl
 
 pub larger : (most : ℕ) (kind : RefusalKind) (t : Lexeme) → most < value t → too_large most kind t ≡ Some kind
 larger most kind t lt = let b : nat_lt most (value t) ≡ true = lt-ltb _ _ lt in rw b refl

@@ -28,9 +28,6 @@ fault-append (x ∷ xs) ys = ap (or_else x.fault) (fault-append xs ys) ∙ or_el
 pub fine-append : (xs ys : List Symbol) → first_fault xs ≡ None → first_fault ys ≡ None → first_fault (xs ++ ys) ≡ None
 fine-append xs ys p q = fault-append xs ys ∙ ap (λ (o : Option Refusal). or_else o (first_fault ys)) p ∙ q
 
-pub faulty-append : (xs ys : List Symbol) (r : Refusal) → first_fault xs ≡ Some r → first_fault (xs ++ ys) ≡ Some r
-faulty-append xs ys r p = fault-append xs ys ∙ ap (λ (o : Option Refusal). or_else o (first_fault ys)) p
-
 pub first-append : (ts us vs : List Lexeme) → first us ≡ first vs → first (ts ++ us) ≡ first (ts ++ vs)
 first-append [] us vs e = e
 first-append (t ∷ ts) us vs e = refl

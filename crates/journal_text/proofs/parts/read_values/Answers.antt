@@ -1,7 +1,7 @@
 use Rattle.std.proofs.Common.{◌≡◌, ◌+◌, ◌-◌, ◌<◌, arith}
 use Rattle.std.proofs.lemmas.Result.{err_from_is_err_and}
 use Rattle.journal_text.specs.Readers.{up_to, values}
-use Rattle.journal_text.proofs.Times.{times_goes_on, times_fails, times_over}
+use Rattle.text_tokens.proofs.Times.{times_goes_on, times_fails, times_over}
 use Rattle.journal_text.proofs.parts.read_values.Goals as goal
 
 pub returns-in_err-read_up_to : goal.returns-in_err-read_up_to

@@ -1,7 +1,7 @@
 use Rattle.claim_core.specs.Turns.{marks_of}
 use Rattle.journal_text.specs.Texts.{turn_words}
 use Rattle.text_tokens.proofs.LineLemmas.{line_more}
-use Rattle.journal_text.proofs.NextLines.{line_next}
+use Rattle.text_tokens.proofs.NextLines.{line_next}
 use Rattle.journal_text.proofs.printing.put_caller.Goals as goal
 
 pub loop-turn-preserved : goal.loop-turn-preserved

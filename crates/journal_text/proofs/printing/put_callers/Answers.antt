@@ -3,7 +3,7 @@ use Rattle.std.proofs.lemmas.Option.{slice_get-get_or}
 use Rattle.claim_core.specs.Turns.{marks_of}
 use Rattle.journal_text.specs.Texts.{caller_lines}
 use Rattle.text_tokens.proofs.LineLemmas.{lines_more}
-use Rattle.journal_text.proofs.NextLines.{lines_next}
+use Rattle.text_tokens.proofs.NextLines.{lines_next}
 use Rattle.journal_text.proofs.printing.put_callers.Goals as goal
 
 pub loop-caller-preserved : goal.loop-caller-preserved

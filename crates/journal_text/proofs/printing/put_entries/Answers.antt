@@ -2,7 +2,7 @@ use Rattle.std.proofs.Common.{refl}
 use Rattle.std.proofs.lemmas.Option.{slice_get_read}
 use Rattle.journal_text.specs.Texts.{entry_words}
 use Rattle.text_tokens.proofs.LineLemmas.{line_more}
-use Rattle.journal_text.proofs.NextLines.{line_next}
+use Rattle.text_tokens.proofs.NextLines.{line_next}
 use Rattle.journal_text.proofs.printing.put_entries.Goals as goal
 
 pub loop-place-preserved : goal.loop-place-preserved

@@ -1,6 +1,7 @@
 -- Printed words read as a text of a grammar, part by part.
-use Rattle.std.proofs.Common.{◌≡◌, ℕ, ◌<◌, ◌≤◌, Bool, true, false, List, [], ◌∷◌, ◌++◌, length, Option, None, Ok, refl, sym, ap, subst, ◌∙◌, arith, append_assoc}
-use Rattle.std.specs.Prelude.{◌&&◌, ◌^◌, decimal}
+use Rattle.std.proofs.Common.{◌≡◌, ℕ, ◌<◌, ◌≤◌, Bool, true, List, [], ◌∷◌, ◌++◌, length, flat_map, Option, None, refl, sym, ap, subst, ◌∙◌, arith, append_assoc}
+use Rattle.std.specs.Prelude.{◌^◌, decimal}
+use Rattle.std.specs.Cmp.Derive.{both_true}
 use Rattle.std.specs.Int.{IsInRange}
 use Rattle.std.specs.List.{list_all}
 use Rattle.std.specs.Str.{bytes_eq}
@@ -12,7 +13,8 @@ use Rattle.text_tokens.specs.declared.token.TokenKind.{TokenKind}
 use Rattle.text_tokens.specs.declared.token.TokenKind.TheVariants.{Word, Number, Sign}
 use Rattle.text_tokens.specs.declared.refusal.Refusal.{Refusal}
 use Rattle.text_tokens.specs.declared.refusal.RefusalKind.{RefusalKind}
-use Rattle.text_tokens.specs.Text.{is_digit, is_letter, Lexeme}
+use Rattle.text_tokens.specs.declared.refusal.RefusalKind.TheVariants.{Truncated}
+use Rattle.text_tokens.specs.Text.{is_digit, Lexeme, AreTokens}
 use Rattle.text_tokens.specs.Cursor.{is_the, is_kind, same_kind, number_value}
 use Rattle.text_tokens.specs.Lines.{Words, lines_text}
 use Rattle.text_tokens.specs.Reading.{is_number, value}
@@ -20,9 +22,7 @@ use Rattle.text_tokens.specs.Grammar.{Symbol, symbol, tokens, first_fault, Lang,
 use Rattle.text_tokens.specs.Lawful.{IsWhole}
 use Rattle.text_tokens.proofs.Blanks.{and_true}
 use Rattle.text_tokens.proofs.Symbols.{tokens-append, fine-append}
-use Rattle.text_tokens.proofs.Exactness.{none_stops}
-use Rattle.text_tokens.proofs.PrintedTokens.{kind_of, AreSpelled, no_tokens, token_more, spelled_tokens, ArePrinted, none_printed, word_printed, LinesArePrinted, no_lines, line_printed, lines_spell, IsOneToken, one_printed, number_is_token}
-use Rattle.journal_text.specs.JournalRows.{Says}
+use Rattle.text_tokens.proofs.PrintedTokens.{kind_of, AreSpelled, no_tokens, token_more, spelled_tokens, ArePrinted, none_printed, word_printed, LinesArePrinted, no_lines, line_printed, lines_spell, IsOneToken, one_printed, number_is_token, digit_kind}
 
 -- ---- what is found
 
@@ -79,21 +79,54 @@ parted (w ∷ us) vs ts (token_more {t = t} {ts = more} k b s) =
 
 -- ---- parts
 
-pub whole_then : {A B : Type 0} {P : Lang A} {Q : A → Lang B} (us vs ts : List Lexeme) (a : A) (b : B) → ts ≡ us ++ vs → IsWhole P us a → IsWhole (Q a) vs b → IsWhole (Then P Q) ts b
-whole_then us vs ts a b e p q = record {
+-- a text of one grammar is one of another, for something else
+pub found_by : {A B : Type 0} {P : Lang A} {Q : Lang B} {R : A → Type 0} {S : B → Type 0} (f : A → B) → ((xs : List Symbol) (a : A) → P xs a → Q xs (f a)) → ((a : A) → R a → S (f a)) → (ts : List Lexeme) → Found P R ts → Found Q S ts
+found_by f is holds ts p = record {
+  value = f p.value;
+  whole = record { text = p.whole.text; is = is p.whole.text p.value p.whole.is; parts = p.whole.parts; fine = p.whole.fine };
+  holds = holds p.value p.holds;
+}
+
+pub rereads_by : {A B : Type 0} {P : Lang A} {Q : Lang B} {R : A → Type 0} {S : B → Type 0} {words : Words} (f : A → B) → ((xs : List Symbol) (a : A) → P xs a → Q xs (f a)) → ((a : A) → R a → S (f a)) → Rereads P R words → Rereads Q S words
+rereads_by f is holds p = record { spelled = p.spelled; printed = p.printed; read = λ ts s. found_by f is holds ts (p.read ts s) }
+
+pub lines_by : {A B : Type 0} {P : Lang A} {Q : Lang B} {R : A → Type 0} {S : B → Type 0} {lines : List Words} (f : A → B) → ((xs : List Symbol) (a : A) → P xs a → Q xs (f a)) → ((a : A) → R a → S (f a)) → RereadsLines P R lines → RereadsLines Q S lines
+lines_by f is holds p = record { spelled = p.spelled; printed = p.printed; read = λ ts s. found_by f is holds ts (p.read ts s) }
+
+-- one behind the other
+whole_two : {A B C : Type 0} {P : Lang A} {Q : A → Lang B} {G : Lang C} (f : A → B → C) → ((xs ys : List Symbol) (a : A) (b : B) → P xs a → Q a ys b → G (xs ++ ys) (f a b))
+    → (us vs ts : List Lexeme) (a : A) (b : B) → ts ≡ us ++ vs → IsWhole P us a → IsWhole (Q a) vs b → IsWhole G ts (f a b)
+whole_two f is us vs ts a b e p q = record {
   text = p.text ++ q.text;
-  is = then a p.is q.is;
+  is = is p.text q.text a b p.is q.is;
   parts = tokens-append p.text q.text ∙ ap (λ (ws : List Lexeme). ws ++ tokens q.text) p.parts ∙ ap (λ (ws : List Lexeme). us ++ ws) q.parts ∙ sym e;
   fine = fine-append p.text q.text p.fine q.fine;
 }
 
-module _ {A B : Type 0} {P : Lang A} {Q : A → Lang B} {R : A → Type 0} {S : B → Type 0} where
-  pub behind_found : (us vs : Words) → ((ts : List Lexeme) → AreSpelled ts us → Found P R ts) → ((a : A) → R a → (ts : List Lexeme) → AreSpelled ts vs → Found (Q a) S ts) → (ts : List Lexeme) → AreSpelled ts (us ++ vs) → Found (Then P Q) S ts
-  behind_found us vs p q ts s =
+pub whole_then : {A B : Type 0} {P : Lang A} {Q : A → Lang B} (us vs ts : List Lexeme) (a : A) (b : B) → ts ≡ us ++ vs → IsWhole P us a → IsWhole (Q a) vs b → IsWhole (Then P Q) ts b
+whole_then us vs ts a b e p q = whole_two (λ a b. b) (λ xs ys a b p q. then a p q) us vs ts a b e p q
+
+module _ {A B C : Type 0} {P : Lang A} {Q : A → Lang B} {G : Lang C} {R : A → Type 0} {S : A → B → Type 0} {T : C → Type 0} (f : A → B → C)
+    (is : (xs ys : List Symbol) (a : A) (b : B) → P xs a → Q a ys b → G (xs ++ ys) (f a b)) (holds : (a : A) (b : B) → R a → S a b → T (f a b)) where
+  found_two : (us vs : Words) → ((ts : List Lexeme) → AreSpelled ts us → Found P R ts) → ((a : A) → R a → (ts : List Lexeme) → AreSpelled ts vs → Found (Q a) (S a) ts) → (ts : List Lexeme) → AreSpelled ts (us ++ vs) → Found G T ts
+  found_two us vs p q ts s =
       let c = parted us vs ts s in
       let a = p c.front c.fronts in
       let b = q a.value a.holds c.back c.backs in
-      record { value = b.value; whole = whole_then c.front c.back ts a.value b.value c.whole a.whole b.whole; holds = b.holds }
+      record { value = f a.value b.value; whole = whole_two f is c.front c.back ts a.value b.value c.whole a.whole b.whole; holds = holds a.value b.value a.holds b.holds }
+
+-- two parts as any grammar puts them together
+pub rereads_two : {A B C : Type 0} {P : Lang A} {Q : Lang B} {G : Lang C} {R : A → Type 0} {S : B → Type 0} {T : C → Type 0} {words more : Words} (f : A → B → C)
+    → ((xs ys : List Symbol) (a : A) (b : B) → P xs a → Q ys b → G (xs ++ ys) (f a b)) → ((a : A) (b : B) → R a → S b → T (f a b)) → Rereads P R words → Rereads Q S more → Rereads G T (words ++ more)
+rereads_two {words = words} {more = more} f is holds p q = record {
+  spelled = p.spelled ++ q.spelled;
+  printed = printed_behind words more p.spelled q.spelled p.printed q.printed;
+  read = found_two f is holds p.spelled q.spelled p.read (λ a e. q.read);
+}
+
+module _ {A B : Type 0} {P : Lang A} {Q : A → Lang B} {R : A → Type 0} {S : B → Type 0} where
+  pub behind_found : (us vs : Words) → ((ts : List Lexeme) → AreSpelled ts us → Found P R ts) → ((a : A) → R a → (ts : List Lexeme) → AreSpelled ts vs → Found (Q a) S ts) → (ts : List Lexeme) → AreSpelled ts (us ++ vs) → Found (Then P Q) S ts
+  behind_found us vs p q = found_two {S = λ a. S} (λ a b. b) (λ xs ys a b x y. then a x y) (λ a b x y. y) us vs p q
 
   -- one part behind another, whose words do not depend on it
   pub rereads_behind : (words more : Words) → Rereads P R words → (spelled : Words) → ArePrinted more spelled → ((a : A) → R a → (ts : List Lexeme) → AreSpelled ts spelled → Found (Q a) S ts) → Rereads (Then P Q) S (words ++ more)
@@ -118,17 +151,14 @@ rereads_then {A} {Q = Q} {S = S} words more a p q = rereads_behind words more p 
 pub rereads_next : {A B : Type 0} {P : Lang A} {Q : Lang B} {R : A → Type 0} {S : B → Type 0} (words more : Words) → Rereads P R words → Rereads Q S more → Rereads (Then P (λ a. Q)) S (words ++ more)
 rereads_next words more p q = rereads_behind words more p q.spelled q.printed (λ b e ts s. q.read ts s)
 
-whole_made : {A B : Type 0} {P : Lang A} (f : A → B) (ts : List Lexeme) (a : A) → IsWhole P ts a → IsWhole (Made P f) ts (f a)
-whole_made f ts a p = record { text = p.text; is = made a p.is; parts = p.parts; fine = p.fine }
-
 pub found_made : {A B : Type 0} {P : Lang A} {R : A → Type 0} {S : B → Type 0} (f : A → B) → ((a : A) → R a → S (f a)) → (ts : List Lexeme) → Found P R ts → Found (Made P f) S ts
-found_made f h ts p = record { value = f p.value; whole = whole_made f ts p.value p.whole; holds = h p.value p.holds }
+found_made f h ts p = found_by f (λ xs a is. made a is) h ts p
 
 pub rereads_made : {A B : Type 0} {P : Lang A} {R : A → Type 0} {S : B → Type 0} (f : A → B) (words : Words) → ((a : A) → R a → S (f a)) → Rereads P R words → Rereads (Made P f) S words
-rereads_made f words h p = record { spelled = p.spelled; printed = p.printed; read = λ ts s. found_made f h ts (p.read ts s) }
+rereads_made f words h p = rereads_by f (λ xs a is. made a is) h p
 
 pub lines_made : {A B : Type 0} {P : Lang A} {R : A → Type 0} {S : B → Type 0} (f : A → B) (lines : List Words) → ((a : A) → R a → S (f a)) → RereadsLines P R lines → RereadsLines (Made P f) S lines
-lines_made f lines h p = record { spelled = p.spelled; printed = p.printed; read = λ ts s. found_made f h ts (p.read ts s) }
+lines_made f lines h p = lines_by f (λ xs a is. made a is) h p
 
 -- made of just this
 pub rereads_as : {A B : Type 0} {P : Lang A} (f : A → B) (words : Words) (a : A) → Rereads P (Is a) words → Rereads (Made P f) (Is (f a)) words
@@ -136,10 +166,10 @@ rereads_as f words a p = rereads_made f words (λ b e. ap f e) p
 
 -- one of two
 pub rereads_first : {A : Type 0} {P Q : Lang A} {R : A → Type 0} (words : Words) → Rereads P R words → Rereads (Either P Q) R words
-rereads_first words p = record { spelled = p.spelled; printed = p.printed; read = λ ts s. (let f = p.read ts s in record { value = f.value; whole = record { text = f.whole.text; is = of_first f.whole.is; parts = f.whole.parts; fine = f.whole.fine }; holds = f.holds }) }
+rereads_first words p = rereads_by (λ a. a) (λ xs a is. of_first is) (λ a e. e) p
 
 pub rereads_second : {A : Type 0} {P Q : Lang A} {R : A → Type 0} (words : Words) → Rereads Q R words → Rereads (Either P Q) R words
-rereads_second words p = record { spelled = p.spelled; printed = p.printed; read = λ ts s. (let f = p.read ts s in record { value = f.value; whole = record { text = f.whole.text; is = of_second f.whole.is; parts = f.whole.parts; fine = f.whole.fine }; holds = f.holds }) }
+rereads_second words p = rereads_by (λ a. a) (λ xs a is. of_second is) (λ a e. e) p
 
 -- a judgement that is no refusal
 point_fine : (o : Option Refusal) → o ≡ None → first_fault (point o ∷ []) ≡ None
@@ -156,15 +186,29 @@ rereads_judged {P = P} {R = R} wrong words none p = record { spelled = p.spelled
     }
 
 -- nothing
-pub rereads_nothing : {A : Type 0} {P : Lang A} (a : A) → P [] a → Rereads P (Is a) []
-rereads_nothing {P = P} a is = record { spelled = []; printed = none_printed; read = λ ts s. from_nothing ts s }
-  where
-    from_nothing : (ts : List Lexeme) → AreSpelled ts [] → Found P (Is a) ts
-    from_nothing ts no_tokens = record { value = a; whole = record { text = []; is = is; parts = refl; fine = refl }; holds = refl }
+nothing_found : {A : Type 0} {P : Lang A} {R : A → Type 0} (a : A) → P [] a → R a → (ts : List Lexeme) → AreSpelled ts [] → Found P R ts
+nothing_found a is holds ts no_tokens = record { value = a; whole = record { text = []; is = is; parts = refl; fine = refl }; holds = holds }
 
--- by other words for the same
-pub rereads_same : {A : Type 0} {P : Lang A} {R : A → Type 0} (words more : Words) → words ≡ more → Rereads P R words → Rereads P R more
-rereads_same {P = P} {R = R} words more e p = subst (λ (ws : Words). Rereads P R ws) e p
+pub rereads_none : {A : Type 0} {P : Lang A} {R : A → Type 0} (a : A) → P [] a → R a → Rereads P R []
+rereads_none a is holds = record { spelled = []; printed = none_printed; read = nothing_found a is holds }
+
+pub rereads_nothing : {A : Type 0} {P : Lang A} (a : A) → P [] a → Rereads P (Is a) []
+rereads_nothing a is = rereads_none a is refl
+
+-- what holds of what is read is known with it
+pub record Kept {A : Type 0} (P : Lang A) (R : A → Type 0) (xs : List Symbol) (a : A) : Type 0 where
+  pub is : P xs a
+  pub holds : R a
+
+kept_found : {A : Type 0} {P : Lang A} {R : A → Type 0} (ts : List Lexeme) → Found P R ts → Found (Kept P R) R ts
+kept_found ts f = record { value = f.value; whole = record { text = f.whole.text; is = record { is = f.whole.is; holds = f.holds }; parts = f.whole.parts; fine = f.whole.fine }; holds = f.holds }
+
+pub rereads_kept : {A : Type 0} {P : Lang A} {R : A → Type 0} {words : Words} → Rereads P R words → Rereads (Kept P R) R words
+rereads_kept p = record { spelled = p.spelled; printed = p.printed; read = λ ts s. kept_found ts (p.read ts s) }
+
+-- nothing is behind it
+pub rereads_alone : {A : Type 0} {P : Lang A} {R : A → Type 0} (words : Words) → Rereads P R (words ++ []) → Rereads P R words
+rereads_alone {P = P} {R = R} words p = subst (λ (ws : Words). Rereads P R ws) (append-nil words) p
 
 -- ---- single tokens
 
@@ -195,6 +239,9 @@ the_passes kind w k e t s =
     let b : bytes_eq t.text w ≡ true = ap (λ (bs : List ℕ). bytes_eq bs w) s.text ∙ e in
     rw (a, b) refl
 
+pub rereads_one : {test : Lexeme → Bool} {over : Lexeme → Option RefusalKind} (w : List ℕ) → IsOneToken w → ((t : Lexeme) → IsSpelled w t → test t ≡ true) → ((t : Lexeme) → over t ≡ None) → Rereads (IsOne test over) (IsSpelled w) (w ∷ [])
+rereads_one w is passes fine = one_rereads w is (one_found w passes (λ t s. fine t))
+
 -- this very token
 pub the_found : (kind : TokenKind) (w : List ℕ) → kind_of w ≡ kind → bytes_eq w w ≡ true → (ts : List Lexeme) → AreSpelled ts (w ∷ []) → Found (IsThe (is_the kind w)) Any ts
 the_found kind w k e ts s = found_made (λ (t : Lexeme). t.line) (λ t x. tt) ts (one_found w (the_passes kind w k e) (λ t x. refl) ts s)
@@ -210,15 +257,11 @@ digit_in c e = grind (arith, nat_tests)
 digit_from : (c : ℕ) → IsInRange 48 57 c → is_digit c ≡ true
 digit_from c e = grind (arith, nat_tests)
 
-both_true : (a b : Bool) → a ≡ true → b ≡ true → (a && b) ≡ true
-both_true true b e f = f
-both_true false b e f = absurd cc
-
 digits_test : IsDigitsTest (λ ds. list_all is_digit ds ≡ true)
 digits_test = record {
   empty = refl;
   parts = λ c cs e. (let p = and_true (is_digit c) (list_all is_digit cs) e in (digit_in c p.0, p.1));
-  more = λ c cs r e. both_true _ _ (digit_from c r) e;
+  more = λ c cs r e. both_true (digit_from c r) e;
 }
 
 digits_model : IsNumeralModel (λ ds. list_all is_digit ds ≡ true) number_value
@@ -230,11 +273,7 @@ digits_token (b ∷ bytes) e some few = let p = and_true (is_digit b) (list_all 
 
 digits_kind : (ds : List ℕ) → list_all is_digit ds ≡ true → 0 < length ds → kind_of ds ≡ Number
 digits_kind [] e some = absurd (omega arith)
-digits_kind (b ∷ bytes) e some =
-    let p = and_true (is_digit b) (list_all is_digit bytes) e in
-    let d = p.0 in
-    let n : is_letter b ≡ false = grind (arith, nat_tests) in
-    rw (n, d) refl
+digits_kind (b ∷ bytes) e some = digit_kind b bytes (and_true (is_digit b) (list_all is_digit bytes) e).0
 
 module _ (n : ℕ) (small : n < 10 ^ 9) where
   are_digits : list_all is_digit (decimal n) ≡ true
@@ -265,21 +304,41 @@ reread_line {P = P} {R = R} words p = record {
   read = p.read;
 }
 
--- lines of which all tokens are a text
-pub lines_say : {A : Type 0} (P : Lang A) (a : A) (lines : List Words) → RereadsLines P (Is a) lines → Says P (lines_text lines) (Ok a)
-lines_say P a lines p ts last are =
-    let s = spelled_tokens (lines_text lines) p.spelled (lines_spell lines p.spelled p.printed) ts last are in
-    let f = p.read ts s.0 in
-    record { text = record { us = ts; parts = sym (append-nil ts); whole = subst (λ x. IsWhole P ts x) f.holds f.whole; stops = none_stops P ts }; ends = s.1 }
+-- the tokens of words, in lines
+pub record Lined (words more spelled : Words) : Type 0 where
+  pub ones : Words
+  pub others : Words
+  pub whole : spelled ≡ ones ++ others
+  pub first : ArePrinted words ones
+  pub second : ArePrinted more others
+
+lined : (words more spelled : Words) → ArePrinted (words ++ more) spelled → Lined words more spelled
+lined [] more spelled p = record { ones = []; others = spelled; whole = refl; first = none_printed; second = p }
+lined (w ∷ words) more spelled (word_printed {ws = ws} {vs = vs} p ps) =
+    let rest = lined words more vs ps in
+    record { ones = ws ++ rest.ones; others = rest.others; whole = ap (λ (us : Words). ws ++ us) rest.whole ∙ sym (append_assoc ws rest.ones rest.others); first = word_printed p rest.first; second = rest.second }
+
+lines_printed : (lines : List Words) (spelled : Words) → ArePrinted (flat_map (λ line. line) lines) spelled → LinesArePrinted lines spelled
+lines_printed [] spelled none_printed = no_lines
+lines_printed (line ∷ lines) spelled p =
+    let parts = lined line (flat_map (λ line. line) lines) spelled p in
+    subst (λ (us : Words). LinesArePrinted (line ∷ lines) us) (sym parts.whole) (line_printed parts.first (lines_printed lines parts.others parts.second))
+
+pub reread_lines : {A : Type 0} {P : Lang A} {R : A → Type 0} (lines : List Words) → Rereads P R (flat_map (λ line. line) lines) → RereadsLines P R lines
+reread_lines lines p = record { spelled = p.spelled; printed = lines_printed lines p.spelled p.printed; read = p.read }
+
+-- whatever tokens the text of lines has, they are read so, and nothing stands behind them
+pub lines_found : {A : Type 0} {P : Lang A} {R : A → Type 0} (lines : List Words) → RereadsLines P R lines → (ts : List Lexeme) (last : Refusal) → AreTokens (lines_text lines) 0 ts last → Found P R ts × (last.kind ≡ Truncated)
+lines_found lines p ts last are = let s = spelled_tokens (lines_text lines) p.spelled (lines_spell lines p.spelled p.printed) ts last are in (p.read ts s.0, s.1)
 
 -- ---- many
 
 -- by other words for the texts
 pub rereads_into : {A : Type 0} {P Q : Lang A} {R : A → Type 0} (words : Words) → ((xs : List Symbol) (a : A) → P xs a → Q xs a) → Rereads P R words → Rereads Q R words
-rereads_into words into p = record { spelled = p.spelled; printed = p.printed; read = λ ts s. (let f = p.read ts s in record { value = f.value; whole = record { text = f.whole.text; is = into f.whole.text f.value f.whole.is; parts = f.whole.parts; fine = f.whole.fine }; holds = f.holds }) }
+rereads_into words into p = rereads_by (λ a. a) into (λ a e. e) p
 
 pub lines_into : {A : Type 0} {P Q : Lang A} {R : A → Type 0} (lines : List Words) → ((xs : List Symbol) (a : A) → P xs a → Q xs a) → RereadsLines P R lines → RereadsLines Q R lines
-lines_into lines into p = record { spelled = p.spelled; printed = p.printed; read = λ ts s. (let f = p.read ts s in record { value = f.value; whole = record { text = f.whole.text; is = into f.whole.text f.value f.whole.is; parts = f.whole.parts; fine = f.whole.fine }; holds = f.holds }) }
+lines_into lines into p = lines_by (λ a. a) into (λ a e. e) p
 
 -- lines behind lines that stand for just this, and behind any
 pub lines_then : {A B : Type 0} {P : Lang A} {Q : A → Lang B} {S : B → Type 0} (lines more : List Words) (a : A) → RereadsLines P (Is a) lines → RereadsLines (Q a) S more → RereadsLines (Then P Q) S (lines ++ more)
@@ -290,10 +349,7 @@ lines_next lines more p q = lines_behind_line lines more p q.spelled q.printed (
 
 -- no line
 pub lines_nothing : {A : Type 0} {P : Lang A} (a : A) → P [] a → RereadsLines P (Is a) []
-lines_nothing {P = P} a is = record { spelled = []; printed = no_lines; read = λ ts s. from_nothing ts s }
-  where
-    from_nothing : (ts : List Lexeme) → AreSpelled ts [] → Found P (Is a) ts
-    from_nothing ts no_tokens = record { value = a; whole = record { text = []; is = is; parts = refl; fine = refl }; holds = refl }
+lines_nothing a is = record { spelled = []; printed = no_lines; read = nothing_found a is refl }
 
 module _ {A S : Type 0} (E : S → Lang A) (step : S → A → S) (s : S) where
   more_made : (a : A) (xs ys : List Symbol) (many : List A) → E s xs a → Made (Repeated E step (step s a)) (λ rest. a ∷ rest) ys many → Repeated E step s (xs ++ ys) many
