@@ -31,6 +31,7 @@ use Rattle.claim_rule.specs.Views.{record_of, setup, cells}
 use Rattle.claim_rule.specs.Stands.{IsFoundAt, HasCommitted, IsRecord, HasRecord, AreWords, AreHomes, AreViews, Stands, Holds, records_from, first_view, turns_left}
 use Rattle.claim_rule.specs.Tokens.{FieldOf, IsField}
 use Rattle.claim_rule.specs.Opened.{AreFirstSlots}
+use Rattle.claim_rule.specs.Laws.{OpeningStands}
 
 zero_at : (n k : ℕ) → ◌≡◌ {A = ℕ} (get_or (replicate n 0) k 0) 0
 zero_at zero k = refl
@@ -97,10 +98,9 @@ module _ {D : Type 0} (verdict : D → Shown → Verdict) (z : Terms D) where
   in_first : (seat place : ℕ) (r : Record) → HasRecord (first_view verdict z ∷ []) seat place r → (seat ≡ 0) × (slice_get (first_view verdict z).records place ≡ Some r)
   in_first seat place r has = let one = one_view seat has.0 has.1 in (one.0, subst (λ (v : View D). slice_get v.records place ≡ Some r) (sym one.1) has.2)
 
-  pub opens : IsSetup g → (words : List ℕ) (slots : List Slot) → words ≡ replicate (cells z.world + 1) 0 → AreFirstSlots z.world z.lists slots → Holds verdict z (opening words slots (first_view verdict z))
-  opens ok words slots zeros first = (
-    [],
-    record {
+  -- a table that begins like this stands for the opening,
+  pub opening_stands : IsSetup g → (words : List ℕ) (slots : List Slot) → words ≡ replicate (cells z.world + 1) 0 → AreFirstSlots z.world z.lists slots → Stands verdict z (opening words slots (first_view verdict z)) start
+  opening_stands ok words slots zeros first = record {
       words = record {
         count = ap (λ (ws : List ℕ). length ws) zeros ∙ length-replicate (cells z.world + 1) 0;
         cell = λ k lt. ap (λ ws. slice_index ws k) zeros ∙ zero_at (cells z.world + 1) k ∙ sym (zero_of (values_of z.world) k);
@@ -132,8 +132,7 @@ module _ {D : Type 0} (verdict : D → Shown → Verdict) (z : Terms D) where
         held = λ n t at_n some. absurd (some (tagged (Rattle.claim_core.specs.Cells.number z.world.area n) t at_n));
       };
       few = let left = all_left z.lists.ids in let few = ok.lists.few.in_all in omega (arith, left, few);
-    },
-  )
+    }
     where
       size : length (map (λ (x : Cell). slot.Cell x) (values_of z.world)) ≡ cells z.world
       size = length-map (values_of z.world) (λ (x : Cell). slot.Cell x) ∙ length-values z.world
@@ -144,6 +143,10 @@ module _ {D : Type 0} (verdict : D → Shown → Verdict) (z : Terms D) where
       tagged : (o : Option ℕ) (t : ℕ) → at start.tags o ≡ Some t → t ≡ 0
       tagged None t e = absurd (none-some t e)
       tagged (Some k) t e = zero_there (values_of z.world) k t e
+
+  -- to which no step leads
+  pub opens : IsSetup g → (words : List ℕ) (slots : List Slot) → words ≡ replicate (cells z.world + 1) 0 → AreFirstSlots z.world z.lists slots → Holds verdict z (opening words slots (first_view verdict z))
+  opens ok words slots zeros first = ([], opening_stands ok words slots zeros first)
 
   -- a field with these terms keeps what a field keeps
   pub is_field : (f : FieldOf D) → f.terms ≡ z → IsSetup g → f.table.words ≡ cells z.world + 1 → f.table.slots ≡ cells z.world + 1 → IsField verdict f z.decider z.world
@@ -160,3 +163,6 @@ module _ {D : Type 0} (verdict : D → Shown → Verdict) (z : Terms D) where
   slots_count slots first =
       ap (λ (xs : List Slot). length xs) first.are ∙ length-append (map (λ (x : Cell). slot.Cell x) (values_of z.world)) (slot.Journal first.journal ∷ [])
       ∙ (let s = length-map (values_of z.world) (λ (x : Cell). slot.Cell x) in let n = length-values z.world in omega (arith, s, n))
+
+pub opening_is : {D : Type 0} (verdict : D → Shown → Verdict) → OpeningStands verdict
+opening_is verdict z slots ok first = opening_stands verdict z ok (replicate (cells z.world + 1) 0) slots refl first
