@@ -101,38 +101,38 @@ module _ {D : Type 0} (verdict : D → Shown → Verdict) (z : Terms D) where
   -- a table that begins like this stands for the opening,
   pub opening_stands : IsSetup g → (words : List ℕ) (slots : List Slot) → words ≡ replicate (cells z.world + 1) 0 → AreFirstSlots z.world z.lists slots → Stands verdict z (opening words slots (first_view verdict z)) start
   opening_stands ok words slots zeros first = record {
-      words = record {
-        count = ap (λ (ws : List ℕ). length ws) zeros ∙ length-replicate (cells z.world + 1) 0;
-        cell = λ k lt. ap (λ ws. slice_index ws k) zeros ∙ zero_at (cells z.world + 1) k ∙ sym (zero_of (values_of z.world) k);
-        journal = ap (λ ws. slice_index ws (cells z.world)) zeros ∙ zero_at (cells z.world + 1) (cells z.world);
-      };
-      homes = record {
-        count = length-map slots (λ x. home.some x) ∙ many;
-        cell = λ k x free value. at_map (λ y. home.some y) slots k (slot.Cell x) (subst (λ (xs : List Slot). get_elem? xs k ≡ home.some (slot.Cell x)) (sym first.are) (at_longer _ _ k (slot.Cell x) (at_map (λ y. slot.Cell y) (values_of z.world) k x (by_either (values_of z.world) k x value))));
-        journal = λ none. (
-          first.journal,
-          at_map (λ y. home.some y) slots (cells z.world) (slot.Journal first.journal) (subst (λ (xs : List Slot). get_elem? xs (cells z.world) ≡ home.some (slot.Journal first.journal)) (sym first.are) (at_last _ _ (cells z.world) size)),
-          record {
-            first = first.first;
-            entries = first.entries;
-            room = let left = all_left z.lists.ids in let room = first.room in omega (arith, left, room);
-          },
-        );
-      };
-      views = record {
-        terms = λ seat place v r at_seat at_place. sym (ap (λ (w : View D). w.terms) (one_view seat v at_seat).1);
-        each = λ seat place r has. is_record place r (in_first seat place r has).1;
-        some = λ c lt. (0, c, record_of (0 + c) (machine.fresh g), (first_view verdict z, refl, there 0 c start.callers (machine.fresh g) (fresh_there z.lists.ids c lt)), omega arith);
-        one = λ seat place seat' place' r q has has' same.
-            let a = in_first seat place r has in
-            let b = in_first seat' place' q has' in
-            let m = (from 0 place start.callers r a.1).0 in
-            let n = (from 0 place' start.callers q b.1).0 in
-            (a.0 ∙ sym b.0, omega (arith, m, n, same));
-        held = λ n t at_n some. absurd (some (tagged (Rattle.claim_core.specs.Cells.number z.world.area n) t at_n));
-      };
-      few = let left = all_left z.lists.ids in let few = ok.lists.few.in_all in omega (arith, left, few);
-    }
+    words = record {
+      count = ap (λ (ws : List ℕ). length ws) zeros ∙ length-replicate (cells z.world + 1) 0;
+      cell = λ k lt. ap (λ ws. slice_index ws k) zeros ∙ zero_at (cells z.world + 1) k ∙ sym (zero_of (values_of z.world) k);
+      journal = ap (λ ws. slice_index ws (cells z.world)) zeros ∙ zero_at (cells z.world + 1) (cells z.world);
+    };
+    homes = record {
+      count = length-map slots (λ x. home.some x) ∙ many;
+      cell = λ k x free value. at_map (λ y. home.some y) slots k (slot.Cell x) (subst (λ (xs : List Slot). get_elem? xs k ≡ home.some (slot.Cell x)) (sym first.are) (at_longer _ _ k (slot.Cell x) (at_map (λ y. slot.Cell y) (values_of z.world) k x (by_either (values_of z.world) k x value))));
+      journal = λ none. (
+        first.journal,
+        at_map (λ y. home.some y) slots (cells z.world) (slot.Journal first.journal) (subst (λ (xs : List Slot). get_elem? xs (cells z.world) ≡ home.some (slot.Journal first.journal)) (sym first.are) (at_last _ _ (cells z.world) size)),
+        record {
+          first = first.first;
+          entries = first.entries;
+          room = let left = all_left z.lists.ids in let room = first.room in omega (arith, left, room);
+        },
+      );
+    };
+    views = record {
+      terms = λ seat place v r at_seat at_place. sym (ap (λ (w : View D). w.terms) (one_view seat v at_seat).1);
+      each = λ seat place r has. is_record place r (in_first seat place r has).1;
+      some = λ c lt. (0, c, record_of (0 + c) (machine.fresh g), (first_view verdict z, refl, there 0 c start.callers (machine.fresh g) (fresh_there z.lists.ids c lt)), omega arith);
+      one = λ seat place seat' place' r q has has' same.
+          let a = in_first seat place r has in
+          let b = in_first seat' place' q has' in
+          let m = (from 0 place start.callers r a.1).0 in
+          let n = (from 0 place' start.callers q b.1).0 in
+          (a.0 ∙ sym b.0, omega (arith, m, n, same));
+      held = λ n t at_n some. absurd (some (tagged (Rattle.claim_core.specs.Cells.number z.world.area n) t at_n));
+    };
+    few = let left = all_left z.lists.ids in let few = ok.lists.few.in_all in omega (arith, left, few);
+  }
     where
       size : length (map (λ (x : Cell). slot.Cell x) (values_of z.world)) ≡ cells z.world
       size = length-map (values_of z.world) (λ (x : Cell). slot.Cell x) ∙ length-values z.world

@@ -37,7 +37,7 @@ abbrev pub JoinChangesNothing : {D : Type 0} → (D → Shown → Verdict) → T
 JoinChangesNothing {D} verdict = (z : Terms D) (core : State) (seat other : ℕ) (rs qs : List Record) → Joins (λ (s : Content D). Stands verdict z s core) seat (view_of z rs) other (view_of z qs) (view_of z (rs ++ qs)) spent
 
 -- where the table stands for the state after some steps, the journal leads to one last world, and what a caller has found that holds
--- its whole zone is what this world shows its amoebot. It is so after all steps, and hence for as long as the zone is held
+-- its whole zone is what this world shows its amoebot. It is so after any steps, and hence until the turn has its mark
 abbrev pub FoundIsShown : {D : Type 0} → (D → Shown → Verdict) → Type 0
 FoundIsShown {D} verdict =
     (z : Terms D) (s : Content D) (steps : List ℕ) (seat place : ℕ) (r : Record) → IsSetup (setup verdict z) → Stands verdict z s (after (setup verdict z) steps) → HasRecord s.views seat place r → HoldsZone r.caller.phase

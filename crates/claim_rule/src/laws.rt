@@ -18,7 +18,7 @@ pub fn join_changes_nothing<D: Decider>(_decider: &D)
     ensures { JoinChangesNothing D.verdict }
 {}
 
-/// What a caller has found that holds its whole zone is what the last world shows its amoebot, for as long as it holds the zone.
+/// What a caller has found that holds its whole zone is what the last world shows its amoebot, until its turn has its mark.
 pub fn found_is_shown<D: Decider>(_decider: &D)
     ensures { FoundIsShown D.verdict }
 {}
