@@ -23,7 +23,7 @@ use Rattle.claim_rule.specs.Opened.{first_records, seat_with, first_seats}
 use Rattle.claim_rule.proofs.Opens.{from, there, fresh_there}
 
 -- an element splits a list
-drop_at : {A : Type 0} (xs : List A) (k : ℕ) (x : A) → slice_get xs k ≡ Some x → drop k xs ≡ x ∷ drop (suc k) xs
+pub drop_at : {A : Type 0} (xs : List A) (k : ℕ) (x : A) → slice_get xs k ≡ Some x → drop k xs ≡ x ∷ drop (suc k) xs
 drop_at [] k x e = absurd (none-some x e)
 drop_at (y ∷ ys) zero x e = ap (λ z. z ∷ ys) (same_Some y x e)
 drop_at (y ∷ ys) (suc k) x e = drop_at ys k x e

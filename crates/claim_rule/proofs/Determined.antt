@@ -80,10 +80,6 @@ module _ {D : Type 0} (verdict : D → Shown → Verdict) (z : Terms D) (s : Con
   abbrev g : Setup
   g = setup verdict z
 
-  -- the record of a caller, which says what is so in each state that the table stands for
-  record_there : (one : State) → Stands verdict z s one → (c : ℕ) → c < length z.lists.ids → (seat place : ℕ) × (r : Record) × HasRecord s.views seat place r × (r.number ≡ c)
-  record_there one st c lt = st.views.some c lt
-
   same_callers : (one two : State) (c : ℕ) → Stands verdict z s one → Stands verdict z s two → c < length z.lists.ids → slice_get one.callers c ≡ slice_get two.callers c
   same_callers one two c st st' lt =
       let r = st.views.some c lt in

@@ -3,6 +3,7 @@ pub mod Moves
 pub mod Allowing
 pub mod Claims
 pub mod Releases
+pub mod Shows
 pub mod Looks
 pub mod Activating
 pub mod Dealing

@@ -1,18 +1,48 @@
 -- Laws of the rule.
-use Rattle.std.specs.Prelude.{◌≡◌, ℕ, List, length, IsSome}
+use Rattle.std.specs.Prelude.{◌≡◌, ℕ, ◌+◌, List, [], ◌∷◌, ◌++◌, replicate, length, IsSome}
 use Rattle.std.specs.List.{All}
 use Rattle.std.specs.declared.option.Option.{Option}
+use Rattle.atomic_table.specs.Table.{Splits, Joins}
+use Rattle.atomic_table.specs.Table as table
 use Rattle.amoebot_state.specs.Configs.{Config}
 use Rattle.amoebot_state.specs.declared.verdict.Verdict.{Verdict}
-use Rattle.amoebot_state.specs.Zones.{Shown}
+use Rattle.amoebot_state.specs.Steps.{Run}
+use Rattle.amoebot_state.specs.Zones.{Shown, shown}
 use Rattle.claim_core.specs.Turns.{Kept}
-use Rattle.claim_core.specs.Machine.{after}
+use Rattle.claim_core.specs.Machine.{State, bot, found, opening, after}
 use Rattle.claim_core.specs.Soundness.{IsSetup}
+use Rattle.claim_rule.specs.declared.views.Slot.{Slot}
+use Rattle.claim_rule.specs.declared.views.Record.{Record}
 use Rattle.claim_rule.specs.declared.views.Terms.{Terms}
-use Rattle.claim_rule.specs.Views.{Content, setup}
-use Rattle.claim_rule.specs.Stands.{Stands}
+use Rattle.claim_rule.specs.Views.{Content, view_of, setup, cells}
+use Rattle.claim_rule.specs.Stands.{HasRecord, Stands, first_view}
+use Rattle.claim_rule.specs.Plays.{HoldsZone}
 use Rattle.claim_rule.specs.Tokens.{Token}
+use Rattle.claim_rule.specs.Opened.{AreFirstSlots}
+use Rattle.claim_rule.specs.Seating.{spent}
 use Rattle.claim_rule.specs.Closing.{ClosesAs}
+
+-- a table whose words are 0, whose slots hold what a field begins with, and whose one seat knows all callers before their first turn
+-- stands for the opening
+abbrev pub OpeningStands : {D : Type 0} → (D → Shown → Verdict) → Type 0
+OpeningStands {D} verdict =
+    (z : Terms D) (slots : List Slot) → IsSetup (setup verdict z) → AreFirstSlots z.world z.lists slots → Stands verdict z (table.opening (replicate (cells z.world + 1) 0) slots (first_view verdict z)) (opening (setup verdict z))
+
+-- where a seat gives its first record to a new one, the table stands for the same state as before
+abbrev pub SplitChangesNothing : {D : Type 0} → (D → Shown → Verdict) → Type 0
+SplitChangesNothing {D} verdict = (z : Terms D) (core : State) (seat : ℕ) (r : Record) (rs : List Record) → Splits (λ (s : Content D). Stands verdict z s core) seat (view_of z (r ∷ rs)) (view_of z rs) (view_of z (r ∷ []))
+
+-- and where a seat takes in the records of another
+abbrev pub JoinChangesNothing : {D : Type 0} → (D → Shown → Verdict) → Type 0
+JoinChangesNothing {D} verdict = (z : Terms D) (core : State) (seat other : ℕ) (rs qs : List Record) → Joins (λ (s : Content D). Stands verdict z s core) seat (view_of z rs) other (view_of z qs) (view_of z (rs ++ qs)) spent
+
+-- where the table stands for the state after some steps, the journal leads to one last world, and what a caller has found that holds
+-- its whole zone is what this world shows its amoebot. It is so after any steps, and hence until the turn has its mark
+abbrev pub FoundIsShown : {D : Type 0} → (D → Shown → Verdict) → Type 0
+FoundIsShown {D} verdict =
+    (z : Terms D) (s : Content D) (steps : List ℕ) (seat place : ℕ) (r : Record) → IsSetup (setup verdict z) → Stands verdict z s (after (setup verdict z) steps) → HasRecord s.views seat place r → HoldsZone r.caller.phase
+    → (let b : ℕ = bot (setup verdict z) r.number r.caller.turn in
+    (last : Config) × Run (verdict z.decider) z.world (after (setup verdict z) steps).journal last × (found (setup verdict z) b r.caller.held ≡ shown last b))
 
 -- words, values at home and views stand for at most one state that steps of the callers lead to
 abbrev pub StateIsDetermined : {D : Type 0} → (D → Shown → Verdict) → Type 0

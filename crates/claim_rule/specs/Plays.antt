@@ -52,6 +52,16 @@ Reads (Committing change) = ⊥
 Reads Releasing = ⊥
 Reads Ended = ⊥
 
+-- a caller in this phase holds its whole zone, and its turn has no mark
+abbrev pub HoldsZone : Phase → Type 0
+HoldsZone Claim = ⊥
+HoldsZone (Refusing n t) = ⊥
+HoldsZone (Looking l) = Unit {0}
+HoldsZone (Taking change) = Unit {0}
+HoldsZone (Committing change) = Unit {0}
+HoldsZone Releasing = ⊥
+HoldsZone Ended = ⊥
+
 -- the mark that it gets, at the place that is read
 abbrev pub mark_at : Phase → ℕ → Mark
 mark_at Claim place = mark.Idle place

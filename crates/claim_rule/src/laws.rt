@@ -1,7 +1,27 @@
 //! Laws of the rule.
-ghost use Rattle.claim_rule.specs.Laws.{StateIsDetermined, FieldEndsOneWay};
+ghost use Rattle.claim_rule.specs.Laws.{OpeningStands, SplitChangesNothing, JoinChangesNothing, FoundIsShown, StateIsDetermined, FieldEndsOneWay};
 
 use amoebot_state::Decider;
+
+/// A table that begins as a field does stands for the opening.
+pub fn opening_stands<D: Decider>(_decider: &D)
+    ensures { OpeningStands D.verdict }
+{}
+
+/// A seat that gives its first record to a new seat leaves the state as it was.
+pub fn split_changes_nothing<D: Decider>(_decider: &D)
+    ensures { SplitChangesNothing D.verdict }
+{}
+
+/// A seat that takes in the records of another leaves the state as it was.
+pub fn join_changes_nothing<D: Decider>(_decider: &D)
+    ensures { JoinChangesNothing D.verdict }
+{}
+
+/// What a caller has found that holds its whole zone is what the last world shows its amoebot, until its turn has its mark.
+pub fn found_is_shown<D: Decider>(_decider: &D)
+    ensures { FoundIsShown D.verdict }
+{}
 
 /// Words, values at home and views stand for at most one state that steps of the callers lead to.
 pub fn state_is_determined<D: Decider>(_decider: &D)

@@ -26,7 +26,10 @@ pub use claimed::{Claimed, Seen, look, seal, unseal};
 pub use field::Field;
 pub use freeing::{Freeing, end, free_last};
 pub use held::{Held, begin, win};
-pub use laws::{field_ends_one_way, state_is_determined};
+pub use laws::{
+    field_ends_one_way, found_is_shown, join_changes_nothing, opening_stands,
+    split_changes_nothing, state_is_determined,
+};
 pub use rule::ClaimRule;
 pub use seat::Seat;
 pub use seats::Seats;

@@ -1,7 +1,7 @@
 ghost use Rattle.std.specs.Prelude.{◌≡◌, ◌≤◌, ◌<◌, IfOk, IfErr};
 ghost use Rattle.claim_rule.specs.Plays.{about, bot_in, marked_at};
 ghost use Rattle.claim_rule.specs.Tokens.{IsOf, IsToLook, IsMarked, number_in, doing, goes, seen_of};
-ghost use Rattle.node_claims.specs.Claims.{IsClaimed, IsRefused, at_next, freed_all};
+ghost use Rattle.node_claims.specs.Claims.{IsClaimed, WasRefused, at_next, freed_all};
 
 use amoebot_state::Decider;
 use claim_rule::{
@@ -21,7 +21,7 @@ pub fn try_claim<D: Decider>(
     requires turn { (turn ≡ (doing seat).turn) × (turn < (about D.verdict seat.view).lists.turns) }
     requires bot { bot ≡ bot_in D.verdict seat.view }
     ensures claimed { IfOk result (λ claimed. IsClaimed D.verdict seat claimed) }
-    ensures refused { IfErr result (λ by. IsRefused D.verdict seat by.0 by.1) }
+    ensures refused { IfErr result (λ by. WasRefused D.verdict seat by.0 by.1) }
 {
     let mut held = begin(seat, turn, bot);
     while let Some(cell) = held.next(field) {
