@@ -1,6 +1,6 @@
 -- The states of an activation: what each keeps after a step.
-use Rattle.std.proofs.Common.{◌≡◌, ◌≢◌, ◌⊎◌, ℕ, ◌+◌, ◌*◌, ◌<◌, ◌≤◌, List, [], ◌∷◌, ◌++◌, map, reverse, length, Bool, true, Option, Some, None, inl, inr, ap, sym, refl, subst, ◌∙◌, arith, lt-ltb}
-use Rattle.std.specs.Prelude.{IsSome, IfSome, is_some, unwrap_or, nat_lt, if◌then◌else◌}
+use Rattle.std.proofs.Common.{◌≡◌, ℕ, ◌+◌, ◌*◌, ◌<◌, List, [], ◌∷◌, ◌++◌, map, reverse, length, Some, None, inl, inr, ap, sym, refl, subst, ◌∙◌, arith, lt-ltb}
+use Rattle.std.specs.Prelude.{is_some, unwrap_or, if◌then◌else◌}
 use Rattle.std.specs.List.{All}
 use Rattle.std.proofs.lemmas.Bool.{cases_lt, false≢true}
 use Rattle.std.proofs.lemmas.List.{get_or_past, reverse-append, reverse-reverse}
@@ -17,18 +17,16 @@ use Rattle.amoebot_state.specs.Pairs.{Pairs, cell_of}
 use Rattle.amoebot_state.specs.Zones.{Shown, IsShown}
 use Rattle.claim_core.specs.declared.marks.Mark.{Mark}
 use Rattle.claim_core.specs.declared.state.Caller.{Caller}
-use Rattle.claim_core.specs.declared.state.Phase.{Phase}
 use Rattle.claim_core.specs.declared.state.Phase.TheVariants.{Claim, Refusing, Releasing, Ended}
 use Rattle.claim_core.specs.Cells.{number}
-use Rattle.claim_core.specs.Machine.{Setup, bot, found, next_of, after_win, won, opens, frees, caller}
+use Rattle.claim_core.specs.Machine.{Setup, bot, next_of, after_win, won, opens, frees}
 use Rattle.claim_core.specs.Soundness.{IsSetup}
 use Rattle.claim_core.proofs.Frames.{own_there}
-use Rattle.claim_core.proofs.Fronts.{reverse-more}
 use Rattle.claim_core.proofs.Nexts.{frees-marks, frees-held}
 use Rattle.claim_rule.specs.declared.views.Slot.{Slot}
 use Rattle.claim_rule.specs.declared.views.Slot.TheVariants as slot
 use Rattle.claim_rule.specs.declared.views.View.{View}
-use Rattle.claim_rule.specs.Views.{Seated, own, goes_on, cells}
+use Rattle.claim_rule.specs.Views.{Seated, own, goes_on}
 use Rattle.claim_rule.specs.Plays.{IsPlaced, IsKnown, IsOthers, IsToFree, about, bot_in, tried, but_last, mark_at, marked_at, released}
 use Rattle.claim_rule.specs.Tokens.{emptied, IsSeat, IsActivation, IsClaiming, IsStopped, IsWhole, IsFreeing}
 

@@ -1,5 +1,5 @@
 -- The records of all callers while they are dealt.
-use Rattle.std.proofs.Common.{◌≡◌, ℕ, zero, suc, ◌+◌, ◌<◌, List, [], ◌∷◌, ◌++◌, map, take, drop, length, Option, Some, None, ap, sym, refl, subst, ◌∙◌, arith}
+use Rattle.std.proofs.Common.{◌≡◌, ℕ, zero, suc, ◌+◌, ◌<◌, List, [], ◌∷◌, ◌++◌, map, take, drop, length, Option, Some, ap, sym, refl, subst, ◌∙◌, arith}
 use Rattle.std.specs.Prelude.{slice_get, IsSome}
 use Rattle.std.specs.List.{All}
 use Rattle.std.proofs.lemmas.List.Elements.{All-map}
@@ -15,7 +15,6 @@ use Rattle.atomic_table.specs.Seated.{TableId}
 use Rattle.claim_core.specs.declared.state.Caller.{Caller}
 use Rattle.claim_rule.specs.declared.views.Record.{Record}
 use Rattle.claim_rule.specs.declared.views.Terms.{Terms}
-use Rattle.claim_rule.specs.declared.views.View.{View}
 use Rattle.claim_rule.specs.Views.{Seated, record_of, setup, view_of}
 use Rattle.claim_rule.specs.Tokens.{FieldOf, Token, IsSeat}
 use Rattle.claim_rule.specs.Seating.{SeatsOf, dealt, left, AreOf, AreSeats}

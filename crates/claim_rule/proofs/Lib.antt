@@ -5,9 +5,13 @@ pub mod Claims
 pub mod Releases
 pub mod Shows
 pub mod Looks
-pub mod Activating
-pub mod Dealing
+pub mod Marking
 pub mod Giving
+pub mod Takings
+pub mod Commits
+pub mod Activating
+pub mod Settling
+pub mod Dealing
 pub mod FirstSlots
 pub mod Opens
 pub mod Deals

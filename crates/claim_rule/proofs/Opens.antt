@@ -1,7 +1,6 @@
 -- The table at the start stands for the opening of the machine.
-use Rattle.std.proofs.Common.{◌≡◌, ◌≢◌, ℕ, zero, suc, ◌+◌, ◌-◌, ◌*◌, ◌<◌, ◌≤◌, List, [], ◌∷◌, ◌++◌, map, length, get_or, Option, Some, None, ap, sym, refl, subst, ◌∙◌, arith, length-append, suc-mul}
+use Rattle.std.proofs.Common.{◌≡◌, ℕ, zero, suc, ◌+◌, ◌-◌, ◌*◌, ◌<◌, List, [], ◌∷◌, map, length, get_or, Option, Some, None, ap, sym, refl, subst, ◌∙◌, arith, length-append, suc-mul}
 use Rattle.std.specs.Prelude.{slice_get, slice_index, replicate}
-use Rattle.std.specs.List.{All}
 use Rattle.std.proofs.lemmas.List.{length-map, length-replicate}
 use Rattle.std.proofs.lemmas.List.Elements.{All-nil}
 use Rattle.std.proofs.lemmas.Option.{none-some, same_Some}
@@ -11,9 +10,7 @@ use Rattle.atomic_table.specs.Table.{opening}
 use Rattle.atomic_table.proofs.Lists.{at_map, at_longer, at_last}
 use Rattle.amoebot_state.specs.declared.cell.Cell.{Cell}
 use Rattle.amoebot_state.specs.declared.verdict.Verdict.{Verdict}
-use Rattle.amoebot_state.specs.Configs.{Config}
 use Rattle.amoebot_state.specs.Zones.{Shown}
-use Rattle.claim_core.specs.declared.marks.Mark.{Mark}
 use Rattle.claim_core.specs.declared.state.Caller.{Caller}
 use Rattle.claim_core.specs.declared.state.Committed.{Committed}
 use Rattle.claim_core.specs.Turns.{Kept}
@@ -28,7 +25,7 @@ use Rattle.claim_rule.specs.declared.views.Record.{Record}
 use Rattle.claim_rule.specs.declared.views.Terms.{Terms}
 use Rattle.claim_rule.specs.declared.views.View.{View}
 use Rattle.claim_rule.specs.Views.{record_of, setup, cells}
-use Rattle.claim_rule.specs.Stands.{IsFoundAt, HasCommitted, IsRecord, HasRecord, AreWords, AreHomes, AreViews, Stands, Holds, records_from, first_view, turns_left}
+use Rattle.claim_rule.specs.Stands.{IsFoundAt, HasCommitted, IsRecord, HasRecord, Stands, Holds, records_from, first_view}
 use Rattle.claim_rule.specs.Tokens.{FieldOf, IsField}
 use Rattle.claim_rule.specs.Opened.{AreFirstSlots}
 use Rattle.claim_rule.specs.Laws.{OpeningStands}

@@ -1,5 +1,5 @@
 -- What a caller has found that holds its whole zone.
-use Rattle.std.proofs.Common.{◌≡◌, ℕ, List, reverse, Some, ap, sym, ◌∙◌}
+use Rattle.std.proofs.Common.{◌≡◌, ℕ, reverse, Some, ap, sym, ◌∙◌}
 use Rattle.std.specs.Prelude.{slice_get}
 use Rattle.amoebot_state.specs.declared.verdict.Verdict.{Verdict}
 use Rattle.amoebot_state.specs.Configs.{Config}

@@ -1,5 +1,5 @@
 -- What contracts see of a field, of its seats, and of what is made of a seat.
-use Rattle.std.specs.Prelude.{◌≡◌, ◌≢◌, ◌⊎◌, ℕ, ◌+◌, ◌<◌, List, [], ◌∷◌, map, reverse, length, unwrap_or}
+use Rattle.std.specs.Prelude.{◌≡◌, ◌⊎◌, ℕ, ◌+◌, ◌<◌, List, [], ◌∷◌, map, length, unwrap_or}
 use Rattle.std.specs.List.{All}
 use Rattle.std.specs.declared.option.Option.{Option}
 use Rattle.std.specs.declared.option.Option.TheVariants.{Some, None}
@@ -13,10 +13,10 @@ use Rattle.amoebot_state.specs.Configs.{Config}
 use Rattle.amoebot_state.specs.Zones.{Shown}
 use Rattle.claim_core.specs.declared.state.Caller.{Caller}
 use Rattle.claim_core.specs.declared.state.Look.{Look}
-use Rattle.claim_core.specs.declared.state.Phase.TheVariants.{Claim, Refusing, Looking, Releasing}
+use Rattle.claim_core.specs.declared.state.Phase.TheVariants.{Refusing, Looking, Releasing}
 use Rattle.claim_core.specs.Cells.{number}
 use Rattle.claim_core.specs.Tags.{tag_caller, tag_turn, tag_bot}
-use Rattle.claim_core.specs.Machine.{Setup, bot, found, next_of, decided, after_win, opens, frees, caller}
+use Rattle.claim_core.specs.Machine.{bot, found, next_of, decided, after_win, opens, frees, caller}
 use Rattle.claim_core.specs.Soundness.{IsSetup}
 use Rattle.claim_rule.specs.declared.views.Slot.{Slot}
 use Rattle.claim_rule.specs.declared.views.Slot.TheVariants as slot

@@ -10,14 +10,17 @@ mod freeing;
 mod held;
 mod laws;
 mod make;
+mod renewal;
 mod rule;
 mod seat;
 mod seating;
 mod seats;
+mod settled;
 mod slots;
 mod step_laws;
 mod steps;
 mod stopped;
+mod taken;
 #[cfg(test)]
 mod tests;
 mod views;
@@ -33,6 +36,8 @@ pub use laws::{
 pub use rule::ClaimRule;
 pub use seat::Seat;
 pub use seats::Seats;
-pub use step_laws::{claim_is_next, look_is_next, release_is_next};
+pub use settled::{Receipt, Settled, unsettle};
+pub use step_laws::{claim_is_next, commit_is_next, look_is_next, release_is_next, take_is_next};
 pub use stopped::{Refused, Stopped, Tag, refuse};
+pub use taken::{Taken, store, take};
 pub use views::{Key, Record, Slot, Terms, View};

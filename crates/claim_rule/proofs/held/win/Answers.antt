@@ -1,4 +1,4 @@
-use Rattle.std.proofs.Common.{◌≡◌, ◌≢◌, ◌∷◌, ◌++◌, [], ℕ, reverse, Some, refl, ap, sym, subst, ◌∙◌}
+use Rattle.std.proofs.Common.{reverse, refl, ap, sym, subst, ◌∙◌}
 use Rattle.amoebot_state.specs.Pairs.{Pairs}
 use Rattle.claim_rule.specs.Tokens.{IsActivation, IsClaiming, next_in}
 use Rattle.claim_rule.proofs.Activating.{stays, wins, stops, last_first}
