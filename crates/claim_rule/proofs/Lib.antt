@@ -19,3 +19,4 @@ pub mod Gathering
 pub mod Closes
 pub mod Determined
 pub mod Ends
+pub mod Leaves

@@ -1,5 +1,5 @@
 //! Laws of the rule.
-ghost use Rattle.claim_rule.specs.Laws.{OpeningStands, SplitChangesNothing, JoinChangesNothing, FoundIsShown, StateIsDetermined, FieldEndsOneWay};
+ghost use Rattle.claim_rule.specs.Laws.{OpeningStands, SplitChangesNothing, JoinChangesNothing, FoundIsShown, StateIsDetermined, FieldEndsOneWay, FieldEndsSound, EndedFieldIsReached};
 
 use amoebot_state::Decider;
 
@@ -31,4 +31,14 @@ pub fn state_is_determined<D: Decider>(_decider: &D)
 /// What a field leaves is determined by what its seats know, once each caller's seat is there.
 pub fn field_ends_one_way<D: Decider>(_decider: &D)
     ensures { FieldEndsOneWay D.verdict }
+{}
+
+/// What a field leaves is a run of the model in the callers' order, and each mark of its seats is right as far as the callers have come.
+pub fn field_ends_sound<D: Decider>(_decider: &D)
+    ensures { FieldEndsSound D.verdict }
+{}
+
+/// What a field leaves whose callers have all ended, with the marks of its seats, is a report that some interleaving gives.
+pub fn ended_field_is_reached<D: Decider>(_decider: &D)
+    ensures { EndedFieldIsReached D.verdict }
 {}

@@ -30,8 +30,8 @@ pub use field::Field;
 pub use freeing::{Freeing, end, free_last};
 pub use held::{Held, begin, win};
 pub use laws::{
-    field_ends_one_way, found_is_shown, join_changes_nothing, opening_stands,
-    split_changes_nothing, state_is_determined,
+    ended_field_is_reached, field_ends_one_way, field_ends_sound, found_is_shown,
+    join_changes_nothing, opening_stands, split_changes_nothing, state_is_determined,
 };
 pub use rule::ClaimRule;
 pub use seat::Seat;
