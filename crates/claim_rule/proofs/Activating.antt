@@ -1,6 +1,6 @@
 -- The states of an activation: what each keeps after a step.
-use Rattle.std.proofs.Common.{◌≡◌, ◌≢◌, ◌⊎◌, ℕ, ◌+◌, ◌*◌, ◌<◌, ◌≤◌, List, [], ◌∷◌, ◌++◌, map, reverse, length, Bool, true, Option, Some, None, inl, inr, ap, sym, refl, subst, ◌∙◌, arith, lt-ltb}
-use Rattle.std.specs.Prelude.{IsSome, IfSome, is_some, unwrap_or, nat_lt, if◌then◌else◌}
+use Rattle.std.proofs.Common.{◌≡◌, ℕ, ◌+◌, ◌*◌, ◌<◌, List, [], ◌∷◌, ◌++◌, map, reverse, length, Some, None, inl, inr, ap, sym, refl, subst, ◌∙◌, arith, lt-ltb}
+use Rattle.std.specs.Prelude.{is_some, unwrap_or, if◌then◌else◌}
 use Rattle.std.specs.List.{All}
 use Rattle.std.proofs.lemmas.Bool.{cases_lt, false≢true}
 use Rattle.std.proofs.lemmas.List.{get_or_past, reverse-append, reverse-reverse}
@@ -17,19 +17,17 @@ use Rattle.amoebot_state.specs.Pairs.{Pairs, cell_of}
 use Rattle.amoebot_state.specs.Zones.{Shown, IsShown}
 use Rattle.claim_core.specs.declared.marks.Mark.{Mark}
 use Rattle.claim_core.specs.declared.state.Caller.{Caller}
-use Rattle.claim_core.specs.declared.state.Phase.{Phase}
 use Rattle.claim_core.specs.declared.state.Phase.TheVariants.{Claim, Refusing, Releasing, Ended}
 use Rattle.claim_core.specs.Cells.{number}
-use Rattle.claim_core.specs.Machine.{Setup, bot, found, next_of, after_win, won, opens, frees, caller}
+use Rattle.claim_core.specs.Machine.{Setup, bot, next_of, after_win, won, opens, frees}
 use Rattle.claim_core.specs.Soundness.{IsSetup}
 use Rattle.claim_core.proofs.Frames.{own_there}
-use Rattle.claim_core.proofs.Fronts.{reverse-more}
 use Rattle.claim_core.proofs.Nexts.{frees-marks, frees-held}
 use Rattle.claim_rule.specs.declared.views.Slot.{Slot}
 use Rattle.claim_rule.specs.declared.views.Slot.TheVariants as slot
 use Rattle.claim_rule.specs.declared.views.View.{View}
-use Rattle.claim_rule.specs.Views.{Seated, own, goes_on, cells}
-use Rattle.claim_rule.specs.Plays.{IsPlaced, IsKnown, IsToFree, about, bot_in, tried, but_last, mark_at, marked_at, released}
+use Rattle.claim_rule.specs.Views.{Seated, own, goes_on}
+use Rattle.claim_rule.specs.Plays.{IsPlaced, IsKnown, IsOthers, IsToFree, about, bot_in, tried, but_last, mark_at, marked_at, released}
 use Rattle.claim_rule.specs.Tokens.{emptied, IsSeat, IsActivation, IsClaiming, IsStopped, IsWhole, IsFreeing}
 
 -- the last one is the first, the other way round
@@ -196,6 +194,18 @@ module _ {D : Type 0} (verdict : D → Shown → Verdict) where
           phase = λ j. after_win g (bot_same cl.turn j) (pairs_are j) (next_of g (bot_same cl.turn j) (pairs_are j));
           known = known_now;
         }
+
+    -- another caller's tag was found
+    pub stops : (m' : Seated D) (n : CellName) (tag : ℕ) → IsClaiming verdict m t b pairs → next_of g (bot_in verdict m.0) (own m.0).caller.held ≡ Some n
+        → m'.0 ≡ goes_on m.0 (record (own m.0).caller { phase = Refusing (tried verdict m.0) tag }) → IsOthers g (own m.0).number tag → IsStopped verdict m' c t b pairs
+    stops m' n tag cl next view other = subst (λ (v : View D). IsStopped verdict (v, m'.1) c t b pairs) (sym view) (record {
+      turn = cl.turn;
+      cell = n;
+      next = sym (next_same cl.turn) ∙ next;
+      tag = tag;
+      other = subst (λ k. IsOthers g k tag) is.number other;
+      phase = ap (λ o. Refusing (unwrap_or o (name.Body 0)) tag) next;
+    })
 
     -- the turn has its mark
     pub marks : (m' : Seated D) (place : ℕ) → (own m.0).caller.turn ≡ t → m'.0 ≡ goes_on m.0 (marked_at g (own m.0).caller place) → m'.1 ≡ m.1 → IsActivation verdict m' c t b a greatest pairs × IsFreeing verdict m' t pairs

@@ -1,12 +1,12 @@
 -- A try to claim a cell keeps the rule, and tells what was found.
-use Rattle.std.proofs.Common.{◌≡◌, ◌≢◌, ℕ, suc, ◌+◌, ◌<◌, ◌≤◌, List, [], ◌∷◌, reverse, length, set, get_or, length-set, eqb, Option, Some, None, inl, inr, ap, sym, refl, subst, ◌∙◌, arith, eq-eqb, ne_eqb}
-use Rattle.std.specs.Prelude.{slice_get, slice_set, slice_index, unwrap_or, if◌then◌else◌}
+use Rattle.std.proofs.Common.{◌≡◌, ◌≢◌, ℕ, ◌<◌, ◌≤◌, List, [], ◌∷◌, length, set, get_or, length-set, eqb, Some, None, inl, inr, ap, sym, refl, subst, ◌∙◌, arith, eq-eqb, ne_eqb}
+use Rattle.std.specs.Prelude.{slice_get, slice_index, if◌then◌else◌}
 use Rattle.std.proofs.lemmas.List.{get_or-set_same, get_or-set_other}
-use Rattle.std.proofs.lemmas.Option.{same_Some, none-some, slice_get-get_or, slice_get_within}
+use Rattle.std.proofs.lemmas.Option.{same_Some, slice_get-get_or, slice_get_within}
 use mathlib.Core.Option as home
 use lib.ListN.{get_elem?}
 use prog.Atomic.{either}
-use Rattle.atomic_table.specs.Table.{Step, step, keeps, takes, Allows}
+use Rattle.atomic_table.specs.Table.{step, keeps, takes, Allows}
 use Rattle.atomic_table.proofs.Lists.{set_else, exchanged}
 use Rattle.amoebot_state.specs.declared.cell.CellName.{CellName}
 use Rattle.amoebot_state.specs.declared.cell.Cell.{Cell}
@@ -29,7 +29,7 @@ use Rattle.claim_rule.specs.declared.views.Slot.TheVariants as slot
 use Rattle.claim_rule.specs.declared.views.Record.{Record}
 use Rattle.claim_rule.specs.declared.views.Terms.{Terms}
 use Rattle.claim_rule.specs.Views.{Content, Seated, view_of, own, setup, cells}
-use Rattle.claim_rule.specs.Stands.{turns_left, IsJournal, AreWords, AreHomes, Stands, Holds}
+use Rattle.claim_rule.specs.Stands.{turns_left, AreWords, AreHomes, Stands, Holds}
 use Rattle.claim_rule.specs.Plays.{IsPlaced, IsKnown, IsOthers, tried, IsToTry, claimed}
 use Rattle.claim_rule.specs.Nexts.{GoesOn, ClaimIsNext}
 use Rattle.claim_rule.proofs.Tables.{words_written, homes_kept}

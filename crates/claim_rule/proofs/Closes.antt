@@ -1,8 +1,8 @@
 -- What a field leaves once all its seats are back.
-use Rattle.std.proofs.Common.{◌≡◌, ◌≢◌, ℕ, zero, suc, ◌+◌, ◌<◌, List, [], ◌∷◌, drop, length, Option, Some, None, ap, sym, refl, subst, ◌∙◌, arith}
+use Rattle.std.proofs.Common.{◌≡◌, ◌≢◌, ℕ, suc, ◌+◌, ◌<◌, List, [], ◌∷◌, drop, length, Option, Some, None, ap, sym, refl, subst, ◌∙◌, arith}
 use Rattle.std.specs.Prelude.{slice_get, IsSome}
 use Rattle.std.specs.List.{All}
-use Rattle.std.proofs.lemmas.Option.{none-some, same_Some, slice_get-get_or, slice_get_within}
+use Rattle.std.proofs.lemmas.Option.{same_Some, slice_get-get_or, slice_get_within}
 use Rattle.std.proofs.lemmas.Bool.{false≢true}
 use mathlib.Core.Option as home
 use lib.ListN.{get_elem?, get_or}
@@ -27,22 +27,15 @@ use Rattle.claim_rule.specs.declared.views.Record.{Record}
 use Rattle.claim_rule.specs.declared.views.Terms.{Terms}
 use Rattle.claim_rule.specs.Views.{Content, Seated, view_of, setup, cells}
 use Rattle.claim_rule.specs.Stands.{IsJournal, HasTaken, IsRecord, Stands, Holds}
-use Rattle.claim_rule.specs.Tokens.{FieldOf, IsField, Token, number_in, record_in, doing}
+use Rattle.claim_rule.specs.Tokens.{FieldOf, IsField, Token, number_in, record_in}
 use Rattle.claim_rule.specs.Seating.{SeatsOf, AreOf, AreSeats}
 use Rattle.claim_rule.specs.Closing.{ClosesAs, HaveAll}
-
-first_left : {A : Type 0} (xs : List A) (k : ℕ) (x : A) → slice_get xs k ≡ Some x → drop k xs ≡ x ∷ drop (k + 1) xs
-first_left xs k x e = by xs k x e ∙ ap (λ n. x ∷ drop n xs) (let n : suc k ≡ k + 1 = omega arith in n)
-  where
-    by : {A : Type 0} (ys : List A) (j : ℕ) (y : A) → slice_get ys j ≡ Some y → drop j ys ≡ y ∷ drop (suc j) ys
-    by [] j y f = absurd (none-some y f)
-    by (z ∷ ys) zero y f = ap (λ w. w ∷ ys) (same_Some z y f)
-    by (z ∷ ys) (suc j) y f = by ys j y f
+use Rattle.claim_rule.proofs.Deals.{drop_at}
 
 -- the entries after the one whose patch was applied lead on to the same last world
 pub follows : (f : Shown → Verdict) (now next last : Config) (es : List Entry) (k : ℕ) (e : Entry) → slice_get es k ≡ Some e → Run f now (drop k es) last → IsPatched now e.patch next → Run f next (drop (k + 1) es) last
 follows f now next last es k e there run patched =
-    let rest = subst (λ xs. Run f now xs last) (first_left es k e there) run in
+    let rest = subst (λ xs. Run f now xs last) (drop_at es k e there ∙ ap (λ n. e ∷ drop n es) (let n : suc k ≡ k + 1 = omega arith in n)) run in
     subst (λ c. Run f c (drop (k + 1) es) last) (patched_is_unique now rest.0 next e.patch rest.1.patched patched) rest.2
 
 -- each of these places has a seat
@@ -74,9 +67,6 @@ module _ {D : Type 0} (verdict : D → Shown → Verdict) (z : Terms D) (ok : Is
 
     its : (c : ℕ) (t : Token D) → slice_get seats c ≡ Some (Some t) → IsRecord g core (record_in t)
     its c t e = let there = have c t e in st.views.each id there.0 (record_in t) (view_of z rs, mine, there.1)
-
-    caller_is : (c : ℕ) (t : Token D) → slice_get seats c ≡ Some (Some t) → slice_get core.callers c ≡ Some (doing t)
-    caller_is c t e = ap (slice_get core.callers) (sym (number c t e)) ∙ (its c t e).caller
 
     not_holder : (c : ℕ) (t : Token D) → slice_get seats c ≡ Some (Some t) → core.holder ≢ Some c
     not_holder c t e = subst (λ n. core.holder ≢ Some n) (number c t e) (subst (HasTaken g core (number_in t)) (have c t e).2 (its c t e).committed.taken)
@@ -110,7 +100,7 @@ module _ {D : Type 0} (verdict : D → Shown → Verdict) (z : Terms D) (ok : Is
           let same : sound.last ≡ world = run_has_one_last g.verdict g.world core.journal sound.last world sound.run (subst (λ es. Run g.verdict g.world es world) is.entries run) in
           let fr = framed g ok core sound in
           let last_has : HasValues g core sound.last = record { rest = fr.rest; size = fr.size; ids = fr.ids; values = sym sound.values } in
-          record { steps = steps; callers = caller_is; first = is.first; entries = is.entries; values = subst (HasValues g core) same last_has }
+          record { steps = steps; callers = λ c t e. (number c t e, its c t e); first = is.first; entries = is.entries; values = subst (HasValues g core) same last_has }
 
 module _ {D : Type 0} (verdict : D → Shown → Verdict) (own f : FieldOf D) (f_is : own ≡ f) (d : D) (w : Config) (keeps : IsField verdict own d w)
     (rest : Seated D) (table : TableId) (items : List (Option (Token D))) (are : AreSeats rest table items) (s : SeatsOf D)

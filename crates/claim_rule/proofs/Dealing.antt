@@ -2,7 +2,7 @@
 use Rattle.std.proofs.Common.{◌≡◌, ◌≢◌, ℕ, zero, suc, ◌+◌, ◌<◌, ◌⊎◌, List, [], ◌∷◌, ◌++◌, length, set, Some, inl, inr, ap, sym, refl, subst, ◌∙◌, arith, length-set}
 use Rattle.std.specs.Prelude.{slice_get}
 use Rattle.std.proofs.lemmas.Bool.{cases_eq}
-use Rattle.std.proofs.lemmas.Option.{none-some, same_Some, slice_get_within}
+use Rattle.std.proofs.lemmas.Option.{none-some}
 use mathlib.Core.Option as home
 use lib.ListN.{get_elem?}
 use Rattle.atomic_table.specs.Table.{Splits, Joins}
@@ -17,6 +17,7 @@ use Rattle.claim_rule.specs.declared.views.View.{View}
 use Rattle.claim_rule.specs.Views.{Content, view_of, setup}
 use Rattle.claim_rule.specs.Stands.{HasRecord, Stands, Holds}
 use Rattle.claim_rule.specs.Seating.{dealt, left, joined, spent}
+use Rattle.claim_rule.specs.Laws.{SplitChangesNothing, JoinChangesNothing}
 use Rattle.claim_rule.proofs.Tables.{only}
 
 at_end : {A : Type 0} (xs : List A) (x y : A) (j : ℕ) → get_elem? (xs ++ x ∷ []) j ≡ home.some y → (get_elem? xs j ≡ home.some y) ⊎ ((j ≡ length xs) × (x ≡ y))
@@ -131,8 +132,14 @@ module _ {D : Type 0} (verdict : D → Shown → Verdict) (z : Terms D) where
       ]
     ]
 
+  -- the table stands for the same state,
+  pub same_split : (core : State) (seat : ℕ) (r : Record) (rs : List Record) → Splits (λ (s : Content D). Stands verdict z s core) seat (view_of z (r ∷ rs)) (view_of z rs) (view_of z (r ∷ []))
+  same_split core seat r rs s st there =
+      reseated s core (two s core st seat r rs there) st (split_terms s core st seat r rs there) (split_back s core st seat r rs there) (split_forth s core st seat r rs there) (split_one s core st seat r rs there)
+
+  -- and the rule is kept
   pub splits : (seat : ℕ) (r : Record) (rs : List Record) → Splits (Holds verdict z) seat (view_of z (r ∷ rs)) (view_of z rs) (view_of z (r ∷ []))
-  splits seat r rs s h there = (h.0, reseated s _ (two s _ h.1 seat r rs there) h.1 (split_terms s _ h.1 seat r rs there) (split_back s _ h.1 seat r rs there) (split_forth s _ h.1 seat r rs there) (split_one s _ h.1 seat r rs there))
+  splits seat r rs s h there = (h.0, same_split (after (setup verdict z) h.0) seat r rs s h.1 there)
 
   -- the records of another seat come in behind the own
   module _ (s : Content D) (core : State) (st : Stands verdict z s core) (seat other : ℕ) (rs qs : List Record) (there : get_elem? s.views seat ≡ home.some (view_of z rs)) (apart : ¬ (other ≡ seat)) (there' : get_elem? s.views other ≡ home.some (view_of z qs)) where
@@ -201,10 +208,14 @@ module _ {D : Type 0} (verdict : D → Shown → Verdict) (z : Terms D) where
       ]
     ]
 
-  pub joins : (seat other : ℕ) (rs qs : List Record) → Joins (Holds verdict z) seat (view_of z rs) other (view_of z qs) (view_of z (rs ++ qs)) spent
-  joins seat other rs qs s h there apart there' =
+  pub same_join : (core : State) (seat other : ℕ) (rs qs : List Record) → Joins (λ (s : Content D). Stands verdict z s core) seat (view_of z rs) other (view_of z qs) (view_of z (rs ++ qs)) spent
+  same_join core seat other rs qs s st there apart there' =
       let was : get_elem? s.views other ≡ home.some (view_of z qs) = sym (set_else s.views seat other (view_of z (rs ++ qs)) apart) ∙ there' in
-      (h.0, reseated s _ (all s _ h.1 seat other rs qs there apart was) h.1 (join_terms s _ h.1 seat other rs qs there apart was) (join_back s _ h.1 seat other rs qs there apart was) (join_forth s _ h.1 seat other rs qs there apart was) (join_one s _ h.1 seat other rs qs there apart was))
+      reseated s core (all s core st seat other rs qs there apart was) st (join_terms s core st seat other rs qs there apart was) (join_back s core st seat other rs qs there apart was) (join_forth s core st seat other rs qs there apart was)
+      (join_one s core st seat other rs qs there apart was)
+
+  pub joins : (seat other : ℕ) (rs qs : List Record) → Joins (Holds verdict z) seat (view_of z rs) other (view_of z qs) (view_of z (rs ++ qs)) spent
+  joins seat other rs qs s h there apart there' = (h.0, same_join (after (setup verdict z) h.0) seat other rs qs s h.1 there apart there')
 
   -- the same of a view that is one with such records
   pub splits_view : (seat : ℕ) (v : View D) (r : Record) (rs : List Record) → v ≡ view_of z (r ∷ rs) → Splits (Holds verdict z) seat v (left v) (dealt v)
@@ -212,3 +223,9 @@ module _ {D : Type 0} (verdict : D → Shown → Verdict) (z : Terms D) where
 
   pub joins_views : (seat other : ℕ) (v w : View D) (rs qs : List Record) → v ≡ view_of z rs → w ≡ view_of z qs → Joins (Holds verdict z) seat v other w (joined v w) spent
   joins_views seat other v w rs qs is is' = subst (λ (a : View D). Joins (Holds verdict z) seat a other w (joined a w) spent) (sym is) (subst (λ (b : View D). Joins (Holds verdict z) seat (view_of z rs) other b (joined (view_of z rs) b) spent) (sym is') (joins seat other rs qs))
+
+pub split_changes_nothing : {D : Type 0} (verdict : D → Shown → Verdict) → SplitChangesNothing verdict
+split_changes_nothing verdict z core seat r rs s st there = same_split verdict z core seat r rs s st there
+
+pub join_changes_nothing : {D : Type 0} (verdict : D → Shown → Verdict) → JoinChangesNothing verdict
+join_changes_nothing verdict z core seat other rs qs s st there apart there' = same_join verdict z core seat other rs qs s st there apart there'

@@ -1,5 +1,5 @@
 -- The records of all callers while they are dealt.
-use Rattle.std.proofs.Common.{◌≡◌, ℕ, zero, suc, ◌+◌, ◌<◌, List, [], ◌∷◌, ◌++◌, map, take, drop, length, Option, Some, None, ap, sym, refl, subst, ◌∙◌, arith}
+use Rattle.std.proofs.Common.{◌≡◌, ℕ, zero, suc, ◌+◌, ◌<◌, List, [], ◌∷◌, ◌++◌, map, take, drop, length, Option, Some, ap, sym, refl, subst, ◌∙◌, arith}
 use Rattle.std.specs.Prelude.{slice_get, IsSome}
 use Rattle.std.specs.List.{All}
 use Rattle.std.proofs.lemmas.List.Elements.{All-map}
@@ -15,7 +15,6 @@ use Rattle.atomic_table.specs.Seated.{TableId}
 use Rattle.claim_core.specs.declared.state.Caller.{Caller}
 use Rattle.claim_rule.specs.declared.views.Record.{Record}
 use Rattle.claim_rule.specs.declared.views.Terms.{Terms}
-use Rattle.claim_rule.specs.declared.views.View.{View}
 use Rattle.claim_rule.specs.Views.{Seated, record_of, setup, view_of}
 use Rattle.claim_rule.specs.Tokens.{FieldOf, Token, IsSeat}
 use Rattle.claim_rule.specs.Seating.{SeatsOf, dealt, left, AreOf, AreSeats}
@@ -23,7 +22,7 @@ use Rattle.claim_rule.specs.Opened.{first_records, seat_with, first_seats}
 use Rattle.claim_rule.proofs.Opens.{from, there, fresh_there}
 
 -- an element splits a list
-drop_at : {A : Type 0} (xs : List A) (k : ℕ) (x : A) → slice_get xs k ≡ Some x → drop k xs ≡ x ∷ drop (suc k) xs
+pub drop_at : {A : Type 0} (xs : List A) (k : ℕ) (x : A) → slice_get xs k ≡ Some x → drop k xs ≡ x ∷ drop (suc k) xs
 drop_at [] k x e = absurd (none-some x e)
 drop_at (y ∷ ys) zero x e = ap (λ z. z ∷ ys) (same_Some y x e)
 drop_at (y ∷ ys) (suc k) x e = drop_at ys k x e

@@ -1,19 +1,16 @@
 -- Words, values at home and views stand for at most one state.
-use Rattle.std.proofs.Common.{◌≡◌, ◌≢◌, ℕ, zero, suc, ◌+◌, ◌*◌, ◌<◌, ◌≤◌, List, [], ◌∷◌, map, length, drop, Option, Some, None, inl, inr, ap, sym, refl, subst, ◌∙◌, arith, eq-eqb, ne_eqb}
-use Rattle.std.specs.Prelude.{slice_get, slice_index, if◌then◌else◌}
+use Rattle.std.proofs.Common.{◌≡◌, ◌≢◌, ℕ, suc, ◌+◌, ◌<◌, ◌≤◌, List, [], ◌∷◌, length, drop, Option, Some, None, inl, inr, ap, sym, refl, subst, ◌∙◌, arith, eq-eqb, ne_eqb}
+use Rattle.std.specs.Prelude.{slice_get, if◌then◌else◌}
 use Rattle.std.specs.List.{All}
 use Rattle.std.proofs.lemmas.Bool.{cases_eq}
 use Rattle.std.proofs.lemmas.List.{ext_get_or}
 use Rattle.std.proofs.lemmas.List.Elements.{All-head, All-tail, All-weaker}
 use Rattle.std.proofs.lemmas.Option.{none-some, same_Some, slice_get_within}
-use Rattle.amoebot_state.specs.declared.cell.Cell.{Cell}
 use Rattle.amoebot_state.specs.declared.verdict.Entry.{Entry}
 use Rattle.amoebot_state.specs.declared.verdict.Verdict.{Verdict}
-use Rattle.amoebot_state.specs.Configs.{Config}
 use Rattle.amoebot_state.specs.Steps.{Run}
 use Rattle.amoebot_state.specs.Zones.{Shown}
 use Rattle.amoebot_state.proofs.Patched.{run_has_one_last}
-use Rattle.claim_core.specs.declared.state.Caller.{Caller}
 use Rattle.claim_core.specs.Turns.{Kept}
 use Rattle.claim_core.specs.Cells.{values_of}
 use Rattle.claim_core.specs.Good.{IsListed}
@@ -21,10 +18,9 @@ use Rattle.claim_core.specs.Machine.{Setup, State, after}
 use Rattle.claim_core.specs.Reached.{entries_of}
 use Rattle.claim_core.specs.Soundness.{IsSetup, Sound}
 use Rattle.claim_core.proofs.Sounds.{always}
-use Rattle.claim_rule.specs.declared.views.Record.{Record}
 use Rattle.claim_rule.specs.declared.views.Terms.{Terms}
 use Rattle.claim_rule.specs.Views.{Content, setup, cells}
-use Rattle.claim_rule.specs.Stands.{HasTaken, HasRecord, IsRecord, Stands}
+use Rattle.claim_rule.specs.Stands.{HasTaken, Stands}
 use Rattle.claim_rule.specs.Laws.{StateIsDetermined}
 use Rattle.claim_rule.proofs.Allowing.{tags_count}
 
@@ -79,10 +75,6 @@ same_elements (x ∷ xs) (y ∷ ys) long each =
 module _ {D : Type 0} (verdict : D → Shown → Verdict) (z : Terms D) (s : Content D) (ok : IsSetup (setup verdict z)) where
   abbrev g : Setup
   g = setup verdict z
-
-  -- the record of a caller, which says what is so in each state that the table stands for
-  record_there : (one : State) → Stands verdict z s one → (c : ℕ) → c < length z.lists.ids → (seat place : ℕ) × (r : Record) × HasRecord s.views seat place r × (r.number ≡ c)
-  record_there one st c lt = st.views.some c lt
 
   same_callers : (one two : State) (c : ℕ) → Stands verdict z s one → Stands verdict z s two → c < length z.lists.ids → slice_get one.callers c ≡ slice_get two.callers c
   same_callers one two c st st' lt =

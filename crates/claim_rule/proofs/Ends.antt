@@ -1,6 +1,6 @@
 -- What a field leaves is determined by what its seats know.
-use Rattle.std.proofs.Common.{◌≡◌, ℕ, zero, suc, ◌+◌, ◌<◌, List, [], ◌∷◌, length, Option, Some, None, ap, sym, refl, subst, ◌∙◌, arith}
-use Rattle.std.specs.Prelude.{slice_get, slice_index, IsSome}
+use Rattle.std.proofs.Common.{◌≡◌, ℕ, suc, List, [], ◌∷◌, length, Option, Some, ap, sym, refl, subst, ◌∙◌, arith}
+use Rattle.std.specs.Prelude.{slice_get, IsSome}
 use Rattle.std.specs.List.{All}
 use Rattle.std.proofs.lemmas.Option.{none-some, same_Some, slice_get_within, get_or_from_slice_get}
 use Rattle.amoebot_state.specs.declared.verdict.Change.{Change}
@@ -23,7 +23,8 @@ use Rattle.claim_core.proofs.Moved.{told_by}
 use Rattle.claim_core.proofs.Sounds.{always}
 use Rattle.claim_rule.specs.declared.views.Terms.{Terms}
 use Rattle.claim_rule.specs.Views.{setup}
-use Rattle.claim_rule.specs.Tokens.{Token, doing}
+use Rattle.claim_rule.specs.Stands.{IsRecord}
+use Rattle.claim_rule.specs.Tokens.{Token, record_in, number_in, doing}
 use Rattle.claim_rule.specs.Closing.{ClosesAs}
 use Rattle.claim_rule.specs.Laws.{FieldEndsOneWay}
 use Rattle.claim_rule.proofs.Closes.{some_there}
@@ -69,6 +70,10 @@ module _ {D : Type 0} (verdict : D → Shown → Verdict) (z : Terms D) (seats :
   abbrev Knows : State → Type 0
   Knows s = (c : ℕ) (t : Token D) → slice_get seats c ≡ Some (Some t) → slice_get s.callers c ≡ Some (doing t)
 
+  -- what the seats know is so of their callers
+  known : (s : State) → ((c : ℕ) (t : Token D) → slice_get seats c ≡ Some (Some t) → (number_in t ≡ c) × IsRecord g s (record_in t)) → Knows s
+  known s is c t e = let r = is c t e in ap (slice_get s.callers) (sym r.0) ∙ r.1.caller
+
   same_callers : (one two : State) → Sound g one → Sound g two → Knows one → Knows two → one.callers ≡ two.callers
   same_callers one two sound sound' knows knows' = same_elements one.callers two.callers (sound.callers ∙ sym sound'.callers) (λ c lt.
       let t = some_there seats c (omega (arith, lt, sound.callers, count)) full in knows c t.0 t.1 ∙ sym (knows' c t.0 t.1))
@@ -100,7 +105,7 @@ module _ {D : Type 0} (verdict : D → Shown → Verdict) (z : Terms D) (seats :
   ends_one_way w v i j one two =
       let sound = always g ok one.steps in
       let sound' = always g ok two.steps in
-      let same = same_journals (after g one.steps) (after g two.steps) sound sound' (same_callers (after g one.steps) (after g two.steps) sound sound' one.callers two.callers) in
+      let same = same_journals (after g one.steps) (after g two.steps) sound sound' (same_callers (after g one.steps) (after g two.steps) sound sound' (known (after g one.steps) one.callers) (known (after g two.steps) two.callers)) in
       let last = run_has_one_last g.verdict g.world (after g one.steps).journal sound.last sound'.last sound.run (subst (λ es. Run g.verdict g.world es sound'.last) (sym same) sound'.run) in
       (last_is (after g one.steps) w sound one.values ∙ last ∙ sym (last_is (after g two.steps) v sound' two.values), one.first ∙ sym two.first, one.entries ∙ same ∙ sym two.entries)
 

@@ -1,5 +1,5 @@
 -- What the seats of a field keep when one is given out or comes back.
-use Rattle.std.proofs.Common.{◌≡◌, ◌≢◌, ℕ, zero, suc, ◌<◌, List, [], ◌∷◌, length, set, get_or, Option, Some, None, inl, inr, ap, sym, refl, subst, ◌∙◌, length-set}
+use Rattle.std.proofs.Common.{◌≡◌, ◌≢◌, ℕ, zero, suc, ◌<◌, List, [], ◌∷◌, length, set, get_or, Option, Some, None, inl, inr, ap, sym, subst, ◌∙◌, length-set}
 use Rattle.std.specs.Prelude.{slice_get, IfSome}
 use Rattle.std.proofs.lemmas.Option.{none-some, same_Some, slice_get-get_or}
 use Rattle.atomic_table.specs.Seated.{TableId}
@@ -66,7 +66,8 @@ module _ {D : Type 0} (rest : Seated D) (table : TableId) (seats : List (Option 
       let of = are.each (number_in t) t (ap (λ (s : SeatsOf D). slice_get s.seats (number_in t)) is ∙ has.0.there) in
       (of.0 ∙ ap (λ (s : SeatsOf D). s.table) is, of.1 ∙ sym (ap (λ (m : Seated D). m.0.terms) are.dealt) ∙ ap (λ (s : SeatsOf D). s.terms) is)
 
-set_back : {A : Type 0} (xs : List A) (n : ℕ) (x y : A) → slice_get xs n ≡ Some x → set (set xs n y) n x ≡ xs
+-- an element that was replaced comes back to its place
+pub set_back : {A : Type 0} (xs : List A) (n : ℕ) (x y : A) → slice_get xs n ≡ Some x → set (set xs n y) n x ≡ xs
 set_back [] n x y e = absurd (none-some x e)
 set_back (a ∷ xs) zero x y e = ap (λ b. b ∷ xs) (sym (same_Some a x e))
 set_back (a ∷ xs) (suc n) x y e = ap (λ ys. a ∷ ys) (set_back xs n x y e)

@@ -3,10 +3,15 @@ pub mod Moves
 pub mod Allowing
 pub mod Claims
 pub mod Releases
+pub mod Shows
 pub mod Looks
-pub mod Activating
-pub mod Dealing
+pub mod Marking
 pub mod Giving
+pub mod Takings
+pub mod Commits
+pub mod Activating
+pub mod Settling
+pub mod Dealing
 pub mod FirstSlots
 pub mod Opens
 pub mod Deals
@@ -14,3 +19,4 @@ pub mod Gathering
 pub mod Closes
 pub mod Determined
 pub mod Ends
+pub mod Leaves

@@ -1,5 +1,5 @@
 -- A look at the journal's length, for the mark of a turn that is refused or changes nothing, keeps the rule.
-use Rattle.std.proofs.Common.{◌≡◌, ℕ, zero, suc, ◌+◌, ◌*◌, ◌/◌, ◌<◌, ◌≤◌, List, [], ◌∷◌, ◌++◌, map, length, set, Option, Some, None, ap, sym, refl, subst, ◌∙◌, arith, length-append}
+use Rattle.std.proofs.Common.{◌≡◌, ℕ, zero, suc, ◌+◌, ◌*◌, ◌/◌, ◌≤◌, List, [], ◌∷◌, ◌++◌, map, length, set, Option, Some, None, ap, sym, refl, ◌∙◌, arith, length-append}
 use Rattle.std.specs.Prelude.{slice_get, slice_index}
 use Rattle.std.proofs.lemmas.Option.{none-some, same_Some}
 use mathlib.Core.Option as home
@@ -20,7 +20,7 @@ use Rattle.claim_rule.specs.declared.views.Record.{Record}
 use Rattle.claim_rule.specs.declared.views.Terms.{Terms}
 use Rattle.claim_rule.specs.Views.{Content, Seated, view_of, own, setup, cells}
 use Rattle.claim_rule.specs.Stands.{is_held, turns_left, AreWords, AreHomes, Stands, Holds}
-use Rattle.claim_rule.specs.Plays.{Reads, mark_at, marked_at, about, read}
+use Rattle.claim_rule.specs.Plays.{Reads, mark_at, marked_at, read}
 use Rattle.claim_rule.specs.Nexts.{GoesOn, LookIsNext}
 use Rattle.claim_rule.proofs.Tables.{words_written, homes_kept}
 use Rattle.claim_rule.proofs.Moves.{mine, moves, journal_stays}

@@ -1,7 +1,7 @@
 -- What the table stands for after a step of a seat that has one record.
-use Rattle.std.proofs.Common.{◌≡◌, ◌≢◌, ℕ, zero, suc, ◌+◌, ◌<◌, ◌≤◌, ◌⊎◌, List, [], ◌∷◌, map, length, set, get_or, Option, Some, None, inl, inr, ap, sym, refl, subst, ◌∙◌, arith}
+use Rattle.std.proofs.Common.{◌≡◌, ◌≢◌, ℕ, zero, ◌+◌, ◌<◌, ◌≤◌, List, [], ◌∷◌, length, set, Option, Some, None, inl, inr, ap, sym, refl, subst, ◌∙◌, arith}
 use Rattle.std.specs.Prelude.{slice_get}
-use Rattle.std.specs.List.{All, Contains}
+use Rattle.std.specs.List.{Contains}
 use Rattle.std.proofs.lemmas.List.Elements.{All-contains, All-weaker}
 use Rattle.std.proofs.lemmas.Option.{none-some, same_Some, slice_get_within, slice_get-get_or}
 use mathlib.Core.Option as home
@@ -10,7 +10,6 @@ use Rattle.amoebot_state.specs.declared.cell.CellName.{CellName}
 use Rattle.amoebot_state.specs.declared.cell.Cell.{Cell}
 use Rattle.amoebot_state.specs.declared.cell.Cell.TheVariants as cell
 use Rattle.amoebot_state.specs.declared.verdict.Verdict.{Verdict}
-use Rattle.amoebot_state.specs.Pairs.{cell_of}
 use Rattle.amoebot_state.specs.Configs.{Config}
 use Rattle.amoebot_state.specs.Zones.{Shown}
 use Rattle.amoebot_state.proofs.Members.{Has-from_Contains, Contains-from_Has}
@@ -18,8 +17,8 @@ use Rattle.claim_core.specs.declared.state.Caller.{Caller}
 use Rattle.claim_core.specs.declared.state.Committed.{Committed}
 use Rattle.claim_core.specs.Turns.{Kept}
 use Rattle.claim_core.specs.Cells.{number, at}
-use Rattle.claim_core.specs.Machine.{Setup, State, bot, next, after}
-use Rattle.claim_core.specs.Soundness.{IsSetup, IsHeld, names, Sound}
+use Rattle.claim_core.specs.Machine.{Setup, State, next, after}
+use Rattle.claim_core.specs.Soundness.{IsSetup, IsHeld, names}
 use Rattle.claim_core.proofs.Places.{get-set_here, get-set_else}
 use Rattle.claim_core.proofs.Numbers.{value_at, value_held}
 use Rattle.claim_core.proofs.Fronts.{name_of_held}
@@ -29,8 +28,8 @@ use Rattle.claim_rule.specs.declared.views.Slot.{Slot}
 use Rattle.claim_rule.specs.declared.views.Record.{Record}
 use Rattle.claim_rule.specs.declared.views.Terms.{Terms}
 use Rattle.claim_rule.specs.declared.views.View.{View}
-use Rattle.claim_rule.specs.Views.{Content, view_of, setup, cells}
-use Rattle.claim_rule.specs.Stands.{turns_left, IsFoundAt, IsJournal, HasTaken, HasCommitted, IsRecord, AreWords, AreHomes, HasRecord, AreViews, Stands, Holds}
+use Rattle.claim_rule.specs.Views.{Content, view_of, setup}
+use Rattle.claim_rule.specs.Stands.{turns_left, IsFoundAt, IsJournal, HasTaken, HasCommitted, IsRecord, AreWords, AreHomes, HasRecord, Stands}
 use Rattle.claim_rule.proofs.Tables.{later, cases, back, forth}
 
 -- the same number, where the state is sound, has the cell's value

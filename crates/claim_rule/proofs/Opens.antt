@@ -1,7 +1,6 @@
 -- The table at the start stands for the opening of the machine.
-use Rattle.std.proofs.Common.{◌≡◌, ◌≢◌, ℕ, zero, suc, ◌+◌, ◌-◌, ◌*◌, ◌<◌, ◌≤◌, List, [], ◌∷◌, ◌++◌, map, length, get_or, Option, Some, None, ap, sym, refl, subst, ◌∙◌, arith, length-append, suc-mul}
+use Rattle.std.proofs.Common.{◌≡◌, ℕ, zero, suc, ◌+◌, ◌-◌, ◌*◌, ◌<◌, List, [], ◌∷◌, map, length, get_or, Option, Some, None, ap, sym, refl, subst, ◌∙◌, arith, length-append, suc-mul}
 use Rattle.std.specs.Prelude.{slice_get, slice_index, replicate}
-use Rattle.std.specs.List.{All}
 use Rattle.std.proofs.lemmas.List.{length-map, length-replicate}
 use Rattle.std.proofs.lemmas.List.Elements.{All-nil}
 use Rattle.std.proofs.lemmas.Option.{none-some, same_Some}
@@ -11,9 +10,7 @@ use Rattle.atomic_table.specs.Table.{opening}
 use Rattle.atomic_table.proofs.Lists.{at_map, at_longer, at_last}
 use Rattle.amoebot_state.specs.declared.cell.Cell.{Cell}
 use Rattle.amoebot_state.specs.declared.verdict.Verdict.{Verdict}
-use Rattle.amoebot_state.specs.Configs.{Config}
 use Rattle.amoebot_state.specs.Zones.{Shown}
-use Rattle.claim_core.specs.declared.marks.Mark.{Mark}
 use Rattle.claim_core.specs.declared.state.Caller.{Caller}
 use Rattle.claim_core.specs.declared.state.Committed.{Committed}
 use Rattle.claim_core.specs.Turns.{Kept}
@@ -28,9 +25,10 @@ use Rattle.claim_rule.specs.declared.views.Record.{Record}
 use Rattle.claim_rule.specs.declared.views.Terms.{Terms}
 use Rattle.claim_rule.specs.declared.views.View.{View}
 use Rattle.claim_rule.specs.Views.{record_of, setup, cells}
-use Rattle.claim_rule.specs.Stands.{IsFoundAt, HasCommitted, IsRecord, HasRecord, AreWords, AreHomes, AreViews, Stands, Holds, records_from, first_view, turns_left}
+use Rattle.claim_rule.specs.Stands.{IsFoundAt, HasCommitted, IsRecord, HasRecord, Stands, Holds, records_from, first_view}
 use Rattle.claim_rule.specs.Tokens.{FieldOf, IsField}
 use Rattle.claim_rule.specs.Opened.{AreFirstSlots}
+use Rattle.claim_rule.specs.Laws.{OpeningStands}
 
 zero_at : (n k : ℕ) → ◌≡◌ {A = ℕ} (get_or (replicate n 0) k 0) 0
 zero_at zero k = refl
@@ -97,43 +95,41 @@ module _ {D : Type 0} (verdict : D → Shown → Verdict) (z : Terms D) where
   in_first : (seat place : ℕ) (r : Record) → HasRecord (first_view verdict z ∷ []) seat place r → (seat ≡ 0) × (slice_get (first_view verdict z).records place ≡ Some r)
   in_first seat place r has = let one = one_view seat has.0 has.1 in (one.0, subst (λ (v : View D). slice_get v.records place ≡ Some r) (sym one.1) has.2)
 
-  pub opens : IsSetup g → (words : List ℕ) (slots : List Slot) → words ≡ replicate (cells z.world + 1) 0 → AreFirstSlots z.world z.lists slots → Holds verdict z (opening words slots (first_view verdict z))
-  opens ok words slots zeros first = (
-    [],
-    record {
-      words = record {
-        count = ap (λ (ws : List ℕ). length ws) zeros ∙ length-replicate (cells z.world + 1) 0;
-        cell = λ k lt. ap (λ ws. slice_index ws k) zeros ∙ zero_at (cells z.world + 1) k ∙ sym (zero_of (values_of z.world) k);
-        journal = ap (λ ws. slice_index ws (cells z.world)) zeros ∙ zero_at (cells z.world + 1) (cells z.world);
-      };
-      homes = record {
-        count = length-map slots (λ x. home.some x) ∙ many;
-        cell = λ k x free value. at_map (λ y. home.some y) slots k (slot.Cell x) (subst (λ (xs : List Slot). get_elem? xs k ≡ home.some (slot.Cell x)) (sym first.are) (at_longer _ _ k (slot.Cell x) (at_map (λ y. slot.Cell y) (values_of z.world) k x (by_either (values_of z.world) k x value))));
-        journal = λ none. (
-          first.journal,
-          at_map (λ y. home.some y) slots (cells z.world) (slot.Journal first.journal) (subst (λ (xs : List Slot). get_elem? xs (cells z.world) ≡ home.some (slot.Journal first.journal)) (sym first.are) (at_last _ _ (cells z.world) size)),
-          record {
-            first = first.first;
-            entries = first.entries;
-            room = let left = all_left z.lists.ids in let room = first.room in omega (arith, left, room);
-          },
-        );
-      };
-      views = record {
-        terms = λ seat place v r at_seat at_place. sym (ap (λ (w : View D). w.terms) (one_view seat v at_seat).1);
-        each = λ seat place r has. is_record place r (in_first seat place r has).1;
-        some = λ c lt. (0, c, record_of (0 + c) (machine.fresh g), (first_view verdict z, refl, there 0 c start.callers (machine.fresh g) (fresh_there z.lists.ids c lt)), omega arith);
-        one = λ seat place seat' place' r q has has' same.
-            let a = in_first seat place r has in
-            let b = in_first seat' place' q has' in
-            let m = (from 0 place start.callers r a.1).0 in
-            let n = (from 0 place' start.callers q b.1).0 in
-            (a.0 ∙ sym b.0, omega (arith, m, n, same));
-        held = λ n t at_n some. absurd (some (tagged (Rattle.claim_core.specs.Cells.number z.world.area n) t at_n));
-      };
-      few = let left = all_left z.lists.ids in let few = ok.lists.few.in_all in omega (arith, left, few);
-    },
-  )
+  -- a table that begins like this stands for the opening,
+  pub opening_stands : IsSetup g → (words : List ℕ) (slots : List Slot) → words ≡ replicate (cells z.world + 1) 0 → AreFirstSlots z.world z.lists slots → Stands verdict z (opening words slots (first_view verdict z)) start
+  opening_stands ok words slots zeros first = record {
+    words = record {
+      count = ap (λ (ws : List ℕ). length ws) zeros ∙ length-replicate (cells z.world + 1) 0;
+      cell = λ k lt. ap (λ ws. slice_index ws k) zeros ∙ zero_at (cells z.world + 1) k ∙ sym (zero_of (values_of z.world) k);
+      journal = ap (λ ws. slice_index ws (cells z.world)) zeros ∙ zero_at (cells z.world + 1) (cells z.world);
+    };
+    homes = record {
+      count = length-map slots (λ x. home.some x) ∙ many;
+      cell = λ k x free value. at_map (λ y. home.some y) slots k (slot.Cell x) (subst (λ (xs : List Slot). get_elem? xs k ≡ home.some (slot.Cell x)) (sym first.are) (at_longer _ _ k (slot.Cell x) (at_map (λ y. slot.Cell y) (values_of z.world) k x (by_either (values_of z.world) k x value))));
+      journal = λ none. (
+        first.journal,
+        at_map (λ y. home.some y) slots (cells z.world) (slot.Journal first.journal) (subst (λ (xs : List Slot). get_elem? xs (cells z.world) ≡ home.some (slot.Journal first.journal)) (sym first.are) (at_last _ _ (cells z.world) size)),
+        record {
+          first = first.first;
+          entries = first.entries;
+          room = let left = all_left z.lists.ids in let room = first.room in omega (arith, left, room);
+        },
+      );
+    };
+    views = record {
+      terms = λ seat place v r at_seat at_place. sym (ap (λ (w : View D). w.terms) (one_view seat v at_seat).1);
+      each = λ seat place r has. is_record place r (in_first seat place r has).1;
+      some = λ c lt. (0, c, record_of (0 + c) (machine.fresh g), (first_view verdict z, refl, there 0 c start.callers (machine.fresh g) (fresh_there z.lists.ids c lt)), omega arith);
+      one = λ seat place seat' place' r q has has' same.
+          let a = in_first seat place r has in
+          let b = in_first seat' place' q has' in
+          let m = (from 0 place start.callers r a.1).0 in
+          let n = (from 0 place' start.callers q b.1).0 in
+          (a.0 ∙ sym b.0, omega (arith, m, n, same));
+      held = λ n t at_n some. absurd (some (tagged (Rattle.claim_core.specs.Cells.number z.world.area n) t at_n));
+    };
+    few = let left = all_left z.lists.ids in let few = ok.lists.few.in_all in omega (arith, left, few);
+  }
     where
       size : length (map (λ (x : Cell). slot.Cell x) (values_of z.world)) ≡ cells z.world
       size = length-map (values_of z.world) (λ (x : Cell). slot.Cell x) ∙ length-values z.world
@@ -144,6 +140,10 @@ module _ {D : Type 0} (verdict : D → Shown → Verdict) (z : Terms D) where
       tagged : (o : Option ℕ) (t : ℕ) → at start.tags o ≡ Some t → t ≡ 0
       tagged None t e = absurd (none-some t e)
       tagged (Some k) t e = zero_there (values_of z.world) k t e
+
+  -- to which no step leads
+  pub opens : IsSetup g → (words : List ℕ) (slots : List Slot) → words ≡ replicate (cells z.world + 1) 0 → AreFirstSlots z.world z.lists slots → Holds verdict z (opening words slots (first_view verdict z))
+  opens ok words slots zeros first = ([], opening_stands ok words slots zeros first)
 
   -- a field with these terms keeps what a field keeps
   pub is_field : (f : FieldOf D) → f.terms ≡ z → IsSetup g → f.table.words ≡ cells z.world + 1 → f.table.slots ≡ cells z.world + 1 → IsField verdict f z.decider z.world
@@ -160,3 +160,6 @@ module _ {D : Type 0} (verdict : D → Shown → Verdict) (z : Terms D) where
   slots_count slots first =
       ap (λ (xs : List Slot). length xs) first.are ∙ length-append (map (λ (x : Cell). slot.Cell x) (values_of z.world)) (slot.Journal first.journal ∷ [])
       ∙ (let s = length-map (values_of z.world) (λ (x : Cell). slot.Cell x) in let n = length-values z.world in omega (arith, s, n))
+
+pub opening_is : {D : Type 0} (verdict : D → Shown → Verdict) → OpeningStands verdict
+opening_is verdict z slots ok first = opening_stands verdict z ok (replicate (cells z.world + 1) 0) slots refl first

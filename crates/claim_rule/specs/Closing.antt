@@ -11,13 +11,14 @@ use Rattle.claim_core.specs.Reached.{HasValues}
 use Rattle.claim_rule.specs.declared.views.Record.{Record}
 use Rattle.claim_rule.specs.declared.views.Terms.{Terms}
 use Rattle.claim_rule.specs.Views.{setup}
-use Rattle.claim_rule.specs.Tokens.{Token, record_in, doing}
+use Rattle.claim_rule.specs.Stands.{IsRecord}
+use Rattle.claim_rule.specs.Tokens.{Token, record_in, number_in}
 
--- steps of the callers, the last one first, lead from the opening to a state in which each caller is as its seat knows it, with this
--- journal and, in its cells, the values of this world
+-- steps of the callers, the last one first, lead from the opening to a state in which what each seat knows is so, of its caller and of
+-- the entries that the caller committed, with this journal and, in its cells, the values of this world
 pub record ClosesAs {D : Type 0} (verdict : D → Shown → Verdict) (z : Terms D) (seats : List (Option (Token D))) (world : Config) (journal : Kept) : Type 0 where
   pub steps : List ℕ
-  pub callers : (c : ℕ) (t : Token D) → slice_get seats c ≡ Some (Some t) → slice_get (after (setup verdict z) steps).callers c ≡ Some (doing t)
+  pub callers : (c : ℕ) (t : Token D) → slice_get seats c ≡ Some (Some t) → (number_in t ≡ c) × IsRecord (setup verdict z) (after (setup verdict z) steps) (record_in t)
   pub first : journal.first ≡ z.world
   pub entries : journal.entries ≡ (after (setup verdict z) steps).journal
   pub values : HasValues (setup verdict z) (after (setup verdict z) steps) world

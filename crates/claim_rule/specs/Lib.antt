@@ -1,8 +1,10 @@
 pub mod Views
 pub mod Stands
 pub mod Plays
+pub mod Commits
 pub mod Nexts
 pub mod Tokens
+pub mod Settling
 pub mod Seating
 pub mod Opened
 pub mod Closing

@@ -1,5 +1,5 @@
 -- That each step of a seat is its caller's next step of the machine.
-use Rattle.std.specs.Prelude.{◌≡◌, ℕ, ◌==◌, List, [], ◌∷◌, slice_index}
+use Rattle.std.specs.Prelude.{◌≡◌, ℕ, ◌==◌, List, [], ◌∷◌, slice_index, bit_or}
 use mathlib.Core.Option.{none, some}
 use lib.ListN.{get_elem?}
 use prog.Atomic.{either}
@@ -15,6 +15,7 @@ use Rattle.claim_rule.specs.declared.views.View.{View}
 use Rattle.claim_rule.specs.Views.{Content, Seated, own, view_of, setup, cells}
 use Rattle.claim_rule.specs.Stands.{Stands}
 use Rattle.claim_rule.specs.Plays.{IsToTry, IsToFree, Reads, claimed, freed, read}
+use Rattle.claim_rule.specs.Commits.{Takes, IsToCommit, took, stored}
 
 module _ {D : Type 0} (verdict : D → Shown → Verdict) (z : Terms D) where
   -- the step that puts x in the word i: there is a new view of the seat, and an act on slots, with which the table stands for the
@@ -43,3 +44,13 @@ module _ {D : Type 0} (verdict : D → Shown → Verdict) (z : Terms D) where
   abbrev pub LookIsNext : Type 0
   LookIsNext = (s : Content D) (steps : List ℕ) (seat slots : ℕ) (r : Record) (out : List (ℕ × Slot)) → IsAt s steps seat r → Reads r.caller.phase
       → GoesOn s steps (cells z.world) seat (view_of z (r ∷ []), out) (read verdict (step slots (cells z.world) 0 0 none) (view_of z (r ∷ []), out)) (slice_index s.words (cells z.world))
+
+  -- a try to take the journal, which makes its word odd, or leaves it
+  abbrev pub TakeIsNext : Type 0
+  TakeIsNext = (s : Content D) (steps : List ℕ) (seat slots : ℕ) (r : Record) (out : List (ℕ × Slot)) → IsAt s steps seat r → Takes r.caller.phase
+      → GoesOn s steps (cells z.world) seat (view_of z (r ∷ []), out) (took (step slots (cells z.world) 1 0 none) (view_of z (r ∷ []), out)) (bit_or (slice_index s.words (cells z.world)) 1)
+
+  -- a commit, which puts twice the new length in the journal's word
+  abbrev pub CommitIsNext : Type 0
+  CommitIsNext = (s : Content D) (steps : List ℕ) (seat x slots : ℕ) (r : Record) (out : List (ℕ × Slot)) → IsAt s steps seat r → IsToCommit verdict (cells z.world) x (view_of z (r ∷ []), out)
+      → GoesOn s steps (cells z.world) seat (view_of z (r ∷ []), out) (λ _. stored verdict (step slots (cells z.world) x 0 none) (view_of z (r ∷ []), out) x) x

@@ -1,13 +1,12 @@
 -- What each step tells the seat that makes it: how its record changes, and nothing else.
-use Rattle.std.specs.Prelude.{◌≡◌, ◌≢◌, ℕ, ◌+◌, ◌*◌, ◌/◌, ◌<◌, ◌≤◌, List, [], ◌∷◌, ◌++◌, reverse, length, unwrap_or, IfSome}
-use Rattle.std.specs.declared.option.Option.{Option}
+use Rattle.std.specs.Prelude.{◌≡◌, ◌≢◌, ℕ, ◌/◌, ◌<◌, ◌≤◌, List, [], ◌∷◌, ◌++◌, reverse, length, unwrap_or, IfSome}
 use Rattle.std.specs.declared.option.Option.TheVariants.{Some, None}
 use Rattle.atomic_table.specs.Table.{Step, rest}
 use Rattle.amoebot_state.specs.declared.cell.CellName.{CellName}
 use Rattle.amoebot_state.specs.declared.cell.CellName.TheVariants as name
 use Rattle.amoebot_state.specs.declared.cell.Cell.{Cell}
 use Rattle.amoebot_state.specs.declared.verdict.Verdict.{Verdict}
-use Rattle.amoebot_state.specs.Pairs.{Pairs, body_in, cell_of}
+use Rattle.amoebot_state.specs.Pairs.{Pairs, body_in}
 use Rattle.amoebot_state.specs.Refusals.{IsPlain}
 use Rattle.amoebot_state.specs.Zones.{Shown, IsShown}
 use Rattle.claim_core.specs.declared.marks.Mark.{Mark}
@@ -51,6 +50,16 @@ Reads (Taking change) = ⊥
 Reads (Committing change) = ⊥
 Reads Releasing = ⊥
 Reads Ended = ⊥
+
+-- a caller in this phase holds its whole zone, and its turn has no mark
+abbrev pub HoldsZone : Phase → Type 0
+HoldsZone Claim = ⊥
+HoldsZone (Refusing n t) = ⊥
+HoldsZone (Looking l) = Unit {0}
+HoldsZone (Taking change) = Unit {0}
+HoldsZone (Committing change) = Unit {0}
+HoldsZone Releasing = ⊥
+HoldsZone Ended = ⊥
 
 -- the mark that it gets, at the place that is read
 abbrev pub mark_at : Phase → ℕ → Mark

@@ -1,5 +1,5 @@
 -- What contracts see of a field, of its seats, and of what is made of a seat.
-use Rattle.std.specs.Prelude.{◌≡◌, ◌≢◌, ◌⊎◌, ℕ, ◌+◌, ◌<◌, List, [], ◌∷◌, map, reverse, length, unwrap_or}
+use Rattle.std.specs.Prelude.{◌≡◌, ◌⊎◌, ℕ, ◌+◌, ◌<◌, List, [], ◌∷◌, map, length, unwrap_or}
 use Rattle.std.specs.List.{All}
 use Rattle.std.specs.declared.option.Option.{Option}
 use Rattle.std.specs.declared.option.Option.TheVariants.{Some, None}
@@ -13,10 +13,10 @@ use Rattle.amoebot_state.specs.Configs.{Config}
 use Rattle.amoebot_state.specs.Zones.{Shown}
 use Rattle.claim_core.specs.declared.state.Caller.{Caller}
 use Rattle.claim_core.specs.declared.state.Look.{Look}
-use Rattle.claim_core.specs.declared.state.Phase.TheVariants.{Claim, Refusing, Looking, Releasing}
+use Rattle.claim_core.specs.declared.state.Phase.TheVariants.{Refusing, Looking, Releasing}
 use Rattle.claim_core.specs.Cells.{number}
 use Rattle.claim_core.specs.Tags.{tag_caller, tag_turn, tag_bot}
-use Rattle.claim_core.specs.Machine.{Setup, bot, found, next_of, decided, after_win, opens, frees, caller}
+use Rattle.claim_core.specs.Machine.{bot, found, next_of, decided, after_win, opens, frees, caller}
 use Rattle.claim_core.specs.Soundness.{IsSetup}
 use Rattle.claim_rule.specs.declared.views.Slot.{Slot}
 use Rattle.claim_rule.specs.declared.views.Slot.TheVariants as slot
@@ -24,7 +24,7 @@ use Rattle.claim_rule.specs.declared.views.Record.{Record}
 use Rattle.claim_rule.specs.declared.views.Terms.{Terms}
 use Rattle.claim_rule.specs.declared.views.View.{View}
 use Rattle.claim_rule.specs.Views.{Seated, own, goes_on, setup, setup_at, cells}
-use Rattle.claim_rule.specs.Plays.{IsPlaced, IsKnown, about, bot_in}
+use Rattle.claim_rule.specs.Plays.{IsPlaced, IsKnown, IsOthers, about, bot_in}
 
 -- which table a field has, and what it is about
 pub record FieldOf (D : Type 0) : Type 0 where
@@ -85,10 +85,6 @@ module _ {D : Type 0} where
   abbrev pub IsMarked : Token D → Type 0
   IsMarked t = (doing t).phase ≡ Releasing
 
-  -- it found another's tag in this turn
-  pub record IsStopped (m : Seated D) (t : ℕ) : Type 0 where
-    pub turn : (own m.0).caller.turn ≡ t
-
   -- the seat is of this field
   pub record IsOf (f : FieldOf D) (t : Token D) : Type 0 where
     pub table : t.table ≡ f.table
@@ -146,6 +142,15 @@ module _ {D : Type 0} where
       pub turn : (own m.0).caller.turn ≡ t
       pub phase : (own m.0).caller.phase ≡ after_win (about verdict m.0) b held (next_of (about verdict m.0) b held)
       pub known : IsKnown (about verdict m.0) b held
+
+    -- in this turn it found the tag of another caller's turn at the next cell
+    pub record IsStopped (m : Seated D) (c t b : ℕ) (held : Pairs) : Type 0 where
+      pub turn : (own m.0).caller.turn ≡ t
+      pub cell : CellName
+      pub next : next_of (about verdict m.0) b held ≡ Some cell
+      pub tag : ℕ
+      pub other : IsOthers (about verdict m.0) c tag
+      pub phase : (own m.0).caller.phase ≡ Refusing cell tag
 
     -- it holds its whole zone, and has this verdict on it or its mark
     pub record IsWhole (m : Seated D) (t b : ℕ) (held : Pairs) (told : Shown) : Type 0 where

@@ -10,14 +10,17 @@ mod freeing;
 mod held;
 mod laws;
 mod make;
+mod renewal;
 mod rule;
 mod seat;
 mod seating;
 mod seats;
+mod settled;
 mod slots;
 mod step_laws;
 mod steps;
 mod stopped;
+mod taken;
 #[cfg(test)]
 mod tests;
 mod views;
@@ -26,10 +29,15 @@ pub use claimed::{Claimed, Seen, look, seal, unseal};
 pub use field::Field;
 pub use freeing::{Freeing, end, free_last};
 pub use held::{Held, begin, win};
-pub use laws::{field_ends_one_way, state_is_determined};
+pub use laws::{
+    ended_field_is_reached, field_ends_one_way, field_ends_sound, found_is_shown,
+    join_changes_nothing, opening_stands, split_changes_nothing, state_is_determined,
+};
 pub use rule::ClaimRule;
 pub use seat::Seat;
 pub use seats::Seats;
-pub use step_laws::{claim_is_next, look_is_next, release_is_next};
+pub use settled::{Receipt, Settled, unsettle};
+pub use step_laws::{claim_is_next, commit_is_next, look_is_next, release_is_next, take_is_next};
 pub use stopped::{Refused, Stopped, Tag, refuse};
+pub use taken::{Taken, store, take};
 pub use views::{Key, Record, Slot, Terms, View};

@@ -2,6 +2,7 @@
 ghost use Rattle.claim_rule.specs.Views.{terms_of};
 ghost use Rattle.claim_rule.specs.Stands.{Holds, first_view};
 ghost use Rattle.claim_rule.specs.Plays.{claimed, freed, read};
+ghost use Rattle.claim_rule.specs.Commits.{took, stored};
 
 use crate::views::{Key, Slot, View};
 use amoebot_state::Decider;
@@ -35,4 +36,18 @@ pub(crate) struct Read;
 
 impl<D: Decider> Play<Slot, View<D>> for Read {
     ghost then = { read D.verdict };
+}
+
+/// A try to take the journal.
+pub(crate) struct Take;
+
+impl<D: Decider> Play<Slot, View<D>> for Take {
+    ghost then = { took };
+}
+
+/// A commit.
+pub(crate) struct Commit;
+
+impl<D: Decider> Play<Slot, View<D>> for Commit {
+    ghost then = { stored D.verdict };
 }

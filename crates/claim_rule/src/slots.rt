@@ -1,13 +1,16 @@
-//! The moves of cells' values between their slots and a caller that holds them.
+//! The moves of cells' values, and of the journal, between their slots and a caller that holds them.
 ghost use Rattle.std.specs.Prelude.{◌≡◌, ◌∷◌};
 ghost use Rattle.amoebot_state.specs.declared.cell.Cell.{Cell};
 ghost use Rattle.atomic_table.specs.Table.{rest};
+ghost use Rattle.claim_core.specs.Turns.{Kept};
 ghost use Rattle.claim_rule.specs.declared.views.Slot.TheVariants as slot;
+ghost use Rattle.claim_rule.specs.Views.{cells};
 
 use crate::field::Field;
 use crate::views::{Slot, View};
 use amoebot_state::{Cell, Decider};
 use atomic_table::Seat;
+use claim_core::Journal;
 
 impl<'d, D: Decider> Field<'d, D> {
     /// Takes the value out of the slot of the cell that was won last.
@@ -32,6 +35,39 @@ impl<'d, D: Decider> Field<'d, D> {
         ensures filled { seat.new.me ≡ (seat.old.me.0, (cell, slot.Cell value) ∷ rest seat.old.me.1) }
     {
         match self.table.shared.exchange(seat, cell, Slot::Cell(value)) {
+            Slot::Empty => {}
+            _ => unreachable!(),
+        }
+    }
+
+    /// Takes the journal out of its slot, which was taken last.
+    pub(crate) fn take_journal_out(&self, seat: &mut Seat<Slot, View<D>>) -> Journal
+        requires table { seat.old.table_id ≡ self.now.table }
+        requires got { (j : Kept) × (seat.old.me.1 ≡ (cells self.now.terms.world, slot.Journal j) ∷ rest seat.old.me.1) }
+        ensures same { (seat.new.table_id ≡ seat.old.table_id) × (seat.new.id ≡ seat.old.id) }
+        ensures value { seat.old.me.1 ≡ (cells self.now.terms.world, slot.Journal result) ∷ rest seat.old.me.1 }
+        ensures emptied { seat.new.me ≡ (seat.old.me.0, (cells self.now.terms.world, slot.Empty) ∷ rest seat.old.me.1) }
+    {
+        let journal = self.journal_number();
+        match self.table.shared.exchange(seat, journal, Slot::Empty) {
+            Slot::Journal(journal) => journal,
+            _ => unreachable!(),
+        }
+    }
+
+    /// Puts the journal into its slot, which is out and empty.
+    pub(crate) fn put_journal_home(&self, seat: &mut Seat<Slot, View<D>>, journal: Journal)
+        requires table { seat.old.table_id ≡ self.now.table }
+        requires empty { seat.old.me.1 ≡ (cells self.now.terms.world, slot.Empty) ∷ rest seat.old.me.1 }
+        ensures same { (seat.new.table_id ≡ seat.old.table_id) × (seat.new.id ≡ seat.old.id) }
+        ensures filled { seat.new.me ≡ (seat.old.me.0, (cells self.now.terms.world, slot.Journal journal) ∷ rest seat.old.me.1) }
+    {
+        let number = self.journal_number();
+        match self
+            .table
+            .shared
+            .exchange(seat, number, Slot::Journal(journal))
+        {
             Slot::Empty => {}
             _ => unreachable!(),
         }

@@ -1,6 +1,6 @@
 //! Each step of a seat, at whatever table stands for a state, leads to a table that stands for the state after its caller's next step.
 ghost use Rattle.claim_rule.specs.declared.views.Terms.{Terms};
-ghost use Rattle.claim_rule.specs.Nexts.{ClaimIsNext, ReleaseIsNext, LookIsNext};
+ghost use Rattle.claim_rule.specs.Nexts.{ClaimIsNext, ReleaseIsNext, LookIsNext, TakeIsNext, CommitIsNext};
 
 use amoebot_state::Decider;
 
@@ -17,4 +17,14 @@ pub fn release_is_next<D: Decider>(_decider: &D)
 /// A look at the journal's length, for the mark of a turn that was refused or changes nothing.
 pub fn look_is_next<D: Decider>(_decider: &D)
     ensures { (z : Terms D) → LookIsNext D.verdict z }
+{}
+
+/// A try to take the journal, which is got or is found taken.
+pub fn take_is_next<D: Decider>(_decider: &D)
+    ensures { (z : Terms D) → TakeIsNext D.verdict z }
+{}
+
+/// The commit of a caller that has the journal.
+pub fn commit_is_next<D: Decider>(_decider: &D)
+    ensures { (z : Terms D) → CommitIsNext D.verdict z }
 {}

@@ -1,12 +1,13 @@
-//! The steps on words that callers make while they claim, look and release.
-ghost use Rattle.std.specs.Prelude.{◌≡◌, ◌≤◌, ◌∷◌, []};
+//! The steps on words that callers make.
+ghost use Rattle.std.specs.Prelude.{◌≡◌, ◌<◌, ◌≤◌, ◌*◌, ◌∷◌, []};
 ghost use mathlib.Core.Option.{none};
 ghost use Rattle.atomic_table.specs.Table.{step};
 ghost use Rattle.claim_rule.specs.Views.{own, view_of, goes_on, cells};
 ghost use Rattle.claim_rule.specs.Plays.{IsToTry, IsToFree, Reads, about, marked_at, claimed, freed, read};
+ghost use Rattle.claim_rule.specs.Commits.{Takes, IsToCommit, took, stored};
 
 use crate::field::Field;
-use crate::rule::{Claim, Free, Read};
+use crate::rule::{Claim, Commit, Free, Read, Take};
 use crate::views::{Slot, View};
 use amoebot_state::Decider;
 use atomic_table::Seat;
@@ -44,7 +45,7 @@ impl<'d, D: Decider> Field<'d, D> {
         ensures same { (seat.new.table_id ≡ seat.old.table_id) × (seat.new.id ≡ seat.old.id) }
         ensures told { read D.verdict (step self.now.table.slots (cells self.now.terms.world) 0 0 none) seat.old.me result seat.new.me }
     {
-        let journal = self.world.area().size() as usize + usize::from(self.world.bots());
+        let journal = self.journal_number();
         self.table.shared.load::<Read>(seat, journal)
     }
 
@@ -59,5 +60,38 @@ impl<'d, D: Decider> Field<'d, D> {
         ensures few { result ≤ 65536 }
     {
         (self.read(seat) / 2) as u32
+    }
+
+    /// One try to take the journal. It returns the journal's word as it was found, which is odd where another caller has it.
+    pub(crate) fn take_journal(&self, seat: &mut Seat<Slot, View<D>>) -> u64
+        requires table { seat.old.table_id ≡ self.now.table }
+        requires alone { seat.old.me.0 ≡ view_of self.now.terms (own seat.old.me.0 ∷ []) }
+        requires takes { Takes (own seat.old.me.0).caller.phase }
+        ensures same { (seat.new.table_id ≡ seat.old.table_id) × (seat.new.id ≡ seat.old.id) }
+        ensures told { took (step self.now.table.slots (cells self.now.terms.world) 1 0 none) seat.old.me result seat.new.me }
+    {
+        let journal = self.journal_number();
+        self.table.shared.fetch_or::<Take>(seat, journal, 1)
+    }
+
+    /// Frees the journal, which has this length now: the commit.
+    pub(crate) fn store_length(&self, seat: &mut Seat<Slot, View<D>>, length: u64)
+        requires table { seat.old.table_id ≡ self.now.table }
+        requires alone { seat.old.me.0 ≡ view_of self.now.terms (own seat.old.me.0 ∷ []) }
+        requires few { length ≤ 65536 }
+        requires commits { IsToCommit D.verdict (cells self.now.terms.world) (2 * length) seat.old.me }
+        ensures same { (seat.new.table_id ≡ seat.old.table_id) × (seat.new.id ≡ seat.old.id) }
+        ensures told { stored D.verdict (step self.now.table.slots (cells self.now.terms.world) (2 * length) 0 none) seat.old.me (2 * length) seat.new.me }
+    {
+        let journal = self.journal_number();
+        self.table.shared.store::<Commit>(seat, journal, 2 * length)
+    }
+
+    /// The number of the journal's word and of its slot, behind those of the cells.
+    pub(crate) fn journal_number(&self) -> usize
+        ensures number { result ≡ cells self.now.terms.world }
+        ensures word { result < self.now.table.words }
+    {
+        self.world.area().size() as usize + usize::from(self.world.bots())
     }
 }

@@ -135,7 +135,7 @@ impl<D: Decider> Model for Stopped<D> {
 
     ghost view = { λ s. record { table = s.activation.seat.table_id; view = s.activation.seat.me.0 } };
 
-    ghost invariant = { λ s. IsActivation D.verdict s.activation.seat.me s.activation.caller s.activation.turn s.activation.bot s.activation.area s.activation.maxes (reverse s.activation.cells.items) × IsStopped s.activation.seat.me s.activation.turn };
+    ghost invariant = { λ s. IsActivation D.verdict s.activation.seat.me s.activation.caller s.activation.turn s.activation.bot s.activation.area s.activation.maxes (reverse s.activation.cells.items) × IsStopped D.verdict s.activation.seat.me s.activation.caller s.activation.turn s.activation.bot (reverse s.activation.cells.items) };
 }
 
 /// The turn of a refused claim gets its mark: it reads the journal's length.

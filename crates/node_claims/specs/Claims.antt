@@ -30,7 +30,7 @@ module _ {D : Type 0} (verdict : D → Shown → Verdict) where
 
   -- cells were won in zone order, and at the next one another caller's tag was found; all of them are free again, and the turn has
   -- the mark that says so, and no other step was made
-  pub record IsRefused (old new : Token D) (by : RefusedOf) : Type 0 where
+  pub record WasRefused (old new : Token D) (by : RefusedOf) : Type 0 where
     pub won : Pairs
     pub in_order : AreInOrder (about verdict old.view) (bot_in verdict old.view) won
     pub cell : next_of (about verdict old.view) (bot_in verdict old.view) won ≡ Some by.cell

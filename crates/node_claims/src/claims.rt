@@ -1,12 +1,12 @@
 ghost use Rattle.std.specs.Prelude.{◌≡◌, ◌≤◌, ◌<◌, IfOk, IfErr};
 ghost use Rattle.claim_rule.specs.Plays.{about, bot_in, marked_at};
 ghost use Rattle.claim_rule.specs.Tokens.{IsOf, IsToLook, IsMarked, number_in, doing, goes, seen_of};
-ghost use Rattle.node_claims.specs.Claims.{IsClaimed, IsRefused, at_next, freed_all};
+ghost use Rattle.node_claims.specs.Claims.{IsClaimed, WasRefused, at_next, freed_all};
 
 use amoebot_state::Decider;
 use claim_rule::{
-    Claimed, Field, Freeing, Refused, Seat, Seen, begin, end, free_last, look, refuse, seal,
-    unseal, win,
+    Claimed, Field, Freeing, Refused, Seat, Seen, Settled, begin, end, free_last, look, refuse,
+    seal, unseal, unsettle, win,
 };
 
 /// Claims the zone of the caller's next turn, cell by cell in zone order. It stops at the first cell that another caller holds, and
@@ -21,7 +21,7 @@ pub fn try_claim<D: Decider>(
     requires turn { (turn ≡ (doing seat).turn) × (turn < (about D.verdict seat.view).lists.turns) }
     requires bot { bot ≡ bot_in D.verdict seat.view }
     ensures claimed { IfOk result (λ claimed. IsClaimed D.verdict seat claimed) }
-    ensures refused { IfErr result (λ by. IsRefused D.verdict seat by.0 by.1) }
+    ensures refused { IfErr result (λ by. WasRefused D.verdict seat by.0 by.1) }
 {
     let mut held = begin(seat, turn, bot);
     while let Some(cell) = held.next(field) {
@@ -54,6 +54,14 @@ pub fn release<D: Decider>(claimed: Claimed<D>, field: &Field<'_, D>) -> Seat<D>
     ensures { result ≡ goes claimed (at_next (about D.verdict claimed.view) (doing claimed).turn (doing claimed).marks) }
 {
     free_all(unseal(claimed), field)
+}
+
+/// Frees the zone of a turn that has committed, the cell that was won last first. The values stay as they were committed.
+pub fn release_settled<D: Decider>(settled: Settled<D>, field: &Field<'_, D>) -> Seat<D>
+    requires { IsOf field.now settled }
+    ensures { result ≡ goes settled (at_next (about D.verdict settled.view) (doing settled).turn (doing settled).marks) }
+{
+    free_all(unsettle(settled), field)
 }
 
 /// Frees all cells that are held.

@@ -3,4 +3,4 @@
 
 mod claims;
 
-pub use claims::{place, release, try_claim};
+pub use claims::{place, release, release_settled, try_claim};

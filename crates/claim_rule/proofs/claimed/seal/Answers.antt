@@ -1,5 +1,4 @@
-use Rattle.std.proofs.Common.{◌≡◌, reverse, None, refl, ap, sym, subst, ◌∙◌}
-use Rattle.amoebot_state.specs.Pairs.{Pairs}
+use Rattle.std.proofs.Common.{reverse, ap, sym, ◌∙◌}
 use Rattle.claim_rule.specs.Tokens.{next_in}
 use Rattle.claim_rule.proofs.Activating.{whole_is_shown}
 use Rattle.claim_rule.proofs.claimed.seal.Goals as goal

@@ -1,4 +1,4 @@
-use Rattle.std.proofs.Common.{◌≡◌, [], ap, sym, ◌∙◌}
+use Rattle.std.proofs.Common.{ap, sym, ◌∙◌}
 use Rattle.claim_rule.specs.Tokens.{Token, doing}
 use Rattle.claim_rule.proofs.Activating.{ends}
 use Rattle.claim_rule.proofs.freeing.end.Goals as goal

@@ -1,4 +1,4 @@
-use Rattle.std.proofs.Common.{◌≡◌, ◌∷◌, ◌++◌, [], reverse, Some, None, ap, sym, subst, ◌∙◌}
+use Rattle.std.proofs.Common.{reverse, ap, sym, ◌∙◌}
 use Rattle.std.proofs.lemmas.Option.{none-some}
 use Rattle.claim_core.specs.Cells.{number}
 use Rattle.claim_rule.proofs.Activating.{last_first, last_placed, to_free, frees_last}

@@ -1,4 +1,4 @@
-use Rattle.std.proofs.Common.{◌≡◌, ◌<◌, reverse, ap, sym, subst, ◌∙◌}
+use Rattle.std.proofs.Common.{◌<◌, reverse, ap, sym, subst, ◌∙◌}
 use Rattle.claim_rule.specs.Plays.{about, bot_in}
 use Rattle.claim_rule.specs.Tokens.{Token, doing}
 use Rattle.claim_rule.proofs.Activating.{begun}

@@ -1,14 +1,14 @@
-use Rattle.std.proofs.Common.{◌≡◌, ◌≢◌, ◌∷◌, ◌++◌, [], ℕ, reverse, Some, refl, ap, sym, subst, ◌∙◌}
+use Rattle.std.proofs.Common.{reverse, refl, ap, sym, subst, ◌∙◌}
 use Rattle.amoebot_state.specs.Pairs.{Pairs}
 use Rattle.claim_rule.specs.Tokens.{IsActivation, IsClaiming, next_in}
-use Rattle.claim_rule.proofs.Activating.{stays, wins, last_first}
+use Rattle.claim_rule.proofs.Activating.{stays, wins, stops, last_first}
 use Rattle.claim_rule.proofs.held.win.Goals as goal
 
 pub invariant_of-result : goal.invariant_of-result
 invariant_of-result g c =
     let told = c.claim-found.ensures.told.1 c.if-found-ne0.true in (
       stays g.D.Decider.verdict c.held.inside.activation.seat.me _ _ _ _ _ _ c.held.invariant.0 c.claim-found.new.seat.me _ told.0 refl told.1,
-      record { turn = ap (λ v. (Rattle.claim_rule.specs.Views.own v).caller.turn) told.0 ∙ c.held.invariant.1.turn },
+      stops g.D.Decider.verdict c.held.inside.activation.seat.me _ _ _ _ _ _ c.held.invariant.0 c.claim-found.new.seat.me c.args.cell _ c.held.invariant.1 (ap (next_in g.D.Decider.verdict) c.held.view_is ∙ c.requires.next) told.0 told.2,
     )
 
 pub invariant_of-result-2 : goal.invariant_of-result-2

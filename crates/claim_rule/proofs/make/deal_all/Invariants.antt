@@ -1,4 +1,4 @@
-use Rattle.std.proofs.Common.{◌≡◌, [], List, map, take, drop, Some}
+use Rattle.std.proofs.Common.{◌≡◌, [], map, take, drop, Some}
 use Rattle.claim_rule.specs.Views.{view_of}
 use Rattle.claim_rule.specs.Opened.{first_records, seat_with}
 use Rattle.claim_rule.proofs.make.deal_all.Given as goal

@@ -1,11 +1,9 @@
-use Rattle.std.proofs.Common.{rules, ◌≡◌, ◌*◌, ◌++◌, ◌∷◌, [], ℕ, ap, sym, ◌∙◌, arith, List, length}
+use Rattle.std.proofs.Common.{◌≡◌, ◌*◌, ◌++◌, ◌∷◌, [], ap, sym, ◌∙◌, arith, length}
 use Rattle.std.specs.Prelude.{unwrap_or}
 use Rattle.tri_lattice.specs.Extent.{Extent, node_at}
-use Rattle.amoebot_state.specs.declared.bot.Bot.{Bot}
 use Rattle.amoebot_state.specs.declared.cell.Cell.TheVariants as cell
-use Rattle.amoebot_state.specs.Configs.{blank, occupant, bot_of}
+use Rattle.amoebot_state.specs.Configs.{blank, occupant}
 use Rattle.claim_core.specs.Turns.{Kept}
-use Rattle.claim_rule.specs.declared.views.Slot.{Slot}
 use Rattle.claim_rule.specs.declared.views.Slot.TheVariants as slot
 use Rattle.claim_rule.proofs.FirstSlots.{nodes_so_far, bodies_so_far, one_more_node, one_more_body, all_slots}
 use Rattle.claim_rule.proofs.make.first_slots.Goals as goal

@@ -1,9 +1,8 @@
-use Rattle.std.proofs.Common.{rules, ◌≡◌, ◌+◌, ◌*◌, ◌∷◌, [], ℕ, List, length, ap, sym, ◌∙◌, arith}
-use Rattle.std.specs.Prelude.{replicate, IsSome}
+use Rattle.std.proofs.Common.{◌≡◌, ◌+◌, ◌*◌, ap, ◌∙◌, arith}
+use Rattle.std.specs.Prelude.{replicate}
 use Rattle.tri_lattice.specs.Extent.{Extent}
 use Rattle.claim_core.specs.Soundness.{IsSetup}
 use Rattle.claim_rule.specs.Views.{setup, terms_of, cells}
-use Rattle.claim_rule.specs.Tokens.{IsField}
 use Rattle.claim_rule.proofs.Opens.{opens, is_field, slots_count}
 use Rattle.claim_rule.proofs.make.open.Goals as goal
 

@@ -1,4 +1,4 @@
-use Rattle.std.proofs.Common.{rules, ◌≡◌, ◌∙◌}
+use Rattle.std.proofs.Common.{◌∙◌}
 use Rattle.claim_rule.proofs.Giving.{back_again}
 use Rattle.claim_rule.proofs.tests.+take_and_give.Goals as goal
 

@@ -1,4 +1,4 @@
-use Rattle.std.proofs.Common.{◌≡◌, ◌∷◌, [], ◌<◌, ◌+◌, ap, sym, subst, ◌∙◌, arith}
+use Rattle.std.proofs.Common.{◌∷◌, [], ap, sym, subst, ◌∙◌, arith}
 use Rattle.claim_rule.specs.Tokens.{FieldOf}
 use Rattle.claim_rule.specs.Views.{own, view_of}
 use Rattle.claim_rule.specs.Plays.{IsToTry}

@@ -1,4 +1,4 @@
-use Rattle.std.proofs.Common.{rules, ◌≡◌, ◌+◌, ◌*◌, length, ap, sym, ◌∙◌, arith, subst}
+use Rattle.std.proofs.Common.{◌≡◌, ◌+◌, ◌*◌, ap, sym, ◌∙◌, arith, subst}
 use Rattle.amoebot_state.specs.Steps.{Run}
 use Rattle.tri_lattice.specs.Extent.{Extent}
 use Rattle.claim_rule.specs.Views.{cells}

@@ -1,4 +1,4 @@
-use Rattle.std.proofs.Common.{rules, ◌≡◌, ◌∷◌, ap, sym, ◌∙◌, arith}
+use Rattle.std.proofs.Common.{◌∷◌, ap, sym, ◌∙◌, arith}
 use Rattle.claim_rule.specs.Tokens.{FieldOf}
 use Rattle.claim_rule.specs.Views.{view_of}
 use Rattle.claim_rule.proofs.Dealing.{splits_view}

@@ -1,5 +1,4 @@
-use Rattle.std.proofs.Common.{rules, ◌≡◌, ap, sym, ◌∙◌, arith, List}
-use Rattle.claim_rule.specs.declared.views.Record.{Record}
+use Rattle.std.proofs.Common.{ap, sym, ◌∙◌, arith}
 use Rattle.claim_rule.specs.Tokens.{FieldOf}
 use Rattle.claim_rule.specs.Views.{Seated, view_of}
 use Rattle.claim_rule.proofs.Dealing.{joins_views}

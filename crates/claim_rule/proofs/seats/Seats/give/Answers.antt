@@ -1,4 +1,4 @@
-use Rattle.std.proofs.Common.{rules, ◌≡◌, Some, set, ap, sym, ◌∙◌, subst}
+use Rattle.std.proofs.Common.{Some, set, ap, sym, ◌∙◌, subst}
 use Rattle.claim_rule.specs.Views.{Seated}
 use Rattle.claim_rule.specs.Tokens.{Token, number_in}
 use Rattle.claim_rule.specs.Seating.{SeatsOf, AreSeats}

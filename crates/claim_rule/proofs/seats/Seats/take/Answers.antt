@@ -1,4 +1,4 @@
-use Rattle.std.proofs.Common.{rules, ◌≡◌, ◌≢◌, ℕ, ◌<◌, length, Some, None, set, ap, sym, ◌∙◌, subst}
+use Rattle.std.proofs.Common.{◌≡◌, ◌≢◌, ℕ, ◌<◌, length, Some, None, set, sym, subst}
 use Rattle.std.specs.Prelude.{slice_get}
 use Rattle.claim_rule.specs.Seating.{AreSeats}
 use Rattle.claim_rule.proofs.Giving.{given, takes, takes_own}

@@ -1,0 +1,88 @@
+-- What a field leaves is sound, and reached once all callers have ended.
+use Rattle.std.proofs.Common.{◌≡◌, ℕ, ◌+◌, ◌<◌, List, [], ◌∷◌, map, length, Option, Some, ap, sym, refl, subst, ◌∙◌, arith}
+use Rattle.std.specs.Prelude.{slice_get, IsSome, IfSome}
+use Rattle.std.specs.List.{All}
+use Rattle.std.proofs.lemmas.List.{length-map}
+use Rattle.std.proofs.lemmas.Option.{get_or_from_slice_get}
+use Rattle.amoebot_state.specs.declared.verdict.Verdict.{Verdict}
+use Rattle.amoebot_state.specs.Configs.{Config}
+use Rattle.amoebot_state.specs.Steps.{Run}
+use Rattle.amoebot_state.specs.Zones.{Shown}
+use Rattle.claim_core.specs.declared.marks.Mark.{Mark}
+use Rattle.claim_core.specs.declared.state.Caller.{Caller}
+use Rattle.claim_core.specs.declared.state.Phase.TheVariants.{Ended}
+use Rattle.claim_core.specs.Turns.{Kept}
+use Rattle.claim_core.specs.Good.{Order}
+use Rattle.claim_core.specs.Machine.{Setup, State, after}
+use Rattle.claim_core.specs.Reached.{Reached}
+use Rattle.claim_core.specs.Soundness.{IsSetup, Sound}
+use Rattle.claim_core.proofs.Ends.{reached_is_good, same_world}
+use Rattle.claim_core.proofs.Holding.{framed}
+use Rattle.claim_core.proofs.Places.{get-map}
+use Rattle.claim_core.proofs.Sounds.{always}
+use Rattle.claim_rule.specs.declared.views.Terms.{Terms}
+use Rattle.claim_rule.specs.Views.{setup}
+use Rattle.claim_rule.specs.Tokens.{Token, doing}
+use Rattle.claim_rule.specs.Closing.{ClosesAs}
+use Rattle.claim_rule.specs.Laws.{FieldEndsSound, EndedFieldIsReached, marks_in, report_of}
+use Rattle.claim_rule.proofs.Closes.{some_there}
+use Rattle.claim_rule.proofs.Determined.{same_elements}
+
+module _ {D : Type 0} (verdict : D → Shown → Verdict) (z : Terms D) (seats : List (Option (Token D))) (world : Config) (journal : Kept) (ok : IsSetup (setup verdict z)) (ends : ClosesAs verdict z seats world journal) where
+  abbrev g : Setup
+  g = setup verdict z
+
+  abbrev s : State
+  s = after g ends.steps
+
+  sound : Sound g s
+  sound = always g ok ends.steps
+
+  -- what a seat knows is so of its caller
+  knows : (c : ℕ) (t : Token D) → slice_get seats c ≡ Some (Some t) → slice_get s.callers c ≡ Some (doing t)
+  knows c t e = let is = ends.callers c t e in ap (slice_get s.callers) (sym is.0) ∙ is.1.caller
+
+  last_is : world ≡ sound.last
+  last_is = same_world g s world sound.last ends.values (framed g ok s sound) sound.values
+
+  pub is_run : Run g.verdict g.world journal.entries world
+  is_run = subst (λ (q : List _ × Config). Run g.verdict g.world q.0 q.1) (λ i. (sym ends.entries i, sym last_is i)) sound.run
+
+  pub is_order : Order z.lists journal.entries
+  is_order = subst (Order z.lists) (sym ends.entries) sound.order
+
+  pub is_right : (c t : ℕ) (token : Token D) (m : Mark) → slice_get seats c ≡ Some (Some token) → slice_get (doing token).marks t ≡ Some m → Rattle.claim_core.specs.Soundness.TurnOkSoFar g s c t m
+  is_right c t token m there marked = (sound.each c (doing token) (knows c token there)).right t m marked
+
+  module _ (count : length seats ≡ length z.lists.ids) (full : All (λ o. IsSome o) seats) where
+    as_many : length s.callers ≡ length seats
+    as_many = sound.callers ∙ sym count
+
+    marks_are : map marks_in seats ≡ map (λ (k : Caller). k.marks) s.callers
+    marks_are = same_elements (map marks_in seats) (map (λ (k : Caller). k.marks) s.callers) (length-map seats marks_in ∙ sym as_many ∙ sym (length-map s.callers (λ (k : Caller). k.marks)))
+        (λ c lt.
+        let t = some_there seats c (omega (arith, lt, length-map seats marks_in)) full in
+        get-map marks_in seats c (Some t.0) t.1 ∙ sym (get-map (λ (k : Caller). k.marks) s.callers c (doing t.0) (knows c t.0 t.1)))
+
+    pub is_reached : All (λ o. IfSome o (λ token. (doing token).phase ≡ Ended)) seats → Reached g (report_of z seats world journal)
+    is_reached over = record {
+      steps = ends.steps;
+      ended = λ c d lt.
+          let t = some_there seats c (omega (arith, lt, as_many)) full in
+          let phase : (doing t.0).phase ≡ Ended = subst (λ o. IfSome o (λ token. (doing token).phase ≡ Ended)) (get_or_from_slice_get seats c (Some t.0) (Some t.0) t.1) (over c (Some t.0) (omega (arith, lt, as_many))) in
+          subst (λ (k : Caller). k.phase ≡ Ended) (sym (get_or_from_slice_get s.callers c (doing t.0) d (knows c t.0 t.1))) phase;
+      left = record {
+        first = ends.first;
+        entries = ends.entries;
+        world = ends.values;
+        marks = λ i. record { turns = z.lists.turns; marks = marks_are i };
+      };
+    }
+
+pub field_ends_sound : {D : Type 0} (verdict : D → Shown → Verdict) → FieldEndsSound verdict
+field_ends_sound verdict z seats world journal ok ends = (is_run verdict z seats world journal ok ends, is_order verdict z seats world journal ok ends, is_right verdict z seats world journal ok ends)
+
+pub ended_field_is_reached : {D : Type 0} (verdict : D → Shown → Verdict) → EndedFieldIsReached verdict
+ended_field_is_reached verdict z seats world journal ok count full over ends =
+    let reached = is_reached verdict z seats world journal ok ends count full over in
+    (reached, reached_is_good (setup verdict z) ok (report_of z seats world journal) reached)

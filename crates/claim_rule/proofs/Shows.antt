@@ -1,0 +1,43 @@
+-- What a caller has found that holds its whole zone.
+use Rattle.std.proofs.Common.{◌≡◌, ℕ, reverse, Some, ap, sym, ◌∙◌}
+use Rattle.std.specs.Prelude.{slice_get}
+use Rattle.amoebot_state.specs.declared.verdict.Verdict.{Verdict}
+use Rattle.amoebot_state.specs.Configs.{Config}
+use Rattle.amoebot_state.specs.Zones.{Shown, shown, zone}
+use Rattle.claim_core.specs.declared.state.Caller.{Caller}
+use Rattle.claim_core.specs.declared.state.Phase.{Phase}
+use Rattle.claim_core.specs.declared.state.Phase.TheVariants.{Claim, Refusing, Looking, Taking, Committing, Releasing, Ended}
+use Rattle.claim_core.specs.Machine.{Setup, State, bot, found, after}
+use Rattle.claim_core.specs.Soundness.{IsSetup, HasFront, CallerOk, Sound, names}
+use Rattle.claim_core.proofs.Fronts.{whole_shown}
+use Rattle.claim_core.proofs.Holding.{framed, same_area, valued}
+use Rattle.claim_core.proofs.Sounds.{always}
+use Rattle.claim_rule.specs.Views.{setup}
+use Rattle.claim_rule.specs.Plays.{HoldsZone}
+use Rattle.claim_rule.specs.Laws.{FoundIsShown}
+
+module _ (g : Setup) (ok : IsSetup g) (s : State) (sound : Sound g s) (c : ℕ) (k : Caller) (there : slice_get s.callers c ≡ Some k) where
+  abbrev b : ℕ
+  b = bot g c k.turn
+
+  -- in such a phase all names of the zone are held
+  whole : (p : Phase) → HasFront g s sound.last c k p → HoldsZone p → names k.held ≡ zone sound.last b
+  whole Claim front holds = absurd holds
+  whole (Refusing n t) front holds = absurd holds
+  whole (Looking l) front holds = front.whole
+  whole (Taking change) front holds = front.whole
+  whole (Committing change) front holds = front.whole
+  whole Releasing front holds = absurd holds
+  whole Ended front holds = absurd holds
+
+  shows : HoldsZone k.phase → found g b k.held ≡ shown sound.last b
+  shows holds =
+      let is : CallerOk g s sound.last c k = sound.each c k there in
+      (λ i. let a : Shown = record { area = sym (same_area g ok s sound) i; maxes = ap (λ (x : Config). x.maxes) (sym (framed g ok s sound).rest) i; bot = b; cells = reverse k.held } in a)
+      ∙ sym (whole_shown sound.last b k.held (valued g ok s sound c k is) (whole k.phase is.front holds))
+
+pub found_is_shown : {D : Type 0} (verdict : D → Shown → Verdict) → FoundIsShown verdict
+found_is_shown verdict z s steps seat place r ok st has holds =
+    let g = setup verdict z in
+    let sound = always g ok steps in
+    (sound.last, sound.run, shows g ok (after g steps) sound r.number r.caller (st.views.each seat place r has).caller holds)

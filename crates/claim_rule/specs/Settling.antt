@@ -1,0 +1,62 @@
+-- What contracts see of a caller that has the journal, and of one that has committed.
+use Rattle.std.specs.Prelude.{◌≡◌, ℕ, ◌<◌, List, [], ◌∷◌}
+use Rattle.std.specs.declared.option.Option.TheVariants.{Some, None}
+use Rattle.atomic_table.specs.Table.{rest}
+use Rattle.tri_lattice.specs.Extent.{Extent}
+use Rattle.amoebot_state.specs.declared.verdict.Change.{Change}
+use Rattle.amoebot_state.specs.declared.verdict.Verdict.{Verdict}
+use Rattle.amoebot_state.specs.Pairs.{Pairs}
+use Rattle.amoebot_state.specs.Zones.{Shown}
+use Rattle.claim_core.specs.declared.state.Phase.TheVariants.{Taking, Committing}
+use Rattle.claim_core.specs.Turns.{Kept}
+use Rattle.claim_core.specs.Machine.{next_of}
+use Rattle.claim_rule.specs.declared.views.Slot.TheVariants as slot
+use Rattle.claim_rule.specs.declared.views.Record.{Record}
+use Rattle.claim_rule.specs.Views.{Seated, own, like, cells}
+use Rattle.claim_rule.specs.Plays.{about}
+use Rattle.claim_rule.specs.Tokens.{Token, IsActivation, record_in, number_in, doing}
+use Rattle.claim_rule.specs.Commits.{HasRoom, with_journal, with_commit}
+
+-- a turn, and the place of the entry that it committed
+pub record ReceiptOf : Type 0 where
+  pub caller : ℕ
+  pub turn : ℕ
+  pub place : ℕ
+
+abbrev pub receipt_of : ℕ → ℕ → ℕ → ReceiptOf
+receipt_of c t place = record { caller = c; turn = t; place = place }
+
+module _ {D : Type 0} where
+  -- the seat where its caller's record has changed
+  abbrev pub with_record : Token D → Record → Token D
+  with_record t r = record t { view = like t.view (r ∷ []) }
+
+  -- the whole zone is held, the verdict on it is this change, and the caller does not have the journal
+  abbrev pub IsToTake : Token D → Change → Type 0
+  IsToTake t change = (doing t).phase ≡ Taking change
+
+  -- the caller has got the journal, for this change
+  abbrev pub HasGot : Token D → Token D → Change → Type 0
+  HasGot old new change = (j : Kept) × (new ≡ with_record old (with_journal (record_in old) change j))
+
+  -- the seat without the journal and its slot
+  abbrev pub untaken : Seated D → Seated D
+  untaken m = (like m.0 (record (own m.0) { taken = None } ∷ []), rest m.1)
+
+  module _ (verdict : D → Shown → Verdict) where
+    -- it has committed this change: its record has gained the entry with the place in the receipt and what was found, and the turn its mark
+    pub record HasStored (old new : Token D) (change : Change) (receipt : ReceiptOf) : Type 0 where
+      pub now : new ≡ with_record old (with_commit (about verdict old.view) (record_in old) change receipt.place)
+      pub told : receipt ≡ receipt_of (number_in old) (doing old).turn receipt.place
+      pub few : receipt.place < 65536
+
+    -- it holds its whole zone and the journal, as it was taken, whose slot is out, and empty; but for the journal it is as it was
+    pub record IsTaken (m : Seated D) (c t b : ℕ) (a : Extent) (greatest : List ℕ) (pairs : Pairs) (change : Change) (j : Kept) : Type 0 where
+      pub alone : m.0.records ≡ own m.0 ∷ []
+      pub activation : IsActivation verdict (untaken m) c t b a greatest pairs
+      pub turn : (own m.0).caller.turn ≡ t
+      pub whole : next_of (about verdict m.0) b pairs ≡ None
+      pub phase : (own m.0).caller.phase ≡ Committing change
+      pub taken : (own m.0).taken ≡ Some j
+      pub room : HasRoom j
+      pub out : m.1 ≡ (cells (about verdict m.0).world, slot.Empty) ∷ rest m.1

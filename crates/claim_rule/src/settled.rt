@@ -1,0 +1,70 @@
+ghost use Rattle.std.specs.Prelude.{◌≡◌, ◌<◌, length};
+ghost use Rattle.claim_rule.specs.Tokens.{doing};
+
+use crate::activation::Activation;
+use crate::freeing::Freeing;
+use amoebot_state::Decider;
+use std::marker::Model;
+
+/// The place in the journal of the entry that a turn committed.
+#[derive(Drop)]
+pub struct Receipt {
+    pub(crate) caller: u8,
+    pub(crate) turn: u32,
+    pub(crate) place: u32,
+}
+
+impl Model for Receipt {
+    ghost use Rattle.claim_rule.specs.Settling.{ReceiptOf};
+
+    ghost Value = { ReceiptOf };
+
+    ghost view = { λ r. record { caller = r.caller; turn = r.turn; place = r.place } };
+}
+
+impl Receipt {
+    pub fn caller(&self) -> u8
+        ensures { result ≡ self.now.caller }
+    {
+        self.caller
+    }
+
+    pub fn turn(&self) -> u32
+        ensures { result ≡ self.now.turn }
+    {
+        self.turn
+    }
+
+    /// The number of entries before the turn's own.
+    pub fn place(&self) -> u32
+        ensures { result ≡ self.now.place }
+    {
+        self.place
+    }
+}
+
+/// A caller that has committed, and still holds the whole zone, with the values after the commit. Its turn has its mark.
+#[derive(Drop)]
+pub struct Settled<D: Decider> {
+    pub(crate) activation: Activation<D>,
+}
+
+impl<D: Decider> Model for Settled<D> {
+    ghost use Rattle.std.specs.Prelude.{◌<◌, reverse, length};
+    ghost use Rattle.claim_rule.specs.Tokens.{Token, IsActivation, IsFreeing};
+
+    ghost Value = { Token D };
+
+    ghost view = { λ s. record { table = s.activation.seat.table_id; view = s.activation.seat.me.0 } };
+
+    ghost invariant = { λ s. IsActivation D.verdict s.activation.seat.me s.activation.caller s.activation.turn s.activation.bot s.activation.area s.activation.maxes (reverse s.activation.cells.items) × IsFreeing D.verdict s.activation.seat.me s.activation.turn (reverse s.activation.cells.items) × (0 < length (reverse s.activation.cells.items)) };
+}
+
+/// The cells are to be freed. There is one at least, the own body.
+pub fn unsettle<D: Decider>(settled: Settled<D>) -> Freeing<D>
+    ensures same { result ≡ settled }
+    ensures some { 0 < length (doing settled).held }
+{
+    let Settled { activation } = settled;
+    Freeing { activation }
+}

@@ -1,0 +1,97 @@
+ghost use Rattle.std.specs.Prelude.{◌≡◌, ◌<◌, length, IfOk, IfErr};
+ghost use Rattle.amoebot_state.specs.declared.verdict.Change.{Change as ChangeValue};
+ghost use Rattle.claim_core.specs.declared.state.Phase.TheVariants.{Committing};
+ghost use Rattle.claim_rule.specs.Tokens.{IsOf, doing};
+ghost use Rattle.claim_rule.specs.Settling.{HasGot, HasStored, IsToTake};
+
+use crate::activation::Activation;
+use crate::claimed::Claimed;
+use crate::field::Field;
+use crate::renewal::renew;
+use crate::settled::{Receipt, Settled};
+use amoebot_state::{Change, Decider, Entry};
+use claim_core::Journal;
+use std::marker::Model;
+
+/// A caller that holds the whole zone of its turn's amoebot, and the journal, and commits its change next.
+#[derive(Drop)]
+pub struct Taken<D: Decider> {
+    activation: Activation<D>,
+    change: Change,
+    journal: Journal,
+}
+
+impl<D: Decider> Model for Taken<D> {
+    ghost use Rattle.std.specs.Prelude.{reverse};
+    ghost use Rattle.claim_rule.specs.Tokens.{Token};
+    ghost use Rattle.claim_rule.specs.Settling.{IsTaken};
+
+    ghost Value = { Token D };
+
+    ghost view = { λ t. record { table = t.activation.seat.table_id; view = t.activation.seat.me.0 } };
+
+    ghost invariant = { λ t. IsTaken D.verdict t.activation.seat.me t.activation.caller t.activation.turn t.activation.bot t.activation.area t.activation.maxes (reverse t.activation.cells.items) t.change t.journal };
+}
+
+/// One try to take the journal, for the change that was decided on what the claim found. The claim and the change come back as they
+/// were where this step found that another caller has it.
+pub fn take<D: Decider>(
+    claimed: Claimed<D>,
+    field: &Field<'_, D>,
+    change: Change,
+) -> Result<Taken<D>, (Claimed<D>, Change)>
+    requires field { IsOf field.now claimed }
+    requires change { IsToTake claimed change }
+    ensures got { IfOk result (λ taken. HasGot claimed taken change) }
+    ensures busy { IfErr result (λ back. (back.0 ≡ claimed) × (back.1 ≡ change)) }
+{
+    let Claimed {
+        mut activation,
+        found,
+    } = claimed;
+    let word = field.take_journal(&mut activation.seat);
+    if word % 2 != 0 {
+        return Err((Claimed { activation, found }, change));
+    }
+    let journal = field.take_journal_out(&mut activation.seat);
+    Ok(Taken {
+        activation,
+        change,
+        journal,
+    })
+}
+
+/// The commit, one step: the entry joins the journal, which is free again, and the cells that are held have the values of the patch.
+pub fn store<D: Decider>(taken: Taken<D>, field: &Field<'_, D>) -> (Settled<D>, Receipt)
+    requires field { IsOf field.now taken }
+    ensures { (change : ChangeValue) × ((doing taken).phase ≡ Committing change) × HasStored D.verdict taken result.0 change result.1 }
+{
+    let Taken {
+        mut activation,
+        change,
+        mut journal,
+    } = taken;
+    let Change {
+        action,
+        moved,
+        patch,
+    } = change;
+    let place = journal.entries().len() as u32;
+    renew(activation.cells.as_mut_slice(), patch.pairs());
+    journal.push(Entry {
+        caller: activation.caller,
+        turn: activation.turn,
+        bot: activation.bot,
+        action,
+        moved,
+        patch,
+    });
+    field.put_journal_home(&mut activation.seat, journal);
+    field.store_length(&mut activation.seat, u64::from(place) + 1);
+    let receipt = Receipt {
+        caller: activation.caller,
+        turn: activation.turn,
+        place,
+    };
+    (Settled { activation }, receipt)
+}
