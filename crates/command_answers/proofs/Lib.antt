@@ -1,4 +1,5 @@
 pub mod Outcomes
+pub mod OwedTexts
 pub mod Owing
 pub mod Samples
 pub mod SmallDocuments

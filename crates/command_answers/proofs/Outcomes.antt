@@ -1,21 +1,17 @@
 -- What is owed for a document, and by whom a report is owed.
-use Rattle.std.proofs.Common.{◌≡◌, ℕ, List, Option, Some, None, refl, subst, inl, inr}
+use Rattle.std.proofs.Common.{ℕ, List, refl, subst, inl, inr}
+use Rattle.std.proofs.lemmas.Bool.{false≢true}
 use Rattle.claim_core.specs.declared.report.Report.{Report}
 use Rattle.document_grammar.specs.declared.section.Form.TheVariants as form
 use Rattle.document_grammar.specs.Documents.{Contents, Holds, DocumentsAreDecided}
 use Rattle.command_runs.specs.Laws.{GoodStaysConnected}
-use Rattle.command_answers.specs.declared.command.Command.{Command}
-use Rattle.command_answers.specs.declared.command.Command.TheVariants.{Run, Interleave, Replay, Check}
-use Rattle.command_answers.specs.declared.status.Status.{Status}
-use Rattle.command_answers.specs.declared.status.Status.TheVariants as status
 use Rattle.command_answers.specs.Commands.{form_of}
-use Rattle.command_answers.specs.Reads.{Read, whole}
 use Rattle.command_answers.specs.OfRun.{IsTextOfRun, IsForLater}
 use Rattle.command_answers.specs.OfInterleave.{IsTextOfInterleave}
 use Rattle.command_answers.specs.OfReplay.{IsDiffering}
-use Rattle.command_answers.specs.Owed.{IsTextOf, of_run, of_interleave, of_replay, of_check, IsOwed, usage, read_fault, longer, refused, later, differs, done}
-use Rattle.command_answers.specs.Outcomes.{IsOutcome, is_done, is_differing, is_for_later}
-use Rattle.command_answers.specs.Headline.{MakesTurns, IsRunOfDocument}
+use Rattle.command_answers.specs.Owed.{IsTextOf, of_run, of_interleave, of_replay, of_check, usage, read_fault, longer, refused, later, differs, done}
+use Rattle.command_answers.specs.Outcomes.{is_done, is_differing, is_for_later}
+use Rattle.command_answers.specs.Headline.{IsRunOfDocument}
 use Rattle.command_answers.specs.Laws.{DocumentsHaveOutcomes, ReportsAreOfTurns, ReportsAreOfDocuments}
 use Rattle.command_answers.proofs.Owing.{same_contents, not_both}
 
@@ -26,16 +22,16 @@ documents_have_outcomes documents c bytes a s report text h (differs same b plac
 documents_have_outcomes documents c bytes a s report text h (done d same b told v x l) = is_done report text (subst (λ (k : Contents). IsTextOf k c report text) (same_contents documents (form_of c) bytes b a x h) l)
 
 pub reports_are_of_turns : ReportsAreOfTurns
-reports_are_of_turns c read s report text usage = (λ some. absurd some, λ (is, makes). cc)
-reports_are_of_turns c read s report text (read_fault d got) = (λ some. absurd some, λ (is, makes). cc)
-reports_are_of_turns c read s report text (longer d got) = (λ some. absurd some, λ (is, makes). cc)
-reports_are_of_turns c read s report text (refused d bytes r x) = (λ some. absurd some, λ (is, makes). cc)
-reports_are_of_turns c read s report text (later bytes a x l) = (λ some. absurd some, λ (is, makes). cc)
-reports_are_of_turns c read s report text (differs bytes a place x l) = (λ some. absurd some, λ (is, makes). cc)
-reports_are_of_turns c read s report text (done d bytes a told v x (of_run r t y)) = (λ some. (refl, inl refl), λ both. tt)
-reports_are_of_turns c read s report text (done d bytes a told v x (of_interleave r t y)) = (λ some. (refl, inr refl), λ both. tt)
-reports_are_of_turns c read s report text (done d bytes a told v x (of_replay t y)) = (λ some. absurd some, λ (is, makes). elim makes [ inl e ↦ cc | inr e ↦ cc ])
-reports_are_of_turns c read s report text (done d bytes a told v x (of_check t y)) = (λ some. absurd some, λ (is, makes). elim makes [ inl e ↦ cc | inr e ↦ cc ])
+reports_are_of_turns c read s report text usage = (λ some. absurd (false≢true some), λ (is, makes). cc)
+reports_are_of_turns c read s report text (read_fault d got) = (λ some. absurd (false≢true some), λ (is, makes). cc)
+reports_are_of_turns c read s report text (longer d got) = (λ some. absurd (false≢true some), λ (is, makes). cc)
+reports_are_of_turns c read s report text (refused d bytes r x) = (λ some. absurd (false≢true some), λ (is, makes). cc)
+reports_are_of_turns c read s report text (later bytes a x l) = (λ some. absurd (false≢true some), λ (is, makes). cc)
+reports_are_of_turns c read s report text (differs bytes a place x l) = (λ some. absurd (false≢true some), λ (is, makes). cc)
+reports_are_of_turns c read s report text (done d bytes a told v x (of_run r t y)) = (λ some. (refl, inl refl), λ both. refl)
+reports_are_of_turns c read s report text (done d bytes a told v x (of_interleave r t y)) = (λ some. (refl, inr refl), λ both. refl)
+reports_are_of_turns c read s report text (done d bytes a told v x (of_replay t y)) = (λ some. absurd (false≢true some), λ (is, makes). elim makes [ inl e ↦ cc | inr e ↦ cc ])
+reports_are_of_turns c read s report text (done d bytes a told v x (of_check t y)) = (λ some. absurd (false≢true some), λ (is, makes). elim makes [ inl e ↦ cc | inr e ↦ cc ])
 
 module _ (stays : GoodStaysConnected) where
   told_by_run : (bytes : List ℕ) (a : Contents) (report : Report) (text : List ℕ) → Holds form.Run bytes a → IsTextOfRun a report text → IsRunOfDocument form.Run bytes report text

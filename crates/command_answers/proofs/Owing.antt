@@ -1,5 +1,5 @@
 -- One thing is owed.
-use Rattle.std.proofs.Common.{◌≡◌, ◌<◌, ℕ, List, length, Option, Some, None, Result, Ok, Err, ap, sym, subst, refl, ◌∙◌, arith}
+use Rattle.std.proofs.Common.{◌≡◌, ℕ, List, length, Option, Some, Result, Ok, Err, ap, sym, subst, refl, ◌∙◌, arith}
 use Rattle.std.proofs.lemmas.Option.{same_Some}
 use Rattle.text_tokens.specs.declared.refusal.Refusal.{Refusal}
 use Rattle.amoebot_state.specs.declared.verdict.Entry.{Entry}
@@ -16,19 +16,16 @@ use Rattle.command_runs.specs.Run.{IsRunText}
 use Rattle.command_runs.specs.Interleave.{IsInterleaveText}
 use Rattle.command_runs.specs.Replay.{agrees_line, differs_line, DiffersAt}
 use Rattle.command_runs.specs.Check.{check_text}
-use Rattle.command_runs.specs.Laws.{SameReport, RunTextIsOne, InterleaveTextIsOne, ReplayIsDecided}
+use Rattle.command_runs.specs.Laws.{RunTextIsOne, InterleaveTextIsOne, ReplayIsDecided}
 use Rattle.command_answers.specs.declared.command.Command.{Command}
 use Rattle.command_answers.specs.declared.command.Command.TheVariants.{Run, Replay}
-use Rattle.command_answers.specs.declared.status.Status.{Status}
 use Rattle.command_answers.specs.declared.status.Status.TheVariants as status
 use Rattle.command_answers.specs.Lines.{refusal_line}
-use Rattle.command_answers.specs.Reads.{Read}
 use Rattle.command_answers.specs.OfRun.{IsTextOfRun, IsForLater}
 use Rattle.command_answers.specs.OfInterleave.{IsTextOfInterleave}
-use Rattle.command_answers.specs.OfReplay.{HasJournal, IsTextOfReplay, IsDiffering}
-use Rattle.command_answers.specs.OfCheck.{IsTextOfCheck}
-use Rattle.command_answers.specs.Owed.{IsTextOf, of_run, of_interleave, of_replay, of_check, IsOwed, usage, read_fault, longer, refused, later, differs, done}
-use Rattle.command_answers.specs.Laws.{SameIfAny, SameOwed, OwedIsOne}
+use Rattle.command_answers.specs.OfReplay.{HasJournal, IsDiffering}
+use Rattle.command_answers.specs.Owed.{IsTextOf, of_run, of_interleave, of_replay, of_check, usage, read_fault, longer, refused, later, differs, done}
+use Rattle.command_answers.specs.Laws.{SameIfAny, OwedIsOne}
 
 same_one : {A : Type 0} {o : Option A} (x y : A) → o ≡ Some x → o ≡ Some y → x ≡ y
 same_one x y e f = same_Some x y (sym e ∙ f)

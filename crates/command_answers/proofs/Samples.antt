@@ -1,5 +1,5 @@
 -- The answers of the samples: the steps of the schedule are computed, and what they leave is also what the turns leave.
-use Rattle.std.proofs.Common.{◌≡◌, ◌<◌, ℕ, List, [], ◌∷◌, ◌++◌, Some, None, Ok, Err, zero, suc, refl, ap, sym, subst, arith, codes}
+use Rattle.std.proofs.Common.{◌≡◌, ℕ, [], ◌∷◌, ◌++◌, Some, None, Ok, Err, zero, suc, refl, ap, sym, subst, arith, codes}
 use Rattle.std.specs.Prelude.{is_some, reverse}
 use Rattle.std.specs.Fmt.{digits}
 use Rattle.std.specs.List.{All}

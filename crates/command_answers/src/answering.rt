@@ -1,6 +1,6 @@
 //! What a command answers to a whole input.
 
-ghost use Rattle.std.specs.Prelude.{◌≡◌, ◌<◌, ◌≤◌, ◌+◌, length, IfOk, Some};
+ghost use Rattle.std.specs.Prelude.{◌≡◌, ◌<◌, ◌≤◌, ◌+◌, ◌^◌, length, IfOk, Some};
 ghost use Rattle.document_grammar.specs.Fitting.{Fits};
 ghost use Rattle.shape_files.specs.Views.{contents};
 ghost use Rattle.command_answers.specs.Answers.{IsAnswerTo, done_with, refused_with};
@@ -61,6 +61,7 @@ fn answer_document(alloc: Global, command: Command, parts: Parts) -> Result<Answ
     }
 }
 
+/// The answer that is the line of a refusal.
 fn refuse(alloc: Global, refusal: Refusal) -> Result<Answer, NoMemory>
     ensures { IfOk result (λ a. a ≡ refused_with refusal) }
 {
@@ -76,83 +77,92 @@ fn refuse(alloc: Global, refusal: Refusal) -> Result<Answer, NoMemory>
     })
 }
 
+/// Its lists are run, if there is at most one.
 fn answer_run(alloc: Global, parts: Parts) -> Result<Answer, NoMemory>
     requires { Fits (form_of Command.Run) (contents parts) }
     ensures { IfOk result (IsAnswerTo Command.Run (contents parts)) }
 {
     let Parts {
-        checked: Some(checked),
-        world: Some(world),
-        lists: Some(lists),
+        checked,
+        world,
+        lists,
         ..
-    } = parts
-    else {
-        unreachable!();
-    };
+    } = parts;
+    let lists = lists.unwrap();
     if lists.callers() > 1 {
         return refuse(alloc, NOT_YET);
     }
+    let checked = checked.unwrap();
     let vars = checked.vars();
-    let report = run_serially(alloc, &Runner::new(checked), world, &lists)?;
+    let runner = Runner::new(checked);
+    let report = run_serially(alloc, &runner, world.unwrap(), &lists)?;
     answer_report(alloc, report, vars)
 }
 
+/// The steps of its schedule are made.
 fn answer_interleave(alloc: Global, parts: Parts) -> Result<Answer, NoMemory>
     requires { Fits (form_of Command.Interleave) (contents parts) }
     ensures { IfOk result (IsAnswerTo Command.Interleave (contents parts)) }
 {
     let Parts {
-        checked: Some(checked),
-        world: Some(world),
-        lists: Some(lists),
-        schedule: Some(schedule),
+        checked,
+        world,
+        lists,
+        schedule,
         ..
-    } = parts
-    else {
-        unreachable!();
-    };
+    } = parts;
+    let checked = checked.unwrap();
+    let lists = lists.unwrap();
+    let schedule = schedule.unwrap();
     let vars = checked.vars();
-    let report = run_interleaved(alloc, &Runner::new(checked), world, &lists, &schedule)?;
+    let runner = Runner::new(checked);
+    let report = run_interleaved(alloc, &runner, world.unwrap(), &lists, &schedule)?;
     answer_report(alloc, report, vars)
 }
 
+/// Its journal is compared with a run.
 fn answer_replay(alloc: Global, parts: Parts) -> Result<Answer, NoMemory>
     requires { Fits (form_of Command.Replay) (contents parts) }
     ensures { IfOk result (IsAnswerTo Command.Replay (contents parts)) }
 {
     let Parts {
-        checked: Some(checked),
-        world: Some(world),
-        entries: Some(entries),
-        final_world: Some(last),
+        checked,
+        world,
+        entries,
+        final_world,
         ..
-    } = parts
-    else {
-        unreachable!();
-    };
-    let entries = entries.entries();
-    let (status, text) = match compare(&Runner::new(checked), world, entries, &last) {
-        Ok(()) => (Status::Done, print_agrees(alloc, entries.len())?),
-        Err(differs) => (
-            Status::Differs(differs.place),
-            print_differs(alloc, differs.place)?,
-        ),
-    };
-    Ok(Answer {
-        status,
-        report: None,
-        text,
-    })
+    } = parts;
+    let runner = Runner::new(checked.unwrap());
+    let journal = entries.unwrap();
+    let entries = journal.entries();
+    let last = final_world.unwrap();
+    match compare(&runner, world.unwrap(), entries, &last) {
+        Ok(()) => {
+            let text = print_agrees(alloc, entries.len())?;
+            Ok(Answer {
+                status: Status::Done,
+                report: None,
+                text,
+            })
+        }
+        Err(differs) => {
+            let text = print_differs(alloc, differs.place)?;
+            Ok(Answer {
+                status: Status::Differs(differs.place),
+                report: None,
+                text,
+            })
+        }
+    }
 }
 
+/// Its program is printed.
 fn answer_check(alloc: Global, parts: Parts) -> Result<Answer, NoMemory>
     requires { Fits (form_of Command.Check) (contents parts) }
     ensures { IfOk result (IsAnswerTo Command.Check (contents parts)) }
 {
-    let Some(checked) = parts.checked else {
-        unreachable!();
-    };
-    let text = print_check(alloc, checked.program())?;
+    let Parts { checked, .. } = parts;
+    let text = print_check(alloc, checked.unwrap().program())?;
     Ok(Answer {
         status: Status::Done,
         report: None,

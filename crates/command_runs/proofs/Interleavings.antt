@@ -1,5 +1,5 @@
 -- Steps of a schedule, and the rounds behind them.
-use Rattle.std.proofs.Common.{◌≡◌, ℕ, ◌<◌, ◌+◌, List, [], ◌∷◌, ◌++◌, length, take, ap, sym, subst, ◌∙◌, arith}
+use Rattle.std.proofs.Common.{◌≡◌, ℕ, List, ap, sym, subst, ◌∙◌}
 use Rattle.std.specs.Prelude.{reverse}
 use Rattle.amoebot_state.specs.declared.verdict.Verdict.{Verdict}
 use Rattle.amoebot_state.specs.Configs.{Config}
@@ -7,10 +7,10 @@ use Rattle.amoebot_state.specs.Zones.{Shown}
 use Rattle.claim_core.specs.declared.report.Report.{Report}
 use Rattle.claim_core.specs.Turns.{CallerLists}
 use Rattle.claim_core.specs.Good.{Good}
-use Rattle.claim_core.specs.Machine.{next, after}
+use Rattle.claim_core.specs.Machine.{after}
 use Rattle.claim_core.specs.Reached.{HaveEnded, IsReportOf, Reached}
 use Rattle.claim_core.specs.Rounds.{rounds}
-use Rattle.claim_core.specs.Cores.{Running, IsFinished, opened, setup_of, stepped}
+use Rattle.claim_core.specs.Cores.{Running, IsFinished, opened, setup_of}
 use Rattle.command_runs.specs.Interleave.{IsInterleaveReport}
 
 module _ {D : Type 0} (verdict : D → Shown → Verdict) where

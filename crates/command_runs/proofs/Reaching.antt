@@ -1,10 +1,8 @@
 -- A good report of at most one list is the one of the claim protocol: rounds lead to a report, and both are what the turns leave.
-use Rattle.std.proofs.Common.{◌≡◌, ◌≤◌, ℕ, zero, suc, List, [], ◌∷◌, length, ap, sym, subst, refl, ◌∙◌}
+use Rattle.std.proofs.Common.{◌≡◌, ℕ, zero, suc, List, [], ◌∷◌, length, ap, sym, subst, refl, ◌∙◌}
 use Rattle.claim_core.specs.declared.report.Report.{Report}
-use Rattle.claim_core.specs.Turns.{MarkLists}
-use Rattle.claim_core.specs.Good.{Good}
 use Rattle.claim_core.specs.Machine.{Setup, State, next, after}
-use Rattle.claim_core.specs.Soundness.{IsSetup, Sound, marks_so_far}
+use Rattle.claim_core.specs.Soundness.{Sound, marks_so_far}
 use Rattle.claim_core.specs.Reached.{HaveEnded, HasValues, IsReportOf, Reached}
 use Rattle.claim_core.specs.Rounds.{steps_below, rounds, rounds_enough}
 use Rattle.claim_core.specs.SerialRuns.{SerialReportIsDetermined}

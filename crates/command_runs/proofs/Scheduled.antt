@@ -1,11 +1,9 @@
 -- A schedule gives one report.
-use Rattle.std.proofs.Common.{◌≡◌, ◌<◌, ℕ, List, ap, sym, subst, arith}
-use Rattle.claim_core.specs.declared.report.Report.{Report}
+use Rattle.std.proofs.Common.{◌≡◌, ◌<◌, ℕ, ap, sym, subst, arith}
 use Rattle.claim_core.specs.Turns.{MarkLists}
-use Rattle.claim_core.specs.Machine.{Setup}
 use Rattle.claim_core.specs.Reached.{IsReportOf}
 use Rattle.claim_core.specs.Laws.{StateHasOneReport}
-use Rattle.command_runs.specs.Interleave.{at_round, IsScheduled}
+use Rattle.command_runs.specs.Interleave.{at_round}
 use Rattle.command_runs.specs.Laws.{ScheduleHasOneReport}
 
 same_number : (m n : ℕ) → (m < n → ⊥) → (n < m → ⊥) → m ≡ n

@@ -1,5 +1,4 @@
 use Rattle.std.proofs.Common.{length, sym, ◌∙◌}
-use Rattle.command_runs.specs.Laws.{SameReport}
 use Rattle.command_runs.specs.Reports.{setup}
 use Rattle.action_meaning.specs.Verdicts.{verdict_shown}
 use Rattle.command_runs.proofs.Reported.{same_text}

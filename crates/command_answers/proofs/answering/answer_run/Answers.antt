@@ -1,0 +1,22 @@
+use Rattle.std.proofs.Common.{◌<◌, ℕ, Some, length, ap, sym, ◌∙◌, arith}
+use Rattle.std.proofs.lemmas.Result.{IfOk-weaker}
+use Rattle.action_tree.specs.Trees.{Program}
+use Rattle.shape_files.specs.Views.{contents}
+use Rattle.action_eval.proofs.SharedRunner.{runner_sync}
+use Rattle.command_answers.specs.Answers.{done_with}
+use Rattle.command_answers.proofs.OwedTexts.{waits, runs}
+use Rattle.command_answers.proofs.answering.answer_run.Goals as goal
+
+pub returns-then-callers-gt1 : goal.returns-then-callers-gt1
+returns-then-callers-gt1 c =
+    let several : 1 < length c.unwrap-lists.result.ids = omega (arith, c.callers.ensures.value) in
+    IfOk-weaker _ _ _ (λ answer is. waits (contents c.args.parts) answer c.unwrap-lists.result c.unwrap-lists.ensures several is) c.refuse.ensures
+
+pub run_serially-requires-sync-D : goal.run_serially-requires-sync-D
+run_serially-requires-sync-D c κs = record { shared = runner_sync.shared }
+
+pub returns : goal.returns
+returns c = IfOk-weaker _ _ _ (λ answer is.
+    runs (contents c.args.parts) answer c.new-runner.result c.unwrap.result c.unwrap-lists.result c.in_ok-report.report
+    (c.unwrap-checked.ensures ∙ ap Some (sym c.new-runner.ensures)) c.unwrap.ensures c.unwrap-lists.ensures c.in_ok-report.ensures
+    (is ∙ ap (λ (vars : ℕ). done_with vars c.in_ok-report.report) (c.vars-vars.ensures ∙ ap (λ (p : Program). length p.vars) (sym c.new-runner.ensures)))) c.answer_report.ensures
