@@ -1,5 +1,4 @@
 pub mod Texts
-pub mod Opened
 pub mod Known
 pub mod Distinct
 pub mod Kept

@@ -11,7 +11,7 @@ use Rattle.action_tree.specs.Writable.{guard_names, guards_names, sum_names, ter
 use Rattle.action_check.specs.Scopes.{Scope, HasRoom, after, after_all}
 use Rattle.action_check.specs.Faults.{guard_faults, guards_faults, sum_faults, term_faults, stmt_faults, stmts_faults}
 use Rattle.action_check.specs.Told.{first_of}
-use Rattle.action_check.proofs.Opened.{part_opened}
+use Rattle.action_tree.proofs.Viewed.{part_opened}
 use Rattle.action_check.proofs.Firsts.{first_behind, first_before}
 
 -- before the element at i, where the scope at the start has become the second: there is room for what is left, and the first

@@ -7,13 +7,12 @@ use Rattle.amoebot_state.specs.Zones.{Shown, shown}
 use Rattle.amoebot_state.specs.Steps.{Step, Run}
 use Rattle.model_ops.specs.Laws.{StaysConnected}
 use Rattle.action_tree.specs.Trees.{Program}
-use Rattle.action_check.specs.Maxes.{maxes_of}
 use Rattle.action_meaning.specs.Verdicts.{verdict_on}
 
--- on what a valid configuration with the program's greatest values shows to an amoebot of it, f decides the verdict of the program on
--- that configuration; ids without an amoebot are allowed
+-- on what a valid configuration shows to an amoebot of it, f decides the verdict of the program on that configuration; ids without an
+-- amoebot are allowed, and any greatest values
 abbrev pub DecidesVerdict : (Shown → Verdict) → Program → Type 0
-DecidesVerdict f p = (c : Config) (i : ℕ) → IsValid c → c.maxes ≡ maxes_of p → IsSome (bot_at c i) → f (shown c i) ≡ verdict_on p c i
+DecidesVerdict f p = (c : Config) (i : ℕ) → IsValid c → IsSome (bot_at c i) → f (shown c i) ≡ verdict_on p c i
 
 -- where the program has the guard on, a step by f from a valid configuration leaves connected occupied nodes connected
 abbrev pub GuardedStepsStayConnected : (Shown → Verdict) → Program → Type 0

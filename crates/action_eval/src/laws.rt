@@ -5,8 +5,8 @@ ghost use Rattle.action_eval.specs.Laws.{DecidesVerdict, GuardedStepsStayConnect
 use crate::runner::Runner;
 use amoebot_state::Decider;
 
-/// On what a valid configuration shows to an amoebot of it, a `Runner` decides the verdict of its program on that configuration. The
-/// configuration has the program's greatest values; ids without an amoebot are allowed.
+/// On what a valid configuration shows to an amoebot of it, a `Runner` decides the verdict of its program on that configuration;
+/// ids without an amoebot are allowed.
 pub fn runner_decides_verdict(_runner: &Runner)
     ensures { DecidesVerdict (⟦<Runner as Decider>⟧.verdict _runner.now) _runner.now }
 {}

@@ -14,7 +14,7 @@ use Rattle.action_tree.specs.Lines.{bare_guard, without_lines}
 use Rattle.action_tree.specs.Samples.{line, erosion, every_form}
 use Rattle.action_grammar.specs.Roles.{role, same_role}
 use Rattle.action_grammar.specs.Programs.{IsProgram}
-use Rattle.action_grammar.specs.ExpressionReaders.{a_choice, a_port, a_term, a_minus, a_sum, a_unit, a_conj, an_expr, inside, expr_at}
+use Rattle.action_grammar.specs.ExpressionReaders.{a_selection, a_port, a_term, a_minus, a_sum, a_unit, a_conj, an_expr, inside, expr_at}
 use Rattle.action_grammar.specs.StatementReaders.{an_if, a_for, a_stmt, all_stmts, stmts_inside, stmts_at}
 use Rattle.action_grammar.specs.ProgramReaders.{a_move, an_action, a_var, a_guarded, a_program}
 use Rattle.action_grammar.specs.Examples.{front_of, IsRead, IsRefused, line_text, erosion_text, every_form_text, SamplesAreRead, TreesAreRead, Wrong, AreRefused, wrong_programs, wrong_statements, wrong_expressions, FaultsAreFound, Limit, AreKept, expression_levels, statement_levels, expression_names, statement_names, element_counts, past_elements, statement_counts, program_counts, LimitsAreKept}
@@ -75,69 +75,69 @@ module _ {A : Type 0} (P : Lang A) (p : Reader A) (exact : Exact P p) where
       (whole_by l.kept _ refl (left_of _ _ k), is_refused P p exact l.passed.text l.passed.number l.passed.kind first, are_kept ls (right_of _ _ k) more)
 
 line_is_read : IsRead IsProgram without_lines line_text line
-unfolding same_kind same_role role scan.skip scan.ready scan.sign_len scan.front scan.scan scan.scan_end scan.ahead_of scan.last_of one_within either by_role limited elements repeated a_choice a_port a_term a_minus a_sum a_unit a_conj an_expr inside an_if a_for a_stmt all_stmts stmts_inside a_move an_action a_var a_guarded a_program
+unfolding same_kind same_role role scan.skip scan.ready scan.sign_len scan.front scan.scan scan.scan_end scan.ahead_of scan.last_of one_within either by_role limited elements repeated a_selection a_port a_term a_minus a_sum a_unit a_conj an_expr inside an_if a_for a_stmt all_stmts stmts_inside a_move an_action a_var a_guarded a_program
 line_is_read = is_read IsProgram a_program exact_program line_text without_lines _ line refl refl
 
 erosion_is_read : IsRead IsProgram without_lines erosion_text erosion
-unfolding same_kind same_role role scan.skip scan.ready scan.sign_len scan.front scan.scan scan.scan_end scan.ahead_of scan.last_of one_within either by_role limited elements repeated a_choice a_port a_term a_minus a_sum a_unit a_conj an_expr inside an_if a_for a_stmt all_stmts stmts_inside a_move an_action a_var a_guarded a_program
+unfolding same_kind same_role role scan.skip scan.ready scan.sign_len scan.front scan.scan scan.scan_end scan.ahead_of scan.last_of one_within either by_role limited elements repeated a_selection a_port a_term a_minus a_sum a_unit a_conj an_expr inside an_if a_for a_stmt all_stmts stmts_inside a_move an_action a_var a_guarded a_program
 erosion_is_read = is_read IsProgram a_program exact_program erosion_text without_lines _ erosion refl refl
 
 every_form_is_read : IsRead IsProgram without_lines every_form_text every_form
-unfolding same_kind same_role role scan.skip scan.ready scan.sign_len scan.front scan.scan scan.scan_end scan.ahead_of scan.last_of one_within either by_role limited elements repeated a_choice a_port a_term a_minus a_sum a_unit a_conj an_expr inside an_if a_for a_stmt all_stmts stmts_inside a_move an_action a_var a_guarded a_program
+unfolding same_kind same_role role scan.skip scan.ready scan.sign_len scan.front scan.scan scan.scan_end scan.ahead_of scan.last_of one_within either by_role limited elements repeated a_selection a_port a_term a_minus a_sum a_unit a_conj an_expr inside an_if a_for a_stmt all_stmts stmts_inside a_move an_action a_var a_guarded a_program
 every_form_is_read = is_read IsProgram a_program exact_program every_form_text without_lines _ every_form refl refl
 
 programs_refused : AreRefused IsProgram wrong_programs
-unfolding same_kind same_role role scan.skip scan.ready scan.sign_len scan.front scan.scan scan.scan_end scan.ahead_of scan.last_of one_within either by_role limited elements repeated a_choice a_port a_term a_minus a_sum a_unit a_conj an_expr inside an_if a_for a_stmt all_stmts stmts_inside a_move an_action a_var a_guarded a_program
+unfolding same_kind same_role role scan.skip scan.ready scan.sign_len scan.front scan.scan scan.scan_end scan.ahead_of scan.last_of one_within either by_role limited elements repeated a_selection a_port a_term a_minus a_sum a_unit a_conj an_expr inside an_if a_for a_stmt all_stmts stmts_inside a_move an_action a_var a_guarded a_program
 programs_refused = are_refused IsProgram a_program exact_program wrong_programs refl
 
 statements_refused : AreRefused (IsStmts 2 2) wrong_statements
-unfolding same_kind same_role role scan.skip scan.ready scan.sign_len scan.front scan.scan scan.scan_end scan.ahead_of scan.last_of one_within either by_role limited elements repeated a_choice a_port a_term a_minus a_sum a_unit a_conj an_expr inside an_if a_for a_stmt all_stmts stmts_inside a_move an_action a_var a_guarded a_program
+unfolding same_kind same_role role scan.skip scan.ready scan.sign_len scan.front scan.scan scan.scan_end scan.ahead_of scan.last_of one_within either by_role limited elements repeated a_selection a_port a_term a_minus a_sum a_unit a_conj an_expr inside an_if a_for a_stmt all_stmts stmts_inside a_move an_action a_var a_guarded a_program
 statements_refused = are_refused (IsStmts 2 2) (stmts_at 2 2) (exact_stmts 2 2) wrong_statements refl
 
 expressions_refused : AreRefused (IsExpr 2 2) wrong_expressions
-unfolding same_kind same_role role scan.skip scan.ready scan.sign_len scan.front scan.scan scan.scan_end scan.ahead_of scan.last_of one_within either by_role limited elements repeated a_choice a_port a_term a_minus a_sum a_unit a_conj an_expr inside an_if a_for a_stmt all_stmts stmts_inside a_move an_action a_var a_guarded a_program
+unfolding same_kind same_role role scan.skip scan.ready scan.sign_len scan.front scan.scan scan.scan_end scan.ahead_of scan.last_of one_within either by_role limited elements repeated a_selection a_port a_term a_minus a_sum a_unit a_conj an_expr inside an_if a_for a_stmt all_stmts stmts_inside a_move an_action a_var a_guarded a_program
 expressions_refused = are_refused (IsExpr 2 2) (expr_at 2 2) (exact_expr 2 2) wrong_expressions refl
 
 pub faults_are_found : FaultsAreFound
 faults_are_found = record { programs = programs_refused; statements = statements_refused; expressions = expressions_refused }
 
 levels_kept : AreKept (IsExpr 2 2) expression_levels
-unfolding same_kind same_role role scan.skip scan.ready scan.sign_len scan.front scan.scan scan.scan_end scan.ahead_of scan.last_of one_within either by_role limited elements repeated a_choice a_port a_term a_minus a_sum a_unit a_conj an_expr inside an_if a_for a_stmt all_stmts stmts_inside a_move an_action a_var a_guarded a_program
+unfolding same_kind same_role role scan.skip scan.ready scan.sign_len scan.front scan.scan scan.scan_end scan.ahead_of scan.last_of one_within either by_role limited elements repeated a_selection a_port a_term a_minus a_sum a_unit a_conj an_expr inside an_if a_for a_stmt all_stmts stmts_inside a_move an_action a_var a_guarded a_program
 levels_kept = are_kept (IsExpr 2 2) (expr_at 2 2) (exact_expr 2 2) expression_levels refl refl
 
 deeper_kept : AreKept (IsStmts 2 2) statement_levels
-unfolding same_kind same_role role scan.skip scan.ready scan.sign_len scan.front scan.scan scan.scan_end scan.ahead_of scan.last_of one_within either by_role limited elements repeated a_choice a_port a_term a_minus a_sum a_unit a_conj an_expr inside an_if a_for a_stmt all_stmts stmts_inside a_move an_action a_var a_guarded a_program
+unfolding same_kind same_role role scan.skip scan.ready scan.sign_len scan.front scan.scan scan.scan_end scan.ahead_of scan.last_of one_within either by_role limited elements repeated a_selection a_port a_term a_minus a_sum a_unit a_conj an_expr inside an_if a_for a_stmt all_stmts stmts_inside a_move an_action a_var a_guarded a_program
 deeper_kept = are_kept (IsStmts 2 2) (stmts_at 2 2) (exact_stmts 2 2) statement_levels refl refl
 
 names_kept : AreKept (IsExpr 3 2) expression_names
-unfolding same_kind same_role role scan.skip scan.ready scan.sign_len scan.front scan.scan scan.scan_end scan.ahead_of scan.last_of one_within either by_role limited elements repeated a_choice a_port a_term a_minus a_sum a_unit a_conj an_expr inside an_if a_for a_stmt all_stmts stmts_inside a_move an_action a_var a_guarded a_program
+unfolding same_kind same_role role scan.skip scan.ready scan.sign_len scan.front scan.scan scan.scan_end scan.ahead_of scan.last_of one_within either by_role limited elements repeated a_selection a_port a_term a_minus a_sum a_unit a_conj an_expr inside an_if a_for a_stmt all_stmts stmts_inside a_move an_action a_var a_guarded a_program
 names_kept = are_kept (IsExpr 3 2) (expr_at 3 2) (exact_expr 3 2) expression_names refl refl
 
 bindings_kept : AreKept (IsStmts 4 2) statement_names
-unfolding same_kind same_role role scan.skip scan.ready scan.sign_len scan.front scan.scan scan.scan_end scan.ahead_of scan.last_of one_within either by_role limited elements repeated a_choice a_port a_term a_minus a_sum a_unit a_conj an_expr inside an_if a_for a_stmt all_stmts stmts_inside a_move an_action a_var a_guarded a_program
+unfolding same_kind same_role role scan.skip scan.ready scan.sign_len scan.front scan.scan scan.scan_end scan.ahead_of scan.last_of one_within either by_role limited elements repeated a_selection a_port a_term a_minus a_sum a_unit a_conj an_expr inside an_if a_for a_stmt all_stmts stmts_inside a_move an_action a_var a_guarded a_program
 bindings_kept = are_kept (IsStmts 4 2) (stmts_at 4 2) (exact_stmts 4 2) statement_names refl refl
 
 elements_kept : AreKept (IsExpr 2 0) element_counts
-unfolding same_kind same_role role scan.skip scan.ready scan.sign_len scan.front scan.scan scan.scan_end scan.ahead_of scan.last_of one_within either by_role limited elements repeated a_choice a_port a_term a_minus a_sum a_unit a_conj an_expr inside an_if a_for a_stmt all_stmts stmts_inside a_move an_action a_var a_guarded a_program
+unfolding same_kind same_role role scan.skip scan.ready scan.sign_len scan.front scan.scan scan.scan_end scan.ahead_of scan.last_of one_within either by_role limited elements repeated a_selection a_port a_term a_minus a_sum a_unit a_conj an_expr inside an_if a_for a_stmt all_stmts stmts_inside a_move an_action a_var a_guarded a_program
 elements_kept = are_kept (IsExpr 2 0) (expr_at 2 0) (exact_expr 2 0) element_counts refl refl
 
 statements_kept : AreKept (IsStmts 0 0) statement_counts
-unfolding same_kind same_role role scan.skip scan.ready scan.sign_len scan.front scan.scan scan.scan_end scan.ahead_of scan.last_of one_within either by_role limited elements repeated a_choice a_port a_term a_minus a_sum a_unit a_conj an_expr inside an_if a_for a_stmt all_stmts stmts_inside a_move an_action a_var a_guarded a_program
+unfolding same_kind same_role role scan.skip scan.ready scan.sign_len scan.front scan.scan scan.scan_end scan.ahead_of scan.last_of one_within either by_role limited elements repeated a_selection a_port a_term a_minus a_sum a_unit a_conj an_expr inside an_if a_for a_stmt all_stmts stmts_inside a_move an_action a_var a_guarded a_program
 statements_kept = are_kept (IsStmts 0 0) (stmts_at 0 0) (exact_stmts 0 0) statement_counts refl refl
 
 programs_kept : AreKept IsProgram program_counts
-unfolding same_kind same_role role scan.skip scan.ready scan.sign_len scan.front scan.scan scan.scan_end scan.ahead_of scan.last_of one_within either by_role limited elements repeated a_choice a_port a_term a_minus a_sum a_unit a_conj an_expr inside an_if a_for a_stmt all_stmts stmts_inside a_move an_action a_var a_guarded a_program
+unfolding same_kind same_role role scan.skip scan.ready scan.sign_len scan.front scan.scan scan.scan_end scan.ahead_of scan.last_of one_within either by_role limited elements repeated a_selection a_port a_term a_minus a_sum a_unit a_conj an_expr inside an_if a_for a_stmt all_stmts stmts_inside a_move an_action a_var a_guarded a_program
 programs_kept = are_kept IsProgram a_program exact_program program_counts refl refl
 
 past_refused : AreRefused (IsExpr 2 0) past_elements
-unfolding same_kind same_role role scan.skip scan.ready scan.sign_len scan.front scan.scan scan.scan_end scan.ahead_of scan.last_of one_within either by_role limited elements repeated a_choice a_port a_term a_minus a_sum a_unit a_conj an_expr inside an_if a_for a_stmt all_stmts stmts_inside a_move an_action a_var a_guarded a_program
+unfolding same_kind same_role role scan.skip scan.ready scan.sign_len scan.front scan.scan scan.scan_end scan.ahead_of scan.last_of one_within either by_role limited elements repeated a_selection a_port a_term a_minus a_sum a_unit a_conj an_expr inside an_if a_for a_stmt all_stmts stmts_inside a_move an_action a_var a_guarded a_program
 past_refused = are_refused (IsExpr 2 0) (expr_at 2 0) (exact_expr 2 0) past_elements refl
 
 pub limits_are_kept : LimitsAreKept
 limits_are_kept = record { levels = levels_kept; deeper = deeper_kept; names = names_kept; bindings = bindings_kept; elements = elements_kept; past = past_refused; statements = statements_kept; programs = programs_kept }
 
 pub trees_are_read : TreesAreRead
-unfolding same_kind same_role role scan.skip scan.ready scan.sign_len scan.front scan.scan scan.scan_end scan.ahead_of scan.last_of one_within either by_role limited elements repeated a_choice a_port a_term a_minus a_sum a_unit a_conj an_expr inside an_if a_for a_stmt all_stmts stmts_inside a_move an_action a_var a_guarded a_program
+unfolding same_kind same_role role scan.skip scan.ready scan.sign_len scan.front scan.scan scan.scan_end scan.ahead_of scan.last_of one_within either by_role limited elements repeated a_selection a_port a_term a_minus a_sum a_unit a_conj an_expr inside an_if a_for a_stmt all_stmts stmts_inside a_move an_action a_var a_guarded a_program
 trees_are_read = record {
   binding = is_read (IsExpr 1 0) (expr_at 1 0) (exact_expr 1 0) (codes "true or not x = 0 and false") bare_guard _ _ refl refl;
   grouped = is_read (IsExpr 2 0) (expr_at 2 0) (exact_expr 2 0) (codes "( true or false ) or ( true ) and ( ( true ) )") bare_guard _ _ refl refl;

@@ -11,7 +11,7 @@ use Rattle.action_tree.specs.Limits.{most_levels, most_names, most_vars, most_ac
 use Rattle.action_tree.specs.Productions.{IsName, OfExpr, joined_by_or, OfConjs, no_conj, or_conj, OfConj, joined_by_and, OfUnits, no_unit, and_unit, OfUnit, one_word, not_unit, in_parens, some_or_each, asked, compared, OfSum, added, OfTerms, no_term, and_term, OfTerm, a_number, own_name, port_name, counted, directed, own_direction, modulo, OfPort, bound_name, end_and_dir, turned_by, first_in, after_all, OfStmt, put_own, put_there, let_name, if_fi, for_od, OfOptional, left_out, given, OfStmts, one_and_more, OfMore, no_more, and_more, OfMove, nowhere, moved_through, contracted, OfVar, OfAction, OfVars, no_var, and_var, OfActions, no_action, and_action, OfProgram}
 use Rattle.action_grammar.specs.declared.role.Role.TheVariants.{ANumber, LastWord, TurnWord, OpenSign, MinusSign, NotWord, IfWord, ForWord, VarWord, ActionWord}
 use Rattle.action_grammar.specs.Roles.{role, as_literal, as_test, as_cmp, as_side, as_end, as_atom, as_quantifier, as_port_move, as_name, is_a}
-use Rattle.action_grammar.specs.Expressions.{IsA, limited_text, Choice, IsPort, is_bound, is_end, is_turn, is_first, IsChoice, is_choice, IsTerm, is_number, is_own, is_of_port, is_count, is_direction, is_inner, is_mod6, IsSum, is_sum, IsTerms, no_more_terms, more_terms, IsUnit, is_atom, is_not, is_parens, is_quantified, is_tested, is_compared, IsConj, is_conj, IsUnits, no_more_units, more_units, IsExpr, is_expr, IsConjs, no_more_conjs, more_conjs}
+use Rattle.action_grammar.specs.Expressions.{IsA, limited_text, Selection, IsPort, is_bound, is_end, is_turn, is_first, IsSelection, is_selection, IsTerm, is_number, is_own, is_of_port, is_count, is_direction, is_inner, is_mod6, IsSum, is_sum, IsTerms, no_more_terms, more_terms, IsUnit, is_atom, is_not, is_parens, is_quantified, is_tested, is_compared, IsConj, is_conj, IsUnits, no_more_units, more_units, IsExpr, is_expr, IsConjs, no_more_conjs, more_conjs}
 use Rattle.action_grammar.specs.Statements.{IsStmt, is_put, is_put_of, is_let, is_if, is_for, IsElse, no_else, with_else, IsStmts, is_stmts, IsMore, no_more_stmts, more_stmts}
 use Rattle.action_grammar.specs.Programs.{IsMove, is_none, is_through, is_contract, IsBody, IsMoved, action_of, IsAction, var_of, IsVar, program_of, IsProgram}
 use Rattle.action_grammar.specs.ExpressionReaders.{level_limit, begins_term, begins_unit}
@@ -25,7 +25,7 @@ use Rattle.action_grammar.proofs.Fine.{IsFine, fine_parts, cut_front, fine_text,
 
 -- ---- what is given of a name for the ports of a set
 
-pub record Chooses (n left : ℕ) (c : Choice) : Type 0 where
+pub record Chooses (n left : ℕ) (c : Selection) : Type 0 where
   pub level : n ≡ suc (less n)
   pub binding : left ≡ suc (less left)
   pub name : IsName c.name
@@ -49,11 +49,11 @@ mutual
       deeper (λ k. OfPort k left (turned p (as_literal m))) (opened TurnWord n xs t o a.0) (turned_by (port_of is b.0) (number_of zs m e b.1))
   port_of (is_first {n = n} {left = left} {xs = xs} {ys = ys} {c = c} o is) f =
       let a = fine_parts xs ys f in
-      let g = choice_of is a.1 in
+      let g = selection_of is a.1 in
       chosen_at (λ k l. OfPort k l (first c.name c.set c.guard)) g.level g.binding (first_in c.set g.name g.guard)
 
-  choice_of : {n left : ℕ} {xs : List Symbol} {c : Choice} → IsChoice n left xs c → IsFine xs → Chooses n left c
-  choice_of (is_choice {n = n} {left = left} {vs = vs} {is = is} {ss = ss} {os = os} {es = es} {cs = cs} {v = v} {o = o} b i s w e c) f =
+  selection_of : {n left : ℕ} {xs : List Symbol} {c : Selection} → IsSelection n left xs c → IsFine xs → Chooses n left c
+  selection_of (is_selection {n = n} {left = left} {vs = vs} {is = is} {ss = ss} {os = os} {es = es} {cs = cs} {v = v} {o = o} b i s w e c) f =
       let f1 = fine_parts vs (is ++ (ss ++ (os ++ (es ++ cs)))) f in
       let f2 = fine_parts is (ss ++ (os ++ (es ++ cs))) f1.1 in
       let f3 = fine_parts ss (os ++ (es ++ cs)) f2.1 in
@@ -71,7 +71,7 @@ mutual
       port_name (port_of is a.0) (name_of zs v o b.1)
   term_of (is_count {xs = xs} {ys = ys} {c = c} o is) f =
       let a = fine_parts xs ys f in
-      let g = choice_of is a.1 in
+      let g = selection_of is a.1 in
       chosen_at (λ k l. OfTerm k l (count c.name c.set c.guard)) g.level g.binding (counted c.set g.name g.guard)
   term_of (is_direction {xs = xs} {ys = ys} {t = t} o is) f = let a = fine_parts xs ys f in directed (as_side t) (port_of is a.1)
   term_of (is_inner o) f = own_direction
@@ -106,7 +106,7 @@ mutual
       deeper (λ k. OfUnit k left g) (opened OpenSign n os o e a.0) (in_parens (expr_of is b.0))
   unit_of (is_quantified {xs = xs} {ys = ys} {t = t} {c = c} o is) f =
       let a = fine_parts xs ys f in
-      let g = choice_of is a.1 in
+      let g = selection_of is a.1 in
       chosen_at (λ k l. OfUnit k l (quantified (as_quantifier t) c.name c.set c.guard)) g.level g.binding (some_or_each (as_quantifier t) c.set g.name g.guard)
   unit_of (is_tested {xs = xs} {ys = ys} {t = t} o is) f = let a = fine_parts xs ys f in asked (as_test t) (port_of is a.1)
   unit_of (is_compared {xs = xs} {ys = ys} {zs = zs} {c = c} is o other) f =
@@ -168,7 +168,7 @@ mutual
       let f2 = fine_parts cs (ds ++ (ss ++ os)) f1.1 in
       let f3 = fine_parts ds (ss ++ os) f2.1 in
       let f4 = fine_parts ss os f3.1 in
-      let g = choice_of a f2.0 in
+      let g = selection_of a f2.0 in
       let body = subst (λ (k : ℕ). OfStmts k (less left) s) g.level (stmts_of b f4.0) in
       let inner = deeper (λ k. OfStmt (suc k) (suc (less left)) (for_each c.name c.set c.guard s)) g.level (for_od c.set g.name g.guard body) in
       chosen_at (λ k l. OfStmt k l (for_each c.name c.set c.guard s)) (opened ForWord n fs w o f1.0) g.binding inner

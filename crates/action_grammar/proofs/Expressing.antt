@@ -13,7 +13,7 @@ use Rattle.action_tree.specs.Limits.{most_further}
 use Rattle.action_grammar.specs.declared.role.Role.{Role}
 use Rattle.action_grammar.specs.declared.role.Role.TheVariants.{AName, ANumber, OpenSign, CloseSign, DotSign, MinusSign, CompareSign, AtomWord, NotWord, AndWord, OrWord, QuantifierWord, TestWord, FreeWord, PortsWord, InWord, CountWord, SideWord, InnerWord, Mod6Word, EndWord, TurnWord, FirstWord}
 use Rattle.action_grammar.specs.Roles.{role, is_a, is_test, is_set, is_dirterm, is_plus_or_minus, as_name, as_literal, as_dirterm, as_end, as_atom, as_quantifier, as_test, as_side, as_cmp}
-use Rattle.action_grammar.specs.Expressions.{IsA, Opens, Binds, limited_text, IsMinus, Choice, choice, IsPort, is_bound, is_end, is_turn, is_first, IsChoice, is_choice, IsTerm, is_number, is_own, is_of_port, is_count, is_direction, is_inner, is_mod6, IsSum, is_sum, IsTerms, no_more_terms, more_terms, IsUnit, is_atom, is_not, is_parens, is_quantified, is_tested, is_compared, IsConj, is_conj, IsUnits, no_more_units, more_units, IsExpr, is_expr, IsConjs, no_more_conjs, more_conjs}
+use Rattle.action_grammar.specs.Expressions.{IsA, Opens, Binds, limited_text, IsMinus, Selection, selection, IsPort, is_bound, is_end, is_turn, is_first, IsSelection, is_selection, IsTerm, is_number, is_own, is_of_port, is_count, is_direction, is_inner, is_mod6, IsSum, is_sum, IsTerms, no_more_terms, more_terms, IsUnit, is_atom, is_not, is_parens, is_quantified, is_tested, is_compared, IsConj, is_conj, IsUnits, no_more_units, more_units, IsExpr, is_expr, IsConjs, no_more_conjs, more_conjs}
 use Rattle.action_grammar.specs.ExpressionReaders.{opens_level, level_limit, begins_term, begins_sum, begins_unit, part}
 use Rattle.action_grammar.proofs.Playing.{plays, is_in, example, passes, passes_set, passes_dirterm, an_example, an_opening}
 
@@ -37,8 +37,8 @@ some_conj n left = let g = some_unit n left in record { text = _; whole = _; is 
 pub some_expr : (n left : ℕ) → SomeText (IsExpr n left)
 some_expr n left = let g = some_conj n left in record { text = _; whole = _; is = is_expr g.is no_more_conjs }
 
-pub some_choice : (n left : ℕ) → SomeText (IsChoice n left)
-some_choice n left = let g = some_expr (less n) (less left) in record { text = _; whole = _; is = is_choice (is_one (example AName) (passes AName)) (an_example InWord) (is_one (example PortsWord) passes_set) (an_opening OpenSign n) g.is (an_example CloseSign) }
+pub some_selection : (n left : ℕ) → SomeText (IsSelection n left)
+some_selection n left = let g = some_expr (less n) (less left) in record { text = _; whole = _; is = is_selection (is_one (example AName) (passes AName)) (an_example InWord) (is_one (example PortsWord) passes_set) (an_opening OpenSign n) g.is (an_example CloseSign) }
 
 -- ---- a text by the role of its first token
 
@@ -80,7 +80,7 @@ abbrev pub PortBy : ℕ → ℕ → Role → Lang PortExpr
 PortBy n left AName = Made (IsA AName) (λ v. bound (as_name v))
 PortBy n left EndWord = Then (IsA EndWord) (λ e. Made (IsOne is_dirterm no_limit) (λ d. at_end (as_end e) (as_dirterm d)))
 PortBy n left TurnWord = Then (Opens TurnWord n) (λ t. Then (IsPort (less n) left) (λ p. Made (IsA ANumber) (λ m. turned p (as_literal m))))
-PortBy n left FirstWord = Then (IsA FirstWord) (λ t. Made (IsChoice n left) (λ c. first c.name c.set c.guard))
+PortBy n left FirstWord = Then (IsA FirstWord) (λ t. Made (IsSelection n left) (λ c. first c.name c.set c.guard))
 PortBy n left _ = λ xs p. ⊥
 
 view_port : (n left : ℕ) (xs : List Symbol) (p : PortExpr) → IsPort n left xs p → Formed n (PortBy n left) xs p
@@ -101,15 +101,15 @@ roles_port n left = record { some = some_port n left; view = view_port n left; f
 
 -- ---- a name for the ports of a set, with a guard
 
-abbrev pub ChoiceBy : ℕ → ℕ → Lang Choice
-ChoiceBy n left = Then (Binds left) (λ v. Then (IsA InWord) (λ i. Then (IsOne is_set no_limit) (λ s. Then (Opens OpenSign n) (λ o. Then (IsExpr (less n) (less left)) (λ g. Made (IsA CloseSign) (λ c. choice v s g))))))
+abbrev pub SelectionBy : ℕ → ℕ → Lang Selection
+SelectionBy n left = Then (Binds left) (λ v. Then (IsA InWord) (λ i. Then (IsOne is_set no_limit) (λ s. Then (Opens OpenSign n) (λ o. Then (IsExpr (less n) (less left)) (λ g. Made (IsA CloseSign) (λ c. selection v s g))))))
 
-pub choice_from : (n left : ℕ) (xs : List Symbol) (c : Choice) → ChoiceBy n left xs c → IsChoice n left xs c
-choice_from n left us c (then {xs = vs} v a (then {xs = is} i b (then {xs = ss} s d (then {xs = os} o e (then {xs = gs} {ys = zs} g f m))))) =
-    made_case (IsA CloseSign) (λ l. choice v s g) zs (λ c. IsChoice n left (vs ++ (is ++ (ss ++ (os ++ (gs ++ zs))))) c) (λ l h. is_choice a b d e f h) c m
+pub selection_from : (n left : ℕ) (xs : List Symbol) (c : Selection) → SelectionBy n left xs c → IsSelection n left xs c
+selection_from n left us c (then {xs = vs} v a (then {xs = is} i b (then {xs = ss} s d (then {xs = os} o e (then {xs = gs} {ys = zs} g f m))))) =
+    made_case (IsA CloseSign) (λ l. selection v s g) zs (λ c. IsSelection n left (vs ++ (is ++ (ss ++ (os ++ (gs ++ zs))))) c) (λ l h. is_selection a b d e f h) c m
 
-pub choice_to : (n left : ℕ) (xs : List Symbol) (c : Choice) → IsChoice n left xs c → ChoiceBy n left xs c
-choice_to n left xs c (is_choice {v = v} {i = i} {s = s} {o = o} {c = l} {g = g} a b d e f h) = then v a (then i b (then s d (then o e (then g f (made l h)))))
+pub selection_to : (n left : ℕ) (xs : List Symbol) (c : Selection) → IsSelection n left xs c → SelectionBy n left xs c
+selection_to n left xs c (is_selection {v = v} {i = i} {s = s} {o = o} {c = l} {g = g} a b d e f h) = then v a (then i b (then s d (then o e (then g f (made l h)))))
 
 -- ---- terms
 
@@ -125,7 +125,7 @@ TermBy n left AName = Then (IsA AName) Named
 TermBy n left EndWord = Then (IsPort n left) Member
 TermBy n left TurnWord = Then (IsPort n left) Member
 TermBy n left FirstWord = Then (IsPort n left) Member
-TermBy n left CountWord = Then (IsA CountWord) (λ t. Made (IsChoice n left) (λ c. count c.name c.set c.guard))
+TermBy n left CountWord = Then (IsA CountWord) (λ t. Made (IsSelection n left) (λ c. count c.name c.set c.guard))
 TermBy n left SideWord = Then (IsA SideWord) (λ t. Made (IsPort n left) (λ p. direction (as_side t) p))
 TermBy n left InnerWord = Made (IsA InnerWord) (λ t. inner)
 TermBy n left Mod6Word = Then (IsA Mod6Word) (λ t. Then (Opens OpenSign n) (λ o. Then (IsSum (less n) left) (λ s. Made (IsA CloseSign) (λ c. mod6 s))))
@@ -195,8 +195,8 @@ term_each n left t ANumber e f = record { more = _; whole = _; is = is_number (i
 term_each n left t AName e f = record { more = _; whole = _; is = is_own (is_one t (is_in AName t e)) }
 term_each n left t EndWord e f = record { more = _; whole = _; is = is_of_port (is_end (is_one t (is_in EndWord t e)) (is_one (example ANumber) passes_dirterm)) (an_example DotSign) (an_example AName) }
 term_each n left t TurnWord e f = let p = some_port (less n) left in record { more = _; whole = _; is = is_of_port (is_turn (is_one t (is_in TurnWord t e)) p.is (an_example ANumber)) (an_example DotSign) (an_example AName) }
-term_each n left t FirstWord e f = let c = some_choice n left in record { more = _; whole = _; is = is_of_port (is_first (is_one t (is_in FirstWord t e)) c.is) (an_example DotSign) (an_example AName) }
-term_each n left t CountWord e f = let c = some_choice n left in record { more = _; whole = _; is = is_count (is_one t (is_in CountWord t e)) c.is }
+term_each n left t FirstWord e f = let c = some_selection n left in record { more = _; whole = _; is = is_of_port (is_first (is_one t (is_in FirstWord t e)) c.is) (an_example DotSign) (an_example AName) }
+term_each n left t CountWord e f = let c = some_selection n left in record { more = _; whole = _; is = is_count (is_one t (is_in CountWord t e)) c.is }
 term_each n left t SideWord e f = let p = some_port n left in record { more = _; whole = _; is = is_direction (is_one t (is_in SideWord t e)) p.is }
 term_each n left t InnerWord e f = record { more = _; whole = _; is = is_inner (is_one t (is_in InnerWord t e)) }
 term_each n left t Mod6Word e f = let s = some_sum (less n) left in record { more = _; whole = _; is = is_mod6 (is_one t (is_in Mod6Word t e)) (an_opening OpenSign n) s.is (an_example CloseSign) }
@@ -299,7 +299,7 @@ abbrev pub UnitBy : ℕ → ℕ → Role → Lang Guard
 UnitBy n left AtomWord = Made (IsA AtomWord) (λ t. atom (as_atom t))
 UnitBy n left NotWord = Then (Opens NotWord n) (λ t. Made (IsUnit (less n) left) (λ g. negation g))
 UnitBy n left OpenSign = Then (Opens OpenSign n) (λ o. Then (IsExpr (less n) left) (λ g. Made (IsA CloseSign) (λ c. g)))
-UnitBy n left QuantifierWord = Then (IsA QuantifierWord) (λ t. Made (IsChoice n left) (λ c. quantified (as_quantifier t) c.name c.set c.guard))
+UnitBy n left QuantifierWord = Then (IsA QuantifierWord) (λ t. Made (IsSelection n left) (λ c. quantified (as_quantifier t) c.name c.set c.guard))
 UnitBy n left TestWord = Tested n left
 UnitBy n left FreeWord = Tested n left
 UnitBy n left r = OrNone (begins_sum r) (Compared n left)
@@ -378,7 +378,7 @@ unit_each : (n left : ℕ) (t : Lexeme) (r : Role) → role t ≡ r → begins_u
 unit_each n left t AtomWord e f = record { more = _; whole = _; is = is_atom (is_one t (is_in AtomWord t e)) }
 unit_each n left t NotWord e f = let g = some_unit (less n) left in record { more = _; whole = _; is = is_not (is_one t (is_in NotWord t e)) g.is }
 unit_each n left t OpenSign e f = let g = some_expr (less n) left in record { more = _; whole = _; is = is_parens (is_one t (is_in OpenSign t e)) g.is (an_example CloseSign) }
-unit_each n left t QuantifierWord e f = let c = some_choice n left in record { more = _; whole = _; is = is_quantified (is_one t (is_in QuantifierWord t e)) c.is }
+unit_each n left t QuantifierWord e f = let c = some_selection n left in record { more = _; whole = _; is = is_quantified (is_one t (is_in QuantifierWord t e)) c.is }
 unit_each n left t TestWord e f = test_from n left t (ap (λ (b : Bool). b || is_a FreeWord t) (is_in TestWord t e))
 unit_each n left t FreeWord e f = test_from n left t (free_test (is_a TestWord t) (is_a FreeWord t) (is_in FreeWord t e))
 unit_each n left t r e f = compared_with n left (symbol_by n r t) (sum_each n left t r e f)

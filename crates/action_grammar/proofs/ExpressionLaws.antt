@@ -16,10 +16,10 @@ use Rattle.action_tree.specs.Limits.{most_further}
 use Rattle.action_grammar.specs.declared.role.Role.{Role}
 use Rattle.action_grammar.specs.declared.role.Role.TheVariants.{AName, ANumber, OpenSign, CloseSign, DotSign, PlusSign, MinusSign, CompareSign, AtomWord, NotWord, AndWord, OrWord, QuantifierWord, TestWord, FreeWord, PortsWord, InWord, CountWord, SideWord, InnerWord, Mod6Word, EndWord, TurnWord, FirstWord}
 use Rattle.action_grammar.specs.Roles.{role, is_a, is_test, is_set, is_dirterm, is_plus_or_minus, as_name, as_literal, as_dirterm, as_end, as_atom, as_quantifier, as_test, as_side, as_cmp}
-use Rattle.action_grammar.specs.Expressions.{IsA, Opens, bound_at, IsMinus, Choice, choice, IsPort, IsChoice, IsTerm, IsSum, IsUnit, IsConj, IsExpr}
-use Rattle.action_grammar.specs.ExpressionReaders.{level_limit, begins_term, begins_sum, begins_unit, Readers, a_choice, port_by, a_port, member, term_by, a_term, a_minus, part, part_in, a_sum, a_comparison, a_test, unit_by, a_unit, unit_in, a_conj, conj_in, an_expr, readers, inside, expr_at}
+use Rattle.action_grammar.specs.Expressions.{IsA, Opens, bound_at, IsMinus, Selection, selection, IsPort, IsSelection, IsTerm, IsSum, IsUnit, IsConj, IsExpr}
+use Rattle.action_grammar.specs.ExpressionReaders.{level_limit, begins_term, begins_sum, begins_unit, Readers, a_selection, port_by, a_port, member, term_by, a_term, a_minus, part, part_in, a_sum, a_comparison, a_test, unit_by, a_unit, unit_in, a_conj, conj_in, an_expr, readers, inside, expr_at}
 use Rattle.action_grammar.proofs.Playing.{example, passes, passes_set, passes_dirterm, passes_sign, passes_test, ends, ends_at, stops_term, stops_sum, stops_conj, stops_expr, sum_term, conj_sum, expr_conj, sign_term, no_sign, no_dot, term_minus, no_and, no_or, some_made, some_then, some_a, some_token, some_behind, part_a, part_token, part_next, part_led, meets, part_joined, part_ended, some_ended, part_any}
-use Rattle.action_grammar.proofs.Expressing.{some_port, some_sum, some_unit, some_expr, some_choice, PortBy, roles_port, ChoiceBy, choice_from, choice_to, Member, Named, TermBy, roles_term, starts_term, signed, PartIn, Added, SumBy, sum_from, sum_to, Compared, Tested, OrNone, UnitBy, roles_unit, starts_unit, UnitIn, ConjBy, conj_from, conj_to, starts_conj, ConjIn, ExprBy, expr_from, expr_to}
+use Rattle.action_grammar.proofs.Expressing.{some_port, some_sum, some_unit, some_expr, some_selection, PortBy, roles_port, SelectionBy, selection_from, selection_to, Member, Named, TermBy, roles_term, starts_term, signed, PartIn, Added, SumBy, sum_from, sum_to, Compared, Tested, OrNone, UnitBy, roles_unit, starts_unit, UnitIn, ConjBy, conj_from, conj_to, starts_conj, ConjIn, ExprBy, expr_from, expr_to}
 
 -- the parts of one number of levels
 pub record Parts (n left : ℕ) (r : Readers) : Type 0 where
@@ -33,24 +33,24 @@ module _ (n left : ℕ) (below : ℕ → Readers) (under : (t : Lexeme) → deep
   -- ---- a name for the ports of a set, with a guard
 
   module _ (v s : Lexeme) where
-    abbrev InParens : Lang Choice
-    InParens = Then (IsExpr (less n) (less left)) (λ g. Made (IsA CloseSign) (λ c. choice v s g))
+    abbrev InParens : Lang Selection
+    InParens = Then (IsExpr (less n) (less left)) (λ g. Made (IsA CloseSign) (λ c. selection v s g))
 
-    abbrev in_parens : Reader Choice
-    in_parens = (below (less left)).expr >>= λ g. one (is_a CloseSign) >>= λ c. pure (choice v s g)
+    abbrev in_parens : Reader Selection
+    in_parens = (below (less left)).expr >>= λ g. one (is_a CloseSign) >>= λ c. pure (selection v s g)
 
     some_parens : SomeText InParens
-    some_parens = some_ended (IsExpr (less n) (less left)) CloseSign (λ g c. choice v s g) (some_expr (less n) (less left))
+    some_parens = some_ended (IsExpr (less n) (less left)) CloseSign (λ g c. selection v s g) (some_expr (less n) (less left))
 
     part_parens : IsPart (Then (Opens OpenSign n) (λ o. InParens)) (opening n (is_a OpenSign) >>= λ o. in_parens) always
     part_parens = part_next OpenSign (deep_at n) (λ o. InParens) (λ o. in_parens) always (λ o. some_parens)
-        (λ o e. part_ended (IsExpr (less n) (less left)) (below (less left)).expr (ends stops_expr) CloseSign (λ g c. choice v s g) (under o e (less left)).expr (ends_at stops_expr CloseSign refl))
+        (λ o e. part_ended (IsExpr (less n) (less left)) (below (less left)).expr (ends stops_expr) CloseSign (λ g c. selection v s g) (under o e (less left)).expr (ends_at stops_expr CloseSign refl))
 
   module _ (v : Lexeme) where
-    abbrev InSet : Lang Choice
+    abbrev InSet : Lang Selection
     InSet = Then (IsOne is_set no_limit) (λ s. Then (Opens OpenSign n) (λ o. InParens v s))
 
-    abbrev in_set : Reader Choice
+    abbrev in_set : Reader Selection
     in_set = one is_set >>= λ s. opening n (is_a OpenSign) >>= λ o. in_parens v s
 
     some_set : SomeText InSet
@@ -60,9 +60,9 @@ module _ (n left : ℕ) (below : ℕ → Readers) (under : (t : Lexeme) → deep
     part_set = part_after is_set no_limit (example PortsWord) passes_set (λ s. Then (Opens OpenSign n) (λ o. InParens v s)) (λ s. opening n (is_a OpenSign) >>= λ o. in_parens v s) always
         (λ s. some_behind OpenSign (deep_at n) (λ o. InParens v s) (λ o. some_parens v s)) (λ s e fine. part_parens v s)
 
-  part_choice : IsPart (IsChoice n left) (a_choice n left below) always
-  unfolding a_choice
-  part_choice = part_same (ChoiceBy n left) (IsChoice n left) (choice_from n left) (choice_to n left) _ always
+  part_selection : IsPart (IsSelection n left) (a_selection n left below) always
+  unfolding a_selection
+  part_selection = part_same (SelectionBy n left) (IsSelection n left) (selection_from n left) (selection_to n left) _ always
       (part_next AName (bound_at left) (λ v. Then (IsA InWord) (λ i. InSet v)) (λ v. one (is_a InWord) >>= λ i. in_set v) always (λ v. some_behind InWord no_limit (λ i. InSet v) (λ i. some_set v))
       (λ v e. part_next InWord no_limit (λ i. InSet v) (λ i. in_set v) always (λ i. some_set v) (λ i e. part_set v)))
 
@@ -76,7 +76,7 @@ module _ (n left : ℕ) (below : ℕ → Readers) (under : (t : Lexeme) → deep
   port_roles TurnWord = handled (part_next TurnWord (deep_at n) (λ t. Then (IsPort (less n) left) (λ p. Made (IsA ANumber) (λ m. turned p (as_literal m)))) (λ t. (below left).port >>= λ p. one (is_a ANumber) >>= λ m. pure (turned p (as_literal m))) always
       (λ t. some_ended (IsPort (less n) left) ANumber (λ p m. turned p (as_literal m)) (some_port (less n) left))
       (λ t e. part_ended (IsPort (less n) left) (below left).port always ANumber (λ p m. turned p (as_literal m)) (under t e left).port (λ u e. refl)))
-  port_roles FirstWord = handled (part_led FirstWord no_limit (IsChoice n left) (a_choice n left below) (λ t c. first c.name c.set c.guard) always (some_choice n left) (λ t e. part_choice))
+  port_roles FirstWord = handled (part_led FirstWord no_limit (IsSelection n left) (a_selection n left below) (λ t c. first c.name c.set c.guard) always (some_selection n left) (λ t e. part_selection))
   port_roles _ = no_role (λ xs p is. is) refl
 
   part_port : IsPart (IsPort n left) (a_port n left below) always
@@ -117,7 +117,7 @@ module _ (n left : ℕ) (below : ℕ → Readers) (under : (t : Lexeme) → deep
   term_roles EndWord = handled part_of
   term_roles TurnWord = handled part_of
   term_roles FirstWord = handled part_of
-  term_roles CountWord = any_term (TermBy n left CountWord) (term_by n left below CountWord) (part_led CountWord no_limit (IsChoice n left) (a_choice n left below) (λ t c. count c.name c.set c.guard) always (some_choice n left) (λ t e. part_choice))
+  term_roles CountWord = any_term (TermBy n left CountWord) (term_by n left below CountWord) (part_led CountWord no_limit (IsSelection n left) (a_selection n left below) (λ t c. count c.name c.set c.guard) always (some_selection n left) (λ t e. part_selection))
   term_roles SideWord = any_term (TermBy n left SideWord) (term_by n left below SideWord) (part_led SideWord no_limit (IsPort n left) (a_port n left below) (λ t p. direction (as_side t) p) always (some_port n left) (λ t e. part_port))
   term_roles InnerWord = any_term (TermBy n left InnerWord) (term_by n left below InnerWord) (part_token InnerWord (λ t. inner))
   term_roles Mod6Word = any_term (TermBy n left Mod6Word) (term_by n left below Mod6Word) (part_next Mod6Word no_limit (λ t. Then (Opens OpenSign n) (λ o. Summed)) (λ t. opening n (is_a OpenSign) >>= λ o. summed) always
@@ -189,7 +189,7 @@ module _ (n left : ℕ) (below : ℕ → Readers) (under : (t : Lexeme) → deep
   unit_roles OpenSign = any_unit (UnitBy n left OpenSign) (unit_by n left below OpenSign) (part_next OpenSign (deep_at n) (λ o. Then (IsExpr (less n) left) (λ g. Made (IsA CloseSign) (λ c. g))) (λ o. (below left).expr >>= λ g. one (is_a CloseSign) >>= λ c. pure g) always
       (λ o. some_ended (IsExpr (less n) left) CloseSign (λ g c. g) (some_expr (less n) left))
       (λ o e. part_ended (IsExpr (less n) left) (below left).expr (ends stops_expr) CloseSign (λ g c. g) (under o e left).expr (ends_at stops_expr CloseSign refl)))
-  unit_roles QuantifierWord = any_unit (UnitBy n left QuantifierWord) (unit_by n left below QuantifierWord) (part_led QuantifierWord no_limit (IsChoice n left) (a_choice n left below) (λ t c. quantified (as_quantifier t) c.name c.set c.guard) always (some_choice n left) (λ t e. part_choice))
+  unit_roles QuantifierWord = any_unit (UnitBy n left QuantifierWord) (unit_by n left below QuantifierWord) (part_led QuantifierWord no_limit (IsSelection n left) (a_selection n left below) (λ t c. quantified (as_quantifier t) c.name c.set c.guard) always (some_selection n left) (λ t e. part_selection))
   unit_roles TestWord = tested_handled
   unit_roles FreeWord = tested_handled
   unit_roles r = compared_handled (begins_sum r)
@@ -237,8 +237,8 @@ parts_inside (suc n) t e left = parts_with n left (inside n) (parts_inside n)
 pub parts_at : (n left : ℕ) → Parts n left (readers n left (inside n))
 parts_at n left = parts_with n left (inside n) (parts_inside n)
 
-pub part_choice_at : (n left : ℕ) → IsPart (IsChoice n left) (a_choice n left (inside n)) always
-part_choice_at n left = part_choice n left (inside n) (parts_inside n)
+pub part_selection_at : (n left : ℕ) → IsPart (IsSelection n left) (a_selection n left (inside n)) always
+part_selection_at n left = part_selection n left (inside n) (parts_inside n)
 
 pub exact_expr : (n left : ℕ) → Exact (IsExpr n left) (expr_at n left)
 exact_expr n left = exact (IsExpr n left) (expr_at n left) (parts_at n left).expr.law

@@ -16,13 +16,13 @@ use Rattle.action_tree.specs.Limits.{most_further}
 use Rattle.action_grammar.specs.declared.role.Role.{Role}
 use Rattle.action_grammar.specs.declared.role.Role.TheVariants.{AName, DotSign, BecomesSign, SemicolonSign, EndWord, TurnWord, FirstWord, LetWord, IfWord, ThenWord, ElseWord, FiWord, ForWord, DoWord, OdWord}
 use Rattle.action_grammar.specs.Roles.{role, same_role, is_a, as_name}
-use Rattle.action_grammar.specs.Expressions.{IsA, bound_at, Binds, Choice, IsPort, IsChoice, IsSum, IsExpr}
+use Rattle.action_grammar.specs.Expressions.{IsA, bound_at, Binds, Selection, IsPort, IsSelection, IsSum, IsExpr}
 use Rattle.action_grammar.specs.Statements.{IsStmt, IsElse, no_else, IsStmts}
-use Rattle.action_grammar.specs.ExpressionReaders.{level_limit, port_at, choice_at, sum_at, expr_at}
+use Rattle.action_grammar.specs.ExpressionReaders.{level_limit, port_at, selection_at, sum_at, expr_at}
 use Rattle.action_grammar.specs.StatementReaders.{begins_stmt, put_member, put_by, else_part, an_if, a_for, stmt_by, a_stmt, scope_behind, stmt_in, all_stmts, stmts_inside, stmts_at}
 use Rattle.action_grammar.proofs.Playing.{example, passes, ends, ends_at, other_role, stops_sum, stops_expr, some_made, some_then, some_token, some_behind, part_next, part_led, meets, part_joined, part_ended, some_ended, part_any}
-use Rattle.action_grammar.proofs.Expressing.{some_port, some_sum, some_expr, some_choice}
-use Rattle.action_grammar.proofs.ExpressionLaws.{parts_at, part_choice_at}
+use Rattle.action_grammar.proofs.Expressing.{some_port, some_sum, some_expr, some_selection}
+use Rattle.action_grammar.proofs.ExpressionLaws.{parts_at, part_selection_at}
 use Rattle.action_grammar.proofs.Stating.{some_stmts, PutMember, PutOwn, PutBehind, PutBy, roles_put, LetBy, IfBy, ForBy, StmtBy, roles_stmt, starts_stmt, ElseBy, else_from, else_to, StmtIn, scope_of, StmtsBy, stmts_from, stmts_to}
 
 abbrev pub stops_stmts : Role → Bool
@@ -167,20 +167,20 @@ module _ (n left : ℕ) (below : ℕ → Reader Stmts) (under : (t : Lexeme) →
   part_if = part_next IfWord (deep_at n) (λ i. If) _ always (λ i. some_if)
       (λ i fine. part_joined (IsExpr (less n) left) (expr_at (less n) left) (ends stops_expr) ThenWord (λ g t. Chosen g) (λ g t. chosen g) always (parts_at (less n) left).expr (ends_at stops_expr ThenWord refl) (λ g t. some_chosen g) (λ g t. part_chosen g i fine))
 
-  abbrev Body : Choice → Lang Stmt
+  abbrev Body : Selection → Lang Stmt
   Body c = Then (IsStmts (less n) (less left)) (λ s. Made (IsA OdWord) (λ o. for_each c.name c.set c.guard s))
 
-  abbrev body : Choice → Reader Stmt
+  abbrev body : Selection → Reader Stmt
   body c = below (less left) >>= λ s. one (is_a OdWord) >>= λ o. pure (for_each c.name c.set c.guard s)
 
-  some_body : (c : Choice) → SomeText (Body c)
+  some_body : (c : Selection) → SomeText (Body c)
   some_body c = some_ended (IsStmts (less n) (less left)) OdWord (λ s o. for_each c.name c.set c.guard s) (some_stmts (less n) (less left))
 
   part_for : IsPart (ForBy n left) (a_for n left below) always
   unfolding a_for
-  part_for = part_next ForWord (deep_at n) (λ f. Then (IsChoice (less n) left) (λ c. Then (IsA DoWord) (λ d. Body c))) _ always
-      (λ f. some_then (IsChoice (less n) left) (λ c. Then (IsA DoWord) (λ d. Body c)) (some_choice (less n) left) (λ c. some_behind DoWord no_limit (λ d. Body c) (λ d. some_body c)))
-      (λ f fine. part_joined (IsChoice (less n) left) (choice_at (less n) left) always DoWord (λ c d. Body c) (λ c d. body c) always (part_choice_at (less n) left) (λ t e. refl) (λ c d. some_body c)
+  part_for = part_next ForWord (deep_at n) (λ f. Then (IsSelection (less n) left) (λ c. Then (IsA DoWord) (λ d. Body c))) _ always
+      (λ f. some_then (IsSelection (less n) left) (λ c. Then (IsA DoWord) (λ d. Body c)) (some_selection (less n) left) (λ c. some_behind DoWord no_limit (λ d. Body c) (λ d. some_body c)))
+      (λ f fine. part_joined (IsSelection (less n) left) (selection_at (less n) left) always DoWord (λ c d. Body c) (λ c d. body c) always (part_selection_at (less n) left) (λ t e. refl) (λ c d. some_body c)
       (λ c d. part_ended (IsStmts (less n) (less left)) (below (less left)) (ends stops_stmts) OdWord (λ s o. for_each c.name c.set c.guard s) (under f fine (less left)) (ends_at stops_stmts OdWord refl)))
 
   any_stmt : (P : Lang Stmt) (p : Reader Stmt) → IsPart P p always → IsHandled P p (ends stops_sum)

@@ -11,12 +11,12 @@ use Rattle.action_tree.specs.Limits.{most_further}
 use Rattle.action_grammar.specs.declared.role.Role.{Role}
 use Rattle.action_grammar.specs.declared.role.Role.TheVariants.{AName, ANumber, DotSign, BecomesSign, SemicolonSign, EndWord, TurnWord, FirstWord, LetWord, IfWord, ThenWord, ElseWord, FiWord, ForWord, DoWord, OdWord}
 use Rattle.action_grammar.specs.Roles.{role, is_a, as_name}
-use Rattle.action_grammar.specs.Expressions.{IsA, Opens, Binds, IsPort, is_bound, is_end, is_turn, is_first, IsChoice, IsSum, IsExpr}
+use Rattle.action_grammar.specs.Expressions.{IsA, Opens, Binds, IsPort, is_bound, is_end, is_turn, is_first, IsSelection, IsSum, IsExpr}
 use Rattle.action_grammar.specs.Statements.{IsStmt, is_put, is_put_of, is_let, is_if, is_for, IsElse, no_else, with_else, IsStmts, is_stmts, IsMore, no_more_stmts, more_stmts}
 use Rattle.action_grammar.specs.ExpressionReaders.{level_limit}
 use Rattle.action_grammar.specs.StatementReaders.{begins_stmt, Scope, scope_behind}
 use Rattle.action_grammar.proofs.Playing.{is_in, example, passes, passes_dirterm, an_example}
-use Rattle.action_grammar.proofs.Expressing.{some_port, some_sum, some_expr, some_choice, Formed, formed_more, formed_open, made_case, limited_is, is_limited, PortBy, roles_port, symbol_by}
+use Rattle.action_grammar.proofs.Expressing.{some_port, some_sum, some_expr, some_selection, Formed, formed_more, formed_open, made_case, limited_is, is_limited, PortBy, roles_port, symbol_by}
 
 -- ---- some text of each family
 
@@ -62,7 +62,7 @@ abbrev pub IfBy : ℕ → ℕ → Lang Stmt
 IfBy n left = Then (Opens IfWord n) (λ i. Then (IsExpr (less n) left) (λ g. Then (IsA ThenWord) (λ t. Then (IsStmts (less n) left) (λ s. Then (IsElse (less n) left) (λ e. Made (IsA FiWord) (λ f. if_then g s e))))))
 
 abbrev pub ForBy : ℕ → ℕ → Lang Stmt
-ForBy n left = Then (Opens ForWord n) (λ f. Then (IsChoice (less n) left) (λ c. Then (IsA DoWord) (λ d. Then (IsStmts (less n) (less left)) (λ s. Made (IsA OdWord) (λ o. for_each c.name c.set c.guard s)))))
+ForBy n left = Then (Opens ForWord n) (λ f. Then (IsSelection (less n) left) (λ c. Then (IsA DoWord) (λ d. Then (IsStmts (less n) (less left)) (λ s. Made (IsA OdWord) (λ o. for_each c.name c.set c.guard s)))))
 
 abbrev pub LetBy : ℕ → ℕ → Lang Stmt
 LetBy n left = Then (IsA LetWord) (λ l. Then (Binds left) (λ v. Then (IsA BecomesSign) (λ b. Made (IsPort n left) (λ p. let_be (as_name v) p))))
@@ -133,7 +133,7 @@ stmt_each n left t TurnWord e f =
     let s = some_sum n left in
     record { more = _; whole = _; is = is_put_of (is_turn (is_one t (is_in TurnWord t e)) p.is (an_example ANumber)) (an_example DotSign) (an_example AName) (an_example BecomesSign) s.is }
 stmt_each n left t FirstWord e f =
-    let c = some_choice n left in
+    let c = some_selection n left in
     let s = some_sum n left in
     record { more = _; whole = _; is = is_put_of (is_first (is_one t (is_in FirstWord t e)) c.is) (an_example DotSign) (an_example AName) (an_example BecomesSign) s.is }
 stmt_each n left t LetWord e f = let p = some_port n left in record { more = _; whole = _; is = is_let (is_one t (is_in LetWord t e)) (is_one (example AName) (passes AName)) (an_example BecomesSign) p.is }
@@ -142,7 +142,7 @@ stmt_each n left t IfWord e f =
     let s = some_stmts (less n) left in
     record { more = _; whole = _; is = is_if (is_one t (is_in IfWord t e)) g.is (an_example ThenWord) s.is no_else (an_example FiWord) }
 stmt_each n left t ForWord e f =
-    let c = some_choice (less n) left in
+    let c = some_selection (less n) left in
     let s = some_stmts (less n) (less left) in
     record { more = _; whole = _; is = is_for (is_one t (is_in ForWord t e)) c.is (an_example DoWord) s.is (an_example OdWord) }
 stmt_each n left t _ e f = absurd cc

@@ -9,7 +9,7 @@ use Rattle.action_tree.specs.Limits.{most_further}
 use Rattle.action_grammar.specs.declared.role.Role.{Role}
 use Rattle.action_grammar.specs.declared.role.Role.TheVariants.{AName, ANumber, OpenSign, CloseSign, DotSign, MinusSign, CompareSign, AtomWord, NotWord, AndWord, OrWord, QuantifierWord, TestWord, FreeWord, InWord, CountWord, SideWord, InnerWord, Mod6Word, EndWord, TurnWord, FirstWord, IfWord, ForWord}
 use Rattle.action_grammar.specs.Roles.{role, is_a, is_test, is_set, is_dirterm, is_plus_or_minus, as_name, as_literal, as_dirterm, as_end, as_atom, as_quantifier, as_test, as_side, as_cmp}
-use Rattle.action_grammar.specs.Expressions.{bound_at, Choice, choice}
+use Rattle.action_grammar.specs.Expressions.{bound_at, Selection, selection}
 
 -- ---- with what parts begin, and which limit their first token may pass
 
@@ -58,21 +58,21 @@ pub record Readers : Type 0 where
   pub expr : Reader Guard
 
 -- Where n more levels may be opened and so many more names bound. `below` are the readers of one level less, by the names.
-unfoldable pub a_choice : ℕ → ℕ → (ℕ → Readers) → Reader Choice
-a_choice n left below = do
+unfoldable pub a_selection : ℕ → ℕ → (ℕ → Readers) → Reader Selection
+a_selection n left below = do
   v ← one_within (is_a AName) (bound_at left)
   i ← one (is_a InWord)
   s ← one is_set
   o ← opening n (is_a OpenSign)
   g ← (below (less left)).expr
   c ← one (is_a CloseSign)
-  pure (choice v s g)
+  pure (selection v s g)
 
 abbrev pub port_by : ℕ → ℕ → (ℕ → Readers) → Role → Reader PortExpr
 port_by n left below AName = one (is_a AName) >>= λ v. pure (bound (as_name v))
 port_by n left below EndWord = one (is_a EndWord) >>= λ e. one is_dirterm >>= λ d. pure (at_end (as_end e) (as_dirterm d))
 port_by n left below TurnWord = opening n (is_a TurnWord) >>= λ t. (below left).port >>= λ p. one (is_a ANumber) >>= λ m. pure (turned p (as_literal m))
-port_by n left below FirstWord = one (is_a FirstWord) >>= λ t. a_choice n left below >>= λ c. pure (first c.name c.set c.guard)
+port_by n left below FirstWord = one (is_a FirstWord) >>= λ t. a_selection n left below >>= λ c. pure (first c.name c.set c.guard)
 port_by n left below _ = refuse
 
 unfoldable pub a_port : ℕ → ℕ → (ℕ → Readers) → Reader PortExpr
@@ -89,7 +89,7 @@ term_by n left below AName = one (is_a AName) >>= λ v. optional (is_a DotSign) 
 term_by n left below EndWord = a_port n left below >>= member
 term_by n left below TurnWord = a_port n left below >>= member
 term_by n left below FirstWord = a_port n left below >>= member
-term_by n left below CountWord = one (is_a CountWord) >>= λ t. a_choice n left below >>= λ c. pure (count c.name c.set c.guard)
+term_by n left below CountWord = one (is_a CountWord) >>= λ t. a_selection n left below >>= λ c. pure (count c.name c.set c.guard)
 term_by n left below SideWord = one (is_a SideWord) >>= λ t. a_port n left below >>= λ p. pure (direction (as_side t) p)
 term_by n left below InnerWord = one (is_a InnerWord) >>= λ t. pure inner
 term_by n left below Mod6Word = one (is_a Mod6Word) >>= λ t. opening n (is_a OpenSign) >>= λ o. (below left).sum >>= λ s. one (is_a CloseSign) >>= λ c. pure (mod6 s)
@@ -121,7 +121,7 @@ abbrev pub unit_by : ℕ → ℕ → (ℕ → Readers) → Role → Reader Guard
 unit_by n left below AtomWord = one (is_a AtomWord) >>= λ t. pure (atom (as_atom t))
 unit_by n left below NotWord = opening n (is_a NotWord) >>= λ t. (below left).unit >>= λ g. pure (negation g)
 unit_by n left below OpenSign = opening n (is_a OpenSign) >>= λ o. (below left).expr >>= λ g. one (is_a CloseSign) >>= λ c. pure g
-unit_by n left below QuantifierWord = one (is_a QuantifierWord) >>= λ t. a_choice n left below >>= λ c. pure (quantified (as_quantifier t) c.name c.set c.guard)
+unit_by n left below QuantifierWord = one (is_a QuantifierWord) >>= λ t. a_selection n left below >>= λ c. pure (quantified (as_quantifier t) c.name c.set c.guard)
 unit_by n left below TestWord = a_test n left below
 unit_by n left below FreeWord = a_test n left below
 unit_by n left below r = if begins_sum r then a_comparison n left below else refuse
@@ -159,8 +159,8 @@ inside (suc n) left = readers n left (inside n)
 abbrev pub port_at : ℕ → ℕ → Reader PortExpr
 port_at n left = a_port n left (inside n)
 
-abbrev pub choice_at : ℕ → ℕ → Reader Choice
-choice_at n left = a_choice n left (inside n)
+abbrev pub selection_at : ℕ → ℕ → Reader Selection
+selection_at n left = a_selection n left (inside n)
 
 abbrev pub sum_at : ℕ → ℕ → Reader Sum
 sum_at n left = a_sum n left (inside n)

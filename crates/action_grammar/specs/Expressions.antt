@@ -39,13 +39,13 @@ abbrev pub IsMinus : Lang Bool
 IsMinus = IsOptional false (Made (IsA MinusSign) (λ u. true))
 
 -- a name for the ports of a set, one after the other, and a guard
-pub record Choice : Type 0 where
+pub record Selection : Type 0 where
   pub name : Name
   pub set : PortSet
   pub guard : Guard
 
-abbrev pub choice : Lexeme → Lexeme → Guard → Choice
-choice v s g = record { name = as_name v; set = as_set s; guard = g }
+abbrev pub selection : Lexeme → Lexeme → Guard → Selection
+selection v s g = record { name = as_name v; set = as_set s; guard = g }
 
 -- Where n more levels may be opened, and so many more names may be bound. Lists go on with room for so many more elements.
 mutual
@@ -53,19 +53,19 @@ mutual
     is_bound : {n left : ℕ} {xs : List Symbol} {v : Lexeme} → IsA AName xs v → IsPort n left xs (bound (as_name v))
     is_end : {n left : ℕ} {xs ys : List Symbol} {e d : Lexeme} → IsA EndWord xs e → IsOne is_dirterm no_limit ys d → IsPort n left (xs ++ ys) (at_end (as_end e) (as_dirterm d))
     is_turn : {n left : ℕ} {xs ys zs : List Symbol} {t m : Lexeme} {p : PortExpr} → Opens TurnWord n xs t → IsPort (less n) left ys p → IsA ANumber zs m → IsPort n left (xs ++ (ys ++ zs)) (turned p (as_literal m))
-    is_first : {n left : ℕ} {xs ys : List Symbol} {t : Lexeme} {c : Choice} → IsA FirstWord xs t → IsChoice n left ys c → IsPort n left (xs ++ ys) (first c.name c.set c.guard)
+    is_first : {n left : ℕ} {xs ys : List Symbol} {t : Lexeme} {c : Selection} → IsA FirstWord xs t → IsSelection n left ys c → IsPort n left (xs ++ ys) (first c.name c.set c.guard)
 
   -- NAME in set ( expr )
-  pub data IsChoice : ℕ → ℕ → List Symbol → Choice → Type 0 where
-    is_choice : {n left : ℕ} {vs is ss os es cs : List Symbol} {v i s o c : Lexeme} {g : Guard}
+  pub data IsSelection : ℕ → ℕ → List Symbol → Selection → Type 0 where
+    is_selection : {n left : ℕ} {vs is ss os es cs : List Symbol} {v i s o c : Lexeme} {g : Guard}
         → Binds left vs v → IsA InWord is i → IsOne is_set no_limit ss s → Opens OpenSign n os o → IsExpr (less n) (less left) es g → IsA CloseSign cs c
-        → IsChoice n left (vs ++ (is ++ (ss ++ (os ++ (es ++ cs))))) (choice v s g)
+        → IsSelection n left (vs ++ (is ++ (ss ++ (os ++ (es ++ cs))))) (selection v s g)
 
   pub data IsTerm : ℕ → ℕ → List Symbol → Term → Type 0 where
     is_number : {n left : ℕ} {xs : List Symbol} {m : Lexeme} → IsA ANumber xs m → IsTerm n left xs (number (as_literal m))
     is_own : {n left : ℕ} {xs : List Symbol} {v : Lexeme} → IsA AName xs v → IsTerm n left xs (own (as_name v))
     is_of_port : {n left : ℕ} {xs ys zs : List Symbol} {d v : Lexeme} {p : PortExpr} → IsPort n left xs p → IsA DotSign ys d → IsA AName zs v → IsTerm n left (xs ++ (ys ++ zs)) (of_port p (as_name v))
-    is_count : {n left : ℕ} {xs ys : List Symbol} {t : Lexeme} {c : Choice} → IsA CountWord xs t → IsChoice n left ys c → IsTerm n left (xs ++ ys) (count c.name c.set c.guard)
+    is_count : {n left : ℕ} {xs ys : List Symbol} {t : Lexeme} {c : Selection} → IsA CountWord xs t → IsSelection n left ys c → IsTerm n left (xs ++ ys) (count c.name c.set c.guard)
     is_direction : {n left : ℕ} {xs ys : List Symbol} {t : Lexeme} {p : PortExpr} → IsA SideWord xs t → IsPort n left ys p → IsTerm n left (xs ++ ys) (direction (as_side t) p)
     is_inner : {n left : ℕ} {xs : List Symbol} {t : Lexeme} → IsA InnerWord xs t → IsTerm n left xs inner
     is_mod6 : {n left : ℕ} {xs os ys cs : List Symbol} {t o c : Lexeme} {s : Sum} → IsA Mod6Word xs t → Opens OpenSign n os o → IsSum (less n) left ys s → IsA CloseSign cs c → IsTerm n left (xs ++ (os ++ (ys ++ cs))) (mod6 s)
@@ -83,7 +83,7 @@ mutual
     is_atom : {n left : ℕ} {xs : List Symbol} {t : Lexeme} → IsA AtomWord xs t → IsUnit n left xs (atom (as_atom t))
     is_not : {n left : ℕ} {xs ys : List Symbol} {t : Lexeme} {g : Guard} → Opens NotWord n xs t → IsUnit (less n) left ys g → IsUnit n left (xs ++ ys) (negation g)
     is_parens : {n left : ℕ} {os ys cs : List Symbol} {o c : Lexeme} {g : Guard} → Opens OpenSign n os o → IsExpr (less n) left ys g → IsA CloseSign cs c → IsUnit n left (os ++ (ys ++ cs)) g
-    is_quantified : {n left : ℕ} {xs ys : List Symbol} {t : Lexeme} {c : Choice} → IsA QuantifierWord xs t → IsChoice n left ys c → IsUnit n left (xs ++ ys) (quantified (as_quantifier t) c.name c.set c.guard)
+    is_quantified : {n left : ℕ} {xs ys : List Symbol} {t : Lexeme} {c : Selection} → IsA QuantifierWord xs t → IsSelection n left ys c → IsUnit n left (xs ++ ys) (quantified (as_quantifier t) c.name c.set c.guard)
     is_tested : {n left : ℕ} {xs ys : List Symbol} {t : Lexeme} {p : PortExpr} → IsOne is_test no_limit xs t → IsPort n left ys p → IsUnit n left (xs ++ ys) (tested (as_test t) p)
     is_compared : {n left : ℕ} {xs ys zs : List Symbol} {c : Lexeme} {a b : Sum} → IsSum n left xs a → IsA CompareSign ys c → IsSum n left zs b → IsUnit n left (xs ++ (ys ++ zs)) (comparison a (as_cmp c) b)
 

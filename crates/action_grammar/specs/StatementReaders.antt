@@ -9,7 +9,7 @@ use Rattle.action_grammar.specs.declared.role.Role.{Role}
 use Rattle.action_grammar.specs.declared.role.Role.TheVariants.{AName, DotSign, BecomesSign, SemicolonSign, EndWord, TurnWord, FirstWord, LetWord, IfWord, ThenWord, ElseWord, FiWord, ForWord, DoWord, OdWord}
 use Rattle.action_grammar.specs.Roles.{role, is_a, as_name}
 use Rattle.action_grammar.specs.Expressions.{bound_at}
-use Rattle.action_grammar.specs.ExpressionReaders.{level_limit, port_at, choice_at, sum_at, expr_at}
+use Rattle.action_grammar.specs.ExpressionReaders.{level_limit, port_at, selection_at, sum_at, expr_at}
 
 abbrev pub begins_stmt : Role → Bool
 begins_stmt AName = true
@@ -48,7 +48,7 @@ an_if n left below = do
 unfoldable pub a_for : ℕ → ℕ → (ℕ → Reader Stmts) → Reader Stmt
 a_for n left below = do
   f ← opening n (is_a ForWord)
-  c ← choice_at (less n) left
+  c ← selection_at (less n) left
   d ← one (is_a DoWord)
   s ← below (less left)
   o ← one (is_a OdWord)

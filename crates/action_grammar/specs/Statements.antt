@@ -8,7 +8,7 @@ use Rattle.action_tree.specs.Productions.{after}
 use Rattle.action_tree.specs.Limits.{most_further}
 use Rattle.action_grammar.specs.declared.role.Role.TheVariants.{AName, DotSign, BecomesSign, SemicolonSign, LetWord, IfWord, ThenWord, ElseWord, FiWord, ForWord, DoWord, OdWord}
 use Rattle.action_grammar.specs.Roles.{as_name}
-use Rattle.action_grammar.specs.Expressions.{IsA, Opens, Binds, limited_text, Choice, IsPort, IsChoice, IsSum, IsExpr}
+use Rattle.action_grammar.specs.Expressions.{IsA, Opens, Binds, limited_text, Selection, IsPort, IsSelection, IsSum, IsExpr}
 
 -- A name that `let` binds is in force from the next statement on, one that `for` binds in its parenthesis and its statements.
 mutual
@@ -20,7 +20,7 @@ mutual
         → IsStmt n left (ls ++ (vs ++ (bs ++ ps))) (let_be (as_name v) p)
     is_if : {n left : ℕ} {is gs ts ss es fs : List Symbol} {i t f : Lexeme} {g : Guard} {s e : Stmts} → Opens IfWord n is i → IsExpr (less n) left gs g → IsA ThenWord ts t → IsStmts (less n) left ss s → IsElse (less n) left es e → IsA FiWord fs f
         → IsStmt n left (is ++ (gs ++ (ts ++ (ss ++ (es ++ fs))))) (if_then g s e)
-    is_for : {n left : ℕ} {fs cs ds ss os : List Symbol} {f d o : Lexeme} {c : Choice} {s : Stmts} → Opens ForWord n fs f → IsChoice (less n) left cs c → IsA DoWord ds d → IsStmts (less n) (less left) ss s → IsA OdWord os o
+    is_for : {n left : ℕ} {fs cs ds ss os : List Symbol} {f d o : Lexeme} {c : Selection} {s : Stmts} → Opens ForWord n fs f → IsSelection (less n) left cs c → IsA DoWord ds d → IsStmts (less n) (less left) ss s → IsA OdWord os o
         → IsStmt n left (fs ++ (cs ++ (ds ++ (ss ++ os)))) (for_each c.name c.set c.guard s)
 
   -- the else part, which may be left out

@@ -1,6 +1,5 @@
 pub mod Tables
 pub mod Tokens
-pub mod Built
 pub mod Fullness
 pub mod Levels
 pub mod Elements

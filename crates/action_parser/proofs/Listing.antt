@@ -1,5 +1,5 @@
 -- A list that a loop read, and what the reader makes of it.
-use Rattle.std.proofs.Common.{◌≡◌, ◌≤◌, arith, ℕ, Bool, List, [], ◌∷◌, length, Ok, Err, refl, sym, ap, ◌∙◌}
+use Rattle.std.proofs.Common.{◌≡◌, ◌≤◌, arith, ℕ, Bool, List, [], ◌∷◌, ◌++◌, length, Ok, Err, refl, sym, ap, ◌∙◌}
 use Rattle.text_tokens.specs.declared.refusal.Refusal.{Refusal}
 use Rattle.text_tokens.specs.Text.{Lexeme}
 use Rattle.text_tokens.specs.Cursor.{Cursor}
@@ -17,6 +17,10 @@ use Rattle.action_parser.specs.Lists.{with_first, more_units, more_conjs, more_p
 one_before : {A : Type 0} (a : A) (r : Answer (List A)) → and_then r (λ rest us. Ok (a ∷ rest, us)) ≡ prepend (a ∷ []) r
 one_before a (Ok r) = refl
 one_before a (Err r) = refl
+
+-- what stands in a list behind two pushes
+pub two_pushed : {A : Type 0} {none one two : List A} (a b : A) → none ≡ [] → one ≡ none ++ a ∷ [] → two ≡ one ++ b ∷ [] → two ≡ a ∷ b ∷ []
+two_pushed a b empty first second = rw (second, first, empty) refl
 
 -- behind the first element the loop begins
 pub begins_with : {A : Type 0} (r : Reader (List A)) (q : Reader (List A)) (start here : Cursor) (a : A) (found : List A) → found ≡ a ∷ [] → Left r start (with_first a q) here → StillReads r start found q here

@@ -1,6 +1,6 @@
 pub mod Readings
 pub mod Spelled
 pub mod Full
-pub mod Choices
+pub mod Selections
 pub mod Lists
 pub mod PartsOf

@@ -10,11 +10,11 @@ ghost use Rattle.action_grammar.specs.Roles.{is_a, is_plus_or_minus};
 ghost use Rattle.action_grammar.specs.declared.role.Role.TheVariants as role;
 ghost use Rattle.action_grammar.specs.ExpressionReaders as spec;
 ghost use Rattle.action_grammar.specs.ExpressionReaders.{inside};
-ghost use Rattle.action_parser.specs.Choices.{choice_of};
+ghost use Rattle.action_parser.specs.Selections.{selection_of};
 
-use crate::choice::{Choice, quantified};
 use crate::full::{begins_sum, full_guard, full_sum};
 use crate::roles::{is_next, next_role, open, token, unexpected};
+use crate::selection::{Selection, quantified};
 use crate::words::{
     atom, bound_name, comparison, direction, dirterm, end, is_joint, joint, literal, member, minus,
     name, own_or_member, port_set, test, tested, text,
@@ -149,8 +149,8 @@ fn read_unit(
         }
         Role::QuantifierWord => {
             let word = text(tokens, Role::QuantifierWord)?;
-            let choice = read_choice(alloc, tokens, levels, names)?;
-            Ok(quantified(word, choice))
+            let selection = read_selection(alloc, tokens, levels, names)?;
+            Ok(quantified(word, selection))
         }
         Role::TestWord | Role::FreeWord => {
             let word = test(tokens)?;
@@ -236,8 +236,8 @@ fn read_term(
         }
         Role::CountWord => {
             token(tokens, Role::CountWord)?;
-            let choice = read_choice(alloc, tokens, levels, names)?;
-            Ok(Term::Count(choice.name, choice.set, choice.guard))
+            let selection = read_selection(alloc, tokens, levels, names)?;
+            Ok(Term::Count(selection.name, selection.set, selection.guard))
         }
         Role::SideWord => {
             let word = text(tokens, Role::SideWord)?;
@@ -286,8 +286,8 @@ pub fn read_port(
         }
         Role::FirstWord => {
             token(tokens, Role::FirstWord)?;
-            let choice = read_choice(alloc, tokens, levels, names)?;
-            Ok(PortExpr::First(choice.name, choice.set, choice.guard))
+            let selection = read_selection(alloc, tokens, levels, names)?;
+            Ok(PortExpr::First(selection.name, selection.set, selection.guard))
         }
         _ => Err(unexpected(tokens)),
     }
@@ -295,13 +295,13 @@ pub fn read_port(
 
 /// A name for the ports of a set, and a guard in parentheses, in which the name is in force.
 #[cycle(expression)]
-pub fn read_choice(
+pub fn read_selection(
     alloc: Global,
     tokens: &mut Tokens<'_>,
     levels: u32,
     names: u32,
-) -> Result<Choice, ReadRefusal>
-    ensures { Gives choice_of (spec.choice_at levels names) tokens.old result tokens.new }
+) -> Result<Selection, ReadRefusal>
+    ensures { Gives selection_of (spec.selection_at levels names) tokens.old result tokens.new }
 {
     let name = bound_name(tokens, names)?;
     token(tokens, Role::InWord)?;
@@ -309,7 +309,7 @@ pub fn read_choice(
     open(tokens, Role::OpenSign, levels)?;
     let guard = read_guard(alloc, tokens, levels - 1, names - 1)?;
     token(tokens, Role::CloseSign)?;
-    Ok(Choice {
+    Ok(Selection {
         name,
         set,
         guard: Box::new(alloc, guard)?,

@@ -4,27 +4,32 @@ ghost use Rattle.std.specs.Prelude.{◌≡◌, ◌<◌, IfOk, IfSome, map, optio
 ghost use Rattle.text_tokens.specs.Steps.{Gives, another};
 ghost use Rattle.text_tokens.specs.Reading.{behind_sign};
 ghost use Rattle.action_tree.specs.Trees as tree;
+ghost use Rattle.action_tree.specs.Limits.{most_further};
 ghost use Rattle.action_tree.specs.Productions.{after, after_all};
-ghost use Rattle.action_tree.specs.Views.{stmt_of, stmts_of, port_of, move_of};
+ghost use Rattle.action_tree.specs.Views.{guard_of, stmt_of, stmts_of, port_of, move_of};
 ghost use Rattle.action_grammar.specs.Roles.{is_a};
 ghost use Rattle.action_grammar.specs.declared.role.Role.TheVariants as role;
 ghost use Rattle.action_grammar.specs.StatementReaders as spec;
 ghost use Rattle.action_grammar.specs.StatementReaders.{stmts_inside};
 ghost use Rattle.action_grammar.specs.ProgramReaders as programs;
-ghost use Rattle.action_parser.specs.Choices.{choice_of};
+ghost use Rattle.action_parser.specs.Selections.{selection_of};
 
-use crate::choice::Choice;
-use crate::expression::{read_choice, read_guard, read_port, read_sum};
+use crate::expression::{read_guard, read_port, read_selection, read_sum};
 use crate::full::full_stmts;
 use crate::roles::{is_next, next_role, open, token, unexpected};
+use crate::selection::Selection;
 use crate::words::{bound_name, end, moved_through, name, text};
 use action_grammar::Role;
-use action_tree::{Move, PortExpr, Stmt};
+use action_tree::{Guard, Move, PortExpr, Stmt};
 use std::alloc::Global;
 use text_tokens::{ReadRefusal, Tokens};
 
 /// How many statements of a list may stand behind its first.
-const MORE: u32 = 63;
+fn further_stmts() -> u32
+    ensures { result ≡ most_further }
+{
+    63
+}
 
 /// How many more names may be bound behind a statement: a `let` binds one.
 fn names_after(names: u32, stmt: &Stmt) -> u32
@@ -61,7 +66,7 @@ pub fn read_stmts(
     let mut left = names_after(names, &first);
     let mut found = Vec::new(alloc);
     found.push(first)?;
-    let mut room = MORE;
+    let mut room = further_stmts();
     while let Some(next) = more_stmt(alloc, tokens, levels, left, room)? {
         left = names_after(left, &next);
         found.push(next)?;
@@ -190,7 +195,7 @@ fn read_if(
     let body = read_stmts(alloc, tokens, levels - 1, names)?;
     let otherwise = read_else(alloc, tokens, levels - 1, names)?;
     token(tokens, Role::FiWord)?;
-    Ok(Stmt::If(guard, body, otherwise))
+    Ok(if_then(guard, body, otherwise))
 }
 
 /// The statements behind `else`, if it comes.
@@ -221,18 +226,25 @@ fn read_for(
     ensures { Gives stmt_of (spec.a_for levels names (stmts_inside levels)) tokens.old result tokens.new }
 {
     open(tokens, Role::ForWord, levels)?;
-    let choice = read_choice(alloc, tokens, levels - 1, names)?;
+    let selection = read_selection(alloc, tokens, levels - 1, names)?;
     token(tokens, Role::DoWord)?;
     let body = read_stmts(alloc, tokens, levels - 1, names.saturating_sub(1))?;
     token(tokens, Role::OdWord)?;
-    Ok(for_each(choice, body))
+    Ok(for_each(selection, body))
 }
 
-/// A `for` of a choice and statements.
-fn for_each(choice: Choice, body: Vec<Stmt>) -> Stmt
-    ensures { stmt_of result ≡ tree.for_each (choice_of choice).name (choice_of choice).set (choice_of choice).guard (stmts_of body.items) }
+/// An `if` of a guard, statements, and those behind `else`, which are none where it does not come.
+fn if_then(guard: Guard, body: Vec<Stmt>, otherwise: Vec<Stmt>) -> Stmt
+    ensures { stmt_of result ≡ tree.if_then (guard_of guard) (stmts_of body.items) (stmts_of otherwise.items) }
 {
-    let Choice { name, set, guard } = choice;
+    Stmt::If(guard, body, otherwise)
+}
+
+/// A `for` of a selection and statements.
+fn for_each(selection: Selection, body: Vec<Stmt>) -> Stmt
+    ensures { stmt_of result ≡ tree.for_each (selection_of selection).name (selection_of selection).set (selection_of selection).guard (stmts_of body.items) }
+{
+    let Selection { name, set, guard } = selection;
     Stmt::For(name, set, Box::into_inner(guard), body)
 }
 

@@ -14,9 +14,9 @@ use Rattle.action_tree.proofs.Conditions.{left_of, right_of, from, upto}
 use Rattle.action_grammar.specs.declared.role.Role.TheVariants.{OpenSign, CloseSign, DotSign, MinusSign, NotWord, AndWord, OrWord, InWord, CountWord, InnerWord, Mod6Word, TurnWord, FirstWord}
 use Rattle.action_grammar.specs.Roles.{is_a, as_name, as_literal, as_dirterm, as_end, as_atom, as_quantifier, as_test, as_side, as_cmp}
 use Rattle.action_grammar.specs.Expressions as grammar
-use Rattle.action_grammar.specs.Expressions.{Choice, choice, IsPort, is_bound, is_end, is_turn, is_first, IsChoice, is_choice, IsTerm, is_number, is_own, is_of_port, is_count, is_direction, is_inner, is_mod6, IsSum, is_sum, IsTerms, no_more_terms, more_terms, IsUnit, is_atom, is_not, is_parens, is_quantified, is_tested, is_compared, IsConj, IsUnits, no_more_units, more_units, IsExpr, is_expr, IsConjs, no_more_conjs, more_conjs}
+use Rattle.action_grammar.specs.Expressions.{Selection, selection, IsPort, is_bound, is_end, is_turn, is_first, IsSelection, is_selection, IsTerm, is_number, is_own, is_of_port, is_count, is_direction, is_inner, is_mod6, IsSum, is_sum, IsTerms, no_more_terms, more_terms, IsUnit, is_atom, is_not, is_parens, is_quantified, is_tested, is_compared, IsConj, IsUnits, no_more_units, more_units, IsExpr, is_expr, IsConjs, no_more_conjs, more_conjs}
 use Rattle.action_print.specs.Canon as canon
-use Rattle.action_print.specs.Canon.{joined, in_parens, choice_words, guard_words, units, conjs, sum_words, further_terms, term_words, port_words}
+use Rattle.action_print.specs.Canon.{joined, in_parens, selection_words, guard_words, units, conjs, sum_words, further_terms, term_words, port_words}
 use Rattle.action_print.proofs.Reading.{Reads, reads_as, reads_two, reads_both, reads_three, reads_four, reads_six, reads_alone, reads_nothing}
 use Rattle.action_print.proofs.Leaves.{a_word, a_sign, free_of, opens_fine, binds_fine, a_name, a_number, an_atom, a_quantifier, a_side, an_end, a_comparison, a_test, a_set, a_dirterm, a_minus, a_joint}
 
@@ -37,16 +37,16 @@ IsTermOf t u = bare_term u ≡ bare_term t
 abbrev pub IsPortOf : PortExpr → PortExpr → Type 0
 IsPortOf p q = bare_port q ≡ bare_port p
 
-pub record IsChoiceOf (v : Name) (s : PortSet) (g : Guard) (c : Choice) : Type 0 where
+pub record IsSelectionOf (v : Name) (s : PortSet) (g : Guard) (c : Selection) : Type 0 where
   pub name : bare_name c.name ≡ bare_name v
   pub set : c.set ≡ s
   pub guard : bare_guard c.guard ≡ bare_guard g
 
 -- ---- single forms
 
-pub choice_read : {n left : ℕ} (v : Name) (s : PortSet) (g : Guard) → is_name v.text ≡ true → Reads (IsExpr n left) (IsGuardOf g) (guard_words g) → Reads (IsChoice (suc n) (suc left)) (IsChoiceOf v s g) (choice_words v.text s (guard_words g))
-choice_read {n = n} {left = left} v s g e expr =
-    reads_six (λ t i u o h c. choice t u h) (λ xs ys zs ls ms ns a b c d f k p q r u w x. is_choice p q r u w x) (λ a b c d f k p q r u w x. record { name = p; set = r; guard = w })
+pub selection_read : {n left : ℕ} (v : Name) (s : PortSet) (g : Guard) → is_name v.text ≡ true → Reads (IsExpr n left) (IsGuardOf g) (guard_words g) → Reads (IsSelection (suc n) (suc left)) (IsSelectionOf v s g) (selection_words v.text s (guard_words g))
+selection_read {n = n} {left = left} v s g e expr =
+    reads_six (λ t i u o h c. selection t u h) (λ xs ys zs ls ms ns a b c d f k p q r u w x. is_selection p q r u w x) (λ a b c d f k p q r u w x. record { name = p; set = r; guard = w })
     (a_name (binds_fine left) v e) (a_word free_of InWord (codes "in") refl refl) (a_set s) (a_sign (opens_fine n) OpenSign (codes "(") refl refl refl) expr (a_sign free_of CloseSign (codes ")") refl refl refl)
 
 in_parens_read : {n left : ℕ} (g : Guard) (ws : Words) → Reads (IsExpr n left) (IsGuardOf g) ws → Reads (IsUnit (suc n) left) (IsGuardOf g) (in_parens ws)
@@ -182,7 +182,7 @@ mutual
   guard_read (quantified q v s g) (suc left) m f zero l = absurd (omega (arith, l))
   guard_read (quantified q v s g) (suc left) m f (suc n) l =
       reads_two (λ t c. quantified (as_quantifier t) c.name c.set c.guard) (λ xs ys t c p r. is_quantified p r) (λ t c p r. (cc)) (a_quantifier q)
-      (choice_read v s g (left_of _ _ f) (as_expr n left g (guard_read g left (omega (arith, m)) (right_of _ _ f) n (omega (arith, l)))))
+      (selection_read v s g (left_of _ _ f) (as_expr n left g (guard_read g left (omega (arith, m)) (right_of _ _ f) n (omega (arith, l)))))
   guard_read (tested t p) left m f n l = reads_two (λ u q. tested (as_test u) q) (λ xs ys u q r s. is_tested r s) (λ u q r s. (cc)) (a_test t) (port_read p n left l m f)
   guard_read (comparison a c b) left m f n l =
       reads_three (λ x u y. comparison x (as_cmp u) y) (λ xs ys zs x u y p q r. is_compared p q r) (λ x u y p q r. (cc))
@@ -223,7 +223,7 @@ mutual
   term_read (count v s g) (suc n) zero l m f = absurd (omega (arith, m))
   term_read (count v s g) (suc n) (suc left) l m f =
       reads_two (λ t c. count c.name c.set c.guard) (λ xs ys t c p r. is_count p r) (λ t c p r. (cc)) (a_word free_of CountWord (codes "count") refl refl)
-      (choice_read v s g (left_of _ _ f) (as_expr n left g (guard_read g left (omega (arith, m)) (right_of _ _ f) n (omega (arith, l)))))
+      (selection_read v s g (left_of _ _ f) (as_expr n left g (guard_read g left (omega (arith, m)) (right_of _ _ f) n (omega (arith, l)))))
   term_read (direction side p) n left l m f = reads_two (λ t q. direction (as_side t) q) (λ xs ys t q a b. is_direction a b) (λ t q a b. (cc)) (a_side side) (port_read p n left l m f)
   term_read inner n left l m f = reads_as (λ t. inner) (λ xs t p. is_inner p) (λ t e. refl) (a_word free_of InnerWord (codes "inner") refl refl)
   term_read (mod6 s) zero left l m f = absurd (omega (arith, l))
@@ -239,4 +239,4 @@ mutual
   port_read (first v s g) (suc n) zero l m f = absurd (omega (arith, m))
   port_read (first v s g) (suc n) (suc left) l m f =
       reads_two (λ t c. first c.name c.set c.guard) (λ xs ys t c p r. is_first p r) (λ t c p r. (cc)) (a_word free_of FirstWord (codes "first") refl refl)
-      (choice_read v s g (left_of _ _ f) (as_expr n left g (guard_read g left (omega (arith, m)) (right_of _ _ f) n (omega (arith, l)))))
+      (selection_read v s g (left_of _ _ f) (as_expr n left g (guard_read g left (omega (arith, m)) (right_of _ _ f) n (omega (arith, l)))))

@@ -1,6 +1,5 @@
 pub mod PinLemmas
 pub mod RowLemmas
-pub mod ViewLemmas
 pub mod Reading
 pub mod Leaves
 pub mod ExpressionsRead

@@ -18,7 +18,7 @@ use Rattle.action_grammar.specs.Statements.{IsStmt, is_put, is_put_of, is_let, i
 use Rattle.action_print.specs.Canon.{guard_words, sum_words, port_words, stmt_words, each_stmt, else_words, stmts_words}
 use Rattle.action_print.proofs.Reading.{Reads, reads_two, reads_both, reads_three, reads_four, reads_five, reads_six, reads_nothing}
 use Rattle.action_print.proofs.Leaves.{a_word, a_sign, free_of, opens_fine, binds_fine, a_name}
-use Rattle.action_print.proofs.ExpressionsRead.{IsGuardOf, IsSumOf, IsPortOf, choice_read, as_expr, guard_read, whole_sum_read, port_read}
+use Rattle.action_print.proofs.ExpressionsRead.{IsGuardOf, IsSumOf, IsPortOf, selection_read, as_expr, guard_read, whole_sum_read, port_read}
 
 abbrev pub IsStmtOf : Stmt → Stmt → Type 0
 IsStmtOf s t = bare_stmt t ≡ bare_stmt s
@@ -110,7 +110,7 @@ for_read : (n left : ℕ) (v : Name) (s : PortSet) (g : Guard) (ss : Stmts) → 
     → Reads (IsStmt (suc (suc n)) (suc left)) (IsStmtOf (for_each v s g ss)) (stmt_words (for_each v s g ss))
 for_read n left v s g ss e expr stmts =
     reads_five (λ f c d x o. for_each c.name c.set c.guard x) (λ xs ys zs ls ms f c d x o h i j k l. is_for h i j k l) (λ f c d x o h i j k l. (cc))
-    (a_word (opens_fine (suc n)) ForWord (codes "for") refl refl) (choice_read v s g e expr) (a_word free_of DoWord (codes "do") refl refl) stmts (a_word free_of OdWord (codes "od") refl refl)
+    (a_word (opens_fine (suc n)) ForWord (codes "for") refl refl) (selection_read v s g e expr) (a_word free_of DoWord (codes "do") refl refl) stmts (a_word free_of OdWord (codes "od") refl refl)
 
 else_some_read : (n left : ℕ) (s : Stmt) (ss : Stmts) → Reads (IsStmts n left) (AreStmtsOf (stmt_then s ss)) (stmts_words (stmt_then s ss)) → Reads (IsElse n left) (AreStmtsOf (stmt_then s ss)) (else_words (stmt_then s ss))
 else_some_read n left s ss stmts = reads_two (λ e ts. ts) (λ xs ys e ts p q. with_else p q) (λ e ts p q. q) (a_word free_of ElseWord (codes "else") refl refl) stmts

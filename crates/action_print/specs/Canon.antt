@@ -79,8 +79,8 @@ parens_unless true ws = ws
 parens_unless false ws = in_parens ws
 
 -- NAME in SET ( EXPR )
-abbrev pub choice_words : List ℕ → PortSet → Words → Words
-choice_words name s ws = name ∷ codes "in" ∷ set_word s ∷ in_parens ws
+abbrev pub selection_words : List ℕ → PortSet → Words → Words
+selection_words name s ws = name ∷ codes "in" ∷ set_word s ∷ in_parens ws
 
 -- the sign of the first term of a sum, and that of each further one
 abbrev pub first_sign : Bool → Words
@@ -101,7 +101,7 @@ abbrev mutual
   guard_words (negation g) = codes "not" ∷ parens_unless (is_unit g) (guard_words g)
   guard_words (conjunction gs) = joined (codes "and") (units gs)
   guard_words (disjunction gs) = joined (codes "or") (conjs gs)
-  guard_words (quantified q v s g) = quantifier_word q ∷ choice_words v.text s (guard_words g)
+  guard_words (quantified q v s g) = quantifier_word q ∷ selection_words v.text s (guard_words g)
   guard_words (tested t p) = test_word t ∷ port_words p
   guard_words (comparison a c b) = sum_words a ++ cmp_sign c ∷ sum_words b
 
@@ -126,7 +126,7 @@ abbrev mutual
   term_words (number n) = literal_word n ∷ []
   term_words (own v) = v.text ∷ []
   term_words (of_port p v) = port_words p ++ codes "." ∷ v.text ∷ []
-  term_words (count v s g) = codes "count" ∷ choice_words v.text s (guard_words g)
+  term_words (count v s g) = codes "count" ∷ selection_words v.text s (guard_words g)
   term_words (direction side p) = side_word side ∷ port_words p
   term_words inner = codes "inner" ∷ []
   term_words (mod6 s) = codes "mod6" ∷ in_parens (sum_words s)
@@ -135,7 +135,7 @@ abbrev mutual
   port_words (bound v) = v.text ∷ []
   port_words (at_end e d) = end_word e ∷ dirterm_word d ∷ []
   port_words (turned p n) = codes "turn" ∷ port_words p ++ literal_word n ∷ []
-  port_words (first v s g) = codes "first" ∷ choice_words v.text s (guard_words g)
+  port_words (first v s g) = codes "first" ∷ selection_words v.text s (guard_words g)
 
 -- ---- statements and movements
 
@@ -146,7 +146,7 @@ abbrev mutual
   stmt_words (put_of p v s) = port_words p ++ codes "." ∷ v.text ∷ codes ":=" ∷ sum_words s
   stmt_words (let_be v p) = codes "let" ∷ v.text ∷ codes ":=" ∷ port_words p
   stmt_words (if_then g ss es) = codes "if" ∷ guard_words g ++ (codes "then" ∷ joined (codes ";") (each_stmt ss) ++ (else_words es ++ codes "fi" ∷ []))
-  stmt_words (for_each v s g ss) = codes "for" ∷ choice_words v.text s (guard_words g) ++ (codes "do" ∷ joined (codes ";") (each_stmt ss) ++ codes "od" ∷ [])
+  stmt_words (for_each v s g ss) = codes "for" ∷ selection_words v.text s (guard_words g) ++ (codes "do" ∷ joined (codes ";") (each_stmt ss) ++ codes "od" ∷ [])
 
   pub each_stmt : Stmts → List Words
   each_stmt no_stmts = []

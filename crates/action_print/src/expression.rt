@@ -4,7 +4,7 @@ ghost use Rattle.std.specs.Prelude.{◌≡◌, ◌∷◌, ◌++◌, [], codes, O
 ghost use Rattle.text_tokens.specs.Lines.{spaced};
 ghost use Rattle.action_tree.specs.Views.{guard_of, guards_of, name_of, port_of, sum_of, term_of, terms_of};
 ghost use Rattle.action_tree.specs.Writable as writable;
-ghost use Rattle.action_print.specs.Canon.{choice_words, conjs, guard_words, joined, parens_unless, port_words, sum_words, term_words, units};
+ghost use Rattle.action_print.specs.Canon.{selection_words, conjs, guard_words, joined, parens_unless, port_words, sum_words, term_words, units};
 
 use crate::token::{
     cmp_sign, end_word, put_between, put_dirterm, put_name, put_number, put_sign, set_word,
@@ -44,11 +44,11 @@ pub fn put_guard(lines: &mut Lines, guard: &Guard) -> Result<(), AllocError>
         Guard::Or(elements) => put_conjs(lines, elements),
         Guard::Any(name, set, asked) => {
             lines.word("any")?;
-            put_choice(lines, name, *set, asked)
+            put_selection(lines, name, *set, asked)
         }
         Guard::All(name, set, asked) => {
             lines.word("all")?;
-            put_choice(lines, name, *set, asked)
+            put_selection(lines, name, *set, asked)
         }
         Guard::Linked(port) => {
             lines.word("linked")?;
@@ -117,13 +117,13 @@ fn put_conjs(lines: &mut Lines, elements: &[Guard]) -> Result<(), AllocError>
 
 /// A name for the ports of a set, and what is asked of them.
 #[cycle(expression)]
-pub fn put_choice(
+pub fn put_selection(
     lines: &mut Lines,
     name: &Word,
     set: PortSet,
     asked: &Guard,
 ) -> Result<(), AllocError>
-    ensures { OnOk result (lines.new ≡ lines.old ++ spaced (choice_words (name_of name.now).text set (guard_words (guard_of asked.now)))) }
+    ensures { OnOk result (lines.new ≡ lines.old ++ spaced (selection_words (name_of name.now).text set (guard_words (guard_of asked.now)))) }
 {
     put_name(lines, name)?;
     lines.word("in")?;
@@ -165,7 +165,7 @@ fn put_term(lines: &mut Lines, term: &Term) -> Result<(), AllocError>
         }
         Term::Count(name, set, asked) => {
             lines.word("count")?;
-            put_choice(lines, name, *set, asked)
+            put_selection(lines, name, *set, asked)
         }
         Term::Dir(port) => {
             lines.word("dir")?;
@@ -202,7 +202,7 @@ pub fn put_port(lines: &mut Lines, port: &PortExpr) -> Result<(), AllocError>
         }
         PortExpr::First(name, set, asked) => {
             lines.word("first")?;
-            put_choice(lines, name, *set, asked)
+            put_selection(lines, name, *set, asked)
         }
     }
 }

@@ -5,7 +5,7 @@ ghost use Rattle.text_tokens.specs.Lines.{spaced};
 ghost use Rattle.action_tree.specs.Views.{move_of, stmt_of, stmts_of};
 ghost use Rattle.action_print.specs.Canon.{else_words, move_words, stmt_words, stmts_words};
 
-use crate::expression::{put_choice, put_guard, put_port, put_sum};
+use crate::expression::{put_guard, put_port, put_selection, put_sum};
 use crate::token::{end_word, put_between, put_name};
 use action_tree::{Move, Stmt};
 use std::alloc::AllocError;
@@ -44,7 +44,7 @@ fn put_stmt(lines: &mut Lines, stmt: &Stmt) -> Result<(), AllocError>
         }
         Stmt::For(name, set, asked, stmts) => {
             lines.word("for")?;
-            put_choice(lines, name, *set, asked)?;
+            put_selection(lines, name, *set, asked)?;
             lines.word("do")?;
             put_stmts(lines, stmts)?;
             lines.word("od")

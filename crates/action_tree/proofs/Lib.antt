@@ -4,3 +4,4 @@ pub mod MeasuredStatements
 pub mod Produced
 pub mod ProducedStatements
 pub mod Spelling
+pub mod Viewed

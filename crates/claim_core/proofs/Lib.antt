@@ -17,7 +17,6 @@ pub mod Opening
 pub mod Places
 pub mod Ranks
 pub mod Reporting
-pub mod Samples
 pub mod Seats
 pub mod Sounds
 pub mod Stays

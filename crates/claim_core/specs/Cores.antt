@@ -6,6 +6,7 @@ use Rattle.amoebot_state.specs.declared.cell.CellName.{CellName}
 use Rattle.amoebot_state.specs.declared.cell.CellName.TheVariants as name
 use Rattle.amoebot_state.specs.declared.verdict.Verdict.{Verdict}
 use Rattle.amoebot_state.specs.Configs.{Config}
+use Rattle.amoebot_state.specs.Pairs.{Pairs}
 use Rattle.amoebot_state.specs.Zones.{Shown}
 use Rattle.amoebot_state.specs.Steps.{Run}
 use Rattle.claim_core.specs.declared.marks.Mark.{Mark}
@@ -50,6 +51,14 @@ pub record IsFinished {D : Type 0} (verdict : D → Shown → Verdict) (old new 
 abbrev pub HasPhase : List Caller → ℕ → Phase → Type 0
 HasPhase callers c p = (k : Caller) × (slice_get callers c ≡ Some k) × (k.phase ≡ p)
 
+-- a caller is in this turn
+abbrev pub HasTurn : List Caller → ℕ → ℕ → Type 0
+HasTurn callers c t = (k : Caller) × (slice_get callers c ≡ Some k) × (k.turn ≡ t)
+
+-- a caller holds these cells, the one won first at the front
+abbrev pub Holds : List Caller → ℕ → Pairs → Type 0
+Holds callers c held = (k : Caller) × (slice_get callers c ≡ Some k) × (k.held ≡ reverse held)
+
 -- a caller in a turn, of so many, that has no mark yet
 pub record IsUnmarked (turns : ℕ) (callers : List Caller) (c : ℕ) : Type 0 where
   pub record_of : Caller
@@ -65,6 +74,10 @@ looks_at g c s (Some k) m = looks g c s k m
 -- a caller with its marks
 abbrev pub caller_of : Seat → List Mark → Caller
 caller_of s marks = record { turn = s.turn; phase = s.phase; held = reverse s.held.items; marks = marks }
+
+-- the seat of a caller
+abbrev pub IsSeat : List Caller → ℕ → Seat → Type 0
+IsSeat callers c s = (marks : List Mark) × (slice_get callers c ≡ Some (caller_of s marks))
 
 abbrev pub callers_of : List Seat → List (List Mark) → List Caller
 callers_of [] ms = []

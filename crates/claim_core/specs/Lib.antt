@@ -1,14 +1,11 @@
 pub mod Cells
 pub mod Cores
-pub mod Dragging
-pub mod DraggingLaws
 pub mod Good
 pub mod Laws
 pub mod Machine
 pub mod Reached
 pub mod Rooms
 pub mod Rounds
-pub mod Samples
 pub mod SerialRuns
 pub mod Soundness
 pub mod Tags

@@ -1,6 +1,5 @@
 ghost use Rattle.claim_core.specs.Laws.{TagTellsItsOwner, IsAlwaysSound, ReachedIsGood, StateHasOneReport, EntryIsDecided, CommittedIsJournal, CommittedIsShown, OneListIsNeverBusy, OneListIsSerial, EndedStays, HoldsNothingHasNoTag, HeldByOne, RoundsEnd};
 ghost use Rattle.claim_core.specs.SerialRuns.{SerialRunIsDetermined, SerialReportIsDetermined};
-ghost use Rattle.claim_core.specs.Samples.{SmallInterleaving};
 
 use amoebot_state::step_has_one_result;
 
@@ -76,9 +75,4 @@ pub fn held_by_one()
 /// After any steps, 40 rounds for each turn of all callers together are enough for all callers to end.
 pub fn rounds_are_enough()
     ensures { RoundsEnd }
-{}
-
-/// A small interleaving of two callers whose zones meet, with the report that it leaves: one turn is Busy, the other Done.
-pub fn small_interleaving()
-    ensures { SmallInterleaving }
 {}

@@ -14,7 +14,7 @@ ghost use Rattle.claim_core.specs.Soundness.{IsSetup, Sound};
 ghost use Rattle.claim_core.specs.Rounds.{round};
 ghost use Rattle.amoebot_state.specs.declared.verdict.Change.{Change};
 ghost use Rattle.claim_core.specs.declared.state.Phase.TheVariants as phase;
-ghost use Rattle.claim_core.specs.Cores.{Begins, Frees, IsFinished, opened, HasPhase, IsUnmarked, IsCell, looks_at, opens_by, phase_after, stepped, setup_of};
+ghost use Rattle.claim_core.specs.Cores.{Begins, Frees, IsFinished, opened, HasPhase, HasTurn, Holds, IsSeat, IsUnmarked, IsCell, looks_at, opens_by, phase_after, stepped, setup_of};
 
 use crate::journal::Journal;
 use crate::lists::Lists;
@@ -155,6 +155,54 @@ impl<'d, D: Decider> Core<'d, D> {
         ensures callers { length self.now.state.callers ≡ length self.now.lists.ids }
     {
         let _lists = &self.lists;
+    }
+
+    /// The turn at which a caller is.
+    pub fn turn(&self, caller: u8) -> u32
+        requires { caller < length self.now.state.callers }
+        ensures { HasTurn self.now.state.callers caller result }
+    {
+        let seat = self.seat(caller);
+        seat.turn
+    }
+
+    /// What a caller does next.
+    pub fn phase(&self, caller: u8) -> &Phase
+        requires { caller < length self.now.state.callers }
+        ensures { HasPhase self.now.state.callers caller result.now }
+    {
+        let seat = self.seat(caller);
+        &seat.phase
+    }
+
+    /// The cells that a caller holds, in the order in which they were won, each with its value as it was recorded.
+    pub fn held(&self, caller: u8) -> &[(CellName, Cell)]
+        requires { caller < length self.now.state.callers }
+        ensures { Holds self.now.state.callers caller result.now }
+    {
+        let seat = self.seat(caller);
+        seat.held.as_slice()
+    }
+
+    /// The caller that holds the journal, if one does.
+    pub fn holder(&self) -> Option<u8>
+        ensures { result ≡ self.now.state.holder }
+    {
+        self.holder
+    }
+
+    /// The tags of all cells, by the cells' numbers: the nodes of the area by theirs, then the bodies by their ids.
+    pub fn tags(&self) -> &[u64]
+        ensures { result.now ≡ self.now.state.tags }
+    {
+        self.tags.as_slice()
+    }
+
+    fn seat(&self, caller: u8) -> &Seat
+        requires { caller < length self.now.state.callers }
+        ensures { IsSeat self.now.state.callers caller result.now }
+    {
+        &self.seats[usize::from(caller)]
     }
 
     /// The one step of a caller.
@@ -453,6 +501,3 @@ fn phase_of(verdict: Verdict) -> Phase
         Verdict::Change(change) => Phase::Taking(change),
     }
 }
-
-#[cfg(test)]
-mod tests;

@@ -1,10 +1,11 @@
 ghost use Rattle.std.specs.Prelude.{◌≡◌, ◌≤◌, ◌∷◌, ◌++◌, [], length, IfOk, OnOk, IsSome};
 ghost use Rattle.std.specs.Bool.{OnTrue};
 ghost use Rattle.std.specs.List.{All};
+ghost use Rattle.tri_lattice.specs.Lattice.{IsNear};
 ghost use Rattle.amoebot_state.specs.Configs.{bot_at};
 ghost use Rattle.amoebot_state.specs.Refusals.{IsPlain};
 ghost use Rattle.amoebot_state.specs.Zones.{shown_alone};
-ghost use Rattle.claim_core.specs.Dragging.{drag, note, by_peer, by_link};
+ghost use Rattle.claim_core_tests.specs.Dragging.{drag, note, by_peer, by_link};
 
 use amoebot_state::{
     Bot, Cell, CellName, Change, Chir, Decider, Failure, Found, Moved, Patch, Port, Verdict, World,
@@ -86,8 +87,8 @@ pub struct Dragger {
 }
 
 impl Decider for Dragger {
-    ghost use Rattle.claim_core.specs.Dragging.{dragging_shown};
-    ghost use Rattle.claim_core.specs.DraggingLaws.{dragging_touches_zone, dragging_has_next, dragging_is_exact};
+    ghost use Rattle.claim_core_tests.specs.Dragging.{dragging_shown};
+    ghost use Rattle.claim_core_tests.specs.DraggingLaws.{dragging_touches_zone, dragging_has_next, dragging_is_exact};
 
     ghost verdict = { λ d. dragging_shown d.port };
 
@@ -164,34 +165,33 @@ fn note(found: &Found) -> Verdict
     }
 }
 
+/// The node at two coordinates.
+pub fn node(x: u8, y: u8) -> Node
+    ensures { IsNear result }
+{
+    Node {
+        x: i16::from(x),
+        y: i16::from(y),
+    }
+}
+
 /// A contracted amoebot with a value of variable 0, whose local directions are the global ones.
 pub fn standing(x: u8, y: u8, value: u8) -> Bot
     ensures { IsPlain result }
 {
-    let node = Node {
-        x: i16::from(x),
-        y: i16::from(y),
-    };
+    spread((x, y), (x, y), value)
+}
+
+/// An amoebot by its head and its tail.
+pub fn spread(head: (u8, u8), tail: (u8, u8), value: u8) -> Bot
+    ensures { IsPlain result }
+{
     Bot {
-        head: node,
-        tail: node,
+        head: node(head.0, head.1),
+        tail: node(tail.0, tail.1),
         rot: 0,
         chir: Chir::Plus,
         mem: [value, 0, 0, 0, 0, 0, 0, 0],
-    }
-}
-
-/// An expanded amoebot whose head is to the right of its tail.
-pub fn spread(x: u8, y: u8, value: u8) -> Bot
-    ensures { IsPlain result }
-{
-    let tail = standing(x, y, value);
-    Bot {
-        head: Node {
-            x: i16::from(x) + 1,
-            y: i16::from(y),
-        },
-        ..tail
     }
 }
 
@@ -205,12 +205,27 @@ pub fn turned(x: u8, y: u8) -> Bot
     }
 }
 
-/// The world of these amoebots in the area 0 0 8 8, whose variable 0 is 0 or 1.
+/// A node with its occupant.
+pub fn spot(x: u8, y: u8, occupant: Option<u16>) -> (CellName, Cell) {
+    (CellName::Spot(node(x, y)), Cell::Spot(occupant))
+}
+
+/// An amoebot by its id.
+pub fn body(id: u16, bot: Bot) -> (CellName, Cell) {
+    (CellName::Body(id), Cell::Body(bot))
+}
+
+/// The area of all worlds here.
+pub fn the_area() -> Option<Area> {
+    Area::new(0, 0, 8, 8)
+}
+
+/// The world of these amoebots in that area, whose variable 0 is 0 or 1.
 pub fn world_of(alloc: Global, bots: &[Bot]) -> Result<World, Fail>
     requires few { length bots.now ≤ 4096 }
     requires plain { All IsPlain bots.now }
 {
-    let area = Area::new(0, 0, 8, 8).ok_or("an area")?;
+    let area = the_area().ok_or("an area")?;
     Ok(World::new(alloc, area, [1, 0, 0, 0, 0, 0, 0, 0], bots)?)
 }
 

@@ -30,7 +30,7 @@ fn steps<D: Decider>(core: &mut Core<'_, D>, caller: u8, number: u32)
 /// now, and a neighbour to the right of its head alone, so it notes. Then caller 0 finds its own contracted.
 #[test]
 fn the_checker_passes_the_report_of_a_pull_between_two_turns(rt: HostRuntime) -> Result<(), Fail> {
-    let first = world_of(rt.alloc(), &[spread(2, 3, 0), standing(1, 3, 0)])?;
+    let first = world_of(rt.alloc(), &[spread((3, 3), (2, 3), 0), standing(1, 3, 0)])?;
     let lists = lists_of(rt.alloc(), 2, &first, &[&[0], &[1]])?;
     let mut core = core_of(rt.alloc(), &DRAGGER, first.copy(rt.alloc())?, &lists)?;
     assert!(rt; lists.callers() == 2);

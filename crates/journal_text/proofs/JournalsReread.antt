@@ -318,15 +318,17 @@ module _ (bots actions vars : ℕ) (few_bots : bots < 2 ^ 16) (few_actions : act
   the_last_word : Rereads (IsThe is_end) Any (codes "end" ∷ [])
   the_last_word = the_word _ _ refl refl (omega arith) refl
 
-  the_journal : (es : List Entry) → length es ≤ most_entries → All (KeepsLimits bots actions vars) es → Says (IsJournal bots actions vars) (journal_text vars es) (Ok es)
-  the_journal es fit all =
+  pub journal_lines : (es : List Entry) → length es ≤ most_entries → All (KeepsLimits bots actions vars) es → RereadsLines (IsJournal bots actions vars) (Is es) ((codes "journal" ∷ []) ∷ map (entry_words vars) (enumerate_from 0 es) ++ (codes "end" ∷ []) ∷ [])
+  journal_lines es fit all =
       let in_room : 0 + length es ≤ most_entries = omega (arith, fit) in
       let lines = map (entry_words vars) (enumerate_from 0 es) in
       let last = reread_line (codes "end" ∷ []) (rereads_made (λ line. es) (codes "end" ∷ []) (λ line x. refl) the_last_word) in
       let first = reread_line (codes "journal" ∷ []) the_first_word in
-      lines_say (IsJournal bots actions vars) es ((codes "journal" ∷ []) ∷ lines ++ (codes "end" ∷ []) ∷ [])
-      (lines_next ((codes "journal" ∷ []) ∷ []) (lines ++ (codes "end" ∷ []) ∷ []) first
-      (lines_then lines ((codes "end" ∷ []) ∷ []) es (the_entries 0 es in_room all) last))
+      lines_next ((codes "journal" ∷ []) ∷ []) (lines ++ (codes "end" ∷ []) ∷ []) first
+      (lines_then lines ((codes "end" ∷ []) ∷ []) es (the_entries 0 es in_room all) last)
+
+  the_journal : (es : List Entry) → length es ≤ most_entries → All (KeepsLimits bots actions vars) es → Says (IsJournal bots actions vars) (journal_text vars es) (Ok es)
+  the_journal es fit all = lines_say (IsJournal bots actions vars) es ((codes "journal" ∷ []) ∷ map (entry_words vars) (enumerate_from 0 es) ++ (codes "end" ∷ []) ∷ []) (journal_lines es fit all)
 
 pub journals_reread : JournalsReadBack
 journals_reread bots actions vars es few_bots few_actions le fit all = the_journal bots actions vars few_bots few_actions le es fit all

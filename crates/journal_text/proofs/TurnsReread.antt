@@ -13,6 +13,7 @@ use Rattle.amoebot_state.specs.declared.cell.CellName.{CellName}
 use Rattle.amoebot_state.specs.declared.cell.CellName.TheVariants as name
 use Rattle.amoebot_state.specs.declared.verdict.Failure.{Failure}
 use Rattle.amoebot_state.specs.declared.verdict.Failure.TheVariants as failure
+use Rattle.claim_core.specs.Turns.{MarkLists}
 use Rattle.claim_core.specs.declared.marks.Mark.{Mark}
 use Rattle.claim_core.specs.declared.marks.Mark.TheVariants as mark
 use Rattle.journal_text.specs.Parts.{is_end, IsWord, IsNumber}
@@ -144,12 +145,14 @@ the_first_word = the_word _ _ refl refl (omega arith) refl
 the_last_word : Rereads (IsThe is_end) Any (codes "end" ∷ [])
 the_last_word = the_word _ _ refl refl (omega arith) refl
 
-pub turns_reread : TurnsReadBack
-turns_reread m few all =
+pub turns_lines : (m : MarkLists) → length m.marks ≤ 16 → All AreWritable m.marks → RereadsLines IsTurns (Is tt) ((codes "turns" ∷ []) ∷ flat_map caller_lines (enumerate_from 0 m.marks) ++ (codes "end" ∷ []) ∷ [])
+turns_lines m few all =
     let in_room : 0 + length m.marks ≤ 16 = omega (arith, few) in
     let lines = flat_map caller_lines (enumerate_from 0 m.marks) in
     let first = reread_line (codes "turns" ∷ []) the_first_word in
     let last = reread_line (codes "end" ∷ []) (rereads_made (λ line. tt) (codes "end" ∷ []) (λ line x. refl) the_last_word) in
-    lines_say IsTurns tt ((codes "turns" ∷ []) ∷ lines ++ (codes "end" ∷ []) ∷ [])
-    (lines_next ((codes "turns" ∷ []) ∷ []) (lines ++ (codes "end" ∷ []) ∷ []) first
-    (lines_then lines ((codes "end" ∷ []) ∷ []) tt (lines_made (λ ts. tt) lines (λ ts x. refl) (all_turns 0 m.marks in_room all)) last))
+    lines_next ((codes "turns" ∷ []) ∷ []) (lines ++ (codes "end" ∷ []) ∷ []) first
+    (lines_then lines ((codes "end" ∷ []) ∷ []) tt (lines_made (λ ts. tt) lines (λ ts x. refl) (all_turns 0 m.marks in_room all)) last)
+
+pub turns_reread : TurnsReadBack
+turns_reread m few all = lines_say IsTurns tt ((codes "turns" ∷ []) ∷ flat_map caller_lines (enumerate_from 0 m.marks) ++ (codes "end" ∷ []) ∷ []) (turns_lines m few all)

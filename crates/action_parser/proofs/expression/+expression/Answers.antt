@@ -21,19 +21,19 @@ use Rattle.action_tree.specs.Limits.{most_further}
 use Rattle.action_grammar.specs.declared.role.Role.TheVariants.{AName, ANumber, OpenSign, CloseSign, MinusSign, CompareSign, AtomWord, NotWord, AndWord, OrWord, QuantifierWord, InWord, CountWord, SideWord, InnerWord, Mod6Word, EndWord, TurnWord, FirstWord}
 use Rattle.action_grammar.specs.Roles.{role, is_a, is_test, is_set, is_dirterm, is_plus_or_minus, as_name, as_literal, as_dirterm, as_set, as_end, as_cmp}
 use Rattle.action_grammar.specs.Expressions.{bound_at}
-use Rattle.action_grammar.specs.ExpressionReaders.{Readers, begins_unit, begins_term, level_limit, a_choice, a_port, a_test, a_comparison, port_by, a_term, term_by, a_minus, part, part_in, a_sum, a_unit, unit_by, unit_in, a_conj, conj_in, an_expr, inside, member}
+use Rattle.action_grammar.specs.ExpressionReaders.{Readers, begins_unit, begins_term, level_limit, a_selection, a_port, a_test, a_comparison, port_by, a_term, term_by, a_minus, part, part_in, a_sum, a_unit, unit_by, unit_in, a_conj, conj_in, an_expr, inside, member}
 use Rattle.action_grammar.proofs.Playing.{ends, stops_term, stops_sum, stops_conj, stops_expr}
 use Rattle.action_grammar.proofs.Expressing.{UnitIn, ConjIn, PartIn}
 use Rattle.action_parser.specs.Readings.{made}
 use Rattle.action_parser.specs.Spelled.{atom_by, quantifier_by, test_by, side_by}
-use Rattle.action_parser.specs.Choices.{choice_of}
+use Rattle.action_parser.specs.Selections.{selection_of}
 use Rattle.action_parser.specs.Lists.{more_units, more_conjs, more_parts, all_units, all_conjs, all_parts, all_in, any_in}
 use Rattle.action_parser.proofs.Tokens.{taken, untaken, all_read}
 use Rattle.action_parser.proofs.Fullness.{full_for}
-use Rattle.action_parser.proofs.Built as built
+use Rattle.action_tree.proofs.Viewed as built
 use Rattle.action_parser.proofs.Elements.{unit_elements, conj_elements, part_elements}
 use Rattle.action_parser.proofs.Levels.{gives_below, gives_bound, chosen, chosen_as, none_chosen, none_begins, unit_rest, term_rest, port_rest, port_term, test_unit}
-use Rattle.action_parser.proofs.Listing.{begins_with, conj_listed, expr_listed, sum_listed, all_in_two, any_in_two}
+use Rattle.action_parser.proofs.Listing.{two_pushed, begins_with, conj_listed, expr_listed, sum_listed, all_in_two, any_in_two}
 use Rattle.action_parser.proofs.expression.+expression.Goals as goal
 
 -- ---- more_conj
@@ -124,39 +124,39 @@ more_unit-returns-clause-reads t w =
     (on guard_of (one (is_a AndWord)) (λ sign. element sign w.args.room) w.args.tokens.now w.token.new.tokens w.read_unit.new.tokens (lexeme_of w.args.tokens.now.source w.in_ok-token.field-0) (Ok g) w.in_ok-token.ensures.reads
     (with_room (λ t. begins_unit (role t)) (level_limit levels) w.args.room (a_unit levels w.args.names (inside levels)) guard_of w.token.new.tokens w.read_unit.new.tokens (Ok g) room w.in_ok-read_unit.ensures))
 
--- ---- read_choice
+-- ---- read_selection
 
-pub read_choice-returns-in_err-name : goal.read_choice-returns-in_err-name
-unfolding a_choice
-read_choice-returns-in_err-name t w =
+pub read_selection-returns-in_err-name : goal.read_selection-returns-in_err-name
+unfolding a_selection
+read_selection-returns-in_err-name t w =
     let p = err_from_is_err_and w.from_residual.result w.from_residual.ensures.1 in
-    let l0 = all_left (a_choice w.args.levels w.args.names (inside w.args.levels)) w.args.tokens.now in
+    let l0 = all_left (a_selection w.args.levels w.args.names (inside w.args.levels)) w.args.tokens.now in
     rw (p.1, p.2) (part_fails (one_within (is_a AName) (bound_at w.args.names)) _ l0 w.in_err-name.field-0.0 w.bound_name.new.tokens (untaken (one_within (is_a AName) (bound_at w.args.names)) as_name w.args.tokens.now w.bound_name.new.tokens w.in_err-name.field-0.0 w.in_err-name.ensures.reads))
 
-pub read_choice-returns-in_err-token : goal.read_choice-returns-in_err-token
-unfolding a_choice
-read_choice-returns-in_err-token t w =
+pub read_selection-returns-in_err-token : goal.read_selection-returns-in_err-token
+unfolding a_selection
+read_selection-returns-in_err-token t w =
     let p = err_from_is_err_and w.from_residual-in_err-token.result w.from_residual-in_err-token.ensures.1 in
-    let l0 = all_left (a_choice w.args.levels w.args.names (inside w.args.levels)) w.args.tokens.now in
+    let l0 = all_left (a_selection w.args.levels w.args.names (inside w.args.levels)) w.args.tokens.now in
     let x1 = taken (one_within (is_a AName) (bound_at w.args.names)) as_name w.args.tokens.now w.bound_name.new.tokens (name_of w.in_ok-name.name) w.in_ok-name.ensures.reads in
     let l1 = past_part (one_within (is_a AName) (bound_at w.args.names)) _ l0 x1.part w.bound_name.new.tokens x1.reads in
     rw (p.1, p.2) (part_fails (one (is_a InWord)) _ l1 w.in_err-token.field-0.0 w.token.new.tokens w.in_err-token.ensures.reads)
 
-pub read_choice-returns-in_err-set : goal.read_choice-returns-in_err-set
-unfolding a_choice
-read_choice-returns-in_err-set t w =
+pub read_selection-returns-in_err-set : goal.read_selection-returns-in_err-set
+unfolding a_selection
+read_selection-returns-in_err-set t w =
     let p = err_from_is_err_and w.from_residual-in_err-set.result w.from_residual-in_err-set.ensures.1 in
-    let l0 = all_left (a_choice w.args.levels w.args.names (inside w.args.levels)) w.args.tokens.now in
+    let l0 = all_left (a_selection w.args.levels w.args.names (inside w.args.levels)) w.args.tokens.now in
     let x1 = taken (one_within (is_a AName) (bound_at w.args.names)) as_name w.args.tokens.now w.bound_name.new.tokens (name_of w.in_ok-name.name) w.in_ok-name.ensures.reads in
     let l1 = past_part (one_within (is_a AName) (bound_at w.args.names)) _ l0 x1.part w.bound_name.new.tokens x1.reads in
     let l2 = past_part (one (is_a InWord)) _ l1 (lexeme_of w.bound_name.new.tokens.source w.in_ok-token.field-0) w.token.new.tokens w.in_ok-token.ensures.reads in
     rw (p.1, p.2) (part_fails (one is_set) _ l2 w.in_err-set.field-0.0 w.port_set.new.tokens (untaken (one is_set) as_set w.token.new.tokens w.port_set.new.tokens w.in_err-set.field-0.0 w.in_err-set.ensures))
 
-pub read_choice-returns-in_err-open : goal.read_choice-returns-in_err-open
-unfolding a_choice
-read_choice-returns-in_err-open t w =
+pub read_selection-returns-in_err-open : goal.read_selection-returns-in_err-open
+unfolding a_selection
+read_selection-returns-in_err-open t w =
     let p = err_from_is_err_and w.from_residual-in_err-open.result w.from_residual-in_err-open.ensures.1 in
-    let l0 = all_left (a_choice w.args.levels w.args.names (inside w.args.levels)) w.args.tokens.now in
+    let l0 = all_left (a_selection w.args.levels w.args.names (inside w.args.levels)) w.args.tokens.now in
     let x1 = taken (one_within (is_a AName) (bound_at w.args.names)) as_name w.args.tokens.now w.bound_name.new.tokens (name_of w.in_ok-name.name) w.in_ok-name.ensures.reads in
     let l1 = past_part (one_within (is_a AName) (bound_at w.args.names)) _ l0 x1.part w.bound_name.new.tokens x1.reads in
     let l2 = past_part (one (is_a InWord)) _ l1 (lexeme_of w.bound_name.new.tokens.source w.in_ok-token.field-0) w.token.new.tokens w.in_ok-token.ensures.reads in
@@ -164,11 +164,11 @@ read_choice-returns-in_err-open t w =
     let l3 = past_part (one is_set) _ l2 x3.part w.port_set.new.tokens x3.reads in
     rw (p.1, p.2) (part_fails (opening w.args.levels (is_a OpenSign)) _ l3 w.in_err-open.field-0.0 w.open.new.tokens w.in_err-open.ensures.reads)
 
-pub read_choice-returns-in_err-guard : goal.read_choice-returns-in_err-guard
-unfolding a_choice
-read_choice-returns-in_err-guard t w =
+pub read_selection-returns-in_err-guard : goal.read_selection-returns-in_err-guard
+unfolding a_selection
+read_selection-returns-in_err-guard t w =
     let p = err_from_is_err_and w.from_residual-in_err-guard.result w.from_residual-in_err-guard.ensures.1 in
-    let l0 = all_left (a_choice w.args.levels w.args.names (inside w.args.levels)) w.args.tokens.now in
+    let l0 = all_left (a_selection w.args.levels w.args.names (inside w.args.levels)) w.args.tokens.now in
     let x1 = taken (one_within (is_a AName) (bound_at w.args.names)) as_name w.args.tokens.now w.bound_name.new.tokens (name_of w.in_ok-name.name) w.in_ok-name.ensures.reads in
     let l1 = past_part (one_within (is_a AName) (bound_at w.args.names)) _ l0 x1.part w.bound_name.new.tokens x1.reads in
     let l2 = past_part (one (is_a InWord)) _ l1 (lexeme_of w.bound_name.new.tokens.source w.in_ok-token.field-0) w.token.new.tokens w.in_ok-token.ensures.reads in
@@ -177,11 +177,11 @@ read_choice-returns-in_err-guard t w =
     let l4 = past_part (opening w.args.levels (is_a OpenSign)) _ l3 (lexeme_of w.port_set.new.tokens.source w.in_ok-open.field-0) w.open.new.tokens w.in_ok-open.ensures.reads in
     rw (p.1, p.2) (part_fails ((inside w.args.levels (less w.args.names)).expr) _ l4 w.in_err-guard.field-0.0 w.read_guard.new.tokens (gives_bound (λ (r : Readers). r.expr) guard_of w.args.levels w.args.names w.open.new.tokens w.read_guard.new.tokens (Err w.in_err-guard.field-0.0) w.in_ok-open.ensures.deep w.in_err-guard.ensures))
 
-pub read_choice-returns-in_err-token-2 : goal.read_choice-returns-in_err-token-2
-unfolding a_choice
-read_choice-returns-in_err-token-2 t w =
+pub read_selection-returns-in_err-token-2 : goal.read_selection-returns-in_err-token-2
+unfolding a_selection
+read_selection-returns-in_err-token-2 t w =
     let p = err_from_is_err_and w.from_residual-in_err-token-2.result w.from_residual-in_err-token-2.ensures.1 in
-    let l0 = all_left (a_choice w.args.levels w.args.names (inside w.args.levels)) w.args.tokens.now in
+    let l0 = all_left (a_selection w.args.levels w.args.names (inside w.args.levels)) w.args.tokens.now in
     let x1 = taken (one_within (is_a AName) (bound_at w.args.names)) as_name w.args.tokens.now w.bound_name.new.tokens (name_of w.in_ok-name.name) w.in_ok-name.ensures.reads in
     let l1 = past_part (one_within (is_a AName) (bound_at w.args.names)) _ l0 x1.part w.bound_name.new.tokens x1.reads in
     let l2 = past_part (one (is_a InWord)) _ l1 (lexeme_of w.bound_name.new.tokens.source w.in_ok-token.field-0) w.token.new.tokens w.in_ok-token.ensures.reads in
@@ -191,10 +191,10 @@ read_choice-returns-in_err-token-2 t w =
     let l5 = past_part ((inside w.args.levels (less w.args.names)).expr) _ l4 (guard_of w.in_ok-guard.guard) w.read_guard.new.tokens (gives_bound (λ (r : Readers). r.expr) guard_of w.args.levels w.args.names w.open.new.tokens w.read_guard.new.tokens (Ok w.in_ok-guard.guard) w.in_ok-open.ensures.deep w.in_ok-guard.ensures) in
     rw (p.1, p.2) (part_fails (one (is_a CloseSign)) _ l5 w.in_err-token-2.field-0.0 w.token-2.new.tokens w.in_err-token-2.ensures.reads)
 
-pub read_choice-returns : goal.read_choice-returns
-unfolding a_choice
-read_choice-returns t w =
-    let l0 = all_left (a_choice w.args.levels w.args.names (inside w.args.levels)) w.args.tokens.now in
+pub read_selection-returns : goal.read_selection-returns
+unfolding a_selection
+read_selection-returns t w =
+    let l0 = all_left (a_selection w.args.levels w.args.names (inside w.args.levels)) w.args.tokens.now in
     let x1 = taken (one_within (is_a AName) (bound_at w.args.names)) as_name w.args.tokens.now w.bound_name.new.tokens (name_of w.in_ok-name.name) w.in_ok-name.ensures.reads in
     let l1 = past_part (one_within (is_a AName) (bound_at w.args.names)) _ l0 x1.part w.bound_name.new.tokens x1.reads in
     let l2 = past_part (one (is_a InWord)) _ l1 (lexeme_of w.bound_name.new.tokens.source w.in_ok-token.field-0) w.token.new.tokens w.in_ok-token.ensures.reads in
@@ -203,7 +203,7 @@ read_choice-returns t w =
     let l4 = past_part (opening w.args.levels (is_a OpenSign)) _ l3 (lexeme_of w.port_set.new.tokens.source w.in_ok-open.field-0) w.open.new.tokens w.in_ok-open.ensures.reads in
     let l5 = past_part ((inside w.args.levels (less w.args.names)).expr) _ l4 (guard_of w.in_ok-guard.guard) w.read_guard.new.tokens (gives_bound (λ (r : Readers). r.expr) guard_of w.args.levels w.args.names w.open.new.tokens w.read_guard.new.tokens (Ok w.in_ok-guard.guard) w.in_ok-open.ensures.deep w.in_ok-guard.ensures) in
     let l6 = past_part (one (is_a CloseSign)) _ l5 (lexeme_of w.read_guard.new.tokens.source w.in_ok-token-2.field-0) w.token-2.new.tokens w.in_ok-token-2.ensures.reads in
-    all_read (a_choice w.args.levels w.args.names (inside w.args.levels)) w.args.tokens.now w.token-2.new.tokens _ _ l6 (rw (x1.is, x3.is, w.in_ok-new.ensures.ok) refl)
+    all_read (a_selection w.args.levels w.args.names (inside w.args.levels)) w.args.tokens.now w.token-2.new.tokens _ _ l6 (rw (x1.is, x3.is, w.in_ok-new.ensures.ok) refl)
 
 -- ---- read_conj
 
@@ -245,7 +245,7 @@ pub read_conj-loop-found-init : goal.read_conj-loop-found-init
 read_conj-loop-found-init t w =
     let g = w.in_ok-first.first in
     let h = w.in-Some.second in
-    let items : w.push-2.new.self.items ≡ g ∷ h ∷ [] = w.in_ok-push-2.ensures.items ∙ ap (λ (xs : List Guard). xs ++ h ∷ []) (w.in_ok-push.ensures.items ∙ ap (λ (xs : List Guard). xs ++ g ∷ []) w.new-found.ensures.items) in
+    let items : w.push-2.new.self.items ≡ g ∷ h ∷ [] = two_pushed g h w.new-found.ensures.items w.in_ok-push.ensures.items w.in_ok-push-2.ensures.items in
     let begun = read_conj_begun w.args.levels w.args.names w.args.tokens.now w.read_unit.new.tokens w.more_unit.new.tokens g w.in_ok-first.ensures (guard_of g ∷ []) refl in
     record {
       reads = loop_goes_on (λ s. BehindSign (is_a AndWord) (UnitIn w.args.levels w.args.names) s) (λ s. behind_sign (is_a AndWord) (unit_in w.args.levels w.args.names (inside w.args.levels)) s) (λ room g. less room) (is_a AndWord) (ends stops_sum) (ends stops_conj) (unit_elements w.args.levels w.args.names) (all_units w.args.levels w.args.names) w.args.tokens.now
@@ -323,7 +323,7 @@ pub read_guard-loop-found-init : goal.read_guard-loop-found-init
 read_guard-loop-found-init t w =
     let g = w.in_ok-first.first in
     let h = w.in-Some.second in
-    let items : w.push-2.new.self.items ≡ g ∷ h ∷ [] = w.in_ok-push-2.ensures.items ∙ ap (λ (xs : List Guard). xs ++ h ∷ []) (w.in_ok-push.ensures.items ∙ ap (λ (xs : List Guard). xs ++ g ∷ []) w.new-found.ensures.items) in
+    let items : w.push-2.new.self.items ≡ g ∷ h ∷ [] = two_pushed g h w.new-found.ensures.items w.in_ok-push.ensures.items w.in_ok-push-2.ensures.items in
     let begun = read_guard_begun w.args.levels w.args.names w.args.tokens.now w.read_conj.new.tokens w.more_conj.new.tokens g w.in_ok-first.ensures (guard_of g ∷ []) refl in
     record {
       reads = loop_goes_on (λ s. BehindSign (is_a OrWord) (ConjIn w.args.levels w.args.names) s) (λ s. behind_sign (is_a OrWord) (conj_in w.args.levels w.args.names (inside w.args.levels)) s) (λ room g. less room) (is_a OrWord) (ends stops_conj) (ends stops_expr) (conj_elements w.args.levels w.args.names) (all_conjs w.args.levels w.args.names) w.args.tokens.now
@@ -445,21 +445,21 @@ read_port-returns-in_err-token-in-FirstWord t w =
     let l0 = chosen (port_by w.args.levels w.args.names (inside w.args.levels)) w.args.tokens.now FirstWord (sym w.next_role.ensures ∙ w.in-Some.is ∙ ap (λ (r : Role). Some r) w.in-FirstWord.is) in
     rw (p.1, p.2) (part_fails (one (is_a FirstWord)) _ l0 w.in_err-token-in-FirstWord.field-0.0 w.token.new.tokens w.in_err-token-in-FirstWord.ensures.reads)
 
-pub read_port-returns-in_err-choice-in-FirstWord : goal.read_port-returns-in_err-choice-in-FirstWord
+pub read_port-returns-in_err-selection-in-FirstWord : goal.read_port-returns-in_err-selection-in-FirstWord
 unfolding a_port
-read_port-returns-in_err-choice-in-FirstWord t w =
-    let p = err_from_is_err_and w.from_residual-in_err-choice-in-FirstWord.result w.from_residual-in_err-choice-in-FirstWord.ensures.1 in
+read_port-returns-in_err-selection-in-FirstWord t w =
+    let p = err_from_is_err_and w.from_residual-in_err-selection-in-FirstWord.result w.from_residual-in_err-selection-in-FirstWord.ensures.1 in
     let l0 = chosen (port_by w.args.levels w.args.names (inside w.args.levels)) w.args.tokens.now FirstWord (sym w.next_role.ensures ∙ w.in-Some.is ∙ ap (λ (r : Role). Some r) w.in-FirstWord.is) in
     let l1 = past_part (one (is_a FirstWord)) _ l0 (lexeme_of w.args.tokens.now.source w.in_ok-token-in-FirstWord.field-0) w.token.new.tokens w.in_ok-token-in-FirstWord.ensures.reads in
-    rw (p.1, p.2) (part_fails (a_choice w.args.levels w.args.names (inside w.args.levels)) _ l1 w.in_err-choice-in-FirstWord.field-0.0 w.read_choice.new.tokens w.in_err-choice-in-FirstWord.ensures)
+    rw (p.1, p.2) (part_fails (a_selection w.args.levels w.args.names (inside w.args.levels)) _ l1 w.in_err-selection-in-FirstWord.field-0.0 w.read_selection.new.tokens w.in_err-selection-in-FirstWord.ensures)
 
-pub read_port-returns-in_ok-choice-in-FirstWord : goal.read_port-returns-in_ok-choice-in-FirstWord
+pub read_port-returns-in_ok-selection-in-FirstWord : goal.read_port-returns-in_ok-selection-in-FirstWord
 unfolding a_port
-read_port-returns-in_ok-choice-in-FirstWord t w =
+read_port-returns-in_ok-selection-in-FirstWord t w =
     let l0 = chosen (port_by w.args.levels w.args.names (inside w.args.levels)) w.args.tokens.now FirstWord (sym w.next_role.ensures ∙ w.in-Some.is ∙ ap (λ (r : Role). Some r) w.in-FirstWord.is) in
     let l1 = past_part (one (is_a FirstWord)) _ l0 (lexeme_of w.args.tokens.now.source w.in_ok-token-in-FirstWord.field-0) w.token.new.tokens w.in_ok-token-in-FirstWord.ensures.reads in
-    let l2 = past_part (a_choice w.args.levels w.args.names (inside w.args.levels)) _ l1 (choice_of w.in_ok-choice-in-FirstWord.choice) w.read_choice.new.tokens w.in_ok-choice-in-FirstWord.ensures in
-    let c = w.in_ok-choice-in-FirstWord.choice in all_read (a_port w.args.levels w.args.names (inside w.args.levels)) w.args.tokens.now w.read_choice.new.tokens _ _ l2 (sym (built.port_first c.name c.set c.guard))
+    let l2 = past_part (a_selection w.args.levels w.args.names (inside w.args.levels)) _ l1 (selection_of w.in_ok-selection-in-FirstWord.selection) w.read_selection.new.tokens w.in_ok-selection-in-FirstWord.ensures in
+    let c = w.in_ok-selection-in-FirstWord.selection in all_read (a_port w.args.levels w.args.names (inside w.args.levels)) w.args.tokens.now w.read_selection.new.tokens _ _ l2 (sym (built.port_first c.name c.set c.guard))
 
 pub read_port-returns-in_default : goal.read_port-returns-in_default
 unfolding a_port
@@ -513,21 +513,21 @@ read_term-returns-in_err-token-in-CountWord t w =
     let l0 = chosen (term_by w.args.levels w.args.names (inside w.args.levels)) w.args.tokens.now CountWord (sym w.next_role.ensures ∙ w.in-Some.is ∙ ap (λ (r : Role). Some r) w.in-CountWord.is) in
     rw (p.1, p.2) (part_fails (one (is_a CountWord)) _ l0 w.in_err-token-in-CountWord.field-0.0 w.token.new.tokens w.in_err-token-in-CountWord.ensures.reads)
 
-pub read_term-returns-in_err-choice-in-CountWord : goal.read_term-returns-in_err-choice-in-CountWord
+pub read_term-returns-in_err-selection-in-CountWord : goal.read_term-returns-in_err-selection-in-CountWord
 unfolding a_term
-read_term-returns-in_err-choice-in-CountWord t w =
-    let p = err_from_is_err_and w.from_residual-in_err-choice-in-CountWord.result w.from_residual-in_err-choice-in-CountWord.ensures.1 in
+read_term-returns-in_err-selection-in-CountWord t w =
+    let p = err_from_is_err_and w.from_residual-in_err-selection-in-CountWord.result w.from_residual-in_err-selection-in-CountWord.ensures.1 in
     let l0 = chosen (term_by w.args.levels w.args.names (inside w.args.levels)) w.args.tokens.now CountWord (sym w.next_role.ensures ∙ w.in-Some.is ∙ ap (λ (r : Role). Some r) w.in-CountWord.is) in
     let l1 = past_part (one (is_a CountWord)) _ l0 (lexeme_of w.args.tokens.now.source w.in_ok-token-in-CountWord.field-0) w.token.new.tokens w.in_ok-token-in-CountWord.ensures.reads in
-    rw (p.1, p.2) (part_fails (a_choice w.args.levels w.args.names (inside w.args.levels)) _ l1 w.in_err-choice-in-CountWord.field-0.0 w.read_choice.new.tokens w.in_err-choice-in-CountWord.ensures)
+    rw (p.1, p.2) (part_fails (a_selection w.args.levels w.args.names (inside w.args.levels)) _ l1 w.in_err-selection-in-CountWord.field-0.0 w.read_selection.new.tokens w.in_err-selection-in-CountWord.ensures)
 
-pub read_term-returns-in_ok-choice-in-CountWord : goal.read_term-returns-in_ok-choice-in-CountWord
+pub read_term-returns-in_ok-selection-in-CountWord : goal.read_term-returns-in_ok-selection-in-CountWord
 unfolding a_term
-read_term-returns-in_ok-choice-in-CountWord t w =
+read_term-returns-in_ok-selection-in-CountWord t w =
     let l0 = chosen (term_by w.args.levels w.args.names (inside w.args.levels)) w.args.tokens.now CountWord (sym w.next_role.ensures ∙ w.in-Some.is ∙ ap (λ (r : Role). Some r) w.in-CountWord.is) in
     let l1 = past_part (one (is_a CountWord)) _ l0 (lexeme_of w.args.tokens.now.source w.in_ok-token-in-CountWord.field-0) w.token.new.tokens w.in_ok-token-in-CountWord.ensures.reads in
-    let l2 = past_part (a_choice w.args.levels w.args.names (inside w.args.levels)) _ l1 (choice_of w.in_ok-choice-in-CountWord.choice) w.read_choice.new.tokens w.in_ok-choice-in-CountWord.ensures in
-    let c = w.in_ok-choice-in-CountWord.choice in all_read (a_term w.args.levels w.args.names (inside w.args.levels)) w.args.tokens.now w.read_choice.new.tokens _ _ l2 (sym (built.term_count c.name c.set c.guard))
+    let l2 = past_part (a_selection w.args.levels w.args.names (inside w.args.levels)) _ l1 (selection_of w.in_ok-selection-in-CountWord.selection) w.read_selection.new.tokens w.in_ok-selection-in-CountWord.ensures in
+    let c = w.in_ok-selection-in-CountWord.selection in all_read (a_term w.args.levels w.args.names (inside w.args.levels)) w.args.tokens.now w.read_selection.new.tokens _ _ l2 (sym (built.term_count c.name c.set c.guard))
 
 pub read_term-returns-in_err-word-in-SideWord : goal.read_term-returns-in_err-word-in-SideWord
 unfolding a_term
@@ -702,23 +702,23 @@ read_unit-returns-in_err-word-in-QuantifierWord t w =
     let l0 = chosen (unit_by w.args.levels w.args.names (inside w.args.levels)) w.args.tokens.now QuantifierWord (sym w.next_role.ensures ∙ w.in-Some.is ∙ ap (λ (r : Role). Some r) w.in-QuantifierWord.is) in
     rw (p.1, p.2) (part_fails (one (is_a QuantifierWord)) _ l0 w.in_err-word-in-QuantifierWord.field-0.0 w.text-in-QuantifierWord.new.tokens (untaken (one (is_a QuantifierWord)) (λ (t : Lexeme). t.text) w.args.tokens.now w.text-in-QuantifierWord.new.tokens w.in_err-word-in-QuantifierWord.field-0.0 w.in_err-word-in-QuantifierWord.ensures))
 
-pub read_unit-returns-in_err-choice-in-QuantifierWord : goal.read_unit-returns-in_err-choice-in-QuantifierWord
+pub read_unit-returns-in_err-selection-in-QuantifierWord : goal.read_unit-returns-in_err-selection-in-QuantifierWord
 unfolding a_unit
-read_unit-returns-in_err-choice-in-QuantifierWord t w =
-    let p = err_from_is_err_and w.from_residual-in_err-choice-in-QuantifierWord.result w.from_residual-in_err-choice-in-QuantifierWord.ensures.1 in
+read_unit-returns-in_err-selection-in-QuantifierWord t w =
+    let p = err_from_is_err_and w.from_residual-in_err-selection-in-QuantifierWord.result w.from_residual-in_err-selection-in-QuantifierWord.ensures.1 in
     let l0 = chosen (unit_by w.args.levels w.args.names (inside w.args.levels)) w.args.tokens.now QuantifierWord (sym w.next_role.ensures ∙ w.in-Some.is ∙ ap (λ (r : Role). Some r) w.in-QuantifierWord.is) in
     let x1 = taken (one (is_a QuantifierWord)) (λ (t : Lexeme). t.text) w.args.tokens.now w.text-in-QuantifierWord.new.tokens (w.in_ok-word-in-QuantifierWord.word.now) w.in_ok-word-in-QuantifierWord.ensures in
     let l1 = past_part (one (is_a QuantifierWord)) _ l0 x1.part w.text-in-QuantifierWord.new.tokens x1.reads in
-    rw (p.1, p.2) (part_fails (a_choice w.args.levels w.args.names (inside w.args.levels)) _ l1 w.in_err-choice-in-QuantifierWord.field-0.0 w.read_choice.new.tokens w.in_err-choice-in-QuantifierWord.ensures)
+    rw (p.1, p.2) (part_fails (a_selection w.args.levels w.args.names (inside w.args.levels)) _ l1 w.in_err-selection-in-QuantifierWord.field-0.0 w.read_selection.new.tokens w.in_err-selection-in-QuantifierWord.ensures)
 
-pub read_unit-returns-in_ok-choice-in-QuantifierWord : goal.read_unit-returns-in_ok-choice-in-QuantifierWord
+pub read_unit-returns-in_ok-selection-in-QuantifierWord : goal.read_unit-returns-in_ok-selection-in-QuantifierWord
 unfolding a_unit
-read_unit-returns-in_ok-choice-in-QuantifierWord t w =
+read_unit-returns-in_ok-selection-in-QuantifierWord t w =
     let l0 = chosen (unit_by w.args.levels w.args.names (inside w.args.levels)) w.args.tokens.now QuantifierWord (sym w.next_role.ensures ∙ w.in-Some.is ∙ ap (λ (r : Role). Some r) w.in-QuantifierWord.is) in
     let x1 = taken (one (is_a QuantifierWord)) (λ (t : Lexeme). t.text) w.args.tokens.now w.text-in-QuantifierWord.new.tokens (w.in_ok-word-in-QuantifierWord.word.now) w.in_ok-word-in-QuantifierWord.ensures in
     let l1 = past_part (one (is_a QuantifierWord)) _ l0 x1.part w.text-in-QuantifierWord.new.tokens x1.reads in
-    let l2 = past_part (a_choice w.args.levels w.args.names (inside w.args.levels)) _ l1 (choice_of w.in_ok-choice-in-QuantifierWord.choice) w.read_choice.new.tokens w.in_ok-choice-in-QuantifierWord.ensures in
-    let c = choice_of w.in_ok-choice-in-QuantifierWord.choice in all_read (a_unit w.args.levels w.args.names (inside w.args.levels)) w.args.tokens.now w.read_choice.new.tokens _ _ l2 (ap (λ (text : List ℕ). tree.quantified (quantifier_by text) c.name c.set c.guard) x1.is ∙ sym w.quantified.ensures)
+    let l2 = past_part (a_selection w.args.levels w.args.names (inside w.args.levels)) _ l1 (selection_of w.in_ok-selection-in-QuantifierWord.selection) w.read_selection.new.tokens w.in_ok-selection-in-QuantifierWord.ensures in
+    let c = selection_of w.in_ok-selection-in-QuantifierWord.selection in all_read (a_unit w.args.levels w.args.names (inside w.args.levels)) w.args.tokens.now w.read_selection.new.tokens _ _ l2 (ap (λ (text : List ℕ). tree.quantified (quantifier_by text) c.name c.set c.guard) x1.is ∙ sym w.quantified.ensures)
 
 pub read_unit-returns-in_err-word-in-TestWord : goal.read_unit-returns-in_err-word-in-TestWord
 unfolding a_unit
@@ -830,7 +830,7 @@ read_sum-loop-parts-preserved t w =
 pub read_sum-returns : goal.read_sum-returns
 read_sum-returns t w =
     let r = sum_made w.args.levels w.args.names w.args.tokens.now w.more_part.new.tokens (map part_of w.loop-parts.parts.items) (loop_is_over (λ s. BehindSign is_plus_or_minus (PartIn w.args.levels w.args.names) s) (λ s. behind_sign is_plus_or_minus (part_in w.args.levels w.args.names (inside w.args.levels)) s) (λ room p. less room) is_plus_or_minus (ends stops_term) (ends stops_sum) (part_elements w.args.levels w.args.names) (all_parts w.args.levels w.args.names) w.args.tokens.now (map part_of w.loop-parts.parts.items) w.loop-parts.room w.loop-parts.tokens w.loop-parts.invariant w.more_part.new.tokens (rw w.in_default.is at w.in_ok-part.ensures.reads)) in
-    (r.0 ∙ ap (λ (s : tree.Sum). Ok (s, w.more_part.new.tokens.ahead)) (sym (built.sum_is (record { parts = w.loop-parts.parts }))), r.1)
+    (r.0 ∙ ap (λ (s : tree.Sum). Ok (s, w.more_part.new.tokens.ahead)) (sym (built.sum_built (record { parts = w.loop-parts.parts }))), r.1)
 
 -- ---- more_part
 
@@ -891,4 +891,4 @@ more_part-returns-clause-reads t w =
     (on (λ (p : tree.Part). p) (one is_plus_or_minus) (λ sign. element sign w.args.room) now mid new x.part (Ok (part (is_a MinusSign x.part) term)) x.reads
     (with_room (λ t. begins_term (role t)) (level_limit w.args.levels) w.args.room (a_term w.args.levels w.args.names (inside w.args.levels) >>= λ t. pure (part (is_a MinusSign x.part) t)) (λ (p : tree.Part). p) mid new (Ok (part (is_a MinusSign x.part) term)) room
     (on_made (a_term w.args.levels w.args.names (inside w.args.levels)) (part (is_a MinusSign x.part)) mid new term w.in_ok-term.ensures))) in
-    (r.0 ∙ ap (λ (m : Bool). Ok (Some (part m term), new.ahead)) x.is ∙ ap (λ (p : tree.Part). Ok (Some p, new.ahead)) (sym (built.part_is (record { minus = m; term = w.in_ok-term.term }))), r.1)
+    (r.0 ∙ ap (λ (m : Bool). Ok (Some (part m term), new.ahead)) x.is ∙ ap (λ (p : tree.Part). Ok (Some p, new.ahead)) (sym (built.part_built (record { minus = m; term = w.in_ok-term.term }))), r.1)

@@ -5,8 +5,8 @@ use Rattle.action_parser.specs.Lists.{more_units, more_conjs, more_parts, all_un
 use Rattle.action_parser.proofs.expression.+expression.Given as goal
 
 -- by levels, and on one level by which function calls which
-abbrev pub decreases-read_choice : goal.decreases-read_choice
-decreases-read_choice l = 10 * l.levels
+abbrev pub decreases-read_selection : goal.decreases-read_selection
+decreases-read_selection l = 10 * l.levels
 
 abbrev pub decreases-read_port : goal.decreases-read_port
 decreases-read_port l = 10 * l.levels + 1

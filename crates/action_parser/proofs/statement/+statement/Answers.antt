@@ -19,17 +19,16 @@ use Rattle.action_tree.specs.Views.{guard_of, port_of, stmt_of, stmts_of}
 use Rattle.action_grammar.specs.declared.role.Role.{Role}
 use Rattle.action_grammar.specs.declared.role.Role.TheVariants.{AName, SemicolonSign, LetWord, IfWord, ThenWord, ElseWord, FiWord, ForWord, DoWord, OdWord}
 use Rattle.action_grammar.specs.Roles.{role, is_a}
-use Rattle.action_grammar.specs.ExpressionReaders.{level_limit, port_at, choice_at, expr_at}
+use Rattle.action_grammar.specs.ExpressionReaders.{level_limit, port_at, selection_at, expr_at}
 use Rattle.action_grammar.specs.StatementReaders.{begins_stmt, put_member, else_part, an_if, a_for, stmt_by, a_stmt, scope_behind, stmt_in, stmts_inside, stmts_at}
 use Rattle.action_grammar.proofs.Playing.{ends, stops_sum}
 use Rattle.action_grammar.proofs.Stating.{StmtIn}
 use Rattle.action_grammar.proofs.StatementLaws.{stops_stmts}
 use Rattle.action_parser.specs.Readings.{made}
-use Rattle.action_parser.specs.Choices.{choice_of}
+use Rattle.action_parser.specs.Selections.{selection_of}
 use Rattle.action_parser.specs.Lists.{more_stmts, all_listed}
 use Rattle.action_parser.proofs.Tokens.{all_read}
 use Rattle.action_parser.proofs.Fullness.{full_for}
-use Rattle.action_parser.proofs.Built as built
 use Rattle.action_parser.proofs.Elements.{stmt_elements}
 use Rattle.action_parser.proofs.Levels.{chosen, chosen_as, none_chosen, none_begins, gives_stmts, gives_bound_stmts, gives_level, less_one, port_stmt, stmt_rest}
 use Rattle.action_parser.proofs.Listing.{begins_with, stmts_listed}
@@ -91,7 +90,7 @@ read_stmts-loop-found-init t w =
     let items : w.push.new.self.items ≡ s ∷ [] = w.in_ok-push.ensures.items ∙ ap (λ (xs : List Stmt). xs ++ s ∷ []) w.new-found.ensures.items in
     let begun = begins_with (all_listed w.args.levels w.args.names) (more_stmts w.args.levels (record { room = most_further; left = after w.args.names (stmt_of s) })) w.args.tokens.now w.read_stmt.new.tokens (stmt_of s) (map stmt_of w.push.new.self.items) (ap (λ (xs : List Stmt). map stmt_of xs) items)
     (past_part (a_stmt w.args.levels w.args.names (stmts_inside w.args.levels)) _ (all_left (all_listed w.args.levels w.args.names) w.args.tokens.now) (stmt_of s) w.read_stmt.new.tokens w.in_ok-first.ensures) in
-    subst (λ (l : ℕ). StillReads (all_listed w.args.levels w.args.names) w.args.tokens.now (map stmt_of w.push.new.self.items) (more_stmts w.args.levels (record { room = most_further; left = l })) w.read_stmt.new.tokens) (sym w.names_after-left.ensures) begun
+    rw (w.further_stmts-room.ensures, w.names_after-left.ensures) begun
 
 pub read_stmts-returns-in_err-next : goal.read_stmts-returns-in_err-next
 read_stmts-returns-in_err-next t w =
@@ -222,7 +221,7 @@ read_if-returns t w =
     let l4 = past_part (stmts_inside w.args.levels w.args.names) _ l3 (stmts_of w.in_ok-body.body.items) w.read_stmts.new.tokens (gives_stmts (λ (k : Reader tree.Stmts). k) (λ (v : Vec Stmt Global). stmts_of v.items) w.args.levels w.args.names w.token.new.tokens w.read_stmts.new.tokens (Ok w.in_ok-body.body) w.in_ok-open.ensures.deep w.in_ok-body.ensures) in
     let l5 = past_part (else_part (stmts_inside w.args.levels) w.args.names) _ l4 (stmts_of w.in_ok-otherwise.otherwise.items) w.read_else.new.tokens (gives_stmts (λ (k : Reader tree.Stmts). optional (is_a ElseWord) tree.no_stmts (one (is_a ElseWord) >>= λ e. k)) (λ (v : Vec Stmt Global). stmts_of v.items) w.args.levels w.args.names w.read_stmts.new.tokens w.read_else.new.tokens (Ok w.in_ok-otherwise.otherwise) w.in_ok-open.ensures.deep w.in_ok-otherwise.ensures) in
     let l6 = past_part (one (is_a FiWord)) _ l5 (lexeme_of w.read_else.new.tokens.source w.in_ok-token-2.field-0) w.token-2.new.tokens w.in_ok-token-2.ensures.reads in
-    all_read (an_if w.args.levels w.args.names (stmts_inside w.args.levels)) w.args.tokens.now w.token-2.new.tokens _ _ l6 (sym (built.stmt_if w.in_ok-guard.guard w.in_ok-body.body w.in_ok-otherwise.otherwise))
+    all_read (an_if w.args.levels w.args.names (stmts_inside w.args.levels)) w.args.tokens.now w.token-2.new.tokens _ _ l6 (sym w.if_then.ensures)
 
 -- ---- read_for
 
@@ -233,13 +232,13 @@ read_for-returns-in_err-open t w =
     let l0 = all_left (a_for w.args.levels w.args.names (stmts_inside w.args.levels)) w.args.tokens.now in
     rw (p.1, p.2) (part_fails (opening w.args.levels (is_a ForWord)) _ l0 w.in_err-open.field-0.0 w.open.new.tokens w.in_err-open.ensures.reads)
 
-pub read_for-returns-in_err-choice : goal.read_for-returns-in_err-choice
+pub read_for-returns-in_err-selection : goal.read_for-returns-in_err-selection
 unfolding a_for
-read_for-returns-in_err-choice t w =
-    let p = err_from_is_err_and w.from_residual-in_err-choice.result w.from_residual-in_err-choice.ensures.1 in
+read_for-returns-in_err-selection t w =
+    let p = err_from_is_err_and w.from_residual-in_err-selection.result w.from_residual-in_err-selection.ensures.1 in
     let l0 = all_left (a_for w.args.levels w.args.names (stmts_inside w.args.levels)) w.args.tokens.now in
     let l1 = past_part (opening w.args.levels (is_a ForWord)) _ l0 (lexeme_of w.args.tokens.now.source w.in_ok-open.field-0) w.open.new.tokens w.in_ok-open.ensures.reads in
-    rw (p.1, p.2) (part_fails (choice_at (less w.args.levels) w.args.names) _ l1 w.in_err-choice.field-0.0 w.read_choice.new.tokens (gives_level (λ (n : ℕ). choice_at n w.args.names) choice_of w.args.levels w.open.new.tokens w.read_choice.new.tokens (Err w.in_err-choice.field-0.0) w.in_err-choice.ensures))
+    rw (p.1, p.2) (part_fails (selection_at (less w.args.levels) w.args.names) _ l1 w.in_err-selection.field-0.0 w.read_selection.new.tokens (gives_level (λ (n : ℕ). selection_at n w.args.names) selection_of w.args.levels w.open.new.tokens w.read_selection.new.tokens (Err w.in_err-selection.field-0.0) w.in_err-selection.ensures))
 
 pub read_for-returns-in_err-token : goal.read_for-returns-in_err-token
 unfolding a_for
@@ -247,7 +246,7 @@ read_for-returns-in_err-token t w =
     let p = err_from_is_err_and w.from_residual-in_err-token.result w.from_residual-in_err-token.ensures.1 in
     let l0 = all_left (a_for w.args.levels w.args.names (stmts_inside w.args.levels)) w.args.tokens.now in
     let l1 = past_part (opening w.args.levels (is_a ForWord)) _ l0 (lexeme_of w.args.tokens.now.source w.in_ok-open.field-0) w.open.new.tokens w.in_ok-open.ensures.reads in
-    let l2 = past_part (choice_at (less w.args.levels) w.args.names) _ l1 (choice_of w.in_ok-choice.choice) w.read_choice.new.tokens (gives_level (λ (n : ℕ). choice_at n w.args.names) choice_of w.args.levels w.open.new.tokens w.read_choice.new.tokens (Ok w.in_ok-choice.choice) w.in_ok-choice.ensures) in
+    let l2 = past_part (selection_at (less w.args.levels) w.args.names) _ l1 (selection_of w.in_ok-selection.selection) w.read_selection.new.tokens (gives_level (λ (n : ℕ). selection_at n w.args.names) selection_of w.args.levels w.open.new.tokens w.read_selection.new.tokens (Ok w.in_ok-selection.selection) w.in_ok-selection.ensures) in
     rw (p.1, p.2) (part_fails (one (is_a DoWord)) _ l2 w.in_err-token.field-0.0 w.token.new.tokens w.in_err-token.ensures.reads)
 
 pub read_for-returns-in_err-body : goal.read_for-returns-in_err-body
@@ -256,8 +255,8 @@ read_for-returns-in_err-body t w =
     let p = err_from_is_err_and w.from_residual-in_err-body.result w.from_residual-in_err-body.ensures.1 in
     let l0 = all_left (a_for w.args.levels w.args.names (stmts_inside w.args.levels)) w.args.tokens.now in
     let l1 = past_part (opening w.args.levels (is_a ForWord)) _ l0 (lexeme_of w.args.tokens.now.source w.in_ok-open.field-0) w.open.new.tokens w.in_ok-open.ensures.reads in
-    let l2 = past_part (choice_at (less w.args.levels) w.args.names) _ l1 (choice_of w.in_ok-choice.choice) w.read_choice.new.tokens (gives_level (λ (n : ℕ). choice_at n w.args.names) choice_of w.args.levels w.open.new.tokens w.read_choice.new.tokens (Ok w.in_ok-choice.choice) w.in_ok-choice.ensures) in
-    let l3 = past_part (one (is_a DoWord)) _ l2 (lexeme_of w.read_choice.new.tokens.source w.in_ok-token.field-0) w.token.new.tokens w.in_ok-token.ensures.reads in
+    let l2 = past_part (selection_at (less w.args.levels) w.args.names) _ l1 (selection_of w.in_ok-selection.selection) w.read_selection.new.tokens (gives_level (λ (n : ℕ). selection_at n w.args.names) selection_of w.args.levels w.open.new.tokens w.read_selection.new.tokens (Ok w.in_ok-selection.selection) w.in_ok-selection.ensures) in
+    let l3 = past_part (one (is_a DoWord)) _ l2 (lexeme_of w.read_selection.new.tokens.source w.in_ok-token.field-0) w.token.new.tokens w.in_ok-token.ensures.reads in
     rw (p.1, p.2) (part_fails (stmts_inside w.args.levels (less w.args.names)) _ l3 w.in_err-body.field-0.0 w.read_stmts.new.tokens (gives_bound_stmts (λ (k : Reader tree.Stmts). k) (λ (v : Vec Stmt Global). stmts_of v.items) w.args.levels w.args.names w.token.new.tokens w.read_stmts.new.tokens (Err w.in_err-body.field-0.0) w.in_ok-open.ensures.deep w.saturating_sub.result (w.saturating_sub.ensures ∙ less_one w.args.names) w.in_err-body.ensures))
 
 pub read_for-returns-in_err-token-2 : goal.read_for-returns-in_err-token-2
@@ -266,8 +265,8 @@ read_for-returns-in_err-token-2 t w =
     let p = err_from_is_err_and w.from_residual-in_err-token-2.result w.from_residual-in_err-token-2.ensures.1 in
     let l0 = all_left (a_for w.args.levels w.args.names (stmts_inside w.args.levels)) w.args.tokens.now in
     let l1 = past_part (opening w.args.levels (is_a ForWord)) _ l0 (lexeme_of w.args.tokens.now.source w.in_ok-open.field-0) w.open.new.tokens w.in_ok-open.ensures.reads in
-    let l2 = past_part (choice_at (less w.args.levels) w.args.names) _ l1 (choice_of w.in_ok-choice.choice) w.read_choice.new.tokens (gives_level (λ (n : ℕ). choice_at n w.args.names) choice_of w.args.levels w.open.new.tokens w.read_choice.new.tokens (Ok w.in_ok-choice.choice) w.in_ok-choice.ensures) in
-    let l3 = past_part (one (is_a DoWord)) _ l2 (lexeme_of w.read_choice.new.tokens.source w.in_ok-token.field-0) w.token.new.tokens w.in_ok-token.ensures.reads in
+    let l2 = past_part (selection_at (less w.args.levels) w.args.names) _ l1 (selection_of w.in_ok-selection.selection) w.read_selection.new.tokens (gives_level (λ (n : ℕ). selection_at n w.args.names) selection_of w.args.levels w.open.new.tokens w.read_selection.new.tokens (Ok w.in_ok-selection.selection) w.in_ok-selection.ensures) in
+    let l3 = past_part (one (is_a DoWord)) _ l2 (lexeme_of w.read_selection.new.tokens.source w.in_ok-token.field-0) w.token.new.tokens w.in_ok-token.ensures.reads in
     let l4 = past_part (stmts_inside w.args.levels (less w.args.names)) _ l3 (stmts_of w.in_ok-body.body.items) w.read_stmts.new.tokens (gives_bound_stmts (λ (k : Reader tree.Stmts). k) (λ (v : Vec Stmt Global). stmts_of v.items) w.args.levels w.args.names w.token.new.tokens w.read_stmts.new.tokens (Ok w.in_ok-body.body) w.in_ok-open.ensures.deep w.saturating_sub.result (w.saturating_sub.ensures ∙ less_one w.args.names) w.in_ok-body.ensures) in
     rw (p.1, p.2) (part_fails (one (is_a OdWord)) _ l4 w.in_err-token-2.field-0.0 w.token-2.new.tokens w.in_err-token-2.ensures.reads)
 
@@ -276,8 +275,8 @@ unfolding a_for
 read_for-returns t w =
     let l0 = all_left (a_for w.args.levels w.args.names (stmts_inside w.args.levels)) w.args.tokens.now in
     let l1 = past_part (opening w.args.levels (is_a ForWord)) _ l0 (lexeme_of w.args.tokens.now.source w.in_ok-open.field-0) w.open.new.tokens w.in_ok-open.ensures.reads in
-    let l2 = past_part (choice_at (less w.args.levels) w.args.names) _ l1 (choice_of w.in_ok-choice.choice) w.read_choice.new.tokens (gives_level (λ (n : ℕ). choice_at n w.args.names) choice_of w.args.levels w.open.new.tokens w.read_choice.new.tokens (Ok w.in_ok-choice.choice) w.in_ok-choice.ensures) in
-    let l3 = past_part (one (is_a DoWord)) _ l2 (lexeme_of w.read_choice.new.tokens.source w.in_ok-token.field-0) w.token.new.tokens w.in_ok-token.ensures.reads in
+    let l2 = past_part (selection_at (less w.args.levels) w.args.names) _ l1 (selection_of w.in_ok-selection.selection) w.read_selection.new.tokens (gives_level (λ (n : ℕ). selection_at n w.args.names) selection_of w.args.levels w.open.new.tokens w.read_selection.new.tokens (Ok w.in_ok-selection.selection) w.in_ok-selection.ensures) in
+    let l3 = past_part (one (is_a DoWord)) _ l2 (lexeme_of w.read_selection.new.tokens.source w.in_ok-token.field-0) w.token.new.tokens w.in_ok-token.ensures.reads in
     let l4 = past_part (stmts_inside w.args.levels (less w.args.names)) _ l3 (stmts_of w.in_ok-body.body.items) w.read_stmts.new.tokens (gives_bound_stmts (λ (k : Reader tree.Stmts). k) (λ (v : Vec Stmt Global). stmts_of v.items) w.args.levels w.args.names w.token.new.tokens w.read_stmts.new.tokens (Ok w.in_ok-body.body) w.in_ok-open.ensures.deep w.saturating_sub.result (w.saturating_sub.ensures ∙ less_one w.args.names) w.in_ok-body.ensures) in
     let l5 = past_part (one (is_a OdWord)) _ l4 (lexeme_of w.read_stmts.new.tokens.source w.in_ok-token-2.field-0) w.token-2.new.tokens w.in_ok-token-2.ensures.reads in
     all_read (a_for w.args.levels w.args.names (stmts_inside w.args.levels)) w.args.tokens.now w.token-2.new.tokens _ _ l5 (sym w.for_each.ensures)

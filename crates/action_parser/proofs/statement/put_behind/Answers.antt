@@ -11,7 +11,7 @@ use Rattle.action_grammar.specs.Roles.{is_a, as_name}
 use Rattle.action_grammar.specs.ExpressionReaders.{sum_at}
 use Rattle.action_grammar.specs.StatementReaders.{put_member, put_by, stmt_by, stmts_inside}
 use Rattle.action_parser.proofs.Tokens.{taken, untaken, all_read}
-use Rattle.action_parser.proofs.Built as built
+use Rattle.action_tree.proofs.Viewed as built
 use Rattle.action_parser.proofs.Levels.{chosen, none_chosen, none_begins, then_left, left_fails, put_rest}
 use Rattle.action_parser.proofs.statement.put_behind.Goals as goal
 

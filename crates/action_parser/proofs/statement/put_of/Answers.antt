@@ -10,7 +10,7 @@ use Rattle.action_grammar.specs.Roles.{is_a, as_name}
 use Rattle.action_grammar.specs.ExpressionReaders.{sum_at}
 use Rattle.action_grammar.specs.StatementReaders.{put_member}
 use Rattle.action_parser.proofs.Tokens.{taken, untaken, all_read}
-use Rattle.action_parser.proofs.Built as built
+use Rattle.action_tree.proofs.Viewed as built
 use Rattle.action_parser.proofs.statement.put_of.Goals as goal
 
 pub returns-in_err-token : goal.returns-in_err-token

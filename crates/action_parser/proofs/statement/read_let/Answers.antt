@@ -11,7 +11,7 @@ use Rattle.action_grammar.specs.Expressions.{bound_at}
 use Rattle.action_grammar.specs.ExpressionReaders.{port_at}
 use Rattle.action_grammar.specs.StatementReaders.{stmt_by, stmts_inside}
 use Rattle.action_parser.proofs.Tokens.{taken, untaken, all_read}
-use Rattle.action_parser.proofs.Built as built
+use Rattle.action_tree.proofs.Viewed as built
 use Rattle.action_parser.proofs.statement.read_let.Goals as goal
 
 pub returns-in_err-token : goal.returns-in_err-token

@@ -9,7 +9,7 @@ use Rattle.action_grammar.specs.declared.role.Role.TheVariants as role
 use Rattle.action_grammar.specs.Roles.{is_a, as_name}
 use Rattle.action_grammar.specs.ExpressionReaders as spec
 use Rattle.action_parser.proofs.Tokens.{taken, untaken, all_read}
-use Rattle.action_parser.proofs.Built.{term_member}
+use Rattle.action_tree.proofs.Viewed.{term_member}
 use Rattle.action_parser.proofs.words.member.Goals as goal
 
 pub returns-in_err-token : goal.returns-in_err-token

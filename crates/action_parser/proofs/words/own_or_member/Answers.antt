@@ -10,7 +10,7 @@ use Rattle.action_grammar.specs.Roles.{is_a, as_name}
 use Rattle.action_grammar.specs.ExpressionReaders as spec
 use Rattle.action_parser.specs.Readings.{own_or_member}
 use Rattle.action_parser.proofs.Tokens.{taken}
-use Rattle.action_parser.proofs.Built.{term_own, port_name}
+use Rattle.action_tree.proofs.Viewed.{term_own, port_name}
 use Rattle.action_parser.proofs.words.own_or_member.Goals as goal
 
 -- behind the name

@@ -1,7 +1,0 @@
--- What a choice stands for.
-use Rattle.action_tree.specs.Views.{name_of, guard_of}
-use Rattle.action_grammar.specs.Expressions as grammar
-use Rattle.action_parser.specs.declared.choice.Choice.{Choice}
-
-abbrev pub choice_of : Choice → grammar.Choice
-choice_of c = record { name = name_of c.name; set = c.set; guard = guard_of c.guard.value }

@@ -1,3 +1,0 @@
-mod fixtures;
-mod rows;
-mod tables;

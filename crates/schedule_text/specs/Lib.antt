@@ -1,0 +1,6 @@
+pub mod ListRows
+pub mod Lists
+pub mod Readers
+pub mod ScheduleRows
+pub mod Schedules
+pub mod Views

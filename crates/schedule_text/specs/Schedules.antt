@@ -1,0 +1,58 @@
+-- The section `schedule`: which caller makes each step.
+--   schedule := "schedule" { stretch } "end"
+--   stretch  := NUMBER [ "times" NUMBER ]      a caller, and how many steps it makes in a row; one, where that is left out
+-- A number with which the steps pass 1,000,000 is TooMany, be it a caller's, which counts as one step, or the one behind `times`. A caller that has no list is a
+-- BadId, and `times` 0 is a BadRange.
+use Rattle.std.specs.Prelude.{ℕ, ◌+◌, Bool, ◌==◌, nat_lt, if◌then◌else◌, List, replicate, Option, Some, None, codes}
+use Rattle.std.specs.List.{flat_map}
+use Rattle.text_tokens.specs.declared.refusal.RefusalKind.{RefusalKind}
+use Rattle.text_tokens.specs.declared.refusal.RefusalKind.TheVariants.{TooMany, BadId, BadRange}
+use Rattle.text_tokens.specs.Text.{Lexeme}
+use Rattle.text_tokens.specs.Reading.{value, past_sum}
+use Rattle.text_tokens.specs.Grammar.{Lang, Then, Made, IsNumeral, Closed, IsOptional, Repeated}
+use Rattle.journal_text.specs.Parts.{word, is_end, IsWord}
+
+abbrev pub most_steps : ℕ
+most_steps = 1000000
+
+-- behind so many steps, one too many, or that of none of so many callers
+abbrev pub past_callers : ℕ → ℕ → Lexeme → Option RefusalKind
+past_callers callers before t = if nat_lt before most_steps then if nat_lt (value t) callers then None else Some BadId else Some TooMany
+
+abbrev pub past_times : ℕ → Lexeme → Option RefusalKind
+past_times before t = if value t == 0 then Some BadRange else past_sum value most_steps before t
+
+abbrev pub is_times : Lexeme → Bool
+is_times = word (codes "times")
+
+-- some steps of a caller in a row
+pub record Stretch : Type 0 where
+  pub caller : ℕ
+  pub times : ℕ
+
+abbrev pub stretch_of : ℕ → ℕ → Stretch
+stretch_of caller times = record { caller = caller; times = times }
+
+abbrev pub IsTimes : ℕ → Lang ℕ
+IsTimes before = Then (IsWord (codes "times")) (λ line. IsNumeral (past_times before))
+
+-- a stretch of one of so many callers, behind so many steps
+abbrev pub IsStretch : ℕ → ℕ → Lang Stretch
+IsStretch callers before = Then (IsNumeral (past_callers callers before)) (λ caller. Made (IsOptional 1 (IsTimes before)) (λ times. stretch_of caller times))
+
+abbrev pub more_steps : ℕ → Stretch → ℕ
+more_steps before s = before + s.times
+
+abbrev pub StretchesFrom : ℕ → ℕ → Lang (List Stretch)
+StretchesFrom callers before = Repeated (IsStretch callers) more_steps before
+
+-- the caller of each step
+abbrev pub steps_in : Stretch → List ℕ
+steps_in s = replicate s.times s.caller
+
+abbrev pub steps_of : List Stretch → List ℕ
+steps_of = flat_map steps_in
+
+-- the caller of each step, one of so many
+abbrev pub IsSchedule : ℕ → Lang (List ℕ)
+IsSchedule callers = Then (IsWord (codes "schedule")) (λ line. Closed (Made (StretchesFrom callers 0) steps_of) is_end)

@@ -1,0 +1,8 @@
+use Rattle.std.proofs.Common.{◌≡◌, ◌<◌, ℕ}
+use Rattle.std.specs.declared.option.Option.TheVariants.{Some}
+use Rattle.amoebot_state.specs.declared.bot.Bot.{Bot}
+use Rattle.amoebot_state.specs.Configs.{bot_at}
+use Rattle.shape_checks.proofs.hexagon.are_contracted.Given as goal
+
+abbrev pub invariant-loop-id : goal.invariant-loop-id
+invariant-loop-id l = (i : ℕ) (b : Bot) → i < l.id → bot_at l.world i ≡ Some b → b.head ≡ b.tail

@@ -1,0 +1,12 @@
+-- The places of a circle that is a list.
+use Rattle.std.specs.Prelude.{◌≡◌, ℕ, ◌+◌, ◌-◌, ◌<◌, ◌%◌, Bool, false, IsTrue, List, length, slice_index_or}
+
+-- the entry at a place, false outside
+abbrev pub place : List Bool → ℕ → Bool
+place circle k = slice_index_or circle k false
+
+-- the place is true, and the one before it, going round, is false
+pub record IsStart (circle : List Bool) (i : ℕ) : Type 0 where
+  pub below : i < length circle
+  pub here : IsTrue (place circle i)
+  pub before : place circle ((i + length circle - 1) % length circle) ≡ false

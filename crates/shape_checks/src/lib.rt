@@ -1,0 +1,15 @@
+//! Measures of a shape: whether it is connected, whether it is a hexagon, and how often a variable has a value.
+#![tactic(auto)]
+
+mod arc;
+mod connected;
+mod disc;
+mod hexagon;
+mod values;
+
+pub use connected::is_connected;
+pub use hexagon::is_hexagon;
+pub use values::count_value;
+
+#[cfg(test)]
+mod tests;

@@ -1,0 +1,4 @@
+pub mod Heading
+pub mod Giving
+pub mod Forming
+pub mod Checking

@@ -1,0 +1,12 @@
+use Rattle.text_tokens.proofs.Settling.{tells_of, reads_of}
+use Rattle.document_grammar.specs.Frame.{IsHeader}
+use Rattle.document_grammar.specs.FrameReaders.{header}
+use Rattle.shape_files.specs.Views.{as_read}
+use Rattle.shape_files.proofs.Heading.{exact_header}
+use Rattle.shape_files.proofs.head.read_head.Goals as goal
+
+pub returns-clause-tells : goal.returns-clause-tells
+returns-clause-tells c = tells_of IsHeader (λ _. 1) header exact_header c.args.tokens.now (as_read c.head.result) c.head.new.tokens c.head.ensures
+
+pub returns-clause-reads : goal.returns-clause-reads
+returns-clause-reads c = reads_of IsHeader (λ _. 1) header exact_header c.args.tokens.now (as_read c.head.result) c.head.new.tokens c.head.ensures

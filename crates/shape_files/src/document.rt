@@ -1,0 +1,41 @@
+//! Whole documents.
+
+ghost use Rattle.std.specs.Prelude.{◌≡◌, ◌<◌, ◌+◌, ◌^◌, length};
+ghost use Rattle.text_tokens.specs.declared.refusal.RefusalKind.TheVariants.{Trailing};
+ghost use Rattle.text_tokens.specs.Steps.{ReadsInput, Gives};
+ghost use Rattle.document_grammar.specs.Documents.{IsDocument};
+ghost use Rattle.document_grammar.specs.DocumentReaders.{document};
+ghost use Rattle.shape_files.specs.Views.{contents};
+
+use crate::forms::read_form;
+use crate::head::read_head;
+use crate::parts::{Parts, Sections};
+use document_grammar::Form;
+use std::alloc::Global;
+use text_tokens::{ReadRefusal, RefusalKind, Tokens};
+
+/// Reads bytes that are a document of the form: its sections, or its first fault.
+///
+/// The bytes are read once, from the front on, and none of them is kept.
+pub fn read_sections(alloc: Global, bytes: &[u8], form: Form) -> Result<Sections, ReadRefusal>
+    requires { length bytes.now + 1 < 2 ^ 32 }
+    ensures { ReadsInput (IsDocument form) Trailing (λ s. s) bytes.now result }
+{
+    let mut tokens = Tokens::new(bytes);
+    let parts = read_document(alloc, &mut tokens, form)?;
+    tokens.end(RefusalKind::Trailing)?;
+    Ok(Sections::new(parts))
+}
+
+fn read_document(
+    alloc: Global,
+    tokens: &mut Tokens<'_>,
+    form: Form,
+) -> Result<Parts, ReadRefusal>
+    ensures { Gives contents (document form) tokens.old result tokens.new }
+{
+    read_head(tokens)?;
+    let mut parts = Parts::new();
+    read_form(alloc, tokens, &mut parts, form)?;
+    Ok(parts)
+}

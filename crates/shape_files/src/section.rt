@@ -1,0 +1,62 @@
+//! Each section, in the state that those before it gave.
+
+ghost use Rattle.std.specs.Prelude.{◌≡◌};
+ghost use Rattle.text_tokens.specs.Steps.{Gives};
+ghost use Rattle.document_grammar.specs.DocumentReaders.{a_checked_program, body};
+ghost use Rattle.shape_files.specs.Views.{contents};
+
+use crate::parts::Parts;
+use action_check::{Checked, check};
+use action_parser::parse_program;
+use document_grammar::Section;
+use journal_text::{read_journal, read_turns};
+use schedule_text::{read_lists, read_schedule};
+use shape_text::{read_final, read_shape};
+use std::alloc::Global;
+use text_tokens::{ReadRefusal, Tokens};
+
+/// A program that keeps the rules on names and ranges, which are judged behind its `end`.
+fn read_program(alloc: Global, tokens: &mut Tokens<'_>) -> Result<Checked, ReadRefusal>
+    ensures { Gives (λ p. p) a_checked_program tokens.old result tokens.new }
+{
+    let program = parse_program(alloc, tokens)?;
+    check(alloc, program)
+}
+
+/// Reads a section, and keeps what it stands for. The section `turns` stands for nothing.
+pub(crate) fn read_section(
+    alloc: Global,
+    tokens: &mut Tokens<'_>,
+    parts: &mut Parts,
+    section: Section,
+) -> Result<(), ReadRefusal>
+    ensures { Gives (λ _. contents parts.new) (body section (contents parts.old)) tokens.old result tokens.new }
+{
+    match section {
+        Section::Program => parts.checked = Some(read_program(alloc, tokens)?),
+        Section::Shape => {
+            let world = read_shape(alloc, tokens, parts.vars(), parts.maxes())?;
+            parts.world = Some(world);
+        }
+        Section::Lists => parts.lists = Some(read_lists(alloc, tokens, parts.bots())?),
+        Section::Schedule => {
+            parts.schedule = Some(read_schedule(alloc, tokens, parts.callers())?);
+        }
+        Section::Journal => {
+            let entries = read_journal(
+                alloc,
+                tokens,
+                parts.bots(),
+                parts.actions(),
+                parts.vars(),
+            )?;
+            parts.entries = Some(entries);
+        }
+        Section::Final => {
+            let world = read_final(alloc, tokens, parts.vars(), parts.maxes())?;
+            parts.final_world = Some(world);
+        }
+        Section::Turns => read_turns(tokens)?,
+    }
+    Ok(())
+}

@@ -1,0 +1,5 @@
+pub mod BotsReread
+pub mod Judging
+pub mod NextLines
+pub mod ShapeLaws
+pub mod ShapesReread

@@ -1,0 +1,114 @@
+-- The readers of shapes are parts for their grammars.
+use Rattle.std.proofs.Common.{ℕ, List, refl}
+use Rattle.std.specs.Prelude.{codes}
+use Rattle.text_tokens.specs.declared.token.TokenKind.TheVariants.{Word}
+use Rattle.text_tokens.specs.Reading.{Reader, ◌>>=◌, pure, no_limit, closed}
+use Rattle.text_tokens.specs.Grammar.{Lang, IsOne, Then, Made, Closed, Judged}
+use Rattle.text_tokens.specs.Lawful.{Exact, IsPart, always, Starts, AreElements}
+use Rattle.text_tokens.proofs.Exactness.{exact}
+use Rattle.text_tokens.proofs.Carrying.{part_made}
+use Rattle.text_tokens.proofs.Parts.{some_text, part_one, part_judged}
+use Rattle.text_tokens.proofs.Beginnings.{starts_one, starts_made, starts_then, starts_judged}
+use Rattle.text_tokens.proofs.Repeating.{part_repeated}
+use Rattle.text_tokens.proofs.Distinguishing.{sample, passes, other_text, a_numeral}
+use Rattle.journal_text.specs.Parts.{word, is_end, IsWord, IsBot}
+use Rattle.journal_text.specs.Readers.{a_word, a_bot}
+use Rattle.journal_text.proofs.PartLaws.{behind, into, up_to_end, starts_word, part_word, part_int, part_bot}
+use Rattle.shape_text.specs.Shapes.{outside, IsSide, an_area_of, IsAreaLine, is_bot, WrittenBot, written_bot, past_bots, IsBotWord, IsBotLine, one_more, AreBots, WrittenShape, written_shape, IsWritten, wrong, stands_for, IsShapeUnder, IsShape, IsFinal}
+use Rattle.shape_text.specs.Readers.{a_side, an_area, bot_word, a_bot_line, bots_from, a_drawing, written, shape_under, a_shape, a_final}
+
+-- ---- the area
+
+part_side : IsPart IsSide a_side always
+unfolding a_side
+part_side = a_numeral (outside 1 128)
+
+part_area : IsPart IsAreaLine an_area always
+unfolding an_area
+part_area = behind (part_word (codes "area") refl) (λ line. behind (part_int 4096) (λ x0. behind (part_int 4096) (λ y0. behind part_side (λ w. into (λ h. an_area_of x0 y0 w h) part_side))))
+
+-- ---- the amoebots
+
+part_bot_word : (before : ℕ) → IsPart (IsBotWord before) (bot_word before) always
+unfolding bot_word
+part_bot_word before = into (λ t. t.line) (part_one is_bot (past_bots before) (sample Word (codes "bot")) (passes Word (codes "bot") refl))
+
+starts_bot_word : (before : ℕ) → Starts (IsBotWord before) is_bot (past_bots before)
+starts_bot_word before = starts_made (IsOne is_bot (past_bots before)) (λ t. t.line) is_bot (past_bots before) (starts_one is_bot (past_bots before))
+
+module _ (vars : ℕ) where
+  abbrev Behind : ℕ → Lang WrittenBot
+  Behind line = Made (IsBot vars) (λ b. written_bot line b)
+
+  abbrev behind_word : ℕ → Reader WrittenBot
+  behind_word line = a_bot vars >>= λ b. pure (written_bot line b)
+
+  part_behind_word : (line : ℕ) → IsPart (Behind line) (behind_word line) always
+  part_behind_word line = into (λ b. written_bot line b) (part_bot vars)
+
+  part_bot_line : (before : ℕ) → IsPart (IsBotLine vars before) (a_bot_line vars before) always
+  unfolding a_bot_line
+  part_bot_line before = behind (part_bot_word before) part_behind_word
+
+  pub bot_elements : AreElements (IsBotLine vars) (a_bot_line vars) is_bot always is_end
+  bot_elements = record {
+    over = past_bots;
+    start = λ before. starts_then (IsBotWord before) Behind is_bot (past_bots before) (starts_bot_word before) (λ line. some_text (Behind line) (behind_word line) (part_behind_word line).law);
+    part = part_bot_line;
+    again = λ t e. refl;
+    ends = λ t e. refl;
+    differ = λ t e. other_text Word (codes "end") (codes "bot") t refl e;
+  }
+
+  pub part_bots : (before : ℕ) → IsPart (AreBots vars before) (bots_from vars before) is_end
+  unfolding bots_from
+  part_bots before = part_repeated (IsBotLine vars) (a_bot_line vars) one_more is_bot always is_end bot_elements before
+
+  abbrev Drawing : Lang WrittenShape
+  Drawing = Then IsAreaLine (λ area. Made (AreBots vars 0) (λ bots. written_shape area bots))
+
+  part_drawing : IsPart Drawing (a_drawing vars) is_end
+  unfolding a_drawing
+  part_drawing = behind part_area (λ area. into (λ bots. written_shape area bots) (part_bots 0))
+
+  -- ---- the sections
+
+  module _ (text : List ℕ) (is : IsPart (IsWord text) (a_word text) always) where
+    part_written : IsPart (IsWritten text vars) (written text vars) always
+    unfolding written
+    part_written = behind is (λ line. up_to_end part_drawing)
+
+    part_shape_under : (maxes : List ℕ) → IsPart (IsShapeUnder text vars maxes) (shape_under text vars maxes) always
+    unfolding shape_under
+    part_shape_under maxes = part_made (Judged (IsWritten text vars) (wrong maxes)) (stands_for maxes) _ always (part_judged (IsWritten text vars) (written text vars) (wrong maxes) always part_written)
+
+  starts_shape_under : (text maxes : List ℕ) → Starts (IsShapeUnder text vars maxes) (word text) no_limit
+  starts_shape_under text maxes = starts_made (Judged (IsWritten text vars) (wrong maxes)) (stands_for maxes) (word text) no_limit (starts_judged (IsWritten text vars) (wrong maxes) (word text) no_limit
+      (starts_word text (λ line. Closed Drawing is_end) (λ line. closed (a_drawing vars) is_end) always (λ line. up_to_end part_drawing)))
+
+abbrev shape_word : IsPart (IsWord (codes "shape")) (a_word (codes "shape")) always
+shape_word = part_word (codes "shape") refl
+
+abbrev final_word : IsPart (IsWord (codes "final")) (a_word (codes "final")) always
+final_word = part_word (codes "final") refl
+
+pub part_shape : (vars : ℕ) (maxes : List ℕ) → IsPart (IsShape vars maxes) (a_shape vars maxes) always
+part_shape vars maxes = part_shape_under vars (codes "shape") shape_word maxes
+
+pub part_final : (vars : ℕ) (maxes : List ℕ) → IsPart (IsFinal vars maxes) (a_final vars maxes) always
+part_final vars maxes = part_shape_under vars (codes "final") final_word maxes
+
+pub starts_shape : (vars : ℕ) (maxes : List ℕ) → Starts (IsShape vars maxes) (word (codes "shape")) no_limit
+starts_shape vars maxes = starts_shape_under vars (codes "shape") maxes
+
+pub starts_final : (vars : ℕ) (maxes : List ℕ) → Starts (IsFinal vars maxes) (word (codes "final")) no_limit
+starts_final vars maxes = starts_shape_under vars (codes "final") maxes
+
+pub exact_shape : (vars : ℕ) (maxes : List ℕ) → Exact (IsShape vars maxes) (a_shape vars maxes)
+exact_shape vars maxes = exact (IsShape vars maxes) (a_shape vars maxes) (part_shape vars maxes).law
+
+pub exact_final : (vars : ℕ) (maxes : List ℕ) → Exact (IsFinal vars maxes) (a_final vars maxes)
+exact_final vars maxes = exact (IsFinal vars maxes) (a_final vars maxes) (part_final vars maxes).law
+
+pub exact_bots : (vars before : ℕ) → Exact (AreBots vars before) (bots_from vars before)
+exact_bots vars before = exact (AreBots vars before) (bots_from vars before) (part_bots vars before).law

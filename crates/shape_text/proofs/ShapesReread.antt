@@ -1,0 +1,232 @@
+-- The text of a shape is read as its configuration.
+use Rattle.std.proofs.Common.{◌≡◌, ℕ, ℤ, pos, negsuc, zero, suc, ◌+◌, ◌<◌, ◌≤◌, true, List, [], ◌∷◌, ◌++◌, length, map, Option, Some, None, Ok, codes, refl, sym, ap, subst, ◌∙◌, arith}
+use Rattle.std.specs.Prelude.{◌≤ℤ◌, ◌-ℤ◌, decimal, nat_le, nat_lt, slice_index, slice_index_or, IsTrue}
+use Rattle.std.specs.Fmt.{signed_decimal}
+use Rattle.std.specs.Option.{IsSome}
+use Rattle.std.specs.List.{All}
+use Rattle.std.proofs.lemmas.List.{append-nil, get_or_default, get_or-map, length-map}
+use Rattle.std.proofs.lemmas.List.Elements.{All-head, All-tail}
+use Rattle.std.proofs.lemmas.Bool.{leb-true, le-leb, lt-ltb}
+use Rattle.std.proofs.lemmas.Int.{ints}
+use Rattle.tri_lattice.specs.declared.node.Node.{Node}
+use Rattle.tri_lattice.specs.Extent.{Extent, IsArea, is_in}
+use Rattle.tri_lattice.proofs.Boxes.{in_places}
+use Rattle.text_tokens.specs.declared.token.TokenKind.TheVariants.{Word}
+use Rattle.text_tokens.specs.declared.refusal.Refusal.{Refusal}
+use Rattle.text_tokens.specs.Text.{Lexeme}
+use Rattle.text_tokens.specs.Lines.{Words}
+use Rattle.text_tokens.specs.Reading.{value}
+use Rattle.text_tokens.specs.Grammar.{Lang, Then, Made, Closed, Judged, is_judgement, point, first_fault, no_more}
+use Rattle.text_tokens.proofs.Blanks.{and_true}
+use Rattle.text_tokens.proofs.PrintedTokens.{word_is_token}
+use Rattle.amoebot_state.specs.declared.bot.Bot.{Bot}
+use Rattle.amoebot_state.specs.Configs.{Config, config_of, IsValid, bot_at, has_values}
+use Rattle.amoebot_state.specs.Limits.{most_bots}
+use Rattle.amoebot_state.proofs.Faults.{valid_is_faultless}
+use Rattle.journal_text.specs.Parts.{is_end, IsWord}
+use Rattle.journal_text.specs.JournalRows.{Says}
+use Rattle.journal_text.specs.Rereading.{size, HasCoordinates, HasLimits}
+use Rattle.journal_text.proofs.Respelling.{Found, Is, Any, Rereads, RereadsLines, rereads_then, rereads_next, rereads_made, rereads_as, rereads_number, rereads_behind, one_rereads, one_found, the_passes, whole_then, found_made, rereads_the, reread_line, lines_say, lines_into, lines_made, lines_then, lines_next, lines_behind_line, lines_nothing, more_of}
+use Rattle.journal_text.proofs.JournalsReread.{the_word}
+use Rattle.shape_text.specs.Shapes.{outside, IsSide, an_area_of, IsAreaLine, WrittenBot, written_bot, bot_in, past_bots, IsBotWord, IsBotLine, one_more, AreBots, WrittenShape, written_shape, wrong, stands_for, IsShapeUnder}
+use Rattle.shape_text.specs.Texts.{area_words, bot_line, present, shape_text}
+use Rattle.shape_text.specs.Rereading.{IsWritable, ShapesReadBack}
+use Rattle.shape_text.proofs.BotsReread.{an_int, a_bot}
+use Rattle.shape_text.proofs.Judging.{faultless_fits}
+
+-- ---- the area
+
+inside : (n : ℕ) → 1 ≤ n → n ≤ 128 → (t : Lexeme) → value t ≡ n → outside 1 128 t ≡ None
+inside n low high t e = let a : nat_le 1 n ≡ true = le-leb _ _ low in let b : nat_le n 128 ≡ true = le-leb _ _ high in rw (e, a, b) refl
+
+a_side : (n : ℕ) → 1 ≤ n → n ≤ 128 → Rereads IsSide (Is n) (decimal n ∷ [])
+a_side n low high = rereads_number n (omega arith) (outside 1 128) (inside n low high)
+
+small_start : (z : ℤ) → negsuc 4095 ≤ℤ z → z ≤ℤ pos 4096 → size z ≤ 4096
+small_start (pos n) low high = omega (arith, ints)
+small_start (negsuc n) low high = omega (arith, ints)
+
+the_area : (a : Extent) → IsArea a → Rereads IsAreaLine (Is a) (area_words a)
+the_area a is =
+    rereads_next (codes "area" ∷ []) (signed_decimal a.x0 ∷ signed_decimal a.y0 ∷ decimal a.w ∷ decimal a.h ∷ []) (the_word _ _ refl refl (omega arith) refl)
+    (rereads_then (signed_decimal a.x0 ∷ []) (signed_decimal a.y0 ∷ decimal a.w ∷ decimal a.h ∷ []) a.x0 (an_int 4096 a.x0 (small_start a.x0 is.x_low is.x_high) (omega arith))
+    (rereads_then (signed_decimal a.y0 ∷ []) (decimal a.w ∷ decimal a.h ∷ []) a.y0 (an_int 4096 a.y0 (small_start a.y0 is.y_low is.y_high) (omega arith))
+    (rereads_then (decimal a.w ∷ []) (decimal a.h ∷ []) a.w (a_side a.w is.w_low is.w_high)
+    (rereads_as (λ h. an_area_of a.x0 a.y0 a.w h) (decimal a.h ∷ []) a.h (a_side a.h is.h_low is.h_high)))))
+
+-- ---- the amoebots
+
+-- of what was found something weaker holds
+lines_weaker : {A : Type 0} {P : Lang A} {R S : A → Type 0} (lines : List Words) → ((a : A) → R a → S a) → RereadsLines P R lines → RereadsLines P S lines
+lines_weaker lines f p = record { spelled = p.spelled; printed = p.printed; read = λ ts s. (let f0 = p.read ts s in record { value = f0.value; whole = f0.whole; holds = f f0.value f0.holds }) }
+
+module _ (vars : ℕ) (le : vars ≤ 8) where
+  abbrev Its : Bot → WrittenBot → Type 0
+  Its b w = bot_in w ≡ b
+
+  abbrev These : List Bot → List WrittenBot → Type 0
+  These bs ws = map bot_in ws ≡ bs
+
+  not_past : (before : ℕ) → before < most_bots → (t : Lexeme) → past_bots before t ≡ None
+  not_past before lt t = let b : nat_lt before most_bots ≡ true = lt-ltb _ _ lt in rw b refl
+
+  the_bot_word : (before : ℕ) → before < most_bots → Rereads (IsBotWord before) Any (codes "bot" ∷ [])
+  the_bot_word before lt = rereads_made (λ (t : Lexeme). t.line) (codes "bot" ∷ []) (λ t s. tt) (one_rereads (codes "bot") (word_is_token _ _ refl refl (omega arith)) (one_found (codes "bot") (the_passes Word (codes "bot") refl refl) (λ t s. not_past before lt t)))
+
+  the_bot : (before : ℕ) → before < most_bots → (b : Bot) → HasLimits vars b → Rereads (IsBotLine vars before) (Its b) (bot_line vars b)
+  the_bot before lt b l =
+      let p = a_bot vars le b l in
+      rereads_behind (codes "bot" ∷ []) _ (the_bot_word before lt) p.spelled p.printed (λ line x ts s. found_made (λ b. written_bot line b) (λ c e. e) ts (p.read ts s))
+
+  the_bots : (before : ℕ) (bs : List Bot) → before + length bs ≤ most_bots → All (HasLimits vars) bs → RereadsLines (AreBots vars before) (These bs) (map (bot_line vars) bs)
+  the_bots before [] fit all = lines_weaker [] (λ ws e. ap (map bot_in) e) (lines_nothing [] no_more)
+  the_bots before (b ∷ bs) fit all =
+      let more = the_bots (suc before) bs (omega arith) (All-tail (HasLimits vars) b bs all) in
+      let one = reread_line (bot_line vars b) (the_bot before (omega arith) b (All-head (HasLimits vars) b bs all)) in
+      lines_into (bot_line vars b ∷ map (bot_line vars) bs) (more_of (IsBotLine vars) one_more before)
+      (lines_behind_line (bot_line vars b ∷ []) (map (bot_line vars) bs) one more.spelled more.printed
+      (λ w is ts s. found_made (λ ws. w ∷ ws) (λ ws are. ap (λ (c : Bot). c ∷ map bot_in ws) is ∙ ap (λ (cs : List Bot). b ∷ cs) are) ts (more.read ts s)))
+
+-- ---- sections
+
+-- a judgement that is no refusal
+lines_judged : {A : Type 0} {P : Lang A} {R : A → Type 0} (judge : A → Option Refusal) (lines : List Words) → ((a : A) → R a → judge a ≡ None) → RereadsLines P R lines → RereadsLines (Judged P judge) R lines
+lines_judged {P = P} {R = R} judge lines none p = record { spelled = p.spelled; printed = p.printed; read = λ ts s. from_found ts (p.read ts s) }
+  where
+    fine : (o : Option Refusal) → o ≡ None → first_fault (point o ∷ []) ≡ None
+    fine o e = rw e refl
+
+    from_found : (ts : List Lexeme) → Found P R ts → Found (Judged P judge) R ts
+    from_found ts f = record {
+      value = f.value;
+      whole = whole_then ts [] ts f.value f.value (sym (append-nil ts)) f.whole (record { text = point (judge f.value) ∷ []; is = is_judgement; parts = refl; fine = fine (judge f.value) (none f.value f.holds) });
+      holds = f.holds;
+    }
+
+module _ (vars : ℕ) (le : vars ≤ 8) (a : Extent) (maxes : List ℕ) (bs : List Bot) (valid : IsValid (config_of a maxes bs)) (few : length bs ≤ most_bots) (limits : All (HasLimits vars) bs) where
+  abbrev IsThis : WrittenShape → Type 0
+  IsThis s = (s.area ≡ a) × (map bot_in s.bots ≡ bs)
+
+  abbrev the_lines : List Words
+  the_lines = area_words a ∷ map (bot_line vars) bs
+
+  abbrev Drawing : Lang WrittenShape
+  Drawing = Then IsAreaLine (λ area. Made (AreBots vars 0) (λ bots. written_shape area bots))
+
+  drawing : RereadsLines Drawing IsThis the_lines
+  drawing = lines_then (area_words a ∷ []) (map (bot_line vars) bs) a (reread_line (area_words a) (the_area a valid.area)) (lines_made (λ bots. written_shape a bots) (map (bot_line vars) bs) (λ ws e. (refl, e)) (the_bots vars le 0 bs (omega (arith, few)) limits))
+
+  closed_drawing : RereadsLines (Closed Drawing is_end) IsThis (the_lines ++ (codes "end" ∷ []) ∷ [])
+  closed_drawing =
+      let last = reread_line (codes "end" ∷ []) (rereads_the Word (codes "end") (word_is_token _ _ refl refl (omega arith)) refl refl) in
+      lines_behind_line the_lines ((codes "end" ∷ []) ∷ []) drawing last.spelled last.printed (λ s is ts e. found_made (λ line. s) (λ line x. is) ts (last.read ts e))
+
+  fine : (s : WrittenShape) → IsThis s → wrong maxes s ≡ None
+  fine s is = faultless_fits a maxes bs (valid_is_faultless a maxes bs valid) s is.0 is.1
+
+  same : (s : WrittenShape) → IsThis s → stands_for maxes s ≡ config_of a maxes bs
+  same s is = ap (λ (x : Extent). config_of x maxes (map bot_in s.bots)) is.0 ∙ ap (config_of a maxes) is.1
+
+  -- in a section with this word
+  pub shape_lines : (text : List ℕ) → Rereads (IsWord text) Any (text ∷ []) → RereadsLines (IsShapeUnder text vars maxes) (Is (config_of a maxes bs)) ((text ∷ []) ∷ the_lines ++ (codes "end" ∷ []) ∷ [])
+  shape_lines text first =
+      let all = (text ∷ []) ∷ the_lines ++ (codes "end" ∷ []) ∷ [] in
+      lines_made (stands_for maxes) all same (lines_judged (wrong maxes) all fine (lines_next ((text ∷ []) ∷ []) (the_lines ++ (codes "end" ∷ []) ∷ []) (reread_line (text ∷ []) first) closed_drawing))
+
+-- ---- worlds
+
+-- without gaps, the amoebots are those that are there
+all_present : (os : List (Option Bot)) → ((i : ℕ) → i < length os → IsSome (slice_index_or os i None)) → map Some (present os) ≡ os
+all_present [] some = refl
+all_present (Some b ∷ os) some = ap (λ (rest : List (Option Bot)). Some b ∷ rest) (all_present os (λ i lt. some (suc i) (omega arith)))
+all_present (None ∷ os) some = absurd (let is = some zero (omega arith) in cc)
+
+near_start : (z x0 : ℤ) (i : ℕ) → negsuc 4095 ≤ℤ x0 → x0 ≤ℤ pos 4096 → z -ℤ x0 ≡ pos i → i < 128 → size z ≤ 9999
+near_start (pos n) x0 i low high e lt = omega (arith, ints)
+near_start (negsuc n) x0 i low high e lt = omega (arith, ints)
+
+coordinates : (a : Extent) (v : Node) → IsArea a → IsTrue (is_in a v) → HasCoordinates v
+coordinates a v area e =
+    let (i, j, x, in_w, y, in_h) = in_places a v e in
+    record { x = near_start v.x a.x0 i area.x_low area.x_high x (let h = area.w_high in omega arith); y = near_start v.y a.y0 j area.y_low area.y_high y (let h = area.h_high in omega arith) }
+
+-- values that are not above maxima of at most 255
+module _ (maxes mem : List ℕ) (eight : length mem ≡ 8) (most : length maxes ≡ 8) (bytes : All (λ m. m ≤ 255) maxes) (has : has_values maxes mem ≡ true) where
+  abbrev Fits : ℕ → Type 0
+  Fits k = nat_le (slice_index mem k) (slice_index maxes k) ≡ true
+
+  each : (k : ℕ) → k < 8 → Fits k
+  each k lt =
+      let a = and_true _ _ has in
+      let b = and_true _ _ a.1 in
+      let c = and_true _ _ b.1 in
+      let d = and_true _ _ c.1 in
+      let e = and_true _ _ d.1 in
+      let f = and_true _ _ e.1 in
+      let g = and_true _ _ f.1 in
+      let h = and_true _ _ g.1 in
+      of_eight k lt a.0 b.0 c.0 d.0 e.0 f.0 g.0 h.0
+    where
+      of_eight : (k : ℕ) → k < 8 → Fits 0 → Fits 1 → Fits 2 → Fits 3 → Fits 4 → Fits 5 → Fits 6 → Fits 7 → Fits k
+      of_eight zero lt a b c d e f g h = a
+      of_eight (suc zero) lt a b c d e f g h = b
+      of_eight (suc (suc zero)) lt a b c d e f g h = c
+      of_eight (suc (suc (suc zero))) lt a b c d e f g h = d
+      of_eight (suc (suc (suc (suc zero)))) lt a b c d e f g h = e
+      of_eight (suc (suc (suc (suc (suc zero))))) lt a b c d e f g h = f
+      of_eight (suc (suc (suc (suc (suc (suc zero)))))) lt a b c d e f g h = g
+      of_eight (suc (suc (suc (suc (suc (suc (suc zero))))))) lt a b c d e f g h = h
+      of_eight (suc (suc (suc (suc (suc (suc (suc (suc k)))))))) lt a b c d e f g h = absurd (omega arith)
+
+  few_bits : All (λ v. v ≤ 255) mem
+  few_bits k d lt =
+      let inside : k < 8 = omega arith in
+      let there : k < length maxes = omega arith in
+      let le = leb-true (slice_index mem k) (slice_index maxes k) (each k inside) in
+      let top = bytes k 0 there in
+      let same = get_or_default mem k d 0 lt in
+      omega arith
+
+module _ (vars : ℕ) (c : Config) (w : IsWritable vars c) where
+  abbrev bots : List Bot
+  bots = present c.bots
+
+  all : map Some bots ≡ c.bots
+  all = all_present c.bots w.no_gaps
+
+  is : config_of c.area c.maxes bots ≡ c
+  is = ap (λ (os : List (Option Bot)). record { area = c.area; maxes = c.maxes; bots = os }) all
+
+  limits_of : (k : ℕ) (b : Bot) → bot_at c k ≡ Some b → HasLimits vars b
+  limits_of k b at =
+      let i = w.valid.each k b at in
+      record {
+        head = coordinates c.area b.head w.valid.area i.head;
+        tail = coordinates c.area b.tail w.valid.area i.tail;
+        rot = (let r = i.rot in omega arith);
+        eight = i.eight;
+        values = few_bits c.maxes b.mem i.eight w.valid.eight w.maxes i.values;
+        zeros = w.zeros k b at;
+      }
+
+  limits : All (HasLimits vars) bots
+  limits k d lt = limits_of k _ (ap (λ (os : List (Option Bot)). slice_index_or os k None) (sym all) ∙ get_or-map Some bots k d None lt)
+
+  few : length bots ≤ most_bots
+  few = let size : length bots ≡ length c.bots = sym (length-map bots Some) ∙ ap length all in let most = w.few in omega arith
+
+  pub config_lines : vars ≤ 8 → (text : List ℕ) → Rereads (IsWord text) Any (text ∷ []) → RereadsLines (IsShapeUnder text vars c.maxes) (Is c) ((text ∷ []) ∷ (area_words c.area ∷ map (bot_line vars) bots) ++ (codes "end" ∷ []) ∷ [])
+  config_lines le text first = subst (λ (x : Config). RereadsLines (IsShapeUnder text vars c.maxes) (Is x) ((text ∷ []) ∷ (area_words c.area ∷ map (bot_line vars) bots) ++ (codes "end" ∷ []) ∷ [])) is
+      (shape_lines vars le c.area c.maxes bots (subst IsValid (sym is) w.valid) few limits text first)
+
+  says_it : vars ≤ 8 → (text : List ℕ) → Rereads (IsWord text) Any (text ∷ []) → Says (IsShapeUnder text vars c.maxes) (shape_text text vars c) (Ok c)
+  says_it le text first = lines_say (IsShapeUnder text vars c.maxes) c ((text ∷ []) ∷ (area_words c.area ∷ map (bot_line vars) bots) ++ (codes "end" ∷ []) ∷ []) (config_lines le text first)
+
+pub shape_word : Rereads (IsWord (codes "shape")) Any (codes "shape" ∷ [])
+shape_word = the_word _ _ refl refl (omega arith) refl
+
+pub final_word : Rereads (IsWord (codes "final")) Any (codes "final" ∷ [])
+final_word = the_word _ _ refl refl (omega arith) refl
+
+pub shapes_reread : ShapesReadBack
+shapes_reread vars c le w = record { shape = says_it vars c w le (codes "shape") shape_word; final = says_it vars c w le (codes "final") final_word }

@@ -1,0 +1,107 @@
+use Rattle.std.proofs.Common.{◌≡◌, ℕ, List, Result, refl}
+use Rattle.text_tokens.specs.declared.refusal.Refusal.{Refusal}
+use Rattle.text_tokens.specs.declared.refusal.RefusalKind.TheVariants.{Trailing}
+use Rattle.text_tokens.specs.Scan.{skip, ready, sign_len, front, scan, scan_end, ahead_of, last_of}
+use Rattle.text_tokens.specs.Cursor.{same_kind}
+use Rattle.text_tokens.specs.Reading.{one_within, the_line, numeral, either, times, elements, repeated, whole_input}
+use Rattle.text_tokens.proofs.Blanks.{point}
+use Rattle.text_tokens.proofs.Obeying.{exact_law}
+use Rattle.amoebot_state.specs.Configs.{Config}
+use Rattle.journal_text.specs.JournalRows.{Says}
+use Rattle.journal_text.specs.Readers.{an_int, a_node, a_chirality, a_bot}
+use Rattle.journal_text.proofs.Saying.{says}
+use Rattle.shape_text.specs.Shapes.{WrittenBot, AreBots, IsShape, IsFinal}
+use Rattle.shape_text.specs.ShapeRows.{up_to_3, all_zero, rising}
+use Rattle.shape_text.specs.Readers.{a_side, an_area, bot_word, a_bot_line, bots_from, a_drawing, written, shape_under, a_shape, a_final}
+use Rattle.shape_text.proofs.ShapeLaws.{part_shape, part_final, exact_shape, exact_final, exact_bots}
+use Rattle.shape_text.proofs.laws.shapes_are_decided.Goals as goal
+
+pub returns-clause-exact : goal.returns-clause-exact
+returns-clause-exact c = exact_shape
+
+pub returns-clause-decided : goal.returns-clause-decided
+returns-clause-decided c = λ vars maxes. (exact_law (IsShape vars maxes) (a_shape vars maxes) (part_shape vars maxes).law).1
+
+pub returns-clause-exact_final : goal.returns-clause-exact_final
+returns-clause-exact_final c = exact_final
+
+pub returns-clause-decided_final : goal.returns-clause-decided_final
+returns-clause-decided_final c = λ vars maxes. (exact_law (IsFinal vars maxes) (a_final vars maxes) (part_final vars maxes).law).1
+
+shape_told : (vars : ℕ) (maxes text : List ℕ) (answer : Result Config Refusal) → whole_input Trailing (a_shape vars maxes) (last_of (point text 0)) (ahead_of (point text 0)) ≡ answer → Says (IsShape vars maxes) text answer
+shape_told vars maxes text answer e = says (IsShape vars maxes) (a_shape vars maxes) (exact_shape vars maxes) text answer e
+
+told : (text : List ℕ) (answer : Result Config Refusal) → whole_input Trailing (a_shape 1 up_to_3) (last_of (point text 0)) (ahead_of (point text 0)) ≡ answer → Says (IsShape 1 up_to_3) text answer
+told text answer e = shape_told 1 up_to_3 text answer e
+
+final_told : (text : List ℕ) (answer : Result Config Refusal) → whole_input Trailing (a_final 1 up_to_3) (last_of (point text 0)) (ahead_of (point text 0)) ≡ answer → Says (IsFinal 1 up_to_3) text answer
+final_told text answer e = says (IsFinal 1 up_to_3) (a_final 1 up_to_3) (exact_final 1 up_to_3) text answer e
+
+bots_told : (before : ℕ) (text : List ℕ) (answer : Result (List WrittenBot) Refusal) → whole_input Trailing (bots_from 0 before) (last_of (point text 0)) (ahead_of (point text 0)) ≡ answer → Says (AreBots 0 before) text answer
+bots_told before text answer e = says (AreBots 0 before) (bots_from 0 before) (exact_bots 0 before) text answer e
+
+pub returns-clause-read : goal.returns-clause-read
+unfolding skip ready sign_len front scan scan_end ahead_of last_of same_kind one_within the_line numeral either times elements repeated an_int a_node a_chirality a_bot a_side an_area bot_word a_bot_line bots_from a_drawing written shape_under
+returns-clause-read c = record {
+  no_amoebot = told _ _ refl;
+  long_and_round = told _ _ refl;
+  left_above = told _ _ refl;
+  right_below = told _ _ refl;
+  no_value = shape_told 0 all_zero _ _ refl;
+  eight_values = shape_told 8 rising _ _ refl;
+  last_shape = final_told _ _ refl;
+  last_amoebot = bots_told 4095 _ _ refl;
+  x0_4097 = told _ _ refl;
+  x0_minus_4097 = told _ _ refl;
+  y0_4097 = told _ _ refl;
+  y0_minus_4097 = told _ _ refl;
+  w_0 = told _ _ refl;
+  w_129 = told _ _ refl;
+  h_0 = told _ _ refl;
+  h_129 = told _ _ refl;
+  coordinate_10000 = told _ _ refl;
+  rotation_6 = told _ _ refl;
+  value_256 = told _ _ refl;
+  one_too_many = bots_told 4095 _ _ refl;
+  one_too_many_first = bots_told 4096 _ _ refl;
+  head_right_of_it = told _ _ refl;
+  head_above_it = told _ _ refl;
+  tail_left_of_it = told _ _ refl;
+  tail_below_it = told _ _ refl;
+  two_steps_long = told _ _ refl;
+  across = told _ _ refl;
+  same_node = told _ _ refl;
+  tail_on_tail = told _ _ refl;
+  value_4 = told _ _ refl;
+  no_maximum = shape_told 1 all_zero _ _ refl;
+  box_before_adjacent = told _ _ refl;
+  adjacent_before_overlap = told _ _ refl;
+  overlap_before_value = told _ _ refl;
+  first_id = told _ _ refl;
+  first_id_of_a_line = told _ _ refl;
+  second_of_three = told _ _ refl;
+  third_on_the_second = told _ _ refl;
+  range_before_rule = told _ _ refl;
+  token_before_rule = told _ _ refl;
+  byte_before_rule = told _ _ refl;
+  end_before_rule = told _ _ refl;
+  rule_before_token = told _ _ refl;
+  rule_before_byte = told _ _ refl;
+  other_word = told _ _ refl;
+  other_word_of_the_last = final_told _ _ refl;
+  no_area = told _ _ refl;
+  three_numbers = told _ _ refl;
+  five_numbers = told _ _ refl;
+  side_with_sign = told _ _ refl;
+  two_areas = told _ _ refl;
+  no_sign = told _ _ refl;
+  value_missing = told _ _ refl;
+  value_too_many = told _ _ refl;
+  empty_body = told _ _ refl;
+  sign_for_a_number = told _ _ refl;
+  bad_byte = told _ _ refl;
+  long_number = told _ _ refl;
+  without_end = told _ _ refl;
+  empty_text = told _ _ refl;
+  trailing = told _ _ refl;
+}

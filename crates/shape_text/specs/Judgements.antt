@@ -1,0 +1,11 @@
+-- What is wrong with a shape is what a world refuses.
+use Rattle.std.specs.Prelude.{◌≡◌, ℕ, List, Some, None, length, map, slice_get}
+use Rattle.text_tokens.specs.declared.refusal.RefusalKind.{RefusalKind}
+use Rattle.amoebot_state.specs.declared.refusal.WorldRefusal.{WorldRefusal}
+use Rattle.amoebot_state.specs.Refusals.{IsFaultless, IsFirstFault}
+use Rattle.shape_text.specs.Shapes.{WrittenBot, WrittenShape, bot_in, kind_of, on_line, wrong}
+
+-- Nothing where no amoebot breaks a rule of worlds; else the first rule that the first one breaks, on the line of its word.
+pub record JudgedAsWorlds : Type 0 where
+  pub fine : (maxes : List ℕ) (s : WrittenShape) → IsFaultless s.area maxes (map bot_in s.bots) (length s.bots) → wrong maxes s ≡ None
+  pub first : (maxes : List ℕ) (s : WrittenShape) (e : WorldRefusal) (f : IsFirstFault s.area maxes (map bot_in s.bots) e) (w : WrittenBot) (k : RefusalKind) → slice_get s.bots f.place ≡ Some w → kind_of e ≡ Some k → wrong maxes s ≡ Some (on_line w.line k)

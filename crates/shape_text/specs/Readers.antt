@@ -1,0 +1,48 @@
+-- The grammars of the sections as readers, put together as the grammars are.
+use Rattle.std.specs.Prelude.{ℕ, List, codes}
+use Rattle.tri_lattice.specs.Extent.{Extent}
+use Rattle.text_tokens.specs.Reading.{Reader, ◌>>=◌, pure, one_within, numeral, closed, judged, repeated}
+use Rattle.amoebot_state.specs.Configs.{Config}
+use Rattle.journal_text.specs.Parts.{is_end}
+use Rattle.journal_text.specs.Readers.{a_word, an_int, a_bot}
+use Rattle.shape_text.specs.Shapes.{outside, an_area_of, is_bot, WrittenBot, written_bot, past_bots, one_more, WrittenShape, written_shape, wrong, stands_for}
+
+unfoldable pub a_side : Reader ℕ
+a_side = numeral (outside 1 128)
+
+unfoldable pub an_area : Reader Extent
+an_area = do
+  line ← a_word (codes "area")
+  x0 ← an_int 4096
+  y0 ← an_int 4096
+  w ← a_side
+  h ← a_side
+  pure (an_area_of x0 y0 w h)
+
+unfoldable pub bot_word : ℕ → Reader ℕ
+bot_word before = one_within is_bot (past_bots before) >>= λ t. pure t.line
+
+unfoldable pub a_bot_line : ℕ → ℕ → Reader WrittenBot
+a_bot_line vars before = bot_word before >>= λ line. a_bot vars >>= λ b. pure (written_bot line b)
+
+-- amoebots behind so many
+unfoldable pub bots_from : ℕ → ℕ → Reader (List WrittenBot)
+bots_from vars before = repeated is_bot (a_bot_line vars) one_more before
+
+abbrev pub all_bots : ℕ → Reader (List WrittenBot)
+all_bots vars = bots_from vars 0
+
+unfoldable pub a_drawing : ℕ → Reader WrittenShape
+a_drawing vars = an_area >>= λ area. all_bots vars >>= λ bots. pure (written_shape area bots)
+
+unfoldable pub written : List ℕ → ℕ → Reader WrittenShape
+written text vars = a_word text >>= λ line. closed (a_drawing vars) is_end
+
+unfoldable pub shape_under : List ℕ → ℕ → List ℕ → Reader Config
+shape_under text vars maxes = judged (written text vars) (wrong maxes) >>= λ s. pure (stands_for maxes s)
+
+abbrev pub a_shape : ℕ → List ℕ → Reader Config
+a_shape = shape_under (codes "shape")
+
+abbrev pub a_final : ℕ → List ℕ → Reader Config
+a_final = shape_under (codes "final")

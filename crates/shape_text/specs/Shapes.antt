@@ -1,0 +1,126 @@
+-- The sections `shape` and `final`: an area, and amoebots on it.
+--   shape := "shape" area { bot } "end"
+--   final := "final" area { bot } "end"
+--   area  := "area" int int NUMBER NUMBER      where it begins, and how wide and high it is
+--   bot   := "bot" amoebot
+-- The ids of the amoebots are their places. A beginning farther than 4,096 from 0 and a side that is not 1 to 128 is a BadRange, and the 4,097th `bot` is TooMany.
+-- Behind `end` the amoebots are judged by rising id, as a world judges them: the first that breaks a rule is refused at its word, for the first rule that it breaks.
+use Rattle.std.specs.Prelude.{ℕ, suc, ℤ, Bool, ◌&&◌, nat_le, nat_lt, if◌then◌else◌, List, [], ◌∷◌, Option, Some, None, map, codes}
+use Rattle.std.specs.Option.{option_map, option_and_then}
+use Rattle.tri_lattice.specs.Extent.{Extent}
+use Rattle.text_tokens.specs.declared.refusal.Refusal.{Refusal}
+use Rattle.text_tokens.specs.declared.refusal.RefusalKind.{RefusalKind}
+use Rattle.text_tokens.specs.declared.refusal.RefusalKind.TheVariants as kind
+use Rattle.text_tokens.specs.Text.{Lexeme}
+use Rattle.text_tokens.specs.Reading.{value}
+use Rattle.text_tokens.specs.Grammar.{Lang, IsOne, Then, Made, IsNumeral, Closed, Judged, Repeated, or_else}
+use Rattle.amoebot_state.specs.declared.bot.Bot.{Bot}
+use Rattle.amoebot_state.specs.declared.refusal.WorldRefusal.{WorldRefusal}
+use Rattle.amoebot_state.specs.declared.refusal.WorldRefusal.TheVariants as world
+use Rattle.amoebot_state.specs.Configs.{Config, config_of, with_bot}
+use Rattle.amoebot_state.specs.Limits.{most_bots}
+use Rattle.amoebot_state.specs.Refusals.{bot_fault}
+use Rattle.journal_text.specs.Parts.{word, is_end, IsWord, IsInt, IsBot}
+
+-- ---- the area
+
+abbrev pub outside : ℕ → ℕ → Lexeme → Option RefusalKind
+outside least most t = if nat_le least (value t) && nat_le (value t) most then None else Some kind.BadRange
+
+-- a side of an area
+abbrev pub IsSide : Lang ℕ
+IsSide = IsNumeral (outside 1 128)
+
+abbrev pub an_area_of : ℤ → ℤ → ℕ → ℕ → Extent
+an_area_of x0 y0 w h = record { x0 = x0; y0 = y0; w = w; h = h }
+
+abbrev pub IsAreaLine : Lang Extent
+IsAreaLine = Then (IsWord (codes "area")) (λ line. Then (IsInt 4096) (λ x0. Then (IsInt 4096) (λ y0. Then IsSide (λ w. Made IsSide (λ h. an_area_of x0 y0 w h)))))
+
+-- ---- the amoebots
+
+abbrev pub is_bot : Lexeme → Bool
+is_bot = word (codes "bot")
+
+-- an amoebot as it is written, with the line of its word
+pub record WrittenBot : Type 0 where
+  pub line : ℕ
+  pub bot : Bot
+
+abbrev pub written_bot : ℕ → Bot → WrittenBot
+written_bot line b = record { line = line; bot = b }
+
+-- one amoebot too many, behind so many
+abbrev pub past_bots : ℕ → Lexeme → Option RefusalKind
+past_bots before t = if nat_lt before most_bots then None else Some kind.TooMany
+
+-- the word of an amoebot behind so many, for its line
+abbrev pub IsBotWord : ℕ → Lang ℕ
+IsBotWord before = Made (IsOne is_bot (past_bots before)) (λ t. t.line)
+
+-- an amoebot with the values of so many variables, behind so many
+abbrev pub IsBotLine : ℕ → ℕ → Lang WrittenBot
+IsBotLine vars before = Then (IsBotWord before) (λ line. Made (IsBot vars) (λ b. written_bot line b))
+
+abbrev pub one_more : ℕ → WrittenBot → ℕ
+one_more before b = suc before
+
+abbrev pub AreBots : ℕ → ℕ → Lang (List WrittenBot)
+AreBots vars before = Repeated (IsBotLine vars) one_more before
+
+-- ---- the rules on amoebots
+
+-- as what an amoebot is refused that a world refuses
+abbrev pub kind_of : WorldRefusal → Option RefusalKind
+kind_of (world.OutOfBox id) = Some kind.OutOfBox
+kind_of (world.NotAdjacent id) = Some kind.NotAdjacent
+kind_of (world.Overlap id) = Some kind.Overlap
+kind_of (world.BadValue id) = Some kind.BadValue
+kind_of world.NoMemory = None
+
+abbrev pub on_line : ℕ → RefusalKind → Refusal
+on_line line k = record { line = line; kind = k }
+
+-- the rule that the next amoebot breaks beside those that are there
+abbrev pub broken : Config → WrittenBot → Option Refusal
+broken c b = option_map (on_line b.line) (option_and_then kind_of (bot_fault c b.bot))
+
+-- the first rule that is broken, by rising id
+abbrev pub first_broken : Config → List WrittenBot → Option Refusal
+first_broken c [] = None
+first_broken c (b ∷ bs) = or_else (broken c b) (first_broken (with_bot c b.bot) bs)
+
+-- ---- the sections
+
+-- a shape as it is written
+pub record WrittenShape : Type 0 where
+  pub area : Extent
+  pub bots : List WrittenBot
+
+abbrev pub written_shape : Extent → List WrittenBot → WrittenShape
+written_shape area bots = record { area = area; bots = bots }
+
+abbrev pub bot_in : WrittenBot → Bot
+bot_in b = b.bot
+
+-- a shape in a section with this word
+abbrev pub IsWritten : List ℕ → ℕ → Lang WrittenShape
+IsWritten text vars = Then (IsWord text) (λ line. Closed (Then IsAreaLine (λ area. Made (AreBots vars 0) (λ bots. written_shape area bots))) is_end)
+
+-- with these maxima of the variables: what is wrong with it, and the configuration that it stands for
+module _ (maxes : List ℕ) where
+  abbrev pub wrong : WrittenShape → Option Refusal
+  wrong s = first_broken (config_of s.area maxes []) s.bots
+
+  abbrev pub stands_for : WrittenShape → Config
+  stands_for s = config_of s.area maxes (map bot_in s.bots)
+
+-- a shape under this word, with the values of so many variables, and these maxima of all eight
+abbrev pub IsShapeUnder : List ℕ → ℕ → List ℕ → Lang Config
+IsShapeUnder text vars maxes = Made (Judged (IsWritten text vars) (wrong maxes)) (stands_for maxes)
+
+abbrev pub IsShape : ℕ → List ℕ → Lang Config
+IsShape = IsShapeUnder (codes "shape")
+
+abbrev pub IsFinal : ℕ → List ℕ → Lang Config
+IsFinal = IsShapeUnder (codes "final")

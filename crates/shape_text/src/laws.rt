@@ -1,0 +1,34 @@
+//! What the grammars of the sections say. The functions do nothing: their clauses are the laws.
+
+ghost use Rattle.std.specs.Prelude.{ℕ, List};
+ghost use Rattle.text_tokens.specs.Lawful.{Exact, IsDecided};
+ghost use Rattle.shape_text.specs.Shapes.{IsFinal, IsShape};
+ghost use Rattle.shape_text.specs.Readers.{a_final, a_shape};
+ghost use Rattle.shape_text.specs.Judgements.{JudgedAsWorlds};
+ghost use Rattle.shape_text.specs.Rereading.{ShapesReadBack};
+ghost use Rattle.shape_text.specs.ShapeRows.{ShapesAreRead};
+ghost use Rattle.shape_text.specs.TextRows.{TextsArePrinted};
+
+/// Of any tokens the grammar of a shape says one thing, and its reader answers that; and so does that of a last shape.
+pub fn shapes_are_decided()
+    ensures exact { (vars : ℕ) (maxes : List ℕ) → Exact (IsShape vars maxes) (a_shape vars maxes) }
+    ensures decided { (vars : ℕ) (maxes : List ℕ) → IsDecided (IsShape vars maxes) }
+    ensures exact_final { (vars : ℕ) (maxes : List ℕ) → Exact (IsFinal vars maxes) (a_final vars maxes) }
+    ensures decided_final { (vars : ℕ) (maxes : List ℕ) → IsDecided (IsFinal vars maxes) }
+    ensures read { ShapesAreRead }
+{}
+
+/// A world whose amoebots have 0 past the variables is read back from its text.
+pub fn shapes_read_back()
+    ensures { ShapesReadBack }
+{}
+
+/// Small configurations with their texts.
+pub fn texts_are_printed()
+    ensures { TextsArePrinted }
+{}
+
+/// What is wrong with a shape is what a world refuses.
+pub fn shapes_are_judged_as_worlds()
+    ensures { JudgedAsWorlds }
+{}

@@ -1,0 +1,15 @@
+//! The sections `shape` and `final` as text, both ways.
+#![tactic(auto)]
+
+mod laws;
+mod printing;
+mod shape;
+
+pub use laws::{
+    shapes_are_decided, shapes_are_judged_as_worlds, shapes_read_back, texts_are_printed,
+};
+pub use printing::{print_shape, put_shape};
+pub use shape::{read_final, read_shape};
+
+#[cfg(test)]
+mod tests;

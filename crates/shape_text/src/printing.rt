@@ -1,0 +1,57 @@
+//! The sections `shape` and `final` printed.
+
+ghost use Rattle.std.specs.Prelude.{◌≡◌, ◌≤◌, ◌++◌, map, IfOk, OnOk};
+ghost use Rattle.text_tokens.specs.Lines.{line_text, lines_text};
+ghost use Rattle.shape_text.specs.Texts.{area_words, bot_line, present, shape_text};
+
+use amoebot_state::{NoMemory, World};
+use journal_text::put_bot;
+use std::alloc::{AllocError, Global};
+use text_tokens::{Lines, Text};
+use tri_lattice::Area;
+
+/// The section of a shape under the given word: its area, and its amoebots by rising id, with the values of so many variables,
+/// at most 8.
+pub fn print_shape(alloc: Global, word: &str, world: &World, vars: u8) -> Result<Text, NoMemory>
+    requires { vars ≤ 8 }
+    ensures { IfOk result (λ text. text ≡ shape_text word.now vars world.now) }
+{
+    let mut lines = Lines::new(alloc);
+    put_shape(&mut lines, word, world, vars)?;
+    Ok(lines.text())
+}
+
+/// Adds that section to a text.
+pub fn put_shape(lines: &mut Lines, word: &str, world: &World, vars: u8) -> Result<(), AllocError>
+    requires { vars ≤ 8 }
+    ensures { OnOk result (lines.new ≡ lines.old ++ shape_text word.now vars world.now) }
+{
+    lines.open_section(word)?;
+    put_area(lines, world.area())?;
+    put_bots(lines, world, vars)?;
+    lines.close_section()
+}
+
+fn put_area(lines: &mut Lines, area: Area) -> Result<(), AllocError>
+    ensures { OnOk result (lines.new ≡ lines.old ++ line_text (area_words area)) }
+{
+    lines.begin("area")?;
+    lines.number(area.x0())?;
+    lines.number(area.y0())?;
+    lines.number(area.w())?;
+    lines.number(area.h())?;
+    lines.end()
+}
+
+/// The amoebots, each on a line.
+fn put_bots(lines: &mut Lines, world: &World, vars: u8) -> Result<(), AllocError>
+    requires { vars ≤ 8 }
+    ensures { OnOk result (lines.new ≡ lines.old ++ lines_text (map (bot_line vars) (present world.now.bots))) }
+{
+    for id in 0..world.bots() {
+        lines.begin("bot")?;
+        put_bot(lines, world.bot(id), vars)?;
+        lines.end()?;
+    }
+    Ok(())
+}

@@ -1,0 +1,258 @@
+//! The sections `shape` and `final` read.
+
+ghost use Rattle.std.specs.Prelude.{◌≡◌, ◌<◌, ◌≤◌, ◌⊎◌, codes, length, map, option_map, slice_get, vec_len, IfOk, IfErr, IfSome};
+ghost use Rattle.std.specs.List.{All};
+ghost use Rattle.text_tokens.specs.declared.refusal.ReadRefusal.TheVariants.{NoMemory, Refused};
+ghost use Rattle.text_tokens.specs.Steps.{Gives, ReadsOf, TellsOf, another};
+ghost use Rattle.amoebot_state.specs.Limits.{most_bots};
+ghost use Rattle.amoebot_state.specs.Refusals.{IsPlain};
+ghost use Rattle.shape_text.specs.Shapes as spec;
+ghost use Rattle.shape_text.specs.Readers as reader;
+ghost use Rattle.shape_text.specs.Views as view;
+
+use amoebot_state::{Bot, World, WorldRefusal};
+use journal_text::{read_bot, read_int, read_word};
+use std::alloc::Global;
+use text_tokens::{ReadRefusal, RefusalKind, TokenKind, Tokens, refused};
+use tri_lattice::Area;
+
+const FARTHEST: u16 = 4096;
+
+const LONGEST_SIDE: u32 = 128;
+
+const MOST_BOTS: u32 = 4096;
+
+/// An amoebot as it is written, with the line of its word.
+#[derive(Clone, Copy, Debug, Drop, PartialEq, Eq)]
+pub(crate) struct WrittenBot {
+    line: u32,
+    bot: Bot,
+}
+
+/// A shape as it is written. No world was made of it yet.
+#[derive(Drop)]
+pub(crate) struct WrittenShape {
+    area: Area,
+    bots: Vec<WrittenBot>,
+}
+
+/// A side of an area, from 1 to 128.
+#[tactic(auto, unfolding(crate::specs::Readers::a_side, text_tokens::specs::Reading::numeral))]
+fn read_side(tokens: &mut Tokens<'_>) -> Result<u16, ReadRefusal>
+    ensures reads { Gives (λ n. n) reader.a_side tokens.old result tokens.new }
+    ensures low { IfOk result (λ n. 1 ≤ n) }
+    ensures high { IfOk result (λ n. n ≤ 128) }
+{
+    let token = tokens.take_kind(TokenKind::Number)?;
+    let side = tokens.number(&token);
+    if side < 1 || side > LONGEST_SIDE {
+        return Err(refused(token.line, RefusalKind::BadRange));
+    }
+    Ok(side as u16)
+}
+
+#[tactic(auto, unfolding(crate::specs::Readers::an_area))]
+fn read_area(tokens: &mut Tokens<'_>) -> Result<Area, ReadRefusal>
+    ensures { Gives (λ a. a) reader.an_area tokens.old result tokens.new }
+{
+    let line = read_word(tokens, b"area")?;
+    let x0 = read_int(tokens, FARTHEST)?;
+    let y0 = read_int(tokens, FARTHEST)?;
+    let w = read_side(tokens)?;
+    let h = read_side(tokens)?;
+    Area::new(x0, y0, w, h).ok_or(refused(line, RefusalKind::BadRange))
+}
+
+/// The word of an amoebot behind so many, for its line.
+#[tactic(auto, unfolding(crate::specs::Readers::bot_word))]
+fn read_bot_word(tokens: &mut Tokens<'_>, before: u32) -> Result<u32, ReadRefusal>
+    ensures reads { Gives (λ line. line) (reader.bot_word before) tokens.old result tokens.new }
+    ensures room { IfOk result (λ _. before < most_bots) }
+{
+    let token = tokens.take(TokenKind::Word, b"bot")?;
+    if before >= MOST_BOTS {
+        return Err(refused(token.line, RefusalKind::TooMany));
+    }
+    Ok(token.line)
+}
+
+/// An amoebot behind so many.
+#[tactic(auto, unfolding(crate::specs::Readers::a_bot_line))]
+fn read_bot_line(tokens: &mut Tokens<'_>, vars: u8, before: u32) -> Result<WrittenBot, ReadRefusal>
+    requires { vars ≤ 8 }
+    ensures reads { Gives view.bot (reader.a_bot_line vars before) tokens.old result tokens.new }
+    ensures room { IfOk result (λ _. before < most_bots) }
+    ensures plain { IfOk result (λ b. IsPlain b.bot) }
+{
+    let line = read_bot_word(tokens, before)?;
+    let bot = read_bot(tokens, vars)?;
+    Ok(WrittenBot { line, bot })
+}
+
+/// One more amoebot, if one comes.
+fn more_bot(
+    tokens: &mut Tokens<'_>,
+    vars: u8,
+    before: u32,
+) -> Result<Option<WrittenBot>, ReadRefusal>
+    requires { vars ≤ 8 }
+    ensures reads { Gives (λ o. option_map view.bot o) (another spec.is_bot (reader.a_bot_line vars before)) tokens.old result tokens.new }
+    ensures room { IfOk result (λ o. IfSome o (λ _. before < most_bots)) }
+    ensures plain { IfOk result (λ o. IfSome o (λ b. IsPlain b.bot)) }
+{
+    if !tokens.is_next(TokenKind::Word, b"bot") {
+        return Ok(None);
+    }
+    Ok(Some(read_bot_line(tokens, vars, before)?))
+}
+
+fn read_bots(
+    alloc: Global,
+    tokens: &mut Tokens<'_>,
+    vars: u8,
+) -> Result<Vec<WrittenBot>, ReadRefusal>
+    requires { vars ≤ 8 }
+    ensures reads { Gives (λ v. map view.bot v.items) (reader.all_bots vars) tokens.old result tokens.new }
+    ensures few { IfOk result (λ v. vec_len v ≤ most_bots) }
+    ensures plain { IfOk result (λ v. All (λ b. IsPlain b.bot) v.items) }
+{
+    let mut found = Vec::new(alloc);
+    let mut before = 0;
+    while let Some(bot) = more_bot(tokens, vars, before)? {
+        found.push(bot)?;
+        before += 1;
+    }
+    Ok(found)
+}
+
+#[tactic(auto, unfolding(crate::specs::Readers::a_drawing))]
+fn read_drawing(
+    alloc: Global,
+    tokens: &mut Tokens<'_>,
+    vars: u8,
+) -> Result<WrittenShape, ReadRefusal>
+    requires { vars ≤ 8 }
+    ensures reads { Gives view.shape (reader.a_drawing vars) tokens.old result tokens.new }
+    ensures few { IfOk result (λ s. vec_len s.bots ≤ most_bots) }
+    ensures plain { IfOk result (λ s. All (λ b. IsPlain b.bot) s.bots.items) }
+{
+    let area = read_area(tokens)?;
+    let bots = read_bots(alloc, tokens, vars)?;
+    Ok(WrittenShape { area, bots })
+}
+
+/// A shape in a section with this word, up to its `end`.
+#[tactic(auto, unfolding(crate::specs::Readers::written))]
+fn read_written(
+    alloc: Global,
+    tokens: &mut Tokens<'_>,
+    text: &[u8],
+    vars: u8,
+) -> Result<WrittenShape, ReadRefusal>
+    requires { vars ≤ 8 }
+    ensures reads { Gives view.shape (reader.written text.now vars) tokens.old result tokens.new }
+    ensures few { IfOk result (λ s. vec_len s.bots ≤ most_bots) }
+    ensures plain { IfOk result (λ s. All (λ b. IsPlain b.bot) s.bots.items) }
+{
+    read_word(tokens, text)?;
+    let shape = read_drawing(alloc, tokens, vars)?;
+    read_word(tokens, b"end")?;
+    Ok(shape)
+}
+
+/// The amoebots, without their lines.
+fn bots_of(alloc: Global, written: &[WrittenBot]) -> Result<Vec<Bot>, ReadRefusal>
+    ensures value { IfOk result (λ bots. bots.items ≡ map (λ b. b.bot) written.now) }
+    ensures err { IfErr result (λ e. e ≡ NoMemory) }
+{
+    let mut bots = Vec::new(alloc);
+    for one in written {
+        bots.push(one.bot)?;
+    }
+    Ok(bots)
+}
+
+/// The amoebot that is refused, and for what; `None` for want of memory.
+fn blamed(refusal: WorldRefusal) -> Option<(u16, RefusalKind)>
+    ensures { result ≡ view.blamed refusal }
+{
+    match refusal {
+        WorldRefusal::OutOfBox(id) => Some((id, RefusalKind::OutOfBox)),
+        WorldRefusal::NotAdjacent(id) => Some((id, RefusalKind::NotAdjacent)),
+        WorldRefusal::Overlap(id) => Some((id, RefusalKind::Overlap)),
+        WorldRefusal::BadValue(id) => Some((id, RefusalKind::BadValue)),
+        WorldRefusal::NoMemory => None,
+    }
+}
+
+/// The refusal of an amoebot of these at its word.
+fn refusal_of(refusal: WorldRefusal, bots: &[WrittenBot]) -> ReadRefusal
+    requires { IfSome (view.blamed refusal) (λ b. b.0 < length bots.now) }
+    ensures { view.BlamedAs bots.now (view.blamed refusal) result }
+{
+    match blamed(refusal) {
+        Some((id, kind)) => refused(bots[usize::from(id)].line, kind),
+        None => ReadRefusal::NoMemory,
+    }
+}
+
+/// The world that a shape stands for, or the first rule that it breaks, by rising id.
+fn world_of(alloc: Global, written: &WrittenShape, maxes: [u8; 8]) -> Result<World, ReadRefusal>
+    requires few { vec_len written.now.bots ≤ most_bots }
+    requires plain { All (λ b. IsPlain b.bot) written.now.bots.items }
+    ensures judged { view.IsJudged maxes (view.shape written.now) result }
+    ensures few { IfOk result (λ w. length w.bots ≤ most_bots) }
+{
+    let bots = bots_of(alloc, written.bots.as_slice())?;
+    match World::new(alloc, written.area, maxes, bots.as_slice()) {
+        Ok(world) => Ok(world),
+        Err(refusal) => Err(refusal_of(refusal, written.bots.as_slice())),
+    }
+}
+
+/// A shape in a section with this word, up to its `end`, with values for so many variables, and these maxima of all eight.
+fn read_under(
+    alloc: Global,
+    tokens: &mut Tokens<'_>,
+    text: &[u8],
+    vars: u8,
+    maxes: [u8; 8],
+) -> Result<World, ReadRefusal>
+    requires { vars ≤ 8 }
+    ensures reads { Gives (λ c. c) (reader.shape_under text.now vars maxes) tokens.old result tokens.new }
+    ensures few { IfOk result (λ w. length w.bots ≤ most_bots) }
+{
+    let written = read_written(alloc, tokens, text, vars)?;
+    world_of(alloc, &written, maxes)
+}
+
+/// Reads the section `shape` up to its `end`: the world that it stands for, with values for so many variables, at most 8, and
+/// these maxima of all eight.
+pub fn read_shape(
+    alloc: Global,
+    tokens: &mut Tokens<'_>,
+    vars: u8,
+    maxes: [u8; 8],
+) -> Result<World, ReadRefusal>
+    requires { vars ≤ 8 }
+    ensures tells { TellsOf (spec.IsShape vars maxes) (λ c. c) tokens.old result tokens.new }
+    ensures reads { ReadsOf (spec.IsShape vars maxes) (λ c. c) tokens.old result tokens.new }
+    ensures few { IfOk result (λ w. length w.bots ≤ most_bots) }
+{
+    read_under(alloc, tokens, b"shape", vars, maxes)
+}
+
+/// Reads the section `final`, as `read_shape` reads a shape.
+pub fn read_final(
+    alloc: Global,
+    tokens: &mut Tokens<'_>,
+    vars: u8,
+    maxes: [u8; 8],
+) -> Result<World, ReadRefusal>
+    requires { vars ≤ 8 }
+    ensures tells { TellsOf (spec.IsFinal vars maxes) (λ c. c) tokens.old result tokens.new }
+    ensures reads { ReadsOf (spec.IsFinal vars maxes) (λ c. c) tokens.old result tokens.new }
+    ensures few { IfOk result (λ w. length w.bots ≤ most_bots) }
+{
+    read_under(alloc, tokens, b"final", vars, maxes)
+}
