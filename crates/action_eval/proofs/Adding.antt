@@ -22,7 +22,7 @@ use Rattle.action_tree.specs.Writable.{is_term, are_terms, is_sum, is_count_from
 use Rattle.action_check.specs.Limits.{most_literal}
 use Rattle.action_check.specs.Rules.{GuardKept, GuardsKept, SumKept, TermKept}
 use Rattle.action_check.specs.Scopes.{Scope}
-use Rattle.action_check.proofs.Opened.{part_opened}
+use Rattle.action_tree.proofs.Viewed.{part_opened}
 use Rattle.action_meaning.specs.Names.{Names, bind}
 use Rattle.action_meaning.specs.Choices.{Asked, any_of, all_of, first_of, count_of}
 use Rattle.action_meaning.specs.Values.{guard_value, each_value, some_value, sum_value, term_value, signed}

@@ -20,7 +20,7 @@ use Rattle.model_ops.specs.Operations.{write}
 use Rattle.model_ops.specs.WorkingCopies.{own_id}
 use Rattle.action_meaning.specs.Names.{var_number}
 use Rattle.action_meaning.specs.Values.{sum_value}
-use Rattle.action_check.proofs.Opened.{stmt_at_put_of, stmt_at_let}
+use Rattle.action_tree.proofs.Viewed.{stmt_put_of, stmt_let}
 use Rattle.action_eval.specs.Known.{known, scope_of, sight_of}
 use Rattle.action_eval.proofs.Walking.{both}
 use Rattle.action_eval.proofs.Running.{stmt_at_put, stmt_at_for, put_ran, put_failed, scope_of_bound, room_to_bind, stmt_kept, stmt_counted, stmts_next, stmts_fail, stmts_over, ports_next, ports_fail, ports_over}
@@ -49,38 +49,38 @@ run_stmt-returns-in_err-put-in-PutOf t c =
     let p = err_from_is_err_and r.result r.ensures.1 in
     let w = c.args.site.now in
     let xs = known c.args.names in
-    let e : stmt_of c.args.stmt.now ≡ put_of (port_of c.in-PutOf.port) (name_of c.in-PutOf.name) (sum_of c.in-PutOf.sum) = rw c.in-PutOf.is (stmt_at_put_of c.in-PutOf.port c.in-PutOf.name c.in-PutOf.sum) in
+    let e : stmt_of c.args.stmt.now ≡ put_of (port_of c.in-PutOf.port) (name_of c.in-PutOf.name) (sum_of c.in-PutOf.sum) = rw c.in-PutOf.is (stmt_put_of c.in-PutOf.port c.in-PutOf.name c.in-PutOf.sum) in
     rw (p.1, p.2, e, sym c.in_ok-port-in-PutOf.ensures) (put_failed w xs (sum_value (sight_of w) xs (sum_of c.in-PutOf.sum)) (λ x. write w.reached (own_id w) (Some c.in_ok-port-in-PutOf.port) (var_number xs (name_of c.in-PutOf.name)) x) _ c.in_err-put-in-PutOf.ensures.value)
 
 pub run_stmt-returns-in_ok-put-in-PutOf : goal.run_stmt-returns-in_ok-put-in-PutOf
 run_stmt-returns-in_ok-put-in-PutOf t c =
     let w = c.args.site.now in
     let xs = known c.args.names in
-    let e : stmt_of c.args.stmt.now ≡ put_of (port_of c.in-PutOf.port) (name_of c.in-PutOf.name) (sum_of c.in-PutOf.sum) = rw c.in-PutOf.is (stmt_at_put_of c.in-PutOf.port c.in-PutOf.name c.in-PutOf.sum) in
+    let e : stmt_of c.args.stmt.now ≡ put_of (port_of c.in-PutOf.port) (name_of c.in-PutOf.name) (sum_of c.in-PutOf.sum) = rw c.in-PutOf.is (stmt_put_of c.in-PutOf.port c.in-PutOf.name c.in-PutOf.sum) in
     rw (e, sym c.in_ok-port-in-PutOf.ensures) (put_ran w _ xs (sum_value (sight_of w) xs (sum_of c.in-PutOf.sum)) (λ x. write w.reached (own_id w) (Some c.in_ok-port-in-PutOf.port) (var_number xs (name_of c.in-PutOf.name)) x) c.in_ok-put-in-PutOf.ensures.value c.in_ok-put-in-PutOf.ensures.after)
 
 -- the counts of what stands in a statement
 pub run_stmt-port_value-requires-clause-counted : goal.run_stmt-port_value-requires-clause-counted
 run_stmt-port_value-requires-clause-counted t c =
-    let e : stmt_of c.args.stmt.now ≡ put_of (port_of c.in-PutOf.port) (name_of c.in-PutOf.name) (sum_of c.in-PutOf.sum) = rw c.in-PutOf.is (stmt_at_put_of c.in-PutOf.port c.in-PutOf.name c.in-PutOf.sum) in
+    let e : stmt_of c.args.stmt.now ≡ put_of (port_of c.in-PutOf.port) (name_of c.in-PutOf.name) (sum_of c.in-PutOf.sum) = rw c.in-PutOf.is (stmt_put_of c.in-PutOf.port c.in-PutOf.name c.in-PutOf.sum) in
     let counted = rw e at c.requires.counted in
     (both _ _ (both _ _ counted).0).0
 
 pub run_stmt-put-requires-in-PutOf-clause-counted : goal.run_stmt-put-requires-in-PutOf-clause-counted
 run_stmt-put-requires-in-PutOf-clause-counted t c =
-    let e : stmt_of c.args.stmt.now ≡ put_of (port_of c.in-PutOf.port) (name_of c.in-PutOf.name) (sum_of c.in-PutOf.sum) = rw c.in-PutOf.is (stmt_at_put_of c.in-PutOf.port c.in-PutOf.name c.in-PutOf.sum) in
+    let e : stmt_of c.args.stmt.now ≡ put_of (port_of c.in-PutOf.port) (name_of c.in-PutOf.name) (sum_of c.in-PutOf.sum) = rw c.in-PutOf.is (stmt_put_of c.in-PutOf.port c.in-PutOf.name c.in-PutOf.sum) in
     let counted = rw e at c.requires.counted in
     (both _ _ counted).1
 
 pub run_stmt-port_value-requires-in-Let-clause-counted : goal.run_stmt-port_value-requires-in-Let-clause-counted
 run_stmt-port_value-requires-in-Let-clause-counted t c =
-    let e : stmt_of c.args.stmt.now ≡ let_be (name_of c.in-Let.name) (port_of c.in-Let.port) = rw c.in-Let.is (stmt_at_let c.in-Let.name c.in-Let.port) in
+    let e : stmt_of c.args.stmt.now ≡ let_be (name_of c.in-Let.name) (port_of c.in-Let.port) = rw c.in-Let.is (stmt_let c.in-Let.name c.in-Let.port) in
     let counted = rw e at c.requires.counted in
     (both _ _ counted).1
 
 pub run_stmt-bind-requires : goal.run_stmt-bind-requires
 run_stmt-bind-requires t c =
-    let e : stmt_of c.args.stmt.now ≡ let_be (name_of c.in-Let.name) (port_of c.in-Let.port) = rw c.in-Let.is (stmt_at_let c.in-Let.name c.in-Let.port) in
+    let e : stmt_of c.args.stmt.now ≡ let_be (name_of c.in-Let.name) (port_of c.in-Let.port) = rw c.in-Let.is (stmt_let c.in-Let.name c.in-Let.port) in
     let kept = rw e at c.requires.kept in
     room_to_bind (known c.args.names) _ kept.0
 

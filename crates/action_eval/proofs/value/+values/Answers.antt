@@ -10,7 +10,7 @@ use Rattle.action_tree.specs.Trees.{Sum, quantified, any, all, first, count, of_
 use Rattle.action_tree.specs.Views.{name_of, literal_of, sum_of, terms_of, guard_of, port_of, term_of}
 use Rattle.action_tree.specs.Writable.{is_sum}
 use Rattle.action_check.specs.Rules.{SumKept}
-use Rattle.action_check.proofs.Opened.{sum_opened, term_at_port, port_at_turn}
+use Rattle.action_tree.proofs.Viewed.{sum_opened, term_member, port_turn}
 use Rattle.amoebot_state.specs.declared.bot.End.TheVariants.{Head}
 use Rattle.amoebot_state.specs.Ports.{port}
 use Rattle.action_meaning.specs.Values.{signed}
@@ -241,7 +241,7 @@ term_value-count_value-requires t c =
 
 pub port_value-port_value-requires : goal.port_value-port_value-requires
 port_value-port_value-requires t c =
-    let e : port_of c.args.port.now ≡ turned (port_of c.deref.result.now) (literal_of c.in-Turn.number) = rw (c.in-Turn.is, c.deref.ensures) (port_at_turn c.in-Turn.port c.in-Turn.number) in
+    let e : port_of c.args.port.now ≡ turned (port_of c.deref.result.now) (literal_of c.in-Turn.number) = rw (c.in-Turn.is, c.deref.ensures) (port_turn c.in-Turn.port c.in-Turn.number) in
     let kept = rw e at c.requires.kept in
     let counted = rw e at c.requires.counted in
     let smaller = port_in_turn c.in-Turn.port c.in-Turn.number in
@@ -251,7 +251,7 @@ port_value-port_value-requires t c =
 
 pub term_value-port_value-requires : goal.term_value-port_value-requires
 term_value-port_value-requires t c =
-    let e : term_of c.args.term.now ≡ of_port (port_of c.in-Of.port) (name_of c.in-Of.name) = rw c.in-Of.is (term_at_port c.in-Of.port c.in-Of.name) in
+    let e : term_of c.args.term.now ≡ of_port (port_of c.in-Of.port) (name_of c.in-Of.name) = rw c.in-Of.is (term_member c.in-Of.port c.in-Of.name) in
     let kept = rw e at c.requires.kept in
     let counted = rw e at c.requires.counted in
     let smaller = port_in_term c.in-Of.port c.in-Of.name in
@@ -264,7 +264,7 @@ term_value-returns-in_err-value-in-Of-clause-value t c =
     let xs = known c.args.names.now in
     let r = c.from_residual-in_err-value-in-Of in
     let p = err_from_is_err_and r.result r.ensures.1 in
-    let e : term_of c.args.term.now ≡ of_port (port_of c.in-Of.port) (name_of c.in-Of.name) = rw c.in-Of.is (term_at_port c.in-Of.port c.in-Of.name) in
+    let e : term_of c.args.term.now ≡ of_port (port_of c.in-Of.port) (name_of c.in-Of.name) = rw c.in-Of.is (term_member c.in-Of.port c.in-Of.name) in
     rw (p.1, p.2, e) (sym (of_port_fails s xs (port_of c.in-Of.port) (name_of c.in-Of.name) c.in_ok-port-in-Of.port c.var_number-in-Of.result _ (sym c.in_ok-port-in-Of.ensures) c.var_number-in-Of.ensures.value (sym c.in_err-value-in-Of.ensures)))
 
 pub term_value-returns-in_ok-value-in-Of-clause-value : goal.term_value-returns-in_ok-value-in-Of-clause-value
@@ -272,7 +272,7 @@ term_value-returns-in_ok-value-in-Of-clause-value t c =
     let s = sight_of c.args.site.now in
     let xs = known c.args.names.now in
     let fits : FitsSigned w32 c.from-in-Of.result = search rules in
-    let e : term_of c.args.term.now ≡ of_port (port_of c.in-Of.port) (name_of c.in-Of.name) = rw c.in-Of.is (term_at_port c.in-Of.port c.in-Of.name) in
+    let e : term_of c.args.term.now ≡ of_port (port_of c.in-Of.port) (name_of c.in-Of.name) = rw c.in-Of.is (term_member c.in-Of.port c.in-Of.name) in
     rw (to_z-of_z w32 c.from-in-Of.result fits, e) (ap Ok c.from-in-Of.ensures ∙ sym (of_port_is s xs (port_of c.in-Of.port) (name_of c.in-Of.name) c.in_ok-port-in-Of.port c.var_number-in-Of.result c.in_ok-value-in-Of.value (sym c.in_ok-port-in-Of.ensures) c.var_number-in-Of.ensures.value (sym c.in_ok-value-in-Of.ensures)))
 
 pub term_value-returns-in_err-count-in-Count-clause-value : goal.term_value-returns-in_err-count-in-Count-clause-value
