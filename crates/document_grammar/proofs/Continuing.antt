@@ -1,5 +1,5 @@
 -- The tokens of a text whose last byte is a line feed stay where another text stands behind it.
-use Rattle.std.proofs.Common.{◌≡◌, ℕ, zero, suc, ◌+◌, ◌<◌, ◌≤◌, Bool, true, false, cond, List, [], ◌∷◌, ◌++◌, length, take, drop, codes, refl, sym, ap, subst, ◌∙◌, arith, length-append, length-drop, append_assoc}
+use Rattle.std.proofs.Common.{◌≡◌, ℕ, zero, suc, ◌+◌, ◌≤◌, Bool, true, false, cond, List, [], ◌∷◌, ◌++◌, length, drop, refl, sym, ap, subst, ◌∙◌, arith, length-append, length-drop, append_assoc}
 use Rattle.std.specs.Prelude.{◌==◌}
 use Rattle.std.specs.List.{list_all, count_by}
 use Rattle.std.proofs.lemmas.List.{drop-append-le, take-append-le, append-nil}
@@ -8,7 +8,7 @@ use Rattle.std.proofs.Math.Seq.{drop-append_seam, drop-length}
 use Rattle.text_tokens.specs.declared.token.TokenKind.{TokenKind}
 use Rattle.text_tokens.specs.declared.refusal.Refusal.{Refusal}
 use Rattle.text_tokens.specs.declared.refusal.RefusalKind.TheVariants.{Truncated}
-use Rattle.text_tokens.specs.Text.{is_in_line, is_sign, Skips, nothing, blank, comment, last_comment, IsSkipped, StopsRun, IsLongestSign, Cuts, word, number, sign, Lexeme, token_end, line_at, Comes, IsToken, AreTokens, ends, bad_byte, too_long, token}
+use Rattle.text_tokens.specs.Text.{is_in_line, is_sign, Skips, nothing, blank, comment, last_comment, IsSkipped, IsLongestSign, Cuts, word, number, sign, Lexeme, token_end, line_at, Comes, IsToken, AreTokens, ends, bad_byte, too_long, token}
 use Rattle.text_tokens.proofs.Blanks.{and_true}
 use Rattle.text_tokens.proofs.Cutting.{cut_no_feed, cut_some}
 
@@ -145,7 +145,7 @@ module _ (source more : List ℕ) (fed : EndsInFeed source) where
   end_within l le t =
       let e = ap length t.text in
       omega (arith, length-append l.text (drop (token_end l) source), length-drop l.from source, length-drop (token_end l) source)
-    
+
   token_on : (l : Lexeme) → l.from ≤ length source → IsToken source l → IsToken both l
   token_on l le t =
       let within = end_within l le t in

@@ -1,10 +1,9 @@
 -- A text is a document of a form in one way, or has one first fault.
-use Rattle.std.proofs.Common.{◌≡◌, ℕ, List, Result, Ok, Err, subst}
+use Rattle.std.proofs.Common.{ℕ, List, Result, Ok, Err, subst}
 use Rattle.text_tokens.specs.declared.refusal.Refusal.{Refusal}
 use Rattle.text_tokens.specs.declared.refusal.RefusalKind.TheVariants.{Trailing}
 use Rattle.text_tokens.specs.Text.{Lexeme, AreTokens}
 use Rattle.text_tokens.specs.Scan.{ahead_of, last_of}
-use Rattle.text_tokens.specs.Reading.{whole_input}
 use Rattle.text_tokens.specs.Inputs.{TellsInput}
 use Rattle.text_tokens.proofs.Blanks.{point}
 use Rattle.text_tokens.proofs.Tokenizing.{one_reading, tokens_of_text}

@@ -7,15 +7,14 @@ use Rattle.text_tokens.specs.declared.token.TokenKind.TheVariants.{Word}
 use Rattle.text_tokens.specs.declared.refusal.RefusalKind.TheVariants.{Trailing, WrongSection}
 use Rattle.text_tokens.specs.Text.{Lexeme}
 use Rattle.text_tokens.specs.Cursor.{is_kind, is_spelled, same_kind}
-use Rattle.text_tokens.specs.Reading.{Reader, first, starts_at, ◌>>=◌, pure, refuse, stop, the_line, numeral, no_limit}
+use Rattle.text_tokens.specs.Reading.{Reader, first, ◌>>=◌, pure, refuse, stop, the_line, numeral, no_limit}
 use Rattle.text_tokens.specs.Grammar.{Symbol, symbol, tokens, Lang, Then, then, IsThe, IsNumeral, IsNothing, is_nothing}
-use Rattle.text_tokens.specs.Lawful.{SomeText, SomeFrom, Next, GoesOn, Lawful, LawfulAt, Apart, always, IsPart, BeginsWith}
+use Rattle.text_tokens.specs.Lawful.{SomeText, SomeFrom, Next, GoesOn, Lawful, LawfulAt, always, IsPart}
 use Rattle.text_tokens.proofs.Blanks.{and_true}
-use Rattle.text_tokens.proofs.Symbols.{first-append}
 use Rattle.text_tokens.proofs.Exactness.{some_is}
 use Rattle.text_tokens.proofs.Following.{law_then}
 use Rattle.text_tokens.proofs.Beginnings.{begins_tokens, front_token}
-use Rattle.text_tokens.proofs.Parts.{nil_not, some_text, part_nothing, part_behind}
+use Rattle.text_tokens.proofs.Parts.{nil_not, part_nothing, part_behind}
 use Rattle.text_tokens.proofs.Choosing.{law_choose, law_branch, law_refuse, law_stop}
 use Rattle.text_tokens.proofs.Distinguishing.{sample, a_token, a_numeral}
 use Rattle.text_tokens.proofs.Obeying.{exact_law, input_law}
@@ -254,6 +253,7 @@ module _ {S : Type 0} (Body : Section → S → Lang S) (body : Section → S �
   pub law_frame : (c : Course) (s : S) → Lawful (IsInFrame Body c s) (in_frame body c s)
   unfolding in_frame
   law_frame c s = law_then IsHeader (λ version. IsRest Body c s) (λ xs v is. some_rest c s) header (λ version. rest body c s) part_header.law (λ xs v is fine. law_rest c s) (λ xs ys v b t p q e g. part_header.halts xs v t p refl g)
+
   pub framed : (c : Course) (s : S) → Framed (IsInFrame Body c s) (in_frame body c s)
   framed c s =
       let law = law_frame c s in

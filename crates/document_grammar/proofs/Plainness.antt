@@ -1,16 +1,16 @@
 -- The frame's texts without a refusal are those of the forms as they are written down.
-use Rattle.std.proofs.Common.{◌≡◌, Bool, true, false, cond, List, [], ◌∷◌, ◌++◌, Option, Some, None, refl, sym, ap, subst, ◌∙◌}
+use Rattle.std.proofs.Common.{◌≡◌, Bool, true, false, cond, List, [], ◌++◌, Option, Some, None, refl, sym, ap, subst, ◌∙◌}
 use Rattle.std.specs.Prelude.{codes}
 use Rattle.text_tokens.specs.declared.token.TokenKind.TheVariants.{Word}
 use Rattle.text_tokens.specs.Text.{Lexeme}
 use Rattle.text_tokens.specs.Reading.{first, no_limit}
-use Rattle.text_tokens.specs.Grammar.{Symbol, symbol, tokens, first_fault, Lang, Then, then, IsNothing, is_nothing, Either, of_first, of_second}
+use Rattle.text_tokens.specs.Grammar.{Symbol, first_fault, Lang, Then, then, IsNothing, is_nothing, Either, of_first, of_second}
 use Rattle.text_tokens.proofs.Splitting.{fine-parts}
 use Rattle.text_tokens.proofs.Exactness.{some_is}
 use Rattle.text_tokens.proofs.Beginnings.{begins_tokens}
 use Rattle.text_tokens.proofs.Distinguishing.{other_text}
 use Rattle.document_grammar.specs.declared.section.Section.{Section}
-use Rattle.document_grammar.specs.declared.section.Section.TheVariants.{Program, Shape, Lists, Schedule, Journal, Final, Turns}
+use Rattle.document_grammar.specs.declared.section.Section.TheVariants.{Lists, Schedule, Journal}
 use Rattle.document_grammar.specs.declared.section.Form.TheVariants.{Run, Interleave, Replay, Check, Measure}
 use Rattle.document_grammar.specs.Frame.{Course, ends, needs, may, behind_journal, Way, way, is_word, comes, may_end, IsRest, section, finished, wrong}
 use Rattle.document_grammar.specs.FrameLaws.{Plain, SameTexts, Distinct, BeginWithTheirWords, FormsAreDistinct}

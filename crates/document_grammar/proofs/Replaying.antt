@@ -1,5 +1,5 @@
 -- A document of the form Run, followed by the text of a run, is one of the form Replay.
-use Rattle.std.proofs.Common.{◌≡◌, ℕ, ◌≤◌, List, [], ◌∷◌, ◌++◌, length, Option, Some, None, Ok, codes, refl, sym, ap, subst, ◌∙◌, arith, length-append, append_assoc, map}
+use Rattle.std.proofs.Common.{◌≡◌, ℕ, List, [], ◌∷◌, ◌++◌, length, Some, Ok, codes, refl, sym, ap, subst, ◌∙◌, arith, length-append, append_assoc, map}
 use Rattle.std.specs.List.{enumerate_from, flat_map}
 use Rattle.std.proofs.lemmas.List.{append-nil}
 use Rattle.std.proofs.Math.Seq.{drop-append_seam}
@@ -8,21 +8,19 @@ use Rattle.text_tokens.specs.declared.refusal.RefusalKind.TheVariants.{Trailing}
 use Rattle.text_tokens.specs.Text.{Lexeme}
 use Rattle.text_tokens.specs.Scan.{ahead_of, last_of}
 use Rattle.text_tokens.specs.Lines.{Words, lines_text}
-use Rattle.text_tokens.specs.Grammar.{Symbol, tokens, first_fault, Lang, Then, then, Made, IsNothing, is_nothing, Either, of_first, of_second}
-use Rattle.text_tokens.specs.Lawful.{IsWhole, IsText}
+use Rattle.text_tokens.specs.Grammar.{Symbol, tokens, Lang, Then, then, IsNothing, is_nothing, of_first, of_second}
+use Rattle.text_tokens.specs.Lawful.{IsWhole}
 use Rattle.text_tokens.specs.Inputs.{IsInput}
 use Rattle.text_tokens.proofs.Blanks.{point}
 use Rattle.text_tokens.proofs.Symbols.{tokens-append, fine-append}
 use Rattle.text_tokens.proofs.Exactness.{none_stops}
-use Rattle.text_tokens.proofs.Following.{WholeIn, whole_in}
+use Rattle.text_tokens.proofs.Following.{whole_in}
 use Rattle.text_tokens.proofs.LineLemmas.{texts_add_up}
 use Rattle.text_tokens.proofs.PrintedTokens.{HasTokens, has_tokens, lines_spell}
 use Rattle.text_tokens.proofs.Tokenizing.{tokens_of_text}
 use Rattle.amoebot_state.specs.declared.verdict.Entry.{Entry}
 use Rattle.amoebot_state.specs.Configs.{Config}
 use Rattle.claim_core.specs.Turns.{MarkLists}
-use Rattle.journal_text.specs.Journals.{IsJournal}
-use Rattle.journal_text.specs.Turns.{IsTurns}
 use Rattle.journal_text.specs.Texts.{entry_words, caller_lines}
 use Rattle.journal_text.proofs.Respelling.{Found, Is, RereadsLines, whole_then, lines_made, lines_then, lines_into, lines_nothing}
 use Rattle.journal_text.proofs.JournalsReread.{journal_lines}
@@ -31,12 +29,12 @@ use Rattle.shape_text.specs.Shapes.{IsFinal}
 use Rattle.shape_text.specs.Texts.{area_words, bot_line, present}
 use Rattle.shape_text.proofs.ShapesReread.{config_lines, final_word}
 use Rattle.document_grammar.specs.declared.section.Section.{Section}
-use Rattle.document_grammar.specs.declared.section.Section.TheVariants.{Program, Shape, Lists, Schedule, Journal, Final, Turns}
+use Rattle.document_grammar.specs.declared.section.Section.TheVariants.{Program, Shape, Lists, Schedule, Journal, Turns}
 use Rattle.document_grammar.specs.declared.section.Form.TheVariants.{Run, Replay}
-use Rattle.document_grammar.specs.Frame.{Course, ends, needs, may, may_schedule, may_lists, behind_journal, course_of, IsRest, IsHeader, IsInFrame}
+use Rattle.document_grammar.specs.Frame.{Course, ends, needs, may, may_schedule, may_lists, behind_journal, course_of, IsRest, IsHeader}
 use Rattle.document_grammar.specs.FrameLaws.{Plain}
 use Rattle.document_grammar.specs.Documents.{Contents, nothing_yet, vars_of, actions_of, maxes_in, bots_of, Body, IsDocument, Holds}
-use Rattle.document_grammar.specs.RunTexts.{run_text, KeepsRunLimits, EndsLine, RunsAreReplayed}
+use Rattle.document_grammar.specs.RunTexts.{run_text, KeepsRunLimits, RunsAreReplayed}
 use Rattle.document_grammar.proofs.Plainness.{plain, forms_are_distinct}
 use Rattle.document_grammar.proofs.Continuing.{feed_last, tokens_on, EndsInFeed}
 use Rattle.document_grammar.proofs.Sectioning.{are_sections}

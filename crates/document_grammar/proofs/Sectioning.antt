@@ -1,5 +1,5 @@
 -- The sections of a document are parts, and each begins with its word.
-use Rattle.std.proofs.Common.{◌≡◌, ℕ, Bool, true, false, cond, ◌&&◌, List, [], ◌∷◌, drop, Option, Some, None, refl, sym, ap, ◌∙◌}
+use Rattle.std.proofs.Common.{◌≡◌, ℕ, Bool, true, false, cond, ◌&&◌, List, [], ◌∷◌, drop, Option, Some, refl, sym, ap, ◌∙◌}
 use Rattle.std.specs.Prelude.{not, codes}
 use Rattle.std.specs.List.{list_all}
 use Rattle.std.specs.Str.{bytes_eq}
@@ -9,10 +9,10 @@ use Rattle.text_tokens.specs.declared.token.TokenKind.TheVariants.{Word, Number,
 use Rattle.text_tokens.specs.declared.refusal.Refusal.{Refusal}
 use Rattle.text_tokens.specs.Text.{Lexeme}
 use Rattle.text_tokens.proofs.Blanks.{and_true}
-use Rattle.text_tokens.specs.Cursor.{is_the, same_kind}
+use Rattle.text_tokens.specs.Cursor.{same_kind}
 use Rattle.text_tokens.specs.Reading.{Reader, no_limit}
-use Rattle.text_tokens.specs.Grammar.{Symbol, Lang, Then, then, IsThe, Made, Judged, Closed}
-use Rattle.text_tokens.specs.Lawful.{SomeText, always, IsPart, BeginsWith, Starts}
+use Rattle.text_tokens.specs.Grammar.{Symbol, Lang, Then, then}
+use Rattle.text_tokens.specs.Lawful.{SomeText, always, IsPart, Starts}
 use Rattle.text_tokens.proofs.Carrying.{part_made}
 use Rattle.text_tokens.proofs.Beginnings.{starts_made, starts_judged, starts_one, starts_then}
 use Rattle.text_tokens.proofs.Distinguishing.{starts_the}

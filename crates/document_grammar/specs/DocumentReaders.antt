@@ -1,5 +1,5 @@
 -- The sections as readers, and documents.
-use Rattle.std.specs.Prelude.{ℕ, Some}
+use Rattle.std.specs.Prelude.{Some}
 use Rattle.text_tokens.specs.Reading.{Reader, ◌>>=◌, pure, judged}
 use Rattle.action_tree.specs.Trees as tree
 use Rattle.action_grammar.specs.ProgramReaders.{a_program}

@@ -8,7 +8,7 @@ use Rattle.text_tokens.specs.declared.refusal.RefusalKind.{RefusalKind}
 use Rattle.text_tokens.specs.declared.refusal.RefusalKind.TheVariants.{BadRange, WrongSection}
 use Rattle.text_tokens.specs.Text.{Lexeme}
 use Rattle.text_tokens.specs.Cursor.{is_the}
-use Rattle.text_tokens.specs.Reading.{first, no_limit, value}
+use Rattle.text_tokens.specs.Reading.{first, value}
 use Rattle.text_tokens.specs.Grammar.{Symbol, symbol, tokens, Lang, Then, IsThe, IsNumeral}
 use Rattle.document_grammar.specs.declared.section.Section.{Section}
 use Rattle.document_grammar.specs.declared.section.Section.TheVariants.{Program, Shape, Lists, Schedule, Journal, Final, Turns}

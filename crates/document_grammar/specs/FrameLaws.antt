@@ -1,5 +1,5 @@
 -- What holds of the frame, whatever its sections are.
-use Rattle.std.specs.Prelude.{◌≡◌, true, Bool, List, None}
+use Rattle.std.specs.Prelude.{◌≡◌, true, List, None}
 use Rattle.text_tokens.specs.declared.refusal.RefusalKind.TheVariants.{Trailing}
 use Rattle.text_tokens.specs.Text.{Lexeme}
 use Rattle.text_tokens.specs.Reading.{Reader, no_limit, whole_input}

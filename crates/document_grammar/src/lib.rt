@@ -4,7 +4,5 @@
 mod laws;
 mod section;
 
-pub use laws::{
-    Sectioned, documents_are_decided, forms_are_plain, in_frame, runs_are_replayed,
-};
+pub use laws::{Sectioned, documents_are_decided, forms_are_plain, in_frame, runs_are_replayed};
 pub use section::{Form, Section};

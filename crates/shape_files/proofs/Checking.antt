@@ -1,5 +1,5 @@
 -- A program that was read, and judged.
-use Rattle.std.proofs.Common.{◌≡◌, List, [], ◌∷◌, Option, Some, None, Result, Ok, Err, refl, ap}
+use Rattle.std.proofs.Common.{◌≡◌, List, [], ◌∷◌, Some, None, Err, refl, ap}
 use Rattle.text_tokens.specs.declared.refusal.Refusal.{Refusal}
 use Rattle.action_check.specs.Told.{first_of}
 use Rattle.document_grammar.specs.Documents.{first_in}

@@ -1,10 +1,10 @@
 -- A section that is needed, or may come, by the next token; and a form read straight on is read as the frame reads it.
-use Rattle.std.proofs.Common.{◌≡◌, Bool, true, false, cond, List, [], ◌∷◌, Option, Some, None, Result, Ok, Err, refl, sym, ap, ◌∙◌}
+use Rattle.std.proofs.Common.{◌≡◌, Bool, true, false, cond, List, [], ◌∷◌, Ok, Err, refl, sym, ap, ◌∙◌}
 use Rattle.text_tokens.specs.declared.refusal.Refusal.{Refusal}
 use Rattle.text_tokens.specs.declared.refusal.RefusalKind.TheVariants.{Unexpected, WrongSection}
 use Rattle.text_tokens.specs.Text.{Lexeme}
 use Rattle.text_tokens.specs.Cursor.{next_passes, refusal_at}
-use Rattle.text_tokens.specs.Reading.{Answer, Reader, first, and_then, ◌>>=◌, pure, starts_at, stop, refuse, either}
+use Rattle.text_tokens.specs.Reading.{Answer, Reader, and_then, ◌>>=◌, pure, stop, refuse, either}
 use Rattle.document_grammar.specs.declared.section.Section.{Section}
 use Rattle.document_grammar.specs.declared.section.Section.TheVariants.{Program, Shape, Lists, Schedule, Journal, Final, Turns}
 use Rattle.document_grammar.specs.declared.section.Form.{Form}

@@ -1,6 +1,5 @@
 -- What is told of a grammar is what its exact reader answers.
-use Rattle.std.proofs.Common.{List, Result, Ok, Err}
-use Rattle.text_tokens.specs.declared.refusal.Refusal.{Refusal}
+use Rattle.std.proofs.Common.{Result, Ok, Err}
 use Rattle.text_tokens.specs.declared.refusal.ReadRefusal.{ReadRefusal}
 use Rattle.text_tokens.specs.declared.refusal.ReadRefusal.TheVariants.{Refused, NoMemory}
 use Rattle.text_tokens.specs.Cursor.{Cursor}

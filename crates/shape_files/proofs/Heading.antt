@@ -4,12 +4,10 @@ use Rattle.std.specs.Prelude.{◌==◌}
 use Rattle.std.proofs.lemmas.Bool.Decides.{nat_tests}
 use Rattle.text_tokens.specs.declared.refusal.RefusalKind.{RefusalKind}
 use Rattle.text_tokens.specs.Reading.{value}
-use Rattle.text_tokens.specs.declared.token.TokenKind.TheVariants.{Word}
 use Rattle.text_tokens.specs.declared.refusal.RefusalKind.TheVariants.{BadRange}
 use Rattle.text_tokens.specs.Text.{Lexeme}
 use Rattle.text_tokens.specs.Cursor.{next_passes}
-use Rattle.text_tokens.specs.Grammar.{IsThe, IsNumeral}
-use Rattle.text_tokens.specs.Lawful.{Exact, always, IsPart}
+use Rattle.text_tokens.specs.Lawful.{Exact}
 use Rattle.text_tokens.proofs.Obeying.{exact_law}
 use Rattle.document_grammar.specs.declared.section.Section.TheVariants.{Program, Shape, Lists, Schedule, Journal, Final, Turns}
 use Rattle.document_grammar.specs.Frame.{is_word, is_head, is_section_word, other_version, IsHeader}

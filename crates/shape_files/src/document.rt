@@ -27,11 +27,7 @@ pub fn read_sections(alloc: Global, bytes: &[u8], form: Form) -> Result<Sections
     Ok(Sections::new(parts))
 }
 
-fn read_document(
-    alloc: Global,
-    tokens: &mut Tokens<'_>,
-    form: Form,
-) -> Result<Parts, ReadRefusal>
+fn read_document(alloc: Global, tokens: &mut Tokens<'_>, form: Form) -> Result<Parts, ReadRefusal>
     ensures { Gives contents (document form) tokens.old result tokens.new }
 {
     read_head(tokens)?;

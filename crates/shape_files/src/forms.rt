@@ -45,11 +45,7 @@ fn may(
 
 /// Lists and perhaps a schedule, or neither.
 #[tactic(auto, unfolding(crate::specs::Straight::callers))]
-fn may_lists(
-    alloc: Global,
-    tokens: &mut Tokens<'_>,
-    parts: &mut Parts,
-) -> Result<(), ReadRefusal>
+fn may_lists(alloc: Global, tokens: &mut Tokens<'_>, parts: &mut Parts) -> Result<(), ReadRefusal>
     ensures { Gives (λ _. contents parts.new) (callers (contents parts.old)) tokens.old result tokens.new }
 {
     if may(alloc, tokens, parts, Section::Lists)? {

@@ -43,13 +43,7 @@ pub(crate) fn read_section(
             parts.schedule = Some(read_schedule(alloc, tokens, parts.callers())?);
         }
         Section::Journal => {
-            let entries = read_journal(
-                alloc,
-                tokens,
-                parts.bots(),
-                parts.actions(),
-                parts.vars(),
-            )?;
+            let entries = read_journal(alloc, tokens, parts.bots(), parts.actions(), parts.vars())?;
             parts.entries = Some(entries);
         }
         Section::Final => {

@@ -1,16 +1,12 @@
-use Rattle.std.proofs.Common.{◌≡◌, ℕ, Result, Ok, Err, refl, sym, ap, subst, ◌∙◌}
+use Rattle.std.proofs.Common.{Ok, Err}
 use Rattle.std.proofs.lemmas.Result.{err_from_is_err_and}
-use Rattle.text_tokens.specs.declared.refusal.ReadRefusal.{ReadRefusal}
 use Rattle.text_tokens.specs.declared.refusal.ReadRefusal.TheVariants.{Refused}
-use Rattle.text_tokens.specs.Cursor.{Cursor}
-use Rattle.text_tokens.specs.Reading.{Reader}
-use Rattle.text_tokens.specs.Steps.{Gives}
 use Rattle.text_tokens.proofs.Stepping.{on, fails, gives_as}
 use Rattle.document_grammar.specs.Frame.{IsHeader, course_of}
 use Rattle.document_grammar.specs.FrameReaders.{header, rest, in_frame}
 use Rattle.document_grammar.specs.Documents.{Contents, nothing_yet}
 use Rattle.document_grammar.specs.DocumentReaders.{body, document}
-use Rattle.shape_files.specs.Views.{as_read, contents}
+use Rattle.shape_files.specs.Views.{contents}
 use Rattle.shape_files.specs.Straight.{straight}
 use Rattle.shape_files.proofs.Heading.{exact_header}
 use Rattle.shape_files.proofs.Giving.{gives_of}

@@ -1,4 +1,4 @@
-use Rattle.std.proofs.Common.{◌∙◌, Ok, Err, sym, subst}
+use Rattle.std.proofs.Common.{◌∙◌, Ok, Err, sym}
 use Rattle.std.proofs.lemmas.Result.{err_from_is_err_and}
 use Rattle.text_tokens.specs.declared.refusal.RefusalKind.TheVariants.{Trailing}
 use Rattle.text_tokens.specs.declared.refusal.ReadRefusal.TheVariants.{Refused}
@@ -6,7 +6,6 @@ use Rattle.text_tokens.proofs.Settling.{tells_of, input_ends, input_fails, reads
 use Rattle.document_grammar.specs.Documents.{Contents, IsDocument}
 use Rattle.document_grammar.specs.DocumentReaders.{document}
 use Rattle.document_grammar.proofs.Deciding.{document_framed}
-use Rattle.shape_files.specs.declared.parts.Parts.{Parts}
 use Rattle.shape_files.specs.Views.{contents}
 use Rattle.shape_files.proofs.document.read_sections.Goals as goal
 

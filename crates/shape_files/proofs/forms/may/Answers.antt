@@ -1,6 +1,6 @@
-use Rattle.std.proofs.Common.{◌≡◌, Bool, true, false, Err, sym, ◌∙◌}
+use Rattle.std.proofs.Common.{Bool, true, false, Err, sym, ◌∙◌}
 use Rattle.std.proofs.lemmas.Result.{err_from_is_err_and}
-use Rattle.text_tokens.specs.Reading.{Reader, ◌>>=◌, pure}
+use Rattle.text_tokens.specs.Reading.{◌>>=◌, pure}
 use Rattle.text_tokens.proofs.Stepping.{stays, gives_as, fails, on_made, is_first, is_second}
 use Rattle.document_grammar.specs.Frame.{is_word}
 use Rattle.document_grammar.specs.Documents.{Contents}

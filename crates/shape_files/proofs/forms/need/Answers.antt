@@ -1,6 +1,5 @@
-use Rattle.std.proofs.Common.{◌≡◌, Err, sym, ap, ◌∙◌}
+use Rattle.std.proofs.Common.{Err, sym, ap, ◌∙◌}
 use Rattle.text_tokens.specs.declared.refusal.Refusal.{Refusal}
-use Rattle.text_tokens.specs.declared.refusal.ReadRefusal.TheVariants.{Refused}
 use Rattle.text_tokens.proofs.Stepping.{stays, gives_as}
 use Rattle.document_grammar.specs.DocumentReaders.{body}
 use Rattle.shape_files.specs.Views.{contents}

@@ -1,11 +1,10 @@
-use Rattle.std.proofs.Common.{◌≡◌, ℕ, List, Option, Some, None, Ok, Err}
+use Rattle.std.proofs.Common.{ℕ, List, Some}
 use Rattle.std.proofs.lemmas.Result.{err_from_is_err_and}
-use Rattle.text_tokens.specs.Reading.{Reader, ◌>>=◌, pure}
+use Rattle.text_tokens.specs.Reading.{◌>>=◌, pure}
 use Rattle.text_tokens.proofs.Stepping.{Reached, Failed, fails, on_made}
 use Rattle.amoebot_state.specs.declared.verdict.Entry.{Entry}
 use Rattle.amoebot_state.specs.Configs.{Config}
 use Rattle.claim_core.specs.Turns.{CallerLists}
-use Rattle.action_tree.specs.Trees as tree
 use Rattle.journal_text.specs.Journals.{IsJournal}
 use Rattle.journal_text.specs.Turns.{IsTurns}
 use Rattle.journal_text.specs.Readers.{journal, the_turns}
@@ -19,7 +18,6 @@ use Rattle.schedule_text.specs.Schedules.{IsSchedule}
 use Rattle.schedule_text.specs.Readers.{the_lists, a_schedule}
 use Rattle.schedule_text.proofs.ListLaws.{exact_lists}
 use Rattle.schedule_text.proofs.ScheduleLaws.{exact_schedule}
-use Rattle.document_grammar.specs.Documents.{Contents, vars_of, actions_of, maxes_in, bots_of, callers_of}
 use Rattle.document_grammar.specs.DocumentReaders.{a_checked_program, body}
 use Rattle.shape_files.specs.Views.{contents}
 use Rattle.shape_files.proofs.Giving.{kept, not_kept}

@@ -1,0 +1,165 @@
+-- What a field leaves once all its seats are back.
+use Rattle.std.proofs.Common.{◌≡◌, ◌≢◌, ℕ, zero, suc, ◌+◌, ◌<◌, List, [], ◌∷◌, drop, length, Option, Some, None, ap, sym, refl, subst, ◌∙◌, arith}
+use Rattle.std.specs.Prelude.{slice_get, IsSome}
+use Rattle.std.specs.List.{All}
+use Rattle.std.proofs.lemmas.Option.{none-some, same_Some, slice_get-get_or, slice_get_within}
+use Rattle.std.proofs.lemmas.Bool.{false≢true}
+use mathlib.Core.Option as home
+use lib.ListN.{get_elem?, get_or}
+use Rattle.atomic_table.specs.Seated.{TableId}
+use Rattle.atomic_table.specs.Table.{Final, Seen}
+use Rattle.amoebot_state.specs.declared.verdict.Entry.{Entry}
+use Rattle.amoebot_state.specs.declared.verdict.Verdict.{Verdict}
+use Rattle.amoebot_state.specs.Configs.{Config}
+use Rattle.amoebot_state.specs.Patches.{IsPatched}
+use Rattle.amoebot_state.specs.Steps.{Run}
+use Rattle.amoebot_state.specs.Zones.{Shown}
+use Rattle.amoebot_state.proofs.Patched.{patched_is_unique, run_has_one_last}
+use Rattle.claim_core.specs.Turns.{Kept}
+use Rattle.claim_core.specs.Machine.{Setup, State, after}
+use Rattle.claim_core.specs.Reached.{HasValues}
+use Rattle.claim_core.specs.Soundness.{IsSetup}
+use Rattle.claim_core.proofs.Holding.{framed}
+use Rattle.claim_core.proofs.Sounds.{always}
+use Rattle.claim_rule.specs.declared.views.Slot.{Slot}
+use Rattle.claim_rule.specs.declared.views.Slot.TheVariants as slot
+use Rattle.claim_rule.specs.declared.views.Record.{Record}
+use Rattle.claim_rule.specs.declared.views.Terms.{Terms}
+use Rattle.claim_rule.specs.Views.{Content, Seated, view_of, setup, cells}
+use Rattle.claim_rule.specs.Stands.{IsJournal, HasTaken, IsRecord, Stands, Holds}
+use Rattle.claim_rule.specs.Tokens.{FieldOf, IsField, Token, number_in, record_in, doing}
+use Rattle.claim_rule.specs.Seating.{SeatsOf, AreOf, AreSeats}
+use Rattle.claim_rule.specs.Closing.{ClosesAs, HaveAll}
+
+first_left : {A : Type 0} (xs : List A) (k : ℕ) (x : A) → slice_get xs k ≡ Some x → drop k xs ≡ x ∷ drop (k + 1) xs
+first_left xs k x e = by xs k x e ∙ ap (λ n. x ∷ drop n xs) (let n : suc k ≡ k + 1 = omega arith in n)
+  where
+    by : {A : Type 0} (ys : List A) (j : ℕ) (y : A) → slice_get ys j ≡ Some y → drop j ys ≡ y ∷ drop (suc j) ys
+    by [] j y f = absurd (none-some y f)
+    by (z ∷ ys) zero y f = ap (λ w. w ∷ ys) (same_Some z y f)
+    by (z ∷ ys) (suc j) y f = by ys j y f
+
+-- the entries after the one whose patch was applied lead on to the same last world
+pub follows : (f : Shown → Verdict) (now next last : Config) (es : List Entry) (k : ℕ) (e : Entry) → slice_get es k ≡ Some e → Run f now (drop k es) last → IsPatched now e.patch next → Run f next (drop (k + 1) es) last
+follows f now next last es k e there run patched =
+    let rest = subst (λ xs. Run f now xs last) (first_left es k e there) run in
+    subst (λ c. Run f c (drop (k + 1) es) last) (patched_is_unique now rest.0 next e.patch rest.1.patched patched) rest.2
+
+-- each of these places has a seat
+pub some_there : {A : Type 0} (xs : List (Option A)) (c : ℕ) → c < length xs → All (λ o. IsSome o) xs → (x : A) × (slice_get xs c ≡ Some (Some x))
+some_there {A} xs c lt all = by (get_or xs c None) (slice_get-get_or xs c None lt) (all c None lt)
+  where
+    by : (o : Option A) → slice_get xs c ≡ Some o → IsSome o → (x : A) × (slice_get xs c ≡ Some (Some x))
+    by None e some = absurd (false≢true some)
+    by (Some x) e some = (x, e)
+
+-- a slot with a journal has one
+abbrev kept_in : Kept → Slot → Kept
+kept_in d slot.Empty = d
+kept_in d (slot.Cell x) = d
+kept_in d (slot.Journal j) = j
+
+same_journal : (xs : List Slot) (k : ℕ) (i j : Kept) → get_elem? xs k ≡ home.some (slot.Journal i) → get_elem? xs k ≡ home.some (slot.Journal j) → i ≡ j
+same_journal xs k i j e f = ap (kept_in i) (home.some-injective (slot.Journal i) (slot.Journal j) (sym e ∙ f))
+
+module _ {D : Type 0} (verdict : D → Shown → Verdict) (z : Terms D) (ok : IsSetup (setup verdict z)) where
+  abbrev g : Setup
+  g = setup verdict z
+
+  module _ (s : Content D) (steps : List ℕ) (st : Stands verdict z s (after g steps)) (id : ℕ) (rs : List Record) (mine : get_elem? s.views id ≡ home.some (view_of z rs))
+      (seats : List (Option (Token D))) (count : length seats ≡ length z.lists.ids) (full : All (λ o. IsSome o) seats)
+      (number : (c : ℕ) (t : Token D) → slice_get seats c ≡ Some (Some t) → number_in t ≡ c) (have : HaveAll seats rs) where
+    abbrev core : State
+    core = after g steps
+
+    its : (c : ℕ) (t : Token D) → slice_get seats c ≡ Some (Some t) → IsRecord g core (record_in t)
+    its c t e = let there = have c t e in st.views.each id there.0 (record_in t) (view_of z rs, mine, there.1)
+
+    caller_is : (c : ℕ) (t : Token D) → slice_get seats c ≡ Some (Some t) → slice_get core.callers c ≡ Some (doing t)
+    caller_is c t e = ap (slice_get core.callers) (sym (number c t e)) ∙ (its c t e).caller
+
+    not_holder : (c : ℕ) (t : Token D) → slice_get seats c ≡ Some (Some t) → core.holder ≢ Some c
+    not_holder c t e = subst (λ n. core.holder ≢ Some n) (number c t e) (subst (HasTaken g core (number_in t)) (have c t e).2 (its c t e).committed.taken)
+
+    nobody : (o : Option ℕ) → core.holder ≡ o → o ≡ None
+    nobody None e = refl
+    nobody (Some c) e =
+        let sound = always g ok steps in
+        let k = sound.holder c e in
+        let inside : c < length seats = (let n = slice_get_within core.callers c k.0 k.1 in omega (arith, n, sound.callers, count)) in
+        let t = some_there seats c inside full in
+        absurd (not_holder c t.0 t.1 e)
+
+    at_home : (j : Kept) × (get_elem? s.homes (cells z.world) ≡ home.some (home.some (slot.Journal j))) × IsJournal g core j
+    at_home = st.homes.journal (nobody core.holder refl)
+
+    module _ (xs : List Slot) (are : (k : ℕ) (y : Slot) → get_elem? s.homes k ≡ home.some (home.some y) → get_elem? xs k ≡ home.some y) where
+      journal_in : (j : Kept) × (get_elem? xs (cells z.world) ≡ home.some (slot.Journal j)) × IsJournal g core j
+      journal_in = (at_home.0, are (cells z.world) (slot.Journal at_home.0) at_home.1, at_home.2)
+
+      its_journal : (j : Kept) → get_elem? xs (cells z.world) ≡ home.some (slot.Journal j) → IsJournal g core j
+      its_journal j e = subst (IsJournal g core) (same_journal xs (cells z.world) journal_in.0 j journal_in.1 e) journal_in.2
+
+      runs : (j : Kept) → get_elem? xs (cells z.world) ≡ home.some (slot.Journal j) → (last : Config) × Run g.verdict g.world j.entries last
+      runs j e = let sound = always g ok steps in (sound.last, subst (λ es. Run g.verdict g.world es sound.last) (sym (its_journal j e).entries) sound.run)
+
+      closed : (j : Kept) (world : Config) → get_elem? xs (cells z.world) ≡ home.some (slot.Journal j) → Run g.verdict g.world j.entries world → ClosesAs verdict z seats world j
+      closed j world e run =
+          let sound = always g ok steps in
+          let is = its_journal j e in
+          let same : sound.last ≡ world = run_has_one_last g.verdict g.world core.journal sound.last world sound.run (subst (λ es. Run g.verdict g.world es world) is.entries run) in
+          let fr = framed g ok core sound in
+          let last_has : HasValues g core sound.last = record { rest = fr.rest; size = fr.size; ids = fr.ids; values = sym sound.values } in
+          record { steps = steps; callers = caller_is; first = is.first; entries = is.entries; values = subst (HasValues g core) same last_has }
+
+module _ {D : Type 0} (verdict : D → Shown → Verdict) (own f : FieldOf D) (f_is : own ≡ f) (d : D) (w : Config) (keeps : IsField verdict own d w)
+    (rest : Seated D) (table : TableId) (items : List (Option (Token D))) (are : AreSeats rest table items) (s : SeatsOf D)
+    (s_is : (let t : SeatsOf D = record { table = table; terms = rest.0.terms; seats = items } in t) ≡ s) (of : AreOf f s) where
+  same_terms : are.terms ≡ f.terms
+  same_terms = same_Some are.terms f.terms (ap (λ (m : Seated D). m.0.terms) (sym are.dealt) ∙ ap (λ (t : SeatsOf D). t.terms) s_is ∙ of.terms)
+
+  -- the seats are the field's
+  pub seats_of : (c : ℕ) (t : Token D) → slice_get items c ≡ Some (Some t) → (t.table ≡ f.table) × (t.view.terms ≡ Some f.terms)
+  seats_of c t e = let is = are.each c t e in (is.0 ∙ ap (λ (u : SeatsOf D). u.table) s_is ∙ of.table, is.1 ∙ ap (λ (y : Terms D). Some y) same_terms)
+
+  module _ (full : All (λ o. IsSome o) s.seats) (n : ℕ) (n_is : n ≡ cells w) (id : ℕ) (m : Seated D) (gathered : (rs : List Record) × (m ≡ (view_of f.terms rs, [])) × HaveAll items rs)
+      (words : List ℕ) (xs : List Slot) (end : Final (Seen (Holds verdict own.terms) id m.0) words xs) where
+    terms_are : own.terms ≡ f.terms
+    terms_are = ap (λ (h : FieldOf D). h.terms) f_is
+
+    mine : get_elem? end.0.views id ≡ home.some (view_of own.terms gathered.0)
+    mine = end.1.1 ∙ ap (λ (k : Seated D). home.some k.0) gathered.1 ∙ ap (λ y. home.some (view_of y gathered.0)) (sym terms_are)
+
+    count : length items ≡ length own.terms.lists.ids
+    count = are.count ∙ ap (λ (y : Terms D). length y.lists.ids) (same_terms ∙ sym terms_are)
+
+    items_are : items ≡ s.seats
+    items_are = ap (λ (t : SeatsOf D). t.seats) s_is
+
+    all_there : All (λ (o : Option (Token D)). IsSome o) items
+    all_there = subst (λ (os : List (Option (Token D))). All (λ o. IsSome o) os) (sym items_are) full
+
+    number : (c : ℕ) (t : Token D) → slice_get items c ≡ Some (Some t) → number_in t ≡ c
+    number c t e = (are.each c t e).2
+
+    place_is : cells own.terms.world ≡ n
+    place_is = ap (λ (c : Config). cells c) keeps.world ∙ sym n_is
+
+    -- the journal is in its slot,
+    pub journal_there : (j : Kept) × (get_elem? xs n ≡ home.some (slot.Journal j))
+    journal_there =
+        let j = journal_in verdict own.terms keeps.run end.0 end.1.0.0 end.1.0.1 id gathered.0 mine items count all_there number gathered.2 xs end.4 in
+        (j.0, ap (get_elem? xs) (sym place_is) ∙ j.1)
+
+    -- its entries are a run,
+    pub entries_run : (j : Kept) → get_elem? xs n ≡ home.some (slot.Journal j) → (last : Config) × Run (verdict d) w j.entries last
+    entries_run j e =
+        let is = runs verdict own.terms keeps.run end.0 end.1.0.0 end.1.0.1 id gathered.0 mine items count all_there number gathered.2 xs end.4 j (ap (get_elem? xs) place_is ∙ e) in
+        (is.0, subst (λ (p : D × Config). Run (verdict p.0) p.1 j.entries is.0) (λ i. (keeps.decider i, keeps.world i)) is.1)
+
+    -- and with its last world the field has ended as it does
+    pub closes : (j : Kept) (world : Config) → get_elem? xs n ≡ home.some (slot.Journal j) → Run (verdict d) w j.entries world → ClosesAs verdict f.terms s.seats world j
+    closes j world e run =
+        subst (λ (p : Terms D × List (Option (Token D))). ClosesAs verdict p.0 p.1 world j) (λ i. (terms_are i, items_are i))
+        (closed verdict own.terms keeps.run end.0 end.1.0.0 end.1.0.1 id gathered.0 mine items count all_there number gathered.2 xs end.4 j world (ap (get_elem? xs) place_is ∙ e)
+        (subst (λ (p : D × Config). Run (verdict p.0) p.1 j.entries world) (λ i. (sym keeps.decider i, sym keeps.world i)) run))

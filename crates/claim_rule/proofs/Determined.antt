@@ -1,0 +1,148 @@
+-- Words, values at home and views stand for at most one state.
+use Rattle.std.proofs.Common.{◌≡◌, ◌≢◌, ℕ, zero, suc, ◌+◌, ◌*◌, ◌<◌, ◌≤◌, List, [], ◌∷◌, map, length, drop, Option, Some, None, inl, inr, ap, sym, refl, subst, ◌∙◌, arith, eq-eqb, ne_eqb}
+use Rattle.std.specs.Prelude.{slice_get, slice_index, if◌then◌else◌}
+use Rattle.std.specs.List.{All}
+use Rattle.std.proofs.lemmas.Bool.{cases_eq}
+use Rattle.std.proofs.lemmas.List.{ext_get_or}
+use Rattle.std.proofs.lemmas.List.Elements.{All-head, All-tail, All-weaker}
+use Rattle.std.proofs.lemmas.Option.{none-some, same_Some, slice_get_within}
+use Rattle.amoebot_state.specs.declared.cell.Cell.{Cell}
+use Rattle.amoebot_state.specs.declared.verdict.Entry.{Entry}
+use Rattle.amoebot_state.specs.declared.verdict.Verdict.{Verdict}
+use Rattle.amoebot_state.specs.Configs.{Config}
+use Rattle.amoebot_state.specs.Steps.{Run}
+use Rattle.amoebot_state.specs.Zones.{Shown}
+use Rattle.amoebot_state.proofs.Patched.{run_has_one_last}
+use Rattle.claim_core.specs.declared.state.Caller.{Caller}
+use Rattle.claim_core.specs.Turns.{Kept}
+use Rattle.claim_core.specs.Cells.{values_of}
+use Rattle.claim_core.specs.Good.{IsListed}
+use Rattle.claim_core.specs.Machine.{Setup, State, after}
+use Rattle.claim_core.specs.Reached.{entries_of}
+use Rattle.claim_core.specs.Soundness.{IsSetup, Sound}
+use Rattle.claim_core.proofs.Sounds.{always}
+use Rattle.claim_rule.specs.declared.views.Record.{Record}
+use Rattle.claim_rule.specs.declared.views.Terms.{Terms}
+use Rattle.claim_rule.specs.Views.{Content, setup, cells}
+use Rattle.claim_rule.specs.Stands.{HasTaken, HasRecord, IsRecord, Stands}
+use Rattle.claim_rule.specs.Laws.{StateIsDetermined}
+use Rattle.claim_rule.proofs.Allowing.{tags_count}
+
+-- the entries of a caller where the first entry is its own, and where it is not
+own_first : (c p : ℕ) (e : Entry) (es : List Entry) → e.caller ≡ c → entries_of c p (e ∷ es) ≡ (p, e) ∷ entries_of c (p + 1) es
+own_first c p e es is = ap (λ b. if b then (p, e) ∷ entries_of c (p + 1) es else entries_of c (p + 1) es) (eq-eqb e.caller c is)
+
+other_first : (c p : ℕ) (e : Entry) (es : List Entry) → e.caller ≢ c → entries_of c p (e ∷ es) ≡ entries_of c (p + 1) es
+other_first c p e es not = ap (λ b. if b then (p, e) ∷ entries_of c (p + 1) es else entries_of c (p + 1) es) (ne_eqb e.caller c not)
+
+-- no entry has a lower place than the first
+not_before : (c p q : ℕ) (e : Entry) (es : List Entry) → slice_get (entries_of c p es) 0 ≡ Some (q, e) → p ≤ q
+not_before c p q e [] at = absurd (none-some (q, e) at)
+not_before c p q e (x ∷ es) at = elim (cases_eq x.caller c) [
+  | inl is ↦ let same : p ≡ q = ap (λ (y : ℕ × Entry). y.0) (same_Some (p, x) (q, e) (ap (λ ys. slice_get ys 0) (sym (own_first c p x es is)) ∙ at)) in omega (arith, same)
+  | inr not ↦ let n = not_before c (p + 1) q e es (ap (λ ys. slice_get ys 0) (sym (other_first c p x es not)) ∙ at) in omega (arith, n)
+]
+
+-- a journal is determined by what each caller has in it
+same_entries : (n p : ℕ) (es fs : List Entry) → All (λ (e : Entry). e.caller < n) es → All (λ (e : Entry). e.caller < n) fs → ((c : ℕ) → c < n → entries_of c p es ≡ entries_of c p fs) → es ≡ fs
+same_entries n p [] [] few few' same = refl
+same_entries n p [] (f ∷ fs) few few' same =
+    let lt = All-head (λ (e : Entry). e.caller < n) f fs few' in
+    absurd (none-some (p, f) (ap (λ ys. slice_get ys 0) (same f.caller lt ∙ own_first f.caller p f fs refl)))
+same_entries n p (e ∷ es) [] few few' same =
+    let lt = All-head (λ (x : Entry). x.caller < n) e es few in
+    absurd (none-some (p, e) (ap (λ ys. slice_get ys 0) (sym (same e.caller lt) ∙ own_first e.caller p e es refl)))
+same_entries n p (e ∷ es) (f ∷ fs) few few' same =
+    let lt = All-head (λ (x : Entry). x.caller < n) e es few in
+    let first = ap (λ ys. slice_get ys 0) (sym (same e.caller lt) ∙ own_first e.caller p e es refl) in
+    elim (cases_eq f.caller e.caller) [
+      | inl is ↦
+          let heads : f ≡ e = ap (λ (y : ℕ × Entry). y.1) (same_Some (p, f) (p, e) (ap (λ ys. slice_get ys 0) (sym (own_first e.caller p f fs is)) ∙ first)) in
+          let tails : es ≡ fs = same_entries n (p + 1) es fs (All-tail (λ (x : Entry). x.caller < n) e es few) (All-tail (λ (x : Entry). x.caller < n) f fs few') (λ c inside. elim (cases_eq e.caller c) [
+            | inl mine ↦ ap (λ ys. drop 1 ys) (sym (own_first c p e es mine) ∙ same c inside ∙ own_first c p f fs (is ∙ mine))
+            | inr not ↦ sym (other_first c p e es not) ∙ same c inside ∙ other_first c p f fs (λ q. not (sym is ∙ q))
+          ]) in
+          λ i. sym heads i ∷ tails i
+      | inr not ↦ absurd (let n = not_before e.caller (p + 1) p e fs (ap (λ ys. slice_get ys 0) (sym (other_first e.caller p f fs not)) ∙ first) in omega (arith, n))
+    ]
+
+-- lists with the same elements at the same places
+pub same_elements : {A : Type 0} (xs ys : List A) → length xs ≡ length ys → ((k : ℕ) → k < length xs → slice_get xs k ≡ slice_get ys k) → xs ≡ ys
+same_elements [] [] long each = refl
+same_elements [] (y ∷ ys) long each = absurd (omega (arith, long))
+same_elements (x ∷ xs) [] long each = absurd (omega (arith, long))
+same_elements (x ∷ xs) (y ∷ ys) long each =
+    let heads = same_Some x y (each 0 (omega arith)) in
+    let tails = same_elements xs ys (omega (arith, long)) (λ k lt. each (suc k) (omega (arith, lt))) in
+    λ i. heads i ∷ tails i
+
+module _ {D : Type 0} (verdict : D → Shown → Verdict) (z : Terms D) (s : Content D) (ok : IsSetup (setup verdict z)) where
+  abbrev g : Setup
+  g = setup verdict z
+
+  -- the record of a caller, which says what is so in each state that the table stands for
+  record_there : (one : State) → Stands verdict z s one → (c : ℕ) → c < length z.lists.ids → (seat place : ℕ) × (r : Record) × HasRecord s.views seat place r × (r.number ≡ c)
+  record_there one st c lt = st.views.some c lt
+
+  same_callers : (one two : State) (c : ℕ) → Stands verdict z s one → Stands verdict z s two → c < length z.lists.ids → slice_get one.callers c ≡ slice_get two.callers c
+  same_callers one two c st st' lt =
+      let r = st.views.some c lt in
+      subst (λ n. slice_get one.callers n ≡ slice_get two.callers n) r.4 ((st.views.each r.0 r.1 r.2 r.3).caller ∙ sym (st'.views.each r.0 r.1 r.2 r.3).caller)
+
+  same_own : (one two : State) (c : ℕ) → Stands verdict z s one → Stands verdict z s two → c < length z.lists.ids → entries_of c 0 one.journal ≡ entries_of c 0 two.journal
+  same_own one two c st st' lt =
+      let r = st.views.some c lt in
+      subst (λ n. entries_of n 0 one.journal ≡ entries_of n 0 two.journal) r.4 (sym (st.views.each r.0 r.1 r.2 r.3).committed.entries ∙ (st'.views.each r.0 r.1 r.2 r.3).committed.entries)
+
+  same_taken : (one two : State) (c : ℕ) (o : Option Kept) → HasTaken g one c o → HasTaken g two c o → one.holder ≡ Some c → two.holder ≡ Some c
+  same_taken one two c None has has' holds = absurd (has holds)
+  same_taken one two c (Some j) has has' holds = has'.0
+
+  holds_too : (one two : State) (c : ℕ) → Stands verdict z s one → Stands verdict z s two → c < length z.lists.ids → one.holder ≡ Some c → two.holder ≡ Some c
+  holds_too one two c st st' lt holds =
+      let r = st.views.some c lt in
+      let has = st.views.each r.0 r.1 r.2 r.3 in
+      let has' = st'.views.each r.0 r.1 r.2 r.3 in
+      subst (λ n. two.holder ≡ Some n) r.4 (same_taken one two r.2.number r.2.taken has.committed.taken has'.committed.taken (holds ∙ ap (λ n. Some n) (sym r.4)))
+
+  -- a holder is a caller
+  is_caller : (one : State) (c : ℕ) → Sound g one → one.holder ≡ Some c → c < length z.lists.ids
+  is_caller one c sound holds = let k = sound.holder c holds in let n = slice_get_within one.callers c k.0 k.1 in omega (arith, n, sound.callers)
+
+  same_holder : (one two : State) → Sound g one → Sound g two → Stands verdict z s one → Stands verdict z s two → one.holder ≡ two.holder
+  same_holder one two sound sound' st st' = by one.holder two.holder refl refl
+    where
+      by : (a b : Option ℕ) → one.holder ≡ a → two.holder ≡ b → one.holder ≡ two.holder
+      by None None e f = e ∙ sym f
+      by None (Some c) e f = absurd (none-some c (sym e ∙ holds_too two one c st' st (is_caller two c sound' f) f))
+      by (Some c) b e f = e ∙ sym (holds_too one two c st st' (is_caller one c sound e) e)
+
+  listed : (one : State) → Sound g one → All (λ (e : Entry). e.caller < length z.lists.ids) one.journal
+  listed one sound = All-weaker (IsListed z.lists) (λ (e : Entry). e.caller < length z.lists.ids) (λ e is. is.caller) one.journal sound.order.listed
+
+  same_state : (one two : State) → Sound g one → Sound g two → Stands verdict z s one → Stands verdict z s two → one ≡ two
+  same_state one two sound sound' st st' = λ i. record { tags = tags i; values = values i; journal = journal i; holder = holder i; callers = callers i }
+    where
+      journal : one.journal ≡ two.journal
+      journal = same_entries (length z.lists.ids) 0 one.journal two.journal (listed one sound) (listed two sound') (λ c lt. same_own one two c st st' lt)
+
+      holder : one.holder ≡ two.holder
+      holder = same_holder one two sound sound' st st'
+
+      callers : one.callers ≡ two.callers
+      callers = same_elements one.callers two.callers (sound.callers ∙ sym sound'.callers) (λ c lt. same_callers one two c st st' (omega (arith, lt, sound.callers)))
+
+      tags : one.tags ≡ two.tags
+      tags =
+          let many = (tags_count g ok one sound).0 in
+          let many' = (tags_count g ok two sound').0 in
+          ext_get_or 0 one.tags two.tags (many ∙ sym many') (λ k lt. let inside : k < cells z.world = omega (arith, lt, many) in sym (st.words.cell k inside) ∙ st'.words.cell k inside)
+
+      last : sound.last ≡ sound'.last
+      last = run_has_one_last g.verdict g.world one.journal sound.last sound'.last sound.run (subst (λ es. Run g.verdict g.world es sound'.last) (sym journal) sound'.run)
+
+      values : one.values ≡ two.values
+      values = sound.values ∙ ap values_of last ∙ sym sound'.values
+
+pub state_is_determined : {D : Type 0} (verdict : D → Shown → Verdict) → StateIsDetermined verdict
+state_is_determined verdict z s one two ok st st' = same_state verdict z s ok (after (setup verdict z) one) (after (setup verdict z) two) (always (setup verdict z) ok one) (always (setup verdict z) ok two) st st'

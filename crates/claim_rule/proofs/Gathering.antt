@@ -1,0 +1,108 @@
+-- The records of all seats while they are gathered, the last seat first.
+use Rattle.std.proofs.Common.{◌≡◌, ◌⊎◌, ℕ, zero, suc, ◌+◌, ◌<◌, List, [], ◌∷◌, ◌++◌, length, Option, Some, None, inl, inr, ap, sym, refl, subst, ◌∙◌, arith, length-append}
+use Rattle.std.specs.Prelude.{slice_get}
+use Rattle.std.proofs.lemmas.Bool.{cases_eq}
+use Rattle.std.proofs.lemmas.Option.{none-some, same_Some}
+use Rattle.atomic_table.specs.Seated.{TableId}
+use Rattle.claim_rule.specs.declared.views.Record.{Record}
+use Rattle.claim_rule.specs.declared.views.Terms.{Terms}
+use Rattle.claim_rule.specs.Views.{Seated, view_of, own}
+use Rattle.claim_rule.specs.Tokens.{Token, record_in}
+use Rattle.claim_rule.specs.Seating.{joined}
+use Rattle.claim_rule.specs.Closing.{HaveAll}
+
+-- each seat is still there or has its record at the first seat
+pub record Gathered {D : Type 0} (z : Terms D) (all left : List (Option (Token D))) (m : Seated D) : Type 0 where
+  pub records : List Record
+  pub has : m ≡ (view_of z records, [])
+  pub gone : List (Option (Token D))
+  pub parts : all ≡ left ++ gone
+  pub each : (c : ℕ) (t : Token D) → slice_get all c ≡ Some (Some t) → (c < length left) ⊎ ((place : ℕ) × (slice_get records place ≡ Some (record_in t)) × ((record_in t).taken ≡ None))
+
+after_front : {A : Type 0} (xs ys : List A) (y : A) → slice_get (xs ++ y ∷ ys) (length xs) ≡ Some y
+after_front [] ys y = refl
+after_front (x ∷ xs) ys y = after_front xs ys y
+
+in_front : {A : Type 0} (xs ys : List A) (k : ℕ) (x : A) → slice_get xs k ≡ Some x → slice_get (xs ++ ys) k ≡ Some x
+in_front [] ys k x e = absurd (none-some x e)
+in_front (y ∷ xs) ys zero x e = e
+in_front (y ∷ xs) ys (suc k) x e = in_front xs ys k x e
+
+one_over : {A : Type 0} (xs ys : List A) (y : A) → (xs ++ y ∷ []) ++ ys ≡ xs ++ y ∷ ys
+one_over [] ys y = refl
+one_over (x ∷ xs) ys y = ap (λ zs. x ∷ zs) (one_over xs ys y)
+
+whole : {A : Type 0} (xs : List A) → xs ≡ xs ++ []
+whole [] = refl
+whole (x ∷ xs) = ap (λ ys. x ∷ ys) (whole xs)
+
+module _ {D : Type 0} (z : Terms D) where
+  -- what a seat with one record knows and has
+  pub one_record : (m : Seated D) (t : Token D) (table : TableId) → record { table = table; view = m.0 } ≡ t → m.0.records ≡ own m.0 ∷ [] → m.1 ≡ [] → t.view.terms ≡ Some z → m ≡ (view_of z (record_in t ∷ []), [])
+  one_record m t table is alone out terms =
+      let same : m.0.terms ≡ Some z = ap (λ (u : Token D). u.view.terms) is ∙ terms in
+      let mine : m.0.records ≡ record_in t ∷ [] = alone ∙ ap (λ (u : Token D). record_in u ∷ []) is in
+      λ i. (record { terms = same i; records = mine i }, out i)
+
+  module _ (all : List (Option (Token D))) where
+    -- at first no record is at the first seat
+    pub none_gathered : (m : Seated D) → m ≡ (view_of z [], []) → Gathered z all all m
+    none_gathered m is = record {
+      records = [];
+      has = is;
+      gone = [];
+      parts = whole all;
+      each = λ c t e. inl (within all c (Some t) e);
+    }
+      where
+        within : {A : Type 0} (xs : List A) (k : ℕ) (x : A) → slice_get xs k ≡ Some x → k < length xs
+        within [] k x e = absurd (none-some x e)
+        within (y ∷ xs) zero x e = omega arith
+        within (y ∷ xs) (suc k) x e = let n = within xs k x e in omega (arith, n)
+
+    module _ (left new : List (Option (Token D))) (o : Option (Token D)) (m : Seated D) (so_far : Gathered z all left m) (pops : left ≡ new ++ o ∷ []) where
+      parts_now : all ≡ new ++ o ∷ so_far.gone
+      parts_now = so_far.parts ∙ ap (λ xs. xs ++ so_far.gone) pops ∙ one_over new so_far.gone o
+
+      -- the place that is taken away is the last of those that were left
+      pub last_is : slice_get all (length new) ≡ Some o
+      last_is = ap (λ xs. slice_get xs (length new)) parts_now ∙ after_front new so_far.gone o
+
+      -- its record, if it has one, is at the first seat then
+      pub one_less : (m' : Seated D) (rs : List Record) → m' ≡ (view_of z rs, []) → ((k : ℕ) (r : Record) → slice_get so_far.records k ≡ Some r → slice_get rs k ≡ Some r)
+          → ((t : Token D) → o ≡ Some t → (place : ℕ) × (slice_get rs place ≡ Some (record_in t)) × ((record_in t).taken ≡ None)) → Gathered z all new m'
+      one_less m' rs has longer its = record {
+        records = rs;
+        has = has;
+        gone = o ∷ so_far.gone;
+        parts = parts_now;
+        each = λ c t e. elim (so_far.each c t e) [
+          | inl lt ↦ elim (cases_eq c (length new)) [
+            | inl is ↦ inr (its t (same_Some o (Some t) (sym last_is ∙ ap (slice_get all) (sym is) ∙ e)))
+            | inr not ↦ inl (let n = ap (λ (xs : List (Option (Token D))). length xs) pops ∙ length-append new (o ∷ []) in omega (arith, lt, n, not))
+          ]
+          | inr there ↦ inr (there.0, longer there.0 (record_in t) there.1, there.2)
+        ];
+      }
+
+    -- an empty place is left out
+    pub skipped : (left new : List (Option (Token D))) (m : Seated D) → Gathered z all left m → left ≡ new ++ None ∷ [] → Gathered z all new m
+    skipped left new m so_far pops = one_less left new None m so_far pops m so_far.records so_far.has (λ k r e. e) (λ t e. absurd (none-some t e))
+
+    -- a seat's record comes in behind the others
+    pub taken_in : (left new : List (Option (Token D))) (t : Token D) (m other m' : Seated D) → Gathered z all left m → left ≡ new ++ Some t ∷ [] → (record_in t).taken ≡ None → other ≡ (view_of z (record_in t ∷ []), []) → m' ≡ (joined m.0 other.0, m.1) → Gathered z all new m'
+    taken_in left new t m other m' so_far pops none its is =
+        one_less left new (Some t) m so_far pops m' (so_far.records ++ record_in t ∷ []) (is ∙ (λ i. (joined (so_far.has i).0 (its i).0, (so_far.has i).1)))
+        (λ k r e. in_front so_far.records (record_in t ∷ []) k r e)
+        (λ u e. let same = same_Some t u e in (length so_far.records, after_front so_far.records [] (record_in t) ∙ ap (λ (v : Token D). Some (record_in v)) same, ap (λ (v : Token D). (record_in v).taken) (sym same) ∙ none))
+
+    -- once no place is left, all records are there
+    pub all_gathered : (left : List (Option (Token D))) (m : Seated D) → Gathered z all left m → length left ≡ 0 → (rs : List Record) × (m ≡ (view_of z rs, [])) × HaveAll all rs
+    all_gathered left m so_far none = (
+      so_far.records,
+      so_far.has,
+      λ c t e. elim (so_far.each c t e) [
+        | inl lt ↦ absurd (omega (arith, lt, none))
+        | inr there ↦ there
+      ],
+    )

@@ -1,0 +1,16 @@
+pub mod Tables
+pub mod Moves
+pub mod Allowing
+pub mod Claims
+pub mod Releases
+pub mod Looks
+pub mod Activating
+pub mod Dealing
+pub mod Giving
+pub mod FirstSlots
+pub mod Opens
+pub mod Deals
+pub mod Gathering
+pub mod Closes
+pub mod Determined
+pub mod Ends

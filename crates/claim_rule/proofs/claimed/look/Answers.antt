@@ -1,0 +1,6 @@
+use Rattle.claim_rule.proofs.Activating.{looked}
+use Rattle.claim_rule.proofs.claimed.look.Goals as goal
+
+pub invariant_of-claimed : goal.invariant_of-claimed
+invariant_of-claimed g c =
+    looked g.D.Decider.verdict c.claimed.inside.activation.seat.me _ _ _ _ _ _ c.claimed.invariant.0 c.place-place.new.seat.me c.place-place.result c.claimed.inside.found c.claimed.invariant.1 c.place-place.ensures.marked c.place-place.ensures.out

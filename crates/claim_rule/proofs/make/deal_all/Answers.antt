@@ -1,0 +1,52 @@
+use Rattle.std.proofs.Common.{rules, ◌≡◌, ◌<◌, ◌+◌, ℕ, List, [], ◌∷◌, length, drop, ap, sym, ◌∙◌, arith, subst, Some}
+use Rattle.amoebot_state.specs.Configs.{Config}
+use Rattle.claim_core.specs.Soundness.{IsSetup}
+use Rattle.claim_rule.specs.Views.{Seated, setup}
+use Rattle.claim_rule.specs.Tokens.{FieldOf}
+use Rattle.claim_rule.specs.Opened.{first_records}
+use Rattle.claim_rule.proofs.Deals.{next_one, first_of_rest, one_dealt, others_left, is_seat, dealt_so_far, are_seats, are_first}
+use Rattle.claim_rule.proofs.make.deal_all.Goals as goal
+
+-- src/make.rt
+pub loop-caller-init : goal.loop-caller-init
+loop-caller-init g c = (c.requires.field, c.requires.all, c.new-seats.ensures.items)
+
+pub deal-seat-requires-clause-field : goal.deal-seat-requires-clause-field
+deal-seat-requires-clause-field g c = λ κs lives. c.loop-caller.invariant.0
+
+pub deal-seat-requires-clause-some : goal.deal-seat-requires-clause-some
+deal-seat-requires-clause-some g c = λ κs lives.
+    let z = c.args.field.now.terms in
+    let lt : c.loop-caller.caller < length z.lists.ids = omega (arith, c.loop-caller-test.true, c.requires.callers) in
+    (next_one g.D.Decider.verdict z c.loop-caller.caller, drop (c.loop-caller.caller + 1) (first_records g.D.Decider.verdict z), first_of_rest g.D.Decider.verdict z c.loop-caller.rest.me c.loop-caller.caller lt c.loop-caller.invariant.1)
+
+pub invariant_of-push : goal.invariant_of-push
+invariant_of-push g c =
+    let z = c.args.field.now.terms in
+    let lt : c.loop-caller.caller < length z.lists.ids = omega (arith, c.loop-caller-test.true, c.requires.callers) in
+    let world = sym c.field.invariant.world ∙ ap (λ (f : FieldOf g.row.D.Denot). f.terms.world) c.field.view_is in
+    is_seat g.D.Decider.verdict z c.deal-seat.result.me c.loop-caller.caller c.area-area.result c.maxes-maxes.result
+    (subst (λ (f : FieldOf g.row.D.Denot). IsSetup (setup g.D.Decider.verdict f.terms)) c.field.view_is c.field.invariant.run) lt
+    (c.area-area.ensures ∙ ap (λ (w : Config). w.area) world) (c.maxes-maxes.ensures ∙ ap (λ (w : Config). w.maxes) world)
+    (c.deal-seat.ensures.dealt.1 ∙ (λ i. (one_dealt g.D.Decider.verdict z c.loop-caller.rest.me c.loop-caller.caller lt c.loop-caller.invariant.1 i, [])))
+
+pub loop-caller-preserved : goal.loop-caller-preserved
+loop-caller-preserved g c =
+    let z = c.args.field.now.terms in
+    let lt : c.loop-caller.caller < length z.lists.ids = omega (arith, c.loop-caller-test.true, c.requires.callers) in
+    let view = ap (λ (m : Seated g.row.D.Denot). m.0) c.deal-seat.ensures.dealt.1 ∙ one_dealt g.D.Decider.verdict z c.loop-caller.rest.me c.loop-caller.caller lt c.loop-caller.invariant.1 in
+    let table = c.deal-seat.ensures.dealt.0 ∙ c.loop-caller.invariant.0 in (
+      c.deal-seat.ensures.rest.0 ∙ c.loop-caller.invariant.0,
+      c.deal-seat.ensures.rest.1 ∙ others_left g.D.Decider.verdict z c.loop-caller.rest.me c.loop-caller.caller lt c.loop-caller.invariant.1,
+      c.in_ok-push.ensures.items ∙ dealt_so_far g.D.Decider.verdict c.args.field.now c.loop-caller.seats.items c.loop-caller.caller _ lt c.loop-caller.invariant.2 (λ i. record { table = table i; view = view i }),
+    )
+
+pub invariant_of-result : goal.invariant_of-result
+invariant_of-result g c =
+    let done : c.loop-caller.caller ≡ length c.args.field.now.terms.lists.ids = omega (arith, c.loop-caller-test.false, c.loop-caller.auto.caller-end, c.requires.callers) in
+    are_seats g.D.Decider.verdict c.args.field.now c.loop-caller.rest.me c.loop-caller.rest.table_id c.loop-caller.seats.items c.loop-caller.caller done c.loop-caller.invariant.0 c.loop-caller.invariant.1 c.loop-caller.invariant.2
+
+pub returns : goal.returns
+returns g c =
+    let done : c.loop-caller.caller ≡ length c.args.field.now.terms.lists.ids = omega (arith, c.loop-caller-test.false, c.loop-caller.auto.caller-end, c.requires.callers) in
+    are_first g.D.Decider.verdict c.args.field.now c.loop-caller.rest.me c.loop-caller.rest.table_id c.loop-caller.seats.items c.loop-caller.caller done c.loop-caller.invariant.0 c.loop-caller.invariant.1 c.loop-caller.invariant.2

@@ -1,0 +1,5 @@
+use Rattle.claim_rule.proofs.Looks.{look_is_next}
+use Rattle.claim_rule.proofs.step_laws.look_is_next.Goals as goal
+
+pub returns : goal.returns
+returns g c = look_is_next g.D.Decider.verdict

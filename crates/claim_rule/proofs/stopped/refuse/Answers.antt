@@ -1,0 +1,6 @@
+use Rattle.claim_rule.proofs.Activating.{marks}
+use Rattle.claim_rule.proofs.stopped.refuse.Goals as goal
+
+pub invariant_of-result : goal.invariant_of-result
+invariant_of-result g c =
+    marks g.D.Decider.verdict c.stopped.inside.activation.seat.me _ _ _ _ _ _ c.stopped.invariant.0 c.place-place.new.seat.me c.place-place.result c.stopped.invariant.1.turn c.place-place.ensures.marked c.place-place.ensures.out

@@ -1,0 +1,45 @@
+-- That each step of a seat is its caller's next step of the machine.
+use Rattle.std.specs.Prelude.{◌≡◌, ℕ, ◌==◌, List, [], ◌∷◌, slice_index}
+use mathlib.Core.Option.{none, some}
+use lib.ListN.{get_elem?}
+use prog.Atomic.{either}
+use Rattle.atomic_table.specs.Table.{Act, Valid, step, stepped, carried_after}
+use Rattle.amoebot_state.specs.declared.verdict.Verdict.{Verdict}
+use Rattle.amoebot_state.specs.Zones.{Shown}
+use Rattle.claim_core.specs.Machine.{after}
+use Rattle.claim_core.specs.Soundness.{IsSetup}
+use Rattle.claim_rule.specs.declared.views.Slot.{Slot}
+use Rattle.claim_rule.specs.declared.views.Record.{Record}
+use Rattle.claim_rule.specs.declared.views.Terms.{Terms}
+use Rattle.claim_rule.specs.declared.views.View.{View}
+use Rattle.claim_rule.specs.Views.{Content, Seated, own, view_of, setup, cells}
+use Rattle.claim_rule.specs.Stands.{Stands}
+use Rattle.claim_rule.specs.Plays.{IsToTry, IsToFree, Reads, claimed, freed, read}
+
+module _ {D : Type 0} (verdict : D → Shown → Verdict) (z : Terms D) where
+  -- the step that puts x in the word i: there is a new view of the seat, and an act on slots, with which the table stands for the
+  -- state after one step more of the seat's caller, and the seat knows what the step tells
+  abbrev pub GoesOn : Content D → List ℕ → ℕ → ℕ → Seated D → (ℕ → Seated D → Type 0) → ℕ → Type 0
+  GoesOn s steps i seat me then x =
+      (w : View D) × (a : Act Slot) × Valid s.homes me.1 a × Stands verdict z (stepped s i x seat me.1 w a) (after (setup verdict z) ((own me.0).number ∷ steps)) × then (slice_index s.words i) (w, carried_after me.1 a)
+
+  -- a table that stands for the state after these steps, at which a seat has the record of one caller
+  pub record IsAt (s : Content D) (steps : List ℕ) (seat : ℕ) (r : Record) : Type 0 where
+    pub run : IsSetup (setup verdict z)
+    pub stands : Stands verdict z s (after (setup verdict z) steps)
+    pub there : get_elem? s.views seat ≡ some (view_of z (r ∷ []))
+
+  -- a try to claim a cell, which finds its word 0 and puts the tag, or leaves it
+  abbrev pub ClaimIsNext : Type 0
+  ClaimIsNext = (s : Content D) (steps : List ℕ) (seat i t slots : ℕ) (r : Record) (out : List (ℕ × Slot)) → IsAt s steps seat r → IsToTry verdict i t (view_of z (r ∷ []))
+      → GoesOn s steps i seat (view_of z (r ∷ []), out) (claimed verdict (step slots i 0 t none) (view_of z (r ∷ []), out)) (either (slice_index s.words i == 0) t (slice_index s.words i))
+
+  -- the release of the cell that was won last, which puts 0
+  abbrev pub ReleaseIsNext : Type 0
+  ReleaseIsNext = (s : Content D) (steps : List ℕ) (seat i slots : ℕ) (r : Record) (out : List (ℕ × Slot)) → IsAt s steps seat r → IsToFree verdict i (view_of z (r ∷ []), out)
+      → GoesOn s steps i seat (view_of z (r ∷ []), out) (λ _. freed verdict (step slots i 0 0 none) (view_of z (r ∷ []), out) 0) 0
+
+  -- a look at the journal's word, which leaves it
+  abbrev pub LookIsNext : Type 0
+  LookIsNext = (s : Content D) (steps : List ℕ) (seat slots : ℕ) (r : Record) (out : List (ℕ × Slot)) → IsAt s steps seat r → Reads r.caller.phase
+      → GoesOn s steps (cells z.world) seat (view_of z (r ∷ []), out) (read verdict (step slots (cells z.world) 0 0 none) (view_of z (r ∷ []), out)) (slice_index s.words (cells z.world))

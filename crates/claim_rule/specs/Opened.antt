@@ -1,0 +1,40 @@
+-- How a field begins: what its slots hold, and its seats.
+use Rattle.std.specs.Prelude.{◌≡◌, ◌≤◌, ◌*◌, ℕ, List, [], ◌∷◌, ◌++◌, map, length}
+use Rattle.std.specs.declared.option.Option.TheVariants.{Some}
+use Rattle.amoebot_state.specs.declared.cell.Cell.{Cell}
+use Rattle.amoebot_state.specs.declared.verdict.Verdict.{Verdict}
+use Rattle.amoebot_state.specs.Configs.{Config}
+use Rattle.amoebot_state.specs.Zones.{Shown}
+use Rattle.claim_core.specs.Turns.{CallerLists, Kept}
+use Rattle.claim_core.specs.Cells.{values_of}
+use Rattle.claim_core.specs.Machine.{fresh}
+use Rattle.claim_rule.specs.declared.views.Slot.{Slot}
+use Rattle.claim_rule.specs.declared.views.Slot.TheVariants as slot
+use Rattle.claim_rule.specs.declared.views.Record.{Record}
+use Rattle.claim_rule.specs.declared.views.Terms.{Terms}
+use Rattle.claim_rule.specs.Views.{setup, view_of}
+use Rattle.claim_rule.specs.Tokens.{FieldOf, Token}
+use Rattle.claim_rule.specs.Stands.{records_from}
+use Rattle.claim_rule.specs.Seating.{SeatsOf}
+
+-- the slots at the start: what each cell holds, by the cells' numbers, and then a journal with no entry and room for all turns
+pub record AreFirstSlots (world : Config) (lists : CallerLists) (slots : List Slot) : Type 0 where
+  pub journal : Kept
+  pub are : slots ≡ map (λ (x : Cell). slot.Cell x) (values_of world) ++ slot.Journal journal ∷ []
+  pub first : journal.first ≡ world
+  pub entries : journal.entries ≡ []
+  pub room : length lists.ids * lists.turns ≤ journal.spare
+
+module _ {D : Type 0} where
+  -- the seat of a field that has one record
+  abbrev pub seat_with : FieldOf D → Record → Token D
+  seat_with f r = record { table = f.table; view = view_of f.terms (r ∷ []) }
+
+module _ {D : Type 0} (verdict : D → Shown → Verdict) where
+  -- the records of all callers before their first turn, by their numbers
+  abbrev pub first_records : Terms D → List Record
+  first_records z = records_from verdict z 0 (map (λ (_ : List ℕ). fresh (setup verdict z)) z.lists.ids)
+
+  -- a seat for each caller, each before its first turn
+  abbrev pub first_seats : FieldOf D → SeatsOf D
+  first_seats f = record { table = f.table; terms = Some f.terms; seats = map (λ r. Some (seat_with f r)) (first_records f.terms) }

@@ -1,0 +1,115 @@
+-- What each step tells the seat that makes it: how its record changes, and nothing else.
+use Rattle.std.specs.Prelude.{◌≡◌, ◌≢◌, ℕ, ◌+◌, ◌*◌, ◌/◌, ◌<◌, ◌≤◌, List, [], ◌∷◌, ◌++◌, reverse, length, unwrap_or, IfSome}
+use Rattle.std.specs.declared.option.Option.{Option}
+use Rattle.std.specs.declared.option.Option.TheVariants.{Some, None}
+use Rattle.atomic_table.specs.Table.{Step, rest}
+use Rattle.amoebot_state.specs.declared.cell.CellName.{CellName}
+use Rattle.amoebot_state.specs.declared.cell.CellName.TheVariants as name
+use Rattle.amoebot_state.specs.declared.cell.Cell.{Cell}
+use Rattle.amoebot_state.specs.declared.verdict.Verdict.{Verdict}
+use Rattle.amoebot_state.specs.Pairs.{Pairs, body_in, cell_of}
+use Rattle.amoebot_state.specs.Refusals.{IsPlain}
+use Rattle.amoebot_state.specs.Zones.{Shown, IsShown}
+use Rattle.claim_core.specs.declared.marks.Mark.{Mark}
+use Rattle.claim_core.specs.declared.marks.Mark.TheVariants as mark
+use Rattle.claim_core.specs.declared.state.Caller.{Caller}
+use Rattle.claim_core.specs.declared.state.Phase.{Phase}
+use Rattle.claim_core.specs.declared.state.Phase.TheVariants.{Claim, Refusing, Looking, Taking, Committing, Releasing, Ended}
+use Rattle.claim_core.specs.Tags.{tag_caller, tag_turn, tag_bot}
+use Rattle.claim_core.specs.Cells.{number}
+use Rattle.claim_core.specs.Machine.{Setup, bot, own_tag, found, next_of, won, frees, looked, refused}
+use Rattle.claim_rule.specs.declared.views.Slot.{Slot}
+use Rattle.claim_rule.specs.declared.views.Slot.TheVariants as slot
+use Rattle.claim_rule.specs.declared.views.View.{View}
+use Rattle.claim_rule.specs.Views.{Seated, own, goes_on, setup_at, cells}
+
+-- a cell of the area or of an amoebot that is there, by its number
+abbrev pub IsPlaced : Setup → CellName → ℕ → Type 0
+IsPlaced g n i = (number g.world.area n ≡ Some i) × (i < cells g.world)
+
+-- what is known of a zone of which these cells are held: it tells the next cell, and with the last one what its amoebot is shown
+pub record IsKnown (g : Setup) (b : ℕ) (held : Pairs) : Type 0 where
+  pub plain : IfSome (body_in (reverse held) b) IsPlain
+  pub few : length held ≤ 19
+  pub placed : (n : CellName) → next_of g b held ≡ Some n → (i : ℕ) × IsPlaced g n i
+  pub shown : next_of g b held ≡ None → IsShown (found g b held)
+
+-- the tag of a turn of another caller, on its amoebot
+pub record IsOthers (g : Setup) (c t : ℕ) : Type 0 where
+  pub some : t ≢ 0
+  pub listed : tag_caller t < length g.lists.ids
+  pub other : tag_caller t ≢ c
+  pub turn : tag_turn t < g.lists.turns
+  pub of : tag_bot t ≡ bot g (tag_caller t) (tag_turn t)
+
+-- a caller in this phase reads the journal's length, for its turn's mark
+abbrev pub Reads : Phase → Type 0
+Reads Claim = ⊥
+Reads (Refusing n t) = Unit {0}
+Reads (Looking l) = Unit {0}
+Reads (Taking change) = ⊥
+Reads (Committing change) = ⊥
+Reads Releasing = ⊥
+Reads Ended = ⊥
+
+-- the mark that it gets, at the place that is read
+abbrev pub mark_at : Phase → ℕ → Mark
+mark_at Claim place = mark.Idle place
+mark_at (Refusing n t) place = refused n t place
+mark_at (Looking l) place = looked l place
+mark_at (Taking change) place = mark.Idle place
+mark_at (Committing change) place = mark.Idle place
+mark_at Releasing place = mark.Idle place
+mark_at Ended place = mark.Idle place
+
+-- the cells but the one that was won last
+abbrev pub but_last : Pairs → Pairs
+but_last [] = []
+but_last (p ∷ held) = held
+
+-- the caller with its turn's mark, at a place
+abbrev pub marked_at : Setup → Caller → ℕ → Caller
+marked_at g k place = frees g k.turn k.held (k.marks ++ mark_at k.phase place ∷ [])
+
+-- the caller without the cell that it won last
+abbrev pub released : Setup → Caller → Caller
+released g k = frees g k.turn (but_last k.held) k.marks
+
+module _ {D : Type 0} (verdict : D → Shown → Verdict) where
+  abbrev pub about : View D → Setup
+  about v = setup_at verdict v.terms
+
+  -- the amoebot of the caller's turn
+  abbrev pub bot_in : View D → ℕ
+  bot_in v = bot (about v) (own v).number (own v).caller.turn
+
+  -- the cell that the caller tries next
+  abbrev pub tried : View D → CellName
+  tried v = unwrap_or (next_of (about v) (bot_in v) (own v).caller.held) (name.Body 0)
+
+  -- the caller tries the cell with this number next, for its turn's tag
+  pub record IsToTry (i t : ℕ) (v : View D) : Type 0 where
+    pub phase : (own v).caller.phase ≡ Claim
+    pub next : next_of (about v) (bot_in v) (own v).caller.held ≡ Some (tried v)
+    pub placed : IsPlaced (about v) (tried v) i
+    pub tag : t ≡ own_tag (about v) (own v).number (own v).caller.turn
+
+  -- a tag of 0 was found, and the cell is won with its value; or another's was, and the claim is refused
+  abbrev pub claimed : Step Slot → Seated D → ℕ → Seated D → Type 0
+  claimed st m t m' =
+      (t ≡ 0 → (x : Cell) × (m'.0 ≡ goes_on m.0 (won (about m.0) (own m.0).number (own m.0).caller (tried m.0) x)) × (m'.1 ≡ (st.word, slot.Cell x) ∷ m.1) × IsKnown (about m.0) (bot_in m.0) ((tried m.0, x) ∷ (own m.0).caller.held))
+      × (t ≢ 0 → (m'.0 ≡ goes_on m.0 (record (own m.0).caller { phase = Refusing (tried m.0) t })) × (m'.1 ≡ m.1) × IsOthers (about m.0) (own m.0).number t)
+
+  -- the cell with this number was won last, and the seat has its value to put home
+  pub record IsToFree (i : ℕ) (m : Seated D) : Type 0 where
+    pub phase : (own m.0).caller.phase ≡ Releasing
+    pub inside : i < cells (about m.0).world
+    pub last : (n : CellName) × (x : Cell) × (held : Pairs) × (more : List (ℕ × Slot)) × ((own m.0).caller.held ≡ (n, x) ∷ held) × (number (about m.0).world.area n ≡ Some i) × (m.1 ≡ (i, slot.Cell x) ∷ more)
+
+  -- the cell is free
+  abbrev pub freed : Step Slot → Seated D → ℕ → Seated D → Type 0
+  freed st m t m' = (m'.0 ≡ goes_on m.0 (released (about m.0) (own m.0).caller)) × (m'.1 ≡ rest m.1)
+
+  -- the journal's length is half of its word, rounded down, and at most 65,536: the turn has its mark
+  abbrev pub read : Step Slot → Seated D → ℕ → Seated D → Type 0
+  read st m t m' = (m'.0 ≡ goes_on m.0 (marked_at (about m.0) (own m.0).caller (t / 2))) × (m'.1 ≡ m.1) × (t / 2 ≤ 65536)

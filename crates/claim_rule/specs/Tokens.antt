@@ -1,0 +1,159 @@
+-- What contracts see of a field, of its seats, and of what is made of a seat.
+use Rattle.std.specs.Prelude.{◌≡◌, ◌≢◌, ◌⊎◌, ℕ, ◌+◌, ◌<◌, List, [], ◌∷◌, map, reverse, length, unwrap_or}
+use Rattle.std.specs.List.{All}
+use Rattle.std.specs.declared.option.Option.{Option}
+use Rattle.std.specs.declared.option.Option.TheVariants.{Some, None}
+use Rattle.atomic_table.specs.Seated.{TableId}
+use Rattle.tri_lattice.specs.Extent.{Extent}
+use Rattle.amoebot_state.specs.declared.cell.CellName.{CellName}
+use Rattle.amoebot_state.specs.declared.cell.Cell.{Cell}
+use Rattle.amoebot_state.specs.declared.verdict.Verdict.{Verdict}
+use Rattle.amoebot_state.specs.Pairs.{Pairs, cell_of}
+use Rattle.amoebot_state.specs.Configs.{Config}
+use Rattle.amoebot_state.specs.Zones.{Shown}
+use Rattle.claim_core.specs.declared.state.Caller.{Caller}
+use Rattle.claim_core.specs.declared.state.Look.{Look}
+use Rattle.claim_core.specs.declared.state.Phase.TheVariants.{Claim, Refusing, Looking, Releasing}
+use Rattle.claim_core.specs.Cells.{number}
+use Rattle.claim_core.specs.Tags.{tag_caller, tag_turn, tag_bot}
+use Rattle.claim_core.specs.Machine.{Setup, bot, found, next_of, decided, after_win, opens, frees, caller}
+use Rattle.claim_core.specs.Soundness.{IsSetup}
+use Rattle.claim_rule.specs.declared.views.Slot.{Slot}
+use Rattle.claim_rule.specs.declared.views.Slot.TheVariants as slot
+use Rattle.claim_rule.specs.declared.views.Record.{Record}
+use Rattle.claim_rule.specs.declared.views.Terms.{Terms}
+use Rattle.claim_rule.specs.declared.views.View.{View}
+use Rattle.claim_rule.specs.Views.{Seated, own, goes_on, setup, setup_at, cells}
+use Rattle.claim_rule.specs.Plays.{IsPlaced, IsKnown, about, bot_in}
+
+-- which table a field has, and what it is about
+pub record FieldOf (D : Type 0) : Type 0 where
+  pub table : TableId
+  pub terms : Terms D
+
+-- which table a seat is of, and what it knows
+pub record Token (D : Type 0) : Type 0 where
+  pub table : TableId
+  pub view : View D
+
+-- a turn's mark that a cell of its zone was held, as the call that was refused tells it
+pub record RefusedOf : Type 0 where
+  pub caller : ℕ
+  pub turn : ℕ
+  pub cell : CellName
+  pub by_caller : ℕ
+  pub by_turn : ℕ
+  pub by_bot : ℕ
+  pub place : ℕ
+
+-- a turn, and the length of the journal that it saw with its whole zone held
+pub record SeenOf : Type 0 where
+  pub caller : ℕ
+  pub turn : ℕ
+  pub place : ℕ
+
+abbrev pub refused_of : ℕ → ℕ → CellName → ℕ → ℕ → RefusedOf
+refused_of c t n by place = record { caller = c; turn = t; cell = n; by_caller = tag_caller by; by_turn = tag_turn by; by_bot = tag_bot by; place = place }
+
+abbrev pub seen_of : ℕ → ℕ → ℕ → SeenOf
+seen_of c t place = record { caller = c; turn = t; place = place }
+
+-- the slot of a cell is out, and empty
+abbrev pub emptied : Extent → CellName × Cell → ℕ × Slot
+emptied a p = (unwrap_or (number a (cell_of p)) 0, slot.Empty)
+
+module _ {D : Type 0} where
+  -- the record of the seat's caller, the caller's number, and where it stands
+  abbrev pub record_in : Token D → Record
+  record_in t = own t.view
+
+  abbrev pub number_in : Token D → ℕ
+  number_in t = (own t.view).number
+
+  abbrev pub doing : Token D → Caller
+  doing t = (own t.view).caller
+
+  -- the seat where its caller has come on
+  abbrev pub goes : Token D → Caller → Token D
+  goes t k = record t { view = goes_on t.view k }
+
+  -- the whole zone is held, the verdict on it is Idle or Failed, and the journal's length was not looked at
+  abbrev pub IsToLook : Token D → Type 0
+  IsToLook t = (l : Look) × ((doing t).phase ≡ Looking l)
+
+  -- the turn has its mark
+  abbrev pub IsMarked : Token D → Type 0
+  IsMarked t = (doing t).phase ≡ Releasing
+
+  -- it found another's tag in this turn
+  pub record IsStopped (m : Seated D) (t : ℕ) : Type 0 where
+    pub turn : (own m.0).caller.turn ≡ t
+
+  -- the seat is of this field
+  pub record IsOf (f : FieldOf D) (t : Token D) : Type 0 where
+    pub table : t.table ≡ f.table
+    pub terms : t.view.terms ≡ Some f.terms
+
+  module _ (verdict : D → Shown → Verdict) where
+    -- what a field keeps: it is about something that may be run, and has a word and a slot for each cell and for the journal
+    pub record IsField (f : FieldOf D) (d : D) (w : Config) : Type 0 where
+      pub run : IsSetup (setup verdict f.terms)
+      pub words : f.table.words ≡ cells f.terms.world + 1
+      pub slots : f.table.slots ≡ cells f.terms.world + 1
+      pub decider : f.terms.decider ≡ d
+      pub world : f.terms.world ≡ w
+
+    -- what a seat between two turns keeps: it has the record of one caller, which is to begin this turn or has ended, and no slot
+    pub record IsSeat (m : Seated D) (c t : ℕ) (a : Extent) (greatest : List ℕ) : Type 0 where
+      pub alone : m.0.records ≡ own m.0 ∷ []
+      pub run : IsSetup (setup_at verdict m.0.terms)
+      pub number : (own m.0).number ≡ c
+      pub listed : c < length (setup_at verdict m.0.terms).lists.ids
+      pub rests : (own m.0).caller ≡ caller t (opens (setup_at verdict m.0.terms) t) [] (own m.0).caller.marks
+      pub taken : (own m.0).taken ≡ None
+      pub out : m.1 ≡ []
+      pub area : a ≡ (setup_at verdict m.0.terms).world.area
+      pub maxes : greatest ≡ (setup_at verdict m.0.terms).world.maxes
+
+    -- the next cell of the zone by the values that were recorded, what was found in the cells that are held, and the decision on it
+    abbrev pub next_in : Token D → Option CellName
+    next_in t = next_of (about verdict t.view) (bot_in verdict t.view) (doing t).held
+
+    abbrev pub found_in : Token D → Shown
+    found_in t = found (about verdict t.view) (bot_in verdict t.view) (doing t).held
+
+    abbrev pub verdict_in : Token D → Verdict
+    verdict_in t = (about verdict t.view).verdict (found_in t)
+
+    -- what every activation keeps: the seat has the record of one caller in this turn of its list, which holds these cells, with
+    -- their values; the slot of each of them is out, and empty
+    pub record IsActivation (m : Seated D) (c t b : ℕ) (a : Extent) (greatest : List ℕ) (pairs : Pairs) : Type 0 where
+      pub alone : m.0.records ≡ own m.0 ∷ []
+      pub run : IsSetup (about verdict m.0)
+      pub number : (own m.0).number ≡ c
+      pub listed : c < length (about verdict m.0).lists.ids
+      pub turn : t < (about verdict m.0).lists.turns
+      pub bot : b ≡ bot (about verdict m.0) c t
+      pub taken : (own m.0).taken ≡ None
+      pub area : a ≡ (about verdict m.0).world.area
+      pub maxes : greatest ≡ (about verdict m.0).world.maxes
+      pub held : (own m.0).caller.held ≡ pairs
+      pub placed : All (λ (p : CellName × Cell). (i : ℕ) × IsPlaced (about verdict m.0) (cell_of p) i) pairs
+      pub out : m.1 ≡ map (emptied a) pairs
+
+    -- it claims, or holds its whole zone
+    pub record IsClaiming (m : Seated D) (t b : ℕ) (held : Pairs) : Type 0 where
+      pub turn : (own m.0).caller.turn ≡ t
+      pub phase : (own m.0).caller.phase ≡ after_win (about verdict m.0) b held (next_of (about verdict m.0) b held)
+      pub known : IsKnown (about verdict m.0) b held
+
+    -- it holds its whole zone, and has this verdict on it or its mark
+    pub record IsWhole (m : Seated D) (t b : ℕ) (held : Pairs) (told : Shown) : Type 0 where
+      pub turn : (own m.0).caller.turn ≡ t
+      pub whole : next_of (about verdict m.0) b held ≡ None
+      pub shown : told ≡ found (about verdict m.0) b held
+      pub phase : ((own m.0).caller.phase ≡ decided ((about verdict m.0).verdict told)) ⊎ ((own m.0).caller.phase ≡ Releasing)
+
+    -- it has its mark and frees what it holds; with nothing held its next turn begins
+    abbrev pub IsFreeing : Seated D → ℕ → Pairs → Type 0
+    IsFreeing m t held = (own m.0).caller ≡ frees (about verdict m.0) t held (own m.0).caller.marks

@@ -1,0 +1,76 @@
+-- What a seat knows, in short words.
+use Rattle.std.specs.Prelude.{ℕ, ◌+◌, ◌*◌, List, [], ◌∷◌, length, pos}
+use Rattle.std.specs.declared.option.Option.{Option}
+use Rattle.std.specs.declared.option.Option.TheVariants.{Some, None}
+use Rattle.atomic_table.specs.Table as table
+use Rattle.amoebot_state.specs.declared.verdict.Verdict.{Verdict}
+use Rattle.amoebot_state.specs.declared.verdict.Verdict.TheVariants as decision
+use Rattle.amoebot_state.specs.Configs.{Config}
+use Rattle.amoebot_state.specs.Zones.{Shown}
+use Rattle.claim_core.specs.declared.state.Caller.{Caller}
+use Rattle.claim_core.specs.declared.state.Phase.TheVariants as phase
+use Rattle.claim_core.specs.Turns.{CallerLists}
+use Rattle.claim_core.specs.Machine.{Setup, caller}
+use Rattle.claim_rule.specs.declared.views.Slot.{Slot}
+use Rattle.claim_rule.specs.declared.views.Record.{Record}
+use Rattle.claim_rule.specs.declared.views.Terms.{Terms}
+use Rattle.claim_rule.specs.declared.views.View.{View}
+
+-- the record of a caller that has committed nothing
+abbrev pub record_of : ℕ → Caller → Record
+record_of c k = record { number = c; caller = k; committed = []; taken = None }
+
+-- the record where the caller has come on
+abbrev pub with_caller : Record → Caller → Record
+with_caller r k = record r { caller = k }
+
+-- the first record; that of nobody, where there is none
+abbrev pub first_of : List Record → Record
+first_of [] = record_of 0 (caller 0 phase.Ended [] [])
+first_of (r ∷ rs) = r
+
+-- the words, the values at home, and the views of the table
+abbrev pub Content : Type 0 → Type 0
+Content D = table.State Slot (View D)
+
+-- what a seat knows, and what it has out of slots
+abbrev pub Seated : Type 0 → Type 0
+Seated D = table.Me Slot (View D)
+
+-- a configuration with no node
+abbrev pub nowhere : Config
+nowhere = let a : Rattle.tri_lattice.specs.Extent.Extent = record { x0 = pos 0; y0 = pos 0; w = 0; h = 0 } in record { area = a; maxes = []; bots = [] }
+
+module _ {D : Type 0} where
+  abbrev pub terms_of : D → Config → CallerLists → Terms D
+  terms_of d w l = record { decider = d; world = w; lists = l }
+
+  -- a view of these terms
+  abbrev pub view_of : Terms D → List Record → View D
+  view_of z rs = record { terms = Some z; records = rs }
+
+  -- the view with other records
+  abbrev pub like : View D → List Record → View D
+  like v rs = record { terms = v.terms; records = rs }
+
+  -- the record of a view that has one
+  abbrev pub own : View D → Record
+  own v = first_of v.records
+
+  -- the view where its caller has come on
+  abbrev pub goes_on : View D → Caller → View D
+  goes_on v k = like v (with_caller (own v) k ∷ [])
+
+  module _ (verdict : D → Shown → Verdict) where
+    -- what the machine's run is about
+    abbrev pub setup : Terms D → Setup
+    setup z = record { verdict = verdict z.decider; world = z.world; lists = z.lists }
+
+    -- the same for a view, which a spent one has not
+    abbrev pub setup_at : Option (Terms D) → Setup
+    setup_at None = record { verdict = λ _. decision.Idle; world = nowhere; lists = record { turns = 0; ids = [] } }
+    setup_at (Some z) = setup z
+
+-- the number of the cells of a configuration
+abbrev pub cells : Config → ℕ
+cells c = c.area.w * c.area.h + length c.bots

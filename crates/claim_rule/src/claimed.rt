@@ -1,0 +1,121 @@
+ghost use Rattle.std.specs.Prelude.{◌≡◌, ◌<◌, ◌≤◌, None, length};
+ghost use Rattle.claim_core.specs.Machine.{decided};
+ghost use Rattle.claim_rule.specs.Plays.{about, marked_at};
+ghost use Rattle.claim_rule.specs.Tokens.{IsOf, IsToLook, IsMarked, number_in, doing, goes, next_in, found_in, verdict_in, seen_of};
+
+use crate::activation::Activation;
+use crate::field::Field;
+use crate::freeing::Freeing;
+use crate::held::Held;
+use amoebot_state::{Decider, Found};
+use std::marker::Model;
+
+/// The length of the journal that a turn saw with its whole zone held.
+#[derive(Drop)]
+pub struct Seen {
+    caller: u8,
+    turn: u32,
+    place: u32,
+}
+
+impl Model for Seen {
+    ghost use Rattle.claim_rule.specs.Tokens.{SeenOf};
+
+    ghost Value = { SeenOf };
+
+    ghost view = { λ s. record { caller = s.caller; turn = s.turn; place = s.place } };
+}
+
+impl Seen {
+    pub fn caller(&self) -> u8
+        ensures { result ≡ self.now.caller }
+    {
+        self.caller
+    }
+
+    pub fn turn(&self) -> u32
+        ensures { result ≡ self.now.turn }
+    {
+        self.turn
+    }
+
+    /// The number of entries that the journal had.
+    pub fn place(&self) -> u32
+        ensures { result ≡ self.now.place }
+    {
+        self.place
+    }
+}
+
+/// A caller that holds the whole zone of its turn's amoebot. Its turn has no mark until it was looked at.
+#[derive(Drop)]
+pub struct Claimed<D: Decider> {
+    pub(crate) activation: Activation<D>,
+    pub(crate) found: Found,
+}
+
+impl<D: Decider> Model for Claimed<D> {
+    ghost use Rattle.std.specs.Prelude.{reverse};
+    ghost use Rattle.claim_rule.specs.Tokens.{Token, IsActivation, IsWhole};
+
+    ghost Value = { Token D };
+
+    ghost view = { λ c. record { table = c.activation.seat.table_id; view = c.activation.seat.me.0 } };
+
+    ghost invariant = { λ c. IsActivation D.verdict c.activation.seat.me c.activation.caller c.activation.turn c.activation.bot c.activation.area c.activation.maxes (reverse c.activation.cells.items) × IsWhole D.verdict c.activation.seat.me c.activation.turn c.activation.bot (reverse c.activation.cells.items) c.found };
+}
+
+impl<D: Decider> Claimed<D> {
+    /// What was found in the zone.
+    pub fn found(&self) -> &Found
+        ensures { result.now ≡ found_in D.verdict self.now }
+    {
+        &self.found
+    }
+}
+
+/// The whole zone is held, and what was found in it is what the decider is shown.
+pub fn seal<D: Decider>(held: Held<D>) -> Claimed<D>
+    requires whole { next_in D.verdict held ≡ None }
+    ensures same { result ≡ held }
+    ensures decided { (doing held).phase ≡ decided (verdict_in D.verdict held) }
+{
+    let Held { activation } = held;
+    let found = Found::make(
+        activation.area,
+        activation.maxes,
+        activation.bot,
+        activation.cells.as_slice(),
+    );
+    Claimed { activation, found }
+}
+
+/// The turn of a claim that decides Idle or Failed gets its mark: it reads the journal's length.
+pub fn look<D: Decider>(claimed: &mut Claimed<D>, field: &Field<'_, D>) -> Seen
+    requires field { IsOf field.now claimed.old }
+    requires looks { IsToLook claimed.old }
+    ensures marked { claimed.new ≡ goes claimed.old (marked_at (about D.verdict claimed.old.view) (doing claimed.old) result.place) }
+    ensures told { result ≡ seen_of (number_in claimed.old) (doing claimed.old).turn result.place }
+    ensures few { result.place ≤ 65536 }
+{
+    let activation = &mut claimed.activation;
+    let place = field.place(&mut activation.seat);
+    Seen {
+        caller: activation.caller,
+        turn: activation.turn,
+        place,
+    }
+}
+
+/// The turn has its mark, and its cells are to be freed. There is one at least, the own body.
+pub fn unseal<D: Decider>(claimed: Claimed<D>) -> Freeing<D>
+    requires looked { IsMarked claimed }
+    ensures same { result ≡ claimed }
+    ensures some { 0 < length (doing claimed).held }
+{
+    let Claimed {
+        activation,
+        found: _,
+    } = claimed;
+    Freeing { activation }
+}

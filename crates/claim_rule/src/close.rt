@@ -1,0 +1,91 @@
+//! How a field ends.
+ghost use Rattle.std.specs.Prelude.{◌≡◌, ◌+◌, ℕ, List, [], slice_get, Some, IsSome};
+ghost use Rattle.std.specs.List.{All};
+ghost use Rattle.std.specs.Slots.{slots_items, slots_len, IsFull};
+ghost use lib.ListN.{get_elem?};
+ghost use mathlib.Core.Option.{some};
+ghost use Rattle.amoebot_state.specs.Configs.{Config};
+ghost use Rattle.amoebot_state.specs.Steps.{Run};
+ghost use Rattle.claim_core.specs.Turns.{Kept};
+ghost use Rattle.claim_rule.specs.declared.views.Record.{Record};
+ghost use Rattle.claim_rule.specs.declared.views.Slot.TheVariants as slot;
+ghost use Rattle.claim_rule.specs.Views.{view_of};
+ghost use Rattle.claim_rule.specs.Tokens.{Token};
+ghost use Rattle.claim_rule.specs.Seating.{AreOf};
+ghost use Rattle.claim_rule.specs.Closing.{ClosesAs, HaveAll};
+
+use crate::field::Field;
+use crate::seat::Seat;
+use crate::seats::Seats;
+use crate::views::{Slot, View};
+use amoebot_state::{Decider, Entry, World};
+use atomic_table::{Closed, Seat as TableSeat};
+use claim_core::Journal;
+use std::alloc::Global;
+
+impl<'d, D: Decider> Field<'d, D> {
+    /// The world after all that was committed, and the journal, once all seats are back. It takes no memory.
+    pub fn close(self, seats: Seats<D>) -> (World, Journal)
+        requires field { AreOf self seats }
+        requires all { All (λ seat. IsSome seat) seats.seats }
+        ensures { ClosesAs D.verdict self.entry.terms seats.seats result.0 result.1 }
+    {
+        let Seats { rest, seats } = seats;
+        let rest = gather_all(&self, rest, seats);
+        let Field {
+            table,
+            decider,
+            mut world,
+        } = self;
+        let cells = world.area().size() as usize + usize::from(world.bots());
+        let journal = journal_of(table.close_with(rest), cells);
+        follow(decider, &mut world, journal.entries());
+        (world, journal)
+    }
+}
+
+/// All records come back to the first seat.
+pub(crate) fn gather_all<'d, D: Decider>(
+    field: &Field<'d, D>,
+    mut rest: TableSeat<Slot, View<D>>,
+    mut seats: Vec<Option<Seat<D>>>,
+) -> TableSeat<Slot, View<D>>
+    requires field { (rest.table_id ≡ field.now.table) × (rest.me ≡ (view_of field.now.terms [], [])) }
+    requires seats { (c : ℕ) (t : Token D) → slice_get seats.items c ≡ Some (Some t) → (t.table ≡ field.now.table) × (t.view.terms ≡ Some field.now.terms) }
+    ensures { (result.table_id ≡ field.now.table) × ((rs : List Record) × (result.me ≡ (view_of field.now.terms rs, [])) × HaveAll seats.items rs) }
+{
+    while let Some(place) = seats.pop() {
+        if let Some(seat) = place {
+            field.gather(&mut rest, seat.seat);
+        }
+    }
+    rest
+}
+
+/// The journal in the slot behind those of so many cells. The slots are given back.
+fn journal_of(mut closed: Closed<Slot, Global>, cells: usize) -> Journal
+    requires count { slots_len closed.slots ≡ cells + 1 }
+    requires full { IsFull closed.slots }
+    requires journal { (kept : Kept) × (get_elem? (slots_items closed.slots) cells ≡ some (slot.Journal kept)) }
+    ensures { get_elem? (slots_items closed.slots) cells ≡ some (slot.Journal result) }
+{
+    let last = closed.take(cells);
+    for cell in 0..cells {
+        drop(closed.take(cell));
+    }
+    closed.free();
+    match last {
+        Slot::Journal(journal) => journal,
+        _ => unreachable!(),
+    }
+}
+
+/// Makes the world the last one of a run of these entries.
+fn follow<D: Decider>(decider: &D, world: &mut World, entries: &[Entry])
+    requires { (last : Config) × Run (D.verdict decider.now) world.old entries.now last }
+    ensures { Run (D.verdict decider.now) world.old entries.now world.new }
+{
+    for entry in entries {
+        world.apply(&entry.patch);
+    }
+}

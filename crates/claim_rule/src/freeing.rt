@@ -1,0 +1,78 @@
+ghost use Rattle.std.specs.Prelude.{◌≡◌, ◌<◌, [], length};
+ghost use Rattle.claim_rule.specs.Plays.{about, released};
+ghost use Rattle.claim_rule.specs.Tokens.{IsOf, doing, goes};
+
+use crate::activation::Activation;
+use crate::cells::number;
+use crate::field::Field;
+use crate::seat::Seat;
+use amoebot_state::Decider;
+use std::marker::Model;
+
+/// A caller whose turn has its mark, and that frees the cells which it holds.
+#[derive(Drop)]
+pub struct Freeing<D: Decider> {
+    pub(crate) activation: Activation<D>,
+}
+
+impl<D: Decider> Model for Freeing<D> {
+    ghost use Rattle.std.specs.Prelude.{reverse};
+    ghost use Rattle.claim_rule.specs.Tokens.{Token, IsActivation, IsFreeing};
+
+    ghost Value = { Token D };
+
+    ghost view = { λ f. record { table = f.activation.seat.table_id; view = f.activation.seat.me.0 } };
+
+    ghost invariant = { λ f. IsActivation D.verdict f.activation.seat.me f.activation.caller f.activation.turn f.activation.bot f.activation.area f.activation.maxes (reverse f.activation.cells.items) × IsFreeing D.verdict f.activation.seat.me f.activation.turn (reverse f.activation.cells.items) };
+}
+
+impl<D: Decider> Freeing<D> {
+    /// How many cells are held.
+    pub fn count(&self) -> u8
+        ensures { result ≡ length (doing self.now).held }
+    {
+        self.activation.cells.len() as u8
+    }
+}
+
+/// Frees the cell that was won last.
+pub fn free_last<D: Decider>(freeing: Freeing<D>, field: &Field<'_, D>) -> Freeing<D>
+    requires field { IsOf field.now freeing }
+    requires some { 0 < length (doing freeing).held }
+    ensures { result ≡ goes freeing (released (about D.verdict freeing.view) (doing freeing)) }
+{
+    let Freeing { mut activation } = freeing;
+    let Some((cell, value)) = activation.cells.pop() else {
+        unreachable!()
+    };
+    let Some(number) = number(&activation.area, cell) else {
+        unreachable!()
+    };
+    field.put_home(&mut activation.seat, number, value);
+    field.free(&mut activation.seat, number);
+    Freeing { activation }
+}
+
+/// The turn is over: nothing is held.
+pub fn end<D: Decider>(freeing: Freeing<D>) -> Seat<D>
+    requires none { (doing freeing).held ≡ [] }
+    ensures { result ≡ freeing }
+{
+    let Freeing { activation } = freeing;
+    let Activation {
+        seat,
+        caller,
+        turn,
+        bot: _,
+        area,
+        maxes,
+        cells: _,
+    } = activation;
+    Seat {
+        seat,
+        caller,
+        turn: turn + 1,
+        area,
+        maxes,
+    }
+}

@@ -1,0 +1,109 @@
+ghost use Rattle.std.specs.Prelude.{◌≡◌, ◌<◌, ◌≤◌, length, Some, IfOk, IfErr};
+ghost use Rattle.amoebot_state.specs.declared.cell.Cell.{Cell};
+ghost use Rattle.claim_core.specs.declared.state.Phase.TheVariants.{Refusing};
+ghost use Rattle.claim_core.specs.Machine.{won};
+ghost use Rattle.claim_rule.specs.Plays.{IsOthers, about, bot_in};
+ghost use Rattle.claim_rule.specs.Tokens.{IsOf, number_in, doing, goes, next_in};
+
+use crate::activation::Activation;
+use crate::cells::{number, tag};
+use crate::field::Field;
+use crate::seat::Seat;
+use crate::stopped::{Stopped, Tag};
+use amoebot_state::{CellName, Decider, next_cell};
+use arrayvec::ArrayVec;
+use std::marker::Model;
+
+/// A caller that claims the zone of its turn's amoebot, or that holds it whole.
+#[derive(Drop)]
+pub struct Held<D: Decider> {
+    pub(crate) activation: Activation<D>,
+}
+
+impl<D: Decider> Model for Held<D> {
+    ghost use Rattle.std.specs.Prelude.{reverse};
+    ghost use Rattle.claim_rule.specs.Tokens.{Token, IsActivation, IsClaiming};
+
+    ghost Value = { Token D };
+
+    ghost view = { λ h. record { table = h.activation.seat.table_id; view = h.activation.seat.me.0 } };
+
+    ghost invariant = { λ h. IsActivation D.verdict h.activation.seat.me h.activation.caller h.activation.turn h.activation.bot h.activation.area h.activation.maxes (reverse h.activation.cells.items) × IsClaiming D.verdict h.activation.seat.me h.activation.turn h.activation.bot (reverse h.activation.cells.items) };
+}
+
+impl<D: Decider> Held<D> {
+    /// The next cell of the zone by the values that were recorded; None exactly where the whole zone is held. A zone has at most 19
+    /// cells.
+    pub fn next(&self, _field: &Field<'_, D>) -> Option<CellName>
+        requires { IsOf _field.now self.now }
+        ensures next { result ≡ next_in D.verdict self.now }
+        ensures few { length (doing self.now).held ≤ 19 }
+    {
+        let activation = &self.activation;
+        next_cell(
+            &activation.area,
+            activation.bot,
+            activation.cells.as_slice(),
+        )
+    }
+
+    /// How many cells are held.
+    pub fn count(&self) -> u8
+        ensures { result ≡ length (doing self.now).held }
+    {
+        self.activation.cells.len() as u8
+    }
+}
+
+/// The caller's next turn begins, on its list's amoebot.
+pub fn begin<D: Decider>(seat: Seat<D>, turn: u32, bot: u16) -> Held<D>
+    requires turn { (turn ≡ (doing seat).turn) × (turn < (about D.verdict seat.view).lists.turns) }
+    requires bot { bot ≡ bot_in D.verdict seat.view }
+    ensures same { result ≡ seat }
+    ensures one { result ≡ goes seat (doing seat) }
+{
+    let Seat {
+        seat,
+        caller,
+        turn: _,
+        area,
+        maxes,
+    } = seat;
+    Held {
+        activation: Activation {
+            seat,
+            caller,
+            turn,
+            bot,
+            area,
+            maxes,
+            cells: ArrayVec::new(),
+        },
+    }
+}
+
+/// One try to claim the next cell of the zone. It is won with its value where nobody held it; else this step found another caller's
+/// tag, and the turn claims no more.
+pub fn win<D: Decider>(
+    held: Held<D>,
+    field: &Field<'_, D>,
+    cell: CellName,
+) -> Result<Held<D>, (Stopped<D>, Tag)>
+    requires field { IsOf field.now held }
+    requires next { next_in D.verdict held ≡ Some cell }
+    ensures won { IfOk result (λ more. (x : Cell) × (more ≡ goes held (won (about D.verdict held.view) (number_in held) (doing held) cell x))) }
+    ensures refused { IfErr result (λ by. (by.0 ≡ goes held (record (doing held) { phase = Refusing cell by.1 })) × IsOthers (about D.verdict held.view) (number_in held) by.1) }
+{
+    let Held { mut activation } = held;
+    let Some(number) = number(&activation.area, cell) else {
+        unreachable!()
+    };
+    let mine = tag(activation.caller, activation.turn, activation.bot);
+    let found = field.claim(&mut activation.seat, number, mine);
+    if found != 0 {
+        return Err((Stopped { activation }, Tag { number: found }));
+    }
+    let value = field.take_out(&mut activation.seat, number);
+    activation.cells.push((cell, value));
+    Ok(Held { activation })
+}

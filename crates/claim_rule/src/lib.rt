@@ -1,0 +1,35 @@
+//! The rule over the words, slots and views of the table that callers share, and the calls that are single steps on it.
+#![tactic(auto)]
+
+mod activation;
+mod cells;
+mod claimed;
+mod close;
+mod field;
+mod freeing;
+mod held;
+mod laws;
+mod make;
+mod rule;
+mod seat;
+mod seating;
+mod seats;
+mod slots;
+mod step_laws;
+mod steps;
+mod stopped;
+#[cfg(test)]
+mod tests;
+mod views;
+
+pub use claimed::{Claimed, Seen, look, seal, unseal};
+pub use field::Field;
+pub use freeing::{Freeing, end, free_last};
+pub use held::{Held, begin, win};
+pub use laws::{field_ends_one_way, state_is_determined};
+pub use rule::ClaimRule;
+pub use seat::Seat;
+pub use seats::Seats;
+pub use step_laws::{claim_is_next, look_is_next, release_is_next};
+pub use stopped::{Refused, Stopped, Tag, refuse};
+pub use views::{Key, Record, Slot, Terms, View};

@@ -1,0 +1,125 @@
+//! How a field begins.
+ghost use Rattle.std.specs.Prelude.{◌≡◌, ◌≤◌, ℕ, ◌∷◌, [], List, length, IfOk, IsSome};
+ghost use Rattle.std.specs.List.{All};
+ghost use Rattle.amoebot_state.specs.Configs.{bot_at};
+ghost use Rattle.claim_rule.specs.Views.{terms_of};
+ghost use Rattle.claim_rule.specs.Stands.{first_view};
+ghost use Rattle.claim_rule.specs.Opened.{AreFirstSlots, first_seats};
+
+use crate::field::Field;
+use crate::seat::Seat;
+use crate::seats::Seats;
+use crate::views::{Key, Slot, View};
+use amoebot_state::{Cell, Decider, NoMemory, World, has_next, touches_zone};
+use atomic_table::{Seat as TableSeat, Table};
+use claim_core::{Journal, Lists};
+use std::alloc::Global;
+
+impl<'d, D: Decider> Field<'d, D> {
+    /// A field over a world, for callers with these lists of ids of amoebots of it, and a seat for each caller. It takes all memory
+    /// that the callers and `close` need.
+    pub fn make(
+        alloc: Global,
+        decider: &'d D,
+        world: World,
+        lists: &'d Lists,
+    ) -> Result<(Field<'d, D>, Seats<D>), NoMemory>
+        requires some { 1 ≤ length lists.now.ids }
+        requires bots { All (All (λ id. IsSome (bot_at world id))) lists.now.ids }
+        ensures terms { IfOk result (λ made. made.0.terms ≡ terms_of decider.now world lists.now) }
+        ensures seats { IfOk result (λ made. made.1 ≡ first_seats D.verdict made.0) }
+        ensures all { IfOk result (λ made. All (λ seat. IsSome seat) made.1.seats) }
+    {
+        let (field, rest) = open(alloc, decider, world, lists)?;
+        let seats = deal_all(alloc, &field, rest, lists.callers())?;
+        Ok((field, seats))
+    }
+}
+
+/// A field with all records at one seat.
+fn open<'d, D: Decider>(
+    alloc: Global,
+    decider: &'d D,
+    world: World,
+    lists: &'d Lists,
+) -> Result<(Field<'d, D>, TableSeat<Slot, View<D>>), NoMemory>
+    requires bots { All (All (λ id. IsSome (bot_at world id))) lists.now.ids }
+    ensures terms { IfOk result (λ made. made.0.terms ≡ terms_of decider.now world lists.now) }
+    ensures seat { IfOk result (λ made. (made.1.table_id ≡ made.0.table) × (made.1.me ≡ (first_view D.verdict made.0.terms, []))) }
+{
+    world.keeps();
+    touches_zone(decider);
+    has_next(decider);
+    let _callers = lists.callers();
+    let cells = world.area().size() as usize + usize::from(world.bots());
+    let words = Vec::from_elem(alloc, 0u64, cells + 1)?;
+    let slots = first_slots(alloc, &world, lists)?;
+    let key = Key {
+        decider,
+        world,
+        lists,
+    };
+    match Table::new(alloc, words.as_slice(), slots, &key) {
+        Ok((table, seat)) => {
+            let Key {
+                decider,
+                world,
+                lists: _,
+            } = key;
+            let field = Field {
+                table,
+                decider,
+                world,
+            };
+            Ok((field, seat))
+        }
+        Err(_) => Err(NoMemory),
+    }
+}
+
+/// Deals the records of all callers to seats.
+fn deal_all<'d, D: Decider>(
+    alloc: Global,
+    field: &Field<'d, D>,
+    mut rest: TableSeat<Slot, View<D>>,
+    callers: u8,
+) -> Result<Seats<D>, NoMemory>
+    requires field { rest.table_id ≡ field.now.table }
+    requires all { rest.me ≡ (first_view D.verdict field.now.terms, []) }
+    requires callers { callers ≡ length field.now.terms.lists.ids }
+    ensures { IfOk result (λ seats. seats ≡ first_seats D.verdict field.now) }
+{
+    let area = field.world.area();
+    let maxes = field.world.maxes();
+    let mut seats = Vec::new(alloc);
+    for caller in 0..callers {
+        let seat = field.deal(&mut rest);
+        seats.push(Some(Seat {
+            seat,
+            caller,
+            turn: 0,
+            area,
+            maxes,
+        }))?;
+    }
+    Ok(Seats { rest, seats })
+}
+
+/// What the slots hold at the start: what each cell holds, by the cells' numbers, and then the journal, with room for all turns.
+fn first_slots(alloc: Global, world: &World, lists: &Lists) -> Result<Vec<Slot>, NoMemory>
+    ensures { IfOk result (λ slots. AreFirstSlots world.now lists.now slots.items) }
+{
+    let area = world.area();
+    let mut slots = Vec::new(alloc);
+    for number in 0..area.size() {
+        let node = area.node(number);
+        slots.push(Slot::Cell(Cell::Spot(world.occupant(node))))?;
+    }
+    for id in 0..world.bots() {
+        slots.push(Slot::Cell(Cell::Body(*world.bot(id))))?;
+    }
+    let mut journal = Journal::make(alloc, world)?;
+    journal.reserve(alloc, u32::from(lists.callers()) * lists.turns())?;
+    slots.push(Slot::Journal(journal))?;
+    Ok(slots)
+}

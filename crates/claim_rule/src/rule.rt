@@ -1,0 +1,38 @@
+//! The rule, and what each step tells the seat that makes it. These types are for the proofs alone.
+ghost use Rattle.claim_rule.specs.Views.{terms_of};
+ghost use Rattle.claim_rule.specs.Stands.{Holds, first_view};
+ghost use Rattle.claim_rule.specs.Plays.{claimed, freed, read};
+
+use crate::views::{Key, Slot, View};
+use amoebot_state::Decider;
+use atomic_table::{Play, TableRule};
+
+/// Between any two steps, words, values at home and views stand for a state that steps of the callers lead to.
+pub struct ClaimRule;
+
+impl<'d, D: Decider> TableRule<Slot, View<D>, Key<'d, D>> for ClaimRule {
+    ghost holds = { λ key. Holds D.verdict (terms_of key.decider.now key.world key.lists.now) };
+
+    ghost first = { λ key. first_view D.verdict (terms_of key.decider.now key.world key.lists.now) };
+}
+
+/// A try to claim a cell.
+pub(crate) struct Claim;
+
+impl<D: Decider> Play<Slot, View<D>> for Claim {
+    ghost then = { claimed D.verdict };
+}
+
+/// The release of the cell that was won last.
+pub(crate) struct Free;
+
+impl<D: Decider> Play<Slot, View<D>> for Free {
+    ghost then = { λ st m t m'. freed D.verdict st m t m' };
+}
+
+/// A look at the journal's length.
+pub(crate) struct Read;
+
+impl<D: Decider> Play<Slot, View<D>> for Read {
+    ghost then = { read D.verdict };
+}

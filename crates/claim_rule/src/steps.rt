@@ -1,0 +1,63 @@
+//! The steps on words that callers make while they claim, look and release.
+ghost use Rattle.std.specs.Prelude.{◌≡◌, ◌≤◌, ◌∷◌, []};
+ghost use mathlib.Core.Option.{none};
+ghost use Rattle.atomic_table.specs.Table.{step};
+ghost use Rattle.claim_rule.specs.Views.{own, view_of, goes_on, cells};
+ghost use Rattle.claim_rule.specs.Plays.{IsToTry, IsToFree, Reads, about, marked_at, claimed, freed, read};
+
+use crate::field::Field;
+use crate::rule::{Claim, Free, Read};
+use crate::views::{Slot, View};
+use amoebot_state::Decider;
+use atomic_table::Seat;
+
+impl<'d, D: Decider> Field<'d, D> {
+    /// One try to claim the cell with this number. It returns the tag that was found, 0 where the cell is won.
+    pub(crate) fn claim(&self, seat: &mut Seat<Slot, View<D>>, cell: usize, tag: u64) -> u64
+        requires table { seat.old.table_id ≡ self.now.table }
+        requires alone { seat.old.me.0 ≡ view_of self.now.terms (own seat.old.me.0 ∷ []) }
+        requires next { IsToTry D.verdict cell tag seat.old.me.0 }
+        ensures same { (seat.new.table_id ≡ seat.old.table_id) × (seat.new.id ≡ seat.old.id) }
+        ensures told { claimed D.verdict (step self.now.table.slots cell 0 tag none) seat.old.me result seat.new.me }
+    {
+        self.table
+            .shared
+            .compare_exchange::<Claim>(seat, cell, 0, tag)
+    }
+
+    /// One release, of the cell with this number, which was won last.
+    pub(crate) fn free(&self, seat: &mut Seat<Slot, View<D>>, cell: usize)
+        requires table { seat.old.table_id ≡ self.now.table }
+        requires alone { seat.old.me.0 ≡ view_of self.now.terms (own seat.old.me.0 ∷ []) }
+        requires last { IsToFree D.verdict cell seat.old.me }
+        ensures same { (seat.new.table_id ≡ seat.old.table_id) × (seat.new.id ≡ seat.old.id) }
+        ensures told { freed D.verdict (step self.now.table.slots cell 0 0 none) seat.old.me 0 seat.new.me }
+    {
+        self.table.shared.store::<Free>(seat, cell, 0)
+    }
+
+    /// One look at the journal's word.
+    pub(crate) fn read(&self, seat: &mut Seat<Slot, View<D>>) -> u64
+        requires table { seat.old.table_id ≡ self.now.table }
+        requires alone { seat.old.me.0 ≡ view_of self.now.terms (own seat.old.me.0 ∷ []) }
+        requires reads { Reads (own seat.old.me.0).caller.phase }
+        ensures same { (seat.new.table_id ≡ seat.old.table_id) × (seat.new.id ≡ seat.old.id) }
+        ensures told { read D.verdict (step self.now.table.slots (cells self.now.terms.world) 0 0 none) seat.old.me result seat.new.me }
+    {
+        let journal = self.world.area().size() as usize + usize::from(self.world.bots());
+        self.table.shared.load::<Read>(seat, journal)
+    }
+
+    /// The journal's length, for the mark of the turn.
+    pub(crate) fn place(&self, seat: &mut Seat<Slot, View<D>>) -> u32
+        requires table { seat.old.table_id ≡ self.now.table }
+        requires alone { seat.old.me.0 ≡ view_of self.now.terms (own seat.old.me.0 ∷ []) }
+        requires reads { Reads (own seat.old.me.0).caller.phase }
+        ensures same { (seat.new.table_id ≡ seat.old.table_id) × (seat.new.id ≡ seat.old.id) }
+        ensures marked { seat.new.me.0 ≡ goes_on seat.old.me.0 (marked_at (about D.verdict seat.old.me.0) (own seat.old.me.0).caller result) }
+        ensures out { seat.new.me.1 ≡ seat.old.me.1 }
+        ensures few { result ≤ 65536 }
+    {
+        (self.read(seat) / 2) as u32
+    }
+}

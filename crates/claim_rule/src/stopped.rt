@@ -1,0 +1,166 @@
+ghost use Rattle.std.specs.Prelude.{◌≡◌, ◌≤◌};
+ghost use Rattle.claim_core.specs.declared.state.Phase.TheVariants.{Refusing};
+ghost use Rattle.claim_core.specs.Tags.{tag_caller, tag_turn, tag_bot};
+ghost use Rattle.claim_rule.specs.Plays.{about, marked_at};
+ghost use Rattle.claim_rule.specs.Tokens.{IsOf, number_in, doing, goes, refused_of};
+
+use crate::activation::Activation;
+use crate::field::Field;
+use crate::freeing::Freeing;
+use amoebot_state::{CellName, Decider};
+use std::marker::Model;
+
+/// The tag that was found at a cell that another caller held.
+#[derive(Drop)]
+pub struct Tag {
+    pub(crate) number: u64,
+}
+
+impl Model for Tag {
+    ghost use Rattle.std.specs.Prelude.{ℕ, ◌<◌};
+    ghost use Rattle.claim_core.specs.Tags.{tag_caller};
+
+    ghost Value = { ℕ };
+
+    ghost view = { λ t. t.number };
+
+    ghost invariant = { λ t. (0 < t.number) × (tag_caller t.number < 256) };
+}
+
+impl Tag {
+    /// The caller that held the cell.
+    pub fn caller(&self) -> u8
+        ensures { result ≡ tag_caller self.now }
+    {
+        ((self.number - 1) / 4096 / 65_536) as u8
+    }
+
+    /// The turn for which it held the cell.
+    pub fn turn(&self) -> u32
+        ensures { result ≡ tag_turn self.now }
+    {
+        ((self.number - 1) / 4096 % 65_536) as u32
+    }
+
+    /// The amoebot of that turn.
+    pub fn bot(&self) -> u16
+        ensures { result ≡ tag_bot self.now }
+    {
+        ((self.number - 1) % 4096) as u16
+    }
+}
+
+/// What a turn is told whose zone had a cell that another caller held.
+#[derive(Drop)]
+pub struct Refused {
+    caller: u8,
+    turn: u32,
+    cell: CellName,
+    by_caller: u8,
+    by_turn: u32,
+    by_bot: u16,
+    place: u32,
+}
+
+impl Model for Refused {
+    ghost use Rattle.claim_rule.specs.Tokens.{RefusedOf};
+
+    ghost Value = { RefusedOf };
+
+    ghost view = { λ r. record { caller = r.caller; turn = r.turn; cell = r.cell; by_caller = r.by_caller; by_turn = r.by_turn; by_bot = r.by_bot; place = r.place } };
+}
+
+impl Refused {
+    /// The caller that was refused.
+    pub fn caller(&self) -> u8
+        ensures { result ≡ self.now.caller }
+    {
+        self.caller
+    }
+
+    /// Its turn.
+    pub fn turn(&self) -> u32
+        ensures { result ≡ self.now.turn }
+    {
+        self.turn
+    }
+
+    /// The cell that another caller held.
+    pub fn cell(&self) -> CellName
+        ensures { result ≡ self.now.cell }
+    {
+        self.cell
+    }
+
+    /// The caller that held the cell.
+    pub fn by_caller(&self) -> u8
+        ensures { result ≡ self.now.by_caller }
+    {
+        self.by_caller
+    }
+
+    /// The turn for which it held the cell.
+    pub fn by_turn(&self) -> u32
+        ensures { result ≡ self.now.by_turn }
+    {
+        self.by_turn
+    }
+
+    /// The amoebot of that turn.
+    pub fn by_bot(&self) -> u16
+        ensures { result ≡ self.now.by_bot }
+    {
+        self.by_bot
+    }
+
+    /// The number of entries that the journal had after the refusal.
+    pub fn place(&self) -> u32
+        ensures { result ≡ self.now.place }
+    {
+        self.place
+    }
+}
+
+/// A caller that found another's tag at the next cell of its zone, and claims no more.
+#[derive(Drop)]
+pub struct Stopped<D: Decider> {
+    pub(crate) activation: Activation<D>,
+}
+
+impl<D: Decider> Model for Stopped<D> {
+    ghost use Rattle.std.specs.Prelude.{◌≡◌, reverse};
+    ghost use Rattle.claim_rule.specs.Tokens.{Token, IsActivation, IsStopped};
+
+    ghost Value = { Token D };
+
+    ghost view = { λ s. record { table = s.activation.seat.table_id; view = s.activation.seat.me.0 } };
+
+    ghost invariant = { λ s. IsActivation D.verdict s.activation.seat.me s.activation.caller s.activation.turn s.activation.bot s.activation.area s.activation.maxes (reverse s.activation.cells.items) × IsStopped s.activation.seat.me s.activation.turn };
+}
+
+/// The turn of a refused claim gets its mark: it reads the journal's length.
+pub fn refuse<D: Decider>(
+    stopped: Stopped<D>,
+    field: &Field<'_, D>,
+    cell: CellName,
+    tag: Tag,
+) -> (Freeing<D>, Refused)
+    requires field { IsOf field.now stopped }
+    requires refused { (doing stopped).phase ≡ Refusing cell tag }
+    ensures marked { result.0 ≡ goes stopped (marked_at (about D.verdict stopped.view) (doing stopped) result.1.place) }
+    ensures told { result.1 ≡ refused_of (number_in stopped) (doing stopped).turn cell tag result.1.place }
+    ensures few { result.1.place ≤ 65536 }
+{
+    let Stopped { mut activation } = stopped;
+    let place = field.place(&mut activation.seat);
+    let refused = Refused {
+        caller: activation.caller,
+        turn: activation.turn,
+        cell,
+        by_caller: tag.caller(),
+        by_turn: tag.turn(),
+        by_bot: tag.bot(),
+        place,
+    };
+    (Freeing { activation }, refused)
+}

@@ -1,0 +1,69 @@
+ghost use Rattle.std.specs.Prelude.{◌≡◌, ◌≤◌, ◌<◌, IfOk, IfErr};
+ghost use Rattle.claim_rule.specs.Plays.{about, bot_in, marked_at};
+ghost use Rattle.claim_rule.specs.Tokens.{IsOf, IsToLook, IsMarked, number_in, doing, goes, seen_of};
+ghost use Rattle.node_claims.specs.Claims.{IsClaimed, IsRefused, at_next, freed_all};
+
+use amoebot_state::Decider;
+use claim_rule::{
+    Claimed, Field, Freeing, Refused, Seat, Seen, begin, end, free_last, look, refuse, seal,
+    unseal, win,
+};
+
+/// Claims the zone of the caller's next turn, cell by cell in zone order. It stops at the first cell that another caller holds, and
+/// then frees what it has won; the turn has its mark.
+pub fn try_claim<D: Decider>(
+    seat: Seat<D>,
+    field: &Field<'_, D>,
+    turn: u32,
+    bot: u16,
+) -> Result<Claimed<D>, (Seat<D>, Refused)>
+    requires field { IsOf field.now seat }
+    requires turn { (turn ≡ (doing seat).turn) × (turn < (about D.verdict seat.view).lists.turns) }
+    requires bot { bot ≡ bot_in D.verdict seat.view }
+    ensures claimed { IfOk result (λ claimed. IsClaimed D.verdict seat claimed) }
+    ensures refused { IfErr result (λ by. IsRefused D.verdict seat by.0 by.1) }
+{
+    let mut held = begin(seat, turn, bot);
+    while let Some(cell) = held.next(field) {
+        match win(held, field, cell) {
+            Ok(more) => held = more,
+            Err((stopped, tag)) => {
+                let (freeing, refused) = refuse(stopped, field, cell, tag);
+                return Err((free_all(freeing, field), refused));
+            }
+        }
+    }
+    Ok(seal(held))
+}
+
+/// Marks the turn of a claim whose verdict is Idle or Failed, at the length that the journal has while the zone is held.
+pub fn place<D: Decider>(claimed: &mut Claimed<D>, field: &Field<'_, D>) -> Seen
+    requires field { IsOf field.now claimed.old }
+    requires looks { IsToLook claimed.old }
+    ensures marked { claimed.new ≡ goes claimed.old (marked_at (about D.verdict claimed.old.view) (doing claimed.old) result.place) }
+    ensures told { result ≡ seen_of (number_in claimed.old) (doing claimed.old).turn result.place }
+    ensures few { result.place ≤ 65536 }
+{
+    look(claimed, field)
+}
+
+/// Frees the zone of a turn that has its mark, the cell that was won last first. The values stay as they were found.
+pub fn release<D: Decider>(claimed: Claimed<D>, field: &Field<'_, D>) -> Seat<D>
+    requires field { IsOf field.now claimed }
+    requires looked { IsMarked claimed }
+    ensures { result ≡ goes claimed (at_next (about D.verdict claimed.view) (doing claimed).turn (doing claimed).marks) }
+{
+    free_all(unseal(claimed), field)
+}
+
+/// Frees all cells that are held.
+fn free_all<D: Decider>(freeing: Freeing<D>, field: &Field<'_, D>) -> Seat<D>
+    requires { IsOf field.now freeing }
+    ensures { result ≡ freed_all D.verdict freeing }
+{
+    let mut freeing = freeing;
+    while freeing.count() > 0 {
+        freeing = free_last(freeing, field);
+    }
+    end(freeing)
+}

@@ -1,0 +1,120 @@
+//! The parts of programs, all on line 0.
+
+ghost use Rattle.std.specs.Prelude.{◌≡◌, ◌∷◌, [], true, false, map, codes, IfOk};
+ghost use Rattle.action_tree.specs.Trees as tree;
+ghost use Rattle.action_tree.specs.Views.{name_of, literal_of, guard_of, port_of, term_of, part_of, sum_of, stmt_of, stmts_of, move_of, var_of, action_of};
+ghost use Rattle.action_tree.specs.declared.expression.PortSet.TheVariants.{Ports};
+ghost use Rattle.action_tree.specs.Samples as sample;
+
+use action_tree::{
+    Action, Cmp, Guard, Lit, Move, Part, PortExpr, PortSet, Stmt, Sum, Term, Var, Word,
+};
+use std::alloc::{AllocError, Global};
+
+pub(crate) fn literal(value: u32) -> Lit
+    ensures { literal_of result ≡ sample.literal value }
+{
+    Lit { value, line: 0 }
+}
+
+pub(crate) fn p() -> PortExpr
+    ensures { port_of result ≡ sample.p }
+{
+    PortExpr::Name(Word::new(b"p", 0))
+}
+
+pub(crate) fn q() -> PortExpr
+    ensures { port_of result ≡ tree.bound (sample.word (codes "q")) }
+{
+    PortExpr::Name(Word::new(b"q", 0))
+}
+
+/// A sum of one term.
+pub(crate) fn one(alloc: Global, term: Term) -> Result<Sum, AllocError>
+    ensures { IfOk result (λ s. sum_of s ≡ sample.one (term_of term)) }
+{
+    Ok(Sum {
+        parts: vec![in alloc; Part { minus: false, term }]?,
+    })
+}
+
+/// `TERM = NUMBER`
+pub(crate) fn is(alloc: Global, term: Term, value: u32) -> Result<Guard, AllocError>
+    ensures { IfOk result (λ g. guard_of g ≡ sample.equals (term_of term) (tree.number (sample.literal value))) }
+{
+    let right = one(alloc, Term::Number(literal(value)))?;
+    Ok(Guard::Compare(one(alloc, term)?, Cmp::Eq, right))
+}
+
+/// `not GUARD`
+pub(crate) fn not(alloc: Global, guard: Guard) -> Result<Guard, AllocError>
+    ensures { IfOk result (λ g. guard_of g ≡ tree.negation (guard_of guard)) }
+{
+    Ok(Guard::Not(Box::new(alloc, guard)?))
+}
+
+/// `GUARD and GUARD`
+pub(crate) fn both(alloc: Global, one: Guard, two: Guard) -> Result<Guard, AllocError>
+    ensures { IfOk result (λ g. guard_of g ≡ sample.and (guard_of one ∷ guard_of two ∷ [])) }
+{
+    Ok(Guard::And(vec![in alloc; one, two]?))
+}
+
+/// `GUARD or GUARD`
+pub(crate) fn either(alloc: Global, one: Guard, two: Guard) -> Result<Guard, AllocError>
+    ensures { IfOk result (λ g. guard_of g ≡ sample.or (guard_of one ∷ guard_of two ∷ [])) }
+{
+    Ok(Guard::Or(vec![in alloc; one, two]?))
+}
+
+/// `any p in ports ( GUARD )`
+pub(crate) fn some_port(alloc: Global, guard: Guard) -> Result<Guard, AllocError>
+    ensures { IfOk result (λ g. guard_of g ≡ sample.some_port (guard_of guard)) }
+{
+    let guard = Box::new(alloc, guard)?;
+    Ok(Guard::Any(Word::new(b"p", 0), PortSet::Ports, guard))
+}
+
+/// `first p in ports ( GUARD )`
+pub(crate) fn first_port(alloc: Global, guard: Guard) -> Result<PortExpr, AllocError>
+    ensures { IfOk result (λ r. port_of r ≡ sample.first_port (guard_of guard)) }
+{
+    let guard = Box::new(alloc, guard)?;
+    Ok(PortExpr::First(Word::new(b"p", 0), PortSet::Ports, guard))
+}
+
+/// `turn PORT NUMBER`
+pub(crate) fn turned(alloc: Global, port: PortExpr, by: u32) -> Result<PortExpr, AllocError>
+    ensures { IfOk result (λ r. port_of r ≡ tree.turned (port_of port) (sample.literal by)) }
+{
+    Ok(PortExpr::Turn(Box::new(alloc, port)?, literal(by)))
+}
+
+/// `NAME := TERM`
+pub(crate) fn put(alloc: Global, name: Word, term: Term) -> Result<Stmt, AllocError>
+    ensures { IfOk result (λ s. stmt_of s ≡ tree.put (name_of name) (sample.one (term_of term))) }
+{
+    Ok(Stmt::Put(name, one(alloc, term)?))
+}
+
+/// `var NAME NUMBER`
+pub(crate) fn var(name: Word, max: u32) -> Var
+    ensures { var_of result ≡ record { name = name_of name; max = sample.literal max } }
+{
+    Var {
+        name,
+        max: literal(max),
+    }
+}
+
+/// `action NAME when GUARD do BODY move MOVE`
+pub(crate) fn action(name: Word, guard: Guard, body: Vec<Stmt>, moved: Move) -> Action
+    ensures { action_of result ≡ record { name = name_of name; guard = guard_of guard; body = stmts_of body.items; moved = move_of moved } }
+{
+    Action {
+        name,
+        guard,
+        body,
+        moved,
+    }
+}

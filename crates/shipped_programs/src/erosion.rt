@@ -1,0 +1,107 @@
+//! The program `erosion`.
+
+ghost use Rattle.std.specs.Prelude.{◌≡◌, ◌∷◌, [], codes, take, map, IfOk};
+ghost use Rattle.action_tree.specs.Trees as tree;
+ghost use Rattle.action_tree.specs.Views.{name_of, guard_of, port_of, term_of, stmt_of, var_of, action_of};
+ghost use Rattle.action_tree.specs.declared.expression.PortSet.TheVariants.{Ports};
+ghost use Rattle.action_tree.specs.Samples as sample;
+ghost use Rattle.shipped_programs.specs.Shipped.{run_ends, erode_guard, erode_body};
+
+use crate::build::{action, both, is, literal, not, p, put, some_port, turned, var};
+use action_tree::{Action, Guard, Move, PortExpr, PortSet, Program, Stmt, Term, Var, Word};
+use std::alloc::{AllocError, Global};
+
+/// The tree of `erosion`.
+pub(crate) fn erosion(alloc: Global) -> Result<Program, AllocError>
+    ensures { IfOk result (λ p. p ≡ sample.erosion) }
+{
+    Ok(Program::make(false, vars(alloc)?, actions(alloc)?))
+}
+
+fn vars(alloc: Global) -> Result<Vec<Var>, AllocError>
+    ensures { IfOk result (λ vars. map var_of vars.items ≡ sample.erosion.vars) }
+{
+    Ok(vec![in alloc; var(cand(), 1), var(leader(), 1)]?)
+}
+
+fn actions(alloc: Global) -> Result<Vec<Action>, AllocError>
+    ensures { IfOk result (λ actions. map action_of actions.items ≡ sample.erosion.actions) }
+{
+    Ok(vec![in alloc; lead(alloc)?, erode(alloc)?]?)
+}
+
+fn cand() -> Word
+    ensures { name_of result ≡ sample.word (codes "cand") }
+{
+    Word::new(b"cand", 0)
+}
+
+fn leader() -> Word
+    ensures { name_of result ≡ sample.word (codes "leader") }
+{
+    Word::new(b"leader", 0)
+}
+
+/// `PORT . cand = 1`
+fn is_candidate(alloc: Global, port: PortExpr) -> Result<Guard, AllocError>
+    ensures { IfOk result (λ g. guard_of g ≡ sample.there_is (port_of port) (codes "cand") 1) }
+{
+    is(alloc, Term::Of(port, cand()), 1)
+}
+
+fn lead(alloc: Global) -> Result<Action, AllocError>
+    ensures { IfOk result (λ a. action_of a ∷ [] ≡ take 1 sample.erosion.actions) }
+{
+    let others = some_port(alloc, is_candidate(alloc, p())?)?;
+    let guard = Guard::And(vec![in alloc;
+        is(alloc, Term::Own(cand()), 1)?,
+        is(alloc, Term::Own(leader()), 0)?,
+        not(alloc, others)?,
+    ]?);
+    let body = vec![in alloc; put(alloc, leader(), Term::Number(literal(1)))?]?;
+    Ok(action(Word::new(b"lead", 0), guard, body, Move::None))
+}
+
+fn erode(alloc: Global) -> Result<Action, AllocError>
+    ensures { IfOk result (λ a. action_of a ≡ sample.action (codes "erode") erode_guard erode_body tree.no_move) }
+{
+    Ok(action(
+        Word::new(b"erode", 0),
+        erode_guard(alloc)?,
+        erode_body(alloc)?,
+        Move::None,
+    ))
+}
+
+fn erode_guard(alloc: Global) -> Result<Guard, AllocError>
+    ensures { IfOk result (λ g. guard_of g ≡ erode_guard) }
+{
+    both(
+        alloc,
+        is(alloc, Term::Own(cand()), 1)?,
+        is(alloc, ends(alloc)?, 1)?,
+    )
+}
+
+fn erode_body(alloc: Global) -> Result<Vec<Stmt>, AllocError>
+    ensures { IfOk result (λ ss. map stmt_of ss.items ≡ erode_body) }
+{
+    Ok(vec![in alloc; put(alloc, cand(), Term::Number(literal(0)))?]?)
+}
+
+/// `count p in ports ( GUARD )`, for the ends of runs
+fn ends(alloc: Global) -> Result<Term, AllocError>
+    ensures { IfOk result (λ t. term_of t ≡ tree.count (sample.word (codes "p")) Ports run_ends) }
+{
+    let guard = Box::new(alloc, ends_a_run(alloc)?)?;
+    Ok(Term::Count(Word::new(b"p", 0), PortSet::Ports, guard))
+}
+
+/// `p . cand = 1 and not ( linked turn p 1 and turn p 1 . cand = 1 )`
+fn ends_a_run(alloc: Global) -> Result<Guard, AllocError>
+    ensures { IfOk result (λ g. guard_of g ≡ run_ends) }
+{
+    let linked = Guard::Linked(turned(alloc, p(), 1)?);
+    let next = both(alloc, linked, is_candidate(alloc, turned(alloc, p(), 1)?)?)?;
+    both(alloc, is_candidate(alloc, p())?, not(alloc, next)?)
+}
