@@ -9,3 +9,4 @@ pub mod Falling
 pub mod Terms
 pub mod Running
 pub mod Deciding
+pub mod SharedRunner
