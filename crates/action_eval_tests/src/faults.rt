@@ -220,6 +220,82 @@ static BOUND: [Judged; 31] = [
     ),
 ];
 
+/// Names behind the end of what binds them, before it, or of the other kind.
+static USED: [Judged; 17] = [
+    // a name is not in force before its `let`
+    (
+        "program\nvar x 1\naction a when true do\np . x := 1 ; let p := head 0\nend",
+        Some((4, UnknownName)),
+    ),
+    (
+        "program\naction a when linked\np do let p := head 0\nend",
+        Some((3, UnknownName)),
+    ),
+    // nor behind the end of a `count`, a `first`, a `for`
+    (
+        "program\nvar x 1\naction a when count p in ports ( true ) = x and linked\np\nend",
+        Some((4, UnknownName)),
+    ),
+    (
+        "program\naction a when linked turn first p in ports ( true ) 1 and linked\np\nend",
+        Some((3, UnknownName)),
+    ),
+    (
+        "program\naction a when true do for p in ports ( true ) do let q := p od move push\np\nend",
+        Some((3, UnknownName)),
+    ),
+    // one that is in force is bound again
+    (
+        "program\nvar x 1\naction a when true do for p in ports ( true ) do x := count\np in ports ( true ) od\nend",
+        Some((4, TwiceNamed)),
+    ),
+    (
+        "program\naction a when true do let p := head 0 ; for\np in ports ( true ) do let q := p od\nend",
+        Some((3, TwiceNamed)),
+    ),
+    // a name for a port in a sum
+    (
+        "program\naction a when any p in ports ( mod6 (\np ) = 0 )\nend",
+        Some((3, WrongType)),
+    ),
+    (
+        "program\nvar x 1\naction a when true do for p in ports ( true ) do x :=\np od\nend",
+        Some((4, WrongType)),
+    ),
+    // a variable as a port
+    (
+        "program\nvar x 1\naction a when linked turn\nx 1\nend",
+        Some((4, WrongType)),
+    ),
+    (
+        "program\nvar x 1\naction a when true do let q :=\nx\nend",
+        Some((4, WrongType)),
+    ),
+    (
+        "program\nvar x 1\naction a when true do\nx . x := 1\nend",
+        Some((4, WrongType)),
+    ),
+    (
+        "program\nvar x 1\naction a when true move pull\nx\nend",
+        Some((4, WrongType)),
+    ),
+    // the name of an action is no port's, and may be bound
+    (
+        "program\naction a when linked\na\nend",
+        Some((3, UnknownName)),
+    ),
+    ("program\naction a when any a in ports ( linked a )\nend", None),
+    // a name is bound before its port is judged
+    (
+        "program\nvar x 1\naction a when true do let\nx :=\nx\nend",
+        Some((4, TwiceNamed)),
+    ),
+    (
+        "program\naction a when true do let p := tail\n9\nend",
+        Some((3, BadRange)),
+    ),
+];
+
 /// The line and the kind of the fault of a text that is read.
 fn fault(alloc: Global, text: &str) -> Result<Option<(u32, RefusalKind)>, Fail> {
     if text.len() > 1_000_000 {
@@ -252,4 +328,9 @@ fn numbers_and_names_that_are_declared(rt: HostRuntime) -> Result<(), Fail> {
 #[test]
 fn names_that_stand_for_ports(rt: HostRuntime) -> Result<(), Fail> {
     are_judged(&rt, rt.alloc(), &BOUND)
+}
+
+#[test]
+fn names_where_they_are_used(rt: HostRuntime) -> Result<(), Fail> {
+    are_judged(&rt, rt.alloc(), &USED)
 }
