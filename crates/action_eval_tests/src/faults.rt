@@ -284,7 +284,10 @@ static USED: [Judged; 17] = [
         "program\naction a when linked\na\nend",
         Some((3, UnknownName)),
     ),
-    ("program\naction a when any a in ports ( linked a )\nend", None),
+    (
+        "program\naction a when any a in ports ( linked a )\nend",
+        None,
+    ),
     // a name is bound before its port is judged
     (
         "program\nvar x 1\naction a when true do let\nx :=\nx\nend",
