@@ -15,14 +15,14 @@ use Rattle.action_grammar.specs.Laws.{NamesAreNotReserved}
 use Rattle.action_tree.proofs.Conditions.{left_of, right_of}
 
 -- no entry is of the role
-abbrev Lacks : Role → List (Entry Role) → Type 0
+abbrev pub Lacks : Role → List (Entry Role) → Type 0
 Lacks r es = list_all (λ e. not (same_role e.value r)) es ≡ true
 
 not_true : (b : Bool) → not b ≡ true → b ≡ false
 not_true true e = absurd cc
 not_true false e = refl
 
-lacking : (r d : Role) (es : List (Entry Role)) (text : List ℕ) → same_role d r ≡ false → Lacks r es → same_role (look_up d es text) r ≡ false
+pub lacking : (r d : Role) (es : List (Entry Role)) (text : List ℕ) → same_role d r ≡ false → Lacks r es → same_role (look_up d es text) r ≡ false
 lacking r d [] text n l = n
 lacking r d (e ∷ es) text n l = by (bytes_eq text e.text) (lacking r d es text n (right_of _ _ l))
   where

@@ -1,10 +1,8 @@
 -- What the role of a token says of it.
-use Rattle.std.proofs.Common.{◌≡◌, ◌<◌, ◌≤◌, arith, ℕ, zero, suc, Bool, true, false, cond, List, [], ◌∷◌, length, drop, Some, None, Ok, refl, sym, ap, subst, ◌∙◌, rules}
+use Rattle.std.proofs.Common.{◌≡◌, ◌<◌, ◌≤◌, arith, ℕ, zero, suc, true, List, [], ◌∷◌, length, drop, Some, None, Ok, refl, sym, ap, subst, ◌∙◌}
 use Rattle.std.specs.Prelude.{option_map}
-use Rattle.std.specs.Str.{bytes_eq}
-use denote.Enum.Bare.{same_true}
 use Rattle.text_tokens.specs.declared.token.TokenKind.{TokenKind}
-use Rattle.text_tokens.specs.declared.token.TokenKind.TheVariants.{Word, Number, Sign}
+use Rattle.text_tokens.specs.declared.token.TokenKind.TheVariants.{Word, Number}
 use Rattle.text_tokens.specs.declared.refusal.Refusal.{Refusal}
 use Rattle.text_tokens.specs.Text.{Lexeme}
 use Rattle.text_tokens.specs.declared.token.Token.{Token}
@@ -13,55 +11,24 @@ use Rattle.text_tokens.specs.Reading.{Reader, first, by_role}
 use Rattle.text_tokens.specs.Text.{Cuts, most_bytes}
 use Rattle.text_tokens.specs.Cursor.{IsDigits}
 use Rattle.text_tokens.specs.Steps.{lexeme_of}
+use Rattle.text_tokens.proofs.Distinguishing.{kind_is}
 use Rattle.text_tokens.proofs.Stepping.{is_number_of}
 use Rattle.text_tokens.specs.declared.refusal.RefusalKind.TheVariants.{TooMany}
 use Rattle.action_grammar.specs.Expressions.{bound_at}
 use Rattle.action_tree.specs.Words.{is_word}
 use Rattle.action_tree.proofs.Spelling.{cut_is_word}
-use Rattle.action_grammar.specs.contracts.role.Role.{the_type}
+use Rattle.action_tree.proofs.Conditions.{left_of}
+use Rattle.action_grammar.proofs.Naming.{names, numbers}
 use Rattle.action_grammar.specs.declared.role.Role.{Role}
 use Rattle.action_grammar.specs.declared.role.Role.TheVariants as role_of
-use Rattle.action_grammar.specs.Roles.{Entry, look_up, words, signs, role, role_by, same_role, is_a}
-
--- a token of a role has it
-pub role_is : (r : Role) (t : Lexeme) → is_a r t ≡ true → role t ≡ r
-unfolding same_role
-role_is r t e = same_true the_type (search rules) (role t) r e
-
--- a table says nothing that it does not have
-abbrev lacks : Role → List (Entry Role) → Bool
-lacks r [] = true
-lacks r (e ∷ es) = cond (same_role e.value r) false (lacks r es)
-
-lacks_by : (r : Role) (found other : Role) (b s rest : Bool) → same_role found r ≡ s → cond s false rest ≡ true → (rest ≡ true → same_role other r ≡ false) → same_role (cond b found other) r ≡ false
-lacks_by r found other b true rest is all later = absurd cc
-lacks_by r found other true false rest is all later = is
-lacks_by r found other false false rest is all later = later all
-
-never : (r a : Role) (es : List (Entry Role)) (text : List ℕ) → same_role a r ≡ false → lacks r es ≡ true → same_role (look_up a es text) r ≡ false
-never r a [] text misses all = misses
-never r a (e ∷ es) text misses all = lacks_by r e.value (look_up a es text) (bytes_eq text e.text) (same_role e.value r) (lacks r es) refl all (λ h. never r a es text misses h)
-
-word_by : (kind : TokenKind) (text : List ℕ) → same_role (role_by kind text) role_of.AName ≡ true → kind ≡ Word
-unfolding same_role
-word_by Word text e = refl
-word_by Number text e = absurd cc
-word_by Sign text e = let n = never role_of.AName role_of.Foreign signs text refl refl in absurd cc
+use Rattle.action_grammar.specs.Roles.{role, role_by, is_a}
 
 -- a name is a word, and a number one
 pub name_is_word : (t : Lexeme) → is_a role_of.AName t ≡ true → t.kind ≡ Word
-unfolding role
-name_is_word t e = word_by t.kind t.text e
-
-number_by : (kind : TokenKind) (text : List ℕ) → same_role (role_by kind text) role_of.ANumber ≡ true → kind ≡ Number
-unfolding same_role
-number_by Word text e = let n = never role_of.ANumber role_of.AName words text refl refl in absurd cc
-number_by Number text e = refl
-number_by Sign text e = let n = never role_of.ANumber role_of.Foreign signs text refl refl in absurd cc
+name_is_word t e = kind_is Word t (left_of _ _ (sym (names t) ∙ e))
 
 pub number_is_number : (t : Lexeme) → is_a role_of.ANumber t ≡ true → t.kind ≡ Number
-unfolding role
-number_is_number t e = number_by t.kind t.text e
+number_is_number t e = kind_is Number t (sym (numbers t) ∙ e)
 
 -- ---- a choice by the role of the next token
 
@@ -84,9 +51,6 @@ pub seen : (c : Cursor) (t : Token) (r : Role) → Ok (Some t) ≡ answer c → 
 seen c t r e s is = seen_by c.source c.ahead c.last t r e s.bytes is
 
 -- ---- what a token of a role spells
-
-pub other_role : (r s : Role) (t : Lexeme) → is_a r t ≡ true → same_role r s ≡ false → is_a s t ≡ false
-other_role r s t e apart = ap (λ (k : Role). same_role k s) (role_is r t e) ∙ apart
 
 module _ (c : Cursor) (t : Token) (s : Spells c t) where
   pub name_spells : is_a role_of.AName (lexeme_of c.source t) ≡ true → is_word (slice c.source t) ≡ true

@@ -16,7 +16,7 @@ use Rattle.action_grammar.specs.Roles.{is_a, as_name, as_literal, as_dirterm, as
 use Rattle.action_grammar.specs.Expressions as grammar
 use Rattle.action_grammar.specs.Expressions.{Selection, selection, IsPort, is_bound, is_end, is_turn, is_first, IsSelection, is_selection, IsTerm, is_number, is_own, is_of_port, is_count, is_direction, is_inner, is_mod6, IsSum, is_sum, IsTerms, no_more_terms, more_terms, IsUnit, is_atom, is_not, is_parens, is_quantified, is_tested, is_compared, IsConj, IsUnits, no_more_units, more_units, IsExpr, is_expr, IsConjs, no_more_conjs, more_conjs}
 use Rattle.action_print.specs.Canon as canon
-use Rattle.action_print.specs.Canon.{joined, in_parens, selection_words, guard_words, units, conjs, sum_words, further_terms, term_words, port_words}
+use Rattle.action_print.specs.Canon.{in_parens, selection_words, guard_words, units, conjs, sum_words, further_terms, term_words, port_words}
 use Rattle.text_tokens.proofs.Respelling.{Rereads, rereads_by, rereads_two, rereads_alone, rereads_none}
 use Rattle.text_tokens.proofs.InSequence.{rereads_both, rereads_three, rereads_four, rereads_six}
 use Rattle.action_print.proofs.Leaves.{a_word, a_sign, free_of, opens_fine, binds_fine, a_name, a_number, an_atom, a_quantifier, a_side, an_end, a_comparison, a_test, a_set, a_dirterm, a_minus, a_joint}

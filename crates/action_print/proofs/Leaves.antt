@@ -1,11 +1,11 @@
 -- Single tokens of a canonical text, by their roles.
-use Rattle.std.proofs.Common.{◌≡◌, ℕ, suc, ◌<◌, ◌≤◌, Bool, true, false, List, [], ◌∷◌, Option, None, length, codes, refl, ap, ◌∙◌, arith}
-use Rattle.std.specs.Prelude.{◌&&◌, ◌||◌, ◌^◌, decimal, not}
+use Rattle.std.proofs.Common.{◌≡◌, ℕ, suc, ◌<◌, Bool, true, false, List, [], ◌∷◌, Option, None, length, codes, refl, ap, ◌∙◌, arith}
+use Rattle.std.specs.Prelude.{◌&&◌, ◌^◌, decimal, not}
 use Rattle.std.specs.List.{list_all}
-use Rattle.std.proofs.lemmas.Bool.{ltb-true}
+use Rattle.std.proofs.lemmas.Bool.{ltb-true, or_left, or_right}
 use Rattle.amoebot_state.specs.declared.bot.End.{End}
 use Rattle.amoebot_state.specs.declared.bot.End.TheVariants.{Head, Tail}
-use Rattle.text_tokens.specs.declared.token.TokenKind.TheVariants.{Word, Number, Sign}
+use Rattle.text_tokens.specs.declared.token.TokenKind.TheVariants.{Word, Sign}
 use Rattle.text_tokens.specs.declared.refusal.RefusalKind.{RefusalKind}
 use Rattle.text_tokens.specs.Text.{is_letter, is_word_byte, is_sign, Lexeme}
 use Rattle.text_tokens.specs.Cursor.{same_kind}
@@ -23,7 +23,7 @@ use Rattle.action_tree.specs.Writable.{is_dirterm}
 use Rattle.action_grammar.specs.declared.role.Role.{Role}
 use Rattle.action_grammar.specs.declared.role.Role.TheVariants.{AName, ANumber, PlusSign, MinusSign, CompareSign, AtomWord, QuantifierWord, TestWord, FreeWord, PortsWord, SideWord, EndWord, ThroughWord, SwitchWord}
 use Rattle.action_grammar.specs.Roles as roles
-use Rattle.action_grammar.specs.Roles.{Entry, look_up, words, role_by, role, same_role, is_a, is_test, is_set, is_plus_or_minus, as_name, as_literal, as_dirterm, as_set, as_switch, as_end, as_atom, as_quantifier, as_test, as_side, as_port_move, as_cmp}
+use Rattle.action_grammar.specs.Roles.{look_up, role_by, role, same_role, is_a, is_test, is_set, is_plus_or_minus, as_name, as_literal, as_dirterm, as_set, as_switch, as_end, as_atom, as_quantifier, as_test, as_side, as_port_move, as_cmp}
 use Rattle.action_grammar.specs.Expressions.{IsA, bound_at, IsMinus}
 use Rattle.action_grammar.proofs.Naming.{names}
 use Rattle.action_grammar.proofs.Playing.{plays, is_in}
@@ -143,29 +143,20 @@ a_comparison Le = rereads_by (λ t. t) (λ xs t p. p) (λ t s. rw s.text refl) (
 a_comparison Gt = rereads_by (λ t. t) (λ xs t p. p) (λ t s. rw s.text refl) (a_sign free_of CompareSign (codes ">") refl refl refl)
 a_comparison Ge = rereads_by (λ t. t) (λ xs t p. p) (λ t s. rw s.text refl) (a_sign free_of CompareSign (codes ">=") refl refl refl)
 
--- what passes one of two tests
-by_one : (a b : Bool) → a ≡ true → (a || b) ≡ true
-by_one true b e = refl
-by_one false b e = absurd cc
-
-by_other : (a b : Bool) → b ≡ true → (a || b) ≡ true
-by_other true b e = refl
-by_other false b e = e
-
 test_at : (p : PortTest) (w : List ℕ) → is_word w ≡ true → role_by (kind_of w) w ≡ TestWord → ((t : Lexeme) → t.text ≡ w → as_test t ≡ p) → Rereads (IsOne is_test no_limit) (λ t. as_test t ≡ p) (w ∷ [])
-test_at p w e plays is = rereads_by (λ t. t) (λ xs t q. q) (λ t s. is t s.text) (rereads_one w (word_token w e) (λ t s. by_one (is_a TestWord t) (is_a FreeWord t) (is_in TestWord t (role_is w t s ∙ plays))) free_of)
+test_at p w e plays is = rereads_by (λ t. t) (λ xs t q. q) (λ t s. is t s.text) (rereads_one w (word_token w e) (λ t s. or_left (is_a TestWord t) (is_a FreeWord t) (is_in TestWord t (role_is w t s ∙ plays))) free_of)
 
 pub a_test : (p : PortTest) → Rereads (IsOne is_test no_limit) (λ t. as_test t ≡ p) (test_word p ∷ [])
 a_test linked = test_at linked (codes "linked") refl refl (λ t e. rw e refl)
-a_test free = rereads_by (λ t. t) (λ xs t q. q) (λ t s. rw s.text refl) (rereads_one (codes "free") (word_token (codes "free") refl) (λ t s. by_other (is_a TestWord t) (is_a FreeWord t) (is_in FreeWord t (role_is (codes "free") t s))) free_of)
+a_test free = rereads_by (λ t. t) (λ xs t q. q) (λ t s. rw s.text refl) (rereads_one (codes "free") (word_token (codes "free") refl) (λ t s. or_right (is_a TestWord t) (is_a FreeWord t) (is_in FreeWord t (role_is (codes "free") t s))) free_of)
 a_test at_head = test_at at_head (codes "at_head") refl refl (λ t e. rw e refl)
 a_test peer_expanded = test_at peer_expanded (codes "peer_expanded") refl refl (λ t e. rw e refl)
 a_test peer_head = test_at peer_head (codes "peer_head") refl refl (λ t e. rw e refl)
 
 pub a_set : (s : PortSet) → Rereads (IsOne is_set no_limit) (λ t. as_set t ≡ s) (set_word s ∷ [])
 unfolding same_role
-a_set Ports = rereads_by (λ t. t) (λ xs t q. q) (λ t s. rw (is_a_by FreeWord (codes "ports") t s) refl) (rereads_one (codes "ports") (word_token (codes "ports") refl) (λ t s. by_one (is_a PortsWord t) (is_a FreeWord t) (is_in PortsWord t (role_is (codes "ports") t s))) free_of)
-a_set Free = rereads_by (λ t. t) (λ xs t q. q) (λ t s. rw (is_a_by FreeWord (codes "free") t s) refl) (rereads_one (codes "free") (word_token (codes "free") refl) (λ t s. by_other (is_a PortsWord t) (is_a FreeWord t) (is_in FreeWord t (role_is (codes "free") t s))) free_of)
+a_set Ports = rereads_by (λ t. t) (λ xs t q. q) (λ t s. rw (is_a_by FreeWord (codes "ports") t s) refl) (rereads_one (codes "ports") (word_token (codes "ports") refl) (λ t s. or_left (is_a PortsWord t) (is_a FreeWord t) (is_in PortsWord t (role_is (codes "ports") t s))) free_of)
+a_set Free = rereads_by (λ t. t) (λ xs t q. q) (λ t s. rw (is_a_by FreeWord (codes "free") t s) refl) (rereads_one (codes "free") (word_token (codes "free") refl) (λ t s. or_right (is_a PortsWord t) (is_a FreeWord t) (is_in FreeWord t (role_is (codes "free") t s))) free_of)
 
 abbrev pub IsDirTermOf : DirTerm → Lexeme → Type 0
 IsDirTermOf d t = bare_dirterm (as_dirterm t) ≡ bare_dirterm d
@@ -174,10 +165,10 @@ pub a_dirterm : (d : DirTerm) → is_dirterm d ≡ true → Rereads (IsOne roles
 unfolding same_role
 a_dirterm (fixed m) e =
     rereads_by (λ t. t) (λ xs t q. q) (λ t s. rw (is_a_by ANumber (decimal m.value) t s, number_plays m.value e) (ap fixed (spelled_literal m e t s)))
-    (rereads_one (decimal m.value) (number_token m.value (small m.value e)) (λ t s. by_one (is_a ANumber t) (is_a AName t) (is_in ANumber t (role_is (decimal m.value) t s ∙ number_plays m.value e))) free_of)
+    (rereads_one (decimal m.value) (number_token m.value (small m.value e)) (λ t s. or_left (is_a ANumber t) (is_a AName t) (is_in ANumber t (role_is (decimal m.value) t s ∙ number_plays m.value e))) free_of)
 a_dirterm (held v) e =
     rereads_by (λ t. t) (λ xs t q. q) (λ t s. rw (name_role v.text e t s) (ap (λ (bs : List ℕ). held (record { text = bs; line = 0 })) s.text))
-    (rereads_one v.text (word_token v.text (name_word v.text e)) (λ t s. by_other (is_a ANumber t) (is_a AName t) (is_in AName t (name_role v.text e t s))) free_of)
+    (rereads_one v.text (word_token v.text (name_word v.text e)) (λ t s. or_right (is_a ANumber t) (is_a AName t) (is_in AName t (name_role v.text e t s))) free_of)
 
 -- ---- signs of terms
 
@@ -187,5 +178,5 @@ a_minus false = rereads_none false (of_second is_nothing) refl
 
 pub a_joint : (minus : Bool) → Rereads (IsOne is_plus_or_minus no_limit) (λ u. is_a MinusSign u ≡ minus) (further_sign minus ∷ [])
 unfolding same_role
-a_joint true = rereads_by (λ t. t) (λ xs t q. q) (λ t s. is_a_by MinusSign (codes "-") t s) (rereads_one (codes "-") (sign_is_token (codes "-") refl refl) (λ t s. by_other (is_a PlusSign t) (is_a MinusSign t) (is_in MinusSign t (role_is (codes "-") t s))) free_of)
-a_joint false = rereads_by (λ t. t) (λ xs t q. q) (λ t s. is_a_by MinusSign (codes "+") t s) (rereads_one (codes "+") (sign_is_token (codes "+") refl refl) (λ t s. by_one (is_a PlusSign t) (is_a MinusSign t) (is_in PlusSign t (role_is (codes "+") t s))) free_of)
+a_joint true = rereads_by (λ t. t) (λ xs t q. q) (λ t s. is_a_by MinusSign (codes "-") t s) (rereads_one (codes "-") (sign_is_token (codes "-") refl refl) (λ t s. or_right (is_a PlusSign t) (is_a MinusSign t) (is_in MinusSign t (role_is (codes "-") t s))) free_of)
+a_joint false = rereads_by (λ t. t) (λ xs t q. q) (λ t s. is_a_by MinusSign (codes "+") t s) (rereads_one (codes "+") (sign_is_token (codes "+") refl refl) (λ t s. or_left (is_a PlusSign t) (is_a MinusSign t) (is_in PlusSign t (role_is (codes "+") t s))) free_of)

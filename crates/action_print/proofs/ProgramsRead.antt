@@ -18,7 +18,7 @@ use Rattle.action_grammar.specs.Roles.{as_port_move, as_end}
 use Rattle.action_grammar.specs.Expressions.{IsExpr}
 use Rattle.action_grammar.specs.Programs.{IsMove, is_none, is_through, is_contract, IsBody, IsMoved, IsAction, action_of, IsVar, var_of, IsGuarded, IsProgram, program_of}
 use Rattle.action_grammar.proofs.ProgramLaws.{exact_program}
-use Rattle.action_print.specs.Canon.{guard_words, stmts_words, move_words, guard_line, var_line, do_lines, action_lines, program_lines, canon}
+use Rattle.action_print.specs.Canon.{guard_words, stmts_words, move_words, guard_line, var_line, do_lines, action_lines, program_lines}
 use Rattle.action_print.specs.ReadsBack.{CanonReadsBack, CanonIsRead}
 use Rattle.text_tokens.proofs.Exactness.{none_stops}
 use Rattle.text_tokens.proofs.Respelling.{Rereads, rereads_by, rereads_two, rereads_none, reread_lines, lines_found, rereads_kept}

@@ -1,7 +1,6 @@
 -- The same of statements.
 use Rattle.std.proofs.Common.{◌≡◌, ℕ, zero, suc, ◌≤◌, true, List, ◌∷◌, ◌++◌, codes, flat_map, refl, sym, ap, subst, ◌∙◌, arith}
-use Rattle.text_tokens.specs.Lines.{Words}
-use Rattle.text_tokens.specs.Grammar.{Symbol, Lang}
+use Rattle.text_tokens.specs.Grammar.{Symbol}
 use Rattle.action_tree.specs.declared.expression.PortSet.{PortSet}
 use Rattle.action_tree.specs.Trees.{Name, Guard, Sum, PortExpr, Stmt, put, put_of, let_be, if_then, for_each, Stmts, no_stmts, stmt_then}
 use Rattle.action_tree.specs.Lines.{bare_stmt, bare_stmts}

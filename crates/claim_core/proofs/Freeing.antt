@@ -14,6 +14,7 @@ use Rattle.amoebot_state.specs.Configs.{Config, bot_at}
 use Rattle.amoebot_state.specs.Zones.{zone}
 use Rattle.amoebot_state.proofs.Zones.{zone_is}
 use Rattle.amoebot_state.proofs.Members.{Has, Contains-from_Has, here, Has-append_right}
+use Rattle.amoebot_state.proofs.Options.{there_is}
 use Rattle.claim_core.specs.declared.marks.Mark.{Mark}
 use Rattle.claim_core.specs.declared.marks.Mark.TheVariants as mark
 use Rattle.claim_core.specs.declared.state.Look.{Look}
@@ -28,7 +29,7 @@ use Rattle.claim_core.proofs.Stays.{slice_get-push_last, world_last}
 use Rattle.claim_core.proofs.Places.{at-put_else, at-put_cases, length-put}
 use Rattle.claim_core.proofs.Numbers.{same_number}
 use Rattle.claim_core.proofs.Nexts.{frees-marks, frees-held}
-use Rattle.claim_core.proofs.Fronts.{there_is, names-more, not_twice, length-names}
+use Rattle.claim_core.proofs.Fronts.{names-more, not_twice, length-names}
 use Rattle.claim_core.proofs.Frames.{IsFramed, own_stays}
 use Rattle.claim_core.proofs.Moved.{Moves, right_same, right_push, holder_stays, within_stays, world_stays}
 use Rattle.claim_core.proofs.Holding.{framed, is_known, one_owner}

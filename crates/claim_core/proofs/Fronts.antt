@@ -1,9 +1,8 @@
 -- Fronts of zones: what is next, that no cell comes twice, and that a front stays one where what it holds stays.
-use Rattle.std.proofs.Common.{◌≡◌, ◌≢◌, ℕ, ◌<◌, List, [], ◌∷◌, ◌++◌, map, reverse, length, Option, Some, None, inl, inr, ap, sym, refl, subst, ◌∙◌, arith, length-append}
+use Rattle.std.proofs.Common.{◌≡◌, ◌≢◌, ℕ, ◌<◌, List, [], ◌∷◌, ◌++◌, map, reverse, length, Some, None, inl, inr, ap, sym, refl, subst, ◌∙◌, arith, length-append}
 use Rattle.std.specs.Prelude.{slice_get, IsSome, unwrap_or}
 use Rattle.std.specs.List.{All, AllPairs, Contains, filter_map, cons_option}
 use Rattle.std.specs.Option.{option_map}
-use Rattle.std.proofs.lemmas.Bool.{false≢true}
 use Rattle.std.proofs.lemmas.List.{append-nil, append_assoc, reverse-append, map-append, length-map, length-reverse, get_or_at, get_or_append_left}
 use Rattle.std.proofs.lemmas.List.Elements.{filter_map-append, All-head, All-tail, All-push}
 use Rattle.std.proofs.lemmas.Option.{same_Some, none-some}
@@ -23,6 +22,7 @@ use Rattle.amoebot_state.proofs.Known.{next_is_in_zone}
 use Rattle.amoebot_state.proofs.Occupants.{occupant_covers}
 use Rattle.amoebot_state.proofs.Owns.{covered}
 use Rattle.amoebot_state.specs.Known.{IsFront, next_cell}
+use Rattle.amoebot_state.proofs.Options.{there_is}
 use Rattle.claim_core.specs.Cells.{held_by}
 use Rattle.claim_core.specs.Soundness.{names}
 use Rattle.claim_core.proofs.Places.{get-append_right}
@@ -72,10 +72,6 @@ not_twice c i front rest n is has =
     once has.0 (length front) n has.1 end (get_or_append_left front (n ∷ rest) n has.0 has.1 ∙ has.2 ∙ sym (get_or_at front n rest n (length front) refl))
 
 -- each cell of a zone has a value
-pub there_is : {A : Type 0} (o : Option A) → IsSome o → (x : A) × (o ≡ Some x)
-there_is None h = absurd (false≢true h)
-there_is (Some x) h = (x, refl)
-
 pub zone_value : (c : Config) (i : ℕ) (n : CellName) → IsValid c → IsSome (bot_at c i) → Has n (zone c i) → value c n ≡ Some (held_by c n)
 zone_value c i (name.Spot v) valid there has = refl
 zone_value c i (name.Body j) valid there has =

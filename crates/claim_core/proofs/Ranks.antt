@@ -26,6 +26,7 @@ use Rattle.amoebot_state.specs.Patches.{all_cells}
 use Rattle.amoebot_state.proofs.Counts.{zone_has_at_most_ten_nodes, zone_has_at_most_nine_bodies}
 use Rattle.amoebot_state.proofs.Zones.{zone_inside}
 use Rattle.amoebot_state.proofs.Members.{Has, here, Has-append_right}
+use Rattle.amoebot_state.proofs.Options.{there_is}
 use Rattle.claim_core.specs.declared.marks.Mark.{Mark}
 use Rattle.claim_core.specs.declared.marks.Mark.TheVariants as mark
 use Rattle.claim_core.specs.declared.state.Phase.{Phase}
@@ -38,7 +39,7 @@ use Rattle.claim_core.specs.Reached.{HaveEnded}
 use Rattle.claim_core.specs.Laws.{RoundsEnd}
 use Rattle.claim_core.specs.Rounds.{steps_below, round, rounds, rounds_enough}
 use Rattle.claim_core.proofs.Numbers.{length-all_cells}
-use Rattle.claim_core.proofs.Fronts.{there_is, zone_value, next_is, length-names}
+use Rattle.claim_core.proofs.Fronts.{zone_value, next_is, length-names}
 use Rattle.claim_core.proofs.Frames.{own_stays}
 use Rattle.claim_core.proofs.Holding.{framed, same_area, is_known, valued}
 use Rattle.claim_core.proofs.Sounds.{one_step, always}

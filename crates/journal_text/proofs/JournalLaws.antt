@@ -1,16 +1,16 @@
 -- The reader of a journal is a part for its grammar.
 use Rattle.std.proofs.Common.{◌≡◌, ℕ, Bool, true, false, List, Some, None, refl}
 use Rattle.std.specs.Prelude.{codes, not, ◌||◌}
-use Rattle.std.proofs.lemmas.Bool.{not-true}
+use Rattle.std.proofs.lemmas.Bool.{or_left, or_right, not-true}
 use Rattle.text_tokens.specs.declared.token.TokenKind.TheVariants.{Word}
 use Rattle.text_tokens.specs.Text.{Lexeme}
 use Rattle.text_tokens.specs.Reading.{Reader, ◌>>=◌, pure, is_number, no_limit, less}
 use Rattle.text_tokens.specs.Grammar.{Symbol, symbol, Lang, IsOne, Then, Made, Judged, Either, of_first, of_second, Limited, AtMost}
-use Rattle.text_tokens.specs.Lawful.{Exact, IsPart, always, Starts, StartsIn, BeginsWith, SomeFrom, AreElements}
+use Rattle.text_tokens.specs.Lawful.{Exact, IsPart, always, Starts, BeginsWith, SomeFrom, AreElements}
 use Rattle.text_tokens.proofs.Exactness.{exact}
 use Rattle.text_tokens.proofs.Carrying.{part_made}
 use Rattle.text_tokens.proofs.Parts.{some_text, part_one, part_judged}
-use Rattle.text_tokens.proofs.Beginnings.{starts_in, starts_some, starts_one, starts_made, starts_then, starts_judged, starts_in_more, starts_in_either}
+use Rattle.text_tokens.proofs.Beginnings.{starts_in, starts_some, starts_one, starts_made, starts_then, starts_judged}
 use Rattle.text_tokens.proofs.Repeating.{at_most_elements, part_repeated}
 use Rattle.text_tokens.proofs.Distinguishing.{sample, passes, other_text, starts_numeral}
 use Rattle.amoebot_state.specs.declared.bot.Port.{Port}
@@ -55,24 +55,13 @@ not_either a b c t f g e = by (a t) refl e
     by true h k = f h
     by false h k = g k
 
-left_true : (a b : Bool) → a ≡ true → (a || b) ≡ true
-left_true a b e = rw e refl
-
-right_true : (a b : Bool) → b ≡ true → (a || b) ≡ true
-right_true true b e = refl
-right_true false b e = e
-
--- what begins one or the other of two
-begins_either : {A : Type 0} (P Q : Lang A) (a b : Lexeme → Bool) → StartsIn P a → StartsIn Q b → StartsIn (Either P Q) (λ t. a t || b t)
-begins_either P Q a b s r = starts_in_either P Q (λ t. a t || b t) (starts_in_more P a (λ t. a t || b t) (λ t e. left_true (a t) (b t) e) s) (starts_in_more Q b (λ t. a t || b t) (λ t e. right_true (a t) (b t) e) r)
-
 -- a text begins with the first token of one or the other
 pub starts_either : {A : Type 0} (P Q : Lang A) (a b : Lexeme → Bool) → Starts P a no_limit → Starts Q b no_limit → Starts (Either P Q) (λ t. a t || b t) no_limit
 starts_either {A} P Q a b s r = record { begins = begins; each = λ t e. each t (a t) refl e }
   where
     begins : (xs : List Symbol) (x : A) → Either P Q xs x → BeginsWith (λ t. a t || b t) no_limit xs
-    begins xs x (of_first is) = let i = s.begins xs x is in record { t = i.t; more = i.more; parts = i.parts; passes = left_true (a i.t) (b i.t) i.passes }
-    begins xs x (of_second is) = let i = r.begins xs x is in record { t = i.t; more = i.more; parts = i.parts; passes = right_true (a i.t) (b i.t) i.passes }
+    begins xs x (of_first is) = let i = s.begins xs x is in record { t = i.t; more = i.more; parts = i.parts; passes = or_left (a i.t) (b i.t) i.passes }
+    begins xs x (of_second is) = let i = r.begins xs x is in record { t = i.t; more = i.more; parts = i.parts; passes = or_right (a i.t) (b i.t) i.passes }
 
     each : (t : Lexeme) (x : Bool) → a t ≡ x → (x || b t) ≡ true → SomeFrom (Either P Q) (symbol t None)
     each t true f e = let i = s.each t f in record { more = i.more; whole = i.whole; is = of_first i.is }

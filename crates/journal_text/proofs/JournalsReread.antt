@@ -15,7 +15,7 @@ use Rattle.text_tokens.specs.Text.{Lexeme, is_letter, is_word_byte}
 use Rattle.text_tokens.specs.Cursor.{is_the}
 use Rattle.text_tokens.specs.Lines.{Words}
 use Rattle.text_tokens.specs.Reading.{value, no_limit, too_large, less}
-use Rattle.text_tokens.specs.Grammar.{Symbol, Lang, Then, then, Made, made, IsThe, Either, of_first, is_nothing, Limited, in_limit, Repeated, no_more, AtMost}
+use Rattle.text_tokens.specs.Grammar.{Symbol, Lang, Then, then, Made, made, IsThe, of_first, is_nothing, Limited, in_limit, Repeated, no_more, AtMost}
 use Rattle.text_tokens.proofs.Blanks.{and_true}
 use Rattle.text_tokens.proofs.PrintedTokens.{kind_of, AreSpelled, none_printed, word_printed, IsOneToken, word_is_token, sign_is_token, word_kind, minus_printed}
 use Rattle.amoebot_state.specs.declared.bot.Bot.{Bot}

@@ -10,7 +10,6 @@ use Rattle.std.proofs.lemmas.Option.{slice_get_within, get_or_from_slice_get}
 use Rattle.journal_text.specs.declared.journal.WrittenPair.{WrittenPair}
 use Rattle.journal_text.specs.Journals.{ids_of_pair}
 use Rattle.journal_text.specs.Views as view
-use Rattle.text_tokens.proofs.NextLines.{take_next}
 
 module _ (bots : ℕ) where
   abbrev is_there : ℕ → Bool
@@ -30,9 +29,6 @@ module _ (bots : ℕ) where
   one_there : (p : WrittenPair) → all_there (p ∷ []) ≡ there p
   one_there p = ap (list_all is_there) (append-nil (ids_of_pair (view.pair p)))
 
-  pub known_more : (ps : List WrittenPair) (i : ℕ) (p : WrittenPair) → slice_get ps i ≡ Some p → all_there (take i ps) ≡ true → there p ≡ true → all_there (take (i + 1) ps) ≡ true
-  known_more ps i p at e f = ap all_there (take_next ps i p at) ∙ all_there-append (take i ps) (p ∷ []) ∙ rw (e, one_there p, f) refl
-
   not_both : (a b c : Bool) → b ≡ false → (a && (b && c)) ≡ false
   not_both true b c e = rw e refl
   not_both false b c e = refl
@@ -41,10 +37,6 @@ module _ (bots : ℕ) where
   unknown ps i p at e =
       let whole = split_at ps i p (slice_get_within ps i p at) ∙ ap (λ q. take i ps ++ q ∷ drop (suc i) ps) (get_or_from_slice_get ps i p p at) in
       ap all_there whole ∙ all_there-append (take i ps) (p ∷ drop (suc i) ps) ∙ ap (λ b. all_there (take i ps) && b) (all_there-append (p ∷ []) (drop (suc i) ps)) ∙ not_both (all_there (take i ps)) (all_there (p ∷ [])) (all_there (drop (suc i) ps)) (one_there p ∙ e)
-
-  -- the pairs so far, with the next one
-  pub pairs_next : (ps : List WrittenPair) (i : ℕ) (p : WrittenPair) → slice_get ps i ≡ Some p → map view.pair (take (i + 1) ps) ≡ map view.pair (take i ps) ++ view.pair p ∷ []
-  pairs_next ps i p at = ap (map view.pair) (take_next ps i p at) ∙ map-append view.pair (take i ps) (p ∷ [])
 
 -- a test that gave none was false
 pub gave_none : {X : Type 0} (b : Bool) (x : X) (r : Option X) → r ≡ (if b then Some x else None) → r ≡ None → b ≡ false

@@ -8,7 +8,7 @@ use Rattle.text_tokens.specs.declared.refusal.RefusalKind.TheVariants.{BadRange}
 use Rattle.text_tokens.specs.Text.{Lexeme}
 use Rattle.text_tokens.specs.Cursor.{same_kind}
 use Rattle.text_tokens.specs.Reading.{Reader, ◌>>=◌, pure, is_number, too_large, no_limit, closed, either}
-use Rattle.text_tokens.specs.Grammar.{Lang, Then, Made, IsThe, Closed, Either, of_first, of_second}
+use Rattle.text_tokens.specs.Grammar.{Lang, Then, Made, IsThe, Closed, Either}
 use Rattle.text_tokens.specs.Lawful.{IsPart, Starts, StartsIn, HasTokens, always}
 use Rattle.text_tokens.proofs.Carrying.{part_made}
 use Rattle.text_tokens.proofs.Parts.{some_text, part_behind, part_closed}
@@ -42,11 +42,6 @@ one_of_two {P = P} {Q = Q} {p = p} {q = q} starts other over s within some diffe
   differ = λ xs a t is e. differ t (within xs a t is e);
   ends = λ xs a t is e f. absurd (some xs a is e);
 })
-
--- with which tokens one of two begins
-pub some_either : {A : Type 0} (P Q : Lang A) → HasTokens P → HasTokens Q → HasTokens (Either P Q)
-some_either P Q p q xs a (of_first is) e = p xs a is e
-some_either P Q p q xs a (of_second is) e = q xs a is e
 
 -- a part that begins with this word
 pub starts_word : {B : Type 0} (text : List ℕ) (Q : ℕ → Lang B) (q : ℕ → Reader B) (stop : Lexeme → Bool) → ((line : ℕ) → IsPart (Q line) (q line) stop) → Starts (Then (IsWord text) Q) (word text) no_limit

@@ -9,9 +9,10 @@ use Rattle.amoebot_state.specs.declared.cell.Cell.TheVariants as cell
 use Rattle.amoebot_state.specs.Configs.{Config, IsValid, bot_at, bot_of, value}
 use Rattle.amoebot_state.specs.Zones.{zone}
 use Rattle.amoebot_state.proofs.Members.{Has, Contains-from_Has}
+use Rattle.amoebot_state.proofs.Options.{there_is}
 use Rattle.model_ops.specs.Laws.{KeepsRest, ReachedKeepsRest}
 use Rattle.model_ops.specs.Reaches.{Acts, write_all, move, perform}
-use Rattle.model_ops.proofs.Told.{then_told, there_is, bot_is}
+use Rattle.model_ops.proofs.Told.{then_told, bot_is}
 use Rattle.model_ops.proofs.Moved.{Moves, movement}
 use Rattle.model_ops.proofs.Written.{Writes, all_written}
 

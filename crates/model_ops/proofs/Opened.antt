@@ -22,11 +22,11 @@ use Rattle.amoebot_state.proofs.Counts.{zone_has_at_most_nine_bodies}
 use Rattle.amoebot_state.proofs.ShownAlone.{spread_at, alone_own, alone_only, alone_shows, alone_valid}
 use Rattle.amoebot_state.proofs.Members.{Has, has_cases, not_in_none}
 use Rattle.amoebot_state.proofs.Occupants.{plain_bot}
+use Rattle.amoebot_state.proofs.Options.{there_is}
 use Rattle.model_ops.specs.declared.member.Member.{Member}
 use Rattle.model_ops.specs.WorkingCopies.{WorkingCopy, opened}
 use Rattle.model_ops.specs.Members.{IsBelow, AreRising, IsSite, body_found, body_now, config_found, config_now, copy_of, has_id, gathered}
 use Rattle.model_ops.proofs.Gathered.{Gathered, IsFresh, all_gathered, some_gathered, has_found}
-use Rattle.model_ops.proofs.Told.{there_is}
 
 -- a list of amoebots at ids ends with an amoebot
 some_with_id : (os : List (Option Bot)) (i : ℕ) (b : Bot) → length (with_id os i b) ≡ 0 → ⊥

@@ -1,9 +1,8 @@
 -- The difference that an activation makes is exact, and is the same on each configuration that shows the same.
-use Rattle.std.proofs.Common.{◌≡◌, ◌≢◌, ◌≤◌, ◌+◌, ◌*◌, ℕ, zero, suc, List, [], ◌∷◌, ◌++◌, length, map, false, ap, sym, ◌∙◌, refl, subst, inl, inr, arith, Option, Some, None}
+use Rattle.std.proofs.Common.{◌≡◌, ◌≢◌, ◌≤◌, ◌+◌, ◌*◌, ℕ, zero, suc, List, [], ◌∷◌, ◌++◌, length, map, ap, sym, ◌∙◌, refl, subst, inl, inr, arith, Option, Some, None}
 use Rattle.std.specs.Prelude.{is_some, IsSome, if◌then◌else◌}
 use Rattle.std.specs.Option.{option_map}
 use Rattle.std.specs.List.{All, Contains, filter_map, cons_option, range_with_len}
-use Rattle.std.proofs.lemmas.Bool.{false≢true}
 use Rattle.std.proofs.lemmas.List.{get_or_past}
 use Rattle.std.proofs.lemmas.List.Elements.{filter_map-append, All-contains}
 use Rattle.tri_lattice.specs.declared.node.Node.{Node}
@@ -21,6 +20,7 @@ use Rattle.amoebot_state.proofs.Members.{Has, All-from_Has, Contains-from_Has, H
 use Rattle.amoebot_state.proofs.Differences.{diff_leads}
 use Rattle.amoebot_state.proofs.ShownAlone.{alone_has}
 use Rattle.amoebot_state.proofs.Zones.{spot_node, spot_in_zone}
+use Rattle.amoebot_state.proofs.Options.{none_if}
 use Rattle.model_ops.specs.Reaches.{perform}
 use Rattle.model_ops.specs.Laws.{KeepsRest, ReachedDiffIsExact, ReachedLeadsAlso}
 use Rattle.model_ops.proofs.Alike.{ok_alike}
@@ -92,10 +92,6 @@ same_diff c c' d d' area size_c size_d alike =
     ∙ same_range (λ j. h (name.Body j)) 0 (length d.bots) (length c.bots) (λ j le. sym (alike (name.Body j)) ∙ past d d' size_d j (omega (arith, le))) (λ j le. past c c' size_c j (omega (arith, le)))
     ∙ sym (filter_map_map h name.Body (range_with_len 0 (length c.bots))))
     ∙ sym (filter_map-append h (spots c.area) (bodies (length c.bots)))
-
-none_if : {A : Type 0} (o : Option A) → is_some o ≡ false → o ≡ None
-none_if None e = refl
-none_if (Some x) e = absurd (false≢true (sym e))
 
 -- an amoebot that is not shown does not change
 unshown_stays : (c c' : Config) (i j : ℕ) → KeepsRest c i c' → bot_at (shown_alone (shown c i)) j ≡ None → value c' (name.Body j) ≡ value c (name.Body j)

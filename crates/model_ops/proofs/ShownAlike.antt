@@ -1,8 +1,8 @@
 -- Configurations that show the same agree, so an activation meets the same answers on them.
-use Rattle.std.proofs.Common.{◌≡◌, ◌∙◌, ℕ, List, [], ◌∷◌, true, false, ap, sym, refl, subst, inl, inr, Option, Some, None}
+use Rattle.std.proofs.Common.{◌≡◌, ◌∙◌, ℕ, List, [], ◌∷◌, true, ap, sym, refl, subst, inl, inr, Some, None}
 use Rattle.std.specs.Prelude.{is_some, IsSome}
 use Rattle.std.specs.Result.{result_err}
-use Rattle.std.proofs.lemmas.Bool.{cases_Bool, false≢true}
+use Rattle.std.proofs.lemmas.Bool.{cases_Bool}
 use Rattle.tri_lattice.specs.declared.node.Node.{Node}
 use Rattle.tri_lattice.specs.Extent.{Extent, index_of, is_in}
 use Rattle.amoebot_state.specs.declared.bot.Bot.{Bot}
@@ -13,10 +13,11 @@ use Rattle.amoebot_state.proofs.Directions.{beside_in_zone}
 use Rattle.amoebot_state.proofs.ShownAlone.{alone_own, alone_has, alone_only, alone_occupant}
 use Rattle.amoebot_state.proofs.Zones.{body_in_zone}
 use Rattle.amoebot_state.proofs.Occupants.{covered_in, occupant_covers, outside_empty}
+use Rattle.amoebot_state.proofs.Options.{there_is, none_if}
 use Rattle.model_ops.specs.Reaches.{Writing, Acts, write_all, move, perform}
 use Rattle.model_ops.specs.Operations.{write}
 use Rattle.model_ops.specs.Laws.{ShownMeetsTheSame}
-use Rattle.model_ops.proofs.Told.{there_is, bot_is, occupant_told}
+use Rattle.model_ops.proofs.Told.{bot_is, occupant_told}
 use Rattle.model_ops.proofs.KeepsRest.{own_there}
 use Rattle.model_ops.proofs.Alike.{both_alike}
 use Rattle.model_ops.proofs.Agrees.{Agrees, answers_alike, move_alike}
@@ -46,10 +47,6 @@ module _ (c d : Config) (i : ℕ) (valid : IsValid c) (valid_too : IsValid d) (h
 
   pub same_rest : d ≡ record c { bots = d.bots }
   same_rest = λ t. record { area = (same t).area; maxes = (same t).maxes; bots = d.bots }
-
-  none_if : {A : Type 0} (o : Option A) → is_some o ≡ false → o ≡ None
-  none_if None e = refl
-  none_if (Some x) e = absurd (false≢true (sym e))
 
   same_spots : (v : Node) → Seen c i v → occupant d v ≡ occupant c v
   same_spots v seen = elim (cases_Bool (is_in c.area v)) [

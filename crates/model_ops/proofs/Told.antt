@@ -1,9 +1,8 @@
 -- What a success tells of the conditions before it, and amoebots that are there.
 use Rattle.std.proofs.Common.{◌≡◌, ℕ, Bool, true, false, ap, sym, ◌∙◌, refl, Option, Some, None}
-use Rattle.std.specs.Prelude.{IsSome, unwrap_or}
+use Rattle.std.specs.Prelude.{unwrap_or}
 use Rattle.std.specs.declared.result.Result.{Result}
 use Rattle.std.specs.declared.result.Result.TheVariants.{Ok, Err}
-use Rattle.std.proofs.lemmas.Bool.{false≢true}
 use Rattle.tri_lattice.specs.declared.node.Node.{Node}
 use Rattle.amoebot_state.specs.declared.bot.Bot.{Bot}
 use Rattle.amoebot_state.specs.declared.verdict.Failure.{Failure}
@@ -27,11 +26,6 @@ then_told (Err f) next y e = absurd (cc)
 
 pub ok_told : {A : Type 0} {x y : A} → (let r : Result A Failure = Ok x in r) ≡ Ok y → x ≡ y
 ok_told e = cc
-
--- the amoebot with an id that is there
-pub there_is : (o : Option Bot) → IsSome o → (b : Bot) × (o ≡ Some b)
-there_is None t = absurd (false≢true t)
-there_is (Some b) t = (b, refl)
 
 pub bot_is : (c : Config) (i : ℕ) (b : Bot) → bot_at c i ≡ Some b → bot_of c i ≡ b
 bot_is c i b at = ap (λ o. unwrap_or o blank) at

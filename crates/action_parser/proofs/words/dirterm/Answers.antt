@@ -4,7 +4,7 @@ use Rattle.text_tokens.specs.Reading.{one}
 use Rattle.action_grammar.specs.declared.role.Role.TheVariants as role
 use Rattle.action_grammar.specs.Roles.{is_a, same_role, as_literal, as_name, as_dirterm}
 use Rattle.action_parser.proofs.Tokens.{left_reads, right_reads, left_fails, right_fails, taken, untaken}
-use Rattle.action_parser.proofs.RoleFacts.{other_role}
+use Rattle.action_grammar.proofs.Playing.{other_role}
 use Rattle.action_tree.specs.Trees.{fixed, held}
 use Rattle.action_tree.specs.Views.{literal_of, name_of}
 use Rattle.action_parser.proofs.words.dirterm.Goals as goal
@@ -36,4 +36,4 @@ returns-in_ok-name c =
     let now = c.args.tokens.now in
     let v = name_of c.in_ok-name.field-0 in
     let x = taken (one (is_a role.AName)) as_name now c.name.new.tokens v c.in_ok-name.ensures in
-    right_reads (is_a role.ANumber) (is_a role.AName) as_dirterm now c.name.new.tokens x.part (held v) (sym c.is_next.ensures ∙ c.if-is_next.false) x.reads (λ e. rw (other_role role.AName role.ANumber x.part e refl) (ap held x.is))
+    right_reads (is_a role.ANumber) (is_a role.AName) as_dirterm now c.name.new.tokens x.part (held v) (sym c.is_next.ensures ∙ c.if-is_next.false) x.reads (λ e. rw (other_role role.AName role.ANumber x.part refl e) (ap held x.is))

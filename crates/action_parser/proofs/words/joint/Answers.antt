@@ -4,7 +4,7 @@ use Rattle.text_tokens.specs.Steps.{lexeme_of}
 use Rattle.action_grammar.specs.declared.role.Role.TheVariants as role
 use Rattle.action_grammar.specs.Roles.{is_a, same_role}
 use Rattle.action_parser.proofs.Tokens.{left_reads, right_reads, left_fails, right_fails}
-use Rattle.action_parser.proofs.RoleFacts.{other_role}
+use Rattle.action_grammar.proofs.Playing.{other_role}
 use Rattle.action_parser.proofs.words.joint.Goals as goal
 
 pub returns-in_err-token : goal.returns-in_err-token
@@ -16,7 +16,7 @@ pub returns-in_ok-token : goal.returns-in_ok-token
 unfolding same_role
 returns-in_ok-token c =
     let t = lexeme_of c.args.tokens.now.source c.in_ok-token.field-0 in
-    left_reads (is_a role.PlusSign) (is_a role.MinusSign) (is_a role.MinusSign) c.args.tokens.now c.token.new.tokens t false (sym c.is_next.ensures ∙ c.if-is_next.true) c.in_ok-token.ensures.reads (λ e. other_role role.PlusSign role.MinusSign t e refl)
+    left_reads (is_a role.PlusSign) (is_a role.MinusSign) (is_a role.MinusSign) c.args.tokens.now c.token.new.tokens t false (sym c.is_next.ensures ∙ c.if-is_next.true) c.in_ok-token.ensures.reads (λ e. other_role role.PlusSign role.MinusSign t refl e)
 
 pub returns-in_err-token-2 : goal.returns-in_err-token-2
 returns-in_err-token-2 c =

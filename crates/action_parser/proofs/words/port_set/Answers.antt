@@ -4,7 +4,7 @@ use Rattle.text_tokens.specs.Steps.{lexeme_of}
 use Rattle.action_grammar.specs.declared.role.Role.TheVariants as role
 use Rattle.action_grammar.specs.Roles.{is_a, same_role, as_set}
 use Rattle.action_parser.proofs.Tokens.{left_reads, right_reads, left_fails, right_fails}
-use Rattle.action_parser.proofs.RoleFacts.{other_role}
+use Rattle.action_grammar.proofs.Playing.{other_role}
 use Rattle.action_tree.specs.declared.expression.PortSet.TheVariants.{Ports, Free}
 use Rattle.action_parser.proofs.words.port_set.Goals as goal
 
@@ -17,7 +17,7 @@ pub returns-in_ok-token : goal.returns-in_ok-token
 unfolding same_role
 returns-in_ok-token c =
     let t = lexeme_of c.args.tokens.now.source c.in_ok-token.field-0 in
-    left_reads (is_a role.PortsWord) (is_a role.FreeWord) as_set c.args.tokens.now c.token.new.tokens t Ports (sym c.is_next.ensures ∙ c.if-is_next.true) c.in_ok-token.ensures.reads (λ e. rw (other_role role.PortsWord role.FreeWord t e refl) refl)
+    left_reads (is_a role.PortsWord) (is_a role.FreeWord) as_set c.args.tokens.now c.token.new.tokens t Ports (sym c.is_next.ensures ∙ c.if-is_next.true) c.in_ok-token.ensures.reads (λ e. rw (other_role role.PortsWord role.FreeWord t refl e) refl)
 
 pub returns-in_err-token-2 : goal.returns-in_err-token-2
 returns-in_err-token-2 c =
