@@ -109,12 +109,7 @@ pub fn run<R: Threads + Wait + Sync, S: Source, K: Sink, G: Gate>(
 }
 
 /// What `run` does, which needs no handle.
-fn end<S: Source, K: Sink>(
-    alloc: Global,
-    words: &[String],
-    input: &mut S,
-    out: &mut K,
-) -> Ended
+fn end<S: Source, K: Sink>(alloc: Global, words: &[String], input: &mut S, out: &mut K) -> Ended
     ensures ending { IsEnding (command_of (map string_bytes words.now))
         (IsReading S.left S.gives S.fails S.faults (limit_for (command_of (map string_bytes words.now))) input.old input.new)
         (WritesAll K.written K.takes out.old out.new)

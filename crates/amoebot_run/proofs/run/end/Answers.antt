@@ -26,7 +26,7 @@ returns-in-Err-TooLong-clause-ending g c =
     let reads = subst (λ (p : ReadError × ℕ). ReadsUpTo g.S.Source.left g.S.Source.gives g.S.Source.fails p.1 p.0 c.args.input.now c.read_document.new.source got.0) (λ i. (c.in-Err-TooLong.field-0-is i, c.limit.ensures i)) got.1 in
     at_command (λ limit. IsReading g.S.Source.left g.S.Source.gives g.S.Source.fails g.S.Source.faults limit c.args.input.now c.read_document.new.source) _ _ c.in-Some.ensures
     (ending_of (above got.0) (status.Refused too_long) None (refusal_line too_long) _ reads (longer c.in-Some.command got.0)
-        (subst (λ line. IsWritten g.K.Sink.written g.K.Sink.takes g.K.Sink.fails g.K.Sink.faults c.args.out.now c.end_with_line-in-Err-TooLong.new.out (status.Refused too_long) None line c.end_with_line-in-Err-TooLong.result) too_long_line c.end_with_line-in-Err-TooLong.ensures.written))
+    (subst (λ line. IsWritten g.K.Sink.written g.K.Sink.takes g.K.Sink.fails g.K.Sink.faults c.args.out.now c.end_with_line-in-Err-TooLong.new.out (status.Refused too_long) None line c.end_with_line-in-Err-TooLong.result) too_long_line c.end_with_line-in-Err-TooLong.ensures.written))
 
 pub returns-in-Err-NoMemory-clause-ending : goal.returns-in-Err-NoMemory-clause-ending
 returns-in-Err-NoMemory-clause-ending g c =
