@@ -76,4 +76,5 @@ module _ {D : Type 0} (verdict : D → Shown → Verdict) where
     pub caller : caller_of answer ≡ number_in old
     pub turn : turn_of answer ≡ (doing old).turn
     pub so : IsSo old new answer
+    pub number : number_in new ≡ number_in old
     pub gains : doing new ≡ at_next (about verdict old.view) (doing old).turn ((doing old).marks ++ mark_of answer ∷ [])

@@ -24,7 +24,8 @@ pub fn activate<R: Wait, D: Decider, G: Gate>(
     requires field { IsOf field.now seat }
     requires turn { (turn ≡ (doing seat).turn) × (turn < (about D.verdict seat.view).lists.turns) }
     requires bot { bot ≡ bot_in D.verdict seat.view }
-    ensures { HasAnswered D.verdict seat result.0 result.1 }
+    ensures answer { HasAnswered D.verdict seat result.0 result.1 }
+    ensures field { IsOf field.now result.0 }
 {
     let caller = seat.caller();
     let mut claimed = match try_claim(seat, field, turn, bot) {
