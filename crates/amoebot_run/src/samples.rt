@@ -114,7 +114,7 @@ const DRAGGED_FINAL: &str = "final\narea 0 0 8 8\nbot 3 3 3 3 0 + 0\nbot 2 3 1 3
 // ---- what is answered
 
 /// Runs of the turns of at most one list, of which some fail.
-pub static RUNS: [Row; 13] = [
+pub static RUNS: [Row; 14] = [
     // An amoebot expands, and then it is idle.
     (
         "run",
@@ -283,6 +283,22 @@ pub static RUNS: [Row; 13] = [
             NO_ENTRY,
             "final\narea 0 0 8 8\nbot 2 3 2 3 0 + 0\nend\n",
             "turns\nturn 0 0 failed out_of_range 0\nend\n",
+        ],
+    ),
+    // It marks itself once, and has nothing to do in its other turns.
+    (
+        "run",
+        &[
+            MARK,
+            "shape\narea 0 0 8 8\nbot 2 3 2 3 0 + 0\nend\n",
+            "lists\nturns 4\nlist 0\nend\n",
+        ],
+        Done,
+        Some(1),
+        &[
+            "journal\nentry 0 0 0 0 0 none body 0 2 3 2 3 0 + 1\nend\n",
+            "final\narea 0 0 8 8\nbot 2 3 2 3 0 + 1\nend\n",
+            "turns\nturn 0 0 done 0\nturn 0 1 idle 1\nturn 0 2 idle 1\nturn 0 3 idle 1\nend\n",
         ],
     ),
     // Two lists wait for threads.
