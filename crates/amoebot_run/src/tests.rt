@@ -3,7 +3,9 @@ ghost use Rattle.std.specs.declared.option.Option.{Option};
 
 use crate::gate::NoGate;
 use crate::run::{Ended, run, run_text};
-use crate::samples::{COMPARED_AND_CHECKED, FAULTS, Fault, INTERLEAVINGS, RUNS, Row};
+use crate::samples::{
+    COMPARED_AND_CHECKED, FAULTS, Fault, INTERLEAVINGS, RUNS, Row, WHOLE_PROGRAMS,
+};
 use arrayvec::ArrayVec;
 use command_answers::Status;
 use outer_io::{Failed, Sink, Source, SureSink, SureSource};
@@ -141,6 +143,12 @@ fn lists_are_run(rt: HostRuntime) -> Result<(), Fail> {
 #[test]
 fn schedules_are_followed(rt: HostRuntime) -> Result<(), Fail> {
     check_rows(&rt, rt.alloc(), &INTERLEAVINGS)?;
+    Ok(())
+}
+
+#[test]
+fn whole_programs_are_run(rt: HostRuntime) -> Result<(), Fail> {
+    check_rows(&rt, rt.alloc(), &WHOLE_PROGRAMS)?;
     Ok(())
 }
 
