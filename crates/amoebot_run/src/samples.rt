@@ -452,6 +452,55 @@ pub static COMPARED_AND_CHECKED: [Row; 5] = [
     ),
 ];
 
+/// Shapes that are measured.
+pub static MEASURED: [Row; 5] = [
+    (
+        "measure",
+        &[OUT, ONE],
+        Done,
+        None,
+        &["bots 1\nconnected yes\nhexagon yes\n"],
+    ),
+    (
+        "measure",
+        &[OUT, "shape\narea 0 0 8 8\nend\n"],
+        Done,
+        None,
+        &["bots 0\nconnected yes\nhexagon no\n"],
+    ),
+    (
+        "measure",
+        &[OUT, FAR],
+        Done,
+        None,
+        &["bots 2\nconnected no\nhexagon no\n"],
+    ),
+    // The last shape counts, in which the amoebot is expanded.
+    (
+        "measure",
+        &[
+            OUT,
+            ONE,
+            EXPANDED,
+            "final\narea 0 0 8 8\nbot 3 3 2 3 0 +\nend\n",
+        ],
+        Done,
+        None,
+        &["bots 1\nconnected yes\nhexagon no\n"],
+    ),
+    // Three that touch each other are a hexagon: one, and two of its ring in a row.
+    (
+        "measure",
+        &[
+            OUT,
+            "shape\narea 0 0 8 8\nbot 3 3 3 3 0 +\nbot 4 3 4 3 0 +\nbot 3 4 3 4 0 +\nend\n",
+        ],
+        Done,
+        None,
+        &["bots 3\nconnected yes\nhexagon yes\n"],
+    ),
+];
+
 /// Programs of several actions, by one list or by two callers.
 pub static WHOLE_PROGRAMS: [Row; 4] = [
     // Two amoebots gather round a seed.

@@ -4,7 +4,7 @@ ghost use Rattle.std.specs.declared.option.Option.{Option};
 use crate::gate::NoGate;
 use crate::run::{Ended, run, run_text};
 use crate::samples::{
-    COMPARED_AND_CHECKED, FAULTS, Fault, INTERLEAVINGS, RUNS, Row, WHOLE_PROGRAMS,
+    COMPARED_AND_CHECKED, FAULTS, Fault, INTERLEAVINGS, MEASURED, RUNS, Row, WHOLE_PROGRAMS,
 };
 use arrayvec::ArrayVec;
 use command_answers::Status;
@@ -155,6 +155,12 @@ fn whole_programs_are_run(rt: HostRuntime) -> Result<(), Fail> {
 #[test]
 fn journals_are_compared_and_programs_printed(rt: HostRuntime) -> Result<(), Fail> {
     check_rows(&rt, rt.alloc(), &COMPARED_AND_CHECKED)?;
+    Ok(())
+}
+
+#[test]
+fn shapes_are_measured(rt: HostRuntime) -> Result<(), Fail> {
+    check_rows(&rt, rt.alloc(), &MEASURED)?;
     Ok(())
 }
 

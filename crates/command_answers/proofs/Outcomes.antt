@@ -9,7 +9,7 @@ use Rattle.command_answers.specs.Commands.{form_of}
 use Rattle.command_answers.specs.OfRun.{IsTextOfRun, IsForLater}
 use Rattle.command_answers.specs.OfInterleave.{IsTextOfInterleave}
 use Rattle.command_answers.specs.OfReplay.{IsDiffering}
-use Rattle.command_answers.specs.Owed.{IsTextOf, of_run, of_interleave, of_replay, of_check, usage, read_fault, longer, refused, later, differs, done}
+use Rattle.command_answers.specs.Owed.{IsTextOf, of_run, of_interleave, of_replay, of_check, of_measure, usage, read_fault, longer, refused, later, differs, done}
 use Rattle.command_answers.specs.Outcomes.{is_done, is_differing, is_for_later}
 use Rattle.command_answers.specs.Headline.{IsRunOfDocument}
 use Rattle.command_answers.specs.Laws.{DocumentsHaveOutcomes, ReportsAreOfTurns, ReportsAreOfDocuments}
@@ -32,6 +32,7 @@ reports_are_of_turns c read s report text (done d bytes a told v x (of_run r t y
 reports_are_of_turns c read s report text (done d bytes a told v x (of_interleave r t y)) = (λ some. (refl, inr refl), λ both. refl)
 reports_are_of_turns c read s report text (done d bytes a told v x (of_replay t y)) = (λ some. absurd (false≢true some), λ (is, makes). elim makes [ inl e ↦ cc | inr e ↦ cc ])
 reports_are_of_turns c read s report text (done d bytes a told v x (of_check t y)) = (λ some. absurd (false≢true some), λ (is, makes). elim makes [ inl e ↦ cc | inr e ↦ cc ])
+reports_are_of_turns c read s report text (done d bytes a told v x (of_measure t y)) = (λ some. absurd (false≢true some), λ (is, makes). elim makes [ inl e ↦ cc | inr e ↦ cc ])
 
 module _ (stays : GoodStaysConnected) where
   told_by_run : (bytes : List ℕ) (a : Contents) (report : Report) (text : List ℕ) → Holds form.Run bytes a → IsTextOfRun a report text → IsRunOfDocument form.Run bytes report text

@@ -13,14 +13,16 @@ use Rattle.command_runs.specs.Run.{IsRunReport}
 use Rattle.command_runs.specs.Interleave.{IsInterleaveReport}
 use Rattle.command_runs.specs.Replay.{Agrees, DiffersAt, agrees_line, differs_line}
 use Rattle.command_runs.specs.Check.{check_text}
+use Rattle.command_runs.specs.Measure.{IsMeasureText}
+use Rattle.command_answers.specs.OfMeasure.{last_shape}
 use Rattle.command_answers.specs.declared.answering.Answer.{Answer}
 use Rattle.command_answers.specs.declared.command.Command.{Command}
-use Rattle.command_answers.specs.declared.command.Command.TheVariants.{Run, Interleave, Replay, Check}
+use Rattle.command_answers.specs.declared.command.Command.TheVariants.{Run, Interleave, Replay, Check, Measure}
 use Rattle.command_answers.specs.declared.status.Status.TheVariants as status
 use Rattle.command_answers.specs.Commands.{form_of}
 use Rattle.command_answers.specs.Lines.{not_yet}
 use Rattle.command_answers.specs.Reads.{whole}
-use Rattle.command_answers.specs.Owed.{IsOwed, of_run, of_interleave, of_replay, of_check, refused, later, differs, done}
+use Rattle.command_answers.specs.Owed.{IsOwed, of_run, of_interleave, of_replay, of_check, of_measure, refused, later, differs, done}
 use Rattle.command_answers.specs.Answers.{IsAnswerTo, done_with, refused_with}
 
 -- an answer that is another one
@@ -56,3 +58,6 @@ module _ (a : Contents) (text : List ℕ) where
 
   pub is_checked : (p : Program) → a.checked ≡ Some p → text ≡ check_text p → IsAnswerTo Check a (record { status = status.Done; report = None; text = text })
   is_checked p its_program is bytes h = done Check bytes a None text h (of_check text (record { program = p; its_program = its_program; writes = is }))
+
+  pub is_measured : (last : Config) → last_shape a ≡ Some last → IsMeasureText last text → IsAnswerTo Measure a (record { status = status.Done; report = None; text = text })
+  is_measured last is measures bytes h = done Measure bytes a None text h (of_measure text (record { last = last; its_last = is; writes = measures }))

@@ -16,7 +16,8 @@ use Rattle.command_runs.specs.Run.{IsRunText}
 use Rattle.command_runs.specs.Interleave.{IsInterleaveText}
 use Rattle.command_runs.specs.Replay.{agrees_line, differs_line, DiffersAt}
 use Rattle.command_runs.specs.Check.{check_text}
-use Rattle.command_runs.specs.Laws.{RunTextIsOne, InterleaveTextIsOne, ReplayIsDecided}
+use Rattle.command_runs.specs.Measure.{IsMeasureText}
+use Rattle.command_runs.specs.Laws.{RunTextIsOne, InterleaveTextIsOne, ReplayIsDecided, MeasureTextIsOne}
 use Rattle.command_answers.specs.declared.command.Command.{Command}
 use Rattle.command_answers.specs.declared.command.Command.TheVariants.{Run, Replay}
 use Rattle.command_answers.specs.declared.status.Status.TheVariants as status
@@ -24,7 +25,7 @@ use Rattle.command_answers.specs.Lines.{refusal_line}
 use Rattle.command_answers.specs.OfRun.{IsTextOfRun, IsForLater}
 use Rattle.command_answers.specs.OfInterleave.{IsTextOfInterleave}
 use Rattle.command_answers.specs.OfReplay.{HasJournal, IsDiffering}
-use Rattle.command_answers.specs.Owed.{IsTextOf, of_run, of_interleave, of_replay, of_check, usage, read_fault, longer, refused, later, differs, done}
+use Rattle.command_answers.specs.Owed.{IsTextOf, of_run, of_interleave, of_replay, of_check, of_measure, usage, read_fault, longer, refused, later, differs, done}
 use Rattle.command_answers.specs.Laws.{SameIfAny, OwedIsOne}
 
 same_one : {A : Type 0} {o : Option A} (x y : A) → o ≡ Some x → o ≡ Some y → x ≡ y
@@ -45,7 +46,7 @@ module _ (documents : DocumentsAreDecided) where
   pub not_both : (form : Form) (bytes : List ℕ) (a : Contents) (r : Refusal) → Holds form bytes a → IsRefused form bytes r → ⊥
   not_both form bytes a r x y = let o : Result Contents Refusal = Ok a in let p : Result Contents Refusal = Err r in let e : o ≡ p = (documents form).one bytes o p x y in cc
 
-module _ (documents : DocumentsAreDecided) (runs : RunTextIsOne) (interleaves : InterleaveTextIsOne) (replays : ReplayIsDecided) where
+module _ (documents : DocumentsAreDecided) (runs : RunTextIsOne) (interleaves : InterleaveTextIsOne) (replays : ReplayIsDecided) (measures : MeasureTextIsOne) where
   run_is_one : (a : Contents) (one two : Report) (text other : List ℕ) → IsTextOfRun a one text → IsTextOfRun a two other → IsOne (Some one) (Some two) text other
   run_is_one a one two text other x y =
       let program = same_one y.program x.program y.its_program x.its_program in
@@ -70,6 +71,7 @@ module _ (documents : DocumentsAreDecided) (runs : RunTextIsOne) (interleaves : 
   text_is_one a c one two text other (of_interleave r t x) (of_interleave q u y) = interleave_is_one a r q t u x y
   text_is_one a c one two text other (of_replay t x) (of_replay u y) = record { report = tt; text = x.writes.whole ∙ ap (λ (es : List Entry). agrees_line (length es)) (same_one x.entries y.entries x.has.its_journal y.has.its_journal) ∙ sym y.writes.whole }
   text_is_one a c one two text other (of_check t x) (of_check u y) = record { report = tt; text = x.writes ∙ ap check_text (same_one x.program y.program x.its_program y.its_program) ∙ sym y.writes }
+  text_is_one a c one two text other (of_measure t x) (of_measure u y) = record { report = tt; text = measures x.last t u x.writes (subst (λ (last : Config). IsMeasureText last u) (same_one y.last x.last y.its_last x.its_last) y.writes) }
 
   -- what is for later is not done
   not_done : (a : Contents) (report : Option Report) (text : List ℕ) → IsForLater a → IsTextOf a Run report text → ⊥

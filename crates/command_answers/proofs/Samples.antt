@@ -25,11 +25,13 @@ use Rattle.command_runs.specs.Reports.{setup}
 use Rattle.command_runs.specs.Run.{IsRunReport}
 use Rattle.command_runs.specs.Interleave.{IsScheduled, IsInterleaveReport}
 use Rattle.command_runs.specs.Replay.{at_end}
+use Rattle.command_runs.specs.Samples.{nobody}
+use Rattle.command_runs.proofs.Measures.{nobody_is_measured}
 use Rattle.command_runs.proofs.SmallRow.{is_area, plain, one_id, IsThereIn}
-use Rattle.command_answers.specs.declared.command.Command.TheVariants.{Run, Interleave, Replay, Check}
+use Rattle.command_answers.specs.declared.command.Command.TheVariants.{Run, Interleave, Replay, Check, Measure}
 use Rattle.command_answers.specs.OfReplay.{HasJournal}
-use Rattle.command_answers.specs.Owed.{of_run, of_interleave, of_replay, of_check, usage, read_fault, longer, refused, later, differs, done}
-use Rattle.command_answers.specs.Samples.{program_text, with_shape, with_list, with_two_lists, with_schedule, journal_text, spread_text, still_text, out, start, spread, one_list, two_lists, schedule, expansion, only_program, and_list, and_two_lists, and_schedule, and_journal, told, told_text, empty_refused, SmallAnswers}
+use Rattle.command_answers.specs.Owed.{of_run, of_interleave, of_replay, of_check, of_measure, usage, read_fault, longer, refused, later, differs, done}
+use Rattle.command_answers.specs.Samples.{program_text, with_shape, with_nobody, with_list, with_two_lists, with_schedule, journal_text, spread_text, still_text, out, start, spread, one_list, two_lists, schedule, expansion, only_program, and_nobody, and_list, and_two_lists, and_schedule, and_journal, told, told_text, empty_refused, SmallAnswers}
 use Rattle.command_answers.proofs.SmallDocuments.{says, are_answered}
 
 abbrev g : Setup
@@ -97,4 +99,5 @@ module _ (goods : ReachedIsGood) (serials : OneListIsSerial) where
     agrees = done Replay (with_shape ++ journal_text ++ spread_text) (and_journal spread) None (codes "agrees 1\n") (says form.Replay (with_shape ++ journal_text ++ spread_text) (Ok (and_journal spread)) are_answered.journal) (of_replay (codes "agrees 1\n") (record { program = out; start = start; entries = expansion ∷ []; final = spread; has = has spread; writes = record { agrees = good.run; whole = refl } }));
     differs = differs (with_shape ++ journal_text ++ still_text) (and_journal start) 1 (says form.Replay (with_shape ++ journal_text ++ still_text) (Ok (and_journal start)) are_answered.other_final) (record { program = out; start = start; entries = expansion ∷ []; final = start; has = has start; differs = at_end spread good.run (λ same. let e = ap (λ (c : Config). occupant c (node 2)) same in cc) });
     check = done Check program_text only_program None _ (says form.Check program_text (Ok only_program) are_answered.program) (of_check _ (record { program = out; its_program = refl; writes = refl }));
+    measure = done Measure with_nobody and_nobody None _ (says form.Measure with_nobody (Ok and_nobody) are_answered.nobody) (of_measure _ (record { last = nobody; its_last = refl; writes = nobody_is_measured }));
   }

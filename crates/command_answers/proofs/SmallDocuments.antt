@@ -22,7 +22,7 @@ use Rattle.document_grammar.specs.FrameReaders.{rest_at, header, in_frame}
 use Rattle.document_grammar.specs.Documents.{Contents, IsDocument, Says}
 use Rattle.document_grammar.specs.DocumentReaders.{a_checked_program, body, document}
 use Rattle.document_grammar.proofs.Deciding.{document_framed, says_of}
-use Rattle.command_answers.specs.Samples.{program_text, with_shape, with_list, with_two_lists, with_schedule, journal_text, spread_text, still_text, start, spread, only_program, and_list, and_two_lists, and_schedule, and_journal, empty_refused}
+use Rattle.command_answers.specs.Samples.{program_text, with_shape, with_nobody, with_list, with_two_lists, with_schedule, journal_text, spread_text, still_text, start, spread, only_program, and_nobody, and_list, and_two_lists, and_schedule, and_journal, empty_refused}
 
 abbrev pub answer_of : Form → List ℕ → Result Contents Refusal
 answer_of form text = whole_input Trailing (document form) (last_of (point text 0)) (ahead_of (point text 0))
@@ -41,7 +41,8 @@ pub record AreAnswered : Type 0 where
   pub journal : answer_of form.Replay (with_shape ++ journal_text ++ spread_text) ≡ Ok (and_journal spread)
   pub other_final : answer_of form.Replay (with_shape ++ journal_text ++ still_text) ≡ Ok (and_journal start)
   pub program : answer_of form.Check program_text ≡ Ok only_program
+  pub nobody : answer_of form.Measure with_nobody ≡ Ok and_nobody
 
 pub are_answered : AreAnswered
 unfolding same_kind same_role role scan.skip scan.ready scan.sign_len scan.front scan.scan scan.scan_end scan.ahead_of scan.last_of one_within the_line numeral either by_role limited times elements repeated a_selection a_port a_term a_minus a_sum a_unit a_conj an_expr inside an_if a_for a_stmt all_stmts stmts_inside a_move an_action a_var a_guarded a_program journal.an_int journal.a_node journal.an_end journal.a_chirality journal.a_port journal.a_bot journal.port_behind journal.end_behind journal.a_movement journal.a_cell journal.an_occupant journal.a_value journal.a_pair journal.all_pairs journal.the_numbers journal.entry_word journal.written journal.an_entry journal.entries_from journal.journal shape.a_side shape.an_area shape.bot_word shape.a_bot_line shape.bots_from shape.a_drawing shape.written shape.shape_under schedule.an_id schedule.ids_from schedule.all_ids schedule.list_word schedule.a_list schedule.lists_from schedule.all_lists schedule.some_turns schedule.the_lists schedule.a_caller schedule.number_of_times schedule.its_times schedule.any_times schedule.a_stretch schedule.stretches_from schedule.all_steps schedule.a_schedule a_checked_program body document rest_at header in_frame
-are_answered = record { empty = refl; list = refl; two_lists = refl; schedule = refl; journal = refl; other_final = refl; program = refl }
+are_answered = record { empty = refl; list = refl; two_lists = refl; schedule = refl; journal = refl; other_final = refl; program = refl; nobody = refl }

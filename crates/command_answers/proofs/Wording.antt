@@ -4,7 +4,7 @@ use Rattle.std.specs.Prelude.{if◌then◌else◌}
 use Rattle.std.specs.Str.{bytes_eq}
 use Rattle.std.proofs.lemmas.Slice.Eq.{bytes_eq-Decides}
 use Rattle.command_answers.specs.declared.command.Command.{Command}
-use Rattle.command_answers.specs.declared.command.Command.TheVariants.{Run, Interleave, Replay, Check}
+use Rattle.command_answers.specs.declared.command.Command.TheVariants.{Run, Interleave, Replay, Check, Measure}
 use Rattle.command_answers.specs.Commands.{word_of, named_in, commands, command_of}
 use Rattle.command_answers.specs.Laws.{CommandIsItsWord}
 
@@ -23,6 +23,7 @@ own Run = refl
 own Interleave = refl
 own Replay = refl
 own Check = refl
+own Measure = refl
 
 one_word : (words : List (List ℕ)) (c : Command) → command_of words ≡ Some c → words ≡ word_of c ∷ []
 one_word [] c e = absurd (cc)

@@ -6,7 +6,7 @@ use Rattle.std.specs.Str.{bytes_eq}
 use Rattle.document_grammar.specs.declared.section.Form.{Form}
 use Rattle.document_grammar.specs.declared.section.Form.TheVariants as form
 use Rattle.command_answers.specs.declared.command.Command.{Command}
-use Rattle.command_answers.specs.declared.command.Command.TheVariants.{Run, Interleave, Replay, Check}
+use Rattle.command_answers.specs.declared.command.Command.TheVariants.{Run, Interleave, Replay, Check, Measure}
 use Rattle.command_answers.specs.declared.status.Status.{Status}
 use Rattle.command_answers.specs.declared.status.Status.TheVariants as status
 
@@ -16,6 +16,7 @@ word_of Run = codes "run"
 word_of Interleave = codes "interleave"
 word_of Replay = codes "replay"
 word_of Check = codes "check"
+word_of Measure = codes "measure"
 
 -- the first of some commands that has this word
 abbrev pub named_in : List Command → List ℕ → Option Command
@@ -23,7 +24,7 @@ named_in [] word = None
 named_in (c ∷ cs) word = if bytes_eq (word_of c) word then Some c else named_in cs word
 
 abbrev pub commands : List Command
-commands = Run ∷ Interleave ∷ Replay ∷ Check ∷ []
+commands = Run ∷ Interleave ∷ Replay ∷ Check ∷ Measure ∷ []
 
 -- the command that the words are: one word, which is a command's
 abbrev pub command_of : List (List ℕ) → Option Command
@@ -37,6 +38,7 @@ form_of Run = form.Run
 form_of Interleave = form.Interleave
 form_of Replay = form.Replay
 form_of Check = form.Check
+form_of Measure = form.Measure
 
 -- the most bytes of a document: a mebibyte, and 128 of them where it may have a journal
 abbrev pub limit_of : Form → ℕ

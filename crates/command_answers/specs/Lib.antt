@@ -5,6 +5,7 @@ pub mod Laws
 pub mod Lines
 pub mod OfCheck
 pub mod OfInterleave
+pub mod OfMeasure
 pub mod OfReplay
 pub mod OfRun
 pub mod Outcomes

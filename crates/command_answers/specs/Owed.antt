@@ -8,7 +8,7 @@ use Rattle.document_grammar.specs.Documents.{Contents, Holds, IsRefused}
 use Rattle.document_grammar.specs.declared.section.Form.TheVariants as form
 use Rattle.command_runs.specs.Replay.{differs_line}
 use Rattle.command_answers.specs.declared.command.Command.{Command}
-use Rattle.command_answers.specs.declared.command.Command.TheVariants.{Run, Interleave, Replay, Check}
+use Rattle.command_answers.specs.declared.command.Command.TheVariants.{Run, Interleave, Replay, Check, Measure}
 use Rattle.command_answers.specs.declared.status.Status.{Status}
 use Rattle.command_answers.specs.declared.status.Status.TheVariants as status
 use Rattle.command_answers.specs.Commands.{form_of}
@@ -18,6 +18,7 @@ use Rattle.command_answers.specs.OfRun.{IsTextOfRun, IsForLater}
 use Rattle.command_answers.specs.OfInterleave.{IsTextOfInterleave}
 use Rattle.command_answers.specs.OfReplay.{IsTextOfReplay, IsDiffering}
 use Rattle.command_answers.specs.OfCheck.{IsTextOfCheck}
+use Rattle.command_answers.specs.OfMeasure.{IsTextOfMeasure}
 
 -- the text of a command for a document, with the report that it tells, if it tells one
 pub data IsTextOf (a : Contents) : Command → Option Report → List ℕ → Type 0 where
@@ -25,6 +26,7 @@ pub data IsTextOf (a : Contents) : Command → Option Report → List ℕ → Ty
   of_interleave : (report : Report) (text : List ℕ) → IsTextOfInterleave a report text → IsTextOf a Interleave (Some report) text
   of_replay : (text : List ℕ) → IsTextOfReplay a text → IsTextOf a Replay None text
   of_check : (text : List ℕ) → IsTextOfCheck a text → IsTextOf a Check None text
+  of_measure : (text : List ℕ) → IsTextOfMeasure a text → IsTextOf a Measure None text
 
 -- what a call owes, by its command, if the words are one, and by what the input came to: the status, the report, and the text or line that is to
 -- be written

@@ -17,6 +17,7 @@ use Rattle.action_tree.specs.Trees as tree
 use Rattle.action_tree.specs.Trees.{Name, Literal, atom, through, expand, at_end, fixed, no_stmts}
 use Rattle.document_grammar.specs.Documents.{Contents}
 use Rattle.command_runs.specs.SmallRow.{row, zeros, node, bot_on, to_the_right}
+use Rattle.command_runs.specs.Samples.{nobody}
 use Rattle.command_answers.specs.declared.status.Status.TheVariants as status
 use Rattle.command_answers.specs.Commands.{command_of}
 use Rattle.command_answers.specs.Lines.{usage_line, too_long, not_yet}
@@ -30,6 +31,9 @@ program_text = codes "amoebot 1\nprogram\naction out when contracted move expand
 
 abbrev pub with_shape : List ℕ
 with_shape = program_text ++ codes "shape\narea 0 0 3 1\nbot 1 0 1 0 0 +\nend\n"
+
+abbrev pub with_nobody : List ℕ
+with_nobody = program_text ++ codes "shape\narea 0 0 3 1\nend\n"
 
 abbrev pub with_list : List ℕ
 with_list = with_shape ++ codes "lists\nturns 2\nlist 0\nend\n"
@@ -91,6 +95,9 @@ only_program = record { checked = Some out; world = None; lists = None; schedule
 abbrev pub and_shape : Contents
 and_shape = record only_program { world = Some start }
 
+abbrev pub and_nobody : Contents
+and_nobody = record only_program { world = Some nobody }
+
 abbrev pub and_list : Contents
 and_list = record and_shape { lists = Some one_list }
 
@@ -137,3 +144,4 @@ pub record SmallAnswers : Type 0 where
   -- the final shape is that of the start
   pub differs : IsOwed (command_of (codes "replay" ∷ [])) (whole (with_shape ++ journal_text ++ still_text)) (status.Differs 1) None (codes "differs 1\n")
   pub check : IsOwed (command_of (codes "check" ∷ [])) (whole program_text) status.Done None checked_text
+  pub measure : IsOwed (command_of (codes "measure" ∷ [])) (whole with_nobody) status.Done None (codes "bots 0\nconnected yes\nhexagon no\n")

@@ -1,20 +1,22 @@
 //! What a command answers to a whole input.
 
-ghost use Rattle.std.specs.Prelude.{◌≡◌, ◌<◌, ◌≤◌, ◌+◌, ◌^◌, length, IfOk, Some};
+ghost use Rattle.std.specs.Prelude.{◌≡◌, ◌<◌, ◌≤◌, ◌+◌, ◌^◌, length, IfOk, IsSome, Some};
 ghost use Rattle.document_grammar.specs.Fitting.{Fits};
 ghost use Rattle.shape_files.specs.Views.{contents};
 ghost use Rattle.command_answers.specs.Answers.{IsAnswerTo, done_with, refused_with};
 ghost use Rattle.command_answers.specs.Commands.{form_of};
+ghost use Rattle.command_answers.specs.OfMeasure.{last_of};
 ghost use Rattle.command_answers.specs.Owed.{IsOwed};
 ghost use Rattle.command_answers.specs.Reads.{whole};
 
 use crate::command::Command;
 use crate::status::Status;
 use action_eval::Runner;
-use amoebot_state::NoMemory;
+use amoebot_state::{NoMemory, World};
 use claim_core::Report;
 use command_runs::{
-    compare, print_agrees, print_check, print_differs, print_report, run_interleaved, run_serially,
+    compare, print_agrees, print_check, print_differs, print_measures, print_report,
+    run_interleaved, run_serially,
 };
 use document_grammar::documents_fit;
 use shape_files::{Parts, read_sections};
@@ -58,6 +60,7 @@ fn answer_document(alloc: Global, command: Command, parts: Parts) -> Result<Answ
         Command::Interleave => answer_interleave(alloc, parts),
         Command::Replay => answer_replay(alloc, parts),
         Command::Check => answer_check(alloc, parts),
+        Command::Measure => answer_measure(alloc, parts),
     }
 }
 
@@ -168,6 +171,36 @@ fn answer_check(alloc: Global, parts: Parts) -> Result<Answer, NoMemory>
         report: None,
         text,
     })
+}
+
+/// Its last shape is measured.
+fn answer_measure(alloc: Global, parts: Parts) -> Result<Answer, NoMemory>
+    requires { Fits (form_of Command.Measure) (contents parts) }
+    ensures { IfOk result (IsAnswerTo Command.Measure (contents parts)) }
+{
+    let Parts {
+        world,
+        final_world,
+        ..
+    } = parts;
+    let last = last_shape(world, final_world);
+    let text = print_measures(alloc, &last)?;
+    Ok(Answer {
+        status: Status::Done,
+        report: None,
+        text,
+    })
+}
+
+/// The shape at the end, if there is one, and else the one at the start.
+fn last_shape(world: Option<World>, final_world: Option<World>) -> World
+    requires { IsSome world }
+    ensures { last_of final_world world ≡ Some result }
+{
+    match final_world {
+        Some(last) => last,
+        None => world.unwrap(),
+    }
 }
 
 /// The answer that tells a report, where an amoebot has the values of so many variables.

@@ -15,6 +15,8 @@ pub enum Command {
     Replay,
     /// Writes the program of a document in its canonical form.
     Check,
+    /// Writes the measures of a document's last shape.
+    Measure,
 }
 
 impl Command {
@@ -27,6 +29,7 @@ impl Command {
             Command::Interleave => Form::Interleave,
             Command::Replay => Form::Replay,
             Command::Check => Form::Check,
+            Command::Measure => Form::Measure,
         }
     }
 
@@ -36,7 +39,7 @@ impl Command {
     {
         match self {
             Command::Run | Command::Interleave | Command::Check => 1_048_576,
-            Command::Replay => 134_217_728,
+            Command::Replay | Command::Measure => 134_217_728,
         }
     }
 }
@@ -59,6 +62,7 @@ fn of_word(word: &str) -> Option<Command>
         "interleave" => Some(Command::Interleave),
         "replay" => Some(Command::Replay),
         "check" => Some(Command::Check),
+        "measure" => Some(Command::Measure),
         _ => None,
     }
 }

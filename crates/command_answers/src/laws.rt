@@ -5,7 +5,8 @@ ghost use Rattle.command_answers.specs.Samples.{SmallAnswers};
 
 use claim_core::{one_list_is_serial, reached_is_good};
 use command_runs::{
-    good_stays_connected, interleave_text_is_one, replay_is_decided, run_text_is_one,
+    good_stays_connected, interleave_text_is_one, measure_text_is_one, replay_is_decided,
+    run_text_is_one,
 };
 use document_grammar::documents_are_decided;
 
@@ -22,6 +23,7 @@ pub fn owed_is_one()
     run_text_is_one();
     interleave_text_is_one();
     replay_is_decided();
+    measure_text_is_one();
 }
 
 /// For a document of the command's form it is done; or, for `replay`, the journal differs; or, for `run`, there are two lists or more.

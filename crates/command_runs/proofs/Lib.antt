@@ -7,3 +7,4 @@ pub mod Scheduled
 pub mod SerialReports
 pub mod SmallRow
 pub mod Underway
+pub mod Measures

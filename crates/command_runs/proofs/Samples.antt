@@ -20,6 +20,7 @@ use Rattle.command_runs.specs.Reports.{setup}
 use Rattle.command_runs.specs.Laws.{OneListIsReached}
 use Rattle.command_runs.specs.Interleave.{at_round, IsScheduled}
 use Rattle.command_runs.specs.Replay.{DiffersAt, at_entry, at_end}
+use Rattle.command_runs.proofs.Measures.{nobody_is_measured}
 use Rattle.command_runs.specs.Samples.{start, spread, decides, one_list, expansion, one_expanded, schedule, SmallCommands}
 use Rattle.command_runs.proofs.SerialReports.{serial_run_is_reported}
 
@@ -107,4 +108,5 @@ small_commands reaches = record {
   agrees_line = refl;
   check_text = refl;
   differs_line = refl;
+  measure = nobody_is_measured;
 }

@@ -17,6 +17,7 @@ use Rattle.action_meaning.specs.Verdicts.{verdict_shown}
 use Rattle.command_runs.specs.Run.{IsRunText}
 use Rattle.command_runs.specs.Interleave.{IsScheduled, IsInterleaveText}
 use Rattle.command_runs.specs.Replay.{Agrees, DiffersAt}
+use Rattle.command_runs.specs.Measure.{IsMeasureText}
 
 -- one report, but for the room in its journal
 pub record SameReport (one two : Report) : Type 0 where
@@ -52,3 +53,7 @@ StaysConnectedIn p start entries = p.guard ≡ true → IsConnected (occupied st
 -- so it is in each good report
 abbrev pub GoodStaysConnected : Type 0
 GoodStaysConnected = (p : Program) (start : Config) (lists : CallerLists) (report : Report) → Good (verdict_shown p) start lists report → StaysConnectedIn p start report.journal.entries
+
+-- a shape has one text of its measures
+abbrev pub MeasureTextIsOne : Type 0
+MeasureTextIsOne = (c : Config) (text other : List ℕ) → IsMeasureText c text → IsMeasureText c other → text ≡ other

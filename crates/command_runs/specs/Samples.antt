@@ -3,18 +3,19 @@
 use Rattle.std.specs.Prelude.{◌≡◌, ℕ, List, [], ◌∷◌, ◌++◌, codes}
 use Rattle.amoebot_state.specs.declared.verdict.Entry.{Entry}
 use Rattle.amoebot_state.specs.declared.verdict.Verdict.{Verdict}
-use Rattle.amoebot_state.specs.Configs.{Config}
+use Rattle.amoebot_state.specs.Configs.{Config, config_of}
 use Rattle.amoebot_state.specs.Zones.{Shown}
 use Rattle.claim_core.specs.declared.marks.Mark.TheVariants as mark
 use Rattle.claim_core.specs.declared.report.Report.{Report}
 use Rattle.claim_core.specs.Turns.{CallerLists}
-use Rattle.command_runs.specs.SmallRow.{row_with, bot_on, two_beside, expanded, one_refused}
+use Rattle.command_runs.specs.SmallRow.{row, zeros, row_with, bot_on, two_beside, expanded, one_refused}
 use Rattle.action_print.specs.Pins.{counting}
 use Rattle.command_runs.specs.Check.{check_text}
 use Rattle.command_runs.specs.Reports.{report_text}
 use Rattle.command_runs.specs.Run.{IsRunReport}
 use Rattle.command_runs.specs.Interleave.{IsInterleaveReport}
 use Rattle.command_runs.specs.Replay.{Agrees, DiffersAt, agrees_line, differs_line}
+use Rattle.command_runs.specs.Measure.{IsMeasureText}
 
 -- the shape at the start, and the one in which the second amoebot has expanded
 abbrev pub start : Config
@@ -55,6 +56,10 @@ counting_checked =
     codes "amoebot 1\nprogram\nguard off\nvar m 3\naction a\nwhen ( m = 0 or m = 1 ) and not contracted\n"
     ++ codes "do m := m + 1 ; if m > 2 then m := 0 fi\nmove contract tail\nend\n"
 
+-- the row without an amoebot
+abbrev pub nobody : Config
+nobody = config_of row zeros []
+
 pub record SmallCommands : Type 0 where
   pub run : IsRunReport decides start one_list one_expanded
   pub text : report_text 0 one_expanded ≡ its_text
@@ -66,3 +71,4 @@ pub record SmallCommands : Type 0 where
   pub agrees_line : agrees_line 12 ≡ codes "agrees 12\n"
   pub check_text : check_text counting ≡ counting_checked
   pub differs_line : differs_line 0 ≡ codes "differs 0\n"
+  pub measure : IsMeasureText nobody (codes "bots 0\nconnected yes\nhexagon no\n")

@@ -1,6 +1,6 @@
 //! What holds of the commands. The functions do nothing: their clauses are the laws.
 
-ghost use Rattle.command_runs.specs.Laws.{GoodStaysConnected, InterleaveTextIsOne, OneListIsReached, ReplayIsDecided, RunTextIsOne, ScheduleHasOneReport};
+ghost use Rattle.command_runs.specs.Laws.{GoodStaysConnected, InterleaveTextIsOne, MeasureTextIsOne, OneListIsReached, ReplayIsDecided, RunTextIsOne, ScheduleHasOneReport};
 ghost use Rattle.command_runs.specs.Samples.{SmallCommands};
 
 use action_meaning::guarded_runs_stay_connected;
@@ -45,6 +45,11 @@ pub fn replay_is_decided()
     run_has_only_steps();
     run_has_one_last();
 }
+
+/// A shape has one text of its measures.
+pub fn measure_text_is_one()
+    ensures { MeasureTextIsOne }
+{}
 
 /// With the guard on and a connected shape at the start, the shape is connected in each world of a good report's run.
 pub fn good_stays_connected()
