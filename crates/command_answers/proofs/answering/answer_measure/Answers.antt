@@ -3,4 +3,4 @@ use Rattle.command_answers.proofs.OwedTexts.{is_measured}
 use Rattle.command_answers.proofs.answering.answer_measure.Goals as goal
 
 pub returns : goal.returns
-returns c = is_measured (contents c.args.parts) c.in_ok-text.text c.last_shape.result c.last_shape.ensures c.in_ok-text.ensures
+returns c = is_measured (contents c.args.parts) c.in_ok-text.text c.last_shape-last.result c.last_shape-last.ensures c.in_ok-text.ensures
