@@ -2,7 +2,7 @@
 use Rattle.std.proofs.Common.{◌≡◌, ℕ, suc, ◌<◌, Bool, true, false, List, [], ◌∷◌, Option, None, length, codes, refl, ap, ◌∙◌, arith}
 use Rattle.std.specs.Prelude.{◌&&◌, ◌^◌, decimal, not}
 use Rattle.std.specs.List.{list_all}
-use Rattle.std.proofs.lemmas.Bool.{ltb-true, or_left, or_right}
+use Rattle.std.proofs.lemmas.Bool.{ltb-true, or_left, or_right, and_parts}
 use Rattle.amoebot_state.specs.declared.bot.End.{End}
 use Rattle.amoebot_state.specs.declared.bot.End.TheVariants.{Head, Tail}
 use Rattle.text_tokens.specs.declared.token.TokenKind.TheVariants.{Word, Sign}
@@ -11,7 +11,6 @@ use Rattle.text_tokens.specs.Text.{is_letter, is_word_byte, is_sign, Lexeme}
 use Rattle.text_tokens.specs.Cursor.{same_kind}
 use Rattle.text_tokens.specs.Reading.{no_limit, deep_at}
 use Rattle.text_tokens.specs.Grammar.{IsOne, made, is_nothing, of_first, of_second}
-use Rattle.text_tokens.proofs.Blanks.{and_true}
 use Rattle.action_tree.specs.declared.expression.PortSet.{PortSet}
 use Rattle.action_tree.specs.declared.expression.PortSet.TheVariants.{Ports, Free}
 use Rattle.action_tree.specs.declared.expression.Cmp.{Cmp}
@@ -36,8 +35,8 @@ use Rattle.text_tokens.proofs.Respelling.{Rereads, rereads_by, rereads_none, IsS
 pub word_token : (w : List ℕ) → is_word w ≡ true → IsOneToken w
 word_token [] e = absurd cc
 word_token (b ∷ bytes) e =
-    let p = and_true (is_letter b && list_all is_word_byte bytes) _ e in
-    let q = and_true (is_letter b) (list_all is_word_byte bytes) p.0 in
+    let p = and_parts (is_letter b && list_all is_word_byte bytes) _ e in
+    let q = and_parts (is_letter b) (list_all is_word_byte bytes) p.0 in
     word_is_token b bytes q.0 q.1 (omega (arith, ltb-true (length bytes) 24 p.1))
 
 role_is : (w : List ℕ) (t : Lexeme) → IsSpelled w t → role t ≡ role_by (kind_of w) w
@@ -68,16 +67,16 @@ binds_fine left t = refl
 name_kind : (w : List ℕ) → is_word w ≡ true → kind_of w ≡ Word
 name_kind [] e = absurd cc
 name_kind (b ∷ bytes) e =
-    let p = and_true (is_letter b && list_all is_word_byte bytes) _ e in
-    word_kind b bytes (and_true (is_letter b) (list_all is_word_byte bytes) p.0).0
+    let p = and_parts (is_letter b && list_all is_word_byte bytes) _ e in
+    word_kind b bytes (and_parts (is_letter b) (list_all is_word_byte bytes) p.0).0
 
 pub name_word : (w : List ℕ) → is_name w ≡ true → is_word w ≡ true
-name_word w e = (and_true (is_word w) (not (is_reserved w)) e).0
+name_word w e = (and_parts (is_word w) (not (is_reserved w)) e).0
 
 name_role : (w : List ℕ) → is_name w ≡ true → (t : Lexeme) → IsSpelled w t → role t ≡ AName
 unfolding same_kind
 name_role w e t s =
-    let p = and_true (is_word w) (not (is_reserved w)) e in
+    let p = and_parts (is_word w) (not (is_reserved w)) e in
     plays AName t (names t ∙ ap (λ k. same_kind k Word && not (is_reserved t.text)) (s.kind ∙ name_kind w p.0) ∙ ap (λ (bs : List ℕ). not (is_reserved bs)) s.text ∙ p.1)
 
 abbrev pub IsNameOf : Name → Lexeme → Type 0

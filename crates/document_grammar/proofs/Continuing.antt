@@ -1,16 +1,17 @@
 -- The tokens of a text whose last byte is a line feed stay where another text stands behind it.
-use Rattle.std.proofs.Common.{◌≡◌, ℕ, zero, suc, ◌+◌, ◌≤◌, Bool, true, false, cond, List, [], ◌∷◌, ◌++◌, length, drop, refl, sym, ap, subst, ◌∙◌, arith, length-append, length-drop, append_assoc}
+use Rattle.std.proofs.Common.{◌≡◌, ℕ, zero, suc, ◌+◌, ◌≤◌, Bool, true, false, cond, List, [], ◌∷◌, ◌++◌, length, drop, refl, sym, ap, subst, ◌∙◌, arith, length-append, append_assoc}
 use Rattle.std.specs.Prelude.{◌==◌}
 use Rattle.std.specs.List.{list_all, count_by}
 use Rattle.std.proofs.lemmas.List.{drop-append-le, take-append-le, append-nil}
 use Rattle.std.proofs.lemmas.List.Sums.{sum_by-append}
+use Rattle.std.proofs.lemmas.Bool.{and_parts}
 use Rattle.std.proofs.Math.Seq.{drop-append_seam, drop-length}
 use Rattle.text_tokens.specs.declared.token.TokenKind.{TokenKind}
 use Rattle.text_tokens.specs.declared.refusal.Refusal.{Refusal}
 use Rattle.text_tokens.specs.declared.refusal.RefusalKind.TheVariants.{Truncated}
 use Rattle.text_tokens.specs.Text.{is_in_line, is_sign, Skips, nothing, blank, comment, last_comment, IsSkipped, IsLongestSign, Cuts, word, number, sign, Lexeme, token_end, line_at, Comes, IsToken, AreTokens, ends, bad_byte, too_long, token}
-use Rattle.text_tokens.proofs.Blanks.{and_true}
 use Rattle.text_tokens.proofs.Cutting.{cut_no_feed, cut_some}
+use Rattle.text_tokens.proofs.Tokenizing.{end_within}
 
 -- ---- a text that is empty, or whose last byte is a line feed
 
@@ -40,7 +41,7 @@ feed_from (suc n) (b ∷ text) f = feed_from n text (feed_tail b text f)
 -- a text without a line feed does not end in one
 no_feed : (test : ℕ → Bool) (b : ℕ) (text : List ℕ) → test 10 ≡ false → test b ≡ true → list_all test text ≡ true → EndsInFeed (b ∷ text) → ⊥
 no_feed test b text n e h last_feed = absurd cc
-no_feed test b text n e h (further {c = c} {text = more} f) = let a = and_true (test c) (list_all test more) h in no_feed test c more n a.0 a.1 f
+no_feed test b text n e h (further {c = c} {text = more} f) = let a = and_parts (test c) (list_all test more) h in no_feed test c more n a.0 a.1 f
 
 feed_counted : (b : ℕ) (text : List ℕ) → EndsInFeed (b ∷ text) → 1 ≤ count_by (λ c. c == 10) (b ∷ text)
 feed_counted b text last_feed = omega arith
@@ -140,15 +141,9 @@ module _ (source more : List ℕ) (fed : EndsInFeed source) where
   line_on : (b_from : ℕ) → b_from ≤ length source → line_at both b_from ≡ line_at source b_from
   line_on b_from le = rw (take-append-le b_from source more le) refl
 
-  -- where a token ends that stands in the source
-  end_within : (l : Lexeme) → l.from ≤ length source → IsToken source l → token_end l ≤ length source
-  end_within l le t =
-      let e = ap length t.text in
-      omega (arith, length-append l.text (drop (token_end l) source), length-drop l.from source, length-drop (token_end l) source)
-
   token_on : (l : Lexeme) → l.from ≤ length source → IsToken source l → IsToken both l
   token_on l le t =
-      let within = end_within l le t in
+      let within = end_within source l le t in
       let behind : drop (token_end l) both ≡ drop (token_end l) source ++ more = from_place (token_end l) within in
       record {
         cuts = subst (λ (r : List ℕ). Cuts l.kind l.text r) (sym behind) (cuts_on l.kind l.text (drop (token_end l) source) more t.cuts (subst EndsInFeed t.text (feed_from l.from source fed)));
@@ -170,4 +165,4 @@ module _ (source more : List ℕ) (fed : EndsInFeed source) where
   tokens_on at ts us last end le (token {ls = ls} l c t few rest) whole behind =
       let here = some_byte l t in
       let within = c.within in
-      token l (comes_on at l.from here.0 here.1 c here.2) (token_on l within t) few (tokens_on (token_end l) ls us last end (end_within l within t) rest whole behind)
+      token l (comes_on at l.from here.0 here.1 c here.2) (token_on l within t) few (tokens_on (token_end l) ls us last end (end_within source l within t) rest whole behind)

@@ -3,7 +3,7 @@ use Rattle.std.proofs.Common.{◌≡◌, ℕ, suc, ◌<◌, ◌≤◌, Bool, tru
 use Rattle.std.specs.Prelude.{◌==◌, ◌&&◌, nat_lt, nat_le}
 use Rattle.std.specs.Option.{IfSome, IsSome}
 use Rattle.std.specs.List.{All, flat_map, list_all}
-use Rattle.std.proofs.lemmas.Bool.{ltb-true}
+use Rattle.std.proofs.lemmas.Bool.{ltb-true, and_parts}
 use Rattle.std.proofs.lemmas.List.Elements.{All-nil, All-cons, All-head, All-tail, All-append, All-replicate}
 use Rattle.text_tokens.specs.declared.refusal.Refusal.{Refusal}
 use Rattle.text_tokens.specs.declared.refusal.RefusalKind.{RefusalKind}
@@ -15,7 +15,7 @@ use Rattle.text_tokens.specs.Grammar.{tokens}
 use Rattle.text_tokens.specs.Lawful.{IsWhole}
 use Rattle.text_tokens.specs.Inputs.{IsInput}
 use Rattle.text_tokens.specs.declared.refusal.RefusalKind.TheVariants.{Trailing}
-use Rattle.text_tokens.proofs.Blanks.{and_true, point}
+use Rattle.text_tokens.proofs.Blanks.{point}
 use Rattle.text_tokens.proofs.Tokenizing.{tokens_of_text}
 use Rattle.amoebot_state.specs.declared.verdict.Entry.{Entry}
 use Rattle.amoebot_state.specs.Configs.{Config}
@@ -152,8 +152,8 @@ module _ (bots actions vars : ℕ) where
 
   bot_known : (e : Entry) → is_known bots actions e ≡ true → e.bot < bots
   bot_known e known =
-      let a = and_true (nat_le e.caller 15 && nat_le e.turn 65535 && nat_lt e.action actions) (list_all (λ id. nat_lt id bots) (ids_of e)) known in
-      ltb-true e.bot bots (and_true (nat_lt e.bot bots) (list_all (λ id. nat_lt id bots) (flat_map ids_of_pair e.patch)) a.1).0
+      let a = and_parts (nat_le e.caller 15 && nat_le e.turn 65535 && nat_lt e.action actions) (list_all (λ id. nat_lt id bots) (ids_of e)) known in
+      ltb-true e.bot bots (and_parts (nat_lt e.bot bots) (list_all (λ id. nat_lt id bots) (flat_map ids_of_pair e.patch)) a.1).0
 
   journal_fits : (es : List Entry) → Fine (IsJournal bots actions vars) es → AreOf bots actions es
   journal_fits es f =

@@ -3,6 +3,8 @@ use Rattle.std.proofs.Common.{◌≡◌, ℕ, Bool, true, false, cond, List, [],
 use Rattle.std.specs.Prelude.{codes}
 use Rattle.std.specs.Str.{bytes_eq}
 use Rattle.std.proofs.lemmas.Slice.Eq.{bytes_eq-Decides}
+use Rattle.std.proofs.lemmas.Bool.{and_parts}
+use Rattle.std.proofs.lemmas.Option.{same_Some}
 use Rattle.text_tokens.specs.declared.token.TokenKind.TheVariants.{Word}
 use Rattle.text_tokens.specs.declared.refusal.RefusalKind.TheVariants.{Trailing, WrongSection}
 use Rattle.text_tokens.specs.Text.{Lexeme}
@@ -10,8 +12,6 @@ use Rattle.text_tokens.specs.Cursor.{is_kind, is_spelled, same_kind}
 use Rattle.text_tokens.specs.Reading.{Reader, first, ◌>>=◌, pure, refuse, stop, the_line, numeral, no_limit}
 use Rattle.text_tokens.specs.Grammar.{Symbol, symbol, tokens, Lang, Then, then, IsThe, IsNumeral, IsNothing, is_nothing}
 use Rattle.text_tokens.specs.Lawful.{SomeText, SomeFrom, Next, GoesOn, Lawful, LawfulAt, always, IsPart}
-use Rattle.text_tokens.proofs.Blanks.{and_true}
-use Rattle.text_tokens.proofs.Exactness.{some_is}
 use Rattle.text_tokens.proofs.Following.{law_then}
 use Rattle.text_tokens.proofs.Beginnings.{begins_tokens, front_token}
 use Rattle.text_tokens.proofs.Parts.{nil_not, part_nothing, part_behind}
@@ -29,8 +29,8 @@ use Rattle.document_grammar.specs.FrameLaws.{AreSections, Framed}
 -- tokens that are one word are the same for every section
 same_word : (k j : Section) (t u : Lexeme) → is_word k t ≡ true → is_word k u ≡ true → is_word j t ≡ is_word j u
 same_word k j t u e f =
-    let a = and_true (is_kind Word t) (is_spelled (word_of k) t) e in
-    let b = and_true (is_kind Word u) (is_spelled (word_of k) u) f in
+    let a = and_parts (is_kind Word t) (is_spelled (word_of k) t) e in
+    let b = and_parts (is_kind Word u) (is_spelled (word_of k) u) f in
     let v : t.text ≡ word_of k = (bytes_eq-Decides t.text (word_of k)).0 a.1 in
     let w : u.text ≡ word_of k = (bytes_eq-Decides u.text (word_of k)).0 b.1 in
     rw (a.0, b.0) (ap (λ (text : List ℕ). bytes_eq text (word_of j)) (v ∙ sym w))
@@ -129,13 +129,13 @@ module _ {S : Type 0} (Body : Section → S → Lang S) (body : Section → S �
     back_taken : (xs : List Symbol) (b : S) → IsRest Body c s xs b → first (tokens xs) ≡ Some t → Taken k d s xs b
     back_taken zs b (section {d = e} {k = j} {r = r} {xs = xs} {ys = ys} u g f p q) h =
         let o = opened j s r xs ys p in
-        let same : u ≡ t = some_is (sym g ∙ o.first_of) ∙ some_is (sym (ap first (ap tokens o.parts)) ∙ h) in
-        let w : way k d ≡ way j e = some_is (sym (ap (comes c) same ∙ comes_so) ∙ f) in
+        let same : u ≡ t = same_Some _ _ (sym g ∙ o.first_of) ∙ same_Some _ _ (sym (ap first (ap tokens o.parts)) ∙ h) in
+        let w : way k d ≡ way j e = same_Some _ _ (sym (ap (comes c) same ∙ comes_so) ∙ f) in
         let sections : j ≡ k = ap (λ (w : Way). w.section) (sym w) in
         let behinds : e ≡ d = ap (λ (w : Way). w.behind) (sym w) in
         then r (subst (λ (j : Section). Body j s xs r) sections p) (subst (λ (e : Course). IsRest Body e r ys b) behinds q)
     back_taken zs b (finished e) h = absurd cc
-    back_taken zs b (wrong u e m i) h = let same : u ≡ t = some_is h in let f : ◌≡◌ {A = Option Way} (Some (way k d)) None = sym (ap (comes c) same ∙ comes_so) ∙ e in absurd cc
+    back_taken zs b (wrong u e m i) h = let same : u ≡ t = same_Some _ _ h in let f : ◌≡◌ {A = Option Way} (Some (way k d)) None = sym (ap (comes c) same ∙ comes_so) ∙ e in absurd cc
 
     taken_on : GoesOn (IsRest Body c s) [] t
     taken_on =
@@ -163,7 +163,7 @@ module _ {S : Type 0} (Body : Section → S → Lang S) (body : Section → S �
         no_token : (xs : List Symbol) (b : S) (t : Lexeme) → IsRest Body c s xs b → first (tokens xs) ≡ Some t → next ≡ Some t → ⊥
         no_token zs b t (section {k = k} {r = r} {xs = xs} {ys = ys} u g f p q) e same =
             let o = opened k s r xs ys p in
-            let is : u ≡ t = some_is (sym g ∙ o.first_of) ∙ some_is (sym (ap first (ap tokens o.parts)) ∙ e) in
+            let is : u ≡ t = same_Some _ _ (sym g ∙ o.first_of) ∙ same_Some _ _ (sym (ap first (ap tokens o.parts)) ∙ e) in
             let n : ◌≡◌ {A = Option Way} None (Some _) = sym (ap (comes c) is ∙ none t same) ∙ f in absurd cc
         no_token xs b t (finished f) e same = absurd cc
         no_token xs b t (wrong u f n i) e same = let g : true ≡ false = sym m ∙ n in absurd cc
@@ -174,10 +174,10 @@ module _ {S : Type 0} (Body : Section → S → Lang S) (body : Section → S �
     only_wrong : (t : Lexeme) → comes c t ≡ None → (xs : List Symbol) (b : S) → IsRest Body c s xs b → first (tokens xs) ≡ Some t → (is_section_word t ≡ true) × (xs ≡ symbol t (Some WrongSection) ∷ [])
     only_wrong t none zs b (section {k = k} {r = r} {xs = xs} {ys = ys} u g f p q) e =
         let o = opened k s r xs ys p in
-        let is : u ≡ t = some_is (sym g ∙ o.first_of) ∙ some_is (sym (ap first (ap tokens o.parts)) ∙ e) in
+        let is : u ≡ t = same_Some _ _ (sym g ∙ o.first_of) ∙ same_Some _ _ (sym (ap first (ap tokens o.parts)) ∙ e) in
         let n : ◌≡◌ {A = Option Way} None (Some _) = sym (ap (comes c) is ∙ none) ∙ f in absurd cc
     only_wrong t none xs b (finished f) e = absurd cc
-    only_wrong t none xs b (wrong u f n i) e = let is : u ≡ t = some_is e in (ap is_section_word (sym is) ∙ i, ap (λ (v : Lexeme). symbol v (Some WrongSection) ∷ []) is)
+    only_wrong t none xs b (wrong u f n i) e = let is : u ≡ t = same_Some _ _ e in (ap is_section_word (sym is) ∙ i, ap (λ (v : Lexeme). symbol v (Some WrongSection) ∷ []) is)
 
     never_empty : (xs : List Symbol) (b : S) → IsRest Body c s xs b → tokens xs ≡ [] → ⊥
     never_empty xs b p e = let g : true ≡ false = sym (empty_end c s b xs p e).0 ∙ m in absurd cc
@@ -201,7 +201,7 @@ module _ {S : Type 0} (Body : Section → S → Lang S) (body : Section → S �
       where
         by : (i : Bool) → is_section_word t ≡ i → LawfulAt (IsRest Body c s) (Some t) (cond i (stop WrongSection) refuse)
         by true i = law_wrong t (none t refl) i
-        by false i = law_missing (Some t) (λ u e. (none u e, ap is_section_word (sym (some_is e)) ∙ i))
+        by false i = law_missing (Some t) (λ u e. (none u e, ap is_section_word (sym (same_Some _ _ e)) ∙ i))
 
   -- ---- a place
 
@@ -232,7 +232,7 @@ module _ {S : Type 0} (Body : Section → S → Lang S) (body : Section → S �
     where
       by : (b : Bool) → is_word k t ≡ b → ((u : Option Lexeme) → Found c u) → Found (needs k c) (Some t)
       by true e rec = one_comes t k c refl e (rw e refl) (λ s. rw e refl) (law_place c rec)
-      by false e rec = none_comes (λ u f. ap (comes (needs k c)) (sym (some_is f)) ∙ rw e refl) (λ s. rw e refl)
+      by false e rec = none_comes (λ u f. ap (comes (needs k c)) (sym (same_Some _ _ f)) ∙ rw e refl) (λ s. rw e refl)
   found (may k c d) None = by (found d None)
     where
       by : Found d None → Found (may k c d) None
@@ -242,8 +242,8 @@ module _ {S : Type 0} (Body : Section → S → Lang S) (body : Section → S �
     where
       by : (b : Bool) → is_word k t ≡ b → Found d (Some t) → ((u : Option Lexeme) → Found c u) → Found (may k c d) (Some t)
       by true e f rec = one_comes t k c refl e (rw e refl) (λ s. rw e refl) (law_place c rec)
-      by false e (none_comes none reads) rec = none_comes (λ u f. ap (comes (may k c d)) (sym (some_is f)) ∙ rw e (none t refl)) (λ s. rw e (reads s))
-      by false e (one_comes u j h same is comes_so reads law) rec = let v : t ≡ u = some_is same in one_comes u j h same is (ap (comes (may k c d)) (sym v) ∙ rw e (ap (comes d) v ∙ comes_so)) (λ s. rw e (reads s)) law
+      by false e (none_comes none reads) rec = none_comes (λ u f. ap (comes (may k c d)) (sym (same_Some _ _ f)) ∙ rw e (none t refl)) (λ s. rw e (reads s))
+      by false e (one_comes u j h same is comes_so reads law) rec = let v : t ≡ u = same_Some _ _ same in one_comes u j h same is (ap (comes (may k c d)) (sym v) ∙ rw e (ap (comes d) v ∙ comes_so)) (λ s. rw e (reads s)) law
 
   pub law_rest : (c : Course) (s : S) → Lawful (IsRest Body c s) (rest body c s)
   law_rest c s = law_place c (λ next. found c next) s

@@ -1,12 +1,12 @@
 -- The frame's texts without a refusal are those of the forms as they are written down.
 use Rattle.std.proofs.Common.{◌≡◌, Bool, true, false, cond, List, [], ◌++◌, Option, Some, None, refl, sym, ap, subst, ◌∙◌}
+use Rattle.std.proofs.lemmas.Option.{same_Some}
 use Rattle.std.specs.Prelude.{codes}
 use Rattle.text_tokens.specs.declared.token.TokenKind.TheVariants.{Word}
 use Rattle.text_tokens.specs.Text.{Lexeme}
 use Rattle.text_tokens.specs.Reading.{first, no_limit}
 use Rattle.text_tokens.specs.Grammar.{Symbol, first_fault, Lang, Then, then, IsNothing, is_nothing, Either, of_first, of_second}
 use Rattle.text_tokens.proofs.Splitting.{fine-parts}
-use Rattle.text_tokens.proofs.Exactness.{some_is}
 use Rattle.text_tokens.proofs.Beginnings.{begins_tokens}
 use Rattle.text_tokens.proofs.Distinguishing.{other_text}
 use Rattle.document_grammar.specs.declared.section.Section.{Section}
@@ -28,14 +28,14 @@ module _ {S : Type 0} (Body : Section → S → Lang S) (words : BeginWithTheirW
     where
       by : (o : Bool) → cond {A = Option Way} o (Some (way j c)) None ≡ Some (way k d) → WithRest j c s zs b
       by true g =
-          let h : way k d ≡ way j c = sym (some_is g) in
+          let h : way k d ≡ way j c = sym (same_Some _ _ g) in
           subst (λ (w : Way). WithRest w.section w.behind s zs b) h w
       by false g = absurd cc
   via (may j c m) d k t s b zs e w = by (is_word j t) e (λ g. via m d k t s b zs g w)
     where
       by : (o : Bool) → cond {A = Option Way} o (Some (way j c)) (comes m t) ≡ Some (way k d) → (comes m t ≡ Some (way k d) → Plain Body m s zs b) → Either (WithRest j c s) (Plain Body m s) zs b
       by true g rec =
-          let h : way k d ≡ way j c = sym (some_is g) in
+          let h : way k d ≡ way j c = sym (same_Some _ _ g) in
           of_first (subst (λ (w : Way). WithRest w.section w.behind s zs b) h w)
       by false g rec = of_second (rec g)
 
@@ -95,9 +95,6 @@ schedule_no_journal c t e = rw (other_text Word (codes "schedule") (codes "journ
 
 turns_last : Distinct behind_journal
 turns_last = (λ t e. refl, tt, tt)
-
-may_schedule_last : (t : Lexeme) → is_word Schedule t ≡ true → comes ends t ≡ None
-may_schedule_last t e = refl
 
 pub forms_are_distinct : FormsAreDistinct
 forms_are_distinct Run = (λ t e. refl, tt, tt)

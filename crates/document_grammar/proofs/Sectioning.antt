@@ -1,14 +1,12 @@
 -- The sections of a document are parts, and each begins with its word.
-use Rattle.std.proofs.Common.{◌≡◌, ℕ, Bool, true, false, cond, ◌&&◌, List, [], ◌∷◌, drop, Option, Some, refl, sym, ap, ◌∙◌}
-use Rattle.std.specs.Prelude.{not, codes}
-use Rattle.std.specs.List.{list_all}
+use Rattle.std.proofs.Common.{◌≡◌, ℕ, Bool, true, false, cond, ◌&&◌, List, drop, Option, Some, refl, sym, ap, ◌∙◌}
+use Rattle.std.specs.Prelude.{codes}
 use Rattle.std.specs.Str.{bytes_eq}
 use Rattle.std.proofs.lemmas.Slice.Eq.{bytes_eq-Decides}
 use Rattle.text_tokens.specs.declared.token.TokenKind.{TokenKind}
 use Rattle.text_tokens.specs.declared.token.TokenKind.TheVariants.{Word, Number, Sign}
 use Rattle.text_tokens.specs.declared.refusal.Refusal.{Refusal}
 use Rattle.text_tokens.specs.Text.{Lexeme}
-use Rattle.text_tokens.proofs.Blanks.{and_true}
 use Rattle.text_tokens.specs.Cursor.{same_kind}
 use Rattle.text_tokens.specs.Reading.{Reader, no_limit}
 use Rattle.text_tokens.specs.Grammar.{Symbol, Lang, Then, then}
@@ -25,6 +23,7 @@ use Rattle.action_grammar.specs.Expressions.{IsA}
 use Rattle.action_grammar.specs.Programs.{IsProgram}
 use Rattle.action_grammar.specs.ProgramReaders.{a_program}
 use Rattle.action_grammar.proofs.ProgramLaws.{part_program}
+use Rattle.action_grammar.proofs.Naming.{lacking}
 use Rattle.action_check.specs.Faults.{faults}
 use Rattle.journal_text.specs.Parts.{IsWord}
 use Rattle.journal_text.proofs.JournalLaws.{part_journal}
@@ -40,25 +39,6 @@ use Rattle.document_grammar.specs.Documents.{Contents, vars_of, actions_of, maxe
 use Rattle.document_grammar.specs.DocumentReaders.{a_checked_program, body}
 
 -- ---- the word of a program
-
--- no entry is of the role
-abbrev Lacks : Role → List (Entry Role) → Type 0
-Lacks r es = list_all (λ e. not (same_role e.value r)) es ≡ true
-
-not_true : (b : Bool) → not b ≡ true → b ≡ false
-not_true true e = absurd cc
-not_true false e = refl
-
-lacking : (r d : Role) (es : List (Entry Role)) (text : List ℕ) → same_role d r ≡ false → Lacks r es → same_role (look_up d es text) r ≡ false
-lacking r d [] text n l = n
-lacking r d (e ∷ es) text n l = by (bytes_eq text e.text) (lacking r d es text n all.1)
-  where
-    all : (not (same_role e.value r) ≡ true) × Lacks r es
-    all = and_true (not (same_role e.value r)) (list_all (λ e. not (same_role e.value r)) es) l
-
-    by : (b : Bool) → same_role (look_up d es text) r ≡ false → same_role (cond b e.value (look_up d es text)) r ≡ false
-    by true more = not_true (same_role e.value r) all.0
-    by false more = more
 
 -- what stands in the table behind the words of a document and of a program
 abbrev further : List (Entry Role)
@@ -110,7 +90,8 @@ starts_program = starts_so (is_a ProgramWord) (is_word Program) program_word (st
 
 -- ---- the sections
 
-abbrev wrong : tree.Program → Option Refusal
+-- what is wrong with a program, if anything
+abbrev pub wrong : tree.Program → Option Refusal
 wrong p = first_in (faults p)
 
 part_checked : IsPart IsCheckedProgram a_checked_program always

@@ -1,18 +1,19 @@
 -- The reader of a journal is a part for its grammar.
-use Rattle.std.proofs.Common.{◌≡◌, ℕ, Bool, true, false, List, Some, None, refl}
+use Rattle.std.proofs.Common.{ℕ, Bool, true, List, Some, None, refl}
 use Rattle.std.specs.Prelude.{codes, not, ◌||◌}
-use Rattle.std.proofs.lemmas.Bool.{or_left, or_right, not-true}
+use Rattle.std.proofs.lemmas.Bool.{not-true}
 use Rattle.text_tokens.specs.declared.token.TokenKind.TheVariants.{Word}
 use Rattle.text_tokens.specs.Text.{Lexeme}
 use Rattle.text_tokens.specs.Reading.{Reader, ◌>>=◌, pure, is_number, no_limit, less}
-use Rattle.text_tokens.specs.Grammar.{Symbol, symbol, Lang, IsOne, Then, Made, Judged, Either, of_first, of_second, Limited, AtMost}
-use Rattle.text_tokens.specs.Lawful.{Exact, IsPart, always, Starts, BeginsWith, SomeFrom, AreElements}
+use Rattle.text_tokens.specs.Grammar.{Lang, IsOne, Then, Made, Judged, Either, Limited, AtMost}
+use Rattle.text_tokens.specs.Lawful.{Exact, IsPart, always, Starts, AreElements}
 use Rattle.text_tokens.proofs.Exactness.{exact}
 use Rattle.text_tokens.proofs.Carrying.{part_made}
 use Rattle.text_tokens.proofs.Parts.{some_text, part_one, part_judged}
-use Rattle.text_tokens.proofs.Beginnings.{starts_in, starts_some, starts_one, starts_made, starts_then, starts_judged}
+use Rattle.text_tokens.proofs.Beginnings.{starts_in, starts_some, starts_one, starts_made, starts_then, starts_judged, starts_either}
 use Rattle.text_tokens.proofs.Repeating.{at_most_elements, part_repeated}
-use Rattle.text_tokens.proofs.Distinguishing.{sample, passes, other_text, starts_numeral}
+use Rattle.text_tokens.proofs.Distinguishing.{sample, passes, other_text, starts_numeral, not_either}
+use Rattle.text_tokens.proofs.Joining.{behind, into, one_of_two}
 use Rattle.amoebot_state.specs.declared.bot.Port.{Port}
 use Rattle.amoebot_state.specs.declared.cell.CellName.{CellName}
 use Rattle.amoebot_state.specs.declared.cell.CellName.TheVariants as name
@@ -23,7 +24,7 @@ use Rattle.amoebot_state.specs.declared.verdict.Moved.TheVariants as moved
 use Rattle.journal_text.specs.Parts.{word, is_end, IsWord, IsNumber, IsNode, IsEnd, IsPort}
 use Rattle.journal_text.specs.Journals.{IsPortBehind, IsEndBehind, IsMovedBy, IsContracted, IsMoved, is_spot, is_body, is_cell, IsCell, IsOccupant, IsValueOf, a_pair_of, IsPair, is_entry, numbers_of, AreNumbers, Written, written_of, past_entries, IsEntryWord, IsWritten, wrong, IsEntry, one_more, AreEntries, IsJournal}
 use Rattle.journal_text.specs.Readers.{a_word, a_number, port_behind, end_behind, moved_by, a_contraction, a_movement, a_cell, an_occupant, a_value, a_pair, pair_in, all_pairs, the_numbers, entry_word, written, an_entry, entries_from, journal, a_node, an_end, a_port}
-use Rattle.journal_text.proofs.PartLaws.{behind, into, up_to_end, one_of_two, starts_word, part_word, part_number, starts_means, number_no_word, part_end, part_node, part_port, part_bot}
+use Rattle.journal_text.proofs.PartLaws.{up_to_end, starts_word, part_word, part_number, starts_means, number_no_word, part_end, part_node, part_port, part_bot}
 
 -- ---- movements
 
@@ -46,26 +47,6 @@ part_contraction = into moved.Contract (part_end_behind (codes "contract") (part
 
 starts_contraction : Starts IsContracted (word (codes "contract")) no_limit
 starts_contraction = starts_made (IsEndBehind (codes "contract")) moved.Contract (word (codes "contract")) no_limit (starts_word (codes "contract") (λ line. IsEnd) (λ line. an_end) always (λ line. part_end))
-
--- a token that passes neither test
-pub not_either : (a b c : Lexeme → Bool) (t : Lexeme) → (a t ≡ true → c t ≡ false) → (b t ≡ true → c t ≡ false) → (a t || b t) ≡ true → c t ≡ false
-not_either a b c t f g e = by (a t) refl e
-  where
-    by : (x : Bool) → a t ≡ x → (x || b t) ≡ true → c t ≡ false
-    by true h k = f h
-    by false h k = g k
-
--- a text begins with the first token of one or the other
-pub starts_either : {A : Type 0} (P Q : Lang A) (a b : Lexeme → Bool) → Starts P a no_limit → Starts Q b no_limit → Starts (Either P Q) (λ t. a t || b t) no_limit
-starts_either {A} P Q a b s r = record { begins = begins; each = λ t e. each t (a t) refl e }
-  where
-    begins : (xs : List Symbol) (x : A) → Either P Q xs x → BeginsWith (λ t. a t || b t) no_limit xs
-    begins xs x (of_first is) = let i = s.begins xs x is in record { t = i.t; more = i.more; parts = i.parts; passes = or_left (a i.t) (b i.t) i.passes }
-    begins xs x (of_second is) = let i = r.begins xs x is in record { t = i.t; more = i.more; parts = i.parts; passes = or_right (a i.t) (b i.t) i.passes }
-
-    each : (t : Lexeme) (x : Bool) → a t ≡ x → (x || b t) ≡ true → SomeFrom (Either P Q) (symbol t None)
-    each t true f e = let i = s.each t f in record { more = i.more; whole = i.whole; is = of_first i.is }
-    each t false f e = let i = r.each t e in record { more = i.more; whole = i.whole; is = of_second i.is }
 
 abbrev by_push : Lexeme → Bool
 by_push = word (codes "push")
@@ -197,7 +178,7 @@ module _ (vars : ℕ) where
   unfolding the_numbers
   part_numbers = behind part_number (λ place. behind part_number (λ caller. behind part_number (λ turn. behind part_number (λ bot. into (λ action. numbers_of place caller turn bot action) part_number))))
 
-  abbrev BehindWord : ℕ → Lang Written
+  abbrev pub BehindWord : ℕ → Lang Written
   BehindWord line = Then AreNumbers (λ n. Then IsMoved (λ m. Made (AtMost 10 (IsPair vars)) (λ pairs. written_of line n m pairs)))
 
   abbrev behind_word : ℕ → Reader Written

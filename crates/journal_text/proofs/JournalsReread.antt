@@ -5,7 +5,7 @@ use Rattle.std.specs.Fmt.{signed_decimal}
 use Rattle.std.specs.List.{All, list_all, flat_map, enumerate_from}
 use Rattle.std.proofs.lemmas.List.Folds.{list_all-append}
 use Rattle.std.proofs.lemmas.List.Elements.{All-head, All-tail}
-use Rattle.std.proofs.lemmas.Bool.{ltb-true, leb-true, lt-ltb, le-ltb}
+use Rattle.std.proofs.lemmas.Bool.{ltb-true, leb-true, le-ltb, and_parts}
 use Rattle.std.proofs.lemmas.Int.{ints}
 use Rattle.std.proofs.lemmas.Bool.Decides.{nat_tests}
 use Rattle.tri_lattice.specs.declared.node.Node.{Node}
@@ -16,7 +16,6 @@ use Rattle.text_tokens.specs.Cursor.{is_the}
 use Rattle.text_tokens.specs.Lines.{Words}
 use Rattle.text_tokens.specs.Reading.{value, no_limit, too_large, less}
 use Rattle.text_tokens.specs.Grammar.{Symbol, Lang, Then, then, Made, made, IsThe, of_first, is_nothing, Limited, in_limit, Repeated, no_more, AtMost}
-use Rattle.text_tokens.proofs.Blanks.{and_true}
 use Rattle.text_tokens.proofs.PrintedTokens.{kind_of, AreSpelled, none_printed, word_printed, IsOneToken, word_is_token, sign_is_token, word_kind, minus_printed}
 use Rattle.amoebot_state.specs.declared.bot.Bot.{Bot}
 use Rattle.amoebot_state.specs.declared.bot.Chir.{Chir}
@@ -33,12 +32,14 @@ use Rattle.amoebot_state.specs.declared.verdict.Moved.{Moved}
 use Rattle.amoebot_state.specs.declared.verdict.Moved.TheVariants as moved
 use Rattle.amoebot_state.specs.Pairs.{Pairs}
 use Rattle.journal_text.specs.Parts.{word, is_minus, is_end, IsWord, Means, IsNumber, IsUpTo, negative, IsInt, a_node_of, IsNode, IsEnd, IsChirality, a_port_of, IsPort, IsValues, memory, a_bot_of, IsBot}
-use Rattle.journal_text.specs.Journals.{IsPortBehind, IsMoved, IsCell, a_pair_of, IsPair, Numbers, numbers_of, AreNumbers, Written, written_of, most_entries, past_entries, IsEntryWord, IsWritten, ids_of, ids_of_pair, is_known, wrong, IsEntry, one_more as next_place, AreEntries, IsJournal}
+use Rattle.journal_text.specs.Journals.{IsPortBehind, IsMoved, IsCell, a_pair_of, IsPair, Numbers, numbers_of, AreNumbers, Written, written_of, most_entries, IsEntryWord, IsWritten, ids_of, ids_of_pair, is_known, wrong, IsEntry, one_more as next_place, AreEntries, IsJournal}
 use Rattle.journal_text.specs.JournalRows.{Says}
 use Rattle.journal_text.specs.Texts.{node_words, end_word, port_words, chir_word, bot_words, pair_words, moved_words, entry_numbers, entry_words, journal_text}
 use Rattle.journal_text.specs.Rereading.{size, HasCoordinates, HasLimits, IsWritable, IsPossible, KeepsLimits, JournalsReadBack}
 use Rattle.text_tokens.proofs.Respelling.{Found, Is, Any, Rereads, RereadsLines, rereads_behind, rereads_then, rereads_next, rereads_made, rereads_as, rereads_first, rereads_second, rereads_judged, rereads_nothing, rereads_into, rereads_more, lines_more, lines_then, lines_next, lines_nothing, the_passes, rereads_the, rereads_number, number_token, behind_found, found_by, found_made, one_found, the_found, number_found, one_rereads, reread_line}
+use Rattle.text_tokens.proofs.Stepping.{not_past}
 use Rattle.journal_text.proofs.Saying.{lines_say}
+use Rattle.journal_text.proofs.JournalLaws.{BehindWord}
 
 -- ---- words and numbers
 
@@ -143,6 +144,10 @@ a_movement (moved.Pull p) le =
     let words = codes "pull" ∷ port_words p in
     rereads_second words (rereads_second words (rereads_second words (rereads_second words (rereads_as moved.Pull words p (port_behind (codes "pull") (the_word _ _ refl refl (omega arith) refl) p le)))))
 
+-- the last word of a section
+pub the_last_word : Rereads (IsThe is_end) Any (codes "end" ∷ [])
+the_last_word = the_word _ _ refl refl (omega arith) refl
+
 -- ---- pairs
 
 pub a_spot : (v : Node) → HasCoordinates v → Rereads IsCell (Is (name.Spot v)) (codes "spot" ∷ node_words v)
@@ -162,10 +167,10 @@ module _ (bots vars : ℕ) (few : bots < 2 ^ 16) (le : vars ≤ 8) where
   a_pair (name.Spot v, cell.Spot None) w e = rereads_then (codes "spot" ∷ node_words v) (codes "empty" ∷ []) (name.Spot v) (a_spot v w)
       (rereads_as (λ x. a_pair_of (name.Spot v) x) (codes "empty" ∷ []) (cell.Spot None) (rereads_first (codes "empty" ∷ []) (means (word (codes "empty")) (cell.Spot None) (codes "empty" ∷ []) (the_word _ _ refl refl (omega arith) refl))))
   a_pair (name.Spot v, cell.Spot (Some id)) w e = rereads_then (codes "spot" ∷ node_words v) (decimal id ∷ []) (name.Spot v) (a_spot v w)
-      (rereads_as (λ x. a_pair_of (name.Spot v) x) (decimal id ∷ []) (cell.Spot (Some id)) (rereads_second (decimal id ∷ []) (rereads_as (λ id. cell.Spot (Some id)) (decimal id ∷ []) id (any_number id (small id (and_true (there id) true e).0)))))
+      (rereads_as (λ x. a_pair_of (name.Spot v) x) (decimal id ∷ []) (cell.Spot (Some id)) (rereads_second (decimal id ∷ []) (rereads_as (λ id. cell.Spot (Some id)) (decimal id ∷ []) id (any_number id (small id (and_parts (there id) true e).0)))))
   a_pair (name.Spot v, cell.Body b) w e = absurd w
   a_pair (name.Body id, cell.Spot o) w e = absurd w
-  a_pair (name.Body id, cell.Body b) w e = rereads_then (codes "body" ∷ decimal id ∷ []) (bot_words vars b) (name.Body id) (a_body id (small id (and_true (there id) true e).0))
+  a_pair (name.Body id, cell.Body b) w e = rereads_then (codes "body" ∷ decimal id ∷ []) (bot_words vars b) (name.Body id) (a_body id (small id (and_parts (there id) true e).0))
       (rereads_as (λ x. a_pair_of (name.Body id) x) (bot_words vars b) (cell.Body b) (rereads_as (λ b. cell.Body b) (bot_words vars b) b (a_bot vars le b w)))
 
   in_room : (room : ℕ) (p : CellName × Cell) → Rereads (IsPair vars) (Is p) (pair_words vars p) → Rereads (Limited (IsPair vars) (suc room)) (Is p) (pair_words vars p)
@@ -175,7 +180,7 @@ module _ (bots vars : ℕ) (few : bots < 2 ^ 16) (le : vars ≤ 8) where
   many_pairs room [] fit all e = rereads_nothing [] no_more
   many_pairs zero (p ∷ ps) fit all e = absurd (omega arith)
   many_pairs (suc room) (p ∷ ps) fit all e =
-      let both = and_true (list_all there (ids_of_pair p)) (list_all there (flat_map ids_of_pair ps)) (sym (list_all-append there (ids_of_pair p) (flat_map ids_of_pair ps)) ∙ e) in
+      let both = and_parts (list_all there (ids_of_pair p)) (list_all there (flat_map ids_of_pair ps)) (sym (list_all-append there (ids_of_pair p) (flat_map ids_of_pair ps)) ∙ e) in
       rereads_more (λ room. Limited (IsPair vars) room) (λ room a. less room) (suc room) (pair_words vars p) (flat_map (pair_words vars) ps) p ps
       (in_room room p (a_pair p (All-head (IsWritable vars) p ps all) both.0)) (many_pairs room ps (omega arith) (All-tail (IsWritable vars) p ps all) both.1)
 
@@ -201,13 +206,10 @@ module _ (vars : ℕ) where
   abbrev IsRest : Lang Rest
   IsRest = Then AreNumbers (λ n. Then IsMoved (λ m. Made (AtMost 10 (IsPair vars)) (λ ps. a_rest n m ps)))
 
-  abbrev IsBehind : ℕ → Lang Written
-  IsBehind line = Then AreNumbers (λ n. Then IsMoved (λ m. Made (AtMost 10 (IsPair vars)) (λ ps. written_of line n m ps)))
-
-  with_line : (line : ℕ) (xs : List Symbol) (r : Rest) → IsRest xs r → IsBehind line xs (written_with line r)
+  with_line : (line : ℕ) (xs : List Symbol) (r : Rest) → IsRest xs r → BehindWord vars line xs (written_with line r)
   with_line line xs r is = map_then (written_with line) (λ n ys s is. map_then (written_with line) (λ m zs q is. map_made (λ ps. a_rest n m ps) (written_with line) zs q is) ys s is) xs r is
 
-  found_with : (line : ℕ) (r : Rest) (ts : List Lexeme) → Found IsRest (Is r) ts → Found (IsBehind line) (λ w. (w.place ≡ (written_with line r).place) × (w.entry ≡ (written_with line r).entry)) ts
+  found_with : (line : ℕ) (r : Rest) (ts : List Lexeme) → Found IsRest (Is r) ts → Found (BehindWord vars line) (λ w. (w.place ≡ (written_with line r).place) × (w.entry ≡ (written_with line r).entry)) ts
   found_with line r ts f = record {
     value = written_with line f.value;
     whole = record { text = f.whole.text; is = with_line line f.whole.text f.value f.whole.is; parts = f.whole.parts; fine = f.whole.fine };
@@ -229,10 +231,10 @@ module _ (bots actions vars : ℕ) (few_bots : bots < 2 ^ 16) (few_actions : act
   ranges : (e : Entry) → is_known bots actions e ≡ true → Ranges e
   ranges e known =
       let all = list_all (λ id. nat_lt id bots) (ids_of e) in
-      let a = and_true (nat_le e.caller 15 && nat_le e.turn 65535 && nat_lt e.action actions) all known in
-      let b = and_true (nat_le e.caller 15 && nat_le e.turn 65535) (nat_lt e.action actions) a.0 in
-      let c = and_true (nat_le e.caller 15) (nat_le e.turn 65535) b.0 in
-      let d = and_true (nat_lt e.bot bots) (list_all (λ id. nat_lt id bots) (flat_map ids_of_pair e.patch)) a.1 in
+      let a = and_parts (nat_le e.caller 15 && nat_le e.turn 65535 && nat_lt e.action actions) all known in
+      let b = and_parts (nat_le e.caller 15 && nat_le e.turn 65535) (nat_lt e.action actions) a.0 in
+      let c = and_parts (nat_le e.caller 15) (nat_le e.turn 65535) b.0 in
+      let d = and_parts (nat_lt e.bot bots) (list_all (λ id. nat_lt id bots) (flat_map ids_of_pair e.patch)) a.1 in
       record { caller = leb-true e.caller 15 c.0; turn = leb-true e.turn 65535 c.1; action = ltb-true e.action actions b.1; bot = ltb-true e.bot bots d.0; ids = d.1 }
 
   module _ (before : ℕ) (room : before < most_entries) (e : Entry) (k : KeepsLimits bots actions vars e) where
@@ -263,9 +265,6 @@ module _ (bots actions vars : ℕ) (few_bots : bots < 2 ^ 16) (few_actions : act
         (rereads_then (moved_words e.moved) (flat_map (pair_words vars) e.patch) e.moved (a_movement e.moved k.movement)
         (rereads_as (λ ps. a_rest its_numbers e.moved ps) (flat_map (pair_words vars) e.patch) e.patch (many_pairs bots vars few_bots le 10 e.patch k.few k.pairs known.ids)))
 
-    not_past : (t : Lexeme) → past_entries before t ≡ None
-    not_past t = let b : nat_lt before most_entries ≡ true = lt-ltb _ _ room in rw b refl
-
     entry_token : IsOneToken (codes "entry")
     entry_token = word_is_token _ _ refl refl (omega arith)
 
@@ -273,7 +272,7 @@ module _ (bots actions vars : ℕ) (few_bots : bots < 2 ^ 16) (few_actions : act
     entry_kind = refl
 
     the_entry_word : Rereads (IsEntryWord before) Any (codes "entry" ∷ [])
-    the_entry_word = rereads_made (λ (t : Lexeme). t.line) (codes "entry" ∷ []) (λ t s. tt) (one_rereads (codes "entry") entry_token (one_found (codes "entry") (the_passes Word (codes "entry") entry_kind refl) (λ t s. not_past t)))
+    the_entry_word = rereads_made (λ (t : Lexeme). t.line) (codes "entry" ∷ []) (λ t s. tt) (one_rereads (codes "entry") entry_token (one_found (codes "entry") (the_passes Word (codes "entry") entry_kind refl) (λ t s. not_past before most_entries room)))
 
     the_written : Rereads (IsWritten vars before) (λ w. (w.place ≡ before) × (w.entry ≡ e)) (entry_words vars (before, e))
     the_written = rereads_behind (codes "entry" ∷ []) rest_words the_entry_word the_rest.spelled the_rest.printed (λ line x ts s. found_with vars line its_rest ts (the_rest.read ts s))
@@ -298,9 +297,6 @@ module _ (bots actions vars : ℕ) (few_bots : bots < 2 ^ 16) (few_actions : act
 
   the_first_word : Rereads (IsWord (codes "journal")) Any (codes "journal" ∷ [])
   the_first_word = the_word _ _ refl refl (omega arith) refl
-
-  the_last_word : Rereads (IsThe is_end) Any (codes "end" ∷ [])
-  the_last_word = the_word _ _ refl refl (omega arith) refl
 
   pub journal_lines : (es : List Entry) → length es ≤ most_entries → All (KeepsLimits bots actions vars) es → RereadsLines (IsJournal bots actions vars) (Is es) ((codes "journal" ∷ []) ∷ map (entry_words vars) (enumerate_from 0 es) ++ (codes "end" ∷ []) ∷ [])
   journal_lines es fit all =

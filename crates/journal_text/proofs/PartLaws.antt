@@ -1,21 +1,19 @@
 -- The readers of what several sections have are parts for their grammars.
-use Rattle.std.proofs.Common.{◌≡◌, ℕ, pos, Bool, true, false, List, Option, refl}
+use Rattle.std.proofs.Common.{◌≡◌, ℕ, pos, Bool, true, false, List, refl}
 use Rattle.std.specs.Prelude.{codes}
 use Rattle.std.specs.Str.{bytes_eq}
 use Rattle.text_tokens.specs.declared.token.TokenKind.TheVariants.{Word, Number, Sign}
-use Rattle.text_tokens.specs.declared.refusal.RefusalKind.{RefusalKind}
 use Rattle.text_tokens.specs.declared.refusal.RefusalKind.TheVariants.{BadRange}
 use Rattle.text_tokens.specs.Text.{Lexeme}
 use Rattle.text_tokens.specs.Cursor.{same_kind}
-use Rattle.text_tokens.specs.Reading.{Reader, ◌>>=◌, pure, is_number, too_large, no_limit, closed, either}
-use Rattle.text_tokens.specs.Grammar.{Lang, Then, Made, IsThe, Closed, Either}
-use Rattle.text_tokens.specs.Lawful.{IsPart, Starts, StartsIn, HasTokens, always}
-use Rattle.text_tokens.proofs.Carrying.{part_made}
-use Rattle.text_tokens.proofs.Parts.{some_text, part_behind, part_closed}
+use Rattle.text_tokens.specs.Reading.{Reader, is_number, too_large, no_limit, closed}
+use Rattle.text_tokens.specs.Grammar.{Lang, Then, Made, IsThe, Closed}
+use Rattle.text_tokens.specs.Lawful.{IsPart, Starts, always}
+use Rattle.text_tokens.proofs.Parts.{some_text, part_closed}
 use Rattle.text_tokens.proofs.Beginnings.{starts_in, starts_some, starts_made, starts_then}
-use Rattle.text_tokens.proofs.Choosing.{part_either}
 use Rattle.text_tokens.proofs.Repeating.{part_times}
 use Rattle.text_tokens.proofs.Distinguishing.{sample, passes, kind_is, other_text, a_token, a_numeral, starts_the, starts_numeral}
+use Rattle.text_tokens.proofs.Joining.{behind, into, one_of_two}
 use Rattle.amoebot_state.specs.declared.bot.Chir.TheVariants.{Plus, Minus}
 use Rattle.amoebot_state.specs.declared.bot.End.TheVariants.{Head, Tail}
 use Rattle.journal_text.specs.Parts.{word, sign, is_minus, is_end, IsWord, Means, IsNumber, IsUpTo, negative, IsInt, a_node_of, IsNode, IsEnd, IsChirality, a_port_of, IsPort, IsValues, a_bot_of, IsBot}
@@ -23,25 +21,9 @@ use Rattle.journal_text.specs.Readers.{a_word, a_number, up_to, an_int, a_node, 
 
 -- ---- forms
 
--- behind a part with which no token goes on
-pub behind : {A B : Type 0} {P : Lang A} {p : Reader A} {Q : A → Lang B} {q : A → Reader B} {stop : Lexeme → Bool} → IsPart P p always → ((a : A) → IsPart (Q a) (q a) stop) → IsPart (Then P Q) (p >>= q) stop
-behind {P = P} {p = p} {Q = Q} {q = q} {stop = stop} before part = part_behind P p Q q stop before part
-
-pub into : {A B : Type 0} {P : Lang A} {p : Reader A} {stop : Lexeme → Bool} (f : A → B) → IsPart P p stop → IsPart (Made P f) (p >>= λ a. pure (f a)) stop
-into {P = P} {p = p} {stop = stop} f part = part_made P f p stop part
-
+-- a list up to its end
 pub up_to_end : {A : Type 0} {P : Lang A} {p : Reader A} → IsPart P p is_end → IsPart (Closed P is_end) (closed p is_end) always
 up_to_end {P = P} {p = p} part = part_closed P p is_end (sample Word (codes "end")) (passes Word (codes "end") refl) part
-
--- one of two that begin with different tokens
-pub one_of_two : {A : Type 0} {P Q : Lang A} {p q : Reader A} (starts other : Lexeme → Bool) (over : Lexeme → Option RefusalKind) → Starts P starts over → StartsIn Q other → HasTokens Q → ((t : Lexeme) → other t ≡ true → starts t ≡ false) → IsPart P p always → IsPart Q q always → IsPart (Either P Q) (either starts p q) always
-one_of_two {P = P} {Q = Q} {p = p} {q = q} starts other over s within some differ part second = part_either P Q p q starts over always (record {
-  one = part;
-  other = second;
-  start = s;
-  differ = λ xs a t is e. differ t (within xs a t is e);
-  ends = λ xs a t is e f. absurd (some xs a is e);
-})
 
 -- a part that begins with this word
 pub starts_word : {B : Type 0} (text : List ℕ) (Q : ℕ → Lang B) (q : ℕ → Reader B) (stop : Lexeme → Bool) → ((line : ℕ) → IsPart (Q line) (q line) stop) → Starts (Then (IsWord text) Q) (word text) no_limit

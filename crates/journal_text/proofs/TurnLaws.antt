@@ -9,15 +9,16 @@ use Rattle.text_tokens.specs.Grammar.{Lang, IsThe, Then, Either}
 use Rattle.text_tokens.specs.Lawful.{Exact, IsPart, always, Starts, AreElements}
 use Rattle.text_tokens.proofs.Exactness.{exact}
 use Rattle.text_tokens.proofs.Parts.{part_the}
-use Rattle.text_tokens.proofs.Beginnings.{starts_in, starts_some}
+use Rattle.text_tokens.proofs.Beginnings.{starts_in, starts_some, starts_either}
 use Rattle.text_tokens.proofs.Repeating.{part_repeated}
-use Rattle.text_tokens.proofs.Distinguishing.{sample, other_text}
+use Rattle.text_tokens.proofs.Distinguishing.{sample, other_text, not_either}
+use Rattle.text_tokens.proofs.Joining.{behind, into, one_of_two}
 use Rattle.journal_text.specs.Parts.{word, is_end, IsWord, IsNumber}
 use Rattle.journal_text.specs.Journals.{IsCell}
 use Rattle.journal_text.specs.Turns.{Nothing, Unheeded, names_failure, is_failure, IsPlaced, IsFailed, IsClaimant, IsBusy, IsMark, is_turn, IsTurn, as_before, AreTurns, IsTurns}
 use Rattle.journal_text.specs.Readers.{a_word, a_number, unheeded, placed, a_cell, a_failed, a_claimant, a_busy, a_mark, a_turn, turn_in, all_turns, the_turns}
-use Rattle.journal_text.proofs.PartLaws.{behind, into, up_to_end, one_of_two, starts_word, part_word, part_number}
-use Rattle.journal_text.proofs.JournalLaws.{not_either, starts_either, part_cell}
+use Rattle.journal_text.proofs.PartLaws.{up_to_end, starts_word, part_word, part_number}
+use Rattle.journal_text.proofs.JournalLaws.{part_cell}
 
 part_unheeded : IsPart (Unheeded IsNumber) (unheeded a_number) always
 part_unheeded = into (λ n. tt) part_number

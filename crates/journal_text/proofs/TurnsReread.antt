@@ -16,14 +16,14 @@ use Rattle.amoebot_state.specs.declared.verdict.Failure.TheVariants as failure
 use Rattle.claim_core.specs.Turns.{MarkLists}
 use Rattle.claim_core.specs.declared.marks.Mark.{Mark}
 use Rattle.claim_core.specs.declared.marks.Mark.TheVariants as mark
-use Rattle.journal_text.specs.Parts.{is_end, IsWord, IsNumber}
+use Rattle.journal_text.specs.Parts.{IsWord, IsNumber}
 use Rattle.journal_text.specs.Journals.{IsCell}
 use Rattle.journal_text.specs.Texts.{cell_words, failure_word, mark_words, turn_words, caller_lines}
 use Rattle.journal_text.specs.Turns.{Nothing, Unheeded, names_failure, is_failure, IsPlaced, IsFailed, IsClaimant, IsBusy, IsMark, IsTurn, as_before, AreTurns, IsTurns}
 use Rattle.journal_text.specs.Rereading.{IsShort, IsWritableCell, IsClaim, IsWritableMark, AreWritable, TurnsReadBack}
 use Rattle.text_tokens.proofs.Respelling.{Is, Any, Rereads, RereadsLines, IsSpelled, rereads_next, rereads_made, rereads_first, rereads_second, one_found, one_rereads, kind_passes, found_made, more_of, lines_into, lines_behind_line, lines_next, lines_then, lines_made, lines_nothing, reread_line}
 use Rattle.journal_text.proofs.Saying.{lines_say}
-use Rattle.journal_text.proofs.JournalsReread.{any_number, the_word, a_spot, a_body}
+use Rattle.journal_text.proofs.JournalsReread.{any_number, the_word, a_spot, a_body, the_last_word}
 
 -- ---- marks
 
@@ -142,9 +142,6 @@ all_turns caller (marks ∷ lists) fit all =
 
 the_first_word : Rereads (IsWord (codes "turns")) Any (codes "turns" ∷ [])
 the_first_word = the_word _ _ refl refl (omega arith) refl
-
-the_last_word : Rereads (IsThe is_end) Any (codes "end" ∷ [])
-the_last_word = the_word _ _ refl refl (omega arith) refl
 
 pub turns_lines : (m : MarkLists) → length m.marks ≤ 16 → All AreWritable m.marks → RereadsLines IsTurns (Is tt) ((codes "turns" ∷ []) ∷ flat_map caller_lines (enumerate_from 0 m.marks) ++ (codes "end" ∷ []) ∷ [])
 turns_lines m few all =

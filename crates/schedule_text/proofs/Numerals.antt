@@ -1,8 +1,11 @@
 -- A number with a limit, from what a `Tokens` answers to what the reader does.
-use Rattle.std.proofs.Common.{◌≡◌, ℕ, List, Option, Some, None, Ok, Err, ap, ◌∙◌}
+use Rattle.std.proofs.Common.{◌≡◌, ℕ, List, Option, Some, None, Ok, Err, ap, ◌∙◌, ◌<◌, ◌≤◌, true, false, refl}
+use Rattle.std.proofs.lemmas.Bool.{lt-ltb, le-ltb}
+use Rattle.std.specs.Prelude.{nat_lt, if◌then◌else◌}
 use Rattle.text_tokens.specs.declared.token.Token.{Token}
 use Rattle.text_tokens.specs.declared.refusal.Refusal.{Refusal}
 use Rattle.text_tokens.specs.declared.refusal.RefusalKind.{RefusalKind}
+use Rattle.text_tokens.specs.declared.refusal.RefusalKind.TheVariants.{TooMany, BadId}
 use Rattle.text_tokens.specs.declared.refusal.ReadRefusal.TheVariants.{Refused}
 use Rattle.text_tokens.specs.Text.{Lexeme}
 use Rattle.text_tokens.specs.Cursor.{Cursor, Spells, expect, past_token, number_value, slice}
@@ -33,3 +36,21 @@ module _ (over : Lexeme → Option RefusalKind) (now new : Cursor) where
     pub number_taken : (n : ℕ) → n ≡ value Its → over Its ≡ None → Reached (numeral over) now n new
     unfolding numeral
     number_taken n v fine = rw v (on_made (one_within is_number over) value now new Its (took is_number over now new t e moves s fine))
+
+-- a number of one of so many, where only so many may come
+module _ (most known before : ℕ) (t : Lexeme) where
+  abbrev Past : Option RefusalKind
+  Past = if nat_lt before most then if nat_lt (value t) known then None else Some BadId else Some TooMany
+
+  pub is_past : most ≤ before → Past ≡ Some TooMany
+  is_past le = let a : nat_lt before most ≡ false = le-ltb _ _ le in rw a refl
+
+  module _ (room : before < most) where
+    has_room : nat_lt before most ≡ true
+    has_room = lt-ltb _ _ room
+
+    pub is_unknown : known ≤ value t → Past ≡ Some BadId
+    is_unknown le = let b : nat_lt (value t) known ≡ false = le-ltb _ _ le in rw (has_room, b) refl
+
+    pub is_known : value t < known → Past ≡ None
+    is_known lt = let b : nat_lt (value t) known ≡ true = lt-ltb _ _ lt in rw (has_room, b) refl

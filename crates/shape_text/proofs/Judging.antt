@@ -109,7 +109,7 @@ first_refused maxes s e f w k at kind =
 abbrev Code : Type 0
 Code = code_bot.WrittenBot
 
-abbrev its_bot : Code → Bot
+abbrev pub its_bot : Code → Bot
 its_bot b = b.bot
 
 pub same_bots : (ws : List Code) → map bot_in (map view.bot ws) ≡ map its_bot ws

@@ -11,9 +11,10 @@ use Rattle.text_tokens.proofs.Parts.{some_text, part_one, part_judged}
 use Rattle.text_tokens.proofs.Beginnings.{starts_one, starts_made, starts_then, starts_judged}
 use Rattle.text_tokens.proofs.Repeating.{part_repeated}
 use Rattle.text_tokens.proofs.Distinguishing.{sample, passes, other_text, a_numeral}
+use Rattle.text_tokens.proofs.Joining.{behind, into}
 use Rattle.journal_text.specs.Parts.{word, is_end, IsWord, IsBot}
 use Rattle.journal_text.specs.Readers.{a_word, a_bot}
-use Rattle.journal_text.proofs.PartLaws.{behind, into, up_to_end, starts_word, part_word, part_int, part_bot}
+use Rattle.journal_text.proofs.PartLaws.{up_to_end, starts_word, part_word, part_int, part_bot}
 use Rattle.shape_text.specs.Shapes.{outside, IsSide, an_area_of, IsAreaLine, is_bot, WrittenBot, written_bot, past_bots, IsBotWord, IsBotLine, one_more, AreBots, WrittenShape, written_shape, IsWritten, wrong, stands_for, IsShapeUnder, IsShape, IsFinal}
 use Rattle.shape_text.specs.Readers.{a_side, an_area, bot_word, a_bot_line, bots_from, a_drawing, written, shape_under, a_shape, a_final}
 
@@ -64,7 +65,7 @@ module _ (vars : ℕ) where
   unfolding bots_from
   part_bots before = part_repeated (IsBotLine vars) (a_bot_line vars) one_more is_bot always is_end bot_elements before
 
-  abbrev Drawing : Lang WrittenShape
+  abbrev pub Drawing : Lang WrittenShape
   Drawing = Then IsAreaLine (λ area. Made (AreBots vars 0) (λ bots. written_shape area bots))
 
   part_drawing : IsPart Drawing (a_drawing vars) is_end

@@ -1,12 +1,12 @@
 -- The text of a shape is read as its configuration.
 use Rattle.std.proofs.Common.{◌≡◌, ℕ, ℤ, pos, negsuc, zero, suc, ◌+◌, ◌<◌, ◌≤◌, true, List, [], ◌∷◌, ◌++◌, length, map, Option, Some, None, Ok, codes, refl, sym, ap, subst, ◌∙◌, arith}
-use Rattle.std.specs.Prelude.{◌≤ℤ◌, ◌-ℤ◌, decimal, nat_le, nat_lt, slice_index, slice_index_or, IsTrue}
+use Rattle.std.specs.Prelude.{◌≤ℤ◌, ◌-ℤ◌, decimal, nat_le, slice_index, slice_index_or, IsTrue}
 use Rattle.std.specs.Fmt.{signed_decimal}
 use Rattle.std.specs.Option.{IsSome}
 use Rattle.std.specs.List.{All}
 use Rattle.std.proofs.lemmas.List.{append-nil, get_or_default, get_or-map, length-map}
 use Rattle.std.proofs.lemmas.List.Elements.{All-head, All-tail}
-use Rattle.std.proofs.lemmas.Bool.{leb-true, le-leb, lt-ltb}
+use Rattle.std.proofs.lemmas.Bool.{leb-true, le-leb, and_parts}
 use Rattle.std.proofs.lemmas.Int.{ints}
 use Rattle.tri_lattice.specs.declared.node.Node.{Node}
 use Rattle.tri_lattice.specs.Extent.{Extent, IsArea, is_in}
@@ -16,8 +16,7 @@ use Rattle.text_tokens.specs.declared.refusal.Refusal.{Refusal}
 use Rattle.text_tokens.specs.Text.{Lexeme}
 use Rattle.text_tokens.specs.Lines.{Words}
 use Rattle.text_tokens.specs.Reading.{value}
-use Rattle.text_tokens.specs.Grammar.{Lang, Then, Made, Closed, Judged, is_judgement, point, first_fault, no_more}
-use Rattle.text_tokens.proofs.Blanks.{and_true}
+use Rattle.text_tokens.specs.Grammar.{Lang, Closed, Judged, is_judgement, point, first_fault, no_more}
 use Rattle.text_tokens.proofs.PrintedTokens.{word_is_token}
 use Rattle.amoebot_state.specs.declared.bot.Bot.{Bot}
 use Rattle.amoebot_state.specs.Configs.{Config, config_of, IsValid, bot_at, has_values}
@@ -27,12 +26,14 @@ use Rattle.journal_text.specs.Parts.{is_end, IsWord}
 use Rattle.journal_text.specs.JournalRows.{Says}
 use Rattle.journal_text.specs.Rereading.{size, HasCoordinates, HasLimits}
 use Rattle.text_tokens.proofs.Respelling.{Found, Is, Any, Rereads, RereadsLines, rereads_then, rereads_next, rereads_made, rereads_as, rereads_number, rereads_behind, one_rereads, one_found, the_passes, whole_then, found_made, rereads_the, reread_line, lines_into, lines_made, lines_then, lines_next, lines_behind_line, lines_nothing, more_of}
+use Rattle.text_tokens.proofs.Stepping.{not_past}
 use Rattle.journal_text.proofs.Saying.{lines_say}
 use Rattle.journal_text.proofs.JournalsReread.{the_word, an_int, a_bot}
-use Rattle.shape_text.specs.Shapes.{outside, IsSide, an_area_of, IsAreaLine, WrittenBot, written_bot, bot_in, past_bots, IsBotWord, IsBotLine, one_more, AreBots, WrittenShape, written_shape, wrong, stands_for, IsShapeUnder}
+use Rattle.shape_text.specs.Shapes.{outside, IsSide, an_area_of, IsAreaLine, WrittenBot, written_bot, bot_in, IsBotWord, IsBotLine, one_more, AreBots, WrittenShape, written_shape, wrong, stands_for, IsShapeUnder}
 use Rattle.shape_text.specs.Texts.{area_words, bot_line, present, shape_text}
 use Rattle.shape_text.specs.Rereading.{IsWritable, ShapesReadBack}
 use Rattle.shape_text.proofs.Judging.{faultless_fits}
+use Rattle.shape_text.proofs.ShapeLaws.{Drawing}
 
 -- ---- the area
 
@@ -67,11 +68,8 @@ module _ (vars : ℕ) (le : vars ≤ 8) where
   abbrev These : List Bot → List WrittenBot → Type 0
   These bs ws = map bot_in ws ≡ bs
 
-  not_past : (before : ℕ) → before < most_bots → (t : Lexeme) → past_bots before t ≡ None
-  not_past before lt t = let b : nat_lt before most_bots ≡ true = lt-ltb _ _ lt in rw b refl
-
   the_bot_word : (before : ℕ) → before < most_bots → Rereads (IsBotWord before) Any (codes "bot" ∷ [])
-  the_bot_word before lt = rereads_made (λ (t : Lexeme). t.line) (codes "bot" ∷ []) (λ t s. tt) (one_rereads (codes "bot") (word_is_token _ _ refl refl (omega arith)) (one_found (codes "bot") (the_passes Word (codes "bot") refl refl) (λ t s. not_past before lt t)))
+  the_bot_word before lt = rereads_made (λ (t : Lexeme). t.line) (codes "bot" ∷ []) (λ t s. tt) (one_rereads (codes "bot") (word_is_token _ _ refl refl (omega arith)) (one_found (codes "bot") (the_passes Word (codes "bot") refl refl) (λ t s. not_past before most_bots lt)))
 
   the_bot : (before : ℕ) → before < most_bots → (b : Bot) → HasLimits vars b → Rereads (IsBotLine vars before) (Its b) (bot_line vars b)
   the_bot before lt b l =
@@ -110,13 +108,10 @@ module _ (vars : ℕ) (le : vars ≤ 8) (a : Extent) (maxes : List ℕ) (bs : Li
   abbrev the_lines : List Words
   the_lines = area_words a ∷ map (bot_line vars) bs
 
-  abbrev Drawing : Lang WrittenShape
-  Drawing = Then IsAreaLine (λ area. Made (AreBots vars 0) (λ bots. written_shape area bots))
-
-  drawing : RereadsLines Drawing IsThis the_lines
+  drawing : RereadsLines (Drawing vars) IsThis the_lines
   drawing = lines_then (area_words a ∷ []) (map (bot_line vars) bs) a (reread_line (area_words a) (the_area a valid.area)) (lines_made (λ bots. written_shape a bots) (map (bot_line vars) bs) (λ ws e. (refl, e)) (the_bots vars le 0 bs (omega (arith, few)) limits))
 
-  closed_drawing : RereadsLines (Closed Drawing is_end) IsThis (the_lines ++ (codes "end" ∷ []) ∷ [])
+  closed_drawing : RereadsLines (Closed (Drawing vars) is_end) IsThis (the_lines ++ (codes "end" ∷ []) ∷ [])
   closed_drawing =
       let last = reread_line (codes "end" ∷ []) (rereads_the Word (codes "end") (word_is_token _ _ refl refl (omega arith)) refl refl) in
       lines_behind_line the_lines ((codes "end" ∷ []) ∷ []) drawing last.spelled last.printed (λ s is ts e. found_made (λ line. s) (λ line x. is) ts (last.read ts e))
@@ -157,14 +152,14 @@ module _ (maxes mem : List ℕ) (eight : length mem ≡ 8) (most : length maxes 
 
   each : (k : ℕ) → k < 8 → Fits k
   each k lt =
-      let a = and_true _ _ has in
-      let b = and_true _ _ a.1 in
-      let c = and_true _ _ b.1 in
-      let d = and_true _ _ c.1 in
-      let e = and_true _ _ d.1 in
-      let f = and_true _ _ e.1 in
-      let g = and_true _ _ f.1 in
-      let h = and_true _ _ g.1 in
+      let a = and_parts _ _ has in
+      let b = and_parts _ _ a.1 in
+      let c = and_parts _ _ b.1 in
+      let d = and_parts _ _ c.1 in
+      let e = and_parts _ _ d.1 in
+      let f = and_parts _ _ e.1 in
+      let g = and_parts _ _ f.1 in
+      let h = and_parts _ _ g.1 in
       of_eight k lt a.0 b.0 c.0 d.0 e.0 f.0 g.0 h.0
     where
       of_eight : (k : ℕ) → k < 8 → Fits 0 → Fits 1 → Fits 2 → Fits 3 → Fits 4 → Fits 5 → Fits 6 → Fits 7 → Fits k

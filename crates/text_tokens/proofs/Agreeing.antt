@@ -1,4 +1,5 @@
 use Rattle.std.proofs.Common.{◌≡◌, List, [], ◌∷◌, ◌++◌, Some, None, Err, refl, sym, ap, subst, ◌∙◌}
+use Rattle.std.proofs.lemmas.Option.{same_Some}
 use Rattle.text_tokens.specs.declared.refusal.Refusal.{Refusal}
 use Rattle.text_tokens.specs.declared.refusal.RefusalKind.TheVariants.{TooMany, Truncated}
 use Rattle.text_tokens.specs.declared.token.TokenKind.TheVariants.{Word}
@@ -7,7 +8,7 @@ use Rattle.text_tokens.specs.Reading.{Answer}
 use Rattle.text_tokens.specs.Grammar.{Symbol, tokens, first_fault, outcome}
 use Rattle.text_tokens.specs.Lawful.{Next, Stops, Tells, IsFault, limit, stuck}
 use Rattle.text_tokens.specs.Agreement.{r0, Two, short, long, two, AllButAgreement}
-use Rattle.text_tokens.proofs.Exactness.{none_stops, some_is}
+use Rattle.text_tokens.proofs.Exactness.{none_stops}
 use Rattle.text_tokens.proofs.Parts.{single}
 
 -- where a symbol may be
@@ -49,9 +50,9 @@ stuck_at_end last t = stuck (t ∷ []) [] refl (record {
 })
 
 refused_by : (us : List Lexeme) (x : Symbol) (r : Refusal) (t : Lexeme) (last : Refusal) (rest : List Lexeme) → At us x → x.fault ≡ Some r → two last (us ++ t ∷ rest) ≡ Err r
-refused_by us x r t last rest (refused u e f) g = ap (λ (ws : List Lexeme). two last (ws ++ t ∷ rest)) e ∙ ap (λ (s : Refusal). Err s) (some_is (sym (ap (λ (x : Symbol). x.fault) f) ∙ g))
+refused_by us x r t last rest (refused u e f) g = ap (λ (ws : List Lexeme). two last (ws ++ t ∷ rest)) e ∙ ap (λ (s : Refusal). Err s) (same_Some _ _ (sym (ap (λ (x : Symbol). x.fault) f) ∙ g))
 refused_by us x r t last rest (passed u e f) g = let h : None ≡ Some r = sym (ap (λ (x : Symbol). x.fault) f) ∙ g in absurd cc
-refused_by us x r t last rest (second v u e f) g = ap (λ (ws : List Lexeme). two last (ws ++ t ∷ rest)) e ∙ ap (λ (s : Refusal). Err s) (some_is (sym (ap (λ (x : Symbol). x.fault) f) ∙ g))
+refused_by us x r t last rest (second v u e f) g = ap (λ (ws : List Lexeme). two last (ws ++ t ∷ rest)) e ∙ ap (λ (s : Refusal). Err s) (same_Some _ _ (sym (ap (λ (x : Symbol). x.fault) f) ∙ g))
 
 a_lexeme_free : (last : Refusal) → IsFault Two last [] last
 a_lexeme_free last = stuck [] [] refl (record {

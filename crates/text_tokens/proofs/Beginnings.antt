@@ -1,13 +1,15 @@
 -- With which tokens the texts of a grammar begin.
-use Rattle.std.proofs.Common.{◌≡◌, ℕ, zero, suc, Bool, true, List, [], ◌∷◌, ◌++◌, Option, Some, None, refl, sym, ap, subst, ◌∙◌}
+use Rattle.std.proofs.Common.{◌≡◌, ℕ, zero, suc, Bool, true, List, [], ◌∷◌, ◌++◌, Option, Some, None, refl, sym, ap, subst, ◌∙◌, false, ◌||◌}
+use Rattle.std.proofs.lemmas.Option.{same_Some}
+use Rattle.std.proofs.lemmas.Bool.{or_left, or_right}
 use Rattle.text_tokens.specs.declared.refusal.Refusal.{Refusal}
 use Rattle.text_tokens.specs.declared.refusal.RefusalKind.{RefusalKind}
 use Rattle.text_tokens.specs.Text.{Lexeme}
-use Rattle.text_tokens.specs.Reading.{first, past_kind}
+use Rattle.text_tokens.specs.Reading.{first, past_kind, no_limit}
 use Rattle.text_tokens.specs.Grammar.{Symbol, symbol, refusal_of, with_token, tokens, Lang, IsOne, is_one, Then, then, Made, made, IsNothing, is_nothing, IsJudgement, is_judgement, Judged, Either, of_first, of_second, past_symbol, past, Limited, in_limit, one_too_many, Repeated, no_more, one_more}
 use Rattle.text_tokens.specs.Lawful.{Next, GoesOn, SomeText, BeginsWith, SomeFrom, Starts, StartsIn, HasTokens, limit_at}
 use Rattle.text_tokens.proofs.Symbols.{tokens-append}
-use Rattle.text_tokens.proofs.Exactness.{some_is, tokens-token}
+use Rattle.text_tokens.proofs.Exactness.{tokens-token}
 
 pub begins_tokens : (starts : Lexeme → Bool) (over : Lexeme → Option RefusalKind) (xs : List Symbol) (b : BeginsWith starts over xs) → tokens xs ≡ b.t ∷ tokens b.more
 begins_tokens starts over xs b = ap tokens b.parts
@@ -35,7 +37,7 @@ front_token (z ∷ text) x more y ys t e f g =
 
 module _ {A : Type 0} (P : Lang A) (starts : Lexeme → Bool) (over : Lexeme → Option RefusalKind) (s : Starts P starts over) where
   pub starts_in : StartsIn P starts
-  starts_in xs a t is e = let b = s.begins xs a is in ap starts (some_is (sym e ∙ ap first (begins_tokens starts over xs b))) ∙ b.passes
+  starts_in xs a t is e = let b = s.begins xs a is in ap starts (same_Some _ _ (sym e ∙ ap first (begins_tokens starts over xs b))) ∙ b.passes
 
   pub starts_some : HasTokens P
   starts_some xs a is e = let b = s.begins xs a is in let f : b.t ∷ tokens b.more ≡ [] = sym (begins_tokens starts over xs b) ∙ e in absurd cc
@@ -81,6 +83,18 @@ starts_then {B = B} P Q starts over s some = record { begins = begins; each = ea
 
 pub starts_judged : {A : Type 0} (P : Lang A) (wrong : A → Option Refusal) (starts : Lexeme → Bool) (over : Lexeme → Option RefusalKind) → Starts P starts over → Starts (Judged P wrong) starts over
 starts_judged P wrong starts over s = starts_then P (λ a. IsJudgement (wrong a) a) starts over s (λ a. record { text = _; whole = a; is = is_judgement })
+
+-- a text begins with the first token of one or the other
+pub starts_either : {A : Type 0} (P Q : Lang A) (a b : Lexeme → Bool) → Starts P a no_limit → Starts Q b no_limit → Starts (Either P Q) (λ t. a t || b t) no_limit
+starts_either {A} P Q a b s r = record { begins = begins; each = λ t e. each t (a t) refl e }
+  where
+    begins : (xs : List Symbol) (x : A) → Either P Q xs x → BeginsWith (λ t. a t || b t) no_limit xs
+    begins xs x (of_first is) = let i = s.begins xs x is in record { t = i.t; more = i.more; parts = i.parts; passes = or_left (a i.t) (b i.t) i.passes }
+    begins xs x (of_second is) = let i = r.begins xs x is in record { t = i.t; more = i.more; parts = i.parts; passes = or_right (a i.t) (b i.t) i.passes }
+
+    each : (t : Lexeme) (x : Bool) → a t ≡ x → (x || b t) ≡ true → SomeFrom (Either P Q) (symbol t None)
+    each t true f e = let i = s.each t f in record { more = i.more; whole = i.whole; is = of_first i.is }
+    each t false f e = let i = r.each t e in record { more = i.more; whole = i.whole; is = of_second i.is }
 
 -- how the first token is refused of one too many
 past_is : (t : Lexeme) (o : Option RefusalKind) → past_symbol (Some t) (refusal_of t o) ≡ refusal_of t (Some (past_kind o))

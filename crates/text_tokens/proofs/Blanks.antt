@@ -4,12 +4,14 @@ use Rattle.std.proofs.lemmas.List.{drop-drop}
 use Rattle.std.proofs.lemmas.List.Sums.{sum_by-append}
 use Rattle.std.proofs.Math.Seq.{take-add}
 use Rattle.std.specs.List.{list_all, count_by}
-use Rattle.std.specs.Prelude.{◌==◌, ◌||◌, ◌&&◌}
+use Rattle.std.specs.Prelude.{◌==◌}
 use Rattle.std.proofs.lemmas.Bool.Decides.{nat_tests}
+use Rattle.std.proofs.lemmas.Bool.{and_parts, or_parts}
 use Rattle.text_tokens.specs.declared.tokens.Between.{Between}
 use Rattle.text_tokens.specs.declared.tokens.Between.TheVariants.{LineFeed, Blank, Comment, Start}
 use Rattle.text_tokens.specs.Text.{is_blank, is_in_line, Skips, nothing, blank, comment, last_comment, IsSkipped, line_at, Comes}
 use Rattle.text_tokens.specs.Scan.{Input, between_at, skip_by, skip, ready}
+use Rattle.text_tokens.proofs.Scanning.{start_outside}
 
 -- ---- the text that is left, without places and lines
 
@@ -36,19 +38,11 @@ skip_rest (b ∷ text) inside at line = skip_rest_by (between_at inside b) _ _ _
 
 -- ---- bytes between tokens
 
-or_false : (p q : Bool) → (p || q) ≡ false → (p ≡ false) × (q ≡ false)
-or_false true q e = absurd cc
-or_false false q e = (refl, e)
-
-pub and_true : (p q : Bool) → (p && q) ≡ true → (p ≡ true) × (q ≡ true)
-and_true true q e = (refl, e)
-and_true false q e = absurd cc
-
 start_by : (p q r : Bool) → q ≡ false → p ≡ false → r ≡ false → cond p LineFeed (cond q Blank (cond r Comment Start)) ≡ Start
 start_by p q r e f g = rw (f, e, g) refl
 
 is_start : (b : ℕ) → is_blank b ≡ false → (b == 35) ≡ false → between_at false b ≡ Start
-is_start b e f = start_by (b == 10) (is_blank b) (b == 35) e (or_false _ (b == 10) e).1 f
+is_start b e f = start_by (b == 10) (is_blank b) (b == 35) e (or_parts _ (b == 10) e).1 f
 
 start_is_by : (p q r : Bool) → cond p LineFeed (cond q Blank (cond r Comment Start)) ≡ Start → (q ≡ false) × (r ≡ false)
 start_is_by true q r e = absurd cc
@@ -75,14 +69,14 @@ in_line_by : (p : Bool) → cond p false true ≡ true → p ≡ false
 in_line_by true e = absurd cc
 in_line_by false e = refl
 
-in_line : (b : ℕ) → is_in_line b ≡ true → (b == 10) ≡ false
+pub in_line : (b : ℕ) → is_in_line b ≡ true → (b == 10) ≡ false
 in_line b e = in_line_by (b == 10) e
 
 skips_comment : (inside text : List ℕ) → list_all is_in_line inside ≡ true → rest_of true (inside ++ 10 ∷ text) ≡ rest_of false text
 unfolding rest_of
 skips_comment [] text e = refl
 skips_comment (b ∷ inside) text e =
-    let a = and_true (is_in_line b) (list_all is_in_line inside) e in
+    let a = and_parts (is_in_line b) (list_all is_in_line inside) e in
     let n : (b == 10) ≡ false = in_line b a.0 in
     rw n (skips_comment inside text a.1)
 
@@ -90,7 +84,7 @@ skips_last : (inside : List ℕ) → list_all is_in_line inside ≡ true → res
 unfolding rest_of
 skips_last [] e = refl
 skips_last (b ∷ inside) e =
-    let a = and_true (is_in_line b) (list_all is_in_line inside) e in
+    let a = and_parts (is_in_line b) (list_all is_in_line inside) e in
     let n : (b == 10) ≡ false = in_line b a.0 in
     rw n (skips_last inside a.1)
 
@@ -143,13 +137,8 @@ skipped_by Blank b text u v w s p q r = q
 skipped_by Comment b text u v w s p q r = r
 skipped_by Start b text u v w s p q r = s refl
 
-never_inside : (p : Bool) → cond p LineFeed Blank ≡ Start → ⊥
-never_inside true e = absurd cc
-never_inside false e = absurd cc
-
 starts_skipped : (inside : Bool) (b : ℕ) (text : List ℕ) → between_at inside b ≡ Start → IsSkipped (b ∷ text)
-starts_skipped true b text e = absurd (never_inside (b == 10) e)
-starts_skipped false b text e = start_is_by (b == 10) (is_blank b) (b == 35) e
+starts_skipped inside b text e = start_is_by (b == 10) (is_blank b) (b == 35) (start_outside inside b e)
 
 pub rest_skipped : (text : List ℕ) (inside : Bool) → IsSkipped (rest_of inside text)
 unfolding rest_of

@@ -1,5 +1,6 @@
 -- Choices by the next token.
 use Rattle.std.proofs.Common.{◌≡◌, ℕ, zero, suc, Bool, true, false, cond, List, [], ◌∷◌, ◌++◌, Option, Some, None, Err, refl, sym, ap, subst, ◌∙◌}
+use Rattle.std.proofs.lemmas.Option.{same_Some}
 use Rattle.text_tokens.specs.declared.refusal.Refusal.{Refusal}
 use Rattle.text_tokens.specs.declared.refusal.RefusalKind.{RefusalKind}
 use Rattle.text_tokens.specs.Text.{Lexeme}
@@ -7,7 +8,6 @@ use Rattle.text_tokens.specs.Reading.{Answer, Reader, first, pure, refuse, stop,
 use Rattle.text_tokens.specs.Grammar.{Symbol, symbol, tokens, first_fault, or_else, outcome, Lang, IsNothing, Either, of_first, of_second, IsOptional, past, Limited, in_limit, one_too_many}
 use Rattle.text_tokens.specs.Lawful.{Next, GoesOn, Stops, limit, stuck, Tells, Lawful, LawfulAt, Halts, always, IsPart, SomeText, SomeFrom, Starts, limit_at, BeginsNone, IsBranch, IsForeign, IsStopped, IsChoice, IsHandled, handled, no_role, HasRoles}
 use Rattle.text_tokens.proofs.Symbols.{tokens-append}
-use Rattle.text_tokens.proofs.Exactness.{some_is}
 use Rattle.text_tokens.proofs.Carrying.{law_carried, law_of_some, unmapped, next_as, whole_as, part_same}
 use Rattle.text_tokens.proofs.Parts.{some_text, part_less, part_nothing}
 use Rattle.text_tokens.proofs.Beginnings.{head_or, first_head, first_at, front_token, begins_tokens, starts_in, starts_some, starts_on, starts_place, starts_limited, starts_in_nothing}
@@ -138,7 +138,7 @@ module _ {A : Type 0} (t : Lexeme) (kind : RefusalKind) (R : Lang A) (s : IsStop
   law_stop = record {
     tells = stop_tells;
     reads = λ xs a is last rest same stops. stop_is last (tokens xs ++ rest) same ∙ stop_reads xs a (tokens xs) is refl last rest same stops;
-    limits = λ us x u r n e f last rest same. stop_is last (us ++ u ∷ rest) same ∙ ap (λ (s : Refusal). Err s) (some_is (sym (ap (λ (y : Symbol). y.fault) (at_token us x u rest n e same).1) ∙ f));
+    limits = λ us x u r n e f last rest same. stop_is last (us ++ u ∷ rest) same ∙ ap (λ (s : Refusal). Err s) (same_Some _ _ (sym (ap (λ (y : Symbol). y.fault) (at_token us x u rest n e same).1) ∙ f));
     judges = λ us x r n e f last rest same stops. absurd (at_place us x rest n e same stops);
     agrees = λ us x y u same m n e f. ap (λ (y : Symbol). y.fault) (at_token us x u [] m e same).1 ∙ sym (ap (λ (y : Symbol). y.fault) (at_token us y u [] n f same).1);
   }
@@ -230,7 +230,7 @@ part_optional {A} a P p starts over stop start part ends = part_either P (IsNoth
 
 module _ {A K : Type 0} (role : Lexeme → K) (over : Lexeme → Option RefusalKind) (P : K → Lang A) (R : Lang A) (h : HasRoles role over P R) where
   in_role : (xs : List Symbol) (a : A) (t : Lexeme) → R xs a → first (tokens xs) ≡ Some t → P (role t) xs a
-  in_role xs a t is e = let v = h.view xs a is in subst (λ (u : Lexeme). P (role u) xs a) (some_is (sym (ap (λ (zs : List Symbol). first (tokens zs)) v.parts) ∙ e)) v.is
+  in_role xs a t is e = let v = h.view xs a is in subst (λ (u : Lexeme). P (role u) xs a) (same_Some _ _ (sym (ap (λ (zs : List Symbol). first (tokens zs)) v.parts) ∙ e)) v.is
 
   pub roles_some : (xs : List Symbol) (a : A) → R xs a → tokens xs ≡ [] → ⊥
   roles_some xs a is e = let v = h.view xs a is in let f : v.t ∷ tokens v.more ≡ [] = sym (ap tokens v.parts) ∙ e in absurd cc
@@ -245,7 +245,7 @@ module _ {A K : Type 0} (role : Lexeme → K) (over : Lexeme → Option RefusalK
 
   module _ (p : K → Reader A) (stop : Lexeme → Bool) (parts : (k : K) → IsHandled (P k) (p k) stop) where
     back_to : (t : Lexeme) (k : K) → role t ≡ k → (xs : List Symbol) (a : A) (u : Lexeme) → R xs a → first (tokens xs) ≡ Some u → Some t ≡ Some u → P k xs a
-    back_to t k e xs a u is f same = subst (λ (k : K). P k xs a) (ap role (sym (some_is same)) ∙ e) (in_role xs a u is f)
+    back_to t k e xs a u is f same = subst (λ (k : K). P k xs a) (ap role (sym (same_Some _ _ same)) ∙ e) (in_role xs a u is f)
 
     at_role : (t : Lexeme) (k : K) → role t ≡ k → IsHandled (P k) (p k) stop → LawfulAt R (Some t) (p k)
     at_role t k e (handled part) = law_branch (Some t) (P k) R (record {
@@ -304,7 +304,7 @@ module _ {A : Type 0} (P : Lang A) (p : Reader A) (starts : Lexeme → Bool) (ov
       only : (xs : List Symbol) (a : A) → Limited P zero xs a → first (tokens xs) ≡ Some t → (more : List Symbol) × (xs ≡ symbol t (Some (past_kind (over t))) ∷ more)
       only xs a is e =
           let b = full_starts.begins xs a is in
-          let same : b.t ≡ t = some_is (sym (ap first (begins_tokens starts (limit_at over zero) xs b)) ∙ e) in
+          let same : b.t ≡ t = same_Some _ _ (sym (ap first (begins_tokens starts (limit_at over zero) xs b)) ∙ e) in
           (b.more, b.parts ∙ ap (λ (u : Lexeme). symbol u (Some (past_kind (over u))) ∷ b.more) same)
 
   full_by : (t : Lexeme) (b : Bool) → starts t ≡ b → LawfulAt (Limited P zero) (Some t) (cond b (stop (past_kind (over t))) refuse)

@@ -1,7 +1,7 @@
 -- One token, by the scan and by the definition.
 use Rattle.std.proofs.Common.{◌≡◌, ℕ, suc, ◌+◌, ◌≤◌, Bool, true, false, cond, List, [], ◌∷◌, ◌++◌, length, take, drop, Ok, Err, refl, sym, ap, subst, ◌∙◌, arith, length-append}
 use Rattle.std.proofs.lemmas.List.Sums.{prefix_len-le-length}
-use Rattle.std.proofs.lemmas.Bool.{ltb-false}
+use Rattle.std.proofs.lemmas.Bool.{ltb-false, and_parts}
 use Rattle.std.specs.List.{list_all, count_by, prefix_len}
 use Rattle.std.specs.Prelude.{◌==◌, ◌||◌, nat_lt, codes, if◌then◌else◌}
 use Rattle.std.proofs.lemmas.Bool.Decides.{nat_tests}
@@ -9,9 +9,9 @@ use Rattle.text_tokens.specs.declared.token.TokenKind.{TokenKind}
 use Rattle.text_tokens.specs.declared.token.TokenKind.TheVariants.{Word, Number, Sign}
 use Rattle.text_tokens.specs.declared.refusal.RefusalKind.TheVariants.{BadByte, WordTooLong, Truncated}
 use Rattle.text_tokens.specs.declared.tokens.Piece.{Piece}
-use Rattle.text_tokens.specs.Text.{is_letter, is_digit, is_word_byte, is_one_of, is_sign, StopsRun, IsLongestSign, Cuts, word, number, sign, BeginsNoToken, most_bytes}
+use Rattle.text_tokens.specs.Text.{is_letter, is_digit, is_word_byte, is_one_of, is_sign, StopsRun, IsLongestSign, Cuts, word, number, sign, BeginsNoToken, most_bytes, is_in_line}
 use Rattle.text_tokens.specs.Scan.{sign_len, sized, sign_of, front}
-use Rattle.text_tokens.proofs.Blanks.{and_true}
+use Rattle.text_tokens.proofs.Blanks.{in_line}
 
 -- ---- runs of bytes that pass a test
 
@@ -20,7 +20,7 @@ module _ (test : ℕ → Bool) where
   run_len [] [] e s = refl
   run_len [] (b ∷ rest) e s = rw s refl
   run_len (b ∷ bytes) rest e s =
-      let a = and_true (test b) (list_all test bytes) e in
+      let a = and_parts (test b) (list_all test bytes) e in
       rw (a.0, run_len bytes rest a.1 s) (omega arith)
 
   run_all_by : (b : ℕ) (text : List ℕ) (t : Bool) → test b ≡ t → list_all test (take (prefix_len test text) text) ≡ true → list_all test (take (cond t (1 + prefix_len test text) 0) (b ∷ text)) ≡ true
@@ -42,10 +42,10 @@ module _ (test : ℕ → Bool) where
 -- ---- signs
 
 -- what each of some bytes passes
-one_of_passes : (test : ℕ → Bool) (bytes : List ℕ) (b : ℕ) → list_all test bytes ≡ true → is_one_of bytes b ≡ true → test b ≡ true
+pub one_of_passes : (test : ℕ → Bool) (bytes : List ℕ) (b : ℕ) → list_all test bytes ≡ true → is_one_of bytes b ≡ true → test b ≡ true
 one_of_passes test [] b h e = absurd cc
 one_of_passes test (c ∷ bytes) b h e =
-    let a = and_true (test c) (list_all test bytes) h in
+    let a = and_parts (test c) (list_all test bytes) h in
     one_by test c bytes b (b == c) refl a.0 (λ f. one_of_passes test bytes b a.1 f) e
   where
     one_by : (test : ℕ → Bool) (c : ℕ) (bytes : List ℕ) (b : ℕ) (t : Bool) → (b == c) ≡ t → test c ≡ true → (is_one_of bytes b ≡ true → test b ≡ true) → (t || is_one_of bytes b) ≡ true → test b ≡ true
@@ -65,10 +65,10 @@ no_word_is b e = word_by (is_letter b) (is_digit b) e
 
 sign_first : (a : ℕ) (bytes : List ℕ) → is_sign (a ∷ bytes) ≡ true → (is_letter a ≡ false) × (is_digit a ≡ false)
 sign_first a [] e = no_word_is a (one_of_passes no_word (codes "().;=<>+-") a refl e)
-sign_first a (b ∷ []) e = no_word_is a (one_of_passes no_word (codes "!<>:") a refl (and_true (b == 61) (is_one_of (codes "!<>:") a) e).1)
+sign_first a (b ∷ []) e = no_word_is a (one_of_passes no_word (codes "!<>:") a refl (and_parts (b == 61) (is_one_of (codes "!<>:") a) e).1)
 sign_first a (b ∷ c ∷ bytes) e = absurd cc
 
-sign_short : (bytes : List ℕ) → is_sign bytes ≡ true → length bytes ≤ 2
+pub sign_short : (bytes : List ℕ) → is_sign bytes ≡ true → length bytes ≤ 2
 sign_short [] e = absurd cc
 sign_short (a ∷ []) e = omega arith
 sign_short (a ∷ b ∷ []) e = omega arith
@@ -189,7 +189,7 @@ front_is (b ∷ text) = front_by b text (is_letter b) (is_digit b) refl refl
 no_feeds : (test : ℕ → Bool) (bytes : List ℕ) → ((b : ℕ) → test b ≡ true → (b == 10) ≡ false) → list_all test bytes ≡ true → count_by (λ b. b == 10) bytes ≡ 0
 no_feeds test [] h e = refl
 no_feeds test (b ∷ bytes) h e =
-    let a = and_true (test b) (list_all test bytes) e in
+    let a = and_parts (test b) (list_all test bytes) e in
     rw (h b a.0) (no_feeds test bytes h a.1)
 
 word_no_feed : (b : ℕ) → is_word_byte b ≡ true → (b == 10) ≡ false
@@ -198,20 +198,13 @@ word_no_feed b e = grind (arith, nat_tests)
 digit_no_feed : (b : ℕ) → is_digit b ≡ true → (b == 10) ≡ false
 digit_no_feed b e = grind (arith, nat_tests)
 
-abbrev no_feed : ℕ → Bool
-no_feed b = if b == 10 then false else true
-
-not_by : (p : Bool) → cond p false true ≡ true → p ≡ false
-not_by true e = absurd cc
-not_by false e = refl
-
 sign_no_feed : (bytes : List ℕ) → is_sign bytes ≡ true → count_by (λ b. b == 10) bytes ≡ 0
 sign_no_feed [] e = refl
-sign_no_feed (a ∷ []) e = rw (not_by (a == 10) (one_of_passes no_feed (codes "().;=<>+-") a refl e)) refl
+sign_no_feed (a ∷ []) e = rw (in_line a (one_of_passes is_in_line (codes "().;=<>+-") a refl e)) refl
 sign_no_feed (a ∷ b ∷ []) e =
-    let h = and_true (b == 61) (is_one_of (codes "!<>:") a) e in
+    let h = and_parts (b == 61) (is_one_of (codes "!<>:") a) e in
     let s : (b == 10) ≡ false = (let t = h.0 in grind (arith, nat_tests)) in
-    rw (not_by (a == 10) (one_of_passes no_feed (codes "!<>:") a refl h.1), s) refl
+    rw (in_line a (one_of_passes is_in_line (codes "!<>:") a refl h.1), s) refl
 sign_no_feed (a ∷ b ∷ c ∷ bytes) e = absurd cc
 
 pub cut_no_feed : (kind : TokenKind) (bytes rest : List ℕ) → Cuts kind bytes rest → count_by (λ b. b == 10) bytes ≡ 0

@@ -3,15 +3,15 @@ use Rattle.std.proofs.Common.{◌≡◌, ℕ, zero, suc, ◌+◌, ◌-◌, ◌*�
 use Rattle.std.proofs.lemmas.List.{drop_all}
 use Rattle.std.proofs.Math.Nat.{add-mul, mul_assoc, mul_comm, pow-succ', pow-le-pow_right}
 use Rattle.std.proofs.lemmas.Bool.Decides.{nat_tests}
+use Rattle.std.proofs.lemmas.Bool.{and_parts}
 use Rattle.std.specs.List.{list_all}
 use Rattle.text_tokens.specs.Text.{is_digit}
 use Rattle.text_tokens.specs.Cursor.{number_value}
-use Rattle.text_tokens.proofs.Blanks.{and_true}
 
 digit_passes : (digits : List ℕ) (i : ℕ) → i < length digits → list_all is_digit digits ≡ true → is_digit (get_or digits i 0) ≡ true
 digit_passes [] i lt e = absurd (omega arith)
-digit_passes (b ∷ digits) zero lt e = (and_true (is_digit b) (list_all is_digit digits) e).0
-digit_passes (b ∷ digits) (suc i) lt e = digit_passes digits i (omega arith) (and_true (is_digit b) (list_all is_digit digits) e).1
+digit_passes (b ∷ digits) zero lt e = (and_parts (is_digit b) (list_all is_digit digits) e).0
+digit_passes (b ∷ digits) (suc i) lt e = digit_passes digits i (omega arith) (and_parts (is_digit b) (list_all is_digit digits) e).1
 
 digit_range : (b : ℕ) → is_digit b ≡ true → (48 ≤ b) × (b ≤ 57)
 digit_range b e = grind (arith, nat_tests)

@@ -1,8 +1,9 @@
 -- Tokens told apart, and the parts of one token that stand for its line or a number.
-use Rattle.std.proofs.Common.{◌≡◌, ℕ, Bool, true, false, List, Option, refl, ap, ◌∙◌, rules}
+use Rattle.std.proofs.Common.{◌≡◌, ℕ, Bool, true, false, List, Option, refl, ap, ◌∙◌, rules, ◌||◌}
 use Rattle.std.specs.Prelude.{codes}
 use Rattle.std.specs.Str.{bytes_eq}
 use Rattle.std.proofs.lemmas.Slice.Eq.{bytes_eq-Decides}
+use Rattle.std.proofs.lemmas.Bool.{and_parts}
 use denote.Enum.Bare.{same_true}
 use Rattle.text_tokens.specs.contracts.token.TokenKind.{the_type}
 use Rattle.text_tokens.specs.declared.token.TokenKind.{TokenKind}
@@ -13,7 +14,6 @@ use Rattle.text_tokens.specs.Cursor.{is_the, is_kind, same_kind, is_spelled}
 use Rattle.text_tokens.specs.Reading.{is_number, value, the_line, numeral, no_limit}
 use Rattle.text_tokens.specs.Grammar.{IsOne, IsThe, IsNumeral}
 use Rattle.text_tokens.specs.Lawful.{always, IsPart, Starts}
-use Rattle.text_tokens.proofs.Blanks.{and_true}
 use Rattle.text_tokens.proofs.Parts.{part_the, part_numeral}
 use Rattle.text_tokens.proofs.Beginnings.{starts_one, starts_made}
 
@@ -40,7 +40,7 @@ kind_is kind t e = same_true the_type (search rules) t.kind kind e
 
 -- a token of one kind is none of another
 pub other_kind : (kind other : TokenKind) (text : List ℕ) (t : Lexeme) → same_kind kind other ≡ false → is_the kind text t ≡ true → is_kind other t ≡ false
-other_kind kind other text t n e = ap (λ (k : TokenKind). same_kind k other) (kind_is kind t (and_true (is_kind kind t) (is_spelled text t) e).0) ∙ n
+other_kind kind other text t n e = ap (λ (k : TokenKind). same_kind k other) (kind_is kind t (and_parts (is_kind kind t) (is_spelled text t) e).0) ∙ n
 
 pub sign_no_number : (text : List ℕ) (t : Lexeme) → is_the Sign text t ≡ true → is_number t ≡ false
 unfolding same_kind
@@ -49,7 +49,7 @@ sign_no_number text t e = other_kind Sign Number text t refl e
 -- nor is one text another
 pub other_text : (kind : TokenKind) (v w : List ℕ) (t : Lexeme) → bytes_eq v w ≡ false → is_the kind v t ≡ true → is_the kind w t ≡ false
 other_text kind v w t n e =
-    let a = and_true (is_kind kind t) (is_spelled v t) e in
+    let a = and_parts (is_kind kind t) (is_spelled v t) e in
     let same : t.text ≡ v = (bytes_eq-Decides t.text v).0 a.1 in
     rw a.0 (ap (λ (text : List ℕ). bytes_eq text w) same ∙ n)
 
@@ -66,3 +66,11 @@ starts_the test = starts_made (IsOne test no_limit) (λ t. t.line) test no_limit
 
 pub starts_numeral : (over : Lexeme → Option RefusalKind) → Starts (IsNumeral over) is_number over
 starts_numeral over = starts_made (IsOne is_number over) value is_number over (starts_one is_number over)
+
+-- a token that passes neither test
+pub not_either : (a b c : Lexeme → Bool) (t : Lexeme) → (a t ≡ true → c t ≡ false) → (b t ≡ true → c t ≡ false) → (a t || b t) ≡ true → c t ≡ false
+not_either a b c t f g e = by (a t) refl e
+  where
+    by : (x : Bool) → a t ≡ x → (x || b t) ≡ true → c t ≡ false
+    by true h k = f h
+    by false h k = g k

@@ -1,5 +1,6 @@
 -- The laws of the small journal.
-use Rattle.std.proofs.Common.{◌≡◌, ℕ, Bool, true, false, refl, ap}
+use Rattle.std.proofs.Common.{ℕ, Bool, true, refl, ap}
+use Rattle.std.proofs.lemmas.Bool.{not-true}
 use Rattle.std.specs.Prelude.{codes, not}
 use Rattle.text_tokens.specs.declared.token.TokenKind.TheVariants.{Word}
 use Rattle.text_tokens.specs.declared.refusal.RefusalKind.TheVariants.{BadRange}
@@ -28,15 +29,11 @@ starts_pair = starts_then (IsThe is_pair) (λ line. IsNumeral (too_large 9 BadRa
 abbrev pub no_pair : Lexeme → Bool
 no_pair t = not (is_pair t)
 
-not_false : (b : Bool) → not b ≡ true → b ≡ false
-not_false true e = absurd cc
-not_false false e = refl
-
 abbrev pub PairIn : ℕ → Lang ℕ
 PairIn room = Limited IsPair room
 
 pub pair_elements : AreElements PairIn pair_in is_pair always no_pair
-pair_elements = at_most_elements IsPair a_pair is_pair no_limit always no_pair starts_pair part_pair (λ t e. refl) (λ t e. refl) (λ t e. not_false (is_pair t) e)
+pair_elements = at_most_elements IsPair a_pair is_pair no_limit always no_pair starts_pair part_pair (λ t e. refl) (λ t e. refl) (λ t e. not-true (is_pair t) e)
 
 part_pairs : IsPart (AtMost 2 IsPair) all_pairs no_pair
 unfolding all_pairs

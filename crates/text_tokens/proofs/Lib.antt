@@ -17,6 +17,7 @@ pub mod Following
 pub mod Parts
 pub mod Beginnings
 pub mod Choosing
+pub mod Joining
 pub mod Repeating
 pub mod Enclosing
 pub mod Obeying

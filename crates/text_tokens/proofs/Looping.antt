@@ -12,6 +12,7 @@ use Rattle.text_tokens.specs.Lawful.{AreElements}
 use Rattle.text_tokens.specs.Steps.{SameSource, another}
 use Rattle.text_tokens.proofs.Stepping.{Reached, Failed, stays, stays_on}
 use Rattle.text_tokens.proofs.Repeating.{steps_repeated, fewer}
+use Rattle.text_tokens.proofs.Exactness.{rest_in}
 
 -- more, behind what was found
 abbrev pub prepend : {A : Type 0} → List A → Answer (List A) → Answer (List A)
@@ -27,11 +28,11 @@ nothing_before : {A : Type 0} (r : Answer (List A)) → r ≡ prepend [] r
 nothing_before (Ok r) = refl
 nothing_before (Err r) = refl
 
-one_before : {A : Type 0} (a : A) (r : Answer (List A)) → and_then r (λ rest us. Ok (a ∷ rest, us)) ≡ prepend (a ∷ []) r
+pub one_before : {A : Type 0} (a : A) (r : Answer (List A)) → and_then r (λ rest us. Ok (a ∷ rest, us)) ≡ prepend (a ∷ []) r
 one_before a (Ok r) = refl
 one_before a (Err r) = refl
 
-one_more_before : {A : Type 0} (found : List A) (a : A) (r : Answer (List A)) → prepend found (and_then r (λ rest us. Ok (a ∷ rest, us))) ≡ prepend (found ++ a ∷ []) r
+pub one_more_before : {A : Type 0} (found : List A) (a : A) (r : Answer (List A)) → prepend found (and_then r (λ rest us. Ok (a ∷ rest, us))) ≡ prepend (found ++ a ∷ []) r
 one_more_before {A} found a (Ok r) = ap (λ (all : List A). Ok (all, r.1)) (sym (append_assoc found (a ∷ []) r.0))
 one_more_before found a (Err r) = refl
 
@@ -50,10 +51,6 @@ loop_chains {A} p q start here a found e r = record {
 abbrev option_in : {A : Type 0} → Answer (Option A) → Option A
 option_in (Ok r) = r.0
 option_in (Err r) = None
-
-abbrev rest_in : {A : Type 0} → Answer A → List Lexeme
-rest_in (Ok r) = r.1
-rest_in (Err r) = []
 
 some_of : {A : Type 0} (r : Answer A) (a : A) (us : List Lexeme) → and_then r (λ a us. Ok (Some a, us)) ≡ Ok (Some a, us) → r ≡ Ok (a, us)
 some_of {A} (Ok r) a us e =

@@ -1,19 +1,20 @@
 -- The tokens of a printed text are those that were printed.
 use Rattle.std.proofs.Common.{◌≡◌, ℕ, ◌+◌, ◌≤◌, Bool, true, false, List, [], ◌∷◌, ◌++◌, length, drop, codes, refl, sym, ap, subst, ◌∙◌, arith, length-append, length-drop, append_assoc}
-use Rattle.std.specs.Prelude.{if◌then◌else◌, ◌||◌, ◌==◌}
+use Rattle.std.specs.Prelude.{if◌then◌else◌, ◌==◌}
 use Rattle.std.specs.List.{list_all}
 use Rattle.std.proofs.lemmas.List.{drop_at, drop-drop}
 use Rattle.std.proofs.Math.Seq.{drop-length}
 use Rattle.std.proofs.lemmas.Bool.Decides.{nat_tests}
+use Rattle.std.proofs.lemmas.Bool.{and_parts}
 use Rattle.text_tokens.specs.declared.token.TokenKind.{TokenKind}
 use Rattle.text_tokens.specs.declared.token.TokenKind.TheVariants.{Word, Number, Sign}
 use Rattle.text_tokens.specs.declared.refusal.Refusal.{Refusal}
 use Rattle.text_tokens.specs.declared.refusal.RefusalKind.TheVariants.{Truncated}
 use Rattle.text_tokens.specs.Text.{is_letter, is_digit, is_word_byte, is_blank, is_one_of, is_sign, Skips, nothing, blank, IsSkipped, StopsRun, IsLongestSign, Cuts, word, number, sign, most_bytes, Lexeme, line_at, Comes, IsToken, AreTokens, ends, bad_byte, too_long, token}
 use Rattle.text_tokens.specs.Lines.{Words, line_text, lines_text, spaced}
-use Rattle.text_tokens.proofs.Blanks.{and_true}
 use Rattle.text_tokens.proofs.Tokenizing.{one_reading}
 use Rattle.text_tokens.proofs.LineLemmas.{line_is_its_tokens}
+use Rattle.text_tokens.proofs.Cutting.{one_of_passes, sign_short}
 
 -- the kind of a token with these bytes
 abbrev pub kind_of : List ℕ → TokenKind
@@ -32,16 +33,6 @@ pub data Spells : List ℕ → Words → Type 0 where
   spells_token : {w rest : List ℕ} {ws : Words} → Cuts (kind_of w) w rest → length w ≤ most_bytes (kind_of w) → Spells rest ws → Spells (w ++ rest) (w ∷ ws)
 
 -- ---- no token begins with a blank
-
-any_passes : (test : ℕ → Bool) (bytes : List ℕ) (b : ℕ) → list_all test bytes ≡ true → is_one_of bytes b ≡ true → test b ≡ true
-any_passes test [] b h e = absurd cc
-any_passes test (c ∷ bytes) b h e =
-    let a = and_true (test c) (list_all test bytes) h in
-    by_first (b == c) refl a.0 (λ f. any_passes test bytes b a.1 f) e
-  where
-    by_first : (t : Bool) → (b == c) ≡ t → test c ≡ true → (is_one_of bytes b ≡ true → test b ≡ true) → (t || is_one_of bytes b) ≡ true → test b ≡ true
-    by_first true is p q e = let s : c ≡ b = grind (arith, nat_tests) in subst (λ (x : ℕ). test x ≡ true) s p
-    by_first false is p q e = q e
 
 abbrev begins_token : ℕ → Bool
 begins_token b = if is_blank b then false else (if b == 35 then false else true)
@@ -68,8 +59,8 @@ digit_skipped b e =
 
 sign_skipped : (bytes rest : List ℕ) → is_sign bytes ≡ true → IsSkipped (bytes ++ rest)
 sign_skipped [] rest e = absurd cc
-sign_skipped (a ∷ []) rest e = skipped_at a (any_passes begins_token (codes "().;=<>+-") a refl e)
-sign_skipped (a ∷ b ∷ []) rest e = skipped_at a (any_passes begins_token (codes "!<>:") a refl (and_true (b == 61) (is_one_of (codes "!<>:") a) e).1)
+sign_skipped (a ∷ []) rest e = skipped_at a (one_of_passes begins_token (codes "().;=<>+-") a refl e)
+sign_skipped (a ∷ b ∷ []) rest e = skipped_at a (one_of_passes begins_token (codes "!<>:") a refl (and_parts (b == 61) (is_one_of (codes "!<>:") a) e).1)
 sign_skipped (a ∷ b ∷ c ∷ bytes) rest e = absurd cc
 
 cut_skipped : (kind : TokenKind) (bytes rest : List ℕ) → Cuts kind bytes rest → IsSkipped (bytes ++ rest)
@@ -241,24 +232,18 @@ longest_by : (a : ℕ) (rest other more : List ℕ) → EndsToken rest → is_si
 longest_by a rest [] more h e f = absurd cc
 longest_by a rest (x ∷ []) more h e f = omega arith
 longest_by a [] (x ∷ y ∷ []) more h e f = let l = ap length f in omega arith
-longest_by a (b ∷ rest) (x ∷ y ∷ []) more h e f = let same : b ≡ y = cc in absurd (blank_no_equals b h (ap (λ (n : ℕ). n == 61) same ∙ (and_true (y == 61) (is_one_of (codes "!<>:") x) e).0))
+longest_by a (b ∷ rest) (x ∷ y ∷ []) more h e f = let same : b ≡ y = cc in absurd (blank_no_equals b h (ap (λ (n : ℕ). n == 61) same ∙ (and_parts (y == 61) (is_one_of (codes "!<>:") x) e).0))
 longest_by a rest (x ∷ y ∷ z ∷ other) more h e f = absurd cc
-
-short_by : (other : List ℕ) → is_sign other ≡ true → length other ≤ 2
-short_by [] e = absurd cc
-short_by (a ∷ []) e = omega arith
-short_by (a ∷ b ∷ []) e = omega arith
-short_by (a ∷ b ∷ c ∷ bytes) e = absurd cc
 
 sign_longest : (bytes rest : List ℕ) → is_sign bytes ≡ true → EndsToken rest → IsLongestSign bytes rest
 sign_longest [] rest e h other more is same = absurd cc
 sign_longest (a ∷ []) rest e h other more is same = longest_by a rest other more h is same
-sign_longest (a ∷ b ∷ bytes) rest e h other more is same = omega (arith, short_by other is)
+sign_longest (a ∷ b ∷ bytes) rest e h other more is same = omega (arith, sign_short other is)
 
 pub sign_is_token : (bytes : List ℕ) → is_sign bytes ≡ true → kind_of bytes ≡ Sign → IsOneToken bytes
 sign_is_token bytes e kind = record {
   cuts = λ rest stop. subst (λ (k : TokenKind). Cuts k bytes rest) (sym kind) (sign e (sign_longest bytes rest e stop));
-  sized = subst (λ (k : TokenKind). length bytes ≤ most_bytes k) (sym kind) (short_by bytes e);
+  sized = subst (λ (k : TokenKind). length bytes ≤ most_bytes k) (sym kind) (sign_short bytes e);
 }
 
 -- nothing makes a minus longer
@@ -267,7 +252,7 @@ minus_longest rest [] more is e = omega arith
 minus_longest rest (a ∷ []) more is e = omega arith
 minus_longest rest (a ∷ b ∷ []) more is e =
     let same : 45 ≡ a = cc in
-    let no : is_one_of (codes "!<>:") a ≡ true = (and_true (b == 61) (is_one_of (codes "!<>:") a) is).1 in
+    let no : is_one_of (codes "!<>:") a ≡ true = (and_parts (b == 61) (is_one_of (codes "!<>:") a) is).1 in
     let yes : false ≡ true = ap (is_one_of (codes "!<>:")) same ∙ no in absurd cc
 minus_longest rest (a ∷ b ∷ c ∷ other) more is e = absurd cc
 

@@ -7,6 +7,7 @@ use Rattle.std.specs.List.{list_all}
 use Rattle.std.specs.Str.{bytes_eq}
 use Rattle.std.proofs.lemmas.List.{append-nil}
 use Rattle.std.proofs.lemmas.Bool.Decides.{nat_tests}
+use Rattle.std.proofs.lemmas.Bool.{and_parts}
 use Rattle.std.proofs.lemmas.Str.Parse.{IsNumeralModel, IsDigitsTest, numerals_by_weight}
 use Rattle.std.proofs.lemmas.Fmt.{digits_decimal, digits_value-decimal, length-decimal-le, decimal_nonempty}
 use Rattle.text_tokens.specs.declared.token.TokenKind.{TokenKind}
@@ -20,7 +21,6 @@ use Rattle.text_tokens.specs.Lines.{Words, lines_text}
 use Rattle.text_tokens.specs.Reading.{is_number, value}
 use Rattle.text_tokens.specs.Grammar.{Symbol, symbol, tokens, first_fault, Lang, IsOne, is_one, Then, then, Made, made, IsThe, IsNumeral, is_judgement, Judged, Either, of_first, of_second, point, Repeated, one_more}
 use Rattle.text_tokens.specs.Lawful.{IsWhole}
-use Rattle.text_tokens.proofs.Blanks.{and_true}
 use Rattle.text_tokens.proofs.Symbols.{tokens-append, fine-append}
 use Rattle.text_tokens.proofs.PrintedTokens.{kind_of, AreSpelled, no_tokens, token_more, spelled_tokens, ArePrinted, none_printed, word_printed, LinesArePrinted, no_lines, line_printed, lines_spell, IsOneToken, one_printed, number_is_token, digit_kind}
 
@@ -260,7 +260,7 @@ digit_from c e = grind (arith, nat_tests)
 digits_test : IsDigitsTest (λ ds. list_all is_digit ds ≡ true)
 digits_test = record {
   empty = refl;
-  parts = λ c cs e. (let p = and_true (is_digit c) (list_all is_digit cs) e in (digit_in c p.0, p.1));
+  parts = λ c cs e. (let p = and_parts (is_digit c) (list_all is_digit cs) e in (digit_in c p.0, p.1));
   more = λ c cs r e. both_true (digit_from c r) e;
 }
 
@@ -269,11 +269,11 @@ digits_model = numerals_by_weight (λ ds. list_all is_digit ds ≡ true) digits_
 
 digits_token : (ds : List ℕ) → list_all is_digit ds ≡ true → 0 < length ds → length ds ≤ 9 → IsOneToken ds
 digits_token [] e some few = absurd (omega arith)
-digits_token (b ∷ bytes) e some few = let p = and_true (is_digit b) (list_all is_digit bytes) e in number_is_token b bytes p.0 p.1 few
+digits_token (b ∷ bytes) e some few = let p = and_parts (is_digit b) (list_all is_digit bytes) e in number_is_token b bytes p.0 p.1 few
 
 digits_kind : (ds : List ℕ) → list_all is_digit ds ≡ true → 0 < length ds → kind_of ds ≡ Number
 digits_kind [] e some = absurd (omega arith)
-digits_kind (b ∷ bytes) e some = digit_kind b bytes (and_true (is_digit b) (list_all is_digit bytes) e).0
+digits_kind (b ∷ bytes) e some = digit_kind b bytes (and_parts (is_digit b) (list_all is_digit bytes) e).0
 
 module _ (n : ℕ) (small : n < 10 ^ 9) where
   are_digits : list_all is_digit (decimal n) ≡ true

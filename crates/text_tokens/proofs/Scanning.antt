@@ -50,7 +50,7 @@ not_start : (t : Bool) → cond t LineFeed Blank ≡ Start → ⊥
 not_start true e = absurd cc
 not_start false e = absurd cc
 
-start_outside : (inside : Bool) (b : ℕ) → between_at inside b ≡ Start → between_at false b ≡ Start
+pub start_outside : (inside : Bool) (b : ℕ) → between_at inside b ≡ Start → between_at false b ≡ Start
 start_outside true b e = absurd (not_start (b == 10) e)
 start_outside false b e = e
 

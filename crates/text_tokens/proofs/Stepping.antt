@@ -7,7 +7,7 @@ use Rattle.text_tokens.specs.declared.refusal.Refusal.{Refusal}
 use Rattle.text_tokens.specs.declared.refusal.RefusalKind.{RefusalKind}
 use Rattle.text_tokens.specs.declared.refusal.RefusalKind.TheVariants.{Unexpected, TooDeep, TooMany}
 use Rattle.std.proofs.lemmas.Bool.{lt-ltb, le-ltb}
-use Rattle.std.specs.Prelude.{nat_lt}
+use Rattle.std.specs.Prelude.{nat_lt, if◌then◌else◌}
 use Rattle.text_tokens.specs.declared.refusal.ReadRefusal.{ReadRefusal}
 use Rattle.text_tokens.specs.declared.refusal.ReadRefusal.TheVariants.{Refused, NoMemory}
 use Rattle.std.proofs.Common.{rules}
@@ -132,6 +132,13 @@ larger most kind t lt = let b : nat_lt most (value t) ≡ true = lt-ltb _ _ lt i
 
 pub not_larger : (most : ℕ) (kind : RefusalKind) (t : Lexeme) → value t ≤ most → too_large most kind t ≡ None
 not_larger most kind t le = let b : nat_lt most (value t) ≡ false = le-ltb _ _ le in rw b refl
+
+-- a limit on how many stand before
+pub is_past : (before most : ℕ) → most ≤ before → (if nat_lt before most then None else Some TooMany) ≡ Some TooMany
+is_past before most le = let b : nat_lt before most ≡ false = le-ltb _ _ le in rw b refl
+
+pub not_past : (before most : ℕ) → before < most → (if nat_lt before most then None else Some TooMany) ≡ None
+not_past before most lt = let b : nat_lt before most ≡ true = lt-ltb _ _ lt in rw b refl
 
 -- ---- parts, one behind the other
 

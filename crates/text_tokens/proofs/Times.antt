@@ -1,5 +1,5 @@
 -- A part that is read so many times.
-use Rattle.std.proofs.Common.{◌≡◌, ◌+◌, ◌<◌, ℕ, zero, suc, List, [], ◌∷◌, ◌++◌, Ok, Err, refl, sym, ap, ◌∙◌, append_assoc, arith}
+use Rattle.std.proofs.Common.{◌≡◌, ◌+◌, ◌<◌, ℕ, zero, suc, List, [], ◌∷◌, ◌++◌, Ok, refl, sym, ap, ◌∙◌, arith}
 use Rattle.std.proofs.lemmas.List.{append-nil}
 use Rattle.text_tokens.specs.declared.refusal.Refusal.{Refusal}
 use Rattle.text_tokens.specs.declared.refusal.ReadRefusal.{ReadRefusal}
@@ -7,11 +7,7 @@ use Rattle.text_tokens.specs.declared.refusal.ReadRefusal.TheVariants.{Refused, 
 use Rattle.text_tokens.specs.Cursor.{Cursor}
 use Rattle.text_tokens.specs.Reading.{Answer, Reader, and_then, times}
 use Rattle.text_tokens.proofs.Stepping.{Reached, Failed, stays_on}
-use Rattle.text_tokens.proofs.Looping.{prepend, StillReads}
-
-one_more_before : {A : Type 0} (found : List A) (a : A) (r : Answer (List A)) → prepend found (and_then r (λ rest us. Ok (a ∷ rest, us))) ≡ prepend (found ++ a ∷ []) r
-one_more_before {A} found a (Ok r) = ap (λ (all : List A). Ok (all, r.1)) (sym (append_assoc found (a ∷ []) r.0))
-one_more_before found a (Err r) = refl
+use Rattle.text_tokens.proofs.Looping.{prepend, StillReads, one_more_before}
 
 module _ {A : Type 0} (p : Reader A) (whole : Reader (List A)) (start : Cursor) (found : List A) (here : Cursor) where
   abbrev Goes : ℕ → Answer (List A)

@@ -112,7 +112,8 @@ module _ (source : List ℕ) where
   front_of : (l : Lexeme) → IsToken source l → front (drop l.from source) ≡ sized l.kind (length l.text)
   front_of l t = ap front t.text ∙ cut_front l.kind l.text (drop (token_end l) source) t.cuts
 
-  end_within : (l : Lexeme) → l.from ≤ length source → IsToken source l → token_end l ≤ length source
+  -- where a token ends
+  pub end_within : (l : Lexeme) → l.from ≤ length source → IsToken source l → token_end l ≤ length source
   end_within l le t = let e = ap length t.text in let some = cut_some l.kind l.text (drop (token_end l) source) t.cuts in omega (arith, length-drop l.from source, length-append l.text (drop (token_end l) source))
 
   -- behind a token

@@ -1,22 +1,14 @@
-use Rattle.std.proofs.Common.{◌≡◌, ◌<◌, ◌≤◌, Some, None, ℕ, refl, sym, ◌∙◌}
-use Rattle.std.specs.Prelude.{nat_lt, false, true}
-use Rattle.std.proofs.lemmas.Bool.{lt-ltb, le-ltb}
+use Rattle.std.proofs.Common.{sym, ◌∙◌}
+use Rattle.std.specs.Prelude.{false, true}
 use Rattle.std.proofs.lemmas.Result.{err_from_is_err_and}
 use Rattle.text_tokens.specs.declared.refusal.RefusalKind.TheVariants.{TooMany}
 use Rattle.text_tokens.specs.declared.refusal.ReadRefusal.TheVariants.{Refused}
-use Rattle.text_tokens.specs.Text.{Lexeme}
 use Rattle.text_tokens.specs.Reading.{one_within, pure}
 use Rattle.text_tokens.specs.Steps.{lexeme_of}
-use Rattle.text_tokens.proofs.Stepping.{took, missed, goes_past, fails, on_made}
+use Rattle.text_tokens.proofs.Stepping.{took, missed, goes_past, fails, on_made, is_past, not_past}
 use Rattle.journal_text.specs.Journals.{is_entry, most_entries, past_entries}
 use Rattle.journal_text.specs.Readers.{entry_word}
 use Rattle.journal_text.proofs.journal.read_entry_word.Goals as goal
-
-too_many : (before : ℕ) (t : Lexeme) → most_entries ≤ before → past_entries before t ≡ Some TooMany
-too_many before t le = let b : nat_lt before most_entries ≡ false = le-ltb _ _ le in rw b refl
-
-not_many : (before : ℕ) (t : Lexeme) → before < most_entries → past_entries before t ≡ None
-not_many before t lt = let b : nat_lt before most_entries ≡ true = lt-ltb _ _ lt in rw b refl
 
 pub returns-in_err-token-clause-reads : goal.returns-in_err-token-clause-reads
 unfolding entry_word
@@ -31,7 +23,7 @@ returns-then-before-ge-MOST_ENTRIES-clause-reads c =
     let over = past_entries c.args.before in
     let t = lexeme_of c.args.tokens.now.source c.in_ok-token.token in
     rw c.refused.ensures (fails (one_within is_entry over) (λ t. pure t.line) (Refused (record { line = c.in_ok-token.token.line; kind = TooMany })) c.args.tokens.now c.take.new.self
-    (goes_past is_entry over c.args.tokens.now c.take.new.self c.in_ok-token.token TooMany (sym c.take.ensures.answer ∙ c.in_ok-token.was) c.in_ok-token.ensures.moves c.in_ok-token.ensures.spells (too_many c.args.before t c.if-before-ge-MOST_ENTRIES.true)))
+    (goes_past is_entry over c.args.tokens.now c.take.new.self c.in_ok-token.token TooMany (sym c.take.ensures.answer ∙ c.in_ok-token.was) c.in_ok-token.ensures.moves c.in_ok-token.ensures.spells (is_past c.args.before most_entries c.if-before-ge-MOST_ENTRIES.true)))
 
 pub returns-clause-reads : goal.returns-clause-reads
 unfolding entry_word
@@ -39,4 +31,4 @@ returns-clause-reads c =
     let over = past_entries c.args.before in
     let t = lexeme_of c.args.tokens.now.source c.in_ok-token.token in
     on_made (one_within is_entry over) (λ t. t.line) c.args.tokens.now c.take.new.self t
-    (took is_entry over c.args.tokens.now c.take.new.self c.in_ok-token.token (sym c.take.ensures.answer ∙ c.in_ok-token.was) c.in_ok-token.ensures.moves c.in_ok-token.ensures.spells (not_many c.args.before t c.if-before-ge-MOST_ENTRIES.false))
+    (took is_entry over c.args.tokens.now c.take.new.self c.in_ok-token.token (sym c.take.ensures.answer ∙ c.in_ok-token.was) c.in_ok-token.ensures.moves c.in_ok-token.ensures.spells (not_past c.args.before most_entries c.if-before-ge-MOST_ENTRIES.false))

@@ -1,29 +1,12 @@
-use Rattle.std.proofs.Common.{◌≡◌, ◌<◌, ◌≤◌, ℕ, true, false, Some, None, refl, sym, ◌∙◌}
-use Rattle.std.specs.Prelude.{nat_lt}
-use Rattle.std.proofs.lemmas.Bool.{lt-ltb, le-ltb}
+use Rattle.std.proofs.Common.{true, false, sym, ◌∙◌}
 use Rattle.std.proofs.lemmas.Result.{err_from_is_err_and}
-use Rattle.text_tokens.specs.Text.{Lexeme}
 use Rattle.text_tokens.specs.declared.refusal.RefusalKind.TheVariants.{TooMany, BadId}
 use Rattle.text_tokens.specs.Reading.{value}
 use Rattle.text_tokens.specs.Steps.{lexeme_of}
 use Rattle.schedule_text.specs.Schedules.{most_steps, past_callers}
 use Rattle.schedule_text.specs.Readers.{a_caller}
-use Rattle.schedule_text.proofs.Numerals.{number_missed, number_past, value_is, number_taken}
+use Rattle.schedule_text.proofs.Numerals.{number_missed, number_past, value_is, number_taken, is_past, is_unknown, is_known}
 use Rattle.schedule_text.proofs.schedule.read_caller.Goals as goal
-
-module _ (callers before : ℕ) (t : Lexeme) where
-  too_many : most_steps ≤ before → past_callers callers before t ≡ Some TooMany
-  too_many le = let a : nat_lt before most_steps ≡ false = le-ltb _ _ le in rw a refl
-
-  module _ (room : before < most_steps) where
-    has_room : nat_lt before most_steps ≡ true
-    has_room = lt-ltb _ _ room
-
-    unknown : callers ≤ value t → past_callers callers before t ≡ Some BadId
-    unknown le = let b : nat_lt (value t) callers ≡ false = le-ltb _ _ le in rw (has_room, b) refl
-
-    known : value t < callers → past_callers callers before t ≡ None
-    known lt = let b : nat_lt (value t) callers ≡ true = lt-ltb _ _ lt in rw (has_room, b) refl
 
 pub returns-in_err-token-clause-reads : goal.returns-in_err-token-clause-reads
 unfolding a_caller
@@ -36,7 +19,7 @@ unfolding a_caller
 returns-then-before-ge-MOST_STEPS-clause-reads c =
     let now = c.args.tokens.now in
     rw c.refused.ensures (number_past (past_callers c.args.callers c.args.before) now c.take_kind.new.self c.in_ok-token.token (sym c.take_kind.ensures.answer ∙ c.in_ok-token.was) c.in_ok-token.ensures.moves c.in_ok-token.ensures.spells TooMany
-    (too_many c.args.callers c.args.before (lexeme_of now.source c.in_ok-token.token) c.if-before-ge-MOST_STEPS.true))
+    (is_past most_steps c.args.callers c.args.before (lexeme_of now.source c.in_ok-token.token) c.if-before-ge-MOST_STEPS.true))
 
 pub returns-then-caller-from-clause-reads : goal.returns-then-caller-from-clause-reads
 unfolding a_caller
@@ -46,7 +29,7 @@ returns-then-caller-from-clause-reads c =
     let answer = sym c.take_kind.ensures.answer ∙ c.in_ok-token.was in
     let v = value_is over now c.take_kind.new.self c.in_ok-token.token answer c.in_ok-token.ensures.moves c.in_ok-token.ensures.spells c.number-caller.result c.number-caller.ensures.value in
     rw c.refused-then-caller-from.ensures (number_past over now c.take_kind.new.self c.in_ok-token.token answer c.in_ok-token.ensures.moves c.in_ok-token.ensures.spells BadId
-    (unknown c.args.callers c.args.before (lexeme_of now.source c.in_ok-token.token) c.if-before-ge-MOST_STEPS.false (rw (← v) (rw c.from.ensures at c.if-caller-from.true))))
+    (is_unknown most_steps c.args.callers c.args.before (lexeme_of now.source c.in_ok-token.token) c.if-before-ge-MOST_STEPS.false (rw (← v) (rw c.from.ensures at c.if-caller-from.true))))
 
 pub returns-clause-reads : goal.returns-clause-reads
 unfolding a_caller
@@ -56,4 +39,4 @@ returns-clause-reads c =
     let answer = sym c.take_kind.ensures.answer ∙ c.in_ok-token.was in
     let v = value_is over now c.take_kind.new.self c.in_ok-token.token answer c.in_ok-token.ensures.moves c.in_ok-token.ensures.spells c.number-caller.result c.number-caller.ensures.value in
     number_taken over now c.take_kind.new.self c.in_ok-token.token answer c.in_ok-token.ensures.moves c.in_ok-token.ensures.spells c.number-caller.result v
-    (known c.args.callers c.args.before (lexeme_of now.source c.in_ok-token.token) c.if-before-ge-MOST_STEPS.false (rw (← v) (rw c.from.ensures at c.if-caller-from.false)))
+    (is_known most_steps c.args.callers c.args.before (lexeme_of now.source c.in_ok-token.token) c.if-before-ge-MOST_STEPS.false (rw (← v) (rw c.from.ensures at c.if-caller-from.false)))

@@ -11,15 +11,13 @@ use Rattle.text_tokens.proofs.Stepping.{Reached}
 use Rattle.tri_lattice.specs.Extent.{Extent, IsArea}
 use Rattle.journal_text.specs.Readers.{a_word, an_int}
 use Rattle.shape_text.specs.Readers.{a_side, an_area}
+use Rattle.shape_text.specs.Shapes.{an_area_of}
 use Rattle.text_tokens.proofs.Rows.{all_left, past_part}
 use Rattle.shape_text.proofs.shape.read_area.Goals as goal
 
-abbrev extent : ℤ → ℤ → ℕ → ℕ → Extent
-extent x0 y0 w h = record { x0 = x0; y0 = y0; w = w; h = h }
-
 -- what is left behind each part
 abbrev behind_w : ℤ → ℤ → ℕ → Reader Extent
-behind_w x0 y0 w = a_side >>= λ h. pure (extent x0 y0 w h)
+behind_w x0 y0 w = a_side >>= λ h. pure (an_area_of x0 y0 w h)
 
 abbrev behind_y0 : ℤ → ℤ → Reader Extent
 behind_y0 x0 y0 = a_side >>= behind_w x0 y0
@@ -47,10 +45,10 @@ returns c =
     let w = c.in_ok-w.w in
     let l4 = past_part (a_side) (behind_w x0 y0) l3 w c.read_side.new.tokens c.in_ok-w.ensures.reads in
     let h = c.in_ok-h.h in
-    let l5 = past_part (a_side) (λ h. pure (extent x0 y0 w h)) l4 h c.read_side-2.new.tokens c.in_ok-h.ensures.reads in
+    let l5 = past_part (a_side) (λ h. pure (an_area_of x0 y0 w h)) l4 h c.read_side-2.new.tokens c.in_ok-h.ensures.reads in
     let as_x0 : to_z w16 (of_z w16 x0) ≡ x0 = to_z-of_z w16 x0 (omega (arith, ints, c.in_ok-x0.ensures.low, c.in_ok-x0.ensures.high)) in
     let as_y0 : to_z w16 (of_z w16 y0) ≡ y0 = to_z-of_z w16 y0 (omega (arith, ints, c.in_ok-y0.ensures.low, c.in_ok-y0.ensures.high)) in
-    let area : IsArea (extent x0 y0 w h) = record {
+    let area : IsArea (an_area_of x0 y0 w h) = record {
       x_low = omega (arith, ints, c.in_ok-x0.ensures.low);
       x_high = c.in_ok-x0.ensures.high;
       y_low = omega (arith, ints, c.in_ok-y0.ensures.low);
@@ -60,7 +58,7 @@ returns c =
       h_low = c.in_ok-h.ensures.low;
       h_high = c.in_ok-h.ensures.high;
     } in
-    let some : IsArea (extent (to_z w16 (of_z w16 x0)) (to_z w16 (of_z w16 y0)) w h) → IsSome c.new.result = c.new.ensures.some.1 in
-    let value : IfSome c.new.result (λ a. a ≡ extent (to_z w16 (of_z w16 x0)) (to_z w16 (of_z w16 y0)) w h) = c.new.ensures.value in
+    let some : IsArea (an_area_of (to_z w16 (of_z w16 x0)) (to_z w16 (of_z w16 y0)) w h) → IsSome c.new.result = c.new.ensures.some.1 in
+    let value : IfSome c.new.result (λ a. a ≡ an_area_of (to_z w16 (of_z w16 x0)) (to_z w16 (of_z w16 y0)) w h) = c.new.ensures.value in
     let is : IsSome c.new.result = (rw (as_x0, as_y0) at some) area in
-    rw c.ok_or.ensures.value (gives_area c.args.tokens.now c.read_side-2.new.tokens c.new.result (extent x0 y0 w h) c.refused.result is (rw (as_x0, as_y0) at value) (l5.reads, l5.stays))
+    rw c.ok_or.ensures.value (gives_area c.args.tokens.now c.read_side-2.new.tokens c.new.result (an_area_of x0 y0 w h) c.refused.result is (rw (as_x0, as_y0) at value) (l5.reads, l5.stays))

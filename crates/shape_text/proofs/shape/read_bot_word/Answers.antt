@@ -1,23 +1,15 @@
-use Rattle.std.proofs.Common.{◌≡◌, ◌<◌, ◌≤◌, Some, None, ℕ, refl, sym, ◌∙◌}
-use Rattle.std.specs.Prelude.{nat_lt, false, true}
-use Rattle.std.proofs.lemmas.Bool.{lt-ltb, le-ltb}
+use Rattle.std.proofs.Common.{sym, ◌∙◌}
+use Rattle.std.specs.Prelude.{false, true}
 use Rattle.std.proofs.lemmas.Result.{err_from_is_err_and}
 use Rattle.text_tokens.specs.declared.refusal.RefusalKind.TheVariants.{TooMany}
 use Rattle.text_tokens.specs.declared.refusal.ReadRefusal.TheVariants.{Refused}
-use Rattle.text_tokens.specs.Text.{Lexeme}
 use Rattle.text_tokens.specs.Reading.{one_within, pure}
 use Rattle.text_tokens.specs.Steps.{lexeme_of}
-use Rattle.text_tokens.proofs.Stepping.{took, missed, goes_past, fails, on_made}
+use Rattle.text_tokens.proofs.Stepping.{took, missed, goes_past, fails, on_made, is_past, not_past}
 use Rattle.shape_text.specs.Shapes.{is_bot, past_bots}
 use Rattle.amoebot_state.specs.Limits.{most_bots}
 use Rattle.shape_text.specs.Readers.{bot_word}
 use Rattle.shape_text.proofs.shape.read_bot_word.Goals as goal
-
-too_many : (before : ℕ) (t : Lexeme) → most_bots ≤ before → past_bots before t ≡ Some TooMany
-too_many before t le = let b : nat_lt before most_bots ≡ false = le-ltb _ _ le in rw b refl
-
-not_many : (before : ℕ) (t : Lexeme) → before < most_bots → past_bots before t ≡ None
-not_many before t lt = let b : nat_lt before most_bots ≡ true = lt-ltb _ _ lt in rw b refl
 
 pub returns-in_err-token-clause-reads : goal.returns-in_err-token-clause-reads
 unfolding bot_word
@@ -32,7 +24,7 @@ returns-then-before-ge-MOST_BOTS-clause-reads c =
     let over = past_bots c.args.before in
     let t = lexeme_of c.args.tokens.now.source c.in_ok-token.token in
     rw c.refused.ensures (fails (one_within is_bot over) (λ t. pure t.line) (Refused (record { line = c.in_ok-token.token.line; kind = TooMany })) c.args.tokens.now c.take.new.self
-    (goes_past is_bot over c.args.tokens.now c.take.new.self c.in_ok-token.token TooMany (sym c.take.ensures.answer ∙ c.in_ok-token.was) c.in_ok-token.ensures.moves c.in_ok-token.ensures.spells (too_many c.args.before t c.if-before-ge-MOST_BOTS.true)))
+    (goes_past is_bot over c.args.tokens.now c.take.new.self c.in_ok-token.token TooMany (sym c.take.ensures.answer ∙ c.in_ok-token.was) c.in_ok-token.ensures.moves c.in_ok-token.ensures.spells (is_past c.args.before most_bots c.if-before-ge-MOST_BOTS.true)))
 
 pub returns-clause-reads : goal.returns-clause-reads
 unfolding bot_word
@@ -40,4 +32,4 @@ returns-clause-reads c =
     let over = past_bots c.args.before in
     let t = lexeme_of c.args.tokens.now.source c.in_ok-token.token in
     on_made (one_within is_bot over) (λ t. t.line) c.args.tokens.now c.take.new.self t
-    (took is_bot over c.args.tokens.now c.take.new.self c.in_ok-token.token (sym c.take.ensures.answer ∙ c.in_ok-token.was) c.in_ok-token.ensures.moves c.in_ok-token.ensures.spells (not_many c.args.before t c.if-before-ge-MOST_BOTS.false))
+    (took is_bot over c.args.tokens.now c.take.new.self c.in_ok-token.token (sym c.take.ensures.answer ∙ c.in_ok-token.was) c.in_ok-token.ensures.moves c.in_ok-token.ensures.spells (not_past c.args.before most_bots c.if-before-ge-MOST_BOTS.false))

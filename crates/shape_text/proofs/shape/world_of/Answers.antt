@@ -11,11 +11,8 @@ use Rattle.amoebot_state.specs.Refusals.{IsPlain, IsFaultless, IsFirstFault}
 use Rattle.shape_text.specs.declared.shape.WrittenBot.{WrittenBot}
 use Rattle.shape_text.specs.Shapes.{on_line, written_shape}
 use Rattle.shape_text.specs.Views as view
-use Rattle.shape_text.proofs.Judging.{same_bots, plain_bots, is_faultless, refusing}
+use Rattle.shape_text.proofs.Judging.{same_bots, plain_bots, is_faultless, refusing, its_bot}
 use Rattle.shape_text.proofs.shape.world_of.Goals as goal
-
-abbrev its_bot : WrittenBot → Bot
-its_bot b = b.bot
 
 module _ (a : Extent) (maxes : List ℕ) (ws : List WrittenBot) (bots : List Bot) (are : bots ≡ map its_bot ws) where
   named : (e : WorldRefusal) → (e ≡ world.NoMemory) ⊎ IsFirstFault a maxes bots e → IfSome (view.blamed e) (λ b. b.0 < length ws)
