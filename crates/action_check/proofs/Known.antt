@@ -1,7 +1,7 @@
 -- Empty lists of faults, and what they say of one name or number.
-use Rattle.std.proofs.Common.{◌≡◌, ◌<◌, ℕ, Bool, true, false, ◌||◌, if◌then◌else◌, List, [], ◌∷◌, ◌++◌, length, refl}
+use Rattle.std.proofs.Common.{◌≡◌, ◌<◌, ℕ, Bool, true, false, if◌then◌else◌, List, [], ◌∷◌, ◌++◌, length, refl}
 use Rattle.std.specs.List.{Contains}
-use Rattle.std.proofs.lemmas.Bool.{leb-true, le-leb}
+use Rattle.std.proofs.lemmas.Bool.{leb-true, le-leb, false_from_ne_true, or_parts, or_from}
 use Rattle.std.proofs.lemmas.Cmp.{nat_list_eq_equiv}
 use Rattle.std.proofs.lemmas.Slice.Eq.{bytes_eq-Decides}
 use Rattle.std.proofs.lemmas.Map.Views.{list_any-from_Contains, Contains-from_any}
@@ -33,12 +33,8 @@ among names v c = list_any-from_Contains nat_list_eq_equiv v.text names c
 pub unknown : (names : List (List ℕ)) (v : Name) → is_among names v ≡ false → ¬ Contains names v.text
 unknown names v e c = let f = among names v c in absurd cc
 
-not_true : (b : Bool) → ¬ (b ≡ true) → b ≡ false
-not_true true n = absurd (n refl)
-not_true false n = refl
-
 pub not_among : (names : List (List ℕ)) (v : Name) → ¬ Contains names v.text → is_among names v ≡ false
-not_among names v n = not_true _ (λ e. n (known names v e))
+not_among names v n = false_from_ne_true _ (λ e. n (known names v e))
 
 -- ---- one name, and one number
 
@@ -58,14 +54,6 @@ twice_not false line e = refl
 not_twice : (twice : Bool) (line : ℕ) → twice ≡ false → (if twice then blamed TwiceNamed line else []) ≡ []
 not_twice true line e = absurd cc
 not_twice false line e = refl
-
-neither : (a b : Bool) → (a || b) ≡ false → (a ≡ false) × (b ≡ false)
-neither true b e = absurd cc
-neither false b e = (refl, e)
-
-none_of : (a b : Bool) → a ≡ false → b ≡ false → (a || b) ≡ false
-none_of true b e f = absurd cc
-none_of false b e f = f
 
 in_range : (is : Bool) (line : ℕ) → (if is then [] else blamed BadRange line) ≡ [] → is ≡ true
 in_range true line e = refl
@@ -89,11 +77,11 @@ bound_is_fine sc v c = known_fine _ (is_among sc.vars v) v.line (among sc.bound 
 
 pub is_new : (sc : Scope) (v : Name) → length sc.bound < most_names → binding_faults sc v ≡ [] → IsNew sc v
 is_new sc v room e =
-    let n = neither (is_among sc.vars v) (is_among sc.bound v) (twice_not _ v.line e) in
+    let n = or_parts (is_among sc.vars v) (is_among sc.bound v) (twice_not _ v.line e) in
     record { no_var = unknown sc.vars v n.0; not_bound = unknown sc.bound v n.1; room = room }
 
 pub new_is_fine : (sc : Scope) (v : Name) → IsNew sc v → binding_faults sc v ≡ []
-new_is_fine sc v n = not_twice _ v.line (none_of _ _ (not_among sc.vars v n.no_var) (not_among sc.bound v n.not_bound))
+new_is_fine sc v n = not_twice _ v.line (or_from _ _ (not_among sc.vars v n.no_var) (not_among sc.bound v n.not_bound))
 
 pub is_fresh : (earlier : List (List ℕ)) (v : Name) → declared_faults earlier v ≡ [] → ¬ Contains earlier v.text
 is_fresh earlier v e = unknown earlier v (twice_not _ v.line e)

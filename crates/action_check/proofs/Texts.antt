@@ -17,7 +17,7 @@ pub any_text : (test : List ℕ → Bool) (names : List ArrayString) → list_an
 any_text test [] = refl
 any_text test (name ∷ names) = ap (λ rest. test name.bytes || rest) (any_text test names)
 
-same_either_way : (a b : List ℕ) → bytes_eq a b ≡ bytes_eq b a
+pub same_either_way : (a b : List ℕ) → bytes_eq a b ≡ bytes_eq b a
 same_either_way a b =
     let d = bytes_eq-Decides b a in
     let turned : Decides (bytes_eq b a) (a ≡ b) = ((λ e. sym (d.0 e)), (λ e. d.1 (sym e))) in

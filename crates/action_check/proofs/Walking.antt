@@ -20,8 +20,12 @@ pub record IsLeft {X : Type 0} (faults : Scope → List X → List Refusal) (nam
   pub room : HasRoom sc (names (drop i xs))
   pub told : first_of (faults start xs) ≡ first_of (faults sc (drop i xs))
 
+-- the next element, and what is left behind it
+pub ahead : {X : Type 0} (xs : List X) (i : ℕ) (d : X) → i < length xs → drop i xs ≡ get_or xs i d ∷ drop (i + 1) xs
+ahead xs i d l = rw add-one (drop-cons xs i d l)
+
 pub here : {X : Type 0} (xs : List X) (i : ℕ) (x : X) → i < length xs → x ≡ get_or xs i x → drop i xs ≡ x ∷ drop (i + 1) xs
-here xs i x l is = rw (add-one) (let e = drop-cons xs i x l in cc)
+here xs i x l is = let e = ahead xs i x l in cc
 
 -- ---- guards
 

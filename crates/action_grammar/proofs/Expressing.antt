@@ -279,9 +279,6 @@ sum_each : (n left : ℕ) (t : Lexeme) (r : Role) → role t ≡ r → begins_su
 sum_each n left t MinusSign e f = let s = some_term n left in record { more = _; whole = _; is = is_sum (of_first (made t (is_one t (is_in MinusSign t e)))) s.is no_more_terms }
 sum_each n left t r e f = sum_with n left (symbol_by n r t) (term_each n left t r e f)
 
-pub starts_sum : (n left : ℕ) → Starts (IsSum n left) (λ t. begins_sum (role t)) (level_limit n)
-starts_sum n left = record { begins = sum_begins n left; each = λ t e. sum_each n left t (role t) refl e }
-
 -- ---- units
 
 abbrev pub Compared : ℕ → ℕ → Lang Guard

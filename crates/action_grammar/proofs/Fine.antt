@@ -2,25 +2,25 @@
 use Rattle.std.proofs.Common.{◌≡◌, ◌<◌, ◌≤◌, ◌-◌, ◌*◌, ◌^◌, ℕ, zero, suc, Bool, true, false, cond, ◌&&◌, ◌||◌, List, [], ◌∷◌, ◌++◌, length, Option, Some, None, refl, sym, ap, subst, ◌∙◌, arith}
 use Rattle.std.specs.Prelude.{not}
 use Rattle.std.specs.List.{list_all}
-use Rattle.std.proofs.lemmas.Bool.{lt-ltb}
+use Rattle.std.proofs.lemmas.Bool.{lt-ltb, and_from}
 use Rattle.std.proofs.lemmas.Bool.Decides.{nat_tests}
 use Rattle.std.proofs.Math.Nat.{mul-le-mul_right, pow-succ'}
 use Rattle.text_tokens.specs.declared.token.TokenKind.{TokenKind}
 use Rattle.text_tokens.specs.declared.token.TokenKind.TheVariants.{Word, Number}
-use Rattle.text_tokens.specs.declared.refusal.Refusal.{Refusal}
 use Rattle.text_tokens.specs.declared.refusal.RefusalKind.{RefusalKind}
 use Rattle.text_tokens.specs.Text.{Lexeme, Cuts, number, is_digit, most_bytes}
 use Rattle.text_tokens.specs.Cursor.{IsCut, AreCut, number_value, is_kind}
 use Rattle.text_tokens.specs.Reading.{no_limit, deep_at, less, value, past_kind}
-use Rattle.text_tokens.specs.Grammar.{Symbol, symbol, with_token, tokens, or_else, first_fault, refusal_of, IsOne, is_one, past}
+use Rattle.text_tokens.specs.Grammar.{Symbol, symbol, with_token, tokens, first_fault, refusal_of, IsOne, is_one, past}
 use Rattle.text_tokens.specs.Lawful.{BeginsWith}
 use Rattle.text_tokens.proofs.Distinguishing.{kind_is}
 use Rattle.text_tokens.proofs.Decimal.{small_within}
 use Rattle.text_tokens.proofs.Beginnings.{past_first}
+use Rattle.text_tokens.proofs.Splitting.{or_else_none}
 use Rattle.action_tree.specs.Trees.{fixed, held}
 use Rattle.action_tree.specs.Words.{is_word, is_number, is_reserved}
 use Rattle.action_tree.specs.Productions.{IsName, IsNumber, OfDirTerm, dir_number, dir_name}
-use Rattle.action_tree.proofs.Conditions.{both, left_of, right_of}
+use Rattle.action_tree.proofs.Conditions.{left_of, right_of}
 use Rattle.action_tree.proofs.Spelling.{cut_is_word}
 use Rattle.action_grammar.specs.declared.role.Role.{Role}
 use Rattle.action_grammar.specs.declared.role.Role.TheVariants.{AName, ANumber}
@@ -38,7 +38,7 @@ pub record IsSound (t : Lexeme) : Type 0 where
 pub name_sound : (t : Lexeme) → IsSound t → is_a AName t ≡ true → IsName (as_name t)
 name_sound t s e =
     let f : (is_kind Word t && not (is_reserved t.text)) ≡ true = sym (names t) ∙ e in
-    both _ _ (s.words (kind_is Word t (left_of _ _ f))) (right_of _ _ f)
+    and_from _ _ (s.words (kind_is Word t (left_of _ _ f))) (right_of _ _ f)
 
 pub number_sound : (t : Lexeme) → IsSound t → is_a ANumber t ≡ true → IsNumber (as_literal t)
 number_sound t s e = s.numbers (kind_is Number t (sym (numbers t) ∙ e))
@@ -54,7 +54,7 @@ value_small (b ∷ digits) e =
     let whole : 10 ^ suc (length digits) ≡ 10 * 10 ^ length digits = pow-succ' 10 (length digits) in omega arith
 
 number_small : (text rest : List ℕ) → Cuts Number text rest → length text ≤ most_bytes Number → is_number (number_value text) ≡ true
-number_small text rest (number {b = b} {bytes = bytes} d all stops) few = lt-ltb _ _ (small_within (number_value (b ∷ bytes)) (length (b ∷ bytes)) 9 (value_small (b ∷ bytes) (both _ _ d all)) few)
+number_small text rest (number {b = b} {bytes = bytes} d all stops) few = lt-ltb _ _ (small_within (number_value (b ∷ bytes)) (length (b ∷ bytes)) 9 (value_small (b ∷ bytes) (and_from _ _ d all)) few)
 
 cut_sound : (t : Lexeme) → IsCut t → IsSound t
 cut_sound t c = record {
@@ -85,14 +85,10 @@ symbol_sound : (o : Option Lexeme) (ts : List Lexeme) → AreCut (with_token o t
 symbol_sound None ts s = (tt, s)
 symbol_sound (Some t) ts s = (cut_sound t s.0, s.1)
 
-none_first : (o p : Option Refusal) → or_else o p ≡ None → (o ≡ None) × (p ≡ None)
-none_first None p e = (refl, e)
-none_first (Some r) p e = absurd cc
-
 pub fine_text : (xs : List Symbol) → first_fault xs ≡ None → AreCut (tokens xs) → IsFine xs
 fine_text [] e s = tt
 fine_text (x ∷ xs) e s =
-    let o = none_first x.fault (first_fault xs) e in
+    let o = or_else_none x.fault (first_fault xs) e in
     let t = symbol_sound x.token (tokens xs) s in
     (o.0, t.0, fine_text xs o.1 t.1)
 

@@ -1,5 +1,6 @@
 -- Which tokens are names, and which are numbers.
 use Rattle.std.proofs.Common.{◌≡◌, ℕ, Bool, true, false, cond, ◌&&◌, ◌||◌, List, [], ◌∷◌, refl, map}
+use Rattle.std.proofs.lemmas.Bool.{not-true}
 use Rattle.std.specs.Prelude.{not}
 use Rattle.std.specs.List.{list_all, list_any}
 use Rattle.std.specs.Str.{bytes_eq}
@@ -18,16 +19,12 @@ use Rattle.action_tree.proofs.Conditions.{left_of, right_of}
 abbrev pub Lacks : Role → List (Entry Role) → Type 0
 Lacks r es = list_all (λ e. not (same_role e.value r)) es ≡ true
 
-not_true : (b : Bool) → not b ≡ true → b ≡ false
-not_true true e = absurd cc
-not_true false e = refl
-
 pub lacking : (r d : Role) (es : List (Entry Role)) (text : List ℕ) → same_role d r ≡ false → Lacks r es → same_role (look_up d es text) r ≡ false
 lacking r d [] text n l = n
 lacking r d (e ∷ es) text n l = by (bytes_eq text e.text) (lacking r d es text n (right_of _ _ l))
   where
     by : (b : Bool) → same_role (look_up d es text) r ≡ false → same_role (cond b e.value (look_up d es text)) r ≡ false
-    by true more = not_true (same_role e.value r) (left_of _ _ l)
+    by true more = not-true (same_role e.value r) (left_of _ _ l)
     by false more = more
 
 named : (es : List (Entry Role)) (text : List ℕ) → Lacks AName es → same_role (look_up AName es text) AName ≡ not (list_any (bytes_eq text) (map (λ e. e.text) es))
@@ -36,7 +33,7 @@ named [] text l = refl
 named (e ∷ es) text l = by (bytes_eq text e.text) (named es text (right_of _ _ l))
   where
     by : (b : Bool) → same_role (look_up AName es text) AName ≡ not (list_any (bytes_eq text) (map (λ e. e.text) es)) → same_role (cond b e.value (look_up AName es text)) AName ≡ not (b || list_any (bytes_eq text) (map (λ e. e.text) es))
-    by true more = not_true (same_role e.value AName) (left_of _ _ l)
+    by true more = not-true (same_role e.value AName) (left_of _ _ l)
     by false more = more
 
 names_by : (kind : TokenKind) (text : List ℕ) → same_role (role_by kind text) AName ≡ (same_kind kind Word && not (is_reserved text))

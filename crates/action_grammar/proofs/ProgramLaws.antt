@@ -73,11 +73,6 @@ action_expr ActionWord e = refl
 action_expr LastWord e = refl
 action_expr _ e = absurd cc
 
-action_stmts : (r : Role) → stops_action r ≡ true → stops_stmts r ≡ true
-action_stmts ActionWord e = refl
-action_stmts LastWord e = refl
-action_stmts _ e = absurd cc
-
 action_move : (r : Role) → stops_action r ≡ true → same_role r MoveWord ≡ false
 unfolding same_role
 action_move ActionWord e = refl
@@ -105,12 +100,6 @@ body_do _ e = absurd cc
 action_body : (r : Role) → stops_action r ≡ true → stops_body r ≡ true
 action_body MoveWord e = refl
 action_body _ e = e
-
-body_expr : (r : Role) → stops_body r ≡ true → stops_expr r ≡ true
-body_expr MoveWord e = refl
-body_expr ActionWord e = refl
-body_expr LastWord e = refl
-body_expr _ e = absurd cc
 
 module _ (n left : ℕ) where
   abbrev Moves : Lang Move

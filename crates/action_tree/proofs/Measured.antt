@@ -1,10 +1,11 @@
 -- A tree that the productions give opens no more levels, binds no more names, and is formed as the test asks.
 use Rattle.std.proofs.Common.{◌≡◌, ℕ, suc, Bool, true, false, ◌≤◌, refl, arith}
+use Rattle.std.proofs.lemmas.Bool.{and_from}
 use Rattle.action_tree.specs.Trees.{Guard, atom, negation, conjunction, disjunction, quantified, tested, comparison, Guards, no_guards, guard_then, Sum, term_then, Term, PortExpr}
 use Rattle.action_tree.specs.Limits.{most_elements}
 use Rattle.action_tree.specs.Writable.{is_conj, is_unit, parens_unless, guard_levels, unit_levels, conj_levels, sum_levels, term_levels, port_levels, guard_names, guards_names, sum_names, term_names, port_names, guard_count, term_count, is_guard, are_guards, are_terms, is_term, is_port, is_sum, is_dirterm}
 use Rattle.action_tree.specs.Productions.{all_of, any_of, OfDirTerm, dir_number, dir_name, OfExpr, joined_by_or, OfConjs, no_conj, or_conj, OfConj, joined_by_and, OfUnits, no_unit, and_unit, OfUnit, one_word, not_unit, in_parens, some_or_each, asked, compared, OfSum, added, OfTerms, no_term, and_term, OfTerm, a_number, own_name, port_name, counted, directed, own_direction, modulo, OfPort, bound_name, end_and_dir, turned_by, first_in}
-use Rattle.action_tree.proofs.Conditions.{both, within}
+use Rattle.action_tree.proofs.Conditions.{within}
 
 -- what the test asks where so many levels and names are left
 pub record Meets (n left l k : ℕ) (f : Bool) : Type 0 where
@@ -78,30 +79,30 @@ parenthesized n left g m = record { levels = omega (arith, with_parens (is_unit 
 -- ---- lists
 
 pub or_list : (n left room : ℕ) (g : Guard) (gs : Guards) → ConjMeets n left g → ConjsMeet n left room gs → ConjsMeet n left (suc room) (guard_then g gs)
-or_list n left room g gs m ms = record { levels = omega (arith, m.levels, ms.levels); names = omega (arith, m.names, ms.names); count = omega (arith, ms.count); formed = both _ _ m.formed ms.formed }
+or_list n left room g gs m ms = record { levels = omega (arith, m.levels, ms.levels); names = omega (arith, m.names, ms.names); count = omega (arith, ms.count); formed = and_from _ _ m.formed ms.formed }
 
 pub and_list : (n left room : ℕ) (g : Guard) (gs : Guards) → UnitMeets n left g → UnitsMeet n left room gs → UnitsMeet n left (suc room) (guard_then g gs)
-and_list n left room g gs m ms = record { levels = omega (arith, m.levels, ms.levels); names = omega (arith, m.names, ms.names); count = omega (arith, ms.count); formed = both _ _ m.formed ms.formed }
+and_list n left room g gs m ms = record { levels = omega (arith, m.levels, ms.levels); names = omega (arith, m.names, ms.names); count = omega (arith, ms.count); formed = and_from _ _ m.formed ms.formed }
 
 pub or_all : (n left : ℕ) (g : Guard) (gs : Guards) → ConjMeets n left g → ConjsMeet n left 63 gs → GuardMeets n left (any_of g gs)
 or_all n left g no_guards m ms = alone n left g m
 or_all n left g (guard_then h gs) m ms =
     let all = or_list n left 63 g (guard_then h gs) m ms in
-    record { levels = all.levels; names = all.names; formed = both _ _ (within 2 _ most_elements (omega arith) all.count) all.formed }
+    record { levels = all.levels; names = all.names; formed = and_from _ _ (within 2 _ most_elements (omega arith) all.count) all.formed }
 
 pub and_all : (n left : ℕ) (g : Guard) (gs : Guards) → UnitMeets n left g → UnitsMeet n left 63 gs → ConjMeets n left (all_of g gs)
 and_all n left g no_guards m ms = unit_alone n left g m
 and_all n left g (guard_then h gs) m ms =
     let all = and_list n left 63 g (guard_then h gs) m ms in
-    record { levels = all.levels; names = all.names; formed = both _ _ (within 2 _ most_elements (omega arith) all.count) all.formed }
+    record { levels = all.levels; names = all.names; formed = and_from _ _ (within 2 _ most_elements (omega arith) all.count) all.formed }
 
 pub term_list : (n left room : ℕ) (minus : Bool) (t : Term) (s : Sum) → TermMeets n left t → TermsMeet n left room s → TermsMeet n left (suc room) (term_then minus t s)
-term_list n left room minus t s m ms = record { levels = omega (arith, m.levels, ms.levels); names = omega (arith, m.names, ms.names); count = omega (arith, ms.count); formed = both _ _ m.formed ms.formed }
+term_list n left room minus t s m ms = record { levels = omega (arith, m.levels, ms.levels); names = omega (arith, m.names, ms.names); count = omega (arith, ms.count); formed = and_from _ _ m.formed ms.formed }
 
 pub all_terms : (n left : ℕ) (minus : Bool) (t : Term) (s : Sum) → TermMeets n left t → TermsMeet n left 63 s → SumMeets n left (term_then minus t s)
 all_terms n left minus t s m ms =
     let all = term_list n left 63 minus t s m ms in
-    record { levels = all.levels; names = all.names; formed = both _ _ (within 1 _ most_elements (omega arith) all.count) all.formed }
+    record { levels = all.levels; names = all.names; formed = and_from _ _ (within 1 _ most_elements (omega arith) all.count) all.formed }
 
 -- ---- each production
 
@@ -128,12 +129,12 @@ mutual
   unit_meets (one_word a) = record { levels = omega arith; names = omega arith; formed = refl }
   unit_meets (not_unit u) = let m = unit_meets u in record { levels = omega (arith, m.levels); names = m.names; formed = m.formed }
   unit_meets (in_parens e) = parenthesized _ _ _ (expr_meets e)
-  unit_meets (some_or_each q s is e) = let m = expr_meets e in record { levels = omega (arith, m.levels); names = omega (arith, m.names); formed = both _ _ is m.formed }
+  unit_meets (some_or_each q s is e) = let m = expr_meets e in record { levels = omega (arith, m.levels); names = omega (arith, m.names); formed = and_from _ _ is m.formed }
   unit_meets (asked t p) = let m = port_meets p in record { levels = m.levels; names = m.names; formed = m.formed }
   unit_meets (compared c a b) =
       let m = sum_meets a in
       let k = sum_meets b in
-      record { levels = omega (arith, m.levels, k.levels); names = omega (arith, m.names, k.names); formed = both _ _ m.formed k.formed }
+      record { levels = omega (arith, m.levels, k.levels); names = omega (arith, m.names, k.names); formed = and_from _ _ m.formed k.formed }
 
   pub sum_meets : {n left : ℕ} {s : Sum} → OfSum n left s → SumMeets n left s
   sum_meets (added minus t ts) = all_terms _ _ minus _ _ (term_meets t) (terms_meet ts)
@@ -145,8 +146,8 @@ mutual
   pub term_meets : {n left : ℕ} {t : Term} → OfTerm n left t → TermMeets n left t
   term_meets (a_number is) = record { levels = omega arith; names = omega arith; formed = is }
   term_meets (own_name is) = record { levels = omega arith; names = omega arith; formed = is }
-  term_meets (port_name p is) = let m = port_meets p in record { levels = m.levels; names = m.names; formed = both _ _ m.formed is }
-  term_meets (counted s is e) = let m = expr_meets e in record { levels = omega (arith, m.levels); names = omega (arith, m.names); formed = both _ _ is m.formed }
+  term_meets (port_name p is) = let m = port_meets p in record { levels = m.levels; names = m.names; formed = and_from _ _ m.formed is }
+  term_meets (counted s is e) = let m = expr_meets e in record { levels = omega (arith, m.levels); names = omega (arith, m.names); formed = and_from _ _ is m.formed }
   term_meets (directed side p) = let m = port_meets p in record { levels = m.levels; names = m.names; formed = m.formed }
   term_meets own_direction = record { levels = omega arith; names = omega arith; formed = refl }
   term_meets (modulo s) = let m = sum_meets s in record { levels = omega (arith, m.levels); names = m.names; formed = m.formed }
@@ -154,5 +155,5 @@ mutual
   pub port_meets : {n left : ℕ} {p : PortExpr} → OfPort n left p → PortMeets n left p
   port_meets (bound_name is) = record { levels = omega arith; names = omega arith; formed = is }
   port_meets (end_and_dir e d) = record { levels = omega arith; names = omega arith; formed = dirterm_meets d }
-  port_meets (turned_by p is) = let m = port_meets p in record { levels = omega (arith, m.levels); names = m.names; formed = both _ _ m.formed is }
-  port_meets (first_in s is e) = let m = expr_meets e in record { levels = omega (arith, m.levels); names = omega (arith, m.names); formed = both _ _ is m.formed }
+  port_meets (turned_by p is) = let m = port_meets p in record { levels = omega (arith, m.levels); names = m.names; formed = and_from _ _ m.formed is }
+  port_meets (first_in s is e) = let m = expr_meets e in record { levels = omega (arith, m.levels); names = omega (arith, m.names); formed = and_from _ _ is m.formed }

@@ -1,12 +1,12 @@
 -- The same of statements, movements and whole programs.
 use Rattle.std.proofs.Common.{◌≡◌, ℕ, suc, zero, true, ◌≤◌, List, length, refl, arith}
 use Rattle.std.specs.List.{list_all}
-use Rattle.std.proofs.lemmas.Bool.{le-leb}
+use Rattle.std.proofs.lemmas.Bool.{le-leb, and_from}
 use Rattle.action_tree.specs.Trees.{Stmt, Stmts, stmt_then, Move, Var, Action, Program}
 use Rattle.action_tree.specs.Limits.{most_levels, most_names, most_elements, most_vars, most_actions}
 use Rattle.action_tree.specs.Writable.{behind, stmt_levels, stmts_levels, stmt_names, stmts_names, stmt_count, move_levels, move_names, is_stmt, are_stmts, is_move, is_var, is_action, is_writable}
 use Rattle.action_tree.specs.Productions.{after, after_all, OfStmt, put_own, put_there, let_name, if_fi, for_od, OfOptional, left_out, given, OfStmts, one_and_more, OfMore, no_more, and_more, OfMove, nowhere, moved_through, contracted, OfAction, OfVars, no_var, and_var, OfActions, no_action, and_action, OfProgram}
-use Rattle.action_tree.proofs.Conditions.{both, within}
+use Rattle.action_tree.proofs.Conditions.{within}
 use Rattle.action_tree.proofs.Measured.{Meets, expr_meets, sum_meets, port_meets}
 
 abbrev pub StmtMeets : ℕ → ℕ → Stmt → Type 0
@@ -35,17 +35,17 @@ list_meets o m ms = record {
   levels = omega (arith, m.levels, ms.levels);
   names = λ more le. omega (arith, m.names, binds o _ (ms.names more le));
   count = omega (arith, ms.count);
-  formed = both _ _ m.formed ms.formed;
+  formed = and_from _ _ m.formed ms.formed;
 }
 
 mutual
   pub stmt_meets : {n left : ℕ} {s : Stmt} → OfStmt n left s → StmtMeets n left s
-  stmt_meets (put_own is s) = let m = sum_meets s in record { levels = m.levels; names = m.names; formed = both _ _ is m.formed }
+  stmt_meets (put_own is s) = let m = sum_meets s in record { levels = m.levels; names = m.names; formed = and_from _ _ is m.formed }
   stmt_meets (put_there p is s) =
       let m = port_meets p in
       let k = sum_meets s in
-      record { levels = omega (arith, m.levels, k.levels); names = omega (arith, m.names, k.names); formed = both _ _ (both _ _ m.formed is) k.formed }
-  stmt_meets (let_name is p) = let m = port_meets p in record { levels = m.levels; names = m.names; formed = both _ _ is m.formed }
+      record { levels = omega (arith, m.levels, k.levels); names = omega (arith, m.names, k.names); formed = and_from _ _ (and_from _ _ m.formed is) k.formed }
+  stmt_meets (let_name is p) = let m = port_meets p in record { levels = m.levels; names = m.names; formed = and_from _ _ is m.formed }
   stmt_meets (if_fi e ss es) =
       let m = expr_meets e in
       let k = stmts_meet ss in
@@ -53,7 +53,7 @@ mutual
       record {
         levels = omega (arith, m.levels, k.levels, o.levels);
         names = omega (arith, m.names, k.names 0 (omega arith), o.names 0 (omega arith));
-        formed = both _ _ (both _ _ (both _ _ (both _ _ m.formed (within 1 _ most_elements (some_stmt ss) k.count)) k.formed) (within 0 _ most_elements (omega arith) o.count)) o.formed;
+        formed = and_from _ _ (and_from _ _ (and_from _ _ (and_from _ _ m.formed (within 1 _ most_elements (some_stmt ss) k.count)) k.formed) (within 0 _ most_elements (omega arith) o.count)) o.formed;
       }
   stmt_meets (for_od s is e ss) =
       let m = expr_meets e in
@@ -61,7 +61,7 @@ mutual
       record {
         levels = omega (arith, m.levels, k.levels);
         names = omega (arith, m.names, k.names 0 (omega arith));
-        formed = both _ _ (both _ _ (both _ _ is m.formed) (within 1 _ most_elements (some_stmt ss) k.count)) k.formed;
+        formed = and_from _ _ (and_from _ _ (and_from _ _ is m.formed) (within 1 _ most_elements (some_stmt ss) k.count)) k.formed;
       }
 
   pub optional_meets : {n left : ℕ} {ss : Stmts} → OfOptional n left ss → StmtsMeet n left 64 ss
@@ -88,7 +88,7 @@ action_passes a o =
     let g = expr_meets o.guard in
     let ss = optional_meets o.body in
     let m = move_meets o.moved in
-    both _ _ (both _ _ (both _ _ (both _ _ (both _ _ (both _ _ o.name g.formed) (within 0 _ most_elements (omega arith) ss.count)) ss.formed) m.formed)
+    and_from _ _ (and_from _ _ (and_from _ _ (and_from _ _ (and_from _ _ (and_from _ _ o.name g.formed) (within 0 _ most_elements (omega arith) ss.count)) ss.formed) m.formed)
     (le-leb _ most_levels (omega (arith, g.levels, ss.levels, m.levels)))) (le-leb _ most_names (omega (arith, g.names, ss.names _ m.names)))
 
 vars_few : {room : ℕ} {vs : List Var} → OfVars room vs → length vs ≤ room
@@ -97,7 +97,7 @@ vars_few (and_var v vs) = omega (arith, vars_few vs)
 
 vars_pass : {room : ℕ} {vs : List Var} → OfVars room vs → list_all is_var vs ≡ true
 vars_pass no_var = refl
-vars_pass (and_var v vs) = both _ _ (both _ _ v.name v.max) (vars_pass vs)
+vars_pass (and_var v vs) = and_from _ _ (and_from _ _ v.name v.max) (vars_pass vs)
 
 actions_few : {room : ℕ} {more : List Action} → OfActions room more → length more ≤ room
 actions_few no_action = omega arith
@@ -105,8 +105,8 @@ actions_few (and_action a more) = omega (arith, actions_few more)
 
 actions_pass : {room : ℕ} {more : List Action} → OfActions room more → list_all is_action more ≡ true
 actions_pass no_action = refl
-actions_pass (and_action a more) = both _ _ (action_passes _ a) (actions_pass more)
+actions_pass (and_action a more) = and_from _ _ (action_passes _ a) (actions_pass more)
 
 pub program_passes : (p : Program) → OfProgram p → is_writable p ≡ true
 program_passes p o =
-    both _ _ (both _ _ (both _ _ (le-leb _ most_vars (vars_few o.vars)) (vars_pass o.vars)) (le-leb _ most_actions (actions_few o.actions))) (actions_pass o.actions)
+    and_from _ _ (and_from _ _ (and_from _ _ (le-leb _ most_vars (vars_few o.vars)) (vars_pass o.vars)) (le-leb _ most_actions (actions_few o.actions))) (actions_pass o.actions)

@@ -2,11 +2,11 @@
 use Rattle.std.proofs.Common.{◌≡◌, ℕ, zero, suc, ◌<◌, ◌≤◌, Bool, true, false, ◌&&◌, ◌||◌, List, [], ◌∷◌, length, arith, refl}
 use Rattle.std.specs.Prelude.{nat_le, ◌==◌, IsAscii}
 use Rattle.std.specs.List.{list_all}
-use Rattle.std.proofs.lemmas.Bool.{eqb-true, ltb-true, lt-ltb}
+use Rattle.std.proofs.lemmas.Bool.{eqb-true, ltb-true, lt-ltb, and_from}
 use Rattle.text_tokens.specs.Text.{is_letter, is_digit, is_word_byte, Cuts, word, most_bytes}
 use Rattle.text_tokens.specs.declared.token.TokenKind.TheVariants.{Word}
 use Rattle.action_tree.specs.Words.{is_word}
-use Rattle.action_tree.proofs.Conditions.{both, left_of, right_of, upto}
+use Rattle.action_tree.proofs.Conditions.{left_of, right_of, upto}
 
 -- whichever of two tests passes
 by_either : (a b : Bool) {P : Type 0} → (a ≡ true → P) → (b ≡ true → P) → (a || b) ≡ true → P
@@ -37,4 +37,4 @@ word_is_cut [] e = absurd cc
 word_is_cut (b ∷ bytes) e = (word (left_of _ _ (left_of _ _ e)) (right_of _ _ (left_of _ _ e)) tt, omega (arith, ltb-true (length bytes) 24 (right_of _ _ e)))
 
 pub cut_is_word : (text rest : List ℕ) → Cuts Word text rest → length text ≤ most_bytes Word → is_word text ≡ true
-cut_is_word text rest (word l bytes stops) few = both _ _ (both _ _ l bytes) (lt-ltb _ _ (omega (arith, few)))
+cut_is_word text rest (word l bytes stops) few = and_from _ _ (and_from _ _ l bytes) (lt-ltb _ _ (omega (arith, few)))
