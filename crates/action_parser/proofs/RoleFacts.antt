@@ -1,5 +1,5 @@
 -- What the role of a token says of it.
-use Rattle.std.proofs.Common.{◌≡◌, ◌<◌, ◌≤◌, arith, ℕ, zero, suc, true, List, [], ◌∷◌, length, drop, Some, None, Ok, refl, sym, ap, subst, ◌∙◌}
+use Rattle.std.proofs.Common.{◌≡◌, ◌≤◌, ℕ, true, List, [], ◌∷◌, length, drop, Some, Ok, refl, sym, ap, subst, ◌∙◌}
 use Rattle.std.specs.Prelude.{option_map}
 use Rattle.text_tokens.specs.declared.token.TokenKind.{TokenKind}
 use Rattle.text_tokens.specs.declared.token.TokenKind.TheVariants.{Word, Number}
@@ -7,12 +7,12 @@ use Rattle.text_tokens.specs.declared.refusal.Refusal.{Refusal}
 use Rattle.text_tokens.specs.Text.{Lexeme}
 use Rattle.text_tokens.specs.declared.token.Token.{Token}
 use Rattle.text_tokens.specs.Cursor.{Cursor, slice, token_of, answer, answer_by, FirstIs, Spells}
-use Rattle.text_tokens.specs.Reading.{Reader, first, by_role}
+use Rattle.text_tokens.specs.Reading.{Reader, first, by_role, one_within, no_limit}
 use Rattle.text_tokens.specs.Text.{Cuts, most_bytes}
 use Rattle.text_tokens.specs.Cursor.{IsDigits}
 use Rattle.text_tokens.specs.Steps.{lexeme_of}
 use Rattle.text_tokens.proofs.Distinguishing.{kind_is}
-use Rattle.text_tokens.proofs.Stepping.{is_number_of}
+use Rattle.text_tokens.proofs.Stepping.{is_number_of, Reached}
 use Rattle.text_tokens.specs.declared.refusal.RefusalKind.TheVariants.{TooMany}
 use Rattle.action_grammar.specs.Expressions.{bound_at}
 use Rattle.action_tree.specs.Words.{is_word}
@@ -22,6 +22,7 @@ use Rattle.action_grammar.proofs.Naming.{names, numbers}
 use Rattle.action_grammar.specs.declared.role.Role.{Role}
 use Rattle.action_grammar.specs.declared.role.Role.TheVariants as role_of
 use Rattle.action_grammar.specs.Roles.{role, role_by, is_a}
+use Rattle.action_parser.proofs.Tokens.{passes}
 
 -- a name is a word, and a number one
 pub name_is_word : (t : Lexeme) → is_a role_of.AName t ≡ true → t.kind ≡ Word
@@ -61,11 +62,12 @@ module _ (c : Cursor) (t : Token) (s : Spells c t) where
   pub number_spells : is_a role_of.ANumber (lexeme_of c.source t) ≡ true → IsDigits c.source t
   number_spells e = is_number_of c t s (number_is_number (lexeme_of c.source t) e)
 
+-- the text of a name that was taken
+pub name_text : (old new : Cursor) (t : Token) (text : List ℕ) → Spells old t → Reached (one_within (is_a role_of.AName) no_limit) old (lexeme_of old.source t) new → text ≡ slice new.source t → is_word text ≡ true
+name_text old new t text spells read is =
+    ap is_word (is ∙ ap (λ (source : List ℕ). slice source t) read.1.source) ∙ name_spells old t spells (passes (is_a role_of.AName) no_limit old new (lexeme_of old.source t) read)
+
 -- ---- names that may still be bound
 
 pub no_name_left : (names : ℕ) (t : Lexeme) → names ≡ 0 → bound_at names t ≡ Some TooMany
 no_name_left names t e = rw e refl
-
-pub some_name_left : (names : ℕ) (t : Lexeme) → 0 < names → bound_at names t ≡ None
-some_name_left zero t e = absurd (omega arith)
-some_name_left (suc names) t e = refl

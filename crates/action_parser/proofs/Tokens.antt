@@ -12,16 +12,8 @@ use Rattle.text_tokens.specs.Reading.{Answer, Reader, pure, and_then, within, on
 use Rattle.text_tokens.specs.Steps.{Fails, SameSource, lexeme_of}
 use Rattle.text_tokens.proofs.Stepping.{Reached, Failed, stays, took, fails, on_made}
 use Rattle.text_tokens.proofs.Rows.{Left}
+use Rattle.text_tokens.proofs.Exactness.{value_in, rest_in}
 use Rattle.action_parser.specs.Readings.{made}
-
--- what an answer holds
-abbrev pub value_in : {A : Type 0} → A → Answer A → A
-value_in a (Ok r) = r.0
-value_in a (Err r) = a
-
-abbrev pub rest_in : {A : Type 0} → Answer A → List Lexeme
-rest_in (Ok r) = r.1
-rest_in (Err r) = []
 
 module _ (test : Lexeme → Bool) (over : Lexeme → Option RefusalKind) where
   not_next_by : (ts : List Lexeme) (last : Refusal) → next_passes test ts ≡ false → one_within test over last ts ≡ Err (refusal_at last Unexpected ts)

@@ -1,17 +1,14 @@
-use Rattle.std.proofs.Common.{◌∙◌, ap, List, ℕ}
 use Rattle.std.proofs.lemmas.Result.{err_from_is_err_and}
 use Rattle.text_tokens.specs.declared.refusal.RefusalKind.TheVariants.{TooMany}
 use Rattle.text_tokens.specs.declared.refusal.ReadRefusal.TheVariants.{Refused}
-use Rattle.text_tokens.specs.Cursor.{slice}
-use Rattle.text_tokens.specs.Reading.{pure, one_within, no_limit}
+use Rattle.text_tokens.specs.Reading.{pure, one_within}
 use Rattle.text_tokens.specs.Steps.{lexeme_of}
 use Rattle.text_tokens.proofs.Stepping.{fails}
-use Rattle.action_tree.specs.Words.{is_word}
 use Rattle.action_grammar.specs.declared.role.Role.TheVariants as role
 use Rattle.action_grammar.specs.Roles.{is_a, as_name}
 use Rattle.action_grammar.specs.Expressions.{bound_at}
-use Rattle.action_parser.proofs.Tokens.{passes, passes_limit, refused_with}
-use Rattle.action_parser.proofs.RoleFacts.{name_spells, no_name_left}
+use Rattle.action_parser.proofs.Tokens.{passes_limit, refused_with}
+use Rattle.action_parser.proofs.RoleFacts.{no_name_left, name_text}
 use Rattle.action_parser.proofs.words.bound_name.Goals as goal
 
 pub returns-in_err-found-clause-reads : goal.returns-in_err-found-clause-reads
@@ -29,9 +26,4 @@ returns-then-names-eq0-clause-reads c =
     (passes_limit (is_a role.AName) (bound_at c.args.names) now c.token.new.tokens t TooMany c.in_ok-found.ensures.reads (no_name_left c.args.names t c.if-names-eq0.true)))
 
 pub new-requires : goal.new-requires
-new-requires c =
-    let now = c.args.tokens.now in
-    let t = c.in_ok-found.found in
-    let same = c.in_ok-found.ensures.reads.1.source in
-    let text = c.text.ensures ∙ ap (λ (source : List ℕ). slice source t) same in
-    ap is_word text ∙ name_spells now t c.in_ok-found.ensures.spells (passes (is_a role.AName) no_limit now c.token.new.tokens (lexeme_of now.source t) c.in_ok-found.ensures.reads)
+new-requires c = name_text c.args.tokens.now c.token.new.tokens c.in_ok-found.found _ c.in_ok-found.ensures.spells c.in_ok-found.ensures.reads c.text.ensures

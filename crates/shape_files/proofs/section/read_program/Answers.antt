@@ -1,7 +1,6 @@
-use Rattle.std.proofs.Common.{◌≡◌, Option, Result, Ok, Err, sym, subst}
+use Rattle.std.proofs.Common.{◌≡◌, Result, Ok, Err, sym, subst}
 use Rattle.std.proofs.lemmas.Result.{err_from_is_err_and}
 use Rattle.std.specs.Prelude.{IfOk, IfErr}
-use Rattle.text_tokens.specs.declared.refusal.Refusal.{Refusal}
 use Rattle.text_tokens.specs.declared.refusal.ReadRefusal.{ReadRefusal}
 use Rattle.text_tokens.specs.declared.refusal.ReadRefusal.TheVariants.{Refused, NoMemory}
 use Rattle.text_tokens.specs.Cursor.{Cursor}
@@ -14,17 +13,14 @@ use Rattle.action_grammar.specs.ProgramReaders.{a_program}
 use Rattle.action_grammar.proofs.ProgramLaws.{exact_program}
 use Rattle.action_check.specs.Faults.{faults, AreRulesKept}
 use Rattle.action_check.specs.Told.{TellsFirst}
-use Rattle.document_grammar.specs.Documents.{first_in}
 use Rattle.document_grammar.specs.DocumentReaders.{a_checked_program}
+use Rattle.document_grammar.proofs.Sectioning.{wrong}
 use Rattle.shape_files.proofs.Giving.{gives_of}
 use Rattle.shape_files.proofs.Checking.{none_first, some_first}
 use Rattle.shape_files.proofs.section.read_program.Goals as goal
 
 abbrev itself : tree.Program → tree.Program
 itself p = p
-
-abbrev wrong : tree.Program → Option Refusal
-wrong p = first_in (faults p)
 
 pub returns-in_err-program : goal.returns-in_err-program
 unfolding a_checked_program
