@@ -3,7 +3,7 @@ use Rattle.std.proofs.Common.{◌≡◌, ◌<◌, ◌≤◌, ℕ, zero, suc, Lis
 use Rattle.std.specs.Prelude.{slice_get}
 use Rattle.std.specs.List.{filter_map}
 use Rattle.std.proofs.lemmas.List.{take_at, take-append-drop, map-append}
-use Rattle.std.proofs.lemmas.Option.{none-some}
+use Rattle.std.proofs.lemmas.Option.{none-some, same_Some}
 use Rattle.amoebot_state.specs.Known.{IsFront}
 use Rattle.amoebot_state.proofs.Members.{Has, here, later}
 
@@ -51,10 +51,7 @@ front_next xs y ys zs front =
 
 pub front_push : {A : Type 0} (xs ys : List A) (y : A) → IsFront xs ys → slice_get ys (length xs) ≡ Some y → IsFront (xs ++ y ∷ []) ys
 front_push [] [] y front at = absurd (none-some y at)
-front_push [] (z ∷ ys) y front at = let same : z ≡ y = some_same z y at in ap (λ x. x ∷ []) (sym same)
-  where
-    some_same : {A : Type 0} (x y : A) → Some x ≡ Some y → x ≡ y
-    some_same x y e = cc
+front_push [] (z ∷ ys) y front at = let same : z ≡ y = same_Some z y at in ap (λ x. x ∷ []) (sym same)
 front_push (x ∷ xs) [] y front at = absurd (none-some y at)
 front_push {A} (x ∷ xs) (z ∷ ys) y front at =
     let (first, rest) = split x z xs (take (length xs) ys) front in

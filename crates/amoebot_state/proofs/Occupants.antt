@@ -53,6 +53,13 @@ position_push {X} p xs y d None e =
       ])
     ] refl
 
+-- the id of an amoebot that is there is one of the list
+pub id_below : (c : Config) (i : ℕ) (a : Bot) → bot_at c i ≡ Some a → i < length c.bots
+id_below c i a at = elim (cases_lt i (length c.bots)) [
+  | inl lt ↦ lt
+  | inr ge ↦ absurd (none-some a (sym (get_or_past c.bots i None (omega arith)) ∙ at))
+]
+
 -- past the last id there is no amoebot, so what covers a node has an id of the list
 pub covers_below : (c : Config) (i : ℕ) (v : Node) → covers (bot_at c i) v ≡ true → i < length c.bots
 covers_below c i v e = elim (cases_lt i (length c.bots)) [

@@ -12,6 +12,7 @@ use Rattle.tri_lattice.proofs.Nodes.{node_eq-true, node_eq_same}
 use Rattle.amoebot_state.specs.declared.bot.Bot.{Bot}
 use Rattle.amoebot_state.specs.declared.bot.Chir.{Chir}
 use Rattle.amoebot_state.specs.declared.bot.Chir.TheVariants as chir
+use Rattle.amoebot_state.specs.contracts.bot.ChirPartialEq.TheImpl as same_chir
 use Rattle.amoebot_state.specs.declared.cell.Cell.{Cell}
 use Rattle.amoebot_state.specs.declared.cell.Cell.TheVariants as cell
 use Rattle.amoebot_state.specs.Configs.{Config, config_of}
@@ -35,7 +36,7 @@ value_same None = refl
 value_same (Some (cell.Spot o)) = id_eq_same o
 value_same (Some (cell.Body b)) = bot_eq_same b
 
-id_eq-true : (o q : Option ℕ) → id_eq o q ≡ true → o ≡ q
+pub id_eq-true : (o q : Option ℕ) → id_eq o q ≡ true → o ≡ q
 id_eq-true None None t = refl
 id_eq-true None (Some j) t = absurd (false≢true t)
 id_eq-true (Some i) None t = absurd (false≢true t)
@@ -47,7 +48,7 @@ chir_eq-true chir.Plus chir.Minus t = absurd (false≢true t)
 chir_eq-true chir.Minus chir.Plus t = absurd (false≢true t)
 chir_eq-true chir.Minus chir.Minus t = refl
 
-bot_eq-true : (a b : Bot) → bot_eq a b ≡ true → a ≡ b
+pub bot_eq-true : (a b : Bot) → bot_eq a b ≡ true → a ≡ b
 bot_eq-true a b t =
     let all = and_parts _ _ t in
     let to_chir = and_parts _ _ all.0 in
@@ -59,6 +60,13 @@ bot_eq-true a b t =
     let way = chir_eq-true a.chir b.chir to_chir.1 in
     let mem = (bytes_decides a.mem b.mem).0 all.1 in
     λ i. record { head = head i; tail = tail i; rot = rot i; chir = way i; mem = mem i }
+
+-- the derived test of chiralities
+pub chirs_decide : (g h : Chir) → Decides (same_chir.eq-value.it g h) (g ≡ h)
+chirs_decide chir.Plus chir.Plus = (λ _. refl, λ _. refl)
+chirs_decide chir.Plus chir.Minus = (λ t. absurd (false≢true t), λ e. cc)
+chirs_decide chir.Minus chir.Plus = (λ t. absurd (false≢true t), λ e. cc)
+chirs_decide chir.Minus chir.Minus = (λ _. refl, λ _. refl)
 
 -- the test field by field, whatever tests the chirality
 pub fields_decide : (a b : Bot) (way : Bool) → Decides way (a.chir ≡ b.chir) → Decides (node_eq a.head b.head && (node_eq a.tail b.tail && (nat_eq a.rot b.rot && (way && pointwise nat_eq a.mem b.mem)))) (a ≡ b)

@@ -1,10 +1,10 @@
 -- One amoebot that becomes another one of the same id.
-use Rattle.std.proofs.Common.{◌≡◌, ◌≢◌, ◌⊎◌, ◌<◌, ℕ, length, Bool, true, false, ap, sym, ◌∙◌, refl, subst, inl, inr, arith, Option, Some, None}
+use Rattle.std.proofs.Common.{◌≡◌, ◌≢◌, ◌⊎◌, ℕ, length, Bool, true, false, ap, sym, ◌∙◌, refl, subst, inl, inr, Option, Some, None}
 use Rattle.std.specs.Prelude.{is_some, if◌then◌else◌}
 use Rattle.std.specs.Option.{option_map}
-use Rattle.std.proofs.lemmas.Bool.{cases_Bool, cases_eq, cases_lt, both_ways}
-use Rattle.std.proofs.lemmas.List.{get_or-set_same, get_or-set_other, length-set, get_or_past}
-use Rattle.std.proofs.lemmas.Option.{none-some, same_Some}
+use Rattle.std.proofs.lemmas.Bool.{cases_Bool, cases_eq, both_ways}
+use Rattle.std.proofs.lemmas.List.{get_or-set_same, get_or-set_other, length-set}
+use Rattle.std.proofs.lemmas.Option.{same_Some}
 use Rattle.tri_lattice.specs.declared.node.Node.{Node}
 use Rattle.amoebot_state.specs.declared.bot.Bot.{Bot}
 use Rattle.amoebot_state.specs.declared.cell.CellName.{CellName}
@@ -12,7 +12,7 @@ use Rattle.amoebot_state.specs.declared.cell.CellName.TheVariants as name
 use Rattle.amoebot_state.specs.declared.cell.Cell.TheVariants as cell
 use Rattle.amoebot_state.specs.Ports.{is_own}
 use Rattle.amoebot_state.specs.Configs.{Config, IsValid, IsBot, bot_at, covers, occupant, value, set_bot}
-use Rattle.amoebot_state.proofs.Occupants.{occupant_at, occupant_none, nobody_covers, occupant_same}
+use Rattle.amoebot_state.proofs.Occupants.{occupant_at, occupant_none, nobody_covers, occupant_same, id_below}
 
 -- the amoebot may become the other one: that one may stand in the area, and each node of it is one of the amoebot's or empty
 pub record MayBecome (c : Config) (i : ℕ) (a b : Bot) : Type 0 where
@@ -24,12 +24,6 @@ pub record MayBecome (c : Config) (i : ℕ) (a b : Bot) : Type 0 where
 -- the occupant of a node after that
 abbrev pub occupant_then : Bool → Bool → ℕ → Option ℕ → Option ℕ
 occupant_then now was i o = if now then Some i else if was then None else o
-
-pub id_below : (c : Config) (i : ℕ) (a : Bot) → bot_at c i ≡ Some a → i < length c.bots
-id_below c i a at = elim (cases_lt i (length c.bots)) [
-  | inl lt ↦ lt
-  | inr ge ↦ absurd (none-some a (sym (get_or_past c.bots i None (omega arith)) ∙ at))
-]
 
 pub at_own : (c : Config) (i : ℕ) (a b : Bot) → bot_at c i ≡ Some a → bot_at (set_bot c i b) i ≡ Some b
 at_own c i a b at = get_or-set_same c.bots i (Some b) None (id_below c i a at)

@@ -2,7 +2,7 @@
 use Rattle.std.proofs.Common.{◌≡◌, ◌<◌, ◌≤◌, ◌+◌, ℕ, suc, List, [], ◌∷◌, ◌++◌, length, map, Bool, true, false, not, cond, ◌||◌, ap, sym, ◌∙◌, refl, subst, inl, inr, arith, Option, Some, None, nat_eq, nat_lt, filter, ◌⊎◌}
 use Rattle.std.specs.List.{AllByRecursion, fold, insert, position, position_or_len}
 use Rattle.std.specs.Prelude.{if◌then◌else◌, unwrap_or, is_some}
-use Rattle.std.proofs.lemmas.Bool.{cases_Bool, cases_eq, cases_lt, both_ways, false≢true, or_left, or_right, eq-eqb, lt-ltb, le-ltb, ltb-true, ltb-false}
+use Rattle.std.proofs.lemmas.Bool.{cases_Bool, cases_eq, cases_lt, both_ways, or_left, or_right, eq-eqb, lt-ltb, le-ltb, ltb-true, ltb-false, or_parts}
 use Rattle.std.proofs.lemmas.Option.{same_Some}
 use Rattle.std.proofs.lemmas.List.{length-take}
 use Rattle.std.proofs.lemmas.List.Folds.{length-prefix_len}
@@ -82,15 +82,11 @@ rising_with_member [] m rising new = (tt, tt)
 rising_with_member (n ∷ ms) m rising new = elim (cases_Bool (nat_lt m.id n.id)) [
   | inl t ↦ let lt = ltb-true m.id n.id t in rw t ((lt, below_less ms m.id n.id lt rising.0), rising)
   | inr f ↦
-      let parts = neither (nat_eq n.id m.id) (has_id ms m.id) new in
+      let parts = or_parts (nat_eq n.id m.id) (has_id ms m.id) new in
       let ge : n.id ≤ m.id = ltb-false m.id n.id f in
       let apart : n.id < m.id = elim (cases_eq n.id m.id) [ inl e ↦ absurd (both_ways _ parts.0 (eq-eqb n.id m.id e)) | inr ne ↦ omega arith ] in
       rw f (below_with_member ms m n.id rising.0 apart, rising_with_member ms m rising.1 parts.1)
 ]
-  where
-    neither : (x y : Bool) → (x || y) ≡ false → (x ≡ false) × (y ≡ false)
-    neither true y e = absurd (false≢true (sym e))
-    neither false y e = (refl, e)
 
 all_with_member : (P : Member → Type 0) (ms : List Member) (m : Member) → AllByRecursion P ms → P m → AllByRecursion P (with_member ms m)
 all_with_member P [] m all is = (is, tt)

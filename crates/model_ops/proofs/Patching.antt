@@ -24,7 +24,7 @@ use Rattle.amoebot_state.proofs.Differences.{ordered_patch_is_diff}
 use Rattle.amoebot_state.proofs.Shows.{shown_valid}
 use Rattle.amoebot_state.proofs.Members.{Has, here, later, has_cases, not_in_none, Has-append_cases, Has-append_right, Has-filter_map, filter_map_has, All-from_Has, Contains-from_Has}
 use Rattle.amoebot_state.proofs.Owns.{own_cases}
-use Rattle.amoebot_state.proofs.Values.{value_same, value_same-true}
+use Rattle.amoebot_state.proofs.Values.{value_same, bot_eq-true, id_eq-true}
 use Rattle.amoebot_state.proofs.Rising.{Rising, none, more, Rising-append, Rising-weaker, Rising-filter_map}
 use Rattle.model_ops.specs.declared.member.Member.{Member}
 use Rattle.model_ops.specs.Members.{IsBelow, AreRising, IsSite, changed_cells, body_now, config_found, config_now, id_found_on, id_on, has_changed, nodes_of, changed_spot, changed_body}
@@ -81,13 +81,6 @@ rising_by_id : (ms : List Member) → AreRising ms → Rising (λ (m : Member). 
 rising_by_id [] rising = none
 rising_by_id (m ∷ ms) rising = more (λ n has. below_all m.id ms n rising.0 has) (rising_by_id ms rising.1)
 
--- amoebots and occupants by their tests
-same_bot : (a b : Bot) → bot_eq a b ≡ true → a ≡ b
-same_bot a b t = let e = value_same-true (Some (cell.Body a)) (Some (cell.Body b)) t in cc
-
-same_id : (o q : Option ℕ) → id_eq o q ≡ true → o ≡ q
-same_id o q t = let e = value_same-true (Some (cell.Spot o)) (Some (cell.Spot q)) t in cc
-
 -- a member that has changed, and one that has not
 changed_told : (m : Member) (p : CellName × Cell) → changed_body m ≡ Some p → (p ≡ body_now m) × (m.found ≢ m.now)
 changed_told m p = elim (cases_Bool (bot_eq m.found m.now)) as (λ _. changed_body m ≡ Some p → (p ≡ body_now m) × (m.found ≢ m.now)) [
@@ -142,7 +135,7 @@ module _ (a : Extent) (maxes : List ℕ) (own : ℕ) (ms : List Member) (m : Mem
   spot_same : (v : Node) → has_changed ms v ≡ false → occupant new v ≡ occupant old v
   spot_same v f =
       let (before, after) = occupants v in
-      sym after ∙ sym (same_id (id_found_on ms v) (id_on ms v) (not-false _ f)) ∙ before
+      sym after ∙ sym (id_eq-true (id_found_on ms v) (id_on ms v) (not-false _ f)) ∙ before
 
   -- a node whose occupant has changed is the one node
   spot_is : (v : Node) → has_changed ms v ≡ true → v ≡ one.node
@@ -195,7 +188,7 @@ module _ (a : Extent) (maxes : List ℕ) (own : ℕ) (ms : List Member) (m : Mem
       elim (cases_Bool (bot_eq n.found n.now)) [
         | inl same ↦
             bot_by (λ (k : Member). k.now) a maxes ms j ∙ ap (option_map (λ (k : Member). k.now)) e
-            ∙ ap Some (sym (same_bot n.found n.now same))
+            ∙ ap Some (sym (bot_eq-true n.found n.now same))
             ∙ sym (bot_by (λ (k : Member). k.found) a maxes ms j ∙ ap (option_map (λ (k : Member). k.found)) e)
         | inr f ↦
             let pair : changed_body n ≡ Some (body_now n) = ap (λ x. if x then None else Some (body_now n)) f in

@@ -4,18 +4,16 @@ use Rattle.std.specs.Bool.{Decides}
 use Rattle.std.specs.Cmp.Lexicographic.{pointwise}
 use Rattle.std.proofs.lemmas.Bool.{cases_Bool, both_ways, eqb-true, eq-eqb, and_parts, and_from}
 use Rattle.std.proofs.lemmas.Slice.Eq.{slice_eq-Decides}
-use Rattle.amoebot_state.specs.declared.bot.Chir.{Chir}
 use Rattle.amoebot_state.specs.declared.cell.CellName.{CellName}
 use Rattle.amoebot_state.specs.declared.cell.Cell.{Cell}
 use Rattle.amoebot_state.specs.declared.cell.Cell.TheVariants as cell
 use Rattle.amoebot_state.specs.declared.verdict.Moved.{Moved}
 use Rattle.amoebot_state.specs.declared.verdict.Change.{Change}
-use Rattle.amoebot_state.specs.contracts.bot.ChirPartialEq.TheImpl as same_chir
 use Rattle.amoebot_state.specs.contracts.cell.CellNamePartialEq.TheImpl as same_name
 use Rattle.amoebot_state.specs.contracts.cell.CellPartialEq.TheImpl as same_cell
 use Rattle.amoebot_state.specs.contracts.verdict.MovedPartialEq.TheImpl as same_moved
 use Rattle.amoebot_state.specs.Pairs.{Pairs}
-use Rattle.amoebot_state.proofs.Values.{fields_decide}
+use Rattle.amoebot_state.proofs.Values.{fields_decide, chirs_decide}
 
 -- two tests in a row
 both_decide : {P Q R : Type 0} {a b : Bool} → Decides a P → Decides b Q → (P → Q → R) → (R → P) → (R → Q) → Decides (a && b) R
@@ -26,9 +24,6 @@ movements_decide m n = search rules
 
 names_decide : (m n : CellName) → Decides (same_name.eq-value.it m n) (m ≡ n)
 names_decide m n = search rules
-
-chirs_decide : (g h : Chir) → Decides (same_chir.eq-value.it g h) (g ≡ h)
-chirs_decide g h = search rules
 
 cells_decide : (x y : Cell) → Decides (same_cell.eq-value.it x y) (x ≡ y)
 cells_decide (cell.Spot o) (cell.Spot p) = search rules

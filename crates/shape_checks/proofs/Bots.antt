@@ -1,23 +1,16 @@
 -- What holds of the nodes of each amoebot holds of each occupied node.
 use Rattle.std.proofs.Common.{◌≡◌, ◌<◌, ℕ, ◌+◌, inl, inr, ap, sym, ◌∙◌, subst, arith, length, refl}
 use Rattle.std.specs.Prelude.{IsTrue}
-use Rattle.std.specs.declared.option.Option.TheVariants.{Some, None}
-use Rattle.std.proofs.lemmas.Bool.{cases_lt, cases_eq}
-use Rattle.std.proofs.lemmas.List.{get_or_past}
-use Rattle.std.proofs.lemmas.Option.{none-some, same_Some}
+use Rattle.std.specs.declared.option.Option.TheVariants.{Some}
+use Rattle.std.proofs.lemmas.Bool.{cases_eq}
+use Rattle.std.proofs.lemmas.Option.{same_Some}
 use Rattle.tri_lattice.specs.declared.node.Node.{Node}
 use Rattle.tri_lattice.specs.Extent.{is_in}
 use Rattle.amoebot_state.specs.declared.bot.Bot.{Bot}
 use Rattle.amoebot_state.specs.Configs.{Config, IsValid, bot_at}
 use Rattle.amoebot_state.specs.Occupied.{occupied}
 use Rattle.amoebot_state.proofs.Occupied.{occupied_is_occupant}
-
--- of an amoebot that is there: its id is below their number
-pub id_below : (w : Config) (i : ℕ) (b : Bot) → bot_at w i ≡ Some b → i < length w.bots
-id_below w i b at = elim (cases_lt i (length w.bots)) [
-  | inl lt ↦ lt
-  | inr ge ↦ absurd (none-some b (sym (get_or_past w.bots i None ge) ∙ at))
-]
+use Rattle.amoebot_state.proofs.Occupants.{id_below}
 
 -- what holds of the amoebots below an id, and of the one with it, holds of those below the next
 pub bots_more : (w : Config) (P : Bot → Type 0) (i : ℕ) (b : Bot) → bot_at w i ≡ Some b → P b → ((j : ℕ) (o : Bot) → j < i → bot_at w j ≡ Some o → P o) → (j : ℕ) (o : Bot) → j < i + 1 → bot_at w j ≡ Some o → P o
