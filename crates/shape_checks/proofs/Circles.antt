@@ -19,9 +19,6 @@ pub record IsRun (circle : List Bool) (from : ℕ) (over : Bool) (j : ℕ) : Typ
   pub runs : over ≡ false → (t : ℕ) → t < j → IsTrue (place_on circle from t)
   pub ended : over ≡ true → (n : ℕ) × (n < j) × ((t : ℕ) → t < n → IsTrue (place_on circle from t)) × ((t : ℕ) → n ≤ t → t < j → place_on circle from t ≡ false)
 
-pub run_none : (circle : List Bool) (from : ℕ) → IsRun circle from false 0
-run_none circle from = record { runs = λ e t lt. absurd (omega arith); ended = λ e. absurd (both_ways false refl e) }
-
 pub run_true : (circle : List Bool) (from : ℕ) (over : Bool) (j : ℕ) → IsRun circle from over j → over ≡ false → IsTrue (place_on circle from j) → IsRun circle from over (j + 1)
 run_true circle from over j r going here = record {
   runs = λ e t lt. elim (cases_eq t j) [

@@ -9,12 +9,8 @@ use Rattle.std.proofs.lemmas.Nat.{mod_below}
 use Rattle.tri_lattice.specs.declared.node.Node.{Node}
 use Rattle.tri_lattice.specs.Lattice.{distance}
 use Rattle.tri_lattice.proofs.Nodes.{same_node}
-use Rattle.tri_lattice.proofs.Boxes.{in_places}
-use Rattle.amoebot_state.specs.Configs.{Config, IsValid}
-use Rattle.amoebot_state.specs.Occupied.{occupied}
 use Rattle.shape_checks.specs.Hexagons.{moved, IsArc}
 use Rattle.shape_checks.specs.Candidates.{IsCentral}
-use Rattle.shape_checks.proofs.Bots.{occupied_in}
 
 -- two coordinates are equal or not
 pub cases_coordinate : (a b : ℤ) → (a ≡ b) ⊎ (a ≢ b)
@@ -69,13 +65,6 @@ moved_near v (suc (suc zero)) n l (a, b, e, f) = (omega (arith, ints), omega (ar
 moved_near v (suc (suc (suc zero))) n l (a, b, e, f) = (omega (arith, ints), omega (arith, ints), omega (arith, ints), omega (arith, ints))
 moved_near v (suc (suc (suc (suc zero)))) n l (a, b, e, f) = (omega (arith, ints), omega (arith, ints), omega (arith, ints), omega (arith, ints))
 moved_near v (suc (suc (suc (suc (suc d))))) n l (a, b, e, f) = (omega (arith, ints), omega (arith, ints), omega (arith, ints), omega (arith, ints))
-
--- an occupied node lies within the bounds of areas
-pub occupied_central : (w : Config) → IsValid w → (v : Node) → IsTrue (occupied w v) → (negsuc 4095 ≤ℤ v.x) × (v.x ≤ℤ pos 4223) × (negsuc 4095 ≤ℤ v.y) × (v.y ≤ℤ pos 4223)
-occupied_central w valid v on =
-    let area = valid.area in
-    let q = in_places w.area v (occupied_in w valid v on) in
-    (omega (arith, ints), omega (arith, ints), omega (arith, ints), omega (arith, ints))
 
 -- an arc of the entries of a ring is one of the places on it
 pub arc_on : (p q : ℕ → Bool) (m n : ℕ) → m ≡ n → ((k : ℕ) → k < m → p k ≡ q k) → IsArc p m → IsArc q n

@@ -77,7 +77,3 @@ connected_if S a start marks r all u v su sv =
 -- and only there
 pub connected_then : (S : Node → Bool) (a : Extent) (start : Node) (marks : List Bool) → IsReach S a start marks → IsTrue (S start) → IsConnected S → (v : Node) → IsTrue (S v) → IsTrue (marked a marks v)
 connected_then S a start marks r on connected v sv = r.whole v (connected start v on sv)
-
--- a set without nodes is connected
-pub connected_none : (S : Node → Bool) → ((v : Node) → IsTrue (S v) → ⊥) → IsConnected S
-connected_none S none u v su sv = absurd (none u su)
