@@ -7,15 +7,15 @@ use std::test::Fail;
 use text_tokens::{ReadRefusal, Refusal, RefusalKind, Tokens};
 
 /// The line and the kind of the refusal of a text, or none where it is read.
-fn fault(alloc: Global, text: &str) -> Option<(u32, RefusalKind)> {
+fn fault(alloc: Global, text: &str) -> Result<Option<(u32, RefusalKind)>, AllocError> {
     if text.len() > 1_000_000 {
-        return None;
+        return Err(AllocError);
     }
     let mut tokens = Tokens::new(text.as_bytes());
     match parse_program(alloc, &mut tokens) {
-        Err(ReadRefusal::Refused(Refusal { line, kind })) => Some((line, kind)),
-        Err(ReadRefusal::NoMemory) => Some((0, RefusalKind::NotYet)),
-        Ok(_) => None,
+        Ok(_) => Ok(None),
+        Err(ReadRefusal::Refused(Refusal { line, kind })) => Ok(Some((line, kind))),
+        Err(ReadRefusal::NoMemory) => Err(AllocError),
     }
 }
 
@@ -54,18 +54,20 @@ fn are_read(rt: &impl Abort, alloc: Global, table: &[Read]) -> Result<(), AllocE
 }
 
 /// Each text of a table is refused with its line and kind.
-fn are_refused(rt: &impl Abort, alloc: Global, table: &[Fault]) {
+fn are_refused(rt: &impl Abort, alloc: Global, table: &[Fault]) -> Result<(), AllocError> {
     for (text, line, kind) in table {
-        assert_eq!(rt; fault(alloc, text), Some((*line, *kind)), "{text}");
+        let found = fault(alloc, text)?;
+        assert_eq!(rt; found, Some((*line, *kind)), "{text}");
     }
+    Ok(())
 }
 
 /// Each long text of a table is read or refused as the table says.
 fn are_limited(rt: &impl Abort, alloc: Global, table: &[Long]) -> Result<(), AllocError> {
     for row in table {
         let text = long_text(alloc, row)?;
-        let found = text.as_str();
-        assert_eq!(rt; fault(alloc, found), row.6, "{found}");
+        let found = fault(alloc, text.as_str())?;
+        assert_eq!(rt; found, row.6, "{text}");
     }
     Ok(())
 }
@@ -101,48 +103,57 @@ fn names_in_force_are_counted(rt: HostRuntime) -> Result<(), Fail> {
 }
 
 #[test]
-fn program_faults_are_told(rt: HostRuntime) {
-    are_refused(&rt, rt.alloc(), &PROGRAM_FAULTS);
+fn program_faults_are_told(rt: HostRuntime) -> Result<(), Fail> {
+    are_refused(&rt, rt.alloc(), &PROGRAM_FAULTS)?;
+    Ok(())
 }
 
 #[test]
-fn action_faults_are_told(rt: HostRuntime) {
-    are_refused(&rt, rt.alloc(), &ACTION_FAULTS);
+fn action_faults_are_told(rt: HostRuntime) -> Result<(), Fail> {
+    are_refused(&rt, rt.alloc(), &ACTION_FAULTS)?;
+    Ok(())
 }
 
 #[test]
-fn statement_faults_are_told(rt: HostRuntime) {
-    are_refused(&rt, rt.alloc(), &STATEMENT_FAULTS);
+fn statement_faults_are_told(rt: HostRuntime) -> Result<(), Fail> {
+    are_refused(&rt, rt.alloc(), &STATEMENT_FAULTS)?;
+    Ok(())
 }
 
 #[test]
-fn block_faults_are_told(rt: HostRuntime) {
-    are_refused(&rt, rt.alloc(), &BLOCK_FAULTS);
+fn block_faults_are_told(rt: HostRuntime) -> Result<(), Fail> {
+    are_refused(&rt, rt.alloc(), &BLOCK_FAULTS)?;
+    Ok(())
 }
 
 #[test]
-fn guard_faults_are_told(rt: HostRuntime) {
-    are_refused(&rt, rt.alloc(), &GUARD_FAULTS);
+fn guard_faults_are_told(rt: HostRuntime) -> Result<(), Fail> {
+    are_refused(&rt, rt.alloc(), &GUARD_FAULTS)?;
+    Ok(())
 }
 
 #[test]
-fn sum_faults_are_told(rt: HostRuntime) {
-    are_refused(&rt, rt.alloc(), &SUM_FAULTS);
+fn sum_faults_are_told(rt: HostRuntime) -> Result<(), Fail> {
+    are_refused(&rt, rt.alloc(), &SUM_FAULTS)?;
+    Ok(())
 }
 
 #[test]
-fn term_faults_are_told(rt: HostRuntime) {
-    are_refused(&rt, rt.alloc(), &TERM_FAULTS);
+fn term_faults_are_told(rt: HostRuntime) -> Result<(), Fail> {
+    are_refused(&rt, rt.alloc(), &TERM_FAULTS)?;
+    Ok(())
 }
 
 #[test]
-fn port_faults_are_told(rt: HostRuntime) {
-    are_refused(&rt, rt.alloc(), &PORT_FAULTS);
+fn port_faults_are_told(rt: HostRuntime) -> Result<(), Fail> {
+    are_refused(&rt, rt.alloc(), &PORT_FAULTS)?;
+    Ok(())
 }
 
 #[test]
-fn name_faults_are_told(rt: HostRuntime) {
-    are_refused(&rt, rt.alloc(), &NAME_FAULTS);
+fn name_faults_are_told(rt: HostRuntime) -> Result<(), Fail> {
+    are_refused(&rt, rt.alloc(), &NAME_FAULTS)?;
+    Ok(())
 }
 
 #[test]

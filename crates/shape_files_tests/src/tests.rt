@@ -37,14 +37,14 @@ fn counts(found: &Sections) -> [i64; 6] {
 }
 
 /// What a document has, or its first fault.
-fn answer(alloc: Global, bytes: &[u8], form: Form) -> Expected {
+fn answer(alloc: Global, bytes: &[u8], form: Form) -> Result<Expected, AllocError> {
     if bytes.len() > 100_000_000 {
-        return Err((0, RefusalKind::TooLong));
+        return Ok(Err((0, RefusalKind::TooLong)));
     }
     match read_sections(alloc, bytes, form) {
-        Ok(found) => Ok(counts(&found)),
-        Err(ReadRefusal::Refused(Refusal { line, kind })) => Err((line, kind)),
-        Err(ReadRefusal::NoMemory) => Err((0, RefusalKind::NotYet)),
+        Ok(found) => Ok(Ok(counts(&found))),
+        Err(ReadRefusal::Refused(Refusal { line, kind })) => Ok(Err((line, kind))),
+        Err(ReadRefusal::NoMemory) => Err(AllocError),
     }
 }
 
@@ -60,7 +60,7 @@ fn joined(alloc: Global, pieces: &[&str]) -> Result<String, AllocError> {
 fn are_read(rt: &impl Abort, alloc: Global, table: &[Row]) -> Result<(), AllocError> {
     for (form, pieces, expected) in table {
         let text = joined(alloc, pieces)?;
-        let found = answer(alloc, text.as_bytes(), *form);
+        let found = answer(alloc, text.as_bytes(), *form)?;
         assert_eq!(rt; found, *expected, "{text}");
     }
     Ok(())
@@ -80,7 +80,7 @@ fn repeated(alloc: Global, pieces: &[(&str, u32)]) -> Result<String, AllocError>
 fn are_limited(rt: &impl Abort, alloc: Global, table: &[Long]) -> Result<(), AllocError> {
     for (form, pieces, expected) in table {
         let text = repeated(alloc, pieces)?;
-        let found = answer(alloc, text.as_bytes(), *form);
+        let found = answer(alloc, text.as_bytes(), *form)?;
         assert_eq!(rt; found, *expected, "{text}");
     }
     Ok(())
@@ -173,7 +173,7 @@ fn with_entries(alloc: Global, entries: u32, behind: &str) -> Result<String, All
 fn have_entries(rt: &impl Abort, alloc: Global, table: &[Journal]) -> Result<(), AllocError> {
     for (entries, behind, expected) in table {
         let text = with_entries(alloc, *entries, behind)?;
-        let found = answer(alloc, text.as_bytes(), Form::Replay);
+        let found = answer(alloc, text.as_bytes(), Form::Replay)?;
         assert_eq!(rt; found, *expected, "{behind}");
     }
     Ok(())
@@ -196,13 +196,13 @@ fn are_cut(rt: &impl Abort, alloc: Global, lines: &[(&str, &str)]) -> Result<(),
             } else {
                 RefusalKind::Truncated
             };
-            let found = answer(alloc, text.as_slice(), Form::Run);
+            let found = answer(alloc, text.as_slice(), Form::Run)?;
             assert_eq!(rt; found, Err((line, kind)), "{bytes}");
             text.push(byte)?;
         }
         line = line.saturating_add(1);
     }
-    assert!(rt; answer(alloc, text.as_slice(), Form::Run).is_ok());
+    assert!(rt; answer(alloc, text.as_slice(), Form::Run)?.is_ok());
     Ok(())
 }
 

@@ -24,7 +24,6 @@ number kind.WrongSection = 17
 number kind.BadEntry = 18
 number kind.BadPlace = 19
 number kind.TooLong = 20
-number kind.NotYet = 21
 
 unfoldable pub name : RefusalKind → List ℕ
 name kind.BadByte = codes "BadByte"
@@ -47,4 +46,3 @@ name kind.WrongSection = codes "WrongSection"
 name kind.BadEntry = codes "BadEntry"
 name kind.BadPlace = codes "BadPlace"
 name kind.TooLong = codes "TooLong"
-name kind.NotYet = codes "NotYet"

@@ -49,12 +49,10 @@ pub enum RefusalKind {
     BadPlace,
     /// More bytes than are read.
     TooLong,
-    /// A part of the format that is not read yet.
-    NotYet,
 }
 
 impl RefusalKind {
-    /// The number of the kind, from 1 to 21.
+    /// The number of the kind, from 1 to 20.
     #[tactic(auto, unfolding(crate::specs::Kinds::number))]
     pub fn number(self) -> u8
         ensures { result ≡ kinds.number self }
@@ -80,7 +78,6 @@ impl RefusalKind {
             RefusalKind::BadEntry => 18,
             RefusalKind::BadPlace => 19,
             RefusalKind::TooLong => 20,
-            RefusalKind::NotYet => 21,
         }
     }
 
@@ -110,7 +107,6 @@ impl RefusalKind {
             RefusalKind::BadEntry => "BadEntry",
             RefusalKind::BadPlace => "BadPlace",
             RefusalKind::TooLong => "TooLong",
-            RefusalKind::NotYet => "NotYet",
         }
     }
 }
