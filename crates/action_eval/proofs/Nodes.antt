@@ -1,5 +1,5 @@
 -- The trees of values that bind a name, by their parts.
-use Rattle.std.proofs.Common.{◌≡◌}
+use Rattle.std.proofs.Common.{◌≡◌, Bool, true, false, ◌&&◌}
 use Rattle.action_tree.specs.declared.word.Word.{Word}
 use Rattle.action_tree.specs.declared.expression.PortSet.{PortSet}
 use Rattle.action_tree.specs.declared.expression.Guard as code
@@ -24,3 +24,7 @@ term_at_count w s b = fold_out-Term tree.Guard tree.PortExpr tree.Term tree.Part
 pub port_at_first : (w : Word) (s : PortSet) (b : _) → port_of (ports.First w s b) ≡ tree.first (name_of w) s (guard_of b.value)
 unfolding ports.out-PortExpr denote.Hole.Carrier.out
 port_at_first w s b = fold_out-PortExpr tree.Guard tree.PortExpr tree.Term tree.Part tree.Sum guard_step port_step term_step part_step sum_step (ports.First w s b)
+
+pub second : (a b : Bool) → (a && b) ≡ true → b ≡ true
+second true b e = e
+second false b e = absurd cc

@@ -1,9 +1,8 @@
 -- Loops over the elements of an `and` or an `or`, and over the ports of a set.
-use Rattle.std.proofs.Common.{◌≡◌, ◌≤◌, ◌<◌, ◌+◌, ◌*◌, ◌∙◌, ℕ, suc, Bool, true, false, List, [], length, map, drop, get_or, refl, sym, ap, arith}
+use Rattle.std.proofs.Common.{◌≡◌, ◌≤◌, ◌<◌, ◌+◌, ◌*◌, ◌∙◌, ℕ, suc, Bool, true, false, ◌&&◌, List, [], ◌∷◌, length, map, drop, get_or, refl, sym, ap, arith, add-one, drop-cons}
 use Rattle.std.specs.Prelude.{Result, Ok, Err, ℤ, pos, ◌+ℤ◌, ◌≤ℤ◌, neg_ℤ}
 use Rattle.std.proofs.Math.ListN.{drop_of_length-le}
 use Rattle.std.proofs.lemmas.Int.{ints}
-use Rattle.std.proofs.lemmas.Bool.{and_parts}
 use Rattle.amoebot_state.specs.declared.bot.Port.{Port}
 use Rattle.amoebot_state.specs.declared.verdict.Failure.{Failure}
 use Rattle.amoebot_state.specs.declared.verdict.Failure.TheVariants.{NoChoice}
@@ -19,13 +18,20 @@ use Rattle.action_tree.specs.Writable.{is_guard, are_guards, is_term, are_terms}
 use Rattle.action_check.specs.Limits.{most_literal}
 use Rattle.action_check.specs.Rules.{GuardKept, GuardsKept, SumKept, TermKept}
 use Rattle.action_check.specs.Scopes.{Scope}
-use Rattle.action_check.proofs.Walking.{here, ahead}
 use Rattle.action_tree.proofs.Viewed.{part_opened}
 use Rattle.action_meaning.specs.Names.{Names, bind}
 use Rattle.action_meaning.specs.Choices.{Asked, any_of, all_of, first_of, count_of}
 use Rattle.action_meaning.specs.Values.{guard_value, each_value, some_value, sum_value, term_value, signed}
 use Rattle.action_eval.proofs.Asking.{any_goes_on, any_is_true, any_fails, all_goes_on, all_is_false, all_fails, first_goes_on, first_is_here, first_fails, and_so_many, count_goes_on, count_one_more, count_fails, so_many_more}
+use Rattle.action_eval.proofs.Bound.{here}
 use Rattle.action_eval.proofs.Sums.{and_so_much, sum_goes_on, sum_fails}
+
+pub both : (a b : Bool) → (a && b) ≡ true → (a ≡ true) × (b ≡ true)
+both true b e = (refl, e)
+both false b e = absurd cc
+
+ahead : {X : Type 0} (xs : List X) (i : ℕ) (d : X) → i < length xs → drop i xs ≡ get_or xs i d ∷ drop (i + 1) xs
+ahead xs i d l = rw add-one (drop-cons xs i d l)
 
 -- ---- guards
 
@@ -48,14 +54,14 @@ guard_kept value sc gs i g left l is =
 pub guard_counted : (value : Guards → Result Bool Failure) (sc : Scope) (gs : List code.Guard) (i : ℕ) (g : code.Guard) → GuardsLeft value sc gs i → i < length gs → g ≡ get_or gs i g → is_guard (guard_of g) ≡ true
 guard_counted value sc gs i g left l is =
     let counted = rw (here gs i g l is) at left.counted in
-    (and_parts _ _ counted).0
+    (both _ _ counted).0
 
 guards_next : (value : Guards → Result Bool Failure) (sc : Scope) (gs : List code.Guard) (i : ℕ) (g : code.Guard) → GuardsLeft value sc gs i → i < length gs → g ≡ get_or gs i g → value (guard_then (guard_of g) (guards_of (drop (i + 1) gs))) ≡ value (guards_of (drop (i + 1) gs)) → GuardsLeft value sc gs (i + 1)
 guards_next value sc gs i g left l is on =
     let kept = rw (here gs i g l is) at left.kept in
     let counted = rw (here gs i g l is) at left.counted in
     let told = rw (here gs i g l is) at left.told in
-    record { kept = kept.1; counted = (and_parts _ _ counted).1; told = told ∙ on }
+    record { kept = kept.1; counted = (both _ _ counted).1; told = told ∙ on }
 
 pub each_next : (s : Sight) (xs : Names) (sc : Scope) (gs : List code.Guard) (i : ℕ) (g : code.Guard) → EachLeft s xs sc gs i → i < length gs → g ≡ get_or gs i g → guard_value s xs (guard_of g) ≡ Ok true → EachLeft s xs sc gs (i + 1)
 each_next s xs sc gs i g left l is e = guards_next (each_value s xs) sc gs i g left l is (rw e refl)

@@ -4,7 +4,7 @@ use Rattle.text_tokens.specs.declared.refusal.Refusal.{Refusal}
 use Rattle.text_tokens.specs.Text.{Lexeme}
 use Rattle.text_tokens.specs.Cursor.{Cursor}
 use Rattle.text_tokens.specs.Reading.{Answer, Reader, and_then}
-use Rattle.text_tokens.proofs.Looping.{StillReads, prepend, one_before}
+use Rattle.text_tokens.proofs.Looping.{StillReads, prepend}
 use Rattle.text_tokens.proofs.Rows.{Left}
 use Rattle.action_tree.specs.Trees.{Guard, term_then, conjunction, disjunction, guards, terms, Stmt, stmt_then, stmts}
 use Rattle.action_tree.specs.Productions.{all_of, any_of, after}
@@ -13,6 +13,10 @@ use Rattle.action_grammar.specs.ExpressionReaders.{a_unit, a_conj, an_expr, a_su
 use Rattle.action_grammar.specs.StatementReaders.{a_stmt, all_stmts, stmts_inside}
 use Rattle.action_parser.specs.Readings.{made}
 use Rattle.action_parser.specs.Lists.{with_first, more_units, more_conjs, more_parts, all_units, all_conjs, all_parts, more_stmts, all_listed, all_in, any_in}
+
+one_before : {A : Type 0} (a : A) (r : Answer (List A)) → and_then r (λ rest us. Ok (a ∷ rest, us)) ≡ prepend (a ∷ []) r
+one_before a (Ok r) = refl
+one_before a (Err r) = refl
 
 -- what stands in a list behind two pushes
 pub two_pushed : {A : Type 0} {none one two : List A} (a b : A) → none ≡ [] → one ≡ none ++ a ∷ [] → two ≡ one ++ b ∷ [] → two ≡ a ∷ b ∷ []

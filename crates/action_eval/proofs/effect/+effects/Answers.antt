@@ -2,7 +2,6 @@ use Rattle.std.proofs.Common.{◌≡◌, ◌∙◌, ◌<◌, ℕ, ap, sym, subst
 use Rattle.std.proofs.lemmas.Result.{err_from_is_err_and}
 use Rattle.std.proofs.lemmas.List.{length-map}
 use Rattle.std.proofs.lemmas.Grind.{common_steps}
-use Rattle.std.proofs.lemmas.Bool.{and_parts}
 use Rattle.amoebot_state.specs.declared.bot.End.TheVariants.{Head}
 use Rattle.amoebot_state.specs.Ports.{port}
 use Rattle.std.specs.declared.result.Result.{Result}
@@ -23,6 +22,7 @@ use Rattle.action_meaning.specs.Names.{var_number}
 use Rattle.action_meaning.specs.Values.{sum_value}
 use Rattle.action_tree.proofs.Viewed.{stmt_put_of, stmt_let}
 use Rattle.action_eval.specs.Known.{known, scope_of, sight_of}
+use Rattle.action_eval.proofs.Walking.{both}
 use Rattle.action_eval.proofs.Running.{stmt_at_put, stmt_at_for, put_ran, put_failed, scope_of_bound, room_to_bind, stmt_kept, stmt_counted, stmts_next, stmts_fail, stmts_over, ports_next, ports_fail, ports_over}
 use Rattle.action_eval.proofs.effect.+effects.Goals as goal
 
@@ -64,19 +64,19 @@ pub run_stmt-port_value-requires-clause-counted : goal.run_stmt-port_value-requi
 run_stmt-port_value-requires-clause-counted t c =
     let e : stmt_of c.args.stmt.now ≡ put_of (port_of c.in-PutOf.port) (name_of c.in-PutOf.name) (sum_of c.in-PutOf.sum) = rw c.in-PutOf.is (stmt_put_of c.in-PutOf.port c.in-PutOf.name c.in-PutOf.sum) in
     let counted = rw e at c.requires.counted in
-    (and_parts _ _ (and_parts _ _ counted).0).0
+    (both _ _ (both _ _ counted).0).0
 
 pub run_stmt-put-requires-in-PutOf-clause-counted : goal.run_stmt-put-requires-in-PutOf-clause-counted
 run_stmt-put-requires-in-PutOf-clause-counted t c =
     let e : stmt_of c.args.stmt.now ≡ put_of (port_of c.in-PutOf.port) (name_of c.in-PutOf.name) (sum_of c.in-PutOf.sum) = rw c.in-PutOf.is (stmt_put_of c.in-PutOf.port c.in-PutOf.name c.in-PutOf.sum) in
     let counted = rw e at c.requires.counted in
-    (and_parts _ _ counted).1
+    (both _ _ counted).1
 
 pub run_stmt-port_value-requires-in-Let-clause-counted : goal.run_stmt-port_value-requires-in-Let-clause-counted
 run_stmt-port_value-requires-in-Let-clause-counted t c =
     let e : stmt_of c.args.stmt.now ≡ let_be (name_of c.in-Let.name) (port_of c.in-Let.port) = rw c.in-Let.is (stmt_let c.in-Let.name c.in-Let.port) in
     let counted = rw e at c.requires.counted in
-    (and_parts _ _ counted).1
+    (both _ _ counted).1
 
 pub run_stmt-bind-requires : goal.run_stmt-bind-requires
 run_stmt-bind-requires t c =
@@ -89,12 +89,12 @@ pub run_stmt-run_for-requires : goal.run_stmt-run_for-requires
 run_stmt-run_for-requires t c =
     let e : stmt_of c.args.stmt.now ≡ for_each (name_of c.in-For.name) c.in-For.set (guard_of c.in-For.guard) (stmts_of c.in-For.stmts.items) = rw c.in-For.is (stmt_at_for c.in-For.name c.in-For.set c.in-For.guard c.in-For.stmts) in
     let kept = rw e at c.requires.kept in
-    let counts = and_parts _ _ (rw e at c.requires.counted) in
-    let firsts = and_parts _ _ counts.0 in
+    let counts = both _ _ (rw e at c.requires.counted) in
+    let firsts = both _ _ counts.0 in
     let is = ap the_size c.in-For.is in
     let at = ap (most the_size) c.deref-in-For.ensures.value in
     let smaller = sized-For c.in-For.name c.in-For.set c.in-For.guard c.in-For.stmts in
-    (omega (arith, c.decreases, smaller, is, at), (kept.0, (kept.1, ((and_parts _ _ firsts.0).1, (rw c.deref-in-For.ensures.value kept.2, rw c.deref-in-For.ensures.value counts.1)))))
+    (omega (arith, c.decreases, smaller, is, at), (kept.0, (kept.1, ((both _ _ firsts.0).1, (rw c.deref-in-For.ensures.value kept.2, rw c.deref-in-For.ensures.value counts.1)))))
 
 pub run_stmt-returns-in_err-run_for-in-For : goal.run_stmt-returns-in_err-run_for-in-For
 run_stmt-returns-in_err-run_for-in-For t c =

@@ -6,7 +6,6 @@ use mir.Val.{to_z}
 use Rattle.std.proofs.lemmas.Int.{ints, to_z-of_z}
 use Rattle.std.proofs.lemmas.Result.{err_from_is_err_and}
 use Rattle.std.proofs.lemmas.Grind.{common_steps}
-use Rattle.std.proofs.lemmas.Bool.{and_parts}
 use Rattle.action_tree.specs.Trees.{Sum, quantified, any, all, first, count, of_port, turned}
 use Rattle.action_tree.specs.Views.{name_of, literal_of, sum_of, terms_of, guard_of, port_of, term_of}
 use Rattle.action_tree.specs.Writable.{is_sum}
@@ -19,7 +18,7 @@ use Rattle.action_meaning.specs.Choices.{any_of, all_of, first_of, count_of}
 use Rattle.action_eval.specs.Known.{known, scope_of, sight_of}
 use Rattle.action_eval.proofs.Adding.{TermsLeft, terms_fit, terms_start, term_kept, term_counted, terms_next, terms_fail, terms_over}
 use Rattle.action_eval.proofs.Asking.{and_so_many}
-use Rattle.action_eval.proofs.Walking.{inside, guard_kept, guard_counted, each_next, each_decided, each_fails, each_over, some_next, some_decided, some_fails, some_over, any_next, any_here, any_stops, any_over, all_next, all_here, all_stops, all_over, first_next, first_here, first_stops, first_over, count_next, count_here, count_stops, count_over}
+use Rattle.action_eval.proofs.Walking.{both, inside, guard_kept, guard_counted, each_next, each_decided, each_fails, each_over, some_next, some_decided, some_fails, some_over, any_next, any_here, any_stops, any_over, all_next, all_here, all_stops, all_over, first_next, first_here, first_stops, first_over, count_next, count_here, count_stops, count_over}
 use Rattle.action_eval.proofs.Nodes.{guard_at_any, guard_at_all, term_at_count, port_at_first}
 use Rattle.action_tree.proofs.expression.Guard.TheLaws.{the_size}
 use Rattle.action_tree.proofs.expression.PortExpr.TheLaws.{the_size as port_size}
@@ -193,7 +192,7 @@ guard_value-any_value-requires t c =
     let smaller = guard_in_any c.in-Any.name c.in-Any.set c.in-Any.guard in
     let is = ap the_size c.in-Any.is in
     let at = ap the_size c.deref-in-Any.ensures in
-    (omega (arith, c.decreases, smaller, is, at), (kept.0, (kept.1, (and_parts _ _ counted).1)))
+    (omega (arith, c.decreases, smaller, is, at), (kept.0, (kept.1, (both _ _ counted).1)))
 
 pub guard_value-returns-in-Any : goal.guard_value-returns-in-Any
 guard_value-returns-in-Any t c =
@@ -208,7 +207,7 @@ guard_value-all_value-requires t c =
     let smaller = guard_in_all c.in-All.name c.in-All.set c.in-All.guard in
     let is = ap the_size c.in-All.is in
     let at = ap the_size c.deref-in-All.ensures in
-    (omega (arith, c.decreases, smaller, is, at), (kept.0, (kept.1, (and_parts _ _ counted).1)))
+    (omega (arith, c.decreases, smaller, is, at), (kept.0, (kept.1, (both _ _ counted).1)))
 
 pub guard_value-returns-in-All : goal.guard_value-returns-in-All
 guard_value-returns-in-All t c =
@@ -223,7 +222,7 @@ port_value-first_value-requires t c =
     let smaller = guard_in_first c.in-First.name c.in-First.set c.in-First.guard in
     let is = ap port_size c.in-First.is in
     let at = ap the_size c.deref-in-First.ensures in
-    (omega (arith, c.decreases, smaller, is, at), (kept.0, (kept.1, (and_parts _ _ counted).1)))
+    (omega (arith, c.decreases, smaller, is, at), (kept.0, (kept.1, (both _ _ counted).1)))
 
 pub port_value-returns-in-First : goal.port_value-returns-in-First
 port_value-returns-in-First t c =
@@ -238,7 +237,7 @@ term_value-count_value-requires t c =
     let smaller = guard_in_count c.in-Count.name c.in-Count.set c.in-Count.guard in
     let is = ap term_size c.in-Count.is in
     let at = ap the_size c.deref.ensures in
-    (omega (arith, c.decreases, smaller, is, at), (kept.0, (kept.1, (and_parts _ _ counted).1)))
+    (omega (arith, c.decreases, smaller, is, at), (kept.0, (kept.1, (both _ _ counted).1)))
 
 pub port_value-port_value-requires : goal.port_value-port_value-requires
 port_value-port_value-requires t c =
@@ -248,7 +247,7 @@ port_value-port_value-requires t c =
     let smaller = port_in_turn c.in-Turn.port c.in-Turn.number in
     let is = ap port_size c.in-Turn.is in
     let at = ap port_size c.deref.ensures in
-    (omega (arith, c.decreases, smaller, is, at), (kept.0, (and_parts _ _ counted).0))
+    (omega (arith, c.decreases, smaller, is, at), (kept.0, (both _ _ counted).0))
 
 pub term_value-port_value-requires : goal.term_value-port_value-requires
 term_value-port_value-requires t c =
@@ -257,7 +256,7 @@ term_value-port_value-requires t c =
     let counted = rw e at c.requires.counted in
     let smaller = port_in_term c.in-Of.port c.in-Of.name in
     let is = ap term_size c.in-Of.is in
-    (omega (arith, c.decreases, smaller, is), (kept.0, (and_parts _ _ counted).0))
+    (omega (arith, c.decreases, smaller, is), (kept.0, (both _ _ counted).0))
 
 pub term_value-returns-in_err-value-in-Of-clause-value : goal.term_value-returns-in_err-value-in-Of-clause-value
 term_value-returns-in_err-value-in-Of-clause-value t c =
