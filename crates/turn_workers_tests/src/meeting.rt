@@ -78,6 +78,7 @@ fn a_caller_alone_is_never_busy(rt: HostRuntime) -> Result<(), Fail> {
     let bots = [standing(1, 1, 0), standing(2, 1, 0)];
     let worked = worked(&rt, rt.alloc(), &EXPANDER, &bots, 4, &[&[0, 1]], &NoGate)?;
     let marks = &worked.report.turns;
+    assert_eq!(rt; marks.callers(), 1);
     assert_eq!(rt; marks.count(0), 4);
     // The second stands before the first, which fails twice; the second expands and is idle.
     assert_eq!(rt; marks.mark(0, 1), Mark::Done { place: 0 });
