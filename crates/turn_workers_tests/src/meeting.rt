@@ -79,9 +79,18 @@ fn a_caller_alone_is_never_busy(rt: HostRuntime) -> Result<(), Fail> {
     let worked = worked(&rt, rt.alloc(), &EXPANDER, &bots, 4, &[&[0, 1]], &NoGate)?;
     let marks = &worked.report.turns;
     assert_eq!(rt; marks.callers(), 1);
-    assert_eq!(rt; marks.count(0), 4);
-    // The second stands before the first, which fails twice; the second expands and is idle.
-    assert_eq!(rt; marks.mark(0, 1), Mark::Done { place: 0 });
-    assert_eq!(rt; marks.mark(0, 3), Mark::Idle { place: 1 });
+    for caller in 0..marks.callers() {
+        assert_eq!(rt; marks.count(caller), 4);
+        for turn in 0..marks.count(caller) {
+            // The first stands behind the second, and fails twice; the second expands, and then it is idle.
+            let is_right = match marks.mark(caller, turn) {
+                Mark::Done { place } => turn == 1 && place == 0,
+                Mark::Idle { place } => turn == 3 && place == 1,
+                Mark::Failed { .. } => turn == 0 || turn == 2,
+                Mark::Busy { .. } => false,
+            };
+            assert!(rt; is_right);
+        }
+    }
     check_turns(&rt, &worked)
 }
