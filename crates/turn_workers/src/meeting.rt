@@ -6,6 +6,7 @@ use std::thread;
 
 /// A gate at which callers wait for one another for a while. It shows that workers run beside one another: one after another they would
 /// not meet. What it has counted is shared by the threads and said by no contract.
+#[derive(Drop)]
 pub struct MeetGate {
     callers: u8,
     limit: u64,
