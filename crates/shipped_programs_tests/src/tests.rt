@@ -1,4 +1,4 @@
-use crate::{shipped_program, shipped_text};
+use shipped_programs::{shipped_program, shipped_text};
 use action_parser::parse_program;
 use action_print::print_program;
 use action_tree::Program;
