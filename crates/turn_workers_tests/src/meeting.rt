@@ -1,10 +1,10 @@
 //! Workers that wait for one another in each turn.
 use crate::runs::{check_turns, work_over, worked};
 use activation::{Gate, NoGate};
-use amoebot_state::{Bot, CellName, Decider, End, Found, Port, Verdict, World};
-use arrayvec::ArrayVec;
+use amoebot_state::{CellName, Decider, End, Found, Port, Verdict, World};
 use claim_core::Mark;
 use claim_core_tests::{Expander, Marker, lists_of, standing};
+use std::alloc::Global;
 use std::sync::atomic::{AtomicBool, Ordering};
 use std::test::Fail;
 use std::thread;
@@ -44,6 +44,7 @@ fn two_workers_far_from_each_other_meet_in_each_turn(rt: HostRuntime) -> Result<
 }
 
 /// A caller's first turn waits, with its zone claimed, until the other caller has come to its last turn; and that one begins when it waits.
+#[derive(Drop)]
 struct Holding {
     held: AtomicBool,
     passed: AtomicBool,
@@ -123,6 +124,7 @@ fn a_turn_is_busy_while_another_worker_holds_its_amoebot(rt: HostRuntime) -> Res
 }
 
 /// Waits for the other callers in each decision, and is idle.
+#[derive(Drop)]
 struct Meeting {
     gate: MeetGate,
 }
@@ -157,15 +159,20 @@ fn workers_decide_beside_each_other(rt: HostRuntime) -> Result<(), Fail> {
     check_turns(&rt, &worked)
 }
 
+/// Sixteen contracted amoebots of which no two have a node of their zones in common.
+fn scattered(alloc: Global) -> Result<World, Fail> {
+    let mut bots = Vec::new(alloc);
+    for number in 0..16u8 {
+        bots.push(standing(3 * (number % 4) + 1, 3 * (number / 4) + 1, 0))?;
+    }
+    let area = Area::new(0, 0, 13, 13).ok_or("an area")?;
+    Ok(World::new(alloc, area, [1, 0, 0, 0, 0, 0, 0, 0], bots.as_slice())?)
+}
+
 #[test]
 fn sixteen_workers_meet_in_each_turn(rt: HostRuntime) -> Result<(), Fail> {
     let gate = MeetGate::new(16, 50_000_000);
-    let mut bots: ArrayVec<Bot, 16> = ArrayVec::new();
-    for caller in 0..16u8 {
-        bots.push(standing(3 * (caller % 4) + 1, 3 * (caller / 4) + 1, 0));
-    }
-    let area = Area::new(0, 0, 13, 13).ok_or("an area")?;
-    let world = World::new(rt.alloc(), area, [1, 0, 0, 0, 0, 0, 0, 0], bots.as_slice())?;
+    let world = scattered(rt.alloc())?;
     let lists = lists_of(
         rt.alloc(),
         2,
