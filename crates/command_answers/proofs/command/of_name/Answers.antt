@@ -1,0 +1,2 @@
+use Rattle.command_answers.proofs.Wording.{is_shown, none_shown}
+use Rattle.command_answers.proofs.command.of_name.Goals as goal
