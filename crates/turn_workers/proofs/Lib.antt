@@ -1,0 +1,4 @@
+pub mod Taking
+pub mod Gathering
+pub mod Making
+pub mod Ending
