@@ -8,6 +8,7 @@ use Rattle.outer_io.specs.Writings.{WritesAll, WritesFront}
 use Rattle.claim_core.specs.declared.report.Report.{Report}
 use Rattle.document_grammar.specs.Documents.{Contents, Holds}
 use Rattle.activation.specs.declared.turn.Turn.{Turn}
+use Rattle.shipped_programs.specs.declared.shipped.Shipped.{Shipped}
 use Rattle.command_answers.specs.declared.command.Command.{Command}
 use Rattle.command_answers.specs.declared.command.Command.TheVariants.{Document, Show}
 use Rattle.command_answers.specs.declared.command.DocumentCommand.{DocumentCommand}
@@ -95,6 +96,12 @@ IsAll document (above got) = ⊥
 IsAll document (up_to_fault got) = ⊤
 IsAll document (some got) = ⊤
 
+no_usage : (document : List ℕ) (t : Status) (other : Option Report) (its : List ℕ) → IsOwed None (whole document) t other its → ⊥
+no_usage document t other its x = elim x [ ]
+
+no_show : (p : Shipped) (document : List ℕ) (t : Status) (other : Option Report) (its : List ℕ) → IsOwed (Some (Show p)) (whole document) t other its → ⊥
+no_show p document t other its x = elim x [ ]
+
 is_answered : {command : Option Command} {read : Read} {s t : Status} {report other : Option Report} {text its : List ℕ} (Writes : List ℕ → Type 0) → Writes text → SameOwed command read s t report other text its → IsAnswered command read t other its Writes s report
 is_answered Writes writes same = record { status = same.status; told = λ decided. ((same.told decided).report, subst Writes (same.told decided).text writes) }
 
@@ -104,8 +111,8 @@ module _ (law : OwedIsOne) (document : List ℕ) (t : Status) (other : Option Re
   one_owed command (whole bytes) s report text same owes writes x = inl (is_answered Writes writes (law command (whole document) s t report other text its (subst (λ b. IsOwed command (whole b) s report text) same x) owes))
   one_owed command (above got) s report text same owes writes x = absurd same
   one_owed command (up_to_fault got) s report text same owes writes (read_fault c more) = inr tt
-  one_owed command nothing s report text same owes writes usage = elim owes [ ]
-  one_owed command nothing s report text same owes writes (shown p) = elim owes [ ]
+  one_owed command nothing s report text same owes writes usage = absurd (no_usage _ _ _ _ owes)
+  one_owed command nothing s report text same owes writes (shown p) = absurd (no_show _ _ _ _ _ owes)
   one_owed command (some got) s report text same owes writes x = elim x [ ]
 
   pub one : {Reads : Read → Type 0} {Cuts : List ℕ → Type 0} {Untouched : Type 0} → ((r : Read) → Reads r → IsAll document r) → (command : Option Command) (s : Status) (report : Option Report)

@@ -44,7 +44,7 @@ at_command one two {s = s} {report = report} {turns = turns} e has = subst (λ (
 
 -- what is answered has none
 pub answered : (c : DocumentCommand) (bytes : List ℕ) (answer : Answer) → IsTaskOf c bytes (task.Answered answer) → IsOutcomeOf c bytes (record { answer = answer; turns = None })
-answered c bytes answer is = record { owed = is.0; turns = no_turns (Some (Document c)) answer.status answer.report (λ done worked. is.1 (cc) done) }
+answered c bytes answer is = record { owed = is.0; turns = no_turns (Some (Document c)) answer.status answer.report (λ done worked. let e : Some (Document c) ≡ Some (Document Run) = worked in let same : c ≡ Run = cc in is.1 same done) }
 
 -- what workers left of a run that was prepared is owed, with its turns
 pub worked : (c : DocumentCommand) (bytes : List ℕ) (run : Prepared) (outcome : Outcome) → IsTaskOf c bytes (task.Run run) → IsRunOf run outcome → IsOutcomeOf c bytes outcome

@@ -223,7 +223,8 @@ fn outcome_of<R: Threads + Wait + Sync, G: Gate>(
     requires { length bytes.now + 1 < 2 ^ 32 }
     ensures { IfOk result (IsOutcomeOf command bytes.now) }
 {
-    match task_of(alloc, command, bytes)? {
+    let task = task_of(alloc, command, bytes)?;
+    match task {
         Task::Answered(answer) => Ok(Outcome {
             answer,
             turns: None,

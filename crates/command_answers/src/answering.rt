@@ -4,6 +4,7 @@ ghost use Rattle.std.specs.Prelude.{◌≡◌, ◌<◌, ◌≤◌, ◌+◌, ◌^
 ghost use Rattle.document_grammar.specs.Fitting.{Fits};
 ghost use Rattle.shape_files.specs.Views.{contents};
 ghost use Rattle.command_answers.specs.Answers.{IsAnswerTo, IsTaskOf, IsTaskTo, done_with, refused_with};
+ghost use Rattle.command_answers.specs.declared.command.Command.TheVariants.{Show};
 ghost use Rattle.command_answers.specs.Commands.{form_of};
 ghost use Rattle.command_answers.specs.OfMeasure.{last_of};
 ghost use Rattle.command_answers.specs.Owed.{IsOwed};
@@ -78,7 +79,7 @@ fn task_of_document(alloc: Global, command: DocumentCommand, parts: Parts) -> Re
 
 /// What is answered to `show`, which reads nothing.
 pub fn answer_show(alloc: Global, program: Shipped) -> Result<Answer, NoMemory>
-    ensures { IfOk result (λ a. IsOwed (Some (Command.Show program)) nothing a.status a.report a.text) }
+    ensures { IfOk result (λ a. IsOwed (Some (Show program)) nothing a.status a.report a.text) }
 {
     let shipped = program.program(alloc)?;
     let text = print_check(alloc, shipped.program())?;

@@ -3,6 +3,7 @@ use Rattle.command_answers.specs.declared.status.Status.TheVariants as status
 use Rattle.command_answers.specs.Lines.{usage_line}
 use Rattle.command_answers.specs.Owed.{usage}
 use Rattle.command_answers.specs.Reads.{IsReading, nothing}
+use Rattle.amoebot_run.specs.Endings.{ReadsNothing}
 use Rattle.amoebot_run.proofs.Endings.{ending_of, ending_maps, at_command}
 use Rattle.amoebot_run.proofs.Working.{line_turns}
 use Rattle.amoebot_run.proofs.Working as working
@@ -14,3 +15,20 @@ returns-in_default-clause-ending g c = at_command (λ limit. IsReading g.S.Sourc
 
 pub returns-in_default-clause-turns : goal.returns-in_default-clause-turns
 returns-in_default-clause-turns g c = line_turns _ status.Words usage_line _ (λ done. cc) c.end_with_line.ensures.written
+
+pub returns-in-Document-clause-ending : goal.returns-in-Document-clause-ending
+returns-in-Document-clause-ending g c = at_command (λ limit. IsReading g.S.Source.left g.S.Source.gives g.S.Source.fails g.S.Source.faults limit c.args.input.now c.end_document.new.input) _ _ (ap Some (sym c.in-Document.is) ∙ c.in-Some.ensures)
+    c.end_document.ensures.ending
+
+pub returns-in-Document-clause-turns : goal.returns-in-Document-clause-turns
+returns-in-Document-clause-turns g c = working.at_command _ _ (ap Some (sym c.in-Document.is) ∙ c.in-Some.ensures) c.end_document.ensures.turns
+
+pub returns-in-Document-clause-unread : goal.returns-in-Document-clause-unread
+returns-in-Document-clause-unread g c = λ none. absurd (subst ReadsNothing (sym (ap Some (sym c.in-Document.is) ∙ c.in-Some.ensures)) none)
+
+pub returns-clause-ending : goal.returns-clause-ending
+returns-clause-ending g c = at_command (λ limit. IsReading g.S.Source.left g.S.Source.gives g.S.Source.fails g.S.Source.faults limit c.args.input.now c.args.input.now) _ _ (ap Some (sym c.in-Show.is) ∙ c.in-Some.ensures)
+    (ending_maps (λ read e. subst (λ r. IsReading g.S.Source.left g.S.Source.gives g.S.Source.fails g.S.Source.faults 0 c.args.input.now c.args.input.now r) (sym e) refl) (λ text all. all) (λ text front. front) (λ same. same) _ _ _ c.end_show.ensures.ending)
+
+pub returns-clause-turns : goal.returns-clause-turns
+returns-clause-turns g c = working.at_command _ _ (ap Some (sym c.in-Show.is) ∙ c.in-Some.ensures) c.end_show.ensures.turns
