@@ -15,7 +15,7 @@ use Rattle.command_answers.specs.Laws.{CommandIsItsWords}
 same_word : (one two : List ℕ) → bytes_eq one two ≡ true → one ≡ two
 same_word one two = (bytes_eq-Decides one two).0
 
-AreAll : (Command → Type 0) → List Command → Type 0
+abbrev AreAll : (Command → Type 0) → List Command → Type 0
 AreAll P [] = ⊤
 AreAll P (c ∷ cs) = P c × AreAll P cs
 
@@ -30,11 +30,11 @@ named P (d ∷ cs) word c all e = by (bytes_eq (word_of d) word) refl (named P c
 
 none_named : (cs : List Command) (word : List ℕ) → AreAll (λ c. word_of c ≡ word → ⊥) cs → named_in cs word ≡ None
 none_named [] word all = refl
-none_named (c ∷ cs) word all = by (bytes_eq (word_of c) word) refl
+none_named (c ∷ cs) word all = by (bytes_eq (word_of c) word) refl (none_named cs word all.1)
   where
-    by : (b : Bool) → bytes_eq (word_of c) word ≡ b → named_in (c ∷ cs) word ≡ None
-    by true is = absurd (all.0 (same_word (word_of c) word is))
-    by false is = ap (λ (b : Bool). if b then Some c else named_in cs word) is ∙ none_named cs word all.1
+    by : (b : Bool) → bytes_eq (word_of c) word ≡ b → named_in cs word ≡ None → named_in (c ∷ cs) word ≡ None
+    by true is rest = absurd (all.0 (same_word (word_of c) word is))
+    by false is rest = ap (λ (b : Bool). if b then Some c else named_in cs word) is ∙ rest
 
 own_name : (s : Shipped) → named_in shows (name_of s) ≡ Some (Show s)
 own_name Hexagon = refl
@@ -45,7 +45,7 @@ pub is_shown : (name : List ℕ) (s : Shipped) → name ≡ name_of s → named_
 is_shown name s is = ap (named_in shows) is ∙ own_name s
 
 pub none_shown : (name : List ℕ) → ((s : Shipped) → name ≡ name_of s → ⊥) → named_in shows name ≡ None
-none_shown name none = none_named shows name ((λ e. none Hexagon (sym e)), (λ e. none Erosion (sym e)), (λ e. none Line (sym e)), tt)
+none_shown name none = none_named shows name ((λ e. none Hexagon (sym e)), ((λ e. none Erosion (sym e)), ((λ e. none Line (sym e)), tt)))
 
 -- each command has its words
 own : (c : Command) → command_of (words_of c) ≡ Some c
@@ -60,13 +60,13 @@ own (Show Line) = refl
 
 are_its_words : (words : List (List ℕ)) (c : Command) → command_of words ≡ Some c → words ≡ words_of c
 are_its_words [] c e = absurd (cc)
-are_its_words (word ∷ []) c e = let by = named (λ d. words_of d ≡ word_of d ∷ []) of_documents word c (refl, refl, refl, refl, refl, tt) e in ap (λ (w : List ℕ). w ∷ []) (sym by.1) ∙ sym by.0
+are_its_words (word ∷ []) c e = let by = named (λ d. words_of d ≡ word_of d ∷ []) of_documents word c (refl, (refl, (refl, (refl, (refl, tt))))) e in ap (λ (w : List ℕ). w ∷ []) (sym by.1) ∙ sym by.0
 are_its_words (word ∷ other ∷ []) c e = by (bytes_eq (codes "show") word) refl
   where
     by : (b : Bool) → bytes_eq (codes "show") word ≡ b → word ∷ other ∷ [] ≡ words_of c
     by true is =
         let shown : named_in shows other ≡ Some c = sym (ap (λ (b : Bool). if b then named_in shows other else None) is) ∙ e in
-        let it = named (λ d. words_of d ≡ codes "show" ∷ word_of d ∷ []) shows other c (refl, refl, refl, tt) shown in
+        let it = named (λ d. words_of d ≡ codes "show" ∷ word_of d ∷ []) shows other c (refl, (refl, (refl, tt))) shown in
         (λ i. sym (same_word (codes "show") word is) i ∷ sym it.1 i ∷ []) ∙ sym it.0
     by false is = let none : None ≡ Some c = sym (ap (λ (b : Bool). if b then named_in shows other else None) is) ∙ e in absurd (cc)
 are_its_words (word ∷ other ∷ third ∷ words) c e = absurd (cc)

@@ -58,7 +58,10 @@ pub fn task_of(alloc: Global, command: DocumentCommand, bytes: &[u8]) -> Result<
     documents_fit();
     match read_sections(alloc, bytes, command.form()) {
         Ok(sections) => task_of_document(alloc, command, sections.into_parts()),
-        Err(ReadRefusal::Refused(refusal)) => Ok(Task::Answered(refuse(alloc, refusal)?)),
+        Err(ReadRefusal::Refused(refusal)) => {
+            let answer = refuse(alloc, refusal)?;
+            Ok(Task::Answered(answer))
+        }
         Err(ReadRefusal::NoMemory) => Err(NoMemory),
     }
 }

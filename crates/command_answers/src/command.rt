@@ -92,5 +92,8 @@ fn of_two_words(word: &str, other: &str) -> Option<Command>
 fn of_name(name: &str) -> Option<Command>
     ensures { result ≡ named_in shows name.now }
 {
-    Some(Command::Show(Shipped::named(name)?))
+    match Shipped::named(name) {
+        Some(program) => Some(Command::Show(program)),
+        None => None,
+    }
 }
