@@ -21,8 +21,6 @@ mod step_laws;
 mod steps;
 mod stopped;
 mod taken;
-#[cfg(test)]
-mod tests;
 mod views;
 
 pub use claimed::{Claimed, Seen, look, seal, unseal};

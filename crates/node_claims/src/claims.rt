@@ -41,6 +41,7 @@ pub fn place<D: Decider>(claimed: &mut Claimed<D>, field: &Field<'_, D>) -> Seen
     requires field { IsOf field.now claimed.old }
     requires looks { IsToLook claimed.old }
     ensures marked { claimed.new ≡ goes claimed.old (marked_at (about D.verdict claimed.old.view) (doing claimed.old) result.place) }
+    ensures frees { IsMarked claimed.new }
     ensures told { result ≡ seen_of (number_in claimed.old) (doing claimed.old).turn result.place }
     ensures few { result.place ≤ 65536 }
 {

@@ -1,0 +1,60 @@
+ghost use Rattle.std.specs.Prelude.{◌≡◌, ◌≤◌, OnOk};
+
+use crate::fixtures::{Idler, field_of, lists_of, standing, world_of};
+use claim_rule::Seats;
+use std::process::Abort;
+use std::test::Fail;
+
+/// Takes the seats that are left, of which there are so many of sixteen, and gives them back, the last one first.
+fn take_and_give(rt: &impl Abort, seats: &mut Seats<Idler>, left: u8) -> Result<(), Fail>
+    requires { left ≤ 16 }
+    ensures { OnOk result (seats.new ≡ seats.old) }
+{
+    match seats.take() {
+        None => {
+            assert_eq!(rt; left, 0);
+            Ok(())
+        }
+        Some(seat) => {
+            if left == 0 {
+                Err("one seat more")?;
+            }
+            assert_eq!(rt; (seat.caller(), seat.next_turn()), (16 - left, 0));
+            take_and_give(rt, seats, left - 1)?;
+            seats.give(seat);
+            Ok(())
+        }
+    }
+}
+
+#[test]
+fn sixteen_seats_come_back_in_another_order(rt: HostRuntime) -> Result<(), Fail> {
+    let alloc = rt.alloc();
+    let world = world_of(alloc, 8, 8, &[standing(2, 3), standing(3, 3)])?;
+    let ids: &[&[u16]] = &[
+        &[0],
+        &[1],
+        &[0],
+        &[1],
+        &[0],
+        &[1],
+        &[0],
+        &[1],
+        &[0],
+        &[1],
+        &[0],
+        &[1],
+        &[0],
+        &[1],
+        &[0],
+        &[1],
+    ];
+    let lists = lists_of(alloc, 3, &world, ids)?;
+    let (field, mut seats) = field_of(alloc, &Idler, world, &lists)?;
+    take_and_give(&rt, &mut seats, 16)?;
+    take_and_give(&rt, &mut seats, 16)?;
+    let (world, journal) = field.close(seats);
+    assert_eq!(rt; world.bots(), 2);
+    assert_eq!(rt; journal.entries().len(), 0);
+    Ok(())
+}
