@@ -91,6 +91,19 @@ RUNS = {
 }
 
 
+def guarded_row():
+    """A row of 100 amoebots with the guard on, of which the first is the seed of a hexagon, in four lists of 4,000 turns each."""
+    text = document(
+        128,
+        program_of("hexagon"),
+        [(x, 10) for x in range(14, 114)],
+        lambda number: "0 6 6" if number else "1 6 0",
+        [range(caller, 100, 4) for caller in range(4)],
+        4_000,
+    )
+    return text.replace("area 0 0 128 128\n", "area 0 0 128 21\n")
+
+
 def interleaved(side, callers, steps):
     """Callers whose lists hold all ids, each from a place of its own on, and so many steps of callers that are drawn."""
     nodes = middle(side)
@@ -103,14 +116,6 @@ def interleaved(side, callers, steps):
         schedule.append(f"{drawn.randrange(callers)} times {times}")
         left -= times
     return document(side, MARK, nodes, "0", lists, TURNS_OF_EACH * count // callers, schedule)
-
-
-def in_lists(text, callers):
-    """The document of one list of all ids, with so many lists in its place, which go through as many turns together: an id is in the list of its remainder."""
-    front, back = text[:text.index("lists\n")], text[text.index("lists\n"):].splitlines()
-    turns, ids = int(back[1].split()[1]), back[2].split()[1:]
-    lists = ["list " + " ".join(ids[caller::callers]) for caller in range(callers)]
-    return front + "\n".join(["lists", f"turns {turns // callers}", *lists, "end"]) + "\n"
 
 
 def filled(size=1_048_576):
