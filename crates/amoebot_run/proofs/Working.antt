@@ -1,9 +1,10 @@
 -- What workers left is owed, and which calls hand their turns on.
-use Rattle.std.proofs.Common.{◌≡◌, ℕ, List, Option, Some, None, refl, ap, sym, subst}
+use Rattle.std.proofs.Common.{◌≡◌, ℕ, List, length, Option, Some, None, refl, ap, sym, subst}
 use Rattle.std.specs.Prelude.{IsSome, IfSome}
 use Rattle.std.proofs.lemmas.Bool.{false≢true}
 use Rattle.claim_core.specs.declared.report.Report.{Report}
 use Rattle.activation.specs.declared.turn.Turn.{Turn}
+use Rattle.command_runs.specs.Reports.{report_text}
 use Rattle.command_answers.specs.declared.answering.Answer.{Answer}
 use Rattle.command_answers.specs.declared.answering.Prepared.{Prepared}
 use Rattle.command_answers.specs.declared.answering.Task.TheVariants as task
@@ -50,7 +51,7 @@ answered c bytes answer is = record { owed = is.0; turns = no_turns (Some (Docum
 pub worked : (c : DocumentCommand) (bytes : List ℕ) (run : Prepared) (outcome : Outcome) → IsTaskOf c bytes (task.Run run) → IsRunOf run outcome → IsOutcomeOf c bytes outcome
 worked c bytes run outcome is ran = record {
   owed = subst (λ (answer : Answer). IsOwed (Some (Document c)) (whole bytes) answer.status answer.report answer.text) (sym ran.told)
-      (subst (λ (d : DocumentCommand). IsOwed (Some (Document d)) (whole bytes) status.Done (Some ran.report) _) (sym is.0) (is.2.1.owed ran.report ran.good ran.reached));
+      (subst (λ (d : DocumentCommand). IsOwed (Some (Document d)) (whole bytes) status.Done (Some ran.report) (report_text (length run.runner.vars) ran.report)) (sym is.0) (is.3.owed ran.report ran.good ran.reached));
   turns = record {
     exactly = ((λ some. (ap (λ (answer : Answer). answer.status) ran.told, ap (λ (d : DocumentCommand). Some (Document d)) is.0)), λ both. subst (λ (turns : Option (List (List Turn))). IsSome turns) (sym ran.there) refl);
     marked = subst (λ (turns : Option (List (List Turn))). IfSome turns (AreOfReport outcome.answer.report)) (sym ran.there) (ran.report, ap (λ (answer : Answer). answer.report) ran.told, ran.marked);

@@ -67,9 +67,9 @@ IsFailure status.NoMemory = ⊤
 IsFailure (status.Differs place) = ⊥
 
 -- the call answers what is owed: its status; and, where the input decides what is told, its report and its text
-pub record IsAnswered (command : Option Command) (read : Read) (s : Status) (report : Option Report) (text : List ℕ) (Writes : List ℕ → Type 0) (ended : Status) (told : Option Report) : Type 0 where
+pub record IsAnswered (command : Option Command) (read : Read) (s : Status) (report : Option Report) (text : List ℕ) (Writes : List ℕ → Type 0) (ended : Status) (left : Option Report) : Type 0 where
   pub status : ended ≡ s
-  pub told : HasOneOutcome command read → SameIfAny told report × Writes text
+  pub told : HasOneOutcome command read → SameIfAny left report × Writes text
 
 -- what a report comes with: the command, the document that was read to its end, of whose run it is, and its text, which was written and nothing else
 pub record IsTold (command : Option Command) (Reads : Read → Type 0) (Writes : List ℕ → Type 0) (report : Report) : Type 0 where

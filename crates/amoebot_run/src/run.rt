@@ -240,7 +240,7 @@ fn run_prepared<R: Threads + Wait + Sync, G: Gate>(
     prepared: Prepared,
     gate: &G,
 ) -> Result<Outcome, NoMemory>
-    requires { All (All (λ id. IsSome (bot_at prepared.world id))) prepared.lists.ids }
+    requires there { All (All (λ id. IsSome (bot_at prepared.world id))) prepared.lists.ids }
     ensures { IfOk result (IsRunOf prepared) }
 {
     let Prepared {

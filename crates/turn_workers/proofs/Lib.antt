@@ -2,4 +2,3 @@ pub mod Taking
 pub mod Gathering
 pub mod Making
 pub mod Ending
-pub mod Fixed

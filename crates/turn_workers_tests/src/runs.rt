@@ -35,8 +35,7 @@ pub fn worked<R: Threads + Wait + Sync, D: Decider, G: Gate>(
     work_over(rt, alloc, decider, world, &lists, gate)
 }
 
-/// What the workers leave of a world.
-pub fn work_over<R: Threads + Wait + Sync, D: Decider, G: Gate>(
+fn work_over<R: Threads + Wait + Sync, D: Decider, G: Gate>(
     rt: &R,
     alloc: Global,
     decider: &D,

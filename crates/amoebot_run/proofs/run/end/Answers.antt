@@ -26,9 +26,9 @@ returns-in-Document-clause-turns g c = working.at_command _ _ (ap Some (sym c.in
 pub returns-in-Document-clause-unread : goal.returns-in-Document-clause-unread
 returns-in-Document-clause-unread g c = λ none. absurd (subst ReadsNothing (sym (ap Some (sym c.in-Document.is) ∙ c.in-Some.ensures)) none)
 
-pub returns-clause-ending : goal.returns-clause-ending
-returns-clause-ending g c = at_command (λ limit. IsReading g.S.Source.left g.S.Source.gives g.S.Source.fails g.S.Source.faults limit c.args.input.now c.args.input.now) _ _ (ap Some (sym c.in-Show.is) ∙ c.in-Some.ensures)
+pub returns-in-Show-clause-ending : goal.returns-in-Show-clause-ending
+returns-in-Show-clause-ending g c = at_command (λ limit. IsReading g.S.Source.left g.S.Source.gives g.S.Source.fails g.S.Source.faults limit c.args.input.now c.args.input.now) _ _ (ap Some (sym c.in-Show.is) ∙ c.in-Some.ensures)
     (ending_maps (λ read e. subst (λ r. IsReading g.S.Source.left g.S.Source.gives g.S.Source.fails g.S.Source.faults 0 c.args.input.now c.args.input.now r) (sym e) refl) (λ text all. all) (λ text front. front) (λ same. same) _ _ _ c.end_show.ensures.ending)
 
-pub returns-clause-turns : goal.returns-clause-turns
-returns-clause-turns g c = working.at_command _ _ (ap Some (sym c.in-Show.is) ∙ c.in-Some.ensures) c.end_show.ensures.turns
+pub returns-in-Show-clause-turns : goal.returns-in-Show-clause-turns
+returns-in-Show-clause-turns g c = working.at_command _ _ (ap Some (sym c.in-Show.is) ∙ c.in-Some.ensures) c.end_show.ensures.turns
