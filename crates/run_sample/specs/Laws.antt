@@ -14,6 +14,6 @@ FirstEmptyIsUnique = (bots : List Bot) (from : Node) (d : ℕ) (u v : Node) → 
 abbrev pub SampleIsUnique : Type 0
 SampleIsUnique = (seed : ℕ) (one two : Sample) → IsSample seed one → IsSample seed two → (one.checked ≡ two.checked) × (one.world ≡ two.world) × (one.lists ≡ two.lists)
 
--- the first two amoebots of seed 1 are turned by 0 and by 2
+-- the first two amoebots of seed one are turned by 0 and by 2
 abbrev pub FirstOfSeedOne : Type 0
 FirstOfSeedOne = Placed 1 (bot_on 0 (square_node 0) 0 ∷ bot_on 1 (square_node 1) 2 ∷ []) (drawn (drawn (seeded 1)))

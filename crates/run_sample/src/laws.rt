@@ -10,7 +10,7 @@ pub fn sample_is_unique()
     ensures { SampleIsUnique }
 {}
 
-/// The first two amoebots of seed 1.
+/// The first two amoebots of seed one.
 pub fn first_of_seed_one()
     ensures { FirstOfSeedOne }
 {}
