@@ -91,6 +91,19 @@ RUNS = {
 }
 
 
+def guarded_row():
+    """A row of 100 amoebots with the guard on, of which the first is the seed of a hexagon, in four lists of 4,000 turns each."""
+    text = document(
+        128,
+        program_of("hexagon"),
+        [(x, 10) for x in range(14, 114)],
+        lambda number: "0 6 6" if number else "1 6 0",
+        [range(caller, 100, 4) for caller in range(4)],
+        4_000,
+    )
+    return text.replace("area 0 0 128 128\n", "area 0 0 128 21\n")
+
+
 def interleaved(side, callers, steps):
     """Callers whose lists hold all ids, each from a place of its own on, and so many steps of callers that are drawn."""
     nodes = middle(side)

@@ -9,7 +9,7 @@ use Rattle.command_answers.specs.declared.command.Command.{Command}
 use Rattle.command_answers.specs.declared.status.Status.{Status}
 use Rattle.command_answers.specs.declared.status.Status.TheVariants as status
 use Rattle.command_answers.specs.Reads.{Read, IsReading, nothing, whole, above, up_to_fault, some}
-use Rattle.amoebot_run.specs.Endings.{IsFailure, IsReadingOf, IsTold, HasText}
+use Rattle.amoebot_run.specs.Endings.{IsAnswered, IsFailure, IsReadingOf, IsTold, HasText}
 use Rattle.amoebot_run.proofs.Fronts.{whole_is, no_longer}
 
 -- a count that stays 0 did not rise
@@ -39,6 +39,10 @@ memory_alone status.Done read write fails = elim fails [ ]
 memory_alone status.Words read write fails = elim fails [ ]
 memory_alone (status.Refused _) read write fails = elim fails [ ]
 memory_alone (status.Differs _) read write fails = elim fails [ ]
+
+pub answered_maps : {command : Option Command} {read : Read} {s ended : Status} {report told : Option Report} {text : List ℕ} {Writes Writes' : List ℕ → Type 0} → ((t : List ℕ) → Writes t → Writes' t)
+    → IsAnswered command read s report text Writes ended told → IsAnswered command read s report text Writes' ended told
+answered_maps {text = text} f x = record { status = x.status; told = λ decided. ((x.told decided).0, f text (x.told decided).1) }
 
 pub told_maps : (command : Option Command) {Reads Reads' : Read → Type 0} {Writes Writes' : List ℕ → Type 0} → ((r : Read) → Reads r → Reads' r) → ((t : List ℕ) → Writes t → Writes' t) → (report : Option Report)
     → IfSome report (IsTold command Reads Writes) → IfSome report (IsTold command Reads' Writes')

@@ -7,20 +7,31 @@ use Rattle.outer_io.specs.Kept.{KeptBytes, kept_after, written_of}
 use Rattle.outer_io.specs.Writings.{WritesAll, WritesFront}
 use Rattle.claim_core.specs.declared.report.Report.{Report}
 use Rattle.document_grammar.specs.Documents.{Contents}
+use Rattle.activation.specs.declared.turn.Turn.{Turn}
 use Rattle.command_answers.specs.declared.command.Command.{Command}
+use Rattle.command_answers.specs.declared.command.Command.TheVariants.{Document, Show}
+use Rattle.command_answers.specs.declared.command.DocumentCommand.{DocumentCommand}
 use Rattle.command_answers.specs.declared.status.Status.{Status}
 use Rattle.command_answers.specs.declared.status.Status.TheVariants as status
 use Rattle.command_answers.specs.Commands.{form_of, limit_of}
 use Rattle.command_answers.specs.Headline.{IsRunOfDocument}
+use Rattle.command_answers.specs.Laws.{HasOneOutcome, SameIfAny}
 use Rattle.command_answers.specs.Outcomes.{IsOutcome}
 use Rattle.command_answers.specs.Reads.{Read, nothing, whole, above, up_to_fault, some}
 use Rattle.command_answers.specs.Owed.{IsOwed}
 use Rattle.amoebot_run.specs.declared.run.Ended.{Ended}
 
--- the most bytes that are read for a command, and none where the words are no command
+-- the most bytes that are read for a command: none where the words are no command, and where it reads no document
 abbrev pub limit_for : Option Command → ℕ
 limit_for None = 0
-limit_for (Some c) = limit_of (form_of c)
+limit_for (Some (Document c)) = limit_of (form_of c)
+limit_for (Some (Show program)) = 0
+
+-- nothing is read for it
+abbrev pub ReadsNothing : Option Command → Type 0
+ReadsNothing None = ⊤
+ReadsNothing (Some (Document c)) = ⊥
+ReadsNothing (Some (Show program)) = ⊤
 
 -- no read failed, and no byte above the limit was got
 abbrev pub IsWithin : Read → Type 0
@@ -40,10 +51,10 @@ pub data IsEnding (command : Option Command) (Reads : Read → Type 0) (Writes C
   -- memory was wanting, before the first write
   wanting : (read : Read) → Reads read → IsWithin read → Untouched → IsEnding command Reads Writes Cuts Untouched status.NoMemory None
 
--- A text was written whole, and the call ends with this status and this report; or a write of it failed.
-pub data IsWritten {K : Type 0} (written : K → Option (List ℕ)) (takes : K → List ℕ → K → Type 0) (fails : K → K → Type 0) (faults : K → ℕ) (old new : K) (s : Status) (report : Option Report) (text : List ℕ) : Ended → Type 0 where
-  all : WritesAll written takes old new text → IsWritten written takes fails faults old new s report text (record { status = s; report = report })
-  front : Rose (faults old) (faults new) → WritesFront written takes fails old new text → IsWritten written takes fails faults old new s report text (record { status = status.WriteFault; report = None })
+-- A text was written whole, and the call ends with this status, this report and these turns; or a write of it failed.
+pub data IsWritten {K : Type 0} (written : K → Option (List ℕ)) (takes : K → List ℕ → K → Type 0) (fails : K → K → Type 0) (faults : K → ℕ) (old new : K) (s : Status) (report : Option Report) (turns : Option (List (List Turn))) (text : List ℕ) : Ended → Type 0 where
+  all : WritesAll written takes old new text → IsWritten written takes fails faults old new s report turns text (record { status = s; report = report; turns = turns })
+  front : Rose (faults old) (faults new) → WritesFront written takes fails old new text → IsWritten written takes fails faults old new s report turns text (record { status = status.WriteFault; report = None; turns = None })
 
 -- the three that no document owes
 abbrev pub IsFailure : Status → Type 0
@@ -55,18 +66,23 @@ IsFailure status.WriteFault = ⊤
 IsFailure status.NoMemory = ⊤
 IsFailure (status.Differs place) = ⊥
 
+-- the call answers what is owed: its status; and, where the input decides what is told, its report and its text
+pub record IsAnswered (command : Option Command) (read : Read) (s : Status) (report : Option Report) (text : List ℕ) (Writes : List ℕ → Type 0) (ended : Status) (left : Option Report) : Type 0 where
+  pub status : ended ≡ s
+  pub told : HasOneOutcome command read → SameIfAny left report × Writes text
+
 -- what a report comes with: the command, the document that was read to its end, of whose run it is, and its text, which was written and nothing else
 pub record IsTold (command : Option Command) (Reads : Read → Type 0) (Writes : List ℕ → Type 0) (report : Report) : Type 0 where
-  pub c : Command
+  pub c : DocumentCommand
   pub document : List ℕ
   pub text : List ℕ
-  pub its_command : command ≡ Some c
+  pub its_command : command ≡ Some (Document c)
   pub reads : Reads (whole document)
   pub run : IsRunOfDocument (form_of c) document report text
   pub writes : Writes text
 
 -- a document is served: what is written is an outcome of it
-abbrev pub IsServed : Contents → Command → (List ℕ → Type 0) → Status → Option Report → Type 0
+abbrev pub IsServed : Contents → DocumentCommand → (List ℕ → Type 0) → Status → Option Report → Type 0
 IsServed a c Writes s report = (text : List ℕ) × IsOutcome a c s report text × Writes text
 
 -- what the input of these bytes may have come to in a call that reads at most so many

@@ -1,14 +1,13 @@
-//! The program: it reads a document from standard input, runs it, and writes what happened to standard output.
+//! The program: it does what its words ask for, reads a document from standard input, and writes the answer to standard output.
 #![tactic(auto)]
 
-mod gate;
 mod run;
 #[cfg(test)]
 mod samples;
 #[cfg(test)]
 mod tests;
 
-use gate::NoGate;
+use activation::NoGate;
 use outer_io::{StdSink, StdSource};
 use run::run;
 use std::process::ExitCode;

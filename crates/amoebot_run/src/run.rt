@@ -1,39 +1,52 @@
-ghost use Rattle.std.specs.Prelude.{◌≡◌, ◌≢◌, ◌≤◌, ◌↔◌, ◌⊎◌, ℕ, List, map, length, IsSome, IfSome, Option, Some, None};
+ghost use Rattle.std.specs.Prelude.{◌≡◌, ◌≢◌, ◌<◌, ◌≤◌, ◌+◌, ◌^◌, ◌↔◌, ◌⊎◌, ℕ, List, map, length, IsSome, IfSome, IfOk, Option, Some, None};
+ghost use Rattle.std.specs.List.{All};
 ghost use Rattle.std.specs.String.{string_bytes};
 ghost use Rattle.outer_io.specs.Told.{Rose};
 ghost use Rattle.outer_io.specs.Writings.{WritesAll, WritesFront};
+ghost use Rattle.amoebot_state.specs.Configs.{bot_at};
 ghost use Rattle.claim_core.specs.declared.report.Report.{Report as ReportValue};
 ghost use Rattle.document_grammar.specs.Documents.{Contents, Holds};
 ghost use Rattle.command_answers.specs.declared.command.Command.{Command as CommandValue};
+ghost use Rattle.command_answers.specs.declared.command.DocumentCommand.{DocumentCommand as DocumentCommandValue};
 ghost use Rattle.command_answers.specs.declared.status.Status.{Status as StatusValue};
 ghost use Rattle.command_answers.specs.Commands.{command_of, form_of};
-ghost use Rattle.command_answers.specs.Laws.{SameIfAny};
-ghost use Rattle.command_answers.specs.Reads.{IsReading, whole};
+ghost use Rattle.command_answers.specs.Reads.{IsReading, nothing, whole};
 ghost use Rattle.command_answers.specs.Owed.{IsOwed};
 ghost use Rattle.command_answers.specs.Headline.{MakesTurns};
-ghost use Rattle.amoebot_run.specs.Endings.{HasText, IsEnding, IsFailure, IsReadingOf, IsServed, IsTold, IsWritten, limit_for};
+ghost use Rattle.amoebot_run.specs.Endings.{HasText, IsAnswered, IsEnding, IsFailure, IsReadingOf, IsServed, IsTold, IsWritten, ReadsNothing, limit_for};
+ghost use Rattle.amoebot_run.specs.Working.{HasTurns, IsOutcomeOf, IsRunOf};
 
-use crate::gate::{Gate, NoGate};
+use activation::{Gate, NoGate};
 use amoebot_state::NoMemory;
 use claim_core::Report;
 use command_answers::{
-    Answer, Status, answer_input, command_of, documents_have_outcomes, owed_is_one,
-    reports_are_of_documents,
+    Answer, Command, DocumentCommand, Prepared, Status, Task, answer_report, answer_show,
+    command_of, documents_have_outcomes, owed_is_one, reports_are_of_documents, task_of,
 };
 use outer_io::{
     ReadError, Sink, Source, SureSink, SureSource, WriteFault, pieces_are_kept_as_one,
     read_document, write_all,
 };
+use shipped_programs::Shipped;
 use std::alloc::Global;
 use std::sync::Wait;
 use std::thread::Threads;
 use text_tokens::{Refusal, RefusalKind};
+use turn_workers::{Turns, work};
 
 /// How a command ended, and what a run left.
 #[derive(Drop)]
 pub struct Ended {
     pub status: Status,
     pub report: Option<Report>,
+    pub turns: Option<Turns>,
+}
+
+/// What is to be written, and what became of the turns of the workers, if they made it.
+#[derive(Drop)]
+pub struct Outcome {
+    pub answer: Answer,
+    pub turns: Option<Turns>,
 }
 
 /// What is written where the words are no command.
@@ -52,18 +65,18 @@ const TOO_LONG: Refusal = Refusal {
 /// What is written where a document is too long.
 const TOO_LONG_LINE: &str = "refused 0 TooLong\n";
 
-/// Does what the words ask for: each command reads a document of its form, and writes its text.
+/// Does what the words ask for: it reads a document of the command's form, if the command reads one, and writes its text.
 ///
 /// The words are judged first. Then the input is read to its end, then the document is judged and the command does its work, and the
 /// whole text is made before the first byte is written. No memory is taken for the lines of the words, of a failed read and of an
-/// input that is too long.
+/// input that is too long. The lists of `run` are run by workers, which call the gate.
 pub fn run<R: Threads + Wait + Sync, S: Source, K: Sink, G: Gate>(
-    _rt: &R,
+    rt: &R,
     alloc: Global,
     words: &[String],
     input: &mut S,
     out: &mut K,
-    _gate: &G,
+    gate: &G,
 ) -> Ended
     // What is owed for what was read was written whole; or a write of it failed; or memory was wanting and nothing was written.
     ensures ending { IsEnding (command_of (map string_bytes words.now))
@@ -80,48 +93,90 @@ pub fn run<R: Threads + Wait + Sync, S: Source, K: Sink, G: Gate>(
         (IsReading S.left S.gives S.fails S.faults (limit_for (command_of (map string_bytes words.now))) input.old input.new)
         (WritesAll K.written K.takes out.old out.new)) }
 
-    // What is owed for an input whose bytes are told is what the call answers, unless memory is wanting or a read or a write fails.
+    // What became of each turn comes exactly with Done of `run`, and its mark is the report's.
+    ensures turns { HasTurns (command_of (map string_bytes words.now)) result.status result.report result.turns }
+
+    // What is owed for an input whose bytes are told is what the call answers, unless memory is wanting or a read or a write fails: the status, and where the
+    // input decides what is told, the report and the text.
     ensures determined { (document : List ℕ) (s : StatusValue) (report : Option ReportValue) (text : List ℕ)
         → S.left input.old ≡ Some document → length document ≤ limit_for (command_of (map string_bytes words.now))
         → IsOwed (command_of (map string_bytes words.now)) (whole document) s report text
-        → ((result.status ≡ s) × SameIfAny result.report report × WritesAll K.written K.takes out.old out.new text) ⊎ IsFailure result.status }
+        → IsAnswered (command_of (map string_bytes words.now)) (whole document) s report text (WritesAll K.written K.takes out.old out.new) result.status result.report ⊎ IsFailure result.status }
 
-    // Where the words are no command, nothing is read, and only a write that fails hides that.
+    // So it is of what is owed where nothing is read.
+    ensures determined_unread { (s : StatusValue) (report : Option ReportValue) (text : List ℕ)
+        → IsOwed (command_of (map string_bytes words.now)) nothing s report text
+        → IsAnswered (command_of (map string_bytes words.now)) nothing s report text (WritesAll K.written K.takes out.old out.new) result.status result.report ⊎ IsFailure result.status }
+
+    // Where the words are no command, only a write that fails hides that. Then nothing is read, nor for a command that reads no document.
     ensures words { result.status ≡ Status.Words → command_of (map string_bytes words.now) ≡ None }
     ensures no_command { command_of (map string_bytes words.now) ≡ None → (result.status ≡ Status.Words) ⊎ (result.status ≡ Status.WriteFault) }
-    ensures unread { command_of (map string_bytes words.now) ≡ None → input.new ≡ input.old }
+    ensures unread { ReadsNothing (command_of (map string_bytes words.now)) → input.new ≡ input.old }
 
     // A fault is that of the object that was handed in. Without memory nothing is written.
     ensures read_fault { result.status ≡ Status.ReadFault → Rose (S.faults input.old) (S.faults input.new) }
     ensures write_fault { result.status ≡ Status.WriteFault → Rose (K.faults out.old) (K.faults out.new) }
     ensures no_memory { result.status ≡ Status.NoMemory → out.new ≡ out.old }
 
-    // A document within the limit is served, unless memory is wanting or a read or a write fails.
-    ensures complete { (c : CommandValue) (document : List ℕ) (a : Contents)
-        → command_of (map string_bytes words.now) ≡ Some c → S.left input.old ≡ Some document
-        → length document ≤ limit_for (Some c) → Holds (form_of c) document a
+    // A document within the limit is served, and a command that reads none is done, unless memory is wanting or a read or a write fails.
+    ensures complete { (c : DocumentCommandValue) (document : List ℕ) (a : Contents)
+        → command_of (map string_bytes words.now) ≡ Some (Command.Document c) → S.left input.old ≡ Some document
+        → length document ≤ limit_for (Some (Command.Document c)) → Holds (form_of c) document a
         → IsServed a c (WritesAll K.written K.takes out.old out.new) result.status result.report ⊎ IsFailure result.status }
+    ensures complete_unread { (c : CommandValue) → command_of (map string_bytes words.now) ≡ Some c → ReadsNothing (Some c)
+        → (result.status ≡ Status.Done) ⊎ IsFailure result.status }
 {
     owed_is_one();
     documents_have_outcomes();
     reports_are_of_documents();
-    end(alloc, words, input, out)
+    end(rt, alloc, words, input, out, gate)
 }
 
-/// What `run` does, which needs no handle.
-fn end<S: Source, K: Sink>(alloc: Global, words: &[String], input: &mut S, out: &mut K) -> Ended
+/// What `run` does.
+fn end<R: Threads + Wait + Sync, S: Source, K: Sink, G: Gate>(
+    rt: &R,
+    alloc: Global,
+    words: &[String],
+    input: &mut S,
+    out: &mut K,
+    gate: &G,
+) -> Ended
     ensures ending { IsEnding (command_of (map string_bytes words.now))
         (IsReading S.left S.gives S.fails S.faults (limit_for (command_of (map string_bytes words.now))) input.old input.new)
         (WritesAll K.written K.takes out.old out.new)
         (λ text. Rose (K.faults out.old) (K.faults out.new) × WritesFront K.written K.takes K.fails out.old out.new text)
         (out.new ≡ out.old)
         result.status result.report }
+    ensures turns { HasTurns (command_of (map string_bytes words.now)) result.status result.report result.turns }
     ensures no_command { command_of (map string_bytes words.now) ≡ None → (result.status ≡ Status.Words) ⊎ (result.status ≡ Status.WriteFault) }
-    ensures unread { command_of (map string_bytes words.now) ≡ None → input.new ≡ input.old }
+    ensures unread { ReadsNothing (command_of (map string_bytes words.now)) → input.new ≡ input.old }
 {
     let Some(command) = command_of(words) else {
         return end_with_line(out, USAGE, Status::Words);
     };
+    match command {
+        Command::Document(command) => end_document(rt, alloc, command, input, out, gate),
+        Command::Show(program) => end_show(alloc, program, out),
+    }
+}
+
+/// What a command does that reads a document.
+fn end_document<R: Threads + Wait + Sync, S: Source, K: Sink, G: Gate>(
+    rt: &R,
+    alloc: Global,
+    command: DocumentCommand,
+    input: &mut S,
+    out: &mut K,
+    gate: &G,
+) -> Ended
+    ensures ending { IsEnding (Some (Command.Document command))
+        (IsReading S.left S.gives S.fails S.faults (limit_for (Some (Command.Document command))) input.old input.new)
+        (WritesAll K.written K.takes out.old out.new)
+        (λ text. Rose (K.faults out.old) (K.faults out.new) × WritesFront K.written K.takes K.fails out.old out.new text)
+        (out.new ≡ out.old)
+        result.status result.report }
+    ensures turns { HasTurns (Some (Command.Document command)) result.status result.report result.turns }
+{
     let document = match read_document(alloc, input, command.limit()) {
         Ok(document) => document,
         Err(ReadError::ReadFault) => return end_with_line(out, READ_FAULT, Status::ReadFault),
@@ -130,24 +185,90 @@ fn end<S: Source, K: Sink>(alloc: Global, words: &[String], input: &mut S, out: 
         }
         Err(ReadError::NoMemory) => return end_with(Status::NoMemory),
     };
-    match answer_input(alloc, command, document.bytes()) {
-        Ok(answer) => end_with_answer(out, answer),
+    match outcome_of(rt, alloc, command, document.bytes(), gate) {
+        Ok(outcome) => end_with_outcome(out, outcome),
         Err(NoMemory) => end_with(Status::NoMemory),
     }
 }
 
+/// What `show` does.
+fn end_show<K: Sink>(alloc: Global, program: Shipped, out: &mut K) -> Ended
+    ensures ending { IsEnding (Some (Command.Show program)) (λ read. read ≡ nothing)
+        (WritesAll K.written K.takes out.old out.new)
+        (λ text. Rose (K.faults out.old) (K.faults out.new) × WritesFront K.written K.takes K.fails out.old out.new text)
+        (out.new ≡ out.old)
+        result.status result.report }
+    ensures turns { HasTurns (Some (Command.Show program)) result.status result.report result.turns }
+{
+    let Ok(answer) = answer_show(alloc, program) else {
+        return end_with(Status::NoMemory);
+    };
+    end_with_outcome(
+        out,
+        Outcome {
+            answer,
+            turns: None,
+        },
+    )
+}
+
+/// What comes of a whole input.
+fn outcome_of<R: Threads + Wait + Sync, G: Gate>(
+    rt: &R,
+    alloc: Global,
+    command: DocumentCommand,
+    bytes: &[u8],
+    gate: &G,
+) -> Result<Outcome, NoMemory>
+    requires { length bytes.now + 1 < 2 ^ 32 }
+    ensures { IfOk result (IsOutcomeOf command bytes.now) }
+{
+    let task = task_of(alloc, command, bytes)?;
+    match task {
+        Task::Answered(answer) => Ok(Outcome {
+            answer,
+            turns: None,
+        }),
+        Task::Run(prepared) => run_prepared(rt, alloc, prepared, gate),
+    }
+}
+
+/// Lets workers make the turns of a run.
+fn run_prepared<R: Threads + Wait + Sync, G: Gate>(
+    rt: &R,
+    alloc: Global,
+    prepared: Prepared,
+    gate: &G,
+) -> Result<Outcome, NoMemory>
+    requires there { All (All (λ id. IsSome (bot_at prepared.world id))) prepared.lists.ids }
+    ensures { IfOk result (IsRunOf prepared) }
+{
+    let Prepared {
+        runner,
+        world,
+        lists,
+    } = prepared;
+    let worked = work(rt, alloc, &runner, world, &lists, gate)?;
+    let answer = answer_report(alloc, worked.report, runner.checked().vars())?;
+    Ok(Outcome {
+        answer,
+        turns: Some(worked.turns),
+    })
+}
+
 fn end_with(status: Status) -> Ended
-    ensures { result ≡ record { status = status; report = None } }
+    ensures { result ≡ record { status = status; report = None; turns = None } }
 {
     Ended {
         status,
         report: None,
+        turns: None,
     }
 }
 
 /// Writes the line of a status without a report.
 fn end_with_line<K: Sink>(out: &mut K, line: &str, status: Status) -> Ended
-    ensures written { IsWritten K.written K.takes K.fails K.faults out.old out.new status None line.now result }
+    ensures written { IsWritten K.written K.takes K.fails K.faults out.old out.new status None None line.now result }
     ensures status { (result.status ≡ status) ⊎ (result.status ≡ Status.WriteFault) }
 {
     match write_all(out, line.as_bytes()) {
@@ -156,14 +277,16 @@ fn end_with_line<K: Sink>(out: &mut K, line: &str, status: Status) -> Ended
     }
 }
 
-/// Writes the text of an answer.
-fn end_with_answer<K: Sink>(out: &mut K, answer: Answer) -> Ended
-    ensures { IsWritten K.written K.takes K.fails K.faults out.old out.new answer.status answer.report answer.text result }
+/// Writes the text of an outcome.
+fn end_with_outcome<K: Sink>(out: &mut K, outcome: Outcome) -> Ended
+    ensures { IsWritten K.written K.takes K.fails K.faults out.old out.new outcome.answer.status outcome.answer.report outcome.turns outcome.answer.text result }
 {
+    let Outcome { answer, turns } = outcome;
     match write_all(out, answer.text.bytes()) {
         Ok(()) => Ended {
             status: answer.status,
             report: answer.report,
+            turns,
         },
         Err(WriteFault) => end_with(Status::WriteFault),
     }
@@ -188,12 +311,16 @@ pub fn run_text<R: Threads + Wait + Sync>(
     ensures headline { IfSome result.report (IsTold (command_of (map string_bytes words.now))
         (IsReadingOf (limit_for (command_of (map string_bytes words.now))) bytes.now)
         (HasText out.old out.new)) }
+    ensures turns { HasTurns (command_of (map string_bytes words.now)) result.status result.report result.turns }
 
-    // What is owed for the bytes is what the call answers, unless memory is wanting.
+    // What is owed for the bytes is what the call answers, unless memory is wanting. So it is of what is owed where nothing is read.
     ensures determined { (s : StatusValue) (report : Option ReportValue) (text : List ℕ)
         → length bytes.now ≤ limit_for (command_of (map string_bytes words.now))
         → IsOwed (command_of (map string_bytes words.now)) (whole bytes.now) s report text
-        → ((result.status ≡ s) × SameIfAny result.report report × HasText out.old out.new text) ⊎ (result.status ≡ Status.NoMemory) }
+        → IsAnswered (command_of (map string_bytes words.now)) (whole bytes.now) s report text (HasText out.old out.new) result.status result.report ⊎ (result.status ≡ Status.NoMemory) }
+    ensures determined_unread { (s : StatusValue) (report : Option ReportValue) (text : List ℕ)
+        → IsOwed (command_of (map string_bytes words.now)) nothing s report text
+        → IsAnswered (command_of (map string_bytes words.now)) nothing s report text (HasText out.old out.new) result.status result.report ⊎ (result.status ≡ Status.NoMemory) }
 
     ensures words { result.status ≡ Status.Words → command_of (map string_bytes words.now) ≡ None }
     ensures no_command { command_of (map string_bytes words.now) ≡ None → (result.status ≡ Status.Words) ⊎ (result.status ≡ Status.NoMemory) }
@@ -201,11 +328,13 @@ pub fn run_text<R: Threads + Wait + Sync>(
     ensures no_write_fault { result.status ≢ Status.WriteFault }
     ensures no_memory { result.status ≡ Status.NoMemory → out.new ≡ out.old }
 
-    // A document within the limit is served, unless memory is wanting.
-    ensures complete { (c : CommandValue) (a : Contents)
-        → command_of (map string_bytes words.now) ≡ Some c
-        → length bytes.now ≤ limit_for (Some c) → Holds (form_of c) bytes.now a
+    // A document within the limit is served, and a command that reads none is done, unless memory is wanting.
+    ensures complete { (c : DocumentCommandValue) (a : Contents)
+        → command_of (map string_bytes words.now) ≡ Some (Command.Document c)
+        → length bytes.now ≤ limit_for (Some (Command.Document c)) → Holds (form_of c) bytes.now a
         → IsServed a c (HasText out.old out.new) result.status result.report ⊎ (result.status ≡ Status.NoMemory) }
+    ensures complete_unread { (c : CommandValue) → command_of (map string_bytes words.now) ≡ Some c → ReadsNothing (Some c)
+        → (result.status ≡ Status.Done) ⊎ (result.status ≡ Status.NoMemory) }
 {
     pieces_are_kept_as_one();
     match SureSource::new(alloc, bytes) {

@@ -1,9 +1,8 @@
 //! Documents with the words, the status, the number of entries of the report, if there is one, and the text.
 
 use command_answers::Status::{self, Differs, Done};
-use text_tokens::Refusal;
 use text_tokens::RefusalKind::{
-    self, BadId, NotAdjacent, NotYet, OutOfBox, Overlap, Trailing, Truncated, Unexpected,
+    self, BadId, NotAdjacent, OutOfBox, Overlap, Trailing, Truncated, Unexpected,
 };
 
 /// The word of a command, its document in pieces, the status, how many entries the report has, and the text in pieces.
@@ -113,7 +112,7 @@ const DRAGGED_FINAL: &str = "final\narea 0 0 8 8\nbot 3 3 3 3 0 + 0\nbot 2 3 1 3
 
 // ---- what is answered
 
-/// Runs of the turns of at most one list, of which some fail.
+/// Runs whose text is decided: of at most one list, and of two lists that never meet and change nothing. Some turns fail.
 pub static RUNS: [Row; 14] = [
     // An amoebot expands, and then it is idle.
     (
@@ -301,17 +300,163 @@ pub static RUNS: [Row; 14] = [
             "turns\nturn 0 0 done 0\nturn 0 1 idle 1\nturn 0 2 idle 1\nturn 0 3 idle 1\nend\n",
         ],
     ),
-    // Two lists wait for threads.
+    // Two amoebots at the border of the area, far from each other.
     (
         "run",
-        &[OUT, FAR, ONE_EACH],
-        Status::Refused(Refusal {
-            line: 0,
-            kind: NotYet,
-        }),
-        None,
-        &["refused 0 NotYet\n"],
+        &[
+            OUT,
+            "shape\narea 0 0 8 8\nbot 7 1 7 1 0 +\nbot 7 6 7 6 0 +\nend\n",
+            ONE_EACH,
+        ],
+        Done,
+        Some(0),
+        &[
+            NO_ENTRY,
+            "final\narea 0 0 8 8\nbot 7 1 7 1 0 +\nbot 7 6 7 6 0 +\nend\n",
+            "turns\nturn 0 0 failed edge 0\nturn 1 0 failed edge 0\nend\n",
+        ],
     ),
+];
+
+// ---- several lists
+
+/// An amoebot that marks itself, in the list of each of sixteen callers.
+pub const ONE_FOR_SIXTEEN: &[&str] = &[
+    MARK,
+    "shape\narea 0 0 8 8\nbot 2 3 2 3 0 + 0\nend\nlists\nturns 4\n",
+    "list 0\nlist 0\nlist 0\nlist 0\nlist 0\nlist 0\nlist 0\nlist 0\n",
+    "list 0\nlist 0\nlist 0\nlist 0\nlist 0\nlist 0\nlist 0\nlist 0\nend\n",
+];
+
+/// Two amoebots far from each other, each in the list of one caller.
+pub const TWO_APART: &[&str] = &[OUT, FAR, "lists\nturns 3\nlist 0\nlist 1\nend\n"];
+
+/// Sixteen amoebots in a square of four by four that mark themselves, in this order in the list of each of sixteen callers.
+pub const SIXTEEN_FOR_SIXTEEN: &[&str] = &[
+    MARK,
+    "shape\narea 0 0 8 8\n",
+    "bot 2 2 2 2 0 + 0\nbot 3 2 3 2 0 + 0\nbot 4 2 4 2 0 + 0\nbot 5 2 5 2 0 + 0\n",
+    "bot 2 3 2 3 0 + 0\nbot 3 3 3 3 0 + 0\nbot 4 3 4 3 0 + 0\nbot 5 3 5 3 0 + 0\n",
+    "bot 2 4 2 4 0 + 0\nbot 3 4 3 4 0 + 0\nbot 4 4 4 4 0 + 0\nbot 5 4 5 4 0 + 0\n",
+    "bot 2 5 2 5 0 + 0\nbot 3 5 3 5 0 + 0\nbot 4 5 4 5 0 + 0\nbot 5 5 5 5 0 + 0\n",
+    "end\nlists\nturns 64\n",
+    ALL_FOR_FOUR,
+    ALL_FOR_FOUR,
+    ALL_FOR_FOUR,
+    ALL_FOR_FOUR,
+    "end\n",
+];
+
+const ALL_FOR_FOUR: &str = "list 0 1 2 3 4 5 6 7 8 9 10 11 12 13 14 15\n\
+    list 0 1 2 3 4 5 6 7 8 9 10 11 12 13 14 15\n\
+    list 0 1 2 3 4 5 6 7 8 9 10 11 12 13 14 15\n\
+    list 0 1 2 3 4 5 6 7 8 9 10 11 12 13 14 15\n";
+
+// ---- shipped programs
+
+/// The name of each shipped program, and its text in the canonical form.
+pub static SHOWN: [(&str, &str); 3] = [
+    (
+        "hexagon",
+        "amoebot 1\nprogram\nguard off\nvar state 4\nvar parent 6\nvar aim 6\n\
+        action root\n\
+        when contracted and ( state = 0 or state = 2 ) and any p in ports ( p . state = 1 or p . state = 4 )\n\
+        do parent := 6 ; state := 3\n\
+        move none\n\
+        action follow\n\
+        when contracted and state = 0 and any p in ports ( p . state = 2 or p . state = 3 )\n\
+        do let q := first p in ports ( p . state = 2 or p . state = 3 ) ; parent := dir q ; state := 2\n\
+        move none\n\
+        action retire\n\
+        when contracted and state = 3 and any p in ports ( ( p . state = 1 or p . state = 4 ) and p . aim = peer_dir p )\n\
+        do let q := first p in ports ( ( p . state = 1 or p . state = 4 ) and not ( linked turn p 5 and ( turn p 5 . state = 1 or turn p 5 . state = 4 ) ) ) ; aim := dir turn q 5 ; state := 4\n\
+        move none\n\
+        action go\n\
+        when contracted and state = 3 and any p in ports ( ( p . state = 1 or p . state = 4 ) and free turn p 1 )\n\
+        move expand turn first p in ports ( ( p . state = 1 or p . state = 4 ) and free turn p 1 ) 1\n\
+        action drag\n\
+        when expanded and ( state = 2 or state = 3 ) and not any p in ports ( p . state = 0 ) and any p in ports ( not at_head p and p . state = 2 and not peer_expanded p and p . parent = peer_dir p )\n\
+        do let q := first p in ports ( not at_head p and p . state = 2 and not peer_expanded p and p . parent = peer_dir p ) ; q . parent := mod6 ( inner - dir q + peer_dir q + 3 )\n\
+        move pull q\n\
+        action rest\n\
+        when expanded and ( state = 2 or state = 3 ) and not any p in ports ( p . state = 0 or not at_head p and p . state = 2 and peer_head p and p . parent = peer_dir p )\n\
+        move contract tail\n\
+        end\n",
+    ),
+    (
+        "erosion",
+        "amoebot 1\nprogram\nguard off\nvar cand 1\nvar leader 1\n\
+        action lead\n\
+        when cand = 1 and leader = 0 and not any p in ports ( p . cand = 1 )\n\
+        do leader := 1\n\
+        move none\n\
+        action erode\n\
+        when cand = 1 and count p in ports ( p . cand = 1 and not ( linked turn p 1 and turn p 1 . cand = 1 ) ) = 1\n\
+        do cand := 0\n\
+        move none\n\
+        end\n",
+    ),
+    (
+        "line",
+        "amoebot 1\nprogram\nguard off\n\
+        action out\n\
+        when contracted and free head 0\n\
+        move expand head 0\n\
+        action follow_up\n\
+        when expanded\n\
+        move contract tail\n\
+        end\n",
+    ),
+];
+
+/// Words that are no command.
+pub static NO_COMMANDS: [&[&str]; 46] = [
+    &[],
+    &[""],
+    &["Run"],
+    &["RUN"],
+    &["Interleave"],
+    &["replaY"],
+    &["Check"],
+    &["MEASURE"],
+    &[" run"],
+    &["run "],
+    &["re play"],
+    &["walk"],
+    &["runs"],
+    &["-"],
+    &["--"],
+    &["-h"],
+    &["--help"],
+    &["-run"],
+    &["run", "now"],
+    &["run", "run"],
+    &["interleave", "1"],
+    &["replay", "-"],
+    &["check", ""],
+    &["measure", "--help"],
+    &["--", "run"],
+    &["show"],
+    &["Show", "line"],
+    &["SHOW", "line"],
+    &["show", "Hexagon"],
+    &["show", "EROSION"],
+    &["show", ""],
+    &["show", " line"],
+    &["show", "line "],
+    &["show", "lin"],
+    &["show", "shape"],
+    &["show", "-line"],
+    &["show", "--help"],
+    &["show", "line", "erosion"],
+    &["show", "show"],
+    &["hexagon"],
+    &["line", "show"],
+    &["sample"],
+    &["sample", ""],
+    &["sample", "-1"],
+    &["sample", "12345678901"],
+    &["sample", "1", "2"],
 ];
 
 /// Steps of two callers by schedules.

@@ -1,5 +1,5 @@
 -- The answers of the samples: the steps of the schedule are computed, and what they leave is also what the turns leave.
-use Rattle.std.proofs.Common.{◌≡◌, ℕ, [], ◌∷◌, ◌++◌, Some, None, Ok, Err, zero, suc, refl, ap, sym, subst, arith, codes}
+use Rattle.std.proofs.Common.{◌≡◌, ℕ, List, replicate, [], ◌∷◌, ◌++◌, Some, None, Ok, Err, zero, suc, refl, ap, sym, subst, arith, codes}
 use Rattle.std.specs.Prelude.{is_some, reverse}
 use Rattle.std.specs.Fmt.{digits}
 use Rattle.std.specs.List.{All}
@@ -28,10 +28,11 @@ use Rattle.command_runs.specs.Replay.{at_end}
 use Rattle.command_runs.specs.Samples.{nobody}
 use Rattle.command_runs.proofs.Measures.{nobody_is_measured}
 use Rattle.command_runs.proofs.SmallRow.{is_area, plain, one_id, IsThereIn}
-use Rattle.command_answers.specs.declared.command.Command.TheVariants.{Run, Interleave, Replay, Check, Measure}
+use Rattle.shipped_programs.specs.declared.shipped.Shipped.TheVariants.{Line}
+use Rattle.command_answers.specs.declared.command.DocumentCommand.TheVariants.{Run, Interleave, Replay, Check, Measure}
 use Rattle.command_answers.specs.OfReplay.{HasJournal}
-use Rattle.command_answers.specs.Owed.{of_run, of_interleave, of_replay, of_check, of_measure, usage, read_fault, longer, refused, later, differs, done}
-use Rattle.command_answers.specs.Samples.{program_text, with_shape, with_nobody, with_list, with_two_lists, with_schedule, journal_text, spread_text, still_text, out, start, spread, one_list, two_lists, schedule, expansion, only_program, and_nobody, and_list, and_two_lists, and_schedule, and_journal, told, told_text, empty_refused, SmallAnswers}
+use Rattle.command_answers.specs.Owed.{of_run, of_interleave, of_replay, of_check, of_measure, usage, read_fault, longer, refused, differs, done, shown}
+use Rattle.command_answers.specs.Samples.{program_text, with_shape, with_nobody, with_list, with_two_lists, with_schedule, journal_text, spread_text, still_text, out, start, spread, one_list, two_lists, schedule, expansion, only_program, and_nobody, and_list, and_two_lists, and_schedule, and_journal, told, told_text, both_told, both_text, line_text, empty_refused, SmallAnswers}
 use Rattle.command_answers.proofs.SmallDocuments.{says, are_answered}
 
 abbrev g : Setup
@@ -40,12 +41,15 @@ g = setup (verdict_shown out) start one_list
 valid : IsValid start
 valid = valid_with (config_of row zeros []) (bot_on 1 1) (none_valid row zeros is_area refl []) (no_fault (config_of row zeros []) (bot_on 1 1) (plain (bot_on 1 1) refl refl (omega arith) refl) refl)
 
+only_bot : All (IsThereIn start) (0 ∷ [])
+only_bot = All-cons (IsThereIn start) 0 [] refl (All-nil (IsThereIn start))
+
 may_run : IsSetup g
 may_run = record {
   valid = valid;
   few = omega arith;
   lists = record { few = record { at_most_16 = omega arith; in_all = omega arith }; each = All-cons IsList (0 ∷ []) [] (one_id 0) (All-nil IsList) };
-  bots = All-cons (All (IsThereIn start)) (0 ∷ []) [] (All-cons (IsThereIn start) 0 [] refl (All-nil (IsThereIn start))) (All-nil (All (IsThereIn start)));
+  bots = All-cons (All (IsThereIn start)) (0 ∷ []) [] only_bot (All-nil (All (IsThereIn start)));
   touches = (acts_keep_decider_laws (verdict_shown out) (programs_decide_by_acts out)).0;
   leads = (acts_keep_decider_laws (verdict_shown out) (programs_decide_by_acts out)).1;
 }
@@ -55,6 +59,9 @@ HasEnded k = k.phase ≡ Ended
 
 has_ended : (s : State) (k : Caller) → s.callers ≡ k ∷ [] → k.phase ≡ Ended → HaveEnded s
 has_ended s k is one = subst (All HasEnded) (sym is) (All-cons HasEnded k [] one (All-nil HasEnded))
+
+have_ended : (s : State) (k j : Caller) → s.callers ≡ k ∷ j ∷ [] → k.phase ≡ Ended → j.phase ≡ Ended → HaveEnded s
+have_ended s k j are one other = subst (All HasEnded) (sym are) (All-cons HasEnded k (j ∷ []) one (All-cons HasEnded j [] other (All-nil HasEnded)))
 
 ended : HaveEnded (after g (reverse schedule))
 ended = has_ended (after g (reverse schedule)) _ refl refl
@@ -69,6 +76,29 @@ left = record { first = refl; entries = refl; world = record { rest = refl; size
 reached : Reached g told
 reached = record { steps = reverse schedule; ended = ended; left = left }
 
+-- two lists of one turn each, whose callers make their steps one after the other
+abbrev both : Setup
+both = setup (verdict_shown out) start two_lists
+
+both_may_run : IsSetup both
+both_may_run = record {
+  valid = valid;
+  few = omega arith;
+  lists = record { few = record { at_most_16 = omega arith; in_all = omega arith }; each = All-cons IsList (0 ∷ []) ((0 ∷ []) ∷ []) (one_id 0) (All-cons IsList (0 ∷ []) [] (one_id 0) (All-nil IsList)) };
+  bots = All-cons (All (IsThereIn start)) (0 ∷ []) ((0 ∷ []) ∷ []) only_bot (All-cons (All (IsThereIn start)) (0 ∷ []) [] only_bot (All-nil (All (IsThereIn start))));
+  touches = may_run.touches;
+  leads = may_run.leads;
+}
+
+abbrev steps_of_both : List ℕ
+steps_of_both = replicate 20 1 ++ replicate 20 0
+
+both_ended : HaveEnded (after both steps_of_both)
+both_ended = have_ended (after both steps_of_both) _ _ refl refl refl
+
+both_reached : Reached both both_told
+both_reached = record { steps = steps_of_both; ended = both_ended; left = record { first = refl; entries = refl; world = record { rest = refl; size = refl; ids = same_ids; values = refl }; marks = refl } }
+
 scheduled : IsScheduled g schedule told
 scheduled = record { count = 0; ended = ended; first = λ n lt. absurd (omega arith); left = left }
 
@@ -80,7 +110,10 @@ module _ (goods : ReachedIsGood) (serials : OneListIsSerial) where
   good = goods g may_run told reached
 
   run_report : IsRunReport (verdict_shown out) start one_list told
-  run_report = record { few = omega arith; good = good; reached = reached; serial = serials (verdict_shown out) start one_list told (omega arith) good }
+  run_report = record { good = good; reached = reached; serial = λ few. serials (verdict_shown out) start one_list told few good }
+
+  both_report : IsRunReport (verdict_shown out) start two_lists both_told
+  both_report = let its_good = goods both both_may_run both_told both_reached in record { good = its_good; reached = both_reached; serial = λ few. absurd (omega arith) }
 
   interleave_report : IsInterleaveReport (verdict_shown out) start one_list schedule told
   interleave_report = record { good = good; reached = reached; scheduled = scheduled }
@@ -90,14 +123,16 @@ module _ (goods : ReachedIsGood) (serials : OneListIsSerial) where
   small_answers = record {
     no_words = usage;
     two_words = usage;
+    other_name = usage;
     fails = read_fault Run (codes "amoe");
     long = λ bytes. longer Check bytes;
     empty = refused Interleave [] empty_refused (says form.Interleave [] (Err empty_refused) are_answered.empty);
     run = done Run with_list and_list (Some told) told_text (says form.Run with_list (Ok and_list) are_answered.list) (of_run told told_text (record { program = out; start = start; lists = one_list; its_program = refl; its_shape = refl; its_lists = refl; writes = record { run = run_report; whole = refl } }));
-    later = later with_two_lists and_two_lists (says form.Run with_two_lists (Ok and_two_lists) are_answered.two_lists) (record { lists = two_lists; its_lists = refl; several = omega arith });
+    two_lists = done Run with_two_lists and_two_lists (Some both_told) both_text (says form.Run with_two_lists (Ok and_two_lists) are_answered.two_lists) (of_run both_told both_text (record { program = out; start = start; lists = two_lists; its_program = refl; its_shape = refl; its_lists = refl; writes = record { run = both_report; whole = refl } }));
     interleave = done Interleave with_schedule and_schedule (Some told) told_text (says form.Interleave with_schedule (Ok and_schedule) are_answered.schedule) (of_interleave told told_text (record { program = out; start = start; lists = one_list; schedule = schedule; its_program = refl; its_shape = refl; its_lists = refl; its_schedule = refl; writes = record { run = interleave_report; whole = refl } }));
     agrees = done Replay (with_shape ++ journal_text ++ spread_text) (and_journal spread) None (codes "agrees 1\n") (says form.Replay (with_shape ++ journal_text ++ spread_text) (Ok (and_journal spread)) are_answered.journal) (of_replay (codes "agrees 1\n") (record { program = out; start = start; entries = expansion ∷ []; final = spread; has = has spread; writes = record { agrees = good.run; whole = refl } }));
     differs = differs (with_shape ++ journal_text ++ still_text) (and_journal start) 1 (says form.Replay (with_shape ++ journal_text ++ still_text) (Ok (and_journal start)) are_answered.other_final) (record { program = out; start = start; entries = expansion ∷ []; final = start; has = has start; differs = at_end spread good.run (λ same. let e = ap (λ (c : Config). occupant c (node 2)) same in cc) });
     check = done Check program_text only_program None _ (says form.Check program_text (Ok only_program) are_answered.program) (of_check _ (record { program = out; its_program = refl; writes = refl }));
+    show = shown Line;
     measure = done Measure with_nobody and_nobody None _ (says form.Measure with_nobody (Ok and_nobody) are_answered.nobody) (of_measure _ (record { last = nobody; its_last = refl; writes = nobody_is_measured }));
   }

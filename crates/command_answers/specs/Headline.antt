@@ -1,5 +1,5 @@
 -- What a call tells that has a report: the headline, for the commands that make turns.
-use Rattle.std.specs.Prelude.{◌≡◌, ◌⊎◌, ℕ, List, length}
+use Rattle.std.specs.Prelude.{◌≡◌, ◌≤◌, ◌⊎◌, ℕ, List, length}
 use Rattle.std.specs.declared.option.Option.{Option}
 use Rattle.std.specs.declared.option.Option.TheVariants.{Some}
 use Rattle.amoebot_state.specs.Configs.{Config}
@@ -7,6 +7,7 @@ use Rattle.claim_core.specs.declared.report.Report.{Report}
 use Rattle.claim_core.specs.Turns.{CallerLists}
 use Rattle.claim_core.specs.Good.{Good}
 use Rattle.claim_core.specs.Reached.{Reached}
+use Rattle.claim_core.specs.SerialRuns.{SerialRun, all_turns, left_by}
 use Rattle.action_tree.specs.Trees.{Program}
 use Rattle.action_meaning.specs.Verdicts.{verdict_shown}
 use Rattle.document_grammar.specs.declared.section.Form.{Form}
@@ -14,15 +15,16 @@ use Rattle.document_grammar.specs.Documents.{Contents, Holds}
 use Rattle.command_runs.specs.Laws.{StaysConnectedIn}
 use Rattle.command_runs.specs.Reports.{setup, report_text}
 use Rattle.command_answers.specs.declared.command.Command.{Command}
-use Rattle.command_answers.specs.declared.command.Command.TheVariants.{Run, Interleave}
+use Rattle.command_answers.specs.declared.command.Command.TheVariants.{Document}
+use Rattle.command_answers.specs.declared.command.DocumentCommand.TheVariants.{Run, Interleave}
 
 -- the command makes the turns of a document's lists
 abbrev pub MakesTurns : Option Command → Type 0
-MakesTurns c = (c ≡ Some Run) ⊎ (c ≡ Some Interleave)
+MakesTurns c = (c ≡ Some (Document Run)) ⊎ (c ≡ Some (Document Interleave))
 
 -- The bytes are a document of the form, which has a program, a shape and lists. The report is a good one of the lists' turns under the
--- program, from the shape on, and an interleaving gives it. If the guard is on and the shape is connected, then it is so in each world of
--- the run. The text is the report's.
+-- program, from the shape on, and an interleaving gives it. With at most one list it is what the turns leave, one after another, none of
+-- them Busy. If the guard is on and the shape is connected, then it is so in each world of the run. The text is the report's.
 pub record IsRunOfDocument (form : Form) (bytes : List ℕ) (report : Report) (text : List ℕ) : Type 0 where
   pub contents : Contents
   pub program : Program
@@ -34,5 +36,6 @@ pub record IsRunOfDocument (form : Form) (bytes : List ℕ) (report : Report) (t
   pub its_lists : contents.lists ≡ Some lists
   pub good : Good (verdict_shown program) start lists report
   pub reached : Reached (setup (verdict_shown program) start lists) report
+  pub serial : length lists.ids ≤ 1 → SerialRun (verdict_shown program) start lists (all_turns lists) (left_by report)
   pub connected : StaysConnectedIn program start report.journal.entries
   pub writes : text ≡ report_text (length program.vars) report

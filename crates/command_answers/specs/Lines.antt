@@ -18,7 +18,3 @@ refusal_line r = line_text (codes "refused" ∷ decimal r.line ∷ name r.kind �
 -- a document with more bytes than the limit, at which nobody looked
 abbrev pub too_long : Refusal
 too_long = record { line = 0; kind = kind.TooLong }
-
--- a document that a later program will run
-abbrev pub not_yet : Refusal
-not_yet = record { line = 0; kind = kind.NotYet }

@@ -1,5 +1,5 @@
 -- The text of the command `run` for a document.
-use Rattle.std.specs.Prelude.{◌≡◌, ◌<◌, ℕ, List, length}
+use Rattle.std.specs.Prelude.{◌≡◌, ℕ, List}
 use Rattle.std.specs.declared.option.Option.TheVariants.{Some}
 use Rattle.amoebot_state.specs.Configs.{Config}
 use Rattle.claim_core.specs.declared.report.Report.{Report}
@@ -8,7 +8,7 @@ use Rattle.action_tree.specs.Trees.{Program}
 use Rattle.document_grammar.specs.Documents.{Contents}
 use Rattle.command_runs.specs.Run.{IsRunText}
 
--- the document has a program, a shape and lists, of which there is at most one, and the text is that of a report of their run
+-- the document has a program, a shape and lists, and the text is that of a report of their run
 pub record IsTextOfRun (a : Contents) (report : Report) (text : List ℕ) : Type 0 where
   pub program : Program
   pub start : Config
@@ -17,9 +17,3 @@ pub record IsTextOfRun (a : Contents) (report : Report) (text : List ℕ) : Type
   pub its_shape : a.world ≡ Some start
   pub its_lists : a.lists ≡ Some lists
   pub writes : IsRunText program start lists report text
-
--- the document has two lists or more: it waits for threads
-pub record IsForLater (a : Contents) : Type 0 where
-  pub lists : CallerLists
-  pub its_lists : a.lists ≡ Some lists
-  pub several : 1 < length lists.ids

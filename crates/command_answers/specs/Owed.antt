@@ -6,22 +6,27 @@ use Rattle.text_tokens.specs.declared.refusal.Refusal.{Refusal}
 use Rattle.claim_core.specs.declared.report.Report.{Report}
 use Rattle.document_grammar.specs.Documents.{Contents, Holds, IsRefused}
 use Rattle.document_grammar.specs.declared.section.Form.TheVariants as form
+use Rattle.shipped_programs.specs.declared.shipped.Shipped.{Shipped}
+use Rattle.shipped_programs.specs.Shipped.{tree_of}
+use Rattle.command_runs.specs.Check.{check_text}
 use Rattle.command_runs.specs.Replay.{differs_line}
 use Rattle.command_answers.specs.declared.command.Command.{Command}
-use Rattle.command_answers.specs.declared.command.Command.TheVariants.{Run, Interleave, Replay, Check, Measure}
+use Rattle.command_answers.specs.declared.command.Command.TheVariants.{Document, Show}
+use Rattle.command_answers.specs.declared.command.DocumentCommand.{DocumentCommand}
+use Rattle.command_answers.specs.declared.command.DocumentCommand.TheVariants.{Run, Interleave, Replay, Check, Measure}
 use Rattle.command_answers.specs.declared.status.Status.{Status}
 use Rattle.command_answers.specs.declared.status.Status.TheVariants as status
 use Rattle.command_answers.specs.Commands.{form_of}
-use Rattle.command_answers.specs.Lines.{usage_line, read_fault_line, refusal_line, too_long, not_yet}
+use Rattle.command_answers.specs.Lines.{usage_line, read_fault_line, refusal_line, too_long}
 use Rattle.command_answers.specs.Reads.{Read, nothing, whole, above, up_to_fault}
-use Rattle.command_answers.specs.OfRun.{IsTextOfRun, IsForLater}
+use Rattle.command_answers.specs.OfRun.{IsTextOfRun}
 use Rattle.command_answers.specs.OfInterleave.{IsTextOfInterleave}
 use Rattle.command_answers.specs.OfReplay.{IsTextOfReplay, IsDiffering}
 use Rattle.command_answers.specs.OfCheck.{IsTextOfCheck}
 use Rattle.command_answers.specs.OfMeasure.{IsTextOfMeasure}
 
 -- the text of a command for a document, with the report that it tells, if it tells one
-pub data IsTextOf (a : Contents) : Command → Option Report → List ℕ → Type 0 where
+pub data IsTextOf (a : Contents) : DocumentCommand → Option Report → List ℕ → Type 0 where
   of_run : (report : Report) (text : List ℕ) → IsTextOfRun a report text → IsTextOf a Run (Some report) text
   of_interleave : (report : Report) (text : List ℕ) → IsTextOfInterleave a report text → IsTextOf a Interleave (Some report) text
   of_replay : (text : List ℕ) → IsTextOfReplay a text → IsTextOf a Replay None text
@@ -34,14 +39,14 @@ pub data IsOwed : Option Command → Read → Status → Option Report → List 
   -- the words are no command
   usage : IsOwed None nothing status.Words None usage_line
   -- a read failed
-  read_fault : (c : Command) (got : List ℕ) → IsOwed (Some c) (up_to_fault got) status.ReadFault None read_fault_line
+  read_fault : (c : DocumentCommand) (got : List ℕ) → IsOwed (Some (Document c)) (up_to_fault got) status.ReadFault None read_fault_line
   -- the input is longer than a document of the command may be
-  longer : (c : Command) (got : List ℕ) → IsOwed (Some c) (above got) (status.Refused too_long) None (refusal_line too_long)
+  longer : (c : DocumentCommand) (got : List ℕ) → IsOwed (Some (Document c)) (above got) (status.Refused too_long) None (refusal_line too_long)
   -- the whole input is no document of the command's form, and this is its first fault
-  refused : (c : Command) (bytes : List ℕ) (r : Refusal) → IsRefused (form_of c) bytes r → IsOwed (Some c) (whole bytes) (status.Refused r) None (refusal_line r)
-  -- it is a document of `run` with two lists or more
-  later : (bytes : List ℕ) (a : Contents) → Holds form.Run bytes a → IsForLater a → IsOwed (Some Run) (whole bytes) (status.Refused not_yet) None (refusal_line not_yet)
+  refused : (c : DocumentCommand) (bytes : List ℕ) (r : Refusal) → IsRefused (form_of c) bytes r → IsOwed (Some (Document c)) (whole bytes) (status.Refused r) None (refusal_line r)
   -- it is a document of `replay` whose journal differs
-  differs : (bytes : List ℕ) (a : Contents) (place : ℕ) → Holds form.Replay bytes a → IsDiffering a place → IsOwed (Some Replay) (whole bytes) (status.Differs place) None (differs_line place)
+  differs : (bytes : List ℕ) (a : Contents) (place : ℕ) → Holds form.Replay bytes a → IsDiffering a place → IsOwed (Some (Document Replay)) (whole bytes) (status.Differs place) None (differs_line place)
   -- it is a document, and the command does what it asks for
-  done : (c : Command) (bytes : List ℕ) (a : Contents) (report : Option Report) (text : List ℕ) → Holds (form_of c) bytes a → IsTextOf a c report text → IsOwed (Some c) (whole bytes) status.Done report text
+  done : (c : DocumentCommand) (bytes : List ℕ) (a : Contents) (report : Option Report) (text : List ℕ) → Holds (form_of c) bytes a → IsTextOf a c report text → IsOwed (Some (Document c)) (whole bytes) status.Done report text
+  -- a shipped program is shown as `check` writes one; nothing is read
+  shown : (program : Shipped) → IsOwed (Some (Show program)) nothing status.Done None (check_text (tree_of program))

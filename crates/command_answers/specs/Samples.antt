@@ -20,7 +20,7 @@ use Rattle.command_runs.specs.SmallRow.{row, zeros, node, bot_on, to_the_right}
 use Rattle.command_runs.specs.Samples.{nobody}
 use Rattle.command_answers.specs.declared.status.Status.TheVariants as status
 use Rattle.command_answers.specs.Commands.{command_of}
-use Rattle.command_answers.specs.Lines.{usage_line, too_long, not_yet}
+use Rattle.command_answers.specs.Lines.{usage_line, too_long}
 use Rattle.command_answers.specs.Reads.{nothing, whole, above, up_to_fault}
 use Rattle.command_answers.specs.Owed.{IsOwed}
 
@@ -56,6 +56,9 @@ still_text = codes "final\narea 0 0 3 1\nbot 1 0 1 0 0 +\nend\n"
 
 abbrev pub turns_text : List ℕ
 turns_text = codes "turns\nturn 0 0 done 0\nturn 0 1 idle 1\nend\n"
+
+abbrev pub two_turns_text : List ℕ
+two_turns_text = codes "turns\nturn 0 0 done 0\nturn 1 0 idle 1\nend\n"
 
 -- ---- what they say
 
@@ -123,8 +126,18 @@ told = record {
 abbrev pub told_text : List ℕ
 told_text = journal_text ++ spread_text ++ turns_text
 
+-- of two callers the first expands it, and the second finds it idle
+abbrev pub both_told : Report
+both_told = record told { turns = record { turns = 1; marks = (mark.Done 0 ∷ []) ∷ (mark.Idle 1 ∷ []) ∷ [] } }
+
+abbrev pub both_text : List ℕ
+both_text = journal_text ++ spread_text ++ two_turns_text
+
 abbrev pub checked_text : List ℕ
 checked_text = codes "amoebot 1\nprogram\nguard off\naction out\nwhen contracted\nmove expand head 0\nend\n"
+
+abbrev pub line_text : List ℕ
+line_text = codes "amoebot 1\nprogram\nguard off\naction out\nwhen contracted and free head 0\nmove expand head 0\naction follow_up\nwhen expanded\nmove contract tail\nend\n"
 
 -- the end of an empty input is where the header is needed
 abbrev pub empty_refused : Refusal
@@ -133,15 +146,17 @@ empty_refused = record { line = 1; kind = kind.Truncated }
 pub record SmallAnswers : Type 0 where
   pub no_words : IsOwed (command_of []) nothing status.Words None usage_line
   pub two_words : IsOwed (command_of (codes "run" ∷ codes "now" ∷ [])) nothing status.Words None usage_line
+  pub other_name : IsOwed (command_of (codes "show" ∷ codes "Line" ∷ [])) nothing status.Words None usage_line
   pub fails : IsOwed (command_of (codes "run" ∷ [])) (up_to_fault (codes "amoe")) status.ReadFault None (codes "read fault\n")
   pub long : (bytes : List ℕ) → IsOwed (command_of (codes "check" ∷ [])) (above bytes) (status.Refused too_long) None (codes "refused 0 TooLong\n")
   pub empty : IsOwed (command_of (codes "interleave" ∷ [])) (whole []) (status.Refused empty_refused) None (codes "refused 1 Truncated\n")
   pub run : IsOwed (command_of (codes "run" ∷ [])) (whole with_list) status.Done (Some told) told_text
-  -- two lists wait for threads
-  pub later : IsOwed (command_of (codes "run" ∷ [])) (whole with_two_lists) (status.Refused not_yet) None (codes "refused 0 NotYet\n")
+  -- one of the reports that may be told of two lists
+  pub two_lists : IsOwed (command_of (codes "run" ∷ [])) (whole with_two_lists) status.Done (Some both_told) both_text
   pub interleave : IsOwed (command_of (codes "interleave" ∷ [])) (whole with_schedule) status.Done (Some told) told_text
   pub agrees : IsOwed (command_of (codes "replay" ∷ [])) (whole (with_shape ++ journal_text ++ spread_text)) status.Done None (codes "agrees 1\n")
   -- the final shape is that of the start
   pub differs : IsOwed (command_of (codes "replay" ∷ [])) (whole (with_shape ++ journal_text ++ still_text)) (status.Differs 1) None (codes "differs 1\n")
   pub check : IsOwed (command_of (codes "check" ∷ [])) (whole program_text) status.Done None checked_text
   pub measure : IsOwed (command_of (codes "measure" ∷ [])) (whole with_nobody) status.Done None (codes "bots 0\nconnected yes\nhexagon no\n")
+  pub show : IsOwed (command_of (codes "show" ∷ codes "line" ∷ [])) nothing status.Done None line_text

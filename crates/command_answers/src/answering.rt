@@ -1,33 +1,29 @@
-//! What a command answers to a whole input.
+//! What a command answers to a whole input, and what is prepared for a run.
 
 ghost use Rattle.std.specs.Prelude.{◌≡◌, ◌<◌, ◌≤◌, ◌+◌, ◌^◌, length, IfOk, IsSome, Some};
 ghost use Rattle.document_grammar.specs.Fitting.{Fits};
 ghost use Rattle.shape_files.specs.Views.{contents};
-ghost use Rattle.command_answers.specs.Answers.{IsAnswerTo, done_with, refused_with};
+ghost use Rattle.command_answers.specs.Answers.{IsAnswerTo, IsTaskOf, IsTaskTo, done_with, refused_with};
+ghost use Rattle.command_answers.specs.declared.command.Command.TheVariants.{Show};
 ghost use Rattle.command_answers.specs.Commands.{form_of};
 ghost use Rattle.command_answers.specs.OfMeasure.{last_of};
 ghost use Rattle.command_answers.specs.Owed.{IsOwed};
-ghost use Rattle.command_answers.specs.Reads.{whole};
+ghost use Rattle.command_answers.specs.Reads.{nothing};
 
-use crate::command::Command;
+use crate::command::DocumentCommand;
 use crate::status::Status;
 use action_eval::Runner;
 use amoebot_state::{NoMemory, World};
-use claim_core::Report;
+use claim_core::{Lists, Report, one_list_is_serial};
 use command_runs::{
     compare, print_agrees, print_check, print_differs, print_measures, print_report,
-    run_interleaved, run_serially,
+    run_interleaved,
 };
 use document_grammar::documents_fit;
 use shape_files::{Parts, read_sections};
+use shipped_programs::Shipped;
 use std::alloc::Global;
-use text_tokens::{Lines, ReadRefusal, Refusal, RefusalKind, Text};
-
-/// A document that waits for threads. It is refused on line 0, where no line of it is at fault.
-const NOT_YET: Refusal = Refusal {
-    line: 0,
-    kind: RefusalKind::NotYet,
-};
+use text_tokens::{Lines, ReadRefusal, Refusal, Text};
 
 /// What a command answers: how it ended, its report if it ran, and the text or line that is to be written.
 #[derive(Drop)]
@@ -37,31 +33,64 @@ pub struct Answer {
     pub text: Text,
 }
 
-/// What a command answers to a whole input. Without enough memory there is no answer.
-pub fn answer_input(alloc: Global, command: Command, bytes: &[u8]) -> Result<Answer, NoMemory>
+/// A run that is prepared: its decider, the world at its start, and its callers' lists.
+#[derive(Drop)]
+pub struct Prepared {
+    pub runner: Runner,
+    pub world: World,
+    pub lists: Lists,
+}
+
+/// What is to be done for a whole input.
+#[derive(Drop)]
+pub enum Task {
+    /// It is answered.
+    Answered(Answer),
+    /// It is a document of `run`, whose lists are to be run.
+    Run(Prepared),
+}
+
+/// What is to be done for a whole input of a command. Without enough memory that is not known.
+pub fn task_of(alloc: Global, command: DocumentCommand, bytes: &[u8]) -> Result<Task, NoMemory>
     requires { length bytes.now + 1 < 2 ^ 32 }
-    ensures { IfOk result (λ a. IsOwed (Some command) (whole bytes.now) a.status a.report a.text) }
+    ensures { IfOk result (IsTaskOf command bytes.now) }
 {
     documents_fit();
     match read_sections(alloc, bytes, command.form()) {
-        Ok(sections) => answer_document(alloc, command, sections.into_parts()),
-        Err(ReadRefusal::Refused(refusal)) => refuse(alloc, refusal),
+        Ok(sections) => task_of_document(alloc, command, sections.into_parts()),
+        Err(ReadRefusal::Refused(refusal)) => {
+            let answer = refuse(alloc, refusal)?;
+            Ok(Task::Answered(answer))
+        }
         Err(ReadRefusal::NoMemory) => Err(NoMemory),
     }
 }
 
-/// What it answers to a document of its form.
-fn answer_document(alloc: Global, command: Command, parts: Parts) -> Result<Answer, NoMemory>
+/// What is to be done for a document of the command's form.
+fn task_of_document(alloc: Global, command: DocumentCommand, parts: Parts) -> Result<Task, NoMemory>
     requires { Fits (form_of command) (contents parts) }
-    ensures { IfOk result (IsAnswerTo command (contents parts)) }
+    ensures { IfOk result (IsTaskTo command (contents parts)) }
 {
     match command {
-        Command::Run => answer_run(alloc, parts),
-        Command::Interleave => answer_interleave(alloc, parts),
-        Command::Replay => answer_replay(alloc, parts),
-        Command::Check => answer_check(alloc, parts),
-        Command::Measure => answer_measure(alloc, parts),
+        DocumentCommand::Run => Ok(Task::Run(prepare(parts))),
+        DocumentCommand::Interleave => Ok(Task::Answered(answer_interleave(alloc, parts)?)),
+        DocumentCommand::Replay => Ok(Task::Answered(answer_replay(alloc, parts)?)),
+        DocumentCommand::Check => Ok(Task::Answered(answer_check(alloc, parts)?)),
+        DocumentCommand::Measure => Ok(Task::Answered(answer_measure(alloc, parts)?)),
     }
+}
+
+/// What is answered to `show`, which reads nothing.
+pub fn answer_show(alloc: Global, program: Shipped) -> Result<Answer, NoMemory>
+    ensures { IfOk result (λ a. IsOwed (Some (Show program)) nothing a.status a.report a.text) }
+{
+    let shipped = program.program(alloc)?;
+    let text = print_check(alloc, shipped.program())?;
+    Ok(Answer {
+        status: Status::Done,
+        report: None,
+        text,
+    })
 }
 
 /// The answer that is the line of a refusal.
@@ -80,32 +109,34 @@ fn refuse(alloc: Global, refusal: Refusal) -> Result<Answer, NoMemory>
     })
 }
 
-/// Its lists are run, if there is at most one.
-fn answer_run(alloc: Global, parts: Parts) -> Result<Answer, NoMemory>
-    requires { Fits (form_of Command.Run) (contents parts) }
-    ensures { IfOk result (IsAnswerTo Command.Run (contents parts)) }
+/// Its run is prepared.
+fn prepare(parts: Parts) -> Prepared
+    requires { Fits (form_of DocumentCommand.Run) (contents parts) }
+    ensures { IsTaskTo DocumentCommand.Run (contents parts) (Task.Run result) }
 {
+    one_list_is_serial();
     let Parts {
         checked,
         world,
         lists,
         ..
     } = parts;
-    let lists = lists.unwrap();
-    if lists.callers() > 1 {
-        return refuse(alloc, NOT_YET);
-    }
     let checked = checked.unwrap();
-    let vars = checked.vars();
+    let world = world.unwrap();
+    let lists = lists.unwrap();
+    world.keeps();
     let runner = Runner::new(checked);
-    let report = run_serially(alloc, &runner, world.unwrap(), &lists)?;
-    answer_report(alloc, report, vars)
+    Prepared {
+        runner,
+        world,
+        lists,
+    }
 }
 
 /// The steps of its schedule are made.
 fn answer_interleave(alloc: Global, parts: Parts) -> Result<Answer, NoMemory>
-    requires { Fits (form_of Command.Interleave) (contents parts) }
-    ensures { IfOk result (IsAnswerTo Command.Interleave (contents parts)) }
+    requires { Fits (form_of DocumentCommand.Interleave) (contents parts) }
+    ensures { IfOk result (IsAnswerTo DocumentCommand.Interleave (contents parts)) }
 {
     let Parts {
         checked,
@@ -125,8 +156,8 @@ fn answer_interleave(alloc: Global, parts: Parts) -> Result<Answer, NoMemory>
 
 /// Its journal is compared with a run.
 fn answer_replay(alloc: Global, parts: Parts) -> Result<Answer, NoMemory>
-    requires { Fits (form_of Command.Replay) (contents parts) }
-    ensures { IfOk result (IsAnswerTo Command.Replay (contents parts)) }
+    requires { Fits (form_of DocumentCommand.Replay) (contents parts) }
+    ensures { IfOk result (IsAnswerTo DocumentCommand.Replay (contents parts)) }
 {
     let Parts {
         checked,
@@ -161,8 +192,8 @@ fn answer_replay(alloc: Global, parts: Parts) -> Result<Answer, NoMemory>
 
 /// Its program is printed.
 fn answer_check(alloc: Global, parts: Parts) -> Result<Answer, NoMemory>
-    requires { Fits (form_of Command.Check) (contents parts) }
-    ensures { IfOk result (IsAnswerTo Command.Check (contents parts)) }
+    requires { Fits (form_of DocumentCommand.Check) (contents parts) }
+    ensures { IfOk result (IsAnswerTo DocumentCommand.Check (contents parts)) }
 {
     let Parts { checked, .. } = parts;
     let text = print_check(alloc, checked.unwrap().program())?;
@@ -175,8 +206,8 @@ fn answer_check(alloc: Global, parts: Parts) -> Result<Answer, NoMemory>
 
 /// Its last shape is measured.
 fn answer_measure(alloc: Global, parts: Parts) -> Result<Answer, NoMemory>
-    requires { Fits (form_of Command.Measure) (contents parts) }
-    ensures { IfOk result (IsAnswerTo Command.Measure (contents parts)) }
+    requires { Fits (form_of DocumentCommand.Measure) (contents parts) }
+    ensures { IfOk result (IsAnswerTo DocumentCommand.Measure (contents parts)) }
 {
     let Parts {
         world,
@@ -204,7 +235,7 @@ fn last_shape(world: Option<World>, final_world: Option<World>) -> World
 }
 
 /// The answer that tells a report, where an amoebot has the values of so many variables.
-fn answer_report(alloc: Global, report: Report, vars: u8) -> Result<Answer, NoMemory>
+pub fn answer_report(alloc: Global, report: Report, vars: u8) -> Result<Answer, NoMemory>
     requires { vars ≤ 8 }
     ensures { IfOk result (λ a. a ≡ done_with vars report) }
 {

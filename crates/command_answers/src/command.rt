@@ -1,35 +1,45 @@
 ghost use Rattle.std.specs.Prelude.{◌≡◌, map};
 ghost use Rattle.std.specs.String.{string_bytes};
-ghost use Rattle.command_answers.specs.Commands.{command_of, commands, form_of, limit_of, named_in};
+ghost use Rattle.command_answers.specs.Commands.{command_of, form_of, limit_of, named_in, of_documents, of_two_words, shows};
 
 use document_grammar::Form;
+use shipped_programs::Shipped;
 
 /// What the program is to do.
 #[derive(Clone, Copy, Debug, PartialEq, Eq)]
 pub enum Command {
-    /// Runs the lists of a document.
+    /// Reads a document, and does something with it.
+    Document(DocumentCommand),
+    /// Writes a shipped program.
+    Show(Shipped),
+}
+
+/// What is to be done with a document.
+#[derive(Clone, Copy, Debug, PartialEq, Eq)]
+pub enum DocumentCommand {
+    /// Runs its lists.
     Run,
-    /// Makes the steps of a document's schedule, and then rounds.
+    /// Makes the steps of its schedule, and then rounds.
     Interleave,
-    /// Compares the journal and the final shape of a document with a run.
+    /// Compares its journal and its final shape with a run.
     Replay,
-    /// Writes the program of a document in its canonical form.
+    /// Writes its program in its canonical form.
     Check,
-    /// Writes the measures of a document's last shape.
+    /// Writes the measures of its last shape.
     Measure,
 }
 
-impl Command {
+impl DocumentCommand {
     /// The form of the command's document.
     pub fn form(self) -> Form
         ensures { result ≡ form_of self }
     {
         match self {
-            Command::Run => Form::Run,
-            Command::Interleave => Form::Interleave,
-            Command::Replay => Form::Replay,
-            Command::Check => Form::Check,
-            Command::Measure => Form::Measure,
+            DocumentCommand::Run => Form::Run,
+            DocumentCommand::Interleave => Form::Interleave,
+            DocumentCommand::Replay => Form::Replay,
+            DocumentCommand::Check => Form::Check,
+            DocumentCommand::Measure => Form::Measure,
         }
     }
 
@@ -38,8 +48,9 @@ impl Command {
         ensures { result ≡ limit_of (form_of self) }
     {
         match self {
-            Command::Run | Command::Interleave | Command::Check => 1_048_576,
-            Command::Replay | Command::Measure => 134_217_728,
+            DocumentCommand::Run | DocumentCommand::Interleave | DocumentCommand::Check =>
+                1_048_576,
+            DocumentCommand::Replay | DocumentCommand::Measure => 134_217_728,
         }
     }
 }
@@ -50,19 +61,39 @@ pub fn command_of(words: &[String]) -> Option<Command>
 {
     match words {
         [word] => of_word(word.as_str()),
+        [word, other] => of_two_words(word.as_str(), other.as_str()),
         _ => None,
     }
 }
 
 fn of_word(word: &str) -> Option<Command>
-    ensures { result ≡ named_in commands word.now }
+    ensures { result ≡ named_in of_documents word.now }
+{
+    let command = match word {
+        "run" => DocumentCommand::Run,
+        "interleave" => DocumentCommand::Interleave,
+        "replay" => DocumentCommand::Replay,
+        "check" => DocumentCommand::Check,
+        "measure" => DocumentCommand::Measure,
+        _ => return None,
+    };
+    Some(Command::Document(command))
+}
+
+fn of_two_words(word: &str, other: &str) -> Option<Command>
+    ensures { result ≡ of_two_words word.now other.now }
 {
     match word {
-        "run" => Some(Command::Run),
-        "interleave" => Some(Command::Interleave),
-        "replay" => Some(Command::Replay),
-        "check" => Some(Command::Check),
-        "measure" => Some(Command::Measure),
+        "show" => of_name(other),
         _ => None,
+    }
+}
+
+fn of_name(name: &str) -> Option<Command>
+    ensures { result ≡ named_in shows name.now }
+{
+    match Shipped::named(name) {
+        Some(program) => Some(Command::Show(program)),
+        None => None,
     }
 }

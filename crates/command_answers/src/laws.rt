@@ -1,6 +1,6 @@
 //! What holds of the answers. The functions do nothing: their clauses are the laws.
 
-ghost use Rattle.command_answers.specs.Laws.{CommandIsItsWord, DocumentsHaveOutcomes, OwedIsOne, ReportsAreOfDocuments, ReportsAreOfTurns};
+ghost use Rattle.command_answers.specs.Laws.{CommandIsItsWords, DocumentsHaveOutcomes, OwedIsOne, ReportsAreOfDocuments, ReportsAreOfTurns};
 ghost use Rattle.command_answers.specs.Samples.{SmallAnswers};
 
 use claim_core::{one_list_is_serial, reached_is_good};
@@ -10,12 +10,13 @@ use command_runs::{
 };
 use document_grammar::documents_are_decided;
 
-/// The words are a command exactly where they are its word alone.
-pub fn command_is_its_word()
-    ensures { CommandIsItsWord }
+/// The words are a command exactly where they are its words.
+pub fn command_is_its_words()
+    ensures { CommandIsItsWords }
 {}
 
-/// For a command and what the input came to, at most one status, one report and one text is owed.
+/// For a command and what the input came to, at most one status is owed. Where the input decides what is told, at most one report and one
+/// text is owed: but for `run` of two lists or more.
 pub fn owed_is_one()
     ensures { OwedIsOne }
 {
@@ -26,7 +27,7 @@ pub fn owed_is_one()
     measure_text_is_one();
 }
 
-/// For a document of the command's form it is done; or, for `replay`, the journal differs; or, for `run`, there are two lists or more.
+/// For a document of the command's form it is done; or, for `replay`, the journal differs.
 pub fn documents_have_outcomes()
     ensures { DocumentsHaveOutcomes }
 {
@@ -40,6 +41,7 @@ pub fn reports_are_of_documents()
     ensures headline { ReportsAreOfDocuments }
 {
     good_stays_connected();
+    one_list_is_serial();
 }
 
 /// For each status that an input can owe, a call that owes it.

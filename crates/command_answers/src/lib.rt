@@ -6,10 +6,10 @@ mod command;
 mod laws;
 mod status;
 
-pub use answering::{Answer, answer_input};
-pub use command::{Command, command_of};
+pub use answering::{Answer, Prepared, Task, answer_report, answer_show, task_of};
+pub use command::{Command, DocumentCommand, command_of};
 pub use laws::{
-    command_is_its_word, documents_have_outcomes, owed_is_one, reports_are_of_documents,
+    command_is_its_words, documents_have_outcomes, owed_is_one, reports_are_of_documents,
     small_answers,
 };
 pub use status::Status;

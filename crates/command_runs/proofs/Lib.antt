@@ -1,10 +1,7 @@
 pub mod Interleavings
-pub mod Reaching
 pub mod Replays
 pub mod Reported
 pub mod Samples
 pub mod Scheduled
-pub mod SerialReports
 pub mod SmallRow
-pub mod Underway
 pub mod Measures

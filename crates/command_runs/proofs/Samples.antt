@@ -1,28 +1,27 @@
 -- The commands on a small shape, step by step.
-use Rattle.std.proofs.Common.{◌≡◌, ◌<◌, ℕ, zero, suc, List, [], ◌∷◌, length, get_or, refl, ap, sym, subst, arith}
+use Rattle.std.proofs.Common.{◌≡◌, ◌<◌, ℕ, zero, suc, List, [], ◌∷◌, length, replicate, get_or, refl, ap, sym, subst, arith}
 use Rattle.std.specs.Fmt.{digits}
 use Rattle.std.specs.List.{All}
 use Rattle.std.proofs.lemmas.List.Elements.{All-nil, All-cons}
 use Rattle.amoebot_state.specs.Configs.{Config, occupant}
 use Rattle.amoebot_state.specs.Steps.{Step, Run}
-use Rattle.serial_model.specs.declared.Turned.TheVariants as turned
 use Rattle.claim_core.specs.declared.marks.Mark.TheVariants as mark
 use Rattle.claim_core.specs.declared.state.Caller.{Caller}
 use Rattle.claim_core.specs.declared.state.Phase.TheVariants.{Releasing, Ended}
-use Rattle.claim_core.specs.Machine.{State}
+use Rattle.claim_core.specs.declared.report.Report.{Report}
+use Rattle.claim_core.specs.Machine.{Setup, State, caller, after}
 use Rattle.claim_core.specs.Turns.{IsList}
 use Rattle.claim_core.specs.Soundness.{IsSetup}
-use Rattle.claim_core.specs.Reached.{HaveEnded, IsReportOf}
-use Rattle.claim_core.specs.SerialRuns.{Left, SerialRun}
+use Rattle.claim_core.specs.Reached.{HaveEnded, IsReportOf, Reached}
+use Rattle.claim_core.specs.Laws.{ReachedIsGood, OneListIsSerial}
 use Rattle.command_runs.specs.SmallRow.{node, two_beside, expanded, one_refused}
 use Rattle.command_runs.proofs.SmallRow.{IsThereIn, one_id, may_run, valid, same_ids, reached, good}
 use Rattle.command_runs.specs.Reports.{setup}
-use Rattle.command_runs.specs.Laws.{OneListIsReached}
+use Rattle.command_runs.specs.Run.{IsRunReport}
 use Rattle.command_runs.specs.Interleave.{at_round, IsScheduled}
 use Rattle.command_runs.specs.Replay.{DiffersAt, at_entry, at_end}
 use Rattle.command_runs.proofs.Measures.{nobody_is_measured}
 use Rattle.command_runs.specs.Samples.{start, spread, decides, one_list, expansion, one_expanded, schedule, SmallCommands}
-use Rattle.command_runs.proofs.SerialReports.{serial_run_is_reported}
 
 -- the second amoebot expands
 step : Step decides start expansion spread
@@ -34,23 +33,6 @@ step =
 run : Run decides start (expansion ∷ []) spread
 run = (spread, step, refl)
 
--- after no turn, and after one
-abbrev first : Left
-first = record { marks = []; entries = []; world = start }
-
-abbrev second : Left
-second = record { marks = mark.Done 0 ∷ []; entries = expansion ∷ []; world = spread }
-
-abbrev third : Left
-third = record { marks = mark.Done 0 ∷ mark.Idle 1 ∷ []; entries = expansion ∷ []; world = spread }
-
-serial : SerialRun decides start one_list 2 third
-serial = (
-  second,
-  (first, refl, record { turned = turned.Done expansion; made = (step, record { by = refl; at = refl; of = refl }); marks = refl; entries = refl }),
-  record { turned = turned.Idle; made = (refl, refl); marks = refl; entries = refl },
-)
-
 one_may_run : IsSetup (setup decides start one_list)
 one_may_run = record {
   valid = valid;
@@ -59,6 +41,26 @@ one_may_run = record {
   bots = All-cons (All (IsThereIn start)) (1 ∷ []) [] (All-cons (IsThereIn start) 1 [] refl (All-nil (IsThereIn start))) (All-nil (All (IsThereIn start)));
   touches = may_run.touches;
   leads = may_run.leads;
+}
+
+abbrev HasEnded : Caller → Type 0
+HasEnded k = k.phase ≡ Ended
+
+-- the only caller's steps, and more than it needs to end
+abbrev steps : List ℕ
+steps = replicate 30 0
+
+abbrev last_caller : Caller
+last_caller = caller 2 Ended [] (mark.Done 0 ∷ mark.Idle 1 ∷ [])
+
+only_caller : (after (setup decides start one_list) steps).callers ≡ last_caller ∷ []
+only_caller = refl
+
+one_reached : Reached (setup decides start one_list) one_expanded
+one_reached = record {
+  steps = steps;
+  ended = subst (All HasEnded) (sym only_caller) (All-cons HasEnded last_caller [] refl (All-nil HasEnded));
+  left = record { first = refl; entries = refl; world = record { rest = refl; size = refl; ids = same_ids; values = refl }; marks = refl };
 }
 
 -- where the second caller frees its cells, not all have ended
@@ -74,9 +76,6 @@ first_round (suc zero) lt = frees (at_round two_beside schedule 1) _ _ refl refl
 first_round (suc (suc zero)) lt = frees (at_round two_beside schedule 2) _ _ refl refl
 first_round (suc (suc (suc zero))) lt = frees (at_round two_beside schedule 3) _ _ refl refl
 first_round (suc (suc (suc (suc n)))) lt = absurd (omega arith)
-
-abbrev HasEnded : Caller → Type 0
-HasEnded k = k.phase ≡ Ended
 
 have_ended : (s : State) (k j : Caller) → s.callers ≡ k ∷ j ∷ [] → k.phase ≡ Ended → j.phase ≡ Ended → HaveEnded s
 have_ended s k j are one other = subst (All HasEnded) (sym are) (All-cons HasEnded k (j ∷ []) one (All-cons HasEnded j [] other (All-nil HasEnded)))
@@ -96,10 +95,17 @@ no_step = at_entry 1 (record { entry = expansion; there = refl; world = spread; 
 other_shape : DiffersAt decides start (expansion ∷ []) start 1
 other_shape = at_end spread run (λ same. let e = ap (λ (c : Config). occupant c (node 2)) same in cc)
 
-pub small_commands : OneListIsReached → SmallCommands
+-- a report of `run` that is reached
+reported : ReachedIsGood → OneListIsSerial → (g : Setup) (report : Report) → IsSetup g → Reached g report → IsRunReport g.verdict g.world g.lists report
+reported goods serials g report ok reached =
+    let its_good = goods g ok report reached in
+    record { good = its_good; reached = reached; serial = λ few. serials g.verdict g.world g.lists report few its_good }
+
+pub small_commands : ReachedIsGood → OneListIsSerial → SmallCommands
 unfolding digits
-small_commands reaches = record {
-  run = serial_run_is_reported reaches decides start one_list one_expanded one_may_run (omega arith) refl refl refl serial;
+small_commands goods serials = record {
+  run = reported goods serials (setup decides start one_list) one_expanded one_may_run one_reached;
+  two_lists = reported goods serials two_beside one_refused may_run reached;
   text = refl;
   interleave = record { good = good; reached = reached; scheduled = scheduled };
   agrees = run;

@@ -10,8 +10,6 @@ use Rattle.claim_core.specs.declared.report.Report.{Report}
 use Rattle.claim_core.specs.Turns.{CallerLists}
 use Rattle.claim_core.specs.Good.{Good, IsWorldAt}
 use Rattle.claim_core.specs.Machine.{Setup}
-use Rattle.claim_core.specs.Soundness.{IsSetup}
-use Rattle.claim_core.specs.Reached.{Reached}
 use Rattle.action_tree.specs.Trees.{Program}
 use Rattle.action_meaning.specs.Verdicts.{verdict_shown}
 use Rattle.command_runs.specs.Run.{IsRunText}
@@ -27,7 +25,7 @@ pub record SameReport (one two : Report) : Type 0 where
 
 -- a document of `run` with at most one list has at most one text
 abbrev pub RunTextIsOne : Type 0
-RunTextIsOne = (p : Program) (start : Config) (lists : CallerLists) (one two : Report) (text other : List ℕ) → IsRunText p start lists one text → IsRunText p start lists two other → SameReport one two × (text ≡ other)
+RunTextIsOne = (p : Program) (start : Config) (lists : CallerLists) (one two : Report) (text other : List ℕ) → length lists.ids ≤ 1 → IsRunText p start lists one text → IsRunText p start lists two other → SameReport one two × (text ≡ other)
 
 -- a schedule gives at most one report
 abbrev pub ScheduleHasOneReport : Type 0
@@ -36,10 +34,6 @@ ScheduleHasOneReport = (g : Setup) (schedule : List ℕ) (one two : Report) → 
 -- so a document of `interleave` has at most one text
 abbrev pub InterleaveTextIsOne : Type 0
 InterleaveTextIsOne = (p : Program) (start : Config) (lists : CallerLists) (schedule : List ℕ) (one two : Report) (text other : List ℕ) → IsInterleaveText p start lists schedule one text → IsInterleaveText p start lists schedule two other → SameReport one two × (text ≡ other)
-
--- a good report of at most one list, which says how many turns there are, is one that an interleaving gives
-abbrev pub OneListIsReached : Type 0
-OneListIsReached = (g : Setup) (report : Report) → IsSetup g → length g.lists.ids ≤ 1 → Good g.verdict g.world g.lists report → report.turns.turns ≡ g.lists.turns → Reached g report
 
 -- what agrees differs nowhere, and what differs does so at one place
 pub record ReplayIsDecided : Type 0 where

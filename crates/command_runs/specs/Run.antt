@@ -1,4 +1,4 @@
--- The command `run` on a document of at most one list.
+-- The command `run`.
 use Rattle.std.specs.Prelude.{◌≡◌, ◌≤◌, ℕ, List, length}
 use Rattle.amoebot_state.specs.declared.verdict.Verdict.{Verdict}
 use Rattle.amoebot_state.specs.Configs.{Config}
@@ -12,13 +12,12 @@ use Rattle.action_meaning.specs.Verdicts.{verdict_shown}
 use Rattle.claim_core.specs.Reached.{Reached}
 use Rattle.command_runs.specs.Reports.{setup, report_text}
 
--- the report is a good one, which an interleaving gives; and it is what the turns of the one list leave, one after another, each the
--- verdict on the world reached and none Busy
+-- the report is a good one, which an interleaving gives; and with at most one list it is what its turns leave, one after another, each
+-- the verdict on the world reached and none Busy
 pub record IsRunReport (f : Shown → Verdict) (start : Config) (lists : CallerLists) (report : Report) : Type 0 where
-  pub few : length lists.ids ≤ 1
   pub good : Good f start lists report
   pub reached : Reached (setup f start lists) report
-  pub serial : SerialRun f start lists (all_turns lists) (left_by report)
+  pub serial : length lists.ids ≤ 1 → SerialRun f start lists (all_turns lists) (left_by report)
 
 -- what the command writes where a document has this program, this shape and these lists: the text of such a report
 pub record IsRunText (p : Program) (start : Config) (lists : CallerLists) (report : Report) (text : List ℕ) : Type 0 where

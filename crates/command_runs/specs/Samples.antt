@@ -62,6 +62,8 @@ nobody = config_of row zeros []
 
 pub record SmallCommands : Type 0 where
   pub run : IsRunReport decides start one_list one_expanded
+  -- a run of two lists may leave what an interleaving of them leaves
+  pub two_lists : IsRunReport decides start two_beside.lists one_refused
   pub text : report_text 0 one_expanded ≡ its_text
   pub interleave : IsInterleaveReport decides start two_beside.lists schedule one_refused
   pub agrees : Agrees decides start (expansion ∷ []) spread

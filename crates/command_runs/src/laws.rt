@@ -1,13 +1,12 @@
 //! What holds of the commands. The functions do nothing: their clauses are the laws.
 
-ghost use Rattle.command_runs.specs.Laws.{GoodStaysConnected, InterleaveTextIsOne, MeasureTextIsOne, OneListIsReached, ReplayIsDecided, RunTextIsOne, ScheduleHasOneReport};
+ghost use Rattle.command_runs.specs.Laws.{GoodStaysConnected, InterleaveTextIsOne, MeasureTextIsOne, ReplayIsDecided, RunTextIsOne, ScheduleHasOneReport};
 ghost use Rattle.command_runs.specs.Samples.{SmallCommands};
 
 use action_meaning::guarded_runs_stay_connected;
 use amoebot_state::run_has_one_last;
 use claim_core::{
-    is_always_sound, one_list_is_serial, reached_is_good, rounds_are_enough,
-    serial_run_is_determined, state_has_one_report,
+    one_list_is_serial, reached_is_good, serial_run_is_determined, state_has_one_report,
 };
 use serial_model::{first_no_step_is_unique, run_has_only_steps};
 
@@ -24,17 +23,6 @@ pub fn interleave_text_is_one()
     ensures text { InterleaveTextIsOne }
 {
     state_has_one_report();
-}
-
-/// A good report of at most one list is one that an interleaving gives.
-pub fn one_list_is_reached()
-    ensures { OneListIsReached }
-{
-    is_always_sound();
-    rounds_are_enough();
-    reached_is_good();
-    one_list_is_serial();
-    serial_run_is_determined();
 }
 
 /// A journal that agrees differs nowhere, and one that differs does so at one place.
@@ -58,9 +46,10 @@ pub fn good_stays_connected()
     guarded_runs_stay_connected();
 }
 
-/// Reports of the commands on a small shape, and journals that agree and differ.
+/// Reports of the commands on a small shape, of one list and of two, and journals that agree and differ.
 pub fn small_commands()
     ensures { SmallCommands }
 {
-    one_list_is_reached();
+    reached_is_good();
+    one_list_is_serial();
 }

@@ -6,7 +6,7 @@ ghost use Rattle.std.specs.List.{All};
 ghost use Rattle.amoebot_state.specs.Refusals.{IsPlain};
 ghost use Rattle.claim_core.specs.Turns.{HaveBots};
 
-use crate::{compare, print_agrees, print_differs, print_report, run_interleaved, run_serially};
+use crate::{compare, print_agrees, print_differs, print_report, run_interleaved};
 use amoebot_state::{
     Bot, Cell, CellName, Change, Chir, Decider, End, Entry, Found, Moved, Patch, Port, Verdict,
     World,
@@ -184,40 +184,6 @@ fn text_of<D: Decider>(
 {
     let report = interleaved(alloc, decider, bots, lists, schedule)?;
     Ok(print_report(alloc, &report, vars)?)
-}
-
-#[test]
-fn an_amoebot_expands_and_then_is_idle(rt: HostRuntime) -> Result<(), Fail> {
-    let world = world_of(rt.alloc(), &[standing(2, 3, 0)])?;
-    let lists = lists_of(rt.alloc(), 2, world.bots(), &[&[0]])?;
-    assert!(rt; lists.callers() <= 1);
-    let report = run_serially(rt.alloc(), &Expander, world, &lists)?;
-    let text = print_report(rt.alloc(), &report, 0)?;
-    let expected = "journal\n\
-        entry 0 0 0 0 0 expand head 0 spot 3 3 0 body 0 3 3 2 3 0 +\n\
-        end\n\
-        final\n\
-        area 0 0 8 8\n\
-        bot 3 3 2 3 0 +\n\
-        end\n\
-        turns\n\
-        turn 0 0 done 0\n\
-        turn 0 1 idle 1\n\
-        end\n";
-    assert_eq!(rt; text.bytes(), expected.as_bytes());
-    Ok(())
-}
-
-#[test]
-fn without_a_list_nothing_happens(rt: HostRuntime) -> Result<(), Fail> {
-    let world = world_of(rt.alloc(), &[standing(2, 3, 0)])?;
-    let lists = lists_of(rt.alloc(), 5, world.bots(), &[])?;
-    assert!(rt; lists.callers() <= 1);
-    let report = run_serially(rt.alloc(), &Expander, world, &lists)?;
-    let text = print_report(rt.alloc(), &report, 0)?;
-    let expected = "journal\nend\nfinal\narea 0 0 8 8\nbot 2 3 2 3 0 +\nend\nturns\nend\n";
-    assert_eq!(rt; text.bytes(), expected.as_bytes());
-    Ok(())
 }
 
 /// Caller 0 has its body and seven nodes when caller 1 wins its body and finds (3, 3) held.

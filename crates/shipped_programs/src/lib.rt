@@ -7,7 +7,4 @@ mod hexagon;
 mod line;
 mod shipped;
 
-pub use shipped::{EROSION, HEXAGON, LINE, shipped_program, shipped_text};
-
-#[cfg(test)]
-mod tests;
+pub use shipped::{EROSION, HEXAGON, LINE, Shipped, shipped_program, shipped_text};

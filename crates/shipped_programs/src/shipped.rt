@@ -89,25 +89,42 @@ end
 
 /// A shipped program.
 #[derive(Clone, Copy, Debug, PartialEq, Eq)]
-pub(crate) enum Shipped {
+pub enum Shipped {
+    /// Amoebots gather in a hexagon round a seed.
     Hexagon,
+    /// Candidates give up until one is left, which leads.
     Erosion,
+    /// The amoebots of a row gather at the border of the area.
     Line,
 }
 
-/// The shipped program with a name.
-fn named(name: &str) -> Option<Shipped>
-    ensures some { IfSome result (λ s. name.now ≡ name_of s) }
-    ensures none { IfNone result ((s : Shipped) → name.now ≢ name_of s) }
-{
-    if name == "hexagon" {
-        Some(Shipped::Hexagon)
-    } else if name == "erosion" {
-        Some(Shipped::Erosion)
-    } else if name == "line" {
-        Some(Shipped::Line)
-    } else {
-        None
+impl Shipped {
+    /// The shipped program with a name; None exactly for another name than `hexagon`, `erosion` and `line`.
+    pub fn named(name: &str) -> Option<Shipped>
+        ensures some { IfSome result (λ s. name.now ≡ name_of s) }
+        ensures none { IfNone result ((s : Shipped) → name.now ≢ name_of s) }
+    {
+        if name == "hexagon" {
+            Some(Shipped::Hexagon)
+        } else if name == "erosion" {
+            Some(Shipped::Erosion)
+        } else if name == "line" {
+            Some(Shipped::Line)
+        } else {
+            None
+        }
+    }
+
+    /// The program, which keeps the rules on names and ranges. All of its lines are 0.
+    pub fn program(self, alloc: Global) -> Result<Checked, NoMemory>
+        ensures { IfOk result (λ program. program ≡ tree_of self) }
+    {
+        rows_are_derived();
+        match check(alloc, make(alloc, self)?) {
+            Ok(checked) => Ok(checked),
+            Err(ReadRefusal::NoMemory) => Err(NoMemory),
+            Err(ReadRefusal::Refused(_)) => unreachable!(),
+        }
     }
 }
 
@@ -116,7 +133,7 @@ pub fn shipped_text(name: &str) -> Option<&'static str>
     ensures some { IfSome result (λ text. (s : Shipped) × (name.now ≡ name_of s) × (text.now ≡ text_of s)) }
     ensures none { IfNone result ((s : Shipped) → name.now ≢ name_of s) }
 {
-    match named(name)? {
+    match Shipped::named(name)? {
         Shipped::Hexagon => Some(HEXAGON),
         Shipped::Erosion => Some(EROSION),
         Shipped::Line => Some(LINE),
@@ -128,21 +145,9 @@ pub fn shipped_program(alloc: Global, name: &str) -> Result<Option<Checked>, NoM
     ensures some { IfOk result (λ o. IfSome o (λ program. (s : Shipped) × (name.now ≡ name_of s) × (program ≡ tree_of s))) }
     ensures none { IfOk result (λ o. IfNone o ((s : Shipped) → name.now ≢ name_of s)) }
 {
-    match named(name) {
-        Some(shipped) => Ok(Some(checked(alloc, shipped)?)),
+    match Shipped::named(name) {
+        Some(shipped) => Ok(Some(shipped.program(alloc)?)),
         None => Ok(None),
-    }
-}
-
-/// The program, which keeps the rules on names and ranges.
-pub(crate) fn checked(alloc: Global, shipped: Shipped) -> Result<Checked, NoMemory>
-    ensures { IfOk result (λ program. program ≡ tree_of shipped) }
-{
-    rows_are_derived();
-    match check(alloc, make(alloc, shipped)?) {
-        Ok(checked) => Ok(checked),
-        Err(ReadRefusal::NoMemory) => Err(NoMemory),
-        Err(ReadRefusal::Refused(_)) => unreachable!(),
     }
 }
 

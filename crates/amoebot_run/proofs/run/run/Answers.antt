@@ -1,6 +1,6 @@
 use Rattle.std.proofs.Common.{◌≤◌, length, subst, sym}
 use Rattle.amoebot_run.specs.Endings.{limit_for}
-use Rattle.amoebot_run.proofs.Endings.{reported, told, one, served, no_command, at_read_fault, at_write_fault, without_memory}
+use Rattle.amoebot_run.proofs.Endings.{reported, told, one, one_unread, served, served_unread, no_command, at_read_fault, at_write_fault, without_memory}
 use Rattle.amoebot_run.proofs.Fronts.{reads_all}
 use Rattle.amoebot_run.proofs.run.run.Goals as goal
 
@@ -12,6 +12,12 @@ returns-clause-headline g c = told c.reports_are_of_documents.ensures.headline _
 
 pub returns-clause-determined : goal.returns-clause-determined
 returns-clause-determined g c = λ document s report text left few owes. one c.owed_is_one.ensures document s report text _ (reads_all g.S.Source.left g.S.Source.gives g.S.Source.fails g.S.Source.faults _ _ _ _ left few) _ _ _ owes c.end.ensures.ending
+
+pub returns-clause-determined_unread : goal.returns-clause-determined_unread
+returns-clause-determined_unread g c = λ s report text owes. one_unread c.owed_is_one.ensures s report text _ _ _ _ owes c.end.ensures.ending
+
+pub returns-clause-complete_unread : goal.returns-clause-complete_unread
+returns-clause-complete_unread g c = λ command is none. served_unread command _ _ _ is none c.end.ensures.ending
 
 pub returns-clause-words : goal.returns-clause-words
 returns-clause-words g c = no_command _ _ _ c.end.ensures.ending

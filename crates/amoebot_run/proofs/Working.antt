@@ -1,0 +1,59 @@
+-- What workers left is owed, and which calls hand their turns on.
+use Rattle.std.proofs.Common.{◌≡◌, ℕ, List, length, Option, Some, None, refl, ap, sym, subst}
+use Rattle.std.specs.Prelude.{IsSome, IfSome}
+use Rattle.std.proofs.lemmas.Bool.{false≢true}
+use Rattle.claim_core.specs.declared.report.Report.{Report}
+use Rattle.activation.specs.declared.turn.Turn.{Turn}
+use Rattle.command_runs.specs.Reports.{report_text}
+use Rattle.command_answers.specs.declared.answering.Answer.{Answer}
+use Rattle.command_answers.specs.declared.answering.Prepared.{Prepared}
+use Rattle.command_answers.specs.declared.answering.Task.TheVariants as task
+use Rattle.command_answers.specs.declared.command.Command.{Command}
+use Rattle.command_answers.specs.declared.command.Command.TheVariants.{Document}
+use Rattle.command_answers.specs.declared.command.DocumentCommand.{DocumentCommand}
+use Rattle.command_answers.specs.declared.command.DocumentCommand.TheVariants.{Run}
+use Rattle.command_answers.specs.declared.status.Status.{Status}
+use Rattle.command_answers.specs.declared.status.Status.TheVariants as status
+use Rattle.command_answers.specs.Answers.{IsTaskOf}
+use Rattle.command_answers.specs.Reads.{whole}
+use Rattle.command_answers.specs.Owed.{IsOwed}
+use Rattle.amoebot_run.specs.declared.run.Ended.{Ended}
+use Rattle.amoebot_run.specs.declared.run.Outcome.{Outcome}
+use Rattle.amoebot_run.specs.Endings.{IsWritten, all, front}
+use Rattle.amoebot_run.specs.Working.{IsWorked, AreOfReport, HasTurns, IsOutcomeOf, IsRunOf}
+
+-- a call that is not done, or whose command no workers work, has none
+pub no_turns : (c : Option Command) (s : Status) (report : Option Report) → (s ≡ status.Done → IsWorked c → ⊥) → HasTurns c s report None
+no_turns c s report never = record { exactly = ((λ some. absurd (false≢true some)), λ both. absurd (never both.0 both.1)); marked = tt }
+
+-- a call has the turns of what it has written
+pub turns_of : {K : Type 0} {w : K → Option (List ℕ)} {takes : K → List ℕ → K → Type 0} {fails : K → K → Type 0} {faults : K → ℕ} {old new : K} (c : Option Command) (s : Status) (report : Option Report) (turns : Option (List (List Turn))) (text : List ℕ) (ended : Ended)
+    → HasTurns c s report turns → IsWritten w takes fails faults old new s report turns text ended → HasTurns c ended.status ended.report ended.turns
+turns_of c s report turns text _ has (all writes) = has
+turns_of c s report turns text _ has (front rose writes) = no_turns c status.WriteFault None (λ done worked. cc)
+
+-- a call that was not done has none
+pub line_turns : {K : Type 0} {w : K → Option (List ℕ)} {takes : K → List ℕ → K → Type 0} {fails : K → K → Type 0} {faults : K → ℕ} {old new : K} (c : Option Command) (s : Status) (text : List ℕ) (ended : Ended)
+    → (s ≡ status.Done → ⊥) → IsWritten w takes fails faults old new s None None text ended → HasTurns c ended.status ended.report ended.turns
+line_turns c s text ended not written = turns_of c s None None text ended (no_turns c s None (λ done worked. not done)) written
+
+pub without_turns : (c : Option Command) (ended : Ended) → ended ≡ record { status = status.NoMemory; report = None; turns = None } → HasTurns c ended.status ended.report ended.turns
+without_turns c ended is = subst (λ (e : Ended). HasTurns c e.status e.report e.turns) (sym is) (no_turns c status.NoMemory None (λ done worked. cc))
+
+pub at_command : (one two : Option Command) {s : Status} {report : Option Report} {turns : Option (List (List Turn))} → one ≡ two → HasTurns one s report turns → HasTurns two s report turns
+at_command one two {s = s} {report = report} {turns = turns} e has = subst (λ (c : Option Command). HasTurns c s report turns) e has
+
+-- what is answered has none
+pub answered : (c : DocumentCommand) (bytes : List ℕ) (answer : Answer) → IsTaskOf c bytes (task.Answered answer) → IsOutcomeOf c bytes (record { answer = answer; turns = None })
+answered c bytes answer is = record { owed = is.0; turns = no_turns (Some (Document c)) answer.status answer.report (λ done worked. let e : Some (Document c) ≡ Some (Document Run) = worked in let same : c ≡ Run = cc in is.1 same done) }
+
+-- what workers left of a run that was prepared is owed, with its turns
+pub worked : (c : DocumentCommand) (bytes : List ℕ) (run : Prepared) (outcome : Outcome) → IsTaskOf c bytes (task.Run run) → IsRunOf run outcome → IsOutcomeOf c bytes outcome
+worked c bytes run outcome is ran = record {
+  owed = subst (λ (answer : Answer). IsOwed (Some (Document c)) (whole bytes) answer.status answer.report answer.text) (sym ran.told)
+      (subst (λ (d : DocumentCommand). IsOwed (Some (Document d)) (whole bytes) status.Done (Some ran.report) (report_text (length run.runner.vars) ran.report)) (sym is.0) (is.3.owed ran.report ran.good ran.reached));
+  turns = record {
+    exactly = ((λ some. (ap (λ (answer : Answer). answer.status) ran.told, ap (λ (d : DocumentCommand). Some (Document d)) is.0)), λ both. subst (λ (turns : Option (List (List Turn))). IsSome turns) (sym ran.there) refl);
+    marked = subst (λ (turns : Option (List (List Turn))). IfSome turns (AreOfReport outcome.answer.report)) (sym ran.there) (ran.report, ap (λ (answer : Answer). answer.report) ran.told, ran.marked);
+  };
+}

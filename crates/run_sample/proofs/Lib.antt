@@ -1,0 +1,10 @@
+pub mod Drawn
+pub mod Coming
+pub mod Moving
+pub mod Ids
+pub mod Squares
+pub mod Taken
+pub mod Near
+pub mod Laid
+pub mod Unique
+pub mod Worlds

@@ -1,0 +1,48 @@
+-- The world of a sample's amoebots is made.
+use Rattle.std.proofs.Common.{◌≡◌, ◌⊎◌, ℕ, List, get_or, true, ap, sym, ◌∙◌, subst, inl, inr, Option, Some, None}
+use Rattle.std.specs.Prelude.{IfSome}
+use Rattle.std.specs.List.{All}
+use Rattle.std.proofs.lemmas.List.{get_or-map}
+use Rattle.std.proofs.lemmas.List.Elements.{All-from_get_or}
+use Rattle.std.proofs.lemmas.Option.{none-some, slice_get_within}
+use Rattle.tri_lattice.specs.Extent.{Extent}
+use Rattle.tri_lattice.proofs.Boxes.{near_in}
+use Rattle.amoebot_state.specs.declared.bot.Bot.{Bot}
+use Rattle.amoebot_state.specs.declared.refusal.WorldRefusal.{WorldRefusal}
+use Rattle.amoebot_state.specs.declared.refusal.WorldRefusal.TheVariants.{NoMemory}
+use Rattle.amoebot_state.specs.Configs.{Config, blank, config_of, IsValid}
+use Rattle.amoebot_state.specs.Refusals.{IsPlain, IsFirstFault}
+use Rattle.amoebot_state.proofs.Faults.{valid_is_faultless}
+use Rattle.action_tree.specs.Trees.{Program}
+use Rattle.action_tree.specs.Samples as sample
+use Rattle.run_sample.specs.Sample.{sample_area, sample_maxes}
+use Rattle.run_sample.proofs.Laid.{is_area}
+
+pub are_plain : (bots : List Bot) → IsValid (config_of sample_area sample_maxes bots) → All IsPlain bots
+are_plain bots valid = All-from_get_or IsPlain bots blank (λ i lt.
+    let b = valid.each i (get_or bots i blank) (get_or-map Some bots i blank None lt) in
+    record { head = near_in sample_area (get_or bots i blank).head is_area b.head; tail = near_in sample_area (get_or bots i blank).tail is_area b.tail; rot = b.rot; eight = b.eight })
+
+not_refused : (bots : List Bot) (e : WorldRefusal) → IsValid (config_of sample_area sample_maxes bots) → IsFirstFault sample_area sample_maxes bots e → ⊥
+not_refused bots e valid fault =
+    let lt = slice_get_within bots fault.place fault.bot fault.there in
+    none-some e (sym (valid_is_faultless sample_area sample_maxes bots valid fault.place fault.bot lt fault.there) ∙ fault.fault)
+
+-- so what it is refused for is memory
+pub memory_wanted : (a : Extent) (maxes : List ℕ) (bots : List Bot) (e : WorldRefusal) → a ≡ sample_area → maxes ≡ sample_maxes → IsValid (config_of sample_area sample_maxes bots) → (e ≡ NoMemory) ⊎ IsFirstFault a maxes bots e → e ≡ NoMemory
+memory_wanted a maxes bots e area most valid (inl is) = is
+memory_wanted a maxes bots e area most valid (inr fault) = absurd (not_refused bots e valid (subst (λ (z : Extent × List ℕ). IsFirstFault z.0 z.1 bots e) (λ i. (area i, most i)) fault))
+
+-- the same program with its guard on
+with_guard : Program → Program
+with_guard p = record p { guard = true }
+
+pub guarded : (p q : Program) → p ≡ sample.hexagon → q ≡ record p { guard = true } → q ≡ record sample.hexagon { guard = true }
+unfolding with_guard
+guarded p q is set = set ∙ ap with_guard is
+
+pub world_is : (w : Config) (a : Extent) (maxes : List ℕ) (bots : List Bot) → w ≡ config_of a maxes bots → a ≡ sample_area → maxes ≡ sample_maxes → w ≡ config_of sample_area sample_maxes bots
+world_is w a maxes bots is area most = is ∙ ap (λ (x : Extent). config_of x maxes bots) area ∙ ap (λ (m : List ℕ). config_of sample_area m bots) most
+
+pub area_is : (o : Option Extent) (a : Extent) → IfSome o (λ x. x ≡ sample_area) → o ≡ Some a → a ≡ sample_area
+area_is o a value is = subst (λ (x : Option Extent). IfSome x (λ y. y ≡ sample_area)) is value

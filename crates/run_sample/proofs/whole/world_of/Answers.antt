@@ -1,0 +1,11 @@
+use Rattle.run_sample.proofs.Worlds.{are_plain, memory_wanted, world_is}
+use Rattle.run_sample.proofs.whole.world_of.Goals as goal
+
+pub new-requires-clause-plain : goal.new-requires-clause-plain
+new-requires-clause-plain c = are_plain c.args.bots.now c.requires.valid
+
+pub wanting-requires : goal.wanting-requires
+wanting-requires c = memory_wanted c.area.result c.args.maxes c.args.bots.now c.in-Err.refusal c.area.ensures c.requires.maxes c.requires.valid c.in-Err.ensures.fault
+
+pub returns-in-Ok : goal.returns-in-Ok
+returns-in-Ok c = world_is c.in-Ok.world c.area.result c.args.maxes c.args.bots.now c.in-Ok.ensures.value c.area.ensures c.requires.maxes

@@ -1,0 +1,19 @@
+-- What follows from the definitions alone.
+use Rattle.std.specs.Prelude.{◌≡◌, ℕ, List, [], ◌∷◌}
+use Rattle.tri_lattice.specs.declared.node.Node.{Node}
+use Rattle.amoebot_state.specs.declared.bot.Bot.{Bot}
+use Rattle.run_sample.specs.declared.whole.Sample.{Sample}
+use Rattle.run_sample.specs.Whole.{IsSample}
+use Rattle.run_sample.specs.Sample.{Placed, IsFirstEmpty, bot_on, square_node, seeded, drawn}
+
+-- at most one node is the first empty one
+abbrev pub FirstEmptyIsUnique : Type 0
+FirstEmptyIsUnique = (bots : List Bot) (from : Node) (d : ℕ) (u v : Node) → IsFirstEmpty bots from d u → IsFirstEmpty bots from d v → u ≡ v
+
+-- a seed has at most one sample
+abbrev pub SampleIsUnique : Type 0
+SampleIsUnique = (seed : ℕ) (one two : Sample) → IsSample seed one → IsSample seed two → (one.checked ≡ two.checked) × (one.world ≡ two.world) × (one.lists ≡ two.lists)
+
+-- the first two amoebots of seed 1 are turned by 0 and by 2
+abbrev pub FirstOfSeedOne : Type 0
+FirstOfSeedOne = Placed 1 (bot_on 0 (square_node 0) 0 ∷ bot_on 1 (square_node 1) 2 ∷ []) (drawn (drawn (seeded 1)))

@@ -1,0 +1,4 @@
+pub mod Sample
+pub mod Callers
+pub mod Whole
+pub mod Laws

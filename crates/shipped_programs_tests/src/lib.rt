@@ -1,0 +1,5 @@
+//! Tests of `shipped_programs`: its trees beside its texts.
+#![tactic(auto)]
+
+#[cfg(test)]
+mod tests;
