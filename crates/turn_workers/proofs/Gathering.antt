@@ -35,7 +35,7 @@ empty (x ∷ xs) none = absurd (omega (arith, none))
 not_none : {A : Type 0} (o : Option A) → o ≡ None → IsSome o → ⊥
 not_none o e some = let f = ap is_some e in absurd (cc)
 
-All-push : {A : Type 0} (P : A → Type 0) (xs : List A) (x : A) → All P xs → P x → All P (xs ++ x ∷ [])
+pub All-push : {A : Type 0} (P : A → Type 0) (xs : List A) (x : A) → All P xs → P x → All P (xs ++ x ∷ [])
 All-push P [] x all last zero d lt = last
 All-push P [] x all last (suc k) d lt = absurd (omega (arith, lt))
 All-push P (y ∷ xs) x all last zero d lt = all zero d (omega arith)
