@@ -1,7 +1,7 @@
-use shipped_programs::{shipped_program, shipped_text};
 use action_parser::parse_program;
 use action_print::print_program;
 use action_tree::Program;
+use shipped_programs::{shipped_program, shipped_text};
 use std::alloc::Global;
 use std::process::Abort;
 use text_tokens::{Text, Tokens};
