@@ -1,0 +1,122 @@
+ghost use Rattle.std.specs.Prelude.{◌≡◌, map, is_some, IfOk, IsSome, OnOk};
+ghost use Rattle.std.specs.List.{All};
+ghost use Rattle.claim_rule.specs.Seating.{AreOf};
+ghost use Rattle.claim_rule.specs.Tokens.{IsOf, number_in};
+
+use crate::fixtures::{Marker, field_of, is_entry, lists_of, standing, turn_of, world_of};
+use activation::{NoGate, Turn};
+use amoebot_state::World;
+use claim_core::{Core, Journal, Lists, Marks};
+use claim_rule::{Field, Seat, Seats};
+use std::process::Abort;
+use std::sync::Wait;
+use std::test::Fail;
+
+/// The answer's mark is the one that is expected of its turn.
+fn is_marked(rt: &impl Abort, expected: &Marks, answer: &Turn) -> Result<(), Fail> {
+    let caller = answer.caller();
+    let turn = answer.turn();
+    if caller >= expected.callers() || turn >= expected.count(caller) {
+        return Err(Fail::from("no mark"));
+    }
+    assert_eq!(rt; answer.mark(), expected.mark(caller, turn));
+    Ok(())
+}
+
+/// Makes all turns of the seat, with the marks that are expected.
+fn turns_of<R: Wait + Abort>(
+    rt: &R,
+    field: &Field<'_, Marker>,
+    lists: &Lists,
+    expected: &Marks,
+    mut seat: Seat<Marker>,
+) -> Result<Seat<Marker>, Fail>
+    requires of { IsOf field.now seat }
+    requires lists { field.now.terms.lists ≡ lists.now }
+    ensures of { IfOk result (λ after. IsOf field.now after) }
+    ensures same { IfOk result (λ after. number_in after ≡ number_in seat) }
+{
+    for _turn in 0..lists.turns() {
+        let (after, answer) = turn_of(rt, field, lists, &NoGate, seat)?;
+        is_marked(rt, expected, &answer)?;
+        seat = after;
+    }
+    assert_eq!(rt; seat.next_turn(), lists.turns());
+    Ok(seat)
+}
+
+/// The callers make all their turns, one caller after another, and all seats are given back.
+fn after_turns<R: Wait + Abort>(
+    rt: &R,
+    field: &Field<'_, Marker>,
+    lists: &Lists,
+    expected: &Marks,
+    seats: &mut Seats<Marker>,
+    callers: u8,
+) -> Result<(), Fail>
+    requires of { AreOf field.now seats.old }
+    requires lists { field.now.terms.lists ≡ lists.now }
+    ensures of { OnOk result (AreOf field.now seats.new) }
+    ensures there { OnOk result (map is_some seats.new.seats ≡ map is_some seats.old.seats) }
+{
+    match seats.take() {
+        None => Ok(()),
+        Some(seat) => {
+            if callers == 0 {
+                return Err(Fail::from("one seat more"));
+            }
+            let seat = turns_of(rt, field, lists, expected, seat)?;
+            after_turns(rt, field, lists, expected, seats, callers - 1)?;
+            seats.give(seat);
+            Ok(())
+        }
+    }
+}
+
+/// What the field leaves once so many callers have made all their turns.
+fn closed<R: Wait + Abort>(
+    rt: &R,
+    field: Field<'_, Marker>,
+    lists: &Lists,
+    expected: &Marks,
+    mut seats: Seats<Marker>,
+    callers: u8,
+) -> Result<(World, Journal), Fail>
+    requires of { AreOf field seats }
+    requires lists { field.terms.lists ≡ lists.now }
+    requires all { All (λ seat. IsSome seat) seats.seats }
+{
+    after_turns(rt, &field, lists, expected, &mut seats, callers)?;
+    Ok(field.close(seats))
+}
+
+#[test]
+fn four_callers_leave_what_the_machine_does_by_the_same_steps(rt: HostRuntime) -> Result<(), Fail> {
+    let alloc = rt.alloc();
+    let bots = &[standing(2, 3), standing(3, 3), standing(6, 6)];
+    let world = world_of(alloc, 10, 10, bots)?;
+    let ids: &[&[u16]] = &[&[0], &[1, 0], &[0, 2], &[2]];
+    let lists = lists_of(alloc, 2, &world, ids)?;
+    let mut core = Core::make(alloc, &Marker, world.copy(alloc)?, &lists)?;
+    for caller in 0u8..4 {
+        for _step in 0..80 {
+            core.step(caller);
+        }
+    }
+    if !core.ended() {
+        return Err(Fail::from("a caller has turns left"));
+    }
+    let report = core.report();
+    let (field, seats) = field_of(alloc, &Marker, world, &lists)?;
+    let (last, journal) = closed(&rt, field, &lists, &report.turns, seats, 4)?;
+    assert!(rt; last.same(&report.world));
+    assert!(rt; journal.first().same(report.journal.first()));
+    assert_eq!(rt; journal.entries().len(), 3);
+    let [one, two, three] = journal.entries() else {
+        return Err(Fail::from("three entries"));
+    };
+    is_entry(&rt, one, 0, 0, 0);
+    is_entry(&rt, two, 1, 0, 1);
+    is_entry(&rt, three, 2, 1, 2);
+    Ok(())
+}
