@@ -7,6 +7,7 @@ pub mod Shows
 pub mod Looks
 pub mod Marking
 pub mod Giving
+pub mod Places
 pub mod Takings
 pub mod Commits
 pub mod Activating
