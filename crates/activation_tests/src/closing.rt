@@ -1,4 +1,4 @@
-ghost use Rattle.std.specs.Prelude.{◌≡◌, map, is_some, IfOk, IsSome, OnOk};
+ghost use Rattle.std.specs.Prelude.{◌≡◌, ◌≤◌, length, map, is_some, IfOk, IsSome, OnOk};
 ghost use Rattle.std.specs.List.{All};
 ghost use Rattle.claim_rule.specs.Seating.{AreOf};
 ghost use Rattle.claim_rule.specs.Tokens.{IsOf, number_in};
@@ -11,6 +11,17 @@ use claim_rule::{Field, Seat, Seats};
 use std::process::Abort;
 use std::sync::Wait;
 use std::test::Fail;
+
+/// Each of so many callers makes the steps of all its turns, one caller after another. A turn has at most twenty.
+fn step_each(core: &mut Core<'_, Marker>, callers: u8)
+    requires { callers ≤ length core.old.state.callers }
+{
+    for caller in 0..callers {
+        for _step in 0..40 {
+            core.step(caller);
+        }
+    }
+}
 
 /// The answer's mark is the one that is expected of its turn.
 fn is_marked(rt: &impl Abort, expected: &Marks, answer: &Turn) -> Result<(), Fail> {
@@ -98,11 +109,7 @@ fn four_callers_leave_what_the_machine_does_by_the_same_steps(rt: HostRuntime) -
     let ids: &[&[u16]] = &[&[0], &[1, 0], &[0, 2], &[2]];
     let lists = lists_of(alloc, 2, &world, ids)?;
     let mut core = Core::make(alloc, &Marker, world.copy(alloc)?, &lists)?;
-    for caller in 0u8..4 {
-        for _step in 0..80 {
-            core.step(caller);
-        }
-    }
+    step_each(&mut core, 4);
     if !core.ended() {
         return Err(Fail::from("a caller has turns left"));
     }

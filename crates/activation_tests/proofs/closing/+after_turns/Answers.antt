@@ -1,4 +1,4 @@
-use Rattle.activation_tests.proofs.Seats.{is_out, is_back}
+use Rattle.claim_rule.proofs.Places.{is_out, is_back}
 use Rattle.activation_tests.proofs.closing.+after_turns.Goals as goal
 
 pub give-requires-clause-out : goal.give-requires-clause-out

@@ -1,4 +1,4 @@
-use Rattle.activation_tests.proofs.Places.{all_there}
+use Rattle.claim_rule.proofs.Places.{all_there}
 use Rattle.activation_tests.proofs.turns.closed.Goals as goal
 
 pub close-requires-clause-all : goal.close-requires-clause-all

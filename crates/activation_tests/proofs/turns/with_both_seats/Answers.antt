@@ -1,5 +1,5 @@
 use Rattle.std.proofs.Common.{refl}
-use Rattle.activation_tests.proofs.Seats.{is_out, is_back}
+use Rattle.claim_rule.proofs.Places.{is_out, is_back}
 use Rattle.activation_tests.proofs.turns.with_both_seats.Goals as goal
 
 pub give-requires-clause-out : goal.give-requires-clause-out
