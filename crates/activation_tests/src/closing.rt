@@ -1,38 +1,17 @@
-ghost use Rattle.std.specs.Prelude.{◌≡◌, ◌≤◌, length, map, is_some, IfOk, IsSome, OnOk};
+ghost use Rattle.std.specs.Prelude.{◌≡◌, map, is_some, IfOk, IsSome, OnOk};
 ghost use Rattle.std.specs.List.{All};
 ghost use Rattle.claim_rule.specs.Seating.{AreOf};
 ghost use Rattle.claim_rule.specs.Tokens.{IsOf, number_in};
 
 use crate::fixtures::{Marker, field_of, is_entry, lists_of, standing, turn_of, world_of};
-use activation::{NoGate, Turn};
+use crate::machine::{is_left, is_marked, machine_leaves};
+use activation::NoGate;
 use amoebot_state::World;
-use claim_core::{Core, Journal, Lists, Marks};
+use claim_core::{Journal, Lists, Marks};
 use claim_rule::{Field, Seat, Seats};
 use std::process::Abort;
 use std::sync::Wait;
 use std::test::Fail;
-
-/// Each of so many callers makes the steps of all its turns, one caller after another. A turn has at most twenty.
-fn step_each(core: &mut Core<'_, Marker>, callers: u8)
-    requires { callers ≤ length core.old.state.callers }
-{
-    for caller in 0..callers {
-        for _step in 0..40 {
-            core.step(caller);
-        }
-    }
-}
-
-/// The answer's mark is the one that is expected of its turn.
-fn is_marked(rt: &impl Abort, expected: &Marks, answer: &Turn) -> Result<(), Fail> {
-    let caller = answer.caller();
-    let turn = answer.turn();
-    if caller >= expected.callers() || turn >= expected.count(caller) {
-        return Err(Fail::from("no mark"));
-    }
-    assert_eq!(rt; answer.mark(), expected.mark(caller, turn));
-    Ok(())
-}
 
 /// Makes all turns of the seat, with the marks that are expected.
 fn turns_of<R: Wait + Abort>(
@@ -108,17 +87,11 @@ fn four_callers_leave_what_the_machine_does_by_the_same_steps(rt: HostRuntime) -
     let world = world_of(alloc, 10, 10, bots)?;
     let ids: &[&[u16]] = &[&[0], &[1, 0], &[0, 2], &[2]];
     let lists = lists_of(alloc, 2, &world, ids)?;
-    let mut core = Core::make(alloc, &Marker, world.copy(alloc)?, &lists)?;
-    step_each(&mut core, 4);
-    if !core.ended() {
-        return Err(Fail::from("a caller has turns left"));
-    }
-    let report = core.report();
+    let steps = &[(0, 39), (1, 39), (2, 39), (3, 38)];
+    let report = machine_leaves(alloc, &Marker, &world, &lists, steps)?;
     let (field, seats) = field_of(alloc, &Marker, world, &lists)?;
     let (last, journal) = closed(&rt, field, &lists, &report.turns, seats, 4)?;
-    assert!(rt; last.same(&report.world));
-    assert!(rt; journal.first().same(report.journal.first()));
-    assert_eq!(rt; journal.entries().len(), 3);
+    is_left(&rt, &report, &last, &journal);
     let [one, two, three] = journal.entries() else {
         return Err(Fail::from("three entries"));
     };

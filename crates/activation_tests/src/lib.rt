@@ -8,4 +8,6 @@ mod fixtures;
 #[cfg(test)]
 mod journals;
 #[cfg(test)]
+mod machine;
+#[cfg(test)]
 mod turns;
