@@ -1,9 +1,8 @@
-//! What a `Core` of `claim_core` leaves: a small interleaving, computed, and tests of cores and of their reports.
+//! What a `Core` of `claim_core` leaves: a small interleaving, computed; a plain checker of reports; and
+//! tests of cores and of their reports.
 #![tactic(auto)]
 
-#[cfg(test)]
 mod checker;
-#[cfg(test)]
 mod fixtures;
 mod laws;
 #[cfg(test)]
@@ -19,4 +18,6 @@ mod tables;
 #[cfg(test)]
 mod tampered;
 
+pub use checker::is_report;
+pub use fixtures::{Expander, Marker, lists_of, standing, turned, world_of};
 pub use laws::small_interleaving;

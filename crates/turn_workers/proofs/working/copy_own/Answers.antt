@@ -1,0 +1,12 @@
+use Rattle.std.proofs.Common.{◌≡◌, ◌<◌, length, ◌+◌, ◌++◌, ◌∷◌, [], suc, take, map, arith, ap, sym, ◌∙◌}
+use Rattle.std.proofs.Math.Seq.{take-suc}
+use Rattle.claim_core.specs.Turns.{MarkLists, marks_of}
+use Rattle.activation.specs.Answers.{mark_of}
+use Rattle.turn_workers.specs.Turns.{marks_in}
+use Rattle.turn_workers.specs.Workers.{with_marks}
+use Rattle.turn_workers.proofs.Gathering.{copied_one, one_more}
+use Rattle.turn_workers.proofs.working.copy_own.Goals as goal
+
+-- src/working.rt
+pub loop-turn-preserved : goal.loop-turn-preserved
+loop-turn-preserved c = one_more c.args.marks.now c.loop-turn.marks c.add.new.self c.args.caller c.args.own.now c.loop-turn.turn-index c.turn-item.result c.mark.result c.requires.caller (let lt : c.loop-turn.turn-index < length c.args.own.now = omega (arith, c.loop-turn-test.true) in lt) c.loop-turn.invariant c.turn-item.is c.mark.ensures c.add.ensures

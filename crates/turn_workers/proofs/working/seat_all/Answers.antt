@@ -1,0 +1,23 @@
+use Rattle.std.proofs.Common.{◌≡◌, ◌<◌, ◌≤◌, ◌+◌, length, arith, ap, sym, ◌∙◌, subst, ◌++◌, ◌∷◌, []}
+use Rattle.turn_workers.specs.Workers.{AreClear}
+use Rattle.turn_workers.proofs.Gathering.{AreSeated, none_seated, one_seated, all_seated, one_longer}
+use Rattle.turn_workers.proofs.working.seat_all.Goals as goal
+
+-- src/working.rt
+pub loop-caller-init : goal.loop-caller-init
+loop-caller-init g c = (none_seated c.args.turns c.args.seats.now c.new-desks.result.items c.new-desks.ensures.items, ap length c.new-desks.ensures.items)
+
+pub loop-caller-preserved : goal.loop-caller-preserved
+loop-caller-preserved g c =
+    let lt : length c.loop-caller.desks.items < length c.args.seats.now.seats = omega (arith, c.loop-caller-test.true, c.loop-caller.invariant.1, c.requires.callers) in
+    let pushed = c.in_ok-push.ensures.items in (
+      subst (AreSeated c.args.turns c.args.seats.now c.take-seat.new.self) (sym pushed)
+          (one_seated c.args.turns c.args.seats.now c.loop-caller.seats c.take-seat.new.self c.loop-caller.desks.items _ c.loop-caller.invariant.0 c.requires.all lt c.take-seat.ensures.none c.take-seat.ensures.first (record {
+            none = c.in_ok-reserve_exact.ensures.items ∙ c.new-own.ensures.items;
+            room = omega (arith, c.in_ok-reserve_exact.ensures.ok);
+          })),
+      ap length pushed ∙ one_longer c.loop-caller.desks.items _ ∙ ap (λ n. n + 1) c.loop-caller.invariant.1,
+    )
+
+pub returns-clause-out : goal.returns-clause-out
+returns-clause-out g c = (all_seated c.args.turns c.args.seats.now c.loop-caller.seats c.loop-caller.desks.items c.loop-caller.invariant.0 (let le : length c.args.seats.now.seats ≤ length c.loop-caller.desks.items = omega (arith, c.loop-caller-test.false, c.loop-caller.invariant.1, c.requires.callers) in le)).1
