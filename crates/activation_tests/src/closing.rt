@@ -35,7 +35,7 @@ fn turns_of<R: Wait + Abort>(
     Ok(seat)
 }
 
-/// The callers make all their turns, one caller after another, and all seats are given back.
+/// So many callers make all their turns, one caller after another, and their seats are given back.
 fn after_turns<R: Wait + Abort>(
     rt: &R,
     field: &Field<'_, Marker>,
@@ -49,12 +49,12 @@ fn after_turns<R: Wait + Abort>(
     ensures of { OnOk result (AreOf field.now seats.new) }
     ensures there { OnOk result (map is_some seats.new.seats ≡ map is_some seats.old.seats) }
 {
+    if callers == 0 {
+        return Ok(());
+    }
     match seats.take() {
-        None => Ok(()),
+        None => Err(Fail::from("no seat is left")),
         Some(seat) => {
-            if callers == 0 {
-                return Err(Fail::from("one seat more"));
-            }
             let seat = turns_of(rt, field, lists, expected, seat)?;
             after_turns(rt, field, lists, expected, seats, callers - 1)?;
             seats.give(seat);

@@ -253,6 +253,7 @@ pub fn decided(
     requires of { IsOf field.now seat }
     requires lists { field.now.terms.lists ≡ lists.now }
     ensures of { IfOk result (λ got. IsOf field.now got.0) }
+    ensures same { IfOk result (λ got. number_in got.0 ≡ number_in seat) }
     ensures takes { IfOk result (λ got. IsToTake got.0 got.1) }
 {
     let turn = seat.next_turn();

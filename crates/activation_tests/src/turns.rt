@@ -2,16 +2,17 @@ ghost use Rattle.std.specs.Prelude.{◌≡◌, map, is_some, IfOk, IsSome, OnOk}
 ghost use Rattle.std.specs.List.{All};
 ghost use Rattle.claim_rule.specs.Seating.{AreOf};
 ghost use Rattle.claim_rule.specs.Tokens.{IsOf, number_in};
+ghost use Rattle.claim_rule.specs.Settling.{IsToTake};
 
 use crate::fixtures::{
     Blocked, Counter, Marker, decided, field_of, is_entry, lists_of, seat_of, standing,
     standing_marked, turn_of, world_of,
 };
 use crate::machine::{is_left, is_marked, machine_leaves};
-use activation::{Gate, NoGate};
-use amoebot_state::{CellName, Decider, Failure, World};
+use activation::Gate;
+use amoebot_state::{CellName, Change, Decider, Failure, World};
 use claim_core::{Journal, Lists, Mark, Marks};
-use claim_rule::{Field, Seat, Seats};
+use claim_rule::{Claimed, Field, Seat, Seats};
 use commit_journal::commit;
 use node_claims::release_settled;
 use std::alloc::Global;
@@ -49,7 +50,29 @@ enum Order {
     Inside,
 }
 
-/// One turn after another. The gate is called in three of them.
+/// Each of the two seats makes its next turn, with these marks.
+fn one_each<R: Wait + Abort>(
+    rt: &R,
+    field: &Field<'_, Marker>,
+    lists: &Lists,
+    expected: &Marks,
+    gate: &Counter,
+    seats: (Seat<Marker>, Seat<Marker>),
+    marks: (Mark, Mark),
+) -> Result<(Seat<Marker>, Seat<Marker>), Fail>
+    requires first { IsOf field.now seats.0 }
+    requires second { IsOf field.now seats.1 }
+    requires lists { field.now.terms.lists ≡ lists.now }
+    ensures first { IfOk result (λ after. IsOf field.now after.0 × (number_in after.0 ≡ number_in seats.0)) }
+    ensures second { IfOk result (λ after. IsOf field.now after.1 × (number_in after.1 ≡ number_in seats.1)) }
+{
+    let (first, second) = seats;
+    let first = marked(rt, field, lists, expected, gate, first, marks.0)?;
+    let second = marked(rt, field, lists, expected, gate, second, marks.1)?;
+    Ok((first, second))
+}
+
+/// One turn after another. The gate is called in each.
 fn in_turn<R: Wait + Abort>(
     rt: &R,
     field: &Field<'_, Marker>,
@@ -65,21 +88,37 @@ fn in_turn<R: Wait + Abort>(
     ensures one { IfOk result (λ after. IsOf field.now after.1 × (number_in after.1 ≡ number_in one)) }
 {
     let gate = Counter::new();
-    let first = Mark::Done { place: 0 };
-    let second = Mark::Done { place: 1 };
-    let idle = Mark::Idle { place: 2 };
-    let zero = marked(rt, field, lists, expected, &gate, zero, first)?;
-    let one = marked(rt, field, lists, expected, &gate, one, second)?;
-    let zero = marked(rt, field, lists, expected, &gate, zero, idle)?;
-    let one = marked(rt, field, lists, expected, &NoGate, one, idle)?;
-    assert_eq!(rt; gate.calls(), 3);
+    let done = (Mark::Done { place: 0 }, Mark::Done { place: 1 });
+    let idle = (Mark::Idle { place: 2 }, Mark::Idle { place: 2 });
+    let seats = one_each(rt, field, lists, expected, &gate, (zero, one), done)?;
+    let (zero, one) = one_each(rt, field, lists, expected, &gate, seats, idle)?;
+    assert_eq!(rt; gate.calls(), 4);
     assert_eq!(rt; (zero.next_turn(), one.next_turn()), (2, 2));
     Ok((zero, one))
 }
 
-/// Caller 1 makes its first turn once caller 0 has decided, and its second one once caller 0 has committed. The gate is called in the
-/// two turns that claim their whole zone.
-fn inside<R: Wait + Abort>(
+/// Commits the change of the first turn of caller 0, which is the first one of the journal, and frees the zone.
+fn committed<R: Wait + Abort>(
+    rt: &R,
+    field: &Field<'_, Marker>,
+    claimed: Claimed<Marker>,
+    change: Change,
+) -> Seat<Marker>
+    requires of { IsOf field.now claimed }
+    requires takes { IsToTake claimed change }
+    ensures of { IsOf field.now result }
+    ensures same { number_in result ≡ number_in claimed }
+{
+    let (settled, receipt) = commit(rt, field, claimed, change);
+    assert_eq!(rt;
+        (receipt.caller(), receipt.turn(), receipt.place()),
+        (0, 0, 0)
+    );
+    release_settled(settled, field)
+}
+
+/// The first turn of each: that of caller 1 lies between the decision and the commit of caller 0, and does not come to the gate.
+fn first_inside<R: Wait + Abort>(
     rt: &R,
     field: &Field<'_, Marker>,
     lists: &Lists,
@@ -101,19 +140,32 @@ fn inside<R: Wait + Abort>(
         by_bot: 0,
         place: 0,
     };
-    let second = Mark::Done { place: 1 };
-    let idle = Mark::Idle { place: 2 };
     let (claimed, change) = decided(field, lists, zero)?;
     let one = marked(rt, field, lists, expected, &gate, one, busy)?;
     assert_eq!(rt; gate.calls(), 0);
-    let (settled, receipt) = commit(rt, field, claimed, change);
-    assert_eq!(rt;
-        (receipt.caller(), receipt.turn(), receipt.place()),
-        (0, 0, 0)
-    );
-    let zero = release_settled(settled, field);
-    let one = marked(rt, field, lists, expected, &gate, one, second)?;
-    let zero = marked(rt, field, lists, expected, &gate, zero, idle)?;
+    Ok((committed(rt, field, claimed, change), one))
+}
+
+/// Caller 1 makes its first turn once caller 0 has decided, and its second one once caller 0 has committed. The gate is called in the
+/// two turns that come then.
+fn inside<R: Wait + Abort>(
+    rt: &R,
+    field: &Field<'_, Marker>,
+    lists: &Lists,
+    expected: &Marks,
+    zero: Seat<Marker>,
+    one: Seat<Marker>,
+) -> Result<(Seat<Marker>, Seat<Marker>), Fail>
+    requires zero { IsOf field.now zero }
+    requires one { IsOf field.now one }
+    requires lists { field.now.terms.lists ≡ lists.now }
+    ensures zero { IfOk result (λ after. IsOf field.now after.0 × (number_in after.0 ≡ number_in zero)) }
+    ensures one { IfOk result (λ after. IsOf field.now after.1 × (number_in after.1 ≡ number_in one)) }
+{
+    let gate = Counter::new();
+    let marks = (Mark::Done { place: 1 }, Mark::Idle { place: 2 });
+    let (zero, one) = first_inside(rt, field, lists, expected, zero, one)?;
+    let (one, zero) = one_each(rt, field, lists, expected, &gate, (one, zero), marks)?;
     assert_eq!(rt; gate.calls(), 2);
     assert_eq!(rt; (zero.next_turn(), one.next_turn()), (2, 2));
     Ok((zero, one))
@@ -222,6 +274,28 @@ fn a_second_caller_is_busy_while_the_zone_is_held(rt: HostRuntime) -> Result<(),
     Ok(())
 }
 
+/// Two turns, each of which comes to the gate and fails.
+fn fails_twice<R: Wait + Abort>(
+    rt: &R,
+    field: &Field<'_, Blocked>,
+    lists: &Lists,
+    expected: &Marks,
+    seat: Seat<Blocked>,
+) -> Result<(), Fail>
+    requires of { IsOf field.now seat }
+    requires lists { field.now.terms.lists ≡ lists.now }
+{
+    let gate = Counter::new();
+    let failed = Mark::Failed {
+        failure: Failure::Edge,
+        place: 0,
+    };
+    let seat = marked(rt, field, lists, expected, &gate, seat, failed)?;
+    let seat = marked(rt, field, lists, expected, &gate, seat, failed)?;
+    assert_eq!(rt; (seat.next_turn(), gate.calls()), (2, 2));
+    Ok(())
+}
+
 #[test]
 fn a_turn_that_fails_leaves_its_zone_free(rt: HostRuntime) -> Result<(), Fail> {
     let alloc = rt.alloc();
@@ -230,14 +304,5 @@ fn a_turn_that_fails_leaves_its_zone_free(rt: HostRuntime) -> Result<(), Fail> {
     let report = machine_leaves(alloc, &Blocked, &world, &lists, &[(0, 38)])?;
     let (field, mut seats) = field_of(alloc, &Blocked, world, &lists)?;
     let seat = seat_of(&rt, &field, &mut seats, 0)?;
-    let gate = Counter::new();
-    let failed = Mark::Failed {
-        failure: Failure::Edge,
-        place: 0,
-    };
-    let expected = &report.turns;
-    let seat = marked(&rt, &field, &lists, expected, &gate, seat, failed)?;
-    let seat = marked(&rt, &field, &lists, expected, &gate, seat, failed)?;
-    assert_eq!(rt; (seat.next_turn(), gate.calls()), (2, 2));
-    Ok(())
+    fails_twice(&rt, &field, &lists, &report.turns, seat)
 }
