@@ -118,6 +118,14 @@ def interleaved(side, callers, steps):
     return document(side, MARK, nodes, "0", lists, TURNS_OF_EACH * count // callers, schedule)
 
 
+def in_lists(text, callers):
+    """The document of one list of all ids, with so many lists in its place, which go through as many turns together: an id is in the list of its remainder."""
+    front, back = text[:text.index("lists\n")], text[text.index("lists\n"):].splitlines()
+    turns, ids = int(back[1].split()[1]), back[2].split()[1:]
+    lists = ["list " + " ".join(ids[caller::callers]) for caller in range(callers)]
+    return front + "\n".join(["lists", f"turns {turns // callers}", *lists, "end"]) + "\n"
+
+
 def filled(size=1_048_576):
     """A small document of one mebibyte, nearly all of it comments and blanks."""
     text = document(8, OUT, [(2, 3)])

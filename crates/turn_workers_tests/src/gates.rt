@@ -50,13 +50,3 @@ fn a_gate_without_looks_is_never_met(rt: HostRuntime) -> Result<(), Fail> {
     assert!(rt; !gate.met());
     Ok(())
 }
-
-#[test]
-fn one_that_has_gone_on_is_met_by_those_behind_it(rt: HostRuntime) -> Result<(), Fail> {
-    let gate = MeetGate::new(2, 3);
-    // Caller 1 waits in vain in turn 4, so this gate is not met; but caller 0 finds it past its turns.
-    gate.claimed(1, 4);
-    gate.claimed(0, 0);
-    assert!(rt; !gate.met());
-    Ok(())
-}

@@ -35,7 +35,8 @@ pub fn worked<R: Threads + Wait + Sync, D: Decider, G: Gate>(
     work_over(rt, alloc, decider, world, &lists, gate)
 }
 
-fn work_over<R: Threads + Wait + Sync, D: Decider, G: Gate>(
+/// What the workers leave of a world.
+pub fn work_over<R: Threads + Wait + Sync, D: Decider, G: Gate>(
     rt: &R,
     alloc: Global,
     decider: &D,
