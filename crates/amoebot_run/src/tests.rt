@@ -17,7 +17,7 @@ use document_grammar::Form;
 use outer_io::{Failed, Sink, Source, SureSink, SureSource};
 use serial_model::{Serial, Turned};
 use shape_checks::is_connected;
-use shape_files::read_sections;
+use shape_files::{Parts, read_sections};
 use shipped_programs::HEXAGON;
 use std::alloc::{AllocError, Global};
 use std::process::Abort;
@@ -336,10 +336,14 @@ fn run_and_replay<R: Abort + Threads + Wait + Sync>(
         return Err(AllocError);
     };
     let words = words(alloc, &["run"])?;
-    let ended = run_text(rt, alloc, words.as_slice(), document.as_bytes(), &mut out);
-    assert_eq!(rt; ended.status, Status::Done);
-    assert!(rt; ended.turns.is_some());
-    let Some(report) = ended.report else {
+    let Ended {
+        status,
+        report,
+        turns,
+    } = run_text(rt, alloc, words.as_slice(), document.as_bytes(), &mut out);
+    assert_eq!(rt; status, Status::Done);
+    assert!(rt; turns.is_some());
+    let Some(report) = report else {
         panic!(rt; "no report");
     };
     let mut whole: Vec<u8> = Vec::new(alloc);
@@ -410,12 +414,13 @@ fn runner_of(alloc: Global, document: &str) -> Result<Runner, AllocError> {
     if document.len() > 1_000_000 {
         return Err(AllocError);
     }
-    match read_sections(alloc, document.as_bytes(), Form::Run) {
-        Ok(sections) => match sections.into_parts().checked {
-            Some(checked) => Ok(Runner::new(checked)),
-            None => Err(AllocError),
-        },
-        Err(_) => Err(AllocError),
+    let Ok(sections) = read_sections(alloc, document.as_bytes(), Form::Run) else {
+        return Err(AllocError);
+    };
+    let Parts { checked, .. } = sections.into_parts();
+    match checked {
+        Some(checked) => Ok(Runner::new(checked)),
+        None => Err(AllocError),
     }
 }
 
@@ -524,9 +529,9 @@ fn row_of_100(alloc: Global) -> Result<String, AllocError> {
         text.push_str(&bot)?;
     }
     text.push_str("end\nlists\nturns 200\n")?;
-    for caller in 0..4 {
+    for caller in 0..4u16 {
         text.push_str("list")?;
-        for k in 0..25 {
+        for k in 0..25u16 {
             let id = format!(in alloc; " {}", 4 * k + caller)?;
             text.push_str(&id)?;
         }
