@@ -1,8 +1,9 @@
 ghost use Rattle.std.specs.Prelude.{◌≡◌, map};
+ghost use Rattle.std.specs.Char.{is_ascii_digit};
+ghost use Rattle.std.specs.List.{list_all};
 ghost use Rattle.std.specs.String.{string_bytes};
-ghost use Rattle.command_answers.specs.Commands.{command_of, form_of, limit_of, named_in, of_documents, of_two_words, shows};
+ghost use Rattle.command_words.specs.Words.{are_few_digits, command_of, document_in, documents, of_two_words, sample_of, shipped, show_in};
 
-use document_grammar::Form;
 use shipped_programs::Shipped;
 
 /// What the program is to do.
@@ -12,6 +13,8 @@ pub enum Command {
     Document(DocumentCommand),
     /// Writes a shipped program.
     Show(Shipped),
+    /// Runs the sample of a number.
+    Sample(u32),
 }
 
 /// What is to be done with a document.
@@ -29,33 +32,11 @@ pub enum DocumentCommand {
     Measure,
 }
 
-impl DocumentCommand {
-    /// The form of the command's document.
-    pub fn form(self) -> Form
-        ensures { result ≡ form_of self }
-    {
-        match self {
-            DocumentCommand::Run => Form::Run,
-            DocumentCommand::Interleave => Form::Interleave,
-            DocumentCommand::Replay => Form::Replay,
-            DocumentCommand::Check => Form::Check,
-            DocumentCommand::Measure => Form::Measure,
-        }
-    }
+/// The most digits of the number of a sample.
+const MOST_DIGITS: usize = 10;
 
-    /// The most bytes that the command's document may have.
-    pub fn limit(self) -> u32
-        ensures { result ≡ limit_of (form_of self) }
-    {
-        match self {
-            DocumentCommand::Run | DocumentCommand::Interleave | DocumentCommand::Check =>
-                1_048_576,
-            DocumentCommand::Replay | DocumentCommand::Measure => 134_217_728,
-        }
-    }
-}
-
-/// The command that the words are, if they are one.
+/// The command that the words are, if they are one: the word of a command that reads a document; `show` and the name of a program;
+/// or `sample` and a number, 1 to 10 digits that write a number below 2^32.
 pub fn command_of(words: &[String]) -> Option<Command>
     ensures { result ≡ command_of (map string_bytes words.now) }
 {
@@ -67,7 +48,7 @@ pub fn command_of(words: &[String]) -> Option<Command>
 }
 
 fn of_word(word: &str) -> Option<Command>
-    ensures { result ≡ named_in of_documents word.now }
+    ensures { result ≡ document_in documents word.now }
 {
     let command = match word {
         "run" => DocumentCommand::Run,
@@ -80,20 +61,46 @@ fn of_word(word: &str) -> Option<Command>
     Some(Command::Document(command))
 }
 
+#[tactic(auto, unfolding(crate::specs::Words::of_two_words))]
 fn of_two_words(word: &str, other: &str) -> Option<Command>
     ensures { result ≡ of_two_words word.now other.now }
 {
     match word {
         "show" => of_name(other),
+        "sample" => of_number(other),
         _ => None,
     }
 }
 
 fn of_name(name: &str) -> Option<Command>
-    ensures { result ≡ named_in shows name.now }
+    ensures { result ≡ show_in shipped name.now }
 {
     match Shipped::named(name) {
         Some(program) => Some(Command::Show(program)),
         None => None,
     }
+}
+
+fn of_number(digits: &str) -> Option<Command>
+    ensures { result ≡ sample_of digits.now }
+{
+    if !are_few_digits(digits.as_bytes()) {
+        return None;
+    }
+    match digits.parse::<u32>() {
+        Ok(seed) => Some(Command::Sample(seed)),
+        Err(_) => None,
+    }
+}
+
+fn are_few_digits(bytes: &[u8]) -> bool
+    ensures { result ≡ are_few_digits bytes.now }
+{
+    bytes.len() <= MOST_DIGITS && are_digits(bytes)
+}
+
+fn are_digits(bytes: &[u8]) -> bool
+    ensures { result ≡ list_all is_ascii_digit bytes.now }
+{
+    bytes.iter().all(|byte| byte.is_ascii_digit())
 }

@@ -1,0 +1,5 @@
+use Rattle.command_words.proofs.Wording.{small_words}
+use Rattle.command_words.proofs.laws.small_words.Goals as goal
+
+pub returns : goal.returns
+returns c = small_words

@@ -1,0 +1,76 @@
+-- The commands and their words. All of it is this project's profile.
+use Rattle.std.specs.Prelude.{◌≡◌, ℕ, ◌^◌, ◌<◌, ◌≤◌, ◌&&◌, Bool, true, List, [], ◌∷◌, length, codes, if◌then◌else◌, nat_le, nat_lt}
+use Rattle.std.specs.List.{list_all}
+use Rattle.std.specs.declared.option.Option.{Option}
+use Rattle.std.specs.declared.option.Option.TheVariants.{Some, None}
+use Rattle.std.specs.Str.{bytes_eq}
+use Rattle.std.specs.Char.{is_ascii_digit}
+use Rattle.std.specs.Str.Parse.{digits_value}
+use Rattle.shipped_programs.specs.declared.shipped.Shipped.{Shipped}
+use Rattle.shipped_programs.specs.declared.shipped.Shipped.TheVariants.{Hexagon, Erosion, Line}
+use Rattle.shipped_programs.specs.Shipped.{name_of}
+use Rattle.command_words.specs.declared.command.Command.{Command}
+use Rattle.command_words.specs.declared.command.Command.TheVariants.{Document, Show, Sample}
+use Rattle.command_words.specs.declared.command.DocumentCommand.{DocumentCommand}
+use Rattle.command_words.specs.declared.command.DocumentCommand.TheVariants.{Run, Interleave, Replay, Check, Measure}
+
+-- ---- when words are those of a command
+
+-- the word of a command that reads a document
+abbrev pub word_of : DocumentCommand → List ℕ
+word_of Run = codes "run"
+word_of Interleave = codes "interleave"
+word_of Replay = codes "replay"
+word_of Check = codes "check"
+word_of Measure = codes "measure"
+
+-- one digit to ten, which write a number below 2^32
+pub record IsSeed (digits : List ℕ) (seed : ℕ) : Type 0 where
+  pub some : 1 ≤ length digits
+  pub few : length digits ≤ 10
+  pub all : list_all is_ascii_digit digits ≡ true
+  pub value : digits_value 10 digits ≡ seed
+  pub small : seed < 2 ^ 32
+
+-- one word; or `show` and the name of a program; or `sample` and a number
+pub data AreWordsOf : Command → List (List ℕ) → Type 0 where
+  document : (c : DocumentCommand) → AreWordsOf (Document c) (word_of c ∷ [])
+  show : (program : Shipped) → AreWordsOf (Show program) (codes "show" ∷ name_of program ∷ [])
+  sample : (digits : List ℕ) (seed : ℕ) → IsSeed digits seed → AreWordsOf (Sample seed) (codes "sample" ∷ digits ∷ [])
+
+-- ---- which command words are
+
+-- the first of some commands whose word this is
+abbrev pub document_in : List DocumentCommand → List ℕ → Option Command
+document_in [] word = None
+document_in (c ∷ cs) word = if bytes_eq (word_of c) word then Some (Document c) else document_in cs word
+
+abbrev pub documents : List DocumentCommand
+documents = Run ∷ Interleave ∷ Replay ∷ Check ∷ Measure ∷ []
+
+-- the first of some programs whose name this is
+abbrev pub show_in : List Shipped → List ℕ → Option Command
+show_in [] name = None
+show_in (program ∷ programs) name = if bytes_eq (name_of program) name then Some (Show program) else show_in programs name
+
+abbrev pub shipped : List Shipped
+shipped = Hexagon ∷ Erosion ∷ Line ∷ []
+
+abbrev pub are_few_digits : List ℕ → Bool
+are_few_digits digits = nat_le (length digits) 10 && list_all is_ascii_digit digits
+
+unfoldable pub is_seed : List ℕ → Bool
+is_seed digits = are_few_digits digits && (nat_le 1 (length digits) && nat_lt (digits_value 10 digits) (2 ^ 32))
+
+unfoldable pub sample_of : List ℕ → Option Command
+sample_of digits = if is_seed digits then Some (Sample (digits_value 10 digits)) else None
+
+unfoldable pub of_two_words : List ℕ → List ℕ → Option Command
+of_two_words word other = if bytes_eq (codes "show") word then show_in shipped other else if bytes_eq (codes "sample") word then sample_of other else None
+
+-- the command that the words are
+abbrev pub command_of : List (List ℕ) → Option Command
+command_of [] = None
+command_of (word ∷ []) = document_in documents word
+command_of (word ∷ other ∷ []) = of_two_words word other
+command_of (word ∷ other ∷ third ∷ words) = None

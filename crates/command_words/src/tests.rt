@@ -1,0 +1,90 @@
+use crate::{Command, DocumentCommand, command_of};
+use shipped_programs::Shipped;
+use std::alloc::{AllocError, Global};
+use std::test::Fail;
+
+/// The command of some words.
+fn judged(alloc: Global, texts: &[&str]) -> Result<Option<Command>, AllocError> {
+    let mut words = Vec::new(alloc);
+    for text in texts {
+        words.push(String::from_str(alloc, text)?)?;
+    }
+    Ok(command_of(words.as_slice()))
+}
+
+#[test]
+fn each_command_has_its_words(rt: HostRuntime) -> Result<(), Fail> {
+    let commands: [(&[&str], Command); 12] = [
+        (&["run"], Command::Document(DocumentCommand::Run)),
+        (
+            &["interleave"],
+            Command::Document(DocumentCommand::Interleave),
+        ),
+        (&["replay"], Command::Document(DocumentCommand::Replay)),
+        (&["check"], Command::Document(DocumentCommand::Check)),
+        (&["measure"], Command::Document(DocumentCommand::Measure)),
+        (&["show", "hexagon"], Command::Show(Shipped::Hexagon)),
+        (&["show", "erosion"], Command::Show(Shipped::Erosion)),
+        (&["show", "line"], Command::Show(Shipped::Line)),
+        (&["sample", "0"], Command::Sample(0)),
+        (&["sample", "17"], Command::Sample(17)),
+        (&["sample", "0000000008"], Command::Sample(8)),
+        (&["sample", "4294967295"], Command::Sample(4_294_967_295)),
+    ];
+    for (texts, command) in commands {
+        assert_eq!(rt; judged(rt.alloc(), texts)?, Some(command));
+    }
+    Ok(())
+}
+
+/// No command has these words.
+const NONE: [&[&str]; 40] = [
+    &[],
+    &[""],
+    &["", "run"],
+    &["run", ""],
+    &["run", "now"],
+    &["Run"],
+    &["RUN"],
+    &["runs"],
+    &["ru"],
+    &[" run"],
+    &["run "],
+    &["-run"],
+    &["--help"],
+    &["-h"],
+    &["help"],
+    &["-"],
+    &["--"],
+    &["--", "run"],
+    &["interleave", "run"],
+    &["replay", "replay"],
+    &["check", "-"],
+    &["measure", "1"],
+    &["show"],
+    &["show", "Hexagon"],
+    &["show", "hexagons"],
+    &["show", ""],
+    &["show", "line", "line"],
+    &["show", "-line"],
+    &["line"],
+    &["sample"],
+    &["sample", ""],
+    &["sample", "-1"],
+    &["sample", "+1"],
+    &["sample", "1 "],
+    &["sample", "0x1"],
+    &["sample", "4294967296"],
+    &["sample", "9999999999"],
+    &["sample", "00000000001"],
+    &["sample", "1", "1"],
+    &["1"],
+];
+
+#[test]
+fn other_words_are_no_command(rt: HostRuntime) -> Result<(), Fail> {
+    for texts in &NONE {
+        assert_eq!(rt; judged(rt.alloc(), texts)?, None);
+    }
+    Ok(())
+}
