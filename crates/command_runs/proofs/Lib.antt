@@ -1,6 +1,8 @@
+pub mod Entries
 pub mod Interleavings
 pub mod Replays
 pub mod Reported
+pub mod SampleTexts
 pub mod Samples
 pub mod Scheduled
 pub mod SmallRow

@@ -8,7 +8,7 @@ use Rattle.command_runs.specs.Laws.{MeasureTextIsOne}
 use Rattle.command_runs.specs.Samples.{nobody}
 
 -- two tests of one thing answer alike
-same_answer : (P : Type 0) (a b : Bool) → Decides a P → Decides b P → a ≡ b
+pub same_answer : (P : Type 0) (a b : Bool) → Decides a P → Decides b P → a ≡ b
 same_answer P true true x y = refl
 same_answer P false false x y = refl
 same_answer P true false x y = absurd (false≢true (y.1 (x.0 refl)))

@@ -1,5 +1,6 @@
 -- What follows from the definitions alone.
-use Rattle.std.specs.Prelude.{◌≡◌, ◌≤◌, ℕ, true, List, length}
+use Rattle.std.specs.Prelude.{◌≡◌, ◌<◌, ◌≤◌, ◌*◌, ℕ, true, List, length}
+use Rattle.std.specs.List.{All}
 use Rattle.tri_lattice.specs.Sets.{IsConnected}
 use Rattle.amoebot_state.specs.declared.verdict.Entry.{Entry}
 use Rattle.amoebot_state.specs.declared.verdict.Verdict.{Verdict}
@@ -16,6 +17,7 @@ use Rattle.command_runs.specs.Run.{IsRunText}
 use Rattle.command_runs.specs.Interleave.{IsScheduled, IsInterleaveText}
 use Rattle.command_runs.specs.Replay.{Agrees, DiffersAt}
 use Rattle.command_runs.specs.Measure.{IsMeasureText}
+use Rattle.command_runs.specs.Sample.{IsSampleText}
 
 -- one report, but for the room in its journal
 pub record SameReport (one two : Report) : Type 0 where
@@ -48,6 +50,18 @@ StaysConnectedIn p start entries = p.guard ≡ true → IsConnected (occupied st
 abbrev pub GoodStaysConnected : Type 0
 GoodStaysConnected = (p : Program) (start : Config) (lists : CallerLists) (report : Report) → Good (verdict_shown p) start lists report → StaysConnectedIn p start report.journal.entries
 
+-- the entries of a good report are those of amoebots that are there, and there is at most one for each turn
+pub record IsFew (start : Config) (lists : CallerLists) (entries : List Entry) : Type 0 where
+  pub bots : All (λ (e : Entry). e.bot < length start.bots) entries
+  pub few : length entries ≤ length lists.ids * lists.turns
+
+abbrev pub GoodIsFew : Type 0
+GoodIsFew = (f : Shown → Verdict) (start : Config) (lists : CallerLists) (report : Report) → Good f start lists report → IsFew start lists report.journal.entries
+
 -- a shape has one text of its measures
 abbrev pub MeasureTextIsOne : Type 0
 MeasureTextIsOne = (c : Config) (text other : List ℕ) → IsMeasureText c text → IsMeasureText c other → text ≡ other
+
+-- a report has one text as that of a sample
+abbrev pub SampleTextIsOne : Type 0
+SampleTextIsOne = (f : Shown → Verdict) (start : Config) (lists : CallerLists) (seed : ℕ) (report : Report) (text other : List ℕ) → IsSampleText f start lists seed report text → IsSampleText f start lists seed report other → text ≡ other

@@ -5,5 +5,6 @@ pub mod Measure
 pub mod Replay
 pub mod Reports
 pub mod Run
+pub mod Sample
 pub mod Samples
 pub mod SmallRow

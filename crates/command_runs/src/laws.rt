@@ -1,6 +1,6 @@
 //! What holds of the commands. The functions do nothing: their clauses are the laws.
 
-ghost use Rattle.command_runs.specs.Laws.{GoodStaysConnected, InterleaveTextIsOne, MeasureTextIsOne, ReplayIsDecided, RunTextIsOne, ScheduleHasOneReport};
+ghost use Rattle.command_runs.specs.Laws.{GoodIsFew, GoodStaysConnected, InterleaveTextIsOne, MeasureTextIsOne, ReplayIsDecided, RunTextIsOne, SampleTextIsOne, ScheduleHasOneReport};
 ghost use Rattle.command_runs.specs.Samples.{SmallCommands};
 
 use action_meaning::guarded_runs_stay_connected;
@@ -37,6 +37,16 @@ pub fn replay_is_decided()
 /// A shape has one text of its measures.
 pub fn measure_text_is_one()
     ensures { MeasureTextIsOne }
+{}
+
+/// A good report's journal has at most one entry for each turn, and each is of an amoebot that is there.
+pub fn good_is_few()
+    ensures { GoodIsFew }
+{}
+
+/// A report of a sample has one text.
+pub fn sample_text_is_one()
+    ensures { SampleTextIsOne }
 {}
 
 /// With the guard on and a connected shape at the start, the shape is connected in each world of a good report's run.

@@ -5,15 +5,17 @@ mod interleaving;
 mod laws;
 mod measuring;
 mod replaying;
+mod sampling;
 mod texts;
 
 pub use interleaving::run_interleaved;
 pub use laws::{
-    good_stays_connected, interleave_text_is_one, measure_text_is_one, replay_is_decided,
-    run_text_is_one, small_commands,
+    good_is_few, good_stays_connected, interleave_text_is_one, measure_text_is_one,
+    replay_is_decided, run_text_is_one, sample_text_is_one, small_commands,
 };
 pub use measuring::print_measures;
 pub use replaying::compare;
+pub use sampling::print_sample;
 pub use texts::{print_agrees, print_check, print_differs, print_report};
 
 #[cfg(test)]

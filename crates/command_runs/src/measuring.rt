@@ -1,6 +1,7 @@
-ghost use Rattle.std.specs.Prelude.{◌≡◌, IfOk};
-ghost use Rattle.command_runs.specs.Measure.{IsMeasureText, yes_or_no};
+ghost use Rattle.std.specs.Prelude.{IfOk};
+ghost use Rattle.command_runs.specs.Measure.{IsMeasureText};
 
+use crate::texts::{put_answer, put_number};
 use amoebot_state::{NoMemory, World};
 use shape_checks::{is_connected, is_hexagon};
 use std::alloc::Global;
@@ -13,20 +14,8 @@ pub fn print_measures(alloc: Global, world: &World) -> Result<Text, NoMemory>
     let connected = is_connected(alloc, world)?;
     let hexagon = is_hexagon(alloc, world)?;
     let mut lines = Lines::new(alloc);
-    lines.begin("bots")?;
-    lines.number(world.bots())?;
-    lines.end()?;
-    lines.begin("connected")?;
-    lines.word(yes_or_no(connected))?;
-    lines.end()?;
-    lines.begin("hexagon")?;
-    lines.word(yes_or_no(hexagon))?;
-    lines.end()?;
+    put_number(&mut lines, "bots", world.bots())?;
+    put_answer(&mut lines, "connected", connected)?;
+    put_answer(&mut lines, "hexagon", hexagon)?;
     Ok(lines.text())
-}
-
-fn yes_or_no(is_so: bool) -> &'static str
-    ensures { result.now ≡ yes_or_no is_so }
-{
-    if is_so { "yes" } else { "no" }
 }

@@ -1,5 +1,7 @@
-ghost use Rattle.std.specs.Prelude.{◌≡◌, ◌≤◌, IfOk};
+ghost use Rattle.std.specs.Prelude.{◌≡◌, ◌≤◌, ◌∷◌, ◌++◌, [], IfOk, OnOk};
+ghost use Rattle.text_tokens.specs.Lines.{line_text};
 ghost use Rattle.command_runs.specs.Check.{check_text};
+ghost use Rattle.command_runs.specs.Measure.{yes_or_no};
 ghost use Rattle.command_runs.specs.Replay.{agrees_line, differs_line};
 ghost use Rattle.command_runs.specs.Reports.{report_text};
 
@@ -7,9 +9,10 @@ use action_print::put_program;
 use action_tree::Program;
 use amoebot_state::NoMemory;
 use claim_core::Report;
+use itoa::Integer;
 use journal_text::{put_journal, put_turns};
 use shape_text::put_shape;
-use std::alloc::Global;
+use std::alloc::{AllocError, Global};
 use text_tokens::{Lines, Text};
 
 /// The text of a run: the sections `journal`, `final` and `turns`, where an amoebot has the values of so many variables, at most 8.
@@ -29,9 +32,7 @@ pub fn print_agrees(alloc: Global, entries: usize) -> Result<Text, NoMemory>
     ensures { IfOk result (λ text. text ≡ agrees_line entries) }
 {
     let mut lines = Lines::new(alloc);
-    lines.begin("agrees")?;
-    lines.number(entries)?;
-    lines.end()?;
+    put_number(&mut lines, "agrees", entries)?;
     Ok(lines.text())
 }
 
@@ -40,9 +41,7 @@ pub fn print_differs(alloc: Global, place: u32) -> Result<Text, NoMemory>
     ensures { IfOk result (λ text. text ≡ differs_line place) }
 {
     let mut lines = Lines::new(alloc);
-    lines.begin("differs")?;
-    lines.number(place)?;
-    lines.end()?;
+    put_number(&mut lines, "differs", place)?;
     Ok(lines.text())
 }
 
@@ -56,4 +55,33 @@ pub fn print_check(alloc: Global, program: &Program) -> Result<Text, NoMemory>
     lines.end()?;
     put_program(&mut lines, program)?;
     Ok(lines.text())
+}
+
+/// The line of a number, under its word.
+pub(crate) fn put_number<I: Integer + Drop>(
+    lines: &mut Lines,
+    word: &str,
+    number: I,
+) -> Result<(), AllocError>
+    ensures { OnOk result (lines.new ≡ lines.old ++ line_text (word.now ∷ I.text number ∷ [])) }
+{
+    lines.begin(word)?;
+    lines.number(number)?;
+    lines.end()
+}
+
+/// The line of an answer, under its word.
+pub(crate) fn put_answer(lines: &mut Lines, word: &str, is_so: bool) -> Result<(), AllocError>
+    ensures { OnOk result (lines.new ≡ lines.old ++ line_text (word.now ∷ yes_or_no is_so ∷ [])) }
+{
+    lines.begin(word)?;
+    lines.word(yes_or_no(is_so))?;
+    lines.end()
+}
+
+/// The word of an answer.
+fn yes_or_no(is_so: bool) -> &'static str
+    ensures { result.now ≡ yes_or_no is_so }
+{
+    if is_so { "yes" } else { "no" }
 }

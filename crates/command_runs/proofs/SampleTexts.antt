@@ -1,0 +1,43 @@
+-- One text of a sample's report.
+use Rattle.std.proofs.Common.{◌≡◌, ℕ, List, ◌*◌, sym, subst, ◌∙◌}
+use Rattle.std.specs.Prelude.{length, Bool, Decides}
+use Rattle.tri_lattice.specs.Sets.{IsConnected}
+use Rattle.amoebot_state.specs.declared.verdict.Entry.{Entry}
+use Rattle.amoebot_state.specs.declared.verdict.Verdict.{Verdict}
+use Rattle.amoebot_state.specs.Configs.{Config}
+use Rattle.amoebot_state.specs.Occupied.{occupied}
+use Rattle.amoebot_state.specs.Zones.{Shown}
+use Rattle.claim_core.specs.declared.report.Report.{Report}
+use Rattle.claim_core.specs.Turns.{CallerLists}
+use Rattle.claim_core.specs.Good.{Good}
+use Rattle.claim_core.proofs.Frames.{run_framed}
+use Rattle.command_runs.specs.Replay.{Agrees, DiffersAt}
+use Rattle.command_runs.specs.Sample.{IsSampleText, sample_text}
+use Rattle.command_runs.specs.Laws.{ReplayIsDecided, SampleTextIsOne}
+use Rattle.command_runs.proofs.Measures.{same_answer}
+
+pub sample_text_is_one : SampleTextIsOne
+sample_text_is_one f start lists seed report text other x y =
+    let connected = same_answer _ x.connected y.connected x.is_connected y.is_connected in
+    let agrees = same_answer _ x.agrees y.agrees x.is_run y.is_run in
+    x.whole ∙ (λ i. sample_text seed (length start.bots) (length lists.ids) (length lists.ids * lists.turns) (connected i) (agrees i)) ∙ sym y.whole
+
+-- what agrees does not differ, under other names of its start and its entries
+pub excluded : ReplayIsDecided → (f : Shown → Verdict) (start first final : Config) (entries same : List Entry) (place : ℕ) → first ≡ start → same ≡ entries → DiffersAt f first same final place → Agrees f start entries final → ⊥
+excluded decided f start first final entries same place from es differs agrees =
+    decided.exclusive f start final entries place agrees (subst (λ (z : Config × List Entry). DiffersAt f z.0 z.1 final place) (λ i. (from i, es i)) differs)
+
+-- the text that is told of a good report's numbers is its text
+pub is_text : (f : Shown → Verdict) (lists : CallerLists) (seed : ℕ) (report : Report) (bots callers turns all : ℕ) (connected agrees : Bool) (text : List ℕ)
+    → Good f report.journal.first lists report → Decides connected (IsConnected (occupied report.world)) → Decides agrees (Agrees f report.journal.first report.journal.entries report.world)
+    → bots ≡ length report.world.bots → callers ≡ length lists.ids → turns ≡ lists.turns → all ≡ callers * turns → text ≡ sample_text seed bots callers all connected agrees
+    → IsSampleText f report.journal.first lists seed report text
+is_text f lists seed report bots callers turns all connected agrees text good is_connected is_run many named each product is =
+    let size = (run_framed f report.journal.first report.world report.journal.entries good.valid good.run).size in
+    record {
+      connected = connected;
+      agrees = agrees;
+      is_connected = is_connected;
+      is_run = is_run;
+      whole = is ∙ (λ i. sample_text seed ((many ∙ size) i) (named i) ((product ∙ (λ j. named j * each j)) i) connected agrees);
+    }

@@ -1,0 +1,26 @@
+-- The command `sample`: what is told of a report of lists' turns, made from a number.
+use Rattle.std.specs.Prelude.{◌≡◌, ℕ, ◌*◌, Bool, List, [], ◌∷◌, ◌++◌, length, codes, decimal, Decides}
+use Rattle.text_tokens.specs.Lines.{line_text}
+use Rattle.tri_lattice.specs.Sets.{IsConnected}
+use Rattle.amoebot_state.specs.declared.verdict.Verdict.{Verdict}
+use Rattle.amoebot_state.specs.Configs.{Config}
+use Rattle.amoebot_state.specs.Occupied.{occupied}
+use Rattle.amoebot_state.specs.Zones.{Shown}
+use Rattle.claim_core.specs.declared.report.Report.{Report}
+use Rattle.claim_core.specs.Turns.{CallerLists}
+use Rattle.command_runs.specs.Measure.{yes_or_no}
+use Rattle.command_runs.specs.Replay.{Agrees}
+
+abbrev pub sample_text : ℕ → ℕ → ℕ → ℕ → Bool → Bool → List ℕ
+sample_text seed bots callers turns connected agrees =
+    line_text (codes "sample" ∷ decimal seed ∷ []) ++ line_text (codes "bots" ∷ decimal bots ∷ []) ++ line_text (codes "callers" ∷ decimal callers ∷ []) ++ line_text (codes "turns" ∷ decimal turns ∷ [])
+    ++ line_text (codes "connected" ∷ yes_or_no connected ∷ []) ++ line_text (codes "replay" ∷ yes_or_no agrees ∷ [])
+
+-- the text of a report: its number, how many amoebots, callers and turns there are, whether the last world is connected, and whether the journal is a
+-- run from the world at the start to the last one
+pub record IsSampleText (f : Shown → Verdict) (start : Config) (lists : CallerLists) (seed : ℕ) (report : Report) (text : List ℕ) : Type 0 where
+  pub connected : Bool
+  pub agrees : Bool
+  pub is_connected : Decides connected (IsConnected (occupied report.world))
+  pub is_run : Decides agrees (Agrees f start report.journal.entries report.world)
+  pub whole : text ≡ sample_text seed (length start.bots) (length lists.ids) (length lists.ids * lists.turns) connected agrees
