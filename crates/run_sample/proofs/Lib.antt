@@ -1,6 +1,7 @@
 pub mod Drawn
 pub mod Coming
 pub mod Moving
+pub mod Fit
 pub mod Ids
 pub mod Squares
 pub mod Taken

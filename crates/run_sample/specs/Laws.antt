@@ -1,7 +1,11 @@
 -- What follows from the definitions alone.
-use Rattle.std.specs.Prelude.{◌≡◌, ℕ, List, [], ◌∷◌}
+use Rattle.std.specs.Prelude.{◌≡◌, ℕ, List, [], ◌∷◌, IsSome, length}
+use Rattle.std.specs.List.{All}
+use Rattle.tri_lattice.specs.Sets.{IsConnected}
 use Rattle.tri_lattice.specs.declared.node.Node.{Node}
 use Rattle.amoebot_state.specs.declared.bot.Bot.{Bot}
+use Rattle.amoebot_state.specs.Configs.{bot_at}
+use Rattle.amoebot_state.specs.Occupied.{occupied}
 use Rattle.run_sample.specs.declared.whole.Sample.{Sample}
 use Rattle.run_sample.specs.Whole.{IsSample}
 use Rattle.run_sample.specs.Sample.{Placed, IsFirstEmpty, bot_on, square_node, seeded, drawn}
@@ -17,3 +21,12 @@ SampleIsUnique = (seed : ℕ) (one two : Sample) → IsSample seed one → IsSam
 -- the first two amoebots of seed one are turned by 0 and by 2
 abbrev pub FirstOfSeedOne : Type 0
 FirstOfSeedOne = Placed 1 (bot_on 0 (square_node 0) 0 ∷ bot_on 1 (square_node 1) 2 ∷ []) (drawn (drawn (seeded 1)))
+
+-- a sample has 150 amoebots, whose shape is connected, and the amoebots of its lists are among them
+pub record IsFit (s : Sample) : Type 0 where
+  pub many : length s.world.bots ≡ 150
+  pub connected : IsConnected (occupied s.world)
+  pub there : All (All (λ id. IsSome (bot_at s.world id))) s.lists.ids
+
+abbrev pub SampleIsFit : Type 0
+SampleIsFit = (seed : ℕ) (s : Sample) → IsSample seed s → IsFit s

@@ -1,4 +1,4 @@
-ghost use Rattle.run_sample.specs.Laws.{FirstEmptyIsUnique, SampleIsUnique, FirstOfSeedOne};
+ghost use Rattle.run_sample.specs.Laws.{FirstEmptyIsUnique, SampleIsFit, SampleIsUnique, FirstOfSeedOne};
 
 /// At most one node is the first empty one that is met.
 pub fn first_empty_is_unique()
@@ -8,6 +8,11 @@ pub fn first_empty_is_unique()
 /// A seed has at most one sample.
 pub fn sample_is_unique()
     ensures { SampleIsUnique }
+{}
+
+/// A sample has 150 amoebots, which make a connected shape, and its lists are of them.
+pub fn sample_is_fit()
+    ensures { SampleIsFit }
 {}
 
 /// The first two amoebots of seed one.

@@ -1,0 +1,43 @@
+-- What a sample is fit for: its amoebots are 150 in a connected shape, and its lists are of them.
+use Rattle.std.proofs.Common.{◌≡◌, ◌+◌, ◌<◌, ℕ, List, [], ◌∷◌, length, get_or, Some, None, ap, sym, subst, ◌∙◌, arith}
+use Rattle.std.specs.Prelude.{IsSome, is_some}
+use Rattle.std.specs.List.{All, range_with_len}
+use Rattle.std.proofs.lemmas.List.{get_or-map, length-map}
+use Rattle.std.proofs.lemmas.List.Elements.{All-filter, All-map, All-weaker}
+use Rattle.std.proofs.lemmas.List.FromFn.{length-range_with_len, get_or-range_with_len}
+use Rattle.tri_lattice.specs.Sets.{IsConnected}
+use Rattle.amoebot_state.specs.declared.bot.Bot.{Bot}
+use Rattle.amoebot_state.specs.Configs.{Config, bot_at, blank, config_of}
+use Rattle.amoebot_state.specs.Occupied.{occupied}
+use Rattle.claim_core.specs.Turns.{CallerLists}
+use Rattle.run_sample.specs.Sample.{sample_area, sample_maxes}
+use Rattle.run_sample.specs.Callers.{ids_below, ids_of, sample_lists}
+use Rattle.run_sample.specs.Laws.{SampleIsFit}
+use Rattle.run_sample.proofs.Laid.{connected, sample_laid}
+
+-- the ids below a number are below it
+below : (n c : ℕ) → All (λ id. id < n) (ids_below n c)
+unfolding ids_below
+below n c = All-filter _ (λ id. id < n) (range_with_len 0 n) (λ k d inside.
+    let long = length-range_with_len 0 n in
+    let at : get_or (range_with_len 0 n) k d ≡ 0 + k = get_or-range_with_len 0 n k d (omega arith) in
+    omega arith)
+
+-- an id below the number of the amoebots is one's
+is_there : (bots : List Bot) (id : ℕ) → id < length bots → IsSome (bot_at (config_of sample_area sample_maxes bots) id)
+is_there bots id lt = ap is_some (get_or-map Some bots id blank None lt)
+
+there : (bots : List Bot) → length bots ≡ 150 → All (All (λ id. IsSome (bot_at (config_of sample_area sample_maxes bots) id))) sample_lists.ids
+there bots many = All-map There ids_of (0 ∷ 1 ∷ 2 ∷ 3 ∷ []) (λ k d inside. of (get_or (0 ∷ 1 ∷ 2 ∷ 3 ∷ []) k d))
+  where
+    There : List ℕ → Type 0
+    There = All (λ (id : ℕ). IsSome (bot_at (config_of sample_area sample_maxes bots) id))
+    of : (c : ℕ) → There (ids_of c)
+    of c = All-weaker (λ id. id < 150) (λ (id : ℕ). IsSome (bot_at (config_of sample_area sample_maxes bots) id)) (λ id lt. is_there bots id (omega (arith, many))) (ids_of c) (below 150 c)
+
+pub sample_is_fit : SampleIsFit
+sample_is_fit seed s is = record {
+  many = ap (λ (c : Config). length c.bots) is.world ∙ length-map is.bots Some ∙ is.come.many;
+  connected = subst (λ (c : Config). IsConnected (occupied c)) (sym is.world) (connected is.bots (sample_laid seed is.bots is.come));
+  there = subst (λ (z : Config × CallerLists). All (All (λ id. IsSome (bot_at z.0 id))) z.1.ids) (λ i. (sym is.world i, sym is.lists i)) (there is.bots is.come.many);
+}
