@@ -9,9 +9,9 @@ use Rattle.claim_core.specs.declared.report.Report.{Report}
 use Rattle.document_grammar.specs.Documents.{Contents, Holds}
 use Rattle.activation.specs.declared.turn.Turn.{Turn}
 use Rattle.shipped_programs.specs.declared.shipped.Shipped.{Shipped}
-use Rattle.command_answers.specs.declared.command.Command.{Command}
-use Rattle.command_answers.specs.declared.command.Command.TheVariants.{Document, Show}
-use Rattle.command_answers.specs.declared.command.DocumentCommand.{DocumentCommand}
+use Rattle.command_words.specs.declared.command.Command.{Command}
+use Rattle.command_words.specs.declared.command.Command.TheVariants.{Document, Show}
+use Rattle.command_words.specs.declared.command.DocumentCommand.{DocumentCommand}
 use Rattle.command_answers.specs.declared.status.Status.{Status}
 use Rattle.command_answers.specs.declared.status.Status.TheVariants as status
 use Rattle.command_answers.specs.Commands.{form_of}

@@ -5,7 +5,7 @@ use Rattle.outer_io.specs.Kept.{KeptBytes, KeepsPiece, PiecesAreKeptAsOne, writt
 use Rattle.outer_io.specs.Told.{Rose}
 use Rattle.outer_io.specs.Writings.{WritesAll}
 use Rattle.claim_core.specs.declared.report.Report.{Report}
-use Rattle.command_answers.specs.declared.command.Command.{Command}
+use Rattle.command_words.specs.declared.command.Command.{Command}
 use Rattle.command_answers.specs.declared.status.Status.{Status}
 use Rattle.command_answers.specs.declared.status.Status.TheVariants as status
 use Rattle.command_answers.specs.Reads.{Read, IsReading, nothing, whole, above, up_to_fault, some}

@@ -10,10 +10,10 @@ use Rattle.activation.specs.declared.turn.Turn.{Turn}
 use Rattle.turn_workers.specs.Turns.{AreTurnsOf}
 use Rattle.command_runs.specs.Reports.{setup}
 use Rattle.command_answers.specs.declared.answering.Prepared.{Prepared}
-use Rattle.command_answers.specs.declared.command.Command.{Command}
-use Rattle.command_answers.specs.declared.command.Command.TheVariants.{Document}
-use Rattle.command_answers.specs.declared.command.DocumentCommand.{DocumentCommand}
-use Rattle.command_answers.specs.declared.command.DocumentCommand.TheVariants.{Run}
+use Rattle.command_words.specs.declared.command.Command.{Command}
+use Rattle.command_words.specs.declared.command.Command.TheVariants.{Document}
+use Rattle.command_words.specs.declared.command.DocumentCommand.{DocumentCommand}
+use Rattle.command_words.specs.declared.command.DocumentCommand.TheVariants.{Run}
 use Rattle.command_answers.specs.declared.status.Status.{Status}
 use Rattle.command_answers.specs.declared.status.Status.TheVariants as status
 use Rattle.command_answers.specs.Answers.{done_with}

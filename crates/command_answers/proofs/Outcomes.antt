@@ -1,9 +1,10 @@
 -- What is owed for a document, and by whom a report is owed.
-use Rattle.std.proofs.Common.{ℕ, List, refl, subst, inl, inr}
+use Rattle.std.proofs.Common.{ℕ, List, refl, subst}
 use Rattle.std.proofs.lemmas.Bool.{false≢true}
 use Rattle.claim_core.specs.declared.report.Report.{Report}
 use Rattle.document_grammar.specs.declared.section.Form.TheVariants as form
 use Rattle.document_grammar.specs.Documents.{Contents, Holds, DocumentsAreDecided}
+use Rattle.run_sample.specs.Laws.{SampleIsFit}
 use Rattle.command_runs.specs.Laws.{GoodStaysConnected}
 use Rattle.action_meaning.specs.Verdicts.{verdict_shown}
 use Rattle.claim_core.specs.Laws.{OneListIsSerial}
@@ -11,10 +12,11 @@ use Rattle.command_answers.specs.Commands.{form_of}
 use Rattle.command_answers.specs.OfRun.{IsTextOfRun}
 use Rattle.command_answers.specs.OfInterleave.{IsTextOfInterleave}
 use Rattle.command_answers.specs.OfReplay.{IsDiffering}
-use Rattle.command_answers.specs.Owed.{IsTextOf, of_run, of_interleave, of_replay, of_check, of_measure, usage, read_fault, longer, refused, differs, done, shown}
+use Rattle.command_answers.specs.Owed.{IsTextOf, of_run, of_interleave, of_replay, of_check, of_measure, usage, read_fault, longer, refused, differs, done, shown, sampled}
 use Rattle.command_answers.specs.Outcomes.{is_done, is_differing}
 use Rattle.command_answers.specs.Headline.{IsRunOfDocument}
-use Rattle.command_answers.specs.Laws.{DocumentsHaveOutcomes, ReportsAreOfTurns, ReportsAreOfDocuments}
+use Rattle.command_answers.specs.Laws.{DocumentsHaveOutcomes, ReportsAreOfTurns, ReportsAreOfDocuments, ReportsAreOfSamples}
+use Rattle.command_answers.proofs.Sampled.{told_by_sample}
 use Rattle.command_answers.proofs.Owing.{same_contents, not_both}
 
 pub documents_have_outcomes : DocumentsAreDecided → DocumentsHaveOutcomes
@@ -28,12 +30,13 @@ reports_are_of_turns c read s report text (read_fault d got) = (λ some. absurd 
 reports_are_of_turns c read s report text (longer d got) = (λ some. absurd (false≢true some), λ (is, makes). cc)
 reports_are_of_turns c read s report text (refused d bytes r x) = (λ some. absurd (false≢true some), λ (is, makes). cc)
 reports_are_of_turns c read s report text (differs bytes a place x l) = (λ some. absurd (false≢true some), λ (is, makes). cc)
-reports_are_of_turns c read s report text (done d bytes a told v x (of_run r t y)) = (λ some. (refl, inl refl), λ both. refl)
-reports_are_of_turns c read s report text (done d bytes a told v x (of_interleave r t y)) = (λ some. (refl, inr refl), λ both. refl)
-reports_are_of_turns c read s report text (done d bytes a told v x (of_replay t y)) = (λ some. absurd (false≢true some), λ (is, makes). elim makes [ inl e ↦ cc | inr e ↦ cc ])
-reports_are_of_turns c read s report text (done d bytes a told v x (of_check t y)) = (λ some. absurd (false≢true some), λ (is, makes). elim makes [ inl e ↦ cc | inr e ↦ cc ])
-reports_are_of_turns c read s report text (done d bytes a told v x (of_measure t y)) = (λ some. absurd (false≢true some), λ (is, makes). elim makes [ inl e ↦ cc | inr e ↦ cc ])
-reports_are_of_turns c read s report text (shown p) = (λ some. absurd (false≢true some), λ (is, makes). elim makes [ inl e ↦ cc | inr e ↦ cc ])
+reports_are_of_turns c read s report text (done d bytes a told v x (of_run r t y)) = (λ some. (refl, tt), λ both. refl)
+reports_are_of_turns c read s report text (done d bytes a told v x (of_interleave r t y)) = (λ some. (refl, tt), λ both. refl)
+reports_are_of_turns c read s report text (done d bytes a told v x (of_replay t y)) = (λ some. absurd (false≢true some), λ (is, makes). absurd makes)
+reports_are_of_turns c read s report text (done d bytes a told v x (of_check t y)) = (λ some. absurd (false≢true some), λ (is, makes). absurd makes)
+reports_are_of_turns c read s report text (done d bytes a told v x (of_measure t y)) = (λ some. absurd (false≢true some), λ (is, makes). absurd makes)
+reports_are_of_turns c read s report text (shown p) = (λ some. absurd (false≢true some), λ (is, makes). absurd makes)
+reports_are_of_turns c read s report text (sampled seed told v x) = (λ some. (refl, tt), λ both. refl)
 
 module _ (stays : GoodStaysConnected) (serials : OneListIsSerial) where
   told_by_run : (bytes : List ℕ) (a : Contents) (report : Report) (text : List ℕ) → Holds form.Run bytes a → IsTextOfRun a report text → IsRunOfDocument form.Run bytes report text
@@ -45,3 +48,6 @@ module _ (stays : GoodStaysConnected) (serials : OneListIsSerial) where
   pub reports_are_of_documents : ReportsAreOfDocuments
   reports_are_of_documents c read s report text (done d bytes a told v x (of_run r t y)) = (bytes, refl, told_by_run bytes a report text x y)
   reports_are_of_documents c read s report text (done d bytes a told v x (of_interleave r t y)) = (bytes, refl, told_by_interleave bytes a report text x y)
+
+pub reports_are_of_samples : GoodStaysConnected → SampleIsFit → ReportsAreOfSamples
+reports_are_of_samples stays fit seed read s report text (sampled same told v x) = (refl, told_by_sample stays fit seed report text x)

@@ -29,10 +29,11 @@ use Rattle.command_runs.specs.Samples.{nobody}
 use Rattle.command_runs.proofs.Measures.{nobody_is_measured}
 use Rattle.command_runs.proofs.SmallRow.{is_area, plain, one_id, IsThereIn}
 use Rattle.shipped_programs.specs.declared.shipped.Shipped.TheVariants.{Line}
-use Rattle.command_answers.specs.declared.command.DocumentCommand.TheVariants.{Run, Interleave, Replay, Check, Measure}
+use Rattle.command_words.specs.declared.command.DocumentCommand.TheVariants.{Run, Interleave, Replay, Check, Measure}
 use Rattle.command_answers.specs.OfReplay.{HasJournal}
 use Rattle.command_answers.specs.Owed.{of_run, of_interleave, of_replay, of_check, of_measure, usage, read_fault, longer, refused, differs, done, shown}
-use Rattle.command_answers.specs.Samples.{program_text, with_shape, with_nobody, with_list, with_two_lists, with_schedule, journal_text, spread_text, still_text, out, start, spread, one_list, two_lists, schedule, expansion, only_program, and_nobody, and_list, and_two_lists, and_schedule, and_journal, told, told_text, both_told, both_text, line_text, empty_refused, SmallAnswers}
+use Rattle.command_words.specs.Words.{is_seed, of_two_words, sample_of}
+use Rattle.command_answers.specs.Samples.{program_text, with_shape, with_nobody, with_list, with_two_lists, with_schedule, journal_text, spread_text, still_text, out, start, spread, one_list, two_lists, schedule, expansion, only_program, and_nobody, and_list, and_two_lists, and_schedule, and_journal, told, told_text, both_told, both_text, empty_refused, SmallAnswers}
 use Rattle.command_answers.proofs.SmallDocuments.{says, are_answered}
 
 abbrev g : Setup
@@ -119,11 +120,12 @@ module _ (goods : ReachedIsGood) (serials : OneListIsSerial) where
   interleave_report = record { good = good; reached = reached; scheduled = scheduled }
 
   pub small_answers : SmallAnswers
-  unfolding digits name
+  unfolding digits name of_two_words sample_of is_seed
   small_answers = record {
     no_words = usage;
     two_words = usage;
     other_name = usage;
+    other_number = usage;
     fails = read_fault Run (codes "amoe");
     long = λ bytes. longer Check bytes;
     empty = refused Interleave [] empty_refused (says form.Interleave [] (Err empty_refused) are_answered.empty);

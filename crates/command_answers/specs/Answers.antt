@@ -3,7 +3,9 @@ use Rattle.std.specs.Prelude.{◌≡◌, ◌≢◌, ℕ, List, length, IsSome}
 use Rattle.std.specs.List.{All}
 use Rattle.std.specs.declared.option.Option.TheVariants.{Some, None}
 use Rattle.text_tokens.specs.declared.refusal.Refusal.{Refusal}
+use Rattle.amoebot_state.specs.declared.verdict.Verdict.{Verdict}
 use Rattle.amoebot_state.specs.Configs.{Config, bot_at}
+use Rattle.amoebot_state.specs.Zones.{Shown}
 use Rattle.claim_core.specs.declared.report.Report.{Report}
 use Rattle.claim_core.specs.Turns.{CallerLists}
 use Rattle.claim_core.specs.Good.{Good}
@@ -12,16 +14,18 @@ use Rattle.action_tree.specs.Trees.{Program}
 use Rattle.action_meaning.specs.Verdicts.{verdict_shown}
 use Rattle.document_grammar.specs.Documents.{Contents, Holds}
 use Rattle.command_runs.specs.Reports.{setup, report_text}
+use Rattle.command_runs.specs.Sample.{IsSampleText}
 use Rattle.command_answers.specs.declared.answering.Answer.{Answer}
+use Rattle.command_answers.specs.declared.answering.Prepared.{Prepared}
 use Rattle.command_answers.specs.declared.answering.Task.{Task}
 use Rattle.command_answers.specs.declared.answering.Task.TheVariants as task
-use Rattle.command_answers.specs.declared.command.Command.TheVariants.{Document}
-use Rattle.command_answers.specs.declared.command.DocumentCommand.{DocumentCommand}
-use Rattle.command_answers.specs.declared.command.DocumentCommand.TheVariants.{Run}
+use Rattle.command_words.specs.declared.command.Command.TheVariants.{Document, Sample}
+use Rattle.command_words.specs.declared.command.DocumentCommand.{DocumentCommand}
+use Rattle.command_words.specs.declared.command.DocumentCommand.TheVariants.{Run}
 use Rattle.command_answers.specs.declared.status.Status.TheVariants as status
 use Rattle.command_answers.specs.Commands.{form_of}
 use Rattle.command_answers.specs.Lines.{refusal_line}
-use Rattle.command_answers.specs.Reads.{whole}
+use Rattle.command_answers.specs.Reads.{nothing, whole}
 use Rattle.command_answers.specs.Owed.{IsOwed}
 
 -- it is what the command owes for each whole input that is a document with these contents
@@ -54,3 +58,16 @@ IsTaskOf c bytes (task.Run run) = (c ≡ Run) × (a : Contents) × Holds (form_o
 -- the same for each whole input that is a document with these contents
 abbrev pub IsTaskTo : DocumentCommand → Contents → Task → Type 0
 IsTaskTo c a t = (bytes : List ℕ) → Holds (form_of c) bytes a → IsTaskOf c bytes t
+
+-- A run is that of a number's sample, whose lists' amoebots are there. Each good report of it that an interleaving gives is owed, with
+-- the text that tells it.
+pub record IsPreparedSample (seed : ℕ) (run : Prepared) : Type 0 where
+  pub there : All (All (λ (id : ℕ). IsSome (bot_at run.world id))) run.lists.ids
+  pub owed : (report : Report) (text : List ℕ) → Good (verdict_shown run.runner) run.world run.lists report → Reached (setup (verdict_shown run.runner) run.world run.lists) report
+      → IsSampleText (verdict_shown run.runner) run.world run.lists seed report text → IsOwed (Some (Sample seed)) nothing status.Done (Some report) text
+
+-- an answer tells a report of a number's sample
+pub record TellsSample (f : Shown → Verdict) (lists : CallerLists) (seed : ℕ) (told : Report) (answer : Answer) : Type 0 where
+  pub done : answer.status ≡ status.Done
+  pub report : answer.report ≡ Some told
+  pub text : IsSampleText f told.journal.first lists seed told answer.text

@@ -6,21 +6,17 @@ use Rattle.claim_core.specs.declared.report.Report.{Report}
 use Rattle.document_grammar.specs.declared.section.Form.TheVariants as form
 use Rattle.document_grammar.specs.Documents.{Contents, Holds}
 use Rattle.command_runs.specs.Laws.{SameReport}
-use Rattle.command_answers.specs.declared.command.Command.{Command}
-use Rattle.command_answers.specs.declared.command.Command.TheVariants.{Document}
-use Rattle.command_answers.specs.declared.command.DocumentCommand.{DocumentCommand}
-use Rattle.command_answers.specs.declared.command.DocumentCommand.TheVariants.{Run}
+use Rattle.command_words.specs.declared.command.Command.{Command}
+use Rattle.command_words.specs.declared.command.Command.TheVariants.{Document, Sample}
+use Rattle.command_words.specs.declared.command.DocumentCommand.{DocumentCommand}
+use Rattle.command_words.specs.declared.command.DocumentCommand.TheVariants.{Run}
 use Rattle.command_answers.specs.declared.status.Status.{Status}
 use Rattle.command_answers.specs.declared.status.Status.TheVariants as status
-use Rattle.command_answers.specs.Commands.{words_of, command_of, form_of}
-use Rattle.command_answers.specs.Reads.{Read, whole}
+use Rattle.command_answers.specs.Commands.{form_of}
+use Rattle.command_answers.specs.Reads.{Read, nothing, whole}
 use Rattle.command_answers.specs.Owed.{IsOwed}
 use Rattle.command_answers.specs.Outcomes.{IsOutcome}
-use Rattle.command_answers.specs.Headline.{MakesTurns, IsRunOfDocument}
-
--- the words are a command exactly where they are its words
-abbrev pub CommandIsItsWords : Type 0
-CommandIsItsWords = (words : List (List ℕ)) (c : Command) → (command_of words ≡ Some c) ↔ (words ≡ words_of c)
+use Rattle.command_answers.specs.Headline.{MakesTurns, IsRunOfDocument, IsRunOfSample}
 
 -- reports that are one, or none
 abbrev pub SameIfAny : Option Report → Option Report → Type 0
@@ -29,21 +25,23 @@ SameIfAny None (Some two) = ⊥
 SameIfAny (Some one) None = ⊥
 SameIfAny (Some one) (Some two) = SameReport one two
 
--- the input decides what is told: but for `run` of a document with two lists or more, where any interleaving may be told
-abbrev pub HasOneOutcome : Option Command → Read → Type 0
-HasOneOutcome (Some (Document Run)) (whole bytes) = (a : Contents) → Holds form.Run bytes a → IfSome a.lists (λ lists. length lists.ids ≤ 1)
-HasOneOutcome c read = ⊤
+-- at most one report may be told: but for `run` of a document with two lists or more, and for `sample`, where it is that of any interleaving
+abbrev pub HasOneReport : Option Command → Read → Type 0
+HasOneReport (Some (Document Run)) (whole bytes) = (a : Contents) → Holds form.Run bytes a → IfSome a.lists (λ lists. length lists.ids ≤ 1)
+HasOneReport (Some (Sample seed)) read = ⊥
+HasOneReport c read = ⊤
 
--- one report, if any, and one text
-pub record SameTold (one two : Option Report) (first second : List ℕ) : Type 0 where
-  pub report : SameIfAny one two
-  pub text : first ≡ second
+-- and at most one text: so for `sample` too
+abbrev pub HasOneText : Option Command → Read → Type 0
+HasOneText (Some (Document Run)) (whole bytes) = HasOneReport (Some (Document Run)) (whole bytes)
+HasOneText c read = ⊤
 
--- for a command and what the input came to, one status is owed at most: so Done, Refused and Differs exclude each other. Where the input
--- decides what is told, one report and one text is owed at most
+-- for a command and what the input came to, one status is owed at most: so Done, Refused and Differs exclude each other; and where that
+-- is said above, one report and one text
 pub record SameOwed (c : Option Command) (read : Read) (s t : Status) (one two : Option Report) (first second : List ℕ) : Type 0 where
   pub status : s ≡ t
-  pub told : HasOneOutcome c read → SameTold one two first second
+  pub report : HasOneReport c read → SameIfAny one two
+  pub text : HasOneText c read → first ≡ second
 
 abbrev pub OwedIsOne : Type 0
 OwedIsOne = (c : Option Command) (read : Read) (s t : Status) (one two : Option Report) (text other : List ℕ) → IsOwed c read s one text → IsOwed c read t two other → SameOwed c read s t one two text other
@@ -59,3 +57,7 @@ ReportsAreOfTurns = (c : Option Command) (read : Read) (s : Status) (report : Op
 -- and then the input was read whole, it is a document, and the report is one of a run of it
 abbrev pub ReportsAreOfDocuments : Type 0
 ReportsAreOfDocuments = (c : DocumentCommand) (read : Read) (s : Status) (report : Report) (text : List ℕ) → IsOwed (Some (Document c)) read s (Some report) text → (bytes : List ℕ) × (read ≡ whole bytes) × IsRunOfDocument (form_of c) bytes report text
+
+-- or the command is `sample`, nothing was read, and the report is one of a run of the number's sample
+abbrev pub ReportsAreOfSamples : Type 0
+ReportsAreOfSamples = (seed : ℕ) (read : Read) (s : Status) (report : Report) (text : List ℕ) → IsOwed (Some (Sample seed)) read s (Some report) text → (read ≡ nothing) × IsRunOfSample seed report text

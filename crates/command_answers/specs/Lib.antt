@@ -8,6 +8,7 @@ pub mod OfInterleave
 pub mod OfMeasure
 pub mod OfReplay
 pub mod OfRun
+pub mod OfSample
 pub mod Outcomes
 pub mod Owed
 pub mod Reads

@@ -5,8 +5,8 @@ use Rattle.std.specs.declared.option.Option.TheVariants.{None}
 use Rattle.claim_core.specs.declared.report.Report.{Report}
 use Rattle.document_grammar.specs.Documents.{Contents}
 use Rattle.command_runs.specs.Replay.{differs_line}
-use Rattle.command_answers.specs.declared.command.DocumentCommand.{DocumentCommand}
-use Rattle.command_answers.specs.declared.command.DocumentCommand.TheVariants.{Replay}
+use Rattle.command_words.specs.declared.command.DocumentCommand.{DocumentCommand}
+use Rattle.command_words.specs.declared.command.DocumentCommand.TheVariants.{Replay}
 use Rattle.command_answers.specs.declared.status.Status.{Status}
 use Rattle.command_answers.specs.declared.status.Status.TheVariants as status
 use Rattle.command_answers.specs.OfReplay.{IsDiffering}

@@ -10,10 +10,10 @@ use Rattle.shipped_programs.specs.declared.shipped.Shipped.{Shipped}
 use Rattle.shipped_programs.specs.Shipped.{tree_of}
 use Rattle.command_runs.specs.Check.{check_text}
 use Rattle.command_runs.specs.Replay.{differs_line}
-use Rattle.command_answers.specs.declared.command.Command.{Command}
-use Rattle.command_answers.specs.declared.command.Command.TheVariants.{Document, Show}
-use Rattle.command_answers.specs.declared.command.DocumentCommand.{DocumentCommand}
-use Rattle.command_answers.specs.declared.command.DocumentCommand.TheVariants.{Run, Interleave, Replay, Check, Measure}
+use Rattle.command_words.specs.declared.command.Command.{Command}
+use Rattle.command_words.specs.declared.command.Command.TheVariants.{Document, Show, Sample}
+use Rattle.command_words.specs.declared.command.DocumentCommand.{DocumentCommand}
+use Rattle.command_words.specs.declared.command.DocumentCommand.TheVariants.{Run, Interleave, Replay, Check, Measure}
 use Rattle.command_answers.specs.declared.status.Status.{Status}
 use Rattle.command_answers.specs.declared.status.Status.TheVariants as status
 use Rattle.command_answers.specs.Commands.{form_of}
@@ -24,6 +24,7 @@ use Rattle.command_answers.specs.OfInterleave.{IsTextOfInterleave}
 use Rattle.command_answers.specs.OfReplay.{IsTextOfReplay, IsDiffering}
 use Rattle.command_answers.specs.OfCheck.{IsTextOfCheck}
 use Rattle.command_answers.specs.OfMeasure.{IsTextOfMeasure}
+use Rattle.command_answers.specs.OfSample.{IsTextOfSample}
 
 -- the text of a command for a document, with the report that it tells, if it tells one
 pub data IsTextOf (a : Contents) : DocumentCommand → Option Report → List ℕ → Type 0 where
@@ -50,3 +51,5 @@ pub data IsOwed : Option Command → Read → Status → Option Report → List 
   done : (c : DocumentCommand) (bytes : List ℕ) (a : Contents) (report : Option Report) (text : List ℕ) → Holds (form_of c) bytes a → IsTextOf a c report text → IsOwed (Some (Document c)) (whole bytes) status.Done report text
   -- a shipped program is shown as `check` writes one; nothing is read
   shown : (program : Shipped) → IsOwed (Some (Show program)) nothing status.Done None (check_text (tree_of program))
+  -- the sample of a number is run; nothing is read
+  sampled : (seed : ℕ) (report : Report) (text : List ℕ) → IsTextOfSample seed report text → IsOwed (Some (Sample seed)) nothing status.Done (Some report) text

@@ -19,7 +19,7 @@ use Rattle.document_grammar.specs.Documents.{Contents}
 use Rattle.command_runs.specs.SmallRow.{row, zeros, node, bot_on, to_the_right}
 use Rattle.command_runs.specs.Samples.{nobody}
 use Rattle.command_answers.specs.declared.status.Status.TheVariants as status
-use Rattle.command_answers.specs.Commands.{command_of}
+use Rattle.command_words.specs.Words.{command_of}
 use Rattle.command_answers.specs.Lines.{usage_line, too_long}
 use Rattle.command_answers.specs.Reads.{nothing, whole, above, up_to_fault}
 use Rattle.command_answers.specs.Owed.{IsOwed}
@@ -147,6 +147,7 @@ pub record SmallAnswers : Type 0 where
   pub no_words : IsOwed (command_of []) nothing status.Words None usage_line
   pub two_words : IsOwed (command_of (codes "run" ∷ codes "now" ∷ [])) nothing status.Words None usage_line
   pub other_name : IsOwed (command_of (codes "show" ∷ codes "Line" ∷ [])) nothing status.Words None usage_line
+  pub other_number : IsOwed (command_of (codes "sample" ∷ codes "-1" ∷ [])) nothing status.Words None usage_line
   pub fails : IsOwed (command_of (codes "run" ∷ [])) (up_to_fault (codes "amoe")) status.ReadFault None (codes "read fault\n")
   pub long : (bytes : List ℕ) → IsOwed (command_of (codes "check" ∷ [])) (above bytes) (status.Refused too_long) None (codes "refused 0 TooLong\n")
   pub empty : IsOwed (command_of (codes "interleave" ∷ [])) (whole []) (status.Refused empty_refused) None (codes "refused 1 Truncated\n")

@@ -1,25 +1,29 @@
 //! What a command answers to a whole input, and what is prepared for a run.
 
 ghost use Rattle.std.specs.Prelude.{◌≡◌, ◌<◌, ◌≤◌, ◌+◌, ◌^◌, length, IfOk, IsSome, Some};
+ghost use Rattle.claim_core.specs.Good.{Good};
+ghost use Rattle.action_meaning.specs.Verdicts.{verdict_shown};
 ghost use Rattle.document_grammar.specs.Fitting.{Fits};
 ghost use Rattle.shape_files.specs.Views.{contents};
-ghost use Rattle.command_answers.specs.Answers.{IsAnswerTo, IsTaskOf, IsTaskTo, done_with, refused_with};
-ghost use Rattle.command_answers.specs.declared.command.Command.TheVariants.{Show};
+ghost use Rattle.command_answers.specs.Answers.{IsAnswerTo, IsPreparedSample, IsTaskOf, IsTaskTo, TellsSample, done_with, refused_with};
+ghost use Rattle.command_words.specs.declared.command.Command.TheVariants.{Show};
 ghost use Rattle.command_answers.specs.Commands.{form_of};
 ghost use Rattle.command_answers.specs.OfMeasure.{last_of};
 ghost use Rattle.command_answers.specs.Owed.{IsOwed};
 ghost use Rattle.command_answers.specs.Reads.{nothing};
 
-use crate::command::DocumentCommand;
+use crate::documents::form_of;
 use crate::status::Status;
 use action_eval::Runner;
 use amoebot_state::{NoMemory, World};
 use claim_core::{Lists, Report, one_list_is_serial};
 use command_runs::{
-    compare, print_agrees, print_check, print_differs, print_measures, print_report,
+    compare, print_agrees, print_check, print_differs, print_measures, print_report, print_sample,
     run_interleaved,
 };
+use command_words::DocumentCommand;
 use document_grammar::documents_fit;
+use run_sample::{Sample, make_sample, sample_is_fit};
 use shape_files::{Parts, read_sections};
 use shipped_programs::Shipped;
 use std::alloc::Global;
@@ -56,7 +60,7 @@ pub fn task_of(alloc: Global, command: DocumentCommand, bytes: &[u8]) -> Result<
     ensures { IfOk result (IsTaskOf command bytes.now) }
 {
     documents_fit();
-    match read_sections(alloc, bytes, command.form()) {
+    match read_sections(alloc, bytes, form_of(command)) {
         Ok(sections) => task_of_document(alloc, command, sections.into_parts()),
         Err(ReadRefusal::Refused(refusal)) => {
             let answer = refuse(alloc, refusal)?;
@@ -243,6 +247,43 @@ pub fn answer_report(alloc: Global, report: Report, vars: u8) -> Result<Answer, 
     Ok(Answer {
         status: Status::Done,
         report: Some(report),
+        text,
+    })
+}
+
+/// The run of a number's sample, which reads nothing.
+pub fn prepare_sample(alloc: Global, seed: u32) -> Result<Prepared, NoMemory>
+    ensures { IfOk result (IsPreparedSample seed) }
+{
+    sample_is_fit();
+    one_list_is_serial();
+    let Sample {
+        checked,
+        world,
+        lists,
+    } = make_sample(alloc, seed)?;
+    Ok(Prepared {
+        runner: Runner::new(checked),
+        world,
+        lists,
+    })
+}
+
+/// The answer that tells a good report of the lists' turns, as that of a number's sample.
+pub fn answer_sample(
+    alloc: Global,
+    seed: u32,
+    runner: &Runner,
+    lists: &Lists,
+    told: Report,
+) -> Result<Answer, NoMemory>
+    requires { Good (verdict_shown runner.now) told.journal.first lists.now told }
+    ensures { IfOk result (TellsSample (verdict_shown runner.now) lists.now seed told) }
+{
+    let text = print_sample(alloc, seed, runner, lists, &told)?;
+    Ok(Answer {
+        status: Status::Done,
+        report: Some(told),
         text,
     })
 }

@@ -1,6 +1,6 @@
 //! What holds of the answers. The functions do nothing: their clauses are the laws.
 
-ghost use Rattle.command_answers.specs.Laws.{CommandIsItsWords, DocumentsHaveOutcomes, OwedIsOne, ReportsAreOfDocuments, ReportsAreOfTurns};
+ghost use Rattle.command_answers.specs.Laws.{DocumentsHaveOutcomes, OwedIsOne, ReportsAreOfDocuments, ReportsAreOfSamples, ReportsAreOfTurns};
 ghost use Rattle.command_answers.specs.Samples.{SmallAnswers};
 
 use claim_core::{one_list_is_serial, reached_is_good};
@@ -9,14 +9,10 @@ use command_runs::{
     run_text_is_one,
 };
 use document_grammar::documents_are_decided;
+use run_sample::sample_is_fit;
 
-/// The words are a command exactly where they are its words.
-pub fn command_is_its_words()
-    ensures { CommandIsItsWords }
-{}
-
-/// For a command and what the input came to, at most one status is owed. Where the input decides what is told, at most one report and one
-/// text is owed: but for `run` of two lists or more.
+/// For a command and what the input came to, at most one status is owed. At most one report is owed, but for `run` of two lists or more
+/// and for `sample`; and at most one text, but for `run` of two lists or more.
 pub fn owed_is_one()
     ensures { OwedIsOne }
 {
@@ -25,6 +21,8 @@ pub fn owed_is_one()
     interleave_text_is_one();
     replay_is_decided();
     measure_text_is_one();
+    good_stays_connected();
+    sample_is_fit();
 }
 
 /// For a document of the command's form it is done; or, for `replay`, the journal differs.
@@ -34,14 +32,16 @@ pub fn documents_have_outcomes()
     documents_are_decided();
 }
 
-/// A report is owed exactly where `run` or `interleave` is done. Then the input is a document, and the report is a good one of the
-/// lists' turns under its program, from its shape on: the headline.
-pub fn reports_are_of_documents()
+/// A report is owed exactly where `run`, `interleave` or `sample` is done. Then it is a good one of the turns of a document's lists under
+/// its program, from its shape on, or of those of a sample: the headline.
+pub fn reports_are_of_runs()
     ensures exactly { ReportsAreOfTurns }
-    ensures headline { ReportsAreOfDocuments }
+    ensures document { ReportsAreOfDocuments }
+    ensures sample { ReportsAreOfSamples }
 {
     good_stays_connected();
     one_list_is_serial();
+    sample_is_fit();
 }
 
 /// For each status that an input can owe, a call that owes it.

@@ -2,14 +2,15 @@
 #![tactic(auto)]
 
 mod answering;
-mod command;
+mod documents;
 mod laws;
 mod status;
 
-pub use answering::{Answer, Prepared, Task, answer_report, answer_show, task_of};
-pub use command::{Command, DocumentCommand, command_of};
+pub use answering::{
+    Answer, Prepared, Task, answer_report, answer_sample, answer_show, prepare_sample, task_of,
+};
+pub use documents::{form_of, limit_of};
 pub use laws::{
-    command_is_its_words, documents_have_outcomes, owed_is_one, reports_are_of_documents,
-    small_answers,
+    documents_have_outcomes, owed_is_one, reports_are_of_runs, small_answers,
 };
 pub use status::Status;

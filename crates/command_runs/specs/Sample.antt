@@ -1,6 +1,6 @@
 -- The command `sample`: what is told of a report of lists' turns, made from a number.
-use Rattle.std.specs.Prelude.{◌≡◌, ℕ, ◌*◌, Bool, List, [], ◌∷◌, ◌++◌, length, codes, decimal, Decides}
-use Rattle.text_tokens.specs.Lines.{line_text}
+use Rattle.std.specs.Prelude.{◌≡◌, ℕ, ◌*◌, Bool, List, [], ◌∷◌, length, codes, decimal, Decides}
+use Rattle.text_tokens.specs.Lines.{lines_text}
 use Rattle.tri_lattice.specs.Sets.{IsConnected}
 use Rattle.amoebot_state.specs.declared.verdict.Verdict.{Verdict}
 use Rattle.amoebot_state.specs.Configs.{Config}
@@ -12,9 +12,14 @@ use Rattle.command_runs.specs.Measure.{yes_or_no}
 use Rattle.command_runs.specs.Replay.{Agrees}
 
 abbrev pub sample_text : ℕ → ℕ → ℕ → ℕ → Bool → Bool → List ℕ
-sample_text seed bots callers turns connected agrees =
-    line_text (codes "sample" ∷ decimal seed ∷ []) ++ line_text (codes "bots" ∷ decimal bots ∷ []) ++ line_text (codes "callers" ∷ decimal callers ∷ []) ++ line_text (codes "turns" ∷ decimal turns ∷ [])
-    ++ line_text (codes "connected" ∷ yes_or_no connected ∷ []) ++ line_text (codes "replay" ∷ yes_or_no agrees ∷ [])
+sample_text seed bots callers turns connected agrees = lines_text (
+  (codes "sample" ∷ decimal seed ∷ [])
+  ∷ (codes "bots" ∷ decimal bots ∷ [])
+  ∷ (codes "callers" ∷ decimal callers ∷ [])
+  ∷ (codes "turns" ∷ decimal turns ∷ [])
+  ∷ (codes "connected" ∷ yes_or_no connected ∷ [])
+  ∷ (codes "replay" ∷ yes_or_no agrees ∷ [])
+  ∷ [])
 
 -- the text of a report: its number, how many amoebots, callers and turns there are, whether the last world is connected, and whether the journal is a
 -- run from the world at the start to the last one

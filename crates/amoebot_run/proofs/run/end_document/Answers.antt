@@ -1,7 +1,7 @@
 use Rattle.std.proofs.Common.{ℕ, Some, None, Err, ap, refl, subst, sym}
 use Rattle.outer_io.specs.declared.errors.ReadError.{ReadError}
 use Rattle.outer_io.specs.Readings.{ReadsUpTo, ReadsWhole}
-use Rattle.command_answers.specs.declared.command.Command.TheVariants.{Document}
+use Rattle.command_words.specs.declared.command.Command.TheVariants.{Document}
 use Rattle.command_answers.specs.declared.status.Status.TheVariants as status
 use Rattle.command_answers.specs.Lines.{read_fault_line, refusal_line, too_long}
 use Rattle.command_answers.specs.Owed.{IsOwed, read_fault, longer}

@@ -8,10 +8,10 @@ use Rattle.command_answers.proofs.answering.task_of.Goals as goal
 
 pub task_of_document-requires : goal.task_of_document-requires
 task_of_document-requires c =
-    let holds : Holds (form_of c.args.command) c.args.bytes.now (contents c.into_parts.result) = subst (λ (z : Form × Contents). Holds z.0 c.args.bytes.now z.1) (λ i. (c.form.ensures i, sym c.into_parts.ensures i)) c.in-Ok.ensures in
+    let holds : Holds (form_of c.args.command) c.args.bytes.now (contents c.into_parts.result) = subst (λ (z : Form × Contents). Holds z.0 c.args.bytes.now z.1) (λ i. (c.form_of.ensures i, sym c.into_parts.ensures i)) c.in-Ok.ensures in
     c.documents_fit.ensures (form_of c.args.command) c.args.bytes.now (contents c.into_parts.result) holds
 
 pub returns-in_ok-answer-in-Err-Refused : goal.returns-in_ok-answer-in-Err-Refused
 returns-in_ok-answer-in-Err-Refused c =
-    let fault : IsRefused (form_of c.args.command) c.args.bytes.now c.in-Err-Refused.refusal = subst (λ (form : Form). IsRefused form c.args.bytes.now c.in-Err-Refused.refusal) c.form.ensures (rw c.in-Err-Refused.field-0-is at c.in-Err-Refused.ensures) in
+    let fault : IsRefused (form_of c.args.command) c.args.bytes.now c.in-Err-Refused.refusal = subst (λ (form : Form). IsRefused form c.args.bytes.now c.in-Err-Refused.refusal) c.form_of.ensures (rw c.in-Err-Refused.field-0-is at c.in-Err-Refused.ensures) in
     refuses c.args.command c.args.bytes.now c.in-Err-Refused.refusal c.in_ok-answer-in-Err-Refused.answer fault (rw c.in-Err-Refused.field-0-is at c.in_ok-answer-in-Err-Refused.ensures)

@@ -1,7 +1,7 @@
 use Rattle.std.proofs.Common.{sym, subst}
 use Rattle.shape_files.specs.Views.{contents}
 use Rattle.command_answers.specs.declared.answering.Task.TheVariants as task
-use Rattle.command_answers.specs.declared.command.DocumentCommand.{DocumentCommand}
+use Rattle.command_words.specs.declared.command.DocumentCommand.{DocumentCommand}
 use Rattle.command_answers.specs.Answers.{IsTaskTo}
 use Rattle.command_answers.proofs.answering.task_of_document.Goals as goal
 

@@ -1,0 +1,28 @@
+ghost use Rattle.std.specs.Prelude.{◌≡◌};
+ghost use Rattle.command_answers.specs.Commands.{form_of, limit_of};
+
+use command_words::DocumentCommand;
+use document_grammar::Form;
+
+/// The form of a command's document.
+pub fn form_of(command: DocumentCommand) -> Form
+    ensures { result ≡ form_of command }
+{
+    match command {
+        DocumentCommand::Run => Form::Run,
+        DocumentCommand::Interleave => Form::Interleave,
+        DocumentCommand::Replay => Form::Replay,
+        DocumentCommand::Check => Form::Check,
+        DocumentCommand::Measure => Form::Measure,
+    }
+}
+
+/// The most bytes that a command's document may have.
+pub fn limit_of(command: DocumentCommand) -> u32
+    ensures { result ≡ limit_of (form_of command) }
+{
+    match command {
+        DocumentCommand::Run | DocumentCommand::Interleave | DocumentCommand::Check => 1_048_576,
+        DocumentCommand::Replay | DocumentCommand::Measure => 134_217_728,
+    }
+}
