@@ -10,7 +10,7 @@ use Rattle.document_grammar.specs.Documents.{Contents, Holds}
 use Rattle.activation.specs.declared.turn.Turn.{Turn}
 use Rattle.shipped_programs.specs.declared.shipped.Shipped.{Shipped}
 use Rattle.command_words.specs.declared.command.Command.{Command}
-use Rattle.command_words.specs.declared.command.Command.TheVariants.{Document, Show}
+use Rattle.command_words.specs.declared.command.Command.TheVariants.{Document, Show, Sample}
 use Rattle.command_words.specs.declared.command.DocumentCommand.{DocumentCommand}
 use Rattle.command_answers.specs.declared.status.Status.{Status}
 use Rattle.command_answers.specs.declared.status.Status.TheVariants as status
@@ -18,11 +18,11 @@ use Rattle.command_answers.specs.Commands.{form_of}
 use Rattle.command_answers.specs.Headline.{MakesTurns}
 use Rattle.text_tokens.specs.Kinds.{name}
 use Rattle.command_answers.specs.Lines.{refusal_line, too_long}
-use Rattle.command_answers.specs.Laws.{OwedIsOne, HasOneOutcome, SameOwed, SameIfAny, DocumentsHaveOutcomes, ReportsAreOfTurns, ReportsAreOfDocuments}
+use Rattle.command_answers.specs.Laws.{OwedIsOne, SameOwed, DocumentsHaveOutcomes, ReportsAreOfTurns, ReportsAreOfDocuments, ReportsAreOfSamples}
 use Rattle.command_answers.specs.Reads.{Read, nothing, whole, above, up_to_fault, some}
-use Rattle.command_answers.specs.Owed.{IsOwed, usage, read_fault, longer, refused, differs, done, shown}
+use Rattle.command_answers.specs.Owed.{IsOwed, usage, read_fault, longer, refused, differs, done, shown, sampled}
 use Rattle.amoebot_run.specs.declared.run.Ended.{Ended}
-use Rattle.amoebot_run.specs.Endings.{IsEnding, written, cut, wanting, IsWithin, IsWritten, all, front, IsAnswered, IsFailure, IsServed, IsTold, ReadsNothing, limit_for}
+use Rattle.amoebot_run.specs.Endings.{IsEnding, written, cut, wanting, IsWithin, IsWritten, all, front, IsAnswered, IsFailure, IsServed, IsTold, of_document, of_sample, ReadsNothing, limit_for}
 
 -- ---- how a call ended, from what was written
 
@@ -72,14 +72,17 @@ reported law command _ _ (written read s report text reads owes writes) = law co
 reported law command _ _ (cut read s report text reads owes cuts) = no_report _ _ (λ e. cc)
 reported law command _ _ (wanting read reads within untouched) = no_report _ _ (λ e. cc)
 
-module _ (law : ReportsAreOfDocuments) (Reads : Read → Type 0) (Writes : List ℕ → Type 0) where
+module _ (documents : ReportsAreOfDocuments) (samples : ReportsAreOfSamples) (Reads : Read → Type 0) (Writes : List ℕ → Type 0) where
   told_owed : (command : Option Command) (read : Read) (s : Status) (report : Option Report) (text : List ℕ) → Reads read → Writes text → IsOwed command read s report text → IfSome report (IsTold command Reads Writes)
   told_owed command read s None text reads writes owes = tt
   told_owed None read s (Some report) text reads writes owes = elim owes [ ]
   told_owed (Some (Show p)) read s (Some report) text reads writes owes = elim owes [ ]
   told_owed (Some (Document c)) read s (Some report) text reads writes owes =
-      let by = law c read s report text owes in
-      record { c = c; document = by.0; text = text; its_command = refl; reads = subst Reads by.1 reads; run = by.2; writes = writes }
+      let by = documents c read s report text owes in
+      of_document c by.0 text refl (subst Reads by.1 reads) by.2 writes
+  told_owed (Some (Sample seed)) read s (Some report) text reads writes owes =
+      let by = samples seed read s report text owes in
+      of_sample seed text refl (subst Reads by.0 reads) by.1 writes
 
   pub told : {Cuts : List ℕ → Type 0} {Untouched : Type 0} (command : Option Command) (s : Status) (report : Option Report) → IsEnding command Reads Writes Cuts Untouched s report → IfSome report (IsTold command Reads Writes)
   told command _ _ (written read s report text reads owes writes) = told_owed command read s report text reads writes owes
@@ -103,7 +106,10 @@ no_show : (p : Shipped) (document : List ℕ) (t : Status) (other : Option Repor
 no_show p document t other its x = elim x [ ]
 
 is_answered : {command : Option Command} {read : Read} {s t : Status} {report other : Option Report} {text its : List ℕ} (Writes : List ℕ → Type 0) → Writes text → SameOwed command read s t report other text its → IsAnswered command read t other its Writes s report
-is_answered Writes writes same = record { status = same.status; told = λ decided. ((same.told decided).report, subst Writes (same.told decided).text writes) }
+is_answered Writes writes same = record { status = same.status; told = same.report; writes = λ decided. subst Writes (same.text decided) writes }
+
+no_sample : (seed : ℕ) (document : List ℕ) (t : Status) (other : Option Report) (its : List ℕ) → IsOwed (Some (Sample seed)) (whole document) t other its → ⊥
+no_sample seed document t other its x = elim x [ ]
 
 -- what is owed for it is what the call answers
 module _ (law : OwedIsOne) (document : List ℕ) (t : Status) (other : Option Report) (its : List ℕ) (Writes : List ℕ → Type 0) where
@@ -113,6 +119,7 @@ module _ (law : OwedIsOne) (document : List ℕ) (t : Status) (other : Option Re
   one_owed command (up_to_fault got) s report text same owes writes (read_fault c more) = inr tt
   one_owed command nothing s report text same owes writes usage = absurd (no_usage _ _ _ _ owes)
   one_owed command nothing s report text same owes writes (shown p) = absurd (no_show _ _ _ _ _ owes)
+  one_owed command nothing s report text same owes writes (sampled seed told v x) = absurd (no_sample _ _ _ _ _ owes)
   one_owed command (some got) s report text same owes writes x = elim x [ ]
 
   pub one : {Reads : Read → Type 0} {Cuts : List ℕ → Type 0} {Untouched : Type 0} → ((r : Read) → Reads r → IsAll document r) → (command : Option Command) (s : Status) (report : Option Report)
@@ -125,6 +132,7 @@ module _ (law : OwedIsOne) (document : List ℕ) (t : Status) (other : Option Re
 reads_nothing : (command : Option Command) (read : Read) (s t : Status) (one two : Option Report) (text other : List ℕ) → IsOwed command nothing t two other → IsOwed command read s one text → read ≡ nothing
 reads_nothing command read s t one two text other usage usage = refl
 reads_nothing command read s t one two text other (shown p) (shown q) = refl
+reads_nothing command read s t one two text other (sampled seed r v x) (sampled same q u y) = refl
 
 pub one_unread : OwedIsOne → (t : Status) (other : Option Report) (its : List ℕ) (Writes : List ℕ → Type 0) {Reads : Read → Type 0} {Cuts : List ℕ → Type 0} {Untouched : Type 0} (command : Option Command) (s : Status) (report : Option Report)
     → IsOwed command nothing t other its → IsEnding command Reads Writes Cuts Untouched s report → IsAnswered command nothing t other its Writes s report ⊎ IsFailure s
@@ -137,6 +145,7 @@ one_unread law t other its Writes command _ _ owes (wanting read reads within un
 -- a command that reads nothing is done
 done_unread : (c : Command) (read : Read) (s : Status) (report : Option Report) (text : List ℕ) → ReadsNothing (Some c) → IsOwed (Some c) read s report text → s ≡ status.Done
 done_unread c read s report text nothing_read (shown p) = refl
+done_unread c read s report text nothing_read (sampled seed told v x) = refl
 done_unread c read s report text nothing_read (read_fault d got) = absurd nothing_read
 done_unread c read s report text nothing_read (longer d got) = absurd nothing_read
 done_unread c read s report text nothing_read (refused d bytes r x) = absurd nothing_read
@@ -180,6 +189,7 @@ cause_of command read s report text (read_fault c got) = (got, refl)
 cause_of command read s report text (longer c got) = tt
 cause_of command read s report text (refused c bytes r x) = tt
 cause_of command read s report text (shown p) = tt
+cause_of command read s report text (sampled seed told v x) = tt
 cause_of command read s report text (differs bytes a place x l) = tt
 cause_of command read s report text (done c bytes a r t x l) = tt
 

@@ -1,5 +1,5 @@
 -- A call over bytes in memory.
-use Rattle.std.proofs.Common.{◌≡◌, ◌∙◌, ◌<◌, ◌≤◌, ◌⊎◌, ap, refl, sym, subst, List, ℕ, length, Option, Some, None, inl, inr, arith}
+use Rattle.std.proofs.Common.{◌≡◌, ◌≤◌, refl, subst, List, ℕ, length, Option, Some, None, arith}
 use Rattle.std.specs.Prelude.{IfSome}
 use Rattle.outer_io.specs.Kept.{KeptBytes, KeepsPiece, PiecesAreKeptAsOne, written_of}
 use Rattle.outer_io.specs.Told.{Rose}
@@ -9,7 +9,7 @@ use Rattle.command_words.specs.declared.command.Command.{Command}
 use Rattle.command_answers.specs.declared.status.Status.{Status}
 use Rattle.command_answers.specs.declared.status.Status.TheVariants as status
 use Rattle.command_answers.specs.Reads.{Read, IsReading, nothing, whole, above, up_to_fault, some}
-use Rattle.amoebot_run.specs.Endings.{IsAnswered, IsFailure, IsReadingOf, IsTold, HasText}
+use Rattle.amoebot_run.specs.Endings.{IsAnswered, IsFailure, IsReadingOf, IsTold, of_document, of_sample, HasText}
 use Rattle.amoebot_run.proofs.Fronts.{whole_is, no_longer}
 
 -- a count that stays 0 did not rise
@@ -42,9 +42,10 @@ memory_alone (status.Differs _) read write fails = elim fails [ ]
 
 pub answered_maps : {command : Option Command} {read : Read} {s ended : Status} {report told : Option Report} {text : List ℕ} {Writes Writes' : List ℕ → Type 0} → ((t : List ℕ) → Writes t → Writes' t)
     → IsAnswered command read s report text Writes ended told → IsAnswered command read s report text Writes' ended told
-answered_maps {text = text} f x = record { status = x.status; told = λ decided. ((x.told decided).0, f text (x.told decided).1) }
+answered_maps {text = text} f x = record { status = x.status; told = x.told; writes = λ decided. f text (x.writes decided) }
 
 pub told_maps : (command : Option Command) {Reads Reads' : Read → Type 0} {Writes Writes' : List ℕ → Type 0} → ((r : Read) → Reads r → Reads' r) → ((t : List ℕ) → Writes t → Writes' t) → (report : Option Report)
     → IfSome report (IsTold command Reads Writes) → IfSome report (IsTold command Reads' Writes')
 told_maps command f g None told = tt
-told_maps command f g (Some report) told = record { c = told.c; document = told.document; text = told.text; its_command = told.its_command; reads = f (whole told.document) told.reads; run = told.run; writes = g told.text told.writes }
+told_maps command f g (Some report) (of_document c document text its_command reads run writes) = of_document c document text its_command (f (whole document) reads) run (g text writes)
+told_maps command f g (Some report) (of_sample seed text its_command reads run writes) = of_sample seed text its_command (f nothing reads) run (g text writes)

@@ -3,24 +3,30 @@ use Rattle.std.proofs.Common.{◌≡◌, ℕ, List, length, Option, Some, None, 
 use Rattle.std.specs.Prelude.{IsSome, IfSome}
 use Rattle.std.proofs.lemmas.Bool.{false≢true}
 use Rattle.claim_core.specs.declared.report.Report.{Report}
+use Rattle.amoebot_state.specs.Configs.{Config}
+use Rattle.claim_core.specs.Good.{Good}
+use Rattle.claim_core.specs.Reached.{Reached}
+use Rattle.action_meaning.specs.Verdicts.{verdict_shown}
+use Rattle.turn_workers.specs.Turns.{AreTurnsOf}
+use Rattle.command_runs.specs.Sample.{IsSampleText}
 use Rattle.activation.specs.declared.turn.Turn.{Turn}
-use Rattle.command_runs.specs.Reports.{report_text}
+use Rattle.command_runs.specs.Reports.{setup, report_text}
 use Rattle.command_answers.specs.declared.answering.Answer.{Answer}
 use Rattle.command_answers.specs.declared.answering.Prepared.{Prepared}
 use Rattle.command_answers.specs.declared.answering.Task.TheVariants as task
 use Rattle.command_words.specs.declared.command.Command.{Command}
-use Rattle.command_words.specs.declared.command.Command.TheVariants.{Document}
+use Rattle.command_words.specs.declared.command.Command.TheVariants.{Document, Sample}
 use Rattle.command_words.specs.declared.command.DocumentCommand.{DocumentCommand}
-use Rattle.command_words.specs.declared.command.DocumentCommand.TheVariants.{Run}
+use Rattle.command_words.specs.declared.command.DocumentCommand.TheVariants.{Run, Interleave, Replay, Check, Measure}
 use Rattle.command_answers.specs.declared.status.Status.{Status}
 use Rattle.command_answers.specs.declared.status.Status.TheVariants as status
-use Rattle.command_answers.specs.Answers.{IsTaskOf}
-use Rattle.command_answers.specs.Reads.{whole}
+use Rattle.command_answers.specs.Answers.{IsTaskOf, IsPreparedSample, TellsSample}
+use Rattle.command_answers.specs.Reads.{nothing, whole}
 use Rattle.command_answers.specs.Owed.{IsOwed}
 use Rattle.amoebot_run.specs.declared.run.Ended.{Ended}
 use Rattle.amoebot_run.specs.declared.run.Outcome.{Outcome}
 use Rattle.amoebot_run.specs.Endings.{IsWritten, all, front}
-use Rattle.amoebot_run.specs.Working.{IsWorked, AreOfReport, HasTurns, IsOutcomeOf, IsRunOf}
+use Rattle.amoebot_run.specs.Working.{IsWorked, AreOfReport, HasTurns, IsOutcomeOf, IsUnreadOutcomeOf, IsRunOf}
 
 -- a call that is not done, or whose command no workers work, has none
 pub no_turns : (c : Option Command) (s : Status) (report : Option Report) → (s ≡ status.Done → IsWorked c → ⊥) → HasTurns c s report None
@@ -43,9 +49,16 @@ without_turns c ended is = subst (λ (e : Ended). HasTurns c e.status e.report e
 pub at_command : (one two : Option Command) {s : Status} {report : Option Report} {turns : Option (List (List Turn))} → one ≡ two → HasTurns one s report turns → HasTurns two s report turns
 at_command one two {s = s} {report = report} {turns = turns} e has = subst (λ (c : Option Command). HasTurns c s report turns) e has
 
+is_run : (c : DocumentCommand) → IsWorked (Some (Document c)) → c ≡ Run
+is_run Run worked = refl
+is_run Interleave worked = absurd worked
+is_run Replay worked = absurd worked
+is_run Check worked = absurd worked
+is_run Measure worked = absurd worked
+
 -- what is answered has none
 pub answered : (c : DocumentCommand) (bytes : List ℕ) (answer : Answer) → IsTaskOf c bytes (task.Answered answer) → IsOutcomeOf c bytes (record { answer = answer; turns = None })
-answered c bytes answer is = record { owed = is.0; turns = no_turns (Some (Document c)) answer.status answer.report (λ done worked. let e : Some (Document c) ≡ Some (Document Run) = worked in let same : c ≡ Run = cc in is.1 same done) }
+answered c bytes answer is = record { owed = is.0; turns = no_turns (Some (Document c)) answer.status answer.report (λ done worked. is.1 (is_run c worked) done) }
 
 -- what workers left of a run that was prepared is owed, with its turns
 pub worked : (c : DocumentCommand) (bytes : List ℕ) (run : Prepared) (outcome : Outcome) → IsTaskOf c bytes (task.Run run) → IsRunOf run outcome → IsOutcomeOf c bytes outcome
@@ -53,7 +66,21 @@ worked c bytes run outcome is ran = record {
   owed = subst (λ (answer : Answer). IsOwed (Some (Document c)) (whole bytes) answer.status answer.report answer.text) (sym ran.told)
       (subst (λ (d : DocumentCommand). IsOwed (Some (Document d)) (whole bytes) status.Done (Some ran.report) (report_text (length run.runner.vars) ran.report)) (sym is.0) (is.3.owed ran.report ran.good ran.reached));
   turns = record {
-    exactly = ((λ some. (ap (λ (answer : Answer). answer.status) ran.told, ap (λ (d : DocumentCommand). Some (Document d)) is.0)), λ both. subst (λ (turns : Option (List (List Turn))). IsSome turns) (sym ran.there) refl);
+    exactly = ((λ some. (ap (λ (answer : Answer). answer.status) ran.told, subst (λ (d : DocumentCommand). IsWorked (Some (Document d))) (sym is.0) tt)), λ both. subst (λ (turns : Option (List (List Turn))). IsSome turns) (sym ran.there) refl);
     marked = subst (λ (turns : Option (List (List Turn))). IfSome turns (AreOfReport outcome.answer.report)) (sym ran.there) (ran.report, ap (λ (answer : Answer). answer.report) ran.told, ran.marked);
   };
 }
+
+-- a good report is one from the first world of its journal on
+pub from_first : (run : Prepared) (told : Report) → Good (verdict_shown run.runner) run.world run.lists told → Good (verdict_shown run.runner) told.journal.first run.lists told
+from_first run told good = subst (λ (start : Config). Good (verdict_shown run.runner) start run.lists told) (sym good.first) good
+
+-- what workers left of a sample's run is owed, with its turns
+pub sampled : (seed : ℕ) (run : Prepared) (told : Report) (turns : List (List Turn)) (answer : Answer) → IsPreparedSample seed run → Good (verdict_shown run.runner) run.world run.lists told → Reached (setup (verdict_shown run.runner) run.world run.lists) told → AreTurnsOf told.turns turns
+    → TellsSample (verdict_shown run.runner) run.lists seed told answer → IsUnreadOutcomeOf (Sample seed) (record { answer = answer; turns = Some turns })
+sampled seed run told turns answer is good reached marked tells =
+    let lines = subst (λ (start : Config). IsSampleText (verdict_shown run.runner) start run.lists seed told answer.text) good.first tells.text in
+    record {
+      owed = subst (λ (z : Status × Option Report). IsOwed (Some (Sample seed)) nothing z.0 z.1 answer.text) (λ i. (sym tells.done i, sym tells.report i)) (is.owed told answer.text good reached lines);
+      turns = record { exactly = ((λ some. (tells.done, tt)), λ both. refl); marked = (told, tells.report, marked) };
+    }

@@ -9,13 +9,13 @@ use Rattle.claim_core.specs.declared.report.Report.{Report}
 use Rattle.document_grammar.specs.Documents.{Contents}
 use Rattle.activation.specs.declared.turn.Turn.{Turn}
 use Rattle.command_words.specs.declared.command.Command.{Command}
-use Rattle.command_words.specs.declared.command.Command.TheVariants.{Document, Show}
+use Rattle.command_words.specs.declared.command.Command.TheVariants.{Document, Show, Sample}
 use Rattle.command_words.specs.declared.command.DocumentCommand.{DocumentCommand}
 use Rattle.command_answers.specs.declared.status.Status.{Status}
 use Rattle.command_answers.specs.declared.status.Status.TheVariants as status
 use Rattle.command_answers.specs.Commands.{form_of, limit_of}
-use Rattle.command_answers.specs.Headline.{IsRunOfDocument}
-use Rattle.command_answers.specs.Laws.{HasOneOutcome, SameIfAny}
+use Rattle.command_answers.specs.Headline.{IsRunOfDocument, IsRunOfSample}
+use Rattle.command_answers.specs.Laws.{HasOneReport, HasOneText, SameIfAny}
 use Rattle.command_answers.specs.Outcomes.{IsOutcome}
 use Rattle.command_answers.specs.Reads.{Read, nothing, whole, above, up_to_fault, some}
 use Rattle.command_answers.specs.Owed.{IsOwed}
@@ -26,12 +26,14 @@ abbrev pub limit_for : Option Command → ℕ
 limit_for None = 0
 limit_for (Some (Document c)) = limit_of (form_of c)
 limit_for (Some (Show program)) = 0
+limit_for (Some (Sample seed)) = 0
 
 -- nothing is read for it
 abbrev pub ReadsNothing : Option Command → Type 0
 ReadsNothing None = ⊤
 ReadsNothing (Some (Document c)) = ⊥
 ReadsNothing (Some (Show program)) = ⊤
+ReadsNothing (Some (Sample seed)) = ⊤
 
 -- no read failed, and no byte above the limit was got
 abbrev pub IsWithin : Read → Type 0
@@ -66,20 +68,17 @@ IsFailure status.WriteFault = ⊤
 IsFailure status.NoMemory = ⊤
 IsFailure (status.Differs place) = ⊥
 
--- the call answers what is owed: its status; and, where the input decides what is told, its report and its text
+-- the call answers what is owed: its status; and where at most one report may be told, or one text, its report and its text
 pub record IsAnswered (command : Option Command) (read : Read) (s : Status) (report : Option Report) (text : List ℕ) (Writes : List ℕ → Type 0) (ended : Status) (left : Option Report) : Type 0 where
   pub status : ended ≡ s
-  pub told : HasOneOutcome command read → SameIfAny left report × Writes text
+  pub told : HasOneReport command read → SameIfAny left report
+  pub writes : HasOneText command read → Writes text
 
--- what a report comes with: the command, the document that was read to its end, of whose run it is, and its text, which was written and nothing else
-pub record IsTold (command : Option Command) (Reads : Read → Type 0) (Writes : List ℕ → Type 0) (report : Report) : Type 0 where
-  pub c : DocumentCommand
-  pub document : List ℕ
-  pub text : List ℕ
-  pub its_command : command ≡ Some (Document c)
-  pub reads : Reads (whole document)
-  pub run : IsRunOfDocument (form_of c) document report text
-  pub writes : Writes text
+-- what a report comes with: the command, the document that was read to its end, of whose run it is, and its text, which was written and nothing else; or the
+-- number of a sample, of whose run it is, and the six lines, which were written and nothing else, where nothing was read
+pub data IsTold (command : Option Command) (Reads : Read → Type 0) (Writes : List ℕ → Type 0) (report : Report) : Type 0 where
+  of_document : (c : DocumentCommand) (document text : List ℕ) → command ≡ Some (Document c) → Reads (whole document) → IsRunOfDocument (form_of c) document report text → Writes text → IsTold command Reads Writes report
+  of_sample : (seed : ℕ) (text : List ℕ) → command ≡ Some (Sample seed) → Reads nothing → IsRunOfSample seed report text → Writes text → IsTold command Reads Writes report
 
 -- a document is served: what is written is an outcome of it
 abbrev pub IsServed : Contents → DocumentCommand → (List ℕ → Type 0) → Status → Option Report → Type 0

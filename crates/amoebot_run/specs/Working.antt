@@ -1,5 +1,5 @@
 -- What workers leave of a run, and which calls hand it on.
-use Rattle.std.specs.Prelude.{◌≡◌, ◌↔◌, ℕ, List, length, IsSome, IfSome}
+use Rattle.std.specs.Prelude.{◌≡◌, ◌↔◌, ℕ, List, length, IsSome, IfSome, ⊤}
 use Rattle.std.specs.declared.option.Option.{Option}
 use Rattle.std.specs.declared.option.Option.TheVariants.{Some, None}
 use Rattle.claim_core.specs.declared.report.Report.{Report}
@@ -11,19 +11,26 @@ use Rattle.turn_workers.specs.Turns.{AreTurnsOf}
 use Rattle.command_runs.specs.Reports.{setup}
 use Rattle.command_answers.specs.declared.answering.Prepared.{Prepared}
 use Rattle.command_words.specs.declared.command.Command.{Command}
-use Rattle.command_words.specs.declared.command.Command.TheVariants.{Document}
+use Rattle.command_words.specs.declared.command.Command.TheVariants.{Document, Show, Sample}
 use Rattle.command_words.specs.declared.command.DocumentCommand.{DocumentCommand}
-use Rattle.command_words.specs.declared.command.DocumentCommand.TheVariants.{Run}
+use Rattle.command_words.specs.declared.command.DocumentCommand.TheVariants.{Run, Interleave, Replay, Check, Measure}
 use Rattle.command_answers.specs.declared.status.Status.{Status}
 use Rattle.command_answers.specs.declared.status.Status.TheVariants as status
 use Rattle.command_answers.specs.Answers.{done_with}
-use Rattle.command_answers.specs.Reads.{whole}
+use Rattle.command_answers.specs.Reads.{nothing, whole}
 use Rattle.command_answers.specs.Owed.{IsOwed}
 use Rattle.amoebot_run.specs.declared.run.Outcome.{Outcome}
 
 -- workers make the turns of the command
 abbrev pub IsWorked : Option Command → Type 0
-IsWorked c = c ≡ Some (Document Run)
+IsWorked None = ⊥
+IsWorked (Some (Document Run)) = ⊤
+IsWorked (Some (Document Interleave)) = ⊥
+IsWorked (Some (Document Replay)) = ⊥
+IsWorked (Some (Document Check)) = ⊥
+IsWorked (Some (Document Measure)) = ⊥
+IsWorked (Some (Show program)) = ⊥
+IsWorked (Some (Sample seed)) = ⊤
 
 -- there is a report, and these are what became of its turns
 abbrev pub AreOfReport : Option Report → List (List Turn) → Type 0
@@ -38,6 +45,11 @@ pub record HasTurns (c : Option Command) (s : Status) (report : Option Report) (
 pub record IsOutcomeOf (c : DocumentCommand) (bytes : List ℕ) (outcome : Outcome) : Type 0 where
   pub owed : IsOwed (Some (Document c)) (whole bytes) outcome.answer.status outcome.answer.report outcome.answer.text
   pub turns : HasTurns (Some (Document c)) outcome.answer.status outcome.answer.report outcome.turns
+
+-- it is owed where nothing is read, and has its turns
+pub record IsUnreadOutcomeOf (c : Command) (outcome : Outcome) : Type 0 where
+  pub owed : IsOwed (Some c) nothing outcome.answer.status outcome.answer.report outcome.answer.text
+  pub turns : HasTurns (Some c) outcome.answer.status outcome.answer.report outcome.turns
 
 -- it tells a good report of what was prepared, which an interleaving gives, and what became of its turns
 pub record IsRunOf (run : Prepared) (outcome : Outcome) : Type 0 where

@@ -15,15 +15,16 @@ ghost use Rattle.command_answers.specs.Reads.{IsReading, nothing, whole};
 ghost use Rattle.command_answers.specs.Owed.{IsOwed};
 ghost use Rattle.command_answers.specs.Headline.{MakesTurns};
 ghost use Rattle.amoebot_run.specs.Endings.{HasText, IsAnswered, IsEnding, IsFailure, IsReadingOf, IsServed, IsTold, IsWritten, ReadsNothing, limit_for};
-ghost use Rattle.amoebot_run.specs.Working.{HasTurns, IsOutcomeOf, IsRunOf};
+ghost use Rattle.amoebot_run.specs.Working.{HasTurns, IsOutcomeOf, IsRunOf, IsUnreadOutcomeOf};
 
 use activation::{Gate, NoGate};
 use amoebot_state::NoMemory;
 use claim_core::Report;
 use command_answers::{
-    Answer, Command, DocumentCommand, Prepared, Status, Task, answer_report, answer_show,
-    command_of, documents_have_outcomes, owed_is_one, reports_are_of_documents, task_of,
+    Answer, Prepared, Status, Task, answer_report, answer_sample, answer_show,
+    documents_have_outcomes, limit_of, owed_is_one, prepare_sample, reports_are_of_runs, task_of,
 };
+use command_words::{Command, DocumentCommand, command_of};
 use outer_io::{
     ReadError, Sink, Source, SureSink, SureSource, WriteFault, pieces_are_kept_as_one,
     read_document, write_all,
@@ -87,24 +88,24 @@ pub fn run<R: Threads + Wait + Sync, S: Source, K: Sink, G: Gate>(
         (out.new ≡ out.old)
         result.status result.report }
 
-    // A report comes exactly with Done of `run` and `interleave`. Then the input was read to its end, the bytes read are a document, the report is a good one of
-    // its run, and the text of that report was written.
+    // A report comes exactly with Done of `run`, `interleave` and `sample`. Then the input was read to its end, the bytes read are a document, the report is a good
+    // one of its run, and the text of that report was written. Or the report is a good one of the sample's run, and the six lines that tell so were written.
     ensures report { IsSome result.report ↔ ((result.status ≡ Status.Done) × MakesTurns (command_of (map string_bytes words.now))) }
     ensures headline { IfSome result.report (IsTold (command_of (map string_bytes words.now))
         (IsReading S.left S.gives S.fails S.faults (limit_for (command_of (map string_bytes words.now))) input.old input.new)
         (WritesAll K.written K.takes out.old out.new)) }
 
-    // What became of each turn comes exactly with Done of `run`, and its mark is the report's.
+    // What became of each turn comes exactly with Done of `run` and `sample`, and its mark is the report's.
     ensures turns { HasTurns (command_of (map string_bytes words.now)) result.status result.report result.turns }
 
     // What is owed for an input whose bytes are told is what the call answers, unless memory is wanting or a read or a write fails: the status, and where the
-    // input decides what is told, the report and the text.
+    // input decides what is told, the report and the text. With at most one list it does so for `run`.
     ensures determined { (document : List ℕ) (s : StatusValue) (report : Option ReportValue) (text : List ℕ)
         → S.left input.old ≡ Some document → length document ≤ limit_for (command_of (map string_bytes words.now))
         → IsOwed (command_of (map string_bytes words.now)) (whole document) s report text
         → IsAnswered (command_of (map string_bytes words.now)) (whole document) s report text (WritesAll K.written K.takes out.old out.new) result.status result.report ⊎ IsFailure result.status }
 
-    // So it is of what is owed where nothing is read.
+    // So it is of what is owed where nothing is read. For `sample` that is the text alone.
     ensures determined_unread { (s : StatusValue) (report : Option ReportValue) (text : List ℕ)
         → IsOwed (command_of (map string_bytes words.now)) nothing s report text
         → IsAnswered (command_of (map string_bytes words.now)) nothing s report text (WritesAll K.written K.takes out.old out.new) result.status result.report ⊎ IsFailure result.status }
@@ -129,7 +130,7 @@ pub fn run<R: Threads + Wait + Sync, S: Source, K: Sink, G: Gate>(
 {
     owed_is_one();
     documents_have_outcomes();
-    reports_are_of_documents();
+    reports_are_of_runs();
     end(rt, alloc, words, input, out, gate)
 }
 
@@ -158,6 +159,7 @@ fn end<R: Threads + Wait + Sync, S: Source, K: Sink, G: Gate>(
     match command {
         Command::Document(command) => end_document(rt, alloc, command, input, out, gate),
         Command::Show(program) => end_show(alloc, program, out),
+        Command::Sample(seed) => end_sample(rt, alloc, seed, out, gate),
     }
 }
 
@@ -178,7 +180,7 @@ fn end_document<R: Threads + Wait + Sync, S: Source, K: Sink, G: Gate>(
         result.status result.report }
     ensures turns { HasTurns (Some (Command.Document command)) result.status result.report result.turns }
 {
-    let document = match read_document(alloc, input, command.limit()) {
+    let document = match read_document(alloc, input, limit_of(command)) {
         Ok(document) => document,
         Err(ReadError::ReadFault) => return end_with_line(out, READ_FAULT, Status::ReadFault),
         Err(ReadError::TooLong) => {
@@ -211,6 +213,49 @@ fn end_show<K: Sink>(alloc: Global, program: Shipped, out: &mut K) -> Ended
             turns: None,
         },
     )
+}
+
+/// What `sample` does.
+fn end_sample<R: Threads + Wait + Sync, K: Sink, G: Gate>(
+    rt: &R,
+    alloc: Global,
+    seed: u32,
+    out: &mut K,
+    gate: &G,
+) -> Ended
+    ensures ending { IsEnding (Some (Command.Sample seed)) (λ read. read ≡ nothing)
+        (WritesAll K.written K.takes out.old out.new)
+        (λ text. Rose (K.faults out.old) (K.faults out.new) × WritesFront K.written K.takes K.fails out.old out.new text)
+        (out.new ≡ out.old)
+        result.status result.report }
+    ensures turns { HasTurns (Some (Command.Sample seed)) result.status result.report result.turns }
+{
+    match outcome_of_sample(rt, alloc, seed, gate) {
+        Ok(outcome) => end_with_outcome(out, outcome),
+        Err(NoMemory) => end_with(Status::NoMemory),
+    }
+}
+
+/// Lets workers make the turns of a sample.
+fn outcome_of_sample<R: Threads + Wait + Sync, G: Gate>(
+    rt: &R,
+    alloc: Global,
+    seed: u32,
+    gate: &G,
+) -> Result<Outcome, NoMemory>
+    ensures { IfOk result (IsUnreadOutcomeOf (Command.Sample seed)) }
+{
+    let Prepared {
+        runner,
+        world,
+        lists,
+    } = prepare_sample(alloc, seed)?;
+    let worked = work(rt, alloc, &runner, world, &lists, gate)?;
+    let answer = answer_sample(alloc, seed, &runner, &lists, worked.report)?;
+    Ok(Outcome {
+        answer,
+        turns: Some(worked.turns),
+    })
 }
 
 /// What comes of a whole input.

@@ -32,3 +32,10 @@ returns-in-Show-clause-ending g c = at_command (λ limit. IsReading g.S.Source.l
 
 pub returns-in-Show-clause-turns : goal.returns-in-Show-clause-turns
 returns-in-Show-clause-turns g c = working.at_command _ _ (ap Some (sym c.in-Show.is) ∙ c.in-Some.ensures) c.end_show.ensures.turns
+
+pub returns-in-Sample-clause-ending : goal.returns-in-Sample-clause-ending
+returns-in-Sample-clause-ending g c = at_command (λ limit. IsReading g.S.Source.left g.S.Source.gives g.S.Source.fails g.S.Source.faults limit c.args.input.now c.args.input.now) _ _ (ap Some (sym c.in-Sample.is) ∙ c.in-Some.ensures)
+    (ending_maps (λ read e. subst (λ r. IsReading g.S.Source.left g.S.Source.gives g.S.Source.fails g.S.Source.faults 0 c.args.input.now c.args.input.now r) (sym e) refl) (λ text all. all) (λ text front. front) (λ same. same) _ _ _ c.end_sample.ensures.ending)
+
+pub returns-in-Sample-clause-turns : goal.returns-in-Sample-clause-turns
+returns-in-Sample-clause-turns g c = working.at_command _ _ (ap Some (sym c.in-Sample.is) ∙ c.in-Some.ensures) c.end_sample.ensures.turns

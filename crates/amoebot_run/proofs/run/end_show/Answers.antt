@@ -14,4 +14,4 @@ pub returns-clause-ending : goal.returns-clause-ending
 returns-clause-ending g c = ending_of nothing c.in-Ok.answer.status c.in-Ok.answer.report None c.in-Ok.answer.text _ refl c.in-Ok.ensures c.end_with_outcome.ensures
 
 pub returns-clause-turns : goal.returns-clause-turns
-returns-clause-turns g c = turns_of _ c.in-Ok.answer.status c.in-Ok.answer.report None c.in-Ok.answer.text _ (no_turns _ c.in-Ok.answer.status c.in-Ok.answer.report (λ done worked. cc)) c.end_with_outcome.ensures
+returns-clause-turns g c = turns_of _ c.in-Ok.answer.status c.in-Ok.answer.report None c.in-Ok.answer.text _ (no_turns _ c.in-Ok.answer.status c.in-Ok.answer.report (λ done worked. absurd worked)) c.end_with_outcome.ensures

@@ -5,10 +5,10 @@ use Rattle.amoebot_run.proofs.Fronts.{reads_all}
 use Rattle.amoebot_run.proofs.run.run.Goals as goal
 
 pub returns-clause-report : goal.returns-clause-report
-returns-clause-report g c = reported c.reports_are_of_documents.ensures.exactly _ _ _ c.end.ensures.ending
+returns-clause-report g c = reported c.reports_are_of_runs.ensures.exactly _ _ _ c.end.ensures.ending
 
 pub returns-clause-headline : goal.returns-clause-headline
-returns-clause-headline g c = told c.reports_are_of_documents.ensures.headline _ _ _ _ _ c.end.ensures.ending
+returns-clause-headline g c = told c.reports_are_of_runs.ensures.document c.reports_are_of_runs.ensures.sample _ _ _ _ _ c.end.ensures.ending
 
 pub returns-clause-determined : goal.returns-clause-determined
 returns-clause-determined g c = λ document s report text left few owes. one c.owed_is_one.ensures document s report text _ (reads_all g.S.Source.left g.S.Source.gives g.S.Source.fails g.S.Source.faults _ _ _ _ left few) _ _ _ owes c.end.ensures.ending
