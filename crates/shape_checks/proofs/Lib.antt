@@ -6,3 +6,4 @@ pub mod Centres
 pub mod Marking
 pub mod Rounds
 pub mod Reaching
+pub mod Rings

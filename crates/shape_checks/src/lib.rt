@@ -5,10 +5,12 @@ mod arc;
 mod connected;
 mod disc;
 mod hexagon;
+mod laws;
 mod values;
 
 pub use connected::is_connected;
 pub use hexagon::is_hexagon;
+pub use laws::ring_is_its_distance;
 pub use values::count_value;
 
 #[cfg(test)]
