@@ -20,7 +20,7 @@ close : (c v : Node) (k : ℕ) → unsigned_abs (v.x -ℤ c.x) ≤ k → unsigne
 close c v k a b e = omega arith
 
 -- the node k to the right of another, or to the left, or below it
-aside : (c : Node) (x : ℤ) (k : ℕ) → unsigned_abs (x -ℤ c.x) ≤ k → distance c (record { x = x; y = c.y }) ≤ k
+pub aside : (c : Node) (x : ℤ) (k : ℕ) → unsigned_abs (x -ℤ c.x) ≤ k → distance c (record { x = x; y = c.y }) ≤ k
 aside c x k l = close c (record { x = x; y = c.y }) k l (omega (arith, ints)) (omega (arith, ints))
 
 below : (c : Node) (y : ℤ) (k : ℕ) → unsigned_abs (y -ℤ c.y) ≤ k → distance c (record { x = c.x; y = y }) ≤ k

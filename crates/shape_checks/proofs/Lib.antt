@@ -7,3 +7,4 @@ pub mod Marking
 pub mod Rounds
 pub mod Reaching
 pub mod Rings
+pub mod Hexagons

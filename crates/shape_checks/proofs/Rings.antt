@@ -34,7 +34,7 @@ side_below k r some lt = elim (cases_lt (k / r) 6) [
       absurd (omega arith))
 ]
 
-far_of_place : (c v : Node) (r k : ℕ) → 1 ≤ r → k < 6 * r → v ≡ ring_node c r k → distance c v ≡ r
+pub far_of_place : (c v : Node) (r k : ℕ) → 1 ≤ r → k < 6 * r → v ≡ ring_node c r k → distance c v ≡ r
 far_of_place c v r k some lt e = ap (distance c) e ∙ side_is_far c r (k % r) (mod_below k r (omega arith)) (k / r) (side_below k r some lt)
 
 -- and each node at the distance is one of a side

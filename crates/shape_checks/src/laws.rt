@@ -1,6 +1,15 @@
-ghost use Rattle.shape_checks.specs.Laws.{RingIsItsDistance};
+ghost use Rattle.shape_checks.specs.Laws.{RingIsItsDistance, TwoRunsAreNoArc, FullRingsAreHexagons, RadiiFollow, HexagonsAreConnected, OneAloneIsHexagon};
 
-/// The places of a ring are the nodes at its distance.
-pub fn ring_is_its_distance()
-    ensures { RingIsItsDistance }
+/// What holds of rings and their arcs.
+pub fn ring_laws()
+    ensures distance { RingIsItsDistance }
+    ensures runs { TwoRunsAreNoArc }
+{}
+
+/// What holds of hexagons.
+pub fn hexagon_laws()
+    ensures full { FullRingsAreHexagons }
+    ensures radii { RadiiFollow }
+    ensures connected { HexagonsAreConnected }
+    ensures one { OneAloneIsHexagon }
 {}
