@@ -8,3 +8,4 @@ pub mod Rounds
 pub mod Reaching
 pub mod Rings
 pub mod Hexagons
+pub mod Growing

@@ -14,4 +14,6 @@ pub use laws::{hexagon_laws, ring_laws};
 pub use values::count_value;
 
 #[cfg(test)]
+mod plain;
+#[cfg(test)]
 mod tests;
