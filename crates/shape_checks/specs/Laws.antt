@@ -12,7 +12,7 @@ use Rattle.shape_checks.specs.Hexagons.{ring_node, IsArc, IsHexagonAt, IsHexagon
 abbrev pub RingIsItsDistance : Type 0
 RingIsItsDistance = (c v : Node) (r : ℕ) → 1 ≤ r → (distance c v ≡ r) ↔ ((k : ℕ) × (k < 6 * r) × (v ≡ ring_node c r k))
 
--- of places in a circle of which the first and the third of four pass, and the second and the last do not, no arc is made
+-- where of four places in this order the first and the third pass, and the second and the last do not, those that pass are no arc
 abbrev pub TwoRunsAreNoArc : Type 0
 TwoRunsAreNoArc = (p : ℕ → Bool) (m i j k l : ℕ) → i < j → j < k → k < l → l < m → IsTrue (p i) → p j ≡ false → IsTrue (p k) → p l ≡ false → ¬ IsArc p m
 

@@ -131,12 +131,7 @@ fn is_centre(alloc: Global, world: &World, centre: Node) -> Result<bool, NoMemor
 }
 
 /// Whether the shape is a hexagon of this radius round a node.
-fn is_hexagon_at(
-    alloc: Global,
-    world: &World,
-    centre: Node,
-    radius: u16,
-) -> Result<bool, NoMemory>
+fn is_hexagon_at(alloc: Global, world: &World, centre: Node, radius: u16) -> Result<bool, NoMemory>
     requires contracted { AreContracted world.now }
     requires central { IsCentral centre }
     requires some { 1 ≤ radius }
