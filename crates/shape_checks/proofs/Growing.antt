@@ -1,5 +1,5 @@
 -- Marks that grow by a node beside them.
-use Rattle.std.proofs.Common.{◌≡◌, ◌<◌, ℕ, ◌+◌, ◌*◌, List, [], ◌∷◌, ◌++◌, length, Bool, false, inl, inr, ap, sym, ◌∙◌, refl, subst, arith, replicate}
+use Rattle.std.proofs.Common.{◌≡◌, ◌<◌, ℕ, ◌*◌, List, [], ◌∷◌, ◌++◌, length, Bool, false, inl, inr, ap, sym, ◌∙◌, refl, subst, arith, replicate}
 use Rattle.std.specs.Prelude.{IsTrue}
 use Rattle.std.proofs.lemmas.Bool.{cases_Bool, cond-false}
 use Rattle.tri_lattice.specs.declared.node.Node.{Node}

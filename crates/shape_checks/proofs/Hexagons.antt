@@ -12,10 +12,10 @@ use Rattle.tri_lattice.specs.Sets.{Joined, here, along}
 use Rattle.tri_lattice.proofs.Nodes.{same_node}
 use Rattle.tri_lattice.proofs.Paths.{Joined-trans, Joined-sym}
 use Rattle.amoebot_state.specs.declared.bot.Bot.{Bot}
-use Rattle.amoebot_state.specs.Configs.{Config, IsValid, bot_at}
+use Rattle.amoebot_state.specs.Configs.{Config, bot_at}
 use Rattle.amoebot_state.specs.Occupied.{occupied}
 use Rattle.amoebot_state.proofs.Occupants.{id_below}
-use Rattle.shape_checks.specs.Hexagons.{ring_node, IsArc, IsHexagonAt, IsHexagon}
+use Rattle.shape_checks.specs.Hexagons.{ring_node, IsArc, IsHexagonAt}
 use Rattle.shape_checks.specs.Laws.{nearer, FullRingsAreHexagons, RadiiFollow, HexagonsAreConnected, OneAloneIsHexagon}
 use Rattle.shape_checks.proofs.Bots.{each_occupied, head_occupied}
 use Rattle.shape_checks.proofs.Centres.{aside}

@@ -1,4 +1,4 @@
-use Rattle.std.proofs.Common.{◌<◌, ℕ, length, arith}
+use Rattle.std.proofs.Common.{ℕ, length, arith}
 use Rattle.std.proofs.lemmas.Bool.{both_ways, false≢true}
 use borrow.Author.Count.{below_more}
 use Rattle.shape_checks.specs.Arcs.{place, AreFirst}

@@ -1,4 +1,4 @@
-use Rattle.std.proofs.Common.{◌<◌, ℕ, arith}
+use Rattle.std.proofs.Common.{arith}
 use Rattle.std.proofs.lemmas.Bool.{both_ways, false≢true}
 use borrow.Author.Count.{below_more}
 use Rattle.amoebot_state.specs.Occupied.{occupied}
