@@ -1,14 +1,16 @@
 -- The places of a ring are the nodes at its distance.
-use Rattle.std.proofs.Common.{◌≡◌, ◌<◌, ◌≤◌, ◌+◌, ◌-◌, ◌*◌, ◌/◌, ◌%◌, ℕ, ◌+ℤ◌, ◌-ℤ◌, ◌≤ℤ◌, ◌<ℤ◌, sym, ◌∙◌, ap, inl, inr, arith}
+use Rattle.std.proofs.Common.{◌≡◌, ◌⊎◌, ◌<◌, ◌≤◌, ◌+◌, ◌-◌, ◌*◌, ◌/◌, ◌%◌, ℕ, ◌+ℤ◌, ◌-ℤ◌, ◌≤ℤ◌, ◌<ℤ◌, sym, ◌∙◌, ap, subst, inl, inr, arith}
 use Rattle.std.specs.Prelude.{unsigned_abs}
 use Rattle.std.proofs.lemmas.Int.{ints, by_lt_z}
 use Rattle.std.proofs.lemmas.Nat.{div-mul-add, mod-mul-add, mul-le, mul-add-lt, mod_below, div-add-mod'}
 use Rattle.std.proofs.lemmas.Bool.{cases_lt}
+use Rattle.std.proofs.Math.Nat.{mod-eq_of_lt}
 use Rattle.tri_lattice.specs.declared.node.Node.{Node}
-use Rattle.tri_lattice.specs.Lattice.{distance, turned}
+use Rattle.tri_lattice.specs.Lattice.{distance, turned, Adjacent}
 use Rattle.tri_lattice.proofs.Nodes.{same_node, each_direction}
 use Rattle.shape_checks.specs.Hexagons.{moved, ring_node}
-use Rattle.shape_checks.specs.Laws.{RingIsItsDistance}
+use Rattle.shape_checks.specs.Laws.{RingIsItsDistance, NextPlacesMeet}
+use Rattle.shape_checks.proofs.Circles.{once_round}
 
 -- the node that stands j places behind the corner of side s
 abbrev on_side : Node → ℕ → ℕ → ℕ → Node
@@ -92,3 +94,61 @@ module _ (c v : Node) (r : ℕ) (some : 1 ≤ r) (far : distance c v ≡ r) wher
 
 pub ring_is_its_distance : RingIsItsDistance
 ring_is_its_distance c v r some = (place_of c v r some, λ p. far_of_place c v r p.0 some p.1 p.2)
+
+-- the next place lies a step on along the side
+along_side : (c : Node) (r j s : ℕ) → s < 6 → Adjacent (on_side c r s j) (on_side c r s (j + 1))
+along_side c r j = each_direction (λ s. Adjacent (on_side c r s j) (on_side c r s (j + 1)))
+    (2, omega arith, same_node _ _ (omega (arith, ints)) (omega (arith, ints)))
+    (3, omega arith, same_node _ _ (omega (arith, ints)) (omega (arith, ints)))
+    (4, omega arith, same_node _ _ (omega (arith, ints)) (omega (arith, ints)))
+    (5, omega arith, same_node _ _ (omega (arith, ints)) (omega (arith, ints)))
+    (0, omega arith, same_node _ _ (omega (arith, ints)) (omega (arith, ints)))
+    (1, omega arith, same_node _ _ (omega (arith, ints)) (omega (arith, ints)))
+
+-- and behind the last one of a side the next corner
+round_corner : (c : Node) (r j s : ℕ) → j + 1 ≡ r → s < 6 → Adjacent (on_side c r s j) (on_side c r (turned s 1) 0)
+round_corner c r j s last = each_direction (λ s. Adjacent (on_side c r s j) (on_side c r (turned s 1) 0))
+    (2, omega arith, same_node _ _ (omega (arith, ints)) (omega (arith, ints)))
+    (3, omega arith, same_node _ _ (omega (arith, ints)) (omega (arith, ints)))
+    (4, omega arith, same_node _ _ (omega (arith, ints)) (omega (arith, ints)))
+    (5, omega arith, same_node _ _ (omega (arith, ints)) (omega (arith, ints)))
+    (0, omega arith, same_node _ _ (omega (arith, ints)) (omega (arith, ints)))
+    (1, omega arith, same_node _ _ (omega (arith, ints)) (omega (arith, ints)))
+    s
+
+-- which place comes next
+next_at : (c : Node) (r s j : ℕ) → 1 ≤ r → s < 6 → j < r → (ring_node c r ((s * r + j + 1) % (6 * r)) ≡ on_side c r s (j + 1)) × (j + 1 < r) ⊎ (ring_node c r ((s * r + j + 1) % (6 * r)) ≡ on_side c r (turned s 1) 0) × (j + 1 ≡ r)
+next_at c r s j some low lt = elim (cases_lt (j + 1) r) [
+  | inl before ↦
+      let below = mul-add-lt s r (j + 1) 6 low before in
+      let at : (s * r + j + 1) % (6 * r) ≡ s * r + (j + 1) = mod-eq_of_lt (omega (arith, below)) ∙ omega arith in
+      inl (ap (ring_node c r) at ∙ ring_at c r s (j + 1) before, before)
+  | inr after ↦
+      let last : j + 1 ≡ r = omega arith in
+      let over : s * r + j + 1 ≡ (s + 1) * r + 0 = omega arith in
+      elim (cases_lt (s + 1) 6) [
+        | inl more ↦
+            let below = mul-add-lt (s + 1) r 0 6 more (omega arith) in
+            let at : (s * r + j + 1) % (6 * r) ≡ (s + 1) * r + 0 = ap (λ k. k % (6 * r)) over ∙ mod-eq_of_lt (omega (arith, below)) in
+            let side : s + 1 ≡ turned s 1 = sym (mod-eq_of_lt more) in
+            inr (ap (ring_node c r) at ∙ ring_at c r (s + 1) 0 (omega arith) ∙ ap (λ t. on_side c r t 0) side, last)
+        | inr all ↦
+            let five : s ≡ 5 = omega arith in
+            let whole : s * r + j + 1 ≡ 6 * r + 0 = over ∙ ap (λ t. (t + 1) * r + 0) five in
+            let at : (s * r + j + 1) % (6 * r) ≡ 0 * r + 0 = once_round (6 * r) (s * r + j + 1) 0 whole ∙ mod-eq_of_lt (omega arith) ∙ omega arith in
+            inr (ap (ring_node c r) at ∙ ring_at c r 0 0 (omega arith) ∙ ap (λ t. on_side c r (turned t 1) 0) (sym five), last)
+      ]
+]
+
+pub next_places_meet : NextPlacesMeet
+next_places_meet c r k some lt =
+    let s : ℕ = k / r in
+    let j : ℕ = k % r in
+    let low = side_below k r some lt in
+    let all : (k / r) * r + k % r + 1 ≡ k + 1 = let e = div-add-mod' k r in omega arith in
+    let P : Node → Type 0 = λ v. Adjacent (on_side c r s j) v in
+    let Q : ℕ → Type 0 = λ i. P (ring_node c r (i % (6 * r))) in
+    subst Q all (elim (next_at c r s j some low (mod_below k r (omega arith))) [
+      | inl side ↦ subst P (sym side.0) (along_side c r j s low)
+      | inr corner ↦ subst P (sym corner.0) (round_corner c r j s corner.1 low)
+    ])

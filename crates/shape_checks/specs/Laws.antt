@@ -1,8 +1,8 @@
 -- What follows from the definitions alone.
-use Rattle.std.specs.Prelude.{◌≡◌, ◌↔◌, ℕ, ◌<◌, ◌≤◌, ◌+◌, ◌*◌, nat_lt, Bool, false, IsTrue, [], ◌∷◌}
+use Rattle.std.specs.Prelude.{◌≡◌, ◌↔◌, ℕ, ◌<◌, ◌≤◌, ◌+◌, ◌*◌, ◌%◌, nat_lt, Bool, false, IsTrue, [], ◌∷◌}
 use Rattle.std.specs.declared.option.Option.TheVariants.{Some}
 use Rattle.tri_lattice.specs.declared.node.Node.{Node}
-use Rattle.tri_lattice.specs.Lattice.{distance}
+use Rattle.tri_lattice.specs.Lattice.{distance, Adjacent}
 use Rattle.tri_lattice.specs.Sets.{IsConnected}
 use Rattle.amoebot_state.specs.declared.bot.Bot.{Bot}
 use Rattle.amoebot_state.specs.Configs.{Config, IsValid}
@@ -11,6 +11,10 @@ use Rattle.shape_checks.specs.Hexagons.{ring_node, IsArc, IsHexagonAt, IsHexagon
 -- the places of a ring are the nodes at that distance
 abbrev pub RingIsItsDistance : Type 0
 RingIsItsDistance = (c v : Node) (r : ℕ) → 1 ≤ r → (distance c v ≡ r) ↔ ((k : ℕ) × (k < 6 * r) × (v ≡ ring_node c r k))
+
+-- places that follow one another, going round, are neighbours
+abbrev pub NextPlacesMeet : Type 0
+NextPlacesMeet = (c : Node) (r k : ℕ) → 1 ≤ r → k < 6 * r → Adjacent (ring_node c r k) (ring_node c r ((k + 1) % (6 * r)))
 
 -- where of four places in this order the first and the third pass, and the second and the last do not, those that pass are no arc
 abbrev pub TwoRunsAreNoArc : Type 0

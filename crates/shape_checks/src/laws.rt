@@ -1,8 +1,9 @@
-ghost use Rattle.shape_checks.specs.Laws.{RingIsItsDistance, TwoRunsAreNoArc, FullRingsAreHexagons, RadiiFollow, HexagonsAreConnected, OneAloneIsHexagon};
+ghost use Rattle.shape_checks.specs.Laws.{RingIsItsDistance, NextPlacesMeet, TwoRunsAreNoArc, FullRingsAreHexagons, RadiiFollow, HexagonsAreConnected, OneAloneIsHexagon};
 
 /// What holds of rings and their arcs.
 pub fn ring_laws()
     ensures distance { RingIsItsDistance }
+    ensures next { NextPlacesMeet }
     ensures runs { TwoRunsAreNoArc }
 {}
 
