@@ -1,10 +1,11 @@
 -- Where the centre of a hexagon lies.
 use Rattle.std.proofs.Common.{◌≡◌, ◌⊎◌, ◌<◌, ◌≤◌, ◌+◌, ◌*◌, ◌-◌, ◌/◌, ℕ, zero, suc, ℤ, pos, ◌+ℤ◌, ◌-ℤ◌, ◌≤ℤ◌, Bool, List, [], ◌∷◌, length, sym, subst, inl, inr, arith}
-use Rattle.std.specs.Prelude.{unsigned_abs, slice_index_or}
+use Rattle.std.specs.Prelude.{IsTrue, unsigned_abs, slice_index_or}
 use Rattle.std.proofs.lemmas.Bool.{cases_eq}
 use Rattle.std.proofs.lemmas.Int.{ints}
 use Rattle.tri_lattice.specs.declared.node.Node.{Node}
 use Rattle.tri_lattice.specs.Lattice.{distance}
+use Rattle.tri_lattice.specs.Extent.{Extent, IsArea, is_in}
 use Rattle.tri_lattice.proofs.Nodes.{same_node}
 use Rattle.tri_lattice.proofs.Boxes.{in_places}
 use Rattle.amoebot_state.specs.Configs.{Config, IsValid}
@@ -20,7 +21,7 @@ close : (c v : Node) (k : ℕ) → unsigned_abs (v.x -ℤ c.x) ≤ k → unsigne
 close c v k a b e = omega arith
 
 -- the node k to the right of another, or to the left, or below it
-aside : (c : Node) (x : ℤ) (k : ℕ) → unsigned_abs (x -ℤ c.x) ≤ k → distance c (record { x = x; y = c.y }) ≤ k
+pub aside : (c : Node) (x : ℤ) (k : ℕ) → unsigned_abs (x -ℤ c.x) ≤ k → distance c (record { x = x; y = c.y }) ≤ k
 aside c x k l = close c (record { x = x; y = c.y }) k l (omega (arith, ints)) (omega (arith, ints))
 
 below : (c : Node) (y : ℤ) (k : ℕ) → unsigned_abs (y -ℤ c.y) ≤ k → distance c (record { x = c.x; y = y }) ≤ k
@@ -110,6 +111,30 @@ candidates_central e r (suc zero) d c l lt = let a = c.left_low in let b = c.lef
 candidates_central e r (suc (suc zero)) d c l lt = let a = c.left_low in let b = c.left_high in let f = c.low_low in let g = c.low_high in (omega (arith, ints), omega (arith, ints), omega (arith, ints), omega (arith, ints))
 candidates_central e r (suc (suc (suc zero))) d c l lt = let a = c.left_low in let b = c.left_high in let f = c.low_low in let g = c.low_high in (omega (arith, ints), omega (arith, ints), omega (arith, ints), omega (arith, ints))
 candidates_central e r (suc (suc (suc (suc k)))) d c l lt = absurd (omega arith)
+
+-- a node of an area is near enough
+pub central_in : (a : Extent) (v : Node) → IsArea a → IsTrue (is_in a v) → IsCentral v
+central_in a v area inside =
+    let p = in_places a v inside in
+    let xl = area.x_low in
+    let xh = area.x_high in
+    let yl = area.y_low in
+    let yh = area.y_high in
+    let wh = area.w_high in
+    let hh = area.h_high in
+    (omega (arith, ints), omega (arith, ints), omega (arith, ints), omega (arith, ints))
+
+-- a hexagon that is wider than an area has no world
+pub radius_low : (w : Config) → IsValid w → (c : Node) (r : ℕ) → IsHexagonAt (occupied w) c r → r ≤ 64
+radius_low w valid c r h =
+    let some = h.some in
+    let west : Node = record { x = c.x -ℤ pos (r - 1); y = c.y } in
+    let east : Node = record { x = c.x +ℤ pos (r - 1); y = c.y } in
+    let near : (distance c west ≤ r - 1) × (distance c east ≤ r - 1) = (aside c west.x (r - 1) (omega (arith, ints)), aside c east.x (r - 1) (omega (arith, ints))) in
+    let p = in_places w.area west (occupied_in w valid west (h.inside west (omega arith))) in
+    let q = in_places w.area east (occupied_in w valid east (h.inside east (omega arith))) in
+    let wide = valid.area.w_high in
+    omega (arith, ints)
 
 pub four_nodes : {a b c d e f g h : Node} → a ≡ e → b ≡ f → c ≡ g → d ≡ h → ◌≡◌ {A = List Node} (a ∷ b ∷ c ∷ d ∷ []) (e ∷ f ∷ g ∷ h ∷ [])
 four_nodes p q r s = cc

@@ -5,6 +5,7 @@ use Rattle.std.proofs.lemmas.Bool.{cases_lt, cases_eq, cases_Bool, both_ways}
 use Rattle.std.proofs.Math.Nat.{add-mod_left, mod-eq_of_lt}
 use Rattle.shape_checks.specs.Hexagons.{IsArc}
 use Rattle.shape_checks.specs.Arcs.{place, IsStart}
+use Rattle.shape_checks.specs.Laws.{TwoRunsAreNoArc}
 
 -- once round leads back to the same place
 pub once_round : (m x y : ℕ) → x ≡ m + y → x % m ≡ y % m
@@ -111,6 +112,13 @@ no_two_runs p m from a b z fl some ab bz zm p0 pa pb pz (i, n, il, each) =
     cyclic m s a b z q0 qa qb qz n some ab bz zm sl l0 la lb lz k0 (inl ka) (inl kb) kz h0 ha hb hz = omega arith
     cyclic m s a b z q0 qa qb qz n some ab bz zm sl l0 la lb lz k0 (inr ka) kb kz h0 ha hb hz = elim k0 [ inl e ↦ omega arith | inr e ↦ omega arith ]
     cyclic m s a b z q0 qa qb qz n some ab bz zm sl l0 la lb lz k0 (inl ka) (inr kb) kz h0 ha hb hz = elim k0 [ inl e ↦ elim kz [ inl f ↦ omega arith | inr f ↦ omega arith ] | inr e ↦ omega arith ]
+
+pub two_runs_are_no_arc : TwoRunsAreNoArc
+two_runs_are_no_arc p m i j k l ij jk kl lm pi pj pk pl arc =
+    let at : (x : ℕ) → i ≤ x → x < m → (i + (x - i)) % m ≡ x = λ x low high. ap (λ y. y % m) (omega arith) ∙ mod-eq_of_lt high in
+    let first : (i + 0) % m ≡ i = ap (λ y. y % m) (add-zero i) ∙ mod-eq_of_lt (omega arith) in
+    no_two_runs p m i (j - i) (k - i) (l - i) (omega arith) (omega arith) (omega arith) (omega arith) (omega arith)
+    (ap p first ∙ pi) (ap p (at j (omega arith) (omega arith)) ∙ pj) (ap p (at k (omega arith) (omega arith)) ∙ pk) (ap p (at l (omega arith) lm) ∙ pl) arc
 
 -- the last place round is the one before
 last_is_before : (circle : List Bool) (from : ℕ) → 0 < length circle → place_on circle from (length circle - 1) ≡ place circle ((from + length circle - 1) % length circle)

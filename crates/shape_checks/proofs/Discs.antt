@@ -1,6 +1,6 @@
 -- Nodes within a distance, row by row.
-use Rattle.std.proofs.Common.{◌≡◌, ◌≢◌, ◌⊎◌, ◌<◌, ◌≤◌, ◌+◌, ◌%◌, ℕ, zero, suc, max, ℤ, pos, negsuc, ◌+ℤ◌, ◌-ℤ◌, ◌≤ℤ◌, ◌<ℤ◌, Bool, sym, ◌∙◌, ap, subst, inl, inr, arith}
-use Rattle.std.specs.Prelude.{IsTrue, unsigned_abs}
+use Rattle.std.proofs.Common.{◌≡◌, ◌≢◌, ◌⊎◌, ◌<◌, ◌≤◌, ◌+◌, ◌*◌, ◌%◌, ℕ, zero, suc, max, ℤ, pos, negsuc, ◌+ℤ◌, ◌-ℤ◌, ◌≤ℤ◌, ◌<ℤ◌, Bool, List, length, sym, ◌∙◌, ap, subst, inl, inr, arith}
+use Rattle.std.specs.Prelude.{IsTrue, Decides, unsigned_abs}
 use Rattle.std.specs.Ordering.{int_eq}
 use Rattle.std.proofs.lemmas.Bool.{cases_Bool, both_ways}
 use Rattle.std.proofs.lemmas.Bool.Decides.{Decides-int_eq}
@@ -9,7 +9,8 @@ use Rattle.std.proofs.lemmas.Nat.{mod_below}
 use Rattle.tri_lattice.specs.declared.node.Node.{Node}
 use Rattle.tri_lattice.specs.Lattice.{distance}
 use Rattle.tri_lattice.proofs.Nodes.{same_node}
-use Rattle.shape_checks.specs.Hexagons.{moved, IsArc}
+use Rattle.shape_checks.specs.Arcs.{place}
+use Rattle.shape_checks.specs.Hexagons.{moved, ring_node, IsArc, IsHexagonAt}
 use Rattle.shape_checks.specs.Candidates.{IsCentral}
 
 -- two coordinates are equal or not
@@ -67,7 +68,7 @@ moved_near v (suc (suc (suc (suc zero)))) n l (a, b, e, f) = (omega (arith, ints
 moved_near v (suc (suc (suc (suc (suc d))))) n l (a, b, e, f) = (omega (arith, ints), omega (arith, ints), omega (arith, ints), omega (arith, ints))
 
 -- an arc of the entries of a ring is one of the places on it
-pub arc_on : (p q : ℕ → Bool) (m n : ℕ) → m ≡ n → ((k : ℕ) → k < m → p k ≡ q k) → IsArc p m → IsArc q n
+arc_on : (p q : ℕ → Bool) (m n : ℕ) → m ≡ n → ((k : ℕ) → k < m → p k ≡ q k) → IsArc p m → IsArc q n
 arc_on p q m n e same (i, run, il, each) = (
   i,
   run,
@@ -78,3 +79,19 @@ arc_on p q m n e same (i, run, il, each) = (
       let both = each j (omega arith) in
       (λ t. both.0 (at ∙ t), λ less. sym at ∙ both.1 less),
 )
+
+-- where the rings below are full and nothing is farther out, whether the last ring is an arc tells whether it is a hexagon
+pub ring_decides : (S : Node → Bool) (c : Node) (r : ℕ) (ring circle : List Bool) (b : Bool) → 1 ≤ r → ((v : Node) → distance c v < r → IsTrue (S v)) → ((v : Node) → IsTrue (S v) → distance c v ≤ r)
+    → length ring ≡ 6 * r → ((k : ℕ) → k < 6 * r → place ring k ≡ S (ring_node c r k)) → circle ≡ ring → Decides b (IsArc (place circle) (length circle)) → Decides b (IsHexagonAt S c r)
+ring_decides S c r ring circle b some inside outside len places e arc =
+    let on : ℕ → Bool = λ k. S (ring_node c r k) in
+    let long : length circle ≡ 6 * r = ap length e ∙ len in
+    let same = λ (k : ℕ) (lt : k < 6 * r). ap (λ (ks : List Bool). place ks k) e ∙ places k lt in (
+      λ t. record {
+        some = some;
+        inside = inside;
+        outside = outside;
+        last = arc_on (place circle) on (length circle) (6 * r) long (λ k lt. same k (omega arith)) (arc.0 t);
+      },
+      λ h. arc.1 (arc_on on (place circle) (6 * r) (length circle) (sym long) (λ k lt. sym (same k lt)) h.last),
+    )

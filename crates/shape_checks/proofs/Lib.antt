@@ -6,3 +6,6 @@ pub mod Centres
 pub mod Marking
 pub mod Rounds
 pub mod Reaching
+pub mod Rings
+pub mod Hexagons
+pub mod Growing

@@ -1,6 +1,6 @@
 -- From a search that is over to the nodes to which a path leads, and to connected sets.
 use Rattle.std.proofs.Common.{◌≡◌, ◌<◌, ◌≤◌, ℕ, ◌*◌, List, [], ◌∷◌, ◌++◌, length, Bool, false, inl, inr, ap, sym, ◌∙◌, subst, arith, get_or, Option, Some, None, replicate}
-use Rattle.std.specs.Prelude.{IsTrue, unwrap_or}
+use Rattle.std.specs.Prelude.{IsTrue, Decides, unwrap_or}
 use Rattle.std.specs.Option.{option_map}
 use Rattle.std.proofs.lemmas.Bool.{cases_lt, both_ways, false≢true, false_from_ne_true, cond-false}
 use Rattle.std.proofs.lemmas.List.{get_or-replicate, length-replicate, get_or_past}
@@ -70,10 +70,18 @@ search_ends S a marks order done start s over begun =
     }
 
 -- the set is connected where all of it is reached from one node of it
-pub connected_if : (S : Node → Bool) (a : Extent) (start : Node) (marks : List Bool) → IsReach S a start marks → ((v : Node) → IsTrue (S v) → IsTrue (marked a marks v)) → IsConnected S
+connected_if : (S : Node → Bool) (a : Extent) (start : Node) (marks : List Bool) → IsReach S a start marks → ((v : Node) → IsTrue (S v) → IsTrue (marked a marks v)) → IsConnected S
 connected_if S a start marks r all u v su sv =
     Joined-trans S (Joined-sym S (r.reached u (all u su))) (r.reached v (all v sv))
 
 -- and only there
-pub connected_then : (S : Node → Bool) (a : Extent) (start : Node) (marks : List Bool) → IsReach S a start marks → IsTrue (S start) → IsConnected S → (v : Node) → IsTrue (S v) → IsTrue (marked a marks v)
+connected_then : (S : Node → Bool) (a : Extent) (start : Node) (marks : List Bool) → IsReach S a start marks → IsTrue (S start) → IsConnected S → (v : Node) → IsTrue (S v) → IsTrue (marked a marks v)
 connected_then S a start marks r on connected v sv = r.whole v (connected start v on sv)
+
+-- so whether all of it is marked tells whether it is connected
+pub marks_decide : (S : Node → Bool) (a : Extent) (start : Node) (marks seen : List Bool) (b : Bool) → IsReach S a start marks → IsTrue (S start) → seen ≡ marks → Decides b ((v : Node) → IsTrue (S v) → IsTrue (marked a seen v)) → Decides b (IsConnected S)
+marks_decide S a start marks seen b r on e all =
+    let same = λ (v : Node). ap (λ (m : List Bool). marked a m v) e in (
+      λ t. connected_if S a start marks r (λ v sv. sym (same v) ∙ all.0 t v sv),
+      λ connected. all.1 (λ v sv. same v ∙ connected_then S a start marks r on connected v sv),
+    )

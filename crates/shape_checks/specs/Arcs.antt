@@ -1,5 +1,5 @@
 -- The places of a circle that is a list.
-use Rattle.std.specs.Prelude.{◌≡◌, ℕ, ◌+◌, ◌-◌, ◌<◌, ◌%◌, Bool, false, IsTrue, List, length, slice_index_or}
+use Rattle.std.specs.Prelude.{◌≡◌, ◌↔◌, ℕ, ◌+◌, ◌-◌, ◌<◌, ◌%◌, Bool, false, IsTrue, List, length, slice_index_or}
 
 -- the entry at a place, false outside
 abbrev pub place : List Bool → ℕ → Bool
@@ -10,3 +10,7 @@ pub record IsStart (circle : List Bool) (i : ℕ) : Type 0 where
   pub below : i < length circle
   pub here : IsTrue (place circle i)
   pub before : place circle ((i + length circle - 1) % length circle) ≡ false
+
+-- of m places in a circle those that pass are the first n from place i on, going round
+abbrev pub AreFirst : (ℕ → Bool) → ℕ → ℕ → ℕ → Type 0
+AreFirst p m i n = (j : ℕ) → j < m → IsTrue (p ((i + j) % m)) ↔ (j < n)

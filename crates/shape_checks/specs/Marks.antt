@@ -49,3 +49,9 @@ pub record IsReach (S : Node → Bool) (a : Extent) (start : Node) (marks : List
   pub size : length marks ≡ a.w * a.h
   pub reached : (v : Node) → IsTrue (marked a marks v) → Joined S start v
   pub whole : (v : Node) → Joined S start v → IsTrue (marked a marks v)
+
+-- a node of the set that is not marked and has a marked neighbour
+pub record IsBeside (S : Node → Bool) (a : Extent) (marks : List Bool) (v : Node) : Type 0 where
+  pub on : IsTrue (S v)
+  pub new : marked a marks v ≡ false
+  pub neighbour : (d : ℕ) × (d < 6) × IsTrue (marked a marks (step v d))

@@ -88,7 +88,7 @@ fn mark(
 }
 
 /// Whether all occupied nodes are marked.
-fn are_marked(world: &World, marks: &[bool]) -> bool
+pub(crate) fn are_marked(world: &World, marks: &[bool]) -> bool
     requires { length marks.now ≡ world.now.area.w * world.now.area.h }
     ensures { Decides result ((v : Node) → IsTrue (occupied world.now v) → IsTrue (marked world.now.area marks.now v)) }
 {
@@ -104,7 +104,7 @@ fn are_marked(world: &World, marks: &[bool]) -> bool
 }
 
 /// Whether a node is marked.
-fn is_marked(area: &Area, marks: &[bool], node: Node) -> bool
+pub(crate) fn is_marked(area: &Area, marks: &[bool], node: Node) -> bool
     requires { length marks.now ≡ area.now.w * area.now.h }
     ensures { result ≡ marked area.now marks.now node }
 {

@@ -27,7 +27,7 @@ pub fn is_hexagon(alloc: Global, world: &World) -> Result<bool, NoMemory>
 }
 
 /// Whether each amoebot has one node.
-fn are_contracted(world: &World) -> bool
+pub(crate) fn are_contracted(world: &World) -> bool
     ensures { Decides result (AreContracted world.now) }
 {
     for id in 0..world.bots() {

@@ -5,11 +5,15 @@ mod arc;
 mod connected;
 mod disc;
 mod hexagon;
+mod laws;
 mod values;
 
 pub use connected::is_connected;
 pub use hexagon::is_hexagon;
+pub use laws::{hexagon_laws, ring_laws};
 pub use values::count_value;
 
+#[cfg(test)]
+mod plain;
 #[cfg(test)]
 mod tests;

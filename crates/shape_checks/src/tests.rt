@@ -3,7 +3,7 @@ ghost use Rattle.std.specs.List.{All};
 ghost use Rattle.tri_lattice.specs.Lattice.{IsNear};
 ghost use Rattle.amoebot_state.specs.Refusals.{IsPlain};
 
-use crate::{count_value, is_connected, is_hexagon};
+use crate::{count_value, is_connected, is_hexagon, plain};
 use amoebot_state::{Bot, World};
 use std::alloc::Global;
 use std::process::Abort;
@@ -21,7 +21,7 @@ struct Shape {
     hexagon: bool,
 }
 
-static SMALL: [Shape; 21] = [
+static SMALL: [Shape; 24] = [
     // no amoebot
     Shape {
         x0: 0,
@@ -265,9 +265,47 @@ static SMALL: [Shape; 21] = [
         connected: true,
         hexagon: true,
     },
+    // radius 1 round a node at the area's edge: two nodes of the last ring would lie outside
+    Shape {
+        x0: 0,
+        y0: 0,
+        w: 2,
+        drawing: "\
+            oo\
+            oo\
+            o.",
+        connected: true,
+        hexagon: true,
+    },
+    // half of a full hexagon of radius 2, cut off at the area's edge
+    Shape {
+        x0: 0,
+        y0: 0,
+        w: 3,
+        drawing: "\
+            ooo\
+            ooo\
+            ooo\
+            oo.\
+            o..",
+        connected: true,
+        hexagon: false,
+    },
+    // two hexagons that touch at no node
+    Shape {
+        x0: 0,
+        y0: 0,
+        w: 7,
+        drawing: "\
+            .oo..oo\
+            ooo.ooo\
+            oo..oo.",
+        connected: false,
+        hexagon: false,
+    },
 ];
 
-static LARGE: [Shape; 22] = [
+static LARGE: [Shape; 23] = [
     // radius 2, two arcs
     Shape {
         x0: 0,
@@ -354,6 +392,22 @@ static LARGE: [Shape; 22] = [
             .oooooo\
             .ooooo.\
             .oooo..\
+            .......",
+        connected: true,
+        hexagon: true,
+    },
+    // radius 3, one node of the last ring
+    Shape {
+        x0: 0,
+        y0: 0,
+        w: 7,
+        drawing: "\
+            .......\
+            ...ooo.\
+            ..oooo.\
+            .ooooo.\
+            .ooooo.\
+            .ooo...\
             .......",
         connected: true,
         hexagon: true,
@@ -655,21 +709,45 @@ fn drawn(alloc: Global, shape: &Shape) -> Result<World, Fail> {
     world_of(alloc, area, bots.as_slice())
 }
 
+/// The searches find that a world is connected or not, and a hexagon or not.
+fn search(
+    rt: &impl Abort,
+    alloc: Global,
+    world: &World,
+    connected: bool,
+    hexagon: bool,
+    name: &str,
+) -> Result<(), Fail> {
+    assert_eq!(rt; is_connected(alloc, world)?, connected, "{name}");
+    assert_eq!(rt; is_hexagon(alloc, world)?, hexagon, "{name}");
+    Ok(())
+}
+
+/// The plain functions find the same.
+fn try_all(
+    rt: &impl Abort,
+    alloc: Global,
+    world: &World,
+    connected: bool,
+    hexagon: bool,
+    name: &str,
+) -> Result<(), Fail> {
+    assert_eq!(rt; plain::is_connected(alloc, world)?, connected, "{name}");
+    assert_eq!(rt; plain::is_hexagon(alloc, world)?, hexagon, "{name}");
+    Ok(())
+}
+
 fn measure_all(rt: &impl Abort, alloc: Global, shapes: &[Shape]) -> Result<(), Fail> {
     for shape in shapes {
         let world = drawn(alloc, shape)?;
-        assert_eq!(rt;
-            is_connected(alloc, &world)?,
-            shape.connected,
-            "{}",
-            shape.drawing
-        );
-        assert_eq!(rt;
-            is_hexagon(alloc, &world)?,
-            shape.hexagon,
-            "{}",
-            shape.drawing
-        );
+        let Shape {
+            connected,
+            hexagon,
+            drawing,
+            ..
+        } = *shape;
+        search(rt, alloc, &world, connected, hexagon, drawing)?;
+        try_all(rt, alloc, &world, connected, hexagon, drawing)?;
     }
     Ok(())
 }
@@ -684,38 +762,42 @@ fn larger_shapes_are_measured(rt: HostRuntime) -> Result<(), Fail> {
     measure_all(&rt, rt.alloc(), &LARGE)
 }
 
-/// A large shape in rows of 128 nodes: 4,096 nodes in all, but for the last kind.
+/// A large shape: 4,096 nodes, but one fewer in those that lack a node.
 #[derive(Clone, Copy, PartialEq, Eq)]
 enum Large {
-    /// A square of 64 by 64.
+    /// All nodes of an area of 64 by 64.
+    Filled,
+    /// A square of 64 by 64 in an area of 128 by 128.
     Square,
     /// One long row that turns back again and again.
     Snake,
     /// The same without a node at its first turn.
     CutSnake,
+    /// Radius 37: the 3,997 nodes within 36 of the centre, and 99 of the last ring.
+    Hexagon,
+    /// The same without a node amid those of the last ring.
+    TwoArcs,
 }
 
 impl Large {
-    fn has(self, x: u32, y: u32) -> bool {
-        if self == Large::Square {
-            return x < 64 && y < 64;
-        }
-        if self == Large::CutSnake && x == 127 && y == 1 {
-            return false;
-        }
-        match y % 4 {
-            1 => x == 127 && y < 62,
-            3 => x == 0 && y < 62,
-            _ => y < 62 || (y == 62 && x >= 31),
+    fn has(self, node: Node) -> bool {
+        match self {
+            Large::Filled => true,
+            Large::Square => node.x < 64 && node.y < 64,
+            Large::Snake => is_in_snake(node),
+            Large::CutSnake => is_in_snake(node) && node != Node { x: 127, y: 1 },
+            Large::Hexagon => is_in_hexagon(node),
+            Large::TwoArcs => is_in_hexagon(node) && node != Node { x: 37, y: 74 },
         }
     }
 
     fn world(self, alloc: Global) -> Result<World, Fail> {
-        let area = Area::new(0, 0, 128, 128).ok_or("an area")?;
+        let side = if self == Large::Filled { 64 } else { 128 };
+        let area = Area::new(0, 0, side, side).ok_or("an area")?;
         let mut bots = Vec::new(alloc);
         for number in 0..area.size() {
-            if self.has(number % 128, number / 128) {
-                let node = area.node(number);
+            let node = area.node(number);
+            if self.has(node) {
                 bots.push(bot(node, node, 0))?;
             }
         }
@@ -723,18 +805,55 @@ impl Large {
     }
 }
 
+fn is_in_snake(node: Node) -> bool {
+    let Node { x, y } = node;
+    match y % 4 {
+        1 => x == 127 && y < 62,
+        3 => x == 0 && y < 62,
+        _ => y < 62 || (y == 62 && x >= 31),
+    }
+}
+
+/// The centre is (37, 37). Of the last ring there are two sides and 25 nodes of the third.
+fn is_in_hexagon(node: Node) -> bool {
+    let (x, y) = (i32::from(node.x), i32::from(node.y));
+    let (right, up) = (x - 37, y - 37);
+    let is_within = right.unsigned_abs() <= 36
+        && up.unsigned_abs() <= 36
+        && (right + up).unsigned_abs() <= 36;
+    let is_on_side_0 = x + y == 111 && x >= 38 && x <= 74;
+    let is_on_side_1 = y == 74 && x >= 1 && x <= 37;
+    let is_on_side_2 = x == 0 && y >= 50 && y <= 74;
+    is_within || is_on_side_0 || is_on_side_1 || is_on_side_2
+}
+
+/// The large shapes: how many nodes each has, whether it is connected, whether it is a hexagon, and its name.
+fn large_shapes() -> [(Large, u16, bool, bool, &'static str); 6] {
+    [
+        (Large::Filled, 4096, true, false, "filled"),
+        (Large::Square, 4096, true, false, "square"),
+        (Large::Snake, 4096, true, false, "snake"),
+        (Large::CutSnake, 4095, false, false, "cut snake"),
+        (Large::Hexagon, 4096, true, true, "hexagon"),
+        (Large::TwoArcs, 4095, true, false, "two arcs"),
+    ]
+}
+
 #[test]
 fn shapes_of_4096_nodes_are_measured(rt: HostRuntime) -> Result<(), Fail> {
-    let rows = [
-        (Large::Square, 4096, true),
-        (Large::Snake, 4096, true),
-        (Large::CutSnake, 4095, false),
-    ];
-    for (large, bots, connected) in rows {
+    for (large, bots, connected, hexagon, name) in large_shapes() {
         let world = large.world(rt.alloc())?;
-        assert_eq!(rt; world.bots(), bots);
-        assert_eq!(rt; is_connected(rt.alloc(), &world)?, connected);
-        assert!(rt; !is_hexagon(rt.alloc(), &world)?);
+        assert_eq!(rt; world.bots(), bots, "{name}");
+        search(&rt, rt.alloc(), &world, connected, hexagon, name)?;
+    }
+    Ok(())
+}
+
+#[test]
+fn shapes_of_4096_nodes_are_plainly_so(rt: HostRuntime) -> Result<(), Fail> {
+    for (large, _, connected, hexagon, name) in large_shapes() {
+        let world = large.world(rt.alloc())?;
+        try_all(&rt, rt.alloc(), &world, connected, hexagon, name)?;
     }
     Ok(())
 }

@@ -1,0 +1,16 @@
+ghost use Rattle.shape_checks.specs.Laws.{RingIsItsDistance, NextPlacesMeet, TwoRunsAreNoArc, FullRingsAreHexagons, RadiiFollow, HexagonsAreConnected, OneAloneIsHexagon};
+
+/// What holds of rings and their arcs.
+pub fn ring_laws()
+    ensures distance { RingIsItsDistance }
+    ensures next { NextPlacesMeet }
+    ensures runs { TwoRunsAreNoArc }
+{}
+
+/// What holds of hexagons.
+pub fn hexagon_laws()
+    ensures full { FullRingsAreHexagons }
+    ensures radii { RadiiFollow }
+    ensures connected { HexagonsAreConnected }
+    ensures one { OneAloneIsHexagon }
+{}
