@@ -250,11 +250,11 @@ fn outcome_of_sample<R: Threads + Wait + Sync, G: Gate>(
         world,
         lists,
     } = prepare_sample(alloc, seed)?;
-    let worked = work(rt, alloc, &runner, world, &lists, gate)?;
-    let answer = answer_sample(alloc, seed, &runner, &lists, worked.report)?;
+    let left = work(rt, alloc, &runner, world, &lists, gate)?;
+    let answer = answer_sample(alloc, seed, &runner, &lists, left.report)?;
     Ok(Outcome {
         answer,
-        turns: Some(worked.turns),
+        turns: Some(left.turns),
     })
 }
 

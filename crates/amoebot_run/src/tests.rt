@@ -326,6 +326,40 @@ fn shipped_programs_are_shown_and_nothing_is_read(rt: HostRuntime) -> Result<(),
     Ok(())
 }
 
+#[test]
+fn a_sample_is_told_in_six_lines_and_nothing_is_read(rt: HostRuntime) -> Result<(), Fail> {
+    for (number, line) in [("1", "sample 1\n"), ("0000000023", "sample 23\n")] {
+        let mut input = FailingSource { good: 0, faults: 0 };
+        let mut out = SureSink::new(rt.alloc(), 4096)?;
+        let Ended {
+            status,
+            report,
+            turns,
+        } = call(&rt, rt.alloc(), &["sample", number], &mut input, &mut out)?;
+        assert_eq!(rt; status, Status::Done);
+        let lines = joined(
+            rt.alloc(),
+            &[
+                line,
+                "bots 150\ncallers 4\nturns 16000\nconnected yes\nreplay yes\n",
+            ],
+        )?;
+        assert_eq!(rt; out.bytes(), lines.as_bytes());
+        assert_eq!(rt; input.faults, 0);
+        assert!(rt; turns.is_some());
+        let report = report.ok_or("a report")?;
+        assert_eq!(rt; report.world.bots(), 150);
+        assert_eq!(rt; report.turns.callers(), 4);
+        for caller in 0..report.turns.callers() {
+            assert_eq!(rt; report.turns.count(caller), 4000);
+        }
+        let entries = report.journal.entries().len();
+        assert_eq!(rt; count_done(&rt, &report.turns) as usize, entries);
+        assert!(rt; 0 < entries);
+    }
+    Ok(())
+}
+
 /// Runs the document, whose last byte is LF, and compares what `replay` says of it with the text behind it.
 fn run_and_replay<R: Abort + Threads + Wait + Sync>(
     rt: &R,
