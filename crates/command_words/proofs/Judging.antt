@@ -1,0 +1,188 @@
+-- What `clap` makes of words that do not begin with `-` is the command that they are.
+use Rattle.std.proofs.Common.{◌≡◌, ◌⊎◌, inl, inr, ℕ, List, [], ◌∷◌, Bool, true, false, Option, Some, None, codes, true≢false, refl, ap, ap₂, sym, subst, ◌∙◌}
+use Rattle.std.specs.Prelude.{if◌then◌else◌, ◌||◌, option_and_then}
+use Rattle.std.specs.List.{list_any}
+use Rattle.std.specs.Str.{bytes_eq}
+use Rattle.std.proofs.lemmas.Bool.{cases_Bool, or_parts}
+use Rattle.std.proofs.lemmas.Slice.Eq.{bytes_eq-Decides}
+use Rattle.clap.specs.Walk.{Row, Text, idle, nothing_held, subcommand_met}
+use Rattle.clap.specs.Simple.{Shape, rows_at, subcommand_of}
+use Rattle.clap.specs.Kinds.{Kinds, or_else}
+use Rattle.clap.specs.Faults.{fault_of, level_fault}
+use Rattle.clap.proofs.OnLiterals.{clap_on_literals}
+use Rattle.command_words.specs.declared.command.DocumentCommand.{DocumentCommand}
+use Rattle.command_words.specs.declared.command.DocumentCommand.TheVariants.{Run, Interleave, Replay, Check, Measure}
+use Rattle.command_words.specs.Words.{command_of, of_two_words, sample_of, shipped, show_in, word_of}
+use Rattle.command_words.specs.Syntax.{has_dash, of_subcommand, words_syntax}
+use Rattle.command_words.proofs.Parsing.{argument, fault_in, leaf, names, none_wanted, one_read, one_too_many, one_wanted, read_in, strange_word}
+
+abbrev no : Kinds → Bool
+no [] = true
+no (k ∷ ks) = false
+
+-- a parse fails by no fault and gives the command, or it fails and they are no command
+pub data Judged (words : List Text) : Type 0 where
+  taken : fault_of words_syntax words ≡ [] → of_subcommand (subcommand_of words_syntax words) ≡ command_of words → Judged words
+  refused : no (fault_of words_syntax words) ≡ false → command_of words ≡ None → Judged words
+
+-- ---- which subcommand a word names
+
+pub data First (word : Text) : Type 0 where
+  document : (c : DocumentCommand) → word ≡ word_of c → First word
+  show : word ≡ codes "show" → First word
+  sample : word ≡ codes "sample" → First word
+  other : subcommand_met names idle word ≡ None → ((words : List Text) → command_of (word ∷ words) ≡ None) → First word
+
+same_word : (one two : Text) → bytes_eq one two ≡ true → two ≡ one
+same_word one two e = sym ((bytes_eq-Decides one two).0 e)
+
+module _ (word : Text) (run : bytes_eq (codes "run") word ≡ false) (interleave : bytes_eq (codes "interleave") word ≡ false) (replay : bytes_eq (codes "replay") word ≡ false)
+    (check : bytes_eq (codes "check") word ≡ false) (measure : bytes_eq (codes "measure") word ≡ false)
+    (is_no_show : bytes_eq (codes "show") word ≡ false) (is_no_sample : bytes_eq (codes "sample") word ≡ false) where
+  names_none : subcommand_met names idle word ≡ None
+  names_none = rw (run, interleave, replay, check, measure, is_no_show, is_no_sample) refl
+
+  begins_none : (words : List Text) → command_of (word ∷ words) ≡ None
+  unfolding of_two_words
+  begins_none [] = rw (run, interleave, replay, check, measure) refl
+  begins_none (x ∷ []) = rw (is_no_show, is_no_sample) refl
+  begins_none (x ∷ y ∷ words) = refl
+
+first_of_words : (word : Text) → First word
+first_of_words word = elim (cases_Bool (bytes_eq (codes "run") word)) [
+  | inl e ↦ document Run (same_word (codes "run") word e)
+  | inr run ↦ elim (cases_Bool (bytes_eq (codes "interleave") word)) [
+    | inl e ↦ document Interleave (same_word (codes "interleave") word e)
+    | inr interleave ↦ elim (cases_Bool (bytes_eq (codes "replay") word)) [
+      | inl e ↦ document Replay (same_word (codes "replay") word e)
+      | inr replay ↦ elim (cases_Bool (bytes_eq (codes "check") word)) [
+        | inl e ↦ document Check (same_word (codes "check") word e)
+        | inr check ↦ elim (cases_Bool (bytes_eq (codes "measure") word)) [
+          | inl e ↦ document Measure (same_word (codes "measure") word e)
+          | inr measure ↦ elim (cases_Bool (bytes_eq (codes "show") word)) [
+            | inl e ↦ show (same_word (codes "show") word e)
+            | inr is_no_show ↦ elim (cases_Bool (bytes_eq (codes "sample") word)) [
+              | inl e ↦ sample (same_word (codes "sample") word e)
+              | inr is_no_sample ↦ other (names_none word run interleave replay check measure is_no_show is_no_sample) (begins_none word run interleave replay check measure is_no_show is_no_sample)
+            ]
+          ]
+        ]
+      ]
+    ]
+  ]
+]
+
+-- ---- by the first word
+
+abbrev fault : List Text → Kinds
+fault = fault_of words_syntax
+
+abbrev read : List Text → Option (Text × List Row)
+read = subcommand_of words_syntax
+
+document_in_words : (c : DocumentCommand) (rest : List Text) → fault (word_of c ∷ rest) ≡ or_else (level_fault (leaf (word_of c) []) [] nothing_held rest false []) []
+document_in_words Run rest = fault_in (codes "run") (leaf (codes "run") []) refl refl refl rest
+document_in_words Interleave rest = fault_in (codes "interleave") (leaf (codes "interleave") []) refl refl refl rest
+document_in_words Replay rest = fault_in (codes "replay") (leaf (codes "replay") []) refl refl refl rest
+document_in_words Check rest = fault_in (codes "check") (leaf (codes "check") []) refl refl refl rest
+document_in_words Measure rest = fault_in (codes "measure") (leaf (codes "measure") []) refl refl refl rest
+
+document_read : (c : DocumentCommand) → of_subcommand (read (word_of c ∷ [])) ≡ command_of (word_of c ∷ [])
+unfolding clap_on_literals
+document_read Run = refl
+document_read Interleave = refl
+document_read Replay = refl
+document_read Check = refl
+document_read Measure = refl
+
+document_well : (c : DocumentCommand) → fault (word_of c ∷ []) ≡ []
+unfolding clap_on_literals
+document_well Run = refl
+document_well Interleave = refl
+document_well Replay = refl
+document_well Check = refl
+document_well Measure = refl
+
+document_alone : (c : DocumentCommand) (x : Text) (words : List Text) → command_of (word_of c ∷ x ∷ words) ≡ None
+unfolding of_two_words
+document_alone Run x [] = refl
+document_alone Interleave x [] = refl
+document_alone Replay x [] = refl
+document_alone Check x [] = refl
+document_alone Measure x [] = refl
+document_alone c x (y ∷ words) = refl
+
+plain_first : (x : Text) (words : List Text) → list_any has_dash (x ∷ words) ≡ false → has_dash x ≡ false
+plain_first x words e = (or_parts (has_dash x) (list_any has_dash words) e).0
+
+judged_document : (c : DocumentCommand) (rest : List Text) → list_any has_dash rest ≡ false → Judged (word_of c ∷ rest)
+judged_document c [] plain = taken (document_well c) (document_read c)
+judged_document c (x ∷ words) plain =
+    refused (ap no (document_in_words c (x ∷ words) ∙ ap (λ ks. or_else ks []) (none_wanted (word_of c) x (plain_first x words plain) words))) (document_alone c x words)
+
+abbrev show_leaf : Shape
+show_leaf = leaf (codes "show") (argument (codes "NAME") ∷ [])
+
+abbrev sample_leaf : Shape
+sample_leaf = leaf (codes "sample") (argument (codes "NUMBER") ∷ [])
+
+show_alone : (no (fault (codes "show" ∷ [])) ≡ false) × (command_of (codes "show" ∷ []) ≡ None)
+unfolding clap_on_literals
+show_alone = (refl, refl)
+
+sample_alone : (no (fault (codes "sample" ∷ [])) ≡ false) × (command_of (codes "sample" ∷ []) ≡ None)
+unfolding clap_on_literals
+sample_alone = (refl, refl)
+
+show_fault : (rest : List Text) → fault (codes "show" ∷ rest) ≡ or_else (level_fault show_leaf [] nothing_held rest false []) []
+show_fault rest = fault_in (codes "show") show_leaf refl refl refl rest
+
+sample_fault : (rest : List Text) → fault (codes "sample" ∷ rest) ≡ or_else (level_fault sample_leaf [] nothing_held rest false []) []
+sample_fault rest = fault_in (codes "sample") sample_leaf refl refl refl rest
+
+module _ (x : Text) (plain : has_dash x ≡ false) where
+  show_read : of_subcommand (read (codes "show" ∷ x ∷ [])) ≡ command_of (codes "show" ∷ x ∷ [])
+  unfolding of_two_words
+  show_read =
+      ap of_subcommand (read_in (codes "show") show_leaf refl refl refl (x ∷ []))
+      ∙ ap (option_and_then (show_in shipped)) (one_read (codes "show") (codes "NAME") x plain refl)
+
+  sample_read : of_subcommand (read (codes "sample" ∷ x ∷ [])) ≡ command_of (codes "sample" ∷ x ∷ [])
+  unfolding of_two_words
+  sample_read =
+      ap of_subcommand (read_in (codes "sample") sample_leaf refl refl refl (x ∷ []))
+      ∙ ap (option_and_then sample_of) (one_read (codes "sample") (codes "NUMBER") x plain refl)
+
+judged_show : (rest : List Text) → list_any has_dash rest ≡ false → Judged (codes "show" ∷ rest)
+judged_show [] plain = refused show_alone.0 show_alone.1
+judged_show (x ∷ []) plain =
+    let one = plain_first x [] plain in
+    taken (show_fault (x ∷ []) ∙ ap (λ ks. or_else ks []) (one_wanted (codes "show") (codes "NAME") x one refl)) (show_read x one)
+judged_show (x ∷ y ∷ words) plain =
+    let two = or_parts (has_dash x) (list_any has_dash (y ∷ words)) plain in
+    refused (ap no (show_fault (x ∷ y ∷ words) ∙ ap (λ ks. or_else ks []) (one_too_many (codes "show") (codes "NAME") x two.0 refl y words (plain_first y words two.1)))) refl
+
+judged_sample : (rest : List Text) → list_any has_dash rest ≡ false → Judged (codes "sample" ∷ rest)
+judged_sample [] plain = refused sample_alone.0 sample_alone.1
+judged_sample (x ∷ []) plain =
+    let one = plain_first x [] plain in
+    taken (sample_fault (x ∷ []) ∙ ap (λ ks. or_else ks []) (one_wanted (codes "sample") (codes "NUMBER") x one refl)) (sample_read x one)
+judged_sample (x ∷ y ∷ words) plain =
+    let two = or_parts (has_dash x) (list_any has_dash (y ∷ words)) plain in
+    refused (ap no (sample_fault (x ∷ y ∷ words) ∙ ap (λ ks. or_else ks []) (one_too_many (codes "sample") (codes "NUMBER") x two.0 refl y words (plain_first y words two.1)))) refl
+
+nothing_alone : (no (fault []) ≡ false) × (command_of [] ≡ None)
+unfolding clap_on_literals
+nothing_alone = (refl, refl)
+
+pub judged : (words : List Text) → list_any has_dash words ≡ false → Judged words
+judged [] plain = refused nothing_alone.0 nothing_alone.1
+judged (word ∷ rest) plain = elim (first_of_words word) [
+  | document c is ↦ subst (λ (w : Text). Judged (w ∷ rest)) (sym is) (judged_document c rest parts.1)
+  | show is ↦ subst (λ (w : Text). Judged (w ∷ rest)) (sym is) (judged_show rest parts.1)
+  | sample is ↦ subst (λ (w : Text). Judged (w ∷ rest)) (sym is) (judged_sample rest parts.1)
+  | other none is_none ↦ refused (ap no (strange_word word parts.0 none rest)) (is_none rest)
+]
+  where
+    parts : (has_dash word ≡ false) × (list_any has_dash rest ≡ false)
+    parts = or_parts (has_dash word) (list_any has_dash rest) plain
