@@ -1,20 +1,28 @@
 -- What `clap` makes of words that do not begin with `-` is the command that they are.
-use Rattle.std.proofs.Common.{◌≡◌, ◌⊎◌, inl, inr, ℕ, List, [], ◌∷◌, Bool, true, false, Option, Some, None, codes, true≢false, refl, ap, ap₂, sym, subst, ◌∙◌}
-use Rattle.std.specs.Prelude.{if◌then◌else◌, ◌||◌, option_and_then}
-use Rattle.std.specs.List.{list_any}
+use Rattle.std.proofs.Common.{◌≡◌, ◌⊎◌, inl, inr, ℕ, List, [], ◌∷◌, Bool, true, false, Option, Some, None, codes, eqb-true, true≢false, refl, ap, sym, subst, ◌∙◌}
+use Rattle.std.specs.Prelude.{◌==◌, option_and_then}
+use Rattle.std.specs.List.{list_all, list_any}
+use Rattle.std.specs.Char.{is_ascii_digit}
 use Rattle.std.specs.Str.{bytes_eq}
-use Rattle.std.proofs.lemmas.Bool.{cases_Bool, or_parts}
+use Rattle.std.proofs.lemmas.Bool.{and_parts, cases_Bool, or_parts}
 use Rattle.std.proofs.lemmas.Slice.Eq.{bytes_eq-Decides}
 use Rattle.clap.specs.Walk.{Row, Text, idle, nothing_held, subcommand_met}
-use Rattle.clap.specs.Simple.{Shape, rows_at, subcommand_of}
-use Rattle.clap.specs.Kinds.{Kinds, or_else}
-use Rattle.clap.specs.Faults.{fault_of, level_fault}
+use Rattle.clap.specs.Simple.{App, HasMatchesOf, Shape, is_simple, subcommand_of, subcommand_rows_of}
+use Rattle.clap.specs.Kinds.{HasKind, IsAmong, Kinds, or_else}
+use Rattle.clap.specs.Values.{kind_of}
+use Rattle.clap.specs.declared.error.Error.{Error}
+use Rattle.clap.specs.declared.error.kind.ErrorKind.TheVariants.{OutOfMemory}
+use Rattle.clap.specs.declared.parser.matches.ArgMatches.{ArgMatches}
+use Rattle.clap.specs.Faults.{fault_of, is_simple_and_free, level_fault}
 use Rattle.clap.proofs.OnLiterals.{clap_on_literals}
+use Rattle.shipped_programs.specs.declared.shipped.Shipped.TheVariants.{Hexagon, Erosion, Line}
+use Rattle.command_words.specs.declared.command.Command.{Command}
 use Rattle.command_words.specs.declared.command.DocumentCommand.{DocumentCommand}
 use Rattle.command_words.specs.declared.command.DocumentCommand.TheVariants.{Run, Interleave, Replay, Check, Measure}
-use Rattle.command_words.specs.Words.{command_of, of_two_words, sample_of, shipped, show_in, word_of}
+use Rattle.command_words.specs.Words.{AreWordsOf, command_of, of_two_words, sample_of, shipped, show_in, word_of}
 use Rattle.command_words.specs.Syntax.{has_dash, of_subcommand, words_syntax}
-use Rattle.command_words.proofs.Parsing.{argument, fault_in, leaf, names, none_wanted, one_read, one_too_many, one_wanted, read_in, strange_word}
+use Rattle.command_words.proofs.Wording.{command_is_its_words}
+use Rattle.command_words.proofs.Parsing.{argument, fault_in, is_free_syntax, is_simple_syntax, leaf, names, none_wanted, one_read, one_too_many, one_wanted, read_in, strange_word}
 
 abbrev no : Kinds → Bool
 no [] = true
@@ -186,3 +194,50 @@ judged (word ∷ rest) plain = elim (first_of_words word) [
   where
     parts : (has_dash word ≡ false) × (list_any has_dash rest ≡ false)
     parts = or_parts (has_dash word) (list_any has_dash rest) plain
+
+-- ---- words with one that begins with `-`
+
+no_digit : (digits : Text) → list_all is_ascii_digit digits ≡ true → has_dash digits ≡ false
+no_digit [] e = refl
+no_digit (d ∷ digits) e = by (d == 45) refl
+  where
+    by : (b : Bool) → (d == 45) ≡ b → b ≡ false
+    by true is = absurd (true≢false (sym (and_parts (is_ascii_digit d) (list_all is_ascii_digit digits) e).0 ∙ ap is_ascii_digit (eqb-true d 45 is)))
+    by false is = refl
+
+-- no word of a command begins so
+words_plain : (c : Command) (words : List Text) → AreWordsOf c words → list_any has_dash words ≡ false
+words_plain c words (AreWordsOf.document Run) = refl
+words_plain c words (AreWordsOf.document Interleave) = refl
+words_plain c words (AreWordsOf.document Replay) = refl
+words_plain c words (AreWordsOf.document Check) = refl
+words_plain c words (AreWordsOf.document Measure) = refl
+words_plain c words (AreWordsOf.show Hexagon) = refl
+words_plain c words (AreWordsOf.show Erosion) = refl
+words_plain c words (AreWordsOf.show Line) = refl
+words_plain c words (AreWordsOf.sample digits seed s) = rw (no_digit digits s.all) refl
+
+pub dash_is_none : (words : List Text) → list_any has_dash words ≡ true → command_of words ≡ None
+dash_is_none words e = by (command_of words) refl
+  where
+    by : (o : Option Command) → command_of words ≡ o → o ≡ None
+    by None is = refl
+    by (Some c) is = absurd (true≢false (sym e ∙ words_plain c words ((command_is_its_words words c).0 is)))
+
+-- ---- what a parse by the syntax says
+
+module _ (a : App) (is : a ≡ words_syntax) (words : List Text) (plain : list_any has_dash words ≡ false) where
+  pub is_command : (m : ArgMatches) → (is_simple_and_free a ≡ true → fault_of a words ≡ []) → HasMatchesOf a words m → of_subcommand (subcommand_rows_of m) ≡ command_of words
+  is_command m well has = elim (judged words plain) [
+    | taken none same ↦ ap of_subcommand ((has (ap is_simple is ∙ is_simple_syntax)).1 ∙ ap (λ (x : App). subcommand_of x words) is) ∙ same
+    | refused some none ↦ absurd (true≢false (sym (ap no (sym (ap (λ (x : App). fault_of x words) is) ∙ well (ap is_simple_and_free is ∙ is_free_syntax))) ∙ some))
+  ]
+
+  pub is_none : (e : Error) → (is_simple_and_free a ≡ true → HasKind (fault_of a words) e) → (kind_of e ≡ OutOfMemory → ⊥) → command_of words ≡ None
+  is_none e fails not_memory = elim (judged words plain) [
+    | taken none same ↦ elim (fails (ap is_simple_and_free is ∙ is_free_syntax)) [
+      | inl memory ↦ absurd (not_memory memory)
+      | inr among ↦ absurd (subst (IsAmong (kind_of e)) (ap (λ (x : App). fault_of x words) is ∙ none) among)
+    ]
+    | refused some none ↦ none
+  ]

@@ -1,15 +1,16 @@
 use crate::{Command, DocumentCommand, command_of};
+use amoebot_state::NoMemory;
 use shipped_programs::Shipped;
-use std::alloc::{AllocError, Global};
+use std::alloc::Global;
 use std::test::Fail;
 
 /// The command of some words.
-fn judged(alloc: Global, texts: &[&str]) -> Result<Option<Command>, AllocError> {
+fn judged(alloc: Global, texts: &[&str]) -> Result<Option<Command>, NoMemory> {
     let mut words = Vec::new(alloc);
     for text in texts {
         words.push(String::from_str(alloc, text)?)?;
     }
-    Ok(command_of(words.as_slice()))
+    command_of(alloc, words.as_slice())
 }
 
 #[test]
