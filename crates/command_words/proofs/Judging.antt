@@ -1,13 +1,13 @@
 -- What `clap` makes of words that do not begin with `-` is the command that they are.
-use Rattle.std.proofs.Common.{◌≡◌, ◌⊎◌, inl, inr, ℕ, List, [], ◌∷◌, Bool, true, false, Option, Some, None, codes, eqb-true, true≢false, refl, ap, sym, subst, ◌∙◌}
+use Rattle.std.proofs.Common.{◌≡◌, ◌≢◌, ◌⊎◌, inl, inr, ℕ, List, [], ◌∷◌, Bool, true, false, Option, Some, None, codes, eqb-true, true≢false, refl, ap, sym, subst, ◌∙◌}
 use Rattle.std.specs.Prelude.{◌==◌, option_and_then}
-use Rattle.std.specs.List.{list_all, list_any}
+use Rattle.std.specs.List.{find, list_all, list_any}
 use Rattle.std.specs.Char.{is_ascii_digit}
 use Rattle.std.specs.Str.{bytes_eq}
 use Rattle.std.proofs.lemmas.Bool.{and_parts, cases_Bool, or_parts}
 use Rattle.std.proofs.lemmas.Slice.Eq.{bytes_eq-Decides}
-use Rattle.clap.specs.Walk.{Row, Text, idle, nothing_held, subcommand_met}
-use Rattle.clap.specs.Simple.{App, HasMatchesOf, Shape, is_simple, subcommand_of, subcommand_rows_of}
+use Rattle.clap.specs.Walk.{Row, Text, answers_to, first_of, idle, nothing_held, subcommand_met}
+use Rattle.clap.specs.Simple.{App, HasMatchesOf, Shape, built, is_simple, label_of, rows_at, subcommand_of, subcommand_rows_of}
 use Rattle.clap.specs.Kinds.{HasKind, IsAmong, Kinds, or_else}
 use Rattle.clap.specs.Values.{kind_of}
 use Rattle.clap.specs.declared.error.Error.{Error}
@@ -20,7 +20,7 @@ use Rattle.command_words.specs.declared.command.Command.{Command}
 use Rattle.command_words.specs.declared.command.DocumentCommand.{DocumentCommand}
 use Rattle.command_words.specs.declared.command.DocumentCommand.TheVariants.{Run, Interleave, Replay, Check, Measure}
 use Rattle.command_words.specs.Words.{AreWordsOf, command_of, of_two_words, sample_of, shipped, show_in, word_of}
-use Rattle.command_words.specs.Syntax.{has_dash, of_subcommand, words_syntax}
+use Rattle.command_words.specs.Syntax.{begins_with_dash, of_subcommand, words_syntax}
 use Rattle.command_words.proofs.Wording.{command_is_its_words}
 use Rattle.command_words.proofs.Parsing.{argument, fault_in, is_free_syntax, is_simple_syntax, leaf, names, none_wanted, one_read, one_too_many, one_wanted, read_in, strange_word}
 
@@ -120,71 +120,47 @@ document_alone Check x [] = refl
 document_alone Measure x [] = refl
 document_alone c x (y ∷ words) = refl
 
-plain_first : (x : Text) (words : List Text) → list_any has_dash (x ∷ words) ≡ false → has_dash x ≡ false
-plain_first x words e = (or_parts (has_dash x) (list_any has_dash words) e).0
+plain_first : (x : Text) (words : List Text) → list_any begins_with_dash (x ∷ words) ≡ false → begins_with_dash x ≡ false
+plain_first x words e = (or_parts (begins_with_dash x) (list_any begins_with_dash words) e).0
 
-judged_document : (c : DocumentCommand) (rest : List Text) → list_any has_dash rest ≡ false → Judged (word_of c ∷ rest)
+judged_document : (c : DocumentCommand) (rest : List Text) → list_any begins_with_dash rest ≡ false → Judged (word_of c ∷ rest)
 judged_document c [] plain = taken (document_well c) (document_read c)
 judged_document c (x ∷ words) plain =
     refused (ap no (document_in_words c (x ∷ words) ∙ ap (λ ks. or_else ks []) (none_wanted (word_of c) x (plain_first x words plain) words))) (document_alone c x words)
 
-abbrev show_leaf : Shape
-show_leaf = leaf (codes "show") (argument (codes "NAME") ∷ [])
+-- a subcommand with one argument, whose command is found by `gives`
+module _ (name id : Text) (gives : Text → Option Command) (is_met : subcommand_met names idle name ≡ Some name) (no_help : bytes_eq name (codes "help") ≡ false)
+    (is_sub : find (λ (s : Shape). answers_to name (label_of s)) (built words_syntax).subs ≡ Some (leaf name (argument id ∷ []))) (same : bytes_eq id id ≡ true)
+    (by_rows : (rows : List Row) → of_subcommand (Some (name, rows)) ≡ option_and_then gives (first_of id rows)) (by_words : (x : Text) → command_of (name ∷ x ∷ []) ≡ gives x)
+    (alone : Judged (name ∷ [])) where
+  faults : (rest : List Text) → fault (name ∷ rest) ≡ or_else (level_fault (leaf name (argument id ∷ [])) [] nothing_held rest false []) []
+  faults rest = fault_in name (leaf name (argument id ∷ [])) is_met no_help is_sub rest
 
-abbrev sample_leaf : Shape
-sample_leaf = leaf (codes "sample") (argument (codes "NUMBER") ∷ [])
+  judged_with : (rest : List Text) → list_any begins_with_dash rest ≡ false → Judged (name ∷ rest)
+  judged_with [] plain = alone
+  judged_with (x ∷ []) plain =
+      let first = plain_first x [] plain in
+      taken (faults (x ∷ []) ∙ ap (λ ks. or_else ks []) (one_wanted name id x first same))
+      (ap of_subcommand (read_in name (leaf name (argument id ∷ [])) is_met no_help is_sub (x ∷ []))
+      ∙ by_rows (rows_at (leaf name (argument id ∷ [])) (x ∷ [])).1 ∙ ap (option_and_then gives) (one_read name id x first same) ∙ sym (by_words x))
+  judged_with (x ∷ y ∷ words) plain =
+      let both = or_parts (begins_with_dash x) (list_any begins_with_dash (y ∷ words)) plain in
+      refused (ap no (faults (x ∷ y ∷ words) ∙ ap (λ ks. or_else ks []) (one_too_many name id x both.0 same y words (plain_first y words both.1)))) refl
 
-show_alone : (no (fault (codes "show" ∷ [])) ≡ false) × (command_of (codes "show" ∷ []) ≡ None)
+judged_show : (rest : List Text) → list_any begins_with_dash rest ≡ false → Judged (codes "show" ∷ rest)
+unfolding clap_on_literals of_two_words
+judged_show = judged_with (codes "show") (codes "NAME") (show_in shipped) refl refl refl refl (λ rows. refl) (λ x. refl) (refused refl refl)
+
+judged_sample : (rest : List Text) → list_any begins_with_dash rest ≡ false → Judged (codes "sample" ∷ rest)
+unfolding clap_on_literals of_two_words
+judged_sample = judged_with (codes "sample") (codes "NUMBER") sample_of refl refl refl refl (λ rows. refl) (λ x. refl) (refused refl refl)
+
+judged_nothing : Judged []
 unfolding clap_on_literals
-show_alone = (refl, refl)
+judged_nothing = refused refl refl
 
-sample_alone : (no (fault (codes "sample" ∷ [])) ≡ false) × (command_of (codes "sample" ∷ []) ≡ None)
-unfolding clap_on_literals
-sample_alone = (refl, refl)
-
-show_fault : (rest : List Text) → fault (codes "show" ∷ rest) ≡ or_else (level_fault show_leaf [] nothing_held rest false []) []
-show_fault rest = fault_in (codes "show") show_leaf refl refl refl rest
-
-sample_fault : (rest : List Text) → fault (codes "sample" ∷ rest) ≡ or_else (level_fault sample_leaf [] nothing_held rest false []) []
-sample_fault rest = fault_in (codes "sample") sample_leaf refl refl refl rest
-
-module _ (x : Text) (plain : has_dash x ≡ false) where
-  show_read : of_subcommand (read (codes "show" ∷ x ∷ [])) ≡ command_of (codes "show" ∷ x ∷ [])
-  unfolding of_two_words
-  show_read =
-      ap of_subcommand (read_in (codes "show") show_leaf refl refl refl (x ∷ []))
-      ∙ ap (option_and_then (show_in shipped)) (one_read (codes "show") (codes "NAME") x plain refl)
-
-  sample_read : of_subcommand (read (codes "sample" ∷ x ∷ [])) ≡ command_of (codes "sample" ∷ x ∷ [])
-  unfolding of_two_words
-  sample_read =
-      ap of_subcommand (read_in (codes "sample") sample_leaf refl refl refl (x ∷ []))
-      ∙ ap (option_and_then sample_of) (one_read (codes "sample") (codes "NUMBER") x plain refl)
-
-judged_show : (rest : List Text) → list_any has_dash rest ≡ false → Judged (codes "show" ∷ rest)
-judged_show [] plain = refused show_alone.0 show_alone.1
-judged_show (x ∷ []) plain =
-    let one = plain_first x [] plain in
-    taken (show_fault (x ∷ []) ∙ ap (λ ks. or_else ks []) (one_wanted (codes "show") (codes "NAME") x one refl)) (show_read x one)
-judged_show (x ∷ y ∷ words) plain =
-    let two = or_parts (has_dash x) (list_any has_dash (y ∷ words)) plain in
-    refused (ap no (show_fault (x ∷ y ∷ words) ∙ ap (λ ks. or_else ks []) (one_too_many (codes "show") (codes "NAME") x two.0 refl y words (plain_first y words two.1)))) refl
-
-judged_sample : (rest : List Text) → list_any has_dash rest ≡ false → Judged (codes "sample" ∷ rest)
-judged_sample [] plain = refused sample_alone.0 sample_alone.1
-judged_sample (x ∷ []) plain =
-    let one = plain_first x [] plain in
-    taken (sample_fault (x ∷ []) ∙ ap (λ ks. or_else ks []) (one_wanted (codes "sample") (codes "NUMBER") x one refl)) (sample_read x one)
-judged_sample (x ∷ y ∷ words) plain =
-    let two = or_parts (has_dash x) (list_any has_dash (y ∷ words)) plain in
-    refused (ap no (sample_fault (x ∷ y ∷ words) ∙ ap (λ ks. or_else ks []) (one_too_many (codes "sample") (codes "NUMBER") x two.0 refl y words (plain_first y words two.1)))) refl
-
-nothing_alone : (no (fault []) ≡ false) × (command_of [] ≡ None)
-unfolding clap_on_literals
-nothing_alone = (refl, refl)
-
-pub judged : (words : List Text) → list_any has_dash words ≡ false → Judged words
-judged [] plain = refused nothing_alone.0 nothing_alone.1
+pub judged : (words : List Text) → list_any begins_with_dash words ≡ false → Judged words
+judged [] plain = judged_nothing
 judged (word ∷ rest) plain = elim (first_of_words word) [
   | document c is ↦ subst (λ (w : Text). Judged (w ∷ rest)) (sym is) (judged_document c rest parts.1)
   | show is ↦ subst (λ (w : Text). Judged (w ∷ rest)) (sym is) (judged_show rest parts.1)
@@ -192,12 +168,12 @@ judged (word ∷ rest) plain = elim (first_of_words word) [
   | other none is_none ↦ refused (ap no (strange_word word parts.0 none rest)) (is_none rest)
 ]
   where
-    parts : (has_dash word ≡ false) × (list_any has_dash rest ≡ false)
-    parts = or_parts (has_dash word) (list_any has_dash rest) plain
+    parts : (begins_with_dash word ≡ false) × (list_any begins_with_dash rest ≡ false)
+    parts = or_parts (begins_with_dash word) (list_any begins_with_dash rest) plain
 
 -- ---- words with one that begins with `-`
 
-no_digit : (digits : Text) → list_all is_ascii_digit digits ≡ true → has_dash digits ≡ false
+no_digit : (digits : Text) → list_all is_ascii_digit digits ≡ true → begins_with_dash digits ≡ false
 no_digit [] e = refl
 no_digit (d ∷ digits) e = by (d == 45) refl
   where
@@ -206,7 +182,7 @@ no_digit (d ∷ digits) e = by (d == 45) refl
     by false is = refl
 
 -- no word of a command begins so
-words_plain : (c : Command) (words : List Text) → AreWordsOf c words → list_any has_dash words ≡ false
+words_plain : (c : Command) (words : List Text) → AreWordsOf c words → list_any begins_with_dash words ≡ false
 words_plain c words (AreWordsOf.document Run) = refl
 words_plain c words (AreWordsOf.document Interleave) = refl
 words_plain c words (AreWordsOf.document Replay) = refl
@@ -217,7 +193,7 @@ words_plain c words (AreWordsOf.show Erosion) = refl
 words_plain c words (AreWordsOf.show Line) = refl
 words_plain c words (AreWordsOf.sample digits seed s) = rw (no_digit digits s.all) refl
 
-pub dash_is_none : (words : List Text) → list_any has_dash words ≡ true → command_of words ≡ None
+pub dash_is_none : (words : List Text) → list_any begins_with_dash words ≡ true → command_of words ≡ None
 dash_is_none words e = by (command_of words) refl
   where
     by : (o : Option Command) → command_of words ≡ o → o ≡ None
@@ -226,14 +202,14 @@ dash_is_none words e = by (command_of words) refl
 
 -- ---- what a parse by the syntax says
 
-module _ (a : App) (is : a ≡ words_syntax) (words : List Text) (plain : list_any has_dash words ≡ false) where
+module _ (a : App) (is : a ≡ words_syntax) (words : List Text) (plain : list_any begins_with_dash words ≡ false) where
   pub is_command : (m : ArgMatches) → (is_simple_and_free a ≡ true → fault_of a words ≡ []) → HasMatchesOf a words m → of_subcommand (subcommand_rows_of m) ≡ command_of words
   is_command m well has = elim (judged words plain) [
     | taken none same ↦ ap of_subcommand ((has (ap is_simple is ∙ is_simple_syntax)).1 ∙ ap (λ (x : App). subcommand_of x words) is) ∙ same
     | refused some none ↦ absurd (true≢false (sym (ap no (sym (ap (λ (x : App). fault_of x words) is) ∙ well (ap is_simple_and_free is ∙ is_free_syntax))) ∙ some))
   ]
 
-  pub is_none : (e : Error) → (is_simple_and_free a ≡ true → HasKind (fault_of a words) e) → (kind_of e ≡ OutOfMemory → ⊥) → command_of words ≡ None
+  pub is_none : (e : Error) → (is_simple_and_free a ≡ true → HasKind (fault_of a words) e) → kind_of e ≢ OutOfMemory → command_of words ≡ None
   is_none e fails not_memory = elim (judged words plain) [
     | taken none same ↦ elim (fails (ap is_simple_and_free is ∙ is_free_syntax)) [
       | inl memory ↦ absurd (not_memory memory)

@@ -15,7 +15,7 @@ use Rattle.clap.proofs.WalkLemmas.{walk_stopped}
 use Rattle.command_words.specs.declared.command.DocumentCommand.{DocumentCommand}
 use Rattle.command_words.specs.declared.command.DocumentCommand.TheVariants.{Run, Interleave, Replay, Check, Measure}
 use Rattle.command_words.specs.Words.{word_of}
-use Rattle.command_words.specs.Syntax.{has_dash, needed, words_syntax}
+use Rattle.command_words.specs.Syntax.{begins_with_dash, needed, words_syntax}
 
 pub is_simple_syntax : is_simple words_syntax ≡ true
 unfolding clap_on_literals
@@ -27,25 +27,25 @@ is_free_syntax = refl
 
 -- ---- a word that does not begin with `-` is no flag
 
-module _ (word : Text) (plain : has_dash word ≡ false) where
+module _ (word : Text) (plain : begins_with_dash word ≡ false) where
   no_end : bytes_eq word (45 ∷ 45 ∷ []) ≡ false
   no_end = by word plain
     where
-      by : (w : Text) → has_dash w ≡ false → bytes_eq w (45 ∷ 45 ∷ []) ≡ false
+      by : (w : Text) → begins_with_dash w ≡ false → bytes_eq w (45 ∷ 45 ∷ []) ≡ false
       by [] e = refl
       by (c ∷ cs) e = rw e refl
 
   no_long : long_of word ≡ None
   no_long = by word plain
     where
-      by : (w : Text) → has_dash w ≡ false → long_of w ≡ None
+      by : (w : Text) → begins_with_dash w ≡ false → long_of w ≡ None
       by [] e = refl
       by (c ∷ cs) e = rw e refl
 
   no_short : short_of word ≡ None
   no_short = by word plain
     where
-      by : (w : Text) → has_dash w ≡ false → short_of w ≡ None
+      by : (w : Text) → begins_with_dash w ≡ false → short_of w ≡ None
       by [] e = refl
       by (c ∷ cs) e = rw e refl
 
@@ -53,7 +53,7 @@ module _ (word : Text) (plain : has_dash word ≡ false) where
 abbrev at_rest : Held → ℕ → Walk
 at_rest h position = record { held = h; waiting = idle; position = position; is_trailing = false; stopped = None }
 
-module _ (s : Shape) (names : Names) (word : Text) (plain : has_dash word ≡ false) (none : subcommand_met names idle word ≡ None) (h : Held) (position : ℕ) where
+module _ (s : Shape) (names : Names) (word : Text) (plain : begins_with_dash word ≡ false) (none : subcommand_met names idle word ≡ None) (h : Held) (position : ℕ) where
   is_value : word_met s.rules names false idle position word h ≡ (h, value)
   is_value = ap (λ o. subcommand_or_other s.rules o idle position word h) none ∙ rw (no_end word plain, no_long word plain, no_short word plain) refl
 
@@ -147,7 +147,7 @@ leaf_fault_behind s w =
     or_else (settle_fault s.rules s.args_override_self w.held) (or_else (defaults_fault (settled s.rules w.held).rows s.rules) (check_fault s (finished s.rules w.held) false))
 
 -- a word for which there is no place is at fault
-stray : (s : Shape) (names : Names) (word : Text) (plain : has_dash word ≡ false) (none : subcommand_met names idle word ≡ None) (h : Held) (position : ℕ) (words : List Text)
+stray : (s : Shape) (names : Names) (word : Text) (plain : begins_with_dash word ≡ false) (none : subcommand_met names idle word ≡ None) (h : Held) (position : ℕ) (words : List Text)
     → arg_by_index s.rules position ≡ None → walk_fault s names (at_rest h position) (word ∷ words) ≡ or_else (stray_fault s) (walk_fault s names (walked s.rules names (at_rest h position) word) words)
 unfolding walk_fault
 stray s names word plain none h position words no_place =
@@ -158,13 +158,13 @@ stray s names word plain none h position words no_place =
 abbrev pub argument : Text → Rule
 argument id = with_index 1 (filled (needed id))
 
-module _ (name word : Text) (plain : has_dash word ≡ false) (words : List Text) where
+module _ (name word : Text) (plain : begins_with_dash word ≡ false) (words : List Text) where
   pub none_wanted : level_fault (leaf name []) [] nothing_held (word ∷ words) false [] ≡ UnknownArgument ∷ []
   none_wanted =
       ap (λ ks. or_else ks (leaf_fault_behind (leaf name []) (walk [] [] nothing_held (word ∷ words))))
       (stray (leaf name []) [] word plain refl nothing_held 1 words refl)
 
-module _ (name id word : Text) (plain : has_dash word ≡ false) (same : bytes_eq id id ≡ true) where
+module _ (name id word : Text) (plain : begins_with_dash word ≡ false) (same : bytes_eq id id ≡ true) where
   abbrev one : Shape
   one = leaf name (argument id ∷ [])
 
@@ -194,7 +194,7 @@ module _ (name id word : Text) (plain : has_dash word ≡ false) (same : bytes_e
   pub one_read : first_of id (rows_at one (word ∷ [])).1 ≡ Some word
   one_read = ap (λ (w : Walk). first_of id (finished one.rules w.held)) one_walked ∙ one_found
 
-  pub one_too_many : (second : Text) (words : List Text) → has_dash second ≡ false
+  pub one_too_many : (second : Text) (words : List Text) → begins_with_dash second ≡ false
       → level_fault one [] nothing_held (word ∷ second ∷ words) false [] ≡ UnknownArgument ∷ []
   unfolding walk_fault
   one_too_many second words plain_too =
@@ -206,7 +206,7 @@ module _ (name id word : Text) (plain : has_dash word ≡ false) (same : bytes_e
           ∙ stray one [] second plain_too refl after_one.held 2 words refl
 
 -- a first word that names no subcommand
-pub strange_word : (word : Text) (plain : has_dash word ≡ false) → subcommand_met names idle word ≡ None → (words : List Text)
+pub strange_word : (word : Text) (plain : begins_with_dash word ≡ false) → subcommand_met names idle word ≡ None → (words : List Text)
     → fault_of words_syntax (word ∷ words) ≡ UnknownArgument ∷ InvalidSubcommand ∷ []
 strange_word word plain none words =
     ap (λ ks. or_else ks (fault_behind (built words_syntax) (walk top.rules names nothing_held (word ∷ words))))

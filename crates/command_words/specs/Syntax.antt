@@ -1,5 +1,5 @@
 -- The words of a call as one command with subcommands, each with at most one argument.
-use Rattle.std.specs.Prelude.{◌≡◌, ◌&&◌, ◌==◌, Bool, true, not, ℕ, List, [], ◌∷◌, Option, Some, None, codes, if◌then◌else◌, option_and_then}
+use Rattle.std.specs.Prelude.{◌==◌, Bool, true, false, ℕ, List, [], ◌∷◌, Option, Some, None, codes, if◌then◌else◌, option_and_then}
 use Rattle.std.specs.Str.{bytes_eq}
 use Rattle.clap.specs.Walk.{Row, Rule, Text, first_of}
 use Rattle.clap.specs.Simple.{App, Shape, new_app, new_rule, on_top, with_rule, with_subcommand}
@@ -9,9 +9,9 @@ use Rattle.command_words.specs.declared.command.DocumentCommand.TheVariants.{Run
 use Rattle.command_words.specs.Words.{document_in, documents, sample_of, shipped, show_in, word_of}
 
 -- the word begins with `-` (45)
-abbrev pub has_dash : List ℕ → Bool
-has_dash [] = Bool.false
-has_dash (c ∷ cs) = c == 45
+abbrev pub begins_with_dash : List ℕ → Bool
+begins_with_dash [] = false
+begins_with_dash (c ∷ cs) = c == 45
 
 -- ---- the command, as `clap` reads it
 

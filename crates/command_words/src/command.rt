@@ -1,14 +1,14 @@
-ghost use Rattle.std.specs.Prelude.{◌≡◌, map, codes, option_and_then, IfOk, Some};
+ghost use Rattle.std.specs.Prelude.{◌≡◌, map, codes, option_and_then, IfOk, MatchResult, Some, None, ◌≢◌};
 ghost use Rattle.std.specs.Char.{is_ascii_digit};
 ghost use Rattle.std.specs.List.{list_all, list_any};
 ghost use Rattle.std.specs.String.{string_bytes};
 ghost use Rattle.command_words.specs.Words.{are_few_digits, command_of, document_in, documents, sample_of, shipped, show_in};
-ghost use Rattle.command_words.specs.Syntax.{has_dash, of_subcommand};
-ghost use Rattle.clap.specs.Words.{first_of, found_of, rows_of, subcommand_rows_of};
+ghost use Rattle.command_words.specs.Syntax.{begins_with_dash, of_subcommand};
+ghost use Rattle.clap.specs.Words.{first_of, found_of, kind_of, rows_of, subcommand_rows_of};
 
 use crate::syntax::words_syntax;
 use amoebot_state::NoMemory;
-use clap::ArgMatches;
+use clap::{ArgMatches, Error};
 use clap::error::ErrorKind;
 use shipped_programs::Shipped;
 use std::alloc::Global;
@@ -47,29 +47,36 @@ const MOST_DIGITS: usize = 10;
 pub fn command_of(alloc: Global, words: &[String]) -> Result<Option<Command>, NoMemory>
     ensures { IfOk result (λ c. c ≡ command_of (map string_bytes words.now)) }
 {
-    if have_dash(words) {
+    if begin_with_dash(words) {
         return Ok(None);
     }
     match words_syntax(alloc)?.try_get_matches_from(words) {
         Ok(matches) => Ok(of_matches(&matches)),
-        Err(error) => match error.kind() {
-            ErrorKind::OutOfMemory => Err(NoMemory),
-            _ => Ok(None),
-        },
+        Err(error) => of_fault(&error),
     }
 }
 
-/// Whether a word begins with `-`.
-fn have_dash(words: &[String]) -> bool
-    ensures { result ≡ list_any (λ word. has_dash (string_bytes word)) words.now }
+/// Whether one of the words begins with `-`.
+fn begin_with_dash(words: &[String]) -> bool
+    ensures { result ≡ list_any (λ word. begins_with_dash (string_bytes word)) words.now }
 {
-    words.iter().any(|word| has_dash(word.as_str()))
+    words.iter().any(|word| begins_with_dash(word.as_str()))
 }
 
-fn has_dash(word: &str) -> bool
-    ensures { result ≡ has_dash word.now }
+fn begins_with_dash(word: &str) -> bool
+    ensures { result ≡ begins_with_dash word.now }
 {
     word.starts_with('-')
+}
+
+/// What comes of words that are not read: no command, but for want of memory.
+fn of_fault(error: &Error) -> Result<Option<Command>, NoMemory>
+    ensures { MatchResult result (λ c. (c ≡ None) × (kind_of error.now ≢ ErrorKind.OutOfMemory)) (λ _. kind_of error.now ≡ ErrorKind.OutOfMemory) }
+{
+    match error.kind() {
+        ErrorKind::OutOfMemory => Err(NoMemory),
+        _ => Ok(None),
+    }
 }
 
 /// The command of the subcommand that was read.

@@ -39,12 +39,14 @@ fn each_command_has_its_words(rt: HostRuntime) -> Result<(), Fail> {
 }
 
 /// No command has these words.
-const NONE: [&[&str]; 40] = [
+const NONE: [&[&str]; 46] = [
     &[],
     &[""],
     &["", "run"],
     &["run", ""],
     &["run", "now"],
+    &["run", "--"],
+    &["help", "run"],
     &["Run"],
     &["RUN"],
     &["runs"],
@@ -68,6 +70,10 @@ const NONE: [&[&str]; 40] = [
     &["show", ""],
     &["show", "line", "line"],
     &["show", "-line"],
+    &["show", "--", "line"],
+    &["show", "line", "--help"],
+    &["show", "help"],
+    &["show", "NAME"],
     &["line"],
     &["sample"],
     &["sample", ""],

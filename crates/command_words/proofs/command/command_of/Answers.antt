@@ -1,21 +1,29 @@
-use Rattle.std.proofs.Common.{◌≡◌, ◌∙◌, List, Bool, false, ap, map, sym}
+use Rattle.std.proofs.Common.{◌≡◌, ◌∙◌, List, Option, None, Result, Ok, Err, IfOk, map, sym}
+use Rattle.std.specs.Prelude.{MatchResult}
 use Rattle.std.specs.List.{list_any}
 use Rattle.std.specs.String.{string_bytes}
 use Rattle.clap.specs.Simple.{app_of}
 use Rattle.clap.proofs.WalkLemmas.{list_any-map}
-use Rattle.command_words.specs.Syntax.{has_dash}
+use Rattle.command_words.specs.declared.command.Command.{Command}
+use Rattle.command_words.specs.Syntax.{begins_with_dash}
 use Rattle.command_words.proofs.Judging.{dash_is_none, is_command, is_none}
 use Rattle.command_words.proofs.command.command_of.Goals as goal
 
-pub returns-then-have_dash : goal.returns-then-have_dash
-returns-then-have_dash c = sym (dash_is_none (map string_bytes c.args.words.now) (sym (list_any-map has_dash string_bytes c.args.words.now) ∙ sym c.have_dash.ensures ∙ c.if-have_dash.true))
+pub returns-then-begin_with_dash : goal.returns-then-begin_with_dash
+returns-then-begin_with_dash c = sym (dash_is_none (map string_bytes c.args.words.now) (sym (list_any-map begins_with_dash string_bytes c.args.words.now) ∙ sym c.begin_with_dash.ensures ∙ c.if-begin_with_dash.true))
 
 pub returns-in-Ok : goal.returns-in-Ok
 returns-in-Ok c =
-    let plain = sym (list_any-map has_dash string_bytes c.args.words.now) ∙ sym c.have_dash.ensures ∙ c.if-have_dash.false in
+    let plain = sym (list_any-map begins_with_dash string_bytes c.args.words.now) ∙ sym c.begin_with_dash.ensures ∙ c.if-begin_with_dash.false in
     c.of_matches.ensures ∙ is_command (app_of c.in_ok-words_syntax.field-0) c.in_ok-words_syntax.ensures (map string_bytes c.args.words.now) plain c.in-Ok.matches c.in-Ok.ensures.kinds c.in-Ok.ensures.matches
 
-pub returns : goal.returns
-returns c =
-    let plain = sym (list_any-map has_dash string_bytes c.args.words.now) ∙ sym c.have_dash.ensures ∙ c.if-have_dash.false in
-    sym (is_none (app_of c.in_ok-words_syntax.field-0) c.in_ok-words_syntax.ensures (map string_bytes c.args.words.now) plain c.in-Err.error c.in-Err.ensures.kinds (λ memory. c.in_default.not-OutOfMemory (c.kind.ensures ∙ memory)))
+-- where the words are no command, a fault that is not for want of memory says so
+if_read : {E : Type 0} (r : Result (Option Command) E) (o : Option Command) (Memory : Type 0) → MatchResult r (λ c. (c ≡ None) × (Memory → ⊥)) (λ _. Memory)
+    → ((Memory → ⊥) → o ≡ None) → IfOk r (λ c. c ≡ o)
+if_read (Ok c) o Memory m none = m.0 ∙ sym (none m.1)
+if_read (Err e) o Memory m none = tt
+
+pub returns-in-Err : goal.returns-in-Err
+returns-in-Err c =
+    let plain = sym (list_any-map begins_with_dash string_bytes c.args.words.now) ∙ sym c.begin_with_dash.ensures ∙ c.if-begin_with_dash.false in
+    if_read c.of_fault.result _ _ c.of_fault.ensures (is_none (app_of c.in_ok-words_syntax.field-0) c.in_ok-words_syntax.ensures (map string_bytes c.args.words.now) plain c.in-Err.error c.in-Err.ensures.kinds)
