@@ -1,5 +1,5 @@
 -- What `clap` makes of words that do not begin with `-` is the command that they are.
-use Rattle.std.proofs.Common.{◌≡◌, ◌≢◌, ◌⊎◌, inl, inr, ℕ, List, [], ◌∷◌, Bool, true, false, Option, Some, None, codes, eqb-true, true≢false, refl, ap, sym, subst, ◌∙◌}
+use Rattle.std.proofs.Common.{◌≡◌, ◌≢◌, inl, inr, List, [], ◌∷◌, Bool, true, false, Option, Some, None, codes, eqb-true, true≢false, refl, ap, sym, subst, ◌∙◌}
 use Rattle.std.specs.Prelude.{◌==◌, option_and_then}
 use Rattle.std.specs.List.{find, list_all, list_any}
 use Rattle.std.specs.Char.{is_ascii_digit}

@@ -1,20 +1,16 @@
 -- What `clap` makes of words that do not begin with `-`.
-use Rattle.std.proofs.Common.{◌≡◌, ◌⊎◌, inl, inr, ℕ, List, [], ◌∷◌, ◌++◌, Bool, true, false, not, Option, Some, None, codes, is_some, true≢false, refl, ap, ap₂, sym, subst, ◌∙◌}
-use Rattle.std.specs.Prelude.{if◌then◌else◌, ◌||◌}
-use Rattle.std.specs.List.{find, fold, list_any}
+use Rattle.std.proofs.Common.{◌≡◌, ℕ, List, [], ◌∷◌, ◌++◌, true, false, Option, Some, None, codes, is_some, refl, ap, ap₂, sym, ◌∙◌}
+use Rattle.std.specs.List.{find, fold}
 use Rattle.std.specs.Option.{option_map, option_map_or}
 use Rattle.std.specs.Str.{bytes_eq}
 use Rattle.clap.specs.Lexer.{long_of, short_of}
-use Rattle.clap.specs.Walk.{Held, Names, Row, Rule, Step, Text, first_of, Walk, after_step, answers_to, idle, value, arg_by_index, finished, nothing_held, rows_after, settled, stop_after, subcommand_met, subcommand_or_other, to_positional, walk, walk_from, walked, word_met}
+use Rattle.clap.specs.Walk.{Held, Names, Row, Rule, Step, Text, first_of, Walk, after_step, answers_to, idle, value, arg_by_index, finished, nothing_held, settled, subcommand_met, subcommand_or_other, to_positional, walk, walk_from, walked, word_met}
 use Rattle.clap.specs.Simple.{App, Shape, built, filled, with_index, entered, is_simple, label_of, names_of, new_shape, rows_at, subcommand_of}
 use Rattle.clap.specs.Kinds.{Kinds, or_else}
 use Rattle.clap.specs.declared.error.kind.ErrorKind.TheVariants.{InvalidSubcommand, UnknownArgument}
 use Rattle.clap.specs.Faults.{check_fault, positional_fault, defaults_fault, entered_fault, fault_of, is_simple_and_free, level_fault, other_fault, settle_fault, step_fault, stray_fault, turn_fault, walk_fault, word_fault}
 use Rattle.clap.proofs.OnLiterals.{clap_on_literals}
 use Rattle.clap.proofs.WalkLemmas.{walk_stopped}
-use Rattle.command_words.specs.declared.command.DocumentCommand.{DocumentCommand}
-use Rattle.command_words.specs.declared.command.DocumentCommand.TheVariants.{Run, Interleave, Replay, Check, Measure}
-use Rattle.command_words.specs.Words.{word_of}
 use Rattle.command_words.specs.Syntax.{begins_with_dash, needed, words_syntax}
 
 pub is_simple_syntax : is_simple words_syntax ≡ true
@@ -124,6 +120,7 @@ module _ (name : Text) (s : Shape) (is_met : subcommand_met names idle name ≡ 
     where
       at_met : Held × Step → Kinds
       at_met m = step_fault top 1 m.0 m.1
+
       after_met : Held × Step → Walk
       after_met m = after_step top.rules name (walk_from nothing_held) m.0 m.1
 

@@ -8,8 +8,8 @@ ghost use Rattle.clap.specs.Words.{first_of, found_of, kind_of, rows_of, subcomm
 
 use crate::syntax::words_syntax;
 use amoebot_state::NoMemory;
-use clap::{ArgMatches, Error};
 use clap::error::ErrorKind;
+use clap::{ArgMatches, Error};
 use shipped_programs::Shipped;
 use std::alloc::Global;
 

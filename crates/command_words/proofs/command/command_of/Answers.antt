@@ -1,6 +1,5 @@
-use Rattle.std.proofs.Common.{◌≡◌, ◌∙◌, List, Option, None, Result, Ok, Err, IfOk, map, sym}
+use Rattle.std.proofs.Common.{◌≡◌, ◌∙◌, Option, None, Result, Ok, Err, IfOk, map, sym}
 use Rattle.std.specs.Prelude.{MatchResult}
-use Rattle.std.specs.List.{list_any}
 use Rattle.std.specs.String.{string_bytes}
 use Rattle.clap.specs.Simple.{app_of}
 use Rattle.clap.proofs.WalkLemmas.{list_any-map}

@@ -1,5 +1,5 @@
-use Rattle.std.proofs.Common.{◌≡◌, ◌∙◌, ap, true}
-use Rattle.clap.specs.Simple.{App, app_of, app_of_fields, on_top}
+use Rattle.std.proofs.Common.{◌∙◌, ap, true}
+use Rattle.clap.specs.Simple.{app_of_fields, on_top}
 use Rattle.command_words.proofs.syntax.bare.Goals as goal
 
 pub returns : goal.returns

@@ -1,9 +1,8 @@
-use Rattle.std.proofs.Common.{◌≡◌, ◌∙◌, Bool, true, false, ap, ap₂, rules}
+use Rattle.std.proofs.Common.{◌≡◌, ◌∙◌, Bool, false, ap, ap₂, rules}
 use Rattle.std.specs.Prelude.{◌||◌}
 use Rattle.std.proofs.lemmas.Result.{IfOk-weaker}
-use Rattle.clap.specs.Walk.{Rule, rule_of}
+use Rattle.clap.specs.Walk.{rule_of}
 use Rattle.clap.specs.Simple.{App, with_rule}
-use Rattle.clap.specs.declared.builder.arg.Arg.{Arg}
 use Rattle.command_words.specs.Syntax.{needed}
 use Rattle.command_words.proofs.syntax.with_argument.Goals as goal
 

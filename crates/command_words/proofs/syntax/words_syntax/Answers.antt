@@ -1,8 +1,6 @@
-use Rattle.std.proofs.Common.{◌≡◌, ◌∙◌, List, [], ◌∷◌, ap, ap₂}
+use Rattle.std.proofs.Common.{◌≡◌, ◌∙◌, ap, ap₂}
 use Rattle.std.proofs.lemmas.Result.{IfOk-weaker}
-use Rattle.clap.specs.Walk.{Text}
-use Rattle.clap.specs.Simple.{App, Shape, app_of, new_app, with_subcommand}
-use Rattle.command_words.specs.Syntax.{bare}
+use Rattle.clap.specs.Simple.{App, with_subcommand}
 use Rattle.command_words.proofs.syntax.words_syntax.Goals as goal
 
 top : {a b : App} → a ≡ b → a.top ≡ b.top
