@@ -6,7 +6,7 @@ use Rattle.std.specs.Char.{is_ascii_digit}
 use Rattle.std.specs.Str.{bytes_eq}
 use Rattle.std.proofs.lemmas.Bool.{and_parts, cases_Bool, or_parts}
 use Rattle.std.proofs.lemmas.Slice.Eq.{bytes_eq-Decides}
-use Rattle.clap.specs.Walk.{Row, Text, answers_to, first_of, idle, nothing_held, subcommand_met}
+use Rattle.clap.specs.Walk.{Row, Text, answers_to, first_of, idle, is_empty, nothing_held, subcommand_met}
 use Rattle.clap.specs.Simple.{App, HasMatchesOf, Shape, built, is_simple, label_of, rows_at, subcommand_of, subcommand_rows_of}
 use Rattle.clap.specs.Kinds.{HasKind, IsAmong, Kinds, or_else}
 use Rattle.clap.specs.Values.{kind_of}
@@ -24,14 +24,10 @@ use Rattle.command_words.specs.Syntax.{begins_with_dash, of_subcommand, words_sy
 use Rattle.command_words.proofs.Wording.{command_is_its_words}
 use Rattle.command_words.proofs.Parsing.{argument, fault_in, is_free_syntax, is_simple_syntax, leaf, names, none_wanted, one_read, one_too_many, one_wanted, read_in, strange_word}
 
-abbrev no : Kinds → Bool
-no [] = true
-no (k ∷ ks) = false
-
 -- a parse fails by no fault and gives the command, or it fails and they are no command
 pub data Judged (words : List Text) : Type 0 where
   taken : fault_of words_syntax words ≡ [] → of_subcommand (subcommand_of words_syntax words) ≡ command_of words → Judged words
-  refused : no (fault_of words_syntax words) ≡ false → command_of words ≡ None → Judged words
+  refused : is_empty (fault_of words_syntax words) ≡ false → command_of words ≡ None → Judged words
 
 -- ---- which subcommand a word names
 
@@ -126,7 +122,7 @@ plain_first x words e = (or_parts (begins_with_dash x) (list_any begins_with_das
 judged_document : (c : DocumentCommand) (rest : List Text) → list_any begins_with_dash rest ≡ false → Judged (word_of c ∷ rest)
 judged_document c [] plain = taken (document_well c) (document_read c)
 judged_document c (x ∷ words) plain =
-    refused (ap no (document_in_words c (x ∷ words) ∙ ap (λ ks. or_else ks []) (none_wanted (word_of c) x (plain_first x words plain) words))) (document_alone c x words)
+    refused (ap is_empty (document_in_words c (x ∷ words) ∙ ap (λ ks. or_else ks []) (none_wanted (word_of c) x (plain_first x words plain) words))) (document_alone c x words)
 
 -- a subcommand with one argument, whose command is found by `gives`
 module _ (name id : Text) (gives : Text → Option Command) (is_met : subcommand_met names idle name ≡ Some name) (no_help : bytes_eq name (codes "help") ≡ false)
@@ -145,7 +141,7 @@ module _ (name id : Text) (gives : Text → Option Command) (is_met : subcommand
       ∙ by_rows (rows_at (leaf name (argument id ∷ [])) (x ∷ [])).1 ∙ ap (option_and_then gives) (one_read name id x first same) ∙ sym (by_words x))
   judged_with (x ∷ y ∷ words) plain =
       let both = or_parts (begins_with_dash x) (list_any begins_with_dash (y ∷ words)) plain in
-      refused (ap no (faults (x ∷ y ∷ words) ∙ ap (λ ks. or_else ks []) (one_too_many name id x both.0 same y words (plain_first y words both.1)))) refl
+      refused (ap is_empty (faults (x ∷ y ∷ words) ∙ ap (λ ks. or_else ks []) (one_too_many name id x both.0 same y words (plain_first y words both.1)))) refl
 
 judged_show : (rest : List Text) → list_any begins_with_dash rest ≡ false → Judged (codes "show" ∷ rest)
 unfolding clap_on_literals of_two_words
@@ -165,7 +161,7 @@ judged (word ∷ rest) plain = elim (first_of_words word) [
   | document c is ↦ subst (λ (w : Text). Judged (w ∷ rest)) (sym is) (judged_document c rest parts.1)
   | show is ↦ subst (λ (w : Text). Judged (w ∷ rest)) (sym is) (judged_show rest parts.1)
   | sample is ↦ subst (λ (w : Text). Judged (w ∷ rest)) (sym is) (judged_sample rest parts.1)
-  | other none is_none ↦ refused (ap no (strange_word word parts.0 none rest)) (is_none rest)
+  | other none is_none ↦ refused (ap is_empty (strange_word word parts.0 none rest)) (is_none rest)
 ]
   where
     parts : (begins_with_dash word ≡ false) × (list_any begins_with_dash rest ≡ false)
@@ -206,7 +202,7 @@ module _ (a : App) (is : a ≡ words_syntax) (words : List Text) (plain : list_a
   pub is_command : (m : ArgMatches) → (is_simple_and_free a ≡ true → fault_of a words ≡ []) → HasMatchesOf a words m → of_subcommand (subcommand_rows_of m) ≡ command_of words
   is_command m well has = elim (judged words plain) [
     | taken none same ↦ ap of_subcommand ((has (ap is_simple is ∙ is_simple_syntax)).1 ∙ ap (λ (x : App). subcommand_of x words) is) ∙ same
-    | refused some none ↦ absurd (true≢false (sym (ap no (sym (ap (λ (x : App). fault_of x words) is) ∙ well (ap is_simple_and_free is ∙ is_free_syntax))) ∙ some))
+    | refused some none ↦ absurd (true≢false (sym (ap is_empty (sym (ap (λ (x : App). fault_of x words) is) ∙ well (ap is_simple_and_free is ∙ is_free_syntax))) ∙ some))
   ]
 
   pub is_none : (e : Error) → (is_simple_and_free a ≡ true → HasKind (fault_of a words) e) → kind_of e ≢ OutOfMemory → command_of words ≡ None

@@ -23,27 +23,17 @@ is_free_syntax = refl
 
 -- ---- a word that does not begin with `-` is no flag
 
-module _ (word : Text) (plain : begins_with_dash word ≡ false) where
-  no_end : bytes_eq word (45 ∷ 45 ∷ []) ≡ false
-  no_end = by word plain
-    where
-      by : (w : Text) → begins_with_dash w ≡ false → bytes_eq w (45 ∷ 45 ∷ []) ≡ false
-      by [] e = refl
-      by (c ∷ cs) e = rw e refl
+no_end : (word : Text) → begins_with_dash word ≡ false → bytes_eq word (45 ∷ 45 ∷ []) ≡ false
+no_end [] plain = refl
+no_end (c ∷ cs) plain = rw plain refl
 
-  no_long : long_of word ≡ None
-  no_long = by word plain
-    where
-      by : (w : Text) → begins_with_dash w ≡ false → long_of w ≡ None
-      by [] e = refl
-      by (c ∷ cs) e = rw e refl
+no_long : (word : Text) → begins_with_dash word ≡ false → long_of word ≡ None
+no_long [] plain = refl
+no_long (c ∷ cs) plain = rw plain refl
 
-  no_short : short_of word ≡ None
-  no_short = by word plain
-    where
-      by : (w : Text) → begins_with_dash w ≡ false → short_of w ≡ None
-      by [] e = refl
-      by (c ∷ cs) e = rw e refl
+no_short : (word : Text) → begins_with_dash word ≡ false → short_of word ≡ None
+no_short [] plain = refl
+no_short (c ∷ cs) plain = rw plain refl
 
 -- the walk between two words of which nothing waits for a value
 abbrev at_rest : Held → ℕ → Walk
@@ -100,14 +90,18 @@ names = names_of (built words_syntax)
 -- the word names the subcommand s
 module _ (name : Text) (s : Shape) (is_met : subcommand_met names idle name ≡ Some name) (no_help : bytes_eq name (codes "help") ≡ false)
     (is_sub : find (λ (t : Shape). answers_to name (label_of t)) (built words_syntax).subs ≡ Some s) (rest : List Text) where
+  -- what the walk makes of the name, by the subcommand that it is taken for
+  abbrev step_by : Option Text → Held × Step
+  step_by o = subcommand_or_other top.rules o idle 1 name nothing_held
+
+  abbrev after_name : Option Text → Walk
+  after_name o = after_step top.rules name (walk_from nothing_held) (step_by o).0 (step_by o).1
+
   stops : walk top.rules names nothing_held (name ∷ rest) ≡ stopped_at name rest
   unfolding walked
   stops =
-      ap (λ (w : Walk). fold (walked top.rules names) w rest) (ap (λ o. after_met (subcommand_or_other top.rules o idle 1 name nothing_held)) is_met)
+      ap (λ (o : Option Text). fold (walked top.rules names) (after_name o) rest) is_met
       ∙ sym (walk_stopped top.rules names (walk_from nothing_held) name [] rest)
-    where
-      after_met : Held × Step → Walk
-      after_met m = after_step top.rules name (walk_from nothing_held) m.0 m.1
 
   no_request : other_fault top (Some name) name nothing_held ≡ []
   no_request = rw no_help refl
@@ -115,14 +109,9 @@ module _ (name : Text) (s : Shape) (is_met : subcommand_met names idle name ≡ 
   begins_well : walk_fault top names (walk_from nothing_held) (name ∷ rest) ≡ []
   unfolding walk_fault walked
   begins_well =
-      ap₂ or_else (ap (λ o. or_else (other_fault top o name nothing_held) (at_met (subcommand_or_other top.rules o idle 1 name nothing_held))) is_met ∙ ap (λ ks. or_else ks []) no_request)
-      (ap (λ o. walk_fault top names (after_met (subcommand_or_other top.rules o idle 1 name nothing_held)) rest) is_met ∙ stopped_well top names (walk_from nothing_held) name [] rest)
-    where
-      at_met : Held × Step → Kinds
-      at_met m = step_fault top 1 m.0 m.1
-
-      after_met : Held × Step → Walk
-      after_met m = after_step top.rules name (walk_from nothing_held) m.0 m.1
+      ap₂ or_else
+      (ap (λ (o : Option Text). or_else (other_fault top o name nothing_held) (step_fault top 1 (step_by o).0 (step_by o).1)) is_met ∙ ap (λ ks. or_else ks []) no_request)
+      (ap (λ (o : Option Text). walk_fault top names (after_name o) rest) is_met ∙ stopped_well top names (walk_from nothing_held) name [] rest)
 
   entered_is : entered (built words_syntax) (Some (name, rest)) ≡ Some (rows_at s rest)
   entered_is = ap (option_map (λ (t : Shape). rows_at t rest)) is_sub

@@ -1,11 +1,10 @@
 -- The words of a call as one command with subcommands, each with at most one argument.
-use Rattle.std.specs.Prelude.{◌==◌, Bool, true, false, ℕ, List, [], ◌∷◌, Option, Some, None, codes, if◌then◌else◌, option_and_then}
+use Rattle.std.specs.Prelude.{◌==◌, Bool, true, false, ℕ, List, [], ◌∷◌, ◌++◌, map, fold, Option, Some, None, codes, if◌then◌else◌, option_and_then}
 use Rattle.std.specs.Str.{bytes_eq}
 use Rattle.clap.specs.Walk.{Row, Rule, Text, first_of}
 use Rattle.clap.specs.Simple.{App, Shape, new_app, new_rule, on_top, with_rule, with_subcommand}
 use Rattle.command_words.specs.declared.command.Command.{Command}
 use Rattle.command_words.specs.declared.command.DocumentCommand.{DocumentCommand}
-use Rattle.command_words.specs.declared.command.DocumentCommand.TheVariants.{Run, Interleave, Replay, Check, Measure}
 use Rattle.command_words.specs.Words.{document_in, documents, sample_of, shipped, show_in, word_of}
 
 -- the word begins with `-` (45)
@@ -37,14 +36,10 @@ bare = on_top (λ s. record s {
   subcommand_required = true;
 }) (new_app (codes "amoebot"))
 
-abbrev pub syntax_of_documents : App
-syntax_of_documents =
-    with_subcommand (with_subcommand (with_subcommand (with_subcommand (with_subcommand bare
-    (alone Run)) (alone Interleave)) (alone Replay)) (alone Check)) (alone Measure)
-
+-- and the subcommands
 abbrev pub words_syntax : App
-words_syntax = with_subcommand (with_subcommand syntax_of_documents
-    (with_argument (codes "show") (codes "NAME"))) (with_argument (codes "sample") (codes "NUMBER"))
+words_syntax = fold with_subcommand bare
+    (map alone documents ++ with_argument (codes "show") (codes "NAME") ∷ with_argument (codes "sample") (codes "NUMBER") ∷ [])
 
 -- ---- what was read by it
 

@@ -47,7 +47,7 @@ const MOST_DIGITS: usize = 10;
 pub fn command_of(alloc: Global, words: &[String]) -> Result<Option<Command>, NoMemory>
     ensures { IfOk result (λ c. c ≡ command_of (map string_bytes words.now)) }
 {
-    if begin_with_dash(words) {
+    if any_begins_with_dash(words) {
         return Ok(None);
     }
     match words_syntax(alloc)?.try_get_matches_from(words) {
@@ -57,7 +57,7 @@ pub fn command_of(alloc: Global, words: &[String]) -> Result<Option<Command>, No
 }
 
 /// Whether one of the words begins with `-`.
-fn begin_with_dash(words: &[String]) -> bool
+fn any_begins_with_dash(words: &[String]) -> bool
     ensures { result ≡ list_any (λ word. begins_with_dash (string_bytes word)) words.now }
 {
     words.iter().any(|word| begins_with_dash(word.as_str()))
