@@ -1,2 +1,4 @@
+pub mod Judging
+pub mod Parsing
 pub mod Seeds
 pub mod Wording

@@ -21,16 +21,22 @@ decides_seed digits = (to, back)
   where
     Few : Type 0
     Few = (length digits ≤ 10) × (list_all is_ascii_digit digits ≡ true)
+
     Number : Type 0
     Number = (1 ≤ length digits) × (digits_value 10 digits < 2 ^ 32)
+
     few : Decides (are_few_digits digits) Few
     few = Decides-and (nat_le (length digits) 10) (list_all is_ascii_digit digits) (decides_le (length digits) 10) (λ e. e, λ e. e)
+
     number : Decides (nat_le 1 (length digits) && nat_lt (digits_value 10 digits) (2 ^ 32)) Number
     number = Decides-and (nat_le 1 (length digits)) (nat_lt (digits_value 10 digits) (2 ^ 32)) (decides_le 1 (length digits)) (Decides-ltb (digits_value 10 digits) (2 ^ 32))
+
     parts : Decides (is_seed digits) (Few × Number)
     parts = Decides-and (are_few_digits digits) (nat_le 1 (length digits) && nat_lt (digits_value 10 digits) (2 ^ 32)) few number
+
     to : is_seed digits ≡ true → IsSeed digits (digits_value 10 digits)
     to e = let p = parts.0 e in record { some = p.1.0; few = p.0.0; all = p.0.1; value = refl; small = p.1.1 }
+
     back : IsSeed digits (digits_value 10 digits) → is_seed digits ≡ true
     back s = parts.1 ((s.few, s.all), (s.some, s.small))
 

@@ -1,10 +1,17 @@
-ghost use Rattle.std.specs.Prelude.{◌≡◌, map};
+ghost use Rattle.std.specs.Prelude.{◌≡◌, map, codes, option_and_then, IfOk, MatchResult, Some, None, ◌≢◌};
 ghost use Rattle.std.specs.Char.{is_ascii_digit};
-ghost use Rattle.std.specs.List.{list_all};
+ghost use Rattle.std.specs.List.{list_all, list_any};
 ghost use Rattle.std.specs.String.{string_bytes};
-ghost use Rattle.command_words.specs.Words.{are_few_digits, command_of, document_in, documents, of_two_words, sample_of, shipped, show_in};
+ghost use Rattle.command_words.specs.Words.{are_few_digits, command_of, document_in, documents, sample_of, shipped, show_in};
+ghost use Rattle.command_words.specs.Syntax.{begins_with_dash, of_subcommand};
+ghost use Rattle.clap.specs.Words.{first_of, found_of, kind_of, rows_of, subcommand_rows_of};
 
+use crate::syntax::words_syntax;
+use amoebot_state::NoMemory;
+use clap::error::ErrorKind;
+use clap::{ArgMatches, Error};
 use shipped_programs::Shipped;
+use std::alloc::Global;
 
 /// What the program is to do.
 #[derive(Clone, Copy, Debug, PartialEq, Eq)]
@@ -36,15 +43,70 @@ pub enum DocumentCommand {
 const MOST_DIGITS: usize = 10;
 
 /// The command that the words are, if they are one: the word of a command that reads a document; `show` and the name of a program;
-/// or `sample` and a number, 1 to 10 digits that write a number below 2^32.
-pub fn command_of(words: &[String]) -> Option<Command>
-    ensures { result ≡ command_of (map string_bytes words.now) }
+/// or `sample` and a number, 1 to 10 digits that write a number below 2^32. `NoMemory` may come in place of it.
+pub fn command_of(alloc: Global, words: &[String]) -> Result<Option<Command>, NoMemory>
+    ensures { IfOk result (λ c. c ≡ command_of (map string_bytes words.now)) }
 {
-    match words {
-        [word] => of_word(word.as_str()),
-        [word, other] => of_two_words(word.as_str(), other.as_str()),
-        _ => None,
+    if any_begins_with_dash(words) {
+        return Ok(None);
     }
+    match words_syntax(alloc)?.try_get_matches_from(words) {
+        Ok(matches) => Ok(of_matches(&matches)),
+        Err(error) => of_fault(&error),
+    }
+}
+
+/// Whether one of the words begins with `-`.
+fn any_begins_with_dash(words: &[String]) -> bool
+    ensures { result ≡ list_any (λ word. begins_with_dash (string_bytes word)) words.now }
+{
+    words.iter().any(|word| begins_with_dash(word.as_str()))
+}
+
+fn begins_with_dash(word: &str) -> bool
+    ensures { result ≡ begins_with_dash word.now }
+{
+    word.starts_with('-')
+}
+
+/// What comes of words that are not read: no command, but for want of memory.
+fn of_fault(error: &Error) -> Result<Option<Command>, NoMemory>
+    ensures { MatchResult result (λ c. (c ≡ None) × (kind_of error.now ≢ ErrorKind.OutOfMemory)) (λ _. kind_of error.now ≡ ErrorKind.OutOfMemory) }
+{
+    match error.kind() {
+        ErrorKind::OutOfMemory => Err(NoMemory),
+        _ => Ok(None),
+    }
+}
+
+/// The command of the subcommand that was read.
+fn of_matches(matches: &ArgMatches<'_>) -> Option<Command>
+    ensures { result ≡ of_subcommand (subcommand_rows_of matches.now) }
+{
+    let (word, arguments) = matches.subcommand()?;
+    of_subcommand(word, arguments)
+}
+
+fn of_subcommand(word: &str, arguments: &ArgMatches<'_>) -> Option<Command>
+    ensures { result ≡ of_subcommand (Some (word.now, rows_of (found_of arguments.now))) }
+{
+    match word {
+        "show" => of_name_in(arguments),
+        "sample" => of_number_in(arguments),
+        _ => of_word(word),
+    }
+}
+
+fn of_name_in(arguments: &ArgMatches<'_>) -> Option<Command>
+    ensures { result ≡ option_and_then (show_in shipped) (first_of (codes "NAME") (rows_of (found_of arguments.now))) }
+{
+    of_name(arguments.get_str("NAME")?)
+}
+
+fn of_number_in(arguments: &ArgMatches<'_>) -> Option<Command>
+    ensures { result ≡ option_and_then sample_of (first_of (codes "NUMBER") (rows_of (found_of arguments.now))) }
+{
+    of_number(arguments.get_str("NUMBER")?)
 }
 
 fn of_word(word: &str) -> Option<Command>
@@ -59,17 +121,6 @@ fn of_word(word: &str) -> Option<Command>
         _ => return None,
     };
     Some(Command::Document(command))
-}
-
-#[tactic(auto, unfolding(crate::specs::Words::of_two_words))]
-fn of_two_words(word: &str, other: &str) -> Option<Command>
-    ensures { result ≡ of_two_words word.now other.now }
-{
-    match word {
-        "show" => of_name(other),
-        "sample" => of_number(other),
-        _ => None,
-    }
 }
 
 fn of_name(name: &str) -> Option<Command>

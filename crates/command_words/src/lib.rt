@@ -3,6 +3,7 @@
 
 mod command;
 mod laws;
+mod syntax;
 
 pub use command::{Command, DocumentCommand, command_of};
 pub use laws::{command_is_its_words, small_words};

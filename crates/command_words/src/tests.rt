@@ -1,15 +1,16 @@
 use crate::{Command, DocumentCommand, command_of};
+use amoebot_state::NoMemory;
 use shipped_programs::Shipped;
-use std::alloc::{AllocError, Global};
+use std::alloc::Global;
 use std::test::Fail;
 
 /// The command of some words.
-fn judged(alloc: Global, texts: &[&str]) -> Result<Option<Command>, AllocError> {
+fn judged(alloc: Global, texts: &[&str]) -> Result<Option<Command>, NoMemory> {
     let mut words = Vec::new(alloc);
     for text in texts {
         words.push(String::from_str(alloc, text)?)?;
     }
-    Ok(command_of(words.as_slice()))
+    command_of(alloc, words.as_slice())
 }
 
 #[test]
@@ -38,12 +39,14 @@ fn each_command_has_its_words(rt: HostRuntime) -> Result<(), Fail> {
 }
 
 /// No command has these words.
-const NONE: [&[&str]; 40] = [
+const NONE: [&[&str]; 46] = [
     &[],
     &[""],
     &["", "run"],
     &["run", ""],
     &["run", "now"],
+    &["run", "--"],
+    &["help", "run"],
     &["Run"],
     &["RUN"],
     &["runs"],
@@ -67,6 +70,10 @@ const NONE: [&[&str]; 40] = [
     &["show", ""],
     &["show", "line", "line"],
     &["show", "-line"],
+    &["show", "--", "line"],
+    &["show", "line", "--help"],
+    &["show", "help"],
+    &["show", "NAME"],
     &["line"],
     &["sample"],
     &["sample", ""],
