@@ -70,8 +70,8 @@ const TOO_LONG_LINE: &str = "refused 0 TooLong\n";
 /// Does what the words ask for: it reads a document of the command's form, if the command reads one, and writes its text.
 ///
 /// The words are judged first. Then the input is read to its end, then the document is judged and the command does its work, and the
-/// whole text is made before the first byte is written. No memory is taken for the lines of the words, of a failed read and of an
-/// input that is too long. The lists of `run` are run by workers, which call the gate.
+/// whole text is made before the first byte is written. No memory is taken for the lines of a failed read and of an input that is too
+/// long. The lists of `run` and of a sample are run by workers, which call the gate.
 pub fn run<R: Threads + Wait + Sync, S: Source, K: Sink, G: Gate>(
     rt: &R,
     alloc: Global,
@@ -110,9 +110,9 @@ pub fn run<R: Threads + Wait + Sync, S: Source, K: Sink, G: Gate>(
         → IsOwed (command_of (map string_bytes words.now)) nothing s report text
         → IsAnswered (command_of (map string_bytes words.now)) nothing s report text (WritesAll K.written K.takes out.old out.new) result.status result.report ⊎ IsFailure result.status }
 
-    // Where the words are no command, only a write that fails hides that. Then nothing is read, nor for a command that reads no document.
+    // Where the words are no command, only a write that fails or want of memory hides that. Then nothing is read, nor for a command that reads no document.
     ensures words { result.status ≡ Status.Words → command_of (map string_bytes words.now) ≡ None }
-    ensures no_command { command_of (map string_bytes words.now) ≡ None → (result.status ≡ Status.Words) ⊎ (result.status ≡ Status.WriteFault) }
+    ensures no_command { command_of (map string_bytes words.now) ≡ None → (result.status ≡ Status.Words) ⊎ ((result.status ≡ Status.WriteFault) ⊎ (result.status ≡ Status.NoMemory)) }
     ensures unread { ReadsNothing (command_of (map string_bytes words.now)) → input.new ≡ input.old }
 
     // A fault is that of the object that was handed in. Without memory nothing is written.
@@ -150,11 +150,13 @@ fn end<R: Threads + Wait + Sync, S: Source, K: Sink, G: Gate>(
         (out.new ≡ out.old)
         result.status result.report }
     ensures turns { HasTurns (command_of (map string_bytes words.now)) result.status result.report result.turns }
-    ensures no_command { command_of (map string_bytes words.now) ≡ None → (result.status ≡ Status.Words) ⊎ (result.status ≡ Status.WriteFault) }
+    ensures no_command { command_of (map string_bytes words.now) ≡ None → (result.status ≡ Status.Words) ⊎ ((result.status ≡ Status.WriteFault) ⊎ (result.status ≡ Status.NoMemory)) }
     ensures unread { ReadsNothing (command_of (map string_bytes words.now)) → input.new ≡ input.old }
 {
-    let Some(command) = command_of(words) else {
-        return end_with_line(out, USAGE, Status::Words);
+    let command = match command_of(alloc, words) {
+        Ok(Some(command)) => command,
+        Ok(None) => return end_with_line(out, USAGE, Status::Words),
+        Err(NoMemory) => return end_with(Status::NoMemory),
     };
     match command {
         Command::Document(command) => end_document(rt, alloc, command, input, out, gate),

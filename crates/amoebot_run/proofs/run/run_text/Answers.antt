@@ -33,7 +33,7 @@ pub returns-in-Err-clause-turns : goal.returns-in-Err-clause-turns
 returns-in-Err-clause-turns g c = without_turns _ _ c.end_with.ensures
 
 pub returns-in-Ok-clause-no_command : goal.returns-in-Ok-clause-no_command
-returns-in-Ok-clause-no_command g c = λ none. elim (c.run.ensures.no_command none) [ inl x ↦ inl x | inr x ↦ absurd (not_risen (c.run.ensures.write_fault x)) ]
+returns-in-Ok-clause-no_command g c = λ none. elim (c.run.ensures.no_command none) [ inl x ↦ inl x | inr hidden ↦ elim hidden [ inl x ↦ absurd (not_risen (c.run.ensures.write_fault x)) | inr x ↦ inr x ] ]
 
 pub returns-in-Ok-clause-no_read_fault : goal.returns-in-Ok-clause-no_read_fault
 returns-in-Ok-clause-no_read_fault g c = λ e. not_risen (c.run.ensures.read_fault e)
