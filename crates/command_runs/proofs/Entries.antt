@@ -70,9 +70,9 @@ good_is_few f w0 lists report good =
     let none : List ℕ = replicate n zero in
     let long : length none ≡ n = length-replicate n zero in
     let told : All (IsAbove lists.turns none) report.journal.entries = (λ k d inside.
-        let is = good.order.listed k d inside in
-        let low : get_or none (get_or report.journal.entries k d).caller zero ≡ zero = zeros n (get_or report.journal.entries k d).caller in
-        record { caller = subst (λ m. (get_or report.journal.entries k d).caller < m) (sym long) is.caller; above = (omega arith); turn = is.turn }) in
+    let is = good.order.listed k d inside in
+    let low : get_or none (get_or report.journal.entries k d).caller zero ≡ zero = zeros n (get_or report.journal.entries k d).caller in
+    record { caller = subst (λ m. (get_or report.journal.entries k d).caller < m) (sym long) is.caller; above = (omega arith); turn = is.turn }) in
     let all = counted lists.turns none report.journal.entries (All-replicate (λ m. m ≤ lists.turns) n zero (omega arith)) told good.order.rising in
     let same : length none * lists.turns ≡ n * lists.turns = ap (λ m. m * lists.turns) long in
     record { bots = bots_there f w0 report.world report.journal.entries good.run; few = omega arith }

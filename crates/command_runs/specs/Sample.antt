@@ -13,13 +13,13 @@ use Rattle.command_runs.specs.Replay.{Agrees}
 
 abbrev pub sample_text : ℕ → ℕ → ℕ → ℕ → Bool → Bool → List ℕ
 sample_text seed bots callers turns connected agrees = lines_text (
-  (codes "sample" ∷ decimal seed ∷ [])
-  ∷ (codes "bots" ∷ decimal bots ∷ [])
-  ∷ (codes "callers" ∷ decimal callers ∷ [])
-  ∷ (codes "turns" ∷ decimal turns ∷ [])
-  ∷ (codes "connected" ∷ yes_or_no connected ∷ [])
-  ∷ (codes "replay" ∷ yes_or_no agrees ∷ [])
-  ∷ [])
+    (codes "sample" ∷ decimal seed ∷ [])
+    ∷ (codes "bots" ∷ decimal bots ∷ [])
+    ∷ (codes "callers" ∷ decimal callers ∷ [])
+    ∷ (codes "turns" ∷ decimal turns ∷ [])
+    ∷ (codes "connected" ∷ yes_or_no connected ∷ [])
+    ∷ (codes "replay" ∷ yes_or_no agrees ∷ [])
+    ∷ [])
 
 -- the text of a report: its number, how many amoebots, callers and turns there are, whether the last world is connected, and whether the journal is a
 -- run from the world at the start to the last one

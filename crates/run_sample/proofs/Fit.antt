@@ -32,6 +32,7 @@ there bots many = All-map There ids_of (0 ∷ 1 ∷ 2 ∷ 3 ∷ []) (λ k d insi
   where
     There : List ℕ → Type 0
     There = All (λ (id : ℕ). IsSome (bot_at (config_of sample_area sample_maxes bots) id))
+
     of : (c : ℕ) → There (ids_of c)
     of c = All-weaker (λ id. id < 150) (λ (id : ℕ). IsSome (bot_at (config_of sample_area sample_maxes bots) id)) (λ id lt. is_there bots id (omega (arith, many))) (ids_of c) (below 150 c)
 
