@@ -16,13 +16,14 @@ use Rattle.command_answers.specs.declared.status.Status.{Status}
 use Rattle.command_answers.specs.declared.status.Status.TheVariants as status
 use Rattle.command_answers.specs.Commands.{form_of}
 use Rattle.command_answers.specs.Headline.{MakesTurns}
+use Rattle.command_answers.specs.OfSample.{six_lines}
 use Rattle.text_tokens.specs.Kinds.{name}
 use Rattle.command_answers.specs.Lines.{refusal_line, too_long}
 use Rattle.command_answers.specs.Laws.{OwedIsOne, SameOwed, DocumentsHaveOutcomes, ReportsAreOfTurns, ReportsAreOfDocuments, ReportsAreOfSamples}
 use Rattle.command_answers.specs.Reads.{Read, nothing, whole, above, up_to_fault, some}
 use Rattle.command_answers.specs.Owed.{IsOwed, usage, read_fault, longer, refused, differs, done, shown, sampled}
 use Rattle.amoebot_run.specs.declared.run.Ended.{Ended}
-use Rattle.amoebot_run.specs.Endings.{IsEnding, written, cut, wanting, IsWithin, IsWritten, all, front, IsAnswered, IsFailure, IsServed, IsTold, of_document, of_sample, ReadsNothing, limit_for}
+use Rattle.amoebot_run.specs.Endings.{IsEnding, written, cut, wanting, IsWithin, IsWritten, all, front, IsAnswered, IsFailure, IsUnwritten, IsServed, IsTold, of_document, of_sample, ReadsNothing, limit_for}
 
 -- ---- how a call ended, from what was written
 
@@ -135,12 +136,12 @@ reads_nothing command read s t one two text other (shown p) (shown q) = refl
 reads_nothing command read s t one two text other (sampled seed r v x) (sampled same q u y) = refl
 
 pub one_unread : OwedIsOne → (t : Status) (other : Option Report) (its : List ℕ) (Writes : List ℕ → Type 0) {Reads : Read → Type 0} {Cuts : List ℕ → Type 0} {Untouched : Type 0} (command : Option Command) (s : Status) (report : Option Report)
-    → IsOwed command nothing t other its → IsEnding command Reads Writes Cuts Untouched s report → IsAnswered command nothing t other its Writes s report ⊎ IsFailure s
+    → IsOwed command nothing t other its → IsEnding command Reads Writes Cuts Untouched s report → IsAnswered command nothing t other its Writes s report ⊎ IsUnwritten s
 one_unread law t other its Writes command _ _ owes (written read s report text reads x writes) =
     let same = reads_nothing command read s t report other text its owes x in
     inl (is_answered Writes writes (law command nothing s t report other text its (subst (λ r. IsOwed command r s report text) same x) owes))
-one_unread law t other its Writes command _ _ owes (cut read s report text reads x cuts) = inr tt
-one_unread law t other its Writes command _ _ owes (wanting read reads within untouched) = inr tt
+one_unread law t other its Writes command _ _ owes (cut read s report text reads x cuts) = inr (inl refl)
+one_unread law t other its Writes command _ _ owes (wanting read reads within untouched) = inr (inr refl)
 
 -- a command that reads nothing is done
 done_unread : (c : Command) (read : Read) (s : Status) (report : Option Report) (text : List ℕ) → ReadsNothing (Some c) → IsOwed (Some c) read s report text → s ≡ status.Done
@@ -153,10 +154,20 @@ done_unread c read s report text nothing_read (differs bytes a place x l) = absu
 done_unread c read s report text nothing_read (done d bytes a r t x l) = refl
 
 pub served_unread : {Reads : Read → Type 0} {Writes Cuts : List ℕ → Type 0} {Untouched : Type 0} (c : Command) (command : Option Command) (s : Status) (report : Option Report)
-    → command ≡ Some c → ReadsNothing (Some c) → IsEnding command Reads Writes Cuts Untouched s report → (s ≡ status.Done) ⊎ IsFailure s
+    → command ≡ Some c → ReadsNothing (Some c) → IsEnding command Reads Writes Cuts Untouched s report → (s ≡ status.Done) ⊎ IsUnwritten s
 served_unread c command _ _ is nothing_read (written read s report text reads x writes) = inl (done_unread c read s report text nothing_read (subst (λ o. IsOwed o read s report text) is x))
-served_unread c command _ _ is nothing_read (cut read s report text reads x cuts) = inr tt
-served_unread c command _ _ is nothing_read (wanting read reads within untouched) = inr tt
+served_unread c command _ _ is nothing_read (cut read s report text reads x cuts) = inr (inl refl)
+served_unread c command _ _ is nothing_read (wanting read reads within untouched) = inr (inr refl)
+
+-- of a sample the six lines are written
+lines_owed : ReportsAreOfSamples → (seed : ℕ) (Writes : List ℕ → Type 0) (read : Read) (s : Status) (report : Option Report) (text : List ℕ) → Writes text → IsOwed (Some (Sample seed)) read s report text → (s ≡ status.Done) × Writes (six_lines seed)
+lines_owed law seed Writes read s report text writes (sampled same told v x) = (refl, subst Writes (law seed read s told text (sampled seed told text x)).1.writes writes)
+
+pub six_lines_written : ReportsAreOfSamples → (seed : ℕ) {Reads : Read → Type 0} (Writes : List ℕ → Type 0) {Cuts : List ℕ → Type 0} {Untouched : Type 0} (command : Option Command) (s : Status) (report : Option Report)
+    → command ≡ Some (Sample seed) → IsEnding command Reads Writes Cuts Untouched s report → ((s ≡ status.Done) × Writes (six_lines seed)) ⊎ IsUnwritten s
+six_lines_written law seed Writes command _ _ is (written read s report text reads x writes) = inl (lines_owed law seed Writes read s report text writes (subst (λ o. IsOwed o read s report text) is x))
+six_lines_written law seed Writes command _ _ is (cut read s report text reads x cuts) = inr (inl refl)
+six_lines_written law seed Writes command _ _ is (wanting read reads within untouched) = inr (inr refl)
 
 -- a document is served
 module _ (law : DocumentsHaveOutcomes) (document : List ℕ) (a : Contents) (Writes : List ℕ → Type 0) where

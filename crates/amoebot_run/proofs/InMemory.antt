@@ -1,5 +1,5 @@
 -- A call over bytes in memory.
-use Rattle.std.proofs.Common.{◌≡◌, ◌≤◌, refl, subst, List, ℕ, length, Option, Some, None, arith}
+use Rattle.std.proofs.Common.{◌≡◌, ◌≤◌, refl, subst, List, ℕ, length, Option, Some, None, inl, inr, arith}
 use Rattle.std.specs.Prelude.{IfSome}
 use Rattle.outer_io.specs.Kept.{KeptBytes, KeepsPiece, PiecesAreKeptAsOne, written_of}
 use Rattle.outer_io.specs.Told.{Rose}
@@ -9,7 +9,7 @@ use Rattle.command_words.specs.declared.command.Command.{Command}
 use Rattle.command_answers.specs.declared.status.Status.{Status}
 use Rattle.command_answers.specs.declared.status.Status.TheVariants as status
 use Rattle.command_answers.specs.Reads.{Read, IsReading, nothing, whole, above, up_to_fault, some}
-use Rattle.amoebot_run.specs.Endings.{IsAnswered, IsFailure, IsReadingOf, IsTold, of_document, of_sample, HasText}
+use Rattle.amoebot_run.specs.Endings.{IsAnswered, IsFailure, IsUnwritten, IsReadingOf, IsTold, of_document, of_sample, HasText}
 use Rattle.amoebot_run.proofs.Fronts.{whole_is, no_longer}
 
 -- a count that stays 0 did not rise
@@ -39,6 +39,9 @@ memory_alone status.Done read write fails = elim fails [ ]
 memory_alone status.Words read write fails = elim fails [ ]
 memory_alone (status.Refused _) read write fails = elim fails [ ]
 memory_alone (status.Differs _) read write fails = elim fails [ ]
+
+pub unwritten_alone : (s : Status) → (s ≡ status.WriteFault → ⊥) → IsUnwritten s → s ≡ status.NoMemory
+unwritten_alone s write unwritten = elim unwritten [ inl e ↦ absurd (write e) | inr e ↦ e ]
 
 pub answered_maps : {command : Option Command} {read : Read} {s ended : Status} {report told : Option Report} {text : List ℕ} {Writes Writes' : List ℕ → Type 0} → ((t : List ℕ) → Writes t → Writes' t)
     → IsAnswered command read s report text Writes ended told → IsAnswered command read s report text Writes' ended told

@@ -1,14 +1,20 @@
 -- What workers left is owed, and which calls hand their turns on.
-use Rattle.std.proofs.Common.{◌≡◌, ℕ, List, length, Option, Some, None, refl, ap, sym, subst}
+use Rattle.std.proofs.Common.{◌≡◌, ◌≤◌, ◌<◌, ◌*◌, ◌^◌, ℕ, List, length, Option, Some, None, refl, ap, sym, subst, arith}
 use Rattle.std.specs.Prelude.{IsSome, IfSome}
+use Rattle.std.specs.List.{All}
 use Rattle.std.proofs.lemmas.Bool.{false≢true}
 use Rattle.claim_core.specs.declared.report.Report.{Report}
-use Rattle.amoebot_state.specs.Configs.{Config}
+use Rattle.amoebot_state.specs.Configs.{Config, bot_at}
+use Rattle.claim_core.specs.Turns.{CallerLists}
 use Rattle.claim_core.specs.Good.{Good}
 use Rattle.claim_core.specs.Reached.{Reached}
 use Rattle.action_meaning.specs.Verdicts.{verdict_shown}
 use Rattle.turn_workers.specs.Turns.{AreTurnsOf}
+use Rattle.run_sample.specs.Callers.{sample_lists}
+use Rattle.run_sample.specs.Laws.{SampleIsFit}
+use Rattle.command_runs.specs.Laws.{GoodIsFew}
 use Rattle.command_runs.specs.Sample.{IsSampleText}
+use Rattle.command_answers.proofs.OwedTexts.{owes_sample}
 use Rattle.activation.specs.declared.turn.Turn.{Turn}
 use Rattle.command_runs.specs.Reports.{setup, report_text}
 use Rattle.command_answers.specs.declared.answering.Answer.{Answer}
@@ -75,12 +81,22 @@ worked c bytes run outcome is ran = record {
 pub from_first : (run : Prepared) (told : Report) → Good (verdict_shown run.runner) run.world run.lists told → Good (verdict_shown run.runner) told.journal.first run.lists told
 from_first run told good = subst (λ (start : Config). Good (verdict_shown run.runner) start run.lists told) (sym good.first) good
 
+-- the amoebots of a sample's lists are there
+pub there_in_sample : SampleIsFit → (seed : ℕ) (run : Prepared) → IsPreparedSample seed run → All (All (λ (id : ℕ). IsSome (bot_at run.world id))) run.lists.ids
+there_in_sample fit seed run is = (fit seed (record { checked = run.runner; world = run.world; lists = run.lists }) is).there
+
+-- and its report has few entries
+pub few_of_sample : GoodIsFew → (seed : ℕ) (run : Prepared) (told : Report) → IsPreparedSample seed run → Good (verdict_shown run.runner) run.world run.lists told → length told.journal.entries < 2 ^ 32
+few_of_sample law seed run told is good =
+    let few : length told.journal.entries ≤ length sample_lists.ids * sample_lists.turns = subst (λ (lists : CallerLists). length told.journal.entries ≤ length lists.ids * lists.turns) is.lists (law (verdict_shown run.runner) run.world run.lists told good).few in
+    omega arith
+
 -- what workers left of a sample's run is owed, with its turns
 pub sampled : (seed : ℕ) (run : Prepared) (told : Report) (turns : List (List Turn)) (answer : Answer) → IsPreparedSample seed run → Good (verdict_shown run.runner) run.world run.lists told → Reached (setup (verdict_shown run.runner) run.world run.lists) told → AreTurnsOf told.turns turns
     → TellsSample (verdict_shown run.runner) run.lists seed told answer → IsUnreadOutcomeOf (Sample seed) (record { answer = answer; turns = Some turns })
 sampled seed run told turns answer is good reached marked tells =
     let lines = subst (λ (start : Config). IsSampleText (verdict_shown run.runner) start run.lists seed told answer.text) good.first tells.text in
     record {
-      owed = subst (λ (z : Status × Option Report). IsOwed (Some (Sample seed)) nothing z.0 z.1 answer.text) (λ i. (sym tells.done i, sym tells.report i)) (is.owed told answer.text good reached lines);
+      owed = subst (λ (z : Status × Option Report). IsOwed (Some (Sample seed)) nothing z.0 z.1 answer.text) (λ i. (sym tells.done i, sym tells.report i)) (owes_sample seed run told answer.text is good reached lines);
       turns = record { exactly = ((λ some. (tells.done, tt)), λ both. refl); marked = (told, tells.report, marked) };
     }

@@ -1,5 +1,5 @@
 -- How a call of the program may end.
-use Rattle.std.specs.Prelude.{◌≡◌, ◌<◌, ◌≤◌, ℕ, List, length, ⊤}
+use Rattle.std.specs.Prelude.{◌≡◌, ◌<◌, ◌≤◌, ◌⊎◌, ℕ, List, length, ⊤}
 use Rattle.std.specs.declared.option.Option.{Option}
 use Rattle.std.specs.declared.option.Option.TheVariants.{Some, None}
 use Rattle.outer_io.specs.Told.{Rose, Grows}
@@ -67,6 +67,10 @@ IsFailure status.ReadFault = ⊤
 IsFailure status.WriteFault = ⊤
 IsFailure status.NoMemory = ⊤
 IsFailure (status.Differs place) = ⊥
+
+-- what was owed was not written whole: a write failed, or memory was wanting
+abbrev pub IsUnwritten : Status → Type 0
+IsUnwritten s = (s ≡ status.WriteFault) ⊎ (s ≡ status.NoMemory)
 
 -- the call answers what is owed: its status; and where at most one report may be told, or one text, its report and its text
 pub record IsAnswered (command : Option Command) (read : Read) (s : Status) (report : Option Report) (text : List ℕ) (Writes : List ℕ → Type 0) (ended : Status) (left : Option Report) : Type 0 where

@@ -1,5 +1,5 @@
-ghost use Rattle.std.specs.Prelude.{◌≡◌, ◌≢◌, ◌<◌, ◌≤◌, ◌+◌, ◌^◌, ◌↔◌, ◌⊎◌, ℕ, List, map, length, IsSome, IfSome, IfOk, Option, Some, None};
-ghost use Rattle.std.specs.List.{All};
+ghost use Rattle.std.specs.Prelude.{◌≡◌, ◌≢◌, ◌<◌, ◌≤◌, ◌+◌, ◌^◌, ◌↔◌, ◌⊎◌, ℕ, true, List, map, length, IsSome, IfSome, IfOk, Option, Some, None};
+ghost use Rattle.std.specs.List.{All, list_any};
 ghost use Rattle.std.specs.String.{string_bytes};
 ghost use Rattle.outer_io.specs.Told.{Rose};
 ghost use Rattle.outer_io.specs.Writings.{WritesAll, WritesFront};
@@ -9,12 +9,14 @@ ghost use Rattle.document_grammar.specs.Documents.{Contents, Holds};
 ghost use Rattle.command_words.specs.declared.command.Command.{Command as CommandValue};
 ghost use Rattle.command_words.specs.declared.command.DocumentCommand.{DocumentCommand as DocumentCommandValue};
 ghost use Rattle.command_answers.specs.declared.status.Status.{Status as StatusValue};
+ghost use Rattle.command_words.specs.Syntax.{begins_with_dash};
 ghost use Rattle.command_words.specs.Words.{command_of};
 ghost use Rattle.command_answers.specs.Commands.{form_of};
 ghost use Rattle.command_answers.specs.Reads.{IsReading, nothing, whole};
 ghost use Rattle.command_answers.specs.Owed.{IsOwed};
 ghost use Rattle.command_answers.specs.Headline.{MakesTurns};
-ghost use Rattle.amoebot_run.specs.Endings.{HasText, IsAnswered, IsEnding, IsFailure, IsReadingOf, IsServed, IsTold, IsWritten, ReadsNothing, limit_for};
+ghost use Rattle.command_answers.specs.OfSample.{six_lines};
+ghost use Rattle.amoebot_run.specs.Endings.{HasText, IsAnswered, IsEnding, IsFailure, IsReadingOf, IsServed, IsTold, IsUnwritten, IsWritten, ReadsNothing, limit_for};
 ghost use Rattle.amoebot_run.specs.Working.{HasTurns, IsOutcomeOf, IsRunOf, IsUnreadOutcomeOf};
 
 use activation::{Gate, NoGate};
@@ -24,11 +26,13 @@ use command_answers::{
     Answer, Prepared, Status, Task, answer_report, answer_sample, answer_show,
     documents_have_outcomes, limit_of, owed_is_one, prepare_sample, reports_are_of_runs, task_of,
 };
+use command_runs::good_is_few;
 use command_words::{Command, DocumentCommand, command_of};
 use outer_io::{
     ReadError, Sink, Source, SureSink, SureSource, WriteFault, pieces_are_kept_as_one,
     read_document, write_all,
 };
+use run_sample::sample_is_fit;
 use shipped_programs::Shipped;
 use std::alloc::Global;
 use std::sync::Wait;
@@ -105,14 +109,16 @@ pub fn run<R: Threads + Wait + Sync, S: Source, K: Sink, G: Gate>(
         → IsOwed (command_of (map string_bytes words.now)) (whole document) s report text
         → IsAnswered (command_of (map string_bytes words.now)) (whole document) s report text (WritesAll K.written K.takes out.old out.new) result.status result.report ⊎ IsFailure result.status }
 
-    // So it is of what is owed where nothing is read. For `sample` that is the text alone.
+    // So it is of what is owed where nothing is read; no read can fail there. For `sample` that is the status and the text.
     ensures determined_unread { (s : StatusValue) (report : Option ReportValue) (text : List ℕ)
         → IsOwed (command_of (map string_bytes words.now)) nothing s report text
-        → IsAnswered (command_of (map string_bytes words.now)) nothing s report text (WritesAll K.written K.takes out.old out.new) result.status result.report ⊎ IsFailure result.status }
+        → IsAnswered (command_of (map string_bytes words.now)) nothing s report text (WritesAll K.written K.takes out.old out.new) result.status result.report ⊎ IsUnwritten result.status }
 
-    // Where the words are no command, only a write that fails or want of memory hides that. Then nothing is read, nor for a command that reads no document.
+    // Where the words are no command, only a write that fails or want of memory hides that; and where a word begins with `-`, no want of memory does. Then nothing
+    // is read, nor for a command that reads no document.
     ensures words { result.status ≡ Status.Words → command_of (map string_bytes words.now) ≡ None }
-    ensures no_command { command_of (map string_bytes words.now) ≡ None → (result.status ≡ Status.Words) ⊎ ((result.status ≡ Status.WriteFault) ⊎ (result.status ≡ Status.NoMemory)) }
+    ensures no_command { command_of (map string_bytes words.now) ≡ None → (result.status ≡ Status.Words) ⊎ IsUnwritten result.status }
+    ensures dash { list_any (λ word. begins_with_dash (string_bytes word)) words.now ≡ true → (result.status ≡ Status.Words) ⊎ (result.status ≡ Status.WriteFault) }
     ensures unread { ReadsNothing (command_of (map string_bytes words.now)) → input.new ≡ input.old }
 
     // A fault is that of the object that was handed in. Without memory nothing is written.
@@ -120,13 +126,16 @@ pub fn run<R: Threads + Wait + Sync, S: Source, K: Sink, G: Gate>(
     ensures write_fault { result.status ≡ Status.WriteFault → Rose (K.faults out.old) (K.faults out.new) }
     ensures no_memory { result.status ≡ Status.NoMemory → out.new ≡ out.old }
 
-    // A document within the limit is served, and a command that reads none is done, unless memory is wanting or a read or a write fails.
+    // A document within the limit is served, and a command that reads none is done, unless memory is wanting or a read or a write fails. Of `sample` the six lines
+    // are written.
     ensures complete { (c : DocumentCommandValue) (document : List ℕ) (a : Contents)
         → command_of (map string_bytes words.now) ≡ Some (Command.Document c) → S.left input.old ≡ Some document
         → length document ≤ limit_for (Some (Command.Document c)) → Holds (form_of c) document a
         → IsServed a c (WritesAll K.written K.takes out.old out.new) result.status result.report ⊎ IsFailure result.status }
     ensures complete_unread { (c : CommandValue) → command_of (map string_bytes words.now) ≡ Some c → ReadsNothing (Some c)
-        → (result.status ≡ Status.Done) ⊎ IsFailure result.status }
+        → (result.status ≡ Status.Done) ⊎ IsUnwritten result.status }
+    ensures sample { (seed : ℕ) → command_of (map string_bytes words.now) ≡ Some (Command.Sample seed)
+        → ((result.status ≡ Status.Done) × WritesAll K.written K.takes out.old out.new (six_lines seed)) ⊎ IsUnwritten result.status }
 {
     owed_is_one();
     documents_have_outcomes();
@@ -150,7 +159,8 @@ fn end<R: Threads + Wait + Sync, S: Source, K: Sink, G: Gate>(
         (out.new ≡ out.old)
         result.status result.report }
     ensures turns { HasTurns (command_of (map string_bytes words.now)) result.status result.report result.turns }
-    ensures no_command { command_of (map string_bytes words.now) ≡ None → (result.status ≡ Status.Words) ⊎ ((result.status ≡ Status.WriteFault) ⊎ (result.status ≡ Status.NoMemory)) }
+    ensures no_command { command_of (map string_bytes words.now) ≡ None → (result.status ≡ Status.Words) ⊎ IsUnwritten result.status }
+    ensures dash { list_any (λ word. begins_with_dash (string_bytes word)) words.now ≡ true → (result.status ≡ Status.Words) ⊎ (result.status ≡ Status.WriteFault) }
     ensures unread { ReadsNothing (command_of (map string_bytes words.now)) → input.new ≡ input.old }
 {
     let command = match command_of(alloc, words) {
@@ -247,6 +257,8 @@ fn outcome_of_sample<R: Threads + Wait + Sync, G: Gate>(
 ) -> Result<Outcome, NoMemory>
     ensures { IfOk result (IsUnreadOutcomeOf (Command.Sample seed)) }
 {
+    sample_is_fit();
+    good_is_few();
     let Prepared {
         runner,
         world,
@@ -376,13 +388,15 @@ pub fn run_text<R: Threads + Wait + Sync>(
     ensures no_write_fault { result.status ≢ Status.WriteFault }
     ensures no_memory { result.status ≡ Status.NoMemory → out.new ≡ out.old }
 
-    // A document within the limit is served, and a command that reads none is done, unless memory is wanting.
+    // A document within the limit is served, and a command that reads none is done, unless memory is wanting. Of `sample` the six lines are written.
     ensures complete { (c : DocumentCommandValue) (a : Contents)
         → command_of (map string_bytes words.now) ≡ Some (Command.Document c)
         → length bytes.now ≤ limit_for (Some (Command.Document c)) → Holds (form_of c) bytes.now a
         → IsServed a c (HasText out.old out.new) result.status result.report ⊎ (result.status ≡ Status.NoMemory) }
     ensures complete_unread { (c : CommandValue) → command_of (map string_bytes words.now) ≡ Some c → ReadsNothing (Some c)
         → (result.status ≡ Status.Done) ⊎ (result.status ≡ Status.NoMemory) }
+    ensures sample { (seed : ℕ) → command_of (map string_bytes words.now) ≡ Some (Command.Sample seed)
+        → ((result.status ≡ Status.Done) × HasText out.old out.new (six_lines seed)) ⊎ (result.status ≡ Status.NoMemory) }
 {
     pieces_are_kept_as_one();
     match SureSource::new(alloc, bytes) {

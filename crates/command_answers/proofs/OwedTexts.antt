@@ -1,5 +1,5 @@
 -- What the commands answer is what they owe.
-use Rattle.std.proofs.Common.{◌≡◌, ◌<◌, ℕ, List, length, Option, Some, None, refl, sym, subst, ◌∙◌}
+use Rattle.std.proofs.Common.{◌≡◌, ◌<◌, ℕ, List, length, Option, Some, None, refl, sym, subst}
 use Rattle.std.specs.Prelude.{IsSome, IfSome}
 use Rattle.std.specs.List.{All}
 use Rattle.text_tokens.specs.declared.refusal.Refusal.{Refusal}
@@ -7,17 +7,17 @@ use Rattle.amoebot_state.specs.declared.verdict.Entry.{Entry}
 use Rattle.amoebot_state.specs.Configs.{Config, bot_at}
 use Rattle.claim_core.specs.declared.report.Report.{Report}
 use Rattle.claim_core.specs.Turns.{CallerLists, HaveBots}
+use Rattle.claim_core.specs.Good.{Good}
+use Rattle.claim_core.specs.Reached.{Reached}
 use Rattle.claim_core.specs.Laws.{OneListIsSerial}
 use Rattle.action_tree.specs.Trees.{Program}
 use Rattle.action_meaning.specs.Verdicts.{verdict_shown}
 use Rattle.document_grammar.specs.Documents.{Contents, Holds, IsRefused, bots_of}
 use Rattle.document_grammar.specs.Fitting.{FitTogether}
-use Rattle.run_sample.specs.declared.whole.Sample.{Sample as SampleValue}
-use Rattle.run_sample.specs.Whole.{IsSample}
-use Rattle.run_sample.specs.Laws.{SampleIsFit}
 use Rattle.shipped_programs.specs.declared.shipped.Shipped.{Shipped}
 use Rattle.shipped_programs.specs.Shipped.{tree_of}
-use Rattle.command_runs.specs.Reports.{report_text}
+use Rattle.command_runs.specs.Reports.{setup, report_text}
+use Rattle.command_runs.specs.Sample.{IsSampleText}
 use Rattle.command_runs.specs.Interleave.{IsInterleaveReport}
 use Rattle.command_runs.specs.Replay.{Agrees, DiffersAt, agrees_line, differs_line}
 use Rattle.command_runs.specs.Check.{check_text}
@@ -26,7 +26,7 @@ use Rattle.command_answers.specs.OfMeasure.{last_shape}
 use Rattle.command_answers.specs.declared.answering.Answer.{Answer}
 use Rattle.command_answers.specs.declared.answering.Prepared.{Prepared}
 use Rattle.command_answers.specs.declared.answering.Task.TheVariants as task
-use Rattle.command_words.specs.declared.command.Command.TheVariants.{Document, Show}
+use Rattle.command_words.specs.declared.command.Command.TheVariants.{Document, Show, Sample}
 use Rattle.command_words.specs.declared.command.DocumentCommand.{DocumentCommand}
 use Rattle.command_words.specs.declared.command.DocumentCommand.TheVariants.{Run, Interleave, Replay, Check, Measure}
 use Rattle.command_answers.specs.declared.status.Status.TheVariants as status
@@ -98,12 +98,7 @@ module _ (a : Contents) (text : List ℕ) where
   pub is_measured : (last : Config) → last_shape a ≡ Some last → IsMeasureText last text → IsAnswerTo Measure a (record { status = status.Done; report = None; text = text })
   is_measured last is measures bytes h = done Measure bytes a None text h (of_measure text (record { last = last; its_last = is; writes = measures }))
 
--- the report of a sample's run
-pub prepares_sample : OneListIsSerial → SampleIsFit → (seed : ℕ) (s : SampleValue) (run : Prepared) → IsSample seed s → run.runner ≡ s.checked → run.world ≡ s.world → run.lists ≡ s.lists → IsPreparedSample seed run
-prepares_sample serials fit seed s run is runner world lists =
-    let of : SampleValue = record { checked = run.runner; world = run.world; lists = run.lists } in
-    let its : IsSample seed of = record { program = runner ∙ is.program; bots = is.bots; come = is.come; world = world ∙ is.world; lists = lists ∙ is.lists } in
-    record {
-      there = (fit seed of its).there;
-      owed = λ report text good reached tells. sampled seed report text (record { sample = of; its_sample = its; run = record { good = good; reached = reached; serial = λ few. serials (verdict_shown run.runner) run.world run.lists report few good }; writes = tells });
-    }
+-- the report of a sample's run is owed, with the text that tells it
+pub owes_sample : (seed : ℕ) (run : Prepared) (report : Report) (text : List ℕ) → IsPreparedSample seed run → Good (verdict_shown run.runner) run.world run.lists report → Reached (setup (verdict_shown run.runner) run.world run.lists) report
+    → IsSampleText (verdict_shown run.runner) run.world run.lists seed report text → IsOwed (Some (Sample seed)) nothing status.Done (Some report) text
+owes_sample seed run report text is good reached tells = sampled seed report text (record { sample = record { checked = run.runner; world = run.world; lists = run.lists }; its_sample = is; good = good; reached = reached; writes = tells })

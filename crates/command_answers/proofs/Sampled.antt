@@ -31,11 +31,11 @@ numbers seed = ap (λ (lines : List ℕ). line_text (codes "sample" ∷ decimal 
 
 module _ (stays : GoodStaysConnected) (fit : SampleIsFit) (seed : ℕ) (report : Report) (text : List ℕ) (x : IsTextOfSample seed report text) where
   each_connected : (place : ℕ) (world : Config) → IsWorldAt (verdict_shown x.sample.checked) x.sample.world report.journal.entries place world → IsConnected (occupied world)
-  each_connected = stays x.sample.checked x.sample.world x.sample.lists report x.run.good (ap (λ (p : Program). p.guard) x.its_sample.program) (fit seed x.sample x.its_sample).connected
+  each_connected = stays x.sample.checked x.sample.world x.sample.lists report x.good (ap (λ (p : Program). p.guard) x.its_sample.program) (fit seed x.sample x.its_sample).connected
 
   pub text_is_six_lines : text ≡ six_lines seed
   text_is_six_lines =
-      let run = x.run.good.run in
+      let run = x.good.run in
       let last = each_connected (length report.journal.entries) report.world (world_last (verdict_shown x.sample.checked) x.sample.world report.world report.journal.entries run) in
       let connected : x.writes.connected ≡ true = x.writes.is_connected.1 last in
       let agrees : x.writes.agrees ≡ true = x.writes.is_run.1 run in
@@ -44,4 +44,4 @@ module _ (stays : GoodStaysConnected) (fit : SampleIsFit) (seed : ℕ) (report :
       x.writes.whole ∙ (λ i. sample_text seed (many i) (length (lists i).ids) (length (lists i).ids * (lists i).turns) (connected i) (agrees i)) ∙ numbers seed
 
   pub told_by_sample : IsRunOfSample seed report text
-  told_by_sample = record { sample = x.sample; its_sample = x.its_sample; good = x.run.good; reached = x.run.reached; connected = each_connected; writes = text_is_six_lines }
+  told_by_sample = record { sample = x.sample; its_sample = x.its_sample; good = x.good; reached = x.reached; connected = each_connected; writes = text_is_six_lines }

@@ -13,19 +13,20 @@ use Rattle.claim_core.specs.Reached.{Reached}
 use Rattle.action_tree.specs.Trees.{Program}
 use Rattle.action_meaning.specs.Verdicts.{verdict_shown}
 use Rattle.document_grammar.specs.Documents.{Contents, Holds}
+use Rattle.run_sample.specs.Whole.{IsSample}
 use Rattle.command_runs.specs.Reports.{setup, report_text}
 use Rattle.command_runs.specs.Sample.{IsSampleText}
 use Rattle.command_answers.specs.declared.answering.Answer.{Answer}
 use Rattle.command_answers.specs.declared.answering.Prepared.{Prepared}
 use Rattle.command_answers.specs.declared.answering.Task.{Task}
 use Rattle.command_answers.specs.declared.answering.Task.TheVariants as task
-use Rattle.command_words.specs.declared.command.Command.TheVariants.{Document, Sample}
+use Rattle.command_words.specs.declared.command.Command.TheVariants.{Document}
 use Rattle.command_words.specs.declared.command.DocumentCommand.{DocumentCommand}
 use Rattle.command_words.specs.declared.command.DocumentCommand.TheVariants.{Run}
 use Rattle.command_answers.specs.declared.status.Status.TheVariants as status
 use Rattle.command_answers.specs.Commands.{form_of}
 use Rattle.command_answers.specs.Lines.{refusal_line}
-use Rattle.command_answers.specs.Reads.{nothing, whole}
+use Rattle.command_answers.specs.Reads.{whole}
 use Rattle.command_answers.specs.Owed.{IsOwed}
 
 -- it is what the command owes for each whole input that is a document with these contents
@@ -59,14 +60,11 @@ IsTaskOf c bytes (task.Run run) = (c ≡ Run) × (a : Contents) × Holds (form_o
 abbrev pub IsTaskTo : DocumentCommand → Contents → Task → Type 0
 IsTaskTo c a t = (bytes : List ℕ) → Holds (form_of c) bytes a → IsTaskOf c bytes t
 
--- A run is that of a number's sample, whose lists' amoebots are there. Each good report of it that an interleaving gives is owed, with
--- the text that tells it.
-pub record IsPreparedSample (seed : ℕ) (run : Prepared) : Type 0 where
-  pub there : All (All (λ (id : ℕ). IsSome (bot_at run.world id))) run.lists.ids
-  pub owed : (report : Report) (text : List ℕ) → Good (verdict_shown run.runner) run.world run.lists report → Reached (setup (verdict_shown run.runner) run.world run.lists) report
-      → IsSampleText (verdict_shown run.runner) run.world run.lists seed report text → IsOwed (Some (Sample seed)) nothing status.Done (Some report) text
+-- a run that is prepared is that of a number's sample
+abbrev pub IsPreparedSample : ℕ → Prepared → Type 0
+IsPreparedSample seed run = IsSample seed (record { checked = run.runner; world = run.world; lists = run.lists })
 
--- an answer tells a report of a number's sample
+-- an answer tells a report of the lists' turns, under a number
 pub record TellsSample (f : Shown → Verdict) (lists : CallerLists) (seed : ℕ) (told : Report) (answer : Answer) : Type 0 where
   pub done : answer.status ≡ status.Done
   pub report : answer.report ≡ Some told

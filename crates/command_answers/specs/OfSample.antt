@@ -2,17 +2,20 @@
 use Rattle.std.specs.Prelude.{ℕ, List, [], ◌∷◌, ◌++◌, codes, decimal}
 use Rattle.text_tokens.specs.Lines.{line_text}
 use Rattle.claim_core.specs.declared.report.Report.{Report}
+use Rattle.claim_core.specs.Good.{Good}
+use Rattle.claim_core.specs.Reached.{Reached}
 use Rattle.action_meaning.specs.Verdicts.{verdict_shown}
 use Rattle.run_sample.specs.declared.whole.Sample.{Sample}
 use Rattle.run_sample.specs.Whole.{IsSample}
-use Rattle.command_runs.specs.Run.{IsRunReport}
+use Rattle.command_runs.specs.Reports.{setup}
 use Rattle.command_runs.specs.Sample.{IsSampleText}
 
--- the report is one of a run of the number's sample, and the text tells it
+-- the report is a good one of the turns of the number's sample, an interleaving gives it, and the text tells it
 pub record IsTextOfSample (seed : ℕ) (report : Report) (text : List ℕ) : Type 0 where
   pub sample : Sample
   pub its_sample : IsSample seed sample
-  pub run : IsRunReport (verdict_shown sample.checked) sample.world sample.lists report
+  pub good : Good (verdict_shown sample.checked) sample.world sample.lists report
+  pub reached : Reached (setup (verdict_shown sample.checked) sample.world sample.lists) report
   pub writes : IsSampleText (verdict_shown sample.checked) sample.world sample.lists seed report text
 
 -- what such a text is

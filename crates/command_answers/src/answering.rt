@@ -18,12 +18,12 @@ use action_eval::Runner;
 use amoebot_state::{NoMemory, World};
 use claim_core::{Lists, Report, one_list_is_serial};
 use command_runs::{
-    compare, print_agrees, print_check, print_differs, print_measures, print_report, print_sample,
-    run_interleaved,
+    compare, good_is_few, print_agrees, print_check, print_differs, print_measures, print_report,
+    print_sample, run_interleaved,
 };
 use command_words::DocumentCommand;
 use document_grammar::documents_fit;
-use run_sample::{Sample, make_sample, sample_is_fit};
+use run_sample::{Sample, make_sample};
 use shape_files::{Parts, read_sections};
 use shipped_programs::Shipped;
 use std::alloc::Global;
@@ -255,8 +255,6 @@ pub fn answer_report(alloc: Global, report: Report, vars: u8) -> Result<Answer, 
 pub fn prepare_sample(alloc: Global, seed: u32) -> Result<Prepared, NoMemory>
     ensures { IfOk result (IsPreparedSample seed) }
 {
-    sample_is_fit();
-    one_list_is_serial();
     let Sample {
         checked,
         world,
@@ -277,9 +275,11 @@ pub fn answer_sample(
     lists: &Lists,
     told: Report,
 ) -> Result<Answer, NoMemory>
-    requires { Good (verdict_shown runner.now) told.journal.first lists.now told }
+    requires good { Good (verdict_shown runner.now) told.journal.first lists.now told }
+    requires few { length told.journal.entries < 2 ^ 32 }
     ensures { IfOk result (TellsSample (verdict_shown runner.now) lists.now seed told) }
 {
+    good_is_few();
     let text = print_sample(alloc, seed, runner, lists, &told)?;
     Ok(Answer {
         status: Status::Done,

@@ -9,8 +9,6 @@ use Rattle.amoebot_state.specs.Occupied.{occupied}
 use Rattle.amoebot_state.specs.Zones.{Shown}
 use Rattle.claim_core.specs.declared.report.Report.{Report}
 use Rattle.claim_core.specs.Turns.{CallerLists}
-use Rattle.claim_core.specs.Good.{Good}
-use Rattle.claim_core.proofs.Frames.{run_framed}
 use Rattle.command_runs.specs.Replay.{Agrees, DiffersAt}
 use Rattle.command_runs.specs.Sample.{IsSampleText, sample_text}
 use Rattle.command_runs.specs.Laws.{ReplayIsDecided, SampleTextIsOne}
@@ -27,17 +25,16 @@ pub excluded : ReplayIsDecided → (f : Shown → Verdict) (start first final : 
 excluded decided f start first final entries same place from es differs agrees =
     decided.exclusive f start final entries place agrees (subst (λ (z : Config × List Entry). DiffersAt f z.0 z.1 final place) (λ i. (from i, es i)) differs)
 
--- the text that is told of a good report's numbers is its text
+-- the text that is told of a report's numbers is its text
 pub is_text : (f : Shown → Verdict) (lists : CallerLists) (seed : ℕ) (report : Report) (bots callers turns all : ℕ) (connected agrees : Bool) (text : List ℕ)
-    → Good f report.journal.first lists report → Decides connected (IsConnected (occupied report.world)) → Decides agrees (Agrees f report.journal.first report.journal.entries report.world)
-    → bots ≡ length report.world.bots → callers ≡ length lists.ids → turns ≡ lists.turns → all ≡ callers * turns → text ≡ sample_text seed bots callers all connected agrees
+    → Decides connected (IsConnected (occupied report.world)) → Decides agrees (Agrees f report.journal.first report.journal.entries report.world)
+    → bots ≡ length report.journal.first.bots → callers ≡ length lists.ids → turns ≡ lists.turns → all ≡ callers * turns → text ≡ sample_text seed bots callers all connected agrees
     → IsSampleText f report.journal.first lists seed report text
-is_text f lists seed report bots callers turns all connected agrees text good is_connected is_run many named each product is =
-    let size = (run_framed f report.journal.first report.world report.journal.entries good.valid good.run).size in
+is_text f lists seed report bots callers turns all connected agrees text is_connected is_run many named each product is =
     record {
       connected = connected;
       agrees = agrees;
       is_connected = is_connected;
       is_run = is_run;
-      whole = is ∙ (λ i. sample_text seed ((many ∙ size) i) (named i) ((product ∙ (λ j. named j * each j)) i) connected agrees);
+      whole = is ∙ (λ i. sample_text seed (many i) (named i) ((product ∙ (λ j. named j * each j)) i) connected agrees);
     }

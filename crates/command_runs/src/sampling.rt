@@ -1,10 +1,9 @@
 ghost use Rattle.std.specs.Prelude.{◌≡◌, ◌<◌, ◌^◌, length, Decides, IfOk};
 ghost use Rattle.std.specs.List.{All};
-ghost use Rattle.claim_core.specs.Good.{Good};
 ghost use Rattle.command_runs.specs.Replay.{Agrees};
 ghost use Rattle.command_runs.specs.Sample.{IsSampleText, sample_text};
 
-use crate::laws::{good_is_few, replay_is_decided};
+use crate::laws::replay_is_decided;
 use crate::replaying::compare;
 use crate::texts::{put_answer, put_number};
 use amoebot_state::{Decider, NoMemory};
@@ -22,10 +21,10 @@ pub fn print_sample<D: Decider>(
     lists: &Lists,
     report: &Report,
 ) -> Result<Text, NoMemory>
-    requires { Good (D.verdict decider.now) report.now.journal.first lists.now report.now }
+    requires there { All (λ e. e.bot < length report.now.journal.first.bots) report.now.journal.entries }
+    requires few { length report.now.journal.entries < 2 ^ 32 }
     ensures { IfOk result (IsSampleText (D.verdict decider.now) report.now.journal.first lists.now seed report.now) }
 {
-    good_is_few();
     let callers = lists.callers();
     let connected = is_connected(alloc, &report.world)?;
     let agrees = agrees(alloc, decider, report)?;
@@ -33,7 +32,7 @@ pub fn print_sample<D: Decider>(
         alloc,
         &Told {
             seed,
-            bots: report.world.bots(),
+            bots: report.journal.first().bots(),
             callers,
             turns: u32::from(callers) * lists.turns(),
             connected,

@@ -1,4 +1,4 @@
-ghost use Rattle.std.specs.Prelude.{◌≡◌, map, codes, option_and_then, IfOk, MatchResult, Some, None, ◌≢◌};
+ghost use Rattle.std.specs.Prelude.{◌≡◌, map, codes, option_and_then, true, IfOk, MatchResult, Ok, Some, None, ◌≢◌};
 ghost use Rattle.std.specs.Char.{is_ascii_digit};
 ghost use Rattle.std.specs.List.{list_all, list_any};
 ghost use Rattle.std.specs.String.{string_bytes};
@@ -43,9 +43,11 @@ pub enum DocumentCommand {
 const MOST_DIGITS: usize = 10;
 
 /// The command that the words are, if they are one: the word of a command that reads a document; `show` and the name of a program;
-/// or `sample` and a number, 1 to 10 digits that write a number below 2^32. `NoMemory` may come in place of it.
+/// or `sample` and a number, 1 to 10 digits that write a number below 2^32. `NoMemory` may come in place of it, but where a word
+/// begins with `-`: such words are no command, and that takes no memory.
 pub fn command_of(alloc: Global, words: &[String]) -> Result<Option<Command>, NoMemory>
-    ensures { IfOk result (λ c. c ≡ command_of (map string_bytes words.now)) }
+    ensures command { IfOk result (λ c. c ≡ command_of (map string_bytes words.now)) }
+    ensures dash { list_any (λ word. begins_with_dash (string_bytes word)) words.now ≡ true → result ≡ Ok None }
 {
     if any_begins_with_dash(words) {
         return Ok(None);

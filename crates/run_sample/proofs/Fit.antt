@@ -1,19 +1,20 @@
 -- What a sample is fit for: its amoebots are 150 in a connected shape, and its lists are of them.
 use Rattle.std.proofs.Common.{◌≡◌, ◌+◌, ◌<◌, ℕ, List, [], ◌∷◌, length, get_or, Some, None, ap, sym, subst, ◌∙◌, arith}
-use Rattle.std.specs.Prelude.{IsSome, is_some}
+use Rattle.std.specs.Prelude.{IsSome, IsTrue, is_some}
 use Rattle.std.specs.List.{All, range_with_len}
 use Rattle.std.proofs.lemmas.List.{get_or-map, length-map}
 use Rattle.std.proofs.lemmas.List.Elements.{All-filter, All-map, All-weaker}
 use Rattle.std.proofs.lemmas.List.FromFn.{length-range_with_len, get_or-range_with_len}
 use Rattle.tri_lattice.specs.Sets.{IsConnected}
+use Rattle.tri_lattice.specs.declared.node.Node.{Node}
 use Rattle.amoebot_state.specs.declared.bot.Bot.{Bot}
 use Rattle.amoebot_state.specs.Configs.{Config, bot_at, blank, config_of}
 use Rattle.amoebot_state.specs.Occupied.{occupied}
 use Rattle.claim_core.specs.Turns.{CallerLists}
-use Rattle.run_sample.specs.Sample.{sample_area, sample_maxes}
+use Rattle.run_sample.specs.Sample.{IsInside, sample_area, sample_maxes}
 use Rattle.run_sample.specs.Callers.{ids_below, ids_of, sample_lists}
 use Rattle.run_sample.specs.Laws.{SampleIsFit}
-use Rattle.run_sample.proofs.Laid.{connected, sample_laid}
+use Rattle.run_sample.proofs.Laid.{IsLaid, connected, inside, sample_laid}
 
 -- the ids below a number are below it
 below : (n c : ℕ) → All (λ id. id < n) (ids_below n c)
@@ -36,9 +37,13 @@ there bots many = All-map There ids_of (0 ∷ 1 ∷ 2 ∷ 3 ∷ []) (λ k d insi
     of : (c : ℕ) → There (ids_of c)
     of c = All-weaker (λ id. id < 150) (λ (id : ℕ). IsSome (bot_at (config_of sample_area sample_maxes bots) id)) (λ id lt. is_there bots id (omega (arith, many))) (ids_of c) (below 150 c)
 
+all_inside : (bots : List Bot) → length bots ≡ 150 → IsLaid bots → (v : Node) → IsTrue (occupied (config_of sample_area sample_maxes bots) v) → IsInside v
+all_inside bots many l v t = inside bots (omega (arith, many)) l v (sym (l.same v) ∙ t)
+
 pub sample_is_fit : SampleIsFit
 sample_is_fit seed s is = record {
   many = ap (λ (c : Config). length c.bots) is.world ∙ length-map is.bots Some ∙ is.come.many;
   connected = subst (λ (c : Config). IsConnected (occupied c)) (sym is.world) (connected is.bots (sample_laid seed is.bots is.come));
+  inside = subst (λ (c : Config). (v : Node) → IsTrue (occupied c v) → IsInside v) (sym is.world) (all_inside is.bots is.come.many (sample_laid seed is.bots is.come));
   there = subst (λ (z : Config × CallerLists). All (All (λ id. IsSome (bot_at z.0 id))) z.1.ids) (λ i. (sym is.world i, sym is.lists i)) (there is.bots is.come.many);
 }

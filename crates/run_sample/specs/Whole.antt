@@ -2,14 +2,14 @@
 use Rattle.std.specs.Prelude.{◌≡◌, ℕ, List, true}
 use Rattle.amoebot_state.specs.declared.bot.Bot.{Bot}
 use Rattle.amoebot_state.specs.Configs.{config_of}
-use Rattle.action_tree.specs.Samples as sample
+use Rattle.action_tree.specs.Samples as trees
 use Rattle.run_sample.specs.declared.whole.Sample.{Sample}
 use Rattle.run_sample.specs.Sample.{AreSample, sample_area, sample_maxes}
 use Rattle.run_sample.specs.Callers.{sample_lists}
 
 -- the sample of a seed: the program `hexagon` with its guard on, a world of the seed's amoebots, and the lists
 pub record IsSample (seed : ℕ) (s : Sample) : Type 0 where
-  pub program : s.checked ≡ record sample.hexagon { guard = true }
+  pub program : s.checked ≡ record trees.hexagon { guard = true }
   pub bots : List Bot
   pub come : AreSample seed bots
   pub world : s.world ≡ config_of sample_area sample_maxes bots

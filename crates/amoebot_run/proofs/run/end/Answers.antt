@@ -10,7 +10,7 @@ use Rattle.amoebot_run.proofs.Working as working
 use Rattle.amoebot_run.proofs.run.end.Goals as goal
 
 pub returns-in-Ok-None-clause-ending : goal.returns-in-Ok-None-clause-ending
-returns-in-Ok-None-clause-ending g c = at_command (λ limit. IsReading g.S.Source.left g.S.Source.gives g.S.Source.fails g.S.Source.faults limit c.args.input.now c.args.input.now) _ _ (sym c.in-Ok-None.field-0-is ∙ c.in-Ok-None.ensures)
+returns-in-Ok-None-clause-ending g c = at_command (λ limit. IsReading g.S.Source.left g.S.Source.gives g.S.Source.fails g.S.Source.faults limit c.args.input.now c.args.input.now) _ _ (sym c.in-Ok-None.field-0-is ∙ c.in-Ok-None.ensures.command)
     (ending_of nothing status.Words None None usage_line _ refl usage c.end_with_line.ensures.written)
 
 pub returns-in-Ok-None-clause-turns : goal.returns-in-Ok-None-clause-turns
@@ -23,25 +23,25 @@ pub returns-in-Err-clause-turns : goal.returns-in-Err-clause-turns
 returns-in-Err-clause-turns g c = without_turns _ _ c.end_with.ensures
 
 pub returns-in-Document-clause-ending : goal.returns-in-Document-clause-ending
-returns-in-Document-clause-ending g c = at_command (λ limit. IsReading g.S.Source.left g.S.Source.gives g.S.Source.fails g.S.Source.faults limit c.args.input.now c.end_document.new.input) _ _ (ap Some (sym c.in-Document.is) ∙ sym c.in-Ok-Some.field-0-is ∙ c.in-Ok-Some.ensures)
+returns-in-Document-clause-ending g c = at_command (λ limit. IsReading g.S.Source.left g.S.Source.gives g.S.Source.fails g.S.Source.faults limit c.args.input.now c.end_document.new.input) _ _ (ap Some (sym c.in-Document.is) ∙ sym c.in-Ok-Some.field-0-is ∙ c.in-Ok-Some.ensures.command)
     c.end_document.ensures.ending
 
 pub returns-in-Document-clause-turns : goal.returns-in-Document-clause-turns
-returns-in-Document-clause-turns g c = working.at_command _ _ (ap Some (sym c.in-Document.is) ∙ sym c.in-Ok-Some.field-0-is ∙ c.in-Ok-Some.ensures) c.end_document.ensures.turns
+returns-in-Document-clause-turns g c = working.at_command _ _ (ap Some (sym c.in-Document.is) ∙ sym c.in-Ok-Some.field-0-is ∙ c.in-Ok-Some.ensures.command) c.end_document.ensures.turns
 
 pub returns-in-Document-clause-unread : goal.returns-in-Document-clause-unread
-returns-in-Document-clause-unread g c = λ none. absurd (subst ReadsNothing (sym (ap Some (sym c.in-Document.is) ∙ sym c.in-Ok-Some.field-0-is ∙ c.in-Ok-Some.ensures)) none)
+returns-in-Document-clause-unread g c = λ none. absurd (subst ReadsNothing (sym (ap Some (sym c.in-Document.is) ∙ sym c.in-Ok-Some.field-0-is ∙ c.in-Ok-Some.ensures.command)) none)
 
 pub returns-in-Show-clause-ending : goal.returns-in-Show-clause-ending
-returns-in-Show-clause-ending g c = at_command (λ limit. IsReading g.S.Source.left g.S.Source.gives g.S.Source.fails g.S.Source.faults limit c.args.input.now c.args.input.now) _ _ (ap Some (sym c.in-Show.is) ∙ sym c.in-Ok-Some.field-0-is ∙ c.in-Ok-Some.ensures)
+returns-in-Show-clause-ending g c = at_command (λ limit. IsReading g.S.Source.left g.S.Source.gives g.S.Source.fails g.S.Source.faults limit c.args.input.now c.args.input.now) _ _ (ap Some (sym c.in-Show.is) ∙ sym c.in-Ok-Some.field-0-is ∙ c.in-Ok-Some.ensures.command)
     (ending_maps (λ read e. subst (λ r. IsReading g.S.Source.left g.S.Source.gives g.S.Source.fails g.S.Source.faults 0 c.args.input.now c.args.input.now r) (sym e) refl) (λ text all. all) (λ text front. front) (λ same. same) _ _ _ c.end_show.ensures.ending)
 
 pub returns-in-Show-clause-turns : goal.returns-in-Show-clause-turns
-returns-in-Show-clause-turns g c = working.at_command _ _ (ap Some (sym c.in-Show.is) ∙ sym c.in-Ok-Some.field-0-is ∙ c.in-Ok-Some.ensures) c.end_show.ensures.turns
+returns-in-Show-clause-turns g c = working.at_command _ _ (ap Some (sym c.in-Show.is) ∙ sym c.in-Ok-Some.field-0-is ∙ c.in-Ok-Some.ensures.command) c.end_show.ensures.turns
 
 pub returns-in-Sample-clause-ending : goal.returns-in-Sample-clause-ending
-returns-in-Sample-clause-ending g c = at_command (λ limit. IsReading g.S.Source.left g.S.Source.gives g.S.Source.fails g.S.Source.faults limit c.args.input.now c.args.input.now) _ _ (ap Some (sym c.in-Sample.is) ∙ sym c.in-Ok-Some.field-0-is ∙ c.in-Ok-Some.ensures)
+returns-in-Sample-clause-ending g c = at_command (λ limit. IsReading g.S.Source.left g.S.Source.gives g.S.Source.fails g.S.Source.faults limit c.args.input.now c.args.input.now) _ _ (ap Some (sym c.in-Sample.is) ∙ sym c.in-Ok-Some.field-0-is ∙ c.in-Ok-Some.ensures.command)
     (ending_maps (λ read e. subst (λ r. IsReading g.S.Source.left g.S.Source.gives g.S.Source.fails g.S.Source.faults 0 c.args.input.now c.args.input.now r) (sym e) refl) (λ text all. all) (λ text front. front) (λ same. same) _ _ _ c.end_sample.ensures.ending)
 
 pub returns-in-Sample-clause-turns : goal.returns-in-Sample-clause-turns
-returns-in-Sample-clause-turns g c = working.at_command _ _ (ap Some (sym c.in-Sample.is) ∙ sym c.in-Ok-Some.field-0-is ∙ c.in-Ok-Some.ensures) c.end_sample.ensures.turns
+returns-in-Sample-clause-turns g c = working.at_command _ _ (ap Some (sym c.in-Sample.is) ∙ sym c.in-Ok-Some.field-0-is ∙ c.in-Ok-Some.ensures.command) c.end_sample.ensures.turns

@@ -1,6 +1,6 @@
 use Rattle.std.proofs.Common.{◌≤◌, length, subst, sym}
 use Rattle.amoebot_run.specs.Endings.{limit_for}
-use Rattle.amoebot_run.proofs.Endings.{reported, told, one, one_unread, served, served_unread, no_command, at_read_fault, at_write_fault, without_memory}
+use Rattle.amoebot_run.proofs.Endings.{reported, told, one, one_unread, served, served_unread, six_lines_written, no_command, at_read_fault, at_write_fault, without_memory}
 use Rattle.amoebot_run.proofs.Fronts.{reads_all}
 use Rattle.amoebot_run.proofs.run.run.Goals as goal
 
@@ -33,3 +33,6 @@ returns-clause-no_memory g c = without_memory _ _ _ c.end.ensures.ending
 
 pub returns-clause-complete : goal.returns-clause-complete
 returns-clause-complete g c = λ command document a is left few holds. served c.documents_have_outcomes.ensures document a _ (reads_all g.S.Source.left g.S.Source.gives g.S.Source.fails g.S.Source.faults _ _ _ _ left (subst (λ o. length document ≤ limit_for o) (sym is) few)) command _ _ _ is holds c.end.ensures.ending
+
+pub returns-clause-sample : goal.returns-clause-sample
+returns-clause-sample g c = λ seed is. six_lines_written c.reports_are_of_runs.ensures.sample seed _ _ _ _ is c.end.ensures.ending

@@ -1,6 +1,7 @@
-use Rattle.std.proofs.Common.{refl}
-use Rattle.command_answers.proofs.OwedTexts.{prepares_sample}
+use Rattle.std.proofs.Common.{subst, sym}
+use Rattle.action_tree.specs.Trees.{Program}
+use Rattle.run_sample.specs.Whole.{IsSample}
 use Rattle.command_answers.proofs.answering.prepare_sample.Goals as goal
 
 pub returns : goal.returns
-returns c = prepares_sample c.one_list_is_serial.ensures c.sample_is_fit.ensures c.args.seed c.in_ok-checked.field-0 _ c.in_ok-checked.ensures.sample c.new.ensures refl refl
+returns c = subst (λ (p : Program). IsSample c.args.seed (record { checked = p; world = c.in_ok-checked.field-0.world; lists = c.in_ok-checked.field-0.lists })) (sym c.new.ensures) c.in_ok-checked.ensures.sample

@@ -8,11 +8,11 @@ use Rattle.command_words.specs.Syntax.{begins_with_dash}
 use Rattle.command_words.proofs.Judging.{dash_is_none, is_command, is_none}
 use Rattle.command_words.proofs.command.command_of.Goals as goal
 
-pub returns-then-any_begins_with_dash : goal.returns-then-any_begins_with_dash
-returns-then-any_begins_with_dash c = sym (dash_is_none (map string_bytes c.args.words.now) (sym (list_any-map begins_with_dash string_bytes c.args.words.now) ∙ sym c.any_begins_with_dash.ensures ∙ c.if-any_begins_with_dash.true))
+pub returns-then-any_begins_with_dash-clause-command : goal.returns-then-any_begins_with_dash-clause-command
+returns-then-any_begins_with_dash-clause-command c = sym (dash_is_none (map string_bytes c.args.words.now) (sym (list_any-map begins_with_dash string_bytes c.args.words.now) ∙ sym c.any_begins_with_dash.ensures ∙ c.if-any_begins_with_dash.true))
 
-pub returns-in-Ok : goal.returns-in-Ok
-returns-in-Ok c =
+pub returns-in-Ok-clause-command : goal.returns-in-Ok-clause-command
+returns-in-Ok-clause-command c =
     let plain = sym (list_any-map begins_with_dash string_bytes c.args.words.now) ∙ sym c.any_begins_with_dash.ensures ∙ c.if-any_begins_with_dash.false in
     c.of_matches.ensures ∙ is_command (app_of c.in_ok-words_syntax.field-0) c.in_ok-words_syntax.ensures (map string_bytes c.args.words.now) plain c.in-Ok.matches c.in-Ok.ensures.kinds c.in-Ok.ensures.matches
 
@@ -22,7 +22,7 @@ if_read : {E : Type 0} (r : Result (Option Command) E) (o : Option Command) (Mem
 if_read (Ok c) o Memory m none = m.0 ∙ sym (none m.1)
 if_read (Err e) o Memory m none = tt
 
-pub returns-in-Err : goal.returns-in-Err
-returns-in-Err c =
+pub returns-in-Err-clause-command : goal.returns-in-Err-clause-command
+returns-in-Err-clause-command c =
     let plain = sym (list_any-map begins_with_dash string_bytes c.args.words.now) ∙ sym c.any_begins_with_dash.ensures ∙ c.if-any_begins_with_dash.false in
     if_read c.of_fault.result _ _ c.of_fault.ensures (is_none (app_of c.in_ok-words_syntax.field-0) c.in_ok-words_syntax.ensures (map string_bytes c.args.words.now) plain c.in-Err.error c.in-Err.ensures.kinds)
