@@ -179,7 +179,7 @@ grid_patched old new g ps grid patched area = record {
     spot_same : (o q : Option ℕ) → Some (cell.Spot o) ≡ Some (cell.Spot q) → q ≡ o
     spot_same o q e = let f = same_Some _ _ e in cc
 
-same_config : (a b : Config) → a.area ≡ b.area → a.maxes ≡ b.maxes → a.bots ≡ b.bots → a ≡ b
+pub same_config : (a b : Config) → a.area ≡ b.area → a.maxes ≡ b.maxes → a.bots ≡ b.bots → a ≡ b
 same_config a b x y z = λ i. record { area = x i; maxes = y i; bots = z i }
 
 -- the fields after the patch are those of the patched configuration

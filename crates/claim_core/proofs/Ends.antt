@@ -15,6 +15,7 @@ use Rattle.amoebot_state.specs.declared.verdict.Verdict.{Verdict}
 use Rattle.amoebot_state.specs.Configs.{Config, bot_at, blank}
 use Rattle.amoebot_state.specs.Zones.{Shown}
 use Rattle.amoebot_state.specs.Steps.{Step, Run}
+use Rattle.amoebot_state.proofs.Patched.{same_config}
 use Rattle.claim_core.specs.declared.marks.Mark.{Mark}
 use Rattle.claim_core.specs.declared.marks.Mark.TheVariants as mark
 use Rattle.claim_core.specs.declared.state.Phase.TheVariants.{Ended}
@@ -43,13 +44,10 @@ same_bots c d area size ids values = ext_get_or None c.bots d.bots size (λ i in
     ∙ value_of_body d i (omega arith)
     )))
 
-the_config : (c d : Config) → c.area ≡ d.area → c.maxes ≡ d.maxes → c.bots ≡ d.bots → c ≡ d
-the_config c d area maxes bots = λ i. record { area = area i; maxes = maxes i; bots = bots i }
-
 pub same_world : (g : Setup) (s : State) (world last : Config) → HasValues g s world → IsFramed g.world last → s.values ≡ values_of last → world ≡ last
 same_world g s world last has framed values =
     let area : world.area ≡ last.area = ap (λ (c : Config). c.area) has.rest ∙ sym (ap (λ (c : Config). c.area) framed.rest) in
-    the_config world last area (ap (λ (c : Config). c.maxes) has.rest ∙ sym (ap (λ (c : Config). c.maxes) framed.rest))
+    same_config world last area (ap (λ (c : Config). c.maxes) has.rest ∙ sym (ap (λ (c : Config). c.maxes) framed.rest))
     (same_bots world last area (has.size ∙ sym framed.size) (λ i. has.ids i ∙ sym (framed.ids i)) (has.values ∙ values))
 
 pub state_has_one_report : StateHasOneReport
@@ -57,7 +55,7 @@ state_has_one_report g s one two first second =
     let area : one.world.area ≡ two.world.area = ap (λ (c : Config). c.area) first.world.rest ∙ sym (ap (λ (c : Config). c.area) second.world.rest) in
     let maxes : one.world.maxes ≡ two.world.maxes = ap (λ (c : Config). c.maxes) first.world.rest ∙ sym (ap (λ (c : Config). c.maxes) second.world.rest) in
     let bots = same_bots one.world two.world area (first.world.size ∙ sym second.world.size) (λ i. first.world.ids i ∙ sym (second.world.ids i)) (first.world.values ∙ sym second.world.values) in
-    (the_config one.world two.world area maxes bots, first.first ∙ sym second.first, first.entries ∙ sym second.entries, first.marks ∙ sym second.marks)
+    (same_config one.world two.world area maxes bots, first.first ∙ sym second.first, first.entries ∙ sym second.entries, first.marks ∙ sym second.marks)
 
 module _ (g : Setup) (ok : IsSetup g) (s : State) (sound : Sound g s) (ended : HaveEnded s) where
   has_ended : (c : ℕ) (k : Caller) → slice_get s.callers c ≡ Some k → k.phase ≡ Ended

@@ -17,7 +17,7 @@ use Rattle.claim_rule.specs.declared.views.Record.{Record}
 use Rattle.claim_rule.specs.declared.views.Terms.{Terms}
 use Rattle.claim_rule.specs.Views.{Seated, record_of, setup, view_of}
 use Rattle.claim_rule.specs.Tokens.{FieldOf, Token, IsSeat}
-use Rattle.claim_rule.specs.Seating.{SeatsOf, dealt, left, AreOf, AreSeats}
+use Rattle.claim_rule.specs.Seating.{SeatsOf, dealt, left, AreSeats}
 use Rattle.claim_rule.specs.Opened.{first_records, seat_with, first_seats}
 use Rattle.claim_rule.proofs.Opens.{from, there, fresh_there}
 
@@ -138,9 +138,6 @@ module _ {D : Type 0} (verdict : D → Shown → Verdict) (f : FieldOf D) where
     pub are_first : the_seats ≡ first_seats verdict f
     are_first = λ i. record { table = same i; terms = (rest i).0.terms; seats = are_all i }
 
-  -- they are the field's, and all are there
-  pub first_are_of : AreOf f (first_seats verdict f)
-  first_are_of = record { table = refl; terms = refl }
-
+  -- all are there
   pub first_are_there : All (λ (o : Option (Token D)). IsSome o) (first_seats verdict f).seats
   first_are_there = All-map (λ (o : Option (Token D)). IsSome o) (λ r. Some (seat_with f r)) its (λ k d lt. refl)

@@ -4,6 +4,7 @@ use Rattle.std.specs.Prelude.{slice_get}
 use Rattle.std.proofs.lemmas.Bool.{cases_eq}
 use Rattle.std.proofs.lemmas.Option.{none-some, same_Some}
 use Rattle.atomic_table.specs.Seated.{TableId}
+use Rattle.claim_core.proofs.Places.{get-append_left}
 use Rattle.claim_rule.specs.declared.views.Record.{Record}
 use Rattle.claim_rule.specs.declared.views.Terms.{Terms}
 use Rattle.claim_rule.specs.Views.{Seated, view_of, own}
@@ -22,11 +23,6 @@ pub record Gathered {D : Type 0} (z : Terms D) (all left : List (Option (Token D
 after_front : {A : Type 0} (xs ys : List A) (y : A) → slice_get (xs ++ y ∷ ys) (length xs) ≡ Some y
 after_front [] ys y = refl
 after_front (x ∷ xs) ys y = after_front xs ys y
-
-in_front : {A : Type 0} (xs ys : List A) (k : ℕ) (x : A) → slice_get xs k ≡ Some x → slice_get (xs ++ ys) k ≡ Some x
-in_front [] ys k x e = absurd (none-some x e)
-in_front (y ∷ xs) ys zero x e = e
-in_front (y ∷ xs) ys (suc k) x e = in_front xs ys k x e
 
 one_over : {A : Type 0} (xs ys : List A) (y : A) → (xs ++ y ∷ []) ++ ys ≡ xs ++ y ∷ ys
 one_over [] ys y = refl
@@ -93,7 +89,7 @@ module _ {D : Type 0} (z : Terms D) where
     pub taken_in : (left new : List (Option (Token D))) (t : Token D) (m other m' : Seated D) → Gathered z all left m → left ≡ new ++ Some t ∷ [] → (record_in t).taken ≡ None → other ≡ (view_of z (record_in t ∷ []), []) → m' ≡ (joined m.0 other.0, m.1) → Gathered z all new m'
     taken_in left new t m other m' so_far pops none its is =
         one_less left new (Some t) m so_far pops m' (so_far.records ++ record_in t ∷ []) (is ∙ (λ i. (joined (so_far.has i).0 (its i).0, (so_far.has i).1)))
-        (λ k r e. in_front so_far.records (record_in t ∷ []) k r e)
+        (λ k r e. get-append_left so_far.records (record_in t ∷ []) k r e)
         (λ u e. let same = same_Some t u e in (length so_far.records, after_front so_far.records [] (record_in t) ∙ ap (λ (v : Token D). Some (record_in v)) same, ap (λ (v : Token D). (record_in v).taken) (sym same) ∙ none))
 
     -- once no place is left, all records are there

@@ -1,17 +1,13 @@
 -- One amoebot that becomes another one of the same id.
 use Rattle.std.proofs.Common.{◌≡◌, ◌≢◌, ◌⊎◌, ℕ, length, Bool, true, false, ap, sym, ◌∙◌, refl, subst, inl, inr, Option, Some, None}
 use Rattle.std.specs.Prelude.{is_some, if◌then◌else◌}
-use Rattle.std.specs.Option.{option_map}
 use Rattle.std.proofs.lemmas.Bool.{cases_Bool, cases_eq, both_ways}
 use Rattle.std.proofs.lemmas.List.{get_or-set_same, get_or-set_other, length-set}
 use Rattle.std.proofs.lemmas.Option.{same_Some}
 use Rattle.tri_lattice.specs.declared.node.Node.{Node}
 use Rattle.amoebot_state.specs.declared.bot.Bot.{Bot}
-use Rattle.amoebot_state.specs.declared.cell.CellName.{CellName}
-use Rattle.amoebot_state.specs.declared.cell.CellName.TheVariants as name
-use Rattle.amoebot_state.specs.declared.cell.Cell.TheVariants as cell
 use Rattle.amoebot_state.specs.Ports.{is_own}
-use Rattle.amoebot_state.specs.Configs.{Config, IsValid, IsBot, bot_at, covers, occupant, value, set_bot}
+use Rattle.amoebot_state.specs.Configs.{Config, IsValid, IsBot, bot_at, covers, occupant, set_bot}
 use Rattle.amoebot_state.proofs.Occupants.{occupant_at, occupant_none, nobody_covers, occupant_same, id_below}
 
 -- the amoebot may become the other one: that one may stand in the area, and each node of it is one of the amoebot's or empty
@@ -110,8 +106,3 @@ module _ (c : Config) (i : ℕ) (a b : Bot) (may : MayBecome c i a b) where
     | inl t ↦ rw (e, t) (sym (occupant_at c may.valid i v (own_was v ∙ t)))
     | inr f ↦ rw (e, f) refl
   ]
-
-  -- the other cells hold what they held
-  pub become_kept : (n : CellName) → n ≢ name.Body i → ((v : Node) → n ≡ name.Spot v → is_own b v ≡ is_own a v) → value (set_bot c i b) n ≡ value c n
-  become_kept (name.Spot v) body spot = ap (λ o. Some (cell.Spot o)) (become_same v (spot v refl))
-  become_kept (name.Body j) body spot = ap (option_map cell.Body) (at_other c i b j (λ e. body (ap name.Body e)))

@@ -1,7 +1,7 @@
 -- The node behind a port.
-use Rattle.std.proofs.Common.{◌≡◌, ◌<◌, true, false, not, ap, sym, ◌∙◌, refl, inl, inr}
+use Rattle.std.proofs.Common.{◌≡◌, true, false, not, ap, sym, ◌∙◌, refl, inl, inr}
 use Rattle.std.specs.Prelude.{if◌then◌else◌}
-use Rattle.std.proofs.lemmas.Bool.{cases_Bool, and_parts, ltb-true, not-true}
+use Rattle.std.proofs.lemmas.Bool.{cases_Bool, and_parts, not-true}
 use Rattle.tri_lattice.specs.Lattice.{Adjacent}
 use Rattle.tri_lattice.proofs.Nodes.{node_eq-true, step_leaves}
 use Rattle.amoebot_state.specs.declared.bot.Bot.{Bot}
@@ -11,9 +11,6 @@ use Rattle.amoebot_state.specs.declared.bot.Port.{Port}
 use Rattle.amoebot_state.specs.Ports.{is_own, is_head, is_contracted, is_port, behind, end_node, global}
 use Rattle.amoebot_state.proofs.Owns.{own_head, own_tail, not_own}
 use Rattle.amoebot_state.proofs.Directions.{global_below}
-
-pub port_below : (b : Bot) (p : Port) → is_port b p ≡ true → p.dir < 6
-port_below b p port = ltb-true p.dir 6 (and_parts _ _ port).0
 
 -- one step leads from the node that the port is on
 pub port_next : (b : Bot) (p : Port) → Adjacent (end_node b p.end) (behind b p)

@@ -1,14 +1,14 @@
 -- Support of tests, and no part of the model: a decider that sets variable 0 from 0 to 1 and is idle elsewhere, with the proofs that it
 -- keeps the laws of deciders. A decider gives its laws as ghost items, which may cite no term of the crate's own proofs/, so they stand
 -- here; the tests of the crates above decide by it too.
-use Rattle.std.proofs.Common.{◌≡◌, ◌≢◌, ◌<◌, ◌&&◌, ℕ, zero, suc, List, [], ◌∷◌, length, Bool, true, false, nat_eq, ap, sym, ◌∙◌, refl, subst, inl, inr, arith, Option, Some, None}
+use Rattle.std.proofs.Common.{◌≡◌, ◌≢◌, ◌&&◌, ℕ, zero, suc, List, [], ◌∷◌, length, Bool, true, false, nat_eq, ap, sym, ◌∙◌, refl, subst, inl, inr, arith, Option, Some, None}
 use Rattle.std.specs.Prelude.{is_some, nat_le, slice_index, slice_set, if◌then◌else◌}
 use Rattle.std.specs.List.{All, Contains}
 use Rattle.std.specs.Option.{option_map}
-use Rattle.std.proofs.lemmas.Bool.{cases_eq, cases_lt, and_parts, and_from, eqb-true}
-use Rattle.std.proofs.lemmas.List.{get_or-set_same, get_or-set_other, length-set, get_or_past}
+use Rattle.std.proofs.lemmas.Bool.{cases_eq, and_parts, and_from, eqb-true}
+use Rattle.std.proofs.lemmas.List.{get_or-set_same, get_or-set_other, length-set}
 use Rattle.std.proofs.lemmas.List.Elements.{All-nil, All-cons, All-head}
-use Rattle.std.proofs.lemmas.Option.{none-some, same_Some}
+use Rattle.std.proofs.lemmas.Option.{same_Some}
 use Rattle.tri_lattice.specs.declared.node.Node.{Node}
 use Rattle.amoebot_state.specs.declared.bot.Bot.{Bot}
 use Rattle.amoebot_state.specs.declared.cell.CellName.{CellName}
@@ -26,7 +26,7 @@ use Rattle.amoebot_state.specs.Patches.{IsPatched, HasPatched, IsOrdered}
 use Rattle.amoebot_state.specs.Steps.{Changes, TouchesZone, HasNext, IsExact}
 use Rattle.amoebot_state.proofs.ShownAlone.{alone_own}
 use Rattle.amoebot_state.proofs.Members.{Contains-from_Has}
-use Rattle.amoebot_state.proofs.Occupants.{occupant_same}
+use Rattle.amoebot_state.proofs.Occupants.{occupant_same, id_below}
 use Rattle.amoebot_state.proofs.Options.{there_is}
 use Rattle.amoebot_state.proofs.Zones.{own_in_zone}
 
@@ -72,16 +72,9 @@ record Marking (c : Config) (i : ℕ) (b : Bot) : Type 0 where
   may : nat_le 1 (slice_index c.maxes 0) ≡ true
 
 module _ (c : Config) (i : ℕ) (b : Bot) (m : Marking c i b) where
-  -- the amoebot's id is one of the list
-  id_below : i < length c.bots
-  id_below = elim (cases_lt i (length c.bots)) [
-    | inl lt ↦ lt
-    | inr ge ↦ absurd (none-some b (sym (get_or_past c.bots i None (omega arith)) ∙ m.there))
-  ]
-
   -- what has each id then
   at_own : bot_at (after c i b) i ≡ Some (marked b)
-  at_own = get_or-set_same c.bots i (Some (marked b)) None id_below
+  at_own = get_or-set_same c.bots i (Some (marked b)) None (id_below c i b m.there)
 
   at_other : (j : ℕ) → j ≢ i → bot_at (after c i b) j ≡ bot_at c j
   at_other j ne = get_or-set_other c.bots i j (Some (marked b)) None ne
