@@ -1,81 +1,34 @@
+//! Tests of `serial_model` over these worlds: one turn, and entries that are a run or stop to be one.
+
 ghost use Rattle.std.specs.Prelude.{◌≡◌, ◌<◌, length, IfOk};
-ghost use Rattle.tri_lattice.specs.Lattice.{IsNear};
 ghost use Rattle.amoebot_state.specs.Refusals.{IsPlain};
 
-use crate::replay;
-use amoebot_state::{
-    Bot, Cell, CellName, Change, Chir, Decider, End, Entry, Found, Moved, Patch, Verdict, World,
-};
+use crate::programs::{Blocked, Marker};
+use crate::worlds::{standing, world_of};
+use amoebot_state::{Bot, Cell, CellName, End, Entry, Failure, Moved, Patch, World};
+use serial_model::{Serial, Turned, replay};
 use std::alloc::Global;
 use std::test::Fail;
-use tri_lattice::{Area, Node};
 
-/// Sets variable 0 from 0 to 1, and is idle elsewhere.
-struct Marks;
-
-impl Decider for Marks {
-    ghost use Rattle.serial_model.specs.Marking.{marking, marking_touches_zone, marking_has_next, marking_is_exact};
-
-    ghost verdict = { λ _. marking };
-
-    fn decide(&self, found: &Found) -> Verdict {
-        let own = *found.own();
-        if own.mem[0] == 0 && 1 <= found.maxes()[0] {
-            let mut marked = own;
-            marked.mem[0] = 1;
-            let mut patch = Patch::new();
-            patch.push(CellName::Body(found.bot()), Cell::Body(marked));
-            return Verdict::Change(Change {
-                action: 0,
-                moved: Moved::None,
-                patch,
-            });
-        }
-        Verdict::Idle
-    }
-
-    ghost touches_zone = { λ _. marking_touches_zone };
-
-    ghost has_next = { λ _. marking_has_next };
-
-    ghost is_exact = { λ _. marking_is_exact };
+/// An amoebot of the row, with its value of variable 0.
+fn in_row(id: u16, value: u8) -> Bot
+    requires { id < 4 }
+    ensures { IsPlain result }
+{
+    standing(2 + id as u8, 3, value)
 }
 
 /// The amoebots 0 to 3 in a row, each with its value of variable 0.
 fn row(alloc: Global, values: [u8; 4]) -> Result<World, Fail>
     ensures { IfOk result (λ w. length w.bots ≡ 4) }
 {
-    let area = Area::new(0, 0, 8, 8).ok_or("an area")?;
     let bots = [
-        standing(0, values[0]),
-        standing(1, values[1]),
-        standing(2, values[2]),
-        standing(3, values[3]),
+        in_row(0, values[0]),
+        in_row(1, values[1]),
+        in_row(2, values[2]),
+        in_row(3, values[3]),
     ];
-    Ok(World::new(alloc, area, [1; 8], &bots)?)
-}
-
-fn node_of(id: u16) -> Node
-    requires { id < 4 }
-    ensures { IsNear result }
-{
-    Node {
-        x: 2 + id as i16,
-        y: 3,
-    }
-}
-
-fn standing(id: u16, value: u8) -> Bot
-    requires { id < 4 }
-    ensures { IsPlain result }
-{
-    Bot {
-        head: node_of(id),
-        tail: node_of(id),
-        rot: 0,
-        chir: Chir::Plus,
-        mem: [value, 0, 0, 0, 0, 0, 0, 0],
-    }
+    world_of(alloc, &bots)
 }
 
 /// The body of an amoebot with a value of variable 0.
@@ -84,7 +37,7 @@ fn body(id: u16, value: u8) -> Patch
     ensures { length result ≡ 1 }
 {
     let mut patch = Patch::new();
-    patch.push(CellName::Body(id), Cell::Body(standing(id, value)));
+    patch.push(CellName::Body(id), Cell::Body(in_row(id, value)));
     patch
 }
 
@@ -128,7 +81,7 @@ fn wrong(id: u16, way: Way) -> Entry
         },
         Way::PairMore => {
             let mut patch = body(id, 1);
-            patch.push(CellName::Spot(node_of(id)), Cell::Spot(Some(id)));
+            patch.push(CellName::Spot(in_row(id, 1).head), Cell::Spot(Some(id)));
             Entry { patch, ..right }
         }
         Way::PairLess => Entry {
@@ -160,11 +113,27 @@ fn entry_at(id: u16, place: u16, way: Way) -> Entry
 }
 
 #[test]
+fn a_failed_turn_leaves_the_world(rt: HostRuntime) -> Result<(), Fail> {
+    let alone = standing(7, 3, 0);
+    let mut serial = Serial::new(world_of(rt.alloc(), &[alone])?);
+    assert!(rt;
+        matches!(
+            &serial.activate(&Blocked, 0, 0, 0),
+            Turned::Failed(Failure::Edge)
+        )
+    );
+    assert_eq!(rt; *serial.world().bot(0), alone);
+    let world = serial.into_world();
+    assert_eq!(rt; world.bots(), 1);
+    Ok(())
+}
+
+#[test]
 fn entries_that_are_steps_agree(rt: HostRuntime) -> Result<(), Fail> {
     let entries = [step(1), step(0), step(2)];
-    let last = replay(&Marks, row(rt.alloc(), [0, 0, 0, 1])?, &entries)?;
+    let last = replay(&Marker, row(rt.alloc(), [0, 0, 0, 1])?, &entries)?;
     assert!(rt; last.same(&row(rt.alloc(), [1, 1, 1, 1])?));
-    let start = replay(&Marks, row(rt.alloc(), [0, 1, 0, 1])?, &[])?;
+    let start = replay(&Marker, row(rt.alloc(), [0, 1, 0, 1])?, &[])?;
     assert!(rt; start.same(&row(rt.alloc(), [0, 1, 0, 1])?));
     Ok(())
 }
@@ -187,7 +156,7 @@ fn the_first_entry_that_is_no_step_is_told(rt: HostRuntime) -> Result<(), Fail> 
                 entry_at(1, place, way),
                 entry_at(2, place, way),
             ];
-            let replayed = replay(&Marks, row(rt.alloc(), [0, 0, 0, 1])?, &entries);
+            let replayed = replay(&Marker, row(rt.alloc(), [0, 0, 0, 1])?, &entries);
             let differs = replayed.err().ok_or("a run")?;
             assert_eq!(rt; differs.place, u32::from(place));
         }

@@ -1,33 +1,25 @@
 -- An interleaving on the small row, computed: the report that it leaves is good.
-use Rattle.std.proofs.Common.{◌≡◌, ◌<◌, ℕ, List, zero, suc, length, [], ◌∷◌, sym, refl, subst, arith}
-use Rattle.std.specs.Prelude.{is_some, IsSome, IsTrue, reverse}
+use Rattle.std.proofs.Common.{◌≡◌, ℕ, zero, suc, [], ◌∷◌, sym, refl, subst, arith}
+use Rattle.std.specs.Prelude.{is_some, IsSome, reverse}
 use Rattle.std.specs.List.{All}
 use Rattle.std.proofs.lemmas.Int.{ints}
 use Rattle.std.proofs.lemmas.List.Elements.{All-nil, All-cons}
-use Rattle.tri_lattice.specs.Extent.{IsArea, is_in}
-use Rattle.tri_lattice.proofs.Boxes.{near_in}
-use Rattle.amoebot_state.specs.declared.bot.Bot.{Bot}
+use Rattle.tri_lattice.specs.Extent.{IsArea}
 use Rattle.amoebot_state.specs.declared.cell.CellName.TheVariants as name
-use Rattle.amoebot_state.specs.Configs.{Config, IsValid, bot_at, config_of}
-use Rattle.amoebot_state.specs.Refusals.{IsPlain}
-use Rattle.amoebot_state.proofs.Added.{no_fault, valid_with}
-use Rattle.amoebot_state.proofs.Faults.{none_valid}
+use Rattle.amoebot_state.specs.Configs.{Config, IsValid, bot_at}
+use Rattle.amoebot_state.proofs.Faults.{valid_two}
+use Rattle.amoebot_state.proofs.Occupants.{plain_in}
 use Rattle.model_ops.proofs.ExpansionLaws.{expansion_touches_zone, expansion_has_next}
 use Rattle.claim_core.specs.declared.marks.Mark.TheVariants as mark
 use Rattle.claim_core.specs.Turns.{IsList}
 use Rattle.claim_core.specs.declared.state.Phase.TheVariants.{Ended}
 use Rattle.claim_core.specs.declared.state.Caller.{Caller}
-use Rattle.claim_core.specs.Machine.{caller, after}
+use Rattle.claim_core.specs.Machine.{State, caller, after}
 use Rattle.claim_core.specs.Soundness.{IsSetup}
 use Rattle.claim_core.specs.Good.{Good}
 use Rattle.claim_core.specs.Reached.{HaveEnded, IsReportOf, Reached}
 use Rattle.claim_core.proofs.Ends.{reached_is_good}
-use Rattle.command_runs.specs.SmallRow.{row, zeros, node, bot_on, to_the_right, two_beside, one_refused}
-
--- Caller 1 wins body 1 and (1, 0); caller 0 wins body 0 and (0, 0), and finds (1, 0) held. Caller 1 wins (2, 0). Caller 0 reads the
--- journal's length and frees its two cells. Caller 1 wins (0, 0) and body 0, takes the journal, commits, and frees its five cells
-abbrev interleaving : List ℕ
-interleaving = 1 ∷ 1 ∷ 0 ∷ 0 ∷ 0 ∷ 1 ∷ 0 ∷ 0 ∷ 0 ∷ 1 ∷ 1 ∷ 1 ∷ 1 ∷ 1 ∷ 1 ∷ 1 ∷ 1 ∷ 1 ∷ []
+use Rattle.small_worlds.specs.Rows.{row, zeros, node, bot_on, to_the_right, two_beside, interleaving, one_refused, SmallInterleaving}
 
 pub is_area : IsArea row
 is_area = record {
@@ -41,17 +33,8 @@ is_area = record {
   h_high = omega arith;
 }
 
-pub plain : (b : Bot) → IsTrue (is_in row b.head) → IsTrue (is_in row b.tail) → b.rot < 6 → length b.mem ≡ 8 → IsPlain b
-plain b head tail rot long = record { head = near_in row b.head is_area head; tail = near_in row b.tail is_area tail; rot = rot; eight = long }
-
-abbrev one_beside : Config
-one_beside = config_of row zeros (bot_on 0 0 ∷ [])
-
-one_valid : IsValid one_beside
-one_valid = valid_with (config_of row zeros []) (bot_on 0 0) (none_valid row zeros is_area refl []) (no_fault (config_of row zeros []) (bot_on 0 0) (plain (bot_on 0 0) refl refl (omega arith) refl) refl)
-
 pub valid : IsValid two_beside.world
-valid = valid_with one_beside (bot_on 1 1) one_valid (no_fault one_beside (bot_on 1 1) (plain (bot_on 1 1) refl refl (omega arith) refl) refl)
+valid = valid_two row zeros is_area refl (bot_on 0 0) (bot_on 1 1) (plain_in row is_area (bot_on 0 0) refl refl (omega arith) refl) (plain_in row is_area (bot_on 1 1) refl refl (omega arith) refl) refl refl
 
 pub one_id : (i : ℕ) → IsList (i ∷ [])
 one_id i = record { some = omega arith; few = omega arith }
@@ -87,14 +70,18 @@ one = caller 1 Ended [] (mark.Busy (name.Spot (node 1)) 1 0 1 0 ∷ [])
 abbrev other : Caller
 other = caller 1 Ended [] (mark.Done 0 ∷ [])
 
-last_callers : (after two_beside (reverse interleaving)).callers ≡ one ∷ other ∷ []
-last_callers = refl
-
 abbrev HasEnded : Caller → Type 0
 HasEnded k = k.phase ≡ Ended
 
+-- that one caller, or both, have ended
+pub one_has_ended : (s : State) (k : Caller) → s.callers ≡ k ∷ [] → k.phase ≡ Ended → HaveEnded s
+one_has_ended s k is one = subst (All HasEnded) (sym is) (All-cons HasEnded k [] one (All-nil HasEnded))
+
+pub two_have_ended : (s : State) (k j : Caller) → s.callers ≡ k ∷ j ∷ [] → k.phase ≡ Ended → j.phase ≡ Ended → HaveEnded s
+two_have_ended s k j are first second = subst (All HasEnded) (sym are) (both HasEnded k j first second)
+
 ended : HaveEnded (after two_beside (reverse interleaving))
-ended = subst (All HasEnded) (sym last_callers) (both HasEnded one other refl refl)
+ended = two_have_ended (after two_beside (reverse interleaving)) one other refl refl refl
 
 left : IsReportOf two_beside (after two_beside (reverse interleaving)) one_refused
 left = record { first = refl; entries = refl; world = record { rest = refl; size = refl; ids = same_ids; values = refl }; marks = refl }
@@ -104,3 +91,6 @@ reached = record { steps = reverse interleaving; ended = ended; left = left }
 
 pub good : Good two_beside.verdict two_beside.world two_beside.lists one_refused
 good = reached_is_good two_beside may_run one_refused reached
+
+pub small_interleaving : SmallInterleaving
+small_interleaving = record { left = left; reached = reached; good = good }
