@@ -1,20 +1,18 @@
-ghost use Rattle.std.specs.Prelude.{◌≡◌, ◌≤◌, ◌∷◌, ◌++◌, [], length, IfOk, OnOk, IsSome};
-ghost use Rattle.std.specs.Bool.{OnTrue};
+ghost use Rattle.std.specs.Prelude.{◌≡◌, length, IfOk, IsSome};
 ghost use Rattle.std.specs.List.{All};
-ghost use Rattle.tri_lattice.specs.Lattice.{IsNear};
 ghost use Rattle.amoebot_state.specs.Configs.{bot_at};
-ghost use Rattle.amoebot_state.specs.Refusals.{IsPlain};
 ghost use Rattle.amoebot_state.specs.Zones.{shown_alone};
 ghost use Rattle.claim_core_tests.specs.Dragging.{drag, note, by_peer, by_link};
 
 use amoebot_state::{
-    Bot, Cell, CellName, Change, Chir, Decider, Failure, Found, Moved, Patch, Port, Verdict, World,
+    Bot, Cell, CellName, Change, Decider, Failure, Found, Moved, Port, Verdict, World,
 };
 use claim_core::{Core, Lists};
 use model_ops::{Peer, Site};
+use small_worlds::node;
 use std::alloc::Global;
 use std::test::Fail;
-use tri_lattice::{Area, Node};
+use tri_lattice::Area;
 
 /// The program of two actions of an expanded amoebot: `drag`, when a contracted neighbour is behind a port, pulls it; else `note` sets
 /// variable 0 to 1.

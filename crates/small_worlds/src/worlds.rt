@@ -1,11 +1,12 @@
 //! Amoebots, worlds of them, and lists of turns over such a world.
 
-ghost use Rattle.std.specs.Prelude.{◌≡◌, ◌≤◌, ◌∷◌, ◌++◌, [], length, IfOk, OnOk, IsSome};
+ghost use Rattle.std.specs.Prelude.{◌≡◌, ◌<◌, ◌≤◌, ◌∷◌, ◌++◌, [], map, length, Some, IfOk, OnOk, IsSome};
 ghost use Rattle.std.specs.Bool.{OnTrue};
 ghost use Rattle.std.specs.List.{All};
 ghost use Rattle.tri_lattice.specs.Lattice.{IsNear};
 ghost use Rattle.amoebot_state.specs.Configs.{bot_at};
 ghost use Rattle.amoebot_state.specs.Refusals.{IsPlain};
+ghost use Rattle.claim_core.specs.Turns.{HaveBots};
 
 use amoebot_state::{Bot, Chir, World};
 use claim_core::Lists;
@@ -57,7 +58,7 @@ pub fn turned(x: u8, y: u8) -> Bot
 pub fn world_of(alloc: Global, bots: &[Bot]) -> Result<World, Fail>
     requires few { length bots.now ≤ 4096 }
     requires plain { All IsPlain bots.now }
-    ensures { IfOk result (λ world. length world.bots ≡ length bots.now) }
+    ensures { IfOk result (λ world. world.bots ≡ map Some bots.now) }
 {
     world_in(alloc, 8, 8, bots)
 }
@@ -66,7 +67,7 @@ pub fn world_of(alloc: Global, bots: &[Bot]) -> Result<World, Fail>
 pub fn world_in(alloc: Global, w: u16, h: u16, bots: &[Bot]) -> Result<World, Fail>
     requires few { length bots.now ≤ 4096 }
     requires plain { All IsPlain bots.now }
-    ensures { IfOk result (λ world. length world.bots ≡ length bots.now) }
+    ensures { IfOk result (λ world. world.bots ≡ map Some bots.now) }
 {
     let area = Area::new(0, 0, w, h).ok_or("an area")?;
     Ok(World::new(alloc, area, [1, 0, 0, 0, 0, 0, 0, 0], bots)?)
@@ -76,6 +77,7 @@ pub fn world_in(alloc: Global, w: u16, h: u16, bots: &[Bot]) -> Result<World, Fa
 pub fn lists_of(alloc: Global, turns: u32, world: &World, ids: &[&[u16]]) -> Result<Lists, Fail>
     ensures callers { IfOk result (λ lists. length lists.ids ≡ length ids.now) }
     ensures there { IfOk result (λ lists. All (All (λ id. IsSome (bot_at world.now id))) lists.ids) }
+    ensures below { IfOk result (λ lists. HaveBots (length world.now.bots) lists) }
 {
     let mut lists = Lists::new(alloc, turns).ok().ok_or("no lists")?;
     for list in ids {
@@ -87,6 +89,7 @@ pub fn lists_of(alloc: Global, turns: u32, world: &World, ids: &[&[u16]]) -> Res
 fn add(alloc: Global, world: &World, lists: &mut Lists, ids: &[u16]) -> Result<(), Fail>
     ensures added { OnOk result (lists.new.ids ≡ lists.old.ids ++ ids.now ∷ []) }
     ensures there { OnOk result (All (λ id. IsSome (bot_at world.now id)) ids.now) }
+    ensures below { OnOk result (All (λ id. id < length world.now.bots) ids.now) }
 {
     let fits = !ids.is_empty()
         && ids.len() <= 4096
@@ -101,7 +104,8 @@ fn add(alloc: Global, world: &World, lists: &mut Lists, ids: &[u16]) -> Result<(
 
 /// Whether the ids are those of amoebots of the world.
 fn are_there(world: &World, ids: &[u16]) -> bool
-    ensures { OnTrue result (All (λ id. IsSome (bot_at world.now id)) ids.now) }
+    ensures there { OnTrue result (All (λ id. IsSome (bot_at world.now id)) ids.now) }
+    ensures below { OnTrue result (All (λ id. id < length world.now.bots) ids.now) }
 {
     for id in ids {
         if !is_there(world, *id) {
@@ -112,7 +116,8 @@ fn are_there(world: &World, ids: &[u16]) -> bool
 }
 
 fn is_there(world: &World, id: u16) -> bool
-    ensures { OnTrue result (IsSome (bot_at world.now id)) }
+    ensures there { OnTrue result (IsSome (bot_at world.now id)) }
+    ensures below { OnTrue result (id < length world.now.bots) }
 {
     if id >= world.bots() {
         return false;
