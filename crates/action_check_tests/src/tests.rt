@@ -1,3 +1,4 @@
+use crate::faults::{BOUND, DECLARED, USED};
 use crate::samples::{DECLARATIONS, EXPRESSIONS, Judged, STATEMENTS};
 use action_check::{Checked, check};
 use action_parser::parse_program;
@@ -48,6 +49,21 @@ fn names_in_statements_and_movements(rt: HostRuntime) -> Result<(), Fail> {
 #[test]
 fn variables_and_actions(rt: HostRuntime) -> Result<(), Fail> {
     are_judged(&rt, rt.alloc(), &DECLARATIONS)
+}
+
+#[test]
+fn numbers_and_names_that_are_declared(rt: HostRuntime) -> Result<(), Fail> {
+    are_judged(&rt, rt.alloc(), &DECLARED)
+}
+
+#[test]
+fn names_that_stand_for_ports(rt: HostRuntime) -> Result<(), Fail> {
+    are_judged(&rt, rt.alloc(), &BOUND)
+}
+
+#[test]
+fn names_where_they_are_used(rt: HostRuntime) -> Result<(), Fail> {
+    are_judged(&rt, rt.alloc(), &USED)
 }
 
 #[test]

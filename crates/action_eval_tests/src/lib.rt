@@ -4,8 +4,6 @@
 #[cfg(test)]
 mod expressions;
 #[cfg(test)]
-mod faults;
-#[cfg(test)]
 mod fixtures;
 #[cfg(test)]
 mod programs;

@@ -1,18 +1,10 @@
-//! Programs that are read, and what the rules on names and ranges say of them: nothing, or the line and the kind of the first fault.
+//! More texts of programs, and what the rules on names and ranges say of them: nothing, or the line and the kind of the first fault.
 
-use action_check::check;
-use action_parser::parse_program;
-use std::alloc::Global;
-use std::process::Abort;
-use std::test::Fail;
-use text_tokens::RefusalKind::{self, BadRange, TwiceNamed, UnknownName, WrongType};
-use text_tokens::{ReadRefusal, Refusal, Tokens};
-
-/// A text, and its fault if it has one.
-type Judged = (&'static str, Option<(u32, RefusalKind)>);
+use crate::samples::Judged;
+use text_tokens::RefusalKind::{BadRange, TwiceNamed, UnknownName, WrongType};
 
 /// Numbers, and names that are declared.
-static DECLARED: [Judged; 26] = [
+pub static DECLARED: [Judged; 26] = [
     ("program\nvar x 255\nend", None),
     ("program\nvar x 256\nend", Some((2, BadRange))),
     ("program\naction a when 65535 = 0\nend", None),
@@ -96,7 +88,7 @@ static DECLARED: [Judged; 26] = [
 ];
 
 /// Names that stand for ports, and two faults in either order.
-static BOUND: [Judged; 31] = [
+pub static BOUND: [Judged; 31] = [
     (
         "program\naction a when linked\np\nend",
         Some((3, UnknownName)),
@@ -221,7 +213,7 @@ static BOUND: [Judged; 31] = [
 ];
 
 /// Names behind the end of what binds them, before it, or of the other kind.
-static USED: [Judged; 17] = [
+pub static USED: [Judged; 17] = [
     // a name is not in force before its `let`
     (
         "program\nvar x 1\naction a when true do\np . x := 1 ; let p := head 0\nend",
@@ -298,42 +290,3 @@ static USED: [Judged; 17] = [
         Some((3, BadRange)),
     ),
 ];
-
-/// The line and the kind of the fault of a text that is read.
-fn fault(alloc: Global, text: &str) -> Result<Option<(u32, RefusalKind)>, Fail> {
-    if text.len() > 1_000_000 {
-        Err("a long text")?;
-    }
-    let mut tokens = Tokens::new(text.as_bytes());
-    let program = parse_program(alloc, &mut tokens).ok().ok_or("no program")?;
-    match check(alloc, program) {
-        Ok(_) => Ok(None),
-        Err(ReadRefusal::Refused(Refusal { line, kind })) => Ok(Some((line, kind))),
-        Err(ReadRefusal::NoMemory) => {
-            Err("no memory")?;
-            Ok(None)
-        }
-    }
-}
-
-fn are_judged(rt: &impl Abort, alloc: Global, table: &[Judged]) -> Result<(), Fail> {
-    for (text, wanted) in table {
-        assert_eq!(rt; fault(alloc, text)?, *wanted, "{text}");
-    }
-    Ok(())
-}
-
-#[test]
-fn numbers_and_names_that_are_declared(rt: HostRuntime) -> Result<(), Fail> {
-    are_judged(&rt, rt.alloc(), &DECLARED)
-}
-
-#[test]
-fn names_that_stand_for_ports(rt: HostRuntime) -> Result<(), Fail> {
-    are_judged(&rt, rt.alloc(), &BOUND)
-}
-
-#[test]
-fn names_where_they_are_used(rt: HostRuntime) -> Result<(), Fail> {
-    are_judged(&rt, rt.alloc(), &USED)
-}
