@@ -1,19 +1,17 @@
 -- The answers of the samples: the steps of the schedule are computed, and what they leave is also what the turns leave.
-use Rattle.std.proofs.Common.{◌≡◌, ℕ, List, replicate, [], ◌∷◌, ◌++◌, Some, None, Ok, Err, zero, suc, refl, ap, sym, subst, arith, codes}
+use Rattle.std.proofs.Common.{◌≡◌, ℕ, List, replicate, [], ◌∷◌, ◌++◌, Some, None, Ok, Err, zero, suc, refl, ap, arith, codes}
 use Rattle.std.specs.Prelude.{is_some, reverse}
 use Rattle.std.specs.Fmt.{digits}
 use Rattle.std.specs.List.{All}
 use Rattle.std.proofs.lemmas.List.Elements.{All-nil, All-cons}
 use Rattle.text_tokens.specs.Kinds.{name}
-use Rattle.amoebot_state.specs.Configs.{Config, IsValid, bot_at, config_of, occupant}
+use Rattle.amoebot_state.specs.Configs.{Config, IsValid, bot_at, occupant}
 use Rattle.amoebot_state.proofs.Faults.{valid_one}
 use Rattle.amoebot_state.proofs.Occupants.{plain_in}
 use Rattle.model_ops.proofs.ActsDecide.{acts_keep_decider_laws}
-use Rattle.claim_core.specs.declared.state.Phase.TheVariants.{Ended}
-use Rattle.claim_core.specs.declared.state.Caller.{Caller}
 use Rattle.claim_core.specs.Turns.{IsList}
 use Rattle.claim_core.specs.Good.{Good}
-use Rattle.claim_core.specs.Machine.{Setup, State, after}
+use Rattle.claim_core.specs.Machine.{Setup, after}
 use Rattle.claim_core.specs.Soundness.{IsSetup}
 use Rattle.claim_core.specs.Reached.{HaveEnded, IsReportOf, Reached}
 use Rattle.claim_core.specs.Laws.{ReachedIsGood, OneListIsSerial}

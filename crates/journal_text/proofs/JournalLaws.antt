@@ -1,11 +1,11 @@
 -- The reader of a journal is a part for its grammar.
-use Rattle.std.proofs.Common.{ℕ, Bool, true, List, Some, None, refl}
+use Rattle.std.proofs.Common.{ℕ, Bool, List, Some, None, refl}
 use Rattle.std.specs.Prelude.{codes, not, ◌||◌}
 use Rattle.std.proofs.lemmas.Bool.{not-true}
 use Rattle.text_tokens.specs.declared.token.TokenKind.TheVariants.{Word}
 use Rattle.text_tokens.specs.Text.{Lexeme}
-use Rattle.text_tokens.specs.Reading.{Reader, ◌>>=◌, pure, is_number, no_limit, less}
-use Rattle.text_tokens.specs.Grammar.{Lang, IsOne, Then, Made, Judged, Either, Limited, AtMost}
+use Rattle.text_tokens.specs.Reading.{Reader, ◌>>=◌, pure, no_limit, less}
+use Rattle.text_tokens.specs.Grammar.{Lang, Then, Made, Judged, Either, Limited, AtMost}
 use Rattle.text_tokens.specs.Lawful.{Exact, IsPart, always, Starts, AreElements}
 use Rattle.text_tokens.proofs.Exactness.{exact}
 use Rattle.text_tokens.proofs.Carrying.{part_made}
@@ -21,9 +21,9 @@ use Rattle.amoebot_state.specs.declared.cell.Cell.{Cell}
 use Rattle.amoebot_state.specs.declared.cell.Cell.TheVariants as cell
 use Rattle.amoebot_state.specs.declared.verdict.Moved.{Moved}
 use Rattle.amoebot_state.specs.declared.verdict.Moved.TheVariants as moved
-use Rattle.journal_text.specs.Parts.{word, is_end, IsWord, IsNumber, IsNode, IsEnd, IsPort}
+use Rattle.journal_text.specs.Parts.{word, is_end, IsWord, IsNumber, IsNode}
 use Rattle.journal_text.specs.Journals.{IsPortBehind, IsEndBehind, IsMovedBy, IsContracted, IsMoved, is_spot, is_body, is_cell, IsCell, IsOccupant, IsValueOf, a_pair_of, IsPair, is_entry, numbers_of, AreNumbers, Written, written_of, past_entries, IsEntryWord, IsWritten, wrong, IsEntry, one_more, AreEntries, IsJournal}
-use Rattle.journal_text.specs.Readers.{a_word, a_number, port_behind, end_behind, moved_by, a_contraction, a_movement, a_cell, an_occupant, a_value, a_pair, pair_in, all_pairs, the_numbers, entry_word, written, an_entry, entries_from, journal, a_node, an_end, a_port}
+use Rattle.journal_text.specs.Readers.{a_word, port_behind, end_behind, moved_by, a_contraction, a_movement, a_cell, an_occupant, a_value, a_pair, pair_in, all_pairs, the_numbers, entry_word, written, an_entry, entries_from, journal}
 use Rattle.journal_text.proofs.PartLaws.{up_to_end, starts_word, part_word, part_word_within, starts_word_within, part_number, starts_means, number_no_word, part_end, part_node, part_port, part_bot}
 
 -- ---- movements

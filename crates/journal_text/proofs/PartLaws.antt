@@ -8,7 +8,7 @@ use Rattle.text_tokens.specs.declared.refusal.RefusalKind.TheVariants.{BadRange}
 use Rattle.text_tokens.specs.Text.{Lexeme}
 use Rattle.text_tokens.specs.Cursor.{same_kind}
 use Rattle.text_tokens.specs.Reading.{Reader, ◌>>=◌, pure, one_within, is_number, too_large, no_limit, closed}
-use Rattle.text_tokens.specs.Grammar.{Lang, IsOne, Then, Made, IsThe, Closed}
+use Rattle.text_tokens.specs.Grammar.{Lang, IsOne, Then, Made, Closed}
 use Rattle.text_tokens.specs.Lawful.{IsPart, Starts, always}
 use Rattle.text_tokens.proofs.Parts.{part_one, part_closed}
 use Rattle.text_tokens.proofs.Beginnings.{starts_one}

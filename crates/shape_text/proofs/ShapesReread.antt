@@ -4,7 +4,7 @@ use Rattle.std.specs.Prelude.{◌≤ℤ◌, ◌-ℤ◌, decimal, nat_le, slice_i
 use Rattle.std.specs.Fmt.{signed_decimal}
 use Rattle.std.specs.Option.{IsSome}
 use Rattle.std.specs.List.{All}
-use Rattle.std.proofs.lemmas.List.{append-nil, get_or_default, get_or-map, length-map}
+use Rattle.std.proofs.lemmas.List.{get_or_default, get_or-map, length-map}
 use Rattle.std.proofs.lemmas.List.Elements.{All-head, All-tail}
 use Rattle.std.proofs.lemmas.Bool.{leb-true, le-leb, and_parts}
 use Rattle.std.proofs.lemmas.Int.{ints}
@@ -25,7 +25,7 @@ use Rattle.amoebot_state.proofs.Faults.{valid_is_faultless}
 use Rattle.journal_text.specs.Parts.{is_end, IsWord}
 use Rattle.journal_text.specs.JournalRows.{Says}
 use Rattle.journal_text.specs.Rereading.{size, HasCoordinates, HasLimits}
-use Rattle.text_tokens.proofs.Respelling.{Found, Is, Any, Rereads, RereadsLines, rereads_then, rereads_next, rereads_made, rereads_as, rereads_number, rereads_behind, one_rereads, one_found, the_passes, found_judged, found_made, rereads_the, reread_line, lines_into, lines_made, lines_then, lines_next, lines_behind_line, lines_nothing, more_of}
+use Rattle.text_tokens.proofs.Respelling.{Is, Any, Rereads, RereadsLines, rereads_then, rereads_next, rereads_made, rereads_as, rereads_number, rereads_behind, one_rereads, one_found, the_passes, found_judged, found_made, rereads_the, reread_line, lines_into, lines_made, lines_then, lines_next, lines_behind_line, lines_nothing, more_of}
 use Rattle.text_tokens.proofs.Stepping.{not_past}
 use Rattle.journal_text.proofs.Saying.{lines_say}
 use Rattle.journal_text.proofs.JournalsReread.{the_word, an_int, a_bot}
