@@ -1,35 +1,25 @@
-use Rattle.std.proofs.Common.{◌≡◌, Bool, ◌≤◌, ◌<◌, ◌++◌, ◌∷◌, [], ℕ, true, false, List, map, length, Some, Ok, Err, refl, sym, ap, subst, ◌∙◌, arith, length-append}
+use Rattle.std.proofs.Common.{◌≡◌, Bool, ◌≤◌, ◌∷◌, [], ℕ, true, false, List, map, length, Some, Ok, Err, refl, sym, ap, ◌∙◌, arith, length-append}
 use Rattle.std.proofs.lemmas.Result.{err_from_is_err_and}
-use Rattle.std.proofs.lemmas.List.{map_push, length-map}
-use Rattle.text_tokens.specs.declared.refusal.ReadRefusal.{ReadRefusal}
-use Rattle.text_tokens.specs.declared.refusal.ReadRefusal.TheVariants.{Refused}
+use Rattle.std.proofs.lemmas.List.{length-map}
 use Rattle.text_tokens.specs.Text.{Lexeme}
-use Rattle.text_tokens.specs.Cursor.{Cursor}
-use Rattle.text_tokens.specs.Reading.{◌>>=◌, pure, one, one_within, opening, less, behind_sign}
-use Rattle.text_tokens.specs.Grammar.{BehindSign}
+use Rattle.text_tokens.specs.Reading.{◌>>=◌, pure, one, one_within, opening, less}
 use Rattle.text_tokens.specs.Steps.{lexeme_of}
-use Rattle.text_tokens.proofs.Stepping.{Reached, Failed, gives_as, on, fails, on_made, another_none, another_some, another_fails, with_room, without_room}
-use Rattle.text_tokens.proofs.Looping.{StillReads, loop_goes_on, loop_is_over, loop_fails, less_is}
+use Rattle.text_tokens.proofs.Stepping.{fails, on_made}
 use Rattle.text_tokens.proofs.Rows.{all_left, past_part, part_fails, gives_left}
 use Rattle.action_tree.specs.declared.expression.Guard.{Guard}
 use Rattle.action_tree.specs.declared.expression.PortExpr.{PortExpr}
 use Rattle.action_tree.specs.declared.expression.Cmp.{Cmp}
-use Rattle.action_grammar.specs.declared.role.Role.{Role}
 use Rattle.action_tree.specs.Trees as tree
 use Rattle.action_tree.specs.Views.{name_of, literal_of, dirterm_of, guard_of, sum_of, part_of, term_of, port_of}
 use Rattle.action_tree.specs.Limits.{most_further}
 use Rattle.action_grammar.specs.declared.role.Role.TheVariants.{AName, ANumber, OpenSign, CloseSign, MinusSign, CompareSign, AtomWord, NotWord, AndWord, OrWord, QuantifierWord, InWord, CountWord, SideWord, InnerWord, Mod6Word, EndWord, TurnWord, FirstWord}
-use Rattle.action_grammar.specs.Roles.{role, is_a, is_test, is_set, is_dirterm, is_plus_or_minus, as_name, as_literal, as_dirterm, as_set, as_end, as_cmp}
+use Rattle.action_grammar.specs.Roles.{is_a, is_test, is_set, is_dirterm, is_plus_or_minus, as_name, as_literal, as_dirterm, as_set, as_end, as_cmp}
 use Rattle.action_grammar.specs.Expressions.{bound_at}
-use Rattle.action_grammar.specs.ExpressionReaders.{Readers, begins_unit, begins_term, level_limit, a_selection, a_port, a_test, a_comparison, port_by, a_term, term_by, a_minus, part, part_in, a_sum, a_unit, unit_by, unit_in, a_conj, conj_in, an_expr, inside, member}
-use Rattle.action_grammar.proofs.Playing.{ends, stops_term, stops_sum, stops_conj, stops_expr}
-use Rattle.action_grammar.proofs.Expressing.{UnitIn, ConjIn, PartIn}
-use Rattle.action_parser.specs.Readings.{made}
+use Rattle.action_grammar.specs.ExpressionReaders.{Readers, begins_unit, begins_term, a_selection, a_port, a_test, a_comparison, port_by, a_term, term_by, a_minus, part, a_sum, a_unit, unit_by, a_conj, inside, member}
 use Rattle.action_parser.specs.Spelled.{atom_by, quantifier_by, test_by, side_by}
 use Rattle.action_parser.specs.Selections.{selection_of}
 use Rattle.action_parser.specs.Lists.{with_first, more_units, more_conjs}
 use Rattle.action_parser.proofs.Tokens.{taken, untaken, all_read}
-use Rattle.action_parser.proofs.Fullness.{full_for}
 use Rattle.action_tree.proofs.Viewed as built
 use Rattle.action_parser.proofs.Elements.{unit_elements, conj_elements, part_elements}
 use Rattle.action_parser.proofs.Levels.{next_is, gives_below, gives_bound, chosen, chosen_as, none_chosen, none_begins, unit_rest, term_rest, port_rest, port_term, test_unit}

@@ -1,34 +1,22 @@
-use Rattle.std.proofs.Common.{◌≡◌, ◌<◌, ◌-◌, ◌++◌, ◌∷◌, [], ℕ, List, map, Some, Ok, Err, Vec, sym, ap, subst, ◌∙◌, arith}
+use Rattle.std.proofs.Common.{◌≡◌, ◌-◌, ◌++◌, ◌∷◌, [], ℕ, List, map, Ok, Err, Vec, sym, ap, subst, ◌∙◌}
 use Rattle.std.specs.declared.alloc.Global.{Global}
 use Rattle.std.proofs.lemmas.Result.{err_from_is_err_and}
-use Rattle.std.proofs.lemmas.List.{map_push}
-use Rattle.text_tokens.specs.declared.refusal.ReadRefusal.{ReadRefusal}
-use Rattle.text_tokens.specs.declared.refusal.ReadRefusal.TheVariants.{Refused}
-use Rattle.text_tokens.specs.Cursor.{Cursor}
-use Rattle.text_tokens.specs.Reading.{Reader, ◌>>=◌, pure, one, opening, less, optional, behind_sign}
-use Rattle.text_tokens.specs.Grammar.{BehindSign}
+use Rattle.text_tokens.specs.Reading.{Reader, ◌>>=◌, one, opening, less, optional}
 use Rattle.text_tokens.specs.Steps.{lexeme_of}
-use Rattle.text_tokens.proofs.Stepping.{Reached, Failed, stays, gives_as, on, fails, on_made, another_none, another_some, another_fails, with_room, without_room, is_first, is_second}
-use Rattle.text_tokens.proofs.Looping.{StillReads, loop_goes_on, loop_is_over, loop_fails, less_is}
+use Rattle.text_tokens.proofs.Looping.{StillReads, less_is}
 use Rattle.text_tokens.proofs.Rows.{all_left, past_part, part_fails, gives_left}
 use Rattle.action_tree.specs.declared.statement.Stmt.{Stmt}
 use Rattle.action_tree.specs.Trees as tree
 use Rattle.action_tree.specs.Productions.{after}
 use Rattle.action_tree.specs.Limits.{most_further}
 use Rattle.action_tree.specs.Views.{guard_of, port_of, stmt_of, stmts_of}
-use Rattle.action_grammar.specs.declared.role.Role.{Role}
 use Rattle.action_grammar.specs.declared.role.Role.TheVariants.{AName, SemicolonSign, LetWord, IfWord, ThenWord, ElseWord, FiWord, ForWord, DoWord, OdWord}
-use Rattle.action_grammar.specs.Roles.{role, is_a}
-use Rattle.action_grammar.specs.ExpressionReaders.{level_limit, port_at, selection_at, expr_at}
-use Rattle.action_grammar.specs.StatementReaders.{begins_stmt, put_member, else_part, an_if, a_for, stmt_by, a_stmt, scope_behind, stmt_in, stmts_inside, stmts_at}
-use Rattle.action_grammar.proofs.Playing.{ends, stops_sum}
-use Rattle.action_grammar.proofs.Stating.{StmtIn}
-use Rattle.action_grammar.proofs.StatementLaws.{stops_stmts}
-use Rattle.action_parser.specs.Readings.{made}
+use Rattle.action_grammar.specs.Roles.{is_a}
+use Rattle.action_grammar.specs.ExpressionReaders.{port_at, selection_at, expr_at}
+use Rattle.action_grammar.specs.StatementReaders.{begins_stmt, put_member, else_part, an_if, a_for, stmt_by, a_stmt, scope_behind, stmts_inside, stmts_at}
 use Rattle.action_parser.specs.Selections.{selection_of}
 use Rattle.action_parser.specs.Lists.{more_stmts, all_listed}
 use Rattle.action_parser.proofs.Tokens.{all_read}
-use Rattle.action_parser.proofs.Fullness.{full_for}
 use Rattle.action_parser.proofs.Elements.{stmt_elements}
 use Rattle.action_parser.proofs.Levels.{next_is, chosen, chosen_as, none_chosen, none_begins, gives_stmts, gives_bound_stmts, gives_level, less_one, port_stmt, stmt_rest}
 use Rattle.action_parser.proofs.Behind.{none_comes, sign_fails, one_too_many, element_fails, one_read, left_out, word_fails, behind_word}

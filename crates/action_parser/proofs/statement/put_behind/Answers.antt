@@ -1,11 +1,10 @@
-use Rattle.std.proofs.Common.{Some, sym, ap, subst, ◌∙◌}
+use Rattle.std.proofs.Common.{sym, ap, subst, ◌∙◌}
 use Rattle.std.proofs.lemmas.Result.{err_from_is_err_and}
 use Rattle.text_tokens.specs.Reading.{one}
 use Rattle.text_tokens.specs.Steps.{lexeme_of, Gives}
 use Rattle.text_tokens.proofs.Rows.{all_left, past_part, part_fails, gives_left}
 use Rattle.action_tree.specs.Trees as tree
 use Rattle.action_tree.specs.Views.{name_of, sum_of, stmt_of}
-use Rattle.action_grammar.specs.declared.role.Role.{Role}
 use Rattle.action_grammar.specs.declared.role.Role.TheVariants.{AName, DotSign, BecomesSign}
 use Rattle.action_grammar.specs.Roles.{is_a, as_name}
 use Rattle.action_grammar.specs.ExpressionReaders.{sum_at}

@@ -1,16 +1,12 @@
-use Rattle.std.proofs.Common.{Err, Vec, sym, ◌∙◌}
+use Rattle.std.proofs.Common.{Vec, sym, ◌∙◌}
 use Rattle.std.specs.declared.alloc.Global.{Global}
 use Rattle.std.proofs.lemmas.Result.{err_from_is_err_and}
-use Rattle.text_tokens.specs.Reading.{◌>>=◌, pure, one}
-use Rattle.text_tokens.specs.Steps.{lexeme_of}
-use Rattle.text_tokens.proofs.Stepping.{stays, gives_as, on, fails, is_first, is_second}
 use Rattle.action_tree.specs.declared.statement.Stmt.{Stmt}
 use Rattle.action_tree.specs.Trees as tree
 use Rattle.action_tree.specs.Views.{stmts_of}
 use Rattle.action_grammar.specs.declared.role.Role.TheVariants.{DoWord}
 use Rattle.action_grammar.specs.Roles.{is_a}
 use Rattle.action_grammar.specs.StatementReaders.{stmts_at}
-use Rattle.action_grammar.specs.ProgramReaders.{a_body}
 use Rattle.action_parser.proofs.Behind.{left_out, word_fails, behind_word}
 use Rattle.action_parser.proofs.statement.read_body.Goals as goal
 

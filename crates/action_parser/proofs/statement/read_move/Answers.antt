@@ -1,4 +1,4 @@
-use Rattle.std.proofs.Common.{ℕ, List, Some, refl, sym, ap, ◌∙◌}
+use Rattle.std.proofs.Common.{ℕ, List, refl, sym, ap, ◌∙◌}
 use Rattle.std.proofs.lemmas.Result.{err_from_is_err_and}
 use Rattle.text_tokens.specs.Text.{Lexeme}
 use Rattle.text_tokens.specs.Reading.{one}
@@ -6,7 +6,6 @@ use Rattle.text_tokens.specs.Steps.{lexeme_of}
 use Rattle.text_tokens.proofs.Rows.{past_part, part_fails}
 use Rattle.action_tree.specs.Trees as tree
 use Rattle.action_tree.specs.Views.{port_of}
-use Rattle.action_grammar.specs.declared.role.Role.{Role}
 use Rattle.action_grammar.specs.declared.role.Role.TheVariants.{EndWord, NoneWord, ThroughWord, ContractWord}
 use Rattle.action_grammar.specs.Roles.{is_a, as_end}
 use Rattle.action_grammar.specs.ExpressionReaders.{port_at}

@@ -1,14 +1,12 @@
-use Rattle.std.proofs.Common.{ℕ, Err, sym, subst, ◌∙◌}
+use Rattle.std.proofs.Common.{ℕ, sym, subst, ◌∙◌}
 use Rattle.std.proofs.lemmas.Result.{err_from_is_err_and}
-use Rattle.text_tokens.specs.Reading.{◌>>=◌, pure, one}
-use Rattle.text_tokens.specs.Steps.{lexeme_of, Gives}
-use Rattle.text_tokens.proofs.Stepping.{stays, gives_as, on, fails, is_first, is_second}
+use Rattle.text_tokens.specs.Steps.{Gives}
 use Rattle.action_tree.specs.Trees as tree
 use Rattle.action_tree.specs.Productions.{after_all}
 use Rattle.action_tree.specs.Views.{stmts_of, move_of}
 use Rattle.action_grammar.specs.declared.role.Role.TheVariants.{MoveWord}
 use Rattle.action_grammar.specs.Roles.{is_a}
-use Rattle.action_grammar.specs.ProgramReaders.{a_move, a_moved}
+use Rattle.action_grammar.specs.ProgramReaders.{a_move}
 use Rattle.action_parser.proofs.Behind.{left_out, word_fails, behind_word}
 use Rattle.action_parser.proofs.statement.read_moved.Goals as goal
 
