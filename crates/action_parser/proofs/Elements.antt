@@ -8,7 +8,7 @@ use Rattle.action_tree.specs.Trees.{guards, term_then, terms, stmt_then, stmts}
 use Rattle.action_tree.specs.Productions.{all_of, any_of, after}
 use Rattle.action_tree.specs.Limits.{most_further, most_levels, most_names}
 use Rattle.action_grammar.specs.declared.role.Role.TheVariants.{AndWord, OrWord, SemicolonSign, VarWord, ActionWord, LastWord}
-use Rattle.action_grammar.specs.Roles.{is_a, is_plus_or_minus}
+use Rattle.action_grammar.specs.Roles.{role, is_a, is_plus_or_minus}
 use Rattle.action_grammar.specs.Expressions.{IsUnit, IsConj, IsTerm}
 use Rattle.action_grammar.specs.ExpressionReaders.{a_unit, unit_in, a_conj, conj_in, a_term, part_in, inside}
 use Rattle.action_grammar.specs.Statements.{IsStmt}
