@@ -25,8 +25,9 @@ use Rattle.claim_core.proofs.Frames.{own_there}
 use Rattle.claim_core.proofs.Nexts.{frees-marks, frees-held}
 use Rattle.claim_rule.specs.declared.views.Slot.{Slot}
 use Rattle.claim_rule.specs.declared.views.Slot.TheVariants as slot
+use Rattle.claim_rule.specs.declared.views.Record.{Record}
 use Rattle.claim_rule.specs.declared.views.View.{View}
-use Rattle.claim_rule.specs.Views.{Seated, own, goes_on}
+use Rattle.claim_rule.specs.Views.{Seated, like, own, goes_on}
 use Rattle.claim_rule.specs.Plays.{IsPlaced, IsKnown, IsOthers, IsToFree, about, bot_in, tried, but_last, mark_at, marked_at, released}
 use Rattle.claim_rule.specs.Tokens.{emptied, IsSeat, IsActivation, IsClaiming, IsStopped, IsWhole, IsFreeing}
 
@@ -121,25 +122,36 @@ module _ {D : Type 0} (verdict : D → Shown → Verdict) where
     pub next_same : (own m.0).caller.turn ≡ t → next_of g (bot_in verdict m.0) (own m.0).caller.held ≡ next_of g b pairs
     next_same turn = λ i. next_of g (bot_same turn i) (is.held i)
 
+    abbrev HasPlace : CellName × Cell → Type 0
+    HasPlace p = (i : ℕ) × IsPlaced g (cell_of p) i
+
+    -- the seat with another record of the same caller, which holds these cells and has their slots out
+    pub with_held : (r : Record) (out : List (ℕ × Slot)) (cells : Pairs) → r.number ≡ c → r.taken ≡ None → r.caller.held ≡ cells → All HasPlace cells → out ≡ map (emptied a) cells → IsActivation verdict (like m.0 (r ∷ []), out) c t b a greatest cells
+    with_held r out cells number taken held placed slots = record {
+      alone = refl;
+      run = is.run;
+      number = number;
+      listed = is.listed;
+      turn = is.turn;
+      bot = is.bot;
+      taken = taken;
+      area = is.area;
+      maxes = is.maxes;
+      held = held;
+      placed = placed;
+      out = slots;
+    }
+
+    -- and where its caller alone has come on
+    came_on : (k : Caller) (out : List (ℕ × Slot)) (cells : Pairs) → k.held ≡ cells → All HasPlace cells → out ≡ map (emptied a) cells → IsActivation verdict (goes_on m.0 k, out) c t b a greatest cells
+    came_on k out cells = with_held (record (own m.0) { caller = k }) out cells is.number is.taken
+
     -- the seat after a step that leaves it what it has out of slots
     pub stays : (m' : Seated D) (k : Caller) → m'.0 ≡ goes_on m.0 k → k.held ≡ (own m.0).caller.held → m'.1 ≡ m.1 → IsActivation verdict m' c t b a greatest pairs
     stays m' k view held out = subst (λ q. IsActivation verdict q c t b a greatest pairs) (λ i. (sym view i, sym out i)) now
       where
         now : IsActivation verdict (goes_on m.0 k, m.1) c t b a greatest pairs
-        now = record {
-          alone = refl;
-          run = is.run;
-          number = is.number;
-          listed = is.listed;
-          turn = is.turn;
-          bot = is.bot;
-          taken = is.taken;
-          area = is.area;
-          maxes = is.maxes;
-          held = held ∙ is.held;
-          placed = is.placed;
-          out = is.out;
-        }
+        now = came_on k m.1 pairs (held ∙ is.held) is.placed is.out
 
     -- a cell was won, and its value taken out
     pub wins : (m' m2 : Seated D) (n : CellName) (x v : Cell) (i : ℕ) → IsClaiming verdict m t b pairs → next_of g (bot_in verdict m.0) (own m.0).caller.held ≡ Some n → number a n ≡ Some i
@@ -173,20 +185,7 @@ module _ {D : Type 0} (verdict : D → Shown → Verdict) where
         place = cl.known.placed n (sym (next_same cl.turn) ∙ next)
 
         after : IsActivation verdict (goes_on m.0 k, (i, slot.Empty) ∷ m.1) c t b a greatest ((n, v) ∷ pairs)
-        after = record {
-          alone = refl;
-          run = is.run;
-          number = is.number;
-          listed = is.listed;
-          turn = is.turn;
-          bot = is.bot;
-          taken = is.taken;
-          area = is.area;
-          maxes = is.maxes;
-          held = pairs_are;
-          placed = All-cons (λ (p : CellName × Cell). (j : ℕ) × IsPlaced g (cell_of p) j) (n, v) pairs place is.placed;
-          out = λ j. (unwrap_or (sym at_n j) 0, slot.Empty) ∷ is.out j;
-        }
+        after = came_on k ((i, slot.Empty) ∷ m.1) ((n, v) ∷ pairs) pairs_are (All-cons HasPlace (n, v) pairs place is.placed) (λ j. (unwrap_or (sym at_n j) 0, slot.Empty) ∷ is.out j)
 
         claiming : IsClaiming verdict (goes_on m.0 k, (i, slot.Empty) ∷ m.1) t b ((n, v) ∷ pairs)
         claiming = record {
@@ -207,6 +206,9 @@ module _ {D : Type 0} (verdict : D → Shown → Verdict) where
       phase = ap (λ o. Refusing (unwrap_or o (name.Body 0)) tag) next;
     })
 
+    abbrev marks_with : ℕ → List Mark
+    marks_with place = (own m.0).caller.marks ++ mark_at (own m.0).caller.phase place ∷ []
+
     -- the turn has its mark
     pub marks : (m' : Seated D) (place : ℕ) → (own m.0).caller.turn ≡ t → m'.0 ≡ goes_on m.0 (marked_at g (own m.0).caller place) → m'.1 ≡ m.1 → IsActivation verdict m' c t b a greatest pairs × IsFreeing verdict m' t pairs
     marks m' place turn view out = (
@@ -214,11 +216,8 @@ module _ {D : Type 0} (verdict : D → Shown → Verdict) where
       subst (λ q. IsFreeing verdict q t pairs) (λ i. (sym view i, sym out i)) now,
     )
       where
-        ms : List Mark
-        ms = (own m.0).caller.marks ++ mark_at (own m.0).caller.phase place ∷ []
-
         now : IsFreeing verdict (goes_on m.0 (marked_at g (own m.0).caller place), m.1) t pairs
-        now = λ i. frees g (turn i) (is.held i) (sym (frees-marks g (own m.0).caller.turn (own m.0).caller.held ms) i)
+        now = λ i. frees g (turn i) (is.held i) (sym (frees-marks g (own m.0).caller.turn (own m.0).caller.held (marks_with place)) i)
 
     -- the turn of a whole zone has its mark
     pub looked : (m' : Seated D) (place : ℕ) (told : Shown) → IsWhole verdict m t b pairs told → m'.0 ≡ goes_on m.0 (marked_at g (own m.0).caller place) → m'.1 ≡ m.1 → IsActivation verdict m' c t b a greatest pairs × IsWhole verdict m' t b pairs told
@@ -227,18 +226,15 @@ module _ {D : Type 0} (verdict : D → Shown → Verdict) where
       subst (λ q. IsWhole verdict q t b pairs told) (λ i. (sym view i, sym out i)) now,
     )
       where
-        ms : List Mark
-        ms = (own m.0).caller.marks ++ mark_at (own m.0).caller.phase place ∷ []
-
         some : 0 < length (own m.0).caller.held
         some = subst (λ ps. 0 < length ps) (sym is.held) (whole_some g b pairs wh.whole)
 
         now : IsWhole verdict (goes_on m.0 (marked_at g (own m.0).caller place), m.1) t b pairs told
         now = record {
-          turn = (frees_phase g (own m.0).caller.turn (own m.0).caller.held ms some).1 ∙ wh.turn;
+          turn = (frees_phase g (own m.0).caller.turn (own m.0).caller.held (marks_with place) some).1 ∙ wh.turn;
           whole = wh.whole;
           shown = wh.shown;
-          phase = inr (frees_phase g (own m.0).caller.turn (own m.0).caller.held ms some).0;
+          phase = inr (frees_phase g (own m.0).caller.turn (own m.0).caller.held (marks_with place) some).0;
         }
 
     -- what was found in a whole zone is what some configuration shows
@@ -252,7 +248,7 @@ module _ {D : Type 0} (verdict : D → Shown → Verdict) where
 
       -- the cell that was won last has a number
       pub last_placed : (i : ℕ) × IsPlaced g n i
-      last_placed = All-head (λ (p : CellName × Cell). (i : ℕ) × IsPlaced g (cell_of p) i) (n, x) held (subst (All (λ (p : CellName × Cell). (i : ℕ) × IsPlaced g (cell_of p) i)) are is.placed)
+      last_placed = All-head HasPlace (n, x) held (subst (All HasPlace) are is.placed)
 
       pub last_number : (i : ℕ) → number a n ≡ Some i → IsPlaced g n i
       last_number i at_n =
@@ -286,20 +282,7 @@ module _ {D : Type 0} (verdict : D → Shown → Verdict) where
           k_is = λ j. frees g (turn_is j) (but_last ((is.held ∙ are) j)) (own m.0).caller.marks
 
           after : IsActivation verdict (goes_on m.0 k, map (emptied a) held) c t b a greatest held
-          after = record {
-            alone = refl;
-            run = is.run;
-            number = is.number;
-            listed = is.listed;
-            turn = is.turn;
-            bot = is.bot;
-            taken = is.taken;
-            area = is.area;
-            maxes = is.maxes;
-            held = ap (λ (j : Caller). j.held) k_is ∙ frees-held g t held (own m.0).caller.marks;
-            placed = All-tail (λ (p : CellName × Cell). (i : ℕ) × IsPlaced g (cell_of p) i) (n, x) held (subst (All (λ (p : CellName × Cell). (i : ℕ) × IsPlaced g (cell_of p) i)) are is.placed);
-            out = refl;
-          }
+          after = came_on k (map (emptied a) held) held (ap (λ (j : Caller). j.held) k_is ∙ frees-held g t held (own m.0).caller.marks) (All-tail HasPlace (n, x) held (subst (All HasPlace) are is.placed)) refl
 
           freeing : IsFreeing verdict (goes_on m.0 k, map (emptied a) held) t held
           freeing = k_is ∙ ap (frees g t held) (sym (ap (λ (j : Caller). j.marks) k_is ∙ frees-marks g t held (own m.0).caller.marks))

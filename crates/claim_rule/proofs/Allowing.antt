@@ -11,7 +11,7 @@ use Rattle.amoebot_state.specs.Configs.{Config}
 use Rattle.amoebot_state.specs.Zones.{Shown}
 use Rattle.claim_core.specs.declared.marks.Mark.{Mark}
 use Rattle.claim_core.specs.declared.state.Caller.{Caller}
-use Rattle.claim_core.specs.Machine.{Setup, State, after}
+use Rattle.claim_core.specs.Machine.{Setup, State}
 use Rattle.claim_core.specs.Soundness.{IsSetup, Sound}
 use Rattle.claim_core.specs.Cores.{unmarked}
 use Rattle.claim_core.proofs.Ranks.{length-values}
@@ -19,8 +19,8 @@ use Rattle.claim_core.proofs.Holding.{framed}
 use Rattle.claim_rule.specs.declared.views.Record.{Record}
 use Rattle.claim_rule.specs.declared.views.Terms.{Terms}
 use Rattle.claim_rule.specs.Views.{Content, Seated, view_of, own, setup, cells}
-use Rattle.claim_rule.specs.Stands.{Stands, Holds, turns_left}
-use Rattle.claim_rule.specs.Nexts.{GoesOn}
+use Rattle.claim_rule.specs.Stands.{Holds, turns_left}
+use Rattle.claim_rule.specs.Nexts.{GoesOn, IsAt}
 
 -- each cell has a tag and a value
 pub tags_count : (g : Setup) → IsSetup g → (s : State) → Sound g s → (length s.tags ≡ cells g.world) × (length s.values ≡ cells g.world)
@@ -39,12 +39,12 @@ marks_same (x ∷ ks) (suc c) k k' e same = ap (λ (ms : List (List Mark)). x.ma
 pub turns_same : (g : Setup) (old new : State) (c : ℕ) (k k' : Caller) → slice_get old.callers c ≡ Some k → new.callers ≡ set old.callers c k' → k'.marks ≡ k.marks → turns_left g new ≤ turns_left g old
 turns_same g old new c k k' there now same = omega (arith, ap (λ (ks : List Caller). unmarked g.lists.turns (map (λ (j : Caller). j.marks) ks)) now, ap (unmarked g.lists.turns) (marks_same old.callers c k k' there same))
 
-module _ {D : Type 0} (verdict : D → Shown → Verdict) (z : Terms D) where
+module _ {D : Type 0} (verdict : D → Shown → Verdict) (z : Terms D) (ok : IsSetup (setup verdict z)) where
   -- a step is allowed where it goes on at each table that stands for a state and gives the seat one record
   pub allowed : (slots seat : ℕ) (me : Seated D) (i : ℕ) (f : ℕ → ℕ) (Fact : Seated D → Type 0) (then : Seated D → ℕ → Seated D → Type 0) → me.0 ≡ view_of z (own me.0 ∷ []) → Fact me
-      → ((s : Content D) (steps : List ℕ) (r : Record) → Stands verdict z s (after (setup verdict z) steps) → get_elem? s.views seat ≡ home.some (view_of z (r ∷ [])) → Fact (view_of z (r ∷ []), me.1)
+      → ((s : Content D) (steps : List ℕ) (r : Record) → IsAt verdict z s steps seat r → Fact (view_of z (r ∷ []), me.1)
       → GoesOn verdict z s steps i seat (view_of z (r ∷ []), me.1) (then (view_of z (r ∷ []), me.1)) (f (slice_index s.words i)))
       → Allows (Holds verdict z) slots seat me i f (then me)
   allowed slots seat me i f Fact then one fact goes s h wide at _ =
-      let on = subst (λ (m : Seated D). Fact m → get_elem? s.views seat ≡ home.some m.0 → GoesOn verdict z s h.0 i seat m (then m) (f (slice_index s.words i))) (λ q. (sym one q, me.1)) (λ t there. goes s h.0 (own me.0) h.1 there t) fact at in
+      let on = subst (λ (m : Seated D). Fact m → get_elem? s.views seat ≡ home.some m.0 → GoesOn verdict z s h.0 i seat m (then m) (f (slice_index s.words i))) (λ q. (sym one q, me.1)) (λ t there. goes s h.0 (own me.0) (record { run = ok; stands = h.1; there = there }) t) fact at in
       (on.0, on.1, on.2, ((own me.0).number ∷ h.0, on.3), on.4)

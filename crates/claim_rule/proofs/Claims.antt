@@ -1,10 +1,8 @@
 -- A try to claim a cell keeps the rule, and tells what was found.
 use Rattle.std.proofs.Common.{◌≡◌, ◌≢◌, ℕ, ◌<◌, ◌≤◌, List, [], ◌∷◌, length, set, get_or, length-set, eqb, Some, None, inl, inr, ap, sym, refl, subst, ◌∙◌, arith, eq-eqb, ne_eqb}
 use Rattle.std.specs.Prelude.{slice_get, slice_index, if◌then◌else◌}
-use Rattle.std.proofs.lemmas.List.{get_or-set_same, get_or-set_other}
 use Rattle.std.proofs.lemmas.Option.{same_Some, slice_get-get_or, slice_get_within}
 use mathlib.Core.Option as home
-use lib.ListN.{get_elem?}
 use prog.Atomic.{either}
 use Rattle.atomic_table.specs.Table.{step, keeps, takes, Allows}
 use Rattle.atomic_table.proofs.Lists.{set_else, exchanged}
@@ -16,24 +14,24 @@ use Rattle.amoebot_state.specs.Zones.{Shown}
 use Rattle.claim_core.specs.declared.state.Caller.{Caller}
 use Rattle.claim_core.specs.declared.state.Phase.TheVariants.{Claim, Refusing}
 use Rattle.claim_core.specs.Cells.{number, at, put}
-use Rattle.claim_core.specs.Machine.{Setup, State, bot, own_tag, next_of, after_win, won, wins, claims, finds, tries, by_phase, acts, next, after}
+use Rattle.claim_core.specs.Machine.{Setup, State, bot, next_of, after_win, won, wins, claims, finds, tries, by_phase, acts, next, after}
 use Rattle.claim_core.specs.Soundness.{IsSetup, Sound}
 use Rattle.claim_core.proofs.Tags.{tag-positive}
 use Rattle.claim_core.proofs.Places.{get-set_here, get-set_cases}
 use Rattle.claim_core.proofs.Holding.{before, refused_by}
 use Rattle.claim_core.proofs.Claiming.{won_plain, won_shown}
 use Rattle.claim_core.proofs.Ranks.{front, next_is_there, few, placed}
-use Rattle.claim_core.proofs.Sounds.{one_step, always}
+use Rattle.claim_core.proofs.Sounds.{one_step}
 use Rattle.claim_rule.specs.declared.views.Slot.{Slot}
 use Rattle.claim_rule.specs.declared.views.Slot.TheVariants as slot
 use Rattle.claim_rule.specs.declared.views.Record.{Record}
 use Rattle.claim_rule.specs.declared.views.Terms.{Terms}
 use Rattle.claim_rule.specs.Views.{Content, Seated, view_of, own, setup, cells}
-use Rattle.claim_rule.specs.Stands.{turns_left, AreWords, AreHomes, Stands, Holds}
+use Rattle.claim_rule.specs.Stands.{turns_left, AreWords, AreHomes, Holds}
 use Rattle.claim_rule.specs.Plays.{IsPlaced, IsKnown, IsOthers, tried, IsToTry, claimed}
-use Rattle.claim_rule.specs.Nexts.{GoesOn, ClaimIsNext}
-use Rattle.claim_rule.proofs.Tables.{words_written, homes_kept}
-use Rattle.claim_rule.proofs.Moves.{mine, moves, journal_stays}
+use Rattle.claim_rule.specs.Nexts.{GoesOn, IsAt, ClaimIsNext}
+use Rattle.claim_rule.proofs.Tables.{words_written, tag_written, homes_kept}
+use Rattle.claim_rule.proofs.Moves.{sound, caller_at, counts, moves, journal_stays}
 use Rattle.claim_rule.proofs.Allowing.{tags_count, turns_same, allowed}
 
 -- the cell that a caller tries next is one of the area, or an amoebot's that is there
@@ -43,142 +41,129 @@ is_placed g ok s sound c k there p n nx =
     let is = placed g ok s sound c k there p in
     (is.0, (ap (number g.world.area) (sym same) ∙ is.1, omega (arith, is.2, (tags_count g ok s sound).1)))
 
-module _ {D : Type 0} (verdict : D → Shown → Verdict) (z : Terms D) (ok : IsSetup (setup verdict z)) where
+module _ {D : Type 0} {verdict : D → Shown → Verdict} {z : Terms D} {s : Content D} {steps : List ℕ} {seat : ℕ} {r : Record} (table : IsAt verdict z s steps seat r) where
   abbrev g : Setup
   g = setup verdict z
 
-  module _ (s : Content D) (steps : List ℕ) (r : Record) (st : Stands verdict z s (after g steps)) (seat : ℕ) (there : get_elem? s.views seat ≡ home.some (view_of z (r ∷ []))) where
-    abbrev core : State
-    core = after g steps
+  abbrev core : State
+  core = after g steps
 
-    abbrev c : ℕ
-    c = r.number
+  module _ (i t slots : ℕ) (carried : List (ℕ × Slot)) (to : IsToTry verdict i t (view_of z (r ∷ []))) where
+    abbrev n : CellName
+    n = tried verdict (view_of z (r ∷ []))
 
-    abbrev k : Caller
-    k = r.caller
+    abbrev b : ℕ
+    b = bot g r.number r.caller.turn
 
-    sound : Sound g core
-    sound = always g ok steps
+    abbrev old : ℕ
+    old = slice_index s.words i
 
-    at_c : slice_get core.callers c ≡ Some k
-    at_c = (mine verdict z ok s steps st seat r there).caller
+    inside : i < length core.tags
+    inside = omega (arith, to.placed.1, (counts table).0)
 
-    module _ (i t slots : ℕ) (carried : List (ℕ × Slot)) (to : IsToTry verdict i t (view_of z (r ∷ []))) where
-      abbrev n : CellName
-      n = tried verdict (view_of z (r ∷ []))
+    found_tag : at core.tags (number z.world.area n) ≡ Some old
+    found_tag = ap (at core.tags) to.placed.0 ∙ slice_get-get_or core.tags i 0 inside ∙ ap (λ (m : ℕ). Some m) (sym (table.stands.words.cell i to.placed.1))
 
-      abbrev b : ℕ
-      b = bot g c k.turn
+    claims_it : next g r.number core ≡ claims g r.number core r.caller n old
+    claims_it = ap (acts g r.number core) (caller_at table) ∙ ap (by_phase g r.number core r.caller) to.phase ∙ ap (tries g r.number core r.caller) to.next ∙ ap (finds g r.number core r.caller n) found_tag
 
-      abbrev old : ℕ
-      old = slice_index s.words i
+    -- the cell was free
+    hits : old ≡ 0 → GoesOn verdict z s steps i seat (view_of z (r ∷ []), carried) (claimed verdict (step slots i 0 t home.none) (view_of z (r ∷ []), carried)) t
+    hits free = (
+      view_of z (record r { caller = won g r.number r.caller n x } ∷ []),
+      takes i (slot.Cell x),
+      table.stands.homes.cell i x (ap (at core.tags) (sym to.placed.0) ∙ found_free) (ap (at core.values) (sym to.placed.0) ∙ value),
+      moves table new (won g r.number r.caller n x) (set s.words i t) (set s.homes i home.none) leads refl refl refl fewer words homes,
+      ((λ _. (x, refl, refl, known)), λ held. absurd (held free)),
+    )
+      where
+        x : Cell
+        x = get_or core.values i (cell.Spot None)
 
-      inside : i < length core.tags
-      inside = omega (arith, to.placed.1, (tags_count g ok core sound).0)
+        found_free : at core.tags (number z.world.area n) ≡ Some 0
+        found_free = found_tag ∙ ap (λ (m : ℕ). Some m) free
 
-      found_tag : at core.tags (number z.world.area n) ≡ Some old
-      found_tag = ap (at core.tags) to.placed.0 ∙ slice_get-get_or core.tags i 0 inside ∙ ap (λ (m : ℕ). Some m) (sym (st.words.cell i to.placed.1))
+        value : at core.values (number z.world.area n) ≡ Some x
+        value = ap (at core.values) to.placed.0 ∙ slice_get-get_or core.values i (cell.Spot None) (omega (arith, to.placed.1, (counts table).1))
 
-      claims_it : next g c core ≡ claims g c core k n old
-      claims_it = ap (acts g c core) at_c ∙ ap (by_phase g c core k) to.phase ∙ ap (tries g c core k) to.next ∙ ap (finds g c core k n) found_tag
+        new : State
+        new = wins g r.number core r.caller n (Some x)
 
-      -- the cell was free
-      hits : old ≡ 0 → GoesOn verdict z s steps i seat (view_of z (r ∷ []), carried) (claimed verdict (step slots i 0 t home.none) (view_of z (r ∷ []), carried)) t
-      hits free = (
-        view_of z (record r { caller = won g c k n x } ∷ []),
-        takes i (slot.Cell x),
-        st.homes.cell i x (ap (at core.tags) (sym to.placed.0) ∙ found_free) (ap (at core.values) (sym to.placed.0) ∙ value),
-        moves verdict z ok s steps st seat r there new (won g c k n x) (set s.words i t) (set s.homes i home.none) leads refl refl refl fewer words homes,
-        ((λ _. (x, refl, refl, known)), λ held. absurd (held free)),
-      )
-        where
-          x : Cell
-          x = get_or core.values i (cell.Spot None)
+        leads : new ≡ next g r.number core
+        leads = sym (claims_it ∙ ap (λ e. if e then wins g r.number core r.caller n (at core.values (number z.world.area n)) else Rattle.claim_core.specs.Machine.with_caller g core r.number (record r.caller { phase = Refusing n old })) (eq-eqb old 0 free) ∙ ap (wins g r.number core r.caller n) value)
 
-          found_free : at core.tags (number z.world.area n) ≡ Some 0
-          found_free = found_tag ∙ ap (λ (m : ℕ). Some m) free
+        tags : new.tags ≡ set core.tags i t
+        tags = λ j. put core.tags (to.placed.0 j) (sym to.tag j)
 
-          value : at core.values (number z.world.area n) ≡ Some x
-          value = ap (at core.values) to.placed.0 ∙ slice_get-get_or core.values i (cell.Spot None) (omega (arith, to.placed.1, (tags_count g ok core sound).1))
+        fewer : turns_left g new ≤ turns_left g core
+        fewer = turns_same g core new r.number r.caller (won g r.number r.caller n x) (caller_at table) refl refl
 
-          new : State
-          new = wins g c core k n (Some x)
+        words : AreWords g new (set s.words i t)
+        words = tag_written g core new s.words i t table.stands.words to.placed.1 inside tags refl
 
-          leads : new ≡ next g c core
-          leads = sym (claims_it ∙ ap (λ e. if e then wins g c core k n (at core.values (number z.world.area n)) else Rattle.claim_core.specs.Machine.with_caller g core c (record k { phase = Refusing n old })) (eq-eqb old 0 free) ∙ ap (wins g c core k n) value)
+        homes : AreHomes g new (set s.homes i home.none)
+        homes = homes_kept g core new s.homes (set s.homes i home.none) table.stands.homes (length-set s.homes i home.none)
+            (λ j y e v. elim (get-set_cases core.tags i j t 0 (ap (λ ts. slice_get ts j) (sym tags) ∙ e)) [
+              | inl mine ↦ absurd (tag-positive r.number r.caller.turn b (sym to.tag ∙ mine.1))
+              | inr was ↦ set_else s.homes i j home.none was.0 ∙ table.stands.homes.cell j y was.1 v
+            ])
+            (set_else s.homes i (cells g.world) home.none (λ e. omega (arith, e, to.placed.1))) refl (journal_stays g core new refl fewer)
 
-          tags : new.tags ≡ set core.tags i t
-          tags = λ j. put core.tags (to.placed.0 j) (sym to.tag j)
+        now_sound : Sound g new
+        now_sound = subst (Sound g) (sym leads) (one_step g table.run core (sound table) r.number)
 
-          fewer : turns_left g new ≤ turns_left g core
-          fewer = turns_same g core new c k (won g c k n x) at_c refl refl
+        now_there : slice_get new.callers r.number ≡ Some (won g r.number r.caller n x)
+        now_there = get-set_here core.callers r.number (won g r.number r.caller n x) (slice_get_within core.callers r.number r.caller (caller_at table))
 
-          words : AreWords g new (set s.words i t)
-          words = words_written g core new s.words i t st.words (omega (arith, to.placed.1)) (λ lt. sym (ap (λ ts. slice_index ts i) tags ∙ get_or-set_same core.tags i t 0 inside)) (λ e. absurd (omega (arith, e, to.placed.1)))
-              (λ j ne lt. ap (λ ts. slice_index ts j) tags ∙ get_or-set_other core.tags i j t 0 ne) (λ _. refl)
+        known : IsKnown g b ((n, x) ∷ r.caller.held)
+        known = record {
+          plain = won_plain g table.run core (sound table) r.number r.caller (caller_at table) n x to.phase to.next found_free value b;
+          few = omega (arith, few g table.run core (sound table) r.number r.caller (caller_at table) to.phase);
+          placed = λ m e. is_placed g table.run new now_sound r.number (won g r.number r.caller n x) now_there (ap (after_win g b ((n, x) ∷ r.caller.held)) e) m e;
+          shown = won_shown g table.run core (sound table) r.number r.caller (caller_at table) n x to.phase to.next found_free value;
+        }
 
-          homes : AreHomes g new (set s.homes i home.none)
-          homes = homes_kept g core new s.homes (set s.homes i home.none) st.homes (length-set s.homes i home.none)
-              (λ j y e v. elim (get-set_cases core.tags i j t 0 (ap (λ ts. slice_get ts j) (sym tags) ∙ e)) [
-                | inl mine ↦ absurd (tag-positive c k.turn b (sym to.tag ∙ mine.1))
-                | inr was ↦ set_else s.homes i j home.none was.0 ∙ st.homes.cell j y was.1 v
-              ])
-              (set_else s.homes i (cells g.world) home.none (λ e. omega (arith, e, to.placed.1))) refl (journal_stays g core new refl fewer)
+    -- another's tag was found
+    misses : old ≢ 0 → GoesOn verdict z s steps i seat (view_of z (r ∷ []), carried) (claimed verdict (step slots i 0 t home.none) (view_of z (r ∷ []), carried)) old
+    misses held = (
+      view_of z (record r { caller = k' } ∷ []),
+      keeps,
+      tt,
+      moves table new k' (set s.words i old) s.homes leads refl refl refl fewer words homes,
+      ((λ free. absurd (held free)), λ _. (refl, refl, others)),
+    )
+      where
+        k' : Caller
+        k' = record r.caller { phase = Refusing n old }
 
-          now_sound : Sound g new
-          now_sound = subst (Sound g) (sym leads) (one_step g ok core sound c)
+        new : State
+        new = Rattle.claim_core.specs.Machine.with_caller g core r.number k'
 
-          now_there : slice_get new.callers c ≡ Some (won g c k n x)
-          now_there = get-set_here core.callers c (won g c k n x) (slice_get_within core.callers c k at_c)
+        leads : new ≡ next g r.number core
+        leads = sym (claims_it ∙ ap (λ e. if e then wins g r.number core r.caller n (at core.values (number z.world.area n)) else new) (ne_eqb old 0 held))
 
-          known : IsKnown g b ((n, x) ∷ k.held)
-          known = record {
-            plain = won_plain g ok core sound c k at_c n x to.phase to.next found_free value b;
-            few = omega (arith, few g ok core sound c k at_c to.phase);
-            placed = λ m e. is_placed g ok new now_sound c (won g c k n x) now_there (ap (after_win g b ((n, x) ∷ k.held)) e) m e;
-            shown = won_shown g ok core sound c k at_c n x to.phase to.next found_free value;
-          }
+        fewer : turns_left g new ≤ turns_left g core
+        fewer = turns_same g core new r.number r.caller k' (caller_at table) refl refl
 
-      -- another's tag was found
-      misses : old ≢ 0 → GoesOn verdict z s steps i seat (view_of z (r ∷ []), carried) (claimed verdict (step slots i 0 t home.none) (view_of z (r ∷ []), carried)) old
-      misses held = (
-        view_of z (record r { caller = k' } ∷ []),
-        keeps,
-        tt,
-        moves verdict z ok s steps st seat r there new k' (set s.words i old) s.homes leads refl refl refl fewer words homes,
-        ((λ free. absurd (held free)), λ _. (refl, refl, others)),
-      )
-        where
-          k' : Caller
-          k' = record k { phase = Refusing n old }
+        words : AreWords g new (set s.words i old)
+        words = words_written g core new s.words i old table.stands.words (omega (arith, to.placed.1)) (λ lt. table.stands.words.cell i lt) (λ e. absurd (omega (arith, e, to.placed.1))) (λ j ne lt. refl) (λ _. refl)
 
-          new : State
-          new = Rattle.claim_core.specs.Machine.with_caller g core c k'
+        homes : AreHomes g new s.homes
+        homes = homes_kept g core new s.homes s.homes table.stands.homes refl table.stands.homes.cell refl refl (journal_stays g core new refl fewer)
 
-          leads : new ≡ next g c core
-          leads = sym (claims_it ∙ ap (λ e. if e then wins g c core k n (at core.values (number z.world.area n)) else new) (ne_eqb old 0 held))
+        others : IsOthers g r.number old
+        others =
+            let by = refused_by g table.run core (sound table) r.number r.caller (caller_at table) n old (before g table.run core (sound table) r.number r.caller (caller_at table) n to.phase to.next) found_tag held in
+            record { some = held; listed = by.listed; other = by.other; turn = by.turn; of = by.of }
 
-          fewer : turns_left g new ≤ turns_left g core
-          fewer = turns_same g core new c k k' at_c refl refl
+    pub claim_goes : GoesOn verdict z s steps i seat (view_of z (r ∷ []), carried) (claimed verdict (step slots i 0 t home.none) (view_of z (r ∷ []), carried)) (either (eqb old 0) t old)
+    claim_goes = exchanged old 0 t (GoesOn verdict z s steps i seat (view_of z (r ∷ []), carried) (claimed verdict (step slots i 0 t home.none) (view_of z (r ∷ []), carried))) hits misses
 
-          words : AreWords g new (set s.words i old)
-          words = words_written g core new s.words i old st.words (omega (arith, to.placed.1)) (λ lt. st.words.cell i lt) (λ e. absurd (omega (arith, e, to.placed.1))) (λ j ne lt. refl) (λ _. refl)
-
-          homes : AreHomes g new s.homes
-          homes = homes_kept g core new s.homes s.homes st.homes refl st.homes.cell refl refl (journal_stays g core new refl fewer)
-
-          others : IsOthers g c old
-          others =
-              let by = refused_by g ok core sound c k at_c n old (before g ok core sound c k at_c n to.phase to.next) found_tag held in
-              record { some = held; listed = by.listed; other = by.other; turn = by.turn; of = by.of }
-
-      pub claim_goes : GoesOn verdict z s steps i seat (view_of z (r ∷ []), carried) (claimed verdict (step slots i 0 t home.none) (view_of z (r ∷ []), carried)) (either (eqb old 0) t old)
-      claim_goes = exchanged old 0 t (GoesOn verdict z s steps i seat (view_of z (r ∷ []), carried) (claimed verdict (step slots i 0 t home.none) (view_of z (r ∷ []), carried))) hits misses
-
+module _ {D : Type 0} (verdict : D → Shown → Verdict) (z : Terms D) (ok : IsSetup (setup verdict z)) where
   pub claim_allowed : (slots seat : ℕ) (me : Seated D) (i t : ℕ) → me.0 ≡ view_of z (own me.0 ∷ []) → IsToTry verdict i t me.0 → Allows (Holds verdict z) slots seat me i (λ x. either (eqb x 0) t x) (claimed verdict (step slots i 0 t home.none) me)
   claim_allowed slots seat me i t one to =
-      allowed verdict z slots seat me i (λ x. either (eqb x 0) t x) (λ m. IsToTry verdict i t m.0) (claimed verdict (step slots i 0 t home.none)) one to
-      (λ s steps r st there fact. claim_goes s steps r st seat there i t slots me.1 fact)
+      allowed verdict z ok slots seat me i (λ x. either (eqb x 0) t x) (λ m. IsToTry verdict i t m.0) (claimed verdict (step slots i 0 t home.none)) one to
+      (λ s steps r table fact. claim_goes table i t slots me.1 fact)
 
 pub claim_is_next : {D : Type 0} (verdict : D → Shown → Verdict) (z : Terms D) → ClaimIsNext verdict z
-claim_is_next verdict z s steps seat i t slots r out is to = claim_goes verdict z is.run s steps r is.stands seat is.there i t slots out to
+claim_is_next verdict z s steps seat i t slots r out is to = claim_goes is i t slots out to

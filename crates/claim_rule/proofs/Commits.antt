@@ -1,12 +1,11 @@
 -- A commit keeps the rule: what other callers have recorded stays true.
-use Rattle.std.proofs.Common.{◌≡◌, ◌≢◌, ℕ, ◌+◌, ◌*◌, ◌<◌, List, [], ◌∷◌, ◌++◌, map, length, length-append, set, length-set, Option, Some, None, ap, sym, refl, subst, ◌∙◌, arith, eq-eqb, ne_eqb}
+use Rattle.std.proofs.Common.{◌≡◌, ◌≢◌, ℕ, ◌+◌, ◌*◌, ◌<◌, List, [], ◌∷◌, ◌++◌, map, length, length-append, set, length-set, Some, None, ap, sym, refl, subst, ◌∙◌, arith, eq-eqb, ne_eqb}
 use Rattle.std.specs.Prelude.{slice_get, if◌then◌else◌}
 use Rattle.std.specs.List.{All, Contains}
 use Rattle.std.proofs.lemmas.List.{map-append}
 use Rattle.std.proofs.lemmas.List.Elements.{All-head, All-tail, All-weaker, All-push, All-contains, Contains-push}
-use Rattle.std.proofs.lemmas.Option.{none-some, same_Some, slice_get_within}
+use Rattle.std.proofs.lemmas.Option.{none-some, same_Some}
 use mathlib.Core.Option as home
-use lib.ListN.{get_elem?}
 use Rattle.atomic_table.specs.Table.{step, gives, put_back, Allows}
 use Rattle.atomic_table.proofs.Lists.{set_else, set_here}
 use Rattle.tri_lattice.specs.Extent.{Extent}
@@ -24,12 +23,11 @@ use Rattle.claim_core.specs.declared.marks.Mark.{Mark}
 use Rattle.claim_core.specs.declared.marks.Mark.TheVariants as mark
 use Rattle.claim_core.specs.declared.state.Caller.{Caller}
 use Rattle.claim_core.specs.declared.state.Committed.{Committed}
-use Rattle.claim_core.specs.Turns.{Kept}
 use Rattle.claim_core.specs.Cells.{number, at, patched}
-use Rattle.claim_core.specs.Machine.{Setup, State, bot, own_tag, entry, frees, renewed, commits, by_phase, acts, next, after, commit_of, commit_by}
+use Rattle.claim_core.specs.Machine.{Setup, State, bot, entry, frees, renewed, commits, by_phase, acts, next, after, commit_of, commit_by}
 use Rattle.claim_core.specs.Machine as machine
 use Rattle.claim_core.specs.Reached.{entries_of}
-use Rattle.claim_core.specs.Soundness.{IsSetup, IsTurn, IsHeld, IsDecided, HasFront, names, marked, Sound}
+use Rattle.claim_core.specs.Soundness.{IsSetup, IsTurn, IsHeld, IsDecided, HasFront, names, marked}
 use Rattle.claim_core.proofs.Nexts.{frees-marks}
 use Rattle.claim_core.proofs.Places.{at-put_else}
 use Rattle.claim_core.proofs.Tags.{tag-positive}
@@ -38,18 +36,17 @@ use Rattle.claim_core.proofs.Frames.{own_stays}
 use Rattle.claim_core.proofs.Holding.{framed, is_known}
 use Rattle.claim_core.proofs.Stays.{IsWorldAt-append}
 use Rattle.claim_core.proofs.Commitments.{committed_is_journal, committed_is_shown}
-use Rattle.claim_core.proofs.Sounds.{always}
 use Rattle.claim_rule.specs.declared.views.Slot.{Slot}
 use Rattle.claim_rule.specs.declared.views.Slot.TheVariants as slot
 use Rattle.claim_rule.specs.declared.views.Record.{Record}
 use Rattle.claim_rule.specs.declared.views.Terms.{Terms}
 use Rattle.claim_rule.specs.Views.{Content, Seated, view_of, own, setup, cells}
-use Rattle.claim_rule.specs.Stands.{turns_left, placed, IsFoundAt, IsJournal, HasTaken, HasCommitted, IsRecord, AreWords, AreHomes, Stands, Holds}
+use Rattle.claim_rule.specs.Stands.{turns_left, placed, IsFoundAt, IsJournal, HasTaken, HasCommitted, AreWords, AreHomes, Holds}
 use Rattle.claim_rule.specs.Commits.{commit_at, with_commit, IsToCommit, stored}
-use Rattle.claim_rule.specs.Nexts.{GoesOn, CommitIsNext}
-use Rattle.claim_rule.proofs.Tables.{words_written}
-use Rattle.claim_rule.proofs.Moves.{mine, moved}
-use Rattle.claim_rule.proofs.Allowing.{tags_count, allowed}
+use Rattle.claim_rule.specs.Nexts.{GoesOn, IsAt, CommitIsNext}
+use Rattle.claim_rule.proofs.Tables.{journal_written}
+use Rattle.claim_rule.proofs.Moves.{sound, mine, caller_at, not_last, moved, taken_else}
+use Rattle.claim_rule.proofs.Allowing.{allowed}
 use Rattle.claim_rule.proofs.Marking.{one_fewer}
 
 -- a cell that the patch does not name keeps its value
@@ -59,173 +56,153 @@ patched_else a (p ∷ ps) xs i all =
     at-put_else (patched a ps xs) (number a (cell_of p)) (Some i) p.1 (λ e. All-head (λ (q : CellName × Cell). number a (cell_of q) ≢ Some i) p ps all (sym e))
     ∙ patched_else a ps xs i (All-tail (λ (q : CellName × Cell). number a (cell_of q) ≢ Some i) p ps all)
 
-module _ {D : Type 0} (verdict : D → Shown → Verdict) (z : Terms D) (ok : IsSetup (setup verdict z)) where
+module _ {D : Type 0} {verdict : D → Shown → Verdict} {z : Terms D} {s : Content D} {steps : List ℕ} {seat : ℕ} {r : Record} (table : IsAt verdict z s steps seat r) where
   abbrev g : Setup
   g = setup verdict z
 
-  module _ (s : Content D) (steps : List ℕ) (r : Record) (st : Stands verdict z s (after g steps)) (seat : ℕ) (there : get_elem? s.views seat ≡ home.some (view_of z (r ∷ []))) where
-    abbrev core : State
-    core = after g steps
+  abbrev core : State
+  core = after g steps
 
-    abbrev c : ℕ
-    c = r.number
+  abbrev last : ℕ
+  last = cells z.world
 
-    abbrev k : Caller
-    k = r.caller
+  module _ (x : ℕ) (carried : List (ℕ × Slot)) (to : IsToCommit verdict last x (view_of z (r ∷ []), carried)) where
+    abbrev change : Change
+    change = to.change
 
-    abbrev last : ℕ
-    last = cells z.world
+    abbrev e : Entry
+    e = entry g r.number r.caller.turn change
 
-    own_is : IsRecord g core r
-    own_is = mine verdict z ok s steps st seat r there
+    abbrev place : ℕ
+    place = length to.journal.entries
 
-    at_c : slice_get core.callers c ≡ Some k
-    at_c = own_is.caller
+    -- what was taken is the journal still
+    has_taken : (core.holder ≡ Some r.number) × IsJournal g core to.journal
+    has_taken = subst (HasTaken g core r.number) to.taken (mine table).committed.taken
 
-    sound : Sound g core
-    sound = always g ok steps
+    place_is : place ≡ length core.journal
+    place_is = ap (λ (es : List Entry). length es) has_taken.1.entries
 
-    module _ (x : ℕ) (carried : List (ℕ × Slot)) (to : IsToCommit verdict last x (view_of z (r ∷ []), carried)) where
-      abbrev change : Change
-      change = to.change
+    abbrev k' : Caller
+    k' = (with_commit g r change place).caller
 
-      abbrev e : Entry
-      e = entry g c k.turn change
+    abbrev new : State
+    new = commits g r.number core r.caller change
 
-      abbrev place : ℕ
-      place = length to.journal.entries
+    leads : new ≡ next g r.number core
+    leads = sym (ap (acts g r.number core) (caller_at table) ∙ ap (by_phase g r.number core r.caller) to.phase)
 
-      -- what was taken is the journal still
-      has_taken : (core.holder ≡ Some c) × IsJournal g core to.journal
-      has_taken = subst (HasTaken g core c) to.taken own_is.committed.taken
+    callers : new.callers ≡ set core.callers r.number k'
+    callers = ap (λ n. set core.callers r.number (frees g r.caller.turn (map (renewed change.patch) r.caller.held) (r.caller.marks ++ mark.Done n ∷ []))) (sym place_is)
 
-      place_is : place ≡ length core.journal
-      place_is = ap (λ (es : List Entry). length es) has_taken.1.entries
+    -- one turn more has its mark
+    counted : length r.caller.marks < g.lists.turns
+    counted =
+        let is = (sound table).each r.number r.caller (caller_at table) in
+        let turn = subst (λ q. IsTurn g.lists.turns q r.caller.turn) to.phase is.turn in
+        let counts = is.counted ∙ ap (λ q. marked q r.caller.turn) to.phase in
+        omega (arith, turn, counts)
 
-      abbrev k' : Caller
-      k' = (with_commit g r change place).caller
+    more : length k'.marks ≡ length r.caller.marks + 1
+    more = ap (λ (ms : List Mark). length ms) (frees-marks g r.caller.turn (map (renewed change.patch) r.caller.held) (r.caller.marks ++ mark.Done place ∷ [])) ∙ length-append r.caller.marks (mark.Done place ∷ [])
 
-      abbrev new : State
-      new = commits g c core k change
+    fewer : turns_left g new + 1 ≡ turns_left g core
+    fewer = ap (λ (ks : List Caller). Rattle.claim_core.specs.Cores.unmarked g.lists.turns (map (λ (j : Caller). j.marks) ks) + 1) callers ∙ one_fewer g.lists.turns core.callers r.number r.caller k' (caller_at table) counted more
 
-      leads : new ≡ next g c core
-      leads = sym (ap (acts g c core) at_c ∙ ap (by_phase g c core k) to.phase)
+    longer : length new.journal ≡ length core.journal + 1
+    longer = length-append core.journal (e ∷ [])
 
-      callers : new.callers ≡ set core.callers c k'
-      callers = ap (λ n. set core.callers c (frees g k.turn (map (renewed change.patch) k.held) (k.marks ++ mark.Done n ∷ []))) (sym place_is)
+    next_is : to.next.entries ≡ new.journal
+    next_is = to.pushed.entries ∙ ap (λ (es : List Entry). es ++ e ∷ []) has_taken.1.entries
 
-      -- one turn more has its mark
-      counted : length k.marks < g.lists.turns
-      counted =
-          let is = sound.each c k at_c in
-          let turn = subst (λ q. IsTurn g.lists.turns q k.turn) to.phase is.turn in
-          let counts = is.counted ∙ ap (λ q. marked q k.turn) to.phase in
-          omega (arith, turn, counts)
+    words : AreWords g new (set s.words last x)
+    words = journal_written g core new s.words x table.stands.words refl (to.word ∙ ap (λ (es : List Entry). 2 * length es) next_is ∙ (let q : 2 * length new.journal ≡ 2 * length new.journal + 0 = omega arith in q))
 
-      more : length k'.marks ≡ length k.marks + 1
-      more = ap (λ (ms : List Mark). length ms) (frees-marks g k.turn (map (renewed change.patch) k.held) (k.marks ++ mark.Done place ∷ [])) ∙ length-append k.marks (mark.Done place ∷ [])
+    -- a free cell is none of the patch
+    decided : IsDecided g (sound table).last (bot g r.number r.caller.turn) r.caller.held (decision.Change change)
+    decided = subst (HasFront g core (sound table).last r.number r.caller) to.phase ((sound table).each r.number r.caller (caller_at table)).front
 
-      fewer : turns_left g new + 1 ≡ turns_left g core
-      fewer = ap (λ (ks : List Caller). Rattle.claim_core.specs.Cores.unmarked g.lists.turns (map (λ (j : Caller). j.marks) ks) + 1) callers ∙ one_fewer g.lists.turns core.callers c k k' at_c counted more
+    changes : Changes g.verdict (sound table).last (bot g r.number r.caller.turn) change
+    changes = record { valid = (framed g table.run core (sound table)).valid; there = own_stays g table.run r.number r.caller.turn (is_known g table.run core (sound table) r.number r.caller (caller_at table)) (sound table).last (framed g table.run core (sound table)); decided = decided.verdict }
 
-      longer : length new.journal ≡ length core.journal + 1
-      longer = length-append core.journal (e ∷ [])
+    not_held : (i : ℕ) → slice_get core.tags i ≡ Some 0 → (n : CellName) → Contains (names r.caller.held) n → number z.world.area n ≢ Some i
+    not_held i free n held same =
+        let p = name_of_held n r.caller.held (Has-from_Contains (names r.caller.held) held) in
+        let is = All-contains (IsHeld g core (sound table).last r.number r.caller.turn) r.caller.held p.0 ((sound table).each r.number r.caller (caller_at table)).held (Contains-from_Has r.caller.held p.1) in
+        tag-positive r.number r.caller.turn (bot g r.number r.caller.turn) (same_Some _ 0 (sym is.tag ∙ ap (λ m. at core.tags (number z.world.area m)) (sym p.2) ∙ ap (at core.tags) same ∙ free))
 
-      next_is : to.next.entries ≡ new.journal
-      next_is = to.pushed.entries ∙ ap (λ (es : List Entry). es ++ e ∷ []) has_taken.1.entries
+    free_stays : (i : ℕ) → slice_get core.tags i ≡ Some 0 → slice_get new.values i ≡ slice_get core.values i
+    free_stays i free = patched_else z.world.area change.patch core.values i
+        (All-weaker (λ (p : CellName × Cell). Contains (zone (sound table).last (bot g r.number r.caller.turn)) (cell_of p)) (λ (p : CellName × Cell). number z.world.area (cell_of p) ≢ Some i)
+        (λ p in_zone. not_held i free (cell_of p) (subst (λ ns. Contains ns (cell_of p)) (sym decided.whole) in_zone)) change.patch (table.run.touches (sound table).last (bot g r.number r.caller.turn) change changes))
 
-      words : AreWords g new (set s.words last x)
-      words = words_written g core new s.words last x st.words (omega arith) (λ lt. absurd (omega (arith, lt)))
-          (λ _. to.word ∙ ap (λ (es : List Entry). 2 * length es) next_is ∙ (let q : 2 * length new.journal ≡ 2 * length new.journal + 0 = omega arith in q)) (λ j ne lt. refl) (λ ne. absurd (ne refl))
+    journal_is : IsJournal g new to.next
+    journal_is = record { first = to.pushed.first ∙ has_taken.1.first; entries = next_is; room = omega (arith, fewer, to.pushed.spare, has_taken.1.room) }
 
-      -- a free cell is none of the patch
-      decided : IsDecided g sound.last (bot g c k.turn) k.held (decision.Change change)
-      decided = subst (HasFront g core sound.last c k) to.phase (sound.each c k at_c).front
+    homes : AreHomes g new (put_back s.homes carried)
+    homes = subst (AreHomes g new) (sym (ap (put_back s.homes) to.out)) (record {
+      count = length-set s.homes last (home.some (slot.Journal to.next)) ∙ table.stands.homes.count;
+      cell = λ i y free value. set_else s.homes last i (home.some (slot.Journal to.next)) (not_last table i 0 free) ∙ table.stands.homes.cell i y free (sym (free_stays i free) ∙ value);
+      journal = λ none. (to.next, set_here s.homes last (home.some (slot.Journal to.next)) (omega (arith, table.stands.homes.count)), journal_is);
+    })
 
-      changes : Changes g.verdict sound.last (bot g c k.turn) change
-      changes = record { valid = (framed g ok core sound).valid; there = own_stays g ok c k.turn (is_known g ok core sound c k at_c) sound.last (framed g ok core sound); decided = decided.verdict }
+    -- what was committed stays found
+    still : (p : Committed) → IsFoundAt g core p → IsFoundAt g new p
+    still p f = (f.0, IsWorldAt-append g.verdict g.world f.0 core.journal (e ∷ []) p.place f.1, f.2)
 
-      not_held : (i : ℕ) → slice_get core.tags i ≡ Some 0 → (n : CellName) → Contains (names k.held) n → number z.world.area n ≢ Some i
-      not_held i free n held same =
-          let p = name_of_held n k.held (Has-from_Contains (names k.held) held) in
-          let is = All-contains (IsHeld g core sound.last c k.turn) k.held p.0 (sound.each c k at_c).held (Contains-from_Has k.held p.1) in
-          tag-positive c k.turn (bot g c k.turn) (same_Some _ 0 (sym is.tag ∙ ap (λ m. at core.tags (number z.world.area m)) (sym p.2) ∙ ap (at core.tags) same ∙ free))
+    -- another caller has the entries that it had
+    other_entries : (d : ℕ) → d ≢ r.number → entries_of d 0 new.journal ≡ entries_of d 0 core.journal
+    other_entries d apart =
+        ap (λ (q : State). entries_of d 0 q.journal) leads ∙ sym (committed_is_journal g d (r.number ∷ steps))
+        ∙ ap (λ b. map placed (if b then machine.committed g d steps ++ commit_by g d core (slice_get core.callers d) else machine.committed g d steps)) (ne_eqb r.number d (λ q. apart (sym q)))
+        ∙ committed_is_journal g d steps
 
-      free_stays : (i : ℕ) → slice_get core.tags i ≡ Some 0 → slice_get new.values i ≡ slice_get core.values i
-      free_stays i free = patched_else z.world.area change.patch core.values i
-          (All-weaker (λ (p : CellName × Cell). Contains (zone sound.last (bot g c k.turn)) (cell_of p)) (λ (p : CellName × Cell). number z.world.area (cell_of p) ≢ Some i)
-          (λ p in_zone. not_held i free (cell_of p) (subst (λ ns. Contains ns (cell_of p)) (sym decided.whole) in_zone)) change.patch (ok.touches sound.last (bot g c k.turn) change changes))
+    others : (q : Record) → q.number ≢ r.number → HasCommitted g core q.number q.committed q.taken → HasCommitted g new q.number q.committed q.taken
+    others q apart is = record {
+      entries = is.entries ∙ sym (other_entries q.number apart);
+      found = All-weaker (IsFoundAt g core) (IsFoundAt g new) still q.committed is.found;
+      taken = taken_else g core new q.number q.taken (λ h. apart (same_Some q.number r.number (sym h ∙ has_taken.0))) (λ h. none-some q.number h) is.taken;
+    }
 
-      journal_is : IsJournal g new to.next
-      journal_is = record { first = to.pushed.first ∙ has_taken.1.first; entries = next_is; room = omega (arith, fewer, to.pushed.spare, has_taken.1.room) }
+    -- and the own caller one more
+    own_steps : machine.committed g r.number (r.number ∷ steps) ≡ machine.committed g r.number steps ++ commit_at g r change (length core.journal) ∷ []
+    own_steps =
+        ap (λ b. if b then machine.committed g r.number steps ++ commit_by g r.number core (slice_get core.callers r.number) else machine.committed g r.number steps) (eq-eqb r.number r.number refl)
+        ∙ ap (λ o. machine.committed g r.number steps ++ commit_by g r.number core o) (caller_at table) ∙ ap (λ p. machine.committed g r.number steps ++ commit_of g r.number core r.caller p) to.phase
 
-      homes : AreHomes g new (put_back s.homes carried)
-      homes = subst (AreHomes g new) (sym (ap (put_back s.homes) to.out)) (record {
-        count = length-set s.homes last (home.some (slot.Journal to.next)) ∙ st.homes.count;
-        cell = λ i y free value. set_else s.homes last i (home.some (slot.Journal to.next)) (λ q. omega (arith, q, slice_get_within core.tags i 0 free, (tags_count g ok core sound).0)) ∙ st.homes.cell i y free (sym (free_stays i free) ∙ value);
-        journal = λ none. (to.next, set_here s.homes last (home.some (slot.Journal to.next)) (omega (arith, st.homes.count)), journal_is);
-      })
+    own_entries : map placed (r.committed ++ commit_at g r change place ∷ []) ≡ entries_of r.number 0 new.journal
+    own_entries =
+        map-append placed r.committed (commit_at g r change place ∷ []) ∙ (λ i. (mine table).committed.entries i ++ (place_is i, e) ∷ [])
+        ∙ ap (λ ps. ps ++ (length core.journal, e) ∷ []) (sym (committed_is_journal g r.number steps))
+        ∙ sym (map-append placed (machine.committed g r.number steps) (commit_at g r change (length core.journal) ∷ [])) ∙ ap (map placed) (sym own_steps)
+        ∙ committed_is_journal g r.number (r.number ∷ steps) ∙ ap (λ (q : State). entries_of r.number 0 q.journal) (sym leads)
 
-      -- what was committed stays found
-      still : (p : Committed) → IsFoundAt g core p → IsFoundAt g new p
-      still p f = (f.0, IsWorldAt-append g.verdict g.world f.0 core.journal (e ∷ []) p.place f.1, f.2)
+    own_found : IsFoundAt g new (commit_at g r change place)
+    own_found = subst (IsFoundAt g new) (ap (commit_at g r change) (sym place_is)) (subst (λ (q : State). IsFoundAt g q (commit_at g r change (length core.journal))) (sym leads)
+        (All-contains (IsFoundAt g (next g r.number core)) (machine.committed g r.number steps ++ commit_at g r change (length core.journal) ∷ []) (commit_at g r change (length core.journal))
+        (subst (All (IsFoundAt g (next g r.number core))) own_steps (committed_is_shown g table.run r.number (r.number ∷ steps))) (Contains-push (machine.committed g r.number steps) (commit_at g r change (length core.journal)))))
 
-      -- another caller has the entries that it had
-      other_entries : (d : ℕ) → d ≢ c → entries_of d 0 new.journal ≡ entries_of d 0 core.journal
-      other_entries d apart =
-          ap (λ (q : State). entries_of d 0 q.journal) leads ∙ sym (committed_is_journal g d (c ∷ steps))
-          ∙ ap (λ b. map placed (if b then machine.committed g d steps ++ commit_by g d core (slice_get core.callers d) else machine.committed g d steps)) (ne_eqb c d (λ q. apart (sym q)))
-          ∙ committed_is_journal g d steps
+    mine_is : HasCommitted g new r.number (r.committed ++ commit_at g r change place ∷ []) None
+    mine_is = record {
+      entries = own_entries;
+      found = All-push (IsFoundAt g new) r.committed (commit_at g r change place) (All-weaker (IsFoundAt g core) (IsFoundAt g new) still r.committed (mine table).committed.found) own_found;
+      taken = λ h. none-some r.number h;
+    }
 
-      others : (q : Record) → q.number ≢ c → HasCommitted g core q.number q.committed q.taken → HasCommitted g new q.number q.committed q.taken
-      others q apart is = record {
-        entries = is.entries ∙ sym (other_entries q.number apart);
-        found = All-weaker (IsFoundAt g core) (IsFoundAt g new) still q.committed is.found;
-        taken = by q.taken is.taken;
-      }
-        where
-          by : (o : Option Kept) → HasTaken g core q.number o → HasTaken g new q.number o
-          by None t = λ h. none-some q.number h
-          by (Some v) t = absurd (apart (same_Some q.number c (sym t.0 ∙ has_taken.0)))
+    pub commit_goes : (slots : ℕ) → GoesOn verdict z s steps last seat (view_of z (r ∷ []), carried) (λ _. stored verdict (step slots last x 0 home.none) (view_of z (r ∷ []), carried) x) x
+    commit_goes slots = (
+      view_of z (with_commit g r change place ∷ []),
+      gives,
+      tt,
+      moved table new (with_commit g r change place) (set s.words last x) (put_back s.homes carried) leads refl callers words homes others mine_is (omega (arith, fewer, longer, table.stands.few)),
+      ((place, record { change = change; phase = to.phase; journal = to.journal; taken = to.taken; behind = refl; now = refl }), refl),
+    )
 
-      -- and the own caller one more
-      own_steps : machine.committed g c (c ∷ steps) ≡ machine.committed g c steps ++ commit_at g r change (length core.journal) ∷ []
-      own_steps =
-          ap (λ b. if b then machine.committed g c steps ++ commit_by g c core (slice_get core.callers c) else machine.committed g c steps) (eq-eqb c c refl)
-          ∙ ap (λ o. machine.committed g c steps ++ commit_by g c core o) at_c ∙ ap (λ p. machine.committed g c steps ++ commit_of g c core k p) to.phase
-
-      own_entries : map placed (r.committed ++ commit_at g r change place ∷ []) ≡ entries_of c 0 new.journal
-      own_entries =
-          map-append placed r.committed (commit_at g r change place ∷ []) ∙ (λ i. own_is.committed.entries i ++ (place_is i, e) ∷ [])
-          ∙ ap (λ ps. ps ++ (length core.journal, e) ∷ []) (sym (committed_is_journal g c steps))
-          ∙ sym (map-append placed (machine.committed g c steps) (commit_at g r change (length core.journal) ∷ [])) ∙ ap (map placed) (sym own_steps)
-          ∙ committed_is_journal g c (c ∷ steps) ∙ ap (λ (q : State). entries_of c 0 q.journal) (sym leads)
-
-      own_found : IsFoundAt g new (commit_at g r change place)
-      own_found = subst (IsFoundAt g new) (ap (commit_at g r change) (sym place_is)) (subst (λ (q : State). IsFoundAt g q (commit_at g r change (length core.journal))) (sym leads)
-          (All-contains (IsFoundAt g (next g c core)) (machine.committed g c steps ++ commit_at g r change (length core.journal) ∷ []) (commit_at g r change (length core.journal))
-          (subst (All (IsFoundAt g (next g c core))) own_steps (committed_is_shown g ok c (c ∷ steps))) (Contains-push (machine.committed g c steps) (commit_at g r change (length core.journal)))))
-
-      mine_is : HasCommitted g new c (r.committed ++ commit_at g r change place ∷ []) None
-      mine_is = record {
-        entries = own_entries;
-        found = All-push (IsFoundAt g new) r.committed (commit_at g r change place) (All-weaker (IsFoundAt g core) (IsFoundAt g new) still r.committed own_is.committed.found) own_found;
-        taken = λ h. none-some c h;
-      }
-
-      pub commit_goes : (slots : ℕ) → GoesOn verdict z s steps last seat (view_of z (r ∷ []), carried) (λ _. stored verdict (step slots last x 0 home.none) (view_of z (r ∷ []), carried) x) x
-      commit_goes slots = (
-        view_of z (with_commit g r change place ∷ []),
-        gives,
-        tt,
-        moved verdict z ok s steps st seat r there new (with_commit g r change place) (set s.words last x) (put_back s.homes carried) leads refl callers words homes others mine_is (omega (arith, fewer, longer, st.few)),
-        ((place, record { change = change; phase = to.phase; journal = to.journal; taken = to.taken; behind = refl; now = refl }), refl),
-      )
-
+module _ {D : Type 0} (verdict : D → Shown → Verdict) (z : Terms D) (ok : IsSetup (setup verdict z)) where
   pub commit_allowed : (slots seat : ℕ) (me : Seated D) (x : ℕ) → me.0 ≡ view_of z (own me.0 ∷ []) → IsToCommit verdict (cells z.world) x me → Allows (Holds verdict z) slots seat me (cells z.world) (λ _. x) (λ _. stored verdict (step slots (cells z.world) x 0 home.none) me x)
   commit_allowed slots seat me x one to =
-      allowed verdict z slots seat me (cells z.world) (λ _. x) (IsToCommit verdict (cells z.world) x) (λ m _. stored verdict (step slots (cells z.world) x 0 home.none) m x) one to
-      (λ s steps r st there fact. commit_goes s steps r st seat there x me.1 fact slots)
+      allowed verdict z ok slots seat me (cells z.world) (λ _. x) (IsToCommit verdict (cells z.world) x) (λ m _. stored verdict (step slots (cells z.world) x 0 home.none) m x) one to
+      (λ s steps r table fact. commit_goes table x me.1 fact slots)
 
 pub commit_is_next : {D : Type 0} (verdict : D → Shown → Verdict) (z : Terms D) → CommitIsNext verdict z
-commit_is_next verdict z s steps seat x slots r out is to = commit_goes verdict z is.run s steps r is.stands seat is.there x out to slots
+commit_is_next verdict z s steps seat x slots r out is to = commit_goes is x out to slots

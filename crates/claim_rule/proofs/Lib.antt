@@ -1,6 +1,7 @@
 pub mod Tables
 pub mod Moves
 pub mod Allowing
+pub mod Asking
 pub mod Claims
 pub mod Releases
 pub mod Shows

@@ -3,7 +3,6 @@ use Rattle.std.proofs.Common.{◌≡◌, ℕ, zero, suc, ◌+◌, ◌*◌, ◌/�
 use Rattle.std.specs.Prelude.{slice_get, slice_index}
 use Rattle.std.proofs.lemmas.Option.{none-some, same_Some}
 use mathlib.Core.Option as home
-use lib.ListN.{get_elem?}
 use Rattle.atomic_table.specs.Table.{step, keeps, Allows}
 use Rattle.amoebot_state.specs.declared.verdict.Verdict.{Verdict}
 use Rattle.amoebot_state.specs.Zones.{Shown}
@@ -19,11 +18,11 @@ use Rattle.claim_rule.specs.declared.views.Slot.{Slot}
 use Rattle.claim_rule.specs.declared.views.Record.{Record}
 use Rattle.claim_rule.specs.declared.views.Terms.{Terms}
 use Rattle.claim_rule.specs.Views.{Content, Seated, view_of, own, setup, cells}
-use Rattle.claim_rule.specs.Stands.{is_held, turns_left, AreWords, AreHomes, Stands, Holds}
+use Rattle.claim_rule.specs.Stands.{is_held, turns_left, AreWords, AreHomes, Holds}
 use Rattle.claim_rule.specs.Plays.{Reads, mark_at, marked_at, read}
-use Rattle.claim_rule.specs.Nexts.{GoesOn, LookIsNext}
-use Rattle.claim_rule.proofs.Tables.{words_written, homes_kept}
-use Rattle.claim_rule.proofs.Moves.{mine, moves, journal_stays}
+use Rattle.claim_rule.specs.Nexts.{GoesOn, IsAt, LookIsNext}
+use Rattle.claim_rule.proofs.Tables.{journal_written, homes_kept}
+use Rattle.claim_rule.proofs.Moves.{caller_at, moves, journal_stays}
 use Rattle.claim_rule.proofs.Allowing.{allowed}
 
 -- half of the journal's word is its length
@@ -37,73 +36,64 @@ turns_fewer turns [] c k k' e more = absurd (none-some k e)
 turns_fewer turns (x ∷ ks) zero k k' e more = let same = ap (λ (j : Caller). length j.marks) (same_Some x k e) in omega (arith, same, more)
 turns_fewer turns (x ∷ ks) (suc c) k k' e more = let ih = turns_fewer turns ks c k k' e more in omega (arith, ih)
 
-module _ {D : Type 0} (verdict : D → Shown → Verdict) (z : Terms D) (ok : IsSetup (setup verdict z)) where
+-- the step of a caller in these phases
+looks_so : (g : Setup) (s : State) (c : ℕ) (k : Caller) (p : Phase) → Reads p → by_phase g c s k p ≡ looks g c s k (mark_at p (length s.journal))
+looks_so g s c k Claim reads = absurd reads
+looks_so g s c k (Refusing n t) reads = refl
+looks_so g s c k (Looking l) reads = refl
+looks_so g s c k (Taking change) reads = absurd reads
+looks_so g s c k (Committing change) reads = absurd reads
+looks_so g s c k Releasing reads = absurd reads
+looks_so g s c k Ended reads = absurd reads
+
+module _ {D : Type 0} {verdict : D → Shown → Verdict} {z : Terms D} {s : Content D} {steps : List ℕ} {seat : ℕ} {r : Record} (table : IsAt verdict z s steps seat r) where
   abbrev g : Setup
   g = setup verdict z
 
-  -- the step of a caller in these phases
-  looks_so : (s : State) (c : ℕ) (k : Caller) (p : Phase) → Reads p → by_phase g c s k p ≡ looks g c s k (mark_at p (length s.journal))
-  looks_so s c k Claim reads = absurd reads
-  looks_so s c k (Refusing n t) reads = refl
-  looks_so s c k (Looking l) reads = refl
-  looks_so s c k (Taking change) reads = absurd reads
-  looks_so s c k (Committing change) reads = absurd reads
-  looks_so s c k Releasing reads = absurd reads
-  looks_so s c k Ended reads = absurd reads
+  abbrev core : State
+  core = after g steps
 
-  module _ (s : Content D) (steps : List ℕ) (r : Record) (st : Stands verdict z s (after g steps)) (seat : ℕ) (there : get_elem? s.views seat ≡ home.some (view_of z (r ∷ []))) where
-    abbrev core : State
-    core = after g steps
+  abbrev last : ℕ
+  last = cells z.world
 
-    abbrev c : ℕ
-    c = r.number
+  pub look_goes : (slots : ℕ) (carried : List (ℕ × Slot)) → Reads r.caller.phase → GoesOn verdict z s steps last seat (view_of z (r ∷ []), carried) (read verdict (step slots last 0 0 home.none) (view_of z (r ∷ []), carried)) (slice_index s.words last)
+  look_goes slots carried reads = (
+    view_of z (record r { caller = k' } ∷ []),
+    keeps,
+    tt,
+    moves table new k' (set s.words last (slice_index s.words last)) s.homes leads refl refl refl fewer words homes,
+    (ap (λ n. view_of z (record r { caller = marked_at g r.caller n } ∷ [])) (sym length_is), refl, omega (arith, table.stands.few, length_is)),
+  )
+    where
+      length_is : slice_index s.words last / 2 ≡ length core.journal
+      length_is = ap (λ n. n / 2) table.stands.words.journal ∙ half (length core.journal) core.holder
 
-    abbrev k : Caller
-    k = r.caller
+      k' : Caller
+      k' = marked_at g r.caller (length core.journal)
 
-    at_c : slice_get core.callers c ≡ Some k
-    at_c = (mine verdict z ok s steps st seat r there).caller
+      new : State
+      new = looks g r.number core r.caller (mark_at r.caller.phase (length core.journal))
 
-    abbrev last : ℕ
-    last = cells z.world
+      leads : new ≡ next g r.number core
+      leads = sym (ap (acts g r.number core) (caller_at table) ∙ looks_so g core r.number r.caller r.caller.phase reads)
 
-    pub look_goes : (slots : ℕ) (carried : List (ℕ × Slot)) → Reads k.phase → GoesOn verdict z s steps last seat (view_of z (r ∷ []), carried) (read verdict (step slots last 0 0 home.none) (view_of z (r ∷ []), carried)) (slice_index s.words last)
-    look_goes slots carried reads = (
-      view_of z (record r { caller = k' } ∷ []),
-      keeps,
-      tt,
-      moves verdict z ok s steps st seat r there new k' (set s.words last (slice_index s.words last)) s.homes leads refl refl refl fewer words homes,
-      (ap (λ n. view_of z (record r { caller = marked_at g k n } ∷ [])) (sym length_is), refl, omega (arith, st.few, length_is)),
-    )
-      where
-        length_is : slice_index s.words last / 2 ≡ length core.journal
-        length_is = ap (λ n. n / 2) st.words.journal ∙ half (length core.journal) core.holder
+      more : length r.caller.marks ≤ length k'.marks
+      more = let one = length-append r.caller.marks (mark_at r.caller.phase (length core.journal) ∷ []) in let same = ap (λ (ms : List Mark). length ms) (frees-marks g r.caller.turn r.caller.held (r.caller.marks ++ mark_at r.caller.phase (length core.journal) ∷ [])) in omega (arith, one, same)
 
-        k' : Caller
-        k' = marked_at g k (length core.journal)
+      fewer : turns_left g new ≤ turns_left g core
+      fewer = turns_fewer g.lists.turns core.callers r.number r.caller k' (caller_at table) more
 
-        new : State
-        new = looks g c core k (mark_at k.phase (length core.journal))
+      words : AreWords g new (set s.words last (slice_index s.words last))
+      words = journal_written g core new s.words (slice_index s.words last) table.stands.words refl table.stands.words.journal
 
-        leads : new ≡ next g c core
-        leads = sym (ap (acts g c core) at_c ∙ looks_so core c k k.phase reads)
+      homes : AreHomes g new s.homes
+      homes = homes_kept g core new s.homes s.homes table.stands.homes refl table.stands.homes.cell refl refl (journal_stays g core new refl fewer)
 
-        more : length k.marks ≤ length k'.marks
-        more = let one = length-append k.marks (mark_at k.phase (length core.journal) ∷ []) in let same = ap (λ (ms : List Mark). length ms) (frees-marks g k.turn k.held (k.marks ++ mark_at k.phase (length core.journal) ∷ [])) in omega (arith, one, same)
-
-        fewer : turns_left g new ≤ turns_left g core
-        fewer = turns_fewer g.lists.turns core.callers c k k' at_c more
-
-        words : AreWords g new (set s.words last (slice_index s.words last))
-        words = words_written g core new s.words last (slice_index s.words last) st.words (omega arith) (λ lt. absurd (omega (arith, lt))) (λ e. st.words.journal) (λ j ne lt. refl) (λ _. refl)
-
-        homes : AreHomes g new s.homes
-        homes = homes_kept g core new s.homes s.homes st.homes refl st.homes.cell refl refl (journal_stays g core new refl fewer)
-
+module _ {D : Type 0} (verdict : D → Shown → Verdict) (z : Terms D) (ok : IsSetup (setup verdict z)) where
   pub look_allowed : (slots seat : ℕ) (me : Seated D) → me.0 ≡ view_of z (own me.0 ∷ []) → Reads (own me.0).caller.phase → Allows (Holds verdict z) slots seat me (cells z.world) (λ x. x) (read verdict (step slots (cells z.world) 0 0 home.none) me)
   look_allowed slots seat me one reads =
-      allowed verdict z slots seat me (cells z.world) (λ x. x) (λ m. Reads (own m.0).caller.phase) (read verdict (step slots (cells z.world) 0 0 home.none)) one reads
-      (λ s steps r st there fact. look_goes s steps r st seat there slots me.1 fact)
+      allowed verdict z ok slots seat me (cells z.world) (λ x. x) (λ m. Reads (own m.0).caller.phase) (read verdict (step slots (cells z.world) 0 0 home.none)) one reads
+      (λ s steps r table fact. look_goes table slots me.1 fact)
 
 pub look_is_next : {D : Type 0} (verdict : D → Shown → Verdict) (z : Terms D) → LookIsNext verdict z
-look_is_next verdict z s steps seat slots r out is reads = look_goes verdict z is.run s steps r is.stands seat is.there slots out reads
+look_is_next verdict z s steps seat slots r out is reads = look_goes is slots out reads

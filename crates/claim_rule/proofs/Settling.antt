@@ -1,6 +1,5 @@
 -- What a caller keeps that takes the journal, and that commits.
-use Rattle.std.proofs.Common.{◌≡◌, ℕ, ◌+◌, ◌*◌, ◌<◌, List, [], ◌∷◌, ◌++◌, map, reverse, length, ap, sym, refl, subst, ◌∙◌, arith, length-append}
-use mathlib.Core.List.{reverse_aux}
+use Rattle.std.proofs.Common.{◌≡◌, ℕ, ◌+◌, ◌*◌, ◌<◌, List, [], ◌∷◌, ◌++◌, map, length, ap, sym, refl, subst, ◌∙◌, arith, length-append}
 use Rattle.std.proofs.lemmas.List.{length-map}
 use Rattle.std.proofs.lemmas.List.Elements.{All-map}
 use Rattle.std.proofs.lemmas.Option.{same_Some}
@@ -30,7 +29,7 @@ use Rattle.claim_rule.specs.Plays.{IsPlaced, about}
 use Rattle.claim_rule.specs.Commits.{HasRoom, GotJournal, IsPushed, IsToCommit, Commits, with_journal, with_commit}
 use Rattle.claim_rule.specs.Tokens.{emptied, IsActivation, IsWhole, IsFreeing}
 use Rattle.claim_rule.specs.Settling.{untaken, IsTaken}
-use Rattle.claim_rule.proofs.Activating.{stays, whole_some}
+use Rattle.claim_rule.proofs.Activating.{with_held, stays, whole_some}
 
 -- the change of a phase, and the journal of the slot that was taken last
 abbrev change_or : Change → Phase → Change
@@ -44,14 +43,7 @@ journal_or d ((i, slot.Empty) ∷ out) = d
 journal_or d ((i, slot.Cell x) ∷ out) = d
 journal_or d ((i, slot.Journal j) ∷ out) = j
 
--- new values leave the cells, in either order
-renewed_aux : (patch xs ys : Pairs) → map (renewed patch) (reverse_aux xs ys) ≡ reverse_aux (map (renewed patch) xs) (map (renewed patch) ys)
-renewed_aux patch [] ys = refl
-renewed_aux patch (x ∷ xs) ys = renewed_aux patch xs (x ∷ ys)
-
-pub renewed_reversed : (patch xs : Pairs) → reverse (map (renewed patch) xs) ≡ map (renewed patch) (reverse xs)
-renewed_reversed patch xs = sym (renewed_aux patch xs [])
-
+-- new values leave the cells
 emptied_renewed : (a : Extent) (patch xs : Pairs) → map (emptied a) (map (renewed patch) xs) ≡ map (emptied a) xs
 emptied_renewed a patch [] = refl
 emptied_renewed a patch (x ∷ xs) = ap (λ out. emptied a x ∷ out) (emptied_renewed a patch xs)
@@ -157,20 +149,8 @@ module _ {D : Type 0} (verdict : D → Shown → Verdict) (m : Seated D) (c t b 
         some = let one = whole_some g b pairs tk.whole in omega (arith, one, length-map pairs (renewed change.patch))
 
         after : IsActivation verdict (like m.0 (r ∷ []), rest m.1) c t b a greatest ps
-        after = record {
-          alone = refl;
-          run = tk.activation.run;
-          number = tk.activation.number;
-          listed = tk.activation.listed;
-          turn = tk.activation.turn;
-          bot = tk.activation.bot;
-          taken = refl;
-          area = tk.activation.area;
-          maxes = tk.activation.maxes;
-          held = ap (λ (q : Caller). q.held) k_is ∙ frees-held g t ps ms;
-          placed = All-map (λ (p : CellName × Cell). (n : ℕ) × IsPlaced g (cell_of p) n) (renewed change.patch) pairs tk.activation.placed;
-          out = tk.activation.out ∙ sym (emptied_renewed a change.patch pairs);
-        }
+        after = with_held verdict (untaken m) c t b a greatest pairs tk.activation r (rest m.1) ps tk.activation.number refl (ap (λ (q : Caller). q.held) k_is ∙ frees-held g t ps ms)
+            (All-map (λ (p : CellName × Cell). (n : ℕ) × IsPlaced g (cell_of p) n) (renewed change.patch) pairs tk.activation.placed) (tk.activation.out ∙ sym (emptied_renewed a change.patch pairs))
 
         freeing : IsFreeing verdict (like m.0 (r ∷ []), rest m.1) t ps
         freeing = k_is ∙ ap (frees g t ps) (sym (ap (λ (q : Caller). q.marks) k_is ∙ frees-marks g t ps ms))

@@ -1,6 +1,6 @@
 -- Words, slots and views after one of them has changed.
 use Rattle.std.proofs.Common.{◌≡◌, ◌≢◌, ℕ, zero, suc, ◌+◌, ◌<◌, ◌⊎◌, List, [], ◌∷◌, length, set, get_or, length-set, Some, inl, inr, ap, sym, refl, subst, ◌∙◌, arith}
-use Rattle.std.specs.Prelude.{slice_get}
+use Rattle.std.specs.Prelude.{slice_get, slice_index}
 use Rattle.std.proofs.lemmas.Bool.{cases_eq}
 use Rattle.std.proofs.lemmas.List.{get_or-set_same, get_or-set_other}
 use Rattle.std.proofs.lemmas.Option.{none-some, same_Some}
@@ -42,6 +42,17 @@ module _ (g : Setup) where
     where
       within : i < length words
       within = omega (arith, is.count, inside)
+
+  -- the words where a cell has another tag
+  pub tag_written : (old new : State) (words : List ℕ) (i t : ℕ) → AreWords g old words → i < cells g.world → i < length old.tags → new.tags ≡ set old.tags i t → journal_word new ≡ journal_word old → AreWords g new (set words i t)
+  tag_written old new words i t is inside within tags same = words_written old new words i t is (omega (arith, inside))
+      (λ lt. sym (ap (λ ts. slice_index ts i) tags ∙ get_or-set_same old.tags i t 0 within)) (λ e. absurd (omega (arith, e, inside)))
+      (λ k ne lt. ap (λ ts. slice_index ts k) tags ∙ get_or-set_other old.tags i k t 0 ne) (λ _. same)
+
+  -- and where the tags are as before
+  pub journal_written : (old new : State) (words : List ℕ) (x : ℕ) → AreWords g old words → new.tags ≡ old.tags → x ≡ journal_word new → AreWords g new (set words (cells g.world) x)
+  journal_written old new words x is tags same = words_written old new words (cells g.world) x is (omega arith)
+      (λ lt. absurd (omega (arith, lt))) (λ _. same) (λ k ne lt. ap (λ ts. slice_index ts k) tags) (λ ne. absurd (ne refl))
 
   -- the slots, where the state has the same journal and what is at home there is told
   pub homes_kept : (old new : State) (homes later : List (home.Option Slot)) → AreHomes g old homes → length later ≡ length homes

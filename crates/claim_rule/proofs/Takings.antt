@@ -1,10 +1,10 @@
 -- A try to take the journal keeps the rule, and tells whether it was got.
 use Rattle.std.proofs.Common.{◌≡◌, ◌≢◌, ℕ, ◌+◌, ◌*◌, ◌%◌, ◌^◌, ◌<◌, ◌≤◌, List, [], ◌∷◌, length, set, length-set, bit_or, Option, Some, None, ap, sym, refl, subst, ◌∙◌, arith, suc-ne-zero}
-use Rattle.std.specs.Prelude.{slice_get, slice_index}
+use Rattle.std.specs.Prelude.{slice_index}
 use Rattle.std.specs.Int.Bits.{or_zero_r}
 use Rattle.std.proofs.lemmas.Nat.{or_block}
 use Rattle.std.proofs.lemmas.List.{set-set}
-use Rattle.std.proofs.lemmas.Option.{none-some, same_Some, slice_get_within}
+use Rattle.std.proofs.lemmas.Option.{none-some, same_Some}
 use mathlib.Core.Option as home
 use lib.ListN.{get_elem?}
 use Rattle.atomic_table.specs.Table.{step, keeps, takes, Allows}
@@ -12,24 +12,22 @@ use Rattle.atomic_table.proofs.Lists.{set_else}
 use Rattle.amoebot_state.specs.declared.verdict.Change.{Change}
 use Rattle.amoebot_state.specs.declared.verdict.Verdict.{Verdict}
 use Rattle.amoebot_state.specs.Zones.{Shown}
-use Rattle.claim_core.specs.declared.state.Caller.{Caller}
 use Rattle.claim_core.specs.declared.state.Phase.TheVariants.{Taking, Committing}
 use Rattle.claim_core.specs.Turns.{Kept}
 use Rattle.claim_core.specs.Machine.{Setup, State, by_phase, acts, next, after}
 use Rattle.claim_core.specs.Machine as machine
-use Rattle.claim_core.specs.Soundness.{IsSetup, IsTurn, marked, Sound}
-use Rattle.claim_core.proofs.Sounds.{always}
+use Rattle.claim_core.specs.Soundness.{IsSetup, IsTurn, marked}
 use Rattle.claim_rule.specs.declared.views.Slot.{Slot}
 use Rattle.claim_rule.specs.declared.views.Slot.TheVariants as slot
 use Rattle.claim_rule.specs.declared.views.Record.{Record}
 use Rattle.claim_rule.specs.declared.views.Terms.{Terms}
 use Rattle.claim_rule.specs.Views.{Content, Seated, view_of, own, setup, cells}
-use Rattle.claim_rule.specs.Stands.{is_held, turns_left, IsJournal, HasTaken, HasCommitted, IsRecord, AreWords, AreHomes, Stands, Holds}
+use Rattle.claim_rule.specs.Stands.{is_held, turns_left, IsJournal, HasCommitted, AreWords, AreHomes, Holds}
 use Rattle.claim_rule.specs.Commits.{Takes, HasRoom, with_journal, took}
-use Rattle.claim_rule.specs.Nexts.{GoesOn, TakeIsNext}
-use Rattle.claim_rule.proofs.Tables.{words_written}
-use Rattle.claim_rule.proofs.Moves.{mine, moved, moves, journal_stays}
-use Rattle.claim_rule.proofs.Allowing.{turns_same, tags_count, allowed}
+use Rattle.claim_rule.specs.Nexts.{GoesOn, IsAt, TakeIsNext}
+use Rattle.claim_rule.proofs.Tables.{journal_written}
+use Rattle.claim_rule.proofs.Moves.{sound, mine, caller_at, not_last, moved, moves, taken_else, journal_stays}
+use Rattle.claim_rule.proofs.Allowing.{turns_same, allowed}
 use Rattle.claim_rule.proofs.Giving.{set_back}
 use Rattle.claim_rule.proofs.Marking.{some_left}
 
@@ -49,131 +47,111 @@ made_odd n o = by o (or_block 1 n 0 (is_held o) 1 (small o) (omega arith))
     by None e = ap (λ (x : ℕ). bit_or x 1) (let q : 2 * n + 0 ≡ n * 2 ^ 1 + 0 = omega arith in q) ∙ (e ∙ (ap (λ (m : ℕ). m * 2 ^ 1 + 1) (or_zero_r n) ∙ (let q : n * 2 ^ 1 + 1 ≡ 2 * n + 1 = omega arith in q)))
     by (Some c) e = ap (λ (x : ℕ). bit_or x 1) (let q : 2 * n + 1 ≡ n * 2 ^ 1 + 1 = omega arith in q) ∙ (e ∙ (ap (λ (m : ℕ). m * 2 ^ 1 + 1) (or_zero_r n) ∙ (let q : n * 2 ^ 1 + 1 ≡ 2 * n + 1 = omega arith in q)))
 
-module _ {D : Type 0} (verdict : D → Shown → Verdict) (z : Terms D) (ok : IsSetup (setup verdict z)) where
+module _ {D : Type 0} {verdict : D → Shown → Verdict} {z : Terms D} {s : Content D} {steps : List ℕ} {seat : ℕ} {r : Record} (table : IsAt verdict z s steps seat r) where
   abbrev g : Setup
   g = setup verdict z
 
-  module _ (s : Content D) (steps : List ℕ) (r : Record) (st : Stands verdict z s (after g steps)) (seat : ℕ) (there : get_elem? s.views seat ≡ home.some (view_of z (r ∷ []))) where
-    abbrev core : State
-    core = after g steps
+  abbrev core : State
+  core = after g steps
 
-    abbrev c : ℕ
-    c = r.number
+  abbrev last : ℕ
+  last = cells z.world
 
-    abbrev k : Caller
-    k = r.caller
+  abbrev old : ℕ
+  old = slice_index s.words last
 
-    abbrev last : ℕ
-    last = cells z.world
+  abbrev Goes : Type 0
+  Goes = (slots : ℕ) (carried : List (ℕ × Slot)) → GoesOn verdict z s steps last seat (view_of z (r ∷ []), carried) (took (step slots last 1 0 home.none) (view_of z (r ∷ []), carried)) (bit_or old 1)
 
-    abbrev old : ℕ
-    old = slice_index s.words last
+  module _ (change : Change) (p : r.caller.phase ≡ Taking change) where
+    leads_by : (o : Option ℕ) → core.holder ≡ o → next g r.number core ≡ machine.takes g r.number core r.caller change o
+    leads_by o e = ap (acts g r.number core) (caller_at table) ∙ ap (by_phase g r.number core r.caller) p ∙ ap (machine.takes g r.number core r.caller change) e
 
-    own_is : IsRecord g core r
-    own_is = mine verdict z ok s steps st seat r there
+    word_is : (o : Option ℕ) → core.holder ≡ o → old ≡ 2 * length core.journal + is_held o
+    word_is o e = table.stands.words.journal ∙ ap (λ (x : Option ℕ). 2 * length core.journal + is_held x) e
 
-    at_c : slice_get core.callers c ≡ Some k
-    at_c = own_is.caller
+    -- another caller has it
+    misses : (d : ℕ) → core.holder ≡ Some d → Goes
+    misses d e slots carried = (
+      view_of z (r ∷ []),
+      keeps,
+      tt,
+      moves table core r.caller (set s.words last (bit_or old 1)) s.homes (sym (leads_by (Some d) e)) same_callers refl refl (omega arith) words table.stands.homes,
+      ((λ even. absurd (suc-ne-zero 0 (sym (ap (λ x. x % 2) (word_is (Some d) e) ∙ odd (length core.journal) (Some d)) ∙ even))), λ _. refl),
+    )
+      where
+        same_callers : core.callers ≡ set core.callers r.number r.caller
+        same_callers = sym (set_back core.callers r.number r.caller r.caller (caller_at table)) ∙ set-set core.callers r.number r.caller r.caller
 
-    abbrev Goes : Type 0
-    Goes = (slots : ℕ) (carried : List (ℕ × Slot)) → GoesOn verdict z s steps last seat (view_of z (r ∷ []), carried) (took (step slots last 1 0 home.none) (view_of z (r ∷ []), carried)) (bit_or old 1)
+        word_stays : bit_or old 1 ≡ old
+        word_stays = ap (λ x. bit_or x 1) (word_is (Some d) e) ∙ made_odd (length core.journal) (Some d) ∙ sym (word_is (Some d) e)
 
-    module _ (change : Change) (p : k.phase ≡ Taking change) where
-      leads_by : (o : Option ℕ) → core.holder ≡ o → next g c core ≡ machine.takes g c core k change o
-      leads_by o e = ap (acts g c core) at_c ∙ ap (by_phase g c core k) p ∙ ap (machine.takes g c core k change) e
+        words : AreWords g core (set s.words last (bit_or old 1))
+        words = journal_written g core core s.words (bit_or old 1) table.stands.words refl (word_stays ∙ table.stands.words.journal)
 
-      word_is : (o : Option ℕ) → core.holder ≡ o → old ≡ 2 * length core.journal + is_held o
-      word_is o e = st.words.journal ∙ ap (λ (x : Option ℕ). 2 * length core.journal + is_held x) e
+    -- nobody has it
+    hits : core.holder ≡ None → Goes
+    hits e slots carried = (
+      view_of z (with_journal r change j ∷ []),
+      takes last (slot.Journal j),
+      has.1,
+      moved table new (with_journal r change j) (set s.words last (bit_or old 1)) (set s.homes last home.none) (sym (leads_by None e)) refl refl words homes others mine_is few,
+      ((λ _. record { change = change; phase = p; journal = j; room = room; now = refl; out = refl }), λ ne. absurd (ne (ap (λ x. x % 2) (word_is None e) ∙ odd (length core.journal) None))),
+    )
+      where
+        has : (v : Kept) × (get_elem? s.homes last ≡ home.some (home.some (slot.Journal v))) × IsJournal g core v
+        has = table.stands.homes.journal e
 
-      -- another caller has it
-      misses : (d : ℕ) → core.holder ≡ Some d → Goes
-      misses d e slots carried = (
-        view_of z (r ∷ []),
-        keeps,
-        tt,
-        moves verdict z ok s steps st seat r there core k (set s.words last (bit_or old 1)) s.homes (sym (leads_by (Some d) e)) same_callers refl refl (omega arith) words st.homes,
-        ((λ even. absurd (suc-ne-zero 0 (sym (ap (λ x. x % 2) (word_is (Some d) e) ∙ odd (length core.journal) (Some d)) ∙ even))), λ _. refl),
-      )
-        where
-          same_callers : core.callers ≡ set core.callers c k
-          same_callers = sym (set_back core.callers c k k at_c) ∙ set-set core.callers c k k
+        j : Kept
+        j = has.0
 
-          word_stays : bit_or old 1 ≡ old
-          word_stays = ap (λ x. bit_or x 1) (word_is (Some d) e) ∙ made_odd (length core.journal) (Some d) ∙ sym (word_is (Some d) e)
+        new : State
+        new = machine.takes g r.number core r.caller change None
 
-          words : AreWords g core (set s.words last (bit_or old 1))
-          words = words_written g core core s.words last (bit_or old 1) st.words (omega arith) (λ lt. absurd (omega (arith, lt))) (λ _. word_stays ∙ st.words.journal) (λ j ne lt. refl) (λ _. refl)
+        fewer : turns_left g new ≤ turns_left g core
+        fewer = turns_same g core new r.number r.caller (record r.caller { phase = Committing change }) (caller_at table) refl refl
 
-      -- nobody has it
-      hits : core.holder ≡ None → Goes
-      hits e slots carried = (
-        view_of z (with_journal r change j ∷ []),
-        takes last (slot.Journal j),
-        has.1,
-        moved verdict z ok s steps st seat r there new (with_journal r change j) (set s.words last (bit_or old 1)) (set s.homes last home.none) (sym (leads_by None e)) refl refl words homes others mine_is few,
-        ((λ _. record { change = change; phase = p; journal = j; room = room; now = refl; out = refl }), λ ne. absurd (ne (ap (λ x. x % 2) (word_is None e) ∙ odd (length core.journal) None))),
-      )
-        where
-          has : (v : Kept) × (get_elem? s.homes last ≡ home.some (home.some (slot.Journal v))) × IsJournal g core v
-          has = st.homes.journal e
+        left : 0 < turns_left g core
+        left =
+            let is = (sound table).each r.number r.caller (caller_at table) in
+            let turn = subst (λ q. IsTurn g.lists.turns q r.caller.turn) p is.turn in
+            let counted = is.counted ∙ ap (λ q. marked q r.caller.turn) p in
+            some_left g.lists.turns core.callers r.number r.caller (caller_at table) (omega (arith, turn, counted))
 
-          j : Kept
-          j = has.0
+        room : HasRoom j
+        room = record { some = omega (arith, left, has.2.room); few = omega (arith, left, table.stands.few, ap (λ (es : List _). length es) has.2.entries) }
 
-          new : State
-          new = machine.takes g c core k change None
+        words : AreWords g new (set s.words last (bit_or old 1))
+        words = journal_written g core new s.words (bit_or old 1) table.stands.words refl (ap (λ x. bit_or x 1) (word_is None e) ∙ made_odd (length core.journal) None)
 
-          fewer : turns_left g new ≤ turns_left g core
-          fewer = turns_same g core new c k (record k { phase = Committing change }) at_c refl refl
+        homes : AreHomes g new (set s.homes last home.none)
+        homes = record {
+          count = length-set s.homes last home.none ∙ table.stands.homes.count;
+          cell = λ i x free value. set_else s.homes last i home.none (not_last table i 0 free) ∙ table.stands.homes.cell i x free value;
+          journal = λ none. absurd (none-some r.number (sym none));
+        }
 
-          sound : Sound g core
-          sound = always g ok steps
+        others : (q : Record) → q.number ≢ r.number → HasCommitted g core q.number q.committed q.taken → HasCommitted g new q.number q.committed q.taken
+        others q apart is = record { entries = is.entries; found = is.found; taken = taken_else g core new q.number q.taken (λ h. none-some q.number (sym e ∙ h)) (λ h. apart (sym (same_Some r.number q.number h))) is.taken }
 
-          left : 0 < turns_left g core
-          left =
-              let is = sound.each c k at_c in
-              let turn = subst (λ q. IsTurn g.lists.turns q k.turn) p is.turn in
-              let counted = is.counted ∙ ap (λ q. marked q k.turn) p in
-              some_left g.lists.turns core.callers c k at_c (omega (arith, turn, counted))
+        mine_is : HasCommitted g new r.number r.committed (Some j)
+        mine_is = record { entries = (mine table).committed.entries; found = (mine table).committed.found; taken = (refl, journal_stays g core new refl fewer j has.2) }
 
-          room : HasRoom j
-          room = record { some = omega (arith, left, has.2.room); few = omega (arith, left, st.few, ap (λ (es : List _). length es) has.2.entries) }
+        few : length new.journal + turns_left g new ≤ 65536
+        few = omega (arith, fewer, table.stands.few)
 
-          words : AreWords g new (set s.words last (bit_or old 1))
-          words = words_written g core new s.words last (bit_or old 1) st.words (omega arith) (λ lt. absurd (omega (arith, lt)))
-              (λ _. ap (λ x. bit_or x 1) (word_is None e) ∙ made_odd (length core.journal) None) (λ i ne lt. refl) (λ ne. absurd (ne refl))
+    by_holder : (o : Option ℕ) → core.holder ≡ o → Goes
+    by_holder None e = hits e
+    by_holder (Some d) e = misses d e
 
-          homes : AreHomes g new (set s.homes last home.none)
-          homes = record {
-            count = length-set s.homes last home.none ∙ st.homes.count;
-            cell = λ i x free value. set_else s.homes last i home.none (λ q. omega (arith, q, slice_get_within core.tags i 0 free, (tags_count g ok core sound).0)) ∙ st.homes.cell i x free value;
-            journal = λ none. absurd (none-some c (sym none));
-          }
+  pub take_goes : Takes r.caller.phase → Goes
+  take_goes to = by_holder to.0 to.1 core.holder refl
 
-          others : (q : Record) → q.number ≢ c → HasCommitted g core q.number q.committed q.taken → HasCommitted g new q.number q.committed q.taken
-          others q apart is = record { entries = is.entries; found = is.found; taken = by q.taken is.taken }
-            where
-              by : (o : Option Kept) → HasTaken g core q.number o → HasTaken g new q.number o
-              by None t = λ h. apart (sym (same_Some c q.number h))
-              by (Some v) t = absurd (none-some q.number (sym e ∙ t.0))
-
-          mine_is : HasCommitted g new c r.committed (Some j)
-          mine_is = record { entries = own_is.committed.entries; found = own_is.committed.found; taken = (refl, journal_stays g core new refl fewer j has.2) }
-
-          few : length new.journal + turns_left g new ≤ 65536
-          few = omega (arith, fewer, st.few)
-
-      by_holder : (o : Option ℕ) → core.holder ≡ o → Goes
-      by_holder None e = hits e
-      by_holder (Some d) e = misses d e
-
-    pub take_goes : Takes k.phase → Goes
-    take_goes to = by_holder to.0 to.1 core.holder refl
-
+module _ {D : Type 0} (verdict : D → Shown → Verdict) (z : Terms D) (ok : IsSetup (setup verdict z)) where
   pub take_allowed : (slots seat : ℕ) (me : Seated D) → me.0 ≡ view_of z (own me.0 ∷ []) → Takes (own me.0).caller.phase → Allows (Holds verdict z) slots seat me (cells z.world) (λ x. bit_or x 1) (took (step slots (cells z.world) 1 0 home.none) me)
   take_allowed slots seat me one to =
-      allowed verdict z slots seat me (cells z.world) (λ x. bit_or x 1) (λ m. Takes (own m.0).caller.phase) (took (step slots (cells z.world) 1 0 home.none)) one to
-      (λ s steps r st there fact. take_goes s steps r st seat there fact slots me.1)
+      allowed verdict z ok slots seat me (cells z.world) (λ x. bit_or x 1) (λ m. Takes (own m.0).caller.phase) (took (step slots (cells z.world) 1 0 home.none)) one to
+      (λ s steps r table fact. take_goes table fact slots me.1)
 
 pub take_is_next : {D : Type 0} (verdict : D → Shown → Verdict) (z : Terms D) → TakeIsNext verdict z
-take_is_next verdict z s steps seat slots r out is to = take_goes verdict z is.run s steps r is.stands seat is.there to slots out
+take_is_next verdict z s steps seat slots r out is to = take_goes is to slots out

@@ -1,11 +1,10 @@
-use Rattle.std.proofs.Common.{◌≡◌, ◌<◌, ◌∷◌, [], ap, sym, subst, ◌∙◌}
 use Rattle.atomic_table.specs.Table.{step, Allows}
 use mathlib.Core.Option.{none}
-use Rattle.claim_rule.specs.Tokens.{FieldOf}
-use Rattle.claim_rule.specs.Views.{own, view_of, terms_of, cells}
+use Rattle.claim_rule.specs.Views.{terms_of}
 use Rattle.claim_rule.specs.Stands.{Holds}
 use Rattle.claim_rule.specs.Plays.{read}
 use Rattle.claim_rule.proofs.Looks.{look_allowed}
+use Rattle.claim_rule.proofs.Asking.{alone_of, on_journal}
 use Rattle.claim_rule.proofs.field.Field.read.Goals as goal
 
 pub load-requires : goal.load-requires
@@ -13,10 +12,6 @@ load-requires g c =
     let me = c.args.seat.now.me in
     let slots = c.self.inside.table.shared.table_id.slots in
     let z = terms_of c.self.inside.table.shared.key.decider.now c.self.inside.table.shared.key.world c.self.inside.table.shared.key.lists.now in
-    let alone = c.requires.alone ∙ ap (λ (f : FieldOf _). view_of f.terms (own me.0 ∷ [])) (sym c.self.view_is) in
-    let number : c.journal_number-journal.result ≡ cells z.world = c.journal_number-journal.ensures.number ∙ ap (λ (f : FieldOf _). cells f.terms.world) (sym c.self.view_is) in (
-      c.requires.table ∙ ap (λ (f : FieldOf _). f.table) (sym c.self.view_is),
-      subst (λ (f : FieldOf _). c.journal_number-journal.result < f.table.words) (sym c.self.view_is) c.journal_number-journal.ensures.word,
-      subst (λ w. Allows (Holds g.D.Decider.verdict z) slots c.args.seat.now.id me w (λ x. x) (read g.D.Decider.verdict (step slots w 0 0 none) me)) (sym number)
-          (look_allowed g.D.Decider.verdict z c.self.invariant.run slots _ me alone c.requires.reads),
-    )
+    let alone = alone_of c.self.view_is c.requires.alone in
+    on_journal c.self.view_is (λ w. Allows (Holds g.D.Decider.verdict z) slots c.args.seat.now.id me w (λ x. x) (read g.D.Decider.verdict (step slots w 0 0 none) me)) c.requires.table c.journal_number-journal.ensures.word c.journal_number-journal.ensures.number
+    (look_allowed g.D.Decider.verdict z c.self.invariant.run slots _ me alone c.requires.reads)
