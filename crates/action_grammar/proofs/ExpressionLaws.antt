@@ -125,13 +125,13 @@ module _ (n left : ℕ) (below : ℕ → Readers) (under : (t : Lexeme) → deep
       (λ t e. part_next OpenSign (deep_at n) (λ o. Summed) (λ o. summed) always (λ o. some_summed) (λ o e. part_ended (IsSum (less n) left) (below left).sum (ends stops_sum) CloseSign (λ s c. mod6 s) (under o e left).sum (ends_at stops_sum CloseSign refl))))
   term_roles _ = no_role (λ xs s is. is) refl
 
-  pub part_term : IsPart (IsTerm n left) (a_term n left below) (ends stops_term)
+  part_term : IsPart (IsTerm n left) (a_term n left below) (ends stops_term)
   unfolding a_term
   part_term = part_roles role (level_limit n) (TermBy n left) (IsTerm n left) (roles_term n left) (term_by n left below) (ends stops_term) term_roles
 
   -- ---- sums
 
-  pub signed_part : (sign : Lexeme) (room : ℕ) → IsPart (PartIn n left sign room) (part_in n left below sign room) (ends stops_term)
+  signed_part : (sign : Lexeme) (room : ℕ) → IsPart (PartIn n left sign room) (part_in n left below sign room) (ends stops_term)
   signed_part sign room = part_limited (Made (IsTerm n left) (signed sign)) (a_term n left below >>= λ t. pure (signed sign t)) (λ t. begins_term (role t)) (level_limit n)
       (starts_made (IsTerm n left) (signed sign) (λ t. begins_term (role t)) (level_limit n) (starts_term n left)) (ends stops_term) (part_made (IsTerm n left) (signed sign) (a_term n left below) (ends stops_term) part_term) room
 
@@ -197,7 +197,7 @@ module _ (n left : ℕ) (below : ℕ → Readers) (under : (t : Lexeme) → deep
   unit_roles FreeWord = tested_handled
   unit_roles r = compared_handled (begins_sum r)
 
-  pub part_unit : IsPart (IsUnit n left) (a_unit n left below) (ends stops_sum)
+  part_unit : IsPart (IsUnit n left) (a_unit n left below) (ends stops_sum)
   unfolding a_unit
   part_unit = part_roles role (level_limit n) (UnitBy n left) (IsUnit n left) (roles_unit n left) (unit_by n left below) (ends stops_sum) unit_roles
 
@@ -214,7 +214,7 @@ module _ (n left : ℕ) (below : ℕ → Readers) (under : (t : Lexeme) → deep
     differ = λ t e. no_and (role t) e;
   }
 
-  pub part_conj : IsPart (IsConj n left) (a_conj n left below) (ends stops_conj)
+  part_conj : IsPart (IsConj n left) (a_conj n left below) (ends stops_conj)
   unfolding a_conj
   part_conj = part_same (ConjBy n left) (IsConj n left) (conj_from n left) (conj_to n left) _ (ends stops_conj) (part_chained (IsUnit n left) (a_unit n left below) (is_a AndWord) (UnitIn n left) (unit_in n left below) (ends stops_sum) (ends stops_conj) units_chained (λ room g. less room) (λ g. most_further) (λ g gs. all_of g (guards gs)))
 

@@ -29,11 +29,11 @@ abbrev pub stops_stmts : Role → Bool
 stops_stmts SemicolonSign = false
 stops_stmts r = stops_sum r
 
-pub stmts_sum : (r : Role) → stops_stmts r ≡ true → stops_sum r ≡ true
+stmts_sum : (r : Role) → stops_stmts r ≡ true → stops_sum r ≡ true
 stmts_sum SemicolonSign e = refl
 stmts_sum _ e = e
 
-pub no_semicolon : (r : Role) → stops_stmts r ≡ true → same_role r SemicolonSign ≡ false
+no_semicolon : (r : Role) → stops_stmts r ≡ true → same_role r SemicolonSign ≡ false
 unfolding same_role
 no_semicolon SemicolonSign e = absurd cc
 no_semicolon _ e = refl
@@ -196,7 +196,7 @@ module _ (n left : ℕ) (below : ℕ → Reader Stmts) (under : (t : Lexeme) →
   stmt_roles ForWord = any_stmt (ForBy n left) (a_for n left below) part_for
   stmt_roles _ = no_role (λ xs s is. is) refl
 
-  pub part_stmt : IsPart (IsStmt n left) (a_stmt n left below) (ends stops_sum)
+  part_stmt : IsPart (IsStmt n left) (a_stmt n left below) (ends stops_sum)
   unfolding a_stmt
   part_stmt = part_roles role (level_limit n) (StmtBy n left) (IsStmt n left) (roles_stmt n left) (stmt_by n left below) (ends stops_sum) stmt_roles
 

@@ -7,6 +7,7 @@ use Rattle.text_tokens.specs.declared.refusal.RefusalKind.TheVariants.{Unexpecte
 use Rattle.text_tokens.specs.Text.{Lexeme}
 use Rattle.text_tokens.specs.Cursor.{Cursor, refusal_at}
 use Rattle.text_tokens.specs.Reading.{Answer, first, choose, full_at, past_kind, deep_at}
+use Rattle.text_tokens.specs.Steps.{IsRefusal}
 use Rattle.action_grammar.specs.declared.role.Role.{Role}
 use Rattle.action_grammar.specs.Roles.{role}
 use Rattle.action_grammar.specs.ExpressionReaders.{opens_level, level_limit}
@@ -21,15 +22,23 @@ module _ {A : Type 0} (begins : Role → Bool) (n : ℕ) where
   full_by t last ts true e = rw e (ap (λ (o : Option RefusalKind). Err (refusal_at last (past_kind o) (t ∷ ts))) (limit_is n t (opens_level (role t))))
   full_by t last ts false e = rw e refl
 
-  pub full_at_role : (last : Refusal) (ts : List Lexeme) (r : Role) (kind : RefusalKind) → option_map role (first ts) ≡ Some r → kind ≡ full_kind (begins r) r n → choose (full_at {A = A} (λ t. begins (role t)) (level_limit n)) last ts ≡ Err (refusal_at last kind ts)
-  full_at_role last [] r kind e k = absurd cc
-  full_at_role last (t ∷ ts) r kind e k =
+  at_role : (last : Refusal) (ts : List Lexeme) (r : Role) (kind : RefusalKind) → option_map role (first ts) ≡ Some r → kind ≡ full_kind (begins r) r n → choose (full_at {A = A} (λ t. begins (role t)) (level_limit n)) last ts ≡ Err (refusal_at last kind ts)
+  at_role last [] r kind e k = absurd cc
+  at_role last (t ∷ ts) r kind e k =
       let is : role t ≡ r = cc in
       full_by t last ts (begins (role t)) refl ∙ ap (λ (k : RefusalKind). Err (refusal_at last k (t ∷ ts))) (ap (λ (r : Role). full_kind (begins r) r n) is ∙ sym k)
 
-  pub full_at_end : (last : Refusal) (ts : List Lexeme) → option_map role (first ts) ≡ None → choose (full_at {A = A} (λ t. begins (role t)) (level_limit n)) last ts ≡ Err (refusal_at last Unexpected ts)
-  full_at_end last [] e = refl
-  full_at_end last (t ∷ ts) e = absurd cc
+  at_end : (last : Refusal) (ts : List Lexeme) → option_map role (first ts) ≡ None → choose (full_at {A = A} (λ t. begins (role t)) (level_limit n)) last ts ≡ Err (refusal_at last Unexpected ts)
+  at_end last [] e = refl
+  at_end last (t ∷ ts) e = absurd cc
+
+-- as the code refuses it
+module _ (begins : Role → Bool) (n : ℕ) (here : Cursor) (refusal : Refusal) where
+  pub full_at_role : (r : Role) (b : Bool) (kind : RefusalKind) → option_map role (first here.ahead) ≡ Some r → b ≡ begins r → kind ≡ full_kind b r n → refusal ≡ refusal_at here.last kind here.ahead → IsRefusal (full_at (λ t. begins (role t)) (level_limit n)) here.last here.ahead refusal
+  full_at_role r b kind e is k same = at_role begins n here.last here.ahead r kind e (k ∙ ap (λ (b : Bool). full_kind b r n) is) ∙ ap (λ (x : Refusal). Err x) (sym same)
+
+  pub full_at_end : option_map role (first here.ahead) ≡ None → refusal ≡ refusal_at here.last Unexpected here.ahead → IsRefusal (full_at (λ t. begins (role t)) (level_limit n)) here.last here.ahead refusal
+  full_at_end e same = at_end begins n here.last here.ahead e ∙ ap (λ (x : Refusal). Err x) (sym same)
 
 refusal_in : {A : Type 0} → Refusal → Answer A → Refusal
 refusal_in r (Ok a) = r

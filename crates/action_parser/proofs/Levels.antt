@@ -1,5 +1,5 @@
 -- What is read one level deeper, and by the role of the next token.
-use Rattle.std.proofs.Common.{◌≡◌, ◌<◌, ◌-◌, ℕ, zero, suc, Bool, cond, List, [], ◌∷◌, Some, None, Result, Err, refl, sym, ap, ◌∙◌, arith, ◌⊎◌, inl, inr}
+use Rattle.std.proofs.Common.{◌≡◌, ◌<◌, ◌-◌, ℕ, zero, suc, Bool, cond, List, [], ◌∷◌, Option, Some, None, Result, Err, refl, sym, ap, ◌∙◌, arith, ◌⊎◌, inl, inr}
 use Rattle.std.specs.Prelude.{option_map}
 use Rattle.text_tokens.specs.declared.refusal.Refusal.{Refusal}
 use Rattle.text_tokens.specs.declared.refusal.ReadRefusal.{ReadRefusal}
@@ -39,6 +39,9 @@ module _ {A B : Type 0} (f : Readers → Reader B) (view : A → B) (n left : �
       (ap (λ (l : ℕ). f (inside n l) old.last old.ahead) (less_is left) ∙ ap (λ (k : Readers). f k old.last old.ahead) (inside_is n (left - 1) some)) g
 
 -- ---- by the role of the next token
+
+pub next_is : {o next : Option Role} {r k : Role} → o ≡ next → o ≡ Some r → r ≡ k → next ≡ Some k
+next_is e some is = sym e ∙ some ∙ ap (λ (r : Role). Some r) is
 
 module _ {A : Type 0} (p : Role → Reader A) (start : Cursor) where
   pub chosen : (r : Role) → option_map role (first start.ahead) ≡ Some r → Left (by_role role p) start (p r) start

@@ -5,3 +5,4 @@ pub mod Levels
 pub mod Elements
 pub mod Listing
 pub mod RoleFacts
+pub mod Behind

@@ -1,128 +1,73 @@
-use Rattle.std.proofs.Common.{◌≡◌, Bool, ◌≤◌, ◌<◌, ◌++◌, ◌∷◌, [], ℕ, true, false, List, map, length, Some, Ok, Err, refl, sym, ap, subst, ◌∙◌, arith, length-append}
+use Rattle.std.proofs.Common.{◌≡◌, Bool, ◌≤◌, ◌∷◌, [], ℕ, true, false, List, map, length, Some, Ok, Err, refl, sym, ap, ◌∙◌, arith, length-append}
 use Rattle.std.proofs.lemmas.Result.{err_from_is_err_and}
-use Rattle.std.proofs.lemmas.List.{map_push, length-map}
-use Rattle.text_tokens.specs.declared.refusal.ReadRefusal.{ReadRefusal}
-use Rattle.text_tokens.specs.declared.refusal.ReadRefusal.TheVariants.{Refused}
+use Rattle.std.proofs.lemmas.List.{length-map}
 use Rattle.text_tokens.specs.Text.{Lexeme}
-use Rattle.text_tokens.specs.Cursor.{Cursor}
-use Rattle.text_tokens.specs.Reading.{◌>>=◌, pure, one, one_within, opening, less, behind_sign}
-use Rattle.text_tokens.specs.Grammar.{BehindSign}
+use Rattle.text_tokens.specs.Reading.{◌>>=◌, pure, one, one_within, opening, less}
 use Rattle.text_tokens.specs.Steps.{lexeme_of}
-use Rattle.text_tokens.proofs.Stepping.{Reached, Failed, gives_as, on, fails, on_made, another_none, another_some, another_fails, with_room, without_room}
-use Rattle.text_tokens.proofs.Looping.{StillReads, loop_goes_on, loop_is_over, loop_fails, less_is}
+use Rattle.text_tokens.proofs.Stepping.{fails, on_made}
 use Rattle.text_tokens.proofs.Rows.{all_left, past_part, part_fails, gives_left}
 use Rattle.action_tree.specs.declared.expression.Guard.{Guard}
 use Rattle.action_tree.specs.declared.expression.PortExpr.{PortExpr}
 use Rattle.action_tree.specs.declared.expression.Cmp.{Cmp}
-use Rattle.action_grammar.specs.declared.role.Role.{Role}
 use Rattle.action_tree.specs.Trees as tree
 use Rattle.action_tree.specs.Views.{name_of, literal_of, dirterm_of, guard_of, sum_of, part_of, term_of, port_of}
 use Rattle.action_tree.specs.Limits.{most_further}
 use Rattle.action_grammar.specs.declared.role.Role.TheVariants.{AName, ANumber, OpenSign, CloseSign, MinusSign, CompareSign, AtomWord, NotWord, AndWord, OrWord, QuantifierWord, InWord, CountWord, SideWord, InnerWord, Mod6Word, EndWord, TurnWord, FirstWord}
-use Rattle.action_grammar.specs.Roles.{role, is_a, is_test, is_set, is_dirterm, is_plus_or_minus, as_name, as_literal, as_dirterm, as_set, as_end, as_cmp}
+use Rattle.action_grammar.specs.Roles.{is_a, is_test, is_set, is_dirterm, is_plus_or_minus, as_name, as_literal, as_dirterm, as_set, as_end, as_cmp}
 use Rattle.action_grammar.specs.Expressions.{bound_at}
-use Rattle.action_grammar.specs.ExpressionReaders.{Readers, begins_unit, begins_term, level_limit, a_selection, a_port, a_test, a_comparison, port_by, a_term, term_by, a_minus, part, part_in, a_sum, a_unit, unit_by, unit_in, a_conj, conj_in, an_expr, inside, member}
-use Rattle.action_grammar.proofs.Playing.{ends, stops_term, stops_sum, stops_conj, stops_expr}
-use Rattle.action_grammar.proofs.Expressing.{UnitIn, ConjIn, PartIn}
-use Rattle.action_parser.specs.Readings.{made}
+use Rattle.action_grammar.specs.ExpressionReaders.{Readers, begins_unit, begins_term, a_selection, a_port, a_test, a_comparison, port_by, a_term, term_by, a_minus, part, a_sum, a_unit, unit_by, a_conj, inside, member}
 use Rattle.action_parser.specs.Spelled.{atom_by, quantifier_by, test_by, side_by}
 use Rattle.action_parser.specs.Selections.{selection_of}
-use Rattle.action_parser.specs.Lists.{more_units, more_conjs, more_parts, all_units, all_conjs, all_parts, all_in, any_in}
+use Rattle.action_parser.specs.Lists.{with_first, more_units, more_conjs}
 use Rattle.action_parser.proofs.Tokens.{taken, untaken, all_read}
-use Rattle.action_parser.proofs.Fullness.{full_for}
 use Rattle.action_tree.proofs.Viewed as built
 use Rattle.action_parser.proofs.Elements.{unit_elements, conj_elements, part_elements}
-use Rattle.action_parser.proofs.Levels.{gives_below, gives_bound, chosen, chosen_as, none_chosen, none_begins, unit_rest, term_rest, port_rest, port_term, test_unit}
-use Rattle.action_parser.proofs.Listing.{two_pushed, begins_with, conj_listed, expr_listed, sum_listed, all_in_two, any_in_two}
+use Rattle.action_parser.proofs.Levels.{next_is, gives_below, gives_bound, chosen, chosen_as, none_chosen, none_begins, unit_rest, term_rest, port_rest, port_term, test_unit}
+use Rattle.action_parser.proofs.Behind.{none_comes, sign_fails, one_too_many, element_fails, one_read}
+use Rattle.action_parser.proofs.Listing.{next_found, all_found, next_fails, counted_found, units_begun, conjs_begun, conj_read, conj_fails, expr_read, expr_fails, sum_read, sum_fails, view_pushed, two_pushed, all_in_two, any_in_two}
 use Rattle.action_parser.proofs.expression.+expression.Goals as goal
 
 -- ---- more_conj
 
 pub more_conj-returns-then-not-is_next-clause-reads : goal.more_conj-returns-then-not-is_next-clause-reads
-more_conj-returns-then-not-is_next-clause-reads t w = another_none (is_a OrWord) (behind_sign (is_a OrWord) (conj_in w.args.levels w.args.names (inside w.args.levels)) w.args.room) w.args.tokens.now (sym w.is_next.ensures ∙ w.if-not-is_next.true)
+more_conj-returns-then-not-is_next-clause-reads t w = none_comes (is_a OrWord) begins_unit w.args.levels w.args.room (λ sign. a_conj w.args.levels w.args.names (inside w.args.levels)) w.args.tokens.now (sym w.is_next.ensures ∙ w.if-not-is_next.true)
 
 pub more_conj-returns-in_err-token-clause-reads : goal.more_conj-returns-in_err-token-clause-reads
 more_conj-returns-in_err-token-clause-reads t w =
     let p = err_from_is_err_and w.from_residual.result w.from_residual.ensures.1 in
-    let element = conj_in w.args.levels w.args.names (inside w.args.levels) in
-    let e = w.in_err-token.field-0.0 in
-    rw (p.1, p.2) (another_fails (is_a OrWord) (behind_sign (is_a OrWord) element w.args.room) w.args.tokens.now (sym w.is_next.ensures ∙ w.if-not-is_next.false) e w.token.new.tokens
-    (fails (one (is_a OrWord)) (λ sign. element sign w.args.room) e w.args.tokens.now w.token.new.tokens w.in_err-token.ensures.reads))
+    rw (p.1, p.2) (sign_fails (is_a OrWord) begins_unit w.args.levels w.args.room (λ sign. a_conj w.args.levels w.args.names (inside w.args.levels)) w.args.tokens.now (sym w.is_next.ensures ∙ w.if-not-is_next.false) w.in_err-token.field-0.0 w.in_err-token.ensures.reads)
 
 pub more_conj-returns-then-room-eq0-clause-reads : goal.more_conj-returns-then-room-eq0-clause-reads
-more_conj-returns-then-room-eq0-clause-reads t w =
-    let levels = w.args.levels in
-    let element = conj_in levels w.args.names (inside levels) in
-    let now = w.args.tokens.now in
-    let mid = w.token.new.tokens in
-    rw w.into.ensures (another_fails (is_a OrWord) (behind_sign (is_a OrWord) element w.args.room) now (sym w.is_next.ensures ∙ w.if-not-is_next.false) (Refused w.full_guard.result) mid
-    (on (λ (g : tree.Guard). g) (one (is_a OrWord)) (λ sign. element sign w.args.room) now mid mid (lexeme_of now.source w.in_ok-token.field-0) (Err (Refused w.full_guard.result)) w.in_ok-token.ensures.reads
-    (without_room (λ t. begins_unit (role t)) (level_limit levels) w.args.room (a_conj levels w.args.names (inside levels)) mid w.full_guard.result w.if-room-eq0.true (full_for begins_unit levels mid w.full_guard.result w.full_guard.ensures))))
+more_conj-returns-then-room-eq0-clause-reads t w = rw w.into.ensures (one_too_many (is_a OrWord) begins_unit w.args.levels w.args.room (λ sign. a_conj w.args.levels w.args.names (inside w.args.levels)) w.args.tokens.now (sym w.is_next.ensures ∙ w.if-not-is_next.false) w.in_ok-token.ensures.reads w.full_guard.result w.if-room-eq0.true w.full_guard.ensures)
 
 pub more_conj-returns-in_err-read_conj-clause-reads : goal.more_conj-returns-in_err-read_conj-clause-reads
 more_conj-returns-in_err-read_conj-clause-reads t w =
     let p = err_from_is_err_and w.from_residual-in_err-read_conj.result w.from_residual-in_err-read_conj.ensures.1 in
-    let levels = w.args.levels in
-    let element = conj_in levels w.args.names (inside levels) in
-    let e = w.in_err-read_conj.field-0.0 in
-    let room : 0 < w.args.room = (let n = w.if-room-eq0.false in omega arith) in
-    rw (p.1, p.2) (another_fails (is_a OrWord) (behind_sign (is_a OrWord) element w.args.room) w.args.tokens.now (sym w.is_next.ensures ∙ w.if-not-is_next.false) e w.read_conj.new.tokens
-    (on (λ (g : tree.Guard). g) (one (is_a OrWord)) (λ sign. element sign w.args.room) w.args.tokens.now w.token.new.tokens w.read_conj.new.tokens (lexeme_of w.args.tokens.now.source w.in_ok-token.field-0) (Err e) w.in_ok-token.ensures.reads
-    (with_room (λ t. begins_unit (role t)) (level_limit levels) w.args.room (a_conj levels w.args.names (inside levels)) guard_of w.token.new.tokens w.read_conj.new.tokens (Err e) room w.in_err-read_conj.ensures)))
+    rw (p.1, p.2) (element_fails (is_a OrWord) begins_unit w.args.levels w.args.room (λ sign. a_conj w.args.levels w.args.names (inside w.args.levels)) w.args.tokens.now (sym w.is_next.ensures ∙ w.if-not-is_next.false) w.in_ok-token.ensures.reads w.if-room-eq0.false w.in_err-read_conj.field-0.0 w.in_err-read_conj.ensures)
 
 pub more_conj-returns-clause-reads : goal.more_conj-returns-clause-reads
-more_conj-returns-clause-reads t w =
-    let levels = w.args.levels in
-    let element = conj_in levels w.args.names (inside levels) in
-    let g = w.in_ok-read_conj.field-0 in
-    let room : 0 < w.args.room = (let n = w.if-room-eq0.false in omega arith) in
-    another_some (is_a OrWord) (behind_sign (is_a OrWord) element w.args.room) w.args.tokens.now (sym w.is_next.ensures ∙ w.if-not-is_next.false) (guard_of g) w.read_conj.new.tokens
-    (on guard_of (one (is_a OrWord)) (λ sign. element sign w.args.room) w.args.tokens.now w.token.new.tokens w.read_conj.new.tokens (lexeme_of w.args.tokens.now.source w.in_ok-token.field-0) (Ok g) w.in_ok-token.ensures.reads
-    (with_room (λ t. begins_unit (role t)) (level_limit levels) w.args.room (a_conj levels w.args.names (inside levels)) guard_of w.token.new.tokens w.read_conj.new.tokens (Ok g) room w.in_ok-read_conj.ensures))
+more_conj-returns-clause-reads t w = one_read (is_a OrWord) begins_unit w.args.levels w.args.room (λ sign. a_conj w.args.levels w.args.names (inside w.args.levels)) w.args.tokens.now (sym w.is_next.ensures ∙ w.if-not-is_next.false) w.in_ok-token.ensures.reads w.if-room-eq0.false w.in_ok-read_conj.ensures
 
 -- ---- more_unit
 
 pub more_unit-returns-then-not-is_next-clause-reads : goal.more_unit-returns-then-not-is_next-clause-reads
-more_unit-returns-then-not-is_next-clause-reads t w = another_none (is_a AndWord) (behind_sign (is_a AndWord) (unit_in w.args.levels w.args.names (inside w.args.levels)) w.args.room) w.args.tokens.now (sym w.is_next.ensures ∙ w.if-not-is_next.true)
+more_unit-returns-then-not-is_next-clause-reads t w = none_comes (is_a AndWord) begins_unit w.args.levels w.args.room (λ sign. a_unit w.args.levels w.args.names (inside w.args.levels)) w.args.tokens.now (sym w.is_next.ensures ∙ w.if-not-is_next.true)
 
 pub more_unit-returns-in_err-token-clause-reads : goal.more_unit-returns-in_err-token-clause-reads
 more_unit-returns-in_err-token-clause-reads t w =
     let p = err_from_is_err_and w.from_residual.result w.from_residual.ensures.1 in
-    let element = unit_in w.args.levels w.args.names (inside w.args.levels) in
-    let e = w.in_err-token.field-0.0 in
-    rw (p.1, p.2) (another_fails (is_a AndWord) (behind_sign (is_a AndWord) element w.args.room) w.args.tokens.now (sym w.is_next.ensures ∙ w.if-not-is_next.false) e w.token.new.tokens
-    (fails (one (is_a AndWord)) (λ sign. element sign w.args.room) e w.args.tokens.now w.token.new.tokens w.in_err-token.ensures.reads))
+    rw (p.1, p.2) (sign_fails (is_a AndWord) begins_unit w.args.levels w.args.room (λ sign. a_unit w.args.levels w.args.names (inside w.args.levels)) w.args.tokens.now (sym w.is_next.ensures ∙ w.if-not-is_next.false) w.in_err-token.field-0.0 w.in_err-token.ensures.reads)
 
 pub more_unit-returns-then-room-eq0-clause-reads : goal.more_unit-returns-then-room-eq0-clause-reads
-more_unit-returns-then-room-eq0-clause-reads t w =
-    let levels = w.args.levels in
-    let element = unit_in levels w.args.names (inside levels) in
-    let now = w.args.tokens.now in
-    let mid = w.token.new.tokens in
-    rw w.into.ensures (another_fails (is_a AndWord) (behind_sign (is_a AndWord) element w.args.room) now (sym w.is_next.ensures ∙ w.if-not-is_next.false) (Refused w.full_guard.result) mid
-    (on (λ (g : tree.Guard). g) (one (is_a AndWord)) (λ sign. element sign w.args.room) now mid mid (lexeme_of now.source w.in_ok-token.field-0) (Err (Refused w.full_guard.result)) w.in_ok-token.ensures.reads
-    (without_room (λ t. begins_unit (role t)) (level_limit levels) w.args.room (a_unit levels w.args.names (inside levels)) mid w.full_guard.result w.if-room-eq0.true (full_for begins_unit levels mid w.full_guard.result w.full_guard.ensures))))
+more_unit-returns-then-room-eq0-clause-reads t w = rw w.into.ensures (one_too_many (is_a AndWord) begins_unit w.args.levels w.args.room (λ sign. a_unit w.args.levels w.args.names (inside w.args.levels)) w.args.tokens.now (sym w.is_next.ensures ∙ w.if-not-is_next.false) w.in_ok-token.ensures.reads w.full_guard.result w.if-room-eq0.true w.full_guard.ensures)
 
 pub more_unit-returns-in_err-read_unit-clause-reads : goal.more_unit-returns-in_err-read_unit-clause-reads
 more_unit-returns-in_err-read_unit-clause-reads t w =
     let p = err_from_is_err_and w.from_residual-in_err-read_unit.result w.from_residual-in_err-read_unit.ensures.1 in
-    let levels = w.args.levels in
-    let element = unit_in levels w.args.names (inside levels) in
-    let e = w.in_err-read_unit.field-0.0 in
-    let room : 0 < w.args.room = (let n = w.if-room-eq0.false in omega arith) in
-    rw (p.1, p.2) (another_fails (is_a AndWord) (behind_sign (is_a AndWord) element w.args.room) w.args.tokens.now (sym w.is_next.ensures ∙ w.if-not-is_next.false) e w.read_unit.new.tokens
-    (on (λ (g : tree.Guard). g) (one (is_a AndWord)) (λ sign. element sign w.args.room) w.args.tokens.now w.token.new.tokens w.read_unit.new.tokens (lexeme_of w.args.tokens.now.source w.in_ok-token.field-0) (Err e) w.in_ok-token.ensures.reads
-    (with_room (λ t. begins_unit (role t)) (level_limit levels) w.args.room (a_unit levels w.args.names (inside levels)) guard_of w.token.new.tokens w.read_unit.new.tokens (Err e) room w.in_err-read_unit.ensures)))
+    rw (p.1, p.2) (element_fails (is_a AndWord) begins_unit w.args.levels w.args.room (λ sign. a_unit w.args.levels w.args.names (inside w.args.levels)) w.args.tokens.now (sym w.is_next.ensures ∙ w.if-not-is_next.false) w.in_ok-token.ensures.reads w.if-room-eq0.false w.in_err-read_unit.field-0.0 w.in_err-read_unit.ensures)
 
 pub more_unit-returns-clause-reads : goal.more_unit-returns-clause-reads
-more_unit-returns-clause-reads t w =
-    let levels = w.args.levels in
-    let element = unit_in levels w.args.names (inside levels) in
-    let g = w.in_ok-read_unit.field-0 in
-    let room : 0 < w.args.room = (let n = w.if-room-eq0.false in omega arith) in
-    another_some (is_a AndWord) (behind_sign (is_a AndWord) element w.args.room) w.args.tokens.now (sym w.is_next.ensures ∙ w.if-not-is_next.false) (guard_of g) w.read_unit.new.tokens
-    (on guard_of (one (is_a AndWord)) (λ sign. element sign w.args.room) w.args.tokens.now w.token.new.tokens w.read_unit.new.tokens (lexeme_of w.args.tokens.now.source w.in_ok-token.field-0) (Ok g) w.in_ok-token.ensures.reads
-    (with_room (λ t. begins_unit (role t)) (level_limit levels) w.args.room (a_unit levels w.args.names (inside levels)) guard_of w.token.new.tokens w.read_unit.new.tokens (Ok g) room w.in_ok-read_unit.ensures))
+more_unit-returns-clause-reads t w = one_read (is_a AndWord) begins_unit w.args.levels w.args.room (λ sign. a_unit w.args.levels w.args.names (inside w.args.levels)) w.args.tokens.now (sym w.is_next.ensures ∙ w.if-not-is_next.false) w.in_ok-token.ensures.reads w.if-room-eq0.false w.in_ok-read_unit.ensures
 
 -- ---- read_selection
 
@@ -211,45 +156,25 @@ pub read_conj-returns-in_err-first : goal.read_conj-returns-in_err-first
 read_conj-returns-in_err-first t w =
     let p = err_from_is_err_and w.from_residual.result w.from_residual.ensures.1 in
     let e = w.in_err-first.field-0.0 in
-    let l0 = all_left (all_units w.args.levels w.args.names) w.args.tokens.now in
-    rw (p.1, p.2) (gives_as guard_of (a_conj w.args.levels w.args.names (inside w.args.levels)) (made (all_units w.args.levels w.args.names) all_in) w.args.tokens.now w.read_unit.new.tokens (Err e) (conj_listed w.args.levels w.args.names w.args.tokens.now.last w.args.tokens.now.ahead)
-    (fails (all_units w.args.levels w.args.names) (λ gs. pure (all_in gs)) e w.args.tokens.now w.read_unit.new.tokens (part_fails (a_unit w.args.levels w.args.names (inside w.args.levels)) _ l0 e w.read_unit.new.tokens w.in_err-first.ensures)))
-
-module _ (n left : ℕ) (old mid new : Cursor) (first : Guard) (r : Reached (a_unit n left (inside n)) old (guard_of first) mid) where
-  read_conj_begun : (found : List tree.Guard) → found ≡ guard_of first ∷ [] → StillReads (all_units n left) old found (more_units n left most_further) mid
-  read_conj_begun found e = begins_with (all_units n left) (more_units n left most_further) old mid (guard_of first) found e (past_part (a_unit n left (inside n)) _ (all_left (all_units n left) old) (guard_of first) mid r)
-
-  read_conj_made : (all : List tree.Guard) → Reached (all_units n left) old all new → Reached (a_conj n left (inside n)) old (all_in all) new
-  read_conj_made all r = let m = on_made (all_units n left) all_in old new all r in (conj_listed n left old.last old.ahead ∙ m.0, m.1)
-
-  read_conj_failed : (e : ReadRefusal) → Failed (all_units n left) e old new → Failed (a_conj n left (inside n)) e old new
-  read_conj_failed e f = gives_as guard_of (a_conj n left (inside n)) (made (all_units n left) all_in) old new (Err e) (conj_listed n left old.last old.ahead) (fails (all_units n left) (λ gs. pure (all_in gs)) e old new f)
+    rw (p.1, p.2) (conj_fails w.args.levels w.args.names e (fails (a_unit w.args.levels w.args.names (inside w.args.levels)) (λ g. with_first g (more_units w.args.levels w.args.names most_further)) e w.args.tokens.now w.read_unit.new.tokens w.in_err-first.ensures))
 
 pub read_conj-returns-in_err-second : goal.read_conj-returns-in_err-second
 read_conj-returns-in_err-second t w =
     let p = err_from_is_err_and w.from_residual-in_err-second.result w.from_residual-in_err-second.ensures.1 in
     let e = w.in_err-second.field-0.0 in
-    let g = w.in_ok-first.first in
-    rw (p.1, p.2) (read_conj_failed w.args.levels w.args.names w.args.tokens.now w.read_unit.new.tokens w.more_unit.new.tokens g w.in_ok-first.ensures e
-    (loop_fails (λ s. BehindSign (is_a AndWord) (UnitIn w.args.levels w.args.names) s) (λ s. behind_sign (is_a AndWord) (unit_in w.args.levels w.args.names (inside w.args.levels)) s) (λ room g. less room) (is_a AndWord) (ends stops_sum) (ends stops_conj) (unit_elements w.args.levels w.args.names) (all_units w.args.levels w.args.names) w.args.tokens.now
-    (guard_of g ∷ []) most_further w.read_unit.new.tokens (read_conj_begun w.args.levels w.args.names w.args.tokens.now w.read_unit.new.tokens w.more_unit.new.tokens g w.in_ok-first.ensures (guard_of g ∷ []) refl) e w.more_unit.new.tokens w.in_err-second.ensures.reads))
+    rw (p.1, p.2) (conj_fails w.args.levels w.args.names e (next_fails (unit_elements w.args.levels w.args.names) (λ room g. less room) most_further (units_begun w.args.levels w.args.names w.in_ok-first.ensures) e w.in_err-second.ensures.reads))
 
 pub read_conj-returns-in_default : goal.read_conj-returns-in_default
 read_conj-returns-in_default t w =
-    let g = w.in_ok-first.first in
-    read_conj_made w.args.levels w.args.names w.args.tokens.now w.read_unit.new.tokens w.more_unit.new.tokens g w.in_ok-first.ensures (guard_of g ∷ [])
-    (loop_is_over (λ s. BehindSign (is_a AndWord) (UnitIn w.args.levels w.args.names) s) (λ s. behind_sign (is_a AndWord) (unit_in w.args.levels w.args.names (inside w.args.levels)) s) (λ room g. less room) (is_a AndWord) (ends stops_sum) (ends stops_conj) (unit_elements w.args.levels w.args.names) (all_units w.args.levels w.args.names) w.args.tokens.now
-    (guard_of g ∷ []) most_further w.read_unit.new.tokens (read_conj_begun w.args.levels w.args.names w.args.tokens.now w.read_unit.new.tokens w.more_unit.new.tokens g w.in_ok-first.ensures (guard_of g ∷ []) refl) w.more_unit.new.tokens (rw w.in_default.is at w.in_ok-second.ensures.reads))
+    let next = rw w.in_default.is at w.in_ok-second.ensures.reads in
+    conj_read w.args.levels w.args.names (all_found (unit_elements w.args.levels w.args.names) (λ room g. less room) most_further (units_begun w.args.levels w.args.names w.in_ok-first.ensures) next) refl
 
 pub read_conj-loop-found-init : goal.read_conj-loop-found-init
 read_conj-loop-found-init t w =
-    let g = w.in_ok-first.first in
-    let h = w.in-Some.second in
-    let items : w.push-2.new.self.items ≡ g ∷ h ∷ [] = two_pushed g h w.new-found.ensures.items w.in_ok-push.ensures.items w.in_ok-push-2.ensures.items in
-    let begun = read_conj_begun w.args.levels w.args.names w.args.tokens.now w.read_unit.new.tokens w.more_unit.new.tokens g w.in_ok-first.ensures (guard_of g ∷ []) refl in
+    let items : w.push-2.new.self.items ≡ w.in_ok-first.first ∷ w.in-Some.second ∷ [] = two_pushed w.in_ok-first.first w.in-Some.second w.new-found.ensures.items w.in_ok-push.ensures.items w.in_ok-push-2.ensures.items in
+    let next = rw w.in-Some.is at w.in_ok-second.ensures.reads in
     record {
-      reads = loop_goes_on (λ s. BehindSign (is_a AndWord) (UnitIn w.args.levels w.args.names) s) (λ s. behind_sign (is_a AndWord) (unit_in w.args.levels w.args.names (inside w.args.levels)) s) (λ room g. less room) (is_a AndWord) (ends stops_sum) (ends stops_conj) (unit_elements w.args.levels w.args.names) (all_units w.args.levels w.args.names) w.args.tokens.now
-          (guard_of g ∷ []) most_further w.read_unit.new.tokens begun (guard_of h) w.more_unit.new.tokens (rw w.in-Some.is at w.in_ok-second.ensures.reads) (map guard_of w.push-2.new.self.items) (ap (λ (xs : List Guard). map guard_of xs) items);
+      reads = next_found (unit_elements w.args.levels w.args.names) (λ room g. less room) most_further (units_begun w.args.levels w.args.names w.in_ok-first.ensures) next (map guard_of w.push-2.new.self.items) (ap (λ (xs : List Guard). map guard_of xs) items);
       two = rw items (omega arith);
     }
 
@@ -257,31 +182,24 @@ pub read_conj-returns-in_err-next : goal.read_conj-returns-in_err-next
 read_conj-returns-in_err-next t w =
     let p = err_from_is_err_and w.from_residual-in_err-next.result w.from_residual-in_err-next.ensures.1 in
     let e = w.in_err-next.field-0.0 in
-    rw (p.1, p.2) (read_conj_failed w.args.levels w.args.names w.args.tokens.now w.read_unit.new.tokens w.more_unit-in-loop-found.new.tokens w.in_ok-first.first w.in_ok-first.ensures e
-    (loop_fails (λ s. BehindSign (is_a AndWord) (UnitIn w.args.levels w.args.names) s) (λ s. behind_sign (is_a AndWord) (unit_in w.args.levels w.args.names (inside w.args.levels)) s) (λ room g. less room) (is_a AndWord) (ends stops_sum) (ends stops_conj) (unit_elements w.args.levels w.args.names) (all_units w.args.levels w.args.names) w.args.tokens.now
-    (map guard_of w.loop-found.found.items) w.loop-found.room w.loop-found.tokens w.loop-found.invariant.reads e w.more_unit-in-loop-found.new.tokens w.in_err-next.ensures.reads))
+    rw (p.1, p.2) (conj_fails w.args.levels w.args.names e (next_fails (unit_elements w.args.levels w.args.names) (λ room g. less room) w.loop-found.room w.loop-found.invariant.reads e w.in_err-next.ensures.reads))
 
 pub read_conj-loop-found-preserved : goal.read_conj-loop-found-preserved
 read_conj-loop-found-preserved t w =
     let h = w.in-Some-2.next in
-    let next = rw w.in-Some-2.is at w.in_ok-next.ensures.reads in
-    let pushed : map guard_of w.push-in-Some-2.new.self.items ≡ map guard_of w.loop-found.found.items ++ guard_of h ∷ [] = rw w.in_ok-push-3.ensures.items (map_push guard_of w.loop-found.found.items h) in
-    let more = loop_goes_on (λ s. BehindSign (is_a AndWord) (UnitIn w.args.levels w.args.names) s) (λ s. behind_sign (is_a AndWord) (unit_in w.args.levels w.args.names (inside w.args.levels)) s) (λ room g. less room) (is_a AndWord) (ends stops_sum) (ends stops_conj) (unit_elements w.args.levels w.args.names) (all_units w.args.levels w.args.names) w.args.tokens.now
-    (map guard_of w.loop-found.found.items) w.loop-found.room w.loop-found.tokens w.loop-found.invariant.reads (guard_of h) w.more_unit-in-loop-found.new.tokens next (map guard_of w.push-in-Some-2.new.self.items) pushed in
     let two = w.loop-found.invariant.two in
+    let next = rw w.in-Some-2.is at w.in_ok-next.ensures.reads in
     record {
-      reads = subst (λ (room : ℕ). StillReads (all_units w.args.levels w.args.names) w.args.tokens.now (map guard_of w.push-in-Some-2.new.self.items) (more_units w.args.levels w.args.names room) w.more_unit-in-loop-found.new.tokens) (less_is w.loop-found.room) more;
+      reads = counted_found (unit_elements w.args.levels w.args.names) w.loop-found.room w.loop-found.invariant.reads next (map guard_of w.push-in-Some-2.new.self.items) (view_pushed guard_of w.loop-found.found.items h w.in_ok-push-3.ensures.items);
       two = rw w.in_ok-push-3.ensures.items (omega (arith, two, length-append w.loop-found.found.items (h ∷ [])));
     }
 
 pub read_conj-returns : goal.read_conj-returns
 read_conj-returns t w =
     let all = map guard_of w.loop-found.found.items in
-    let r = read_conj_made w.args.levels w.args.names w.args.tokens.now w.read_unit.new.tokens w.more_unit-in-loop-found.new.tokens w.in_ok-first.first w.in_ok-first.ensures all
-    (loop_is_over (λ s. BehindSign (is_a AndWord) (UnitIn w.args.levels w.args.names) s) (λ s. behind_sign (is_a AndWord) (unit_in w.args.levels w.args.names (inside w.args.levels)) s) (λ room g. less room) (is_a AndWord) (ends stops_sum) (ends stops_conj) (unit_elements w.args.levels w.args.names) (all_units w.args.levels w.args.names) w.args.tokens.now
-    all w.loop-found.room w.loop-found.tokens w.loop-found.invariant.reads w.more_unit-in-loop-found.new.tokens (rw w.in_default-2.is at w.in_ok-next.ensures.reads)) in
     let two : 2 ≤ length all = rw (length-map w.loop-found.found.items guard_of) w.loop-found.invariant.two in
-    (r.0 ∙ ap (λ (g : tree.Guard). Ok (g, w.more_unit-in-loop-found.new.tokens.ahead)) (all_in_two all two ∙ sym (built.guard_and w.loop-found.found)), r.1)
+    let next = rw w.in_default-2.is at w.in_ok-next.ensures.reads in
+    conj_read w.args.levels w.args.names (all_found (unit_elements w.args.levels w.args.names) (λ room g. less room) w.loop-found.room w.loop-found.invariant.reads next) (all_in_two all two ∙ sym (built.guard_and w.loop-found.found))
 
 -- ---- read_guard
 
@@ -289,45 +207,25 @@ pub read_guard-returns-in_err-first : goal.read_guard-returns-in_err-first
 read_guard-returns-in_err-first t w =
     let p = err_from_is_err_and w.from_residual.result w.from_residual.ensures.1 in
     let e = w.in_err-first.field-0.0 in
-    let l0 = all_left (all_conjs w.args.levels w.args.names) w.args.tokens.now in
-    rw (p.1, p.2) (gives_as guard_of (an_expr w.args.levels w.args.names (inside w.args.levels)) (made (all_conjs w.args.levels w.args.names) any_in) w.args.tokens.now w.read_conj.new.tokens (Err e) (expr_listed w.args.levels w.args.names w.args.tokens.now.last w.args.tokens.now.ahead)
-    (fails (all_conjs w.args.levels w.args.names) (λ gs. pure (any_in gs)) e w.args.tokens.now w.read_conj.new.tokens (part_fails (a_conj w.args.levels w.args.names (inside w.args.levels)) _ l0 e w.read_conj.new.tokens w.in_err-first.ensures)))
-
-module _ (n left : ℕ) (old mid new : Cursor) (first : Guard) (r : Reached (a_conj n left (inside n)) old (guard_of first) mid) where
-  read_guard_begun : (found : List tree.Guard) → found ≡ guard_of first ∷ [] → StillReads (all_conjs n left) old found (more_conjs n left most_further) mid
-  read_guard_begun found e = begins_with (all_conjs n left) (more_conjs n left most_further) old mid (guard_of first) found e (past_part (a_conj n left (inside n)) _ (all_left (all_conjs n left) old) (guard_of first) mid r)
-
-  read_guard_made : (all : List tree.Guard) → Reached (all_conjs n left) old all new → Reached (an_expr n left (inside n)) old (any_in all) new
-  read_guard_made all r = let m = on_made (all_conjs n left) any_in old new all r in (expr_listed n left old.last old.ahead ∙ m.0, m.1)
-
-  read_guard_failed : (e : ReadRefusal) → Failed (all_conjs n left) e old new → Failed (an_expr n left (inside n)) e old new
-  read_guard_failed e f = gives_as guard_of (an_expr n left (inside n)) (made (all_conjs n left) any_in) old new (Err e) (expr_listed n left old.last old.ahead) (fails (all_conjs n left) (λ gs. pure (any_in gs)) e old new f)
+    rw (p.1, p.2) (expr_fails w.args.levels w.args.names e (fails (a_conj w.args.levels w.args.names (inside w.args.levels)) (λ g. with_first g (more_conjs w.args.levels w.args.names most_further)) e w.args.tokens.now w.read_conj.new.tokens w.in_err-first.ensures))
 
 pub read_guard-returns-in_err-second : goal.read_guard-returns-in_err-second
 read_guard-returns-in_err-second t w =
     let p = err_from_is_err_and w.from_residual-in_err-second.result w.from_residual-in_err-second.ensures.1 in
     let e = w.in_err-second.field-0.0 in
-    let g = w.in_ok-first.first in
-    rw (p.1, p.2) (read_guard_failed w.args.levels w.args.names w.args.tokens.now w.read_conj.new.tokens w.more_conj.new.tokens g w.in_ok-first.ensures e
-    (loop_fails (λ s. BehindSign (is_a OrWord) (ConjIn w.args.levels w.args.names) s) (λ s. behind_sign (is_a OrWord) (conj_in w.args.levels w.args.names (inside w.args.levels)) s) (λ room g. less room) (is_a OrWord) (ends stops_conj) (ends stops_expr) (conj_elements w.args.levels w.args.names) (all_conjs w.args.levels w.args.names) w.args.tokens.now
-    (guard_of g ∷ []) most_further w.read_conj.new.tokens (read_guard_begun w.args.levels w.args.names w.args.tokens.now w.read_conj.new.tokens w.more_conj.new.tokens g w.in_ok-first.ensures (guard_of g ∷ []) refl) e w.more_conj.new.tokens w.in_err-second.ensures.reads))
+    rw (p.1, p.2) (expr_fails w.args.levels w.args.names e (next_fails (conj_elements w.args.levels w.args.names) (λ room g. less room) most_further (conjs_begun w.args.levels w.args.names w.in_ok-first.ensures) e w.in_err-second.ensures.reads))
 
 pub read_guard-returns-in_default : goal.read_guard-returns-in_default
 read_guard-returns-in_default t w =
-    let g = w.in_ok-first.first in
-    read_guard_made w.args.levels w.args.names w.args.tokens.now w.read_conj.new.tokens w.more_conj.new.tokens g w.in_ok-first.ensures (guard_of g ∷ [])
-    (loop_is_over (λ s. BehindSign (is_a OrWord) (ConjIn w.args.levels w.args.names) s) (λ s. behind_sign (is_a OrWord) (conj_in w.args.levels w.args.names (inside w.args.levels)) s) (λ room g. less room) (is_a OrWord) (ends stops_conj) (ends stops_expr) (conj_elements w.args.levels w.args.names) (all_conjs w.args.levels w.args.names) w.args.tokens.now
-    (guard_of g ∷ []) most_further w.read_conj.new.tokens (read_guard_begun w.args.levels w.args.names w.args.tokens.now w.read_conj.new.tokens w.more_conj.new.tokens g w.in_ok-first.ensures (guard_of g ∷ []) refl) w.more_conj.new.tokens (rw w.in_default.is at w.in_ok-second.ensures.reads))
+    let next = rw w.in_default.is at w.in_ok-second.ensures.reads in
+    expr_read w.args.levels w.args.names (all_found (conj_elements w.args.levels w.args.names) (λ room g. less room) most_further (conjs_begun w.args.levels w.args.names w.in_ok-first.ensures) next) refl
 
 pub read_guard-loop-found-init : goal.read_guard-loop-found-init
 read_guard-loop-found-init t w =
-    let g = w.in_ok-first.first in
-    let h = w.in-Some.second in
-    let items : w.push-2.new.self.items ≡ g ∷ h ∷ [] = two_pushed g h w.new-found.ensures.items w.in_ok-push.ensures.items w.in_ok-push-2.ensures.items in
-    let begun = read_guard_begun w.args.levels w.args.names w.args.tokens.now w.read_conj.new.tokens w.more_conj.new.tokens g w.in_ok-first.ensures (guard_of g ∷ []) refl in
+    let items : w.push-2.new.self.items ≡ w.in_ok-first.first ∷ w.in-Some.second ∷ [] = two_pushed w.in_ok-first.first w.in-Some.second w.new-found.ensures.items w.in_ok-push.ensures.items w.in_ok-push-2.ensures.items in
+    let next = rw w.in-Some.is at w.in_ok-second.ensures.reads in
     record {
-      reads = loop_goes_on (λ s. BehindSign (is_a OrWord) (ConjIn w.args.levels w.args.names) s) (λ s. behind_sign (is_a OrWord) (conj_in w.args.levels w.args.names (inside w.args.levels)) s) (λ room g. less room) (is_a OrWord) (ends stops_conj) (ends stops_expr) (conj_elements w.args.levels w.args.names) (all_conjs w.args.levels w.args.names) w.args.tokens.now
-          (guard_of g ∷ []) most_further w.read_conj.new.tokens begun (guard_of h) w.more_conj.new.tokens (rw w.in-Some.is at w.in_ok-second.ensures.reads) (map guard_of w.push-2.new.self.items) (ap (λ (xs : List Guard). map guard_of xs) items);
+      reads = next_found (conj_elements w.args.levels w.args.names) (λ room g. less room) most_further (conjs_begun w.args.levels w.args.names w.in_ok-first.ensures) next (map guard_of w.push-2.new.self.items) (ap (λ (xs : List Guard). map guard_of xs) items);
       two = rw items (omega arith);
     }
 
@@ -335,31 +233,24 @@ pub read_guard-returns-in_err-next : goal.read_guard-returns-in_err-next
 read_guard-returns-in_err-next t w =
     let p = err_from_is_err_and w.from_residual-in_err-next.result w.from_residual-in_err-next.ensures.1 in
     let e = w.in_err-next.field-0.0 in
-    rw (p.1, p.2) (read_guard_failed w.args.levels w.args.names w.args.tokens.now w.read_conj.new.tokens w.more_conj-in-loop-found.new.tokens w.in_ok-first.first w.in_ok-first.ensures e
-    (loop_fails (λ s. BehindSign (is_a OrWord) (ConjIn w.args.levels w.args.names) s) (λ s. behind_sign (is_a OrWord) (conj_in w.args.levels w.args.names (inside w.args.levels)) s) (λ room g. less room) (is_a OrWord) (ends stops_conj) (ends stops_expr) (conj_elements w.args.levels w.args.names) (all_conjs w.args.levels w.args.names) w.args.tokens.now
-    (map guard_of w.loop-found.found.items) w.loop-found.room w.loop-found.tokens w.loop-found.invariant.reads e w.more_conj-in-loop-found.new.tokens w.in_err-next.ensures.reads))
+    rw (p.1, p.2) (expr_fails w.args.levels w.args.names e (next_fails (conj_elements w.args.levels w.args.names) (λ room g. less room) w.loop-found.room w.loop-found.invariant.reads e w.in_err-next.ensures.reads))
 
 pub read_guard-loop-found-preserved : goal.read_guard-loop-found-preserved
 read_guard-loop-found-preserved t w =
     let h = w.in-Some-2.next in
-    let next = rw w.in-Some-2.is at w.in_ok-next.ensures.reads in
-    let pushed : map guard_of w.push-in-Some-2.new.self.items ≡ map guard_of w.loop-found.found.items ++ guard_of h ∷ [] = rw w.in_ok-push-3.ensures.items (map_push guard_of w.loop-found.found.items h) in
-    let more = loop_goes_on (λ s. BehindSign (is_a OrWord) (ConjIn w.args.levels w.args.names) s) (λ s. behind_sign (is_a OrWord) (conj_in w.args.levels w.args.names (inside w.args.levels)) s) (λ room g. less room) (is_a OrWord) (ends stops_conj) (ends stops_expr) (conj_elements w.args.levels w.args.names) (all_conjs w.args.levels w.args.names) w.args.tokens.now
-    (map guard_of w.loop-found.found.items) w.loop-found.room w.loop-found.tokens w.loop-found.invariant.reads (guard_of h) w.more_conj-in-loop-found.new.tokens next (map guard_of w.push-in-Some-2.new.self.items) pushed in
     let two = w.loop-found.invariant.two in
+    let next = rw w.in-Some-2.is at w.in_ok-next.ensures.reads in
     record {
-      reads = subst (λ (room : ℕ). StillReads (all_conjs w.args.levels w.args.names) w.args.tokens.now (map guard_of w.push-in-Some-2.new.self.items) (more_conjs w.args.levels w.args.names room) w.more_conj-in-loop-found.new.tokens) (less_is w.loop-found.room) more;
+      reads = counted_found (conj_elements w.args.levels w.args.names) w.loop-found.room w.loop-found.invariant.reads next (map guard_of w.push-in-Some-2.new.self.items) (view_pushed guard_of w.loop-found.found.items h w.in_ok-push-3.ensures.items);
       two = rw w.in_ok-push-3.ensures.items (omega (arith, two, length-append w.loop-found.found.items (h ∷ [])));
     }
 
 pub read_guard-returns : goal.read_guard-returns
 read_guard-returns t w =
     let all = map guard_of w.loop-found.found.items in
-    let r = read_guard_made w.args.levels w.args.names w.args.tokens.now w.read_conj.new.tokens w.more_conj-in-loop-found.new.tokens w.in_ok-first.first w.in_ok-first.ensures all
-    (loop_is_over (λ s. BehindSign (is_a OrWord) (ConjIn w.args.levels w.args.names) s) (λ s. behind_sign (is_a OrWord) (conj_in w.args.levels w.args.names (inside w.args.levels)) s) (λ room g. less room) (is_a OrWord) (ends stops_conj) (ends stops_expr) (conj_elements w.args.levels w.args.names) (all_conjs w.args.levels w.args.names) w.args.tokens.now
-    all w.loop-found.room w.loop-found.tokens w.loop-found.invariant.reads w.more_conj-in-loop-found.new.tokens (rw w.in_default-2.is at w.in_ok-next.ensures.reads)) in
     let two : 2 ≤ length all = rw (length-map w.loop-found.found.items guard_of) w.loop-found.invariant.two in
-    (r.0 ∙ ap (λ (g : tree.Guard). Ok (g, w.more_conj-in-loop-found.new.tokens.ahead)) (any_in_two all two ∙ sym (built.guard_or w.loop-found.found)), r.1)
+    let next = rw w.in_default-2.is at w.in_ok-next.ensures.reads in
+    expr_read w.args.levels w.args.names (all_found (conj_elements w.args.levels w.args.names) (λ room g. less room) w.loop-found.room w.loop-found.invariant.reads next) (any_in_two all two ∙ sym (built.guard_or w.loop-found.found))
 
 -- ---- read_port
 
@@ -367,13 +258,13 @@ pub read_port-returns-in_err-name-in-AName : goal.read_port-returns-in_err-name-
 unfolding a_port
 read_port-returns-in_err-name-in-AName t w =
     let p = err_from_is_err_and w.from_residual.result w.from_residual.ensures.1 in
-    let l0 = chosen (port_by w.args.levels w.args.names (inside w.args.levels)) w.args.tokens.now AName (sym w.next_role.ensures ∙ w.in-Some.is ∙ ap (λ (r : Role). Some r) w.in-AName.is) in
+    let l0 = chosen (port_by w.args.levels w.args.names (inside w.args.levels)) w.args.tokens.now AName (next_is w.next_role.ensures w.in-Some.is w.in-AName.is) in
     rw (p.1, p.2) (part_fails (one (is_a AName)) _ l0 w.in_err-name-in-AName.field-0.0 w.name.new.tokens (untaken (one (is_a AName)) as_name w.args.tokens.now w.name.new.tokens w.in_err-name-in-AName.field-0.0 w.in_err-name-in-AName.ensures))
 
 pub read_port-returns-in_ok-name-in-AName : goal.read_port-returns-in_ok-name-in-AName
 unfolding a_port
 read_port-returns-in_ok-name-in-AName t w =
-    let l0 = chosen (port_by w.args.levels w.args.names (inside w.args.levels)) w.args.tokens.now AName (sym w.next_role.ensures ∙ w.in-Some.is ∙ ap (λ (r : Role). Some r) w.in-AName.is) in
+    let l0 = chosen (port_by w.args.levels w.args.names (inside w.args.levels)) w.args.tokens.now AName (next_is w.next_role.ensures w.in-Some.is w.in-AName.is) in
     let x1 = taken (one (is_a AName)) as_name w.args.tokens.now w.name.new.tokens (name_of w.in_ok-name-in-AName.field-0) w.in_ok-name-in-AName.ensures in
     let l1 = past_part (one (is_a AName)) _ l0 x1.part w.name.new.tokens x1.reads in
     all_read (a_port w.args.levels w.args.names (inside w.args.levels)) w.args.tokens.now w.name.new.tokens _ _ l1 (ap tree.bound x1.is ∙ sym (built.port_name w.in_ok-name-in-AName.field-0))
@@ -382,14 +273,14 @@ pub read_port-returns-in_err-end-in-EndWord : goal.read_port-returns-in_err-end-
 unfolding a_port
 read_port-returns-in_err-end-in-EndWord t w =
     let p = err_from_is_err_and w.from_residual-in_err-end-in-EndWord.result w.from_residual-in_err-end-in-EndWord.ensures.1 in
-    let l0 = chosen (port_by w.args.levels w.args.names (inside w.args.levels)) w.args.tokens.now EndWord (sym w.next_role.ensures ∙ w.in-Some.is ∙ ap (λ (r : Role). Some r) w.in-EndWord.is) in
+    let l0 = chosen (port_by w.args.levels w.args.names (inside w.args.levels)) w.args.tokens.now EndWord (next_is w.next_role.ensures w.in-Some.is w.in-EndWord.is) in
     rw (p.1, p.2) (part_fails (one (is_a EndWord)) _ l0 w.in_err-end-in-EndWord.field-0.0 w.end.new.tokens (untaken (one (is_a EndWord)) as_end w.args.tokens.now w.end.new.tokens w.in_err-end-in-EndWord.field-0.0 w.in_err-end-in-EndWord.ensures))
 
 pub read_port-returns-in_err-dirterm-in-EndWord : goal.read_port-returns-in_err-dirterm-in-EndWord
 unfolding a_port
 read_port-returns-in_err-dirterm-in-EndWord t w =
     let p = err_from_is_err_and w.from_residual-in_err-dirterm-in-EndWord.result w.from_residual-in_err-dirterm-in-EndWord.ensures.1 in
-    let l0 = chosen (port_by w.args.levels w.args.names (inside w.args.levels)) w.args.tokens.now EndWord (sym w.next_role.ensures ∙ w.in-Some.is ∙ ap (λ (r : Role). Some r) w.in-EndWord.is) in
+    let l0 = chosen (port_by w.args.levels w.args.names (inside w.args.levels)) w.args.tokens.now EndWord (next_is w.next_role.ensures w.in-Some.is w.in-EndWord.is) in
     let x1 = taken (one (is_a EndWord)) as_end w.args.tokens.now w.end.new.tokens (w.in_ok-end-in-EndWord.end) w.in_ok-end-in-EndWord.ensures in
     let l1 = past_part (one (is_a EndWord)) _ l0 x1.part w.end.new.tokens x1.reads in
     rw (p.1, p.2) (part_fails (one is_dirterm) _ l1 w.in_err-dirterm-in-EndWord.field-0.0 w.dirterm.new.tokens (untaken (one is_dirterm) as_dirterm w.end.new.tokens w.dirterm.new.tokens w.in_err-dirterm-in-EndWord.field-0.0 w.in_err-dirterm-in-EndWord.ensures))
@@ -397,7 +288,7 @@ read_port-returns-in_err-dirterm-in-EndWord t w =
 pub read_port-returns-in_ok-dirterm-in-EndWord : goal.read_port-returns-in_ok-dirterm-in-EndWord
 unfolding a_port
 read_port-returns-in_ok-dirterm-in-EndWord t w =
-    let l0 = chosen (port_by w.args.levels w.args.names (inside w.args.levels)) w.args.tokens.now EndWord (sym w.next_role.ensures ∙ w.in-Some.is ∙ ap (λ (r : Role). Some r) w.in-EndWord.is) in
+    let l0 = chosen (port_by w.args.levels w.args.names (inside w.args.levels)) w.args.tokens.now EndWord (next_is w.next_role.ensures w.in-Some.is w.in-EndWord.is) in
     let x1 = taken (one (is_a EndWord)) as_end w.args.tokens.now w.end.new.tokens (w.in_ok-end-in-EndWord.end) w.in_ok-end-in-EndWord.ensures in
     let l1 = past_part (one (is_a EndWord)) _ l0 x1.part w.end.new.tokens x1.reads in
     let x2 = taken (one is_dirterm) as_dirterm w.end.new.tokens w.dirterm.new.tokens (dirterm_of w.in_ok-dirterm-in-EndWord.field-0) w.in_ok-dirterm-in-EndWord.ensures in
@@ -408,14 +299,14 @@ pub read_port-returns-in_err-open-in-TurnWord : goal.read_port-returns-in_err-op
 unfolding a_port
 read_port-returns-in_err-open-in-TurnWord t w =
     let p = err_from_is_err_and w.from_residual-in_err-open-in-TurnWord.result w.from_residual-in_err-open-in-TurnWord.ensures.1 in
-    let l0 = chosen (port_by w.args.levels w.args.names (inside w.args.levels)) w.args.tokens.now TurnWord (sym w.next_role.ensures ∙ w.in-Some.is ∙ ap (λ (r : Role). Some r) w.in-TurnWord.is) in
+    let l0 = chosen (port_by w.args.levels w.args.names (inside w.args.levels)) w.args.tokens.now TurnWord (next_is w.next_role.ensures w.in-Some.is w.in-TurnWord.is) in
     rw (p.1, p.2) (part_fails (opening w.args.levels (is_a TurnWord)) _ l0 w.in_err-open-in-TurnWord.field-0.0 w.open.new.tokens w.in_err-open-in-TurnWord.ensures.reads)
 
 pub read_port-returns-in_err-port-in-TurnWord : goal.read_port-returns-in_err-port-in-TurnWord
 unfolding a_port
 read_port-returns-in_err-port-in-TurnWord t w =
     let p = err_from_is_err_and w.from_residual-in_err-port-in-TurnWord.result w.from_residual-in_err-port-in-TurnWord.ensures.1 in
-    let l0 = chosen (port_by w.args.levels w.args.names (inside w.args.levels)) w.args.tokens.now TurnWord (sym w.next_role.ensures ∙ w.in-Some.is ∙ ap (λ (r : Role). Some r) w.in-TurnWord.is) in
+    let l0 = chosen (port_by w.args.levels w.args.names (inside w.args.levels)) w.args.tokens.now TurnWord (next_is w.next_role.ensures w.in-Some.is w.in-TurnWord.is) in
     let l1 = past_part (opening w.args.levels (is_a TurnWord)) _ l0 (lexeme_of w.args.tokens.now.source w.in_ok-open-in-TurnWord.field-0) w.open.new.tokens w.in_ok-open-in-TurnWord.ensures.reads in
     rw (p.1, p.2) (part_fails ((inside w.args.levels w.args.names).port) _ l1 w.in_err-port-in-TurnWord.field-0.0 w.read_port.new.tokens (gives_below (λ (r : Readers). r.port) port_of w.args.levels w.args.names w.open.new.tokens w.read_port.new.tokens (Err w.in_err-port-in-TurnWord.field-0.0) w.in_ok-open-in-TurnWord.ensures.deep w.in_err-port-in-TurnWord.ensures))
 
@@ -423,7 +314,7 @@ pub read_port-returns-in_err-by-in-TurnWord : goal.read_port-returns-in_err-by-i
 unfolding a_port
 read_port-returns-in_err-by-in-TurnWord t w =
     let p = err_from_is_err_and w.from_residual-in_err-by-in-TurnWord.result w.from_residual-in_err-by-in-TurnWord.ensures.1 in
-    let l0 = chosen (port_by w.args.levels w.args.names (inside w.args.levels)) w.args.tokens.now TurnWord (sym w.next_role.ensures ∙ w.in-Some.is ∙ ap (λ (r : Role). Some r) w.in-TurnWord.is) in
+    let l0 = chosen (port_by w.args.levels w.args.names (inside w.args.levels)) w.args.tokens.now TurnWord (next_is w.next_role.ensures w.in-Some.is w.in-TurnWord.is) in
     let l1 = past_part (opening w.args.levels (is_a TurnWord)) _ l0 (lexeme_of w.args.tokens.now.source w.in_ok-open-in-TurnWord.field-0) w.open.new.tokens w.in_ok-open-in-TurnWord.ensures.reads in
     let l2 = past_part ((inside w.args.levels w.args.names).port) _ l1 (port_of w.in_ok-port-in-TurnWord.port) w.read_port.new.tokens (gives_below (λ (r : Readers). r.port) port_of w.args.levels w.args.names w.open.new.tokens w.read_port.new.tokens (Ok w.in_ok-port-in-TurnWord.port) w.in_ok-open-in-TurnWord.ensures.deep w.in_ok-port-in-TurnWord.ensures) in
     rw (p.1, p.2) (part_fails (one (is_a ANumber)) _ l2 w.in_err-by-in-TurnWord.field-0.0 w.literal.new.tokens (untaken (one (is_a ANumber)) as_literal w.read_port.new.tokens w.literal.new.tokens w.in_err-by-in-TurnWord.field-0.0 w.in_err-by-in-TurnWord.ensures))
@@ -431,7 +322,7 @@ read_port-returns-in_err-by-in-TurnWord t w =
 pub read_port-returns-in_ok-new-in-TurnWord : goal.read_port-returns-in_ok-new-in-TurnWord
 unfolding a_port
 read_port-returns-in_ok-new-in-TurnWord t w =
-    let l0 = chosen (port_by w.args.levels w.args.names (inside w.args.levels)) w.args.tokens.now TurnWord (sym w.next_role.ensures ∙ w.in-Some.is ∙ ap (λ (r : Role). Some r) w.in-TurnWord.is) in
+    let l0 = chosen (port_by w.args.levels w.args.names (inside w.args.levels)) w.args.tokens.now TurnWord (next_is w.next_role.ensures w.in-Some.is w.in-TurnWord.is) in
     let l1 = past_part (opening w.args.levels (is_a TurnWord)) _ l0 (lexeme_of w.args.tokens.now.source w.in_ok-open-in-TurnWord.field-0) w.open.new.tokens w.in_ok-open-in-TurnWord.ensures.reads in
     let l2 = past_part ((inside w.args.levels w.args.names).port) _ l1 (port_of w.in_ok-port-in-TurnWord.port) w.read_port.new.tokens (gives_below (λ (r : Readers). r.port) port_of w.args.levels w.args.names w.open.new.tokens w.read_port.new.tokens (Ok w.in_ok-port-in-TurnWord.port) w.in_ok-open-in-TurnWord.ensures.deep w.in_ok-port-in-TurnWord.ensures) in
     let x3 = taken (one (is_a ANumber)) as_literal w.read_port.new.tokens w.literal.new.tokens (literal_of w.in_ok-by-in-TurnWord.by) w.in_ok-by-in-TurnWord.ensures in
@@ -442,21 +333,21 @@ pub read_port-returns-in_err-token-in-FirstWord : goal.read_port-returns-in_err-
 unfolding a_port
 read_port-returns-in_err-token-in-FirstWord t w =
     let p = err_from_is_err_and w.from_residual-in_err-token-in-FirstWord.result w.from_residual-in_err-token-in-FirstWord.ensures.1 in
-    let l0 = chosen (port_by w.args.levels w.args.names (inside w.args.levels)) w.args.tokens.now FirstWord (sym w.next_role.ensures ∙ w.in-Some.is ∙ ap (λ (r : Role). Some r) w.in-FirstWord.is) in
+    let l0 = chosen (port_by w.args.levels w.args.names (inside w.args.levels)) w.args.tokens.now FirstWord (next_is w.next_role.ensures w.in-Some.is w.in-FirstWord.is) in
     rw (p.1, p.2) (part_fails (one (is_a FirstWord)) _ l0 w.in_err-token-in-FirstWord.field-0.0 w.token.new.tokens w.in_err-token-in-FirstWord.ensures.reads)
 
 pub read_port-returns-in_err-selection-in-FirstWord : goal.read_port-returns-in_err-selection-in-FirstWord
 unfolding a_port
 read_port-returns-in_err-selection-in-FirstWord t w =
     let p = err_from_is_err_and w.from_residual-in_err-selection-in-FirstWord.result w.from_residual-in_err-selection-in-FirstWord.ensures.1 in
-    let l0 = chosen (port_by w.args.levels w.args.names (inside w.args.levels)) w.args.tokens.now FirstWord (sym w.next_role.ensures ∙ w.in-Some.is ∙ ap (λ (r : Role). Some r) w.in-FirstWord.is) in
+    let l0 = chosen (port_by w.args.levels w.args.names (inside w.args.levels)) w.args.tokens.now FirstWord (next_is w.next_role.ensures w.in-Some.is w.in-FirstWord.is) in
     let l1 = past_part (one (is_a FirstWord)) _ l0 (lexeme_of w.args.tokens.now.source w.in_ok-token-in-FirstWord.field-0) w.token.new.tokens w.in_ok-token-in-FirstWord.ensures.reads in
     rw (p.1, p.2) (part_fails (a_selection w.args.levels w.args.names (inside w.args.levels)) _ l1 w.in_err-selection-in-FirstWord.field-0.0 w.read_selection.new.tokens w.in_err-selection-in-FirstWord.ensures)
 
 pub read_port-returns-in_ok-selection-in-FirstWord : goal.read_port-returns-in_ok-selection-in-FirstWord
 unfolding a_port
 read_port-returns-in_ok-selection-in-FirstWord t w =
-    let l0 = chosen (port_by w.args.levels w.args.names (inside w.args.levels)) w.args.tokens.now FirstWord (sym w.next_role.ensures ∙ w.in-Some.is ∙ ap (λ (r : Role). Some r) w.in-FirstWord.is) in
+    let l0 = chosen (port_by w.args.levels w.args.names (inside w.args.levels)) w.args.tokens.now FirstWord (next_is w.next_role.ensures w.in-Some.is w.in-FirstWord.is) in
     let l1 = past_part (one (is_a FirstWord)) _ l0 (lexeme_of w.args.tokens.now.source w.in_ok-token-in-FirstWord.field-0) w.token.new.tokens w.in_ok-token-in-FirstWord.ensures.reads in
     let l2 = past_part (a_selection w.args.levels w.args.names (inside w.args.levels)) _ l1 (selection_of w.in_ok-selection-in-FirstWord.selection) w.read_selection.new.tokens w.in_ok-selection-in-FirstWord.ensures in
     let c = w.in_ok-selection-in-FirstWord.selection in all_read (a_port w.args.levels w.args.names (inside w.args.levels)) w.args.tokens.now w.read_selection.new.tokens _ _ l2 (sym (built.port_first c.name c.set c.guard))
@@ -477,20 +368,20 @@ pub read_term-returns-in_err-literal-in-ANumber : goal.read_term-returns-in_err-
 unfolding a_term
 read_term-returns-in_err-literal-in-ANumber t w =
     let p = err_from_is_err_and w.from_residual.result w.from_residual.ensures.1 in
-    let l0 = chosen (term_by w.args.levels w.args.names (inside w.args.levels)) w.args.tokens.now ANumber (sym w.next_role.ensures ∙ w.in-Some.is ∙ ap (λ (r : Role). Some r) w.in-ANumber.is) in
+    let l0 = chosen (term_by w.args.levels w.args.names (inside w.args.levels)) w.args.tokens.now ANumber (next_is w.next_role.ensures w.in-Some.is w.in-ANumber.is) in
     rw (p.1, p.2) (part_fails (one (is_a ANumber)) _ l0 w.in_err-literal-in-ANumber.field-0.0 w.literal.new.tokens (untaken (one (is_a ANumber)) as_literal w.args.tokens.now w.literal.new.tokens w.in_err-literal-in-ANumber.field-0.0 w.in_err-literal-in-ANumber.ensures))
 
 pub read_term-returns-in_ok-literal-in-ANumber : goal.read_term-returns-in_ok-literal-in-ANumber
 unfolding a_term
 read_term-returns-in_ok-literal-in-ANumber t w =
-    let l0 = chosen (term_by w.args.levels w.args.names (inside w.args.levels)) w.args.tokens.now ANumber (sym w.next_role.ensures ∙ w.in-Some.is ∙ ap (λ (r : Role). Some r) w.in-ANumber.is) in
+    let l0 = chosen (term_by w.args.levels w.args.names (inside w.args.levels)) w.args.tokens.now ANumber (next_is w.next_role.ensures w.in-Some.is w.in-ANumber.is) in
     let x1 = taken (one (is_a ANumber)) as_literal w.args.tokens.now w.literal.new.tokens (literal_of w.in_ok-literal-in-ANumber.field-0) w.in_ok-literal-in-ANumber.ensures in
     let l1 = past_part (one (is_a ANumber)) _ l0 x1.part w.literal.new.tokens x1.reads in
     all_read (a_term w.args.levels w.args.names (inside w.args.levels)) w.args.tokens.now w.literal.new.tokens _ _ l1 (ap tree.number x1.is ∙ sym (built.term_number w.in_ok-literal-in-ANumber.field-0))
 
 pub read_term-returns-in-AName : goal.read_term-returns-in-AName
 unfolding a_term
-read_term-returns-in-AName t w = gives_left term_of w.own_or_member.result w.own_or_member.new.tokens (chosen (term_by w.args.levels w.args.names (inside w.args.levels)) w.args.tokens.now AName (sym w.next_role.ensures ∙ w.in-Some.is ∙ ap (λ (r : Role). Some r) w.in-AName.is)) w.own_or_member.ensures
+read_term-returns-in-AName t w = gives_left term_of w.own_or_member.result w.own_or_member.new.tokens (chosen (term_by w.args.levels w.args.names (inside w.args.levels)) w.args.tokens.now AName (next_is w.next_role.ensures w.in-Some.is w.in-AName.is)) w.own_or_member.ensures
 
 pub read_term-returns-in_err-port-in-EndWord : goal.read_term-returns-in_err-port-in-EndWord
 unfolding a_term
@@ -510,21 +401,21 @@ pub read_term-returns-in_err-token-in-CountWord : goal.read_term-returns-in_err-
 unfolding a_term
 read_term-returns-in_err-token-in-CountWord t w =
     let p = err_from_is_err_and w.from_residual-in_err-token-in-CountWord.result w.from_residual-in_err-token-in-CountWord.ensures.1 in
-    let l0 = chosen (term_by w.args.levels w.args.names (inside w.args.levels)) w.args.tokens.now CountWord (sym w.next_role.ensures ∙ w.in-Some.is ∙ ap (λ (r : Role). Some r) w.in-CountWord.is) in
+    let l0 = chosen (term_by w.args.levels w.args.names (inside w.args.levels)) w.args.tokens.now CountWord (next_is w.next_role.ensures w.in-Some.is w.in-CountWord.is) in
     rw (p.1, p.2) (part_fails (one (is_a CountWord)) _ l0 w.in_err-token-in-CountWord.field-0.0 w.token.new.tokens w.in_err-token-in-CountWord.ensures.reads)
 
 pub read_term-returns-in_err-selection-in-CountWord : goal.read_term-returns-in_err-selection-in-CountWord
 unfolding a_term
 read_term-returns-in_err-selection-in-CountWord t w =
     let p = err_from_is_err_and w.from_residual-in_err-selection-in-CountWord.result w.from_residual-in_err-selection-in-CountWord.ensures.1 in
-    let l0 = chosen (term_by w.args.levels w.args.names (inside w.args.levels)) w.args.tokens.now CountWord (sym w.next_role.ensures ∙ w.in-Some.is ∙ ap (λ (r : Role). Some r) w.in-CountWord.is) in
+    let l0 = chosen (term_by w.args.levels w.args.names (inside w.args.levels)) w.args.tokens.now CountWord (next_is w.next_role.ensures w.in-Some.is w.in-CountWord.is) in
     let l1 = past_part (one (is_a CountWord)) _ l0 (lexeme_of w.args.tokens.now.source w.in_ok-token-in-CountWord.field-0) w.token.new.tokens w.in_ok-token-in-CountWord.ensures.reads in
     rw (p.1, p.2) (part_fails (a_selection w.args.levels w.args.names (inside w.args.levels)) _ l1 w.in_err-selection-in-CountWord.field-0.0 w.read_selection.new.tokens w.in_err-selection-in-CountWord.ensures)
 
 pub read_term-returns-in_ok-selection-in-CountWord : goal.read_term-returns-in_ok-selection-in-CountWord
 unfolding a_term
 read_term-returns-in_ok-selection-in-CountWord t w =
-    let l0 = chosen (term_by w.args.levels w.args.names (inside w.args.levels)) w.args.tokens.now CountWord (sym w.next_role.ensures ∙ w.in-Some.is ∙ ap (λ (r : Role). Some r) w.in-CountWord.is) in
+    let l0 = chosen (term_by w.args.levels w.args.names (inside w.args.levels)) w.args.tokens.now CountWord (next_is w.next_role.ensures w.in-Some.is w.in-CountWord.is) in
     let l1 = past_part (one (is_a CountWord)) _ l0 (lexeme_of w.args.tokens.now.source w.in_ok-token-in-CountWord.field-0) w.token.new.tokens w.in_ok-token-in-CountWord.ensures.reads in
     let l2 = past_part (a_selection w.args.levels w.args.names (inside w.args.levels)) _ l1 (selection_of w.in_ok-selection-in-CountWord.selection) w.read_selection.new.tokens w.in_ok-selection-in-CountWord.ensures in
     let c = w.in_ok-selection-in-CountWord.selection in all_read (a_term w.args.levels w.args.names (inside w.args.levels)) w.args.tokens.now w.read_selection.new.tokens _ _ l2 (sym (built.term_count c.name c.set c.guard))
@@ -533,14 +424,14 @@ pub read_term-returns-in_err-word-in-SideWord : goal.read_term-returns-in_err-wo
 unfolding a_term
 read_term-returns-in_err-word-in-SideWord t w =
     let p = err_from_is_err_and w.from_residual-in_err-word-in-SideWord.result w.from_residual-in_err-word-in-SideWord.ensures.1 in
-    let l0 = chosen (term_by w.args.levels w.args.names (inside w.args.levels)) w.args.tokens.now SideWord (sym w.next_role.ensures ∙ w.in-Some.is ∙ ap (λ (r : Role). Some r) w.in-SideWord.is) in
+    let l0 = chosen (term_by w.args.levels w.args.names (inside w.args.levels)) w.args.tokens.now SideWord (next_is w.next_role.ensures w.in-Some.is w.in-SideWord.is) in
     rw (p.1, p.2) (part_fails (one (is_a SideWord)) _ l0 w.in_err-word-in-SideWord.field-0.0 w.text.new.tokens (untaken (one (is_a SideWord)) (λ (t : Lexeme). t.text) w.args.tokens.now w.text.new.tokens w.in_err-word-in-SideWord.field-0.0 w.in_err-word-in-SideWord.ensures))
 
 pub read_term-returns-in_err-port-in-SideWord : goal.read_term-returns-in_err-port-in-SideWord
 unfolding a_term
 read_term-returns-in_err-port-in-SideWord t w =
     let p = err_from_is_err_and w.from_residual-in_err-port-in-SideWord.result w.from_residual-in_err-port-in-SideWord.ensures.1 in
-    let l0 = chosen (term_by w.args.levels w.args.names (inside w.args.levels)) w.args.tokens.now SideWord (sym w.next_role.ensures ∙ w.in-Some.is ∙ ap (λ (r : Role). Some r) w.in-SideWord.is) in
+    let l0 = chosen (term_by w.args.levels w.args.names (inside w.args.levels)) w.args.tokens.now SideWord (next_is w.next_role.ensures w.in-Some.is w.in-SideWord.is) in
     let x1 = taken (one (is_a SideWord)) (λ (t : Lexeme). t.text) w.args.tokens.now w.text.new.tokens (w.in_ok-word-in-SideWord.word.now) w.in_ok-word-in-SideWord.ensures in
     let l1 = past_part (one (is_a SideWord)) _ l0 x1.part w.text.new.tokens x1.reads in
     rw (p.1, p.2) (part_fails (a_port w.args.levels w.args.names (inside w.args.levels)) _ l1 w.in_err-port-in-SideWord.field-0.0 w.read_port-in-SideWord.new.tokens w.in_err-port-in-SideWord.ensures)
@@ -548,7 +439,7 @@ read_term-returns-in_err-port-in-SideWord t w =
 pub read_term-returns-in_ok-port-in-SideWord : goal.read_term-returns-in_ok-port-in-SideWord
 unfolding a_term
 read_term-returns-in_ok-port-in-SideWord t w =
-    let l0 = chosen (term_by w.args.levels w.args.names (inside w.args.levels)) w.args.tokens.now SideWord (sym w.next_role.ensures ∙ w.in-Some.is ∙ ap (λ (r : Role). Some r) w.in-SideWord.is) in
+    let l0 = chosen (term_by w.args.levels w.args.names (inside w.args.levels)) w.args.tokens.now SideWord (next_is w.next_role.ensures w.in-Some.is w.in-SideWord.is) in
     let x1 = taken (one (is_a SideWord)) (λ (t : Lexeme). t.text) w.args.tokens.now w.text.new.tokens (w.in_ok-word-in-SideWord.word.now) w.in_ok-word-in-SideWord.ensures in
     let l1 = past_part (one (is_a SideWord)) _ l0 x1.part w.text.new.tokens x1.reads in
     let l2 = past_part (a_port w.args.levels w.args.names (inside w.args.levels)) _ l1 (port_of w.in_ok-port-in-SideWord.port) w.read_port-in-SideWord.new.tokens w.in_ok-port-in-SideWord.ensures in
@@ -558,13 +449,13 @@ pub read_term-returns-in_err-token-in-InnerWord : goal.read_term-returns-in_err-
 unfolding a_term
 read_term-returns-in_err-token-in-InnerWord t w =
     let p = err_from_is_err_and w.from_residual-in_err-token-in-InnerWord.result w.from_residual-in_err-token-in-InnerWord.ensures.1 in
-    let l0 = chosen (term_by w.args.levels w.args.names (inside w.args.levels)) w.args.tokens.now InnerWord (sym w.next_role.ensures ∙ w.in-Some.is ∙ ap (λ (r : Role). Some r) w.in-InnerWord.is) in
+    let l0 = chosen (term_by w.args.levels w.args.names (inside w.args.levels)) w.args.tokens.now InnerWord (next_is w.next_role.ensures w.in-Some.is w.in-InnerWord.is) in
     rw (p.1, p.2) (part_fails (one (is_a InnerWord)) _ l0 w.in_err-token-in-InnerWord.field-0.0 w.token-in-InnerWord.new.tokens w.in_err-token-in-InnerWord.ensures.reads)
 
 pub read_term-returns-in_ok-token-in-InnerWord : goal.read_term-returns-in_ok-token-in-InnerWord
 unfolding a_term
 read_term-returns-in_ok-token-in-InnerWord t w =
-    let l0 = chosen (term_by w.args.levels w.args.names (inside w.args.levels)) w.args.tokens.now InnerWord (sym w.next_role.ensures ∙ w.in-Some.is ∙ ap (λ (r : Role). Some r) w.in-InnerWord.is) in
+    let l0 = chosen (term_by w.args.levels w.args.names (inside w.args.levels)) w.args.tokens.now InnerWord (next_is w.next_role.ensures w.in-Some.is w.in-InnerWord.is) in
     let l1 = past_part (one (is_a InnerWord)) _ l0 (lexeme_of w.args.tokens.now.source w.in_ok-token-in-InnerWord.field-0) w.token-in-InnerWord.new.tokens w.in_ok-token-in-InnerWord.ensures.reads in
     all_read (a_term w.args.levels w.args.names (inside w.args.levels)) w.args.tokens.now w.token-in-InnerWord.new.tokens _ _ l1 (sym built.term_inner)
 
@@ -572,14 +463,14 @@ pub read_term-returns-in_err-token-in-Mod6Word : goal.read_term-returns-in_err-t
 unfolding a_term
 read_term-returns-in_err-token-in-Mod6Word t w =
     let p = err_from_is_err_and w.from_residual-in_err-token-in-Mod6Word.result w.from_residual-in_err-token-in-Mod6Word.ensures.1 in
-    let l0 = chosen (term_by w.args.levels w.args.names (inside w.args.levels)) w.args.tokens.now Mod6Word (sym w.next_role.ensures ∙ w.in-Some.is ∙ ap (λ (r : Role). Some r) w.in-Mod6Word.is) in
+    let l0 = chosen (term_by w.args.levels w.args.names (inside w.args.levels)) w.args.tokens.now Mod6Word (next_is w.next_role.ensures w.in-Some.is w.in-Mod6Word.is) in
     rw (p.1, p.2) (part_fails (one (is_a Mod6Word)) _ l0 w.in_err-token-in-Mod6Word.field-0.0 w.token-in-Mod6Word.new.tokens w.in_err-token-in-Mod6Word.ensures.reads)
 
 pub read_term-returns-in_err-open-in-Mod6Word : goal.read_term-returns-in_err-open-in-Mod6Word
 unfolding a_term
 read_term-returns-in_err-open-in-Mod6Word t w =
     let p = err_from_is_err_and w.from_residual-in_err-open-in-Mod6Word.result w.from_residual-in_err-open-in-Mod6Word.ensures.1 in
-    let l0 = chosen (term_by w.args.levels w.args.names (inside w.args.levels)) w.args.tokens.now Mod6Word (sym w.next_role.ensures ∙ w.in-Some.is ∙ ap (λ (r : Role). Some r) w.in-Mod6Word.is) in
+    let l0 = chosen (term_by w.args.levels w.args.names (inside w.args.levels)) w.args.tokens.now Mod6Word (next_is w.next_role.ensures w.in-Some.is w.in-Mod6Word.is) in
     let l1 = past_part (one (is_a Mod6Word)) _ l0 (lexeme_of w.args.tokens.now.source w.in_ok-token-in-Mod6Word.field-0) w.token-in-Mod6Word.new.tokens w.in_ok-token-in-Mod6Word.ensures.reads in
     rw (p.1, p.2) (part_fails (opening w.args.levels (is_a OpenSign)) _ l1 w.in_err-open-in-Mod6Word.field-0.0 w.open.new.tokens w.in_err-open-in-Mod6Word.ensures.reads)
 
@@ -587,7 +478,7 @@ pub read_term-returns-in_err-sum-in-Mod6Word : goal.read_term-returns-in_err-sum
 unfolding a_term
 read_term-returns-in_err-sum-in-Mod6Word t w =
     let p = err_from_is_err_and w.from_residual-in_err-sum-in-Mod6Word.result w.from_residual-in_err-sum-in-Mod6Word.ensures.1 in
-    let l0 = chosen (term_by w.args.levels w.args.names (inside w.args.levels)) w.args.tokens.now Mod6Word (sym w.next_role.ensures ∙ w.in-Some.is ∙ ap (λ (r : Role). Some r) w.in-Mod6Word.is) in
+    let l0 = chosen (term_by w.args.levels w.args.names (inside w.args.levels)) w.args.tokens.now Mod6Word (next_is w.next_role.ensures w.in-Some.is w.in-Mod6Word.is) in
     let l1 = past_part (one (is_a Mod6Word)) _ l0 (lexeme_of w.args.tokens.now.source w.in_ok-token-in-Mod6Word.field-0) w.token-in-Mod6Word.new.tokens w.in_ok-token-in-Mod6Word.ensures.reads in
     let l2 = past_part (opening w.args.levels (is_a OpenSign)) _ l1 (lexeme_of w.token-in-Mod6Word.new.tokens.source w.in_ok-open-in-Mod6Word.field-0) w.open.new.tokens w.in_ok-open-in-Mod6Word.ensures.reads in
     rw (p.1, p.2) (part_fails ((inside w.args.levels w.args.names).sum) _ l2 w.in_err-sum-in-Mod6Word.field-0.0 w.read_sum.new.tokens (gives_below (λ (r : Readers). r.sum) sum_of w.args.levels w.args.names w.open.new.tokens w.read_sum.new.tokens (Err w.in_err-sum-in-Mod6Word.field-0.0) w.in_ok-open-in-Mod6Word.ensures.deep w.in_err-sum-in-Mod6Word.ensures))
@@ -596,7 +487,7 @@ pub read_term-returns-in_err-token-in-Mod6Word-2 : goal.read_term-returns-in_err
 unfolding a_term
 read_term-returns-in_err-token-in-Mod6Word-2 t w =
     let p = err_from_is_err_and w.from_residual-in_err-token-in-Mod6Word-2.result w.from_residual-in_err-token-in-Mod6Word-2.ensures.1 in
-    let l0 = chosen (term_by w.args.levels w.args.names (inside w.args.levels)) w.args.tokens.now Mod6Word (sym w.next_role.ensures ∙ w.in-Some.is ∙ ap (λ (r : Role). Some r) w.in-Mod6Word.is) in
+    let l0 = chosen (term_by w.args.levels w.args.names (inside w.args.levels)) w.args.tokens.now Mod6Word (next_is w.next_role.ensures w.in-Some.is w.in-Mod6Word.is) in
     let l1 = past_part (one (is_a Mod6Word)) _ l0 (lexeme_of w.args.tokens.now.source w.in_ok-token-in-Mod6Word.field-0) w.token-in-Mod6Word.new.tokens w.in_ok-token-in-Mod6Word.ensures.reads in
     let l2 = past_part (opening w.args.levels (is_a OpenSign)) _ l1 (lexeme_of w.token-in-Mod6Word.new.tokens.source w.in_ok-open-in-Mod6Word.field-0) w.open.new.tokens w.in_ok-open-in-Mod6Word.ensures.reads in
     let l3 = past_part ((inside w.args.levels w.args.names).sum) _ l2 (sum_of w.in_ok-sum-in-Mod6Word.sum) w.read_sum.new.tokens (gives_below (λ (r : Readers). r.sum) sum_of w.args.levels w.args.names w.open.new.tokens w.read_sum.new.tokens (Ok w.in_ok-sum-in-Mod6Word.sum) w.in_ok-open-in-Mod6Word.ensures.deep w.in_ok-sum-in-Mod6Word.ensures) in
@@ -605,7 +496,7 @@ read_term-returns-in_err-token-in-Mod6Word-2 t w =
 pub read_term-returns-in_ok-token-in-Mod6Word-2 : goal.read_term-returns-in_ok-token-in-Mod6Word-2
 unfolding a_term
 read_term-returns-in_ok-token-in-Mod6Word-2 t w =
-    let l0 = chosen (term_by w.args.levels w.args.names (inside w.args.levels)) w.args.tokens.now Mod6Word (sym w.next_role.ensures ∙ w.in-Some.is ∙ ap (λ (r : Role). Some r) w.in-Mod6Word.is) in
+    let l0 = chosen (term_by w.args.levels w.args.names (inside w.args.levels)) w.args.tokens.now Mod6Word (next_is w.next_role.ensures w.in-Some.is w.in-Mod6Word.is) in
     let l1 = past_part (one (is_a Mod6Word)) _ l0 (lexeme_of w.args.tokens.now.source w.in_ok-token-in-Mod6Word.field-0) w.token-in-Mod6Word.new.tokens w.in_ok-token-in-Mod6Word.ensures.reads in
     let l2 = past_part (opening w.args.levels (is_a OpenSign)) _ l1 (lexeme_of w.token-in-Mod6Word.new.tokens.source w.in_ok-open-in-Mod6Word.field-0) w.open.new.tokens w.in_ok-open-in-Mod6Word.ensures.reads in
     let l3 = past_part ((inside w.args.levels w.args.names).sum) _ l2 (sum_of w.in_ok-sum-in-Mod6Word.sum) w.read_sum.new.tokens (gives_below (λ (r : Readers). r.sum) sum_of w.args.levels w.args.names w.open.new.tokens w.read_sum.new.tokens (Ok w.in_ok-sum-in-Mod6Word.sum) w.in_ok-open-in-Mod6Word.ensures.deep w.in_ok-sum-in-Mod6Word.ensures) in
@@ -628,13 +519,13 @@ pub read_unit-returns-in_err-text-in-AtomWord : goal.read_unit-returns-in_err-te
 unfolding a_unit
 read_unit-returns-in_err-text-in-AtomWord t w =
     let p = err_from_is_err_and w.from_residual.result w.from_residual.ensures.1 in
-    let l0 = chosen (unit_by w.args.levels w.args.names (inside w.args.levels)) w.args.tokens.now AtomWord (sym w.next_role.ensures ∙ w.in-Some.is ∙ ap (λ (r : Role). Some r) w.in-AtomWord.is) in
+    let l0 = chosen (unit_by w.args.levels w.args.names (inside w.args.levels)) w.args.tokens.now AtomWord (next_is w.next_role.ensures w.in-Some.is w.in-AtomWord.is) in
     rw (p.1, p.2) (part_fails (one (is_a AtomWord)) _ l0 w.in_err-text-in-AtomWord.field-0.0 w.text.new.tokens (untaken (one (is_a AtomWord)) (λ (t : Lexeme). t.text) w.args.tokens.now w.text.new.tokens w.in_err-text-in-AtomWord.field-0.0 w.in_err-text-in-AtomWord.ensures))
 
 pub read_unit-returns-in_ok-text-in-AtomWord : goal.read_unit-returns-in_ok-text-in-AtomWord
 unfolding a_unit
 read_unit-returns-in_ok-text-in-AtomWord t w =
-    let l0 = chosen (unit_by w.args.levels w.args.names (inside w.args.levels)) w.args.tokens.now AtomWord (sym w.next_role.ensures ∙ w.in-Some.is ∙ ap (λ (r : Role). Some r) w.in-AtomWord.is) in
+    let l0 = chosen (unit_by w.args.levels w.args.names (inside w.args.levels)) w.args.tokens.now AtomWord (next_is w.next_role.ensures w.in-Some.is w.in-AtomWord.is) in
     let x1 = taken (one (is_a AtomWord)) (λ (t : Lexeme). t.text) w.args.tokens.now w.text.new.tokens (w.in_ok-text-in-AtomWord.field-0.now) w.in_ok-text-in-AtomWord.ensures in
     let l1 = past_part (one (is_a AtomWord)) _ l0 x1.part w.text.new.tokens x1.reads in
     all_read (a_unit w.args.levels w.args.names (inside w.args.levels)) w.args.tokens.now w.text.new.tokens _ _ l1 (ap (λ (text : List ℕ). tree.atom (atom_by text)) x1.is ∙ sym w.atom.ensures)
@@ -643,21 +534,21 @@ pub read_unit-returns-in_err-open-in-NotWord : goal.read_unit-returns-in_err-ope
 unfolding a_unit
 read_unit-returns-in_err-open-in-NotWord t w =
     let p = err_from_is_err_and w.from_residual-in_err-open-in-NotWord.result w.from_residual-in_err-open-in-NotWord.ensures.1 in
-    let l0 = chosen (unit_by w.args.levels w.args.names (inside w.args.levels)) w.args.tokens.now NotWord (sym w.next_role.ensures ∙ w.in-Some.is ∙ ap (λ (r : Role). Some r) w.in-NotWord.is) in
+    let l0 = chosen (unit_by w.args.levels w.args.names (inside w.args.levels)) w.args.tokens.now NotWord (next_is w.next_role.ensures w.in-Some.is w.in-NotWord.is) in
     rw (p.1, p.2) (part_fails (opening w.args.levels (is_a NotWord)) _ l0 w.in_err-open-in-NotWord.field-0.0 w.open.new.tokens w.in_err-open-in-NotWord.ensures.reads)
 
 pub read_unit-returns-in_err-guard-in-NotWord : goal.read_unit-returns-in_err-guard-in-NotWord
 unfolding a_unit
 read_unit-returns-in_err-guard-in-NotWord t w =
     let p = err_from_is_err_and w.from_residual-in_err-guard-in-NotWord.result w.from_residual-in_err-guard-in-NotWord.ensures.1 in
-    let l0 = chosen (unit_by w.args.levels w.args.names (inside w.args.levels)) w.args.tokens.now NotWord (sym w.next_role.ensures ∙ w.in-Some.is ∙ ap (λ (r : Role). Some r) w.in-NotWord.is) in
+    let l0 = chosen (unit_by w.args.levels w.args.names (inside w.args.levels)) w.args.tokens.now NotWord (next_is w.next_role.ensures w.in-Some.is w.in-NotWord.is) in
     let l1 = past_part (opening w.args.levels (is_a NotWord)) _ l0 (lexeme_of w.args.tokens.now.source w.in_ok-open-in-NotWord.field-0) w.open.new.tokens w.in_ok-open-in-NotWord.ensures.reads in
     rw (p.1, p.2) (part_fails ((inside w.args.levels w.args.names).unit) _ l1 w.in_err-guard-in-NotWord.field-0.0 w.read_unit.new.tokens (gives_below (λ (r : Readers). r.unit) guard_of w.args.levels w.args.names w.open.new.tokens w.read_unit.new.tokens (Err w.in_err-guard-in-NotWord.field-0.0) w.in_ok-open-in-NotWord.ensures.deep w.in_err-guard-in-NotWord.ensures))
 
 pub read_unit-returns-in_ok-new-in-NotWord : goal.read_unit-returns-in_ok-new-in-NotWord
 unfolding a_unit
 read_unit-returns-in_ok-new-in-NotWord t w =
-    let l0 = chosen (unit_by w.args.levels w.args.names (inside w.args.levels)) w.args.tokens.now NotWord (sym w.next_role.ensures ∙ w.in-Some.is ∙ ap (λ (r : Role). Some r) w.in-NotWord.is) in
+    let l0 = chosen (unit_by w.args.levels w.args.names (inside w.args.levels)) w.args.tokens.now NotWord (next_is w.next_role.ensures w.in-Some.is w.in-NotWord.is) in
     let l1 = past_part (opening w.args.levels (is_a NotWord)) _ l0 (lexeme_of w.args.tokens.now.source w.in_ok-open-in-NotWord.field-0) w.open.new.tokens w.in_ok-open-in-NotWord.ensures.reads in
     let l2 = past_part ((inside w.args.levels w.args.names).unit) _ l1 (guard_of w.in_ok-guard-in-NotWord.guard) w.read_unit.new.tokens (gives_below (λ (r : Readers). r.unit) guard_of w.args.levels w.args.names w.open.new.tokens w.read_unit.new.tokens (Ok w.in_ok-guard-in-NotWord.guard) w.in_ok-open-in-NotWord.ensures.deep w.in_ok-guard-in-NotWord.ensures) in
     all_read (a_unit w.args.levels w.args.names (inside w.args.levels)) w.args.tokens.now w.read_unit.new.tokens _ _ l2 (ap (λ (g : Guard). tree.negation (guard_of g)) (sym w.in_ok-new-in-NotWord.ensures.ok) ∙ sym (built.guard_not w.in_ok-new-in-NotWord.field-0))
@@ -666,14 +557,14 @@ pub read_unit-returns-in_err-open-in-OpenSign : goal.read_unit-returns-in_err-op
 unfolding a_unit
 read_unit-returns-in_err-open-in-OpenSign t w =
     let p = err_from_is_err_and w.from_residual-in_err-open-in-OpenSign.result w.from_residual-in_err-open-in-OpenSign.ensures.1 in
-    let l0 = chosen (unit_by w.args.levels w.args.names (inside w.args.levels)) w.args.tokens.now OpenSign (sym w.next_role.ensures ∙ w.in-Some.is ∙ ap (λ (r : Role). Some r) w.in-OpenSign.is) in
+    let l0 = chosen (unit_by w.args.levels w.args.names (inside w.args.levels)) w.args.tokens.now OpenSign (next_is w.next_role.ensures w.in-Some.is w.in-OpenSign.is) in
     rw (p.1, p.2) (part_fails (opening w.args.levels (is_a OpenSign)) _ l0 w.in_err-open-in-OpenSign.field-0.0 w.open-in-OpenSign.new.tokens w.in_err-open-in-OpenSign.ensures.reads)
 
 pub read_unit-returns-in_err-guard-in-OpenSign : goal.read_unit-returns-in_err-guard-in-OpenSign
 unfolding a_unit
 read_unit-returns-in_err-guard-in-OpenSign t w =
     let p = err_from_is_err_and w.from_residual-in_err-guard-in-OpenSign.result w.from_residual-in_err-guard-in-OpenSign.ensures.1 in
-    let l0 = chosen (unit_by w.args.levels w.args.names (inside w.args.levels)) w.args.tokens.now OpenSign (sym w.next_role.ensures ∙ w.in-Some.is ∙ ap (λ (r : Role). Some r) w.in-OpenSign.is) in
+    let l0 = chosen (unit_by w.args.levels w.args.names (inside w.args.levels)) w.args.tokens.now OpenSign (next_is w.next_role.ensures w.in-Some.is w.in-OpenSign.is) in
     let l1 = past_part (opening w.args.levels (is_a OpenSign)) _ l0 (lexeme_of w.args.tokens.now.source w.in_ok-open-in-OpenSign.field-0) w.open-in-OpenSign.new.tokens w.in_ok-open-in-OpenSign.ensures.reads in
     rw (p.1, p.2) (part_fails ((inside w.args.levels w.args.names).expr) _ l1 w.in_err-guard-in-OpenSign.field-0.0 w.read_guard.new.tokens (gives_below (λ (r : Readers). r.expr) guard_of w.args.levels w.args.names w.open-in-OpenSign.new.tokens w.read_guard.new.tokens (Err w.in_err-guard-in-OpenSign.field-0.0) w.in_ok-open-in-OpenSign.ensures.deep w.in_err-guard-in-OpenSign.ensures))
 
@@ -681,7 +572,7 @@ pub read_unit-returns-in_err-token-in-OpenSign : goal.read_unit-returns-in_err-t
 unfolding a_unit
 read_unit-returns-in_err-token-in-OpenSign t w =
     let p = err_from_is_err_and w.from_residual-in_err-token-in-OpenSign.result w.from_residual-in_err-token-in-OpenSign.ensures.1 in
-    let l0 = chosen (unit_by w.args.levels w.args.names (inside w.args.levels)) w.args.tokens.now OpenSign (sym w.next_role.ensures ∙ w.in-Some.is ∙ ap (λ (r : Role). Some r) w.in-OpenSign.is) in
+    let l0 = chosen (unit_by w.args.levels w.args.names (inside w.args.levels)) w.args.tokens.now OpenSign (next_is w.next_role.ensures w.in-Some.is w.in-OpenSign.is) in
     let l1 = past_part (opening w.args.levels (is_a OpenSign)) _ l0 (lexeme_of w.args.tokens.now.source w.in_ok-open-in-OpenSign.field-0) w.open-in-OpenSign.new.tokens w.in_ok-open-in-OpenSign.ensures.reads in
     let l2 = past_part ((inside w.args.levels w.args.names).expr) _ l1 (guard_of w.in_ok-guard-in-OpenSign.guard) w.read_guard.new.tokens (gives_below (λ (r : Readers). r.expr) guard_of w.args.levels w.args.names w.open-in-OpenSign.new.tokens w.read_guard.new.tokens (Ok w.in_ok-guard-in-OpenSign.guard) w.in_ok-open-in-OpenSign.ensures.deep w.in_ok-guard-in-OpenSign.ensures) in
     rw (p.1, p.2) (part_fails (one (is_a CloseSign)) _ l2 w.in_err-token-in-OpenSign.field-0.0 w.token.new.tokens w.in_err-token-in-OpenSign.ensures.reads)
@@ -689,7 +580,7 @@ read_unit-returns-in_err-token-in-OpenSign t w =
 pub read_unit-returns-in_ok-token-in-OpenSign : goal.read_unit-returns-in_ok-token-in-OpenSign
 unfolding a_unit
 read_unit-returns-in_ok-token-in-OpenSign t w =
-    let l0 = chosen (unit_by w.args.levels w.args.names (inside w.args.levels)) w.args.tokens.now OpenSign (sym w.next_role.ensures ∙ w.in-Some.is ∙ ap (λ (r : Role). Some r) w.in-OpenSign.is) in
+    let l0 = chosen (unit_by w.args.levels w.args.names (inside w.args.levels)) w.args.tokens.now OpenSign (next_is w.next_role.ensures w.in-Some.is w.in-OpenSign.is) in
     let l1 = past_part (opening w.args.levels (is_a OpenSign)) _ l0 (lexeme_of w.args.tokens.now.source w.in_ok-open-in-OpenSign.field-0) w.open-in-OpenSign.new.tokens w.in_ok-open-in-OpenSign.ensures.reads in
     let l2 = past_part ((inside w.args.levels w.args.names).expr) _ l1 (guard_of w.in_ok-guard-in-OpenSign.guard) w.read_guard.new.tokens (gives_below (λ (r : Readers). r.expr) guard_of w.args.levels w.args.names w.open-in-OpenSign.new.tokens w.read_guard.new.tokens (Ok w.in_ok-guard-in-OpenSign.guard) w.in_ok-open-in-OpenSign.ensures.deep w.in_ok-guard-in-OpenSign.ensures) in
     let l3 = past_part (one (is_a CloseSign)) _ l2 (lexeme_of w.read_guard.new.tokens.source w.in_ok-token-in-OpenSign.field-0) w.token.new.tokens w.in_ok-token-in-OpenSign.ensures.reads in
@@ -699,14 +590,14 @@ pub read_unit-returns-in_err-word-in-QuantifierWord : goal.read_unit-returns-in_
 unfolding a_unit
 read_unit-returns-in_err-word-in-QuantifierWord t w =
     let p = err_from_is_err_and w.from_residual-in_err-word-in-QuantifierWord.result w.from_residual-in_err-word-in-QuantifierWord.ensures.1 in
-    let l0 = chosen (unit_by w.args.levels w.args.names (inside w.args.levels)) w.args.tokens.now QuantifierWord (sym w.next_role.ensures ∙ w.in-Some.is ∙ ap (λ (r : Role). Some r) w.in-QuantifierWord.is) in
+    let l0 = chosen (unit_by w.args.levels w.args.names (inside w.args.levels)) w.args.tokens.now QuantifierWord (next_is w.next_role.ensures w.in-Some.is w.in-QuantifierWord.is) in
     rw (p.1, p.2) (part_fails (one (is_a QuantifierWord)) _ l0 w.in_err-word-in-QuantifierWord.field-0.0 w.text-in-QuantifierWord.new.tokens (untaken (one (is_a QuantifierWord)) (λ (t : Lexeme). t.text) w.args.tokens.now w.text-in-QuantifierWord.new.tokens w.in_err-word-in-QuantifierWord.field-0.0 w.in_err-word-in-QuantifierWord.ensures))
 
 pub read_unit-returns-in_err-selection-in-QuantifierWord : goal.read_unit-returns-in_err-selection-in-QuantifierWord
 unfolding a_unit
 read_unit-returns-in_err-selection-in-QuantifierWord t w =
     let p = err_from_is_err_and w.from_residual-in_err-selection-in-QuantifierWord.result w.from_residual-in_err-selection-in-QuantifierWord.ensures.1 in
-    let l0 = chosen (unit_by w.args.levels w.args.names (inside w.args.levels)) w.args.tokens.now QuantifierWord (sym w.next_role.ensures ∙ w.in-Some.is ∙ ap (λ (r : Role). Some r) w.in-QuantifierWord.is) in
+    let l0 = chosen (unit_by w.args.levels w.args.names (inside w.args.levels)) w.args.tokens.now QuantifierWord (next_is w.next_role.ensures w.in-Some.is w.in-QuantifierWord.is) in
     let x1 = taken (one (is_a QuantifierWord)) (λ (t : Lexeme). t.text) w.args.tokens.now w.text-in-QuantifierWord.new.tokens (w.in_ok-word-in-QuantifierWord.word.now) w.in_ok-word-in-QuantifierWord.ensures in
     let l1 = past_part (one (is_a QuantifierWord)) _ l0 x1.part w.text-in-QuantifierWord.new.tokens x1.reads in
     rw (p.1, p.2) (part_fails (a_selection w.args.levels w.args.names (inside w.args.levels)) _ l1 w.in_err-selection-in-QuantifierWord.field-0.0 w.read_selection.new.tokens w.in_err-selection-in-QuantifierWord.ensures)
@@ -714,7 +605,7 @@ read_unit-returns-in_err-selection-in-QuantifierWord t w =
 pub read_unit-returns-in_ok-selection-in-QuantifierWord : goal.read_unit-returns-in_ok-selection-in-QuantifierWord
 unfolding a_unit
 read_unit-returns-in_ok-selection-in-QuantifierWord t w =
-    let l0 = chosen (unit_by w.args.levels w.args.names (inside w.args.levels)) w.args.tokens.now QuantifierWord (sym w.next_role.ensures ∙ w.in-Some.is ∙ ap (λ (r : Role). Some r) w.in-QuantifierWord.is) in
+    let l0 = chosen (unit_by w.args.levels w.args.names (inside w.args.levels)) w.args.tokens.now QuantifierWord (next_is w.next_role.ensures w.in-Some.is w.in-QuantifierWord.is) in
     let x1 = taken (one (is_a QuantifierWord)) (λ (t : Lexeme). t.text) w.args.tokens.now w.text-in-QuantifierWord.new.tokens (w.in_ok-word-in-QuantifierWord.word.now) w.in_ok-word-in-QuantifierWord.ensures in
     let l1 = past_part (one (is_a QuantifierWord)) _ l0 x1.part w.text-in-QuantifierWord.new.tokens x1.reads in
     let l2 = past_part (a_selection w.args.levels w.args.names (inside w.args.levels)) _ l1 (selection_of w.in_ok-selection-in-QuantifierWord.selection) w.read_selection.new.tokens w.in_ok-selection-in-QuantifierWord.ensures in
@@ -806,89 +697,49 @@ read_sum-returns-in_err-term t w =
     let l1 = past_part (a_minus) _ l0 (w.in_ok-minus.minus) w.minus.new.tokens w.in_ok-minus.ensures in
     rw (p.1, p.2) (part_fails (a_term w.args.levels w.args.names (inside w.args.levels)) _ l1 w.in_err-term.field-0.0 w.read_term.new.tokens w.in_err-term.ensures)
 
-module _ (n left : ℕ) (old new : Cursor) where
-  sum_made : (all : List tree.Part) → Reached (all_parts n left) old all new → Reached (a_sum n left (inside n)) old (tree.terms all) new
-  sum_made all r = let m = on_made (all_parts n left) tree.terms old new all r in (sum_listed n left old.last old.ahead ∙ m.0, m.1)
-
-  sum_failed : (e : ReadRefusal) → Failed (all_parts n left) e old new → Failed (a_sum n left (inside n)) e old new
-  sum_failed e f = gives_as sum_of (a_sum n left (inside n)) (made (all_parts n left) tree.terms) old new (Err e) (sum_listed n left old.last old.ahead) (fails (all_parts n left) (λ ps. pure (tree.terms ps)) e old new f)
-
 pub read_sum-returns-in_err-part : goal.read_sum-returns-in_err-part
 read_sum-returns-in_err-part t w =
     let p = err_from_is_err_and w.from_residual-in_err-part.result w.from_residual-in_err-part.ensures.1 in
     let e = w.in_err-part.field-0.0 in
-    rw (p.1, p.2) (sum_failed w.args.levels w.args.names w.args.tokens.now w.more_part.new.tokens e (loop_fails (λ s. BehindSign is_plus_or_minus (PartIn w.args.levels w.args.names) s) (λ s. behind_sign is_plus_or_minus (part_in w.args.levels w.args.names (inside w.args.levels)) s) (λ room p. less room) is_plus_or_minus (ends stops_term) (ends stops_sum) (part_elements w.args.levels w.args.names) (all_parts w.args.levels w.args.names) w.args.tokens.now (map part_of w.loop-parts.parts.items) w.loop-parts.room w.loop-parts.tokens w.loop-parts.invariant e w.more_part.new.tokens w.in_err-part.ensures.reads))
+    rw (p.1, p.2) (sum_fails w.args.levels w.args.names e (next_fails (part_elements w.args.levels w.args.names) (λ room p. less room) w.loop-parts.room w.loop-parts.invariant e w.in_err-part.ensures.reads))
 
 pub read_sum-loop-parts-preserved : goal.read_sum-loop-parts-preserved
 read_sum-loop-parts-preserved t w =
-    let h = w.in-Some.part in
     let next = rw w.in-Some.is at w.in_ok-part.ensures.reads in
-    let pushed : map part_of w.push-in-Some.new.self.items ≡ map part_of w.loop-parts.parts.items ++ part_of h ∷ [] = rw w.in_ok-push-2.ensures.items (map_push part_of w.loop-parts.parts.items h) in
-    let more = loop_goes_on (λ s. BehindSign is_plus_or_minus (PartIn w.args.levels w.args.names) s) (λ s. behind_sign is_plus_or_minus (part_in w.args.levels w.args.names (inside w.args.levels)) s) (λ room p. less room) is_plus_or_minus (ends stops_term) (ends stops_sum) (part_elements w.args.levels w.args.names) (all_parts w.args.levels w.args.names) w.args.tokens.now (map part_of w.loop-parts.parts.items) w.loop-parts.room w.loop-parts.tokens w.loop-parts.invariant (part_of h) w.more_part.new.tokens next (map part_of w.push-in-Some.new.self.items) pushed in
-    subst (λ (room : ℕ). StillReads (all_parts w.args.levels w.args.names) w.args.tokens.now (map part_of w.push-in-Some.new.self.items) (more_parts w.args.levels w.args.names room) w.more_part.new.tokens) (less_is w.loop-parts.room) more
+    counted_found (part_elements w.args.levels w.args.names) w.loop-parts.room w.loop-parts.invariant next (map part_of w.push-in-Some.new.self.items) (view_pushed part_of w.loop-parts.parts.items w.in-Some.part w.in_ok-push-2.ensures.items)
 
 pub read_sum-returns : goal.read_sum-returns
 read_sum-returns t w =
-    let r = sum_made w.args.levels w.args.names w.args.tokens.now w.more_part.new.tokens (map part_of w.loop-parts.parts.items) (loop_is_over (λ s. BehindSign is_plus_or_minus (PartIn w.args.levels w.args.names) s) (λ s. behind_sign is_plus_or_minus (part_in w.args.levels w.args.names (inside w.args.levels)) s) (λ room p. less room) is_plus_or_minus (ends stops_term) (ends stops_sum) (part_elements w.args.levels w.args.names) (all_parts w.args.levels w.args.names) w.args.tokens.now (map part_of w.loop-parts.parts.items) w.loop-parts.room w.loop-parts.tokens w.loop-parts.invariant w.more_part.new.tokens (rw w.in_default.is at w.in_ok-part.ensures.reads)) in
-    (r.0 ∙ ap (λ (s : tree.Sum). Ok (s, w.more_part.new.tokens.ahead)) (sym (built.sum_built (record { parts = w.loop-parts.parts }))), r.1)
+    let next = rw w.in_default.is at w.in_ok-part.ensures.reads in
+    sum_read w.args.levels w.args.names (all_found (part_elements w.args.levels w.args.names) (λ room p. less room) w.loop-parts.room w.loop-parts.invariant next) (sym (built.sum_built (record { parts = w.loop-parts.parts })))
 
 -- ---- more_part
 
 pub more_part-returns-then-not-is_joint-clause-reads : goal.more_part-returns-then-not-is_joint-clause-reads
-more_part-returns-then-not-is_joint-clause-reads t w = another_none is_plus_or_minus (behind_sign is_plus_or_minus (part_in w.args.levels w.args.names (inside w.args.levels)) w.args.room) w.args.tokens.now (sym w.is_joint.ensures ∙ w.if-not-is_joint.true)
+more_part-returns-then-not-is_joint-clause-reads t w = none_comes is_plus_or_minus begins_term w.args.levels w.args.room (λ sign. a_term w.args.levels w.args.names (inside w.args.levels) >>= λ t. pure (part (is_a MinusSign sign) t)) w.args.tokens.now (sym w.is_joint.ensures ∙ w.if-not-is_joint.true)
 
 pub more_part-returns-in_err-minus-clause-reads : goal.more_part-returns-in_err-minus-clause-reads
 more_part-returns-in_err-minus-clause-reads t w =
     let p = err_from_is_err_and w.from_residual.result w.from_residual.ensures.1 in
-    let element = part_in w.args.levels w.args.names (inside w.args.levels) in
-    let now = w.args.tokens.now in
-    let comes = sym w.is_joint.ensures ∙ w.if-not-is_joint.false in
     let e = w.in_err-minus.field-0.0 in
-    rw (p.1, p.2) (another_fails is_plus_or_minus (behind_sign is_plus_or_minus element w.args.room) now comes e w.joint.new.tokens
-    (fails (one is_plus_or_minus) (λ sign. element sign w.args.room) e now w.joint.new.tokens (untaken (one is_plus_or_minus) (is_a MinusSign) now w.joint.new.tokens e w.in_err-minus.ensures)))
+    rw (p.1, p.2) (sign_fails is_plus_or_minus begins_term w.args.levels w.args.room (λ sign. a_term w.args.levels w.args.names (inside w.args.levels) >>= λ t. pure (part (is_a MinusSign sign) t)) w.args.tokens.now (sym w.is_joint.ensures ∙ w.if-not-is_joint.false) e (untaken (one is_plus_or_minus) (is_a MinusSign) w.args.tokens.now w.joint.new.tokens e w.in_err-minus.ensures))
 
 pub more_part-returns-then-room-eq0-clause-reads : goal.more_part-returns-then-room-eq0-clause-reads
 more_part-returns-then-room-eq0-clause-reads t w =
-    let element = part_in w.args.levels w.args.names (inside w.args.levels) in
-    let now = w.args.tokens.now in
-    let comes = sym w.is_joint.ensures ∙ w.if-not-is_joint.false in
-    let m = w.in_ok-minus.minus in
-    let x = taken (one is_plus_or_minus) (is_a MinusSign) now w.joint.new.tokens m w.in_ok-minus.ensures in
-    let mid = w.joint.new.tokens in
-    rw w.into.ensures (another_fails is_plus_or_minus (behind_sign is_plus_or_minus element w.args.room) now comes (Refused w.full_sum.result) mid
-    (on (λ (p : tree.Part). p) (one is_plus_or_minus) (λ sign. element sign w.args.room) now mid mid x.part (Err (Refused w.full_sum.result)) x.reads
-    (without_room (λ t. begins_term (role t)) (level_limit w.args.levels) w.args.room (a_term w.args.levels w.args.names (inside w.args.levels) >>= λ t. pure (part (is_a MinusSign x.part) t)) mid w.full_sum.result w.if-room-eq0.true (full_for begins_term w.args.levels mid w.full_sum.result w.full_sum.ensures))))
+    let x = taken (one is_plus_or_minus) (is_a MinusSign) w.args.tokens.now w.joint.new.tokens w.in_ok-minus.minus w.in_ok-minus.ensures in
+    rw w.into.ensures (one_too_many is_plus_or_minus begins_term w.args.levels w.args.room (λ sign. a_term w.args.levels w.args.names (inside w.args.levels) >>= λ t. pure (part (is_a MinusSign sign) t)) w.args.tokens.now (sym w.is_joint.ensures ∙ w.if-not-is_joint.false) x.reads w.full_sum.result w.if-room-eq0.true w.full_sum.ensures)
 
 pub more_part-returns-in_err-term-clause-reads : goal.more_part-returns-in_err-term-clause-reads
 more_part-returns-in_err-term-clause-reads t w =
     let p = err_from_is_err_and w.from_residual-in_err-term.result w.from_residual-in_err-term.ensures.1 in
-    let element = part_in w.args.levels w.args.names (inside w.args.levels) in
-    let now = w.args.tokens.now in
-    let comes = sym w.is_joint.ensures ∙ w.if-not-is_joint.false in
-    let m = w.in_ok-minus.minus in
-    let x = taken (one is_plus_or_minus) (is_a MinusSign) now w.joint.new.tokens m w.in_ok-minus.ensures in
-    let mid = w.joint.new.tokens in
-    let new = w.read_term.new.tokens in
+    let x = taken (one is_plus_or_minus) (is_a MinusSign) w.args.tokens.now w.joint.new.tokens w.in_ok-minus.minus w.in_ok-minus.ensures in
     let e = w.in_err-term.field-0.0 in
-    let room : 0 < w.args.room = (let n = w.if-room-eq0.false in omega arith) in
-    rw (p.1, p.2) (another_fails is_plus_or_minus (behind_sign is_plus_or_minus element w.args.room) now comes e new
-    (on (λ (p : tree.Part). p) (one is_plus_or_minus) (λ sign. element sign w.args.room) now mid new x.part (Err e) x.reads
-    (with_room (λ t. begins_term (role t)) (level_limit w.args.levels) w.args.room (a_term w.args.levels w.args.names (inside w.args.levels) >>= λ t. pure (part (is_a MinusSign x.part) t)) (λ (p : tree.Part). p) mid new (Err e) room
-    (fails (a_term w.args.levels w.args.names (inside w.args.levels)) (λ t. pure (part (is_a MinusSign x.part) t)) e mid new w.in_err-term.ensures))))
+    rw (p.1, p.2) (element_fails is_plus_or_minus begins_term w.args.levels w.args.room (λ sign. a_term w.args.levels w.args.names (inside w.args.levels) >>= λ t. pure (part (is_a MinusSign sign) t)) w.args.tokens.now (sym w.is_joint.ensures ∙ w.if-not-is_joint.false) x.reads w.if-room-eq0.false e (fails (a_term w.args.levels w.args.names (inside w.args.levels)) (λ t. pure (part (is_a MinusSign x.part) t)) e w.joint.new.tokens w.read_term.new.tokens w.in_err-term.ensures))
 
 pub more_part-returns-clause-reads : goal.more_part-returns-clause-reads
 more_part-returns-clause-reads t w =
-    let element = part_in w.args.levels w.args.names (inside w.args.levels) in
-    let now = w.args.tokens.now in
-    let comes = sym w.is_joint.ensures ∙ w.if-not-is_joint.false in
-    let m = w.in_ok-minus.minus in
-    let x = taken (one is_plus_or_minus) (is_a MinusSign) now w.joint.new.tokens m w.in_ok-minus.ensures in
-    let mid = w.joint.new.tokens in
     let new = w.read_term.new.tokens in
     let term = term_of w.in_ok-term.term in
-    let room : 0 < w.args.room = (let n = w.if-room-eq0.false in omega arith) in
-    let r = another_some is_plus_or_minus (behind_sign is_plus_or_minus element w.args.room) now comes (part (is_a MinusSign x.part) term) new
-    (on (λ (p : tree.Part). p) (one is_plus_or_minus) (λ sign. element sign w.args.room) now mid new x.part (Ok (part (is_a MinusSign x.part) term)) x.reads
-    (with_room (λ t. begins_term (role t)) (level_limit w.args.levels) w.args.room (a_term w.args.levels w.args.names (inside w.args.levels) >>= λ t. pure (part (is_a MinusSign x.part) t)) (λ (p : tree.Part). p) mid new (Ok (part (is_a MinusSign x.part) term)) room
-    (on_made (a_term w.args.levels w.args.names (inside w.args.levels)) (part (is_a MinusSign x.part)) mid new term w.in_ok-term.ensures))) in
-    (r.0 ∙ ap (λ (m : Bool). Ok (Some (part m term), new.ahead)) x.is ∙ ap (λ (p : tree.Part). Ok (Some p, new.ahead)) (sym (built.part_built (record { minus = m; term = w.in_ok-term.term }))), r.1)
+    let x = taken (one is_plus_or_minus) (is_a MinusSign) w.args.tokens.now w.joint.new.tokens w.in_ok-minus.minus w.in_ok-minus.ensures in
+    let r = one_read is_plus_or_minus begins_term w.args.levels w.args.room (λ sign. a_term w.args.levels w.args.names (inside w.args.levels) >>= λ t. pure (part (is_a MinusSign sign) t)) w.args.tokens.now (sym w.is_joint.ensures ∙ w.if-not-is_joint.false) x.reads w.if-room-eq0.false (on_made (a_term w.args.levels w.args.names (inside w.args.levels)) (part (is_a MinusSign x.part)) w.joint.new.tokens new term w.in_ok-term.ensures) in
+    (r.0 ∙ ap (λ (m : Bool). Ok (Some (part m term), new.ahead)) x.is ∙ ap (λ (p : tree.Part). Ok (Some p, new.ahead)) (sym (built.part_built (record { minus = w.in_ok-minus.minus; term = w.in_ok-term.term }))), r.1)

@@ -1,18 +1,10 @@
-use Rattle.std.proofs.Common.{Bool, Err, ap, sym, ◌∙◌}
-use Rattle.text_tokens.specs.declared.refusal.Refusal.{Refusal}
+use Rattle.std.proofs.Common.{sym, ◌∙◌}
 use Rattle.action_grammar.specs.ExpressionReaders.{begins_term}
-use Rattle.action_parser.specs.Full.{full_kind}
 use Rattle.action_parser.proofs.Fullness.{full_at_role, full_at_end}
 use Rattle.action_parser.proofs.full.full_sum.Goals as goal
 
 pub returns-in_default : goal.returns-in_default
-returns-in_default c =
-    let now = c.args.tokens.now in
-    full_at_end begins_term c.args.levels now.last now.ahead (sym c.next_role.ensures ∙ c.in_default.is) ∙ ap (λ (r : Refusal). Err r) (sym c.refusal.ensures)
+returns-in_default c = full_at_end begins_term c.args.levels c.args.tokens.now c.refusal.result (sym c.next_role.ensures ∙ c.in_default.is) c.refusal.ensures
 
 pub returns : goal.returns
-returns c =
-    let now = c.args.tokens.now in
-    let r = c.in-Some.role in
-    full_at_role begins_term c.args.levels now.last now.ahead r c.kind_of.result (sym c.next_role.ensures ∙ c.in-Some.is) (c.kind_of.ensures ∙ ap (λ (b : Bool). full_kind b r c.args.levels) c.begins_term.ensures)
-    ∙ ap (λ (r : Refusal). Err r) (sym c.refusal-2.ensures)
+returns c = full_at_role begins_term c.args.levels c.args.tokens.now c.refusal-2.result c.in-Some.role c.begins_term.result c.kind_of.result (sym c.next_role.ensures ∙ c.in-Some.is) c.begins_term.ensures c.kind_of.ensures c.refusal-2.ensures

@@ -1,88 +1,56 @@
-use Rattle.std.proofs.Common.{◌≡◌, ◌<◌, ◌-◌, ◌++◌, ◌∷◌, [], ℕ, List, map, Some, Ok, Err, Vec, sym, ap, subst, ◌∙◌, arith}
+use Rattle.std.proofs.Common.{◌≡◌, ◌-◌, ◌++◌, ◌∷◌, [], ℕ, List, map, Ok, Err, Vec, sym, ap, subst, refl, ◌∙◌}
 use Rattle.std.specs.declared.alloc.Global.{Global}
 use Rattle.std.proofs.lemmas.Result.{err_from_is_err_and}
-use Rattle.std.proofs.lemmas.List.{map_push}
-use Rattle.text_tokens.specs.declared.refusal.ReadRefusal.{ReadRefusal}
-use Rattle.text_tokens.specs.declared.refusal.ReadRefusal.TheVariants.{Refused}
-use Rattle.text_tokens.specs.Cursor.{Cursor}
-use Rattle.text_tokens.specs.Reading.{Reader, ◌>>=◌, pure, one, opening, less, optional, behind_sign}
-use Rattle.text_tokens.specs.Grammar.{BehindSign}
+use Rattle.text_tokens.specs.Reading.{Reader, ◌>>=◌, one, opening, less, optional}
 use Rattle.text_tokens.specs.Steps.{lexeme_of}
-use Rattle.text_tokens.proofs.Stepping.{Reached, Failed, stays, gives_as, on, fails, on_made, another_none, another_some, another_fails, with_room, without_room, is_first, is_second}
-use Rattle.text_tokens.proofs.Looping.{StillReads, loop_goes_on, loop_is_over, loop_fails, less_is}
+use Rattle.text_tokens.proofs.Looping.{StillReads, less_is}
 use Rattle.text_tokens.proofs.Rows.{all_left, past_part, part_fails, gives_left}
 use Rattle.action_tree.specs.declared.statement.Stmt.{Stmt}
 use Rattle.action_tree.specs.Trees as tree
 use Rattle.action_tree.specs.Productions.{after}
 use Rattle.action_tree.specs.Limits.{most_further}
 use Rattle.action_tree.specs.Views.{guard_of, port_of, stmt_of, stmts_of}
-use Rattle.action_grammar.specs.declared.role.Role.{Role}
 use Rattle.action_grammar.specs.declared.role.Role.TheVariants.{AName, SemicolonSign, LetWord, IfWord, ThenWord, ElseWord, FiWord, ForWord, DoWord, OdWord}
-use Rattle.action_grammar.specs.Roles.{role, is_a}
-use Rattle.action_grammar.specs.ExpressionReaders.{level_limit, port_at, selection_at, expr_at}
-use Rattle.action_grammar.specs.StatementReaders.{begins_stmt, put_member, else_part, an_if, a_for, stmt_by, a_stmt, scope_behind, stmt_in, stmts_inside, stmts_at}
-use Rattle.action_grammar.proofs.Playing.{ends, stops_sum}
-use Rattle.action_grammar.proofs.Stating.{StmtIn}
-use Rattle.action_grammar.proofs.StatementLaws.{stops_stmts}
-use Rattle.action_parser.specs.Readings.{made}
+use Rattle.action_grammar.specs.Roles.{is_a}
+use Rattle.action_grammar.specs.ExpressionReaders.{port_at, selection_at, expr_at}
+use Rattle.action_grammar.specs.StatementReaders.{begins_stmt, put_member, else_part, an_if, a_for, stmt_by, a_stmt, scope_behind, stmts_inside, stmts_at}
 use Rattle.action_parser.specs.Selections.{selection_of}
 use Rattle.action_parser.specs.Lists.{more_stmts, all_listed}
 use Rattle.action_parser.proofs.Tokens.{all_read}
-use Rattle.action_parser.proofs.Fullness.{full_for}
 use Rattle.action_parser.proofs.Elements.{stmt_elements}
-use Rattle.action_parser.proofs.Levels.{chosen, chosen_as, none_chosen, none_begins, gives_stmts, gives_bound_stmts, gives_level, less_one, port_stmt, stmt_rest}
-use Rattle.action_parser.proofs.Listing.{begins_with, stmts_listed}
+use Rattle.action_parser.proofs.Levels.{next_is, chosen, chosen_as, none_chosen, none_begins, gives_stmts, gives_bound_stmts, gives_level, less_one, port_stmt, stmt_rest}
+use Rattle.action_parser.proofs.Behind.{none_comes, sign_fails, one_too_many, element_fails, one_read, left_out, word_fails, behind_word}
+use Rattle.action_parser.proofs.Listing.{next_found, all_found, next_fails, view_pushed, begins_with, stmts_read, stmts_fails}
 use Rattle.action_parser.proofs.statement.+statement.Goals as goal
 
+-- ---- more_stmt
+
 pub more_stmt-returns-then-not-is_next-clause-reads : goal.more_stmt-returns-then-not-is_next-clause-reads
-more_stmt-returns-then-not-is_next-clause-reads t w = another_none (is_a SemicolonSign) (behind_sign (is_a SemicolonSign) (stmt_in w.args.levels (stmts_inside w.args.levels)) (record { room = w.args.room; left = w.args.names })) w.args.tokens.now (sym w.is_next.ensures ∙ w.if-not-is_next.true)
+more_stmt-returns-then-not-is_next-clause-reads t w = none_comes (is_a SemicolonSign) begins_stmt w.args.levels w.args.room (λ sign. a_stmt w.args.levels w.args.names (stmts_inside w.args.levels)) w.args.tokens.now (sym w.is_next.ensures ∙ w.if-not-is_next.true)
 
 pub more_stmt-returns-in_err-token-clause-reads : goal.more_stmt-returns-in_err-token-clause-reads
 more_stmt-returns-in_err-token-clause-reads t w =
     let p = err_from_is_err_and w.from_residual.result w.from_residual.ensures.1 in
-    let e = w.in_err-token.field-0.0 in
-    rw (p.1, p.2) (another_fails (is_a SemicolonSign) (behind_sign (is_a SemicolonSign) (stmt_in w.args.levels (stmts_inside w.args.levels)) (record { room = w.args.room; left = w.args.names })) w.args.tokens.now (sym w.is_next.ensures ∙ w.if-not-is_next.false) e w.token.new.tokens
-    (fails (one (is_a SemicolonSign)) (λ sign. stmt_in w.args.levels (stmts_inside w.args.levels) sign (record { room = w.args.room; left = w.args.names })) e w.args.tokens.now w.token.new.tokens w.in_err-token.ensures.reads))
+    rw (p.1, p.2) (sign_fails (is_a SemicolonSign) begins_stmt w.args.levels w.args.room (λ sign. a_stmt w.args.levels w.args.names (stmts_inside w.args.levels)) w.args.tokens.now (sym w.is_next.ensures ∙ w.if-not-is_next.false) w.in_err-token.field-0.0 w.in_err-token.ensures.reads)
 
 pub more_stmt-returns-then-room-eq0-clause-reads : goal.more_stmt-returns-then-room-eq0-clause-reads
-more_stmt-returns-then-room-eq0-clause-reads t w =
-    let now = w.args.tokens.now in
-    let mid = w.token.new.tokens in
-    rw w.into.ensures (another_fails (is_a SemicolonSign) (behind_sign (is_a SemicolonSign) (stmt_in w.args.levels (stmts_inside w.args.levels)) (record { room = w.args.room; left = w.args.names })) now (sym w.is_next.ensures ∙ w.if-not-is_next.false) (Refused w.full_stmts.result) mid
-    (on (λ (s : tree.Stmt). s) (one (is_a SemicolonSign)) (λ sign. stmt_in w.args.levels (stmts_inside w.args.levels) sign (record { room = w.args.room; left = w.args.names })) now mid mid (lexeme_of now.source w.in_ok-token.field-0) (Err (Refused w.full_stmts.result)) w.in_ok-token.ensures.reads
-    (without_room (λ t. begins_stmt (role t)) (level_limit w.args.levels) w.args.room (a_stmt w.args.levels w.args.names (stmts_inside w.args.levels)) mid w.full_stmts.result w.if-room-eq0.true (full_for begins_stmt w.args.levels mid w.full_stmts.result w.full_stmts.ensures))))
+more_stmt-returns-then-room-eq0-clause-reads t w = rw w.into.ensures (one_too_many (is_a SemicolonSign) begins_stmt w.args.levels w.args.room (λ sign. a_stmt w.args.levels w.args.names (stmts_inside w.args.levels)) w.args.tokens.now (sym w.is_next.ensures ∙ w.if-not-is_next.false) w.in_ok-token.ensures.reads w.full_stmts.result w.if-room-eq0.true w.full_stmts.ensures)
 
 pub more_stmt-returns-in_err-read_stmt-clause-reads : goal.more_stmt-returns-in_err-read_stmt-clause-reads
 more_stmt-returns-in_err-read_stmt-clause-reads t w =
     let p = err_from_is_err_and w.from_residual-in_err-read_stmt.result w.from_residual-in_err-read_stmt.ensures.1 in
-    let e = w.in_err-read_stmt.field-0.0 in
-    let room : 0 < w.args.room = (let n = w.if-room-eq0.false in omega arith) in
-    rw (p.1, p.2) (another_fails (is_a SemicolonSign) (behind_sign (is_a SemicolonSign) (stmt_in w.args.levels (stmts_inside w.args.levels)) (record { room = w.args.room; left = w.args.names })) w.args.tokens.now (sym w.is_next.ensures ∙ w.if-not-is_next.false) e w.read_stmt.new.tokens
-    (on (λ (s : tree.Stmt). s) (one (is_a SemicolonSign)) (λ sign. stmt_in w.args.levels (stmts_inside w.args.levels) sign (record { room = w.args.room; left = w.args.names })) w.args.tokens.now w.token.new.tokens w.read_stmt.new.tokens (lexeme_of w.args.tokens.now.source w.in_ok-token.field-0) (Err e) w.in_ok-token.ensures.reads
-    (with_room (λ t. begins_stmt (role t)) (level_limit w.args.levels) w.args.room (a_stmt w.args.levels w.args.names (stmts_inside w.args.levels)) stmt_of w.token.new.tokens w.read_stmt.new.tokens (Err e) room w.in_err-read_stmt.ensures)))
+    rw (p.1, p.2) (element_fails (is_a SemicolonSign) begins_stmt w.args.levels w.args.room (λ sign. a_stmt w.args.levels w.args.names (stmts_inside w.args.levels)) w.args.tokens.now (sym w.is_next.ensures ∙ w.if-not-is_next.false) w.in_ok-token.ensures.reads w.if-room-eq0.false w.in_err-read_stmt.field-0.0 w.in_err-read_stmt.ensures)
 
 pub more_stmt-returns-clause-reads : goal.more_stmt-returns-clause-reads
-more_stmt-returns-clause-reads t w =
-    let s = w.in_ok-read_stmt.field-0 in
-    let room : 0 < w.args.room = (let n = w.if-room-eq0.false in omega arith) in
-    another_some (is_a SemicolonSign) (behind_sign (is_a SemicolonSign) (stmt_in w.args.levels (stmts_inside w.args.levels)) (record { room = w.args.room; left = w.args.names })) w.args.tokens.now (sym w.is_next.ensures ∙ w.if-not-is_next.false) (stmt_of s) w.read_stmt.new.tokens
-    (on stmt_of (one (is_a SemicolonSign)) (λ sign. stmt_in w.args.levels (stmts_inside w.args.levels) sign (record { room = w.args.room; left = w.args.names })) w.args.tokens.now w.token.new.tokens w.read_stmt.new.tokens (lexeme_of w.args.tokens.now.source w.in_ok-token.field-0) (Ok s) w.in_ok-token.ensures.reads
-    (with_room (λ t. begins_stmt (role t)) (level_limit w.args.levels) w.args.room (a_stmt w.args.levels w.args.names (stmts_inside w.args.levels)) stmt_of w.token.new.tokens w.read_stmt.new.tokens (Ok s) room w.in_ok-read_stmt.ensures))
+more_stmt-returns-clause-reads t w = one_read (is_a SemicolonSign) begins_stmt w.args.levels w.args.room (λ sign. a_stmt w.args.levels w.args.names (stmts_inside w.args.levels)) w.args.tokens.now (sym w.is_next.ensures ∙ w.if-not-is_next.false) w.in_ok-token.ensures.reads w.if-room-eq0.false w.in_ok-read_stmt.ensures
 
 -- ---- read_stmts
-
-module _ (n left : ℕ) (old new : Cursor) where
-  list_made : (all : List tree.Stmt) → Reached (all_listed n left) old all new → Reached (stmts_at n left) old (tree.stmts all) new
-  list_made all r = let m = on_made (all_listed n left) tree.stmts old new all r in (stmts_listed n left old.last old.ahead ∙ m.0, m.1)
-
-  list_failed : (e : ReadRefusal) → Failed (all_listed n left) e old new → Failed (stmts_at n left) e old new
-  list_failed e f = gives_as (λ (s : tree.Stmts). s) (stmts_at n left) (made (all_listed n left) tree.stmts) old new (Err e) (stmts_listed n left old.last old.ahead) (fails (all_listed n left) (λ ss. pure (tree.stmts ss)) e old new f)
 
 pub read_stmts-returns-in_err-first : goal.read_stmts-returns-in_err-first
 read_stmts-returns-in_err-first t w =
     let p = err_from_is_err_and w.from_residual.result w.from_residual.ensures.1 in
     let e = w.in_err-first.field-0.0 in
-    rw (p.1, p.2) (list_failed w.args.levels w.args.names w.args.tokens.now w.read_stmt.new.tokens e (part_fails (a_stmt w.args.levels w.args.names (stmts_inside w.args.levels)) _ (all_left (all_listed w.args.levels w.args.names) w.args.tokens.now) e w.read_stmt.new.tokens w.in_err-first.ensures))
+    rw (p.1, p.2) (stmts_fails w.args.levels w.args.names e (part_fails (a_stmt w.args.levels w.args.names (stmts_inside w.args.levels)) _ (all_left (all_listed w.args.levels w.args.names) w.args.tokens.now) e w.read_stmt.new.tokens w.in_err-first.ensures))
 
 pub read_stmts-loop-found-init : goal.read_stmts-loop-found-init
 read_stmts-loop-found-init t w =
@@ -96,37 +64,40 @@ pub read_stmts-returns-in_err-next : goal.read_stmts-returns-in_err-next
 read_stmts-returns-in_err-next t w =
     let p = err_from_is_err_and w.from_residual-in_err-next.result w.from_residual-in_err-next.ensures.1 in
     let e = w.in_err-next.field-0.0 in
-    rw (p.1, p.2) (list_failed w.args.levels w.args.names w.args.tokens.now w.more_stmt.new.tokens e (loop_fails (λ s. BehindSign (is_a SemicolonSign) (StmtIn w.args.levels) s) (λ s. behind_sign (is_a SemicolonSign) (stmt_in w.args.levels (stmts_inside w.args.levels)) s) scope_behind (is_a SemicolonSign) (ends stops_sum) (ends stops_stmts) (stmt_elements w.args.levels w.args.names) (all_listed w.args.levels w.args.names) w.args.tokens.now (map stmt_of w.loop-found.found.items) (record { room = w.loop-found.room; left = w.loop-found.left }) w.loop-found.tokens w.loop-found.invariant e w.more_stmt.new.tokens w.in_err-next.ensures.reads))
+    rw (p.1, p.2) (stmts_fails w.args.levels w.args.names e (next_fails (stmt_elements w.args.levels w.args.names) scope_behind (record { room = w.loop-found.room; left = w.loop-found.left }) w.loop-found.invariant e w.in_err-next.ensures.reads))
 
 pub read_stmts-loop-found-preserved : goal.read_stmts-loop-found-preserved
 read_stmts-loop-found-preserved t w =
     let h = w.in-Some.next in
+    let found = map stmt_of w.push-in-Some.new.self.items in
     let next = rw w.in-Some.is at w.in_ok-next.ensures.reads in
-    let pushed : map stmt_of w.push-in-Some.new.self.items ≡ map stmt_of w.loop-found.found.items ++ stmt_of h ∷ [] = rw w.in_ok-push-2.ensures.items (map_push stmt_of w.loop-found.found.items h) in
-    let more = loop_goes_on (λ s. BehindSign (is_a SemicolonSign) (StmtIn w.args.levels) s) (λ s. behind_sign (is_a SemicolonSign) (stmt_in w.args.levels (stmts_inside w.args.levels)) s) scope_behind (is_a SemicolonSign) (ends stops_sum) (ends stops_stmts) (stmt_elements w.args.levels w.args.names) (all_listed w.args.levels w.args.names) w.args.tokens.now (map stmt_of w.loop-found.found.items) (record { room = w.loop-found.room; left = w.loop-found.left }) w.loop-found.tokens w.loop-found.invariant (stmt_of h) w.more_stmt.new.tokens next (map stmt_of w.push-in-Some.new.self.items) pushed in
+    let more = next_found (stmt_elements w.args.levels w.args.names) scope_behind (record { room = w.loop-found.room; left = w.loop-found.left }) w.loop-found.invariant next found (view_pushed stmt_of w.loop-found.found.items h w.in_ok-push-2.ensures.items) in
     let left : after w.loop-found.left (stmt_of h) ≡ w.names_after-left-in-Some.result = sym w.names_after-left-in-Some.ensures in
-    subst (λ (l : ℕ). StillReads (all_listed w.args.levels w.args.names) w.args.tokens.now (map stmt_of w.push-in-Some.new.self.items) (more_stmts w.args.levels (record { room = w.loop-found.room - 1; left = l })) w.more_stmt.new.tokens) left
-    (subst (λ (room : ℕ). StillReads (all_listed w.args.levels w.args.names) w.args.tokens.now (map stmt_of w.push-in-Some.new.self.items) (more_stmts w.args.levels (record { room = room; left = after w.loop-found.left (stmt_of h) })) w.more_stmt.new.tokens) (less_is w.loop-found.room) more)
+    subst (λ (l : ℕ). StillReads (all_listed w.args.levels w.args.names) w.args.tokens.now found (more_stmts w.args.levels (record { room = w.loop-found.room - 1; left = l })) w.more_stmt.new.tokens) left
+    (subst (λ (room : ℕ). StillReads (all_listed w.args.levels w.args.names) w.args.tokens.now found (more_stmts w.args.levels (record { room = room; left = after w.loop-found.left (stmt_of h) })) w.more_stmt.new.tokens) (less_is w.loop-found.room) more)
 
 pub read_stmts-returns : goal.read_stmts-returns
 read_stmts-returns t w =
-    list_made w.args.levels w.args.names w.args.tokens.now w.more_stmt.new.tokens (map stmt_of w.loop-found.found.items) (loop_is_over (λ s. BehindSign (is_a SemicolonSign) (StmtIn w.args.levels) s) (λ s. behind_sign (is_a SemicolonSign) (stmt_in w.args.levels (stmts_inside w.args.levels)) s) scope_behind (is_a SemicolonSign) (ends stops_sum) (ends stops_stmts) (stmt_elements w.args.levels w.args.names) (all_listed w.args.levels w.args.names) w.args.tokens.now (map stmt_of w.loop-found.found.items) (record { room = w.loop-found.room; left = w.loop-found.left }) w.loop-found.tokens w.loop-found.invariant w.more_stmt.new.tokens (rw w.in_default.is at w.in_ok-next.ensures.reads))
+    let next = rw w.in_default.is at w.in_ok-next.ensures.reads in
+    stmts_read w.args.levels w.args.names (all_found (stmt_elements w.args.levels w.args.names) scope_behind (record { room = w.loop-found.room; left = w.loop-found.left }) w.loop-found.invariant next) refl
+
+-- ---- read_stmt
 
 pub read_stmt-returns-in-AName : goal.read_stmt-returns-in-AName
 unfolding a_stmt
-read_stmt-returns-in-AName t w = gives_left stmt_of w.put_behind.result w.put_behind.new.tokens (chosen (stmt_by w.args.levels w.args.names (stmts_inside w.args.levels)) w.args.tokens.now AName (sym w.next_role.ensures ∙ w.in-Some.is ∙ ap (λ (r : Role). Some r) w.in-AName.is)) w.put_behind.ensures
+read_stmt-returns-in-AName t w = gives_left stmt_of w.put_behind.result w.put_behind.new.tokens (chosen (stmt_by w.args.levels w.args.names (stmts_inside w.args.levels)) w.args.tokens.now AName (next_is w.next_role.ensures w.in-Some.is w.in-AName.is)) w.put_behind.ensures
 
 pub read_stmt-returns-in-LetWord : goal.read_stmt-returns-in-LetWord
 unfolding a_stmt
-read_stmt-returns-in-LetWord t w = gives_left stmt_of w.read_let.result w.read_let.new.tokens (chosen (stmt_by w.args.levels w.args.names (stmts_inside w.args.levels)) w.args.tokens.now LetWord (sym w.next_role.ensures ∙ w.in-Some.is ∙ ap (λ (r : Role). Some r) w.in-LetWord.is)) w.read_let.ensures
+read_stmt-returns-in-LetWord t w = gives_left stmt_of w.read_let.result w.read_let.new.tokens (chosen (stmt_by w.args.levels w.args.names (stmts_inside w.args.levels)) w.args.tokens.now LetWord (next_is w.next_role.ensures w.in-Some.is w.in-LetWord.is)) w.read_let.ensures
 
 pub read_stmt-returns-in-IfWord : goal.read_stmt-returns-in-IfWord
 unfolding a_stmt
-read_stmt-returns-in-IfWord t w = gives_left stmt_of w.read_if.result w.read_if.new.tokens (chosen (stmt_by w.args.levels w.args.names (stmts_inside w.args.levels)) w.args.tokens.now IfWord (sym w.next_role.ensures ∙ w.in-Some.is ∙ ap (λ (r : Role). Some r) w.in-IfWord.is)) w.read_if.ensures
+read_stmt-returns-in-IfWord t w = gives_left stmt_of w.read_if.result w.read_if.new.tokens (chosen (stmt_by w.args.levels w.args.names (stmts_inside w.args.levels)) w.args.tokens.now IfWord (next_is w.next_role.ensures w.in-Some.is w.in-IfWord.is)) w.read_if.ensures
 
 pub read_stmt-returns-in-ForWord : goal.read_stmt-returns-in-ForWord
 unfolding a_stmt
-read_stmt-returns-in-ForWord t w = gives_left stmt_of w.read_for.result w.read_for.new.tokens (chosen (stmt_by w.args.levels w.args.names (stmts_inside w.args.levels)) w.args.tokens.now ForWord (sym w.next_role.ensures ∙ w.in-Some.is ∙ ap (λ (r : Role). Some r) w.in-ForWord.is)) w.read_for.ensures
+read_stmt-returns-in-ForWord t w = gives_left stmt_of w.read_for.result w.read_for.new.tokens (chosen (stmt_by w.args.levels w.args.names (stmts_inside w.args.levels)) w.args.tokens.now ForWord (next_is w.next_role.ensures w.in-Some.is w.in-ForWord.is)) w.read_for.ensures
 
 pub read_stmt-returns-in_err-port-in-EndWord : goal.read_stmt-returns-in_err-port-in-EndWord
 unfolding a_stmt
@@ -284,20 +255,12 @@ read_for-returns t w =
 -- ---- read_else
 
 pub read_else-returns-then-not-is_next : goal.read_else-returns-then-not-is_next
-read_else-returns-then-not-is_next t w =
-    let now = w.args.tokens.now in
-    rw w.new.ensures.items (is_second (is_a ElseWord) (one (is_a ElseWord) >>= λ d. stmts_at w.args.levels w.args.names) (pure tree.no_stmts) now.last now.ahead (sym w.is_next.ensures ∙ w.if-not-is_next.true), stays now)
+read_else-returns-then-not-is_next t w = rw w.new.ensures.items (left_out (is_a ElseWord) tree.no_stmts (stmts_at w.args.levels w.args.names) w.args.tokens.now (sym w.is_next.ensures ∙ w.if-not-is_next.true))
 
 pub read_else-returns-in_err-token : goal.read_else-returns-in_err-token
 read_else-returns-in_err-token t w =
     let p = err_from_is_err_and w.from_residual.result w.from_residual.ensures.1 in
-    let now = w.args.tokens.now in
-    let e = w.in_err-token.field-0.0 in
-    rw (p.1, p.2) (gives_as (λ (v : Vec Stmt Global). stmts_of v.items) (else_part (stmts_at w.args.levels) w.args.names) (one (is_a ElseWord) >>= λ d. stmts_at w.args.levels w.args.names) now w.token.new.tokens (Err e) (is_first (is_a ElseWord) (one (is_a ElseWord) >>= λ d. stmts_at w.args.levels w.args.names) (pure tree.no_stmts) now.last now.ahead (sym w.is_next.ensures ∙ w.if-not-is_next.false))
-    (fails (one (is_a ElseWord)) (λ d. stmts_at w.args.levels w.args.names) e now w.token.new.tokens w.in_err-token.ensures.reads))
+    rw (p.1, p.2) (word_fails (is_a ElseWord) tree.no_stmts (stmts_at w.args.levels w.args.names) w.args.tokens.now (sym w.is_next.ensures ∙ w.if-not-is_next.false) w.in_err-token.field-0.0 w.in_err-token.ensures.reads)
 
 pub read_else-returns : goal.read_else-returns
-read_else-returns t w =
-    let now = w.args.tokens.now in
-    gives_as (λ (v : Vec Stmt Global). stmts_of v.items) (else_part (stmts_at w.args.levels) w.args.names) (one (is_a ElseWord) >>= λ d. stmts_at w.args.levels w.args.names) now w.read_stmts.new.tokens w.read_stmts.result (is_first (is_a ElseWord) (one (is_a ElseWord) >>= λ d. stmts_at w.args.levels w.args.names) (pure tree.no_stmts) now.last now.ahead (sym w.is_next.ensures ∙ w.if-not-is_next.false))
-    (on (λ (v : Vec Stmt Global). stmts_of v.items) (one (is_a ElseWord)) (λ d. stmts_at w.args.levels w.args.names) now w.token.new.tokens w.read_stmts.new.tokens (lexeme_of now.source w.in_ok-token.field-0) w.read_stmts.result w.in_ok-token.ensures.reads w.read_stmts.ensures)
+read_else-returns t w = behind_word (is_a ElseWord) tree.no_stmts (stmts_at w.args.levels w.args.names) w.args.tokens.now (sym w.is_next.ensures ∙ w.if-not-is_next.false) (λ (v : Vec Stmt Global). stmts_of v.items) w.read_stmts.new.tokens w.read_stmts.result w.in_ok-token.ensures.reads w.read_stmts.ensures

@@ -1,31 +1,22 @@
-use Rattle.std.proofs.Common.{ℕ, Err, sym, subst, ◌∙◌}
+use Rattle.std.proofs.Common.{ℕ, sym, subst, ◌∙◌}
 use Rattle.std.proofs.lemmas.Result.{err_from_is_err_and}
-use Rattle.text_tokens.specs.Reading.{◌>>=◌, pure, one}
-use Rattle.text_tokens.specs.Steps.{lexeme_of, Gives}
-use Rattle.text_tokens.proofs.Stepping.{stays, gives_as, on, fails, is_first, is_second}
+use Rattle.text_tokens.specs.Steps.{Gives}
 use Rattle.action_tree.specs.Trees as tree
 use Rattle.action_tree.specs.Productions.{after_all}
 use Rattle.action_tree.specs.Views.{stmts_of, move_of}
 use Rattle.action_grammar.specs.declared.role.Role.TheVariants.{MoveWord}
 use Rattle.action_grammar.specs.Roles.{is_a}
-use Rattle.action_grammar.specs.ProgramReaders.{a_move, a_moved}
+use Rattle.action_grammar.specs.ProgramReaders.{a_move}
+use Rattle.action_parser.proofs.Behind.{left_out, word_fails, behind_word}
 use Rattle.action_parser.proofs.statement.read_moved.Goals as goal
 
 pub returns-then-not-is_next : goal.returns-then-not-is_next
-returns-then-not-is_next c =
-    let now = c.args.tokens.now in
-    (is_second (is_a MoveWord) (one (is_a MoveWord) >>= λ d. a_move c.args.levels (after_all c.args.names (stmts_of c.args.body.now))) (pure tree.no_move) now.last now.ahead (sym c.is_next.ensures ∙ c.if-not-is_next.true), stays now)
+returns-then-not-is_next c = left_out (is_a MoveWord) tree.no_move (a_move c.args.levels (after_all c.args.names (stmts_of c.args.body.now))) c.args.tokens.now (sym c.is_next.ensures ∙ c.if-not-is_next.true)
 
 pub returns-in_err-token : goal.returns-in_err-token
 returns-in_err-token c =
     let p = err_from_is_err_and c.from_residual.result c.from_residual.ensures.1 in
-    let now = c.args.tokens.now in
-    let e = c.in_err-token.field-0.0 in
-    rw (p.1, p.2) (gives_as move_of (a_moved c.args.levels (after_all c.args.names (stmts_of c.args.body.now))) (one (is_a MoveWord) >>= λ d. a_move c.args.levels (after_all c.args.names (stmts_of c.args.body.now))) now c.token.new.tokens (Err e) (is_first (is_a MoveWord) (one (is_a MoveWord) >>= λ d. a_move c.args.levels (after_all c.args.names (stmts_of c.args.body.now))) (pure tree.no_move) now.last now.ahead (sym c.is_next.ensures ∙ c.if-not-is_next.false))
-    (fails (one (is_a MoveWord)) (λ d. a_move c.args.levels (after_all c.args.names (stmts_of c.args.body.now))) e now c.token.new.tokens c.in_err-token.ensures.reads))
+    rw (p.1, p.2) (word_fails (is_a MoveWord) tree.no_move (a_move c.args.levels (after_all c.args.names (stmts_of c.args.body.now))) c.args.tokens.now (sym c.is_next.ensures ∙ c.if-not-is_next.false) c.in_err-token.field-0.0 c.in_err-token.ensures.reads)
 
 pub returns : goal.returns
-returns c =
-    let now = c.args.tokens.now in
-    gives_as move_of (a_moved c.args.levels (after_all c.args.names (stmts_of c.args.body.now))) (one (is_a MoveWord) >>= λ d. a_move c.args.levels (after_all c.args.names (stmts_of c.args.body.now))) now c.read_move.new.tokens c.read_move.result (is_first (is_a MoveWord) (one (is_a MoveWord) >>= λ d. a_move c.args.levels (after_all c.args.names (stmts_of c.args.body.now))) (pure tree.no_move) now.last now.ahead (sym c.is_next.ensures ∙ c.if-not-is_next.false))
-    (on move_of (one (is_a MoveWord)) (λ d. a_move c.args.levels (after_all c.args.names (stmts_of c.args.body.now))) now c.token.new.tokens c.read_move.new.tokens (lexeme_of now.source c.in_ok-token.field-0) c.read_move.result c.in_ok-token.ensures.reads (subst (λ (l : ℕ). Gives move_of (a_move c.args.levels l) c.token.new.tokens c.read_move.result c.read_move.new.tokens) c.names_behind.ensures c.read_move.ensures))
+returns c = behind_word (is_a MoveWord) tree.no_move (a_move c.args.levels (after_all c.args.names (stmts_of c.args.body.now))) c.args.tokens.now (sym c.is_next.ensures ∙ c.if-not-is_next.false) move_of c.read_move.new.tokens c.read_move.result c.in_ok-token.ensures.reads (subst (λ (l : ℕ). Gives move_of (a_move c.args.levels l) c.token.new.tokens c.read_move.result c.read_move.new.tokens) c.names_behind.ensures c.read_move.ensures)
