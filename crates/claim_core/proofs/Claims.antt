@@ -18,7 +18,6 @@ use Rattle.claim_core.specs.declared.state.Look.TheVariants as look
 use Rattle.claim_core.specs.declared.state.Phase.{Phase}
 use Rattle.claim_core.specs.declared.state.Phase.TheVariants.{Claim, Refusing, Looking, Taking}
 use Rattle.claim_core.specs.declared.state.Caller.{Caller}
-use Rattle.claim_core.specs.Good.{mark_of, place_of, place_after}
 use Rattle.claim_core.specs.Cells.{number, at, values_of, held_by}
 use Rattle.claim_core.specs.Machine.{Setup, State, bot, own_tag, found, next_of, decided, after_win, won, wins, with_caller}
 use Rattle.claim_core.specs.Soundness.{IsSetup, names, IsCommitting, marked, IsTurn, AreBefore, IsRefused, IsDecided, HasFront, IsHeld, CallerOk, Sound}
@@ -73,6 +72,10 @@ module _ (g : Setup) (ok : IsSetup g) (old : State) (s : Sound g old) (c : ℕ) 
       let mine : by.0 ≡ k = same_Some by.0 k (sym by.1 ∙ ap (slice_get old.callers) same ∙ there) in
       not (subst IsCommitting (ap (λ (j : Caller). j.phase) mine ∙ e) by.2)
 
+  -- a turn that claims has no mark yet
+  unmarked_yet : k.phase ≡ Claim → length k.marks ≡ k.turn
+  unmarked_yet p = is.counted ∙ ap (λ q. marked q k.turn) p
+
   -- another's tag is found
   pub refuses : (n : CellName) (t : ℕ) → k.phase ≡ Claim → next_of g own k.held ≡ Some n → at old.tags (number g.world.area n) ≡ Some t → t ≢ 0 → Sound g (with_caller g old c (record k { phase = Refusing n t }))
   refuses n t p next found some =
@@ -85,11 +88,8 @@ module _ (g : Setup) (ok : IsSetup g) (old : State) (s : Sound g old) (c : ℕ) 
       front : AreBefore s.last own k.held n
       front = before g ok old s c k there n p next
 
-      count : length k.marks ≡ k.turn
-      count = is.counted ∙ ap (λ q. marked q k.turn) p
-
       mv : Moves g old new c k (record k { phase = Refusing n t })
-      mv = goes_on new (Refusing n t) refl refl count
+      mv = goes_on new (Refusing n t) refl refl (unmarked_yet p)
 
       mine : CallerOk g new s.last c (record k { phase = Refusing n t })
       mine = record {
@@ -97,7 +97,7 @@ module _ (g : Setup) (ok : IsSetup g) (old : State) (s : Sound g old) (c : ℕ) 
         held = same_held new c k.turn k.held refl is.held;
         front = front;
         holder = λ none. absurd none;
-        counted = count;
+        counted = unmarked_yet p;
         right = right_same g old new c k (record k { phase = Refusing n t }) mv c k.marks is.right;
         refused = (some, holder_stays g old new c k (record k { phase = Refusing n t }) mv c n _ _ _ (refused_by g ok old s c k there n t front found some));
         rising = is.rising;
@@ -133,9 +133,6 @@ module _ (g : Setup) (ok : IsSetup g) (old : State) (s : Sound g old) (c : ℕ) 
       there_own : IsSome (bot_at s.last own)
       there_own = own_stays g ok c k.turn known s.last (framed g ok old s)
 
-      count : length k.marks ≡ k.turn
-      count = is.counted ∙ ap (λ q. marked q k.turn) p
-
       turns : k.turn < g.lists.turns
       turns = subst (λ q. IsTurn g.lists.turns q k.turn) p is.turn
 
@@ -146,7 +143,7 @@ module _ (g : Setup) (ok : IsSetup g) (old : State) (s : Sound g old) (c : ℕ) 
       grows m has = subst (λ ns. Contains ns m) (sym (names-more (n, x) k.held)) (Contains-append_left (names k.held) (n ∷ []) m has)
 
       mv : Moves g old new c k next_k
-      mv = record { at = there; now = refl; entries = []; journal = sym (append-nil old.journal); added = []; marks = sym (append-nil k.marks); keeps = λ m has e. inl (refl, count, grows m has) }
+      mv = record { at = there; now = refl; entries = []; journal = sym (append-nil old.journal); added = []; marks = sym (append-nil k.marks); keeps = λ m has e. inl (refl, unmarked_yet p, grows m has) }
 
       -- cells with a tag keep it
       still : (d t : ℕ) (held : Pairs) → All (IsHeld g old s.last d t) held → All (IsHeld g new s.last d t) held
@@ -188,12 +185,12 @@ module _ (g : Setup) (ok : IsSetup g) (old : State) (s : Sound g old) (c : ℕ) 
       }
 
       by_verdict : (v : Verdict) → IsDecided g s.last own more v → CallerOk g new s.last c (record k { phase = decided v; held = more })
-      by_verdict verdict.Idle by = in_phase (Looking look.Idle) turns by (λ h. h) count tt
-      by_verdict (verdict.Failed why) by = in_phase (Looking (look.Failed why)) turns by (λ h. h) count tt
-      by_verdict (verdict.Change change) by = in_phase (Taking change) turns by (λ h. h) count tt
+      by_verdict verdict.Idle by = in_phase (Looking look.Idle) turns by (λ h. h) (unmarked_yet p) tt
+      by_verdict (verdict.Failed why) by = in_phase (Looking (look.Failed why)) turns by (λ h. h) (unmarked_yet p) tt
+      by_verdict (verdict.Change change) by = in_phase (Taking change) turns by (λ h. h) (unmarked_yet p) tt
 
       mine : (o : Option CellName) → next_of g own more ≡ o → CallerOk g new s.last c (record k { phase = after_win g own more o; held = more })
-      mine (Some m) e = in_phase Claim turns (first front.0 (sym next_more ∙ e) front_more) (λ h. h) count tt
+      mine (Some m) e = in_phase Claim turns (first front.0 (sym next_more ∙ e) front_more) (λ h. h) (unmarked_yet p) tt
         where
           first : (rest : List CellName) → slice_get rest 0 ≡ Some m → names more ++ rest ≡ zone s.last own → (m : CellName) × AreBefore s.last own more m
           first [] f w = absurd (none-some m f)

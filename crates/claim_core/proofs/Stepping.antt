@@ -56,7 +56,7 @@ pub turn_below : (turns : ℕ) (callers : List Caller) (c n : ℕ) (k : Caller) 
 turn_below turns callers c n k has there same = let mine : has.record_of.turn ≡ k.turn = ap (λ (j : Caller). j.turn) (same_Some has.record_of k (sym has.there ∙ there)) in let lt = has.turn in omega arith
 
 -- a list turned round
-reverse-map : {A B : Type 0} (f : A → B) (xs : List A) → reverse (map f xs) ≡ map f (reverse xs)
+pub reverse-map : {A B : Type 0} (f : A → B) (xs : List A) → reverse (map f xs) ≡ map f (reverse xs)
 reverse-map f [] = refl
 reverse-map f (x ∷ xs) = reverse-more (f x) (map f xs) ∙ ap (λ ys. ys ++ f x ∷ []) (reverse-map f xs) ∙ sym (map-append f (reverse xs) (x ∷ [])) ∙ ap (map f) (sym (reverse-more x xs))
 
@@ -69,12 +69,21 @@ pub closes : {D : Type 0} (verdict : D → Shown → Verdict) (decider : D) (fir
 closes {D} verdict decider first new_first lists old new now c view same step =
     (λ i. record { decider = decider; first = same i; lists = lists; state = step i }) ∙ ap (stepped verdict c) view
 
+-- the caller has a seat, and it is this one, at its place
+pub record IsSeatOf (seats : List Seat) (c i : ℕ) (seat : Seat) : Type 0 where
+  pub same : i ≡ c
+  pub inside : c < length seats
+  pub read : seat ≡ get_or seats i seat
+
+pub its_seat : {seats : List Seat} (c i : ℕ) (seat : Seat) → i ≡ c → c < length seats → seat ≡ get_or seats i seat → IsSeatOf seats c i seat
+its_seat c i seat same inside read = record { same = same; inside = inside; read = read }
+
 -- the core keeps what it keeps
-pub kept : (verdict : Shown → Verdict) (lists : CallerLists) (tags tags' : List ℕ) (world world' : Config) (journal journal' : Kept) (holder holder' : Option ℕ) (seats seats' : List Seat) (marks marks' : MarkLists) → IsCore verdict lists tags world journal holder seats marks → (c : ℕ)
+pub kept : {verdict : Shown → Verdict} {lists : CallerLists} {tags tags' : List ℕ} {world world' : Config} {journal journal' : Kept} {holder holder' : Option ℕ} {seats seats' : List Seat} {marks marks' : MarkLists} → IsCore verdict lists tags world journal holder seats marks → (c : ℕ)
     → journal'.first ≡ journal.first → state_of tags' world' journal' holder' seats' marks' ≡ next (record { verdict = verdict; world = journal.first; lists = lists }) c (state_of tags world journal holder seats marks)
     → Run verdict journal'.first journal'.entries world' → marks'.turns ≡ lists.turns → length marks'.marks ≡ length seats' → unmarked lists.turns marks'.marks ≤ journal'.spare → length journal'.entries + unmarked lists.turns marks'.marks ≤ 65536
     → IsCore verdict lists tags' world' journal' holder' seats' marks'
-kept verdict lists tags tags' world world' journal journal' holder holder' seats seats' marks marks' is c first step run turns each room few = record {
+kept {verdict} {lists} {tags} {tags'} {world} {world'} {journal} {journal'} {holder} {holder'} {seats} {seats'} {marks} {marks'} is c first step run turns each room few = record {
   setup = subst (λ w. let g : Setup = record { verdict = verdict; world = w; lists = lists } in IsSetup g) (sym first) is.setup;
   steps = c ∷ is.steps;
   reached = step ∙ ap (next (record { verdict = verdict; world = journal.first; lists = lists }) c) is.reached ∙ (λ j. after (record { verdict = verdict; world = sym first j; lists = lists }) (c ∷ is.steps));
@@ -85,7 +94,7 @@ kept verdict lists tags tags' world world' journal journal' holder holder' seats
   few = few;
 }
 
-module _ (verdict : Shown → Verdict) (lists : CallerLists) (tags : List ℕ) (world : Config) (journal : Kept) (holder : Option ℕ) (seats : List Seat) (marks : MarkLists) (is : IsCore verdict lists tags world journal holder seats marks) where
+module _ {verdict : Shown → Verdict} {lists : CallerLists} {tags : List ℕ} {world : Config} {journal : Kept} {holder : Option ℕ} {seats : List Seat} {marks : MarkLists} (is : IsCore verdict lists tags world journal holder seats marks) where
   abbrev pub g : Setup
   g = record { verdict = verdict; world = journal.first; lists = lists }
 
@@ -113,6 +122,17 @@ module _ (verdict : Shown → Verdict) (lists : CallerLists) (tags : List ℕ) (
   pub seated_in : (c : ℕ) (p : Phase) → HasPhase old.callers c p → c < length seats
   seated_in c p has = seated c (slice_get_within old.callers c has.0 has.1)
 
+  -- a caller that contracts see is one of the seats
+  pub there_in : {D : Type 0} {now r : Running D} → r ≡ now → r.state ≡ old → {c : ℕ} → c < length now.state.callers → c < length seats
+  there_in view is_old {c} lt = seated c (subst (λ (s : State). c < length s.callers) (ap (λ (x : Running _). x.state) (sym view) ∙ is_old) lt)
+
+  pub inside_in : {D : Type 0} {now r : Running D} → r ≡ now → r.state ≡ old → (c : ℕ) (p : Phase) → HasPhase now.state.callers c p → c < length seats
+  inside_in {D} {now} {r} view is_old c p has = seated_in c p (seen now r view is_old c p has)
+
+  -- and so is one in a phase, with this seat
+  pub seat_in : {D : Type 0} {now r : Running D} → r ≡ now → r.state ≡ old → (c : ℕ) (p : Phase) → HasPhase now.state.callers c p → (i : ℕ) (seat : Seat) → i ≡ c → seat ≡ get_or seats i seat → IsSeatOf seats c i seat
+  seat_in view is_old c p has i seat same read = its_seat c i seat same (inside_in view is_old c p has) read
+
   pub seated_unmarked : (c : ℕ) → IsUnmarked lists.turns old.callers c → c < length seats
   seated_unmarked c has = seated c (slice_get_within old.callers c has.record_of has.there)
 
@@ -124,7 +144,7 @@ module _ (verdict : Shown → Verdict) (lists : CallerLists) (tags : List ℕ) (
   pub room_after : (c : ℕ) (m : Mark) → IsUnmarked lists.turns old.callers c → unmarked lists.turns (set marks.marks c (get_or marks.marks c [] ++ m ∷ [])) + 1 ≡ unmarked lists.turns marks.marks
   room_after c m has = unmarked-set lists.turns c marks.marks m (let inside = seated_unmarked c has in omega (arith, is.each)) (unmarked_count c has)
 
-  module _ (c i : ℕ) (seat : Seat) (same : i ≡ c) (inside : c < length seats) (read : seat ≡ get_or seats i seat) where
+  module _ {c i : ℕ} {seat : Seat} (here : IsSeatOf seats c i seat) where
     abbrev pub own_marks : List Mark
     own_marks = get_or marks.marks c []
 
@@ -132,18 +152,27 @@ module _ (verdict : Shown → Verdict) (lists : CallerLists) (tags : List ℕ) (
     k = caller_of seat own_marks
 
     pub there : slice_get old.callers c ≡ Some k
-    there = callers-at seats marks.marks c seat is.each inside (read ∙ ap (λ j. get_or seats j seat) same)
+    there = callers-at seats marks.marks c seat is.each here.inside (here.read ∙ ap (λ j. get_or seats j seat) here.same)
 
     -- its phase is the seat's
     pub phase_is : (p : Phase) → HasPhase old.callers c p → seat.phase ≡ p
     phase_is p has = ap (λ (j : Caller). j.phase) (same_Some k has.0 (sym there ∙ has.1)) ∙ has.2
 
+    pub phase_in : {D : Type 0} {now r : Running D} → r ≡ now → r.state ≡ old → (p : Phase) → HasPhase now.state.callers c p → seat.phase ≡ p
+    phase_in {D} {now} {r} view is_old p has = phase_is p (seen now r view is_old c p has)
+
     -- a caller that has not ended is in a turn
     pub in_a_turn : (p : Phase) → seat.phase ≡ p → (turn : IsTurn lists.turns p seat.turn) × Unit {0}
     in_a_turn p e = (subst (λ q. IsTurn lists.turns q seat.turn) e (is_sound.each c k there).turn, tt)
 
+    -- nor has that turn its mark yet, in the phases where marks are as many as turns before
+    unmarked_in : (p : Phase) → seat.phase ≡ p → (IsTurn lists.turns p seat.turn → seat.turn < lists.turns) → marked p seat.turn ≡ seat.turn → IsUnmarked lists.turns old.callers c
+    unmarked_in p e below as_many =
+        let mine = is_sound.each c k there in
+        record { record_of = k; there = there; turn = below (subst (λ q. IsTurn lists.turns q seat.turn) e mine.turn); counted = mine.counted ∙ ap (λ q. marked q seat.turn) e ∙ as_many }
+
     pub seats_put : (new : Seat) → callers_of (set seats i new) marks.marks ≡ slice_set old.callers c (caller_of new own_marks)
-    seats_put new = ap (λ j. callers_of (set seats j new) marks.marks) same ∙ callers-set seats marks.marks c new
+    seats_put new = ap (λ j. callers_of (set seats j new) marks.marks) here.same ∙ callers-set seats marks.marks c new
 
     -- the step is that of its phase
     pub next_in : (p : Phase) → seat.phase ≡ p → next g c old ≡ by_phase g c old k p
@@ -162,7 +191,7 @@ module _ (verdict : Shown → Verdict) (lists : CallerLists) (tags : List ℕ) (
     pub settled : (new : Seat) (m : Mark) (marks' : MarkLists) → Frees lists.turns seat new → marks'.marks ≡ set marks.marks c (own_marks ++ m ∷ []) → next g c old ≡ looks_at g c old (slice_get old.callers c) m → state_of tags world journal holder (set seats i new) marks' ≡ next g c old
     settled new m marks' freed added step =
         let callers : callers_of (set seats i new) marks'.marks ≡ slice_set old.callers c (frees g seat.turn (reverse seat.held.items) (own_marks ++ m ∷ [])) =
-        (λ j. callers_of (set seats (same j) new) (added j)) ∙ callers-set_both seats marks.marks c new (own_marks ++ m ∷ []) is.each ∙ ap (slice_set old.callers c) (frees-is g seat new (own_marks ++ m ∷ []) freed) in
+        (λ j. callers_of (set seats (here.same j) new) (added j)) ∙ callers-set_both seats marks.marks c new (own_marks ++ m ∷ []) is.each ∙ ap (slice_set old.callers c) (frees-is g seat new (own_marks ++ m ∷ []) freed) in
         (λ j. record old { callers = callers j }) ∙ sym (step ∙ ap (λ o. looks_at g c old o m) there)
 
     -- a release
@@ -305,9 +334,7 @@ module _ (verdict : Shown → Verdict) (lists : CallerLists) (tags : List ℕ) (
     -- a commit
     module _ (change : Change) (ph : seat.phase ≡ phase.Committing change) where
       pub committing_unmarked : IsUnmarked lists.turns old.callers c
-      committing_unmarked =
-          let mine = is_sound.each c k there in
-          record { record_of = k; there = there; turn = subst (λ q. IsTurn lists.turns q seat.turn) ph mine.turn; counted = mine.counted ∙ ap (λ q. marked q seat.turn) ph }
+      committing_unmarked = unmarked_in (phase.Committing change) ph (λ lt. lt) refl
 
       same_world : is_sound.last ≡ world
       same_world = run_has_one_last verdict journal.first journal.entries is_sound.last world is_sound.run is.run
@@ -357,7 +384,7 @@ module _ (verdict : Shown → Verdict) (lists : CallerLists) (tags : List ℕ) (
         committed left new journal' marks' e turn held freed same_e entries added =
             let renewed_held : reverse left.held.items ≡ map (renewed change.patch) (reverse seat.held.items) = ap reverse (held ∙ again seat.held.items held_valued) ∙ reverse-map (renewed change.patch) seat.held.items in
             let callers : callers_of (set seats i new) marks'.marks ≡ slice_set old.callers c (frees g seat.turn (map (renewed change.patch) (reverse seat.held.items)) (own_marks ++ mark.Done (length journal.entries) ∷ [])) =
-            (λ j. callers_of (set seats (same j) new) (added j)) ∙ callers-set_both seats marks.marks c new (own_marks ++ mark.Done (length journal.entries) ∷ []) is.each
+            (λ j. callers_of (set seats (here.same j) new) (added j)) ∙ callers-set_both seats marks.marks c new (own_marks ++ mark.Done (length journal.entries) ∷ []) is.each
             ∙ ap (slice_set old.callers c) (frees-is g left new (own_marks ++ mark.Done (length journal.entries) ∷ []) freed ∙ (λ j. frees g (turn j) (renewed_held j) (own_marks ++ mark.Done (length journal.entries) ∷ []))) in
             let values : values_of world' ≡ patched journal.first.area change.patch (values_of world) = sym (values-patched world world' change.patch is_patched) ∙ ap (λ a. patched a change.patch (values_of world)) same_extent in
             (λ j. record { tags = tags; values = values j; journal = (entries ∙ ap (λ x. journal.entries ++ x ∷ []) same_e) j; holder = None; callers = callers j }) ∙ sym (next_in (phase.Committing change) ph)
@@ -367,14 +394,10 @@ module _ (verdict : Shown → Verdict) (lists : CallerLists) (tags : List ℕ) (
     has_phase p e = (k, there, e)
 
     pub refusing_unmarked : (n : CellName) (t : ℕ) → seat.phase ≡ phase.Refusing n t → IsUnmarked lists.turns old.callers c
-    refusing_unmarked n t ph =
-        let mine = is_sound.each c k there in
-        record { record_of = k; there = there; turn = subst (λ q. IsTurn lists.turns q seat.turn) ph mine.turn; counted = mine.counted ∙ ap (λ q. marked q seat.turn) ph }
+    refusing_unmarked n t ph = unmarked_in (phase.Refusing n t) ph (λ lt. lt) refl
 
     pub looking_unmarked : (l : Look) → seat.phase ≡ phase.Looking l → IsUnmarked lists.turns old.callers c
-    looking_unmarked l ph =
-        let mine = is_sound.each c k there in
-        record { record_of = k; there = there; turn = subst (λ q. IsTurn lists.turns q seat.turn) ph mine.turn; counted = mine.counted ∙ ap (λ q. marked q seat.turn) ph }
+    looking_unmarked l ph = unmarked_in (phase.Looking l) ph (λ lt. lt) refl
 
     -- the tag that was found names a caller
     pub refusing_known : (n : CellName) (t : ℕ) → seat.phase ≡ phase.Refusing n t → (tag_caller t < 256) × (0 < t)

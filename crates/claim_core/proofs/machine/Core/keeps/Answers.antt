@@ -12,7 +12,7 @@ pub returns-clause-reached : goal.returns-clause-reached
 returns-clause-reached g c = subst (λ r. IsReachedState (setup_of g.D.Decider.verdict r) r.state) c.self.view_is (record { steps = c.self.invariant.steps; led = c.self.invariant.reached })
 
 pub returns-clause-sound : goal.returns-clause-sound
-returns-clause-sound g c = subst (λ r. Sound (setup_of g.D.Decider.verdict r) r.state) c.self.view_is (is_sound _ _ _ _ _ _ _ _ c.self.invariant)
+returns-clause-sound g c = subst (λ r. Sound (setup_of g.D.Decider.verdict r) r.state) c.self.view_is (is_sound c.self.invariant)
 
 pub returns-clause-callers : goal.returns-clause-callers
 returns-clause-callers g c = (returns-clause-sound g c).callers
