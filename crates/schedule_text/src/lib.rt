@@ -1,6 +1,7 @@
 //! The sections `lists` and `schedule` read.
 #![tactic(auto)]
 
+mod known;
 mod laws;
 mod lists;
 mod schedule;

@@ -8,6 +8,7 @@ ghost use Rattle.claim_core.specs.Turns.{AreFew, HaveBots, IsList};
 ghost use Rattle.schedule_text.specs.Lists as spec;
 ghost use Rattle.schedule_text.specs.Readers as reader;
 
+use crate::known::read_known;
 use claim_core::Lists;
 use journal_text::read_word;
 use std::alloc::Global;
@@ -27,15 +28,7 @@ fn read_id(tokens: &mut Tokens<'_>, bots: u16, before: u32) -> Result<u16, ReadR
     ensures room { IfOk result (λ _. before < spec.most_ids) }
     ensures there { IfOk result (λ n. n < bots) }
 {
-    let token = tokens.take_kind(TokenKind::Number)?;
-    if before >= MOST_IDS {
-        return Err(refused(token.line, RefusalKind::TooMany));
-    }
-    let id = tokens.number(&token);
-    if id >= u32::from(bots) {
-        return Err(refused(token.line, RefusalKind::BadId));
-    }
-    Ok(id as u16)
+    Ok(read_known(tokens, MOST_IDS, u32::from(bots), before)? as u16)
 }
 
 /// One more id, if a number comes.

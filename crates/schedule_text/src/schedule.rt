@@ -8,6 +8,7 @@ ghost use Rattle.schedule_text.specs.Schedules as spec;
 ghost use Rattle.schedule_text.specs.Readers as reader;
 ghost use Rattle.schedule_text.specs.Views as view;
 
+use crate::known::read_known;
 use journal_text::read_word;
 use std::alloc::Global;
 use std::marker::Model;
@@ -63,15 +64,7 @@ fn read_caller(tokens: &mut Tokens<'_>, callers: u8, before: u32) -> Result<u8, 
     ensures room { IfOk result (λ _. before < spec.most_steps) }
     ensures there { IfOk result (λ n. n < callers) }
 {
-    let token = tokens.take_kind(TokenKind::Number)?;
-    if before >= MOST_STEPS {
-        return Err(refused(token.line, RefusalKind::TooMany));
-    }
-    let caller = tokens.number(&token);
-    if caller >= u32::from(callers) {
-        return Err(refused(token.line, RefusalKind::BadId));
-    }
-    Ok(caller as u8)
+    Ok(read_known(tokens, MOST_STEPS, u32::from(callers), before)? as u8)
 }
 
 /// How many steps a caller makes in a row, behind so many.

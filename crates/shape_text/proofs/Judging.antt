@@ -188,6 +188,6 @@ judged_as_worlds = record {
   first = λ maxes s e f w k at kind.
       let there : Some f.bot ≡ Some w.bot = sym f.there ∙ slice_get-map bot_in s.bots f.place ∙ ap (option_map bot_in) at in
       let same : f.bot ≡ w.bot = cc in
-      let fault : bot_fault (config_of s.area maxes (take f.place (map bot_in s.bots))) w.bot ≡ Some e = ap (bot_fault _) (sym same) ∙ f.fault in
+      let fault : bot_fault (config_of s.area maxes (take f.place (map bot_in s.bots))) w.bot ≡ Some e = ap (bot_fault (config_of s.area maxes (take f.place (map bot_in s.bots)))) (sym same) ∙ f.fault in
       one_broken (config_of s.area maxes []) s.bots f.place w (on_line w.line k) at (λ j b lt seen. f.before j b lt seen) (breaks_it (config_of s.area maxes (take f.place (map bot_in s.bots))) w e k fault kind);
 }

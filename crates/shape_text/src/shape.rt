@@ -11,7 +11,7 @@ ghost use Rattle.shape_text.specs.Readers as reader;
 ghost use Rattle.shape_text.specs.Views as view;
 
 use amoebot_state::{Bot, World, WorldRefusal};
-use journal_text::{read_bot, read_int, read_word};
+use journal_text::{read_bot, read_int, read_word, read_word_within};
 use std::alloc::Global;
 use text_tokens::{ReadRefusal, RefusalKind, TokenKind, Tokens, refused};
 use tri_lattice::Area;
@@ -63,28 +63,15 @@ fn read_area(tokens: &mut Tokens<'_>) -> Result<Area, ReadRefusal>
     Area::new(x0, y0, w, h).ok_or(refused(line, RefusalKind::BadRange))
 }
 
-/// The word of an amoebot behind so many, for its line.
-#[tactic(auto, unfolding(crate::specs::Readers::bot_word))]
-fn read_bot_word(tokens: &mut Tokens<'_>, before: u32) -> Result<u32, ReadRefusal>
-    ensures reads { Gives (λ line. line) (reader.bot_word before) tokens.old result tokens.new }
-    ensures room { IfOk result (λ _. before < most_bots) }
-{
-    let token = tokens.take(TokenKind::Word, b"bot")?;
-    if before >= MOST_BOTS {
-        return Err(refused(token.line, RefusalKind::TooMany));
-    }
-    Ok(token.line)
-}
-
 /// An amoebot behind so many.
-#[tactic(auto, unfolding(crate::specs::Readers::a_bot_line))]
+#[tactic(auto, unfolding(crate::specs::Readers::a_bot_line, crate::specs::Readers::bot_word))]
 fn read_bot_line(tokens: &mut Tokens<'_>, vars: u8, before: u32) -> Result<WrittenBot, ReadRefusal>
     requires { vars ≤ 8 }
     ensures reads { Gives view.bot (reader.a_bot_line vars before) tokens.old result tokens.new }
     ensures room { IfOk result (λ _. before < most_bots) }
     ensures plain { IfOk result (λ b. IsPlain b.bot) }
 {
-    let line = read_bot_word(tokens, before)?;
+    let line = read_word_within(tokens, b"bot", MOST_BOTS, before)?;
     let bot = read_bot(tokens, vars)?;
     Ok(WrittenBot { line, bot })
 }

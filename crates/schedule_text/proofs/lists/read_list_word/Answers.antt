@@ -3,11 +3,9 @@ use Rattle.std.specs.Prelude.{nat_le, false, true}
 use Rattle.std.proofs.lemmas.Bool.{le-leb, lt-leb}
 use Rattle.std.proofs.lemmas.Result.{err_from_is_err_and}
 use Rattle.text_tokens.specs.declared.refusal.RefusalKind.TheVariants.{TooMany}
-use Rattle.text_tokens.specs.declared.refusal.ReadRefusal.TheVariants.{Refused}
 use Rattle.text_tokens.specs.Text.{Lexeme}
-use Rattle.text_tokens.specs.Reading.{one_within, pure}
 use Rattle.text_tokens.specs.Steps.{lexeme_of}
-use Rattle.text_tokens.proofs.Stepping.{took, missed, goes_past, fails, on_made}
+use Rattle.text_tokens.proofs.Taking.{token_missed, token_past, token_taken}
 use Rattle.schedule_text.specs.Lists.{is_list, most_callers, most_turns, past_lists}
 use Rattle.schedule_text.specs.Readers.{list_word}
 use Rattle.schedule_text.proofs.lists.read_list_word.Goals as goal
@@ -35,8 +33,7 @@ pub returns-in_err-token-clause-reads : goal.returns-in_err-token-clause-reads
 unfolding list_word
 returns-in_err-token-clause-reads c =
     let p = err_from_is_err_and c.from_residual.result c.from_residual.ensures.1 in
-    let over = past_lists c.args.turns c.args.before in
-    rw (p.1, p.2) (fails (one_within is_list over) (λ t. pure t.line) (Refused c.in_err-token.field-0.0) c.args.tokens.now c.take.new.self (missed is_list over c.args.tokens.now c.take.new.self c.in_err-token.field-0.0 (sym c.take.ensures.answer ∙ c.in_err-token.was) c.in_err-token.ensures.again))
+    rw (p.1, p.2) (token_missed is_list (past_lists c.args.turns c.args.before) (λ (t : Lexeme). t.line) c.args.tokens.now c.take.new.self c.in_err-token.field-0.0 (sym c.take.ensures.answer ∙ c.in_err-token.was) c.in_err-token.ensures.again)
 
 pub returns-then-callers-gt-MOST_CALLERS-clause-reads : goal.returns-then-callers-gt-MOST_CALLERS-clause-reads
 unfolding list_word
@@ -48,15 +45,12 @@ returns-then-callers-gt-MOST_CALLERS-clause-reads c =
       | then-callers-gt-MOST_CALLERS-via-then-callers-gt-MOST_CALLERS w ↦ too_many c.args.turns c.args.before t (inl (rw n at w.if-callers-gt-MOST_CALLERS.true))
       | then-callers-gt-MOST_CALLERS-via-else-callers-gt-MOST_CALLERS+then-callers-turns-gt-MOST_TURNS w ↦ too_many c.args.turns c.args.before t (inr (rw n at w.if-callers-gt-MOST_CALLERS.false, rw n at w.if-callers-turns-gt-MOST_TURNS.true))
     ] in
-    rw c.refused.ensures (fails (one_within is_list over) (λ t. pure t.line) (Refused (record { line = c.in_ok-token.token.line; kind = TooMany })) c.args.tokens.now c.take.new.self
-    (goes_past is_list over c.args.tokens.now c.take.new.self c.in_ok-token.token TooMany (sym c.take.ensures.answer ∙ c.in_ok-token.was) c.in_ok-token.ensures.moves c.in_ok-token.ensures.spells past))
+    rw c.refused.ensures (token_past is_list over (λ (t : Lexeme). t.line) c.args.tokens.now c.take.new.self c.in_ok-token.token (sym c.take.ensures.answer ∙ c.in_ok-token.was) c.in_ok-token.ensures.moves c.in_ok-token.ensures.spells TooMany past)
 
 pub returns-clause-reads : goal.returns-clause-reads
 unfolding list_word
 returns-clause-reads c =
-    let over = past_lists c.args.turns c.args.before in
     let t = lexeme_of c.args.tokens.now.source c.in_ok-token.token in
     let n = next c.args.turns c.args.before t in
-    on_made (one_within is_list over) (λ t. t.line) c.args.tokens.now c.take.new.self t
-    (took is_list over c.args.tokens.now c.take.new.self c.in_ok-token.token (sym c.take.ensures.answer ∙ c.in_ok-token.was) c.in_ok-token.ensures.moves c.in_ok-token.ensures.spells
-    (few c.args.turns c.args.before t (rw n at c.if-callers-gt-MOST_CALLERS.false) (rw n at c.if-callers-turns-gt-MOST_TURNS.false)))
+    token_taken is_list (past_lists c.args.turns c.args.before) (λ (t : Lexeme). t.line) c.args.tokens.now c.take.new.self c.in_ok-token.token (sym c.take.ensures.answer ∙ c.in_ok-token.was) c.in_ok-token.ensures.moves c.in_ok-token.ensures.spells
+    (few c.args.turns c.args.before t (rw n at c.if-callers-gt-MOST_CALLERS.false) (rw n at c.if-callers-turns-gt-MOST_TURNS.false))

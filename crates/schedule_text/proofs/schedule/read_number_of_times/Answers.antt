@@ -9,7 +9,7 @@ use Rattle.text_tokens.specs.Reading.{value}
 use Rattle.text_tokens.specs.Steps.{lexeme_of}
 use Rattle.schedule_text.specs.Schedules.{most_steps, past_times}
 use Rattle.schedule_text.specs.Readers.{number_of_times}
-use Rattle.schedule_text.proofs.Numerals.{number_missed, number_past, value_is, number_taken}
+use Rattle.text_tokens.proofs.Taking.{number_missed, number_past, value_is, number_taken}
 use Rattle.schedule_text.proofs.schedule.read_number_of_times.Goals as goal
 
 is_zero : (n : ℕ) → n ≡ 0 → (n == 0) ≡ true

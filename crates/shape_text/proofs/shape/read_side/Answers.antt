@@ -1,14 +1,12 @@
-use Rattle.std.proofs.Common.{◌≡◌, ◌<◌, ◌≤◌, ◌⊎◌, inl, inr, ℕ, true, false, List, Some, None, refl, sym, ◌∙◌, ap}
+use Rattle.std.proofs.Common.{◌≡◌, ◌<◌, ◌≤◌, ◌⊎◌, inl, inr, ℕ, true, false, Some, None, refl, sym, ◌∙◌}
 use Rattle.std.specs.Prelude.{nat_le}
 use Rattle.std.proofs.lemmas.Bool.{le-leb, lt-leb}
 use Rattle.std.proofs.lemmas.Result.{err_from_is_err_and}
 use Rattle.text_tokens.specs.Text.{Lexeme}
 use Rattle.text_tokens.specs.declared.refusal.RefusalKind.TheVariants.{BadRange}
-use Rattle.text_tokens.specs.declared.refusal.ReadRefusal.TheVariants.{Refused}
-use Rattle.text_tokens.specs.Cursor.{Cursor, number_value, slice}
-use Rattle.text_tokens.specs.Reading.{one_within, pure, is_number, value, numeral}
+use Rattle.text_tokens.specs.Reading.{value}
 use Rattle.text_tokens.specs.Steps.{lexeme_of}
-use Rattle.text_tokens.proofs.Stepping.{took, missed, goes_past, fails, on_made}
+use Rattle.text_tokens.proofs.Taking.{number_missed, number_past, value_is, number_taken}
 use Rattle.shape_text.specs.Shapes.{outside}
 use Rattle.shape_text.specs.Readers.{a_side}
 use Rattle.shape_text.proofs.shape.read_side.Goals as goal
@@ -22,30 +20,29 @@ module _ (least most : ℕ) (t : Lexeme) where
   inside low high = let a : nat_le least (value t) ≡ true = le-leb _ _ low in let b : nat_le (value t) most ≡ true = le-leb _ _ high in rw (a, b) refl
 
 pub returns-in_err-token-clause-reads : goal.returns-in_err-token-clause-reads
-unfolding a_side numeral
+unfolding a_side
 returns-in_err-token-clause-reads c =
     let p = err_from_is_err_and c.from_residual.result c.from_residual.ensures.1 in
-    let over = outside 1 128 in
-    rw (p.1, p.2) (fails (one_within is_number over) (λ t. pure (value t)) (Refused c.in_err-token.field-0.0) c.args.tokens.now c.take_kind.new.self (missed is_number over c.args.tokens.now c.take_kind.new.self c.in_err-token.field-0.0 (sym c.take_kind.ensures.answer ∙ c.in_err-token.was) c.in_err-token.ensures.again))
+    rw (p.1, p.2) (number_missed (outside 1 128) c.args.tokens.now c.take_kind.new.self c.in_err-token.field-0.0 (sym c.take_kind.ensures.answer ∙ c.in_err-token.was) c.in_err-token.ensures.again)
 
 pub returns-then-side-lt1-clause-reads : goal.returns-then-side-lt1-clause-reads
-unfolding a_side numeral
+unfolding a_side
 returns-then-side-lt1-clause-reads c =
     let over = outside 1 128 in
     let now = c.args.tokens.now in
-    let t = lexeme_of now.source c.in_ok-token.token in
-    let same = ap (λ (v : Cursor). v.source) c.in_ok-token.ensures.moves in
-    let v : c.number-side.result ≡ value t = c.number-side.ensures.value ∙ ap (λ (source : List ℕ). number_value (slice source c.in_ok-token.token)) same in
-    rw c.refused.ensures (fails (one_within is_number over) (λ t. pure (value t)) (Refused (record { line = c.in_ok-token.token.line; kind = BadRange })) now c.take_kind.new.self
-    (goes_past is_number over now c.take_kind.new.self c.in_ok-token.token BadRange (sym c.take_kind.ensures.answer ∙ c.in_ok-token.was) c.in_ok-token.ensures.moves c.in_ok-token.ensures.spells (outlying 1 128 t (rw (← v) c.then-side-lt1.either))))
+    let new = c.take_kind.new.self in
+    let t = c.in_ok-token.token in
+    let answer = sym c.take_kind.ensures.answer ∙ c.in_ok-token.was in
+    let v = value_is over now new t answer c.in_ok-token.ensures.moves c.in_ok-token.ensures.spells c.number-side.result c.number-side.ensures.value in
+    rw c.refused.ensures (number_past over now new t answer c.in_ok-token.ensures.moves c.in_ok-token.ensures.spells BadRange (outlying 1 128 (lexeme_of now.source t) (rw (← v) c.then-side-lt1.either)))
 
 pub returns-clause-reads : goal.returns-clause-reads
-unfolding a_side numeral
+unfolding a_side
 returns-clause-reads c =
     let over = outside 1 128 in
     let now = c.args.tokens.now in
-    let t = lexeme_of now.source c.in_ok-token.token in
-    let same = ap (λ (v : Cursor). v.source) c.in_ok-token.ensures.moves in
-    let v : c.number-side.result ≡ value t = c.number-side.ensures.value ∙ ap (λ (source : List ℕ). number_value (slice source c.in_ok-token.token)) same in
-    rw v (on_made (one_within is_number over) value now c.take_kind.new.self t
-    (took is_number over now c.take_kind.new.self c.in_ok-token.token (sym c.take_kind.ensures.answer ∙ c.in_ok-token.was) c.in_ok-token.ensures.moves c.in_ok-token.ensures.spells (inside 1 128 t (rw (← v) c.if-side-lt1.false) (rw (← v) c.if-side-gt-LONGEST_SIDE.false))))
+    let new = c.take_kind.new.self in
+    let t = c.in_ok-token.token in
+    let answer = sym c.take_kind.ensures.answer ∙ c.in_ok-token.was in
+    let v = value_is over now new t answer c.in_ok-token.ensures.moves c.in_ok-token.ensures.spells c.number-side.result c.number-side.ensures.value in
+    number_taken over now new t answer c.in_ok-token.ensures.moves c.in_ok-token.ensures.spells c.number-side.result v (inside 1 128 (lexeme_of now.source t) (rw (← v) c.if-side-lt1.false) (rw (← v) c.if-side-gt-LONGEST_SIDE.false))
