@@ -2,7 +2,7 @@
 use Rattle.std.proofs.Common.{◌≡◌, ◌≤◌, ◌<◌, ◌+◌, ◌*◌, ◌∙◌, ℕ, suc, Bool, true, false, ◌&&◌, List, [], ◌∷◌, length, map, drop, get_or, refl, sym, ap, arith, subst, lit<, ◌^◌}
 use Rattle.std.specs.Prelude.{nat_le, Result, Ok, Err, ℤ, pos, ◌+ℤ◌, ◌≤ℤ◌, neg_ℤ}
 use Rattle.std.proofs.Math.ListN.{drop_of_length-le}
-use Rattle.std.proofs.lemmas.Bool.{leb-true}
+use Rattle.std.proofs.lemmas.Bool.{and_parts, leb-true}
 use Rattle.std.proofs.lemmas.Int.{ints}
 use Rattle.std.specs.Int.RustNames.{FitsSigned}
 use mir.Syntax.{w32}
@@ -26,9 +26,7 @@ use Rattle.action_tree.proofs.Viewed.{part_opened}
 use Rattle.action_meaning.specs.Names.{Names, bind}
 use Rattle.action_meaning.specs.Choices.{Asked, any_of, all_of, first_of, count_of}
 use Rattle.action_meaning.specs.Values.{guard_value, each_value, some_value, sum_value, term_value, signed}
-use Rattle.action_eval.proofs.Asking.{any_goes_on, any_is_true, any_fails, all_goes_on, all_is_false, all_fails, first_goes_on, first_is_here, first_fails, and_so_many, count_goes_on, count_one_more, count_fails, so_many_more}
-use Rattle.action_eval.proofs.Bound.{here}
-use Rattle.action_eval.proofs.Walking.{both}
+use Rattle.action_check.proofs.Walking.{here}
 use Rattle.action_eval.proofs.Sums.{and_so_much, sum_goes_on, sum_fails}
 
 -- ---- the terms of a sum, with the total of those before
@@ -59,11 +57,11 @@ few_terms : (ps : List code_part.Part) → is_count_from 1 (term_count (terms_of
 few_terms ps e =
     let n = term_count (terms_of ps) in
     let AtMost : ℕ → Type 0 = λ k. k ≤ most_elements in
-    subst AtMost (count_of_terms ps) (leb-true n most_elements (both (nat_le 1 n) (nat_le n most_elements) e).1)
+    subst AtMost (count_of_terms ps) (leb-true n most_elements (and_parts (nat_le 1 n) (nat_le n most_elements) e).1)
 
 pub terms_start : (s : Sight) (xs : Names) (sc : Scope) (ps : List code_part.Part) → SumKept sc (terms_of ps) → is_sum (terms_of ps) ≡ true → TermsLeft s xs sc ps 0 (pos 0)
 terms_start s xs sc ps kept counted =
-    let parts = both (is_count_from 1 (term_count (terms_of ps))) (are_terms (terms_of ps)) counted in
+    let parts = and_parts (is_count_from 1 (term_count (terms_of ps))) (are_terms (terms_of ps)) counted in
     record {
       kept = kept;
       counted = parts.1;
@@ -81,7 +79,7 @@ term_kept s xs sc ps i p total left l is =
 pub term_counted : (s : Sight) (xs : Names) (sc : Scope) (ps : List code_part.Part) (i : ℕ) (p : code_part.Part) (total : ℤ) → TermsLeft s xs sc ps i total → i < length ps → p ≡ get_or ps i p → is_term (term_of p.term) ≡ true
 term_counted s xs sc ps i p total left l is =
     let counted = rw (here ps i p l is, part_opened p) at left.counted in
-    (both _ _ counted).0
+    (and_parts _ _ counted).0
 
 low_next : (m k : ℕ) (total y : ℤ) → pos 0 ≤ℤ (total +ℤ pos k) → neg_ℤ (pos m) ≤ℤ y → pos 0 ≤ℤ ((total +ℤ y) +ℤ pos (k + m))
 low_next m k total y low least = omega (arith, ints)
@@ -101,7 +99,7 @@ terms_next s xs sc ps i p total x y left l is e with_sign low high =
     let High : ℕ → Type 0 = λ k. (total +ℤ y) ≤ℤ pos k in
     record {
       kept = kept.1;
-      counted = (both _ _ counted).1;
+      counted = (and_parts _ _ counted).1;
       told = told ∙ sum_goes_on s xs p.minus (term_of p.term) (terms_of (drop (i + 1) ps)) x total e ∙ ap (λ z. and_so_much (total +ℤ z) (sum_value s xs (terms_of (drop (i + 1) ps)))) (sym with_sign);
       low = subst Low (one_more most_literal i) (low_next most_literal (most_literal * i) total y left.low low);
       high = subst High (one_more most_literal i) (high_next most_literal (most_literal * i) total y left.high high);

@@ -1,21 +1,17 @@
 -- Names in force, and the variables.
-use Rattle.std.proofs.Common.{◌≡◌, ◌<◌, ◌+◌, ◌∙◌, ℕ, Bool, true, false, List, [], ◌∷◌, map, length, drop, get_or, refl, sym, ap, add-one, drop-cons, cond, not, Option, Some, None, nat_lt}
+use Rattle.std.proofs.Common.{◌≡◌, ◌<◌, ◌+◌, ◌∙◌, ℕ, Bool, true, false, List, [], ◌∷◌, map, length, drop, get_or, refl, sym, ap, cond, not, Option, Some, None, nat_lt}
 use Rattle.std.specs.Prelude.{is_some, IsSome}
-use Rattle.std.specs.Bool.{Decides}
 use Rattle.std.specs.List.{position, position_or_len, Contains, list_any}
 use Rattle.std.specs.Str.{bytes_eq}
-use Rattle.std.proofs.lemmas.Bool.Decides.{same_from_decides}
-use Rattle.std.proofs.lemmas.Slice.Eq.{bytes_eq-Decides}
 use Rattle.model_ops.proofs.Members.{any_placed}
 use Rattle.action_tree.specs.declared.program.Var.{Var}
 use Rattle.action_tree.specs.Trees.{Name}
 use Rattle.action_check.proofs.Known.{among}
+use Rattle.action_check.proofs.Texts.{same_either_way}
+use Rattle.action_check.proofs.Walking.{here}
 use Rattle.action_meaning.specs.Names.{port_in}
 use Rattle.action_eval.specs.declared.names.Bound as code_bound
 use Rattle.action_eval.specs.Known.{bound_of, vars_of}
-
-pub here : {X : Type 0} (xs : List X) (i : ℕ) (x : X) → i < length xs → x ≡ get_or xs i x → drop i xs ≡ x ∷ drop (i + 1) xs
-here xs i x l is = rw (add-one) (let e = drop-cons xs i x l in cc)
 
 -- ---- the port of a name
 
@@ -26,12 +22,6 @@ pub port_later : (bs : List code_bound.Bound) (i : ℕ) (b : code_bound.Bound) (
 port_later bs i b text l is other = rw (here bs i b l is, other) refl
 
 -- ---- the number of a variable
-
-same_either_way : (a b : List ℕ) → bytes_eq a b ≡ bytes_eq b a
-same_either_way a b =
-    let d = bytes_eq-Decides b a in
-    let turned : Decides (bytes_eq b a) (a ≡ b) = ((λ e. sym (d.0 e)), (λ e. d.1 (sym e))) in
-    same_from_decides _ _ (bytes_eq-Decides a b) turned
 
 any_var : (text : List ℕ) (vs : List Var) → list_any (bytes_eq text) (vars_of vs) ≡ list_any (λ v. bytes_eq v.name.text.bytes text) vs
 any_var text [] = refl

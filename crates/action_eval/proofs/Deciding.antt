@@ -25,7 +25,7 @@ use Rattle.action_meaning.specs.Values.{guard_value}
 use Rattle.action_meaning.specs.Verdicts.{action_effect, settled, decided_by_guard, actions_verdict, names_at_start, verdict_shown}
 use Rattle.action_eval.specs.Known.{vars_of, scope_of, sight_of}
 use Rattle.action_eval.specs.Running.{moment_of}
-use Rattle.action_eval.proofs.Bound.{here}
+use Rattle.action_check.proofs.Walking.{here}
 
 -- the verdict of actions that are numbered from a number on
 abbrev pub verdict_from : Bool → Names → WorkingCopy → ℕ → List code.Action → Verdict

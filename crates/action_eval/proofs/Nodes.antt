@@ -1,30 +1,29 @@
--- The trees of values that bind a name, by their parts.
-use Rattle.std.proofs.Common.{◌≡◌, Bool, true, false, ◌&&◌}
+-- The tree of a value whose variant is known, and of which the part in its box was read.
+use Rattle.std.proofs.Common.{◌≡◌, Box}
+use Rattle.std.specs.declared.alloc.Global.{Global}
 use Rattle.action_tree.specs.declared.word.Word.{Word}
 use Rattle.action_tree.specs.declared.expression.PortSet.{PortSet}
-use Rattle.action_tree.specs.declared.expression.Guard as code
-use Rattle.action_tree.specs.declared.expression.PortExpr as ports
-use Rattle.action_tree.specs.declared.expression.Term as terms
-use Rattle.action_tree.specs.declared.expression.Guard.TheFolds.{fold_out-Guard, fold_out-Term, fold_out-PortExpr}
+use Rattle.action_tree.specs.declared.expression.Guard.{Guard}
+use Rattle.action_tree.specs.declared.expression.Guard.TheVariants as guard
+use Rattle.action_tree.specs.declared.expression.PortExpr.{PortExpr}
+use Rattle.action_tree.specs.declared.expression.PortExpr.TheVariants as port
+use Rattle.action_tree.specs.declared.expression.Term.{Term}
+use Rattle.action_tree.specs.declared.expression.Term.TheVariants as term
 use Rattle.action_tree.specs.Trees as tree
-use Rattle.action_tree.specs.Views.{guard_step, port_step, term_step, part_step, sum_step, name_of, guard_of, port_of, term_of}
+use Rattle.action_tree.specs.Views.{name_of, guard_of, port_of, term_of}
+use Rattle.action_tree.proofs.Viewed.{guard_any, guard_all, term_member, term_count, port_first}
 
-pub guard_at_any : (w : Word) (s : PortSet) (b : _) → guard_of (code.Any w s b) ≡ tree.quantified tree.any (name_of w) s (guard_of b.value)
-unfolding code.out-Guard denote.Hole.Carrier.out
-guard_at_any w s b = fold_out-Guard tree.Guard tree.PortExpr tree.Term tree.Part tree.Sum guard_step port_step term_step part_step sum_step (code.Any w s b)
+pub any_tree : (g : Guard) (w : Word) (s : PortSet) (b : Box Guard Global) (inner : Guard) → g ≡ guard.Any w s b → inner ≡ b.value → guard_of g ≡ tree.quantified tree.any (name_of w) s (guard_of inner)
+any_tree g w s b inner is at = rw (is, at) (guard_any w s b)
 
-pub guard_at_all : (w : Word) (s : PortSet) (b : _) → guard_of (code.All w s b) ≡ tree.quantified tree.all (name_of w) s (guard_of b.value)
-unfolding code.out-Guard denote.Hole.Carrier.out
-guard_at_all w s b = fold_out-Guard tree.Guard tree.PortExpr tree.Term tree.Part tree.Sum guard_step port_step term_step part_step sum_step (code.All w s b)
+pub all_tree : (g : Guard) (w : Word) (s : PortSet) (b : Box Guard Global) (inner : Guard) → g ≡ guard.All w s b → inner ≡ b.value → guard_of g ≡ tree.quantified tree.all (name_of w) s (guard_of inner)
+all_tree g w s b inner is at = rw (is, at) (guard_all w s b)
 
-pub term_at_count : (w : Word) (s : PortSet) (b : _) → term_of (terms.Count w s b) ≡ tree.count (name_of w) s (guard_of b.value)
-unfolding terms.out-Term denote.Hole.Carrier.out
-term_at_count w s b = fold_out-Term tree.Guard tree.PortExpr tree.Term tree.Part tree.Sum guard_step port_step term_step part_step sum_step (terms.Count w s b)
+pub first_tree : (p : PortExpr) (w : Word) (s : PortSet) (b : Box Guard Global) (inner : Guard) → p ≡ port.First w s b → inner ≡ b.value → port_of p ≡ tree.first (name_of w) s (guard_of inner)
+first_tree p w s b inner is at = rw (is, at) (port_first w s b)
 
-pub port_at_first : (w : Word) (s : PortSet) (b : _) → port_of (ports.First w s b) ≡ tree.first (name_of w) s (guard_of b.value)
-unfolding ports.out-PortExpr denote.Hole.Carrier.out
-port_at_first w s b = fold_out-PortExpr tree.Guard tree.PortExpr tree.Term tree.Part tree.Sum guard_step port_step term_step part_step sum_step (ports.First w s b)
+pub count_tree : (t : Term) (w : Word) (s : PortSet) (b : Box Guard Global) (inner : Guard) → t ≡ term.Count w s b → inner ≡ b.value → term_of t ≡ tree.count (name_of w) s (guard_of inner)
+count_tree t w s b inner is at = rw (is, at) (term_count w s b)
 
-pub second : (a b : Bool) → (a && b) ≡ true → b ≡ true
-second true b e = e
-second false b e = absurd cc
+pub member_tree : (t : Term) (p : PortExpr) (w : Word) → t ≡ term.Of p w → term_of t ≡ tree.of_port (port_of p) (name_of w)
+member_tree t p w is = rw is (term_member p w)

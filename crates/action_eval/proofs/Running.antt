@@ -1,8 +1,9 @@
 -- Statements that run on a working copy, one after the other.
-use Rattle.std.proofs.Common.{◌≡◌, ◌≤◌, ◌<◌, ◌+◌, ◌∙◌, ℕ, ℤ, Vec, Bool, true, false, List, [], ◌∷◌, ◌++◌, length, map, drop, get_or, add-one, drop-cons, refl, sym, ap, subst, Some, None, arith}
+use Rattle.std.proofs.Common.{◌≡◌, ◌≤◌, ◌<◌, ◌+◌, ◌∙◌, ℕ, ℤ, Vec, Bool, true, false, List, [], ◌∷◌, ◌++◌, length, map, drop, get_or, refl, sym, ap, subst, Some, None, arith}
 use Rattle.std.specs.Prelude.{if◌then◌else◌}
 use Rattle.std.specs.declared.result.Result.{Result}
 use Rattle.std.specs.declared.result.Result.TheVariants.{Ok, Err}
+use Rattle.std.proofs.lemmas.Bool.{and_parts}
 use Rattle.std.proofs.lemmas.List.{length-map}
 use Rattle.std.proofs.Math.ListN.{drop_of_length-le}
 use Rattle.amoebot_state.specs.declared.bot.Port.{Port}
@@ -15,6 +16,7 @@ use Rattle.model_ops.specs.WorkingCopies.{WorkingCopy, IsUnmoved, opened, own_id
 use Rattle.action_tree.specs.declared.word.Word.{Word}
 use Rattle.action_tree.specs.declared.expression.Sum.{Sum}
 use Rattle.action_tree.specs.declared.expression.PortSet.{PortSet}
+use Rattle.action_tree.specs.declared.expression.PortExpr.{PortExpr}
 use Rattle.action_tree.specs.declared.expression.Guard as code_guard
 use Rattle.action_tree.specs.declared.statement.Stmt as code
 use Rattle.action_tree.specs.declared.statement.Stmt.TheVariants as variant
@@ -22,8 +24,9 @@ use Rattle.action_tree.specs.declared.statement.Stmt.TheOpen.{Stmt-F}
 use Rattle.action_tree.specs.declared.statement.Stmt.TheFolds.{fold-roll-Stmt}
 use Rattle.std.specs.declared.alloc.Global.{Global}
 use Rattle.action_tree.specs.Trees.{Name, Guard, Stmt, put, put_of, let_be, if_then, for_each, Stmts, no_stmts, stmt_then}
-use Rattle.action_tree.specs.Views.{stmt_step, name_of, sum_of, guard_of, stmt_of, stmts_of}
+use Rattle.action_tree.specs.Views.{stmt_step, name_of, port_of, sum_of, guard_of, stmt_of, stmts_of}
 use Rattle.action_tree.specs.Writable.{is_stmt, are_stmts}
+use Rattle.action_tree.proofs.Viewed.{stmt_put, stmt_put_of, stmt_let}
 use Rattle.action_check.specs.Rules.{IsNew, StmtKept, StmtsKept}
 use Rattle.action_check.specs.Scopes.{Scope, bind as scope_bind}
 use Rattle.action_check.specs.Scopes.{after as after_stmt}
@@ -39,16 +42,26 @@ use Rattle.action_meaning.specs.Values.{guard_value, sum_value, port_value, port
 use Rattle.action_meaning.specs.Effects.{Moment, moment, reaching, leaving, for_ports, stmt_effect, stmts_effect}
 use Rattle.action_eval.specs.Known.{scope_of}
 use Rattle.action_eval.specs.Running.{moment_of, turn_effect}
-use Rattle.action_eval.proofs.Bound.{here}
-use Rattle.action_eval.proofs.Walking.{both}
+use Rattle.action_check.proofs.Walking.{ahead, here}
 
 -- ---- the trees of statements by their parts
 
-pub stmt_at_put : (w : Word) (s : Sum) → stmt_of (code.Put w s) ≡ put (name_of w) (sum_of s)
-stmt_at_put w s = ap stmt_of (sym (variant.rolls-Put w s)) ∙ fold-roll-Stmt Stmt stmt_step (Stmt-F.Put w s)
-
-pub stmt_at_for : (w : Word) (set : PortSet) (g : code_guard.Guard) (v : Vec code.Stmt Global) → stmt_of (variant.For w set g v) ≡ for_each (name_of w) set (guard_of g) (stmts_of v.items)
+stmt_at_for : (w : Word) (set : PortSet) (g : code_guard.Guard) (v : Vec code.Stmt Global) → stmt_of (variant.For w set g v) ≡ for_each (name_of w) set (guard_of g) (stmts_of v.items)
 stmt_at_for w set g v = ap stmt_of (sym (variant.rolls-For w set g v)) ∙ fold-roll-Stmt Stmt stmt_step (Stmt-F.For w set g v)
+
+-- of a statement whose variant is known
+
+pub put_tree : (s : code.Stmt) (w : Word) (a : Sum) → s ≡ variant.Put w a → stmt_of s ≡ put (name_of w) (sum_of a)
+put_tree s w a is = ap stmt_of is ∙ stmt_put w a
+
+pub put_of_tree : (s : code.Stmt) (p : PortExpr) (w : Word) (a : Sum) → s ≡ variant.PutOf p w a → stmt_of s ≡ put_of (port_of p) (name_of w) (sum_of a)
+put_of_tree s p w a is = ap stmt_of is ∙ stmt_put_of p w a
+
+pub let_tree : (s : code.Stmt) (w : Word) (p : PortExpr) → s ≡ variant.Let w p → stmt_of s ≡ let_be (name_of w) (port_of p)
+let_tree s w p is = ap stmt_of is ∙ stmt_let w p
+
+pub for_tree : (s : code.Stmt) (w : Word) (set : PortSet) (g : code_guard.Guard) (v : Vec code.Stmt Global) → s ≡ variant.For w set g v → stmt_of s ≡ for_each (name_of w) set (guard_of g) (stmts_of v.items)
+for_tree s w set g v is = ap stmt_of is ∙ stmt_at_for w set g v
 
 -- ---- a write behind its sum
 
@@ -192,7 +205,7 @@ stmt_kept first start ss k now xs s left l is =
 pub stmt_counted : (first : WorkingCopy) (start : Names) (ss : List code.Stmt) (k : ℕ) (now : WorkingCopy) (xs : Names) (s : code.Stmt) → StmtsLeft first start ss k now xs → k < length ss → s ≡ get_or ss k s → is_stmt (stmt_of s) ≡ true
 stmt_counted first start ss k now xs s left l is =
     let counted = rw (here ss k s l is) at left.counted in
-    (both _ _ counted).0
+    (and_parts _ _ counted).0
 
 -- the same amoebot works on it
 same_id : (first now : WorkingCopy) → now.found ≡ first.found → own_id now ≡ own_id first
@@ -207,7 +220,7 @@ stmts_next first start ss k now xs s new ys left l is e found =
     let ran : stmt_effect (own_id first) (stmt_of s) (moment_of now xs) ≡ Ok (moment_of new ys) = ap (λ i. stmt_effect i (stmt_of s) (moment_of now xs)) (sym (same_id first now left.found)) ∙ e in
     record {
       kept = subst P (sym (names_behind (own_id now) (stmt_of s) (moment_of now xs) (moment_of new ys) e)) kept.1;
-      counted = (both _ _ counted).1;
+      counted = (and_parts _ _ counted).1;
       told = told ∙ ap (λ r. and_then r (λ n. stmts_effect (own_id first) (stmts_of (drop (k + 1) ss)) n)) ran;
       found = found ∙ left.found;
     }
@@ -231,15 +244,13 @@ pub record PortsLeft (turn : ℕ → Port → Moment → Result Moment Failure) 
 
 pub ports_next : (turn : ℕ → Port → Moment → Result Moment Failure) (first : WorkingCopy) (ps : List Port) (k : ℕ) (d : Port) (now : WorkingCopy) (xs : Names) (new : WorkingCopy) → PortsLeft turn first ps k now xs → k < length ps → turn (own_id now) (get_or ps k d) (moment_of now xs) ≡ Ok (moment_of new xs) → new.found ≡ now.found → PortsLeft turn first ps (k + 1) new xs
 ports_next turn first ps k d now xs new left l e found =
-    let ahead : drop k ps ≡ get_or ps k d ∷ drop (k + 1) ps = rw add-one (drop-cons ps k d l) in
-    let told = rw ahead at left.told in
+    let told = rw (ahead ps k d l) at left.told in
     let ran : turn (own_id first) (get_or ps k d) (moment_of now xs) ≡ Ok (moment_of new xs) = ap (λ i. turn i (get_or ps k d) (moment_of now xs)) (sym (same_id first now left.found)) ∙ e in
     record { told = told ∙ ap (λ r. and_then r (λ n. for_ports (turn (own_id first)) (drop (k + 1) ps) n)) ran; found = found ∙ left.found }
 
 pub ports_fail : (turn : ℕ → Port → Moment → Result Moment Failure) (first : WorkingCopy) (ps : List Port) (k : ℕ) (d : Port) (now : WorkingCopy) (xs : Names) (f : Failure) → PortsLeft turn first ps k now xs → k < length ps → turn (own_id now) (get_or ps k d) (moment_of now xs) ≡ Err f → for_ports (turn (own_id first)) ps (moment_of first xs) ≡ Err f
 ports_fail turn first ps k d now xs f left l e =
-    let ahead : drop k ps ≡ get_or ps k d ∷ drop (k + 1) ps = rw add-one (drop-cons ps k d l) in
-    let told = rw ahead at left.told in
+    let told = rw (ahead ps k d l) at left.told in
     let failed : turn (own_id first) (get_or ps k d) (moment_of now xs) ≡ Err f = ap (λ i. turn i (get_or ps k d) (moment_of now xs)) (sym (same_id first now left.found)) ∙ e in
     told ∙ ap (λ r. and_then r (λ n. for_ports (turn (own_id first)) (drop (k + 1) ps) n)) failed
 

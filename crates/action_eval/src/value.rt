@@ -18,7 +18,7 @@ use amoebot_state::{End, Failure, Port};
 use model_ops::Site;
 
 /// The value of a guard.
-#[tactic(auto, using(crate::proofs::Thens::then_fails, crate::proofs::Thens::then_goes, crate::proofs::Nodes::guard_at_any, crate::proofs::Nodes::guard_at_all, crate::proofs::Nodes::term_at_count, crate::proofs::Nodes::port_at_first, crate::proofs::Nodes::second))]
+#[tactic(auto, using(crate::proofs::Thens::then_fails, crate::proofs::Thens::then_goes, action_tree::proofs::Viewed::guard_any, action_tree::proofs::Viewed::guard_all, action_tree::proofs::Viewed::term_count, action_tree::proofs::Viewed::port_first, action_tree::proofs::Conditions::right_of))]
 #[cycle(values)]
 pub fn guard_value(guard: &Guard, site: &Site, names: &Names<'_>) -> Result<bool, Failure>
     requires kept { GuardKept (scope_of (known names.now)) (view.guard_of guard.now) }
@@ -228,7 +228,7 @@ fn count_value(
 }
 
 /// The value of a sum. It has at most 64 terms, each of at most 65,535 in size, so it stays far within 32 bits.
-#[tactic(auto, using(crate::proofs::Thens::then_fails, crate::proofs::Thens::then_goes, crate::proofs::Nodes::guard_at_any, crate::proofs::Nodes::guard_at_all, crate::proofs::Nodes::term_at_count, crate::proofs::Nodes::port_at_first, crate::proofs::Nodes::second))]
+#[tactic(auto, using(crate::proofs::Thens::then_fails, crate::proofs::Thens::then_goes, action_tree::proofs::Viewed::guard_any, action_tree::proofs::Viewed::guard_all, action_tree::proofs::Viewed::term_count, action_tree::proofs::Viewed::port_first, action_tree::proofs::Conditions::right_of))]
 #[cycle(values)]
 pub fn sum_value(sum: &Sum, site: &Site, names: &Names<'_>) -> Result<i32, Failure>
     requires kept { SumKept (scope_of (known names.now)) (view.sum_of sum.now) }
@@ -244,7 +244,7 @@ pub fn sum_value(sum: &Sum, site: &Site, names: &Names<'_>) -> Result<i32, Failu
 }
 
 /// The value of a term without its sign.
-#[tactic(auto, using(crate::proofs::Thens::then_fails, crate::proofs::Thens::then_goes, crate::proofs::Nodes::guard_at_any, crate::proofs::Nodes::guard_at_all, crate::proofs::Nodes::term_at_count, crate::proofs::Nodes::port_at_first, crate::proofs::Nodes::second))]
+#[tactic(auto, using(crate::proofs::Thens::then_fails, crate::proofs::Thens::then_goes, action_tree::proofs::Viewed::guard_any, action_tree::proofs::Viewed::guard_all, action_tree::proofs::Viewed::term_count, action_tree::proofs::Viewed::port_first, action_tree::proofs::Conditions::right_of))]
 #[cycle(values)]
 fn term_value(term: &Term, site: &Site, names: &Names<'_>) -> Result<i32, Failure>
     requires kept { TermKept (scope_of (known names.now)) (view.term_of term.now) }
@@ -292,7 +292,7 @@ fn term_value(term: &Term, site: &Site, names: &Names<'_>) -> Result<i32, Failur
 }
 
 /// The pair that a port expression names.
-#[tactic(auto, using(crate::proofs::Thens::then_fails, crate::proofs::Thens::then_goes, crate::proofs::Nodes::guard_at_any, crate::proofs::Nodes::guard_at_all, crate::proofs::Nodes::term_at_count, crate::proofs::Nodes::port_at_first, crate::proofs::Nodes::second))]
+#[tactic(auto, using(crate::proofs::Thens::then_fails, crate::proofs::Thens::then_goes, action_tree::proofs::Viewed::guard_any, action_tree::proofs::Viewed::guard_all, action_tree::proofs::Viewed::term_count, action_tree::proofs::Viewed::port_first, action_tree::proofs::Conditions::right_of))]
 #[cycle(values)]
 pub fn port_value(port: &PortExpr, site: &Site, names: &Names<'_>) -> Result<Port, Failure>
     requires kept { PortKept (scope_of (known names.now)) (view.port_of port.now) }

@@ -1,5 +1,6 @@
 use Rattle.std.proofs.Common.{◌≡◌, ◌∙◌, ◌<◌, ℕ, ap, sym, subst, refl, true, length, map, Some, None, arith, rules}
 use Rattle.std.proofs.lemmas.Result.{err_from_is_err_and}
+use Rattle.std.proofs.lemmas.Bool.{and_parts}
 use Rattle.std.proofs.lemmas.List.{length-map}
 use Rattle.std.proofs.lemmas.Grind.{common_steps}
 use Rattle.amoebot_state.specs.declared.bot.End.TheVariants.{Head}
@@ -12,7 +13,6 @@ use Rattle.action_tree.specs.declared.statement.Stmt.TheViews.{sized-For}
 use denote.Param.Weighed.{most, at_most}
 use Rattle.action_tree.proofs.statement.Stmt.TheLaws.{the_size}
 use Rattle.action_eval.specs.Running.{turn_effect}
-use Rattle.action_tree.specs.Trees.{put, put_of, let_be, if_then, for_each}
 use Rattle.action_tree.specs.Views.{name_of, guard_of, port_of, sum_of, stmt_of, stmts_of}
 use Rattle.action_check.specs.Rules.{StmtsKept}
 use Rattle.action_check.specs.Scopes.{Scope}
@@ -20,10 +20,8 @@ use Rattle.model_ops.specs.Operations.{write}
 use Rattle.model_ops.specs.WorkingCopies.{own_id}
 use Rattle.action_meaning.specs.Names.{var_number}
 use Rattle.action_meaning.specs.Values.{sum_value}
-use Rattle.action_tree.proofs.Viewed.{stmt_put_of, stmt_let}
 use Rattle.action_eval.specs.Known.{known, scope_of, sight_of}
-use Rattle.action_eval.proofs.Walking.{both}
-use Rattle.action_eval.proofs.Running.{stmt_at_put, stmt_at_for, put_ran, put_failed, scope_of_bound, room_to_bind, stmt_kept, stmt_counted, stmts_next, stmts_fail, stmts_over, ports_next, ports_fail, ports_over}
+use Rattle.action_eval.proofs.Running.{put_tree, put_of_tree, let_tree, for_tree, put_ran, put_failed, scope_of_bound, room_to_bind, stmt_kept, stmt_counted, stmts_next, stmts_fail, stmts_over, ports_next, ports_fail, ports_over}
 use Rattle.action_eval.proofs.effect.+effects.Goals as goal
 
 -- a write without a port, and one through a port, as they answer
@@ -33,14 +31,14 @@ run_stmt-returns-in_err-put-in-Put t c =
     let p = err_from_is_err_and r.result r.ensures.1 in
     let w = c.args.site.now in
     let xs = known c.args.names in
-    let e : stmt_of c.args.stmt.now ≡ put (name_of c.in-Put.name) (sum_of c.in-Put.sum) = rw c.in-Put.is (stmt_at_put c.in-Put.name c.in-Put.sum) in
+    let e = put_tree _ _ _ c.in-Put.is in
     rw (p.1, p.2, e) (put_failed w xs (sum_value (sight_of w) xs (sum_of c.in-Put.sum)) (λ x. write w.reached (own_id w) None (var_number xs (name_of c.in-Put.name)) x) _ c.in_err-put-in-Put.ensures.value)
 
 pub run_stmt-returns-in_ok-put-in-Put : goal.run_stmt-returns-in_ok-put-in-Put
 run_stmt-returns-in_ok-put-in-Put t c =
     let w = c.args.site.now in
     let xs = known c.args.names in
-    let e : stmt_of c.args.stmt.now ≡ put (name_of c.in-Put.name) (sum_of c.in-Put.sum) = rw c.in-Put.is (stmt_at_put c.in-Put.name c.in-Put.sum) in
+    let e = put_tree _ _ _ c.in-Put.is in
     rw e (put_ran w _ xs (sum_value (sight_of w) xs (sum_of c.in-Put.sum)) (λ x. write w.reached (own_id w) None (var_number xs (name_of c.in-Put.name)) x) c.in_ok-put-in-Put.ensures.value c.in_ok-put-in-Put.ensures.after)
 
 pub run_stmt-returns-in_err-put-in-PutOf : goal.run_stmt-returns-in_err-put-in-PutOf
@@ -49,63 +47,63 @@ run_stmt-returns-in_err-put-in-PutOf t c =
     let p = err_from_is_err_and r.result r.ensures.1 in
     let w = c.args.site.now in
     let xs = known c.args.names in
-    let e : stmt_of c.args.stmt.now ≡ put_of (port_of c.in-PutOf.port) (name_of c.in-PutOf.name) (sum_of c.in-PutOf.sum) = rw c.in-PutOf.is (stmt_put_of c.in-PutOf.port c.in-PutOf.name c.in-PutOf.sum) in
+    let e = put_of_tree _ _ _ _ c.in-PutOf.is in
     rw (p.1, p.2, e, sym c.in_ok-port-in-PutOf.ensures) (put_failed w xs (sum_value (sight_of w) xs (sum_of c.in-PutOf.sum)) (λ x. write w.reached (own_id w) (Some c.in_ok-port-in-PutOf.port) (var_number xs (name_of c.in-PutOf.name)) x) _ c.in_err-put-in-PutOf.ensures.value)
 
 pub run_stmt-returns-in_ok-put-in-PutOf : goal.run_stmt-returns-in_ok-put-in-PutOf
 run_stmt-returns-in_ok-put-in-PutOf t c =
     let w = c.args.site.now in
     let xs = known c.args.names in
-    let e : stmt_of c.args.stmt.now ≡ put_of (port_of c.in-PutOf.port) (name_of c.in-PutOf.name) (sum_of c.in-PutOf.sum) = rw c.in-PutOf.is (stmt_put_of c.in-PutOf.port c.in-PutOf.name c.in-PutOf.sum) in
+    let e = put_of_tree _ _ _ _ c.in-PutOf.is in
     rw (e, sym c.in_ok-port-in-PutOf.ensures) (put_ran w _ xs (sum_value (sight_of w) xs (sum_of c.in-PutOf.sum)) (λ x. write w.reached (own_id w) (Some c.in_ok-port-in-PutOf.port) (var_number xs (name_of c.in-PutOf.name)) x) c.in_ok-put-in-PutOf.ensures.value c.in_ok-put-in-PutOf.ensures.after)
 
 -- the counts of what stands in a statement
 pub run_stmt-port_value-requires-clause-counted : goal.run_stmt-port_value-requires-clause-counted
 run_stmt-port_value-requires-clause-counted t c =
-    let e : stmt_of c.args.stmt.now ≡ put_of (port_of c.in-PutOf.port) (name_of c.in-PutOf.name) (sum_of c.in-PutOf.sum) = rw c.in-PutOf.is (stmt_put_of c.in-PutOf.port c.in-PutOf.name c.in-PutOf.sum) in
+    let e = put_of_tree _ _ _ _ c.in-PutOf.is in
     let counted = rw e at c.requires.counted in
-    (both _ _ (both _ _ counted).0).0
+    (and_parts _ _ (and_parts _ _ counted).0).0
 
 pub run_stmt-put-requires-in-PutOf-clause-counted : goal.run_stmt-put-requires-in-PutOf-clause-counted
 run_stmt-put-requires-in-PutOf-clause-counted t c =
-    let e : stmt_of c.args.stmt.now ≡ put_of (port_of c.in-PutOf.port) (name_of c.in-PutOf.name) (sum_of c.in-PutOf.sum) = rw c.in-PutOf.is (stmt_put_of c.in-PutOf.port c.in-PutOf.name c.in-PutOf.sum) in
+    let e = put_of_tree _ _ _ _ c.in-PutOf.is in
     let counted = rw e at c.requires.counted in
-    (both _ _ counted).1
+    (and_parts _ _ counted).1
 
 pub run_stmt-port_value-requires-in-Let-clause-counted : goal.run_stmt-port_value-requires-in-Let-clause-counted
 run_stmt-port_value-requires-in-Let-clause-counted t c =
-    let e : stmt_of c.args.stmt.now ≡ let_be (name_of c.in-Let.name) (port_of c.in-Let.port) = rw c.in-Let.is (stmt_let c.in-Let.name c.in-Let.port) in
+    let e = let_tree _ _ _ c.in-Let.is in
     let counted = rw e at c.requires.counted in
-    (both _ _ counted).1
+    (and_parts _ _ counted).1
 
 pub run_stmt-bind-requires : goal.run_stmt-bind-requires
 run_stmt-bind-requires t c =
-    let e : stmt_of c.args.stmt.now ≡ let_be (name_of c.in-Let.name) (port_of c.in-Let.port) = rw c.in-Let.is (stmt_let c.in-Let.name c.in-Let.port) in
+    let e = let_tree _ _ _ c.in-Let.is in
     let kept = rw e at c.requires.kept in
     room_to_bind (known c.args.names) _ kept.0
 
 -- the parts of a `for`
 pub run_stmt-run_for-requires : goal.run_stmt-run_for-requires
 run_stmt-run_for-requires t c =
-    let e : stmt_of c.args.stmt.now ≡ for_each (name_of c.in-For.name) c.in-For.set (guard_of c.in-For.guard) (stmts_of c.in-For.stmts.items) = rw c.in-For.is (stmt_at_for c.in-For.name c.in-For.set c.in-For.guard c.in-For.stmts) in
+    let e = for_tree _ _ _ _ _ c.in-For.is in
     let kept = rw e at c.requires.kept in
-    let counts = both _ _ (rw e at c.requires.counted) in
-    let firsts = both _ _ counts.0 in
+    let counts = and_parts _ _ (rw e at c.requires.counted) in
+    let firsts = and_parts _ _ counts.0 in
     let is = ap the_size c.in-For.is in
     let at = ap (most the_size) c.deref-in-For.ensures.value in
     let smaller = sized-For c.in-For.name c.in-For.set c.in-For.guard c.in-For.stmts in
-    (omega (arith, c.decreases, smaller, is, at), (kept.0, (kept.1, ((both _ _ firsts.0).1, (rw c.deref-in-For.ensures.value kept.2, rw c.deref-in-For.ensures.value counts.1)))))
+    (omega (arith, c.decreases, smaller, is, at), (kept.0, (kept.1, ((and_parts _ _ firsts.0).1, (rw c.deref-in-For.ensures.value kept.2, rw c.deref-in-For.ensures.value counts.1)))))
 
 pub run_stmt-returns-in_err-run_for-in-For : goal.run_stmt-returns-in_err-run_for-in-For
 run_stmt-returns-in_err-run_for-in-For t c =
     let r = c.from_residual-in_err-run_for-in-For in
     let p = err_from_is_err_and r.result r.ensures.1 in
-    let e : stmt_of c.args.stmt.now ≡ for_each (name_of c.in-For.name) c.in-For.set (guard_of c.in-For.guard) (stmts_of c.in-For.stmts.items) = rw c.in-For.is (stmt_at_for c.in-For.name c.in-For.set c.in-For.guard c.in-For.stmts) in
+    let e = for_tree _ _ _ _ _ c.in-For.is in
     rw (p.1, p.2, e, sym c.deref-in-For.ensures.value) c.in_err-run_for-in-For.ensures
 
 pub run_stmt-returns-in_ok-run_for-in-For : goal.run_stmt-returns-in_ok-run_for-in-For
 run_stmt-returns-in_ok-run_for-in-For t c =
-    let e : stmt_of c.args.stmt.now ≡ for_each (name_of c.in-For.name) c.in-For.set (guard_of c.in-For.guard) (stmts_of c.in-For.stmts.items) = rw c.in-For.is (stmt_at_for c.in-For.name c.in-For.set c.in-For.guard c.in-For.stmts) in
+    let e = for_tree _ _ _ _ _ c.in-For.is in
     rw (e, sym c.deref-in-For.ensures.value) c.in_ok-run_for-in-For.ensures
 
 pub run_for-loop-port-preserved : goal.run_for-loop-port-preserved

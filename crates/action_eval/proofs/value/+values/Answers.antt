@@ -3,23 +3,24 @@ use Rattle.std.specs.Prelude.{◌+ℤ◌}
 use Rattle.std.specs.Int.RustNames.{FitsSigned}
 use mir.Syntax.{w32}
 use mir.Val.{to_z}
+use Rattle.std.proofs.lemmas.Bool.{and_parts}
 use Rattle.std.proofs.lemmas.Int.{ints, to_z-of_z}
 use Rattle.std.proofs.lemmas.Result.{err_from_is_err_and}
 use Rattle.std.proofs.lemmas.Grind.{common_steps}
-use Rattle.action_tree.specs.Trees.{Sum, quantified, any, all, first, count, of_port, turned}
+use Rattle.action_tree.specs.Trees.{Sum, turned}
 use Rattle.action_tree.specs.Views.{name_of, literal_of, sum_of, terms_of, guard_of, port_of, term_of}
 use Rattle.action_tree.specs.Writable.{is_sum}
 use Rattle.action_check.specs.Rules.{SumKept}
-use Rattle.action_tree.proofs.Viewed.{sum_opened, term_member, port_turn}
+use Rattle.action_tree.proofs.Viewed.{sum_opened, port_turn}
 use Rattle.amoebot_state.specs.declared.bot.End.TheVariants.{Head}
 use Rattle.amoebot_state.specs.Ports.{port}
 use Rattle.action_meaning.specs.Values.{signed}
 use Rattle.action_meaning.specs.Choices.{any_of, all_of, first_of, count_of}
 use Rattle.action_eval.specs.Known.{known, scope_of, sight_of}
 use Rattle.action_eval.proofs.Adding.{TermsLeft, terms_fit, terms_start, term_kept, term_counted, terms_next, terms_fail, terms_over}
-use Rattle.action_eval.proofs.Asking.{and_so_many}
-use Rattle.action_eval.proofs.Walking.{both, inside, guard_kept, guard_counted, each_next, each_decided, each_fails, each_over, some_next, some_decided, some_fails, some_over, any_next, any_here, any_stops, any_over, all_next, all_here, all_stops, all_over, first_next, first_here, first_stops, first_over, count_next, count_here, count_stops, count_over}
-use Rattle.action_eval.proofs.Nodes.{guard_at_any, guard_at_all, term_at_count, port_at_first}
+use Rattle.action_eval.proofs.Asking.{any_goes_on, any_is_true, any_fails, all_goes_on, all_is_false, all_fails, first_goes_on, first_is_here, first_fails}
+use Rattle.action_eval.proofs.Walking.{inside, told_here, told_over, guard_kept, guard_counted, each_next, each_decided, each_fails, each_over, some_next, some_decided, some_fails, some_over, count_next, count_here, count_stops, count_over}
+use Rattle.action_eval.proofs.Nodes.{any_tree, all_tree, first_tree, count_tree, member_tree}
 use Rattle.action_tree.proofs.expression.Guard.TheLaws.{the_size}
 use Rattle.action_tree.proofs.expression.PortExpr.TheLaws.{the_size as port_size}
 use Rattle.action_tree.proofs.expression.Term.TheLaws.{the_size as term_size}
@@ -31,62 +32,62 @@ use Rattle.action_eval.proofs.value.+values.Goals.{count_value-then-is_one, coun
 pub any_value-loop-port-preserved : goal.any_value-loop-port-preserved
 any_value-loop-port-preserved t c =
     let asked = inside (sight_of c.args.site.now) (known c.args.names.now) c.args.name.now c.args.guard.now in
-    any_next asked _ _ (port Head 0) c.loop-port.invariant c.loop-port-test.true (sym c.inside_value.ensures ∙ c.in-Ok-false.is ∙ ap Ok c.in-Ok-false.field-0-test)
+    told_here (any_of asked) _ _ _ (port Head 0) _ c.loop-port.invariant c.loop-port-test.true (any_goes_on asked _ _ (sym c.inside_value.ensures ∙ c.in-Ok-false.is ∙ ap Ok c.in-Ok-false.field-0-test))
 
 pub any_value-returns-in-Ok-true : goal.any_value-returns-in-Ok-true
 any_value-returns-in-Ok-true t c =
     let asked = inside (sight_of c.args.site.now) (known c.args.names.now) c.args.name.now c.args.guard.now in
-    sym (any_here asked _ _ (port Head 0) c.loop-port.invariant c.loop-port-test.true (sym c.inside_value.ensures ∙ c.in-Ok-true.is ∙ ap Ok c.in-Ok-true.field-0-test)) ∙ ap (any_of asked) (c.deref-port-items.ensures.0 ∙ c.ports_of-ports.ensures)
+    sym (told_here (any_of asked) _ _ _ (port Head 0) _ c.loop-port.invariant c.loop-port-test.true (any_is_true asked _ _ (sym c.inside_value.ensures ∙ c.in-Ok-true.is ∙ ap Ok c.in-Ok-true.field-0-test))) ∙ ap (any_of asked) (c.deref-port-items.ensures.0 ∙ c.ports_of-ports.ensures)
 
 pub any_value-returns-in-Err : goal.any_value-returns-in-Err
 any_value-returns-in-Err t c =
     let asked = inside (sight_of c.args.site.now) (known c.args.names.now) c.args.name.now c.args.guard.now in
-    sym (any_stops asked _ _ (port Head 0) _ c.loop-port.invariant c.loop-port-test.true (sym c.inside_value.ensures ∙ c.in-Err.is)) ∙ ap (any_of asked) (c.deref-port-items.ensures.0 ∙ c.ports_of-ports.ensures)
+    sym (told_here (any_of asked) _ _ _ (port Head 0) _ c.loop-port.invariant c.loop-port-test.true (any_fails asked _ _ _ (sym c.inside_value.ensures ∙ c.in-Err.is))) ∙ ap (any_of asked) (c.deref-port-items.ensures.0 ∙ c.ports_of-ports.ensures)
 
 pub any_value-returns : goal.any_value-returns
 any_value-returns t c =
     let asked = inside (sight_of c.args.site.now) (known c.args.names.now) c.args.name.now c.args.guard.now in
-    sym (any_over asked _ _ c.loop-port.invariant c.loop-port-test.false) ∙ ap (any_of asked) (c.deref-port-items.ensures.0 ∙ c.ports_of-ports.ensures)
+    sym (told_over (any_of asked) _ _ _ c.loop-port.invariant c.loop-port-test.false) ∙ ap (any_of asked) (c.deref-port-items.ensures.0 ∙ c.ports_of-ports.ensures)
 
 pub all_value-loop-port-preserved : goal.all_value-loop-port-preserved
 all_value-loop-port-preserved t c =
     let asked = inside (sight_of c.args.site.now) (known c.args.names.now) c.args.name.now c.args.guard.now in
-    all_next asked _ _ (port Head 0) c.loop-port.invariant c.loop-port-test.true (sym c.inside_value.ensures ∙ c.in-Ok-true.is ∙ ap Ok c.in-Ok-true.field-0-test)
+    told_here (all_of asked) _ _ _ (port Head 0) _ c.loop-port.invariant c.loop-port-test.true (all_goes_on asked _ _ (sym c.inside_value.ensures ∙ c.in-Ok-true.is ∙ ap Ok c.in-Ok-true.field-0-test))
 
 pub all_value-returns-in-Ok-false : goal.all_value-returns-in-Ok-false
 all_value-returns-in-Ok-false t c =
     let asked = inside (sight_of c.args.site.now) (known c.args.names.now) c.args.name.now c.args.guard.now in
-    sym (all_here asked _ _ (port Head 0) c.loop-port.invariant c.loop-port-test.true (sym c.inside_value.ensures ∙ c.in-Ok-false.is ∙ ap Ok c.in-Ok-false.field-0-test)) ∙ ap (all_of asked) (c.deref-port-items.ensures.0 ∙ c.ports_of-ports.ensures)
+    sym (told_here (all_of asked) _ _ _ (port Head 0) _ c.loop-port.invariant c.loop-port-test.true (all_is_false asked _ _ (sym c.inside_value.ensures ∙ c.in-Ok-false.is ∙ ap Ok c.in-Ok-false.field-0-test))) ∙ ap (all_of asked) (c.deref-port-items.ensures.0 ∙ c.ports_of-ports.ensures)
 
 pub all_value-returns-in-Err : goal.all_value-returns-in-Err
 all_value-returns-in-Err t c =
     let asked = inside (sight_of c.args.site.now) (known c.args.names.now) c.args.name.now c.args.guard.now in
-    sym (all_stops asked _ _ (port Head 0) _ c.loop-port.invariant c.loop-port-test.true (sym c.inside_value.ensures ∙ c.in-Err.is)) ∙ ap (all_of asked) (c.deref-port-items.ensures.0 ∙ c.ports_of-ports.ensures)
+    sym (told_here (all_of asked) _ _ _ (port Head 0) _ c.loop-port.invariant c.loop-port-test.true (all_fails asked _ _ _ (sym c.inside_value.ensures ∙ c.in-Err.is))) ∙ ap (all_of asked) (c.deref-port-items.ensures.0 ∙ c.ports_of-ports.ensures)
 
 pub all_value-returns : goal.all_value-returns
 all_value-returns t c =
     let asked = inside (sight_of c.args.site.now) (known c.args.names.now) c.args.name.now c.args.guard.now in
-    sym (all_over asked _ _ c.loop-port.invariant c.loop-port-test.false) ∙ ap (all_of asked) (c.deref-port-items.ensures.0 ∙ c.ports_of-ports.ensures)
+    sym (told_over (all_of asked) _ _ _ c.loop-port.invariant c.loop-port-test.false) ∙ ap (all_of asked) (c.deref-port-items.ensures.0 ∙ c.ports_of-ports.ensures)
 
 pub first_value-loop-port-preserved : goal.first_value-loop-port-preserved
 first_value-loop-port-preserved t c =
     let asked = inside (sight_of c.args.site.now) (known c.args.names.now) c.args.name.now c.args.guard.now in
-    first_next asked _ _ (port Head 0) c.loop-port.invariant c.loop-port-test.true (sym c.inside_value.ensures ∙ c.in-Ok-false.is ∙ ap Ok c.in-Ok-false.field-0-test)
+    told_here (first_of asked) _ _ _ (port Head 0) _ c.loop-port.invariant c.loop-port-test.true (first_goes_on asked _ _ (sym c.inside_value.ensures ∙ c.in-Ok-false.is ∙ ap Ok c.in-Ok-false.field-0-test))
 
 pub first_value-returns-in-Ok-true : goal.first_value-returns-in-Ok-true
 first_value-returns-in-Ok-true t c =
     let asked = inside (sight_of c.args.site.now) (known c.args.names.now) c.args.name.now c.args.guard.now in
-    sym (first_here asked _ _ (port Head 0) c.loop-port.invariant c.loop-port-test.true (sym c.inside_value.ensures ∙ c.in-Ok-true.is ∙ ap Ok c.in-Ok-true.field-0-test)) ∙ ap (first_of asked) (c.deref-port-items.ensures.0 ∙ c.ports_of-ports.ensures)
+    sym (told_here (first_of asked) _ _ _ (port Head 0) _ c.loop-port.invariant c.loop-port-test.true (first_is_here asked _ _ (sym c.inside_value.ensures ∙ c.in-Ok-true.is ∙ ap Ok c.in-Ok-true.field-0-test))) ∙ ap (first_of asked) (c.deref-port-items.ensures.0 ∙ c.ports_of-ports.ensures)
 
 pub first_value-returns-in-Err : goal.first_value-returns-in-Err
 first_value-returns-in-Err t c =
     let asked = inside (sight_of c.args.site.now) (known c.args.names.now) c.args.name.now c.args.guard.now in
-    sym (first_stops asked _ _ (port Head 0) _ c.loop-port.invariant c.loop-port-test.true (sym c.inside_value.ensures ∙ c.in-Err.is)) ∙ ap (first_of asked) (c.deref-port-items.ensures.0 ∙ c.ports_of-ports.ensures)
+    sym (told_here (first_of asked) _ _ _ (port Head 0) _ c.loop-port.invariant c.loop-port-test.true (first_fails asked _ _ _ (sym c.inside_value.ensures ∙ c.in-Err.is))) ∙ ap (first_of asked) (c.deref-port-items.ensures.0 ∙ c.ports_of-ports.ensures)
 
 pub first_value-returns : goal.first_value-returns
 first_value-returns t c =
     let asked = inside (sight_of c.args.site.now) (known c.args.names.now) c.args.name.now c.args.guard.now in
-    sym (first_over asked _ _ c.loop-port.invariant c.loop-port-test.false) ∙ ap (first_of asked) (c.deref-port-items.ensures.0 ∙ c.ports_of-ports.ensures)
+    sym (told_over (first_of asked) _ _ _ c.loop-port.invariant c.loop-port-test.false) ∙ ap (first_of asked) (c.deref-port-items.ensures.0 ∙ c.ports_of-ports.ensures)
 
 pub count_value-loop-port-preserved : goal.count_value-loop-port-preserved
 count_value-loop-port-preserved t c =
@@ -186,58 +187,58 @@ sum_value-returns t c =
 
 pub guard_value-any_value-requires : goal.guard_value-any_value-requires
 guard_value-any_value-requires t c =
-    let e : guard_of c.args.guard.now ≡ quantified any (name_of c.in-Any.name) c.in-Any.set (guard_of c.deref-in-Any.result.now) = rw (c.in-Any.is, c.deref-in-Any.ensures) (guard_at_any c.in-Any.name c.in-Any.set c.in-Any.guard) in
+    let e = any_tree _ _ _ _ _ c.in-Any.is c.deref-in-Any.ensures in
     let kept = rw e at c.requires.kept in
     let counted = rw e at c.requires.counted in
     let smaller = guard_in_any c.in-Any.name c.in-Any.set c.in-Any.guard in
     let is = ap the_size c.in-Any.is in
     let at = ap the_size c.deref-in-Any.ensures in
-    (omega (arith, c.decreases, smaller, is, at), (kept.0, (kept.1, (both _ _ counted).1)))
+    (omega (arith, c.decreases, smaller, is, at), (kept.0, (kept.1, (and_parts _ _ counted).1)))
 
 pub guard_value-returns-in-Any : goal.guard_value-returns-in-Any
 guard_value-returns-in-Any t c =
-    let e : guard_of c.args.guard.now ≡ quantified any (name_of c.in-Any.name) c.in-Any.set (guard_of c.deref-in-Any.result.now) = rw (c.in-Any.is, c.deref-in-Any.ensures) (guard_at_any c.in-Any.name c.in-Any.set c.in-Any.guard) in
+    let e = any_tree _ _ _ _ _ c.in-Any.is c.deref-in-Any.ensures in
     rw e c.any_value.ensures
 
 pub guard_value-all_value-requires : goal.guard_value-all_value-requires
 guard_value-all_value-requires t c =
-    let e : guard_of c.args.guard.now ≡ quantified all (name_of c.in-All.name) c.in-All.set (guard_of c.deref-in-All.result.now) = rw (c.in-All.is, c.deref-in-All.ensures) (guard_at_all c.in-All.name c.in-All.set c.in-All.guard) in
+    let e = all_tree _ _ _ _ _ c.in-All.is c.deref-in-All.ensures in
     let kept = rw e at c.requires.kept in
     let counted = rw e at c.requires.counted in
     let smaller = guard_in_all c.in-All.name c.in-All.set c.in-All.guard in
     let is = ap the_size c.in-All.is in
     let at = ap the_size c.deref-in-All.ensures in
-    (omega (arith, c.decreases, smaller, is, at), (kept.0, (kept.1, (both _ _ counted).1)))
+    (omega (arith, c.decreases, smaller, is, at), (kept.0, (kept.1, (and_parts _ _ counted).1)))
 
 pub guard_value-returns-in-All : goal.guard_value-returns-in-All
 guard_value-returns-in-All t c =
-    let e : guard_of c.args.guard.now ≡ quantified all (name_of c.in-All.name) c.in-All.set (guard_of c.deref-in-All.result.now) = rw (c.in-All.is, c.deref-in-All.ensures) (guard_at_all c.in-All.name c.in-All.set c.in-All.guard) in
+    let e = all_tree _ _ _ _ _ c.in-All.is c.deref-in-All.ensures in
     rw e c.all_value.ensures
 
 pub port_value-first_value-requires : goal.port_value-first_value-requires
 port_value-first_value-requires t c =
-    let e : port_of c.args.port.now ≡ first (name_of c.in-First.name) c.in-First.set (guard_of c.deref-in-First.result.now) = rw (c.in-First.is, c.deref-in-First.ensures) (port_at_first c.in-First.name c.in-First.set c.in-First.guard) in
+    let e = first_tree _ _ _ _ _ c.in-First.is c.deref-in-First.ensures in
     let kept = rw e at c.requires.kept in
     let counted = rw e at c.requires.counted in
     let smaller = guard_in_first c.in-First.name c.in-First.set c.in-First.guard in
     let is = ap port_size c.in-First.is in
     let at = ap the_size c.deref-in-First.ensures in
-    (omega (arith, c.decreases, smaller, is, at), (kept.0, (kept.1, (both _ _ counted).1)))
+    (omega (arith, c.decreases, smaller, is, at), (kept.0, (kept.1, (and_parts _ _ counted).1)))
 
 pub port_value-returns-in-First : goal.port_value-returns-in-First
 port_value-returns-in-First t c =
-    let e : port_of c.args.port.now ≡ first (name_of c.in-First.name) c.in-First.set (guard_of c.deref-in-First.result.now) = rw (c.in-First.is, c.deref-in-First.ensures) (port_at_first c.in-First.name c.in-First.set c.in-First.guard) in
+    let e = first_tree _ _ _ _ _ c.in-First.is c.deref-in-First.ensures in
     rw e c.first_value.ensures
 
 pub term_value-count_value-requires : goal.term_value-count_value-requires
 term_value-count_value-requires t c =
-    let e : term_of c.args.term.now ≡ count (name_of c.in-Count.name) c.in-Count.set (guard_of c.deref.result.now) = rw (c.in-Count.is, c.deref.ensures) (term_at_count c.in-Count.name c.in-Count.set c.in-Count.guard) in
+    let e = count_tree _ _ _ _ _ c.in-Count.is c.deref.ensures in
     let kept = rw e at c.requires.kept in
     let counted = rw e at c.requires.counted in
     let smaller = guard_in_count c.in-Count.name c.in-Count.set c.in-Count.guard in
     let is = ap term_size c.in-Count.is in
     let at = ap the_size c.deref.ensures in
-    (omega (arith, c.decreases, smaller, is, at), (kept.0, (kept.1, (both _ _ counted).1)))
+    (omega (arith, c.decreases, smaller, is, at), (kept.0, (kept.1, (and_parts _ _ counted).1)))
 
 pub port_value-port_value-requires : goal.port_value-port_value-requires
 port_value-port_value-requires t c =
@@ -247,16 +248,16 @@ port_value-port_value-requires t c =
     let smaller = port_in_turn c.in-Turn.port c.in-Turn.number in
     let is = ap port_size c.in-Turn.is in
     let at = ap port_size c.deref.ensures in
-    (omega (arith, c.decreases, smaller, is, at), (kept.0, (both _ _ counted).0))
+    (omega (arith, c.decreases, smaller, is, at), (kept.0, (and_parts _ _ counted).0))
 
 pub term_value-port_value-requires : goal.term_value-port_value-requires
 term_value-port_value-requires t c =
-    let e : term_of c.args.term.now ≡ of_port (port_of c.in-Of.port) (name_of c.in-Of.name) = rw c.in-Of.is (term_member c.in-Of.port c.in-Of.name) in
+    let e = member_tree _ _ _ c.in-Of.is in
     let kept = rw e at c.requires.kept in
     let counted = rw e at c.requires.counted in
     let smaller = port_in_term c.in-Of.port c.in-Of.name in
     let is = ap term_size c.in-Of.is in
-    (omega (arith, c.decreases, smaller, is), (kept.0, (both _ _ counted).0))
+    (omega (arith, c.decreases, smaller, is), (kept.0, (and_parts _ _ counted).0))
 
 pub term_value-returns-in_err-value-in-Of-clause-value : goal.term_value-returns-in_err-value-in-Of-clause-value
 term_value-returns-in_err-value-in-Of-clause-value t c =
@@ -264,7 +265,7 @@ term_value-returns-in_err-value-in-Of-clause-value t c =
     let xs = known c.args.names.now in
     let r = c.from_residual-in_err-value-in-Of in
     let p = err_from_is_err_and r.result r.ensures.1 in
-    let e : term_of c.args.term.now ≡ of_port (port_of c.in-Of.port) (name_of c.in-Of.name) = rw c.in-Of.is (term_member c.in-Of.port c.in-Of.name) in
+    let e = member_tree _ _ _ c.in-Of.is in
     rw (p.1, p.2, e) (sym (of_port_fails s xs (port_of c.in-Of.port) (name_of c.in-Of.name) c.in_ok-port-in-Of.port c.var_number-in-Of.result _ (sym c.in_ok-port-in-Of.ensures) c.var_number-in-Of.ensures.value (sym c.in_err-value-in-Of.ensures)))
 
 pub term_value-returns-in_ok-value-in-Of-clause-value : goal.term_value-returns-in_ok-value-in-Of-clause-value
@@ -272,7 +273,7 @@ term_value-returns-in_ok-value-in-Of-clause-value t c =
     let s = sight_of c.args.site.now in
     let xs = known c.args.names.now in
     let fits : FitsSigned w32 c.from-in-Of.result = search rules in
-    let e : term_of c.args.term.now ≡ of_port (port_of c.in-Of.port) (name_of c.in-Of.name) = rw c.in-Of.is (term_member c.in-Of.port c.in-Of.name) in
+    let e = member_tree _ _ _ c.in-Of.is in
     rw (to_z-of_z w32 c.from-in-Of.result fits, e) (ap Ok c.from-in-Of.ensures ∙ sym (of_port_is s xs (port_of c.in-Of.port) (name_of c.in-Of.name) c.in_ok-port-in-Of.port c.var_number-in-Of.result c.in_ok-value-in-Of.value (sym c.in_ok-port-in-Of.ensures) c.var_number-in-Of.ensures.value (sym c.in_ok-value-in-Of.ensures)))
 
 pub term_value-returns-in_err-count-in-Count-clause-value : goal.term_value-returns-in_err-count-in-Count-clause-value
@@ -281,7 +282,7 @@ term_value-returns-in_err-count-in-Count-clause-value t c =
     let xs = known c.args.names.now in
     let r = c.from_residual-in_err-count-in-Count in
     let p = err_from_is_err_and r.result r.ensures.1 in
-    let e : term_of c.args.term.now ≡ count (name_of c.in-Count.name) c.in-Count.set (guard_of c.deref.result.now) = rw (c.in-Count.is, c.deref.ensures) (term_at_count c.in-Count.name c.in-Count.set c.in-Count.guard) in
+    let e = count_tree _ _ _ _ _ c.in-Count.is c.deref.ensures in
     rw (p.1, p.2, e) (sym (count_fails s xs (name_of c.in-Count.name) c.in-Count.set (guard_of c.deref.result.now) _ (sym c.in_err-count-in-Count.ensures.value)))
 
 pub term_value-returns-in_ok-count-in-Count-clause-value : goal.term_value-returns-in_ok-count-in-Count-clause-value
@@ -289,5 +290,5 @@ term_value-returns-in_ok-count-in-Count-clause-value t c =
     let s = sight_of c.args.site.now in
     let xs = known c.args.names.now in
     let fits : FitsSigned w32 c.from-in-Count.result = search rules in
-    let e : term_of c.args.term.now ≡ count (name_of c.in-Count.name) c.in-Count.set (guard_of c.deref.result.now) = rw (c.in-Count.is, c.deref.ensures) (term_at_count c.in-Count.name c.in-Count.set c.in-Count.guard) in
+    let e = count_tree _ _ _ _ _ c.in-Count.is c.deref.ensures in
     rw (to_z-of_z w32 c.from-in-Count.result fits, e) (ap Ok c.from-in-Count.ensures ∙ sym (count_is s xs (name_of c.in-Count.name) c.in-Count.set (guard_of c.deref.result.now) c.in_ok-count-in-Count.count (sym c.in_ok-count-in-Count.ensures.value)))
