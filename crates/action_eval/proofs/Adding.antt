@@ -1,5 +1,5 @@
 -- The loop over the terms of a sum.
-use Rattle.std.proofs.Common.{◌≡◌, ◌≤◌, ◌<◌, ◌+◌, ◌*◌, ◌∙◌, ℕ, suc, Bool, true, false, ◌&&◌, List, [], ◌∷◌, length, map, drop, get_or, refl, sym, ap, arith, subst, lit<, ◌^◌}
+use Rattle.std.proofs.Common.{◌≡◌, ◌≤◌, ◌<◌, ◌+◌, ◌*◌, ◌∙◌, ℕ, suc, true, List, [], ◌∷◌, length, drop, get_or, refl, sym, ap, arith, subst, lit<, ◌^◌}
 use Rattle.std.specs.Prelude.{nat_le, Result, Ok, Err, ℤ, pos, ◌+ℤ◌, ◌≤ℤ◌, neg_ℤ}
 use Rattle.std.proofs.Math.ListN.{drop_of_length-le}
 use Rattle.std.proofs.lemmas.Bool.{and_parts, leb-true}
@@ -7,25 +7,18 @@ use Rattle.std.proofs.lemmas.Int.{ints}
 use Rattle.std.specs.Int.RustNames.{FitsSigned}
 use mir.Syntax.{w32}
 use native.Mathlib.Nat.{mul-le-mul_left}
-use Rattle.amoebot_state.specs.declared.bot.Port.{Port}
 use Rattle.amoebot_state.specs.declared.verdict.Failure.{Failure}
-use Rattle.amoebot_state.specs.declared.verdict.Failure.TheVariants.{NoChoice}
-use Rattle.model_ops.specs.Operations.{and_then}
 use Rattle.model_ops.specs.Sights.{Sight}
-use Rattle.action_tree.specs.declared.word.Word.{Word}
-use Rattle.action_tree.specs.declared.expression.Guard as code
 use Rattle.action_tree.specs.declared.expression.Part as code_part
-use Rattle.action_tree.specs.Trees.{Guards, guard_then}
-use Rattle.action_tree.specs.Views.{name_of, guard_of, guards_of, term_of, terms_of}
+use Rattle.action_tree.specs.Views.{term_of, terms_of}
 use Rattle.action_tree.specs.Limits.{most_elements}
 use Rattle.action_tree.specs.Writable.{is_term, are_terms, is_sum, is_count_from, term_count}
 use Rattle.action_check.specs.Limits.{most_literal}
-use Rattle.action_check.specs.Rules.{GuardKept, GuardsKept, SumKept, TermKept}
+use Rattle.action_check.specs.Rules.{SumKept, TermKept}
 use Rattle.action_check.specs.Scopes.{Scope}
 use Rattle.action_tree.proofs.Viewed.{part_opened}
-use Rattle.action_meaning.specs.Names.{Names, bind}
-use Rattle.action_meaning.specs.Choices.{Asked, any_of, all_of, first_of, count_of}
-use Rattle.action_meaning.specs.Values.{guard_value, each_value, some_value, sum_value, term_value, signed}
+use Rattle.action_meaning.specs.Names.{Names}
+use Rattle.action_meaning.specs.Values.{sum_value, term_value, signed}
 use Rattle.action_check.proofs.Walking.{here}
 use Rattle.action_eval.proofs.Sums.{and_so_much, sum_goes_on, sum_fails}
 

@@ -1,5 +1,5 @@
 -- The actions of a program, one after the other.
-use Rattle.std.proofs.Common.{◌≡◌, ◌≤◌, ◌<◌, ◌+◌, ◌∙◌, ℕ, suc, Bool, true, false, List, [], ◌∷◌, length, map, drop, get_or, add-one, refl, sym, ap, subst, arith}
+use Rattle.std.proofs.Common.{◌≡◌, ◌≤◌, ◌<◌, ◌+◌, ◌∙◌, ℕ, suc, Bool, true, false, List, [], ◌∷◌, length, map, drop, get_or, refl, sym, ap, subst, arith}
 use Rattle.std.specs.List.{All, list_all}
 use Rattle.std.specs.declared.result.Result.TheVariants.{Ok, Err}
 use Rattle.std.proofs.lemmas.Bool.{leb-true}
@@ -12,7 +12,7 @@ use Rattle.model_ops.specs.WorkingCopies.{WorkingCopy, opened, own_id}
 use Rattle.amoebot_state.specs.Zones.{Shown, shown_alone}
 use Rattle.action_tree.specs.declared.program.Var as code_var
 use Rattle.action_tree.specs.declared.program.Action as code
-use Rattle.action_tree.specs.Limits.{most_vars, most_actions}
+use Rattle.action_tree.specs.Limits.{most_actions}
 use Rattle.action_tree.specs.Trees.{Action, Program}
 use Rattle.action_tree.specs.Views.{var_of, guard_of, action_of}
 use Rattle.action_tree.specs.Writable.{is_action, is_writable}

@@ -1,8 +1,6 @@
-use Rattle.std.proofs.Common.{◌≡◌, ◌∙◌, ◌<◌, ℕ, ap, sym, subst, refl, true, length, map, Some, None, arith, rules}
+use Rattle.std.proofs.Common.{◌∙◌, ℕ, ap, sym, subst, true, Some, None, arith}
 use Rattle.std.proofs.lemmas.Result.{err_from_is_err_and}
 use Rattle.std.proofs.lemmas.Bool.{and_parts}
-use Rattle.std.proofs.lemmas.List.{length-map}
-use Rattle.std.proofs.lemmas.Grind.{common_steps}
 use Rattle.amoebot_state.specs.declared.bot.End.TheVariants.{Head}
 use Rattle.amoebot_state.specs.Ports.{port}
 use Rattle.std.specs.declared.result.Result.{Result}
@@ -13,7 +11,7 @@ use Rattle.action_tree.specs.declared.statement.Stmt.TheViews.{sized-For}
 use denote.Param.Weighed.{most, at_most}
 use Rattle.action_tree.proofs.statement.Stmt.TheLaws.{the_size}
 use Rattle.action_eval.specs.Running.{turn_effect}
-use Rattle.action_tree.specs.Views.{name_of, guard_of, port_of, sum_of, stmt_of, stmts_of}
+use Rattle.action_tree.specs.Views.{name_of, guard_of, sum_of, stmts_of}
 use Rattle.action_check.specs.Rules.{StmtsKept}
 use Rattle.action_check.specs.Scopes.{Scope}
 use Rattle.model_ops.specs.Operations.{write}

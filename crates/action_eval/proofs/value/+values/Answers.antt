@@ -6,9 +6,8 @@ use mir.Val.{to_z}
 use Rattle.std.proofs.lemmas.Bool.{and_parts}
 use Rattle.std.proofs.lemmas.Int.{ints, to_z-of_z}
 use Rattle.std.proofs.lemmas.Result.{err_from_is_err_and}
-use Rattle.std.proofs.lemmas.Grind.{common_steps}
 use Rattle.action_tree.specs.Trees.{Sum, turned}
-use Rattle.action_tree.specs.Views.{name_of, literal_of, sum_of, terms_of, guard_of, port_of, term_of}
+use Rattle.action_tree.specs.Views.{name_of, literal_of, sum_of, terms_of, guard_of, port_of}
 use Rattle.action_tree.specs.Writable.{is_sum}
 use Rattle.action_check.specs.Rules.{SumKept}
 use Rattle.action_tree.proofs.Viewed.{sum_opened, port_turn}
@@ -19,7 +18,7 @@ use Rattle.action_meaning.specs.Choices.{any_of, all_of, first_of, count_of}
 use Rattle.action_eval.specs.Known.{known, scope_of, sight_of}
 use Rattle.action_eval.proofs.Adding.{TermsLeft, terms_fit, terms_start, term_kept, term_counted, terms_next, terms_fail, terms_over}
 use Rattle.action_eval.proofs.Asking.{any_goes_on, any_is_true, any_fails, all_goes_on, all_is_false, all_fails, first_goes_on, first_is_here, first_fails}
-use Rattle.action_eval.proofs.Walking.{inside, told_here, told_over, guard_kept, guard_counted, each_next, each_decided, each_fails, each_over, some_next, some_decided, some_fails, some_over, count_next, count_here, count_stops, count_over}
+use Rattle.action_eval.proofs.Walking.{inside, told_here, told_over, each_next, each_decided, each_fails, each_over, some_next, some_decided, some_fails, some_over, count_next, count_here, count_stops, count_over}
 use Rattle.action_eval.proofs.Nodes.{any_tree, all_tree, first_tree, count_tree, member_tree}
 use Rattle.action_tree.proofs.expression.Guard.TheLaws.{the_size}
 use Rattle.action_tree.proofs.expression.PortExpr.TheLaws.{the_size as port_size}
