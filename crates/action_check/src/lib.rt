@@ -10,6 +10,3 @@ mod statement;
 
 pub use checked::{Checked, check};
 pub use laws::{faultless_is_kept, rows_are_derived};
-
-#[cfg(test)]
-mod tests;

@@ -11,7 +11,7 @@ use Rattle.action_tree.specs.Limits.{most_levels, most_names, most_vars, most_ac
 use Rattle.action_tree.specs.Productions.{IsName, OfExpr, joined_by_or, OfConjs, no_conj, or_conj, OfConj, joined_by_and, OfUnits, no_unit, and_unit, OfUnit, one_word, not_unit, in_parens, some_or_each, asked, compared, OfSum, added, OfTerms, no_term, and_term, OfTerm, a_number, own_name, port_name, counted, directed, own_direction, modulo, OfPort, bound_name, end_and_dir, turned_by, first_in, after_all, OfStmt, put_own, put_there, let_name, if_fi, for_od, OfOptional, left_out, given, OfStmts, one_and_more, OfMore, no_more, and_more, OfMove, nowhere, moved_through, contracted, OfVar, OfAction, OfVars, no_var, and_var, OfActions, no_action, and_action, OfProgram}
 use Rattle.action_grammar.specs.declared.role.Role.TheVariants.{ANumber, LastWord, TurnWord, OpenSign, MinusSign, NotWord, IfWord, ForWord, VarWord, ActionWord}
 use Rattle.action_grammar.specs.Roles.{role, as_literal, as_test, as_cmp, as_side, as_end, as_atom, as_quantifier, as_port_move, as_name, is_a}
-use Rattle.action_grammar.specs.Expressions.{IsA, limited_text, Selection, IsPort, is_bound, is_end, is_turn, is_first, IsSelection, is_selection, IsTerm, is_number, is_own, is_of_port, is_count, is_direction, is_inner, is_mod6, IsSum, is_sum, IsTerms, no_more_terms, more_terms, IsUnit, is_atom, is_not, is_parens, is_quantified, is_tested, is_compared, IsConj, is_conj, IsUnits, no_more_units, more_units, IsExpr, is_expr, IsConjs, no_more_conjs, more_conjs}
+use Rattle.action_grammar.specs.Expressions.{IsA, Selection, IsPort, is_bound, is_end, is_turn, is_first, IsSelection, is_selection, IsTerm, is_number, is_own, is_of_port, is_count, is_direction, is_inner, is_mod6, IsSum, is_sum, IsTerms, no_more_terms, more_terms, IsUnit, is_atom, is_not, is_parens, is_quantified, is_tested, is_compared, IsConj, is_conj, IsUnits, no_more_units, more_units, IsExpr, is_expr, IsConjs, no_more_conjs, more_conjs}
 use Rattle.action_grammar.specs.Statements.{IsStmt, is_put, is_put_of, is_let, is_if, is_for, IsElse, no_else, with_else, IsStmts, is_stmts, IsMore, no_more_stmts, more_stmts}
 use Rattle.action_grammar.specs.Programs.{IsMove, is_none, is_through, is_contract, IsBody, IsMoved, action_of, IsAction, var_of, IsVar, program_of, IsProgram}
 use Rattle.action_grammar.specs.ExpressionReaders.{level_limit, begins_term, begins_unit}
@@ -21,7 +21,7 @@ use Rattle.action_grammar.specs.Laws.{TextsGiveWritable, BytesGiveWritable}
 use Rattle.action_grammar.proofs.Expressing.{made_case, limited_is, starts_term, starts_unit, starts_conj}
 use Rattle.action_grammar.proofs.Stating.{starts_stmt}
 use Rattle.action_grammar.proofs.ProgramLaws.{starts_var, starts_action}
-use Rattle.action_grammar.proofs.Fine.{IsFine, fine_parts, cut_front, fine_text, name_of, number_of, dirterm_of, opened, bound, roomy}
+use Rattle.action_grammar.proofs.Fine.{IsFine, fine_parts, cut_front, fine_text, name_of, number_of, dirterm_of, opened, bound, roomy, element_fine}
 
 -- ---- what is given of a name for the ports of a set
 
@@ -90,10 +90,8 @@ mutual
   terms_of : {n left room : ℕ} {xs : List Symbol} {s : Sum} → IsTerms n left room xs s → IsFine xs → OfTerms n left room s
   terms_of no_more_terms f = no_term
   terms_of (more_terms {n = n} {left = left} {room = room} {xs = xs} {ys = ys} {zs = zs} {u = u} {t = t} {ts = ts} o is more) f =
-      let a = fine_parts (xs ++ limited_text room ys) zs f in
-      let b = fine_parts xs (limited_text room ys) a.0 in
-      let g = roomy (λ t. begins_term (role t)) (level_limit n) room ys ((starts_term n left).begins ys t is) b.1 in
-      deeper (λ k. OfTerms n left k (term_then (is_a MinusSign u) t ts)) g.0 (and_term (is_a MinusSign u) (term_of is g.1) (terms_of more a.1))
+      let r = element_fine (λ t. begins_term (role t)) (level_limit n) room xs ys zs ((starts_term n left).begins ys t is) f in
+      deeper (λ k. OfTerms n left k (term_then (is_a MinusSign u) t ts)) r.0 (and_term (is_a MinusSign u) (term_of is r.1) (terms_of more r.2))
 
   unit_of : {n left : ℕ} {xs : List Symbol} {g : Guard} → IsUnit n left xs g → IsFine xs → OfUnit n left g
   unit_of (is_atom {t = t} o) f = one_word (as_atom t)
@@ -120,10 +118,8 @@ mutual
   units_of : {n left room : ℕ} {xs : List Symbol} {gs : Guards} → IsUnits n left room xs gs → IsFine xs → OfUnits n left room gs
   units_of no_more_units f = no_unit
   units_of (more_units {n = n} {left = left} {room = room} {xs = xs} {ys = ys} {zs = zs} {g = g} {gs = gs} o is more) f =
-      let a = fine_parts (xs ++ limited_text room ys) zs f in
-      let b = fine_parts xs (limited_text room ys) a.0 in
-      let r = roomy (λ t. begins_unit (role t)) (level_limit n) room ys ((starts_unit n left).begins ys g is) b.1 in
-      deeper (λ k. OfUnits n left k (guard_then g gs)) r.0 (and_unit (unit_of is r.1) (units_of more a.1))
+      let r = element_fine (λ t. begins_unit (role t)) (level_limit n) room xs ys zs ((starts_unit n left).begins ys g is) f in
+      deeper (λ k. OfUnits n left k (guard_then g gs)) r.0 (and_unit (unit_of is r.1) (units_of more r.2))
 
   expr_of : {n left : ℕ} {xs : List Symbol} {g : Guard} → IsExpr n left xs g → IsFine xs → OfExpr n left g
   expr_of (is_expr {xs = xs} {ys = ys} is more) f = let a = fine_parts xs ys f in joined_by_or (conj_of is a.0) (conjs_of more a.1)
@@ -131,10 +127,8 @@ mutual
   conjs_of : {n left room : ℕ} {xs : List Symbol} {gs : Guards} → IsConjs n left room xs gs → IsFine xs → OfConjs n left room gs
   conjs_of no_more_conjs f = no_conj
   conjs_of (more_conjs {n = n} {left = left} {room = room} {xs = xs} {ys = ys} {zs = zs} {g = g} {gs = gs} o is more) f =
-      let a = fine_parts (xs ++ limited_text room ys) zs f in
-      let b = fine_parts xs (limited_text room ys) a.0 in
-      let r = roomy (λ t. begins_unit (role t)) (level_limit n) room ys ((starts_conj n left).begins ys g is) b.1 in
-      deeper (λ k. OfConjs n left k (guard_then g gs)) r.0 (or_conj (conj_of is r.1) (conjs_of more a.1))
+      let r = element_fine (λ t. begins_unit (role t)) (level_limit n) room xs ys zs ((starts_conj n left).begins ys g is) f in
+      deeper (λ k. OfConjs n left k (guard_then g gs)) r.0 (or_conj (conj_of is r.1) (conjs_of more r.2))
 
 -- ---- statements
 
@@ -183,10 +177,8 @@ mutual
   more_of : {n left room : ℕ} {xs : List Symbol} {ss : Stmts} → IsMore n left room xs ss → IsFine xs → OfMore n left room ss
   more_of no_more_stmts f = no_more
   more_of (more_stmts {n = n} {left = left} {room = room} {xs = xs} {ys = ys} {zs = zs} {s = s} {ss = ss} o is more) f =
-      let a = fine_parts (xs ++ limited_text room ys) zs f in
-      let b = fine_parts xs (limited_text room ys) a.0 in
-      let r = roomy (λ t. begins_stmt (role t)) (level_limit n) room ys ((starts_stmt n left).begins ys s is) b.1 in
-      deeper (λ k. OfMore n left k (stmt_then s ss)) r.0 (and_more (stmt_of is r.1) (more_of more a.1))
+      let r = element_fine (λ t. begins_stmt (role t)) (level_limit n) room xs ys zs ((starts_stmt n left).begins ys s is) f in
+      deeper (λ k. OfMore n left k (stmt_then s ss)) r.0 (and_more (stmt_of is r.1) (more_of more r.2))
 
 -- ---- programs
 

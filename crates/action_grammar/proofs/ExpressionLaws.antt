@@ -3,7 +3,7 @@ use Rattle.std.proofs.Common.{◌≡◌, ℕ, zero, suc, Bool, true, false, cond
 use Rattle.text_tokens.specs.Text.{Lexeme}
 use Rattle.text_tokens.specs.Reading.{Reader, ◌>>=◌, pure, refuse, one, no_limit, opening, deep_at, optional, less, chained}
 use Rattle.text_tokens.specs.Grammar.{Lang, IsOne, is_one, Then, Made, made, is_nothing, of_second, no_more}
-use Rattle.text_tokens.specs.Lawful.{Exact, IsPart, always, SomeText, Starts, IsHandled, handled, no_role}
+use Rattle.text_tokens.specs.Lawful.{Exact, IsPart, always, SomeText, Starts, AreChained, IsHandled, handled, no_role}
 use Rattle.text_tokens.proofs.Exactness.{exact}
 use Rattle.text_tokens.proofs.Carrying.{part_same, part_made}
 use Rattle.text_tokens.proofs.Parts.{part_one, part_after, part_before}
@@ -138,8 +138,8 @@ module _ (n left : ℕ) (below : ℕ → Readers) (under : (t : Lexeme) → deep
   abbrev added : Bool → Reader Sum
   added minus = chained (a_term n left below) is_plus_or_minus (part_in n left below) (λ room p. less room) (λ t. most_further) (λ t ps. term_then minus t (terms ps))
 
-  part_added : (minus : Bool) → IsPart (Added n left minus) (added minus) (ends stops_sum)
-  part_added minus = part_chained (IsTerm n left) (a_term n left below) is_plus_or_minus (PartIn n left) (part_in n left below) (ends stops_term) (ends stops_sum) (record {
+  pub terms_chained : AreChained (IsTerm n left) (a_term n left below) is_plus_or_minus (PartIn n left) (part_in n left below) (ends stops_term) (ends stops_sum)
+  terms_chained = record {
     sample = example PlusSign;
     passes = passes_sign;
     before = part_term;
@@ -147,7 +147,10 @@ module _ (n left : ℕ) (below : ℕ → Readers) (under : (t : Lexeme) → deep
     again = λ t e. sign_term (role t) e;
     ends = λ t e. sum_term (role t) e;
     differ = λ t e. no_sign (role t) e;
-  }) (λ room p. less room) (λ t. most_further) (λ t ps. term_then minus t (terms ps))
+  }
+
+  part_added : (minus : Bool) → IsPart (Added n left minus) (added minus) (ends stops_sum)
+  part_added minus = part_chained (IsTerm n left) (a_term n left below) is_plus_or_minus (PartIn n left) (part_in n left below) (ends stops_term) (ends stops_sum) terms_chained (λ room p. less room) (λ t. most_further) (λ t ps. term_then minus t (terms ps))
 
   starts_added : (minus : Bool) → Starts (Added n left minus) (λ t. begins_term (role t)) (level_limit n)
   starts_added minus = starts_then (IsTerm n left) _ (λ t. begins_term (role t)) (level_limit n) (starts_term n left) (λ t. record { text = []; whole = term_then minus t (terms []); is = made [] no_more })
@@ -200,9 +203,8 @@ module _ (n left : ℕ) (below : ℕ → Readers) (under : (t : Lexeme) → deep
 
   -- ---- elements of an `and` and of an `or`
 
-  pub part_conj : IsPart (IsConj n left) (a_conj n left below) (ends stops_conj)
-  unfolding a_conj
-  part_conj = part_same (ConjBy n left) (IsConj n left) (conj_from n left) (conj_to n left) _ (ends stops_conj) (part_chained (IsUnit n left) (a_unit n left below) (is_a AndWord) (UnitIn n left) (unit_in n left below) (ends stops_sum) (ends stops_conj) (record {
+  pub units_chained : AreChained (IsUnit n left) (a_unit n left below) (is_a AndWord) (UnitIn n left) (unit_in n left below) (ends stops_sum) (ends stops_conj)
+  units_chained = record {
     sample = example AndWord;
     passes = passes AndWord;
     before = part_unit;
@@ -210,11 +212,14 @@ module _ (n left : ℕ) (below : ℕ → Readers) (under : (t : Lexeme) → deep
     again = ends_at stops_sum AndWord refl;
     ends = λ t e. conj_sum (role t) e;
     differ = λ t e. no_and (role t) e;
-  }) (λ room g. less room) (λ g. most_further) (λ g gs. all_of g (guards gs)))
+  }
 
-  part_expr : IsPart (IsExpr n left) (an_expr n left below) (ends stops_expr)
-  unfolding an_expr
-  part_expr = part_same (ExprBy n left) (IsExpr n left) (expr_from n left) (expr_to n left) _ (ends stops_expr) (part_chained (IsConj n left) (a_conj n left below) (is_a OrWord) (ConjIn n left) (conj_in n left below) (ends stops_conj) (ends stops_expr) (record {
+  pub part_conj : IsPart (IsConj n left) (a_conj n left below) (ends stops_conj)
+  unfolding a_conj
+  part_conj = part_same (ConjBy n left) (IsConj n left) (conj_from n left) (conj_to n left) _ (ends stops_conj) (part_chained (IsUnit n left) (a_unit n left below) (is_a AndWord) (UnitIn n left) (unit_in n left below) (ends stops_sum) (ends stops_conj) units_chained (λ room g. less room) (λ g. most_further) (λ g gs. all_of g (guards gs)))
+
+  pub conjs_chained : AreChained (IsConj n left) (a_conj n left below) (is_a OrWord) (ConjIn n left) (conj_in n left below) (ends stops_conj) (ends stops_expr)
+  conjs_chained = record {
     sample = example OrWord;
     passes = passes OrWord;
     before = part_conj;
@@ -222,7 +227,11 @@ module _ (n left : ℕ) (below : ℕ → Readers) (under : (t : Lexeme) → deep
     again = ends_at stops_conj OrWord refl;
     ends = λ t e. expr_conj (role t) e;
     differ = λ t e. no_or (role t) e;
-  }) (λ room g. less room) (λ g. most_further) (λ g gs. any_of g (guards gs)))
+  }
+
+  part_expr : IsPart (IsExpr n left) (an_expr n left below) (ends stops_expr)
+  unfolding an_expr
+  part_expr = part_same (ExprBy n left) (IsExpr n left) (expr_from n left) (expr_to n left) _ (ends stops_expr) (part_chained (IsConj n left) (a_conj n left below) (is_a OrWord) (ConjIn n left) (conj_in n left below) (ends stops_conj) (ends stops_expr) conjs_chained (λ room g. less room) (λ g. most_further) (λ g gs. any_of g (guards gs)))
 
   pub parts_with : Parts n left (readers n left below)
   parts_with = record { port = part_port; sum = part_sum; unit = part_unit; expr = part_expr }

@@ -129,3 +129,10 @@ roomy starts over zero ys b f =
     let h : refusal_of b.t (Some (past_kind (over b.t))) ≡ None = g.0 in
     absurd cc
 roomy starts over (suc room) ys b f = (refl, f)
+
+-- an element behind a sign had room left, and it is fine as what stands behind it is
+pub element_fine : (starts : Lexeme → Bool) (over : Lexeme → Option RefusalKind) (room : ℕ) (xs ys zs : List Symbol) → BeginsWith starts over ys → IsFine ((xs ++ limited_text room ys) ++ zs) → (room ≡ suc (less room)) × IsFine ys × IsFine zs
+element_fine starts over room xs ys zs b f =
+    let a = fine_parts (xs ++ limited_text room ys) zs f in
+    let r = roomy starts over room ys b (fine_parts xs (limited_text room ys) a.0).1 in
+    (r.0, r.1, a.1)

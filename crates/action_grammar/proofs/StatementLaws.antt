@@ -3,7 +3,7 @@ use Rattle.std.proofs.Common.{◌≡◌, ℕ, zero, suc, Bool, true, false, [], 
 use Rattle.text_tokens.specs.Text.{Lexeme}
 use Rattle.text_tokens.specs.Reading.{Reader, ◌>>=◌, pure, one, no_limit, deep_at, less, by_role}
 use Rattle.text_tokens.specs.Grammar.{Lang, Then, Made, IsNothing}
-use Rattle.text_tokens.specs.Lawful.{Exact, IsPart, always, SomeText, StartsIn, HasTokens, Starts, IsHandled, handled, no_role}
+use Rattle.text_tokens.specs.Lawful.{Exact, IsPart, always, SomeText, StartsIn, HasTokens, Starts, AreChained, IsHandled, handled, no_role}
 use Rattle.text_tokens.proofs.Exactness.{exact}
 use Rattle.text_tokens.proofs.Carrying.{part_same}
 use Rattle.text_tokens.proofs.Parts.{part_less, part_before}
@@ -201,9 +201,8 @@ module _ (n left : ℕ) (below : ℕ → Reader Stmts) (under : (t : Lexeme) →
   part_stmt = part_roles role (level_limit n) (StmtBy n left) (IsStmt n left) (roles_stmt n left) (stmt_by n left below) (ends stops_sum) stmt_roles
 
 module _ (n : ℕ) (below : ℕ → Reader Stmts) (under : (t : Lexeme) → deep_at n t ≡ None → (left : ℕ) → IsPart (IsStmts (less n) left) (below left) (ends stops_stmts)) where
-  part_list : (left : ℕ) → IsPart (IsStmts n left) (all_stmts n left below) (ends stops_stmts)
-  unfolding all_stmts
-  part_list left = part_same (StmtsBy n left) (IsStmts n left) (stmts_from n left) (stmts_to n left) _ (ends stops_stmts) (part_chained (IsStmt n left) (a_stmt n left below) (is_a SemicolonSign) (StmtIn n) (stmt_in n below) (ends stops_sum) (ends stops_stmts) (record {
+  pub stmts_chained : (left : ℕ) → AreChained (IsStmt n left) (a_stmt n left below) (is_a SemicolonSign) (StmtIn n) (stmt_in n below) (ends stops_sum) (ends stops_stmts)
+  stmts_chained left = record {
     sample = example SemicolonSign;
     passes = passes SemicolonSign;
     before = part_stmt n left below under;
@@ -211,7 +210,11 @@ module _ (n : ℕ) (below : ℕ → Reader Stmts) (under : (t : Lexeme) → deep
     again = ends_at stops_sum SemicolonSign refl;
     ends = λ t e. stmts_sum (role t) e;
     differ = λ t e. no_semicolon (role t) e;
-  }) scope_behind (λ s. scope_of most_further (after left s)) (λ s ss. stmt_then s (stmts ss)))
+  }
+
+  part_list : (left : ℕ) → IsPart (IsStmts n left) (all_stmts n left below) (ends stops_stmts)
+  unfolding all_stmts
+  part_list left = part_same (StmtsBy n left) (IsStmts n left) (stmts_from n left) (stmts_to n left) _ (ends stops_stmts) (part_chained (IsStmt n left) (a_stmt n left below) (is_a SemicolonSign) (StmtIn n) (stmt_in n below) (ends stops_sum) (ends stops_stmts) (stmts_chained left) scope_behind (λ s. scope_of most_further (after left s)) (λ s ss. stmt_then s (stmts ss)))
 
 -- ---- by the levels that are left
 

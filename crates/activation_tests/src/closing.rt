@@ -3,12 +3,15 @@ ghost use Rattle.std.specs.List.{All};
 ghost use Rattle.claim_rule.specs.Seating.{AreOf};
 ghost use Rattle.claim_rule.specs.Tokens.{IsOf, number_in};
 
-use crate::fixtures::{Marker, field_of, is_entry, lists_of, standing, turn_of, world_of};
+use crate::fixtures::{is_entry, turn_of};
 use crate::machine::{is_left, is_marked, machine_leaves};
 use activation::NoGate;
 use amoebot_state::World;
 use claim_core::{Journal, Lists, Marks};
 use claim_rule::{Field, Seat, Seats};
+use node_claims_tests::field_of;
+use small_worlds::{Marker, lists_of, standing, world_in};
+use std::alloc::Global;
 use std::process::Abort;
 use std::sync::Wait;
 use std::test::Fail;
@@ -80,18 +83,40 @@ fn closed<R: Wait + Abort>(
     Ok(field.close(seats))
 }
 
-#[test]
-fn four_callers_leave_what_the_machine_does_by_the_same_steps(rt: HostRuntime) -> Result<(), Fail> {
-    let alloc = rt.alloc();
-    let bots = &[standing(2, 3), standing(3, 3), standing(6, 6)];
-    let world = world_of(alloc, 10, 10, bots)?;
+/// Four callers, of which so many make all their turns: the field leaves so many entries then, and what the machine leaves by the same
+/// steps once all have made them.
+fn closes_after<R: Wait + Abort>(
+    rt: &R,
+    alloc: Global,
+    callers: u8,
+    entries: usize,
+) -> Result<Journal, Fail> {
+    let bots = &[standing(2, 3, 0), standing(3, 3, 0), standing(6, 6, 0)];
+    let world = world_in(alloc, 10, 10, bots)?;
     let ids: &[&[u16]] = &[&[0], &[1, 0], &[0, 2], &[2]];
     let lists = lists_of(alloc, 2, &world, ids)?;
     let steps = &[(0, 39), (1, 39), (2, 39), (3, 38)];
     let report = machine_leaves(alloc, &Marker, &world, &lists, steps)?;
     let (field, seats) = field_of(alloc, &Marker, world, &lists)?;
-    let (last, journal) = closed(&rt, field, &lists, &report.turns, seats, 4)?;
-    is_left(&rt, &report, &last, &journal);
+    let (last, journal) = closed(rt, field, &lists, &report.turns, seats, callers)?;
+    assert_eq!(rt; journal.entries().len(), entries);
+    if callers == lists.callers() {
+        is_left(rt, &report, &last, &journal);
+    }
+    Ok(journal)
+}
+
+#[test]
+fn a_field_is_closed_after_the_turns_of_each_caller(rt: HostRuntime) -> Result<(), Fail> {
+    for (callers, entries) in [(0, 0), (1, 1), (2, 2), (3, 3)] {
+        closes_after(&rt, rt.alloc(), callers, entries)?;
+    }
+    Ok(())
+}
+
+#[test]
+fn four_callers_leave_what_the_machine_does_by_the_same_steps(rt: HostRuntime) -> Result<(), Fail> {
+    let journal = closes_after(&rt, rt.alloc(), 4, 3)?;
     let [one, two, three] = journal.entries() else {
         return Err(Fail::from("three entries"));
     };

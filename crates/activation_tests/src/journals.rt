@@ -2,11 +2,13 @@ ghost use Rattle.std.specs.Prelude.{◌≡◌, IfOk};
 ghost use Rattle.claim_rule.specs.Tokens.{IsOf};
 ghost use Rattle.claim_rule.specs.Settling.{IsToTake};
 
-use crate::fixtures::{Marker, decided, field_of, lists_of, seat_of, standing, world_of};
+use crate::fixtures::decided;
 use amoebot_state::Change;
 use claim_core::Lists;
 use claim_rule::{Claimed, Field, Seat, Settled, Taken, store, take};
 use node_claims::release_settled;
+use node_claims_tests::{field_of, seat_of};
+use small_worlds::{Marker, lists_of, standing, world_in};
 use std::process::Abort;
 use std::test::Fail;
 
@@ -90,7 +92,7 @@ fn take_turns(
 fn the_journal_is_found_taken_until_the_other_caller_has_committed(
     rt: HostRuntime,
 ) -> Result<(), Fail> {
-    let world = world_of(rt.alloc(), 12, 12, &[standing(2, 2), standing(8, 8)])?;
+    let world = world_in(rt.alloc(), 12, 12, &[standing(2, 2, 0), standing(8, 8, 0)])?;
     let lists = lists_of(rt.alloc(), 1, &world, &[&[0], &[1]])?;
     let (field, mut seats) = field_of(rt.alloc(), &Marker, world, &lists)?;
     let zero = seat_of(&rt, &field, &mut seats, 0)?;

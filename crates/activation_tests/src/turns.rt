@@ -4,10 +4,7 @@ ghost use Rattle.claim_rule.specs.Seating.{AreOf};
 ghost use Rattle.claim_rule.specs.Tokens.{IsOf, number_in};
 ghost use Rattle.claim_rule.specs.Settling.{IsToTake};
 
-use crate::fixtures::{
-    Blocked, Counter, Marker, decided, field_of, is_entry, lists_of, seat_of, standing,
-    standing_marked, turn_of, world_of,
-};
+use crate::fixtures::{Counter, decided, is_entry, turn_of};
 use crate::machine::{is_left, is_marked, machine_leaves};
 use activation::Gate;
 use amoebot_state::{CellName, Change, Decider, Failure, World};
@@ -15,6 +12,8 @@ use claim_core::{Journal, Lists, Mark, Marks};
 use claim_rule::{Claimed, Field, Seat, Seats};
 use commit_journal::commit;
 use node_claims::release_settled;
+use node_claims_tests::{field_of, seat_of};
+use small_worlds::{Blocked, Marker, lists_of, standing, world_in};
 use std::alloc::Global;
 use std::process::Abort;
 use std::sync::Wait;
@@ -239,14 +238,14 @@ fn both_marked<R: Wait + Abort>(
     order: Order,
     steps: &[(u8, u8)],
 ) -> Result<Journal, Fail> {
-    let world = world_of(alloc, 8, 8, &[standing(2, 3), standing(3, 3)])?;
+    let world = world_in(alloc, 8, 8, &[standing(2, 3, 0), standing(3, 3, 0)])?;
     let lists = lists_of(alloc, 2, &world, &[&[0], &[1]])?;
     let report = machine_leaves(alloc, &Marker, &world, &lists, steps)?;
     let (field, seats) = field_of(alloc, &Marker, world, &lists)?;
     let (last, journal) = closed(rt, field, &lists, &report.turns, order, seats)?;
     is_left(rt, &report, &last, &journal);
-    let bots = &[standing_marked(2, 3), standing_marked(3, 3)];
-    assert!(rt; last.same(&world_of(alloc, 8, 8, bots)?));
+    let bots = &[standing(2, 3, 1), standing(3, 3, 1)];
+    assert!(rt; last.same(&world_in(alloc, 8, 8, bots)?));
     Ok(journal)
 }
 
@@ -299,7 +298,7 @@ fn fails_twice<R: Wait + Abort>(
 #[test]
 fn a_turn_that_fails_leaves_its_zone_free(rt: HostRuntime) -> Result<(), Fail> {
     let alloc = rt.alloc();
-    let world = world_of(alloc, 8, 8, &[standing(2, 3)])?;
+    let world = world_in(alloc, 8, 8, &[standing(2, 3, 0)])?;
     let lists = lists_of(alloc, 2, &world, &[&[0]])?;
     let report = machine_leaves(alloc, &Blocked, &world, &lists, &[(0, 38)])?;
     let (field, mut seats) = field_of(alloc, &Blocked, world, &lists)?;

@@ -1,5 +1,5 @@
 -- That amoebots without a fault are those of a valid configuration.
-use Rattle.std.proofs.Common.{◌≡◌, ◌<◌, ◌≤◌, ℕ, zero, suc, List, length, map, take, get_or, Bool, true, false, not, ◌&&◌, ◌||◌, cond, ap, sym, ◌∙◌, refl, subst, inl, inr, arith, Option, Some, None}
+use Rattle.std.proofs.Common.{◌≡◌, ◌<◌, ◌≤◌, ℕ, zero, suc, List, [], ◌∷◌, length, map, take, get_or, Bool, true, false, not, ◌&&◌, ◌||◌, cond, ap, sym, ◌∙◌, refl, subst, inl, inr, arith, Option, Some, None}
 use Rattle.std.specs.Prelude.{is_some}
 use Rattle.std.specs.List.{All}
 use Rattle.std.proofs.Math.Seq.{take-suc, take-length}
@@ -68,6 +68,13 @@ none_valid a maxes area eight bots = record {
   each = λ i b e. absurd (none-some b e);
   apart = λ i j v one two. absurd (false≢true one);
 }
+
+-- one amoebot, and two, of which none has a fault
+pub valid_one : (a : Extent) (maxes : List ℕ) → IsArea a → length maxes ≡ 8 → (b : Bot) → IsPlain b → bot_fault (config_of a maxes []) b ≡ None → IsValid (config_of a maxes (b ∷ []))
+valid_one a maxes area eight b plain fine = valid_with (config_of a maxes []) b (none_valid a maxes area eight []) (no_fault (config_of a maxes []) b plain fine)
+
+pub valid_two : (a : Extent) (maxes : List ℕ) → IsArea a → length maxes ≡ 8 → (b d : Bot) → IsPlain b → IsPlain d → bot_fault (config_of a maxes []) b ≡ None → bot_fault (config_of a maxes (b ∷ [])) d ≡ None → IsValid (config_of a maxes (b ∷ d ∷ []))
+valid_two a maxes area eight b d plain_b plain_d fine apart = valid_with (config_of a maxes (b ∷ [])) d (valid_one a maxes area eight b plain_b fine) (no_fault (config_of a maxes (b ∷ [])) d plain_d apart)
 
 -- the amoebots before a place are those of a valid configuration
 before_valid : (a : Extent) (maxes : List ℕ) (bots : List Bot) → IsArea a → length maxes ≡ 8 → All IsPlain bots → (n : ℕ) → n ≤ length bots → IsFaultless a maxes bots n → IsValid (config_of a maxes (take n bots))

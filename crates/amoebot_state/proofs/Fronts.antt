@@ -40,7 +40,7 @@ front_left xs ys zs front =
     subst (IsFront xs) (sym (append_assoc xs ys rest) ∙ sym (front_rest (xs ++ ys) zs front)) (front_of_append xs (ys ++ rest))
 
 -- the element at the number of those before it
-slice_get_behind : {A : Type 0} (xs : List A) (y : A) (ys : List A) → slice_get (xs ++ y ∷ ys) (length xs) ≡ Some y
+pub slice_get_behind : {A : Type 0} (xs : List A) (y : A) (ys : List A) → slice_get (xs ++ y ∷ ys) (length xs) ≡ Some y
 slice_get_behind [] y ys = refl
 slice_get_behind (x ∷ xs) y ys = slice_get_behind xs y ys
 

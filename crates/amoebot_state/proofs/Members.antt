@@ -18,18 +18,19 @@ not_in_none {A} {x} h = gone h refl
     gone here e = cc
     gone (later t) e = cc
 
+-- equal lists begin and go on alike
+pub same_first : {A : Type 0} {x y : A} {xs ys : List A} → x ∷ xs ≡ y ∷ ys → x ≡ y
+same_first e = cc
+
+pub same_rest : {A : Type 0} {x y : A} {xs ys : List A} → x ∷ xs ≡ y ∷ ys → xs ≡ ys
+same_rest e = cc
+
 pub has_cases : {A : Type 0} {x y : A} {xs : List A} → Has x (y ∷ xs) → (x ≡ y) ⊎ Has x xs
 has_cases {A} {x} {y} {xs} h = split h refl
   where
-    head_is : {a b : A} {ys zs : List A} → a ∷ ys ≡ b ∷ zs → a ≡ b
-    head_is e = cc
-
-    tail_is : {a b : A} {ys zs : List A} → a ∷ ys ≡ b ∷ zs → ys ≡ zs
-    tail_is e = cc
-
     split : {zs : List A} → Has x zs → zs ≡ y ∷ xs → (x ≡ y) ⊎ Has x xs
-    split here e = inl (head_is e)
-    split (later t) e = inr (subst (Has x) (tail_is e) t)
+    split here e = inl (same_first e)
+    split (later t) e = inr (subst (Has x) (same_rest e) t)
 
 pub Has-append_left : {A : Type 0} {x : A} {xs : List A} (ys : List A) → Has x xs → Has x (xs ++ ys)
 Has-append_left ys here = here

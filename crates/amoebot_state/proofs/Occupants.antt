@@ -8,7 +8,7 @@ use Rattle.std.proofs.lemmas.List.Sums.{position_or_len_is, fails_before_first}
 use Rattle.std.proofs.lemmas.Bool.{cases_eq, cases_Bool, cond-true, cond-false, lt-ltb, le-ltb, ltb-false, cases_lt, both_ways}
 use Rattle.std.proofs.lemmas.Option.{none-some}
 use Rattle.tri_lattice.specs.declared.node.Node.{Node}
-use Rattle.tri_lattice.specs.Extent.{index_of, is_in}
+use Rattle.tri_lattice.specs.Extent.{Extent, IsArea, index_of, is_in}
 use Rattle.amoebot_state.specs.declared.bot.Bot.{Bot}
 use Rattle.amoebot_state.specs.Configs.{Config, IsValid, bot_at, occupant, covers}
 use Rattle.amoebot_state.specs.Refusals.{IsPlain}
@@ -117,8 +117,9 @@ outside_empty c valid v e =
       | Some i ↦ λ is. absurd (not_in _ e (covered_in c valid i v (position-Some _ c.bots i None is).1))
     ] refl
 
--- what a valid configuration says of an amoebot of it
+-- what an amoebot in an area has to be, and what a valid configuration says of an amoebot of it
+pub plain_in : (a : Extent) → IsArea a → (b : Bot) → IsTrue (is_in a b.head) → IsTrue (is_in a b.tail) → b.rot < 6 → length b.mem ≡ 8 → IsPlain b
+plain_in a area b head tail rot eight = record { head = near_in a b.head area head; tail = near_in a b.tail area tail; rot = rot; eight = eight }
+
 pub plain_bot : (c : Config) → IsValid c → (i : ℕ) (b : Bot) → bot_at c i ≡ Some b → IsPlain b
-plain_bot c valid i b at =
-    let fits = valid.each i b at in
-    record { head = near_in c.area b.head valid.area fits.head; tail = near_in c.area b.tail valid.area fits.tail; rot = fits.rot; eight = fits.eight }
+plain_bot c valid i b at = let fits = valid.each i b at in plain_in c.area valid.area b fits.head fits.tail fits.rot fits.eight

@@ -12,7 +12,7 @@ use Rattle.amoebot_state.specs.declared.cell.CellName.TheVariants as name
 use Rattle.amoebot_state.specs.Configs.{Config, bot_at, occupant}
 use Rattle.amoebot_state.specs.Zones.{distinct, zone_nodes, others, zone_of, zone_at, zone}
 use Rattle.amoebot_state.specs.Laws.{ZoneListsEachCellOnce}
-use Rattle.amoebot_state.proofs.Members.{Has, here, later, map_has, filter_has, Has-append_cases, All-from_Has}
+use Rattle.amoebot_state.proofs.Members.{Has, same_first, same_rest, here, later, map_has, filter_has, Has-append_cases, All-from_Has}
 use Rattle.amoebot_state.proofs.Zones.{others_occupy}
 
 -- no element is an element of what follows it
@@ -23,15 +23,9 @@ pub data Once {A : Type 0} : List A → Type 0 where
 pub once_parts : {A : Type 0} {x : A} {xs : List A} → Once (x ∷ xs) → (Has x xs → ⊥) × Once xs
 once_parts {A} {x} {xs} once = split once refl
   where
-    head_is : {a b : A} {ys zs : List A} → a ∷ ys ≡ b ∷ zs → a ≡ b
-    head_is e = cc
-
-    tail_is : {a b : A} {ys zs : List A} → a ∷ ys ≡ b ∷ zs → ys ≡ zs
-    tail_is e = cc
-
     split : {zs : List A} → Once zs → zs ≡ x ∷ xs → (Has x xs → ⊥) × Once xs
     split none e = cc
-    split (more {x = y} {xs = ys} new rest) e = (λ has. new (subst (λ z. Has z ys) (sym (head_is e)) (subst (Has x) (sym (tail_is e)) has)), subst Once (tail_is e) rest)
+    split (more {x = y} {xs = ys} new rest) e = (λ has. new (subst (λ z. Has z ys) (sym (same_first e)) (subst (Has x) (sym (same_rest e)) has)), subst Once (same_rest e) rest)
 
 AllPairs-from_Once : {A : Type 0} {xs : List A} → Once xs → AllPairs (λ x y. x ≢ y) xs
 AllPairs-from_Once none = λ i j d before within. absurd (omega arith)

@@ -3,7 +3,6 @@ use Rattle.std.proofs.Common.{◌≡◌, ◌<◌, ℕ, zero, suc, length, [], �
 use Rattle.std.specs.Prelude.{is_some, IsTrue}
 use Rattle.std.proofs.lemmas.Int.{ints}
 use Rattle.tri_lattice.specs.Extent.{IsArea, is_in}
-use Rattle.tri_lattice.proofs.Boxes.{near_in}
 use Rattle.amoebot_state.specs.declared.bot.Bot.{Bot}
 use Rattle.amoebot_state.specs.declared.bot.Chir.TheVariants.{Plus}
 use Rattle.amoebot_state.specs.declared.bot.End.TheVariants.{Head, Tail}
@@ -18,8 +17,8 @@ use Rattle.amoebot_state.specs.Refusals.{IsPlain, bot_fault}
 use Rattle.amoebot_state.specs.Zones.{Shown, shown}
 use Rattle.amoebot_state.specs.Patches.{IsPatched, diff}
 use Rattle.amoebot_state.specs.Steps.{Step, Run, change_of}
-use Rattle.amoebot_state.proofs.Added.{no_fault, valid_with}
-use Rattle.amoebot_state.proofs.Faults.{none_valid}
+use Rattle.amoebot_state.proofs.Faults.{valid_one, valid_two}
+use Rattle.amoebot_state.proofs.Occupants.{plain_in}
 use Rattle.amoebot_state.proofs.Differences.{diff_leads}
 use Rattle.amoebot_state.proofs.Samples.{at, held, free, shows, with_body, first, expanded, contracted, against, eight, world, alone, alone_out, going_out, pair, marked, stretched, train, pulled, turned, turned_out}
 
@@ -37,13 +36,13 @@ eight_is_area = record {
 }
 
 pub plain : (b : Bot) → IsTrue (is_in eight b.head) → IsTrue (is_in eight b.tail) → b.rot < 6 → length b.mem ≡ 8 → IsPlain b
-plain b head tail rot long = record { head = near_in eight b.head eight_is_area head; tail = near_in eight b.tail eight_is_area tail; rot = rot; eight = long }
+plain = plain_in eight eight_is_area
 
-valid_one : (b : Bot) → IsPlain b → bot_fault (world []) b ≡ None → IsValid (world (b ∷ []))
-valid_one b fits fine = valid_with (world []) b (none_valid eight (first 1) eight_is_area refl []) (no_fault (world []) b fits fine)
+one_valid : (b : Bot) → IsPlain b → bot_fault (world []) b ≡ None → IsValid (world (b ∷ []))
+one_valid = valid_one eight (first 1) eight_is_area refl
 
-pub valid_two : (a b : Bot) → IsPlain a → IsPlain b → bot_fault (world []) a ≡ None → bot_fault (world (a ∷ [])) b ≡ None → IsValid (world (a ∷ b ∷ []))
-valid_two a b one two fine apart = valid_with (world (a ∷ [])) b (valid_one a one fine) (no_fault (world (a ∷ [])) b two apart)
+pub two_valid : (a b : Bot) → IsPlain a → IsPlain b → bot_fault (world []) a ≡ None → bot_fault (world (a ∷ [])) b ≡ None → IsValid (world (a ∷ b ∷ []))
+two_valid = valid_two eight (first 1) eight_is_area refl
 
 -- the difference of two leads from the one to the other
 one_leads : (a b : Bot) → IsValid (world (a ∷ [])) → IsValid (world (b ∷ [])) → IsPatched (world (a ∷ [])) (diff (world (a ∷ [])) (world (b ∷ []))) (world (b ∷ []))
@@ -69,10 +68,10 @@ abbrev pub out_entry : Entry
 out_entry = record { caller = 0; turn = 0; bot = 0; action = 0; moved = moved.Expand (port Head 0); patch = going_out }
 
 alone_valid : IsValid alone
-alone_valid = valid_one (contracted (at 2 3)) (plain (contracted (at 2 3)) refl refl (omega arith) refl) refl
+alone_valid = one_valid (contracted (at 2 3)) (plain (contracted (at 2 3)) refl refl (omega arith) refl) refl
 
 alone_out_valid : IsValid alone_out
-alone_out_valid = valid_one stretched (plain stretched refl refl (omega arith) refl) refl
+alone_out_valid = one_valid stretched (plain stretched refl refl (omega arith) refl) refl
 
 -- whatever decides so makes this run
 pub alone_runs : (f : Shown → Verdict) → f (shown alone 0) ≡ verdict.Change goes_out → Run f alone (out_entry ∷ []) alone_out
@@ -83,10 +82,10 @@ abbrev pub turned_entry : Entry
 turned_entry = record { caller = 0; turn = 0; bot = 0; action = 0; moved = moved.Expand (port Head 1); patch = held 2 2 0 ∷ with_body 0 turned_out ∷ [] }
 
 turned_valid : IsValid turned
-turned_valid = valid_one (against 5 (at 2 3)) (plain (against 5 (at 2 3)) refl refl (omega arith) refl) refl
+turned_valid = one_valid (against 5 (at 2 3)) (plain (against 5 (at 2 3)) refl refl (omega arith) refl) refl
 
 turned_out_valid : IsValid (world (turned_out ∷ []))
-turned_out_valid = valid_one turned_out (plain turned_out refl refl (omega arith) refl) refl
+turned_out_valid = one_valid turned_out (plain turned_out refl refl (omega arith) refl) refl
 
 pub turned_steps : (f : Shown → Verdict) → f (shown turned 0) ≡ verdict.Change (change_of turned_entry) → Step f turned turned_entry (world (turned_out ∷ []))
 turned_steps f one = record { there = refl; decided = one; patched = one_leads (against 5 (at 2 3)) turned_out turned_valid turned_out_valid }
@@ -111,13 +110,13 @@ next_marking_changes : diff one_marked both_marked ≡ with_body 1 next_marked �
 next_marking_changes = refl
 
 pair_valid : IsValid pair
-pair_valid = valid_two (contracted (at 2 3)) (contracted (at 3 3)) (plain (contracted (at 2 3)) refl refl (omega arith) refl) (plain (contracted (at 3 3)) refl refl (omega arith) refl) refl refl
+pair_valid = two_valid (contracted (at 2 3)) (contracted (at 3 3)) (plain (contracted (at 2 3)) refl refl (omega arith) refl) (plain (contracted (at 3 3)) refl refl (omega arith) refl) refl refl
 
 one_marked_valid : IsValid one_marked
-one_marked_valid = valid_two marked (contracted (at 3 3)) (plain marked refl refl (omega arith) refl) (plain (contracted (at 3 3)) refl refl (omega arith) refl) refl refl
+one_marked_valid = two_valid marked (contracted (at 3 3)) (plain marked refl refl (omega arith) refl) (plain (contracted (at 3 3)) refl refl (omega arith) refl) refl refl
 
 both_marked_valid : IsValid both_marked
-both_marked_valid = valid_two marked next_marked (plain marked refl refl (omega arith) refl) (plain next_marked refl refl (omega arith) refl) refl refl
+both_marked_valid = two_valid marked next_marked (plain marked refl refl (omega arith) refl) (plain next_marked refl refl (omega arith) refl) refl refl
 
 -- whatever decides so makes this run
 marks_run : (f : Shown → Verdict) → f (shown pair 0) ≡ verdict.Change (change_of (marking 0 marked)) → f (shown one_marked 1) ≡ verdict.Change (change_of (marking 1 next_marked)) → Run f pair (marking 0 marked ∷ marking 1 next_marked ∷ []) both_marked
@@ -147,13 +146,13 @@ noting_changes : diff pulled pulled_noted ≡ with_body 1 noted ∷ []
 noting_changes = refl
 
 train_valid : IsValid train
-train_valid = valid_two stretched (contracted (at 1 3)) (plain stretched refl refl (omega arith) refl) (plain (contracted (at 1 3)) refl refl (omega arith) refl) refl refl
+train_valid = two_valid stretched (contracted (at 1 3)) (plain stretched refl refl (omega arith) refl) (plain (contracted (at 1 3)) refl refl (omega arith) refl) refl refl
 
 pulled_valid : IsValid pulled
-pulled_valid = valid_two (contracted (at 3 3)) (expanded (at 2 3) (at 1 3)) (plain (contracted (at 3 3)) refl refl (omega arith) refl) (plain (expanded (at 2 3) (at 1 3)) refl refl (omega arith) refl) refl refl
+pulled_valid = two_valid (contracted (at 3 3)) (expanded (at 2 3) (at 1 3)) (plain (contracted (at 3 3)) refl refl (omega arith) refl) (plain (expanded (at 2 3) (at 1 3)) refl refl (omega arith) refl) refl refl
 
 pulled_noted_valid : IsValid pulled_noted
-pulled_noted_valid = valid_two (contracted (at 3 3)) noted (plain (contracted (at 3 3)) refl refl (omega arith) refl) (plain noted refl refl (omega arith) refl) refl refl
+pulled_noted_valid = two_valid (contracted (at 3 3)) noted (plain (contracted (at 3 3)) refl refl (omega arith) refl) (plain noted refl refl (omega arith) refl) refl refl
 
 train_runs : (f : Shown → Verdict) → f (shown train 0) ≡ verdict.Change (change_of pulling) → f (shown pulled 1) ≡ verdict.Change (change_of noting) → Run f train (pulling ∷ noting ∷ []) pulled_noted
 train_runs f one two = (

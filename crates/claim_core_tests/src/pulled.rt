@@ -1,9 +1,10 @@
 ghost use Rattle.std.specs.Prelude.{◌≡◌, ◌<◌, length};
 
 use crate::checker::is_report;
-use crate::fixtures::{Dragger, core_of, lists_of, spread, standing, world_of};
+use crate::fixtures::{Dragger, core_of};
 use amoebot_state::{Decider, End, Moved, Port};
 use claim_core::Core;
+use small_worlds::{lists_of, spread, standing, world_of};
 use std::test::Fail;
 
 /// The port to the left of the tail.

@@ -3,9 +3,10 @@ ghost use Rattle.std.specs.List.{All};
 ghost use Rattle.amoebot_state.specs.Refusals.{IsPlain};
 
 use crate::checker::is_report;
-use crate::fixtures::{Expander, Marker, core_of, lists_of, standing, turned, world_of};
+use crate::fixtures::core_of;
 use amoebot_state::{Bot, Decider, End, Port};
 use claim_core::{Core, Mark, Marks, Report};
+use small_worlds::{Expander, Marker, lists_of, standing, turned, world_of};
 use std::alloc::Global;
 use std::process::Abort;
 use std::test::Fail;

@@ -2,9 +2,10 @@ ghost use Rattle.std.specs.Prelude.{◌≡◌, ◌<◌, ◌≤◌, length};
 ghost use Rattle.std.specs.List.{All};
 ghost use Rattle.amoebot_state.specs.Refusals.{IsPlain};
 
-use crate::fixtures::{core_of, lists_of, the_area, world_of};
+use crate::fixtures::{core_of, the_area};
 use amoebot_state::{Bot, Cell, CellName, Decider, Entry, Moved, World};
 use claim_core::{Core, Look, Mark, Marks, Phase, Report};
+use small_worlds::{lists_of, world_of};
 use std::alloc::Global;
 use std::process::Abort;
 use std::test::Fail;

@@ -1,9 +1,9 @@
 ghost use Rattle.std.specs.Prelude.{◌≡◌, length};
 
 use crate::checker::is_report;
-use crate::fixtures::{Marker, lists_of, standing, world_of};
 use amoebot_state::{Bot, Cell, CellName, Entry, Failure, Moved, Patch, World};
 use claim_core::{Journal, Mark, Marks, Report};
+use small_worlds::{Marker, lists_of, standing, world_of};
 use std::alloc::Global;
 use std::test::Fail;
 use tri_lattice::Node;

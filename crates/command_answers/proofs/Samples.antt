@@ -6,8 +6,8 @@ use Rattle.std.specs.List.{All}
 use Rattle.std.proofs.lemmas.List.Elements.{All-nil, All-cons}
 use Rattle.text_tokens.specs.Kinds.{name}
 use Rattle.amoebot_state.specs.Configs.{Config, IsValid, bot_at, config_of, occupant}
-use Rattle.amoebot_state.proofs.Added.{no_fault, valid_with}
-use Rattle.amoebot_state.proofs.Faults.{none_valid}
+use Rattle.amoebot_state.proofs.Faults.{valid_one}
+use Rattle.amoebot_state.proofs.Occupants.{plain_in}
 use Rattle.model_ops.proofs.ActsDecide.{acts_keep_decider_laws}
 use Rattle.claim_core.specs.declared.state.Phase.TheVariants.{Ended}
 use Rattle.claim_core.specs.declared.state.Caller.{Caller}
@@ -20,14 +20,14 @@ use Rattle.claim_core.specs.Laws.{ReachedIsGood, OneListIsSerial}
 use Rattle.action_meaning.specs.Verdicts.{verdict_shown}
 use Rattle.action_meaning.proofs.Decided.{programs_decide_by_acts}
 use Rattle.document_grammar.specs.declared.section.Form.TheVariants as form
-use Rattle.command_runs.specs.SmallRow.{row, zeros, node, bot_on}
+use Rattle.small_worlds.specs.Rows.{row, zeros, node, bot_on}
 use Rattle.command_runs.specs.Reports.{setup}
 use Rattle.command_runs.specs.Run.{IsRunReport}
 use Rattle.command_runs.specs.Interleave.{IsScheduled, IsInterleaveReport}
 use Rattle.command_runs.specs.Replay.{at_end}
 use Rattle.command_runs.specs.Samples.{nobody}
 use Rattle.command_runs.proofs.Measures.{nobody_is_measured}
-use Rattle.command_runs.proofs.SmallRow.{is_area, plain, one_id, IsThereIn}
+use Rattle.small_worlds.proofs.Rows.{is_area, one_id, IsThereIn, one_has_ended, two_have_ended}
 use Rattle.shipped_programs.specs.declared.shipped.Shipped.TheVariants.{Line}
 use Rattle.command_words.specs.declared.command.DocumentCommand.TheVariants.{Run, Interleave, Replay, Check, Measure}
 use Rattle.command_answers.specs.OfReplay.{HasJournal}
@@ -40,7 +40,7 @@ abbrev g : Setup
 g = setup (verdict_shown out) start one_list
 
 valid : IsValid start
-valid = valid_with (config_of row zeros []) (bot_on 1 1) (none_valid row zeros is_area refl []) (no_fault (config_of row zeros []) (bot_on 1 1) (plain (bot_on 1 1) refl refl (omega arith) refl) refl)
+valid = valid_one row zeros is_area refl (bot_on 1 1) (plain_in row is_area (bot_on 1 1) refl refl (omega arith) refl) refl
 
 only_bot : All (IsThereIn start) (0 ∷ [])
 only_bot = All-cons (IsThereIn start) 0 [] refl (All-nil (IsThereIn start))
@@ -55,17 +55,8 @@ may_run = record {
   leads = (acts_keep_decider_laws (verdict_shown out) (programs_decide_by_acts out)).1;
 }
 
-abbrev HasEnded : Caller → Type 0
-HasEnded k = k.phase ≡ Ended
-
-has_ended : (s : State) (k : Caller) → s.callers ≡ k ∷ [] → k.phase ≡ Ended → HaveEnded s
-has_ended s k is one = subst (All HasEnded) (sym is) (All-cons HasEnded k [] one (All-nil HasEnded))
-
-have_ended : (s : State) (k j : Caller) → s.callers ≡ k ∷ j ∷ [] → k.phase ≡ Ended → j.phase ≡ Ended → HaveEnded s
-have_ended s k j are one other = subst (All HasEnded) (sym are) (All-cons HasEnded k (j ∷ []) one (All-cons HasEnded j [] other (All-nil HasEnded)))
-
 ended : HaveEnded (after g (reverse schedule))
-ended = has_ended (after g (reverse schedule)) _ refl refl
+ended = one_has_ended (after g (reverse schedule)) _ refl refl
 
 same_ids : (i : ℕ) → is_some (bot_at spread i) ≡ is_some (bot_at start i)
 same_ids zero = refl
@@ -95,7 +86,7 @@ abbrev steps_of_both : List ℕ
 steps_of_both = replicate 20 1 ++ replicate 20 0
 
 both_ended : HaveEnded (after both steps_of_both)
-both_ended = have_ended (after both steps_of_both) _ _ refl refl refl
+both_ended = two_have_ended (after both steps_of_both) _ _ refl refl refl
 
 both_reached : Reached both both_told
 both_reached = record { steps = steps_of_both; ended = both_ended; left = record { first = refl; entries = refl; world = record { rest = refl; size = refl; ids = same_ids; values = refl }; marks = refl } }

@@ -16,7 +16,7 @@ use Rattle.claim_core.specs.Turns.{CallerLists}
 use Rattle.action_tree.specs.Trees as tree
 use Rattle.action_tree.specs.Trees.{Name, Literal, atom, through, expand, at_end, fixed, no_stmts}
 use Rattle.document_grammar.specs.Documents.{Contents}
-use Rattle.command_runs.specs.SmallRow.{row, zeros, node, bot_on, to_the_right}
+use Rattle.small_worlds.specs.Rows.{row, zeros, node, bot_on, to_the_right}
 use Rattle.command_runs.specs.Samples.{nobody}
 use Rattle.command_answers.specs.declared.status.Status.TheVariants as status
 use Rattle.command_words.specs.Words.{command_of}

@@ -5,5 +5,4 @@ pub mod Reported
 pub mod SampleTexts
 pub mod Samples
 pub mod Scheduled
-pub mod SmallRow
 pub mod Measures

@@ -14,8 +14,8 @@ use Rattle.claim_core.specs.Turns.{IsList}
 use Rattle.claim_core.specs.Soundness.{IsSetup}
 use Rattle.claim_core.specs.Reached.{HaveEnded, IsReportOf, Reached}
 use Rattle.claim_core.specs.Laws.{ReachedIsGood, OneListIsSerial}
-use Rattle.command_runs.specs.SmallRow.{node, two_beside, expanded, one_refused}
-use Rattle.command_runs.proofs.SmallRow.{IsThereIn, one_id, may_run, valid, same_ids, reached, good}
+use Rattle.small_worlds.specs.Rows.{node, two_beside, expanded, one_refused}
+use Rattle.small_worlds.proofs.Rows.{IsThereIn, one_id, may_run, valid, same_ids, one_has_ended, two_have_ended, reached, good}
 use Rattle.command_runs.specs.Reports.{setup}
 use Rattle.command_runs.specs.Run.{IsRunReport}
 use Rattle.command_runs.specs.Interleave.{at_round, IsScheduled}
@@ -43,9 +43,6 @@ one_may_run = record {
   leads = may_run.leads;
 }
 
-abbrev HasEnded : Caller → Type 0
-HasEnded k = k.phase ≡ Ended
-
 -- the only caller's steps, and more than it needs to end
 abbrev steps : List ℕ
 steps = replicate 30 0
@@ -53,13 +50,10 @@ steps = replicate 30 0
 abbrev last_caller : Caller
 last_caller = caller 2 Ended [] (mark.Done 0 ∷ mark.Idle 1 ∷ [])
 
-only_caller : (after (setup decides start one_list) steps).callers ≡ last_caller ∷ []
-only_caller = refl
-
 one_reached : Reached (setup decides start one_list) one_expanded
 one_reached = record {
   steps = steps;
-  ended = subst (All HasEnded) (sym only_caller) (All-cons HasEnded last_caller [] refl (All-nil HasEnded));
+  ended = one_has_ended (after (setup decides start one_list) steps) last_caller refl refl;
   left = record { first = refl; entries = refl; world = record { rest = refl; size = refl; ids = same_ids; values = refl }; marks = refl };
 }
 
@@ -77,11 +71,8 @@ first_round (suc (suc zero)) lt = frees (at_round two_beside schedule 2) _ _ ref
 first_round (suc (suc (suc zero))) lt = frees (at_round two_beside schedule 3) _ _ refl refl
 first_round (suc (suc (suc (suc n)))) lt = absurd (omega arith)
 
-have_ended : (s : State) (k j : Caller) → s.callers ≡ k ∷ j ∷ [] → k.phase ≡ Ended → j.phase ≡ Ended → HaveEnded s
-have_ended s k j are one other = subst (All HasEnded) (sym are) (All-cons HasEnded k (j ∷ []) one (All-cons HasEnded j [] other (All-nil HasEnded)))
-
 ended : HaveEnded (at_round two_beside schedule 4)
-ended = have_ended (at_round two_beside schedule 4) _ _ refl refl refl
+ended = two_have_ended (at_round two_beside schedule 4) _ _ refl refl refl
 
 left : IsReportOf two_beside (at_round two_beside schedule 4) one_refused
 left = record { first = refl; entries = refl; world = record { rest = refl; size = refl; ids = same_ids; values = refl }; marks = refl }

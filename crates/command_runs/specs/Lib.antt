@@ -7,4 +7,3 @@ pub mod Reports
 pub mod Run
 pub mod Sample
 pub mod Samples
-pub mod SmallRow

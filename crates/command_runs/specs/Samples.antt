@@ -8,7 +8,7 @@ use Rattle.amoebot_state.specs.Zones.{Shown}
 use Rattle.claim_core.specs.declared.marks.Mark.TheVariants as mark
 use Rattle.claim_core.specs.declared.report.Report.{Report}
 use Rattle.claim_core.specs.Turns.{CallerLists}
-use Rattle.command_runs.specs.SmallRow.{row, zeros, row_with, bot_on, two_beside, expanded, one_refused}
+use Rattle.small_worlds.specs.Rows.{row, zeros, row_with, bot_on, two_beside, expanded, one_refused}
 use Rattle.action_print.specs.Pins.{counting}
 use Rattle.command_runs.specs.Check.{check_text}
 use Rattle.command_runs.specs.Reports.{report_text}

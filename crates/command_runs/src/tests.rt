@@ -1,144 +1,26 @@
 //! Runs of small documents, with the texts that they leave.
 
-ghost use Rattle.std.specs.Prelude.{◌≡◌, ◌<◌, ◌≤◌, ◌∷◌, ◌++◌, [], length, IfOk, OnOk};
-ghost use Rattle.std.specs.Bool.{OnTrue};
+ghost use Rattle.std.specs.Prelude.{◌<◌, ◌≤◌, length, IfOk};
 ghost use Rattle.std.specs.List.{All};
 ghost use Rattle.amoebot_state.specs.Refusals.{IsPlain};
-ghost use Rattle.claim_core.specs.Turns.{HaveBots};
 
 use crate::{compare, print_agrees, print_differs, print_report, run_interleaved};
-use amoebot_state::{
-    Bot, Cell, CellName, Change, Chir, Decider, End, Entry, Found, Moved, Patch, Port, Verdict,
-    World,
-};
-use claim_core::{Lists, Report};
-use model_ops::Site;
+use amoebot_state::{Bot, Cell, CellName, Decider, End, Entry, Moved, Patch, Port, World};
+use claim_core::Report;
 use schedule_text::{Schedule, read_schedule};
+use small_worlds::{Expander, Marker, lists_of, standing, world_of};
 use std::alloc::Global;
 use std::test::Fail;
 use text_tokens::Tokens;
-use tri_lattice::{Area, Node};
+use tri_lattice::Node;
 
-/// The program of one action, whose guard is that variable 0 is 0, and which sets it to 1.
-struct Marker;
-
-impl Decider for Marker {
-    ghost use Rattle.serial_model.specs.Marking.{marking, marking_touches_zone, marking_has_next, marking_is_exact};
-
-    ghost verdict = { λ _. marking };
-
-    fn decide(&self, found: &Found) -> Verdict {
-        let own = *found.own();
-        if own.mem[0] == 0 && 1 <= found.maxes()[0] {
-            let mut marked = own;
-            marked.mem[0] = 1;
-            let mut patch = Patch::new();
-            patch.push(CellName::Body(found.bot()), Cell::Body(marked));
-            return Verdict::Change(Change {
-                action: 0,
-                moved: Moved::None,
-                patch,
-            });
-        }
-        Verdict::Idle
-    }
-
-    ghost touches_zone = { λ _. marking_touches_zone };
-
-    ghost has_next = { λ _. marking_has_next };
-
-    ghost is_exact = { λ _. marking_is_exact };
-}
-
-/// The port through which the amoebots expand.
-const HEAD_0: Port = Port {
-    end: End::Head,
-    dir: 0,
+/// The program that expands each amoebot through the port `head 0`.
+const EXPANDER: Expander = Expander {
+    port: Port {
+        end: End::Head,
+        dir: 0,
+    },
 };
-
-/// The program of one action, whose guard is that the amoebot is contracted, and which expands it.
-struct Expander;
-
-impl Decider for Expander {
-    ghost use Rattle.model_ops.specs.Expansion.{expansion_verdict_shown};
-    ghost use Rattle.command_runs.specs.SmallRow.{to_the_right};
-    ghost use Rattle.model_ops.proofs.ExpansionLaws.{expansion_touches_zone, expansion_has_next, expansion_is_exact};
-
-    ghost verdict = { λ _. expansion_verdict_shown to_the_right };
-
-    fn decide(&self, found: &Found) -> Verdict {
-        if !found.own().is_contracted() {
-            return Verdict::Idle;
-        }
-        let mut site = Site::new(found);
-        match site.expand(HEAD_0) {
-            Ok(()) => Verdict::Change(Change {
-                action: 0,
-                moved: Moved::Expand(HEAD_0),
-                patch: site.patch(),
-            }),
-            Err(failure) => Verdict::Failed(failure),
-        }
-    }
-
-    ghost touches_zone = { λ _. expansion_touches_zone to_the_right };
-
-    ghost has_next = { λ _. expansion_has_next to_the_right };
-
-    ghost is_exact = { λ _. expansion_is_exact to_the_right };
-}
-
-/// A contracted amoebot with a value of variable 0, whose local directions are the global ones.
-fn standing(x: u8, y: u8, value: u8) -> Bot
-    ensures { IsPlain result }
-{
-    let node = Node {
-        x: i16::from(x),
-        y: i16::from(y),
-    };
-    Bot {
-        head: node,
-        tail: node,
-        rot: 0,
-        chir: Chir::Plus,
-        mem: [value, 0, 0, 0, 0, 0, 0, 0],
-    }
-}
-
-/// The world of these amoebots in the area 0 0 8 8, whose variable 0 is 0 or 1.
-fn world_of(alloc: Global, bots: &[Bot]) -> Result<World, Fail>
-    requires few { length bots.now ≤ 4096 }
-    requires plain { All IsPlain bots.now }
-{
-    let area = Area::new(0, 0, 8, 8).ok_or("an area")?;
-    Ok(World::new(alloc, area, [1, 0, 0, 0, 0, 0, 0, 0], bots)?)
-}
-
-/// The lists of callers of so many turns, whose ids are below a number.
-fn lists_of(alloc: Global, turns: u32, bots: u16, ids: &[&[u16]]) -> Result<Lists, Fail>
-    ensures { IfOk result (λ lists. HaveBots bots lists) }
-{
-    let mut lists = Lists::new(alloc, turns).ok().ok_or("no lists")?;
-    for list in ids {
-        add(alloc, bots, &mut lists, list)?;
-    }
-    Ok(lists)
-}
-
-fn add(alloc: Global, bots: u16, lists: &mut Lists, ids: &[u16]) -> Result<(), Fail>
-    ensures added { OnOk result (lists.new.ids ≡ lists.old.ids ++ ids.now ∷ []) }
-    ensures below { OnOk result (All (λ id. id < bots) ids.now) }
-{
-    let fits = !ids.is_empty()
-        && ids.len() <= 4096
-        && lists.callers() < 16
-        && lists.turns() <= 4096;
-    if !fits || !ids.iter().all(|id| *id < bots) {
-        Err("a list")?;
-    }
-    lists.add(alloc, ids).ok().ok_or("no list")?;
-    Ok(())
-}
 
 /// The schedule that is read from a text, of callers below a number.
 fn schedule_of(alloc: Global, callers: u8, text: &str) -> Result<Schedule, Fail>
@@ -163,7 +45,7 @@ fn interleaved<D: Decider>(
 {
     let (turns, ids) = lists;
     let world = world_of(alloc, bots)?;
-    let lists = lists_of(alloc, turns, world.bots(), ids)?;
+    let lists = lists_of(alloc, turns, &world, ids)?;
     let schedule = schedule_of(alloc, lists.callers(), schedule)?;
     Ok(run_interleaved(alloc, decider, world, &lists, &schedule)?)
 }
@@ -261,7 +143,7 @@ fn the_schedule_says_who_commits_first(rt: HostRuntime) -> Result<(), Fail> {
     let bots = [standing(1, 1, 0), standing(6, 6, 0)];
     let text = text_of(
         rt.alloc(),
-        &Expander,
+        &EXPANDER,
         &bots,
         (1, &[&[0], &[1]]),
         "schedule 1 times 10 end",
@@ -294,7 +176,7 @@ fn a_journal_agrees_or_differs(rt: HostRuntime) -> Result<(), Fail> {
     let bots = [standing(1, 1, 0), standing(6, 6, 0)];
     let report = interleaved(
         rt.alloc(),
-        &Expander,
+        &EXPANDER,
         &bots,
         (1, &[&[0], &[1]]),
         "schedule 1 times 10 end",
@@ -303,17 +185,17 @@ fn a_journal_agrees_or_differs(rt: HostRuntime) -> Result<(), Fail> {
     let last = &report.world;
     let entries = report.journal.entries();
     assert_eq!(rt;
-        place_of(rt.alloc(), &Expander, &start, entries, last)?,
+        place_of(rt.alloc(), &EXPANDER, &start, entries, last)?,
         None
     );
     // The final shape is another one than the last world: the number of entries.
     assert_eq!(rt;
-        place_of(rt.alloc(), &Expander, &start, entries, &start)?,
+        place_of(rt.alloc(), &EXPANDER, &start, entries, &start)?,
         Some(2)
     );
     // From the last world on the first entry is no step, since its amoebot is expanded.
     assert_eq!(rt;
-        place_of(rt.alloc(), &Expander, last, entries, last)?,
+        place_of(rt.alloc(), &EXPANDER, last, entries, last)?,
         Some(0)
     );
     assert_eq!(rt;

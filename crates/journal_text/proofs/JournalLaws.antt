@@ -9,11 +9,11 @@ use Rattle.text_tokens.specs.Grammar.{Lang, IsOne, Then, Made, Judged, Either, L
 use Rattle.text_tokens.specs.Lawful.{Exact, IsPart, always, Starts, AreElements}
 use Rattle.text_tokens.proofs.Exactness.{exact}
 use Rattle.text_tokens.proofs.Carrying.{part_made}
-use Rattle.text_tokens.proofs.Parts.{some_text, part_one, part_judged}
-use Rattle.text_tokens.proofs.Beginnings.{starts_in, starts_some, starts_one, starts_made, starts_then, starts_judged, starts_either}
+use Rattle.text_tokens.proofs.Parts.{part_judged}
+use Rattle.text_tokens.proofs.Beginnings.{starts_judged, starts_either}
 use Rattle.text_tokens.proofs.Repeating.{at_most_elements, part_repeated}
-use Rattle.text_tokens.proofs.Distinguishing.{sample, passes, other_text, starts_numeral, not_either}
-use Rattle.text_tokens.proofs.Joining.{behind, into, one_of_two}
+use Rattle.text_tokens.proofs.Distinguishing.{other_text, starts_numeral, not_either}
+use Rattle.text_tokens.proofs.Joining.{behind, into, one_of_two, starts_behind, starts_into}
 use Rattle.amoebot_state.specs.declared.bot.Port.{Port}
 use Rattle.amoebot_state.specs.declared.cell.CellName.{CellName}
 use Rattle.amoebot_state.specs.declared.cell.CellName.TheVariants as name
@@ -24,7 +24,7 @@ use Rattle.amoebot_state.specs.declared.verdict.Moved.TheVariants as moved
 use Rattle.journal_text.specs.Parts.{word, is_end, IsWord, IsNumber, IsNode, IsEnd, IsPort}
 use Rattle.journal_text.specs.Journals.{IsPortBehind, IsEndBehind, IsMovedBy, IsContracted, IsMoved, is_spot, is_body, is_cell, IsCell, IsOccupant, IsValueOf, a_pair_of, IsPair, is_entry, numbers_of, AreNumbers, Written, written_of, past_entries, IsEntryWord, IsWritten, wrong, IsEntry, one_more, AreEntries, IsJournal}
 use Rattle.journal_text.specs.Readers.{a_word, a_number, port_behind, end_behind, moved_by, a_contraction, a_movement, a_cell, an_occupant, a_value, a_pair, pair_in, all_pairs, the_numbers, entry_word, written, an_entry, entries_from, journal, a_node, an_end, a_port}
-use Rattle.journal_text.proofs.PartLaws.{up_to_end, starts_word, part_word, part_number, starts_means, number_no_word, part_end, part_node, part_port, part_bot}
+use Rattle.journal_text.proofs.PartLaws.{up_to_end, starts_word, part_word, part_word_within, starts_word_within, part_number, starts_means, number_no_word, part_end, part_node, part_port, part_bot}
 
 -- ---- movements
 
@@ -40,13 +40,13 @@ part_moved_by : (text : List ℕ) (make : Port → Moved) → IsPart (IsWord tex
 part_moved_by text make w = into make (part_port_behind text w)
 
 starts_moved_by : (text : List ℕ) (make : Port → Moved) → Starts (IsMovedBy text make) (word text) no_limit
-starts_moved_by text make = starts_made (IsPortBehind text) make (word text) no_limit (starts_word text (λ line. IsPort) (λ line. a_port) always (λ line. part_port))
+starts_moved_by text make = starts_into make (starts_word text (λ line. part_port))
 
 part_contraction : IsPart IsContracted a_contraction always
 part_contraction = into moved.Contract (part_end_behind (codes "contract") (part_word (codes "contract") refl))
 
 starts_contraction : Starts IsContracted (word (codes "contract")) no_limit
-starts_contraction = starts_made (IsEndBehind (codes "contract")) moved.Contract (word (codes "contract")) no_limit (starts_word (codes "contract") (λ line. IsEnd) (λ line. an_end) always (λ line. part_end))
+starts_contraction = starts_into moved.Contract (starts_word (codes "contract") (λ line. part_end))
 
 abbrev by_push : Lexeme → Bool
 by_push = word (codes "push")
@@ -89,19 +89,19 @@ starts_last4 = starts_either Expanded Last3 by_expand (λ t. by_contract t || (b
 
 part_movement : IsPart IsMoved a_movement always
 unfolding a_movement
-part_movement = one_of_two (word (codes "none")) _ no_limit (starts_means (word (codes "none")) moved.None) (starts_in Last4 _ no_limit starts_last4) (starts_some Last4 _ no_limit starts_last4)
+part_movement = one_of_two (starts_means (word (codes "none")) moved.None) starts_last4
     (λ t e. not_either by_expand (λ t. by_contract t || (by_push t || by_pull t)) (word (codes "none")) t (λ e. other_text Word (codes "expand") (codes "none") t refl e)
     (λ e. not_either by_contract (λ t. by_push t || by_pull t) (word (codes "none")) t (λ e. other_text Word (codes "contract") (codes "none") t refl e)
     (λ e. not_either by_push by_pull (word (codes "none")) t (λ e. other_text Word (codes "push") (codes "none") t refl e) (λ e. other_text Word (codes "pull") (codes "none") t refl e) e) e) e)
     (into (λ line. moved.None) (part_word (codes "none") refl))
-    (one_of_two by_expand _ no_limit (starts_moved_by (codes "expand") moved.Expand) (starts_in Last3 _ no_limit starts_last3) (starts_some Last3 _ no_limit starts_last3)
+    (one_of_two (starts_moved_by (codes "expand") moved.Expand) starts_last3
     (λ t e. not_either by_contract (λ t. by_push t || by_pull t) by_expand t (λ e. other_text Word (codes "contract") (codes "expand") t refl e)
     (λ e. not_either by_push by_pull by_expand t (λ e. other_text Word (codes "push") (codes "expand") t refl e) (λ e. other_text Word (codes "pull") (codes "expand") t refl e) e) e)
     (part_moved_by (codes "expand") moved.Expand (part_word (codes "expand") refl))
-    (one_of_two by_contract _ no_limit starts_contraction (starts_in Last2 _ no_limit starts_last2) (starts_some Last2 _ no_limit starts_last2)
+    (one_of_two starts_contraction starts_last2
     (λ t e. not_either by_push by_pull by_contract t (λ e. other_text Word (codes "push") (codes "contract") t refl e) (λ e. other_text Word (codes "pull") (codes "contract") t refl e) e)
     part_contraction
-    (one_of_two by_push by_pull no_limit (starts_moved_by (codes "push") moved.Push) (starts_in Pulled by_pull no_limit (starts_moved_by (codes "pull") moved.Pull)) (starts_some Pulled by_pull no_limit (starts_moved_by (codes "pull") moved.Pull))
+    (one_of_two (starts_moved_by (codes "push") moved.Push) (starts_moved_by (codes "pull") moved.Pull)
     (λ t e. other_text Word (codes "pull") (codes "push") t refl e)
     (part_moved_by (codes "push") moved.Push (part_word (codes "push") refl))
     (part_moved_by (codes "pull") moved.Pull (part_word (codes "pull") refl)))))
@@ -115,14 +115,14 @@ abbrev BodyCell : Lang CellName
 BodyCell = Then (IsWord (codes "body")) (λ line. Made IsNumber (λ id. name.Body id))
 
 starts_spot : Starts SpotCell is_spot no_limit
-starts_spot = starts_word (codes "spot") (λ line. Made IsNode (λ v. name.Spot v)) (λ line. a_node >>= λ v. pure (name.Spot v)) always (λ line. into (λ v. name.Spot v) part_node)
+starts_spot = starts_word (codes "spot") (λ line. into (λ v. name.Spot v) part_node)
 
 starts_body : Starts BodyCell is_body no_limit
-starts_body = starts_word (codes "body") (λ line. Made IsNumber (λ id. name.Body id)) (λ line. a_number >>= λ id. pure (name.Body id)) always (λ line. into (λ id. name.Body id) part_number)
+starts_body = starts_word (codes "body") (λ line. into (λ id. name.Body id) part_number)
 
 pub part_cell : IsPart IsCell a_cell always
 unfolding a_cell
-part_cell = one_of_two is_spot is_body no_limit starts_spot (starts_in BodyCell is_body no_limit starts_body) (starts_some BodyCell is_body no_limit starts_body)
+part_cell = one_of_two starts_spot starts_body
     (λ t e. other_text Word (codes "body") (codes "spot") t refl e)
     (behind (part_word (codes "spot") refl) (λ line. into (λ v. name.Spot v) part_node))
     (behind (part_word (codes "body") refl) (λ line. into (λ id. name.Body id) part_number))
@@ -130,13 +130,9 @@ part_cell = one_of_two is_spot is_body no_limit starts_spot (starts_in BodyCell 
 starts_cell : Starts IsCell is_cell no_limit
 starts_cell = starts_either SpotCell BodyCell is_spot is_body starts_spot starts_body
 
-starts_id : Starts (Made IsNumber (λ id. cell.Spot (Some id))) is_number no_limit
-starts_id = starts_made IsNumber (λ id. cell.Spot (Some id)) is_number no_limit (starts_numeral no_limit)
-
 part_occupant : IsPart IsOccupant an_occupant always
 unfolding an_occupant
-part_occupant = one_of_two (word (codes "empty")) is_number no_limit (starts_means (word (codes "empty")) (cell.Spot None))
-    (starts_in (Made IsNumber (λ id. cell.Spot (Some id))) is_number no_limit starts_id) (starts_some (Made IsNumber (λ id. cell.Spot (Some id))) is_number no_limit starts_id)
+part_occupant = one_of_two (starts_means (word (codes "empty")) (cell.Spot None)) (starts_into (λ id. cell.Spot (Some id)) (starts_numeral no_limit))
     (λ t e. number_no_word (codes "empty") t e)
     (into (λ line. cell.Spot None) (part_word (codes "empty") refl))
     (into (λ id. cell.Spot (Some id)) part_number)
@@ -155,7 +151,7 @@ module _ (vars : ℕ) where
   part_pair = behind part_cell part_made_pair
 
   starts_pair : Starts (IsPair vars) is_cell no_limit
-  starts_pair = starts_then IsCell (λ c. Made (IsValueOf vars c) (λ x. a_pair_of c x)) is_cell no_limit starts_cell (λ c. some_text (Made (IsValueOf vars c) (λ x. a_pair_of c x)) (a_value vars c >>= λ x. pure (a_pair_of c x)) (part_made_pair c).law)
+  starts_pair = starts_behind starts_cell part_made_pair
 
   abbrev pub PairIn : ℕ → Lang (CellName × Cell)
   PairIn room = Limited (IsPair vars) room
@@ -189,17 +185,14 @@ module _ (vars : ℕ) where
 
   part_entry_word : (before : ℕ) → IsPart (IsEntryWord before) (entry_word before) always
   unfolding entry_word
-  part_entry_word before = into (λ t. t.line) (part_one is_entry (past_entries before) (sample Word (codes "entry")) (passes Word (codes "entry") refl))
-
-  starts_entry_word : (before : ℕ) → Starts (IsEntryWord before) is_entry (past_entries before)
-  starts_entry_word before = starts_made (IsOne is_entry (past_entries before)) (λ t. t.line) is_entry (past_entries before) (starts_one is_entry (past_entries before))
+  part_entry_word before = part_word_within (codes "entry") (past_entries before) refl
 
   part_written : (before : ℕ) → IsPart (IsWritten vars before) (written vars before) no_pair
   unfolding written
   part_written before = behind (part_entry_word before) part_behind_word
 
   starts_written : (before : ℕ) → Starts (IsWritten vars before) is_entry (past_entries before)
-  starts_written before = starts_then (IsEntryWord before) BehindWord is_entry (past_entries before) (starts_entry_word before) (λ line. some_text (BehindWord line) (behind_word line) (part_behind_word line).law)
+  starts_written before = starts_behind (starts_word_within (codes "entry") (past_entries before)) part_behind_word
 
   module _ (bots actions : ℕ) where
     part_entry : (before : ℕ) → IsPart (IsEntry bots actions vars before) (an_entry bots actions vars before) no_pair
@@ -210,7 +203,7 @@ module _ (vars : ℕ) where
     unfolding no_pair
     entry_elements = record {
       over = past_entries;
-      start = λ before. starts_made (Judged (IsWritten vars before) (wrong bots actions before)) (λ w. w.entry) is_entry (past_entries before) (starts_judged (IsWritten vars before) (wrong bots actions before) is_entry (past_entries before) (starts_written before));
+      start = λ before. starts_into (λ w. w.entry) (starts_judged (IsWritten vars before) (wrong bots actions before) is_entry (past_entries before) (starts_written before));
       part = part_entry;
       again = λ t e. rw (other_text Word (codes "entry") (codes "spot") t refl e, other_text Word (codes "entry") (codes "body") t refl e) refl;
       ends = λ t e. rw (other_text Word (codes "end") (codes "spot") t refl e, other_text Word (codes "end") (codes "body") t refl e) refl;

@@ -1,4 +1,5 @@
 pub mod PartLaws
+pub mod Meanings
 pub mod JournalLaws
 pub mod TurnLaws
 pub mod Saying

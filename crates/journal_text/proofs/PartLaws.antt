@@ -1,19 +1,20 @@
 -- The readers of what several sections have are parts for their grammars.
-use Rattle.std.proofs.Common.{◌≡◌, ℕ, pos, Bool, true, false, List, refl}
+use Rattle.std.proofs.Common.{◌≡◌, ℕ, pos, Bool, true, false, List, Option, refl}
 use Rattle.std.specs.Prelude.{codes}
 use Rattle.std.specs.Str.{bytes_eq}
 use Rattle.text_tokens.specs.declared.token.TokenKind.TheVariants.{Word, Number, Sign}
+use Rattle.text_tokens.specs.declared.refusal.RefusalKind.{RefusalKind}
 use Rattle.text_tokens.specs.declared.refusal.RefusalKind.TheVariants.{BadRange}
 use Rattle.text_tokens.specs.Text.{Lexeme}
 use Rattle.text_tokens.specs.Cursor.{same_kind}
-use Rattle.text_tokens.specs.Reading.{Reader, is_number, too_large, no_limit, closed}
-use Rattle.text_tokens.specs.Grammar.{Lang, Then, Made, IsThe, Closed}
+use Rattle.text_tokens.specs.Reading.{Reader, ◌>>=◌, pure, one_within, is_number, too_large, no_limit, closed}
+use Rattle.text_tokens.specs.Grammar.{Lang, IsOne, Then, Made, IsThe, Closed}
 use Rattle.text_tokens.specs.Lawful.{IsPart, Starts, always}
-use Rattle.text_tokens.proofs.Parts.{some_text, part_closed}
-use Rattle.text_tokens.proofs.Beginnings.{starts_in, starts_some, starts_made, starts_then}
+use Rattle.text_tokens.proofs.Parts.{part_one, part_closed}
+use Rattle.text_tokens.proofs.Beginnings.{starts_one}
 use Rattle.text_tokens.proofs.Repeating.{part_times}
 use Rattle.text_tokens.proofs.Distinguishing.{sample, passes, kind_is, other_text, a_token, a_numeral, starts_the, starts_numeral}
-use Rattle.text_tokens.proofs.Joining.{behind, into, one_of_two}
+use Rattle.text_tokens.proofs.Joining.{behind, into, one_of_two, starts_behind, starts_into}
 use Rattle.amoebot_state.specs.declared.bot.Chir.TheVariants.{Plus, Minus}
 use Rattle.amoebot_state.specs.declared.bot.End.TheVariants.{Head, Tail}
 use Rattle.journal_text.specs.Parts.{word, sign, is_minus, is_end, IsWord, Means, IsNumber, IsUpTo, negative, IsInt, a_node_of, IsNode, IsEnd, IsChirality, a_port_of, IsPort, IsValues, a_bot_of, IsBot}
@@ -26,13 +27,20 @@ pub up_to_end : {A : Type 0} {P : Lang A} {p : Reader A} → IsPart P p is_end �
 up_to_end {P = P} {p = p} part = part_closed P p is_end (sample Word (codes "end")) (passes Word (codes "end") refl) part
 
 -- a part that begins with this word
-pub starts_word : {B : Type 0} (text : List ℕ) (Q : ℕ → Lang B) (q : ℕ → Reader B) (stop : Lexeme → Bool) → ((line : ℕ) → IsPart (Q line) (q line) stop) → Starts (Then (IsWord text) Q) (word text) no_limit
-starts_word text Q q stop part = starts_then (IsWord text) Q (word text) no_limit (starts_the (word text)) (λ line. some_text (Q line) (q line) (part line).law)
+pub starts_word : {B : Type 0} {Q : ℕ → Lang B} {q : ℕ → Reader B} {stop : Lexeme → Bool} (text : List ℕ) → ((line : ℕ) → IsPart (Q line) (q line) stop) → Starts (Then (IsWord text) Q) (word text) no_limit
+starts_word text part = starts_behind (starts_the (word text)) part
 
 -- ---- tokens
 
 pub part_word : (text : List ℕ) → bytes_eq text text ≡ true → IsPart (IsWord text) (a_word text) always
 part_word text e = a_token Word text e
+
+-- this word, where not too many stand before it, for its line
+pub part_word_within : (text : List ℕ) (over : Lexeme → Option RefusalKind) → bytes_eq text text ≡ true → IsPart (Made (IsOne (word text) over) (λ t. t.line)) (one_within (word text) over >>= λ t. pure t.line) always
+part_word_within text over e = into (λ t. t.line) (part_one (word text) over (sample Word text) (passes Word text e))
+
+pub starts_word_within : (text : List ℕ) (over : Lexeme → Option RefusalKind) → Starts (Made (IsOne (word text) over) (λ t. t.line)) (word text) over
+starts_word_within text over = starts_into (λ t. t.line) (starts_one (word text) over)
 
 pub part_number : IsPart IsNumber a_number always
 part_number = a_numeral no_limit
@@ -41,7 +49,7 @@ pub part_up_to : (most : ℕ) → IsPart (IsUpTo most) (up_to most) always
 part_up_to most = a_numeral (too_large most BadRange)
 
 pub starts_means : {A : Type 0} (test : Lexeme → Bool) (a : A) → Starts (Means test a) test no_limit
-starts_means test a = starts_made (IsThe test) (λ line. a) test no_limit (starts_the test)
+starts_means test a = starts_into (λ line. a) (starts_the test)
 
 number_no_sign : (text : List ℕ) (t : Lexeme) → is_number t ≡ true → sign text t ≡ false
 unfolding same_kind
@@ -55,28 +63,21 @@ number_no_word text t e = rw (kind_is Number t e) refl
 
 pub part_end : IsPart IsEnd an_end always
 unfolding an_end
-part_end = one_of_two (word (codes "head")) (word (codes "tail")) no_limit (starts_means (word (codes "head")) Head)
-    (starts_in (Means (word (codes "tail")) Tail) (word (codes "tail")) no_limit (starts_means (word (codes "tail")) Tail)) (starts_some (Means (word (codes "tail")) Tail) (word (codes "tail")) no_limit (starts_means (word (codes "tail")) Tail))
+part_end = one_of_two (starts_means (word (codes "head")) Head) (starts_means (word (codes "tail")) Tail)
     (λ t e. other_text Word (codes "tail") (codes "head") t refl e)
     (into (λ line. Head) (a_token Word (codes "head") refl))
     (into (λ line. Tail) (a_token Word (codes "tail") refl))
 
 part_chirality : IsPart IsChirality a_chirality always
 unfolding a_chirality
-part_chirality = one_of_two (sign (codes "+")) (sign (codes "-")) no_limit (starts_means (sign (codes "+")) Plus)
-    (starts_in (Means (sign (codes "-")) Minus) (sign (codes "-")) no_limit (starts_means (sign (codes "-")) Minus)) (starts_some (Means (sign (codes "-")) Minus) (sign (codes "-")) no_limit (starts_means (sign (codes "-")) Minus))
+part_chirality = one_of_two (starts_means (sign (codes "+")) Plus) (starts_means (sign (codes "-")) Minus)
     (λ t e. other_text Sign (codes "-") (codes "+") t refl e)
     (into (λ line. Plus) (a_token Sign (codes "+") refl))
     (into (λ line. Minus) (a_token Sign (codes "-") refl))
 
-starts_positive : (most : ℕ) → Starts (Made (IsUpTo most) (λ n. pos n)) is_number (too_large most BadRange)
-starts_positive most = starts_made (IsUpTo most) (λ n. pos n) is_number (too_large most BadRange) (starts_numeral (too_large most BadRange))
-
 pub part_int : (most : ℕ) → IsPart (IsInt most) (an_int most) always
 unfolding an_int
-part_int most = one_of_two is_minus is_number no_limit
-    (starts_then (IsThe is_minus) (λ line. Made (IsUpTo most) negative) is_minus no_limit (starts_the is_minus) (λ line. some_text (Made (IsUpTo most) negative) _ (into negative (part_up_to most)).law))
-    (starts_in (Made (IsUpTo most) (λ n. pos n)) is_number (too_large most BadRange) (starts_positive most)) (starts_some (Made (IsUpTo most) (λ n. pos n)) is_number (too_large most BadRange) (starts_positive most))
+part_int most = one_of_two (starts_behind (starts_the is_minus) (λ line. into negative (part_up_to most))) (starts_into (λ n. pos n) (starts_numeral (too_large most BadRange)))
     (λ t e. number_no_sign (codes "-") t e)
     (behind (a_token Sign (codes "-") refl) (λ line. into negative (part_up_to most)))
     (into (λ n. pos n) (part_up_to most))

@@ -9,7 +9,7 @@ use Rattle.text_tokens.specs.Grammar.{Lang, IsThe, Then, Either}
 use Rattle.text_tokens.specs.Lawful.{Exact, IsPart, always, Starts, AreElements}
 use Rattle.text_tokens.proofs.Exactness.{exact}
 use Rattle.text_tokens.proofs.Parts.{part_the}
-use Rattle.text_tokens.proofs.Beginnings.{starts_in, starts_some, starts_either}
+use Rattle.text_tokens.proofs.Beginnings.{starts_either}
 use Rattle.text_tokens.proofs.Repeating.{part_repeated}
 use Rattle.text_tokens.proofs.Distinguishing.{sample, other_text, not_either}
 use Rattle.text_tokens.proofs.Joining.{behind, into, one_of_two}
@@ -28,7 +28,7 @@ unfolding placed
 part_placed text w = behind w (λ line. part_unheeded)
 
 starts_placed : (text : List ℕ) → Starts (IsPlaced text) (word text) no_limit
-starts_placed text = starts_word text (λ line. Unheeded IsNumber) (λ line. unheeded a_number) always (λ line. part_unheeded)
+starts_placed text = starts_word text (λ line. part_unheeded)
 
 passes_failure : is_failure (sample Word (codes "edge")) ≡ true
 unfolding same_kind names_failure
@@ -42,7 +42,7 @@ unfolding a_failed
 part_failed = behind (part_word (codes "failed") refl) (λ line. part_behind_failed)
 
 starts_failed : Starts IsFailed (word (codes "failed")) no_limit
-starts_failed = starts_word (codes "failed") _ (λ line. the_line is_failure >>= λ line. unheeded a_number) always (λ line. part_behind_failed)
+starts_failed = starts_word (codes "failed") (λ line. part_behind_failed)
 
 part_claimant : IsPart IsClaimant a_claimant always
 unfolding a_claimant
@@ -56,7 +56,7 @@ unfolding a_busy
 part_busy = behind (part_word (codes "busy") refl) (λ line. part_behind_busy)
 
 starts_busy : Starts IsBusy (word (codes "busy")) no_limit
-starts_busy = starts_word (codes "busy") _ (λ line. a_cell >>= λ c. a_claimant >>= λ u. placed (codes "place")) always (λ line. part_behind_busy)
+starts_busy = starts_word (codes "busy") (λ line. part_behind_busy)
 
 abbrev by_done : Lexeme → Bool
 by_done = word (codes "done")
@@ -84,14 +84,14 @@ starts_last3 = starts_either (IsPlaced (codes "idle")) Last2 by_idle (λ t. by_f
 
 part_mark : IsPart IsMark a_mark always
 unfolding a_mark
-part_mark = one_of_two by_done _ no_limit (starts_placed (codes "done")) (starts_in Last3 _ no_limit starts_last3) (starts_some Last3 _ no_limit starts_last3)
+part_mark = one_of_two (starts_placed (codes "done")) starts_last3
     (λ t e. not_either by_idle (λ t. by_failed t || by_busy t) by_done t (λ e. other_text Word (codes "idle") (codes "done") t refl e)
     (λ e. not_either by_failed by_busy by_done t (λ e. other_text Word (codes "failed") (codes "done") t refl e) (λ e. other_text Word (codes "busy") (codes "done") t refl e) e) e)
     (part_placed (codes "done") (part_word (codes "done") refl))
-    (one_of_two by_idle _ no_limit (starts_placed (codes "idle")) (starts_in Last2 _ no_limit starts_last2) (starts_some Last2 _ no_limit starts_last2)
+    (one_of_two (starts_placed (codes "idle")) starts_last2
     (λ t e. not_either by_failed by_busy by_idle t (λ e. other_text Word (codes "failed") (codes "idle") t refl e) (λ e. other_text Word (codes "busy") (codes "idle") t refl e) e)
     (part_placed (codes "idle") (part_word (codes "idle") refl))
-    (one_of_two by_failed by_busy no_limit starts_failed (starts_in IsBusy by_busy no_limit starts_busy) (starts_some IsBusy by_busy no_limit starts_busy)
+    (one_of_two starts_failed starts_busy
     (λ t e. other_text Word (codes "busy") (codes "failed") t refl e)
     part_failed part_busy))
 
@@ -105,7 +105,7 @@ unfolding a_turn
 part_turn = behind (part_word (codes "turn") refl) (λ line. part_behind_turn)
 
 starts_turn : Starts IsTurn is_turn no_limit
-starts_turn = starts_word (codes "turn") _ (λ line. a_number >>= λ caller. a_number >>= λ turn. a_mark) always (λ line. part_behind_turn)
+starts_turn = starts_word (codes "turn") (λ line. part_behind_turn)
 
 abbrev pub TurnIn : Nothing → Lang Nothing
 TurnIn s = IsTurn

@@ -1,7 +1,8 @@
 -- The grammars of the sections as readers, put together as the grammars are.
-use Rattle.std.specs.Prelude.{ℕ, ℤ, pos, Bool, List, Some, None, codes}
+use Rattle.std.specs.Prelude.{ℕ, ℤ, pos, Bool, nat_lt, if◌then◌else◌, List, Option, Some, None, codes}
 use Rattle.tri_lattice.specs.declared.node.Node.{Node}
-use Rattle.text_tokens.specs.declared.refusal.RefusalKind.TheVariants.{BadRange}
+use Rattle.text_tokens.specs.declared.refusal.RefusalKind.{RefusalKind}
+use Rattle.text_tokens.specs.declared.refusal.RefusalKind.TheVariants.{TooMany, BadRange}
 use Rattle.text_tokens.specs.Text.{Lexeme}
 use Rattle.text_tokens.specs.Reading.{Reader, ◌>>=◌, pure, one_within, the_line, numeral, too_large, no_limit, closed, judged, either, limited, times, repeated, at_most}
 use Rattle.amoebot_state.specs.declared.bot.Bot.{Bot}
@@ -26,6 +27,14 @@ use Rattle.journal_text.specs.Turns.{Nothing, is_failure, is_turn, as_before}
 
 abbrev pub a_word : List ℕ → Reader ℕ
 a_word text = the_line (word text)
+
+-- one too many, where so many may come, behind so many
+abbrev pub past_most : ℕ → ℕ → Lexeme → Option RefusalKind
+past_most most before t = if nat_lt before most then None else Some TooMany
+
+-- this word, for its line, where so many may come
+abbrev pub word_within : List ℕ → ℕ → ℕ → Reader ℕ
+word_within text most before = one_within (word text) (past_most most before) >>= λ t. pure t.line
 
 abbrev pub means : {A : Type 0} → (Lexeme → Bool) → A → Reader A
 means test a = the_line test >>= λ line. pure a

@@ -9,7 +9,7 @@ ghost use Rattle.journal_text.specs.Journals as spec;
 ghost use Rattle.journal_text.specs.Readers as reader;
 ghost use Rattle.journal_text.specs.Views as view;
 
-use crate::parts::{read_bot, read_end, read_node, read_port, read_word};
+use crate::parts::{read_bot, read_end, read_node, read_port, read_word, read_word_within};
 use amoebot_state::{Bot, Cell, CellName, End, Entry, Moved, Patch, Port};
 use arrayvec::ArrayVec;
 use std::alloc::Global;
@@ -229,26 +229,13 @@ fn read_numbers(tokens: &mut Tokens<'_>) -> Result<Numbers, ReadRefusal>
     })
 }
 
-/// The word of an entry behind so many, for its line.
-#[tactic(auto, unfolding(crate::specs::Readers::entry_word))]
-fn read_entry_word(tokens: &mut Tokens<'_>, before: u32) -> Result<u32, ReadRefusal>
-    ensures reads { Gives (λ line. line) (reader.entry_word before) tokens.old result tokens.new }
-    ensures room { IfOk result (λ _. before < spec.most_entries) }
-{
-    let token = tokens.take(TokenKind::Word, b"entry")?;
-    if before >= MOST_ENTRIES {
-        return Err(refused(token.line, RefusalKind::TooMany));
-    }
-    Ok(token.line)
-}
-
-#[tactic(auto, unfolding(crate::specs::Readers::written))]
+#[tactic(auto, unfolding(crate::specs::Readers::written, crate::specs::Readers::entry_word))]
 fn read_written(tokens: &mut Tokens<'_>, vars: u8, before: u32) -> Result<Written, ReadRefusal>
     requires { vars ≤ 8 }
     ensures reads { Gives view.written (reader.written vars before) tokens.old result tokens.new }
     ensures room { IfOk result (λ _. before < spec.most_entries) }
 {
-    let line = read_entry_word(tokens, before)?;
+    let line = read_word_within(tokens, b"entry", MOST_ENTRIES, before)?;
     let numbers = read_numbers(tokens)?;
     let moved = read_moved(tokens)?;
     let pairs = read_pairs(tokens, vars)?;

@@ -13,6 +13,7 @@ pub use laws::{
 };
 pub use parts::{
     read_bot, read_chirality, read_end, read_int, read_node, read_port, read_up_to, read_word,
+    read_word_within,
 };
 pub use printing::{print_journal, print_turns, put_bot, put_journal, put_turns};
 pub use turns::read_turns;

@@ -9,7 +9,7 @@ ghost use Rattle.journal_text.specs.Readers as reader;
 
 use amoebot_state::{Bot, Chir, End, Port};
 use arrayvec::ArrayVec;
-use text_tokens::{ReadRefusal, RefusalKind, TokenKind, Tokens, number_up_to, the_line};
+use text_tokens::{ReadRefusal, RefusalKind, TokenKind, Tokens, number_up_to, refused, the_line};
 use tri_lattice::Node;
 
 /// How many values an amoebot has room for.
@@ -20,6 +20,23 @@ pub fn read_word(tokens: &mut Tokens<'_>, text: &[u8]) -> Result<u32, ReadRefusa
     ensures { Gives (λ line. line) (reader.a_word text.now) tokens.old result tokens.new }
 {
     the_line(tokens, TokenKind::Word, text)
+}
+
+/// The word that has to stand here, for its line, where fewer than `most` stand before it. One too many is `TooMany`.
+pub fn read_word_within(
+    tokens: &mut Tokens<'_>,
+    text: &[u8],
+    most: u32,
+    before: u32,
+) -> Result<u32, ReadRefusal>
+    ensures reads { Gives (λ line. line) (reader.word_within text.now most before) tokens.old result tokens.new }
+    ensures room { IfOk result (λ _. before < most) }
+{
+    let token = tokens.take(TokenKind::Word, text)?;
+    if before >= most {
+        return Err(refused(token.line, RefusalKind::TooMany));
+    }
+    Ok(token.line)
 }
 
 /// A number up to this one. One above is `BadRange`.
@@ -46,6 +63,7 @@ pub fn read_int(tokens: &mut Tokens<'_>, most: u16) -> Result<i16, ReadRefusal>
 }
 
 /// A node by its coordinates, which are no farther than 9,999 from 0.
+#[tactic(auto, unfolding(crate::specs::Readers::a_node))]
 pub fn read_node(tokens: &mut Tokens<'_>) -> Result<Node, ReadRefusal>
     ensures reads { Gives (λ v. v) reader.a_node tokens.old result tokens.new }
     ensures near { IfOk result IsNear }
@@ -82,6 +100,7 @@ pub fn read_chirality(tokens: &mut Tokens<'_>) -> Result<Chir, ReadRefusal>
 }
 
 /// A port, whose direction is 0 to 5.
+#[tactic(auto, unfolding(crate::specs::Readers::a_port))]
 pub fn read_port(tokens: &mut Tokens<'_>) -> Result<Port, ReadRefusal>
     ensures { Gives (λ p. p) reader.a_port tokens.old result tokens.new }
 {
@@ -115,6 +134,7 @@ fn memory(values: &[u8]) -> [u8; VALUES]
 }
 
 /// An amoebot with a value for each variable, of which there are at most 8.
+#[tactic(auto, unfolding(crate::specs::Readers::a_bot))]
 pub fn read_bot(tokens: &mut Tokens<'_>, vars: u8) -> Result<Bot, ReadRefusal>
     requires { vars ≤ 8 }
     ensures reads { Gives (λ b. b) (reader.a_bot vars) tokens.old result tokens.new }

@@ -10,7 +10,7 @@ use Rattle.amoebot_state.specs.declared.bot.End.TheVariants as end
 use Rattle.amoebot_state.specs.Configs.{Config, IsValid}
 use Rattle.amoebot_state.specs.Occupied.{occupied}
 use Rattle.amoebot_state.proofs.Samples.{expanded, contracted, world}
-use Rattle.amoebot_state.proofs.StepSamples.{plain, valid_two}
+use Rattle.amoebot_state.proofs.StepSamples.{plain, two_valid}
 use Rattle.model_ops.specs.Laws.{UnguardedSplits}
 
 -- an expanded amoebot beside a contracted one, whose tail is the node between them; and without that node
@@ -24,7 +24,7 @@ joined_valid : IsValid joined
 joined_valid =
     let one = expanded right middle in
     let two = contracted left in
-    valid_two one two (plain one refl refl (omega arith) refl) (plain two refl refl (omega arith) refl) refl refl
+    two_valid one two (plain one refl refl (omega arith) refl) (plain two refl refl (omega arith) refl) refl refl
 
 joined_nodes : SameNodes chain (occupied joined)
 joined_nodes v = elim (cases_Bool (node_eq left v)) [

@@ -1,9 +1,6 @@
 //! Tests of `claim_rule` and `node_claims`: claims of whole zones, refusals, and fields that are closed after turns.
 #![tactic(auto)]
 
-#[cfg(test)]
-mod closing;
-#[cfg(test)]
 mod fixtures;
 #[cfg(test)]
 mod rows;
@@ -13,3 +10,5 @@ mod seats;
 mod walks;
 #[cfg(test)]
 mod zones;
+
+pub use fixtures::{field_of, seat_of};

@@ -4,12 +4,12 @@ ghost use Rattle.claim_rule.specs.Seating.{AreOf};
 ghost use Rattle.claim_rule.specs.Tokens.{IsOf, IsToLook, number_in};
 
 use crate::fixtures::{
-    Idler, begun, claim, claimed_whole, field_of, freed, lists_of, none_left, seat_of, standing,
-    whole, won, world_of,
+    begun, claim, claimed_whole, field_of, freed, none_left, seat_of, whole, won,
 };
 use amoebot_state::{CellName, World};
 use claim_core::{Journal, Lists};
 use claim_rule::{Claimed, Field, Refused, Seat, Seats};
+use small_worlds::{Idler, lists_of, standing, world_in};
 use std::alloc::Global;
 use std::process::Abort;
 use std::test::Fail;
@@ -81,8 +81,8 @@ fn is_refusal(rt: &impl Abort, refused: &Refused, cell: CellName) {
 fn is_found(rt: &impl Abort, claimed: &Claimed<Idler>) {
     let found = claimed.found();
     assert_eq!(rt; found.bot(), 0);
-    assert_eq!(rt; *found.own(), standing(2, 3));
-    assert_eq!(rt; found.body(1).copied(), Some(standing(3, 3)));
+    assert_eq!(rt; *found.own(), standing(2, 3, 0));
+    assert_eq!(rt; found.body(1).copied(), Some(standing(3, 3, 0)));
 }
 
 /// Caller 1 is refused while caller 0 holds its zone, and claims its own in its next turn, once caller 0 has released it.
@@ -105,7 +105,7 @@ fn takes_turns(
     let zero = freed(rt, field, claimed, 0, 0);
     assert_eq!(rt; (zero.caller(), zero.next_turn()), (0, 1));
     let claimed = claimed_whole(rt, field, lists, one, &ZONE_1)?;
-    assert_eq!(rt; claimed.found().body(0).copied(), Some(standing(2, 3)));
+    assert_eq!(rt; claimed.found().body(0).copied(), Some(standing(2, 3, 0)));
     let one = freed(rt, field, claimed, 1, 1);
     assert_eq!(rt; (one.caller(), one.next_turn()), (1, 2));
     Ok((zero, one))
@@ -150,7 +150,7 @@ fn closed(
 #[test]
 fn a_zone_that_another_holds_is_refused_until_it_is_released(rt: HostRuntime) -> Result<(), Fail> {
     let alloc = rt.alloc();
-    let world = world_of(alloc, 8, 8, &[standing(2, 3), standing(3, 3)])?;
+    let world = world_in(alloc, 8, 8, &[standing(2, 3, 0), standing(3, 3, 0)])?;
     let before = world.copy(alloc)?;
     let lists = lists_of(alloc, 2, &world, &[&[0], &[1]])?;
     let (field, seats) = field_of(alloc, &Idler, world, &lists)?;
@@ -190,7 +190,7 @@ fn refuses_at(
 fn is_refused_at(rt: &impl Abort, alloc: Global, count: usize, cell: CellName) -> Result<(), Fail>
     requires { count ≤ 9 }
 {
-    let world = world_of(alloc, 8, 8, &[standing(2, 3), standing(3, 3)])?;
+    let world = world_in(alloc, 8, 8, &[standing(2, 3, 0), standing(3, 3, 0)])?;
     let lists = lists_of(alloc, 1, &world, &[&[0], &[1]])?;
     let (field, mut seats) = field_of(alloc, &Idler, world, &lists)?;
     let zero = seat_of(rt, &field, &mut seats, 0)?;

@@ -1,7 +1,8 @@
 ghost use Rattle.std.specs.Prelude.{◌≡◌, ◌≤◌, OnOk};
 
-use crate::fixtures::{Idler, field_of, lists_of, standing, world_of};
+use crate::fixtures::field_of;
 use claim_rule::Seats;
+use small_worlds::{Idler, lists_of, standing, world_in};
 use std::process::Abort;
 use std::test::Fail;
 
@@ -30,7 +31,7 @@ fn take_and_give(rt: &impl Abort, seats: &mut Seats<Idler>, left: u8) -> Result<
 #[test]
 fn sixteen_seats_come_back_in_another_order(rt: HostRuntime) -> Result<(), Fail> {
     let alloc = rt.alloc();
-    let world = world_of(alloc, 8, 8, &[standing(2, 3), standing(3, 3)])?;
+    let world = world_in(alloc, 8, 8, &[standing(2, 3, 0), standing(3, 3, 0)])?;
     let ids: &[&[u16]] = &[
         &[0],
         &[1],

@@ -5,11 +5,12 @@ ghost use Rattle.claim_core.specs.declared.state.Phase.TheVariants.{Refusing};
 ghost use Rattle.claim_rule.specs.Tokens.{IsOf, doing};
 ghost use Rattle.node_claims_tests.specs.Walks.{IsWalker};
 
-use crate::fixtures::{Idler, begun, field_of, lists_of, seat_of, standing, whole, world_of};
+use crate::fixtures::{begun, field_of, seat_of, whole};
 use amoebot_state::{CellName, World};
 use claim_core::{Core, Lists, Look, Mark, Phase};
 use claim_rule::{Field, Freeing, Held, Stopped, Tag, end, free_last, look, refuse, win};
 use node_claims::release;
+use small_worlds::{Idler, lists_of, standing, world_in};
 use std::alloc::Global;
 use std::process::Abort;
 use std::test::Fail;
@@ -239,7 +240,7 @@ fn two_beside(alloc: Global) -> Result<(World, Lists), Fail>
     ensures callers { IfOk result (λ made. length made.1.ids ≡ 2) }
     ensures bots { IfOk result (λ made. All (All (λ id. IsSome (bot_at made.0 id))) made.1.ids) }
 {
-    let world = world_of(alloc, 2, 1, &[standing(0, 0), standing(1, 0)])?;
+    let world = world_in(alloc, 2, 1, &[standing(0, 0, 0), standing(1, 0, 0)])?;
     let lists = lists_of(alloc, 1, &world, &[&[0], &[1]])?;
     Ok((world, lists))
 }

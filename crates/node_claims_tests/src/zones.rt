@@ -3,12 +3,11 @@ ghost use Rattle.std.specs.List.{All};
 ghost use Rattle.amoebot_state.specs.Refusals.{IsPlain};
 ghost use Rattle.claim_rule.specs.Tokens.{IsOf};
 
-use crate::fixtures::{
-    Idler, claimed_whole, field_of, freed, lists_of, seat_of, spread, standing, world_of,
-};
+use crate::fixtures::{claimed_whole, field_of, freed, seat_of};
 use amoebot_state::{Bot, CellName};
 use claim_core::Lists;
 use claim_rule::{Field, Seat};
+use small_worlds::{Idler, lists_of, spread, standing, world_in};
 use std::alloc::Global;
 use std::process::Abort;
 use std::test::Fail;
@@ -69,7 +68,7 @@ fn has_zone(rt: &impl Abort, alloc: Global, bots: &[Bot], zone: &[CellName]) -> 
     requires few { length bots.now ≤ 4096 }
     requires plain { All IsPlain bots.now }
 {
-    let world = world_of(alloc, 8, 8, bots)?;
+    let world = world_in(alloc, 8, 8, bots)?;
     let lists = lists_of(alloc, 1, &world, &[&[0]])?;
     let (field, mut seats) = field_of(alloc, &Idler, world, &lists)?;
     let seat = seat_of(rt, &field, &mut seats, 0)?;
@@ -78,7 +77,7 @@ fn has_zone(rt: &impl Abort, alloc: Global, bots: &[Bot], zone: &[CellName]) -> 
 
 #[test]
 fn a_zone_at_the_edge_has_the_nodes_in_the_area(rt: HostRuntime) -> Result<(), Fail> {
-    has_zone(&rt, rt.alloc(), &[standing(7, 3)], &AT_EDGE)
+    has_zone(&rt, rt.alloc(), &[standing(7, 3, 0)], &AT_EDGE)
 }
 
 #[test]
@@ -87,15 +86,15 @@ fn a_zone_has_nineteen_cells(rt: HostRuntime) -> Result<(), Fail> {
         &rt,
         rt.alloc(),
         &[
-            spread(3, 3),
-            standing(5, 3),
-            standing(4, 4),
-            standing(3, 4),
-            standing(4, 2),
-            standing(5, 2),
-            standing(2, 4),
-            standing(2, 3),
-            standing(3, 2),
+            spread((4, 3), (3, 3), 0),
+            standing(5, 3, 0),
+            standing(4, 4, 0),
+            standing(3, 4, 0),
+            standing(4, 2, 0),
+            standing(5, 2, 0),
+            standing(2, 4, 0),
+            standing(2, 3, 0),
+            standing(3, 2, 0),
         ],
         &NINETEEN,
     )

@@ -13,12 +13,9 @@ use Rattle.amoebot_state.specs.Ports.{is_own}
 use Rattle.amoebot_state.specs.Configs.{blank, config_of, occupant, covers}
 use Rattle.amoebot_state.specs.Occupied.{occupied}
 use Rattle.amoebot_state.proofs.Added.{config_push}
+use Rattle.amoebot_state.proofs.Distinct.{or_false}
 use Rattle.amoebot_state.proofs.Occupants.{position_push}
 use Rattle.run_sample.specs.Sample.{is_taken, walked, node_of, IsFirstEmpty}
-
-or_false : (t : Bool) → (t || false) ≡ t
-or_false true = refl
-or_false false = refl
 
 pub taken_push : (bots : List Bot) (b : Bot) (v : Node) → is_taken (bots ++ b ∷ []) v ≡ (is_taken bots v || node_eq b.head v)
 taken_push bots b v = list_any-append (λ (o : Bot). node_eq o.head v) bots (b ∷ []) ∙ ap (λ t. is_taken bots v || t) (or_false (node_eq b.head v))

@@ -6,22 +6,19 @@ use Rattle.std.proofs.lemmas.List.{get_or-map}
 use Rattle.std.proofs.lemmas.List.Elements.{All-from_get_or}
 use Rattle.std.proofs.lemmas.Option.{none-some, slice_get_within}
 use Rattle.tri_lattice.specs.Extent.{Extent}
-use Rattle.tri_lattice.proofs.Boxes.{near_in}
 use Rattle.amoebot_state.specs.declared.bot.Bot.{Bot}
 use Rattle.amoebot_state.specs.declared.refusal.WorldRefusal.{WorldRefusal}
 use Rattle.amoebot_state.specs.declared.refusal.WorldRefusal.TheVariants.{NoMemory}
 use Rattle.amoebot_state.specs.Configs.{Config, blank, config_of, IsValid}
 use Rattle.amoebot_state.specs.Refusals.{IsPlain, IsFirstFault}
 use Rattle.amoebot_state.proofs.Faults.{valid_is_faultless}
+use Rattle.amoebot_state.proofs.Occupants.{plain_bot}
 use Rattle.action_tree.specs.Trees.{Program}
 use Rattle.action_tree.specs.Samples as sample
 use Rattle.run_sample.specs.Sample.{sample_area, sample_maxes}
-use Rattle.run_sample.proofs.Laid.{is_area}
 
 pub are_plain : (bots : List Bot) → IsValid (config_of sample_area sample_maxes bots) → All IsPlain bots
-are_plain bots valid = All-from_get_or IsPlain bots blank (λ i lt.
-    let b = valid.each i (get_or bots i blank) (get_or-map Some bots i blank None lt) in
-    record { head = near_in sample_area (get_or bots i blank).head is_area b.head; tail = near_in sample_area (get_or bots i blank).tail is_area b.tail; rot = b.rot; eight = b.eight })
+are_plain bots valid = All-from_get_or IsPlain bots blank (λ i lt. plain_bot (config_of sample_area sample_maxes bots) valid i (get_or bots i blank) (get_or-map Some bots i blank None lt))
 
 not_refused : (bots : List Bot) (e : WorldRefusal) → IsValid (config_of sample_area sample_maxes bots) → IsFirstFault sample_area sample_maxes bots e → ⊥
 not_refused bots e valid fault =

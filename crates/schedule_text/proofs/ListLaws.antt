@@ -6,18 +6,15 @@ use Rattle.text_tokens.specs.declared.token.TokenKind.TheVariants.{Word, Number}
 use Rattle.text_tokens.specs.declared.refusal.RefusalKind.TheVariants.{TooMany}
 use Rattle.text_tokens.specs.Text.{Lexeme}
 use Rattle.text_tokens.specs.Cursor.{same_kind}
-use Rattle.text_tokens.specs.Reading.{Reader, ◌>>=◌, is_number, no_limit, too_large, closed}
-use Rattle.text_tokens.specs.Grammar.{Lang, IsOne, Then, Made, Closed}
+use Rattle.text_tokens.specs.Reading.{◌>>=◌, is_number, no_limit, too_large, closed}
+use Rattle.text_tokens.specs.Grammar.{Then, Made, Closed}
 use Rattle.text_tokens.specs.Lawful.{Exact, IsPart, always, Starts, AreElements}
 use Rattle.text_tokens.proofs.Exactness.{exact}
-use Rattle.text_tokens.proofs.Parts.{some_text, part_one}
-use Rattle.text_tokens.proofs.Beginnings.{starts_one, starts_made, starts_then}
 use Rattle.text_tokens.proofs.Repeating.{part_repeated}
-use Rattle.text_tokens.proofs.Distinguishing.{sample, passes, other_kind, other_text, a_numeral, starts_numeral}
-use Rattle.text_tokens.proofs.Joining.{behind, into}
-use Rattle.claim_core.specs.Turns.{CallerLists}
+use Rattle.text_tokens.proofs.Distinguishing.{other_kind, other_text, a_numeral, starts_numeral}
+use Rattle.text_tokens.proofs.Joining.{behind, into, starts_behind}
 use Rattle.journal_text.specs.Parts.{word, is_end}
-use Rattle.journal_text.proofs.PartLaws.{up_to_end, starts_word, part_word}
+use Rattle.journal_text.proofs.PartLaws.{up_to_end, starts_word, part_word, part_word_within, starts_word_within}
 use Rattle.schedule_text.specs.Lists.{most_turns, past_ids, IsId, one_more_id, IdsFrom, AreIds, is_list, past_lists, IsListWord, IsCallerList, one_more_list, ListsFrom, lists_of, AreTurns, IsLists}
 use Rattle.schedule_text.specs.Readers.{an_id, ids_from, all_ids, list_word, a_list, lists_from, all_lists, some_turns, the_lists}
 
@@ -57,10 +54,7 @@ module _ (bots : ℕ) where
   module _ (turns : ℕ) where
     part_list_word : (before : ℕ) → IsPart (IsListWord turns before) (list_word turns before) always
     unfolding list_word
-    part_list_word before = into (λ t. t.line) (part_one is_list (past_lists turns before) (sample Word (codes "list")) (passes Word (codes "list") refl))
-
-    starts_list_word : (before : ℕ) → Starts (IsListWord turns before) is_list (past_lists turns before)
-    starts_list_word before = starts_made (IsOne is_list (past_lists turns before)) (λ t. t.line) is_list (past_lists turns before) (starts_one is_list (past_lists turns before))
+    part_list_word before = part_word_within (codes "list") (past_lists turns before) refl
 
     part_list : (before : ℕ) → IsPart (IsCallerList bots turns before) (a_list bots turns before) no_number
     unfolding a_list
@@ -70,7 +64,7 @@ module _ (bots : ℕ) where
     unfolding no_number
     list_elements = record {
       over = past_lists turns;
-      start = λ before. starts_then (IsListWord turns before) (λ line. AreIds bots) is_list (past_lists turns before) (starts_list_word before) (λ line. some_text (AreIds bots) (all_ids bots) part_ids.law);
+      start = λ before. starts_behind (starts_word_within (codes "list") (past_lists turns before)) (λ line. part_ids);
       part = part_list;
       again = λ t e. rw (word_no_number (codes "list") t e) refl;
       ends = λ t e. rw (word_no_number (codes "end") t e) refl;
@@ -89,21 +83,15 @@ part_turns : IsPart AreTurns some_turns always
 unfolding some_turns
 part_turns = behind (part_word (codes "turns") refl) (λ line. a_numeral (too_large most_turns TooMany))
 
-abbrev Behind : ℕ → Lang CallerLists
-Behind bots = Then AreTurns (λ turns. Closed (Made (ListsFrom bots turns 0) (λ ids. lists_of turns ids)) is_end)
-
-abbrev behind_word : ℕ → Reader CallerLists
-behind_word bots = some_turns >>= λ turns. closed (all_lists bots turns) is_end
-
-part_behind_word : (bots : ℕ) → IsPart (Behind bots) (behind_word bots) always
-part_behind_word bots = behind part_turns (λ turns. up_to_end (part_all_lists bots turns))
+part_turns_and_lists : (bots : ℕ) → IsPart (Then AreTurns (λ turns. Closed (Made (ListsFrom bots turns 0) (λ ids. lists_of turns ids)) is_end)) (some_turns >>= λ turns. closed (all_lists bots turns) is_end) always
+part_turns_and_lists bots = behind part_turns (λ turns. up_to_end (part_all_lists bots turns))
 
 pub part_lists : (bots : ℕ) → IsPart (IsLists bots) (the_lists bots) always
 unfolding the_lists
-part_lists bots = behind (part_word (codes "lists") refl) (λ line. part_behind_word bots)
+part_lists bots = behind (part_word (codes "lists") refl) (λ line. part_turns_and_lists bots)
 
 pub starts_lists : (bots : ℕ) → Starts (IsLists bots) (word (codes "lists")) no_limit
-starts_lists bots = starts_word (codes "lists") (λ line. Behind bots) (λ line. behind_word bots) always (λ line. part_behind_word bots)
+starts_lists bots = starts_word (codes "lists") (λ line. part_turns_and_lists bots)
 
 pub exact_lists : (bots : ℕ) → Exact (IsLists bots) (the_lists bots)
 exact_lists bots = exact (IsLists bots) (the_lists bots) (part_lists bots).law

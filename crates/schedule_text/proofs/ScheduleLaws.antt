@@ -4,19 +4,18 @@ use Rattle.std.specs.Prelude.{codes, not}
 use Rattle.std.proofs.lemmas.Bool.{not-true}
 use Rattle.text_tokens.specs.declared.token.TokenKind.TheVariants.{Word}
 use Rattle.text_tokens.specs.Text.{Lexeme}
-use Rattle.text_tokens.specs.Reading.{Reader, ◌>>=◌, pure, is_number, no_limit, closed}
-use Rattle.text_tokens.specs.Grammar.{Lang, Made, IsNumeral, IsOptional, Closed}
+use Rattle.text_tokens.specs.Reading.{◌>>=◌, pure, is_number, no_limit}
+use Rattle.text_tokens.specs.Grammar.{Made, IsNumeral, IsOptional}
 use Rattle.text_tokens.specs.Lawful.{Exact, IsPart, always, Starts, AreElements}
 use Rattle.text_tokens.proofs.Exactness.{exact}
-use Rattle.text_tokens.proofs.Parts.{some_text, part_less}
-use Rattle.text_tokens.proofs.Beginnings.{starts_then}
+use Rattle.text_tokens.proofs.Parts.{part_less}
 use Rattle.text_tokens.proofs.Choosing.{part_optional}
 use Rattle.text_tokens.proofs.Repeating.{part_repeated}
 use Rattle.text_tokens.proofs.Distinguishing.{other_text, a_numeral, starts_numeral}
-use Rattle.text_tokens.proofs.Joining.{behind, into}
+use Rattle.text_tokens.proofs.Joining.{behind, into, starts_behind}
 use Rattle.journal_text.specs.Parts.{word, is_end}
 use Rattle.journal_text.proofs.PartLaws.{up_to_end, starts_word, part_word, number_no_word}
-use Rattle.schedule_text.specs.Schedules.{past_callers, past_times, is_times, Stretch, stretch_of, IsTimes, IsStretch, more_steps, StretchesFrom, steps_of, IsSchedule}
+use Rattle.schedule_text.specs.Schedules.{past_callers, past_times, is_times, stretch_of, IsTimes, IsStretch, more_steps, StretchesFrom, steps_of, IsSchedule}
 use Rattle.schedule_text.specs.Readers.{a_caller, number_of_times, its_times, any_times, a_stretch, stretches_from, all_steps, a_schedule}
 use Rattle.schedule_text.proofs.ListLaws.{word_no_number}
 
@@ -33,7 +32,7 @@ unfolding its_times
 part_its_times before = behind (part_word (codes "times") refl) (λ line. part_number_of_times before)
 
 starts_times : (before : ℕ) → Starts (IsTimes before) is_times no_limit
-starts_times before = starts_word (codes "times") (λ line. IsNumeral (past_times before)) (λ line. number_of_times before) always (λ line. part_number_of_times before)
+starts_times before = starts_word (codes "times") (λ line. part_number_of_times before)
 
 part_any_times : (before : ℕ) → IsPart (IsOptional 1 (IsTimes before)) (any_times before) no_times
 unfolding any_times no_times
@@ -45,13 +44,7 @@ module _ (callers : ℕ) where
   unfolding a_caller
   part_caller before = a_numeral (past_callers callers before)
 
-  abbrev Behind : ℕ → ℕ → Lang Stretch
-  Behind before caller = Made (IsOptional 1 (IsTimes before)) (λ times. stretch_of caller times)
-
-  abbrev behind_caller : ℕ → ℕ → Reader Stretch
-  behind_caller before caller = any_times before >>= λ times. pure (stretch_of caller times)
-
-  part_behind : (before caller : ℕ) → IsPart (Behind before caller) (behind_caller before caller) no_times
+  part_behind : (before caller : ℕ) → IsPart (Made (IsOptional 1 (IsTimes before)) (λ times. stretch_of caller times)) (any_times before >>= λ times. pure (stretch_of caller times)) no_times
   part_behind before caller = into (λ times. stretch_of caller times) (part_any_times before)
 
   part_stretch : (before : ℕ) → IsPart (IsStretch callers before) (a_stretch callers before) no_times
@@ -62,7 +55,7 @@ module _ (callers : ℕ) where
   unfolding no_times
   stretch_elements = record {
     over = past_callers callers;
-    start = λ before. starts_then (IsNumeral (past_callers callers before)) (Behind before) is_number (past_callers callers before) (starts_numeral (past_callers callers before)) (λ caller. some_text (Behind before caller) (behind_caller before caller) (part_behind before caller).law);
+    start = λ before. starts_behind (starts_numeral (past_callers callers before)) (part_behind before);
     part = part_stretch;
     again = λ t e. rw (number_no_word (codes "times") t e) refl;
     ends = λ t e. rw (other_text Word (codes "end") (codes "times") t refl e) refl;
@@ -82,7 +75,7 @@ module _ (callers : ℕ) where
   part_schedule = behind (part_word (codes "schedule") refl) (λ line. up_to_end part_all_steps)
 
   pub starts_schedule : Starts (IsSchedule callers) (word (codes "schedule")) no_limit
-  starts_schedule = starts_word (codes "schedule") (λ line. Closed (Made (StretchesFrom callers 0) steps_of) is_end) (λ line. closed (all_steps callers) is_end) always (λ line. up_to_end part_all_steps)
+  starts_schedule = starts_word (codes "schedule") (λ line. up_to_end part_all_steps)
 
   pub exact_schedule : Exact (IsSchedule callers) (a_schedule callers)
   exact_schedule = exact (IsSchedule callers) (a_schedule callers) part_schedule.law

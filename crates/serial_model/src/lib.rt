@@ -82,8 +82,3 @@ impl Serial {
         world
     }
 }
-
-#[cfg(test)]
-mod replay_tests;
-#[cfg(test)]
-mod tests;

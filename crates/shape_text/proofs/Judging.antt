@@ -96,14 +96,6 @@ blames c b e f = by_box (not (is_in c.area b.head && is_in c.area b.tail)) (not 
 breaks_it : (c : Config) (w : WrittenBot) (e : WorldRefusal) (k : RefusalKind) → bot_fault c w.bot ≡ Some e → kind_of e ≡ Some k → broken c w ≡ Some (on_line w.line k)
 breaks_it c w e k f g = rw (f, g) refl
 
-first_refused : (maxes : List ℕ) (s : WrittenShape) (e : WorldRefusal) (f : IsFirstFault s.area maxes (map bot_in s.bots) e) (w : WrittenBot) (k : RefusalKind) → slice_get s.bots f.place ≡ Some w → kind_of e ≡ Some k → wrong maxes s ≡ Some (on_line w.line k)
-first_refused maxes s e f w k at kind =
-    let c = config_of s.area maxes (take f.place (map bot_in s.bots)) in
-    let there : Some f.bot ≡ Some w.bot = sym f.there ∙ slice_get-map bot_in s.bots f.place ∙ ap (option_map bot_in) at in
-    let same : f.bot ≡ w.bot = cc in
-    let fault : bot_fault c w.bot ≡ Some e = ap (bot_fault c) (sym same) ∙ f.fault in
-    one_broken (config_of s.area maxes []) s.bots f.place w (on_line w.line k) at (λ j b lt seen. f.before j b lt seen) (breaks_it c w e k fault kind)
-
 -- ---- the amoebots as the code has them
 
 abbrev Code : Type 0
@@ -191,4 +183,11 @@ faultless_fits a maxes bs fine s area bots =
     (subst (λ (x : Config). AreFine x bs (length bs)) same here)))
 
 pub judged_as_worlds : JudgedAsWorlds
-judged_as_worlds = record { fine = λ maxes s fine. faultless_fits s.area maxes (map bot_in s.bots) (subst (λ (n : ℕ). IsFaultless s.area maxes (map bot_in s.bots) n) (sym (length-map s.bots bot_in)) fine) s refl refl; first = first_refused }
+judged_as_worlds = record {
+  fine = λ maxes s fine. faultless_fits s.area maxes (map bot_in s.bots) (subst (λ (n : ℕ). IsFaultless s.area maxes (map bot_in s.bots) n) (sym (length-map s.bots bot_in)) fine) s refl refl;
+  first = λ maxes s e f w k at kind.
+      let there : Some f.bot ≡ Some w.bot = sym f.there ∙ slice_get-map bot_in s.bots f.place ∙ ap (option_map bot_in) at in
+      let same : f.bot ≡ w.bot = cc in
+      let fault : bot_fault (config_of s.area maxes (take f.place (map bot_in s.bots))) w.bot ≡ Some e = ap (bot_fault _) (sym same) ∙ f.fault in
+      one_broken (config_of s.area maxes []) s.bots f.place w (on_line w.line k) at (λ j b lt seen. f.before j b lt seen) (breaks_it (config_of s.area maxes (take f.place (map bot_in s.bots))) w e k fault kind);
+}

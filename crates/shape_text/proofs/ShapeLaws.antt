@@ -2,19 +2,19 @@
 use Rattle.std.proofs.Common.{ℕ, List, refl}
 use Rattle.std.specs.Prelude.{codes}
 use Rattle.text_tokens.specs.declared.token.TokenKind.TheVariants.{Word}
-use Rattle.text_tokens.specs.Reading.{Reader, ◌>>=◌, pure, no_limit, closed}
-use Rattle.text_tokens.specs.Grammar.{Lang, IsOne, Then, Made, Closed, Judged}
+use Rattle.text_tokens.specs.Reading.{◌>>=◌, pure, no_limit}
+use Rattle.text_tokens.specs.Grammar.{Lang, Then, Made, Judged}
 use Rattle.text_tokens.specs.Lawful.{Exact, IsPart, always, Starts, AreElements}
 use Rattle.text_tokens.proofs.Exactness.{exact}
 use Rattle.text_tokens.proofs.Carrying.{part_made}
-use Rattle.text_tokens.proofs.Parts.{some_text, part_one, part_judged}
-use Rattle.text_tokens.proofs.Beginnings.{starts_one, starts_made, starts_then, starts_judged}
+use Rattle.text_tokens.proofs.Parts.{part_judged}
+use Rattle.text_tokens.proofs.Beginnings.{starts_judged}
 use Rattle.text_tokens.proofs.Repeating.{part_repeated}
-use Rattle.text_tokens.proofs.Distinguishing.{sample, passes, other_text, a_numeral}
-use Rattle.text_tokens.proofs.Joining.{behind, into}
+use Rattle.text_tokens.proofs.Distinguishing.{other_text, a_numeral}
+use Rattle.text_tokens.proofs.Joining.{behind, into, starts_behind, starts_into}
 use Rattle.journal_text.specs.Parts.{word, is_end, IsWord, IsBot}
 use Rattle.journal_text.specs.Readers.{a_word, a_bot}
-use Rattle.journal_text.proofs.PartLaws.{up_to_end, starts_word, part_word, part_int, part_bot}
+use Rattle.journal_text.proofs.PartLaws.{up_to_end, starts_word, part_word, part_word_within, starts_word_within, part_int, part_bot}
 use Rattle.shape_text.specs.Shapes.{outside, IsSide, an_area_of, IsAreaLine, is_bot, WrittenBot, written_bot, past_bots, IsBotWord, IsBotLine, one_more, AreBots, WrittenShape, written_shape, IsWritten, wrong, stands_for, IsShapeUnder, IsShape, IsFinal}
 use Rattle.shape_text.specs.Readers.{a_side, an_area, bot_word, a_bot_line, bots_from, a_drawing, written, shape_under, a_shape, a_final}
 
@@ -32,29 +32,20 @@ part_area = behind (part_word (codes "area") refl) (λ line. behind (part_int 40
 
 part_bot_word : (before : ℕ) → IsPart (IsBotWord before) (bot_word before) always
 unfolding bot_word
-part_bot_word before = into (λ t. t.line) (part_one is_bot (past_bots before) (sample Word (codes "bot")) (passes Word (codes "bot") refl))
-
-starts_bot_word : (before : ℕ) → Starts (IsBotWord before) is_bot (past_bots before)
-starts_bot_word before = starts_made (IsOne is_bot (past_bots before)) (λ t. t.line) is_bot (past_bots before) (starts_one is_bot (past_bots before))
+part_bot_word before = part_word_within (codes "bot") (past_bots before) refl
 
 module _ (vars : ℕ) where
-  abbrev Behind : ℕ → Lang WrittenBot
-  Behind line = Made (IsBot vars) (λ b. written_bot line b)
-
-  abbrev behind_word : ℕ → Reader WrittenBot
-  behind_word line = a_bot vars >>= λ b. pure (written_bot line b)
-
-  part_behind_word : (line : ℕ) → IsPart (Behind line) (behind_word line) always
-  part_behind_word line = into (λ b. written_bot line b) (part_bot vars)
+  part_its_bot : (line : ℕ) → IsPart (Made (IsBot vars) (λ b. written_bot line b)) (a_bot vars >>= λ b. pure (written_bot line b)) always
+  part_its_bot line = into (λ b. written_bot line b) (part_bot vars)
 
   part_bot_line : (before : ℕ) → IsPart (IsBotLine vars before) (a_bot_line vars before) always
   unfolding a_bot_line
-  part_bot_line before = behind (part_bot_word before) part_behind_word
+  part_bot_line before = behind (part_bot_word before) part_its_bot
 
   pub bot_elements : AreElements (IsBotLine vars) (a_bot_line vars) is_bot always is_end
   bot_elements = record {
     over = past_bots;
-    start = λ before. starts_then (IsBotWord before) Behind is_bot (past_bots before) (starts_bot_word before) (λ line. some_text (Behind line) (behind_word line) (part_behind_word line).law);
+    start = λ before. starts_behind (starts_word_within (codes "bot") (past_bots before)) part_its_bot;
     part = part_bot_line;
     again = λ t e. refl;
     ends = λ t e. refl;
@@ -84,8 +75,7 @@ module _ (vars : ℕ) where
     part_shape_under maxes = part_made (Judged (IsWritten text vars) (wrong maxes)) (stands_for maxes) _ always (part_judged (IsWritten text vars) (written text vars) (wrong maxes) always part_written)
 
   starts_shape_under : (text maxes : List ℕ) → Starts (IsShapeUnder text vars maxes) (word text) no_limit
-  starts_shape_under text maxes = starts_made (Judged (IsWritten text vars) (wrong maxes)) (stands_for maxes) (word text) no_limit (starts_judged (IsWritten text vars) (wrong maxes) (word text) no_limit
-      (starts_word text (λ line. Closed Drawing is_end) (λ line. closed (a_drawing vars) is_end) always (λ line. up_to_end part_drawing)))
+  starts_shape_under text maxes = starts_into (stands_for maxes) (starts_judged (IsWritten text vars) (wrong maxes) (word text) no_limit (starts_word text (λ line. up_to_end part_drawing)))
 
 abbrev shape_word : IsPart (IsWord (codes "shape")) (a_word (codes "shape")) always
 shape_word = part_word (codes "shape") refl

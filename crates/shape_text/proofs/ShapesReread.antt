@@ -16,7 +16,7 @@ use Rattle.text_tokens.specs.declared.refusal.Refusal.{Refusal}
 use Rattle.text_tokens.specs.Text.{Lexeme}
 use Rattle.text_tokens.specs.Lines.{Words}
 use Rattle.text_tokens.specs.Reading.{value}
-use Rattle.text_tokens.specs.Grammar.{Lang, Closed, Judged, is_judgement, point, first_fault, no_more}
+use Rattle.text_tokens.specs.Grammar.{Lang, Closed, Judged, no_more}
 use Rattle.text_tokens.proofs.PrintedTokens.{word_is_token}
 use Rattle.amoebot_state.specs.declared.bot.Bot.{Bot}
 use Rattle.amoebot_state.specs.Configs.{Config, config_of, IsValid, bot_at, has_values}
@@ -25,7 +25,7 @@ use Rattle.amoebot_state.proofs.Faults.{valid_is_faultless}
 use Rattle.journal_text.specs.Parts.{is_end, IsWord}
 use Rattle.journal_text.specs.JournalRows.{Says}
 use Rattle.journal_text.specs.Rereading.{size, HasCoordinates, HasLimits}
-use Rattle.text_tokens.proofs.Respelling.{Found, Is, Any, Rereads, RereadsLines, rereads_then, rereads_next, rereads_made, rereads_as, rereads_number, rereads_behind, one_rereads, one_found, the_passes, whole_then, found_made, rereads_the, reread_line, lines_into, lines_made, lines_then, lines_next, lines_behind_line, lines_nothing, more_of}
+use Rattle.text_tokens.proofs.Respelling.{Found, Is, Any, Rereads, RereadsLines, rereads_then, rereads_next, rereads_made, rereads_as, rereads_number, rereads_behind, one_rereads, one_found, the_passes, found_judged, found_made, rereads_the, reread_line, lines_into, lines_made, lines_then, lines_next, lines_behind_line, lines_nothing, more_of}
 use Rattle.text_tokens.proofs.Stepping.{not_past}
 use Rattle.journal_text.proofs.Saying.{lines_say}
 use Rattle.journal_text.proofs.JournalsReread.{the_word, an_int, a_bot}
@@ -89,17 +89,7 @@ module _ (vars : ℕ) (le : vars ≤ 8) where
 
 -- a judgement that is no refusal
 lines_judged : {A : Type 0} {P : Lang A} {R : A → Type 0} (judge : A → Option Refusal) (lines : List Words) → ((a : A) → R a → judge a ≡ None) → RereadsLines P R lines → RereadsLines (Judged P judge) R lines
-lines_judged {P = P} {R = R} judge lines none p = record { spelled = p.spelled; printed = p.printed; read = λ ts s. from_found ts (p.read ts s) }
-  where
-    fine : (o : Option Refusal) → o ≡ None → first_fault (point o ∷ []) ≡ None
-    fine o e = rw e refl
-
-    from_found : (ts : List Lexeme) → Found P R ts → Found (Judged P judge) R ts
-    from_found ts f = record {
-      value = f.value;
-      whole = whole_then ts [] ts f.value f.value (sym (append-nil ts)) f.whole (record { text = point (judge f.value) ∷ []; is = is_judgement; parts = refl; fine = fine (judge f.value) (none f.value f.holds) });
-      holds = f.holds;
-    }
+lines_judged judge lines none p = record { spelled = p.spelled; printed = p.printed; read = λ ts s. found_judged judge none ts (p.read ts s) }
 
 module _ (vars : ℕ) (le : vars ≤ 8) (a : Extent) (maxes : List ℕ) (bs : List Bot) (valid : IsValid (config_of a maxes bs)) (few : length bs ≤ most_bots) (limits : All (HasLimits vars) bs) where
   abbrev IsThis : WrittenShape → Type 0

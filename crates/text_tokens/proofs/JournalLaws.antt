@@ -1,5 +1,5 @@
 -- The laws of the small journal.
-use Rattle.std.proofs.Common.{ℕ, Bool, true, refl, ap}
+use Rattle.std.proofs.Common.{ℕ, Bool, refl, ap}
 use Rattle.std.proofs.lemmas.Bool.{not-true}
 use Rattle.std.specs.Prelude.{codes, not}
 use Rattle.text_tokens.specs.declared.token.TokenKind.TheVariants.{Word}

@@ -26,6 +26,7 @@ pub mod JournalLaws
 pub mod Agreeing
 pub mod PutLaws
 pub mod Stepping
+pub mod Taking
 pub mod Looping
 pub mod Times
 pub mod Rows

@@ -175,15 +175,15 @@ rereads_second words p = rereads_by (λ a. a) (λ xs a is. of_second is) (λ a e
 point_fine : (o : Option Refusal) → o ≡ None → first_fault (point o ∷ []) ≡ None
 point_fine o e = rw e refl
 
+pub found_judged : {A : Type 0} {P : Lang A} {R : A → Type 0} (wrong : A → Option Refusal) → ((a : A) → R a → wrong a ≡ None) → (ts : List Lexeme) → Found P R ts → Found (Judged P wrong) R ts
+found_judged wrong none ts f = record {
+  value = f.value;
+  whole = whole_then ts [] ts f.value f.value (sym (append-nil ts)) f.whole (record { text = point (wrong f.value) ∷ []; is = is_judgement; parts = refl; fine = point_fine (wrong f.value) (none f.value f.holds) });
+  holds = f.holds;
+}
+
 pub rereads_judged : {A : Type 0} {P : Lang A} {R : A → Type 0} (wrong : A → Option Refusal) (words : Words) → ((a : A) → R a → wrong a ≡ None) → Rereads P R words → Rereads (Judged P wrong) R words
-rereads_judged {P = P} {R = R} wrong words none p = record { spelled = p.spelled; printed = p.printed; read = λ ts s. from_found ts (p.read ts s) }
-  where
-    from_found : (ts : List Lexeme) → Found P R ts → Found (Judged P wrong) R ts
-    from_found ts f = record {
-      value = f.value;
-      whole = whole_then ts [] ts f.value f.value (sym (append-nil ts)) f.whole (record { text = point (wrong f.value) ∷ []; is = is_judgement; parts = refl; fine = point_fine (wrong f.value) (none f.value f.holds) });
-      holds = f.holds;
-    }
+rereads_judged wrong words none p = record { spelled = p.spelled; printed = p.printed; read = λ ts s. found_judged wrong none ts (p.read ts s) }
 
 -- nothing
 nothing_found : {A : Type 0} {P : Lang A} {R : A → Type 0} (a : A) → P [] a → R a → (ts : List Lexeme) → AreSpelled ts [] → Found P R ts

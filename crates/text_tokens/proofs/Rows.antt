@@ -1,13 +1,13 @@
 -- Parts in a row: from the start the reader answers what is left of it answers where the code stands.
-use Rattle.std.proofs.Common.{◌≡◌, List, Result, Ok, Err, refl, sym, ap, ◌∙◌}
+use Rattle.std.proofs.Common.{◌≡◌, Bool, true, false, List, Result, Ok, Err, refl, sym, ap, ◌∙◌}
 use Rattle.text_tokens.specs.declared.refusal.Refusal.{Refusal}
 use Rattle.text_tokens.specs.declared.refusal.ReadRefusal.{ReadRefusal}
 use Rattle.text_tokens.specs.declared.refusal.ReadRefusal.TheVariants.{Refused, NoMemory}
 use Rattle.text_tokens.specs.Text.{Lexeme}
-use Rattle.text_tokens.specs.Cursor.{Cursor}
-use Rattle.text_tokens.specs.Reading.{Answer, Reader, ◌>>=◌, pure, and_then}
+use Rattle.text_tokens.specs.Cursor.{Cursor, next_passes}
+use Rattle.text_tokens.specs.Reading.{Answer, Reader, ◌>>=◌, pure, and_then, either}
 use Rattle.text_tokens.specs.Steps.{SameSource, Gives}
-use Rattle.text_tokens.proofs.Stepping.{Reached, Failed, stays, stays_on, fails, on_made}
+use Rattle.text_tokens.proofs.Stepping.{Reached, Failed, stays, stays_on, fails, on_made, is_first, is_second}
 
 pub record Left {A : Type 0} (p : Reader A) (start : Cursor) (q : Reader A) (here : Cursor) : Type 0 where
   pub reads : p start.last start.ahead ≡ q here.last here.ahead
@@ -35,7 +35,7 @@ module _ {A B : Type 0} (p : Reader A) (q : A → Reader B) {r : Reader B} {star
   pub part_fails : (k : ReadRefusal) (new : Cursor) → Failed p k here new → Failed r k start new
   part_fails k new f = gives_left {A = B} {B = B} {r = r} {q = p >>= q} {start = start} {here = here} (λ b. b) (Err k) new l (fails p q k here new f)
 
-regrouped : {A B C : Type 0} (x : Answer A) (f : A → List Lexeme → Answer B) (g : B → List Lexeme → Answer C) → and_then (and_then x f) g ≡ and_then x (λ a us. and_then (f a us) g)
+pub regrouped : {A B C : Type 0} (x : Answer A) (f : A → List Lexeme → Answer B) (g : B → List Lexeme → Answer C) → and_then (and_then x f) g ≡ and_then x (λ a us. and_then (f a us) g)
 regrouped (Ok p) f g = refl
 regrouped (Err r) f g = refl
 
@@ -46,3 +46,11 @@ regroup p q s {start = start} {here = here} l = record { reads = l.reads ∙ reg
 -- the last part was read, and is made into something else
 pub made_left : {A B : Type 0} (p : Reader A) (f : A → B) {r : Reader B} {start here : Cursor} → Left r start (p >>= λ a. pure (f a)) here → (a : A) (new : Cursor) → Reached p here a new → Reached r start (f a) new
 made_left p f {start = start} {here = here} l a new s = let m = on_made p f here new a s in (l.reads ∙ m.0, stays_on start here new l.stays m.1)
+
+-- of two parts the first is left where it begins, and else the second
+module _ {A : Type 0} (starts : Lexeme → Bool) (p q : Reader A) {r : Reader A} {start here : Cursor} (l : Left r start (either starts p q) here) where
+  pub first_left : next_passes starts here.ahead ≡ true → Left r start p here
+  first_left e = record { reads = l.reads ∙ is_first starts p q here.last here.ahead e; stays = l.stays }
+
+  pub second_left : next_passes starts here.ahead ≡ false → Left r start q here
+  second_left e = record { reads = l.reads ∙ is_second starts p q here.last here.ahead e; stays = l.stays }

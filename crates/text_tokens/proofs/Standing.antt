@@ -80,9 +80,6 @@ module _ (t : Inside) (h : IsReady t) where
         let text : drop p.len (drop t.at t.source.now) ≡ drop (t.at + p.len) t.source.now = drop-drop p.len t.at t.source.now in
         rw (ahead_is, last_ok (input_of t) p h.skipped cut, text) refl
 
-    pub line_ok : line_of (cursor_of t).ahead (cursor_of t).last ≡ t.line
-    line_ok = rw ahead_is refl
-
     pub refuses : (kind : RefusalKind) → refusal_at (cursor_of t).last kind (cursor_of t).ahead ≡ record { line = t.line; kind = kind }
     refuses kind = rw ahead_is refl
 
@@ -103,9 +100,6 @@ module _ (t : Inside) (h : IsReady t) where
     pub stays : cursor_of t ≡ past_token (cursor_of t)
     stays = rw none_ahead refl
 
-    pub line_err : line_of (cursor_of t).ahead (cursor_of t).last ≡ t.line
-    line_err = rw (none_ahead, last_is) refl
-
     pub refuses_end : (kind : RefusalKind) → refusal_at (cursor_of t).last kind (cursor_of t).ahead ≡ record { line = t.line; kind = k }
     refuses_end kind = rw (none_ahead, last_is) refl
 
@@ -113,8 +107,8 @@ module _ (t : Inside) (h : IsReady t) where
     tests_none test = rw none_ahead refl
 
   line_by : (r : Result Piece RefusalKind) → t.front ≡ r → line_of (cursor_of t).ahead (cursor_of t).last ≡ t.line
-  line_by (Ok p) e = line_ok p e
-  line_by (Err k) e = line_err k e
+  line_by (Ok p) e = rw (ahead_is p e) refl
+  line_by (Err k) e = rw (none_ahead k e, last_is k e) refl
 
   pub line_is : line_of (cursor_of t).ahead (cursor_of t).last ≡ t.line
   line_is = line_by t.front refl

@@ -3,7 +3,7 @@ use crate::runs::{check_turns, work_over, worked};
 use activation::{Gate, NoGate};
 use amoebot_state::{CellName, Decider, End, Found, Port, Verdict, World};
 use claim_core::Mark;
-use claim_core_tests::{Expander, Marker, lists_of, standing};
+use small_worlds::{Expander, Marker, lists_of, standing};
 use std::alloc::Global;
 use std::sync::atomic::{AtomicBool, Ordering};
 use std::test::Fail;

@@ -8,7 +8,7 @@ ghost use Rattle.turn_workers.specs.Turns.{AreTurnsOf};
 use activation::Gate;
 use amoebot_state::{Bot, Decider, World};
 use claim_core::Lists;
-use claim_core_tests::{lists_of, world_of};
+use small_worlds::{lists_of, world_of};
 use std::alloc::Global;
 use std::process::Abort;
 use std::sync::Wait;

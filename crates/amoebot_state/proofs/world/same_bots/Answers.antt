@@ -1,4 +1,3 @@
-use Rattle.std.specs.Bool.{Decides}
 use Rattle.std.proofs.lemmas.Slice.Eq.{slice_eq-Decides}
 use Rattle.amoebot_state.proofs.Values.{fields_decide, chirs_decide}
 use Rattle.amoebot_state.proofs.world.same_bots.Goals as goal

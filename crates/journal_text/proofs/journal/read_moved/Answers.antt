@@ -3,12 +3,11 @@ use Rattle.std.specs.Prelude.{codes, ℕ}
 use Rattle.std.proofs.lemmas.Result.{err_from_is_err_and}
 use Rattle.text_tokens.specs.Cursor.{Cursor, next_passes}
 use Rattle.text_tokens.specs.Reading.{Reader, pure, the_line, either}
-use Rattle.text_tokens.proofs.Stepping.{is_first, is_second, stays}
 use Rattle.amoebot_state.specs.declared.verdict.Moved.{Moved}
 use Rattle.amoebot_state.specs.declared.verdict.Moved.TheVariants as moved
 use Rattle.journal_text.specs.Parts.{word}
 use Rattle.journal_text.specs.Readers.{means, port_behind, end_behind, moved_by, a_contraction, a_movement}
-use Rattle.text_tokens.proofs.Rows.{Left, part_fails, made_left}
+use Rattle.text_tokens.proofs.Rows.{Left, all_left, first_left, second_left, part_fails, made_left}
 use Rattle.journal_text.proofs.journal.read_moved.Goals as goal
 
 -- the forms from each on
@@ -30,32 +29,32 @@ module _ (here : Cursor) where
 
   at_none : stands (codes "none") here ≡ true → Begins (means (word (codes "none")) moved.None)
   unfolding a_movement
-  at_none e = record { reads = is_first (word (codes "none")) (means (word (codes "none")) moved.None) last4 here.last here.ahead e; stays = stays here }
+  at_none e = first_left (word (codes "none")) (means (word (codes "none")) moved.None) last4 (all_left a_movement here) e
 
   module _ (none : stands (codes "none") here ≡ false) where
     from_expand : Begins last4
     unfolding a_movement
-    from_expand = record { reads = is_second (word (codes "none")) (means (word (codes "none")) moved.None) last4 here.last here.ahead none; stays = stays here }
+    from_expand = second_left (word (codes "none")) (means (word (codes "none")) moved.None) last4 (all_left a_movement here) none
 
     at_expand : stands (codes "expand") here ≡ true → Begins (moved_by (codes "expand") moved.Expand)
-    at_expand e = record { reads = from_expand.reads ∙ is_first (word (codes "expand")) (moved_by (codes "expand") moved.Expand) last3 here.last here.ahead e; stays = stays here }
+    at_expand e = first_left (word (codes "expand")) (moved_by (codes "expand") moved.Expand) last3 from_expand e
 
     module _ (expand : stands (codes "expand") here ≡ false) where
       from_contract : Begins last3
-      from_contract = record { reads = from_expand.reads ∙ is_second (word (codes "expand")) (moved_by (codes "expand") moved.Expand) last3 here.last here.ahead expand; stays = stays here }
+      from_contract = second_left (word (codes "expand")) (moved_by (codes "expand") moved.Expand) last3 from_expand expand
 
       at_contract : stands (codes "contract") here ≡ true → Begins a_contraction
-      at_contract e = record { reads = from_contract.reads ∙ is_first (word (codes "contract")) a_contraction last2 here.last here.ahead e; stays = stays here }
+      at_contract e = first_left (word (codes "contract")) a_contraction last2 from_contract e
 
       module _ (contract : stands (codes "contract") here ≡ false) where
         from_push : Begins last2
-        from_push = record { reads = from_contract.reads ∙ is_second (word (codes "contract")) a_contraction last2 here.last here.ahead contract; stays = stays here }
+        from_push = second_left (word (codes "contract")) a_contraction last2 from_contract contract
 
         at_push : stands (codes "push") here ≡ true → Begins (moved_by (codes "push") moved.Push)
-        at_push e = record { reads = from_push.reads ∙ is_first (word (codes "push")) (moved_by (codes "push") moved.Push) (moved_by (codes "pull") moved.Pull) here.last here.ahead e; stays = stays here }
+        at_push e = first_left (word (codes "push")) (moved_by (codes "push") moved.Push) (moved_by (codes "pull") moved.Pull) from_push e
 
         at_pull : stands (codes "push") here ≡ false → Begins (moved_by (codes "pull") moved.Pull)
-        at_pull e = record { reads = from_push.reads ∙ is_second (word (codes "push")) (moved_by (codes "push") moved.Push) (moved_by (codes "pull") moved.Pull) here.last here.ahead e; stays = stays here }
+        at_pull e = second_left (word (codes "push")) (moved_by (codes "push") moved.Push) (moved_by (codes "pull") moved.Pull) from_push e
 
 pub returns-in_err-read_word : goal.returns-in_err-read_word
 returns-in_err-read_word c =

@@ -3,12 +3,11 @@ use Rattle.std.specs.Prelude.{codes}
 use Rattle.std.proofs.lemmas.Result.{err_from_is_err_and}
 use Rattle.text_tokens.specs.Cursor.{Cursor, next_passes}
 use Rattle.text_tokens.specs.Reading.{Reader, ◌>>=◌, pure, the_line}
-use Rattle.text_tokens.proofs.Stepping.{is_first, is_second, stays}
 use Rattle.amoebot_state.specs.declared.cell.Cell.{Cell}
 use Rattle.amoebot_state.specs.declared.cell.Cell.TheVariants as cell
 use Rattle.journal_text.specs.Parts.{word}
 use Rattle.journal_text.specs.Readers.{means, a_number, an_occupant}
-use Rattle.text_tokens.proofs.Rows.{Left, part_fails, made_left}
+use Rattle.text_tokens.proofs.Rows.{Left, all_left, first_left, second_left, part_fails, made_left}
 use Rattle.journal_text.proofs.journal.read_occupant.Goals as goal
 
 abbrev no_occupant : Reader Cell
@@ -20,11 +19,11 @@ some_occupant = a_number >>= λ id. pure (cell.Spot (Some id))
 module _ (here : Cursor) where
   at_empty : next_passes (word (codes "empty")) here.ahead ≡ true → Left an_occupant here no_occupant here
   unfolding an_occupant
-  at_empty e = record { reads = is_first (word (codes "empty")) no_occupant some_occupant here.last here.ahead e; stays = stays here }
+  at_empty e = first_left (word (codes "empty")) no_occupant some_occupant (all_left an_occupant here) e
 
   at_number : next_passes (word (codes "empty")) here.ahead ≡ false → Left an_occupant here some_occupant here
   unfolding an_occupant
-  at_number e = record { reads = is_second (word (codes "empty")) no_occupant some_occupant here.last here.ahead e; stays = stays here }
+  at_number e = second_left (word (codes "empty")) no_occupant some_occupant (all_left an_occupant here) e
 
 pub returns-in_err-read_word : goal.returns-in_err-read_word
 returns-in_err-read_word c =

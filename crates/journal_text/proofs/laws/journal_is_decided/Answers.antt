@@ -1,15 +1,10 @@
-use Rattle.std.proofs.Common.{◌≡◌, ℕ, List, Result, refl}
-use Rattle.text_tokens.specs.declared.refusal.Refusal.{Refusal}
-use Rattle.text_tokens.specs.declared.refusal.RefusalKind.TheVariants.{Trailing}
+use Rattle.std.proofs.Common.{refl}
 use Rattle.text_tokens.specs.Scan.{skip, ready, sign_len, front, scan, scan_end, ahead_of, last_of}
 use Rattle.text_tokens.specs.Cursor.{same_kind}
-use Rattle.text_tokens.specs.Reading.{one_within, the_line, numeral, either, limited, times, elements, repeated, whole_input}
-use Rattle.text_tokens.proofs.Blanks.{point}
+use Rattle.text_tokens.specs.Reading.{one_within, the_line, numeral, either, limited, times, elements, repeated}
 use Rattle.text_tokens.proofs.Obeying.{exact_law}
-use Rattle.journal_text.proofs.Saying.{says}
-use Rattle.amoebot_state.specs.declared.verdict.Entry.{Entry}
+use Rattle.journal_text.proofs.Saying.{IsTold, says}
 use Rattle.journal_text.specs.Journals.{AreEntries, IsJournal}
-use Rattle.journal_text.specs.JournalRows.{Says}
 use Rattle.journal_text.specs.Readers.{an_int, a_node, an_end, a_chirality, a_port, a_bot, port_behind, end_behind, a_movement, a_cell, an_occupant, a_value, a_pair, all_pairs, the_numbers, entry_word, written, an_entry, entries_from, journal}
 use Rattle.journal_text.proofs.JournalLaws.{part_journal, exact_journal, exact_entries}
 use Rattle.journal_text.proofs.laws.journal_is_decided.Goals as goal
@@ -20,8 +15,11 @@ returns-clause-exact c = exact_journal
 pub returns-clause-decided : goal.returns-clause-decided
 returns-clause-decided c = λ bots actions vars. (exact_law (IsJournal bots actions vars) (journal bots actions vars) (part_journal bots actions vars).law).1
 
-told : (text : List ℕ) (answer : Result (List Entry) Refusal) → whole_input Trailing (journal 3 2 1) (last_of (point text 0)) (ahead_of (point text 0)) ≡ answer → Says (IsJournal 3 2 1) text answer
-told text answer e = says (IsJournal 3 2 1) (journal 3 2 1) (exact_journal 3 2 1) text answer e
+told : IsTold (IsJournal 3 2 1) (journal 3 2 1)
+told = says (IsJournal 3 2 1) (journal 3 2 1) (exact_journal 3 2 1)
+
+told_behind : IsTold (AreEntries 3 2 1 65535) (entries_from 3 2 1 65535)
+told_behind = says (AreEntries 3 2 1 65535) (entries_from 3 2 1 65535) (exact_entries 3 2 1 65535)
 
 pub returns-clause-read : goal.returns-clause-read
 unfolding skip ready sign_len front scan scan_end ahead_of last_of same_kind one_within the_line numeral either limited times elements repeated an_int a_node an_end a_chirality a_port a_bot port_behind end_behind a_movement a_cell an_occupant a_value a_pair all_pairs the_numbers entry_word written an_entry entries_from journal
@@ -33,7 +31,7 @@ returns-clause-read c = record {
   ten_pairs = told _ _ refl;
   no_value = says (IsJournal 3 2 0) (journal 3 2 0) (exact_journal 3 2 0) _ _ refl;
   eight_values = says (IsJournal 3 2 8) (journal 3 2 8) (exact_journal 3 2 8) _ _ refl;
-  last_entry = says (AreEntries 3 2 1 65535) (entries_from 3 2 1 65535) (exact_entries 3 2 1 65535) _ _ refl;
+  last_entry = told_behind _ _ refl;
   direction_6 = told _ _ refl;
   coordinate_10000 = told _ _ refl;
   coordinate_minus_10000 = told _ _ refl;
@@ -41,7 +39,7 @@ returns-clause-read c = record {
   value_256 = told _ _ refl;
   eleventh_pair = told _ _ refl;
   eleventh_body = told _ _ refl;
-  one_entry_too_many = says (AreEntries 3 2 1 65535) (entries_from 3 2 1 65535) (exact_entries 3 2 1 65535) _ _ refl;
+  one_entry_too_many = told_behind _ _ refl;
   first_place = told _ _ refl;
   second_place = told _ _ refl;
   skipped_place = told _ _ refl;
@@ -62,7 +60,7 @@ returns-clause-read c = record {
   place_before_long_number = told _ _ refl;
   entry_before_end = told _ _ refl;
   entry_before_entry = told _ _ refl;
-  place_before_too_many = says (AreEntries 3 2 1 65535) (entries_from 3 2 1 65535) (exact_entries 3 2 1 65535) _ _ refl;
+  place_before_too_many = told_behind _ _ refl;
   pair_behind_place = told _ _ refl;
   other_word = told _ _ refl;
   four_numbers = told _ _ refl;

@@ -1,4 +1,3 @@
-use Rattle.std.proofs.lemmas.Result.{err_from_is_err_and}
 use Rattle.std.proofs.Common.{◌≡◌, ℕ, List, Ok, ap, sym, ◌∙◌}
 use Rattle.text_tokens.specs.Reading.{Reader, ◌>>=◌, pure}
 use Rattle.tri_lattice.specs.declared.node.Node.{Node}
@@ -6,7 +5,7 @@ use Rattle.amoebot_state.specs.declared.bot.Bot.{Bot}
 use Rattle.amoebot_state.specs.declared.bot.Chir.{Chir}
 use Rattle.journal_text.specs.Parts.{memory, a_bot_of}
 use Rattle.journal_text.specs.Readers.{up_to, a_chirality, a_node, values, a_bot}
-use Rattle.text_tokens.proofs.Rows.{all_left, past_part, part_fails}
+use Rattle.text_tokens.proofs.Rows.{all_left, past_part}
 use Rattle.journal_text.proofs.parts.read_bot.Goals as goal
 
 abbrev bot_with : Node → Node → ℕ → Chir → List ℕ → Bot
@@ -24,61 +23,6 @@ behind_tail vars head tail = up_to 5 >>= behind_rotation vars head tail
 
 abbrev behind_head : ℕ → Node → Reader Bot
 behind_head vars head = a_node >>= behind_tail vars head
-
-pub returns-in_err-head-clause-reads : goal.returns-in_err-head-clause-reads
-unfolding a_bot
-returns-in_err-head-clause-reads c =
-    let p = err_from_is_err_and c.from_residual.result c.from_residual.ensures.1 in
-    let l0 = all_left (a_bot c.args.vars) c.args.tokens.now in
-    rw (p.1, p.2) (part_fails (a_node) (behind_head c.args.vars) l0 c.in_err-head.field-0.0 c.read_node.new.tokens c.in_err-head.ensures.reads)
-
-pub returns-in_err-tail-clause-reads : goal.returns-in_err-tail-clause-reads
-unfolding a_bot
-returns-in_err-tail-clause-reads c =
-    let p = err_from_is_err_and c.from_residual-in_err-tail.result c.from_residual-in_err-tail.ensures.1 in
-    let l0 = all_left (a_bot c.args.vars) c.args.tokens.now in
-    let head = c.in_ok-head.head in
-    let l1 = past_part (a_node) (behind_head c.args.vars) l0 head c.read_node.new.tokens c.in_ok-head.ensures.reads in
-    rw (p.1, p.2) (part_fails (a_node) (behind_tail c.args.vars head) l1 c.in_err-tail.field-0.0 c.read_node-2.new.tokens c.in_err-tail.ensures.reads)
-
-pub returns-in_err-rot-clause-reads : goal.returns-in_err-rot-clause-reads
-unfolding a_bot
-returns-in_err-rot-clause-reads c =
-    let p = err_from_is_err_and c.from_residual-in_err-rot.result c.from_residual-in_err-rot.ensures.1 in
-    let l0 = all_left (a_bot c.args.vars) c.args.tokens.now in
-    let head = c.in_ok-head.head in
-    let l1 = past_part (a_node) (behind_head c.args.vars) l0 head c.read_node.new.tokens c.in_ok-head.ensures.reads in
-    let tail = c.in_ok-tail.tail in
-    let l2 = past_part (a_node) (behind_tail c.args.vars head) l1 tail c.read_node-2.new.tokens c.in_ok-tail.ensures.reads in
-    rw (p.1, p.2) (part_fails (up_to 5) (behind_rotation c.args.vars head tail) l2 c.in_err-rot.field-0.0 c.read_up_to.new.tokens c.in_err-rot.ensures.reads)
-
-pub returns-in_err-chir-clause-reads : goal.returns-in_err-chir-clause-reads
-unfolding a_bot
-returns-in_err-chir-clause-reads c =
-    let p = err_from_is_err_and c.from_residual-in_err-chir.result c.from_residual-in_err-chir.ensures.1 in
-    let l0 = all_left (a_bot c.args.vars) c.args.tokens.now in
-    let head = c.in_ok-head.head in
-    let l1 = past_part (a_node) (behind_head c.args.vars) l0 head c.read_node.new.tokens c.in_ok-head.ensures.reads in
-    let tail = c.in_ok-tail.tail in
-    let l2 = past_part (a_node) (behind_tail c.args.vars head) l1 tail c.read_node-2.new.tokens c.in_ok-tail.ensures.reads in
-    let rot = c.in_ok-rot.field-0 in
-    let l3 = past_part (up_to 5) (behind_rotation c.args.vars head tail) l2 rot c.read_up_to.new.tokens c.in_ok-rot.ensures.reads in
-    rw (p.1, p.2) (part_fails (a_chirality) (behind_chirality c.args.vars head tail rot) l3 c.in_err-chir.field-0.0 c.read_chirality.new.tokens c.in_err-chir.ensures)
-
-pub returns-in_err-values-clause-reads : goal.returns-in_err-values-clause-reads
-unfolding a_bot
-returns-in_err-values-clause-reads c =
-    let p = err_from_is_err_and c.from_residual-in_err-values.result c.from_residual-in_err-values.ensures.1 in
-    let l0 = all_left (a_bot c.args.vars) c.args.tokens.now in
-    let head = c.in_ok-head.head in
-    let l1 = past_part (a_node) (behind_head c.args.vars) l0 head c.read_node.new.tokens c.in_ok-head.ensures.reads in
-    let tail = c.in_ok-tail.tail in
-    let l2 = past_part (a_node) (behind_tail c.args.vars head) l1 tail c.read_node-2.new.tokens c.in_ok-tail.ensures.reads in
-    let rot = c.in_ok-rot.field-0 in
-    let l3 = past_part (up_to 5) (behind_rotation c.args.vars head tail) l2 rot c.read_up_to.new.tokens c.in_ok-rot.ensures.reads in
-    let chir = c.in_ok-chir.chir in
-    let l4 = past_part (a_chirality) (behind_chirality c.args.vars head tail rot) l3 chir c.read_chirality.new.tokens c.in_ok-chir.ensures in
-    rw (p.1, p.2) (part_fails (values c.args.vars) (λ vs. pure (a_bot_of head tail rot chir vs)) l4 c.in_err-values.field-0.0 c.read_values.new.tokens c.in_err-values.ensures)
 
 pub returns-clause-reads : goal.returns-clause-reads
 unfolding a_bot

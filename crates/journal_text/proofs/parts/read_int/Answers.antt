@@ -6,10 +6,9 @@ use Rattle.std.proofs.lemmas.Int.{to_z-of_z, ints}
 use mir.Val.{to_z, of_z}
 use Rattle.text_tokens.specs.Cursor.{Cursor, next_passes}
 use Rattle.text_tokens.specs.Reading.{Reader, ◌>>=◌, pure, the_line}
-use Rattle.text_tokens.proofs.Stepping.{is_first, is_second, stays}
 use Rattle.journal_text.specs.Parts.{is_minus, negative}
 use Rattle.journal_text.specs.Readers.{up_to, an_int}
-use Rattle.text_tokens.proofs.Rows.{Left, past_part, part_fails, made_left}
+use Rattle.text_tokens.proofs.Rows.{Left, all_left, first_left, second_left, past_part, part_fails, made_left}
 use Rattle.journal_text.proofs.parts.read_int.Goals as goal
 
 abbrev plain : ℕ → Reader ℤ
@@ -24,11 +23,11 @@ signed most = the_line is_minus >>= λ line. negated most
 module _ (most : ℕ) (here : Cursor) where
   with_sign : next_passes is_minus here.ahead ≡ true → Left (an_int most) here (signed most) here
   unfolding an_int
-  with_sign e = record { reads = is_first is_minus (signed most) (plain most) here.last here.ahead e; stays = stays here }
+  with_sign e = first_left is_minus (signed most) (plain most) (all_left (an_int most) here) e
 
   with_none : next_passes is_minus here.ahead ≡ false → Left (an_int most) here (plain most) here
   unfolding an_int
-  with_none e = record { reads = is_second is_minus (signed most) (plain most) here.last here.ahead e; stays = stays here }
+  with_none e = second_left is_minus (signed most) (plain most) (all_left (an_int most) here) e
 
 -- the code's number
 as_code : (n : ℕ) → n < 32768 → to_z w16 (of_z w16 (pos 0 -ℤ to_z w16 n)) ≡ negative n

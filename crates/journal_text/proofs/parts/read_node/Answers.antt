@@ -1,28 +1,11 @@
 use Rattle.std.proofs.Common.{◌≡◌, arith, w16}
 use Rattle.std.proofs.lemmas.Int.{to_z-of_z, ints}
 use mir.Val.{to_z, of_z}
-use Rattle.std.proofs.lemmas.Result.{err_from_is_err_and}
 use Rattle.text_tokens.specs.Reading.{◌>>=◌, pure}
 use Rattle.journal_text.specs.Parts.{a_node_of}
 use Rattle.journal_text.specs.Readers.{an_int, a_node}
-use Rattle.text_tokens.proofs.Rows.{all_left, past_part, part_fails}
+use Rattle.text_tokens.proofs.Rows.{all_left, past_part}
 use Rattle.journal_text.proofs.parts.read_node.Goals as goal
-
-pub returns-in_err-x-clause-reads : goal.returns-in_err-x-clause-reads
-unfolding a_node
-returns-in_err-x-clause-reads c =
-    let p = err_from_is_err_and c.from_residual.result c.from_residual.ensures.1 in
-    let l0 = all_left a_node c.args.tokens.now in
-    rw (p.1, p.2) (part_fails (an_int 9999) (λ x. an_int 9999 >>= λ y. pure (a_node_of x y)) l0 c.in_err-x.field-0.0 c.read_int.new.tokens c.in_err-x.ensures.reads)
-
-pub returns-in_err-y-clause-reads : goal.returns-in_err-y-clause-reads
-unfolding a_node
-returns-in_err-y-clause-reads c =
-    let p = err_from_is_err_and c.from_residual-in_err-y.result c.from_residual-in_err-y.ensures.1 in
-    let l0 = all_left a_node c.args.tokens.now in
-    let x = c.in_ok-x.x in
-    let l1 = past_part (an_int 9999) (λ x. an_int 9999 >>= λ y. pure (a_node_of x y)) l0 x c.read_int.new.tokens c.in_ok-x.ensures.reads in
-    rw (p.1, p.2) (part_fails (an_int 9999) (λ y. pure (a_node_of x y)) l1 c.in_err-y.field-0.0 c.read_int-2.new.tokens c.in_err-y.ensures.reads)
 
 pub returns-clause-reads : goal.returns-clause-reads
 unfolding a_node

@@ -3,13 +3,12 @@ use Rattle.std.proofs.lemmas.Result.{err_from_is_err_and}
 use Rattle.text_tokens.specs.declared.token.TokenKind.TheVariants.{Word}
 use Rattle.text_tokens.specs.declared.token.Token.{Token}
 use Rattle.text_tokens.specs.declared.refusal.Refusal.{Refusal}
-use Rattle.text_tokens.specs.declared.refusal.ReadRefusal.TheVariants.{Refused}
 use Rattle.text_tokens.specs.declared.refusal.RefusalKind.TheVariants.{Unexpected}
 use Rattle.text_tokens.specs.Text.{Lexeme}
 use Rattle.text_tokens.specs.Cursor.{Cursor, FirstIs, is_kind, token_of, expect_by, slice}
-use Rattle.text_tokens.specs.Reading.{no_limit, one, pure, the_line}
-use Rattle.text_tokens.specs.Steps.{lexeme_of}
-use Rattle.text_tokens.proofs.Stepping.{took, missed, fails, on_made, stays_past}
+use Rattle.text_tokens.specs.Reading.{no_limit, the_line}
+use Rattle.text_tokens.proofs.Stepping.{stays_past}
+use Rattle.text_tokens.proofs.Taking.{token_missed, token_taken}
 use Rattle.journal_text.specs.Turns.{names_failure, is_failure}
 use Rattle.journal_text.proofs.turns.read_failure.Goals as goal
 
@@ -48,8 +47,7 @@ unfolding the_line
 returns-in_err-token c =
     let p = err_from_is_err_and c.from_residual.result c.from_residual.ensures.1 in
     let now = c.args.tokens.now in
-    rw (p.1, p.2) (fails (one is_failure) (λ t. pure t.line) (Refused c.in_err-token.field-0.0) now c.take_kind.new.self
-    (missed is_failure no_limit now c.take_kind.new.self c.in_err-token.field-0.0 (no_word now.ahead now.last c.in_err-token.field-0.0 (sym c.take_kind.ensures.answer ∙ c.in_err-token.was)) c.in_err-token.ensures.again))
+    rw (p.1, p.2) (token_missed is_failure no_limit (λ (t : Lexeme). t.line) now c.take_kind.new.self c.in_err-token.field-0.0 (no_word now.ahead now.last c.in_err-token.field-0.0 (sym c.take_kind.ensures.answer ∙ c.in_err-token.was)) c.in_err-token.ensures.again)
 
 pub returns-then-not-names_failure : goal.returns-then-not-names_failure
 unfolding the_line
@@ -61,7 +59,7 @@ returns-then-not-names_failure c =
     let none : names_failure (slice now.source t) ≡ false = ap names_failure (sym text) ∙ sym c.names_failure.ensures ∙ c.if-not-names_failure.true in
     let refusal : Refusal = record { line = t.line; kind = Unexpected } in
     let e = other_word now.source t now.ahead now.last (sym c.take_kind.ensures.answer ∙ c.in_ok-token.was) c.in_ok-token.ensures.spells.bytes none in
-    let f = fails (one is_failure) (λ t. pure t.line) (Refused refusal) now now (missed is_failure no_limit now now refusal e refl) in
+    let f = token_missed is_failure no_limit (λ (t : Lexeme). t.line) now now refusal e refl in
     rw c.refused.ensures (f.0, stays_past now c.take_kind.new.self c.in_ok-token.ensures.moves)
 
 pub returns : goal.returns
@@ -73,4 +71,4 @@ returns c =
     let text : c.text.result.now ≡ slice now.source t = c.text.ensures ∙ ap (λ (source : List ℕ). slice source t) same in
     let one_of : names_failure (slice now.source t) ≡ true = ap names_failure (sym text) ∙ sym c.names_failure.ensures ∙ c.if-not-names_failure.false in
     let e = its_word now.source t now.ahead now.last (sym c.take_kind.ensures.answer ∙ c.in_ok-token.was) c.in_ok-token.ensures.spells.bytes one_of in
-    on_made (one is_failure) (λ t. t.line) now c.take_kind.new.self (lexeme_of now.source t) (took is_failure no_limit now c.take_kind.new.self t e c.in_ok-token.ensures.moves c.in_ok-token.ensures.spells refl)
+    token_taken is_failure no_limit (λ (t : Lexeme). t.line) now c.take_kind.new.self t e c.in_ok-token.ensures.moves c.in_ok-token.ensures.spells refl

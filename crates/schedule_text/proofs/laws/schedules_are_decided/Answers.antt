@@ -1,14 +1,10 @@
-use Rattle.std.proofs.Common.{◌≡◌, ℕ, List, Result, refl}
-use Rattle.text_tokens.specs.declared.refusal.Refusal.{Refusal}
-use Rattle.text_tokens.specs.declared.refusal.RefusalKind.TheVariants.{Trailing}
+use Rattle.std.proofs.Common.{ℕ, refl}
 use Rattle.text_tokens.specs.Scan.{skip, ready, sign_len, front, scan, scan_end, ahead_of, last_of}
 use Rattle.text_tokens.specs.Cursor.{same_kind}
-use Rattle.text_tokens.specs.Reading.{one_within, the_line, numeral, either, elements, repeated, whole_input}
-use Rattle.text_tokens.proofs.Blanks.{point}
+use Rattle.text_tokens.specs.Reading.{one_within, the_line, numeral, either, elements, repeated}
 use Rattle.text_tokens.proofs.Obeying.{exact_law}
-use Rattle.journal_text.specs.JournalRows.{Says}
-use Rattle.journal_text.proofs.Saying.{says}
-use Rattle.schedule_text.specs.Schedules.{Stretch, StretchesFrom, IsSchedule}
+use Rattle.journal_text.proofs.Saying.{IsTold, says}
+use Rattle.schedule_text.specs.Schedules.{StretchesFrom, IsSchedule}
 use Rattle.schedule_text.specs.Readers.{a_caller, number_of_times, its_times, any_times, a_stretch, stretches_from, all_steps, a_schedule}
 use Rattle.schedule_text.proofs.ScheduleLaws.{part_schedule, exact_schedule, exact_stretches_from}
 use Rattle.schedule_text.proofs.laws.schedules_are_decided.Goals as goal
@@ -19,11 +15,11 @@ returns-clause-exact c = exact_schedule
 pub returns-clause-decided : goal.returns-clause-decided
 returns-clause-decided c = λ callers. (exact_law (IsSchedule callers) (a_schedule callers) (part_schedule callers).law).1
 
-told : (callers : ℕ) (text : List ℕ) (answer : Result (List ℕ) Refusal) → whole_input Trailing (a_schedule callers) (last_of (point text 0)) (ahead_of (point text 0)) ≡ answer → Says (IsSchedule callers) text answer
-told callers text answer e = says (IsSchedule callers) (a_schedule callers) (exact_schedule callers) text answer e
+told : (callers : ℕ) → IsTold (IsSchedule callers) (a_schedule callers)
+told callers = says (IsSchedule callers) (a_schedule callers) (exact_schedule callers)
 
-told_behind : (before : ℕ) (text : List ℕ) (answer : Result (List Stretch) Refusal) → whole_input Trailing (stretches_from 2 before) (last_of (point text 0)) (ahead_of (point text 0)) ≡ answer → Says (StretchesFrom 2 before) text answer
-told_behind before text answer e = says (StretchesFrom 2 before) (stretches_from 2 before) (exact_stretches_from 2 before) text answer e
+told_behind : (before : ℕ) → IsTold (StretchesFrom 2 before) (stretches_from 2 before)
+told_behind before = says (StretchesFrom 2 before) (stretches_from 2 before) (exact_stretches_from 2 before)
 
 pub returns-clause-read : goal.returns-clause-read
 unfolding skip ready sign_len front scan scan_end ahead_of last_of same_kind one_within the_line numeral either elements repeated a_caller number_of_times its_times any_times a_stretch stretches_from all_steps a_schedule

@@ -1,16 +1,11 @@
-use Rattle.std.proofs.Common.{◌≡◌, ℕ, List, Result, refl}
-use Rattle.text_tokens.specs.declared.refusal.Refusal.{Refusal}
-use Rattle.text_tokens.specs.declared.refusal.RefusalKind.TheVariants.{Trailing}
+use Rattle.std.proofs.Common.{ℕ, List, refl}
 use Rattle.text_tokens.specs.Scan.{skip, ready, sign_len, front, scan, scan_end, ahead_of, last_of}
 use Rattle.text_tokens.specs.Cursor.{same_kind}
-use Rattle.text_tokens.specs.Reading.{one_within, the_line, numeral, either, times, elements, repeated, whole_input}
-use Rattle.text_tokens.proofs.Blanks.{point}
+use Rattle.text_tokens.specs.Reading.{one_within, the_line, numeral, either, times, elements, repeated}
 use Rattle.text_tokens.proofs.Obeying.{exact_law}
-use Rattle.amoebot_state.specs.Configs.{Config}
-use Rattle.journal_text.specs.JournalRows.{Says}
 use Rattle.journal_text.specs.Readers.{an_int, a_node, a_chirality, a_bot}
-use Rattle.journal_text.proofs.Saying.{says}
-use Rattle.shape_text.specs.Shapes.{WrittenBot, AreBots, IsShape, IsFinal}
+use Rattle.journal_text.proofs.Saying.{IsTold, says}
+use Rattle.shape_text.specs.Shapes.{AreBots, IsShape, IsFinal}
 use Rattle.shape_text.specs.ShapeRows.{up_to_3, all_zero, rising}
 use Rattle.shape_text.specs.Readers.{a_side, an_area, bot_word, a_bot_line, bots_from, a_drawing, written, shape_under, a_shape, a_final}
 use Rattle.shape_text.proofs.ShapeLaws.{part_shape, part_final, exact_shape, exact_final, exact_bots}
@@ -28,17 +23,17 @@ returns-clause-exact_final c = exact_final
 pub returns-clause-decided_final : goal.returns-clause-decided_final
 returns-clause-decided_final c = λ vars maxes. (exact_law (IsFinal vars maxes) (a_final vars maxes) (part_final vars maxes).law).1
 
-shape_told : (vars : ℕ) (maxes text : List ℕ) (answer : Result Config Refusal) → whole_input Trailing (a_shape vars maxes) (last_of (point text 0)) (ahead_of (point text 0)) ≡ answer → Says (IsShape vars maxes) text answer
-shape_told vars maxes text answer e = says (IsShape vars maxes) (a_shape vars maxes) (exact_shape vars maxes) text answer e
+shape_told : (vars : ℕ) (maxes : List ℕ) → IsTold (IsShape vars maxes) (a_shape vars maxes)
+shape_told vars maxes = says (IsShape vars maxes) (a_shape vars maxes) (exact_shape vars maxes)
 
-told : (text : List ℕ) (answer : Result Config Refusal) → whole_input Trailing (a_shape 1 up_to_3) (last_of (point text 0)) (ahead_of (point text 0)) ≡ answer → Says (IsShape 1 up_to_3) text answer
-told text answer e = shape_told 1 up_to_3 text answer e
+told : IsTold (IsShape 1 up_to_3) (a_shape 1 up_to_3)
+told = shape_told 1 up_to_3
 
-final_told : (text : List ℕ) (answer : Result Config Refusal) → whole_input Trailing (a_final 1 up_to_3) (last_of (point text 0)) (ahead_of (point text 0)) ≡ answer → Says (IsFinal 1 up_to_3) text answer
-final_told text answer e = says (IsFinal 1 up_to_3) (a_final 1 up_to_3) (exact_final 1 up_to_3) text answer e
+final_told : IsTold (IsFinal 1 up_to_3) (a_final 1 up_to_3)
+final_told = says (IsFinal 1 up_to_3) (a_final 1 up_to_3) (exact_final 1 up_to_3)
 
-bots_told : (before : ℕ) (text : List ℕ) (answer : Result (List WrittenBot) Refusal) → whole_input Trailing (bots_from 0 before) (last_of (point text 0)) (ahead_of (point text 0)) ≡ answer → Says (AreBots 0 before) text answer
-bots_told before text answer e = says (AreBots 0 before) (bots_from 0 before) (exact_bots 0 before) text answer e
+bots_told : (before : ℕ) → IsTold (AreBots 0 before) (bots_from 0 before)
+bots_told before = says (AreBots 0 before) (bots_from 0 before) (exact_bots 0 before)
 
 pub returns-clause-read : goal.returns-clause-read
 unfolding skip ready sign_len front scan scan_end ahead_of last_of same_kind one_within the_line numeral either times elements repeated an_int a_node a_chirality a_bot a_side an_area bot_word a_bot_line bots_from a_drawing written shape_under

@@ -1,0 +1,40 @@
+-- Programs that change nothing, with the proofs that they keep the laws of deciders. A decider gives its laws as ghost items, which may
+-- cite no term of the crate's own proofs/, so they stand here.
+use Rattle.std.proofs.Common.{◌≡◌, subst}
+use Rattle.amoebot_state.specs.declared.verdict.Change.{Change}
+use Rattle.amoebot_state.specs.declared.verdict.Failure.TheVariants.{Edge}
+use Rattle.amoebot_state.specs.declared.verdict.Verdict.{Verdict}
+use Rattle.amoebot_state.specs.declared.verdict.Verdict.TheVariants as verdict
+use Rattle.amoebot_state.specs.Zones.{Shown}
+use Rattle.amoebot_state.specs.Steps.{TouchesZone, HasNext, IsExact}
+
+abbrev pub idle : Shown → Verdict
+idle s = verdict.Idle
+
+abbrev pub at_the_edge : Shown → Verdict
+at_the_edge s = verdict.Failed Edge
+
+-- no change is decided
+abbrev IsNoChange : Verdict → Type 0
+IsNoChange verdict.Idle = Unit {0}
+IsNoChange (verdict.Failed why) = Unit {0}
+IsNoChange (verdict.Change change) = ⊥
+
+abbrev pub Rests : (Shown → Verdict) → Type 0
+Rests f = (s : Shown) → IsNoChange (f s)
+
+pub idle_rests : Rests idle
+idle_rests s = tt
+
+pub edge_rests : Rests at_the_edge
+edge_rests s = tt
+
+-- such a program keeps the laws of deciders
+pub resting_touches_zone : (f : Shown → Verdict) → Rests f → TouchesZone f
+resting_touches_zone f rests c i change changes = absurd (subst IsNoChange changes.decided (rests _))
+
+pub resting_has_next : (f : Shown → Verdict) → Rests f → HasNext f
+resting_has_next f rests c i change changes = absurd (subst IsNoChange changes.decided (rests _))
+
+pub resting_is_exact : (f : Shown → Verdict) → Rests f → IsExact f
+resting_is_exact f rests c i change changes = absurd (subst IsNoChange changes.decided (rests _))

@@ -1,0 +1,13 @@
+//! Small worlds, with programs and lists of turns, for the tests and the examples of other crates; and what one interleaving leaves of a
+//! row of three nodes, computed.
+#![tactic(auto)]
+
+mod laws;
+mod programs;
+#[cfg(test)]
+mod serial;
+mod worlds;
+
+pub use laws::small_interleaving;
+pub use programs::{Blocked, Expander, Idler, Marker};
+pub use worlds::{lists_of, node, spread, standing, turned, world_in, world_of};

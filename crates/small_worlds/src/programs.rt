@@ -1,0 +1,106 @@
+//! Programs of one action or none.
+
+use amoebot_state::{Cell, CellName, Change, Decider, Failure, Found, Moved, Patch, Port, Verdict};
+use model_ops::Site;
+
+/// The program of one action, whose guard is that variable 0 is 0, and which sets it to 1.
+pub struct Marker;
+
+impl Decider for Marker {
+    ghost use Rattle.small_worlds.specs.Marking.{marking, marking_touches_zone, marking_has_next, marking_is_exact};
+
+    ghost verdict = { λ _. marking };
+
+    fn decide(&self, found: &Found) -> Verdict {
+        let own = *found.own();
+        if own.mem[0] == 0 && 1 <= found.maxes()[0] {
+            let mut marked = own;
+            marked.mem[0] = 1;
+            let mut patch = Patch::new();
+            patch.push(CellName::Body(found.bot()), Cell::Body(marked));
+            return Verdict::Change(Change {
+                action: 0,
+                moved: Moved::None,
+                patch,
+            });
+        }
+        Verdict::Idle
+    }
+
+    ghost touches_zone = { λ _. marking_touches_zone };
+
+    ghost has_next = { λ _. marking_has_next };
+
+    ghost is_exact = { λ _. marking_is_exact };
+}
+
+/// The program of one action, whose guard is that the amoebot is contracted, and which expands it through a port.
+pub struct Expander {
+    pub port: Port,
+}
+
+impl Decider for Expander {
+    ghost use Rattle.model_ops.specs.Expansion.{expansion_verdict_shown};
+    ghost use Rattle.model_ops.proofs.ExpansionLaws.{expansion_touches_zone, expansion_has_next, expansion_is_exact};
+
+    ghost verdict = { λ d. expansion_verdict_shown d.port };
+
+    fn decide(&self, found: &Found) -> Verdict {
+        if !found.own().is_contracted() {
+            return Verdict::Idle;
+        }
+        let mut site = Site::new(found);
+        match site.expand(self.port) {
+            Ok(()) => Verdict::Change(Change {
+                action: 0,
+                moved: Moved::Expand(self.port),
+                patch: site.patch(),
+            }),
+            Err(failure) => Verdict::Failed(failure),
+        }
+    }
+
+    ghost touches_zone = { λ d. expansion_touches_zone d.port };
+
+    ghost has_next = { λ d. expansion_has_next d.port };
+
+    ghost is_exact = { λ d. expansion_is_exact d.port };
+}
+
+/// The program without actions.
+pub struct Idler;
+
+impl Decider for Idler {
+    ghost use Rattle.small_worlds.specs.Resting.{idle, idle_rests, resting_touches_zone, resting_has_next, resting_is_exact};
+
+    ghost verdict = { λ _. idle };
+
+    ghost touches_zone = { λ _. resting_touches_zone idle idle_rests };
+
+    ghost has_next = { λ _. resting_has_next idle idle_rests };
+
+    ghost is_exact = { λ _. resting_is_exact idle idle_rests };
+
+    fn decide(&self, _found: &Found) -> Verdict {
+        Verdict::Idle
+    }
+}
+
+/// The program of one action, which always runs against the edge.
+pub struct Blocked;
+
+impl Decider for Blocked {
+    ghost use Rattle.small_worlds.specs.Resting.{at_the_edge, edge_rests, resting_touches_zone, resting_has_next, resting_is_exact};
+
+    ghost verdict = { λ _. at_the_edge };
+
+    ghost touches_zone = { λ _. resting_touches_zone at_the_edge edge_rests };
+
+    ghost has_next = { λ _. resting_has_next at_the_edge edge_rests };
+
+    ghost is_exact = { λ _. resting_is_exact at_the_edge edge_rests };
+
+    fn decide(&self, _found: &Found) -> Verdict {
+        Verdict::Failed(Failure::Edge)
+    }
+}

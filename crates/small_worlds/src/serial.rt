@@ -1,0 +1,165 @@
+//! Tests of `serial_model` over these worlds: one turn, and entries that are a run or stop to be one.
+
+ghost use Rattle.std.specs.Prelude.{◌≡◌, ◌<◌, length, IfOk};
+ghost use Rattle.amoebot_state.specs.Refusals.{IsPlain};
+
+use crate::programs::{Blocked, Marker};
+use crate::worlds::{standing, world_of};
+use amoebot_state::{Bot, Cell, CellName, End, Entry, Failure, Moved, Patch, World};
+use serial_model::{Serial, Turned, replay};
+use std::alloc::Global;
+use std::test::Fail;
+
+/// An amoebot of the row, with its value of variable 0.
+fn in_row(id: u16, value: u8) -> Bot
+    requires { id < 4 }
+    ensures { IsPlain result }
+{
+    standing(2 + id as u8, 3, value)
+}
+
+/// The amoebots 0 to 3 in a row, each with its value of variable 0.
+fn row(alloc: Global, values: [u8; 4]) -> Result<World, Fail>
+    ensures { IfOk result (λ w. length w.bots ≡ 4) }
+{
+    let bots = [
+        in_row(0, values[0]),
+        in_row(1, values[1]),
+        in_row(2, values[2]),
+        in_row(3, values[3]),
+    ];
+    world_of(alloc, &bots)
+}
+
+/// The body of an amoebot with a value of variable 0.
+fn body(id: u16, value: u8) -> Patch
+    requires { id < 4 }
+    ensures { length result ≡ 1 }
+{
+    let mut patch = Patch::new();
+    patch.push(CellName::Body(id), Cell::Body(in_row(id, value)));
+    patch
+}
+
+/// The step of an amoebot that sets its variable.
+fn step(id: u16) -> Entry
+    requires { id < 4 }
+    ensures { result.bot ≡ id }
+{
+    Entry {
+        caller: 0,
+        turn: 0,
+        bot: id,
+        action: 0,
+        moved: Moved::None,
+        patch: body(id, 1),
+    }
+}
+
+/// In what an entry differs from a step.
+#[derive(Clone, Copy)]
+enum Way {
+    Action,
+    Movement,
+    PairMore,
+    PairLess,
+    PairOfAnother,
+    OtherValue,
+    IdleAmoebot,
+}
+
+fn wrong(id: u16, way: Way) -> Entry
+    requires { id < 3 }
+    ensures { result.bot < 4 }
+{
+    let right = step(id);
+    match way {
+        Way::Action => Entry { action: 1, ..right },
+        Way::Movement => Entry {
+            moved: Moved::Contract(End::Head),
+            ..right
+        },
+        Way::PairMore => {
+            let mut patch = body(id, 1);
+            patch.push(CellName::Spot(in_row(id, 1).head), Cell::Spot(Some(id)));
+            Entry { patch, ..right }
+        }
+        Way::PairLess => Entry {
+            patch: Patch::new(),
+            ..right
+        },
+        Way::PairOfAnother => Entry {
+            patch: body(3, 1),
+            ..right
+        },
+        Way::OtherValue => Entry {
+            patch: body(id, 0),
+            ..right
+        },
+        Way::IdleAmoebot => step(3),
+    }
+}
+
+/// The step of an amoebot, or, at the place, an entry that is none.
+fn entry_at(id: u16, place: u16, way: Way) -> Entry
+    requires { id < 3 }
+    ensures { result.bot < 4 }
+{
+    if id == place {
+        wrong(id, way)
+    } else {
+        step(id)
+    }
+}
+
+#[test]
+fn a_failed_turn_leaves_the_world(rt: HostRuntime) -> Result<(), Fail> {
+    let alone = standing(7, 3, 0);
+    let mut serial = Serial::new(world_of(rt.alloc(), &[alone])?);
+    assert!(rt;
+        matches!(
+            &serial.activate(&Blocked, 0, 0, 0),
+            Turned::Failed(Failure::Edge)
+        )
+    );
+    assert_eq!(rt; *serial.world().bot(0), alone);
+    let world = serial.into_world();
+    assert_eq!(rt; world.bots(), 1);
+    Ok(())
+}
+
+#[test]
+fn entries_that_are_steps_agree(rt: HostRuntime) -> Result<(), Fail> {
+    let entries = [step(1), step(0), step(2)];
+    let last = replay(&Marker, row(rt.alloc(), [0, 0, 0, 1])?, &entries)?;
+    assert!(rt; last.same(&row(rt.alloc(), [1, 1, 1, 1])?));
+    let start = replay(&Marker, row(rt.alloc(), [0, 1, 0, 1])?, &[])?;
+    assert!(rt; start.same(&row(rt.alloc(), [0, 1, 0, 1])?));
+    Ok(())
+}
+
+#[test]
+fn the_first_entry_that_is_no_step_is_told(rt: HostRuntime) -> Result<(), Fail> {
+    let ways = [
+        Way::Action,
+        Way::Movement,
+        Way::PairMore,
+        Way::PairLess,
+        Way::PairOfAnother,
+        Way::OtherValue,
+        Way::IdleAmoebot,
+    ];
+    for way in ways {
+        for place in 0..3 {
+            let entries = [
+                entry_at(0, place, way),
+                entry_at(1, place, way),
+                entry_at(2, place, way),
+            ];
+            let replayed = replay(&Marker, row(rt.alloc(), [0, 0, 0, 1])?, &entries);
+            let differs = replayed.err().ok_or("a run")?;
+            assert_eq!(rt; differs.place, u32::from(place));
+        }
+    }
+    Ok(())
+}
