@@ -3,9 +3,7 @@ use Rattle.std.proofs.Common.{◌≡◌, ℕ, zero, suc, ◌<◌, ◌↔◌, Lis
 use Rattle.std.specs.Prelude.{slice_get, IfSome}
 use Rattle.std.specs.List.{All}
 use Rattle.std.proofs.lemmas.Bool.{cases_lt}
-use Rattle.std.proofs.lemmas.List.{length-map}
 use Rattle.std.proofs.lemmas.Option.{none-some, same_Some, slice_get_within, get_or_from_slice_get}
-use Rattle.claim_core.proofs.Places.{get-append_right}
 use Rattle.claim_rule.specs.Tokens.{Token, number_in}
 use Rattle.claim_rule.specs.Seating.{SeatsOf, IsFirst}
 
@@ -24,7 +22,8 @@ module _ {A : Type 0} where
 
   -- what stands behind them
   next_there : (gone : List (Option A)) (x : Option A) (others : List (Option A)) → slice_get (out_before gone (x ∷ others)) (length gone) ≡ Some x
-  next_there gone x others = get-append_right (map (λ _. None) gone) (x ∷ others) 0 (length gone) (let same = length-map gone (λ _. None) in omega (arith, same))
+  next_there [] x others = refl
+  next_there (g ∷ gone) x others = next_there gone x others
 
   is_out : (gone others : List (Option A)) (c : ℕ) → c < length gone → slice_get (out_before gone others) c ≡ Some None
   is_out [] others c lt = absurd (omega (arith, lt))

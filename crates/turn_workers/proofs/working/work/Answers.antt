@@ -70,11 +70,12 @@ report g c =
 
 pub clear-turns-requires-clause-taken : goal.clear-turns-requires-clause-taken
 clear-turns-requires-clause-taken g c κs within =
+    let at = (goal.at.clear-turns-requires-clause-taken g c).After-make_all in
     let out = c.in_ok-desks.ensures.out in
     let seats = c.in_ok-field.ensures.seats in
-    subst (AreTaken c.seat_all.new.seats) (sym (whole g c))
-    (are_taken g.D.Decider.verdict c.in_ok-field.field c.args.lists.now.turns (turns_are g c) c.make_all.new.desks c.make_all.ensures.after c.seat_all.new.seats (ap (λ (s : SeatsOf g.row.D.Denot). s.table) out ∙ ap (λ (s : SeatsOf g.row.D.Denot). s.table) seats)
-    (ap (λ (s : SeatsOf g.row.D.Denot). s.terms) out ∙ ap (λ (s : SeatsOf g.row.D.Denot). s.terms) seats) c.in_ok-desks.desks.items (ap (λ (s : SeatsOf g.row.D.Denot). s.seats) out) (sym (count g c)))
+    subst (AreTaken c.seat_all.new.seats) (sym (whole g at))
+    (are_taken g.D.Decider.verdict c.in_ok-field.field c.args.lists.now.turns (turns_are g at) c.make_all.new.desks c.make_all.ensures.after c.seat_all.new.seats (ap (λ (s : SeatsOf g.row.D.Denot). s.table) out ∙ ap (λ (s : SeatsOf g.row.D.Denot). s.table) seats)
+    (ap (λ (s : SeatsOf g.row.D.Denot). s.terms) out ∙ ap (λ (s : SeatsOf g.row.D.Denot). s.terms) seats) c.in_ok-desks.desks.items (ap (λ (s : SeatsOf g.row.D.Denot). s.seats) out) (sym (count g at)))
 
 pub close-world-requires-clause-all : goal.close-world-requires-clause-all
 close-world-requires-clause-all g c κs within =
