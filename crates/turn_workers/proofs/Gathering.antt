@@ -1,12 +1,15 @@
 -- Desks that are made and cleared one after another, and the marks that are copied.
 use Rattle.std.proofs.Common.{◌≡◌, ℕ, zero, suc, ◌+◌, ◌<◌, ◌≤◌, List, [], ◌∷◌, ◌++◌, map, length, take, get_or, set, reverse, replicate, length-append, is_some, ◌↔◌, IfSome, IsSome, Vec, Global, Option, Some, None, ap, sym, refl, ◌∙◌, subst, arith}
-use Rattle.std.specs.Prelude.{slice_get, vec_capacity}
+use Rattle.std.specs.Prelude.{slice_get}
 use Rattle.std.specs.List.{All}
-use Rattle.std.proofs.lemmas.List.{append-nil, append_assoc, length-map, reverse-append, reverse-reverse}
+use Rattle.std.proofs.lemmas.List.{append-nil, append_assoc, length-map, reverse-append, reverse-reverse, map-append}
+use Rattle.std.proofs.lemmas.List.Elements.{All-push}
 use Rattle.std.proofs.lemmas.Option.{none-some, same_Some, get_or_from_slice_get}
 use Rattle.std.proofs.Math.Seq.{take-suc}
 use Rattle.claim_core.specs.declared.marks.Mark.{Mark}
 use Rattle.claim_core.specs.Turns.{MarkLists, marks_of}
+use Rattle.claim_core.proofs.Places.{get-append_right}
+use Rattle.claim_core.proofs.Stepping.{reverse-map}
 use Rattle.claim_rule.specs.Tokens.{Token, number_in}
 use Rattle.claim_rule.specs.Seating.{SeatsOf, IsFirst}
 use Rattle.activation.specs.declared.turn.Turn.{Turn}
@@ -14,19 +17,11 @@ use Rattle.activation.specs.Answers.{mark_of}
 use Rattle.turn_workers.specs.declared.workers.Desk.{Desk}
 use Rattle.turn_workers.specs.Turns.{marks_in}
 use Rattle.turn_workers.specs.Workers.{IsClear, AreClear, AreTaken, seat_at, turns_at, with_marks}
-use Rattle.turn_workers.proofs.Taking.{out_before, stands_behind, last_is_out, one_given, next_is_taken}
+use Rattle.turn_workers.proofs.Taking.{out_before, last_is_out, one_given, next_is_taken}
 
 pub map-map : {A B C : Type 0} (f : B → C) (g : A → B) (xs : List A) → map f (map g xs) ≡ map (λ x. f (g x)) xs
 map-map f g [] = refl
 map-map f g (x ∷ xs) = ap (λ ys. f (g x) ∷ ys) (map-map f g xs)
-
-pub map-push : {A B : Type 0} (f : A → B) (xs : List A) (x : A) → map f (xs ++ x ∷ []) ≡ map f xs ++ f x ∷ []
-map-push f [] x = refl
-map-push f (y ∷ xs) x = ap (λ ys. f y ∷ ys) (map-push f xs x)
-
-pub one_longer : {A : Type 0} (xs : List A) (x : A) → length (xs ++ x ∷ []) ≡ length xs + 1
-one_longer [] x = refl
-one_longer (y ∷ xs) x = let e = one_longer xs x in omega (arith, e)
 
 empty : {A : Type 0} (xs : List A) → length xs ≡ 0 → xs ≡ []
 empty [] none = refl
@@ -34,12 +29,6 @@ empty (x ∷ xs) none = absurd (omega (arith, none))
 
 not_none : {A : Type 0} (o : Option A) → o ≡ None → IsSome o → ⊥
 not_none o e some = let f = ap is_some e in absurd (cc)
-
-pub All-push : {A : Type 0} (P : A → Type 0) (xs : List A) (x : A) → All P xs → P x → All P (xs ++ x ∷ [])
-All-push P [] x all last zero d lt = last
-All-push P [] x all last (suc k) d lt = absurd (omega (arith, lt))
-All-push P (y ∷ xs) x all last zero d lt = all zero d (omega arith)
-All-push P (y ∷ xs) x all last (suc k) d lt = All-push P xs x (λ j e l. all (suc j) e (omega (arith, l))) last k d (omega (arith, lt))
 
 module _ {D : Type 0} where
   -- seats are taken from the front, one for each desk
@@ -55,10 +44,6 @@ module _ {D : Type 0} where
     pub all : whole ≡ left ++ given
     pub back : now ≡ record old { seats = out_before (map seat_at left) (map seat_at given) }
     pub turns : kept ≡ reverse (map turns_at given)
-
-map-reverse : {A B : Type 0} (f : A → B) (xs : List A) → map f (reverse xs) ≡ reverse (map f xs)
-map-reverse f [] = refl
-map-reverse f (x ∷ xs) = ap (map f) (reverse-append (x ∷ []) xs) ∙ map-push f (reverse xs) x ∙ ap (λ ys. ys ++ f x ∷ []) (map-reverse f xs) ∙ sym (reverse-append (f x ∷ []) (map f xs))
 
 module _ {D : Type 0} (turns : ℕ) (old : SeatsOf D) where
   pub none_seated : (desks : List (Desk D)) → desks ≡ [] → AreSeated turns old old desks
@@ -76,13 +61,13 @@ module _ {D : Type 0} (turns : ℕ) (old : SeatsOf D) where
           absurd (omega (arith, lt, count, length-map desks seat_at))
       by (None ∷ others) is =
           let all = are.all ∙ ap (λ (os : List (Option (Token D))). map seat_at desks ++ os) is in
-          let at : slice_get old.seats (length desks) ≡ Some None = ap (λ xs. slice_get xs (length desks)) all ∙ ap (slice_get (map seat_at desks ++ None ∷ others)) (sym (length-map desks seat_at)) ∙ stands_behind (map seat_at desks) None others in
+          let at : slice_get old.seats (length desks) ≡ Some None = ap (λ xs. slice_get xs (length desks)) all ∙ ap (slice_get (map seat_at desks ++ None ∷ others)) (sym (length-map desks seat_at)) ∙ get-append_right (map seat_at desks) (None ∷ others) 0 (length (map seat_at desks)) (omega arith) in
           absurd (not_none (get_or old.seats (length desks) None) (get_or_from_slice_get old.seats (length desks) None None at) (some (length desks) None lt))
       by (Some t ∷ others) is =
           let gone = map seat_at desks in
           let seats : now.seats ≡ out_before gone (Some t ∷ others) = ap (λ (s : SeatsOf D). s.seats) are.out ∙ ap (out_before gone) is in
           let taken = next_is_taken gone others t now new desk.seat seats none first in
-          let pushed : gone ++ Some t ∷ [] ≡ map seat_at (desks ++ desk ∷ []) = ap (λ o. gone ++ o ∷ []) (sym taken.0) ∙ sym (map-push seat_at desks desk) in
+          let pushed : gone ++ Some t ∷ [] ≡ map seat_at (desks ++ desk ∷ []) = ap (λ o. gone ++ o ∷ []) (sym taken.0) ∙ sym (map-append seat_at desks (desk ∷ [])) in
           record {
             others = others;
             all = are.all ∙ ap (λ (os : List (Option (Token D))). gone ++ os) is ∙ sym (append_assoc gone (Some t ∷ []) others) ∙ ap (λ (os : List (Option (Token D))). os ++ others) pushed;
@@ -121,13 +106,13 @@ module _ {D : Type 0} (whole : List (Desk D)) (old : SeatsOf D) (taken : AreTake
     Has = (seat : Token D) × (desk.seat ≡ Some seat) × (number_in seat ≡ length rest) × (seat.table ≡ old.table) × (seat.view.terms ≡ old.terms)
 
     has : Has
-    has = taken.each (length rest) desk (ap (λ ds. slice_get ds (length rest)) all ∙ stands_behind rest desk are.given)
+    has = taken.each (length rest) desk (ap (λ ds. slice_get ds (length rest)) all ∙ get-append_right rest (desk ∷ are.given) 0 (length rest) (omega arith))
 
     pub has_seat : desk.seat ≡ None → ⊥
     has_seat none = none-some has.0 (sym none ∙ has.1)
 
     seats_are : now.seats ≡ out_before (map seat_at rest ++ desk.seat ∷ []) (map seat_at are.given)
-    seats_are = ap (λ (s : SeatsOf D). s.seats) are.back ∙ ap (λ ds. out_before ds (map seat_at are.given)) (ap (map seat_at) pops ∙ map-push seat_at rest desk)
+    seats_are = ap (λ (s : SeatsOf D). s.seats) are.back ∙ ap (λ ds. out_before ds (map seat_at are.given)) (ap (map seat_at) pops ∙ map-append seat_at rest (desk ∷ []))
 
     module _ (seat : Token D) (there : desk.seat ≡ Some seat) where
       same : has.0 ≡ seat
@@ -152,7 +137,7 @@ module _ {D : Type 0} (whole : List (Desk D)) (old : SeatsOf D) (taken : AreTake
 
   pub all_cleared : (left : List (Desk D)) (now : SeatsOf D) (turns back : List (Vec Turn Global)) → AreCleared whole left old now (map (λ v. v.items) turns) → length left ≡ 0 → back ≡ reverse turns → map (λ v. v.items) back ≡ map turns_at whole
   all_cleared left now turns back are none is =
-      ap (map (λ v. v.items)) is ∙ map-reverse (λ v. v.items) turns ∙ ap reverse are.turns ∙ reverse-reverse (map turns_at are.given) ∙ ap (map turns_at) (sym (are.all ∙ ap (λ ds. ds ++ are.given) (empty left none)))
+      ap (map (λ v. v.items)) is ∙ sym (reverse-map (λ v. v.items) turns) ∙ ap reverse are.turns ∙ reverse-reverse (map turns_at are.given) ∙ ap (map turns_at) (sym (are.all ∙ ap (λ ds. ds ++ are.given) (empty left none)))
 
 -- ---- marks
 
@@ -173,7 +158,7 @@ all_filled whole done (o ∷ others) is le = absurd (omega (arith, le, ap length
 -- the next caller's turns
 pub next_own : (whole done others : List (List Turn)) (d : List Turn) → whole ≡ done ++ others → length done < length whole → (rest : List (List Turn)) × (others ≡ get_or whole (length done) d ∷ rest)
 next_own whole done [] d is lt = absurd (omega (arith, lt, ap length (is ∙ append-nil done)))
-next_own whole done (o ∷ others) d is lt = (others, ap (λ own. own ∷ others) (sym (get_or_from_slice_get whole (length done) o d (ap (λ xs. slice_get xs (length done)) is ∙ stands_behind done o others))))
+next_own whole done (o ∷ others) d is lt = (others, ap (λ own. own ∷ others) (sym (get_or_from_slice_get whole (length done) o d (ap (λ xs. slice_get xs (length done)) is ∙ get-append_right done (o ∷ others) 0 (length done) (omega arith)))))
 
 -- one more mark of a caller
 pub copied_one : (ms : List (List Mark)) (c : ℕ) (own : List Mark) (m : Mark) → c < length ms
@@ -197,7 +182,7 @@ one_more old now new c own k turn m lt inside is read marked added =
     let next : take (suc k) own ≡ take k own ++ turn ∷ [] = take-suc own k turn inside ∙ ap (λ t. take k own ++ t ∷ []) (sym read) in
     let after : suc k ≡ k + 1 = omega arith in
     added ∙ (λ i. record { turns = (is i).turns; marks = set (is i).marks c (marks_of (is i) c ++ marked i ∷ []) }) ∙ ap (λ ms. record old { marks = ms }) (copied_one old.marks c (marks_in (take k own)) (mark_of turn) lt)
-    ∙ ap (with_marks old c) (sym (map-push mark_of (take k own) turn) ∙ ap marks_in (sym next) ∙ ap (λ n. marks_in (take n own)) after)
+    ∙ ap (with_marks old c) (sym (map-append mark_of (take k own) (turn ∷ [])) ∙ ap marks_in (sym next) ∙ ap (λ n. marks_in (take n own)) after)
 
 -- the marks of the first so many callers are copied
 pub record AreFilled (whole : List (List Turn)) (old now : MarkLists) (k c : ℕ) : Type 0 where
@@ -245,7 +230,7 @@ module _ (whole : List (List Turn)) (old now : MarkLists) (k c : ℕ) (are : Are
     done = are.done ++ own ∷ [];
     others = next.0;
     all = are.all ∙ ap (λ os. are.done ++ os) others_are ∙ sym (append_assoc are.done (own ∷ []) next.0);
-    at = one_longer are.done own ∙ ap (λ n. n + 1) are.at;
+    at = length-append are.done (own ∷ []) ∙ ap (λ n. n + 1) are.at;
     caller = ap (λ n. n + 1) are.caller;
     marks = copied ∙ (λ i. record { turns = (are.marks i).turns; marks = set (filled i) (here i) (get_or (filled i) (here i) [] ++ marks_in own) }) ∙ ap (λ ms. record old { marks = ms }) (one_filled are.done next.0 own);
   }

@@ -1,10 +1,10 @@
 -- A caller's turns, one more at a time.
-use Rattle.std.proofs.Common.{◌≡◌, ℕ, zero, suc, ◌+◌, ◌<◌, ◌≤◌, List, [], ◌∷◌, ◌++◌, map, length, Some, vec_capacity, ap, sym, refl, ◌∙◌, subst, arith}
+use Rattle.std.proofs.Common.{◌≡◌, ℕ, zero, suc, ◌+◌, ◌<◌, ◌≤◌, List, [], ◌∷◌, ◌++◌, length, Some, vec_capacity, ap, sym, ◌∙◌, subst, length-append}
 use Rattle.std.specs.Prelude.{slice_get}
+use Rattle.std.proofs.lemmas.List.{map-append}
 use Rattle.std.proofs.lemmas.Option.{none-some, same_Some}
 use Rattle.amoebot_state.specs.declared.verdict.Verdict.{Verdict}
 use Rattle.amoebot_state.specs.Zones.{Shown}
-use Rattle.claim_core.specs.declared.marks.Mark.{Mark}
 use Rattle.claim_core.specs.declared.state.Caller.{Caller}
 use Rattle.claim_core.specs.Turns.{CallerLists, bot_of}
 use Rattle.claim_core.specs.Machine.{Setup}
@@ -17,7 +17,6 @@ use Rattle.activation.specs.Answers.{HasAnswered, caller_of, turn_of, mark_of}
 use Rattle.turn_workers.specs.declared.workers.Desk.{Desk}
 use Rattle.turn_workers.specs.Turns.{marks_in}
 use Rattle.turn_workers.specs.Workers.{HasMade, made}
-use Rattle.turn_workers.proofs.Gathering.{one_longer, map-push}
 
 -- an element of a list with one more at its end
 pushed_at : {A : Type 0} (P : ℕ → A → Type 0) (xs : List A) (x : A) → ((k : ℕ) (y : A) → slice_get xs k ≡ Some y → P k y) → P (length xs) x → (k : ℕ) (y : A) → slice_get (xs ++ x ∷ []) k ≡ Some y → P k y
@@ -62,8 +61,8 @@ module _ {D : Type 0} (verdict : D → Shown → Verdict) (f : FieldOf D) (c t :
     number = answered.number ∙ number;
     doing =
         answered.gains ∙ (λ i. at_next (run_is i) (sym is_next i) ((stands i).marks ++ mark_of answer ∷ []))
-        ∙ ap (made (setup verdict f.terms) (t + 1)) (sym (ap marks_in pushed ∙ map-push mark_of old.turns.items answer));
-    count = ap length pushed ∙ one_longer old.turns.items answer ∙ ap (λ n. n + 1) before.count;
+        ∙ ap (made (setup verdict f.terms) (t + 1)) (sym (ap marks_in pushed ∙ map-append mark_of old.turns.items (answer ∷ [])));
+    count = ap length pushed ∙ length-append old.turns.items (answer ∷ []) ∙ ap (λ n. n + 1) before.count;
     room = room;
     each = λ k a e.
         pushed_at (λ n b. (caller_of b ≡ c) × (turn_of b ≡ n)) old.turns.items answer before.each

@@ -1,16 +1,11 @@
 -- Seats that are taken one after another, and given back.
 use Rattle.std.proofs.Common.{◌≡◌, ℕ, zero, suc, ◌<◌, ◌↔◌, List, [], ◌∷◌, ◌++◌, map, length, set, Option, Some, None, inl, inr, ap, sym, refl, ◌∙◌, subst, arith}
-use Rattle.std.specs.Prelude.{slice_get, slice_index_or, IfSome}
+use Rattle.std.specs.Prelude.{slice_get, IfSome}
 use Rattle.std.specs.List.{All}
 use Rattle.std.proofs.lemmas.Bool.{cases_lt}
 use Rattle.std.proofs.lemmas.Option.{none-some, same_Some, slice_get_within, get_or_from_slice_get}
 use Rattle.claim_rule.specs.Tokens.{Token, number_in}
 use Rattle.claim_rule.specs.Seating.{SeatsOf, IsFirst}
-
--- what stands behind others
-pub stands_behind : {A : Type 0} (left : List A) (x : A) (given : List A) → slice_get (left ++ x ∷ given) (length left) ≡ Some x
-stands_behind [] x given = refl
-stands_behind (y ∷ left) x given = stands_behind left x given
 
 module _ {A : Type 0} where
   -- places whose seats are out, before others

@@ -1,5 +1,6 @@
-use Rattle.std.proofs.Common.{◌≡◌, ◌+◌, ◌≤◌, ◌++◌, ◌∷◌, [], map, length, vec_capacity, Some, arith, ap, sym, ◌∙◌, subst}
-use Rattle.turn_workers.proofs.Gathering.{AreCleared, none_cleared, has_seat, is_of, is_given_out, one_cleared, all_cleared, map-push, one_longer}
+use Rattle.std.proofs.lemmas.List.{map-append}
+use Rattle.std.proofs.Common.{◌≡◌, ◌+◌, ◌∷◌, [], map, length, arith, ap, sym, ◌∙◌, subst, length-append}
+use Rattle.turn_workers.proofs.Gathering.{AreCleared, none_cleared, has_seat, is_of, is_given_out, one_cleared, all_cleared}
 use Rattle.turn_workers.proofs.working.clear.Goals.{in-Some-seat, in_default-seat}
 use Rattle.turn_workers.proofs.working.clear.Goals as goal
 
@@ -20,9 +21,9 @@ give-requires-clause-out g c = λ κs within.
 pub loop-seat-preserved : goal.loop-seat-preserved
 loop-seat-preserved g c =
     let kept = map (λ v. v.items) c.loop-seat.turns.items in
-    let fewer : length c.loop-seat.desks.items ≡ length c.pop.new.self.items + 1 = ap length c.in-Some.ensures.items ∙ one_longer c.pop.new.self.items c.in-Some.field-0 in
-    let more : length c.push_reserved.new.self.items ≡ length c.loop-seat.turns.items + 1 = ap length c.push_reserved.ensures.items ∙ one_longer c.loop-seat.turns.items c.in-Some.field-0.turns in
-    let pushed = ap (map (λ v. v.items)) c.push_reserved.ensures.items ∙ map-push (λ v. v.items) c.loop-seat.turns.items c.in-Some.field-0.turns in (
+    let fewer : length c.loop-seat.desks.items ≡ length c.pop.new.self.items + 1 = ap length c.in-Some.ensures.items ∙ length-append c.pop.new.self.items (c.in-Some.field-0 ∷ []) in
+    let more : length c.push_reserved.new.self.items ≡ length c.loop-seat.turns.items + 1 = ap length c.push_reserved.ensures.items ∙ length-append c.loop-seat.turns.items (c.in-Some.field-0.turns ∷ []) in
+    let pushed = ap (map (λ v. v.items)) c.push_reserved.ensures.items ∙ map-append (λ v. v.items) c.loop-seat.turns.items (c.in-Some.field-0.turns ∷ []) in (
       elim c.match-seat.branch [
         | in-Some-seat w ↦
             subst (AreCleared c.args.desks.items c.pop.new.self.items c.args.seats.now c.match-seat.seats) (sym pushed)

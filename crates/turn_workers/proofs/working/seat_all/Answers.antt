@@ -1,6 +1,5 @@
-use Rattle.std.proofs.Common.{◌≡◌, ◌<◌, ◌≤◌, ◌+◌, length, arith, ap, sym, ◌∙◌, subst, ◌++◌, ◌∷◌, []}
-use Rattle.turn_workers.specs.Workers.{AreClear}
-use Rattle.turn_workers.proofs.Gathering.{AreSeated, none_seated, one_seated, all_seated, one_longer}
+use Rattle.std.proofs.Common.{◌<◌, ◌≤◌, ◌+◌, length, arith, ap, sym, ◌∙◌, subst, length-append}
+use Rattle.turn_workers.proofs.Gathering.{AreSeated, none_seated, one_seated, all_seated}
 use Rattle.turn_workers.proofs.working.seat_all.Goals as goal
 
 -- src/working.rt
@@ -16,7 +15,7 @@ loop-caller-preserved g c =
             none = c.in_ok-reserve_exact.ensures.items ∙ c.new-own.ensures.items;
             room = omega (arith, c.in_ok-reserve_exact.ensures.ok);
           })),
-      ap length pushed ∙ one_longer c.loop-caller.desks.items _ ∙ ap (λ n. n + 1) c.loop-caller.invariant.1,
+      ap length pushed ∙ length-append c.loop-caller.desks.items _ ∙ ap (λ n. n + 1) c.loop-caller.invariant.1,
     )
 
 pub returns-clause-out : goal.returns-clause-out
