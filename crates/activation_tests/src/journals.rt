@@ -95,7 +95,7 @@ fn the_journal_is_found_taken_until_the_other_caller_has_committed(
     let world = world_in(rt.alloc(), 12, 12, &[standing(2, 2, 0), standing(8, 8, 0)])?;
     let lists = lists_of(rt.alloc(), 1, &world, &[&[0], &[1]])?;
     let (field, mut seats) = field_of(rt.alloc(), &Marker, world, &lists)?;
-    let zero = seat_of(&rt, &field, &mut seats, 0)?;
-    let one = seat_of(&rt, &field, &mut seats, 1)?;
+    let zero = seat_of(&field, &mut seats, 0)?;
+    let one = seat_of(&field, &mut seats, 1)?;
     take_turns(&rt, &field, &lists, zero, one)
 }

@@ -205,8 +205,8 @@ fn with_both_seats<R: Wait + Abort>(
     ensures of { OnOk result (AreOf field.now seats.new) }
     ensures there { OnOk result (map is_some seats.new.seats ≡ map is_some seats.old.seats) }
 {
-    let zero = seat_of(rt, field, seats, 0)?;
-    let one = seat_of(rt, field, seats, 1)?;
+    let zero = seat_of(field, seats, 0)?;
+    let one = seat_of(field, seats, 1)?;
     let (zero_after, one_after) = by_order(rt, field, lists, expected, order, zero, one)?;
     seats.give(one_after);
     seats.give(zero_after);
@@ -302,6 +302,6 @@ fn a_turn_that_fails_leaves_its_zone_free(rt: HostRuntime) -> Result<(), Fail> {
     let lists = lists_of(alloc, 2, &world, &[&[0]])?;
     let report = machine_leaves(alloc, &Blocked, &world, &lists, &[(0, 38)])?;
     let (field, mut seats) = field_of(alloc, &Blocked, world, &lists)?;
-    let seat = seat_of(&rt, &field, &mut seats, 0)?;
+    let seat = seat_of(&field, &mut seats, 0)?;
     fails_twice(&rt, &field, &lists, &report.turns, seat)
 }

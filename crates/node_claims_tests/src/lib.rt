@@ -1,6 +1,8 @@
 //! Tests of `claim_rule` and `node_claims`: claims of whole zones, refusals, and fields that are closed after turns.
 #![tactic(auto)]
 
+mod fields;
+#[cfg(test)]
 mod fixtures;
 #[cfg(test)]
 mod rows;
@@ -11,4 +13,4 @@ mod walks;
 #[cfg(test)]
 mod zones;
 
-pub use fixtures::{field_of, seat_of};
+pub use fields::{field_of, seat_of};

@@ -3,9 +3,8 @@ ghost use Rattle.std.specs.List.{All};
 ghost use Rattle.claim_rule.specs.Seating.{AreOf};
 ghost use Rattle.claim_rule.specs.Tokens.{IsOf, IsToLook, number_in};
 
-use crate::fixtures::{
-    begun, claim, claimed_whole, field_of, freed, none_left, seat_of, whole, won,
-};
+use crate::fields::{field_of, seat_of};
+use crate::fixtures::{begun, claim, claimed_whole, freed, none_left, whole, won};
 use amoebot_state::{CellName, World};
 use claim_core::{Journal, Lists};
 use claim_rule::{Claimed, Field, Refused, Seat, Seats};
@@ -123,8 +122,8 @@ fn with_both_seats(
     ensures of { OnOk result (AreOf field.now seats.new) }
     ensures there { OnOk result (map is_some seats.new.seats ≡ map is_some seats.old.seats) }
 {
-    let zero = seat_of(rt, field, seats, 0)?;
-    let one = seat_of(rt, field, seats, 1)?;
+    let zero = seat_of(field, seats, 0)?;
+    let one = seat_of(field, seats, 1)?;
     none_left(seats)?;
     let (zero_after, one_after) = takes_turns(rt, field, lists, zero, one)?;
     seats.give(one_after);
@@ -193,8 +192,8 @@ fn is_refused_at(rt: &impl Abort, alloc: Global, count: usize, cell: CellName) -
     let world = world_in(alloc, 8, 8, &[standing(2, 3, 0), standing(3, 3, 0)])?;
     let lists = lists_of(alloc, 1, &world, &[&[0], &[1]])?;
     let (field, mut seats) = field_of(alloc, &Idler, world, &lists)?;
-    let zero = seat_of(rt, &field, &mut seats, 0)?;
-    let one = seat_of(rt, &field, &mut seats, 1)?;
+    let zero = seat_of(&field, &mut seats, 0)?;
+    let one = seat_of(&field, &mut seats, 1)?;
     refuses_at(rt, &field, &lists, zero, one, count, cell)
 }
 

@@ -1,6 +1,6 @@
 ghost use Rattle.std.specs.Prelude.{◌≡◌, ◌≤◌, OnOk};
 
-use crate::fixtures::field_of;
+use crate::fields::field_of;
 use claim_rule::Seats;
 use small_worlds::{Idler, lists_of, standing, world_in};
 use std::process::Abort;

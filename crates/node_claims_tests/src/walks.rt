@@ -5,7 +5,8 @@ ghost use Rattle.claim_core.specs.declared.state.Phase.TheVariants.{Refusing};
 ghost use Rattle.claim_rule.specs.Tokens.{IsOf, doing};
 ghost use Rattle.node_claims_tests.specs.Walks.{IsWalker};
 
-use crate::fixtures::{begun, field_of, seat_of, whole};
+use crate::fields::{field_of, seat_of};
+use crate::fixtures::{begun, whole};
 use amoebot_state::{CellName, World};
 use claim_core::{Core, Lists, Look, Mark, Phase};
 use claim_rule::{Field, Freeing, Held, Stopped, Tag, end, free_last, look, refuse, win};
@@ -263,8 +264,8 @@ fn agree(rt: &impl Abort, alloc: Global, count: u32, word: u32) -> Result<(), Fa
     let core = core_of(alloc)?;
     let (world, lists) = two_beside(alloc)?;
     let (field, mut seats) = field_of(alloc, &Idler, world, &lists)?;
-    let zero = begun(&field, &lists, seat_of(rt, &field, &mut seats, 0)?)?;
-    let one = begun(&field, &lists, seat_of(rt, &field, &mut seats, 1)?)?;
+    let zero = begun(&field, &lists, seat_of(&field, &mut seats, 0)?)?;
+    let one = begun(&field, &lists, seat_of(&field, &mut seats, 1)?)?;
     agrees(rt, &field, core, (Ok(zero), Ok(one)), count, word)
 }
 

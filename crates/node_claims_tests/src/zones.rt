@@ -3,7 +3,8 @@ ghost use Rattle.std.specs.List.{All};
 ghost use Rattle.amoebot_state.specs.Refusals.{IsPlain};
 ghost use Rattle.claim_rule.specs.Tokens.{IsOf};
 
-use crate::fixtures::{claimed_whole, field_of, freed, seat_of};
+use crate::fields::{field_of, seat_of};
+use crate::fixtures::{claimed_whole, freed};
 use amoebot_state::{Bot, CellName};
 use claim_core::Lists;
 use claim_rule::{Field, Seat};
@@ -71,7 +72,7 @@ fn has_zone(rt: &impl Abort, alloc: Global, bots: &[Bot], zone: &[CellName]) -> 
     let world = world_in(alloc, 8, 8, bots)?;
     let lists = lists_of(alloc, 1, &world, &[&[0]])?;
     let (field, mut seats) = field_of(alloc, &Idler, world, &lists)?;
-    let seat = seat_of(rt, &field, &mut seats, 0)?;
+    let seat = seat_of(&field, &mut seats, 0)?;
     is_zone(rt, &field, &lists, seat, zone)
 }
 
