@@ -1,7 +1,7 @@
-use Rattle.std.proofs.Common.{◌+◌, length, ap, sym, subst, ◌∙◌}
+use Rattle.std.proofs.Common.{◌+◌, ◌∷◌, [], length, length-append, ap, sym, subst, ◌∙◌}
 use Rattle.std.specs.List.{All}
+use Rattle.std.proofs.lemmas.List.Elements.{All-push}
 use Rattle.amoebot_state.specs.Refusals.{IsPlain}
-use Rattle.turn_workers.proofs.Gathering.{All-push, one_longer}
 use Rattle.turn_workers_tests.proofs.meeting.scattered.Goals as goal
 
 -- src/meeting.rt
@@ -10,5 +10,5 @@ loop-number-preserved c =
     let pushed = c.in_ok-push.ensures.items in
     let bots = c.loop-number.bots.items in (
       subst (All IsPlain) (sym pushed) (All-push IsPlain bots c.standing.result c.loop-number.invariant.0 c.standing.ensures),
-      ap length pushed ∙ one_longer bots c.standing.result ∙ ap (λ n. n + 1) c.loop-number.invariant.1,
+      ap length pushed ∙ length-append bots (c.standing.result ∷ []) ∙ ap (λ n. n + 1) c.loop-number.invariant.1,
     )
