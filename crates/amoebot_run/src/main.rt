@@ -3,6 +3,8 @@
 
 mod run;
 #[cfg(test)]
+mod reports;
+#[cfg(test)]
 mod samples;
 #[cfg(test)]
 mod tests;

@@ -328,6 +328,27 @@ pub const ONE_FOR_SIXTEEN: &[&str] = &[
     "list 0\nlist 0\nlist 0\nlist 0\nlist 0\nlist 0\nlist 0\nlist 0\nend\n",
 ];
 
+/// Worlds with few amoebots whose zones meet, in the lists of two, four and sixteen callers.
+pub const MEETINGS: [&[&str]; 3] = [
+    // A light spreads from one amoebot to the three others.
+    &[
+        "amoebot 1\nprogram\nvar lit 1\n\
+        action light when lit = 0 and any p in ports ( p . lit = 1 ) do lit := 1\nend\n",
+        "shape\narea 0 0 8 8\n",
+        "bot 2 3 2 3 0 + 1\nbot 3 3 3 3 0 + 0\nbot 4 3 4 3 0 + 0\nbot 4 2 4 2 0 + 0\n",
+        "end\nlists\nturns 6\nlist 3 2 1\nlist 1 2 3\nend\n",
+    ],
+    // Two amoebots want one node, one has the border before it, and one has that one before it.
+    &[
+        "amoebot 1\nprogram\naction out when contracted move expand head 0\n\
+        action back when expanded move contract tail\nend\n",
+        "shape\narea 0 0 8 8\n",
+        "bot 2 3 2 3 0 +\nbot 4 3 4 3 3 +\nbot 7 4 7 4 0 +\nbot 6 4 6 4 0 +\n",
+        "end\nlists\nturns 6\nlist 0 2\nlist 1\nlist 3 0 1\nlist 2 3\nend\n",
+    ],
+    ONE_FOR_SIXTEEN,
+];
+
 /// Two amoebots far from each other, each in the list of one caller.
 pub const TWO_APART: &[&str] = &[OUT, FAR, "lists\nturns 3\nlist 0\nlist 1\nend\n"];
 
@@ -647,7 +668,7 @@ pub static MEASURED: [Row; 5] = [
 ];
 
 /// Programs of several actions, by one list or by two callers.
-pub static WHOLE_PROGRAMS: [Row; 4] = [
+pub static WHOLE_PROGRAMS: [Row; 5] = [
     // Two amoebots gather round a seed.
     (
         "run",
@@ -716,6 +737,28 @@ pub static WHOLE_PROGRAMS: [Row; 4] = [
             turn 0 33 idle 13\nturn 0 34 idle 13\nturn 0 35 done 13\nturn 0 36 idle 14\n\
             turn 0 37 idle 14\nturn 0 38 done 14\nturn 0 39 idle 15\nturn 0 40 idle 15\n\
             turn 0 41 done 15\nturn 0 42 idle 16\nturn 0 43 idle 16\nturn 0 44 done 16\nend\n",
+        ],
+    ),
+    // The amoebots of a ring round an empty node stay candidates.
+    (
+        "run",
+        &[
+            "amoebot 1\nprogram\nguard off\nvar cand 1\nvar leader 1\naction lead\n\
+            when cand = 1 and leader = 0 and not any p in ports ( p . cand = 1 )\ndo leader := 1\n\
+            action erode\nwhen cand = 1 and count p in ports ( p . cand = 1\n\
+             and not ( linked turn p 1 and turn p 1 . cand = 1 ) ) = 1\ndo cand := 0\nend\nshape\n\
+            area 0 0 8 8\nbot 4 3 4 3 0 + 1 0\nbot 3 4 3 4 0 + 1 0\nbot 2 4 2 4 0 + 1 0\n\
+            bot 2 3 2 3 0 + 1 0\nbot 3 2 3 2 0 + 1 0\nbot 4 2 4 2 0 + 1 0\n\
+            end\nlists\nturns 6\nlist 0 1 2 3 4 5\nend\n",
+        ],
+        Done,
+        Some(0),
+        &[
+            NO_ENTRY,
+            "final\narea 0 0 8 8\nbot 4 3 4 3 0 + 1 0\nbot 3 4 3 4 0 + 1 0\nbot 2 4 2 4 0 + 1 0\n\
+            bot 2 3 2 3 0 + 1 0\nbot 3 2 3 2 0 + 1 0\nbot 4 2 4 2 0 + 1 0\nend\n",
+            "turns\nturn 0 0 idle 0\nturn 0 1 idle 0\nturn 0 2 idle 0\nturn 0 3 idle 0\n\
+            turn 0 4 idle 0\nturn 0 5 idle 0\nend\n",
         ],
     ),
     // Each amoebot of a ring gives up, and the one in the middle leads.
