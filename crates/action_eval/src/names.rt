@@ -6,14 +6,14 @@ ghost use Rattle.std.specs.Str.{bytes_eq};
 ghost use Rattle.amoebot_state.specs.Limits.{most_vars};
 ghost use Rattle.action_tree.specs.Limits.{most_names};
 
-use action_tree::{Var, Word};
+use action_tree::{MOST_NAMES, NameText, Var, Word};
 use amoebot_state::{End, Port};
-use arrayvec::{ArrayString, ArrayVec};
+use arrayvec::ArrayVec;
 
 /// A name in force, and the port that it stands for.
 #[derive(Clone, Copy, Default)]
 pub struct Bound {
-    pub text: ArrayString<24>,
+    pub text: NameText,
     pub port: Port,
 }
 
@@ -21,7 +21,7 @@ pub struct Bound {
 #[derive(Drop)]
 pub struct Names<'p> {
     pub vars: &'p [Var],
-    pub bound: ArrayVec<Bound, 4>,
+    pub bound: ArrayVec<Bound, MOST_NAMES>,
     ghost few: { length vars.now ≤ most_vars },
 }
 

@@ -12,7 +12,7 @@ ghost use Rattle.journal_text.specs.Readers as reader;
 ghost use Rattle.journal_text.specs.Views as view;
 
 use crate::parts::{read_bot, read_end, read_node, read_port, read_word, read_word_within};
-use amoebot_state::{Bot, Cell, CellName, End, Entry, Moved, Patch, Port};
+use amoebot_state::{Bot, Cell, CellName, End, Entry, MOST_PAIRS, Moved, Patch, Port};
 use arrayvec::ArrayVec;
 use std::alloc::Global;
 use std::marker::Model;
@@ -20,9 +20,6 @@ use text_tokens::{ReadRefusal, RefusalKind, TokenKind, Tokens, number, refused};
 use tri_lattice::Node;
 
 const MOST_ENTRIES: u32 = 65_536;
-
-/// The most pairs of an entry.
-const MOST_PAIRS: usize = 10;
 
 const LAST_CALLER: u32 = 15;
 
