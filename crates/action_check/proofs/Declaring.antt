@@ -10,7 +10,6 @@ use Rattle.action_tree.specs.declared.program.Action as code_action
 use Rattle.action_tree.specs.Views.{name_of, literal_of, var_of, action_of}
 use Rattle.action_tree.specs.Writable.{action_names, is_action}
 use Rattle.action_tree.proofs.Conditions.{left_of, right_of}
-use Rattle.action_check.specs.Limits.{most_value}
 use Rattle.action_check.specs.Scopes.{Scope, HasRoom}
 use Rattle.action_check.specs.Faults.{declared_faults, range_faults, action_faults, vars_faults, actions_faults, names_of_vars}
 use Rattle.action_check.specs.Told.{first_of, TellsFirst}

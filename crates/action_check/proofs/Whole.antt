@@ -2,11 +2,11 @@
 use Rattle.std.proofs.Common.{◌≡◌, ◌≤◌, true, List, [], ◌∷◌, ◌++◌, length, ap, refl, arith}
 use Rattle.std.specs.List.{All, list_all}
 use Rattle.std.proofs.lemmas.List.Elements.{All-nil, All-cons, All-head, All-tail}
+use Rattle.amoebot_state.specs.Limits.{most_value}
 use Rattle.action_tree.specs.Trees.{Var, Action, Program}
 use Rattle.action_tree.specs.Limits.{most_names}
 use Rattle.action_tree.specs.Writable.{action_names, is_action, is_writable}
 use Rattle.action_tree.proofs.Conditions.{left_of, right_of}
-use Rattle.action_check.specs.Limits.{most_value}
 use Rattle.action_check.specs.Scopes.{Scope, HasRoom}
 use Rattle.action_check.specs.Faults.{vars_faults, actions_faults, names_of_vars, names_of_actions, at_start, AreRulesKept}
 use Rattle.action_check.specs.Rules.{IsWithin, ActionKept, ProgramKept}

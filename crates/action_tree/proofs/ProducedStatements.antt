@@ -2,8 +2,9 @@
 use Rattle.std.proofs.Common.{◌≡◌, ℕ, suc, zero, true, ◌&&◌, ◌≤◌, List, [], ◌∷◌, length, arith}
 use Rattle.std.specs.List.{list_all}
 use Rattle.std.proofs.lemmas.Bool.{leb-true}
+use Rattle.amoebot_state.specs.Limits.{most_vars}
 use Rattle.action_tree.specs.Trees.{Guard, Sum, Stmt, put, put_of, let_be, if_then, for_each, Stmts, no_stmts, stmt_then, Move, no_move, through, contract, Var, Action, Program}
-use Rattle.action_tree.specs.Limits.{most_levels, most_names, most_elements, most_vars, most_actions}
+use Rattle.action_tree.specs.Limits.{most_levels, most_names, most_elements, most_actions}
 use Rattle.action_tree.specs.Writable.{guard_levels, guard_names, is_guard, sum_levels, sum_names, is_sum, named, is_count_from, behind, stmt_levels, stmts_levels, stmt_names, stmts_names, stmt_count, move_levels, move_names, action_levels, action_names, is_stmt, are_stmts, is_move, is_var, is_action, is_writable}
 use Rattle.action_tree.specs.Productions.{OfExpr, OfSum, after, after_all, OfStmt, put_own, put_there, let_name, if_fi, for_od, OfOptional, left_out, given, OfStmts, one_and_more, OfMore, no_more, and_more, OfMove, nowhere, moved_through, contracted, OfAction, OfVars, no_var, and_var, OfActions, no_action, and_action, OfProgram}
 use Rattle.action_tree.proofs.Conditions.{left_of, right_of, from, upto}

@@ -2,11 +2,12 @@
 -- stands: how many more levels may be opened, and how many more names may be bound.
 use Rattle.std.specs.Prelude.{◌≡◌, ℕ, suc, Bool, true, List, [], ◌∷◌}
 use Rattle.amoebot_state.specs.declared.bot.End.{End}
+use Rattle.amoebot_state.specs.Limits.{most_vars}
 use Rattle.action_tree.specs.declared.expression.PortSet.{PortSet}
 use Rattle.action_tree.specs.declared.expression.Cmp.{Cmp}
 use Rattle.action_tree.specs.Trees.{Name, Literal, DirTerm, fixed, held, Atom, Quantifier, PortTest, Side, PortMove, Guard, atom, negation, conjunction, disjunction, quantified, tested, comparison, Guards, no_guards, guard_then, Sum, no_terms, term_then, Term, number, own, of_port, count, direction, inner, mod6, PortExpr, bound, at_end, turned, first, Stmt, put, put_of, let_be, if_then, for_each, Stmts, no_stmts, stmt_then, Move, no_move, through, contract, Var, Action, Program}
 use Rattle.action_tree.specs.Words.{is_name, is_number}
-use Rattle.action_tree.specs.Limits.{most_levels, most_names, most_further, most_vars, most_actions}
+use Rattle.action_tree.specs.Limits.{most_levels, most_names, most_further, most_actions}
 
 -- a NAME, and a NUMBER
 abbrev pub IsName : Name → Type 0

@@ -3,9 +3,10 @@
 -- are those of a text.
 use Rattle.std.specs.Prelude.{ℕ, suc, max, Bool, true, false, ◌&&◌, nat_le, length}
 use Rattle.std.specs.List.{list_all}
+use Rattle.amoebot_state.specs.Limits.{most_vars}
 use Rattle.action_tree.specs.Trees.{Name, Literal, DirTerm, fixed, held, Guard, atom, negation, conjunction, disjunction, quantified, tested, comparison, Guards, no_guards, guard_then, Sum, no_terms, term_then, Term, number, own, of_port, count, direction, inner, mod6, PortExpr, bound, at_end, turned, first, Stmt, put, put_of, let_be, if_then, for_each, Stmts, no_stmts, stmt_then, Move, no_move, through, contract, Var, Action, Program}
 use Rattle.action_tree.specs.Words.{is_name, is_number}
-use Rattle.action_tree.specs.Limits.{most_levels, most_names, most_elements, most_vars, most_actions}
+use Rattle.action_tree.specs.Limits.{most_levels, most_names, most_elements, most_actions}
 
 -- ---- Levels. `(`, `not`, `turn`, `if` and `for` each open one, which lasts to the end of their construct.
 

@@ -1,8 +1,9 @@
-ghost use Rattle.std.specs.Prelude.{◌≡◌, ◌≢◌, ◌<◌, ◌≤◌, ◌+◌, ◌^◌, ◌↔◌, ◌⊎◌, ℕ, true, List, map, length, IsSome, IfSome, IfOk, Option, Some, None};
+ghost use Rattle.std.specs.Prelude.{◌≡◌, ◌≢◌, ◌≤◌, ◌↔◌, ◌⊎◌, ℕ, true, List, map, length, IsSome, IfSome, IfOk, Option, Some, None};
 ghost use Rattle.std.specs.List.{All, list_any};
 ghost use Rattle.std.specs.String.{string_bytes};
 ghost use Rattle.outer_io.specs.Told.{Rose};
 ghost use Rattle.outer_io.specs.Writings.{WritesAll, WritesFront};
+ghost use Rattle.text_tokens.specs.Text.{IsCountable};
 ghost use Rattle.amoebot_state.specs.Configs.{bot_at};
 ghost use Rattle.claim_core.specs.declared.report.Report.{Report as ReportValue};
 ghost use Rattle.document_grammar.specs.Documents.{Contents, Holds};
@@ -280,7 +281,7 @@ fn outcome_of<R: Threads + Wait + Sync, G: Gate>(
     bytes: &[u8],
     gate: &G,
 ) -> Result<Outcome, NoMemory>
-    requires { length bytes.now + 1 < 2 ^ 32 }
+    requires { IsCountable bytes.now }
     ensures { IfOk result (IsOutcomeOf command bytes.now) }
 {
     let task = task_of(alloc, command, bytes)?;

@@ -14,7 +14,7 @@ mod world;
 mod zone;
 
 pub use bot::{ALL_PORTS, Bot, Chir, End, Port};
-pub use cell::{Cell, CellName, Patch};
+pub use cell::{CELL_ROOM, Cell, CellName, MOST_CELLS, MOST_PAIRS, Patch};
 pub use decider::{Decider, has_next, is_exact, touches_zone};
 pub use found::Found;
 pub use laws::{

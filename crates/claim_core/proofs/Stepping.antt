@@ -29,6 +29,7 @@ use Rattle.claim_core.specs.declared.machine.Seat.{Seat}
 use Rattle.claim_core.specs.declared.state.Phase.{Phase}
 use Rattle.claim_core.specs.declared.state.Phase.TheVariants as phase
 use Rattle.claim_core.specs.declared.state.Caller.{Caller}
+use Rattle.claim_core.specs.Limits.{most_turns}
 use Rattle.claim_core.specs.Turns.{CallerLists, MarkLists, Kept}
 use Rattle.claim_core.specs.Tags.{tag, tag_caller}
 use Rattle.claim_core.specs.declared.state.Look.{Look}
@@ -81,7 +82,7 @@ its_seat c i seat same inside read = record { same = same; inside = inside; read
 -- the core keeps what it keeps
 pub kept : {verdict : Shown → Verdict} {lists : CallerLists} {tags tags' : List ℕ} {world world' : Config} {journal journal' : Kept} {holder holder' : Option ℕ} {seats seats' : List Seat} {marks marks' : MarkLists} → IsCore verdict lists tags world journal holder seats marks → (c : ℕ)
     → journal'.first ≡ journal.first → state_of tags' world' journal' holder' seats' marks' ≡ next (record { verdict = verdict; world = journal.first; lists = lists }) c (state_of tags world journal holder seats marks)
-    → Run verdict journal'.first journal'.entries world' → marks'.turns ≡ lists.turns → length marks'.marks ≡ length seats' → unmarked lists.turns marks'.marks ≤ journal'.spare → length journal'.entries + unmarked lists.turns marks'.marks ≤ 65536
+    → Run verdict journal'.first journal'.entries world' → marks'.turns ≡ lists.turns → length marks'.marks ≡ length seats' → unmarked lists.turns marks'.marks ≤ journal'.spare → length journal'.entries + unmarked lists.turns marks'.marks ≤ most_turns
     → IsCore verdict lists tags' world' journal' holder' seats' marks'
 kept {verdict} {lists} {tags} {tags'} {world} {world'} {journal} {journal'} {holder} {holder'} {seats} {seats'} {marks} {marks'} is c first step run turns each room few = record {
   setup = subst (λ w. let g : Setup = record { verdict = verdict; world = w; lists = lists } in IsSetup g) (sym first) is.setup;

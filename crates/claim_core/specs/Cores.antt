@@ -14,6 +14,7 @@ use Rattle.claim_core.specs.declared.machine.Seat.{Seat}
 use Rattle.claim_core.specs.declared.state.Caller.{Caller}
 use Rattle.claim_core.specs.declared.state.Phase.{Phase}
 use Rattle.claim_core.specs.declared.state.Phase.TheVariants as phase
+use Rattle.claim_core.specs.Limits.{most_turns}
 use Rattle.claim_core.specs.Turns.{CallerLists, MarkLists, Kept}
 use Rattle.claim_core.specs.Cells.{values_of}
 use Rattle.claim_core.specs.Machine.{Setup, State, decided, looks, next, opening, after}
@@ -131,4 +132,4 @@ pub record IsCore (verdict : Shown → Verdict) (lists : CallerLists) (tags : Li
   pub turns : marks.turns ≡ lists.turns
   pub each : length marks.marks ≡ length seats
   pub room : unmarked lists.turns marks.marks ≤ journal.spare
-  pub few : length journal.entries + unmarked lists.turns marks.marks ≤ 65536
+  pub few : length journal.entries + unmarked lists.turns marks.marks ≤ most_turns

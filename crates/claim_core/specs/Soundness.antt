@@ -8,6 +8,7 @@ use Rattle.amoebot_state.specs.declared.cell.Cell.{Cell}
 use Rattle.amoebot_state.specs.declared.verdict.Entry.{Entry}
 use Rattle.amoebot_state.specs.declared.verdict.Verdict.{Verdict}
 use Rattle.amoebot_state.specs.declared.verdict.Verdict.TheVariants as verdict
+use Rattle.amoebot_state.specs.Limits.{most_bots}
 use Rattle.amoebot_state.specs.Pairs.{Pairs, cell_of, cell_value}
 use Rattle.amoebot_state.specs.Configs.{Config, IsValid, bot_at, value}
 use Rattle.amoebot_state.specs.Zones.{shown, zone}
@@ -71,7 +72,7 @@ AreBefore world b held n = (rest : List CellName) × (names held ++ n ∷ rest �
 -- what a run may be about: a valid world of at most 4,096 amoebots, lists of ids of amoebots of it, and a decider that keeps its laws
 pub record IsSetup (g : Setup) : Type 0 where
   pub valid : IsValid g.world
-  pub few : length g.world.bots ≤ 4096
+  pub few : length g.world.bots ≤ most_bots
   pub lists : AreLists g.lists
   pub bots : All (All (λ id. IsSome (bot_at g.world id))) g.lists.ids
   pub touches : TouchesZone g.verdict

@@ -22,7 +22,7 @@ use crate::marks::{Mark, Marks};
 use crate::report::Report;
 use crate::state::{Look, Phase};
 use amoebot_state::{
-    Cell, CellName, Decider, Entry, Found, NoMemory, Verdict, World, has_next, next_cell,
+    CELL_ROOM, Cell, CellName, Decider, Entry, Found, NoMemory, Verdict, World, has_next, next_cell,
     touches_zone,
 };
 use arrayvec::ArrayVec;
@@ -37,7 +37,7 @@ use tri_lattice::Area;
 struct Seat {
     turn: u32,
     phase: Phase,
-    held: ArrayVec<(CellName, Cell), 30>,
+    held: ArrayVec<(CellName, Cell), CELL_ROOM>,
 }
 
 impl Seat {

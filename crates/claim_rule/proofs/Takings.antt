@@ -13,6 +13,7 @@ use Rattle.amoebot_state.specs.declared.verdict.Change.{Change}
 use Rattle.amoebot_state.specs.declared.verdict.Verdict.{Verdict}
 use Rattle.amoebot_state.specs.Zones.{Shown}
 use Rattle.claim_core.specs.declared.state.Phase.TheVariants.{Taking, Committing}
+use Rattle.claim_core.specs.Limits.{most_turns}
 use Rattle.claim_core.specs.Turns.{Kept}
 use Rattle.claim_core.specs.Machine.{Setup, State, by_phase, acts, next, after}
 use Rattle.claim_core.specs.Machine as machine
@@ -137,7 +138,7 @@ module _ {D : Type 0} {verdict : D → Shown → Verdict} {z : Terms D} {s : Con
         mine_is : HasCommitted g new r.number r.committed (Some j)
         mine_is = record { entries = (mine table).committed.entries; found = (mine table).committed.found; taken = (refl, journal_stays g core new refl fewer j has.2) }
 
-        few : length new.journal + turns_left g new ≤ 65536
+        few : length new.journal + turns_left g new ≤ most_turns
         few = omega (arith, fewer, table.stands.few)
 
     by_holder : (o : Option ℕ) → core.holder ≡ o → Goes

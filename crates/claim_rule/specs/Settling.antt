@@ -8,6 +8,7 @@ use Rattle.amoebot_state.specs.declared.verdict.Verdict.{Verdict}
 use Rattle.amoebot_state.specs.Pairs.{Pairs}
 use Rattle.amoebot_state.specs.Zones.{Shown}
 use Rattle.claim_core.specs.declared.state.Phase.TheVariants.{Taking, Committing}
+use Rattle.claim_core.specs.Limits.{most_turns}
 use Rattle.claim_core.specs.Turns.{Kept}
 use Rattle.claim_core.specs.Machine.{next_of}
 use Rattle.claim_rule.specs.declared.views.Slot.TheVariants as slot
@@ -48,7 +49,7 @@ module _ {D : Type 0} where
     pub record HasStored (old new : Token D) (change : Change) (receipt : ReceiptOf) : Type 0 where
       pub now : new ≡ with_record old (with_commit (about verdict old.view) (record_in old) change receipt.place)
       pub told : receipt ≡ receipt_of (number_in old) (doing old).turn receipt.place
-      pub few : receipt.place < 65536
+      pub few : receipt.place < most_turns
 
     -- it holds its whole zone and the journal, as it was taken, whose slot is out, and empty; but for the journal it is as it was
     pub record IsTaken (m : Seated D) (c t b : ℕ) (a : Extent) (greatest : List ℕ) (pairs : Pairs) (change : Change) (j : Kept) : Type 0 where

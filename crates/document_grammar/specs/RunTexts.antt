@@ -2,9 +2,10 @@
 use Rattle.std.specs.Prelude.{◌≡◌, ◌<◌, ◌≤◌, ◌^◌, ℕ, List, ◌++◌, Some, length, codes}
 use Rattle.std.specs.List.{All}
 use Rattle.amoebot_state.specs.declared.verdict.Entry.{Entry}
+use Rattle.amoebot_state.specs.Limits.{most_vars}
 use Rattle.amoebot_state.specs.Configs.{Config}
+use Rattle.claim_core.specs.Limits.{most_callers, most_turns}
 use Rattle.claim_core.specs.Turns.{MarkLists}
-use Rattle.journal_text.specs.Journals.{most_entries}
 use Rattle.journal_text.specs.Texts.{journal_text, turns_text}
 use Rattle.journal_text.specs.Rereading.{KeepsLimits, AreWritable}
 use Rattle.shape_text.specs.Texts.{shape_text}
@@ -19,14 +20,14 @@ run_text vars entries last marks = journal_text vars entries ++ (shape_text (cod
 -- What a run of a document leaves breaks no limit: its entries are known and few enough, its last configuration is one that a world has, with the maxima of the
 -- program, and its marks have numbers of at most nine digits.
 pub record KeepsRunLimits (a : Contents) (es : List Entry) (c : Config) (m : MarkLists) : Type 0 where
-  pub vars : vars_of a.checked ≤ 8
+  pub vars : vars_of a.checked ≤ most_vars
   pub actions : actions_of a.checked < 2 ^ 8
   pub bots : bots_of a.world < 2 ^ 16
-  pub few : length es ≤ most_entries
+  pub few : length es ≤ most_turns
   pub entries : All (KeepsLimits (bots_of a.world) (actions_of a.checked) (vars_of a.checked)) es
   pub last : IsWritable (vars_of a.checked) c
   pub maxes : c.maxes ≡ maxes_in a.checked
-  pub callers : length m.marks ≤ 16
+  pub callers : length m.marks ≤ most_callers
   pub marks : All AreWritable m.marks
 
 -- the last byte is a line feed

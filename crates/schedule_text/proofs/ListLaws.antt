@@ -13,9 +13,10 @@ use Rattle.text_tokens.proofs.Exactness.{exact}
 use Rattle.text_tokens.proofs.Repeating.{part_repeated}
 use Rattle.text_tokens.proofs.Distinguishing.{other_kind, other_text, a_numeral, starts_numeral}
 use Rattle.text_tokens.proofs.Joining.{behind, into, starts_behind}
+use Rattle.claim_core.specs.Limits.{most_turns}
 use Rattle.journal_text.specs.Parts.{word, is_end}
 use Rattle.journal_text.proofs.PartLaws.{up_to_end, starts_word, part_word, part_word_within, starts_word_within}
-use Rattle.schedule_text.specs.Lists.{most_turns, past_ids, IsId, one_more_id, IdsFrom, AreIds, is_list, past_lists, IsListWord, IsCallerList, one_more_list, ListsFrom, lists_of, AreTurns, IsLists}
+use Rattle.schedule_text.specs.Lists.{past_ids, IsId, one_more_id, IdsFrom, AreIds, is_list, past_lists, IsListWord, IsCallerList, one_more_list, ListsFrom, lists_of, AreTurns, IsLists}
 use Rattle.schedule_text.specs.Readers.{an_id, ids_from, all_ids, list_word, a_list, lists_from, all_lists, some_turns, the_lists}
 
 -- a word is no number

@@ -1,4 +1,5 @@
 ghost use Rattle.std.specs.Prelude.{◌≤◌};
+ghost use Rattle.amoebot_state.specs.Limits.{most_vars};
 
 use super::*;
 use amoebot_state::World;
@@ -20,7 +21,7 @@ const UP_TO_3: [u8; 8] = [3, 0, 0, 0, 0, 0, 0, 0];
 
 /// The world of a whole text of a shape.
 fn read_text(alloc: Global, text: &[u8], vars: u8, maxes: [u8; 8]) -> Result<World, ReadRefusal>
-    requires { vars ≤ 8 }
+    requires { vars ≤ most_vars }
 {
     if text.len() > MOST_BYTES {
         return Err(ReadRefusal::NoMemory);
@@ -48,7 +49,7 @@ fn at(line: u32, kind: RefusalKind) -> Option<ReadRefusal> {
 
 /// Whether a text is read, printed as it was, and read as the same world again.
 fn is_kept(alloc: Global, text: &[u8], vars: u8, maxes: [u8; 8]) -> bool
-    requires { vars ≤ 8 }
+    requires { vars ≤ most_vars }
 {
     let Ok(first) = read_text(alloc, text, vars, maxes) else {
         return false;
