@@ -5,7 +5,7 @@ use Rattle.std.specs.List.{All, AllPairs}
 use Rattle.std.proofs.Math.Seq.{take-suc}
 use Rattle.std.proofs.lemmas.Bool.{cases_lt, cases_eq}
 use Rattle.std.proofs.lemmas.List.{append-nil, take_all, length-take-le, nil_from_length}
-use Rattle.std.proofs.lemmas.Option.{same_Some, none-some, slice_get_within, slice_get-get_or, get_or_from_slice_get}
+use Rattle.std.proofs.lemmas.Option.{same_Some, slice_get_within, slice_get-get_or, get_or_from_slice_get}
 use Rattle.amoebot_state.specs.declared.verdict.Entry.{Entry}
 use Rattle.amoebot_state.specs.declared.verdict.Verdict.{Verdict}
 use Rattle.amoebot_state.specs.declared.verdict.Verdict.TheVariants as verdict
@@ -24,12 +24,7 @@ use Rattle.claim_core.specs.Good.{HasVerdict, IsListed, TurnOk, Good, mark_of, p
 use Rattle.claim_core.specs.SerialRuns.{SerialRun, mark_at, entries_by, left_by}
 use Rattle.claim_core.specs.Laws.{OneListIsNeverBusy, OneListIsSerial}
 use Rattle.claim_core.proofs.Ends.{run_at}
-
--- an element of a list of lists is one of a list that is there
-has_list : {A : Type 0} (xss : List (List A)) (c t : ℕ) (x : A) → slice_get (get_or xss c []) t ≡ Some x → c < length xss
-has_list [] c t x e = absurd (none-some x e)
-has_list (xs ∷ xss) zero t x e = omega arith
-has_list (xs ∷ xss) (suc c) t x e = let lt = has_list xss c t x e in omega arith
+use Rattle.claim_core.proofs.Places.{of_a_list}
 
 -- what holds of two elements of which the one stands before the other
 pair_at : {A : Type 0} (R : A → A → Type 0) (xs : List A) (i j : ℕ) (x y : A) → AllPairs R xs → i < j → slice_get xs i ≡ Some x → slice_get xs j ≡ Some y → R x y
@@ -43,7 +38,8 @@ all_at P xs i x all e = subst P (get_or_from_slice_get xs i x x e) (all i x (sli
 pub never_busy : OneListIsNeverBusy
 never_busy f w0 lists report few good caller turn by_caller by_turn by_bot place n has =
     let ok = good.marks.right caller turn (mark.Busy n by_caller by_turn by_bot place) has in
-    let inside = has_list report.turns.marks caller turn _ has in
+    let own = of_a_list report.turns.marks caller turn (mark.Busy n by_caller by_turn by_bot place) has in
+    let inside = slice_get_within report.turns.marks caller own.0 own.1 in
     let size = good.marks.callers in
     let other = ok.1.listed in
     let same : by_caller ≡ caller = omega arith in

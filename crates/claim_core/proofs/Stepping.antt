@@ -1,7 +1,7 @@
 -- The code's steps are those of the machine.
-use Rattle.std.proofs.Common.{◌≡◌, ◌≢◌, ℕ, zero, suc, ◌+◌, ◌<◌, ◌≤◌, List, [], ◌∷◌, ◌++◌, map, reverse, length, get_or, set, Option, Some, None, inl, inr, ap, sym, refl, subst, ◌∙◌, arith, Bool, true, not, ne_eqb}
-use Rattle.std.specs.Prelude.{slice_get, slice_set, is_some, IsSome, IfSome, if◌then◌else◌}
-use Rattle.std.proofs.lemmas.Bool.{false≢true, eq-eqb, cases_lt}
+use Rattle.std.proofs.Common.{◌≡◌, ◌≢◌, ℕ, zero, suc, ◌+◌, ◌<◌, ◌≤◌, List, [], ◌∷◌, ◌++◌, map, reverse, length, get_or, set, Option, Some, None, inl, inr, ap, sym, refl, subst, ◌∙◌, arith, ne_eqb}
+use Rattle.std.specs.Prelude.{slice_get, slice_set, IsSome, IfSome, if◌then◌else◌}
+use Rattle.std.proofs.lemmas.Bool.{eq-eqb, cases_lt}
 use Rattle.std.specs.List.{All}
 use Rattle.std.proofs.lemmas.List.{reverse-append, reverse-reverse, length-reverse, map-append, get_or_past}
 use Rattle.std.proofs.lemmas.List.Elements.{All-head, All-tail, All-weaker}
@@ -46,11 +46,6 @@ use Rattle.claim_core.proofs.Numbers.{value_at, value_held, value_patched, value
 use Rattle.claim_core.proofs.Claiming.{held_plain, won_plain, won_shown}
 use Rattle.claim_core.proofs.Ranks.{length-values, front, next_is_there, few, placed}
 use Rattle.claim_core.proofs.Seats.{length-callers, callers-at, callers-set, callers-set_both, callers-marks_at, frees-is, unmarked-set}
-
--- what the test for none says
-pub none_tested : {A : Type 0} (o : Option A) (b : Bool) → is_some o ≡ not b → b ≡ true → o ≡ None
-none_tested None b e t = refl
-none_tested (Some x) b e t = absurd (false≢true (ap not (sym t) ∙ sym e))
 
 -- a caller that has no mark for its turn yet is in one
 pub turn_below : (turns : ℕ) (callers : List Caller) (c n : ℕ) (k : Caller) → IsUnmarked turns callers c → slice_get callers c ≡ Some k → n ≡ turns → k.turn < n
@@ -184,9 +179,6 @@ module _ {verdict : Shown → Verdict} {lists : CallerLists} {tags : List ℕ} {
     taken new change e free turn ph held =
         (λ j. record old { holder = Some c; callers = (seats_put new ∙ ap (slice_set old.callers c) (λ l. record k { turn = turn l; phase = ph l; held = reverse (held l) })) j })
         ∙ sym (next_in (phase.Taking change) e ∙ ap (takes g c old k change) free)
-
-    pub waits : (change : Change) (d : ℕ) → seat.phase ≡ phase.Taking change → holder ≡ Some d → old ≡ next g c old
-    waits change d e held = sym (next_in (phase.Taking change) e ∙ ap (takes g c old k change) held)
 
     -- a look: the turn has its mark
     pub settled : (new : Seat) (m : Mark) (marks' : MarkLists) → Frees lists.turns seat new → marks'.marks ≡ set marks.marks c (own_marks ++ m ∷ []) → next g c old ≡ looks_at g c old (slice_get old.callers c) m → state_of tags world journal holder (set seats i new) marks' ≡ next g c old

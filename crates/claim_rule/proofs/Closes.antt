@@ -1,5 +1,5 @@
 -- What a field leaves once all its seats are back.
-use Rattle.std.proofs.Common.{◌≡◌, ◌≢◌, ℕ, suc, ◌+◌, ◌<◌, List, [], ◌∷◌, drop, length, Option, Some, None, ap, sym, refl, subst, ◌∙◌, arith}
+use Rattle.std.proofs.Common.{◌≡◌, ◌≢◌, ℕ, ◌+◌, ◌<◌, List, [], drop, length, Option, Some, None, ap, sym, refl, subst, ◌∙◌, arith}
 use Rattle.std.specs.Prelude.{slice_get, IsSome}
 use Rattle.std.specs.List.{All}
 use Rattle.std.proofs.lemmas.Option.{same_Some, slice_get-get_or, slice_get_within}
@@ -35,7 +35,7 @@ use Rattle.claim_rule.proofs.Deals.{drop_at}
 -- the entries after the one whose patch was applied lead on to the same last world
 pub follows : (f : Shown → Verdict) (now next last : Config) (es : List Entry) (k : ℕ) (e : Entry) → slice_get es k ≡ Some e → Run f now (drop k es) last → IsPatched now e.patch next → Run f next (drop (k + 1) es) last
 follows f now next last es k e there run patched =
-    let rest = subst (λ xs. Run f now xs last) (drop_at es k e there ∙ ap (λ n. e ∷ drop n es) (let n : suc k ≡ k + 1 = omega arith in n)) run in
+    let rest = subst (λ xs. Run f now xs last) (drop_at es k e there) run in
     subst (λ c. Run f c (drop (k + 1) es) last) (patched_is_unique now rest.0 next e.patch rest.1.patched patched) rest.2
 
 -- each of these places has a seat

@@ -33,7 +33,7 @@ use Rattle.command_answers.specs.declared.status.Status.TheVariants as status
 use Rattle.command_answers.specs.Commands.{form_of}
 use Rattle.command_answers.specs.Reads.{nothing, whole}
 use Rattle.command_answers.specs.Owed.{IsOwed, of_run, of_interleave, of_replay, of_check, of_measure, refused, differs, done, shown, sampled}
-use Rattle.command_answers.specs.Answers.{IsAnswerTo, IsPrepared, IsPreparedSample, IsTaskOf, IsTaskTo, done_with, refused_with}
+use Rattle.command_answers.specs.Answers.{IsAnswerTo, IsPrepared, IsPreparedSample, IsTaskOf, done_with, refused_with}
 
 -- an answer that is another one
 same_answer : (c : DocumentCommand) (a : Contents) (one two : Answer) → one ≡ two → IsAnswerTo c a two → IsAnswerTo c a one
@@ -41,10 +41,6 @@ same_answer c a one two same is bytes h = subst (λ (x : Answer). IsOwed (Some (
 
 pub refuses : (c : DocumentCommand) (bytes : List ℕ) (r : Refusal) (answer : Answer) → IsRefused (form_of c) bytes r → answer ≡ refused_with r → IsTaskOf c bytes (task.Answered answer)
 refuses c bytes r answer fault is = subst (λ (x : Answer). IsTaskOf c bytes (task.Answered x)) (sym is) (refused c bytes r fault, λ run done. cc)
-
--- each other command is answered
-pub answers : (c : DocumentCommand) (a : Contents) (answer : Answer) → (c ≡ Run → ⊥) → IsAnswerTo c a answer → IsTaskTo c a (task.Answered answer)
-answers c a answer other is bytes h = (is bytes h, λ run. absurd (other run))
 
 -- the amoebots of a document's lists are there
 pub are_there : (a : Contents) (start : Config) (lists : CallerLists) → FitTogether a → a.world ≡ Some start → a.lists ≡ Some lists → ((id : ℕ) → id < length start.bots → IsSome (bot_at start id)) → All (All (λ (id : ℕ). IsSome (bot_at start id))) lists.ids

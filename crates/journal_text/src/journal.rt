@@ -41,6 +41,7 @@ impl Model for Entries {
 }
 
 impl Entries {
+    /// The entries in their order, at most 65,536.
     pub fn entries(&self) -> &[Entry]
         ensures { result.now ≡ self.now }
     {

@@ -35,6 +35,7 @@ impl Model for Serial {
 }
 
 impl Serial {
+    /// Begins at this world, before any turn.
     pub fn new(world: World) -> Serial
         ensures { result ≡ world }
     {
