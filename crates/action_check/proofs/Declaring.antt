@@ -14,7 +14,7 @@ use Rattle.action_check.specs.Scopes.{Scope, HasRoom}
 use Rattle.action_check.specs.Faults.{declared_faults, range_faults, action_faults, vars_faults, actions_faults, names_of_vars}
 use Rattle.action_check.specs.Told.{first_of, TellsFirst}
 use Rattle.action_check.proofs.Firsts.{first_behind}
-use Rattle.action_check.proofs.Kept.{few_names}
+use Rattle.action_check.proofs.RulesKept.{few_names}
 use Rattle.action_check.proofs.Walking.{here}
 
 -- before the variable at i, behind those of these names

@@ -13,7 +13,7 @@ use Rattle.action_check.specs.Faults.{vars_faults, actions_faults, names_of_vars
 use Rattle.action_check.specs.Rules.{IsWithin, ActionKept, ProgramKept}
 use Rattle.action_check.proofs.Known.{left_empty, both_empty, is_fresh, fresh_is_fine, is_within, within_is_fine}
 use Rattle.action_check.proofs.Distinct.{AreFresh, none_distinct, distinct_from, fresh_from}
-use Rattle.action_check.proofs.Kept.{few_names, action_kept}
+use Rattle.action_check.proofs.RulesKept.{few_names, action_kept}
 use Rattle.action_check.proofs.Faultless.{action_fine}
 
 -- ---- variables

@@ -22,7 +22,7 @@ use Rattle.claim_core.specs.declared.marks.Mark.{Mark}
 use Rattle.claim_core.specs.declared.marks.Mark.TheVariants as mark
 use Rattle.claim_core.specs.declared.state.Phase.TheVariants.{Taking, Committing}
 use Rattle.claim_core.specs.declared.state.Caller.{Caller}
-use Rattle.claim_core.specs.Good.{IsWorldAt, IsListed, Order, mark_of, place_of, place_after}
+use Rattle.claim_core.specs.Good.{IsWorldAt, IsListed, Order, mark_of_turn, place_of, place_after}
 use Rattle.claim_core.specs.Cells.{values_of, patched}
 use Rattle.claim_core.specs.Machine.{Setup, State, bot, renewed, frees, entry, takes, commits}
 use Rattle.claim_core.specs.Soundness.{IsSetup, names, IsCommitting, marked, IsTurn, marks_so_far, IsDecided, HasFront, IsHeld, CallerOk, Sound}
@@ -212,10 +212,10 @@ module _ (g : Setup) (ok : IsSetup g) (old : State) (s : Sound g old) (c : ℕ) 
       rising = all_pairs_push (λ one later. one.caller ≡ later.caller → one.turn < later.turn) old.journal e s.order.rising (λ i d inside same. earlier i (get_or old.journal i d) (slice_get-get_or old.journal i d inside) same);
     }
 
-    committed : (place : ℕ) (x : Entry) → slice_get new.journal place ≡ Some x → mark_of (marks_so_far g new) x.caller x.turn ≡ Some (mark.Done place)
+    committed : (place : ℕ) (x : Entry) → slice_get new.journal place ≡ Some x → mark_of_turn (marks_so_far g new) x.caller x.turn ≡ Some (mark.Done place)
     committed place x has = elim (slice_get-pushed old.journal e x place has) [
       | inl was ↦ told_stays g old new c k next mv x.caller x.turn (mark.Done place) (s.committed place x was)
-      | inr added ↦ subst (λ (z : ℕ × Entry). mark_of (marks_so_far g new) z.1.caller z.1.turn ≡ Some (mark.Done z.0)) (λ i. (sym added.0 i, added.1 i))
+      | inr added ↦ subst (λ (z : ℕ × Entry). mark_of_turn (marks_so_far g new) z.1.caller z.1.turn ≡ Some (mark.Done z.0)) (λ i. (sym added.0 i, added.1 i))
           (told g new c k.turn next done (mine_now g old new c k next mv) (ap (λ ms. slice_get ms k.turn) (frees-marks g k.turn cells more) ∙ last_mark))
     ]
 

@@ -19,8 +19,8 @@ use Rattle.serial_model.specs.SerialTurns.{SerialTurn}
 use Rattle.claim_core.specs.declared.marks.Mark.{Mark}
 use Rattle.claim_core.specs.declared.marks.Mark.TheVariants as mark
 use Rattle.claim_core.specs.declared.report.Report.{Report}
-use Rattle.claim_core.specs.Turns.{CallerLists, bot_of, marks_of}
-use Rattle.claim_core.specs.Good.{HasVerdict, IsListed, TurnOk, Good, mark_of, place_of, place_after}
+use Rattle.claim_core.specs.Turns.{CallerLists, bot_of_turn, marks_of}
+use Rattle.claim_core.specs.Good.{HasVerdict, IsListed, TurnOk, Good, mark_of_turn, place_of, place_after}
 use Rattle.claim_core.specs.SerialRuns.{SerialRun, mark_at, entries_by, left_by}
 use Rattle.claim_core.specs.Laws.{OneListIsNeverBusy, OneListIsSerial}
 use Rattle.claim_core.proofs.Ends.{run_at}
@@ -60,7 +60,7 @@ module _ (f : Shown → Verdict) (w0 : Config) (lists : CallerLists) (report : R
   only place e has = let is = (listed place e has).caller in omega arith
 
   done : (place : ℕ) (e : Entry) → slice_get journal place ≡ Some e → slice_get own e.turn ≡ Some (mark.Done place)
-  done place e has = ap (λ c. mark_of report.turns c e.turn) (sym (only place e has)) ∙ good.marks.committed place e has
+  done place e has = ap (λ c. mark_of_turn report.turns c e.turn) (sym (only place e has)) ∙ good.marks.committed place e has
 
   later : (i j : ℕ) (x y : Entry) → i < j → slice_get journal i ≡ Some x → slice_get journal j ≡ Some y → x.turn < y.turn
   later i j x y lt one two = pair_at (λ a b. a.caller ≡ b.caller → a.turn < b.turn) journal i j x y good.order.rising lt one two (only i x one ∙ sym (only j y two))
@@ -114,7 +114,7 @@ module _ (f : Shown → Verdict) (w0 : Config) (lists : CallerLists) (report : R
                 record {
                   by = only so.place e at;
                   at = turn;
-                  of = (listed so.place e at).bot ∙ (λ i. bot_of lists (only so.place e at i) (turn i));
+                  of = (listed so.place e at).bot ∙ (λ i. bot_of_turn lists (only so.place e at i) (turn i));
                 },
               );
               marks = take-suc own t (mark.Done place) (slice_get_within own t (mark.Done place) marked) ∙ ap (λ x. take t own ++ x ∷ []) (get_or_from_slice_get own t (mark.Done place) (mark.Done place) marked) ∙ ap (λ n. take t own ++ mark.Done n ∷ []) (next ∙ sym full);
@@ -147,7 +147,7 @@ module _ (f : Shown → Verdict) (w0 : Config) (lists : CallerLists) (report : R
         ]
 
     -- a turn that commits nothing was made at the same place
-    stays : (t : ℕ) (so : SoFar t) (m : Mark) (done_by : Turned) (v : Verdict) → slice_get own t ≡ Some m → m ≡ mark_at (place_of m) done_by → entries_by done_by ≡ [] → ((w : Config) → f (shown w (bot_of lists 0 t)) ≡ v → SerialTurn f 0 t (bot_of lists 0 t) w done_by w) → HasVerdict f w0 journal (place_of m) (bot_of lists 0 t) v → place_after m ≡ place_of m → ((place : ℕ) → m ≡ mark.Done place → ⊥) → SoFar (suc t)
+    stays : (t : ℕ) (so : SoFar t) (m : Mark) (done_by : Turned) (v : Verdict) → slice_get own t ≡ Some m → m ≡ mark_at (place_of m) done_by → entries_by done_by ≡ [] → ((w : Config) → f (shown w (bot_of_turn lists 0 t)) ≡ v → SerialTurn f 0 t (bot_of_turn lists 0 t) w done_by w) → HasVerdict f w0 journal (place_of m) (bot_of_turn lists 0 t) v → place_after m ≡ place_of m → ((place : ℕ) → m ≡ mark.Done place → ⊥) → SoFar (suc t)
     stays t so m done_by v marked is_mark nothing makes has after not_done =
         let old : so.world ≡ has.0 = world_is so.place so.world has.0 so.run (subst (λ p. Run f w0 (take p journal) has.0) here has.1.reached) in
         let full : length (take so.place journal) ≡ so.place = length-take-le so.place journal so.within in
@@ -161,7 +161,7 @@ module _ (f : Shown → Verdict) (w0 : Config) (lists : CallerLists) (report : R
             so.left,
             record {
               turned = done_by;
-              made = makes so.world (ap (λ w. f (shown w (bot_of lists 0 t))) old ∙ has.2);
+              made = makes so.world (ap (λ w. f (shown w (bot_of_turn lists 0 t))) old ∙ has.2);
               marks = take-suc own t m (slice_get_within own t m marked) ∙ ap (λ x. take t own ++ x ∷ []) (get_or_from_slice_get own t m m marked ∙ is_mark ∙ ap (λ p. mark_at p done_by) (here ∙ sym full));
               entries = sym (append-nil (take so.place journal)) ∙ ap (λ es. take so.place journal ++ es) (sym nothing);
             },

@@ -17,7 +17,7 @@ use Rattle.claim_core.specs.declared.state.Caller.{Caller}
 use Rattle.claim_core.specs.declared.state.Committed.{Committed}
 use Rattle.claim_core.specs.Limits.{most_turns}
 use Rattle.claim_core.specs.Turns.{CallerLists}
-use Rattle.claim_core.specs.Good.{IsWorldAt, Good, mark_of}
+use Rattle.claim_core.specs.Good.{IsWorldAt, Good, mark_of_turn}
 use Rattle.claim_core.specs.SerialRuns.{SerialRun, all_turns, left_by}
 use Rattle.claim_core.specs.Tags.{tag, tag_caller, tag_turn, tag_bot}
 use Rattle.claim_core.specs.Cells.{number, at}
@@ -57,7 +57,7 @@ CommittedIsShown = (g : Setup) → IsSetup g → (c : ℕ) (steps : List ℕ) �
 
 -- in a good report of at most one list no turn is Busy
 abbrev pub OneListIsNeverBusy : Type 0
-OneListIsNeverBusy = (f : Shown → Verdict) (w0 : Config) (lists : CallerLists) (report : Report) → length lists.ids ≤ 1 → Good f w0 lists report → (caller turn by_caller by_turn by_bot place : ℕ) (n : CellName) → mark_of report.turns caller turn ≢ Some (mark.Busy n by_caller by_turn by_bot place)
+OneListIsNeverBusy = (f : Shown → Verdict) (w0 : Config) (lists : CallerLists) (report : Report) → length lists.ids ≤ 1 → Good f w0 lists report → (caller turn by_caller by_turn by_bot place : ℕ) (n : CellName) → mark_of_turn report.turns caller turn ≢ Some (mark.Busy n by_caller by_turn by_bot place)
 
 -- and the report is what the turns leave one after another, so that it is determined
 abbrev pub OneListIsSerial : Type 0

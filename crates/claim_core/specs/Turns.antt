@@ -30,8 +30,8 @@ abbrev pub list_of : CallerLists → ℕ → List ℕ
 list_of lists caller = slice_index_or lists.ids caller []
 
 -- the amoebot of a caller's turn
-abbrev pub bot_of : CallerLists → ℕ → ℕ → ℕ
-bot_of lists caller turn = slice_index (list_of lists caller) (turn % length (list_of lists caller))
+abbrev pub bot_of_turn : CallerLists → ℕ → ℕ → ℕ
+bot_of_turn lists caller turn = slice_index (list_of lists caller) (turn % length (list_of lists caller))
 
 -- each id is an amoebot's, of so many
 abbrev pub HaveBots : ℕ → CallerLists → Type 0

@@ -14,7 +14,7 @@ ghost use Rattle.claim_core.specs.Soundness.{IsSetup, Sound};
 ghost use Rattle.claim_core.specs.Rounds.{round};
 ghost use Rattle.amoebot_state.specs.declared.verdict.Change.{Change};
 ghost use Rattle.claim_core.specs.declared.state.Phase.TheVariants as phase;
-ghost use Rattle.claim_core.specs.Cores.{Begins, Frees, IsFinished, opened, HasPhase, HasTurn, Holds, IsSeat, IsUnmarked, IsCell, looks_at, opens_by, phase_after, stepped, setup_of};
+ghost use Rattle.claim_core.specs.Cores.{Begins, Frees, IsFinished, opened, HasPhase, HasTurn, HoldsCells, IsSeat, IsUnmarked, IsCell, looks_at, opens_by, phase_after, stepped, setup_of};
 
 use crate::journal::Journal;
 use crate::lists::Lists;
@@ -178,7 +178,7 @@ impl<'d, D: Decider> Core<'d, D> {
     /// The cells that a caller holds, in the order in which they were won, each with its value as it was recorded.
     pub fn held(&self, caller: u8) -> &[(CellName, Cell)]
         requires { caller < length self.now.state.callers }
-        ensures { Holds self.now.state.callers caller result.now }
+        ensures { HoldsCells self.now.state.callers caller result.now }
     {
         let seat = self.seat(caller);
         seat.held.as_slice()

@@ -26,7 +26,7 @@ use Rattle.claim_rule.specs.declared.views.Slot.TheVariants as slot
 use Rattle.claim_rule.specs.declared.views.Record.{Record}
 use Rattle.claim_rule.specs.declared.views.Terms.{Terms}
 use Rattle.claim_rule.specs.Views.{Content, Seated, view_of, setup, cells}
-use Rattle.claim_rule.specs.Stands.{IsJournal, HasTaken, IsRecord, Stands, Holds}
+use Rattle.claim_rule.specs.Stands.{IsJournal, HasTaken, IsRecord, Stands, KeepsRule}
 use Rattle.claim_rule.specs.Tokens.{FieldOf, IsField, Token, number_in, record_in}
 use Rattle.claim_rule.specs.Seating.{SeatsOf, AreOf, AreSeats}
 use Rattle.claim_rule.specs.Closing.{ClosesAs, HaveAll}
@@ -113,7 +113,7 @@ module _ {D : Type 0} (verdict : D → Shown → Verdict) (own f : FieldOf D) (f
   seats_of c t e = let is = are.each c t e in (is.0 ∙ ap (λ (u : SeatsOf D). u.table) s_is ∙ of.table, is.1 ∙ ap (λ (y : Terms D). Some y) same_terms)
 
   module _ (full : All (λ o. IsSome o) s.seats) (n : ℕ) (n_is : n ≡ cells w) (id : ℕ) (m : Seated D) (gathered : (rs : List Record) × (m ≡ (view_of f.terms rs, [])) × HaveAll items rs)
-      (words : List ℕ) (xs : List Slot) (end : Final (Seen (Holds verdict own.terms) id m.0) words xs) where
+      (words : List ℕ) (xs : List Slot) (end : Final (Seen (KeepsRule verdict own.terms) id m.0) words xs) where
     terms_are : own.terms ≡ f.terms
     terms_are = ap (λ (h : FieldOf D). h.terms) f_is
 

@@ -12,7 +12,7 @@ use Rattle.amoebot_state.specs.Steps.{Run, Step, change_of}
 use Rattle.amoebot_state.specs.Zones.{Shown, shown}
 use Rattle.amoebot_state.proofs.Patched.{patched_is_unique, run_has_one_last}
 use Rattle.claim_core.specs.declared.marks.Mark.TheVariants as mark
-use Rattle.claim_core.specs.Turns.{Kept, bot_of}
+use Rattle.claim_core.specs.Turns.{Kept, bot_of_turn}
 use Rattle.claim_core.specs.Good.{IsListed}
 use Rattle.claim_core.specs.Machine.{Setup, State, after}
 use Rattle.claim_core.specs.Reached.{HasValues}
@@ -91,7 +91,7 @@ module _ {D : Type 0} (verdict : D → Shown → Verdict) (z : Terms D) (seats :
         record {
           caller = sym has.2;
           turn = sym has.3;
-          bot = (listed one sound k e at).bot ∙ (λ i. bot_of z.lists (sym has.2 i) (sym has.3 i)) ∙ sym (listed two sound' k has.0 has.1).bot;
+          bot = (listed one sound k e at).bot ∙ (λ i. bot_of_turn z.lists (sym has.2 i) (sym has.3 i)) ∙ sym (listed two sound' k has.0 has.1).bot;
         },
       )
 

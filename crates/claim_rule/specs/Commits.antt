@@ -43,7 +43,7 @@ with_commit g r change place = record {
 }
 
 -- there is room for one entry more, at a place below 65,536
-pub record HasRoom (j : Kept) : Type 0 where
+pub record HasRoomForEntry (j : Kept) : Type 0 where
   pub some : 0 < j.spare
   pub few : length j.entries < most_turns
 
@@ -59,7 +59,7 @@ module _ {D : Type 0} where
     pub change : Change
     pub phase : (own m.0).caller.phase ≡ Taking change
     pub journal : Kept
-    pub room : HasRoom journal
+    pub room : HasRoomForEntry journal
     pub now : m'.0 ≡ like m.0 (with_journal (own m.0) change journal ∷ [])
     pub out : m'.1 ≡ (i, slot.Journal journal) ∷ m.1
 

@@ -16,7 +16,7 @@ use Rattle.claim_rule.specs.declared.views.Record.{Record}
 use Rattle.claim_rule.specs.Views.{Seated, own, like, cells}
 use Rattle.claim_rule.specs.Plays.{about}
 use Rattle.claim_rule.specs.Tokens.{Token, IsActivation, record_in, number_in, doing}
-use Rattle.claim_rule.specs.Commits.{HasRoom, with_journal, with_commit}
+use Rattle.claim_rule.specs.Commits.{HasRoomForEntry, with_journal, with_commit}
 
 -- a turn, and the place of the entry that it committed
 pub record ReceiptOf : Type 0 where
@@ -59,5 +59,5 @@ module _ {D : Type 0} where
       pub whole : next_of (about verdict m.0) b pairs ≡ None
       pub phase : (own m.0).caller.phase ≡ Committing change
       pub taken : (own m.0).taken ≡ Some j
-      pub room : HasRoom j
+      pub room : HasRoomForEntry j
       pub out : m.1 ≡ (cells (about verdict m.0).world, slot.Empty) ∷ rest m.1

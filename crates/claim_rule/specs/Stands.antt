@@ -109,8 +109,8 @@ module _ {D : Type 0} where
       pub few : length core.journal + turns_left (setup verdict z) core ≤ most_turns
 
     -- the rule: it stands for a state that steps of the callers, the last one first, lead to from the opening
-    abbrev pub Holds : Content D → Type 0
-    Holds s = (steps : List ℕ) × Stands s (after (setup verdict z) steps)
+    abbrev pub KeepsRule : Content D → Type 0
+    KeepsRule s = (steps : List ℕ) × Stands s (after (setup verdict z) steps)
 
     abbrev pub records_from : ℕ → List Caller → List Record
     records_from c [] = []

@@ -12,7 +12,7 @@ use Rattle.claim_core.specs.Reached.{Reached}
 use Rattle.claim_core.specs.Laws.{OneListIsSerial}
 use Rattle.action_tree.specs.Trees.{Program}
 use Rattle.action_meaning.specs.Verdicts.{verdict_shown}
-use Rattle.document_grammar.specs.Documents.{Contents, Holds, IsRefused, bots_of}
+use Rattle.document_grammar.specs.Documents.{Contents, HasContents, IsRefused, bots_of}
 use Rattle.document_grammar.specs.Fitting.{FitTogether}
 use Rattle.shipped_programs.specs.declared.shipped.Shipped.{Shipped}
 use Rattle.shipped_programs.specs.Shipped.{tree_of}
@@ -54,7 +54,7 @@ pub shows : (p : Shipped) (text : List ℕ) → text ≡ check_text (tree_of p) 
 shows p text is = subst (λ (t : List ℕ). IsOwed (Some (Show p)) nothing status.Done None t) (sym is) (shown p)
 
 -- the report of a run that was prepared
-pub prepares : OneListIsSerial → (a : Contents) (bytes : List ℕ) (p : Program) (start : Config) (lists : CallerLists) → Holds (form_of Run) bytes a → a.checked ≡ Some p → a.world ≡ Some start → a.lists ≡ Some lists
+pub prepares : OneListIsSerial → (a : Contents) (bytes : List ℕ) (p : Program) (start : Config) (lists : CallerLists) → HasContents (form_of Run) bytes a → a.checked ≡ Some p → a.world ≡ Some start → a.lists ≡ Some lists
     → All (All (λ (id : ℕ). IsSome (bot_at start id))) lists.ids → IsPrepared a bytes p start lists
 prepares serials a bytes p start lists h its_program its_shape its_lists there = record {
   its_program = its_program;

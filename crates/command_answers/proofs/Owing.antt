@@ -12,7 +12,7 @@ use Rattle.action_meaning.specs.Verdicts.{verdict_shown}
 use Rattle.document_grammar.specs.declared.section.Form.{Form}
 use Rattle.document_grammar.specs.declared.section.Form.TheVariants as form
 use Rattle.command_answers.specs.Commands.{form_of}
-use Rattle.document_grammar.specs.Documents.{Contents, Holds, IsRefused, DocumentsAreDecided}
+use Rattle.document_grammar.specs.Documents.{Contents, HasContents, IsRefused, DocumentsAreDecided}
 use Rattle.run_sample.specs.Laws.{SampleIsFit}
 use Rattle.command_runs.specs.Run.{IsRunText}
 use Rattle.command_runs.specs.Interleave.{IsInterleaveText}
@@ -34,13 +34,13 @@ use Rattle.command_answers.specs.Laws.{HasOneReport, SameIfAny, SameOwed, OwedIs
 use Rattle.command_answers.proofs.Sampled.{text_is_six_lines}
 
 module _ (documents : DocumentsAreDecided) where
-  pub same_contents : (form : Form) (bytes : List ℕ) (a b : Contents) → Holds form bytes a → Holds form bytes b → a ≡ b
+  pub same_contents : (form : Form) (bytes : List ℕ) (a b : Contents) → HasContents form bytes a → HasContents form bytes b → a ≡ b
   same_contents form bytes a b x y = let r : Result Contents Refusal = Ok a in let q : Result Contents Refusal = Ok b in let e : r ≡ q = (documents form).one bytes r q x y in cc
 
   pub same_fault : (form : Form) (bytes : List ℕ) (r q : Refusal) → IsRefused form bytes r → IsRefused form bytes q → r ≡ q
   same_fault form bytes r q x y = let o : Result Contents Refusal = Err r in let p : Result Contents Refusal = Err q in let e : o ≡ p = (documents form).one bytes o p x y in cc
 
-  pub not_both : (form : Form) (bytes : List ℕ) (a : Contents) (r : Refusal) → Holds form bytes a → IsRefused form bytes r → ⊥
+  pub not_both : (form : Form) (bytes : List ℕ) (a : Contents) (r : Refusal) → HasContents form bytes a → IsRefused form bytes r → ⊥
   not_both form bytes a r x y = let o : Result Contents Refusal = Ok a in let p : Result Contents Refusal = Err r in let e : o ≡ p = (documents form).one bytes o p x y in cc
 
 module _ (documents : DocumentsAreDecided) (runs : RunTextIsOne) (interleaves : InterleaveTextIsOne) (replays : ReplayIsDecided) (measures : MeasureTextIsOne) (stays : GoodStaysConnected) (fit : SampleIsFit) where
@@ -63,7 +63,7 @@ module _ (documents : DocumentsAreDecided) (runs : RunTextIsOne) (interleaves : 
       let by = interleaves x.program x.start x.lists x.schedule one two text other x.writes writes in
       (by.0, by.1)
 
-  same_outcome : (bytes : List ℕ) (a : Contents) (c : DocumentCommand) (one two : Option Report) (text other : List ℕ) → Holds (form_of c) bytes a → HasOneReport (Some (Document c)) (whole bytes) → IsTextOf a c one text → IsTextOf a c two other → SameIfAny one two × (text ≡ other)
+  same_outcome : (bytes : List ℕ) (a : Contents) (c : DocumentCommand) (one two : Option Report) (text other : List ℕ) → HasContents (form_of c) bytes a → HasOneReport (Some (Document c)) (whole bytes) → IsTextOf a c one text → IsTextOf a c two other → SameIfAny one two × (text ≡ other)
   same_outcome bytes a c one two text other h decided (of_run r t x) (of_run q u y) = run_is_one a r q t u (decided a h) x y
   same_outcome bytes a c one two text other h decided (of_interleave r t x) (of_interleave q u y) = interleave_is_one a r q t u x y
   same_outcome bytes a c one two text other h decided (of_replay t x) (of_replay u y) = (tt, x.writes.whole ∙ ap (λ (es : List Entry). agrees_line (length es)) (one_at _ x.entries y.entries x.has.its_journal y.has.its_journal) ∙ sym y.writes.whole)

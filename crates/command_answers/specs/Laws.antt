@@ -4,7 +4,7 @@ use Rattle.std.specs.declared.option.Option.{Option}
 use Rattle.std.specs.declared.option.Option.TheVariants.{Some, None}
 use Rattle.claim_core.specs.declared.report.Report.{Report}
 use Rattle.document_grammar.specs.declared.section.Form.TheVariants as form
-use Rattle.document_grammar.specs.Documents.{Contents, Holds}
+use Rattle.document_grammar.specs.Documents.{Contents, HasContents}
 use Rattle.command_runs.specs.Laws.{SameReport}
 use Rattle.command_words.specs.declared.command.Command.{Command}
 use Rattle.command_words.specs.declared.command.Command.TheVariants.{Document, Sample}
@@ -27,7 +27,7 @@ SameIfAny (Some one) (Some two) = SameReport one two
 
 -- at most one report may be told: but for `run` of a document with two lists or more, and for `sample`, where it is that of any interleaving
 abbrev pub HasOneReport : Option Command → Read → Type 0
-HasOneReport (Some (Document Run)) (whole bytes) = (a : Contents) → Holds form.Run bytes a → IfSome a.lists (λ lists. length lists.ids ≤ 1)
+HasOneReport (Some (Document Run)) (whole bytes) = (a : Contents) → HasContents form.Run bytes a → IfSome a.lists (λ lists. length lists.ids ≤ 1)
 HasOneReport (Some (Sample seed)) read = ⊥
 HasOneReport c read = ⊤
 
@@ -48,7 +48,7 @@ OwedIsOne = (c : Option Command) (read : Read) (s t : Status) (one two : Option 
 
 -- what is owed for a document of the command's form is an outcome of it
 abbrev pub DocumentsHaveOutcomes : Type 0
-DocumentsHaveOutcomes = (c : DocumentCommand) (bytes : List ℕ) (a : Contents) (s : Status) (report : Option Report) (text : List ℕ) → Holds (form_of c) bytes a → IsOwed (Some (Document c)) (whole bytes) s report text → IsOutcome a c s report text
+DocumentsHaveOutcomes = (c : DocumentCommand) (bytes : List ℕ) (a : Contents) (s : Status) (report : Option Report) (text : List ℕ) → HasContents (form_of c) bytes a → IsOwed (Some (Document c)) (whole bytes) s report text → IsOutcome a c s report text
 
 -- a report is owed exactly where a command that makes turns is done
 abbrev pub ReportsAreOfTurns : Type 0

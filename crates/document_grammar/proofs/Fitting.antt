@@ -35,7 +35,7 @@ use Rattle.document_grammar.specs.declared.section.Form.TheVariants.{Run, Interl
 use Rattle.document_grammar.specs.Frame.{Course, ends, needs, may, may_schedule, may_lists, behind_journal, course_of, IsRest}
 use Rattle.document_grammar.specs.declared.section.Section.TheVariants as section
 use Rattle.document_grammar.specs.FrameLaws.{Plain}
-use Rattle.document_grammar.specs.Documents.{Contents, nothing_yet, vars_of, actions_of, maxes_in, bots_of, first_in, IsCheckedProgram, Body, IsDocument, Holds}
+use Rattle.document_grammar.specs.Documents.{Contents, nothing_yet, vars_of, actions_of, maxes_in, bots_of, first_in, IsCheckedProgram, Body, IsDocument, HasContents}
 use Rattle.document_grammar.specs.Fitting.{HasSections, AreTogether, AreOf, FitTogether, Fits, DocumentsFit}
 use Rattle.document_grammar.proofs.Fine.{Fine, both_of, made_of, step_of, closed_of, judged_of, nothing_of, either_of, one_of, numeral_of, all_of, counted_of, at_most_of}
 use Rattle.document_grammar.proofs.Plainness.{plain, forms_are_distinct}

@@ -11,7 +11,7 @@ use Rattle.action_check.specs.Faults.{faults}
 use Rattle.journal_text.specs.Journals.{is_known}
 use Rattle.document_grammar.specs.declared.section.Form.{Form}
 use Rattle.document_grammar.specs.declared.section.Form.TheVariants.{Run, Interleave, Replay, Check, Measure}
-use Rattle.document_grammar.specs.Documents.{Contents, vars_of, actions_of, maxes_in, bots_of, callers_of, Holds}
+use Rattle.document_grammar.specs.Documents.{Contents, vars_of, actions_of, maxes_in, bots_of, callers_of, HasContents}
 
 -- ---- which sections there are
 
@@ -61,4 +61,4 @@ pub record Fits (form : Form) (a : Contents) : Type 0 where
 
 -- what a document of a form has fits together
 abbrev pub DocumentsFit : Type 0
-DocumentsFit = (form : Form) (bytes : List ℕ) (a : Contents) → Holds form bytes a → Fits form a
+DocumentsFit = (form : Form) (bytes : List ℕ) (a : Contents) → HasContents form bytes a → Fits form a

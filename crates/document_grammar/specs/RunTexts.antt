@@ -11,7 +11,7 @@ use Rattle.journal_text.specs.Rereading.{KeepsLimits, AreWritable}
 use Rattle.shape_text.specs.Texts.{shape_text}
 use Rattle.shape_text.specs.Rereading.{IsWritable}
 use Rattle.document_grammar.specs.declared.section.Form.TheVariants.{Run, Replay}
-use Rattle.document_grammar.specs.Documents.{Contents, vars_of, actions_of, maxes_in, bots_of, Holds}
+use Rattle.document_grammar.specs.Documents.{Contents, vars_of, actions_of, maxes_in, bots_of, HasContents}
 
 -- the text of a run: its journal, its last shape and its turns, of so many variables
 abbrev pub run_text : ℕ → List Entry → Config → MarkLists → List ℕ
@@ -36,5 +36,5 @@ EndsLine bytes = (front : List ℕ) × (bytes ≡ front ++ codes "\n")
 
 -- such a document, followed by such a text, has the run's entries and its last configuration besides what it had
 abbrev pub RunsAreReplayed : Type 0
-RunsAreReplayed = (bytes : List ℕ) (a : Contents) (entries : List Entry) (last : Config) (marks : MarkLists) → EndsLine bytes → Holds Run bytes a → KeepsRunLimits a entries last marks
-    → Holds Replay (bytes ++ run_text (vars_of a.checked) entries last marks) (record a { entries = Some entries; final_world = Some last })
+RunsAreReplayed = (bytes : List ℕ) (a : Contents) (entries : List Entry) (last : Config) (marks : MarkLists) → EndsLine bytes → HasContents Run bytes a → KeepsRunLimits a entries last marks
+    → HasContents Replay (bytes ++ run_text (vars_of a.checked) entries last marks) (record a { entries = Some entries; final_world = Some last })

@@ -32,8 +32,8 @@ use Rattle.amoebot_state.specs.declared.verdict.Moved.{Moved}
 use Rattle.amoebot_state.specs.declared.verdict.Moved.TheVariants as moved
 use Rattle.amoebot_state.specs.Pairs.{Pairs}
 use Rattle.claim_core.specs.Limits.{most_turns}
-use Rattle.journal_text.specs.Parts.{word, is_minus, is_end, IsWord, Means, IsNumber, IsUpTo, negative, IsInt, a_node_of, IsNode, IsEnd, IsChirality, a_port_of, IsPort, IsValues, memory, a_bot_of, IsBot}
-use Rattle.journal_text.specs.Journals.{IsPortBehind, IsMoved, IsCell, a_pair_of, IsPair, Numbers, numbers_of, AreNumbers, Written, written_of, IsEntryWord, IsWritten, ids_of, ids_of_pair, is_known, wrong, IsEntry, one_more as next_place, AreEntries, IsJournal}
+use Rattle.journal_text.specs.Parts.{word, is_minus, is_end, IsWord, Means, IsNumber, IsUpTo, negative, IsInt, a_node_of, IsNode, IsEnd, IsChirality, a_port_of, IsPort, IsValues, memory, a_bot_of, IsBotText}
+use Rattle.journal_text.specs.Journals.{IsPortBehind, IsMoved, IsCellText, a_pair_of, IsPair, Numbers, numbers_of, AreNumbers, Written, written_of, IsEntryWord, IsWritten, ids_of, ids_of_pair, is_known, wrong, IsEntry, one_more as next_place, AreEntries, IsJournal}
 use Rattle.journal_text.specs.JournalRows.{Says}
 use Rattle.journal_text.specs.Texts.{node_words, end_word, port_words, chir_word, bot_words, pair_words, moved_words, entry_numbers, entry_words, journal_text}
 use Rattle.journal_text.specs.Rereading.{size, HasCoordinates, HasLimits, IsWritable, IsPossible, KeepsLimits, JournalsReadBack}
@@ -116,7 +116,7 @@ module _ (vars : ℕ) (le : vars ≤ 8) where
       let size : length (take vars b.mem) ≡ vars = length-take-le vars b.mem (let e = l.eight in omega arith) in
       ap (λ n. take vars b.mem ++ replicate (8 - n) 0) size ∙ ap (λ rest. take vars b.mem ++ rest) (sym l.zeros) ∙ take-append-drop vars b.mem
 
-  pub a_bot : (b : Bot) → HasLimits vars b → Rereads (IsBot vars) (Is b) (bot_words vars b)
+  pub a_bot : (b : Bot) → HasLimits vars b → Rereads (IsBotText vars) (Is b) (bot_words vars b)
   a_bot b l =
       let vs = take vars b.mem in
       let same : a_bot_of b.head b.tail b.rot b.chir vs ≡ b = ap (λ (mem : List ℕ). record { head = b.head; tail = b.tail; rot = b.rot; chir = b.chir; mem = mem }) (its_memory b l) in
@@ -151,10 +151,10 @@ the_last_word = the_word _ _ refl refl (omega arith) refl
 
 -- ---- pairs
 
-pub a_spot : (v : Node) → HasCoordinates v → Rereads IsCell (Is (name.Spot v)) (codes "spot" ∷ node_words v)
+pub a_spot : (v : Node) → HasCoordinates v → Rereads IsCellText (Is (name.Spot v)) (codes "spot" ∷ node_words v)
 a_spot v c = rereads_first (codes "spot" ∷ node_words v) (rereads_next (codes "spot" ∷ []) (node_words v) (the_word _ _ refl refl (omega arith) refl) (rereads_as (λ v. name.Spot v) (node_words v) v (a_node v c)))
 
-pub a_body : (id : ℕ) → id < 10 ^ 9 → Rereads IsCell (Is (name.Body id)) (codes "body" ∷ decimal id ∷ [])
+pub a_body : (id : ℕ) → id < 10 ^ 9 → Rereads IsCellText (Is (name.Body id)) (codes "body" ∷ decimal id ∷ [])
 a_body id small = rereads_second (codes "body" ∷ decimal id ∷ []) (rereads_next (codes "body" ∷ []) (decimal id ∷ []) (the_word _ _ refl refl (omega arith) refl) (rereads_as (λ id. name.Body id) (decimal id ∷ []) id (any_number id small)))
 
 module _ (bots vars : ℕ) (few : bots < 2 ^ 16) (le : vars ≤ 8) where

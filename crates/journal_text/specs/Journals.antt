@@ -26,7 +26,7 @@ use Rattle.amoebot_state.specs.Limits.{most_pairs}
 use Rattle.amoebot_state.specs.Pairs.{Pairs, cell_of, cell_value}
 use Rattle.claim_core.specs.Limits.{most_turns}
 use Rattle.journal_text.specs.Limits.{last_caller, last_turn}
-use Rattle.journal_text.specs.Parts.{word, is_end, IsWord, Means, IsNumber, IsNode, IsEnd, IsPort, IsBot}
+use Rattle.journal_text.specs.Parts.{word, is_end, IsWord, Means, IsNumber, IsNode, IsEnd, IsPort, IsBotText}
 
 -- ---- movements
 
@@ -58,8 +58,8 @@ is_body = word (codes "body")
 abbrev pub is_cell : Lexeme → Bool
 is_cell t = is_spot t || is_body t
 
-abbrev pub IsCell : Lang CellName
-IsCell = Either (Then (IsWord (codes "spot")) (λ line. Made IsNode (λ v. name.Spot v))) (Then (IsWord (codes "body")) (λ line. Made IsNumber (λ id. name.Body id)))
+abbrev pub IsCellText : Lang CellName
+IsCellText = Either (Then (IsWord (codes "spot")) (λ line. Made IsNode (λ v. name.Spot v))) (Then (IsWord (codes "body")) (λ line. Made IsNumber (λ id. name.Body id)))
 
 abbrev pub IsOccupant : Lang Cell
 IsOccupant = Either (Means (word (codes "empty")) (cell.Spot None)) (Made IsNumber (λ id. cell.Spot (Some id)))
@@ -67,13 +67,13 @@ IsOccupant = Either (Means (word (codes "empty")) (cell.Spot None)) (Made IsNumb
 -- what a cell holds: an occupant or none, or an amoebot
 abbrev pub IsValueOf : ℕ → CellName → Lang Cell
 IsValueOf vars (name.Spot v) = IsOccupant
-IsValueOf vars (name.Body id) = Made (IsBot vars) (λ b. cell.Body b)
+IsValueOf vars (name.Body id) = Made (IsBotText vars) (λ b. cell.Body b)
 
 abbrev pub a_pair_of : CellName → Cell → CellName × Cell
 a_pair_of c x = (c, x)
 
 abbrev pub IsPair : ℕ → Lang (CellName × Cell)
-IsPair vars = Then IsCell (λ c. Made (IsValueOf vars c) (λ x. a_pair_of c x))
+IsPair vars = Then IsCellText (λ c. Made (IsValueOf vars c) (λ x. a_pair_of c x))
 
 -- ---- entries
 

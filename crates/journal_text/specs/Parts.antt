@@ -90,5 +90,5 @@ memory values = values ++ replicate (most_vars - length values) 0
 abbrev pub a_bot_of : Node → Node → ℕ → Chir → List ℕ → Bot
 a_bot_of head tail rot chir values = record { head = head; tail = tail; rot = rot; chir = chir; mem = memory values }
 
-abbrev pub IsBot : ℕ → Lang Bot
-IsBot vars = Then IsNode (λ head. Then IsNode (λ tail. Then (IsUpTo 5) (λ rot. Then IsChirality (λ chir. Made (IsValues vars) (λ values. a_bot_of head tail rot chir values)))))
+abbrev pub IsBotText : ℕ → Lang Bot
+IsBotText vars = Then IsNode (λ head. Then IsNode (λ tail. Then (IsUpTo 5) (λ rot. Then IsChirality (λ chir. Made (IsValues vars) (λ values. a_bot_of head tail rot chir values)))))

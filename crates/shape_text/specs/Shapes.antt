@@ -20,7 +20,7 @@ use Rattle.amoebot_state.specs.declared.refusal.WorldRefusal.TheVariants as worl
 use Rattle.amoebot_state.specs.Configs.{Config, config_of, with_bot}
 use Rattle.amoebot_state.specs.Limits.{most_bots}
 use Rattle.amoebot_state.specs.Refusals.{bot_fault}
-use Rattle.journal_text.specs.Parts.{word, is_end, IsWord, IsInt, IsBot}
+use Rattle.journal_text.specs.Parts.{word, is_end, IsWord, IsInt, IsBotText}
 use Rattle.shape_text.specs.Limits.{most_start, most_side}
 
 -- ---- the area
@@ -61,7 +61,7 @@ IsBotWord before = Made (IsOne is_bot (past_bots before)) (λ t. t.line)
 
 -- an amoebot with the values of so many variables, behind so many
 abbrev pub IsBotLine : ℕ → ℕ → Lang WrittenBot
-IsBotLine vars before = Then (IsBotWord before) (λ line. Made (IsBot vars) (λ b. written_bot line b))
+IsBotLine vars before = Then (IsBotWord before) (λ line. Made (IsBotText vars) (λ b. written_bot line b))
 
 abbrev pub one_more : ℕ → WrittenBot → ℕ
 one_more before b = suc before
