@@ -33,7 +33,7 @@ use Rattle.command_answers.specs.Reads.{whole}
 use Rattle.command_answers.specs.Laws.{HasOneReport, SameIfAny, SameOwed, OwedIsOne}
 use Rattle.command_answers.proofs.Sampled.{text_is_six_lines}
 
-same_one : {A : Type 0} {o : Option A} (x y : A) → o ≡ Some x → o ≡ Some y → x ≡ y
+pub same_one : {A : Type 0} {o : Option A} (x y : A) → o ≡ Some x → o ≡ Some y → x ≡ y
 same_one x y e f = same_Some x y (sym e ∙ f)
 
 module _ (documents : DocumentsAreDecided) where
