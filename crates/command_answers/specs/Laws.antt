@@ -10,11 +10,14 @@ use Rattle.command_words.specs.declared.command.Command.{Command}
 use Rattle.command_words.specs.declared.command.Command.TheVariants.{Document, Sample}
 use Rattle.command_words.specs.declared.command.DocumentCommand.{DocumentCommand}
 use Rattle.command_words.specs.declared.command.DocumentCommand.TheVariants.{Run}
+use Rattle.command_answers.specs.declared.answering.Task.{Task}
+use Rattle.command_answers.specs.declared.answering.Task.TheVariants as task
 use Rattle.command_answers.specs.declared.status.Status.{Status}
 use Rattle.command_answers.specs.declared.status.Status.TheVariants as status
 use Rattle.command_answers.specs.Commands.{form_of}
 use Rattle.command_answers.specs.Reads.{Read, nothing, whole}
 use Rattle.command_answers.specs.Owed.{IsOwed}
+use Rattle.command_answers.specs.Answers.{IsTaskOf}
 use Rattle.command_answers.specs.Outcomes.{IsOutcome}
 use Rattle.command_answers.specs.Headline.{MakesTurns, IsRunOfDocument, IsRunOfSample}
 
@@ -45,6 +48,17 @@ pub record SameOwed (c : Option Command) (read : Read) (s t : Status) (one two :
 
 abbrev pub OwedIsOne : Type 0
 OwedIsOne = (c : Option Command) (read : Read) (s t : Status) (one two : Option Report) (text other : List ℕ) → IsOwed c read s one text → IsOwed c read t two other → SameOwed c read s t one two text other
+
+-- tasks that are one, but for the room in a report's journal
+abbrev pub SameTask : Task → Task → Type 0
+SameTask (task.Answered one) (task.Answered two) = (one.status ≡ two.status) × SameIfAny one.report two.report × (one.text ≡ two.text)
+SameTask (task.Answered one) (task.Run two) = ⊥
+SameTask (task.Run one) (task.Answered two) = ⊥
+SameTask (task.Run one) (task.Run two) = one ≡ two
+
+-- for a whole input of a command at most one task is to be done
+abbrev pub TaskIsOne : Type 0
+TaskIsOne = (c : DocumentCommand) (bytes : List ℕ) (one two : Task) → IsTaskOf c bytes one → IsTaskOf c bytes two → SameTask one two
 
 -- what is owed for a document of the command's form is an outcome of it
 abbrev pub DocumentsHaveOutcomes : Type 0
