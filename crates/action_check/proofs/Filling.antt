@@ -2,13 +2,12 @@
 use Rattle.std.proofs.Common.{◌≡◌, ◌<◌, ◌≤◌, ◌+◌, ℕ, zero, suc, List, [], ◌∷◌, length, get_or, take, set, map, add-one, true, refl, sym, ◌∙◌, ap, arith}
 use Rattle.std.proofs.lemmas.Bool.{leb-true}
 use Rattle.std.proofs.lemmas.List.{get_or-map, length-map, take_all}
+use Rattle.amoebot_state.specs.Limits.{most_vars, most_value}
 use Rattle.action_tree.specs.declared.program.Var as code
 use Rattle.action_tree.specs.Trees.{Program}
-use Rattle.action_tree.specs.Limits.{most_vars}
 use Rattle.action_tree.specs.Views.{var_of}
 use Rattle.action_tree.specs.Writable.{is_writable}
 use Rattle.action_tree.proofs.Conditions.{left_of}
-use Rattle.action_check.specs.Limits.{most_value}
 use Rattle.action_check.specs.Rules.{ProgramKept}
 use Rattle.action_check.specs.Maxes.{first_or_zero, maxes_of}
 

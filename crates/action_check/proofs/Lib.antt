@@ -1,7 +1,7 @@
 pub mod Texts
 pub mod Known
 pub mod Distinct
-pub mod Kept
+pub mod RulesKept
 pub mod Faultless
 pub mod Whole
 pub mod Firsts

@@ -7,7 +7,7 @@ use Rattle.action_tree.specs.declared.expression.Guard as code
 use Rattle.action_tree.specs.declared.expression.Part as code_part
 use Rattle.action_tree.specs.declared.statement.Stmt as code_stmt
 use Rattle.action_tree.specs.Views.{guard_of, guards_of, term_of, terms_of, stmt_of, stmts_of}
-use Rattle.action_tree.specs.Writable.{guard_names, guards_names, sum_names, term_names, behind, stmt_names, stmts_names}
+use Rattle.action_tree.specs.Writable.{guard_names, guards_names, sum_names, term_names, stmt_names, stmts_names}
 use Rattle.action_check.specs.Scopes.{Scope, HasRoom, after, after_all}
 use Rattle.action_check.specs.Faults.{guard_faults, guards_faults, sum_faults, term_faults, stmt_faults, stmts_faults}
 use Rattle.action_check.specs.Told.{first_of}

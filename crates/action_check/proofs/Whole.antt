@@ -2,17 +2,18 @@
 use Rattle.std.proofs.Common.{◌≡◌, ◌≤◌, true, List, [], ◌∷◌, ◌++◌, length, ap, refl, arith}
 use Rattle.std.specs.List.{All, list_all}
 use Rattle.std.proofs.lemmas.List.Elements.{All-nil, All-cons, All-head, All-tail}
+use Rattle.amoebot_state.specs.Limits.{most_value}
+use Rattle.text_tokens.proofs.Beginnings.{right_empty}
 use Rattle.action_tree.specs.Trees.{Var, Action, Program}
 use Rattle.action_tree.specs.Limits.{most_names}
 use Rattle.action_tree.specs.Writable.{action_names, is_action, is_writable}
 use Rattle.action_tree.proofs.Conditions.{left_of, right_of}
-use Rattle.action_check.specs.Limits.{most_value}
 use Rattle.action_check.specs.Scopes.{Scope, HasRoom}
 use Rattle.action_check.specs.Faults.{vars_faults, actions_faults, names_of_vars, names_of_actions, at_start, AreRulesKept}
 use Rattle.action_check.specs.Rules.{IsWithin, ActionKept, ProgramKept}
-use Rattle.action_check.proofs.Known.{left_empty, right_empty, both_empty, is_fresh, fresh_is_fine, is_within, within_is_fine}
+use Rattle.action_check.proofs.Known.{left_empty, both_empty, is_fresh, fresh_is_fine, is_within, within_is_fine}
 use Rattle.action_check.proofs.Distinct.{AreFresh, none_distinct, distinct_from, fresh_from}
-use Rattle.action_check.proofs.Kept.{few_names, action_kept}
+use Rattle.action_check.proofs.RulesKept.{few_names, action_kept}
 use Rattle.action_check.proofs.Faultless.{action_fine}
 
 -- ---- variables

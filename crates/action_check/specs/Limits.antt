@@ -1,10 +1,6 @@
 -- The ranges of the language's numbers.
 use Rattle.std.specs.Prelude.{ℕ}
 
--- the greatest maximum that a variable may have
-abbrev pub most_value : ℕ
-most_value = 255
-
 -- the greatest number in a sum
 abbrev pub most_literal : ℕ
 most_literal = 65535

@@ -1,7 +1,7 @@
 -- The greatest values of the variables, in the order of their declaration, and 0 for those that a program lacks.
 use Rattle.std.specs.Prelude.{ℕ, zero, suc, List, [], ◌∷◌, map}
+use Rattle.amoebot_state.specs.Limits.{most_vars}
 use Rattle.action_tree.specs.Trees.{Program}
-use Rattle.action_tree.specs.Limits.{most_vars}
 
 -- the first so many, with a 0 for each that is not there
 abbrev pub first_or_zero : ℕ → List ℕ → List ℕ

@@ -5,8 +5,7 @@ ghost use Rattle.action_check.specs.Faults.{faults, AreRulesKept};
 ghost use Rattle.action_check.specs.Told.{TellsFirst};
 
 use crate::declaration::{check_actions, check_vars};
-use crate::scope::Text;
-use action_tree::Program;
+use action_tree::{NameText, Program};
 use indexmap::IndexSet;
 use std::alloc::Global;
 use std::marker::Model;
@@ -16,7 +15,7 @@ use text_tokens::ReadRefusal;
 #[derive(Drop)]
 pub struct Checked {
     program: Program,
-    vars: IndexSet<Text>,
+    vars: IndexSet<NameText>,
 }
 
 impl Model for Checked {

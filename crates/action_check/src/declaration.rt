@@ -7,9 +7,9 @@ ghost use Rattle.action_tree.specs.Writable.{is_action};
 ghost use Rattle.action_check.specs.Faults as spec;
 ghost use Rattle.action_check.specs.Told.{first_of, texts, TellsFirst};
 
-use crate::scope::{Scope, Text, refused, within};
+use crate::scope::{Scope, refused, within};
 use crate::statement::check_action;
-use action_tree::{Action, Var, Word};
+use action_tree::{Action, NameText, Var, Word};
 use indexmap::IndexSet;
 use std::alloc::Global;
 use text_tokens::{ReadRefusal, RefusalKind};
@@ -18,7 +18,7 @@ use text_tokens::{ReadRefusal, RefusalKind};
 const MOST_VALUE: u32 = 255;
 
 /// Declares a name behind these.
-fn declare(names: &mut IndexSet<Text>, name: &Word) -> Result<(), ReadRefusal>
+fn declare(names: &mut IndexSet<NameText>, name: &Word) -> Result<(), ReadRefusal>
     ensures fine { OnOk result (first_of (spec.declared_faults (texts names.old.keys) (name_of name.now)) ≡ Ok tt) }
     ensures names { OnOk result (texts names.new.keys ≡ texts names.old.keys ++ name.now.text.bytes ∷ []) }
     ensures wrong { IfErr result (TellsFirst (spec.declared_faults (texts names.old.keys) (name_of name.now))) }
@@ -30,7 +30,7 @@ fn declare(names: &mut IndexSet<Text>, name: &Word) -> Result<(), ReadRefusal>
 }
 
 /// The variables, whose names are given back in the order of their declaration.
-pub fn check_vars(alloc: Global, vars: &[Var]) -> Result<IndexSet<Text>, ReadRefusal>
+pub fn check_vars(alloc: Global, vars: &[Var]) -> Result<IndexSet<NameText>, ReadRefusal>
     ensures fine { OnOk result (first_of (spec.vars_faults [] (map var_of vars.now)) ≡ Ok tt) }
     ensures names { IfOk result (λ names. texts names.keys ≡ spec.names_of_vars (map var_of vars.now)) }
     ensures wrong { IfErr result (TellsFirst (spec.vars_faults [] (map var_of vars.now))) }
@@ -47,7 +47,7 @@ pub fn check_vars(alloc: Global, vars: &[Var]) -> Result<IndexSet<Text>, ReadRef
 pub fn check_actions(
     alloc: Global,
     actions: &[Action],
-    vars: &IndexSet<Text>,
+    vars: &IndexSet<NameText>,
 ) -> Result<(), ReadRefusal>
     requires { list_all is_action (map action_of actions.now) ≡ true }
     ensures fine { OnOk result (first_of (spec.actions_faults (record { vars = texts vars.now.keys; bound = [] }) [] (map action_of actions.now)) ≡ Ok tt) }

@@ -17,6 +17,7 @@ const MOST_DIRECTION: u32 = 5;
 /// The greatest number in a sum.
 const MOST_LITERAL: u32 = 65535;
 
+/// A guard: its first fault in the order of the text, of a name or of a number, if it has one.
 #[tactic(auto, using(crate::proofs::Firsts::first_behind, crate::proofs::Firsts::first_before))]
 #[cycle(expressions)]
 pub fn check_guard(guard: &Guard, scope: &Scope<'_>) -> Result<(), Refusal>
@@ -66,6 +67,7 @@ pub fn check_inside(name: &Word, guard: &Guard, scope: &Scope<'_>) -> Result<(),
     check_guard(guard, &scope.bind(name))
 }
 
+/// A sum, term by term. A number in it is at most 65,535; its first fault is told.
 #[tactic(auto, using(crate::proofs::Firsts::first_behind, crate::proofs::Firsts::first_before))]
 #[cycle(expressions)]
 pub fn check_sum(sum: &Sum, scope: &Scope<'_>) -> Result<(), Refusal>
@@ -98,6 +100,7 @@ fn check_term(term: &Term, scope: &Scope<'_>) -> Result<(), Refusal>
     }
 }
 
+/// A port. A direction and the number of a turn are at most 5; its first fault is told.
 #[tactic(auto, using(crate::proofs::Firsts::first_behind, crate::proofs::Firsts::first_before))]
 #[cycle(expressions)]
 pub fn check_port(port: &PortExpr, scope: &Scope<'_>) -> Result<(), Refusal>

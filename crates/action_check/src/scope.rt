@@ -6,19 +6,16 @@ ghost use Rattle.action_check.specs.Scopes.{HasRoom, is_among, bind as spec_bind
 ghost use Rattle.action_check.specs.Faults as spec;
 ghost use Rattle.action_check.specs.Told.{first_of, known, texts};
 
-use action_tree::{Lit, Word};
-use arrayvec::{ArrayString, ArrayVec};
+use action_tree::{Lit, MOST_NAMES, NameText, Word};
+use arrayvec::ArrayVec;
 use indexmap::IndexSet;
 use text_tokens::{Refusal, RefusalKind};
-
-/// A name without its line.
-pub type Text = ArrayString<24>;
 
 /// The variables, in the order of their declaration, and the names in force.
 #[derive(Drop)]
 pub struct Scope<'a> {
-    pub vars: &'a IndexSet<Text>,
-    pub bound: ArrayVec<Text, 4>,
+    pub vars: &'a IndexSet<NameText>,
+    pub bound: ArrayVec<NameText, MOST_NAMES>,
 }
 
 /// The refusal of a name.
@@ -33,7 +30,7 @@ pub fn refused(name: &Word, kind: RefusalKind) -> Result<(), Refusal>
 
 impl<'a> Scope<'a> {
     /// What is known at the beginning of an action.
-    pub fn new(vars: &'a IndexSet<Text>) -> Scope<'a>
+    pub fn new(vars: &'a IndexSet<NameText>) -> Scope<'a>
         ensures { known result ≡ record { vars = texts vars.now.keys; bound = [] } }
     {
         Scope {

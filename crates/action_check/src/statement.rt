@@ -2,7 +2,7 @@
 
 ghost use Rattle.std.specs.Prelude.{◌≡◌, Ok, Err, IfOk, IfErr};
 ghost use Rattle.action_tree.specs.Views as view;
-ghost use Rattle.action_tree.specs.Writable.{behind, stmt_names, stmts_names, move_names, action_names};
+ghost use Rattle.action_tree.specs.Writable.{with_let, stmt_names, stmts_names, move_names, action_names};
 ghost use Rattle.action_check.specs.Scopes.{HasRoom, after, after_all};
 ghost use Rattle.action_check.specs.Faults as spec;
 ghost use Rattle.action_check.specs.Told.{first_of, known};
@@ -14,7 +14,7 @@ use text_tokens::Refusal;
 
 /// What is known behind a statement.
 fn behind_stmt<'a>(stmt: &Stmt, scope: Scope<'a>) -> Scope<'a>
-    requires { HasRoom (known scope) (behind (view.stmt_of stmt.now) 0) }
+    requires { HasRoom (known scope) (with_let (view.stmt_of stmt.now) 0) }
     ensures { known result ≡ after (known scope.entry) (view.stmt_of stmt.now) }
 {
     match stmt {

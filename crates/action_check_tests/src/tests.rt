@@ -37,32 +37,32 @@ fn are_judged(rt: &impl Abort, alloc: Global, table: &[Judged]) -> Result<(), Fa
 }
 
 #[test]
-fn names_and_numbers_in_expressions(rt: HostRuntime) -> Result<(), Fail> {
+fn names_and_numbers_in_expressions_are_fine_or_refused(rt: HostRuntime) -> Result<(), Fail> {
     are_judged(&rt, rt.alloc(), &EXPRESSIONS)
 }
 
 #[test]
-fn names_in_statements_and_movements(rt: HostRuntime) -> Result<(), Fail> {
+fn names_in_statements_and_movements_are_fine_or_refused(rt: HostRuntime) -> Result<(), Fail> {
     are_judged(&rt, rt.alloc(), &STATEMENTS)
 }
 
 #[test]
-fn variables_and_actions(rt: HostRuntime) -> Result<(), Fail> {
+fn variables_and_actions_are_fine_or_refused(rt: HostRuntime) -> Result<(), Fail> {
     are_judged(&rt, rt.alloc(), &DECLARATIONS)
 }
 
 #[test]
-fn numbers_and_names_that_are_declared(rt: HostRuntime) -> Result<(), Fail> {
+fn declared_names_and_numbers_are_fine_or_refused(rt: HostRuntime) -> Result<(), Fail> {
     are_judged(&rt, rt.alloc(), &DECLARED)
 }
 
 #[test]
-fn names_that_stand_for_ports(rt: HostRuntime) -> Result<(), Fail> {
+fn names_of_ports_are_fine_or_refused(rt: HostRuntime) -> Result<(), Fail> {
     are_judged(&rt, rt.alloc(), &BOUND)
 }
 
 #[test]
-fn names_where_they_are_used(rt: HostRuntime) -> Result<(), Fail> {
+fn names_are_refused_where_they_are_used(rt: HostRuntime) -> Result<(), Fail> {
     are_judged(&rt, rt.alloc(), &USED)
 }
 

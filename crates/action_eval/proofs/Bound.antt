@@ -1,5 +1,5 @@
--- Names in force, and the variables.
-use Rattle.std.proofs.Common.{◌≡◌, ◌<◌, ◌+◌, ◌∙◌, ℕ, Bool, true, false, List, [], ◌∷◌, map, length, drop, get_or, refl, sym, ap, cond, not, Option, Some, None, nat_lt}
+-- The number of a variable.
+use Rattle.std.proofs.Common.{◌≡◌, ◌+◌, ◌∙◌, ℕ, Bool, true, false, List, [], ◌∷◌, length, refl, sym, ap, cond, not, Option, Some, None, nat_lt}
 use Rattle.std.specs.Prelude.{is_some, IsSome}
 use Rattle.std.specs.List.{position, position_or_len, Contains, list_any}
 use Rattle.std.specs.Str.{bytes_eq}
@@ -8,20 +8,7 @@ use Rattle.action_tree.specs.declared.program.Var.{Var}
 use Rattle.action_tree.specs.Trees.{Name}
 use Rattle.action_check.proofs.Known.{among}
 use Rattle.action_check.proofs.Texts.{same_either_way}
-use Rattle.action_check.proofs.Walking.{here}
-use Rattle.action_meaning.specs.Names.{port_in}
-use Rattle.action_eval.specs.declared.names.Bound as code_bound
-use Rattle.action_eval.specs.Known.{bound_of, vars_of}
-
--- ---- the port of a name
-
-pub port_here : (bs : List code_bound.Bound) (i : ℕ) (b : code_bound.Bound) (text : List ℕ) → i < length bs → b ≡ get_or bs i b → bytes_eq b.text.bytes text ≡ true → port_in (map bound_of (drop i bs)) text ≡ b.port
-port_here bs i b text l is same = rw (here bs i b l is, same) refl
-
-pub port_later : (bs : List code_bound.Bound) (i : ℕ) (b : code_bound.Bound) (text : List ℕ) → i < length bs → b ≡ get_or bs i b → bytes_eq b.text.bytes text ≡ false → port_in (map bound_of (drop i bs)) text ≡ port_in (map bound_of (drop (i + 1) bs)) text
-port_later bs i b text l is other = rw (here bs i b l is, other) refl
-
--- ---- the number of a variable
+use Rattle.action_eval.specs.Known.{vars_of}
 
 any_var : (text : List ℕ) (vs : List Var) → list_any (bytes_eq text) (vars_of vs) ≡ list_any (λ v. bytes_eq v.name.text.bytes text) vs
 any_var text [] = refl

@@ -2,7 +2,6 @@
 use Rattle.std.proofs.Common.{◌≡◌, ◌≤◌, ◌<◌, ◌+◌, ◌∙◌, ℕ, suc, Bool, true, false, List, [], ◌∷◌, length, map, drop, get_or, refl, sym, ap, subst, arith}
 use Rattle.std.specs.List.{All, list_all}
 use Rattle.std.specs.declared.result.Result.TheVariants.{Ok, Err}
-use Rattle.std.proofs.lemmas.Bool.{leb-true}
 use Rattle.std.proofs.lemmas.List.{get_or-map, length-map}
 use Rattle.std.proofs.Math.ListN.{drop_of_length-le}
 use Rattle.amoebot_state.specs.declared.verdict.Failure.{Failure}
@@ -12,7 +11,6 @@ use Rattle.model_ops.specs.WorkingCopies.{WorkingCopy, opened, own_id}
 use Rattle.amoebot_state.specs.Zones.{Shown, shown_alone}
 use Rattle.action_tree.specs.declared.program.Var as code_var
 use Rattle.action_tree.specs.declared.program.Action as code
-use Rattle.action_tree.specs.Limits.{most_actions}
 use Rattle.action_tree.specs.Trees.{Action, Program}
 use Rattle.action_tree.specs.Views.{var_of, guard_of, action_of}
 use Rattle.action_tree.specs.Writable.{is_action, is_writable}
@@ -103,9 +101,6 @@ verdict_is p s w guarded vs actions xs on at vars_are actions_are is =
     ∙ ap (λ ys. actions_verdict p.guard ys w.reached (own_id w) 0 (map action_of actions)) names
     ∙ ap (λ (v : WorkingCopy). actions_verdict p.guard (names_at_start p) v.reached (own_id v) 0 (map action_of actions)) at
     ∙ ap (λ ts. actions_verdict p.guard (names_at_start p) (shown_alone s) s.bot 0 ts) actions_are
-
-pub few_actions : (p : Program) → is_writable p ≡ true → length p.actions ≤ most_actions
-few_actions p f = leb-true (length p.actions) most_actions (right_of _ _ (left_of _ _ f))
 
 pub actions_formed : (p : Program) → is_writable p ≡ true → list_all is_action p.actions ≡ true
 actions_formed p f = right_of _ _ f

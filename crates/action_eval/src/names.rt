@@ -3,16 +3,17 @@
 ghost use Rattle.std.specs.Prelude.{◌≡◌, ◌≤◌, length};
 ghost use Rattle.std.specs.List.{position};
 ghost use Rattle.std.specs.Str.{bytes_eq};
-ghost use Rattle.action_tree.specs.Limits.{most_vars};
+ghost use Rattle.amoebot_state.specs.Limits.{most_vars};
+ghost use Rattle.action_tree.specs.Limits.{most_names};
 
-use action_tree::{Var, Word};
+use action_tree::{MOST_NAMES, NameText, Var, Word};
 use amoebot_state::{End, Port};
-use arrayvec::{ArrayString, ArrayVec};
+use arrayvec::ArrayVec;
 
 /// A name in force, and the port that it stands for.
 #[derive(Clone, Copy, Default)]
 pub struct Bound {
-    pub text: ArrayString<24>,
+    pub text: NameText,
     pub port: Port,
 }
 
@@ -20,7 +21,7 @@ pub struct Bound {
 #[derive(Drop)]
 pub struct Names<'p> {
     pub vars: &'p [Var],
-    pub bound: ArrayVec<Bound, 4>,
+    pub bound: ArrayVec<Bound, MOST_NAMES>,
     ghost few: { length vars.now ≤ most_vars },
 }
 
@@ -46,7 +47,7 @@ impl<'p> Names<'p> {
     pub fn var_number(&self, name: &Word) -> u8
         requires { IsVar (scope_of (known self.now)) (name_of name.now) }
         ensures value { result ≡ var_number (known self.now) (name_of name.now) }
-        ensures below { result < 8 }
+        ensures below { result < most_vars }
     {
         let place = first_named(self.vars, name).unwrap();
         place as u8
@@ -83,7 +84,7 @@ impl<'p> Names<'p> {
 
     /// With one more name in force.
     pub fn bind(&self, name: &Word, port: Port) -> Names<'p>
-        requires { length (known self.now).bound < 4 }
+        requires { length (known self.now).bound < most_names }
         ensures { known result ≡ spec_bind (known self.now) (name_of name.now) port }
     {
         let mut names = self.copy();

@@ -371,26 +371,26 @@ fn is_valued(rt: &impl Abort, alloc: Global, world: &World, asked: &Asked) -> Re
 }
 
 #[test]
-fn words_and_what_they_join(rt: HostRuntime) -> Result<(), Fail> {
+fn words_and_what_they_join_have_these_values(rt: HostRuntime) -> Result<(), Fail> {
     are_valued(&rt, rt.alloc(), &JOINED)
 }
 
 #[test]
-fn what_goes_through_the_ports_of_a_set(rt: HostRuntime) -> Result<(), Fail> {
+fn what_goes_through_the_ports_of_a_set_has_these_values(rt: HostRuntime) -> Result<(), Fail> {
     are_valued(&rt, rt.alloc(), &THROUGH_PORTS)
 }
 
 #[test]
-fn ports_and_what_is_asked_of_one(rt: HostRuntime) -> Result<(), Fail> {
+fn what_is_asked_of_a_port_has_these_values(rt: HostRuntime) -> Result<(), Fail> {
     are_valued(&rt, rt.alloc(), &PORTS)
 }
 
 #[test]
-fn ports_that_fail(rt: HostRuntime) -> Result<(), Fail> {
+fn what_is_asked_of_a_port_fails_as_the_port_does(rt: HostRuntime) -> Result<(), Fail> {
     are_valued(&rt, rt.alloc(), &FAILING_PORTS)
 }
 
 #[test]
-fn sums_and_their_comparisons(rt: HostRuntime) -> Result<(), Fail> {
+fn sums_and_their_comparisons_have_these_values(rt: HostRuntime) -> Result<(), Fail> {
     are_valued(&rt, rt.alloc(), &SUMS)
 }

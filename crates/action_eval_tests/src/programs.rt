@@ -537,21 +537,21 @@ fn is_run(rt: &impl Abort, alloc: Global, row: &Run) -> Result<(), Fail> {
 }
 
 #[test]
-fn movements_and_what_they_need(rt: HostRuntime) -> Result<(), Fail> {
+fn movements_are_made_or_fail_as_told(rt: HostRuntime) -> Result<(), Fail> {
     are_run(&rt, rt.alloc(), &MOVEMENTS)
 }
 
 #[test]
-fn writes_and_the_order_of_their_failures(rt: HostRuntime) -> Result<(), Fail> {
+fn writes_are_made_or_fail_in_this_order(rt: HostRuntime) -> Result<(), Fail> {
     are_run(&rt, rt.alloc(), &WRITES)
 }
 
 #[test]
-fn statements_one_after_the_other(rt: HostRuntime) -> Result<(), Fail> {
+fn statements_are_run_one_after_the_other(rt: HostRuntime) -> Result<(), Fail> {
     are_run(&rt, rt.alloc(), &STATEMENTS)
 }
 
 #[test]
-fn the_action_that_decides(rt: HostRuntime) -> Result<(), Fail> {
+fn the_first_action_whose_guard_holds_decides(rt: HostRuntime) -> Result<(), Fail> {
     are_run(&rt, rt.alloc(), &ACTIONS)
 }

@@ -6,8 +6,9 @@ use Rattle.text_tokens.proofs.Tokenizing.{tokens_cut}
 use Rattle.text_tokens.specs.Reading.{less, no_limit}
 use Rattle.text_tokens.specs.Grammar.{Symbol, Lang, then, made, is_nothing, of_first, of_second, Limited, Repeated, no_more as no_more_in, one_more}
 use Rattle.text_tokens.specs.Lawful.{Starts, IsText}
+use Rattle.amoebot_state.specs.Limits.{most_vars}
 use Rattle.action_tree.specs.Trees.{Guard, negation, quantified, Guards, guard_then, Sum, term_then, Term, count, mod6, PortExpr, turned, first, Stmt, let_be, if_then, for_each, Stmts, stmt_then, Move, Var, Action, Program}
-use Rattle.action_tree.specs.Limits.{most_levels, most_names, most_vars, most_actions}
+use Rattle.action_tree.specs.Limits.{most_levels, most_names, most_actions}
 use Rattle.action_tree.specs.Productions.{IsName, OfExpr, joined_by_or, OfConjs, no_conj, or_conj, OfConj, joined_by_and, OfUnits, no_unit, and_unit, OfUnit, one_word, not_unit, in_parens, some_or_each, asked, compared, OfSum, added, OfTerms, no_term, and_term, OfTerm, a_number, own_name, port_name, counted, directed, own_direction, modulo, OfPort, bound_name, end_and_dir, turned_by, first_in, after_all, OfStmt, put_own, put_there, let_name, if_fi, for_od, OfOptional, left_out, given, OfStmts, one_and_more, OfMore, no_more, and_more, OfMove, nowhere, moved_through, contracted, OfVar, OfAction, OfVars, no_var, and_var, OfActions, no_action, and_action, OfProgram}
 use Rattle.action_grammar.specs.declared.role.Role.TheVariants.{ANumber, LastWord, TurnWord, OpenSign, MinusSign, NotWord, IfWord, ForWord, VarWord, ActionWord}
 use Rattle.action_grammar.specs.Roles.{role, as_literal, as_test, as_cmp, as_side, as_end, as_atom, as_quantifier, as_port_move, as_name, is_a}

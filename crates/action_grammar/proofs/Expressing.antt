@@ -208,7 +208,7 @@ starts_term n left = starts_roles role (level_limit n) (TermBy n left) (IsTerm n
 -- ---- lists
 
 -- the text of a list, of which this was made
-pub record Kept {A B : Type 0} (L : Lang (List A)) (whole : List A → B) (xs : List Symbol) (b : B) : Type 0 where
+pub record MadeOfList {A B : Type 0} (L : Lang (List A)) (whole : List A → B) (xs : List Symbol) (b : B) : Type 0 where
   pub many : List A
   pub same : whole many ≡ b
   pub is : L xs many
@@ -237,7 +237,7 @@ terms_from n left room us ps (one_more {ys = zs} {rest = rest} p (then {xs = xs}
     subst (λ (ws : List Symbol). IsTerms n left room ((xs ++ ws) ++ zs) (term_then p.minus p.term (terms rest))) (sym l.1)
     (made_case (IsTerm n left) (signed u) l.0 (λ p. IsTerms n left room ((xs ++ limited_text room l.0) ++ zs) (term_then p.minus p.term (terms rest))) (λ t is. more_terms o is (terms_from n left (less room) zs rest m)) p l.2)
 
-terms_to : (n left room : ℕ) (xs : List Symbol) (s : Sum) → IsTerms n left room xs s → Kept (Terms n left room) terms xs s
+terms_to : (n left room : ℕ) (xs : List Symbol) (s : Sum) → IsTerms n left room xs s → MadeOfList (Terms n left room) terms xs s
 terms_to n left room xs s no_more_terms = record { many = []; same = refl; is = no_more }
 terms_to n left room us s (more_terms {xs = xs} {ys = ys} {zs = zs} {u = u} {t = t} {ts = ts} o is m) =
     let k = terms_to n left (less room) zs ts m in
@@ -403,7 +403,7 @@ units_from n left room us gs (one_more {ys = zs} {rest = rest} g (then {xs = xs}
     let l = limited_is (IsUnit n left) room ys g c in
     subst (λ (ws : List Symbol). IsUnits n left room ((xs ++ ws) ++ zs) (guard_then g (guards rest))) (sym l.1) (more_units o l.2 (units_from n left (less room) zs rest m))
 
-units_to : (n left room : ℕ) (xs : List Symbol) (s : Guards) → IsUnits n left room xs s → Kept (Units n left room) guards xs s
+units_to : (n left room : ℕ) (xs : List Symbol) (s : Guards) → IsUnits n left room xs s → MadeOfList (Units n left room) guards xs s
 units_to n left room xs s no_more_units = record { many = []; same = refl; is = no_more }
 units_to n left room us s (more_units {xs = xs} {ys = ys} {zs = zs} {u = u} {g = g} {gs = gs} o is m) =
     let k = units_to n left (less room) zs gs m in
@@ -438,7 +438,7 @@ conjs_from n left room us gs (one_more {ys = zs} {rest = rest} g (then {xs = xs}
     let l = limited_is (IsConj n left) room ys g c in
     subst (λ (ws : List Symbol). IsConjs n left room ((xs ++ ws) ++ zs) (guard_then g (guards rest))) (sym l.1) (more_conjs o l.2 (conjs_from n left (less room) zs rest m))
 
-conjs_to : (n left room : ℕ) (xs : List Symbol) (s : Guards) → IsConjs n left room xs s → Kept (Conjs n left room) guards xs s
+conjs_to : (n left room : ℕ) (xs : List Symbol) (s : Guards) → IsConjs n left room xs s → MadeOfList (Conjs n left room) guards xs s
 conjs_to n left room xs s no_more_conjs = record { many = []; same = refl; is = no_more }
 conjs_to n left room us s (more_conjs {xs = xs} {ys = ys} {zs = zs} {u = u} {g = g} {gs = gs} o is m) =
     let k = conjs_to n left (less room) zs gs m in

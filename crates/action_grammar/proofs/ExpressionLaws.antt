@@ -140,7 +140,7 @@ module _ (n left : ℕ) (below : ℕ → Readers) (under : (t : Lexeme) → deep
 
   pub terms_chained : AreChained (IsTerm n left) (a_term n left below) is_plus_or_minus (PartIn n left) (part_in n left below) (ends stops_term) (ends stops_sum)
   terms_chained = record {
-    sample = example PlusSign;
+    passing = example PlusSign;
     passes = passes_sign;
     before = part_term;
     part = signed_part;
@@ -205,7 +205,7 @@ module _ (n left : ℕ) (below : ℕ → Readers) (under : (t : Lexeme) → deep
 
   pub units_chained : AreChained (IsUnit n left) (a_unit n left below) (is_a AndWord) (UnitIn n left) (unit_in n left below) (ends stops_sum) (ends stops_conj)
   units_chained = record {
-    sample = example AndWord;
+    passing = example AndWord;
     passes = passes AndWord;
     before = part_unit;
     part = λ sign room. part_limited (IsUnit n left) (a_unit n left below) (λ t. begins_unit (role t)) (level_limit n) (starts_unit n left) (ends stops_sum) part_unit room;
@@ -220,7 +220,7 @@ module _ (n left : ℕ) (below : ℕ → Readers) (under : (t : Lexeme) → deep
 
   pub conjs_chained : AreChained (IsConj n left) (a_conj n left below) (is_a OrWord) (ConjIn n left) (conj_in n left below) (ends stops_conj) (ends stops_expr)
   conjs_chained = record {
-    sample = example OrWord;
+    passing = example OrWord;
     passes = passes OrWord;
     before = part_conj;
     part = λ sign room. part_limited (IsConj n left) (a_conj n left below) (λ t. begins_unit (role t)) (level_limit n) (starts_conj n left) (ends stops_conj) part_conj room;

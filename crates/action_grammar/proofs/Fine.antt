@@ -18,8 +18,8 @@ use Rattle.text_tokens.proofs.Decimal.{small_within}
 use Rattle.text_tokens.proofs.Beginnings.{past_first}
 use Rattle.text_tokens.proofs.Splitting.{or_else_none}
 use Rattle.action_tree.specs.Trees.{fixed, held}
-use Rattle.action_tree.specs.Words.{is_word, is_number, is_reserved}
-use Rattle.action_tree.specs.Productions.{IsName, IsNumber, OfDirTerm, dir_number, dir_name}
+use Rattle.action_tree.specs.Words.{is_word, has_few_digits, is_reserved}
+use Rattle.action_tree.specs.Productions.{IsName, IsNumberToken, OfDirTerm, dir_number, dir_name}
 use Rattle.action_tree.proofs.Conditions.{left_of, right_of}
 use Rattle.action_tree.proofs.Spelling.{cut_is_word}
 use Rattle.action_grammar.specs.declared.role.Role.{Role}
@@ -33,14 +33,14 @@ use Rattle.action_grammar.proofs.Naming.{names, numbers}
 -- a word is one, and a number is not too long
 pub record IsSound (t : Lexeme) : Type 0 where
   pub words : t.kind ≡ Word → is_word t.text ≡ true
-  pub numbers : t.kind ≡ Number → is_number (value t) ≡ true
+  pub numbers : t.kind ≡ Number → has_few_digits (value t) ≡ true
 
 pub name_sound : (t : Lexeme) → IsSound t → is_a AName t ≡ true → IsName (as_name t)
 name_sound t s e =
     let f : (is_kind Word t && not (is_reserved t.text)) ≡ true = sym (names t) ∙ e in
     and_from _ _ (s.words (kind_is Word t (left_of _ _ f))) (right_of _ _ f)
 
-pub number_sound : (t : Lexeme) → IsSound t → is_a ANumber t ≡ true → IsNumber (as_literal t)
+pub number_sound : (t : Lexeme) → IsSound t → is_a ANumber t ≡ true → IsNumberToken (as_literal t)
 number_sound t s e = s.numbers (kind_is Number t (sym (numbers t) ∙ e))
 
 digit_small : (b : ℕ) → is_digit b ≡ true → b - 48 ≤ 9
@@ -53,7 +53,7 @@ value_small (b ∷ digits) e =
     let first : (b - 48) * 10 ^ length digits ≤ 9 * 10 ^ length digits = mul-le-mul_right (10 ^ length digits) (digit_small b (left_of _ _ e)) in
     let whole : 10 ^ suc (length digits) ≡ 10 * 10 ^ length digits = pow-succ' 10 (length digits) in omega arith
 
-number_small : (text rest : List ℕ) → Cuts Number text rest → length text ≤ most_bytes Number → is_number (number_value text) ≡ true
+number_small : (text rest : List ℕ) → Cuts Number text rest → length text ≤ most_bytes Number → has_few_digits (number_value text) ≡ true
 number_small text rest (number {b = b} {bytes = bytes} d all stops) few = lt-ltb _ _ (small_within (number_value (b ∷ bytes)) (length (b ∷ bytes)) 9 (value_small (b ∷ bytes) (and_from _ _ d all)) few)
 
 cut_sound : (t : Lexeme) → IsCut t → IsSound t
@@ -97,7 +97,7 @@ fine_text (x ∷ xs) e s =
 pub name_of : (xs : List Symbol) (t : Lexeme) → IsA AName xs t → IsFine xs → IsName (as_name t)
 name_of xs t (is_one u e) f = name_sound u f.1 e
 
-pub number_of : (xs : List Symbol) (t : Lexeme) → IsA ANumber xs t → IsFine xs → IsNumber (as_literal t)
+pub number_of : (xs : List Symbol) (t : Lexeme) → IsA ANumber xs t → IsFine xs → IsNumberToken (as_literal t)
 number_of xs t (is_one u e) f = number_sound u f.1 e
 
 pub dirterm_of : (xs : List Symbol) (t : Lexeme) → IsOne is_dirterm no_limit xs t → IsFine xs → OfDirTerm (as_dirterm t)

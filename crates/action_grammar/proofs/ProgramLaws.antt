@@ -10,9 +10,10 @@ use Rattle.text_tokens.proofs.Parts.{part_less, part_before, some_text}
 use Rattle.text_tokens.proofs.Beginnings.{starts_in, starts_some, starts_one, starts_made, starts_then, starts_in_nothing, starts_in_either, starts_in_then, starts_in_more, starts_in_made, starts_in_repeated, starts_limited, some_behind as tokens_behind}
 use Rattle.text_tokens.proofs.Choosing.{part_optional, part_roles}
 use Rattle.text_tokens.proofs.Repeating.{part_repeated, at_most_elements}
+use Rattle.amoebot_state.specs.Limits.{most_vars}
 use Rattle.action_tree.specs.Trees.{Guard, Stmts, no_stmts, Move, no_move, through, contract, Var, Action, Program}
 use Rattle.action_tree.specs.Productions.{after_all}
-use Rattle.action_tree.specs.Limits.{most_levels, most_names, most_vars, most_actions}
+use Rattle.action_tree.specs.Limits.{most_levels, most_names, most_actions}
 use Rattle.action_grammar.specs.declared.role.Role.{Role}
 use Rattle.action_grammar.specs.declared.role.Role.TheVariants.{AName, ANumber, EndWord, DoWord, MoveWord, NoneWord, ThroughWord, ContractWord, ProgramWord, GuardWord, SwitchWord, VarWord, ActionWord, WhenWord, LastWord}
 use Rattle.action_grammar.specs.Roles.{role, same_role, is_a, as_end, as_switch, as_port_move}

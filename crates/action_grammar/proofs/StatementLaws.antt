@@ -203,7 +203,7 @@ module _ (n left : ℕ) (below : ℕ → Reader Stmts) (under : (t : Lexeme) →
 module _ (n : ℕ) (below : ℕ → Reader Stmts) (under : (t : Lexeme) → deep_at n t ≡ None → (left : ℕ) → IsPart (IsStmts (less n) left) (below left) (ends stops_stmts)) where
   pub stmts_chained : (left : ℕ) → AreChained (IsStmt n left) (a_stmt n left below) (is_a SemicolonSign) (StmtIn n) (stmt_in n below) (ends stops_sum) (ends stops_stmts)
   stmts_chained left = record {
-    sample = example SemicolonSign;
+    passing = example SemicolonSign;
     passes = passes SemicolonSign;
     before = part_stmt n left below under;
     part = λ sign s. part_limited (IsStmt n s.left) (a_stmt n s.left below) (λ t. begins_stmt (role t)) (level_limit n) (starts_stmt n s.left) (ends stops_sum) (part_stmt n s.left below under) s.room;

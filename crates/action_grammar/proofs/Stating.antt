@@ -16,7 +16,7 @@ use Rattle.action_grammar.specs.Statements.{IsStmt, is_put, is_put_of, is_let, i
 use Rattle.action_grammar.specs.ExpressionReaders.{level_limit}
 use Rattle.action_grammar.specs.StatementReaders.{begins_stmt, Scope, scope_behind}
 use Rattle.action_grammar.proofs.Playing.{is_in, example, passes, passes_dirterm, an_example}
-use Rattle.action_grammar.proofs.Expressing.{some_port, some_sum, some_expr, some_selection, Formed, formed_more, formed_open, made_case, limited_is, is_limited, PortBy, roles_port, symbol_by, Kept}
+use Rattle.action_grammar.proofs.Expressing.{some_port, some_sum, some_expr, some_selection, Formed, formed_more, formed_open, made_case, limited_is, is_limited, PortBy, roles_port, symbol_by, MadeOfList}
 
 -- ---- some text of each family
 
@@ -183,7 +183,7 @@ more_from n s us ss (one_more {ys = zs} {rest = rest} a (then {xs = xs} {ys = ys
     let l = limited_is (IsStmt n s.left) s.room ys a c in
     subst (λ (ws : List Symbol). IsMore n s.left s.room ((xs ++ ws) ++ zs) (stmt_then a (stmts rest))) (sym l.1) (more_stmts o l.2 (more_from n (scope_behind s a) zs rest m))
 
-more_to : (n left room : ℕ) (xs : List Symbol) (ss : Stmts) → IsMore n left room xs ss → Kept (Further n (scope_of room left)) stmts xs ss
+more_to : (n left room : ℕ) (xs : List Symbol) (ss : Stmts) → IsMore n left room xs ss → MadeOfList (Further n (scope_of room left)) stmts xs ss
 more_to n left room xs ss no_more_stmts = record { many = []; same = refl; is = no_more }
 more_to n left room us ss (more_stmts {xs = xs} {ys = ys} {zs = zs} {u = u} {s = s} {ss = rest} o is m) =
     let k = more_to n (after left s) (less room) zs rest m in

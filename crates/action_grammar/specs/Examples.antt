@@ -307,37 +307,37 @@ copies zero piece = []
 copies (suc n) piece = piece ∷ copies n piece
 
 -- behind so many pieces
-abbrev pub behind : ℕ → List ℕ → List (List ℕ) → List ℕ
-behind n piece more = joined (copies n piece ++ more)
+abbrev pub after_copies : ℕ → List ℕ → List (List ℕ) → List ℕ
+after_copies n piece more = joined (copies n piece ++ more)
 
 -- 64 elements of an `and`, of an `or`, of a sum
 abbrev pub element_counts : List Limit
 element_counts =
-    limit (behind 63 (codes "true and") (codes "true" ∷ [])) TooMany 129 (behind 64 (codes "true and") (codes "true" ∷ []))
-    ∷ limit (behind 63 (codes "true or") (codes "true" ∷ [])) TooMany 129 (behind 64 (codes "true or") (codes "true" ∷ []))
-    ∷ limit (behind 63 (codes "1 +") (codes "1 = 0" ∷ [])) TooMany 129 (behind 64 (codes "1 +") (codes "1 = 0" ∷ []))
-    ∷ limit (behind 63 (codes "true or") (codes "not not true" ∷ [])) TooMany 129 (behind 64 (codes "true or") (codes "not not true" ∷ []))
+    limit (after_copies 63 (codes "true and") (codes "true" ∷ [])) TooMany 129 (after_copies 64 (codes "true and") (codes "true" ∷ []))
+    ∷ limit (after_copies 63 (codes "true or") (codes "true" ∷ [])) TooMany 129 (after_copies 64 (codes "true or") (codes "true" ∷ []))
+    ∷ limit (after_copies 63 (codes "1 +") (codes "1 = 0" ∷ [])) TooMany 129 (after_copies 64 (codes "1 +") (codes "1 = 0" ∷ []))
+    ∷ limit (after_copies 63 (codes "true or") (codes "not not true" ∷ [])) TooMany 129 (after_copies 64 (codes "true or") (codes "not not true" ∷ []))
     ∷ []
 
 -- where an element one too many is none, is missing, or also opens a level too many
 abbrev pub past_elements : List Wrong
 past_elements =
-    wrong Unexpected 129 (behind 64 (codes "true and") (codes "and" ∷ []))
+    wrong Unexpected 129 (after_copies 64 (codes "true and") (codes "and" ∷ []))
     ∷ wrong Truncated 128 (joined (copies 64 (codes "true and")))
-    ∷ wrong TooDeep 131 (codes "not not " ++ behind 64 (codes "1 +") (codes "turn p 1 . x = 0" ∷ []))
+    ∷ wrong TooDeep 131 (codes "not not " ++ after_copies 64 (codes "1 +") (codes "turn p 1 . x = 0" ∷ []))
     ∷ []
 
 -- 64 statements
 abbrev pub statement_counts : List Limit
-statement_counts = limit (behind 63 (codes "x := 1 ;") (codes "x := 1" ∷ [])) TooMany 257 (behind 64 (codes "x := 1 ;") (codes "x := 1" ∷ [])) ∷ []
+statement_counts = limit (after_copies 63 (codes "x := 1 ;") (codes "x := 1" ∷ [])) TooMany 257 (after_copies 64 (codes "x := 1 ;") (codes "x := 1" ∷ [])) ∷ []
 
 -- 8 variables, 32 actions, 4 names that an action binds
 abbrev pub program_counts : List Limit
 program_counts =
-    limit (codes "program " ++ behind 8 (codes "var x 1") (codes "end" ∷ [])) TooMany 26 (codes "program " ++ behind 9 (codes "var x 1") (codes "end" ∷ []))
-    ∷ limit (codes "program " ++ behind 32 (codes "action a when true") (codes "end" ∷ [])) TooMany 130 (codes "program " ++ behind 33 (codes "action a when true") (codes "end" ∷ []))
-    ∷ limit (codes "program action a when true do " ++ behind 3 (codes "let p := head 0 ;") (codes "let p := head 0 move expand p end" ∷ [])) TooMany 33
-    (codes "program action a when true do " ++ behind 3 (codes "let p := head 0 ;") (codes "let p := head 0 move expand first p in ports ( true ) end" ∷ []))
+    limit (codes "program " ++ after_copies 8 (codes "var x 1") (codes "end" ∷ [])) TooMany 26 (codes "program " ++ after_copies 9 (codes "var x 1") (codes "end" ∷ []))
+    ∷ limit (codes "program " ++ after_copies 32 (codes "action a when true") (codes "end" ∷ [])) TooMany 130 (codes "program " ++ after_copies 33 (codes "action a when true") (codes "end" ∷ []))
+    ∷ limit (codes "program action a when true do " ++ after_copies 3 (codes "let p := head 0 ;") (codes "let p := head 0 move expand p end" ∷ [])) TooMany 33
+    (codes "program action a when true do " ++ after_copies 3 (codes "let p := head 0 ;") (codes "let p := head 0 move expand first p in ports ( true ) end" ∷ []))
     ∷ []
 
 pub record LimitsAreKept : Type 0 where

@@ -1,9 +1,10 @@
 -- Readers of movements, actions and programs.
 use Rattle.std.specs.Prelude.{ℕ, Bool, false}
 use Rattle.text_tokens.specs.Reading.{Reader, ◌>>=◌, pure, refuse, one, no_limit, optional, by_role, at_most}
+use Rattle.amoebot_state.specs.Limits.{most_vars}
 use Rattle.action_tree.specs.Trees.{Stmts, no_stmts, Move, no_move, through, contract, Var, Action, Program}
 use Rattle.action_tree.specs.Productions.{after_all}
-use Rattle.action_tree.specs.Limits.{most_levels, most_names, most_vars, most_actions}
+use Rattle.action_tree.specs.Limits.{most_levels, most_names, most_actions}
 use Rattle.action_grammar.specs.declared.role.Role.{Role}
 use Rattle.action_grammar.specs.declared.role.Role.TheVariants.{AName, ANumber, EndWord, DoWord, MoveWord, NoneWord, ThroughWord, ContractWord, ProgramWord, GuardWord, SwitchWord, VarWord, ActionWord, WhenWord, LastWord}
 use Rattle.action_grammar.specs.Roles.{role, is_a, as_end, as_switch, as_port_move}

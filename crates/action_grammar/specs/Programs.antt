@@ -2,9 +2,10 @@
 use Rattle.std.specs.Prelude.{ℕ, Bool, false, List}
 use Rattle.text_tokens.specs.Text.{Lexeme}
 use Rattle.text_tokens.specs.Grammar.{Symbol, Lang, Then, Made, IsOptional, AtMost}
+use Rattle.amoebot_state.specs.Limits.{most_vars}
 use Rattle.action_tree.specs.Trees.{Guard, Stmts, no_stmts, Move, no_move, through, contract, Var, Action, Program}
 use Rattle.action_tree.specs.Productions.{after_all}
-use Rattle.action_tree.specs.Limits.{most_levels, most_names, most_vars, most_actions}
+use Rattle.action_tree.specs.Limits.{most_levels, most_names, most_actions}
 use Rattle.action_grammar.specs.declared.role.Role.TheVariants.{AName, ANumber, EndWord, DoWord, MoveWord, NoneWord, ThroughWord, ContractWord, ProgramWord, GuardWord, SwitchWord, VarWord, ActionWord, WhenWord, LastWord}
 use Rattle.action_grammar.specs.Roles.{as_name, as_literal, as_end, as_switch, as_port_move}
 use Rattle.action_grammar.specs.Expressions.{IsA, IsPort, IsExpr}

@@ -3,7 +3,8 @@
 ghost use Rattle.std.specs.Prelude.{◌≡◌, ◌<◌, IfOk, IfSome, map, option_map};
 ghost use Rattle.text_tokens.specs.Steps.{Gives, TellsOf, ReadsOf, another};
 ghost use Rattle.text_tokens.specs.Reading.{no_limit, limited, at_most};
-ghost use Rattle.action_tree.specs.Limits.{most_levels, most_names, most_vars, most_actions};
+ghost use Rattle.amoebot_state.specs.Limits.{most_vars};
+ghost use Rattle.action_tree.specs.Limits.{most_levels, most_names, most_actions};
 ghost use Rattle.action_tree.specs.Views.{var_of, action_of};
 ghost use Rattle.action_grammar.specs.Roles.{is_a};
 ghost use Rattle.action_grammar.specs.declared.role.Role.TheVariants as role;

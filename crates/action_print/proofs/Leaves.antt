@@ -17,7 +17,7 @@ use Rattle.action_tree.specs.declared.expression.Cmp.{Cmp}
 use Rattle.action_tree.specs.declared.expression.Cmp.TheVariants.{Eq, Ne, Lt, Le, Gt, Ge}
 use Rattle.action_tree.specs.Trees.{Name, Literal, DirTerm, fixed, held, Atom, always, never, contracted, expanded, Quantifier, any, all, PortTest, linked, free, at_head, peer_expanded, peer_head, Side, own_side, peer_side, PortMove, expand, push, pull}
 use Rattle.action_tree.specs.Lines.{bare_name, bare_literal, bare_dirterm}
-use Rattle.action_tree.specs.Words.{is_word, is_reserved, is_name, is_number}
+use Rattle.action_tree.specs.Words.{is_word, is_reserved, is_name, has_few_digits}
 use Rattle.action_tree.specs.Writable.{is_dirterm}
 use Rattle.action_grammar.specs.declared.role.Role.{Role}
 use Rattle.action_grammar.specs.declared.role.Role.TheVariants.{AName, ANumber, PlusSign, MinusSign, CompareSign, AtomWord, QuantifierWord, TestWord, FreeWord, PortsWord, SideWord, EndWord, ThroughWord, SwitchWord}
@@ -88,19 +88,19 @@ a_name fine v e =
 
 -- ---- numbers
 
-small : (n : ℕ) → is_number n ≡ true → n < 10 ^ 9
+small : (n : ℕ) → has_few_digits n ≡ true → n < 10 ^ 9
 small n e = ltb-true n (10 ^ 9) e
 
-number_plays : (n : ℕ) → is_number n ≡ true → role_by (kind_of (decimal n)) (decimal n) ≡ ANumber
+number_plays : (n : ℕ) → has_few_digits n ≡ true → role_by (kind_of (decimal n)) (decimal n) ≡ ANumber
 number_plays n e = ap (λ k. role_by k (decimal n)) (number_kind n (small n e))
 
 abbrev pub IsLiteralOf : Literal → Lexeme → Type 0
 IsLiteralOf m t = bare_literal (as_literal t) ≡ bare_literal m
 
-spelled_literal : (m : Literal) → is_number m.value ≡ true → (t : Lexeme) → IsSpelled (decimal m.value) t → IsLiteralOf m t
+spelled_literal : (m : Literal) → has_few_digits m.value ≡ true → (t : Lexeme) → IsSpelled (decimal m.value) t → IsLiteralOf m t
 spelled_literal m e t s = ap (λ (n : ℕ). record { value = n; line = 0 }) (spelled_number m.value (small m.value e) t s).1
 
-pub a_number : (m : Literal) → is_number m.value ≡ true → Rereads (IsA ANumber) (IsLiteralOf m) (literal_word m ∷ [])
+pub a_number : (m : Literal) → has_few_digits m.value ≡ true → Rereads (IsA ANumber) (IsLiteralOf m) (literal_word m ∷ [])
 a_number m e = rereads_by (λ t. t) (λ xs t p. p) (λ t s. spelled_literal m e t s) (a_token free_of ANumber (decimal m.value) (number_plays m.value e) (number_token m.value (small m.value e)))
 
 -- ---- what a token stands for

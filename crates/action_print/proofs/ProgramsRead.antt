@@ -6,10 +6,11 @@ use Rattle.std.proofs.lemmas.Grind.{flat_map-append}
 use Rattle.std.proofs.lemmas.List.{append-nil}
 use Rattle.text_tokens.specs.Lines.{Words}
 use Rattle.text_tokens.specs.Grammar.{then, made, of_first, of_second, is_nothing, in_limit, no_more, one_more, AtMost}
+use Rattle.amoebot_state.specs.Limits.{most_vars}
 use Rattle.action_tree.specs.Trees.{Stmts, no_stmts, stmt_then, Move, no_move, through, contract, Var, Action, Program}
 use Rattle.action_tree.specs.Lines.{bare_move, bare_var, bare_action, without_lines}
 use Rattle.action_tree.specs.Productions.{after_all}
-use Rattle.action_tree.specs.Limits.{most_levels, most_names, most_elements, most_vars, most_actions}
+use Rattle.action_tree.specs.Limits.{most_levels, most_names, most_elements, most_actions}
 use Rattle.action_tree.specs.Writable.{named, is_guard, is_count_from, stmt_count, are_stmts, is_move, move_levels, move_names, stmts_names, stmts_levels, action_levels, action_names, is_var, is_action, is_writable}
 use Rattle.action_tree.proofs.Conditions.{left_of, right_of, upto}
 use Rattle.action_tree.proofs.ProducedStatements.{rest_of_all}

@@ -7,7 +7,7 @@ use Rattle.action_tree.specs.Lines.{bare_stmt, bare_stmts}
 use Rattle.action_tree.specs.Productions.{after, after_all}
 use Rattle.action_tree.specs.Limits.{most_elements, most_further}
 use Rattle.action_tree.specs.Words.{is_name}
-use Rattle.action_tree.specs.Writable.{guard_levels, guard_names, is_guard, behind, stmt_levels, stmts_levels, stmt_names, stmts_names, stmt_count, is_stmt, are_stmts}
+use Rattle.action_tree.specs.Writable.{guard_levels, guard_names, is_guard, with_let, stmt_levels, stmts_levels, stmt_names, stmts_names, stmt_count, is_stmt, are_stmts}
 use Rattle.action_tree.proofs.Conditions.{left_of, right_of, from, upto}
 use Rattle.action_tree.proofs.ProducedStatements.{rest_of_all}
 use Rattle.action_grammar.specs.declared.role.Role.TheVariants.{DotSign, BecomesSign, SemicolonSign, LetWord, IfWord, ThenWord, ElseWord, FiWord, ForWord, DoWord, OdWord}
@@ -105,7 +105,7 @@ else_some_read : (n left : ℕ) (s : Stmt) (ss : Stmts) → Rereads (IsStmts n l
 else_some_read n left s ss stmts = rereads_two (λ e ts. ts) (λ xs ys e ts p q. with_else p q) (λ e ts p q. q) (a_word free_of ElseWord (codes "else") refl refl) stmts
 
 mutual
-  pub stmt_read : (s : Stmt) (n left more : ℕ) → stmt_levels s ≤ n → stmt_names s ≤ left → behind s more ≤ left → is_stmt s ≡ true → Rereads (IsStmt n left) (IsStmtOf s) (stmt_words s)
+  pub stmt_read : (s : Stmt) (n left more : ℕ) → stmt_levels s ≤ n → stmt_names s ≤ left → with_let s more ≤ left → is_stmt s ≡ true → Rereads (IsStmt n left) (IsStmtOf s) (stmt_words s)
   stmt_read (put v s) n left more l m b f = put_read n left v s (left_of _ _ f) (whole_sum_read s n left l m (right_of _ _ f))
   stmt_read (put_of p v s) n left more l m b f =
       put_of_read n left p v s (port_read p n left (omega (arith, l)) (omega (arith, m)) (left_of _ _ (left_of _ _ f))) (right_of _ _ (left_of _ _ f)) (whole_sum_read s n left (omega (arith, l)) (omega (arith, m)) (right_of _ _ f))

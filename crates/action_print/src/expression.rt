@@ -27,6 +27,7 @@ fn is_unit(guard: &Guard) -> bool
     !matches!(guard, Guard::And(_) | Guard::Or(_))
 }
 
+/// The tokens of a guard, a space before each, with no more parentheses than it needs.
 #[cycle(expression)]
 pub fn put_guard(lines: &mut Lines, guard: &Guard) -> Result<(), AllocError>
     ensures { OnOk result (lines.new ≡ lines.old ++ spaced (guard_words (guard_of guard.now))) }
@@ -133,6 +134,7 @@ pub fn put_selection(
     lines.word(")")
 }
 
+/// The tokens of a sum, a space before each: its terms with their signs.
 #[cycle(expression)]
 pub fn put_sum(lines: &mut Lines, sum: &Sum) -> Result<(), AllocError>
     ensures { OnOk result (lines.new ≡ lines.old ++ spaced (sum_words (sum_of sum.now))) }
@@ -185,6 +187,7 @@ fn put_term(lines: &mut Lines, term: &Term) -> Result<(), AllocError>
     }
 }
 
+/// The tokens of a port, a space before each.
 #[cycle(expression)]
 pub fn put_port(lines: &mut Lines, port: &PortExpr) -> Result<(), AllocError>
     ensures { OnOk result (lines.new ≡ lines.old ++ spaced (port_words (port_of port.now))) }

@@ -52,6 +52,7 @@ fn put_stmt(lines: &mut Lines, stmt: &Stmt) -> Result<(), AllocError>
     }
 }
 
+/// The tokens of statements in a row, a space before each, with `;` between two statements.
 #[cycle(statement)]
 pub fn put_stmts(lines: &mut Lines, stmts: &[Stmt]) -> Result<(), AllocError>
     ensures { OnOk result (lines.new ≡ lines.old ++ spaced (stmts_words (stmts_of stmts.now))) }
@@ -75,6 +76,7 @@ fn put_else(lines: &mut Lines, stmts: &[Stmt]) -> Result<(), AllocError>
     put_stmts(lines, stmts)
 }
 
+/// The tokens of a movement, a space before each: `none` where there is no movement.
 pub fn put_move(lines: &mut Lines, moved: &Move) -> Result<(), AllocError>
     ensures { OnOk result (lines.new ≡ lines.old ++ spaced (move_words (move_of moved.now))) }
 {

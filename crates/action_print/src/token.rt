@@ -12,18 +12,21 @@ use amoebot_state::End;
 use std::alloc::AllocError;
 use text_tokens::Lines;
 
+/// A name, with a space before it.
 pub fn put_name(lines: &mut Lines, name: &Word) -> Result<(), AllocError>
     ensures { OnOk result (lines.new ≡ lines.old ++ 32 ∷ (name_of name.now).text) }
 {
     lines.word(name.text.as_str())
 }
 
+/// A number in decimal, without leading zeros, with a space before it.
 pub fn put_number(lines: &mut Lines, number: &Lit) -> Result<(), AllocError>
     ensures { OnOk result (lines.new ≡ lines.old ++ 32 ∷ literal_word (literal_of number.now)) }
 {
     lines.number(number.value)
 }
 
+/// A direction, a number or a variable's name, with a space before it.
 pub fn put_dirterm(lines: &mut Lines, dir: &DirTerm) -> Result<(), AllocError>
     ensures { OnOk result (lines.new ≡ lines.old ++ 32 ∷ dirterm_word (dirterm_of dir.now)) }
 {
@@ -54,6 +57,7 @@ pub fn put_sign(lines: &mut Lines, place: usize, minus: bool) -> Result<(), Allo
     }
 }
 
+/// The word for a set of ports.
 pub fn set_word(set: PortSet) -> &'static str
     ensures { result.now ≡ canon.set_word set }
 {
@@ -63,6 +67,7 @@ pub fn set_word(set: PortSet) -> &'static str
     }
 }
 
+/// The word for an end of an amoebot.
 pub fn end_word(end: End) -> &'static str
     ensures { result.now ≡ canon.end_word end }
 {
@@ -72,6 +77,7 @@ pub fn end_word(end: End) -> &'static str
     }
 }
 
+/// The sign of a comparison.
 pub fn cmp_sign(cmp: Cmp) -> &'static str
     ensures { result.now ≡ canon.cmp_sign cmp }
 {

@@ -2,9 +2,10 @@
 use Rattle.std.proofs.Common.{◌≡◌, ℕ, suc, zero, true, ◌≤◌, List, length, refl, arith}
 use Rattle.std.specs.List.{list_all}
 use Rattle.std.proofs.lemmas.Bool.{le-leb, and_from}
+use Rattle.amoebot_state.specs.Limits.{most_vars}
 use Rattle.action_tree.specs.Trees.{Stmt, Stmts, stmt_then, Move, Var, Action, Program}
-use Rattle.action_tree.specs.Limits.{most_levels, most_names, most_elements, most_vars, most_actions}
-use Rattle.action_tree.specs.Writable.{behind, stmt_levels, stmts_levels, stmt_names, stmts_names, stmt_count, move_levels, move_names, is_stmt, are_stmts, is_move, is_var, is_action, is_writable}
+use Rattle.action_tree.specs.Limits.{most_levels, most_names, most_elements, most_actions}
+use Rattle.action_tree.specs.Writable.{with_let, stmt_levels, stmts_levels, stmt_names, stmts_names, stmt_count, move_levels, move_names, is_stmt, are_stmts, is_move, is_var, is_action, is_writable}
 use Rattle.action_tree.specs.Productions.{after, after_all, OfStmt, put_own, put_there, let_name, if_fi, for_od, OfOptional, left_out, given, OfStmts, one_and_more, OfMore, no_more, and_more, OfMove, nowhere, moved_through, contracted, OfAction, OfVars, no_var, and_var, OfActions, no_action, and_action, OfProgram}
 use Rattle.action_tree.proofs.Conditions.{within}
 use Rattle.action_tree.proofs.Measured.{Meets, expr_meets, sum_meets, port_meets}
@@ -20,7 +21,7 @@ pub record StmtsMeet (n left room : ℕ) (ss : Stmts) : Type 0 where
   pub formed : are_stmts ss ≡ true
 
 -- a name that a `let` binds was still to be bound
-binds : {n left : ℕ} {s : Stmt} → OfStmt n left s → (k : ℕ) → k ≤ after left s → behind s k ≤ left
+binds : {n left : ℕ} {s : Stmt} → OfStmt n left s → (k : ℕ) → k ≤ after left s → with_let s k ≤ left
 binds {left = zero} (put_own is s) k le = le
 binds {left = suc left} (put_own is s) k le = le
 binds {left = zero} (put_there p is s) k le = le

@@ -2,9 +2,10 @@
 use Rattle.std.proofs.Common.{◌≡◌, ℕ, suc, zero, true, ◌&&◌, ◌≤◌, List, [], ◌∷◌, length, arith}
 use Rattle.std.specs.List.{list_all}
 use Rattle.std.proofs.lemmas.Bool.{leb-true}
+use Rattle.amoebot_state.specs.Limits.{most_vars}
 use Rattle.action_tree.specs.Trees.{Guard, Sum, Stmt, put, put_of, let_be, if_then, for_each, Stmts, no_stmts, stmt_then, Move, no_move, through, contract, Var, Action, Program}
-use Rattle.action_tree.specs.Limits.{most_levels, most_names, most_elements, most_vars, most_actions}
-use Rattle.action_tree.specs.Writable.{guard_levels, guard_names, is_guard, sum_levels, sum_names, is_sum, named, is_count_from, behind, stmt_levels, stmts_levels, stmt_names, stmts_names, stmt_count, move_levels, move_names, action_levels, action_names, is_stmt, are_stmts, is_move, is_var, is_action, is_writable}
+use Rattle.action_tree.specs.Limits.{most_levels, most_names, most_elements, most_actions}
+use Rattle.action_tree.specs.Writable.{guard_levels, guard_names, is_guard, sum_levels, sum_names, is_sum, named, is_count_from, with_let, stmt_levels, stmts_levels, stmt_names, stmts_names, stmt_count, move_levels, move_names, action_levels, action_names, is_stmt, are_stmts, is_move, is_var, is_action, is_writable}
 use Rattle.action_tree.specs.Productions.{OfExpr, OfSum, after, after_all, OfStmt, put_own, put_there, let_name, if_fi, for_od, OfOptional, left_out, given, OfStmts, one_and_more, OfMore, no_more, and_more, OfMove, nowhere, moved_through, contracted, OfAction, OfVars, no_var, and_var, OfActions, no_action, and_action, OfProgram}
 use Rattle.action_tree.proofs.Conditions.{left_of, right_of, from, upto}
 use Rattle.action_tree.proofs.Produced.{as_expr, guard_from, sum_from, terms_from, port_from}
@@ -24,7 +25,7 @@ optional_from (stmt_then s ss) (and_more o os) = given (one_and_more o os)
 optional_from no_stmts os = left_out
 
 -- what may be bound behind a statement was still to be bound before it
-rest_of : (s : Stmt) (left k : ℕ) → behind s k ≤ left → k ≤ after left s
+rest_of : (s : Stmt) (left k : ℕ) → with_let s k ≤ left → k ≤ after left s
 rest_of (let_be v p) zero k le = omega (arith, le)
 rest_of (let_be v p) (suc left) k le = omega (arith, le)
 rest_of (put v s) zero k le = le
@@ -41,7 +42,7 @@ rest_of_all no_stmts left more le = le
 rest_of_all (stmt_then s ss) left more le = rest_of_all ss (after left s) more (rest_of s left _ (omega (arith, le)))
 
 mutual
-  pub stmt_from : (s : Stmt) (n left more : ℕ) → stmt_levels s ≤ n → stmt_names s ≤ left → behind s more ≤ left → is_stmt s ≡ true → OfStmt n left s
+  pub stmt_from : (s : Stmt) (n left more : ℕ) → stmt_levels s ≤ n → stmt_names s ≤ left → with_let s more ≤ left → is_stmt s ≡ true → OfStmt n left s
   stmt_from (put v s) n left more l m b f = put_own (left_of _ _ f) (whole_sum_from s n left l m (right_of _ _ f))
   stmt_from (put_of p v s) n left more l m b f =
       put_there (port_from p n left (omega (arith, l)) (omega (arith, m)) (left_of _ _ (left_of _ _ f))) (right_of _ _ (left_of _ _ f)) (whole_sum_from s n left (omega (arith, l)) (omega (arith, m)) (right_of _ _ f))

@@ -16,8 +16,5 @@ most_elements = 64
 abbrev pub most_further : ℕ
 most_further = 63
 
-abbrev pub most_vars : ℕ
-most_vars = 8
-
 abbrev pub most_actions : ℕ
 most_actions = 32

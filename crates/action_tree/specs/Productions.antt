@@ -2,18 +2,19 @@
 -- stands: how many more levels may be opened, and how many more names may be bound.
 use Rattle.std.specs.Prelude.{◌≡◌, ℕ, suc, Bool, true, List, [], ◌∷◌}
 use Rattle.amoebot_state.specs.declared.bot.End.{End}
+use Rattle.amoebot_state.specs.Limits.{most_vars}
 use Rattle.action_tree.specs.declared.expression.PortSet.{PortSet}
 use Rattle.action_tree.specs.declared.expression.Cmp.{Cmp}
 use Rattle.action_tree.specs.Trees.{Name, Literal, DirTerm, fixed, held, Atom, Quantifier, PortTest, Side, PortMove, Guard, atom, negation, conjunction, disjunction, quantified, tested, comparison, Guards, no_guards, guard_then, Sum, no_terms, term_then, Term, number, own, of_port, count, direction, inner, mod6, PortExpr, bound, at_end, turned, first, Stmt, put, put_of, let_be, if_then, for_each, Stmts, no_stmts, stmt_then, Move, no_move, through, contract, Var, Action, Program}
-use Rattle.action_tree.specs.Words.{is_name, is_number}
-use Rattle.action_tree.specs.Limits.{most_levels, most_names, most_further, most_vars, most_actions}
+use Rattle.action_tree.specs.Words.{is_name, has_few_digits}
+use Rattle.action_tree.specs.Limits.{most_levels, most_names, most_further, most_actions}
 
 -- a NAME, and a NUMBER
 abbrev pub IsName : Name → Type 0
 IsName v = is_name v.text ≡ true
 
-abbrev pub IsNumber : Literal → Type 0
-IsNumber n = is_number n.value ≡ true
+abbrev pub IsNumberToken : Literal → Type 0
+IsNumberToken n = has_few_digits n.value ≡ true
 
 -- one alone is itself
 abbrev pub all_of : Guard → Guards → Guard
@@ -25,7 +26,7 @@ any_of g no_guards = g
 any_of g (guard_then h gs) = disjunction (guard_then g (guard_then h gs))
 
 pub data OfDirTerm : DirTerm → Type 0 where
-  dir_number : {n : Literal} → IsNumber n → OfDirTerm (fixed n)
+  dir_number : {n : Literal} → IsNumberToken n → OfDirTerm (fixed n)
   dir_name : {v : Name} → IsName v → OfDirTerm (held v)
 
 -- lists go on with at most so many more elements
@@ -60,7 +61,7 @@ mutual
     and_term : {n left room : ℕ} {t : Term} {ts : Sum} (minus : Bool) → OfTerm n left t → OfTerms n left room ts → OfTerms n left (suc room) (term_then minus t ts)
 
   pub data OfTerm : ℕ → ℕ → Term → Type 0 where
-    a_number : {n left : ℕ} {m : Literal} → IsNumber m → OfTerm n left (number m)
+    a_number : {n left : ℕ} {m : Literal} → IsNumberToken m → OfTerm n left (number m)
     own_name : {n left : ℕ} {v : Name} → IsName v → OfTerm n left (own v)
     port_name : {n left : ℕ} {p : PortExpr} {v : Name} → OfPort n left p → IsName v → OfTerm n left (of_port p v)
     counted : {n left : ℕ} {v : Name} {g : Guard} (s : PortSet) → IsName v → OfExpr n left g → OfTerm (suc n) (suc left) (count v s g)
@@ -71,7 +72,7 @@ mutual
   pub data OfPort : ℕ → ℕ → PortExpr → Type 0 where
     bound_name : {n left : ℕ} {v : Name} → IsName v → OfPort n left (bound v)
     end_and_dir : {n left : ℕ} {d : DirTerm} (e : End) → OfDirTerm d → OfPort n left (at_end e d)
-    turned_by : {n left : ℕ} {p : PortExpr} {m : Literal} → OfPort n left p → IsNumber m → OfPort (suc n) left (turned p m)
+    turned_by : {n left : ℕ} {p : PortExpr} {m : Literal} → OfPort n left p → IsNumberToken m → OfPort (suc n) left (turned p m)
     first_in : {n left : ℕ} {v : Name} {g : Guard} (s : PortSet) → IsName v → OfExpr n left g → OfPort (suc n) (suc left) (first v s g)
 
 -- how many more names may be bound behind a statement of a list, and behind all of them
@@ -113,7 +114,7 @@ pub data OfMove : ℕ → ℕ → Move → Type 0 where
 
 pub record OfVar (v : Var) : Type 0 where
   pub name : IsName v.name
-  pub max : IsNumber v.max
+  pub max : IsNumberToken v.max
 
 -- at the start no level is open, and no name is in force
 pub record OfAction (a : Action) : Type 0 where

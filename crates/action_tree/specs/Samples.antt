@@ -128,9 +128,6 @@ tail_x = at_end Tail (held x)
 abbrev pub x_of_p : Term
 x_of_p = of_port p x
 
-abbrev pub every_port : List PortExpr
-every_port = p ∷ head_0 ∷ tail_x ∷ turned p (literal 1) ∷ first_port (atom tree.always) ∷ []
-
 abbrev pub every_sum : Sum
 every_sum =
     term_then true (number (literal 1)) (term_then false (own x) (term_then true x_of_p (term_then false (count (word (codes "p")) Ports (atom tree.always))

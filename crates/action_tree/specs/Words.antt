@@ -25,5 +25,5 @@ abbrev pub is_name : List ℕ → Bool
 is_name text = is_word text && not (is_reserved text)
 
 -- it has so few digits
-abbrev pub is_number : ℕ → Bool
-is_number n = nat_lt n (10 ^ most_bytes Number)
+abbrev pub has_few_digits : ℕ → Bool
+has_few_digits n = nat_lt n (10 ^ most_bytes Number)

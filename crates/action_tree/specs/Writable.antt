@@ -3,9 +3,10 @@
 -- are those of a text.
 use Rattle.std.specs.Prelude.{ℕ, suc, max, Bool, true, false, ◌&&◌, nat_le, length}
 use Rattle.std.specs.List.{list_all}
+use Rattle.amoebot_state.specs.Limits.{most_vars}
 use Rattle.action_tree.specs.Trees.{Name, Literal, DirTerm, fixed, held, Guard, atom, negation, conjunction, disjunction, quantified, tested, comparison, Guards, no_guards, guard_then, Sum, no_terms, term_then, Term, number, own, of_port, count, direction, inner, mod6, PortExpr, bound, at_end, turned, first, Stmt, put, put_of, let_be, if_then, for_each, Stmts, no_stmts, stmt_then, Move, no_move, through, contract, Var, Action, Program}
-use Rattle.action_tree.specs.Words.{is_name, is_number}
-use Rattle.action_tree.specs.Limits.{most_levels, most_names, most_elements, most_vars, most_actions}
+use Rattle.action_tree.specs.Words.{is_name, has_few_digits}
+use Rattle.action_tree.specs.Limits.{most_levels, most_names, most_elements, most_actions}
 
 -- ---- Levels. `(`, `not`, `turn`, `if` and `for` each open one, which lasts to the end of their construct.
 
@@ -119,9 +120,9 @@ abbrev mutual
   port_names (first v s g) = suc (guard_names g)
 
 -- of what comes behind a statement in its list, with the name that a `let` binds there
-abbrev pub behind : Stmt → ℕ → ℕ
-behind (let_be v p) names = suc names
-behind _ names = names
+abbrev pub with_let : Stmt → ℕ → ℕ
+with_let (let_be v p) names = suc names
+with_let _ names = names
 
 -- A `for` binds its name in its parenthesis and in its statements. A list goes on with what has so many names.
 abbrev mutual
@@ -134,7 +135,7 @@ abbrev mutual
 
   pub stmts_names : ℕ → Stmts → ℕ
   stmts_names more no_stmts = more
-  stmts_names more (stmt_then s ss) = max (stmt_names s) (behind s (stmts_names more ss))
+  stmts_names more (stmt_then s ss) = max (stmt_names s) (with_let s (stmts_names more ss))
 
 abbrev pub move_names : Move → ℕ
 move_names no_move = 0
@@ -167,7 +168,7 @@ abbrev pub named : Name → Bool
 named v = is_name v.text
 
 abbrev pub numbered : Literal → Bool
-numbered n = is_number n.value
+numbered n = has_few_digits n.value
 
 abbrev pub is_dirterm : DirTerm → Bool
 is_dirterm (fixed n) = numbered n

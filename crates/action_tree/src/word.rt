@@ -6,10 +6,16 @@ ghost use Rattle.action_tree.specs.Words.{is_word};
 
 use arrayvec::ArrayString;
 
+/// The bytes of a word.
+pub type NameText = ArrayString<24>;
+
+/// The most names in force at once.
+pub const MOST_NAMES: usize = 4;
+
 /// A word, and the line that it stands on. Lines count from 1; a word that no text has may have line 0.
 #[derive(Clone, Copy)]
 pub struct Word {
-    pub text: ArrayString<24>,
+    pub text: NameText,
     pub line: u32,
 }
 

@@ -3,8 +3,10 @@
 
 mod activating;
 mod gate;
+mod laws;
 mod turn;
 
 pub use activating::activate;
 pub use gate::{Gate, NoGate};
+pub use laws::answer_is_unique;
 pub use turn::Turn;

@@ -6,7 +6,7 @@ use Rattle.std.proofs.lemmas.Bool.{false≢true}
 use Rattle.outer_io.specs.Told.{Rose}
 use Rattle.outer_io.specs.Writings.{WritesAll, WritesFront}
 use Rattle.claim_core.specs.declared.report.Report.{Report}
-use Rattle.document_grammar.specs.Documents.{Contents, Holds}
+use Rattle.document_grammar.specs.Documents.{Contents, HasContents}
 use Rattle.activation.specs.declared.turn.Turn.{Turn}
 use Rattle.shipped_programs.specs.declared.shipped.Shipped.{Shipped}
 use Rattle.command_words.specs.declared.command.Command.{Command}
@@ -171,7 +171,7 @@ six_lines_written law seed Writes command _ _ is (wanting read reads within unto
 
 -- a document is served
 module _ (law : DocumentsHaveOutcomes) (document : List ℕ) (a : Contents) (Writes : List ℕ → Type 0) where
-  served_owed : (c : DocumentCommand) (read : Read) (s : Status) (report : Option Report) (text : List ℕ) → IsAll document read → Holds (form_of c) document a → Writes text → IsOwed (Some (Document c)) read s report text → IsServed a c Writes s report ⊎ IsFailure s
+  served_owed : (c : DocumentCommand) (read : Read) (s : Status) (report : Option Report) (text : List ℕ) → IsAll document read → HasContents (form_of c) document a → Writes text → IsOwed (Some (Document c)) read s report text → IsServed a c Writes s report ⊎ IsFailure s
   served_owed c (whole bytes) s report text same holds writes owes = inl (text, law c document a s report text holds (subst (λ b. IsOwed (Some (Document c)) (whole b) s report text) same owes), writes)
   served_owed c (above got) s report text same holds writes owes = absurd same
   served_owed c (up_to_fault got) s report text same holds writes (read_fault d more) = inr tt
@@ -179,7 +179,7 @@ module _ (law : DocumentsHaveOutcomes) (document : List ℕ) (a : Contents) (Wri
   served_owed c (some got) s report text same holds writes owes = elim owes [ ]
 
   pub served : {Reads : Read → Type 0} {Cuts : List ℕ → Type 0} {Untouched : Type 0} → ((r : Read) → Reads r → IsAll document r) → (c : DocumentCommand) (command : Option Command) (s : Status) (report : Option Report)
-      → command ≡ Some (Document c) → Holds (form_of c) document a → IsEnding command Reads Writes Cuts Untouched s report → IsServed a c Writes s report ⊎ IsFailure s
+      → command ≡ Some (Document c) → HasContents (form_of c) document a → IsEnding command Reads Writes Cuts Untouched s report → IsServed a c Writes s report ⊎ IsFailure s
   served is_all c command _ _ is holds (written read s report text reads x writes) = served_owed c read s report text (is_all read reads) holds writes (subst (λ o. IsOwed o read s report text) is x)
   served is_all c command _ _ is holds (cut read s report text reads x cuts) = inr tt
   served is_all c command _ _ is holds (wanting read reads within untouched) = inr tt

@@ -1,7 +1,7 @@
 -- A call over bytes in memory.
 use Rattle.std.proofs.Common.{◌≡◌, ◌≤◌, refl, subst, List, ℕ, length, Option, Some, None, inl, inr, arith}
 use Rattle.std.specs.Prelude.{IfSome}
-use Rattle.outer_io.specs.Kept.{KeptBytes, KeepsPiece, PiecesAreKeptAsOne, written_of}
+use Rattle.outer_io.specs.KeptBytes.{KeptBytes, KeepsPiece, PiecesAreKeptAsOne, written_of}
 use Rattle.outer_io.specs.Told.{Rose}
 use Rattle.outer_io.specs.Writings.{WritesAll}
 use Rattle.claim_core.specs.declared.report.Report.{Report}

@@ -3,7 +3,7 @@ use Rattle.std.specs.Prelude.{◌≡◌, ◌<◌, ◌≤◌, ◌⊎◌, ℕ, Lis
 use Rattle.std.specs.declared.option.Option.{Option}
 use Rattle.std.specs.declared.option.Option.TheVariants.{Some, None}
 use Rattle.outer_io.specs.Told.{Rose, Grows}
-use Rattle.outer_io.specs.Kept.{KeptBytes, kept_after, written_of}
+use Rattle.outer_io.specs.KeptBytes.{KeptBytes, kept_after, written_of}
 use Rattle.outer_io.specs.Writings.{WritesAll, WritesFront}
 use Rattle.claim_core.specs.declared.report.Report.{Report}
 use Rattle.document_grammar.specs.Documents.{Contents}

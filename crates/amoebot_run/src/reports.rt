@@ -20,7 +20,7 @@ use std::thread::Threads;
 
 /// What a run leaves: its report, and the document with the text behind it.
 #[derive(Drop)]
-struct Kept {
+struct Replayed {
     report: Report,
     whole: Vec<u8>,
 }
@@ -30,7 +30,7 @@ fn run_and_replay<R: Abort + Threads + Wait + Sync>(
     rt: &R,
     alloc: Global,
     document: &str,
-) -> Result<Kept, Fail> {
+) -> Result<Replayed, Fail> {
     let mut out = SureSink::new(alloc, 4_000_000)?;
     let words = words(alloc, &["run"])?;
     let Ended {
@@ -54,7 +54,7 @@ fn run_and_replay<R: Abort + Threads + Wait + Sync>(
         None,
         agrees.as_str(),
     )?;
-    Ok(Kept { report, whole })
+    Ok(Replayed { report, whole })
 }
 
 /// Whether the report is one of the document's run, by the checker.
@@ -78,8 +78,8 @@ fn reports_where_zones_meet_pass_the_checker_and_agree(rt: HostRuntime) -> Resul
     for pieces in MEETINGS {
         let document = joined(rt.alloc(), pieces)?;
         for _time in 0..20 {
-            let kept = run_and_replay(&rt, rt.alloc(), document.as_str())?;
-            let passes = is_report_of(rt.alloc(), document.as_str(), &kept.report)?;
+            let replayed = run_and_replay(&rt, rt.alloc(), document.as_str())?;
+            let passes = is_report_of(rt.alloc(), document.as_str(), &replayed.report)?;
             assert!(rt; passes);
         }
     }
@@ -89,18 +89,18 @@ fn reports_where_zones_meet_pass_the_checker_and_agree(rt: HostRuntime) -> Resul
 #[test]
 fn one_of_sixteen_callers_marks_the_amoebot(rt: HostRuntime) -> Result<(), Fail> {
     let document = joined(rt.alloc(), ONE_FOR_SIXTEEN)?;
-    let kept = run_and_replay(&rt, rt.alloc(), document.as_str())?;
-    assert_eq!(rt; kept.report.journal.entries().len(), 1);
-    assert_eq!(rt; kept.report.turns.callers(), 16);
+    let replayed = run_and_replay(&rt, rt.alloc(), document.as_str())?;
+    assert_eq!(rt; replayed.report.journal.entries().len(), 1);
+    assert_eq!(rt; replayed.report.turns.callers(), 16);
     Ok(())
 }
 
 #[test]
 fn sixteen_callers_mark_each_amoebot_at_most_once(rt: HostRuntime) -> Result<(), Fail> {
     let document = joined(rt.alloc(), SIXTEEN_FOR_SIXTEEN)?;
-    let kept = run_and_replay(&rt, rt.alloc(), document.as_str())?;
-    assert!(rt; kept.report.journal.entries().len() <= 16);
-    let passes = is_report_of(rt.alloc(), document.as_str(), &kept.report)?;
+    let replayed = run_and_replay(&rt, rt.alloc(), document.as_str())?;
+    assert!(rt; replayed.report.journal.entries().len() <= 16);
+    let passes = is_report_of(rt.alloc(), document.as_str(), &replayed.report)?;
     assert!(rt; passes);
     Ok(())
 }
@@ -130,15 +130,15 @@ fn row_of_100(alloc: Global) -> Result<String, AllocError> {
 #[test]
 fn a_guarded_row_of_100_stays_connected(rt: HostRuntime) -> Result<(), Fail> {
     let document = row_of_100(rt.alloc())?;
-    let kept = run_and_replay(&rt, rt.alloc(), document.as_str())?;
-    assert_eq!(rt; kept.report.turns.callers(), 4);
+    let replayed = run_and_replay(&rt, rt.alloc(), document.as_str())?;
+    assert_eq!(rt; replayed.report.turns.callers(), 4);
     let words = words(rt.alloc(), &["measure"])?;
     let mut out = SureSink::new(rt.alloc(), 4096)?;
     let ended = run_text(
         &rt,
         rt.alloc(),
         words.as_slice(),
-        kept.whole.as_slice(),
+        replayed.whole.as_slice(),
         &mut out,
     );
     assert_eq!(rt; ended.status, Status::Done);

@@ -1,11 +1,12 @@
-ghost use Rattle.std.specs.Prelude.{◌≡◌, ◌≢◌, ◌<◌, ◌≤◌, ◌+◌, ◌^◌, ◌↔◌, ◌⊎◌, ℕ, true, List, map, length, IsSome, IfSome, IfOk, Option, Some, None};
+ghost use Rattle.std.specs.Prelude.{◌≡◌, ◌≢◌, ◌≤◌, ◌↔◌, ◌⊎◌, ℕ, true, List, map, length, IsSome, IfSome, IfOk, Option, Some, None};
 ghost use Rattle.std.specs.List.{All, list_any};
 ghost use Rattle.std.specs.String.{string_bytes};
 ghost use Rattle.outer_io.specs.Told.{Rose};
 ghost use Rattle.outer_io.specs.Writings.{WritesAll, WritesFront};
+ghost use Rattle.text_tokens.specs.Text.{IsCountable};
 ghost use Rattle.amoebot_state.specs.Configs.{bot_at};
 ghost use Rattle.claim_core.specs.declared.report.Report.{Report as ReportValue};
-ghost use Rattle.document_grammar.specs.Documents.{Contents, Holds};
+ghost use Rattle.document_grammar.specs.Documents.{Contents, HasContents};
 ghost use Rattle.command_words.specs.declared.command.Command.{Command as CommandValue};
 ghost use Rattle.command_words.specs.declared.command.DocumentCommand.{DocumentCommand as DocumentCommandValue};
 ghost use Rattle.command_answers.specs.declared.status.Status.{Status as StatusValue};
@@ -130,7 +131,7 @@ pub fn run<R: Threads + Wait + Sync, S: Source, K: Sink, G: Gate>(
     // are written.
     ensures complete { (c : DocumentCommandValue) (document : List ℕ) (a : Contents)
         → command_of (map string_bytes words.now) ≡ Some (Command.Document c) → S.left input.old ≡ Some document
-        → length document ≤ limit_for (Some (Command.Document c)) → Holds (form_of c) document a
+        → length document ≤ limit_for (Some (Command.Document c)) → HasContents (form_of c) document a
         → IsServed a c (WritesAll K.written K.takes out.old out.new) result.status result.report ⊎ IsFailure result.status }
     ensures complete_unread { (c : CommandValue) → command_of (map string_bytes words.now) ≡ Some c → ReadsNothing (Some c)
         → (result.status ≡ Status.Done) ⊎ IsUnwritten result.status }
@@ -280,7 +281,7 @@ fn outcome_of<R: Threads + Wait + Sync, G: Gate>(
     bytes: &[u8],
     gate: &G,
 ) -> Result<Outcome, NoMemory>
-    requires { length bytes.now + 1 < 2 ^ 32 }
+    requires { IsCountable bytes.now }
     ensures { IfOk result (IsOutcomeOf command bytes.now) }
 {
     let task = task_of(alloc, command, bytes)?;
@@ -391,7 +392,7 @@ pub fn run_text<R: Threads + Wait + Sync>(
     // A document within the limit is served, and a command that reads none is done, unless memory is wanting. Of `sample` the six lines are written.
     ensures complete { (c : DocumentCommandValue) (a : Contents)
         → command_of (map string_bytes words.now) ≡ Some (Command.Document c)
-        → length bytes.now ≤ limit_for (Some (Command.Document c)) → Holds (form_of c) bytes.now a
+        → length bytes.now ≤ limit_for (Some (Command.Document c)) → HasContents (form_of c) bytes.now a
         → IsServed a c (HasText out.old out.new) result.status result.report ⊎ (result.status ≡ Status.NoMemory) }
     ensures complete_unread { (c : CommandValue) → command_of (map string_bytes words.now) ≡ Some c → ReadsNothing (Some c)
         → (result.status ≡ Status.Done) ⊎ (result.status ≡ Status.NoMemory) }

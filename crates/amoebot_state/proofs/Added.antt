@@ -107,9 +107,6 @@ unfolding pick
 pick_other None n = refl
 pick_other (Some i) n = refl
 
-added : List (Option ℕ) → Config → Bot → List (Option ℕ)
-added g c b = put_at (put_at g (index_of c.area b.head) (Some (length c.bots))) (index_of c.area b.tail) (Some (length c.bots))
-
 -- the grid with the new amoebot on its nodes is that of the longer configuration
 pub grid_with : (c : Config) (b : Bot) (g : List (Option ℕ)) → MayCome c b → IsGrid c g → IsGrid (with_bot c b) (put_at (put_at g (index_of c.area b.head) (Some (length c.bots))) (index_of c.area b.tail) (Some (length c.bots)))
 grid_with c b g may grid =

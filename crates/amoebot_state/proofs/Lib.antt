@@ -5,6 +5,7 @@ pub mod Differences
 pub mod Directions
 pub mod Distinct
 pub mod Faults
+pub mod FirstFaults
 pub mod Fronts
 pub mod ShownAlone
 pub mod Known

@@ -11,6 +11,7 @@ use Rattle.amoebot_state.specs.declared.bot.Port.{Port}
 use Rattle.amoebot_state.specs.declared.cell.CellName.{CellName}
 use Rattle.amoebot_state.specs.declared.cell.CellName.TheVariants as name
 use Rattle.amoebot_state.specs.declared.cell.Cell.{Cell}
+use Rattle.amoebot_state.specs.declared.refusal.WorldRefusal.{WorldRefusal}
 use Rattle.amoebot_state.specs.declared.verdict.Entry.{Entry}
 use Rattle.amoebot_state.specs.declared.verdict.Verdict.{Verdict}
 use Rattle.amoebot_state.specs.Pairs.{Pairs, cell_of, cell_value}
@@ -19,7 +20,7 @@ use Rattle.amoebot_state.specs.Configs.{Config, IsValid, bot_at, occupant, value
 use Rattle.amoebot_state.specs.Zones.{Shown, IsShown, distinct, zone_nodes, zone_at, zone, shown, shown_alone}
 use Rattle.amoebot_state.specs.Known.{IsFront, known_zone, next_cell}
 use Rattle.amoebot_state.specs.Patches.{IsPatched, IsOrdered, same_value, diff}
-use Rattle.amoebot_state.specs.Refusals.{IsPlain, IsFaultless}
+use Rattle.amoebot_state.specs.Refusals.{IsPlain, IsFaultless, IsFirstFault}
 use Rattle.amoebot_state.specs.Occupied.{occupied}
 use Rattle.amoebot_state.specs.Steps.{Step, Run}
 
@@ -158,6 +159,14 @@ ValidIsFaultless = (a : Extent) (maxes : List ℕ) (bots : List Bot) → IsValid
 -- amoebots of which none is refused make a valid configuration
 abbrev pub FaultlessIsValid : Type 0
 FaultlessIsValid = (a : Extent) (maxes : List ℕ) (bots : List Bot) → IsArea a → length maxes ≡ 8 → All IsPlain bots → IsFaultless a maxes bots (length bots) → IsValid (config_of a maxes bots)
+
+-- at most one fault is the first one of a list of amoebots
+abbrev pub FirstFaultIsUnique : Type 0
+FirstFaultIsUnique = (a : Extent) (maxes : List ℕ) (bots : List Bot) (one two : WorldRefusal) → IsFirstFault a maxes bots one → IsFirstFault a maxes bots two → one ≡ two
+
+-- and amoebots of which none is refused have none
+abbrev pub FaultlessHasNoFault : Type 0
+FaultlessHasNoFault = (a : Extent) (maxes : List ℕ) (bots : List Bot) (e : WorldRefusal) → IsFaultless a maxes bots (length bots) → ¬ IsFirstFault a maxes bots e
 
 -- the configuration that has what is shown and no other amoebot is valid
 abbrev pub ShownAloneIsValid : Type 0

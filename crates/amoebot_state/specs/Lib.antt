@@ -10,3 +10,4 @@ pub mod Steps
 pub mod Storage
 pub mod Occupied
 pub mod Laws
+pub mod Samples

@@ -5,6 +5,14 @@ use Rattle.std.specs.Prelude.{ℕ}
 abbrev pub most_bots : ℕ
 most_bots = 4096
 
+-- the most variables of an amoebot
+abbrev pub most_vars : ℕ
+most_vars = 8
+
+-- the greatest value of a variable
+abbrev pub most_value : ℕ
+most_value = 255
+
 -- the most pairs of a patch
 abbrev pub most_pairs : ℕ
 most_pairs = 10
@@ -12,6 +20,10 @@ most_pairs = 10
 -- room for the nodes of a zone: two own ones and one for each pair of an end and a direction; and for the amoebots on them
 abbrev pub node_room : ℕ
 node_room = 14
+
+-- the most cells of a zone
+abbrev pub most_cells : ℕ
+most_cells = 19
 
 -- room for the cells of a zone
 abbrev pub cell_room : ℕ

@@ -39,13 +39,16 @@ impl Default for Cell {
 }
 
 /// The most pairs of a patch.
-const MOST_PAIRS: usize = 10;
+pub const MOST_PAIRS: usize = 10;
+
+/// The most cells of a zone.
+pub const MOST_CELLS: usize = 19;
 
 /// The cells of a zone with what they hold.
 pub(crate) type Cells = ArrayVec<(CellName, Cell), CELL_ROOM>;
 
 /// Room for the cells of a zone.
-pub(crate) const CELL_ROOM: usize = 30;
+pub const CELL_ROOM: usize = 30;
 
 /// Cells with their new values: a list of at most 10 pairs, in each of which both parts are `Spot` or both are `Body`.
 #[derive(Drop)]

@@ -1,4 +1,5 @@
-ghost use Rattle.amoebot_state.specs.Laws.{GlobalAndLocalAreInverse, ContractedHasSixPorts, ExpandedHasTenPorts, SixPortsLeadToSixNodes, TenPortsLeadToEightNodes, ZoneIsDetermined, ShownListsZone, ShownHoldsValues, KnownIsFront, NextIsInZone, FrontGrows, NextIsNew, KnownGrowsAtItsEnd, WholeZoneIsShown, FrontStands, ZoneListsEachCellOnce, ZoneHasAtMostTenNodes, ZoneHasAtMostNineBodies, NodeBehindPortIsInZone, OccupantBehindPortIsInZone, ShownAloneShowsTheSame, PatchedIsUnique, PatchListsWhatDiffers, StepHasOneResult, RunHasOneLast, SameValueIsEquality, DiffLeads, OrderedPatchIsDiff, ValidIsFaultless, FaultlessIsValid, ShownAloneIsValid, ShownAloneHoldsTheSame, OccupiedIsOccupant, PortLeadsBeside};
+ghost use Rattle.amoebot_state.specs.Laws.{GlobalAndLocalAreInverse, ContractedHasSixPorts, ExpandedHasTenPorts, SixPortsLeadToSixNodes, TenPortsLeadToEightNodes, ZoneIsDetermined, ShownListsZone, ShownHoldsValues, KnownIsFront, NextIsInZone, FrontGrows, NextIsNew, KnownGrowsAtItsEnd, WholeZoneIsShown, FrontStands, ZoneListsEachCellOnce, ZoneHasAtMostTenNodes, ZoneHasAtMostNineBodies, NodeBehindPortIsInZone, OccupantBehindPortIsInZone, ShownAloneShowsTheSame, PatchedIsUnique, PatchListsWhatDiffers, StepHasOneResult, RunHasOneLast, SameValueIsEquality, DiffLeads, OrderedPatchIsDiff, ValidIsFaultless, FaultlessIsValid, FirstFaultIsUnique, FaultlessHasNoFault, ShownAloneIsValid, ShownAloneHoldsTheSame, OccupiedIsOccupant, PortLeadsBeside};
+ghost use Rattle.amoebot_state.specs.Samples.{SmallFaults};
 
 /// Local and global directions are both 0 to 5, and the one is the inverse of the other, with either chirality.
 pub fn global_and_local_are_inverse()
@@ -154,6 +155,21 @@ pub fn valid_is_faultless()
 /// Amoebots of which none is refused make a valid configuration.
 pub fn faultless_is_valid()
     ensures { FaultlessIsValid }
+{}
+
+/// At most one fault is the first one of a list of amoebots.
+pub fn first_fault_is_unique()
+    ensures { FirstFaultIsUnique }
+{}
+
+/// Amoebots of which none is refused have no first fault.
+pub fn faultless_has_no_fault()
+    ensures { FaultlessHasNoFault }
+{}
+
+/// The first faults of two lists of three amoebots.
+pub fn small_faults()
+    ensures { SmallFaults }
 {}
 
 /// The configuration that has what is shown and no other amoebot is valid.

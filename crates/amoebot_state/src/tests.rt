@@ -1,5 +1,6 @@
 ghost use Rattle.std.specs.Prelude.{◌≡◌, ◌≤◌, ◌∷◌, [], length, pos, IfOk};
 ghost use Rattle.std.specs.List.{All};
+ghost use Rattle.amoebot_state.specs.Limits.{most_bots};
 ghost use Rattle.amoebot_state.specs.Configs.{config_of};
 ghost use Rattle.amoebot_state.specs.Refusals.{IsPlain};
 
@@ -49,7 +50,7 @@ const AT_EDGE: Bot = Bot {
 
 /// A world of these amoebots in the area 0 0 8 8.
 fn world_of(alloc: Global, bots: &[Bot]) -> Result<World, Fail>
-    requires few { length bots.now ≤ 4096 }
+    requires few { length bots.now ≤ most_bots }
     requires plain { All IsPlain bots.now }
     ensures { IfOk result (λ w. w ≡ config_of (record { x0 = pos 0; y0 = pos 0; w = 8; h = 8 }) (1 ∷ 0 ∷ 0 ∷ 0 ∷ 0 ∷ 0 ∷ 0 ∷ 0 ∷ []) bots.now) }
 {

@@ -16,17 +16,18 @@ use Rattle.amoebot_state.specs.Configs.{Config, bot_at}
 use Rattle.amoebot_state.specs.Zones.{zone}
 use Rattle.amoebot_state.specs.Patches.{IsPatched}
 use Rattle.amoebot_state.specs.Steps.{Changes, Step, Run}
+use Rattle.amoebot_state.proofs.Fronts.{slice_get_behind}
 use Rattle.amoebot_state.proofs.Members.{Has, All-from_Has, Contains-from_Has}
 use Rattle.claim_core.specs.declared.marks.Mark.{Mark}
 use Rattle.claim_core.specs.declared.marks.Mark.TheVariants as mark
 use Rattle.claim_core.specs.declared.state.Phase.TheVariants.{Taking, Committing}
 use Rattle.claim_core.specs.declared.state.Caller.{Caller}
-use Rattle.claim_core.specs.Good.{IsWorldAt, IsListed, Order, mark_of, place_of, place_after}
+use Rattle.claim_core.specs.Good.{IsWorldAt, IsListed, Order, mark_of_turn, place_of, place_after}
 use Rattle.claim_core.specs.Cells.{values_of, patched}
 use Rattle.claim_core.specs.Machine.{Setup, State, bot, renewed, frees, entry, takes, commits}
 use Rattle.claim_core.specs.Soundness.{IsSetup, names, IsCommitting, marked, IsTurn, marks_so_far, IsDecided, HasFront, IsHeld, CallerOk, Sound}
 use Rattle.amoebot_state.proofs.Runs.{run_push}
-use Rattle.claim_core.proofs.Stays.{slice_get-push_last, slice_get-pushed, world_last}
+use Rattle.claim_core.proofs.Stays.{slice_get-pushed, world_last}
 use Rattle.claim_core.proofs.Places.{one_at}
 use Rattle.claim_core.proofs.Numbers.{value_patched, values-patched, length-patched}
 use Rattle.claim_core.proofs.Nexts.{frees-marks, frees-held}
@@ -130,7 +131,7 @@ module _ (g : Setup) (ok : IsSetup g) (old : State) (s : Sound g old) (c : ℕ) 
     new = commits g c old k change
 
     last_mark : slice_get more k.turn ≡ Some done
-    last_mark = ap (slice_get more) (sym count) ∙ slice_get-push_last k.marks done
+    last_mark = ap (slice_get more) (sym count) ∙ slice_get_behind k.marks done []
 
     here_now : IsWorldAt g.verdict g.world old.journal (length old.journal) s.last
     here_now = world_last g.verdict g.world s.last old.journal s.run
@@ -185,7 +186,7 @@ module _ (g : Setup) (ok : IsSetup g) (old : State) (s : Sound g old) (c : ℕ) 
       known = known;
       held = own_held;
       counted = omega (arith, length-append k.marks (done ∷ []), count);
-      right = right_push g old new c k next mv c k.marks done is.right (e, slice_get-push_last old.journal e, refl, sym count);
+      right = right_push g old new c k next mv c k.marks done is.right (e, slice_get_behind old.journal e [], refl, sym count);
       rising = all_pairs_push (λ one later. place_after one ≤ place_of later) k.marks done is.rising (λ i d inside. All-get_or (λ x. place_after x ≤ length old.journal) k.marks i d inside is.within);
       within = All-push (λ x. place_after x ≤ length new.journal) k.marks done (within_stays g old new c k next mv k.marks is.within) (omega (arith, length-append old.journal (e ∷ [])));
       told = done;
@@ -211,10 +212,10 @@ module _ (g : Setup) (ok : IsSetup g) (old : State) (s : Sound g old) (c : ℕ) 
       rising = all_pairs_push (λ one later. one.caller ≡ later.caller → one.turn < later.turn) old.journal e s.order.rising (λ i d inside same. earlier i (get_or old.journal i d) (slice_get-get_or old.journal i d inside) same);
     }
 
-    committed : (place : ℕ) (x : Entry) → slice_get new.journal place ≡ Some x → mark_of (marks_so_far g new) x.caller x.turn ≡ Some (mark.Done place)
+    committed : (place : ℕ) (x : Entry) → slice_get new.journal place ≡ Some x → mark_of_turn (marks_so_far g new) x.caller x.turn ≡ Some (mark.Done place)
     committed place x has = elim (slice_get-pushed old.journal e x place has) [
       | inl was ↦ told_stays g old new c k next mv x.caller x.turn (mark.Done place) (s.committed place x was)
-      | inr added ↦ subst (λ (z : ℕ × Entry). mark_of (marks_so_far g new) z.1.caller z.1.turn ≡ Some (mark.Done z.0)) (λ i. (sym added.0 i, added.1 i))
+      | inr added ↦ subst (λ (z : ℕ × Entry). mark_of_turn (marks_so_far g new) z.1.caller z.1.turn ≡ Some (mark.Done z.0)) (λ i. (sym added.0 i, added.1 i))
           (told g new c k.turn next done (mine_now g old new c k next mv) (ap (λ ms. slice_get ms k.turn) (frees-marks g k.turn cells more) ∙ last_mark))
     ]
 

@@ -12,6 +12,7 @@ use Rattle.amoebot_state.specs.declared.cell.Cell.{Cell}
 use Rattle.amoebot_state.specs.Pairs.{Pairs, cell_of}
 use Rattle.amoebot_state.specs.Configs.{Config, bot_at}
 use Rattle.amoebot_state.specs.Zones.{zone}
+use Rattle.amoebot_state.proofs.Fronts.{slice_get_behind}
 use Rattle.amoebot_state.proofs.Zones.{zone_is}
 use Rattle.amoebot_state.proofs.Members.{Has, Contains-from_Has, here, Has-append_right}
 use Rattle.amoebot_state.proofs.Options.{there_is}
@@ -25,7 +26,7 @@ use Rattle.claim_core.specs.Good.{IsWorldAt, HasInZone, place_of, place_after}
 use Rattle.claim_core.specs.Cells.{number, at}
 use Rattle.claim_core.specs.Machine.{Setup, State, bot, own_tag, opens, frees, looks, looked, refused, releases}
 use Rattle.claim_core.specs.Soundness.{IsSetup, names, verdict_of, IsCommitting, marked, IsTurn, AreBefore, IsHolder, TurnOkSoFar, IsDecided, IsFreeing, HasFront, IsHeld, CallerOk, Sound}
-use Rattle.claim_core.proofs.Stays.{slice_get-push_last, world_last}
+use Rattle.claim_core.proofs.Stays.{world_last}
 use Rattle.claim_core.proofs.Places.{at-put_else, at-put_cases, length-put}
 use Rattle.claim_core.proofs.Numbers.{same_number}
 use Rattle.claim_core.proofs.Nexts.{frees-marks, frees-held}
@@ -55,14 +56,6 @@ pub record Marked (g : Setup) (new : State) (last : Config) (c t : ℕ) (cells :
   pub rest : List CellName
   pub front : names cells ++ rest ≡ zone world (bot g c t)
 
--- the phase in which a turn begins is none of a holder
-opens_free : (g : Setup) (t : ℕ) → IsCommitting (opens g t) → ⊥
-opens_free g t = by (nat_lt t g.lists.turns)
-  where
-    by : (b : Bool) → IsCommitting (if b then Claim else Ended) → ⊥
-    by true h = h
-    by false h = h
-
 module _ (g : Setup) (ok : IsSetup g) (new : State) (last : Config) (is_framed : IsFramed g.world last) (c : ℕ) where
   -- a turn that begins
   pub opens_ok : (t : ℕ) (marks : List Mark) → t ≤ g.lists.turns → c < length g.lists.ids → length marks ≡ t → ((u : ℕ) (m : Mark) → slice_get marks u ≡ Some m → TurnOkSoFar g new c u m) → AllPairs (λ one later. place_after one ≤ place_of later) marks → All (λ m. place_after m ≤ length new.journal) marks → CallerOk g new last c (Rattle.claim_core.specs.Machine.caller t (opens g t) [] marks)
@@ -85,10 +78,6 @@ module _ (g : Setup) (ok : IsSetup g) (new : State) (last : Config) (is_framed :
     rising = is.rising;
     within = is.within;
   }
-
-pub frees_free : (g : Setup) (t : ℕ) (held : Pairs) (marks : List Mark) → IsCommitting (frees g t held marks).phase → ⊥
-frees_free g t [] marks h = opens_free g (t + 1) h
-frees_free g t (p ∷ held) marks h = h
 
 module _ (g : Setup) (ok : IsSetup g) (old : State) (s : Sound g old) (c : ℕ) (k : Caller) (there : slice_get old.callers c ≡ Some k) where
   abbrev is : CallerOk g old s.last c k
@@ -121,7 +110,7 @@ module _ (g : Setup) (ok : IsSetup g) (old : State) (s : Sound g old) (c : ℕ) 
       new = looks g c old k m
 
       last_mark : slice_get more k.turn ≡ Some m
-      last_mark = ap (slice_get more) (sym count) ∙ slice_get-push_last k.marks m
+      last_mark = ap (slice_get more) (sym count) ∙ slice_get_behind k.marks m []
 
       in_zone : (n : CellName) → Contains (names k.held) n → HasInZone g.verdict g.world old.journal (place_of m) own n
       in_zone n has = (s.last, subst (λ p. IsWorldAt g.verdict g.world old.journal p s.last) (sym place) here_now, subst (λ ns. Contains ns n) front (Contains-append_left (names k.held) rest n has))

@@ -17,7 +17,7 @@ use Rattle.claim_core.specs.declared.marks.Mark.TheVariants as mark
 use Rattle.claim_core.specs.declared.state.Phase.{Phase}
 use Rattle.claim_core.specs.declared.state.Phase.TheVariants.{Claim, Refusing, Looking, Taking, Committing, Releasing, Ended}
 use Rattle.claim_core.specs.declared.state.Caller.{Caller}
-use Rattle.claim_core.specs.Good.{IsWorldAt, HasVerdict, HasInZone, Order, mark_of, place_of, place_after}
+use Rattle.claim_core.specs.Good.{IsWorldAt, HasVerdict, HasInZone, Order, mark_of_turn, place_of, place_after}
 use Rattle.claim_core.specs.Cells.{number, at, values_of}
 use Rattle.claim_core.specs.Machine.{Setup, State, bot}
 use Rattle.claim_core.specs.Soundness.{IsSetup, names, verdict_of, IsCommitting, marks_so_far, Holds, HasHeld, IsHolder, TurnOkSoFar, IsRefused, IsDecided, HasFront, IsHeld, CallerOk, Sound}
@@ -28,10 +28,10 @@ use Rattle.claim_core.proofs.Frames.{IsFramed, run_framed, own_stays}
 
 module _ (g : Setup) where
   -- a mark is one of a caller's record
-  pub told : (s : State) (d t : ℕ) (j : Caller) (m : Mark) → slice_get s.callers d ≡ Some j → slice_get j.marks t ≡ Some m → mark_of (marks_so_far g s) d t ≡ Some m
+  pub told : (s : State) (d t : ℕ) (j : Caller) (m : Mark) → slice_get s.callers d ≡ Some j → slice_get j.marks t ≡ Some m → mark_of_turn (marks_so_far g s) d t ≡ Some m
   told s d t j m there has = ap (λ ms. slice_get ms t) (get_or_from_slice_get (map (λ (k : Caller). k.marks) s.callers) d j.marks [] (get-map (λ (k : Caller). k.marks) s.callers d j there)) ∙ has
 
-  pub told_by : (s : State) (d t : ℕ) (m : Mark) → mark_of (marks_so_far g s) d t ≡ Some m → (j : Caller) × (slice_get s.callers d ≡ Some j) × (slice_get j.marks t ≡ Some m)
+  pub told_by : (s : State) (d t : ℕ) (m : Mark) → mark_of_turn (marks_so_far g s) d t ≡ Some m → (j : Caller) × (slice_get s.callers d ≡ Some j) × (slice_get j.marks t ≡ Some m)
   told_by s d t m has = by (slice_get s.callers d) refl
     where
       past : {A B : Type 0} (f : A → List B) (xs : List A) (i : ℕ) → slice_get xs i ≡ None → get_or (map f xs) i [] ≡ []
@@ -65,7 +65,7 @@ module _ (g : Setup) (old new : State) (c : ℕ) (k next : Caller) (mv : Moves g
   pub mark_stays : (t : ℕ) (m : Mark) → slice_get k.marks t ≡ Some m → slice_get next.marks t ≡ Some m
   mark_stays t m has = ap (λ ms. slice_get ms t) mv.marks ∙ get-append_left k.marks mv.added t m has
 
-  pub told_stays : (d t : ℕ) (m : Mark) → mark_of (marks_so_far g old) d t ≡ Some m → mark_of (marks_so_far g new) d t ≡ Some m
+  pub told_stays : (d t : ℕ) (m : Mark) → mark_of_turn (marks_so_far g old) d t ≡ Some m → mark_of_turn (marks_so_far g new) d t ≡ Some m
   told_stays d t m has =
       let by = told_by g old d t m has in
       elim (cases_eq d c) [
@@ -193,7 +193,7 @@ module _ (g : Setup) (old new : State) (c : ℕ) (k next : Caller) (mv : Moves g
 
     -- and the state is sound again
     pub moved : Run g.verdict g.world new.journal last → new.values ≡ values_of last → length new.tags ≡ length new.values → Order g.lists new.journal
-        → ((place : ℕ) (e : Entry) → slice_get new.journal place ≡ Some e → mark_of (marks_so_far g new) e.caller e.turn ≡ Some (mark.Done place))
+        → ((place : ℕ) (e : Entry) → slice_get new.journal place ≡ Some e → mark_of_turn (marks_so_far g new) e.caller e.turn ≡ Some (mark.Done place))
         → CallerOk g new last c next
         → ((d : ℕ) (j : Caller) → d ≢ c → slice_get old.callers d ≡ Some j → CallerOk g old s.last d j → All (IsHeld g new last d j.turn) j.held × (old.holder ≡ Some d → new.holder ≡ Some d))
         → ((n : CellName) (t : ℕ) → at new.tags (number g.world.area n) ≡ Some t → t ≢ 0 → Contains (names next.held) n ⊎ ((at old.tags (number g.world.area n) ≡ Some t) × (Contains (names k.held) n → Contains (names next.held) n)))

@@ -1,5 +1,5 @@
 -- The numbers of cells, and the values by them.
-use Rattle.std.proofs.Common.{◌≡◌, ℕ, suc, ◌+◌, ◌-◌, ◌*◌, ◌<◌, List, [], ◌∷◌, ◌++◌, map, length, true, Option, Some, None, inl, inr, ap, sym, refl, subst, ◌∙◌, arith, length-append}
+use Rattle.std.proofs.Common.{◌≡◌, ℕ, ◌+◌, ◌-◌, ◌*◌, ◌<◌, List, [], ◌∷◌, ◌++◌, map, length, true, Option, Some, None, inl, inr, ap, sym, refl, subst, ◌∙◌, arith, length-append}
 use Rattle.std.specs.Prelude.{slice_get, unwrap_or, if◌then◌else◌}
 use Rattle.std.specs.List.{All, range_with_len}
 use Rattle.std.specs.Option.{option_map}
@@ -20,7 +20,7 @@ use Rattle.amoebot_state.specs.Pairs.{Pairs, cell_of, cell_value}
 use Rattle.amoebot_state.specs.Configs.{Config, bot_at, bot_of, blank, occupant, value}
 use Rattle.amoebot_state.specs.Patches.{IsPatched, all_cells}
 use Rattle.claim_core.specs.Cells.{number, at, put, held_by, values_of, name_eq, given, patched}
-use Rattle.claim_core.proofs.Places.{at-put_here, at-put_else, length-put, get-append_left, get-append_right}
+use Rattle.claim_core.proofs.Places.{at-put_here, at-put_else, length-put, get-append_left, get-append_right, same_by_get}
 
 -- the test of names is equality
 pub name_eq-true : (n m : CellName) → name_eq n m ≡ true → n ≡ m
@@ -185,13 +185,6 @@ at-patched a (p ∷ ps) xs n x e =
           at-put_else (patched a ps xs) (number a p.0) (number a n) p.1 (λ same. both_ways _ f (ap (λ m. name_eq m n) (same_number a xs n p.0 x e (sym same)) ∙ name_eq_same n))
           ∙ rest ∙ ap (λ b. Some (unwrap_or (if b then Some p.1 else given ps n) x)) (sym f)
     ]
-
--- lists with the same elements
-same_by_get : {A : Type 0} (xs ys : List A) → length xs ≡ length ys → ((k : ℕ) (y : A) → slice_get ys k ≡ Some y → slice_get xs k ≡ Some y) → xs ≡ ys
-same_by_get [] [] alike all = refl
-same_by_get [] (y ∷ ys) alike all = absurd (omega arith)
-same_by_get (x ∷ xs) [] alike all = absurd (omega arith)
-same_by_get (x ∷ xs) (y ∷ ys) alike all = λ i. same_Some x y (all 0 y refl) i ∷ same_by_get xs ys (omega arith) (λ k z e. all (suc k) z e) i
 
 -- the cells of a patched configuration are the old ones
 pub same_cells : (old new : Config) → new ≡ record old { bots = new.bots } → length new.bots ≡ length old.bots → all_cells new ≡ all_cells old

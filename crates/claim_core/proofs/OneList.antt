@@ -5,7 +5,7 @@ use Rattle.std.specs.List.{All, AllPairs}
 use Rattle.std.proofs.Math.Seq.{take-suc}
 use Rattle.std.proofs.lemmas.Bool.{cases_lt, cases_eq}
 use Rattle.std.proofs.lemmas.List.{append-nil, take_all, length-take-le, nil_from_length}
-use Rattle.std.proofs.lemmas.Option.{same_Some, none-some, slice_get_within, slice_get-get_or, get_or_from_slice_get}
+use Rattle.std.proofs.lemmas.Option.{same_Some, slice_get_within, slice_get-get_or, get_or_from_slice_get}
 use Rattle.amoebot_state.specs.declared.verdict.Entry.{Entry}
 use Rattle.amoebot_state.specs.declared.verdict.Verdict.{Verdict}
 use Rattle.amoebot_state.specs.declared.verdict.Verdict.TheVariants as verdict
@@ -19,17 +19,12 @@ use Rattle.serial_model.specs.SerialTurns.{SerialTurn}
 use Rattle.claim_core.specs.declared.marks.Mark.{Mark}
 use Rattle.claim_core.specs.declared.marks.Mark.TheVariants as mark
 use Rattle.claim_core.specs.declared.report.Report.{Report}
-use Rattle.claim_core.specs.Turns.{CallerLists, bot_of, marks_of}
-use Rattle.claim_core.specs.Good.{HasVerdict, IsListed, TurnOk, Good, mark_of, place_of, place_after}
+use Rattle.claim_core.specs.Turns.{CallerLists, bot_of_turn, marks_of}
+use Rattle.claim_core.specs.Good.{HasVerdict, IsListed, TurnOk, Good, mark_of_turn, place_of, place_after}
 use Rattle.claim_core.specs.SerialRuns.{SerialRun, mark_at, entries_by, left_by}
 use Rattle.claim_core.specs.Laws.{OneListIsNeverBusy, OneListIsSerial}
 use Rattle.claim_core.proofs.Ends.{run_at}
-
--- an element of a list of lists is one of a list that is there
-has_list : {A : Type 0} (xss : List (List A)) (c t : ℕ) (x : A) → slice_get (get_or xss c []) t ≡ Some x → c < length xss
-has_list [] c t x e = absurd (none-some x e)
-has_list (xs ∷ xss) zero t x e = omega arith
-has_list (xs ∷ xss) (suc c) t x e = let lt = has_list xss c t x e in omega arith
+use Rattle.claim_core.proofs.Places.{of_a_list}
 
 -- what holds of two elements of which the one stands before the other
 pair_at : {A : Type 0} (R : A → A → Type 0) (xs : List A) (i j : ℕ) (x y : A) → AllPairs R xs → i < j → slice_get xs i ≡ Some x → slice_get xs j ≡ Some y → R x y
@@ -43,7 +38,8 @@ all_at P xs i x all e = subst P (get_or_from_slice_get xs i x x e) (all i x (sli
 pub never_busy : OneListIsNeverBusy
 never_busy f w0 lists report few good caller turn by_caller by_turn by_bot place n has =
     let ok = good.marks.right caller turn (mark.Busy n by_caller by_turn by_bot place) has in
-    let inside = has_list report.turns.marks caller turn _ has in
+    let own = of_a_list report.turns.marks caller turn (mark.Busy n by_caller by_turn by_bot place) has in
+    let inside = slice_get_within report.turns.marks caller own.0 own.1 in
     let size = good.marks.callers in
     let other = ok.1.listed in
     let same : by_caller ≡ caller = omega arith in
@@ -64,7 +60,7 @@ module _ (f : Shown → Verdict) (w0 : Config) (lists : CallerLists) (report : R
   only place e has = let is = (listed place e has).caller in omega arith
 
   done : (place : ℕ) (e : Entry) → slice_get journal place ≡ Some e → slice_get own e.turn ≡ Some (mark.Done place)
-  done place e has = ap (λ c. mark_of report.turns c e.turn) (sym (only place e has)) ∙ good.marks.committed place e has
+  done place e has = ap (λ c. mark_of_turn report.turns c e.turn) (sym (only place e has)) ∙ good.marks.committed place e has
 
   later : (i j : ℕ) (x y : Entry) → i < j → slice_get journal i ≡ Some x → slice_get journal j ≡ Some y → x.turn < y.turn
   later i j x y lt one two = pair_at (λ a b. a.caller ≡ b.caller → a.turn < b.turn) journal i j x y good.order.rising lt one two (only i x one ∙ sym (only j y two))
@@ -118,7 +114,7 @@ module _ (f : Shown → Verdict) (w0 : Config) (lists : CallerLists) (report : R
                 record {
                   by = only so.place e at;
                   at = turn;
-                  of = (listed so.place e at).bot ∙ (λ i. bot_of lists (only so.place e at i) (turn i));
+                  of = (listed so.place e at).bot ∙ (λ i. bot_of_turn lists (only so.place e at i) (turn i));
                 },
               );
               marks = take-suc own t (mark.Done place) (slice_get_within own t (mark.Done place) marked) ∙ ap (λ x. take t own ++ x ∷ []) (get_or_from_slice_get own t (mark.Done place) (mark.Done place) marked) ∙ ap (λ n. take t own ++ mark.Done n ∷ []) (next ∙ sym full);
@@ -151,7 +147,7 @@ module _ (f : Shown → Verdict) (w0 : Config) (lists : CallerLists) (report : R
         ]
 
     -- a turn that commits nothing was made at the same place
-    stays : (t : ℕ) (so : SoFar t) (m : Mark) (done_by : Turned) (v : Verdict) → slice_get own t ≡ Some m → m ≡ mark_at (place_of m) done_by → entries_by done_by ≡ [] → ((w : Config) → f (shown w (bot_of lists 0 t)) ≡ v → SerialTurn f 0 t (bot_of lists 0 t) w done_by w) → HasVerdict f w0 journal (place_of m) (bot_of lists 0 t) v → place_after m ≡ place_of m → ((place : ℕ) → m ≡ mark.Done place → ⊥) → SoFar (suc t)
+    stays : (t : ℕ) (so : SoFar t) (m : Mark) (done_by : Turned) (v : Verdict) → slice_get own t ≡ Some m → m ≡ mark_at (place_of m) done_by → entries_by done_by ≡ [] → ((w : Config) → f (shown w (bot_of_turn lists 0 t)) ≡ v → SerialTurn f 0 t (bot_of_turn lists 0 t) w done_by w) → HasVerdict f w0 journal (place_of m) (bot_of_turn lists 0 t) v → place_after m ≡ place_of m → ((place : ℕ) → m ≡ mark.Done place → ⊥) → SoFar (suc t)
     stays t so m done_by v marked is_mark nothing makes has after not_done =
         let old : so.world ≡ has.0 = world_is so.place so.world has.0 so.run (subst (λ p. Run f w0 (take p journal) has.0) here has.1.reached) in
         let full : length (take so.place journal) ≡ so.place = length-take-le so.place journal so.within in
@@ -165,7 +161,7 @@ module _ (f : Shown → Verdict) (w0 : Config) (lists : CallerLists) (report : R
             so.left,
             record {
               turned = done_by;
-              made = makes so.world (ap (λ w. f (shown w (bot_of lists 0 t))) old ∙ has.2);
+              made = makes so.world (ap (λ w. f (shown w (bot_of_turn lists 0 t))) old ∙ has.2);
               marks = take-suc own t m (slice_get_within own t m marked) ∙ ap (λ x. take t own ++ x ∷ []) (get_or_from_slice_get own t m m marked ∙ is_mark ∙ ap (λ p. mark_at p done_by) (here ∙ sym full));
               entries = sym (append-nil (take so.place journal)) ∙ ap (λ es. take so.place journal ++ es) (sym nothing);
             },

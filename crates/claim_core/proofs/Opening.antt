@@ -14,7 +14,7 @@ use Rattle.claim_core.specs.Turns.{CallerLists, MarkLists, Kept}
 use Rattle.claim_core.specs.Cells.{values_of}
 use Rattle.claim_core.specs.Machine.{Setup, opening}
 use Rattle.claim_core.specs.Soundness.{IsSetup}
-use Rattle.claim_core.specs.Cores.{Begins, unmarked, state_of, callers_of, IsCore}
+use Rattle.claim_core.specs.Cores.{Begins, unmarked, state_of, callers_with, IsCore}
 use Rattle.claim_core.proofs.Seats.{callers_fresh, unmarked-none}
 use Rattle.claim_core.proofs.Ranks.{length-values}
 
@@ -44,7 +44,7 @@ module _ (verdict : Shown → Verdict) (world : Config) (lists : CallerLists) (t
     values = values_of world;
     journal = entries i;
     holder = None;
-    callers = (ap (callers_of seats) same_marks ∙ callers_fresh g seats lists.ids many begin) i;
+    callers = (ap (callers_with seats) same_marks ∙ callers_fresh g seats lists.ids many begin) i;
   }
 
   pub is_core : IsSetup g → length lists.ids * lists.turns ≤ journal.spare → IsCore verdict lists tags world journal None seats marks

@@ -1,5 +1,5 @@
 -- Elements of lists by their places, after a write and after a map.
-use Rattle.std.proofs.Common.{◌≡◌, ℕ, zero, suc, ◌+◌, ◌<◌, ◌⊎◌, List, [], ◌∷◌, ◌++◌, map, length, set, Option, Some, None, inl, inr, ap, sym, refl, ◌∙◌, arith}
+use Rattle.std.proofs.Common.{◌≡◌, ℕ, zero, suc, ◌+◌, ◌<◌, ◌⊎◌, List, [], ◌∷◌, ◌++◌, map, length, get_or, set, Option, Some, None, inl, inr, ap, sym, refl, ◌∙◌, arith}
 use Rattle.std.specs.Prelude.{slice_get}
 use Rattle.std.proofs.lemmas.Option.{same_Some, none-some, slice_get_within}
 use Rattle.claim_core.specs.Cells.{at, put}
@@ -37,6 +37,19 @@ pub get-append_right : {A : Type 0} (xs ys : List A) (k j : ℕ) → j ≡ lengt
 get-append_right [] ys k j e = ap (slice_get ys) (let f : j ≡ k = omega arith in f)
 get-append_right (z ∷ xs) ys k zero e = absurd (omega arith)
 get-append_right (z ∷ xs) ys k (suc j) e = get-append_right xs ys k j (omega arith)
+
+-- what stands at a place of a list of lists
+pub of_a_list : {A : Type 0} (xss : List (List A)) (c k : ℕ) (x : A) → slice_get (get_or xss c []) k ≡ Some x → (xs : List A) × (slice_get xss c ≡ Some xs) × (slice_get xs k ≡ Some x)
+of_a_list [] c k x e = absurd (none-some x e)
+of_a_list (xs ∷ xss) zero k x e = (xs, refl, e)
+of_a_list (xs ∷ xss) (suc c) k x e = of_a_list xss c k x e
+
+-- lists with the same elements
+pub same_by_get : {A : Type 0} (xs ys : List A) → length xs ≡ length ys → ((k : ℕ) (y : A) → slice_get ys k ≡ Some y → slice_get xs k ≡ Some y) → xs ≡ ys
+same_by_get [] [] alike all = refl
+same_by_get [] (y ∷ ys) alike all = absurd (omega arith)
+same_by_get (x ∷ xs) [] alike all = absurd (omega arith)
+same_by_get (x ∷ xs) (y ∷ ys) alike all = λ i. same_Some x y (all 0 y refl) i ∷ same_by_get xs ys (omega arith) (λ k z e. all (suc k) z e) i
 
 -- the same by numbers of cells
 module _ {A : Type 0} where

@@ -1,7 +1,7 @@
 -- The code's steps are those of the machine.
-use Rattle.std.proofs.Common.{◌≡◌, ◌≢◌, ℕ, zero, suc, ◌+◌, ◌<◌, ◌≤◌, List, [], ◌∷◌, ◌++◌, map, reverse, length, get_or, set, Option, Some, None, inl, inr, ap, sym, refl, subst, ◌∙◌, arith, Bool, true, not, ne_eqb}
-use Rattle.std.specs.Prelude.{slice_get, slice_set, is_some, IsSome, IfSome, if◌then◌else◌}
-use Rattle.std.proofs.lemmas.Bool.{false≢true, eq-eqb, cases_lt}
+use Rattle.std.proofs.Common.{◌≡◌, ◌≢◌, ℕ, zero, suc, ◌+◌, ◌<◌, ◌≤◌, List, [], ◌∷◌, ◌++◌, map, reverse, length, get_or, set, Option, Some, None, inl, inr, ap, sym, refl, subst, ◌∙◌, arith, ne_eqb}
+use Rattle.std.specs.Prelude.{slice_get, slice_set, IsSome, IfSome, if◌then◌else◌}
+use Rattle.std.proofs.lemmas.Bool.{eq-eqb, cases_lt}
 use Rattle.std.specs.List.{All}
 use Rattle.std.proofs.lemmas.List.{reverse-append, reverse-reverse, length-reverse, map-append, get_or_past}
 use Rattle.std.proofs.lemmas.List.Elements.{All-head, All-tail, All-weaker}
@@ -29,13 +29,14 @@ use Rattle.claim_core.specs.declared.machine.Seat.{Seat}
 use Rattle.claim_core.specs.declared.state.Phase.{Phase}
 use Rattle.claim_core.specs.declared.state.Phase.TheVariants as phase
 use Rattle.claim_core.specs.declared.state.Caller.{Caller}
+use Rattle.claim_core.specs.Limits.{most_turns}
 use Rattle.claim_core.specs.Turns.{CallerLists, MarkLists, Kept}
 use Rattle.claim_core.specs.Tags.{tag, tag_caller}
 use Rattle.claim_core.specs.declared.state.Look.{Look}
 use Rattle.claim_core.specs.Cells.{number, at, put, held_by, values_of, patched}
 use Rattle.claim_core.specs.Machine.{Setup, State, bot, own_tag, entry, renewed, looks, looked, refused, found, next_of, after_win, won, wins, claims, finds, tries, with_caller, frees, takes, releases, by_phase, acts, next, after}
 use Rattle.claim_core.specs.Soundness.{IsSetup, IsTurn, IsRefused, marked, IsDecided, HasFront, IsHeld, Sound}
-use Rattle.claim_core.specs.Cores.{Running, setup_of, stepped, phase_after, IsCell, HasPhase, IsUnmarked, looks_at, caller_of, callers_of, Frees, unmarked, state_of, IsCore}
+use Rattle.claim_core.specs.Cores.{Running, setup_of, stepped, phase_after, IsCell, HasPhase, IsUnmarked, looks_at, caller_with, callers_with, Frees, unmarked, state_of, IsCore}
 use Rattle.claim_core.proofs.Sounds.{one_step, always}
 use Rattle.claim_core.proofs.Fronts.{Valued, All-reverse, reverse-more}
 use Rattle.amoebot_state.proofs.Runs.{run_push}
@@ -45,11 +46,6 @@ use Rattle.claim_core.proofs.Numbers.{value_at, value_held, value_patched, value
 use Rattle.claim_core.proofs.Claiming.{held_plain, won_plain, won_shown}
 use Rattle.claim_core.proofs.Ranks.{length-values, front, next_is_there, few, placed}
 use Rattle.claim_core.proofs.Seats.{length-callers, callers-at, callers-set, callers-set_both, callers-marks_at, frees-is, unmarked-set}
-
--- what the test for none says
-pub none_tested : {A : Type 0} (o : Option A) (b : Bool) → is_some o ≡ not b → b ≡ true → o ≡ None
-none_tested None b e t = refl
-none_tested (Some x) b e t = absurd (false≢true (ap not (sym t) ∙ sym e))
 
 -- a caller that has no mark for its turn yet is in one
 pub turn_below : (turns : ℕ) (callers : List Caller) (c n : ℕ) (k : Caller) → IsUnmarked turns callers c → slice_get callers c ≡ Some k → n ≡ turns → k.turn < n
@@ -81,7 +77,7 @@ its_seat c i seat same inside read = record { same = same; inside = inside; read
 -- the core keeps what it keeps
 pub kept : {verdict : Shown → Verdict} {lists : CallerLists} {tags tags' : List ℕ} {world world' : Config} {journal journal' : Kept} {holder holder' : Option ℕ} {seats seats' : List Seat} {marks marks' : MarkLists} → IsCore verdict lists tags world journal holder seats marks → (c : ℕ)
     → journal'.first ≡ journal.first → state_of tags' world' journal' holder' seats' marks' ≡ next (record { verdict = verdict; world = journal.first; lists = lists }) c (state_of tags world journal holder seats marks)
-    → Run verdict journal'.first journal'.entries world' → marks'.turns ≡ lists.turns → length marks'.marks ≡ length seats' → unmarked lists.turns marks'.marks ≤ journal'.spare → length journal'.entries + unmarked lists.turns marks'.marks ≤ 65536
+    → Run verdict journal'.first journal'.entries world' → marks'.turns ≡ lists.turns → length marks'.marks ≡ length seats' → unmarked lists.turns marks'.marks ≤ journal'.spare → length journal'.entries + unmarked lists.turns marks'.marks ≤ most_turns
     → IsCore verdict lists tags' world' journal' holder' seats' marks'
 kept {verdict} {lists} {tags} {tags'} {world} {world'} {journal} {journal'} {holder} {holder'} {seats} {seats'} {marks} {marks'} is c first step run turns each room few = record {
   setup = subst (λ w. let g : Setup = record { verdict = verdict; world = w; lists = lists } in IsSetup g) (sym first) is.setup;
@@ -149,7 +145,7 @@ module _ {verdict : Shown → Verdict} {lists : CallerLists} {tags : List ℕ} {
     own_marks = get_or marks.marks c []
 
     abbrev pub k : Caller
-    k = caller_of seat own_marks
+    k = caller_with seat own_marks
 
     pub there : slice_get old.callers c ≡ Some k
     there = callers-at seats marks.marks c seat is.each here.inside (here.read ∙ ap (λ j. get_or seats j seat) here.same)
@@ -171,8 +167,8 @@ module _ {verdict : Shown → Verdict} {lists : CallerLists} {tags : List ℕ} {
         let mine = is_sound.each c k there in
         record { record_of = k; there = there; turn = below (subst (λ q. IsTurn lists.turns q seat.turn) e mine.turn); counted = mine.counted ∙ ap (λ q. marked q seat.turn) e ∙ as_many }
 
-    pub seats_put : (new : Seat) → callers_of (set seats i new) marks.marks ≡ slice_set old.callers c (caller_of new own_marks)
-    seats_put new = ap (λ j. callers_of (set seats j new) marks.marks) here.same ∙ callers-set seats marks.marks c new
+    pub seats_put : (new : Seat) → callers_with (set seats i new) marks.marks ≡ slice_set old.callers c (caller_with new own_marks)
+    seats_put new = ap (λ j. callers_with (set seats j new) marks.marks) here.same ∙ callers-set seats marks.marks c new
 
     -- the step is that of its phase
     pub next_in : (p : Phase) → seat.phase ≡ p → next g c old ≡ by_phase g c old k p
@@ -184,14 +180,11 @@ module _ {verdict : Shown → Verdict} {lists : CallerLists} {tags : List ℕ} {
         (λ j. record old { holder = Some c; callers = (seats_put new ∙ ap (slice_set old.callers c) (λ l. record k { turn = turn l; phase = ph l; held = reverse (held l) })) j })
         ∙ sym (next_in (phase.Taking change) e ∙ ap (takes g c old k change) free)
 
-    pub waits : (change : Change) (d : ℕ) → seat.phase ≡ phase.Taking change → holder ≡ Some d → old ≡ next g c old
-    waits change d e held = sym (next_in (phase.Taking change) e ∙ ap (takes g c old k change) held)
-
     -- a look: the turn has its mark
     pub settled : (new : Seat) (m : Mark) (marks' : MarkLists) → Frees lists.turns seat new → marks'.marks ≡ set marks.marks c (own_marks ++ m ∷ []) → next g c old ≡ looks_at g c old (slice_get old.callers c) m → state_of tags world journal holder (set seats i new) marks' ≡ next g c old
     settled new m marks' freed added step =
-        let callers : callers_of (set seats i new) marks'.marks ≡ slice_set old.callers c (frees g seat.turn (reverse seat.held.items) (own_marks ++ m ∷ [])) =
-        (λ j. callers_of (set seats (here.same j) new) (added j)) ∙ callers-set_both seats marks.marks c new (own_marks ++ m ∷ []) is.each ∙ ap (slice_set old.callers c) (frees-is g seat new (own_marks ++ m ∷ []) freed) in
+        let callers : callers_with (set seats i new) marks'.marks ≡ slice_set old.callers c (frees g seat.turn (reverse seat.held.items) (own_marks ++ m ∷ [])) =
+        (λ j. callers_with (set seats (here.same j) new) (added j)) ∙ callers-set_both seats marks.marks c new (own_marks ++ m ∷ []) is.each ∙ ap (slice_set old.callers c) (frees-is g seat new (own_marks ++ m ∷ []) freed) in
         (λ j. record old { callers = callers j }) ∙ sym (step ∙ ap (λ o. looks_at g c old o m) there)
 
     -- a release
@@ -199,7 +192,7 @@ module _ {verdict : Shown → Verdict} {lists : CallerLists} {tags : List ℕ} {
     released left new n x num ph popped turn at_n freed =
         let last : reverse seat.held.items ≡ (n, x) ∷ reverse left.held.items = ap reverse popped ∙ reverse-append left.held.items ((n, x) ∷ []) in
         let numbered : number journal.first.area n ≡ Some num = ap (λ a. number a n) (sym same_extent) ∙ at_n in
-        let callers : callers_of (set seats i new) marks.marks ≡ slice_set old.callers c (frees g seat.turn (reverse left.held.items) own_marks) =
+        let callers : callers_with (set seats i new) marks.marks ≡ slice_set old.callers c (frees g seat.turn (reverse left.held.items) own_marks) =
         seats_put new ∙ ap (slice_set old.callers c) (frees-is g left new own_marks freed ∙ ap (λ t. frees g t (reverse left.held.items) own_marks) turn) in
         (λ j. record old { tags = put tags (sym numbered j) 0; callers = callers j }) ∙ sym (next_in phase.Releasing ph ∙ ap (releases g c old k) last)
 
@@ -318,7 +311,7 @@ module _ {verdict : Shown → Verdict} {lists : CallerLists} {tags : List ℕ} {
 
             pub claim_won : (new : Seat) → new.turn ≡ seat.turn → new.held.items ≡ more → new.phase ≡ phase_after verdict (record { area = world.area; maxes = world.maxes; bot = own; cells = more }) (next_cell world.area own more) → state_of (set tags num (tag c seat.turn own)) world journal holder (set seats i new) marks ≡ next g c old
             claim_won new turn held ph' =
-                let mine : caller_of new own_marks ≡ won g c k n (held_by world n) = λ l. record {
+                let mine : caller_with new own_marks ≡ won g c k n (held_by world n) = λ l. record {
                   turn = turn l;
                   phase = (ph' ∙ (λ j. phase_after verdict (sym shown_more j) (sym next_more j)) ∙ same_phase (next_of g own ((n, held_by world n) ∷ k.held))) l;
                   held = (ap reverse held ∙ reverse-append seat.held.items ((n, held_by world n) ∷ [])) l;
@@ -383,8 +376,8 @@ module _ {verdict : Shown → Verdict} {lists : CallerLists} {tags : List ℕ} {
         pub committed : (left new : Seat) (journal' : Kept) (marks' : MarkLists) (e : Entry) → left.turn ≡ seat.turn → left.held.items ≡ map (λ (p : CellName × Cell). (p.0, held_by world' p.0)) seat.held.items → Frees lists.turns left new → e ≡ entry g c seat.turn change → journal'.entries ≡ journal.entries ++ e ∷ [] → marks'.marks ≡ set marks.marks c (own_marks ++ mark.Done (length journal.entries) ∷ []) → state_of tags world' journal' None (set seats i new) marks' ≡ next g c old
         committed left new journal' marks' e turn held freed same_e entries added =
             let renewed_held : reverse left.held.items ≡ map (renewed change.patch) (reverse seat.held.items) = ap reverse (held ∙ again seat.held.items held_valued) ∙ reverse-map (renewed change.patch) seat.held.items in
-            let callers : callers_of (set seats i new) marks'.marks ≡ slice_set old.callers c (frees g seat.turn (map (renewed change.patch) (reverse seat.held.items)) (own_marks ++ mark.Done (length journal.entries) ∷ [])) =
-            (λ j. callers_of (set seats (here.same j) new) (added j)) ∙ callers-set_both seats marks.marks c new (own_marks ++ mark.Done (length journal.entries) ∷ []) is.each
+            let callers : callers_with (set seats i new) marks'.marks ≡ slice_set old.callers c (frees g seat.turn (map (renewed change.patch) (reverse seat.held.items)) (own_marks ++ mark.Done (length journal.entries) ∷ [])) =
+            (λ j. callers_with (set seats (here.same j) new) (added j)) ∙ callers-set_both seats marks.marks c new (own_marks ++ mark.Done (length journal.entries) ∷ []) is.each
             ∙ ap (slice_set old.callers c) (frees-is g left new (own_marks ++ mark.Done (length journal.entries) ∷ []) freed ∙ (λ j. frees g (turn j) (renewed_held j) (own_marks ++ mark.Done (length journal.entries) ∷ []))) in
             let values : values_of world' ≡ patched journal.first.area change.patch (values_of world) = sym (values-patched world world' change.patch is_patched) ∙ ap (λ a. patched a change.patch (values_of world)) same_extent in
             (λ j. record { tags = tags; values = values j; journal = (entries ∙ ap (λ x. journal.entries ++ x ∷ []) same_e) j; holder = None; callers = callers j }) ∙ sym (next_in (phase.Committing change) ph)

@@ -14,6 +14,7 @@ use Rattle.claim_core.specs.declared.machine.Seat.{Seat}
 use Rattle.claim_core.specs.declared.state.Caller.{Caller}
 use Rattle.claim_core.specs.declared.state.Phase.{Phase}
 use Rattle.claim_core.specs.declared.state.Phase.TheVariants as phase
+use Rattle.claim_core.specs.Limits.{most_turns}
 use Rattle.claim_core.specs.Turns.{CallerLists, MarkLists, Kept}
 use Rattle.claim_core.specs.Cells.{values_of}
 use Rattle.claim_core.specs.Machine.{Setup, State, decided, looks, next, opening, after}
@@ -56,8 +57,8 @@ abbrev pub HasTurn : List Caller → ℕ → ℕ → Type 0
 HasTurn callers c t = (k : Caller) × (slice_get callers c ≡ Some k) × (k.turn ≡ t)
 
 -- a caller holds these cells, the one won first at the front
-abbrev pub Holds : List Caller → ℕ → Pairs → Type 0
-Holds callers c held = (k : Caller) × (slice_get callers c ≡ Some k) × (k.held ≡ reverse held)
+abbrev pub HoldsCells : List Caller → ℕ → Pairs → Type 0
+HoldsCells callers c held = (k : Caller) × (slice_get callers c ≡ Some k) × (k.held ≡ reverse held)
 
 -- a caller in a turn, of so many, that has no mark yet
 pub record IsUnmarked (turns : ℕ) (callers : List Caller) (c : ℕ) : Type 0 where
@@ -72,17 +73,17 @@ looks_at g c s None m = s
 looks_at g c s (Some k) m = looks g c s k m
 
 -- a caller with its marks
-abbrev pub caller_of : Seat → List Mark → Caller
-caller_of s marks = record { turn = s.turn; phase = s.phase; held = reverse s.held.items; marks = marks }
+abbrev pub caller_with : Seat → List Mark → Caller
+caller_with s marks = record { turn = s.turn; phase = s.phase; held = reverse s.held.items; marks = marks }
 
 -- the seat of a caller
 abbrev pub IsSeat : List Caller → ℕ → Seat → Type 0
-IsSeat callers c s = (marks : List Mark) × (slice_get callers c ≡ Some (caller_of s marks))
+IsSeat callers c s = (marks : List Mark) × (slice_get callers c ≡ Some (caller_with s marks))
 
-abbrev pub callers_of : List Seat → List (List Mark) → List Caller
-callers_of [] ms = []
-callers_of (s ∷ ss) [] = []
-callers_of (s ∷ ss) (m ∷ ms) = caller_of s m ∷ callers_of ss ms
+abbrev pub callers_with : List Seat → List (List Mark) → List Caller
+callers_with [] ms = []
+callers_with (s ∷ ss) [] = []
+callers_with (s ∷ ss) (m ∷ ms) = caller_with s m ∷ callers_with ss ms
 
 -- the phase in which a turn begins, of so many
 abbrev pub opens_by : ℕ → ℕ → Phase
@@ -119,7 +120,7 @@ unmarked turns [] = 0
 unmarked turns (m ∷ ms) = (turns - length m) + unmarked turns ms
 
 abbrev pub state_of : List ℕ → Config → Kept → Option ℕ → List Seat → MarkLists → State
-state_of tags world journal holder seats marks = record { tags = tags; values = values_of world; journal = journal.entries; holder = holder; callers = callers_of seats marks.marks }
+state_of tags world journal holder seats marks = record { tags = tags; values = values_of world; journal = journal.entries; holder = holder; callers = callers_with seats marks.marks }
 
 -- what a core keeps: some steps led to its state, its world is the last one of the run, and there is room in the journal for all turns that
 -- have no mark yet
@@ -131,4 +132,4 @@ pub record IsCore (verdict : Shown → Verdict) (lists : CallerLists) (tags : Li
   pub turns : marks.turns ≡ lists.turns
   pub each : length marks.marks ≡ length seats
   pub room : unmarked lists.turns marks.marks ≤ journal.spare
-  pub few : length journal.entries + unmarked lists.turns marks.marks ≤ 65536
+  pub few : length journal.entries + unmarked lists.turns marks.marks ≤ most_turns

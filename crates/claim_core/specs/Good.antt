@@ -13,7 +13,7 @@ use Rattle.amoebot_state.specs.Steps.{Run}
 use Rattle.claim_core.specs.declared.marks.Mark.{Mark}
 use Rattle.claim_core.specs.declared.marks.Mark.TheVariants as mark
 use Rattle.claim_core.specs.declared.report.Report.{Report}
-use Rattle.claim_core.specs.Turns.{CallerLists, MarkLists, bot_of, marks_of}
+use Rattle.claim_core.specs.Turns.{CallerLists, MarkLists, bot_of_turn, marks_of}
 
 -- the world at a place of a journal: the one that so many of its entries lead to from the first world, of which there is at
 -- most one
@@ -33,7 +33,7 @@ HasInZone f first entries place bot cell = (world : Config) × IsWorldAt f first
 pub record IsListed (lists : CallerLists) (e : Entry) : Type 0 where
   pub caller : e.caller < length lists.ids
   pub turn : e.turn < lists.turns
-  pub bot : e.bot ≡ bot_of lists e.caller e.turn
+  pub bot : e.bot ≡ bot_of_turn lists e.caller e.turn
 
 -- each entry is one of a turn of the lists, and the turns of one caller rise strictly along the journal
 pub record Order (lists : CallerLists) (entries : List Entry) : Type 0 where
@@ -41,8 +41,8 @@ pub record Order (lists : CallerLists) (entries : List Entry) : Type 0 where
   pub rising : AllPairs (λ one later. one.caller ≡ later.caller → one.turn < later.turn) entries
 
 -- the mark of a caller's turn, if it has one
-abbrev pub mark_of : MarkLists → ℕ → ℕ → Option Mark
-mark_of marks caller turn = slice_get (marks_of marks caller) turn
+abbrev pub mark_of_turn : MarkLists → ℕ → ℕ → Option Mark
+mark_of_turn marks caller turn = slice_get (marks_of marks caller) turn
 
 -- the place in a mark
 abbrev pub place_of : Mark → ℕ
@@ -63,24 +63,24 @@ pub record MayHold (f : Shown → Verdict) (first : Config) (lists : CallerLists
   pub listed : by_caller < length lists.ids
   pub other : by_caller ≢ caller
   pub turn : by_turn < lists.turns
-  pub bot : by_bot ≡ bot_of lists by_caller by_turn
-  pub in_zone : (by : Mark) × (mark_of marks by_caller by_turn ≡ Some by) × HasInZone f first entries (place_of by) by_bot cell
+  pub bot : by_bot ≡ bot_of_turn lists by_caller by_turn
+  pub in_zone : (by : Mark) × (mark_of_turn marks by_caller by_turn ≡ Some by) × HasInZone f first entries (place_of by) by_bot cell
 
 -- what the mark of a caller's turn says is so: Done that the entry at the place is the turn's; Idle and Failed that this is the
 -- verdict on the world at the place; Busy that the cell is in the amoebot's zone there and that the other turn may have held it
 abbrev pub TurnOk : (Shown → Verdict) → Config → CallerLists → List Entry → MarkLists → ℕ → ℕ → Mark → Type 0
 TurnOk f first lists entries marks caller turn (mark.Done place) = (e : Entry) × (slice_get entries place ≡ Some e) × (e.caller ≡ caller) × (e.turn ≡ turn)
-TurnOk f first lists entries marks caller turn (mark.Idle place) = HasVerdict f first entries place (bot_of lists caller turn) verdict.Idle
-TurnOk f first lists entries marks caller turn (mark.Failed why place) = HasVerdict f first entries place (bot_of lists caller turn) (verdict.Failed why)
-TurnOk f first lists entries marks caller turn (mark.Busy cell by_caller by_turn by_bot place) = HasInZone f first entries place (bot_of lists caller turn) cell × MayHold f first lists entries marks caller cell by_caller by_turn by_bot
+TurnOk f first lists entries marks caller turn (mark.Idle place) = HasVerdict f first entries place (bot_of_turn lists caller turn) verdict.Idle
+TurnOk f first lists entries marks caller turn (mark.Failed why place) = HasVerdict f first entries place (bot_of_turn lists caller turn) (verdict.Failed why)
+TurnOk f first lists entries marks caller turn (mark.Busy cell by_caller by_turn by_bot place) = HasInZone f first entries place (bot_of_turn lists caller turn) cell × MayHold f first lists entries marks caller cell by_caller by_turn by_bot
 
 -- each turn of each caller has one mark, which is right, and each entry is its turn's; along the turns of one caller places
 -- never fall, and a later one is above the own entry. So a later turn sees all that its caller committed
 pub record AreMarks (f : Shown → Verdict) (first : Config) (lists : CallerLists) (entries : List Entry) (marks : MarkLists) : Type 0 where
   pub callers : length marks.marks ≡ length lists.ids
   pub turns : All (λ own. length own ≡ lists.turns) marks.marks
-  pub right : (caller turn : ℕ) (m : Mark) → mark_of marks caller turn ≡ Some m → TurnOk f first lists entries marks caller turn m
-  pub committed : (place : ℕ) (e : Entry) → slice_get entries place ≡ Some e → mark_of marks e.caller e.turn ≡ Some (mark.Done place)
+  pub right : (caller turn : ℕ) (m : Mark) → mark_of_turn marks caller turn ≡ Some m → TurnOk f first lists entries marks caller turn m
+  pub committed : (place : ℕ) (e : Entry) → slice_get entries place ≡ Some e → mark_of_turn marks e.caller e.turn ≡ Some (mark.Done place)
   pub rising : All (AllPairs (λ one later. place_after one ≤ place_of later)) marks.marks
 
 -- the journal is a run of the model from the valid world w0 to the report's world, its entries are those of turns of the lists

@@ -6,6 +6,7 @@ use Rattle.amoebot_state.specs.declared.cell.CellName.{CellName}
 use Rattle.amoebot_state.specs.declared.verdict.Entry.{Entry}
 use Rattle.amoebot_state.specs.declared.verdict.Verdict.{Verdict}
 use Rattle.amoebot_state.specs.declared.verdict.Verdict.TheVariants as verdict
+use Rattle.amoebot_state.specs.Limits.{most_bots}
 use Rattle.amoebot_state.specs.Configs.{Config}
 use Rattle.amoebot_state.specs.Zones.{Shown, shown}
 use Rattle.amoebot_state.specs.Steps.{change_of}
@@ -14,8 +15,9 @@ use Rattle.claim_core.specs.declared.report.Report.{Report}
 use Rattle.claim_core.specs.declared.state.Phase.TheVariants.{Ended}
 use Rattle.claim_core.specs.declared.state.Caller.{Caller}
 use Rattle.claim_core.specs.declared.state.Committed.{Committed}
+use Rattle.claim_core.specs.Limits.{most_turns}
 use Rattle.claim_core.specs.Turns.{CallerLists}
-use Rattle.claim_core.specs.Good.{IsWorldAt, Good, mark_of}
+use Rattle.claim_core.specs.Good.{IsWorldAt, Good, mark_of_turn}
 use Rattle.claim_core.specs.SerialRuns.{SerialRun, all_turns, left_by}
 use Rattle.claim_core.specs.Tags.{tag, tag_caller, tag_turn, tag_bot}
 use Rattle.claim_core.specs.Cells.{number, at}
@@ -26,7 +28,7 @@ use Rattle.claim_core.specs.Rounds.{rounds, rounds_enough}
 
 -- a tag tells its caller, its turn and its amoebot, and is not 0
 abbrev pub TagTellsItsOwner : Type 0
-TagTellsItsOwner = (caller turn bot : ℕ) → turn < 65536 → bot < 4096 → (tag_caller (tag caller turn bot) ≡ caller) × (tag_turn (tag caller turn bot) ≡ turn) × (tag_bot (tag caller turn bot) ≡ bot) × (tag caller turn bot ≢ 0)
+TagTellsItsOwner = (caller turn bot : ℕ) → turn < most_turns → bot < most_bots → (tag_caller (tag caller turn bot) ≡ caller) × (tag_turn (tag caller turn bot) ≡ turn) × (tag_bot (tag caller turn bot) ≡ bot) × (tag caller turn bot ≢ 0)
 
 -- after any list of steps the state is sound
 abbrev pub IsAlwaysSound : Type 0
@@ -55,7 +57,7 @@ CommittedIsShown = (g : Setup) → IsSetup g → (c : ℕ) (steps : List ℕ) �
 
 -- in a good report of at most one list no turn is Busy
 abbrev pub OneListIsNeverBusy : Type 0
-OneListIsNeverBusy = (f : Shown → Verdict) (w0 : Config) (lists : CallerLists) (report : Report) → length lists.ids ≤ 1 → Good f w0 lists report → (caller turn by_caller by_turn by_bot place : ℕ) (n : CellName) → mark_of report.turns caller turn ≢ Some (mark.Busy n by_caller by_turn by_bot place)
+OneListIsNeverBusy = (f : Shown → Verdict) (w0 : Config) (lists : CallerLists) (report : Report) → length lists.ids ≤ 1 → Good f w0 lists report → (caller turn by_caller by_turn by_bot place : ℕ) (n : CellName) → mark_of_turn report.turns caller turn ≢ Some (mark.Busy n by_caller by_turn by_bot place)
 
 -- and the report is what the turns leave one after another, so that it is determined
 abbrev pub OneListIsSerial : Type 0

@@ -2,6 +2,7 @@ pub mod Cells
 pub mod Cores
 pub mod Good
 pub mod Laws
+pub mod Limits
 pub mod Machine
 pub mod Reached
 pub mod Rooms

@@ -20,7 +20,7 @@ use Rattle.claim_core.specs.declared.state.Phase.{Phase}
 use Rattle.claim_core.specs.declared.state.Phase.TheVariants.{Claim, Refusing, Looking, Taking, Committing, Releasing, Ended}
 use Rattle.claim_core.specs.declared.state.Caller.{Caller}
 use Rattle.claim_core.specs.declared.state.Committed.{Committed}
-use Rattle.claim_core.specs.Turns.{CallerLists, bot_of}
+use Rattle.claim_core.specs.Turns.{CallerLists, bot_of_turn}
 use Rattle.claim_core.specs.Tags.{tag, tag_caller, tag_turn, tag_bot}
 use Rattle.claim_core.specs.Cells.{number, at, put, values_of, given, patched}
 
@@ -63,7 +63,7 @@ refused n t place = mark.Busy n (tag_caller t) (tag_turn t) (tag_bot t) place
 module _ (g : Setup) where
   -- the amoebot of a caller's turn, and its tag
   abbrev pub bot : ℕ → ℕ → ℕ
-  bot c t = bot_of g.lists c t
+  bot c t = bot_of_turn g.lists c t
 
   abbrev pub own_tag : ℕ → ℕ → ℕ
   own_tag c t = tag c t (bot c t)

@@ -10,7 +10,7 @@ use Rattle.serial_model.specs.SerialTurns.{SerialTurn}
 use Rattle.claim_core.specs.declared.marks.Mark.{Mark}
 use Rattle.claim_core.specs.declared.marks.Mark.TheVariants as mark
 use Rattle.claim_core.specs.declared.report.Report.{Report}
-use Rattle.claim_core.specs.Turns.{CallerLists, bot_of, marks_of}
+use Rattle.claim_core.specs.Turns.{CallerLists, bot_of_turn, marks_of}
 use Rattle.claim_core.specs.Good.{Good}
 
 -- what the turns so far left: their marks, the entries of the journal, and the world
@@ -34,7 +34,7 @@ entries_by (turned.Failed why) = []
 -- the only caller's turn: it is the verdict on the world reached, a step of the model or none, and its mark and entry stand last
 pub record MakesTurn (f : Shown → Verdict) (lists : CallerLists) (turn : ℕ) (old new : Left) : Type 0 where
   pub turned : Turned
-  pub made : SerialTurn f 0 turn (bot_of lists 0 turn) old.world turned new.world
+  pub made : SerialTurn f 0 turn (bot_of_turn lists 0 turn) old.world turned new.world
   pub marks : new.marks ≡ old.marks ++ mark_at (length old.entries) turned ∷ []
   pub entries : new.entries ≡ old.entries ++ entries_by turned
 

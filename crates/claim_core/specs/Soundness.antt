@@ -8,6 +8,7 @@ use Rattle.amoebot_state.specs.declared.cell.Cell.{Cell}
 use Rattle.amoebot_state.specs.declared.verdict.Entry.{Entry}
 use Rattle.amoebot_state.specs.declared.verdict.Verdict.{Verdict}
 use Rattle.amoebot_state.specs.declared.verdict.Verdict.TheVariants as verdict
+use Rattle.amoebot_state.specs.Limits.{most_bots}
 use Rattle.amoebot_state.specs.Pairs.{Pairs, cell_of, cell_value}
 use Rattle.amoebot_state.specs.Configs.{Config, IsValid, bot_at, value}
 use Rattle.amoebot_state.specs.Zones.{shown, zone}
@@ -20,7 +21,7 @@ use Rattle.claim_core.specs.declared.state.Phase.{Phase}
 use Rattle.claim_core.specs.declared.state.Phase.TheVariants.{Claim, Refusing, Looking, Taking, Committing, Releasing, Ended}
 use Rattle.claim_core.specs.declared.state.Caller.{Caller}
 use Rattle.claim_core.specs.Turns.{MarkLists, AreLists}
-use Rattle.claim_core.specs.Good.{IsWorldAt, HasVerdict, HasInZone, Order, mark_of, place_of, place_after}
+use Rattle.claim_core.specs.Good.{IsWorldAt, HasVerdict, HasInZone, Order, mark_of_turn, place_of, place_after}
 use Rattle.claim_core.specs.Tags.{tag_caller, tag_turn, tag_bot}
 use Rattle.claim_core.specs.Cells.{number, at, values_of}
 use Rattle.claim_core.specs.Machine.{Setup, State, bot, own_tag}
@@ -71,7 +72,7 @@ AreBefore world b held n = (rest : List CellName) × (names held ++ n ∷ rest �
 -- what a run may be about: a valid world of at most 4,096 amoebots, lists of ids of amoebots of it, and a decider that keeps its laws
 pub record IsSetup (g : Setup) : Type 0 where
   pub valid : IsValid g.world
-  pub few : length g.world.bots ≤ 4096
+  pub few : length g.world.bots ≤ most_bots
   pub lists : AreLists g.lists
   pub bots : All (All (λ id. IsSome (bot_at g.world id))) g.lists.ids
   pub touches : TouchesZone g.verdict
@@ -93,7 +94,7 @@ module _ (g : Setup) where
   -- the turn has its mark, and the cell is in the zone of its amoebot at the mark's place
   pub record HasHeld (s : State) (caller turn bot : ℕ) (cell : CellName) : Type 0 where
     pub told : Mark
-    pub marked : mark_of (marks_so_far s) caller turn ≡ Some told
+    pub marked : mark_of_turn (marks_so_far s) caller turn ≡ Some told
     pub in_zone : HasInZone g.verdict g.world s.journal (place_of told) bot cell
 
   -- a turn of another caller, on its amoebot, that holds the cell; or that has its mark, at whose place the cell was in its zone
@@ -172,7 +173,7 @@ module _ (g : Setup) where
     pub values : s.values ≡ values_of last
     pub tagged : length s.tags ≡ length s.values
     pub order : Order g.lists s.journal
-    pub committed : (place : ℕ) (e : Entry) → slice_get s.journal place ≡ Some e → mark_of (marks_so_far s) e.caller e.turn ≡ Some (mark.Done place)
+    pub committed : (place : ℕ) (e : Entry) → slice_get s.journal place ≡ Some e → mark_of_turn (marks_so_far s) e.caller e.turn ≡ Some (mark.Done place)
     pub callers : length s.callers ≡ length g.lists.ids
     pub each : (c : ℕ) (k : Caller) → slice_get s.callers c ≡ Some k → CallerOk s last c k
     pub owned : (n : CellName) (t : ℕ) → at s.tags (number g.world.area n) ≡ Some t → t ≢ 0 → (c : ℕ) × (k : Caller) × (slice_get s.callers c ≡ Some k) × Contains (names k.held) n

@@ -4,6 +4,7 @@ use Rattle.std.specs.List.{All}
 use Rattle.amoebot_state.specs.Configs.{Config}
 use Rattle.amoebot_state.specs.declared.verdict.Entry.{Entry}
 use Rattle.claim_core.specs.declared.marks.Mark.{Mark}
+use Rattle.claim_core.specs.Limits.{most_callers, most_turns, most_ids}
 
 -- the turns of each caller, and the ids of each caller's list
 pub record CallerLists : Type 0 where
@@ -13,12 +14,12 @@ pub record CallerLists : Type 0 where
 -- a caller's list, which has at least one id and at most 4,096
 pub record IsList (ids : List ℕ) : Type 0 where
   pub some : 0 < length ids
-  pub few : length ids ≤ 4096
+  pub few : length ids ≤ most_ids
 
 -- at most 16 callers, and at most 65,536 turns in all
 pub record AreFew (callers turns : ℕ) : Type 0 where
-  pub at_most_16 : callers ≤ 16
-  pub in_all : callers * turns ≤ 65536
+  pub at_most_16 : callers ≤ most_callers
+  pub in_all : callers * turns ≤ most_turns
 
 pub record AreLists (lists : CallerLists) : Type 0 where
   pub few : AreFew (length lists.ids) lists.turns
@@ -29,8 +30,8 @@ abbrev pub list_of : CallerLists → ℕ → List ℕ
 list_of lists caller = slice_index_or lists.ids caller []
 
 -- the amoebot of a caller's turn
-abbrev pub bot_of : CallerLists → ℕ → ℕ → ℕ
-bot_of lists caller turn = slice_index (list_of lists caller) (turn % length (list_of lists caller))
+abbrev pub bot_of_turn : CallerLists → ℕ → ℕ → ℕ
+bot_of_turn lists caller turn = slice_index (list_of lists caller) (turn % length (list_of lists caller))
 
 -- each id is an amoebot's, of so many
 abbrev pub HaveBots : ℕ → CallerLists → Type 0

@@ -52,6 +52,7 @@ impl Journal {
         self.entries.push_reserved(entry);
     }
 
+    /// The entries so far, in the order in which they were committed.
     pub fn entries(&self) -> &[Entry]
         ensures { result.now ≡ self.now.entries }
     {

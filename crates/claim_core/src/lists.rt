@@ -1,5 +1,5 @@
 ghost use Rattle.std.specs.Prelude.{◌≡◌, ◌+◌, ◌*◌, ◌<◌, ◌≤◌, ◌∷◌, ◌++◌, [], length, IfOk, OnOk, OnErr};
-ghost use Rattle.claim_core.specs.Turns.{CallerLists, IsList, AreFew, AreLists, bot_of};
+ghost use Rattle.claim_core.specs.Turns.{CallerLists, IsList, AreFew, AreLists, bot_of_turn};
 
 use amoebot_state::NoMemory;
 use std::alloc::Global;
@@ -76,7 +76,7 @@ impl Lists {
     /// The amoebot of a caller's turn. A caller goes through its list again and again.
     pub fn bot(&self, caller: u8, turn: u32) -> u16
         requires { caller < length self.now.ids }
-        ensures { result ≡ bot_of self.now caller turn }
+        ensures { result ≡ bot_of_turn self.now caller turn }
     {
         let ids = &self.ids[usize::from(caller)];
         ids[turn as usize % ids.len()]

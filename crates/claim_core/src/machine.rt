@@ -14,7 +14,7 @@ ghost use Rattle.claim_core.specs.Soundness.{IsSetup, Sound};
 ghost use Rattle.claim_core.specs.Rounds.{round};
 ghost use Rattle.amoebot_state.specs.declared.verdict.Change.{Change};
 ghost use Rattle.claim_core.specs.declared.state.Phase.TheVariants as phase;
-ghost use Rattle.claim_core.specs.Cores.{Begins, Frees, IsFinished, opened, HasPhase, HasTurn, Holds, IsSeat, IsUnmarked, IsCell, looks_at, opens_by, phase_after, stepped, setup_of};
+ghost use Rattle.claim_core.specs.Cores.{Begins, Frees, IsFinished, opened, HasPhase, HasTurn, HoldsCells, IsSeat, IsUnmarked, IsCell, looks_at, opens_by, phase_after, stepped, setup_of};
 
 use crate::journal::Journal;
 use crate::lists::Lists;
@@ -22,7 +22,7 @@ use crate::marks::{Mark, Marks};
 use crate::report::Report;
 use crate::state::{Look, Phase};
 use amoebot_state::{
-    Cell, CellName, Decider, Entry, Found, NoMemory, Verdict, World, has_next, next_cell,
+    CELL_ROOM, Cell, CellName, Decider, Entry, Found, NoMemory, Verdict, World, has_next, next_cell,
     touches_zone,
 };
 use arrayvec::ArrayVec;
@@ -37,7 +37,7 @@ use tri_lattice::Area;
 struct Seat {
     turn: u32,
     phase: Phase,
-    held: ArrayVec<(CellName, Cell), 30>,
+    held: ArrayVec<(CellName, Cell), CELL_ROOM>,
 }
 
 impl Seat {
@@ -178,7 +178,7 @@ impl<'d, D: Decider> Core<'d, D> {
     /// The cells that a caller holds, in the order in which they were won, each with its value as it was recorded.
     pub fn held(&self, caller: u8) -> &[(CellName, Cell)]
         requires { caller < length self.now.state.callers }
-        ensures { Holds self.now.state.callers caller result.now }
+        ensures { HoldsCells self.now.state.callers caller result.now }
     {
         let seat = self.seat(caller);
         seat.held.as_slice()

@@ -1,6 +1,6 @@
 ghost use Rattle.std.specs.Prelude.{◌≡◌, ◌<◌, length};
 
-use amoebot_state::{ALL_PORTS, CellName, Decider, Entry, Failure, Verdict, World};
+use amoebot_state::{ALL_PORTS, CellName, Decider, Entry, Failure, MOST_CELLS, Verdict, World};
 use arrayvec::ArrayVec;
 use claim_core::{Lists, Mark, Marks, Report};
 use serial_model::{Serial, Turned};
@@ -256,7 +256,7 @@ fn place_of(mark: Mark) -> u32 {
 }
 
 /// Room for the cells of a zone: at most 10 nodes and 9 bodies.
-type Zone = ArrayVec<CellName, 19>;
+type Zone = ArrayVec<CellName, MOST_CELLS>;
 
 /// The place of a cell in the zone of an amoebot, if it is there.
 fn zone_place(world: &World, bot: u16, cell: CellName) -> Option<usize> {

@@ -1,5 +1,6 @@
 ghost use Rattle.std.specs.Prelude.{◌≡◌, ◌<◌, ◌≤◌, length};
 ghost use Rattle.std.specs.List.{All};
+ghost use Rattle.amoebot_state.specs.Limits.{most_bots};
 ghost use Rattle.amoebot_state.specs.Refusals.{IsPlain};
 
 use crate::checker::is_report;
@@ -87,7 +88,7 @@ fn left_by<D: Decider>(
     lists: (u32, &[&[u16]]),
     seed: u64,
 ) -> Result<Report, Fail>
-    requires few { length bots.now ≤ 4096 }
+    requires few { length bots.now ≤ most_bots }
     requires plain { All IsPlain bots.now }
 {
     let (turns, ids) = lists;
@@ -110,7 +111,7 @@ fn check_schedules<D: Decider>(
     bots: &[Bot],
     lists: (u32, &[&[u16]]),
 ) -> Result<Tally, Fail>
-    requires few { length bots.now ≤ 4096 }
+    requires few { length bots.now ≤ most_bots }
     requires plain { All IsPlain bots.now }
 {
     let (turns, ids) = lists;

@@ -1,5 +1,6 @@
 ghost use Rattle.std.specs.Prelude.{◌≡◌, ◌<◌, ◌≤◌, length};
 ghost use Rattle.std.specs.List.{All};
+ghost use Rattle.amoebot_state.specs.Limits.{most_bots};
 ghost use Rattle.amoebot_state.specs.Refusals.{IsPlain};
 
 use crate::fixtures::{core_of, the_area};
@@ -238,7 +239,7 @@ pub fn run<D: Decider>(
     zones: &[&[(CellName, Cell)]],
     table: &[Steps],
 ) -> Result<Report, Fail>
-    requires few { length bots.now ≤ 4096 }
+    requires few { length bots.now ≤ most_bots }
     requires plain { All IsPlain bots.now }
 {
     let (turns, ids) = lists;

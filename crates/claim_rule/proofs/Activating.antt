@@ -70,10 +70,6 @@ pub opens_claim : (g : Setup) (t : ℕ) → t < g.lists.turns → opens g t ≡ 
 opens_claim g t lt = ap (λ e. if e then Claim else Ended) (lt-ltb t g.lists.turns lt)
 
 -- a caller whose turn has its mark, and that holds cells, frees them
-pub frees_some : (g : Setup) (k : Caller) (t : ℕ) (held : Pairs) → 0 < length held → k.turn ≡ t → k.phase ≡ Releasing → k.held ≡ held → k ≡ frees g t held k.marks
-frees_some g k t [] some turn phase is = absurd (omega (arith, some))
-frees_some g k t (p ∷ held) some turn phase is = λ i. record { turn = turn i; phase = phase i; held = is i; marks = k.marks }
-
 pub frees_phase : (g : Setup) (t : ℕ) (held : Pairs) (ms : List Mark) → 0 < length held → ((frees g t held ms).phase ≡ Releasing) × ((frees g t held ms).turn ≡ t)
 frees_phase g t [] ms some = absurd (omega (arith, some))
 frees_phase g t (p ∷ held) ms some = (refl, refl)
@@ -177,9 +173,6 @@ module _ {D : Type 0} (verdict : D → Shown → Verdict) where
 
         known_now : IsKnown g b ((n, v) ∷ pairs)
         known_now = subst (λ (q : ℕ × Pairs). IsKnown g q.0 q.1) (λ j. (bot_same cl.turn j, pairs_are j)) known
-
-        at_world : number g.world.area n ≡ Some i
-        at_world = ap (λ e. number e n) (sym is.area) ∙ at_n
 
         place : (j : ℕ) × IsPlaced g n j
         place = cl.known.placed n (sym (next_same cl.turn) ∙ next)

@@ -19,7 +19,7 @@ use Rattle.claim_core.proofs.Holding.{framed}
 use Rattle.claim_rule.specs.declared.views.Record.{Record}
 use Rattle.claim_rule.specs.declared.views.Terms.{Terms}
 use Rattle.claim_rule.specs.Views.{Content, Seated, view_of, own, setup, cells}
-use Rattle.claim_rule.specs.Stands.{Holds, turns_left}
+use Rattle.claim_rule.specs.Stands.{KeepsRule, turns_left}
 use Rattle.claim_rule.specs.Nexts.{GoesOn, IsAt}
 
 -- each cell has a tag and a value
@@ -44,7 +44,7 @@ module _ {D : Type 0} (verdict : D → Shown → Verdict) (z : Terms D) (ok : Is
   pub allowed : (slots seat : ℕ) (me : Seated D) (i : ℕ) (f : ℕ → ℕ) (Fact : Seated D → Type 0) (then : Seated D → ℕ → Seated D → Type 0) → me.0 ≡ view_of z (own me.0 ∷ []) → Fact me
       → ((s : Content D) (steps : List ℕ) (r : Record) → IsAt verdict z s steps seat r → Fact (view_of z (r ∷ []), me.1)
       → GoesOn verdict z s steps i seat (view_of z (r ∷ []), me.1) (then (view_of z (r ∷ []), me.1)) (f (slice_index s.words i)))
-      → Allows (Holds verdict z) slots seat me i f (then me)
+      → Allows (KeepsRule verdict z) slots seat me i f (then me)
   allowed slots seat me i f Fact then one fact goes s h wide at _ =
       let on = subst (λ (m : Seated D). Fact m → get_elem? s.views seat ≡ home.some m.0 → GoesOn verdict z s h.0 i seat m (then m) (f (slice_index s.words i))) (λ q. (sym one q, me.1)) (λ t there. goes s h.0 (own me.0) (record { run = ok; stands = h.1; there = there }) t) fact at in
       (on.0, on.1, on.2, ((own me.0).number ∷ h.0, on.3), on.4)

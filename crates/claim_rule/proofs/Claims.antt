@@ -27,7 +27,7 @@ use Rattle.claim_rule.specs.declared.views.Slot.TheVariants as slot
 use Rattle.claim_rule.specs.declared.views.Record.{Record}
 use Rattle.claim_rule.specs.declared.views.Terms.{Terms}
 use Rattle.claim_rule.specs.Views.{Content, Seated, view_of, own, setup, cells}
-use Rattle.claim_rule.specs.Stands.{turns_left, AreWords, AreHomes, Holds}
+use Rattle.claim_rule.specs.Stands.{turns_left, AreWords, AreHomes, KeepsRule}
 use Rattle.claim_rule.specs.Plays.{IsPlaced, IsKnown, IsOthers, tried, IsToTry, claimed}
 use Rattle.claim_rule.specs.Nexts.{GoesOn, IsAt, ClaimIsNext}
 use Rattle.claim_rule.proofs.Tables.{words_written, tag_written, homes_kept}
@@ -160,7 +160,7 @@ module _ {D : Type 0} {verdict : D → Shown → Verdict} {z : Terms D} {s : Con
     claim_goes = exchanged old 0 t (GoesOn verdict z s steps i seat (view_of z (r ∷ []), carried) (claimed verdict (step slots i 0 t home.none) (view_of z (r ∷ []), carried))) hits misses
 
 module _ {D : Type 0} (verdict : D → Shown → Verdict) (z : Terms D) (ok : IsSetup (setup verdict z)) where
-  pub claim_allowed : (slots seat : ℕ) (me : Seated D) (i t : ℕ) → me.0 ≡ view_of z (own me.0 ∷ []) → IsToTry verdict i t me.0 → Allows (Holds verdict z) slots seat me i (λ x. either (eqb x 0) t x) (claimed verdict (step slots i 0 t home.none) me)
+  pub claim_allowed : (slots seat : ℕ) (me : Seated D) (i t : ℕ) → me.0 ≡ view_of z (own me.0 ∷ []) → IsToTry verdict i t me.0 → Allows (KeepsRule verdict z) slots seat me i (λ x. either (eqb x 0) t x) (claimed verdict (step slots i 0 t home.none) me)
   claim_allowed slots seat me i t one to =
       allowed verdict z ok slots seat me i (λ x. either (eqb x 0) t x) (λ m. IsToTry verdict i t m.0) (claimed verdict (step slots i 0 t home.none)) one to
       (λ s steps r table fact. claim_goes table i t slots me.1 fact)

@@ -1,5 +1,5 @@
 -- What a field leaves once all its seats are back.
-use Rattle.std.proofs.Common.{◌≡◌, ◌≢◌, ℕ, suc, ◌+◌, ◌<◌, List, [], ◌∷◌, drop, length, Option, Some, None, ap, sym, refl, subst, ◌∙◌, arith}
+use Rattle.std.proofs.Common.{◌≡◌, ◌≢◌, ℕ, ◌+◌, ◌<◌, List, [], drop, length, Option, Some, None, ap, sym, refl, subst, ◌∙◌, arith}
 use Rattle.std.specs.Prelude.{slice_get, IsSome}
 use Rattle.std.specs.List.{All}
 use Rattle.std.proofs.lemmas.Option.{same_Some, slice_get-get_or, slice_get_within}
@@ -26,7 +26,7 @@ use Rattle.claim_rule.specs.declared.views.Slot.TheVariants as slot
 use Rattle.claim_rule.specs.declared.views.Record.{Record}
 use Rattle.claim_rule.specs.declared.views.Terms.{Terms}
 use Rattle.claim_rule.specs.Views.{Content, Seated, view_of, setup, cells}
-use Rattle.claim_rule.specs.Stands.{IsJournal, HasTaken, IsRecord, Stands, Holds}
+use Rattle.claim_rule.specs.Stands.{IsJournal, HasTaken, IsRecord, Stands, KeepsRule}
 use Rattle.claim_rule.specs.Tokens.{FieldOf, IsField, Token, number_in, record_in}
 use Rattle.claim_rule.specs.Seating.{SeatsOf, AreOf, AreSeats}
 use Rattle.claim_rule.specs.Closing.{ClosesAs, HaveAll}
@@ -35,7 +35,7 @@ use Rattle.claim_rule.proofs.Deals.{drop_at}
 -- the entries after the one whose patch was applied lead on to the same last world
 pub follows : (f : Shown → Verdict) (now next last : Config) (es : List Entry) (k : ℕ) (e : Entry) → slice_get es k ≡ Some e → Run f now (drop k es) last → IsPatched now e.patch next → Run f next (drop (k + 1) es) last
 follows f now next last es k e there run patched =
-    let rest = subst (λ xs. Run f now xs last) (drop_at es k e there ∙ ap (λ n. e ∷ drop n es) (let n : suc k ≡ k + 1 = omega arith in n)) run in
+    let rest = subst (λ xs. Run f now xs last) (drop_at es k e there) run in
     subst (λ c. Run f c (drop (k + 1) es) last) (patched_is_unique now rest.0 next e.patch rest.1.patched patched) rest.2
 
 -- each of these places has a seat
@@ -113,7 +113,7 @@ module _ {D : Type 0} (verdict : D → Shown → Verdict) (own f : FieldOf D) (f
   seats_of c t e = let is = are.each c t e in (is.0 ∙ ap (λ (u : SeatsOf D). u.table) s_is ∙ of.table, is.1 ∙ ap (λ (y : Terms D). Some y) same_terms)
 
   module _ (full : All (λ o. IsSome o) s.seats) (n : ℕ) (n_is : n ≡ cells w) (id : ℕ) (m : Seated D) (gathered : (rs : List Record) × (m ≡ (view_of f.terms rs, [])) × HaveAll items rs)
-      (words : List ℕ) (xs : List Slot) (end : Final (Seen (Holds verdict own.terms) id m.0) words xs) where
+      (words : List ℕ) (xs : List Slot) (end : Final (Seen (KeepsRule verdict own.terms) id m.0) words xs) where
     terms_are : own.terms ≡ f.terms
     terms_are = ap (λ (h : FieldOf D). h.terms) f_is
 

@@ -41,7 +41,7 @@ use Rattle.claim_rule.specs.declared.views.Slot.TheVariants as slot
 use Rattle.claim_rule.specs.declared.views.Record.{Record}
 use Rattle.claim_rule.specs.declared.views.Terms.{Terms}
 use Rattle.claim_rule.specs.Views.{Content, Seated, view_of, own, setup, cells}
-use Rattle.claim_rule.specs.Stands.{turns_left, placed, IsFoundAt, IsJournal, HasTaken, HasCommitted, AreWords, AreHomes, Holds}
+use Rattle.claim_rule.specs.Stands.{turns_left, placed, IsFoundAt, IsJournal, HasTaken, HasCommitted, AreWords, AreHomes, KeepsRule}
 use Rattle.claim_rule.specs.Commits.{commit_at, with_commit, IsToCommit, stored}
 use Rattle.claim_rule.specs.Nexts.{GoesOn, IsAt, CommitIsNext}
 use Rattle.claim_rule.proofs.Tables.{journal_written}
@@ -199,7 +199,7 @@ module _ {D : Type 0} {verdict : D → Shown → Verdict} {z : Terms D} {s : Con
     )
 
 module _ {D : Type 0} (verdict : D → Shown → Verdict) (z : Terms D) (ok : IsSetup (setup verdict z)) where
-  pub commit_allowed : (slots seat : ℕ) (me : Seated D) (x : ℕ) → me.0 ≡ view_of z (own me.0 ∷ []) → IsToCommit verdict (cells z.world) x me → Allows (Holds verdict z) slots seat me (cells z.world) (λ _. x) (λ _. stored verdict (step slots (cells z.world) x 0 home.none) me x)
+  pub commit_allowed : (slots seat : ℕ) (me : Seated D) (x : ℕ) → me.0 ≡ view_of z (own me.0 ∷ []) → IsToCommit verdict (cells z.world) x me → Allows (KeepsRule verdict z) slots seat me (cells z.world) (λ _. x) (λ _. stored verdict (step slots (cells z.world) x 0 home.none) me x)
   commit_allowed slots seat me x one to =
       allowed verdict z ok slots seat me (cells z.world) (λ _. x) (IsToCommit verdict (cells z.world) x) (λ m _. stored verdict (step slots (cells z.world) x 0 home.none) m x) one to
       (λ s steps r table fact. commit_goes table x me.1 fact slots)

@@ -15,7 +15,7 @@ use Rattle.claim_rule.specs.declared.views.Record.{Record}
 use Rattle.claim_rule.specs.declared.views.Terms.{Terms}
 use Rattle.claim_rule.specs.declared.views.View.{View}
 use Rattle.claim_rule.specs.Views.{Content, view_of, setup}
-use Rattle.claim_rule.specs.Stands.{HasRecord, Stands, Holds}
+use Rattle.claim_rule.specs.Stands.{HasRecord, Stands, KeepsRule}
 use Rattle.claim_rule.specs.Seating.{dealt, left, joined, spent}
 use Rattle.claim_rule.specs.Laws.{SplitChangesNothing, JoinChangesNothing}
 use Rattle.claim_rule.proofs.Tables.{only}
@@ -138,7 +138,7 @@ module _ {D : Type 0} (verdict : D → Shown → Verdict) (z : Terms D) where
       reseated s core (two s core st seat r rs there) st (split_terms s core st seat r rs there) (split_back s core st seat r rs there) (split_forth s core st seat r rs there) (split_one s core st seat r rs there)
 
   -- and the rule is kept
-  pub splits : (seat : ℕ) (r : Record) (rs : List Record) → Splits (Holds verdict z) seat (view_of z (r ∷ rs)) (view_of z rs) (view_of z (r ∷ []))
+  pub splits : (seat : ℕ) (r : Record) (rs : List Record) → Splits (KeepsRule verdict z) seat (view_of z (r ∷ rs)) (view_of z rs) (view_of z (r ∷ []))
   splits seat r rs s h there = (h.0, same_split (after (setup verdict z) h.0) seat r rs s h.1 there)
 
   -- the records of another seat come in behind the own
@@ -214,15 +214,15 @@ module _ {D : Type 0} (verdict : D → Shown → Verdict) (z : Terms D) where
       reseated s core (all s core st seat other rs qs there apart was) st (join_terms s core st seat other rs qs there apart was) (join_back s core st seat other rs qs there apart was) (join_forth s core st seat other rs qs there apart was)
       (join_one s core st seat other rs qs there apart was)
 
-  pub joins : (seat other : ℕ) (rs qs : List Record) → Joins (Holds verdict z) seat (view_of z rs) other (view_of z qs) (view_of z (rs ++ qs)) spent
+  pub joins : (seat other : ℕ) (rs qs : List Record) → Joins (KeepsRule verdict z) seat (view_of z rs) other (view_of z qs) (view_of z (rs ++ qs)) spent
   joins seat other rs qs s h there apart there' = (h.0, same_join (after (setup verdict z) h.0) seat other rs qs s h.1 there apart there')
 
   -- the same of a view that is one with such records
-  pub splits_view : (seat : ℕ) (v : View D) (r : Record) (rs : List Record) → v ≡ view_of z (r ∷ rs) → Splits (Holds verdict z) seat v (left v) (dealt v)
-  splits_view seat v r rs is = subst (λ (w : View D). Splits (Holds verdict z) seat w (left w) (dealt w)) (sym is) (splits seat r rs)
+  pub splits_view : (seat : ℕ) (v : View D) (r : Record) (rs : List Record) → v ≡ view_of z (r ∷ rs) → Splits (KeepsRule verdict z) seat v (left v) (dealt v)
+  splits_view seat v r rs is = subst (λ (w : View D). Splits (KeepsRule verdict z) seat w (left w) (dealt w)) (sym is) (splits seat r rs)
 
-  pub joins_views : (seat other : ℕ) (v w : View D) (rs qs : List Record) → v ≡ view_of z rs → w ≡ view_of z qs → Joins (Holds verdict z) seat v other w (joined v w) spent
-  joins_views seat other v w rs qs is is' = subst (λ (a : View D). Joins (Holds verdict z) seat a other w (joined a w) spent) (sym is) (subst (λ (b : View D). Joins (Holds verdict z) seat (view_of z rs) other b (joined (view_of z rs) b) spent) (sym is') (joins seat other rs qs))
+  pub joins_views : (seat other : ℕ) (v w : View D) (rs qs : List Record) → v ≡ view_of z rs → w ≡ view_of z qs → Joins (KeepsRule verdict z) seat v other w (joined v w) spent
+  joins_views seat other v w rs qs is is' = subst (λ (a : View D). Joins (KeepsRule verdict z) seat a other w (joined a w) spent) (sym is) (subst (λ (b : View D). Joins (KeepsRule verdict z) seat (view_of z rs) other b (joined (view_of z rs) b) spent) (sym is') (joins seat other rs qs))
 
 pub split_changes_nothing : {D : Type 0} (verdict : D → Shown → Verdict) → SplitChangesNothing verdict
 split_changes_nothing verdict z core seat r rs s st there = same_split verdict z core seat r rs s st there

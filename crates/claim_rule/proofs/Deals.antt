@@ -1,10 +1,10 @@
 -- The records of all callers while they are dealt.
-use Rattle.std.proofs.Common.{◌≡◌, ℕ, zero, suc, ◌+◌, ◌<◌, List, [], ◌∷◌, ◌++◌, map, take, drop, length, Option, Some, ap, sym, refl, subst, ◌∙◌, arith}
+use Rattle.std.proofs.Common.{◌≡◌, ℕ, suc, ◌+◌, ◌<◌, ◌≤◌, List, [], ◌∷◌, ◌++◌, map, take, drop, length, Option, Some, ap, sym, refl, subst, ◌∙◌, arith}
 use Rattle.std.specs.Prelude.{slice_get, IsSome}
 use Rattle.std.specs.List.{All}
 use Rattle.std.proofs.lemmas.List.Elements.{All-map}
-use Rattle.std.proofs.lemmas.Option.{none-some, same_Some}
-use Rattle.std.proofs.lemmas.List.{length-map}
+use Rattle.std.proofs.lemmas.Option.{same_Some, slice_get_within, get_or_from_slice_get}
+use Rattle.std.proofs.lemmas.List.{length-map, take_more, take_all, drop_more, drop_all}
 use Rattle.tri_lattice.specs.Extent.{Extent}
 use Rattle.amoebot_state.specs.declared.verdict.Verdict.{Verdict}
 use Rattle.amoebot_state.specs.Zones.{Shown}
@@ -22,15 +22,11 @@ use Rattle.claim_rule.specs.Opened.{first_records, seat_with, first_seats}
 use Rattle.claim_rule.proofs.Opens.{from, there, fresh_there}
 
 -- an element splits a list
-pub drop_at : {A : Type 0} (xs : List A) (k : ℕ) (x : A) → slice_get xs k ≡ Some x → drop k xs ≡ x ∷ drop (suc k) xs
-drop_at [] k x e = absurd (none-some x e)
-drop_at (y ∷ ys) zero x e = ap (λ z. z ∷ ys) (same_Some y x e)
-drop_at (y ∷ ys) (suc k) x e = drop_at ys k x e
+pub drop_at : {A : Type 0} (xs : List A) (k : ℕ) (x : A) → slice_get xs k ≡ Some x → drop k xs ≡ x ∷ drop (k + 1) xs
+drop_at xs k x at = drop_more xs k x (slice_get_within xs k x at) ∙ ap (λ y. y ∷ drop (k + 1) xs) (get_or_from_slice_get xs k x x at)
 
-take_at : {A : Type 0} (xs : List A) (k : ℕ) (x : A) → slice_get xs k ≡ Some x → take (suc k) xs ≡ take k xs ++ x ∷ []
-take_at [] k x e = absurd (none-some x e)
-take_at (y ∷ ys) zero x e = ap (λ z. z ∷ []) (same_Some y x e)
-take_at (y ∷ ys) (suc k) x e = ap (λ zs. y ∷ zs) (take_at ys k x e)
+take_at : {A : Type 0} (xs : List A) (k : ℕ) (x : A) → slice_get xs k ≡ Some x → take (k + 1) xs ≡ take k xs ++ x ∷ []
+take_at xs k x at = take_more xs k x (slice_get_within xs k x at) ∙ ap (λ y. take k xs ++ y ∷ []) (get_or_from_slice_get xs k x x at)
 
 module _ {D : Type 0} (verdict : D → Shown → Verdict) (z : Terms D) where
   abbrev all : List Record
@@ -39,15 +35,12 @@ module _ {D : Type 0} (verdict : D → Shown → Verdict) (z : Terms D) where
   abbrev pub next_one : ℕ → Record
   next_one c = record_of c (fresh (setup verdict z))
 
-  one_on : (c : ℕ) → suc c ≡ c + 1
-  one_on c = omega arith
-
   next_there : (c : ℕ) → c < length z.lists.ids → slice_get all c ≡ Some (next_one c)
   next_there c lt = there verdict z 0 c (map (λ (_ : List ℕ). fresh (setup verdict z)) z.lists.ids) (fresh (setup verdict z)) (fresh_there verdict z z.lists.ids c lt) ∙ ap (λ n. Some (next_one n)) (let n : 0 + c ≡ c = omega arith in n)
 
   -- what the first seat has before and after a record is dealt
   pub first_of_rest : (m : Seated D) (c : ℕ) → c < length z.lists.ids → m ≡ (view_of z (drop c all), []) → m.0 ≡ view_of z (next_one c ∷ drop (c + 1) all)
-  first_of_rest m c lt e = ap (λ (n : Seated D). n.0) e ∙ ap (view_of z) (drop_at all c (next_one c) (next_there c lt) ∙ ap (λ n. next_one c ∷ drop n all) (one_on c))
+  first_of_rest m c lt e = ap (λ (n : Seated D). n.0) e ∙ ap (view_of z) (drop_at all c (next_one c) (next_there c lt))
 
   pub one_dealt : (m : Seated D) (c : ℕ) → c < length z.lists.ids → m ≡ (view_of z (drop c all), []) → dealt m.0 ≡ view_of z (next_one c ∷ [])
   one_dealt m c lt e = ap dealt (first_of_rest m c lt e)
@@ -56,7 +49,7 @@ module _ {D : Type 0} (verdict : D → Shown → Verdict) (z : Terms D) where
   others_left m c lt e = λ i. (left (first_of_rest m c lt e i), (e i).1)
 
   pub one_more : (c : ℕ) → c < length z.lists.ids → take (c + 1) all ≡ take c all ++ next_one c ∷ []
-  one_more c lt = ap (λ n. take n all) (sym (one_on c)) ∙ take_at all c (next_one c) (next_there c lt)
+  one_more c lt = take_at all c (next_one c) (next_there c lt)
 
   -- a seat with the record of a caller before its first turn keeps what a seat keeps
   pub is_seat : (m : Seated D) (c : ℕ) (a : Extent) (greatest : List ℕ) → IsSetup (setup verdict z) → c < length z.lists.ids → a ≡ z.world.area → greatest ≡ z.world.maxes → m ≡ (view_of z (next_one c ∷ []), []) → IsSeat verdict m c 0 a greatest
@@ -97,24 +90,12 @@ module _ {D : Type 0} (verdict : D → Shown → Verdict) (f : FieldOf D) where
   its_length : length its ≡ length z.lists.ids
   its_length = length_from 0 (map (λ (_ : List ℕ). fresh (setup verdict z)) z.lists.ids) ∙ length-map z.lists.ids (λ (_ : List ℕ). fresh (setup verdict z))
 
-  take_whole : {A : Type 0} (xs : List A) (n : ℕ) → length xs ≡ n → take n xs ≡ xs
-  take_whole [] zero e = refl
-  take_whole [] (suc n) e = refl
-  take_whole (x ∷ xs) zero e = absurd (omega (arith, e))
-  take_whole (x ∷ xs) (suc n) e = ap (λ ys. x ∷ ys) (take_whole xs n (omega (arith, e)))
-
-  drop_whole : {A : Type 0} (xs : List A) (n : ℕ) → length xs ≡ n → drop n xs ≡ []
-  drop_whole [] zero e = refl
-  drop_whole [] (suc n) e = refl
-  drop_whole (x ∷ xs) zero e = absurd (omega (arith, e))
-  drop_whole (x ∷ xs) (suc n) e = drop_whole xs n (omega (arith, e))
-
   module _ (m : Seated D) (table : TableId) (seats : List (Option (Token D))) (c : ℕ) (all_done : c ≡ length z.lists.ids) (same : table ≡ f.table) (rest : m ≡ (view_of z (drop c its), [])) (are : seats ≡ its_seats (take c its)) where
-    whole : length its ≡ c
-    whole = its_length ∙ sym all_done
+    whole : length its ≤ c
+    whole = omega (arith, its_length, all_done)
 
     are_all : seats ≡ its_seats its
-    are_all = are ∙ ap its_seats (take_whole its c whole)
+    are_all = are ∙ ap its_seats (take_all c its whole)
 
     each : (d : ℕ) (t : Token D) → slice_get (its_seats its) d ≡ Some (Some t) → (t.table ≡ table) × (t.view.terms ≡ Some z) × ((Rattle.claim_rule.specs.Tokens.number_in t) ≡ d)
     each d t e =
@@ -127,7 +108,7 @@ module _ {D : Type 0} (verdict : D → Shown → Verdict) (f : FieldOf D) where
     pub are_seats : AreSeats m table seats
     are_seats = record {
       terms = z;
-      dealt = rest ∙ ap (λ (rs : List Record). (view_of z rs, [])) (drop_whole its c whole);
+      dealt = rest ∙ ap (λ (rs : List Record). (view_of z rs, [])) (drop_all c its whole);
       count = ap (λ (ts : List (Option (Token D))). length ts) are_all ∙ length-map its (λ r. Some (seat_with f r)) ∙ its_length;
       each = λ d t e. each d t (subst (λ (ts : List (Option (Token D))). slice_get ts d ≡ Some (Some t)) are_all e);
     }

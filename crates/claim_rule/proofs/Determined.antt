@@ -1,5 +1,5 @@
 -- Words, values at home and views stand for at most one state.
-use Rattle.std.proofs.Common.{◌≡◌, ◌≢◌, ℕ, suc, ◌+◌, ◌<◌, ◌≤◌, List, [], ◌∷◌, length, drop, Option, Some, None, inl, inr, ap, sym, refl, subst, ◌∙◌, arith, eq-eqb, ne_eqb}
+use Rattle.std.proofs.Common.{◌≡◌, ◌≢◌, ℕ, ◌+◌, ◌<◌, ◌≤◌, List, [], ◌∷◌, length, drop, Option, Some, None, inl, inr, ap, sym, refl, subst, ◌∙◌, arith, eq-eqb, ne_eqb}
 use Rattle.std.specs.Prelude.{slice_get, if◌then◌else◌}
 use Rattle.std.specs.List.{All}
 use Rattle.std.proofs.lemmas.Bool.{cases_eq}
@@ -17,6 +17,7 @@ use Rattle.claim_core.specs.Good.{IsListed}
 use Rattle.claim_core.specs.Machine.{Setup, State, after}
 use Rattle.claim_core.specs.Reached.{entries_of}
 use Rattle.claim_core.specs.Soundness.{IsSetup, Sound}
+use Rattle.claim_core.proofs.Places.{same_by_get}
 use Rattle.claim_core.proofs.Sounds.{always}
 use Rattle.claim_rule.specs.declared.views.Terms.{Terms}
 use Rattle.claim_rule.specs.Views.{Content, setup, cells}
@@ -61,16 +62,6 @@ same_entries n p (e ∷ es) (f ∷ fs) few few' same =
           λ i. sym heads i ∷ tails i
       | inr not ↦ absurd (let n = not_before e.caller (p + 1) p e fs (ap (λ ys. slice_get ys 0) (sym (other_first e.caller p f fs not)) ∙ first) in omega (arith, n))
     ]
-
--- lists with the same elements at the same places
-pub same_elements : {A : Type 0} (xs ys : List A) → length xs ≡ length ys → ((k : ℕ) → k < length xs → slice_get xs k ≡ slice_get ys k) → xs ≡ ys
-same_elements [] [] long each = refl
-same_elements [] (y ∷ ys) long each = absurd (omega (arith, long))
-same_elements (x ∷ xs) [] long each = absurd (omega (arith, long))
-same_elements (x ∷ xs) (y ∷ ys) long each =
-    let heads = same_Some x y (each 0 (omega arith)) in
-    let tails = same_elements xs ys (omega (arith, long)) (λ k lt. each (suc k) (omega (arith, lt))) in
-    λ i. heads i ∷ tails i
 
 module _ {D : Type 0} (verdict : D → Shown → Verdict) (z : Terms D) (s : Content D) (ok : IsSetup (setup verdict z)) where
   abbrev g : Setup
@@ -122,7 +113,7 @@ module _ {D : Type 0} (verdict : D → Shown → Verdict) (z : Terms D) (s : Con
       holder = same_holder one two sound sound' st st'
 
       callers : one.callers ≡ two.callers
-      callers = same_elements one.callers two.callers (sound.callers ∙ sym sound'.callers) (λ c lt. same_callers one two c st st' (omega (arith, lt, sound.callers)))
+      callers = same_by_get one.callers two.callers (sound.callers ∙ sym sound'.callers) (λ c k e. let n = slice_get_within two.callers c k e in same_callers one two c st st' (omega (arith, n, sound'.callers)) ∙ e)
 
       tags : one.tags ≡ two.tags
       tags =

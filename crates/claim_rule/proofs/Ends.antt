@@ -12,7 +12,7 @@ use Rattle.amoebot_state.specs.Steps.{Run, Step, change_of}
 use Rattle.amoebot_state.specs.Zones.{Shown, shown}
 use Rattle.amoebot_state.proofs.Patched.{patched_is_unique, run_has_one_last}
 use Rattle.claim_core.specs.declared.marks.Mark.TheVariants as mark
-use Rattle.claim_core.specs.Turns.{Kept, bot_of}
+use Rattle.claim_core.specs.Turns.{Kept, bot_of_turn}
 use Rattle.claim_core.specs.Good.{IsListed}
 use Rattle.claim_core.specs.Machine.{Setup, State, after}
 use Rattle.claim_core.specs.Reached.{HasValues}
@@ -20,6 +20,7 @@ use Rattle.claim_core.specs.Soundness.{IsSetup, Sound}
 use Rattle.claim_core.proofs.Ends.{same_world}
 use Rattle.claim_core.proofs.Holding.{framed}
 use Rattle.claim_core.proofs.Moved.{told_by}
+use Rattle.claim_core.proofs.Places.{same_by_get}
 use Rattle.claim_core.proofs.Sounds.{always}
 use Rattle.claim_rule.specs.declared.views.Terms.{Terms}
 use Rattle.claim_rule.specs.Views.{setup}
@@ -28,7 +29,6 @@ use Rattle.claim_rule.specs.Tokens.{Token, record_in, number_in, doing}
 use Rattle.claim_rule.specs.Closing.{ClosesAs}
 use Rattle.claim_rule.specs.Laws.{FieldEndsOneWay}
 use Rattle.claim_rule.proofs.Closes.{some_there}
-use Rattle.claim_rule.proofs.Determined.{same_elements}
 
 -- the entries are of the same turn
 pub record AreOfOneTurn (e f : Entry) : Type 0 where
@@ -75,8 +75,9 @@ module _ {D : Type 0} (verdict : D → Shown → Verdict) (z : Terms D) (seats :
   known s is c t e = let r = is c t e in ap (slice_get s.callers) (sym r.0) ∙ r.1.caller
 
   same_callers : (one two : State) → Sound g one → Sound g two → Knows one → Knows two → one.callers ≡ two.callers
-  same_callers one two sound sound' knows knows' = same_elements one.callers two.callers (sound.callers ∙ sym sound'.callers) (λ c lt.
-      let t = some_there seats c (omega (arith, lt, sound.callers, count)) full in knows c t.0 t.1 ∙ sym (knows' c t.0 t.1))
+  same_callers one two sound sound' knows knows' = same_by_get one.callers two.callers (sound.callers ∙ sym sound'.callers) (λ c k e.
+      let n = slice_get_within two.callers c k e in
+      let t = some_there seats c (omega (arith, n, sound'.callers, count)) full in knows c t.0 t.1 ∙ sym (knows' c t.0 t.1) ∙ e)
 
   listed : (one : State) → Sound g one → (k : ℕ) (e : Entry) → slice_get one.journal k ≡ Some e → IsListed z.lists e
   listed one sound k e at = subst (IsListed z.lists) (get_or_from_slice_get one.journal k e e at) (sound.order.listed k e (slice_get_within one.journal k e at))
@@ -90,7 +91,7 @@ module _ {D : Type 0} (verdict : D → Shown → Verdict) (z : Terms D) (seats :
         record {
           caller = sym has.2;
           turn = sym has.3;
-          bot = (listed one sound k e at).bot ∙ (λ i. bot_of z.lists (sym has.2 i) (sym has.3 i)) ∙ sym (listed two sound' k has.0 has.1).bot;
+          bot = (listed one sound k e at).bot ∙ (λ i. bot_of_turn z.lists (sym has.2 i) (sym has.3 i)) ∙ sym (listed two sound' k has.0 has.1).bot;
         },
       )
 

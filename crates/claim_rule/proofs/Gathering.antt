@@ -1,16 +1,17 @@
 -- The records of all seats while they are gathered, the last seat first.
-use Rattle.std.proofs.Common.{◌≡◌, ◌⊎◌, ℕ, zero, suc, ◌<◌, List, [], ◌∷◌, ◌++◌, length, Option, Some, None, inl, inr, ap, sym, refl, ◌∙◌, arith, length-append}
+use Rattle.std.proofs.Common.{◌≡◌, ◌⊎◌, ℕ, ◌<◌, List, [], ◌∷◌, ◌++◌, length, Option, Some, None, inl, inr, ap, sym, ◌∙◌, arith, length-append}
 use Rattle.std.specs.Prelude.{slice_get}
 use Rattle.std.proofs.lemmas.Bool.{cases_eq}
-use Rattle.std.proofs.lemmas.Option.{none-some, same_Some}
+use Rattle.std.proofs.lemmas.List.{append-nil, append_assoc}
+use Rattle.std.proofs.lemmas.Option.{none-some, same_Some, slice_get_within}
 use Rattle.atomic_table.specs.Seated.{TableId}
+use Rattle.amoebot_state.proofs.Fronts.{slice_get_behind}
 use Rattle.claim_core.proofs.Places.{get-append_left}
 use Rattle.claim_rule.specs.declared.views.Record.{Record}
 use Rattle.claim_rule.specs.declared.views.Terms.{Terms}
 use Rattle.claim_rule.specs.Views.{Seated, view_of, own}
 use Rattle.claim_rule.specs.Tokens.{Token, record_in}
 use Rattle.claim_rule.specs.Seating.{joined}
-use Rattle.claim_rule.specs.Closing.{HaveAll}
 
 -- each seat is still there or has its record at the first seat
 pub record Gathered {D : Type 0} (z : Terms D) (all left : List (Option (Token D))) (m : Seated D) : Type 0 where
@@ -19,18 +20,6 @@ pub record Gathered {D : Type 0} (z : Terms D) (all left : List (Option (Token D
   pub gone : List (Option (Token D))
   pub parts : all ≡ left ++ gone
   pub each : (c : ℕ) (t : Token D) → slice_get all c ≡ Some (Some t) → (c < length left) ⊎ ((place : ℕ) × (slice_get records place ≡ Some (record_in t)) × ((record_in t).taken ≡ None))
-
-after_front : {A : Type 0} (xs ys : List A) (y : A) → slice_get (xs ++ y ∷ ys) (length xs) ≡ Some y
-after_front [] ys y = refl
-after_front (x ∷ xs) ys y = after_front xs ys y
-
-one_over : {A : Type 0} (xs ys : List A) (y : A) → (xs ++ y ∷ []) ++ ys ≡ xs ++ y ∷ ys
-one_over [] ys y = refl
-one_over (x ∷ xs) ys y = ap (λ zs. x ∷ zs) (one_over xs ys y)
-
-whole : {A : Type 0} (xs : List A) → xs ≡ xs ++ []
-whole [] = refl
-whole (x ∷ xs) = ap (λ ys. x ∷ ys) (whole xs)
 
 module _ {D : Type 0} (z : Terms D) where
   -- what a seat with one record knows and has
@@ -47,22 +36,17 @@ module _ {D : Type 0} (z : Terms D) where
       records = [];
       has = is;
       gone = [];
-      parts = whole all;
-      each = λ c t e. inl (within all c (Some t) e);
+      parts = sym (append-nil all);
+      each = λ c t e. inl (slice_get_within all c (Some t) e);
     }
-      where
-        within : {A : Type 0} (xs : List A) (k : ℕ) (x : A) → slice_get xs k ≡ Some x → k < length xs
-        within [] k x e = absurd (none-some x e)
-        within (y ∷ xs) zero x e = omega arith
-        within (y ∷ xs) (suc k) x e = let n = within xs k x e in omega (arith, n)
 
     module _ (left new : List (Option (Token D))) (o : Option (Token D)) (m : Seated D) (so_far : Gathered z all left m) (pops : left ≡ new ++ o ∷ []) where
       parts_now : all ≡ new ++ o ∷ so_far.gone
-      parts_now = so_far.parts ∙ ap (λ xs. xs ++ so_far.gone) pops ∙ one_over new so_far.gone o
+      parts_now = so_far.parts ∙ ap (λ xs. xs ++ so_far.gone) pops ∙ append_assoc new (o ∷ []) so_far.gone
 
       -- the place that is taken away is the last of those that were left
       pub last_is : slice_get all (length new) ≡ Some o
-      last_is = ap (λ xs. slice_get xs (length new)) parts_now ∙ after_front new so_far.gone o
+      last_is = ap (λ xs. slice_get xs (length new)) parts_now ∙ slice_get_behind new o so_far.gone
 
       -- its record, if it has one, is at the first seat then
       pub one_less : (m' : Seated D) (rs : List Record) → m' ≡ (view_of z rs, []) → ((k : ℕ) (r : Record) → slice_get so_far.records k ≡ Some r → slice_get rs k ≡ Some r)
@@ -90,15 +74,4 @@ module _ {D : Type 0} (z : Terms D) where
     taken_in left new t m other m' so_far pops none its is =
         one_less left new (Some t) m so_far pops m' (so_far.records ++ record_in t ∷ []) (is ∙ (λ i. (joined (so_far.has i).0 (its i).0, (so_far.has i).1)))
         (λ k r e. get-append_left so_far.records (record_in t ∷ []) k r e)
-        (λ u e. let same = same_Some t u e in (length so_far.records, after_front so_far.records [] (record_in t) ∙ ap (λ (v : Token D). Some (record_in v)) same, ap (λ (v : Token D). (record_in v).taken) (sym same) ∙ none))
-
-    -- once no place is left, all records are there
-    pub all_gathered : (left : List (Option (Token D))) (m : Seated D) → Gathered z all left m → length left ≡ 0 → (rs : List Record) × (m ≡ (view_of z rs, [])) × HaveAll all rs
-    all_gathered left m so_far none = (
-      so_far.records,
-      so_far.has,
-      λ c t e. elim (so_far.each c t e) [
-        | inl lt ↦ absurd (omega (arith, lt, none))
-        | inr there ↦ there
-      ],
-    )
+        (λ u e. let same = same_Some t u e in (length so_far.records, slice_get_behind so_far.records (record_in t) [] ∙ ap (λ (v : Token D). Some (record_in v)) same, ap (λ (v : Token D). (record_in v).taken) (sym same) ∙ none))

@@ -3,7 +3,7 @@ use Rattle.std.proofs.Common.{◌≡◌, ℕ, ◌+◌, ◌<◌, List, [], ◌∷
 use Rattle.std.specs.Prelude.{slice_get, IsSome, IfSome}
 use Rattle.std.specs.List.{All}
 use Rattle.std.proofs.lemmas.List.{length-map}
-use Rattle.std.proofs.lemmas.Option.{get_or_from_slice_get}
+use Rattle.std.proofs.lemmas.Option.{slice_get_within, get_or_from_slice_get}
 use Rattle.amoebot_state.specs.declared.verdict.Verdict.{Verdict}
 use Rattle.amoebot_state.specs.Configs.{Config}
 use Rattle.amoebot_state.specs.Steps.{Run}
@@ -18,7 +18,7 @@ use Rattle.claim_core.specs.Reached.{Reached}
 use Rattle.claim_core.specs.Soundness.{IsSetup, Sound}
 use Rattle.claim_core.proofs.Ends.{reached_is_good, same_world}
 use Rattle.claim_core.proofs.Holding.{framed}
-use Rattle.claim_core.proofs.Places.{get-map}
+use Rattle.claim_core.proofs.Places.{get-map, same_by_get}
 use Rattle.claim_core.proofs.Sounds.{always}
 use Rattle.claim_rule.specs.declared.views.Terms.{Terms}
 use Rattle.claim_rule.specs.Views.{setup}
@@ -26,7 +26,6 @@ use Rattle.claim_rule.specs.Tokens.{Token, doing}
 use Rattle.claim_rule.specs.Closing.{ClosesAs}
 use Rattle.claim_rule.specs.Laws.{FieldEndsSound, EndedFieldIsReached, marks_in, report_of}
 use Rattle.claim_rule.proofs.Closes.{some_there}
-use Rattle.claim_rule.proofs.Determined.{same_elements}
 
 module _ {D : Type 0} (verdict : D → Shown → Verdict) (z : Terms D) (seats : List (Option (Token D))) (world : Config) (journal : Kept) (ok : IsSetup (setup verdict z)) (ends : ClosesAs verdict z seats world journal) where
   abbrev g : Setup
@@ -59,10 +58,11 @@ module _ {D : Type 0} (verdict : D → Shown → Verdict) (z : Terms D) (seats :
     as_many = sound.callers ∙ sym count
 
     marks_are : map marks_in seats ≡ map (λ (k : Caller). k.marks) s.callers
-    marks_are = same_elements (map marks_in seats) (map (λ (k : Caller). k.marks) s.callers) (length-map seats marks_in ∙ sym as_many ∙ sym (length-map s.callers (λ (k : Caller). k.marks)))
-        (λ c lt.
-        let t = some_there seats c (omega (arith, lt, length-map seats marks_in)) full in
-        get-map marks_in seats c (Some t.0) t.1 ∙ sym (get-map (λ (k : Caller). k.marks) s.callers c (doing t.0) (knows c t.0 t.1)))
+    marks_are = same_by_get (map marks_in seats) (map (λ (k : Caller). k.marks) s.callers) (length-map seats marks_in ∙ sym as_many ∙ sym (length-map s.callers (λ (k : Caller). k.marks)))
+        (λ c ms e.
+        let n = slice_get_within (map (λ (k : Caller). k.marks) s.callers) c ms e in
+        let t = some_there seats c (omega (arith, n, as_many, length-map s.callers (λ (k : Caller). k.marks))) full in
+        get-map marks_in seats c (Some t.0) t.1 ∙ sym (get-map (λ (k : Caller). k.marks) s.callers c (doing t.0) (knows c t.0 t.1)) ∙ e)
 
     pub is_reached : All (λ o. IfSome o (λ token. (doing token).phase ≡ Ended)) seats → Reached g (report_of z seats world journal)
     is_reached over = record {

@@ -18,7 +18,7 @@ use Rattle.claim_rule.specs.declared.views.Slot.{Slot}
 use Rattle.claim_rule.specs.declared.views.Record.{Record}
 use Rattle.claim_rule.specs.declared.views.Terms.{Terms}
 use Rattle.claim_rule.specs.Views.{Content, Seated, view_of, own, setup, cells}
-use Rattle.claim_rule.specs.Stands.{is_held, turns_left, AreWords, AreHomes, Holds}
+use Rattle.claim_rule.specs.Stands.{is_held, turns_left, AreWords, AreHomes, KeepsRule}
 use Rattle.claim_rule.specs.Plays.{Reads, mark_at, marked_at, read}
 use Rattle.claim_rule.specs.Nexts.{GoesOn, IsAt, LookIsNext}
 use Rattle.claim_rule.proofs.Tables.{journal_written, homes_kept}
@@ -90,7 +90,7 @@ module _ {D : Type 0} {verdict : D → Shown → Verdict} {z : Terms D} {s : Con
       homes = homes_kept g core new s.homes s.homes table.stands.homes refl table.stands.homes.cell refl refl (journal_stays g core new refl fewer)
 
 module _ {D : Type 0} (verdict : D → Shown → Verdict) (z : Terms D) (ok : IsSetup (setup verdict z)) where
-  pub look_allowed : (slots seat : ℕ) (me : Seated D) → me.0 ≡ view_of z (own me.0 ∷ []) → Reads (own me.0).caller.phase → Allows (Holds verdict z) slots seat me (cells z.world) (λ x. x) (read verdict (step slots (cells z.world) 0 0 home.none) me)
+  pub look_allowed : (slots seat : ℕ) (me : Seated D) → me.0 ≡ view_of z (own me.0 ∷ []) → Reads (own me.0).caller.phase → Allows (KeepsRule verdict z) slots seat me (cells z.world) (λ x. x) (read verdict (step slots (cells z.world) 0 0 home.none) me)
   look_allowed slots seat me one reads =
       allowed verdict z ok slots seat me (cells z.world) (λ x. x) (λ m. Reads (own m.0).caller.phase) (read verdict (step slots (cells z.world) 0 0 home.none)) one reads
       (λ s steps r table fact. look_goes table slots me.1 fact)

@@ -13,6 +13,7 @@ use Rattle.amoebot_state.specs.Zones.{Shown}
 use Rattle.amoebot_state.proofs.Members.{Has-from_Contains, Contains-from_Has}
 use Rattle.claim_core.specs.declared.state.Caller.{Caller}
 use Rattle.claim_core.specs.declared.state.Committed.{Committed}
+use Rattle.claim_core.specs.Limits.{most_turns}
 use Rattle.claim_core.specs.Turns.{Kept}
 use Rattle.claim_core.specs.Cells.{number, at}
 use Rattle.claim_core.specs.Machine.{Setup, State, next, after}
@@ -104,7 +105,7 @@ module _ {D : Type 0} {verdict : D → Shown → Verdict} {z : Terms D} {s : Con
   -- after a step of the seat's caller; what of the core and of the other records it leaves is told
   pub moved : (new : State) (r' : Record) (words : List ℕ) (homes : List (home.Option Slot)) → new ≡ next g r.number core → r'.number ≡ r.number → new.callers ≡ set core.callers r.number r'.caller
       → AreWords g new words → AreHomes g new homes → ((q : Record) → q.number ≢ r.number → HasCommitted g core q.number q.committed q.taken → HasCommitted g new q.number q.committed q.taken)
-      → HasCommitted g new r.number r'.committed r'.taken → length new.journal + turns_left g new ≤ 65536
+      → HasCommitted g new r.number r'.committed r'.taken → length new.journal + turns_left g new ≤ most_turns
       → Stands verdict z (record { words = words; homes = homes; views = set s.views seat (view_of z (r' ∷ [])) }) (after g (r.number ∷ steps))
   moved new r' words homes step same callers words_are homes_are others own few = subst (Stands verdict z _) step stands
     where

@@ -25,7 +25,7 @@ use Rattle.claim_rule.specs.declared.views.Record.{Record}
 use Rattle.claim_rule.specs.declared.views.Terms.{Terms}
 use Rattle.claim_rule.specs.declared.views.View.{View}
 use Rattle.claim_rule.specs.Views.{record_of, setup, cells}
-use Rattle.claim_rule.specs.Stands.{IsFoundAt, HasCommitted, IsRecord, HasRecord, Stands, Holds, records_from, first_view}
+use Rattle.claim_rule.specs.Stands.{IsFoundAt, HasCommitted, IsRecord, HasRecord, Stands, KeepsRule, records_from, first_view}
 use Rattle.claim_rule.specs.Tokens.{FieldOf, IsField}
 use Rattle.claim_rule.specs.Opened.{AreFirstSlots}
 use Rattle.claim_rule.specs.Laws.{OpeningStands}
@@ -142,7 +142,7 @@ module _ {D : Type 0} (verdict : D → Shown → Verdict) (z : Terms D) where
       tagged (Some k) t e = zero_there (values_of z.world) k t e
 
   -- to which no step leads
-  pub opens : IsSetup g → (words : List ℕ) (slots : List Slot) → words ≡ replicate (cells z.world + 1) 0 → AreFirstSlots z.world z.lists slots → Holds verdict z (opening words slots (first_view verdict z))
+  pub opens : IsSetup g → (words : List ℕ) (slots : List Slot) → words ≡ replicate (cells z.world + 1) 0 → AreFirstSlots z.world z.lists slots → KeepsRule verdict z (opening words slots (first_view verdict z))
   opens ok words slots zeros first = ([], opening_stands ok words slots zeros first)
 
   -- a field with these terms keeps what a field keeps

@@ -24,7 +24,7 @@ use Rattle.claim_rule.specs.declared.views.Slot.TheVariants as slot
 use Rattle.claim_rule.specs.declared.views.Record.{Record}
 use Rattle.claim_rule.specs.declared.views.Terms.{Terms}
 use Rattle.claim_rule.specs.Views.{Content, Seated, view_of, own, setup, cells}
-use Rattle.claim_rule.specs.Stands.{turns_left, AreWords, AreHomes, Holds}
+use Rattle.claim_rule.specs.Stands.{turns_left, AreWords, AreHomes, KeepsRule}
 use Rattle.claim_rule.specs.Plays.{but_last, released, IsToFree, freed}
 use Rattle.claim_rule.specs.Nexts.{GoesOn, IsAt, ReleaseIsNext}
 use Rattle.claim_rule.proofs.Tables.{tag_written, homes_kept}
@@ -106,7 +106,7 @@ module _ {D : Type 0} {verdict : D → Shown → Verdict} {z : Terms D} {s : Con
           (set_else s.homes i (cells g.world) (home.some (slot.Cell x)) (λ e. omega (arith, e, to.inside))) refl (journal_stays g core new refl fewer))
 
 module _ {D : Type 0} (verdict : D → Shown → Verdict) (z : Terms D) (ok : IsSetup (setup verdict z)) where
-  pub release_allowed : (slots seat : ℕ) (me : Seated D) (i : ℕ) → me.0 ≡ view_of z (own me.0 ∷ []) → IsToFree verdict i me → Allows (Holds verdict z) slots seat me i (λ _. 0) (λ _. freed verdict (step slots i 0 0 home.none) me 0)
+  pub release_allowed : (slots seat : ℕ) (me : Seated D) (i : ℕ) → me.0 ≡ view_of z (own me.0 ∷ []) → IsToFree verdict i me → Allows (KeepsRule verdict z) slots seat me i (λ _. 0) (λ _. freed verdict (step slots i 0 0 home.none) me 0)
   release_allowed slots seat me i one to =
       allowed verdict z ok slots seat me i (λ _. 0) (IsToFree verdict i) (λ m _. freed verdict (step slots i 0 0 home.none) m 0) one to
       (λ s steps r table fact. release_goes table i slots me.1 fact)

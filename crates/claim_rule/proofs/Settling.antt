@@ -26,7 +26,7 @@ use Rattle.claim_rule.specs.declared.views.Record.{Record}
 use Rattle.claim_rule.specs.declared.views.View.{View}
 use Rattle.claim_rule.specs.Views.{Seated, own, like, cells}
 use Rattle.claim_rule.specs.Plays.{IsPlaced, about}
-use Rattle.claim_rule.specs.Commits.{HasRoom, GotJournal, IsPushed, IsToCommit, Commits, with_journal, with_commit}
+use Rattle.claim_rule.specs.Commits.{HasRoomForEntry, GotJournal, IsPushed, IsToCommit, Commits, with_journal, with_commit}
 use Rattle.claim_rule.specs.Tokens.{emptied, IsActivation, IsWhole, IsFreeing}
 use Rattle.claim_rule.specs.Settling.{untaken, IsTaken}
 use Rattle.claim_rule.proofs.Activating.{with_held, stays, whole_some}
@@ -81,7 +81,7 @@ module _ {D : Type 0} (verdict : D → Shown → Verdict) (m : Seated D) (c t b 
         whole = wh.whole;
         phase = refl;
         taken = refl;
-        room = subst HasRoom same_journal got.room;
+        room = subst HasRoomForEntry same_journal got.room;
         out = refl;
       }
 

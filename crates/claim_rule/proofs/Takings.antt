@@ -13,6 +13,7 @@ use Rattle.amoebot_state.specs.declared.verdict.Change.{Change}
 use Rattle.amoebot_state.specs.declared.verdict.Verdict.{Verdict}
 use Rattle.amoebot_state.specs.Zones.{Shown}
 use Rattle.claim_core.specs.declared.state.Phase.TheVariants.{Taking, Committing}
+use Rattle.claim_core.specs.Limits.{most_turns}
 use Rattle.claim_core.specs.Turns.{Kept}
 use Rattle.claim_core.specs.Machine.{Setup, State, by_phase, acts, next, after}
 use Rattle.claim_core.specs.Machine as machine
@@ -22,8 +23,8 @@ use Rattle.claim_rule.specs.declared.views.Slot.TheVariants as slot
 use Rattle.claim_rule.specs.declared.views.Record.{Record}
 use Rattle.claim_rule.specs.declared.views.Terms.{Terms}
 use Rattle.claim_rule.specs.Views.{Content, Seated, view_of, own, setup, cells}
-use Rattle.claim_rule.specs.Stands.{is_held, turns_left, IsJournal, HasCommitted, AreWords, AreHomes, Holds}
-use Rattle.claim_rule.specs.Commits.{Takes, HasRoom, with_journal, took}
+use Rattle.claim_rule.specs.Stands.{is_held, turns_left, IsJournal, HasCommitted, AreWords, AreHomes, KeepsRule}
+use Rattle.claim_rule.specs.Commits.{Takes, HasRoomForEntry, with_journal, took}
 use Rattle.claim_rule.specs.Nexts.{GoesOn, IsAt, TakeIsNext}
 use Rattle.claim_rule.proofs.Tables.{journal_written}
 use Rattle.claim_rule.proofs.Moves.{sound, mine, caller_at, not_last, moved, moves, taken_else, journal_stays}
@@ -118,7 +119,7 @@ module _ {D : Type 0} {verdict : D → Shown → Verdict} {z : Terms D} {s : Con
             let counted = is.counted ∙ ap (λ q. marked q r.caller.turn) p in
             some_left g.lists.turns core.callers r.number r.caller (caller_at table) (omega (arith, turn, counted))
 
-        room : HasRoom j
+        room : HasRoomForEntry j
         room = record { some = omega (arith, left, has.2.room); few = omega (arith, left, table.stands.few, ap (λ (es : List _). length es) has.2.entries) }
 
         words : AreWords g new (set s.words last (bit_or old 1))
@@ -137,7 +138,7 @@ module _ {D : Type 0} {verdict : D → Shown → Verdict} {z : Terms D} {s : Con
         mine_is : HasCommitted g new r.number r.committed (Some j)
         mine_is = record { entries = (mine table).committed.entries; found = (mine table).committed.found; taken = (refl, journal_stays g core new refl fewer j has.2) }
 
-        few : length new.journal + turns_left g new ≤ 65536
+        few : length new.journal + turns_left g new ≤ most_turns
         few = omega (arith, fewer, table.stands.few)
 
     by_holder : (o : Option ℕ) → core.holder ≡ o → Goes
@@ -148,7 +149,7 @@ module _ {D : Type 0} {verdict : D → Shown → Verdict} {z : Terms D} {s : Con
   take_goes to = by_holder to.0 to.1 core.holder refl
 
 module _ {D : Type 0} (verdict : D → Shown → Verdict) (z : Terms D) (ok : IsSetup (setup verdict z)) where
-  pub take_allowed : (slots seat : ℕ) (me : Seated D) → me.0 ≡ view_of z (own me.0 ∷ []) → Takes (own me.0).caller.phase → Allows (Holds verdict z) slots seat me (cells z.world) (λ x. bit_or x 1) (took (step slots (cells z.world) 1 0 home.none) me)
+  pub take_allowed : (slots seat : ℕ) (me : Seated D) → me.0 ≡ view_of z (own me.0 ∷ []) → Takes (own me.0).caller.phase → Allows (KeepsRule verdict z) slots seat me (cells z.world) (λ x. bit_or x 1) (took (step slots (cells z.world) 1 0 home.none) me)
   take_allowed slots seat me one to =
       allowed verdict z ok slots seat me (cells z.world) (λ x. bit_or x 1) (λ m. Takes (own m.0).caller.phase) (took (step slots (cells z.world) 1 0 home.none)) one to
       (λ s steps r table fact. take_goes table fact slots me.1)

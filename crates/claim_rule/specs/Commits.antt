@@ -10,6 +10,7 @@ use Rattle.claim_core.specs.declared.marks.Mark.TheVariants as mark
 use Rattle.claim_core.specs.declared.state.Committed.{Committed}
 use Rattle.claim_core.specs.declared.state.Phase.{Phase}
 use Rattle.claim_core.specs.declared.state.Phase.TheVariants.{Taking, Committing}
+use Rattle.claim_core.specs.Limits.{most_turns}
 use Rattle.claim_core.specs.Turns.{Kept}
 use Rattle.claim_core.specs.Machine.{Setup, bot, found, entry, frees, renewed}
 use Rattle.claim_rule.specs.declared.views.Slot.{Slot}
@@ -42,9 +43,9 @@ with_commit g r change place = record {
 }
 
 -- there is room for one entry more, at a place below 65,536
-pub record HasRoom (j : Kept) : Type 0 where
+pub record HasRoomForEntry (j : Kept) : Type 0 where
   pub some : 0 < j.spare
-  pub few : length j.entries < 65536
+  pub few : length j.entries < most_turns
 
 -- the journal with one entry more, in the room that it had
 pub record IsPushed (old : Kept) (e : Entry) (new : Kept) : Type 0 where
@@ -58,7 +59,7 @@ module _ {D : Type 0} where
     pub change : Change
     pub phase : (own m.0).caller.phase ≡ Taking change
     pub journal : Kept
-    pub room : HasRoom journal
+    pub room : HasRoomForEntry journal
     pub now : m'.0 ≡ like m.0 (with_journal (own m.0) change journal ∷ [])
     pub out : m'.1 ≡ (i, slot.Journal journal) ∷ m.1
 

@@ -6,6 +6,7 @@ use Rattle.amoebot_state.specs.declared.cell.CellName.{CellName}
 use Rattle.amoebot_state.specs.declared.cell.CellName.TheVariants as name
 use Rattle.amoebot_state.specs.declared.cell.Cell.{Cell}
 use Rattle.amoebot_state.specs.declared.verdict.Verdict.{Verdict}
+use Rattle.amoebot_state.specs.Limits.{most_cells}
 use Rattle.amoebot_state.specs.Pairs.{Pairs, body_in}
 use Rattle.amoebot_state.specs.Refusals.{IsPlain}
 use Rattle.amoebot_state.specs.Zones.{Shown, IsShown}
@@ -14,6 +15,7 @@ use Rattle.claim_core.specs.declared.marks.Mark.TheVariants as mark
 use Rattle.claim_core.specs.declared.state.Caller.{Caller}
 use Rattle.claim_core.specs.declared.state.Phase.{Phase}
 use Rattle.claim_core.specs.declared.state.Phase.TheVariants.{Claim, Refusing, Looking, Taking, Committing, Releasing, Ended}
+use Rattle.claim_core.specs.Limits.{most_turns}
 use Rattle.claim_core.specs.Tags.{tag_caller, tag_turn, tag_bot}
 use Rattle.claim_core.specs.Cells.{number}
 use Rattle.claim_core.specs.Machine.{Setup, bot, own_tag, found, next_of, won, frees, looked, refused}
@@ -29,7 +31,7 @@ IsPlaced g n i = (number g.world.area n ≡ Some i) × (i < cells g.world)
 -- what is known of a zone of which these cells are held: it tells the next cell, and with the last one what its amoebot is shown
 pub record IsKnown (g : Setup) (b : ℕ) (held : Pairs) : Type 0 where
   pub plain : IfSome (body_in (reverse held) b) IsPlain
-  pub few : length held ≤ 19
+  pub few : length held ≤ most_cells
   pub placed : (n : CellName) → next_of g b held ≡ Some n → (i : ℕ) × IsPlaced g n i
   pub shown : next_of g b held ≡ None → IsShown (found g b held)
 
@@ -121,4 +123,4 @@ module _ {D : Type 0} (verdict : D → Shown → Verdict) where
 
   -- the journal's length is half of its word, rounded down, and at most 65,536: the turn has its mark
   abbrev pub read : Step Slot → Seated D → ℕ → Seated D → Type 0
-  read st m t m' = (m'.0 ≡ goes_on m.0 (marked_at (about m.0) (own m.0).caller (t / 2))) × (m'.1 ≡ m.1) × (t / 2 ≤ 65536)
+  read st m t m' = (m'.0 ≡ goes_on m.0 (marked_at (about m.0) (own m.0).caller (t / 2))) × (m'.1 ≡ m.1) × (t / 2 ≤ most_turns)

@@ -8,6 +8,7 @@ use Rattle.amoebot_state.specs.declared.verdict.Verdict.{Verdict}
 use Rattle.amoebot_state.specs.Pairs.{Pairs}
 use Rattle.amoebot_state.specs.Zones.{Shown}
 use Rattle.claim_core.specs.declared.state.Phase.TheVariants.{Taking, Committing}
+use Rattle.claim_core.specs.Limits.{most_turns}
 use Rattle.claim_core.specs.Turns.{Kept}
 use Rattle.claim_core.specs.Machine.{next_of}
 use Rattle.claim_rule.specs.declared.views.Slot.TheVariants as slot
@@ -15,7 +16,7 @@ use Rattle.claim_rule.specs.declared.views.Record.{Record}
 use Rattle.claim_rule.specs.Views.{Seated, own, like, cells}
 use Rattle.claim_rule.specs.Plays.{about}
 use Rattle.claim_rule.specs.Tokens.{Token, IsActivation, record_in, number_in, doing}
-use Rattle.claim_rule.specs.Commits.{HasRoom, with_journal, with_commit}
+use Rattle.claim_rule.specs.Commits.{HasRoomForEntry, with_journal, with_commit}
 
 -- a turn, and the place of the entry that it committed
 pub record ReceiptOf : Type 0 where
@@ -48,7 +49,7 @@ module _ {D : Type 0} where
     pub record HasStored (old new : Token D) (change : Change) (receipt : ReceiptOf) : Type 0 where
       pub now : new ≡ with_record old (with_commit (about verdict old.view) (record_in old) change receipt.place)
       pub told : receipt ≡ receipt_of (number_in old) (doing old).turn receipt.place
-      pub few : receipt.place < 65536
+      pub few : receipt.place < most_turns
 
     -- it holds its whole zone and the journal, as it was taken, whose slot is out, and empty; but for the journal it is as it was
     pub record IsTaken (m : Seated D) (c t b : ℕ) (a : Extent) (greatest : List ℕ) (pairs : Pairs) (change : Change) (j : Kept) : Type 0 where
@@ -58,5 +59,5 @@ module _ {D : Type 0} where
       pub whole : next_of (about verdict m.0) b pairs ≡ None
       pub phase : (own m.0).caller.phase ≡ Committing change
       pub taken : (own m.0).taken ≡ Some j
-      pub room : HasRoom j
+      pub room : HasRoomForEntry j
       pub out : m.1 ≡ (cells (about verdict m.0).world, slot.Empty) ∷ rest m.1

@@ -12,6 +12,7 @@ use Rattle.amoebot_state.specs.Configs.{Config}
 use Rattle.amoebot_state.specs.Zones.{Shown, shown}
 use Rattle.claim_core.specs.declared.state.Caller.{Caller}
 use Rattle.claim_core.specs.declared.state.Committed.{Committed}
+use Rattle.claim_core.specs.Limits.{most_turns}
 use Rattle.claim_core.specs.Turns.{Kept}
 use Rattle.claim_core.specs.Good.{IsWorldAt}
 use Rattle.claim_core.specs.Cells.{number, at}
@@ -105,11 +106,11 @@ module _ {D : Type 0} where
       pub words : AreWords (setup verdict z) core s.words
       pub homes : AreHomes (setup verdict z) core s.homes
       pub views : AreViews core s.views
-      pub few : length core.journal + turns_left (setup verdict z) core ≤ 65536
+      pub few : length core.journal + turns_left (setup verdict z) core ≤ most_turns
 
     -- the rule: it stands for a state that steps of the callers, the last one first, lead to from the opening
-    abbrev pub Holds : Content D → Type 0
-    Holds s = (steps : List ℕ) × Stands s (after (setup verdict z) steps)
+    abbrev pub KeepsRule : Content D → Type 0
+    KeepsRule s = (steps : List ℕ) × Stands s (after (setup verdict z) steps)
 
     abbrev pub records_from : ℕ → List Caller → List Record
     records_from c [] = []

@@ -1,4 +1,5 @@
 ghost use Rattle.std.specs.Prelude.{◌≡◌, ◌<◌, ◌≤◌, None, length};
+ghost use Rattle.claim_core.specs.Limits.{most_turns};
 ghost use Rattle.claim_core.specs.Machine.{decided};
 ghost use Rattle.claim_rule.specs.Plays.{about, marked_at};
 ghost use Rattle.claim_rule.specs.Tokens.{IsOf, IsToLook, IsMarked, number_in, doing, goes, next_in, found_in, verdict_in, seen_of};
@@ -27,12 +28,14 @@ impl Model for Seen {
 }
 
 impl Seen {
+    /// The caller whose turn it was, by the number of its list, from 0 on.
     pub fn caller(&self) -> u8
         ensures { result ≡ self.now.caller }
     {
         self.caller
     }
 
+    /// Its number among the caller's turns, from 0 on.
     pub fn turn(&self) -> u32
         ensures { result ≡ self.now.turn }
     {
@@ -97,7 +100,7 @@ pub fn look<D: Decider>(claimed: &mut Claimed<D>, field: &Field<'_, D>) -> Seen
     ensures marked { claimed.new ≡ goes claimed.old (marked_at (about D.verdict claimed.old.view) (doing claimed.old) result.place) }
     ensures frees { IsMarked claimed.new }
     ensures told { result ≡ seen_of (number_in claimed.old) (doing claimed.old).turn result.place }
-    ensures few { result.place ≤ 65536 }
+    ensures few { result.place ≤ most_turns }
 {
     let activation = &mut claimed.activation;
     let place = field.place(&mut activation.seat);

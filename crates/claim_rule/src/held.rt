@@ -1,5 +1,6 @@
 ghost use Rattle.std.specs.Prelude.{◌≡◌, ◌<◌, ◌≤◌, length, Some, IfOk, IfErr};
 ghost use Rattle.amoebot_state.specs.declared.cell.Cell.{Cell};
+ghost use Rattle.amoebot_state.specs.Limits.{most_cells};
 ghost use Rattle.claim_core.specs.declared.state.Phase.TheVariants.{Refusing};
 ghost use Rattle.claim_core.specs.Machine.{won};
 ghost use Rattle.claim_rule.specs.Plays.{IsOthers, about, bot_in};
@@ -37,7 +38,7 @@ impl<D: Decider> Held<D> {
     pub fn next(&self, _field: &Field<'_, D>) -> Option<CellName>
         requires { IsOf _field.now self.now }
         ensures next { result ≡ next_in D.verdict self.now }
-        ensures few { length (doing self.now).held ≤ 19 }
+        ensures few { length (doing self.now).held ≤ most_cells }
     {
         let activation = &self.activation;
         next_cell(

@@ -1,6 +1,6 @@
 //! The rule, and what each step tells the seat that makes it. These types are for the proofs alone.
 ghost use Rattle.claim_rule.specs.Views.{terms_of};
-ghost use Rattle.claim_rule.specs.Stands.{Holds, first_view};
+ghost use Rattle.claim_rule.specs.Stands.{KeepsRule, first_view};
 ghost use Rattle.claim_rule.specs.Plays.{claimed, freed, read};
 ghost use Rattle.claim_rule.specs.Commits.{took, stored};
 
@@ -12,7 +12,7 @@ use atomic_table::{Play, TableRule};
 pub struct ClaimRule;
 
 impl<'d, D: Decider> TableRule<Slot, View<D>, Key<'d, D>> for ClaimRule {
-    ghost holds = { λ key. Holds D.verdict (terms_of key.decider.now key.world key.lists.now) };
+    ghost holds = { λ key. KeepsRule D.verdict (terms_of key.decider.now key.world key.lists.now) };
 
     ghost first = { λ key. first_view D.verdict (terms_of key.decider.now key.world key.lists.now) };
 }

@@ -23,12 +23,14 @@ impl Model for Receipt {
 }
 
 impl Receipt {
+    /// The caller whose turn it was, by the number of its list, from 0 on.
     pub fn caller(&self) -> u8
         ensures { result ≡ self.now.caller }
     {
         self.caller
     }
 
+    /// Its number among the caller's turns, from 0 on.
     pub fn turn(&self) -> u32
         ensures { result ≡ self.now.turn }
     {

@@ -2,6 +2,7 @@
 ghost use Rattle.std.specs.Prelude.{◌≡◌, ◌<◌, ◌≤◌, ◌*◌, ◌∷◌, []};
 ghost use mathlib.Core.Option.{none};
 ghost use Rattle.atomic_table.specs.Table.{step};
+ghost use Rattle.claim_core.specs.Limits.{most_turns};
 ghost use Rattle.claim_rule.specs.Views.{own, view_of, goes_on, cells};
 ghost use Rattle.claim_rule.specs.Plays.{IsToTry, IsToFree, Reads, about, marked_at, claimed, freed, read};
 ghost use Rattle.claim_rule.specs.Commits.{Takes, IsToCommit, took, stored};
@@ -57,7 +58,7 @@ impl<'d, D: Decider> Field<'d, D> {
         ensures same { (seat.new.table_id ≡ seat.old.table_id) × (seat.new.id ≡ seat.old.id) }
         ensures marked { seat.new.me.0 ≡ goes_on seat.old.me.0 (marked_at (about D.verdict seat.old.me.0) (own seat.old.me.0).caller result) }
         ensures out { seat.new.me.1 ≡ seat.old.me.1 }
-        ensures few { result ≤ 65536 }
+        ensures few { result ≤ most_turns }
     {
         (self.read(seat) / 2) as u32
     }
@@ -78,7 +79,7 @@ impl<'d, D: Decider> Field<'d, D> {
     pub(crate) fn store_length(&self, seat: &mut Seat<Slot, View<D>>, length: u64)
         requires table { seat.old.table_id ≡ self.now.table }
         requires alone { seat.old.me.0 ≡ view_of self.now.terms (own seat.old.me.0 ∷ []) }
-        requires few { length ≤ 65536 }
+        requires few { length ≤ most_turns }
         requires commits { IsToCommit D.verdict (cells self.now.terms.world) (2 * length) seat.old.me }
         ensures same { (seat.new.table_id ≡ seat.old.table_id) × (seat.new.id ≡ seat.old.id) }
         ensures told { stored D.verdict (step self.now.table.slots (cells self.now.terms.world) (2 * length) 0 none) seat.old.me (2 * length) seat.new.me }

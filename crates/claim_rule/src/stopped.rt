@@ -1,5 +1,6 @@
 ghost use Rattle.std.specs.Prelude.{◌≡◌, ◌≤◌};
 ghost use Rattle.claim_core.specs.declared.state.Phase.TheVariants.{Refusing};
+ghost use Rattle.claim_core.specs.Limits.{most_turns};
 ghost use Rattle.claim_core.specs.Tags.{tag_caller, tag_turn, tag_bot};
 ghost use Rattle.claim_rule.specs.Plays.{about, marked_at};
 ghost use Rattle.claim_rule.specs.Tokens.{IsOf, number_in, doing, goes, refused_of};
@@ -149,7 +150,7 @@ pub fn refuse<D: Decider>(
     requires refused { (doing stopped).phase ≡ Refusing cell tag }
     ensures marked { result.0 ≡ goes stopped (marked_at (about D.verdict stopped.view) (doing stopped) result.1.place) }
     ensures told { result.1 ≡ refused_of (number_in stopped) (doing stopped).turn cell tag result.1.place }
-    ensures few { result.1.place ≤ 65536 }
+    ensures few { result.1.place ≤ most_turns }
 {
     let Stopped { mut activation } = stopped;
     let place = field.place(&mut activation.seat);

@@ -4,3 +4,4 @@ pub mod Owing
 pub mod Sampled
 pub mod Samples
 pub mod SmallDocuments
+pub mod Tasks

@@ -3,7 +3,7 @@ use Rattle.std.proofs.Common.{ℕ, List, refl, subst}
 use Rattle.std.proofs.lemmas.Bool.{false≢true}
 use Rattle.claim_core.specs.declared.report.Report.{Report}
 use Rattle.document_grammar.specs.declared.section.Form.TheVariants as form
-use Rattle.document_grammar.specs.Documents.{Contents, Holds, DocumentsAreDecided}
+use Rattle.document_grammar.specs.Documents.{Contents, HasContents, DocumentsAreDecided}
 use Rattle.run_sample.specs.Laws.{SampleIsFit}
 use Rattle.command_runs.specs.Laws.{GoodStaysConnected}
 use Rattle.action_meaning.specs.Verdicts.{verdict_shown}
@@ -39,10 +39,10 @@ reports_are_of_turns c read s report text (shown p) = (λ some. absurd (false≢
 reports_are_of_turns c read s report text (sampled seed told v x) = (λ some. (refl, tt), λ both. refl)
 
 module _ (stays : GoodStaysConnected) (serials : OneListIsSerial) where
-  told_by_run : (bytes : List ℕ) (a : Contents) (report : Report) (text : List ℕ) → Holds form.Run bytes a → IsTextOfRun a report text → IsRunOfDocument form.Run bytes report text
+  told_by_run : (bytes : List ℕ) (a : Contents) (report : Report) (text : List ℕ) → HasContents form.Run bytes a → IsTextOfRun a report text → IsRunOfDocument form.Run bytes report text
   told_by_run bytes a report text h x = record { contents = a; program = x.program; start = x.start; lists = x.lists; document = h; its_program = x.its_program; its_shape = x.its_shape; its_lists = x.its_lists; good = x.writes.run.good; reached = x.writes.run.reached; serial = x.writes.run.serial; connected = stays x.program x.start x.lists report x.writes.run.good; writes = x.writes.whole }
 
-  told_by_interleave : (bytes : List ℕ) (a : Contents) (report : Report) (text : List ℕ) → Holds form.Interleave bytes a → IsTextOfInterleave a report text → IsRunOfDocument form.Interleave bytes report text
+  told_by_interleave : (bytes : List ℕ) (a : Contents) (report : Report) (text : List ℕ) → HasContents form.Interleave bytes a → IsTextOfInterleave a report text → IsRunOfDocument form.Interleave bytes report text
   told_by_interleave bytes a report text h x = record { contents = a; program = x.program; start = x.start; lists = x.lists; document = h; its_program = x.its_program; its_shape = x.its_shape; its_lists = x.its_lists; good = x.writes.run.good; reached = x.writes.run.reached; serial = λ few. serials (verdict_shown x.program) x.start x.lists report few x.writes.run.good; connected = stays x.program x.start x.lists report x.writes.run.good; writes = x.writes.whole }
 
   pub reports_are_of_documents : ReportsAreOfDocuments

@@ -12,7 +12,7 @@ use Rattle.claim_core.specs.Reached.{Reached}
 use Rattle.claim_core.specs.Laws.{OneListIsSerial}
 use Rattle.action_tree.specs.Trees.{Program}
 use Rattle.action_meaning.specs.Verdicts.{verdict_shown}
-use Rattle.document_grammar.specs.Documents.{Contents, Holds, IsRefused, bots_of}
+use Rattle.document_grammar.specs.Documents.{Contents, HasContents, IsRefused, bots_of}
 use Rattle.document_grammar.specs.Fitting.{FitTogether}
 use Rattle.shipped_programs.specs.declared.shipped.Shipped.{Shipped}
 use Rattle.shipped_programs.specs.Shipped.{tree_of}
@@ -33,7 +33,7 @@ use Rattle.command_answers.specs.declared.status.Status.TheVariants as status
 use Rattle.command_answers.specs.Commands.{form_of}
 use Rattle.command_answers.specs.Reads.{nothing, whole}
 use Rattle.command_answers.specs.Owed.{IsOwed, of_run, of_interleave, of_replay, of_check, of_measure, refused, differs, done, shown, sampled}
-use Rattle.command_answers.specs.Answers.{IsAnswerTo, IsPrepared, IsPreparedSample, IsTaskOf, IsTaskTo, done_with, refused_with}
+use Rattle.command_answers.specs.Answers.{IsAnswerTo, IsPrepared, IsPreparedSample, IsTaskOf, done_with, refused_with}
 
 -- an answer that is another one
 same_answer : (c : DocumentCommand) (a : Contents) (one two : Answer) → one ≡ two → IsAnswerTo c a two → IsAnswerTo c a one
@@ -41,10 +41,6 @@ same_answer c a one two same is bytes h = subst (λ (x : Answer). IsOwed (Some (
 
 pub refuses : (c : DocumentCommand) (bytes : List ℕ) (r : Refusal) (answer : Answer) → IsRefused (form_of c) bytes r → answer ≡ refused_with r → IsTaskOf c bytes (task.Answered answer)
 refuses c bytes r answer fault is = subst (λ (x : Answer). IsTaskOf c bytes (task.Answered x)) (sym is) (refused c bytes r fault, λ run done. cc)
-
--- each other command is answered
-pub answers : (c : DocumentCommand) (a : Contents) (answer : Answer) → (c ≡ Run → ⊥) → IsAnswerTo c a answer → IsTaskTo c a (task.Answered answer)
-answers c a answer other is bytes h = (is bytes h, λ run. absurd (other run))
 
 -- the amoebots of a document's lists are there
 pub are_there : (a : Contents) (start : Config) (lists : CallerLists) → FitTogether a → a.world ≡ Some start → a.lists ≡ Some lists → ((id : ℕ) → id < length start.bots → IsSome (bot_at start id)) → All (All (λ (id : ℕ). IsSome (bot_at start id))) lists.ids
@@ -58,7 +54,7 @@ pub shows : (p : Shipped) (text : List ℕ) → text ≡ check_text (tree_of p) 
 shows p text is = subst (λ (t : List ℕ). IsOwed (Some (Show p)) nothing status.Done None t) (sym is) (shown p)
 
 -- the report of a run that was prepared
-pub prepares : OneListIsSerial → (a : Contents) (bytes : List ℕ) (p : Program) (start : Config) (lists : CallerLists) → Holds (form_of Run) bytes a → a.checked ≡ Some p → a.world ≡ Some start → a.lists ≡ Some lists
+pub prepares : OneListIsSerial → (a : Contents) (bytes : List ℕ) (p : Program) (start : Config) (lists : CallerLists) → HasContents (form_of Run) bytes a → a.checked ≡ Some p → a.world ≡ Some start → a.lists ≡ Some lists
     → All (All (λ (id : ℕ). IsSome (bot_at start id))) lists.ids → IsPrepared a bytes p start lists
 prepares serials a bytes p start lists h its_program its_shape its_lists there = record {
   its_program = its_program;

@@ -1,18 +1,18 @@
 -- One thing is owed.
 use Rattle.std.proofs.Common.{◌≡◌, ◌≤◌, ℕ, List, length, Option, Some, Result, Ok, Err, ap, sym, subst, refl, ◌∙◌}
 use Rattle.std.specs.Prelude.{IfSome}
-use Rattle.std.proofs.lemmas.Option.{same_Some}
 use Rattle.text_tokens.specs.declared.refusal.Refusal.{Refusal}
 use Rattle.amoebot_state.specs.declared.verdict.Entry.{Entry}
 use Rattle.amoebot_state.specs.Configs.{Config}
 use Rattle.claim_core.specs.declared.report.Report.{Report}
 use Rattle.claim_core.specs.Turns.{CallerLists}
+use Rattle.claim_core.proofs.Places.{one_at}
 use Rattle.action_tree.specs.Trees.{Program}
 use Rattle.action_meaning.specs.Verdicts.{verdict_shown}
 use Rattle.document_grammar.specs.declared.section.Form.{Form}
 use Rattle.document_grammar.specs.declared.section.Form.TheVariants as form
 use Rattle.command_answers.specs.Commands.{form_of}
-use Rattle.document_grammar.specs.Documents.{Contents, Holds, IsRefused, DocumentsAreDecided}
+use Rattle.document_grammar.specs.Documents.{Contents, HasContents, IsRefused, DocumentsAreDecided}
 use Rattle.run_sample.specs.Laws.{SampleIsFit}
 use Rattle.command_runs.specs.Run.{IsRunText}
 use Rattle.command_runs.specs.Interleave.{IsInterleaveText}
@@ -33,53 +33,50 @@ use Rattle.command_answers.specs.Reads.{whole}
 use Rattle.command_answers.specs.Laws.{HasOneReport, SameIfAny, SameOwed, OwedIsOne}
 use Rattle.command_answers.proofs.Sampled.{text_is_six_lines}
 
-same_one : {A : Type 0} {o : Option A} (x y : A) → o ≡ Some x → o ≡ Some y → x ≡ y
-same_one x y e f = same_Some x y (sym e ∙ f)
-
 module _ (documents : DocumentsAreDecided) where
-  pub same_contents : (form : Form) (bytes : List ℕ) (a b : Contents) → Holds form bytes a → Holds form bytes b → a ≡ b
+  pub same_contents : (form : Form) (bytes : List ℕ) (a b : Contents) → HasContents form bytes a → HasContents form bytes b → a ≡ b
   same_contents form bytes a b x y = let r : Result Contents Refusal = Ok a in let q : Result Contents Refusal = Ok b in let e : r ≡ q = (documents form).one bytes r q x y in cc
 
   pub same_fault : (form : Form) (bytes : List ℕ) (r q : Refusal) → IsRefused form bytes r → IsRefused form bytes q → r ≡ q
   same_fault form bytes r q x y = let o : Result Contents Refusal = Err r in let p : Result Contents Refusal = Err q in let e : o ≡ p = (documents form).one bytes o p x y in cc
 
-  pub not_both : (form : Form) (bytes : List ℕ) (a : Contents) (r : Refusal) → Holds form bytes a → IsRefused form bytes r → ⊥
+  pub not_both : (form : Form) (bytes : List ℕ) (a : Contents) (r : Refusal) → HasContents form bytes a → IsRefused form bytes r → ⊥
   not_both form bytes a r x y = let o : Result Contents Refusal = Ok a in let p : Result Contents Refusal = Err r in let e : o ≡ p = (documents form).one bytes o p x y in cc
 
 module _ (documents : DocumentsAreDecided) (runs : RunTextIsOne) (interleaves : InterleaveTextIsOne) (replays : ReplayIsDecided) (measures : MeasureTextIsOne) (stays : GoodStaysConnected) (fit : SampleIsFit) where
   run_is_one : (a : Contents) (one two : Report) (text other : List ℕ) → IfSome a.lists (λ lists. length lists.ids ≤ 1) → IsTextOfRun a one text → IsTextOfRun a two other → SameReport one two × (text ≡ other)
   run_is_one a one two text other few x y =
-      let program = same_one y.program x.program y.its_program x.its_program in
-      let shape = same_one y.start x.start y.its_shape x.its_shape in
-      let lists = same_one y.lists x.lists y.its_lists x.its_lists in
+      let program = one_at _ y.program x.program y.its_program x.its_program in
+      let shape = one_at _ y.start x.start y.its_shape x.its_shape in
+      let lists = one_at _ y.lists x.lists y.its_lists x.its_lists in
       let writes = subst (λ (z : Program × Config × CallerLists). IsRunText z.0 z.1 z.2 two other) (λ i. (program i, shape i, lists i)) y.writes in
       let by = runs x.program x.start x.lists one two text other (subst (λ ls. IfSome ls (λ lists. length lists.ids ≤ 1)) x.its_lists few) x.writes writes in
       (by.0, by.1)
 
   interleave_is_one : (a : Contents) (one two : Report) (text other : List ℕ) → IsTextOfInterleave a one text → IsTextOfInterleave a two other → SameReport one two × (text ≡ other)
   interleave_is_one a one two text other x y =
-      let program = same_one y.program x.program y.its_program x.its_program in
-      let shape = same_one y.start x.start y.its_shape x.its_shape in
-      let lists = same_one y.lists x.lists y.its_lists x.its_lists in
-      let schedule = same_one y.schedule x.schedule y.its_schedule x.its_schedule in
+      let program = one_at _ y.program x.program y.its_program x.its_program in
+      let shape = one_at _ y.start x.start y.its_shape x.its_shape in
+      let lists = one_at _ y.lists x.lists y.its_lists x.its_lists in
+      let schedule = one_at _ y.schedule x.schedule y.its_schedule x.its_schedule in
       let writes = subst (λ (z : Program × Config × CallerLists × List ℕ). IsInterleaveText z.0 z.1 z.2 z.3 two other) (λ i. (program i, shape i, lists i, schedule i)) y.writes in
       let by = interleaves x.program x.start x.lists x.schedule one two text other x.writes writes in
       (by.0, by.1)
 
-  same_outcome : (bytes : List ℕ) (a : Contents) (c : DocumentCommand) (one two : Option Report) (text other : List ℕ) → Holds (form_of c) bytes a → HasOneReport (Some (Document c)) (whole bytes) → IsTextOf a c one text → IsTextOf a c two other → SameIfAny one two × (text ≡ other)
+  same_outcome : (bytes : List ℕ) (a : Contents) (c : DocumentCommand) (one two : Option Report) (text other : List ℕ) → HasContents (form_of c) bytes a → HasOneReport (Some (Document c)) (whole bytes) → IsTextOf a c one text → IsTextOf a c two other → SameIfAny one two × (text ≡ other)
   same_outcome bytes a c one two text other h decided (of_run r t x) (of_run q u y) = run_is_one a r q t u (decided a h) x y
   same_outcome bytes a c one two text other h decided (of_interleave r t x) (of_interleave q u y) = interleave_is_one a r q t u x y
-  same_outcome bytes a c one two text other h decided (of_replay t x) (of_replay u y) = (tt, x.writes.whole ∙ ap (λ (es : List Entry). agrees_line (length es)) (same_one x.entries y.entries x.has.its_journal y.has.its_journal) ∙ sym y.writes.whole)
-  same_outcome bytes a c one two text other h decided (of_check t x) (of_check u y) = (tt, x.writes ∙ ap check_text (same_one x.program y.program x.its_program y.its_program) ∙ sym y.writes)
-  same_outcome bytes a c one two text other h decided (of_measure t x) (of_measure u y) = (tt, measures x.last t u x.writes (subst (λ (last : Config). IsMeasureText last u) (same_one y.last x.last y.its_last x.its_last) y.writes))
+  same_outcome bytes a c one two text other h decided (of_replay t x) (of_replay u y) = (tt, x.writes.whole ∙ ap (λ (es : List Entry). agrees_line (length es)) (one_at _ x.entries y.entries x.has.its_journal y.has.its_journal) ∙ sym y.writes.whole)
+  same_outcome bytes a c one two text other h decided (of_check t x) (of_check u y) = (tt, x.writes ∙ ap check_text (one_at _ x.program y.program x.its_program y.its_program) ∙ sym y.writes)
+  same_outcome bytes a c one two text other h decided (of_measure t x) (of_measure u y) = (tt, measures x.last t u x.writes (subst (λ (last : Config). IsMeasureText last u) (one_at _ y.last x.last y.its_last x.its_last) y.writes))
 
   -- the two journals, as one
   same_differs : (a : Contents) (place : ℕ) (program : Program) (start : Config) (entries : List Entry) (final : Config) → HasJournal a program start entries final → IsDiffering a place → DiffersAt (verdict_shown program) start entries final place
   same_differs a place program start entries final has x =
-      let program' = same_one x.program program x.has.its_program has.its_program in
-      let start' = same_one x.start start x.has.its_shape has.its_shape in
-      let entries' = same_one x.entries entries x.has.its_journal has.its_journal in
-      let final' = same_one x.final final x.has.its_final has.its_final in
+      let program' = one_at _ x.program program x.has.its_program has.its_program in
+      let start' = one_at _ x.start start x.has.its_shape has.its_shape in
+      let entries' = one_at _ x.entries entries x.has.its_journal has.its_journal in
+      let final' = one_at _ x.final final x.has.its_final has.its_final in
       subst (λ (z : Program × Config × List Entry × Config). DiffersAt (verdict_shown z.0) z.1 z.2 z.3 place) (λ i. (program' i, start' i, entries' i, final' i)) x.differs
 
   not_agreeing : (a : Contents) (place : ℕ) (report : Option Report) (text : List ℕ) → IsDiffering a place → IsTextOf a Replay report text → ⊥

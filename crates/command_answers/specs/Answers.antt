@@ -12,7 +12,7 @@ use Rattle.claim_core.specs.Good.{Good}
 use Rattle.claim_core.specs.Reached.{Reached}
 use Rattle.action_tree.specs.Trees.{Program}
 use Rattle.action_meaning.specs.Verdicts.{verdict_shown}
-use Rattle.document_grammar.specs.Documents.{Contents, Holds}
+use Rattle.document_grammar.specs.Documents.{Contents, HasContents}
 use Rattle.run_sample.specs.Whole.{IsSample}
 use Rattle.command_runs.specs.Reports.{setup, report_text}
 use Rattle.command_runs.specs.Sample.{IsSampleText}
@@ -31,7 +31,7 @@ use Rattle.command_answers.specs.Owed.{IsOwed}
 
 -- it is what the command owes for each whole input that is a document with these contents
 abbrev pub IsAnswerTo : DocumentCommand → Contents → Answer → Type 0
-IsAnswerTo c a answer = (bytes : List ℕ) → Holds (form_of c) bytes a → IsOwed (Some (Document c)) (whole bytes) answer.status answer.report answer.text
+IsAnswerTo c a answer = (bytes : List ℕ) → HasContents (form_of c) bytes a → IsOwed (Some (Document c)) (whole bytes) answer.status answer.report answer.text
 
 -- the line of a refusal
 abbrev pub refused_with : Refusal → Answer
@@ -54,11 +54,11 @@ pub record IsPrepared (a : Contents) (bytes : List ℕ) (program : Program) (sta
 -- what is to be done for a whole input: it is answered, which is never Done of `run`; or it is a document of `run`, and its run is prepared
 abbrev pub IsTaskOf : DocumentCommand → List ℕ → Task → Type 0
 IsTaskOf c bytes (task.Answered answer) = IsOwed (Some (Document c)) (whole bytes) answer.status answer.report answer.text × (c ≡ Run → answer.status ≢ status.Done)
-IsTaskOf c bytes (task.Run run) = (c ≡ Run) × (a : Contents) × Holds (form_of c) bytes a × IsPrepared a bytes run.runner run.world run.lists
+IsTaskOf c bytes (task.Run run) = (c ≡ Run) × (a : Contents) × HasContents (form_of c) bytes a × IsPrepared a bytes run.runner run.world run.lists
 
 -- the same for each whole input that is a document with these contents
 abbrev pub IsTaskTo : DocumentCommand → Contents → Task → Type 0
-IsTaskTo c a t = (bytes : List ℕ) → Holds (form_of c) bytes a → IsTaskOf c bytes t
+IsTaskTo c a t = (bytes : List ℕ) → HasContents (form_of c) bytes a → IsTaskOf c bytes t
 
 -- a run that is prepared is that of a number's sample
 abbrev pub IsPreparedSample : ℕ → Prepared → Type 0

@@ -15,7 +15,7 @@ use Rattle.action_meaning.specs.Verdicts.{verdict_shown}
 use Rattle.run_sample.specs.declared.whole.Sample.{Sample as SampleValue}
 use Rattle.run_sample.specs.Whole.{IsSample}
 use Rattle.document_grammar.specs.declared.section.Form.{Form}
-use Rattle.document_grammar.specs.Documents.{Contents, Holds}
+use Rattle.document_grammar.specs.Documents.{Contents, HasContents}
 use Rattle.command_runs.specs.Laws.{StaysConnectedIn}
 use Rattle.command_runs.specs.Reports.{setup, report_text}
 use Rattle.command_answers.specs.OfSample.{six_lines}
@@ -42,7 +42,7 @@ pub record IsRunOfDocument (form : Form) (bytes : List ℕ) (report : Report) (t
   pub program : Program
   pub start : Config
   pub lists : CallerLists
-  pub document : Holds form bytes contents
+  pub document : HasContents form bytes contents
   pub its_program : contents.checked ≡ Some program
   pub its_shape : contents.world ≡ Some start
   pub its_lists : contents.lists ≡ Some lists

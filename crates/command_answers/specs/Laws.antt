@@ -4,17 +4,20 @@ use Rattle.std.specs.declared.option.Option.{Option}
 use Rattle.std.specs.declared.option.Option.TheVariants.{Some, None}
 use Rattle.claim_core.specs.declared.report.Report.{Report}
 use Rattle.document_grammar.specs.declared.section.Form.TheVariants as form
-use Rattle.document_grammar.specs.Documents.{Contents, Holds}
+use Rattle.document_grammar.specs.Documents.{Contents, HasContents}
 use Rattle.command_runs.specs.Laws.{SameReport}
 use Rattle.command_words.specs.declared.command.Command.{Command}
 use Rattle.command_words.specs.declared.command.Command.TheVariants.{Document, Sample}
 use Rattle.command_words.specs.declared.command.DocumentCommand.{DocumentCommand}
 use Rattle.command_words.specs.declared.command.DocumentCommand.TheVariants.{Run}
+use Rattle.command_answers.specs.declared.answering.Task.{Task}
+use Rattle.command_answers.specs.declared.answering.Task.TheVariants as task
 use Rattle.command_answers.specs.declared.status.Status.{Status}
 use Rattle.command_answers.specs.declared.status.Status.TheVariants as status
 use Rattle.command_answers.specs.Commands.{form_of}
 use Rattle.command_answers.specs.Reads.{Read, nothing, whole}
 use Rattle.command_answers.specs.Owed.{IsOwed}
+use Rattle.command_answers.specs.Answers.{IsTaskOf}
 use Rattle.command_answers.specs.Outcomes.{IsOutcome}
 use Rattle.command_answers.specs.Headline.{MakesTurns, IsRunOfDocument, IsRunOfSample}
 
@@ -27,7 +30,7 @@ SameIfAny (Some one) (Some two) = SameReport one two
 
 -- at most one report may be told: but for `run` of a document with two lists or more, and for `sample`, where it is that of any interleaving
 abbrev pub HasOneReport : Option Command → Read → Type 0
-HasOneReport (Some (Document Run)) (whole bytes) = (a : Contents) → Holds form.Run bytes a → IfSome a.lists (λ lists. length lists.ids ≤ 1)
+HasOneReport (Some (Document Run)) (whole bytes) = (a : Contents) → HasContents form.Run bytes a → IfSome a.lists (λ lists. length lists.ids ≤ 1)
 HasOneReport (Some (Sample seed)) read = ⊥
 HasOneReport c read = ⊤
 
@@ -46,9 +49,20 @@ pub record SameOwed (c : Option Command) (read : Read) (s t : Status) (one two :
 abbrev pub OwedIsOne : Type 0
 OwedIsOne = (c : Option Command) (read : Read) (s t : Status) (one two : Option Report) (text other : List ℕ) → IsOwed c read s one text → IsOwed c read t two other → SameOwed c read s t one two text other
 
+-- tasks that are one, but for the room in a report's journal
+abbrev pub SameTask : Task → Task → Type 0
+SameTask (task.Answered one) (task.Answered two) = (one.status ≡ two.status) × SameIfAny one.report two.report × (one.text ≡ two.text)
+SameTask (task.Answered one) (task.Run two) = ⊥
+SameTask (task.Run one) (task.Answered two) = ⊥
+SameTask (task.Run one) (task.Run two) = one ≡ two
+
+-- for a whole input of a command at most one task is to be done
+abbrev pub TaskIsOne : Type 0
+TaskIsOne = (c : DocumentCommand) (bytes : List ℕ) (one two : Task) → IsTaskOf c bytes one → IsTaskOf c bytes two → SameTask one two
+
 -- what is owed for a document of the command's form is an outcome of it
 abbrev pub DocumentsHaveOutcomes : Type 0
-DocumentsHaveOutcomes = (c : DocumentCommand) (bytes : List ℕ) (a : Contents) (s : Status) (report : Option Report) (text : List ℕ) → Holds (form_of c) bytes a → IsOwed (Some (Document c)) (whole bytes) s report text → IsOutcome a c s report text
+DocumentsHaveOutcomes = (c : DocumentCommand) (bytes : List ℕ) (a : Contents) (s : Status) (report : Option Report) (text : List ℕ) → HasContents (form_of c) bytes a → IsOwed (Some (Document c)) (whole bytes) s report text → IsOutcome a c s report text
 
 -- a report is owed exactly where a command that makes turns is done
 abbrev pub ReportsAreOfTurns : Type 0

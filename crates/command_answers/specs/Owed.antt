@@ -4,7 +4,7 @@ use Rattle.std.specs.declared.option.Option.{Option}
 use Rattle.std.specs.declared.option.Option.TheVariants.{Some, None}
 use Rattle.text_tokens.specs.declared.refusal.Refusal.{Refusal}
 use Rattle.claim_core.specs.declared.report.Report.{Report}
-use Rattle.document_grammar.specs.Documents.{Contents, Holds, IsRefused}
+use Rattle.document_grammar.specs.Documents.{Contents, HasContents, IsRefused}
 use Rattle.document_grammar.specs.declared.section.Form.TheVariants as form
 use Rattle.shipped_programs.specs.declared.shipped.Shipped.{Shipped}
 use Rattle.shipped_programs.specs.Shipped.{tree_of}
@@ -46,9 +46,9 @@ pub data IsOwed : Option Command → Read → Status → Option Report → List 
   -- the whole input is no document of the command's form, and this is its first fault
   refused : (c : DocumentCommand) (bytes : List ℕ) (r : Refusal) → IsRefused (form_of c) bytes r → IsOwed (Some (Document c)) (whole bytes) (status.Refused r) None (refusal_line r)
   -- it is a document of `replay` whose journal differs
-  differs : (bytes : List ℕ) (a : Contents) (place : ℕ) → Holds form.Replay bytes a → IsDiffering a place → IsOwed (Some (Document Replay)) (whole bytes) (status.Differs place) None (differs_line place)
+  differs : (bytes : List ℕ) (a : Contents) (place : ℕ) → HasContents form.Replay bytes a → IsDiffering a place → IsOwed (Some (Document Replay)) (whole bytes) (status.Differs place) None (differs_line place)
   -- it is a document, and the command does what it asks for
-  done : (c : DocumentCommand) (bytes : List ℕ) (a : Contents) (report : Option Report) (text : List ℕ) → Holds (form_of c) bytes a → IsTextOf a c report text → IsOwed (Some (Document c)) (whole bytes) status.Done report text
+  done : (c : DocumentCommand) (bytes : List ℕ) (a : Contents) (report : Option Report) (text : List ℕ) → HasContents (form_of c) bytes a → IsTextOf a c report text → IsOwed (Some (Document c)) (whole bytes) status.Done report text
   -- a shipped program is shown as `check` writes one; nothing is read
   shown : (program : Shipped) → IsOwed (Some (Show program)) nothing status.Done None (check_text (tree_of program))
   -- the sample of a number is run; nothing is read

@@ -1,6 +1,8 @@
 //! What a command answers to a whole input, and what is prepared for a run.
 
-ghost use Rattle.std.specs.Prelude.{◌≡◌, ◌<◌, ◌≤◌, ◌+◌, ◌^◌, length, IfOk, IsSome, Some};
+ghost use Rattle.std.specs.Prelude.{◌≡◌, ◌<◌, ◌≤◌, ◌^◌, length, IfOk, IsSome, Some};
+ghost use Rattle.text_tokens.specs.Text.{IsCountable};
+ghost use Rattle.amoebot_state.specs.Limits.{most_vars};
 ghost use Rattle.claim_core.specs.Good.{Good};
 ghost use Rattle.action_meaning.specs.Verdicts.{verdict_shown};
 ghost use Rattle.document_grammar.specs.Fitting.{Fits};
@@ -56,7 +58,7 @@ pub enum Task {
 
 /// What is to be done for a whole input of a command. Without enough memory that is not known.
 pub fn task_of(alloc: Global, command: DocumentCommand, bytes: &[u8]) -> Result<Task, NoMemory>
-    requires { length bytes.now + 1 < 2 ^ 32 }
+    requires { IsCountable bytes.now }
     ensures { IfOk result (IsTaskOf command bytes.now) }
 {
     documents_fit();
@@ -240,7 +242,7 @@ fn last_shape(world: Option<World>, final_world: Option<World>) -> World
 
 /// The answer that tells a report, where an amoebot has the values of so many variables.
 pub fn answer_report(alloc: Global, report: Report, vars: u8) -> Result<Answer, NoMemory>
-    requires { vars ≤ 8 }
+    requires { vars ≤ most_vars }
     ensures { IfOk result (λ a. a ≡ done_with vars report) }
 {
     let text = print_report(alloc, &report, vars)?;

@@ -1,6 +1,6 @@
 //! What holds of the answers. The functions do nothing: their clauses are the laws.
 
-ghost use Rattle.command_answers.specs.Laws.{DocumentsHaveOutcomes, OwedIsOne, ReportsAreOfDocuments, ReportsAreOfSamples, ReportsAreOfTurns};
+ghost use Rattle.command_answers.specs.Laws.{DocumentsHaveOutcomes, OwedIsOne, ReportsAreOfDocuments, ReportsAreOfSamples, ReportsAreOfTurns, TaskIsOne};
 ghost use Rattle.command_answers.specs.Samples.{SmallAnswers};
 
 use claim_core::{one_list_is_serial, reached_is_good};
@@ -23,6 +23,14 @@ pub fn owed_is_one()
     measure_text_is_one();
     good_stays_connected();
     sample_is_fit();
+}
+
+/// For a whole input of a command at most one task is to be done: one answer, but for the room in its report's journal, or one run.
+pub fn task_is_one()
+    ensures { TaskIsOne }
+{
+    documents_are_decided();
+    owed_is_one();
 }
 
 /// For a document of the command's form it is done; or, for `replay`, the journal differs.

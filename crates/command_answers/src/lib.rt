@@ -10,5 +10,7 @@ pub use answering::{
     Answer, Prepared, Task, answer_report, answer_sample, answer_show, prepare_sample, task_of,
 };
 pub use documents::{form_of, limit_of};
-pub use laws::{documents_have_outcomes, owed_is_one, reports_are_of_runs, small_answers};
+pub use laws::{
+    documents_have_outcomes, owed_is_one, reports_are_of_runs, small_answers, task_is_one,
+};
 pub use status::Status;

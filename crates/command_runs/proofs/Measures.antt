@@ -1,11 +1,24 @@
--- One text of a shape's measures, and that of a shape without amoebots.
-use Rattle.std.proofs.Common.{◌≡◌, ◌<◌, Bool, true, false, refl, sym, ◌∙◌, arith}
-use Rattle.std.proofs.lemmas.Bool.{false≢true}
-use Rattle.std.specs.Prelude.{Decides, codes, length}
+-- One text of a shape's measures, and those of small shapes.
+use Rattle.std.proofs.Common.{◌≡◌, ◌<◌, ℕ, Bool, true, false, refl, sym, ◌∙◌, ap, subst, inl, inr, arith}
+use Rattle.std.proofs.lemmas.Bool.{false≢true, both_ways, cases_Bool}
+use Rattle.std.specs.Prelude.{Decides, IsTrue, codes, length}
 use Rattle.std.specs.Fmt.{digits}
+use Rattle.tri_lattice.specs.declared.node.Node.{Node}
+use Rattle.tri_lattice.specs.Lattice.{step, node_eq}
+use Rattle.tri_lattice.specs.Sets.{IsConnected, Joined, here, along}
+use Rattle.tri_lattice.proofs.Nodes.{node_eq-true, each_direction}
+use Rattle.tri_lattice.proofs.Paths.{Joined-first, Joined-trans, Joined-sym}
+use Rattle.amoebot_state.specs.Configs.{IsValid}
+use Rattle.amoebot_state.specs.Occupied.{occupied}
+use Rattle.amoebot_state.proofs.Faults.{valid_one}
+use Rattle.amoebot_state.proofs.Occupants.{plain_in}
+use Rattle.shape_checks.specs.Hexagons.{IsHexagon}
+use Rattle.shape_checks.specs.Laws.{HexagonsAreConnected, OneAloneIsHexagon}
+use Rattle.small_worlds.specs.Rows.{row, zeros, node, bot_on}
+use Rattle.small_worlds.proofs.Rows.{is_area}
 use Rattle.command_runs.specs.Measure.{IsMeasureText, measure_text}
 use Rattle.command_runs.specs.Laws.{MeasureTextIsOne}
-use Rattle.command_runs.specs.Samples.{nobody}
+use Rattle.command_runs.specs.Samples.{spread, nobody, one_alone, two_apart}
 
 -- two tests of one thing answer alike
 pub same_answer : (P : Type 0) (a b : Bool) → Decides a P → Decides b P → a ≡ b
@@ -29,3 +42,62 @@ nobody_is_measured = record {
   is_hexagon = ((λ e. absurd (false≢true e)), λ h. let none : 0 < 0 = h.some in absurd (omega arith));
   whole = refl;
 }
+
+-- ---- one amoebot alone
+
+one_valid : IsValid one_alone
+one_valid = valid_one row zeros is_area refl (bot_on 1 1) (plain_in row is_area (bot_on 1 1) refl refl (omega arith) refl) refl
+
+pub one_is_measured : HexagonsAreConnected → OneAloneIsHexagon → IsMeasureText one_alone (codes "bots 1\nconnected yes\nhexagon yes\n")
+unfolding digits
+one_is_measured connected one =
+    let h : IsHexagon one_alone = one one_alone (bot_on 1 1) one_valid refl refl in
+    record {
+      connected = true;
+      hexagon = true;
+      is_connected = ((λ e. connected (occupied one_alone) h.centre h.radius h.shape), λ c. refl);
+      is_hexagon = ((λ e. h), λ x. refl);
+      whole = refl;
+    }
+
+-- ---- two with a node between them
+
+no_neighbour : (d : ℕ) → d < 6 → occupied two_apart (step (node 0) d) ≡ false
+no_neighbour = each_direction (λ (d : ℕ). occupied two_apart (step (node 0) d) ≡ false) refl refl refl refl refl refl
+
+-- no path leads away from the first one's node
+stays : {a b : Node} → Joined (occupied two_apart) a b → a ≡ node 0 → b ≡ node 0
+stays (here t) e = e
+stays (along {b = n} t (d, six, is) p) e = absurd (both_ways _ (ap (occupied two_apart) (is ∙ ap (λ (v : Node). step v d) e) ∙ no_neighbour d six) (Joined-first (occupied two_apart) p))
+
+not_connected : IsConnected (occupied two_apart) → ⊥
+not_connected connected = false≢true (ap (node_eq (node 0)) (stays (connected (node 0) (node 2) refl refl) refl))
+
+pub two_are_measured : HexagonsAreConnected → IsMeasureText two_apart (codes "bots 2\nconnected no\nhexagon no\n")
+unfolding digits
+two_are_measured connected = record {
+  connected = false;
+  hexagon = false;
+  is_connected = ((λ e. absurd (false≢true e)), λ c. absurd (not_connected c));
+  is_hexagon = ((λ e. absurd (false≢true e)), λ h. absurd (not_connected (connected (occupied two_apart) h.centre h.radius h.shape)));
+  whole = refl;
+}
+
+-- ---- two that fill the row
+
+to_first : (v : Node) → IsTrue (occupied spread v) → Joined (occupied spread) v (node 0)
+to_first v t = elim (cases_Bool (node_eq (node 0) v)) [
+  | inl e ↦ subst (λ (x : Node). Joined (occupied spread) x (node 0)) (node_eq-true (node 0) v e) (here refl)
+  | inr f ↦ elim (cases_Bool (node_eq (node 1) v)) [
+    | inl e ↦ subst (λ (x : Node). Joined (occupied spread) x (node 0)) (node_eq-true (node 1) v e) (along refl (3, omega arith, refl) (here refl))
+    | inr g ↦ elim (cases_Bool (node_eq (node 2) v)) [
+      | inl e ↦ subst (λ (x : Node). Joined (occupied spread) x (node 0)) (node_eq-true (node 2) v e) (along refl (3, omega arith, refl) (along refl (3, omega arith, refl) (here refl)))
+      | inr h ↦
+          (let none : occupied spread v ≡ false = rw f (rw g (rw h refl)) in
+          absurd (both_ways _ none t))
+    ]
+  ]
+]
+
+pub spread_is_connected : IsConnected (occupied spread)
+spread_is_connected a b s t = Joined-trans (occupied spread) (to_first a s) (Joined-sym (occupied spread) (to_first b t))

@@ -1,5 +1,6 @@
 -- The commands on a small shape, step by step.
-use Rattle.std.proofs.Common.{◌≡◌, ◌<◌, ℕ, zero, suc, List, [], ◌∷◌, length, replicate, get_or, refl, ap, sym, subst, arith}
+use Rattle.std.proofs.Common.{◌≡◌, ◌<◌, ℕ, zero, suc, List, [], ◌∷◌, true, length, replicate, get_or, refl, ap, sym, subst, arith}
+use Rattle.std.specs.Prelude.{codes}
 use Rattle.std.specs.Fmt.{digits}
 use Rattle.std.specs.List.{All}
 use Rattle.std.proofs.lemmas.List.Elements.{All-nil, All-cons}
@@ -14,13 +15,15 @@ use Rattle.claim_core.specs.Turns.{IsList}
 use Rattle.claim_core.specs.Soundness.{IsSetup}
 use Rattle.claim_core.specs.Reached.{HaveEnded, IsReportOf, Reached}
 use Rattle.claim_core.specs.Laws.{ReachedIsGood, OneListIsSerial}
+use Rattle.shape_checks.specs.Laws.{HexagonsAreConnected, OneAloneIsHexagon}
 use Rattle.small_worlds.specs.Rows.{node, two_beside, expanded, one_refused}
 use Rattle.small_worlds.proofs.Rows.{IsThereIn, one_id, may_run, valid, same_ids, one_has_ended, two_have_ended, reached, good}
 use Rattle.command_runs.specs.Reports.{setup}
 use Rattle.command_runs.specs.Run.{IsRunReport}
 use Rattle.command_runs.specs.Interleave.{at_round, IsScheduled}
 use Rattle.command_runs.specs.Replay.{DiffersAt, at_entry, at_end}
-use Rattle.command_runs.proofs.Measures.{nobody_is_measured}
+use Rattle.command_runs.specs.Sample.{IsSampleText}
+use Rattle.command_runs.proofs.Measures.{nobody_is_measured, one_is_measured, two_are_measured, spread_is_connected}
 use Rattle.command_runs.specs.Samples.{start, spread, decides, one_list, expansion, one_expanded, schedule, SmallCommands}
 
 -- the second amoebot expands
@@ -92,9 +95,19 @@ reported goods serials g report ok reached =
     let its_good = goods g ok report reached in
     record { good = its_good; reached = reached; serial = λ few. serials g.verdict g.world g.lists report few its_good }
 
-pub small_commands : ReachedIsGood → OneListIsSerial → SmallCommands
+sampled : IsSampleText decides start one_list 7 one_expanded (codes "sample 7\nbots 2\ncallers 1\nturns 2\nconnected yes\nreplay yes\n")
 unfolding digits
-small_commands goods serials = record {
+sampled = record {
+  connected = true;
+  agrees = true;
+  is_connected = ((λ e. spread_is_connected), λ c. refl);
+  is_run = ((λ e. run), λ r. refl);
+  whole = refl;
+}
+
+pub small_commands : ReachedIsGood → OneListIsSerial → HexagonsAreConnected → OneAloneIsHexagon → SmallCommands
+unfolding digits
+small_commands goods serials connected one = record {
   run = reported goods serials (setup decides start one_list) one_expanded one_may_run one_reached;
   two_lists = reported goods serials two_beside one_refused may_run reached;
   text = refl;
@@ -106,4 +119,7 @@ small_commands goods serials = record {
   check_text = refl;
   differs_line = refl;
   measure = nobody_is_measured;
+  hexagon = one_is_measured connected one;
+  apart = two_are_measured connected;
+  sample = sampled;
 }

@@ -16,6 +16,7 @@ use Rattle.command_runs.specs.Run.{IsRunReport}
 use Rattle.command_runs.specs.Interleave.{IsInterleaveReport}
 use Rattle.command_runs.specs.Replay.{Agrees, DiffersAt, agrees_line, differs_line}
 use Rattle.command_runs.specs.Measure.{IsMeasureText}
+use Rattle.command_runs.specs.Sample.{IsSampleText}
 
 -- the shape at the start, and the one in which the second amoebot has expanded
 abbrev pub start : Config
@@ -60,6 +61,13 @@ counting_checked =
 abbrev pub nobody : Config
 nobody = config_of row zeros []
 
+-- with one amoebot alone, and with two that have a node between them
+abbrev pub one_alone : Config
+one_alone = config_of row zeros (bot_on 1 1 ∷ [])
+
+abbrev pub two_apart : Config
+two_apart = row_with (bot_on 2 2)
+
 pub record SmallCommands : Type 0 where
   pub run : IsRunReport decides start one_list one_expanded
   -- a run of two lists may leave what an interleaving of them leaves
@@ -74,3 +82,7 @@ pub record SmallCommands : Type 0 where
   pub check_text : check_text counting ≡ counting_checked
   pub differs_line : differs_line 0 ≡ codes "differs 0\n"
   pub measure : IsMeasureText nobody (codes "bots 0\nconnected yes\nhexagon no\n")
+  pub hexagon : IsMeasureText one_alone (codes "bots 1\nconnected yes\nhexagon yes\n")
+  pub apart : IsMeasureText two_apart (codes "bots 2\nconnected no\nhexagon no\n")
+  -- the six lines, as if the run of one list were that of a number's sample
+  pub sample : IsSampleText decides start one_list 7 one_expanded (codes "sample 7\nbots 2\ncallers 1\nturns 2\nconnected yes\nreplay yes\n")

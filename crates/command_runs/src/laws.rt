@@ -9,6 +9,7 @@ use claim_core::{
     one_list_is_serial, reached_is_good, serial_run_is_determined, state_has_one_report,
 };
 use serial_model::{first_no_step_is_unique, run_has_only_steps};
+use shape_checks::hexagon_laws;
 
 /// A document of `run` with at most one list has at most one report, and one text.
 pub fn run_text_is_one()
@@ -56,10 +57,11 @@ pub fn good_stays_connected()
     guarded_runs_stay_connected();
 }
 
-/// Reports of the commands on a small shape, of one list and of two, and journals that agree and differ.
+/// Reports of the commands on a small shape, of one list and of two, journals that agree and differ, and texts of measures and of a sample.
 pub fn small_commands()
     ensures { SmallCommands }
 {
     reached_is_good();
     one_list_is_serial();
+    hexagon_laws();
 }

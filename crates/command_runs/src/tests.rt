@@ -2,6 +2,7 @@
 
 ghost use Rattle.std.specs.Prelude.{◌<◌, ◌≤◌, length, IfOk};
 ghost use Rattle.std.specs.List.{All};
+ghost use Rattle.amoebot_state.specs.Limits.{most_bots, most_vars};
 ghost use Rattle.amoebot_state.specs.Refusals.{IsPlain};
 
 use crate::{compare, print_agrees, print_differs, print_report, run_interleaved};
@@ -39,7 +40,7 @@ fn interleaved<D: Decider>(
     lists: (u32, &[&[u16]]),
     schedule: &str,
 ) -> Result<Report, Fail>
-    requires few { length bots.now ≤ 4096 }
+    requires few { length bots.now ≤ most_bots }
     requires plain { All IsPlain bots.now }
     requires text { length schedule.now < 1000 }
 {
@@ -59,9 +60,9 @@ fn text_of<D: Decider>(
     schedule: &str,
     vars: u8,
 ) -> Result<text_tokens::Text, Fail>
-    requires few { length bots.now ≤ 4096 }
+    requires few { length bots.now ≤ most_bots }
     requires plain { All IsPlain bots.now }
-    requires vars { vars ≤ 8 }
+    requires vars { vars ≤ most_vars }
     requires text { length schedule.now < 1000 }
 {
     let report = interleaved(alloc, decider, bots, lists, schedule)?;

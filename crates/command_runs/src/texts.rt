@@ -1,5 +1,6 @@
 ghost use Rattle.std.specs.Prelude.{◌≡◌, ◌≤◌, ◌∷◌, ◌++◌, [], IfOk, OnOk};
 ghost use Rattle.text_tokens.specs.Lines.{line_text};
+ghost use Rattle.amoebot_state.specs.Limits.{most_vars};
 ghost use Rattle.command_runs.specs.Check.{check_text};
 ghost use Rattle.command_runs.specs.Measure.{yes_or_no};
 ghost use Rattle.command_runs.specs.Replay.{agrees_line, differs_line};
@@ -17,7 +18,7 @@ use text_tokens::{Lines, Text};
 
 /// The text of a run: the sections `journal`, `final` and `turns`, where an amoebot has the values of so many variables, at most 8.
 pub fn print_report(alloc: Global, report: &Report, vars: u8) -> Result<Text, NoMemory>
-    requires { vars ≤ 8 }
+    requires { vars ≤ most_vars }
     ensures { IfOk result (λ text. text ≡ report_text vars report.now) }
 {
     let mut lines = Lines::new(alloc);

@@ -18,22 +18,24 @@ use Rattle.text_tokens.specs.declared.refusal.RefusalKind.TheVariants.{Trailing}
 use Rattle.text_tokens.proofs.Blanks.{point}
 use Rattle.text_tokens.proofs.Tokenizing.{tokens_of_text}
 use Rattle.amoebot_state.specs.declared.verdict.Entry.{Entry}
+use Rattle.amoebot_state.specs.Limits.{most_vars}
 use Rattle.amoebot_state.specs.Configs.{Config}
+use Rattle.claim_core.specs.Limits.{most_turns, most_ids}
 use Rattle.claim_core.specs.Turns.{CallerLists, HaveBots}
 use Rattle.action_tree.specs.Trees as tree
-use Rattle.action_tree.specs.Limits.{most_vars, most_actions}
+use Rattle.action_tree.specs.Limits.{most_actions}
 use Rattle.action_grammar.specs.Programs.{IsProgram}
 use Rattle.action_check.specs.Faults.{faults}
-use Rattle.journal_text.specs.Journals.{most_entries, past_entries, ids_of, ids_of_pair, is_known, wrong, Written, IsEntry, IsJournal}
+use Rattle.journal_text.specs.Journals.{past_entries, ids_of, ids_of_pair, is_known, wrong, Written, IsEntry, IsJournal}
 use Rattle.shape_text.specs.Shapes.{IsShapeUnder}
-use Rattle.schedule_text.specs.Lists.{most_ids, past_ids, IsId, AreIds, IsCallerList, IsLists}
+use Rattle.schedule_text.specs.Lists.{past_ids, IsId, AreIds, IsCallerList, IsLists}
 use Rattle.schedule_text.specs.Schedules.{most_steps, past_callers, Stretch, steps_in, IsStretch, IsSchedule}
 use Rattle.document_grammar.specs.declared.section.Form.{Form}
 use Rattle.document_grammar.specs.declared.section.Form.TheVariants.{Run, Interleave, Replay, Check, Measure}
 use Rattle.document_grammar.specs.Frame.{Course, ends, needs, may, may_schedule, may_lists, behind_journal, course_of, IsRest}
 use Rattle.document_grammar.specs.declared.section.Section.TheVariants as section
 use Rattle.document_grammar.specs.FrameLaws.{Plain}
-use Rattle.document_grammar.specs.Documents.{Contents, nothing_yet, vars_of, actions_of, maxes_in, bots_of, first_in, IsCheckedProgram, Body, IsDocument, Holds}
+use Rattle.document_grammar.specs.Documents.{Contents, nothing_yet, vars_of, actions_of, maxes_in, bots_of, first_in, IsCheckedProgram, Body, IsDocument, HasContents}
 use Rattle.document_grammar.specs.Fitting.{HasSections, AreTogether, AreOf, FitTogether, Fits, DocumentsFit}
 use Rattle.document_grammar.proofs.Fine.{Fine, both_of, made_of, step_of, closed_of, judged_of, nothing_of, either_of, one_of, numeral_of, all_of, counted_of, at_most_of}
 use Rattle.document_grammar.proofs.Plainness.{plain, forms_are_distinct}
@@ -136,7 +138,7 @@ known_by line false b e = absurd cc
 
 module _ (bots actions vars : ℕ) where
   pub record EntryFits (n : ℕ) (e : Entry) : Type 0 where
-    pub room : n < most_entries
+    pub room : n < most_turns
     pub known : is_known bots actions e ≡ true
 
   entry_fits : (n : ℕ) (e : Entry) → Fine (IsEntry bots actions vars n) e → EntryFits n e
@@ -146,7 +148,7 @@ module _ (bots actions vars : ℕ) where
       let j = judged_of m.before in
       let word = made_of (both_of j.0).before in
       record {
-        room = room_by n most_entries (nat_lt n most_entries) refl (one_of word.before);
+        room = room_by n most_turns (nat_lt n most_turns) refl (one_of word.before);
         known = subst (λ (e : Entry). is_known bots actions e ≡ true) m.same (known_by w.line (w.place == n) (is_known bots actions w.entry) j.1);
       }
 
@@ -159,7 +161,7 @@ module _ (bots actions vars : ℕ) where
   journal_fits es f =
       let entries = closed_of (both_of f).behind in
       record {
-        few = counted_of (λ n. IsEntry bots actions vars n) most_entries (λ n e g. (entry_fits n e g).room) es entries;
+        few = counted_of (λ n. IsEntry bots actions vars n) most_turns (λ n e g. (entry_fits n e g).room) es entries;
         there = all_of (λ (e : Entry). e.bot < bots) (λ n e g. bot_known e (entry_fits n e g).known) entries;
         known = all_of (λ (e : Entry). is_known bots actions e ≡ true) (λ n e g. (entry_fits n e g).known) entries;
       }

@@ -16,7 +16,7 @@ use Rattle.text_tokens.proofs.Following.{law_then}
 use Rattle.text_tokens.proofs.Beginnings.{begins_tokens, front_token}
 use Rattle.text_tokens.proofs.Parts.{nil_not, part_nothing, part_behind}
 use Rattle.text_tokens.proofs.Choosing.{law_choose, law_branch, law_refuse, law_stop}
-use Rattle.text_tokens.proofs.Distinguishing.{sample, a_token, a_numeral}
+use Rattle.text_tokens.proofs.Distinguishing.{passing, a_token, a_numeral}
 use Rattle.text_tokens.proofs.Obeying.{exact_law, input_law}
 use Rattle.document_grammar.specs.declared.section.Section.{Section}
 use Rattle.document_grammar.specs.declared.section.Section.TheVariants.{Program, Shape, Lists, Schedule, Journal, Final, Turns}
@@ -44,7 +44,7 @@ same_way (may j c d) k t u e f =
 
 -- a section word that comes nowhere
 abbrev head : Lexeme
-head = sample Word (codes "amoebot")
+head = passing Word (codes "amoebot")
 
 head_is : is_section_word head ≡ true
 unfolding same_kind

@@ -33,7 +33,7 @@ use Rattle.document_grammar.specs.declared.section.Section.TheVariants.{Program,
 use Rattle.document_grammar.specs.declared.section.Form.TheVariants.{Run, Replay}
 use Rattle.document_grammar.specs.Frame.{Course, ends, needs, may, may_schedule, may_lists, behind_journal, course_of, IsRest, IsHeader}
 use Rattle.document_grammar.specs.FrameLaws.{Plain}
-use Rattle.document_grammar.specs.Documents.{Contents, nothing_yet, vars_of, actions_of, maxes_in, bots_of, Body, IsDocument, Holds}
+use Rattle.document_grammar.specs.Documents.{Contents, nothing_yet, vars_of, actions_of, maxes_in, bots_of, Body, IsDocument, HasContents}
 use Rattle.document_grammar.specs.RunTexts.{run_text, KeepsRunLimits, RunsAreReplayed}
 use Rattle.document_grammar.proofs.Plainness.{plain, forms_are_distinct}
 use Rattle.document_grammar.proofs.Continuing.{feed_last, tokens_on, EndsInFeed}
@@ -133,7 +133,7 @@ module _ (a : Contents) (es : List Entry) (c : Config) (m : MarkLists) (k : Keep
   text_is : run_text vars es c m ≡ lines_text lines
   text_is = sym (texts_add_up.lines of_journal (of_final ++ of_turns) ∙ ap (λ (bs : List ℕ). lines_text of_journal ++ bs) (texts_add_up.lines of_final of_turns))
 
-  module _ (bytes : List ℕ) (fed : EndsInFeed bytes) (holds : Holds Run bytes a) where
+  module _ (bytes : List ℕ) (fed : EndsInFeed bytes) (holds : HasContents Run bytes a) where
     abbrev both : List ℕ
     both = bytes ++ lines_text lines
 
@@ -161,11 +161,11 @@ module _ (a : Contents) (es : List Entry) (c : Config) (m : MarkLists) (k : Keep
     replay_input : IsInput (IsDocument Replay) Trailing has.last (ts ++ has.tokens) whole
     replay_input = record { text = record { us = ts ++ has.tokens; parts = sym (append-nil (ts ++ has.tokens)); whole = replay_whole; stops = none_stops (IsDocument Replay) (ts ++ has.tokens) }; ends = has.whole }
 
-    replayed_lines : Holds Replay both whole
+    replayed_lines : HasContents Replay both whole
     replayed_lines = says_of Replay both (Ok whole) (ts ++ has.tokens) has.last (tokens_on bytes (lines_text lines) fed 0 ts has.tokens end has.last (omega arith) (tokens_of_text bytes) input.ends has.are) replay_input
 
-    replayed : Holds Replay (bytes ++ run_text vars es c m) whole
-    replayed = subst (λ (text : List ℕ). Holds Replay (bytes ++ text) whole) (sym text_is) replayed_lines
+    replayed : HasContents Replay (bytes ++ run_text vars es c m) whole
+    replayed = subst (λ (text : List ℕ). HasContents Replay (bytes ++ text) whole) (sym text_is) replayed_lines
 
 pub runs_are_replayed : RunsAreReplayed
 runs_are_replayed bytes a es c m (front, e) holds k = replayed a es c m k bytes (subst EndsInFeed (sym e) (feed_last front)) holds

@@ -89,8 +89,8 @@ abbrev pub IsDocument : Form → Lang Contents
 IsDocument form = IsInFrame Body (course_of form) nothing_yet
 
 -- the bytes are a document of the form that has this
-abbrev pub Holds : Form → List ℕ → Contents → Type 0
-Holds form bytes a = (ts : List Lexeme) (last : Refusal) → AreTokens bytes 0 ts last → IsInput (IsDocument form) Trailing last ts a
+abbrev pub HasContents : Form → List ℕ → Contents → Type 0
+HasContents form bytes a = (ts : List Lexeme) (last : Refusal) → AreTokens bytes 0 ts last → IsInput (IsDocument form) Trailing last ts a
 
 -- they are none, and this is their first fault
 abbrev pub IsRefused : Form → List ℕ → Refusal → Type 0
@@ -100,7 +100,7 @@ IsRefused form bytes r = (ts : List Lexeme) (last : Refusal) → AreTokens bytes
 
 -- Of any bytes one thing holds: they are a document of the form, which has one thing, or they have one first fault.
 abbrev pub Says : Form → List ℕ → Result Contents Refusal → Type 0
-Says form bytes (Ok a) = Holds form bytes a
+Says form bytes (Ok a) = HasContents form bytes a
 Says form bytes (Err r) = IsRefused form bytes r
 
 pub record IsDecided (form : Form) : Type 0 where

@@ -3,13 +3,15 @@ use Rattle.std.specs.Prelude.{◌≡◌, ◌<◌, ◌≤◌, ℕ, true, List, []
 use Rattle.std.specs.Option.{IfSome, IsSome}
 use Rattle.std.specs.List.{All}
 use Rattle.amoebot_state.specs.declared.verdict.Entry.{Entry}
+use Rattle.amoebot_state.specs.Limits.{most_vars}
+use Rattle.claim_core.specs.Limits.{most_turns}
 use Rattle.claim_core.specs.Turns.{HaveBots}
-use Rattle.action_tree.specs.Limits.{most_vars, most_actions}
+use Rattle.action_tree.specs.Limits.{most_actions}
 use Rattle.action_check.specs.Faults.{faults}
-use Rattle.journal_text.specs.Journals.{most_entries, is_known}
+use Rattle.journal_text.specs.Journals.{is_known}
 use Rattle.document_grammar.specs.declared.section.Form.{Form}
 use Rattle.document_grammar.specs.declared.section.Form.TheVariants.{Run, Interleave, Replay, Check, Measure}
-use Rattle.document_grammar.specs.Documents.{Contents, vars_of, actions_of, maxes_in, bots_of, callers_of, Holds}
+use Rattle.document_grammar.specs.Documents.{Contents, vars_of, actions_of, maxes_in, bots_of, callers_of, HasContents}
 
 -- ---- which sections there are
 
@@ -34,7 +36,7 @@ pub record AreTogether (a : Contents) : Type 0 where
 
 -- so many entries as there may be, of such amoebots and actions
 pub record AreOf (bots actions : ℕ) (es : List Entry) : Type 0 where
-  pub few : length es ≤ most_entries
+  pub few : length es ≤ most_turns
   pub there : All (λ e. e.bot < bots) es
   pub known : All (λ e. is_known bots actions e ≡ true) es
 
@@ -59,4 +61,4 @@ pub record Fits (form : Form) (a : Contents) : Type 0 where
 
 -- what a document of a form has fits together
 abbrev pub DocumentsFit : Type 0
-DocumentsFit = (form : Form) (bytes : List ℕ) (a : Contents) → Holds form bytes a → Fits form a
+DocumentsFit = (form : Form) (bytes : List ℕ) (a : Contents) → HasContents form bytes a → Fits form a

@@ -2,15 +2,16 @@
 use Rattle.std.specs.Prelude.{◌≡◌, ◌<◌, ◌≤◌, ◌^◌, ℕ, List, ◌++◌, Some, length, codes}
 use Rattle.std.specs.List.{All}
 use Rattle.amoebot_state.specs.declared.verdict.Entry.{Entry}
+use Rattle.amoebot_state.specs.Limits.{most_vars}
 use Rattle.amoebot_state.specs.Configs.{Config}
+use Rattle.claim_core.specs.Limits.{most_callers, most_turns}
 use Rattle.claim_core.specs.Turns.{MarkLists}
-use Rattle.journal_text.specs.Journals.{most_entries}
 use Rattle.journal_text.specs.Texts.{journal_text, turns_text}
 use Rattle.journal_text.specs.Rereading.{KeepsLimits, AreWritable}
 use Rattle.shape_text.specs.Texts.{shape_text}
 use Rattle.shape_text.specs.Rereading.{IsWritable}
 use Rattle.document_grammar.specs.declared.section.Form.TheVariants.{Run, Replay}
-use Rattle.document_grammar.specs.Documents.{Contents, vars_of, actions_of, maxes_in, bots_of, Holds}
+use Rattle.document_grammar.specs.Documents.{Contents, vars_of, actions_of, maxes_in, bots_of, HasContents}
 
 -- the text of a run: its journal, its last shape and its turns, of so many variables
 abbrev pub run_text : ℕ → List Entry → Config → MarkLists → List ℕ
@@ -19,14 +20,14 @@ run_text vars entries last marks = journal_text vars entries ++ (shape_text (cod
 -- What a run of a document leaves breaks no limit: its entries are known and few enough, its last configuration is one that a world has, with the maxima of the
 -- program, and its marks have numbers of at most nine digits.
 pub record KeepsRunLimits (a : Contents) (es : List Entry) (c : Config) (m : MarkLists) : Type 0 where
-  pub vars : vars_of a.checked ≤ 8
+  pub vars : vars_of a.checked ≤ most_vars
   pub actions : actions_of a.checked < 2 ^ 8
   pub bots : bots_of a.world < 2 ^ 16
-  pub few : length es ≤ most_entries
+  pub few : length es ≤ most_turns
   pub entries : All (KeepsLimits (bots_of a.world) (actions_of a.checked) (vars_of a.checked)) es
   pub last : IsWritable (vars_of a.checked) c
   pub maxes : c.maxes ≡ maxes_in a.checked
-  pub callers : length m.marks ≤ 16
+  pub callers : length m.marks ≤ most_callers
   pub marks : All AreWritable m.marks
 
 -- the last byte is a line feed
@@ -35,5 +36,5 @@ EndsLine bytes = (front : List ℕ) × (bytes ≡ front ++ codes "\n")
 
 -- such a document, followed by such a text, has the run's entries and its last configuration besides what it had
 abbrev pub RunsAreReplayed : Type 0
-RunsAreReplayed = (bytes : List ℕ) (a : Contents) (entries : List Entry) (last : Config) (marks : MarkLists) → EndsLine bytes → Holds Run bytes a → KeepsRunLimits a entries last marks
-    → Holds Replay (bytes ++ run_text (vars_of a.checked) entries last marks) (record a { entries = Some entries; final_world = Some last })
+RunsAreReplayed = (bytes : List ℕ) (a : Contents) (entries : List Entry) (last : Config) (marks : MarkLists) → EndsLine bytes → HasContents Run bytes a → KeepsRunLimits a entries last marks
+    → HasContents Replay (bytes ++ run_text (vars_of a.checked) entries last marks) (record a { entries = Some entries; final_world = Some last })

@@ -13,7 +13,7 @@ use Rattle.text_tokens.proofs.Parts.{part_judged}
 use Rattle.text_tokens.proofs.Beginnings.{starts_judged, starts_either}
 use Rattle.text_tokens.proofs.Repeating.{at_most_elements, part_repeated}
 use Rattle.text_tokens.proofs.Distinguishing.{other_text, starts_numeral, not_either}
-use Rattle.text_tokens.proofs.Joining.{behind, into, one_of_two, starts_behind, starts_into}
+use Rattle.text_tokens.proofs.Joining.{one_behind, into, one_of_two, starts_behind, starts_into}
 use Rattle.amoebot_state.specs.declared.bot.Port.{Port}
 use Rattle.amoebot_state.specs.declared.cell.CellName.{CellName}
 use Rattle.amoebot_state.specs.declared.cell.CellName.TheVariants as name
@@ -22,7 +22,7 @@ use Rattle.amoebot_state.specs.declared.cell.Cell.TheVariants as cell
 use Rattle.amoebot_state.specs.declared.verdict.Moved.{Moved}
 use Rattle.amoebot_state.specs.declared.verdict.Moved.TheVariants as moved
 use Rattle.journal_text.specs.Parts.{word, is_end, IsWord, IsNumber, IsNode}
-use Rattle.journal_text.specs.Journals.{IsPortBehind, IsEndBehind, IsMovedBy, IsContracted, IsMoved, is_spot, is_body, is_cell, IsCell, IsOccupant, IsValueOf, a_pair_of, IsPair, is_entry, numbers_of, AreNumbers, Written, written_of, past_entries, IsEntryWord, IsWritten, wrong, IsEntry, one_more, AreEntries, IsJournal}
+use Rattle.journal_text.specs.Journals.{IsPortBehind, IsEndBehind, IsMovedBy, IsContracted, IsMoved, is_spot, is_body, is_cell, IsCellText, IsOccupant, IsValueOf, a_pair_of, IsPair, is_entry, numbers_of, AreNumbers, Written, written_of, past_entries, IsEntryWord, IsWritten, wrong, IsEntry, one_more, AreEntries, IsJournal}
 use Rattle.journal_text.specs.Readers.{a_word, port_behind, end_behind, moved_by, a_contraction, a_movement, a_cell, an_occupant, a_value, a_pair, pair_in, all_pairs, the_numbers, entry_word, written, an_entry, entries_from, journal}
 use Rattle.journal_text.proofs.PartLaws.{up_to_end, starts_word, part_word, part_word_within, starts_word_within, part_number, starts_means, number_no_word, part_end, part_node, part_port, part_bot}
 
@@ -30,11 +30,11 @@ use Rattle.journal_text.proofs.PartLaws.{up_to_end, starts_word, part_word, part
 
 part_port_behind : (text : List ℕ) → IsPart (IsWord text) (a_word text) always → IsPart (IsPortBehind text) (port_behind text) always
 unfolding port_behind
-part_port_behind text w = behind w (λ line. part_port)
+part_port_behind text w = one_behind w (λ line. part_port)
 
 part_end_behind : (text : List ℕ) → IsPart (IsWord text) (a_word text) always → IsPart (IsEndBehind text) (end_behind text) always
 unfolding end_behind
-part_end_behind text w = behind w (λ line. part_end)
+part_end_behind text w = one_behind w (λ line. part_end)
 
 part_moved_by : (text : List ℕ) (make : Port → Moved) → IsPart (IsWord text) (a_word text) always → IsPart (IsMovedBy text make) (moved_by text make) always
 part_moved_by text make w = into make (part_port_behind text w)
@@ -120,14 +120,14 @@ starts_spot = starts_word (codes "spot") (λ line. into (λ v. name.Spot v) part
 starts_body : Starts BodyCell is_body no_limit
 starts_body = starts_word (codes "body") (λ line. into (λ id. name.Body id) part_number)
 
-pub part_cell : IsPart IsCell a_cell always
+pub part_cell : IsPart IsCellText a_cell always
 unfolding a_cell
 part_cell = one_of_two starts_spot starts_body
     (λ t e. other_text Word (codes "body") (codes "spot") t refl e)
-    (behind (part_word (codes "spot") refl) (λ line. into (λ v. name.Spot v) part_node))
-    (behind (part_word (codes "body") refl) (λ line. into (λ id. name.Body id) part_number))
+    (one_behind (part_word (codes "spot") refl) (λ line. into (λ v. name.Spot v) part_node))
+    (one_behind (part_word (codes "body") refl) (λ line. into (λ id. name.Body id) part_number))
 
-starts_cell : Starts IsCell is_cell no_limit
+starts_cell : Starts IsCellText is_cell no_limit
 starts_cell = starts_either SpotCell BodyCell is_spot is_body starts_spot starts_body
 
 part_occupant : IsPart IsOccupant an_occupant always
@@ -148,7 +148,7 @@ module _ (vars : ℕ) where
 
   part_pair : IsPart (IsPair vars) (a_pair vars) always
   unfolding a_pair
-  part_pair = behind part_cell part_made_pair
+  part_pair = one_behind part_cell part_made_pair
 
   starts_pair : Starts (IsPair vars) is_cell no_limit
   starts_pair = starts_behind starts_cell part_made_pair
@@ -172,7 +172,7 @@ module _ (vars : ℕ) where
 
   part_numbers : IsPart AreNumbers the_numbers always
   unfolding the_numbers
-  part_numbers = behind part_number (λ place. behind part_number (λ caller. behind part_number (λ turn. behind part_number (λ bot. into (λ action. numbers_of place caller turn bot action) part_number))))
+  part_numbers = one_behind part_number (λ place. one_behind part_number (λ caller. one_behind part_number (λ turn. one_behind part_number (λ bot. into (λ action. numbers_of place caller turn bot action) part_number))))
 
   abbrev pub BehindWord : ℕ → Lang Written
   BehindWord line = Then AreNumbers (λ n. Then IsMoved (λ m. Made (AtMost 10 (IsPair vars)) (λ pairs. written_of line n m pairs)))
@@ -181,7 +181,7 @@ module _ (vars : ℕ) where
   behind_word line = the_numbers >>= λ n. a_movement >>= λ m. all_pairs vars >>= λ pairs. pure (written_of line n m pairs)
 
   part_behind_word : (line : ℕ) → IsPart (BehindWord line) (behind_word line) no_pair
-  part_behind_word line = behind part_numbers (λ n. behind part_movement (λ m. into (λ pairs. written_of line n m pairs) part_pairs))
+  part_behind_word line = one_behind part_numbers (λ n. one_behind part_movement (λ m. into (λ pairs. written_of line n m pairs) part_pairs))
 
   part_entry_word : (before : ℕ) → IsPart (IsEntryWord before) (entry_word before) always
   unfolding entry_word
@@ -189,7 +189,7 @@ module _ (vars : ℕ) where
 
   part_written : (before : ℕ) → IsPart (IsWritten vars before) (written vars before) no_pair
   unfolding written
-  part_written before = behind (part_entry_word before) part_behind_word
+  part_written before = one_behind (part_entry_word before) part_behind_word
 
   starts_written : (before : ℕ) → Starts (IsWritten vars before) is_entry (past_entries before)
   starts_written before = starts_behind (starts_word_within (codes "entry") (past_entries before)) part_behind_word
@@ -216,7 +216,7 @@ module _ (vars : ℕ) where
 
 pub part_journal : (bots actions vars : ℕ) → IsPart (IsJournal bots actions vars) (journal bots actions vars) always
 unfolding journal
-part_journal bots actions vars = behind (part_word (codes "journal") refl) (λ line. up_to_end (part_entries vars bots actions 0))
+part_journal bots actions vars = one_behind (part_word (codes "journal") refl) (λ line. up_to_end (part_entries vars bots actions 0))
 
 pub exact_journal : (bots actions vars : ℕ) → Exact (IsJournal bots actions vars) (journal bots actions vars)
 exact_journal bots actions vars = exact (IsJournal bots actions vars) (journal bots actions vars) (part_journal bots actions vars).law

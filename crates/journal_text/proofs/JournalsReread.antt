@@ -31,8 +31,9 @@ use Rattle.amoebot_state.specs.declared.verdict.Entry.{Entry}
 use Rattle.amoebot_state.specs.declared.verdict.Moved.{Moved}
 use Rattle.amoebot_state.specs.declared.verdict.Moved.TheVariants as moved
 use Rattle.amoebot_state.specs.Pairs.{Pairs}
-use Rattle.journal_text.specs.Parts.{word, is_minus, is_end, IsWord, Means, IsNumber, IsUpTo, negative, IsInt, a_node_of, IsNode, IsEnd, IsChirality, a_port_of, IsPort, IsValues, memory, a_bot_of, IsBot}
-use Rattle.journal_text.specs.Journals.{IsPortBehind, IsMoved, IsCell, a_pair_of, IsPair, Numbers, numbers_of, AreNumbers, Written, written_of, most_entries, IsEntryWord, IsWritten, ids_of, ids_of_pair, is_known, wrong, IsEntry, one_more as next_place, AreEntries, IsJournal}
+use Rattle.claim_core.specs.Limits.{most_turns}
+use Rattle.journal_text.specs.Parts.{word, is_minus, is_end, IsWord, Means, IsNumber, IsUpTo, negative, IsInt, a_node_of, IsNode, IsEnd, IsChirality, a_port_of, IsPort, IsValues, memory, a_bot_of, IsBotText}
+use Rattle.journal_text.specs.Journals.{IsPortBehind, IsMoved, IsCellText, a_pair_of, IsPair, Numbers, numbers_of, AreNumbers, Written, written_of, IsEntryWord, IsWritten, ids_of, ids_of_pair, is_known, wrong, IsEntry, one_more as next_place, AreEntries, IsJournal}
 use Rattle.journal_text.specs.JournalRows.{Says}
 use Rattle.journal_text.specs.Texts.{node_words, end_word, port_words, chir_word, bot_words, pair_words, moved_words, entry_numbers, entry_words, journal_text}
 use Rattle.journal_text.specs.Rereading.{size, HasCoordinates, HasLimits, IsWritable, IsPossible, KeepsLimits, JournalsReadBack}
@@ -115,7 +116,7 @@ module _ (vars : ℕ) (le : vars ≤ 8) where
       let size : length (take vars b.mem) ≡ vars = length-take-le vars b.mem (let e = l.eight in omega arith) in
       ap (λ n. take vars b.mem ++ replicate (8 - n) 0) size ∙ ap (λ rest. take vars b.mem ++ rest) (sym l.zeros) ∙ take-append-drop vars b.mem
 
-  pub a_bot : (b : Bot) → HasLimits vars b → Rereads (IsBot vars) (Is b) (bot_words vars b)
+  pub a_bot : (b : Bot) → HasLimits vars b → Rereads (IsBotText vars) (Is b) (bot_words vars b)
   a_bot b l =
       let vs = take vars b.mem in
       let same : a_bot_of b.head b.tail b.rot b.chir vs ≡ b = ap (λ (mem : List ℕ). record { head = b.head; tail = b.tail; rot = b.rot; chir = b.chir; mem = mem }) (its_memory b l) in
@@ -150,10 +151,10 @@ the_last_word = the_word _ _ refl refl (omega arith) refl
 
 -- ---- pairs
 
-pub a_spot : (v : Node) → HasCoordinates v → Rereads IsCell (Is (name.Spot v)) (codes "spot" ∷ node_words v)
+pub a_spot : (v : Node) → HasCoordinates v → Rereads IsCellText (Is (name.Spot v)) (codes "spot" ∷ node_words v)
 a_spot v c = rereads_first (codes "spot" ∷ node_words v) (rereads_next (codes "spot" ∷ []) (node_words v) (the_word _ _ refl refl (omega arith) refl) (rereads_as (λ v. name.Spot v) (node_words v) v (a_node v c)))
 
-pub a_body : (id : ℕ) → id < 10 ^ 9 → Rereads IsCell (Is (name.Body id)) (codes "body" ∷ decimal id ∷ [])
+pub a_body : (id : ℕ) → id < 10 ^ 9 → Rereads IsCellText (Is (name.Body id)) (codes "body" ∷ decimal id ∷ [])
 a_body id small = rereads_second (codes "body" ∷ decimal id ∷ []) (rereads_next (codes "body" ∷ []) (decimal id ∷ []) (the_word _ _ refl refl (omega arith) refl) (rereads_as (λ id. name.Body id) (decimal id ∷ []) id (any_number id small)))
 
 module _ (bots vars : ℕ) (few : bots < 2 ^ 16) (le : vars ≤ 8) where
@@ -237,7 +238,7 @@ module _ (bots actions vars : ℕ) (few_bots : bots < 2 ^ 16) (few_actions : act
       let d = and_parts (nat_lt e.bot bots) (list_all (λ id. nat_lt id bots) (flat_map ids_of_pair e.patch)) a.1 in
       record { caller = leb-true e.caller 15 c.0; turn = leb-true e.turn 65535 c.1; action = ltb-true e.action actions b.1; bot = ltb-true e.bot bots d.0; ids = d.1 }
 
-  module _ (before : ℕ) (room : before < most_entries) (e : Entry) (k : KeepsLimits bots actions vars e) where
+  module _ (before : ℕ) (room : before < most_turns) (e : Entry) (k : KeepsLimits bots actions vars e) where
     abbrev its_numbers : Numbers
     its_numbers = numbers_of before e.caller e.turn e.bot e.action
 
@@ -272,7 +273,7 @@ module _ (bots actions vars : ℕ) (few_bots : bots < 2 ^ 16) (few_actions : act
     entry_kind = refl
 
     the_entry_word : Rereads (IsEntryWord before) Any (codes "entry" ∷ [])
-    the_entry_word = rereads_made (λ (t : Lexeme). t.line) (codes "entry" ∷ []) (λ t s. tt) (one_rereads (codes "entry") entry_token (one_found (codes "entry") (the_passes Word (codes "entry") entry_kind refl) (λ t s. not_past before most_entries room)))
+    the_entry_word = rereads_made (λ (t : Lexeme). t.line) (codes "entry" ∷ []) (λ t s. tt) (one_rereads (codes "entry") entry_token (one_found (codes "entry") (the_passes Word (codes "entry") entry_kind refl) (λ t s. not_past before most_turns room)))
 
     the_written : Rereads (IsWritten vars before) (λ w. (w.place ≡ before) × (w.entry ≡ e)) (entry_words vars (before, e))
     the_written = rereads_behind (codes "entry" ∷ []) rest_words the_entry_word the_rest.spelled the_rest.printed (λ line x ts s. found_with vars line its_rest ts (the_rest.read ts s))
@@ -286,7 +287,7 @@ module _ (bots actions vars : ℕ) (few_bots : bots < 2 ^ 16) (few_actions : act
     the_entry : Rereads (IsEntry bots actions vars before) (Is e) (entry_words vars (before, e))
     the_entry = rereads_made (λ (w : Written). w.entry) (entry_words vars (before, e)) (λ w h. h.1) (rereads_judged (wrong bots actions before) (entry_words vars (before, e)) not_wrong the_written)
 
-  the_entries : (before : ℕ) (es : List Entry) → before + length es ≤ most_entries → All (KeepsLimits bots actions vars) es → RereadsLines (AreEntries bots actions vars before) (Is es) (map (entry_words vars) (enumerate_from before es))
+  the_entries : (before : ℕ) (es : List Entry) → before + length es ≤ most_turns → All (KeepsLimits bots actions vars) es → RereadsLines (AreEntries bots actions vars before) (Is es) (map (entry_words vars) (enumerate_from before es))
   the_entries before [] fit all = lines_nothing [] no_more
   the_entries before (e ∷ es) fit all =
       let one : suc before ≡ before + 1 = omega arith in
@@ -298,16 +299,16 @@ module _ (bots actions vars : ℕ) (few_bots : bots < 2 ^ 16) (few_actions : act
   the_first_word : Rereads (IsWord (codes "journal")) Any (codes "journal" ∷ [])
   the_first_word = the_word _ _ refl refl (omega arith) refl
 
-  pub journal_lines : (es : List Entry) → length es ≤ most_entries → All (KeepsLimits bots actions vars) es → RereadsLines (IsJournal bots actions vars) (Is es) ((codes "journal" ∷ []) ∷ map (entry_words vars) (enumerate_from 0 es) ++ (codes "end" ∷ []) ∷ [])
+  pub journal_lines : (es : List Entry) → length es ≤ most_turns → All (KeepsLimits bots actions vars) es → RereadsLines (IsJournal bots actions vars) (Is es) ((codes "journal" ∷ []) ∷ map (entry_words vars) (enumerate_from 0 es) ++ (codes "end" ∷ []) ∷ [])
   journal_lines es fit all =
-      let in_room : 0 + length es ≤ most_entries = omega (arith, fit) in
+      let in_room : 0 + length es ≤ most_turns = omega (arith, fit) in
       let lines = map (entry_words vars) (enumerate_from 0 es) in
       let last = reread_line (codes "end" ∷ []) (rereads_made (λ line. es) (codes "end" ∷ []) (λ line x. refl) the_last_word) in
       let first = reread_line (codes "journal" ∷ []) the_first_word in
       lines_next ((codes "journal" ∷ []) ∷ []) (lines ++ (codes "end" ∷ []) ∷ []) first
       (lines_then lines ((codes "end" ∷ []) ∷ []) es (the_entries 0 es in_room all) last)
 
-  the_journal : (es : List Entry) → length es ≤ most_entries → All (KeepsLimits bots actions vars) es → Says (IsJournal bots actions vars) (journal_text vars es) (Ok es)
+  the_journal : (es : List Entry) → length es ≤ most_turns → All (KeepsLimits bots actions vars) es → Says (IsJournal bots actions vars) (journal_text vars es) (Ok es)
   the_journal es fit all = lines_say (IsJournal bots actions vars) es ((codes "journal" ∷ []) ∷ map (entry_words vars) (enumerate_from 0 es) ++ (codes "end" ∷ []) ∷ []) (journal_lines es fit all)
 
 pub journals_reread : JournalsReadBack

@@ -13,18 +13,18 @@ use Rattle.text_tokens.specs.Lawful.{IsPart, Starts, always}
 use Rattle.text_tokens.proofs.Parts.{part_one, part_closed}
 use Rattle.text_tokens.proofs.Beginnings.{starts_one}
 use Rattle.text_tokens.proofs.Repeating.{part_times}
-use Rattle.text_tokens.proofs.Distinguishing.{sample, passes, kind_is, other_text, a_token, a_numeral, starts_the, starts_numeral}
-use Rattle.text_tokens.proofs.Joining.{behind, into, one_of_two, starts_behind, starts_into}
+use Rattle.text_tokens.proofs.Distinguishing.{passing, passes, kind_is, other_text, a_token, a_numeral, starts_the, starts_numeral}
+use Rattle.text_tokens.proofs.Joining.{one_behind, into, one_of_two, starts_behind, starts_into}
 use Rattle.amoebot_state.specs.declared.bot.Chir.TheVariants.{Plus, Minus}
 use Rattle.amoebot_state.specs.declared.bot.End.TheVariants.{Head, Tail}
-use Rattle.journal_text.specs.Parts.{word, sign, is_minus, is_end, IsWord, Means, IsNumber, IsUpTo, negative, IsInt, a_node_of, IsNode, IsEnd, IsChirality, a_port_of, IsPort, IsValues, a_bot_of, IsBot}
+use Rattle.journal_text.specs.Parts.{word, sign, is_minus, is_end, IsWord, Means, IsNumber, IsUpTo, negative, IsInt, a_node_of, IsNode, IsEnd, IsChirality, a_port_of, IsPort, IsValues, a_bot_of, IsBotText}
 use Rattle.journal_text.specs.Readers.{a_word, a_number, up_to, an_int, a_node, an_end, a_chirality, a_port, values, a_bot}
 
 -- ---- forms
 
 -- a list up to its end
 pub up_to_end : {A : Type 0} {P : Lang A} {p : Reader A} → IsPart P p is_end → IsPart (Closed P is_end) (closed p is_end) always
-up_to_end {P = P} {p = p} part = part_closed P p is_end (sample Word (codes "end")) (passes Word (codes "end") refl) part
+up_to_end {P = P} {p = p} part = part_closed P p is_end (passing Word (codes "end")) (passes Word (codes "end") refl) part
 
 -- a part that begins with this word
 pub starts_word : {B : Type 0} {Q : ℕ → Lang B} {q : ℕ → Reader B} {stop : Lexeme → Bool} (text : List ℕ) → ((line : ℕ) → IsPart (Q line) (q line) stop) → Starts (Then (IsWord text) Q) (word text) no_limit
@@ -37,7 +37,7 @@ part_word text e = a_token Word text e
 
 -- this word, where not too many stand before it, for its line
 pub part_word_within : (text : List ℕ) (over : Lexeme → Option RefusalKind) → bytes_eq text text ≡ true → IsPart (Made (IsOne (word text) over) (λ t. t.line)) (one_within (word text) over >>= λ t. pure t.line) always
-part_word_within text over e = into (λ t. t.line) (part_one (word text) over (sample Word text) (passes Word text e))
+part_word_within text over e = into (λ t. t.line) (part_one (word text) over (passing Word text) (passes Word text e))
 
 pub starts_word_within : (text : List ℕ) (over : Lexeme → Option RefusalKind) → Starts (Made (IsOne (word text) over) (λ t. t.line)) (word text) over
 starts_word_within text over = starts_into (λ t. t.line) (starts_one (word text) over)
@@ -79,20 +79,20 @@ pub part_int : (most : ℕ) → IsPart (IsInt most) (an_int most) always
 unfolding an_int
 part_int most = one_of_two (starts_behind (starts_the is_minus) (λ line. into negative (part_up_to most))) (starts_into (λ n. pos n) (starts_numeral (too_large most BadRange)))
     (λ t e. number_no_sign (codes "-") t e)
-    (behind (a_token Sign (codes "-") refl) (λ line. into negative (part_up_to most)))
+    (one_behind (a_token Sign (codes "-") refl) (λ line. into negative (part_up_to most)))
     (into (λ n. pos n) (part_up_to most))
 
 pub part_node : IsPart IsNode a_node always
 unfolding a_node
-part_node = behind (part_int 9999) (λ x. into (λ y. a_node_of x y) (part_int 9999))
+part_node = one_behind (part_int 9999) (λ x. into (λ y. a_node_of x y) (part_int 9999))
 
 pub part_port : IsPart IsPort a_port always
 unfolding a_port
-part_port = behind part_end (λ end. into (λ dir. a_port_of end dir) (part_up_to 5))
+part_port = one_behind part_end (λ end. into (λ dir. a_port_of end dir) (part_up_to 5))
 
 part_values : (vars : ℕ) → IsPart (IsValues vars) (values vars) always
 part_values vars = part_times (IsUpTo 255) (up_to 255) (part_up_to 255) vars
 
-pub part_bot : (vars : ℕ) → IsPart (IsBot vars) (a_bot vars) always
+pub part_bot : (vars : ℕ) → IsPart (IsBotText vars) (a_bot vars) always
 unfolding a_bot
-part_bot vars = behind part_node (λ head. behind part_node (λ tail. behind (part_up_to 5) (λ rot. behind part_chirality (λ chir. into (λ vs. a_bot_of head tail rot chir vs) (part_values vars)))))
+part_bot vars = one_behind part_node (λ head. one_behind part_node (λ tail. one_behind (part_up_to 5) (λ rot. one_behind part_chirality (λ chir. into (λ vs. a_bot_of head tail rot chir vs) (part_values vars)))))

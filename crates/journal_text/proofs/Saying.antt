@@ -18,10 +18,10 @@ use Rattle.text_tokens.proofs.Respelling.{Is, RereadsLines, lines_found}
 use Rattle.journal_text.specs.JournalRows.{Says}
 
 -- what the reader answers of a text is what the grammar says of it
-abbrev pub IsTold : {A : Type 0} → Lang A → Reader A → Type 0
-IsTold {A} P p = (text : List ℕ) (answer : Result A Refusal) → whole_input Trailing p (last_of (point text 0)) (ahead_of (point text 0)) ≡ answer → Says P text answer
+abbrev pub IsSaid : {A : Type 0} → Lang A → Reader A → Type 0
+IsSaid {A} P p = (text : List ℕ) (answer : Result A Refusal) → whole_input Trailing p (last_of (point text 0)) (ahead_of (point text 0)) ≡ answer → Says P text answer
 
-pub says : {A : Type 0} (P : Lang A) (p : Reader A) → Exact P p → IsTold P p
+pub says : {A : Type 0} (P : Lang A) (p : Reader A) → Exact P p → IsSaid P p
 says {A} P p e text answer same ts last are =
     let one = one_reading text (ahead_of (point text 0)) ts (last_of (point text 0)) last (tokens_of_text text) are in
     subst (λ (l : Refusal). TellsInput P Trailing l ts answer) one.last

@@ -11,11 +11,11 @@ use Rattle.text_tokens.proofs.Exactness.{exact}
 use Rattle.text_tokens.proofs.Parts.{part_the}
 use Rattle.text_tokens.proofs.Beginnings.{starts_either}
 use Rattle.text_tokens.proofs.Repeating.{part_repeated}
-use Rattle.text_tokens.proofs.Distinguishing.{sample, other_text, not_either}
-use Rattle.text_tokens.proofs.Joining.{behind, into, one_of_two}
+use Rattle.text_tokens.proofs.Distinguishing.{passing, other_text, not_either}
+use Rattle.text_tokens.proofs.Joining.{one_behind, into, one_of_two}
 use Rattle.journal_text.specs.Parts.{word, is_end, IsWord, IsNumber}
-use Rattle.journal_text.specs.Journals.{IsCell}
-use Rattle.journal_text.specs.Turns.{Nothing, Unheeded, names_failure, is_failure, IsPlaced, IsFailed, IsClaimant, IsBusy, IsMark, is_turn, IsTurn, as_before, AreTurns, IsTurns}
+use Rattle.journal_text.specs.Journals.{IsCellText}
+use Rattle.journal_text.specs.Turns.{Nothing, Unheeded, names_failure, is_failure, IsPlaced, IsFailed, IsClaimant, IsBusy, IsMark, is_turn, IsTurnLine, as_before, AreTurns, IsTurns}
 use Rattle.journal_text.specs.Readers.{a_word, a_number, unheeded, placed, a_cell, a_failed, a_claimant, a_busy, a_mark, a_turn, turn_in, all_turns, the_turns}
 use Rattle.journal_text.proofs.PartLaws.{up_to_end, starts_word, part_word, part_number}
 use Rattle.journal_text.proofs.JournalLaws.{part_cell}
@@ -25,35 +25,35 @@ part_unheeded = into (λ n. tt) part_number
 
 part_placed : (text : List ℕ) → IsPart (IsWord text) (a_word text) always → IsPart (IsPlaced text) (placed text) always
 unfolding placed
-part_placed text w = behind w (λ line. part_unheeded)
+part_placed text w = one_behind w (λ line. part_unheeded)
 
 starts_placed : (text : List ℕ) → Starts (IsPlaced text) (word text) no_limit
 starts_placed text = starts_word text (λ line. part_unheeded)
 
-passes_failure : is_failure (sample Word (codes "edge")) ≡ true
+passes_failure : is_failure (passing Word (codes "edge")) ≡ true
 unfolding same_kind names_failure
 passes_failure = refl
 
 part_behind_failed : IsPart (Then (IsThe is_failure) (λ line. Unheeded IsNumber)) (the_line is_failure >>= λ line. unheeded a_number) always
-part_behind_failed = behind (part_the is_failure (sample Word (codes "edge")) passes_failure) (λ line. part_unheeded)
+part_behind_failed = one_behind (part_the is_failure (passing Word (codes "edge")) passes_failure) (λ line. part_unheeded)
 
 part_failed : IsPart IsFailed a_failed always
 unfolding a_failed
-part_failed = behind (part_word (codes "failed") refl) (λ line. part_behind_failed)
+part_failed = one_behind (part_word (codes "failed") refl) (λ line. part_behind_failed)
 
 starts_failed : Starts IsFailed (word (codes "failed")) no_limit
 starts_failed = starts_word (codes "failed") (λ line. part_behind_failed)
 
 part_claimant : IsPart IsClaimant a_claimant always
 unfolding a_claimant
-part_claimant = behind (part_word (codes "by") refl) (λ line. behind part_number (λ caller. behind part_number (λ turn. part_unheeded)))
+part_claimant = one_behind (part_word (codes "by") refl) (λ line. one_behind part_number (λ caller. one_behind part_number (λ turn. part_unheeded)))
 
-part_behind_busy : IsPart (Then IsCell (λ c. Then IsClaimant (λ u. IsPlaced (codes "place")))) (a_cell >>= λ c. a_claimant >>= λ u. placed (codes "place")) always
-part_behind_busy = behind part_cell (λ c. behind part_claimant (λ u. part_placed (codes "place") (part_word (codes "place") refl)))
+part_behind_busy : IsPart (Then IsCellText (λ c. Then IsClaimant (λ u. IsPlaced (codes "place")))) (a_cell >>= λ c. a_claimant >>= λ u. placed (codes "place")) always
+part_behind_busy = one_behind part_cell (λ c. one_behind part_claimant (λ u. part_placed (codes "place") (part_word (codes "place") refl)))
 
 part_busy : IsPart IsBusy a_busy always
 unfolding a_busy
-part_busy = behind (part_word (codes "busy") refl) (λ line. part_behind_busy)
+part_busy = one_behind (part_word (codes "busy") refl) (λ line. part_behind_busy)
 
 starts_busy : Starts IsBusy (word (codes "busy")) no_limit
 starts_busy = starts_word (codes "busy") (λ line. part_behind_busy)
@@ -98,17 +98,17 @@ part_mark = one_of_two (starts_placed (codes "done")) starts_last3
 -- ---- the section
 
 part_behind_turn : IsPart (Then IsNumber (λ caller. Then IsNumber (λ turn. IsMark))) (a_number >>= λ caller. a_number >>= λ turn. a_mark) always
-part_behind_turn = behind part_number (λ caller. behind part_number (λ turn. part_mark))
+part_behind_turn = one_behind part_number (λ caller. one_behind part_number (λ turn. part_mark))
 
-part_turn : IsPart IsTurn a_turn always
+part_turn : IsPart IsTurnLine a_turn always
 unfolding a_turn
-part_turn = behind (part_word (codes "turn") refl) (λ line. part_behind_turn)
+part_turn = one_behind (part_word (codes "turn") refl) (λ line. part_behind_turn)
 
-starts_turn : Starts IsTurn is_turn no_limit
+starts_turn : Starts IsTurnLine is_turn no_limit
 starts_turn = starts_word (codes "turn") (λ line. part_behind_turn)
 
 abbrev pub TurnIn : Nothing → Lang Nothing
-TurnIn s = IsTurn
+TurnIn s = IsTurnLine
 
 pub turn_elements : AreElements TurnIn turn_in is_turn always is_end
 turn_elements = record {
@@ -126,7 +126,7 @@ part_turns = part_repeated TurnIn turn_in as_before is_turn always is_end turn_e
 
 pub part_the_turns : IsPart IsTurns the_turns always
 unfolding the_turns
-part_the_turns = behind (part_word (codes "turns") refl) (λ line. up_to_end (into (λ ts. tt) part_turns))
+part_the_turns = one_behind (part_word (codes "turns") refl) (λ line. up_to_end (into (λ ts. tt) part_turns))
 
 pub exact_turns : Exact IsTurns the_turns
 exact_turns = exact IsTurns the_turns part_the_turns.law

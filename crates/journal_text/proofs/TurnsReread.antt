@@ -17,9 +17,9 @@ use Rattle.claim_core.specs.Turns.{MarkLists}
 use Rattle.claim_core.specs.declared.marks.Mark.{Mark}
 use Rattle.claim_core.specs.declared.marks.Mark.TheVariants as mark
 use Rattle.journal_text.specs.Parts.{IsWord, IsNumber}
-use Rattle.journal_text.specs.Journals.{IsCell}
+use Rattle.journal_text.specs.Journals.{IsCellText}
 use Rattle.journal_text.specs.Texts.{cell_words, failure_word, mark_words, turn_words, caller_lines}
-use Rattle.journal_text.specs.Turns.{Nothing, Unheeded, names_failure, is_failure, IsPlaced, IsFailed, IsClaimant, IsBusy, IsMark, IsTurn, as_before, AreTurns, IsTurns}
+use Rattle.journal_text.specs.Turns.{Nothing, Unheeded, names_failure, is_failure, IsPlaced, IsFailed, IsClaimant, IsBusy, IsMark, IsTurnLine, as_before, AreTurns, IsTurns}
 use Rattle.journal_text.specs.Rereading.{IsShort, IsWritableCell, IsClaim, IsWritableMark, AreWritable, TurnsReadBack}
 use Rattle.text_tokens.proofs.Respelling.{Is, Any, Rereads, RereadsLines, IsSpelled, rereads_next, rereads_made, rereads_first, rereads_second, one_found, one_rereads, kind_passes, found_made, more_of, lines_into, lines_behind_line, lines_next, lines_then, lines_made, lines_nothing, reread_line}
 use Rattle.journal_text.proofs.Saying.{lines_say}
@@ -85,7 +85,7 @@ a_failure f = rereads_made (λ (t : Lexeme). t.line) (failure_word f ∷ []) (λ
 failed : (f : Failure) (n : ℕ) → IsShort n → Rereads IsFailed (Is tt) (codes "failed" ∷ failure_word f ∷ decimal n ∷ [])
 failed f n small = rereads_next (codes "failed" ∷ []) (failure_word f ∷ decimal n ∷ []) (the_word _ _ refl refl (omega arith) refl) (rereads_next (failure_word f ∷ []) (decimal n ∷ []) (a_failure f) (a_number n small))
 
-a_cell : (c : CellName) → IsWritableCell c → Rereads IsCell (Is c) (cell_words c)
+a_cell : (c : CellName) → IsWritableCell c → Rereads IsCellText (Is c) (cell_words c)
 a_cell (name.Spot v) h = a_spot v h
 a_cell (name.Body i) h = a_body i h
 
@@ -111,7 +111,7 @@ a_mark (mark.Busy c a b n place) h =
 
 -- ---- turns
 
-a_turn : (caller turn : ℕ) (m : Mark) → IsShort caller → IsShort turn → IsWritableMark m → Rereads IsTurn Any (turn_words caller (turn, m))
+a_turn : (caller turn : ℕ) (m : Mark) → IsShort caller → IsShort turn → IsWritableMark m → Rereads IsTurnLine Any (turn_words caller (turn, m))
 a_turn caller turn m p q h =
     rereads_next (codes "turn" ∷ []) (decimal caller ∷ decimal turn ∷ mark_words m) (the_word _ _ refl refl (omega arith) refl)
     (rereads_next (decimal caller ∷ []) (decimal turn ∷ mark_words m) (any_number caller p)
@@ -120,9 +120,9 @@ a_turn caller turn m p q h =
     any_of : Rereads IsMark (Is tt) (mark_words m) → Rereads IsMark Any (mark_words m)
     any_of r = record { spelled = r.spelled; printed = r.printed; read = λ ts s. (let f = r.read ts s in record { value = f.value; whole = f.whole; holds = tt }) }
 
-one_more_turn : (words : Words) (more : List Words) → Rereads IsTurn Any words → RereadsLines AreTurns Any more → RereadsLines AreTurns Any (words ∷ more)
+one_more_turn : (words : Words) (more : List Words) → Rereads IsTurnLine Any words → RereadsLines AreTurns Any more → RereadsLines AreTurns Any (words ∷ more)
 one_more_turn words more p q =
-    lines_into (words ∷ more) (more_of (λ s. IsTurn) as_before tt)
+    lines_into (words ∷ more) (more_of (λ s. IsTurnLine) as_before tt)
     (lines_behind_line (words ∷ []) more (reread_line words p) q.spelled q.printed (λ u x ts s. found_made (λ (rest : List Nothing). u ∷ rest) (λ rest y. tt) ts (q.read ts s)))
 
 callers_turns : (caller turn : ℕ) (marks : List Mark) → IsShort caller → turn + length marks ≤ 65536 → All IsWritableMark marks → (more : List Words) → RereadsLines AreTurns Any more → RereadsLines AreTurns Any (map (turn_words caller) (enumerate_from turn marks) ++ more)

@@ -29,8 +29,8 @@ abbrev pub at : ℕ → RefusalKind → Refusal
 at line kind = record { line = line; kind = kind }
 
 -- a journal with these entries
-abbrev pub Holds : List ℕ → List Entry → Type 0
-Holds text entries = Says (IsJournal 3 2 1) text (Ok entries)
+abbrev pub Yields : List ℕ → List Entry → Type 0
+Yields text entries = Says (IsJournal 3 2 1) text (Ok entries)
 
 -- a text with this first fault
 abbrev pub Fails : List ℕ → ℕ → RefusalKind → Type 0
@@ -65,14 +65,14 @@ ten_empty_spots = empty_spot ∷ empty_spot ∷ empty_spot ∷ empty_spot ∷ em
 
 pub record JournalsAreRead : Type 0 where
   -- ---- texts
-  pub nothing : Holds (codes "journal end") []
-  pub expand : Holds (codes "journal\nentry 0 0 0 0 0 expand head 5 spot 3 3 0 body 0 3 3 2 3 5 + 255\nend\n") (act 0 0 0 0 (moved.Expand (a_port_of Head 5)) (spot (pos 3) (pos 3) (Some 0) ∷ body 0 (long 5 Plus (255 ∷ [])) ∷ []) ∷ [])
+  pub nothing : Yields (codes "journal end") []
+  pub expand : Yields (codes "journal\nentry 0 0 0 0 0 expand head 5 spot 3 3 0 body 0 3 3 2 3 5 + 255\nend\n") (act 0 0 0 0 (moved.Expand (a_port_of Head 5)) (spot (pos 3) (pos 3) (Some 0) ∷ body 0 (long 5 Plus (255 ∷ [])) ∷ []) ∷ [])
   -- the largest caller, turn, amoebot and action, and the farthest coordinates
-  pub largest : Holds (codes "journal entry 0 15 65535 2 1 contract tail spot -9999 9999 empty spot 0 - 1 2 body 2 3 3 2 3 0 - 0 end")
+  pub largest : Yields (codes "journal entry 0 15 65535 2 1 contract tail spot -9999 9999 empty spot 0 - 1 2 body 2 3 3 2 3 0 - 0 end")
       (act 15 65535 2 1 (moved.Contract Tail) (spot (negsuc 9998) (pos 9999) None ∷ spot (pos 0) (negsuc 0) (Some 2) ∷ body 2 (long 0 Minus (0 ∷ [])) ∷ []) ∷ [])
-  pub movements : Holds (codes "journal entry 0 0 0 0 0 none entry 1 0 1 0 0 push tail 0 entry 2 0 2 0 0 pull head 3 entry 3 0 3 0 0 contract head end")
+  pub movements : Yields (codes "journal entry 0 0 0 0 0 none entry 1 0 1 0 0 push tail 0 entry 2 0 2 0 0 pull head 3 entry 3 0 3 0 0 contract head end")
       (act 0 0 0 0 moved.None [] ∷ act 0 1 0 0 (moved.Push (a_port_of Tail 0)) [] ∷ act 0 2 0 0 (moved.Pull (a_port_of Head 3)) [] ∷ act 0 3 0 0 (moved.Contract Head) [] ∷ [])
-  pub ten_pairs : Holds (codes "journal entry 0 0 0 0 0 none " ++ nine_spots ++ codes "spot 1 1 empty end") (act 0 0 0 0 moved.None ten_empty_spots ∷ [])
+  pub ten_pairs : Yields (codes "journal entry 0 0 0 0 0 none " ++ nine_spots ++ codes "spot 1 1 empty end") (act 0 0 0 0 moved.None ten_empty_spots ∷ [])
   -- no variable, and eight
   pub no_value : Says (IsJournal 3 2 0) (codes "journal entry 0 0 0 0 0 none body 0 3 3 2 3 0 + end") (Ok (act 0 0 0 0 moved.None (body 0 (long 0 Plus []) ∷ []) ∷ []))
   pub eight_values : Says (IsJournal 3 2 8) (codes "journal entry 0 0 0 0 0 none body 0 3 3 2 3 0 + 1 2 3 4 5 6 7 8 end") (Ok (act 0 0 0 0 moved.None (body 0 (long 0 Plus (1 ∷ 2 ∷ 3 ∷ 4 ∷ 5 ∷ 6 ∷ 7 ∷ 8 ∷ [])) ∷ []) ∷ []))

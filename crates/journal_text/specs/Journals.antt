@@ -22,8 +22,11 @@ use Rattle.amoebot_state.specs.declared.cell.Cell.TheVariants as cell
 use Rattle.amoebot_state.specs.declared.verdict.Entry.{Entry}
 use Rattle.amoebot_state.specs.declared.verdict.Moved.{Moved}
 use Rattle.amoebot_state.specs.declared.verdict.Moved.TheVariants as moved
+use Rattle.amoebot_state.specs.Limits.{most_pairs}
 use Rattle.amoebot_state.specs.Pairs.{Pairs, cell_of, cell_value}
-use Rattle.journal_text.specs.Parts.{word, is_end, IsWord, Means, IsNumber, IsNode, IsEnd, IsPort, IsBot}
+use Rattle.claim_core.specs.Limits.{most_turns}
+use Rattle.journal_text.specs.Limits.{last_caller, last_turn}
+use Rattle.journal_text.specs.Parts.{word, is_end, IsWord, Means, IsNumber, IsNode, IsEnd, IsPort, IsBotText}
 
 -- ---- movements
 
@@ -55,8 +58,8 @@ is_body = word (codes "body")
 abbrev pub is_cell : Lexeme → Bool
 is_cell t = is_spot t || is_body t
 
-abbrev pub IsCell : Lang CellName
-IsCell = Either (Then (IsWord (codes "spot")) (λ line. Made IsNode (λ v. name.Spot v))) (Then (IsWord (codes "body")) (λ line. Made IsNumber (λ id. name.Body id)))
+abbrev pub IsCellText : Lang CellName
+IsCellText = Either (Then (IsWord (codes "spot")) (λ line. Made IsNode (λ v. name.Spot v))) (Then (IsWord (codes "body")) (λ line. Made IsNumber (λ id. name.Body id)))
 
 abbrev pub IsOccupant : Lang Cell
 IsOccupant = Either (Means (word (codes "empty")) (cell.Spot None)) (Made IsNumber (λ id. cell.Spot (Some id)))
@@ -64,13 +67,13 @@ IsOccupant = Either (Means (word (codes "empty")) (cell.Spot None)) (Made IsNumb
 -- what a cell holds: an occupant or none, or an amoebot
 abbrev pub IsValueOf : ℕ → CellName → Lang Cell
 IsValueOf vars (name.Spot v) = IsOccupant
-IsValueOf vars (name.Body id) = Made (IsBot vars) (λ b. cell.Body b)
+IsValueOf vars (name.Body id) = Made (IsBotText vars) (λ b. cell.Body b)
 
 abbrev pub a_pair_of : CellName → Cell → CellName × Cell
 a_pair_of c x = (c, x)
 
 abbrev pub IsPair : ℕ → Lang (CellName × Cell)
-IsPair vars = Then IsCell (λ c. Made (IsValueOf vars c) (λ x. a_pair_of c x))
+IsPair vars = Then IsCellText (λ c. Made (IsValueOf vars c) (λ x. a_pair_of c x))
 
 -- ---- entries
 
@@ -100,19 +103,16 @@ pub record Written : Type 0 where
 abbrev pub written_of : ℕ → Numbers → Moved → Pairs → Written
 written_of line n moved pairs = record { line = line; place = n.place; entry = record { caller = n.caller; turn = n.turn; bot = n.bot; action = n.action; moved = moved; patch = pairs } }
 
-abbrev pub most_entries : ℕ
-most_entries = 65536
-
 -- one entry too many, behind so many
 abbrev pub past_entries : ℕ → Lexeme → Option RefusalKind
-past_entries before t = if nat_lt before most_entries then None else Some TooMany
+past_entries before t = if nat_lt before most_turns then None else Some TooMany
 
 -- the word of an entry behind so many, for its line
 abbrev pub IsEntryWord : ℕ → Lang ℕ
 IsEntryWord before = Made (IsOne is_entry (past_entries before)) (λ t. t.line)
 
 abbrev pub IsWritten : ℕ → ℕ → Lang Written
-IsWritten vars before = Then (IsEntryWord before) (λ line. Then AreNumbers (λ n. Then IsMoved (λ m. Made (AtMost 10 (IsPair vars)) (λ pairs. written_of line n m pairs))))
+IsWritten vars before = Then (IsEntryWord before) (λ line. Then AreNumbers (λ n. Then IsMoved (λ m. Made (AtMost most_pairs (IsPair vars)) (λ pairs. written_of line n m pairs))))
 
 -- ---- judgements
 
@@ -135,7 +135,7 @@ ids_of e = e.bot ∷ flat_map ids_of_pair e.patch
 
 -- the caller and the turn are ones that there may be, and there are such an action and such amoebots
 abbrev pub is_known : ℕ → ℕ → Entry → Bool
-is_known bots actions e = nat_le e.caller 15 && nat_le e.turn 65535 && nat_lt e.action actions && list_all (λ id. nat_lt id bots) (ids_of e)
+is_known bots actions e = nat_le e.caller last_caller && nat_le e.turn last_turn && nat_lt e.action actions && list_all (λ id. nat_lt id bots) (ids_of e)
 
 -- what is wrong with an entry behind so many
 abbrev pub wrong : ℕ → ℕ → ℕ → Written → Option Refusal

@@ -1,5 +1,6 @@
 pub mod JournalRows
 pub mod Journals
+pub mod Limits
 pub mod Parts
 pub mod Readers
 pub mod Rereading

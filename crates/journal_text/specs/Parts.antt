@@ -19,6 +19,8 @@ use Rattle.amoebot_state.specs.declared.bot.Chir.TheVariants.{Plus, Minus}
 use Rattle.amoebot_state.specs.declared.bot.End.{End}
 use Rattle.amoebot_state.specs.declared.bot.End.TheVariants.{Head, Tail}
 use Rattle.amoebot_state.specs.declared.bot.Port.{Port}
+use Rattle.amoebot_state.specs.Limits.{most_vars, most_value}
+use Rattle.journal_text.specs.Limits.{most_coordinate}
 
 -- ---- tokens
 
@@ -63,7 +65,7 @@ abbrev pub a_node_of : ℤ → ℤ → Node
 a_node_of x y = record { x = x; y = y }
 
 abbrev pub IsNode : Lang Node
-IsNode = Then (IsInt 9999) (λ x. Made (IsInt 9999) (λ y. a_node_of x y))
+IsNode = Then (IsInt most_coordinate) (λ x. Made (IsInt most_coordinate) (λ y. a_node_of x y))
 
 abbrev pub IsEnd : Lang End
 IsEnd = Either (Means (word (codes "head")) Head) (Means (word (codes "tail")) Tail)
@@ -79,14 +81,14 @@ IsPort = Then IsEnd (λ end. Made (IsUpTo 5) (λ dir. a_port_of end dir))
 
 -- a value for each variable
 abbrev pub IsValues : ℕ → Lang (List ℕ)
-IsValues vars = Times (IsUpTo 255) vars
+IsValues vars = Times (IsUpTo most_value) vars
 
 -- a memory begins with these values, and has 0 past them
 abbrev pub memory : List ℕ → List ℕ
-memory values = values ++ replicate (8 - length values) 0
+memory values = values ++ replicate (most_vars - length values) 0
 
 abbrev pub a_bot_of : Node → Node → ℕ → Chir → List ℕ → Bot
 a_bot_of head tail rot chir values = record { head = head; tail = tail; rot = rot; chir = chir; mem = memory values }
 
-abbrev pub IsBot : ℕ → Lang Bot
-IsBot vars = Then IsNode (λ head. Then IsNode (λ tail. Then (IsUpTo 5) (λ rot. Then IsChirality (λ chir. Made (IsValues vars) (λ values. a_bot_of head tail rot chir values)))))
+abbrev pub IsBotText : ℕ → Lang Bot
+IsBotText vars = Then IsNode (λ head. Then IsNode (λ tail. Then (IsUpTo 5) (λ rot. Then IsChirality (λ chir. Made (IsValues vars) (λ values. a_bot_of head tail rot chir values)))))

@@ -18,7 +18,9 @@ use Rattle.amoebot_state.specs.declared.cell.Cell.TheVariants as cell
 use Rattle.amoebot_state.specs.declared.verdict.Entry.{Entry}
 use Rattle.amoebot_state.specs.declared.verdict.Moved.{Moved}
 use Rattle.amoebot_state.specs.declared.verdict.Moved.TheVariants as moved
+use Rattle.amoebot_state.specs.Limits.{most_value, most_pairs}
 use Rattle.amoebot_state.specs.Pairs.{Pairs}
+use Rattle.journal_text.specs.Limits.{most_coordinate}
 use Rattle.journal_text.specs.Parts.{word, sign, is_minus, is_end, negative, a_node_of, a_port_of, a_bot_of}
 use Rattle.journal_text.specs.Journals.{is_spot, is_cell, a_pair_of, is_entry, Numbers, numbers_of, Written, written_of, past_entries, wrong, one_more}
 use Rattle.journal_text.specs.Turns.{Nothing, is_failure, is_turn, as_before}
@@ -49,7 +51,7 @@ unfoldable pub an_int : ℕ → Reader ℤ
 an_int most = either is_minus (the_line is_minus >>= λ line. up_to most >>= λ n. pure (negative n)) (up_to most >>= λ n. pure (pos n))
 
 unfoldable pub a_node : Reader Node
-a_node = an_int 9999 >>= λ x. an_int 9999 >>= λ y. pure (a_node_of x y)
+a_node = an_int most_coordinate >>= λ x. an_int most_coordinate >>= λ y. pure (a_node_of x y)
 
 unfoldable pub an_end : Reader End
 an_end = either (word (codes "head")) (means (word (codes "head")) Head) (means (word (codes "tail")) Tail)
@@ -61,7 +63,7 @@ unfoldable pub a_port : Reader Port
 a_port = an_end >>= λ end. up_to 5 >>= λ dir. pure (a_port_of end dir)
 
 abbrev pub values : ℕ → Reader (List ℕ)
-values vars = times (up_to 255) vars
+values vars = times (up_to most_value) vars
 
 unfoldable pub a_bot : ℕ → Reader Bot
 a_bot vars = do
@@ -109,7 +111,7 @@ abbrev pub pair_in : ℕ → ℕ → Reader (CellName × Cell)
 pair_in vars room = limited is_cell no_limit room (a_pair vars)
 
 unfoldable pub all_pairs : ℕ → Reader Pairs
-all_pairs vars = at_most is_cell no_limit 10 (a_pair vars)
+all_pairs vars = at_most is_cell no_limit most_pairs (a_pair vars)
 
 -- ---- the journal
 

@@ -10,11 +10,14 @@ use Rattle.amoebot_state.specs.declared.cell.Cell.TheVariants as cell
 use Rattle.amoebot_state.specs.declared.verdict.Entry.{Entry}
 use Rattle.amoebot_state.specs.declared.verdict.Moved.{Moved}
 use Rattle.amoebot_state.specs.declared.verdict.Moved.TheVariants as moved
+use Rattle.amoebot_state.specs.Limits.{most_vars, most_value, most_pairs}
 use Rattle.claim_core.specs.declared.marks.Mark.{Mark}
 use Rattle.claim_core.specs.declared.marks.Mark.TheVariants as mark
+use Rattle.claim_core.specs.Limits.{most_callers, most_turns}
 use Rattle.claim_core.specs.Turns.{MarkLists}
+use Rattle.journal_text.specs.Limits.{most_coordinate}
 use Rattle.journal_text.specs.Turns.{IsTurns}
-use Rattle.journal_text.specs.Journals.{most_entries, is_known, IsJournal}
+use Rattle.journal_text.specs.Journals.{is_known, IsJournal}
 use Rattle.journal_text.specs.JournalRows.{Says}
 use Rattle.journal_text.specs.Texts.{journal_text, turns_text}
 
@@ -24,8 +27,8 @@ size (pos n) = n
 size (negsuc n) = suc n
 
 pub record HasCoordinates (v : Node) : Type 0 where
-  pub x : size v.x ≤ 9999
-  pub y : size v.y ≤ 9999
+  pub x : size v.x ≤ most_coordinate
+  pub y : size v.y ≤ most_coordinate
 
 -- an amoebot whose memory has 0 past the variables
 pub record HasLimits (vars : ℕ) (b : Bot) : Type 0 where
@@ -33,8 +36,8 @@ pub record HasLimits (vars : ℕ) (b : Bot) : Type 0 where
   pub tail : HasCoordinates b.tail
   pub rot : b.rot ≤ 5
   pub eight : length b.mem ≡ 8
-  pub values : All (λ v. v ≤ 255) b.mem
-  pub zeros : drop vars b.mem ≡ replicate (8 - vars) 0
+  pub values : All (λ v. v ≤ most_value) b.mem
+  pub zeros : drop vars b.mem ≡ replicate (most_vars - vars) 0
 
 -- a node with its occupant, or a body with an amoebot
 abbrev pub IsWritable : ℕ → CellName × Cell → Type 0
@@ -54,12 +57,12 @@ IsPossible (moved.Pull p) = p.dir ≤ 5
 pub record KeepsLimits (bots actions vars : ℕ) (e : Entry) : Type 0 where
   pub known : is_known bots actions e ≡ true
   pub movement : IsPossible e.moved
-  pub few : length e.patch ≤ 10
+  pub few : length e.patch ≤ most_pairs
   pub pairs : All (IsWritable vars) e.patch
 
 -- such entries, at most so many, are read back from their text, in a world of so many amoebots, with a program of so many actions
 abbrev pub JournalsReadBack : Type 0
-JournalsReadBack = (bots actions vars : ℕ) (entries : List Entry) → bots < 2 ^ 16 → actions < 2 ^ 8 → vars ≤ 8 → length entries ≤ most_entries → All (KeepsLimits bots actions vars) entries
+JournalsReadBack = (bots actions vars : ℕ) (entries : List Entry) → bots < 2 ^ 16 → actions < 2 ^ 8 → vars ≤ most_vars → length entries ≤ most_turns → All (KeepsLimits bots actions vars) entries
     → Says (IsJournal bots actions vars) (journal_text vars entries) (Ok entries)
 
 -- ---- marks
@@ -87,9 +90,9 @@ IsWritableMark (mark.Failed f place) = IsShort place
 IsWritableMark (mark.Busy c by_caller by_turn by_bot place) = IsClaim c by_caller by_turn by_bot place
 
 pub record AreWritable (marks : List Mark) : Type 0 where
-  pub few : length marks ≤ 65536
+  pub few : length marks ≤ most_turns
   pub each : All IsWritableMark marks
 
 -- the text of such marks, of at most 16 callers, is one of turns
 abbrev pub TurnsReadBack : Type 0
-TurnsReadBack = (m : MarkLists) → length m.marks ≤ 16 → All AreWritable m.marks → Says IsTurns (turns_text m) (Ok tt)
+TurnsReadBack = (m : MarkLists) → length m.marks ≤ most_callers → All AreWritable m.marks → Says IsTurns (turns_text m) (Ok tt)

@@ -6,8 +6,8 @@ use Rattle.journal_text.specs.Turns.{IsTurns}
 use Rattle.journal_text.specs.JournalRows.{Says, at}
 
 -- a text of turns
-abbrev pub Holds : List ℕ → Type 0
-Holds text = Says IsTurns text (Ok tt)
+abbrev pub Yields : List ℕ → Type 0
+Yields text = Says IsTurns text (Ok tt)
 
 -- a text with this first fault
 abbrev pub Fails : List ℕ → ℕ → RefusalKind → Type 0
@@ -18,11 +18,11 @@ abbrev pub FailsIn : List ℕ → ℕ → RefusalKind → Type 0
 FailsIn text line kind = Fails (codes "turns\nturn 0 0 " ++ text) line kind
 
 pub record TurnsAreRead : Type 0 where
-  pub nothing : Holds (codes "turns end")
+  pub nothing : Yields (codes "turns end")
   -- each mark. Numbers may be any of nine digits
-  pub marks : Holds (codes "turns\nturn 0 0 done 0\nturn 0 1 idle 999999999\nturn 999999999 2 failed would_split 3\nturn 1 0 busy spot -9999 9999 by 0 0 0 place 0\nturn 0 0 busy body 999999999 by 999999999 999999999 999999999 place 999999999\nend\n")
-  pub failures : Holds (codes "turns turn 0 0 failed no_port 0 turn 0 0 failed no_neighbour 0 turn 0 0 failed out_of_range 0 turn 0 0 failed occupied 0 turn 0 0 failed not_contracted 0 turn 0 0 failed not_expanded 0 end")
-  pub more_failures : Holds (codes "turns turn 0 0 failed peer_not_expanded 0 turn 0 0 failed peer_not_contracted 0 turn 0 0 failed edge 0 turn 0 0 failed would_split 0 turn 0 0 failed no_choice 0 end")
+  pub marks : Yields (codes "turns\nturn 0 0 done 0\nturn 0 1 idle 999999999\nturn 999999999 2 failed would_split 3\nturn 1 0 busy spot -9999 9999 by 0 0 0 place 0\nturn 0 0 busy body 999999999 by 999999999 999999999 999999999 place 999999999\nend\n")
+  pub failures : Yields (codes "turns turn 0 0 failed no_port 0 turn 0 0 failed no_neighbour 0 turn 0 0 failed out_of_range 0 turn 0 0 failed occupied 0 turn 0 0 failed not_contracted 0 turn 0 0 failed not_expanded 0 end")
+  pub more_failures : Yields (codes "turns turn 0 0 failed peer_not_expanded 0 turn 0 0 failed peer_not_contracted 0 turn 0 0 failed edge 0 turn 0 0 failed would_split 0 turn 0 0 failed no_choice 0 end")
   pub coordinate_10000 : FailsIn (codes "busy spot\n10000 0 by 0 0 0 place 0 end") 3 BadRange
   pub coordinate_minus_10000 : FailsIn (codes "busy spot 0 -\n10000 by 0 0 0 place 0 end") 3 BadRange
   pub other_word : Fails (codes "journal end") 1 Unexpected

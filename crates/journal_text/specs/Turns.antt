@@ -12,7 +12,7 @@ use Rattle.text_tokens.specs.Text.{Lexeme}
 use Rattle.text_tokens.specs.Cursor.{is_kind}
 use Rattle.text_tokens.specs.Grammar.{Lang, Then, Made, IsThe, Closed, Either, Repeated}
 use Rattle.journal_text.specs.Parts.{word, is_end, IsWord, IsNumber}
-use Rattle.journal_text.specs.Journals.{IsCell}
+use Rattle.journal_text.specs.Journals.{IsCellText}
 
 abbrev pub Nothing : Type 0
 Nothing = Unit {0}
@@ -45,7 +45,7 @@ abbrev pub IsClaimant : Lang Nothing
 IsClaimant = Then (IsWord (codes "by")) (λ line. Then IsNumber (λ caller. Then IsNumber (λ turn. Unheeded IsNumber)))
 
 abbrev pub IsBusy : Lang Nothing
-IsBusy = Then (IsWord (codes "busy")) (λ line. Then IsCell (λ c. Then IsClaimant (λ u. IsPlaced (codes "place"))))
+IsBusy = Then (IsWord (codes "busy")) (λ line. Then IsCellText (λ c. Then IsClaimant (λ u. IsPlaced (codes "place"))))
 
 abbrev pub IsMark : Lang Nothing
 IsMark = Either (IsPlaced (codes "done")) (Either (IsPlaced (codes "idle")) (Either IsFailed IsBusy))
@@ -55,14 +55,14 @@ IsMark = Either (IsPlaced (codes "done")) (Either (IsPlaced (codes "idle")) (Eit
 abbrev pub is_turn : Lexeme → Bool
 is_turn = word (codes "turn")
 
-abbrev pub IsTurn : Lang Nothing
-IsTurn = Then (IsWord (codes "turn")) (λ line. Then IsNumber (λ caller. Then IsNumber (λ turn. IsMark)))
+abbrev pub IsTurnLine : Lang Nothing
+IsTurnLine = Then (IsWord (codes "turn")) (λ line. Then IsNumber (λ caller. Then IsNumber (λ turn. IsMark)))
 
 abbrev pub as_before : Nothing → Nothing → Nothing
 as_before s u = s
 
 abbrev pub AreTurns : Lang (List Nothing)
-AreTurns = Repeated (λ s. IsTurn) as_before tt
+AreTurns = Repeated (λ s. IsTurnLine) as_before tt
 
 abbrev pub IsTurns : Lang Nothing
 IsTurns = Then (IsWord (codes "turns")) (λ line. Closed (Unheeded AreTurns) is_end)

@@ -5,12 +5,14 @@ ghost use Rattle.std.specs.List.{flat_map, list_all};
 ghost use Rattle.text_tokens.specs.Cursor.{next_passes};
 ghost use Rattle.text_tokens.specs.Steps.{Gives, ReadsOf, TellsOf, another};
 ghost use Rattle.amoebot_state.specs.declared.cell.Cell.TheVariants as cell;
+ghost use Rattle.amoebot_state.specs.Limits.{most_vars, most_pairs};
+ghost use Rattle.claim_core.specs.Limits.{most_turns};
 ghost use Rattle.journal_text.specs.Journals as spec;
 ghost use Rattle.journal_text.specs.Readers as reader;
 ghost use Rattle.journal_text.specs.Views as view;
 
 use crate::parts::{read_bot, read_end, read_node, read_port, read_word, read_word_within};
-use amoebot_state::{Bot, Cell, CellName, End, Entry, Moved, Patch, Port};
+use amoebot_state::{Bot, Cell, CellName, End, Entry, MOST_PAIRS, Moved, Patch, Port};
 use arrayvec::ArrayVec;
 use std::alloc::Global;
 use std::marker::Model;
@@ -18,9 +20,6 @@ use text_tokens::{ReadRefusal, RefusalKind, TokenKind, Tokens, number, refused};
 use tri_lattice::Node;
 
 const MOST_ENTRIES: u32 = 65_536;
-
-/// The most pairs of an entry.
-const MOST_PAIRS: usize = 10;
 
 const LAST_CALLER: u32 = 15;
 
@@ -42,6 +41,7 @@ impl Model for Entries {
 }
 
 impl Entries {
+    /// The entries in their order, at most 65,536.
     pub fn entries(&self) -> &[Entry]
         ensures { result.now ≡ self.now }
     {
@@ -154,7 +154,7 @@ fn read_occupant(tokens: &mut Tokens<'_>) -> Result<Option<u32>, ReadRefusal>
 
 #[tactic(auto, unfolding(crate::specs::Readers::a_pair, crate::specs::Readers::a_value))]
 fn read_pair(tokens: &mut Tokens<'_>, vars: u8) -> Result<WrittenPair, ReadRefusal>
-    requires { vars ≤ 8 }
+    requires { vars ≤ most_vars }
     ensures { Gives view.pair (reader.a_pair vars) tokens.old result tokens.new }
 {
     match read_cell(tokens)? {
@@ -182,7 +182,7 @@ fn more_pair(
     vars: u8,
     room: u32,
 ) -> Result<Option<WrittenPair>, ReadRefusal>
-    requires { vars ≤ 8 }
+    requires { vars ≤ most_vars }
     ensures reads { Gives (λ o. option_map view.pair o) (another spec.is_cell (reader.pair_in vars room)) tokens.old result tokens.new }
     ensures room { IfOk result (λ o. IfSome o (λ _. 0 < room)) }
 {
@@ -199,7 +199,7 @@ fn read_pairs(
     tokens: &mut Tokens<'_>,
     vars: u8,
 ) -> Result<ArrayVec<WrittenPair, MOST_PAIRS>, ReadRefusal>
-    requires { vars ≤ 8 }
+    requires { vars ≤ most_vars }
     ensures { Gives (λ v. map view.pair v.items) (reader.all_pairs vars) tokens.old result tokens.new }
 {
     let mut found = ArrayVec::new();
@@ -231,9 +231,9 @@ fn read_numbers(tokens: &mut Tokens<'_>) -> Result<Numbers, ReadRefusal>
 
 #[tactic(auto, unfolding(crate::specs::Readers::written, crate::specs::Readers::entry_word))]
 fn read_written(tokens: &mut Tokens<'_>, vars: u8, before: u32) -> Result<Written, ReadRefusal>
-    requires { vars ≤ 8 }
+    requires { vars ≤ most_vars }
     ensures reads { Gives view.written (reader.written vars before) tokens.old result tokens.new }
-    ensures room { IfOk result (λ _. before < spec.most_entries) }
+    ensures room { IfOk result (λ _. before < most_turns) }
 {
     let line = read_word_within(tokens, b"entry", MOST_ENTRIES, before)?;
     let numbers = read_numbers(tokens)?;
@@ -270,7 +270,7 @@ fn known_pair(pair: WrittenPair, bots: u16) -> Option<(CellName, Cell)>
 
 /// The pairs, at most 10, if the amoebots that they name are some of so many.
 fn known_patch(pairs: &[WrittenPair], bots: u16) -> Option<Patch>
-    requires { length pairs.now ≤ 10 }
+    requires { length pairs.now ≤ most_pairs }
     ensures { result ≡ if list_all (λ id. nat_lt id bots) (flat_map spec.ids_of_pair (map view.pair pairs.now)) then Some (map view.pair pairs.now) else None }
 {
     let mut patch = Patch::new();
@@ -319,9 +319,9 @@ fn read_entry(
     vars: u8,
     before: u32,
 ) -> Result<Entry, ReadRefusal>
-    requires { vars ≤ 8 }
+    requires { vars ≤ most_vars }
     ensures reads { Gives (λ e. e) (reader.an_entry bots actions vars before) tokens.old result tokens.new }
-    ensures room { IfOk result (λ _. before < spec.most_entries) }
+    ensures room { IfOk result (λ _. before < most_turns) }
 {
     let written = read_written(tokens, vars, before)?;
     if written.numbers.place != before {
@@ -341,9 +341,9 @@ fn more_entry(
     vars: u8,
     before: u32,
 ) -> Result<Option<Entry>, ReadRefusal>
-    requires { vars ≤ 8 }
+    requires { vars ≤ most_vars }
     ensures reads { Gives (λ o. o) (another spec.is_entry (reader.an_entry bots actions vars before)) tokens.old result tokens.new }
-    ensures room { IfOk result (λ o. IfSome o (λ _. before < spec.most_entries)) }
+    ensures room { IfOk result (λ o. IfSome o (λ _. before < most_turns)) }
 {
     if !tokens.is_next(TokenKind::Word, b"entry") {
         return Ok(None);
@@ -358,7 +358,7 @@ fn read_entries(
     actions: u8,
     vars: u8,
 ) -> Result<Vec<Entry>, ReadRefusal>
-    requires { vars ≤ 8 }
+    requires { vars ≤ most_vars }
     ensures { Gives (λ v. v.items) (reader.all_entries bots actions vars) tokens.old result tokens.new }
 {
     let mut found = Vec::new(alloc);
@@ -378,7 +378,7 @@ fn read_whole(
     actions: u8,
     vars: u8,
 ) -> Result<Entries, ReadRefusal>
-    requires { vars ≤ 8 }
+    requires { vars ≤ most_vars }
     ensures { Gives (λ e. e) (reader.journal bots actions vars) tokens.old result tokens.new }
 {
     read_word(tokens, b"journal")?;
@@ -396,7 +396,7 @@ pub fn read_journal(
     actions: u8,
     vars: u8,
 ) -> Result<Entries, ReadRefusal>
-    requires { vars ≤ 8 }
+    requires { vars ≤ most_vars }
     ensures tells { TellsOf (spec.IsJournal bots actions vars) (λ e. e) tokens.old result tokens.new }
     ensures reads { ReadsOf (spec.IsJournal bots actions vars) (λ e. e) tokens.old result tokens.new }
 {

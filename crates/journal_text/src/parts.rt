@@ -2,6 +2,7 @@
 
 ghost use Rattle.std.specs.Prelude.{◌≡◌, ◌<◌, ◌≤◌, ◌≤ℤ◌, ◌-ℤ◌, pos, length, IfOk};
 ghost use Rattle.tri_lattice.specs.Lattice.{IsNear};
+ghost use Rattle.amoebot_state.specs.Limits.{most_vars};
 ghost use Rattle.amoebot_state.specs.Refusals.{IsPlain};
 ghost use Rattle.text_tokens.specs.Steps.{Gives};
 ghost use Rattle.journal_text.specs.Parts as spec;
@@ -111,7 +112,7 @@ pub fn read_port(tokens: &mut Tokens<'_>) -> Result<Port, ReadRefusal>
 
 /// A value for each variable, of which there are at most 8.
 fn read_values(tokens: &mut Tokens<'_>, vars: u8) -> Result<ArrayVec<u8, VALUES>, ReadRefusal>
-    requires { vars ≤ 8 }
+    requires { vars ≤ most_vars }
     ensures { Gives (λ values. values.items) (reader.values vars) tokens.old result tokens.new }
 {
     let mut values = ArrayVec::new();
@@ -123,7 +124,7 @@ fn read_values(tokens: &mut Tokens<'_>, vars: u8) -> Result<ArrayVec<u8, VALUES>
 
 /// The memory that begins with these values, at most 8, and has 0 past them.
 fn memory(values: &[u8]) -> [u8; VALUES]
-    requires { length values.now ≤ 8 }
+    requires { length values.now ≤ most_vars }
     ensures { result ≡ spec.memory values.now }
 {
     let mut mem = [0; VALUES];
@@ -136,7 +137,7 @@ fn memory(values: &[u8]) -> [u8; VALUES]
 /// An amoebot with a value for each variable, of which there are at most 8.
 #[tactic(auto, unfolding(crate::specs::Readers::a_bot))]
 pub fn read_bot(tokens: &mut Tokens<'_>, vars: u8) -> Result<Bot, ReadRefusal>
-    requires { vars ≤ 8 }
+    requires { vars ≤ most_vars }
     ensures reads { Gives (λ b. b) (reader.a_bot vars) tokens.old result tokens.new }
     ensures plain { IfOk result IsPlain }
 {

@@ -3,6 +3,7 @@
 ghost use Rattle.std.specs.Prelude.{◌≡◌, ◌<◌, ◌≤◌, ◌++◌, decimal, length, map, IfOk, OnOk};
 ghost use Rattle.std.specs.List.{enumerate_from, flat_map};
 ghost use Rattle.text_tokens.specs.Lines.{line_text, lines_text, spaced};
+ghost use Rattle.amoebot_state.specs.Limits.{most_vars};
 ghost use Rattle.journal_text.specs.Texts.{bot_words, caller_lines, cell_words, chir_word, end_word, entry_numbers, entry_words, failure_word, journal_text, mark_words, moved_words, node_words, pair_words, port_words, turn_words, turns_text, value_words};
 ghost use Rattle.claim_core.specs.Turns.{marks_of};
 
@@ -14,7 +15,7 @@ use tri_lattice::Node;
 
 /// The section `journal`: the entries, numbered from 0, with the values of so many variables, at most 8.
 pub fn print_journal(alloc: Global, entries: &[Entry], vars: u8) -> Result<Text, NoMemory>
-    requires { vars ≤ 8 }
+    requires { vars ≤ most_vars }
     ensures { IfOk result (λ text. text ≡ journal_text vars entries.now) }
 {
     let mut lines = Lines::new(alloc);
@@ -33,7 +34,7 @@ pub fn print_turns(alloc: Global, marks: &Marks) -> Result<Text, NoMemory>
 
 /// Adds the section `journal` to a text.
 pub fn put_journal(lines: &mut Lines, entries: &[Entry], vars: u8) -> Result<(), AllocError>
-    requires { vars ≤ 8 }
+    requires { vars ≤ most_vars }
     ensures { OnOk result (lines.new ≡ lines.old ++ journal_text vars entries.now) }
 {
     lines.open_section("journal")?;
@@ -51,7 +52,7 @@ pub fn put_turns(lines: &mut Lines, marks: &Marks) -> Result<(), AllocError>
 }
 
 fn put_entries(lines: &mut Lines, entries: &[Entry], vars: u8) -> Result<(), AllocError>
-    requires { vars ≤ 8 }
+    requires { vars ≤ most_vars }
     ensures { OnOk result (lines.new ≡ lines.old ++ lines_text (map (entry_words vars) (enumerate_from 0 entries.now))) }
 {
     for (place, entry) in entries.iter().enumerate() {
@@ -61,7 +62,7 @@ fn put_entries(lines: &mut Lines, entries: &[Entry], vars: u8) -> Result<(), All
 }
 
 fn put_entry(lines: &mut Lines, place: usize, entry: &Entry, vars: u8) -> Result<(), AllocError>
-    requires { vars ≤ 8 }
+    requires { vars ≤ most_vars }
     ensures { OnOk result (lines.new ≡ lines.old ++ line_text (entry_words vars (place, entry.now))) }
 {
     lines.begin("entry")?;
@@ -148,7 +149,7 @@ fn put_mark(lines: &mut Lines, mark: Mark) -> Result<(), AllocError>
 }
 
 fn put_pairs(lines: &mut Lines, pairs: &[(CellName, Cell)], vars: u8) -> Result<(), AllocError>
-    requires { vars ≤ 8 }
+    requires { vars ≤ most_vars }
     ensures { OnOk result (lines.new ≡ lines.old ++ spaced (flat_map (pair_words vars) pairs.now)) }
 {
     for (name, value) in pairs {
@@ -174,7 +175,7 @@ fn put_cell(lines: &mut Lines, name: CellName) -> Result<(), AllocError>
 }
 
 fn put_value(lines: &mut Lines, value: &Cell, vars: u8) -> Result<(), AllocError>
-    requires { vars ≤ 8 }
+    requires { vars ≤ most_vars }
     ensures { OnOk result (lines.new ≡ lines.old ++ spaced (value_words vars value.now)) }
 {
     match value {
@@ -186,7 +187,7 @@ fn put_value(lines: &mut Lines, value: &Cell, vars: u8) -> Result<(), AllocError
 
 /// Adds the nodes, the rotation, the chirality and the first values of an amoebot to a line.
 pub fn put_bot(lines: &mut Lines, bot: &Bot, vars: u8) -> Result<(), AllocError>
-    requires { vars ≤ 8 }
+    requires { vars ≤ most_vars }
     ensures { OnOk result (lines.new ≡ lines.old ++ spaced (bot_words vars bot.now)) }
 {
     put_node(lines, bot.head)?;

@@ -1,4 +1,5 @@
 ghost use Rattle.std.specs.Prelude.{◌≤◌};
+ghost use Rattle.amoebot_state.specs.Limits.{most_vars};
 
 use super::*;
 use amoebot_state::{CellName, Entry, Failure, Moved, Patch};
@@ -22,7 +23,7 @@ fn read_text(
     actions: u8,
     vars: u8,
 ) -> Result<Entries, ReadRefusal>
-    requires { vars ≤ 8 }
+    requires { vars ≤ most_vars }
 {
     if text.len() > MOST_BYTES {
         return Err(ReadRefusal::NoMemory);
@@ -44,7 +45,7 @@ fn at(line: u32, kind: RefusalKind) -> Option<ReadRefusal> {
 
 /// Whether a text is read, printed as it was, read again and printed as it was.
 fn is_kept(alloc: Global, text: &[u8], bots: u16, actions: u8, vars: u8) -> bool
-    requires { vars ≤ 8 }
+    requires { vars ≤ most_vars }
 {
     let Ok(first) = read_text(alloc, text, bots, actions, vars) else {
         return false;

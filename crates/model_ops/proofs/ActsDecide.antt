@@ -26,17 +26,17 @@ acts_lead c i patch valid there by =
     reached_leads_also (shown_alone s) c i by.acts by.reached (shown_valid s is) valid (gap_there s is) (sym (shown_alone_shows_the_same s is)) by.performed
 
 -- and the patch is what they change there
-record Kept (c : Config) (i : ℕ) (patch : Pairs) : Type 0 where
+record KeepsLaws (c : Config) (i : ℕ) (patch : Pairs) : Type 0 where
   next : HasPatched c patch
   ordered : IsOrdered patch
   differs : All (λ (p : CellName × Cell). value c (cell_of p) ≢ Some (cell_value p)) patch
   listed : All (λ (p : CellName × Cell). Contains (zone c i) (cell_of p)) patch
 
-acts_keep : (c : Config) (i : ℕ) (patch : Pairs) → IsValid c → IsSome (bot_at c i) → ActsFor (shown c i) patch → Kept c i patch
+acts_keep : (c : Config) (i : ℕ) (patch : Pairs) → IsValid c → IsSome (bot_at c i) → ActsFor (shown c i) patch → KeepsLaws c i patch
 acts_keep c i patch valid there by =
     let also = acts_lead c i patch valid there by in
     let exact = reached_diff_is_exact c i also.reached valid there (by.acts, also.performed) in
-    let K : Pairs → Type 0 = λ ps. Kept c i ps in
+    let K : Pairs → Type 0 = λ ps. KeepsLaws c i ps in
     let P : Pairs → Type 0 = λ ps. IsPatched c ps also.reached in
     subst K (also.same ∙ sym by.is) (record { next = (also.reached, subst P (sym also.same) also.patched); ordered = exact.ordered; differs = exact.differs; listed = exact.listed })
 

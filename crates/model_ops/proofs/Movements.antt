@@ -1,8 +1,8 @@
 -- What the success of a movement tells: the small movements that it is made of, and that each of them could be made.
-use Rattle.std.proofs.Common.{◌≡◌, ◌≢◌, ℕ, true, Bool, ap, sym, ◌∙◌, refl, subst, inl, inr, Option, Some, None}
+use Rattle.std.proofs.Common.{◌≡◌, ◌≢◌, ℕ, true, Bool, ap, sym, ◌∙◌, subst, inl, inr, Some}
 use Rattle.std.specs.Prelude.{is_none, not, unwrap_or}
 use Rattle.std.specs.declared.result.Result.TheVariants.{Ok}
-use Rattle.std.proofs.lemmas.Bool.{both_ways, not-true, false≢true}
+use Rattle.std.proofs.lemmas.Bool.{both_ways, not-true}
 use Rattle.tri_lattice.specs.declared.node.Node.{Node}
 use Rattle.tri_lattice.specs.Lattice.{Adjacent}
 use Rattle.tri_lattice.specs.Extent.{is_in}
@@ -14,14 +14,11 @@ use Rattle.amoebot_state.specs.Ports.{is_own, is_contracted, is_port, behind, en
 use Rattle.amoebot_state.specs.Configs.{Config, IsValid, bot_at, bot_of, blank, occupant, covers}
 use Rattle.amoebot_state.proofs.Owns.{own_cases}
 use Rattle.amoebot_state.proofs.Occupants.{occupant_covers, covered_in}
+use Rattle.amoebot_state.proofs.Options.{none_if}
 use Rattle.model_ops.specs.Operations.{grow, shrink, may_leave, expand, contract, push, pull}
 use Rattle.model_ops.proofs.Told.{need_told, peer_told, ok_told, occupant_told}
 use Rattle.model_ops.proofs.Neighbours.{port_next, port_leaves, end_own, end_is_head}
 use Rattle.model_ops.proofs.SmallMoves.{MayShrink, MayGrow, shrunk, shrunk_empty}
-
-empty_is : {A : Type 0} (o : Option A) → is_none o ≡ true → o ≡ None
-empty_is None e = refl
-empty_is (Some x) e = absurd (false≢true e)
 
 -- the node that a contracted amoebot's port leads to is beside its head
 head_next : (b : Bot) (p : Port) → is_contracted b ≡ true → Adjacent b.head (behind b p)
@@ -41,7 +38,7 @@ expand_told c i p d valid at e =
     let (empty, e) = need_told (is_none (occupant c (behind b p))) _ _ d e in
     record {
       port = port;
-      may = record { valid = valid; there = at; contracted = contracted; next = head_next b p contracted; inside = inside; empty = empty_is _ empty };
+      may = record { valid = valid; there = at; contracted = contracted; next = head_next b p contracted; inside = inside; empty = none_if (occupant c (behind b p)) (not-true _ empty) };
       is = sym (ok_told e);
     }
 

@@ -1,5 +1,6 @@
 ghost use Rattle.std.specs.Prelude.{◌≡◌, ◌+◌, ◌<◌, ◌≤◌, ◌∷◌, ◌++◌, [], length};
 ghost use Rattle.std.specs.List.{filter_map, find};
+ghost use Rattle.amoebot_state.specs.Limits.{most_pairs};
 ghost use Rattle.amoebot_state.specs.Patches.{bot_eq};
 ghost use Rattle.model_ops.specs.Members.{changed_body, changed_cells, changed_spot, has_changed, nodes_of};
 
@@ -20,7 +21,7 @@ pub(crate) fn changed_cells(members: &[Member], own: &Member) -> Patch
 }
 
 fn push_node(patch: &mut Patch, members: &[Member], own: &Member)
-    requires { length patch.old < 10 }
+    requires { length patch.old < most_pairs }
     ensures value { patch.new ≡ patch.old ++ changed_spot members.now (find (has_changed members.now) (nodes_of own.entry.now)) }
     ensures few { length patch.new ≤ length patch.old + 1 }
 {
@@ -48,7 +49,7 @@ fn has_changed(members: &[Member], node: Node) -> bool
 }
 
 fn push_bodies(patch: &mut Patch, members: &[Member])
-    requires { length patch.old + length members.now ≤ 10 }
+    requires { length patch.old + length members.now ≤ most_pairs }
     ensures { patch.new ≡ patch.old ++ filter_map changed_body members.now }
 {
     for member in members {
@@ -57,7 +58,7 @@ fn push_bodies(patch: &mut Patch, members: &[Member])
 }
 
 fn push_body(patch: &mut Patch, member: &Member)
-    requires { length patch.old < 10 }
+    requires { length patch.old < most_pairs }
     ensures value { patch.new ≡ patch.old ++ filter_map changed_body (member.entry.now ∷ []) }
     ensures few { length patch.new ≤ length patch.old + 1 }
 {

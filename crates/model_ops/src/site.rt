@@ -1,4 +1,5 @@
 ghost use Rattle.std.specs.Prelude.{◌≡◌, ◌<◌, ℕ, is_some, IsSome, IsTrue, IfOk, Some, None, true, unsigned_abs};
+ghost use Rattle.amoebot_state.specs.Limits.{most_vars};
 ghost use Rattle.amoebot_state.specs.Configs.{bot_at, bot_of, occupant, set_bot};
 ghost use Rattle.amoebot_state.specs.Ports.{is_port, behind};
 ghost use Rattle.amoebot_state.specs.Refusals.{IsPlain};
@@ -76,7 +77,7 @@ impl Site {
     /// The value of a variable below 8: without a port the amoebot's own, with one that of the occupant behind it. NoPort;
     /// NoNeighbour, where that node has none.
     pub fn read(&self, port: Option<Port>, var: u8) -> Result<u8, Failure>
-        requires { var < 8 }
+        requires { var < most_vars }
         ensures { result ≡ read self.now.reached (own_id self.now) port var }
     {
         let id = self.owner(port)?;
@@ -94,7 +95,7 @@ impl Site {
     /// Gives a variable below 8 a value: without a port the amoebot's own, with one that of the occupant behind it. NoPort;
     /// NoNeighbour; OutOfRange, the value is not in 0 to the variable's maximum. A write that fails changes nothing.
     pub fn write(&mut self, port: Option<Port>, var: u8, value: i32) -> Result<(), Failure>
-        requires { var < 8 }
+        requires { var < most_vars }
         ensures value { result ≡ done (write self.old.reached (own_id self.old) port var value) }
         ensures after { self.new ≡ after self.old (write self.old.reached (own_id self.old) port var value) }
     {
@@ -276,7 +277,7 @@ impl Site {
 
     /// The number as a variable keeps it, where it is one of its values.
     fn stored(&self, var: u8, value: i32) -> Result<u8, Failure>
-        requires { var < 8 }
+        requires { var < most_vars }
         ensures { result ≡ need (is_value self.now.reached.maxes var value) Failure.OutOfRange (Ok (unsigned_abs value)) }
     {
         if value < 0 || value > i32::from(self.maxes[usize::from(var)]) {

@@ -1,6 +1,7 @@
 ghost use Rattle.std.specs.Prelude.{◌≡◌, ◌<◌, ◌≤◌, length};
 ghost use Rattle.std.specs.List.{All};
 ghost use Rattle.tri_lattice.specs.Lattice.{IsNear};
+ghost use Rattle.amoebot_state.specs.Limits.{most_bots};
 ghost use Rattle.amoebot_state.specs.Refusals.{IsPlain};
 ghost use Rattle.amoebot_state.specs.declared.verdict.Failure.{Failure};
 ghost use Rattle.model_ops.specs.Reaches.{move};
@@ -61,7 +62,7 @@ const fn tail(dir: u8) -> Port {
 /// What the first amoebot of these is shown in the area 0 0 8 8.
 fn found(alloc: Global, bots: &[Bot]) -> Result<Found, Fail>
     requires some { 0 < length bots.now }
-    requires few { length bots.now ≤ 4096 }
+    requires few { length bots.now ≤ most_bots }
     requires plain { All IsPlain bots.now }
 {
     let area = Area::new(0, 0, 8, 8).ok_or("an area")?;

@@ -6,6 +6,7 @@ use Rattle.amoebot_state.specs.Pairs.{Pairs, cell_of}
 use Rattle.amoebot_state.specs.Zones.{Shown}
 use Rattle.claim_core.specs.declared.marks.Mark.{Mark}
 use Rattle.claim_core.specs.declared.state.Caller.{Caller}
+use Rattle.claim_core.specs.Limits.{most_turns}
 use Rattle.claim_core.specs.Machine.{Setup, found, next_of, decided, opens, refused, caller}
 use Rattle.claim_rule.specs.Plays.{IsOthers, about, bot_in}
 use Rattle.claim_rule.specs.Tokens.{Token, RefusedOf, refused_of, number_in, doing, goes}
@@ -37,7 +38,7 @@ module _ {D : Type 0} (verdict : D → Shown → Verdict) where
     pub tag : ℕ
     pub other : IsOthers (about verdict old.view) (number_in old) tag
     pub told : by ≡ refused_of (number_in old) (doing old).turn by.cell tag by.place
-    pub few : by.place ≤ 65536
+    pub few : by.place ≤ most_turns
     pub now : new ≡ goes old (at_next (about verdict old.view) (doing old).turn ((doing old).marks ++ refused by.cell tag by.place ∷ []))
 
   -- a caller that frees all that it holds is at its next turn, where it holds anything

@@ -1,4 +1,5 @@
 ghost use Rattle.std.specs.Prelude.{◌≡◌, ◌≤◌, ◌<◌, IfOk, IfErr};
+ghost use Rattle.claim_core.specs.Limits.{most_turns};
 ghost use Rattle.claim_rule.specs.Plays.{about, bot_in, marked_at};
 ghost use Rattle.claim_rule.specs.Tokens.{IsOf, IsToLook, IsMarked, number_in, doing, goes, seen_of};
 ghost use Rattle.node_claims.specs.Claims.{IsClaimed, WasRefused, at_next, freed_all};
@@ -43,7 +44,7 @@ pub fn place<D: Decider>(claimed: &mut Claimed<D>, field: &Field<'_, D>) -> Seen
     ensures marked { claimed.new ≡ goes claimed.old (marked_at (about D.verdict claimed.old.view) (doing claimed.old) result.place) }
     ensures frees { IsMarked claimed.new }
     ensures told { result ≡ seen_of (number_in claimed.old) (doing claimed.old).turn result.place }
-    ensures few { result.place ≤ 65536 }
+    ensures few { result.place ≤ most_turns }
 {
     look(claimed, field)
 }

@@ -1,5 +1,6 @@
 ghost use Rattle.std.specs.Prelude.{◌≡◌, ◌≤◌, length};
 ghost use Rattle.std.specs.List.{All};
+ghost use Rattle.amoebot_state.specs.Limits.{most_bots};
 ghost use Rattle.amoebot_state.specs.Refusals.{IsPlain};
 ghost use Rattle.claim_rule.specs.Tokens.{IsOf};
 
@@ -66,7 +67,7 @@ fn is_zone(
 
 /// The zone of amoebot 0 of a world of these is this one.
 fn has_zone(rt: &impl Abort, alloc: Global, bots: &[Bot], zone: &[CellName]) -> Result<(), Fail>
-    requires few { length bots.now ≤ 4096 }
+    requires few { length bots.now ≤ most_bots }
     requires plain { All IsPlain bots.now }
 {
     let world = world_in(alloc, 8, 8, bots)?;

@@ -5,7 +5,7 @@ use Rattle.std.proofs.Math.Bool.{and-true, and_assoc}
 use Rattle.std.proofs.Math.Dec.{leb-zero}
 use Rattle.std.proofs.lemmas.Bool.Decides.{leb_tells}
 use Rattle.std.proofs.lemmas.List.{append-nil, length-append, length-take}
-use Rattle.outer_io.specs.Kept.{KeptBytes, kept_after, PiecesAreKeptAsOne}
+use Rattle.outer_io.specs.KeptBytes.{KeptBytes, kept_after, PiecesAreKeptAsOne}
 use Rattle.outer_io.specs.Calls.{none, more}
 
 abbrev the_kept : ℕ → List ℕ → Bool → KeptBytes

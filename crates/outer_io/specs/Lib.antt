@@ -2,5 +2,5 @@ pub mod Told
 pub mod Calls
 pub mod Readings
 pub mod Writings
-pub mod Kept
+pub mod KeptBytes
 pub mod Counted

@@ -1,5 +1,5 @@
 ghost use Rattle.std.specs.Prelude.{◌≡◌, ◌<◌, ◌↔◌, length, IfOk, IsTrue, IsSome};
-ghost use Rattle.outer_io.specs.Kept.{nothing_kept, kept_after, KeepsPiece, written_of, PiecesAreKeptAsOne};
+ghost use Rattle.outer_io.specs.KeptBytes.{nothing_kept, kept_after, KeepsPiece, written_of, PiecesAreKeptAsOne};
 
 use crate::errors::{Failed, NoMemory};
 use crate::writing::Sink;
@@ -18,7 +18,7 @@ pub struct SureSink {
 
 impl Model for SureSink {
     ghost use Rattle.std.specs.Prelude.{◌≤◌, vec_len, vec_capacity};
-    ghost use Rattle.outer_io.specs.Kept.{KeptBytes};
+    ghost use Rattle.outer_io.specs.KeptBytes.{KeptBytes};
 
     ghost Value = { KeptBytes };
 

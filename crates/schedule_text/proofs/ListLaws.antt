@@ -12,10 +12,11 @@ use Rattle.text_tokens.specs.Lawful.{Exact, IsPart, always, Starts, AreElements}
 use Rattle.text_tokens.proofs.Exactness.{exact}
 use Rattle.text_tokens.proofs.Repeating.{part_repeated}
 use Rattle.text_tokens.proofs.Distinguishing.{other_kind, other_text, a_numeral, starts_numeral}
-use Rattle.text_tokens.proofs.Joining.{behind, into, starts_behind}
+use Rattle.text_tokens.proofs.Joining.{one_behind, into, starts_behind}
+use Rattle.claim_core.specs.Limits.{most_turns}
 use Rattle.journal_text.specs.Parts.{word, is_end}
 use Rattle.journal_text.proofs.PartLaws.{up_to_end, starts_word, part_word, part_word_within, starts_word_within}
-use Rattle.schedule_text.specs.Lists.{most_turns, past_ids, IsId, one_more_id, IdsFrom, AreIds, is_list, past_lists, IsListWord, IsCallerList, one_more_list, ListsFrom, lists_of, AreTurns, IsLists}
+use Rattle.schedule_text.specs.Lists.{past_ids, IsId, one_more_id, IdsFrom, AreIds, is_list, past_lists, IsListWord, IsCallerList, one_more_list, ListsFrom, lists_of, AreTurns, IsLists}
 use Rattle.schedule_text.specs.Readers.{an_id, ids_from, all_ids, list_word, a_list, lists_from, all_lists, some_turns, the_lists}
 
 -- a word is no number
@@ -49,7 +50,7 @@ module _ (bots : ℕ) where
 
   part_ids : IsPart (AreIds bots) (all_ids bots) no_number
   unfolding all_ids
-  part_ids = behind (part_id 0) (λ id. into (λ more. id ∷ more) (part_ids_from 1))
+  part_ids = one_behind (part_id 0) (λ id. into (λ more. id ∷ more) (part_ids_from 1))
 
   module _ (turns : ℕ) where
     part_list_word : (before : ℕ) → IsPart (IsListWord turns before) (list_word turns before) always
@@ -58,7 +59,7 @@ module _ (bots : ℕ) where
 
     part_list : (before : ℕ) → IsPart (IsCallerList bots turns before) (a_list bots turns before) no_number
     unfolding a_list
-    part_list before = behind (part_list_word before) (λ line. part_ids)
+    part_list before = one_behind (part_list_word before) (λ line. part_ids)
 
     pub list_elements : AreElements (IsCallerList bots turns) (a_list bots turns) is_list no_number is_end
     unfolding no_number
@@ -81,14 +82,14 @@ module _ (bots : ℕ) where
 
 part_turns : IsPart AreTurns some_turns always
 unfolding some_turns
-part_turns = behind (part_word (codes "turns") refl) (λ line. a_numeral (too_large most_turns TooMany))
+part_turns = one_behind (part_word (codes "turns") refl) (λ line. a_numeral (too_large most_turns TooMany))
 
 part_turns_and_lists : (bots : ℕ) → IsPart (Then AreTurns (λ turns. Closed (Made (ListsFrom bots turns 0) (λ ids. lists_of turns ids)) is_end)) (some_turns >>= λ turns. closed (all_lists bots turns) is_end) always
-part_turns_and_lists bots = behind part_turns (λ turns. up_to_end (part_all_lists bots turns))
+part_turns_and_lists bots = one_behind part_turns (λ turns. up_to_end (part_all_lists bots turns))
 
 pub part_lists : (bots : ℕ) → IsPart (IsLists bots) (the_lists bots) always
 unfolding the_lists
-part_lists bots = behind (part_word (codes "lists") refl) (λ line. part_turns_and_lists bots)
+part_lists bots = one_behind (part_word (codes "lists") refl) (λ line. part_turns_and_lists bots)
 
 pub starts_lists : (bots : ℕ) → Starts (IsLists bots) (word (codes "lists")) no_limit
 starts_lists bots = starts_word (codes "lists") (λ line. part_turns_and_lists bots)

@@ -12,7 +12,7 @@ use Rattle.text_tokens.proofs.Parts.{part_less}
 use Rattle.text_tokens.proofs.Choosing.{part_optional}
 use Rattle.text_tokens.proofs.Repeating.{part_repeated}
 use Rattle.text_tokens.proofs.Distinguishing.{other_text, a_numeral, starts_numeral}
-use Rattle.text_tokens.proofs.Joining.{behind, into, starts_behind}
+use Rattle.text_tokens.proofs.Joining.{one_behind, into, starts_behind}
 use Rattle.journal_text.specs.Parts.{word, is_end}
 use Rattle.journal_text.proofs.PartLaws.{up_to_end, starts_word, part_word, number_no_word}
 use Rattle.schedule_text.specs.Schedules.{past_callers, past_times, is_times, stretch_of, IsTimes, IsStretch, more_steps, StretchesFrom, steps_of, IsSchedule}
@@ -29,7 +29,7 @@ part_number_of_times before = a_numeral (past_times before)
 
 part_its_times : (before : ℕ) → IsPart (IsTimes before) (its_times before) always
 unfolding its_times
-part_its_times before = behind (part_word (codes "times") refl) (λ line. part_number_of_times before)
+part_its_times before = one_behind (part_word (codes "times") refl) (λ line. part_number_of_times before)
 
 starts_times : (before : ℕ) → Starts (IsTimes before) is_times no_limit
 starts_times before = starts_word (codes "times") (λ line. part_number_of_times before)
@@ -49,7 +49,7 @@ module _ (callers : ℕ) where
 
   part_stretch : (before : ℕ) → IsPart (IsStretch callers before) (a_stretch callers before) no_times
   unfolding a_stretch
-  part_stretch before = behind (part_caller before) (part_behind before)
+  part_stretch before = one_behind (part_caller before) (part_behind before)
 
   pub stretch_elements : AreElements (IsStretch callers) (a_stretch callers) is_number no_times is_end
   unfolding no_times
@@ -72,7 +72,7 @@ module _ (callers : ℕ) where
 
   pub part_schedule : IsPart (IsSchedule callers) (a_schedule callers) always
   unfolding a_schedule
-  part_schedule = behind (part_word (codes "schedule") refl) (λ line. up_to_end part_all_steps)
+  part_schedule = one_behind (part_word (codes "schedule") refl) (λ line. up_to_end part_all_steps)
 
   pub starts_schedule : Starts (IsSchedule callers) (word (codes "schedule")) no_limit
   starts_schedule = starts_word (codes "schedule") (λ line. up_to_end part_all_steps)

@@ -6,8 +6,8 @@ use Rattle.journal_text.specs.JournalRows.{Says, at}
 use Rattle.schedule_text.specs.Lists.{IdsFrom, ListsFrom, lists_of, IsLists}
 
 -- so many turns and these lists
-abbrev pub Holds : List ℕ → ℕ → List (List ℕ) → Type 0
-Holds text turns ids = Says (IsLists 3) text (Ok (lists_of turns ids))
+abbrev pub Yields : List ℕ → ℕ → List (List ℕ) → Type 0
+Yields text turns ids = Says (IsLists 3) text (Ok (lists_of turns ids))
 
 -- a text with this first fault
 abbrev pub Fails : List ℕ → ℕ → RefusalKind → Type 0
@@ -21,16 +21,16 @@ alone = 0 ∷ []
 
 pub record ListsAreRead : Type 0 where
   -- ---- texts
-  pub no_list : Holds (codes "lists turns 0 end") 0 []
-  pub one_list : Holds (codes "lists\nturns 2\nlist 0\nend\n") 2 (alone ∷ [])
-  pub three_lists : Holds (codes "lists turns 7 list 0 1 2 list 2 2 list 01 end") 7 ((0 ∷ 1 ∷ 2 ∷ []) ∷ (2 ∷ 2 ∷ []) ∷ (1 ∷ []) ∷ [])
+  pub no_list : Yields (codes "lists turns 0 end") 0 []
+  pub one_list : Yields (codes "lists\nturns 2\nlist 0\nend\n") 2 (alone ∷ [])
+  pub three_lists : Yields (codes "lists turns 7 list 0 1 2 list 2 2 list 01 end") 7 ((0 ∷ 1 ∷ 2 ∷ []) ∷ (2 ∷ 2 ∷ []) ∷ (1 ∷ []) ∷ [])
   -- as many turns as there may be: of no list, of one, of two and of fifteen or sixteen
-  pub turns_of_none : Holds (codes "lists turns 65536 end") 65536 []
-  pub turns_of_one : Holds (codes "lists turns 65536 list 0 end") 65536 (alone ∷ [])
-  pub turns_of_two : Holds (codes "lists turns 32768 list 0 list 0 end") 32768 (alone ∷ alone ∷ [])
+  pub turns_of_none : Yields (codes "lists turns 65536 end") 65536 []
+  pub turns_of_one : Yields (codes "lists turns 65536 list 0 end") 65536 (alone ∷ [])
+  pub turns_of_two : Yields (codes "lists turns 32768 list 0 list 0 end") 32768 (alone ∷ alone ∷ [])
   pub turns_of_fifteen : Says (ListsFrom 3 4369 14) (codes "list 0") (Ok (alone ∷ []))
   pub turns_of_sixteen : Says (ListsFrom 3 4096 15) (codes "list 0") (Ok (alone ∷ []))
-  pub lists_16 : Holds (codes "lists turns 0 " ++ sixteen_lists ++ codes "end") 0
+  pub lists_16 : Yields (codes "lists turns 0 " ++ sixteen_lists ++ codes "end") 0
       (alone ∷ alone ∷ alone ∷ alone ∷ alone ∷ alone ∷ alone ∷ alone ∷ alone ∷ alone ∷ alone ∷ alone ∷ alone ∷ alone ∷ alone ∷ alone ∷ [])
   -- the last id that a list may have
   pub last_id : Says (IdsFrom 3 4095) (codes "2") (Ok (2 ∷ []))

@@ -9,18 +9,9 @@ use Rattle.text_tokens.specs.declared.refusal.RefusalKind.TheVariants.{TooMany, 
 use Rattle.text_tokens.specs.Text.{Lexeme}
 use Rattle.text_tokens.specs.Reading.{value, too_large}
 use Rattle.text_tokens.specs.Grammar.{Lang, IsOne, Then, Made, IsNumeral, Closed, Repeated}
+use Rattle.claim_core.specs.Limits.{most_callers, most_turns, most_ids}
 use Rattle.claim_core.specs.Turns.{CallerLists}
 use Rattle.journal_text.specs.Parts.{word, is_end, IsWord}
-
-abbrev pub most_callers : ℕ
-most_callers = 16
-
--- of all callers together
-abbrev pub most_turns : ℕ
-most_turns = 65536
-
-abbrev pub most_ids : ℕ
-most_ids = 4096
 
 -- ---- ids
 

@@ -4,10 +4,11 @@ use Rattle.text_tokens.specs.declared.refusal.RefusalKind.{RefusalKind}
 use Rattle.text_tokens.specs.declared.refusal.RefusalKind.TheVariants.{TooMany, BadId}
 use Rattle.text_tokens.specs.Text.{Lexeme}
 use Rattle.text_tokens.specs.Reading.{Reader, ◌>>=◌, pure, is_number, value, one_within, numeral, too_large, closed, optional, repeated}
+use Rattle.claim_core.specs.Limits.{most_turns}
 use Rattle.claim_core.specs.Turns.{CallerLists}
 use Rattle.journal_text.specs.Parts.{is_end}
 use Rattle.journal_text.specs.Readers.{a_word}
-use Rattle.schedule_text.specs.Lists.{most_turns, past_ids, one_more_id, is_list, past_lists, one_more_list, lists_of}
+use Rattle.schedule_text.specs.Lists.{past_ids, one_more_id, is_list, past_lists, one_more_list, lists_of}
 use Rattle.schedule_text.specs.Schedules.{past_callers, past_times, is_times, Stretch, stretch_of, more_steps, steps_of}
 
 -- behind so many, where so many may come: one too many, or the number of none of so many

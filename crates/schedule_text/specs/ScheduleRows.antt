@@ -6,30 +6,30 @@ use Rattle.journal_text.specs.JournalRows.{Says, at}
 use Rattle.schedule_text.specs.Schedules.{Stretch, stretch_of, StretchesFrom, IsSchedule}
 
 -- these steps
-abbrev pub Holds : List ℕ → List ℕ → Type 0
-Holds text callers = Says (IsSchedule 2) text (Ok callers)
+abbrev pub Yields : List ℕ → List ℕ → Type 0
+Yields text callers = Says (IsSchedule 2) text (Ok callers)
 
 -- a text with this first fault
 abbrev pub Fails : List ℕ → ℕ → RefusalKind → Type 0
 Fails text line kind = Says (IsSchedule 2) text (Err (at line kind))
 
 -- behind so many steps: these stretches, and a first fault
-abbrev pub HoldsBehind : ℕ → List ℕ → List Stretch → Type 0
-HoldsBehind before text stretches = Says (StretchesFrom 2 before) text (Ok stretches)
+abbrev pub YieldsBehind : ℕ → List ℕ → List Stretch → Type 0
+YieldsBehind before text stretches = Says (StretchesFrom 2 before) text (Ok stretches)
 
 abbrev pub FailsBehind : ℕ → List ℕ → ℕ → RefusalKind → Type 0
 FailsBehind before text line kind = Says (StretchesFrom 2 before) text (Err (at line kind))
 
 pub record SchedulesAreRead : Type 0 where
   -- ---- texts
-  pub no_step : Holds (codes "schedule end") []
-  pub steps : Holds (codes "schedule\n0 times 3\n1\n0 times 1 01 times 002\nend\n") (0 ∷ 0 ∷ 0 ∷ 1 ∷ 0 ∷ 1 ∷ 1 ∷ [])
+  pub no_step : Yields (codes "schedule end") []
+  pub steps : Yields (codes "schedule\n0 times 3\n1\n0 times 1 01 times 002\nend\n") (0 ∷ 0 ∷ 0 ∷ 1 ∷ 0 ∷ 1 ∷ 1 ∷ [])
   -- as many steps as there may be: at once, by a caller, and by `times`
-  pub all_at_once : HoldsBehind 0 (codes "0 times 1000000") (stretch_of 0 1000000 ∷ [])
-  pub all_with_one : HoldsBehind 0 (codes "0 times 999999 1") (stretch_of 0 999999 ∷ stretch_of 1 1 ∷ [])
-  pub last_step : HoldsBehind 999999 (codes "1") (stretch_of 1 1 ∷ [])
-  pub last_steps : HoldsBehind 999997 (codes "1 times 3") (stretch_of 1 3 ∷ [])
-  pub last_step_by_times : HoldsBehind 999999 (codes "1 times 1") (stretch_of 1 1 ∷ [])
+  pub all_at_once : YieldsBehind 0 (codes "0 times 1000000") (stretch_of 0 1000000 ∷ [])
+  pub all_with_one : YieldsBehind 0 (codes "0 times 999999 1") (stretch_of 0 999999 ∷ stretch_of 1 1 ∷ [])
+  pub last_step : YieldsBehind 999999 (codes "1") (stretch_of 1 1 ∷ [])
+  pub last_steps : YieldsBehind 999997 (codes "1 times 3") (stretch_of 1 3 ∷ [])
+  pub last_step_by_times : YieldsBehind 999999 (codes "1 times 1") (stretch_of 1 1 ∷ [])
   -- ---- a step too many
   pub too_many_at_once : FailsBehind 0 (codes "0 times\n1000001") 2 TooMany
   pub one_too_many : FailsBehind 999999 (codes "1\n0") 2 TooMany

@@ -4,6 +4,7 @@ ghost use Rattle.std.specs.Prelude.{◌≡◌, ◌<◌, ◌≤◌, ◌+◌, leng
 ghost use Rattle.std.specs.List.{All};
 ghost use Rattle.text_tokens.specs.Reading.{is_number};
 ghost use Rattle.text_tokens.specs.Steps.{Gives, ReadsOf, TellsOf, another};
+ghost use Rattle.claim_core.specs.Limits.{most_callers, most_turns, most_ids};
 ghost use Rattle.claim_core.specs.Turns.{AreFew, HaveBots, IsList};
 ghost use Rattle.schedule_text.specs.Lists as spec;
 ghost use Rattle.schedule_text.specs.Readers as reader;
@@ -25,7 +26,7 @@ const MOST_IDS: u32 = 4096;
 #[tactic(auto, unfolding(crate::specs::Readers::an_id))]
 fn read_id(tokens: &mut Tokens<'_>, bots: u16, before: u32) -> Result<u16, ReadRefusal>
     ensures reads { Gives (λ n. n) (reader.an_id bots before) tokens.old result tokens.new }
-    ensures room { IfOk result (λ _. before < spec.most_ids) }
+    ensures room { IfOk result (λ _. before < most_ids) }
     ensures there { IfOk result (λ n. n < bots) }
 {
     Ok(read_known(tokens, MOST_IDS, u32::from(bots), before)? as u16)
@@ -34,7 +35,7 @@ fn read_id(tokens: &mut Tokens<'_>, bots: u16, before: u32) -> Result<u16, ReadR
 /// One more id, if a number comes.
 fn more_id(tokens: &mut Tokens<'_>, bots: u16, before: u32) -> Result<Option<u16>, ReadRefusal>
     ensures reads { Gives (λ o. o) (another is_number (reader.an_id bots before)) tokens.old result tokens.new }
-    ensures room { IfOk result (λ o. IfSome o (λ _. before < spec.most_ids)) }
+    ensures room { IfOk result (λ o. IfSome o (λ _. before < most_ids)) }
     ensures there { IfOk result (λ o. IfSome o (λ n. n < bots)) }
 {
     if !tokens.is_next_kind(TokenKind::Number) {
@@ -62,8 +63,8 @@ fn read_ids(alloc: Global, tokens: &mut Tokens<'_>, bots: u16) -> Result<Vec<u16
 /// The word of a list behind so many, for its line.
 #[tactic(auto, unfolding(crate::specs::Readers::list_word))]
 fn read_list_word(tokens: &mut Tokens<'_>, turns: u32, before: u32) -> Result<u32, ReadRefusal>
-    requires turns { turns ≤ spec.most_turns }
-    requires before { before ≤ spec.most_callers }
+    requires turns { turns ≤ most_turns }
+    requires before { before ≤ most_callers }
     ensures reads { Gives (λ line. line) (reader.list_word turns before) tokens.old result tokens.new }
     ensures few { IfOk result (λ _. AreFew (before + 1) turns) }
 {
@@ -84,8 +85,8 @@ fn read_list(
     turns: u32,
     before: u32,
 ) -> Result<Vec<u16>, ReadRefusal>
-    requires turns { turns ≤ spec.most_turns }
-    requires before { before ≤ spec.most_callers }
+    requires turns { turns ≤ most_turns }
+    requires before { before ≤ most_callers }
     ensures reads { Gives (λ v. v.items) (reader.a_list bots turns before) tokens.old result tokens.new }
     ensures few { IfOk result (λ _. AreFew (before + 1) turns) }
     ensures list { IfOk result (λ v. IsList v.items) }
@@ -103,8 +104,8 @@ fn more_list(
     turns: u32,
     before: u32,
 ) -> Result<Option<Vec<u16>>, ReadRefusal>
-    requires turns { turns ≤ spec.most_turns }
-    requires before { before ≤ spec.most_callers }
+    requires turns { turns ≤ most_turns }
+    requires before { before ≤ most_callers }
     ensures reads { Gives (λ o. option_map (λ v. v.items) o) (another spec.is_list (reader.a_list bots turns before)) tokens.old result tokens.new }
     ensures few { IfOk result (λ o. IfSome o (λ _. AreFew (before + 1) turns)) }
     ensures list { IfOk result (λ o. IfSome o (λ v. IsList v.items)) }
@@ -123,7 +124,7 @@ fn read_all_lists(
     bots: u16,
     turns: u32,
 ) -> Result<Lists, ReadRefusal>
-    requires { turns ≤ spec.most_turns }
+    requires { turns ≤ most_turns }
     ensures reads { Gives (λ l. l) (reader.all_lists bots turns) tokens.old result tokens.new }
     ensures there { IfOk result (HaveBots bots) }
 {
@@ -144,7 +145,7 @@ fn read_all_lists(
 #[tactic(auto, unfolding(crate::specs::Readers::some_turns))]
 fn read_turns(tokens: &mut Tokens<'_>) -> Result<u32, ReadRefusal>
     ensures reads { Gives (λ n. n) reader.some_turns tokens.old result tokens.new }
-    ensures few { IfOk result (λ n. n ≤ spec.most_turns) }
+    ensures few { IfOk result (λ n. n ≤ most_turns) }
 {
     read_word(tokens, b"turns")?;
     number_up_to(tokens, MOST_TURNS, RefusalKind::TooMany)
@@ -166,7 +167,7 @@ fn read_whole(alloc: Global, tokens: &mut Tokens<'_>, bots: u16) -> Result<Lists
 pub fn read_lists(alloc: Global, tokens: &mut Tokens<'_>, bots: u16) -> Result<Lists, ReadRefusal>
     ensures tells { TellsOf (spec.IsLists bots) (λ l. l) tokens.old result tokens.new }
     ensures reads { ReadsOf (spec.IsLists bots) (λ l. l) tokens.old result tokens.new }
-    ensures few { IfOk result (λ l. length l.ids ≤ spec.most_callers) }
+    ensures few { IfOk result (λ l. length l.ids ≤ most_callers) }
     ensures there { IfOk result (HaveBots bots) }
 {
     read_whole(alloc, tokens, bots)

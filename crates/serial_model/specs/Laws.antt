@@ -5,7 +5,13 @@ use Rattle.amoebot_state.specs.declared.verdict.Verdict.{Verdict}
 use Rattle.amoebot_state.specs.Configs.{Config, IsValid}
 use Rattle.amoebot_state.specs.Zones.{Shown}
 use Rattle.amoebot_state.specs.Steps.{Run, HasNext}
+use Rattle.serial_model.specs.declared.Turned.{Turned}
+use Rattle.serial_model.specs.SerialTurns.{SerialTurn}
 use Rattle.serial_model.specs.Replays.{IsFirstNoStep}
+
+-- a turn has at most one answer, and leaves at most one configuration
+abbrev pub SerialTurnIsUnique : Type 0
+SerialTurnIsUnique = (f : Shown → Verdict) (caller turn bot : ℕ) (old : Config) (one two : Turned) (new other : Config) → SerialTurn f caller turn bot old one new → SerialTurn f caller turn bot old two other → (one ≡ two) × (new ≡ other)
 
 -- at most one place is the first that is no step
 abbrev pub FirstNoStepIsUnique : Type 0

@@ -8,7 +8,9 @@ mod laws;
 mod replays;
 
 use amoebot_state::{Decider, Entry, Failure, Verdict, World, has_next};
-pub use laws::{first_no_step_is_unique, run_has_only_steps, run_or_first_no_step};
+pub use laws::{
+    first_no_step_is_unique, run_has_only_steps, run_or_first_no_step, serial_turn_is_unique,
+};
 pub use replays::{Differs, replay};
 use std::marker::Model;
 
@@ -35,6 +37,7 @@ impl Model for Serial {
 }
 
 impl Serial {
+    /// Begins at this world, before any turn.
     pub fn new(world: World) -> Serial
         ensures { result ≡ world }
     {

@@ -1,11 +1,12 @@
 ghost use Rattle.std.specs.Prelude.{◌≡◌, ◌<◌};
+ghost use Rattle.amoebot_state.specs.Limits.{most_vars};
 ghost use Rattle.shape_checks.specs.Values.{value_count};
 
 use amoebot_state::World;
 
 /// How many amoebots have the value in the variable, whose number is below 8.
 pub fn count_value(world: &World, var: u8, value: u8) -> u32
-    requires { var < 8 }
+    requires { var < most_vars }
     ensures { result ≡ value_count world.now var value }
 {
     let mut count = 0;

@@ -44,9 +44,6 @@ same_then {A} {B} p q r same last ts = by (p last ts)
     by (Ok x) = same x.0 last x.1
     by (Err x) = refl
 
-same_left : {A B : Type 0} (p r : Reader A) (q : A → Reader B) → Same p r → Same (p >>= q) (r >>= q)
-same_left p r q same last ts = ap (λ x. and_then x (λ a us. q a last us)) (same last ts)
-
 regrouped : {A B C : Type 0} (p : Reader A) (q : A → Reader B) (r : B → Reader C) → Same ((p >>= q) >>= r) (p >>= λ a. q a >>= r)
 regrouped {A} {B} {C} p q r last ts = by (p last ts)
   where

@@ -1,7 +1,8 @@
 //! Whole documents.
 
-ghost use Rattle.std.specs.Prelude.{◌≡◌, ◌<◌, ◌+◌, ◌^◌, length};
+ghost use Rattle.std.specs.Prelude.{◌≡◌};
 ghost use Rattle.text_tokens.specs.declared.refusal.RefusalKind.TheVariants.{Trailing};
+ghost use Rattle.text_tokens.specs.Text.{IsCountable};
 ghost use Rattle.text_tokens.specs.Steps.{ReadsInput, Gives};
 ghost use Rattle.document_grammar.specs.Documents.{IsDocument};
 ghost use Rattle.document_grammar.specs.DocumentReaders.{document};
@@ -18,7 +19,7 @@ use text_tokens::{ReadRefusal, RefusalKind, Tokens};
 ///
 /// The bytes are read once, from the front on, and none of them is kept.
 pub fn read_sections(alloc: Global, bytes: &[u8], form: Form) -> Result<Sections, ReadRefusal>
-    requires { length bytes.now + 1 < 2 ^ 32 }
+    requires { IsCountable bytes.now }
     ensures { ReadsInput (IsDocument form) Trailing (λ s. s) bytes.now result }
 {
     let mut tokens = Tokens::new(bytes);

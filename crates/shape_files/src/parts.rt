@@ -2,6 +2,7 @@
 
 ghost use Rattle.std.specs.Prelude.{◌≡◌, ◌≤◌};
 ghost use Rattle.std.specs.Option.{option_map};
+ghost use Rattle.amoebot_state.specs.Limits.{most_vars};
 ghost use Rattle.shape_files.specs.Views.{contents};
 ghost use Rattle.document_grammar.specs.Documents.{nothing_yet, vars_of, maxes_in, actions_of, bots_of, callers_of};
 
@@ -45,7 +46,7 @@ impl Parts {
     /// How many variables the program has, and 0 where there is none.
     pub(crate) fn vars(&self) -> u8
         ensures value { result ≡ vars_of self.now.checked }
-        ensures few { result ≤ 8 }
+        ensures few { result ≤ most_vars }
     {
         match &self.checked {
             Some(checked) => checked.program().vars().len() as u8,

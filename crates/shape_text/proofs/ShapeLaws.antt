@@ -11,8 +11,8 @@ use Rattle.text_tokens.proofs.Parts.{part_judged}
 use Rattle.text_tokens.proofs.Beginnings.{starts_judged}
 use Rattle.text_tokens.proofs.Repeating.{part_repeated}
 use Rattle.text_tokens.proofs.Distinguishing.{other_text, a_numeral}
-use Rattle.text_tokens.proofs.Joining.{behind, into, starts_behind, starts_into}
-use Rattle.journal_text.specs.Parts.{word, is_end, IsWord, IsBot}
+use Rattle.text_tokens.proofs.Joining.{one_behind, into, starts_behind, starts_into}
+use Rattle.journal_text.specs.Parts.{word, is_end, IsWord, IsBotText}
 use Rattle.journal_text.specs.Readers.{a_word, a_bot}
 use Rattle.journal_text.proofs.PartLaws.{up_to_end, starts_word, part_word, part_word_within, starts_word_within, part_int, part_bot}
 use Rattle.shape_text.specs.Shapes.{outside, IsSide, an_area_of, IsAreaLine, is_bot, written_bot, past_bots, IsBotWord, IsBotLine, one_more, AreBots, WrittenShape, written_shape, IsWritten, wrong, stands_for, IsShapeUnder, IsShape, IsFinal}
@@ -26,7 +26,7 @@ part_side = a_numeral (outside 1 128)
 
 part_area : IsPart IsAreaLine an_area always
 unfolding an_area
-part_area = behind (part_word (codes "area") refl) (λ line. behind (part_int 4096) (λ x0. behind (part_int 4096) (λ y0. behind part_side (λ w. into (λ h. an_area_of x0 y0 w h) part_side))))
+part_area = one_behind (part_word (codes "area") refl) (λ line. one_behind (part_int 4096) (λ x0. one_behind (part_int 4096) (λ y0. one_behind part_side (λ w. into (λ h. an_area_of x0 y0 w h) part_side))))
 
 -- ---- the amoebots
 
@@ -35,12 +35,12 @@ unfolding bot_word
 part_bot_word before = part_word_within (codes "bot") (past_bots before) refl
 
 module _ (vars : ℕ) where
-  part_its_bot : (line : ℕ) → IsPart (Made (IsBot vars) (λ b. written_bot line b)) (a_bot vars >>= λ b. pure (written_bot line b)) always
+  part_its_bot : (line : ℕ) → IsPart (Made (IsBotText vars) (λ b. written_bot line b)) (a_bot vars >>= λ b. pure (written_bot line b)) always
   part_its_bot line = into (λ b. written_bot line b) (part_bot vars)
 
   part_bot_line : (before : ℕ) → IsPart (IsBotLine vars before) (a_bot_line vars before) always
   unfolding a_bot_line
-  part_bot_line before = behind (part_bot_word before) part_its_bot
+  part_bot_line before = one_behind (part_bot_word before) part_its_bot
 
   pub bot_elements : AreElements (IsBotLine vars) (a_bot_line vars) is_bot always is_end
   bot_elements = record {
@@ -61,14 +61,14 @@ module _ (vars : ℕ) where
 
   part_drawing : IsPart Drawing (a_drawing vars) is_end
   unfolding a_drawing
-  part_drawing = behind part_area (λ area. into (λ bots. written_shape area bots) (part_bots 0))
+  part_drawing = one_behind part_area (λ area. into (λ bots. written_shape area bots) (part_bots 0))
 
   -- ---- the sections
 
   module _ (text : List ℕ) (is : IsPart (IsWord text) (a_word text) always) where
     part_written : IsPart (IsWritten text vars) (written text vars) always
     unfolding written
-    part_written = behind is (λ line. up_to_end part_drawing)
+    part_written = one_behind is (λ line. up_to_end part_drawing)
 
     part_shape_under : (maxes : List ℕ) → IsPart (IsShapeUnder text vars maxes) (shape_under text vars maxes) always
     unfolding shape_under

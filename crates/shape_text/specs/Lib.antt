@@ -1,4 +1,5 @@
 pub mod Judgements
+pub mod Limits
 pub mod Readers
 pub mod Rereading
 pub mod ShapeRows

@@ -5,16 +5,17 @@ use Rattle.text_tokens.specs.Reading.{Reader, ◌>>=◌, pure, one_within, numer
 use Rattle.amoebot_state.specs.Configs.{Config}
 use Rattle.journal_text.specs.Parts.{is_end}
 use Rattle.journal_text.specs.Readers.{a_word, an_int, a_bot}
+use Rattle.shape_text.specs.Limits.{most_start, most_side}
 use Rattle.shape_text.specs.Shapes.{outside, an_area_of, is_bot, WrittenBot, written_bot, past_bots, one_more, WrittenShape, written_shape, wrong, stands_for}
 
 unfoldable pub a_side : Reader ℕ
-a_side = numeral (outside 1 128)
+a_side = numeral (outside 1 most_side)
 
 unfoldable pub an_area : Reader Extent
 an_area = do
   line ← a_word (codes "area")
-  x0 ← an_int 4096
-  y0 ← an_int 4096
+  x0 ← an_int most_start
+  y0 ← an_int most_start
   w ← a_side
   h ← a_side
   pure (an_area_of x0 y0 w h)

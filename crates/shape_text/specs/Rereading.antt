@@ -4,7 +4,7 @@ use Rattle.std.specs.Option.{IsSome}
 use Rattle.std.specs.List.{All}
 use Rattle.amoebot_state.specs.declared.bot.Bot.{Bot}
 use Rattle.amoebot_state.specs.Configs.{Config, IsValid, bot_at}
-use Rattle.amoebot_state.specs.Limits.{most_bots}
+use Rattle.amoebot_state.specs.Limits.{most_bots, most_vars, most_value}
 use Rattle.journal_text.specs.JournalRows.{Says}
 use Rattle.shape_text.specs.Shapes.{IsShape, IsFinal}
 use Rattle.shape_text.specs.Texts.{shape_text}
@@ -14,8 +14,8 @@ pub record IsWritable (vars : ℕ) (c : Config) : Type 0 where
   pub valid : IsValid c
   pub few : length c.bots ≤ most_bots
   pub no_gaps : (id : ℕ) → id < length c.bots → IsSome (bot_at c id)
-  pub maxes : All (λ m. m ≤ 255) c.maxes
-  pub zeros : (id : ℕ) (b : Bot) → bot_at c id ≡ Some b → drop vars b.mem ≡ replicate (8 - vars) 0
+  pub maxes : All (λ m. m ≤ most_value) c.maxes
+  pub zeros : (id : ℕ) (b : Bot) → bot_at c id ≡ Some b → drop vars b.mem ≡ replicate (most_vars - vars) 0
 
 -- such a configuration is read back, as the one section and as the other
 pub record ReadsBack (vars : ℕ) (c : Config) : Type 0 where
@@ -23,4 +23,4 @@ pub record ReadsBack (vars : ℕ) (c : Config) : Type 0 where
   pub final : Says (IsFinal vars c.maxes) (shape_text (codes "final") vars c) (Ok c)
 
 abbrev pub ShapesReadBack : Type 0
-ShapesReadBack = (vars : ℕ) (c : Config) → vars ≤ 8 → IsWritable vars c → ReadsBack vars c
+ShapesReadBack = (vars : ℕ) (c : Config) → vars ≤ most_vars → IsWritable vars c → ReadsBack vars c

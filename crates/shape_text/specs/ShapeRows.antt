@@ -26,8 +26,8 @@ abbrev pub bot : ℤ → ℤ → ℤ → ℤ → ℕ → Chir → List ℕ → B
 bot hx hy tx ty rot chir values = a_bot_of (a_node_of hx hy) (a_node_of tx ty) rot chir values
 
 -- a shape with this area and these amoebots
-abbrev pub Holds : List ℕ → Extent → List Bot → Type 0
-Holds text area bots = Says (IsShape 1 up_to_3) text (Ok (config_of area up_to_3 bots))
+abbrev pub Yields : List ℕ → Extent → List Bot → Type 0
+Yields text area bots = Says (IsShape 1 up_to_3) text (Ok (config_of area up_to_3 bots))
 
 -- a text with this first fault
 abbrev pub Fails : List ℕ → ℕ → RefusalKind → Type 0
@@ -42,13 +42,13 @@ eight_by_eight = an_area_of (pos 0) (pos 0) 8 8
 
 pub record ShapesAreRead : Type 0 where
   -- ---- texts
-  pub no_amoebot : Holds (codes "shape area 0 0 8 8 end") eight_by_eight []
-  pub long_and_round : Holds (codes "shape\narea 0 0 8 8\nbot 3 3 2 3 5 - 3\nbot 7 0 7 0 0 + 0\nbot 0 7 0 7 1 + 1\nend\n") eight_by_eight
+  pub no_amoebot : Yields (codes "shape area 0 0 8 8 end") eight_by_eight []
+  pub long_and_round : Yields (codes "shape\narea 0 0 8 8\nbot 3 3 2 3 5 - 3\nbot 7 0 7 0 0 + 0\nbot 0 7 0 7 1 + 1\nend\n") eight_by_eight
       (bot (pos 3) (pos 3) (pos 2) (pos 3) 5 Minus (3 ∷ []) ∷ bot (pos 7) (pos 0) (pos 7) (pos 0) 0 Plus (0 ∷ []) ∷ bot (pos 0) (pos 7) (pos 0) (pos 7) 1 Plus (1 ∷ []) ∷ [])
   -- the farthest beginnings, the longest and the shortest sides
-  pub left_above : Holds (codes "shape area - 4096 4096 128 1 bot -4096 4096 -4096 4096 0 + 0 bot -3969 4096 - 3970 4096 0 + 0 end") (an_area_of (negsuc 4095) (pos 4096) 128 1)
+  pub left_above : Yields (codes "shape area - 4096 4096 128 1 bot -4096 4096 -4096 4096 0 + 0 bot -3969 4096 - 3970 4096 0 + 0 end") (an_area_of (negsuc 4095) (pos 4096) 128 1)
       (bot (negsuc 4095) (pos 4096) (negsuc 4095) (pos 4096) 0 Plus (0 ∷ []) ∷ bot (negsuc 3968) (pos 4096) (negsuc 3969) (pos 4096) 0 Plus (0 ∷ []) ∷ [])
-  pub right_below : Holds (codes "shape area 4096 -4096 1 128 bot 4096 -3969 4096 -3969 0 + 0 end") (an_area_of (pos 4096) (negsuc 4095) 1 128) (bot (pos 4096) (negsuc 3968) (pos 4096) (negsuc 3968) 0 Plus (0 ∷ []) ∷ [])
+  pub right_below : Yields (codes "shape area 4096 -4096 1 128 bot 4096 -3969 4096 -3969 0 + 0 end") (an_area_of (pos 4096) (negsuc 4095) 1 128) (bot (pos 4096) (negsuc 3968) (pos 4096) (negsuc 3968) 0 Plus (0 ∷ []) ∷ [])
   -- no variable, and eight
   pub no_value : Says (IsShape 0 all_zero) (codes "shape area 0 0 8 8 bot 2 3 2 3 0 + end") (Ok (config_of eight_by_eight all_zero (bot (pos 2) (pos 3) (pos 2) (pos 3) 0 Plus [] ∷ [])))
   pub eight_values : Says (IsShape 8 rising) (codes "shape area 0 0 8 8 bot 2 3 2 3 0 + 1 2 3 4 5 6 7 255 end") (Ok (config_of eight_by_eight rising (bot (pos 2) (pos 3) (pos 2) (pos 3) 0 Plus rising ∷ [])))

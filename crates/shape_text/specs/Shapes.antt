@@ -20,7 +20,8 @@ use Rattle.amoebot_state.specs.declared.refusal.WorldRefusal.TheVariants as worl
 use Rattle.amoebot_state.specs.Configs.{Config, config_of, with_bot}
 use Rattle.amoebot_state.specs.Limits.{most_bots}
 use Rattle.amoebot_state.specs.Refusals.{bot_fault}
-use Rattle.journal_text.specs.Parts.{word, is_end, IsWord, IsInt, IsBot}
+use Rattle.journal_text.specs.Parts.{word, is_end, IsWord, IsInt, IsBotText}
+use Rattle.shape_text.specs.Limits.{most_start, most_side}
 
 -- ---- the area
 
@@ -29,13 +30,13 @@ outside least most t = if nat_le least (value t) && nat_le (value t) most then N
 
 -- a side of an area
 abbrev pub IsSide : Lang ℕ
-IsSide = IsNumeral (outside 1 128)
+IsSide = IsNumeral (outside 1 most_side)
 
 abbrev pub an_area_of : ℤ → ℤ → ℕ → ℕ → Extent
 an_area_of x0 y0 w h = record { x0 = x0; y0 = y0; w = w; h = h }
 
 abbrev pub IsAreaLine : Lang Extent
-IsAreaLine = Then (IsWord (codes "area")) (λ line. Then (IsInt 4096) (λ x0. Then (IsInt 4096) (λ y0. Then IsSide (λ w. Made IsSide (λ h. an_area_of x0 y0 w h)))))
+IsAreaLine = Then (IsWord (codes "area")) (λ line. Then (IsInt most_start) (λ x0. Then (IsInt most_start) (λ y0. Then IsSide (λ w. Made IsSide (λ h. an_area_of x0 y0 w h)))))
 
 -- ---- the amoebots
 
@@ -60,7 +61,7 @@ IsBotWord before = Made (IsOne is_bot (past_bots before)) (λ t. t.line)
 
 -- an amoebot with the values of so many variables, behind so many
 abbrev pub IsBotLine : ℕ → ℕ → Lang WrittenBot
-IsBotLine vars before = Then (IsBotWord before) (λ line. Made (IsBot vars) (λ b. written_bot line b))
+IsBotLine vars before = Then (IsBotWord before) (λ line. Made (IsBotText vars) (λ b. written_bot line b))
 
 abbrev pub one_more : ℕ → WrittenBot → ℕ
 one_more before b = suc before

@@ -2,6 +2,7 @@
 
 ghost use Rattle.std.specs.Prelude.{◌≡◌, ◌≤◌, ◌++◌, map, IfOk, OnOk};
 ghost use Rattle.text_tokens.specs.Lines.{line_text, lines_text};
+ghost use Rattle.amoebot_state.specs.Limits.{most_vars};
 ghost use Rattle.shape_text.specs.Texts.{area_words, bot_line, present, shape_text};
 
 use amoebot_state::{NoMemory, World};
@@ -13,7 +14,7 @@ use tri_lattice::Area;
 /// The section of a shape under the given word: its area, and its amoebots by rising id, with the values of so many variables,
 /// at most 8.
 pub fn print_shape(alloc: Global, word: &str, world: &World, vars: u8) -> Result<Text, NoMemory>
-    requires { vars ≤ 8 }
+    requires { vars ≤ most_vars }
     ensures { IfOk result (λ text. text ≡ shape_text word.now vars world.now) }
 {
     let mut lines = Lines::new(alloc);
@@ -23,7 +24,7 @@ pub fn print_shape(alloc: Global, word: &str, world: &World, vars: u8) -> Result
 
 /// Adds that section to a text.
 pub fn put_shape(lines: &mut Lines, word: &str, world: &World, vars: u8) -> Result<(), AllocError>
-    requires { vars ≤ 8 }
+    requires { vars ≤ most_vars }
     ensures { OnOk result (lines.new ≡ lines.old ++ shape_text word.now vars world.now) }
 {
     lines.open_section(word)?;
@@ -45,7 +46,7 @@ fn put_area(lines: &mut Lines, area: Area) -> Result<(), AllocError>
 
 /// The amoebots, each on a line.
 fn put_bots(lines: &mut Lines, world: &World, vars: u8) -> Result<(), AllocError>
-    requires { vars ≤ 8 }
+    requires { vars ≤ most_vars }
     ensures { OnOk result (lines.new ≡ lines.old ++ lines_text (map (bot_line vars) (present world.now.bots))) }
 {
     for id in 0..world.bots() {

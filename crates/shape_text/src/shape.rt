@@ -4,8 +4,9 @@ ghost use Rattle.std.specs.Prelude.{◌≡◌, ◌<◌, ◌≤◌, ◌⊎◌, co
 ghost use Rattle.std.specs.List.{All};
 ghost use Rattle.text_tokens.specs.declared.refusal.ReadRefusal.TheVariants.{NoMemory, Refused};
 ghost use Rattle.text_tokens.specs.Steps.{Gives, ReadsOf, TellsOf, another};
-ghost use Rattle.amoebot_state.specs.Limits.{most_bots};
+ghost use Rattle.amoebot_state.specs.Limits.{most_bots, most_vars};
 ghost use Rattle.amoebot_state.specs.Refusals.{IsPlain};
+ghost use Rattle.shape_text.specs.Limits.{most_side};
 ghost use Rattle.shape_text.specs.Shapes as spec;
 ghost use Rattle.shape_text.specs.Readers as reader;
 ghost use Rattle.shape_text.specs.Views as view;
@@ -41,7 +42,7 @@ pub(crate) struct WrittenShape {
 fn read_side(tokens: &mut Tokens<'_>) -> Result<u16, ReadRefusal>
     ensures reads { Gives (λ n. n) reader.a_side tokens.old result tokens.new }
     ensures low { IfOk result (λ n. 1 ≤ n) }
-    ensures high { IfOk result (λ n. n ≤ 128) }
+    ensures high { IfOk result (λ n. n ≤ most_side) }
 {
     let token = tokens.take_kind(TokenKind::Number)?;
     let side = tokens.number(&token);
@@ -66,7 +67,7 @@ fn read_area(tokens: &mut Tokens<'_>) -> Result<Area, ReadRefusal>
 /// An amoebot behind so many.
 #[tactic(auto, unfolding(crate::specs::Readers::a_bot_line, crate::specs::Readers::bot_word))]
 fn read_bot_line(tokens: &mut Tokens<'_>, vars: u8, before: u32) -> Result<WrittenBot, ReadRefusal>
-    requires { vars ≤ 8 }
+    requires { vars ≤ most_vars }
     ensures reads { Gives view.bot (reader.a_bot_line vars before) tokens.old result tokens.new }
     ensures room { IfOk result (λ _. before < most_bots) }
     ensures plain { IfOk result (λ b. IsPlain b.bot) }
@@ -82,7 +83,7 @@ fn more_bot(
     vars: u8,
     before: u32,
 ) -> Result<Option<WrittenBot>, ReadRefusal>
-    requires { vars ≤ 8 }
+    requires { vars ≤ most_vars }
     ensures reads { Gives (λ o. option_map view.bot o) (another spec.is_bot (reader.a_bot_line vars before)) tokens.old result tokens.new }
     ensures room { IfOk result (λ o. IfSome o (λ _. before < most_bots)) }
     ensures plain { IfOk result (λ o. IfSome o (λ b. IsPlain b.bot)) }
@@ -98,7 +99,7 @@ fn read_bots(
     tokens: &mut Tokens<'_>,
     vars: u8,
 ) -> Result<Vec<WrittenBot>, ReadRefusal>
-    requires { vars ≤ 8 }
+    requires { vars ≤ most_vars }
     ensures reads { Gives (λ v. map view.bot v.items) (reader.all_bots vars) tokens.old result tokens.new }
     ensures few { IfOk result (λ v. vec_len v ≤ most_bots) }
     ensures plain { IfOk result (λ v. All (λ b. IsPlain b.bot) v.items) }
@@ -118,7 +119,7 @@ fn read_drawing(
     tokens: &mut Tokens<'_>,
     vars: u8,
 ) -> Result<WrittenShape, ReadRefusal>
-    requires { vars ≤ 8 }
+    requires { vars ≤ most_vars }
     ensures reads { Gives view.shape (reader.a_drawing vars) tokens.old result tokens.new }
     ensures few { IfOk result (λ s. vec_len s.bots ≤ most_bots) }
     ensures plain { IfOk result (λ s. All (λ b. IsPlain b.bot) s.bots.items) }
@@ -136,7 +137,7 @@ fn read_written(
     text: &[u8],
     vars: u8,
 ) -> Result<WrittenShape, ReadRefusal>
-    requires { vars ≤ 8 }
+    requires { vars ≤ most_vars }
     ensures reads { Gives view.shape (reader.written text.now vars) tokens.old result tokens.new }
     ensures few { IfOk result (λ s. vec_len s.bots ≤ most_bots) }
     ensures plain { IfOk result (λ s. All (λ b. IsPlain b.bot) s.bots.items) }
@@ -205,7 +206,7 @@ fn read_under(
     vars: u8,
     maxes: [u8; 8],
 ) -> Result<World, ReadRefusal>
-    requires { vars ≤ 8 }
+    requires { vars ≤ most_vars }
     ensures reads { Gives (λ c. c) (reader.shape_under text.now vars maxes) tokens.old result tokens.new }
     ensures few { IfOk result (λ w. length w.bots ≤ most_bots) }
 {
@@ -221,7 +222,7 @@ pub fn read_shape(
     vars: u8,
     maxes: [u8; 8],
 ) -> Result<World, ReadRefusal>
-    requires { vars ≤ 8 }
+    requires { vars ≤ most_vars }
     ensures tells { TellsOf (spec.IsShape vars maxes) (λ c. c) tokens.old result tokens.new }
     ensures reads { ReadsOf (spec.IsShape vars maxes) (λ c. c) tokens.old result tokens.new }
     ensures few { IfOk result (λ w. length w.bots ≤ most_bots) }
@@ -236,7 +237,7 @@ pub fn read_final(
     vars: u8,
     maxes: [u8; 8],
 ) -> Result<World, ReadRefusal>
-    requires { vars ≤ 8 }
+    requires { vars ≤ most_vars }
     ensures tells { TellsOf (spec.IsFinal vars maxes) (λ c. c) tokens.old result tokens.new }
     ensures reads { ReadsOf (spec.IsFinal vars maxes) (λ c. c) tokens.old result tokens.new }
     ensures few { IfOk result (λ w. length w.bots ≤ most_bots) }

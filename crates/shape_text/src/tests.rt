@@ -1,4 +1,5 @@
 ghost use Rattle.std.specs.Prelude.{◌≤◌};
+ghost use Rattle.amoebot_state.specs.Limits.{most_vars};
 
 use super::*;
 use amoebot_state::World;
@@ -20,7 +21,7 @@ const UP_TO_3: [u8; 8] = [3, 0, 0, 0, 0, 0, 0, 0];
 
 /// The world of a whole text of a shape.
 fn read_text(alloc: Global, text: &[u8], vars: u8, maxes: [u8; 8]) -> Result<World, ReadRefusal>
-    requires { vars ≤ 8 }
+    requires { vars ≤ most_vars }
 {
     if text.len() > MOST_BYTES {
         return Err(ReadRefusal::NoMemory);
@@ -48,7 +49,7 @@ fn at(line: u32, kind: RefusalKind) -> Option<ReadRefusal> {
 
 /// Whether a text is read, printed as it was, and read as the same world again.
 fn is_kept(alloc: Global, text: &[u8], vars: u8, maxes: [u8; 8]) -> bool
-    requires { vars ≤ 8 }
+    requires { vars ≤ most_vars }
 {
     let Ok(first) = read_text(alloc, text, vars, maxes) else {
         return false;
@@ -66,10 +67,10 @@ fn is_kept(alloc: Global, text: &[u8], vars: u8, maxes: [u8; 8]) -> bool
 }
 
 /// A text with the number of its variables and their maxima.
-type Kept = (&'static str, u8, [u8; 8]);
+type ShapeText = (&'static str, u8, [u8; 8]);
 
 /// Shapes of runs, one without an amoebot, negative coordinates, and eight variables.
-static KEPT: [Kept; 11] = [
+static KEPT: [ShapeText; 11] = [
     ("shape\narea 0 0 8 8\nend\n", 0, [0; 8]),
     ("shape\narea 0 0 8 8\nend\n", 8, [255; 8]),
     ("shape\narea 0 0 8 8\nbot 2 3 2 3 0 +\nend\n", 0, [0; 8]),
@@ -112,7 +113,7 @@ static KEPT: [Kept; 11] = [
     ),
 ];
 
-fn are_kept(rt: &impl Abort, alloc: Global, table: &[Kept]) {
+fn are_kept(rt: &impl Abort, alloc: Global, table: &[ShapeText]) {
     for (text, vars, maxes) in table {
         assert!(rt; *vars <= 8);
         assert!(rt; is_kept(alloc, text.as_bytes(), *vars, *maxes), "{text}");

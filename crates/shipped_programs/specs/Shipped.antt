@@ -6,7 +6,7 @@ use Rattle.action_tree.specs.Samples as sample
 use Rattle.action_tree.specs.declared.expression.PortSet.TheVariants.{Ports}
 use Rattle.shipped_programs.specs.declared.shipped.Shipped.{Shipped}
 use Rattle.shipped_programs.specs.declared.shipped.Shipped.TheVariants.{Hexagon, Erosion, Line}
-use Rattle.shipped_programs.specs.declared.shipped.TheConstants.{HEXAGON, EROSION, LINE}
+use Rattle.shipped_programs.specs.Texts.{text_of_hexagon, text_of_erosion, text_of_line}
 
 -- the name of a shipped program
 abbrev pub name_of : Shipped → List ℕ
@@ -22,9 +22,9 @@ tree_of Line = sample.line
 
 -- its text
 abbrev pub text_of : Shipped → List ℕ
-text_of Hexagon = HEXAGON.now
-text_of Erosion = EROSION.now
-text_of Line = LINE.now
+text_of Hexagon = text_of_hexagon
+text_of Erosion = text_of_erosion
+text_of Line = text_of_line
 
 -- ---- a part of `erosion`
 

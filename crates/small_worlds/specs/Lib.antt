@@ -1,3 +1,4 @@
 pub mod Marking
 pub mod Resting
 pub mod Rows
+pub mod Turns

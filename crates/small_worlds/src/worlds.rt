@@ -4,6 +4,7 @@ ghost use Rattle.std.specs.Prelude.{◌≡◌, ◌<◌, ◌≤◌, ◌∷◌, �
 ghost use Rattle.std.specs.Bool.{OnTrue};
 ghost use Rattle.std.specs.List.{All};
 ghost use Rattle.tri_lattice.specs.Lattice.{IsNear};
+ghost use Rattle.amoebot_state.specs.Limits.{most_bots};
 ghost use Rattle.amoebot_state.specs.Configs.{bot_at};
 ghost use Rattle.amoebot_state.specs.Refusals.{IsPlain};
 ghost use Rattle.claim_core.specs.Turns.{HaveBots};
@@ -56,7 +57,7 @@ pub fn turned(x: u8, y: u8) -> Bot
 
 /// The world of these amoebots in the area 0 0 8 8, whose variable 0 is 0 or 1.
 pub fn world_of(alloc: Global, bots: &[Bot]) -> Result<World, Fail>
-    requires few { length bots.now ≤ 4096 }
+    requires few { length bots.now ≤ most_bots }
     requires plain { All IsPlain bots.now }
     ensures { IfOk result (λ world. world.bots ≡ map Some bots.now) }
 {
@@ -65,7 +66,7 @@ pub fn world_of(alloc: Global, bots: &[Bot]) -> Result<World, Fail>
 
 /// That world in the area of this width and height at 0 0.
 pub fn world_in(alloc: Global, w: u16, h: u16, bots: &[Bot]) -> Result<World, Fail>
-    requires few { length bots.now ≤ 4096 }
+    requires few { length bots.now ≤ most_bots }
     requires plain { All IsPlain bots.now }
     ensures { IfOk result (λ world. world.bots ≡ map Some bots.now) }
 {

@@ -148,12 +148,9 @@ starts_in_repeated E step test r s zs many t (one_more {xs = xs} {ys = ys} {rest
 
 -- ---- some token
 
-pub some_made : {A B : Type 0} (P : Lang A) (f : A → B) → HasTokens P → HasTokens (Made P f)
-some_made P f some xs b (made a is) e = some xs a is e
-
-right_empty : (us vs : List Lexeme) → us ++ vs ≡ [] → vs ≡ []
-right_empty [] vs e = e
-right_empty (u ∷ us) vs e = absurd cc
+pub right_empty : {A : Type 0} (xs ys : List A) → xs ++ ys ≡ [] → ys ≡ []
+right_empty [] ys e = e
+right_empty (x ∷ xs) ys e = absurd cc
 
 -- where the second part has one
 pub some_behind : {A B : Type 0} (P : Lang A) (Q : A → Lang B) → ((a : A) → HasTokens (Q a)) → HasTokens (Then P Q)

@@ -19,16 +19,16 @@ use Rattle.text_tokens.proofs.Beginnings.{starts_one, starts_made}
 
 -- ---- a token that passes a test
 
-abbrev pub sample : TokenKind → List ℕ → Lexeme
-sample kind text = record { kind = kind; text = text; «from» = 0; line = 0 }
+abbrev pub passing : TokenKind → List ℕ → Lexeme
+passing kind text = record { kind = kind; text = text; «from» = 0; line = 0 }
 
-pub passes : (kind : TokenKind) (text : List ℕ) → bytes_eq text text ≡ true → is_the kind text (sample kind text) ≡ true
+pub passes : (kind : TokenKind) (text : List ℕ) → bytes_eq text text ≡ true → is_the kind text (passing kind text) ≡ true
 unfolding same_kind
 passes Word text e = e
 passes Number text e = e
 passes Sign text e = e
 
-pub passes_number : is_number (sample Number (codes "1")) ≡ true
+pub passes_number : is_number (passing Number (codes "1")) ≡ true
 unfolding same_kind
 passes_number = refl
 
@@ -56,10 +56,10 @@ other_text kind v w t n e =
 -- ---- parts
 
 pub a_token : (kind : TokenKind) (text : List ℕ) → bytes_eq text text ≡ true → IsPart (IsThe (is_the kind text)) (the_line (is_the kind text)) always
-a_token kind text e = part_the (is_the kind text) (sample kind text) (passes kind text e)
+a_token kind text e = part_the (is_the kind text) (passing kind text) (passes kind text e)
 
 pub a_numeral : (over : Lexeme → Option RefusalKind) → IsPart (IsNumeral over) (numeral over) always
-a_numeral over = part_numeral over (sample Number (codes "1")) passes_number
+a_numeral over = part_numeral over (passing Number (codes "1")) passes_number
 
 pub starts_the : (test : Lexeme → Bool) → Starts (IsThe test) test no_limit
 starts_the test = starts_made (IsOne test no_limit) (λ t. t.line) test no_limit (starts_one test no_limit)

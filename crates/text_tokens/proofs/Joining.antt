@@ -11,8 +11,8 @@ use Rattle.text_tokens.proofs.Beginnings.{starts_in, starts_some, starts_made, s
 use Rattle.text_tokens.proofs.Choosing.{part_either}
 
 -- behind a part with which no token goes on
-pub behind : {A B : Type 0} {P : Lang A} {p : Reader A} {Q : A → Lang B} {q : A → Reader B} {stop : Lexeme → Bool} → IsPart P p always → ((a : A) → IsPart (Q a) (q a) stop) → IsPart (Then P Q) (p >>= q) stop
-behind {P = P} {p = p} {Q = Q} {q = q} {stop = stop} before part = part_behind P p Q q stop before part
+pub one_behind : {A B : Type 0} {P : Lang A} {p : Reader A} {Q : A → Lang B} {q : A → Reader B} {stop : Lexeme → Bool} → IsPart P p always → ((a : A) → IsPart (Q a) (q a) stop) → IsPart (Then P Q) (p >>= q) stop
+one_behind {P = P} {p = p} {Q = Q} {q = q} {stop = stop} before part = part_behind P p Q q stop before part
 
 -- what is made of a part
 pub into : {A B : Type 0} {P : Lang A} {p : Reader A} {stop : Lexeme → Bool} (f : A → B) → IsPart P p stop → IsPart (Made P f) (p >>= λ a. pure (f a)) stop

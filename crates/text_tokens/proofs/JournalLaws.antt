@@ -14,7 +14,7 @@ use Rattle.text_tokens.proofs.Carrying.{part_made}
 use Rattle.text_tokens.proofs.Parts.{some_text, part_behind, part_closed, part_judged}
 use Rattle.text_tokens.proofs.Beginnings.{starts_then, starts_judged}
 use Rattle.text_tokens.proofs.Repeating.{at_most_elements, part_repeated}
-use Rattle.text_tokens.proofs.Distinguishing.{sample, passes, other_text, a_token, a_numeral, starts_the}
+use Rattle.text_tokens.proofs.Distinguishing.{passing, passes, other_text, a_token, a_numeral, starts_the}
 
 -- ---- pairs
 
@@ -82,7 +82,7 @@ part_entries = part_repeated EntryIn entry_in as_before is_entry no_pair is_end 
 
 pub part_journal : IsPart IsJournal journal always
 unfolding journal
-part_journal = part_closed (Repeated (λ s. IsEntry) as_before tt) all_entries is_end (sample Word (codes "end")) (passes Word (codes "end") refl) part_entries
+part_journal = part_closed (Repeated (λ s. IsEntry) as_before tt) all_entries is_end (passing Word (codes "end")) (passes Word (codes "end") refl) part_entries
 
 pub exact_journal : Exact IsJournal journal
 exact_journal = exact IsJournal journal part_journal.law

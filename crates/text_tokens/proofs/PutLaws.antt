@@ -15,17 +15,17 @@ use Rattle.text_tokens.proofs.Parts.{some_text, part_less, part_one, part_before
 use Rattle.text_tokens.proofs.Beginnings.{starts_in, starts_some, starts_made, starts_then}
 use Rattle.text_tokens.proofs.Choosing.{part_optional, part_limited, part_roles}
 use Rattle.text_tokens.proofs.Repeating.{part_chained}
-use Rattle.text_tokens.proofs.Distinguishing.{sample, other_text, sign_no_number, a_token, a_numeral, starts_the, starts_numeral}
+use Rattle.text_tokens.proofs.Distinguishing.{passing, other_text, sign_no_number, a_token, a_numeral, starts_the, starts_numeral}
 
 -- ---- parts of sums
 
-passes_name : is_name (sample Word (codes "a")) ≡ true
+passes_name : is_name (passing Word (codes "a")) ≡ true
 unfolding same_kind
 passes_name = refl
 
 part_name : IsPart IsName a_name always
 unfolding a_name
-part_name = part_made (IsOne is_name no_limit) (λ t. t.text) (one is_name) always (part_one is_name no_limit (sample Word (codes "a")) passes_name)
+part_name = part_made (IsOne is_name no_limit) (λ t. t.text) (one is_name) always (part_one is_name no_limit (passing Word (codes "a")) passes_name)
 
 part_number : (minus : Bool) → IsPart (IsPartOf minus) (part_of minus) always
 unfolding part_of
@@ -58,13 +58,13 @@ Rest minus = Chained (IsPartOf minus) is_plus_or_minus (λ sign room. Limited (I
 abbrev rest : Bool → Reader (List Part)
 rest minus = chained (part_of minus) is_plus_or_minus (λ sign room. limited is_number no_limit room (part_of (is_minus sign))) (λ room p. less room) (λ p. 3) (λ p ps. p ∷ ps)
 
-passes_minus : is_plus_or_minus (sample Sign (codes "-")) ≡ true
+passes_minus : is_plus_or_minus (passing Sign (codes "-")) ≡ true
 unfolding same_kind
 passes_minus = refl
 
 part_rest : (minus : Bool) → IsPart (Rest minus) (rest minus) no_sign
 part_rest minus = part_chained (IsPartOf minus) (part_of minus) is_plus_or_minus (λ sign room. Limited (IsPartOf (is_minus sign)) room) (λ sign room. limited is_number no_limit room (part_of (is_minus sign))) always no_sign (record {
-  sample = sample Sign (codes "-");
+  passing = passing Sign (codes "-");
   passes = passes_minus;
   before = part_number minus;
   part = λ sign room. part_limited (IsPartOf (is_minus sign)) (part_of (is_minus sign)) is_number no_limit (starts_number (is_minus sign)) always (part_number (is_minus sign)) room;

@@ -201,7 +201,7 @@ module _ {F A B S : Type 0} (P : Lang F) (p : Reader F) (separates : Lexeme → 
   behind_elements = record {
     over = λ s. no_limit;
     start = λ s. starts_then (IsOne separates no_limit) (λ sign. E sign s) separates no_limit (starts_one separates no_limit) (λ sign. some_text (E sign s) (element sign s) (j.part sign s).law);
-    part = λ s. part_behind (IsOne separates no_limit) (one separates) (λ sign. E sign s) (λ sign. element sign s) between (part_one separates no_limit j.sample j.passes) (λ sign. j.part sign s);
+    part = λ s. part_behind (IsOne separates no_limit) (one separates) (λ sign. E sign s) (λ sign. element sign s) between (part_one separates no_limit j.passing j.passes) (λ sign. j.part sign s);
     again = j.again;
     ends = j.ends;
     differ = j.differ;

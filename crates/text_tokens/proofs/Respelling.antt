@@ -196,14 +196,14 @@ pub rereads_nothing : {A : Type 0} {P : Lang A} (a : A) → P [] a → Rereads P
 rereads_nothing a is = rereads_none a is refl
 
 -- what holds of what is read is known with it
-pub record Kept {A : Type 0} (P : Lang A) (R : A → Type 0) (xs : List Symbol) (a : A) : Type 0 where
+pub record AndHolds {A : Type 0} (P : Lang A) (R : A → Type 0) (xs : List Symbol) (a : A) : Type 0 where
   pub is : P xs a
   pub holds : R a
 
-kept_found : {A : Type 0} {P : Lang A} {R : A → Type 0} (ts : List Lexeme) → Found P R ts → Found (Kept P R) R ts
+kept_found : {A : Type 0} {P : Lang A} {R : A → Type 0} (ts : List Lexeme) → Found P R ts → Found (AndHolds P R) R ts
 kept_found ts f = record { value = f.value; whole = record { text = f.whole.text; is = record { is = f.whole.is; holds = f.holds }; parts = f.whole.parts; fine = f.whole.fine }; holds = f.holds }
 
-pub rereads_kept : {A : Type 0} {P : Lang A} {R : A → Type 0} {words : Words} → Rereads P R words → Rereads (Kept P R) R words
+pub rereads_kept : {A : Type 0} {P : Lang A} {R : A → Type 0} {words : Words} → Rereads P R words → Rereads (AndHolds P R) R words
 rereads_kept p = record { spelled = p.spelled; printed = p.printed; read = λ ts s. kept_found ts (p.read ts s) }
 
 -- nothing is behind it

@@ -1,6 +1,7 @@
 -- What a `Tokens` keeps.
-use Rattle.std.specs.Prelude.{◌≡◌, ◌<◌, ◌≤◌, ◌+◌, ◌^◌, length, drop}
+use Rattle.std.specs.Prelude.{◌≡◌, ◌≤◌, ◌+◌, length, drop}
 use Rattle.text_tokens.specs.declared.tokens.Tokens.TheInside.{Inside}
+use Rattle.text_tokens.specs.Text.{IsCountable}
 use Rattle.text_tokens.specs.Scan.{Input, ready, front}
 use Rattle.text_tokens.specs.Cursor.{Cursor, at_input}
 
@@ -16,4 +17,4 @@ pub record IsReady (t : Inside) : Type 0 where
   pub front : t.front ≡ front (drop t.at t.source.now)
   pub within : t.at ≤ length t.source.now
   pub line : t.line ≤ t.at + 1
-  pub small : length t.source.now + 1 < 2 ^ 32
+  pub small : IsCountable t.source.now

@@ -31,8 +31,8 @@ bad = at 20 BadByte
 abbrev pub IsWholeInput : Refusal → List Lexeme → List Noted → Type 0
 IsWholeInput last ts es = IsInput IsJournal Trailing last ts es
 
-abbrev pub IsFirst : Refusal → List Lexeme → Refusal → Type 0
-IsFirst last ts r = IsInputFault IsJournal Trailing last ts r
+abbrev pub IsWholeInputFault : Refusal → List Lexeme → Refusal → Type 0
+IsWholeInputFault last ts r = IsInputFault IsJournal Trailing last ts r
 
 pub record JournalsAreRead : Type 0 where
   -- a text, the largest number of a pair in it, and what stands behind its end
@@ -45,12 +45,12 @@ pub record JournalsAreRead : Type 0 where
   -- a whole input
   pub input : IsWholeInput ends (closed_by_end []) noted_entries
   -- a token behind it, and what is none
-  pub trailing : IsFirst ends (closed_by_end (word 10 (codes "entry") ∷ [])) (at 10 Trailing)
-  pub bad_byte : IsFirst bad (closed_by_end []) bad
+  pub trailing : IsWholeInputFault ends (closed_by_end (word 10 (codes "entry") ∷ [])) (at 10 Trailing)
+  pub bad_byte : IsWholeInputFault bad (closed_by_end []) bad
   -- a token comes before a bad byte behind it
-  pub trailing_first : IsFirst bad (closed_by_end (word 10 (codes "entry") ∷ [])) (at 10 Trailing)
+  pub trailing_first : IsWholeInputFault bad (closed_by_end (word 10 (codes "entry") ∷ [])) (at 10 Trailing)
   -- an input that ends too early, or at a bad byte
-  pub truncated : IsFirst ends (entries (codes "9") []) ends
-  pub bad_early : IsFirst bad (entries (codes "9") []) bad
+  pub truncated : IsWholeInputFault ends (entries (codes "9") []) ends
+  pub bad_early : IsWholeInputFault bad (entries (codes "9") []) bad
   -- a fault within it comes before a token behind it
-  pub within : IsFirst ends (word 1 (codes "entry") ∷ number 1 (codes "1") ∷ word 2 (codes "end") ∷ word 3 (codes "end") ∷ []) (at 1 BadEntry)
+  pub within : IsWholeInputFault ends (word 1 (codes "entry") ∷ number 1 (codes "1") ∷ word 2 (codes "end") ∷ word 3 (codes "end") ∷ []) (at 1 BadEntry)

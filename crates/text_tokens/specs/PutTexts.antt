@@ -1,30 +1,27 @@
 -- Some texts and faults of the small format whose forms begin alike. Each token stands on a line of its own, and the text ends on line 20.
 use Rattle.std.specs.Prelude.{ℕ, true, false, List, [], ◌∷◌, Some, None, codes}
 use Rattle.text_tokens.specs.declared.refusal.Refusal.{Refusal}
-use Rattle.text_tokens.specs.declared.refusal.RefusalKind.{RefusalKind}
 use Rattle.text_tokens.specs.declared.refusal.RefusalKind.TheVariants.{Unexpected, TooMany, Truncated}
 use Rattle.text_tokens.specs.Text.{Lexeme}
-use Rattle.text_tokens.specs.Promises.{word, number, sign}
+use Rattle.text_tokens.specs.Promises.{word_from, number_from, sign_from}
 use Rattle.text_tokens.specs.Lawful.{IsText, IsFault}
+use Rattle.text_tokens.specs.JournalFaults.{at}
 use Rattle.text_tokens.specs.Puts.{Put, a_part, a_put, IsPut}
 
 abbrev pub name : ℕ → List ℕ → Lexeme
-name line text = word 0 line text
+name line text = word_from 0 line text
 
 abbrev pub digits : ℕ → List ℕ → Lexeme
-digits line text = number 0 line text
+digits line text = number_from 0 line text
 
 abbrev pub op : ℕ → List ℕ → Lexeme
-op line text = sign 0 line text
-
-abbrev pub at : ℕ → RefusalKind → Refusal
-at line kind = record { line = line; kind = kind }
+op line text = sign_from 0 line text
 
 abbrev pub IsRead : List Lexeme → Put → List Lexeme → Type 0
 IsRead ts put rest = IsText IsPut ts put rest
 
-abbrev pub IsFirst : List Lexeme → Refusal → Type 0
-IsFirst ts r = IsFault IsPut (at 20 Truncated) ts r
+abbrev pub IsPutFault : List Lexeme → Refusal → Type 0
+IsPutFault ts r = IsFault IsPut (at 20 Truncated) ts r
 
 -- a :=
 abbrev pub to_a : List Lexeme → List Lexeme
@@ -40,12 +37,12 @@ pub record PutsAreRead : Type 0 where
   -- a . b := - 1
   pub others : IsRead (name 1 (codes "a") ∷ op 2 (codes ".") ∷ name 3 (codes "b") ∷ op 4 (codes ":=") ∷ op 5 (codes "-") ∷ digits 6 (codes "1") ∷ []) (a_put (Some (codes "a")) (codes "b") (a_part true 1 ∷ [])) []
   -- behind a name neither form goes on so, and behind the point a name is needed
-  pub neither : IsFirst (name 1 (codes "a") ∷ op 2 (codes ";") ∷ []) (at 2 Unexpected)
-  pub alone : IsFirst (name 1 (codes "a") ∷ []) (at 20 Truncated)
-  pub no_name : IsFirst (name 1 (codes "a") ∷ op 2 (codes ".") ∷ op 3 (codes ":=") ∷ []) (at 3 Unexpected)
+  pub neither : IsPutFault (name 1 (codes "a") ∷ op 2 (codes ";") ∷ []) (at 2 Unexpected)
+  pub alone : IsPutFault (name 1 (codes "a") ∷ []) (at 20 Truncated)
+  pub no_name : IsPutFault (name 1 (codes "a") ∷ op 2 (codes ".") ∷ op 3 (codes ":=") ∷ []) (at 3 Unexpected)
   -- a sign needs a number
-  pub no_number : IsFirst (to_a (digits 3 (codes "1") ∷ op 4 (codes "+") ∷ op 5 (codes "-") ∷ [])) (at 5 Unexpected)
-  pub no_more : IsFirst (to_a (digits 3 (codes "1") ∷ op 4 (codes "+") ∷ [])) (at 20 Truncated)
+  pub no_number : IsPutFault (to_a (digits 3 (codes "1") ∷ op 4 (codes "+") ∷ op 5 (codes "-") ∷ [])) (at 5 Unexpected)
+  pub no_more : IsPutFault (to_a (digits 3 (codes "1") ∷ op 4 (codes "+") ∷ [])) (at 20 Truncated)
   -- the fifth number, and what is none
-  pub fifth : IsFirst (to_a (four (op 10 (codes "+") ∷ digits 11 (codes "5") ∷ []))) (at 11 TooMany)
-  pub no_fifth : IsFirst (to_a (four (op 10 (codes "+") ∷ name 11 (codes "b") ∷ []))) (at 11 Unexpected)
+  pub fifth : IsPutFault (to_a (four (op 10 (codes "+") ∷ digits 11 (codes "5") ∷ []))) (at 11 TooMany)
+  pub no_fifth : IsPutFault (to_a (four (op 10 (codes "+") ∷ name 11 (codes "b") ∷ []))) (at 11 Unexpected)

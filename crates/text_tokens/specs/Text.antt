@@ -1,5 +1,5 @@
 -- The tokens of a text. A text is a list of bytes, and its places count from 0.
-use Rattle.std.specs.Prelude.{◌≡◌, ◌<◌, ◌≤◌, ◌+◌, ℕ, Bool, true, false, ◌&&◌, ◌||◌, ◌==◌, nat_le, List, [], ◌∷◌, ◌++◌, length, take, drop, count_by, codes, if◌then◌else◌}
+use Rattle.std.specs.Prelude.{◌≡◌, ◌<◌, ◌≤◌, ◌+◌, ◌^◌, ℕ, Bool, true, false, ◌&&◌, ◌||◌, ◌==◌, nat_le, List, [], ◌∷◌, ◌++◌, length, take, drop, count_by, codes, if◌then◌else◌}
 use Rattle.std.specs.List.{list_all, list_any}
 use Rattle.text_tokens.specs.declared.token.TokenKind.{TokenKind}
 use Rattle.text_tokens.specs.declared.token.TokenKind.TheVariants.{Word, Number, Sign}
@@ -93,6 +93,10 @@ token_end l = l.from + length l.text
 -- the line of the byte at a place: one more than the number of LF before it
 abbrev pub line_at : List ℕ → ℕ → ℕ
 line_at source at = 1 + count_by (λ b. b == 10) (take at source)
+
+-- the places of a text and its lines have numbers of 32 bits
+abbrev pub IsCountable : List ℕ → Type 0
+IsCountable source = length source + 1 < 2 ^ 32
 
 -- the second place is the first behind blanks and comments from the first place on
 pub record Comes (source : List ℕ) (at from : ℕ) : Type 0 where

@@ -1,8 +1,9 @@
 //! A small format in which an entry is judged once nothing more belongs to it. It is the pattern for elements that may go
 //! on, and for a whole input.
 
-ghost use Rattle.std.specs.Prelude.{◌≡◌, ◌<◌, ◌≤◌, ◌+◌, ◌^◌, ℕ, length, IfOk, IfSome, map, option_map};
+ghost use Rattle.std.specs.Prelude.{◌≡◌, ◌<◌, ◌≤◌, ℕ, IfOk, IfSome, map, option_map};
 ghost use Rattle.text_tokens.specs.declared.refusal.RefusalKind.TheVariants.{Trailing};
+ghost use Rattle.text_tokens.specs.Text.{IsCountable};
 ghost use Rattle.text_tokens.specs.Steps.{Gives, ReadsInput, ReadsOf, TellsOf, another};
 ghost use Rattle.text_tokens.specs.Reading as reading;
 ghost use Rattle.text_tokens.specs.Journal as spec;
@@ -114,7 +115,7 @@ pub fn read_journal(alloc: Global, tokens: &mut Tokens<'_>) -> Result<Vec<Entry>
 
 /// Reads bytes that are a journal, with nothing behind it but blanks and comments. A token behind it is `Trailing`.
 pub fn read_input(alloc: Global, bytes: &[u8]) -> Result<Vec<Entry>, ReadRefusal>
-    requires { length bytes.now + 1 < 2 ^ 32 }
+    requires { IsCountable bytes.now }
     ensures { ReadsInput spec.IsJournal Trailing (λ v. map view.noted v.items) bytes.now result }
 {
     let mut tokens = Tokens::new(bytes);

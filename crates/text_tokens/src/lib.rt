@@ -21,7 +21,7 @@ pub use examples::{agreement_is_needed, journal_is_decided, puts_are_decided};
 pub use laws::{small_texts, spans_rise, tokens_are_cut, tokens_are_one};
 pub use lines::{Lines, Text, lines_add_up};
 pub use refusal::{ReadRefusal, Refusal, RefusalKind};
-pub use terminals::{number, number_up_to, open_level, refused, the_line, this_token};
+pub use terminals::{number, number_up_to, refused, the_line, this_token};
 pub use token::{Token, TokenKind};
 pub use tokens::Tokens;
 

@@ -20,6 +20,7 @@ impl Model for Text {
 }
 
 impl Text {
+    /// The bytes of the whole text.
     pub fn bytes(&self) -> &[u8]
         ensures { result.now ≡ self.now }
     {
@@ -45,6 +46,7 @@ impl Model for Lines {
 }
 
 impl Lines {
+    /// No line yet. It takes no memory.
     pub fn new(alloc: Global) -> Lines
         ensures { result ≡ [] }
     {

@@ -1,6 +1,6 @@
 //! Parts of one token.
 
-ghost use Rattle.std.specs.Prelude.{◌≡◌, ◌<◌, ◌≤◌, ◌^◌, IfOk, OnOk};
+ghost use Rattle.std.specs.Prelude.{◌≡◌, ◌<◌, ◌≤◌, ◌^◌, IfOk};
 ghost use Rattle.text_tokens.specs.Steps.{Gives, lexeme_of};
 ghost use Rattle.text_tokens.specs.Cursor.{is_the};
 ghost use Rattle.text_tokens.specs.Reading as reading;
@@ -26,23 +26,6 @@ pub fn this_token(
     ensures { Gives (lexeme_of tokens.old.source) (reading.one (is_the kind text.now)) tokens.old result tokens.new }
 {
     Ok(tokens.take(kind, text)?)
-}
-
-/// This token, which opens a level, where so many more may be opened. Without one it is `TooDeep`.
-pub fn open_level(
-    tokens: &mut Tokens<'_>,
-    kind: TokenKind,
-    text: &[u8],
-    levels: u32,
-) -> Result<Token, ReadRefusal>
-    ensures reads { Gives (lexeme_of tokens.old.source) (reading.opening levels (is_the kind text.now)) tokens.old result tokens.new }
-    ensures deep { OnOk result (0 < levels) }
-{
-    let token = tokens.take(kind, text)?;
-    if levels == 0 {
-        return Err(refused(token.line, RefusalKind::TooDeep));
-    }
-    Ok(token)
 }
 
 /// This token, for its line.

@@ -244,7 +244,7 @@ fn end_or(line: u32, kind: RefusalKind) -> Result<Option<Token>, Refusal>
 impl<'a> Tokens<'a> {
     /// The tokens of a text of fewer than 2^32 - 1 bytes.
     pub fn new(bytes: &'a [u8]) -> Tokens<'a>
-        requires { length bytes.now + 1 < 2 ^ 32 }
+        requires { text.IsCountable bytes.now }
         ensures { IsAtFront bytes.now result }
     {
         Tokens::at_next(bytes, 0, 1)
@@ -254,7 +254,7 @@ impl<'a> Tokens<'a> {
     fn at_next(source: &'a [u8], at: usize, line: u32) -> Tokens<'a>
         requires within { at ≤ length source.now }
         requires line { line ≤ at + 1 }
-        requires small { length source.now + 1 < 2 ^ 32 }
+        requires small { text.IsCountable source.now }
         ensures { result ≡ cursor.at_place source.now at line }
     {
         let (blanks, line) = skip(&source[at..], line);

@@ -1,10 +1,11 @@
 -- What is there before the first turn, and what all callers leave.
 use Rattle.std.proofs.Common.{◌≡◌, ℕ, zero, suc, ◌+◌, ◌<◌, ◌≤◌, List, [], ◌∷◌, ◌++◌, map, length, take, drop, get_or, Option, Some, None, IfSome, IsSome, true, false, ap, sym, refl, ◌∙◌, subst, arith}
-use Rattle.std.specs.Prelude.{slice_get, slice_index_or, if◌then◌else◌}
+use Rattle.std.specs.Prelude.{slice_get, if◌then◌else◌}
 use Rattle.std.specs.List.{All}
 use Rattle.std.proofs.lemmas.Bool.{le-ltb}
 use Rattle.std.proofs.lemmas.List.{length-map}
 use Rattle.std.proofs.lemmas.Option.{none-some, same_Some, slice_get_within, slice_get-get_or, get_or_from_slice_get}
+use mathlib.Core.List.{map-map}
 use Rattle.amoebot_state.specs.declared.verdict.Verdict.{Verdict}
 use Rattle.amoebot_state.specs.Zones.{Shown}
 use Rattle.claim_core.specs.declared.marks.Mark.{Mark}
@@ -17,7 +18,7 @@ use Rattle.claim_core.specs.Good.{Good}
 use Rattle.claim_core.specs.Reached.{Reached}
 use Rattle.claim_core.specs.Soundness.{IsSetup}
 use Rattle.claim_core.specs.Machine.{fresh}
-use Rattle.claim_core.proofs.Places.{map-get, get-map}
+use Rattle.claim_core.proofs.Places.{map-get, get-map, of_a_list}
 use Rattle.claim_rule.specs.declared.views.Record.{Record}
 use Rattle.claim_rule.specs.Views.{setup}
 use Rattle.claim_rule.specs.Tokens.{FieldOf, Token, IsOf, number_in, doing}
@@ -32,7 +33,6 @@ use Rattle.activation.specs.declared.turn.Turn.{Turn}
 use Rattle.turn_workers.specs.declared.workers.Desk.{Desk}
 use Rattle.turn_workers.specs.Turns.{AreTurnsOf, marks_in}
 use Rattle.turn_workers.specs.Workers.{HasMade, HaveMade, AreClear, AreTaken, made, seat_at, turns_at}
-use Rattle.turn_workers.proofs.Gathering.{map-map}
 
 -- what two functions give of the elements at one place is one list
 maps_agree : {A B C : Type 0} (f : A → C) (g : B → C) (xs : List A) (ys : List B) → length xs ≡ length ys → ((k : ℕ) (x : A) (y : B) → slice_get xs k ≡ Some x → slice_get ys k ≡ Some y → f x ≡ g y) → map f xs ≡ map g ys
@@ -43,12 +43,6 @@ maps_agree f g (x ∷ xs) (y ∷ ys) same each = λ i. each zero x y refl refl i
 
 is_there : {A : Type 0} (x : A) → IsSome (Some x)
 is_there x = refl
-
--- what stands at a place of a list of lists
-of_a_list : {A : Type 0} (xss : List (List A)) (c k : ℕ) (x : A) → slice_get (slice_index_or xss c []) k ≡ Some x → (xs : List A) × (slice_get xss c ≡ Some xs) × (slice_get xs k ≡ Some x)
-of_a_list [] c k x e = absurd (none-some x e)
-of_a_list (xs ∷ xss) zero k x e = (xs, refl, e)
-of_a_list (xs ∷ xss) (suc c) k x e = of_a_list xss c k x e
 
 module _ {D : Type 0} (verdict : D → Shown → Verdict) (f : FieldOf D) where
   -- before the first turn

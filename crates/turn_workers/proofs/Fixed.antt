@@ -63,9 +63,9 @@ abbrev first : {A : Type 0} → A → List A → A
 first d [] = d
 first d (x ∷ xs) = x
 
-abbrev behind : {A : Type 0} → List A → List A
-behind [] = []
-behind (x ∷ xs) = xs
+abbrev without_first : {A : Type 0} → List A → List A
+without_first [] = []
+without_first (x ∷ xs) = xs
 
 -- turns in a row
 some_turns : (one two : List Turn) (c from : ℕ) → map mark_of one ≡ map mark_of two → ((k : ℕ) (a : Turn) → slice_get one k ≡ Some a → (caller_of a ≡ c) × (turn_of a ≡ from + k)) → ((k : ℕ) (a : Turn) → slice_get two k ≡ Some a → (caller_of a ≡ c) × (turn_of a ≡ from + k)) → one ≡ two
@@ -75,7 +75,7 @@ some_turns (a ∷ one) [] c from m f g = absurd (cc)
 some_turns (a ∷ one) (b ∷ two) c from m f g =
     let one_is = f zero a refl in
     let two_is = g zero b refl in
-    λ i. one_turn a b (one_is.0 ∙ sym two_is.0) (one_is.1 ∙ sym two_is.1) (ap (first (mark_of a)) m) i ∷ some_turns one two c (from + 1) (ap behind m)
+    λ i. one_turn a b (one_is.0 ∙ sym two_is.0) (one_is.1 ∙ sym two_is.1) (ap (first (mark_of a)) m) i ∷ some_turns one two c (from + 1) (ap without_first m)
     (λ k x e. ((f (suc k) x e).0, (let n = (f (suc k) x e).1 in omega (arith, n)))) (λ k x e. ((g (suc k) x e).0, (let n = (g (suc k) x e).1 in omega (arith, n)))) i
 
 all_turns : (one two : List (List Turn)) (from : ℕ) → map marks_in one ≡ map marks_in two → ((c k : ℕ) (a : Turn) → turn_at one c k ≡ Some a → (caller_of a ≡ from + c) × (turn_of a ≡ k)) → ((c k : ℕ) (a : Turn) → turn_at two c k ≡ Some a → (caller_of a ≡ from + c) × (turn_of a ≡ k)) → one ≡ two
@@ -83,7 +83,7 @@ all_turns [] [] from m f g = refl
 all_turns [] (b ∷ two) from m f g = absurd (cc)
 all_turns (a ∷ one) [] from m f g = absurd (cc)
 all_turns (a ∷ one) (b ∷ two) from m f g =
-    λ i. some_turns a b (from + 0) 0 (ap (first (marks_in a)) m) (λ k x e. ((f zero k x e).0, (let n = (f zero k x e).1 in omega (arith, n)))) (λ k x e. ((g zero k x e).0, (let n = (g zero k x e).1 in omega (arith, n)))) i ∷ all_turns one two (from + 1) (ap behind m)
+    λ i. some_turns a b (from + 0) 0 (ap (first (marks_in a)) m) (λ k x e. ((f zero k x e).0, (let n = (f zero k x e).1 in omega (arith, n)))) (λ k x e. ((g zero k x e).0, (let n = (g zero k x e).1 in omega (arith, n)))) i ∷ all_turns one two (from + 1) (ap without_first m)
     (λ c k x e. ((let n = (f (suc c) k x e).0 in omega (arith, n)), (f (suc c) k x e).1)) (λ c k x e. ((let n = (g (suc c) k x e).0 in omega (arith, n)), (g (suc c) k x e).1)) i
 
 pub turns_are_one : TurnsAreOne

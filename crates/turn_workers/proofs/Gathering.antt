@@ -2,10 +2,11 @@
 use Rattle.std.proofs.Common.{◌≡◌, ℕ, zero, suc, ◌+◌, ◌<◌, ◌≤◌, List, [], ◌∷◌, ◌++◌, map, length, take, get_or, set, reverse, replicate, length-append, is_some, ◌↔◌, IfSome, IsSome, Vec, Global, Option, Some, None, ap, sym, refl, ◌∙◌, subst, arith}
 use Rattle.std.specs.Prelude.{slice_get}
 use Rattle.std.specs.List.{All}
-use Rattle.std.proofs.lemmas.List.{append-nil, append_assoc, length-map, reverse-append, reverse-reverse, map-append}
+use Rattle.std.proofs.lemmas.List.{append-nil, append_assoc, length-map, reverse-append, reverse-reverse, map-append, nil_from_length}
 use Rattle.std.proofs.lemmas.List.Elements.{All-push}
 use Rattle.std.proofs.lemmas.Option.{none-some, same_Some, get_or_from_slice_get}
 use Rattle.std.proofs.Math.Seq.{take-suc}
+use mathlib.Core.List.{map-map}
 use Rattle.claim_core.specs.declared.marks.Mark.{Mark}
 use Rattle.claim_core.specs.Turns.{MarkLists, marks_of}
 use Rattle.claim_core.proofs.Places.{get-append_right}
@@ -18,14 +19,6 @@ use Rattle.turn_workers.specs.declared.workers.Desk.{Desk}
 use Rattle.turn_workers.specs.Turns.{marks_in}
 use Rattle.turn_workers.specs.Workers.{IsClear, AreClear, AreTaken, seat_at, turns_at, with_marks}
 use Rattle.turn_workers.proofs.Taking.{out_before, last_is_out, one_given, next_is_taken}
-
-pub map-map : {A B C : Type 0} (f : B → C) (g : A → B) (xs : List A) → map f (map g xs) ≡ map (λ x. f (g x)) xs
-map-map f g [] = refl
-map-map f g (x ∷ xs) = ap (λ ys. f (g x) ∷ ys) (map-map f g xs)
-
-empty : {A : Type 0} (xs : List A) → length xs ≡ 0 → xs ≡ []
-empty [] none = refl
-empty (x ∷ xs) none = absurd (omega (arith, none))
 
 not_none : {A : Type 0} (o : Option A) → o ≡ None → IsSome o → ⊥
 not_none o e some = let f = ap is_some e in absurd (cc)
@@ -137,7 +130,7 @@ module _ {D : Type 0} (whole : List (Desk D)) (old : SeatsOf D) (taken : AreTake
 
   pub all_cleared : (left : List (Desk D)) (now : SeatsOf D) (turns back : List (Vec Turn Global)) → AreCleared whole left old now (map (λ v. v.items) turns) → length left ≡ 0 → back ≡ reverse turns → map (λ v. v.items) back ≡ map turns_at whole
   all_cleared left now turns back are none is =
-      ap (map (λ v. v.items)) is ∙ sym (reverse-map (λ v. v.items) turns) ∙ ap reverse are.turns ∙ reverse-reverse (map turns_at are.given) ∙ ap (map turns_at) (sym (are.all ∙ ap (λ ds. ds ++ are.given) (empty left none)))
+      ap (map (λ v. v.items)) is ∙ sym (reverse-map (λ v. v.items) turns) ∙ ap reverse are.turns ∙ reverse-reverse (map turns_at are.given) ∙ ap (map turns_at) (sym (are.all ∙ ap (λ ds. ds ++ are.given) (nil_from_length left none)))
 
 -- ---- marks
 
@@ -149,11 +142,6 @@ filled_up_to done others = map marks_in done ++ map (λ _. []) others
 pub none_filled : (turns : List (List Turn)) → replicate (length turns) [] ≡ filled_up_to [] turns
 none_filled [] = refl
 none_filled (t ∷ turns) = ap (λ zs. [] ∷ zs) (none_filled turns)
-
--- all of them are there
-pub all_filled : (whole done others : List (List Turn)) → whole ≡ done ++ others → length whole ≤ length done → filled_up_to done others ≡ map marks_in whole
-all_filled whole done [] is le = append-nil (map marks_in done) ∙ ap (map marks_in) (sym (is ∙ append-nil done))
-all_filled whole done (o ∷ others) is le = absurd (omega (arith, le, ap length is, length-append done (o ∷ others)))
 
 -- the next caller's turns
 pub next_own : (whole done others : List (List Turn)) (d : List Turn) → whole ≡ done ++ others → length done < length whole → (rest : List (List Turn)) × (others ≡ get_or whole (length done) d ∷ rest)
@@ -195,9 +183,6 @@ pub record AreFilled (whole : List (List Turn)) (old now : MarkLists) (k c : ℕ
 
 pub first_filled : (whole : List (List Turn)) (old : MarkLists) → old ≡ record { turns = old.turns; marks = replicate (length whole) [] } → AreFilled whole old old 0 0
 first_filled whole old none = record { done = []; others = whole; all = refl; at = refl; caller = refl; marks = none ∙ ap (λ ms. record old { marks = ms }) (none_filled whole) }
-
-pub last_filled : (whole : List (List Turn)) (old now : MarkLists) (k c : ℕ) → AreFilled whole old now k c → length whole ≤ k → now ≡ record old { marks = map marks_in whole }
-last_filled whole old now k c are le = are.marks ∙ ap (λ ms. record old { marks = ms }) (all_filled whole are.done are.others are.all (omega (arith, le, are.at)))
 
 module _ (whole : List (List Turn)) (old now : MarkLists) (k c : ℕ) (are : AreFilled whole old now k c) (inside : k < length whole) (own : List Turn) (is : own ≡ get_or whole k []) where
   abbrev next : (rest : List (List Turn)) × (are.others ≡ get_or whole (length are.done) [] ∷ rest)

@@ -1,15 +1,13 @@
 -- A caller's turns, one more at a time.
-use Rattle.std.proofs.Common.{◌≡◌, ℕ, zero, suc, ◌+◌, ◌<◌, ◌≤◌, List, [], ◌∷◌, ◌++◌, length, Some, vec_capacity, ap, sym, ◌∙◌, subst, length-append}
+use Rattle.std.proofs.Common.{◌≡◌, ℕ, zero, suc, ◌+◌, ◌≤◌, List, [], ◌∷◌, ◌++◌, length, Some, vec_capacity, ap, sym, ◌∙◌, subst, length-append}
 use Rattle.std.specs.Prelude.{slice_get}
 use Rattle.std.proofs.lemmas.List.{map-append}
 use Rattle.std.proofs.lemmas.Option.{none-some, same_Some}
 use Rattle.amoebot_state.specs.declared.verdict.Verdict.{Verdict}
 use Rattle.amoebot_state.specs.Zones.{Shown}
 use Rattle.claim_core.specs.declared.state.Caller.{Caller}
-use Rattle.claim_core.specs.Turns.{CallerLists, bot_of}
-use Rattle.claim_core.specs.Machine.{Setup}
 use Rattle.claim_rule.specs.Views.{setup, setup_at}
-use Rattle.claim_rule.specs.Plays.{about, bot_in}
+use Rattle.claim_rule.specs.Plays.{about}
 use Rattle.claim_rule.specs.Tokens.{FieldOf, Token, IsOf, number_in, doing}
 use Rattle.node_claims.specs.Claims.{at_next}
 use Rattle.activation.specs.declared.turn.Turn.{Turn}
@@ -44,13 +42,6 @@ module _ {D : Type 0} (verdict : D → Shown → Verdict) (f : FieldOf D) (c t :
   -- the seat is to make this turn next
   pub is_next : t ≡ (doing seat).turn
   is_next = sym (ap (λ (k : Caller). k.turn) stands)
-
-  pub is_listed : (lists : CallerLists) → f.terms.lists ≡ lists → t < lists.turns → t < (about verdict seat.view).lists.turns
-  is_listed lists is lt = subst (λ (l : CallerLists). t < l.turns) (sym (ap (λ (g : Setup). g.lists) run_is ∙ is)) lt
-
-  -- on this amoebot
-  pub is_its_bot : (lists : CallerLists) (b : ℕ) → f.terms.lists ≡ lists → b ≡ bot_of lists c t → b ≡ bot_in verdict seat.view
-  is_its_bot lists b is e = e ∙ (λ i. bot_of (sym (ap (λ (g : Setup). g.lists) run_is ∙ is) i) (sym number i) (is_next i))
 
   -- the turn is made
   pub one_made : (new : Token D) (answer : Turn) (now : Desk D) → HasAnswered verdict seat new answer → IsOf f new → now.seat ≡ Some new → now.turns.items ≡ old.turns.items ++ answer ∷ [] → f.terms.lists.turns ≤ vec_capacity now.turns → HasMade verdict f c (t + 1) now

@@ -1,4 +1,5 @@
 ghost use Rattle.std.specs.Prelude.{◌≤◌};
+ghost use Rattle.claim_core.specs.Limits.{most_callers};
 
 use activation::Gate;
 use std::sync::atomic::{AtomicBool, AtomicU64, Ordering};
@@ -17,7 +18,7 @@ pub struct MeetGate {
 impl MeetGate {
     /// A gate for so many callers, at which each waits for at most so many looks in a turn.
     pub fn new(callers: u8, limit: u64) -> MeetGate
-        requires { (1 ≤ callers) × (callers ≤ 16) }
+        requires { (1 ≤ callers) × (callers ≤ most_callers) }
     {
         MeetGate {
             callers,

@@ -1,5 +1,6 @@
 //! The workers, one for each caller, each in a thread of its own where one can be made.
 ghost use Rattle.std.specs.Prelude.{◌≡◌, ◌<◌, ◌≤◌, ◌+◌, length};
+ghost use Rattle.claim_core.specs.Limits.{most_callers};
 ghost use Rattle.turn_workers.specs.Workers.{HasMade, HaveMade};
 
 use activation::{Gate, Turn, activate};
@@ -37,7 +38,7 @@ pub(crate) fn make_all<R: Threads + Wait + Sync, D: Decider, G: Gate>(
 {
     let _callers = lists.callers();
     let worker = |caller: usize, desk: &mut Desk<D>|
-        requires { (caller < length lists.now.ids) × (length lists.now.ids ≤ 16) × (field.now.terms.lists ≡ lists.now) × HasMade D.verdict field.now caller 0 desk.now }
+        requires { (caller < length lists.now.ids) × (length lists.now.ids ≤ most_callers) × (field.now.terms.lists ≡ lists.now) × HasMade D.verdict field.now caller 0 desk.now }
         ensures { HasMade D.verdict field.entry.now caller lists.entry.now.turns desk.exit.now }
     { make_turns(rt, field, lists, gate, caller as u8, desk) };
     thread::for_each_mut(rt, desks, WORKERS, &worker);

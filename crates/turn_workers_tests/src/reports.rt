@@ -1,6 +1,7 @@
 //! Reports of real threads over small worlds where zones meet, judged by a plain checker that knows the model and nothing of claims.
 ghost use Rattle.std.specs.Prelude.{◌≤◌, length};
 ghost use Rattle.std.specs.List.{All};
+ghost use Rattle.amoebot_state.specs.Limits.{most_bots};
 ghost use Rattle.amoebot_state.specs.Refusals.{IsPlain};
 
 use crate::runs::{check_turns, worked};
@@ -43,7 +44,7 @@ fn check_runs<R: Threads + Wait + Sync + Abort, D: Decider>(
     lists: (u32, &[&[u16]]),
     runs: u32,
 ) -> Result<(), Fail>
-    requires few { length bots.now ≤ 4096 }
+    requires few { length bots.now ≤ most_bots }
     requires plain { All IsPlain bots.now }
 {
     let (turns, ids) = lists;

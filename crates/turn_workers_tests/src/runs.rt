@@ -1,6 +1,7 @@
 //! What the workers leave of small worlds.
 ghost use Rattle.std.specs.Prelude.{◌≡◌, ◌≤◌, length, IfOk, IsSome};
 ghost use Rattle.std.specs.List.{All};
+ghost use Rattle.amoebot_state.specs.Limits.{most_bots};
 ghost use Rattle.amoebot_state.specs.Configs.{bot_at};
 ghost use Rattle.amoebot_state.specs.Refusals.{IsPlain};
 ghost use Rattle.turn_workers.specs.Turns.{AreTurnsOf};
@@ -26,7 +27,7 @@ pub fn worked<R: Threads + Wait + Sync, D: Decider, G: Gate>(
     ids: &[&[u16]],
     gate: &G,
 ) -> Result<Worked, Fail>
-    requires few { length bots.now ≤ 4096 }
+    requires few { length bots.now ≤ most_bots }
     requires plain { All IsPlain bots.now }
     ensures { IfOk result (λ worked. AreTurnsOf worked.report.turns worked.turns) }
 {

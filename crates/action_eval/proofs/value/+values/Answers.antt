@@ -134,8 +134,8 @@ some_value-returns t c = sym (some_over _ _ _ _ _ c.loop-guard.invariant c.loop-
 pub sum_value-loop-part-init : goal.sum_value-loop-part-init
 sum_value-loop-part-init t c =
     let o : sum_of c.args.sum.now ≡ terms_of c.deref-part-items.result.now = sum_opened c.args.sum.now ∙ ap terms_of (sym c.deref-part-items.ensures.value) in
-    let Kept : Sum → Type 0 = SumKept (scope_of (known c.args.names.now)) in
-    terms_start _ _ _ _ (subst Kept o c.requires.kept) (ap is_sum (sym o) ∙ c.requires.counted)
+    let KeepsRules : Sum → Type 0 = SumKept (scope_of (known c.args.names.now)) in
+    terms_start _ _ _ _ (subst KeepsRules o c.requires.kept) (ap is_sum (sym o) ∙ c.requires.counted)
 
 pub sum_value-term_value-requires : goal.sum_value-term_value-requires
 sum_value-term_value-requires t c =

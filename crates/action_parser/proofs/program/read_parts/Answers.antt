@@ -3,7 +3,8 @@ use Rattle.std.proofs.lemmas.Result.{err_from_is_err_and}
 use Rattle.text_tokens.specs.Reading.{one, no_limit, at_most}
 use Rattle.text_tokens.specs.Steps.{lexeme_of}
 use Rattle.text_tokens.proofs.Rows.{all_left, past_part, part_fails}
-use Rattle.action_tree.specs.Limits.{most_levels, most_names, most_vars, most_actions}
+use Rattle.amoebot_state.specs.Limits.{most_vars}
+use Rattle.action_tree.specs.Limits.{most_levels, most_names, most_actions}
 use Rattle.action_tree.specs.Views.{var_of, action_of}
 use Rattle.action_grammar.specs.declared.role.Role.TheVariants.{ProgramWord, VarWord, ActionWord, LastWord}
 use Rattle.action_grammar.specs.Roles.{is_a}

@@ -2,8 +2,8 @@ use Rattle.std.proofs.Common.{List, map, ap}
 use Rattle.std.proofs.lemmas.Result.{err_from_is_err_and}
 use Rattle.text_tokens.specs.Reading.{no_limit, less, at_most}
 use Rattle.text_tokens.proofs.Looping.{loop_begins}
+use Rattle.amoebot_state.specs.Limits.{most_vars}
 use Rattle.action_tree.specs.declared.program.Var.{Var}
-use Rattle.action_tree.specs.Limits.{most_vars}
 use Rattle.action_tree.specs.Views.{var_of}
 use Rattle.action_grammar.specs.declared.role.Role.TheVariants.{VarWord}
 use Rattle.action_grammar.specs.Roles.{is_a}

@@ -1,7 +1,7 @@
 use Rattle.std.proofs.Common.{map}
 use Rattle.text_tokens.specs.Reading.{no_limit, limited, less, repeated, at_most}
 use Rattle.text_tokens.proofs.Looping.{StillReads}
-use Rattle.action_tree.specs.Limits.{most_vars}
+use Rattle.amoebot_state.specs.Limits.{most_vars}
 use Rattle.action_tree.specs.Views.{var_of}
 use Rattle.action_grammar.specs.declared.role.Role.TheVariants.{VarWord}
 use Rattle.action_grammar.specs.Roles.{is_a}

@@ -14,8 +14,8 @@ use Rattle.action_tree.proofs.Viewed.{term_own, port_name}
 use Rattle.action_parser.proofs.words.own_or_member.Goals as goal
 
 -- behind the name
-abbrev behind : tree.Name → Reader tree.Term
-behind v = optional (is_a role.DotSign) (tree.own v) (spec.member (tree.bound v))
+abbrev behind_the_name : tree.Name → Reader tree.Term
+behind_the_name v = optional (is_a role.DotSign) (tree.own v) (spec.member (tree.bound v))
 
 pub returns-then-is_next : goal.returns-then-is_next
 returns-then-is_next c =
@@ -26,7 +26,7 @@ returns-then-is_next c =
     let l1 = past_part (one (is_a role.AName)) _ (all_left own_or_member now) x.part mid x.reads in
     let port = port_name w ∙ ap tree.bound (sym x.is) in
     gives_left term_of c.member.result c.member.new.tokens l1
-    (gives_as term_of (behind (as_name x.part)) (spec.member (tree.bound (as_name x.part))) mid c.member.new.tokens c.member.result
+    (gives_as term_of (behind_the_name (as_name x.part)) (spec.member (tree.bound (as_name x.part))) mid c.member.new.tokens c.member.result
     (is_first (is_a role.DotSign) (spec.member (tree.bound (as_name x.part))) (pure (tree.own (as_name x.part))) mid.last mid.ahead (sym c.is_next.ensures ∙ c.if-is_next.true))
     (subst (λ (p : tree.PortExpr). Gives term_of (spec.member p) mid c.member.result c.member.new.tokens) port c.member.ensures))
 

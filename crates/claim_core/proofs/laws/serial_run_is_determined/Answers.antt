@@ -11,7 +11,7 @@ use Rattle.serial_model.specs.declared.Turned.{Turned}
 use Rattle.serial_model.specs.declared.Turned.TheVariants as turned
 use Rattle.serial_model.specs.SerialTurns.{SerialTurn, IsOfTurn}
 use Rattle.claim_core.specs.declared.marks.Mark.{Mark}
-use Rattle.claim_core.specs.Turns.{CallerLists, bot_of}
+use Rattle.claim_core.specs.Turns.{CallerLists, bot_of_turn}
 use Rattle.claim_core.specs.SerialRuns.{Left, SerialRun, MakesTurn, mark_at, entries_by, all_turns, left_by}
 use Rattle.claim_core.proofs.laws.serial_run_is_determined.Goals as goal
 
@@ -53,7 +53,7 @@ the_left marks entries world = record { marks = marks; entries = entries; world 
 -- and so is what it leaves
 left_alike : StepHasOneResult → (f : Shown → Verdict) (lists : CallerLists) (turn : ℕ) (old one two : Left) → MakesTurn f lists turn old one → MakesTurn f lists turn old two → one ≡ two
 left_alike law f lists turn old one two first second =
-    let same = turn_alike law f turn (bot_of lists 0 turn) old.world first.turned second.turned one.world two.world first.made second.made in
+    let same = turn_alike law f turn (bot_of_turn lists 0 turn) old.world first.turned second.turned one.world two.world first.made second.made in
     parts one.marks two.marks one.entries two.entries one.world two.world
     (first.marks ∙ ap (λ t. old.marks ++ mark_at (length old.entries) t ∷ []) same.0 ∙ sym second.marks)
     (first.entries ∙ ap (λ t. old.entries ++ entries_by t) same.0 ∙ sym second.entries)

@@ -1,6 +1,6 @@
 use Rattle.std.proofs.Common.{sym, subst}
 use Rattle.document_grammar.specs.declared.section.Form.{Form}
-use Rattle.document_grammar.specs.Documents.{Contents, Holds, IsRefused}
+use Rattle.document_grammar.specs.Documents.{Contents, HasContents, IsRefused}
 use Rattle.shape_files.specs.Views.{contents}
 use Rattle.command_answers.specs.Commands.{form_of}
 use Rattle.command_answers.proofs.OwedTexts.{refuses}
@@ -8,7 +8,7 @@ use Rattle.command_answers.proofs.answering.task_of.Goals as goal
 
 pub task_of_document-requires : goal.task_of_document-requires
 task_of_document-requires c =
-    let holds : Holds (form_of c.args.command) c.args.bytes.now (contents c.into_parts.result) = subst (λ (z : Form × Contents). Holds z.0 c.args.bytes.now z.1) (λ i. (c.form_of.ensures i, sym c.into_parts.ensures i)) c.in-Ok.ensures in
+    let holds : HasContents (form_of c.args.command) c.args.bytes.now (contents c.into_parts.result) = subst (λ (z : Form × Contents). HasContents z.0 c.args.bytes.now z.1) (λ i. (c.form_of.ensures i, sym c.into_parts.ensures i)) c.in-Ok.ensures in
     c.documents_fit.ensures (form_of c.args.command) c.args.bytes.now (contents c.into_parts.result) holds
 
 pub returns-in_ok-answer-in-Err-Refused : goal.returns-in_ok-answer-in-Err-Refused

@@ -3,7 +3,7 @@ use Rattle.text_tokens.specs.Scan.{skip, ready, sign_len, front, scan, scan_end,
 use Rattle.text_tokens.specs.Cursor.{same_kind}
 use Rattle.text_tokens.specs.Reading.{one_within, the_line, numeral, either, limited, times, elements, repeated}
 use Rattle.text_tokens.proofs.Obeying.{exact_law}
-use Rattle.journal_text.proofs.Saying.{IsTold, says}
+use Rattle.journal_text.proofs.Saying.{IsSaid, says}
 use Rattle.journal_text.specs.Journals.{AreEntries, IsJournal}
 use Rattle.journal_text.specs.Readers.{an_int, a_node, an_end, a_chirality, a_port, a_bot, port_behind, end_behind, a_movement, a_cell, an_occupant, a_value, a_pair, all_pairs, the_numbers, entry_word, written, an_entry, entries_from, journal}
 use Rattle.journal_text.proofs.JournalLaws.{part_journal, exact_journal, exact_entries}
@@ -15,10 +15,10 @@ returns-clause-exact c = exact_journal
 pub returns-clause-decided : goal.returns-clause-decided
 returns-clause-decided c = λ bots actions vars. (exact_law (IsJournal bots actions vars) (journal bots actions vars) (part_journal bots actions vars).law).1
 
-told : IsTold (IsJournal 3 2 1) (journal 3 2 1)
+told : IsSaid (IsJournal 3 2 1) (journal 3 2 1)
 told = says (IsJournal 3 2 1) (journal 3 2 1) (exact_journal 3 2 1)
 
-told_behind : IsTold (AreEntries 3 2 1 65535) (entries_from 3 2 1 65535)
+told_behind : IsSaid (AreEntries 3 2 1 65535) (entries_from 3 2 1 65535)
 told_behind = says (AreEntries 3 2 1 65535) (entries_from 3 2 1 65535) (exact_entries 3 2 1 65535)
 
 pub returns-clause-read : goal.returns-clause-read

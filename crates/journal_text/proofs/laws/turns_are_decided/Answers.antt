@@ -3,7 +3,7 @@ use Rattle.text_tokens.specs.Scan.{skip, ready, sign_len, front, scan, scan_end,
 use Rattle.text_tokens.specs.Cursor.{same_kind}
 use Rattle.text_tokens.specs.Reading.{one_within, the_line, numeral, either, limited, times, elements, repeated}
 use Rattle.text_tokens.proofs.Obeying.{exact_law}
-use Rattle.journal_text.proofs.Saying.{IsTold, says}
+use Rattle.journal_text.proofs.Saying.{IsSaid, says}
 use Rattle.journal_text.specs.Turns.{names_failure, IsTurns}
 use Rattle.journal_text.specs.Readers.{an_int, a_node, a_cell, placed, a_failed, a_claimant, a_busy, a_mark, a_turn, all_turns, the_turns}
 use Rattle.journal_text.proofs.TurnLaws.{part_the_turns, exact_turns}
@@ -15,7 +15,7 @@ returns-clause-exact c = exact_turns
 pub returns-clause-decided : goal.returns-clause-decided
 returns-clause-decided c = (exact_law IsTurns the_turns part_the_turns.law).1
 
-told : IsTold IsTurns the_turns
+told : IsSaid IsTurns the_turns
 told = says IsTurns the_turns exact_turns
 
 pub returns-clause-read : goal.returns-clause-read

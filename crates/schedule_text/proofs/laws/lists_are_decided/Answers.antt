@@ -3,7 +3,7 @@ use Rattle.text_tokens.specs.Scan.{skip, ready, sign_len, front, scan, scan_end,
 use Rattle.text_tokens.specs.Cursor.{same_kind}
 use Rattle.text_tokens.specs.Reading.{one_within, the_line, numeral, either, elements, repeated}
 use Rattle.text_tokens.proofs.Obeying.{exact_law}
-use Rattle.journal_text.proofs.Saying.{IsTold, says}
+use Rattle.journal_text.proofs.Saying.{IsSaid, says}
 use Rattle.schedule_text.specs.Lists.{IdsFrom, ListsFrom, IsLists}
 use Rattle.schedule_text.specs.Readers.{an_id, ids_from, all_ids, list_word, a_list, lists_from, all_lists, some_turns, the_lists}
 use Rattle.schedule_text.proofs.ListLaws.{part_lists, exact_lists, exact_ids_from, exact_lists_from}
@@ -15,13 +15,13 @@ returns-clause-exact c = exact_lists
 pub returns-clause-decided : goal.returns-clause-decided
 returns-clause-decided c = λ bots. (exact_law (IsLists bots) (the_lists bots) (part_lists bots).law).1
 
-told : (bots : ℕ) → IsTold (IsLists bots) (the_lists bots)
+told : (bots : ℕ) → IsSaid (IsLists bots) (the_lists bots)
 told bots = says (IsLists bots) (the_lists bots) (exact_lists bots)
 
-told_ids : (before : ℕ) → IsTold (IdsFrom 3 before) (ids_from 3 before)
+told_ids : (before : ℕ) → IsSaid (IdsFrom 3 before) (ids_from 3 before)
 told_ids before = says (IdsFrom 3 before) (ids_from 3 before) (exact_ids_from 3 before)
 
-told_lists : (turns before : ℕ) → IsTold (ListsFrom 3 turns before) (lists_from 3 turns before)
+told_lists : (turns before : ℕ) → IsSaid (ListsFrom 3 turns before) (lists_from 3 turns before)
 told_lists turns before = says (ListsFrom 3 turns before) (lists_from 3 turns before) (exact_lists_from 3 turns before)
 
 pub returns-clause-read : goal.returns-clause-read

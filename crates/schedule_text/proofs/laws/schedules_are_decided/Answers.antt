@@ -3,7 +3,7 @@ use Rattle.text_tokens.specs.Scan.{skip, ready, sign_len, front, scan, scan_end,
 use Rattle.text_tokens.specs.Cursor.{same_kind}
 use Rattle.text_tokens.specs.Reading.{one_within, the_line, numeral, either, elements, repeated}
 use Rattle.text_tokens.proofs.Obeying.{exact_law}
-use Rattle.journal_text.proofs.Saying.{IsTold, says}
+use Rattle.journal_text.proofs.Saying.{IsSaid, says}
 use Rattle.schedule_text.specs.Schedules.{StretchesFrom, IsSchedule}
 use Rattle.schedule_text.specs.Readers.{a_caller, number_of_times, its_times, any_times, a_stretch, stretches_from, all_steps, a_schedule}
 use Rattle.schedule_text.proofs.ScheduleLaws.{part_schedule, exact_schedule, exact_stretches_from}
@@ -15,10 +15,10 @@ returns-clause-exact c = exact_schedule
 pub returns-clause-decided : goal.returns-clause-decided
 returns-clause-decided c = λ callers. (exact_law (IsSchedule callers) (a_schedule callers) (part_schedule callers).law).1
 
-told : (callers : ℕ) → IsTold (IsSchedule callers) (a_schedule callers)
+told : (callers : ℕ) → IsSaid (IsSchedule callers) (a_schedule callers)
 told callers = says (IsSchedule callers) (a_schedule callers) (exact_schedule callers)
 
-told_behind : (before : ℕ) → IsTold (StretchesFrom 2 before) (stretches_from 2 before)
+told_behind : (before : ℕ) → IsSaid (StretchesFrom 2 before) (stretches_from 2 before)
 told_behind before = says (StretchesFrom 2 before) (stretches_from 2 before) (exact_stretches_from 2 before)
 
 pub returns-clause-read : goal.returns-clause-read

@@ -6,7 +6,8 @@ use Rattle.text_tokens.specs.Reading.{◌>>=◌, pure, is_number, repeated}
 use Rattle.text_tokens.specs.Lawful.{always}
 use Rattle.text_tokens.proofs.Stepping.{fails}
 use Rattle.text_tokens.proofs.Looping.{StillReads, loop_chains, loop_goes_on, loop_is_over, loop_fails}
-use Rattle.schedule_text.specs.Lists.{most_ids, one_more_id, IsId}
+use Rattle.claim_core.specs.Limits.{most_ids}
+use Rattle.schedule_text.specs.Lists.{one_more_id, IsId}
 use Rattle.schedule_text.specs.Readers.{an_id, ids_from, all_ids}
 use Rattle.schedule_text.proofs.ListLaws.{no_number, id_elements}
 use Rattle.schedule_text.proofs.lists.read_ids.Goals as goal

@@ -2,7 +2,8 @@ use Rattle.std.proofs.Common.{◌≡◌, ◌≤◌, ◌<◌, ◌-◌, vec_len}
 use Rattle.std.specs.List.{All}
 use Rattle.text_tokens.specs.Reading.{is_number, repeated}
 use Rattle.text_tokens.proofs.Looping.{StillReads}
-use Rattle.schedule_text.specs.Lists.{most_ids, one_more_id}
+use Rattle.claim_core.specs.Limits.{most_ids}
+use Rattle.schedule_text.specs.Lists.{one_more_id}
 use Rattle.schedule_text.specs.Readers.{an_id, all_ids}
 use Rattle.schedule_text.proofs.lists.read_ids.Given as goal
 

@@ -6,7 +6,8 @@ use Rattle.text_tokens.specs.declared.refusal.RefusalKind.TheVariants.{TooMany}
 use Rattle.text_tokens.specs.Text.{Lexeme}
 use Rattle.text_tokens.specs.Steps.{lexeme_of}
 use Rattle.text_tokens.proofs.Taking.{token_missed, token_past, token_taken}
-use Rattle.schedule_text.specs.Lists.{is_list, most_callers, most_turns, past_lists}
+use Rattle.claim_core.specs.Limits.{most_callers, most_turns}
+use Rattle.schedule_text.specs.Lists.{is_list, past_lists}
 use Rattle.schedule_text.specs.Readers.{list_word}
 use Rattle.schedule_text.proofs.lists.read_list_word.Goals as goal
 use Rattle.schedule_text.proofs.lists.read_list_word.Goals.{then-callers-gt-MOST_CALLERS-via-then-callers-gt-MOST_CALLERS, then-callers-gt-MOST_CALLERS-via-else-callers-gt-MOST_CALLERS+then-callers-turns-gt-MOST_TURNS}

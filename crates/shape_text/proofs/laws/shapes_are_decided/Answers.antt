@@ -4,7 +4,7 @@ use Rattle.text_tokens.specs.Cursor.{same_kind}
 use Rattle.text_tokens.specs.Reading.{one_within, the_line, numeral, either, times, elements, repeated}
 use Rattle.text_tokens.proofs.Obeying.{exact_law}
 use Rattle.journal_text.specs.Readers.{an_int, a_node, a_chirality, a_bot}
-use Rattle.journal_text.proofs.Saying.{IsTold, says}
+use Rattle.journal_text.proofs.Saying.{IsSaid, says}
 use Rattle.shape_text.specs.Shapes.{AreBots, IsShape, IsFinal}
 use Rattle.shape_text.specs.ShapeRows.{up_to_3, all_zero, rising}
 use Rattle.shape_text.specs.Readers.{a_side, an_area, bot_word, a_bot_line, bots_from, a_drawing, written, shape_under, a_shape, a_final}
@@ -23,16 +23,16 @@ returns-clause-exact_final c = exact_final
 pub returns-clause-decided_final : goal.returns-clause-decided_final
 returns-clause-decided_final c = λ vars maxes. (exact_law (IsFinal vars maxes) (a_final vars maxes) (part_final vars maxes).law).1
 
-shape_told : (vars : ℕ) (maxes : List ℕ) → IsTold (IsShape vars maxes) (a_shape vars maxes)
+shape_told : (vars : ℕ) (maxes : List ℕ) → IsSaid (IsShape vars maxes) (a_shape vars maxes)
 shape_told vars maxes = says (IsShape vars maxes) (a_shape vars maxes) (exact_shape vars maxes)
 
-told : IsTold (IsShape 1 up_to_3) (a_shape 1 up_to_3)
+told : IsSaid (IsShape 1 up_to_3) (a_shape 1 up_to_3)
 told = shape_told 1 up_to_3
 
-final_told : IsTold (IsFinal 1 up_to_3) (a_final 1 up_to_3)
+final_told : IsSaid (IsFinal 1 up_to_3) (a_final 1 up_to_3)
 final_told = says (IsFinal 1 up_to_3) (a_final 1 up_to_3) (exact_final 1 up_to_3)
 
-bots_told : (before : ℕ) → IsTold (AreBots 0 before) (bots_from 0 before)
+bots_told : (before : ℕ) → IsSaid (AreBots 0 before) (bots_from 0 before)
 bots_told before = says (AreBots 0 before) (bots_from 0 before) (exact_bots 0 before)
 
 pub returns-clause-read : goal.returns-clause-read

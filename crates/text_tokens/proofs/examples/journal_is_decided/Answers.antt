@@ -9,7 +9,7 @@ use Rattle.text_tokens.specs.Grammar.{IsNumeral, Limited}
 use Rattle.text_tokens.specs.Lawful.{IsText, IsFault, Tells, Exact, always}
 use Rattle.text_tokens.specs.Inputs.{TellsInput}
 use Rattle.text_tokens.specs.Journal.{Noted, IsJournal, a_pair, all_pairs, noted, an_entry, all_entries, journal}
-use Rattle.text_tokens.specs.JournalFaults.{word, number, half, pair, at, IsFirst}
+use Rattle.text_tokens.specs.JournalFaults.{word, number, half, pair, at, IsJournalFault}
 use Rattle.text_tokens.specs.JournalTexts as read
 use Rattle.text_tokens.proofs.Exactness.{exact}
 use Rattle.text_tokens.proofs.Obeying.{decided}
@@ -59,10 +59,10 @@ beyond : Answers (half (pair 3 (pair 4 []))) (at 4 TooMany)
 unfolding same_kind one_within the_line numeral either limited elements repeated a_pair all_pairs noted an_entry all_entries journal
 beyond = refl
 
-is_it : (ts : List Lexeme) (r : Refusal) → Answers ts r → IsFirst ts r
+is_it : (ts : List Lexeme) (r : Refusal) → Answers ts r → IsJournalFault ts r
 is_it ts r e = subst (λ (s : Answer (List Noted)). Tells IsJournal (at 3 BadByte) ts s) e (exact_journal.tells (at 3 BadByte) ts)
 
-is_other : (ts : List Lexeme) (r s : Refusal) → Answers ts r → IsFirst ts s → r.kind ≡ s.kind
+is_other : (ts : List Lexeme) (r s : Refusal) → Answers ts r → IsJournalFault ts s → r.kind ≡ s.kind
 is_other ts r s e f = let g : ◌≡◌ {A = Answer (List Noted)} (Err r) (Err s) = sym e ∙ exact_journal.only (at 3 BadByte) ts (Err s) f in let h : r ≡ s = cc in ap (λ (r : Refusal). r.kind) h
 
 pub returns-clause-judged : goal.returns-clause-judged
@@ -101,27 +101,27 @@ input_read : read.IsWholeInput read.ends (read.closed_by_end []) read.noted_entr
 unfolding same_kind one_within the_line numeral either limited elements repeated a_pair all_pairs noted an_entry all_entries journal
 input_read = tells_input _ _ (Ok _) refl
 
-trailing_read : read.IsFirst read.ends (read.closed_by_end (word 10 (codes "entry") ∷ [])) (at 10 Trailing)
+trailing_read : read.IsWholeInputFault read.ends (read.closed_by_end (word 10 (codes "entry") ∷ [])) (at 10 Trailing)
 unfolding same_kind one_within the_line numeral either limited elements repeated a_pair all_pairs noted an_entry all_entries journal
 trailing_read = tells_input _ _ (Err _) refl
 
-bad_byte_read : read.IsFirst read.bad (read.closed_by_end []) read.bad
+bad_byte_read : read.IsWholeInputFault read.bad (read.closed_by_end []) read.bad
 unfolding same_kind one_within the_line numeral either limited elements repeated a_pair all_pairs noted an_entry all_entries journal
 bad_byte_read = tells_input _ _ (Err _) refl
 
-trailing_first_read : read.IsFirst read.bad (read.closed_by_end (word 10 (codes "entry") ∷ [])) (at 10 Trailing)
+trailing_first_read : read.IsWholeInputFault read.bad (read.closed_by_end (word 10 (codes "entry") ∷ [])) (at 10 Trailing)
 unfolding same_kind one_within the_line numeral either limited elements repeated a_pair all_pairs noted an_entry all_entries journal
 trailing_first_read = tells_input _ _ (Err _) refl
 
-truncated_read : read.IsFirst read.ends (read.entries (codes "9") []) read.ends
+truncated_read : read.IsWholeInputFault read.ends (read.entries (codes "9") []) read.ends
 unfolding same_kind one_within the_line numeral either limited elements repeated a_pair all_pairs noted an_entry all_entries journal
 truncated_read = tells_input _ _ (Err _) refl
 
-bad_early_read : read.IsFirst read.bad (read.entries (codes "9") []) read.bad
+bad_early_read : read.IsWholeInputFault read.bad (read.entries (codes "9") []) read.bad
 unfolding same_kind one_within the_line numeral either limited elements repeated a_pair all_pairs noted an_entry all_entries journal
 bad_early_read = tells_input _ _ (Err _) refl
 
-within_read : read.IsFirst read.ends (word 1 (codes "entry") ∷ number 1 (codes "1") ∷ word 2 (codes "end") ∷ word 3 (codes "end") ∷ []) (at 1 BadEntry)
+within_read : read.IsWholeInputFault read.ends (word 1 (codes "entry") ∷ number 1 (codes "1") ∷ word 2 (codes "end") ∷ word 3 (codes "end") ∷ []) (at 1 BadEntry)
 unfolding same_kind one_within the_line numeral either limited elements repeated a_pair all_pairs noted an_entry all_entries journal
 within_read = tells_input _ _ (Err _) refl
 

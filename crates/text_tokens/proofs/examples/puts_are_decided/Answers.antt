@@ -6,7 +6,8 @@ use Rattle.text_tokens.specs.Cursor.{same_kind}
 use Rattle.text_tokens.specs.Reading.{Answer, one_within, the_line, numeral, either, by_role, limited, elements, repeated}
 use Rattle.text_tokens.specs.Lawful.{Tells}
 use Rattle.text_tokens.specs.Puts.{Put, a_part, a_put, IsPut, a_name, a_minus, part_of, a_sum, assigned, put}
-use Rattle.text_tokens.specs.PutTexts.{name, digits, op, at, IsRead, IsFirst, to_a, four}
+use Rattle.text_tokens.specs.JournalFaults.{at}
+use Rattle.text_tokens.specs.PutTexts.{name, digits, op, IsRead, IsPutFault, to_a, four}
 use Rattle.text_tokens.proofs.Obeying.{decided}
 use Rattle.text_tokens.proofs.PutLaws.{exact_put}
 use Rattle.text_tokens.proofs.examples.puts_are_decided.Goals as goal
@@ -28,31 +29,31 @@ others : IsRead (name 1 (codes "a") ∷ op 2 (codes ".") ∷ name 3 (codes "b") 
 unfolding same_kind one_within the_line numeral either by_role limited elements repeated a_name a_minus part_of a_sum assigned put
 others = is_so _ (Ok (_, _)) refl
 
-neither : IsFirst (name 1 (codes "a") ∷ op 2 (codes ";") ∷ []) (at 2 Unexpected)
+neither : IsPutFault (name 1 (codes "a") ∷ op 2 (codes ";") ∷ []) (at 2 Unexpected)
 unfolding same_kind one_within the_line numeral either by_role limited elements repeated a_name a_minus part_of a_sum assigned put
 neither = is_so _ (Err _) refl
 
-alone : IsFirst (name 1 (codes "a") ∷ []) (at 20 Truncated)
+alone : IsPutFault (name 1 (codes "a") ∷ []) (at 20 Truncated)
 unfolding same_kind one_within the_line numeral either by_role limited elements repeated a_name a_minus part_of a_sum assigned put
 alone = is_so _ (Err _) refl
 
-no_name : IsFirst (name 1 (codes "a") ∷ op 2 (codes ".") ∷ op 3 (codes ":=") ∷ []) (at 3 Unexpected)
+no_name : IsPutFault (name 1 (codes "a") ∷ op 2 (codes ".") ∷ op 3 (codes ":=") ∷ []) (at 3 Unexpected)
 unfolding same_kind one_within the_line numeral either by_role limited elements repeated a_name a_minus part_of a_sum assigned put
 no_name = is_so _ (Err _) refl
 
-no_number : IsFirst (to_a (digits 3 (codes "1") ∷ op 4 (codes "+") ∷ op 5 (codes "-") ∷ [])) (at 5 Unexpected)
+no_number : IsPutFault (to_a (digits 3 (codes "1") ∷ op 4 (codes "+") ∷ op 5 (codes "-") ∷ [])) (at 5 Unexpected)
 unfolding same_kind one_within the_line numeral either by_role limited elements repeated a_name a_minus part_of a_sum assigned put
 no_number = is_so _ (Err _) refl
 
-no_more : IsFirst (to_a (digits 3 (codes "1") ∷ op 4 (codes "+") ∷ [])) (at 20 Truncated)
+no_more : IsPutFault (to_a (digits 3 (codes "1") ∷ op 4 (codes "+") ∷ [])) (at 20 Truncated)
 unfolding same_kind one_within the_line numeral either by_role limited elements repeated a_name a_minus part_of a_sum assigned put
 no_more = is_so _ (Err _) refl
 
-fifth : IsFirst (to_a (four (op 10 (codes "+") ∷ digits 11 (codes "5") ∷ []))) (at 11 TooMany)
+fifth : IsPutFault (to_a (four (op 10 (codes "+") ∷ digits 11 (codes "5") ∷ []))) (at 11 TooMany)
 unfolding same_kind one_within the_line numeral either by_role limited elements repeated a_name a_minus part_of a_sum assigned put
 fifth = is_so _ (Err _) refl
 
-no_fifth : IsFirst (to_a (four (op 10 (codes "+") ∷ name 11 (codes "b") ∷ []))) (at 11 Unexpected)
+no_fifth : IsPutFault (to_a (four (op 10 (codes "+") ∷ name 11 (codes "b") ∷ []))) (at 11 Unexpected)
 unfolding same_kind one_within the_line numeral either by_role limited elements repeated a_name a_minus part_of a_sum assigned put
 no_fifth = is_so _ (Err _) refl
 

@@ -8,7 +8,7 @@ use Rattle.amoebot_state.specs.Refusals.{IsPlain}
 use Rattle.amoebot_state.specs.Known.{next_cell}
 use Rattle.amoebot_state.specs.Zones.{Shown, IsShown}
 use Rattle.claim_core.specs.declared.state.Phase.TheVariants as phase
-use Rattle.claim_core.specs.Turns.{bot_of}
+use Rattle.claim_core.specs.Turns.{bot_of_turn}
 use Rattle.claim_core.specs.Tags.{tag}
 use Rattle.claim_core.specs.Cells.{number, held_by}
 use Rattle.claim_core.specs.Cores.{phase_after, state_of}
@@ -36,7 +36,7 @@ pub unreachable-requires : goal.unreachable-requires
 unreachable-requires g c =
     let seat = seat_in c.self.invariant c.self.view_is refl c.args.caller phase.Claim c.requires c.from.result c.index_mut-seat.result.now c.from.ensures c.index_mut-seat.ensures.value in
     let ph = phase_in c.self.invariant seat c.self.view_is refl phase.Claim c.requires in
-    let asked : next_cell c.self.inside.world.area (bot_of c.self.inside.lists c.args.caller c.index_mut-seat.result.now.turn) c.index_mut-seat.result.now.held.items ≡ c.next_cell.result = (λ j. next_cell (sym c.area-area.ensures j) (sym c.bot-bot.ensures j) (sym c.as_slice.ensures.value j)) ∙ sym c.next_cell.ensures in
+    let asked : next_cell c.self.inside.world.area (bot_of_turn c.self.inside.lists c.args.caller c.index_mut-seat.result.now.turn) c.index_mut-seat.result.now.held.items ≡ c.next_cell.result = (λ j. next_cell (sym c.area-area.ensures j) (sym c.bot-bot.ensures j) (sym c.as_slice.ensures.value j)) ∙ sym c.next_cell.ensures in
     let some = claim_next c.self.invariant seat ph in
     none-some some.0 (sym c.in-None.is ∙ sym asked ∙ some.1)
 
@@ -44,7 +44,7 @@ pub unreachable-requires-in-None-number : goal.unreachable-requires-in-None-numb
 unreachable-requires-in-None-number g c =
     let seat = seat_in c.self.invariant c.self.view_is refl c.args.caller phase.Claim c.requires c.from.result c.index_mut-seat.result.now c.from.ensures c.index_mut-seat.ensures.value in
     let ph = phase_in c.self.invariant seat c.self.view_is refl phase.Claim c.requires in
-    let asked : next_cell c.self.inside.world.area (bot_of c.self.inside.lists c.args.caller c.index_mut-seat.result.now.turn) c.index_mut-seat.result.now.held.items ≡ c.next_cell.result = (λ j. next_cell (sym c.area-area.ensures j) (sym c.bot-bot.ensures j) (sym c.as_slice.ensures.value j)) ∙ sym c.next_cell.ensures in
+    let asked : next_cell c.self.inside.world.area (bot_of_turn c.self.inside.lists c.args.caller c.index_mut-seat.result.now.turn) c.index_mut-seat.result.now.held.items ≡ c.next_cell.result = (λ j. next_cell (sym c.area-area.ensures j) (sym c.bot-bot.ensures j) (sym c.as_slice.ensures.value j)) ∙ sym c.next_cell.ensures in
     let nx = asked ∙ c.in-Some.is in
     let num = claim_number c.self.invariant seat ph c.in-Some.name nx in
     none-some num.0 (sym c.in-None-number.is ∙ c.number.ensures ∙ ap (λ a. number a c.in-Some.name) c.area-area.ensures ∙ num.1)
@@ -53,7 +53,7 @@ pub index-found-requires : goal.index-found-requires
 index-found-requires g c =
     let seat = seat_in c.self.invariant c.self.view_is refl c.args.caller phase.Claim c.requires c.from.result c.index_mut-seat.result.now c.from.ensures c.index_mut-seat.ensures.value in
     let ph = phase_in c.self.invariant seat c.self.view_is refl phase.Claim c.requires in
-    let asked : next_cell c.self.inside.world.area (bot_of c.self.inside.lists c.args.caller c.index_mut-seat.result.now.turn) c.index_mut-seat.result.now.held.items ≡ c.next_cell.result = (λ j. next_cell (sym c.area-area.ensures j) (sym c.bot-bot.ensures j) (sym c.as_slice.ensures.value j)) ∙ sym c.next_cell.ensures in
+    let asked : next_cell c.self.inside.world.area (bot_of_turn c.self.inside.lists c.args.caller c.index_mut-seat.result.now.turn) c.index_mut-seat.result.now.held.items ≡ c.next_cell.result = (λ j. next_cell (sym c.area-area.ensures j) (sym c.bot-bot.ensures j) (sym c.as_slice.ensures.value j)) ∙ sym c.next_cell.ensures in
     let nx = asked ∙ c.in-Some.is in
     let at_n = ap (λ a. number a c.in-Some.name) (sym c.area-area.ensures) ∙ sym c.number.ensures ∙ c.in-Some-number.is in
     let num = claim_number c.self.invariant seat ph c.in-Some.name nx in
@@ -64,7 +64,7 @@ pub invariant_of-self : goal.invariant_of-self
 invariant_of-self g c =
     let seat = seat_in c.self.invariant c.self.view_is refl c.args.caller phase.Claim c.requires c.from.result c.index_mut-seat.result.now c.from.ensures c.index_mut-seat.ensures.value in
     let ph = phase_in c.self.invariant seat c.self.view_is refl phase.Claim c.requires in
-    let asked : next_cell c.self.inside.world.area (bot_of c.self.inside.lists c.args.caller c.index_mut-seat.result.now.turn) c.index_mut-seat.result.now.held.items ≡ c.next_cell.result = (λ j. next_cell (sym c.area-area.ensures j) (sym c.bot-bot.ensures j) (sym c.as_slice.ensures.value j)) ∙ sym c.next_cell.ensures in
+    let asked : next_cell c.self.inside.world.area (bot_of_turn c.self.inside.lists c.args.caller c.index_mut-seat.result.now.turn) c.index_mut-seat.result.now.held.items ≡ c.next_cell.result = (λ j. next_cell (sym c.area-area.ensures j) (sym c.bot-bot.ensures j) (sym c.as_slice.ensures.value j)) ∙ sym c.next_cell.ensures in
     let nx = asked ∙ c.in-Some.is in
     let at_n = ap (λ a. number a c.in-Some.name) (sym c.area-area.ensures) ∙ sym c.number.ensures ∙ c.in-Some-number.is in
     let step = claim_refused c.self.invariant seat ph c.in-Some.name nx c.in-Some-number.number at_n c.index-found.result.now c.index-found.ensures (record c.index_mut-seat.result.now { phase = phase.Refusing c.in-Some.name c.index-found.result.now }) c.if-found-ne0.true refl refl refl in
@@ -74,7 +74,7 @@ pub returns-then-found-ne0 : goal.returns-then-found-ne0
 returns-then-found-ne0 g c =
     let seat = seat_in c.self.invariant c.self.view_is refl c.args.caller phase.Claim c.requires c.from.result c.index_mut-seat.result.now c.from.ensures c.index_mut-seat.ensures.value in
     let ph = phase_in c.self.invariant seat c.self.view_is refl phase.Claim c.requires in
-    let asked : next_cell c.self.inside.world.area (bot_of c.self.inside.lists c.args.caller c.index_mut-seat.result.now.turn) c.index_mut-seat.result.now.held.items ≡ c.next_cell.result = (λ j. next_cell (sym c.area-area.ensures j) (sym c.bot-bot.ensures j) (sym c.as_slice.ensures.value j)) ∙ sym c.next_cell.ensures in
+    let asked : next_cell c.self.inside.world.area (bot_of_turn c.self.inside.lists c.args.caller c.index_mut-seat.result.now.turn) c.index_mut-seat.result.now.held.items ≡ c.next_cell.result = (λ j. next_cell (sym c.area-area.ensures j) (sym c.bot-bot.ensures j) (sym c.as_slice.ensures.value j)) ∙ sym c.next_cell.ensures in
     let nx = asked ∙ c.in-Some.is in
     let at_n = ap (λ a. number a c.in-Some.name) (sym c.area-area.ensures) ∙ sym c.number.ensures ∙ c.in-Some-number.is in
     let step = claim_refused c.self.invariant seat ph c.in-Some.name nx c.in-Some-number.number at_n c.index-found.result.now c.index-found.ensures (record c.index_mut-seat.result.now { phase = phase.Refusing c.in-Some.name c.index-found.result.now }) c.if-found-ne0.true refl refl refl in
@@ -84,7 +84,7 @@ pub index_mut-requires : goal.index_mut-requires
 index_mut-requires g c =
     let seat = seat_in c.self.invariant c.self.view_is refl c.args.caller phase.Claim c.requires c.from.result c.index_mut-seat.result.now c.from.ensures c.index_mut-seat.ensures.value in
     let ph = phase_in c.self.invariant seat c.self.view_is refl phase.Claim c.requires in
-    let asked : next_cell c.self.inside.world.area (bot_of c.self.inside.lists c.args.caller c.index_mut-seat.result.now.turn) c.index_mut-seat.result.now.held.items ≡ c.next_cell.result = (λ j. next_cell (sym c.area-area.ensures j) (sym c.bot-bot.ensures j) (sym c.as_slice.ensures.value j)) ∙ sym c.next_cell.ensures in
+    let asked : next_cell c.self.inside.world.area (bot_of_turn c.self.inside.lists c.args.caller c.index_mut-seat.result.now.turn) c.index_mut-seat.result.now.held.items ≡ c.next_cell.result = (λ j. next_cell (sym c.area-area.ensures j) (sym c.bot-bot.ensures j) (sym c.as_slice.ensures.value j)) ∙ sym c.next_cell.ensures in
     let nx = asked ∙ c.in-Some.is in
     let at_n = ap (λ a. number a c.in-Some.name) (sym c.area-area.ensures) ∙ sym c.number.ensures ∙ c.in-Some-number.is in
     let num = claim_number c.self.invariant seat ph c.in-Some.name nx in
@@ -95,7 +95,7 @@ pub value_of-requires : goal.value_of-requires
 value_of-requires g c =
     let seat = seat_in c.self.invariant c.self.view_is refl c.args.caller phase.Claim c.requires c.from.result c.index_mut-seat.result.now c.from.ensures c.index_mut-seat.ensures.value in
     let ph = phase_in c.self.invariant seat c.self.view_is refl phase.Claim c.requires in
-    let asked : next_cell c.self.inside.world.area (bot_of c.self.inside.lists c.args.caller c.index_mut-seat.result.now.turn) c.index_mut-seat.result.now.held.items ≡ c.next_cell.result = (λ j. next_cell (sym c.area-area.ensures j) (sym c.bot-bot.ensures j) (sym c.as_slice.ensures.value j)) ∙ sym c.next_cell.ensures in
+    let asked : next_cell c.self.inside.world.area (bot_of_turn c.self.inside.lists c.args.caller c.index_mut-seat.result.now.turn) c.index_mut-seat.result.now.held.items ≡ c.next_cell.result = (λ j. next_cell (sym c.area-area.ensures j) (sym c.bot-bot.ensures j) (sym c.as_slice.ensures.value j)) ∙ sym c.next_cell.ensures in
     let nx = asked ∙ c.in-Some.is in
     claim_cell c.self.invariant seat ph c.in-Some.name nx
 
@@ -110,7 +110,7 @@ pub after_win-seat-requires-clause-plain : goal.after_win-seat-requires-clause-p
 after_win-seat-requires-clause-plain g c =
     let seat = seat_in c.self.invariant c.self.view_is refl c.args.caller phase.Claim c.requires c.from.result c.index_mut-seat.result.now c.from.ensures c.index_mut-seat.ensures.value in
     let ph = phase_in c.self.invariant seat c.self.view_is refl phase.Claim c.requires in
-    let asked : next_cell c.self.inside.world.area (bot_of c.self.inside.lists c.args.caller c.index_mut-seat.result.now.turn) c.index_mut-seat.result.now.held.items ≡ c.next_cell.result = (λ j. next_cell (sym c.area-area.ensures j) (sym c.bot-bot.ensures j) (sym c.as_slice.ensures.value j)) ∙ sym c.next_cell.ensures in
+    let asked : next_cell c.self.inside.world.area (bot_of_turn c.self.inside.lists c.args.caller c.index_mut-seat.result.now.turn) c.index_mut-seat.result.now.held.items ≡ c.next_cell.result = (λ j. next_cell (sym c.area-area.ensures j) (sym c.bot-bot.ensures j) (sym c.as_slice.ensures.value j)) ∙ sym c.next_cell.ensures in
     let nx = asked ∙ c.in-Some.is in
     let at_n = ap (λ a. number a c.in-Some.name) (sym c.area-area.ensures) ∙ sym c.number.ensures ∙ c.in-Some-number.is in
     let cells : c.as_slice-2.result.now ≡ c.index_mut-seat.result.now.held.items ++ (c.in-Some.name, held_by c.self.inside.world c.in-Some.name) ∷ [] = c.as_slice-2.ensures.value ∙ c.push.ensures.items ∙ ap (λ x. c.index_mut-seat.result.now.held.items ++ (c.in-Some.name, x) ∷ []) c.value_of.ensures in
@@ -121,7 +121,7 @@ pub after_win-seat-requires-clause-shown : goal.after_win-seat-requires-clause-s
 after_win-seat-requires-clause-shown g c =
     let seat = seat_in c.self.invariant c.self.view_is refl c.args.caller phase.Claim c.requires c.from.result c.index_mut-seat.result.now c.from.ensures c.index_mut-seat.ensures.value in
     let ph = phase_in c.self.invariant seat c.self.view_is refl phase.Claim c.requires in
-    let asked : next_cell c.self.inside.world.area (bot_of c.self.inside.lists c.args.caller c.index_mut-seat.result.now.turn) c.index_mut-seat.result.now.held.items ≡ c.next_cell.result = (λ j. next_cell (sym c.area-area.ensures j) (sym c.bot-bot.ensures j) (sym c.as_slice.ensures.value j)) ∙ sym c.next_cell.ensures in
+    let asked : next_cell c.self.inside.world.area (bot_of_turn c.self.inside.lists c.args.caller c.index_mut-seat.result.now.turn) c.index_mut-seat.result.now.held.items ≡ c.next_cell.result = (λ j. next_cell (sym c.area-area.ensures j) (sym c.bot-bot.ensures j) (sym c.as_slice.ensures.value j)) ∙ sym c.next_cell.ensures in
     let nx = asked ∙ c.in-Some.is in
     let at_n = ap (λ a. number a c.in-Some.name) (sym c.area-area.ensures) ∙ sym c.number.ensures ∙ c.in-Some-number.is in
     let cells : c.as_slice-2.result.now ≡ c.index_mut-seat.result.now.held.items ++ (c.in-Some.name, held_by c.self.inside.world c.in-Some.name) ∷ [] = c.as_slice-2.ensures.value ∙ c.push.ensures.items ∙ ap (λ x. c.index_mut-seat.result.now.held.items ++ (c.in-Some.name, x) ∷ []) c.value_of.ensures in
@@ -133,11 +133,11 @@ pub invariant_of-self-2 : goal.invariant_of-self-2
 invariant_of-self-2 g c =
     let seat = seat_in c.self.invariant c.self.view_is refl c.args.caller phase.Claim c.requires c.from.result c.index_mut-seat.result.now c.from.ensures c.index_mut-seat.ensures.value in
     let ph = phase_in c.self.invariant seat c.self.view_is refl phase.Claim c.requires in
-    let asked : next_cell c.self.inside.world.area (bot_of c.self.inside.lists c.args.caller c.index_mut-seat.result.now.turn) c.index_mut-seat.result.now.held.items ≡ c.next_cell.result = (λ j. next_cell (sym c.area-area.ensures j) (sym c.bot-bot.ensures j) (sym c.as_slice.ensures.value j)) ∙ sym c.next_cell.ensures in
+    let asked : next_cell c.self.inside.world.area (bot_of_turn c.self.inside.lists c.args.caller c.index_mut-seat.result.now.turn) c.index_mut-seat.result.now.held.items ≡ c.next_cell.result = (λ j. next_cell (sym c.area-area.ensures j) (sym c.bot-bot.ensures j) (sym c.as_slice.ensures.value j)) ∙ sym c.next_cell.ensures in
     let nx = asked ∙ c.in-Some.is in
     let at_n = ap (λ a. number a c.in-Some.name) (sym c.area-area.ensures) ∙ sym c.number.ensures ∙ c.in-Some-number.is in
     let cells : c.as_slice-2.result.now ≡ c.index_mut-seat.result.now.held.items ++ (c.in-Some.name, held_by c.self.inside.world c.in-Some.name) ∷ [] = c.as_slice-2.ensures.value ∙ c.push.ensures.items ∙ ap (λ x. c.index_mut-seat.result.now.held.items ++ (c.in-Some.name, x) ∷ []) c.value_of.ensures in
-    let own = bot_of c.self.inside.lists c.args.caller c.index_mut-seat.result.now.turn in
+    let own = bot_of_turn c.self.inside.lists c.args.caller c.index_mut-seat.result.now.turn in
     let ph2 : c.after_win-seat.result ≡ phase_after (g.D.Decider.verdict c.self.inside.decider.now) (the_shown c.self.inside.world.area c.self.inside.world.maxes own (c.index_mut-seat.result.now.held.items ++ (c.in-Some.name, held_by c.self.inside.world c.in-Some.name) ∷ [])) (next_cell c.self.inside.world.area own (c.index_mut-seat.result.now.held.items ++ (c.in-Some.name, held_by c.self.inside.world c.in-Some.name) ∷ [])) =
     c.after_win-seat.ensures ∙ (λ j. phase_after (g.D.Decider.verdict c.self.inside.decider.now) (the_shown (c.area-area.ensures j) (c.maxes.ensures j) (c.bot-bot.ensures j) (cells j)) (next_cell (c.area-area.ensures j) (c.bot-bot.ensures j) (cells j))) in
     let held = c.push.ensures.items ∙ ap (λ x. c.index_mut-seat.result.now.held.items ++ (c.in-Some.name, x) ∷ []) c.value_of.ensures in
@@ -151,11 +151,11 @@ pub returns : goal.returns
 returns g c =
     let seat = seat_in c.self.invariant c.self.view_is refl c.args.caller phase.Claim c.requires c.from.result c.index_mut-seat.result.now c.from.ensures c.index_mut-seat.ensures.value in
     let ph = phase_in c.self.invariant seat c.self.view_is refl phase.Claim c.requires in
-    let asked : next_cell c.self.inside.world.area (bot_of c.self.inside.lists c.args.caller c.index_mut-seat.result.now.turn) c.index_mut-seat.result.now.held.items ≡ c.next_cell.result = (λ j. next_cell (sym c.area-area.ensures j) (sym c.bot-bot.ensures j) (sym c.as_slice.ensures.value j)) ∙ sym c.next_cell.ensures in
+    let asked : next_cell c.self.inside.world.area (bot_of_turn c.self.inside.lists c.args.caller c.index_mut-seat.result.now.turn) c.index_mut-seat.result.now.held.items ≡ c.next_cell.result = (λ j. next_cell (sym c.area-area.ensures j) (sym c.bot-bot.ensures j) (sym c.as_slice.ensures.value j)) ∙ sym c.next_cell.ensures in
     let nx = asked ∙ c.in-Some.is in
     let at_n = ap (λ a. number a c.in-Some.name) (sym c.area-area.ensures) ∙ sym c.number.ensures ∙ c.in-Some-number.is in
     let cells : c.as_slice-2.result.now ≡ c.index_mut-seat.result.now.held.items ++ (c.in-Some.name, held_by c.self.inside.world c.in-Some.name) ∷ [] = c.as_slice-2.ensures.value ∙ c.push.ensures.items ∙ ap (λ x. c.index_mut-seat.result.now.held.items ++ (c.in-Some.name, x) ∷ []) c.value_of.ensures in
-    let own = bot_of c.self.inside.lists c.args.caller c.index_mut-seat.result.now.turn in
+    let own = bot_of_turn c.self.inside.lists c.args.caller c.index_mut-seat.result.now.turn in
     let ph2 : c.after_win-seat.result ≡ phase_after (g.D.Decider.verdict c.self.inside.decider.now) (the_shown c.self.inside.world.area c.self.inside.world.maxes own (c.index_mut-seat.result.now.held.items ++ (c.in-Some.name, held_by c.self.inside.world c.in-Some.name) ∷ [])) (next_cell c.self.inside.world.area own (c.index_mut-seat.result.now.held.items ++ (c.in-Some.name, held_by c.self.inside.world c.in-Some.name) ∷ [])) =
     c.after_win-seat.ensures ∙ (λ j. phase_after (g.D.Decider.verdict c.self.inside.decider.now) (the_shown (c.area-area.ensures j) (c.maxes.ensures j) (c.bot-bot.ensures j) (cells j)) (next_cell (c.area-area.ensures j) (c.bot-bot.ensures j) (cells j))) in
     let held = c.push.ensures.items ∙ ap (λ x. c.index_mut-seat.result.now.held.items ++ (c.in-Some.name, x) ∷ []) c.value_of.ensures in

@@ -1,7 +1,7 @@
 use Rattle.atomic_table.specs.Table.{step, Allows}
 use mathlib.Core.Option.{none}
 use Rattle.claim_rule.specs.Views.{terms_of}
-use Rattle.claim_rule.specs.Stands.{Holds}
+use Rattle.claim_rule.specs.Stands.{KeepsRule}
 use Rattle.claim_rule.specs.Plays.{read}
 use Rattle.claim_rule.proofs.Looks.{look_allowed}
 use Rattle.claim_rule.proofs.Asking.{alone_of, on_journal}
@@ -13,5 +13,5 @@ load-requires g c =
     let slots = c.self.inside.table.shared.table_id.slots in
     let z = terms_of c.self.inside.table.shared.key.decider.now c.self.inside.table.shared.key.world c.self.inside.table.shared.key.lists.now in
     let alone = alone_of c.self.view_is c.requires.alone in
-    on_journal c.self.view_is (λ w. Allows (Holds g.D.Decider.verdict z) slots c.args.seat.now.id me w (λ x. x) (read g.D.Decider.verdict (step slots w 0 0 none) me)) c.requires.table c.journal_number-journal.ensures.word c.journal_number-journal.ensures.number
+    on_journal c.self.view_is (λ w. Allows (KeepsRule g.D.Decider.verdict z) slots c.args.seat.now.id me w (λ x. x) (read g.D.Decider.verdict (step slots w 0 0 none) me)) c.requires.table c.journal_number-journal.ensures.word c.journal_number-journal.ensures.number
     (look_allowed g.D.Decider.verdict z c.self.invariant.run slots _ me alone c.requires.reads)

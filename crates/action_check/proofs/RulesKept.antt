@@ -1,15 +1,16 @@
 -- Where nothing is wrong, each part is what an evaluation relies on.
 use Rattle.std.proofs.Common.{true, ◌≡◌, ◌≤◌, ◌+◌, ℕ, suc, [], ◌∷◌, length, length-append, arith}
+use Rattle.text_tokens.proofs.Beginnings.{right_empty}
 use Rattle.action_tree.specs.Trees.{Name, DirTerm, fixed, held, Guard, atom, negation, conjunction, disjunction, quantified, tested, comparison, Guards, no_guards, guard_then, Sum, no_terms, term_then, Term, number, own, of_port, count, direction, inner, mod6, PortExpr, bound, at_end, turned, first, Stmt, put, put_of, let_be, if_then, for_each, Stmts, no_stmts, stmt_then, Move, no_move, through, contract, Action}
 use Rattle.action_tree.specs.Limits.{most_names}
-use Rattle.action_tree.specs.Writable.{guard_names, guards_names, sum_names, term_names, port_names, behind, stmt_names, stmts_names, move_names, action_names, is_action}
+use Rattle.action_tree.specs.Writable.{guard_names, guards_names, sum_names, term_names, port_names, with_let, stmt_names, stmts_names, move_names, action_names, is_action}
 use Rattle.action_tree.proofs.Conditions.{right_of}
 use Rattle.std.proofs.lemmas.Bool.{leb-true}
 use Rattle.action_check.specs.Limits.{most_literal, most_direction}
 use Rattle.action_check.specs.Scopes.{Scope, HasRoom, bind, after, after_all}
 use Rattle.action_check.specs.Faults.{dirterm_faults, guard_faults, guards_faults, sum_faults, term_faults, port_faults, stmt_faults, stmts_faults, move_faults, action_faults}
 use Rattle.action_check.specs.Rules.{DirTermKept, GuardKept, GuardsKept, SumKept, TermKept, PortKept, StmtKept, StmtsKept, MoveKept, ActionKept}
-use Rattle.action_check.proofs.Known.{left_empty, right_empty, is_var, is_in_force, is_new, is_within}
+use Rattle.action_check.proofs.Known.{left_empty, is_var, is_in_force, is_new, is_within}
 
 pub room_behind : (sc : Scope) (v : Name) (more : ℕ) → HasRoom sc (suc more) → HasRoom (bind sc v) more
 room_behind sc v more room = omega (arith, length-append sc.bound (v.text ∷ []))
@@ -55,7 +56,7 @@ mutual
       (is_new sc v (omega arith) (left_empty _ _ e), guard_kept (bind sc v) g (room_behind sc v _ room) (right_empty _ _ e))
 
 -- what a `let` leaves for the statements behind it
-room_after : (sc : Scope) (s : Stmt) (more : ℕ) → HasRoom sc (behind s more) → HasRoom (after sc s) more
+room_after : (sc : Scope) (s : Stmt) (more : ℕ) → HasRoom sc (with_let s more) → HasRoom (after sc s) more
 room_after sc (let_be v p) more room = room_behind sc v more room
 room_after sc (put v s) more room = room
 room_after sc (put_of p v s) more room = room
@@ -63,7 +64,7 @@ room_after sc (if_then g ss es) more room = room
 room_after sc (for_each v s g ss) more room = room
 
 mutual
-  pub stmt_kept : (sc : Scope) (s : Stmt) (more : ℕ) → HasRoom sc (stmt_names s) → HasRoom sc (behind s more) → stmt_faults sc s ≡ [] → StmtKept sc s
+  pub stmt_kept : (sc : Scope) (s : Stmt) (more : ℕ) → HasRoom sc (stmt_names s) → HasRoom sc (with_let s more) → stmt_faults sc s ≡ [] → StmtKept sc s
   stmt_kept sc (put v s) more room _ e = (is_var sc v (left_empty _ _ e), sum_kept sc s room (right_empty _ _ e))
   stmt_kept sc (put_of p v s) more room _ e =
       (port_kept sc p (omega arith) (left_empty _ _ e), is_var sc v (left_empty _ _ (right_empty _ _ e)), sum_kept sc s (omega arith) (right_empty _ _ (right_empty _ _ e)))
@@ -86,7 +87,7 @@ room_after_all sc no_stmts more room = room
 room_after_all sc (stmt_then s ss) more room = room_after_all (after sc s) ss more (room_after sc s _ (omega arith))
 
 -- what goes on with less has fewer names
-fewer_behind : (s : Stmt) (a b : ℕ) → a ≤ b → behind s a ≤ behind s b
+fewer_behind : (s : Stmt) (a b : ℕ) → a ≤ b → with_let s a ≤ with_let s b
 fewer_behind (let_be v p) a b le = omega arith
 fewer_behind (put v s) a b le = le
 fewer_behind (put_of p v s) a b le = le

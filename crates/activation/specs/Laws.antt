@@ -1,0 +1,11 @@
+-- What follows from the definitions alone.
+use Rattle.std.specs.Prelude.{◌≡◌}
+use Rattle.amoebot_state.specs.declared.verdict.Verdict.{Verdict}
+use Rattle.amoebot_state.specs.Zones.{Shown}
+use Rattle.claim_rule.specs.Tokens.{Token}
+use Rattle.activation.specs.declared.turn.Turn.{Turn}
+use Rattle.activation.specs.Answers.{HasAnswered}
+
+-- from one seat to another there is at most one answer: so Done, Idle, Failed and Busy exclude each other
+abbrev pub AnswerIsUnique : {D : Type 0} → (D → Shown → Verdict) → Type 0
+AnswerIsUnique {D} verdict = (old new : Token D) (one two : Turn) → HasAnswered verdict old new one → HasAnswered verdict old new two → one ≡ two
