@@ -17,7 +17,7 @@ use Rattle.document_grammar.specs.declared.section.Section.TheVariants.{Program,
 use Rattle.document_grammar.specs.declared.section.Form.TheVariants.{Run, Interleave}
 use Rattle.document_grammar.specs.Frame.{Course, ends, needs, may_schedule, course_of, IsRest, IsHeader}
 use Rattle.document_grammar.specs.FrameLaws.{Plain}
-use Rattle.document_grammar.specs.Documents.{Contents, nothing_yet, Body, IsDocument, Holds}
+use Rattle.document_grammar.specs.Documents.{Contents, nothing_yet, Body, IsDocument, HasContents}
 use Rattle.document_grammar.proofs.Plainness.{plain, forms_are_distinct}
 use Rattle.document_grammar.proofs.Sectioning.{are_sections}
 use Rattle.document_grammar.proofs.Deciding.{says_of}
@@ -48,7 +48,7 @@ document_as_run a us w =
     let other : IsWhole (There (course_of Run) nothing_yet) i.ws a = record { text = one.text; is = as_run nothing_yet a one.text one.is; parts = one.parts; fine = one.fine } in
     whole_then i.vs i.ws us i.a a i.parts i.first ((plain Body are_sections.start (course_of Run) (forms_are_distinct Run) nothing_yet).back i.ws a other)
 
-pub interleaves_are_runs : (bytes : List ℕ) (a : Contents) → Holds Interleave bytes a → Holds Run bytes a
+pub interleaves_are_runs : (bytes : List ℕ) (a : Contents) → HasContents Interleave bytes a → HasContents Run bytes a
 interleaves_are_runs bytes a holds =
     let ts : List Lexeme = ahead_of (point bytes 0) in
     let end : Refusal = last_of (point bytes 0) in

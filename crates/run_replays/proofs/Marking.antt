@@ -20,8 +20,8 @@ use Rattle.amoebot_state.proofs.Once.{same_body, spot_is_no_body}
 use Rattle.amoebot_state.proofs.Zones.{others_there, zone_is, zone_inside}
 use Rattle.claim_core.specs.declared.marks.Mark.{Mark}
 use Rattle.claim_core.specs.declared.marks.Mark.TheVariants as mark
-use Rattle.claim_core.specs.Turns.{CallerLists, MarkLists, AreFew, HaveBots, bot_of, list_of, marks_of}
-use Rattle.claim_core.specs.Good.{IsWorldAt, HasVerdict, HasInZone, MayHold, TurnOk, AreMarks, mark_of}
+use Rattle.claim_core.specs.Turns.{CallerLists, MarkLists, AreFew, HaveBots, bot_of_turn, list_of, marks_of}
+use Rattle.claim_core.specs.Good.{IsWorldAt, HasVerdict, HasInZone, MayHold, TurnOk, AreMarks, mark_of_turn}
 use Rattle.journal_text.specs.Rereading.{IsShort, IsWritableCell, IsWritableMark, AreWritable}
 use Rattle.run_replays.proofs.Bodies.{has_coordinates}
 use Rattle.run_replays.proofs.Worlds.{IsOf, after_run}
@@ -74,7 +74,7 @@ module _ (f : Shown → Verdict) (start : Config) (lists : CallerLists) (entries
   turns_few : (caller : ℕ) → caller < length lists.ids → lists.turns ≤ 65536
   turns_few caller inside = one_of_many (length lists.ids) lists.turns (omega arith) lists_few.in_all
 
-  by_short : (caller turn bot : ℕ) → caller < length lists.ids → bot ≡ bot_of lists caller turn → IsShort bot
+  by_short : (caller turn bot : ℕ) → caller < length lists.ids → bot ≡ bot_of_turn lists caller turn → IsShort bot
   by_short caller turn bot inside same = subst IsShort (sym same) (id_short (list_of lists caller) _ (length start.bots) (bots caller [] inside) few)
 
   mark_short : (caller turn : ℕ) (m : Mark) → TurnOk f start lists entries marks caller turn m → IsWritableMark m
@@ -89,7 +89,7 @@ module _ (f : Shown → Verdict) (start : Config) (lists : CallerLists) (entries
       let listed = may.listed in
       let its_turn = may.turn in
       record {
-        cell = cell_short place (bot_of lists caller turn) n held;
+        cell = cell_short place (bot_of_turn lists caller turn) n held;
         caller = omega arith;
         turn = omega arith;
         bot = by_short by_caller by_turn by_bot may.listed may.bot;

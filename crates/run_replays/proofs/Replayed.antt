@@ -1,5 +1,5 @@
 -- A document with the text of its run behind it is one of Replay, and the journal agrees.
-use Rattle.std.proofs.Common.{◌≡◌, ℕ, ◌^◌, ◌*◌, ◌<◌, ◌≤◌, List, ◌++◌, length, Option, Some, None, codes, refl, sym, ap, subst, ◌∙◌, arith, append_assoc}
+use Rattle.std.proofs.Common.{◌≡◌, ℕ, ◌^◌, ◌*◌, ◌<◌, ◌≤◌, List, [], ◌++◌, length, Option, Some, None, codes, refl, sym, ap, subst, ◌∙◌, arith, append_assoc}
 use Rattle.std.specs.Prelude.{IsSome}
 use Rattle.std.specs.Option.{IfSome}
 use Rattle.std.specs.List.{All}
@@ -21,7 +21,7 @@ use Rattle.action_check.specs.Maxes.{maxes_of}
 use Rattle.action_meaning.specs.Verdicts.{verdict_shown}
 use Rattle.action_meaning.specs.Laws.{ProgramsDecideByActs}
 use Rattle.document_grammar.specs.declared.section.Form.TheVariants as form
-use Rattle.document_grammar.specs.Documents.{Contents, vars_of, actions_of, maxes_in, bots_of, Holds}
+use Rattle.document_grammar.specs.Documents.{Contents, vars_of, actions_of, maxes_in, bots_of, HasContents}
 use Rattle.document_grammar.specs.RunTexts.{run_text, KeepsRunLimits, EndsLine, RunsAreReplayed}
 use Rattle.document_grammar.specs.Fitting.{FitTogether, DocumentsFit}
 use Rattle.command_runs.specs.Reports.{report_text}
@@ -52,7 +52,7 @@ pub record Laws : Type 0 where
 text_is : (vars : ℕ) (report : Report) → run_text vars report.journal.entries report.world report.turns ≡ report_text vars report
 text_is vars report = sym (append_assoc (journal_text vars report.journal.entries) (shape_text (codes "final") vars report.world) (turns_text report.turns))
 
-module _ (laws : Laws) (bytes : List ℕ) (a : Contents) (p : Program) (start : Config) (lists : CallerLists) (report : Report) (holds : Holds form.Run bytes a) (its_program : a.checked ≡ Some p) (its_shape : a.world ≡ Some start) (its_lists : a.lists ≡ Some lists) (good : Good (verdict_shown p) start lists report) where
+module _ (laws : Laws) (bytes : List ℕ) (a : Contents) (p : Program) (start : Config) (lists : CallerLists) (report : Report) (holds : HasContents form.Run bytes a) (its_program : a.checked ≡ Some p) (its_shape : a.world ≡ Some start) (its_lists : a.lists ≡ Some lists) (good : Good (verdict_shown p) start lists report) where
   fits : FitTogether a
   fits = (laws.fit form.Run bytes a holds).together
 
@@ -123,8 +123,8 @@ module _ (laws : Laws) (bytes : List ℕ) (a : Contents) (p : Program) (start : 
   is_replayed text line whole =
       let same : run_text (vars_of a.checked) report.journal.entries report.world report.turns ≡ text =
       ap (λ (o : Option Program). run_text (vars_of o) report.journal.entries report.world report.turns) its_program ∙ text_is (length p.vars) report ∙ sym whole in
-      let document : Holds form.Replay (bytes ++ text) (with_record a report) =
-      subst (λ (t : List ℕ). Holds form.Replay (bytes ++ t) (with_record a report)) same (laws.replayed bytes a report.journal.entries report.world report.turns line holds keeps) in
+      let document : HasContents form.Replay (bytes ++ text) (with_record a report) =
+      subst (λ (t : List ℕ). HasContents form.Replay (bytes ++ t) (with_record a report)) same (laws.replayed bytes a report.journal.entries report.world report.turns line holds keeps) in
       record {
         document = document;
         agrees = done Replay (bytes ++ text) (with_record a report) None (agrees_line (length report.journal.entries)) document (of_replay (agrees_line (length report.journal.entries)) (record {

@@ -17,14 +17,15 @@ use Rattle.text_tokens.proofs.Tokenizing.{tokens_of_text}
 use Rattle.amoebot_state.specs.declared.bot.Bot.{Bot}
 use Rattle.amoebot_state.specs.Configs.{Config, bot_at}
 use Rattle.amoebot_state.specs.Limits.{most_bots}
+use Rattle.claim_core.specs.Limits.{most_callers, most_turns}
 use Rattle.claim_core.specs.Turns.{CallerLists, AreFew}
 use Rattle.shape_text.specs.Shapes.{WrittenBot, WrittenShape, written_shape, bot_in, stands_for, IsBotLine, IsShapeUnder}
-use Rattle.schedule_text.specs.Lists.{most_callers, most_turns, IsCallerList, IsLists}
+use Rattle.schedule_text.specs.Lists.{IsCallerList, IsLists}
 use Rattle.document_grammar.specs.declared.section.Form.TheVariants.{Run}
 use Rattle.document_grammar.specs.declared.section.Section.TheVariants as section
 use Rattle.document_grammar.specs.Frame.{Course, ends, needs, may_schedule, course_of, IsRest}
 use Rattle.document_grammar.specs.FrameLaws.{Plain}
-use Rattle.document_grammar.specs.Documents.{Contents, nothing_yet, vars_of, maxes_in, bots_of, Body, IsDocument, Holds}
+use Rattle.document_grammar.specs.Documents.{Contents, nothing_yet, vars_of, maxes_in, bots_of, Body, IsDocument, HasContents}
 use Rattle.document_grammar.proofs.Fine.{Fine, both_of, made_of, step_of, closed_of, judged_of, nothing_of, either_of, one_of, counted_of}
 use Rattle.document_grammar.proofs.Plainness.{plain, forms_are_distinct}
 use Rattle.document_grammar.proofs.Sectioning.{are_sections}
@@ -99,7 +100,7 @@ pub record HasRoom (a : Contents) : Type 0 where
 abbrev There : Course → Contents → Contents → Type 0
 There c s a = Fine (Plain Body c s) a
 
-a_run : (bytes : List ℕ) (a : Contents) → Holds Run bytes a → There (course_of Run) nothing_yet a
+a_run : (bytes : List ℕ) (a : Contents) → HasContents Run bytes a → There (course_of Run) nothing_yet a
 a_run bytes a holds =
     let input : IsInput (IsDocument Run) Trailing (last_of (point bytes 0)) (ahead_of (point bytes 0)) a = holds (ahead_of (point bytes 0)) (last_of (point bytes 0)) (tokens_of_text bytes) in
     let w = input.text.whole in
@@ -133,5 +134,5 @@ module _ (a : Contents) where
       (lists_few (bots_of (Some c.value)) l.value l.before)
       l.behind
 
-pub documents_have_room : (bytes : List ℕ) (a : Contents) → Holds Run bytes a → HasRoom a
+pub documents_have_room : (bytes : List ℕ) (a : Contents) → HasContents Run bytes a → HasRoom a
 documents_have_room bytes a holds = run_room a (a_run bytes a holds)

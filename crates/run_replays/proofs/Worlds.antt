@@ -13,11 +13,12 @@ use Rattle.amoebot_state.specs.Steps.{Step, Run}
 use Rattle.journal_text.specs.Rereading.{HasLimits}
 use Rattle.shape_text.specs.Rereading as shape
 use Rattle.action_tree.specs.Trees.{Var, Program}
-use Rattle.action_check.specs.Limits.{most_value}
+use Rattle.amoebot_state.specs.Limits.{most_value}
 use Rattle.action_check.specs.Faults.{vars_faults, actions_faults, at_start, faults}
 use Rattle.action_check.specs.Rules.{IsWithin}
 use Rattle.action_check.specs.Maxes.{first_or_zero, maxes_of}
-use Rattle.action_check.proofs.Known.{left_empty, right_empty, is_within}
+use Rattle.text_tokens.proofs.Beginnings.{right_empty}
+use Rattle.action_check.proofs.Known.{left_empty, is_within}
 use Rattle.run_replays.proofs.Bodies.{limits_of}
 
 -- ---- what a run leaves as it is

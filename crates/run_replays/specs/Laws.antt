@@ -3,7 +3,7 @@ use Rattle.std.specs.Prelude.{ℕ, List, ◌++◌, length}
 use Rattle.std.specs.declared.option.Option.TheVariants.{Some, None}
 use Rattle.claim_core.specs.declared.report.Report.{Report}
 use Rattle.document_grammar.specs.declared.section.Form.TheVariants as form
-use Rattle.document_grammar.specs.Documents.{Contents, Holds}
+use Rattle.document_grammar.specs.Documents.{Contents, HasContents}
 use Rattle.document_grammar.specs.RunTexts.{EndsLine}
 use Rattle.command_runs.specs.Replay.{agrees_line}
 use Rattle.command_words.specs.declared.command.Command.TheVariants.{Document}
@@ -26,17 +26,17 @@ IsAgreed bytes report = IsOwed (Some (Document Replay)) (whole bytes) status.Don
 -- The bytes with the text behind them are a document of Replay, which has what the bytes have, and the report's entries and last world; and for it is
 -- owed that the journal agrees.
 pub record IsReplayed (bytes : List ℕ) (a : Contents) (report : Report) (text : List ℕ) : Type 0 where
-  pub document : Holds form.Replay (bytes ++ text) (with_record a report)
+  pub document : HasContents form.Replay (bytes ++ text) (with_record a report)
   pub agrees : IsAgreed (bytes ++ text) report
 
 -- so it is with each text of `run` for a document whose last byte is a line feed
 abbrev pub RunTextsAreReplayed : Type 0
-RunTextsAreReplayed = (bytes : List ℕ) (a : Contents) (report : Report) (text : List ℕ) → EndsLine bytes → Holds form.Run bytes a → IsTextOfRun a report text → IsReplayed bytes a report text
+RunTextsAreReplayed = (bytes : List ℕ) (a : Contents) (report : Report) (text : List ℕ) → EndsLine bytes → HasContents form.Run bytes a → IsTextOfRun a report text → IsReplayed bytes a report text
 
 -- and with each text of `interleave`, whose documents are also documents of `run`
 pub record InterleaveTextsAreReplayed : Type 0 where
-  pub is_run : (bytes : List ℕ) (a : Contents) → Holds form.Interleave bytes a → Holds form.Run bytes a
-  pub replayed : (bytes : List ℕ) (a : Contents) (report : Report) (text : List ℕ) → EndsLine bytes → Holds form.Run bytes a → IsTextOfInterleave a report text → IsReplayed bytes a report text
+  pub is_run : (bytes : List ℕ) (a : Contents) → HasContents form.Interleave bytes a → HasContents form.Run bytes a
+  pub replayed : (bytes : List ℕ) (a : Contents) (report : Report) (text : List ℕ) → EndsLine bytes → HasContents form.Run bytes a → IsTextOfInterleave a report text → IsReplayed bytes a report text
 
 -- so where a command on such a document is done with a report, `replay` agrees on the document with what was written behind it
 abbrev pub WhatIsOwedIsReplayed : Type 0
