@@ -1,9 +1,9 @@
 //! The program: it does what its words ask for, reads a document from standard input, and writes the answer to standard output.
 #![tactic(auto)]
 
-mod run;
 #[cfg(test)]
 mod reports;
+mod run;
 #[cfg(test)]
 mod samples;
 #[cfg(test)]

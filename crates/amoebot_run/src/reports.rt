@@ -142,6 +142,9 @@ fn a_guarded_row_of_100_stays_connected(rt: HostRuntime) -> Result<(), Fail> {
         &mut out,
     );
     assert_eq!(rt; ended.status, Status::Done);
-    assert!(rt; out.bytes().starts_with("bots 100\nconnected yes\n".as_bytes()));
+    assert!(rt;
+        out.bytes()
+            .starts_with("bots 100\nconnected yes\n".as_bytes())
+    );
     Ok(())
 }

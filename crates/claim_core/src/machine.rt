@@ -22,8 +22,8 @@ use crate::marks::{Mark, Marks};
 use crate::report::Report;
 use crate::state::{Look, Phase};
 use amoebot_state::{
-    CELL_ROOM, Cell, CellName, Decider, Entry, Found, NoMemory, Verdict, World, has_next, next_cell,
-    touches_zone,
+    CELL_ROOM, Cell, CellName, Decider, Entry, Found, NoMemory, Verdict, World, has_next,
+    next_cell, touches_zone,
 };
 use arrayvec::ArrayVec;
 use std::alloc::Global;
