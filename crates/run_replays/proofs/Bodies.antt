@@ -37,6 +37,15 @@ at_variables (suc (suc (suc (suc (suc (suc zero)))))) lt = refl
 at_variables (suc (suc (suc (suc (suc (suc (suc zero))))))) lt = refl
 at_variables (suc (suc (suc (suc (suc (suc (suc (suc k)))))))) lt = absurd (omega arith)
 
+abbrev zeros : ℕ → List ℕ
+zeros n = replicate n 0
+
+length-zeros : (n : ℕ) → length (zeros n) ≡ n
+length-zeros n = length-replicate n 0
+
+zero_at : (n i : ℕ) → i < n → get_or (zeros n) i 0 ≡ 0
+zero_at n i lt = get_or-replicate n i 0 0 lt
+
 module _ (maxes mem : List ℕ) (has : has_values maxes mem ≡ true) where
   abbrev Fits : ℕ → Type 0
   Fits k = nat_le (slice_index mem k) (slice_index maxes k) ≡ true
@@ -57,13 +66,12 @@ module _ (maxes mem : List ℕ) (has : has_values maxes mem ≡ true) where
   -- where the maxima are 0, the values are
   zeros_past : (vars : ℕ) → vars ≤ 8 → length mem ≡ 8 → ((k : ℕ) → vars ≤ k → slice_index maxes k ≡ 0) → drop vars mem ≡ replicate (8 - vars) 0
   zeros_past vars few eight none =
+      ext_get_or 0 (drop vars mem) (zeros (8 - vars)) (omega (arith, length-drop vars mem, length-zeros (8 - vars))) (λ i lt.
       let long = length-drop vars mem in
-      let short = length-replicate (8 - vars) 0 in
-      ext_get_or 0 (drop vars mem) (replicate (8 - vars) 0) (omega arith) (λ i lt.
       let at = get_or-drop vars mem i 0 in
       let le = below_max (vars + i) (omega arith) in
       let gone = none (vars + i) (omega arith) in
-      let other = get_or-replicate (8 - vars) i 0 0 (omega arith) in
+      let other = zero_at (8 - vars) i (omega arith) in
       omega arith)
 
 -- ---- amoebots
