@@ -1,8 +1,8 @@
 -- The entries of a run break no limit.
-use Rattle.std.proofs.Common.{◌≡◌, ℕ, ◌+◌, ◌*◌, ◌<◌, ◌≤◌, true, List, [], ◌∷◌, length, get_or, Option, Some, None, refl, sym, ap, subst, arith}
+use Rattle.std.proofs.Common.{◌≡◌, ℕ, ◌*◌, ◌<◌, ◌≤◌, List, [], ◌∷◌, length, get_or, Option, Some, None, refl, sym, ap, subst, arith}
 use Rattle.std.specs.Prelude.{nat_lt, IsTrue}
 use Rattle.std.specs.Option.{option_map}
-use Rattle.std.specs.List.{All, Contains, flat_map}
+use Rattle.std.specs.List.{All, flat_map}
 use Rattle.std.proofs.lemmas.Bool.{lt-ltb, le-leb, and_from}
 use Rattle.std.proofs.lemmas.Nat.{mul-le}
 use Rattle.std.proofs.lemmas.List.Elements.{All-nil, All-cons, All-head, All-tail, All-append}
@@ -26,7 +26,7 @@ use Rattle.amoebot_state.proofs.Occupants.{id_below, covers_below, occupant_cove
 use Rattle.amoebot_state.proofs.Zones.{zone_inside}
 use Rattle.claim_core.specs.Turns.{CallerLists, AreFew}
 use Rattle.claim_core.specs.Good.{IsListed}
-use Rattle.journal_text.specs.Journals.{ids_of, ids_of_pair, is_known}
+use Rattle.journal_text.specs.Journals.{ids_of, ids_of_pair}
 use Rattle.journal_text.specs.Rereading.{HasLimits, IsWritable, IsPossible, KeepsLimits}
 use Rattle.action_tree.specs.Trees.{Program}
 use Rattle.action_meaning.specs.Verdicts.{verdict_shown}

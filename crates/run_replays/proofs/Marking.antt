@@ -1,12 +1,11 @@
 -- The marks of a good report break no limit.
-use Rattle.std.proofs.Common.{◌≡◌, ℕ, ◌+◌, ◌*◌, ◌^◌, ◌<◌, ◌≤◌, List, [], ◌∷◌, ◌++◌, length, map, get_or, take, Option, Some, None, refl, sym, ap, subst, ◌∙◌, inl, inr, arith}
+use Rattle.std.proofs.Common.{◌≡◌, ℕ, ◌<◌, ◌≤◌, List, [], length, map, get_or, take, Some, None, refl, sym, ap, subst, ◌∙◌, inl, inr, arith}
 use Rattle.std.specs.Prelude.{slice_get, slice_index}
-use Rattle.std.specs.List.{All, Contains}
+use Rattle.std.specs.List.{All}
 use Rattle.std.proofs.lemmas.Bool.{cases_lt}
 use Rattle.std.proofs.lemmas.Option.{slice_get_within, slice_get-get_or}
 use Rattle.std.proofs.lemmas.List.{get_or_default, get_or_past}
 use Rattle.std.proofs.lemmas.List.Elements.{All-contains}
-use Rattle.tri_lattice.specs.declared.node.Node.{Node}
 use Rattle.amoebot_state.specs.declared.bot.Bot.{Bot}
 use Rattle.amoebot_state.specs.declared.cell.CellName.{CellName}
 use Rattle.amoebot_state.specs.declared.cell.CellName.TheVariants as name
@@ -21,7 +20,7 @@ use Rattle.amoebot_state.proofs.Zones.{others_there, zone_is, zone_inside}
 use Rattle.claim_core.specs.declared.marks.Mark.{Mark}
 use Rattle.claim_core.specs.declared.marks.Mark.TheVariants as mark
 use Rattle.claim_core.specs.Turns.{CallerLists, MarkLists, AreFew, HaveBots, bot_of_turn, list_of, marks_of}
-use Rattle.claim_core.specs.Good.{IsWorldAt, HasVerdict, HasInZone, MayHold, TurnOk, AreMarks, mark_of_turn}
+use Rattle.claim_core.specs.Good.{IsWorldAt, HasInZone, TurnOk, AreMarks}
 use Rattle.journal_text.specs.Rereading.{IsShort, IsWritableCell, IsWritableMark, AreWritable}
 use Rattle.run_replays.proofs.Bodies.{has_coordinates}
 use Rattle.run_replays.proofs.Worlds.{IsOf, after_run}

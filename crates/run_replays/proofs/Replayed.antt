@@ -1,11 +1,9 @@
 -- A document with the text of its run behind it is one of Replay, and the journal agrees.
-use Rattle.std.proofs.Common.{◌≡◌, ℕ, ◌^◌, ◌*◌, ◌<◌, ◌≤◌, List, [], ◌++◌, length, Option, Some, None, codes, refl, sym, ap, subst, ◌∙◌, arith, append_assoc}
+use Rattle.std.proofs.Common.{◌≡◌, ℕ, ◌^◌, ◌<◌, ◌≤◌, List, [], ◌++◌, length, Option, Some, None, codes, refl, sym, ap, subst, ◌∙◌, arith, append_assoc}
 use Rattle.std.specs.Prelude.{IsSome}
 use Rattle.std.specs.Option.{IfSome}
 use Rattle.std.specs.List.{All}
-use Rattle.amoebot_state.specs.declared.verdict.Entry.{Entry}
 use Rattle.amoebot_state.specs.Configs.{Config}
-use Rattle.amoebot_state.specs.Steps.{TouchesZone, IsExact}
 use Rattle.amoebot_state.specs.Laws.{ZoneHasAtMostNineBodies}
 use Rattle.claim_core.specs.declared.report.Report.{Report}
 use Rattle.claim_core.specs.Turns.{CallerLists, AreFew, HaveBots}
@@ -27,10 +25,7 @@ use Rattle.document_grammar.specs.Fitting.{FitTogether, DocumentsFit}
 use Rattle.command_runs.specs.Reports.{report_text}
 use Rattle.command_runs.specs.Replay.{agrees_line}
 use Rattle.command_runs.specs.Laws.{GoodIsFew}
-use Rattle.command_words.specs.declared.command.Command.TheVariants.{Document}
 use Rattle.command_words.specs.declared.command.DocumentCommand.TheVariants.{Replay}
-use Rattle.command_answers.specs.OfRun.{IsTextOfRun}
-use Rattle.command_answers.specs.OfInterleave.{IsTextOfInterleave}
 use Rattle.command_answers.specs.Owed.{of_run, of_interleave, of_replay, done}
 use Rattle.run_replays.specs.Laws.{with_record, IsReplayed, RunTextsAreReplayed, InterleaveTextsAreReplayed, WhatIsOwedIsReplayed}
 use Rattle.run_replays.proofs.Worlds.{IsOf, at_first, after_run, MayRun, maxes_are, is_writable}
