@@ -11,11 +11,13 @@ use Rattle.tri_lattice.specs.Extent.{Extent, IsArea, is_in}
 use Rattle.tri_lattice.proofs.Boxes.{in_places}
 use Rattle.amoebot_state.specs.declared.bot.Bot.{Bot}
 use Rattle.amoebot_state.specs.Configs.{IsBot, has_values, variables}
+use Rattle.amoebot_state.specs.Limits.{most_vars, most_value}
+use Rattle.journal_text.specs.Limits.{most_coordinate}
 use Rattle.journal_text.specs.Rereading.{size, HasCoordinates, HasLimits}
 
 -- ---- nodes
 
-near_start : (z x0 : ℤ) (i : ℕ) → negsuc 4095 ≤ℤ x0 → x0 ≤ℤ pos 4096 → z -ℤ x0 ≡ pos i → i < 128 → size z ≤ 9999
+near_start : (z x0 : ℤ) (i : ℕ) → negsuc 4095 ≤ℤ x0 → x0 ≤ℤ pos 4096 → z -ℤ x0 ≡ pos i → i < 128 → size z ≤ most_coordinate
 near_start (pos n) x0 i low high e lt = omega (arith, ints)
 near_start (negsuc n) x0 i low high e lt = omega (arith, ints)
 
@@ -56,7 +58,7 @@ module _ (maxes mem : List ℕ) (has : has_values maxes mem ≡ true) where
       let fits : Fits k = subst Fits (at_variables k lt) (AllPass-from_list_all (λ j. nat_le (slice_index mem j) (slice_index maxes j)) variables has k 0 lt) in
       leb-true (slice_index mem k) (slice_index maxes k) fits
 
-  small_values : length mem ≡ 8 → length maxes ≡ 8 → All (λ m. m ≤ 255) maxes → All (λ v. v ≤ 255) mem
+  small_values : length mem ≡ 8 → length maxes ≡ 8 → All (λ m. m ≤ most_value) maxes → All (λ v. v ≤ most_value) mem
   small_values eight most small k d lt =
       let le = below_max k (omega arith) in
       let top = small k 0 (omega arith) in
@@ -64,19 +66,19 @@ module _ (maxes mem : List ℕ) (has : has_values maxes mem ≡ true) where
       omega arith
 
   -- where the maxima are 0, the values are
-  zeros_past : (vars : ℕ) → vars ≤ 8 → length mem ≡ 8 → ((k : ℕ) → vars ≤ k → slice_index maxes k ≡ 0) → drop vars mem ≡ replicate (8 - vars) 0
+  zeros_past : (vars : ℕ) → vars ≤ most_vars → length mem ≡ 8 → ((k : ℕ) → vars ≤ k → slice_index maxes k ≡ 0) → drop vars mem ≡ replicate (most_vars - vars) 0
   zeros_past vars few eight none =
-      ext_get_or 0 (drop vars mem) (zeros (8 - vars)) (omega (arith, length-drop vars mem, length-zeros (8 - vars))) (λ i lt.
+      ext_get_or 0 (drop vars mem) (zeros (most_vars - vars)) (omega (arith, length-drop vars mem, length-zeros (most_vars - vars))) (λ i lt.
       let long = length-drop vars mem in
       let at = get_or-drop vars mem i 0 in
       let le = below_max (vars + i) (omega arith) in
       let gone = none (vars + i) (omega arith) in
-      let other = zero_at (8 - vars) i (omega arith) in
+      let other = zero_at (most_vars - vars) i (omega arith) in
       omega arith)
 
 -- ---- amoebots
 
-pub limits_of : (vars : ℕ) (area : Extent) (maxes : List ℕ) → vars ≤ 8 → IsArea area → length maxes ≡ 8 → All (λ m. m ≤ 255) maxes → ((k : ℕ) → vars ≤ k → slice_index maxes k ≡ 0) → (b : Bot) → IsBot area maxes b → HasLimits vars b
+pub limits_of : (vars : ℕ) (area : Extent) (maxes : List ℕ) → vars ≤ most_vars → IsArea area → length maxes ≡ 8 → All (λ m. m ≤ most_value) maxes → ((k : ℕ) → vars ≤ k → slice_index maxes k ≡ 0) → (b : Bot) → IsBot area maxes b → HasLimits vars b
 limits_of vars area maxes few is_area most small none b is = record {
   head = has_coordinates area b.head is_area is.head;
   tail = has_coordinates area b.tail is_area is.tail;

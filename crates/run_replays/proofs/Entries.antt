@@ -15,6 +15,7 @@ use Rattle.amoebot_state.specs.declared.cell.CellName.TheVariants as name
 use Rattle.amoebot_state.specs.declared.cell.Cell.{Cell}
 use Rattle.amoebot_state.specs.declared.cell.Cell.TheVariants as cell
 use Rattle.amoebot_state.specs.declared.verdict.Entry.{Entry}
+use Rattle.amoebot_state.specs.Limits.{most_pairs}
 use Rattle.amoebot_state.specs.Configs.{Config, IsValid, bot_at, occupant, value}
 use Rattle.amoebot_state.specs.Pairs.{Pairs, cell_of, cell_value}
 use Rattle.amoebot_state.specs.Zones.{zone, shown}
@@ -24,8 +25,10 @@ use Rattle.amoebot_state.proofs.Members.{Has, Has-from_Contains}
 use Rattle.amoebot_state.proofs.Options.{there_is}
 use Rattle.amoebot_state.proofs.Occupants.{id_below, covers_below, occupant_covers}
 use Rattle.amoebot_state.proofs.Zones.{zone_inside}
+use Rattle.claim_core.specs.Limits.{most_turns}
 use Rattle.claim_core.specs.Turns.{CallerLists, AreFew}
 use Rattle.claim_core.specs.Good.{IsListed}
+use Rattle.journal_text.specs.Limits.{last_caller, last_turn}
 use Rattle.journal_text.specs.Journals.{ids_of, ids_of_pair}
 use Rattle.journal_text.specs.Rereading.{HasLimits, IsWritable, IsPossible, KeepsLimits}
 use Rattle.action_tree.specs.Trees.{Program}
@@ -92,7 +95,7 @@ module _ (vars : ℕ) (c : Config) (valid : IsValid c) (limits : (i : ℕ) (b : 
 -- ---- entries
 
 -- a part of what is enough in all
-pub one_of_many : (n m : ℕ) → 0 < n → n * m ≤ 65536 → m ≤ 65536
+pub one_of_many : (n m : ℕ) → 0 < n → n * m ≤ most_turns → m ≤ most_turns
 one_of_many n m some all = let le = mul-le 1 m n m some (omega arith) in omega arith
 
 -- what holds of the entry of a step, whoever makes it
@@ -100,7 +103,7 @@ pub record IsStepped (bots actions vars : ℕ) (e : Entry) : Type 0 where
   pub action : e.action < actions
   pub ids : All (λ id. id < bots) (ids_of e)
   pub possible : IsPossible e.moved
-  pub few : length e.patch ≤ 10
+  pub few : length e.patch ≤ most_pairs
   pub pairs : All (IsWritable vars) e.patch
 
 module _ (p : Program) (start : Config) (may : MayRun p start) (touches : TouchesZone (verdict_shown p)) (exact : IsExact (verdict_shown p)) (nine : ZoneHasAtMostNineBodies) where
@@ -133,7 +136,7 @@ module _ (p : Program) (start : Config) (may : MayRun p start) (touches : Touche
       let callers = few.at_most_16 in
       let turns = one_of_many (length lists.ids) lists.turns (omega arith) few.in_all in
       record {
-        known = and_from _ _ (and_from _ _ (and_from _ _ (le-leb e.caller 15 (omega arith)) (le-leb e.turn 65535 (omega arith))) (lt-ltb e.action (length p.actions) by.action))
+        known = and_from _ _ (and_from _ _ (and_from _ _ (le-leb e.caller last_caller (omega arith)) (le-leb e.turn last_turn (omega arith))) (lt-ltb e.action (length p.actions) by.action))
             (list_all-from_AllPass (λ id. nat_lt id (length start.bots)) (ids_of e) (λ k d inside. lt-ltb (get_or (ids_of e) k d) (length start.bots) (by.ids k d inside)));
         movement = by.possible;
         few = by.few;

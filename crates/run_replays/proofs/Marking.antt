@@ -11,6 +11,7 @@ use Rattle.amoebot_state.specs.declared.cell.CellName.{CellName}
 use Rattle.amoebot_state.specs.declared.cell.CellName.TheVariants as name
 use Rattle.amoebot_state.specs.declared.verdict.Entry.{Entry}
 use Rattle.amoebot_state.specs.declared.verdict.Verdict.{Verdict}
+use Rattle.amoebot_state.specs.Limits.{most_bots}
 use Rattle.amoebot_state.specs.Configs.{Config, IsValid, bot_at, occupant}
 use Rattle.amoebot_state.specs.Zones.{Shown, others, zone_nodes, zone_at, zone}
 use Rattle.amoebot_state.proofs.Members.{Has, not_in_none, has_cases, map_has, Has-append_cases, Contains-from_Has, Has-from_Contains}
@@ -19,6 +20,7 @@ use Rattle.amoebot_state.proofs.Once.{same_body, spot_is_no_body}
 use Rattle.amoebot_state.proofs.Zones.{others_there, zone_is, zone_inside}
 use Rattle.claim_core.specs.declared.marks.Mark.{Mark}
 use Rattle.claim_core.specs.declared.marks.Mark.TheVariants as mark
+use Rattle.claim_core.specs.Limits.{most_callers, most_turns}
 use Rattle.claim_core.specs.Turns.{CallerLists, MarkLists, AreFew, HaveBots, bot_of_turn, list_of, marks_of}
 use Rattle.claim_core.specs.Good.{IsWorldAt, HasInZone, TurnOk, AreMarks}
 use Rattle.journal_text.specs.Rereading.{IsShort, IsWritableCell, IsWritableMark, AreWritable}
@@ -41,11 +43,11 @@ body_below c i b j at has = elim (has_cases (subst (Has (name.Body j)) (zone_is 
   ]
 ]
 
-cell_of_own : (c : Config) (i : ℕ) (b : Bot) (n : CellName) → IsValid c → length c.bots ≤ 4096 → bot_at c i ≡ Some b → Has n (zone c i) → IsWritableCell n
+cell_of_own : (c : Config) (i : ℕ) (b : Bot) (n : CellName) → IsValid c → length c.bots ≤ most_bots → bot_at c i ≡ Some b → Has n (zone c i) → IsWritableCell n
 cell_of_own c i b (name.Spot v) valid few at has = has_coordinates c.area v valid.area (zone_inside c i b v valid at has)
 cell_of_own c i b (name.Body j) valid few at has = let lt = body_below c i b j at has in omega arith
 
-zone_cell : (c : Config) (i : ℕ) (n : CellName) → IsValid c → length c.bots ≤ 4096 → Has n (zone c i) → IsWritableCell n
+zone_cell : (c : Config) (i : ℕ) (n : CellName) → IsValid c → length c.bots ≤ most_bots → Has n (zone c i) → IsWritableCell n
 zone_cell c i n valid few has = elim (bot_at c i) as (λ o. bot_at c i ≡ o → IsWritableCell n) [
   | None ↦ λ at. absurd (not_in_none (subst (Has n) (ap (zone_at c.area (occupant c) i) at) has))
   | Some b ↦ λ at. cell_of_own c i b n valid few at has
@@ -53,7 +55,7 @@ zone_cell c i n valid few has = elim (bot_at c i) as (λ o. bot_at c i ≡ o →
 
 -- ---- amoebots of lists
 
-id_short : (ids : List ℕ) (n bots : ℕ) → All (λ id. id < bots) ids → bots ≤ 4096 → IsShort (slice_index ids n)
+id_short : (ids : List ℕ) (n bots : ℕ) → All (λ id. id < bots) ids → bots ≤ most_bots → IsShort (slice_index ids n)
 id_short ids n bots all few = elim (cases_lt n (length ids)) [
   | inl lt ↦ let small = all n 0 lt in omega arith
   | inr le ↦ let none = get_or_past ids n 0 le in omega arith
@@ -61,7 +63,7 @@ id_short ids n bots all few = elim (cases_lt n (length ids)) [
 
 -- ---- marks
 
-module _ (f : Shown → Verdict) (start : Config) (lists : CallerLists) (entries : List Entry) (marks : MarkLists) (is : IsOf start start) (few : length start.bots ≤ 4096) (bots : HaveBots (length start.bots) lists) (lists_few : AreFew (length lists.ids) lists.turns) (entries_few : length entries ≤ 65536) where
+module _ (f : Shown → Verdict) (start : Config) (lists : CallerLists) (entries : List Entry) (marks : MarkLists) (is : IsOf start start) (few : length start.bots ≤ most_bots) (bots : HaveBots (length start.bots) lists) (lists_few : AreFew (length lists.ids) lists.turns) (entries_few : length entries ≤ most_turns) where
   place_short : (place : ℕ) (world : Config) → IsWorldAt f start entries place world → IsShort place
   place_short place world at = let within = at.within in omega arith
 
@@ -70,7 +72,7 @@ module _ (f : Shown → Verdict) (start : Config) (lists : CallerLists) (entries
       let of = after_run f start start world (take place entries) is at.reached in
       zone_cell world bot n of.valid (let size = of.size in omega arith) (Has-from_Contains (zone world bot) there)
 
-  turns_few : (caller : ℕ) → caller < length lists.ids → lists.turns ≤ 65536
+  turns_few : (caller : ℕ) → caller < length lists.ids → lists.turns ≤ most_turns
   turns_few caller inside = one_of_many (length lists.ids) lists.turns (omega arith) lists_few.in_all
 
   by_short : (caller turn bot : ℕ) → caller < length lists.ids → bot ≡ bot_of_turn lists caller turn → IsShort bot
@@ -96,7 +98,7 @@ module _ (f : Shown → Verdict) (start : Config) (lists : CallerLists) (entries
       }
 
   module _ (are : AreMarks f start lists entries marks) where
-    pub few_callers : length marks.marks ≤ 16
+    pub few_callers : length marks.marks ≤ most_callers
     few_callers = let callers = are.callers in let most = lists_few.at_most_16 in omega arith
 
     own_writable : (caller : ℕ) (own : List Mark) → caller < length lists.ids → length own ≡ lists.turns → marks_of marks caller ≡ own → AreWritable own

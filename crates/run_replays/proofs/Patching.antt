@@ -10,6 +10,7 @@ use Rattle.std.proofs.lemmas.List.Sums.{length-filter}
 use Rattle.amoebot_state.specs.declared.cell.CellName.{CellName}
 use Rattle.amoebot_state.specs.declared.cell.CellName.TheVariants as name
 use Rattle.amoebot_state.specs.declared.cell.Cell.{Cell}
+use Rattle.amoebot_state.specs.Limits.{most_pairs}
 use Rattle.amoebot_state.specs.Pairs.{Pairs, cell_of}
 use Rattle.amoebot_state.specs.Patches.{IsOrdered, rank}
 use Rattle.amoebot_state.specs.Laws.{is_body}
@@ -68,7 +69,7 @@ module _ (cells : List CellName) where
   rank_there (name.Spot v) has = here
   rank_there (name.Body i) has = later (Has-map rank (Has-filter is_body cells has refl))
 
-  pub few_pairs : (ps : Pairs) → IsOrdered ps → All (λ (p : CellName × Cell). Contains cells (cell_of p)) ps → count_by is_body cells ≤ 9 → length ps ≤ 10
+  pub few_pairs : (ps : Pairs) → IsOrdered ps → All (λ (p : CellName × Cell). Contains cells (cell_of p)) ps → count_by is_body cells ≤ 9 → length ps ≤ most_pairs
   few_pairs ps ordered listed few =
       let rises : Rising (λ k. k) (map key ps) = Rising-map key (λ k. k) key (λ x has. refl) (Rising-from_increasing key ps (all_rise (map key ps) ordered)) in
       let fits = no_more_than (map key ps) ranks rises (λ x has.

@@ -3,9 +3,11 @@ use Rattle.std.proofs.Common.{◌≡◌, ℕ, ◌^◌, ◌<◌, ◌≤◌, List,
 use Rattle.std.specs.Prelude.{IsSome}
 use Rattle.std.specs.Option.{IfSome}
 use Rattle.std.specs.List.{All}
+use Rattle.amoebot_state.specs.Limits.{most_vars}
 use Rattle.amoebot_state.specs.Configs.{Config}
 use Rattle.amoebot_state.specs.Laws.{ZoneHasAtMostNineBodies}
 use Rattle.claim_core.specs.declared.report.Report.{Report}
+use Rattle.claim_core.specs.Limits.{most_turns}
 use Rattle.claim_core.specs.Turns.{CallerLists, AreFew, HaveBots}
 use Rattle.claim_core.specs.Good.{Good}
 use Rattle.journal_text.specs.Rereading.{KeepsLimits}
@@ -74,7 +76,7 @@ module _ (laws : Laws) (bytes : List ℕ) (a : Contents) (p : Program) (start : 
 
   may : MayRun p start
   may = record {
-    vars = subst (λ (o : Option Program). vars_of o ≤ 8) its_program fits.vars;
+    vars = subst (λ (o : Option Program). vars_of o ≤ most_vars) its_program fits.vars;
     checked = subst (λ (o : Option Program). IfSome o (λ q. faults q ≡ [])) its_program fits.checked;
     maxes = start_maxes;
     few = drawn.few;
@@ -87,7 +89,7 @@ module _ (laws : Laws) (bytes : List ℕ) (a : Contents) (p : Program) (start : 
   last : IsOf start report.world
   last = after_run (verdict_shown p) start start report.world report.journal.entries first good.run
 
-  few_entries : length report.journal.entries ≤ 65536
+  few_entries : length report.journal.entries ≤ most_turns
   few_entries =
       let few = (laws.few (verdict_shown p) start lists report good).few in
       let all = few_lists.in_all in

@@ -38,7 +38,7 @@ passed false e = absurd (cc)
 -- ---- shapes
 
 pub record IsDrawn (c : Config) : Type 0 where
-  pub few : length c.bots ≤ 4096
+  pub few : length c.bots ≤ most_bots
   pub no_gaps : (id : ℕ) → id < length c.bots → IsSome (bot_at c id)
 
 one_there : (bs : List Bot) (id : ℕ) → id < length (map Some bs) → IsSome (get_or (map Some bs) id None)

@@ -13,7 +13,7 @@ use Rattle.amoebot_state.specs.Steps.{Step, Run}
 use Rattle.journal_text.specs.Rereading.{HasLimits}
 use Rattle.shape_text.specs.Rereading as shape
 use Rattle.action_tree.specs.Trees.{Var, Program}
-use Rattle.amoebot_state.specs.Limits.{most_value}
+use Rattle.amoebot_state.specs.Limits.{most_value, most_bots, most_vars}
 use Rattle.action_check.specs.Faults.{vars_faults, actions_faults, at_start, faults}
 use Rattle.action_check.specs.Rules.{IsWithin}
 use Rattle.action_check.specs.Maxes.{first_or_zero, maxes_of}
@@ -54,10 +54,10 @@ module _ (f : Shown → Verdict) (start : Config) where
 
 -- ---- maxima
 
-small_maxes : (k : ℕ) (ns : List ℕ) → All (λ n. n ≤ 255) ns → All (λ m. m ≤ 255) (first_or_zero k ns)
-small_maxes zero ns small = All-nil (λ m. m ≤ 255)
-small_maxes (suc k) [] small = All-cons (λ m. m ≤ 255) 0 (first_or_zero k []) (omega arith) (small_maxes k [] small)
-small_maxes (suc k) (n ∷ ns) small = All-cons (λ m. m ≤ 255) n (first_or_zero k ns) (All-head (λ m. m ≤ 255) n ns small) (small_maxes k ns (All-tail (λ m. m ≤ 255) n ns small))
+small_maxes : (k : ℕ) (ns : List ℕ) → All (λ n. n ≤ most_value) ns → All (λ m. m ≤ most_value) (first_or_zero k ns)
+small_maxes zero ns small = All-nil (λ m. m ≤ most_value)
+small_maxes (suc k) [] small = All-cons (λ m. m ≤ most_value) 0 (first_or_zero k []) (omega arith) (small_maxes k [] small)
+small_maxes (suc k) (n ∷ ns) small = All-cons (λ m. m ≤ most_value) n (first_or_zero k ns) (All-head (λ m. m ≤ most_value) n ns small) (small_maxes k ns (All-tail (λ m. m ≤ most_value) n ns small))
 
 past_zero : (k : ℕ) (ns : List ℕ) (i : ℕ) → length ns ≤ i → get_or (first_or_zero k ns) i 0 ≡ 0
 past_zero zero ns i le = refl
@@ -72,28 +72,28 @@ maxes_within earlier (v ∷ vs) e =
     let rest = right_empty _ _ e in
     All-cons (λ w. IsWithin most_value w.max) v vs (is_within most_value v.max (left_empty _ _ rest)) (maxes_within (earlier ++ v.name.text ∷ []) vs (right_empty _ _ rest))
 
-pub small_maxes_of : (p : Program) → faults p ≡ [] → All (λ m. m ≤ 255) (maxes_of p)
-small_maxes_of p e = small_maxes 8 (map (λ (v : Var). v.max.value) p.vars) (All-map (λ n. n ≤ 255) (λ (v : Var). v.max.value) p.vars (maxes_within [] p.vars (left_empty (vars_faults [] p.vars) (actions_faults (at_start p) [] p.actions) e)))
+pub small_maxes_of : (p : Program) → faults p ≡ [] → All (λ m. m ≤ most_value) (maxes_of p)
+small_maxes_of p e = small_maxes most_vars (map (λ (v : Var). v.max.value) p.vars) (All-map (λ n. n ≤ most_value) (λ (v : Var). v.max.value) p.vars (maxes_within [] p.vars (left_empty (vars_faults [] p.vars) (actions_faults (at_start p) [] p.actions) e)))
 
 pub past_maxes_of : (p : Program) (i : ℕ) → length p.vars ≤ i → slice_index (maxes_of p) i ≡ 0
-past_maxes_of p i le = let long = length-map p.vars (λ (v : Var). v.max.value) in past_zero 8 (map (λ (v : Var). v.max.value) p.vars) i (omega arith)
+past_maxes_of p i le = let long = length-map p.vars (λ (v : Var). v.max.value) in past_zero most_vars (map (λ (v : Var). v.max.value) p.vars) i (omega arith)
 
 -- ---- worlds that can be written
 
 -- a program without faults, and a shape of its maxima with few amoebots, each id one's
 pub record MayRun (p : Program) (start : Config) : Type 0 where
-  pub vars : length p.vars ≤ 8
+  pub vars : length p.vars ≤ most_vars
   pub checked : faults p ≡ []
   pub maxes : start.maxes ≡ maxes_of p
-  pub few : length start.bots ≤ 4096
+  pub few : length start.bots ≤ most_bots
   pub no_gaps : (id : ℕ) → id < length start.bots → IsSome (bot_at start id)
 
 module _ (p : Program) (start : Config) (may : MayRun p start) (c : Config) (is : IsOf start c) where
   pub maxes_are : c.maxes ≡ maxes_of p
   maxes_are = ap (λ (x : Config). x.maxes) is.rest ∙ may.maxes
 
-  small : All (λ m. m ≤ 255) c.maxes
-  small = subst (λ (ms : List ℕ). All (λ m. m ≤ 255) ms) (sym maxes_are) (small_maxes_of p may.checked)
+  small : All (λ m. m ≤ most_value) c.maxes
+  small = subst (λ (ms : List ℕ). All (λ m. m ≤ most_value) ms) (sym maxes_are) (small_maxes_of p may.checked)
 
   none_past : (k : ℕ) → length p.vars ≤ k → slice_index c.maxes k ≡ 0
   none_past k le = ap (λ (ms : List ℕ). slice_index ms k) maxes_are ∙ past_maxes_of p k le
