@@ -1,0 +1,9 @@
+pub mod Bodies
+pub mod Patching
+pub mod Acting
+pub mod Worlds
+pub mod Entries
+pub mod Marking
+pub mod Sizes
+pub mod Interleaved
+pub mod Replayed
