@@ -1,17 +1,17 @@
 -- Loops over declarations that stop at the first fault.
-use Rattle.std.proofs.Common.{◌≡◌, ◌<◌, ◌≤◌, ◌+◌, ℕ, Bool, true, false, List, [], ◌∷◌, ◌++◌, length, drop, get_or, map, append_assoc, ◌∙◌, ap, arith}
-use Rattle.std.specs.Prelude.{Result, Ok, Err}
+use Rattle.std.proofs.Common.{◌≡◌, ◌<◌, ◌+◌, ℕ, true, List, [], ◌∷◌, ◌++◌, length, drop, get_or, map, ◌∙◌, ap, arith}
+use Rattle.std.specs.Prelude.{Ok}
 use Rattle.std.specs.List.{list_all}
 use Rattle.text_tokens.specs.declared.refusal.Refusal.{Refusal}
 use Rattle.text_tokens.specs.declared.refusal.ReadRefusal.{ReadRefusal}
 use Rattle.text_tokens.specs.declared.refusal.ReadRefusal.TheVariants.{Refused, NoMemory}
 use Rattle.action_tree.specs.declared.program.Var as code_var
 use Rattle.action_tree.specs.declared.program.Action as code_action
-use Rattle.action_tree.specs.Views.{name_of, literal_of, var_of, action_of}
+use Rattle.action_tree.specs.Views.{name_of, var_of, action_of}
 use Rattle.action_tree.specs.Writable.{action_names, is_action}
 use Rattle.action_tree.proofs.Conditions.{left_of, right_of}
 use Rattle.action_check.specs.Scopes.{Scope, HasRoom}
-use Rattle.action_check.specs.Faults.{declared_faults, range_faults, action_faults, vars_faults, actions_faults, names_of_vars}
+use Rattle.action_check.specs.Faults.{declared_faults, action_faults, vars_faults, actions_faults, names_of_vars}
 use Rattle.action_check.specs.Told.{first_of, TellsFirst}
 use Rattle.action_check.proofs.Firsts.{first_behind}
 use Rattle.action_check.proofs.RulesKept.{few_names}

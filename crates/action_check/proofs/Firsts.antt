@@ -1,6 +1,6 @@
 -- The first fault of two lists, one behind the other.
 use Rattle.std.proofs.Common.{◌≡◌, List, [], ◌∷◌, ◌++◌, refl}
-use Rattle.std.specs.Prelude.{Result, Ok, Err}
+use Rattle.std.specs.Prelude.{Ok, Err}
 use Rattle.text_tokens.specs.declared.refusal.Refusal.{Refusal}
 use Rattle.action_check.specs.Told.{first_of}
 

@@ -1,5 +1,5 @@
 -- Where nothing is wrong, each part is what an evaluation relies on.
-use Rattle.std.proofs.Common.{true, ◌≡◌, ◌≤◌, ◌+◌, ℕ, suc, [], ◌∷◌, length, length-append, arith}
+use Rattle.std.proofs.Common.{true, ◌≡◌, ◌≤◌, ℕ, suc, [], ◌∷◌, length-append, arith}
 use Rattle.text_tokens.proofs.Beginnings.{right_empty}
 use Rattle.action_tree.specs.Trees.{Name, DirTerm, fixed, held, Guard, atom, negation, conjunction, disjunction, quantified, tested, comparison, Guards, no_guards, guard_then, Sum, no_terms, term_then, Term, number, own, of_port, count, direction, inner, mod6, PortExpr, bound, at_end, turned, first, Stmt, put, put_of, let_be, if_then, for_each, Stmts, no_stmts, stmt_then, Move, no_move, through, contract, Action}
 use Rattle.action_tree.specs.Limits.{most_names}

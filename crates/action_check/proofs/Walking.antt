@@ -1,15 +1,16 @@
 -- Loops over the elements of a list that stop at the first fault.
-use Rattle.std.proofs.Common.{◌≡◌, ◌≤◌, ◌<◌, ◌+◌, ℕ, suc, List, [], ◌∷◌, ◌++◌, length, drop, get_or, add-one, drop-cons, refl, sym, ◌∙◌, arith}
-use Rattle.std.specs.Prelude.{Result, Ok, Err}
+use Rattle.std.proofs.Common.{◌≡◌, ◌≤◌, ◌<◌, ◌+◌, ℕ, List, ◌∷◌, length, drop, get_or, ◌∙◌, arith}
+use Rattle.std.specs.Prelude.{Ok, Err}
 use Rattle.std.proofs.Math.ListN.{drop_of_length-le}
+use Rattle.std.proofs.lemmas.List.{drop_more}
 use Rattle.text_tokens.specs.declared.refusal.Refusal.{Refusal}
 use Rattle.action_tree.specs.declared.expression.Guard as code
 use Rattle.action_tree.specs.declared.expression.Part as code_part
 use Rattle.action_tree.specs.declared.statement.Stmt as code_stmt
-use Rattle.action_tree.specs.Views.{guard_of, guards_of, term_of, terms_of, stmt_of, stmts_of}
-use Rattle.action_tree.specs.Writable.{guard_names, guards_names, sum_names, term_names, stmt_names, stmts_names}
-use Rattle.action_check.specs.Scopes.{Scope, HasRoom, after, after_all}
-use Rattle.action_check.specs.Faults.{guard_faults, guards_faults, sum_faults, term_faults, stmt_faults, stmts_faults}
+use Rattle.action_tree.specs.Views.{guards_of, term_of, terms_of, stmts_of}
+use Rattle.action_tree.specs.Writable.{guards_names, sum_names, stmts_names}
+use Rattle.action_check.specs.Scopes.{Scope, HasRoom, after_all}
+use Rattle.action_check.specs.Faults.{guards_faults, sum_faults, term_faults, stmts_faults}
 use Rattle.action_check.specs.Told.{first_of}
 use Rattle.action_tree.proofs.Viewed.{part_opened}
 use Rattle.action_check.proofs.Firsts.{first_behind, first_before}
@@ -21,11 +22,8 @@ pub record IsLeft {X : Type 0} (faults : Scope → List X → List Refusal) (nam
   pub told : first_of (faults start xs) ≡ first_of (faults sc (drop i xs))
 
 -- the next element, and what is left behind it
-pub ahead : {X : Type 0} (xs : List X) (i : ℕ) (d : X) → i < length xs → drop i xs ≡ get_or xs i d ∷ drop (i + 1) xs
-ahead xs i d l = rw add-one (drop-cons xs i d l)
-
 pub here : {X : Type 0} (xs : List X) (i : ℕ) (x : X) → i < length xs → x ≡ get_or xs i x → drop i xs ≡ x ∷ drop (i + 1) xs
-here xs i x l is = let e = ahead xs i x l in cc
+here xs i x l is = let e = drop_more xs i x l in cc
 
 -- ---- guards
 

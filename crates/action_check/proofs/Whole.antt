@@ -1,11 +1,10 @@
 -- Whole programs: what the rules say of them holds exactly where nothing is wrong.
-use Rattle.std.proofs.Common.{◌≡◌, ◌≤◌, true, List, [], ◌∷◌, ◌++◌, length, ap, refl, arith}
+use Rattle.std.proofs.Common.{◌≡◌, true, List, [], ◌∷◌, ◌++◌, length, ap, refl, arith}
 use Rattle.std.specs.List.{All, list_all}
 use Rattle.std.proofs.lemmas.List.Elements.{All-nil, All-cons, All-head, All-tail}
 use Rattle.amoebot_state.specs.Limits.{most_value}
 use Rattle.text_tokens.proofs.Beginnings.{right_empty}
 use Rattle.action_tree.specs.Trees.{Var, Action, Program}
-use Rattle.action_tree.specs.Limits.{most_names}
 use Rattle.action_tree.specs.Writable.{action_names, is_action, is_writable}
 use Rattle.action_tree.proofs.Conditions.{left_of, right_of}
 use Rattle.action_check.specs.Scopes.{Scope, HasRoom}
@@ -22,7 +21,8 @@ vars_fresh : (earlier : List _) (vs : List Var) → vars_faults earlier vs ≡ [
 vars_fresh earlier [] e = tt
 vars_fresh earlier (v ∷ vs) e = (is_fresh earlier v.name (left_empty _ _ e), vars_fresh (earlier ++ v.name.text ∷ []) vs (right_empty _ _ (right_empty _ _ e)))
 
-maxes_within : (earlier : List _) (vs : List Var) → vars_faults earlier vs ≡ [] → All (λ v. IsWithin most_value v.max) vs
+-- where nothing is wrong with the variables, each greatest value is one that a variable can have
+pub maxes_within : (earlier : List _) (vs : List Var) → vars_faults earlier vs ≡ [] → All (λ v. IsWithin most_value v.max) vs
 maxes_within earlier [] e = All-nil (λ v. IsWithin most_value v.max)
 maxes_within earlier (v ∷ vs) e =
     let rest = right_empty _ _ e in

@@ -7,7 +7,8 @@ use Rattle.amoebot_state.specs.declared.bot.End.TheVariants.{Head}
 use Rattle.action_tree.specs.declared.expression.PortSet.TheVariants.{Ports}
 use Rattle.action_tree.specs.declared.expression.Cmp.TheVariants.{Lt}
 use Rattle.action_tree.specs.Trees as tree
-use Rattle.action_tree.specs.Trees.{Name, Literal, Guard, Sum, Term, PortExpr, Stmt, Move, Var, Action, Program, atom, conjunction, quantified, tested, comparison, guards, term_then, no_terms, number, own, of_port, count, bound, at_end, fixed, held, turned, first, put, put_of, let_be, if_then, for_each, stmts, no_stmts, no_move, through}
+use Rattle.action_tree.specs.Trees.{Name, Literal, Guard, Term, PortExpr, Stmt, Move, Var, Action, Program, conjunction, quantified, tested, comparison, guards, number, own, of_port, count, bound, at_end, fixed, held, turned, first, put, put_of, let_be, if_then, for_each, stmts, no_stmts, no_move, through}
+use Rattle.action_tree.specs.Samples.{one, yes}
 
 pub record Row : Type 0 where
   pub program : Program
@@ -35,12 +36,6 @@ var v most line = record { name = v; max = literal most line }
 
 abbrev pub action : Name → Guard → List Stmt → Move → Action
 action v g body moved = record { name = v; guard = g; body = stmts body; moved = moved }
-
-abbrev pub yes : Guard
-yes = atom tree.always
-
-abbrev pub one : Term → Sum
-one t = term_then false t no_terms
 
 -- ---- programs
 

@@ -1,12 +1,13 @@
 -- What is asked of the ports of a list, of which the first one is known.
-use Rattle.std.proofs.Common.{◌≡◌, ◌∙◌, ◌+◌, ℕ, suc, Bool, true, false, not, List, [], ◌∷◌, refl, sym, ap, arith, cond, Option, Some, None}
+use Rattle.std.proofs.Common.{◌≡◌, ◌∙◌, ◌+◌, ℕ, Bool, true, false, List, [], ◌∷◌, refl, sym, ap, arith, cond, Option, Some}
 use Rattle.std.specs.Prelude.{Result, Ok, Err}
 use Rattle.std.specs.List.{find, count_by}
 use Rattle.std.proofs.lemmas.List.Sums.{sum_by-cons}
+use Rattle.std.specs.Result.{is_err}
 use Rattle.amoebot_state.specs.declared.bot.Port.{Port}
 use Rattle.amoebot_state.specs.declared.verdict.Failure.{Failure}
 use Rattle.model_ops.specs.Operations.{and_then}
-use Rattle.action_meaning.specs.Choices.{Asked, is_true, fails, decided_by, any_of, all_of, first_of, count_of}
+use Rattle.action_meaning.specs.Choices.{Asked, is_true, decided_by, any_of, all_of, first_of, count_of}
 
 pub any_goes_on : (asked : Asked) (p : Port) (ps : List Port) → asked p ≡ Ok false → any_of asked (p ∷ ps) ≡ any_of asked ps
 any_goes_on asked p ps e = rw e refl
@@ -44,34 +45,34 @@ and_none : (r : Result ℕ Failure) → r ≡ and_so_many 0 r
 and_none (Ok k) = let e : k ≡ 0 + k = omega arith in ap Ok e
 and_none (Err f) = refl
 
-and_more : (m n : ℕ) (r : Result ℕ Failure) → and_so_many (m + n) r ≡ and_so_many m (and_so_many n r)
+pub and_more : (m n : ℕ) (r : Result ℕ Failure) → and_so_many (m + n) r ≡ and_so_many m (and_so_many n r)
 and_more m n (Ok k) = let e : (m + n) + k ≡ m + (n + k) = omega arith in ap Ok e
 and_more m n (Err f) = refl
 
 -- more than are true, unless one fails
 counted : Asked → ℕ → List Port → Result ℕ Failure
-counted asked n ps = decided_by (Ok (n + count_by (λ p. is_true (asked p)) ps)) (λ p. and_then (asked p) (λ b. Ok 0)) (find (λ p. fails (asked p)) ps)
+counted asked n ps = decided_by (Ok (n + count_by (λ p. is_true (asked p)) ps)) (λ p. and_then (asked p) (λ b. Ok 0)) (find (λ p. is_err (asked p)) ps)
 
 from_none : (asked : Asked) (ps : List Port) → count_of asked ps ≡ counted asked 0 ps
 unfolding counted
 from_none asked ps =
     let l : count_by (λ p. is_true (asked p)) ps ≡ 0 + count_by (λ p. is_true (asked p)) ps = omega arith in
-    ap (λ k. decided_by (Ok k) (λ p. and_then (asked p) (λ b. Ok 0)) (find (λ p. fails (asked p)) ps)) l
+    ap (λ k. decided_by (Ok k) (λ p. and_then (asked p) (λ b. Ok 0)) (find (λ p. is_err (asked p)) ps)) l
 
 either : {A : Type 0} (b : Bool) (x : A) (g : Port → A) (p : Port) (o : Option Port) → decided_by x g (cond b (Some p) o) ≡ cond b (g p) (decided_by x g o)
 either true x g p o = refl
 either false x g p o = refl
 
-counted_step : (asked : Asked) (n : ℕ) (p : Port) (ps : List Port) → counted asked n (p ∷ ps) ≡ cond (fails (asked p)) (and_then (asked p) (λ b. Ok 0)) (counted asked (n + cond (is_true (asked p)) 1 0) ps)
+counted_step : (asked : Asked) (n : ℕ) (p : Port) (ps : List Port) → counted asked n (p ∷ ps) ≡ cond (is_err (asked p)) (and_then (asked p) (λ b. Ok 0)) (counted asked (n + cond (is_true (asked p)) 1 0) ps)
 unfolding counted
 counted_step asked n p ps =
     let t = λ (q : Port). is_true (asked q) in
     let l : n + count_by t (p ∷ ps) ≡ (n + cond (t p) 1 0) + count_by t ps = omega (arith, sum_by-cons (λ (q : Port). cond (t q) 1 0) p ps) in
-    ap (λ k. decided_by (Ok k) (λ q. and_then (asked q) (λ b. Ok 0)) (find (λ q. fails (asked q)) (p ∷ ps))) l
-    ∙ either (fails (asked p)) _ (λ q. and_then (asked q) (λ b. Ok 0)) p (find (λ q. fails (asked q)) ps)
+    ap (λ k. decided_by (Ok k) (λ q. and_then (asked q) (λ b. Ok 0)) (find (λ q. is_err (asked q)) (p ∷ ps))) l
+    ∙ either (is_err (asked p)) _ (λ q. and_then (asked q) (λ b. Ok 0)) p (find (λ q. is_err (asked q)) ps)
 
-counted_first : (asked : Asked) (n : ℕ) (p : Port) (ps : List Port) (r : Result Bool Failure) → asked p ≡ r → counted asked n (p ∷ ps) ≡ cond (fails r) (and_then r (λ b. Ok 0)) (counted asked (n + cond (is_true r) 1 0) ps)
-counted_first asked n p ps r e = counted_step asked n p ps ∙ ap (λ q. cond (fails q) (and_then q (λ b. Ok 0)) (counted asked (n + cond (is_true q) 1 0) ps)) e
+counted_first : (asked : Asked) (n : ℕ) (p : Port) (ps : List Port) (r : Result Bool Failure) → asked p ≡ r → counted asked n (p ∷ ps) ≡ cond (is_err r) (and_then r (λ b. Ok 0)) (counted asked (n + cond (is_true r) 1 0) ps)
+counted_first asked n p ps r e = counted_step asked n p ps ∙ ap (λ q. cond (is_err q) (and_then q (λ b. Ok 0)) (counted asked (n + cond (is_true q) 1 0) ps)) e
 
 counted_more : (asked : Asked) (n : ℕ) (ps : List Port) → counted asked n ps ≡ and_so_many n (count_of asked ps)
 unfolding counted
@@ -98,6 +99,3 @@ count_one_more asked p ps e = from_none asked (p ∷ ps) ∙ counted_first asked
 
 pub count_fails : (asked : Asked) (p : Port) (ps : List Port) (f : Failure) → asked p ≡ Err f → count_of asked (p ∷ ps) ≡ Err f
 count_fails asked p ps f e = rw e (rw e refl)
-
-pub so_many_more : (n m : ℕ) (r : Result ℕ Failure) → and_so_many n (and_so_many m r) ≡ and_so_many (n + m) r
-so_many_more n m r = sym (and_more n m r)

@@ -1,5 +1,5 @@
 -- Parts of guards, sums and ports are smaller than what they are parts of.
-use Rattle.std.proofs.Common.{◌≡◌, ◌≤◌, ◌<◌, ℕ, List, length, get_or, ap, arith}
+use Rattle.std.proofs.Common.{◌≡◌, ◌<◌, ℕ, List, length, get_or, ap, arith}
 use denote.Param.Weighed.{at_most}
 use Rattle.action_tree.specs.declared.word.Word.{Word}
 use Rattle.action_tree.specs.declared.word.Lit.{Lit}

@@ -4,7 +4,7 @@ use Rattle.std.specs.Prelude.{if◌then◌else◌}
 use Rattle.std.specs.declared.result.Result.{Result}
 use Rattle.std.specs.declared.result.Result.TheVariants.{Ok, Err}
 use Rattle.std.proofs.lemmas.Bool.{and_parts}
-use Rattle.std.proofs.lemmas.List.{length-map}
+use Rattle.std.proofs.lemmas.List.{length-map, drop_more}
 use Rattle.std.proofs.Math.ListN.{drop_of_length-le}
 use Rattle.amoebot_state.specs.declared.bot.Port.{Port}
 use Rattle.amoebot_state.specs.declared.verdict.Failure.{Failure}
@@ -42,7 +42,7 @@ use Rattle.action_meaning.specs.Values.{guard_value, sum_value, port_value, port
 use Rattle.action_meaning.specs.Effects.{Moment, moment, reaching, leaving, for_ports, stmt_effect, stmts_effect}
 use Rattle.action_eval.specs.Known.{scope_of}
 use Rattle.action_eval.specs.Running.{moment_of, turn_effect}
-use Rattle.action_check.proofs.Walking.{ahead, here}
+use Rattle.action_check.proofs.Walking.{here}
 
 -- ---- the trees of statements by their parts
 
@@ -244,13 +244,13 @@ pub record PortsLeft (turn : ℕ → Port → Moment → Result Moment Failure) 
 
 pub ports_next : (turn : ℕ → Port → Moment → Result Moment Failure) (first : WorkingCopy) (ps : List Port) (k : ℕ) (d : Port) (now : WorkingCopy) (xs : Names) (new : WorkingCopy) → PortsLeft turn first ps k now xs → k < length ps → turn (own_id now) (get_or ps k d) (moment_of now xs) ≡ Ok (moment_of new xs) → new.found ≡ now.found → PortsLeft turn first ps (k + 1) new xs
 ports_next turn first ps k d now xs new left l e found =
-    let told = rw (ahead ps k d l) at left.told in
+    let told = rw (drop_more ps k d l) at left.told in
     let ran : turn (own_id first) (get_or ps k d) (moment_of now xs) ≡ Ok (moment_of new xs) = ap (λ i. turn i (get_or ps k d) (moment_of now xs)) (sym (same_id first now left.found)) ∙ e in
     record { told = told ∙ ap (λ r. and_then r (λ n. for_ports (turn (own_id first)) (drop (k + 1) ps) n)) ran; found = found ∙ left.found }
 
 pub ports_fail : (turn : ℕ → Port → Moment → Result Moment Failure) (first : WorkingCopy) (ps : List Port) (k : ℕ) (d : Port) (now : WorkingCopy) (xs : Names) (f : Failure) → PortsLeft turn first ps k now xs → k < length ps → turn (own_id now) (get_or ps k d) (moment_of now xs) ≡ Err f → for_ports (turn (own_id first)) ps (moment_of first xs) ≡ Err f
 ports_fail turn first ps k d now xs f left l e =
-    let told = rw (ahead ps k d l) at left.told in
+    let told = rw (drop_more ps k d l) at left.told in
     let failed : turn (own_id first) (get_or ps k d) (moment_of now xs) ≡ Err f = ap (λ i. turn i (get_or ps k d) (moment_of now xs)) (sym (same_id first now left.found)) ∙ e in
     told ∙ ap (λ r. and_then r (λ n. for_ports (turn (own_id first)) (drop (k + 1) ps) n)) failed
 

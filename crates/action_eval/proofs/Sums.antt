@@ -1,6 +1,6 @@
 -- The terms of a sum, one after the other.
-use Rattle.std.proofs.Common.{◌≡◌, ◌≤◌, ◌<◌, ◌+◌, ◌*◌, ◌∙◌, ℕ, suc, Bool, true, false, ◌&&◌, List, [], ◌∷◌, length, map, drop, get_or, refl, sym, ap, arith}
-use Rattle.std.specs.Prelude.{Result, Ok, Err, ℤ, pos, negsuc, ◌+ℤ◌, ◌≤ℤ◌, neg_ℤ}
+use Rattle.std.proofs.Common.{◌≡◌, ◌+◌, Bool, refl, ap, arith}
+use Rattle.std.specs.Prelude.{Result, Ok, Err, ℤ, ◌+ℤ◌}
 use Rattle.std.proofs.lemmas.Int.{ints}
 use Rattle.amoebot_state.specs.declared.verdict.Failure.{Failure}
 use Rattle.model_ops.specs.Operations.{and_then}

@@ -1,6 +1,6 @@
 -- The value of a term whose port or ports were asked.
-use Rattle.std.proofs.Common.{◌≡◌, ℕ, Bool, refl, Some, Option}
-use Rattle.std.specs.Prelude.{Result, Ok, Err, pos}
+use Rattle.std.proofs.Common.{◌≡◌, ℕ, refl, Some}
+use Rattle.std.specs.Prelude.{Ok, Err, pos}
 use Rattle.amoebot_state.specs.declared.bot.Port.{Port}
 use Rattle.amoebot_state.specs.declared.verdict.Failure.{Failure}
 use Rattle.model_ops.specs.Sights.{Sight}

@@ -1,8 +1,9 @@
 -- Loops over the elements of an `and` or an `or`, and over the ports of a set.
-use Rattle.std.proofs.Common.{◌≡◌, ◌≤◌, ◌<◌, ◌+◌, ◌∙◌, ℕ, Bool, true, false, List, [], ◌∷◌, length, drop, get_or, refl, ap, arith}
+use Rattle.std.proofs.Common.{◌≡◌, ◌≤◌, ◌<◌, ◌+◌, ◌∙◌, ℕ, Bool, true, false, List, [], ◌∷◌, length, drop, get_or, refl, sym, ap, arith}
 use Rattle.std.specs.Prelude.{Result, Ok, Err}
 use Rattle.std.proofs.Math.ListN.{drop_of_length-le}
 use Rattle.std.proofs.lemmas.Bool.{and_parts}
+use Rattle.std.proofs.lemmas.List.{drop_more}
 use Rattle.amoebot_state.specs.declared.bot.Port.{Port}
 use Rattle.amoebot_state.specs.declared.verdict.Failure.{Failure}
 use Rattle.model_ops.specs.Sights.{Sight}
@@ -16,8 +17,8 @@ use Rattle.action_check.specs.Scopes.{Scope}
 use Rattle.action_meaning.specs.Names.{Names, bind}
 use Rattle.action_meaning.specs.Choices.{Asked, count_of}
 use Rattle.action_meaning.specs.Values.{guard_value, each_value, some_value}
-use Rattle.action_eval.proofs.Asking.{and_so_many, count_goes_on, count_one_more, count_fails, so_many_more}
-use Rattle.action_check.proofs.Walking.{ahead, here}
+use Rattle.action_eval.proofs.Asking.{and_so_many, count_goes_on, count_one_more, count_fails, and_more}
+use Rattle.action_check.proofs.Walking.{here}
 
 -- ---- guards
 
@@ -75,20 +76,20 @@ inside s xs w g p = guard_value s (bind xs (name_of w) p) (guard_of g)
 
 -- the whole is what comes of the ports from a place on, of which the first one tells what that is
 pub told_here : {A : Type 0} (f : List Port → A) (whole : A) (ps : List Port) (i : ℕ) (d : Port) (r : A) → whole ≡ f (drop i ps) → i < length ps → f (get_or ps i d ∷ drop (i + 1) ps) ≡ r → whole ≡ r
-told_here f whole ps i d r left l e = left ∙ ap f (ahead ps i d l) ∙ e
+told_here f whole ps i d r left l e = left ∙ ap f (drop_more ps i d l) ∙ e
 
 -- behind the last port
 pub told_over : {A : Type 0} (f : List Port → A) (whole : A) (ps : List Port) (i : ℕ) → whole ≡ f (drop i ps) → length ps ≤ i → whole ≡ f []
 told_over f whole ps i left l = left ∙ ap f (drop_of_length-le ps l)
 
 pub count_next : (asked : Asked) (ps : List Port) (i n : ℕ) (d : Port) → count_of asked ps ≡ and_so_many n (count_of asked (drop i ps)) → i < length ps → asked (get_or ps i d) ≡ Ok false → count_of asked ps ≡ and_so_many n (count_of asked (drop (i + 1) ps))
-count_next asked ps i n d left l e = left ∙ ap (λ qs. and_so_many n (count_of asked qs)) (ahead ps i d l) ∙ ap (and_so_many n) (count_goes_on asked _ _ e)
+count_next asked ps i n d left l e = left ∙ ap (λ qs. and_so_many n (count_of asked qs)) (drop_more ps i d l) ∙ ap (and_so_many n) (count_goes_on asked _ _ e)
 
 pub count_here : (asked : Asked) (ps : List Port) (i n : ℕ) (d : Port) → count_of asked ps ≡ and_so_many n (count_of asked (drop i ps)) → i < length ps → asked (get_or ps i d) ≡ Ok true → count_of asked ps ≡ and_so_many (n + 1) (count_of asked (drop (i + 1) ps))
-count_here asked ps i n d left l e = left ∙ ap (λ qs. and_so_many n (count_of asked qs)) (ahead ps i d l) ∙ ap (and_so_many n) (count_one_more asked _ _ e) ∙ so_many_more n 1 _
+count_here asked ps i n d left l e = left ∙ ap (λ qs. and_so_many n (count_of asked qs)) (drop_more ps i d l) ∙ ap (and_so_many n) (count_one_more asked _ _ e) ∙ sym (and_more n 1 (count_of asked (drop (i + 1) ps)))
 
 pub count_stops : (asked : Asked) (ps : List Port) (i n : ℕ) (d : Port) (f : Failure) → count_of asked ps ≡ and_so_many n (count_of asked (drop i ps)) → i < length ps → asked (get_or ps i d) ≡ Err f → count_of asked ps ≡ Err f
-count_stops asked ps i n d f left l e = left ∙ ap (λ qs. and_so_many n (count_of asked qs)) (ahead ps i d l) ∙ ap (and_so_many n) (count_fails asked _ _ f e)
+count_stops asked ps i n d f left l e = left ∙ ap (λ qs. and_so_many n (count_of asked qs)) (drop_more ps i d l) ∙ ap (and_so_many n) (count_fails asked _ _ f e)
 
 pub count_over : (asked : Asked) (ps : List Port) (i n : ℕ) → count_of asked ps ≡ and_so_many n (count_of asked (drop i ps)) → length ps ≤ i → count_of asked ps ≡ Ok n
 count_over asked ps i n left l =

@@ -2,7 +2,7 @@
 
 ghost use Rattle.std.specs.Prelude.{◌≡◌, true, IfOk, IfErr, Ok, Err};
 ghost use Rattle.action_tree.specs.Views as view;
-ghost use Rattle.action_tree.specs.Writable.{is_guard, is_sum, is_stmt, are_stmts, is_move, is_port as is_port_expr};
+ghost use Rattle.action_tree.specs.Writable.{is_guard, is_sum, is_stmt, are_stmts, is_move};
 ghost use Rattle.action_check.specs.Rules.{IsVar, IsNew, GuardKept, SumKept, StmtKept, StmtsKept, MoveKept};
 ghost use Rattle.action_check.specs.Scopes.{bind as scope_bind, after_all};
 ghost use Rattle.model_ops.specs.Operations.{and_then, write};

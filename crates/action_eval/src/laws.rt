@@ -1,6 +1,6 @@
 //! What holds of each `Runner`. The functions do nothing: their clauses are the laws.
 
-ghost use Rattle.action_eval.specs.Laws.{DecidesVerdict, GuardedStepsStayConnected, GuardedRunsStayConnected};
+ghost use Rattle.action_meaning.specs.Laws.{DecidesVerdict, GuardedStepsStayConnected, GuardedRunsStayConnected};
 
 use crate::runner::Runner;
 use amoebot_state::Decider;

@@ -3,6 +3,7 @@
 ghost use Rattle.std.specs.Prelude.{◌≡◌, ◌<◌, ◌≤ℤ◌, pos, true, IfOk};
 ghost use Rattle.action_tree.specs.Views as view;
 ghost use Rattle.action_tree.specs.Writable.{is_guard, are_guards, is_sum, is_term, is_port as is_port_expr};
+ghost use Rattle.action_check.specs.Limits.{most_literal};
 ghost use Rattle.action_check.specs.Rules.{GuardKept, GuardsKept, SumKept, TermKept, PortKept, DirTermKept, IsNew};
 ghost use Rattle.action_check.specs.Scopes.{bind as scope_bind};
 ghost use Rattle.action_meaning.specs.Names.{bind};
@@ -250,7 +251,7 @@ fn term_value(term: &Term, site: &Site, names: &Names<'_>) -> Result<i32, Failur
     requires kept { TermKept (scope_of (known names.now)) (view.term_of term.now) }
     requires counted { is_term (view.term_of term.now) ≡ true }
     ensures value { result ≡ spec.term_value (sight_of site.now) (known names.now) (view.term_of term.now) }
-    ensures range { IfOk result (λ x. (pos 0 ≤ℤ x) × (x ≤ℤ pos 65535)) }
+    ensures range { IfOk result (λ x. (pos 0 ≤ℤ x) × (x ≤ℤ pos most_literal)) }
 {
     match term {
         Term::Number(number) => Ok(number.value as i32),

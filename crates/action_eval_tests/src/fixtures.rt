@@ -1,6 +1,5 @@
 //! Programs from their texts, shapes from their amoebots, and what a turn does.
 
-ghost use Rattle.std.specs.Prelude.{◌≡◌};
 ghost use Rattle.amoebot_state.specs.Refusals.{IsPlain};
 ghost use Rattle.tri_lattice.specs.Lattice.{IsNear};
 

@@ -1,5 +1,6 @@
 -- The grammar of expressions by the role of the first token, and with which tokens its texts begin.
 use Rattle.std.proofs.Common.{◌≡◌, ℕ, zero, suc, Bool, true, false, cond, ◌||◌, List, [], ◌∷◌, ◌++◌, Option, None, refl, sym, ap, subst, ◌∙◌}
+use Rattle.std.proofs.lemmas.Bool.{or_right}
 use Rattle.text_tokens.specs.declared.refusal.RefusalKind.{RefusalKind}
 use Rattle.text_tokens.specs.Text.{Lexeme}
 use Rattle.text_tokens.specs.Reading.{no_limit, deep_at, less}
@@ -370,17 +371,13 @@ compared_with n left x f = let s = some_sum n left in record { more = _; whole =
 test_from : (n left : ℕ) (t : Lexeme) → is_test t ≡ true → SomeFrom (IsUnit n left) (symbol t None)
 test_from n left t e = let p = some_port n left in record { more = _; whole = _; is = is_tested (is_one t e) p.is }
 
-free_test : (b c : Bool) → c ≡ true → (b || c) ≡ true
-free_test true c e = refl
-free_test false c e = e
-
 unit_each : (n left : ℕ) (t : Lexeme) (r : Role) → role t ≡ r → begins_unit r ≡ true → SomeFrom (IsUnit n left) (symbol_by n r t)
 unit_each n left t AtomWord e f = record { more = _; whole = _; is = is_atom (is_one t (is_in AtomWord t e)) }
 unit_each n left t NotWord e f = let g = some_unit (less n) left in record { more = _; whole = _; is = is_not (is_one t (is_in NotWord t e)) g.is }
 unit_each n left t OpenSign e f = let g = some_expr (less n) left in record { more = _; whole = _; is = is_parens (is_one t (is_in OpenSign t e)) g.is (an_example CloseSign) }
 unit_each n left t QuantifierWord e f = let c = some_selection n left in record { more = _; whole = _; is = is_quantified (is_one t (is_in QuantifierWord t e)) c.is }
 unit_each n left t TestWord e f = test_from n left t (ap (λ (b : Bool). b || is_a FreeWord t) (is_in TestWord t e))
-unit_each n left t FreeWord e f = test_from n left t (free_test (is_a TestWord t) (is_a FreeWord t) (is_in FreeWord t e))
+unit_each n left t FreeWord e f = test_from n left t (or_right (is_a TestWord t) (is_a FreeWord t) (is_in FreeWord t e))
 unit_each n left t r e f = compared_with n left (symbol_by n r t) (sum_each n left t r e f)
 
 pub starts_unit : (n left : ℕ) → Starts (IsUnit n left) (λ t. begins_unit (role t)) (level_limit n)

@@ -1,5 +1,5 @@
 -- Texts with what they stand for, and texts with their first fault.
-use Rattle.std.specs.Prelude.{◌≡◌, ℕ, zero, suc, true, false, ◌==◌, if◌then◌else◌, List, [], ◌∷◌, ◌++◌, map, codes}
+use Rattle.std.specs.Prelude.{◌≡◌, ℕ, true, false, ◌==◌, if◌then◌else◌, List, [], ◌∷◌, ◌++◌, map, codes}
 use Rattle.text_tokens.specs.declared.refusal.RefusalKind.{RefusalKind}
 use Rattle.text_tokens.specs.declared.refusal.RefusalKind.TheVariants.{BadByte, WordTooLong, Unexpected, TooDeep, TooMany, Truncated}
 use Rattle.text_tokens.specs.Cursor.{Cursor, at_place}
@@ -9,7 +9,7 @@ use Rattle.action_tree.specs.declared.expression.Cmp.TheVariants.{Eq}
 use Rattle.action_tree.specs.Trees as tree
 use Rattle.action_tree.specs.Trees.{Name, Guard, Sum, term_then, no_terms}
 use Rattle.action_tree.specs.Lines.{bare_guard, without_lines}
-use Rattle.action_tree.specs.Samples.{line, erosion, every_form, literal, one, and, or, x, x_of_p, action}
+use Rattle.action_tree.specs.Samples.{line, erosion, every_form, literal, copies, one, yes, no, and, or, x, x_of_p, action}
 use Rattle.action_grammar.specs.Expressions.{IsExpr}
 use Rattle.action_grammar.specs.Statements.{IsStmts}
 use Rattle.action_grammar.specs.Programs.{IsProgram}
@@ -79,12 +79,6 @@ pub record SamplesAreRead : Type 0 where
   pub every_form : IsRead IsProgram without_lines every_form_text every_form
 
 -- ---- trees
-
-abbrev yes : Guard
-yes = tree.atom tree.always
-
-abbrev no : Guard
-no = tree.atom tree.never
 
 abbrev zero_is : Sum → Guard
 zero_is s = tree.comparison s Eq (one (tree.number (literal 0)))
@@ -300,11 +294,6 @@ statement_names =
     ∷ limit (codes "for p in ports ( true ) do let q := p od ; for p in ports ( true ) do let q := p od") TooMany 15 (codes "for p in ports ( true ) do let q := p ; let r := p od")
     ∷ limit (codes "if true then let p := head 0 ; let q := p fi ; let p := head 0 ; let q := p") TooMany 16 (codes "let p := head 0 ; if true then let q := p ; let r := p fi")
     ∷ []
-
--- a piece so many times
-abbrev pub copies : ℕ → List ℕ → List (List ℕ)
-copies zero piece = []
-copies (suc n) piece = piece ∷ copies n piece
 
 -- behind so many pieces
 abbrev pub after_copies : ℕ → List ℕ → List (List ℕ) → List ℕ

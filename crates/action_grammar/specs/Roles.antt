@@ -93,27 +93,52 @@ as_dirterm t = if is_a ANumber t then fixed (as_literal t) else held (as_name t)
 abbrev pub as_set : Lexeme → PortSet
 as_set t = if is_a FreeWord t then Free else Ports
 
--- of words and signs of one role
+-- what a text of a role with several words or signs stands for
+abbrev pub switch_by : List ℕ → Bool
+switch_by text = look_up false (entry (codes "on") true ∷ []) text
+
+abbrev pub end_by : List ℕ → End
+end_by text = look_up Head (entry (codes "tail") Tail ∷ []) text
+
+abbrev pub atom_by : List ℕ → Atom
+atom_by text = look_up always (entry (codes "false") never ∷ entry (codes "contracted") contracted ∷ entry (codes "expanded") expanded ∷ []) text
+
+abbrev pub quantifier_by : List ℕ → Quantifier
+quantifier_by text = look_up any (entry (codes "all") all ∷ []) text
+
+abbrev pub test_by : List ℕ → PortTest
+test_by text = look_up linked (entry (codes "free") free ∷ entry (codes "at_head") at_head ∷ entry (codes "peer_expanded") peer_expanded ∷ entry (codes "peer_head") peer_head ∷ []) text
+
+abbrev pub side_by : List ℕ → Side
+side_by text = look_up own_side (entry (codes "peer_dir") peer_side ∷ []) text
+
+abbrev pub port_move_by : List ℕ → PortMove
+port_move_by text = look_up expand (entry (codes "push") push ∷ entry (codes "pull") pull ∷ []) text
+
+abbrev pub cmp_by : List ℕ → Cmp
+cmp_by text = look_up Eq (entry (codes "!=") Ne ∷ entry (codes "<") Lt ∷ entry (codes "<=") Le ∷ entry (codes ">") Gt ∷ entry (codes ">=") Ge ∷ []) text
+
+-- a token of such a role, by its text
 abbrev pub as_switch : Lexeme → Bool
-as_switch t = look_up false (entry (codes "on") true ∷ []) t.text
+as_switch t = switch_by t.text
 
 abbrev pub as_end : Lexeme → End
-as_end t = look_up Head (entry (codes "tail") Tail ∷ []) t.text
+as_end t = end_by t.text
 
 abbrev pub as_atom : Lexeme → Atom
-as_atom t = look_up always (entry (codes "false") never ∷ entry (codes "contracted") contracted ∷ entry (codes "expanded") expanded ∷ []) t.text
+as_atom t = atom_by t.text
 
 abbrev pub as_quantifier : Lexeme → Quantifier
-as_quantifier t = look_up any (entry (codes "all") all ∷ []) t.text
+as_quantifier t = quantifier_by t.text
 
 abbrev pub as_test : Lexeme → PortTest
-as_test t = look_up linked (entry (codes "free") free ∷ entry (codes "at_head") at_head ∷ entry (codes "peer_expanded") peer_expanded ∷ entry (codes "peer_head") peer_head ∷ []) t.text
+as_test t = test_by t.text
 
 abbrev pub as_side : Lexeme → Side
-as_side t = look_up own_side (entry (codes "peer_dir") peer_side ∷ []) t.text
+as_side t = side_by t.text
 
 abbrev pub as_port_move : Lexeme → PortMove
-as_port_move t = look_up expand (entry (codes "push") push ∷ entry (codes "pull") pull ∷ []) t.text
+as_port_move t = port_move_by t.text
 
 abbrev pub as_cmp : Lexeme → Cmp
-as_cmp t = look_up Eq (entry (codes "!=") Ne ∷ entry (codes "<") Lt ∷ entry (codes "<=") Le ∷ entry (codes ">") Gt ∷ entry (codes ">=") Ge ∷ []) t.text
+as_cmp t = cmp_by t.text

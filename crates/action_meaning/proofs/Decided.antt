@@ -25,8 +25,8 @@ use Rattle.model_ops.proofs.ShownAlike.{Seen, IsShownBot, agrees_at_first}
 use Rattle.model_ops.proofs.SameDiff.{reached_leads_also}
 use Rattle.tri_lattice.specs.Sets.{IsConnected}
 use Rattle.amoebot_state.specs.Occupied.{occupied}
-use Rattle.model_ops.proofs.ActsDecide.{guarded_steps_stay_connected as steps_stay_connected}
-use Rattle.action_meaning.specs.Laws.{VerdictIsShown, ProgramsDecideByActs, GuardedProgramsDecideGuarded, GuardedStepsStayConnected, GuardedRunsStayConnected}
+use Rattle.model_ops.proofs.ActsDecide.{guarded_deciders_stay_connected}
+use Rattle.action_meaning.specs.Laws.{VerdictIsShown, ProgramsDecideByActs, GuardedProgramsDecideGuarded, ProgramStepsStayConnected, ProgramRunsStayConnected}
 use Rattle.model_ops.proofs.CopiesStand.{then_is, gap_there}
 use Rattle.model_ops.proofs.Told.{ok_told}
 use Rattle.action_tree.specs.Trees.{Action, Program}
@@ -162,9 +162,9 @@ programs_decide_by_acts p s change is e = (change_by_acts p s change is e).0
 pub guarded_programs_decide_guarded : GuardedProgramsDecideGuarded
 guarded_programs_decide_guarded p on s change is e = let by = change_by_acts p s change is e in (by.0, by.1 ∙ on)
 
-pub guarded_steps_stay_connected : GuardedStepsStayConnected
-guarded_steps_stay_connected p old e new on = steps_stay_connected (verdict_shown p) old e new (guarded_programs_decide_guarded p on)
+pub program_steps_stay_connected : ProgramStepsStayConnected
+program_steps_stay_connected p old e new on = guarded_deciders_stay_connected (verdict_shown p) old e new (guarded_programs_decide_guarded p on)
 
-pub guarded_runs_stay_connected : GuardedRunsStayConnected
-guarded_runs_stay_connected p first [] last on valid run connected = let P : Config → Type 0 = λ c. IsConnected (occupied c) in subst P (sym run) connected
-guarded_runs_stay_connected p first (e ∷ es) last on valid (mid, step, run) connected = guarded_runs_stay_connected p mid es last on step.patched.valid run (guarded_steps_stay_connected p first e mid on valid step connected)
+pub program_runs_stay_connected : ProgramRunsStayConnected
+program_runs_stay_connected p first [] last on valid run connected = let P : Config → Type 0 = λ c. IsConnected (occupied c) in subst P (sym run) connected
+program_runs_stay_connected p first (e ∷ es) last on valid (mid, step, run) connected = program_runs_stay_connected p mid es last on step.patched.valid run (program_steps_stay_connected p first e mid on valid step connected)

@@ -5,6 +5,7 @@ use Rattle.std.specs.declared.option.Option.{Option}
 use Rattle.std.specs.declared.option.Option.TheVariants.{Some, None}
 use Rattle.std.specs.declared.result.Result.{Result}
 use Rattle.std.specs.declared.result.Result.TheVariants.{Ok, Err}
+use Rattle.std.specs.Result.{is_err}
 use Rattle.amoebot_state.specs.declared.bot.Port.{Port}
 use Rattle.amoebot_state.specs.declared.verdict.Failure.{Failure}
 use Rattle.amoebot_state.specs.declared.verdict.Failure.TheVariants.{NoChoice}
@@ -21,10 +22,6 @@ is_true (Err f) = false
 abbrev pub is_false : Result Bool Failure → Bool
 is_false (Ok b) = not b
 is_false (Err f) = false
-
-abbrev pub fails : Result Bool Failure → Bool
-fails (Ok b) = false
-fails (Err f) = true
 
 -- by the port that decides, if there is one
 abbrev pub decided_by : {A : Type 0} → A → (Port → A) → Option Port → A
@@ -45,4 +42,4 @@ first_of asked ps = decided_by (Err NoChoice) (λ p. and_then (asked p) (λ b. O
 
 -- `count`: of how many ports it is true, or the failure of the first port that fails
 abbrev pub count_of : Asked → List Port → Result ℕ Failure
-count_of asked ps = decided_by (Ok (count_by (λ p. is_true (asked p)) ps)) (λ p. and_then (asked p) (λ b. Ok 0)) (find (λ p. fails (asked p)) ps)
+count_of asked ps = decided_by (Ok (count_by (λ p. is_true (asked p)) ps)) (λ p. and_then (asked p) (λ b. Ok 0)) (find (λ p. is_err (asked p)) ps)

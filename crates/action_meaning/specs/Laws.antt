@@ -2,8 +2,9 @@
 use Rattle.std.specs.Prelude.{◌≡◌, ℕ, true, List, IsSome, map}
 use Rattle.std.specs.declared.result.Result.TheVariants.{Ok}
 use Rattle.amoebot_state.specs.declared.verdict.Entry.{Entry}
+use Rattle.amoebot_state.specs.declared.verdict.Verdict.{Verdict}
 use Rattle.amoebot_state.specs.Configs.{Config, IsValid, bot_at}
-use Rattle.amoebot_state.specs.Zones.{shown}
+use Rattle.amoebot_state.specs.Zones.{Shown, shown}
 use Rattle.amoebot_state.specs.Steps.{Step, Run}
 use Rattle.model_ops.specs.Deciders.{DecidesByActs, DecidesGuarded}
 use Rattle.model_ops.specs.Laws.{StaysConnected}
@@ -11,9 +12,14 @@ use Rattle.action_tree.specs.Trees.{Program}
 use Rattle.action_meaning.specs.Verdicts.{verdict_on, verdict_shown}
 use Rattle.action_meaning.specs.Rows.{guard_in_shape, guard_rows, compared_in_shape, compared_rows, sum_in_shape, sum_rows, verdict_in_shape, verdict_rows}
 
--- on what a valid configuration shows, gaps in its ids allowed, a program decides what it decides on that configuration
+-- on what a valid configuration shows to an amoebot of it, f decides the verdict of the program on that configuration; ids without an
+-- amoebot are allowed, and any greatest values
+abbrev pub DecidesVerdict : (Shown → Verdict) → Program → Type 0
+DecidesVerdict f p = (c : Config) (i : ℕ) → IsValid c → IsSome (bot_at c i) → f (shown c i) ≡ verdict_on p c i
+
+-- what a program decides on what is shown is that
 abbrev pub VerdictIsShown : Type 0
-VerdictIsShown = (p : Program) (c : Config) (i : ℕ) → IsValid c → IsSome (bot_at c i) → verdict_shown p (shown c i) ≡ verdict_on p c i
+VerdictIsShown = (p : Program) → DecidesVerdict (verdict_shown p) p
 
 -- its changes are made by operations of the model, with the guard as the program has it
 abbrev pub ProgramsDecideByActs : Type 0
@@ -22,12 +28,20 @@ ProgramsDecideByActs = (p : Program) → DecidesByActs (verdict_shown p)
 abbrev pub GuardedProgramsDecideGuarded : Type 0
 GuardedProgramsDecideGuarded = (p : Program) → p.guard ≡ true → DecidesGuarded (verdict_shown p)
 
--- with the guard on, a step from a valid configuration leaves connected occupied nodes connected, and so does a run
-abbrev pub GuardedStepsStayConnected : Type 0
-GuardedStepsStayConnected = (p : Program) (old : Config) (e : Entry) (new : Config) → p.guard ≡ true → IsValid old → Step (verdict_shown p) old e new → StaysConnected old new
+-- where the program has the guard on, a step by f from a valid configuration leaves connected occupied nodes connected
+abbrev pub GuardedStepsStayConnected : (Shown → Verdict) → Program → Type 0
+GuardedStepsStayConnected f p = (old : Config) (e : Entry) (new : Config) → p.guard ≡ true → IsValid old → Step f old e new → StaysConnected old new
 
-abbrev pub GuardedRunsStayConnected : Type 0
-GuardedRunsStayConnected = (p : Program) (first : Config) (es : List Entry) (last : Config) → p.guard ≡ true → IsValid first → Run (verdict_shown p) first es last → StaysConnected first last
+-- and so does a run
+abbrev pub GuardedRunsStayConnected : (Shown → Verdict) → Program → Type 0
+GuardedRunsStayConnected f p = (first : Config) (es : List Entry) (last : Config) → p.guard ≡ true → IsValid first → Run f first es last → StaysConnected first last
+
+-- so it is with the steps and the runs of each program
+abbrev pub ProgramStepsStayConnected : Type 0
+ProgramStepsStayConnected = (p : Program) → GuardedStepsStayConnected (verdict_shown p) p
+
+abbrev pub ProgramRunsStayConnected : Type 0
+ProgramRunsStayConnected = (p : Program) → GuardedRunsStayConnected (verdict_shown p) p
 
 -- expressions and programs on one configuration have the values and the verdicts of the tables
 pub record ValuesAreComputed : Type 0 where

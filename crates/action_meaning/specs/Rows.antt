@@ -26,6 +26,7 @@ use Rattle.action_tree.specs.declared.expression.PortSet.TheVariants.{Ports, Fre
 use Rattle.action_tree.specs.declared.expression.Cmp.TheVariants.{Eq, Ne, Lt, Le, Gt, Ge}
 use Rattle.action_tree.specs.Trees as tree
 use Rattle.action_tree.specs.Trees.{Name, Literal, Guard, Sum, Term, PortExpr, Stmt, Move, Action, Program, Part, guards, terms, stmts}
+use Rattle.action_tree.specs.Samples.{yes, no}
 use Rattle.action_meaning.specs.Names.{Names}
 use Rattle.action_meaning.specs.Values.{guard_value, sum_value}
 use Rattle.action_meaning.specs.Verdicts.{verdict_on}
@@ -106,12 +107,6 @@ number n = tree.number (literal n)
 -- a term equals a number
 abbrev is : Term → ℕ → Guard
 is t n = tree.comparison (sum t) Eq (sum (number n))
-
-abbrev yes : Guard
-yes = tree.atom tree.always
-
-abbrev no : Guard
-no = tree.atom tree.never
 
 abbrev both : Guard → Guard → Guard
 both a b = tree.conjunction (guards (a ∷ b ∷ []))

@@ -9,13 +9,12 @@ use Rattle.std.specs.declared.option.Option.{Option}
 use Rattle.std.specs.declared.option.Option.TheVariants.{Some, None}
 use Rattle.std.specs.declared.result.Result.{Result}
 use Rattle.std.specs.declared.result.Result.TheVariants.{Ok}
-use Rattle.tri_lattice.specs.Lattice.{step, node_eq}
+use Rattle.tri_lattice.specs.Lattice.{directions, step, node_eq}
 use Rattle.amoebot_state.specs.declared.bot.Bot.{Bot}
 use Rattle.amoebot_state.specs.declared.bot.Port.{Port}
 use Rattle.amoebot_state.specs.declared.verdict.Failure.{Failure}
 use Rattle.amoebot_state.specs.declared.verdict.Failure.TheVariants.{NoPort, NotExpanded}
 use Rattle.amoebot_state.specs.Ports.{is_contracted, is_port, is_head, all_ports, port, global}
-use Rattle.model_ops.specs.Guard.{directions}
 use Rattle.model_ops.specs.Operations.{need, and_then}
 use Rattle.model_ops.specs.Sights.{Sight}
 use Rattle.action_tree.specs.declared.expression.PortSet.{PortSet}

@@ -1,6 +1,6 @@
 //! What holds of verdicts. The functions do nothing: their clauses are the laws.
 
-ghost use Rattle.action_meaning.specs.Laws.{VerdictIsShown, ProgramsDecideByActs, GuardedProgramsDecideGuarded, GuardedStepsStayConnected, GuardedRunsStayConnected, ValuesAreComputed};
+ghost use Rattle.action_meaning.specs.Laws.{VerdictIsShown, ProgramsDecideByActs, GuardedProgramsDecideGuarded, ProgramStepsStayConnected, ProgramRunsStayConnected, ValuesAreComputed};
 
 /// The verdict on what a valid configuration shows is the verdict on that configuration, ids without an amoebot allowed.
 #[tactic(auto, using(crate::proofs::Decided::verdict_is_shown))]
@@ -16,10 +16,10 @@ pub fn changes_are_acts()
 {}
 
 /// With the guard on, connected occupied nodes stay connected under each step and each run of a program.
-#[tactic(auto, using(crate::proofs::Decided::guarded_steps_stay_connected, crate::proofs::Decided::guarded_runs_stay_connected))]
+#[tactic(auto, using(crate::proofs::Decided::program_steps_stay_connected, crate::proofs::Decided::program_runs_stay_connected))]
 pub fn guarded_runs_stay_connected()
-    ensures steps { GuardedStepsStayConnected }
-    ensures runs { GuardedRunsStayConnected }
+    ensures steps { ProgramStepsStayConnected }
+    ensures runs { ProgramRunsStayConnected }
 {}
 
 /// Values, failures and verdicts of small expressions and programs on one configuration, of each form at least one.

@@ -128,9 +128,6 @@ module _ {A B : Type 0} (f : Reader Stmts → Reader B) (view : A → B) (n left
 pub gives_level : {A B : Type 0} (f : ℕ → Reader B) (view : A → B) (n : ℕ) (old new : Cursor) (r : Result A ReadRefusal) → Gives view (f (n - 1)) old r new → Gives view (f (less n)) old r new
 gives_level f view n old new r g = gives_as view (f (less n)) (f (n - 1)) old new r (ap (λ (m : ℕ). f m old.last old.ahead) (less_is n)) g
 
-pub less_one : (n : ℕ) → n - 1 ≡ less n
-less_one n = sym (less_is n)
-
 -- what is left of what is left
 pub then_left : {A : Type 0} {r q s : Reader A} {start here there : Cursor} → Left r start q here → Left q here s there → Left r start s there
 then_left {start = start} {here = here} {there = there} l m = record { reads = l.reads ∙ m.reads; stays = stays_on start here there l.stays m.stays }

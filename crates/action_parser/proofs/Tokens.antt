@@ -10,7 +10,7 @@ use Rattle.text_tokens.specs.Text.{Lexeme}
 use Rattle.text_tokens.specs.Cursor.{Cursor, next_passes, refusal_at, past_token, expect, expect_by, Spells}
 use Rattle.text_tokens.specs.Reading.{Answer, Reader, pure, and_then, within, one_within, one, no_limit}
 use Rattle.text_tokens.specs.Steps.{Fails, SameSource, lexeme_of}
-use Rattle.text_tokens.proofs.Stepping.{Reached, Failed, stays, took, fails, on_made}
+use Rattle.text_tokens.proofs.Stepping.{Reached, Failed, stays, took, fails, on_made, err_of}
 use Rattle.text_tokens.proofs.Rows.{Left}
 use Rattle.text_tokens.proofs.Exactness.{value_in, rest_in}
 use Rattle.action_parser.specs.Readings.{made}
@@ -133,14 +133,10 @@ module _ {A B : Type 0} (p : Reader A) (f : A → B) (old new : Cursor) where
   pub taken : (b : B) → Reached (made p f) old b new → Taken p f old b new
   taken b r = taken_by b (p old.last old.ahead) refl r.1 r.0
 
-  untaken_by : (k : Refusal) (r : Answer A) → and_then r (λ a us. Ok (f a, us)) ≡ Err k → r ≡ Err k
-  untaken_by k (Ok r) h = absurd cc
-  untaken_by k (Err r) h = let x : r ≡ k = cc in ap (λ (z : Refusal). Err z) x
-
   -- it was refused before something was made of it
   pub untaken : (e : ReadRefusal) → Failed (made p f) e old new → Failed p e old new
   untaken NoMemory r = r
-  untaken (Refused k) r = (untaken_by k (p old.last old.ahead) r.0, r.1)
+  untaken (Refused k) r = (err_of f (p old.last old.ahead) k r.0, r.1)
 
 -- nothing is left to read
 pub all_read : {A : Type 0} (r : Reader A) (start here : Cursor) (v b : A) → Left r start (pure v) here → v ≡ b → Reached r start b here

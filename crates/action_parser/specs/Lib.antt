@@ -1,5 +1,4 @@
 pub mod Readings
-pub mod Spelled
 pub mod Full
 pub mod Selections
 pub mod Lists

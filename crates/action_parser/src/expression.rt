@@ -2,7 +2,7 @@
 //!
 //! Each function is told how many more levels may be opened, and how many more names may be bound.
 
-ghost use Rattle.std.specs.Prelude.{◌≡◌, ◌<◌, IfOk, IfSome, map, option_map};
+ghost use Rattle.std.specs.Prelude.{◌<◌, IfOk, IfSome, option_map};
 ghost use Rattle.text_tokens.specs.Steps.{Gives, another};
 ghost use Rattle.text_tokens.specs.Reading.{behind_sign};
 ghost use Rattle.action_tree.specs.Views.{guard_of, sum_of, part_of, term_of, port_of};

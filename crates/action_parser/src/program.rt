@@ -1,6 +1,6 @@
 //! Variables, actions and whole programs.
 
-ghost use Rattle.std.specs.Prelude.{◌≡◌, ◌<◌, IfOk, IfSome, map, option_map};
+ghost use Rattle.std.specs.Prelude.{◌<◌, IfOk, IfSome, map, option_map};
 ghost use Rattle.text_tokens.specs.Steps.{Gives, TellsOf, ReadsOf, another};
 ghost use Rattle.text_tokens.specs.Reading.{no_limit, limited, at_most};
 ghost use Rattle.amoebot_state.specs.Limits.{most_vars};

@@ -1,6 +1,6 @@
 //! Statements, and the movement behind them.
 
-ghost use Rattle.std.specs.Prelude.{◌≡◌, ◌<◌, IfOk, IfSome, map, option_map};
+ghost use Rattle.std.specs.Prelude.{◌≡◌, ◌<◌, IfOk, IfSome, option_map};
 ghost use Rattle.text_tokens.specs.Steps.{Gives, another};
 ghost use Rattle.text_tokens.specs.Reading.{behind_sign};
 ghost use Rattle.action_tree.specs.Trees as tree;

@@ -6,10 +6,9 @@ ghost use Rattle.text_tokens.specs.Steps.{Gives};
 ghost use Rattle.action_tree.specs.Trees as tree;
 ghost use Rattle.action_tree.specs.Views.{name_of, literal_of, dirterm_of, guard_of, port_of, move_of, term_of};
 ghost use Rattle.text_tokens.specs.Cursor.{next_passes};
-ghost use Rattle.action_grammar.specs.Roles.{is_a, is_test, is_plus_or_minus};
+ghost use Rattle.action_grammar.specs.Roles.{is_a, is_test, is_plus_or_minus, switch_by, end_by, atom_by, test_by, side_by, port_move_by, cmp_by};
 ghost use Rattle.action_grammar.specs.ExpressionReaders as spec;
 ghost use Rattle.action_parser.specs.Readings as reading;
-ghost use Rattle.action_parser.specs.Spelled as spelled;
 
 use crate::roles::{is_next, token};
 use action_grammar::Role;
@@ -126,7 +125,7 @@ pub fn switch(tokens: &mut Tokens<'_>) -> Result<bool, ReadRefusal>
 }
 
 fn end_of(word: &[u8]) -> End
-    ensures { result ≡ spelled.end_by word.now }
+    ensures { result ≡ end_by word.now }
 {
     if word == b"tail".as_slice() {
         End::Tail
@@ -136,7 +135,7 @@ fn end_of(word: &[u8]) -> End
 }
 
 fn cmp_of(sign: &[u8]) -> Cmp
-    ensures { result ≡ spelled.cmp_by sign.now }
+    ensures { result ≡ cmp_by sign.now }
 {
     if sign == b"!=".as_slice() {
         Cmp::Ne
@@ -154,14 +153,14 @@ fn cmp_of(sign: &[u8]) -> Cmp
 }
 
 fn is_on(word: &[u8]) -> bool
-    ensures { result ≡ spelled.switch_by word.now }
+    ensures { result ≡ switch_by word.now }
 {
     word == b"on".as_slice()
 }
 
 /// The guard that this word is.
 pub fn atom(word: &[u8]) -> Guard
-    ensures { guard_of result ≡ tree.atom (spelled.atom_by word.now) }
+    ensures { guard_of result ≡ tree.atom (atom_by word.now) }
 {
     if word == b"false".as_slice() {
         Guard::False
@@ -176,7 +175,7 @@ pub fn atom(word: &[u8]) -> Guard
 
 /// What this word asks of a port.
 pub fn tested(word: &[u8], port: PortExpr) -> Guard
-    ensures { guard_of result ≡ tree.tested (spelled.test_by word.now) (port_of port) }
+    ensures { guard_of result ≡ tree.tested (test_by word.now) (port_of port) }
 {
     if word == b"free".as_slice() {
         Guard::Free(port)
@@ -193,7 +192,7 @@ pub fn tested(word: &[u8], port: PortExpr) -> Guard
 
 /// The direction at a port that this word means.
 pub fn direction(word: &[u8], port: PortExpr) -> Term
-    ensures { term_of result ≡ tree.direction (spelled.side_by word.now) (port_of port) }
+    ensures { term_of result ≡ tree.direction (side_by word.now) (port_of port) }
 {
     if word == b"peer_dir".as_slice() {
         Term::PeerDir(port)
@@ -204,7 +203,7 @@ pub fn direction(word: &[u8], port: PortExpr) -> Term
 
 /// The movement through a port that this word means.
 pub fn moved_through(word: &[u8], port: PortExpr) -> Move
-    ensures { move_of result ≡ tree.through (spelled.port_move_by word.now) (port_of port) }
+    ensures { move_of result ≡ tree.through (port_move_by word.now) (port_of port) }
 {
     if word == b"push".as_slice() {
         Move::Push(port)

@@ -5,6 +5,7 @@ use Rattle.std.specs.List.{list_all}
 use Rattle.std.proofs.lemmas.Bool.{ltb-true, or_left, or_right, and_parts}
 use Rattle.amoebot_state.specs.declared.bot.End.{End}
 use Rattle.amoebot_state.specs.declared.bot.End.TheVariants.{Head, Tail}
+use Rattle.amoebot_state.specs.Ports.{end_word}
 use Rattle.text_tokens.specs.declared.token.TokenKind.TheVariants.{Word, Sign}
 use Rattle.text_tokens.specs.declared.refusal.RefusalKind.{RefusalKind}
 use Rattle.text_tokens.specs.Text.{is_letter, is_word_byte, is_sign, Lexeme}
@@ -22,11 +23,11 @@ use Rattle.action_tree.specs.Writable.{is_dirterm}
 use Rattle.action_grammar.specs.declared.role.Role.{Role}
 use Rattle.action_grammar.specs.declared.role.Role.TheVariants.{AName, ANumber, PlusSign, MinusSign, CompareSign, AtomWord, QuantifierWord, TestWord, FreeWord, PortsWord, SideWord, EndWord, ThroughWord, SwitchWord}
 use Rattle.action_grammar.specs.Roles as roles
-use Rattle.action_grammar.specs.Roles.{look_up, role_by, role, same_role, is_a, is_test, is_set, is_plus_or_minus, as_name, as_literal, as_dirterm, as_set, as_switch, as_end, as_atom, as_quantifier, as_test, as_side, as_port_move, as_cmp}
+use Rattle.action_grammar.specs.Roles.{role_by, role, same_role, is_a, is_test, is_set, is_plus_or_minus, as_name, as_literal, as_dirterm, as_set, as_switch, as_end, as_atom, as_quantifier, as_test, as_side, as_port_move, as_cmp, switch_by}
 use Rattle.action_grammar.specs.Expressions.{IsA, bound_at, IsMinus}
 use Rattle.action_grammar.proofs.Naming.{names}
 use Rattle.action_grammar.proofs.Playing.{plays, is_in}
-use Rattle.action_print.specs.Canon.{atom_word, quantifier_word, set_word, test_word, cmp_sign, side_word, end_word, move_word, literal_word, dirterm_word, first_sign, further_sign}
+use Rattle.action_print.specs.Canon.{atom_word, quantifier_word, set_word, test_word, cmp_sign, side_word, move_word, literal_word, dirterm_word, first_sign, further_sign}
 use Rattle.text_tokens.proofs.PrintedTokens.{kind_of, IsOneToken, word_is_token, sign_is_token, word_kind}
 use Rattle.text_tokens.proofs.Respelling.{Rereads, rereads_by, rereads_none, IsSpelled, rereads_one, number_token, number_kind, spelled_number}
 
@@ -131,8 +132,8 @@ a_port_move expand = rereads_by (λ t. t) (λ xs t p. p) (λ t s. rw s.text refl
 a_port_move push = rereads_by (λ t. t) (λ xs t p. p) (λ t s. rw s.text refl) (a_word free_of ThroughWord (codes "push") refl refl)
 a_port_move pull = rereads_by (λ t. t) (λ xs t p. p) (λ t s. rw s.text refl) (a_word free_of ThroughWord (codes "pull") refl refl)
 
-pub a_switch : (on : Bool) (w : List ℕ) → is_word w ≡ true → role_by (kind_of w) w ≡ SwitchWord → roles.look_up false (roles.entry (codes "on") true ∷ []) w ≡ on → Rereads (IsA SwitchWord) (λ t. as_switch t ≡ on) (w ∷ [])
-a_switch on w e plays is = rereads_by (λ t. t) (λ xs t p. p) (λ t s. ap (roles.look_up false (roles.entry (codes "on") true ∷ [])) s.text ∙ is) (a_word free_of SwitchWord w plays e)
+pub a_switch : (on : Bool) (w : List ℕ) → is_word w ≡ true → role_by (kind_of w) w ≡ SwitchWord → switch_by w ≡ on → Rereads (IsA SwitchWord) (λ t. as_switch t ≡ on) (w ∷ [])
+a_switch on w e plays is = rereads_by (λ t. t) (λ xs t p. p) (λ t s. ap switch_by s.text ∙ is) (a_word free_of SwitchWord w plays e)
 
 pub a_comparison : (c : Cmp) → Rereads (IsA CompareSign) (λ t. as_cmp t ≡ c) (cmp_sign c ∷ [])
 a_comparison Eq = rereads_by (λ t. t) (λ xs t p. p) (λ t s. rw s.text refl) (a_sign free_of CompareSign (codes "=") refl refl refl)

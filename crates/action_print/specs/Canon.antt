@@ -2,8 +2,7 @@
 use Rattle.std.specs.Prelude.{ℕ, Bool, true, false, List, [], ◌∷◌, ◌++◌, codes, decimal, map}
 use Rattle.std.specs.List.{flat_map}
 use Rattle.text_tokens.specs.Lines.{Words, section_text}
-use Rattle.amoebot_state.specs.declared.bot.End.{End}
-use Rattle.amoebot_state.specs.declared.bot.End.TheVariants.{Head, Tail}
+use Rattle.amoebot_state.specs.Ports.{end_word}
 use Rattle.action_tree.specs.declared.expression.PortSet.{PortSet}
 use Rattle.action_tree.specs.declared.expression.PortSet.TheVariants as set
 use Rattle.action_tree.specs.declared.expression.Cmp.{Cmp}
@@ -45,10 +44,6 @@ cmp_sign Ge = codes ">="
 abbrev pub side_word : Side → List ℕ
 side_word own_side = codes "dir"
 side_word peer_side = codes "peer_dir"
-
-abbrev pub end_word : End → List ℕ
-end_word Head = codes "head"
-end_word Tail = codes "tail"
 
 abbrev pub move_word : PortMove → List ℕ
 move_word expand = codes "expand"

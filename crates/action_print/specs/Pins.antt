@@ -5,7 +5,7 @@ use Rattle.amoebot_state.specs.declared.bot.End.TheVariants.{Tail}
 use Rattle.action_tree.specs.declared.expression.Cmp.TheVariants.{Gt}
 use Rattle.action_tree.specs.Trees as tree
 use Rattle.action_tree.specs.Trees.{Guard, Sum, Term, Stmt, Program, atom, negation, comparison, own, number, put, if_then, no_stmts, stmts, contract, term_then}
-use Rattle.action_tree.specs.Samples.{word, literal, one, own_is, and, or, var, action, line, erosion, hexagon, every_form}
+use Rattle.action_tree.specs.Samples.{word, literal, one, yes, no, own_is, and, or, var, action, line, erosion, hexagon, every_form}
 use Rattle.action_print.specs.Canon.{guard_words, canon}
 
 -- it counts to 2, and begins again
@@ -72,12 +72,6 @@ every_form_text =
     ++ codes "action b\nwhen true\nmove expand p\naction c\nwhen true\nmove contract head\naction d\nwhen true\nmove push p\naction e\nwhen true\nmove pull p\nend\n"
 
 -- ---- parentheses
-
-abbrev yes : Guard
-yes = atom tree.always
-
-abbrev no : Guard
-no = atom tree.never
 
 abbrev both : Guard
 both = and (yes ∷ no ∷ [])

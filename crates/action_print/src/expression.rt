@@ -1,14 +1,12 @@
 //! Guards, sums and ports. They contain each other.
 
-ghost use Rattle.std.specs.Prelude.{◌≡◌, ◌∷◌, ◌++◌, [], codes, OnOk};
+ghost use Rattle.std.specs.Prelude.{◌≡◌, ◌++◌, codes, OnOk};
 ghost use Rattle.text_tokens.specs.Lines.{spaced};
 ghost use Rattle.action_tree.specs.Views.{guard_of, guards_of, name_of, port_of, sum_of, term_of, terms_of};
 ghost use Rattle.action_tree.specs.Writable as writable;
 ghost use Rattle.action_print.specs.Canon.{selection_words, conjs, guard_words, joined, parens_unless, port_words, sum_words, term_words, units};
 
-use crate::token::{
-    cmp_sign, end_word, put_between, put_dirterm, put_name, put_number, put_sign, set_word,
-};
+use crate::token::{cmp_sign, put_between, put_dirterm, put_name, put_number, put_sign, set_word};
 use action_tree::{Guard, Part, PortExpr, PortSet, Sum, Term, Word};
 use std::alloc::AllocError;
 use text_tokens::Lines;
@@ -195,7 +193,7 @@ pub fn put_port(lines: &mut Lines, port: &PortExpr) -> Result<(), AllocError>
     match port {
         PortExpr::Name(name) => put_name(lines, name),
         PortExpr::At(end, dir) => {
-            lines.word(end_word(*end))?;
+            lines.word((*end).word())?;
             put_dirterm(lines, dir)
         }
         PortExpr::Turn(inner, number) => {

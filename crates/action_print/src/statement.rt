@@ -6,7 +6,7 @@ ghost use Rattle.action_tree.specs.Views.{move_of, stmt_of, stmts_of};
 ghost use Rattle.action_print.specs.Canon.{else_words, move_words, stmt_words, stmts_words};
 
 use crate::expression::{put_guard, put_port, put_selection, put_sum};
-use crate::token::{end_word, put_between, put_name};
+use crate::token::{put_between, put_name};
 use action_tree::{Move, Stmt};
 use std::alloc::AllocError;
 use text_tokens::Lines;
@@ -88,7 +88,7 @@ pub fn put_move(lines: &mut Lines, moved: &Move) -> Result<(), AllocError>
         }
         Move::Contract(end) => {
             lines.word("contract")?;
-            lines.word(end_word(*end))
+            lines.word((*end).word())
         }
         Move::Push(port) => {
             lines.word("push")?;

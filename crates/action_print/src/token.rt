@@ -8,7 +8,6 @@ ghost use Rattle.action_print.specs.Canon.{dirterm_word, literal_word};
 ghost use Rattle.action_print.specs.Rows.{between, sign};
 
 use action_tree::{Cmp, DirTerm, Lit, PortSet, Word};
-use amoebot_state::End;
 use std::alloc::AllocError;
 use text_tokens::Lines;
 
@@ -64,16 +63,6 @@ pub fn set_word(set: PortSet) -> &'static str
     match set {
         PortSet::Ports => "ports",
         PortSet::Free => "free",
-    }
-}
-
-/// The word for an end of an amoebot.
-pub fn end_word(end: End) -> &'static str
-    ensures { result.now ≡ canon.end_word end }
-{
-    match end {
-        End::Head => "head",
-        End::Tail => "tail",
     }
 }
 

@@ -3,23 +3,15 @@ use Rattle.std.specs.Prelude.{ℕ, zero, suc, Bool, true, false, not, ◌&&◌, 
 use Rattle.action_tree.specs.declared.expression.PortSet.TheVariants.{Ports, Free}
 use Rattle.action_tree.specs.declared.expression.Cmp.TheVariants.{Lt}
 use Rattle.amoebot_state.specs.declared.bot.End.TheVariants.{Tail}
-use Rattle.action_tree.specs.Trees as tree
-use Rattle.action_tree.specs.Trees.{Guard, Sum, Term, PortExpr, Stmt, Stmts, Move, Var, Program, negation, conjunction, quantified, any, all, tested, linked, comparison, Part, terms, number, own, count, mod6, bound, at_end, fixed, turned, first, put, put_of, let_be, if_then, for_each, no_stmts, stmts, no_move, through, push}
+use Rattle.action_tree.specs.Trees.{Guard, Sum, PortExpr, Stmt, Move, Program, negation, quantified, all, tested, linked, comparison, Part, terms, number, own, count, mod6, at_end, fixed, turned, put, put_of, let_be, if_then, for_each, no_stmts, stmts, no_move, through, push}
 use Rattle.action_tree.specs.Writable.{is_writable}
-use Rattle.action_tree.specs.Samples.{word, literal, one, and, or, action, var}
+use Rattle.action_tree.specs.Samples.{word, literal, copies, one, yes, and, or, var, action, p, some_port, first_port}
 
 abbrev times : {A : Type 0} → ℕ → (A → A) → A → A
 times zero f a = a
 times (suc n) f a = f (times n f a)
 
-abbrev copies : {A : Type 0} → ℕ → A → List A
-copies zero a = []
-copies (suc n) a = a ∷ copies n a
-
 -- ---- programs with one part that matters
-
-abbrev yes : Guard
-yes = tree.atom tree.always
 
 abbrev of_action : Guard → List Stmt → Move → Program
 of_action g body moved = record { guard = true; vars = []; actions = action (codes "a") g body moved ∷ [] }
@@ -44,20 +36,11 @@ of_move r = of_action yes [] (through push r)
 
 -- ---- forms
 
-abbrev p : PortExpr
-p = bound (word (codes "p"))
-
-abbrev some : Guard → Guard
-some g = quantified any (word (codes "p")) Ports g
-
 abbrev each : Guard → Guard
 each g = quantified all (word (codes "p")) Free g
 
 abbrev counted : Guard → Sum
 counted g = one (count (word (codes "p")) Ports g)
-
-abbrev chosen : Guard → PortExpr
-chosen g = first (word (codes "p")) Ports g
 
 abbrev turn : PortExpr → PortExpr
 turn r = turned r (literal 1)
@@ -103,11 +86,11 @@ levels =
     ∷ edge (λ n. of_guard (times n (λ g. and (or (g ∷ yes ∷ []) ∷ yes ∷ [])) yes)) 32
     ∷ edge (λ n. of_guard (and (yes ∷ times n (λ g. and (yes ∷ g ∷ [])) (and (yes ∷ yes ∷ [])) ∷ []))) 31
     ∷ edge (λ n. of_guard (or (yes ∷ times n (λ g. or (yes ∷ g ∷ [])) (or (yes ∷ yes ∷ [])) ∷ []))) 31
-    ∷ edge (λ n. of_guard (times n negation (some yes))) 31
+    ∷ edge (λ n. of_guard (times n negation (some_port yes))) 31
     ∷ edge (λ n. of_sum (times n modulo (one (number (literal 0))))) 32
     ∷ edge (λ n. of_sum (times n modulo (counted yes))) 31
     ∷ edge (λ n. of_port (times n turn p)) 32
-    ∷ edge (λ n. of_port (times n turn (chosen yes))) 31
+    ∷ edge (λ n. of_port (times n turn (first_port yes))) 31
     ∷ edge (λ n. of_move (times n turn p)) 32
     ∷ edge (λ n. of_stmt (put_of (times n turn p) (word (codes "x")) (one (number (literal 0))))) 32
     ∷ edge (λ n. of_stmt (let_be (word (codes "p")) (times n turn p))) 32
@@ -121,18 +104,18 @@ levels =
 -- four names in force, and one more, by each kind of binding
 abbrev pub names : List Edge
 names =
-    edge (λ n. of_guard (times n some yes)) 4
+    edge (λ n. of_guard (times n some_port yes)) 4
     ∷ edge (λ n. of_guard (times n each yes)) 4
     ∷ edge (λ n. of_guard (times n (λ g. comparison (counted g) Lt (counted yes)) yes)) 4
-    ∷ edge (λ n. of_port (chosen (times n (λ g. tested linked (chosen g)) yes))) 3
+    ∷ edge (λ n. of_port (first_port (times n (λ g. tested linked (first_port g)) yes))) 3
     ∷ edge (λ n. of_stmt (times n (λ s. for_p (s ∷ [])) set_x)) 4
-    ∷ edge (λ n. of_stmt (for_each (word (codes "p")) Ports (times n some yes) (stmts (set_x ∷ [])))) 3
+    ∷ edge (λ n. of_stmt (for_each (word (codes "p")) Ports (times n some_port yes) (stmts (set_x ∷ [])))) 3
     ∷ edge (λ n. of_body (copies n let_p)) 4
     ∷ edge (λ n. of_body (copies n let_p ++ when_so let_p ∷ set_x ∷ [])) 3
-    ∷ edge (λ n. of_body (copies n let_p ++ let_be (word (codes "q")) (chosen yes) ∷ [])) 3
-    ∷ edge (λ n. of_stmt (let_be (word (codes "q")) (chosen (times n some yes)))) 3
+    ∷ edge (λ n. of_body (copies n let_p ++ let_be (word (codes "q")) (first_port yes) ∷ [])) 3
+    ∷ edge (λ n. of_stmt (let_be (word (codes "q")) (first_port (times n some_port yes)))) 3
     ∷ edge (λ n. of_body (for_p (copies n let_p) ∷ for_p (copies n let_p) ∷ [])) 3
-    ∷ edge (λ n. of_action yes (copies n let_p) (through push (chosen yes))) 3
+    ∷ edge (λ n. of_action yes (copies n let_p) (through push (first_port yes))) 3
     ∷ []
 
 -- 64 elements, and one more; 8 variables, 32 actions

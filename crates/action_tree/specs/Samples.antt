@@ -1,10 +1,10 @@
 -- Trees of whole programs, as their texts give them but for the lines, which are all 0.
-use Rattle.std.specs.Prelude.{ℕ, true, false, List, [], ◌∷◌, codes}
+use Rattle.std.specs.Prelude.{ℕ, zero, suc, true, false, List, [], ◌∷◌, codes}
 use Rattle.amoebot_state.specs.declared.bot.End.TheVariants.{Head, Tail}
 use Rattle.action_tree.specs.declared.expression.PortSet.TheVariants.{Ports, Free}
 use Rattle.action_tree.specs.declared.expression.Cmp.TheVariants.{Eq, Ne, Lt, Le, Gt, Ge}
 use Rattle.action_tree.specs.Trees as tree
-use Rattle.action_tree.specs.Trees.{Name, Literal, Guard, Sum, Term, PortExpr, Stmt, Stmts, Move, Var, Action, Program, atom, negation, conjunction, disjunction, quantified, any, tested, comparison, guards, term_then, no_terms, number, own, of_port, count, direction, own_side, peer_side, inner, mod6, bound, at_end, fixed, held, turned, first, put, put_of, let_be, no_stmts, stmts, no_move, through, contract, expand, pull}
+use Rattle.action_tree.specs.Trees.{Name, Literal, Guard, Sum, Term, PortExpr, Stmt, Move, Var, Action, Program, atom, negation, conjunction, disjunction, quantified, any, tested, comparison, guards, term_then, no_terms, number, own, of_port, count, direction, own_side, peer_side, inner, mod6, bound, at_end, fixed, held, turned, first, put, put_of, let_be, stmts, no_move, through, contract, expand, pull}
 
 abbrev pub word : List ℕ → Name
 word text = record { text = text; line = 0 }
@@ -14,6 +14,18 @@ literal n = record { value = n; line = 0 }
 
 abbrev pub one : Term → Sum
 one t = term_then false t no_terms
+
+-- the same so many times
+abbrev pub copies : {A : Type 0} → ℕ → A → List A
+copies zero a = []
+copies (suc n) a = a ∷ copies n a
+
+-- `true`, `false`
+abbrev pub yes : Guard
+yes = atom tree.always
+
+abbrev pub no : Guard
+no = atom tree.never
 
 abbrev pub equals : Term → Term → Guard
 equals a b = comparison (one a) Eq (one b)

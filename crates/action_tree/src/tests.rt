@@ -1,4 +1,4 @@
-ghost use Rattle.std.specs.Prelude.{◌≡◌, ◌∷◌, [], true, false, map, codes, IfOk};
+ghost use Rattle.std.specs.Prelude.{◌≡◌, true, false, map, IfOk};
 ghost use Rattle.action_tree.specs.Trees as tree;
 ghost use Rattle.action_tree.specs.Views.{name_of, guard_of, port_of, term_of, sum_of, stmt_of, move_of, action_of};
 ghost use Rattle.action_tree.specs.Words.{is_word};

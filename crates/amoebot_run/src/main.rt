@@ -1,19 +1,11 @@
 //! The program: it does what its words ask for, reads a document from standard input, and writes the answer to standard output.
 #![tactic(auto)]
 
-#[cfg(test)]
-mod reports;
-mod run;
-#[cfg(test)]
-mod samples;
-#[cfg(test)]
-mod tests;
-
 use activation::NoGate;
 use outer_io::{StdSink, StdSource};
-use run::run;
 use std::process::ExitCode;
 use std::{env, io};
+use top_calls::run;
 
 /// The status where no memory is left for the list of words.
 const NO_MEMORY: u8 = 6;

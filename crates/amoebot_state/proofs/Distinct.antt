@@ -2,7 +2,8 @@
 use Rattle.std.proofs.Common.{◌≡◌, List, [], ◌∷◌, ◌++◌, Bool, true, false, not, ◌&&◌, ◌||◌, cond, ap, sym, ◌∙◌, refl, inl, inr, append_assoc, append-nil, filter}
 use Rattle.std.specs.List.{list_any, fold}
 use Rattle.std.specs.Cmp.{IsEquivalence}
-use Rattle.std.proofs.lemmas.Bool.{cases_Bool, both_ways}
+use Rattle.std.proofs.lemmas.Bool.{and_right, cases_Bool, both_ways}
+use Rattle.std.proofs.Math.Bool.{or-false}
 use Rattle.std.proofs.lemmas.List.Folds.{list_any-append}
 use Rattle.amoebot_state.specs.Zones.{distinct}
 use Rattle.amoebot_state.specs.Storage.{with_new}
@@ -41,23 +42,15 @@ filter_both p q r both (x ∷ xs) = elim (cases_Bool (p x)) [
     | inl u ↦ ap (filter q) (filter_cons p x xs true t) ∙ filter_cons q x (filter p xs) true u ∙ ap (λ ys. x ∷ ys) (filter_both p q r both xs) ∙ sym (filter_cons r x xs true (both x ∙ ap (λ b. b && p x) u ∙ t))
     | inr f ↦ ap (filter q) (filter_cons p x xs true t) ∙ filter_cons q x (filter p xs) false f ∙ filter_both p q r both xs ∙ sym (filter_cons r x xs false (both x ∙ ap (λ b. b && p x) f))
   ]
-  | inr f ↦ ap (filter q) (filter_cons p x xs false f) ∙ filter_both p q r both xs ∙ sym (filter_cons r x xs false (both x ∙ never f (q x)))
+  | inr f ↦ ap (filter q) (filter_cons p x xs false f) ∙ filter_both p q r both xs ∙ sym (filter_cons r x xs false (both x ∙ and_right (q x) (p x) f))
 ]
-  where
-    never : {b : Bool} → b ≡ false → (a : Bool) → (a && b) ≡ false
-    never e true = e
-    never e false = refl
 
 not_or : (a b : Bool) → not (a || b) ≡ (not a && not b)
 not_or true b = refl
 not_or false b = refl
 
-pub or_false : (a : Bool) → (a || false) ≡ a
-or_false true = refl
-or_false false = refl
-
 among_more : {A : Type 0} (eq : A → A → Bool) (taken : List A) (x y : A) → is_among eq (taken ++ x ∷ []) y ≡ (is_among eq taken y || eq x y)
-among_more eq taken x y = list_any-append (λ z. eq z y) taken (x ∷ []) ∙ ap (λ b. is_among eq taken y || b) (or_false (eq x y))
+among_more eq taken x y = list_any-append (λ z. eq z y) taken (x ∷ []) ∙ ap (λ b. is_among eq taken y || b) (or-false (eq x y))
 
 -- an element that equals one of them has its equals among them too
 among_like : {A : Type 0} {eq : A → A → Bool} → IsEquivalence eq → (taken : List A) (x y : A) → eq x y ≡ true → is_among eq taken x ≡ is_among eq taken y

@@ -4,7 +4,7 @@ use Rattle.std.specs.Prelude.{IsSome, is_some, slice_get, unwrap_or, get_or}
 use Rattle.std.specs.List.{All, filter_map, fold}
 use Rattle.std.specs.Option.{option_map}
 use Rattle.std.proofs.lemmas.Bool.{cases_lt}
-use Rattle.std.proofs.lemmas.List.{take_all, take-append-drop, length-map, length-append, map-append}
+use Rattle.std.proofs.lemmas.List.{take_all, take-append-drop, length-map, length-append, map-append, take-map}
 use Rattle.std.proofs.lemmas.List.Elements.{filter_map-append, filter-append, All-contains, All-head, All-tail}
 use Rattle.std.proofs.lemmas.List.Sums.{fold-append}
 use Rattle.std.proofs.lemmas.Option.{none-some, same_Some, slice_get-map, slice_get-get_or, slice_get_past}
@@ -87,11 +87,6 @@ take-append : {A : Type 0} (m : ℕ) (xs ys : List A) → (k : ℕ) × (take m (
 take-append zero xs ys = (zero, refl)
 take-append (suc m) [] ys = (suc m, refl)
 take-append (suc m) (x ∷ xs) ys = let (k, e) = take-append m xs ys in (k, ap (λ zs. x ∷ zs) e)
-
-take-map : {A B : Type 0} (f : A → B) (m : ℕ) (xs : List A) → take m (map f xs) ≡ map f (take m xs)
-take-map f zero xs = refl
-take-map f (suc m) [] = refl
-take-map f (suc m) (x ∷ xs) = ap (λ ys. f x ∷ ys) (take-map f m xs)
 
 -- the first m cells behind the body: nodes, then bodies
 read_parts : (c : Config) (i : ℕ) (b : Bot) (m : ℕ) → (js : List ℕ) × (take m (behind_body c i b) ≡ map name.Spot (take m (zone_nodes c.area b)) ++ map name.Body js)

@@ -1,9 +1,9 @@
 -- Elements of lists.
-use Rattle.std.proofs.Common.{◌≡◌, ◌⊎◌, ◌≤◌, ◌<◌, ◌+◌, ℕ, zero, suc, List, [], ◌∷◌, ◌++◌, length, map, get_or, Bool, true, not, ap, sym, ◌∙◌, refl, subst, inl, inr, arith, Option, Some, None, filter, take}
+use Rattle.std.proofs.Common.{◌≡◌, ◌⊎◌, ◌≤◌, ◌<◌, ◌+◌, ℕ, zero, suc, List, [], ◌∷◌, ◌++◌, length, map, get_or, replicate, Bool, true, not, ap, sym, ◌∙◌, refl, subst, inl, inr, arith, Option, Some, None, filter, take}
 use Rattle.std.specs.List.{All, Contains, filter_map, cons_option}
-use Rattle.std.proofs.lemmas.Bool.{cases_Bool, both_ways}
+use Rattle.std.proofs.lemmas.Bool.{cases_Bool, cases_lt, both_ways}
 use Rattle.std.proofs.lemmas.List.Elements.{All-nil, All-cons, filter_map-append}
-use Rattle.std.proofs.lemmas.List.{append_assoc, map_more, take_more}
+use Rattle.std.proofs.lemmas.List.{append_assoc, map_more, take_more, get_or-replicate, length-replicate, get_or_past}
 use Rattle.amoebot_state.specs.Zones.{distinct}
 
 -- x is an element
@@ -159,3 +159,10 @@ more_kept h xs k d base now next y lt was grew is =
     grew ∙ ap (λ zs. zs ++ y ∷ []) was ∙ append_assoc base (filter_map h (take k xs)) (y ∷ [])
     ∙ ap (λ o. base ++ (filter_map h (take k xs) ++ cons_option o [])) (sym is)
     ∙ ap (λ zs. base ++ zs) (sym (ap (filter_map h) (take_more xs k d lt) ∙ filter_map-append h (take k xs) (get_or xs k d ∷ [])))
+
+-- a list of one element has it at each place, and past its end where it is the default
+pub one_everywhere : {A : Type 0} (n k : ℕ) (a : A) → get_or (replicate n a) k a ≡ a
+one_everywhere n k a = elim (cases_lt k n) [
+  | inl lt ↦ get_or-replicate n k a a lt
+  | inr ge ↦ let size = length-replicate n a in get_or_past (replicate n a) k a (omega arith)
+]

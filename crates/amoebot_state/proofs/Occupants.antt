@@ -1,6 +1,6 @@
 -- Occupants: the id that is found on a node.
 use Rattle.std.proofs.Common.{◌≡◌, ◌<◌, ℕ, List, [], ◌∷◌, ◌++◌, length, get_or, Bool, true, false, cond, ltb, ap, sym, ◌∙◌, refl, subst, inl, inr, arith, Option, Some, None}
-use Rattle.std.specs.Prelude.{IsTrue, is_some}
+use Rattle.std.specs.Prelude.{IsTrue, IsSome}
 use Rattle.std.specs.List.{position, position_or_len}
 use Rattle.std.proofs.lemmas.List.{get_or_append_left, get_or_push, length_push, get_or_past}
 use Rattle.std.proofs.lemmas.List.Quantifiers.{position-Some}
@@ -13,6 +13,7 @@ use Rattle.amoebot_state.specs.declared.bot.Bot.{Bot}
 use Rattle.amoebot_state.specs.Configs.{Config, IsValid, bot_at, occupant, covers}
 use Rattle.amoebot_state.specs.Refusals.{IsPlain}
 use Rattle.tri_lattice.proofs.Boxes.{near_in}
+use Rattle.amoebot_state.proofs.Options.{there_is, not_none}
 use Rattle.amoebot_state.proofs.Owns.{own_cases, covered}
 
 pub position_is : {X : Type 0} (p : X → Bool) (xs : List X) (i : ℕ) (d : X) → i < length xs → p (get_or xs i d) ≡ true → ((k : ℕ) → k < i → p (get_or xs k d) ≡ false) → position p xs ≡ Some i
@@ -60,6 +61,9 @@ id_below c i a at = elim (cases_lt i (length c.bots)) [
   | inr ge ↦ absurd (none-some a (sym (get_or_past c.bots i None (omega arith)) ∙ at))
 ]
 
+pub there_below : (c : Config) (i : ℕ) → IsSome (bot_at c i) → i < length c.bots
+there_below c i there = let is = there_is (bot_at c i) there in id_below c i is.0 is.1
+
 -- past the last id there is no amoebot, so what covers a node has an id of the list
 pub covers_below : (c : Config) (i : ℕ) (v : Node) → covers (bot_at c i) v ≡ true → i < length c.bots
 covers_below c i v e = elim (cases_lt i (length c.bots)) [
@@ -106,15 +110,12 @@ covered_in c valid i v e =
       | inr h ↦ subst (λ (u : Node). IsTrue (is_in c.area u)) h fits.tail
     ]
 
-not_in : (o : Option ℕ) → o ≡ None → IsTrue (is_some o) → ⊥
-not_in o e t = let f = ap is_some e in absurd (cc)
-
 -- a node outside the area has no occupant
 pub outside_empty : (c : Config) → IsValid c → (v : Node) → index_of c.area v ≡ None → None ≡ occupant c v
 outside_empty c valid v e =
     elim (occupant c v) as (λ o. occupant c v ≡ o → None ≡ o) [
       | None ↦ λ _. refl
-      | Some i ↦ λ is. absurd (not_in _ e (covered_in c valid i v (position-Some _ c.bots i None is).1))
+      | Some i ↦ λ is. absurd (not_none (index_of c.area v) e (covered_in c valid i v (position-Some _ c.bots i None is).1))
     ] refl
 
 -- what an amoebot in an area has to be, and what a valid configuration says of an amoebot of it

@@ -86,6 +86,12 @@ pub length_puts : (ps : List (CellName × Cell)) (bs : List Bot) → length (put
 length_puts [] bs = refl
 length_puts (p ∷ ps) bs = length_puts ps (put_bot bs p.0 p.1) ∙ length_put bs p.0 p.1
 
+body_alike : (o q : Option Bot) → option_map cell.Body o ≡ option_map cell.Body q → o ≡ q
+body_alike None None e = refl
+body_alike None (Some b) e = absurd (cc)
+body_alike (Some b) None e = absurd (cc)
+body_alike (Some b) (Some c) e = cc
+
 -- after the patch the amoebots are those of the patched configuration
 pub bots_patched : (a : Extent) (maxes : List ℕ) (bs : List Bot) (ps : List (CellName × Cell)) (new : Config) → IsPatched (config_of a maxes bs) ps new → map Some (put_bots bs ps) ≡ new.bots
 unfolding BotRight
@@ -99,14 +105,8 @@ bots_patched a maxes bs ps new patched =
     (λ cs p. fix_bot new (length bs) i lt cs p.0 p.1)
     (λ p. decide_body i p.0)
     ps bs (recursion_from_All _ ps patched.given)
-    (λ none _. bot_same _ _ (patched.kept (name.Body i) none))
+    (λ none _. body_alike _ _ (sym (patched.kept (name.Body i) none)))
     (length_puts ps bs))
-  where
-    bot_same : (o q : Option Bot) → option_map cell.Body o ≡ option_map cell.Body q → q ≡ o
-    bot_same None None e = refl
-    bot_same None (Some b) e = absurd (cc)
-    bot_same (Some b) None e = absurd (cc)
-    bot_same (Some b) (Some c) e = cc
 
 SpotRight : Config → Node → ℕ → ℕ → List (Option ℕ) → Type 0
 SpotRight new v k n g = length g ≡ n → get_or g k None ≡ occupant new v
@@ -130,9 +130,10 @@ fix_spot new v k n at lt g (name.Spot u) (cell.Spot o) good is = λ e.
     let same : u ≡ v = cc in
     fix_at o k n (index_of new.area u) (occupant new v) g (ap (index_of new.area) same ∙ at) lt (ap (occupant new) (sym same) ∙ spot_is new u o good) e
 
-pub length_put_at : (g : List (Option ℕ)) (q o : Option ℕ) → length (put_at g q o) ≡ length g
-length_put_at g None o = refl
-length_put_at g (Some k) o = length-set g k o
+-- a write by the number of a place, if it has one, keeps the length
+pub length_put_at : {A : Type 0} (xs : List A) (o : Option ℕ) (x : A) → length (put_at xs o x) ≡ length xs
+length_put_at xs None x = refl
+length_put_at xs (Some k) x = length-set xs k x
 
 length_put_spot : (a : Extent) (g : List (Option ℕ)) (m : CellName) (x : Cell) → length (put_spot a g m x) ≡ length g
 length_put_spot a g (name.Body j) x = refl
@@ -218,7 +219,8 @@ listed_or_not n decide (p ∷ ps) = elim (decide p.0) [
   ]
 ]
 
-decide_name : (n m : CellName) → (m ≡ n) ⊎ (m ≡ n → ⊥)
+-- two names are the same or not
+pub decide_name : (n m : CellName) → (m ≡ n) ⊎ (m ≡ n → ⊥)
 decide_name (name.Spot v) m = decide_spot v m
 decide_name (name.Body i) m = decide_body i m
 
@@ -231,12 +233,6 @@ values_alike old one two ps first second n = elim (listed_or_not n (decide_name 
       ∙ sym (ap (value two) (sym found.2) ∙ All-at (λ (p : CellName × Cell). value two p.0 ≡ Some p.1) ps second.given found.1)
   | inr none ↦ first.kept n none ∙ sym (second.kept n none)
 ]
-
-body_alike : (o q : Option Bot) → option_map cell.Body o ≡ option_map cell.Body q → o ≡ q
-body_alike None None e = refl
-body_alike None (Some b) e = absurd (cc)
-body_alike (Some b) None e = absurd (cc)
-body_alike (Some b) (Some c) e = cc
 
 pub patched_is_unique : PatchedIsUnique
 patched_is_unique old one two ps first second =

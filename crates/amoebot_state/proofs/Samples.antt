@@ -6,7 +6,6 @@ use Rattle.std.proofs.lemmas.List.Elements.{All-from_recursion, recursion_from_A
 use Rattle.tri_lattice.specs.Lattice.{node_eq}
 use Rattle.tri_lattice.proofs.Nodes.{node_eq-true}
 use Rattle.tri_lattice.specs.declared.node.Node.{Node}
-use Rattle.tri_lattice.specs.Extent.{Extent}
 use Rattle.amoebot_state.specs.declared.bot.Bot.{Bot}
 use Rattle.amoebot_state.specs.declared.bot.Chir.TheVariants.{Plus, Minus}
 use Rattle.amoebot_state.specs.declared.bot.End.TheVariants.{Head, Tail}
@@ -23,6 +22,7 @@ use Rattle.amoebot_state.specs.Known.{known_zone, next_cell}
 use Rattle.amoebot_state.specs.Patches.{IsPatched, diff}
 use Rattle.std.specs.Option.{option_or}
 use Rattle.amoebot_state.specs.Refusals.{bot_fault}
+use Rattle.amoebot_state.specs.Samples.{eight_by_eight}
 
 abbrev pub at : ℕ → ℕ → Node
 at x y = record { x = pos x; y = pos y }
@@ -58,15 +58,12 @@ contracted v = expanded v v
 abbrev pub against : ℕ → Node → Bot
 against rot v = record { head = v; tail = v; rot = rot; chir = Minus; mem = first 0 }
 
-abbrev pub eight : Extent
-eight = record { x0 = pos 0; y0 = pos 0; w = 8; h = 8 }
-
 -- amoebots in the area 0 0 8 8, with one variable, of 0 or 1
 abbrev pub world : List Bot → Config
-world bots = config_of eight (first 1) bots
+world bots = config_of eight_by_eight (first 1) bots
 
 abbrev pub shows : ℕ → List (CellName × Cell) → Shown
-shows i cells = record { area = eight; maxes = first 1; bot = i; cells = cells }
+shows i cells = record { area = eight_by_eight; maxes = first 1; bot = i; cells = cells }
 
 -- local directions 0 to 5, with either chirality
 directions : map (global (contracted (at 2 3))) (0 ∷ 1 ∷ 2 ∷ 3 ∷ 4 ∷ 5 ∷ []) ≡ 0 ∷ 1 ∷ 2 ∷ 3 ∷ 4 ∷ 5 ∷ []
@@ -194,19 +191,19 @@ shown_train_0 = refl
 abbrev read_train : ℕ → List (CellName × Cell)
 read_train n = take n (with_body 0 stretched ∷ held 3 3 0 ∷ held 2 3 0 ∷ free 4 3 ∷ free 3 4 ∷ free 2 4 ∷ free 3 2 ∷ free 4 2 ∷ free 1 4 ∷ held 1 3 1 ∷ free 2 2 ∷ with_body 1 (contracted (at 1 3)) ∷ [])
 
-known_of_nothing : known_zone eight 0 (read_train 0) ≡ body 0 ∷ []
+known_of_nothing : known_zone eight_by_eight 0 (read_train 0) ≡ body 0 ∷ []
 known_of_nothing = refl
 
-known_of_the_body : known_zone eight 0 (read_train 1) ≡ body 0 ∷ spot 3 3 ∷ spot 2 3 ∷ spot 4 3 ∷ spot 3 4 ∷ spot 2 4 ∷ spot 3 2 ∷ spot 4 2 ∷ spot 1 4 ∷ spot 1 3 ∷ spot 2 2 ∷ []
+known_of_the_body : known_zone eight_by_eight 0 (read_train 1) ≡ body 0 ∷ spot 3 3 ∷ spot 2 3 ∷ spot 4 3 ∷ spot 3 4 ∷ spot 2 4 ∷ spot 3 2 ∷ spot 4 2 ∷ spot 1 4 ∷ spot 1 3 ∷ spot 2 2 ∷ []
 known_of_the_body = refl
 
-known_before_the_neighbour : known_zone eight 0 (read_train 9) ≡ known_zone eight 0 (read_train 1)
+known_before_the_neighbour : known_zone eight_by_eight 0 (read_train 9) ≡ known_zone eight_by_eight 0 (read_train 1)
 known_before_the_neighbour = refl
 
-known_with_the_neighbour : known_zone eight 0 (read_train 10) ≡ body 0 ∷ spot 3 3 ∷ spot 2 3 ∷ spot 4 3 ∷ spot 3 4 ∷ spot 2 4 ∷ spot 3 2 ∷ spot 4 2 ∷ spot 1 4 ∷ spot 1 3 ∷ spot 2 2 ∷ body 1 ∷ []
+known_with_the_neighbour : known_zone eight_by_eight 0 (read_train 10) ≡ body 0 ∷ spot 3 3 ∷ spot 2 3 ∷ spot 4 3 ∷ spot 3 4 ∷ spot 2 4 ∷ spot 3 2 ∷ spot 4 2 ∷ spot 1 4 ∷ spot 1 3 ∷ spot 2 2 ∷ body 1 ∷ []
 known_with_the_neighbour = refl
 
-next_cells : map (λ n. next_cell eight 0 (read_train n)) (0 ∷ 1 ∷ 2 ∷ 9 ∷ 10 ∷ 11 ∷ 12 ∷ []) ≡ Some (body 0) ∷ Some (spot 3 3) ∷ Some (spot 2 3) ∷ Some (spot 1 3) ∷ Some (spot 2 2) ∷ Some (body 1) ∷ None ∷ []
+next_cells : map (λ n. next_cell eight_by_eight 0 (read_train n)) (0 ∷ 1 ∷ 2 ∷ 9 ∷ 10 ∷ 11 ∷ 12 ∷ []) ≡ Some (body 0) ∷ Some (spot 3 3) ∷ Some (spot 2 3) ∷ Some (spot 1 3) ∷ Some (spot 2 2) ∷ Some (body 1) ∷ None ∷ []
 next_cells = refl
 
 zone_train_1 : zone train 1 ≡ body 1 ∷ spot 1 3 ∷ spot 2 3 ∷ spot 1 4 ∷ spot 0 4 ∷ spot 0 3 ∷ spot 1 2 ∷ spot 2 2 ∷ body 0 ∷ []
@@ -235,7 +232,7 @@ zone_pulled_1 = refl
 abbrev scattered : Config
 scattered = world (contracted (at 6 6) ∷ contracted (at 2 3) ∷ contracted (at 0 0) ∷ contracted (at 3 3) ∷ [])
 
-alone_scattered : shown_alone (shown scattered 1) ≡ record { area = eight; maxes = first 1; bots = None ∷ Some (contracted (at 2 3)) ∷ None ∷ Some (contracted (at 3 3)) ∷ [] }
+alone_scattered : shown_alone (shown scattered 1) ≡ record { area = eight_by_eight; maxes = first 1; bots = None ∷ Some (contracted (at 2 3)) ∷ None ∷ Some (contracted (at 3 3)) ∷ [] }
 alone_scattered = refl
 
 alone_shows : shown (shown_alone (shown scattered 1)) 1 ≡ shown scattered 1

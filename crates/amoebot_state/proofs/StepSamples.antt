@@ -16,14 +16,15 @@ use Rattle.amoebot_state.specs.Configs.{Config, IsValid, bot_at}
 use Rattle.amoebot_state.specs.Refusals.{IsPlain, bot_fault}
 use Rattle.amoebot_state.specs.Zones.{Shown, shown}
 use Rattle.amoebot_state.specs.Patches.{IsPatched, diff}
+use Rattle.amoebot_state.specs.Samples.{eight_by_eight}
 use Rattle.amoebot_state.specs.Steps.{Step, Run, change_of}
 use Rattle.amoebot_state.proofs.Faults.{valid_one, valid_two}
 use Rattle.amoebot_state.proofs.Occupants.{plain_in}
 use Rattle.amoebot_state.proofs.Differences.{diff_leads}
-use Rattle.amoebot_state.proofs.Samples.{at, held, free, shows, with_body, first, expanded, contracted, against, eight, world, alone, alone_out, going_out, pair, marked, stretched, train, pulled, turned, turned_out}
+use Rattle.amoebot_state.proofs.Samples.{at, held, free, shows, with_body, first, expanded, contracted, against, world, alone, alone_out, going_out, pair, marked, stretched, train, pulled, turned, turned_out}
 
 -- worlds of one amoebot and of two are valid, where none has a fault
-eight_is_area : IsArea eight
+eight_is_area : IsArea eight_by_eight
 eight_is_area = record {
   x_low = omega (arith, ints);
   x_high = omega (arith, ints);
@@ -35,14 +36,14 @@ eight_is_area = record {
   h_high = omega arith;
 }
 
-pub plain : (b : Bot) → IsTrue (is_in eight b.head) → IsTrue (is_in eight b.tail) → b.rot < 6 → length b.mem ≡ 8 → IsPlain b
-plain = plain_in eight eight_is_area
+pub plain : (b : Bot) → IsTrue (is_in eight_by_eight b.head) → IsTrue (is_in eight_by_eight b.tail) → b.rot < 6 → length b.mem ≡ 8 → IsPlain b
+plain = plain_in eight_by_eight eight_is_area
 
 one_valid : (b : Bot) → IsPlain b → bot_fault (world []) b ≡ None → IsValid (world (b ∷ []))
-one_valid = valid_one eight (first 1) eight_is_area refl
+one_valid = valid_one eight_by_eight (first 1) eight_is_area refl
 
 pub two_valid : (a b : Bot) → IsPlain a → IsPlain b → bot_fault (world []) a ≡ None → bot_fault (world (a ∷ [])) b ≡ None → IsValid (world (a ∷ b ∷ []))
-two_valid = valid_two eight (first 1) eight_is_area refl
+two_valid = valid_two eight_by_eight (first 1) eight_is_area refl
 
 -- the difference of two leads from the one to the other
 one_leads : (a b : Bot) → IsValid (world (a ∷ [])) → IsValid (world (b ∷ [])) → IsPatched (world (a ∷ [])) (diff (world (a ∷ [])) (world (b ∷ []))) (world (b ∷ []))

@@ -1,5 +1,5 @@
 -- How a zone is found, and what it has.
-use Rattle.std.proofs.Common.{◌≡◌, ◌≢◌, ◌⊎◌, ◌<◌, ◌≤◌, ℕ, List, [], ◌∷◌, ◌++◌, length, map, true, false, not, ap, sym, ◌∙◌, refl, inl, inr, arith, subst, Option, Some, None, filter, nat_eq}
+use Rattle.std.proofs.Common.{◌≡◌, ◌≢◌, ◌⊎◌, ◌<◌, ◌≤◌, ℕ, List, [], ◌∷◌, ◌++◌, length, map, true, not, ap, sym, ◌∙◌, refl, inl, inr, arith, subst, Option, Some, None, filter, nat_eq}
 use Rattle.std.specs.List.{All, fold, filter_map}
 use Rattle.std.specs.Cmp.{IsEquivalence}
 use Rattle.std.proofs.lemmas.Bool.{cases_Bool, both_ways, eqb-true, eq-eqb}
@@ -9,7 +9,7 @@ use Rattle.std.proofs.lemmas.Cmp.{nat_eq_equiv}
 use Rattle.tri_lattice.specs.declared.node.Node.{Node}
 use Rattle.tri_lattice.specs.Extent.{Extent, is_in}
 use Rattle.tri_lattice.specs.Lattice.{node_eq}
-use Rattle.tri_lattice.proofs.Nodes.{node_eq-true, node_eq_same, eq-node_eq, cases_node}
+use Rattle.tri_lattice.proofs.Nodes.{node_eq-true, node_eq-false, node_eq_same, eq-node_eq, cases_node}
 use Rattle.amoebot_state.specs.declared.bot.Bot.{Bot}
 use Rattle.amoebot_state.specs.declared.bot.Port.{Port}
 use Rattle.amoebot_state.specs.Ports.{own_nodes, is_contracted, is_port, all_ports, ports, behind}
@@ -28,13 +28,10 @@ node_eq_equiv = record {
   refl = node_eq_same;
   symm = λ a b. elim (cases_node a b) [
     | inl e ↦ eq-node_eq a b e ∙ sym (eq-node_eq b a (sym e))
-    | inr ne ↦ differs a b ne ∙ sym (differs b a (λ e. ne (sym e)))
+    | inr ne ↦ node_eq-false a b ne ∙ sym (node_eq-false b a (λ e. ne (sym e)))
   ];
   congr = λ a b c e. ap (λ v. node_eq v c) (node_eq-true a b e);
 }
-  where
-    differs : (a b : Node) → (a ≡ b → ⊥) → node_eq a b ≡ false
-    differs a b ne = elim (cases_Bool (node_eq a b)) [ inl t ↦ absurd (ne (node_eq-true a b t)) | inr f ↦ f ]
 
 -- a contracted amoebot's one node, or an expanded one's two, are distinct
 own_taken_up : (b : Bot) → fold (with_new node_eq) [] (own_nodes b) ≡ own_nodes b

@@ -1,7 +1,7 @@
 -- Amoebots: their nodes, their directions and their ports. Heads and tails, and that an amoebot has one or two nodes and a port
 -- to each neighbour of them, are the paper's geometric variant; rotations, the numbers and the order of ports are this project's
 -- profile.
-use Rattle.std.specs.Prelude.{ℕ, ◌+◌, ◌-◌, ◌%◌, List, [], ◌∷◌, Bool, true, false, not, ◌&&◌, ◌||◌, if◌then◌else◌, filter, nat_lt}
+use Rattle.std.specs.Prelude.{ℕ, ◌+◌, ◌-◌, ◌%◌, List, [], ◌∷◌, Bool, true, false, not, ◌&&◌, ◌||◌, if◌then◌else◌, filter, nat_lt, codes}
 use Rattle.tri_lattice.specs.declared.node.Node.{Node}
 use Rattle.tri_lattice.specs.Lattice.{step, node_eq, is_adjacent}
 use Rattle.amoebot_state.specs.declared.bot.Bot.{Bot}
@@ -51,6 +51,11 @@ behind b p = step (end_node b p.end) (global b p.dir)
 abbrev pub is_head : End → Bool
 is_head Head = true
 is_head Tail = false
+
+-- the word for an end
+abbrev pub end_word : End → List ℕ
+end_word Head = codes "head"
+end_word Tail = codes "tail"
 
 -- contracted: the six pairs of the head; expanded: the pairs of both ends that lead to no node of its
 -- own (the paper's geometric variant)

@@ -37,6 +37,10 @@ IsExact f = (c : Config) (i : ℕ) (change : Change) → Changes f c i change �
 abbrev pub change_of : Entry → Change
 change_of e = record { action = e.action; moved = e.moved; patch = e.patch }
 
+-- the entry of a change, with its caller, its turn and its amoebot
+abbrev pub entry_of : ℕ → ℕ → ℕ → Change → Entry
+entry_of caller turn bot change = record { caller = caller; turn = turn; bot = bot; action = change.action; moved = change.moved; patch = change.patch }
+
 -- an activation of the model, whole in one step: f decides the entry's change on what the old configuration shows to the entry's
 -- amoebot, which is there, and its patch leads from the old configuration to the new one
 pub record Step (f : Shown → Verdict) (old : Config) (e : Entry) (new : Config) : Type 0 where

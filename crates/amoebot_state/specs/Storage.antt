@@ -1,4 +1,4 @@
--- How a world writes into its lists. No public clause cites these.
+-- How a world writes into its lists. No public clause of this crate cites these.
 use Rattle.std.specs.Prelude.{ℕ, List, [], ◌∷◌, ◌++◌, Bool, not, ◌&&◌, if◌then◌else◌, slice_set, nat_eq}
 use Rattle.std.specs.List.{list_any, fold}
 use Rattle.std.specs.declared.option.Option.{Option}
@@ -18,10 +18,10 @@ use Rattle.amoebot_state.specs.declared.cell.Cell.TheVariants as cell
 abbrev pub with_new : {A : Type 0} → (A → A → Bool) → List A → A → List A
 with_new eq xs x = if list_any (λ y. eq y x) xs then xs else xs ++ x ∷ []
 
--- the occupants with o at a number
-abbrev pub put_at : List (Option ℕ) → Option ℕ → Option ℕ → List (Option ℕ)
-put_at g None o = g
-put_at g (Some k) o = slice_set g k o
+-- the list with x at that number
+abbrev pub put_at : {A : Type 0} → List A → Option ℕ → A → List A
+put_at xs None x = xs
+put_at xs (Some k) x = slice_set xs k x
 
 -- the amoebots after one pair of a patch
 abbrev pub put_bot : List Bot → CellName → Cell → List Bot

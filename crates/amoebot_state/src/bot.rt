@@ -1,6 +1,6 @@
 ghost use Rattle.std.specs.Prelude.{◌≡◌, ◌<◌, true};
 ghost use Rattle.tri_lattice.specs.Lattice.{IsNear};
-ghost use Rattle.amoebot_state.specs.Ports.{global, local, is_port, behind, end_node, is_contracted, is_own};
+ghost use Rattle.amoebot_state.specs.Ports.{global, local, is_port, behind, end_node, end_word, is_contracted, is_own};
 
 use tri_lattice::{Dir, Node};
 
@@ -18,6 +18,18 @@ pub enum End {
     #[default]
     Head,
     Tail,
+}
+
+impl End {
+    /// Its word in texts.
+    pub fn word(self) -> &'static str
+        ensures { result.now ≡ end_word self }
+    {
+        match self {
+            End::Head => "head",
+            End::Tail => "tail",
+        }
+    }
 }
 
 /// A pair of an end and a local direction. Of which amoebots it is a port says `Bot::is_port`.

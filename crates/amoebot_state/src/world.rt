@@ -1,4 +1,4 @@
-ghost use Rattle.std.specs.Prelude.{ℕ, ◌≡◌, ◌⊎◌, ◌+◌, ◌∷◌, ◌++◌, ◌<◌, ◌≤◌, [], OnOk, IfOk, IfErr, length, map, IsSome, Decides};
+ghost use Rattle.std.specs.Prelude.{ℕ, ◌≡◌, ◌⊎◌, ◌+◌, ◌++◌, ◌<◌, ◌≤◌, [], OnOk, IfOk, IfErr, length, map, IsSome, Decides};
 ghost use Rattle.std.specs.List.{All, filter_map};
 ghost use Rattle.amoebot_state.specs.Limits.{most_bots, node_room, cell_room};
 ghost use Rattle.amoebot_state.specs.Configs.{Config, IsValid, bot_at, occupant, config_of, with_bot};

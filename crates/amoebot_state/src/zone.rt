@@ -1,5 +1,4 @@
 ghost use Rattle.std.specs.Prelude.{◌≡◌, ◌<◌, ◌≤◌, ◌+◌, nat_eq};
-ghost use Rattle.std.specs.List.{list_any};
 ghost use Rattle.tri_lattice.specs.Lattice.{node_eq};
 ghost use Rattle.amoebot_state.specs.Limits.{node_room};
 ghost use Rattle.amoebot_state.specs.Ports.{own_nodes};
@@ -66,15 +65,9 @@ fn push_new_node(nodes: &mut Nodes, node: Node)
     ensures value { nodes.new.items ≡ with_new node_eq nodes.old.items node }
     ensures few { array_vec_len nodes.new ≤ array_vec_len nodes.old + 1 }
 {
-    if !has_node(nodes.as_slice(), node) {
+    if !nodes.as_slice().contains(&node) {
         nodes.push(node);
     }
-}
-
-fn has_node(nodes: &[Node], node: Node) -> bool
-    ensures { result ≡ list_any (λ other. node_eq other node) nodes.now }
-{
-    nodes.iter().any(|other| *other == node)
 }
 
 /// Adds an occupant, where there is one that is another amoebot than `id` and not there yet.
@@ -95,13 +88,7 @@ fn push_new_id(ids: &mut Ids, id: u16)
     ensures value { ids.new.items ≡ with_new nat_eq ids.old.items id }
     ensures few { array_vec_len ids.new ≤ array_vec_len ids.old + 1 }
 {
-    if !has_id(ids.as_slice(), id) {
+    if !ids.as_slice().contains(&id) {
         ids.push(id);
     }
-}
-
-fn has_id(ids: &[u16], id: u16) -> bool
-    ensures { result ≡ list_any (λ other. nat_eq other id) ids.now }
-{
-    ids.iter().any(|other| *other == id)
 }

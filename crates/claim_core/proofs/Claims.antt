@@ -14,6 +14,7 @@ use Rattle.amoebot_state.specs.Configs.{Config, bot_at, value}
 use Rattle.amoebot_state.specs.Known.{next_cell}
 use Rattle.amoebot_state.specs.Zones.{Shown, zone}
 use Rattle.amoebot_state.proofs.Members.{Has, here, Has-append_right}
+use Rattle.amoebot_state.proofs.Patched.{length_put_at}
 use Rattle.claim_core.specs.declared.state.Look.TheVariants as look
 use Rattle.claim_core.specs.declared.state.Phase.{Phase}
 use Rattle.claim_core.specs.declared.state.Phase.TheVariants.{Claim, Refusing, Looking, Taking}
@@ -22,7 +23,7 @@ use Rattle.claim_core.specs.Cells.{number, at, values_of, held_by}
 use Rattle.claim_core.specs.Machine.{Setup, State, bot, own_tag, found, next_of, decided, after_win, won, wins, with_caller}
 use Rattle.claim_core.specs.Soundness.{IsSetup, names, IsCommitting, marked, IsTurn, AreBefore, IsRefused, IsDecided, HasFront, IsHeld, CallerOk, Sound}
 use Rattle.claim_core.proofs.Tags.{tag-positive}
-use Rattle.claim_core.proofs.Places.{at-put_here, at-put_else, at-put_cases, length-put}
+use Rattle.claim_core.proofs.Places.{at-put_here, at-put_else, at-put_cases}
 use Rattle.claim_core.proofs.Numbers.{same_number, value_at}
 use Rattle.claim_core.proofs.Fronts.{Valued, names-more, zone_value, next_is, whole_shown}
 use Rattle.claim_core.proofs.Frames.{own_stays}
@@ -107,7 +108,7 @@ module _ (g : Setup) (ok : IsSetup g) (old : State) (s : Sound g old) (c : ℕ) 
   -- the cell is won
   pub wins-sound : (n : CellName) (x : Cell) → k.phase ≡ Claim → next_of g own k.held ≡ Some n → at old.tags (number g.world.area n) ≡ Some 0 → at old.values (number g.world.area n) ≡ Some x → Sound g (wins g c old k n (Some x))
   wins-sound n x p next free found_x =
-      plain new next_k mv refl refl (length-put old.tags (number g.world.area n) (own_tag g c k.turn)) (mine (next_of g own more) refl)
+      plain new next_k mv refl refl (length_put_at old.tags (number g.world.area n) (own_tag g c k.turn)) (mine (next_of g own more) refl)
       (λ d j ne at o. (still d j.turn j.held o.held, λ h. h))
       (λ m u has some. elim (at-put_cases old.tags (number g.world.area n) (number g.world.area m) (own_tag g c k.turn) u has) [
         | inl same ↦ inl (subst (Contains (names more)) (sym (same_number g.world.area old.tags n m 0 free same.0)) last_held)

@@ -20,17 +20,14 @@ use Rattle.claim_core.specs.Good.{IsWorldAt}
 use Rattle.claim_core.specs.Cells.{number, at}
 use Rattle.claim_core.specs.Machine.{Setup, State, bot, found, entry, next_of, wins, claims, finds, tries, takes, releases, by_phase, acts, next, after, commit_of, commit_by, committed}
 use Rattle.claim_core.specs.Soundness.{HasFront, Sound}
-use Rattle.claim_core.specs.Reached.{entries_of}
+use Rattle.claim_core.specs.Reached.{entries_of, placed, IsShownAt}
 use Rattle.claim_core.specs.Laws.{CommittedIsJournal, CommittedIsShown}
 use Rattle.claim_core.proofs.Stays.{IsWorldAt-append, world_last}
 use Rattle.claim_core.proofs.Fronts.{whole_shown}
 use Rattle.claim_core.proofs.Holding.{framed, same_area, valued}
 use Rattle.claim_core.proofs.Sounds.{always}
 
--- an entry with its place, and an entry
-abbrev placed : Committed → ℕ × Entry
-placed p = (p.place, p.entry)
-
+-- an entry without its place
 abbrev entry_in : Committed → Entry
 entry_in p = p.entry
 
@@ -140,10 +137,7 @@ committed_is_journal g c (d ∷ steps) =
       | inr f ↦ rw f (ih ∙ sym (other_entries g c d s (slice_get s.callers d) (next g d s).journal f grown))
     ]
 
--- what was found is what the world at the place shows
-abbrev IsShownAt : Setup → List Entry → Committed → Type 0
-IsShownAt g journal p = (world : Config) × IsWorldAt g.verdict g.world journal p.place world × (p.found ≡ shown world p.entry.bot)
-
+-- what was found stays shown when the journal grows
 still_shown : (g : Setup) (journal more : List Entry) (ps : List Committed) → All (IsShownAt g journal) ps → All (IsShownAt g (journal ++ more)) ps
 still_shown g journal more ps all = All-weaker (IsShownAt g journal) (IsShownAt g (journal ++ more)) (λ p is. (is.0, IsWorldAt-append g.verdict g.world is.0 journal more p.place is.1, is.2)) ps all
 

@@ -31,7 +31,7 @@ use Rattle.claim_core.proofs.Stays.{slice_get-pushed, world_last}
 use Rattle.claim_core.proofs.Places.{one_at}
 use Rattle.claim_core.proofs.Numbers.{value_patched, values-patched, length-patched}
 use Rattle.claim_core.proofs.Nexts.{frees-marks, frees-held}
-use Rattle.claim_core.proofs.Fronts.{reverse-more, held_named}
+use Rattle.claim_core.proofs.Fronts.{held_named}
 use Rattle.claim_core.proofs.Frames.{IsFramed, run_framed, own_stays}
 use Rattle.claim_core.proofs.Moved.{Moves, moved, told, told_by, told_stays, mine_now, right_same, right_push, within_stays}
 use Rattle.claim_core.proofs.Holding.{framed, same_area, is_known, one_owner}

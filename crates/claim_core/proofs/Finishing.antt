@@ -1,5 +1,5 @@
 -- Rounds until all callers have ended.
-use Rattle.std.proofs.Common.{◌≡◌, ℕ, zero, suc, ◌<◌, ◌≤◌, List, length, inl, inr, ap, sym, refl, subst, ◌∙◌, arith}
+use Rattle.std.proofs.Common.{◌≡◌, ℕ, zero, suc, ◌<◌, ◌≤◌, List, length, inl, inr, ap, sym, subst, ◌∙◌, arith}
 use Rattle.std.proofs.lemmas.Bool.{cases_eq}
 use Rattle.amoebot_state.specs.declared.verdict.Verdict.{Verdict}
 use Rattle.amoebot_state.specs.Zones.{Shown}
@@ -24,9 +24,6 @@ module _ {D : Type 0} (verdict : D → Shown → Verdict) (old : Running D) wher
   -- in the middle of a round there are as many callers as lists
   pub callers_there : (now : Running D) (n : ℕ) → IsSetup g → Sound g old.state → now ≡ record old { state = steps_below g n old.state } → length now.state.callers ≡ length old.lists.ids
   callers_there now n ok sound is = ap (λ (r : Running D). length r.state.callers) is ∙ (below_sound g ok old.state sound n).callers
-
-  pub begins : IsUnderway verdict old old
-  begins = record { count = 0; state = refl; first = λ n lt. absurd (omega arith) }
 
   -- a round more
   pub goes_on : (now next : Running D) → IsUnderway verdict old now → (HaveEnded now.state → ⊥) → next ≡ record now { state = round (setup_of verdict now) now.state } → IsUnderway verdict old next

@@ -1,13 +1,12 @@
 -- What a run leaves of a configuration: its area, its maxima and its ids; and that the lists' amoebots are there.
-use Rattle.std.proofs.Common.{◌≡◌, ℕ, ◌*◌, ◌%◌, ◌<◌, ◌≤◌, List, [], ◌∷◌, length, None, inl, inr, ap, sym, refl, subst, ◌∙◌, arith}
+use Rattle.std.proofs.Common.{◌≡◌, ℕ, ◌*◌, ◌%◌, ◌<◌, ◌≤◌, List, [], ◌∷◌, length, ap, sym, refl, subst, ◌∙◌, arith}
 use Rattle.std.specs.Prelude.{IsSome, is_some}
-use Rattle.std.proofs.lemmas.Bool.{cases_lt, false≢true}
-use Rattle.std.proofs.lemmas.List.{get_or_past}
 use Rattle.amoebot_state.specs.declared.verdict.Entry.{Entry}
 use Rattle.amoebot_state.specs.declared.verdict.Verdict.{Verdict}
 use Rattle.amoebot_state.specs.Configs.{Config, IsValid, bot_at}
 use Rattle.amoebot_state.specs.Zones.{Shown}
-use Rattle.amoebot_state.specs.Steps.{Run}
+use Rattle.amoebot_state.specs.Steps.{Step, Run}
+use Rattle.amoebot_state.proofs.Occupants.{there_below}
 use Rattle.claim_core.specs.Turns.{list_of}
 use Rattle.claim_core.specs.Machine.{Setup, bot}
 use Rattle.claim_core.specs.Soundness.{IsSetup}
@@ -19,17 +18,30 @@ pub record IsFramed (old new : Config) : Type 0 where
   pub size : length new.bots ≡ length old.bots
   pub ids : (i : ℕ) → is_some (bot_at new i) ≡ is_some (bot_at old i)
 
+-- it is so of itself
+pub framed_first : (old : Config) → IsValid old → IsFramed old old
+framed_first old valid = record { valid = valid; rest = refl; size = refl; ids = λ i. refl }
+
+module _ (f : Shown → Verdict) (old : Config) where
+  -- a step leaves such a configuration
+  pub framed_step : (mid new : Config) (e : Entry) → IsFramed old mid → Step f mid e new → IsFramed old new
+  framed_step mid new e framed step =
+      let is = step.patched in
+      record {
+        valid = is.valid;
+        rest = is.rest ∙ ap (λ (c : Config). let d : Config = record c { bots = new.bots } in d) framed.rest;
+        size = is.size ∙ framed.size;
+        ids = λ i. is.ids i ∙ framed.ids i;
+      }
+
+  -- and so does a run from one
+  pub framed_on : (mid new : Config) (es : List Entry) → IsFramed old mid → Run f mid es new → IsFramed old new
+  framed_on mid new [] framed run = subst (λ (c : Config). IsFramed old c) (sym run) framed
+  framed_on mid new (e ∷ es) framed (next, step, run) = framed_on next new es (framed_step mid next e framed step) run
+
+-- from a valid one a run leaves such a configuration of it
 pub run_framed : (f : Shown → Verdict) (old new : Config) (es : List Entry) → IsValid old → Run f old es new → IsFramed old new
-run_framed f old new [] valid run = subst (IsFramed old) (sym run) (record { valid = valid; rest = refl; size = refl; ids = λ i. refl })
-run_framed f old new (e ∷ es) valid run =
-    let is = run.1.patched in
-    let more = run_framed f run.0 new es is.valid run.2 in
-    record {
-      valid = more.valid;
-      rest = more.rest ∙ ap (λ (c : Config). let d : Config = record c { bots = new.bots } in d) is.rest;
-      size = more.size ∙ is.size;
-      ids = λ i. more.ids i ∙ is.ids i;
-    }
+run_framed f old new es valid run = framed_on f old old new es (framed_first old valid) run
 
 module _ (g : Setup) (ok : IsSetup g) (c t : ℕ) (known : c < length g.lists.ids) where
   -- the amoebot of a turn is there
@@ -44,10 +56,7 @@ module _ (g : Setup) (ok : IsSetup g) (c t : ℕ) (known : c < length g.lists.id
 
   -- and its number is small
   pub own_small : bot g c t < 4096
-  own_small = elim (cases_lt (bot g c t) (length g.world.bots)) [
-    | inl lt ↦ omega (arith, ok.few)
-    | inr le ↦ absurd (false≢true (ap is_some (sym (get_or_past g.world.bots (bot g c t) None le)) ∙ own_there))
-  ]
+  own_small = omega (arith, ok.few, there_below g.world (bot g c t) own_there)
 
 -- so are the numbers of turns
 product_bound : (n m k : ℕ) → 0 < n → n * m ≤ k → m ≤ k

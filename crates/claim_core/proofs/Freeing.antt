@@ -4,7 +4,7 @@ use Rattle.std.specs.Prelude.{slice_get, IsSome, nat_lt, if◌then◌else◌}
 use Rattle.std.specs.List.{All, AllPairs, Contains}
 use Rattle.std.proofs.lemmas.Bool.Decides.{nat_tests}
 use Rattle.std.proofs.lemmas.List.{append-nil, append_assoc}
-use Rattle.std.proofs.lemmas.List.Elements.{All-nil, All-cons, All-head, All-tail, All-push, All-weaker, All-get_or, Contains-append_left}
+use Rattle.std.proofs.lemmas.List.Elements.{All-nil, All-head, All-tail, All-push, All-get_or, Contains-append_left}
 use Rattle.std.proofs.lemmas.List.Quantifiers.{all_pairs_push}
 use Rattle.amoebot_state.specs.declared.cell.CellName.{CellName}
 use Rattle.amoebot_state.specs.declared.cell.CellName.TheVariants as name
@@ -16,6 +16,7 @@ use Rattle.amoebot_state.proofs.Fronts.{slice_get_behind}
 use Rattle.amoebot_state.proofs.Zones.{zone_is}
 use Rattle.amoebot_state.proofs.Members.{Has, Contains-from_Has, here, Has-append_right}
 use Rattle.amoebot_state.proofs.Options.{there_is}
+use Rattle.amoebot_state.proofs.Patched.{length_put_at}
 use Rattle.claim_core.specs.declared.marks.Mark.{Mark}
 use Rattle.claim_core.specs.declared.marks.Mark.TheVariants as mark
 use Rattle.claim_core.specs.declared.state.Look.{Look}
@@ -25,14 +26,14 @@ use Rattle.claim_core.specs.declared.state.Caller.{Caller}
 use Rattle.claim_core.specs.Good.{IsWorldAt, HasInZone, place_of, place_after}
 use Rattle.claim_core.specs.Cells.{number, at}
 use Rattle.claim_core.specs.Machine.{Setup, State, bot, own_tag, opens, frees, looks, looked, refused, releases}
-use Rattle.claim_core.specs.Soundness.{IsSetup, names, verdict_of, IsCommitting, marked, IsTurn, AreBefore, IsHolder, TurnOkSoFar, IsDecided, IsFreeing, HasFront, IsHeld, CallerOk, Sound}
+use Rattle.claim_core.specs.Soundness.{IsSetup, names, IsCommitting, marked, IsTurn, TurnOkSoFar, IsFreeing, HasFront, IsHeld, CallerOk, Sound}
 use Rattle.claim_core.proofs.Stays.{world_last}
-use Rattle.claim_core.proofs.Places.{at-put_else, at-put_cases, length-put}
+use Rattle.claim_core.proofs.Places.{at-put_else, at-put_cases}
 use Rattle.claim_core.proofs.Numbers.{same_number}
 use Rattle.claim_core.proofs.Nexts.{frees-marks, frees-held}
-use Rattle.claim_core.proofs.Fronts.{names-more, not_twice, length-names}
+use Rattle.claim_core.proofs.Fronts.{names-more, not_twice}
 use Rattle.claim_core.proofs.Frames.{IsFramed, own_stays}
-use Rattle.claim_core.proofs.Moved.{Moves, right_same, right_push, holder_stays, within_stays, world_stays}
+use Rattle.claim_core.proofs.Moved.{Moves, right_same, right_push}
 use Rattle.claim_core.proofs.Holding.{framed, is_known, one_owner}
 use Rattle.claim_core.proofs.Claims.{same_held, plain, not_holder}
 
@@ -163,7 +164,7 @@ module _ (g : Setup) (ok : IsSetup g) (old : State) (s : Sound g old) (c : ℕ) 
   -- the cell that was won last is freed
   pub releases_sound : (p : CellName × Cell) (held : Pairs) → k.phase ≡ Releasing → k.held ≡ p ∷ held → Sound g (releases g c old k (p ∷ held))
   releases_sound p held ph is_held =
-      plain g ok old s c k there new next mv refl refl (length-put old.tags (number g.world.area (cell_of p)) 0) (frees_ok g ok new s.last (framed g ok old s) c k.turn held k.marks marked_now)
+      plain g ok old s c k there new next mv refl refl (length_put_at old.tags (number g.world.area (cell_of p)) 0) (frees_ok g ok new s.last (framed g ok old s) c k.turn held k.marks marked_now)
       (λ d j ne found o. (still d j found ne, λ h. h))
       (λ n u has some. elim (at-put_cases old.tags (number g.world.area (cell_of p)) (number g.world.area n) 0 u has) [
         | inl same ↦ absurd (some (sym same.1))

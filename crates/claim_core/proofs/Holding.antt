@@ -1,5 +1,5 @@
 -- Who holds a cell: its tag names the holder's turn, and another caller does not hold it.
-use Rattle.std.proofs.Common.{◌≡◌, ◌≢◌, ℕ, ◌+◌, ◌<◌, ◌≤◌, ◌⊎◌, List, [], ◌∷◌, ◌++◌, map, length, Option, Some, None, inl, inr, ap, sym, refl, subst, ◌∙◌, arith, length-append}
+use Rattle.std.proofs.Common.{◌≡◌, ◌≢◌, ℕ, ◌+◌, ◌<◌, ◌⊎◌, ◌∷◌, ◌++◌, length, Some, inl, inr, ap, sym, refl, subst, ◌∙◌, arith}
 use Rattle.std.specs.Prelude.{slice_get}
 use Rattle.std.specs.List.{All, Contains}
 use Rattle.std.proofs.lemmas.List.Elements.{All-contains, All-weaker, Contains-append_left}
@@ -15,7 +15,7 @@ use Rattle.claim_core.specs.declared.state.Caller.{Caller}
 use Rattle.claim_core.specs.Tags.{tag_caller, tag_turn, tag_bot}
 use Rattle.claim_core.specs.Cells.{number, at}
 use Rattle.claim_core.specs.Machine.{Setup, State, bot, own_tag, next_of}
-use Rattle.claim_core.specs.Soundness.{IsSetup, names, Holds, HasHeld, IsHolder, IsTurn, AreBefore, IsFreeing, HasFront, IsHeld, CallerOk, Sound}
+use Rattle.claim_core.specs.Soundness.{IsSetup, names, Holds, HasHeld, IsHolder, IsTurn, AreBefore, HasFront, IsHeld, CallerOk, Sound}
 use Rattle.claim_core.proofs.Tags.{tag-parts, one_caller}
 use Rattle.claim_core.proofs.Places.{one_at}
 use Rattle.claim_core.proofs.Fronts.{Valued, name_of_held, next_is, not_twice}

@@ -19,8 +19,10 @@ use Rattle.amoebot_state.specs.declared.cell.Cell.TheVariants as cell
 use Rattle.amoebot_state.specs.Pairs.{Pairs, cell_of, cell_value}
 use Rattle.amoebot_state.specs.Configs.{Config, bot_at, bot_of, blank, occupant, value}
 use Rattle.amoebot_state.specs.Patches.{IsPatched, all_cells}
-use Rattle.claim_core.specs.Cells.{number, at, put, held_by, values_of, name_eq, given, patched}
-use Rattle.claim_core.proofs.Places.{at-put_here, at-put_else, length-put, get-append_left, get-append_right, same_by_get}
+use Rattle.amoebot_state.specs.Storage.{put_at}
+use Rattle.amoebot_state.proofs.Patched.{length_put_at}
+use Rattle.claim_core.specs.Cells.{number, at, held_by, values_of, name_eq, given, patched}
+use Rattle.claim_core.proofs.Places.{at-put_here, at-put_else, get-append_left, get-append_right, same_by_get}
 
 -- the test of names is equality
 pub name_eq-true : (n m : CellName) → name_eq n m ≡ true → n ≡ m
@@ -171,7 +173,7 @@ held_patched old new ps is n = split (given ps n) refl
 -- the values after a patch
 pub length-patched : (a : Extent) (ps : Pairs) (xs : List Cell) → length (patched a ps xs) ≡ length xs
 length-patched a [] xs = refl
-length-patched a (p ∷ ps) xs = length-put (patched a ps xs) (number a p.0) p.1 ∙ length-patched a ps xs
+length-patched a (p ∷ ps) xs = length_put_at (patched a ps xs) (number a p.0) p.1 ∙ length-patched a ps xs
 
 pub at-patched : (a : Extent) (ps : Pairs) (xs : List Cell) (n : CellName) (x : Cell) → at xs (number a n) ≡ Some x → at (patched a ps xs) (number a n) ≡ Some (unwrap_or (given ps n) x)
 at-patched a [] xs n x e = e
@@ -180,7 +182,7 @@ at-patched a (p ∷ ps) xs n x e =
     elim (cases_Bool (name_eq p.0 n)) [
       | inl t ↦
           let same = ap (number a) (name_eq-true p.0 n t) in
-          ap (λ o. at (put (patched a ps xs) o p.1) (number a n)) same ∙ at-put_here (patched a ps xs) (number a n) p.1 _ rest ∙ ap (λ b. Some (unwrap_or (if b then Some p.1 else given ps n) x)) (sym t)
+          ap (λ o. at (put_at (patched a ps xs) o p.1) (number a n)) same ∙ at-put_here (patched a ps xs) (number a n) p.1 _ rest ∙ ap (λ b. Some (unwrap_or (if b then Some p.1 else given ps n) x)) (sym t)
       | inr f ↦
           at-put_else (patched a ps xs) (number a p.0) (number a n) p.1 (λ same. both_ways _ f (ap (λ m. name_eq m n) (same_number a xs n p.0 x e (sym same)) ∙ name_eq_same n))
           ∙ rest ∙ ap (λ b. Some (unwrap_or (if b then Some p.1 else given ps n) x)) (sym f)

@@ -2,7 +2,8 @@
 use Rattle.std.proofs.Common.{◌≡◌, ℕ, zero, suc, ◌+◌, ◌<◌, ◌⊎◌, List, [], ◌∷◌, ◌++◌, map, length, get_or, set, Option, Some, None, inl, inr, ap, sym, refl, ◌∙◌, arith}
 use Rattle.std.specs.Prelude.{slice_get}
 use Rattle.std.proofs.lemmas.Option.{same_Some, none-some, slice_get_within}
-use Rattle.claim_core.specs.Cells.{at, put}
+use Rattle.amoebot_state.specs.Storage.{put_at}
+use Rattle.claim_core.specs.Cells.{at}
 
 pub get-set_here : {A : Type 0} (xs : List A) (i : ℕ) (x : A) → i < length xs → slice_get (set xs i x) i ≡ Some x
 get-set_here [] i x inside = absurd (omega arith)
@@ -53,20 +54,16 @@ same_by_get (x ∷ xs) (y ∷ ys) alike all = λ i. same_Some x y (all 0 y refl)
 
 -- the same by numbers of cells
 module _ {A : Type 0} where
-  pub length-put : (xs : List A) (o : Option ℕ) (x : A) → length (put xs o x) ≡ length xs
-  length-put xs None x = refl
-  length-put xs (Some k) x = lib.ListN.length-set xs k x
-
-  pub at-put_here : (xs : List A) (o : Option ℕ) (x y : A) → at xs o ≡ Some y → at (put xs o x) o ≡ Some x
+  pub at-put_here : (xs : List A) (o : Option ℕ) (x y : A) → at xs o ≡ Some y → at (put_at xs o x) o ≡ Some x
   at-put_here xs None x y e = absurd (none-some y e)
   at-put_here xs (Some k) x y e = get-set_here xs k x (slice_get_within xs k y e)
 
-  pub at-put_else : (xs : List A) (o p : Option ℕ) (x : A) → (p ≡ o → ⊥) → at (put xs o x) p ≡ at xs p
+  pub at-put_else : (xs : List A) (o p : Option ℕ) (x : A) → (p ≡ o → ⊥) → at (put_at xs o x) p ≡ at xs p
   at-put_else xs None p x other = refl
   at-put_else xs (Some k) None x other = refl
   at-put_else xs (Some k) (Some j) x other = get-set_else xs k j x (λ e. other (ap Some e))
 
-  pub at-put_cases : (xs : List A) (o p : Option ℕ) (x y : A) → at (put xs o x) p ≡ Some y → ((p ≡ o) × (x ≡ y)) ⊎ ((p ≡ o → ⊥) × (at xs p ≡ Some y))
+  pub at-put_cases : (xs : List A) (o p : Option ℕ) (x y : A) → at (put_at xs o x) p ≡ Some y → ((p ≡ o) × (x ≡ y)) ⊎ ((p ≡ o → ⊥) × (at xs p ≡ Some y))
   at-put_cases xs None None x y e = absurd (none-some y e)
   at-put_cases xs None (Some j) x y e = inr ((λ h. none-some j (sym h)), e)
   at-put_cases xs (Some k) None x y e = absurd (none-some y e)

@@ -1,5 +1,5 @@
 -- Each round takes the callers nearer to their end.
-use Rattle.std.proofs.Common.{◌≡◌, ◌≢◌, ℕ, zero, suc, ◌+◌, ◌-◌, ◌*◌, ◌<◌, ◌≤◌, ◌⊎◌, Bool, true, false, List, [], ◌∷◌, ◌++◌, map, length, set, Option, Some, None, inl, inr, ap, sym, refl, subst, ◌∙◌, arith, length-append, nat_eq, ltb-true}
+use Rattle.std.proofs.Common.{◌≡◌, ℕ, zero, suc, ◌+◌, ◌-◌, ◌*◌, ◌<◌, ◌≤◌, ◌⊎◌, Bool, true, false, List, [], ◌∷◌, ◌++◌, map, length, set, Option, Some, None, inl, inr, ap, sym, refl, subst, ◌∙◌, arith, length-append, nat_eq, ltb-true}
 use Rattle.std.specs.Prelude.{slice_get, nat_lt, if◌then◌else◌, IsSome}
 use Rattle.std.specs.List.{filter}
 use Rattle.std.proofs.lemmas.List.Sums.{length-filter}
@@ -33,7 +33,7 @@ use Rattle.claim_core.specs.declared.state.Phase.{Phase}
 use Rattle.claim_core.specs.declared.state.Phase.TheVariants.{Claim, Refusing, Looking, Taking, Committing, Releasing, Ended}
 use Rattle.claim_core.specs.declared.state.Caller.{Caller}
 use Rattle.claim_core.specs.Cells.{number, at, values_of, held_by}
-use Rattle.claim_core.specs.Machine.{Setup, State, bot, next_of, decided, after_win, won, wins, claims, finds, tries, frees, opens, looks, takes, commits, releases, renewed, by_phase, acts, next, fresh, opening, after, with_caller}
+use Rattle.claim_core.specs.Machine.{Setup, State, bot, next_of, decided, after_win, won, wins, claims, finds, tries, frees, opens, looks, takes, releases, renewed, by_phase, acts, next, fresh, after, with_caller}
 use Rattle.claim_core.specs.Soundness.{IsSetup, IsTurn, names, HasFront, IsCommitting, CallerOk, Sound}
 use Rattle.claim_core.specs.Reached.{HaveEnded}
 use Rattle.claim_core.specs.Laws.{RoundsEnd}

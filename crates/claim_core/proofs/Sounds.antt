@@ -11,7 +11,7 @@ use Rattle.amoebot_state.specs.Pairs.{Pairs}
 use Rattle.claim_core.specs.declared.state.Phase.{Phase}
 use Rattle.claim_core.specs.declared.state.Phase.TheVariants.{Claim, Refusing, Looking, Taking, Committing, Releasing, Ended}
 use Rattle.claim_core.specs.declared.state.Caller.{Caller}
-use Rattle.claim_core.specs.Good.{place_of, place_after}
+use Rattle.claim_core.specs.Good.{place_after}
 use Rattle.claim_core.specs.Cells.{number, at, values_of}
 use Rattle.claim_core.specs.Machine.{Setup, State, bot, next_of, wins, claims, finds, tries, takes, releases, by_phase, acts, next, fresh, opening, after}
 use Rattle.claim_core.specs.Soundness.{IsSetup, CallerOk, Sound}

@@ -23,6 +23,7 @@ use Rattle.amoebot_state.specs.Refusals.{IsPlain}
 use Rattle.amoebot_state.specs.Known.{next_cell}
 use Rattle.amoebot_state.specs.Zones.{Shown, IsShown, shown}
 use Rattle.amoebot_state.specs.Steps.{Run}
+use Rattle.amoebot_state.specs.Storage.{put_at}
 use Rattle.claim_core.specs.declared.marks.Mark.{Mark}
 use Rattle.claim_core.specs.declared.marks.Mark.TheVariants as mark
 use Rattle.claim_core.specs.declared.machine.Seat.{Seat}
@@ -33,7 +34,7 @@ use Rattle.claim_core.specs.Limits.{most_turns}
 use Rattle.claim_core.specs.Turns.{CallerLists, MarkLists, Kept}
 use Rattle.claim_core.specs.Tags.{tag, tag_caller}
 use Rattle.claim_core.specs.declared.state.Look.{Look}
-use Rattle.claim_core.specs.Cells.{number, at, put, held_by, values_of, patched}
+use Rattle.claim_core.specs.Cells.{number, at, held_by, values_of, patched}
 use Rattle.claim_core.specs.Machine.{Setup, State, bot, own_tag, entry, renewed, looks, looked, refused, found, next_of, after_win, won, wins, claims, finds, tries, with_caller, frees, takes, releases, by_phase, acts, next, after}
 use Rattle.claim_core.specs.Soundness.{IsSetup, IsTurn, IsRefused, marked, IsDecided, HasFront, IsHeld, Sound}
 use Rattle.claim_core.specs.Cores.{Running, setup_of, stepped, phase_after, IsCell, HasPhase, IsUnmarked, looks_at, caller_with, callers_with, Frees, unmarked, state_of, IsCore}
@@ -194,7 +195,7 @@ module _ {verdict : Shown → Verdict} {lists : CallerLists} {tags : List ℕ} {
         let numbered : number journal.first.area n ≡ Some num = ap (λ a. number a n) (sym same_extent) ∙ at_n in
         let callers : callers_with (set seats i new) marks.marks ≡ slice_set old.callers c (frees g seat.turn (reverse left.held.items) own_marks) =
         seats_put new ∙ ap (slice_set old.callers c) (frees-is g left new own_marks freed ∙ ap (λ t. frees g t (reverse left.held.items) own_marks) turn) in
-        (λ j. record old { tags = put tags (sym numbered j) 0; callers = callers j }) ∙ sym (next_in phase.Releasing ph ∙ ap (releases g c old k) last)
+        (λ j. record old { tags = put_at tags (sym numbered j) 0; callers = callers j }) ∙ sym (next_in phase.Releasing ph ∙ ap (releases g c old k) last)
 
     -- what is held by a caller in Releasing
     pub holds_some : seat.phase ≡ phase.Releasing → 0 < length seat.held.items
@@ -317,7 +318,7 @@ module _ {verdict : Shown → Verdict} {lists : CallerLists} {tags : List ℕ} {
                   held = (ap reverse held ∙ reverse-append seat.held.items ((n, held_by world n) ∷ [])) l;
                   marks = own_marks;
                 } in
-                (λ j. record old { tags = put tags (sym numbered j) (tag c seat.turn own); callers = (seats_put new ∙ ap (slice_set old.callers c) mine) j })
+                (λ j. record old { tags = put_at tags (sym numbered j) (tag c seat.turn own); callers = (seats_put new ∙ ap (slice_set old.callers c) mine) j })
                 ∙ sym (claims_it ∙ ap (λ b. if b then wins g c old k n (at old.values (number journal.first.area n)) else with_caller g old c (record k { phase = phase.Refusing n t })) (eq-eqb t 0 free) ∙ ap (wins g c old k n) valued)
               where
                 same_phase : (o : Option CellName) → phase_after verdict (found g own ((n, held_by world n) ∷ k.held)) o ≡ after_win g own ((n, held_by world n) ∷ k.held) o

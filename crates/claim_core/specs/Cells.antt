@@ -1,5 +1,5 @@
 -- The cells of a configuration, by their numbers, and what they hold.
-use Rattle.std.specs.Prelude.{ℕ, ◌+◌, ◌*◌, List, [], ◌∷◌, Bool, false, map, nat_eq, if◌then◌else◌, slice_get, slice_set}
+use Rattle.std.specs.Prelude.{ℕ, ◌+◌, ◌*◌, ◌^◌, List, [], ◌∷◌, Bool, false, length, map, nat_eq, if◌then◌else◌, slice_get}
 use Rattle.std.specs.declared.option.Option.{Option}
 use Rattle.std.specs.declared.option.Option.TheVariants.{Some, None}
 use Rattle.tri_lattice.specs.Lattice.{node_eq}
@@ -9,6 +9,7 @@ use Rattle.amoebot_state.specs.declared.cell.CellName.TheVariants as name
 use Rattle.amoebot_state.specs.declared.cell.Cell.{Cell}
 use Rattle.amoebot_state.specs.declared.cell.Cell.TheVariants as cell
 use Rattle.amoebot_state.specs.Pairs.{Pairs, cell_of, cell_value}
+use Rattle.amoebot_state.specs.Storage.{put_at}
 use Rattle.amoebot_state.specs.Configs.{Config, bot_of, occupant}
 use Rattle.amoebot_state.specs.Patches.{all_cells}
 
@@ -17,15 +18,18 @@ abbrev pub number : Extent → CellName → Option ℕ
 number a (name.Spot v) = index_of a v
 number a (name.Body i) = Some (a.w * a.h + i)
 
+-- how many cells there are
+abbrev pub cells : Config → ℕ
+cells c = c.area.w * c.area.h + length c.bots
+
+-- a bound of how many there are, with much to spare
+abbrev pub cell_bound : ℕ
+cell_bound = 2 ^ 33
+
 -- what a list has at a number, if it has
 abbrev pub at : {A : Type 0} → List A → Option ℕ → Option A
 at xs None = None
 at xs (Some k) = slice_get xs k
-
--- the list with x at that number
-abbrev pub put : {A : Type 0} → List A → Option ℕ → A → List A
-put xs None x = xs
-put xs (Some k) x = slice_set xs k x
 
 -- what a cell holds
 abbrev pub held_by : Config → CellName → Cell
@@ -51,4 +55,4 @@ given (p ∷ ps) n = if name_eq (cell_of p) n then Some (cell_value p) else give
 -- the values with those of a patch in its cells
 abbrev pub patched : Extent → Pairs → List Cell → List Cell
 patched a [] values = values
-patched a (p ∷ ps) values = put (patched a ps values) (number a (cell_of p)) (cell_value p)
+patched a (p ∷ ps) values = put_at (patched a ps values) (number a (cell_of p)) (cell_value p)

@@ -17,7 +17,7 @@ use Rattle.claim_core.specs.declared.state.Phase.TheVariants as phase
 use Rattle.claim_core.specs.Limits.{most_turns}
 use Rattle.claim_core.specs.Turns.{CallerLists, MarkLists, Kept}
 use Rattle.claim_core.specs.Cells.{values_of}
-use Rattle.claim_core.specs.Machine.{Setup, State, decided, looks, next, opening, after}
+use Rattle.claim_core.specs.Machine.{Setup, State, decided, looks, next, opening, setup, after}
 use Rattle.claim_core.specs.Soundness.{IsSetup}
 use Rattle.claim_core.specs.Reached.{HaveEnded}
 use Rattle.claim_core.specs.Rounds.{rounds, rounds_enough}
@@ -30,7 +30,7 @@ pub record Running (D : Type 0) : Type 0 where
 
 -- what the run is about
 abbrev pub setup_of : {D : Type 0} → (D → Shown → Verdict) → Running D → Setup
-setup_of verdict r = record { verdict = verdict r.decider; world = r.first; lists = r.lists }
+setup_of verdict r = setup (verdict r.decider) r.first r.lists
 
 -- the core after a step of a caller
 abbrev pub stepped : {D : Type 0} → (D → Shown → Verdict) → ℕ → Running D → Running D
@@ -38,7 +38,7 @@ stepped verdict c r = record r { state = next (setup_of verdict r) c r.state }
 
 -- the core before the first step
 abbrev pub opened : {D : Type 0} → (D → Shown → Verdict) → D → Config → CallerLists → Running D
-opened verdict decider first lists = record { decider = decider; first = first; lists = lists; state = opening (record { verdict = verdict decider; world = first; lists = lists }) }
+opened verdict decider first lists = record { decider = decider; first = first; lists = lists; state = opening (setup (verdict decider) first lists) }
 
 -- the core after so many rounds, of which the last one is the first by which all callers have ended
 pub record IsFinished {D : Type 0} (verdict : D → Shown → Verdict) (old new : Running D) : Type 0 where

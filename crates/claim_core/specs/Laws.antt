@@ -14,7 +14,6 @@ use Rattle.claim_core.specs.declared.marks.Mark.TheVariants as mark
 use Rattle.claim_core.specs.declared.report.Report.{Report}
 use Rattle.claim_core.specs.declared.state.Phase.TheVariants.{Ended}
 use Rattle.claim_core.specs.declared.state.Caller.{Caller}
-use Rattle.claim_core.specs.declared.state.Committed.{Committed}
 use Rattle.claim_core.specs.Limits.{most_turns}
 use Rattle.claim_core.specs.Turns.{CallerLists}
 use Rattle.claim_core.specs.Good.{IsWorldAt, Good, mark_of_turn}
@@ -23,7 +22,7 @@ use Rattle.claim_core.specs.Tags.{tag, tag_caller, tag_turn, tag_bot}
 use Rattle.claim_core.specs.Cells.{number, at}
 use Rattle.claim_core.specs.Machine.{Setup, State, next, after, committed}
 use Rattle.claim_core.specs.Soundness.{IsSetup, Sound, names}
-use Rattle.claim_core.specs.Reached.{HaveEnded, IsReportOf, Reached, entries_of}
+use Rattle.claim_core.specs.Reached.{HaveEnded, IsReportOf, Reached, entries_of, placed, IsShownAt}
 use Rattle.claim_core.specs.Rounds.{rounds, rounds_enough}
 
 -- a tag tells its caller, its turn and its amoebot, and is not 0
@@ -49,11 +48,11 @@ EntryIsDecided = (g : Setup) → IsSetup g → (steps : List ℕ) (place : ℕ) 
 
 -- what is kept beside the state as committed by a caller is the caller's entries of the journal, each with its place
 abbrev pub CommittedIsJournal : Type 0
-CommittedIsJournal = (g : Setup) (c : ℕ) (steps : List ℕ) → map (λ (p : Committed). (p.place, p.entry)) (committed g c steps) ≡ entries_of c 0 (after g steps).journal
+CommittedIsJournal = (g : Setup) (c : ℕ) (steps : List ℕ) → map placed (committed g c steps) ≡ entries_of c 0 (after g steps).journal
 
 -- and with what the run shows the entry's amoebot there
 abbrev pub CommittedIsShown : Type 0
-CommittedIsShown = (g : Setup) → IsSetup g → (c : ℕ) (steps : List ℕ) → All (λ (p : Committed). (world : Config) × IsWorldAt g.verdict g.world (after g steps).journal p.place world × (p.found ≡ shown world p.entry.bot)) (committed g c steps)
+CommittedIsShown = (g : Setup) → IsSetup g → (c : ℕ) (steps : List ℕ) → All (IsShownAt g (after g steps).journal) (committed g c steps)
 
 -- in a good report of at most one list no turn is Busy
 abbrev pub OneListIsNeverBusy : Type 0

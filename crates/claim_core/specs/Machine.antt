@@ -12,6 +12,8 @@ use Rattle.amoebot_state.specs.Pairs.{Pairs, cell_of, cell_value}
 use Rattle.amoebot_state.specs.Configs.{Config}
 use Rattle.amoebot_state.specs.Zones.{Shown}
 use Rattle.amoebot_state.specs.Known.{next_cell}
+use Rattle.amoebot_state.specs.Steps.{entry_of}
+use Rattle.amoebot_state.specs.Storage.{put_at}
 use Rattle.claim_core.specs.declared.marks.Mark.{Mark}
 use Rattle.claim_core.specs.declared.marks.Mark.TheVariants as mark
 use Rattle.claim_core.specs.declared.state.Look.{Look}
@@ -22,13 +24,17 @@ use Rattle.claim_core.specs.declared.state.Caller.{Caller}
 use Rattle.claim_core.specs.declared.state.Committed.{Committed}
 use Rattle.claim_core.specs.Turns.{CallerLists, bot_of_turn}
 use Rattle.claim_core.specs.Tags.{tag, tag_caller, tag_turn, tag_bot}
-use Rattle.claim_core.specs.Cells.{number, at, put, values_of, given, patched}
+use Rattle.claim_core.specs.Cells.{number, at, values_of, given, patched}
 
 -- what a run is about: the decider's meaning, the world that it begins with, and the callers' lists
 pub record Setup : Type 0 where
   pub verdict : Shown → Verdict
   pub world : Config
   pub lists : CallerLists
+
+-- what callers with these lists do from a world
+abbrev pub setup : (Shown → Verdict) → Config → CallerLists → Setup
+setup verdict world lists = record { verdict = verdict; world = world; lists = lists }
 
 -- the tag and the value of each cell, by the cells' numbers; the journal, and the caller that holds it, if one does; the callers
 pub record State : Type 0 where
@@ -102,7 +108,7 @@ module _ (g : Setup) where
   -- a claim: the cell is free and is won, or it has another's tag
   abbrev pub wins : ℕ → State → Caller → CellName → Option Cell → State
   wins c s k n None = s
-  wins c s k n (Some x) = record s { tags = put s.tags (number g.world.area n) (own_tag c k.turn); callers = slice_set s.callers c (won c k n x) }
+  wins c s k n (Some x) = record s { tags = put_at s.tags (number g.world.area n) (own_tag c k.turn); callers = slice_set s.callers c (won c k n x) }
 
   abbrev pub claims : ℕ → State → Caller → CellName → ℕ → State
   claims c s k n t = if nat_eq t 0 then wins c s k n (at s.values (number g.world.area n)) else with_caller s c (record k { phase = Refusing n t })
@@ -126,7 +132,7 @@ module _ (g : Setup) where
 
   -- the entry of a turn
   abbrev pub entry : ℕ → ℕ → Change → Entry
-  entry c t change = record { caller = c; turn = t; bot = bot c t; action = change.action; moved = change.moved; patch = change.patch }
+  entry c t change = entry_of c t (bot c t) change
 
   -- a commit, all in one step
   abbrev pub commits : ℕ → State → Caller → Change → State
@@ -141,7 +147,7 @@ module _ (g : Setup) where
   -- the release of the cell that was won last
   abbrev pub releases : ℕ → State → Caller → Pairs → State
   releases c s k [] = s
-  releases c s k (p ∷ held) = record s { tags = put s.tags (number g.world.area (cell_of p)) 0; callers = slice_set s.callers c (frees k.turn held k.marks) }
+  releases c s k (p ∷ held) = record s { tags = put_at s.tags (number g.world.area (cell_of p)) 0; callers = slice_set s.callers c (frees k.turn held k.marks) }
 
   -- the step of a caller in each phase
   abbrev pub by_phase : ℕ → State → Caller → Phase → State

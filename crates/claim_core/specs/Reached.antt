@@ -3,9 +3,12 @@ use Rattle.std.specs.Prelude.{◌≡◌, ℕ, ◌+◌, List, [], ◌∷◌, leng
 use Rattle.std.specs.List.{All}
 use Rattle.amoebot_state.specs.declared.verdict.Entry.{Entry}
 use Rattle.amoebot_state.specs.Configs.{Config, bot_at}
+use Rattle.amoebot_state.specs.Zones.{shown}
 use Rattle.claim_core.specs.declared.report.Report.{Report}
 use Rattle.claim_core.specs.declared.state.Phase.TheVariants.{Ended}
 use Rattle.claim_core.specs.declared.state.Caller.{Caller}
+use Rattle.claim_core.specs.declared.state.Committed.{Committed}
+use Rattle.claim_core.specs.Good.{IsWorldAt}
 use Rattle.claim_core.specs.Cells.{values_of}
 use Rattle.claim_core.specs.Machine.{Setup, State, after}
 use Rattle.claim_core.specs.Soundness.{marks_so_far}
@@ -44,3 +47,11 @@ pub record Reached (g : Setup) (report : Report) : Type 0 where
 abbrev pub entries_of : ℕ → ℕ → List Entry → List (ℕ × Entry)
 entries_of c place [] = []
 entries_of c place (e ∷ es) = if nat_eq e.caller c then (place, e) ∷ entries_of c (place + 1) es else entries_of c (place + 1) es
+
+-- an entry with its place
+abbrev pub placed : Committed → ℕ × Entry
+placed p = (p.place, p.entry)
+
+-- what was found for an entry is what the run shows its amoebot at its place
+abbrev pub IsShownAt : Setup → List Entry → Committed → Type 0
+IsShownAt g journal p = (world : Config) × IsWorldAt g.verdict g.world journal p.place world × (p.found ≡ shown world p.entry.bot)

@@ -1,5 +1,5 @@
 -- The callers' lists, the journal and the marks, as contracts see them.
-use Rattle.std.specs.Prelude.{ℕ, ◌<◌, ◌≤◌, ◌*◌, ◌%◌, List, [], length, slice_index, slice_index_or}
+use Rattle.std.specs.Prelude.{ℕ, ◌<◌, ◌≤◌, ◌*◌, ◌%◌, List, [], length, replicate, slice_index, slice_index_or}
 use Rattle.std.specs.List.{All}
 use Rattle.amoebot_state.specs.Configs.{Config}
 use Rattle.amoebot_state.specs.declared.verdict.Entry.{Entry}
@@ -50,3 +50,7 @@ pub record MarkLists : Type 0 where
 
 abbrev pub marks_of : MarkLists → ℕ → List Mark
 marks_of m caller = slice_index_or m.marks caller []
+
+-- the marks of so many callers that have none
+abbrev pub no_marks : ℕ → ℕ → MarkLists
+no_marks callers turns = record { turns = turns; marks = replicate callers [] }

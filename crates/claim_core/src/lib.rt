@@ -2,14 +2,17 @@
 //! claims, decisions, commits and releases step.
 #![tactic(auto)]
 
+mod cells;
 mod journal;
 mod laws;
 mod lists;
 mod machine;
 mod marks;
+mod owner;
 mod report;
 mod state;
 
+pub use cells::{cell_number, cells_of};
 pub use journal::Journal;
 pub use laws::{
     committed_is_journal, committed_is_shown, ended_stays, entry_is_decided, held_by_one,
@@ -20,5 +23,6 @@ pub use laws::{
 pub use lists::Lists;
 pub use machine::Core;
 pub use marks::{Mark, Marks};
+pub use owner::{tag, tag_bot, tag_caller, tag_turn};
 pub use report::Report;
 pub use state::{Caller, Committed, Look, Phase};

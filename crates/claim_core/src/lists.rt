@@ -1,5 +1,6 @@
-ghost use Rattle.std.specs.Prelude.{◌≡◌, ◌+◌, ◌*◌, ◌<◌, ◌≤◌, ◌∷◌, ◌++◌, [], length, IfOk, OnOk, OnErr};
+ghost use Rattle.std.specs.Prelude.{◌≡◌, ◌+◌, ◌<◌, ◌∷◌, ◌++◌, [], length, IfOk, OnOk, OnErr};
 ghost use Rattle.claim_core.specs.Turns.{CallerLists, IsList, AreFew, AreLists, bot_of_turn};
+ghost use Rattle.claim_core.specs.SerialRuns.{all_turns};
 
 use amoebot_state::NoMemory;
 use std::alloc::Global;
@@ -71,6 +72,13 @@ impl Lists {
         ensures { result ≡ self.now.turns }
     {
         self.turns
+    }
+
+    /// How many turns all callers have together.
+    pub fn all_turns(&self) -> u32
+        ensures { result ≡ all_turns self.now }
+    {
+        u32::from(self.callers()) * self.turns()
     }
 
     /// The amoebot of a caller's turn. A caller goes through its list again and again.

@@ -1,11 +1,11 @@
-ghost use Rattle.std.specs.Prelude.{◌≡◌, ◌<◌, ◌≤◌, ◌+◌, ◌∷◌, ◌++◌, [], List, length, reverse, map, IfOk, IsSome, slice_get, Some, None, IfSome, IsTrue, ◌↔◌};
+ghost use Rattle.std.specs.Prelude.{◌≡◌, ◌<◌, ◌+◌, length, map, IfOk, IsSome, slice_get, Some, None, IfSome, IsTrue, ◌↔◌};
 ghost use Rattle.amoebot_state.specs.Pairs.{body_in};
 ghost use Rattle.amoebot_state.specs.Refusals.{IsPlain};
 ghost use Rattle.amoebot_state.specs.Zones.{IsShown};
 ghost use Rattle.amoebot_state.specs.Known.{next_cell};
 ghost use Rattle.std.specs.List.{All};
-ghost use Rattle.claim_core.specs.Tags.{tag, tag_caller, tag_turn, tag_bot};
-ghost use Rattle.claim_core.specs.Cells.{number, held_by};
+ghost use Rattle.claim_core.specs.Tags.{tag_caller};
+ghost use Rattle.claim_core.specs.Cells.{held_by};
 ghost use Rattle.claim_core.specs.Machine.{decided, refused, looked, next};
 ghost use Rattle.amoebot_state.specs.Configs.{bot_at};
 ghost use Rattle.claim_core.specs.Good.{Good};
@@ -16,9 +16,11 @@ ghost use Rattle.amoebot_state.specs.declared.verdict.Change.{Change};
 ghost use Rattle.claim_core.specs.declared.state.Phase.TheVariants as phase;
 ghost use Rattle.claim_core.specs.Cores.{Begins, Frees, IsFinished, opened, HasPhase, HasTurn, HoldsCells, IsSeat, IsUnmarked, IsCell, looks_at, opens_by, phase_after, stepped, setup_of};
 
+use crate::cells::{cell_number, cells_of};
 use crate::journal::Journal;
 use crate::lists::Lists;
 use crate::marks::{Mark, Marks};
+use crate::owner::{tag, tag_bot, tag_caller, tag_turn};
 use crate::report::Report;
 use crate::state::{Look, Phase};
 use amoebot_state::{
@@ -121,10 +123,10 @@ impl<'d, D: Decider> Core<'d, D> {
         let callers = lists.callers();
         let turns = lists.turns();
         let mut journal = Journal::make(alloc, &world)?;
-        journal.reserve(alloc, u32::from(callers) * turns)?;
+        journal.reserve(alloc, lists.all_turns())?;
         let marks = Marks::make(alloc, callers, turns)?;
         let mut tags = Vec::new(alloc);
-        let cells = world.area().size() as usize + usize::from(world.bots());
+        let cells = cells_of(&world);
         if tags.resize(cells, 0).is_err() {
             return Err(NoMemory);
         }
@@ -250,7 +252,7 @@ impl<'d, D: Decider> Core<'d, D> {
             Some(name) => name,
             None => unreachable!(),
         };
-        let number = match number(&area, name) {
+        let number = match cell_number(&area, name) {
             Some(number) => number,
             None => unreachable!(),
         };
@@ -338,7 +340,7 @@ impl<'d, D: Decider> Core<'d, D> {
             Some((name, _value)) => name,
             None => unreachable!(),
         };
-        match number(&area, name) {
+        match cell_number(&area, name) {
             Some(number) => self.tags[number] = 0,
             None => unreachable!(),
         }
@@ -407,19 +409,6 @@ fn have_ended(seats: &[Seat]) -> bool
     true
 }
 
-/// The number of a cell: the nodes of the area by their numbers, then the bodies by their ids; None for a node outside.
-fn number(area: &Area, name: CellName) -> Option<usize>
-    ensures { result ≡ number area.now name }
-{
-    match name {
-        CellName::Spot(node) => match area.index(node) {
-            Some(index) => Some(index as usize),
-            None => None,
-        },
-        CellName::Body(id) => Some(area.size() as usize + usize::from(id)),
-    }
-}
-
 /// What a cell holds; a body is that of an amoebot that is there.
 fn value_of(world: &World, name: CellName) -> Cell
     requires { IsCell (length world.now.bots) name }
@@ -441,13 +430,6 @@ fn record_again(world: &World, held: &mut [(CellName, Cell)])
     }
 }
 
-/// The tag of a caller in a turn on an amoebot.
-fn tag(caller: u8, turn: u32, bot: u16) -> u64
-    ensures { result ≡ tag caller turn bot }
-{
-    1 + u64::from(bot) + 4096 * (u64::from(turn) + 65_536 * u64::from(caller))
-}
-
 /// The mark of a turn that found a tag at a cell.
 fn busy(cell: CellName, tag: u64, place: u32) -> Mark
     requires known { tag_caller tag < 256 }
@@ -456,9 +438,9 @@ fn busy(cell: CellName, tag: u64, place: u32) -> Mark
 {
     Mark::Busy {
         cell,
-        by_caller: ((tag - 1) / 4096 / 65_536) as u8,
-        by_turn: ((tag - 1) / 4096 % 65_536) as u32,
-        by_bot: ((tag - 1) % 4096) as u16,
+        by_caller: tag_caller(tag),
+        by_turn: tag_turn(tag),
+        by_bot: tag_bot(tag),
         place,
     }
 }

@@ -1,4 +1,4 @@
-ghost use Rattle.std.specs.Prelude.{◌≡◌, ◌+◌, ◌<◌, ◌≤◌, ◌∷◌, ◌++◌, [], length, replicate, slice_get, slice_set, IfOk, Some};
+ghost use Rattle.std.specs.Prelude.{◌≡◌, ◌+◌, ◌<◌, ◌∷◌, ◌++◌, [], length, replicate, slice_get, slice_set, IfOk, Some};
 ghost use Rattle.claim_core.specs.Turns.{AreFew, MarkLists, marks_of};
 
 use amoebot_state::{CellName, Failure, NoMemory};

@@ -1,4 +1,4 @@
-ghost use Rattle.std.specs.Prelude.{◌≡◌, ◌<◌, length};
+ghost use Rattle.std.specs.Prelude.{◌<◌, length};
 
 use amoebot_state::{ALL_PORTS, CellName, Decider, Entry, Failure, MOST_CELLS, Verdict, World};
 use arrayvec::ArrayVec;

@@ -4,7 +4,7 @@ use crate::fixtures::{Dragger, body, spot};
 use crate::tables::{Doing, Steps, Told, entry_of, run, see_report};
 use amoebot_state::{Bot, Cell, CellName, End, Failure, Moved, Port};
 use claim_core::{Look, Mark};
-use small_worlds::{Expander, Marker, node, spread, standing};
+use small_worlds::{Expander, Marker, spread, standing};
 use std::test::Fail;
 use tri_lattice::Node;
 

@@ -1,7 +1,5 @@
-ghost use Rattle.std.specs.Prelude.{◌≡◌, length};
-
 use crate::checker::is_report;
-use amoebot_state::{Bot, Cell, CellName, Entry, Failure, Moved, Patch, World};
+use amoebot_state::{Cell, CellName, Entry, Failure, Moved, Patch, World};
 use claim_core::{Journal, Mark, Marks, Report};
 use small_worlds::{Marker, lists_of, standing, world_of};
 use std::alloc::Global;

@@ -1,9 +1,8 @@
 -- The states of an activation: what each keeps after a step.
-use Rattle.std.proofs.Common.{◌≡◌, ℕ, ◌+◌, ◌*◌, ◌<◌, List, [], ◌∷◌, ◌++◌, map, reverse, length, Some, None, inl, inr, ap, sym, refl, subst, ◌∙◌, arith, lt-ltb}
-use Rattle.std.specs.Prelude.{is_some, unwrap_or, if◌then◌else◌}
+use Rattle.std.proofs.Common.{◌≡◌, ℕ, ◌+◌, ◌*◌, ◌<◌, List, [], ◌∷◌, ◌++◌, map, reverse, length, Some, None, inr, ap, sym, refl, subst, ◌∙◌, arith, lt-ltb}
+use Rattle.std.specs.Prelude.{unwrap_or, if◌then◌else◌}
 use Rattle.std.specs.List.{All}
-use Rattle.std.proofs.lemmas.Bool.{cases_lt, false≢true}
-use Rattle.std.proofs.lemmas.List.{get_or_past, reverse-append, reverse-reverse}
+use Rattle.std.proofs.lemmas.List.{reverse-append, reverse-reverse}
 use Rattle.std.proofs.lemmas.List.Elements.{All-nil, All-cons, All-head, All-tail}
 use Rattle.std.proofs.lemmas.Option.{none-some, same_Some}
 use Rattle.atomic_table.specs.Table.{rest}
@@ -21,6 +20,7 @@ use Rattle.claim_core.specs.declared.state.Phase.TheVariants.{Claim, Refusing, R
 use Rattle.claim_core.specs.Cells.{number}
 use Rattle.claim_core.specs.Machine.{Setup, bot, next_of, after_win, won, opens, frees}
 use Rattle.claim_core.specs.Soundness.{IsSetup}
+use Rattle.amoebot_state.proofs.Occupants.{there_below}
 use Rattle.claim_core.proofs.Frames.{own_there}
 use Rattle.claim_core.proofs.Nexts.{frees-marks, frees-held}
 use Rattle.claim_rule.specs.declared.views.Slot.{Slot}
@@ -55,10 +55,7 @@ begins g ok c t listed = record {
     b = bot g c t
 
     there : b < length g.world.bots
-    there = elim (cases_lt b (length g.world.bots)) [
-      | inl lt ↦ lt
-      | inr le ↦ absurd (false≢true (ap is_some (sym (get_or_past g.world.bots b None le)) ∙ own_there g ok c t listed))
-    ]
+    there = there_below g.world b (own_there g ok c t listed)
 
 -- of a whole zone some cell is held
 pub whole_some : (g : Setup) (b : ℕ) (held : Pairs) → next_of g b held ≡ None → 0 < length held

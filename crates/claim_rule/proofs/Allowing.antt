@@ -11,6 +11,7 @@ use Rattle.amoebot_state.specs.Configs.{Config}
 use Rattle.amoebot_state.specs.Zones.{Shown}
 use Rattle.claim_core.specs.declared.marks.Mark.{Mark}
 use Rattle.claim_core.specs.declared.state.Caller.{Caller}
+use Rattle.claim_core.specs.Cells.{cells}
 use Rattle.claim_core.specs.Machine.{Setup, State}
 use Rattle.claim_core.specs.Soundness.{IsSetup, Sound}
 use Rattle.claim_core.specs.Cores.{unmarked}
@@ -18,7 +19,7 @@ use Rattle.claim_core.proofs.Ranks.{length-values}
 use Rattle.claim_core.proofs.Holding.{framed}
 use Rattle.claim_rule.specs.declared.views.Record.{Record}
 use Rattle.claim_rule.specs.declared.views.Terms.{Terms}
-use Rattle.claim_rule.specs.Views.{Content, Seated, view_of, own, setup, cells}
+use Rattle.claim_rule.specs.Views.{Content, Seated, view_of, own, setup}
 use Rattle.claim_rule.specs.Stands.{KeepsRule, turns_left}
 use Rattle.claim_rule.specs.Nexts.{GoesOn, IsAt}
 

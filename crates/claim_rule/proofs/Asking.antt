@@ -1,8 +1,9 @@
 -- What a field asks of its table: facts that contracts tell of the field, as the table has them.
 use Rattle.std.proofs.Common.{◌≡◌, ℕ, ◌<◌, [], ◌∷◌, ap, sym, subst, ◌∙◌}
 use Rattle.atomic_table.specs.Seated.{TableId}
+use Rattle.claim_core.specs.Cells.{cells}
 use Rattle.claim_rule.specs.declared.views.View.{View}
-use Rattle.claim_rule.specs.Views.{own, view_of, cells}
+use Rattle.claim_rule.specs.Views.{own, view_of}
 use Rattle.claim_rule.specs.Tokens.{FieldOf}
 
 module _ {D : Type 0} {f now : FieldOf D} (seen : f ≡ now) where

@@ -11,9 +11,10 @@ use Rattle.amoebot_state.specs.declared.cell.Cell.{Cell}
 use Rattle.amoebot_state.specs.declared.cell.Cell.TheVariants as cell
 use Rattle.amoebot_state.specs.declared.verdict.Verdict.{Verdict}
 use Rattle.amoebot_state.specs.Zones.{Shown}
+use Rattle.amoebot_state.specs.Storage.{put_at}
 use Rattle.claim_core.specs.declared.state.Caller.{Caller}
 use Rattle.claim_core.specs.declared.state.Phase.TheVariants.{Claim, Refusing}
-use Rattle.claim_core.specs.Cells.{number, at, put}
+use Rattle.claim_core.specs.Cells.{number, at, cells}
 use Rattle.claim_core.specs.Machine.{Setup, State, bot, next_of, after_win, won, wins, claims, finds, tries, by_phase, acts, next, after}
 use Rattle.claim_core.specs.Soundness.{IsSetup, Sound}
 use Rattle.claim_core.proofs.Tags.{tag-positive}
@@ -26,7 +27,7 @@ use Rattle.claim_rule.specs.declared.views.Slot.{Slot}
 use Rattle.claim_rule.specs.declared.views.Slot.TheVariants as slot
 use Rattle.claim_rule.specs.declared.views.Record.{Record}
 use Rattle.claim_rule.specs.declared.views.Terms.{Terms}
-use Rattle.claim_rule.specs.Views.{Content, Seated, view_of, own, setup, cells}
+use Rattle.claim_rule.specs.Views.{Content, Seated, view_of, own, setup}
 use Rattle.claim_rule.specs.Stands.{turns_left, AreWords, AreHomes, KeepsRule}
 use Rattle.claim_rule.specs.Plays.{IsPlaced, IsKnown, IsOthers, tried, IsToTry, claimed}
 use Rattle.claim_rule.specs.Nexts.{GoesOn, IsAt, ClaimIsNext}
@@ -93,7 +94,7 @@ module _ {D : Type 0} {verdict : D → Shown → Verdict} {z : Terms D} {s : Con
         leads = sym (claims_it ∙ ap (λ e. if e then wins g r.number core r.caller n (at core.values (number z.world.area n)) else Rattle.claim_core.specs.Machine.with_caller g core r.number (record r.caller { phase = Refusing n old })) (eq-eqb old 0 free) ∙ ap (wins g r.number core r.caller n) value)
 
         tags : new.tags ≡ set core.tags i t
-        tags = λ j. put core.tags (to.placed.0 j) (sym to.tag j)
+        tags = λ j. put_at core.tags (to.placed.0 j) (sym to.tag j)
 
         fewer : turns_left g new ≤ turns_left g core
         fewer = turns_same g core new r.number r.caller (won g r.number r.caller n x) (caller_at table) refl refl

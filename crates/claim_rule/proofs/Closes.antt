@@ -1,9 +1,10 @@
 -- What a field leaves once all its seats are back.
-use Rattle.std.proofs.Common.{◌≡◌, ◌≢◌, ℕ, ◌+◌, ◌<◌, List, [], drop, length, Option, Some, None, ap, sym, refl, subst, ◌∙◌, arith}
+use Rattle.std.proofs.Common.{◌≡◌, ◌≢◌, ℕ, ◌+◌, ◌<◌, List, [], ◌∷◌, drop, length, Option, Some, None, ap, sym, refl, subst, ◌∙◌, arith}
 use Rattle.std.specs.Prelude.{slice_get, IsSome}
 use Rattle.std.specs.List.{All}
-use Rattle.std.proofs.lemmas.Option.{same_Some, slice_get-get_or, slice_get_within}
+use Rattle.std.proofs.lemmas.Option.{same_Some, slice_get-get_or, slice_get_within, get_or_from_slice_get}
 use Rattle.std.proofs.lemmas.Bool.{false≢true}
+use Rattle.std.proofs.lemmas.List.{drop_more}
 use mathlib.Core.Option as home
 use lib.ListN.{get_elem?, get_or}
 use Rattle.atomic_table.specs.Seated.{TableId}
@@ -15,6 +16,7 @@ use Rattle.amoebot_state.specs.Patches.{IsPatched}
 use Rattle.amoebot_state.specs.Steps.{Run}
 use Rattle.amoebot_state.specs.Zones.{Shown}
 use Rattle.amoebot_state.proofs.Patched.{patched_is_unique, run_has_one_last}
+use Rattle.claim_core.specs.Cells.{cells}
 use Rattle.claim_core.specs.Turns.{Kept}
 use Rattle.claim_core.specs.Machine.{Setup, State, after}
 use Rattle.claim_core.specs.Reached.{HasValues}
@@ -25,17 +27,16 @@ use Rattle.claim_rule.specs.declared.views.Slot.{Slot}
 use Rattle.claim_rule.specs.declared.views.Slot.TheVariants as slot
 use Rattle.claim_rule.specs.declared.views.Record.{Record}
 use Rattle.claim_rule.specs.declared.views.Terms.{Terms}
-use Rattle.claim_rule.specs.Views.{Content, Seated, view_of, setup, cells}
+use Rattle.claim_rule.specs.Views.{Content, Seated, view_of, setup}
 use Rattle.claim_rule.specs.Stands.{IsJournal, HasTaken, IsRecord, Stands, KeepsRule}
 use Rattle.claim_rule.specs.Tokens.{FieldOf, IsField, Token, number_in, record_in}
 use Rattle.claim_rule.specs.Seating.{SeatsOf, AreOf, AreSeats}
 use Rattle.claim_rule.specs.Closing.{ClosesAs, HaveAll}
-use Rattle.claim_rule.proofs.Deals.{drop_at}
 
 -- the entries after the one whose patch was applied lead on to the same last world
 pub follows : (f : Shown → Verdict) (now next last : Config) (es : List Entry) (k : ℕ) (e : Entry) → slice_get es k ≡ Some e → Run f now (drop k es) last → IsPatched now e.patch next → Run f next (drop (k + 1) es) last
 follows f now next last es k e there run patched =
-    let rest = subst (λ xs. Run f now xs last) (drop_at es k e there) run in
+    let rest = subst (λ xs. Run f now xs last) (drop_more es k e (slice_get_within es k e there) ∙ ap (λ x. x ∷ drop (k + 1) es) (get_or_from_slice_get es k e e there)) run in
     subst (λ c. Run f c (drop (k + 1) es) last) (patched_is_unique now rest.0 next e.patch rest.1.patched patched) rest.2
 
 -- each of these places has a seat

@@ -23,10 +23,10 @@ use Rattle.claim_core.specs.declared.marks.Mark.{Mark}
 use Rattle.claim_core.specs.declared.marks.Mark.TheVariants as mark
 use Rattle.claim_core.specs.declared.state.Caller.{Caller}
 use Rattle.claim_core.specs.declared.state.Committed.{Committed}
-use Rattle.claim_core.specs.Cells.{number, at, patched}
+use Rattle.claim_core.specs.Cells.{number, at, patched, cells}
 use Rattle.claim_core.specs.Machine.{Setup, State, bot, entry, frees, renewed, commits, by_phase, acts, next, after, commit_of, commit_by}
 use Rattle.claim_core.specs.Machine as machine
-use Rattle.claim_core.specs.Reached.{entries_of}
+use Rattle.claim_core.specs.Reached.{entries_of, placed, IsShownAt}
 use Rattle.claim_core.specs.Soundness.{IsSetup, IsTurn, IsHeld, IsDecided, HasFront, names, marked}
 use Rattle.claim_core.proofs.Nexts.{frees-marks}
 use Rattle.claim_core.proofs.Places.{at-put_else}
@@ -40,8 +40,8 @@ use Rattle.claim_rule.specs.declared.views.Slot.{Slot}
 use Rattle.claim_rule.specs.declared.views.Slot.TheVariants as slot
 use Rattle.claim_rule.specs.declared.views.Record.{Record}
 use Rattle.claim_rule.specs.declared.views.Terms.{Terms}
-use Rattle.claim_rule.specs.Views.{Content, Seated, view_of, own, setup, cells}
-use Rattle.claim_rule.specs.Stands.{turns_left, placed, IsFoundAt, IsJournal, HasTaken, HasCommitted, AreWords, AreHomes, KeepsRule}
+use Rattle.claim_rule.specs.Views.{Content, Seated, view_of, own, setup}
+use Rattle.claim_rule.specs.Stands.{turns_left, IsJournal, HasTaken, HasCommitted, AreWords, AreHomes, KeepsRule}
 use Rattle.claim_rule.specs.Commits.{commit_at, with_commit, IsToCommit, stored}
 use Rattle.claim_rule.specs.Nexts.{GoesOn, IsAt, CommitIsNext}
 use Rattle.claim_rule.proofs.Tables.{journal_written}
@@ -147,7 +147,7 @@ module _ {D : Type 0} {verdict : D → Shown → Verdict} {z : Terms D} {s : Con
     })
 
     -- what was committed stays found
-    still : (p : Committed) → IsFoundAt g core p → IsFoundAt g new p
+    still : (p : Committed) → IsShownAt g core.journal p → IsShownAt g new.journal p
     still p f = (f.0, IsWorldAt-append g.verdict g.world f.0 core.journal (e ∷ []) p.place f.1, f.2)
 
     -- another caller has the entries that it had
@@ -160,7 +160,7 @@ module _ {D : Type 0} {verdict : D → Shown → Verdict} {z : Terms D} {s : Con
     others : (q : Record) → q.number ≢ r.number → HasCommitted g core q.number q.committed q.taken → HasCommitted g new q.number q.committed q.taken
     others q apart is = record {
       entries = is.entries ∙ sym (other_entries q.number apart);
-      found = All-weaker (IsFoundAt g core) (IsFoundAt g new) still q.committed is.found;
+      found = All-weaker (IsShownAt g core.journal) (IsShownAt g new.journal) still q.committed is.found;
       taken = taken_else g core new q.number q.taken (λ h. apart (same_Some q.number r.number (sym h ∙ has_taken.0))) (λ h. none-some q.number h) is.taken;
     }
 
@@ -177,15 +177,15 @@ module _ {D : Type 0} {verdict : D → Shown → Verdict} {z : Terms D} {s : Con
         ∙ sym (map-append placed (machine.committed g r.number steps) (commit_at g r change (length core.journal) ∷ [])) ∙ ap (map placed) (sym own_steps)
         ∙ committed_is_journal g r.number (r.number ∷ steps) ∙ ap (λ (q : State). entries_of r.number 0 q.journal) (sym leads)
 
-    own_found : IsFoundAt g new (commit_at g r change place)
-    own_found = subst (IsFoundAt g new) (ap (commit_at g r change) (sym place_is)) (subst (λ (q : State). IsFoundAt g q (commit_at g r change (length core.journal))) (sym leads)
-        (All-contains (IsFoundAt g (next g r.number core)) (machine.committed g r.number steps ++ commit_at g r change (length core.journal) ∷ []) (commit_at g r change (length core.journal))
-        (subst (All (IsFoundAt g (next g r.number core))) own_steps (committed_is_shown g table.run r.number (r.number ∷ steps))) (Contains-push (machine.committed g r.number steps) (commit_at g r change (length core.journal)))))
+    own_found : IsShownAt g new.journal (commit_at g r change place)
+    own_found = subst (IsShownAt g new.journal) (ap (commit_at g r change) (sym place_is)) (subst (λ (q : State). IsShownAt g q.journal (commit_at g r change (length core.journal))) (sym leads)
+        (All-contains (IsShownAt g (next g r.number core).journal) (machine.committed g r.number steps ++ commit_at g r change (length core.journal) ∷ []) (commit_at g r change (length core.journal))
+        (subst (All (IsShownAt g (next g r.number core).journal)) own_steps (committed_is_shown g table.run r.number (r.number ∷ steps))) (Contains-push (machine.committed g r.number steps) (commit_at g r change (length core.journal)))))
 
     mine_is : HasCommitted g new r.number (r.committed ++ commit_at g r change place ∷ []) None
     mine_is = record {
       entries = own_entries;
-      found = All-push (IsFoundAt g new) r.committed (commit_at g r change place) (All-weaker (IsFoundAt g core) (IsFoundAt g new) still r.committed (mine table).committed.found) own_found;
+      found = All-push (IsShownAt g new.journal) r.committed (commit_at g r change place) (All-weaker (IsShownAt g core.journal) (IsShownAt g new.journal) still r.committed (mine table).committed.found) own_found;
       taken = λ h. none-some r.number h;
     }
 

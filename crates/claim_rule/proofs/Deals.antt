@@ -21,13 +21,6 @@ use Rattle.claim_rule.specs.Seating.{SeatsOf, dealt, left, AreSeats}
 use Rattle.claim_rule.specs.Opened.{first_records, seat_with, first_seats}
 use Rattle.claim_rule.proofs.Opens.{from, there, fresh_there}
 
--- an element splits a list
-pub drop_at : {A : Type 0} (xs : List A) (k : ℕ) (x : A) → slice_get xs k ≡ Some x → drop k xs ≡ x ∷ drop (k + 1) xs
-drop_at xs k x at = drop_more xs k x (slice_get_within xs k x at) ∙ ap (λ y. y ∷ drop (k + 1) xs) (get_or_from_slice_get xs k x x at)
-
-take_at : {A : Type 0} (xs : List A) (k : ℕ) (x : A) → slice_get xs k ≡ Some x → take (k + 1) xs ≡ take k xs ++ x ∷ []
-take_at xs k x at = take_more xs k x (slice_get_within xs k x at) ∙ ap (λ y. take k xs ++ y ∷ []) (get_or_from_slice_get xs k x x at)
-
 module _ {D : Type 0} (verdict : D → Shown → Verdict) (z : Terms D) where
   abbrev all : List Record
   all = first_records verdict z
@@ -40,7 +33,10 @@ module _ {D : Type 0} (verdict : D → Shown → Verdict) (z : Terms D) where
 
   -- what the first seat has before and after a record is dealt
   pub first_of_rest : (m : Seated D) (c : ℕ) → c < length z.lists.ids → m ≡ (view_of z (drop c all), []) → m.0 ≡ view_of z (next_one c ∷ drop (c + 1) all)
-  first_of_rest m c lt e = ap (λ (n : Seated D). n.0) e ∙ ap (view_of z) (drop_at all c (next_one c) (next_there c lt))
+  first_of_rest m c lt e =
+      let r = next_one c in
+      let at = next_there c lt in
+      ap (λ (n : Seated D). n.0) e ∙ ap (view_of z) (drop_more all c r (slice_get_within all c r at) ∙ ap (λ q. q ∷ drop (c + 1) all) (get_or_from_slice_get all c r r at))
 
   pub one_dealt : (m : Seated D) (c : ℕ) → c < length z.lists.ids → m ≡ (view_of z (drop c all), []) → dealt m.0 ≡ view_of z (next_one c ∷ [])
   one_dealt m c lt e = ap dealt (first_of_rest m c lt e)
@@ -49,7 +45,10 @@ module _ {D : Type 0} (verdict : D → Shown → Verdict) (z : Terms D) where
   others_left m c lt e = λ i. (left (first_of_rest m c lt e i), (e i).1)
 
   pub one_more : (c : ℕ) → c < length z.lists.ids → take (c + 1) all ≡ take c all ++ next_one c ∷ []
-  one_more c lt = take_at all c (next_one c) (next_there c lt)
+  one_more c lt =
+      let r = next_one c in
+      let at = next_there c lt in
+      take_more all c r (slice_get_within all c r at) ∙ ap (λ q. take c all ++ q ∷ []) (get_or_from_slice_get all c r r at)
 
   -- a seat with the record of a caller before its first turn keeps what a seat keeps
   pub is_seat : (m : Seated D) (c : ℕ) (a : Extent) (greatest : List ℕ) → IsSetup (setup verdict z) → c < length z.lists.ids → a ≡ z.world.area → greatest ≡ z.world.maxes → m ≡ (view_of z (next_one c ∷ []), []) → IsSeat verdict m c 0 a greatest

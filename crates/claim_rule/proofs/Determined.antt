@@ -12,7 +12,7 @@ use Rattle.amoebot_state.specs.Steps.{Run}
 use Rattle.amoebot_state.specs.Zones.{Shown}
 use Rattle.amoebot_state.proofs.Patched.{run_has_one_last}
 use Rattle.claim_core.specs.Turns.{Kept}
-use Rattle.claim_core.specs.Cells.{values_of}
+use Rattle.claim_core.specs.Cells.{values_of, cells}
 use Rattle.claim_core.specs.Good.{IsListed}
 use Rattle.claim_core.specs.Machine.{Setup, State, after}
 use Rattle.claim_core.specs.Reached.{entries_of}
@@ -20,7 +20,7 @@ use Rattle.claim_core.specs.Soundness.{IsSetup, Sound}
 use Rattle.claim_core.proofs.Places.{same_by_get}
 use Rattle.claim_core.proofs.Sounds.{always}
 use Rattle.claim_rule.specs.declared.views.Terms.{Terms}
-use Rattle.claim_rule.specs.Views.{Content, setup, cells}
+use Rattle.claim_rule.specs.Views.{Content, setup}
 use Rattle.claim_rule.specs.Stands.{HasTaken, Stands}
 use Rattle.claim_rule.specs.Laws.{StateIsDetermined}
 use Rattle.claim_rule.proofs.Allowing.{tags_count}

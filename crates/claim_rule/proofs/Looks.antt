@@ -2,6 +2,7 @@
 use Rattle.std.proofs.Common.{◌≡◌, ℕ, zero, suc, ◌+◌, ◌*◌, ◌/◌, ◌≤◌, List, [], ◌∷◌, ◌++◌, map, length, set, Option, Some, None, ap, sym, refl, ◌∙◌, arith, length-append}
 use Rattle.std.specs.Prelude.{slice_get, slice_index}
 use Rattle.std.proofs.lemmas.Option.{none-some, same_Some}
+use Rattle.std.specs.Option.{option_len}
 use mathlib.Core.Option as home
 use Rattle.atomic_table.specs.Table.{step, keeps, Allows}
 use Rattle.amoebot_state.specs.declared.verdict.Verdict.{Verdict}
@@ -10,6 +11,7 @@ use Rattle.claim_core.specs.declared.marks.Mark.{Mark}
 use Rattle.claim_core.specs.declared.state.Caller.{Caller}
 use Rattle.claim_core.specs.declared.state.Phase.{Phase}
 use Rattle.claim_core.specs.declared.state.Phase.TheVariants.{Claim, Refusing, Looking, Taking, Committing, Releasing, Ended}
+use Rattle.claim_core.specs.Cells.{cells}
 use Rattle.claim_core.specs.Cores.{unmarked}
 use Rattle.claim_core.specs.Machine.{Setup, State, looks, by_phase, acts, next, after}
 use Rattle.claim_core.specs.Soundness.{IsSetup}
@@ -17,8 +19,8 @@ use Rattle.claim_core.proofs.Nexts.{frees-marks}
 use Rattle.claim_rule.specs.declared.views.Slot.{Slot}
 use Rattle.claim_rule.specs.declared.views.Record.{Record}
 use Rattle.claim_rule.specs.declared.views.Terms.{Terms}
-use Rattle.claim_rule.specs.Views.{Content, Seated, view_of, own, setup, cells}
-use Rattle.claim_rule.specs.Stands.{is_held, turns_left, AreWords, AreHomes, KeepsRule}
+use Rattle.claim_rule.specs.Views.{Content, Seated, view_of, own, setup}
+use Rattle.claim_rule.specs.Stands.{turns_left, AreWords, AreHomes, KeepsRule}
 use Rattle.claim_rule.specs.Plays.{Reads, mark_at, marked_at, read}
 use Rattle.claim_rule.specs.Nexts.{GoesOn, IsAt, LookIsNext}
 use Rattle.claim_rule.proofs.Tables.{journal_written, homes_kept}
@@ -26,7 +28,7 @@ use Rattle.claim_rule.proofs.Moves.{caller_at, moves, journal_stays}
 use Rattle.claim_rule.proofs.Allowing.{allowed}
 
 -- half of the journal's word is its length
-half : (n : ℕ) (o : Option ℕ) → (2 * n + is_held o) / 2 ≡ n
+half : (n : ℕ) (o : Option ℕ) → (2 * n + option_len o) / 2 ≡ n
 half n None = omega arith
 half n (Some c) = omega arith
 

@@ -15,9 +15,10 @@ use Rattle.claim_core.specs.declared.state.Caller.{Caller}
 use Rattle.claim_core.specs.declared.state.Committed.{Committed}
 use Rattle.claim_core.specs.Limits.{most_turns}
 use Rattle.claim_core.specs.Turns.{Kept}
-use Rattle.claim_core.specs.Cells.{number, at}
+use Rattle.claim_core.specs.Cells.{number, at, cells}
 use Rattle.claim_core.specs.Machine.{Setup, State, next, after}
 use Rattle.claim_core.specs.Soundness.{IsHeld, names, Sound}
+use Rattle.claim_core.specs.Reached.{IsShownAt}
 use Rattle.claim_core.proofs.Places.{get-set_here, get-set_else}
 use Rattle.claim_core.proofs.Numbers.{value_at, value_held}
 use Rattle.claim_core.proofs.Fronts.{name_of_held}
@@ -27,8 +28,8 @@ use Rattle.claim_rule.specs.declared.views.Slot.{Slot}
 use Rattle.claim_rule.specs.declared.views.Record.{Record}
 use Rattle.claim_rule.specs.declared.views.Terms.{Terms}
 use Rattle.claim_rule.specs.declared.views.View.{View}
-use Rattle.claim_rule.specs.Views.{Content, view_of, setup, cells}
-use Rattle.claim_rule.specs.Stands.{turns_left, IsFoundAt, IsJournal, HasTaken, HasCommitted, IsRecord, AreWords, AreHomes, HasRecord, Stands}
+use Rattle.claim_rule.specs.Views.{Content, view_of, setup}
+use Rattle.claim_rule.specs.Stands.{turns_left, IsJournal, HasTaken, HasCommitted, IsRecord, AreWords, AreHomes, HasRecord, Stands}
 use Rattle.claim_rule.specs.Nexts.{IsAt}
 use Rattle.claim_rule.proofs.Tables.{later, cases, back, forth}
 use Rattle.claim_rule.proofs.Allowing.{tags_count}
@@ -42,7 +43,7 @@ at_there xs ts (Some k) t e f = (_, slice_get-get_or xs k (cell.Spot None) (let 
 pub committed_stays : (g : Setup) (old new : State) (c : ℕ) (ps : List Committed) (j : Option Kept) → new.journal ≡ old.journal → new.holder ≡ old.holder → turns_left g new ≤ turns_left g old → HasCommitted g old c ps j → HasCommitted g new c ps j
 committed_stays g old new c ps j journal holder fewer is = record {
   entries = is.entries ∙ ap (Rattle.claim_core.specs.Reached.entries_of c 0) (sym journal);
-  found = All-weaker (IsFoundAt g old) (IsFoundAt g new) (λ p f. (f.0, subst (λ es. Rattle.claim_core.specs.Good.IsWorldAt g.verdict g.world es p.place f.0) (sym journal) f.1, f.2)) ps is.found;
+  found = All-weaker (IsShownAt g old.journal) (IsShownAt g new.journal) (λ p f. (f.0, subst (λ es. Rattle.claim_core.specs.Good.IsWorldAt g.verdict g.world es p.place f.0) (sym journal) f.1, f.2)) ps is.found;
   taken = by j is.taken;
 }
   where

@@ -14,26 +14,23 @@ use Rattle.amoebot_state.specs.Zones.{Shown}
 use Rattle.claim_core.specs.declared.state.Caller.{Caller}
 use Rattle.claim_core.specs.declared.state.Committed.{Committed}
 use Rattle.claim_core.specs.Turns.{Kept}
-use Rattle.claim_core.specs.Cells.{at, values_of}
+use Rattle.claim_core.specs.Cells.{at, values_of, cells}
 use Rattle.claim_core.specs.Machine as machine
 use Rattle.claim_core.specs.Soundness.{IsSetup}
+use Rattle.claim_core.specs.Reached.{IsShownAt}
 use Rattle.claim_core.specs.Cores.{unmarked}
+use Rattle.amoebot_state.proofs.Members.{one_everywhere}
 use Rattle.claim_core.proofs.Ranks.{length-values}
 use Rattle.claim_rule.specs.declared.views.Slot.{Slot}
 use Rattle.claim_rule.specs.declared.views.Slot.TheVariants as slot
 use Rattle.claim_rule.specs.declared.views.Record.{Record}
 use Rattle.claim_rule.specs.declared.views.Terms.{Terms}
 use Rattle.claim_rule.specs.declared.views.View.{View}
-use Rattle.claim_rule.specs.Views.{record_of, setup, cells}
-use Rattle.claim_rule.specs.Stands.{IsFoundAt, HasCommitted, IsRecord, HasRecord, Stands, KeepsRule, records_from, first_view}
+use Rattle.claim_rule.specs.Views.{record_of, setup}
+use Rattle.claim_rule.specs.Stands.{HasCommitted, IsRecord, HasRecord, Stands, KeepsRule, records_from, first_view}
 use Rattle.claim_rule.specs.Tokens.{FieldOf, IsField}
 use Rattle.claim_rule.specs.Opened.{AreFirstSlots}
 use Rattle.claim_rule.specs.Laws.{OpeningStands}
-
-zero_at : (n k : ℕ) → ◌≡◌ {A = ℕ} (get_or (replicate n 0) k 0) 0
-zero_at zero k = refl
-zero_at (suc n) zero = refl
-zero_at (suc n) (suc k) = zero_at n k
 
 zero_of : {A : Type 0} (xs : List A) (k : ℕ) → ◌≡◌ {A = ℕ} (get_or (map (λ (_ : A). 0) xs) k 0) 0
 zero_of [] k = refl
@@ -85,7 +82,7 @@ module _ {D : Type 0} (verdict : D → Shown → Verdict) (z : Terms D) where
       let is = from 0 j start.callers r e in
       record {
         caller = ap (λ n. slice_get start.callers n) (is.0 ∙ (omega arith)) ∙ is.1;
-        committed = subst (λ (q : List Committed × Option Kept). HasCommitted g start r.number q.0 q.1) (λ i. (sym is.2 i, sym is.3 i)) (record { entries = refl; found = All-nil (IsFoundAt g start); taken = λ holds. none-some r.number holds });
+        committed = subst (λ (q : List Committed × Option Kept). HasCommitted g start r.number q.0 q.1) (λ i. (sym is.2 i, sym is.3 i)) (record { entries = refl; found = All-nil (IsShownAt g start.journal); taken = λ holds. none-some r.number holds });
       }
 
   one_view : (seat : ℕ) (v : View D) → get_elem? (first_view verdict z ∷ []) seat ≡ home.some v → (seat ≡ 0) × (first_view verdict z ≡ v)
@@ -100,8 +97,8 @@ module _ {D : Type 0} (verdict : D → Shown → Verdict) (z : Terms D) where
   opening_stands ok words slots zeros first = record {
     words = record {
       count = ap (λ (ws : List ℕ). length ws) zeros ∙ length-replicate (cells z.world + 1) 0;
-      cell = λ k lt. ap (λ ws. slice_index ws k) zeros ∙ zero_at (cells z.world + 1) k ∙ sym (zero_of (values_of z.world) k);
-      journal = ap (λ ws. slice_index ws (cells z.world)) zeros ∙ zero_at (cells z.world + 1) (cells z.world);
+      cell = λ k lt. ap (λ ws. slice_index ws k) zeros ∙ one_everywhere {A = ℕ} (cells z.world + 1) k 0 ∙ sym (zero_of (values_of z.world) k);
+      journal = ap (λ ws. slice_index ws (cells z.world)) zeros ∙ one_everywhere {A = ℕ} (cells z.world + 1) (cells z.world) 0;
     };
     homes = record {
       count = length-map slots (λ x. home.some x) ∙ many;

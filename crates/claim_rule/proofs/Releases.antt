@@ -12,7 +12,8 @@ use Rattle.amoebot_state.specs.declared.cell.Cell.{Cell}
 use Rattle.amoebot_state.specs.declared.verdict.Verdict.{Verdict}
 use Rattle.amoebot_state.specs.Pairs.{Pairs}
 use Rattle.amoebot_state.specs.Zones.{Shown}
-use Rattle.claim_core.specs.Cells.{number, at, put, values_of}
+use Rattle.amoebot_state.specs.Storage.{put_at}
+use Rattle.claim_core.specs.Cells.{number, at, values_of, cells}
 use Rattle.claim_core.specs.Machine.{Setup, State, frees, releases, by_phase, acts, next, after}
 use Rattle.claim_core.specs.Soundness.{IsSetup, IsHeld}
 use Rattle.claim_core.proofs.Nexts.{frees-marks}
@@ -23,7 +24,7 @@ use Rattle.claim_rule.specs.declared.views.Slot.{Slot}
 use Rattle.claim_rule.specs.declared.views.Slot.TheVariants as slot
 use Rattle.claim_rule.specs.declared.views.Record.{Record}
 use Rattle.claim_rule.specs.declared.views.Terms.{Terms}
-use Rattle.claim_rule.specs.Views.{Content, Seated, view_of, own, setup, cells}
+use Rattle.claim_rule.specs.Views.{Content, Seated, view_of, own, setup}
 use Rattle.claim_rule.specs.Stands.{turns_left, AreWords, AreHomes, KeepsRule}
 use Rattle.claim_rule.specs.Plays.{but_last, released, IsToFree, freed}
 use Rattle.claim_rule.specs.Nexts.{GoesOn, IsAt, ReleaseIsNext}
@@ -81,7 +82,7 @@ module _ {D : Type 0} {verdict : D → Shown → Verdict} {z : Terms D} {s : Con
       fewer = turns_same g core new r.number r.caller (frees g r.caller.turn held r.caller.marks) (caller_at table) refl (frees-marks g r.caller.turn held r.caller.marks)
 
       tags : new.tags ≡ set core.tags i 0
-      tags = ap (λ o. put core.tags o 0) numbered
+      tags = ap (λ o. put_at core.tags o 0) numbered
 
       words : AreWords g new (set s.words i 0)
       words = tag_written g core new s.words i 0 table.stands.words to.inside inside tags refl

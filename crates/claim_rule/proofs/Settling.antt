@@ -12,11 +12,13 @@ use Rattle.amoebot_state.specs.declared.verdict.Entry.{Entry}
 use Rattle.amoebot_state.specs.declared.verdict.Verdict.{Verdict}
 use Rattle.amoebot_state.specs.Pairs.{Pairs, cell_of}
 use Rattle.amoebot_state.specs.Zones.{Shown}
+use Rattle.amoebot_state.specs.Steps.{entry_of}
 use Rattle.claim_core.specs.declared.marks.Mark.{Mark}
 use Rattle.claim_core.specs.declared.marks.Mark.TheVariants as mark
 use Rattle.claim_core.specs.declared.state.Caller.{Caller}
 use Rattle.claim_core.specs.declared.state.Phase.{Phase}
 use Rattle.claim_core.specs.declared.state.Phase.TheVariants.{Taking, Committing}
+use Rattle.claim_core.specs.Cells.{cells}
 use Rattle.claim_core.specs.Turns.{Kept}
 use Rattle.claim_core.specs.Machine.{Setup, entry, frees, renewed}
 use Rattle.claim_core.proofs.Nexts.{frees-marks, frees-held}
@@ -24,7 +26,7 @@ use Rattle.claim_rule.specs.declared.views.Slot.{Slot}
 use Rattle.claim_rule.specs.declared.views.Slot.TheVariants as slot
 use Rattle.claim_rule.specs.declared.views.Record.{Record}
 use Rattle.claim_rule.specs.declared.views.View.{View}
-use Rattle.claim_rule.specs.Views.{Seated, own, like, cells}
+use Rattle.claim_rule.specs.Views.{Seated, own, like}
 use Rattle.claim_rule.specs.Plays.{IsPlaced, about}
 use Rattle.claim_rule.specs.Commits.{HasRoomForEntry, GotJournal, IsPushed, IsToCommit, Commits, with_journal, with_commit}
 use Rattle.claim_rule.specs.Tokens.{emptied, IsActivation, IsWhole, IsFreeing}
@@ -86,18 +88,11 @@ module _ {D : Type 0} (verdict : D → Shown → Verdict) (m : Seated D) (c t b 
       }
 
   module _ (change : Change) (j : Kept) (tk : IsTaken verdict m c t b a greatest pairs change j) where
-    entry_is : entry g (own m.0).number (own m.0).caller.turn change ≡ (let e : Entry = record { caller = c; turn = t; bot = b; action = change.action; moved = change.moved; patch = change.patch } in e)
-    entry_is = λ p. (let e : Entry = record {
-      caller = tk.activation.number p;
-      turn = tk.turn p;
-      bot = ((λ q. Rattle.claim_core.specs.Machine.bot g (tk.activation.number q) (tk.turn q)) ∙ sym tk.activation.bot) p;
-      action = change.action;
-      moved = change.moved;
-      patch = change.patch;
-    } in e)
+    entry_is : entry g (own m.0).number (own m.0).caller.turn change ≡ entry_of c t b change
+    entry_is = λ p. entry_of (tk.activation.number p) (tk.turn p) (((λ q. Rattle.claim_core.specs.Machine.bot g (tk.activation.number q) (tk.turn q)) ∙ sym tk.activation.bot) p) change
 
     -- with the entry in the journal, and the journal home, the change is to be committed
-    pub to_commit : (i x : ℕ) (next : Kept) (m' : Seated D) → m' ≡ (m.0, (i, slot.Journal next) ∷ rest m.1) → IsPushed j (record { caller = c; turn = t; bot = b; action = change.action; moved = change.moved; patch = change.patch }) next → x ≡ length j.entries + 1
+    pub to_commit : (i x : ℕ) (next : Kept) (m' : Seated D) → m' ≡ (m.0, (i, slot.Journal next) ∷ rest m.1) → IsPushed j (entry_of c t b change) next → x ≡ length j.entries + 1
         → IsToCommit verdict i (2 * x) m'
     to_commit i x next m' now pushed longer = subst (IsToCommit verdict i (2 * x)) (sym now) (record {
       change = change;
@@ -108,7 +103,7 @@ module _ {D : Type 0} (verdict : D → Shown → Verdict) (m : Seated D) (c t b 
       pushed = subst (λ e. IsPushed j e next) (sym entry_is) pushed;
       more = rest m.1;
       out = refl;
-      word = ap (λ n. 2 * n) (longer ∙ sym (length-append j.entries (record { caller = c; turn = t; bot = b; action = change.action; moved = change.moved; patch = change.patch } ∷ [])) ∙ ap (λ (es : List Entry). length es) (sym pushed.entries));
+      word = ap (λ n. 2 * n) (longer ∙ sym (length-append j.entries (entry_of c t b change ∷ [])) ∙ ap (λ (es : List Entry). length es) (sym pushed.entries));
     })
 
     -- and afterwards it is

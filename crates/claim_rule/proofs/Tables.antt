@@ -8,6 +8,7 @@ use mathlib.Core.Option as home
 use lib.ListN.{get_elem?}
 use Rattle.atomic_table.proofs.Lists.{at_set, set_here, set_else}
 use Rattle.amoebot_state.specs.declared.cell.Cell.{Cell}
+use Rattle.claim_core.specs.Cells.{cells}
 use Rattle.claim_core.specs.Turns.{Kept}
 use Rattle.claim_core.specs.Machine.{Setup, State}
 use Rattle.claim_rule.specs.declared.views.Slot.{Slot}
@@ -15,7 +16,7 @@ use Rattle.claim_rule.specs.declared.views.Slot.TheVariants as slot
 use Rattle.claim_rule.specs.declared.views.Record.{Record}
 use Rattle.claim_rule.specs.declared.views.Terms.{Terms}
 use Rattle.claim_rule.specs.declared.views.View.{View}
-use Rattle.claim_rule.specs.Views.{view_of, cells}
+use Rattle.claim_rule.specs.Views.{view_of}
 use Rattle.claim_rule.specs.Stands.{word_of, journal_word, IsJournal, AreWords, AreHomes, HasRecord}
 
 -- the only record of a list of one

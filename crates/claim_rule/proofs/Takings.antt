@@ -5,6 +5,7 @@ use Rattle.std.specs.Int.Bits.{or_zero_r}
 use Rattle.std.proofs.lemmas.Nat.{or_block}
 use Rattle.std.proofs.lemmas.List.{set-set}
 use Rattle.std.proofs.lemmas.Option.{none-some, same_Some}
+use Rattle.std.specs.Option.{option_len}
 use mathlib.Core.Option as home
 use lib.ListN.{get_elem?}
 use Rattle.atomic_table.specs.Table.{step, keeps, takes, Allows}
@@ -13,6 +14,7 @@ use Rattle.amoebot_state.specs.declared.verdict.Change.{Change}
 use Rattle.amoebot_state.specs.declared.verdict.Verdict.{Verdict}
 use Rattle.amoebot_state.specs.Zones.{Shown}
 use Rattle.claim_core.specs.declared.state.Phase.TheVariants.{Taking, Committing}
+use Rattle.claim_core.specs.Cells.{cells}
 use Rattle.claim_core.specs.Limits.{most_turns}
 use Rattle.claim_core.specs.Turns.{Kept}
 use Rattle.claim_core.specs.Machine.{Setup, State, by_phase, acts, next, after}
@@ -22,8 +24,8 @@ use Rattle.claim_rule.specs.declared.views.Slot.{Slot}
 use Rattle.claim_rule.specs.declared.views.Slot.TheVariants as slot
 use Rattle.claim_rule.specs.declared.views.Record.{Record}
 use Rattle.claim_rule.specs.declared.views.Terms.{Terms}
-use Rattle.claim_rule.specs.Views.{Content, Seated, view_of, own, setup, cells}
-use Rattle.claim_rule.specs.Stands.{is_held, turns_left, IsJournal, HasCommitted, AreWords, AreHomes, KeepsRule}
+use Rattle.claim_rule.specs.Views.{Content, Seated, view_of, own, setup}
+use Rattle.claim_rule.specs.Stands.{turns_left, IsJournal, HasCommitted, AreWords, AreHomes, KeepsRule}
 use Rattle.claim_rule.specs.Commits.{Takes, HasRoomForEntry, with_journal, took}
 use Rattle.claim_rule.specs.Nexts.{GoesOn, IsAt, TakeIsNext}
 use Rattle.claim_rule.proofs.Tables.{journal_written}
@@ -33,18 +35,18 @@ use Rattle.claim_rule.proofs.Giving.{set_back}
 use Rattle.claim_rule.proofs.Marking.{some_left}
 
 -- the journal's word is odd exactly where it has a holder, and is odd after the try
-odd : (n : ℕ) (o : Option ℕ) → (2 * n + is_held o) % 2 ≡ is_held o
+odd : (n : ℕ) (o : Option ℕ) → (2 * n + option_len o) % 2 ≡ option_len o
 odd n None = omega arith
 odd n (Some c) = omega arith
 
-made_odd : (n : ℕ) (o : Option ℕ) → bit_or (2 * n + is_held o) 1 ≡ 2 * n + 1
-made_odd n o = by o (or_block 1 n 0 (is_held o) 1 (small o) (omega arith))
+made_odd : (n : ℕ) (o : Option ℕ) → bit_or (2 * n + option_len o) 1 ≡ 2 * n + 1
+made_odd n o = by o (or_block 1 n 0 (option_len o) 1 (small o) (omega arith))
   where
-    small : (o : Option ℕ) → is_held o < 2 ^ 1
+    small : (o : Option ℕ) → option_len o < 2 ^ 1
     small None = omega arith
     small (Some c) = omega arith
 
-    by : (o : Option ℕ) → bit_or (n * 2 ^ 1 + is_held o) (0 * 2 ^ 1 + 1) ≡ bit_or n 0 * 2 ^ 1 + bit_or (is_held o) 1 → bit_or (2 * n + is_held o) 1 ≡ 2 * n + 1
+    by : (o : Option ℕ) → bit_or (n * 2 ^ 1 + option_len o) (0 * 2 ^ 1 + 1) ≡ bit_or n 0 * 2 ^ 1 + bit_or (option_len o) 1 → bit_or (2 * n + option_len o) 1 ≡ 2 * n + 1
     by None e = ap (λ (x : ℕ). bit_or x 1) (let q : 2 * n + 0 ≡ n * 2 ^ 1 + 0 = omega arith in q) ∙ (e ∙ (ap (λ (m : ℕ). m * 2 ^ 1 + 1) (or_zero_r n) ∙ (let q : n * 2 ^ 1 + 1 ≡ 2 * n + 1 = omega arith in q)))
     by (Some c) e = ap (λ (x : ℕ). bit_or x 1) (let q : 2 * n + 1 ≡ n * 2 ^ 1 + 1 = omega arith in q) ∙ (e ∙ (ap (λ (m : ℕ). m * 2 ^ 1 + 1) (or_zero_r n) ∙ (let q : n * 2 ^ 1 + 1 ≡ 2 * n + 1 = omega arith in q)))
 
@@ -68,8 +70,8 @@ module _ {D : Type 0} {verdict : D → Shown → Verdict} {z : Terms D} {s : Con
     leads_by : (o : Option ℕ) → core.holder ≡ o → next g r.number core ≡ machine.takes g r.number core r.caller change o
     leads_by o e = ap (acts g r.number core) (caller_at table) ∙ ap (by_phase g r.number core r.caller) p ∙ ap (machine.takes g r.number core r.caller change) e
 
-    word_is : (o : Option ℕ) → core.holder ≡ o → old ≡ 2 * length core.journal + is_held o
-    word_is o e = table.stands.words.journal ∙ ap (λ (x : Option ℕ). 2 * length core.journal + is_held x) e
+    word_is : (o : Option ℕ) → core.holder ≡ o → old ≡ 2 * length core.journal + option_len o
+    word_is o e = table.stands.words.journal ∙ ap (λ (x : Option ℕ). 2 * length core.journal + option_len x) e
 
     -- another caller has it
     misses : (d : ℕ) → core.holder ≡ Some d → Goes

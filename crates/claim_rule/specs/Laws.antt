@@ -9,6 +9,7 @@ use Rattle.amoebot_state.specs.Configs.{Config}
 use Rattle.amoebot_state.specs.declared.verdict.Verdict.{Verdict}
 use Rattle.amoebot_state.specs.Steps.{Run}
 use Rattle.amoebot_state.specs.Zones.{Shown, shown}
+use Rattle.claim_core.specs.Cells.{cells}
 use Rattle.claim_core.specs.Turns.{Kept}
 use Rattle.claim_core.specs.declared.marks.Mark.{Mark}
 use Rattle.claim_core.specs.declared.report.Report.{Report}
@@ -20,7 +21,7 @@ use Rattle.claim_core.specs.Soundness.{IsSetup, TurnOkSoFar}
 use Rattle.claim_rule.specs.declared.views.Slot.{Slot}
 use Rattle.claim_rule.specs.declared.views.Record.{Record}
 use Rattle.claim_rule.specs.declared.views.Terms.{Terms}
-use Rattle.claim_rule.specs.Views.{Content, view_of, setup, cells}
+use Rattle.claim_rule.specs.Views.{Content, view_of, setup}
 use Rattle.claim_rule.specs.Stands.{HasRecord, Stands, first_view}
 use Rattle.claim_rule.specs.Plays.{HoldsZone}
 use Rattle.claim_rule.specs.Tokens.{Token, doing}

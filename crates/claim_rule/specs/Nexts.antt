@@ -6,13 +6,14 @@ use prog.Atomic.{either}
 use Rattle.atomic_table.specs.Table.{Act, Valid, step, stepped, carried_after}
 use Rattle.amoebot_state.specs.declared.verdict.Verdict.{Verdict}
 use Rattle.amoebot_state.specs.Zones.{Shown}
+use Rattle.claim_core.specs.Cells.{cells}
 use Rattle.claim_core.specs.Machine.{after}
 use Rattle.claim_core.specs.Soundness.{IsSetup}
 use Rattle.claim_rule.specs.declared.views.Slot.{Slot}
 use Rattle.claim_rule.specs.declared.views.Record.{Record}
 use Rattle.claim_rule.specs.declared.views.Terms.{Terms}
 use Rattle.claim_rule.specs.declared.views.View.{View}
-use Rattle.claim_rule.specs.Views.{Content, Seated, own, view_of, setup, cells}
+use Rattle.claim_rule.specs.Views.{Content, Seated, own, view_of, setup}
 use Rattle.claim_rule.specs.Stands.{Stands}
 use Rattle.claim_rule.specs.Plays.{IsToTry, IsToFree, Reads, claimed, freed, read}
 use Rattle.claim_rule.specs.Commits.{Takes, IsToCommit, took, stored}

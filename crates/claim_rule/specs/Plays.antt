@@ -17,12 +17,12 @@ use Rattle.claim_core.specs.declared.state.Phase.{Phase}
 use Rattle.claim_core.specs.declared.state.Phase.TheVariants.{Claim, Refusing, Looking, Taking, Committing, Releasing, Ended}
 use Rattle.claim_core.specs.Limits.{most_turns}
 use Rattle.claim_core.specs.Tags.{tag_caller, tag_turn, tag_bot}
-use Rattle.claim_core.specs.Cells.{number}
+use Rattle.claim_core.specs.Cells.{number, cells}
 use Rattle.claim_core.specs.Machine.{Setup, bot, own_tag, found, next_of, won, frees, looked, refused}
 use Rattle.claim_rule.specs.declared.views.Slot.{Slot}
 use Rattle.claim_rule.specs.declared.views.Slot.TheVariants as slot
 use Rattle.claim_rule.specs.declared.views.View.{View}
-use Rattle.claim_rule.specs.Views.{Seated, own, goes_on, setup_at, cells}
+use Rattle.claim_rule.specs.Views.{Seated, own, goes_on, setup_at}
 
 -- a cell of the area or of an amoebot that is there, by its number
 abbrev pub IsPlaced : Setup → CellName → ℕ → Type 0

@@ -3,52 +3,39 @@ use Rattle.std.specs.Prelude.{◌≡◌, ◌≢◌, ℕ, ◌+◌, ◌*◌, ◌<�
 use Rattle.std.specs.List.{All, Contains}
 use Rattle.std.specs.declared.option.Option.{Option}
 use Rattle.std.specs.declared.option.Option.TheVariants.{Some, None}
+use Rattle.std.specs.Option.{option_len}
 use mathlib.Core.Option as home
 use lib.ListN.{get_elem?}
 use Rattle.amoebot_state.specs.declared.cell.CellName.{CellName}
 use Rattle.amoebot_state.specs.declared.cell.Cell.{Cell}
 use Rattle.amoebot_state.specs.declared.verdict.Verdict.{Verdict}
-use Rattle.amoebot_state.specs.Configs.{Config}
-use Rattle.amoebot_state.specs.Zones.{Shown, shown}
+use Rattle.amoebot_state.specs.Zones.{Shown}
 use Rattle.claim_core.specs.declared.state.Caller.{Caller}
 use Rattle.claim_core.specs.declared.state.Committed.{Committed}
 use Rattle.claim_core.specs.Limits.{most_turns}
 use Rattle.claim_core.specs.Turns.{Kept}
-use Rattle.claim_core.specs.Good.{IsWorldAt}
-use Rattle.claim_core.specs.Cells.{number, at}
+use Rattle.claim_core.specs.Cells.{number, at, cells}
 use Rattle.claim_core.specs.Machine.{Setup, State, fresh, after}
-use Rattle.claim_core.specs.Reached.{entries_of}
+use Rattle.claim_core.specs.Reached.{entries_of, placed, IsShownAt}
 use Rattle.claim_core.specs.Cores.{unmarked}
 use Rattle.claim_rule.specs.declared.views.Slot.{Slot}
 use Rattle.claim_rule.specs.declared.views.Slot.TheVariants as slot
 use Rattle.claim_rule.specs.declared.views.Record.{Record}
 use Rattle.claim_rule.specs.declared.views.Terms.{Terms}
 use Rattle.claim_rule.specs.declared.views.View.{View}
-use Rattle.claim_rule.specs.Views.{Content, record_of, view_of, setup, cells}
+use Rattle.claim_rule.specs.Views.{Content, record_of, view_of, setup}
 
 -- the word of the cell with this number: its tag
 abbrev pub word_of : State → ℕ → ℕ
 word_of core k = slice_index core.tags k
 
-abbrev pub is_held : Option ℕ → ℕ
-is_held None = 0
-is_held (Some c) = 1
-
 -- the journal's word: twice its length, plus one exactly where it has a holder
 abbrev pub journal_word : State → ℕ
-journal_word core = 2 * length core.journal + is_held core.holder
+journal_word core = 2 * length core.journal + option_len core.holder
 
 -- the turns of all callers that have no mark yet
 abbrev pub turns_left : Setup → State → ℕ
 turns_left g core = unmarked g.lists.turns (map (λ (k : Caller). k.marks) core.callers)
-
--- an entry with its place
-abbrev pub placed : Committed → ℕ × Rattle.amoebot_state.specs.declared.verdict.Entry.Entry
-placed p = (p.place, p.entry)
-
--- what was found for an entry is what the run shows its amoebot at its place
-abbrev pub IsFoundAt : Setup → State → Committed → Type 0
-IsFoundAt g core p = (world : Config) × IsWorldAt g.verdict g.world core.journal p.place world × (p.found ≡ shown world p.entry.bot)
 
 -- the first world with the entries, and room for those of all turns that have no mark yet
 pub record IsJournal (g : Setup) (core : State) (j : Kept) : Type 0 where
@@ -64,7 +51,7 @@ HasTaken g core c (Some j) = (core.holder ≡ Some c) × IsJournal g core j
 -- the entries that a caller committed are those of the journal that are its own, each with its place and what was found for it
 pub record HasCommitted (g : Setup) (core : State) (c : ℕ) (ps : List Committed) (j : Option Kept) : Type 0 where
   pub entries : map placed ps ≡ entries_of c 0 core.journal
-  pub found : All (IsFoundAt g core) ps
+  pub found : All (IsShownAt g core.journal) ps
   pub taken : HasTaken g core c j
 
 -- what a record says is so

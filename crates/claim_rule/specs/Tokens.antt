@@ -14,7 +14,7 @@ use Rattle.amoebot_state.specs.Zones.{Shown}
 use Rattle.claim_core.specs.declared.state.Caller.{Caller}
 use Rattle.claim_core.specs.declared.state.Look.{Look}
 use Rattle.claim_core.specs.declared.state.Phase.TheVariants.{Refusing, Looking, Releasing}
-use Rattle.claim_core.specs.Cells.{number}
+use Rattle.claim_core.specs.Cells.{number, cells}
 use Rattle.claim_core.specs.Tags.{tag_caller, tag_turn, tag_bot}
 use Rattle.claim_core.specs.Machine.{bot, found, next_of, decided, after_win, opens, frees, caller}
 use Rattle.claim_core.specs.Soundness.{IsSetup}
@@ -23,7 +23,7 @@ use Rattle.claim_rule.specs.declared.views.Slot.TheVariants as slot
 use Rattle.claim_rule.specs.declared.views.Record.{Record}
 use Rattle.claim_rule.specs.declared.views.Terms.{Terms}
 use Rattle.claim_rule.specs.declared.views.View.{View}
-use Rattle.claim_rule.specs.Views.{Seated, own, goes_on, setup, setup_at, cells}
+use Rattle.claim_rule.specs.Views.{Seated, own, goes_on, setup, setup_at}
 use Rattle.claim_rule.specs.Plays.{IsPlaced, IsKnown, IsOthers, about, bot_in}
 
 -- which table a field has, and what it is about

@@ -1,5 +1,5 @@
 -- What a seat knows, in short words.
-use Rattle.std.specs.Prelude.{ℕ, ◌+◌, ◌*◌, List, [], ◌∷◌, length, pos}
+use Rattle.std.specs.Prelude.{ℕ, List, [], ◌∷◌, pos}
 use Rattle.std.specs.declared.option.Option.{Option}
 use Rattle.std.specs.declared.option.Option.TheVariants.{Some, None}
 use Rattle.atomic_table.specs.Table as table
@@ -70,7 +70,3 @@ module _ {D : Type 0} where
     abbrev pub setup_at : Option (Terms D) → Setup
     setup_at None = record { verdict = λ _. decision.Idle; world = nowhere; lists = record { turns = 0; ids = [] } }
     setup_at (Some z) = setup z
-
--- the number of the cells of a configuration
-abbrev pub cells : Config → ℕ
-cells c = c.area.w * c.area.h + length c.bots

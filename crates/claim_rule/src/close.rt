@@ -20,7 +20,7 @@ use crate::seats::Seats;
 use crate::views::{Slot, View};
 use amoebot_state::{Decider, Entry, World};
 use atomic_table::{Closed, Seat as TableSeat};
-use claim_core::Journal;
+use claim_core::{Journal, cells_of};
 use std::alloc::Global;
 
 impl<'d, D: Decider> Field<'d, D> {
@@ -37,7 +37,7 @@ impl<'d, D: Decider> Field<'d, D> {
             decider,
             mut world,
         } = self;
-        let cells = world.area().size() as usize + usize::from(world.bots());
+        let cells = cells_of(&world);
         let journal = journal_of(table.close_with(rest), cells);
         follow(decider, &mut world, journal.entries());
         (world, journal)

@@ -3,10 +3,10 @@ ghost use Rattle.claim_rule.specs.Plays.{about, released};
 ghost use Rattle.claim_rule.specs.Tokens.{IsOf, doing, goes};
 
 use crate::activation::Activation;
-use crate::cells::number;
 use crate::field::Field;
 use crate::seat::Seat;
 use amoebot_state::Decider;
+use claim_core::cell_number;
 use std::marker::Model;
 
 /// A caller whose turn has its mark, and that frees the cells which it holds.
@@ -45,7 +45,7 @@ pub fn free_last<D: Decider>(freeing: Freeing<D>, field: &Field<'_, D>) -> Freei
     let Some((cell, value)) = activation.cells.pop() else {
         unreachable!()
     };
-    let Some(number) = number(&activation.area, cell) else {
+    let Some(number) = cell_number(&activation.area, cell) else {
         unreachable!()
     };
     field.put_home(&mut activation.seat, number, value);

@@ -7,12 +7,12 @@ ghost use Rattle.claim_rule.specs.Plays.{IsOthers, about, bot_in};
 ghost use Rattle.claim_rule.specs.Tokens.{IsOf, number_in, doing, goes, next_in};
 
 use crate::activation::Activation;
-use crate::cells::{number, tag};
 use crate::field::Field;
 use crate::seat::Seat;
 use crate::stopped::{Stopped, Tag};
 use amoebot_state::{CellName, Decider, next_cell};
 use arrayvec::ArrayVec;
+use claim_core::{cell_number, tag};
 use std::marker::Model;
 
 /// A caller that claims the zone of its turn's amoebot, or that holds it whole.
@@ -96,7 +96,7 @@ pub fn win<D: Decider>(
     ensures refused { IfErr result (λ by. (by.0 ≡ goes held (record (doing held) { phase = Refusing cell by.1 })) × IsOthers (about D.verdict held.view) (number_in held) by.1) }
 {
     let Held { mut activation } = held;
-    let Some(number) = number(&activation.area, cell) else {
+    let Some(number) = cell_number(&activation.area, cell) else {
         unreachable!()
     };
     let mine = tag(activation.caller, activation.turn, activation.bot);

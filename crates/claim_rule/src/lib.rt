@@ -2,7 +2,6 @@
 #![tactic(auto)]
 
 mod activation;
-mod cells;
 mod claimed;
 mod close;
 mod field;

@@ -1,5 +1,5 @@
 //! How a field begins.
-ghost use Rattle.std.specs.Prelude.{◌≡◌, ◌≤◌, ℕ, ◌∷◌, [], List, length, IfOk, IsSome};
+ghost use Rattle.std.specs.Prelude.{◌≡◌, ◌≤◌, [], length, IfOk, IsSome};
 ghost use Rattle.std.specs.List.{All};
 ghost use Rattle.amoebot_state.specs.Configs.{bot_at};
 ghost use Rattle.claim_rule.specs.Views.{terms_of};
@@ -12,7 +12,7 @@ use crate::seats::Seats;
 use crate::views::{Key, Slot, View};
 use amoebot_state::{Cell, Decider, NoMemory, World, has_next, touches_zone};
 use atomic_table::{Seat as TableSeat, Table};
-use claim_core::{Journal, Lists};
+use claim_core::{Journal, Lists, cells_of};
 use std::alloc::Global;
 
 impl<'d, D: Decider> Field<'d, D> {
@@ -51,7 +51,7 @@ fn open<'d, D: Decider>(
     touches_zone(decider);
     has_next(decider);
     let _callers = lists.callers();
-    let cells = world.area().size() as usize + usize::from(world.bots());
+    let cells = cells_of(&world);
     let words = Vec::from_elem(alloc, 0u64, cells + 1)?;
     let slots = first_slots(alloc, &world, lists)?;
     let key = Key {
@@ -119,7 +119,7 @@ fn first_slots(alloc: Global, world: &World, lists: &Lists) -> Result<Vec<Slot>,
         slots.push(Slot::Cell(Cell::Body(*world.bot(id))))?;
     }
     let mut journal = Journal::make(alloc, world)?;
-    journal.reserve(alloc, u32::from(lists.callers()) * lists.turns())?;
+    journal.reserve(alloc, lists.all_turns())?;
     slots.push(Slot::Journal(journal))?;
     Ok(slots)
 }

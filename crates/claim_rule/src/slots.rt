@@ -2,9 +2,9 @@
 ghost use Rattle.std.specs.Prelude.{◌≡◌, ◌∷◌};
 ghost use Rattle.amoebot_state.specs.declared.cell.Cell.{Cell};
 ghost use Rattle.atomic_table.specs.Table.{rest};
+ghost use Rattle.claim_core.specs.Cells.{cells};
 ghost use Rattle.claim_core.specs.Turns.{Kept};
 ghost use Rattle.claim_rule.specs.declared.views.Slot.TheVariants as slot;
-ghost use Rattle.claim_rule.specs.Views.{cells};
 
 use crate::field::Field;
 use crate::views::{Slot, View};

@@ -2,8 +2,9 @@
 ghost use Rattle.std.specs.Prelude.{◌≡◌, ◌<◌, ◌≤◌, ◌*◌, ◌∷◌, []};
 ghost use mathlib.Core.Option.{none};
 ghost use Rattle.atomic_table.specs.Table.{step};
+ghost use Rattle.claim_core.specs.Cells.{cells};
 ghost use Rattle.claim_core.specs.Limits.{most_turns};
-ghost use Rattle.claim_rule.specs.Views.{own, view_of, goes_on, cells};
+ghost use Rattle.claim_rule.specs.Views.{own, view_of, goes_on};
 ghost use Rattle.claim_rule.specs.Plays.{IsToTry, IsToFree, Reads, about, marked_at, claimed, freed, read};
 ghost use Rattle.claim_rule.specs.Commits.{Takes, IsToCommit, took, stored};
 
@@ -12,6 +13,7 @@ use crate::rule::{Claim, Commit, Free, Read, Take};
 use crate::views::{Slot, View};
 use amoebot_state::Decider;
 use atomic_table::Seat;
+use claim_core::cells_of;
 
 impl<'d, D: Decider> Field<'d, D> {
     /// One try to claim the cell with this number. It returns the tag that was found, 0 where the cell is won.
@@ -93,6 +95,6 @@ impl<'d, D: Decider> Field<'d, D> {
         ensures number { result ≡ cells self.now.terms.world }
         ensures word { result < self.now.table.words }
     {
-        self.world.area().size() as usize + usize::from(self.world.bots())
+        cells_of(&self.world)
     }
 }

@@ -9,6 +9,7 @@ use crate::activation::Activation;
 use crate::field::Field;
 use crate::freeing::Freeing;
 use amoebot_state::{CellName, Decider};
+use claim_core::{tag_bot, tag_caller, tag_turn};
 use std::marker::Model;
 
 /// The tag that was found at a cell that another caller held.
@@ -33,21 +34,21 @@ impl Tag {
     pub fn caller(&self) -> u8
         ensures { result ≡ tag_caller self.now }
     {
-        ((self.number - 1) / 4096 / 65_536) as u8
+        tag_caller(self.number)
     }
 
     /// The turn for which it held the cell.
     pub fn turn(&self) -> u32
         ensures { result ≡ tag_turn self.now }
     {
-        ((self.number - 1) / 4096 % 65_536) as u32
+        tag_turn(self.number)
     }
 
     /// The amoebot of that turn.
     pub fn bot(&self) -> u16
         ensures { result ≡ tag_bot self.now }
     {
-        ((self.number - 1) % 4096) as u16
+        tag_bot(self.number)
     }
 }
 

@@ -1,4 +1,4 @@
-ghost use Rattle.std.specs.Prelude.{◌≡◌, ◌<◌, length, IfOk, IfErr};
+ghost use Rattle.std.specs.Prelude.{◌≡◌, ◌<◌, IfOk, IfErr};
 ghost use Rattle.amoebot_state.specs.declared.verdict.Change.{Change as ChangeValue};
 ghost use Rattle.claim_core.specs.declared.state.Phase.TheVariants.{Committing};
 ghost use Rattle.claim_rule.specs.Tokens.{IsOf, doing};

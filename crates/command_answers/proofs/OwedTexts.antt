@@ -16,7 +16,8 @@ use Rattle.document_grammar.specs.Documents.{Contents, HasContents, IsRefused, b
 use Rattle.document_grammar.specs.Fitting.{FitTogether}
 use Rattle.shipped_programs.specs.declared.shipped.Shipped.{Shipped}
 use Rattle.shipped_programs.specs.Shipped.{tree_of}
-use Rattle.command_runs.specs.Reports.{setup, report_text}
+use Rattle.claim_core.specs.Machine.{setup}
+use Rattle.command_runs.specs.Reports.{report_text}
 use Rattle.command_runs.specs.Sample.{IsSampleText}
 use Rattle.command_runs.specs.Interleave.{IsInterleaveReport}
 use Rattle.command_runs.specs.Replay.{Agrees, DiffersAt, agrees_line, differs_line}

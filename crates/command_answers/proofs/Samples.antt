@@ -6,24 +6,27 @@ use Rattle.std.specs.List.{All}
 use Rattle.std.proofs.lemmas.List.Elements.{All-nil, All-cons}
 use Rattle.text_tokens.specs.Kinds.{name}
 use Rattle.amoebot_state.specs.Configs.{Config, IsValid, bot_at, occupant}
+use Rattle.amoebot_state.specs.Samples.{zeros}
 use Rattle.amoebot_state.proofs.Faults.{valid_one}
 use Rattle.amoebot_state.proofs.Occupants.{plain_in}
 use Rattle.model_ops.proofs.ActsDecide.{acts_keep_decider_laws}
 use Rattle.claim_core.specs.Turns.{IsList}
 use Rattle.claim_core.specs.Good.{Good}
-use Rattle.claim_core.specs.Machine.{Setup, after}
+use Rattle.claim_core.specs.Machine.{Setup, after, setup}
 use Rattle.claim_core.specs.Soundness.{IsSetup}
 use Rattle.claim_core.specs.Reached.{HaveEnded, IsReportOf, Reached}
 use Rattle.claim_core.specs.Laws.{ReachedIsGood, OneListIsSerial}
 use Rattle.action_meaning.specs.Verdicts.{verdict_shown}
 use Rattle.action_meaning.proofs.Decided.{programs_decide_by_acts}
 use Rattle.document_grammar.specs.declared.section.Form.TheVariants as form
-use Rattle.small_worlds.specs.Rows.{row, zeros, node, bot_on}
-use Rattle.command_runs.specs.Reports.{setup}
+use Rattle.document_grammar.specs.DocumentRows.{program_text, out, only_program}
+use Rattle.small_worlds.specs.Rows.{row, node, bot_on}
+use Rattle.claim_core.specs.declared.report.Report.{Report}
 use Rattle.command_runs.specs.Run.{IsRunReport}
+use Rattle.command_runs.specs.Reports.{report_text}
 use Rattle.command_runs.specs.Interleave.{IsScheduled, IsInterleaveReport}
 use Rattle.command_runs.specs.Replay.{at_end}
-use Rattle.command_runs.specs.Samples.{nobody}
+use Rattle.command_runs.specs.Samples.{nobody, one_alone}
 use Rattle.command_runs.proofs.Measures.{nobody_is_measured}
 use Rattle.small_worlds.proofs.Rows.{is_area, one_id, IsThereIn, one_has_ended, two_have_ended}
 use Rattle.shipped_programs.specs.declared.shipped.Shipped.TheVariants.{Line}
@@ -31,24 +34,24 @@ use Rattle.command_words.specs.declared.command.DocumentCommand.TheVariants.{Run
 use Rattle.command_answers.specs.OfReplay.{HasJournal}
 use Rattle.command_answers.specs.Owed.{of_run, of_interleave, of_replay, of_check, of_measure, usage, read_fault, longer, refused, differs, done, shown}
 use Rattle.command_words.specs.Words.{is_seed, of_two_words, sample_of}
-use Rattle.command_answers.specs.Samples.{program_text, with_shape, with_nobody, with_list, with_two_lists, with_schedule, journal_text, spread_text, still_text, out, start, spread, one_list, two_lists, schedule, expansion, only_program, and_nobody, and_list, and_two_lists, and_schedule, and_journal, told, told_text, both_told, both_text, empty_refused, SmallAnswers}
+use Rattle.command_answers.specs.Samples.{with_shape, with_nobody, with_list, with_two_lists, with_schedule, journal_text, spread_text, still_text, spread, one_list, two_lists, schedule, expansion, and_nobody, and_list, and_two_lists, and_schedule, and_journal, told, told_text, both_told, both_text, empty_refused, SmallAnswers}
 use Rattle.command_answers.proofs.SmallDocuments.{says, are_answered}
 
 abbrev g : Setup
-g = setup (verdict_shown out) start one_list
+g = setup (verdict_shown out) one_alone one_list
 
-valid : IsValid start
+valid : IsValid one_alone
 valid = valid_one row zeros is_area refl (bot_on 1 1) (plain_in row is_area (bot_on 1 1) refl refl (omega arith) refl) refl
 
-only_bot : All (IsThereIn start) (0 ∷ [])
-only_bot = All-cons (IsThereIn start) 0 [] refl (All-nil (IsThereIn start))
+only_bot : All (IsThereIn one_alone) (0 ∷ [])
+only_bot = All-cons (IsThereIn one_alone) 0 [] refl (All-nil (IsThereIn one_alone))
 
 may_run : IsSetup g
 may_run = record {
   valid = valid;
   few = omega arith;
   lists = record { few = record { at_most_16 = omega arith; in_all = omega arith }; each = All-cons IsList (0 ∷ []) [] (one_id 0) (All-nil IsList) };
-  bots = All-cons (All (IsThereIn start)) (0 ∷ []) [] only_bot (All-nil (All (IsThereIn start)));
+  bots = All-cons (All (IsThereIn one_alone)) (0 ∷ []) [] only_bot (All-nil (All (IsThereIn one_alone)));
   touches = (acts_keep_decider_laws (verdict_shown out) (programs_decide_by_acts out)).0;
   leads = (acts_keep_decider_laws (verdict_shown out) (programs_decide_by_acts out)).1;
 }
@@ -56,7 +59,7 @@ may_run = record {
 ended : HaveEnded (after g (reverse schedule))
 ended = one_has_ended (after g (reverse schedule)) _ refl refl
 
-same_ids : (i : ℕ) → is_some (bot_at spread i) ≡ is_some (bot_at start i)
+same_ids : (i : ℕ) → is_some (bot_at spread i) ≡ is_some (bot_at one_alone i)
 same_ids zero = refl
 same_ids (suc i) = refl
 
@@ -68,14 +71,14 @@ reached = record { steps = reverse schedule; ended = ended; left = left }
 
 -- two lists of one turn each, whose callers make their steps one after the other
 abbrev both : Setup
-both = setup (verdict_shown out) start two_lists
+both = setup (verdict_shown out) one_alone two_lists
 
 both_may_run : IsSetup both
 both_may_run = record {
   valid = valid;
   few = omega arith;
   lists = record { few = record { at_most_16 = omega arith; in_all = omega arith }; each = All-cons IsList (0 ∷ []) ((0 ∷ []) ∷ []) (one_id 0) (All-cons IsList (0 ∷ []) [] (one_id 0) (All-nil IsList)) };
-  bots = All-cons (All (IsThereIn start)) (0 ∷ []) ((0 ∷ []) ∷ []) only_bot (All-cons (All (IsThereIn start)) (0 ∷ []) [] only_bot (All-nil (All (IsThereIn start))));
+  bots = All-cons (All (IsThereIn one_alone)) (0 ∷ []) ((0 ∷ []) ∷ []) only_bot (All-cons (All (IsThereIn one_alone)) (0 ∷ []) [] only_bot (All-nil (All (IsThereIn one_alone))));
   touches = may_run.touches;
   leads = may_run.leads;
 }
@@ -92,20 +95,21 @@ both_reached = record { steps = steps_of_both; ended = both_ended; left = record
 scheduled : IsScheduled g schedule told
 scheduled = record { count = 0; ended = ended; first = λ n lt. absurd (omega arith); left = left }
 
-has : (final : Config) → HasJournal (and_journal final) out start (expansion ∷ []) final
+has : (final : Config) → HasJournal (and_journal final) out one_alone (expansion ∷ []) final
 has final = record { its_program = refl; its_shape = refl; its_journal = refl; its_final = refl }
 
 module _ (goods : ReachedIsGood) (serials : OneListIsSerial) where
-  good : Good (verdict_shown out) start one_list told
+  good : Good (verdict_shown out) one_alone one_list told
   good = goods g may_run told reached
 
-  run_report : IsRunReport (verdict_shown out) start one_list told
-  run_report = record { good = good; reached = reached; serial = λ few. serials (verdict_shown out) start one_list told few good }
-
-  both_report : IsRunReport (verdict_shown out) start two_lists both_told
+  both_report : IsRunReport (verdict_shown out) one_alone two_lists both_told
   both_report = let its_good = goods both both_may_run both_told both_reached in record { good = its_good; reached = both_reached; serial = λ few. absurd (omega arith) }
 
-  interleave_report : IsInterleaveReport (verdict_shown out) start one_list schedule told
+  -- any report that is good and reached is one of `run`
+  report_of_run : (report : Report) → Good (verdict_shown out) one_alone one_list report → Reached g report → IsRunReport (verdict_shown out) one_alone one_list report
+  report_of_run report its_good its_reached = record { good = its_good; reached = its_reached; serial = λ few. serials (verdict_shown out) one_alone one_list report few its_good }
+
+  interleave_report : IsInterleaveReport (verdict_shown out) one_alone one_list schedule told
   interleave_report = record { good = good; reached = reached; scheduled = scheduled }
 
   pub small_answers : SmallAnswers
@@ -118,12 +122,25 @@ module _ (goods : ReachedIsGood) (serials : OneListIsSerial) where
     fails = read_fault Run (codes "amoe");
     long = λ bytes. longer Check bytes;
     empty = refused Interleave [] empty_refused (says form.Interleave [] (Err empty_refused) are_answered.empty);
-    run = done Run with_list and_list (Some told) told_text (says form.Run with_list (Ok and_list) are_answered.list) (of_run told told_text (record { program = out; start = start; lists = one_list; its_program = refl; its_shape = refl; its_lists = refl; writes = record { run = run_report; whole = refl } }));
-    two_lists = done Run with_two_lists and_two_lists (Some both_told) both_text (says form.Run with_two_lists (Ok and_two_lists) are_answered.two_lists) (of_run both_told both_text (record { program = out; start = start; lists = two_lists; its_program = refl; its_shape = refl; its_lists = refl; writes = record { run = both_report; whole = refl } }));
-    interleave = done Interleave with_schedule and_schedule (Some told) told_text (says form.Interleave with_schedule (Ok and_schedule) are_answered.schedule) (of_interleave told told_text (record { program = out; start = start; lists = one_list; schedule = schedule; its_program = refl; its_shape = refl; its_lists = refl; its_schedule = refl; writes = record { run = interleave_report; whole = refl } }));
-    agrees = done Replay (with_shape ++ journal_text ++ spread_text) (and_journal spread) None (codes "agrees 1\n") (says form.Replay (with_shape ++ journal_text ++ spread_text) (Ok (and_journal spread)) are_answered.journal) (of_replay (codes "agrees 1\n") (record { program = out; start = start; entries = expansion ∷ []; final = spread; has = has spread; writes = record { agrees = good.run; whole = refl } }));
-    differs = differs (with_shape ++ journal_text ++ still_text) (and_journal start) 1 (says form.Replay (with_shape ++ journal_text ++ still_text) (Ok (and_journal start)) are_answered.other_final) (record { program = out; start = start; entries = expansion ∷ []; final = start; has = has start; differs = at_end spread good.run (λ same. let e = ap (λ (c : Config). occupant c (node 2)) same in cc) });
+    run = done Run with_list and_list (Some told) told_text (says form.Run with_list (Ok and_list) are_answered.list) (of_run told told_text (record { program = out; start = one_alone; lists = one_list; its_program = refl; its_shape = refl; its_lists = refl; writes = record { run = report_of_run told good reached; whole = refl } }));
+    two_lists = done Run with_two_lists and_two_lists (Some both_told) both_text (says form.Run with_two_lists (Ok and_two_lists) are_answered.two_lists) (of_run both_told both_text (record { program = out; start = one_alone; lists = two_lists; its_program = refl; its_shape = refl; its_lists = refl; writes = record { run = both_report; whole = refl } }));
+    interleave = done Interleave with_schedule and_schedule (Some told) told_text (says form.Interleave with_schedule (Ok and_schedule) are_answered.schedule) (of_interleave told told_text (record { program = out; start = one_alone; lists = one_list; schedule = schedule; its_program = refl; its_shape = refl; its_lists = refl; its_schedule = refl; writes = record { run = interleave_report; whole = refl } }));
+    agrees = done Replay (with_shape ++ journal_text ++ spread_text) (and_journal spread) None (codes "agrees 1\n") (says form.Replay (with_shape ++ journal_text ++ spread_text) (Ok (and_journal spread)) are_answered.journal) (of_replay (codes "agrees 1\n") (record { program = out; start = one_alone; entries = expansion ∷ []; final = spread; has = has spread; writes = record { agrees = good.run; whole = refl } }));
+    differs = differs (with_shape ++ journal_text ++ still_text) (and_journal one_alone) 1 (says form.Replay (with_shape ++ journal_text ++ still_text) (Ok (and_journal one_alone)) are_answered.other_final) (record { program = out; start = one_alone; entries = expansion ∷ []; final = one_alone; has = has one_alone; differs = at_end spread good.run (λ same. let e = ap (λ (c : Config). occupant c (node 2)) same in cc) });
     check = done Check program_text only_program None _ (says form.Check program_text (Ok only_program) are_answered.program) (of_check _ (record { program = out; its_program = refl; writes = refl }));
     show = shown Line;
     measure = done Measure with_nobody and_nobody None _ (says form.Measure with_nobody (Ok and_nobody) are_answered.nobody) (of_measure _ (record { last = nobody; its_last = refl; writes = nobody_is_measured }));
+    refused_task = (refused Interleave [] empty_refused (says form.Interleave [] (Err empty_refused) are_answered.empty), λ same. absurd (cc));
+    run_task = (
+      refl,
+      and_list,
+      says form.Run with_list (Ok and_list) are_answered.list,
+      record {
+        its_program = refl;
+        its_shape = refl;
+        its_lists = refl;
+        there = may_run.bots;
+        owed = λ report its_good its_reached. done Run with_list and_list (Some report) (report_text 0 report) (says form.Run with_list (Ok and_list) are_answered.list) (of_run report (report_text 0 report) (record { program = out; start = one_alone; lists = one_list; its_program = refl; its_shape = refl; its_lists = refl; writes = record { run = report_of_run report its_good its_reached; whole = refl } }));
+      },
+    );
   }

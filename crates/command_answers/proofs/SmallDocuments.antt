@@ -20,9 +20,11 @@ use Rattle.document_grammar.specs.declared.section.Form.{Form}
 use Rattle.document_grammar.specs.declared.section.Form.TheVariants as form
 use Rattle.document_grammar.specs.FrameReaders.{rest_at, header, in_frame}
 use Rattle.document_grammar.specs.Documents.{Contents, IsDocument, Says}
+use Rattle.document_grammar.specs.DocumentRows.{program_text, only_program}
 use Rattle.document_grammar.specs.DocumentReaders.{a_checked_program, body, document}
 use Rattle.document_grammar.proofs.Deciding.{document_framed, says_of}
-use Rattle.command_answers.specs.Samples.{program_text, with_shape, with_nobody, with_list, with_two_lists, with_schedule, journal_text, spread_text, still_text, start, spread, only_program, and_nobody, and_list, and_two_lists, and_schedule, and_journal, empty_refused}
+use Rattle.command_runs.specs.Samples.{one_alone}
+use Rattle.command_answers.specs.Samples.{with_shape, with_nobody, with_list, with_two_lists, with_schedule, journal_text, spread_text, still_text, spread, and_nobody, and_list, and_two_lists, and_schedule, and_journal, empty_refused}
 
 abbrev pub answer_of : Form → List ℕ → Result Contents Refusal
 answer_of form text = whole_input Trailing (document form) (last_of (point text 0)) (ahead_of (point text 0))
@@ -39,7 +41,7 @@ pub record AreAnswered : Type 0 where
   pub two_lists : answer_of form.Run with_two_lists ≡ Ok and_two_lists
   pub schedule : answer_of form.Interleave with_schedule ≡ Ok and_schedule
   pub journal : answer_of form.Replay (with_shape ++ journal_text ++ spread_text) ≡ Ok (and_journal spread)
-  pub other_final : answer_of form.Replay (with_shape ++ journal_text ++ still_text) ≡ Ok (and_journal start)
+  pub other_final : answer_of form.Replay (with_shape ++ journal_text ++ still_text) ≡ Ok (and_journal one_alone)
   pub program : answer_of form.Check program_text ≡ Ok only_program
   pub nobody : answer_of form.Measure with_nobody ≡ Ok and_nobody
 

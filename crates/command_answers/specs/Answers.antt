@@ -14,7 +14,8 @@ use Rattle.action_tree.specs.Trees.{Program}
 use Rattle.action_meaning.specs.Verdicts.{verdict_shown}
 use Rattle.document_grammar.specs.Documents.{Contents, HasContents}
 use Rattle.run_sample.specs.Whole.{IsSample}
-use Rattle.command_runs.specs.Reports.{setup, report_text}
+use Rattle.claim_core.specs.Machine.{setup}
+use Rattle.command_runs.specs.Reports.{report_text}
 use Rattle.command_runs.specs.Sample.{IsSampleText}
 use Rattle.command_answers.specs.declared.answering.Answer.{Answer}
 use Rattle.command_answers.specs.declared.answering.Prepared.{Prepared}

@@ -17,7 +17,8 @@ use Rattle.run_sample.specs.Whole.{IsSample}
 use Rattle.document_grammar.specs.declared.section.Form.{Form}
 use Rattle.document_grammar.specs.Documents.{Contents, HasContents}
 use Rattle.command_runs.specs.Laws.{StaysConnectedIn}
-use Rattle.command_runs.specs.Reports.{setup, report_text}
+use Rattle.claim_core.specs.Machine.{setup}
+use Rattle.command_runs.specs.Reports.{report_text}
 use Rattle.command_answers.specs.OfSample.{six_lines}
 use Rattle.command_words.specs.declared.command.Command.{Command}
 use Rattle.command_words.specs.declared.command.Command.TheVariants.{Document, Show, Sample}

@@ -1,18 +1,15 @@
 -- The text of the command `measure` for a document.
 use Rattle.std.specs.Prelude.{◌≡◌, ℕ, List}
 use Rattle.std.specs.declared.option.Option.{Option}
-use Rattle.std.specs.declared.option.Option.TheVariants.{Some, None}
+use Rattle.std.specs.declared.option.Option.TheVariants.{Some}
+use Rattle.std.specs.Option.{option_or}
 use Rattle.amoebot_state.specs.Configs.{Config}
 use Rattle.document_grammar.specs.Documents.{Contents}
 use Rattle.command_runs.specs.Measure.{IsMeasureText}
 
 -- the last shape of a document: the one at the end, if it has that, else the one at the start
-abbrev pub last_of : Option Config → Option Config → Option Config
-last_of None world = world
-last_of (Some final) world = Some final
-
 abbrev pub last_shape : Contents → Option Config
-last_shape a = last_of a.final_world a.world
+last_shape a = option_or a.final_world a.world
 
 -- the text is that of its measures
 pub record IsTextOfMeasure (a : Contents) (text : List ℕ) : Type 0 where

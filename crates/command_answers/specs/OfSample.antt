@@ -7,7 +7,7 @@ use Rattle.claim_core.specs.Reached.{Reached}
 use Rattle.action_meaning.specs.Verdicts.{verdict_shown}
 use Rattle.run_sample.specs.declared.whole.Sample.{Sample}
 use Rattle.run_sample.specs.Whole.{IsSample}
-use Rattle.command_runs.specs.Reports.{setup}
+use Rattle.claim_core.specs.Machine.{setup}
 use Rattle.command_runs.specs.Sample.{IsSampleText}
 
 -- the report is a good one of the turns of the number's sample, an interleaving gives it, and the text tells it

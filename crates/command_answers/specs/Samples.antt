@@ -1,33 +1,33 @@
 -- For each status a call that owes it. The document has one amoebot on a row of three nodes, and its program expands a contracted amoebot to the right.
-use Rattle.std.specs.Prelude.{ℕ, false, List, [], ◌∷◌, ◌++◌, codes, replicate}
+use Rattle.std.specs.Prelude.{ℕ, List, [], ◌∷◌, ◌++◌, codes, replicate}
 use Rattle.std.specs.declared.option.Option.TheVariants.{Some, None}
 use Rattle.text_tokens.specs.declared.refusal.Refusal.{Refusal}
 use Rattle.text_tokens.specs.declared.refusal.RefusalKind.TheVariants as kind
 use Rattle.amoebot_state.specs.declared.bot.Bot.{Bot}
-use Rattle.amoebot_state.specs.declared.bot.End.TheVariants.{Head}
 use Rattle.amoebot_state.specs.declared.cell.CellName.TheVariants as name
 use Rattle.amoebot_state.specs.declared.cell.Cell.TheVariants as cell
 use Rattle.amoebot_state.specs.declared.verdict.Entry.{Entry}
 use Rattle.amoebot_state.specs.declared.verdict.Moved.TheVariants as moved
 use Rattle.amoebot_state.specs.Configs.{Config, config_of}
+use Rattle.amoebot_state.specs.Samples.{zeros}
 use Rattle.claim_core.specs.declared.marks.Mark.TheVariants as mark
 use Rattle.claim_core.specs.declared.report.Report.{Report}
 use Rattle.claim_core.specs.Turns.{CallerLists}
-use Rattle.action_tree.specs.Trees as tree
-use Rattle.action_tree.specs.Trees.{Name, Literal, atom, through, expand, at_end, fixed, no_stmts}
+use Rattle.schedule_text.specs.Lists.{lists_of}
 use Rattle.document_grammar.specs.Documents.{Contents}
-use Rattle.small_worlds.specs.Rows.{row, zeros, node, bot_on, to_the_right}
-use Rattle.command_runs.specs.Samples.{nobody}
+use Rattle.document_grammar.specs.DocumentRows.{program_text, turns_text, out, only_program}
+use Rattle.small_worlds.specs.Rows.{row, node, bot_on, to_the_right}
+use Rattle.command_runs.specs.Samples.{nobody, one_alone}
 use Rattle.command_answers.specs.declared.status.Status.TheVariants as status
 use Rattle.command_words.specs.Words.{command_of}
 use Rattle.command_answers.specs.Lines.{usage_line, too_long}
 use Rattle.command_answers.specs.Reads.{nothing, whole, above, up_to_fault}
 use Rattle.command_answers.specs.Owed.{IsOwed}
+use Rattle.command_answers.specs.declared.answering.Task.TheVariants as task
+use Rattle.command_answers.specs.Answers.{IsTaskOf, refused_with}
+use Rattle.command_words.specs.declared.command.DocumentCommand.TheVariants.{Run, Interleave}
 
 -- ---- texts
-
-abbrev pub program_text : List ℕ
-program_text = codes "amoebot 1\nprogram\naction out when contracted move expand head 0\nend\n"
 
 abbrev pub with_shape : List ℕ
 with_shape = program_text ++ codes "shape\narea 0 0 3 1\nbot 1 0 1 0 0 +\nend\n"
@@ -54,37 +54,22 @@ spread_text = codes "final\narea 0 0 3 1\nbot 2 0 1 0 0 +\nend\n"
 abbrev pub still_text : List ℕ
 still_text = codes "final\narea 0 0 3 1\nbot 1 0 1 0 0 +\nend\n"
 
-abbrev pub turns_text : List ℕ
-turns_text = codes "turns\nturn 0 0 done 0\nturn 0 1 idle 1\nend\n"
-
 abbrev pub two_turns_text : List ℕ
 two_turns_text = codes "turns\nturn 0 0 done 0\nturn 1 0 idle 1\nend\n"
 
 -- ---- what they say
 
-abbrev pub out : tree.Program
-out =
-    let name : Name = record { text = codes "out"; line = 3 } in
-    let direction : Literal = record { value = 0; line = 3 } in
-    record { guard = false; vars = []; actions = record { name = name; guard = atom tree.contracted; body = no_stmts; moved = through expand (at_end Head (fixed direction)) } ∷ [] }
-
 abbrev pub alone : Bot → Config
 alone b = config_of row zeros (b ∷ [])
-
-abbrev pub start : Config
-start = alone (bot_on 1 1)
 
 abbrev pub spread : Config
 spread = alone (bot_on 2 1)
 
-abbrev pub lists : ℕ → List (List ℕ) → CallerLists
-lists turns ids = record { turns = turns; ids = ids }
-
 abbrev pub one_list : CallerLists
-one_list = lists 2 ((0 ∷ []) ∷ [])
+one_list = lists_of 2 ((0 ∷ []) ∷ [])
 
 abbrev pub two_lists : CallerLists
-two_lists = lists 1 ((0 ∷ []) ∷ (0 ∷ []) ∷ [])
+two_lists = lists_of 1 ((0 ∷ []) ∷ (0 ∷ []) ∷ [])
 
 abbrev pub schedule : List ℕ
 schedule = replicate 30 0
@@ -92,11 +77,8 @@ schedule = replicate 30 0
 abbrev pub expansion : Entry
 expansion = record { caller = 0; turn = 0; bot = 0; action = 0; moved = moved.Expand to_the_right; patch = (name.Spot (node 2), cell.Spot (Some 0)) ∷ (name.Body 0, cell.Body (bot_on 2 1)) ∷ [] }
 
-abbrev pub only_program : Contents
-only_program = record { checked = Some out; world = None; lists = None; schedule = None; entries = None; final_world = None }
-
 abbrev pub and_shape : Contents
-and_shape = record only_program { world = Some start }
+and_shape = record only_program { world = Some one_alone }
 
 abbrev pub and_nobody : Contents
 and_nobody = record only_program { world = Some nobody }
@@ -119,7 +101,7 @@ and_journal final = record and_shape { entries = Some (expansion ∷ []); final_
 abbrev pub told : Report
 told = record {
   world = spread;
-  journal = record { first = start; entries = expansion ∷ []; spare = 1 };
+  journal = record { first = one_alone; entries = expansion ∷ []; spare = 1 };
   turns = record { turns = 2; marks = (mark.Done 0 ∷ mark.Idle 1 ∷ []) ∷ [] };
 }
 
@@ -136,8 +118,8 @@ both_text = journal_text ++ spread_text ++ two_turns_text
 abbrev pub checked_text : List ℕ
 checked_text = codes "amoebot 1\nprogram\nguard off\naction out\nwhen contracted\nmove expand head 0\nend\n"
 
-abbrev pub line_text : List ℕ
-line_text = codes "amoebot 1\nprogram\nguard off\naction out\nwhen contracted and free head 0\nmove expand head 0\naction follow_up\nwhen expanded\nmove contract tail\nend\n"
+abbrev pub shown_line : List ℕ
+shown_line = codes "amoebot 1\nprogram\nguard off\naction out\nwhen contracted and free head 0\nmove expand head 0\naction follow_up\nwhen expanded\nmove contract tail\nend\n"
 
 -- the end of an empty input is where the header is needed
 abbrev pub empty_refused : Refusal
@@ -160,4 +142,7 @@ pub record SmallAnswers : Type 0 where
   pub differs : IsOwed (command_of (codes "replay" ∷ [])) (whole (with_shape ++ journal_text ++ still_text)) (status.Differs 1) None (codes "differs 1\n")
   pub check : IsOwed (command_of (codes "check" ∷ [])) (whole program_text) status.Done None checked_text
   pub measure : IsOwed (command_of (codes "measure" ∷ [])) (whole with_nobody) status.Done None (codes "bots 0\nconnected yes\nhexagon no\n")
-  pub show : IsOwed (command_of (codes "show" ∷ codes "line" ∷ [])) nothing status.Done None line_text
+  pub show : IsOwed (command_of (codes "show" ∷ codes "line" ∷ [])) nothing status.Done None shown_line
+  -- what is to be done for an input that is refused at once, and for a document of `run`
+  pub refused_task : IsTaskOf Interleave [] (task.Answered (refused_with empty_refused))
+  pub run_task : IsTaskOf Run with_list (task.Run (record { runner = out; world = one_alone; lists = one_list }))

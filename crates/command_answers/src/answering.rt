@@ -1,8 +1,10 @@
 //! What a command answers to a whole input, and what is prepared for a run.
 
-ghost use Rattle.std.specs.Prelude.{◌≡◌, ◌<◌, ◌≤◌, ◌^◌, length, IfOk, IsSome, Some};
+ghost use Rattle.std.specs.Prelude.{◌≡◌, ◌<◌, ◌≤◌, IfOk, IsSome, Some};
+ghost use Rattle.std.specs.Option.{option_or};
 ghost use Rattle.text_tokens.specs.Text.{IsCountable};
 ghost use Rattle.amoebot_state.specs.Limits.{most_vars};
+ghost use Rattle.serial_model.specs.Replays.{AreCountable};
 ghost use Rattle.claim_core.specs.Good.{Good};
 ghost use Rattle.action_meaning.specs.Verdicts.{verdict_shown};
 ghost use Rattle.document_grammar.specs.Fitting.{Fits};
@@ -10,7 +12,6 @@ ghost use Rattle.shape_files.specs.Views.{contents};
 ghost use Rattle.command_answers.specs.Answers.{IsAnswerTo, IsPreparedSample, IsTaskOf, IsTaskTo, TellsSample, done_with, refused_with};
 ghost use Rattle.command_words.specs.declared.command.Command.TheVariants.{Show};
 ghost use Rattle.command_answers.specs.Commands.{form_of};
-ghost use Rattle.command_answers.specs.OfMeasure.{last_of};
 ghost use Rattle.command_answers.specs.Owed.{IsOwed};
 ghost use Rattle.command_answers.specs.Reads.{nothing};
 
@@ -232,7 +233,7 @@ fn answer_measure(alloc: Global, parts: Parts) -> Result<Answer, NoMemory>
 /// The shape at the end, if there is one, and else the one at the start.
 fn last_shape(world: Option<World>, final_world: Option<World>) -> World
     requires { IsSome world }
-    ensures { last_of final_world world ≡ Some result }
+    ensures { option_or final_world world ≡ Some result }
 {
     match final_world {
         Some(last) => last,
@@ -278,7 +279,7 @@ pub fn answer_sample(
     told: Report,
 ) -> Result<Answer, NoMemory>
     requires good { Good (verdict_shown runner.now) told.journal.first lists.now told }
-    requires few { length told.journal.entries < 2 ^ 32 }
+    requires few { AreCountable told.journal.entries }
     ensures { IfOk result (TellsSample (verdict_shown runner.now) lists.now seed told) }
 {
     good_is_few();

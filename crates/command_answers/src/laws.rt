@@ -52,7 +52,7 @@ pub fn reports_are_of_runs()
     sample_is_fit();
 }
 
-/// For each status that an input can owe, a call that owes it.
+/// For each status that an input can owe, a call that owes it; and a task of each kind.
 pub fn small_answers()
     ensures { SmallAnswers }
 {

@@ -1,29 +1,24 @@
 -- The entries of a run: their amoebots are there, and there are not more of them than turns.
-use Rattle.std.proofs.Common.{◌≡◌, refl, ℕ, zero, suc, ◌+◌, ◌*◌, ◌<◌, ◌≤◌, List, [], ◌∷◌, None, inl, inr, length, get_or, set, replicate, length-set, sym, ap, subst, ◌∙◌, arith}
-use Rattle.std.specs.Prelude.{IsSome, is_some}
+use Rattle.std.proofs.Common.{◌≡◌, ℕ, zero, suc, ◌+◌, ◌*◌, ◌<◌, ◌≤◌, List, [], ◌∷◌, inl, inr, length, get_or, set, replicate, length-set, sym, ap, subst, ◌∙◌, arith}
 use Rattle.std.specs.List.{All, AllPairs, sum_by}
-use Rattle.std.proofs.lemmas.Bool.{cases_lt, cases_eq, false≢true}
-use Rattle.std.proofs.lemmas.List.{get_or_past, get_or-set_same, get_or-set_other, length-replicate}
+use Rattle.std.proofs.lemmas.Bool.{cases_eq}
+use Rattle.std.proofs.lemmas.List.{get_or-set_same, get_or-set_other, length-replicate}
 use Rattle.std.proofs.lemmas.List.Elements.{All-nil, All-cons, All-head, All-tail, All-set, All-replicate}
 use Rattle.std.proofs.lemmas.List.Sums.{sum_by-le, sum_by-set}
 use Rattle.amoebot_state.specs.declared.verdict.Entry.{Entry}
 use Rattle.amoebot_state.specs.declared.verdict.Verdict.{Verdict}
-use Rattle.amoebot_state.specs.Configs.{Config, bot_at}
+use Rattle.amoebot_state.specs.Configs.{Config}
 use Rattle.amoebot_state.specs.Zones.{Shown}
 use Rattle.amoebot_state.specs.Steps.{Run}
+use Rattle.amoebot_state.proofs.Members.{one_everywhere}
+use Rattle.amoebot_state.proofs.Occupants.{there_below}
 use Rattle.command_runs.specs.Laws.{GoodIsFew}
-
-below : (c : Config) (i : ℕ) → IsSome (bot_at c i) → i < length c.bots
-below c i there = elim (cases_lt i (length c.bots)) [
-  | inl lt ↦ lt
-  | inr le ↦ absurd (false≢true (ap is_some (sym (get_or_past c.bots i None le)) ∙ there))
-]
 
 bots_there : (f : Shown → Verdict) (old new : Config) (es : List Entry) → Run f old es new → All (λ (e : Entry). e.bot < length old.bots) es
 bots_there f old new [] run = All-nil _
 bots_there f old new (e ∷ es) run =
     let rest = bots_there f run.0 new es run.2 in
-    All-cons (λ (x : Entry). x.bot < length old.bots) e es (below old e.bot run.1.there) (subst (λ (n : ℕ). All (λ (x : Entry). x.bot < n) es) run.1.patched.size rest)
+    All-cons (λ (x : Entry). x.bot < length old.bots) e es (there_below old e.bot run.1.there) (subst (λ (n : ℕ). All (λ (x : Entry). x.bot < n) es) run.1.patched.size rest)
 
 -- a turn of one of the callers, of whose turns so many may have been told
 record IsAbove (turns : ℕ) (told : List ℕ) (e : Entry) : Type 0 where
@@ -59,11 +54,6 @@ counted turns told (e ∷ es) few above rising =
     let lower = is.above in
     omega arith
 
-zeros : (n i : ℕ) → get_or (replicate n zero) i zero ≡ zero
-zeros zero i = get_or_past [] i zero (omega arith)
-zeros (suc n) zero = refl
-zeros (suc n) (suc i) = zeros n i
-
 pub good_is_few : GoodIsFew
 good_is_few f w0 lists report good =
     let n = length lists.ids in
@@ -71,7 +61,7 @@ good_is_few f w0 lists report good =
     let long : length none ≡ n = length-replicate n zero in
     let told : All (IsAbove lists.turns none) report.journal.entries = (λ k d inside.
     let is = good.order.listed k d inside in
-    let low : get_or none (get_or report.journal.entries k d).caller zero ≡ zero = zeros n (get_or report.journal.entries k d).caller in
+    let low : get_or none (get_or report.journal.entries k d).caller zero ≡ zero = one_everywhere n (get_or report.journal.entries k d).caller zero in
     record { caller = subst (λ m. (get_or report.journal.entries k d).caller < m) (sym long) is.caller; above = (omega arith); turn = is.turn }) in
     let all = counted lists.turns none report.journal.entries (All-replicate (λ m. m ≤ lists.turns) n zero (omega arith)) told good.order.rising in
     let same : length none * lists.turns ≡ n * lists.turns = ap (λ m. m * lists.turns) long in

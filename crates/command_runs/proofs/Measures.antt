@@ -1,7 +1,8 @@
 -- One text of a shape's measures, and those of small shapes.
-use Rattle.std.proofs.Common.{◌≡◌, ◌<◌, ℕ, Bool, true, false, refl, sym, ◌∙◌, ap, subst, inl, inr, arith}
+use Rattle.std.proofs.Common.{◌≡◌, ◌<◌, ℕ, true, false, refl, sym, ◌∙◌, ap, subst, inl, inr, arith}
 use Rattle.std.proofs.lemmas.Bool.{false≢true, both_ways, cases_Bool}
-use Rattle.std.specs.Prelude.{Decides, IsTrue, codes, length}
+use Rattle.std.proofs.lemmas.Bool.Decides.{same_from_decides}
+use Rattle.std.specs.Prelude.{IsTrue, codes, length}
 use Rattle.std.specs.Fmt.{digits}
 use Rattle.tri_lattice.specs.declared.node.Node.{Node}
 use Rattle.tri_lattice.specs.Lattice.{step, node_eq}
@@ -10,27 +11,21 @@ use Rattle.tri_lattice.proofs.Nodes.{node_eq-true, each_direction}
 use Rattle.tri_lattice.proofs.Paths.{Joined-first, Joined-trans, Joined-sym}
 use Rattle.amoebot_state.specs.Configs.{IsValid}
 use Rattle.amoebot_state.specs.Occupied.{occupied}
+use Rattle.amoebot_state.specs.Samples.{zeros}
 use Rattle.amoebot_state.proofs.Faults.{valid_one}
 use Rattle.amoebot_state.proofs.Occupants.{plain_in}
 use Rattle.shape_checks.specs.Hexagons.{IsHexagon}
 use Rattle.shape_checks.specs.Laws.{HexagonsAreConnected, OneAloneIsHexagon}
-use Rattle.small_worlds.specs.Rows.{row, zeros, node, bot_on}
+use Rattle.small_worlds.specs.Rows.{row, node, bot_on}
 use Rattle.small_worlds.proofs.Rows.{is_area}
 use Rattle.command_runs.specs.Measure.{IsMeasureText, measure_text}
 use Rattle.command_runs.specs.Laws.{MeasureTextIsOne}
 use Rattle.command_runs.specs.Samples.{spread, nobody, one_alone, two_apart}
 
--- two tests of one thing answer alike
-pub same_answer : (P : Type 0) (a b : Bool) → Decides a P → Decides b P → a ≡ b
-same_answer P true true x y = refl
-same_answer P false false x y = refl
-same_answer P true false x y = absurd (false≢true (y.1 (x.0 refl)))
-same_answer P false true x y = absurd (false≢true (x.1 (y.0 refl)))
-
 pub measure_text_is_one : MeasureTextIsOne
 measure_text_is_one c text other x y =
-    let connected = same_answer _ x.connected y.connected x.is_connected y.is_connected in
-    let hexagon = same_answer _ x.hexagon y.hexagon x.is_hexagon y.is_hexagon in
+    let connected = same_from_decides x.connected y.connected x.is_connected y.is_connected in
+    let hexagon = same_from_decides x.hexagon y.hexagon x.is_hexagon y.is_hexagon in
     x.whole ∙ (λ i. measure_text (length c.bots) (connected i) (hexagon i)) ∙ sym y.whole
 
 pub nobody_is_measured : IsMeasureText nobody (codes "bots 0\nconnected yes\nhexagon no\n")

@@ -1,6 +1,7 @@
 -- One text of a sample's report.
 use Rattle.std.proofs.Common.{◌≡◌, ℕ, List, ◌*◌, sym, subst, ◌∙◌}
 use Rattle.std.specs.Prelude.{length, Bool, Decides}
+use Rattle.std.proofs.lemmas.Bool.Decides.{same_from_decides}
 use Rattle.tri_lattice.specs.Sets.{IsConnected}
 use Rattle.amoebot_state.specs.declared.verdict.Entry.{Entry}
 use Rattle.amoebot_state.specs.declared.verdict.Verdict.{Verdict}
@@ -12,12 +13,11 @@ use Rattle.claim_core.specs.Turns.{CallerLists}
 use Rattle.command_runs.specs.Replay.{Agrees, DiffersAt}
 use Rattle.command_runs.specs.Sample.{IsSampleText, sample_text}
 use Rattle.command_runs.specs.Laws.{ReplayIsDecided, SampleTextIsOne}
-use Rattle.command_runs.proofs.Measures.{same_answer}
 
 pub sample_text_is_one : SampleTextIsOne
 sample_text_is_one f start lists seed report text other x y =
-    let connected = same_answer _ x.connected y.connected x.is_connected y.is_connected in
-    let agrees = same_answer _ x.agrees y.agrees x.is_run y.is_run in
+    let connected = same_from_decides x.connected y.connected x.is_connected y.is_connected in
+    let agrees = same_from_decides x.agrees y.agrees x.is_run y.is_run in
     x.whole ∙ (λ i. sample_text seed (length start.bots) (length lists.ids) (length lists.ids * lists.turns) (connected i) (agrees i)) ∙ sym y.whole
 
 -- what agrees does not differ, under other names of its start and its entries
@@ -26,15 +26,15 @@ excluded decided f start first final entries same place from es differs agrees =
     decided.exclusive f start final entries place agrees (subst (λ (z : Config × List Entry). DiffersAt f z.0 z.1 final place) (λ i. (from i, es i)) differs)
 
 -- the text that is told of a report's numbers is its text
-pub is_text : (f : Shown → Verdict) (lists : CallerLists) (seed : ℕ) (report : Report) (bots callers turns all : ℕ) (connected agrees : Bool) (text : List ℕ)
+pub is_text : (f : Shown → Verdict) (lists : CallerLists) (seed : ℕ) (report : Report) (bots callers turns : ℕ) (connected agrees : Bool) (text : List ℕ)
     → Decides connected (IsConnected (occupied report.world)) → Decides agrees (Agrees f report.journal.first report.journal.entries report.world)
-    → bots ≡ length report.journal.first.bots → callers ≡ length lists.ids → turns ≡ lists.turns → all ≡ callers * turns → text ≡ sample_text seed bots callers all connected agrees
+    → bots ≡ length report.journal.first.bots → callers ≡ length lists.ids → turns ≡ length lists.ids * lists.turns → text ≡ sample_text seed bots callers turns connected agrees
     → IsSampleText f report.journal.first lists seed report text
-is_text f lists seed report bots callers turns all connected agrees text is_connected is_run many named each product is =
+is_text f lists seed report bots callers turns connected agrees text is_connected is_run many named all is =
     record {
       connected = connected;
       agrees = agrees;
       is_connected = is_connected;
       is_run = is_run;
-      whole = is ∙ (λ i. sample_text seed (many i) (named i) ((product ∙ (λ j. named j * each j)) i) connected agrees);
+      whole = is ∙ (λ i. sample_text seed (many i) (named i) (all i) connected agrees);
     }

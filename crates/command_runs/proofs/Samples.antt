@@ -10,7 +10,7 @@ use Rattle.claim_core.specs.declared.marks.Mark.TheVariants as mark
 use Rattle.claim_core.specs.declared.state.Caller.{Caller}
 use Rattle.claim_core.specs.declared.state.Phase.TheVariants.{Releasing, Ended}
 use Rattle.claim_core.specs.declared.report.Report.{Report}
-use Rattle.claim_core.specs.Machine.{Setup, State, caller, after}
+use Rattle.claim_core.specs.Machine.{Setup, State, caller, after, setup}
 use Rattle.claim_core.specs.Turns.{IsList}
 use Rattle.claim_core.specs.Soundness.{IsSetup}
 use Rattle.claim_core.specs.Reached.{HaveEnded, IsReportOf, Reached}
@@ -18,7 +18,6 @@ use Rattle.claim_core.specs.Laws.{ReachedIsGood, OneListIsSerial}
 use Rattle.shape_checks.specs.Laws.{HexagonsAreConnected, OneAloneIsHexagon}
 use Rattle.small_worlds.specs.Rows.{node, two_beside, expanded, one_refused}
 use Rattle.small_worlds.proofs.Rows.{IsThereIn, one_id, may_run, valid, same_ids, one_has_ended, two_have_ended, reached, good}
-use Rattle.command_runs.specs.Reports.{setup}
 use Rattle.command_runs.specs.Run.{IsRunReport}
 use Rattle.command_runs.specs.Interleave.{at_round, IsScheduled}
 use Rattle.command_runs.specs.Replay.{DiffersAt, at_entry, at_end}

@@ -7,12 +7,12 @@ use Rattle.amoebot_state.specs.Zones.{Shown}
 use Rattle.claim_core.specs.declared.report.Report.{Report}
 use Rattle.claim_core.specs.Turns.{CallerLists}
 use Rattle.claim_core.specs.Good.{Good}
-use Rattle.claim_core.specs.Machine.{Setup, State, after}
+use Rattle.claim_core.specs.Machine.{Setup, State, after, setup}
 use Rattle.claim_core.specs.Reached.{HaveEnded, IsReportOf, Reached}
 use Rattle.claim_core.specs.Rounds.{rounds}
 use Rattle.action_tree.specs.Trees.{Program}
 use Rattle.action_meaning.specs.Verdicts.{verdict_shown}
-use Rattle.command_runs.specs.Reports.{setup, report_text}
+use Rattle.command_runs.specs.Reports.{report_text}
 
 -- the state after the steps of the schedule and so many rounds
 abbrev pub at_round : Setup → List ℕ → ℕ → State

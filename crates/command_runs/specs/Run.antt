@@ -10,7 +10,8 @@ use Rattle.claim_core.specs.SerialRuns.{SerialRun, all_turns, left_by}
 use Rattle.action_tree.specs.Trees.{Program}
 use Rattle.action_meaning.specs.Verdicts.{verdict_shown}
 use Rattle.claim_core.specs.Reached.{Reached}
-use Rattle.command_runs.specs.Reports.{setup, report_text}
+use Rattle.claim_core.specs.Machine.{setup}
+use Rattle.command_runs.specs.Reports.{report_text}
 
 -- the report is a good one, which an interleaving gives; and with at most one list it is what its turns leave, one after another, each
 -- the verdict on the world reached and none Busy

@@ -5,10 +5,11 @@ use Rattle.amoebot_state.specs.declared.verdict.Entry.{Entry}
 use Rattle.amoebot_state.specs.declared.verdict.Verdict.{Verdict}
 use Rattle.amoebot_state.specs.Configs.{Config, config_of}
 use Rattle.amoebot_state.specs.Zones.{Shown}
+use Rattle.amoebot_state.specs.Samples.{zeros}
 use Rattle.claim_core.specs.declared.marks.Mark.TheVariants as mark
 use Rattle.claim_core.specs.declared.report.Report.{Report}
 use Rattle.claim_core.specs.Turns.{CallerLists}
-use Rattle.small_worlds.specs.Rows.{row, zeros, row_with, bot_on, two_beside, expanded, one_refused}
+use Rattle.small_worlds.specs.Rows.{row, row_with, bot_on, two_beside, expanded, one_refused}
 use Rattle.action_print.specs.Pins.{counting}
 use Rattle.command_runs.specs.Check.{check_text}
 use Rattle.command_runs.specs.Reports.{report_text}

@@ -1,5 +1,6 @@
-ghost use Rattle.std.specs.Prelude.{◌<◌, ◌^◌, length, IfErr, OnOk};
+ghost use Rattle.std.specs.Prelude.{◌<◌, length, IfErr, OnOk};
 ghost use Rattle.std.specs.List.{All};
+ghost use Rattle.serial_model.specs.Replays.{AreCountable};
 ghost use Rattle.command_runs.specs.Replay.{Agrees, DiffersAt};
 
 use amoebot_state::{Decider, Entry, World};
@@ -14,7 +15,7 @@ pub fn compare<D: Decider>(
     last: &World,
 ) -> Result<(), Differs>
     requires there { All (λ e. e.bot < length start.bots) entries.now }
-    requires few { length entries.now < 2 ^ 32 }
+    requires few { AreCountable entries.now }
     ensures agrees { OnOk result (Agrees (D.verdict decider.now) start entries.now last.now) }
     ensures differs { IfErr result (λ e. DiffersAt (D.verdict decider.now) start entries.now last.now e.place) }
 {

@@ -1,5 +1,6 @@
-ghost use Rattle.std.specs.Prelude.{◌≡◌, ◌<◌, ◌^◌, length, Decides, IfOk};
+ghost use Rattle.std.specs.Prelude.{◌≡◌, ◌<◌, length, Decides, IfOk};
 ghost use Rattle.std.specs.List.{All};
+ghost use Rattle.serial_model.specs.Replays.{AreCountable};
 ghost use Rattle.command_runs.specs.Replay.{Agrees};
 ghost use Rattle.command_runs.specs.Sample.{IsSampleText, sample_text};
 
@@ -22,7 +23,7 @@ pub fn print_sample<D: Decider>(
     report: &Report,
 ) -> Result<Text, NoMemory>
     requires there { All (λ e. e.bot < length report.now.journal.first.bots) report.now.journal.entries }
-    requires few { length report.now.journal.entries < 2 ^ 32 }
+    requires few { AreCountable report.now.journal.entries }
     ensures { IfOk result (IsSampleText (D.verdict decider.now) report.now.journal.first lists.now seed report.now) }
 {
     let callers = lists.callers();
@@ -34,7 +35,7 @@ pub fn print_sample<D: Decider>(
             seed,
             bots: report.journal.first().bots(),
             callers,
-            turns: u32::from(callers) * lists.turns(),
+            turns: lists.all_turns(),
             connected,
             agrees,
         },
@@ -44,7 +45,7 @@ pub fn print_sample<D: Decider>(
 /// Whether the journal, replayed from the first world, leads to the last one.
 fn agrees<D: Decider>(alloc: Global, decider: &D, report: &Report) -> Result<bool, NoMemory>
     requires there { All (λ e. e.bot < length report.now.journal.first.bots) report.now.journal.entries }
-    requires few { length report.now.journal.entries < 2 ^ 32 }
+    requires few { AreCountable report.now.journal.entries }
     ensures { IfOk result (λ agrees. Decides agrees (Agrees (D.verdict decider.now) report.now.journal.first report.now.journal.entries report.now.world)) }
 {
     replay_is_decided();

@@ -6,14 +6,13 @@ ghost use Rattle.amoebot_state.specs.Limits.{most_bots, most_vars};
 ghost use Rattle.amoebot_state.specs.Refusals.{IsPlain};
 
 use crate::{compare, print_agrees, print_differs, print_report, run_interleaved};
-use amoebot_state::{Bot, Cell, CellName, Decider, End, Entry, Moved, Patch, Port, World};
+use amoebot_state::{Bot, Decider, End, Entry, Port, World};
 use claim_core::Report;
 use schedule_text::{Schedule, read_schedule};
 use small_worlds::{Expander, Marker, lists_of, standing, world_of};
 use std::alloc::Global;
 use std::test::Fail;
 use text_tokens::Tokens;
-use tri_lattice::Node;
 
 /// The program that expands each amoebot through the port `head 0`.
 const EXPANDER: Expander = Expander {

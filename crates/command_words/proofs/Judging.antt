@@ -5,7 +5,6 @@ use Rattle.std.specs.List.{find, list_all, list_any}
 use Rattle.std.specs.Char.{is_ascii_digit}
 use Rattle.std.specs.Str.{bytes_eq}
 use Rattle.std.proofs.lemmas.Bool.{and_parts, cases_Bool, or_parts}
-use Rattle.std.proofs.lemmas.Slice.Eq.{bytes_eq-Decides}
 use Rattle.clap.specs.Walk.{Row, Text, answers_to, first_of, idle, is_empty, nothing_held, subcommand_met}
 use Rattle.clap.specs.Simple.{App, HasMatchesOf, Shape, built, is_simple, label_of, rows_at, subcommand_of, subcommand_rows_of}
 use Rattle.clap.specs.Kinds.{HasKind, IsAmong, Kinds, or_else}
@@ -21,7 +20,7 @@ use Rattle.command_words.specs.declared.command.DocumentCommand.{DocumentCommand
 use Rattle.command_words.specs.declared.command.DocumentCommand.TheVariants.{Run, Interleave, Replay, Check, Measure}
 use Rattle.command_words.specs.Words.{AreWordsOf, command_of, of_two_words, sample_of, shipped, show_in, word_of}
 use Rattle.command_words.specs.Syntax.{begins_with_dash, of_subcommand, words_syntax}
-use Rattle.command_words.proofs.Wording.{command_is_its_words}
+use Rattle.command_words.proofs.Wording.{same_word, command_is_its_words}
 use Rattle.command_words.proofs.Parsing.{argument, fault_in, is_free_syntax, is_simple_syntax, leaf, names, none_wanted, one_read, one_too_many, one_wanted, read_in, strange_word}
 
 -- a parse fails by no fault and gives the command, or it fails and they are no command
@@ -37,9 +36,6 @@ pub data First (word : Text) : Type 0 where
   sample : word ≡ codes "sample" → First word
   other : subcommand_met names idle word ≡ None → ((words : List Text) → command_of (word ∷ words) ≡ None) → First word
 
-same_word : (one two : Text) → bytes_eq one two ≡ true → two ≡ one
-same_word one two e = sym ((bytes_eq-Decides one two).0 e)
-
 module _ (word : Text) (run : bytes_eq (codes "run") word ≡ false) (interleave : bytes_eq (codes "interleave") word ≡ false) (replay : bytes_eq (codes "replay") word ≡ false)
     (check : bytes_eq (codes "check") word ≡ false) (measure : bytes_eq (codes "measure") word ≡ false)
     (is_no_show : bytes_eq (codes "show") word ≡ false) (is_no_sample : bytes_eq (codes "sample") word ≡ false) where
@@ -54,19 +50,19 @@ module _ (word : Text) (run : bytes_eq (codes "run") word ≡ false) (interleave
 
 first_of_words : (word : Text) → First word
 first_of_words word = elim (cases_Bool (bytes_eq (codes "run") word)) [
-  | inl e ↦ document Run (same_word (codes "run") word e)
+  | inl e ↦ document Run (sym (same_word (codes "run") word e))
   | inr run ↦ elim (cases_Bool (bytes_eq (codes "interleave") word)) [
-    | inl e ↦ document Interleave (same_word (codes "interleave") word e)
+    | inl e ↦ document Interleave (sym (same_word (codes "interleave") word e))
     | inr interleave ↦ elim (cases_Bool (bytes_eq (codes "replay") word)) [
-      | inl e ↦ document Replay (same_word (codes "replay") word e)
+      | inl e ↦ document Replay (sym (same_word (codes "replay") word e))
       | inr replay ↦ elim (cases_Bool (bytes_eq (codes "check") word)) [
-        | inl e ↦ document Check (same_word (codes "check") word e)
+        | inl e ↦ document Check (sym (same_word (codes "check") word e))
         | inr check ↦ elim (cases_Bool (bytes_eq (codes "measure") word)) [
-          | inl e ↦ document Measure (same_word (codes "measure") word e)
+          | inl e ↦ document Measure (sym (same_word (codes "measure") word e))
           | inr measure ↦ elim (cases_Bool (bytes_eq (codes "show") word)) [
-            | inl e ↦ show (same_word (codes "show") word e)
+            | inl e ↦ show (sym (same_word (codes "show") word e))
             | inr is_no_show ↦ elim (cases_Bool (bytes_eq (codes "sample") word)) [
-              | inl e ↦ sample (same_word (codes "sample") word e)
+              | inl e ↦ sample (sym (same_word (codes "sample") word e))
               | inr is_no_sample ↦ other (names_none word run interleave replay check measure is_no_show is_no_sample) (begins_none word run interleave replay check measure is_no_show is_no_sample)
             ]
           ]

@@ -15,7 +15,7 @@ use Rattle.command_words.specs.Words.{AreWordsOf, IsSeed, word_of, document_in, 
 use Rattle.command_words.specs.Laws.{CommandIsItsWords, SmallWords}
 use Rattle.command_words.proofs.Seeds.{decides_seed}
 
-same_word : (one two : List ℕ) → bytes_eq one two ≡ true → one ≡ two
+pub same_word : (one two : List ℕ) → bytes_eq one two ≡ true → one ≡ two
 same_word one two = (bytes_eq-Decides one two).0
 
 -- what a choice gives is what one of its sides gives

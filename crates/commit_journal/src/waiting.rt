@@ -1,4 +1,3 @@
-ghost use Rattle.std.specs.Prelude.{◌≡◌};
 ghost use Rattle.claim_rule.specs.Tokens.{IsOf};
 ghost use Rattle.claim_rule.specs.Settling.{HasStored, IsToTake};
 

@@ -1,12 +1,10 @@
 -- What a document has fits together.
-use Rattle.std.proofs.Common.{◌≡◌, ℕ, suc, ◌<◌, ◌≤◌, Bool, true, false, cond, List, [], ◌∷◌, ◌++◌, length, Option, Some, None, codes, refl, sym, ap, subst, arith}
+use Rattle.std.proofs.Common.{◌≡◌, ℕ, ◌<◌, ◌≤◌, Bool, true, false, cond, List, [], ◌∷◌, length, Option, Some, None, codes, refl, sym, ap, subst}
 use Rattle.std.specs.Prelude.{◌==◌, ◌&&◌, nat_lt, nat_le}
-use Rattle.std.specs.Option.{IfSome, IsSome}
 use Rattle.std.specs.List.{All, flat_map, list_all}
 use Rattle.std.proofs.lemmas.Bool.{ltb-true, and_parts}
 use Rattle.std.proofs.lemmas.List.Elements.{All-nil, All-cons, All-head, All-tail, All-append, All-replicate}
 use Rattle.text_tokens.specs.declared.refusal.Refusal.{Refusal}
-use Rattle.text_tokens.specs.declared.refusal.RefusalKind.{RefusalKind}
 use Rattle.text_tokens.specs.declared.refusal.RefusalKind.TheVariants.{TooMany, BadId, BadEntry, BadPlace}
 use Rattle.text_tokens.specs.Text.{Lexeme}
 use Rattle.text_tokens.specs.Reading.{value}
@@ -24,19 +22,18 @@ use Rattle.claim_core.specs.Limits.{most_turns, most_ids}
 use Rattle.claim_core.specs.Turns.{CallerLists, HaveBots}
 use Rattle.action_tree.specs.Trees as tree
 use Rattle.action_tree.specs.Limits.{most_actions}
-use Rattle.action_grammar.specs.Programs.{IsProgram}
 use Rattle.action_check.specs.Faults.{faults}
-use Rattle.journal_text.specs.Journals.{past_entries, ids_of, ids_of_pair, is_known, wrong, Written, IsEntry, IsJournal}
+use Rattle.journal_text.specs.Journals.{ids_of, ids_of_pair, is_known, IsEntry, IsJournal}
 use Rattle.shape_text.specs.Shapes.{IsShapeUnder}
-use Rattle.schedule_text.specs.Lists.{past_ids, IsId, AreIds, IsCallerList, IsLists}
-use Rattle.schedule_text.specs.Schedules.{most_steps, past_callers, Stretch, steps_in, IsStretch, IsSchedule}
+use Rattle.schedule_text.specs.Lists.{IsId, IsCallerList, IsLists}
+use Rattle.schedule_text.specs.Schedules.{most_steps, Stretch, steps_in, IsStretch, IsSchedule}
 use Rattle.document_grammar.specs.declared.section.Form.{Form}
 use Rattle.document_grammar.specs.declared.section.Form.TheVariants.{Run, Interleave, Replay, Check, Measure}
 use Rattle.document_grammar.specs.Frame.{Course, ends, needs, may, may_schedule, may_lists, behind_journal, course_of, IsRest}
 use Rattle.document_grammar.specs.declared.section.Section.TheVariants as section
 use Rattle.document_grammar.specs.FrameLaws.{Plain}
-use Rattle.document_grammar.specs.Documents.{Contents, nothing_yet, vars_of, actions_of, maxes_in, bots_of, first_in, IsCheckedProgram, Body, IsDocument, HasContents}
-use Rattle.document_grammar.specs.Fitting.{HasSections, AreTogether, AreOf, FitTogether, Fits, DocumentsFit}
+use Rattle.document_grammar.specs.Documents.{Contents, nothing_yet, maxes_in, first_in, IsCheckedProgram, Body, IsDocument, HasContents}
+use Rattle.document_grammar.specs.Fitting.{AreOf, FitTogether, Fits, DocumentsFit}
 use Rattle.document_grammar.proofs.Fine.{Fine, both_of, made_of, step_of, closed_of, judged_of, nothing_of, either_of, one_of, numeral_of, all_of, counted_of, at_most_of}
 use Rattle.document_grammar.proofs.Plainness.{plain, forms_are_distinct}
 use Rattle.document_grammar.proofs.Sectioning.{are_sections}
@@ -71,16 +68,18 @@ program_fits p f =
 shape_fits : (text : List ℕ) (vars : ℕ) (maxes : List ℕ) (c : Config) → Fine (IsShapeUnder text vars maxes) c → c.maxes ≡ maxes
 shape_fits text vars maxes c f = sym (ap (λ (c : Config). c.maxes) (made_of f).same)
 
+-- ---- numbers of what is known
+
+id_by : (known : ℕ) (t : Lexeme) (a b : Bool) → nat_lt (value t) known ≡ b → cond a (cond b None (Some BadId)) (Some TooMany) ≡ None → value t < known
+id_by known t true true e f = ltb-true _ _ e
+id_by known t true false e f = absurd cc
+id_by known t false b e f = absurd cc
+
 -- ---- lists
 
 module _ (bots : ℕ) where
-  id_by : (t : Lexeme) (a b : Bool) → nat_lt (value t) bots ≡ b → cond a (cond b None (Some BadId)) (Some TooMany) ≡ None → value t < bots
-  id_by t true true e f = ltb-true _ _ e
-  id_by t true false e f = absurd cc
-  id_by t false b e f = absurd cc
-
   id_fits : (n id : ℕ) → Fine (IsId bots n) id → id < bots
-  id_fits n id f = let o = numeral_of f in subst (λ (i : ℕ). i < bots) o.is (id_by o.t (nat_lt n most_ids) (nat_lt (value o.t) bots) refl o.within)
+  id_fits n id f = let o = numeral_of f in subst (λ (i : ℕ). i < bots) o.is (id_by bots o.t (nat_lt n most_ids) (nat_lt (value o.t) bots) refl o.within)
 
   list_fits : (turns n : ℕ) (ids : List ℕ) → Fine (IsCallerList bots turns n) ids → All (λ id. id < bots) ids
   list_fits turns n ids f =
@@ -100,17 +99,12 @@ module _ (bots : ℕ) where
 -- ---- schedules
 
 module _ (callers : ℕ) where
-  caller_by : (t : Lexeme) (a b : Bool) → nat_lt (value t) callers ≡ b → cond a (cond b None (Some BadId)) (Some TooMany) ≡ None → value t < callers
-  caller_by t true true e f = ltb-true _ _ e
-  caller_by t true false e f = absurd cc
-  caller_by t false b e f = absurd cc
-
   stretch_fits : (n : ℕ) (s : Stretch) → Fine (IsStretch callers n) s → s.caller < callers
   stretch_fits n s f =
       let caller = both_of f in
       let o = numeral_of caller.before in
       let times = made_of caller.behind in
-      subst (λ (s : Stretch). s.caller < callers) times.same (subst (λ (c : ℕ). c < callers) o.is (caller_by o.t (nat_lt n most_steps) (nat_lt (value o.t) callers) refl o.within))
+      subst (λ (s : Stretch). s.caller < callers) times.same (subst (λ (c : ℕ). c < callers) o.is (id_by callers o.t (nat_lt n most_steps) (nat_lt (value o.t) callers) refl o.within))
 
   steps_fit : (ss : List Stretch) → All (λ s. s.caller < callers) ss → All (λ caller. caller < callers) (flat_map steps_in ss)
   steps_fit [] all = All-nil (λ caller. caller < callers)
@@ -171,7 +165,8 @@ module _ (bots actions vars : ℕ) where
 abbrev At : Option tree.Program → Option Config → Option CallerLists → Option (List ℕ) → Option (List Entry) → Option Config → Contents
 At p w l s e f = record { checked = p; world = w; lists = l; schedule = s; entries = e; final_world = f }
 
-abbrev There : Course → Contents → Contents → Type 0
+-- a course as it is written down, without a fault, which leads from one state to another
+abbrev pub There : Course → Contents → Contents → Type 0
 There c s a = Fine (Plain Body c s) a
 
 -- turns stand for nothing
@@ -298,12 +293,16 @@ form_fits form a f =
     let p = step_of g in
     rest_fits p.value (program_fits p.value p.before) a form p.behind
 
-pub documents_fit : DocumentsFit
-documents_fit form bytes a holds =
+-- a document has a text, without a fault, of its form as the form is written down
+pub written_down : (form : Form) (bytes : List ℕ) (a : Contents) → HasContents form bytes a → There (course_of form) nothing_yet a
+written_down form bytes a holds =
     let input : IsInput (IsDocument form) Trailing (last_of (point bytes 0)) (ahead_of (point bytes 0)) a = holds (ahead_of (point bytes 0)) (last_of (point bytes 0)) (tokens_of_text bytes) in
     let w = input.text.whole in
     let whole : Fine (IsDocument form) a = record { text = w.text; is = w.is; fine = w.fine } in
     let rest = (both_of whole).behind in
     let behind : IsWhole (IsRest Body (course_of form) nothing_yet) (tokens rest.text) a = record { text = rest.text; is = rest.is; parts = refl; fine = rest.fine } in
     let straight = (plain Body are_sections.start (course_of form) (forms_are_distinct form) nothing_yet).into (tokens rest.text) a behind in
-    form_fits form a (record { text = straight.text; is = straight.is; fine = straight.fine })
+    record { text = straight.text; is = straight.is; fine = straight.fine }
+
+pub documents_fit : DocumentsFit
+documents_fit form bytes a holds = form_fits form a (written_down form bytes a holds)

@@ -12,7 +12,7 @@ use Rattle.text_tokens.specs.Grammar.{Symbol, tokens, Lang, Then, then, IsNothin
 use Rattle.text_tokens.specs.Lawful.{IsWhole}
 use Rattle.text_tokens.specs.Inputs.{IsInput}
 use Rattle.text_tokens.proofs.Blanks.{point}
-use Rattle.text_tokens.proofs.Symbols.{tokens-append, fine-append}
+use Rattle.text_tokens.proofs.Symbols.{tokens-append, fine-append, whole_then}
 use Rattle.text_tokens.proofs.Exactness.{none_stops}
 use Rattle.text_tokens.proofs.Following.{whole_in}
 use Rattle.text_tokens.proofs.LineLemmas.{texts_add_up}
@@ -22,7 +22,7 @@ use Rattle.amoebot_state.specs.declared.verdict.Entry.{Entry}
 use Rattle.amoebot_state.specs.Configs.{Config}
 use Rattle.claim_core.specs.Turns.{MarkLists}
 use Rattle.journal_text.specs.Texts.{entry_words, caller_lines}
-use Rattle.text_tokens.proofs.Respelling.{Found, Is, RereadsLines, whole_then, lines_made, lines_then, lines_into, lines_nothing}
+use Rattle.text_tokens.proofs.Respelling.{Found, Is, RereadsLines, lines_made, lines_then, lines_into, lines_nothing}
 use Rattle.journal_text.proofs.JournalsReread.{journal_lines}
 use Rattle.journal_text.proofs.TurnsReread.{turns_lines}
 use Rattle.shape_text.specs.Shapes.{IsFinal}

@@ -3,6 +3,7 @@ use Rattle.std.specs.Prelude.{ℕ, pos, false, List, [], ◌∷◌, ◌++◌, So
 use Rattle.text_tokens.specs.declared.refusal.Refusal.{Refusal}
 use Rattle.text_tokens.specs.declared.refusal.RefusalKind.{RefusalKind}
 use Rattle.text_tokens.specs.declared.refusal.RefusalKind.TheVariants.{BadByte, Unexpected, Truncated, BadRange, UnknownName, OutOfBox, NotAdjacent, Overlap, BadId, BadPlace, Trailing, WrongSection}
+use Rattle.text_tokens.specs.Cursor.{on_line}
 use Rattle.amoebot_state.specs.declared.bot.Bot.{Bot}
 use Rattle.amoebot_state.specs.declared.bot.Chir.TheVariants.{Plus}
 use Rattle.amoebot_state.specs.declared.bot.End.TheVariants.{Head}
@@ -11,13 +12,14 @@ use Rattle.amoebot_state.specs.declared.cell.Cell.TheVariants as cell
 use Rattle.amoebot_state.specs.declared.verdict.Entry.{Entry}
 use Rattle.amoebot_state.specs.declared.verdict.Moved.TheVariants as moved
 use Rattle.amoebot_state.specs.Configs.{Config, config_of}
+use Rattle.amoebot_state.specs.Ports.{port}
+use Rattle.amoebot_state.specs.Samples.{eight_by_eight, zeros}
 use Rattle.action_tree.specs.Trees as tree
 use Rattle.action_tree.specs.Trees.{Name, Literal, atom, through, expand, at_end, fixed, no_stmts}
 use Rattle.action_grammar.specs.Programs.{program_of}
-use Rattle.journal_text.specs.Parts.{a_node_of, a_port_of}
+use Rattle.journal_text.specs.Parts.{a_node_of}
 use Rattle.journal_text.specs.Journals.{a_pair_of}
-use Rattle.journal_text.specs.JournalRows.{at}
-use Rattle.shape_text.specs.ShapeRows.{all_zero, bot, eight_by_eight}
+use Rattle.shape_text.specs.ShapeRows.{bot}
 use Rattle.schedule_text.specs.Lists.{lists_of}
 use Rattle.document_grammar.specs.declared.section.Form.{Form}
 use Rattle.document_grammar.specs.declared.section.Form.TheVariants.{Run, Interleave, Replay, Check, Measure}
@@ -34,7 +36,7 @@ has form text a = record { form = form; text = text; answer = Ok a }
 
 -- such a text has this first fault, of this line
 abbrev fails : Form → List ℕ → ℕ → RefusalKind → Row
-fails form text line kind = record { form = form; text = text; answer = Err (at line kind) }
+fails form text line kind = record { form = form; text = text; answer = Err (on_line line kind) }
 
 abbrev pub AreRead : List Row → Type 0
 AreRead [] = Unit {0}
@@ -43,7 +45,7 @@ AreRead (r ∷ rs) = Says r.form r.text r.answer × AreRead rs
 -- ---- an amoebot expands
 
 -- lines 1 to 4, 5 to 8 and 9 to 12
-abbrev program_text : List ℕ
+abbrev pub program_text : List ℕ
 program_text = codes "amoebot 1\nprogram\naction out when contracted move expand head 0\nend\n"
 
 abbrev shape_text : List ℕ
@@ -61,7 +63,7 @@ journal_text = codes "journal\nentry 0 0 0 0 0 expand head 0 spot 3 3 0 body 0 3
 abbrev final_text : List ℕ
 final_text = codes "final\narea 0 0 8 8\nbot 3 3 2 3 0 +\nend\n"
 
-abbrev turns_text : List ℕ
+abbrev pub turns_text : List ℕ
 turns_text = codes "turns\nturn 0 0 done 0\nturn 0 1 idle 1\nend\n"
 
 abbrev with_shape : List ℕ
@@ -79,7 +81,7 @@ with_bot line = program_text ++ codes "shape\narea 0 0 8 8\n" ++ line ++ codes "
 
 -- ---- what it is
 
-abbrev out : tree.Program
+abbrev pub out : tree.Program
 out =
     let name : Name = record { text = codes "out"; line = 3 } in
     let direction : Literal = record { value = 0; line = 3 } in
@@ -89,7 +91,7 @@ abbrev expanded : Bot
 expanded = bot (pos 3) (pos 3) (pos 2) (pos 3) 0 Plus []
 
 abbrev one_bot : Bot → Config
-one_bot b = config_of eight_by_eight all_zero (b ∷ [])
+one_bot b = config_of eight_by_eight zeros (b ∷ [])
 
 abbrev expansion : Entry
 expansion = record {
@@ -97,11 +99,11 @@ expansion = record {
   turn = 0;
   bot = 0;
   action = 0;
-  moved = moved.Expand (a_port_of Head 0);
+  moved = moved.Expand (port Head 0);
   patch = a_pair_of (name.Spot (a_node_of (pos 3) (pos 3))) (cell.Spot (Some 0)) ∷ a_pair_of (name.Body 0) (cell.Body expanded) ∷ [];
 }
 
-abbrev only_program : Contents
+abbrev pub only_program : Contents
 only_program = record { checked = Some out; world = None; lists = None; schedule = None; entries = None; final_world = None }
 
 abbrev and_shape : Contents

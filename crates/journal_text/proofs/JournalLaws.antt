@@ -21,8 +21,8 @@ use Rattle.amoebot_state.specs.declared.cell.Cell.{Cell}
 use Rattle.amoebot_state.specs.declared.cell.Cell.TheVariants as cell
 use Rattle.amoebot_state.specs.declared.verdict.Moved.{Moved}
 use Rattle.amoebot_state.specs.declared.verdict.Moved.TheVariants as moved
-use Rattle.journal_text.specs.Parts.{word, is_end, IsWord, IsNumber, IsNode}
-use Rattle.journal_text.specs.Journals.{IsPortBehind, IsEndBehind, IsMovedBy, IsContracted, IsMoved, is_spot, is_body, is_cell, IsCellText, IsOccupant, IsValueOf, a_pair_of, IsPair, is_entry, numbers_of, AreNumbers, Written, written_of, past_entries, IsEntryWord, IsWritten, wrong, IsEntry, one_more, AreEntries, IsJournal}
+use Rattle.journal_text.specs.Parts.{word, is_end, one_more, IsWord, IsNumber, IsNode}
+use Rattle.journal_text.specs.Journals.{IsPortBehind, IsEndBehind, IsMovedBy, IsContracted, IsMoved, is_spot, is_body, is_cell, IsCellText, IsOccupant, IsValueOf, a_pair_of, IsPair, is_entry, numbers_of, AreNumbers, Written, written_of, past_entries, IsEntryWord, IsWritten, wrong, IsEntry, AreEntries, IsJournal}
 use Rattle.journal_text.specs.Readers.{a_word, port_behind, end_behind, moved_by, a_contraction, a_movement, a_cell, an_occupant, a_value, a_pair, pair_in, all_pairs, the_numbers, entry_word, written, an_entry, entries_from, journal}
 use Rattle.journal_text.proofs.PartLaws.{up_to_end, starts_word, part_word, part_word_within, starts_word_within, part_number, starts_means, number_no_word, part_end, part_node, part_port, part_bot}
 
@@ -212,7 +212,7 @@ module _ (vars : ℕ) where
 
     part_entries : (before : ℕ) → IsPart (AreEntries bots actions vars before) (entries_from bots actions vars before) is_end
     unfolding entries_from
-    part_entries before = part_repeated (IsEntry bots actions vars) (an_entry bots actions vars) (one_more bots actions vars) is_entry no_pair is_end entry_elements before
+    part_entries before = part_repeated (IsEntry bots actions vars) (an_entry bots actions vars) one_more is_entry no_pair is_end entry_elements before
 
 pub part_journal : (bots actions vars : ℕ) → IsPart (IsJournal bots actions vars) (journal bots actions vars) always
 unfolding journal

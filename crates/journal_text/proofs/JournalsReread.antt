@@ -31,11 +31,12 @@ use Rattle.amoebot_state.specs.declared.verdict.Entry.{Entry}
 use Rattle.amoebot_state.specs.declared.verdict.Moved.{Moved}
 use Rattle.amoebot_state.specs.declared.verdict.Moved.TheVariants as moved
 use Rattle.amoebot_state.specs.Pairs.{Pairs}
+use Rattle.amoebot_state.specs.Ports.{end_word, port}
 use Rattle.claim_core.specs.Limits.{most_turns}
-use Rattle.journal_text.specs.Parts.{word, is_minus, is_end, IsWord, Means, IsNumber, IsUpTo, negative, IsInt, a_node_of, IsNode, IsEnd, IsChirality, a_port_of, IsPort, IsValues, memory, a_bot_of, IsBotText}
-use Rattle.journal_text.specs.Journals.{IsPortBehind, IsMoved, IsCellText, a_pair_of, IsPair, Numbers, numbers_of, AreNumbers, Written, written_of, IsEntryWord, IsWritten, ids_of, ids_of_pair, is_known, wrong, IsEntry, one_more as next_place, AreEntries, IsJournal}
+use Rattle.journal_text.specs.Parts.{word, is_minus, is_end, one_more, IsWord, Means, IsNumber, IsUpTo, negative, IsInt, a_node_of, IsNode, IsEnd, IsChirality, IsPort, IsValues, memory, a_bot_of, IsBotText}
+use Rattle.journal_text.specs.Journals.{IsPortBehind, IsMoved, IsCellText, a_pair_of, IsPair, Numbers, numbers_of, AreNumbers, Written, written_of, IsEntryWord, IsWritten, ids_of, ids_of_pair, is_known, wrong, IsEntry, AreEntries, IsJournal}
 use Rattle.journal_text.specs.JournalRows.{Says}
-use Rattle.journal_text.specs.Texts.{node_words, end_word, port_words, chir_word, bot_words, pair_words, moved_words, entry_numbers, entry_words, journal_text}
+use Rattle.journal_text.specs.Texts.{node_words, port_words, chir_word, bot_words, pair_words, moved_words, entry_numbers, entry_words, journal_text}
 use Rattle.journal_text.specs.Rereading.{size, HasCoordinates, HasLimits, IsWritable, IsPossible, KeepsLimits, JournalsReadBack}
 use Rattle.text_tokens.proofs.Respelling.{Found, Is, Any, Rereads, RereadsLines, rereads_behind, rereads_then, rereads_next, rereads_made, rereads_as, rereads_first, rereads_second, rereads_judged, rereads_nothing, rereads_into, rereads_more, lines_more, lines_then, lines_next, lines_nothing, the_passes, rereads_the, rereads_number, number_token, behind_found, found_by, found_made, one_found, the_found, number_found, one_rereads, reread_line}
 use Rattle.text_tokens.proofs.Stepping.{not_past}
@@ -98,7 +99,7 @@ a_chirality chir.Plus = rereads_first (codes "+" ∷ []) (means (λ t. is_the Si
 a_chirality chir.Minus = rereads_second (codes "-" ∷ []) (means is_minus chir.Minus (codes "-" ∷ []) (rereads_the Sign (codes "-") minus_token refl refl))
 
 a_port : (p : Port) → p.dir ≤ 5 → Rereads IsPort (Is p) (port_words p)
-a_port p le = rereads_then (end_word p.end ∷ []) (decimal p.dir ∷ []) p.end (an_end p.end) (rereads_as (λ dir. a_port_of p.end dir) (decimal p.dir ∷ []) p.dir (up_to 5 p.dir le (omega arith)))
+a_port p le = rereads_then (end_word p.end ∷ []) (decimal p.dir ∷ []) p.end (an_end p.end) (rereads_as (λ dir. port p.end dir) (decimal p.dir ∷ []) p.dir (up_to 5 p.dir le (omega arith)))
 
 -- ---- amoebots
 
@@ -292,7 +293,7 @@ module _ (bots actions vars : ℕ) (few_bots : bots < 2 ^ 16) (few_actions : act
   the_entries before (e ∷ es) fit all =
       let one : suc before ≡ before + 1 = omega arith in
       let more = the_entries (before + 1) es (omega arith) (All-tail (KeepsLimits bots actions vars) e es all) in
-      lines_more (IsEntry bots actions vars) (next_place bots actions vars) before (entry_words vars (before, e) ∷ []) (map (entry_words vars) (enumerate_from (before + 1) es)) e es
+      lines_more (IsEntry bots actions vars) one_more before (entry_words vars (before, e) ∷ []) (map (entry_words vars) (enumerate_from (before + 1) es)) e es
       (reread_line (entry_words vars (before, e)) (the_entry before (omega arith) e (All-head (KeepsLimits bots actions vars) e es all)))
       (subst (λ (n : ℕ). RereadsLines (AreEntries bots actions vars n) (Is es) (map (entry_words vars) (enumerate_from (before + 1) es))) (sym one) more)
 

@@ -17,7 +17,8 @@ use Rattle.text_tokens.proofs.Distinguishing.{passing, passes, kind_is, other_te
 use Rattle.text_tokens.proofs.Joining.{one_behind, into, one_of_two, starts_behind, starts_into}
 use Rattle.amoebot_state.specs.declared.bot.Chir.TheVariants.{Plus, Minus}
 use Rattle.amoebot_state.specs.declared.bot.End.TheVariants.{Head, Tail}
-use Rattle.journal_text.specs.Parts.{word, sign, is_minus, is_end, IsWord, Means, IsNumber, IsUpTo, negative, IsInt, a_node_of, IsNode, IsEnd, IsChirality, a_port_of, IsPort, IsValues, a_bot_of, IsBotText}
+use Rattle.amoebot_state.specs.Ports.{port}
+use Rattle.journal_text.specs.Parts.{word, sign, is_minus, is_end, IsWord, Means, IsNumber, IsUpTo, negative, IsInt, a_node_of, IsNode, IsEnd, IsChirality, IsPort, IsValues, a_bot_of, IsBotText}
 use Rattle.journal_text.specs.Readers.{a_word, a_number, up_to, an_int, a_node, an_end, a_chirality, a_port, values, a_bot}
 
 -- ---- forms
@@ -88,7 +89,7 @@ part_node = one_behind (part_int 9999) (λ x. into (λ y. a_node_of x y) (part_i
 
 pub part_port : IsPart IsPort a_port always
 unfolding a_port
-part_port = one_behind part_end (λ end. into (λ dir. a_port_of end dir) (part_up_to 5))
+part_port = one_behind part_end (λ end. into (λ dir. port end dir) (part_up_to 5))
 
 part_values : (vars : ℕ) → IsPart (IsValues vars) (values vars) always
 part_values vars = part_times (IsUpTo 255) (up_to 255) (part_up_to 255) vars

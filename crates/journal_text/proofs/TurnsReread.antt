@@ -5,7 +5,7 @@ use Rattle.std.specs.List.{All, flat_map, enumerate_from}
 use Rattle.std.proofs.lemmas.List.Elements.{All-head, All-tail}
 use Rattle.text_tokens.specs.declared.token.TokenKind.TheVariants.{Word}
 use Rattle.text_tokens.specs.Text.{Lexeme}
-use Rattle.text_tokens.specs.Cursor.{is_kind}
+use Rattle.text_tokens.specs.Cursor.{is_kind, IsShort}
 use Rattle.text_tokens.specs.Lines.{Words}
 use Rattle.text_tokens.specs.Grammar.{IsThe, no_more}
 use Rattle.text_tokens.proofs.PrintedTokens.{kind_of, IsOneToken, word_is_token}
@@ -20,7 +20,7 @@ use Rattle.journal_text.specs.Parts.{IsWord, IsNumber}
 use Rattle.journal_text.specs.Journals.{IsCellText}
 use Rattle.journal_text.specs.Texts.{cell_words, failure_word, mark_words, turn_words, caller_lines}
 use Rattle.journal_text.specs.Turns.{Nothing, Unheeded, names_failure, is_failure, IsPlaced, IsFailed, IsClaimant, IsBusy, IsMark, IsTurnLine, as_before, AreTurns, IsTurns}
-use Rattle.journal_text.specs.Rereading.{IsShort, IsWritableCell, IsClaim, IsWritableMark, AreWritable, TurnsReadBack}
+use Rattle.journal_text.specs.Rereading.{IsWritableCell, IsClaim, IsWritableMark, AreWritable, TurnsReadBack}
 use Rattle.text_tokens.proofs.Respelling.{Is, Any, Rereads, RereadsLines, IsSpelled, rereads_next, rereads_made, rereads_first, rereads_second, one_found, one_rereads, kind_passes, found_made, more_of, lines_into, lines_behind_line, lines_next, lines_then, lines_made, lines_nothing, reread_line}
 use Rattle.journal_text.proofs.Saying.{lines_say}
 use Rattle.journal_text.proofs.JournalsReread.{any_number, the_word, a_spot, a_body, the_last_word}

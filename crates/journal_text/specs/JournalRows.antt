@@ -4,6 +4,7 @@ use Rattle.text_tokens.specs.declared.refusal.Refusal.{Refusal}
 use Rattle.text_tokens.specs.declared.refusal.RefusalKind.{RefusalKind}
 use Rattle.text_tokens.specs.declared.refusal.RefusalKind.TheVariants.{BadByte, WordTooLong, Unexpected, TooMany, Truncated, BadRange, BadEntry, BadPlace, Trailing}
 use Rattle.text_tokens.specs.Text.{Lexeme, AreTokens}
+use Rattle.text_tokens.specs.Cursor.{on_line}
 use Rattle.text_tokens.specs.Grammar.{Lang}
 use Rattle.text_tokens.specs.Inputs.{TellsInput}
 use Rattle.amoebot_state.specs.declared.bot.Bot.{Bot}
@@ -18,15 +19,13 @@ use Rattle.amoebot_state.specs.declared.verdict.Entry.{Entry}
 use Rattle.amoebot_state.specs.declared.verdict.Moved.{Moved}
 use Rattle.amoebot_state.specs.declared.verdict.Moved.TheVariants as moved
 use Rattle.amoebot_state.specs.Pairs.{Pairs}
-use Rattle.journal_text.specs.Parts.{a_node_of, a_port_of, a_bot_of}
+use Rattle.amoebot_state.specs.Ports.{port}
+use Rattle.journal_text.specs.Parts.{a_node_of, a_bot_of}
 use Rattle.journal_text.specs.Journals.{AreEntries, IsJournal}
 
 -- what a grammar says of a whole text: what it stands for, or its first fault, where a token behind it is Trailing
 abbrev pub Says : {A : Type 0} → Lang A → List ℕ → Result A Refusal → Type 0
 Says P text answer = (ts : List Lexeme) (last : Refusal) → AreTokens text 0 ts last → TellsInput P Trailing last ts answer
-
-abbrev pub at : ℕ → RefusalKind → Refusal
-at line kind = record { line = line; kind = kind }
 
 -- a journal with these entries
 abbrev pub Yields : List ℕ → List Entry → Type 0
@@ -34,7 +33,7 @@ Yields text entries = Says (IsJournal 3 2 1) text (Ok entries)
 
 -- a text with this first fault
 abbrev pub Fails : List ℕ → ℕ → RefusalKind → Type 0
-Fails text line kind = Says (IsJournal 3 2 1) text (Err (at line kind))
+Fails text line kind = Says (IsJournal 3 2 1) text (Err (on_line line kind))
 
 -- the same of a text with an entry of the amoebot 0, of which all but its place, its movement and its pairs is 0, on line 2, and what follows
 abbrev pub FailsIn : List ℕ → ℕ → RefusalKind → Type 0
@@ -66,12 +65,12 @@ ten_empty_spots = empty_spot ∷ empty_spot ∷ empty_spot ∷ empty_spot ∷ em
 pub record JournalsAreRead : Type 0 where
   -- ---- texts
   pub nothing : Yields (codes "journal end") []
-  pub expand : Yields (codes "journal\nentry 0 0 0 0 0 expand head 5 spot 3 3 0 body 0 3 3 2 3 5 + 255\nend\n") (act 0 0 0 0 (moved.Expand (a_port_of Head 5)) (spot (pos 3) (pos 3) (Some 0) ∷ body 0 (long 5 Plus (255 ∷ [])) ∷ []) ∷ [])
+  pub expand : Yields (codes "journal\nentry 0 0 0 0 0 expand head 5 spot 3 3 0 body 0 3 3 2 3 5 + 255\nend\n") (act 0 0 0 0 (moved.Expand (port Head 5)) (spot (pos 3) (pos 3) (Some 0) ∷ body 0 (long 5 Plus (255 ∷ [])) ∷ []) ∷ [])
   -- the largest caller, turn, amoebot and action, and the farthest coordinates
   pub largest : Yields (codes "journal entry 0 15 65535 2 1 contract tail spot -9999 9999 empty spot 0 - 1 2 body 2 3 3 2 3 0 - 0 end")
       (act 15 65535 2 1 (moved.Contract Tail) (spot (negsuc 9998) (pos 9999) None ∷ spot (pos 0) (negsuc 0) (Some 2) ∷ body 2 (long 0 Minus (0 ∷ [])) ∷ []) ∷ [])
   pub movements : Yields (codes "journal entry 0 0 0 0 0 none entry 1 0 1 0 0 push tail 0 entry 2 0 2 0 0 pull head 3 entry 3 0 3 0 0 contract head end")
-      (act 0 0 0 0 moved.None [] ∷ act 0 1 0 0 (moved.Push (a_port_of Tail 0)) [] ∷ act 0 2 0 0 (moved.Pull (a_port_of Head 3)) [] ∷ act 0 3 0 0 (moved.Contract Head) [] ∷ [])
+      (act 0 0 0 0 moved.None [] ∷ act 0 1 0 0 (moved.Push (port Tail 0)) [] ∷ act 0 2 0 0 (moved.Pull (port Head 3)) [] ∷ act 0 3 0 0 (moved.Contract Head) [] ∷ [])
   pub ten_pairs : Yields (codes "journal entry 0 0 0 0 0 none " ++ nine_spots ++ codes "spot 1 1 empty end") (act 0 0 0 0 moved.None ten_empty_spots ∷ [])
   -- no variable, and eight
   pub no_value : Says (IsJournal 3 2 0) (codes "journal entry 0 0 0 0 0 none body 0 3 3 2 3 0 + end") (Ok (act 0 0 0 0 moved.None (body 0 (long 0 Plus []) ∷ []) ∷ []))
@@ -87,7 +86,7 @@ pub record JournalsAreRead : Type 0 where
   pub value_256 : FailsIn (codes "none body 0 3 3 2 3 0 +\n256 end") 3 BadRange
   pub eleventh_pair : FailsIn (codes "none " ++ nine_spots ++ codes "spot 1 1 empty\nspot 1 1 empty end") 3 TooMany
   pub eleventh_body : FailsIn (codes "none " ++ nine_spots ++ codes "spot 1 1 empty\nbody 0 3 3 2 3 0 + 0 end") 3 TooMany
-  pub one_entry_too_many : Says (AreEntries 3 2 1 65535) (codes "entry 65535 0 0 0 0 none\nentry 65536 0 0 0 0 none") (Err (at 2 TooMany))
+  pub one_entry_too_many : Says (AreEntries 3 2 1 65535) (codes "entry 65535 0 0 0 0 none\nentry 65536 0 0 0 0 none") (Err (on_line 2 TooMany))
   -- ---- entries that are judged
   pub first_place : Fails (codes "journal\nentry\n1 0 0 0 0 none end") 2 BadPlace
   pub second_place : FailsIn (codes "none\nentry 0 0 1 0 0 none end") 3 BadPlace
@@ -114,7 +113,7 @@ pub record JournalsAreRead : Type 0 where
   pub entry_before_end : Fails (codes "journal\nentry 0 16 0 0 0 none\n") 2 BadEntry
   -- and before a further entry, which may be one too many
   pub entry_before_entry : Fails (codes "journal\nentry 0 16 0 0 0 none\nentry 0 0 0 0 0 none end") 2 BadEntry
-  pub place_before_too_many : Says (AreEntries 3 2 1 65535) (codes "entry 0 0 0 0 0 none\nentry 65536 0 0 0 0 none") (Err (at 1 BadPlace))
+  pub place_before_too_many : Says (AreEntries 3 2 1 65535) (codes "entry 0 0 0 0 0 none\nentry 65536 0 0 0 0 none") (Err (on_line 1 BadPlace))
   -- but a further pair comes first
   pub pair_behind_place : Fails (codes "journal\nentry 1 0 0 0 0 none\nspot 10000 0 empty end") 3 BadRange
   -- ---- tokens that do not belong there

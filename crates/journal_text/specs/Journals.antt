@@ -6,11 +6,11 @@
 -- The 65,537th entry and the 11th pair of an entry are TooMany. Once no further pair comes, an entry is judged, and blamed at its word: its place has to be
 -- the number of entries before it (else BadPlace), its caller at most 15, its turn at most 65,535, its action one of the program's and each amoebot that it names
 -- one of the world's (else BadEntry).
-use Rattle.std.specs.Prelude.{ℕ, suc, Bool, ◌&&◌, ◌||◌, ◌==◌, nat_le, nat_lt, if◌then◌else◌, List, [], ◌∷◌, ◌++◌, Option, Some, None, codes}
+use Rattle.std.specs.Prelude.{ℕ, Bool, ◌&&◌, ◌||◌, ◌==◌, nat_le, nat_lt, if◌then◌else◌, List, [], ◌∷◌, ◌++◌, Option, Some, None, codes}
 use Rattle.std.specs.List.{list_all, flat_map}
 use Rattle.text_tokens.specs.declared.refusal.Refusal.{Refusal}
 use Rattle.text_tokens.specs.declared.refusal.RefusalKind.{RefusalKind}
-use Rattle.text_tokens.specs.declared.refusal.RefusalKind.TheVariants.{TooMany, BadEntry, BadPlace}
+use Rattle.text_tokens.specs.declared.refusal.RefusalKind.TheVariants.{BadEntry, BadPlace}
 use Rattle.text_tokens.specs.Text.{Lexeme}
 use Rattle.text_tokens.specs.Grammar.{Lang, IsOne, Then, Made, Closed, Judged, Either, Repeated, AtMost}
 use Rattle.amoebot_state.specs.declared.bot.End.{End}
@@ -26,7 +26,7 @@ use Rattle.amoebot_state.specs.Limits.{most_pairs}
 use Rattle.amoebot_state.specs.Pairs.{Pairs, cell_of, cell_value}
 use Rattle.claim_core.specs.Limits.{most_turns}
 use Rattle.journal_text.specs.Limits.{last_caller, last_turn}
-use Rattle.journal_text.specs.Parts.{word, is_end, IsWord, Means, IsNumber, IsNode, IsEnd, IsPort, IsBotText}
+use Rattle.journal_text.specs.Parts.{word, is_end, past_most, one_more, IsWord, Means, IsNumber, IsNode, IsEnd, IsPort, IsBotText}
 
 -- ---- movements
 
@@ -105,7 +105,7 @@ written_of line n moved pairs = record { line = line; place = n.place; entry = r
 
 -- one entry too many, behind so many
 abbrev pub past_entries : ℕ → Lexeme → Option RefusalKind
-past_entries before t = if nat_lt before most_turns then None else Some TooMany
+past_entries before t = past_most most_turns before t
 
 -- the word of an entry behind so many, for its line
 abbrev pub IsEntryWord : ℕ → Lang ℕ
@@ -147,9 +147,6 @@ module _ (bots actions vars : ℕ) where
   -- an entry, behind so many
   abbrev pub IsEntry : ℕ → Lang Entry
   IsEntry before = Made (Judged (IsWritten vars before) (wrong bots actions before)) (λ w. w.entry)
-
-  abbrev pub one_more : ℕ → Entry → ℕ
-  one_more before e = suc before
 
   abbrev pub AreEntries : ℕ → Lang (List Entry)
   AreEntries before = Repeated IsEntry one_more before

@@ -5,10 +5,11 @@
 --   amoebot := node node NUMBER ( "+" | "-" ) values
 --   values := as many NUMBERs as there are variables
 -- A coordinate farther than 9,999 from 0, a rotation or a direction above 5, and a value above 255 is a BadRange.
-use Rattle.std.specs.Prelude.{ℕ, ℤ, pos, ◌-ℤ◌, ◌-◌, Bool, List, ◌++◌, length, replicate, codes}
+use Rattle.std.specs.Prelude.{ℕ, suc, ℤ, pos, ◌-ℤ◌, ◌-◌, Bool, nat_lt, if◌then◌else◌, List, ◌++◌, length, replicate, Option, Some, None, codes}
 use Rattle.tri_lattice.specs.declared.node.Node.{Node}
 use Rattle.text_tokens.specs.declared.token.TokenKind.TheVariants.{Word, Sign}
-use Rattle.text_tokens.specs.declared.refusal.RefusalKind.TheVariants.{BadRange}
+use Rattle.text_tokens.specs.declared.refusal.RefusalKind.{RefusalKind}
+use Rattle.text_tokens.specs.declared.refusal.RefusalKind.TheVariants.{TooMany, BadRange}
 use Rattle.text_tokens.specs.Text.{Lexeme}
 use Rattle.text_tokens.specs.Cursor.{is_the}
 use Rattle.text_tokens.specs.Reading.{no_limit, too_large}
@@ -20,6 +21,7 @@ use Rattle.amoebot_state.specs.declared.bot.End.{End}
 use Rattle.amoebot_state.specs.declared.bot.End.TheVariants.{Head, Tail}
 use Rattle.amoebot_state.specs.declared.bot.Port.{Port}
 use Rattle.amoebot_state.specs.Limits.{most_vars, most_value}
+use Rattle.amoebot_state.specs.Ports.{port}
 use Rattle.journal_text.specs.Limits.{most_coordinate}
 
 -- ---- tokens
@@ -52,6 +54,16 @@ IsNumber = IsNumeral no_limit
 abbrev pub IsUpTo : ℕ → Lang ℕ
 IsUpTo most = IsNumeral (too_large most BadRange)
 
+-- ---- counts
+
+-- one too many, where so many may come, behind so many
+abbrev pub past_most : ℕ → ℕ → Lexeme → Option RefusalKind
+past_most most before t = if nat_lt before most then None else Some TooMany
+
+-- how many there are behind so many and one more
+abbrev pub one_more : {A : Type 0} → ℕ → A → ℕ
+one_more before a = suc before
+
 -- ---- parts
 
 abbrev pub negative : ℕ → ℤ
@@ -73,11 +85,8 @@ IsEnd = Either (Means (word (codes "head")) Head) (Means (word (codes "tail")) T
 abbrev pub IsChirality : Lang Chir
 IsChirality = Either (Means (sign (codes "+")) Plus) (Means (sign (codes "-")) Minus)
 
-abbrev pub a_port_of : End → ℕ → Port
-a_port_of end dir = record { end = end; dir = dir }
-
 abbrev pub IsPort : Lang Port
-IsPort = Then IsEnd (λ end. Made (IsUpTo 5) (λ dir. a_port_of end dir))
+IsPort = Then IsEnd (λ end. Made (IsUpTo 5) (λ dir. port end dir))
 
 -- a value for each variable
 abbrev pub IsValues : ℕ → Lang (List ℕ)

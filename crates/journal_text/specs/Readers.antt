@@ -1,8 +1,7 @@
 -- The grammars of the sections as readers, put together as the grammars are.
-use Rattle.std.specs.Prelude.{ℕ, ℤ, pos, Bool, nat_lt, if◌then◌else◌, List, Option, Some, None, codes}
+use Rattle.std.specs.Prelude.{ℕ, ℤ, pos, Bool, List, Some, None, codes}
 use Rattle.tri_lattice.specs.declared.node.Node.{Node}
-use Rattle.text_tokens.specs.declared.refusal.RefusalKind.{RefusalKind}
-use Rattle.text_tokens.specs.declared.refusal.RefusalKind.TheVariants.{TooMany, BadRange}
+use Rattle.text_tokens.specs.declared.refusal.RefusalKind.TheVariants.{BadRange}
 use Rattle.text_tokens.specs.Text.{Lexeme}
 use Rattle.text_tokens.specs.Reading.{Reader, ◌>>=◌, pure, one_within, the_line, numeral, too_large, no_limit, closed, judged, either, limited, times, repeated, at_most}
 use Rattle.amoebot_state.specs.declared.bot.Bot.{Bot}
@@ -20,19 +19,16 @@ use Rattle.amoebot_state.specs.declared.verdict.Moved.{Moved}
 use Rattle.amoebot_state.specs.declared.verdict.Moved.TheVariants as moved
 use Rattle.amoebot_state.specs.Limits.{most_value, most_pairs}
 use Rattle.amoebot_state.specs.Pairs.{Pairs}
+use Rattle.amoebot_state.specs.Ports.{port}
 use Rattle.journal_text.specs.Limits.{most_coordinate}
-use Rattle.journal_text.specs.Parts.{word, sign, is_minus, is_end, negative, a_node_of, a_port_of, a_bot_of}
-use Rattle.journal_text.specs.Journals.{is_spot, is_cell, a_pair_of, is_entry, Numbers, numbers_of, Written, written_of, past_entries, wrong, one_more}
+use Rattle.journal_text.specs.Parts.{word, sign, is_minus, is_end, past_most, one_more, negative, a_node_of, a_bot_of}
+use Rattle.journal_text.specs.Journals.{is_spot, is_cell, a_pair_of, is_entry, Numbers, numbers_of, Written, written_of, past_entries, wrong}
 use Rattle.journal_text.specs.Turns.{Nothing, is_failure, is_turn, as_before}
 
 -- ---- parts
 
 abbrev pub a_word : List ℕ → Reader ℕ
 a_word text = the_line (word text)
-
--- one too many, where so many may come, behind so many
-abbrev pub past_most : ℕ → ℕ → Lexeme → Option RefusalKind
-past_most most before t = if nat_lt before most then None else Some TooMany
 
 -- this word, for its line, where so many may come
 abbrev pub word_within : List ℕ → ℕ → ℕ → Reader ℕ
@@ -60,7 +56,7 @@ unfoldable pub a_chirality : Reader Chir
 a_chirality = either (sign (codes "+")) (means (sign (codes "+")) Plus) (means (sign (codes "-")) Minus)
 
 unfoldable pub a_port : Reader Port
-a_port = an_end >>= λ end. up_to 5 >>= λ dir. pure (a_port_of end dir)
+a_port = an_end >>= λ end. up_to 5 >>= λ dir. pure (port end dir)
 
 abbrev pub values : ℕ → Reader (List ℕ)
 values vars = times (up_to most_value) vars
@@ -141,7 +137,7 @@ module _ (bots actions vars : ℕ) where
 
   -- entries behind so many
   unfoldable pub entries_from : ℕ → Reader (List Entry)
-  entries_from before = repeated is_entry an_entry (one_more bots actions vars) before
+  entries_from before = repeated is_entry an_entry one_more before
 
   abbrev pub all_entries : Reader (List Entry)
   all_entries = entries_from 0

@@ -2,6 +2,7 @@
 use Rattle.std.specs.Prelude.{◌≡◌, ◌<◌, ◌≤◌, ◌-◌, ◌^◌, ℕ, ℤ, pos, negsuc, suc, true, List, length, drop, replicate, Ok}
 use Rattle.std.specs.List.{All}
 use Rattle.tri_lattice.specs.declared.node.Node.{Node}
+use Rattle.text_tokens.specs.Cursor.{IsShort}
 use Rattle.amoebot_state.specs.declared.bot.Bot.{Bot}
 use Rattle.amoebot_state.specs.declared.cell.CellName.{CellName}
 use Rattle.amoebot_state.specs.declared.cell.CellName.TheVariants as name
@@ -66,10 +67,6 @@ JournalsReadBack = (bots actions vars : ℕ) (entries : List Entry) → bots < 2
     → Says (IsJournal bots actions vars) (journal_text vars entries) (Ok entries)
 
 -- ---- marks
-
--- a number of at most nine digits
-abbrev pub IsShort : ℕ → Type 0
-IsShort n = n < 10 ^ 9
 
 abbrev pub IsWritableCell : CellName → Type 0
 IsWritableCell (name.Spot v) = HasCoordinates v

@@ -6,8 +6,9 @@ use Rattle.amoebot_state.specs.declared.bot.End.TheVariants.{Head, Tail}
 use Rattle.amoebot_state.specs.declared.cell.CellName.TheVariants as name
 use Rattle.amoebot_state.specs.declared.verdict.Failure.TheVariants as failure
 use Rattle.amoebot_state.specs.declared.verdict.Moved.TheVariants as moved
+use Rattle.amoebot_state.specs.Ports.{port}
 use Rattle.claim_core.specs.declared.marks.Mark.TheVariants as mark
-use Rattle.journal_text.specs.Parts.{a_node_of, a_port_of}
+use Rattle.journal_text.specs.Parts.{a_node_of}
 use Rattle.journal_text.specs.JournalRows.{act, spot, body, long}
 use Rattle.journal_text.specs.Texts.{journal_text, turns_text}
 
@@ -17,9 +18,9 @@ its_bot = long 5 Minus (1 ∷ 255 ∷ [])
 
 pub record TextsArePrinted : Type 0 where
   pub no_entry : journal_text 0 [] ≡ codes "journal\nend\n"
-  pub entries : journal_text 2 (act 0 0 0 0 (moved.Expand (a_port_of Head 5)) (spot (pos 3) (pos 3) (Some 10) ∷ body 10 its_bot ∷ []) ∷ act 15 65535 4095 31 (moved.Contract Tail) (spot (negsuc 9998) (negsuc 0) None ∷ []) ∷ [])
+  pub entries : journal_text 2 (act 0 0 0 0 (moved.Expand (port Head 5)) (spot (pos 3) (pos 3) (Some 10) ∷ body 10 its_bot ∷ []) ∷ act 15 65535 4095 31 (moved.Contract Tail) (spot (negsuc 9998) (negsuc 0) None ∷ []) ∷ [])
       ≡ codes "journal\nentry 0 0 0 0 0 expand head 5 spot 3 3 10 body 10 3 3 2 3 5 - 1 255\nentry 1 15 65535 4095 31 contract tail spot -9999 -1 empty\nend\n"
-  pub movements : journal_text 0 (act 0 0 0 0 moved.None [] ∷ act 0 1 0 0 (moved.Push (a_port_of Tail 0)) [] ∷ act 0 2 0 0 (moved.Pull (a_port_of Head 3)) [] ∷ act 0 3 0 0 (moved.Contract Head) [] ∷ [])
+  pub movements : journal_text 0 (act 0 0 0 0 moved.None [] ∷ act 0 1 0 0 (moved.Push (port Tail 0)) [] ∷ act 0 2 0 0 (moved.Pull (port Head 3)) [] ∷ act 0 3 0 0 (moved.Contract Head) [] ∷ [])
       ≡ codes "journal\nentry 0 0 0 0 0 none\nentry 1 0 1 0 0 push tail 0\nentry 2 0 2 0 0 pull head 3\nentry 3 0 3 0 0 contract head\nend\n"
   -- no variable, and eight
   pub no_value : journal_text 0 (act 0 0 0 0 moved.None (body 0 its_bot ∷ []) ∷ []) ≡ codes "journal\nentry 0 0 0 0 0 none body 0 3 3 2 3 5 -\nend\n"

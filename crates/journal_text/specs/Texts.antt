@@ -8,8 +8,6 @@ use Rattle.text_tokens.specs.Lines.{Words, section_text}
 use Rattle.amoebot_state.specs.declared.bot.Bot.{Bot}
 use Rattle.amoebot_state.specs.declared.bot.Chir.{Chir}
 use Rattle.amoebot_state.specs.declared.bot.Chir.TheVariants as chir
-use Rattle.amoebot_state.specs.declared.bot.End.{End}
-use Rattle.amoebot_state.specs.declared.bot.End.TheVariants as end
 use Rattle.amoebot_state.specs.declared.bot.Port.{Port}
 use Rattle.amoebot_state.specs.declared.cell.CellName.{CellName}
 use Rattle.amoebot_state.specs.declared.cell.CellName.TheVariants as name
@@ -21,6 +19,7 @@ use Rattle.amoebot_state.specs.declared.verdict.Failure.TheVariants as failure
 use Rattle.amoebot_state.specs.declared.verdict.Moved.{Moved}
 use Rattle.amoebot_state.specs.declared.verdict.Moved.TheVariants as moved
 use Rattle.amoebot_state.specs.Pairs.{cell_of, cell_value}
+use Rattle.amoebot_state.specs.Ports.{end_word}
 use Rattle.claim_core.specs.declared.marks.Mark.{Mark}
 use Rattle.claim_core.specs.declared.marks.Mark.TheVariants as mark
 use Rattle.claim_core.specs.Turns.{MarkLists}
@@ -28,10 +27,6 @@ use Rattle.claim_core.specs.Turns.{MarkLists}
 -- the coordinates of a node, where a negative one has a `-` directly before its digits
 abbrev pub node_words : Node → Words
 node_words v = signed_decimal v.x ∷ signed_decimal v.y ∷ []
-
-abbrev pub end_word : End → List ℕ
-end_word end.Head = codes "head"
-end_word end.Tail = codes "tail"
 
 abbrev pub port_words : Port → Words
 port_words p = end_word p.end ∷ decimal p.dir ∷ []

@@ -2,8 +2,9 @@
 use Rattle.std.specs.Prelude.{ℕ, List, ◌++◌, Ok, Err, codes}
 use Rattle.text_tokens.specs.declared.refusal.RefusalKind.{RefusalKind}
 use Rattle.text_tokens.specs.declared.refusal.RefusalKind.TheVariants.{BadByte, WordTooLong, Unexpected, Truncated, BadRange, Trailing}
+use Rattle.text_tokens.specs.Cursor.{on_line}
 use Rattle.journal_text.specs.Turns.{IsTurns}
-use Rattle.journal_text.specs.JournalRows.{Says, at}
+use Rattle.journal_text.specs.JournalRows.{Says}
 
 -- a text of turns
 abbrev pub Yields : List ℕ → Type 0
@@ -11,7 +12,7 @@ Yields text = Says IsTurns text (Ok tt)
 
 -- a text with this first fault
 abbrev pub Fails : List ℕ → ℕ → RefusalKind → Type 0
-Fails text line kind = Says IsTurns text (Err (at line kind))
+Fails text line kind = Says IsTurns text (Err (on_line line kind))
 
 -- the same of a text with a turn on line 2, and what follows
 abbrev pub FailsIn : List ℕ → ℕ → RefusalKind → Type 0

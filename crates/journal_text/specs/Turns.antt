@@ -4,15 +4,17 @@
 --   cell    := "spot" node | "body" NUMBER
 --   failure := one of the words of failures
 -- There is no rule on ranges but that on the coordinates of cells, and no limit on the number of turns.
-use Rattle.std.specs.Prelude.{ℕ, Bool, ◌&&◌, List, [], ◌∷◌, codes}
+use Rattle.std.specs.Prelude.{ℕ, Bool, ◌&&◌, List, [], ◌∷◌, map, codes}
 use Rattle.std.specs.List.{list_any}
 use Rattle.std.specs.Str.{bytes_eq}
 use Rattle.text_tokens.specs.declared.token.TokenKind.TheVariants.{Word}
 use Rattle.text_tokens.specs.Text.{Lexeme}
 use Rattle.text_tokens.specs.Cursor.{is_kind}
 use Rattle.text_tokens.specs.Grammar.{Lang, Then, Made, IsThe, Closed, Either, Repeated}
+use Rattle.amoebot_state.specs.declared.verdict.Failure.TheVariants as failure
 use Rattle.journal_text.specs.Parts.{word, is_end, IsWord, IsNumber}
 use Rattle.journal_text.specs.Journals.{IsCellText}
+use Rattle.journal_text.specs.Texts.{failure_word}
 
 abbrev pub Nothing : Type 0
 Nothing = Unit {0}
@@ -22,8 +24,8 @@ abbrev pub Unheeded : {A : Type 0} → Lang A → Lang Nothing
 Unheeded P = Made P (λ a. tt)
 
 abbrev pub failure_words : List (List ℕ)
-failure_words = codes "no_port" ∷ codes "no_neighbour" ∷ codes "out_of_range" ∷ codes "occupied" ∷ codes "not_contracted" ∷ codes "not_expanded" ∷ codes "peer_not_expanded"
-    ∷ codes "peer_not_contracted" ∷ codes "edge" ∷ codes "would_split" ∷ codes "no_choice" ∷ []
+failure_words = map failure_word (failure.NoPort ∷ failure.NoNeighbour ∷ failure.OutOfRange ∷ failure.Occupied ∷ failure.NotContracted ∷ failure.NotExpanded ∷ failure.PeerNotExpanded
+    ∷ failure.PeerNotContracted ∷ failure.Edge ∷ failure.WouldSplit ∷ failure.NoChoice ∷ [])
 
 unfoldable pub names_failure : List ℕ → Bool
 names_failure text = list_any (λ word. bytes_eq word text) failure_words

@@ -4,10 +4,10 @@ ghost use Rattle.std.specs.Prelude.{◌≡◌, ◌<◌, ◌≤◌, ◌++◌, dec
 ghost use Rattle.std.specs.List.{enumerate_from, flat_map};
 ghost use Rattle.text_tokens.specs.Lines.{line_text, lines_text, spaced};
 ghost use Rattle.amoebot_state.specs.Limits.{most_vars};
-ghost use Rattle.journal_text.specs.Texts.{bot_words, caller_lines, cell_words, chir_word, end_word, entry_numbers, entry_words, failure_word, journal_text, mark_words, moved_words, node_words, pair_words, port_words, turn_words, turns_text, value_words};
+ghost use Rattle.journal_text.specs.Texts.{bot_words, caller_lines, cell_words, chir_word, entry_numbers, entry_words, failure_word, journal_text, mark_words, moved_words, node_words, pair_words, port_words, turn_words, turns_text, value_words};
 ghost use Rattle.claim_core.specs.Turns.{marks_of};
 
-use amoebot_state::{Bot, Cell, CellName, Chir, End, Entry, Failure, Moved, NoMemory, Port};
+use amoebot_state::{Bot, Cell, CellName, Chir, Entry, Failure, Moved, NoMemory, Port};
 use claim_core::{Mark, Marks};
 use std::alloc::{AllocError, Global};
 use text_tokens::{Lines, Text};
@@ -217,7 +217,7 @@ fn put_moved(lines: &mut Lines, moved: Moved) -> Result<(), AllocError>
         }
         Moved::Contract(end) => {
             lines.word("contract")?;
-            lines.word(end_word(end))
+            lines.word(end.word())
         }
         Moved::Push(port) => {
             lines.word("push")?;
@@ -233,7 +233,7 @@ fn put_moved(lines: &mut Lines, moved: Moved) -> Result<(), AllocError>
 fn put_port(lines: &mut Lines, port: Port) -> Result<(), AllocError>
     ensures { OnOk result (lines.new ≡ lines.old ++ spaced (port_words port)) }
 {
-    lines.word(end_word(port.end))?;
+    lines.word(port.end.word())?;
     lines.number(port.dir)
 }
 
@@ -242,15 +242,6 @@ fn put_node(lines: &mut Lines, node: Node) -> Result<(), AllocError>
 {
     lines.number(node.x)?;
     lines.number(node.y)
-}
-
-fn end_word(end: End) -> &'static str
-    ensures { result.now ≡ end_word end }
-{
-    match end {
-        End::Head => "head",
-        End::Tail => "tail",
-    }
 }
 
 fn chir_word(chir: Chir) -> &'static str

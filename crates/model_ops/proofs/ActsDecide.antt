@@ -13,7 +13,7 @@ use Rattle.amoebot_state.proofs.ShownAlone.{shown_alone_shows_the_same}
 use Rattle.amoebot_state.proofs.Patched.{patched_is_unique}
 use Rattle.amoebot_state.proofs.Shows.{shown_valid}
 use Rattle.model_ops.specs.Deciders.{ActsFor}
-use Rattle.model_ops.specs.Laws.{ActsKeepDeciderLaws, GuardedStepsStayConnected, LeadsAlso, StaysConnected}
+use Rattle.model_ops.specs.Laws.{ActsKeepDeciderLaws, GuardedDecidersStayConnected, LeadsAlso, StaysConnected}
 use Rattle.model_ops.proofs.SameDiff.{reached_diff_is_exact, reached_leads_also}
 use Rattle.model_ops.proofs.StaysConnected.{reached_stays_connected}
 use Rattle.model_ops.proofs.CopiesStand.{gap_there}
@@ -47,8 +47,8 @@ acts_keep_decider_laws f decides = (
   λ c i change by. let kept = acts_keep c i change.patch by.valid by.there (decides (shown c i) change (c, by.valid, by.there, refl) by.decided) in (kept.ordered, kept.differs),
 )
 
-pub guarded_steps_stay_connected : GuardedStepsStayConnected
-guarded_steps_stay_connected f old e new decides valid step =
+pub guarded_deciders_stay_connected : GuardedDecidersStayConnected
+guarded_deciders_stay_connected f old e new decides valid step =
     let (by, on) = decides (shown old e.bot) (change_of e) (old, valid, step.there, refl) step.decided in
     let also = acts_lead old e.bot e.patch valid step.there by in
     let P : Pairs → Type 0 = λ ps. IsPatched old ps also.reached in

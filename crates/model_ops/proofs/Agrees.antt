@@ -8,7 +8,7 @@ use Rattle.tri_lattice.specs.declared.node.Node.{Node}
 use Rattle.tri_lattice.specs.Extent.{is_in}
 use Rattle.tri_lattice.specs.Lattice.{step, is_adjacent}
 use Rattle.tri_lattice.proofs.Steps.{Adjacent-is_adjacent}
-use Rattle.ring_guard.specs.Rings.{ring_in}
+use Rattle.ring_guard.specs.Rings.{is_one_arc, ring_in}
 use Rattle.amoebot_state.specs.declared.bot.Bot.{Bot}
 use Rattle.amoebot_state.specs.declared.bot.End.{End}
 use Rattle.amoebot_state.specs.declared.bot.End.TheVariants.{Head, Tail}
@@ -19,7 +19,6 @@ use Rattle.amoebot_state.specs.Ports.{is_contracted, is_port, behind, end_node, 
 use Rattle.amoebot_state.specs.Configs.{Config, IsValid, bot_at, bot_of, blank, occupant}
 use Rattle.amoebot_state.specs.Occupied.{occupied}
 use Rattle.amoebot_state.proofs.Directions.{port_leads_beside}
-use Rattle.model_ops.specs.Guard.{is_one_arc}
 use Rattle.model_ops.specs.Operations.{connected, is_free, is_free_node, owner, read, write, peer, seen_over, is_value, expand, contract, push, pull}
 use Rattle.model_ops.specs.Reaches.{move}
 use Rattle.model_ops.specs.Sights.{sight}

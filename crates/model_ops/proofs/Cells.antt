@@ -1,27 +1,18 @@
 -- Cells and their values: what belongs beside the definitions of cells.
-use Rattle.std.proofs.Common.{◌≡◌, ◌≢◌, ◌⊎◌, List, [], ◌∷◌, ap, ◌∙◌, subst, inl, inr, None}
+use Rattle.std.proofs.Common.{◌≡◌, ◌⊎◌, List, [], ◌∷◌, ap, ◌∙◌, subst, inl, inr, None}
 use Rattle.std.specs.Prelude.{if◌then◌else◌}
-use Rattle.std.proofs.lemmas.Bool.{cases_eq}
-use Rattle.tri_lattice.proofs.Nodes.{cases_node}
 use Rattle.amoebot_state.specs.declared.cell.CellName.{CellName}
-use Rattle.amoebot_state.specs.declared.cell.CellName.TheVariants as name
 use Rattle.amoebot_state.specs.Configs.{Config, value}
 use Rattle.amoebot_state.specs.Zones.{shown_cell}
 use Rattle.amoebot_state.specs.Patches.{changed, same_value}
 use Rattle.amoebot_state.proofs.Members.{Has, here, later, has_cases, not_in_none}
+use Rattle.amoebot_state.proofs.Patched.{decide_name}
 use Rattle.amoebot_state.proofs.Values.{value_same}
-
--- two names are the same or not
-cases_cell : (m n : CellName) → (m ≡ n) ⊎ (m ≢ n)
-cases_cell (name.Spot u) (name.Spot v) = elim (cases_node u v) [ inl e ↦ inl (ap name.Spot e) | inr ne ↦ inr (λ e. let f : u ≡ v = cc in ne f) ]
-cases_cell (name.Spot u) (name.Body j) = inr (λ e. cc)
-cases_cell (name.Body i) (name.Spot v) = inr (λ e. cc)
-cases_cell (name.Body i) (name.Body j) = elim (cases_eq i j) [ inl e ↦ inl (ap name.Body e) | inr ne ↦ inr (λ e. let f : i ≡ j = cc in ne f) ]
 
 -- a name is in a list or not
 pub has_or_not : (n : CellName) (ns : List CellName) → Has n ns ⊎ (Has n ns → ⊥)
 has_or_not n [] = inr not_in_none
-has_or_not n (m ∷ ns) = elim (cases_cell n m) [
+has_or_not n (m ∷ ns) = elim (decide_name m n) [
   | inl e ↦ inl (subst (λ k. Has n (k ∷ ns)) e here)
   | inr ne ↦ elim (has_or_not n ns) [
     | inl has ↦ inl (later has)

@@ -14,6 +14,7 @@ use Rattle.tri_lattice.specs.declared.node.Node.{Node}
 use Rattle.tri_lattice.specs.Extent.{Extent, IsArea, is_in}
 use Rattle.tri_lattice.specs.Lattice.{IsNear}
 use Rattle.tri_lattice.proofs.Boxes.{near_in}
+use Rattle.amoebot_state.proofs.Options.{is_some-option_map}
 use Rattle.amoebot_state.proofs.Owns.{own_cases}
 use Rattle.amoebot_state.proofs.ShownAlone.{spread_at}
 use Rattle.amoebot_state.specs.declared.bot.Bot.{Bot}
@@ -170,12 +171,8 @@ pub any_placed : {X : Type 0} (p : X → Bool) (xs : List X) → list_any p xs �
 any_placed p [] = λ t. absurd (false≢true t)
 any_placed p (x ∷ xs) = λ t. ap is_some (position_cons p x xs) ∙ elim (cases_Bool (p x)) [
   | inl u ↦ ap (λ b. is_some (cond b (Some 0) (option_map suc (position p xs)))) u
-  | inr f ↦ ap (λ b. is_some (cond b (Some 0) (option_map suc (position p xs)))) f ∙ one_on (position p xs) ∙ any_placed p xs (sym (ap (λ b. b || list_any p xs) f) ∙ t)
+  | inr f ↦ ap (λ b. is_some (cond b (Some 0) (option_map suc (position p xs)))) f ∙ is_some-option_map suc (position p xs) ∙ any_placed p xs (sym (ap (λ b. b || list_any p xs) f) ∙ t)
 ]
-  where
-    one_on : (o : Option ℕ) → is_some (option_map suc o) ≡ is_some o
-    one_on None = refl
-    one_on (Some k) = refl
 
 -- an amoebot is there exactly where a member has its id
 pub has_bot : (part : Member → Bot) (a : Extent) (maxes : List ℕ) (ms : List Member) (i : ℕ) → is_some (bot_at (config_by part a maxes ms) i) ≡ has_id ms i

@@ -7,7 +7,7 @@ use Rattle.std.specs.declared.option.Option.TheVariants.{Some}
 use Rattle.std.specs.declared.result.Result.TheVariants.{Ok, Err}
 use Rattle.tri_lattice.specs.Lattice.{step}
 use Rattle.tri_lattice.specs.Sets.{IsConnected}
-use Rattle.ring_guard.specs.Rings.{IsOneArc}
+use Rattle.ring_guard.specs.Rings.{IsOneArc, is_one_arc}
 use Rattle.amoebot_state.specs.declared.bot.End.{End}
 use Rattle.amoebot_state.specs.declared.bot.Port.{Port}
 use Rattle.amoebot_state.specs.declared.cell.CellName.{CellName}
@@ -23,7 +23,6 @@ use Rattle.amoebot_state.specs.Patches.{IsPatched, IsOrdered, diff}
 use Rattle.amoebot_state.specs.Ports.{behind, end_node, global}
 use Rattle.amoebot_state.specs.Zones.{Shown, IsShown, zone, shown, shown_alone}
 use Rattle.amoebot_state.specs.Steps.{Step, TouchesZone, HasNext, IsExact}
-use Rattle.model_ops.specs.Guard.{is_one_arc}
 use Rattle.model_ops.specs.declared.peer.Peer.{Peer}
 use Rattle.model_ops.specs.Operations.{write, peer, expand, contract, push, pull}
 use Rattle.model_ops.specs.Reaches.{Writing, Acts, Reaches, write_all, move, perform}
@@ -157,5 +156,5 @@ abbrev pub ActsKeepDeciderLaws : Type 0
 ActsKeepDeciderLaws = (f : Shown → Verdict) → DecidesByActs f → TouchesZone f × HasNext f × IsExact f
 
 -- and with the guard on, a step from a valid configuration leaves the occupied nodes connected
-abbrev pub GuardedStepsStayConnected : Type 0
-GuardedStepsStayConnected = (f : Shown → Verdict) (old : Config) (e : Entry) (new : Config) → DecidesGuarded f → IsValid old → Step f old e new → StaysConnected old new
+abbrev pub GuardedDecidersStayConnected : Type 0
+GuardedDecidersStayConnected = (f : Shown → Verdict) (old : Config) (e : Entry) (new : Config) → DecidesGuarded f → IsValid old → Step f old e new → StaysConnected old new

@@ -1,4 +1,3 @@
-pub mod Guard
 pub mod Operations
 pub mod Sights
 pub mod Reaches

@@ -54,13 +54,17 @@ config_now = config_by (λ m. m.now)
 abbrev pub copy_of : Extent → List ℕ → ℕ → List Member → WorkingCopy
 copy_of a maxes own ms = record { found = shown (config_found a maxes ms) own; reached = config_now a maxes ms }
 
+-- the most amoebots of a neighbourhood: an expanded one and eight beside it
+abbrev pub most_members : ℕ
+most_members = 9
+
 -- what a site keeps: the members stand in rising id, the amoebot itself is one of them, they are at most nine, and together they
 -- are what some valid configuration showed to the amoebot
 pub record IsSite (a : Extent) (maxes : List ℕ) (own : ℕ) (ms : List Member) : Type 0 where
   pub rising : AreRising ms
   pub plain : All (λ (m : Member). IsPlain m.now) ms
   pub there : IsSome (bot_at (config_now a maxes ms) own)
-  pub few : length ms ≤ 9
+  pub few : length ms ≤ most_members
   pub was_shown : IsShown (shown (config_found a maxes ms) own)
   pub whole : shown_alone (shown (config_found a maxes ms) own) ≡ config_found a maxes ms
 

@@ -9,7 +9,7 @@ use Rattle.std.specs.declared.result.Result.TheVariants.{Ok, Err}
 use Rattle.tri_lattice.specs.declared.node.Node.{Node}
 use Rattle.tri_lattice.specs.Lattice.{node_eq, opposite}
 use Rattle.tri_lattice.specs.Extent.{is_in}
-use Rattle.ring_guard.specs.Rings.{ring_in}
+use Rattle.ring_guard.specs.Rings.{is_one_arc, ring_in}
 use Rattle.amoebot_state.specs.declared.bot.Bot.{Bot}
 use Rattle.amoebot_state.specs.declared.bot.End.{End}
 use Rattle.amoebot_state.specs.declared.bot.Port.{Port}
@@ -19,7 +19,6 @@ use Rattle.amoebot_state.specs.Ports.{is_contracted, is_port, behind, end_node, 
 use Rattle.amoebot_state.specs.Configs.{Config, occupant, bot_of, set_bot}
 use Rattle.amoebot_state.specs.Occupied.{occupied}
 use Rattle.model_ops.specs.declared.peer.Peer.{Peer}
-use Rattle.model_ops.specs.Guard.{is_one_arc}
 
 -- the answer, where the condition holds, and else the failure
 abbrev pub need : {A : Type 0} → Bool → Failure → Result A Failure → Result A Failure

@@ -2,7 +2,7 @@ ghost use Rattle.std.specs.Prelude.{◌≡◌, ◌+◌, ◌<◌, ◌≤◌, ◌�
 ghost use Rattle.std.specs.List.{filter_map, find};
 ghost use Rattle.amoebot_state.specs.Limits.{most_pairs};
 ghost use Rattle.amoebot_state.specs.Patches.{bot_eq};
-ghost use Rattle.model_ops.specs.Members.{changed_body, changed_cells, changed_spot, has_changed, nodes_of};
+ghost use Rattle.model_ops.specs.Members.{changed_body, changed_cells, changed_spot, has_changed, most_members, nodes_of};
 
 use crate::member::{Member, id_found_on, id_on};
 use amoebot_state::{Bot, Cell, CellName, Patch};
@@ -11,7 +11,7 @@ use tri_lattice::Node;
 /// The cells that differ from what was found, of whose nodes at most one does, which is one of the own ones: that node first,
 /// and then the bodies in the order of the members.
 pub(crate) fn changed_cells(members: &[Member], own: &Member) -> Patch
-    requires { length members.now ≤ 9 }
+    requires { length members.now ≤ most_members }
     ensures { result ≡ changed_cells members.now own.entry.now }
 {
     let mut patch = Patch::new();

@@ -1,4 +1,4 @@
-ghost use Rattle.model_ops.specs.Laws.{OneArcTestIsOneArc, ReachedKeepsRest, ReachedDiffIsExact, ReachedLeadsAlso, ShownMeetsTheSame, OperationsKeepConnected, ReachedStaysConnected, UnguardedSplits, PeerLooksBack, CopiesWork, CopyStandsForWorlds, ActsKeepDeciderLaws, GuardedStepsStayConnected};
+ghost use Rattle.model_ops.specs.Laws.{OneArcTestIsOneArc, ReachedKeepsRest, ReachedDiffIsExact, ReachedLeadsAlso, ShownMeetsTheSame, OperationsKeepConnected, ReachedStaysConnected, UnguardedSplits, PeerLooksBack, CopiesWork, CopyStandsForWorlds, ActsKeepDeciderLaws, GuardedDecidersStayConnected};
 
 /// The test of one arc answers whether a ring is one arc.
 pub fn one_arc_test_is_one_arc()
@@ -54,5 +54,5 @@ pub fn copies_stand_for_worlds()
 /// steps leave connected occupied nodes connected.
 pub fn acts_decide()
     ensures laws { ActsKeepDeciderLaws }
-    ensures connected { GuardedStepsStayConnected }
+    ensures connected { GuardedDecidersStayConnected }
 {}

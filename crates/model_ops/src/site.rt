@@ -1,6 +1,6 @@
 ghost use Rattle.std.specs.Prelude.{◌≡◌, ◌<◌, ℕ, is_some, IsSome, IsTrue, IfOk, Some, None, true, unsigned_abs};
 ghost use Rattle.amoebot_state.specs.Limits.{most_vars};
-ghost use Rattle.amoebot_state.specs.Configs.{bot_at, bot_of, occupant, set_bot};
+ghost use Rattle.amoebot_state.specs.Configs.{bot_at, occupant, set_bot};
 ghost use Rattle.amoebot_state.specs.Ports.{is_port, behind};
 ghost use Rattle.amoebot_state.specs.Refusals.{IsPlain};
 ghost use Rattle.tri_lattice.specs.Extent.{is_in};

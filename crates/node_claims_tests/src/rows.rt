@@ -1,7 +1,7 @@
-ghost use Rattle.std.specs.Prelude.{◌≡◌, ◌≤◌, length, map, is_some, IfOk, IsSome, OnOk};
+ghost use Rattle.std.specs.Prelude.{◌≡◌, ◌≤◌, map, is_some, IfOk, IsSome, OnOk};
 ghost use Rattle.std.specs.List.{All};
 ghost use Rattle.claim_rule.specs.Seating.{AreOf};
-ghost use Rattle.claim_rule.specs.Tokens.{IsOf, IsToLook, number_in};
+ghost use Rattle.claim_rule.specs.Tokens.{IsOf, number_in};
 
 use crate::fields::{field_of, seat_of};
 use crate::fixtures::{begun, claim, claimed_whole, freed, none_left, whole, won};

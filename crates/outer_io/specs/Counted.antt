@@ -5,6 +5,10 @@ pub record Counted (T : Type 0) : Type 0 where
   pub inner : T
   pub faults : ℕ
 
--- a count after one more fault: the last value of 64 bits stays
+-- the most faults that a count tells: its last value, of 64 bits
+abbrev pub most_faults : ℕ
+most_faults = 2 ^ 64 - 1
+
+-- a count after one more fault: the last value stays
 abbrev pub one_more : ℕ → ℕ
-one_more count = min (count + 1) (2 ^ 64 - 1)
+one_more count = min (count + 1) most_faults

@@ -1,12 +1,13 @@
 -- When a count of faults rose, and what a write does to the bytes that a sink tells.
-use Rattle.std.specs.Prelude.{◌≡◌, ℕ, ◌-◌, ◌^◌, ◌<◌, ◌⊎◌, List, ◌++◌, take, ⊤, MatchResult}
+use Rattle.std.specs.Prelude.{◌≡◌, ℕ, ◌<◌, ◌⊎◌, List, ◌++◌, take, ⊤, MatchResult}
 use Rattle.std.specs.declared.option.Option.{Option}
 use Rattle.std.specs.declared.option.Option.TheVariants.{Some, None}
 use Rattle.std.specs.declared.result.Result.{Result}
+use Rattle.outer_io.specs.Counted.{most_faults}
 
 -- a count is greater now than before, or stands at its last value
 abbrev pub Rose : ℕ → ℕ → Type 0
-Rose before now = (before < now) ⊎ (now ≡ 2 ^ 64 - 1)
+Rose before now = (before < now) ⊎ (now ≡ most_faults)
 
 -- bytes that are told now were told before, and grew by `bytes`
 abbrev pub Grows : Option (List ℕ) → Option (List ℕ) → List ℕ → Type 0

@@ -1,4 +1,3 @@
-ghost use Rattle.std.specs.Prelude.{ℕ, ◌≤◌, List};
 ghost use Rattle.std.specs.declared.option.Option.TheVariants.{Some, None};
 
 use crate::{

@@ -2,9 +2,9 @@
 use Rattle.std.proofs.Common.{◌≡◌, ℕ, suc, ◌-◌, ◌<◌, Bool, true, false, length, arith, refl, sym, subst, List}
 use Rattle.std.proofs.lemmas.List.{ext_get_or}
 use Rattle.std.proofs.Math.Bool.{beq}
-use Rattle.ring_guard.specs.Rings.{entry, row, IsOneArc, IsRow}
+use Rattle.ring_guard.specs.Rings.{entry, row, IsOneArc, is_one_arc, IsRow}
 use Rattle.ring_guard.specs.Laws.{ArcsAreRows}
-use Rattle.ring_guard.proofs.Tables.{each_list, each_below, each_below_at, some_below, some_below_at, implies, implies_at, beq-true, is_one_arc, is_one_arc-true, IsOneArc-is_one_arc, ring_table}
+use Rattle.ring_guard.proofs.Tables.{each_list, each_below, each_below_at, some_below, some_below_at, implies, implies_at, beq-true, is_one_arc-true, IsOneArc-is_one_arc, ring_table}
 
 -- the ring is the row of suc k entries from one direction on
 abbrev is_row : List Bool → ℕ → ℕ → Bool

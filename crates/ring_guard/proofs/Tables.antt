@@ -1,11 +1,15 @@
 -- Tests that go through directions and rings, and what they answer.
-use Rattle.std.proofs.Common.{◌≡◌, ℕ, zero, suc, ◌+◌, ◌%◌, ◌<◌, ◌⊎◌, ◌↔◌, ◌∙◌, Bool, true, false, ◌&&◌, ◌||◌, not, cond, ltb, eqb, length, arith, refl, sym, ap, List, [], ◌∷◌}
+use Rattle.std.proofs.Common.{◌≡◌, ℕ, zero, suc, ◌+◌, ◌%◌, ◌<◌, ◌⊎◌, ◌↔◌, ◌∙◌, Bool, true, false, ◌&&◌, ◌||◌, not, cond, ltb, eqb, length, get_or, arith, refl, sym, ap, List, [], ◌∷◌}
 use Rattle.std.proofs.lemmas.Bool.{and_parts, and_from, or_cases, false≢true, not-true, not_from_false, eqb-true, eq-eqb, agree_below, agree_below_at}
 use Rattle.std.proofs.Math.Bool.{beq}
-use Rattle.std.specs.List.{list_any}
-use Rattle.std.specs.Prelude.{IsTrue, ◌==◌}
+use Rattle.std.proofs.Math.Dec.{leb-suc-suc}
+use Rattle.std.proofs.lemmas.List.Folds.{list_any_at}
+use Rattle.std.specs.List.{list_any, count_by}
+use Rattle.std.specs.Prelude.{IsTrue, ◌==◌, nat_le}
+use Rattle.tri_lattice.specs.Lattice.{directions}
+use Rattle.tri_lattice.proofs.Nodes.{each_direction}
 pub use Rattle.tri_lattice.proofs.EachBelow.{each_below, each_below_at, each_below_from, some_below, some_below_at, some_below_from}
-use Rattle.ring_guard.specs.Rings.{entry, IsEnd, IsOneArc}
+use Rattle.ring_guard.specs.Rings.{entry, IsEnd, is_end, IsOneArc, is_one_arc}
 use Rattle.ring_guard.specs.Laws.{ring_of, arcs, ArcTable}
 
 -- a test holds of every list of n entries
@@ -38,10 +42,6 @@ beq-true true false e = absurd (false≢true e)
 beq-true false true e = absurd (false≢true e)
 beq-true false false e = refl
 
--- `IsEnd` as a test
-abbrev pub is_end : List Bool → ℕ → Bool
-is_end xs i = entry xs i && not (entry xs ((i + 1) % 6))
-
 pub is_end-true : (xs : List Bool) (i : ℕ) → is_end xs i ≡ true → IsEnd xs i
 is_end-true xs i e = let q = and_parts _ _ e in (q.0, not-true _ q.1)
 
@@ -52,13 +52,28 @@ IsEnd-is_end xs i (t, f) = and_from _ _ t (not_from_false _ f)
 abbrev one_end : List Bool → ℕ → ℕ → Bool
 one_end xs i j = implies (is_end xs i && is_end xs j) (eqb i j)
 
--- `IsOneArc` as a test
-abbrev pub is_one_arc : List Bool → Bool
-is_one_arc xs = some_below 6 (entry xs) && each_below 6 (λ i. each_below 6 (one_end xs i))
+-- the six entries, as a list of their own
+abbrev pub six : List Bool → List Bool
+six xs = entry xs 0 ∷ entry xs 1 ∷ entry xs 2 ∷ entry xs 3 ∷ entry xs 4 ∷ entry xs 5 ∷ []
+
+-- a test that computes true on each of the 64 rings
+pub ring_table : (f : List Bool → Bool) → each_list 6 f ≡ true → (xs : List Bool) → f (six xs) ≡ true
+ring_table f e xs = each_list_at 6 f e (six xs) refl
+
+-- an entry is true, and each two directions in which arcs end are one
+abbrev ends_meet : List Bool → Bool
+ends_meet xs = some_below 6 (entry xs) && each_below 6 (λ i. each_below 6 (one_end xs i))
+
+count_decides : each_list 6 (λ xs. beq (is_one_arc xs) (ends_meet xs)) ≡ true
+count_decides = refl
+
+-- the test that counts the ends answers as the one that compares each two of them
+counted : (xs : List Bool) → is_one_arc xs ≡ ends_meet xs
+counted xs = beq-true _ _ (ring_table (λ ys. beq (is_one_arc ys) (ends_meet ys)) count_decides xs)
 
 pub is_one_arc-true : (xs : List Bool) → is_one_arc xs ≡ true → IsOneArc xs
 is_one_arc-true xs e =
-    let q = and_parts _ _ e in
+    let q = and_parts _ _ (sym (counted xs) ∙ e) in
     record {
       some = some_below_at 6 (entry xs) q.0;
       once = λ i j li lj ei ej.
@@ -72,42 +87,27 @@ IsOneArc-is_one_arc xs arc =
     let q = and_parts _ _ both in
     eq-eqb i j (arc.once i j li lj (is_end-true xs i q.0) (is_end-true xs j q.1))) in
     let (i, l, t) = arc.some in
-    and_from _ _ (some_below_from 6 (entry xs) i l t) (each_below_from 6 (λ k. each_below 6 (one_end xs k)) (λ k lk. each_below_from 6 (one_end xs k) (same k lk)))
+    counted xs ∙ and_from _ _ (some_below_from 6 (entry xs) i l t) (each_below_from 6 (λ k. each_below 6 (one_end xs k)) (λ k lk. each_below_from 6 (one_end xs k) (same k lk)))
 
 -- how many arcs end in directions below n
 abbrev pub ends_below : List Bool → ℕ → ℕ
 ends_below xs zero = 0
 ends_below xs (suc n) = ends_below xs n + cond (is_end xs n) 1 0
 
--- the six entries, as a list of their own
-abbrev pub six : List Bool → List Bool
-six xs = entry xs 0 ∷ entry xs 1 ∷ entry xs 2 ∷ entry xs 3 ∷ entry xs 4 ∷ entry xs 5 ∷ []
-
--- a test that computes true on each of the 64 rings
-pub ring_table : (f : List Bool → Bool) → each_list 6 f ≡ true → (xs : List Bool) → f (six xs) ≡ true
-ring_table f e xs = each_list_at 6 f e (six xs) refl
-
--- one arc, by the number of ends
-abbrev has_few_ends : List Bool → Bool
-has_few_ends xs = some_below 6 (entry xs) && ltb (ends_below xs 6) 2
-
-count_decides : each_list 6 (λ xs. beq (has_few_ends xs) (is_one_arc xs)) ≡ true
-count_decides = refl
-
-IsOneArc-count : (xs : List Bool) → IsTrue (has_few_ends xs) ↔ IsOneArc xs
-IsOneArc-count xs =
-    let same : has_few_ends xs ≡ is_one_arc xs = beq-true _ _ (ring_table (λ ys. beq (has_few_ends ys) (is_one_arc ys)) count_decides xs) in
-    (λ t. is_one_arc-true xs (sym same ∙ t), λ arc. same ∙ IsOneArc-is_one_arc xs arc)
+-- each direction lies at its own place among the six
+direction_at : (d : ℕ) → d < 6 → get_or directions d 0 ≡ d
+direction_at = each_direction (λ d. get_or directions d 0 ≡ d) refl refl refl refl refl refl
 
 -- the answer of a loop that has passed all directions and found a true entry
 pub IsOneArc-found : (xs : List Bool) (some : Bool) (ends i : ℕ) → some ≡ true → i ≡ 6 → some ≡ some_below i (entry xs) → ends ≡ ends_below xs i
     → IsTrue (ltb ends 2) ↔ IsOneArc xs
-IsOneArc-found xs some ends i t all found counted =
-    let some_is : some_below 6 (entry xs) ≡ true = ap (λ n. some_below n (entry xs)) (sym all) ∙ sym found ∙ t in
-    let ends_are : ends_below xs 6 ≡ ends = ap (ends_below xs) (sym all) ∙ sym counted in
-    let same : has_few_ends xs ≡ ltb ends 2 = ap (λ b. b && ltb (ends_below xs 6) 2) some_is ∙ ap (λ n. ltb n 2) ends_are in
-    let decides = IsOneArc-count xs in
-    (λ few. decides.0 (same ∙ few), λ arc. sym same ∙ decides.1 arc)
+IsOneArc-found xs some ends i t all found passed =
+    let (d, l, on) = some_below_at 6 (entry xs) (ap (λ n. some_below n (entry xs)) (sym all) ∙ sym found ∙ t) in
+    let some_is : list_any (entry xs) directions ≡ true = list_any_at (entry xs) directions d 0 (omega arith) (ap (entry xs) (direction_at d l) ∙ on) in
+    let ends_are : ends_below xs 6 ≡ ends = ap (ends_below xs) (sym all) ∙ sym passed in
+    let count_is : count_by (is_end xs) directions ≡ ends = omega arith in
+    let same : is_one_arc xs ≡ ltb ends 2 = ap (λ b. b && nat_le (count_by (is_end xs) directions) 1) some_is ∙ ap (λ n. nat_le n 1) count_is ∙ sym (leb-suc-suc ends 1) in
+    (λ few. is_one_arc-true xs (same ∙ few), λ arc. sym same ∙ IsOneArc-is_one_arc xs arc)
 
 -- entry j is reached from entry i over true entries, in at most n steps round
 abbrev pub reaches : List Bool → ℕ → ℕ → ℕ → Bool

@@ -1,7 +1,8 @@
 -- Rings of six entries, and the arcs of the true ones.
-use Rattle.std.specs.Prelude.{◌≡◌, ℕ, ◌+◌, ◌-◌, ◌%◌, ◌<◌, ◌≤◌, Bool, false, IsTrue, List, [], ◌∷◌, map, slice_index_or, nat_lt}
+use Rattle.std.specs.Prelude.{◌≡◌, ℕ, ◌+◌, ◌-◌, ◌%◌, ◌<◌, ◌≤◌, Bool, false, not, ◌&&◌, IsTrue, List, map, slice_index_or, nat_lt, nat_le}
+use Rattle.std.specs.List.{list_any, count_by}
 use Rattle.tri_lattice.specs.declared.node.Node.{Node}
-use Rattle.tri_lattice.specs.Lattice.{ring}
+use Rattle.tri_lattice.specs.Lattice.{directions, ring}
 
 -- the entry in a direction, false outside
 abbrev pub entry : List Bool → ℕ → Bool
@@ -11,14 +12,22 @@ entry xs i = slice_index_or xs i false
 abbrev pub IsEnd : List Bool → ℕ → Type 0
 IsEnd xs i = IsTrue (entry xs i) × (entry xs ((i + 1) % 6) ≡ false)
 
+-- `IsEnd` as a test
+abbrev pub is_end : List Bool → ℕ → Bool
+is_end xs i = entry xs i && not (entry xs ((i + 1) % 6))
+
 -- at least one entry is true, and an arc ends in at most one direction (this project's profile)
 pub record IsOneArc (xs : List Bool) : Type 0 where
   pub some : (i : ℕ) × (i < 6) × IsTrue (entry xs i)
   pub once : (i j : ℕ) → i < 6 → j < 6 → IsEnd xs i → IsEnd xs j → i ≡ j
 
+-- `IsOneArc` as a test
+abbrev pub is_one_arc : List Bool → Bool
+is_one_arc xs = list_any (entry xs) directions && nat_le (count_by (is_end xs) directions) 1
+
 -- the ring whose true entries are those of n directions in a row, from one on round
 abbrev pub row : ℕ → ℕ → List Bool
-row from n = map (λ i. nat_lt ((i + 6 - from) % 6) n) (0 ∷ 1 ∷ 2 ∷ 3 ∷ 4 ∷ 5 ∷ [])
+row from n = map (λ i. nat_lt ((i + 6 - from) % 6) n) directions
 
 -- the true entries stand in a row round the ring, and there is one
 pub record IsRow (xs : List Bool) : Type 0 where

@@ -33,10 +33,11 @@ use Rattle.journal_text.specs.Journals.{ids_of, ids_of_pair}
 use Rattle.journal_text.specs.Rereading.{HasLimits, IsWritable, IsPossible, KeepsLimits}
 use Rattle.action_tree.specs.Trees.{Program}
 use Rattle.action_meaning.specs.Verdicts.{verdict_shown}
-use Rattle.run_replays.proofs.Bodies.{has_coordinates}
+use Rattle.shape_text.proofs.WithinLimits.{has_coordinates}
+use Rattle.claim_core.proofs.Frames.{IsFramed, framed_step}
 use Rattle.run_replays.proofs.Patching.{few_pairs}
 use Rattle.run_replays.proofs.Acting.{verdict_acted}
-use Rattle.run_replays.proofs.Worlds.{IsOf, after_step, of_each, MayRun, has_limits}
+use Rattle.run_replays.proofs.Worlds.{of_each, MayRun, has_limits}
 
 -- ---- what cells hold
 
@@ -107,11 +108,11 @@ pub record IsStepped (bots actions vars : ℕ) (e : Entry) : Type 0 where
   pub pairs : All (IsWritable vars) e.patch
 
 module _ (p : Program) (start : Config) (may : MayRun p start) (touches : TouchesZone (verdict_shown p)) (exact : IsExact (verdict_shown p)) (nine : ZoneHasAtMostNineBodies) where
-  stepped : (c d : Config) (e : Entry) → IsOf start c → Step (verdict_shown p) c e d → IsStepped (length start.bots) (length p.actions) (length p.vars) e
+  stepped : (c d : Config) (e : Entry) → IsFramed start c → Step (verdict_shown p) c e d → IsStepped (length start.bots) (length p.actions) (length p.vars) e
   stepped c d e is step =
       let changes : Changes (verdict_shown p) c e.bot (change_of e) = record { valid = is.valid; there = step.there; decided = step.decided } in
       let acted = verdict_acted p (shown c e.bot) (change_of e) step.decided in
-      let after = after_step (verdict_shown p) start c d e is step in
+      let after = framed_step (verdict_shown p) start c d e is step in
       let listed = touches c e.bot (change_of e) changes in
       let own = there_is (bot_at c e.bot) step.there in
       let same_area : d.area ≡ c.area = ap (λ (x : Config). x.area) step.patched.rest in
@@ -143,7 +144,7 @@ module _ (p : Program) (start : Config) (may : MayRun p start) (touches : Touche
         pairs = by.pairs;
       }
 
-  pub all_keep_limits : (lists : CallerLists) (last : Config) (es : List Entry) → AreFew (length lists.ids) lists.turns → IsOf start start → All (IsListed lists) es → Run (verdict_shown p) start es last → All (KeepsLimits (length start.bots) (length p.actions) (length p.vars)) es
+  pub all_keep_limits : (lists : CallerLists) (last : Config) (es : List Entry) → AreFew (length lists.ids) lists.turns → IsFramed start start → All (IsListed lists) es → Run (verdict_shown p) start es last → All (KeepsLimits (length start.bots) (length p.actions) (length p.vars)) es
   all_keep_limits lists last es few is listed run =
       let each = of_each (verdict_shown p) start (IsStepped (length start.bots) (length p.actions) (length p.vars)) stepped start last es is run in
       λ k d inside. keeps_limits lists (get_or es k d) few (listed k d inside) (each k d inside)

@@ -10,7 +10,7 @@ use Rattle.text_tokens.specs.Inputs.{IsInput}
 use Rattle.text_tokens.proofs.Blanks.{point}
 use Rattle.text_tokens.proofs.Exactness.{none_stops}
 use Rattle.text_tokens.proofs.Following.{whole_in}
-use Rattle.text_tokens.proofs.Respelling.{whole_then}
+use Rattle.text_tokens.proofs.Symbols.{whole_then}
 use Rattle.text_tokens.proofs.Tokenizing.{tokens_of_text}
 use Rattle.document_grammar.specs.declared.section.Section.{Section}
 use Rattle.document_grammar.specs.declared.section.Section.TheVariants.{Program, Shape, Lists, Schedule}

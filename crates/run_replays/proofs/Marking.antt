@@ -23,9 +23,10 @@ use Rattle.claim_core.specs.declared.marks.Mark.TheVariants as mark
 use Rattle.claim_core.specs.Limits.{most_callers, most_turns}
 use Rattle.claim_core.specs.Turns.{CallerLists, MarkLists, AreFew, HaveBots, bot_of_turn, list_of, marks_of}
 use Rattle.claim_core.specs.Good.{IsWorldAt, HasInZone, TurnOk, AreMarks}
-use Rattle.journal_text.specs.Rereading.{IsShort, IsWritableCell, IsWritableMark, AreWritable}
-use Rattle.run_replays.proofs.Bodies.{has_coordinates}
-use Rattle.run_replays.proofs.Worlds.{IsOf, after_run}
+use Rattle.text_tokens.specs.Cursor.{IsShort}
+use Rattle.journal_text.specs.Rereading.{IsWritableCell, IsWritableMark, AreWritable}
+use Rattle.shape_text.proofs.WithinLimits.{has_coordinates}
+use Rattle.claim_core.proofs.Frames.{IsFramed, framed_on}
 use Rattle.run_replays.proofs.Entries.{one_of_many}
 
 -- ---- cells of zones
@@ -63,13 +64,13 @@ id_short ids n bots all few = elim (cases_lt n (length ids)) [
 
 -- ---- marks
 
-module _ (f : Shown → Verdict) (start : Config) (lists : CallerLists) (entries : List Entry) (marks : MarkLists) (is : IsOf start start) (few : length start.bots ≤ most_bots) (bots : HaveBots (length start.bots) lists) (lists_few : AreFew (length lists.ids) lists.turns) (entries_few : length entries ≤ most_turns) where
+module _ (f : Shown → Verdict) (start : Config) (lists : CallerLists) (entries : List Entry) (marks : MarkLists) (is : IsFramed start start) (few : length start.bots ≤ most_bots) (bots : HaveBots (length start.bots) lists) (lists_few : AreFew (length lists.ids) lists.turns) (entries_few : length entries ≤ most_turns) where
   place_short : (place : ℕ) (world : Config) → IsWorldAt f start entries place world → IsShort place
   place_short place world at = let within = at.within in omega arith
 
   cell_short : (place bot : ℕ) (n : CellName) → HasInZone f start entries place bot n → IsWritableCell n
   cell_short place bot n (world, at, there) =
-      let of = after_run f start start world (take place entries) is at.reached in
+      let of = framed_on f start start world (take place entries) is at.reached in
       zone_cell world bot n of.valid (let size = of.size in omega arith) (Has-from_Contains (zone world bot) there)
 
   turns_few : (caller : ℕ) → caller < length lists.ids → lists.turns ≤ most_turns

@@ -1,11 +1,10 @@
 -- A patch that is in its order and lists cells of a zone has at most ten pairs.
-use Rattle.std.proofs.Common.{◌≡◌, ℕ, zero, suc, ◌+◌, ◌-◌, ◌<◌, ◌≤◌, ltb, List, [], ◌∷◌, length, map, filter, refl, sym, subst, inl, inr, arith}
-use Rattle.std.specs.Prelude.{slice_index}
-use Rattle.std.specs.List.{All, AllPairs, Contains, count_by}
-use Rattle.std.specs.List.Sorted.{IsStrictlyIncreasing}
+use Rattle.std.proofs.Common.{ℕ, ◌<◌, ◌≤◌, ltb, List, [], ◌∷◌, length, map, filter, refl, sym, subst, inl, inr, arith}
+use Rattle.std.specs.List.{All, Contains, count_by}
 use Rattle.std.proofs.lemmas.Bool.{cases_Bool, ltb-true, lt-ltb}
-use Rattle.std.proofs.lemmas.List.{get_or_default, length-map}
+use Rattle.std.proofs.lemmas.List.{length-map}
 use Rattle.std.proofs.lemmas.List.Elements.{All-contains}
+use Rattle.std.proofs.lemmas.List.Kept.{AllPairs-from_increasing}
 use Rattle.std.proofs.lemmas.List.Sums.{length-filter}
 use Rattle.amoebot_state.specs.declared.cell.CellName.{CellName}
 use Rattle.amoebot_state.specs.declared.cell.CellName.TheVariants as name
@@ -18,24 +17,6 @@ use Rattle.amoebot_state.proofs.Members.{Has, here, later, not_in_none, has_case
 use Rattle.amoebot_state.proofs.Rising.{Rising, none, more, Rising-map, Rising-from_increasing}
 
 -- ---- numbers that rise
-
-climbs : (xs : List ℕ) → IsStrictlyIncreasing xs → (i n : ℕ) → i + 1 + n < length xs → slice_index xs i < slice_index xs (i + 1 + n)
-climbs xs up i zero lt =
-    let at : i + 1 ≡ i + 1 + 0 = omega arith in
-    subst (λ (k : ℕ). slice_index xs i < slice_index xs k) at (up i (omega arith))
-climbs xs up i (suc n) lt =
-    let before = climbs xs up i n (omega arith) in
-    let next = up (i + 1 + n) (omega arith) in
-    let at : i + 1 + n + 1 ≡ i + 1 + suc n = omega arith in
-    subst (λ (k : ℕ). slice_index xs i < slice_index xs k) at (omega arith)
-
-all_rise : (xs : List ℕ) → IsStrictlyIncreasing xs → AllPairs (λ m n. m < n) xs
-all_rise xs up i j d before inside =
-    let at : i + 1 + (j - (i + 1)) ≡ j = omega arith in
-    let climb : slice_index xs i < slice_index xs j = subst (λ (k : ℕ). slice_index xs i < slice_index xs k) at (climbs xs up i (j - (i + 1)) (omega arith)) in
-    let one = get_or_default xs i d 0 (omega arith) in
-    let two = get_or_default xs j d 0 inside in
-    omega arith
 
 -- a list that has a number has fewer numbers above it
 after_one : (x : ℕ) (ys : List ℕ) → Has x ys → length (filter (λ y. ltb x y) ys) < length ys
@@ -71,7 +52,7 @@ module _ (cells : List CellName) where
 
   pub few_pairs : (ps : Pairs) → IsOrdered ps → All (λ (p : CellName × Cell). Contains cells (cell_of p)) ps → count_by is_body cells ≤ 9 → length ps ≤ most_pairs
   few_pairs ps ordered listed few =
-      let rises : Rising (λ k. k) (map key ps) = Rising-map key (λ k. k) key (λ x has. refl) (Rising-from_increasing key ps (all_rise (map key ps) ordered)) in
+      let rises : Rising (λ k. k) (map key ps) = Rising-map key (λ k. k) key (λ x has. refl) (Rising-from_increasing key ps (AllPairs-from_increasing (map key ps) ordered)) in
       let fits = no_more_than (map key ps) ranks rises (λ x has.
       let found = map_has key ps has in
       let in' = All-contains (λ (p : CellName × Cell). Contains cells (cell_of p)) ps found.0 listed (Contains-from_Has ps found.1) in

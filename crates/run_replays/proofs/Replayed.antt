@@ -30,7 +30,8 @@ use Rattle.command_runs.specs.Laws.{GoodIsFew}
 use Rattle.command_words.specs.declared.command.DocumentCommand.TheVariants.{Replay}
 use Rattle.command_answers.specs.Owed.{of_run, of_interleave, of_replay, done}
 use Rattle.run_replays.specs.Laws.{with_record, IsReplayed, RunTextsAreReplayed, InterleaveTextsAreReplayed, WhatIsOwedIsReplayed}
-use Rattle.run_replays.proofs.Worlds.{IsOf, at_first, after_run, MayRun, maxes_are, is_writable}
+use Rattle.claim_core.proofs.Frames.{IsFramed, framed_first, framed_on}
+use Rattle.run_replays.proofs.Worlds.{MayRun, maxes_are, is_writable}
 use Rattle.run_replays.proofs.Entries.{all_keep_limits}
 use Rattle.run_replays.proofs.Marking.{few_callers, marks_writable}
 use Rattle.run_replays.proofs.Sizes.{HasRoom, IsDrawn, documents_have_room}
@@ -83,11 +84,11 @@ module _ (laws : Laws) (bytes : List ℕ) (a : Contents) (p : Program) (start : 
     no_gaps = drawn.no_gaps;
   }
 
-  first : IsOf start start
-  first = at_first start good.valid
+  first : IsFramed start start
+  first = framed_first start good.valid
 
-  last : IsOf start report.world
-  last = after_run (verdict_shown p) start start report.world report.journal.entries first good.run
+  last : IsFramed start report.world
+  last = framed_on (verdict_shown p) start start report.world report.journal.entries first good.run
 
   few_entries : length report.journal.entries ≤ most_turns
   few_entries =

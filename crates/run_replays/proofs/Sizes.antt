@@ -1,34 +1,27 @@
 -- The shape of a document of Run has few amoebots and no gaps, and its lists are few.
-use Rattle.std.proofs.Common.{◌≡◌, ℕ, zero, suc, ◌+◌, ◌*◌, ◌<◌, ◌≤◌, Bool, true, false, cond, List, [], ◌∷◌, length, map, get_or, Option, Some, None, codes, refl, subst, arith}
+use Rattle.std.proofs.Common.{◌≡◌, ℕ, suc, ◌+◌, ◌*◌, ◌<◌, ◌≤◌, Bool, true, false, cond, List, length, map, Option, Some, None, codes, refl, subst, arith}
 use Rattle.std.specs.Prelude.{◌&&◌, nat_lt, nat_le, IsSome}
 use Rattle.std.specs.Option.{IfSome}
 use Rattle.std.proofs.lemmas.Bool.{and_parts, ltb-true, leb-true}
 use Rattle.std.proofs.lemmas.List.{length-map}
 use Rattle.tri_lattice.specs.Extent.{Extent}
 use Rattle.text_tokens.specs.declared.refusal.RefusalKind.{RefusalKind}
-use Rattle.text_tokens.specs.declared.refusal.RefusalKind.TheVariants.{TooMany, Trailing}
-use Rattle.text_tokens.specs.Scan.{ahead_of, last_of}
-use Rattle.text_tokens.specs.Grammar.{Symbol, tokens, first_fault, Lang, Repeated, no_more, one_more}
-use Rattle.text_tokens.specs.Lawful.{IsWhole}
-use Rattle.text_tokens.specs.Inputs.{IsInput}
-use Rattle.text_tokens.proofs.Blanks.{point}
+use Rattle.text_tokens.specs.declared.refusal.RefusalKind.TheVariants.{TooMany}
+use Rattle.text_tokens.specs.Grammar.{Symbol, first_fault, Lang, Repeated, no_more, one_more}
 use Rattle.text_tokens.proofs.Splitting.{fine-parts}
-use Rattle.text_tokens.proofs.Tokenizing.{tokens_of_text}
-use Rattle.amoebot_state.specs.declared.bot.Bot.{Bot}
 use Rattle.amoebot_state.specs.Configs.{Config, bot_at}
 use Rattle.amoebot_state.specs.Limits.{most_bots}
+use Rattle.amoebot_state.proofs.Options.{all_there}
 use Rattle.claim_core.specs.Limits.{most_callers, most_turns}
 use Rattle.claim_core.specs.Turns.{CallerLists, AreFew}
 use Rattle.shape_text.specs.Shapes.{WrittenBot, WrittenShape, written_shape, bot_in, stands_for, IsBotLine, IsShapeUnder}
 use Rattle.schedule_text.specs.Lists.{IsCallerList, IsLists}
 use Rattle.document_grammar.specs.declared.section.Form.TheVariants.{Run}
 use Rattle.document_grammar.specs.declared.section.Section.TheVariants as section
-use Rattle.document_grammar.specs.Frame.{Course, ends, needs, may_schedule, course_of, IsRest}
-use Rattle.document_grammar.specs.FrameLaws.{Plain}
-use Rattle.document_grammar.specs.Documents.{Contents, nothing_yet, vars_of, maxes_in, bots_of, Body, IsDocument, HasContents}
+use Rattle.document_grammar.specs.Frame.{ends, needs, may_schedule, course_of}
+use Rattle.document_grammar.specs.Documents.{Contents, nothing_yet, vars_of, maxes_in, bots_of, HasContents}
 use Rattle.document_grammar.proofs.Fine.{Fine, both_of, made_of, step_of, closed_of, judged_of, nothing_of, either_of, one_of, counted_of}
-use Rattle.document_grammar.proofs.Plainness.{plain, forms_are_distinct}
-use Rattle.document_grammar.proofs.Sectioning.{are_sections}
+use Rattle.document_grammar.proofs.Fitting.{There, written_down}
 
 -- what passed a limit
 passed : (a : Bool) → cond {A = Option RefusalKind} a None (Some TooMany) ≡ None → a ≡ true
@@ -41,15 +34,10 @@ pub record IsDrawn (c : Config) : Type 0 where
   pub few : length c.bots ≤ most_bots
   pub no_gaps : (id : ℕ) → id < length c.bots → IsSome (bot_at c id)
 
-one_there : (bs : List Bot) (id : ℕ) → id < length (map Some bs) → IsSome (get_or (map Some bs) id None)
-one_there [] id lt = absurd (omega arith)
-one_there (b ∷ bs) zero lt = refl
-one_there (b ∷ bs) (suc id) lt = one_there bs id (omega arith)
-
 bots_drawn : (area : Extent) (maxes : List ℕ) (ws : List WrittenBot) → length ws ≤ most_bots → IsDrawn (stands_for maxes (written_shape area ws))
 bots_drawn area maxes ws few = record {
   few = (let bots = length-map ws bot_in in let all = length-map (map bot_in ws) Some in omega arith);
-  no_gaps = λ id lt. one_there (map bot_in ws) id lt;
+  no_gaps = λ id lt. all_there (map bot_in ws) id lt;
 }
 
 bot_room : (vars n : ℕ) (w : WrittenBot) → Fine (IsBotLine vars n) w → n < most_bots
@@ -97,19 +85,6 @@ pub record HasRoom (a : Contents) : Type 0 where
   pub shape : IfSome a.world IsDrawn
   pub lists : IfSome a.lists (λ l. AreFew (length l.ids) l.turns)
 
-abbrev There : Course → Contents → Contents → Type 0
-There c s a = Fine (Plain Body c s) a
-
-a_run : (bytes : List ℕ) (a : Contents) → HasContents Run bytes a → There (course_of Run) nothing_yet a
-a_run bytes a holds =
-    let input : IsInput (IsDocument Run) Trailing (last_of (point bytes 0)) (ahead_of (point bytes 0)) a = holds (ahead_of (point bytes 0)) (last_of (point bytes 0)) (tokens_of_text bytes) in
-    let w = input.text.whole in
-    let whole : Fine (IsDocument Run) a = record { text = w.text; is = w.is; fine = w.fine } in
-    let rest = (both_of whole).behind in
-    let behind : IsWhole (IsRest Body (course_of Run) nothing_yet) (tokens rest.text) a = record { text = rest.text; is = rest.is; parts = refl; fine = rest.fine } in
-    let straight = (plain Body are_sections.start (course_of Run) (forms_are_distinct Run) nothing_yet).into (tokens rest.text) a behind in
-    record { text = straight.text; is = straight.is; fine = straight.fine }
-
 -- behind the lists nothing changes them, nor the shape
 module _ (a : Contents) where
   at_end : (s : Contents) → HasRoom s → There ends s a → HasRoom a
@@ -135,4 +110,4 @@ module _ (a : Contents) where
       l.behind
 
 pub documents_have_room : (bytes : List ℕ) (a : Contents) → HasContents Run bytes a → HasRoom a
-documents_have_room bytes a holds = run_room a (a_run bytes a holds)
+documents_have_room bytes a holds = run_room a (written_down Run bytes a holds)

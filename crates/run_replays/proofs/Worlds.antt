@@ -1,13 +1,13 @@
 -- The worlds of a run from a document's shape.
-use Rattle.std.proofs.Common.{◌≡◌, ℕ, zero, suc, ◌<◌, ◌≤◌, List, [], ◌∷◌, ◌++◌, length, map, get_or, Some, refl, sym, ap, subst, ◌∙◌, arith}
-use Rattle.std.specs.Prelude.{is_some, IsSome, slice_index}
+use Rattle.std.proofs.Common.{◌≡◌, ℕ, zero, suc, ◌<◌, ◌≤◌, List, [], ◌∷◌, length, map, get_or, Some, refl, sym, ap, subst, ◌∙◌, arith}
+use Rattle.std.specs.Prelude.{IsSome, slice_index}
 use Rattle.std.specs.List.{All}
 use Rattle.std.proofs.lemmas.List.{length-map}
 use Rattle.std.proofs.lemmas.List.Elements.{All-nil, All-cons, All-head, All-tail, All-map}
 use Rattle.amoebot_state.specs.declared.bot.Bot.{Bot}
 use Rattle.amoebot_state.specs.declared.verdict.Entry.{Entry}
 use Rattle.amoebot_state.specs.declared.verdict.Verdict.{Verdict}
-use Rattle.amoebot_state.specs.Configs.{Config, IsValid, bot_at}
+use Rattle.amoebot_state.specs.Configs.{Config, bot_at}
 use Rattle.amoebot_state.specs.Zones.{Shown}
 use Rattle.amoebot_state.specs.Steps.{Step, Run}
 use Rattle.journal_text.specs.Rereading.{HasLimits}
@@ -15,42 +15,19 @@ use Rattle.shape_text.specs.Rereading as shape
 use Rattle.action_tree.specs.Trees.{Var, Program}
 use Rattle.amoebot_state.specs.Limits.{most_value, most_bots, most_vars}
 use Rattle.action_check.specs.Faults.{vars_faults, actions_faults, at_start, faults}
-use Rattle.action_check.specs.Rules.{IsWithin}
 use Rattle.action_check.specs.Maxes.{first_or_zero, maxes_of}
-use Rattle.text_tokens.proofs.Beginnings.{right_empty}
-use Rattle.action_check.proofs.Known.{left_empty, is_within}
+use Rattle.claim_core.proofs.Frames.{IsFramed, framed_step}
+use Rattle.action_check.proofs.Known.{left_empty}
+use Rattle.action_check.proofs.Whole.{maxes_within}
 use Rattle.run_replays.proofs.Bodies.{limits_of}
 
 -- ---- what a run leaves as it is
 
-pub record IsOf (start c : Config) : Type 0 where
-  pub valid : IsValid c
-  pub rest : c ≡ record start { bots = c.bots }
-  pub size : length c.bots ≡ length start.bots
-  pub ids : (i : ℕ) → is_some (bot_at c i) ≡ is_some (bot_at start i)
-
-pub at_first : (start : Config) → IsValid start → IsOf start start
-at_first start valid = record { valid = valid; rest = refl; size = refl; ids = λ i. refl }
-
 module _ (f : Shown → Verdict) (start : Config) where
-  pub after_step : (c d : Config) (e : Entry) → IsOf start c → Step f c e d → IsOf start d
-  after_step c d e is step =
-      let patched = step.patched in
-      record {
-        valid = patched.valid;
-        rest = patched.rest ∙ ap (λ (x : Config). let y : Config = record x { bots = d.bots } in y) is.rest;
-        size = patched.size ∙ is.size;
-        ids = λ i. patched.ids i ∙ is.ids i;
-      }
-
-  pub after_run : (c last : Config) (es : List Entry) → IsOf start c → Run f c es last → IsOf start last
-  after_run c last [] is run = subst (λ (x : Config). IsOf start x) (sym run) is
-  after_run c last (e ∷ es) is (mid, step, run) = after_run mid last es (after_step c mid e is step) run
-
   -- what holds of the entry of each step from such a world holds of each entry
-  pub of_each : (P : Entry → Type 0) → ((c d : Config) (e : Entry) → IsOf start c → Step f c e d → P e) → (c last : Config) (es : List Entry) → IsOf start c → Run f c es last → All P es
+  pub of_each : (P : Entry → Type 0) → ((c d : Config) (e : Entry) → IsFramed start c → Step f c e d → P e) → (c last : Config) (es : List Entry) → IsFramed start c → Run f c es last → All P es
   of_each P each c last [] is run = All-nil P
-  of_each P each c last (e ∷ es) is (mid, step, run) = All-cons P e es (each c mid e is step) (of_each P each mid last es (after_step c mid e is step) run)
+  of_each P each c last (e ∷ es) is (mid, step, run) = All-cons P e es (each c mid e is step) (of_each P each mid last es (framed_step f start c mid e is step) run)
 
 -- ---- maxima
 
@@ -65,12 +42,6 @@ past_zero (suc k) [] zero le = refl
 past_zero (suc k) [] (suc i) le = past_zero k [] i (omega arith)
 past_zero (suc k) (n ∷ ns) zero le = absurd (omega arith)
 past_zero (suc k) (n ∷ ns) (suc i) le = past_zero k ns i (omega arith)
-
-maxes_within : (earlier : List (List ℕ)) (vs : List Var) → vars_faults earlier vs ≡ [] → All (λ v. IsWithin most_value v.max) vs
-maxes_within earlier [] e = All-nil (λ v. IsWithin most_value v.max)
-maxes_within earlier (v ∷ vs) e =
-    let rest = right_empty _ _ e in
-    All-cons (λ w. IsWithin most_value w.max) v vs (is_within most_value v.max (left_empty _ _ rest)) (maxes_within (earlier ++ v.name.text ∷ []) vs (right_empty _ _ rest))
 
 pub small_maxes_of : (p : Program) → faults p ≡ [] → All (λ m. m ≤ most_value) (maxes_of p)
 small_maxes_of p e = small_maxes most_vars (map (λ (v : Var). v.max.value) p.vars) (All-map (λ n. n ≤ most_value) (λ (v : Var). v.max.value) p.vars (maxes_within [] p.vars (left_empty (vars_faults [] p.vars) (actions_faults (at_start p) [] p.actions) e)))
@@ -88,7 +59,7 @@ pub record MayRun (p : Program) (start : Config) : Type 0 where
   pub few : length start.bots ≤ most_bots
   pub no_gaps : (id : ℕ) → id < length start.bots → IsSome (bot_at start id)
 
-module _ (p : Program) (start : Config) (may : MayRun p start) (c : Config) (is : IsOf start c) where
+module _ (p : Program) (start : Config) (may : MayRun p start) (c : Config) (is : IsFramed start c) where
   pub maxes_are : c.maxes ≡ maxes_of p
   maxes_are = ap (λ (x : Config). x.maxes) is.rest ∙ may.maxes
 

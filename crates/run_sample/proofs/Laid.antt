@@ -3,7 +3,7 @@ use Rattle.std.proofs.Common.{◌≡◌, ◌⊎◌, ◌<◌, ◌≤◌, ◌-◌,
 use Rattle.std.specs.Prelude.{IsTrue}
 use Rattle.std.proofs.lemmas.Bool.{cases_Bool, cases_eq, or_left, false≢true}
 use Rattle.std.proofs.lemmas.Int.{ints}
-use Rattle.std.proofs.lemmas.List.{length_push}
+use Rattle.std.proofs.lemmas.List.{length_push, nil_from_length}
 use Rattle.tri_lattice.specs.declared.node.Node.{Node}
 use Rattle.tri_lattice.specs.Lattice.{Adjacent, node_eq, is_adjacent}
 use Rattle.tri_lattice.specs.Extent.{is_in, IsArea}
@@ -125,13 +125,9 @@ square_empty bots laid lt = elim (cases_Bool (is_taken bots (square_node (length
   | inr f ↦ f
 ]
 
-no_bots : (bots : List Bot) → length bots ≡ 0 → bots ≡ []
-no_bots [] e = refl
-no_bots (b ∷ bots) e = absurd (omega arith)
-
 square_meets : (bots : List Bot) → IsLaid bots → length bots < 100 → Meets bots (square_node (length bots))
 square_meets bots laid lt = elim (cases_eq (length bots) 0) [
-  | inl e ↦ inr (no_bots bots e)
+  | inl e ↦ inr (nil_from_length bots e)
   | inr ne ↦ inl (let at = square_beside (length bots) lt ne in (square_node at.0, laid.filled at.0 at.1 (omega arith), at.2))
 ]
 

@@ -1,8 +1,9 @@
 -- The search for an empty node, step by step.
-use Rattle.std.proofs.Common.{◌≡◌, ◌<◌, ◌≤◌, ℕ, zero, suc, List, [], ◌∷◌, length, get_or, false, refl, ap, sym, ◌∙◌, subst, inl, inr, arith}
+use Rattle.std.proofs.Common.{◌≡◌, ◌<◌, ◌≤◌, ℕ, suc, List, [], length, get_or, false, ap, sym, ◌∙◌, subst, inl, inr, arith}
 use Rattle.std.specs.Prelude.{IsTrue}
 use Rattle.std.proofs.lemmas.Bool.{cases_eq}
 use Rattle.std.proofs.lemmas.Int.{ints}
+use Rattle.std.proofs.lemmas.List.{get_or_default}
 use Rattle.tri_lattice.specs.declared.node.Node.{Node}
 use Rattle.tri_lattice.specs.Lattice.{step, IsNear}
 use Rattle.amoebot_state.specs.declared.bot.Bot.{Bot}
@@ -22,18 +23,12 @@ near_inside v inside =
 pub bot_is_near : (bots : List Bot) (i : ℕ) → i < length bots → ((v : Node) → IsTrue (is_taken bots v) → IsInside v) → IsNear (node_of bots i)
 bot_is_near bots i lt inside = near_inside (node_of bots i) (inside (node_of bots i) (node_taken bots i lt))
 
--- an element that is there, whatever stands for one that is not
-same_read : {X : Type 0} (xs : List X) (i : ℕ) (d e : X) → i < length xs → get_or xs i d ≡ get_or xs i e
-same_read [] i d e lt = absurd (omega arith)
-same_read (x ∷ xs) zero d e lt = refl
-same_read (x ∷ xs) (suc i) d e lt = same_read xs i d e (omega arith)
-
 -- what the code reads outside of the list
 abbrev pub void : Bot
 void = record blank { mem = [] }
 
 pub head_at : (bots : List Bot) (i : ℕ) → i < length bots → node_of bots i ≡ (get_or bots i void).head
-head_at bots i lt = ap (λ (b : Bot). b.head) (same_read bots i blank void lt)
+head_at bots i lt = ap (λ (b : Bot). b.head) (get_or_default bots i blank void lt)
 
 -- so many steps were made, and all but the last led to taken nodes
 pub record IsReached (bots : List Bot) (from : Node) (d : ℕ) (v : Node) : Type 0 where

@@ -1,24 +1,24 @@
 -- The nodes of amoebots as a set, and with one amoebot more.
-use Rattle.std.proofs.Common.{◌≡◌, ◌≢◌, ◌⊎◌, ◌<◌, ◌≤◌, ℕ, zero, suc, List, [], ◌∷◌, ◌++◌, map, length, Bool, true, false, ◌||◌, cond, ap, sym, ◌∙◌, refl, inl, inr, arith, Option, Some, None}
+use Rattle.std.proofs.Common.{◌≡◌, ◌⊎◌, ◌<◌, ◌≤◌, ℕ, zero, suc, List, [], ◌∷◌, ◌++◌, map, length, Bool, true, false, ◌||◌, cond, ap, sym, ◌∙◌, refl, inl, inr, arith, Option, Some, None}
 use Rattle.std.specs.Prelude.{IsTrue, is_some}
-use Rattle.std.proofs.lemmas.Bool.{cases_Bool, or_cases, or_left, or_right}
+use Rattle.std.proofs.lemmas.Bool.{or_cases, or_left, or_right}
+use Rattle.std.proofs.Math.Bool.{or-false, or_self}
 use Rattle.std.proofs.lemmas.List.Folds.{list_any-append, list_any_at}
 use Rattle.tri_lattice.specs.declared.node.Node.{Node}
 use Rattle.tri_lattice.specs.Lattice.{node_eq, Adjacent}
 use Rattle.tri_lattice.specs.Extent.{Extent}
 use Rattle.tri_lattice.specs.Sets.{PutsIn}
-use Rattle.tri_lattice.proofs.Nodes.{node_eq-true, node_eq_same}
+use Rattle.tri_lattice.proofs.Nodes.{node_eq-true, node_eq-false, node_eq_same}
 use Rattle.amoebot_state.specs.declared.bot.Bot.{Bot}
 use Rattle.amoebot_state.specs.Ports.{is_own}
 use Rattle.amoebot_state.specs.Configs.{blank, config_of, occupant, covers}
 use Rattle.amoebot_state.specs.Occupied.{occupied}
 use Rattle.amoebot_state.proofs.Added.{config_push}
-use Rattle.amoebot_state.proofs.Distinct.{or_false}
 use Rattle.amoebot_state.proofs.Occupants.{position_push}
 use Rattle.run_sample.specs.Sample.{is_taken, walked, node_of, IsFirstEmpty}
 
 pub taken_push : (bots : List Bot) (b : Bot) (v : Node) → is_taken (bots ++ b ∷ []) v ≡ (is_taken bots v || node_eq b.head v)
-taken_push bots b v = list_any-append (λ (o : Bot). node_eq o.head v) bots (b ∷ []) ∙ ap (λ t. is_taken bots v || t) (or_false (node_eq b.head v))
+taken_push bots b v = list_any-append (λ (o : Bot). node_eq o.head v) bots (b ∷ []) ∙ ap (λ t. is_taken bots v || t) (or-false (node_eq b.head v))
 
 pub taken_cases : (bots : List Bot) (b : Bot) (v : Node) → IsTrue (is_taken (bots ++ b ∷ []) v) → IsTrue (is_taken bots v) ⊎ (b.head ≡ v)
 taken_cases bots b v t = elim (or_cases (is_taken bots v) (node_eq b.head v) (sym (taken_push bots b v) ∙ t)) [ inl old ↦ inl old | inr here ↦ inr (node_eq-true b.head v here) ]
@@ -29,14 +29,11 @@ taken_old bots b v t = taken_push bots b v ∙ or_left (is_taken bots v) (node_e
 pub taken_new : (bots : List Bot) (b : Bot) → IsTrue (is_taken (bots ++ b ∷ []) b.head)
 taken_new bots b = taken_push bots b b.head ∙ or_right (is_taken bots b.head) (node_eq b.head b.head) (node_eq_same b.head)
 
-not_here : (a v : Node) → v ≢ a → node_eq a v ≡ false
-not_here a v ne = elim (cases_Bool (node_eq a v)) [ inl t ↦ absurd (ne (sym (node_eq-true a v t))) | inr f ↦ f ]
-
 -- the node of one amoebot more is put into the set
 pub puts_in : (bots : List Bot) (b : Bot) → PutsIn (is_taken bots) (is_taken (bots ++ b ∷ [])) b.head
 puts_in bots b = record {
   there = taken_new bots b;
-  others = λ v ne. taken_push bots b v ∙ ap (λ t. is_taken bots v || t) (not_here b.head v ne) ∙ or_false (is_taken bots v);
+  others = λ v ne. taken_push bots b v ∙ ap (λ t. is_taken bots v || t) (node_eq-false b.head v (λ e. ne (sym e))) ∙ or-false (is_taken bots v);
 }
 
 pub node_taken : (bots : List Bot) (i : ℕ) → i < length bots → IsTrue (is_taken bots (node_of bots i))
@@ -56,10 +53,6 @@ some_push None true n = refl
 some_push None false n = refl
 some_push (Some i) t n = refl
 
-or_same : (t : Bool) → (t || t) ≡ t
-or_same true = refl
-or_same false = refl
-
 -- the nodes that are occupied are those that are taken, with a contracted amoebot more
 pub occupied_push : (a : Extent) (maxes : List ℕ) (bots : List Bot) (b : Bot) (v : Node) → b.tail ≡ b.head → occupied (config_of a maxes bots) v ≡ is_taken bots v → occupied (config_of a maxes (bots ++ b ∷ [])) v ≡ is_taken (bots ++ b ∷ []) v
 occupied_push a maxes bots b v contracted old =
@@ -67,5 +60,5 @@ occupied_push a maxes bots b v contracted old =
     ap (λ c. occupied c v) (config_push a maxes bots b)
     ∙ ap is_some (position_push (λ o. covers o v) (map Some bots) (Some b) None (occupant (config_of a maxes bots) v) refl)
     ∙ some_push (occupant (config_of a maxes bots) v) (is_own b v) (length (map Some bots)) in
-    let own : is_own b v ≡ node_eq b.head v = ap (λ (t : Node). node_eq b.head v || node_eq t v) contracted ∙ or_same (node_eq b.head v) in
+    let own : is_own b v ≡ node_eq b.head v = ap (λ (t : Node). node_eq b.head v || node_eq t v) contracted ∙ or_self (node_eq b.head v) in
     one ∙ ap (λ t. t || is_own b v) old ∙ ap (λ t. is_taken bots v || t) own ∙ sym (taken_push bots b v)

@@ -8,7 +8,7 @@ use Rattle.amoebot_state.specs.Configs.{bot_at}
 use Rattle.amoebot_state.specs.Occupied.{occupied}
 use Rattle.run_sample.specs.declared.whole.Sample.{Sample}
 use Rattle.run_sample.specs.Whole.{IsSample}
-use Rattle.run_sample.specs.Sample.{Placed, IsFirstEmpty, IsInside, bot_on, square_node, seeded, drawn}
+use Rattle.run_sample.specs.Sample.{Placed, IsFirstEmpty, IsInside, bot_on, sample_bots, square_node, seeded, drawn}
 
 -- at most one node is the first empty one
 abbrev pub FirstEmptyIsUnique : Type 0
@@ -24,7 +24,7 @@ FirstOfSeedOne = Placed 1 (bot_on 0 (square_node 0) 0 ∷ bot_on 1 (square_node 
 
 -- a sample has 150 amoebots, whose shape is connected and not far from the square, and the amoebots of its lists are among them
 pub record IsFit (s : Sample) : Type 0 where
-  pub many : length s.world.bots ≡ 150
+  pub many : length s.world.bots ≡ sample_bots
   pub connected : IsConnected (occupied s.world)
   pub inside : (v : Node) → IsTrue (occupied s.world v) → IsInside v
   pub there : All (All (λ id. IsSome (bot_at s.world id))) s.lists.ids

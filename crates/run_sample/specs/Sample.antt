@@ -11,6 +11,13 @@ use Rattle.rand_core.specs.Pcg32Seed.{pcg32_seed}
 use Rattle.rand_pcg.specs.Lcg.{Lcg}
 use Rattle.rand_pcg.specs.Pcg.{pcg32, pcg32_of_seed}
 
+-- how many amoebots fill the square, and how many a sample has
+abbrev pub square_bots : ℕ
+square_bots = 100
+
+abbrev pub sample_bots : ℕ
+sample_bots = 150
+
 -- the generator of a seed
 unfoldable pub seeded : ℕ → Lcg
 seeded seed = pcg32_of_seed (pcg32_seed 16 seed)
@@ -59,8 +66,8 @@ node_of bots i = (slice_index_or bots i blank).head
 -- the amoebot that comes next, with the generator after it. The first 100 fill the square, and each draws its rotation. Each later
 -- one draws an amoebot and then a direction, comes on the first empty node that is met from there, and then draws its rotation
 pub data Next (bots : List Bot) (g : Lcg) : Bot → Lcg → Type 0 where
-  in_square : length bots < 100 → Next bots g (bot_on (length bots) (square_node (length bots)) (draw g 6)) (drawn g)
-  beside : {v : Node} → 100 ≤ length bots → IsFirstEmpty bots (node_of bots (draw g (length bots))) (draw (drawn g) 6) v → Next bots g (bot_on (length bots) v (draw (drawn (drawn g)) 6)) (drawn (drawn (drawn g)))
+  in_square : length bots < square_bots → Next bots g (bot_on (length bots) (square_node (length bots)) (draw g 6)) (drawn g)
+  beside : {v : Node} → square_bots ≤ length bots → IsFirstEmpty bots (node_of bots (draw g (length bots))) (draw (drawn g) 6) v → Next bots g (bot_on (length bots) v (draw (drawn (drawn g)) 6)) (drawn (drawn (drawn g)))
 
 -- amoebots that came one by one, with the generator after them
 pub data Placed (seed : ℕ) : List Bot → Lcg → Type 0 where
@@ -69,7 +76,7 @@ pub data Placed (seed : ℕ) : List Bot → Lcg → Type 0 where
 
 -- the amoebots of a seed's sample
 pub record AreSample (seed : ℕ) (bots : List Bot) : Type 0 where
-  pub many : length bots ≡ 150
+  pub many : length bots ≡ sample_bots
   pub left : Lcg
   pub placed : Placed seed bots left
 

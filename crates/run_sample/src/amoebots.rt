@@ -2,7 +2,7 @@
 
 ghost use Rattle.std.specs.Prelude.{ℕ, ◌≡◌, ◌<◌, ◌≤◌, length, IfOk, IsTrue};
 ghost use Rattle.tri_lattice.specs.declared.node.Node.{Node};
-ghost use Rattle.run_sample.specs.Sample.{AreSample, Next, Placed, IsFirstEmpty, IsInside, is_taken, node_of, bot_on, square_node, seeded, draw, drawn};
+ghost use Rattle.run_sample.specs.Sample.{square_bots, sample_bots, AreSample, Next, Placed, IsFirstEmpty, IsInside, is_taken, node_of, bot_on, square_node, seeded, draw, drawn};
 
 use amoebot_state::{Bot, Chir, NoMemory};
 use rand_core::SeedableRng;
@@ -33,7 +33,7 @@ pub(crate) fn amoebots(alloc: Global, seed: u32) -> Result<Vec<Bot>, NoMemory>
 fn next(id: usize, bots: &[Bot], generator: &mut Pcg32) -> Bot
     requires placed { (seed : ℕ) × Placed seed bots.now generator.old }
     requires behind { id ≡ length bots.now }
-    requires few { id < 150 }
+    requires few { id < sample_bots }
     ensures { Next bots.now generator.old result generator.new }
 {
     if id < SQUARE {
@@ -45,7 +45,7 @@ fn next(id: usize, bots: &[Bot], generator: &mut Pcg32) -> Bot
 
 /// The amoebot of the square with an id.
 fn in_square(id: usize, generator: &mut Pcg32) -> Bot
-    requires { id < 100 }
+    requires { id < square_bots }
     ensures value { result ≡ bot_on id (square_node id) (draw generator.old 6) }
     ensures left { generator.new ≡ drawn generator.old }
 {
@@ -57,8 +57,8 @@ fn in_square(id: usize, generator: &mut Pcg32) -> Bot
 /// The next amoebot beside the earlier ones.
 fn beside(id: usize, bots: &[Bot], generator: &mut Pcg32) -> Bot
     requires behind { id ≡ length bots.now }
-    requires low { 100 ≤ id }
-    requires high { id < 150 }
+    requires low { square_bots ≤ id }
+    requires high { id < sample_bots }
     requires inside { (v : Node) → IsTrue (is_taken bots.now v) → IsInside v }
     ensures { Next bots.now generator.old result generator.new }
 {
@@ -116,7 +116,7 @@ fn bot(id: usize, node: Node, rot: u32) -> Bot
 
 /// The node of an amoebot in the square of 10 by 10, which is filled row by row.
 fn square_node(id: usize) -> Node
-    requires { id < 100 }
+    requires { id < square_bots }
     ensures { result ≡ square_node id }
 {
     Node {

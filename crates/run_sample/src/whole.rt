@@ -3,7 +3,7 @@ ghost use Rattle.tri_lattice.specs.Sets.{IsConnected};
 ghost use Rattle.amoebot_state.specs.Configs.{IsValid, config_of};
 ghost use Rattle.amoebot_state.specs.Occupied.{occupied};
 ghost use Rattle.action_tree.specs.Samples as sample;
-ghost use Rattle.run_sample.specs.Sample.{sample_area, sample_maxes};
+ghost use Rattle.run_sample.specs.Sample.{sample_area, sample_bots, sample_maxes};
 ghost use Rattle.run_sample.specs.Whole.{IsSample};
 
 use crate::amoebots::amoebots;
@@ -51,7 +51,7 @@ fn guarded_hexagon(alloc: Global) -> Result<Checked, NoMemory>
 /// The world of a sample's amoebots, none of which is refused.
 fn world_of(alloc: Global, maxes: [u8; 8], bots: &[Bot]) -> Result<World, NoMemory>
     requires maxes { maxes ≡ sample_maxes }
-    requires few { length bots.now ≤ 150 }
+    requires few { length bots.now ≤ sample_bots }
     requires valid { IsValid (config_of sample_area sample_maxes bots.now) }
     ensures { IfOk result (λ world. world ≡ config_of sample_area sample_maxes bots.now) }
 {

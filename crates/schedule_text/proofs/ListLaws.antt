@@ -14,9 +14,9 @@ use Rattle.text_tokens.proofs.Repeating.{part_repeated}
 use Rattle.text_tokens.proofs.Distinguishing.{other_kind, other_text, a_numeral, starts_numeral}
 use Rattle.text_tokens.proofs.Joining.{one_behind, into, starts_behind}
 use Rattle.claim_core.specs.Limits.{most_turns}
-use Rattle.journal_text.specs.Parts.{word, is_end}
+use Rattle.journal_text.specs.Parts.{word, is_end, one_more}
 use Rattle.journal_text.proofs.PartLaws.{up_to_end, starts_word, part_word, part_word_within, starts_word_within}
-use Rattle.schedule_text.specs.Lists.{past_ids, IsId, one_more_id, IdsFrom, AreIds, is_list, past_lists, IsListWord, IsCallerList, one_more_list, ListsFrom, lists_of, AreTurns, IsLists}
+use Rattle.schedule_text.specs.Lists.{past_ids, IsId, IdsFrom, AreIds, is_list, past_lists, IsListWord, IsCallerList, ListsFrom, lists_of, AreTurns, IsLists}
 use Rattle.schedule_text.specs.Readers.{an_id, ids_from, all_ids, list_word, a_list, lists_from, all_lists, some_turns, the_lists}
 
 -- a word is no number
@@ -46,7 +46,7 @@ module _ (bots : ℕ) where
 
   pub part_ids_from : (before : ℕ) → IsPart (IdsFrom bots before) (ids_from bots before) no_number
   unfolding ids_from
-  part_ids_from before = part_repeated (IsId bots) (an_id bots) one_more_id is_number always no_number id_elements before
+  part_ids_from before = part_repeated (IsId bots) (an_id bots) one_more is_number always no_number id_elements before
 
   part_ids : IsPart (AreIds bots) (all_ids bots) no_number
   unfolding all_ids
@@ -74,7 +74,7 @@ module _ (bots : ℕ) where
 
     pub part_lists_from : (before : ℕ) → IsPart (ListsFrom bots turns before) (lists_from bots turns before) is_end
     unfolding lists_from
-    part_lists_from before = part_repeated (IsCallerList bots turns) (a_list bots turns) one_more_list is_list no_number is_end list_elements before
+    part_lists_from before = part_repeated (IsCallerList bots turns) (a_list bots turns) one_more is_list no_number is_end list_elements before
 
     part_all_lists : IsPart (Made (ListsFrom bots turns 0) (λ ids. lists_of turns ids)) (all_lists bots turns) is_end
     unfolding all_lists

@@ -1,3 +1,4 @@
+pub mod Known
 pub mod ListRows
 pub mod Lists
 pub mod Readers

@@ -2,7 +2,8 @@
 use Rattle.std.specs.Prelude.{ℕ, List, [], ◌∷◌, ◌++◌, Ok, Err, codes}
 use Rattle.text_tokens.specs.declared.refusal.RefusalKind.{RefusalKind}
 use Rattle.text_tokens.specs.declared.refusal.RefusalKind.TheVariants.{BadByte, WordTooLong, Unexpected, TooMany, Truncated, BadId, Trailing}
-use Rattle.journal_text.specs.JournalRows.{Says, at}
+use Rattle.text_tokens.specs.Cursor.{on_line}
+use Rattle.journal_text.specs.JournalRows.{Says}
 use Rattle.schedule_text.specs.Lists.{IdsFrom, ListsFrom, lists_of, IsLists}
 
 -- so many turns and these lists
@@ -11,7 +12,7 @@ Yields text turns ids = Says (IsLists 3) text (Ok (lists_of turns ids))
 
 -- a text with this first fault
 abbrev pub Fails : List ℕ → ℕ → RefusalKind → Type 0
-Fails text line kind = Says (IsLists 3) text (Err (at line kind))
+Fails text line kind = Says (IsLists 3) text (Err (on_line line kind))
 
 abbrev pub sixteen_lists : List ℕ
 sixteen_lists = codes "list 0 list 0 list 0 list 0 list 0 list 0 list 0 list 0 list 0 list 0 list 0 list 0 list 0 list 0 list 0 list 0 "
@@ -38,17 +39,17 @@ pub record ListsAreRead : Type 0 where
   pub turns_65537 : Fails (codes "lists turns\n65537 end") 2 TooMany
   pub turns_of_one_and_one : Fails (codes "lists turns 65536 list 0\nlist 0 end") 2 TooMany
   pub turns_of_two_and_one : Fails (codes "lists turns 32769 list 0\nlist 0 end") 2 TooMany
-  pub turns_of_fifteen_and_one : Says (ListsFrom 3 4370 14) (codes "list 0") (Err (at 1 TooMany))
-  pub turns_of_sixteen_and_one : Says (ListsFrom 3 4097 15) (codes "list 0") (Err (at 1 TooMany))
+  pub turns_of_fifteen_and_one : Says (ListsFrom 3 4370 14) (codes "list 0") (Err (on_line 1 TooMany))
+  pub turns_of_sixteen_and_one : Says (ListsFrom 3 4097 15) (codes "list 0") (Err (on_line 1 TooMany))
   pub lists_17 : Fails (codes "lists turns 0 " ++ sixteen_lists ++ codes "\nlist 0 end") 2 TooMany
-  pub one_id_too_many : Says (IdsFrom 3 4095) (codes "2\n2") (Err (at 2 TooMany))
+  pub one_id_too_many : Says (IdsFrom 3 4095) (codes "2\n2") (Err (on_line 2 TooMany))
   -- before what else is wrong
   pub list_before_id : Fails (codes "lists turns 65536 list 0\nlist\n3 end") 2 TooMany
-  pub many_before_unknown : Says (IdsFrom 3 4096) (codes "3") (Err (at 1 TooMany))
+  pub many_before_unknown : Says (IdsFrom 3 4096) (codes "3") (Err (on_line 1 TooMany))
   -- ---- ids that are no amoebot's
   pub first_id : Fails (codes "lists turns 0 list\n3 end") 2 BadId
   pub second_id : Fails (codes "lists turns 0 list 2\n3 end") 2 BadId
-  pub id_of_none : Says (IsLists 0) (codes "lists turns 0 list\n0 end") (Err (at 2 BadId))
+  pub id_of_none : Says (IsLists 0) (codes "lists turns 0 list\n0 end") (Err (on_line 2 BadId))
   -- ---- tokens that do not belong there
   pub other_word : Fails (codes "list turns 0 end") 1 Unexpected
   pub no_turns : Fails (codes "lists\nlist 0 end") 2 Unexpected

@@ -3,31 +3,29 @@
 --   list  := "list" NUMBER { NUMBER }
 -- Turns above 65,536, the 17th `list`, the `list` with which callers times turns pass 65,536 and the 4,097th id of a list are TooMany; of what else is wrong with
 -- an id that comes first. An id that is no amoebot's is a BadId.
-use Rattle.std.specs.Prelude.{ℕ, suc, ◌*◌, Bool, ◌&&◌, nat_le, nat_lt, if◌then◌else◌, List, ◌∷◌, Option, Some, None, codes}
+use Rattle.std.specs.Prelude.{ℕ, suc, ◌*◌, Bool, ◌&&◌, nat_le, if◌then◌else◌, List, ◌∷◌, Option, Some, None, codes}
 use Rattle.text_tokens.specs.declared.refusal.RefusalKind.{RefusalKind}
-use Rattle.text_tokens.specs.declared.refusal.RefusalKind.TheVariants.{TooMany, BadId}
+use Rattle.text_tokens.specs.declared.refusal.RefusalKind.TheVariants.{TooMany}
 use Rattle.text_tokens.specs.Text.{Lexeme}
-use Rattle.text_tokens.specs.Reading.{value, too_large}
+use Rattle.text_tokens.specs.Reading.{too_large}
 use Rattle.text_tokens.specs.Grammar.{Lang, IsOne, Then, Made, IsNumeral, Closed, Repeated}
 use Rattle.claim_core.specs.Limits.{most_callers, most_turns, most_ids}
 use Rattle.claim_core.specs.Turns.{CallerLists}
-use Rattle.journal_text.specs.Parts.{word, is_end, IsWord}
+use Rattle.journal_text.specs.Parts.{word, is_end, one_more, IsWord}
+use Rattle.schedule_text.specs.Known.{past_known}
 
 -- ---- ids
 
 -- one id too many behind so many, or that of none of so many amoebots
 abbrev pub past_ids : ℕ → ℕ → Lexeme → Option RefusalKind
-past_ids bots before t = if nat_lt before most_ids then if nat_lt (value t) bots then None else Some BadId else Some TooMany
+past_ids bots before t = past_known most_ids bots before t
 
 -- an id behind so many
 abbrev pub IsId : ℕ → ℕ → Lang ℕ
 IsId bots before = IsNumeral (past_ids bots before)
 
-abbrev pub one_more_id : ℕ → ℕ → ℕ
-one_more_id before id = suc before
-
 abbrev pub IdsFrom : ℕ → ℕ → Lang (List ℕ)
-IdsFrom bots before = Repeated (IsId bots) one_more_id before
+IdsFrom bots before = Repeated (IsId bots) one_more before
 
 -- at least one
 abbrev pub AreIds : ℕ → Lang (List ℕ)
@@ -50,11 +48,8 @@ IsListWord turns before = Made (IsOne is_list (past_lists turns before)) (λ t. 
 abbrev pub IsCallerList : ℕ → ℕ → ℕ → Lang (List ℕ)
 IsCallerList bots turns before = Then (IsListWord turns before) (λ line. AreIds bots)
 
-abbrev pub one_more_list : ℕ → List ℕ → ℕ
-one_more_list before ids = suc before
-
 abbrev pub ListsFrom : ℕ → ℕ → ℕ → Lang (List (List ℕ))
-ListsFrom bots turns before = Repeated (IsCallerList bots turns) one_more_list before
+ListsFrom bots turns before = Repeated (IsCallerList bots turns) one_more before
 
 -- ---- the section
 

@@ -1,19 +1,14 @@
 -- The grammars of the sections as readers, put together as the grammars are.
-use Rattle.std.specs.Prelude.{ℕ, nat_lt, if◌then◌else◌, List, ◌∷◌, Option, Some, None, codes}
-use Rattle.text_tokens.specs.declared.refusal.RefusalKind.{RefusalKind}
-use Rattle.text_tokens.specs.declared.refusal.RefusalKind.TheVariants.{TooMany, BadId}
-use Rattle.text_tokens.specs.Text.{Lexeme}
-use Rattle.text_tokens.specs.Reading.{Reader, ◌>>=◌, pure, is_number, value, one_within, numeral, too_large, closed, optional, repeated}
+use Rattle.std.specs.Prelude.{ℕ, List, ◌∷◌, codes}
+use Rattle.text_tokens.specs.declared.refusal.RefusalKind.TheVariants.{TooMany}
+use Rattle.text_tokens.specs.Reading.{Reader, ◌>>=◌, pure, is_number, one_within, numeral, too_large, closed, optional, repeated}
 use Rattle.claim_core.specs.Limits.{most_turns}
 use Rattle.claim_core.specs.Turns.{CallerLists}
-use Rattle.journal_text.specs.Parts.{is_end}
+use Rattle.journal_text.specs.Parts.{is_end, one_more}
 use Rattle.journal_text.specs.Readers.{a_word}
-use Rattle.schedule_text.specs.Lists.{past_ids, one_more_id, is_list, past_lists, one_more_list, lists_of}
+use Rattle.schedule_text.specs.Known.{past_known}
+use Rattle.schedule_text.specs.Lists.{past_ids, is_list, past_lists, lists_of}
 use Rattle.schedule_text.specs.Schedules.{past_callers, past_times, is_times, Stretch, stretch_of, more_steps, steps_of}
-
--- behind so many, where so many may come: one too many, or the number of none of so many
-abbrev pub past_known : ℕ → ℕ → ℕ → Lexeme → Option RefusalKind
-past_known most known before t = if nat_lt before most then if nat_lt (value t) known then None else Some BadId else Some TooMany
 
 abbrev pub a_known : ℕ → ℕ → ℕ → Reader ℕ
 a_known most known before = numeral (past_known most known before)
@@ -24,7 +19,7 @@ unfoldable pub an_id : ℕ → ℕ → Reader ℕ
 an_id bots before = numeral (past_ids bots before)
 
 unfoldable pub ids_from : ℕ → ℕ → Reader (List ℕ)
-ids_from bots before = repeated is_number (an_id bots) one_more_id before
+ids_from bots before = repeated is_number (an_id bots) one_more before
 
 unfoldable pub all_ids : ℕ → Reader (List ℕ)
 all_ids bots = an_id bots 0 >>= λ id. ids_from bots 1 >>= λ more. pure (id ∷ more)
@@ -36,7 +31,7 @@ unfoldable pub a_list : ℕ → ℕ → ℕ → Reader (List ℕ)
 a_list bots turns before = list_word turns before >>= λ line. all_ids bots
 
 unfoldable pub lists_from : ℕ → ℕ → ℕ → Reader (List (List ℕ))
-lists_from bots turns before = repeated is_list (a_list bots turns) one_more_list before
+lists_from bots turns before = repeated is_list (a_list bots turns) one_more before
 
 unfoldable pub all_lists : ℕ → ℕ → Reader CallerLists
 all_lists bots turns = lists_from bots turns 0 >>= λ ids. pure (lists_of turns ids)

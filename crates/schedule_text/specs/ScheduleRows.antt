@@ -2,7 +2,8 @@
 use Rattle.std.specs.Prelude.{ℕ, List, [], ◌∷◌, Ok, Err, codes}
 use Rattle.text_tokens.specs.declared.refusal.RefusalKind.{RefusalKind}
 use Rattle.text_tokens.specs.declared.refusal.RefusalKind.TheVariants.{BadByte, WordTooLong, Unexpected, TooMany, Truncated, BadRange, BadId, Trailing}
-use Rattle.journal_text.specs.JournalRows.{Says, at}
+use Rattle.text_tokens.specs.Cursor.{on_line}
+use Rattle.journal_text.specs.JournalRows.{Says}
 use Rattle.schedule_text.specs.Schedules.{Stretch, stretch_of, StretchesFrom, IsSchedule}
 
 -- these steps
@@ -11,14 +12,14 @@ Yields text callers = Says (IsSchedule 2) text (Ok callers)
 
 -- a text with this first fault
 abbrev pub Fails : List ℕ → ℕ → RefusalKind → Type 0
-Fails text line kind = Says (IsSchedule 2) text (Err (at line kind))
+Fails text line kind = Says (IsSchedule 2) text (Err (on_line line kind))
 
 -- behind so many steps: these stretches, and a first fault
 abbrev pub YieldsBehind : ℕ → List ℕ → List Stretch → Type 0
 YieldsBehind before text stretches = Says (StretchesFrom 2 before) text (Ok stretches)
 
 abbrev pub FailsBehind : ℕ → List ℕ → ℕ → RefusalKind → Type 0
-FailsBehind before text line kind = Says (StretchesFrom 2 before) text (Err (at line kind))
+FailsBehind before text line kind = Says (StretchesFrom 2 before) text (Err (on_line line kind))
 
 pub record SchedulesAreRead : Type 0 where
   -- ---- texts
@@ -42,7 +43,7 @@ pub record SchedulesAreRead : Type 0 where
   -- ---- callers without a list, and no step
   pub caller_2 : Fails (codes "schedule\n2 end") 2 BadId
   pub caller_2_later : Fails (codes "schedule 0 times 3\n2 end") 2 BadId
-  pub caller_of_none : Says (IsSchedule 0) (codes "schedule\n0 end") (Err (at 2 BadId))
+  pub caller_of_none : Says (IsSchedule 0) (codes "schedule\n0 end") (Err (on_line 2 BadId))
   pub unknown_before_none : Fails (codes "schedule\n2\ntimes 0 end") 2 BadId
   pub times_0 : Fails (codes "schedule 0 times\n0 end") 2 BadRange
   pub last_times_0 : FailsBehind 999999 (codes "1 times\n0") 2 BadRange

@@ -3,21 +3,22 @@
 --   stretch  := NUMBER [ "times" NUMBER ]      a caller, and how many steps it makes in a row; one, where that is left out
 -- A number with which the steps pass 1,000,000 is TooMany, be it a caller's, which counts as one step, or the one behind `times`. A caller that has no list is a
 -- BadId, and `times` 0 is a BadRange.
-use Rattle.std.specs.Prelude.{ℕ, ◌+◌, Bool, ◌==◌, nat_lt, if◌then◌else◌, List, replicate, Option, Some, None, codes}
+use Rattle.std.specs.Prelude.{ℕ, ◌+◌, Bool, ◌==◌, if◌then◌else◌, List, replicate, Option, Some, codes}
 use Rattle.std.specs.List.{flat_map}
 use Rattle.text_tokens.specs.declared.refusal.RefusalKind.{RefusalKind}
-use Rattle.text_tokens.specs.declared.refusal.RefusalKind.TheVariants.{TooMany, BadId, BadRange}
+use Rattle.text_tokens.specs.declared.refusal.RefusalKind.TheVariants.{BadRange}
 use Rattle.text_tokens.specs.Text.{Lexeme}
 use Rattle.text_tokens.specs.Reading.{value, past_sum}
 use Rattle.text_tokens.specs.Grammar.{Lang, Then, Made, IsNumeral, Closed, IsOptional, Repeated}
 use Rattle.journal_text.specs.Parts.{word, is_end, IsWord}
+use Rattle.schedule_text.specs.Known.{past_known}
 
 abbrev pub most_steps : ℕ
 most_steps = 1000000
 
 -- behind so many steps, one too many, or that of none of so many callers
 abbrev pub past_callers : ℕ → ℕ → Lexeme → Option RefusalKind
-past_callers callers before t = if nat_lt before most_steps then if nat_lt (value t) callers then None else Some BadId else Some TooMany
+past_callers callers before t = past_known most_steps callers before t
 
 abbrev pub past_times : ℕ → Lexeme → Option RefusalKind
 past_times before t = if value t == 0 then Some BadRange else past_sum value most_steps before t

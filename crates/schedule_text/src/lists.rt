@@ -1,6 +1,6 @@
 //! The section `lists` read.
 
-ghost use Rattle.std.specs.Prelude.{◌≡◌, ◌<◌, ◌≤◌, ◌+◌, length, option_map, IfOk, IfSome};
+ghost use Rattle.std.specs.Prelude.{◌<◌, ◌≤◌, ◌+◌, length, option_map, IfOk, IfSome};
 ghost use Rattle.std.specs.List.{All};
 ghost use Rattle.text_tokens.specs.Reading.{is_number};
 ghost use Rattle.text_tokens.specs.Steps.{Gives, ReadsOf, TellsOf, another};

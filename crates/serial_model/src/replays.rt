@@ -1,8 +1,8 @@
-ghost use Rattle.std.specs.Prelude.{◌≡◌, ◌<◌, ◌^◌, length, Decides, IfOk, IfErr};
+ghost use Rattle.std.specs.Prelude.{◌≡◌, ◌<◌, length, Decides, IfOk, IfErr};
 ghost use Rattle.std.specs.Bool.{OnTrue, OnFalse};
 ghost use Rattle.std.specs.List.{All};
 ghost use Rattle.amoebot_state.specs.Steps.{Run, Step, change_of};
-ghost use Rattle.serial_model.specs.Replays.{IsNoStep, IsFirstNoStep};
+ghost use Rattle.serial_model.specs.Replays.{AreCountable, IsNoStep, IsFirstNoStep};
 
 use amoebot_state::{Change, Decider, Entry, Patch, Verdict, World, has_next};
 
@@ -16,7 +16,7 @@ pub struct Differs {
 /// to. Differs gives the first place that is no step; the start is dropped then. It takes no memory.
 pub fn replay<D: Decider>(decider: &D, start: World, entries: &[Entry]) -> Result<World, Differs>
     requires there { All (λ e. e.bot < length start.bots) entries.now }
-    requires few { length entries.now < 2 ^ 32 }
+    requires few { AreCountable entries.now }
     ensures run { IfOk result (λ world. Run (D.verdict decider.now) start entries.now world) }
     ensures differs { IfErr result (λ e. IsFirstNoStep (D.verdict decider.now) start entries.now e.place) }
 {

@@ -2,13 +2,14 @@
 use Rattle.std.proofs.Common.{◌≡◌, ◌<◌, ◌≤◌, ℕ, ◌*◌, List, [], ◌∷◌, ◌++◌, length, Bool, false, inl, inr, ap, sym, ◌∙◌, subst, arith, get_or, Option, Some, None, replicate}
 use Rattle.std.specs.Prelude.{IsTrue, Decides, unwrap_or}
 use Rattle.std.specs.Option.{option_map}
-use Rattle.std.proofs.lemmas.Bool.{cases_lt, both_ways, false≢true, false_from_ne_true, cond-false}
-use Rattle.std.proofs.lemmas.List.{get_or-replicate, length-replicate, get_or_past}
+use Rattle.std.proofs.lemmas.Bool.{both_ways, false≢true, false_from_ne_true, cond-false}
+use Rattle.std.proofs.lemmas.List.{length-replicate}
 use Rattle.tri_lattice.specs.declared.node.Node.{Node}
 use Rattle.tri_lattice.specs.Extent.{Extent, index_of, is_in}
 use Rattle.tri_lattice.specs.Lattice.{step}
 use Rattle.tri_lattice.specs.Sets.{Joined, here, along, IsConnected}
 use Rattle.tri_lattice.proofs.Paths.{Joined-first, Joined-trans, Joined-sym}
+use Rattle.amoebot_state.proofs.Members.{one_everywhere}
 use Rattle.shape_checks.specs.Marks.{marked, with_mark, with_met, met, IsSearch, IsReach}
 use Rattle.shape_checks.proofs.Marking.{mark_old_or_new, mark_size, mark_made}
 
@@ -20,17 +21,11 @@ unmarked_all a marks none v = at (index_of a v)
     at None t = false≢true t
     at (Some k) t = both_ways _ (none k) t
 
-none_set : (n k : ℕ) → get_or (replicate n false) k false ≡ false
-none_set n k = elim (cases_lt k n) [
-  | inl lt ↦ get_or-replicate n k false false lt
-  | inr ge ↦ let size = length-replicate n false in get_or_past (replicate n false) k false (omega arith)
-]
-
 -- a search begins with the mark of an occupied node
 pub search_begins : (S : Node → Bool) (a b : Extent) (start : Node) (n : ℕ) (marks more : List Bool) (none order : List Node) → marks ≡ replicate n false → n ≡ a.w * a.h → none ≡ [] → b ≡ a → more ≡ with_mark b marks start → order ≡ with_met b marks none start → IsTrue (is_in a start) → IsTrue (S start) → IsSearch S a more order 0 × (met order 0 ≡ start)
 search_begins S a b start n marks more none order em size en same ew eo inside on =
     let empty : length marks ≡ a.w * a.h = ap length em ∙ length-replicate n false ∙ size in
-    let unset = unmarked_all a marks (λ k. ap (λ (m : List Bool). get_or m k false) em ∙ none_set n k) in
+    let unset = unmarked_all a marks (λ k. ap (λ (m : List Bool). get_or m k false) em ∙ one_everywhere n k false) in
     let new : marked a marks start ≡ false = false_from_ne_true _ (unset start) in
     let marks_are : more ≡ with_mark a marks start = ew ∙ ap (λ (x : Extent). with_mark x marks start) same in
     let order_is : order ≡ start ∷ [] = eo ∙ ap (λ (x : Extent). with_met x marks none start) same ∙ cond-false _ none (none ++ start ∷ []) new ∙ ap (λ (vs : List Node). vs ++ start ∷ []) en in

@@ -24,6 +24,13 @@ candidates e r =
 abbrev pub HasCentre : (Node → Bool) → Extremes → ℕ → Type 0
 HasCentre S e r = (k : ℕ) × (k < 4) × IsHexagonAt S (slice_index_or (candidates e r) k e.left) r
 
+-- a bound of the radii that are tried, which are at most 64, and one of the places of a circle
+abbrev pub most_radius : ℕ
+most_radius = 130
+
+abbrev pub most_places : ℕ
+most_places = 1000
+
 -- coordinates in -6000..=6000, from where what lies 200 nodes away is near
 abbrev pub IsCentral : Node → Type 0
 IsCentral v = (negsuc 5999 ≤ℤ v.x) × (v.x ≤ℤ pos 6000) × (negsuc 5999 ≤ℤ v.y) × (v.y ≤ℤ pos 6000)

@@ -1,12 +1,13 @@
 -- Hexagons of occupied nodes: full rings round a node, and a last ring that may be part of one. That such a shape is called a
 -- hexagon is this project's profile; rings, distances and contracted amoebots are the paper's lattice.
-use Rattle.std.specs.Prelude.{◌≡◌, ◌↔◌, ℕ, ◌<◌, ◌≤◌, ◌+◌, ◌*◌, ◌/◌, ◌%◌, pos, ◌+ℤ◌, ◌*ℤ◌, Bool, IsTrue, length}
+use Rattle.std.specs.Prelude.{◌≡◌, ℕ, ◌<◌, ◌≤◌, ◌*◌, ◌/◌, ◌%◌, pos, ◌+ℤ◌, ◌*ℤ◌, Bool, IsTrue, length}
 use Rattle.std.specs.declared.option.Option.TheVariants.{Some}
 use Rattle.tri_lattice.specs.declared.node.Node.{Node}
 use Rattle.tri_lattice.specs.Lattice.{dx, dy, turned, distance}
 use Rattle.amoebot_state.specs.declared.bot.Bot.{Bot}
 use Rattle.amoebot_state.specs.Configs.{Config, bot_at}
 use Rattle.amoebot_state.specs.Occupied.{occupied}
+use Rattle.shape_checks.specs.Arcs.{AreFirst}
 
 -- the node so many steps away in direction d
 abbrev pub moved : Node → ℕ → ℕ → Node
@@ -20,7 +21,7 @@ ring_node c r k = moved (moved c (k / r) r) (turned (k / r) 2) (k % r)
 -- of m places in a circle those of an arc, and no others, pass a test: the first n from place i on, going round. With n = 0
 -- none passes, with n = m all do
 abbrev pub IsArc : (ℕ → Bool) → ℕ → Type 0
-IsArc p m = (i : ℕ) × (n : ℕ) × (i < m) × ((j : ℕ) → j < m → IsTrue (p ((i + j) % m)) ↔ (j < n))
+IsArc p m = (i : ℕ) × (n : ℕ) × (i < m) × AreFirst p m i n
 
 -- a set of nodes is a hexagon of radius r round c: it has all nodes at a distance below r, none above r, and of the ring at
 -- distance r none, all, or some that follow one another

@@ -1,11 +1,12 @@
-ghost use Rattle.std.specs.Prelude.{◌≡◌, ◌<◌, ◌≤◌, ◌+◌, ◌-◌, ◌%◌, length, Decides, IsTrue, slice_index_or, false, true, ℕ, IfSome, IfNone};
+ghost use Rattle.std.specs.Prelude.{◌<◌, ◌≤◌, ◌+◌, ◌-◌, ◌%◌, length, Decides, false, true, ℕ, IfSome, IfNone};
 ghost use Rattle.shape_checks.specs.Hexagons.{IsArc};
 ghost use Rattle.shape_checks.specs.Arcs.{place, IsStart};
+ghost use Rattle.shape_checks.specs.Candidates.{most_places};
 
 /// Whether the true places of a circle are those of an arc: none, all, or some that follow one another.
 pub(crate) fn is_arc(circle: &[bool]) -> bool
     requires some { 0 < length circle.now }
-    requires few { length circle.now ≤ 1000 }
+    requires few { length circle.now ≤ most_places }
     ensures { Decides result (IsArc (place circle.now) (length circle.now)) }
 {
     match start(circle) {
@@ -17,7 +18,7 @@ pub(crate) fn is_arc(circle: &[bool]) -> bool
 /// A place that is true and follows a false one.
 fn start(circle: &[bool]) -> Option<usize>
     requires some { 0 < length circle.now }
-    requires few { length circle.now ≤ 1000 }
+    requires few { length circle.now ≤ most_places }
     ensures some { IfSome result (IsStart circle.now) }
     ensures none { IfNone result ((i : ℕ) → ¬ IsStart circle.now i) }
 {
@@ -32,7 +33,7 @@ fn start(circle: &[bool]) -> Option<usize>
 /// Whether all true places follow the one at which an arc starts.
 fn is_one_arc(circle: &[bool], from: usize) -> bool
     requires start { IsStart circle.now from }
-    requires few { length circle.now ≤ 1000 }
+    requires few { length circle.now ≤ most_places }
     ensures { Decides result (IsArc (place circle.now) (length circle.now)) }
 {
     let mut over = false;

@@ -1,4 +1,4 @@
-ghost use Rattle.std.specs.Prelude.{◌≡◌, ◌<◌, ◌+◌, ◌*◌, length, Decides, IfOk, OnOk, IsTrue, ◌≢◌};
+ghost use Rattle.std.specs.Prelude.{◌≡◌, ◌<◌, ◌+◌, ◌*◌, length, Decides, IfOk, OnOk, IsTrue};
 ghost use Rattle.tri_lattice.specs.declared.node.Node.{Node};
 ghost use Rattle.tri_lattice.specs.Extent.{is_in};
 ghost use Rattle.tri_lattice.specs.Sets.{IsConnected};

@@ -1,9 +1,9 @@
-ghost use Rattle.std.specs.Prelude.{◌≡◌, ◌<◌, ◌≤◌, ◌*◌, ◌-ℤ◌, ◌+ℤ◌, ◌≤ℤ◌, pos, negsuc, length, Decides, IfOk, IsTrue, ℕ};
+ghost use Rattle.std.specs.Prelude.{◌≡◌, ◌<◌, ◌≤◌, ◌*◌, ◌≤ℤ◌, pos, negsuc, length, Decides, IfOk, IsTrue, ℕ};
 ghost use Rattle.tri_lattice.specs.declared.node.Node.{Node};
 ghost use Rattle.tri_lattice.specs.Lattice.{IsNear, distance};
 ghost use Rattle.amoebot_state.specs.Occupied.{occupied};
 ghost use Rattle.shape_checks.specs.Arcs.{place};
-ghost use Rattle.shape_checks.specs.Candidates.{IsCentral};
+ghost use Rattle.shape_checks.specs.Candidates.{IsCentral, most_radius};
 ghost use Rattle.shape_checks.specs.Hexagons.{moved, ring_node, IsHexagonAt, AreContracted};
 
 use crate::arc::is_arc;
@@ -21,7 +21,7 @@ pub(crate) fn is_hexagon_at(
     requires contracted { AreContracted world.now }
     requires central { IsCentral centre }
     requires some { 1 ≤ radius }
-    requires few { radius ≤ 130 }
+    requires few { radius ≤ most_radius }
     ensures { IfOk result (λ b. Decides b (IsHexagonAt (occupied world.now) centre radius)) }
 {
     if !is_within(world, centre, radius) || !is_filled(world, centre, radius) {
@@ -49,7 +49,7 @@ pub(crate) fn is_within(world: &World, centre: Node, radius: u16) -> bool
 /// Whether all nodes that are nearer than the radius are occupied.
 pub(crate) fn is_filled(world: &World, centre: Node, radius: u16) -> bool
     requires central { IsCentral centre }
-    requires few { radius ≤ 130 }
+    requires few { radius ≤ most_radius }
     ensures { Decides result ((v : Node) → distance centre v < radius → IsTrue (occupied world.now v)) }
 {
     for up in 0..2 * radius {
@@ -64,7 +64,7 @@ pub(crate) fn is_filled(world: &World, centre: Node, radius: u16) -> bool
 /// The same for the nodes of one row.
 fn is_row_filled(world: &World, centre: Node, radius: u16, y: i16) -> bool
     requires central { IsCentral centre }
-    requires few { radius ≤ 130 }
+    requires few { radius ≤ most_radius }
     requires low { negsuc 6999 ≤ℤ y }
     requires high { y ≤ℤ pos 7000 }
     ensures { Decides result ((v : Node) → v.y ≡ y → distance centre v < radius → IsTrue (occupied world.now v)) }
@@ -97,7 +97,7 @@ pub(crate) fn ring(
 ) -> Result<Vec<bool>, NoMemory>
     requires central { IsCentral centre }
     requires some { 1 ≤ radius }
-    requires few { radius ≤ 130 }
+    requires few { radius ≤ most_radius }
     ensures len { IfOk result (λ ring. length ring.items ≡ 6 * radius) }
     ensures places { IfOk result (λ ring. (k : ℕ) → k < 6 * radius → place ring.items k ≡ occupied world.now (ring_node centre radius k)) }
 {
@@ -114,7 +114,7 @@ pub(crate) fn ring(
 fn ring_node(centre: Node, radius: u16, k: u16) -> Node
     requires central { IsCentral centre }
     requires some { 1 ≤ radius }
-    requires few { radius ≤ 130 }
+    requires few { radius ≤ most_radius }
     requires below { k < 6 * radius }
     ensures { result ≡ ring_node centre radius k }
 {
@@ -126,7 +126,7 @@ fn ring_node(centre: Node, radius: u16, k: u16) -> Node
 /// The node so many steps away in a direction.
 fn moved(from: Node, dir: u16, steps: u16) -> Node
     requires below { dir < 6 }
-    requires few { steps ≤ 130 }
+    requires few { steps ≤ most_radius }
     requires x_low { negsuc 6999 ≤ℤ from.x }
     requires x_high { from.x ≤ℤ pos 7000 }
     requires y_low { negsuc 6999 ≤ℤ from.y }

@@ -1,7 +1,7 @@
 ghost use Rattle.std.specs.Prelude.{◌≡◌, ◌⊎◌, ◌<◌, ◌≤◌, ◌≤ℤ◌, ◌-ℤ◌, pos, length, Decides, IfOk};
 ghost use Rattle.amoebot_state.specs.Occupied.{occupied};
 ghost use Rattle.shape_checks.specs.Hexagons.{AreContracted, IsHexagon};
-ghost use Rattle.shape_checks.specs.Candidates.{AreExtremes, AreCentral, HasCentre, candidates};
+ghost use Rattle.shape_checks.specs.Candidates.{AreExtremes, AreCentral, HasCentre, candidates, most_radius};
 
 use crate::disc::is_hexagon_at;
 use amoebot_state::{NoMemory, World};
@@ -106,7 +106,7 @@ fn has_centre(alloc: Global, world: &World, ends: &Extremes, radius: u16) -> Res
     requires contracted { AreContracted world.now }
     requires central { AreCentral ends.now }
     requires some { 1 ≤ radius }
-    requires few { radius ≤ 130 }
+    requires few { radius ≤ most_radius }
     ensures { IfOk result (λ b. Decides b (HasCentre (occupied world.now) ends.now radius)) }
 {
     for centre in candidates(ends, radius) {
@@ -120,7 +120,7 @@ fn has_centre(alloc: Global, world: &World, ends: &Extremes, radius: u16) -> Res
 /// The four nodes that can be the centre of a hexagon of this radius.
 fn candidates(ends: &Extremes, radius: u16) -> [Node; 4]
     requires central { AreCentral ends.now }
-    requires few { radius ≤ 130 }
+    requires few { radius ≤ most_radius }
     ensures { result ≡ candidates ends.now radius }
 {
     let _extremes = *ends;

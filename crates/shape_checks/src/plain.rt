@@ -6,7 +6,7 @@ ghost use Rattle.tri_lattice.specs.Extent.{is_in};
 ghost use Rattle.tri_lattice.specs.Sets.{IsConnected};
 ghost use Rattle.amoebot_state.specs.Occupied.{occupied};
 ghost use Rattle.shape_checks.specs.Arcs.{place, AreFirst};
-ghost use Rattle.shape_checks.specs.Candidates.{IsCentral};
+ghost use Rattle.shape_checks.specs.Candidates.{IsCentral, most_places, most_radius};
 ghost use Rattle.shape_checks.specs.Hexagons.{IsArc, IsHexagonAt, IsHexagon, AreContracted};
 ghost use Rattle.shape_checks.specs.Marks.{marked, with_mark, IsBeside, IsReach};
 
@@ -135,7 +135,7 @@ fn is_hexagon_at(alloc: Global, world: &World, centre: Node, radius: u16) -> Res
     requires contracted { AreContracted world.now }
     requires central { IsCentral centre }
     requires some { 1 ≤ radius }
-    requires few { radius ≤ 130 }
+    requires few { radius ≤ most_radius }
     ensures { IfOk result (λ b. Decides b (IsHexagonAt (occupied world.now) centre radius)) }
 {
     if !is_within(world, centre, radius) || !is_filled(world, centre, radius) {
@@ -147,7 +147,7 @@ fn is_hexagon_at(alloc: Global, world: &World, centre: Node, radius: u16) -> Res
 
 /// Whether the true places of a circle are those of an arc.
 fn is_arc(circle: &[bool]) -> bool
-    requires { length circle.now ≤ 1000 }
+    requires { length circle.now ≤ most_places }
     ensures { Decides result (IsArc (place circle.now) (length circle.now)) }
 {
     for from in 0..circle.len() {
@@ -160,7 +160,7 @@ fn is_arc(circle: &[bool]) -> bool
 
 /// Whether the true places of a circle are the first so many from one on.
 fn is_arc_from(circle: &[bool], from: usize) -> bool
-    requires few { length circle.now ≤ 1000 }
+    requires few { length circle.now ≤ most_places }
     requires below { from < length circle.now }
     ensures { Decides result ((n : ℕ) × AreFirst (place circle.now) (length circle.now) from n) }
 {
@@ -174,7 +174,7 @@ fn is_arc_from(circle: &[bool], from: usize) -> bool
 
 /// Whether the true places of a circle are this many, the first from one on.
 fn are_first(circle: &[bool], from: usize, count: usize) -> bool
-    requires few { length circle.now ≤ 1000 }
+    requires few { length circle.now ≤ most_places }
     requires below { from < length circle.now }
     ensures { Decides result (AreFirst (place circle.now) (length circle.now) from count) }
 {

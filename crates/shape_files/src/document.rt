@@ -1,6 +1,5 @@
 //! Whole documents.
 
-ghost use Rattle.std.specs.Prelude.{◌≡◌};
 ghost use Rattle.text_tokens.specs.declared.refusal.RefusalKind.TheVariants.{Trailing};
 ghost use Rattle.text_tokens.specs.Text.{IsCountable};
 ghost use Rattle.text_tokens.specs.Steps.{ReadsInput, Gives};

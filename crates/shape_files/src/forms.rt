@@ -1,6 +1,5 @@
 //! The forms, section by section.
 
-ghost use Rattle.std.specs.Prelude.{◌≡◌};
 ghost use Rattle.text_tokens.specs.Steps.{Gives};
 ghost use Rattle.shape_files.specs.Views.{contents};
 ghost use Rattle.shape_files.specs.Straight.{needed, optional, callers, record_behind, behind_program, straight};

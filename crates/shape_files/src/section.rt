@@ -1,6 +1,5 @@
 //! Each section, in the state that those before it gave.
 
-ghost use Rattle.std.specs.Prelude.{◌≡◌};
 ghost use Rattle.text_tokens.specs.Steps.{Gives};
 ghost use Rattle.document_grammar.specs.DocumentReaders.{a_checked_program, body};
 ghost use Rattle.shape_files.specs.Views.{contents};

@@ -9,6 +9,7 @@ use Rattle.std.proofs.lemmas.Option.{slice_get_within, slice_get-map}
 use Rattle.text_tokens.specs.declared.refusal.Refusal.{Refusal}
 use Rattle.text_tokens.specs.declared.refusal.RefusalKind.{RefusalKind}
 use Rattle.text_tokens.specs.declared.refusal.RefusalKind.TheVariants as kind
+use Rattle.text_tokens.specs.Cursor.{on_line}
 use Rattle.tri_lattice.specs.Extent.{Extent, is_in}
 use Rattle.amoebot_state.specs.declared.bot.Bot.{Bot}
 use Rattle.amoebot_state.specs.declared.refusal.WorldRefusal.{WorldRefusal}
@@ -16,7 +17,7 @@ use Rattle.amoebot_state.specs.declared.refusal.WorldRefusal.TheVariants as worl
 use Rattle.amoebot_state.specs.Configs.{Config, config_of, with_bot, occupant, is_close, has_values}
 use Rattle.amoebot_state.specs.Refusals.{bot_fault, IsPlain, IsFaultless, IsFirstFault}
 use Rattle.shape_text.specs.declared.shape.WrittenBot as code_bot
-use Rattle.shape_text.specs.Shapes.{WrittenBot, WrittenShape, kind_of, on_line, broken, first_broken, bot_in, wrong}
+use Rattle.shape_text.specs.Shapes.{WrittenBot, WrittenShape, kind_of, broken, first_broken, bot_in, wrong}
 use Rattle.shape_text.specs.Judgements.{JudgedAsWorlds}
 use Rattle.shape_text.specs.Views as view
 use Rattle.shape_text.specs.Views.{blamed}

@@ -2,3 +2,4 @@ pub mod Judging
 pub mod NextLines
 pub mod ShapeLaws
 pub mod ShapesReread
+pub mod WithinLimits

@@ -12,10 +12,10 @@ use Rattle.text_tokens.proofs.Beginnings.{starts_judged}
 use Rattle.text_tokens.proofs.Repeating.{part_repeated}
 use Rattle.text_tokens.proofs.Distinguishing.{other_text, a_numeral}
 use Rattle.text_tokens.proofs.Joining.{one_behind, into, starts_behind, starts_into}
-use Rattle.journal_text.specs.Parts.{word, is_end, IsWord, IsBotText}
+use Rattle.journal_text.specs.Parts.{word, is_end, one_more, IsWord, IsBotText}
 use Rattle.journal_text.specs.Readers.{a_word, a_bot}
 use Rattle.journal_text.proofs.PartLaws.{up_to_end, starts_word, part_word, part_word_within, starts_word_within, part_int, part_bot}
-use Rattle.shape_text.specs.Shapes.{outside, IsSide, an_area_of, IsAreaLine, is_bot, written_bot, past_bots, IsBotWord, IsBotLine, one_more, AreBots, WrittenShape, written_shape, IsWritten, wrong, stands_for, IsShapeUnder, IsShape, IsFinal}
+use Rattle.shape_text.specs.Shapes.{outside, IsSide, an_area_of, IsAreaLine, is_bot, written_bot, past_bots, IsBotWord, IsBotLine, AreBots, WrittenShape, written_shape, IsWritten, wrong, stands_for, IsShapeUnder, IsShape, IsFinal}
 use Rattle.shape_text.specs.Readers.{a_side, an_area, bot_word, a_bot_line, bots_from, a_drawing, written, shape_under, a_shape, a_final}
 
 -- ---- the area

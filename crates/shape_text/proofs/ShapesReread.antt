@@ -1,16 +1,14 @@
 -- The text of a shape is read as its configuration.
 use Rattle.std.proofs.Common.{◌≡◌, ℕ, ℤ, pos, negsuc, zero, suc, ◌+◌, ◌<◌, ◌≤◌, true, List, [], ◌∷◌, ◌++◌, length, map, Option, Some, None, Ok, codes, refl, sym, ap, subst, ◌∙◌, arith}
-use Rattle.std.specs.Prelude.{◌≤ℤ◌, ◌-ℤ◌, decimal, nat_le, slice_index, slice_index_or, IsTrue}
+use Rattle.std.specs.Prelude.{◌≤ℤ◌, decimal, nat_le, slice_index_or}
 use Rattle.std.specs.Fmt.{signed_decimal}
 use Rattle.std.specs.Option.{IsSome}
 use Rattle.std.specs.List.{All}
-use Rattle.std.proofs.lemmas.List.{get_or_default, get_or-map, length-map}
+use Rattle.std.proofs.lemmas.List.{get_or-map, length-map}
 use Rattle.std.proofs.lemmas.List.Elements.{All-head, All-tail}
-use Rattle.std.proofs.lemmas.Bool.{leb-true, le-leb, and_parts}
+use Rattle.std.proofs.lemmas.Bool.{le-leb}
 use Rattle.std.proofs.lemmas.Int.{ints}
-use Rattle.tri_lattice.specs.declared.node.Node.{Node}
-use Rattle.tri_lattice.specs.Extent.{Extent, IsArea, is_in}
-use Rattle.tri_lattice.proofs.Boxes.{in_places}
+use Rattle.tri_lattice.specs.Extent.{Extent, IsArea}
 use Rattle.text_tokens.specs.declared.token.TokenKind.TheVariants.{Word}
 use Rattle.text_tokens.specs.declared.refusal.Refusal.{Refusal}
 use Rattle.text_tokens.specs.Text.{Lexeme}
@@ -19,21 +17,22 @@ use Rattle.text_tokens.specs.Reading.{value}
 use Rattle.text_tokens.specs.Grammar.{Lang, Closed, Judged, no_more}
 use Rattle.text_tokens.proofs.PrintedTokens.{word_is_token}
 use Rattle.amoebot_state.specs.declared.bot.Bot.{Bot}
-use Rattle.amoebot_state.specs.Configs.{Config, config_of, IsValid, bot_at, has_values}
+use Rattle.amoebot_state.specs.Configs.{Config, config_of, IsValid, bot_at}
 use Rattle.amoebot_state.specs.Limits.{most_bots}
 use Rattle.amoebot_state.proofs.Faults.{valid_is_faultless}
-use Rattle.journal_text.specs.Parts.{is_end, IsWord}
+use Rattle.journal_text.specs.Parts.{is_end, one_more, IsWord}
 use Rattle.journal_text.specs.JournalRows.{Says}
-use Rattle.journal_text.specs.Rereading.{size, HasCoordinates, HasLimits}
-use Rattle.text_tokens.proofs.Respelling.{Is, Any, Rereads, RereadsLines, rereads_then, rereads_next, rereads_made, rereads_as, rereads_number, rereads_behind, one_rereads, one_found, the_passes, found_judged, found_made, rereads_the, reread_line, lines_into, lines_made, lines_then, lines_next, lines_behind_line, lines_nothing, more_of}
+use Rattle.journal_text.specs.Rereading.{size, HasLimits}
+use Rattle.text_tokens.proofs.Respelling.{Is, Any, Rereads, RereadsLines, rereads_then, rereads_next, rereads_made, rereads_as, rereads_number, rereads_behind, one_rereads, one_found, the_passes, found_judged, found_made, rereads_the, reread_line, lines_by, lines_into, lines_made, lines_then, lines_next, lines_behind_line, lines_nothing, more_of}
 use Rattle.text_tokens.proofs.Stepping.{not_past}
 use Rattle.journal_text.proofs.Saying.{lines_say}
 use Rattle.journal_text.proofs.JournalsReread.{the_word, an_int, a_bot}
-use Rattle.shape_text.specs.Shapes.{outside, IsSide, an_area_of, IsAreaLine, WrittenBot, written_bot, bot_in, IsBotWord, IsBotLine, one_more, AreBots, WrittenShape, written_shape, wrong, stands_for, IsShapeUnder}
+use Rattle.shape_text.specs.Shapes.{outside, IsSide, an_area_of, IsAreaLine, WrittenBot, written_bot, bot_in, IsBotWord, IsBotLine, AreBots, WrittenShape, written_shape, wrong, stands_for, IsShapeUnder}
 use Rattle.shape_text.specs.Texts.{area_words, bot_line, present, shape_text}
 use Rattle.shape_text.specs.Rereading.{IsWritable, ShapesReadBack}
 use Rattle.shape_text.proofs.Judging.{faultless_fits}
 use Rattle.shape_text.proofs.ShapeLaws.{Drawing}
+use Rattle.shape_text.proofs.WithinLimits.{has_coordinates, small_values}
 
 -- ---- the area
 
@@ -57,10 +56,6 @@ the_area a is =
 
 -- ---- the amoebots
 
--- of what was found something weaker holds
-lines_weaker : {A : Type 0} {P : Lang A} {R S : A → Type 0} (lines : List Words) → ((a : A) → R a → S a) → RereadsLines P R lines → RereadsLines P S lines
-lines_weaker lines f p = record { spelled = p.spelled; printed = p.printed; read = λ ts s. (let f0 = p.read ts s in record { value = f0.value; whole = f0.whole; holds = f f0.value f0.holds }) }
-
 module _ (vars : ℕ) (le : vars ≤ 8) where
   abbrev Its : Bot → WrittenBot → Type 0
   Its b w = bot_in w ≡ b
@@ -77,7 +72,7 @@ module _ (vars : ℕ) (le : vars ≤ 8) where
       rereads_behind (codes "bot" ∷ []) _ (the_bot_word before lt) p.spelled p.printed (λ line x ts s. found_made (λ b. written_bot line b) (λ c e. e) ts (p.read ts s))
 
   the_bots : (before : ℕ) (bs : List Bot) → before + length bs ≤ most_bots → All (HasLimits vars) bs → RereadsLines (AreBots vars before) (These bs) (map (bot_line vars) bs)
-  the_bots before [] fit all = lines_weaker [] (λ ws e. ap (map bot_in) e) (lines_nothing [] no_more)
+  the_bots before [] fit all = lines_by {A = List WrittenBot} {B = List WrittenBot} {P = AreBots vars before} {Q = AreBots vars before} {R = Is []} {S = These []} {lines = []} (λ ws. ws) (λ xs ws p. p) (λ ws e. ap (map bot_in) e) (lines_nothing [] no_more)
   the_bots before (b ∷ bs) fit all =
       let more = the_bots (suc before) bs (omega arith) (All-tail (HasLimits vars) b bs all) in
       let one = reread_line (bot_line vars b) (the_bot before (omega arith) b (All-head (HasLimits vars) b bs all)) in
@@ -126,52 +121,6 @@ all_present [] some = refl
 all_present (Some b ∷ os) some = ap (λ (rest : List (Option Bot)). Some b ∷ rest) (all_present os (λ i lt. some (suc i) (omega arith)))
 all_present (None ∷ os) some = absurd (let is = some zero (omega arith) in cc)
 
-near_start : (z x0 : ℤ) (i : ℕ) → negsuc 4095 ≤ℤ x0 → x0 ≤ℤ pos 4096 → z -ℤ x0 ≡ pos i → i < 128 → size z ≤ 9999
-near_start (pos n) x0 i low high e lt = omega (arith, ints)
-near_start (negsuc n) x0 i low high e lt = omega (arith, ints)
-
-coordinates : (a : Extent) (v : Node) → IsArea a → IsTrue (is_in a v) → HasCoordinates v
-coordinates a v area e =
-    let (i, j, x, in_w, y, in_h) = in_places a v e in
-    record { x = near_start v.x a.x0 i area.x_low area.x_high x (let h = area.w_high in omega arith); y = near_start v.y a.y0 j area.y_low area.y_high y (let h = area.h_high in omega arith) }
-
--- values that are not above maxima of at most 255
-module _ (maxes mem : List ℕ) (eight : length mem ≡ 8) (most : length maxes ≡ 8) (bytes : All (λ m. m ≤ 255) maxes) (has : has_values maxes mem ≡ true) where
-  abbrev Fits : ℕ → Type 0
-  Fits k = nat_le (slice_index mem k) (slice_index maxes k) ≡ true
-
-  each : (k : ℕ) → k < 8 → Fits k
-  each k lt =
-      let a = and_parts _ _ has in
-      let b = and_parts _ _ a.1 in
-      let c = and_parts _ _ b.1 in
-      let d = and_parts _ _ c.1 in
-      let e = and_parts _ _ d.1 in
-      let f = and_parts _ _ e.1 in
-      let g = and_parts _ _ f.1 in
-      let h = and_parts _ _ g.1 in
-      of_eight k lt a.0 b.0 c.0 d.0 e.0 f.0 g.0 h.0
-    where
-      of_eight : (k : ℕ) → k < 8 → Fits 0 → Fits 1 → Fits 2 → Fits 3 → Fits 4 → Fits 5 → Fits 6 → Fits 7 → Fits k
-      of_eight zero lt a b c d e f g h = a
-      of_eight (suc zero) lt a b c d e f g h = b
-      of_eight (suc (suc zero)) lt a b c d e f g h = c
-      of_eight (suc (suc (suc zero))) lt a b c d e f g h = d
-      of_eight (suc (suc (suc (suc zero)))) lt a b c d e f g h = e
-      of_eight (suc (suc (suc (suc (suc zero))))) lt a b c d e f g h = f
-      of_eight (suc (suc (suc (suc (suc (suc zero)))))) lt a b c d e f g h = g
-      of_eight (suc (suc (suc (suc (suc (suc (suc zero))))))) lt a b c d e f g h = h
-      of_eight (suc (suc (suc (suc (suc (suc (suc (suc k)))))))) lt a b c d e f g h = absurd (omega arith)
-
-  few_bits : All (λ v. v ≤ 255) mem
-  few_bits k d lt =
-      let inside : k < 8 = omega arith in
-      let there : k < length maxes = omega arith in
-      let le = leb-true (slice_index mem k) (slice_index maxes k) (each k inside) in
-      let top = bytes k 0 there in
-      let same = get_or_default mem k d 0 lt in
-      omega arith
-
 module _ (vars : ℕ) (c : Config) (w : IsWritable vars c) where
   abbrev bots : List Bot
   bots = present c.bots
@@ -186,11 +135,11 @@ module _ (vars : ℕ) (c : Config) (w : IsWritable vars c) where
   limits_of k b at =
       let i = w.valid.each k b at in
       record {
-        head = coordinates c.area b.head w.valid.area i.head;
-        tail = coordinates c.area b.tail w.valid.area i.tail;
+        head = has_coordinates c.area b.head w.valid.area i.head;
+        tail = has_coordinates c.area b.tail w.valid.area i.tail;
         rot = (let r = i.rot in omega arith);
         eight = i.eight;
-        values = few_bits c.maxes b.mem i.eight w.valid.eight w.maxes i.values;
+        values = small_values c.maxes b.mem i.values i.eight w.valid.eight w.maxes;
         zeros = w.zeros k b at;
       }
 

@@ -1,9 +1,10 @@
 -- What is wrong with a shape is what a world refuses.
 use Rattle.std.specs.Prelude.{◌≡◌, ℕ, List, Some, None, length, map, slice_get}
 use Rattle.text_tokens.specs.declared.refusal.RefusalKind.{RefusalKind}
+use Rattle.text_tokens.specs.Cursor.{on_line}
 use Rattle.amoebot_state.specs.declared.refusal.WorldRefusal.{WorldRefusal}
 use Rattle.amoebot_state.specs.Refusals.{IsFaultless, IsFirstFault}
-use Rattle.shape_text.specs.Shapes.{WrittenBot, WrittenShape, bot_in, kind_of, on_line, wrong}
+use Rattle.shape_text.specs.Shapes.{WrittenBot, WrittenShape, bot_in, kind_of, wrong}
 
 -- Nothing where no amoebot breaks a rule of worlds; else the first rule that the first one breaks, on the line of its word.
 pub record JudgedAsWorlds : Type 0 where

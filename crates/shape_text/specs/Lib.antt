@@ -1,5 +1,4 @@
 pub mod Judgements
-pub mod Limits
 pub mod Readers
 pub mod Rereading
 pub mod ShapeRows

@@ -3,20 +3,19 @@ use Rattle.std.specs.Prelude.{ℕ, ℤ, pos, negsuc, List, [], ◌∷◌, ◌++�
 use Rattle.tri_lattice.specs.Extent.{Extent}
 use Rattle.text_tokens.specs.declared.refusal.RefusalKind.{RefusalKind}
 use Rattle.text_tokens.specs.declared.refusal.RefusalKind.TheVariants.{BadByte, WordTooLong, Unexpected, TooMany, Truncated, BadRange, OutOfBox, Overlap, NotAdjacent, BadValue, Trailing}
+use Rattle.text_tokens.specs.Cursor.{on_line}
 use Rattle.amoebot_state.specs.declared.bot.Bot.{Bot}
 use Rattle.amoebot_state.specs.declared.bot.Chir.{Chir}
 use Rattle.amoebot_state.specs.declared.bot.Chir.TheVariants.{Plus, Minus}
 use Rattle.amoebot_state.specs.Configs.{config_of}
+use Rattle.amoebot_state.specs.Samples.{eight_by_eight, zeros}
 use Rattle.journal_text.specs.Parts.{a_node_of, a_bot_of}
-use Rattle.journal_text.specs.JournalRows.{Says, at}
+use Rattle.journal_text.specs.JournalRows.{Says}
 use Rattle.shape_text.specs.Shapes.{an_area_of, written_bot, AreBots, IsShape, IsFinal}
 
--- the maxima of the variables, and those where there are none
+-- the maxima of the variables: of one, and of eight
 abbrev pub up_to_3 : List ℕ
 up_to_3 = 3 ∷ 0 ∷ 0 ∷ 0 ∷ 0 ∷ 0 ∷ 0 ∷ 0 ∷ []
-
-abbrev pub all_zero : List ℕ
-all_zero = 0 ∷ 0 ∷ 0 ∷ 0 ∷ 0 ∷ 0 ∷ 0 ∷ 0 ∷ []
 
 abbrev pub rising : List ℕ
 rising = 1 ∷ 2 ∷ 3 ∷ 4 ∷ 5 ∷ 6 ∷ 7 ∷ 255 ∷ []
@@ -31,14 +30,11 @@ Yields text area bots = Says (IsShape 1 up_to_3) text (Ok (config_of area up_to_
 
 -- a text with this first fault
 abbrev pub Fails : List ℕ → ℕ → RefusalKind → Type 0
-Fails text line kind = Says (IsShape 1 up_to_3) text (Err (at line kind))
+Fails text line kind = Says (IsShape 1 up_to_3) text (Err (on_line line kind))
 
 -- the same of a text with an area of 8 by 8 nodes from (0, 0) on, and from line 3 on what follows
 abbrev pub FailsIn : List ℕ → ℕ → RefusalKind → Type 0
 FailsIn text line kind = Fails (codes "shape\narea 0 0 8 8\n" ++ text) line kind
-
-abbrev pub eight_by_eight : Extent
-eight_by_eight = an_area_of (pos 0) (pos 0) 8 8
 
 pub record ShapesAreRead : Type 0 where
   -- ---- texts
@@ -50,7 +46,7 @@ pub record ShapesAreRead : Type 0 where
       (bot (negsuc 4095) (pos 4096) (negsuc 4095) (pos 4096) 0 Plus (0 ∷ []) ∷ bot (negsuc 3968) (pos 4096) (negsuc 3969) (pos 4096) 0 Plus (0 ∷ []) ∷ [])
   pub right_below : Yields (codes "shape area 4096 -4096 1 128 bot 4096 -3969 4096 -3969 0 + 0 end") (an_area_of (pos 4096) (negsuc 4095) 1 128) (bot (pos 4096) (negsuc 3968) (pos 4096) (negsuc 3968) 0 Plus (0 ∷ []) ∷ [])
   -- no variable, and eight
-  pub no_value : Says (IsShape 0 all_zero) (codes "shape area 0 0 8 8 bot 2 3 2 3 0 + end") (Ok (config_of eight_by_eight all_zero (bot (pos 2) (pos 3) (pos 2) (pos 3) 0 Plus [] ∷ [])))
+  pub no_value : Says (IsShape 0 zeros) (codes "shape area 0 0 8 8 bot 2 3 2 3 0 + end") (Ok (config_of eight_by_eight zeros (bot (pos 2) (pos 3) (pos 2) (pos 3) 0 Plus [] ∷ [])))
   pub eight_values : Says (IsShape 8 rising) (codes "shape area 0 0 8 8 bot 2 3 2 3 0 + 1 2 3 4 5 6 7 255 end") (Ok (config_of eight_by_eight rising (bot (pos 2) (pos 3) (pos 2) (pos 3) 0 Plus rising ∷ [])))
   pub last_shape : Says (IsFinal 1 up_to_3) (codes "final area 0 0 8 8 bot 2 3 2 3 0 + 1 end") (Ok (config_of eight_by_eight up_to_3 (bot (pos 2) (pos 3) (pos 2) (pos 3) 0 Plus (1 ∷ []) ∷ [])))
   -- the last amoebot that a shape may have
@@ -68,9 +64,9 @@ pub record ShapesAreRead : Type 0 where
   pub coordinate_10000 : FailsIn (codes "bot\n10000 3 2 3 0 + 0 end") 4 BadRange
   pub rotation_6 : FailsIn (codes "bot 2 3 2 3\n6 + 0 end") 4 BadRange
   pub value_256 : FailsIn (codes "bot 2 3 2 3 0 +\n256 end") 4 BadRange
-  pub one_too_many : Says (AreBots 0 4095) (codes "bot 0 0 0 0 0 +\nbot 0 0 0 0 0 +") (Err (at 2 TooMany))
+  pub one_too_many : Says (AreBots 0 4095) (codes "bot 0 0 0 0 0 +\nbot 0 0 0 0 0 +") (Err (on_line 2 TooMany))
   -- before what else is wrong with it
-  pub one_too_many_first : Says (AreBots 0 4096) (codes "bot\n10000 0 0 0 0 +") (Err (at 1 TooMany))
+  pub one_too_many_first : Says (AreBots 0 4096) (codes "bot\n10000 0 0 0 0 +") (Err (on_line 1 TooMany))
   -- ---- amoebots that break a rule
   pub head_right_of_it : FailsIn (codes "bot\n8 3 7 3 0 + 0 end") 3 OutOfBox
   pub head_above_it : FailsIn (codes "bot 0 8 0 7 0 + 0 end") 3 OutOfBox
@@ -82,7 +78,7 @@ pub record ShapesAreRead : Type 0 where
   pub tail_on_tail : FailsIn (codes "bot 3 3 2 3 0 + 0\nbot 2 4 2 3 0 + 0 end") 4 Overlap
   pub value_4 : FailsIn (codes "bot\n2 3 2 3 0 +\n4 end") 3 BadValue
   -- no variable, and a value above 0
-  pub no_maximum : Says (IsShape 1 all_zero) (codes "shape area 0 0 8 8\nbot 2 3 2 3 0 + 1 end") (Err (at 2 BadValue))
+  pub no_maximum : Says (IsShape 1 zeros) (codes "shape area 0 0 8 8\nbot 2 3 2 3 0 + 1 end") (Err (on_line 2 BadValue))
   -- ---- the first rule of an amoebot
   pub box_before_adjacent : FailsIn (codes "bot 9 3 2 3 0 + 4 end") 3 OutOfBox
   pub adjacent_before_overlap : FailsIn (codes "bot 2 3 2 3 0 + 0\nbot 2 3 4 3 0 + 4 end") 4 NotAdjacent
@@ -101,7 +97,7 @@ pub record ShapesAreRead : Type 0 where
   pub rule_before_byte : FailsIn (codes "bot 9 3 9 3 0 + 0 end\n,") 3 OutOfBox
   -- ---- tokens that do not belong there
   pub other_word : Fails (codes "final area 0 0 8 8 end") 1 Unexpected
-  pub other_word_of_the_last : Says (IsFinal 1 up_to_3) (codes "shape area 0 0 8 8 end") (Err (at 1 Unexpected))
+  pub other_word_of_the_last : Says (IsFinal 1 up_to_3) (codes "shape area 0 0 8 8 end") (Err (on_line 1 Unexpected))
   pub no_area : Fails (codes "shape\nbot 2 3 2 3 0 + 0 end") 2 Unexpected
   pub three_numbers : Fails (codes "shape area 0 0 8\nend") 2 Unexpected
   pub five_numbers : Fails (codes "shape area 0 0 8 8\n8 end") 2 Unexpected

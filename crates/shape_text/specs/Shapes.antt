@@ -5,23 +5,23 @@
 --   bot   := "bot" amoebot
 -- The ids of the amoebots are their places. A beginning farther than 4,096 from 0 and a side that is not 1 to 128 is a BadRange, and the 4,097th `bot` is TooMany.
 -- Behind `end` the amoebots are judged by rising id, as a world judges them: the first that breaks a rule is refused at its word, for the first rule that it breaks.
-use Rattle.std.specs.Prelude.{ℕ, suc, ℤ, Bool, ◌&&◌, nat_le, nat_lt, if◌then◌else◌, List, [], ◌∷◌, Option, Some, None, map, codes}
-use Rattle.std.specs.Option.{option_map, option_and_then}
-use Rattle.tri_lattice.specs.Extent.{Extent}
+use Rattle.std.specs.Prelude.{ℕ, ℤ, Bool, ◌&&◌, nat_le, if◌then◌else◌, List, [], ◌∷◌, Option, Some, None, map, codes}
+use Rattle.std.specs.Option.{option_map, option_and_then, option_or}
+use Rattle.tri_lattice.specs.Extent.{Extent, most_start, most_side}
 use Rattle.text_tokens.specs.declared.refusal.Refusal.{Refusal}
 use Rattle.text_tokens.specs.declared.refusal.RefusalKind.{RefusalKind}
 use Rattle.text_tokens.specs.declared.refusal.RefusalKind.TheVariants as kind
 use Rattle.text_tokens.specs.Text.{Lexeme}
+use Rattle.text_tokens.specs.Cursor.{on_line}
 use Rattle.text_tokens.specs.Reading.{value}
-use Rattle.text_tokens.specs.Grammar.{Lang, IsOne, Then, Made, IsNumeral, Closed, Judged, Repeated, or_else}
+use Rattle.text_tokens.specs.Grammar.{Lang, IsOne, Then, Made, IsNumeral, Closed, Judged, Repeated}
 use Rattle.amoebot_state.specs.declared.bot.Bot.{Bot}
 use Rattle.amoebot_state.specs.declared.refusal.WorldRefusal.{WorldRefusal}
 use Rattle.amoebot_state.specs.declared.refusal.WorldRefusal.TheVariants as world
 use Rattle.amoebot_state.specs.Configs.{Config, config_of, with_bot}
 use Rattle.amoebot_state.specs.Limits.{most_bots}
 use Rattle.amoebot_state.specs.Refusals.{bot_fault}
-use Rattle.journal_text.specs.Parts.{word, is_end, IsWord, IsInt, IsBotText}
-use Rattle.shape_text.specs.Limits.{most_start, most_side}
+use Rattle.journal_text.specs.Parts.{word, is_end, past_most, one_more, IsWord, IsInt, IsBotText}
 
 -- ---- the area
 
@@ -53,7 +53,7 @@ written_bot line b = record { line = line; bot = b }
 
 -- one amoebot too many, behind so many
 abbrev pub past_bots : ℕ → Lexeme → Option RefusalKind
-past_bots before t = if nat_lt before most_bots then None else Some kind.TooMany
+past_bots before t = past_most most_bots before t
 
 -- the word of an amoebot behind so many, for its line
 abbrev pub IsBotWord : ℕ → Lang ℕ
@@ -62,9 +62,6 @@ IsBotWord before = Made (IsOne is_bot (past_bots before)) (λ t. t.line)
 -- an amoebot with the values of so many variables, behind so many
 abbrev pub IsBotLine : ℕ → ℕ → Lang WrittenBot
 IsBotLine vars before = Then (IsBotWord before) (λ line. Made (IsBotText vars) (λ b. written_bot line b))
-
-abbrev pub one_more : ℕ → WrittenBot → ℕ
-one_more before b = suc before
 
 abbrev pub AreBots : ℕ → ℕ → Lang (List WrittenBot)
 AreBots vars before = Repeated (IsBotLine vars) one_more before
@@ -79,9 +76,6 @@ kind_of (world.Overlap id) = Some kind.Overlap
 kind_of (world.BadValue id) = Some kind.BadValue
 kind_of world.NoMemory = None
 
-abbrev pub on_line : ℕ → RefusalKind → Refusal
-on_line line k = record { line = line; kind = k }
-
 -- the rule that the next amoebot breaks beside those that are there
 abbrev pub broken : Config → WrittenBot → Option Refusal
 broken c b = option_map (on_line b.line) (option_and_then kind_of (bot_fault c b.bot))
@@ -89,7 +83,7 @@ broken c b = option_map (on_line b.line) (option_and_then kind_of (bot_fault c b
 -- the first rule that is broken, by rising id
 abbrev pub first_broken : Config → List WrittenBot → Option Refusal
 first_broken c [] = None
-first_broken c (b ∷ bs) = or_else (broken c b) (first_broken (with_bot c b.bot) bs)
+first_broken c (b ∷ bs) = option_or (broken c b) (first_broken (with_bot c b.bot) bs)
 
 -- ---- the sections
 

@@ -3,8 +3,9 @@ use Rattle.std.specs.Prelude.{◌≡◌, pos, negsuc, [], ◌∷◌, codes}
 use Rattle.amoebot_state.specs.declared.bot.Bot.{Bot}
 use Rattle.amoebot_state.specs.declared.bot.Chir.TheVariants.{Plus, Minus}
 use Rattle.amoebot_state.specs.Configs.{config_of}
+use Rattle.amoebot_state.specs.Samples.{eight_by_eight}
 use Rattle.shape_text.specs.Shapes.{an_area_of}
-use Rattle.shape_text.specs.ShapeRows.{rising, eight_by_eight, bot}
+use Rattle.shape_text.specs.ShapeRows.{rising, bot}
 use Rattle.shape_text.specs.Texts.{shape_text}
 
 -- an amoebot with two values

@@ -4,12 +4,13 @@ use Rattle.text_tokens.specs.declared.refusal.RefusalKind.{RefusalKind}
 use Rattle.text_tokens.specs.declared.refusal.RefusalKind.TheVariants as kind
 use Rattle.text_tokens.specs.declared.refusal.ReadRefusal.{ReadRefusal}
 use Rattle.text_tokens.specs.declared.refusal.ReadRefusal.TheVariants.{Refused, NoMemory}
+use Rattle.text_tokens.specs.Cursor.{on_line}
 use Rattle.amoebot_state.specs.declared.refusal.WorldRefusal.{WorldRefusal}
 use Rattle.amoebot_state.specs.declared.refusal.WorldRefusal.TheVariants as world
 use Rattle.amoebot_state.specs.Configs.{Config}
 use Rattle.shape_text.specs.declared.shape.WrittenBot as code_bot
 use Rattle.shape_text.specs.declared.shape.WrittenShape as code_shape
-use Rattle.shape_text.specs.Shapes.{WrittenBot, WrittenShape, written_bot, written_shape, wrong, stands_for, on_line}
+use Rattle.shape_text.specs.Shapes.{WrittenBot, WrittenShape, written_bot, written_shape, wrong, stands_for}
 
 abbrev pub bot : code_bot.WrittenBot → WrittenBot
 bot b = written_bot b.line b.bot

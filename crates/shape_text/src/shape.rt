@@ -1,12 +1,12 @@
 //! The sections `shape` and `final` read.
 
-ghost use Rattle.std.specs.Prelude.{◌≡◌, ◌<◌, ◌≤◌, ◌⊎◌, codes, length, map, option_map, slice_get, vec_len, IfOk, IfErr, IfSome};
+ghost use Rattle.std.specs.Prelude.{◌≡◌, ◌<◌, ◌≤◌, length, map, option_map, vec_len, IfOk, IfErr, IfSome};
 ghost use Rattle.std.specs.List.{All};
-ghost use Rattle.text_tokens.specs.declared.refusal.ReadRefusal.TheVariants.{NoMemory, Refused};
+ghost use Rattle.text_tokens.specs.declared.refusal.ReadRefusal.TheVariants.{NoMemory};
 ghost use Rattle.text_tokens.specs.Steps.{Gives, ReadsOf, TellsOf, another};
 ghost use Rattle.amoebot_state.specs.Limits.{most_bots, most_vars};
 ghost use Rattle.amoebot_state.specs.Refusals.{IsPlain};
-ghost use Rattle.shape_text.specs.Limits.{most_side};
+ghost use Rattle.tri_lattice.specs.Extent.{most_side};
 ghost use Rattle.shape_text.specs.Shapes as spec;
 ghost use Rattle.shape_text.specs.Readers as reader;
 ghost use Rattle.shape_text.specs.Views as view;

@@ -1,8 +1,8 @@
 //! The parts of programs, all on line 0.
 
-ghost use Rattle.std.specs.Prelude.{◌≡◌, ◌∷◌, [], true, false, map, codes, IfOk};
+ghost use Rattle.std.specs.Prelude.{◌≡◌, ◌∷◌, [], false, codes, IfOk};
 ghost use Rattle.action_tree.specs.Trees as tree;
-ghost use Rattle.action_tree.specs.Views.{name_of, literal_of, guard_of, port_of, term_of, part_of, sum_of, stmt_of, stmts_of, move_of, var_of, action_of};
+ghost use Rattle.action_tree.specs.Views.{name_of, literal_of, guard_of, port_of, term_of, sum_of, stmt_of, stmts_of, move_of, var_of, action_of};
 ghost use Rattle.action_tree.specs.declared.expression.PortSet.TheVariants.{Ports};
 ghost use Rattle.action_tree.specs.Samples as sample;
 
@@ -95,6 +95,13 @@ pub(crate) fn put(alloc: Global, name: Word, term: Term) -> Result<Stmt, AllocEr
     ensures { IfOk result (λ s. stmt_of s ≡ tree.put (name_of name) (sample.one (term_of term))) }
 {
     Ok(Stmt::Put(name, one(alloc, term)?))
+}
+
+/// `NAME := NUMBER`
+pub(crate) fn set_to(alloc: Global, name: Word, value: u32) -> Result<Stmt, AllocError>
+    ensures { IfOk result (λ s. stmt_of s ≡ tree.put (name_of name) (sample.one (tree.number (sample.literal value)))) }
+{
+    put(alloc, name, Term::Number(literal(value)))
 }
 
 /// `var NAME NUMBER`

@@ -7,7 +7,7 @@ ghost use Rattle.action_tree.specs.declared.expression.PortSet.TheVariants.{Port
 ghost use Rattle.action_tree.specs.Samples as sample;
 ghost use Rattle.shipped_programs.specs.Shipped.{run_ends, erode_guard, erode_body};
 
-use crate::build::{action, both, is, literal, not, p, put, some_port, turned, var};
+use crate::build::{action, both, is, not, p, set_to, some_port, turned, var};
 use action_tree::{Action, Guard, Move, PortExpr, PortSet, Program, Stmt, Term, Var, Word};
 use std::alloc::{AllocError, Global};
 
@@ -58,7 +58,7 @@ fn lead(alloc: Global) -> Result<Action, AllocError>
         is(alloc, Term::Own(leader()), 0)?,
         not(alloc, others)?,
     ]?);
-    let body = vec![in alloc; put(alloc, leader(), Term::Number(literal(1)))?]?;
+    let body = vec![in alloc; set_to(alloc, leader(), 1)?]?;
     Ok(action(Word::new(b"lead", 0), guard, body, Move::None))
 }
 
@@ -86,7 +86,7 @@ fn erode_guard(alloc: Global) -> Result<Guard, AllocError>
 fn erode_body(alloc: Global) -> Result<Vec<Stmt>, AllocError>
     ensures { IfOk result (λ ss. map stmt_of ss.items ≡ erode_body) }
 {
-    Ok(vec![in alloc; put(alloc, cand(), Term::Number(literal(0)))?]?)
+    Ok(vec![in alloc; set_to(alloc, cand(), 0)?]?)
 }
 
 /// `count p in ports ( GUARD )`, for the ends of runs

@@ -8,7 +8,8 @@ ghost use Rattle.amoebot_state.specs.declared.bot.End.TheVariants.{Tail};
 ghost use Rattle.shipped_programs.specs.Shipped.{root_guard, root_body, follow_guard, follow_body, retire_guard, retire_body, aimed_at, last_retired, next_is_still, go_guard, room, drag_guard, drag_body, tail_follower, follower_turned, parent_turned, rest_guard, waits, head_follower};
 
 use crate::build::{
-    action, both, either, first_port, is, literal, not, one, p, put, q, some_port, turned, var,
+    action, both, either, first_port, is, literal, not, one, p, put, q, set_to, some_port, turned,
+    var,
 };
 use action_tree::{Action, Cmp, Guard, Move, Part, PortExpr, Program, Stmt, Sum, Term, Var, Word};
 use amoebot_state::End;
@@ -83,13 +84,6 @@ fn in_state(alloc: Global, one: u32, two: u32) -> Result<Guard, AllocError>
     let one = is(alloc, Term::Own(state()), one)?;
     let two = is(alloc, Term::Own(state()), two)?;
     either(alloc, one, two)
-}
-
-/// `NAME := NUMBER`
-fn set_to(alloc: Global, name: Word, value: u32) -> Result<Stmt, AllocError>
-    ensures { IfOk result (λ s. stmt_of s ≡ tree.put (name_of name) (sample.one (tree.number (sample.literal value)))) }
-{
-    put(alloc, name, Term::Number(literal(value)))
 }
 
 /// `p . NAME = peer_dir p`

@@ -1,4 +1,4 @@
-ghost use Rattle.std.specs.Prelude.{◌≡◌, ◌≢◌, IfSome, IfNone, IfOk, MatchOption};
+ghost use Rattle.std.specs.Prelude.{◌≡◌, ◌≢◌, IfSome, IfNone, IfOk};
 ghost use Rattle.shipped_programs.specs.declared.shipped.Shipped.{Shipped};
 ghost use Rattle.shipped_programs.specs.Shipped.{name_of, tree_of, text_of};
 

@@ -7,6 +7,7 @@ use Rattle.std.proofs.lemmas.List.Elements.{All-nil, All-cons}
 use Rattle.tri_lattice.specs.Extent.{IsArea}
 use Rattle.amoebot_state.specs.declared.cell.CellName.TheVariants as name
 use Rattle.amoebot_state.specs.Configs.{Config, IsValid, bot_at}
+use Rattle.amoebot_state.specs.Samples.{zeros}
 use Rattle.amoebot_state.proofs.Faults.{valid_two}
 use Rattle.amoebot_state.proofs.Occupants.{plain_in}
 use Rattle.model_ops.proofs.ExpansionLaws.{expansion_touches_zone, expansion_has_next}
@@ -19,7 +20,7 @@ use Rattle.claim_core.specs.Soundness.{IsSetup}
 use Rattle.claim_core.specs.Good.{Good}
 use Rattle.claim_core.specs.Reached.{HaveEnded, IsReportOf, Reached}
 use Rattle.claim_core.proofs.Ends.{reached_is_good}
-use Rattle.small_worlds.specs.Rows.{row, zeros, node, bot_on, to_the_right, two_beside, interleaving, one_refused, SmallInterleaving}
+use Rattle.small_worlds.specs.Rows.{row, node, bot_on, to_the_right, two_beside, interleaving, one_refused, SmallInterleaving}
 
 pub is_area : IsArea row
 is_area = record {

@@ -12,15 +12,13 @@ use Rattle.amoebot_state.specs.declared.cell.Cell.TheVariants as cell
 use Rattle.amoebot_state.specs.declared.verdict.Entry.{Entry}
 use Rattle.amoebot_state.specs.declared.verdict.Moved.TheVariants as moved
 use Rattle.amoebot_state.specs.Configs.{Config, config_of}
+use Rattle.amoebot_state.specs.Samples.{zeros}
 use Rattle.model_ops.specs.Expansion.{expansion_verdict_shown}
 use Rattle.claim_core.specs.declared.marks.Mark.TheVariants as mark
 use Rattle.claim_core.specs.declared.report.Report.{Report}
 use Rattle.claim_core.specs.Good.{Good}
 use Rattle.claim_core.specs.Machine.{Setup, after}
 use Rattle.claim_core.specs.Reached.{IsReportOf, Reached}
-
-abbrev pub zeros : List ℕ
-zeros = 0 ∷ 0 ∷ 0 ∷ 0 ∷ 0 ∷ 0 ∷ 0 ∷ 0 ∷ []
 
 abbrev pub row : Extent
 row = record { x0 = pos 0; y0 = pos 0; w = 3; h = 1 }

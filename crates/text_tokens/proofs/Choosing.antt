@@ -1,11 +1,12 @@
 -- Choices by the next token.
 use Rattle.std.proofs.Common.{◌≡◌, ℕ, zero, suc, Bool, true, false, cond, List, [], ◌∷◌, ◌++◌, Option, Some, None, Err, refl, sym, ap, subst, ◌∙◌}
 use Rattle.std.proofs.lemmas.Option.{same_Some}
+use Rattle.std.specs.Option.{option_or}
 use Rattle.text_tokens.specs.declared.refusal.Refusal.{Refusal}
 use Rattle.text_tokens.specs.declared.refusal.RefusalKind.{RefusalKind}
 use Rattle.text_tokens.specs.Text.{Lexeme}
 use Rattle.text_tokens.specs.Reading.{Answer, Reader, first, pure, refuse, stop, choose, starts_at, either, optional, role_at, by_role, past_kind, full_at, limited}
-use Rattle.text_tokens.specs.Grammar.{Symbol, symbol, tokens, first_fault, or_else, outcome, Lang, IsNothing, Either, of_first, of_second, IsOptional, past, Limited, in_limit, one_too_many}
+use Rattle.text_tokens.specs.Grammar.{Symbol, symbol, tokens, first_fault, outcome, Lang, IsNothing, Either, of_first, of_second, IsOptional, past, Limited, in_limit, one_too_many}
 use Rattle.text_tokens.specs.Lawful.{Next, GoesOn, Stops, limit, stuck, Tells, Lawful, LawfulAt, Halts, always, IsPart, SomeText, SomeFrom, Starts, limit_at, BeginsNone, IsBranch, IsForeign, IsStopped, IsChoice, IsHandled, handled, no_role, HasRoles}
 use Rattle.text_tokens.proofs.Symbols.{tokens-append}
 use Rattle.text_tokens.proofs.Carrying.{law_carried, law_of_some, unmapped, next_as, whole_as, part_same}
@@ -97,7 +98,7 @@ module _ {A : Type 0} (t : Lexeme) (kind : RefusalKind) (R : Lang A) (s : IsStop
   stopped_next [] x ys zs e fine = (refl, cc)
   stopped_next (z ∷ text) x ys zs e fine =
       let same : z ≡ symbol t (Some kind) = cc in
-      let f : Some why ≡ None = ap (λ (y : Symbol). or_else y.fault (first_fault text)) (sym same) ∙ fine in absurd cc
+      let f : Some why ≡ None = ap (λ (y : Symbol). option_or y.fault (first_fault text)) (sym same) ∙ fine in absurd cc
 
   at_token : (us : List Lexeme) (x : Symbol) (u : Lexeme) (rest : List Lexeme) → Next R us x → x.token ≡ Some u → first (us ++ u ∷ rest) ≡ Some t → (us ≡ []) × (x ≡ symbol t (Some kind))
   at_token us x u rest n e same =

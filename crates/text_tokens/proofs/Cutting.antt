@@ -1,5 +1,6 @@
 -- One token, by the scan and by the definition.
-use Rattle.std.proofs.Common.{◌≡◌, ℕ, suc, ◌+◌, ◌≤◌, Bool, true, false, cond, List, [], ◌∷◌, ◌++◌, length, take, drop, Ok, Err, refl, sym, ap, subst, ◌∙◌, arith, length-append}
+use Rattle.std.proofs.Common.{◌≡◌, ℕ, suc, ◌+◌, ◌≤◌, Bool, true, false, cond, List, [], ◌∷◌, ◌++◌, length, take, drop, Ok, Err, refl, sym, ap, subst, ◌∙◌, arith}
+use Rattle.std.proofs.lemmas.List.Prefix.{front_fits}
 use Rattle.std.proofs.lemmas.List.Sums.{prefix_len-le-length}
 use Rattle.std.proofs.lemmas.Bool.{ltb-false, and_parts}
 use Rattle.std.specs.List.{list_all, count_by, prefix_len}
@@ -134,9 +135,6 @@ begins_none text e = λ kind bytes rest c same. sized_not_bad (nat_lt (most_byte
 bad : (a : ℕ) (text : List ℕ) → front (a ∷ text) ≡ Err BadByte → Front (a ∷ text)
 bad a text e = no_token (begins_none (a ∷ text) e) e (omega arith)
 
-shorter : (text bytes rest other more : List ℕ) → text ≡ other ++ more → length other ≤ length text
-shorter text bytes rest other more e = omega (arith, ap length e, length-append other more)
-
 one_only : (a b : ℕ) (text other more : List ℕ) → is_sign (a ∷ b ∷ []) ≡ false → is_sign other ≡ true → a ∷ b ∷ text ≡ other ++ more → length other ≤ 1
 one_only a b text [] more n e same = absurd cc
 one_only a b text (x ∷ []) more n e same = omega arith
@@ -148,7 +146,7 @@ one_only a b text (x ∷ y ∷ z ∷ other) more n e same = absurd cc
 module _ (a : ℕ) (l : is_letter a ≡ false) (d : is_digit a ≡ false) where
   last_sign : (t : Bool) → is_sign (a ∷ []) ≡ t → Front (a ∷ [])
   unfolding front sign_len
-  last_sign true e = cut Sign 1 (sign e (λ other more s same. shorter (a ∷ []) (a ∷ []) [] other more same)) (omega arith) (rw (l, d, e) refl)
+  last_sign true e = cut Sign 1 (sign e (λ other more s same. front_fits (a ∷ []) other more same)) (omega arith) (rw (l, d, e) refl)
   last_sign false e = bad a [] (rw (l, d, e) refl)
 
   one_sign : (b : ℕ) (text : List ℕ) (t : Bool) → is_sign (a ∷ b ∷ []) ≡ false → is_sign (a ∷ []) ≡ t → Front (a ∷ b ∷ text)

@@ -10,7 +10,7 @@ use Rattle.text_tokens.specs.Reading.{Answer, Reader, first, and_then, ◌>>=◌
 use Rattle.text_tokens.specs.Grammar.{Lang}
 use Rattle.text_tokens.specs.Lawful.{AreElements}
 use Rattle.text_tokens.specs.Steps.{SameSource, another}
-use Rattle.text_tokens.proofs.Stepping.{Reached, Failed, stays, stays_on}
+use Rattle.text_tokens.proofs.Stepping.{Reached, Failed, stays, stays_on, err_of}
 use Rattle.text_tokens.proofs.Repeating.{steps_repeated, fewer}
 use Rattle.text_tokens.proofs.Exactness.{rest_in}
 
@@ -64,10 +64,6 @@ never_none : {A : Type 0} (r : Answer A) (us : List Lexeme) → and_then r (λ a
 never_none {A} (Ok r) us e = let o : Some r.0 ≡ None = ap option_in e in absurd cc
 never_none (Err r) us e = absurd cc
 
-err_of : {A : Type 0} (r : Answer A) (e : Refusal) → and_then r (λ a us. Ok (Some a, us)) ≡ Err e → r ≡ Err e
-err_of (Ok r) e h = absurd cc
-err_of (Err r) e h = let x : r ≡ e = cc in ap (λ (z : Refusal). Err z) x
-
 module _ {A S : Type 0} (E : S → Lang A) (element : S → Reader A) (step : S → A → S) (starts between stop : Lexeme → Bool) (e : AreElements E element starts between stop) (p : Reader (List A)) (start : Cursor) (found : List A) (s : S) (here : Cursor) (still : StillReads p start found (repeated starts element step s) here) where
   abbrev Tried : Bool → Answer (Option A)
   Tried b = cond {A = Reader (Option A)} b (element s >>= λ a. pure (Some a)) (pure None) here.last here.ahead
@@ -111,7 +107,7 @@ module _ {A S : Type 0} (E : S → Lang A) (element : S → Reader A) (step : S 
       (still.reads ∙ ap (prepend found) (goes ∙ ap Goes n.0) ∙ ap (λ (all : List A). Ok (all, here.ahead)) (append-nil found) ∙ ap (λ (z : List Lexeme). Ok (found, z)) n.1, stays_on start here new still.stays next.1)
 
   fault_by : (r : Refusal) (b : Bool) → Tried b ≡ Err r → prepend found (Goes b) ≡ Err r
-  fault_by r true h = rw (err_of (element s here.last here.ahead) r h) refl
+  fault_by r true h = rw (err_of (λ (a : A). Some a) (element s here.last here.ahead) r h) refl
   fault_by r false h = absurd cc
 
   -- one was refused

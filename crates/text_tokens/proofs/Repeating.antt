@@ -1,5 +1,5 @@
 -- Any number of elements. On so many tokens the grammar and its reader agree with those of so many elements at most.
-use Rattle.std.proofs.Common.{◌≡◌, ◌<◌, ℕ, zero, suc, ◌+◌, Bool, true, false, cond, List, [], ◌∷◌, ◌++◌, length, Option, Some, Ok, Err, refl, sym, ap, subst, ◌∙◌, append_assoc, arith}
+use Rattle.std.proofs.Common.{◌≡◌, ◌<◌, ℕ, zero, suc, ◌+◌, Bool, true, false, cond, List, [], ◌∷◌, ◌++◌, length, Option, Some, Ok, Err, refl, sym, ap, subst, ◌∙◌, append_assoc, arith, lt-suc_self}
 use Rattle.std.proofs.lemmas.List.{append-nil, length-append}
 use Rattle.text_tokens.specs.declared.refusal.Refusal.{Refusal}
 use Rattle.text_tokens.specs.declared.refusal.RefusalKind.{RefusalKind}
@@ -27,8 +27,9 @@ part_times P p part (suc n) = part_behind P p (λ a. Made (Times P n) (λ rest. 
 shorter_part : (us rest : List Lexeme) (n : ℕ) → length (us ++ rest) < n → length us < n
 shorter_part us rest n l = let e : length (us ++ rest) ≡ length us + length rest = length-append us rest in omega arith
 
-just_more : (n : ℕ) → n < suc n
-just_more n = omega arith
+-- an element, and then the others
+pub one_more_of : {A S : Type 0} (E : S → Lang A) (step : S → A → S) (s : S) (a : A) (xs ys : List Symbol) (many : List A) → E s xs a → Made (Repeated E step (step s a)) (λ rest. a ∷ rest) ys many → Repeated E step s (xs ++ ys) many
+one_more_of E step s a xs ys many is (made rest m) = one_more a is m
 
 module _ {A S : Type 0} (E : S → Lang A) (element : S → Reader A) (step : S → A → S) (starts between stop : Lexeme → Bool) (e : AreElements E element starts between stop) where
   -- so many at most
@@ -70,15 +71,12 @@ module _ {A S : Type 0} (E : S → Lang A) (element : S → Reader A) (step : S 
   no_more_of : (s : S) (xs : List Symbol) (many : List A) → IsNothing [] xs many → Repeated E step s xs many
   no_more_of s xs many is_nothing = no_more
 
-  one_more_of : (s : S) (a : A) (xs ys : List Symbol) (many : List A) → E s xs a → Made (Repeated E step (step s a)) (λ rest. a ∷ rest) ys many → Repeated E step s (xs ++ ys) many
-  one_more_of s a xs ys many is (made rest m) = one_more a is m
-
   module _ (n : ℕ) (s : S) (rec : (s : S) (xs : List Symbol) (many : List A) → Upto n s xs many → Repeated E step s xs many) where
     made_of : (a : A) (ys : List Symbol) (many : List A) → Made (Upto n (step s a)) (λ rest. a ∷ rest) ys many → Made (Repeated E step (step s a)) (λ rest. a ∷ rest) ys many
     made_of a ys many (made rest m) = made rest (rec (step s a) ys rest m)
 
     then_of : (zs : List Symbol) (many : List A) → Then (E s) (λ a. Made (Upto n (step s a)) (λ rest. a ∷ rest)) zs many → Repeated E step s zs many
-    then_of zs many (then {xs = xs} {ys = ys} a is m) = one_more_of s a xs ys many is (made_of a ys many m)
+    then_of zs many (then {xs = xs} {ys = ys} a is m) = one_more_of E step s a xs ys many is (made_of a ys many m)
 
     either_of : (xs : List Symbol) (many : List A) → Upto (suc n) s xs many → Repeated E step s xs many
     either_of xs many (of_first is) = then_of xs many is
@@ -136,17 +134,17 @@ module _ {A S : Type 0} (E : S → Lang A) (element : S → Reader A) (step : S 
   law_repeated : (s : S) → Lawful (Repeated E step s) (repeated starts element step s)
   unfolding repeated
   law_repeated s = record {
-    tells = λ last ts on. (law_within (suc (length ts)) s).tells last ts (just_more (length ts));
-    reads = λ xs many is last rest on stops. (law_within (suc (length (tokens xs ++ rest))) s).reads xs many is last rest (just_more (length (tokens xs ++ rest))) stops;
-    limits = λ us x t r n f g last rest on. (law_within (suc (length (us ++ t ∷ rest))) s).limits us x t r n f g last rest (just_more (length (us ++ t ∷ rest)));
-    judges = λ us x r n f g last rest on stops. (law_within (suc (length (us ++ rest))) s).judges us x r n f g last rest (just_more (length (us ++ rest))) stops;
-    agrees = λ us x y t on m n f g. (law_within (suc (length (us ++ t ∷ []))) s).agrees us x y t (just_more (length (us ++ t ∷ []))) m n f g;
+    tells = λ last ts on. (law_within (suc (length ts)) s).tells last ts (lt-suc_self (length ts));
+    reads = λ xs many is last rest on stops. (law_within (suc (length (tokens xs ++ rest))) s).reads xs many is last rest (lt-suc_self (length (tokens xs ++ rest))) stops;
+    limits = λ us x t r n f g last rest on. (law_within (suc (length (us ++ t ∷ rest))) s).limits us x t r n f g last rest (lt-suc_self (length (us ++ t ∷ rest)));
+    judges = λ us x r n f g last rest on stops. (law_within (suc (length (us ++ rest))) s).judges us x r n f g last rest (lt-suc_self (length (us ++ rest))) stops;
+    agrees = λ us x y t on m n f g. (law_within (suc (length (us ++ t ∷ []))) s).agrees us x y t (lt-suc_self (length (us ++ t ∷ []))) m n f g;
   }
 
   halts_repeated : (s : S) → Halts (Repeated E step s) stop
   halts_repeated s xs many t is f g =
       let n = suc (length (tokens xs)) in
-      let l = just_more (length (tokens xs)) in
+      let l = lt-suc_self (length (tokens xs)) in
       (part_upto n s).halts xs many t (text_upto n s xs many l is) f (record { at = g.at; next = next_upto n s (tokens xs) g.at l g.next; token = g.token })
 
   pub part_repeated : (s : S) → IsPart (Repeated E step s) (repeated starts element step s) stop

@@ -19,9 +19,10 @@ use Rattle.text_tokens.specs.Text.{is_digit, Lexeme, AreTokens}
 use Rattle.text_tokens.specs.Cursor.{is_the, is_kind, same_kind, number_value}
 use Rattle.text_tokens.specs.Lines.{Words, lines_text}
 use Rattle.text_tokens.specs.Reading.{is_number, value}
-use Rattle.text_tokens.specs.Grammar.{Symbol, symbol, tokens, first_fault, Lang, IsOne, is_one, Then, then, Made, made, IsThe, IsNumeral, is_judgement, Judged, Either, of_first, of_second, point, Repeated, one_more}
+use Rattle.text_tokens.specs.Grammar.{Symbol, symbol, first_fault, Lang, IsOne, is_one, Then, then, Made, made, IsThe, IsNumeral, is_judgement, Judged, Either, of_first, of_second, point, Repeated}
 use Rattle.text_tokens.specs.Lawful.{IsWhole}
-use Rattle.text_tokens.proofs.Symbols.{tokens-append, fine-append}
+use Rattle.text_tokens.proofs.Symbols.{whole_two, whole_then}
+use Rattle.text_tokens.proofs.Repeating.{one_more_of}
 use Rattle.text_tokens.proofs.PrintedTokens.{kind_of, AreSpelled, no_tokens, token_more, spelled_tokens, ArePrinted, none_printed, word_printed, LinesArePrinted, no_lines, line_printed, lines_spell, IsOneToken, one_printed, number_is_token, digit_kind}
 
 -- ---- what is found
@@ -94,18 +95,6 @@ pub lines_by : {A B : Type 0} {P : Lang A} {Q : Lang B} {R : A → Type 0} {S : 
 lines_by f is holds p = record { spelled = p.spelled; printed = p.printed; read = λ ts s. found_by f is holds ts (p.read ts s) }
 
 -- one behind the other
-whole_two : {A B C : Type 0} {P : Lang A} {Q : A → Lang B} {G : Lang C} (f : A → B → C) → ((xs ys : List Symbol) (a : A) (b : B) → P xs a → Q a ys b → G (xs ++ ys) (f a b))
-    → (us vs ts : List Lexeme) (a : A) (b : B) → ts ≡ us ++ vs → IsWhole P us a → IsWhole (Q a) vs b → IsWhole G ts (f a b)
-whole_two f is us vs ts a b e p q = record {
-  text = p.text ++ q.text;
-  is = is p.text q.text a b p.is q.is;
-  parts = tokens-append p.text q.text ∙ ap (λ (ws : List Lexeme). ws ++ tokens q.text) p.parts ∙ ap (λ (ws : List Lexeme). us ++ ws) q.parts ∙ sym e;
-  fine = fine-append p.text q.text p.fine q.fine;
-}
-
-pub whole_then : {A B : Type 0} {P : Lang A} {Q : A → Lang B} (us vs ts : List Lexeme) (a : A) (b : B) → ts ≡ us ++ vs → IsWhole P us a → IsWhole (Q a) vs b → IsWhole (Then P Q) ts b
-whole_then us vs ts a b e p q = whole_two (λ a b. b) (λ xs ys a b p q. then a p q) us vs ts a b e p q
-
 module _ {A B C : Type 0} {P : Lang A} {Q : A → Lang B} {G : Lang C} {R : A → Type 0} {S : A → B → Type 0} {T : C → Type 0} (f : A → B → C)
     (is : (xs ys : List Symbol) (a : A) (b : B) → P xs a → Q a ys b → G (xs ++ ys) (f a b)) (holds : (a : A) (b : B) → R a → S a b → T (f a b)) where
   found_two : (us vs : Words) → ((ts : List Lexeme) → AreSpelled ts us → Found P R ts) → ((a : A) → R a → (ts : List Lexeme) → AreSpelled ts vs → Found (Q a) (S a) ts) → (ts : List Lexeme) → AreSpelled ts (us ++ vs) → Found G T ts
@@ -352,11 +341,8 @@ pub lines_nothing : {A : Type 0} {P : Lang A} (a : A) → P [] a → RereadsLine
 lines_nothing a is = record { spelled = []; printed = no_lines; read = nothing_found a is refl }
 
 module _ {A S : Type 0} (E : S → Lang A) (step : S → A → S) (s : S) where
-  more_made : (a : A) (xs ys : List Symbol) (many : List A) → E s xs a → Made (Repeated E step (step s a)) (λ rest. a ∷ rest) ys many → Repeated E step s (xs ++ ys) many
-  more_made a xs ys many is (made rest m) = one_more a is m
-
   pub more_of : (zs : List Symbol) (many : List A) → Then (E s) (λ a. Made (Repeated E step (step s a)) (λ rest. a ∷ rest)) zs many → Repeated E step s zs many
-  more_of zs many (then {xs = xs} {ys = ys} a is m) = more_made a xs ys many is m
+  more_of zs many (then {xs = xs} {ys = ys} a is m) = one_more_of E step s a xs ys many is m
 
   -- one more element
   pub rereads_more : (words more : Words) (a : A) (rest : List A) → Rereads (E s) (Is a) words → Rereads (Repeated E step (step s a)) (Is rest) more → Rereads (Repeated E step s) (Is (a ∷ rest)) (words ++ more)

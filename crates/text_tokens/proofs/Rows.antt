@@ -1,5 +1,5 @@
 -- Parts in a row: from the start the reader answers what is left of it answers where the code stands.
-use Rattle.std.proofs.Common.{◌≡◌, Bool, true, false, List, Result, Ok, Err, refl, sym, ap, ◌∙◌}
+use Rattle.std.proofs.Common.{◌≡◌, Bool, true, false, Result, Ok, Err, refl, sym, ap, ◌∙◌}
 use Rattle.text_tokens.specs.declared.refusal.Refusal.{Refusal}
 use Rattle.text_tokens.specs.declared.refusal.ReadRefusal.{ReadRefusal}
 use Rattle.text_tokens.specs.declared.refusal.ReadRefusal.TheVariants.{Refused, NoMemory}
@@ -34,14 +34,6 @@ module _ {A B : Type 0} (p : Reader A) (q : A → Reader B) {r : Reader B} {star
   -- it was refused
   pub part_fails : (k : ReadRefusal) (new : Cursor) → Failed p k here new → Failed r k start new
   part_fails k new f = gives_left {A = B} {B = B} {r = r} {q = p >>= q} {start = start} {here = here} (λ b. b) (Err k) new l (fails p q k here new f)
-
-pub regrouped : {A B C : Type 0} (x : Answer A) (f : A → List Lexeme → Answer B) (g : B → List Lexeme → Answer C) → and_then (and_then x f) g ≡ and_then x (λ a us. and_then (f a us) g)
-regrouped (Ok p) f g = refl
-regrouped (Err r) f g = refl
-
--- a row that begins with a row begins with the first part of that
-pub regroup : {A B C : Type 0} (p : Reader A) (q : A → Reader B) (s : B → Reader C) {r : Reader C} {start here : Cursor} → Left r start ((p >>= q) >>= s) here → Left r start (p >>= λ a. q a >>= s) here
-regroup p q s {start = start} {here = here} l = record { reads = l.reads ∙ regrouped (p here.last here.ahead) (λ a us. q a here.last us) (λ b us. s b here.last us); stays = l.stays }
 
 -- the last part was read, and is made into something else
 pub made_left : {A B : Type 0} (p : Reader A) (f : A → B) {r : Reader B} {start here : Cursor} → Left r start (p >>= λ a. pure (f a)) here → (a : A) (new : Cursor) → Reached p here a new → Reached r start (f a) new

@@ -1,8 +1,10 @@
 -- The scan of a text, step by step.
-use Rattle.std.proofs.Common.{◌≡◌, ℕ, zero, suc, ◌+◌, ◌<◌, ◌≤◌, Bool, true, false, cond, List, [], ◌∷◌, length, get_or, drop, Result, Ok, Err, refl, ap, ◌∙◌, arith, drop-cons, length-drop, add-one}
+use Rattle.std.proofs.Common.{◌≡◌, ℕ, zero, suc, ◌+◌, ◌<◌, ◌≤◌, Bool, true, false, cond, List, [], ◌∷◌, length, get_or, drop, Option, Result, Ok, Err, refl, sym, ap, ◌∙◌, arith, drop-cons, length-drop, add-one}
+use Rattle.std.proofs.lemmas.Iterator.{index_from_first}
 use Rattle.std.proofs.lemmas.List.{drop_all}
 use Rattle.std.proofs.lemmas.List.Sums.{prefix_len-le-length}
-use Rattle.std.specs.List.{prefix_len}
+use Rattle.std.specs.List.{prefix_len, AllWithin, HoldsAt}
+use Rattle.std.specs.Option.{MatchOption, unwrap_or}
 use Rattle.std.specs.Prelude.{nat_lt, ◌==◌}
 use Rattle.text_tokens.specs.declared.token.TokenKind.{TokenKind}
 use Rattle.text_tokens.specs.declared.token.TokenKind.TheVariants.{Word, Number}
@@ -78,6 +80,14 @@ unfolding ready
 ready_twice i = skip_twice i.text false i.at i.line
 
 -- ---- the token at the front
+
+-- where the first element lies that does not pass, or else the length, is how many pass from the front on
+pub run_is : (p : ℕ → Bool) (xs : List ℕ) (n : ℕ) (r : Option ℕ) → n ≡ unwrap_or r (length xs)
+    → MatchOption r (AllWithin (λ x. p x ≡ true) xs 0 (length xs)) (λ i. (i < length xs) × HoldsAt (λ x. p x ≡ false) xs i × AllWithin (λ x. p x ≡ true) xs 0 i)
+    → n ≡ prefix_len p xs
+run_is p xs n r e first =
+    let more : (x : ℕ) (ys : List ℕ) → p x ≡ true → prefix_len p (x ∷ ys) ≡ prefix_len p ys + 1 = λ x ys t. ap (λ b. cond b (1 + prefix_len p ys) 0) t ∙ omega arith in
+    e ∙ sym (index_from_first (prefix_len p) (λ x. p x ≡ false) (λ x. p x ≡ true) refl (λ x ys f. ap (λ b. cond b (1 + prefix_len p ys) 0) f) more xs r first)
 
 -- it has a byte at least, and no more than there are
 pub record Fits (text : List ℕ) (p : Piece) : Type 0 where

@@ -164,6 +164,11 @@ fails {A} p q (Refused r) old new f = (ap (λ (x : Answer A). and_then x (λ a u
 pub on_made : {A B : Type 0} (p : Reader A) (f : A → B) (old new : Cursor) (a : A) → Reached p old a new → Reached (p >>= λ a. pure (f a)) old (f a) new
 on_made {A} p f old new a s = (ap (λ (x : Answer A). and_then x (λ a us. pure (f a) old.last us)) s.0, s.1)
 
+-- it was refused before something was made of it
+pub err_of : {A B : Type 0} (f : A → B) (r : Answer A) (e : Refusal) → and_then r (λ a us. Ok (f a, us)) ≡ Err e → r ≡ Err e
+err_of f (Ok r) e h = absurd cc
+err_of f (Err r) e h = let x : r ≡ e = cc in ap (λ (z : Refusal). Err z) x
+
 -- ---- a judgement
 
 module _ {A : Type 0} (p : Reader A) (wrong : A → Option Refusal) (old new : Cursor) (a : A) (s : Reached p old a new) where

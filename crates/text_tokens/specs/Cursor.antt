@@ -1,9 +1,10 @@
 -- What a `Tokens` is: the source, the tokens ahead, and what is wrong behind the last of them where one more is needed.
-use Rattle.std.specs.Prelude.{true, ◌&&◌, ◌+◌, ◌*◌, ◌^◌, ◌≡◌, ◌≤◌, ◌-◌, ℕ, Bool, false, if◌then◌else◌, List, [], ◌∷◌, length, take, drop, Option, Some, None, Result, Ok, Err}
+use Rattle.std.specs.Prelude.{true, ◌&&◌, ◌+◌, ◌*◌, ◌^◌, ◌≡◌, ◌<◌, ◌≤◌, ◌-◌, ℕ, Bool, false, if◌then◌else◌, List, [], ◌∷◌, length, take, drop, Option, Some, None, Result, Ok, Err}
 use Rattle.std.specs.Str.{bytes_eq}
 use denote.Enum.Bare.{sameb}
 use Rattle.text_tokens.specs.contracts.token.TokenKind.{the_type}
 use Rattle.text_tokens.specs.declared.token.TokenKind.{TokenKind}
+use Rattle.text_tokens.specs.declared.token.TokenKind.TheVariants.{Number}
 use Rattle.text_tokens.specs.declared.token.Token.{Token}
 use Rattle.text_tokens.specs.declared.refusal.Refusal.{Refusal}
 use Rattle.text_tokens.specs.declared.refusal.RefusalKind.{RefusalKind}
@@ -53,6 +54,10 @@ tail (l ∷ ls) = ls
 -- past the next token, if there is one
 abbrev pub past_token : Cursor → Cursor
 past_token c = record { source = c.source; ahead = tail c.ahead; last = c.last }
+
+-- a refusal of this kind on this line
+abbrev pub on_line : ℕ → RefusalKind → Refusal
+on_line line kind = record { line = line; kind = kind }
 
 -- a refusal of this kind at the next token, or else what is wrong where the tokens end
 abbrev pub refusal_at : Refusal → RefusalKind → List Lexeme → Refusal
@@ -130,11 +135,15 @@ abbrev pub AreCut : List Lexeme → Type 0
 AreCut [] = Unit {0}
 AreCut (l ∷ ls) = IsCut l × AreCut ls
 
--- a number of at most nine digits, as a slice of the source
+-- a number of at most nine digits, as a token may have
+abbrev pub IsShort : ℕ → Type 0
+IsShort n = n < 10 ^ most_bytes Number
+
+-- such a number, as a slice of the source
 pub record IsDigits (source : List ℕ) (t : Token) : Type 0 where
   pub within : IsSlice source t
   pub digits : list_all is_digit (slice source t) ≡ true
-  pub few : length (slice source t) ≤ 9
+  pub few : length (slice source t) ≤ most_bytes Number
 
 -- what digits stand for: each is worth ten to the number of digits behind it
 abbrev pub number_value : List ℕ → ℕ

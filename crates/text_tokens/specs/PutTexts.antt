@@ -3,9 +3,9 @@ use Rattle.std.specs.Prelude.{ℕ, true, false, List, [], ◌∷◌, Some, None,
 use Rattle.text_tokens.specs.declared.refusal.Refusal.{Refusal}
 use Rattle.text_tokens.specs.declared.refusal.RefusalKind.TheVariants.{Unexpected, TooMany, Truncated}
 use Rattle.text_tokens.specs.Text.{Lexeme}
+use Rattle.text_tokens.specs.Cursor.{on_line}
 use Rattle.text_tokens.specs.Promises.{word_from, number_from, sign_from}
 use Rattle.text_tokens.specs.Lawful.{IsText, IsFault}
-use Rattle.text_tokens.specs.JournalFaults.{at}
 use Rattle.text_tokens.specs.Puts.{Put, a_part, a_put, IsPut}
 
 abbrev pub name : ℕ → List ℕ → Lexeme
@@ -21,7 +21,7 @@ abbrev pub IsRead : List Lexeme → Put → List Lexeme → Type 0
 IsRead ts put rest = IsText IsPut ts put rest
 
 abbrev pub IsPutFault : List Lexeme → Refusal → Type 0
-IsPutFault ts r = IsFault IsPut (at 20 Truncated) ts r
+IsPutFault ts r = IsFault IsPut (on_line 20 Truncated) ts r
 
 -- a :=
 abbrev pub to_a : List Lexeme → List Lexeme
@@ -37,12 +37,12 @@ pub record PutsAreRead : Type 0 where
   -- a . b := - 1
   pub others : IsRead (name 1 (codes "a") ∷ op 2 (codes ".") ∷ name 3 (codes "b") ∷ op 4 (codes ":=") ∷ op 5 (codes "-") ∷ digits 6 (codes "1") ∷ []) (a_put (Some (codes "a")) (codes "b") (a_part true 1 ∷ [])) []
   -- behind a name neither form goes on so, and behind the point a name is needed
-  pub neither : IsPutFault (name 1 (codes "a") ∷ op 2 (codes ";") ∷ []) (at 2 Unexpected)
-  pub alone : IsPutFault (name 1 (codes "a") ∷ []) (at 20 Truncated)
-  pub no_name : IsPutFault (name 1 (codes "a") ∷ op 2 (codes ".") ∷ op 3 (codes ":=") ∷ []) (at 3 Unexpected)
+  pub neither : IsPutFault (name 1 (codes "a") ∷ op 2 (codes ";") ∷ []) (on_line 2 Unexpected)
+  pub alone : IsPutFault (name 1 (codes "a") ∷ []) (on_line 20 Truncated)
+  pub no_name : IsPutFault (name 1 (codes "a") ∷ op 2 (codes ".") ∷ op 3 (codes ":=") ∷ []) (on_line 3 Unexpected)
   -- a sign needs a number
-  pub no_number : IsPutFault (to_a (digits 3 (codes "1") ∷ op 4 (codes "+") ∷ op 5 (codes "-") ∷ [])) (at 5 Unexpected)
-  pub no_more : IsPutFault (to_a (digits 3 (codes "1") ∷ op 4 (codes "+") ∷ [])) (at 20 Truncated)
+  pub no_number : IsPutFault (to_a (digits 3 (codes "1") ∷ op 4 (codes "+") ∷ op 5 (codes "-") ∷ [])) (on_line 5 Unexpected)
+  pub no_more : IsPutFault (to_a (digits 3 (codes "1") ∷ op 4 (codes "+") ∷ [])) (on_line 20 Truncated)
   -- the fifth number, and what is none
-  pub fifth : IsPutFault (to_a (four (op 10 (codes "+") ∷ digits 11 (codes "5") ∷ []))) (at 11 TooMany)
-  pub no_fifth : IsPutFault (to_a (four (op 10 (codes "+") ∷ name 11 (codes "b") ∷ []))) (at 11 Unexpected)
+  pub fifth : IsPutFault (to_a (four (op 10 (codes "+") ∷ digits 11 (codes "5") ∷ []))) (on_line 11 TooMany)
+  pub no_fifth : IsPutFault (to_a (four (op 10 (codes "+") ∷ name 11 (codes "b") ∷ []))) (on_line 11 Unexpected)

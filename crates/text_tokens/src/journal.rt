@@ -1,11 +1,10 @@
 //! A small format in which an entry is judged once nothing more belongs to it. It is the pattern for elements that may go
 //! on, and for a whole input.
 
-ghost use Rattle.std.specs.Prelude.{◌≡◌, ◌<◌, ◌≤◌, ℕ, IfOk, IfSome, map, option_map};
+ghost use Rattle.std.specs.Prelude.{◌<◌, IfOk, IfSome, map, option_map};
 ghost use Rattle.text_tokens.specs.declared.refusal.RefusalKind.TheVariants.{Trailing};
 ghost use Rattle.text_tokens.specs.Text.{IsCountable};
 ghost use Rattle.text_tokens.specs.Steps.{Gives, ReadsInput, ReadsOf, TellsOf, another};
-ghost use Rattle.text_tokens.specs.Reading as reading;
 ghost use Rattle.text_tokens.specs.Journal as spec;
 ghost use Rattle.text_tokens.specs.JournalView as view;
 

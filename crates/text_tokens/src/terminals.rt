@@ -1,8 +1,8 @@
 //! Parts of one token.
 
-ghost use Rattle.std.specs.Prelude.{◌≡◌, ◌<◌, ◌≤◌, ◌^◌, IfOk};
+ghost use Rattle.std.specs.Prelude.{◌≡◌, ◌<◌, ◌≤◌, IfOk};
 ghost use Rattle.text_tokens.specs.Steps.{Gives, lexeme_of};
-ghost use Rattle.text_tokens.specs.Cursor.{is_the};
+ghost use Rattle.text_tokens.specs.Cursor.{IsShort, is_the};
 ghost use Rattle.text_tokens.specs.Reading as reading;
 ghost use Rattle.text_tokens.specs.declared.refusal.ReadRefusal.TheVariants.{Refused};
 
@@ -40,7 +40,7 @@ pub fn the_line(tokens: &mut Tokens<'_>, kind: TokenKind, text: &[u8]) -> Result
 #[tactic(auto, unfolding(crate::specs::Reading::numeral))]
 pub fn number(tokens: &mut Tokens<'_>) -> Result<u32, ReadRefusal>
     ensures reads { Gives (λ n. n) (reading.numeral reading.no_limit) tokens.old result tokens.new }
-    ensures small { IfOk result (λ n. n < 10 ^ 9) }
+    ensures small { IfOk result IsShort }
 {
     let token = tokens.take_kind(TokenKind::Number)?;
     Ok(tokens.number(&token))

@@ -6,7 +6,7 @@ ghost use Rattle.text_tokens.specs.declared.token.TokenKind.TheVariants.{Number}
 ghost use Rattle.text_tokens.specs.Text as text;
 ghost use Rattle.text_tokens.specs.Scan as scan;
 ghost use Rattle.text_tokens.specs.Cursor as cursor;
-ghost use Rattle.text_tokens.specs.Cursor.{AreCut, IsAtFront, IsDigits, IsSlice, Spells, number_value, next_passes, is_the, is_kind, expect};
+ghost use Rattle.text_tokens.specs.Cursor.{AreCut, IsAtFront, IsDigits, IsShort, IsSlice, Spells, number_value, next_passes, is_the, is_kind, expect};
 
 use crate::refusal::{Refusal, RefusalKind};
 use crate::token::{Token, TokenKind};
@@ -73,24 +73,20 @@ fn is_word_byte(b: u8) -> bool
 fn word_len(bytes: &[u8]) -> usize
     ensures { result ≡ prefix_len text.is_word_byte bytes.now }
 {
-    for (i, b) in bytes.iter().enumerate() {
-        if !is_word_byte(*b) {
-            return i;
-        }
-    }
-    bytes.len()
+    bytes
+        .iter()
+        .position(|b| !is_word_byte(*b))
+        .unwrap_or(bytes.len())
 }
 
 /// How many digits stand at the front.
 fn digits_len(bytes: &[u8]) -> usize
     ensures { result ≡ prefix_len text.is_digit bytes.now }
 {
-    for (i, b) in bytes.iter().enumerate() {
-        if !is_digit(*b) {
-            return i;
-        }
-    }
-    bytes.len()
+    bytes
+        .iter()
+        .position(|b| !is_digit(*b))
+        .unwrap_or(bytes.len())
 }
 
 /// The length of the longest sign at the front, or 0.
@@ -200,9 +196,9 @@ fn skip(bytes: &[u8], line: u32) -> (usize, u32)
 /// What digits stand for.
 fn decimal(digits: &[u8]) -> u32
     requires digits { list_all text.is_digit digits.now ≡ true }
-    requires few { length digits.now ≤ 9 }
+    requires few { length digits.now ≤ text.most_bytes Number }
     ensures value { result ≡ number_value digits.now }
-    ensures small { result < 10 ^ 9 }
+    ensures small { IsShort result }
 {
     let mut value: u32 = 0;
     for digit in digits {
@@ -320,7 +316,7 @@ impl<'a> Tokens<'a> {
     pub fn number(&self, token: &Token) -> u32
         requires { IsDigits self.now.source token.now }
         ensures value { result ≡ number_value (cursor.slice self.now.source token.now) }
-        ensures small { result < 10 ^ 9 }
+        ensures small { IsShort result }
     {
         decimal(self.text(token))
     }

@@ -1,5 +1,5 @@
 -- When nodes are equal, and what the six steps do.
-use Rattle.std.proofs.Common.{◌≡◌, ◌≢◌, ◌⊎◌, ◌<◌, ℕ, zero, suc, ℤ, ◌+ℤ◌, ◌-ℤ◌, arith, refl, sym, ◌∙◌, ap, subst, inl, inr}
+use Rattle.std.proofs.Common.{◌≡◌, ◌≢◌, ◌⊎◌, ◌<◌, ℕ, zero, suc, ℤ, ◌+ℤ◌, ◌-ℤ◌, false, arith, refl, sym, ◌∙◌, ap, subst, inl, inr}
 use Rattle.std.proofs.lemmas.Bool.{and_parts, and_from, both_ways, cases_Bool}
 use Rattle.std.proofs.lemmas.Bool.Decides.{Decides-int_eq}
 use Rattle.std.proofs.lemmas.Int.{ints}
@@ -20,6 +20,9 @@ node_eq-true a b t =
 
 pub node_eq_same : (a : Node) → IsTrue (node_eq a a)
 node_eq_same a = and_from _ _ ((Decides-int_eq a.x a.x).1 refl) ((Decides-int_eq a.y a.y).1 refl)
+
+pub node_eq-false : (a b : Node) → a ≢ b → node_eq a b ≡ false
+node_eq-false a b ne = elim (cases_Bool (node_eq a b)) [ inl t ↦ absurd (ne (node_eq-true a b t)) | inr f ↦ f ]
 
 pub eq-node_eq : (a b : Node) → a ≡ b → IsTrue (node_eq a b)
 eq-node_eq a b e = subst (λ (x : Node). IsTrue (node_eq a x)) e (node_eq_same a)

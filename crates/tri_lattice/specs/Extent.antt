@@ -1,5 +1,5 @@
 -- A box of nodes, and the numbers of its nodes. All of it is this project's profile: the paper's lattice has no bounds.
-use Rattle.std.specs.Prelude.{ℕ, ℤ, pos, negsuc, ◌+ℤ◌, ◌-ℤ◌, ◌≤ℤ◌, nat_lt, is_some, ◌+◌, ◌*◌, ◌/◌, ◌%◌, ◌≤◌, Bool, if◌then◌else◌}
+use Rattle.std.specs.Prelude.{ℕ, ℤ, pos, negsuc, neg_ℤ, ◌+ℤ◌, ◌-ℤ◌, ◌≤ℤ◌, nat_lt, is_some, ◌+◌, ◌*◌, ◌/◌, ◌%◌, ◌≤◌, Bool, if◌then◌else◌}
 use Rattle.std.specs.declared.option.Option.{Option}
 use Rattle.std.specs.Option.{option_and_then, option_map}
 use Rattle.std.specs.declared.option.Option.TheVariants.{Some, None}
@@ -12,16 +12,23 @@ pub record Extent : Type 0 where
   pub w : ℕ
   pub h : ℕ
 
+-- the farthest from 0 that either coordinate of a box's beginning may be, and the most nodes of a side
+abbrev pub most_start : ℕ
+most_start = 4096
+
+abbrev pub most_side : ℕ
+most_side = 128
+
 -- a box that may be an area: it begins within -4096..=4096, and its sides are 1 to 128 nodes
 pub record IsArea (a : Extent) : Type 0 where
-  pub x_low : negsuc 4095 ≤ℤ a.x0
-  pub x_high : a.x0 ≤ℤ pos 4096
-  pub y_low : negsuc 4095 ≤ℤ a.y0
-  pub y_high : a.y0 ≤ℤ pos 4096
+  pub x_low : neg_ℤ (pos most_start) ≤ℤ a.x0
+  pub x_high : a.x0 ≤ℤ pos most_start
+  pub y_low : neg_ℤ (pos most_start) ≤ℤ a.y0
+  pub y_high : a.y0 ≤ℤ pos most_start
   pub w_low : 1 ≤ a.w
-  pub w_high : a.w ≤ 128
+  pub w_high : a.w ≤ most_side
   pub h_low : 1 ≤ a.h
-  pub h_high : a.h ≤ 128
+  pub h_high : a.h ≤ most_side
 
 -- the place in a side of this length of what lies so far from its beginning; none outside
 abbrev pub place : ℤ → ℕ → Option ℕ

@@ -5,6 +5,10 @@ use Rattle.std.specs.List.{list_any}
 use Rattle.std.specs.Ordering.{int_eq}
 use Rattle.tri_lattice.specs.declared.node.Node.{Node}
 
+-- the six directions
+abbrev pub directions : List ℕ
+directions = 0 ∷ 1 ∷ 2 ∷ 3 ∷ 4 ∷ 5 ∷ []
+
 -- how far a step in direction d goes along x: directions 0 to 5, each later number as 5
 abbrev pub dx : ℕ → ℤ
 dx zero = pos 1

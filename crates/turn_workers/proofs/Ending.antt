@@ -1,5 +1,5 @@
 -- What is there before the first turn, and what all callers leave.
-use Rattle.std.proofs.Common.{◌≡◌, ℕ, zero, suc, ◌+◌, ◌<◌, ◌≤◌, List, [], ◌∷◌, ◌++◌, map, length, take, drop, get_or, Option, Some, None, IfSome, IsSome, true, false, ap, sym, refl, ◌∙◌, subst, arith}
+use Rattle.std.proofs.Common.{◌≡◌, ℕ, zero, suc, ◌+◌, ◌≤◌, List, [], ◌∷◌, ◌++◌, map, length, take, drop, get_or, Option, Some, None, IfSome, IsSome, ap, sym, refl, ◌∙◌, subst, arith}
 use Rattle.std.specs.Prelude.{slice_get, if◌then◌else◌}
 use Rattle.std.specs.List.{All}
 use Rattle.std.proofs.lemmas.Bool.{le-ltb}
@@ -8,9 +8,7 @@ use Rattle.std.proofs.lemmas.Option.{none-some, same_Some, slice_get_within, sli
 use mathlib.Core.List.{map-map}
 use Rattle.amoebot_state.specs.declared.verdict.Verdict.{Verdict}
 use Rattle.amoebot_state.specs.Zones.{Shown}
-use Rattle.claim_core.specs.declared.marks.Mark.{Mark}
 use Rattle.claim_core.specs.declared.state.Caller.{Caller}
-use Rattle.claim_core.specs.declared.state.Phase.{Phase}
 use Rattle.claim_core.specs.declared.state.Phase.TheVariants.{Claim, Ended}
 use Rattle.amoebot_state.specs.Configs.{Config}
 use Rattle.claim_core.specs.Turns.{MarkLists, Kept}
@@ -19,9 +17,8 @@ use Rattle.claim_core.specs.Reached.{Reached}
 use Rattle.claim_core.specs.Soundness.{IsSetup}
 use Rattle.claim_core.specs.Machine.{fresh}
 use Rattle.claim_core.proofs.Places.{map-get, get-map, of_a_list}
-use Rattle.claim_rule.specs.declared.views.Record.{Record}
 use Rattle.claim_rule.specs.Views.{setup}
-use Rattle.claim_rule.specs.Tokens.{FieldOf, Token, IsOf, number_in, doing}
+use Rattle.claim_rule.specs.Tokens.{FieldOf, Token, number_in, doing}
 use Rattle.claim_rule.specs.declared.views.Terms.{Terms}
 use Rattle.claim_rule.specs.Seating.{SeatsOf}
 use Rattle.claim_rule.specs.Stands.{records_from}
@@ -29,7 +26,6 @@ use Rattle.claim_rule.specs.Closing.{ClosesAs}
 use Rattle.claim_rule.specs.Opened.{first_records, first_seats, seat_with}
 use Rattle.claim_rule.specs.Laws as laws
 use Rattle.claim_rule.proofs.Opens.{from}
-use Rattle.activation.specs.declared.turn.Turn.{Turn}
 use Rattle.turn_workers.specs.declared.workers.Desk.{Desk}
 use Rattle.turn_workers.specs.Turns.{AreTurnsOf, marks_in}
 use Rattle.turn_workers.specs.Workers.{HasMade, HaveMade, AreClear, AreTaken, made, seat_at, turns_at}

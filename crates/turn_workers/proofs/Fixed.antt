@@ -1,12 +1,12 @@
 -- What the marks say of the turns.
-use Rattle.std.proofs.Common.{◌≡◌, ℕ, zero, suc, ◌+◌, List, [], ◌∷◌, map, length, Some, ap, sym, refl, ◌∙◌, arith}
+use Rattle.std.proofs.Common.{◌≡◌, ℕ, zero, suc, ◌+◌, List, [], ◌∷◌, map, Some, ap, sym, subst, refl, ◌∙◌, arith}
 use Rattle.std.specs.Prelude.{slice_get}
-use Rattle.claim_core.specs.Turns.{MarkLists}
+use Rattle.std.proofs.lemmas.Option.{same_Some}
 use Rattle.activation.specs.declared.turn.Turn.{Turn}
 use Rattle.activation.specs.Answers.{caller_of, turn_of, mark_of}
 use Rattle.activation.proofs.Answered.{one_turn}
-use Rattle.turn_workers.specs.Turns.{AreTurnsOf, marks_in, turn_at}
-use Rattle.turn_workers.specs.Laws.{TurnsAreOne}
+use Rattle.turn_workers.specs.Turns.{marks_in, turn_at}
+use Rattle.turn_workers.specs.Laws.{TurnsAreOne, SmallTurns, small_turns}
 
 abbrev first : {A : Type 0} → A → List A → A
 first d [] = d
@@ -39,3 +39,17 @@ pub turns_are_one : TurnsAreOne
 turns_are_one told one two are other =
     all_turns one two 0 (sym are.marks ∙ other.marks) (λ c k a e. ((let n = (are.each c k a e).0 in omega (arith, n)), (are.each c k a e).1))
     (λ c k a e. ((let n = (other.each c k a e).0 in omega (arith, n)), (other.each c k a e).1))
+
+-- ---- an example
+
+small_each : (caller turn : ℕ) (answer : Turn) → turn_at small_turns caller turn ≡ Some answer → (caller_of answer ≡ caller) × (turn_of answer ≡ turn)
+small_each zero zero a e = subst (λ (x : Turn). (caller_of x ≡ 0) × (turn_of x ≡ 0)) (same_Some _ a e) (refl, refl)
+small_each zero (suc zero) a e = subst (λ (x : Turn). (caller_of x ≡ 0) × (turn_of x ≡ 1)) (same_Some _ a e) (refl, refl)
+small_each zero (suc (suc k)) a e = absurd (cc)
+small_each (suc zero) zero a e = subst (λ (x : Turn). (caller_of x ≡ 1) × (turn_of x ≡ 0)) (same_Some _ a e) (refl, refl)
+small_each (suc zero) (suc zero) a e = subst (λ (x : Turn). (caller_of x ≡ 1) × (turn_of x ≡ 1)) (same_Some _ a e) (refl, refl)
+small_each (suc zero) (suc (suc k)) a e = absurd (cc)
+small_each (suc (suc c)) k a e = absurd (cc)
+
+pub small_example : SmallTurns
+small_example = record { marks = refl; each = small_each }

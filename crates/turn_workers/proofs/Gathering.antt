@@ -1,5 +1,5 @@
 -- Desks that are made and cleared one after another, and the marks that are copied.
-use Rattle.std.proofs.Common.{◌≡◌, ℕ, zero, suc, ◌+◌, ◌<◌, ◌≤◌, List, [], ◌∷◌, ◌++◌, map, length, take, get_or, set, reverse, replicate, length-append, is_some, ◌↔◌, IfSome, IsSome, Vec, Global, Option, Some, None, ap, sym, refl, ◌∙◌, subst, arith}
+use Rattle.std.proofs.Common.{◌≡◌, ℕ, zero, suc, ◌+◌, ◌<◌, ◌≤◌, List, [], ◌∷◌, ◌++◌, map, length, take, get_or, set, reverse, replicate, length-append, ◌↔◌, IfSome, IsSome, Vec, Global, Option, Some, None, ap, sym, refl, ◌∙◌, subst, arith}
 use Rattle.std.specs.Prelude.{slice_get}
 use Rattle.std.specs.List.{All}
 use Rattle.std.proofs.lemmas.List.{append-nil, append_assoc, length-map, reverse-append, reverse-reverse, map-append, nil_from_length}
@@ -7,6 +7,7 @@ use Rattle.std.proofs.lemmas.List.Elements.{All-push}
 use Rattle.std.proofs.lemmas.Option.{none-some, same_Some, get_or_from_slice_get}
 use Rattle.std.proofs.Math.Seq.{take-suc}
 use mathlib.Core.List.{map-map}
+use Rattle.amoebot_state.proofs.Options.{not_none}
 use Rattle.claim_core.specs.declared.marks.Mark.{Mark}
 use Rattle.claim_core.specs.Turns.{MarkLists, marks_of}
 use Rattle.claim_core.proofs.Places.{get-append_right}
@@ -19,9 +20,6 @@ use Rattle.turn_workers.specs.declared.workers.Desk.{Desk}
 use Rattle.turn_workers.specs.Turns.{marks_in}
 use Rattle.turn_workers.specs.Workers.{IsClear, AreClear, AreTaken, seat_at, turns_at, with_marks}
 use Rattle.turn_workers.proofs.Taking.{out_before, last_is_out, one_given, next_is_taken}
-
-not_none : {A : Type 0} (o : Option A) → o ≡ None → IsSome o → ⊥
-not_none o e some = let f = ap is_some e in absurd (cc)
 
 module _ {D : Type 0} where
   -- seats are taken from the front, one for each desk
@@ -199,9 +197,6 @@ module _ (whole : List (List Turn)) (old now : MarkLists) (k c : ℕ) (are : Are
 
   pub has_none : marks_of now c ≡ []
   has_none = (λ i. get_or (filled i) (here i) []) ∙ none_yet are.done next.0 own
-
-  pub is_listed : c < length now.marks
-  is_listed = omega (arith, here, ap (λ (ms : List (List Mark)). length ms) filled, length-append (map marks_in are.done) ([] ∷ map (λ _. []) next.0), length-map are.done marks_in)
 
   pub has_room : All (λ o. length o ≡ old.turns) whole → length (marks_of now c) + length own ≤ now.turns
   has_room all =

@@ -1,5 +1,5 @@
 -- How far the workers have come, and what is there before they begin.
-use Rattle.std.specs.Prelude.{◌≡◌, ◌≤◌, ◌<◌, ℕ, List, [], ◌++◌, map, replicate, length, slice_get, slice_set, slice_index_or, vec_capacity}
+use Rattle.std.specs.Prelude.{◌≡◌, ◌≤◌, ◌<◌, ℕ, List, [], ◌++◌, map, length, slice_get, slice_set, slice_index_or, vec_capacity}
 use Rattle.std.specs.declared.option.Option.{Option}
 use Rattle.std.specs.declared.option.Option.TheVariants.{Some, None}
 use Rattle.std.specs.List.{All}
@@ -20,10 +20,6 @@ use Rattle.turn_workers.specs.Turns.{marks_in}
 -- a caller that has made so many turns, with these marks, and holds nothing
 abbrev pub made : Setup → ℕ → List Mark → Caller
 made g t marks = caller t (opens g t) [] marks
-
--- the marks of so many callers that have none
-abbrev pub no_marks : ℕ → ℕ → MarkLists
-no_marks callers turns = record { turns = turns; marks = replicate callers [] }
 
 -- the marks with these behind those that a caller has
 abbrev pub with_marks : MarkLists → ℕ → List Mark → MarkLists

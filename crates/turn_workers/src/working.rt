@@ -3,10 +3,10 @@ ghost use Rattle.std.specs.List.{All};
 ghost use Rattle.amoebot_state.specs.Configs.{bot_at};
 ghost use Rattle.claim_core.specs.Good.{Good};
 ghost use Rattle.claim_core.specs.Reached.{Reached};
-ghost use Rattle.claim_core.specs.Turns.{AreFew, marks_of};
+ghost use Rattle.claim_core.specs.Turns.{AreFew, marks_of, no_marks};
 ghost use Rattle.claim_rule.specs.Views.{setup, terms_of};
 ghost use Rattle.turn_workers.specs.Turns.{AreTurnsOf, marks_in};
-ghost use Rattle.turn_workers.specs.Workers.{AreClear, AreTaken, no_marks, seat_at, turns_at, with_marks};
+ghost use Rattle.turn_workers.specs.Workers.{AreClear, AreTaken, seat_at, turns_at, with_marks};
 
 use crate::turns::Turns;
 use crate::workers::{Desk, make_all};

@@ -1,8 +1,7 @@
 use Rattle.std.proofs.Common.{◌≡◌, ◌<◌, ◌+◌, ◌∙◌, ℕ, Bool, false, length, drop, get_or, drop-cons, add-one, refl}
 use Rattle.std.specs.List.{find}
-use Rattle.tri_lattice.specs.Lattice.{step, node_eq}
+use Rattle.tri_lattice.specs.Lattice.{directions, step, node_eq}
 use Rattle.amoebot_state.specs.Ports.{global}
-use Rattle.model_ops.specs.Guard.{directions}
 use Rattle.action_eval.proofs.port.inner_direction.Goals as goal
 
 next_direction : (test : ℕ → Bool) (i : ℕ) → i < length directions → test (get_or directions i 0) ≡ false → find test (drop i directions) ≡ find test (drop (i + 1) directions)

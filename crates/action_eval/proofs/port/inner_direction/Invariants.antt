@@ -1,8 +1,7 @@
 use Rattle.std.proofs.Common.{◌≡◌, drop}
 use Rattle.std.specs.List.{find}
-use Rattle.tri_lattice.specs.Lattice.{step, node_eq}
+use Rattle.tri_lattice.specs.Lattice.{directions, step, node_eq}
 use Rattle.amoebot_state.specs.Ports.{global}
-use Rattle.model_ops.specs.Guard.{directions}
 use Rattle.action_meaning.specs.Values.{inner_direction}
 use Rattle.action_eval.proofs.port.inner_direction.Given as goal
 

@@ -1,4 +1,3 @@
-use Rattle.std.proofs.Common.{◌≡◌, true, ◌&&◌}
 use Rattle.action_tree.proofs.Conditions.{left_of, right_of}
 use Rattle.action_eval.proofs.runner.action_decides.Goals as goal
 

@@ -13,10 +13,9 @@ use Rattle.action_tree.specs.Trees as tree
 use Rattle.action_tree.specs.Views.{name_of, literal_of, dirterm_of, guard_of, sum_of, part_of, term_of, port_of}
 use Rattle.action_tree.specs.Limits.{most_further}
 use Rattle.action_grammar.specs.declared.role.Role.TheVariants.{AName, ANumber, OpenSign, CloseSign, MinusSign, CompareSign, AtomWord, NotWord, AndWord, OrWord, QuantifierWord, InWord, CountWord, SideWord, InnerWord, Mod6Word, EndWord, TurnWord, FirstWord}
-use Rattle.action_grammar.specs.Roles.{is_a, is_test, is_set, is_dirterm, is_plus_or_minus, as_name, as_literal, as_dirterm, as_set, as_end, as_cmp}
+use Rattle.action_grammar.specs.Roles.{is_a, is_test, is_set, is_dirterm, is_plus_or_minus, as_name, as_literal, as_dirterm, as_set, as_end, as_cmp, atom_by, quantifier_by, test_by, side_by}
 use Rattle.action_grammar.specs.Expressions.{bound_at}
 use Rattle.action_grammar.specs.ExpressionReaders.{Readers, begins_unit, begins_term, a_selection, a_port, a_test, a_comparison, port_by, a_term, term_by, a_minus, part, a_sum, a_unit, unit_by, a_conj, inside, member}
-use Rattle.action_parser.specs.Spelled.{atom_by, quantifier_by, test_by, side_by}
 use Rattle.action_parser.specs.Selections.{selection_of}
 use Rattle.action_parser.specs.Lists.{with_first, more_units, more_conjs}
 use Rattle.action_parser.proofs.Tokens.{taken, untaken, all_read}

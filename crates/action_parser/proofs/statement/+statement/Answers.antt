@@ -18,7 +18,7 @@ use Rattle.action_parser.specs.Selections.{selection_of}
 use Rattle.action_parser.specs.Lists.{more_stmts, all_listed}
 use Rattle.action_parser.proofs.Tokens.{all_read}
 use Rattle.action_parser.proofs.Elements.{stmt_elements}
-use Rattle.action_parser.proofs.Levels.{next_is, chosen, chosen_as, none_chosen, none_begins, gives_stmts, gives_bound_stmts, gives_level, less_one, port_stmt, stmt_rest}
+use Rattle.action_parser.proofs.Levels.{next_is, chosen, chosen_as, none_chosen, none_begins, gives_stmts, gives_bound_stmts, gives_level, port_stmt, stmt_rest}
 use Rattle.action_parser.proofs.Behind.{none_comes, sign_fails, one_too_many, element_fails, one_read, left_out, word_fails, behind_word}
 use Rattle.action_parser.proofs.Listing.{next_found, all_found, next_fails, view_pushed, begins_with, stmts_read, stmts_fails}
 use Rattle.action_parser.proofs.statement.+statement.Goals as goal
@@ -228,7 +228,7 @@ read_for-returns-in_err-body t w =
     let l1 = past_part (opening w.args.levels (is_a ForWord)) _ l0 (lexeme_of w.args.tokens.now.source w.in_ok-open.field-0) w.open.new.tokens w.in_ok-open.ensures.reads in
     let l2 = past_part (selection_at (less w.args.levels) w.args.names) _ l1 (selection_of w.in_ok-selection.selection) w.read_selection.new.tokens (gives_level (λ (n : ℕ). selection_at n w.args.names) selection_of w.args.levels w.open.new.tokens w.read_selection.new.tokens (Ok w.in_ok-selection.selection) w.in_ok-selection.ensures) in
     let l3 = past_part (one (is_a DoWord)) _ l2 (lexeme_of w.read_selection.new.tokens.source w.in_ok-token.field-0) w.token.new.tokens w.in_ok-token.ensures.reads in
-    rw (p.1, p.2) (part_fails (stmts_inside w.args.levels (less w.args.names)) _ l3 w.in_err-body.field-0.0 w.read_stmts.new.tokens (gives_bound_stmts (λ (k : Reader tree.Stmts). k) (λ (v : Vec Stmt Global). stmts_of v.items) w.args.levels w.args.names w.token.new.tokens w.read_stmts.new.tokens (Err w.in_err-body.field-0.0) w.in_ok-open.ensures.deep w.saturating_sub.result (w.saturating_sub.ensures ∙ less_one w.args.names) w.in_err-body.ensures))
+    rw (p.1, p.2) (part_fails (stmts_inside w.args.levels (less w.args.names)) _ l3 w.in_err-body.field-0.0 w.read_stmts.new.tokens (gives_bound_stmts (λ (k : Reader tree.Stmts). k) (λ (v : Vec Stmt Global). stmts_of v.items) w.args.levels w.args.names w.token.new.tokens w.read_stmts.new.tokens (Err w.in_err-body.field-0.0) w.in_ok-open.ensures.deep w.saturating_sub.result (w.saturating_sub.ensures ∙ sym (less_is w.args.names)) w.in_err-body.ensures))
 
 pub read_for-returns-in_err-token-2 : goal.read_for-returns-in_err-token-2
 unfolding a_for
@@ -238,7 +238,7 @@ read_for-returns-in_err-token-2 t w =
     let l1 = past_part (opening w.args.levels (is_a ForWord)) _ l0 (lexeme_of w.args.tokens.now.source w.in_ok-open.field-0) w.open.new.tokens w.in_ok-open.ensures.reads in
     let l2 = past_part (selection_at (less w.args.levels) w.args.names) _ l1 (selection_of w.in_ok-selection.selection) w.read_selection.new.tokens (gives_level (λ (n : ℕ). selection_at n w.args.names) selection_of w.args.levels w.open.new.tokens w.read_selection.new.tokens (Ok w.in_ok-selection.selection) w.in_ok-selection.ensures) in
     let l3 = past_part (one (is_a DoWord)) _ l2 (lexeme_of w.read_selection.new.tokens.source w.in_ok-token.field-0) w.token.new.tokens w.in_ok-token.ensures.reads in
-    let l4 = past_part (stmts_inside w.args.levels (less w.args.names)) _ l3 (stmts_of w.in_ok-body.body.items) w.read_stmts.new.tokens (gives_bound_stmts (λ (k : Reader tree.Stmts). k) (λ (v : Vec Stmt Global). stmts_of v.items) w.args.levels w.args.names w.token.new.tokens w.read_stmts.new.tokens (Ok w.in_ok-body.body) w.in_ok-open.ensures.deep w.saturating_sub.result (w.saturating_sub.ensures ∙ less_one w.args.names) w.in_ok-body.ensures) in
+    let l4 = past_part (stmts_inside w.args.levels (less w.args.names)) _ l3 (stmts_of w.in_ok-body.body.items) w.read_stmts.new.tokens (gives_bound_stmts (λ (k : Reader tree.Stmts). k) (λ (v : Vec Stmt Global). stmts_of v.items) w.args.levels w.args.names w.token.new.tokens w.read_stmts.new.tokens (Ok w.in_ok-body.body) w.in_ok-open.ensures.deep w.saturating_sub.result (w.saturating_sub.ensures ∙ sym (less_is w.args.names)) w.in_ok-body.ensures) in
     rw (p.1, p.2) (part_fails (one (is_a OdWord)) _ l4 w.in_err-token-2.field-0.0 w.token-2.new.tokens w.in_err-token-2.ensures.reads)
 
 pub read_for-returns : goal.read_for-returns
@@ -248,7 +248,7 @@ read_for-returns t w =
     let l1 = past_part (opening w.args.levels (is_a ForWord)) _ l0 (lexeme_of w.args.tokens.now.source w.in_ok-open.field-0) w.open.new.tokens w.in_ok-open.ensures.reads in
     let l2 = past_part (selection_at (less w.args.levels) w.args.names) _ l1 (selection_of w.in_ok-selection.selection) w.read_selection.new.tokens (gives_level (λ (n : ℕ). selection_at n w.args.names) selection_of w.args.levels w.open.new.tokens w.read_selection.new.tokens (Ok w.in_ok-selection.selection) w.in_ok-selection.ensures) in
     let l3 = past_part (one (is_a DoWord)) _ l2 (lexeme_of w.read_selection.new.tokens.source w.in_ok-token.field-0) w.token.new.tokens w.in_ok-token.ensures.reads in
-    let l4 = past_part (stmts_inside w.args.levels (less w.args.names)) _ l3 (stmts_of w.in_ok-body.body.items) w.read_stmts.new.tokens (gives_bound_stmts (λ (k : Reader tree.Stmts). k) (λ (v : Vec Stmt Global). stmts_of v.items) w.args.levels w.args.names w.token.new.tokens w.read_stmts.new.tokens (Ok w.in_ok-body.body) w.in_ok-open.ensures.deep w.saturating_sub.result (w.saturating_sub.ensures ∙ less_one w.args.names) w.in_ok-body.ensures) in
+    let l4 = past_part (stmts_inside w.args.levels (less w.args.names)) _ l3 (stmts_of w.in_ok-body.body.items) w.read_stmts.new.tokens (gives_bound_stmts (λ (k : Reader tree.Stmts). k) (λ (v : Vec Stmt Global). stmts_of v.items) w.args.levels w.args.names w.token.new.tokens w.read_stmts.new.tokens (Ok w.in_ok-body.body) w.in_ok-open.ensures.deep w.saturating_sub.result (w.saturating_sub.ensures ∙ sym (less_is w.args.names)) w.in_ok-body.ensures) in
     let l5 = past_part (one (is_a OdWord)) _ l4 (lexeme_of w.read_stmts.new.tokens.source w.in_ok-token-2.field-0) w.token-2.new.tokens w.in_ok-token-2.ensures.reads in
     all_read (a_for w.args.levels w.args.names (stmts_inside w.args.levels)) w.args.tokens.now w.token-2.new.tokens _ _ l5 (sym w.for_each.ensures)
 

@@ -6,7 +6,7 @@ use Rattle.amoebot_state.specs.declared.verdict.Verdict.TheVariants as verdict
 use Rattle.amoebot_state.specs.Configs.{Config}
 use Rattle.amoebot_state.specs.Zones.{Shown, shown}
 use Rattle.amoebot_state.specs.Laws.{StepHasOneResult}
-use Rattle.amoebot_state.specs.Steps.{Step, change_of}
+use Rattle.amoebot_state.specs.Steps.{Step, change_of, entry_of}
 use Rattle.serial_model.specs.declared.Turned.{Turned}
 use Rattle.serial_model.specs.declared.Turned.TheVariants as turned
 use Rattle.serial_model.specs.SerialTurns.{SerialTurn, IsOfTurn}
@@ -19,17 +19,13 @@ use Rattle.claim_core.proofs.laws.serial_run_is_determined.Goals as goal
 decided_on : (f : Shown → Verdict) (turn bot : ℕ) (old new : Config) (e : Entry) → Step f old e new → IsOfTurn 0 turn bot e → f (shown old bot) ≡ verdict.Change (change_of e)
 decided_on f turn bot old new e step of = subst (λ b. f (shown old b) ≡ verdict.Change (change_of e)) of.of step.decided
 
--- an entry by its parts
-abbrev whole : ℕ → ℕ → ℕ → Change → Entry
-whole caller turn bot change = record { caller = caller; turn = turn; bot = bot; action = change.action; moved = change.moved; patch = change.patch }
-
 -- entries of one turn with one change are one
 same_entry : (turn bot : ℕ) (e x : Entry) → IsOfTurn 0 turn bot e → IsOfTurn 0 turn bot x → verdict.Change (change_of e) ≡ verdict.Change (change_of x) → e ≡ x
 same_entry turn bot e x one two same =
     let change : change_of e ≡ change_of x = cc in
     by_parts e.caller x.caller e.turn x.turn e.bot x.bot (change_of e) (change_of x) (one.by ∙ sym two.by) (one.at ∙ sym two.at) (one.of ∙ sym two.of) change
   where
-    by_parts : (c d t u b o : ℕ) (one two : Change) → c ≡ d → t ≡ u → b ≡ o → one ≡ two → whole c t b one ≡ whole d u o two
+    by_parts : (c d t u b o : ℕ) (one two : Change) → c ≡ d → t ≡ u → b ≡ o → one ≡ two → entry_of c t b one ≡ entry_of d u o two
     by_parts c d t u b o one two callers turns bots changes = cc
 
 -- the turn on a world is determined

@@ -19,4 +19,4 @@ invariant_of-result-2 g c =
     let now = ap reverse c.push.ensures.items ∙ last_first c.held.inside.activation.cells.items (c.args.cell, c.take_out-value.result) in
     subst (λ (ps : Pairs). IsActivation g.D.Decider.verdict c.take_out-value.new.seat.me c.held.inside.activation.caller c.held.inside.activation.turn c.held.inside.activation.bot c.held.inside.activation.area c.held.inside.activation.maxes ps × IsClaiming g.D.Decider.verdict c.take_out-value.new.seat.me c.held.inside.activation.turn c.held.inside.activation.bot ps) (sym now)
     (wins g.D.Decider.verdict m _ _ _ _ _ pairs c.held.invariant.0 c.claim-found.new.seat.me c.take_out-value.new.seat.me c.args.cell told.0 c.take_out-value.result c.in-Some.number c.held.invariant.1
-    (ap (next_in g.D.Decider.verdict) c.held.view_is ∙ c.requires.next) (sym c.number.ensures ∙ c.in-Some.is) told.1 told.2 told.3 c.take_out-value.ensures.value c.take_out-value.ensures.emptied)
+    (ap (next_in g.D.Decider.verdict) c.held.view_is ∙ c.requires.next) (sym c.cell_number.ensures ∙ c.in-Some.is) told.1 told.2 told.3 c.take_out-value.ensures.value c.take_out-value.ensures.emptied)

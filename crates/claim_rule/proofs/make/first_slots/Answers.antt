@@ -26,11 +26,10 @@ pub returns : goal.returns
 returns c =
     let w = c.args.world.now in
     let all : c.loop-id.id ≡ length w.bots = omega (arith, c.loop-id-test.false, c.loop-id.auto.id-end, c.bots-id-end.ensures.value) in
-    let asked : c.from.result * c.turns.result ≡ length c.args.lists.now.ids * c.args.lists.now.turns = λ i. (c.from.ensures ∙ c.callers.ensures.value) i * c.turns.ensures i in
     record {
       journal = c.reserve.new.self;
       are = c.in_ok-push-3.ensures.items ∙ ap (λ xs. xs ++ slot.Journal c.reserve.new.self ∷ []) (c.loop-id.invariant ∙ ap (λ n. nodes_so_far w (w.area.w * w.area.h) ++ bodies_so_far w n) all ∙ sym (all_slots w));
       first = ap (λ (j : Kept). j.first) c.in_ok-reserve.ensures.ok ∙ c.in_ok-journal.ensures.first;
       entries = ap (λ (j : Kept). j.entries) c.in_ok-reserve.ensures.ok ∙ c.in_ok-journal.ensures.entries;
-      room = omega (arith, ap (λ (j : Kept). j.spare) c.in_ok-reserve.ensures.ok, asked);
+      room = omega (arith, ap (λ (j : Kept). j.spare) c.in_ok-reserve.ensures.ok, c.all_turns.ensures);
     }

@@ -1,5 +1,6 @@
 use Rattle.std.proofs.Common.{ap, sym, ◌∙◌}
-use Rattle.claim_rule.specs.Views.{setup_at, cells}
+use Rattle.claim_core.specs.Cells.{cells}
+use Rattle.claim_rule.specs.Views.{setup_at}
 use Rattle.claim_rule.specs.Tokens.{Token, doing}
 use Rattle.claim_rule.proofs.Settling.{got_it}
 use Rattle.claim_rule.proofs.taken.take.Goals as goal

@@ -1,5 +1,5 @@
 use Rattle.std.proofs.Common.{length, sym, ◌∙◌}
-use Rattle.command_runs.specs.Reports.{setup}
+use Rattle.claim_core.specs.Machine.{setup}
 use Rattle.action_meaning.specs.Verdicts.{verdict_shown}
 use Rattle.command_runs.proofs.Reported.{same_text}
 use Rattle.command_runs.proofs.Scheduled.{schedule_has_one_report}

@@ -5,8 +5,7 @@ use Rattle.text_tokens.specs.declared.refusal.RefusalKind.TheVariants.{TooMany}
 use Rattle.text_tokens.specs.Text.{Lexeme}
 use Rattle.text_tokens.proofs.Stepping.{is_past, not_past}
 use Rattle.text_tokens.proofs.Taking.{token_missed, token_past, token_taken}
-use Rattle.journal_text.specs.Parts.{word}
-use Rattle.journal_text.specs.Readers.{past_most}
+use Rattle.journal_text.specs.Parts.{word, past_most}
 use Rattle.journal_text.proofs.parts.read_word_within.Goals as goal
 
 pub returns-in_err-token-clause-reads : goal.returns-in_err-token-clause-reads

@@ -1,4 +1,4 @@
-use Rattle.std.proofs.Common.{◌≡◌, map, ap}
+use Rattle.std.proofs.Common.{map, ap}
 use Rattle.std.specs.Prelude.{is_some}
 use Rattle.claim_rule.specs.Seating.{SeatsOf}
 use Rattle.claim_rule.proofs.Places.{is_out, is_back}

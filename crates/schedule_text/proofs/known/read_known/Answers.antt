@@ -7,7 +7,7 @@ use Rattle.text_tokens.specs.Text.{Lexeme}
 use Rattle.text_tokens.specs.Reading.{value}
 use Rattle.text_tokens.specs.Steps.{lexeme_of}
 use Rattle.text_tokens.proofs.Taking.{number_missed, number_past, value_is, number_taken}
-use Rattle.schedule_text.specs.Readers.{past_known}
+use Rattle.schedule_text.specs.Known.{past_known}
 use Rattle.schedule_text.proofs.known.read_known.Goals as goal
 
 module _ (most known before : ℕ) (t : Lexeme) where

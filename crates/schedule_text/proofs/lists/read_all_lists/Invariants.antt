@@ -3,13 +3,14 @@ use Rattle.text_tokens.specs.Reading.{repeated}
 use Rattle.text_tokens.proofs.Looping.{StillReads}
 use Rattle.claim_core.specs.Limits.{most_callers}
 use Rattle.claim_core.specs.Turns.{HaveBots}
-use Rattle.schedule_text.specs.Lists.{is_list, one_more_list}
+use Rattle.journal_text.specs.Parts.{one_more}
+use Rattle.schedule_text.specs.Lists.{is_list}
 use Rattle.schedule_text.specs.Readers.{a_list, lists_from}
 use Rattle.schedule_text.proofs.lists.read_all_lists.Given as goal
 
 abbrev pub invariant-loop-lists : goal.invariant-loop-lists
 invariant-loop-lists l = record {
-  reads : StillReads (lists_from l.bots l.turns 0) l.fn.tokens l.lists.ids (repeated is_list (a_list l.bots l.turns) one_more_list l.before) l.tokens;
+  reads : StillReads (lists_from l.bots l.turns 0) l.fn.tokens l.lists.ids (repeated is_list (a_list l.bots l.turns) one_more l.before) l.tokens;
   turns : l.lists.turns ≡ l.turns;
   same : length l.lists.ids ≡ l.before;
   few : l.before ≤ most_callers;

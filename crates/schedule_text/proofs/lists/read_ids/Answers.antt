@@ -7,7 +7,8 @@ use Rattle.text_tokens.specs.Lawful.{always}
 use Rattle.text_tokens.proofs.Stepping.{fails}
 use Rattle.text_tokens.proofs.Looping.{StillReads, loop_chains, loop_goes_on, loop_is_over, loop_fails}
 use Rattle.claim_core.specs.Limits.{most_ids}
-use Rattle.schedule_text.specs.Lists.{one_more_id, IsId}
+use Rattle.journal_text.specs.Parts.{one_more}
+use Rattle.schedule_text.specs.Lists.{IsId}
 use Rattle.schedule_text.specs.Readers.{an_id, ids_from, all_ids}
 use Rattle.schedule_text.proofs.ListLaws.{no_number, id_elements}
 use Rattle.schedule_text.proofs.lists.read_ids.Goals as goal
@@ -38,7 +39,7 @@ pub returns-in_err-id-clause-reads : goal.returns-in_err-id-clause-reads
 returns-in_err-id-clause-reads c =
     let p = err_from_is_err_and c.from_residual-in_err-id.result c.from_residual-in_err-id.ensures.1 in
     let bots = c.args.bots in
-    rw (p.1, p.2) (loop_fails (IsId bots) (an_id bots) one_more_id is_number always no_number (id_elements bots) (all_ids bots) c.args.tokens.now c.loop-ids.ids.items c.loop-ids.before c.loop-ids.tokens c.loop-ids.invariant.reads
+    rw (p.1, p.2) (loop_fails (IsId bots) (an_id bots) one_more is_number always no_number (id_elements bots) (all_ids bots) c.args.tokens.now c.loop-ids.ids.items c.loop-ids.before c.loop-ids.tokens c.loop-ids.invariant.reads
     c.in_err-id.field-0.0 c.more_id.new.tokens c.in_err-id.ensures.reads)
 
 pub loop-ids-preserved : goal.loop-ids-preserved
@@ -47,11 +48,11 @@ loop-ids-preserved c =
     let next = rw c.in-Some.is at c.in_ok-id.ensures.reads in
     let room : c.loop-ids.before < most_ids = rw c.in-Some.is at c.in_ok-id.ensures.room in
     let there = rw c.in-Some.is at c.in_ok-id.ensures.there in
-    let more = loop_goes_on (IsId bots) (an_id bots) one_more_id is_number always no_number (id_elements bots) (all_ids bots) c.args.tokens.now c.loop-ids.ids.items c.loop-ids.before c.loop-ids.tokens c.loop-ids.invariant.reads
+    let more = loop_goes_on (IsId bots) (an_id bots) one_more is_number always no_number (id_elements bots) (all_ids bots) c.args.tokens.now c.loop-ids.ids.items c.loop-ids.before c.loop-ids.tokens c.loop-ids.invariant.reads
     c.in-Some.id c.more_id.new.tokens next c.push-in-Some.new.self.items c.in_ok-push-2.ensures.items in
     let one : suc c.loop-ids.before ≡ c.loop-ids.before + 1 = omega arith in
     record {
-      reads = subst (λ (n : ℕ). StillReads (all_ids bots) c.args.tokens.now c.push-in-Some.new.self.items (repeated is_number (an_id bots) one_more_id n) c.more_id.new.tokens) one more;
+      reads = subst (λ (n : ℕ). StillReads (all_ids bots) c.args.tokens.now c.push-in-Some.new.self.items (repeated is_number (an_id bots) one_more n) c.more_id.new.tokens) one more;
       same = omega (arith, c.in_ok-push-2.ensures.len, c.loop-ids.invariant.same);
       some = omega arith;
       few = omega (arith, room);
@@ -61,5 +62,5 @@ loop-ids-preserved c =
 pub returns-clause-reads : goal.returns-clause-reads
 returns-clause-reads c =
     let bots = c.args.bots in
-    loop_is_over (IsId bots) (an_id bots) one_more_id is_number always no_number (id_elements bots) (all_ids bots) c.args.tokens.now c.loop-ids.ids.items c.loop-ids.before c.loop-ids.tokens c.loop-ids.invariant.reads
+    loop_is_over (IsId bots) (an_id bots) one_more is_number always no_number (id_elements bots) (all_ids bots) c.args.tokens.now c.loop-ids.ids.items c.loop-ids.before c.loop-ids.tokens c.loop-ids.invariant.reads
     c.more_id.new.tokens (rw c.in_default.is at c.in_ok-id.ensures.reads)

@@ -3,10 +3,11 @@ use Rattle.text_tokens.specs.Scan.{skip, ready, sign_len, front, scan, scan_end,
 use Rattle.text_tokens.specs.Cursor.{same_kind}
 use Rattle.text_tokens.specs.Reading.{one_within, the_line, numeral, either, times, elements, repeated}
 use Rattle.text_tokens.proofs.Obeying.{exact_law}
+use Rattle.amoebot_state.specs.Samples.{zeros}
 use Rattle.journal_text.specs.Readers.{an_int, a_node, a_chirality, a_bot}
 use Rattle.journal_text.proofs.Saying.{IsSaid, says}
 use Rattle.shape_text.specs.Shapes.{AreBots, IsShape, IsFinal}
-use Rattle.shape_text.specs.ShapeRows.{up_to_3, all_zero, rising}
+use Rattle.shape_text.specs.ShapeRows.{up_to_3, rising}
 use Rattle.shape_text.specs.Readers.{a_side, an_area, bot_word, a_bot_line, bots_from, a_drawing, written, shape_under, a_shape, a_final}
 use Rattle.shape_text.proofs.ShapeLaws.{part_shape, part_final, exact_shape, exact_final, exact_bots}
 use Rattle.shape_text.proofs.laws.shapes_are_decided.Goals as goal
@@ -42,7 +43,7 @@ returns-clause-read c = record {
   long_and_round = told _ _ refl;
   left_above = told _ _ refl;
   right_below = told _ _ refl;
-  no_value = shape_told 0 all_zero _ _ refl;
+  no_value = shape_told 0 zeros _ _ refl;
   eight_values = shape_told 8 rising _ _ refl;
   last_shape = final_told _ _ refl;
   last_amoebot = bots_told 4095 _ _ refl;
@@ -68,7 +69,7 @@ returns-clause-read c = record {
   same_node = told _ _ refl;
   tail_on_tail = told _ _ refl;
   value_4 = told _ _ refl;
-  no_maximum = shape_told 1 all_zero _ _ refl;
+  no_maximum = shape_told 1 zeros _ _ refl;
   box_before_adjacent = told _ _ refl;
   adjacent_before_overlap = told _ _ refl;
   overlap_before_value = told _ _ refl;

@@ -8,9 +8,9 @@ use Rattle.text_tokens.specs.Lawful.{always}
 use Rattle.text_tokens.proofs.Looping.{StillReads, loop_begins, loop_goes_on, loop_is_over, loop_fails}
 use Rattle.amoebot_state.specs.Limits.{most_bots}
 use Rattle.amoebot_state.specs.Refusals.{IsPlain}
-use Rattle.journal_text.specs.Parts.{is_end}
+use Rattle.journal_text.specs.Parts.{is_end, one_more}
 use Rattle.shape_text.specs.declared.shape.WrittenBot.{WrittenBot}
-use Rattle.shape_text.specs.Shapes.{is_bot, one_more, IsBotLine}
+use Rattle.shape_text.specs.Shapes.{is_bot, IsBotLine}
 use Rattle.shape_text.specs.Readers.{a_bot_line, bots_from, all_bots}
 use Rattle.shape_text.specs.Views as view
 use Rattle.shape_text.proofs.ShapeLaws.{bot_elements}

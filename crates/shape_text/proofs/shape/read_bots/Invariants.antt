@@ -4,7 +4,8 @@ use Rattle.text_tokens.specs.Reading.{repeated}
 use Rattle.text_tokens.proofs.Looping.{StillReads}
 use Rattle.amoebot_state.specs.Limits.{most_bots}
 use Rattle.amoebot_state.specs.Refusals.{IsPlain}
-use Rattle.shape_text.specs.Shapes.{is_bot, one_more}
+use Rattle.journal_text.specs.Parts.{one_more}
+use Rattle.shape_text.specs.Shapes.{is_bot}
 use Rattle.shape_text.specs.Readers.{a_bot_line, all_bots}
 use Rattle.shape_text.specs.Views as view
 use Rattle.shape_text.proofs.shape.read_bots.Given as goal

@@ -2,6 +2,7 @@ use Rattle.std.proofs.Common.{◌≡◌, ◌<◌, ◌⊎◌, inl, inr, ℕ, List
 use Rattle.std.specs.List.{All}
 use Rattle.text_tokens.specs.declared.refusal.ReadRefusal.{ReadRefusal}
 use Rattle.text_tokens.specs.declared.refusal.ReadRefusal.TheVariants.{Refused}
+use Rattle.text_tokens.specs.Cursor.{on_line}
 use Rattle.tri_lattice.specs.Extent.{Extent}
 use Rattle.amoebot_state.specs.declared.bot.Bot.{Bot}
 use Rattle.amoebot_state.specs.declared.refusal.WorldRefusal.{WorldRefusal}
@@ -9,7 +10,7 @@ use Rattle.amoebot_state.specs.declared.refusal.WorldRefusal.TheVariants as worl
 use Rattle.amoebot_state.specs.Configs.{config_of}
 use Rattle.amoebot_state.specs.Refusals.{IsPlain, IsFaultless, IsFirstFault}
 use Rattle.shape_text.specs.declared.shape.WrittenBot.{WrittenBot}
-use Rattle.shape_text.specs.Shapes.{on_line, written_shape}
+use Rattle.shape_text.specs.Shapes.{written_shape}
 use Rattle.shape_text.specs.Views as view
 use Rattle.shape_text.proofs.Judging.{same_bots, plain_bots, is_faultless, refusing, its_bot}
 use Rattle.shape_text.proofs.shape.world_of.Goals as goal

@@ -2,11 +2,10 @@ use Rattle.std.proofs.Common.{◌≡◌, List, [], ◌∷◌, Ok, Err, true, fal
 use Rattle.std.specs.Prelude.{codes}
 use Rattle.text_tokens.specs.declared.refusal.RefusalKind.TheVariants.{Unexpected, TooMany, Truncated}
 use Rattle.text_tokens.specs.Text.{Lexeme}
-use Rattle.text_tokens.specs.Cursor.{same_kind}
+use Rattle.text_tokens.specs.Cursor.{same_kind, on_line}
 use Rattle.text_tokens.specs.Reading.{Answer, one_within, the_line, numeral, either, by_role, limited, elements, repeated}
 use Rattle.text_tokens.specs.Lawful.{Tells}
 use Rattle.text_tokens.specs.Puts.{Put, a_part, a_put, IsPut, a_name, a_minus, part_of, a_sum, assigned, put}
-use Rattle.text_tokens.specs.JournalFaults.{at}
 use Rattle.text_tokens.specs.PutTexts.{name, digits, op, IsRead, IsPutFault, to_a, four}
 use Rattle.text_tokens.proofs.Obeying.{decided}
 use Rattle.text_tokens.proofs.PutLaws.{exact_put}
@@ -18,8 +17,8 @@ returns-clause-exact c = exact_put
 pub returns-clause-decided : goal.returns-clause-decided
 returns-clause-decided c = decided IsPut put exact_put
 
-is_so : (ts : List Lexeme) (r : Answer Put) → put (at 20 Truncated) ts ≡ r → Tells IsPut (at 20 Truncated) ts r
-is_so ts r e = subst (λ (s : Answer Put). Tells IsPut (at 20 Truncated) ts s) e (exact_put.tells (at 20 Truncated) ts)
+is_so : (ts : List Lexeme) (r : Answer Put) → put (on_line 20 Truncated) ts ≡ r → Tells IsPut (on_line 20 Truncated) ts r
+is_so ts r e = subst (λ (s : Answer Put). Tells IsPut (on_line 20 Truncated) ts s) e (exact_put.tells (on_line 20 Truncated) ts)
 
 own : IsRead (to_a (digits 3 (codes "1") ∷ op 4 (codes "-") ∷ digits 5 (codes "2") ∷ name 6 (codes "b") ∷ [])) (a_put None (codes "a") (a_part false 1 ∷ a_part true 2 ∷ [])) (name 6 (codes "b") ∷ [])
 unfolding same_kind one_within the_line numeral either by_role limited elements repeated a_name a_minus part_of a_sum assigned put
@@ -29,31 +28,31 @@ others : IsRead (name 1 (codes "a") ∷ op 2 (codes ".") ∷ name 3 (codes "b") 
 unfolding same_kind one_within the_line numeral either by_role limited elements repeated a_name a_minus part_of a_sum assigned put
 others = is_so _ (Ok (_, _)) refl
 
-neither : IsPutFault (name 1 (codes "a") ∷ op 2 (codes ";") ∷ []) (at 2 Unexpected)
+neither : IsPutFault (name 1 (codes "a") ∷ op 2 (codes ";") ∷ []) (on_line 2 Unexpected)
 unfolding same_kind one_within the_line numeral either by_role limited elements repeated a_name a_minus part_of a_sum assigned put
 neither = is_so _ (Err _) refl
 
-alone : IsPutFault (name 1 (codes "a") ∷ []) (at 20 Truncated)
+alone : IsPutFault (name 1 (codes "a") ∷ []) (on_line 20 Truncated)
 unfolding same_kind one_within the_line numeral either by_role limited elements repeated a_name a_minus part_of a_sum assigned put
 alone = is_so _ (Err _) refl
 
-no_name : IsPutFault (name 1 (codes "a") ∷ op 2 (codes ".") ∷ op 3 (codes ":=") ∷ []) (at 3 Unexpected)
+no_name : IsPutFault (name 1 (codes "a") ∷ op 2 (codes ".") ∷ op 3 (codes ":=") ∷ []) (on_line 3 Unexpected)
 unfolding same_kind one_within the_line numeral either by_role limited elements repeated a_name a_minus part_of a_sum assigned put
 no_name = is_so _ (Err _) refl
 
-no_number : IsPutFault (to_a (digits 3 (codes "1") ∷ op 4 (codes "+") ∷ op 5 (codes "-") ∷ [])) (at 5 Unexpected)
+no_number : IsPutFault (to_a (digits 3 (codes "1") ∷ op 4 (codes "+") ∷ op 5 (codes "-") ∷ [])) (on_line 5 Unexpected)
 unfolding same_kind one_within the_line numeral either by_role limited elements repeated a_name a_minus part_of a_sum assigned put
 no_number = is_so _ (Err _) refl
 
-no_more : IsPutFault (to_a (digits 3 (codes "1") ∷ op 4 (codes "+") ∷ [])) (at 20 Truncated)
+no_more : IsPutFault (to_a (digits 3 (codes "1") ∷ op 4 (codes "+") ∷ [])) (on_line 20 Truncated)
 unfolding same_kind one_within the_line numeral either by_role limited elements repeated a_name a_minus part_of a_sum assigned put
 no_more = is_so _ (Err _) refl
 
-fifth : IsPutFault (to_a (four (op 10 (codes "+") ∷ digits 11 (codes "5") ∷ []))) (at 11 TooMany)
+fifth : IsPutFault (to_a (four (op 10 (codes "+") ∷ digits 11 (codes "5") ∷ []))) (on_line 11 TooMany)
 unfolding same_kind one_within the_line numeral either by_role limited elements repeated a_name a_minus part_of a_sum assigned put
 fifth = is_so _ (Err _) refl
 
-no_fifth : IsPutFault (to_a (four (op 10 (codes "+") ∷ name 11 (codes "b") ∷ []))) (at 11 Unexpected)
+no_fifth : IsPutFault (to_a (four (op 10 (codes "+") ∷ name 11 (codes "b") ∷ []))) (on_line 11 Unexpected)
 unfolding same_kind one_within the_line numeral either by_role limited elements repeated a_name a_minus part_of a_sum assigned put
 no_fifth = is_so _ (Err _) refl
 

@@ -1,4 +1,4 @@
-use Rattle.std.proofs.Common.{◌≡◌, ◌+◌, ◌≤◌, map, length, vec_capacity}
+use Rattle.std.proofs.Common.{◌+◌, ◌≤◌, map, length, vec_capacity}
 use Rattle.turn_workers.proofs.Gathering.{AreCleared}
 use Rattle.turn_workers.proofs.working.clear.Given as goal
 

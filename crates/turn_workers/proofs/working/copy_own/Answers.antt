@@ -1,10 +1,5 @@
-use Rattle.std.proofs.Common.{◌≡◌, ◌<◌, length, ◌+◌, ◌++◌, ◌∷◌, [], suc, take, map, arith, ap, sym, ◌∙◌}
-use Rattle.std.proofs.Math.Seq.{take-suc}
-use Rattle.claim_core.specs.Turns.{MarkLists, marks_of}
-use Rattle.activation.specs.Answers.{mark_of}
-use Rattle.turn_workers.specs.Turns.{marks_in}
-use Rattle.turn_workers.specs.Workers.{with_marks}
-use Rattle.turn_workers.proofs.Gathering.{copied_one, one_more}
+use Rattle.std.proofs.Common.{◌<◌, length, arith}
+use Rattle.turn_workers.proofs.Gathering.{one_more}
 use Rattle.turn_workers.proofs.working.copy_own.Goals as goal
 
 -- src/working.rt

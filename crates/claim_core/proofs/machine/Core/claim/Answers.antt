@@ -40,14 +40,14 @@ unreachable-requires g c =
     let some = claim_next c.self.invariant seat ph in
     none-some some.0 (sym c.in-None.is ∙ sym asked ∙ some.1)
 
-pub unreachable-requires-in-None-number : goal.unreachable-requires-in-None-number
-unreachable-requires-in-None-number g c =
+pub unreachable-requires-in-None-cell_number : goal.unreachable-requires-in-None-cell_number
+unreachable-requires-in-None-cell_number g c =
     let seat = seat_in c.self.invariant c.self.view_is refl c.args.caller phase.Claim c.requires c.from.result c.index_mut-seat.result.now c.from.ensures c.index_mut-seat.ensures.value in
     let ph = phase_in c.self.invariant seat c.self.view_is refl phase.Claim c.requires in
     let asked : next_cell c.self.inside.world.area (bot_of_turn c.self.inside.lists c.args.caller c.index_mut-seat.result.now.turn) c.index_mut-seat.result.now.held.items ≡ c.next_cell.result = (λ j. next_cell (sym c.area-area.ensures j) (sym c.bot-bot.ensures j) (sym c.as_slice.ensures.value j)) ∙ sym c.next_cell.ensures in
     let nx = asked ∙ c.in-Some.is in
     let num = claim_number c.self.invariant seat ph c.in-Some.name nx in
-    none-some num.0 (sym c.in-None-number.is ∙ c.number.ensures ∙ ap (λ a. number a c.in-Some.name) c.area-area.ensures ∙ num.1)
+    none-some num.0 (sym c.in-None-cell_number.is ∙ c.cell_number.ensures ∙ ap (λ a. number a c.in-Some.name) c.area-area.ensures ∙ num.1)
 
 pub index-found-requires : goal.index-found-requires
 index-found-requires g c =
@@ -55,9 +55,9 @@ index-found-requires g c =
     let ph = phase_in c.self.invariant seat c.self.view_is refl phase.Claim c.requires in
     let asked : next_cell c.self.inside.world.area (bot_of_turn c.self.inside.lists c.args.caller c.index_mut-seat.result.now.turn) c.index_mut-seat.result.now.held.items ≡ c.next_cell.result = (λ j. next_cell (sym c.area-area.ensures j) (sym c.bot-bot.ensures j) (sym c.as_slice.ensures.value j)) ∙ sym c.next_cell.ensures in
     let nx = asked ∙ c.in-Some.is in
-    let at_n = ap (λ a. number a c.in-Some.name) (sym c.area-area.ensures) ∙ sym c.number.ensures ∙ c.in-Some-number.is in
+    let at_n = ap (λ a. number a c.in-Some.name) (sym c.area-area.ensures) ∙ sym c.cell_number.ensures ∙ c.in-Some-cell_number.is in
     let num = claim_number c.self.invariant seat ph c.in-Some.name nx in
-    let same = same_Some num.0 c.in-Some-number.number (sym num.1 ∙ at_n) in
+    let same = same_Some num.0 c.in-Some-cell_number.number (sym num.1 ∙ at_n) in
     omega (arith, num.2, same, c.self.inside.tags.ok.0)
 
 pub invariant_of-self : goal.invariant_of-self
@@ -66,8 +66,8 @@ invariant_of-self g c =
     let ph = phase_in c.self.invariant seat c.self.view_is refl phase.Claim c.requires in
     let asked : next_cell c.self.inside.world.area (bot_of_turn c.self.inside.lists c.args.caller c.index_mut-seat.result.now.turn) c.index_mut-seat.result.now.held.items ≡ c.next_cell.result = (λ j. next_cell (sym c.area-area.ensures j) (sym c.bot-bot.ensures j) (sym c.as_slice.ensures.value j)) ∙ sym c.next_cell.ensures in
     let nx = asked ∙ c.in-Some.is in
-    let at_n = ap (λ a. number a c.in-Some.name) (sym c.area-area.ensures) ∙ sym c.number.ensures ∙ c.in-Some-number.is in
-    let step = claim_refused c.self.invariant seat ph c.in-Some.name nx c.in-Some-number.number at_n c.index-found.result.now c.index-found.ensures (record c.index_mut-seat.result.now { phase = phase.Refusing c.in-Some.name c.index-found.result.now }) c.if-found-ne0.true refl refl refl in
+    let at_n = ap (λ a. number a c.in-Some.name) (sym c.area-area.ensures) ∙ sym c.cell_number.ensures ∙ c.in-Some-cell_number.is in
+    let step = claim_refused c.self.invariant seat ph c.in-Some.name nx c.in-Some-cell_number.number at_n c.index-found.result.now c.index-found.ensures (record c.index_mut-seat.result.now { phase = phase.Refusing c.in-Some.name c.index-found.result.now }) c.if-found-ne0.true refl refl refl in
     kept c.self.invariant c.args.caller refl step c.self.invariant.run c.self.invariant.turns (c.self.invariant.each ∙ sym (length-set c.self.inside.seats.items c.from.result _)) c.self.invariant.room c.self.invariant.few
 
 pub returns-then-found-ne0 : goal.returns-then-found-ne0
@@ -76,8 +76,8 @@ returns-then-found-ne0 g c =
     let ph = phase_in c.self.invariant seat c.self.view_is refl phase.Claim c.requires in
     let asked : next_cell c.self.inside.world.area (bot_of_turn c.self.inside.lists c.args.caller c.index_mut-seat.result.now.turn) c.index_mut-seat.result.now.held.items ≡ c.next_cell.result = (λ j. next_cell (sym c.area-area.ensures j) (sym c.bot-bot.ensures j) (sym c.as_slice.ensures.value j)) ∙ sym c.next_cell.ensures in
     let nx = asked ∙ c.in-Some.is in
-    let at_n = ap (λ a. number a c.in-Some.name) (sym c.area-area.ensures) ∙ sym c.number.ensures ∙ c.in-Some-number.is in
-    let step = claim_refused c.self.invariant seat ph c.in-Some.name nx c.in-Some-number.number at_n c.index-found.result.now c.index-found.ensures (record c.index_mut-seat.result.now { phase = phase.Refusing c.in-Some.name c.index-found.result.now }) c.if-found-ne0.true refl refl refl in
+    let at_n = ap (λ a. number a c.in-Some.name) (sym c.area-area.ensures) ∙ sym c.cell_number.ensures ∙ c.in-Some-cell_number.is in
+    let step = claim_refused c.self.invariant seat ph c.in-Some.name nx c.in-Some-cell_number.number at_n c.index-found.result.now c.index-found.ensures (record c.index_mut-seat.result.now { phase = phase.Refusing c.in-Some.name c.index-found.result.now }) c.if-found-ne0.true refl refl refl in
     closes g.D.Decider.verdict c.self.inside.decider.now c.self.inside.journal.first c.self.inside.journal.first c.self.inside.lists _ _ c.args.self.now c.args.caller c.self.view_is refl step
 
 pub index_mut-requires : goal.index_mut-requires
@@ -86,9 +86,9 @@ index_mut-requires g c =
     let ph = phase_in c.self.invariant seat c.self.view_is refl phase.Claim c.requires in
     let asked : next_cell c.self.inside.world.area (bot_of_turn c.self.inside.lists c.args.caller c.index_mut-seat.result.now.turn) c.index_mut-seat.result.now.held.items ≡ c.next_cell.result = (λ j. next_cell (sym c.area-area.ensures j) (sym c.bot-bot.ensures j) (sym c.as_slice.ensures.value j)) ∙ sym c.next_cell.ensures in
     let nx = asked ∙ c.in-Some.is in
-    let at_n = ap (λ a. number a c.in-Some.name) (sym c.area-area.ensures) ∙ sym c.number.ensures ∙ c.in-Some-number.is in
+    let at_n = ap (λ a. number a c.in-Some.name) (sym c.area-area.ensures) ∙ sym c.cell_number.ensures ∙ c.in-Some-cell_number.is in
     let num = claim_number c.self.invariant seat ph c.in-Some.name nx in
-    let same = same_Some num.0 c.in-Some-number.number (sym num.1 ∙ at_n) in
+    let same = same_Some num.0 c.in-Some-cell_number.number (sym num.1 ∙ at_n) in
     omega (arith, num.2, same, c.self.inside.tags.ok.0)
 
 pub value_of-requires : goal.value_of-requires
@@ -112,9 +112,9 @@ after_win-seat-requires-clause-plain g c =
     let ph = phase_in c.self.invariant seat c.self.view_is refl phase.Claim c.requires in
     let asked : next_cell c.self.inside.world.area (bot_of_turn c.self.inside.lists c.args.caller c.index_mut-seat.result.now.turn) c.index_mut-seat.result.now.held.items ≡ c.next_cell.result = (λ j. next_cell (sym c.area-area.ensures j) (sym c.bot-bot.ensures j) (sym c.as_slice.ensures.value j)) ∙ sym c.next_cell.ensures in
     let nx = asked ∙ c.in-Some.is in
-    let at_n = ap (λ a. number a c.in-Some.name) (sym c.area-area.ensures) ∙ sym c.number.ensures ∙ c.in-Some-number.is in
+    let at_n = ap (λ a. number a c.in-Some.name) (sym c.area-area.ensures) ∙ sym c.cell_number.ensures ∙ c.in-Some-cell_number.is in
     let cells : c.as_slice-2.result.now ≡ c.index_mut-seat.result.now.held.items ++ (c.in-Some.name, held_by c.self.inside.world c.in-Some.name) ∷ [] = c.as_slice-2.ensures.value ∙ c.push.ensures.items ∙ ap (λ x. c.index_mut-seat.result.now.held.items ++ (c.in-Some.name, x) ∷ []) c.value_of.ensures in
-    let plain = claim_more_plain c.self.invariant seat ph c.in-Some.name nx c.in-Some-number.number at_n c.index-found.result.now c.index-found.ensures c.if-found-ne0.false in
+    let plain = claim_more_plain c.self.invariant seat ph c.in-Some.name nx c.in-Some-cell_number.number at_n c.index-found.result.now c.index-found.ensures c.if-found-ne0.false in
     λ ks known. subst (λ (z : Pairs × ℕ). IfSome (body_in z.0 z.1) IsPlain) (λ j. (sym cells j, sym c.bot-bot.ensures j)) plain
 
 pub after_win-seat-requires-clause-shown : goal.after_win-seat-requires-clause-shown
@@ -123,10 +123,10 @@ after_win-seat-requires-clause-shown g c =
     let ph = phase_in c.self.invariant seat c.self.view_is refl phase.Claim c.requires in
     let asked : next_cell c.self.inside.world.area (bot_of_turn c.self.inside.lists c.args.caller c.index_mut-seat.result.now.turn) c.index_mut-seat.result.now.held.items ≡ c.next_cell.result = (λ j. next_cell (sym c.area-area.ensures j) (sym c.bot-bot.ensures j) (sym c.as_slice.ensures.value j)) ∙ sym c.next_cell.ensures in
     let nx = asked ∙ c.in-Some.is in
-    let at_n = ap (λ a. number a c.in-Some.name) (sym c.area-area.ensures) ∙ sym c.number.ensures ∙ c.in-Some-number.is in
+    let at_n = ap (λ a. number a c.in-Some.name) (sym c.area-area.ensures) ∙ sym c.cell_number.ensures ∙ c.in-Some-cell_number.is in
     let cells : c.as_slice-2.result.now ≡ c.index_mut-seat.result.now.held.items ++ (c.in-Some.name, held_by c.self.inside.world c.in-Some.name) ∷ [] = c.as_slice-2.ensures.value ∙ c.push.ensures.items ∙ ap (λ x. c.index_mut-seat.result.now.held.items ++ (c.in-Some.name, x) ∷ []) c.value_of.ensures in
     λ ks known none.
-    let shown = claim_shown c.self.invariant seat ph c.in-Some.name nx c.in-Some-number.number at_n c.index-found.result.now c.index-found.ensures c.if-found-ne0.false ((λ j. next_cell (sym c.area-area.ensures j) (sym c.bot-bot.ensures j) (sym cells j)) ∙ none) in
+    let shown = claim_shown c.self.invariant seat ph c.in-Some.name nx c.in-Some-cell_number.number at_n c.index-found.result.now c.index-found.ensures c.if-found-ne0.false ((λ j. next_cell (sym c.area-area.ensures j) (sym c.bot-bot.ensures j) (sym cells j)) ∙ none) in
     subst IsShown (λ j. the_shown (sym c.area-area.ensures j) (sym c.maxes.ensures j) (sym c.bot-bot.ensures j) (sym cells j)) shown
 
 pub invariant_of-self-2 : goal.invariant_of-self-2
@@ -135,16 +135,16 @@ invariant_of-self-2 g c =
     let ph = phase_in c.self.invariant seat c.self.view_is refl phase.Claim c.requires in
     let asked : next_cell c.self.inside.world.area (bot_of_turn c.self.inside.lists c.args.caller c.index_mut-seat.result.now.turn) c.index_mut-seat.result.now.held.items ≡ c.next_cell.result = (λ j. next_cell (sym c.area-area.ensures j) (sym c.bot-bot.ensures j) (sym c.as_slice.ensures.value j)) ∙ sym c.next_cell.ensures in
     let nx = asked ∙ c.in-Some.is in
-    let at_n = ap (λ a. number a c.in-Some.name) (sym c.area-area.ensures) ∙ sym c.number.ensures ∙ c.in-Some-number.is in
+    let at_n = ap (λ a. number a c.in-Some.name) (sym c.area-area.ensures) ∙ sym c.cell_number.ensures ∙ c.in-Some-cell_number.is in
     let cells : c.as_slice-2.result.now ≡ c.index_mut-seat.result.now.held.items ++ (c.in-Some.name, held_by c.self.inside.world c.in-Some.name) ∷ [] = c.as_slice-2.ensures.value ∙ c.push.ensures.items ∙ ap (λ x. c.index_mut-seat.result.now.held.items ++ (c.in-Some.name, x) ∷ []) c.value_of.ensures in
     let own = bot_of_turn c.self.inside.lists c.args.caller c.index_mut-seat.result.now.turn in
     let ph2 : c.after_win-seat.result ≡ phase_after (g.D.Decider.verdict c.self.inside.decider.now) (the_shown c.self.inside.world.area c.self.inside.world.maxes own (c.index_mut-seat.result.now.held.items ++ (c.in-Some.name, held_by c.self.inside.world c.in-Some.name) ∷ [])) (next_cell c.self.inside.world.area own (c.index_mut-seat.result.now.held.items ++ (c.in-Some.name, held_by c.self.inside.world c.in-Some.name) ∷ [])) =
     c.after_win-seat.ensures ∙ (λ j. phase_after (g.D.Decider.verdict c.self.inside.decider.now) (the_shown (c.area-area.ensures j) (c.maxes.ensures j) (c.bot-bot.ensures j) (cells j)) (next_cell (c.area-area.ensures j) (c.bot-bot.ensures j) (cells j))) in
     let held = c.push.ensures.items ∙ ap (λ x. c.index_mut-seat.result.now.held.items ++ (c.in-Some.name, x) ∷ []) c.value_of.ensures in
     let new = record c.index_mut-seat.result.now { phase = c.after_win-seat.result; held = c.push.new.self } in
-    let won = claim_won c.self.invariant seat ph c.in-Some.name nx c.in-Some-number.number at_n c.index-found.result.now c.index-found.ensures c.if-found-ne0.false new refl held ph2 in
+    let won = claim_won c.self.invariant seat ph c.in-Some.name nx c.in-Some-cell_number.number at_n c.index-found.result.now c.index-found.ensures c.if-found-ne0.false new refl held ph2 in
     let tagged : c.tag.result ≡ tag c.args.caller c.index_mut-seat.result.now.turn own = c.tag.ensures ∙ ap (tag c.args.caller c.index_mut-seat.result.now.turn) c.bot-bot.ensures in
-    let step = ap (λ t. state_of (set c.self.inside.tags.items c.in-Some-number.number t) c.self.inside.world c.self.inside.journal c.self.inside.holder (set c.self.inside.seats.items c.from.result new) c.self.inside.marks) tagged ∙ won in
+    let step = ap (λ t. state_of (set c.self.inside.tags.items c.in-Some-cell_number.number t) c.self.inside.world c.self.inside.journal c.self.inside.holder (set c.self.inside.seats.items c.from.result new) c.self.inside.marks) tagged ∙ won in
     kept c.self.invariant c.args.caller refl step c.self.invariant.run c.self.invariant.turns (c.self.invariant.each ∙ sym (length-set c.self.inside.seats.items c.from.result _)) c.self.invariant.room c.self.invariant.few
 
 pub returns : goal.returns
@@ -153,14 +153,14 @@ returns g c =
     let ph = phase_in c.self.invariant seat c.self.view_is refl phase.Claim c.requires in
     let asked : next_cell c.self.inside.world.area (bot_of_turn c.self.inside.lists c.args.caller c.index_mut-seat.result.now.turn) c.index_mut-seat.result.now.held.items ≡ c.next_cell.result = (λ j. next_cell (sym c.area-area.ensures j) (sym c.bot-bot.ensures j) (sym c.as_slice.ensures.value j)) ∙ sym c.next_cell.ensures in
     let nx = asked ∙ c.in-Some.is in
-    let at_n = ap (λ a. number a c.in-Some.name) (sym c.area-area.ensures) ∙ sym c.number.ensures ∙ c.in-Some-number.is in
+    let at_n = ap (λ a. number a c.in-Some.name) (sym c.area-area.ensures) ∙ sym c.cell_number.ensures ∙ c.in-Some-cell_number.is in
     let cells : c.as_slice-2.result.now ≡ c.index_mut-seat.result.now.held.items ++ (c.in-Some.name, held_by c.self.inside.world c.in-Some.name) ∷ [] = c.as_slice-2.ensures.value ∙ c.push.ensures.items ∙ ap (λ x. c.index_mut-seat.result.now.held.items ++ (c.in-Some.name, x) ∷ []) c.value_of.ensures in
     let own = bot_of_turn c.self.inside.lists c.args.caller c.index_mut-seat.result.now.turn in
     let ph2 : c.after_win-seat.result ≡ phase_after (g.D.Decider.verdict c.self.inside.decider.now) (the_shown c.self.inside.world.area c.self.inside.world.maxes own (c.index_mut-seat.result.now.held.items ++ (c.in-Some.name, held_by c.self.inside.world c.in-Some.name) ∷ [])) (next_cell c.self.inside.world.area own (c.index_mut-seat.result.now.held.items ++ (c.in-Some.name, held_by c.self.inside.world c.in-Some.name) ∷ [])) =
     c.after_win-seat.ensures ∙ (λ j. phase_after (g.D.Decider.verdict c.self.inside.decider.now) (the_shown (c.area-area.ensures j) (c.maxes.ensures j) (c.bot-bot.ensures j) (cells j)) (next_cell (c.area-area.ensures j) (c.bot-bot.ensures j) (cells j))) in
     let held = c.push.ensures.items ∙ ap (λ x. c.index_mut-seat.result.now.held.items ++ (c.in-Some.name, x) ∷ []) c.value_of.ensures in
     let new = record c.index_mut-seat.result.now { phase = c.after_win-seat.result; held = c.push.new.self } in
-    let won = claim_won c.self.invariant seat ph c.in-Some.name nx c.in-Some-number.number at_n c.index-found.result.now c.index-found.ensures c.if-found-ne0.false new refl held ph2 in
+    let won = claim_won c.self.invariant seat ph c.in-Some.name nx c.in-Some-cell_number.number at_n c.index-found.result.now c.index-found.ensures c.if-found-ne0.false new refl held ph2 in
     let tagged : c.tag.result ≡ tag c.args.caller c.index_mut-seat.result.now.turn own = c.tag.ensures ∙ ap (tag c.args.caller c.index_mut-seat.result.now.turn) c.bot-bot.ensures in
-    let step = ap (λ t. state_of (set c.self.inside.tags.items c.in-Some-number.number t) c.self.inside.world c.self.inside.journal c.self.inside.holder (set c.self.inside.seats.items c.from.result new) c.self.inside.marks) tagged ∙ won in
+    let step = ap (λ t. state_of (set c.self.inside.tags.items c.in-Some-cell_number.number t) c.self.inside.world c.self.inside.journal c.self.inside.holder (set c.self.inside.seats.items c.from.result new) c.self.inside.marks) tagged ∙ won in
     closes g.D.Decider.verdict c.self.inside.decider.now c.self.inside.journal.first c.self.inside.journal.first c.self.inside.lists _ _ c.args.self.now c.args.caller c.self.view_is refl step

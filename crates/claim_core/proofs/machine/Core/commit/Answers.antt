@@ -1,12 +1,11 @@
-use Rattle.std.proofs.Common.{◌≡◌, ◌+◌, ◌++◌, ◌∷◌, [], refl, sym, ap, ◌∙◌, subst, arith, length, List, ℕ, map, get_or, set, length-append}
+use Rattle.std.proofs.Common.{◌≡◌, ◌+◌, ◌++◌, ◌∷◌, [], refl, sym, ap, ◌∙◌, subst, arith, length, List, map, get_or, set, length-append}
 use Rattle.std.proofs.Math.ListN.{length-set}
 use Rattle.std.specs.List.{refill}
 use Rattle.std.proofs.lemmas.List.{take_at, length-map}
 use Rattle.arrayvec.specs.ArrayVec.{with_items}
-use Rattle.amoebot_state.specs.declared.verdict.Change.{Change}
 use Rattle.amoebot_state.specs.declared.verdict.Entry.{Entry}
 use Rattle.amoebot_state.specs.Configs.{Config}
-use Rattle.amoebot_state.specs.Steps.{Run}
+use Rattle.amoebot_state.specs.Steps.{Run, entry_of}
 use Rattle.claim_core.specs.declared.marks.Mark.TheVariants as mark
 use Rattle.claim_core.specs.declared.state.Phase.TheVariants as phase
 use Rattle.claim_core.specs.Cells.{held_by}
@@ -19,9 +18,6 @@ use Rattle.claim_core.proofs.machine.Core.commit.Goals as goal
 
 refill_same : {A : Type 0} (xs ws : List A) → length ws ≡ length xs → refill (length xs) xs ws ≡ ws
 refill_same xs ws e = take_at ws _ (length xs) e
-
-abbrev the_entry : ℕ → ℕ → ℕ → Change → Entry
-the_entry caller turn bot change = record { caller = caller; turn = turn; bot = bot; action = change.action; moved = change.moved; patch = change.patch }
 
 pub index_mut-seat-requires : goal.index_mut-seat-requires
 index_mut-seat-requires g c = omega (arith, inside_in c.self.invariant c.self.view_is refl c.args.caller (phase.Committing c.requires.0) c.requires.1, c.from.ensures, c.self.inside.seats.ok.0)
@@ -87,7 +83,7 @@ invariant_of-self g c =
     let left = record c.index_mut-seat.result.now { phase = c.replace.new.dest; held = with_items c.index_mut-seat.result.now.held c.record_again.new.held } in
     let freed = subst (λ n. Frees n left c.free.new.self) c.turns-turns.ensures c.free.ensures in
     let added = ap (λ m. m.marks) c.add.ensures ∙ ap (λ es. set c.self.inside.marks.marks c.args.caller (get_or c.self.inside.marks.marks c.args.caller [] ++ mark.Done (length es) ∷ [])) c.entries.ensures in
-    let same_entry = ap (λ b. the_entry c.args.caller c.index_mut-seat.result.now.turn b c.in-Committing.change) c.bot-bot.ensures in
+    let same_entry = ap (λ b. entry_of c.args.caller c.index_mut-seat.result.now.turn b c.in-Committing.change) c.bot-bot.ensures in
     let step = committed c.self.invariant seat c.in-Committing.change ph c.apply.new.self c.apply.ensures left c.free.new.self c.push.new.self c.add.new.self _ refl held freed same_entry c.push.ensures.entries added in
     let run = committing_run c.self.invariant seat c.in-Committing.change ph c.apply.new.self c.apply.ensures _ same_entry in
     let room = room_after c.self.invariant c.args.caller (mark.Done (length c.self.inside.journal.entries)) unmarked_now in
@@ -105,6 +101,6 @@ returns g c =
     let left = record c.index_mut-seat.result.now { phase = c.replace.new.dest; held = with_items c.index_mut-seat.result.now.held c.record_again.new.held } in
     let freed = subst (λ n. Frees n left c.free.new.self) c.turns-turns.ensures c.free.ensures in
     let added = ap (λ m. m.marks) c.add.ensures ∙ ap (λ es. set c.self.inside.marks.marks c.args.caller (get_or c.self.inside.marks.marks c.args.caller [] ++ mark.Done (length es) ∷ [])) c.entries.ensures in
-    let same_entry = ap (λ b. the_entry c.args.caller c.index_mut-seat.result.now.turn b c.in-Committing.change) c.bot-bot.ensures in
+    let same_entry = ap (λ b. entry_of c.args.caller c.index_mut-seat.result.now.turn b c.in-Committing.change) c.bot-bot.ensures in
     let step = committed c.self.invariant seat c.in-Committing.change ph c.apply.new.self c.apply.ensures left c.free.new.self c.push.new.self c.add.new.self _ refl held freed same_entry c.push.ensures.entries added in
     closes g.D.Decider.verdict c.self.inside.decider.now c.self.inside.journal.first c.push.new.self.first c.self.inside.lists _ _ c.args.self.now c.args.caller c.self.view_is c.push.ensures.first step

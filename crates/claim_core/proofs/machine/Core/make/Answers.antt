@@ -1,25 +1,15 @@
-use Rattle.std.proofs.Common.{◌≡◌, ◌+◌, ◌*◌, ◌∷◌, ◌++◌, [], List, ℕ, Bool, length, ap, sym, subst, ◌∙◌, arith, length-append}
-use Rattle.std.specs.Prelude.{vec_len, replicate, if◌then◌else◌}
+use Rattle.std.proofs.Common.{◌≡◌, ◌∷◌, ◌++◌, [], List, Bool, length, ap, sym, subst, ◌∙◌, arith, length-append}
+use Rattle.std.specs.Prelude.{replicate, if◌then◌else◌}
 use Rattle.std.specs.List.{All}
 use Rattle.std.proofs.lemmas.List.{length-map}
 use Rattle.std.proofs.lemmas.List.Elements.{All-push}
-use Rattle.tri_lattice.specs.Extent.{Extent}
-use Rattle.amoebot_state.specs.declared.verdict.Verdict.{Verdict}
-use Rattle.amoebot_state.specs.Zones.{Shown}
-use Rattle.amoebot_state.specs.Configs.{Config}
 use Rattle.claim_core.specs.declared.machine.Seat.{Seat}
-use Rattle.claim_core.specs.Turns.{CallerLists, MarkLists}
-use Rattle.claim_core.specs.Machine.{Setup, fresh}
+use Rattle.claim_core.specs.Turns.{CallerLists, no_marks}
+use Rattle.claim_core.specs.Machine.{fresh, setup}
 use Rattle.claim_core.specs.Soundness.{IsSetup}
 use Rattle.claim_core.specs.Cores.{Begins, opened}
 use Rattle.claim_core.proofs.Opening.{grown, opens_so, is_core}
 use Rattle.claim_core.proofs.machine.Core.make.Goals as goal
-
-abbrev the_setup : (Shown → Verdict) → Config → CallerLists → Setup
-the_setup verdict world lists = record { verdict = verdict; world = world; lists = lists }
-
-abbrev the_marks : ℕ → ℕ → MarkLists
-the_marks turns callers = record { turns = turns; marks = replicate callers [] }
 
 pub loop-caller-preserved : goal.loop-caller-preserved
 loop-caller-preserved g c =
@@ -30,13 +20,11 @@ pub invariant_of-result : goal.invariant_of-result
 invariant_of-result g c =
     let first = ap (λ j. j.first) c.in_ok-reserve.ensures.ok ∙ c.in_ok-journal.ensures.first in
     let entries = ap (λ j. j.entries) c.in_ok-reserve.ensures.ok ∙ c.in_ok-journal.ensures.entries in
-    let nodes : c.size.result ≡ c.args.world.area.w * c.args.world.area.h = c.size.ensures.value ∙ ap (λ (a : Extent). a.w * a.h) c.area.ensures in
-    let size : c.size.result + c.from-2.result ≡ c.args.world.area.w * c.args.world.area.h + length c.args.world.bots = omega (arith, nodes, c.bots.ensures.value, c.from-2.ensures) in
-    let free = grown (c.size.result + c.from-2.result) _ 0 _ _ _ c.resize.ensures.items c.if-is_err.ensures.negation c.new-tags.ensures.items c.new-tags.ensures.len ∙ ap (λ n. replicate n 0) size in
+    let free = grown c.cells_of-cells.result _ 0 _ _ _ c.resize.ensures.items c.if-is_err.ensures.negation c.new-tags.ensures.items c.new-tags.ensures.len ∙ ap (λ n. replicate n 0) c.cells_of-cells.ensures.value in
     let many : length c.loop-caller.seats.items ≡ length c.in_ok-lists.lists.ids = omega (arith, c.loop-caller.invariant.0, c.loop-caller.seats.ok.0, c.callers-callers.ensures.value, c.loop-caller-test.false) in
     let begin = subst (λ t. All (Begins t 0) c.loop-caller.seats.items) c.turns-turns.ensures c.loop-caller.invariant.1 in
-    let told = c.in_ok-marks.ensures ∙ (λ i. the_marks (c.turns-turns.ensures i) (c.callers-callers.ensures.value i)) in
-    let ok : IsSetup (the_setup (g.D.Decider.verdict c.args.decider.now) c.args.world c.in_ok-lists.lists) = record {
+    let told = c.in_ok-marks.ensures ∙ (λ i. no_marks (c.callers-callers.ensures.value i) (c.turns-turns.ensures i)) in
+    let ok : IsSetup (setup (g.D.Decider.verdict c.args.decider.now) c.args.world c.in_ok-lists.lists) = record {
       valid = c.keeps.ensures.valid;
       few = c.keeps.ensures.few;
       lists = c.callers-callers.ensures.lists;
@@ -44,21 +32,18 @@ invariant_of-result g c =
       touches = c.touches_zone.ensures;
       leads = c.has_next.ensures;
     } in
-    let asked : c.from.result * c.turns-turns.result ≡ length c.in_ok-lists.lists.ids * c.in_ok-lists.lists.turns = λ i. (c.from.ensures ∙ c.callers-callers.ensures.value) i * c.turns-turns.ensures i in
-    is_core (g.D.Decider.verdict c.args.decider.now) c.args.world c.in_ok-lists.lists c.resize.new.self.items c.reserve.new.self c.loop-caller.seats.items c.in_ok-marks.marks first entries free many begin told ok (omega (arith, ap (λ j. j.spare) c.in_ok-reserve.ensures.ok, asked))
+    is_core (g.D.Decider.verdict c.args.decider.now) c.args.world c.in_ok-lists.lists c.resize.new.self.items c.reserve.new.self c.loop-caller.seats.items c.in_ok-marks.marks first entries free many begin told ok (omega (arith, ap (λ j. j.spare) c.in_ok-reserve.ensures.ok, c.all_turns.ensures))
 
 pub returns-clause-opened : goal.returns-clause-opened
 returns-clause-opened g c =
     let first = ap (λ j. j.first) c.in_ok-reserve.ensures.ok ∙ c.in_ok-journal.ensures.first in
     let entries = ap (λ j. j.entries) c.in_ok-reserve.ensures.ok ∙ c.in_ok-journal.ensures.entries in
-    let nodes : c.size.result ≡ c.args.world.area.w * c.args.world.area.h = c.size.ensures.value ∙ ap (λ (a : Extent). a.w * a.h) c.area.ensures in
-    let size : c.size.result + c.from-2.result ≡ c.args.world.area.w * c.args.world.area.h + length c.args.world.bots = omega (arith, nodes, c.bots.ensures.value, c.from-2.ensures) in
-    let free = grown (c.size.result + c.from-2.result) _ 0 _ _ _ c.resize.ensures.items c.if-is_err.ensures.negation c.new-tags.ensures.items c.new-tags.ensures.len ∙ ap (λ n. replicate n 0) size in
+    let free = grown c.cells_of-cells.result _ 0 _ _ _ c.resize.ensures.items c.if-is_err.ensures.negation c.new-tags.ensures.items c.new-tags.ensures.len ∙ ap (λ n. replicate n 0) c.cells_of-cells.ensures.value in
     let many : length c.loop-caller.seats.items ≡ length c.in_ok-lists.lists.ids = omega (arith, c.loop-caller.invariant.0, c.loop-caller.seats.ok.0, c.callers-callers.ensures.value, c.loop-caller-test.false) in
     let begin = subst (λ t. All (Begins t 0) c.loop-caller.seats.items) c.turns-turns.ensures c.loop-caller.invariant.1 in
-    let told = c.in_ok-marks.ensures ∙ (λ i. the_marks (c.turns-turns.ensures i) (c.callers-callers.ensures.value i)) in
+    let told = c.in_ok-marks.ensures ∙ (λ i. no_marks (c.callers-callers.ensures.value i) (c.turns-turns.ensures i)) in
     let opens = opens_so (g.D.Decider.verdict c.args.decider.now) c.args.world c.in_ok-lists.lists c.resize.new.self.items c.reserve.new.self c.loop-caller.seats.items c.in_ok-marks.marks first entries free many begin told in
     (λ i. record { decider = c.args.decider.now; first = first i; lists = c.in_ok-lists.lists; state = opens i }) ∙ ap (opened g.D.Decider.verdict c.args.decider.now c.args.world) c.in_ok-lists.ensures
 
 pub returns-clause-callers : goal.returns-clause-callers
-returns-clause-callers g c = ap (λ r. length r.state.callers) (returns-clause-opened g c) ∙ length-map c.args.lists.now.ids (λ _. fresh (the_setup (g.D.Decider.verdict c.args.decider.now) c.args.world c.args.lists.now))
+returns-clause-callers g c = ap (λ r. length r.state.callers) (returns-clause-opened g c) ∙ length-map c.args.lists.now.ids (λ _. fresh (setup (g.D.Decider.verdict c.args.decider.now) c.args.world c.args.lists.now))

@@ -22,14 +22,14 @@ pub index_mut-requires : goal.index_mut-requires
 index_mut-requires g c =
     let seat = seat_in c.self.invariant c.self.view_is refl c.args.caller phase.Releasing c.requires c.from.result c.index_mut-seat.result.now c.from.ensures c.index_mut-seat.ensures.value in
     let num = held_number c.self.invariant seat c.pop.new.self.items c.in-Some.name c.in-Some._value c.in-Some.ensures.items in
-    let same = same_Some num.0 c.in-Some-number.number (sym num.1 ∙ ap (λ a. number a c.in-Some.name) (sym c.area-area.ensures) ∙ sym c.number.ensures ∙ c.in-Some-number.is) in
+    let same = same_Some num.0 c.in-Some-cell_number.number (sym num.1 ∙ ap (λ a. number a c.in-Some.name) (sym c.area-area.ensures) ∙ sym c.cell_number.ensures ∙ c.in-Some-cell_number.is) in
     omega (arith, num.2, same, c.self.inside.tags.ok.0)
 
-pub unreachable-requires-in-None-number : goal.unreachable-requires-in-None-number
-unreachable-requires-in-None-number g c =
+pub unreachable-requires-in-None-cell_number : goal.unreachable-requires-in-None-cell_number
+unreachable-requires-in-None-cell_number g c =
     let seat = seat_in c.self.invariant c.self.view_is refl c.args.caller phase.Releasing c.requires c.from.result c.index_mut-seat.result.now c.from.ensures c.index_mut-seat.ensures.value in
     let num = held_number c.self.invariant seat c.pop.new.self.items c.in-Some.name c.in-Some._value c.in-Some.ensures.items in
-    none-some num.0 (sym c.in-None-number.is ∙ c.number.ensures ∙ ap (λ a. number a c.in-Some.name) c.area-area.ensures ∙ num.1)
+    none-some num.0 (sym c.in-None-cell_number.is ∙ c.cell_number.ensures ∙ ap (λ a. number a c.in-Some.name) c.area-area.ensures ∙ num.1)
 
 pub free-requires : goal.free-requires
 free-requires g c =
@@ -43,9 +43,9 @@ invariant_of-self g c =
     let seat = seat_in c.self.invariant c.self.view_is refl c.args.caller phase.Releasing c.requires c.from.result c.index_mut-seat.result.now c.from.ensures c.index_mut-seat.ensures.value in
     let ph = phase_in c.self.invariant seat c.self.view_is refl phase.Releasing c.requires in
     let left = record c.index_mut-seat.result.now { held = c.pop.new.self } in
-    let at_n = ap (λ a. number a c.in-Some.name) (sym c.area-area.ensures) ∙ sym c.number.ensures ∙ c.in-Some-number.is in
+    let at_n = ap (λ a. number a c.in-Some.name) (sym c.area-area.ensures) ∙ sym c.cell_number.ensures ∙ c.in-Some-cell_number.is in
     let freed = subst (λ n. Frees n left c.free.new.self) c.turns-turns.ensures c.free.ensures in
-    let step = released c.self.invariant seat left c.free.new.self c.in-Some.name c.in-Some._value c.in-Some-number.number ph c.in-Some.ensures.items refl at_n freed in
+    let step = released c.self.invariant seat left c.free.new.self c.in-Some.name c.in-Some._value c.in-Some-cell_number.number ph c.in-Some.ensures.items refl at_n freed in
     kept c.self.invariant c.args.caller refl step c.self.invariant.run c.self.invariant.turns (c.self.invariant.each ∙ sym (length-set c.self.inside.seats.items c.from.result _)) c.self.invariant.room c.self.invariant.few
 
 pub returns : goal.returns
@@ -53,7 +53,7 @@ returns g c =
     let seat = seat_in c.self.invariant c.self.view_is refl c.args.caller phase.Releasing c.requires c.from.result c.index_mut-seat.result.now c.from.ensures c.index_mut-seat.ensures.value in
     let ph = phase_in c.self.invariant seat c.self.view_is refl phase.Releasing c.requires in
     let left = record c.index_mut-seat.result.now { held = c.pop.new.self } in
-    let at_n = ap (λ a. number a c.in-Some.name) (sym c.area-area.ensures) ∙ sym c.number.ensures ∙ c.in-Some-number.is in
+    let at_n = ap (λ a. number a c.in-Some.name) (sym c.area-area.ensures) ∙ sym c.cell_number.ensures ∙ c.in-Some-cell_number.is in
     let freed = subst (λ n. Frees n left c.free.new.self) c.turns-turns.ensures c.free.ensures in
-    let step = released c.self.invariant seat left c.free.new.self c.in-Some.name c.in-Some._value c.in-Some-number.number ph c.in-Some.ensures.items refl at_n freed in
+    let step = released c.self.invariant seat left c.free.new.self c.in-Some.name c.in-Some._value c.in-Some-cell_number.number ph c.in-Some.ensures.items refl at_n freed in
     closes g.D.Decider.verdict c.self.inside.decider.now c.self.inside.journal.first c.self.inside.journal.first c.self.inside.lists _ _ c.args.self.now c.args.caller c.self.view_is refl step

@@ -1,7 +1,5 @@
-use Rattle.std.proofs.Common.{◌≡◌, ◌+◌, ◌*◌, ap, sym, ◌∙◌, arith, subst}
+use Rattle.std.proofs.Common.{sym, subst}
 use Rattle.amoebot_state.specs.Steps.{Run}
-use Rattle.tri_lattice.specs.Extent.{Extent}
-use Rattle.claim_rule.specs.Views.{cells}
 use Rattle.claim_rule.proofs.Closes.{seats_of, journal_there, entries_run, closes}
 use Rattle.claim_rule.proofs.field.Field.close.Goals as goal
 
@@ -12,23 +10,17 @@ gather_all-rest-requires-clause-seats g c = λ κs within.
 
 pub journal_of-journal-requires-clause-journal : goal.journal_of-journal-requires-clause-journal
 journal_of-journal-requires-clause-journal g c =
-    let nodes : c.size.result ≡ c.self.inside.world.area.w * c.self.inside.world.area.h = c.size.ensures.value ∙ ap (λ (a : Extent). a.w * a.h) c.area.ensures in
-    let count : c.size.result + c.from.result ≡ cells c.self.inside.world = omega (arith, nodes, c.bots.ensures.value, c.from.ensures) in
     journal_there g.D.Decider.verdict _ _ c.self.view_is _ _ c.self.invariant c.seats.inside.rest.me c.seats.inside.rest.table_id c.seats.inside.seats.items c.seats.invariant c.args.seats c.seats.view_is c.requires.field
-    c.requires.all _ count _ _ c.gather_all-rest.ensures.1 _ _ c.close_with.ensures.values.2
+    c.requires.all _ c.cells_of-cells.ensures.value _ _ c.gather_all-rest.ensures.1 _ _ c.close_with.ensures.values.2
 
 pub follow-requires-after_bounds : goal.follow-requires-after_bounds
 follow-requires-after_bounds g c = λ κs within.
-    let nodes : c.size.result ≡ c.self.inside.world.area.w * c.self.inside.world.area.h = c.size.ensures.value ∙ ap (λ (a : Extent). a.w * a.h) c.area.ensures in
-    let count : c.size.result + c.from.result ≡ cells c.self.inside.world = omega (arith, nodes, c.bots.ensures.value, c.from.ensures) in
     let run = entries_run g.D.Decider.verdict _ _ c.self.view_is _ _ c.self.invariant c.seats.inside.rest.me c.seats.inside.rest.table_id c.seats.inside.seats.items c.seats.invariant c.args.seats c.seats.view_is c.requires.field
-    c.requires.all _ count _ _ c.gather_all-rest.ensures.1 _ _ c.close_with.ensures.values.2 c.journal_of-journal.result c.journal_of-journal.ensures in
+    c.requires.all _ c.cells_of-cells.ensures.value _ _ c.gather_all-rest.ensures.1 _ _ c.close_with.ensures.values.2 c.journal_of-journal.result c.journal_of-journal.ensures in
     (run.0, subst (λ es. Run (g.D.Decider.verdict c.self.inside.decider.now) c.self.inside.world es run.0) (sym c.entries.ensures) run.1)
 
 pub returns : goal.returns
 returns g c =
-    let nodes : c.size.result ≡ c.self.inside.world.area.w * c.self.inside.world.area.h = c.size.ensures.value ∙ ap (λ (a : Extent). a.w * a.h) c.area.ensures in
-    let count : c.size.result + c.from.result ≡ cells c.self.inside.world = omega (arith, nodes, c.bots.ensures.value, c.from.ensures) in
     closes g.D.Decider.verdict _ _ c.self.view_is _ _ c.self.invariant c.seats.inside.rest.me c.seats.inside.rest.table_id c.seats.inside.seats.items c.seats.invariant c.args.seats c.seats.view_is c.requires.field
-    c.requires.all _ count _ _ c.gather_all-rest.ensures.1 _ _ c.close_with.ensures.values.2 c.journal_of-journal.result c.follow.new.world c.journal_of-journal.ensures
+    c.requires.all _ c.cells_of-cells.ensures.value _ _ c.gather_all-rest.ensures.1 _ _ c.close_with.ensures.values.2 c.journal_of-journal.result c.follow.new.world c.journal_of-journal.ensures
     (subst (λ es. Run (g.D.Decider.verdict c.self.inside.decider.now) c.self.inside.world es c.follow.new.world) c.entries.ensures c.follow.ensures)

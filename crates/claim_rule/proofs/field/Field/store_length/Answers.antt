@@ -1,8 +1,9 @@
 use Rattle.std.proofs.Common.{◌*◌, sym, subst}
 use Rattle.atomic_table.specs.Table.{step, Allows}
 use mathlib.Core.Option.{none}
+use Rattle.claim_core.specs.Cells.{cells}
 use Rattle.claim_rule.specs.Tokens.{FieldOf}
-use Rattle.claim_rule.specs.Views.{terms_of, cells}
+use Rattle.claim_rule.specs.Views.{terms_of}
 use Rattle.claim_rule.specs.Stands.{KeepsRule}
 use Rattle.claim_rule.specs.Commits.{IsToCommit, stored}
 use Rattle.claim_rule.proofs.Commits.{commit_allowed}

@@ -1,15 +1,12 @@
 use Rattle.std.proofs.Common.{◌≡◌, ◌+◌, ◌-◌, ◌≤◌, ℕ, List, false, take, drop, length, sym, ◌∙◌, ap, arith, length-drop}
-use Rattle.std.proofs.lemmas.List.{take_all}
+use Rattle.std.proofs.lemmas.List.{take_rest}
 use Rattle.text_tokens.specs.Scan.{front, skip}
 use Rattle.text_tokens.proofs.Standing.{at_skipped, is_ready}
 use Rattle.text_tokens.proofs.tokens.Tokens.at_next.Goals as goal
 
-rest_is : (source : List ℕ) (at : ℕ) → take (length source - at) (drop at source) ≡ drop at source
-rest_is source at = take_all (length source - at) (drop at source) (omega (arith, length-drop at source))
-
 skipped_rest : (source : List ℕ) (at line blanks to : ℕ) → skip false at line (take (length source - at) (drop at source)) ≡ record { text = drop blanks (take (length source - at) (drop at source)); at = at + blanks; line = to }
     → skip false at line (drop at source) ≡ record { text = drop blanks (drop at source); at = at + blanks; line = to }
-skipped_rest source at line blanks to e = rw (rest_is source at) at e
+skipped_rest source at line blanks to e = rw (take_rest source at) at e
 
 pub invariant_of-result : goal.invariant_of-result
 invariant_of-result c =
@@ -18,8 +15,8 @@ invariant_of-result c =
     let req = c.requires.line in
     record {
       skipped = is_ready c.args.source.now c.args.at c.args.line c.skip-blanks.result.0 c.skip-blanks.result.1 (skipped_rest _ _ _ _ _ (c.skip-blanks.ensures.skipped c.args.at));
-      front = c.front.ensures ∙ ap front (rest_is c.args.source.now (c.args.at + c.skip-blanks.result.0));
-      within = (let w : c.skip-blanks.result.0 ≤ length (drop c.args.at c.args.source.now) = rw (rest_is c.args.source.now c.args.at) at within in let r = c.requires.within in omega (arith, length-drop c.args.at c.args.source.now));
+      front = c.front.ensures ∙ ap front (take_rest c.args.source.now (c.args.at + c.skip-blanks.result.0));
+      within = (let w : c.skip-blanks.result.0 ≤ length (drop c.args.at c.args.source.now) = rw (take_rest c.args.source.now c.args.at) at within in let r = c.requires.within in omega (arith, length-drop c.args.at c.args.source.now));
       line = omega arith;
       small = c.requires.small;
     }

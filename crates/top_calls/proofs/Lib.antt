@@ -1,0 +1,4 @@
+pub mod Endings
+pub mod Fronts
+pub mod InMemory
+pub mod Working
