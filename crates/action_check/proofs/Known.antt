@@ -10,7 +10,7 @@ use Rattle.text_tokens.specs.declared.refusal.RefusalKind.TheVariants.{UnknownNa
 use Rattle.action_tree.specs.Limits.{most_names}
 use Rattle.action_check.specs.Scopes.{Scope, is_among}
 use Rattle.action_check.specs.Faults.{blamed, var_faults, bound_faults, binding_faults, declared_faults, range_faults}
-use Rattle.action_check.specs.Rules.{IsVar, IsInForce, IsNew, IsWithin}
+use Rattle.action_check.specs.Rules.{IsVariable, IsInForce, IsNew, IsAtMost}
 
 pub left_empty : {A : Type 0} (xs ys : List A) → xs ++ ys ≡ [] → xs ≡ []
 left_empty [] ys e = refl
@@ -59,10 +59,10 @@ range_fine : (is : Bool) (line : ℕ) → is ≡ true → (if is then [] else bl
 range_fine true line e = refl
 range_fine false line e = absurd cc
 
-pub is_var : (sc : Scope) (v : Name) → var_faults sc v ≡ [] → IsVar sc v
+pub is_var : (sc : Scope) (v : Name) → var_faults sc v ≡ [] → IsVariable sc v
 is_var sc v e = known sc.vars v (var_known _ (is_among sc.bound v) v.line e)
 
-pub var_is_fine : (sc : Scope) (v : Name) → IsVar sc v → var_faults sc v ≡ []
+pub var_is_fine : (sc : Scope) (v : Name) → IsVariable sc v → var_faults sc v ≡ []
 var_is_fine sc v c = known_fine _ (is_among sc.bound v) v.line (among sc.vars v c)
 
 pub is_in_force : (sc : Scope) (v : Name) → bound_faults sc v ≡ [] → IsInForce sc v
@@ -85,8 +85,8 @@ is_fresh earlier v e = unknown earlier v (twice_not _ v.line e)
 pub fresh_is_fine : (earlier : List (List ℕ)) (v : Name) → ¬ Contains earlier v.text → declared_faults earlier v ≡ []
 fresh_is_fine earlier v n = not_twice _ v.line (not_among earlier v n)
 
-pub is_within : (most : ℕ) (n : Literal) → range_faults most n ≡ [] → IsWithin most n
+pub is_within : (most : ℕ) (n : Literal) → range_faults most n ≡ [] → IsAtMost most n
 is_within most n e = leb-true n.value most (in_range _ n.line e)
 
-pub within_is_fine : (most : ℕ) (n : Literal) → IsWithin most n → range_faults most n ≡ []
+pub within_is_fine : (most : ℕ) (n : Literal) → IsAtMost most n → range_faults most n ≡ []
 within_is_fine most n l = range_fine _ n.line (le-leb n.value most l)

@@ -5,6 +5,6 @@ pub mod RulesKept
 pub mod Faultless
 pub mod Whole
 pub mod Firsts
-pub mod Walking
-pub mod Declaring
-pub mod Filling
+pub mod FaultLoops
+pub mod DeclarationLemmas
+pub mod MaxesLemmas

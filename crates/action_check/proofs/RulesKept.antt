@@ -1,18 +1,18 @@
 -- Where nothing is wrong, each part is what an evaluation relies on.
 use Rattle.std.proofs.Common.{true, ◌≡◌, ◌≤◌, ℕ, suc, [], ◌∷◌, length-append, arith}
-use Rattle.text_tokens.proofs.Beginnings.{right_empty}
+use Rattle.text_tokens.proofs.StartsLemmas.{right_empty}
 use Rattle.action_tree.specs.Trees.{Name, DirTerm, fixed, held, Guard, atom, negation, conjunction, disjunction, quantified, tested, comparison, Guards, no_guards, guard_then, Sum, no_terms, term_then, Term, number, own, of_port, count, direction, inner, mod6, PortExpr, bound, at_end, turned, first, Stmt, put, put_of, let_be, if_then, for_each, Stmts, no_stmts, stmt_then, Move, no_move, through, contract, Action}
 use Rattle.action_tree.specs.Limits.{most_names}
 use Rattle.action_tree.specs.Writable.{guard_names, guards_names, sum_names, term_names, port_names, with_let, stmt_names, stmts_names, move_names, action_names, is_action}
 use Rattle.action_tree.proofs.Conditions.{right_of}
 use Rattle.std.proofs.lemmas.Bool.{leb-true}
 use Rattle.action_check.specs.Limits.{most_literal, most_direction}
-use Rattle.action_check.specs.Scopes.{Scope, HasRoom, bind, after, after_all}
+use Rattle.action_check.specs.Scopes.{Scope, HasRoom, scope_with, scope_after, scope_after_all}
 use Rattle.action_check.specs.Faults.{dirterm_faults, guard_faults, guards_faults, sum_faults, term_faults, port_faults, stmt_faults, stmts_faults, move_faults, action_faults}
 use Rattle.action_check.specs.Rules.{DirTermKept, GuardKept, GuardsKept, SumKept, TermKept, PortKept, StmtKept, StmtsKept, MoveKept, ActionKept}
 use Rattle.action_check.proofs.Known.{left_empty, is_var, is_in_force, is_new, is_within}
 
-pub room_behind : (sc : Scope) (v : Name) (more : ℕ) → HasRoom sc (suc more) → HasRoom (bind sc v) more
+pub room_behind : (sc : Scope) (v : Name) (more : ℕ) → HasRoom sc (suc more) → HasRoom (scope_with sc v) more
 room_behind sc v more room = omega (arith, length-append sc.bound (v.text ∷ []))
 
 dirterm_kept : (sc : Scope) (d : DirTerm) → dirterm_faults sc d ≡ [] → DirTermKept sc d
@@ -26,7 +26,7 @@ mutual
   guard_kept sc (conjunction gs) room e = guards_kept sc gs room e
   guard_kept sc (disjunction gs) room e = guards_kept sc gs room e
   guard_kept sc (quantified q v s g) room e =
-      (is_new sc v (omega arith) (left_empty _ _ e), guard_kept (bind sc v) g (room_behind sc v _ room) (right_empty _ _ e))
+      (is_new sc v (omega arith) (left_empty _ _ e), guard_kept (scope_with sc v) g (room_behind sc v _ room) (right_empty _ _ e))
   guard_kept sc (tested t p) room e = port_kept sc p room e
   guard_kept sc (comparison a c b) room e = (sum_kept sc a (omega arith) (left_empty _ _ e), sum_kept sc b (omega arith) (right_empty _ _ e))
 
@@ -43,7 +43,7 @@ mutual
   term_kept sc (own v) room e = is_var sc v e
   term_kept sc (of_port p v) room e = (port_kept sc p room (left_empty _ _ e), is_var sc v (right_empty _ _ e))
   term_kept sc (count v s g) room e =
-      (is_new sc v (omega arith) (left_empty _ _ e), guard_kept (bind sc v) g (room_behind sc v _ room) (right_empty _ _ e))
+      (is_new sc v (omega arith) (left_empty _ _ e), guard_kept (scope_with sc v) g (room_behind sc v _ room) (right_empty _ _ e))
   term_kept sc (direction side p) room e = port_kept sc p room e
   term_kept sc inner room e = tt
   term_kept sc (mod6 s) room e = sum_kept sc s room e
@@ -53,10 +53,10 @@ mutual
   port_kept sc (at_end e d) room f = dirterm_kept sc d f
   port_kept sc (turned p n) room e = (port_kept sc p room (left_empty _ _ e), is_within most_direction n (right_empty _ _ e))
   port_kept sc (first v s g) room e =
-      (is_new sc v (omega arith) (left_empty _ _ e), guard_kept (bind sc v) g (room_behind sc v _ room) (right_empty _ _ e))
+      (is_new sc v (omega arith) (left_empty _ _ e), guard_kept (scope_with sc v) g (room_behind sc v _ room) (right_empty _ _ e))
 
 -- what a `let` leaves for the statements behind it
-room_after : (sc : Scope) (s : Stmt) (more : ℕ) → HasRoom sc (with_let s more) → HasRoom (after sc s) more
+room_after : (sc : Scope) (s : Stmt) (more : ℕ) → HasRoom sc (with_let s more) → HasRoom (scope_after sc s) more
 room_after sc (let_be v p) more room = room_behind sc v more room
 room_after sc (put v s) more room = room
 room_after sc (put_of p v s) more room = room
@@ -74,17 +74,17 @@ mutual
   stmt_kept sc (for_each v s g ss) more room _ e =
       let inside : HasRoom sc (suc (guard_names g)) = omega arith in
       let within : HasRoom sc (suc (stmts_names 0 ss)) = omega arith in
-      (is_new sc v (omega arith) (left_empty _ _ (left_empty _ _ e)), guard_kept (bind sc v) g (room_behind sc v _ inside) (right_empty _ _ (left_empty _ _ e)), stmts_kept (bind sc v) ss 0 (room_behind sc v _ within) (right_empty _ _ e))
+      (is_new sc v (omega arith) (left_empty _ _ (left_empty _ _ e)), guard_kept (scope_with sc v) g (room_behind sc v _ inside) (right_empty _ _ (left_empty _ _ e)), stmts_kept (scope_with sc v) ss 0 (room_behind sc v _ within) (right_empty _ _ e))
 
   -- a list that goes on with what has so many names
   pub stmts_kept : (sc : Scope) (ss : Stmts) (more : ℕ) → HasRoom sc (stmts_names more ss) → stmts_faults sc ss ≡ [] → StmtsKept sc ss
   stmts_kept sc no_stmts more room e = tt
   stmts_kept sc (stmt_then s ss) more room e =
-      (stmt_kept sc s (stmts_names more ss) (omega arith) (omega arith) (left_empty _ _ e), stmts_kept (after sc s) ss more (room_after sc s _ (omega arith)) (right_empty _ _ e))
+      (stmt_kept sc s (stmts_names more ss) (omega arith) (omega arith) (left_empty _ _ e), stmts_kept (scope_after sc s) ss more (room_after sc s _ (omega arith)) (right_empty _ _ e))
 
-pub room_after_all : (sc : Scope) (ss : Stmts) (more : ℕ) → HasRoom sc (stmts_names more ss) → HasRoom (after_all sc ss) more
+pub room_after_all : (sc : Scope) (ss : Stmts) (more : ℕ) → HasRoom sc (stmts_names more ss) → HasRoom (scope_after_all sc ss) more
 room_after_all sc no_stmts more room = room
-room_after_all sc (stmt_then s ss) more room = room_after_all (after sc s) ss more (room_after sc s _ (omega arith))
+room_after_all sc (stmt_then s ss) more room = room_after_all (scope_after sc s) ss more (room_after sc s _ (omega arith))
 
 -- what goes on with less has fewer names
 fewer_behind : (s : Stmt) (a b : ℕ) → a ≤ b → with_let s a ≤ with_let s b

@@ -3,13 +3,13 @@ use Rattle.std.proofs.Common.{◌≡◌, true, List, [], ◌∷◌, ◌++◌, le
 use Rattle.std.specs.List.{All, list_all}
 use Rattle.std.proofs.lemmas.List.Elements.{All-nil, All-cons, All-head, All-tail}
 use Rattle.amoebot_state.specs.Limits.{most_value}
-use Rattle.text_tokens.proofs.Beginnings.{right_empty}
+use Rattle.text_tokens.proofs.StartsLemmas.{right_empty}
 use Rattle.action_tree.specs.Trees.{Var, Action, Program}
 use Rattle.action_tree.specs.Writable.{action_names, is_action, is_writable}
 use Rattle.action_tree.proofs.Conditions.{left_of, right_of}
 use Rattle.action_check.specs.Scopes.{Scope, HasRoom}
 use Rattle.action_check.specs.Faults.{vars_faults, actions_faults, names_of_vars, names_of_actions, at_start, AreRulesKept}
-use Rattle.action_check.specs.Rules.{IsWithin, ActionKept, ProgramKept}
+use Rattle.action_check.specs.Rules.{IsAtMost, ActionKept, ProgramKept}
 use Rattle.action_check.proofs.Known.{left_empty, both_empty, is_fresh, fresh_is_fine, is_within, within_is_fine}
 use Rattle.action_check.proofs.Distinct.{AreFresh, none_distinct, distinct_from, fresh_from}
 use Rattle.action_check.proofs.RulesKept.{few_names, action_kept}
@@ -22,18 +22,18 @@ vars_fresh earlier [] e = tt
 vars_fresh earlier (v ∷ vs) e = (is_fresh earlier v.name (left_empty _ _ e), vars_fresh (earlier ++ v.name.text ∷ []) vs (right_empty _ _ (right_empty _ _ e)))
 
 -- where nothing is wrong with the variables, each greatest value is one that a variable can have
-pub maxes_within : (earlier : List _) (vs : List Var) → vars_faults earlier vs ≡ [] → All (λ v. IsWithin most_value v.max) vs
-maxes_within earlier [] e = All-nil (λ v. IsWithin most_value v.max)
+pub maxes_within : (earlier : List _) (vs : List Var) → vars_faults earlier vs ≡ [] → All (λ v. IsAtMost most_value v.max) vs
+maxes_within earlier [] e = All-nil (λ v. IsAtMost most_value v.max)
 maxes_within earlier (v ∷ vs) e =
     let rest = right_empty _ _ e in
-    All-cons (λ w. IsWithin most_value w.max) v vs (is_within most_value v.max (left_empty _ _ rest)) (maxes_within (earlier ++ v.name.text ∷ []) vs (right_empty _ _ rest))
+    All-cons (λ w. IsAtMost most_value w.max) v vs (is_within most_value v.max (left_empty _ _ rest)) (maxes_within (earlier ++ v.name.text ∷ []) vs (right_empty _ _ rest))
 
-vars_fine : (earlier : List _) (vs : List Var) → AreFresh earlier (names_of_vars vs) → All (λ v. IsWithin most_value v.max) vs → vars_faults earlier vs ≡ []
+vars_fine : (earlier : List _) (vs : List Var) → AreFresh earlier (names_of_vars vs) → All (λ v. IsAtMost most_value v.max) vs → vars_faults earlier vs ≡ []
 vars_fine earlier [] fresh within = refl
 vars_fine earlier (v ∷ vs) fresh within =
     both_empty _ _ (fresh_is_fine earlier v.name fresh.0)
-    (both_empty _ _ (within_is_fine most_value v.max (All-head (λ w. IsWithin most_value w.max) v vs within))
-    (vars_fine (earlier ++ v.name.text ∷ []) vs fresh.1 (All-tail (λ w. IsWithin most_value w.max) v vs within)))
+    (both_empty _ _ (within_is_fine most_value v.max (All-head (λ w. IsAtMost most_value w.max) v vs within))
+    (vars_fine (earlier ++ v.name.text ∷ []) vs fresh.1 (All-tail (λ w. IsAtMost most_value w.max) v vs within)))
 
 -- ---- actions
 

@@ -2,7 +2,7 @@
 use Rattle.std.specs.Prelude.{◌≡◌, true, map}
 use Rattle.action_tree.specs.Trees.{Program}
 use Rattle.action_tree.specs.Writable.{is_writable}
-use Rattle.action_tree.specs.Samples.{line, erosion, hexagon}
+use Rattle.action_tree.specs.Shipped.{line, erosion, hexagon}
 use Rattle.action_check.specs.Faults.{faults, AreRulesKept}
 use Rattle.action_check.specs.Rules.{ProgramKept}
 use Rattle.action_check.specs.Rows.{rows}

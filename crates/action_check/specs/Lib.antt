@@ -6,3 +6,7 @@ pub mod Told
 pub mod Maxes
 pub mod Rows
 pub mod Laws
+pub use Rattle.action_tree.specs.Stored
+pub use Rattle.action_tree.specs.Trees
+pub use Rattle.action_tree.specs.Views
+pub use Rattle.action_tree.specs.Writable

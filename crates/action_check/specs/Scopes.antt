@@ -14,18 +14,18 @@ abbrev pub is_among : List (List ℕ) → Name → Bool
 is_among known v = list_any (bytes_eq v.text) known
 
 -- the names known behind the binding of one more, in its parenthesis or its statements
-abbrev pub bind : Scope → Name → Scope
-bind sc v = record { vars = sc.vars; bound = sc.bound ++ v.text ∷ [] }
+abbrev pub scope_with : Scope → Name → Scope
+scope_with sc v = record { vars = sc.vars; bound = sc.bound ++ v.text ∷ [] }
 
 -- so many more names may be in force
 abbrev pub HasRoom : Scope → ℕ → Type 0
 HasRoom sc more = length sc.bound + more ≤ most_names
 
 -- the names known behind a statement of a list, and behind all of them: a `let` binds its name from there on
-abbrev pub after : Scope → Stmt → Scope
-after sc (let_be v p) = bind sc v
-after sc _ = sc
+abbrev pub scope_after : Scope → Stmt → Scope
+scope_after sc (let_be v p) = scope_with sc v
+scope_after sc _ = sc
 
-abbrev pub after_all : Scope → Stmts → Scope
-after_all sc no_stmts = sc
-after_all sc (stmt_then s ss) = after_all (after sc s) ss
+abbrev pub scope_after_all : Scope → Stmts → Scope
+scope_after_all sc no_stmts = sc
+scope_after_all sc (stmt_then s ss) = scope_after_all (scope_after sc s) ss

@@ -16,8 +16,8 @@ abbrev pub texts : List ArrayString → List (List ℕ)
 texts names = map (λ name. name.bytes) names
 
 -- the names that a scope knows
-abbrev pub known : code.Scope → Scope
-known sc = record { vars = texts sc.vars.now.keys; bound = texts sc.bound.items }
+abbrev pub known_scope : code.Scope → Scope
+known_scope sc = record { vars = texts sc.vars.now.keys; bound = texts sc.bound.items }
 
 -- why a program is refused: the first of these faults, or that there was no memory, which says nothing
 abbrev pub TellsFirst : List Refusal → ReadRefusal → Type 0

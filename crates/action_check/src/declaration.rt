@@ -50,8 +50,11 @@ pub fn check_actions(
     vars: &IndexSet<NameText>,
 ) -> Result<(), ReadRefusal>
     requires { list_all is_action (map action_of actions.now) ≡ true }
-    ensures fine { OnOk result (first_of (spec.actions_faults (record { vars = texts vars.now.keys; bound = [] }) [] (map action_of actions.now)) ≡ Ok tt) }
-    ensures wrong { IfErr result (TellsFirst (spec.actions_faults (record { vars = texts vars.now.keys; bound = [] }) [] (map action_of actions.now))) }
+    ensures fine { OnOk result (
+        first_of (spec.actions_faults (record { vars = texts vars.now.keys; bound = [] }) [] (map action_of actions.now))
+        ≡ Ok tt) }
+    ensures wrong { IfErr result (TellsFirst (
+        spec.actions_faults (record { vars = texts vars.now.keys; bound = [] }) [] (map action_of actions.now))) }
 {
     let mut names = IndexSet::new(alloc);
     for action in actions {

@@ -3,9 +3,9 @@
 ghost use Rattle.std.specs.Prelude.{◌≡◌, ◌++◌, suc};
 ghost use Rattle.action_tree.specs.Views as view;
 ghost use Rattle.action_tree.specs.Writable.{guard_names, guards_names, sum_names, term_names, port_names};
-ghost use Rattle.action_check.specs.Scopes.{HasRoom, bind};
+ghost use Rattle.action_check.specs.Scopes.{HasRoom, scope_with};
 ghost use Rattle.action_check.specs.Faults as spec;
-ghost use Rattle.action_check.specs.Told.{first_of, known};
+ghost use Rattle.action_check.specs.Told.{first_of, known_scope};
 
 use crate::scope::{Scope, within};
 use action_tree::{DirTerm, Guard, PortExpr, Sum, Term, Word};
@@ -21,8 +21,8 @@ const MOST_LITERAL: u32 = 65535;
 #[tactic(auto, using(crate::proofs::Firsts::first_behind, crate::proofs::Firsts::first_before))]
 #[cycle(expressions)]
 pub fn check_guard(guard: &Guard, scope: &Scope<'_>) -> Result<(), Refusal>
-    requires { HasRoom (known scope.now) (guard_names (view.guard_of guard.now)) }
-    ensures { result ≡ first_of (spec.guard_faults (known scope.now) (view.guard_of guard.now)) }
+    requires { HasRoom (known_scope scope.now) (guard_names (view.guard_of guard.now)) }
+    ensures { result ≡ first_of (spec.guard_faults (known_scope scope.now) (view.guard_of guard.now)) }
 {
     match guard {
         Guard::True | Guard::False | Guard::Contracted | Guard::Expanded => Ok(()),
@@ -47,8 +47,8 @@ pub fn check_guard(guard: &Guard, scope: &Scope<'_>) -> Result<(), Refusal>
 #[tactic(auto, using(crate::proofs::Firsts::first_behind, crate::proofs::Firsts::first_before))]
 #[cycle(expressions)]
 fn check_guards(guards: &[Guard], scope: &Scope<'_>) -> Result<(), Refusal>
-    requires { HasRoom (known scope.now) (guards_names (view.guards_of guards.now)) }
-    ensures { result ≡ first_of (spec.guards_faults (known scope.now) (view.guards_of guards.now)) }
+    requires { HasRoom (known_scope scope.now) (guards_names (view.guards_of guards.now)) }
+    ensures { result ≡ first_of (spec.guards_faults (known_scope scope.now) (view.guards_of guards.now)) }
 {
     for guard in guards {
         check_guard(guard, scope)?;
@@ -60,8 +60,10 @@ fn check_guards(guards: &[Guard], scope: &Scope<'_>) -> Result<(), Refusal>
 #[tactic(auto, using(crate::proofs::Firsts::first_behind, crate::proofs::Firsts::first_before))]
 #[cycle(expressions)]
 pub fn check_inside(name: &Word, guard: &Guard, scope: &Scope<'_>) -> Result<(), Refusal>
-    requires { HasRoom (known scope.now) (suc (guard_names (view.guard_of guard.now))) }
-    ensures { result ≡ first_of (spec.binding_faults (known scope.now) (view.name_of name.now) ++ spec.guard_faults (bind (known scope.now) (view.name_of name.now)) (view.guard_of guard.now)) }
+    requires { HasRoom (known_scope scope.now) (suc (guard_names (view.guard_of guard.now))) }
+    ensures { result ≡ first_of (
+        spec.binding_faults (known_scope scope.now) (view.name_of name.now)
+        ++ spec.guard_faults (scope_with (known_scope scope.now) (view.name_of name.now)) (view.guard_of guard.now)) }
 {
     scope.new_name(name)?;
     check_guard(guard, &scope.bind(name))
@@ -71,8 +73,8 @@ pub fn check_inside(name: &Word, guard: &Guard, scope: &Scope<'_>) -> Result<(),
 #[tactic(auto, using(crate::proofs::Firsts::first_behind, crate::proofs::Firsts::first_before))]
 #[cycle(expressions)]
 pub fn check_sum(sum: &Sum, scope: &Scope<'_>) -> Result<(), Refusal>
-    requires { HasRoom (known scope.now) (sum_names (view.sum_of sum.now)) }
-    ensures { result ≡ first_of (spec.sum_faults (known scope.now) (view.sum_of sum.now)) }
+    requires { HasRoom (known_scope scope.now) (sum_names (view.sum_of sum.now)) }
+    ensures { result ≡ first_of (spec.sum_faults (known_scope scope.now) (view.sum_of sum.now)) }
 {
     for part in &sum.parts {
         check_term(&part.term, scope)?;
@@ -83,8 +85,8 @@ pub fn check_sum(sum: &Sum, scope: &Scope<'_>) -> Result<(), Refusal>
 #[tactic(auto, using(crate::proofs::Firsts::first_behind, crate::proofs::Firsts::first_before))]
 #[cycle(expressions)]
 fn check_term(term: &Term, scope: &Scope<'_>) -> Result<(), Refusal>
-    requires { HasRoom (known scope.now) (term_names (view.term_of term.now)) }
-    ensures { result ≡ first_of (spec.term_faults (known scope.now) (view.term_of term.now)) }
+    requires { HasRoom (known_scope scope.now) (term_names (view.term_of term.now)) }
+    ensures { result ≡ first_of (spec.term_faults (known_scope scope.now) (view.term_of term.now)) }
 {
     match term {
         Term::Number(number) => within(MOST_LITERAL, number),
@@ -104,8 +106,8 @@ fn check_term(term: &Term, scope: &Scope<'_>) -> Result<(), Refusal>
 #[tactic(auto, using(crate::proofs::Firsts::first_behind, crate::proofs::Firsts::first_before))]
 #[cycle(expressions)]
 pub fn check_port(port: &PortExpr, scope: &Scope<'_>) -> Result<(), Refusal>
-    requires { HasRoom (known scope.now) (port_names (view.port_of port.now)) }
-    ensures { result ≡ first_of (spec.port_faults (known scope.now) (view.port_of port.now)) }
+    requires { HasRoom (known_scope scope.now) (port_names (view.port_of port.now)) }
+    ensures { result ≡ first_of (spec.port_faults (known_scope scope.now) (view.port_of port.now)) }
 {
     match port {
         PortExpr::Name(name) => scope.bound_name(name),
@@ -119,7 +121,7 @@ pub fn check_port(port: &PortExpr, scope: &Scope<'_>) -> Result<(), Refusal>
 }
 
 fn check_direction(direction: &DirTerm, scope: &Scope<'_>) -> Result<(), Refusal>
-    ensures { result ≡ first_of (spec.dirterm_faults (known scope.now) (view.dirterm_of direction.now)) }
+    ensures { result ≡ first_of (spec.dirterm_faults (known_scope scope.now) (view.dirterm_of direction.now)) }
 {
     match direction {
         DirTerm::Number(number) => within(MOST_DIRECTION, number),

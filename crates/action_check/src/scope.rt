@@ -2,9 +2,9 @@
 
 ghost use Rattle.std.specs.Prelude.{◌≡◌, []};
 ghost use Rattle.action_tree.specs.Views.{name_of, literal_of};
-ghost use Rattle.action_check.specs.Scopes.{HasRoom, is_among, bind as spec_bind};
+ghost use Rattle.action_check.specs.Scopes.{HasRoom, is_among, scope_with as spec_bind};
 ghost use Rattle.action_check.specs.Faults as spec;
-ghost use Rattle.action_check.specs.Told.{first_of, known, texts};
+ghost use Rattle.action_check.specs.Told.{first_of, known_scope, texts};
 
 use action_tree::{Lit, MOST_NAMES, NameText, Word};
 use arrayvec::ArrayVec;
@@ -31,7 +31,7 @@ pub fn refused(name: &Word, kind: RefusalKind) -> Result<(), Refusal>
 impl<'a> Scope<'a> {
     /// What is known at the beginning of an action.
     pub fn new(vars: &'a IndexSet<NameText>) -> Scope<'a>
-        ensures { known result ≡ record { vars = texts vars.now.keys; bound = [] } }
+        ensures { known_scope result ≡ record { vars = texts vars.now.keys; bound = [] } }
     {
         Scope {
             vars,
@@ -41,21 +41,21 @@ impl<'a> Scope<'a> {
 
     #[tactic(auto, using(crate::proofs::Texts::any_text))]
     fn is_var(&self, name: &Word) -> bool
-        ensures { result ≡ is_among (known self.now).vars (name_of name.now) }
+        ensures { result ≡ is_among (known_scope self.now).vars (name_of name.now) }
     {
         self.vars.contains(&name.text)
     }
 
     #[tactic(auto, using(crate::proofs::Texts::any_same_text))]
     fn is_bound(&self, name: &Word) -> bool
-        ensures { result ≡ is_among (known self.now).bound (name_of name.now) }
+        ensures { result ≡ is_among (known_scope self.now).bound (name_of name.now) }
     {
         self.bound.contains(&name.text)
     }
 
     /// The same names again.
     pub fn copy(&self) -> Scope<'a>
-        ensures { known result ≡ known self.now }
+        ensures { known_scope result ≡ known_scope self.now }
     {
         let mut bound = ArrayVec::new();
         for text in self.bound.iter() {
@@ -70,8 +70,8 @@ impl<'a> Scope<'a> {
     /// What is known behind the binding of one more name.
     #[tactic(auto, using(crate::proofs::Texts::texts_length))]
     pub fn bind(&self, name: &Word) -> Scope<'a>
-        requires { HasRoom (known self.now) 1 }
-        ensures { known result ≡ spec_bind (known self.now) (name_of name.now) }
+        requires { HasRoom (known_scope self.now) 1 }
+        ensures { known_scope result ≡ spec_bind (known_scope self.now) (name_of name.now) }
     {
         let mut scope = self.copy();
         scope.bound.push(name.text);
@@ -80,7 +80,7 @@ impl<'a> Scope<'a> {
 
     /// The use of a variable.
     pub fn variable(&self, name: &Word) -> Result<(), Refusal>
-        ensures { result ≡ first_of (spec.var_faults (known self.now) (name_of name.now)) }
+        ensures { result ≡ first_of (spec.var_faults (known_scope self.now) (name_of name.now)) }
     {
         if self.is_var(name) {
             Ok(())
@@ -93,7 +93,7 @@ impl<'a> Scope<'a> {
 
     /// The use of a bound name.
     pub fn bound_name(&self, name: &Word) -> Result<(), Refusal>
-        ensures { result ≡ first_of (spec.bound_faults (known self.now) (name_of name.now)) }
+        ensures { result ≡ first_of (spec.bound_faults (known_scope self.now) (name_of name.now)) }
     {
         if self.is_bound(name) {
             Ok(())
@@ -106,7 +106,7 @@ impl<'a> Scope<'a> {
 
     /// The binding of a name.
     pub fn new_name(&self, name: &Word) -> Result<(), Refusal>
-        ensures { result ≡ first_of (spec.binding_faults (known self.now) (name_of name.now)) }
+        ensures { result ≡ first_of (spec.binding_faults (known_scope self.now) (name_of name.now)) }
     {
         if self.is_var(name) || self.is_bound(name) {
             refused(name, RefusalKind::TwiceNamed)

@@ -8,21 +8,21 @@ use Rattle.action_tree.specs.declared.program.Var.{Var}
 use Rattle.action_tree.specs.Trees.{Name}
 use Rattle.action_check.proofs.Known.{among}
 use Rattle.action_check.proofs.Texts.{same_either_way}
-use Rattle.action_eval.specs.Known.{vars_of}
+use Rattle.action_eval.specs.Known.{var_names}
 
-any_var : (text : List ℕ) (vs : List Var) → list_any (bytes_eq text) (vars_of vs) ≡ list_any (λ v. bytes_eq v.name.text.bytes text) vs
+any_var : (text : List ℕ) (vs : List Var) → list_any (bytes_eq text) (var_names vs) ≡ list_any (λ v. bytes_eq v.name.text.bytes text) vs
 any_var text [] = refl
 any_var text (v ∷ vs) =
     let e = same_either_way text v.name.text.bytes in
     let f = any_var text vs in
     cc
 
-place_of_var : (text : List ℕ) (vs : List Var) → position_or_len (λ x. bytes_eq x text) (vars_of vs) ≡ position_or_len (λ v. bytes_eq v.name.text.bytes text) vs
+place_of_var : (text : List ℕ) (vs : List Var) → position_or_len (λ x. bytes_eq x text) (var_names vs) ≡ position_or_len (λ v. bytes_eq v.name.text.bytes text) vs
 place_of_var text [] = refl
 place_of_var text (v ∷ vs) = ap (λ k. cond (not (bytes_eq v.name.text.bytes text)) (1 + k) 0) (place_of_var text vs)
 
-pub var_there : (v : Name) (vs : List Var) (r : Option ℕ) → Contains (vars_of vs) v.text → r ≡ position (λ x. bytes_eq x.name.text.bytes v.text) vs → IsSome r
-var_there v vs r has is = ap is_some is ∙ any_placed (λ (x : Var). bytes_eq x.name.text.bytes v.text) vs (sym (any_var v.text vs) ∙ among (vars_of vs) v has)
+pub var_there : (v : Name) (vs : List Var) (r : Option ℕ) → Contains (var_names vs) v.text → r ≡ position (λ x. bytes_eq x.name.text.bytes v.text) vs → IsSome r
+var_there v vs r has is = ap is_some is ∙ any_placed (λ (x : Var). bytes_eq x.name.text.bytes v.text) vs (sym (any_var v.text vs) ∙ among (var_names vs) v has)
 
 -- the place that an element has is the first one
 placed : {X : Type 0} (p : X → Bool) (xs : List X) (k : ℕ) → position p xs ≡ Some k → position_or_len p xs ≡ k
@@ -32,5 +32,5 @@ placed p xs k e = by_room (nat_lt (position_or_len p xs) (length xs)) e
     by_room true e = cc
     by_room false e = absurd cc
 
-pub var_place : (text : List ℕ) (vs : List Var) (k : ℕ) → Some k ≡ position (λ x. bytes_eq x.name.text.bytes text) vs → k ≡ position_or_len (λ x. bytes_eq x text) (vars_of vs)
+pub var_place : (text : List ℕ) (vs : List Var) (k : ℕ) → Some k ≡ position (λ x. bytes_eq x.name.text.bytes text) vs → k ≡ position_or_len (λ x. bytes_eq x text) (var_names vs)
 var_place text vs k e = sym (place_of_var text vs ∙ placed (λ (x : Var). bytes_eq x.name.text.bytes text) vs k (sym e))

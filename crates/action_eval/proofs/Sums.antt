@@ -1,5 +1,5 @@
 -- The terms of a sum, one after the other.
-use Rattle.std.proofs.Common.{◌≡◌, ◌+◌, Bool, refl, ap, arith}
+use Rattle.std.proofs.Common.{◌≡◌, Bool, refl, ap, arith}
 use Rattle.std.specs.Prelude.{Result, Ok, Err, ℤ, ◌+ℤ◌}
 use Rattle.std.proofs.lemmas.Int.{ints}
 use Rattle.amoebot_state.specs.declared.verdict.Failure.{Failure}

@@ -7,7 +7,7 @@ use Rattle.model_ops.specs.Sights.{Sight}
 use Rattle.action_tree.specs.declared.expression.PortSet.{PortSet}
 use Rattle.action_tree.specs.Trees.{Name, Guard, PortExpr, of_port, count}
 use Rattle.action_meaning.specs.Names.{Names, var_number, bind}
-use Rattle.action_meaning.specs.Choices.{count_of}
+use Rattle.action_meaning.specs.Choices.{count_of_ports}
 use Rattle.action_meaning.specs.Values.{guard_value, term_value, port_value, ports_of}
 
 pub of_port_fails : (s : Sight) (xs : Names) (p : PortExpr) (v : Name) (q : Port) (n : ℕ) (f : Failure) → port_value s xs p ≡ Ok q → n ≡ var_number xs v → s.reads (Some q) n ≡ Err f → term_value s xs (of_port p v) ≡ Err f
@@ -20,8 +20,8 @@ of_port_is s xs p v q n k port is read =
     let e = rw is at read in
     rw port (rw e refl)
 
-pub count_fails : (s : Sight) (xs : Names) (v : Name) (set : PortSet) (g : Guard) (f : Failure) → count_of (λ p. guard_value s (bind xs v p) g) (ports_of s set) ≡ Err f → term_value s xs (count v set g) ≡ Err f
+pub count_fails : (s : Sight) (xs : Names) (v : Name) (set : PortSet) (g : Guard) (f : Failure) → count_of_ports (λ p. guard_value s (bind xs v p) g) (ports_of s set) ≡ Err f → term_value s xs (count v set g) ≡ Err f
 count_fails s xs v set g f e = rw e refl
 
-pub count_is : (s : Sight) (xs : Names) (v : Name) (set : PortSet) (g : Guard) (k : ℕ) → count_of (λ p. guard_value s (bind xs v p) g) (ports_of s set) ≡ Ok k → term_value s xs (count v set g) ≡ Ok (pos k)
+pub count_is : (s : Sight) (xs : Names) (v : Name) (set : PortSet) (g : Guard) (k : ℕ) → count_of_ports (λ p. guard_value s (bind xs v p) g) (ports_of s set) ≡ Ok k → term_value s xs (count v set g) ≡ Ok (pos k)
 count_is s xs v set g k e = rw e refl

@@ -1,4 +1,5 @@
 -- What the code's names in force stand for, and what its working copy lets an evaluation ask.
+-- Private functions alone cite it.
 use Rattle.std.specs.Prelude.{ℕ, List, map, Bool}
 use Rattle.amoebot_state.specs.declared.bot.Port.{Port}
 use Rattle.model_ops.specs.Sights.{Sight, sight}
@@ -15,12 +16,12 @@ use Rattle.action_eval.specs.declared.names.Bound as code_bound
 abbrev pub bound_of : code_bound.Bound → Bound
 bound_of b = record { text = b.text.bytes; port = b.port }
 
-abbrev pub vars_of : List Var → List (List ℕ)
-vars_of vs = map (λ v. v.name.text.bytes) vs
+abbrev pub var_names : List Var → List (List ℕ)
+var_names vs = map (λ v. v.name.text.bytes) vs
 
 -- the names that an evaluation knows, with their ports
 abbrev pub known : code.Names → Names
-known xs = record { vars = vars_of xs.vars.now; bound = map bound_of xs.bound.items }
+known xs = record { vars = var_names xs.vars.now; bound = map bound_of xs.bound.items }
 
 -- the same without the ports
 abbrev pub scope_of : Names → Scope

@@ -2,20 +2,19 @@
 
 ghost use Rattle.std.specs.Prelude.{◌≡◌, true, IfOk, IfErr, Ok, Err};
 ghost use Rattle.action_tree.specs.Views as view;
-ghost use Rattle.action_tree.specs.Writable.{is_guard, is_sum, is_stmt, are_stmts, is_move};
-ghost use Rattle.action_check.specs.Rules.{IsVar, IsNew, GuardKept, SumKept, StmtKept, StmtsKept, MoveKept};
-ghost use Rattle.action_check.specs.Scopes.{bind as scope_bind, after_all};
-ghost use Rattle.model_ops.specs.Operations.{and_then, write};
+ghost use Rattle.action_tree.specs.Writable.{is_sum, is_stmt, are_stmts, is_move};
+ghost use Rattle.action_check.specs.Rules.{IsVariable, SumKept, StmtKept, StmtsKept, MoveKept};
+ghost use Rattle.action_check.specs.Scopes.{scope_after_all};
 ghost use Rattle.model_ops.specs.Reaches.{Reaches, move};
 ghost use Rattle.model_ops.specs.Sites.{done};
-ghost use Rattle.model_ops.specs.WorkingCopies.{opened, own_id, after};
+ghost use Rattle.model_ops.specs.WorkingCopies.{opened, own_id, copy_after};
 ghost use Rattle.amoebot_state.specs.Zones.{IsShown, shown_alone};
-ghost use Rattle.action_meaning.specs.Names.{var_number};
 ghost use Rattle.action_meaning.specs.Values as spec;
 ghost use Rattle.action_meaning.specs.Effects.{stmt_effect, stmts_effect, for_ports};
 ghost use Rattle.action_meaning.specs.Verdicts.{move_value as spec_move_value, action_effect};
 ghost use Rattle.action_eval.specs.Known.{known, scope_of, sight_of};
-ghost use Rattle.action_eval.specs.Running.{HasRun, moment_of, turn_effect};
+ghost use Rattle.action_eval.specs.Running.{HasRun, moment_of, put_reached, turn_effect};
+ghost use Rattle.action_eval.specs.UnderNames.{MayAsk, MayRunUnder};
 
 use crate::names::Names;
 use crate::port::ports_of;
@@ -33,11 +32,13 @@ fn put(
     site: &mut Site,
     names: &Names<'_>,
 ) -> Result<(), Failure>
-    requires var { IsVar (scope_of (known names.now)) (view.name_of name.now) }
+    requires var { IsVariable (scope_of (known names.now)) (view.name_of name.now) }
     requires kept { SumKept (scope_of (known names.now)) (view.sum_of sum.now) }
     requires counted { is_sum (view.sum_of sum.now) ≡ true }
-    ensures value { result ≡ done (and_then (spec.sum_value (sight_of site.old) (known names.now) (view.sum_of sum.now)) (λ x. write site.old.reached (own_id site.old) port (var_number (known names.now) (view.name_of name.now)) x)) }
-    ensures after { site.new ≡ after site.old (and_then (spec.sum_value (sight_of site.old) (known names.now) (view.sum_of sum.now)) (λ x. write site.old.reached (own_id site.old) port (var_number (known names.now) (view.name_of name.now)) x)) }
+    ensures value { result ≡ done
+        (put_reached site.old (known names.now) port (view.name_of name.now) (view.sum_of sum.now)) }
+    ensures after { site.new ≡ copy_after site.old
+        (put_reached site.old (known names.now) port (view.name_of name.now) (view.sum_of sum.now)) }
 {
     let value = sum_value(sum, site, names)?;
     site.write(port, names.var_number(name), value)
@@ -48,7 +49,8 @@ fn put(
 fn run_stmt<'p>(stmt: &Stmt, site: &mut Site, names: Names<'p>) -> Result<Names<'p>, Failure>
     requires kept { StmtKept (scope_of (known names)) (view.stmt_of stmt.now) }
     requires counted { is_stmt (view.stmt_of stmt.now) ≡ true }
-    ensures { HasRun (stmt_effect (own_id site.old) (view.stmt_of stmt.now) (moment_of site.old (known names.entry))) known result site.old site.new }
+    ensures { HasRun (stmt_effect (own_id site.old) (view.stmt_of stmt.now) (moment_of site.old (known names.entry)))
+        known result site.old site.new }
 {
     match stmt {
         Stmt::Put(name, sum) => {
@@ -88,7 +90,8 @@ fn run_stmts<'p>(
 ) -> Result<Names<'p>, Failure>
     requires kept { StmtsKept (scope_of (known names)) (view.stmts_of stmts.now) }
     requires counted { are_stmts (view.stmts_of stmts.now) ≡ true }
-    ensures { HasRun (stmts_effect (own_id site.old) (view.stmts_of stmts.now) (moment_of site.old (known names.entry))) known result site.old site.new }
+    ensures { HasRun (stmts_effect (own_id site.old) (view.stmts_of stmts.now) (moment_of site.old (known names.entry)))
+        known result site.old site.new }
 {
     for stmt in stmts {
         names = run_stmt(stmt, site, names)?;
@@ -106,12 +109,12 @@ fn run_for(
     site: &mut Site,
     names: &Names<'_>,
 ) -> Result<(), Failure>
-    requires new { IsNew (scope_of (known names.now)) (view.name_of name.now) }
-    requires guard_kept { GuardKept (scope_bind (scope_of (known names.now)) (view.name_of name.now)) (view.guard_of guard.now) }
-    requires guard_counted { is_guard (view.guard_of guard.now) ≡ true }
-    requires kept { StmtsKept (scope_bind (scope_of (known names.now)) (view.name_of name.now)) (view.stmts_of stmts.now) }
-    requires counted { are_stmts (view.stmts_of stmts.now) ≡ true }
-    ensures { HasRun (for_ports (turn_effect (own_id site.old) (view.name_of name.now) (view.guard_of guard.now) (view.stmts_of stmts.now)) (spec.ports_of (sight_of site.old) set) (moment_of site.old (known names.now))) (λ _. known names.now) result site.old site.new }
+    requires asked { MayAsk (known names.now) name.now guard.now }
+    requires run { MayRunUnder (known names.now) name.now stmts.now }
+    ensures { HasRun (for_ports
+        (turn_effect (own_id site.old) (view.name_of name.now) (view.guard_of guard.now) (view.stmts_of stmts.now))
+        (spec.ports_of (sight_of site.old) set) (moment_of site.old (known names.now)))
+        (λ _. known names.now) result site.old site.new }
 {
     let ports = ports_of(set, site);
     for port in ports.iter() {
@@ -130,12 +133,12 @@ fn run_turn(
     site: &mut Site,
     names: &Names<'_>,
 ) -> Result<(), Failure>
-    requires new { IsNew (scope_of (known names.now)) (view.name_of name.now) }
-    requires guard_kept { GuardKept (scope_bind (scope_of (known names.now)) (view.name_of name.now)) (view.guard_of guard.now) }
-    requires guard_counted { is_guard (view.guard_of guard.now) ≡ true }
-    requires kept { StmtsKept (scope_bind (scope_of (known names.now)) (view.name_of name.now)) (view.stmts_of stmts.now) }
-    requires counted { are_stmts (view.stmts_of stmts.now) ≡ true }
-    ensures { HasRun (turn_effect (own_id site.old) (view.name_of name.now) (view.guard_of guard.now) (view.stmts_of stmts.now) port (moment_of site.old (known names.now))) (λ _. known names.now) result site.old site.new }
+    requires asked { MayAsk (known names.now) name.now guard.now }
+    requires run { MayRunUnder (known names.now) name.now stmts.now }
+    ensures { HasRun
+        (turn_effect (own_id site.old) (view.name_of name.now) (view.guard_of guard.now) (view.stmts_of stmts.now)
+        port (moment_of site.old (known names.now)))
+        (λ _. known names.now) result site.old site.new }
 {
     if inside_value(name, port, guard, site, names)? {
         run_stmts(stmts, site, names.bind(name, port))?;
@@ -170,7 +173,7 @@ fn move_value(moved: &Move, site: &Site, names: &Names<'_>) -> Result<Moved, Fai
 /// Makes a movement. With the guard on, it leaves no node that is not surrounded by one arc.
 fn make_move(moved: Moved, guard: bool, site: &mut Site) -> Result<(), Failure>
     ensures value { result ≡ done (move site.old.reached (own_id site.old) guard moved) }
-    ensures after { site.new ≡ after site.old (move site.old.reached (own_id site.old) guard moved) }
+    ensures after { site.new ≡ copy_after site.old (move site.old.reached (own_id site.old) guard moved) }
 {
     match moved {
         Moved::None => Ok(()),
@@ -191,14 +194,19 @@ pub fn run_action(
 ) -> Result<Moved, Failure>
     requires body { StmtsKept (scope_of (known names)) (view.stmts_of action.now.body.items) }
     requires body_counted { are_stmts (view.stmts_of action.now.body.items) ≡ true }
-    requires moved { MoveKept (after_all (scope_of (known names)) (view.stmts_of action.now.body.items)) (view.move_of action.now.moved) }
+    requires moved { MoveKept (scope_after_all (scope_of (known names)) (view.stmts_of action.now.body.items))
+        (view.move_of action.now.moved) }
     requires moved_counted { is_move (view.move_of action.now.moved) ≡ true }
     requires shown { IsShown site.old.found }
     requires opened { site.old ≡ opened site.old.found }
-    ensures made { IfOk result (λ moved. action_effect guard (own_id site.old) (view.action_of action.now) (moment_of site.old (known names.entry)) ≡ Ok (record { moved = moved; reached = site.new.reached })) }
+    ensures made { IfOk result (λ moved.
+        action_effect guard (own_id site.old) (view.action_of action.now) (moment_of site.old (known names.entry))
+        ≡ Ok (record { moved = moved; reached = site.new.reached })) }
     ensures found { IfOk result (λ _. site.new.found ≡ site.old.found) }
     ensures reaches { IfOk result (λ _. Reaches (shown_alone site.new.found) (own_id site.new) site.new.reached) }
-    ensures failed { IfErr result (λ f. action_effect guard (own_id site.old) (view.action_of action.now) (moment_of site.old (known names.entry)) ≡ Err f) }
+    ensures failed { IfErr result (λ f.
+        action_effect guard (own_id site.old) (view.action_of action.now) (moment_of site.old (known names.entry))
+        ≡ Err f) }
 {
     let names = run_stmts(&action.body, site, names)?;
     let moved = move_value(&action.moved, site, &names)?;

@@ -28,14 +28,14 @@ pub struct Names<'p> {
 impl<'p> Names<'p> {
     ghost use Rattle.std.specs.Prelude.{◌<◌, []};
     ghost use Rattle.action_tree.specs.Views.{name_of};
-    ghost use Rattle.action_check.specs.Rules.{IsVar};
+    ghost use Rattle.action_check.specs.Rules.{IsVariable};
     ghost use Rattle.action_meaning.specs.Names.{var_number, port_named, bind as spec_bind};
-    ghost use Rattle.action_eval.specs.Known.{known, vars_of, scope_of};
+    ghost use Rattle.action_eval.specs.Known.{known, var_names, scope_of};
 
     /// The names at the start of an action: no name is in force.
     pub fn new(vars: &'p [Var]) -> Names<'p>
         requires { length vars.now ≤ most_vars }
-        ensures { known result ≡ record { vars = vars_of vars.now; bound = [] } }
+        ensures { known result ≡ record { vars = var_names vars.now; bound = [] } }
     {
         Names {
             vars,
@@ -45,7 +45,7 @@ impl<'p> Names<'p> {
 
     /// The number of a variable: how many were declared before it.
     pub fn var_number(&self, name: &Word) -> u8
-        requires { IsVar (scope_of (known self.now)) (name_of name.now) }
+        requires { IsVariable (scope_of (known self.now)) (name_of name.now) }
         ensures value { result ≡ var_number (known self.now) (name_of name.now) }
         ensures below { result < most_vars }
     {

@@ -2,7 +2,7 @@
 
 ghost use Rattle.std.specs.Prelude.{◌≡◌, ◌<◌, IfOk, unwrap_or};
 ghost use Rattle.amoebot_state.specs.Ports.{is_port};
-ghost use Rattle.amoebot_state.specs.Refusals.{IsPlain};
+ghost use Rattle.amoebot_state.specs.Refusals.{IsBotInRange};
 ghost use Rattle.action_meaning.specs.Values as spec;
 ghost use Rattle.action_eval.specs.Known.{sight_of, is_in_set};
 
@@ -47,7 +47,7 @@ pub fn is_own_port(port: Port, site: &Site) -> bool
 
 /// The local direction from the tail to the head. NotExpanded, the amoebot is contracted.
 pub fn inner_value(own: &Bot) -> Result<u8, Failure>
-    requires { IsPlain own.now }
+    requires { IsBotInRange own.now }
     ensures value { result ≡ spec.inner_value own.now }
     ensures range { IfOk result (λ d. d < 6) }
 {
@@ -60,7 +60,7 @@ pub fn inner_value(own: &Bot) -> Result<u8, Failure>
 
 /// The first local direction whose step from the tail leads to the head; 0 where none does, as it is of no amoebot.
 fn inner_direction(own: &Bot) -> u8
-    requires { IsPlain own.now }
+    requires { IsBotInRange own.now }
     ensures value { result ≡ unwrap_or (spec.inner_direction own.now) 0 }
     ensures range { result < 6 }
 {

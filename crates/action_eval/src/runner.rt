@@ -8,7 +8,7 @@ ghost use Rattle.action_tree.specs.Limits.{most_actions};
 ghost use Rattle.action_tree.specs.Views as view;
 ghost use Rattle.action_tree.specs.Writable.{is_action};
 ghost use Rattle.action_check.specs.Rules.{ActionKept};
-ghost use Rattle.action_meaning.specs.Verdicts.{actions_verdict, action_effect, settled};
+ghost use Rattle.action_meaning.specs.Verdicts.{actions_verdict, action_effect, verdict_of_result};
 ghost use Rattle.action_eval.specs.Known.{known, scope_of};
 ghost use Rattle.action_eval.specs.Running.{moment_of};
 
@@ -81,7 +81,8 @@ fn actions_decide(actions: &[Action], guard: bool, site: Site, names: Names<'_>)
     requires few { length actions.now ≤ most_actions }
     requires kept { All (ActionKept (scope_of (known names))) (map view.action_of actions.now) }
     requires counted { list_all is_action (map view.action_of actions.now) ≡ true }
-    ensures { result ≡ actions_verdict guard (known names.entry) site.reached (own_id site) 0 (map view.action_of actions.now) }
+    ensures { result ≡ actions_verdict guard (known names.entry) site.reached (own_id site) 0
+        (map view.action_of actions.now) }
 {
     for (number, action) in actions.iter().enumerate() {
         match guard_value(&action.guard, &site, &names) {
@@ -105,7 +106,8 @@ fn action_decides(
     requires opened { site ≡ opened site.found }
     requires kept { ActionKept (scope_of (known names)) (view.action_of action.now) }
     requires counted { is_action (view.action_of action.now) ≡ true }
-    ensures { result ≡ settled site.reached number (action_effect guard (own_id site) (view.action_of action.now) (moment_of site (known names.entry))) }
+    ensures { result ≡ verdict_of_result site.reached number
+        (action_effect guard (own_id site) (view.action_of action.now) (moment_of site (known names.entry))) }
 {
     match run_action(action, guard, &mut site, names) {
         Ok(moved) => Verdict::Change(Change {

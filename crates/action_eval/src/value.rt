@@ -4,12 +4,11 @@ ghost use Rattle.std.specs.Prelude.{◌≡◌, ◌<◌, ◌≤ℤ◌, pos, true,
 ghost use Rattle.action_tree.specs.Views as view;
 ghost use Rattle.action_tree.specs.Writable.{is_guard, are_guards, is_sum, is_term, is_port as is_port_expr};
 ghost use Rattle.action_check.specs.Limits.{most_literal};
-ghost use Rattle.action_check.specs.Rules.{GuardKept, GuardsKept, SumKept, TermKept, PortKept, DirTermKept, IsNew};
-ghost use Rattle.action_check.specs.Scopes.{bind as scope_bind};
-ghost use Rattle.action_meaning.specs.Names.{bind};
-ghost use Rattle.action_meaning.specs.Choices.{any_of, all_of, first_of, count_of};
+ghost use Rattle.action_check.specs.Rules.{GuardKept, GuardsKept, SumKept, TermKept, PortKept, DirTermKept};
+ghost use Rattle.action_meaning.specs.Choices.{any_of_ports, all_of_ports, first_of_ports, count_of_ports};
 ghost use Rattle.action_meaning.specs.Values as spec;
 ghost use Rattle.action_eval.specs.Known.{known, scope_of, sight_of};
+ghost use Rattle.action_eval.specs.UnderNames.{MayAsk, guard_at};
 
 use crate::names::Names;
 use crate::number::{compare, signed};
@@ -19,7 +18,7 @@ use amoebot_state::{End, Failure, Port};
 use model_ops::Site;
 
 /// The value of a guard.
-#[tactic(auto, using(crate::proofs::Thens::then_fails, crate::proofs::Thens::then_goes, action_tree::proofs::Viewed::guard_any, action_tree::proofs::Viewed::guard_all, action_tree::proofs::Viewed::term_count, action_tree::proofs::Viewed::port_first, action_tree::proofs::Conditions::right_of))]
+#[tactic(auto, using(crate::proofs::Evaluated::value_steps))]
 #[cycle(values)]
 pub fn guard_value(guard: &Guard, site: &Site, names: &Names<'_>) -> Result<bool, Failure>
     requires kept { GuardKept (scope_of (known names.now)) (view.guard_of guard.now) }
@@ -116,10 +115,8 @@ pub fn inside_value(
     site: &Site,
     names: &Names<'_>,
 ) -> Result<bool, Failure>
-    requires new { IsNew (scope_of (known names.now)) (view.name_of name.now) }
-    requires kept { GuardKept (scope_bind (scope_of (known names.now)) (view.name_of name.now)) (view.guard_of guard.now) }
-    requires counted { is_guard (view.guard_of guard.now) ≡ true }
-    ensures { result ≡ spec.guard_value (sight_of site.now) (bind (known names.now) (view.name_of name.now) port) (view.guard_of guard.now) }
+    requires { MayAsk (known names.now) name.now guard.now }
+    ensures { result ≡ guard_at (sight_of site.now) (known names.now) name.now guard.now port }
 {
     guard_value(guard, site, &names.bind(name, port))
 }
@@ -133,10 +130,9 @@ fn any_value(
     site: &Site,
     names: &Names<'_>,
 ) -> Result<bool, Failure>
-    requires new { IsNew (scope_of (known names.now)) (view.name_of name.now) }
-    requires kept { GuardKept (scope_bind (scope_of (known names.now)) (view.name_of name.now)) (view.guard_of guard.now) }
-    requires counted { is_guard (view.guard_of guard.now) ≡ true }
-    ensures { result ≡ any_of (λ p. spec.guard_value (sight_of site.now) (bind (known names.now) (view.name_of name.now) p) (view.guard_of guard.now)) (spec.ports_of (sight_of site.now) set) }
+    requires { MayAsk (known names.now) name.now guard.now }
+    ensures { result ≡ any_of_ports (guard_at (sight_of site.now) (known names.now) name.now guard.now)
+        (spec.ports_of (sight_of site.now) set) }
 {
     let ports = ports_of(set, site);
     for port in ports.iter() {
@@ -158,10 +154,9 @@ fn all_value(
     site: &Site,
     names: &Names<'_>,
 ) -> Result<bool, Failure>
-    requires new { IsNew (scope_of (known names.now)) (view.name_of name.now) }
-    requires kept { GuardKept (scope_bind (scope_of (known names.now)) (view.name_of name.now)) (view.guard_of guard.now) }
-    requires counted { is_guard (view.guard_of guard.now) ≡ true }
-    ensures { result ≡ all_of (λ p. spec.guard_value (sight_of site.now) (bind (known names.now) (view.name_of name.now) p) (view.guard_of guard.now)) (spec.ports_of (sight_of site.now) set) }
+    requires { MayAsk (known names.now) name.now guard.now }
+    ensures { result ≡ all_of_ports (guard_at (sight_of site.now) (known names.now) name.now guard.now)
+        (spec.ports_of (sight_of site.now) set) }
 {
     let ports = ports_of(set, site);
     for port in ports.iter() {
@@ -183,10 +178,9 @@ fn first_value(
     site: &Site,
     names: &Names<'_>,
 ) -> Result<Port, Failure>
-    requires new { IsNew (scope_of (known names.now)) (view.name_of name.now) }
-    requires kept { GuardKept (scope_bind (scope_of (known names.now)) (view.name_of name.now)) (view.guard_of guard.now) }
-    requires counted { is_guard (view.guard_of guard.now) ≡ true }
-    ensures { result ≡ first_of (λ p. spec.guard_value (sight_of site.now) (bind (known names.now) (view.name_of name.now) p) (view.guard_of guard.now)) (spec.ports_of (sight_of site.now) set) }
+    requires { MayAsk (known names.now) name.now guard.now }
+    ensures { result ≡ first_of_ports (guard_at (sight_of site.now) (known names.now) name.now guard.now)
+        (spec.ports_of (sight_of site.now) set) }
 {
     let ports = ports_of(set, site);
     for port in ports.iter() {
@@ -208,10 +202,9 @@ fn count_value(
     site: &Site,
     names: &Names<'_>,
 ) -> Result<u8, Failure>
-    requires new { IsNew (scope_of (known names.now)) (view.name_of name.now) }
-    requires kept { GuardKept (scope_bind (scope_of (known names.now)) (view.name_of name.now)) (view.guard_of guard.now) }
-    requires counted { is_guard (view.guard_of guard.now) ≡ true }
-    ensures value { result ≡ count_of (λ p. spec.guard_value (sight_of site.now) (bind (known names.now) (view.name_of name.now) p) (view.guard_of guard.now)) (spec.ports_of (sight_of site.now) set) }
+    requires { MayAsk (known names.now) name.now guard.now }
+    ensures value { result ≡ count_of_ports (guard_at (sight_of site.now) (known names.now) name.now guard.now)
+        (spec.ports_of (sight_of site.now) set) }
     ensures few { IfOk result (λ n. n < 13) }
 {
     let ports = ports_of(set, site);
@@ -229,7 +222,7 @@ fn count_value(
 }
 
 /// The value of a sum. It has at most 64 terms, each of at most 65,535 in size, so it stays far within 32 bits.
-#[tactic(auto, using(crate::proofs::Thens::then_fails, crate::proofs::Thens::then_goes, action_tree::proofs::Viewed::guard_any, action_tree::proofs::Viewed::guard_all, action_tree::proofs::Viewed::term_count, action_tree::proofs::Viewed::port_first, action_tree::proofs::Conditions::right_of))]
+#[tactic(auto, using(crate::proofs::Evaluated::value_steps))]
 #[cycle(values)]
 pub fn sum_value(sum: &Sum, site: &Site, names: &Names<'_>) -> Result<i32, Failure>
     requires kept { SumKept (scope_of (known names.now)) (view.sum_of sum.now) }
@@ -245,7 +238,7 @@ pub fn sum_value(sum: &Sum, site: &Site, names: &Names<'_>) -> Result<i32, Failu
 }
 
 /// The value of a term without its sign.
-#[tactic(auto, using(crate::proofs::Thens::then_fails, crate::proofs::Thens::then_goes, action_tree::proofs::Viewed::guard_any, action_tree::proofs::Viewed::guard_all, action_tree::proofs::Viewed::term_count, action_tree::proofs::Viewed::port_first, action_tree::proofs::Conditions::right_of))]
+#[tactic(auto, using(crate::proofs::Evaluated::value_steps))]
 #[cycle(values)]
 fn term_value(term: &Term, site: &Site, names: &Names<'_>) -> Result<i32, Failure>
     requires kept { TermKept (scope_of (known names.now)) (view.term_of term.now) }
@@ -293,7 +286,7 @@ fn term_value(term: &Term, site: &Site, names: &Names<'_>) -> Result<i32, Failur
 }
 
 /// The pair that a port expression names.
-#[tactic(auto, using(crate::proofs::Thens::then_fails, crate::proofs::Thens::then_goes, action_tree::proofs::Viewed::guard_any, action_tree::proofs::Viewed::guard_all, action_tree::proofs::Viewed::term_count, action_tree::proofs::Viewed::port_first, action_tree::proofs::Conditions::right_of))]
+#[tactic(auto, using(crate::proofs::Evaluated::value_steps))]
 #[cycle(values)]
 pub fn port_value(port: &PortExpr, site: &Site, names: &Names<'_>) -> Result<Port, Failure>
     requires kept { PortKept (scope_of (known names.now)) (view.port_of port.now) }

@@ -33,7 +33,7 @@ use Rattle.action_tree.specs.Trees.{Action, Program}
 use Rattle.action_meaning.specs.Names.{Names}
 use Rattle.action_meaning.specs.Values.{guard_value}
 use Rattle.action_meaning.specs.Effects.{Moment, moment, stmts_effect}
-use Rattle.action_meaning.specs.Verdicts.{move_value, Made, action_effect, settled, decided_by_guard, actions_verdict, names_at_start, verdict_shown}
+use Rattle.action_meaning.specs.Verdicts.{move_value, MadeMove, action_effect, verdict_of_result, decided_by_guard, actions_verdict, names_at_start, verdict_shown}
 use Rattle.action_meaning.proofs.Alongside.{Alongside, at_first, agree_there, same_sight, Alike, stmts_alike}
 
 module _ (V : Node → Type 0) (B : ℕ → Type 0) (i : ℕ) (first other : Config) (agree : Agrees V B i first other) (guarded : Bool) where
@@ -45,7 +45,7 @@ module _ (V : Node → Type 0) (B : ℕ → Type 0) (i : ℕ) (first other : Con
     pub led_too : perform other i acts ≡ Ok d
 
   -- two results: the same movement was made, and the same acts lead to both, or the same failure
-  abbrev pub MadeAlike : Result Made Failure → Result Made Failure → Type 0
+  abbrev pub MadeAlike : Result MadeMove Failure → Result MadeMove Failure → Type 0
   MadeAlike (Ok n) (Ok m) = (n.moved ≡ m.moved) × Performed m.reached n.reached
   MadeAlike (Err f) (Err g) = f ≡ g
   MadeAlike _ _ = ⊥
@@ -108,7 +108,7 @@ module _ (V : Node → Type 0) (B : ℕ → Type 0) (i : ℕ) (first other : Con
       patch_of (verdict.Failed f) = []
 
   -- the difference of what the same acts lead to is the same
-  settled_alike : (number : ℕ) (valid : IsValid first) (valid_too : IsValid other) (there : IsSome (bot_at first i)) (shows : shown other i ≡ shown first i) (r q : Result Made Failure) → MadeAlike r q → OneVerdict (settled other number r) (settled first number q)
+  settled_alike : (number : ℕ) (valid : IsValid first) (valid_too : IsValid other) (there : IsSome (bot_at first i)) (shows : shown other i ≡ shown first i) (r q : Result MadeMove Failure) → MadeAlike r q → OneVerdict (verdict_of_result other number r) (verdict_of_result first number q)
   settled_alike number valid valid_too there shows (Ok n) (Ok m) (e, by) =
       let also = reached_leads_also first other i by.acts m.reached valid valid_too there shows by.led in
       let one : n.reached ≡ also.reached = ok_told (sym by.led_too ∙ also.performed) in
@@ -129,7 +129,7 @@ module _ (V : Node → Type 0) (B : ℕ → Type 0) (i : ℕ) (first other : Con
   actions_alike : (valid : IsValid first) (valid_too : IsValid other) (there : IsSome (bot_at first i)) (shows : shown other i ≡ shown first i) (xs : Names) (number : ℕ) (actions : List Action) → OneVerdict (actions_verdict guarded xs other i number actions) (actions_verdict guarded xs first i number actions)
   actions_alike valid valid_too there shows xs number [] = record { same = refl; by = λ change is. absurd (cc) }
   actions_alike valid valid_too there shows xs number (a ∷ more) =
-      let P : Result Bool Failure → Type 0 = λ b. OneVerdict (decided_by_guard b (settled other number (action_effect guarded i a (moment other xs))) (actions_verdict guarded xs other i (suc number) more)) (actions_verdict guarded xs first i number (a ∷ more)) in
+      let P : Result Bool Failure → Type 0 = λ b. OneVerdict (decided_by_guard b (verdict_of_result other number (action_effect guarded i a (moment other xs))) (actions_verdict guarded xs other i (suc number) more)) (actions_verdict guarded xs first i number (a ∷ more)) in
       subst P (sym (ap (λ (s : Sight). guard_value s xs a.guard) (same_sight V B i first other agree first other (at_first V B i first other agree))))
       (guard_alike (guard_value (sight first i) xs a.guard) _ _ _ _ (settled_alike number valid valid_too there shows _ _ (action_alike a xs)) (actions_alike valid valid_too there shows xs (suc number) more))
 

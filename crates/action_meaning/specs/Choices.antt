@@ -29,17 +29,19 @@ decided_by otherwise answer None = otherwise
 decided_by otherwise answer (Some p) = answer p
 
 -- `any`: the first port of which it is not false decides; without one it is false
-abbrev pub any_of : Asked → List Port → Result Bool Failure
-any_of asked ps = decided_by (Ok false) asked (find (λ p. not (is_false (asked p))) ps)
+abbrev pub any_of_ports : Asked → List Port → Result Bool Failure
+any_of_ports asked ps = decided_by (Ok false) asked (find (λ p. not (is_false (asked p))) ps)
 
 -- `all`: the first port of which it is not true decides; without one it is true
-abbrev pub all_of : Asked → List Port → Result Bool Failure
-all_of asked ps = decided_by (Ok true) asked (find (λ p. not (is_true (asked p))) ps)
+abbrev pub all_of_ports : Asked → List Port → Result Bool Failure
+all_of_ports asked ps = decided_by (Ok true) asked (find (λ p. not (is_true (asked p))) ps)
 
 -- `first`: the first port of which it is not false; without one there is no choice
-abbrev pub first_of : Asked → List Port → Result Port Failure
-first_of asked ps = decided_by (Err NoChoice) (λ p. and_then (asked p) (λ b. Ok p)) (find (λ p. not (is_false (asked p))) ps)
+abbrev pub first_of_ports : Asked → List Port → Result Port Failure
+first_of_ports asked ps = decided_by (Err NoChoice) (λ p. and_then (asked p) (λ b. Ok p)) (find (λ p. not (is_false (asked p))) ps)
 
 -- `count`: of how many ports it is true, or the failure of the first port that fails
-abbrev pub count_of : Asked → List Port → Result ℕ Failure
-count_of asked ps = decided_by (Ok (count_by (λ p. is_true (asked p)) ps)) (λ p. and_then (asked p) (λ b. Ok 0)) (find (λ p. is_err (asked p)) ps)
+abbrev pub count_of_ports : Asked → List Port → Result ℕ Failure
+count_of_ports asked ps =
+    decided_by (Ok (count_by (λ p. is_true (asked p)) ps)) (λ p. and_then (asked p) (λ b. Ok 0))
+    (find (λ p. is_err (asked p)) ps)

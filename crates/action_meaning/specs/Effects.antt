@@ -36,12 +36,15 @@ for_ports f (p ∷ ps) m = and_then (f p m) (λ n. for_ports f ps n)
 -- of the amoebot with an id
 abbrev mutual
   pub stmt_effect : ℕ → Stmt → Moment → Result Moment Failure
-  stmt_effect i (put v a) m = and_then (sum_value (sight m.config i) m.names a) (λ x. reaching m (write m.config i None (var_number m.names v) x))
+  stmt_effect i (put v a) m =
+      and_then (sum_value (sight m.config i) m.names a) (λ x.
+      reaching m (write m.config i None (var_number m.names v) x))
   stmt_effect i (put_of p v a) m =
       and_then (port_value (sight m.config i) m.names p) (λ q.
       and_then (sum_value (sight m.config i) m.names a) (λ x.
       reaching m (write m.config i (Some q) (var_number m.names v) x)))
-  stmt_effect i (let_be v p) m = and_then (port_value (sight m.config i) m.names p) (λ q. Ok (moment m.config (bind m.names v q)))
+  stmt_effect i (let_be v p) m =
+      and_then (port_value (sight m.config i) m.names p) (λ q. Ok (moment m.config (bind m.names v q)))
   stmt_effect i (if_then g ss es) m =
       and_then (guard_value (sight m.config i) m.names g) (λ b.
       leaving m (if b then stmts_effect i ss m else stmts_effect i es m))

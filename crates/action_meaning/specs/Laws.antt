@@ -30,11 +30,21 @@ GuardedProgramsDecideGuarded = (p : Program) → p.guard ≡ true → DecidesGua
 
 -- where the program has the guard on, a step by f from a valid configuration leaves connected occupied nodes connected
 abbrev pub GuardedStepsStayConnected : (Shown → Verdict) → Program → Type 0
-GuardedStepsStayConnected f p = (old : Config) (e : Entry) (new : Config) → p.guard ≡ true → IsValid old → Step f old e new → StaysConnected old new
+GuardedStepsStayConnected f p =
+    (old : Config) (e : Entry) (new : Config)
+    → p.guard ≡ true
+    → IsValid old
+    → Step f old e new
+    → StaysConnected old new
 
 -- and so does a run
 abbrev pub GuardedRunsStayConnected : (Shown → Verdict) → Program → Type 0
-GuardedRunsStayConnected f p = (first : Config) (es : List Entry) (last : Config) → p.guard ≡ true → IsValid first → Run f first es last → StaysConnected first last
+GuardedRunsStayConnected f p =
+    (first : Config) (es : List Entry) (last : Config)
+    → p.guard ≡ true
+    → IsValid first
+    → Run f first es last
+    → StaysConnected first last
 
 -- so it is with the steps and the runs of each program
 abbrev pub ProgramStepsStayConnected : Type 0

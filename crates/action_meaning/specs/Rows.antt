@@ -26,7 +26,7 @@ use Rattle.action_tree.specs.declared.expression.PortSet.TheVariants.{Ports, Fre
 use Rattle.action_tree.specs.declared.expression.Cmp.TheVariants.{Eq, Ne, Lt, Le, Gt, Ge}
 use Rattle.action_tree.specs.Trees as tree
 use Rattle.action_tree.specs.Trees.{Name, Literal, Guard, Sum, Term, PortExpr, Stmt, Move, Action, Program, Part, guards, terms, stmts}
-use Rattle.action_tree.specs.Samples.{yes, no}
+use Rattle.action_tree.specs.Shipped.{yes, no}
 use Rattle.action_meaning.specs.Names.{Names}
 use Rattle.action_meaning.specs.Values.{guard_value, sum_value}
 use Rattle.action_meaning.specs.Verdicts.{verdict_on}
@@ -135,19 +135,19 @@ peer_dir r = tree.direction tree.peer_side r
 
 -- ---- guards
 
-pub record Asked : Type 0 where
+pub record GuardRow : Type 0 where
   pub bot : ℕ
   pub guard : Guard
   pub value : Result Bool Failure
 
-abbrev asked : ℕ → Guard → Result Bool Failure → Asked
+abbrev asked : ℕ → Guard → Result Bool Failure → GuardRow
 asked bot guard value = record { bot = bot; guard = guard; value = value }
 
 -- no name is in force
 abbrev names : Names
 names = record { vars = codes "x" ∷ codes "y" ∷ []; bound = [] }
 
-abbrev pub guard_in_shape : Asked → Result Bool Failure
+abbrev pub guard_in_shape : GuardRow → Result Bool Failure
 guard_in_shape a = guard_value (sight shape a.bot) names a.guard
 
 abbrev compares : ℕ → List Guard
@@ -160,7 +160,7 @@ compares n =
     ∷ tree.comparison (sum (tree.own x)) Ge (sum (number n))
     ∷ []
 
-abbrev pub guard_rows : List Asked
+abbrev pub guard_rows : List GuardRow
 guard_rows =
     asked 0 yes (Ok true)
     ∷ asked 0 no (Ok false)
@@ -226,18 +226,18 @@ compared_in_shape n = Rattle.std.specs.Prelude.map (guard_value (sight shape 0) 
 
 -- ---- sums
 
-pub record Added : Type 0 where
+pub record SumRow : Type 0 where
   pub bot : ℕ
   pub sum : Sum
   pub value : Result ℤ Failure
 
-abbrev added : ℕ → List Part → Result ℤ Failure → Added
+abbrev added : ℕ → List Part → Result ℤ Failure → SumRow
 added bot parts value = record { bot = bot; sum = terms parts; value = value }
 
-abbrev pub sum_in_shape : Added → Result ℤ Failure
+abbrev pub sum_in_shape : SumRow → Result ℤ Failure
 sum_in_shape a = sum_value (sight shape a.bot) names a.sum
 
-abbrev pub sum_rows : List Added
+abbrev pub sum_rows : List SumRow
 sum_rows =
     added 0 (plus (number 65535) ∷ []) (Ok (pos 65535))
     ∷ added 0 (plus (tree.own x) ∷ []) (Ok (pos 4))
@@ -276,18 +276,22 @@ sum_rows =
 abbrev act : Guard → List Stmt → Move → Action
 act g body moved = record { name = called (codes "a"); guard = g; body = stmts body; moved = moved }
 
-pub record Decided : Type 0 where
+pub record VerdictRow : Type 0 where
   pub bot : ℕ
   pub actions : List Action
   pub verdict : Verdict
 
-abbrev decided : ℕ → List Action → Verdict → Decided
+abbrev decided : ℕ → List Action → Verdict → VerdictRow
 decided bot actions v = record { bot = bot; actions = actions; verdict = v }
 
 -- of the program of the variables x and y, up to 9, with these actions and the guard off
-abbrev pub verdict_in_shape : Decided → Verdict
+abbrev pub verdict_in_shape : VerdictRow → Verdict
 verdict_in_shape d =
-    let program : Program = record { guard = false; vars = record { name = x; max = literal 9 } ∷ record { name = y; max = literal 9 } ∷ []; actions = d.actions } in
+    let program : Program = record {
+      guard = false;
+      vars = record { name = x; max = literal 9 } ∷ record { name = y; max = literal 9 } ∷ [];
+      actions = d.actions;
+    } in
     verdict_on program shape d.bot
 
 abbrev set_x : ℕ → Stmt
@@ -299,13 +303,15 @@ patched i b = (name.Body i, cell.Body b)
 abbrev change : ℕ → List (CellName × Cell) → Verdict
 change action cells = verdict.Change (record { action = action; moved = moved.None; patch = cells })
 
-abbrev pub verdict_rows : List Decided
+abbrev pub verdict_rows : List VerdictRow
 verdict_rows =
     decided 0 [] verdict.Idle
     ∷ decided 0 (act no [] tree.no_move ∷ []) verdict.Idle
     -- the first action whose guard is not false
-    ∷ decided 0 (act no (set_x 1 ∷ []) tree.no_move ∷ act yes (set_x 2 ∷ []) tree.no_move ∷ act yes (set_x 3 ∷ []) tree.no_move ∷ []) (change 1 (patched 0 (record zero { mem = values 2 6 }) ∷ []))
-    ∷ decided 0 (act no [] tree.no_move ∷ act (is (x_at (head 1)) 0) [] tree.no_move ∷ act yes [] tree.no_move ∷ []) (verdict.Failed NoNeighbour)
+    ∷ decided 0 (act no (set_x 1 ∷ []) tree.no_move ∷ act yes (set_x 2 ∷ []) tree.no_move
+    ∷ act yes (set_x 3 ∷ []) tree.no_move ∷ []) (change 1 (patched 0 (record zero { mem = values 2 6 }) ∷ []))
+    ∷ decided 0 (act no [] tree.no_move ∷ act (is (x_at (head 1)) 0) [] tree.no_move ∷ act yes [] tree.no_move ∷ [])
+    (verdict.Failed NoNeighbour)
     -- a value that stands there makes no pair, and a change may have none
     ∷ decided 0 (act yes (set_x 4 ∷ []) tree.no_move ∷ []) (change 0 [])
     ∷ decided 0 (act yes [] tree.no_move ∷ []) (change 0 [])
@@ -313,22 +319,30 @@ verdict_rows =
     ∷ decided 0 (act yes (set_x 1 ∷ set_x 10 ∷ []) tree.no_move ∷ []) (verdict.Failed OutOfRange)
     -- the port, then the sum, then the write
     ∷ decided 0 (act yes (tree.put_of (head 1) x (sum tree.inner) ∷ []) tree.no_move ∷ []) (verdict.Failed NotExpanded)
-    ∷ decided 0 (act yes (tree.put_of (first_p Ports no) x (sum tree.inner) ∷ []) tree.no_move ∷ []) (verdict.Failed NoChoice)
-    ∷ decided 0 (act yes (tree.put_of (head 3) y (sum (tree.own x)) ∷ []) tree.no_move ∷ []) (change 0 (patched 2 (record two { mem = values 7 4 }) ∷ []))
+    ∷ decided 0 (act yes (tree.put_of (first_p Ports no) x (sum tree.inner) ∷ []) tree.no_move ∷ [])
+    (verdict.Failed NoChoice)
+    ∷ decided 0 (act yes (tree.put_of (head 3) y (sum (tree.own x)) ∷ []) tree.no_move ∷ [])
+    (change 0 (patched 2 (record two { mem = values 7 4 }) ∷ []))
     -- a name of `let` stands for the port that was evaluated at its statement, and is in force in the movement
-    ∷ decided 0 (act yes (tree.let_be q (tree.at_end Head (tree.held x)) ∷ set_x 5 ∷ tree.put y (sum (dir (tree.bound q))) ∷ []) (tree.through tree.expand (tree.bound q)) ∷ [])
+    ∷ decided 0 (act yes
+    (tree.let_be q (tree.at_end Head (tree.held x)) ∷ set_x 5 ∷ tree.put y (sum (dir (tree.bound q))) ∷ [])
+    (tree.through tree.expand (tree.bound q)) ∷ [])
     (verdict.Change (record {
       action = 0;
       moved = moved.Expand (port Head 4);
       patch = (name.Spot (node 3 2), cell.Spot (Some 0)) ∷ patched 0 (body (node 3 2) (node 3 3) 0 chir.Plus 5 4) ∷ [];
     }))
-    ∷ decided 0 (act yes (tree.if_then yes (stmts (set_x 1 ∷ [])) (stmts (set_x 2 ∷ [])) ∷ []) tree.no_move ∷ []) (change 0 (patched 0 (record zero { mem = values 1 6 }) ∷ []))
-    ∷ decided 0 (act yes (tree.if_then no (stmts (set_x 1 ∷ [])) (stmts (set_x 2 ∷ [])) ∷ []) tree.no_move ∷ []) (change 0 (patched 0 (record zero { mem = values 2 6 }) ∷ []))
+    ∷ decided 0 (act yes (tree.if_then yes (stmts (set_x 1 ∷ [])) (stmts (set_x 2 ∷ [])) ∷ []) tree.no_move ∷ [])
+    (change 0 (patched 0 (record zero { mem = values 1 6 }) ∷ []))
+    ∷ decided 0 (act yes (tree.if_then no (stmts (set_x 1 ∷ [])) (stmts (set_x 2 ∷ [])) ∷ []) tree.no_move ∷ [])
+    (change 0 (patched 0 (record zero { mem = values 2 6 }) ∷ []))
     ∷ decided 0 (act yes (tree.if_then no (stmts (set_x 1 ∷ [])) tree.no_stmts ∷ []) tree.no_move ∷ []) (change 0 [])
     -- each condition of a `for` is asked in what was reached: what is done for the first port makes it false for the second
-    ∷ decided 0 (act yes (tree.for_each p Ports (is (tree.own x) 4) (stmts (set_x 5 ∷ tree.put_of port_p y (sum (number 1)) ∷ [])) ∷ []) tree.no_move ∷ [])
+    ∷ decided 0 (act yes (tree.for_each p Ports (is (tree.own x) 4)
+    (stmts (set_x 5 ∷ tree.put_of port_p y (sum (number 1)) ∷ [])) ∷ []) tree.no_move ∷ [])
     (change 0 (patched 0 (record zero { mem = values 5 6 }) ∷ patched 1 (record one { mem = values 2 1 }) ∷ []))
-    ∷ decided 0 (act yes (tree.for_each p Ports yes (stmts (tree.put_of port_p y (sum (dir port_p)) ∷ [])) ∷ []) tree.no_move ∷ []) (change 0 (patched 2 (record two { mem = values 7 3 }) ∷ []))
+    ∷ decided 0 (act yes (tree.for_each p Ports yes (stmts (tree.put_of port_p y (sum (dir port_p)) ∷ [])) ∷ [])
+    tree.no_move ∷ []) (change 0 (patched 2 (record two { mem = values 7 3 }) ∷ []))
     -- the port of a movement comes before the movement's own conditions
     ∷ decided 3 (act yes [] (tree.through tree.expand (tree.at_end Head (tree.held y))) ∷ []) (verdict.Failed NotContracted)
     ∷ decided 0 (act yes [] (tree.through tree.pull (tree.at_end Head (tree.held y))) ∷ []) (verdict.Failed NoPort)
@@ -339,7 +353,9 @@ verdict_rows =
     (verdict.Change (record {
       action = 0;
       moved = moved.Push (port Head 0);
-      patch = (name.Spot (node 4 3), cell.Spot (Some 0)) ∷ patched 0 (body (node 4 3) (node 3 3) 0 chir.Plus 4 6) ∷ patched 1 (body (node 5 3) (node 5 3) 0 chir.Plus 2 0) ∷ [];
+      patch =
+          (name.Spot (node 4 3), cell.Spot (Some 0)) ∷ patched 0 (body (node 4 3) (node 3 3) 0 chir.Plus 4 6)
+          ∷ patched 1 (body (node 5 3) (node 5 3) 0 chir.Plus 2 0) ∷ [];
     }))
     ∷ decided 3 (act yes [] (tree.contract Head) ∷ [])
     (verdict.Change (record {

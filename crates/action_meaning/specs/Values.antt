@@ -23,7 +23,7 @@ use Rattle.action_tree.specs.declared.expression.Cmp.{Cmp}
 use Rattle.action_tree.specs.declared.expression.Cmp.TheVariants as cmp
 use Rattle.action_tree.specs.Trees as tree
 use Rattle.action_meaning.specs.Names.{Names, var_number, port_named, bind}
-use Rattle.action_meaning.specs.Choices.{is_true, any_of, all_of, first_of, count_of}
+use Rattle.action_meaning.specs.Choices.{is_true, any_of_ports, all_of_ports, first_of_ports, count_of_ports}
 
 -- the ports of a set, in port order: the connected ones, or those whose node behind is in the area and empty
 abbrev pub ports_of : Sight → PortSet → List Port
@@ -83,10 +83,11 @@ abbrev mutual
   guard_value s xs (tree.negation g) = and_then (guard_value s xs g) (λ b. Ok (not b))
   guard_value s xs (tree.conjunction gs) = each_value s xs gs
   guard_value s xs (tree.disjunction gs) = some_value s xs gs
-  guard_value s xs (tree.quantified tree.any v set g) = any_of (λ p. guard_value s (bind xs v p) g) (ports_of s set)
-  guard_value s xs (tree.quantified tree.all v set g) = all_of (λ p. guard_value s (bind xs v p) g) (ports_of s set)
+  guard_value s xs (tree.quantified tree.any v set g) = any_of_ports (λ p. guard_value s (bind xs v p) g) (ports_of s set)
+  guard_value s xs (tree.quantified tree.all v set g) = all_of_ports (λ p. guard_value s (bind xs v p) g) (ports_of s set)
   guard_value s xs (tree.tested t p) = and_then (port_value s xs p) (λ q. test_value s t q)
-  guard_value s xs (tree.comparison a c b) = and_then (sum_value s xs a) (λ x. and_then (sum_value s xs b) (λ y. Ok (compare c x y)))
+  guard_value s xs (tree.comparison a c b) =
+      and_then (sum_value s xs a) (λ x. and_then (sum_value s xs b) (λ y. Ok (compare c x y)))
 
   -- `and` stops at the first false element, `or` at the first true one
   pub each_value : Sight → Names → tree.Guards → Result Bool Failure
@@ -99,13 +100,14 @@ abbrev mutual
 
   pub sum_value : Sight → Names → tree.Sum → Result ℤ Failure
   sum_value s xs tree.no_terms = Ok (pos 0)
-  sum_value s xs (tree.term_then minus t more) = and_then (term_value s xs t) (λ x. and_then (sum_value s xs more) (λ y. Ok (signed minus x +ℤ y)))
+  sum_value s xs (tree.term_then minus t more) =
+      and_then (term_value s xs t) (λ x. and_then (sum_value s xs more) (λ y. Ok (signed minus x +ℤ y)))
 
   pub term_value : Sight → Names → tree.Term → Result ℤ Failure
   term_value s xs (tree.number n) = Ok (pos n.value)
   term_value s xs (tree.own v) = whole (s.reads None (var_number xs v))
   term_value s xs (tree.of_port p v) = and_then (port_value s xs p) (λ q. whole (s.reads (Some q) (var_number xs v)))
-  term_value s xs (tree.count v set g) = whole (count_of (λ p. guard_value s (bind xs v p) g) (ports_of s set))
+  term_value s xs (tree.count v set g) = whole (count_of_ports (λ p. guard_value s (bind xs v p) g) (ports_of s set))
   term_value s xs (tree.direction side p) = and_then (port_value s xs p) (λ q. whole (side_value s side q))
   term_value s xs tree.inner = whole (inner_value s.own)
   term_value s xs (tree.mod6 a) = and_then (sum_value s xs a) (λ x. Ok (int_rem_euclid x (pos 6)))
@@ -114,4 +116,4 @@ abbrev mutual
   port_value s xs (tree.bound v) = Ok (port_named xs v)
   port_value s xs (tree.at_end e d) = and_then (dirterm_value s xs d) (λ i. Ok (port e i))
   port_value s xs (tree.turned p n) = and_then (port_value s xs p) (λ q. Ok (port q.end ((q.dir + n.value) % 6)))
-  port_value s xs (tree.first v set g) = first_of (λ p. guard_value s (bind xs v p) g) (ports_of s set)
+  port_value s xs (tree.first v set g) = first_of_ports (λ p. guard_value s (bind xs v p) g) (ports_of s set)

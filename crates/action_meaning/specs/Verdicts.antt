@@ -33,12 +33,12 @@ move_value s xs (through m p) = and_then (port_value s xs p) (λ q. Ok (moved_th
 move_value s xs (contract e) = Ok (moved.Contract e)
 
 -- a movement that was made, and the configuration that it leads to
-pub record Made : Type 0 where
+pub record MadeMove : Type 0 where
   pub moved : Moved
   pub reached : Config
 
 -- the statements of an action, and then its movement, in which what they bound is in force
-abbrev pub action_effect : Bool → ℕ → Action → Moment → Result Made Failure
+abbrev pub action_effect : Bool → ℕ → Action → Moment → Result MadeMove Failure
 action_effect guarded i a m =
     and_then (stmts_effect i a.body m) (λ n.
     and_then (move_value (sight n.config i) n.names a.moved) (λ by.
@@ -46,9 +46,9 @@ action_effect guarded i a m =
     Ok (record { moved = by; reached = d }))))
 
 -- the verdict of the action with a number whose effect on c that is
-abbrev pub settled : Config → ℕ → Result Made Failure → Verdict
-settled c number (Ok made) = verdict.Change (record { action = number; moved = made.moved; patch = diff c made.reached })
-settled c number (Err f) = verdict.Failed f
+abbrev pub verdict_of_result : Config → ℕ → Result MadeMove Failure → Verdict
+verdict_of_result c number (Ok made) = verdict.Change (record { action = number; moved = made.moved; patch = diff c made.reached })
+verdict_of_result c number (Err f) = verdict.Failed f
 
 -- where its guard is true, an action decides by its effect; where it fails, by that; where it is false the later ones decide
 abbrev pub decided_by_guard : Result Bool Failure → Verdict → Verdict → Verdict
@@ -61,7 +61,7 @@ abbrev pub actions_verdict : Bool → Names → Config → ℕ → ℕ → List 
 actions_verdict guarded xs c i number [] = verdict.Idle
 actions_verdict guarded xs c i number (a ∷ more) =
     decided_by_guard (guard_value (sight c i) xs a.guard)
-    (settled c number (action_effect guarded i a (moment c xs)))
+    (verdict_of_result c number (action_effect guarded i a (moment c xs)))
     (actions_verdict guarded xs c i (suc number) more)
 
 -- at the start of an action no name is in force

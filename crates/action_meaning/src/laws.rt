@@ -1,6 +1,7 @@
 //! What holds of verdicts. The functions do nothing: their clauses are the laws.
 
-ghost use Rattle.action_meaning.specs.Laws.{VerdictIsShown, ProgramsDecideByActs, GuardedProgramsDecideGuarded, ProgramStepsStayConnected, ProgramRunsStayConnected, ValuesAreComputed};
+ghost use Rattle.action_meaning.specs.Laws.{VerdictIsShown, ProgramsDecideByActs, GuardedProgramsDecideGuarded};
+ghost use Rattle.action_meaning.specs.Laws.{ProgramStepsStayConnected, ProgramRunsStayConnected, ValuesAreComputed};
 
 /// The verdict on what a valid configuration shows is the verdict on that configuration, ids without an amoebot allowed.
 #[tactic(auto, using(crate::proofs::Decided::verdict_is_shown))]
@@ -17,7 +18,7 @@ pub fn changes_are_acts()
 
 /// With the guard on, connected occupied nodes stay connected under each step and each run of a program.
 #[tactic(auto, using(crate::proofs::Decided::program_steps_stay_connected, crate::proofs::Decided::program_runs_stay_connected))]
-pub fn guarded_runs_stay_connected()
+pub fn program_runs_stay_connected()
     ensures steps { ProgramStepsStayConnected }
     ensures runs { ProgramRunsStayConnected }
 {}

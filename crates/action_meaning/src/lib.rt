@@ -4,5 +4,5 @@
 mod laws;
 
 pub use laws::{
-    changes_are_acts, guarded_runs_stay_connected, values_are_computed, verdict_is_shown,
+    changes_are_acts, program_runs_stay_connected, values_are_computed, verdict_is_shown,
 };

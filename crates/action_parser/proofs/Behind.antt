@@ -8,10 +8,10 @@ use Rattle.text_tokens.specs.Text.{Lexeme}
 use Rattle.text_tokens.specs.Cursor.{Cursor, next_passes, refusal_at}
 use Rattle.text_tokens.specs.Reading.{Reader, ◌>>=◌, pure, one, no_limit, limited, optional, behind_sign, full_at}
 use Rattle.text_tokens.specs.Steps.{Gives, another, IsRefusal}
-use Rattle.text_tokens.proofs.Stepping.{Reached, Failed, stays, gives_as, on, fails, another_none, another_some, another_fails, with_room, without_room, one_too_many as too_many, is_first, is_second}
-use Rattle.action_grammar.specs.declared.role.Role.{Role}
-use Rattle.action_grammar.specs.Roles.{role}
-use Rattle.action_grammar.specs.ExpressionReaders.{level_limit}
+use Rattle.text_tokens.proofs.StepsLemmas.{Reached, Failed, stays, gives_as, on, fails, another_none, another_some, another_fails, with_room, without_room, one_too_many as too_many, is_first, is_second}
+use Rattle.action_tree.specs.declared.role.Role.{Role}
+use Rattle.action_tree.specs.Roles.{role}
+use Rattle.action_tree.specs.ExpressionReaders.{level_limit}
 use Rattle.action_parser.proofs.Fullness.{full_for}
 
 some_room : (room : ℕ) → room ≢ 0 → 0 < room

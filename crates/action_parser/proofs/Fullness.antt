@@ -8,9 +8,9 @@ use Rattle.text_tokens.specs.Text.{Lexeme}
 use Rattle.text_tokens.specs.Cursor.{Cursor, refusal_at}
 use Rattle.text_tokens.specs.Reading.{Answer, first, choose, full_at, past_kind, deep_at}
 use Rattle.text_tokens.specs.Steps.{IsRefusal}
-use Rattle.action_grammar.specs.declared.role.Role.{Role}
-use Rattle.action_grammar.specs.Roles.{role}
-use Rattle.action_grammar.specs.ExpressionReaders.{opens_level, level_limit}
+use Rattle.action_tree.specs.declared.role.Role.{Role}
+use Rattle.action_tree.specs.Roles.{role}
+use Rattle.action_tree.specs.ExpressionReaders.{opens_level, level_limit}
 use Rattle.action_parser.specs.Full.{deep_kind, full_kind}
 
 limit_is : (n : ℕ) (t : Lexeme) (b : Bool) → cond b (deep_at n t) None ≡ cond b (deep_kind n) None

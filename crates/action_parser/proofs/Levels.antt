@@ -9,17 +9,17 @@ use Rattle.text_tokens.specs.Text.{Lexeme}
 use Rattle.text_tokens.specs.Cursor.{Cursor, refusal_at}
 use Rattle.text_tokens.specs.Reading.{Reader, first, ◌>>=◌, by_role, refuse, less}
 use Rattle.text_tokens.specs.Steps.{Gives}
-use Rattle.text_tokens.proofs.Stepping.{Failed, stays, stays_on, gives_as}
-use Rattle.text_tokens.proofs.Looping.{less_is}
+use Rattle.text_tokens.proofs.StepsLemmas.{Failed, stays, stays_on, gives_as}
+use Rattle.text_tokens.proofs.LoopLemmas.{less_is}
 use Rattle.text_tokens.proofs.Rows.{Left, gives_left}
 use Rattle.action_tree.specs.Trees.{Guard, Stmts}
-use Rattle.action_grammar.specs.declared.role.Role.{Role}
-use Rattle.action_grammar.specs.declared.role.Role.TheVariants.{AName, ANumber, OpenSign, NotWord, AtomWord, QuantifierWord, TestWord, FreeWord, CountWord, SideWord, InnerWord, Mod6Word, EndWord, TurnWord, FirstWord, DotSign, BecomesSign, LetWord, IfWord, ForWord, NoneWord, ThroughWord, ContractWord}
-use Rattle.action_grammar.specs.Roles.{role}
-use Rattle.action_grammar.specs.ExpressionReaders.{Readers, readers, inside, begins_sum, a_comparison, a_test, a_port, member, unit_by, term_by, port_by}
-use Rattle.action_grammar.specs.ExpressionReaders.{port_at}
-use Rattle.action_grammar.specs.StatementReaders.{stmts_inside, stmts_at, stmt_by, put_by, put_member}
-use Rattle.action_grammar.specs.ProgramReaders.{move_by}
+use Rattle.action_tree.specs.declared.role.Role.{Role}
+use Rattle.action_tree.specs.declared.role.Role.TheVariants.{AName, ANumber, OpenSign, NotWord, AtomWord, QuantifierWord, TestWord, FreeWord, CountWord, SideWord, InnerWord, Mod6Word, EndWord, TurnWord, FirstWord, DotSign, BecomesSign, LetWord, IfWord, ForWord, NoneWord, ThroughWord, ContractWord}
+use Rattle.action_tree.specs.Roles.{role}
+use Rattle.action_tree.specs.ExpressionReaders.{Readers, readers, inside, begins_sum, a_comparison, a_test, a_port, member, unit_by, term_by, port_by}
+use Rattle.action_tree.specs.ExpressionReaders.{port_at}
+use Rattle.action_tree.specs.StatementReaders.{stmts_inside, stmts_at, stmt_by, put_by, put_member}
+use Rattle.action_tree.specs.ProgramReaders.{move_by}
 use Rattle.action_parser.proofs.RoleFacts.{chosen_by}
 
 -- ---- levels

@@ -3,6 +3,6 @@ pub mod Tokens
 pub mod Fullness
 pub mod Levels
 pub mod Elements
-pub mod Listing
+pub mod ListsLemmas
 pub mod RoleFacts
 pub mod Behind

@@ -11,17 +11,17 @@ use Rattle.text_tokens.specs.Reading.{Reader, first, by_role, one_within, no_lim
 use Rattle.text_tokens.specs.Text.{Cuts, most_bytes}
 use Rattle.text_tokens.specs.Cursor.{IsDigits}
 use Rattle.text_tokens.specs.Steps.{lexeme_of}
-use Rattle.text_tokens.proofs.Distinguishing.{kind_is}
-use Rattle.text_tokens.proofs.Stepping.{is_number_of, Reached}
+use Rattle.text_tokens.proofs.LexemeLemmas.{kind_is}
+use Rattle.text_tokens.proofs.StepsLemmas.{is_number_of, Reached}
 use Rattle.text_tokens.specs.declared.refusal.RefusalKind.TheVariants.{TooMany}
-use Rattle.action_grammar.specs.Expressions.{bound_at}
+use Rattle.action_tree.specs.Expressions.{bound_at}
 use Rattle.action_tree.specs.Words.{is_word}
-use Rattle.action_tree.proofs.Spelling.{cut_is_word}
+use Rattle.action_tree.proofs.WordsLemmas.{cut_is_word}
 use Rattle.action_tree.proofs.Conditions.{left_of}
-use Rattle.action_grammar.proofs.Naming.{names, numbers}
-use Rattle.action_grammar.specs.declared.role.Role.{Role}
-use Rattle.action_grammar.specs.declared.role.Role.TheVariants as role_of
-use Rattle.action_grammar.specs.Roles.{role, role_by, is_a}
+use Rattle.action_tree.proofs.NameLemmas.{names, numbers}
+use Rattle.action_tree.specs.declared.role.Role.{Role}
+use Rattle.action_tree.specs.declared.role.Role.TheVariants as role_of
+use Rattle.action_tree.specs.Roles.{role, role_by, is_a}
 use Rattle.action_parser.proofs.Tokens.{passes}
 
 -- a name is a word, and a number one

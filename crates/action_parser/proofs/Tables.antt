@@ -1,7 +1,7 @@
 -- A table is searched from left to right.
 use Rattle.std.proofs.Common.{◌≡◌, ◌<◌, ℕ, suc, Bool, true, false, List, ◌∷◌, map, drop, length, get_or, refl, ap, ◌∙◌, drop-cons}
 use Rattle.std.specs.Str.{bytes_eq}
-use Rattle.action_grammar.specs.Roles.{Entry, look_up}
+use Rattle.action_tree.specs.Roles.{Entry, look_up}
 
 module _ {A E : Type 0} (as_entry : E → Entry A) (a : A) (text : List ℕ) where
   -- what the table says from there on, where this entry is the next

@@ -8,9 +8,9 @@ use Rattle.text_tokens.specs.declared.refusal.RefusalKind.{RefusalKind}
 use Rattle.text_tokens.specs.declared.refusal.RefusalKind.TheVariants.{Unexpected}
 use Rattle.text_tokens.specs.Text.{Lexeme}
 use Rattle.text_tokens.specs.Cursor.{Cursor, next_passes, refusal_at, past_token, expect, expect_by, Spells}
-use Rattle.text_tokens.specs.Reading.{Answer, Reader, pure, and_then, within, one_within, one, no_limit}
+use Rattle.text_tokens.specs.Reading.{Answer, Reader, pure, answer_and_then, within, one_within, one, no_limit}
 use Rattle.text_tokens.specs.Steps.{Fails, SameSource, lexeme_of}
-use Rattle.text_tokens.proofs.Stepping.{Reached, Failed, stays, took, fails, on_made, err_of}
+use Rattle.text_tokens.proofs.StepsLemmas.{Reached, Failed, stays, took, fails, on_made, err_of}
 use Rattle.text_tokens.proofs.Rows.{Left}
 use Rattle.text_tokens.proofs.Exactness.{value_in, rest_in}
 use Rattle.action_parser.specs.Readings.{made}
@@ -96,10 +96,10 @@ module _ (p q : Lexeme → Bool) where
 
   module _ {A : Type 0} (f : Lexeme → A) (old : Cursor) where
     pub left_same : next_passes p old.ahead ≡ true → made (one (λ t. p t || q t)) f old.last old.ahead ≡ made (one p) f old.last old.ahead
-    left_same comes = ap (λ (x : Answer Lexeme). and_then x (λ t us. Ok (f t, us))) (left_by old.last old.ahead comes)
+    left_same comes = ap (λ (x : Answer Lexeme). answer_and_then x (λ t us. Ok (f t, us))) (left_by old.last old.ahead comes)
 
     pub right_same : next_passes p old.ahead ≡ false → made (one (λ t. p t || q t)) f old.last old.ahead ≡ made (one q) f old.last old.ahead
-    right_same misses = ap (λ (x : Answer Lexeme). and_then x (λ t us. Ok (f t, us))) (right_by old.last old.ahead misses)
+    right_same misses = ap (λ (x : Answer Lexeme). answer_and_then x (λ t us. Ok (f t, us))) (right_by old.last old.ahead misses)
 
   module _ {A : Type 0} (f : Lexeme → A) (old new : Cursor) where
     pub left_reads : (t : Lexeme) (v : A) → next_passes p old.ahead ≡ true → Reached (one p) old t new → (p t ≡ true → f t ≡ v) → Reached (made (one (λ t. p t || q t)) f) old v new
@@ -123,7 +123,7 @@ pub record Taken {A B : Type 0} (p : Reader A) (f : A → B) (old : Cursor) (b :
   pub is : f part ≡ b
 
 module _ {A B : Type 0} (p : Reader A) (f : A → B) (old new : Cursor) where
-  taken_by : (b : B) (r : Answer A) → p old.last old.ahead ≡ r → SameSource old new → and_then r (λ a us. Ok (f a, us)) ≡ Ok (b, new.ahead) → Taken p f old b new
+  taken_by : (b : B) (r : Answer A) → p old.last old.ahead ≡ r → SameSource old new → answer_and_then r (λ a us. Ok (f a, us)) ≡ Ok (b, new.ahead) → Taken p f old b new
   taken_by b (Ok r) e s h =
       let x : f r.0 ≡ b = ap (value_in b) h in
       let y : r.1 ≡ new.ahead = ap rest_in h in

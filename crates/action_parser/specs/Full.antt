@@ -3,8 +3,8 @@ use Rattle.std.specs.Prelude.{ℕ, zero, suc, Bool, if◌then◌else◌, Option,
 use Rattle.text_tokens.specs.declared.refusal.RefusalKind.{RefusalKind}
 use Rattle.text_tokens.specs.declared.refusal.RefusalKind.TheVariants.{Unexpected, TooDeep}
 use Rattle.text_tokens.specs.Reading.{past_kind}
-use Rattle.action_grammar.specs.declared.role.Role.{Role}
-use Rattle.action_grammar.specs.ExpressionReaders.{opens_level}
+use Rattle.action_tree.specs.declared.role.Role.{Role}
+use Rattle.action_tree.specs.ExpressionReaders.{opens_level}
 
 abbrev pub deep_kind : ℕ → Option RefusalKind
 deep_kind zero = Some TooDeep

@@ -3,3 +3,14 @@ pub mod Full
 pub mod Selections
 pub mod Lists
 pub mod PartsOf
+pub use Rattle.action_tree.specs.ExpressionReaders
+pub use Rattle.action_tree.specs.Productions
+pub use Rattle.action_tree.specs.ProgramReaders
+pub use Rattle.action_tree.specs.Programs
+pub use Rattle.action_tree.specs.Roles
+pub use Rattle.action_tree.specs.StatementReaders
+pub use Rattle.action_tree.specs.Trees
+pub use Rattle.action_tree.specs.Views
+pub use Rattle.text_tokens.specs.Cursor
+pub use Rattle.text_tokens.specs.Reading
+pub use Rattle.text_tokens.specs.Steps

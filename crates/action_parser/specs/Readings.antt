@@ -5,10 +5,10 @@ use Rattle.amoebot_state.specs.declared.bot.End.{End}
 use Rattle.action_tree.specs.declared.expression.PortSet.{PortSet}
 use Rattle.action_tree.specs.declared.expression.Cmp.{Cmp}
 use Rattle.action_tree.specs.Trees.{Name, Literal, DirTerm, Term, own, bound}
-use Rattle.action_grammar.specs.declared.role.Role.TheVariants as role
-use Rattle.action_grammar.specs.Roles.{is_a, is_set, is_dirterm, is_plus_or_minus, as_name, as_literal, as_dirterm, as_set, as_end, as_cmp, as_switch}
-use Rattle.action_grammar.specs.Expressions.{bound_at}
-use Rattle.action_grammar.specs.ExpressionReaders.{member}
+use Rattle.action_tree.specs.declared.role.Role.TheVariants as role
+use Rattle.action_tree.specs.Roles.{is_a, is_set, is_dirterm, is_plus_or_minus, as_name, as_literal, as_dirterm, as_set, as_end, as_cmp, as_switch}
+use Rattle.action_tree.specs.Expressions.{bound_at}
+use Rattle.action_tree.specs.ExpressionReaders.{member}
 
 abbrev pub made : {A B : Type 0} → Reader A → (A → B) → Reader B
 made p f = p >>= λ a. pure (f a)
@@ -28,8 +28,8 @@ a_dirterm = made (one is_dirterm) as_dirterm
 abbrev pub a_set : Reader PortSet
 a_set = made (one is_set) as_set
 
-abbrev pub an_end : Reader End
-an_end = made (one (is_a role.EndWord)) as_end
+abbrev pub an_end_word : Reader End
+an_end_word = made (one (is_a role.EndWord)) as_end
 
 abbrev pub a_cmp : Reader Cmp
 a_cmp = made (one (is_a role.CompareSign)) as_cmp

@@ -6,10 +6,10 @@ ghost use Rattle.std.specs.Prelude.{◌<◌, IfOk, IfSome, option_map};
 ghost use Rattle.text_tokens.specs.Steps.{Gives, another};
 ghost use Rattle.text_tokens.specs.Reading.{behind_sign};
 ghost use Rattle.action_tree.specs.Views.{guard_of, sum_of, part_of, term_of, port_of};
-ghost use Rattle.action_grammar.specs.Roles.{is_a, is_plus_or_minus};
-ghost use Rattle.action_grammar.specs.declared.role.Role.TheVariants as role;
-ghost use Rattle.action_grammar.specs.ExpressionReaders as spec;
-ghost use Rattle.action_grammar.specs.ExpressionReaders.{inside};
+ghost use Rattle.action_tree.specs.Roles.{is_a, is_plus_or_minus};
+ghost use Rattle.action_tree.specs.declared.role.Role.TheVariants as role;
+ghost use Rattle.action_tree.specs.ExpressionReaders as spec;
+ghost use Rattle.action_tree.specs.ExpressionReaders.{inside};
 ghost use Rattle.action_parser.specs.Selections.{selection_of};
 
 use crate::full::{begins_sum, full_guard, full_sum};
@@ -19,8 +19,7 @@ use crate::words::{
     atom, bound_name, comparison, direction, dirterm, end, is_joint, joint, literal, member, minus,
     name, own_or_member, port_set, test, tested, text,
 };
-use action_grammar::Role;
-use action_tree::{Guard, Part, PortExpr, Sum, Term};
+use action_tree::{Guard, Part, PortExpr, Role, Sum, Term};
 use std::alloc::Global;
 use text_tokens::{ReadRefusal, Tokens};
 
@@ -61,7 +60,9 @@ fn more_conj(
     names: u32,
     room: u32,
 ) -> Result<Option<Guard>, ReadRefusal>
-    ensures reads { Gives (λ o. option_map guard_of o) (another (is_a role.OrWord) (behind_sign (is_a role.OrWord) (spec.conj_in levels names (inside levels)) room)) tokens.old result tokens.new }
+    ensures reads { Gives (λ o. option_map guard_of o)
+        (another (is_a role.OrWord) (behind_sign (is_a role.OrWord) (spec.conj_in levels names (inside levels)) room))
+        tokens.old result tokens.new }
     ensures room { IfOk result (λ o. IfSome o (λ _. 0 < room)) }
 {
     if !is_next(tokens, Role::OrWord) {
@@ -108,7 +109,10 @@ fn more_unit(
     names: u32,
     room: u32,
 ) -> Result<Option<Guard>, ReadRefusal>
-    ensures reads { Gives (λ o. option_map guard_of o) (another (is_a role.AndWord) (behind_sign (is_a role.AndWord) (spec.unit_in levels names (inside levels)) room)) tokens.old result tokens.new }
+    ensures reads { Gives (λ o. option_map guard_of o)
+        (another (is_a role.AndWord)
+        (behind_sign (is_a role.AndWord) (spec.unit_in levels names (inside levels)) room))
+        tokens.old result tokens.new }
     ensures room { IfOk result (λ o. IfSome o (λ _. 0 < room)) }
 {
     if !is_next(tokens, Role::AndWord) {
@@ -200,7 +204,9 @@ fn more_part(
     names: u32,
     room: u32,
 ) -> Result<Option<Part>, ReadRefusal>
-    ensures reads { Gives (λ o. option_map part_of o) (another is_plus_or_minus (behind_sign is_plus_or_minus (spec.part_in levels names (inside levels)) room)) tokens.old result tokens.new }
+    ensures reads { Gives (λ o. option_map part_of o)
+        (another is_plus_or_minus (behind_sign is_plus_or_minus (spec.part_in levels names (inside levels)) room))
+        tokens.old result tokens.new }
     ensures room { IfOk result (λ o. IfSome o (λ _. 0 < room)) }
 {
     if !is_joint(tokens) {

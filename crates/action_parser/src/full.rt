@@ -3,13 +3,13 @@
 ghost use Rattle.std.specs.Prelude.{◌≡◌};
 ghost use Rattle.text_tokens.specs.Reading.{full_at};
 ghost use Rattle.text_tokens.specs.Steps.{IsRefusal};
-ghost use Rattle.action_grammar.specs.Roles as roles;
-ghost use Rattle.action_grammar.specs.ExpressionReaders as spec;
-ghost use Rattle.action_grammar.specs.StatementReaders as statements;
+ghost use Rattle.action_tree.specs.Roles as roles;
+ghost use Rattle.action_tree.specs.ExpressionReaders as spec;
+ghost use Rattle.action_tree.specs.StatementReaders as statements;
 ghost use Rattle.action_parser.specs.Full.{full_kind};
 
 use crate::roles::next_role;
-use action_grammar::Role;
+use action_tree::Role;
 use text_tokens::{Refusal, RefusalKind, Tokens};
 
 /// Whether a term begins with a token of this role.
@@ -96,7 +96,8 @@ fn kind_of(begins: bool, role: Role, levels: u32) -> RefusalKind
 
 /// Refuses one element too many of an `and` or an `or`, or what begins none.
 pub fn full_guard(tokens: &Tokens<'_>, levels: u32) -> Refusal
-    ensures { IsRefusal (full_at (λ t. spec.begins_unit (roles.role t)) (spec.level_limit levels)) tokens.now.last tokens.now.ahead result }
+    ensures { IsRefusal (full_at (λ t. spec.begins_unit (roles.role t)) (spec.level_limit levels))
+        tokens.now.last tokens.now.ahead result }
 {
     let Some(role) = next_role(tokens) else {
         return tokens.refusal(RefusalKind::Unexpected);
@@ -106,7 +107,8 @@ pub fn full_guard(tokens: &Tokens<'_>, levels: u32) -> Refusal
 
 /// Refuses one term too many, or what begins none.
 pub fn full_sum(tokens: &Tokens<'_>, levels: u32) -> Refusal
-    ensures { IsRefusal (full_at (λ t. spec.begins_term (roles.role t)) (spec.level_limit levels)) tokens.now.last tokens.now.ahead result }
+    ensures { IsRefusal (full_at (λ t. spec.begins_term (roles.role t)) (spec.level_limit levels))
+        tokens.now.last tokens.now.ahead result }
 {
     let Some(role) = next_role(tokens) else {
         return tokens.refusal(RefusalKind::Unexpected);
@@ -116,7 +118,8 @@ pub fn full_sum(tokens: &Tokens<'_>, levels: u32) -> Refusal
 
 /// Refuses one statement too many, or what begins none.
 pub fn full_stmts(tokens: &Tokens<'_>, levels: u32) -> Refusal
-    ensures { IsRefusal (full_at (λ t. statements.begins_stmt (roles.role t)) (spec.level_limit levels)) tokens.now.last tokens.now.ahead result }
+    ensures { IsRefusal (full_at (λ t. statements.begins_stmt (roles.role t)) (spec.level_limit levels))
+        tokens.now.last tokens.now.ahead result }
 {
     let Some(role) = next_role(tokens) else {
         return tokens.refusal(RefusalKind::Unexpected);

@@ -6,18 +6,17 @@ ghost use Rattle.text_tokens.specs.Reading.{no_limit, limited, at_most};
 ghost use Rattle.amoebot_state.specs.Limits.{most_vars};
 ghost use Rattle.action_tree.specs.Limits.{most_levels, most_names, most_actions};
 ghost use Rattle.action_tree.specs.Views.{var_of, action_of};
-ghost use Rattle.action_grammar.specs.Roles.{is_a};
-ghost use Rattle.action_grammar.specs.declared.role.Role.TheVariants as role;
-ghost use Rattle.action_grammar.specs.Programs.{IsProgram};
-ghost use Rattle.action_grammar.specs.ProgramReaders as spec;
+ghost use Rattle.action_tree.specs.Roles.{is_a};
+ghost use Rattle.action_tree.specs.declared.role.Role.TheVariants as role;
+ghost use Rattle.action_tree.specs.Programs.{IsProgram};
+ghost use Rattle.action_tree.specs.ProgramReaders as spec;
 ghost use Rattle.action_parser.specs.PartsOf.{parts_of};
 
 use crate::expression::read_guard;
 use crate::roles::{is_next, token};
 use crate::statement::{read_body, read_moved};
 use crate::words::{literal, name, switch};
-use action_grammar::Role;
-use action_tree::{Action, Program, Var};
+use action_tree::{Action, Program, Role, Var};
 use std::alloc::Global;
 use text_tokens::{ReadRefusal, RefusalKind, Tokens};
 
@@ -59,7 +58,9 @@ fn read_var(tokens: &mut Tokens<'_>) -> Result<Var, ReadRefusal>
 
 /// One more variable, if one comes, where so many more may come.
 fn more_var(tokens: &mut Tokens<'_>, room: u32) -> Result<Option<Var>, ReadRefusal>
-    ensures reads { Gives (λ o. option_map var_of o) (another (is_a role.VarWord) (limited (is_a role.VarWord) no_limit room spec.a_var)) tokens.old result tokens.new }
+    ensures reads { Gives (λ o. option_map var_of o)
+        (another (is_a role.VarWord) (limited (is_a role.VarWord) no_limit room spec.a_var))
+        tokens.old result tokens.new }
     ensures room { IfOk result (λ o. IfSome o (λ _. 0 < room)) }
 {
     if !is_next(tokens, Role::VarWord) {
@@ -72,7 +73,8 @@ fn more_var(tokens: &mut Tokens<'_>, room: u32) -> Result<Option<Var>, ReadRefus
 }
 
 fn read_vars(alloc: Global, tokens: &mut Tokens<'_>) -> Result<Vec<Var>, ReadRefusal>
-    ensures { Gives (λ v. map var_of v.items) (at_most (is_a role.VarWord) no_limit most_vars spec.a_var) tokens.old result tokens.new }
+    ensures { Gives (λ v. map var_of v.items) (at_most (is_a role.VarWord) no_limit most_vars spec.a_var)
+        tokens.old result tokens.new }
 {
     let mut found = Vec::new(alloc);
     let mut room = VARS;
@@ -106,7 +108,10 @@ fn more_action(
     tokens: &mut Tokens<'_>,
     room: u32,
 ) -> Result<Option<Action>, ReadRefusal>
-    ensures reads { Gives (λ o. option_map action_of o) (another (is_a role.ActionWord) (limited (is_a role.ActionWord) no_limit room (spec.an_action most_levels most_names))) tokens.old result tokens.new }
+    ensures reads { Gives (λ o. option_map action_of o)
+        (another (is_a role.ActionWord)
+        (limited (is_a role.ActionWord) no_limit room (spec.an_action most_levels most_names)))
+        tokens.old result tokens.new }
     ensures room { IfOk result (λ o. IfSome o (λ _. 0 < room)) }
 {
     if !is_next(tokens, Role::ActionWord) {
@@ -119,7 +124,9 @@ fn more_action(
 }
 
 fn read_actions(alloc: Global, tokens: &mut Tokens<'_>) -> Result<Vec<Action>, ReadRefusal>
-    ensures { Gives (λ v. map action_of v.items) (at_most (is_a role.ActionWord) no_limit most_actions (spec.an_action most_levels most_names)) tokens.old result tokens.new }
+    ensures { Gives (λ v. map action_of v.items)
+        (at_most (is_a role.ActionWord) no_limit most_actions (spec.an_action most_levels most_names))
+        tokens.old result tokens.new }
 {
     let mut found = Vec::new(alloc);
     let mut room = ACTIONS;

@@ -7,11 +7,11 @@ ghost use Rattle.text_tokens.specs.declared.refusal.ReadRefusal.TheVariants.{Ref
 ghost use Rattle.text_tokens.specs.Reading as reading;
 ghost use Rattle.text_tokens.specs.Reading.{one};
 ghost use Rattle.text_tokens.specs.Steps.{Gives, lexeme_of};
-ghost use Rattle.action_grammar.specs.Roles as roles;
-ghost use Rattle.action_grammar.specs.Roles.{is_a};
-ghost use Rattle.action_grammar.specs.declared.role.Role.TheVariants as role;
+ghost use Rattle.action_tree.specs.Roles as roles;
+ghost use Rattle.action_tree.specs.Roles.{is_a};
+ghost use Rattle.action_tree.specs.declared.role.Role.TheVariants as role;
 
-use action_grammar::Role;
+use action_tree::Role;
 use text_tokens::{ReadRefusal, RefusalKind, Token, TokenKind, Tokens, refused};
 
 /// The reserved words. A word that is not among them is a name.
@@ -153,7 +153,7 @@ pub fn token(tokens: &mut Tokens<'_>, role: Role) -> Result<Token, ReadRefusal>
 
 /// The next token, if it has this role and so many more levels may be opened. Without one it is `TooDeep`.
 pub fn open(tokens: &mut Tokens<'_>, role: Role, levels: u32) -> Result<Token, ReadRefusal>
-    ensures reads { Gives (lexeme_of tokens.old.source) (reading.opening levels (is_a role)) tokens.old result tokens.new }
+    ensures reads { Gives (lexeme_of tokens.old.source) (reading.opening_token levels (is_a role)) tokens.old result tokens.new }
     ensures deep { OnOk result (0 < levels) }
 {
     let opening = token(tokens, role)?;

@@ -3,7 +3,7 @@
 ghost use Rattle.std.specs.Prelude.{◌≡◌};
 ghost use Rattle.action_tree.specs.Trees as tree;
 ghost use Rattle.action_tree.specs.Views.{guard_of};
-ghost use Rattle.action_grammar.specs.Roles.{quantifier_by};
+ghost use Rattle.action_tree.specs.Roles.{quantifier_by};
 ghost use Rattle.action_parser.specs.Selections.{selection_of};
 
 use action_tree::{Guard, PortSet, Word};
@@ -18,7 +18,8 @@ pub struct Selection {
 
 /// What a word says of a selection: that it is so for some port, or for all.
 pub fn quantified(word: &[u8], selection: Selection) -> Guard
-    ensures { guard_of result ≡ tree.quantified (quantifier_by word.now) (selection_of selection).name (selection_of selection).set (selection_of selection).guard }
+    ensures { guard_of result ≡ tree.quantified (quantifier_by word.now) (selection_of selection).name
+        (selection_of selection).set (selection_of selection).guard }
 {
     let Selection { name, set, guard } = selection;
     if word == b"all".as_slice() {

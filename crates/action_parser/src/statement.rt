@@ -5,13 +5,13 @@ ghost use Rattle.text_tokens.specs.Steps.{Gives, another};
 ghost use Rattle.text_tokens.specs.Reading.{behind_sign};
 ghost use Rattle.action_tree.specs.Trees as tree;
 ghost use Rattle.action_tree.specs.Limits.{most_further};
-ghost use Rattle.action_tree.specs.Productions.{after, after_all};
+ghost use Rattle.action_tree.specs.Productions.{names_left_after, names_left_after_all};
 ghost use Rattle.action_tree.specs.Views.{guard_of, stmt_of, stmts_of, port_of, move_of};
-ghost use Rattle.action_grammar.specs.Roles.{is_a};
-ghost use Rattle.action_grammar.specs.declared.role.Role.TheVariants as role;
-ghost use Rattle.action_grammar.specs.StatementReaders as spec;
-ghost use Rattle.action_grammar.specs.StatementReaders.{stmts_inside};
-ghost use Rattle.action_grammar.specs.ProgramReaders as programs;
+ghost use Rattle.action_tree.specs.Roles.{is_a};
+ghost use Rattle.action_tree.specs.declared.role.Role.TheVariants as role;
+ghost use Rattle.action_tree.specs.StatementReaders as spec;
+ghost use Rattle.action_tree.specs.StatementReaders.{stmts_inside};
+ghost use Rattle.action_tree.specs.ProgramReaders as programs;
 ghost use Rattle.action_parser.specs.Selections.{selection_of};
 
 use crate::expression::{read_guard, read_port, read_selection, read_sum};
@@ -19,8 +19,7 @@ use crate::full::full_stmts;
 use crate::roles::{is_next, next_role, open, token, unexpected};
 use crate::selection::Selection;
 use crate::words::{bound_name, end, moved_through, name, text};
-use action_grammar::Role;
-use action_tree::{Guard, Move, PortExpr, Stmt};
+use action_tree::{Guard, Move, PortExpr, Role, Stmt};
 use std::alloc::Global;
 use text_tokens::{ReadRefusal, Tokens};
 
@@ -33,7 +32,7 @@ fn further_stmts() -> u32
 
 /// How many more names may be bound behind a statement: a `let` binds one.
 fn names_after(names: u32, stmt: &Stmt) -> u32
-    ensures { result ≡ after names (stmt_of stmt.now) }
+    ensures { result ≡ names_left_after names (stmt_of stmt.now) }
 {
     match stmt {
         Stmt::Let(_, _) => names.saturating_sub(1),
@@ -43,7 +42,7 @@ fn names_after(names: u32, stmt: &Stmt) -> u32
 
 /// How many more names may be bound behind these statements.
 fn names_behind(names: u32, stmts: &[Stmt]) -> u32
-    ensures { result ≡ after_all names (stmts_of stmts.now) }
+    ensures { result ≡ names_left_after_all names (stmts_of stmts.now) }
 {
     let mut left = names;
     for stmt in stmts {
@@ -84,7 +83,11 @@ fn more_stmt(
     names: u32,
     room: u32,
 ) -> Result<Option<Stmt>, ReadRefusal>
-    ensures reads { Gives (λ o. option_map stmt_of o) (another (is_a role.SemicolonSign) (behind_sign (is_a role.SemicolonSign) (spec.stmt_in levels (stmts_inside levels)) (record { room = room; left = names }))) tokens.old result tokens.new }
+    ensures reads { Gives (λ o. option_map stmt_of o)
+        (another (is_a role.SemicolonSign)
+        (behind_sign (is_a role.SemicolonSign) (spec.stmt_in levels (stmts_inside levels))
+        (record { room = room; left = names })))
+        tokens.old result tokens.new }
     ensures room { IfOk result (λ o. IfSome o (λ _. 0 < room)) }
 {
     if !is_next(tokens, Role::SemicolonSign) {
@@ -242,7 +245,8 @@ fn if_then(guard: Guard, body: Vec<Stmt>, otherwise: Vec<Stmt>) -> Stmt
 
 /// A `for` of a selection and statements.
 fn for_each(selection: Selection, body: Vec<Stmt>) -> Stmt
-    ensures { stmt_of result ≡ tree.for_each (selection_of selection).name (selection_of selection).set (selection_of selection).guard (stmts_of body.items) }
+    ensures { stmt_of result ≡ tree.for_each (selection_of selection).name (selection_of selection).set
+        (selection_of selection).guard (stmts_of body.items) }
 {
     let Selection { name, set, guard } = selection;
     Stmt::For(name, set, Box::into_inner(guard), body)
@@ -272,7 +276,7 @@ pub fn read_moved(
     names: u32,
     body: &[Stmt],
 ) -> Result<Move, ReadRefusal>
-    ensures { Gives move_of (programs.a_moved levels (after_all names (stmts_of body.now))) tokens.old result tokens.new }
+    ensures { Gives move_of (programs.a_moved levels (names_left_after_all names (stmts_of body.now))) tokens.old result tokens.new }
 {
     if !is_next(tokens, Role::MoveWord) {
         return Ok(Move::None);

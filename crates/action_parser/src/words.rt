@@ -6,13 +6,13 @@ ghost use Rattle.text_tokens.specs.Steps.{Gives};
 ghost use Rattle.action_tree.specs.Trees as tree;
 ghost use Rattle.action_tree.specs.Views.{name_of, literal_of, dirterm_of, guard_of, port_of, move_of, term_of};
 ghost use Rattle.text_tokens.specs.Cursor.{next_passes};
-ghost use Rattle.action_grammar.specs.Roles.{is_a, is_test, is_plus_or_minus, switch_by, end_by, atom_by, test_by, side_by, port_move_by, cmp_by};
-ghost use Rattle.action_grammar.specs.ExpressionReaders as spec;
+ghost use Rattle.action_tree.specs.Roles.{is_a, is_test, is_plus_or_minus, switch_by, end_of_word, atom_by, test_by};
+ghost use Rattle.action_tree.specs.Roles.{side_by, port_move_by, cmp_by};
+ghost use Rattle.action_tree.specs.ExpressionReaders as spec;
 ghost use Rattle.action_parser.specs.Readings as reading;
 
 use crate::roles::{is_next, token};
-use action_grammar::Role;
-use action_tree::{Cmp, DirTerm, Guard, Lit, Move, PortExpr, PortSet, Term, Word};
+use action_tree::{Cmp, DirTerm, Guard, Lit, Move, PortExpr, PortSet, Role, Term, Word};
 use amoebot_state::End;
 use text_tokens::{ReadRefusal, RefusalKind, Tokens, refused};
 
@@ -105,7 +105,7 @@ pub fn test<'a>(tokens: &mut Tokens<'a>) -> Result<&'a [u8], ReadRefusal>
 
 /// `head` or `tail`.
 pub fn end(tokens: &mut Tokens<'_>) -> Result<End, ReadRefusal>
-    ensures { Gives (λ e. e) reading.an_end tokens.old result tokens.new }
+    ensures { Gives (λ e. e) reading.an_end_word tokens.old result tokens.new }
 {
     Ok(end_of(text(tokens, Role::EndWord)?))
 }
@@ -125,7 +125,7 @@ pub fn switch(tokens: &mut Tokens<'_>) -> Result<bool, ReadRefusal>
 }
 
 fn end_of(word: &[u8]) -> End
-    ensures { result ≡ end_by word.now }
+    ensures { result ≡ end_of_word word.now }
 {
     if word == b"tail".as_slice() {
         End::Tail
@@ -215,7 +215,7 @@ pub fn moved_through(word: &[u8], port: PortExpr) -> Move
 }
 
 /// Whether a minus comes, which is then taken.
-#[tactic(auto, unfolding(action_grammar::specs::ExpressionReaders::a_minus))]
+#[tactic(auto, unfolding(action_tree::specs::ExpressionReaders::a_minus))]
 pub fn minus(tokens: &mut Tokens<'_>) -> Result<bool, ReadRefusal>
     ensures { Gives (λ b. b) spec.a_minus tokens.old result tokens.new }
 {

@@ -8,16 +8,16 @@ use Rattle.action_tree.specs.Lines.{bare_name, bare_guard, bare_guards, bare_sum
 use Rattle.action_tree.specs.Productions.{all_of, any_of}
 use Rattle.action_tree.specs.Limits.{most_elements, most_further}
 use Rattle.action_tree.specs.Words.{is_name}
-use Rattle.action_tree.specs.Writable.{is_conj, is_unit, parens_unless, guard_levels, unit_levels, conj_levels, sum_levels, term_levels, port_levels, guard_names, guards_names, sum_names, term_names, port_names, guard_count, term_count, is_count_from, is_guard, are_guards, are_terms, is_term, is_port}
+use Rattle.action_tree.specs.Writable.{is_conj, is_unit, levels_unless, guard_levels, unit_levels, conj_levels, sum_levels, term_levels, port_levels, guard_names, guards_names, sum_names, term_names, port_names, guard_count, term_count, is_count_from, is_guard, are_guards, are_terms, is_term, is_port}
 use Rattle.action_tree.specs.Writable as writable
 use Rattle.action_tree.proofs.Conditions.{left_of, right_of, from, upto}
-use Rattle.action_grammar.specs.declared.role.Role.TheVariants.{OpenSign, CloseSign, DotSign, MinusSign, NotWord, AndWord, OrWord, InWord, CountWord, InnerWord, Mod6Word, TurnWord, FirstWord}
-use Rattle.action_grammar.specs.Roles.{is_a, as_name, as_literal, as_dirterm, as_end, as_atom, as_quantifier, as_test, as_side, as_cmp}
-use Rattle.action_grammar.specs.Expressions as grammar
-use Rattle.action_grammar.specs.Expressions.{Selection, selection, IsPort, is_bound, is_end, is_turn, is_first, IsSelection, is_selection, IsTerm, is_number, is_own, is_of_port, is_count, is_direction, is_inner, is_mod6, IsSum, is_sum, IsTerms, no_more_terms, more_terms, IsUnit, is_atom, is_not, is_parens, is_quantified, is_tested, is_compared, IsConj, IsUnits, no_more_units, more_units, IsExpr, is_expr, IsConjs, no_more_conjs, more_conjs}
+use Rattle.action_tree.specs.declared.role.Role.TheVariants.{OpenSign, CloseSign, DotSign, MinusSign, NotWord, AndWord, OrWord, InWord, CountWord, InnerWord, Mod6Word, TurnWord, FirstWord}
+use Rattle.action_tree.specs.Roles.{is_a, as_name, as_literal, as_dirterm, as_end, as_atom, as_quantifier, as_test, as_side, as_cmp}
+use Rattle.action_tree.specs.Expressions as grammar
+use Rattle.action_tree.specs.Expressions.{Selection, selection, IsPort, is_bound, is_end, is_turn, is_first, IsSelection, is_selection, IsTerm, is_number, is_own, is_of_port, is_count, is_direction, is_inner, is_mod6, IsSum, is_sum, IsTerms, no_more_terms, more_terms, IsUnit, is_atom, is_not, is_parens, is_quantified, is_tested, is_compared, IsConj, IsUnits, no_more_units, more_units, IsExpr, is_expr, IsConjs, no_more_conjs, more_conjs}
 use Rattle.action_print.specs.Canon as canon
 use Rattle.action_print.specs.Canon.{in_parens, selection_words, guard_words, units, conjs, sum_words, further_terms, term_words, port_words}
-use Rattle.text_tokens.proofs.Respelling.{Rereads, rereads_by, rereads_two, rereads_alone, rereads_none}
+use Rattle.text_tokens.proofs.LinesLemmas.{Rereads, rereads_by, rereads_two, rereads_alone, rereads_none}
 use Rattle.text_tokens.proofs.InSequence.{rereads_both, rereads_three, rereads_four, rereads_six}
 use Rattle.action_print.proofs.Leaves.{a_word, a_sign, free_of, opens_fine, binds_fine, a_name, a_number, an_atom, a_quantifier, a_side, an_end, a_comparison, a_test, a_set, a_dirterm, a_minus, a_joint}
 
@@ -89,7 +89,7 @@ and_in_parens : (n left : ℕ) (gs : Guards) → BareReadsFrom left (conjunction
 and_in_parens zero left gs b l = absurd (omega (arith, l))
 and_in_parens (suc n) left gs b l = in_parens_read (conjunction gs) (guard_words (conjunction gs)) (conj_expr (guard_words (conjunction gs)) (b n (omega (arith, l))))
 
-as_unit : (n left : ℕ) (g : Guard) → BareReadsFrom left g → parens_unless (is_unit g) (guard_levels g) ≤ n → Rereads (IsUnit n left) (IsGuardOf g) (canon.parens_unless (is_unit g) (guard_words g))
+as_unit : (n left : ℕ) (g : Guard) → BareReadsFrom left g → levels_unless (is_unit g) (guard_levels g) ≤ n → Rereads (IsUnit n left) (IsGuardOf g) (canon.parens_unless (is_unit g) (guard_words g))
 as_unit n left (conjunction gs) b l = and_in_parens n left gs b l
 as_unit n left (disjunction gs) b l = or_in_parens n left gs b l
 as_unit n left (atom a) b l = b n l
@@ -98,7 +98,7 @@ as_unit n left (quantified q v s g) b l = b n l
 as_unit n left (tested t p) b l = b n l
 as_unit n left (comparison x c y) b l = b n l
 
-as_conj : (n left : ℕ) (g : Guard) → BareReadsFrom left g → parens_unless (is_conj g) (guard_levels g) ≤ n → Rereads (IsConj n left) (IsGuardOf g) (canon.parens_unless (is_conj g) (guard_words g))
+as_conj : (n left : ℕ) (g : Guard) → BareReadsFrom left g → levels_unless (is_conj g) (guard_levels g) ≤ n → Rereads (IsConj n left) (IsGuardOf g) (canon.parens_unless (is_conj g) (guard_words g))
 as_conj n left (conjunction gs) b l = b n l
 as_conj n left (disjunction gs) b l = unit_conj (in_parens (guard_words (disjunction gs))) (or_in_parens n left gs b l)
 as_conj n left (atom a) b l = unit_conj (guard_words (atom a)) (b n l)

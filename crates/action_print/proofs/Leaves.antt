@@ -19,17 +19,17 @@ use Rattle.action_tree.specs.declared.expression.Cmp.TheVariants.{Eq, Ne, Lt, Le
 use Rattle.action_tree.specs.Trees.{Name, Literal, DirTerm, fixed, held, Atom, always, never, contracted, expanded, Quantifier, any, all, PortTest, linked, free, at_head, peer_expanded, peer_head, Side, own_side, peer_side, PortMove, expand, push, pull}
 use Rattle.action_tree.specs.Lines.{bare_name, bare_literal, bare_dirterm}
 use Rattle.action_tree.specs.Words.{is_word, is_reserved, is_name, has_few_digits}
-use Rattle.action_tree.specs.Writable.{is_dirterm}
-use Rattle.action_grammar.specs.declared.role.Role.{Role}
-use Rattle.action_grammar.specs.declared.role.Role.TheVariants.{AName, ANumber, PlusSign, MinusSign, CompareSign, AtomWord, QuantifierWord, TestWord, FreeWord, PortsWord, SideWord, EndWord, ThroughWord, SwitchWord}
-use Rattle.action_grammar.specs.Roles as roles
-use Rattle.action_grammar.specs.Roles.{role_by, role, same_role, is_a, is_test, is_set, is_plus_or_minus, as_name, as_literal, as_dirterm, as_set, as_switch, as_end, as_atom, as_quantifier, as_test, as_side, as_port_move, as_cmp, switch_by}
-use Rattle.action_grammar.specs.Expressions.{IsA, bound_at, IsMinus}
-use Rattle.action_grammar.proofs.Naming.{names}
-use Rattle.action_grammar.proofs.Playing.{plays, is_in}
+use Rattle.action_tree.specs.Writable.{is_writable_dirterm}
+use Rattle.action_tree.specs.declared.role.Role.{Role}
+use Rattle.action_tree.specs.declared.role.Role.TheVariants.{AName, ANumber, PlusSign, MinusSign, CompareSign, AtomWord, QuantifierWord, TestWord, FreeWord, PortsWord, SideWord, EndWord, ThroughWord, SwitchWord}
+use Rattle.action_tree.specs.Roles as roles
+use Rattle.action_tree.specs.Roles.{role_by, role, same_role, is_a, is_test, is_set, is_plus_or_minus, as_name, as_literal, as_dirterm, as_set, as_switch, as_end, as_atom, as_quantifier, as_test, as_side, as_port_move, as_cmp, switch_by}
+use Rattle.action_tree.specs.Expressions.{IsA, bound_at, IsMinus}
+use Rattle.action_tree.proofs.NameLemmas.{names}
+use Rattle.action_tree.proofs.RolesLemmas.{plays, is_in}
 use Rattle.action_print.specs.Canon.{atom_word, quantifier_word, set_word, test_word, cmp_sign, side_word, move_word, literal_word, dirterm_word, first_sign, further_sign}
 use Rattle.text_tokens.proofs.PrintedTokens.{kind_of, IsOneToken, word_is_token, sign_is_token, word_kind}
-use Rattle.text_tokens.proofs.Respelling.{Rereads, rereads_by, rereads_none, IsSpelled, rereads_one, number_token, number_kind, spelled_number}
+use Rattle.text_tokens.proofs.LinesLemmas.{Rereads, rereads_by, rereads_none, IsSpelled, rereads_one, number_token, number_kind, spelled_number}
 
 -- ---- words and signs
 
@@ -161,7 +161,7 @@ a_set Free = rereads_by (λ t. t) (λ xs t q. q) (λ t s. rw (is_a_by FreeWord (
 abbrev pub IsDirTermOf : DirTerm → Lexeme → Type 0
 IsDirTermOf d t = bare_dirterm (as_dirterm t) ≡ bare_dirterm d
 
-pub a_dirterm : (d : DirTerm) → is_dirterm d ≡ true → Rereads (IsOne roles.is_dirterm no_limit) (IsDirTermOf d) (dirterm_word d ∷ [])
+pub a_dirterm : (d : DirTerm) → is_writable_dirterm d ≡ true → Rereads (IsOne roles.is_dirterm no_limit) (IsDirTermOf d) (dirterm_word d ∷ [])
 unfolding same_role
 a_dirterm (fixed m) e =
     rereads_by (λ t. t) (λ xs t q. q) (λ t s. rw (is_a_by ANumber (decimal m.value) t s, number_plays m.value e) (ap fixed (spelled_literal m e t s)))

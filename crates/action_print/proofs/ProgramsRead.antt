@@ -9,20 +9,20 @@ use Rattle.text_tokens.specs.Grammar.{then, made, of_first, of_second, is_nothin
 use Rattle.amoebot_state.specs.Limits.{most_vars}
 use Rattle.action_tree.specs.Trees.{Stmts, no_stmts, stmt_then, Move, no_move, through, contract, Var, Action, Program}
 use Rattle.action_tree.specs.Lines.{bare_move, bare_var, bare_action, without_lines}
-use Rattle.action_tree.specs.Productions.{after_all}
+use Rattle.action_tree.specs.Productions.{names_left_after_all}
 use Rattle.action_tree.specs.Limits.{most_levels, most_names, most_elements, most_actions}
 use Rattle.action_tree.specs.Writable.{named, is_guard, is_count_from, stmt_count, are_stmts, is_move, move_levels, move_names, stmts_names, stmts_levels, action_levels, action_names, is_var, is_action, is_writable}
 use Rattle.action_tree.proofs.Conditions.{left_of, right_of, upto}
 use Rattle.action_tree.proofs.ProducedStatements.{rest_of_all}
-use Rattle.action_grammar.specs.declared.role.Role.TheVariants.{DoWord, MoveWord, NoneWord, ContractWord, ProgramWord, GuardWord, VarWord, ActionWord, WhenWord, LastWord}
-use Rattle.action_grammar.specs.Roles.{as_port_move, as_end}
-use Rattle.action_grammar.specs.Expressions.{IsExpr}
-use Rattle.action_grammar.specs.Programs.{IsMove, is_none, is_through, is_contract, IsBody, IsMoved, IsAction, action_of, IsVar, var_of, IsGuarded, IsProgram, program_of}
-use Rattle.action_grammar.proofs.ProgramLaws.{exact_program}
+use Rattle.action_tree.specs.declared.role.Role.TheVariants.{DoWord, MoveWord, NoneWord, ContractWord, ProgramWord, GuardWord, VarWord, ActionWord, WhenWord, LastWord}
+use Rattle.action_tree.specs.Roles.{as_port_move, as_end}
+use Rattle.action_tree.specs.Expressions.{IsExpr}
+use Rattle.action_tree.specs.Programs.{IsMove, is_none, is_through, is_contract, IsBody, IsMovement, IsAction, parsed_action, IsVar, parsed_var, IsGuarded, IsProgram, parsed_program}
+use Rattle.action_tree.proofs.ProgramLaws.{exact_program}
 use Rattle.action_print.specs.Canon.{guard_words, stmts_words, move_words, guard_line, var_line, do_lines, action_lines, program_lines}
 use Rattle.action_print.specs.ReadsBack.{CanonReadsBack, CanonIsRead}
 use Rattle.text_tokens.proofs.Exactness.{none_stops}
-use Rattle.text_tokens.proofs.Respelling.{Rereads, rereads_by, rereads_two, rereads_none, reread_lines, lines_found, rereads_kept}
+use Rattle.text_tokens.proofs.LinesLemmas.{Rereads, rereads_by, rereads_two, rereads_none, reread_lines, lines_found, rereads_kept}
 use Rattle.text_tokens.proofs.InSequence.{rereads_three, rereads_five, rereads_six}
 use Rattle.action_print.proofs.Leaves.{a_word, free_of, a_name, a_number, an_end, a_port_move, a_switch}
 use Rattle.action_print.proofs.ExpressionsRead.{IsGuardOf, port_read}
@@ -38,7 +38,7 @@ move_read no_move n left l k f = rereads_by (λ t. no_move) (λ xs t p. is_none 
 move_read (through m p) n left l k f = rereads_two (λ t q. through (as_port_move t) q) (λ xs ys t q a b. is_through (then t a (made q b))) (λ t q a b. (cc)) (a_port_move m) (port_read p n left l k f)
 move_read (contract e) n left l k f = rereads_two (λ t u. contract (as_end u)) (λ xs ys t u a b. is_contract (then t a (made u b))) (λ t u a b. ap contract b) (a_word free_of ContractWord (codes "contract") refl refl) (an_end e)
 
-moved_read : (n left : ℕ) (m : Move) → Rereads (IsMove n left) (IsMoveOf m) (move_words m) → Rereads (IsMoved n left) (IsMoveOf m) (codes "move" ∷ move_words m)
+moved_read : (n left : ℕ) (m : Move) → Rereads (IsMove n left) (IsMoveOf m) (move_words m) → Rereads (IsMovement n left) (IsMoveOf m) (codes "move" ∷ move_words m)
 moved_read n left m moved = rereads_two (λ t k. k) (λ xs ys t k a b. of_first (then t a b)) (λ t k a b. b) (a_word free_of MoveWord (codes "move") refl refl) moved
 
 -- ---- actions
@@ -60,10 +60,10 @@ abbrev IsActionOf : Action → Action → Type 0
 IsActionOf a b = bare_action b ≡ bare_action a
 
 parts_read : (a : Action) → named a.name ≡ true → Rereads (IsExpr most_levels most_names) (IsGuardOf a.guard) (guard_words a.guard) → Rereads (IsBody most_levels most_names) (AreStmtsOf a.body) (body_words a.body)
-    → Rereads (IsMoved most_levels (after_all most_names a.body)) (IsMoveOf a.moved) (codes "move" ∷ move_words a.moved) → Rereads (IsAction most_levels most_names) (IsActionOf a) (action_words a)
+    → Rereads (IsMovement most_levels (names_left_after_all most_names a.body)) (IsMoveOf a.moved) (codes "move" ∷ move_words a.moved) → Rereads (IsAction most_levels most_names) (IsActionOf a) (action_words a)
 parts_read a e guard body moved =
-    rereads_six (λ t v w g ss m. action_of v g ss m)
-    (λ xs ys zs ls ms ns t v w g ss m p q r s u x. then t p (then v q (then w r (then g s (then ss u.is (made m (subst (λ (left : ℕ). IsMoved most_levels left ns m) (sym (after_all_same most_names a.body ss u.holds)) x)))))))
+    rereads_six (λ t v w g ss m. parsed_action v g ss m)
+    (λ xs ys zs ls ms ns t v w g ss m p q r s u x. then t p (then v q (then w r (then g s (then ss u.is (made m (subst (λ (left : ℕ). IsMovement most_levels left ns m) (sym (after_all_same most_names a.body ss u.holds)) x)))))))
     (λ t v w g ss m p q r s u x. (cc)) (a_word free_of ActionWord (codes "action") refl refl) (a_name free_of a.name e) (a_word free_of WhenWord (codes "when") refl refl) guard (rereads_kept body) moved
 
 formed_read : (a : Action) → action_levels a ≤ most_levels → action_names a ≤ most_names → (named a.name && is_guard a.guard && is_count_from 0 (stmt_count a.body) && are_stmts a.body && is_move a.moved) ≡ true
@@ -71,7 +71,7 @@ formed_read : (a : Action) → action_levels a ≤ most_levels → action_names 
 formed_read a l m f =
     parts_read a (left_of _ _ (left_of _ _ (left_of _ _ (left_of _ _ f)))) (expr_read a.guard most_levels most_names (omega (arith, l)) (omega (arith, m)) (right_of _ _ (left_of _ _ (left_of _ _ (left_of _ _ f)))))
     (body_read a.body most_levels most_names (move_names a.moved) (omega (arith, l)) (omega (arith, m)) (upto 0 _ most_elements (right_of _ _ (left_of _ _ (left_of _ _ f)))) (right_of _ _ (left_of _ _ f)))
-    (moved_read most_levels (after_all most_names a.body) a.moved (move_read a.moved most_levels (after_all most_names a.body) (omega (arith, l)) (rest_of_all a.body most_names (move_names a.moved) (omega (arith, m))) (right_of _ _ f)))
+    (moved_read most_levels (names_left_after_all most_names a.body) a.moved (move_read a.moved most_levels (names_left_after_all most_names a.body) (omega (arith, l)) (rest_of_all a.body most_names (move_names a.moved) (omega (arith, m))) (right_of _ _ f)))
 
 action_read : (a : Action) → is_action a ≡ true → Rereads (IsAction most_levels most_names) (IsActionOf a) (action_words a)
 action_read a is = formed_read a (leb-true _ most_levels (right_of _ _ (left_of _ _ is))) (leb-true _ most_names (right_of _ _ is)) (left_of _ _ (left_of _ _ is))
@@ -85,7 +85,7 @@ abbrev IsVarOf : Var → Var → Type 0
 IsVarOf v w = bare_var w ≡ bare_var v
 
 var_read : (v : Var) → is_var v ≡ true → Rereads IsVar (IsVarOf v) (var_line v)
-var_read v f = rereads_three (λ t u m. var_of u m) (λ xs ys zs t u m a b c. then t a (then u b (made m c))) (λ t u m a b c. (cc)) (a_word free_of VarWord (codes "var") refl refl) (a_name free_of v.name (left_of _ _ f)) (a_number v.max (right_of _ _ f))
+var_read v f = rereads_three (λ t u m. parsed_var u m) (λ xs ys zs t u m a b c. then t a (then u b (made m c))) (λ t u m a b c. (cc)) (a_word free_of VarWord (codes "var") refl refl) (a_name free_of v.name (left_of _ _ f)) (a_number v.max (right_of _ _ f))
 
 vars_read : (vs : List Var) (room : ℕ) → length vs ≤ room → list_all is_var vs ≡ true → Rereads (AtMost room IsVar) (λ ws. map bare_var ws ≡ map bare_var vs) (all_words (map var_line vs))
 vars_read [] room k f = rereads_none [] no_more refl
@@ -133,7 +133,7 @@ program_read : (p : Program) → is_writable p ≡ true → Rereads IsProgram (�
 program_read p f =
     let few = left_of _ _ f in
     let vs = left_of _ _ few in
-    rereads_five (λ t guarded vars actions e. program_of guarded vars actions) (λ xs ys zs ls ms t guarded vars actions e a b c d k. then t a (then guarded b (then vars c (then actions d (made e k))))) (λ t guarded vars actions e a b c d k. (cc))
+    rereads_five (λ t guarded vars actions e. parsed_program guarded vars actions) (λ xs ys zs ls ms t guarded vars actions e a b c d k. then t a (then guarded b (then vars c (then actions d (made e k))))) (λ t guarded vars actions e a b c d k. (cc))
     (a_word free_of ProgramWord (codes "program") refl refl) (guarded_read p.guard) (vars_read p.vars most_vars (leb-true _ most_vars (left_of _ _ vs)) (right_of _ _ vs))
     (actions_read p.actions most_actions (leb-true _ most_actions (right_of _ _ few)) (right_of _ _ f)) (a_word free_of LastWord (codes "end") refl refl)
 

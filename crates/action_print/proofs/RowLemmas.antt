@@ -15,7 +15,7 @@ use Rattle.action_tree.specs.Trees.{Guard, Part, terms}
 use Rattle.action_tree.specs.Views.{guard_of, guards_of, part_of, terms_of, stmt_of, stmts_of}
 use Rattle.action_tree.specs.Writable.{is_conj, is_unit}
 use Rattle.action_print.specs.Canon.{joined, parens_unless, first_sign, further_sign, guard_words, units, conjs, sum_words, further_terms, term_words, stmt_words, each_stmt, stmts_words, else_words, do_lines}
-use Rattle.action_print.specs.Rows.{between, sign}
+use Rattle.action_print.specs.Rows.{between, sign_words}
 
 -- what was written grows by a token, and by further ones
 pub token_then : (old mid new word : List ℕ) (words : Words) → mid ≡ old ++ 32 ∷ word → new ≡ mid ++ spaced words → new ≡ old ++ spaced (word ∷ words)
@@ -35,7 +35,7 @@ row_more old now mid new row before element all so_far sep next whole =
 between_suc : (n : ℕ) (b : List ℕ) → between (suc n) b ≡ b ∷ []
 between_suc n b = let some : (suc n == 0) ≡ false = grind (arith, nat_tests) in rw some refl
 
-sign_suc : (n : ℕ) (minus : Bool) → sign (suc n) minus ≡ further_sign minus ∷ []
+sign_suc : (n : ℕ) (minus : Bool) → sign_words (suc n) minus ≡ further_sign minus ∷ []
 sign_suc n minus = let some : (suc n == 0) ≡ false = grind (arith, nat_tests) in rw some refl
 
 joined_more : (b : List ℕ) (rows : List Words) (row : Words) → joined b (rows ++ row ∷ []) ≡ joined b rows ++ (between (length rows) b ++ row)
@@ -89,7 +89,7 @@ stmts_next b ss i s at =
 -- ---- sums
 
 abbrev part_words : ℕ → Part → Words
-part_words place p = sign place p.minus ++ term_words p.term
+part_words place p = sign_words place p.minus ++ term_words p.term
 
 further_more : (ps : List Part) (p : Part) → further_terms (terms (ps ++ p ∷ [])) ≡ further_terms (terms ps) ++ further_sign p.minus ∷ term_words p.term
 further_more [] p = ap (λ ws. further_sign p.minus ∷ ws) (append-nil (term_words p.term))

@@ -4,18 +4,18 @@ use Rattle.text_tokens.specs.Grammar.{Symbol}
 use Rattle.action_tree.specs.declared.expression.PortSet.{PortSet}
 use Rattle.action_tree.specs.Trees.{Name, Guard, Sum, PortExpr, Stmt, put, put_of, let_be, if_then, for_each, Stmts, no_stmts, stmt_then}
 use Rattle.action_tree.specs.Lines.{bare_stmt, bare_stmts}
-use Rattle.action_tree.specs.Productions.{after, after_all}
+use Rattle.action_tree.specs.Productions.{names_left_after, names_left_after_all}
 use Rattle.action_tree.specs.Limits.{most_elements, most_further}
 use Rattle.action_tree.specs.Words.{is_name}
 use Rattle.action_tree.specs.Writable.{guard_levels, guard_names, is_guard, with_let, stmt_levels, stmts_levels, stmt_names, stmts_names, stmt_count, is_stmt, are_stmts}
 use Rattle.action_tree.proofs.Conditions.{left_of, right_of, from, upto}
 use Rattle.action_tree.proofs.ProducedStatements.{rest_of_all}
-use Rattle.action_grammar.specs.declared.role.Role.TheVariants.{DotSign, BecomesSign, SemicolonSign, LetWord, IfWord, ThenWord, ElseWord, FiWord, ForWord, DoWord, OdWord}
-use Rattle.action_grammar.specs.Roles.{as_name}
-use Rattle.action_grammar.specs.Expressions.{IsExpr, IsSum, IsPort}
-use Rattle.action_grammar.specs.Statements.{IsStmt, is_put, is_put_of, is_let, is_if, is_for, IsElse, no_else, with_else, IsStmts, is_stmts, IsMore, no_more_stmts, more_stmts}
+use Rattle.action_tree.specs.declared.role.Role.TheVariants.{DotSign, BecomesSign, SemicolonSign, LetWord, IfWord, ThenWord, ElseWord, FiWord, ForWord, DoWord, OdWord}
+use Rattle.action_tree.specs.Roles.{as_name}
+use Rattle.action_tree.specs.Expressions.{IsExpr, IsSum, IsPort}
+use Rattle.action_tree.specs.Statements.{IsStmt, is_put, is_put_of, is_let, is_if, is_for, IsElse, no_else, with_else, IsStmts, is_stmts, IsMore, no_more_stmts, more_stmts}
 use Rattle.action_print.specs.Canon.{guard_words, sum_words, port_words, stmt_words, each_stmt, else_words, stmts_words}
-use Rattle.text_tokens.proofs.Respelling.{Rereads, rereads_two, rereads_none, rereads_kept}
+use Rattle.text_tokens.proofs.LinesLemmas.{Rereads, rereads_two, rereads_none, rereads_kept}
 use Rattle.text_tokens.proofs.InSequence.{rereads_both, rereads_three, rereads_four, rereads_five, rereads_six}
 use Rattle.action_print.proofs.Leaves.{a_word, a_sign, free_of, opens_fine, binds_fine, a_name}
 use Rattle.action_print.proofs.ExpressionsRead.{IsGuardOf, IsSumOf, IsPortOf, selection_read, as_expr, guard_read, whole_sum_read, port_read}
@@ -27,35 +27,35 @@ abbrev pub AreStmtsOf : Stmts → Stmts → Type 0
 AreStmtsOf ss ts = bare_stmts ts ≡ bare_stmts ss
 
 -- the names that a statement leaves are those of the same statement on other lines
-after_same : (left : ℕ) (s t : Stmt) → IsStmtOf s t → after left t ≡ after left s
+after_same : (left : ℕ) (s t : Stmt) → IsStmtOf s t → names_left_after left t ≡ names_left_after left s
 after_same zero s t e = after_none s t
   where
-    none_left : (s : Stmt) → after zero s ≡ zero
+    none_left : (s : Stmt) → names_left_after zero s ≡ zero
     none_left (put v s) = refl
     none_left (put_of p v s) = refl
     none_left (let_be v p) = refl
     none_left (if_then g ss es) = refl
     none_left (for_each v s g ss) = refl
 
-    after_none : (s t : Stmt) → after zero t ≡ after zero s
+    after_none : (s t : Stmt) → names_left_after zero t ≡ names_left_after zero s
     after_none s t = none_left t ∙ sym (none_left s)
-after_same (suc left) s t e = sym (bare_after t) ∙ ap (after (suc left)) e ∙ bare_after s
+after_same (suc left) s t e = sym (bare_after t) ∙ ap (names_left_after (suc left)) e ∙ bare_after s
   where
-    bare_after : (s : Stmt) → after (suc left) (bare_stmt s) ≡ after (suc left) s
+    bare_after : (s : Stmt) → names_left_after (suc left) (bare_stmt s) ≡ names_left_after (suc left) s
     bare_after (put v s) = refl
     bare_after (put_of p v s) = refl
     bare_after (let_be v p) = refl
     bare_after (if_then g ss es) = refl
     bare_after (for_each v s g ss) = refl
 
-pub after_all_same : (left : ℕ) (ss ts : Stmts) → AreStmtsOf ss ts → after_all left ts ≡ after_all left ss
+pub after_all_same : (left : ℕ) (ss ts : Stmts) → AreStmtsOf ss ts → names_left_after_all left ts ≡ names_left_after_all left ss
 after_all_same left no_stmts no_stmts e = refl
 after_all_same left no_stmts (stmt_then t ts) e = absurd cc
 after_all_same left (stmt_then s ss) no_stmts e = absurd cc
 after_all_same left (stmt_then s ss) (stmt_then t ts) e =
     let one : bare_stmt t ≡ bare_stmt s = cc in
     let more : bare_stmts ts ≡ bare_stmts ss = cc in
-    ap (λ (n : ℕ). after_all n ts) (after_same left s t one) ∙ after_all_same (after left s) ss ts more
+    ap (λ (n : ℕ). names_left_after_all n ts) (after_same left s t one) ∙ after_all_same (names_left_after left s) ss ts more
 
 -- ---- lists
 
@@ -63,11 +63,11 @@ after_all_same left (stmt_then s ss) (stmt_then t ts) e =
 abbrev MoreRead : ℕ → ℕ → ℕ → Stmts → Type 0
 MoreRead n left room ss = Rereads (IsMore n left room) (AreStmtsOf ss) (flat_map (λ vs. codes ";" ∷ vs) (each_stmt ss))
 
-list_read : (n left : ℕ) (s : Stmt) (ss : Stmts) → Rereads (IsStmt n left) (IsStmtOf s) (stmt_words s) → MoreRead n (after left s) most_further ss → Rereads (IsStmts n left) (AreStmtsOf (stmt_then s ss)) (stmts_words (stmt_then s ss))
+list_read : (n left : ℕ) (s : Stmt) (ss : Stmts) → Rereads (IsStmt n left) (IsStmtOf s) (stmt_words s) → MoreRead n (names_left_after left s) most_further ss → Rereads (IsStmts n left) (AreStmtsOf (stmt_then s ss)) (stmts_words (stmt_then s ss))
 list_read n left s ss o os =
     rereads_two (λ t ts. stmt_then t ts) (λ xs ys t ts k m. is_stmts k.is (subst (λ (i : ℕ). IsMore n i most_further ys ts) (sym (after_same left s t k.holds)) m)) (λ t ts p q. (cc)) (rereads_kept o) os
 
-more_list_read : (n left room : ℕ) (s : Stmt) (ss : Stmts) → Rereads (IsStmt n left) (IsStmtOf s) (stmt_words s) → MoreRead n (after left s) room ss → MoreRead n left (suc room) (stmt_then s ss)
+more_list_read : (n left room : ℕ) (s : Stmt) (ss : Stmts) → Rereads (IsStmt n left) (IsStmtOf s) (stmt_words s) → MoreRead n (names_left_after left s) room ss → MoreRead n left (suc room) (stmt_then s ss)
 more_list_read n left room s ss o os =
     rereads_two (λ c ts. stmt_then c.1 ts)
     (λ xs ys c ts b m. (let k = b.second in subst (λ (zs : List Symbol). IsMore n left (suc room) (zs ++ ys) (stmt_then c.1 ts)) (sym b.whole) (more_stmts b.first k.is (subst (λ (i : ℕ). IsMore n i room ys ts) (sym (after_same left s c.1 k.holds)) m))))
@@ -130,17 +130,17 @@ mutual
   stmts_read no_stmts n left more l m k some f = absurd (omega (arith, some))
   stmts_read (stmt_then s ss) n left more l m k some f =
       list_read n left s ss (stmt_read s n left (stmts_names more ss) (omega (arith, l)) (omega (arith, m)) (omega (arith, m)) (left_of _ _ f))
-      (more_read ss n (after left s) 63 more (omega (arith, l)) (rest_of_all (stmt_then s no_stmts) left (stmts_names more ss) m) (omega (arith, k)) (right_of _ _ f))
+      (more_read ss n (names_left_after left s) 63 more (omega (arith, l)) (rest_of_all (stmt_then s no_stmts) left (stmts_names more ss) m) (omega (arith, k)) (right_of _ _ f))
 
   pub else_read : (ss : Stmts) (n left more : ℕ) → stmts_levels ss ≤ n → stmts_names more ss ≤ left → stmt_count ss ≤ 64 → are_stmts ss ≡ true → Rereads (IsElse n left) (AreStmtsOf ss) (else_words ss)
   else_read no_stmts n left more l m k f = rereads_none no_stmts no_else refl
   else_read (stmt_then s ss) n left more l m k f =
       else_some_read n left s ss (list_read n left s ss (stmt_read s n left (stmts_names more ss) (omega (arith, l)) (omega (arith, m)) (omega (arith, m)) (left_of _ _ f))
-      (more_read ss n (after left s) 63 more (omega (arith, l)) (rest_of_all (stmt_then s no_stmts) left (stmts_names more ss) m) (omega (arith, k)) (right_of _ _ f)))
+      (more_read ss n (names_left_after left s) 63 more (omega (arith, l)) (rest_of_all (stmt_then s no_stmts) left (stmts_names more ss) m) (omega (arith, k)) (right_of _ _ f)))
 
   pub more_read : (ss : Stmts) (n left room more : ℕ) → stmts_levels ss ≤ n → stmts_names more ss ≤ left → stmt_count ss ≤ room → are_stmts ss ≡ true → MoreRead n left room ss
   more_read no_stmts n left room more l m k f = rereads_none no_stmts no_more_stmts refl
   more_read (stmt_then s ss) n left zero more l m k f = absurd (omega (arith, k))
   more_read (stmt_then s ss) n left (suc room) more l m k f =
       more_list_read n left room s ss (stmt_read s n left (stmts_names more ss) (omega (arith, l)) (omega (arith, m)) (omega (arith, m)) (left_of _ _ f))
-      (more_read ss n (after left s) room more (omega (arith, l)) (rest_of_all (stmt_then s no_stmts) left (stmts_names more ss) m) (omega (arith, k)) (right_of _ _ f))
+      (more_read ss n (names_left_after left s) room more (omega (arith, l)) (rest_of_all (stmt_then s no_stmts) left (stmts_names more ss) m) (omega (arith, k)) (right_of _ _ f))

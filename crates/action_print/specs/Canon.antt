@@ -140,8 +140,12 @@ abbrev mutual
   stmt_words (put v s) = v.text ∷ codes ":=" ∷ sum_words s
   stmt_words (put_of p v s) = port_words p ++ codes "." ∷ v.text ∷ codes ":=" ∷ sum_words s
   stmt_words (let_be v p) = codes "let" ∷ v.text ∷ codes ":=" ∷ port_words p
-  stmt_words (if_then g ss es) = codes "if" ∷ guard_words g ++ (codes "then" ∷ joined (codes ";") (each_stmt ss) ++ (else_words es ++ codes "fi" ∷ []))
-  stmt_words (for_each v s g ss) = codes "for" ∷ selection_words v.text s (guard_words g) ++ (codes "do" ∷ joined (codes ";") (each_stmt ss) ++ codes "od" ∷ [])
+  stmt_words (if_then g ss es) =
+      codes "if" ∷ guard_words g
+      ++ (codes "then" ∷ joined (codes ";") (each_stmt ss) ++ (else_words es ++ codes "fi" ∷ []))
+  stmt_words (for_each v s g ss) =
+      codes "for" ∷ selection_words v.text s (guard_words g)
+      ++ (codes "do" ∷ joined (codes ";") (each_stmt ss) ++ codes "od" ∷ [])
 
   pub each_stmt : Stmts → List Words
   each_stmt no_stmts = []
@@ -174,7 +178,9 @@ do_lines no_stmts = []
 do_lines (stmt_then s ss) = (codes "do" ∷ stmts_words (stmt_then s ss)) ∷ []
 
 abbrev pub action_lines : Action → List Words
-action_lines a = (codes "action" ∷ a.name.text ∷ []) ∷ (codes "when" ∷ guard_words a.guard) ∷ do_lines a.body ++ (codes "move" ∷ move_words a.moved) ∷ []
+action_lines a =
+    (codes "action" ∷ a.name.text ∷ []) ∷ (codes "when" ∷ guard_words a.guard) ∷ do_lines a.body
+    ++ (codes "move" ∷ move_words a.moved) ∷ []
 
 -- `program`, the guard of movements, the variables, the actions, and `end`
 abbrev pub program_lines : Program → List Words

@@ -7,8 +7,8 @@ use Rattle.text_tokens.specs.Lawful.{IsText}
 use Rattle.action_tree.specs.Trees.{Program}
 use Rattle.action_tree.specs.Writable.{is_writable}
 use Rattle.action_tree.specs.Lines.{without_lines}
-use Rattle.action_grammar.specs.Programs.{IsProgram}
-use Rattle.action_grammar.specs.ProgramReaders.{a_program}
+use Rattle.action_tree.specs.Programs.{IsProgram}
+use Rattle.action_tree.specs.ProgramReaders.{a_program}
 use Rattle.action_print.specs.Canon.{canon}
 
 -- The tokens are a text of the grammar within its limits, which stands for the same program, lines aside, and nothing stands behind it.
@@ -28,4 +28,9 @@ CanonReadsBack = (p : Program) → is_writable p ≡ true → ReadsBack p (canon
 
 -- so the reader of programs gives that program, and leaves nothing
 abbrev pub CanonIsRead : Type 0
-CanonIsRead = (p : Program) → is_writable p ≡ true → (ts : List Lexeme) (last : Refusal) → AreTokens (canon p) 0 ts last → (q : Program) × (a_program last ts ≡ Ok (q, [])) × (without_lines q ≡ without_lines p)
+CanonIsRead =
+    (p : Program)
+    → is_writable p ≡ true
+    → (ts : List Lexeme) (last : Refusal)
+    → AreTokens (canon p) 0 ts last
+    → (q : Program) × (a_program last ts ≡ Ok (q, [])) × (without_lines q ≡ without_lines p)

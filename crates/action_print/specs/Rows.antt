@@ -8,5 +8,5 @@ abbrev pub between : ℕ → List ℕ → Words
 between place word = if place == 0 then [] else word ∷ []
 
 -- the sign of a term
-abbrev pub sign : ℕ → Bool → Words
-sign place minus = if place == 0 then first_sign minus else further_sign minus ∷ []
+abbrev pub sign_words : ℕ → Bool → Words
+sign_words place minus = if place == 0 then first_sign minus else further_sign minus ∷ []

@@ -4,7 +4,8 @@ ghost use Rattle.std.specs.Prelude.{◌≡◌, ◌++◌, codes, OnOk};
 ghost use Rattle.text_tokens.specs.Lines.{spaced};
 ghost use Rattle.action_tree.specs.Views.{guard_of, guards_of, name_of, port_of, sum_of, term_of, terms_of};
 ghost use Rattle.action_tree.specs.Writable as writable;
-ghost use Rattle.action_print.specs.Canon.{selection_words, conjs, guard_words, joined, parens_unless, port_words, sum_words, term_words, units};
+ghost use Rattle.action_print.specs.Canon.{selection_words, conjs, guard_words, joined, parens_unless, port_words};
+ghost use Rattle.action_print.specs.Canon.{sum_words, term_words, units};
 
 use crate::token::{cmp_sign, put_between, put_dirterm, put_name, put_number, put_sign, set_word};
 use action_tree::{Guard, Part, PortExpr, PortSet, Sum, Term, Word};
@@ -122,7 +123,8 @@ pub fn put_selection(
     set: PortSet,
     asked: &Guard,
 ) -> Result<(), AllocError>
-    ensures { OnOk result (lines.new ≡ lines.old ++ spaced (selection_words (name_of name.now).text set (guard_words (guard_of asked.now)))) }
+    ensures { OnOk result (lines.new
+        ≡ lines.old ++ spaced (selection_words (name_of name.now).text set (guard_words (guard_of asked.now)))) }
 {
     put_name(lines, name)?;
     lines.word("in")?;

@@ -9,6 +9,3 @@ mod token;
 
 pub use laws::{canon_is_pinned, canon_reads_back};
 pub use program::{print_program, put_program};
-
-#[cfg(test)]
-mod tests;

@@ -5,7 +5,7 @@ ghost use Rattle.text_tokens.specs.Lines.{spaced};
 ghost use Rattle.action_tree.specs.Views.{dirterm_of, literal_of, name_of};
 ghost use Rattle.action_print.specs.Canon as canon;
 ghost use Rattle.action_print.specs.Canon.{dirterm_word, literal_word};
-ghost use Rattle.action_print.specs.Rows.{between, sign};
+ghost use Rattle.action_print.specs.Rows.{between, sign_words};
 
 use action_tree::{Cmp, DirTerm, Lit, PortSet, Word};
 use std::alloc::AllocError;
@@ -47,7 +47,7 @@ pub fn put_between(lines: &mut Lines, place: usize, word: &str) -> Result<(), Al
 
 /// The sign of the term at a place of a sum.
 pub fn put_sign(lines: &mut Lines, place: usize, minus: bool) -> Result<(), AllocError>
-    ensures { OnOk result (lines.new ≡ lines.old ++ spaced (sign place minus)) }
+    ensures { OnOk result (lines.new ≡ lines.old ++ spaced (sign_words place minus)) }
 {
     if minus {
         lines.word("-")

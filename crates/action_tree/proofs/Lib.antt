@@ -3,5 +3,15 @@ pub mod Measured
 pub mod MeasuredStatements
 pub mod Produced
 pub mod ProducedStatements
-pub mod Spelling
+pub mod WordsLemmas
 pub mod Viewed
+pub mod RolesLemmas
+pub mod ExpressionRoles
+pub mod ExpressionLaws
+pub mod StatementRoles
+pub mod StatementLaws
+pub mod ProgramLaws
+pub mod NameLemmas
+pub mod Fine
+pub mod ProductionsLemmas
+pub mod ExamplesLemmas

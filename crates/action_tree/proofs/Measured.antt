@@ -3,7 +3,7 @@ use Rattle.std.proofs.Common.{◌≡◌, ℕ, suc, Bool, true, false, ◌≤◌,
 use Rattle.std.proofs.lemmas.Bool.{and_from}
 use Rattle.action_tree.specs.Trees.{Guard, atom, negation, conjunction, disjunction, quantified, tested, comparison, Guards, no_guards, guard_then, Sum, term_then, Term, PortExpr}
 use Rattle.action_tree.specs.Limits.{most_elements}
-use Rattle.action_tree.specs.Writable.{is_conj, is_unit, parens_unless, guard_levels, unit_levels, conj_levels, sum_levels, term_levels, port_levels, guard_names, guards_names, sum_names, term_names, port_names, guard_count, term_count, is_guard, are_guards, are_terms, is_term, is_port, is_sum, is_dirterm}
+use Rattle.action_tree.specs.Writable.{is_conj, is_unit, levels_unless, guard_levels, unit_levels, conj_levels, sum_levels, term_levels, port_levels, guard_names, guards_names, sum_names, term_names, port_names, guard_count, term_count, is_guard, are_guards, are_terms, is_term, is_port, is_sum, is_writable_dirterm}
 use Rattle.action_tree.specs.Productions.{all_of, any_of, OfDirTerm, dir_number, dir_name, OfExpr, joined_by_or, OfConjs, no_conj, or_conj, OfConj, joined_by_and, OfUnits, no_unit, and_unit, OfUnit, one_word, not_unit, in_parens, some_or_each, asked, compared, OfSum, added, OfTerms, no_term, and_term, OfTerm, a_number, own_name, port_name, counted, directed, own_direction, modulo, OfPort, bound_name, end_and_dir, turned_by, first_in}
 use Rattle.action_tree.proofs.Conditions.{within}
 
@@ -24,10 +24,10 @@ abbrev pub GuardMeets : ℕ → ℕ → Guard → Type 0
 GuardMeets n left g = Meets n left (guard_levels g) (guard_names g) (is_guard g)
 
 abbrev pub ConjMeets : ℕ → ℕ → Guard → Type 0
-ConjMeets n left g = Meets n left (parens_unless (is_conj g) (guard_levels g)) (guard_names g) (is_guard g)
+ConjMeets n left g = Meets n left (levels_unless (is_conj g) (guard_levels g)) (guard_names g) (is_guard g)
 
 abbrev pub UnitMeets : ℕ → ℕ → Guard → Type 0
-UnitMeets n left g = Meets n left (parens_unless (is_unit g) (guard_levels g)) (guard_names g) (is_guard g)
+UnitMeets n left g = Meets n left (levels_unless (is_unit g) (guard_levels g)) (guard_names g) (is_guard g)
 
 abbrev pub ConjsMeet : ℕ → ℕ → ℕ → Guards → Type 0
 ConjsMeet n left room gs = AllMeet n left room (conj_levels gs) (guards_names gs) (guard_count gs) (are_guards gs)
@@ -49,16 +49,16 @@ PortMeets n left p = Meets n left (port_levels p) (port_names p) (is_port p)
 
 -- ---- parentheses
 
-pub without_parens : (stands : Bool) (levels : ℕ) → levels ≤ parens_unless stands levels
+pub without_parens : (stands : Bool) (levels : ℕ) → levels ≤ levels_unless stands levels
 without_parens true levels = omega arith
 without_parens false levels = omega arith
 
-pub with_parens : (stands : Bool) (levels : ℕ) → parens_unless stands levels ≤ suc levels
+pub with_parens : (stands : Bool) (levels : ℕ) → levels_unless stands levels ≤ suc levels
 with_parens true levels = omega arith
 with_parens false levels = omega arith
 
 -- what stands as it is behind a `not` stands as it is in an `or`
-pub conj_below_unit : (g : Guard) → parens_unless (is_conj g) (guard_levels g) ≤ parens_unless (is_unit g) (guard_levels g)
+pub conj_below_unit : (g : Guard) → levels_unless (is_conj g) (guard_levels g) ≤ levels_unless (is_unit g) (guard_levels g)
 conj_below_unit (conjunction gs) = omega arith
 conj_below_unit (disjunction gs) = omega arith
 conj_below_unit (atom a) = omega arith
@@ -106,7 +106,7 @@ all_terms n left minus t s m ms =
 
 -- ---- each production
 
-dirterm_meets : {d : _} → OfDirTerm d → is_dirterm d ≡ true
+dirterm_meets : {d : _} → OfDirTerm d → is_writable_dirterm d ≡ true
 dirterm_meets (dir_number is) = is
 dirterm_meets (dir_name is) = is
 

@@ -6,7 +6,7 @@ use Rattle.amoebot_state.specs.Limits.{most_vars}
 use Rattle.action_tree.specs.Trees.{Stmt, Stmts, stmt_then, Move, Var, Action, Program}
 use Rattle.action_tree.specs.Limits.{most_levels, most_names, most_elements, most_actions}
 use Rattle.action_tree.specs.Writable.{with_let, stmt_levels, stmts_levels, stmt_names, stmts_names, stmt_count, move_levels, move_names, is_stmt, are_stmts, is_move, is_var, is_action, is_writable}
-use Rattle.action_tree.specs.Productions.{after, after_all, OfStmt, put_own, put_there, let_name, if_fi, for_od, OfOptional, left_out, given, OfStmts, one_and_more, OfMore, no_more, and_more, OfMove, nowhere, moved_through, contracted, OfAction, OfVars, no_var, and_var, OfActions, no_action, and_action, OfProgram}
+use Rattle.action_tree.specs.Productions.{names_left_after, names_left_after_all, OfStmt, put_own, put_there, let_name, if_fi, for_od, OfOptional, left_out, given, OfStmts, one_and_more, OfMore, no_more, and_more, OfMove, nowhere, moved_through, contracted, OfAction, OfVars, no_var, and_var, OfActions, no_action, and_action, OfProgram}
 use Rattle.action_tree.proofs.Conditions.{within}
 use Rattle.action_tree.proofs.Measured.{Meets, expr_meets, sum_meets, port_meets}
 
@@ -16,12 +16,12 @@ StmtMeets n left s = Meets n left (stmt_levels s) (stmt_names s) (is_stmt s)
 -- The list may be followed by what binds as many names as may be bound behind it.
 pub record StmtsMeet (n left room : ℕ) (ss : Stmts) : Type 0 where
   pub levels : stmts_levels ss ≤ n
-  pub names : (more : ℕ) → more ≤ after_all left ss → stmts_names more ss ≤ left
+  pub names : (more : ℕ) → more ≤ names_left_after_all left ss → stmts_names more ss ≤ left
   pub count : stmt_count ss ≤ room
   pub formed : are_stmts ss ≡ true
 
 -- a name that a `let` binds was still to be bound
-binds : {n left : ℕ} {s : Stmt} → OfStmt n left s → (k : ℕ) → k ≤ after left s → with_let s k ≤ left
+binds : {n left : ℕ} {s : Stmt} → OfStmt n left s → (k : ℕ) → k ≤ names_left_after left s → with_let s k ≤ left
 binds {left = zero} (put_own is s) k le = le
 binds {left = suc left} (put_own is s) k le = le
 binds {left = zero} (put_there p is s) k le = le
@@ -31,7 +31,7 @@ binds {left = zero} (if_fi e ss es) k le = le
 binds {left = suc left} (if_fi e ss es) k le = le
 binds (for_od s is e ss) k le = le
 
-pub list_meets : {n left room : ℕ} {s : Stmt} {ss : Stmts} → OfStmt n left s → StmtMeets n left s → StmtsMeet n (after left s) room ss → StmtsMeet n left (suc room) (stmt_then s ss)
+pub list_meets : {n left room : ℕ} {s : Stmt} {ss : Stmts} → OfStmt n left s → StmtMeets n left s → StmtsMeet n (names_left_after left s) room ss → StmtsMeet n left (suc room) (stmt_then s ss)
 list_meets o m ms = record {
   levels = omega (arith, m.levels, ms.levels);
   names = λ more le. omega (arith, m.names, binds o _ (ms.names more le));

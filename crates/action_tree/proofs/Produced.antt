@@ -2,7 +2,7 @@
 use Rattle.std.proofs.Common.{◌≡◌, ℕ, suc, zero, true, ◌≤◌, arith}
 use Rattle.action_tree.specs.Trees.{DirTerm, fixed, held, Guard, atom, negation, conjunction, disjunction, quantified, tested, comparison, Guards, no_guards, guard_then, Sum, no_terms, term_then, Term, number, own, of_port, count, direction, inner, mod6, PortExpr, bound, at_end, turned, first}
 use Rattle.action_tree.specs.Limits.{most_elements}
-use Rattle.action_tree.specs.Writable.{is_conj, is_unit, parens_unless, guard_levels, unit_levels, conj_levels, sum_levels, term_levels, port_levels, guard_names, guards_names, sum_names, term_names, port_names, guard_count, term_count, is_guard, are_guards, are_terms, is_term, is_port, is_dirterm}
+use Rattle.action_tree.specs.Writable.{is_conj, is_unit, levels_unless, guard_levels, unit_levels, conj_levels, sum_levels, term_levels, port_levels, guard_names, guards_names, sum_names, term_names, port_names, guard_count, term_count, is_guard, are_guards, are_terms, is_term, is_port, is_writable_dirterm}
 use Rattle.action_tree.specs.Productions.{OfDirTerm, dir_number, dir_name, OfExpr, joined_by_or, OfConjs, no_conj, or_conj, OfConj, joined_by_and, OfUnits, no_unit, and_unit, OfUnit, one_word, not_unit, in_parens, some_or_each, asked, compared, OfSum, added, OfTerms, no_term, and_term, OfTerm, a_number, own_name, port_name, counted, directed, own_direction, modulo, OfPort, bound_name, end_and_dir, turned_by, first_in}
 use Rattle.action_tree.proofs.Conditions.{left_of, right_of, from, upto}
 
@@ -40,7 +40,7 @@ and_in_parens : (n left : ℕ) (gs : Guards) → BareFrom left (conjunction gs) 
 and_in_parens zero left gs b l = absurd (omega (arith, l))
 and_in_parens (suc n) left gs b l = in_parens (conj_expr (b n (omega (arith, l))))
 
-pub as_unit : (n left : ℕ) (g : Guard) → BareFrom left g → parens_unless (is_unit g) (guard_levels g) ≤ n → OfUnit n left g
+pub as_unit : (n left : ℕ) (g : Guard) → BareFrom left g → levels_unless (is_unit g) (guard_levels g) ≤ n → OfUnit n left g
 as_unit n left (conjunction gs) b l = and_in_parens n left gs b l
 as_unit n left (disjunction gs) b l = or_in_parens n left gs b l
 as_unit n left (atom a) b l = b n l
@@ -49,7 +49,7 @@ as_unit n left (quantified q v s g) b l = b n l
 as_unit n left (tested t p) b l = b n l
 as_unit n left (comparison x c y) b l = b n l
 
-pub as_conj : (n left : ℕ) (g : Guard) → BareFrom left g → parens_unless (is_conj g) (guard_levels g) ≤ n → OfConj n left g
+pub as_conj : (n left : ℕ) (g : Guard) → BareFrom left g → levels_unless (is_conj g) (guard_levels g) ≤ n → OfConj n left g
 as_conj n left (conjunction gs) b l = b n l
 as_conj n left (disjunction gs) b l = unit_conj (or_in_parens n left gs b l)
 as_conj n left (atom a) b l = unit_conj (b n l)
@@ -73,7 +73,7 @@ pub sum_from : {n left : ℕ} (s : Sum) → OfTerms n left 64 s → 1 ≤ term_c
 sum_from (term_then minus t s) (and_term m u us) one = added minus u us
 sum_from no_terms us one = absurd (omega (arith, one))
 
-dirterm_from : (d : DirTerm) → is_dirterm d ≡ true → OfDirTerm d
+dirterm_from : (d : DirTerm) → is_writable_dirterm d ≡ true → OfDirTerm d
 dirterm_from (fixed n) is = dir_number is
 dirterm_from (held v) is = dir_name is
 

@@ -6,7 +6,7 @@ use Rattle.amoebot_state.specs.Limits.{most_vars}
 use Rattle.action_tree.specs.Trees.{Guard, Sum, Stmt, put, put_of, let_be, if_then, for_each, Stmts, no_stmts, stmt_then, Move, no_move, through, contract, Var, Action, Program}
 use Rattle.action_tree.specs.Limits.{most_levels, most_names, most_elements, most_actions}
 use Rattle.action_tree.specs.Writable.{guard_levels, guard_names, is_guard, sum_levels, sum_names, is_sum, named, is_count_from, with_let, stmt_levels, stmts_levels, stmt_names, stmts_names, stmt_count, move_levels, move_names, action_levels, action_names, is_stmt, are_stmts, is_move, is_var, is_action, is_writable}
-use Rattle.action_tree.specs.Productions.{OfExpr, OfSum, after, after_all, OfStmt, put_own, put_there, let_name, if_fi, for_od, OfOptional, left_out, given, OfStmts, one_and_more, OfMore, no_more, and_more, OfMove, nowhere, moved_through, contracted, OfAction, OfVars, no_var, and_var, OfActions, no_action, and_action, OfProgram}
+use Rattle.action_tree.specs.Productions.{OfExpr, OfSum, names_left_after, names_left_after_all, OfStmt, put_own, put_there, let_name, if_fi, for_od, OfOptional, left_out, given, OfStmts, one_and_more, OfMore, no_more, and_more, OfMove, nowhere, moved_through, contracted, OfAction, OfVars, no_var, and_var, OfActions, no_action, and_action, OfProgram}
 use Rattle.action_tree.proofs.Conditions.{left_of, right_of, from, upto}
 use Rattle.action_tree.proofs.Produced.{as_expr, guard_from, sum_from, terms_from, port_from}
 
@@ -25,7 +25,7 @@ optional_from (stmt_then s ss) (and_more o os) = given (one_and_more o os)
 optional_from no_stmts os = left_out
 
 -- what may be bound behind a statement was still to be bound before it
-rest_of : (s : Stmt) (left k : ℕ) → with_let s k ≤ left → k ≤ after left s
+rest_of : (s : Stmt) (left k : ℕ) → with_let s k ≤ left → k ≤ names_left_after left s
 rest_of (let_be v p) zero k le = omega (arith, le)
 rest_of (let_be v p) (suc left) k le = omega (arith, le)
 rest_of (put v s) zero k le = le
@@ -37,9 +37,9 @@ rest_of (if_then g ss es) (suc left) k le = le
 rest_of (for_each v s g ss) zero k le = le
 rest_of (for_each v s g ss) (suc left) k le = le
 
-pub rest_of_all : (ss : Stmts) (left more : ℕ) → stmts_names more ss ≤ left → more ≤ after_all left ss
+pub rest_of_all : (ss : Stmts) (left more : ℕ) → stmts_names more ss ≤ left → more ≤ names_left_after_all left ss
 rest_of_all no_stmts left more le = le
-rest_of_all (stmt_then s ss) left more le = rest_of_all ss (after left s) more (rest_of s left _ (omega (arith, le)))
+rest_of_all (stmt_then s ss) left more le = rest_of_all ss (names_left_after left s) more (rest_of s left _ (omega (arith, le)))
 
 mutual
   pub stmt_from : (s : Stmt) (n left more : ℕ) → stmt_levels s ≤ n → stmt_names s ≤ left → with_let s more ≤ left → is_stmt s ≡ true → OfStmt n left s
@@ -68,7 +68,7 @@ mutual
   more_from (stmt_then s ss) n left zero more l m k f = absurd (omega (arith, k))
   more_from (stmt_then s ss) n left (suc room) more l m k f =
       and_more (stmt_from s n left (stmts_names more ss) (omega (arith, l)) (omega (arith, m)) (omega (arith, m)) (left_of _ _ f))
-      (more_from ss n (after left s) room more (omega (arith, l)) (rest_of s left _ (omega (arith, m))) (omega (arith, k)) (right_of _ _ f))
+      (more_from ss n (names_left_after left s) room more (omega (arith, l)) (rest_of s left _ (omega (arith, m))) (omega (arith, k)) (right_of _ _ f))
 
 move_from : (m : Move) (n left : ℕ) → move_levels m ≤ n → move_names m ≤ left → is_move m ≡ true → OfMove n left m
 move_from no_move n left l k f = nowhere
@@ -81,7 +81,7 @@ parts_from a l m f = record {
   name = left_of _ _ (left_of _ _ (left_of _ _ (left_of _ _ f)));
   guard = expr_from a.guard most_levels most_names (omega (arith, l)) (omega (arith, m)) (right_of _ _ (left_of _ _ (left_of _ _ (left_of _ _ f))));
   body = optional_from a.body (more_from a.body most_levels most_names 64 (move_names a.moved) (omega (arith, l)) (omega (arith, m)) (upto 0 _ most_elements (right_of _ _ (left_of _ _ (left_of _ _ f)))) (right_of _ _ (left_of _ _ f)));
-  moved = move_from a.moved most_levels (after_all most_names a.body) (omega (arith, l)) (rest_of_all a.body most_names (move_names a.moved) (omega (arith, m))) (right_of _ _ f);
+  moved = move_from a.moved most_levels (names_left_after_all most_names a.body) (omega (arith, l)) (rest_of_all a.body most_names (move_names a.moved) (omega (arith, m))) (right_of _ _ f);
 }
 
 pub action_from : (a : Action) → is_action a ≡ true → OfAction a

@@ -7,8 +7,8 @@ use Rattle.action_tree.specs.Trees.{Program}
 use Rattle.action_tree.specs.Words.{is_word}
 use Rattle.action_tree.specs.Writable.{is_writable}
 use Rattle.action_tree.specs.Productions.{OfProgram}
-use Rattle.action_tree.specs.Samples.{line, erosion, hexagon, every_form}
-use Rattle.action_tree.specs.Edges.{is_sharp, levels, names, counts, leasts, spellings}
+use Rattle.action_tree.specs.Shipped.{line, erosion, hexagon, every_form}
+use Rattle.action_tree.specs.Edges.{is_sharp, levels, name_edges, counts, leasts, spellings}
 
 abbrev pub WritableIsGiven : Type 0
 WritableIsGiven = (p : Program) → is_writable p ≡ true → OfProgram p
@@ -25,8 +25,17 @@ TokensAreWords = (text rest : List ℕ) → Cuts Word text rest → length text 
 
 -- the shipped programs, and one of every form
 abbrev pub SamplesAreWritable : Type 0
-SamplesAreWritable = (is_writable line ≡ true) × (is_writable erosion ≡ true) × (is_writable hexagon ≡ true) × (is_writable every_form ≡ true)
+SamplesAreWritable =
+    (is_writable line ≡ true)
+    × (is_writable erosion ≡ true)
+    × (is_writable hexagon ≡ true)
+    × (is_writable every_form ≡ true)
 
 -- of each limit the test lets what just keeps it pass, and not what just passes it
 abbrev pub LimitsAreSharp : Type 0
-LimitsAreSharp = (list_all is_sharp levels ≡ true) × (list_all is_sharp names ≡ true) × (list_all is_sharp counts ≡ true) × (list_all is_sharp leasts ≡ true) × (list_all is_sharp spellings ≡ true)
+LimitsAreSharp =
+    (list_all is_sharp levels ≡ true)
+    × (list_all is_sharp name_edges ≡ true)
+    × (list_all is_sharp counts ≡ true)
+    × (list_all is_sharp leasts ≡ true)
+    × (list_all is_sharp spellings ≡ true)

@@ -6,6 +6,16 @@ pub mod Limits
 pub mod Writable
 pub mod Productions
 pub mod Lines
-pub mod Samples
+pub mod Shipped
 pub mod Edges
 pub mod Laws
+pub mod Roles
+pub mod Expressions
+pub mod Statements
+pub mod Programs
+pub mod ExpressionReaders
+pub mod StatementReaders
+pub mod ProgramReaders
+pub mod GrammarLaws
+pub mod Examples
+pub use Rattle.text_tokens.specs.Lawful

@@ -66,7 +66,12 @@ abbrev pub bare_var : Var → Var
 bare_var v = record { name = bare_name v.name; max = bare_literal v.max }
 
 abbrev pub bare_action : Action → Action
-bare_action a = record { name = bare_name a.name; guard = bare_guard a.guard; body = bare_stmts a.body; moved = bare_move a.moved }
+bare_action a = record {
+  name = bare_name a.name;
+  guard = bare_guard a.guard;
+  body = bare_stmts a.body;
+  moved = bare_move a.moved;
+}
 
 -- each line is 0
 abbrev pub without_lines : Program → Program

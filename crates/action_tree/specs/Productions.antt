@@ -32,39 +32,63 @@ pub data OfDirTerm : DirTerm → Type 0 where
 -- lists go on with at most so many more elements
 mutual
   pub data OfExpr : ℕ → ℕ → Guard → Type 0 where
-    joined_by_or : {n left : ℕ} {g : Guard} {gs : Guards} → OfConj n left g → OfConjs n left most_further gs → OfExpr n left (any_of g gs)
+    joined_by_or : {n left : ℕ} {g : Guard} {gs : Guards}
+        → OfConj n left g
+        → OfConjs n left most_further gs
+        → OfExpr n left (any_of g gs)
 
   pub data OfConjs : ℕ → ℕ → ℕ → Guards → Type 0 where
     no_conj : {n left room : ℕ} → OfConjs n left room no_guards
-    or_conj : {n left room : ℕ} {g : Guard} {gs : Guards} → OfConj n left g → OfConjs n left room gs → OfConjs n left (suc room) (guard_then g gs)
+    or_conj : {n left room : ℕ} {g : Guard} {gs : Guards}
+        → OfConj n left g
+        → OfConjs n left room gs
+        → OfConjs n left (suc room) (guard_then g gs)
 
   pub data OfConj : ℕ → ℕ → Guard → Type 0 where
-    joined_by_and : {n left : ℕ} {g : Guard} {gs : Guards} → OfUnit n left g → OfUnits n left most_further gs → OfConj n left (all_of g gs)
+    joined_by_and : {n left : ℕ} {g : Guard} {gs : Guards}
+        → OfUnit n left g
+        → OfUnits n left most_further gs
+        → OfConj n left (all_of g gs)
 
   pub data OfUnits : ℕ → ℕ → ℕ → Guards → Type 0 where
     no_unit : {n left room : ℕ} → OfUnits n left room no_guards
-    and_unit : {n left room : ℕ} {g : Guard} {gs : Guards} → OfUnit n left g → OfUnits n left room gs → OfUnits n left (suc room) (guard_then g gs)
+    and_unit : {n left room : ℕ} {g : Guard} {gs : Guards}
+        → OfUnit n left g
+        → OfUnits n left room gs
+        → OfUnits n left (suc room) (guard_then g gs)
 
   pub data OfUnit : ℕ → ℕ → Guard → Type 0 where
     one_word : {n left : ℕ} (a : Atom) → OfUnit n left (atom a)
     not_unit : {n left : ℕ} {g : Guard} → OfUnit n left g → OfUnit (suc n) left (negation g)
     in_parens : {n left : ℕ} {g : Guard} → OfExpr n left g → OfUnit (suc n) left g
-    some_or_each : {n left : ℕ} {v : Name} {g : Guard} (q : Quantifier) (s : PortSet) → IsName v → OfExpr n left g → OfUnit (suc n) (suc left) (quantified q v s g)
+    some_or_each : {n left : ℕ} {v : Name} {g : Guard} (q : Quantifier) (s : PortSet)
+        → IsName v
+        → OfExpr n left g
+        → OfUnit (suc n) (suc left) (quantified q v s g)
     asked : {n left : ℕ} {p : PortExpr} (t : PortTest) → OfPort n left p → OfUnit n left (tested t p)
     compared : {n left : ℕ} {a b : Sum} (c : Cmp) → OfSum n left a → OfSum n left b → OfUnit n left (comparison a c b)
 
   pub data OfSum : ℕ → ℕ → Sum → Type 0 where
-    added : {n left : ℕ} {t : Term} {ts : Sum} (minus : Bool) → OfTerm n left t → OfTerms n left most_further ts → OfSum n left (term_then minus t ts)
+    added : {n left : ℕ} {t : Term} {ts : Sum} (minus : Bool)
+        → OfTerm n left t
+        → OfTerms n left most_further ts
+        → OfSum n left (term_then minus t ts)
 
   pub data OfTerms : ℕ → ℕ → ℕ → Sum → Type 0 where
     no_term : {n left room : ℕ} → OfTerms n left room no_terms
-    and_term : {n left room : ℕ} {t : Term} {ts : Sum} (minus : Bool) → OfTerm n left t → OfTerms n left room ts → OfTerms n left (suc room) (term_then minus t ts)
+    and_term : {n left room : ℕ} {t : Term} {ts : Sum} (minus : Bool)
+        → OfTerm n left t
+        → OfTerms n left room ts
+        → OfTerms n left (suc room) (term_then minus t ts)
 
   pub data OfTerm : ℕ → ℕ → Term → Type 0 where
     a_number : {n left : ℕ} {m : Literal} → IsNumberToken m → OfTerm n left (number m)
     own_name : {n left : ℕ} {v : Name} → IsName v → OfTerm n left (own v)
     port_name : {n left : ℕ} {p : PortExpr} {v : Name} → OfPort n left p → IsName v → OfTerm n left (of_port p v)
-    counted : {n left : ℕ} {v : Name} {g : Guard} (s : PortSet) → IsName v → OfExpr n left g → OfTerm (suc n) (suc left) (count v s g)
+    counted : {n left : ℕ} {v : Name} {g : Guard} (s : PortSet)
+        → IsName v
+        → OfExpr n left g
+        → OfTerm (suc n) (suc left) (count v s g)
     directed : {n left : ℕ} {p : PortExpr} (side : Side) → OfPort n left p → OfTerm n left (direction side p)
     own_direction : {n left : ℕ} → OfTerm n left inner
     modulo : {n left : ℕ} {s : Sum} → OfSum n left s → OfTerm (suc n) left (mod6 s)
@@ -72,36 +96,60 @@ mutual
   pub data OfPort : ℕ → ℕ → PortExpr → Type 0 where
     bound_name : {n left : ℕ} {v : Name} → IsName v → OfPort n left (bound v)
     end_and_dir : {n left : ℕ} {d : DirTerm} (e : End) → OfDirTerm d → OfPort n left (at_end e d)
-    turned_by : {n left : ℕ} {p : PortExpr} {m : Literal} → OfPort n left p → IsNumberToken m → OfPort (suc n) left (turned p m)
-    first_in : {n left : ℕ} {v : Name} {g : Guard} (s : PortSet) → IsName v → OfExpr n left g → OfPort (suc n) (suc left) (first v s g)
+    turned_by : {n left : ℕ} {p : PortExpr} {m : Literal}
+        → OfPort n left p
+        → IsNumberToken m
+        → OfPort (suc n) left (turned p m)
+    first_in : {n left : ℕ} {v : Name} {g : Guard} (s : PortSet)
+        → IsName v
+        → OfExpr n left g
+        → OfPort (suc n) (suc left) (first v s g)
 
 -- how many more names may be bound behind a statement of a list, and behind all of them
-abbrev pub after : ℕ → Stmt → ℕ
-after (suc left) (let_be v p) = left
-after left _ = left
+abbrev pub names_left_after : ℕ → Stmt → ℕ
+names_left_after (suc left) (let_be v p) = left
+names_left_after left _ = left
 
-abbrev pub after_all : ℕ → Stmts → ℕ
-after_all left no_stmts = left
-after_all left (stmt_then s ss) = after_all (after left s) ss
+abbrev pub names_left_after_all : ℕ → Stmts → ℕ
+names_left_after_all left no_stmts = left
+names_left_after_all left (stmt_then s ss) = names_left_after_all (names_left_after left s) ss
 
 mutual
   pub data OfStmt : ℕ → ℕ → Stmt → Type 0 where
     put_own : {n left : ℕ} {v : Name} {s : Sum} → IsName v → OfSum n left s → OfStmt n left (put v s)
-    put_there : {n left : ℕ} {p : PortExpr} {v : Name} {s : Sum} → OfPort n left p → IsName v → OfSum n left s → OfStmt n left (put_of p v s)
+    put_there : {n left : ℕ} {p : PortExpr} {v : Name} {s : Sum}
+        → OfPort n left p
+        → IsName v
+        → OfSum n left s
+        → OfStmt n left (put_of p v s)
     let_name : {n left : ℕ} {v : Name} {p : PortExpr} → IsName v → OfPort n (suc left) p → OfStmt n (suc left) (let_be v p)
-    if_fi : {n left : ℕ} {g : Guard} {ss es : Stmts} → OfExpr n left g → OfStmts n left ss → OfOptional n left es → OfStmt (suc n) left (if_then g ss es)
-    for_od : {n left : ℕ} {v : Name} {g : Guard} {ss : Stmts} (s : PortSet) → IsName v → OfExpr n left g → OfStmts (suc n) left ss → OfStmt (suc (suc n)) (suc left) (for_each v s g ss)
+    if_fi : {n left : ℕ} {g : Guard} {ss es : Stmts}
+        → OfExpr n left g
+        → OfStmts n left ss
+        → OfOptional n left es
+        → OfStmt (suc n) left (if_then g ss es)
+    for_od : {n left : ℕ} {v : Name} {g : Guard} {ss : Stmts} (s : PortSet)
+        → IsName v
+        → OfExpr n left g
+        → OfStmts (suc n) left ss
+        → OfStmt (suc (suc n)) (suc left) (for_each v s g ss)
 
   pub data OfOptional : ℕ → ℕ → Stmts → Type 0 where
     left_out : {n left : ℕ} → OfOptional n left no_stmts
     given : {n left : ℕ} {ss : Stmts} → OfStmts n left ss → OfOptional n left ss
 
   pub data OfStmts : ℕ → ℕ → Stmts → Type 0 where
-    one_and_more : {n left : ℕ} {s : Stmt} {ss : Stmts} → OfStmt n left s → OfMore n (after left s) most_further ss → OfStmts n left (stmt_then s ss)
+    one_and_more : {n left : ℕ} {s : Stmt} {ss : Stmts}
+        → OfStmt n left s
+        → OfMore n (names_left_after left s) most_further ss
+        → OfStmts n left (stmt_then s ss)
 
   pub data OfMore : ℕ → ℕ → ℕ → Stmts → Type 0 where
     no_more : {n left room : ℕ} → OfMore n left room no_stmts
-    and_more : {n left room : ℕ} {s : Stmt} {ss : Stmts} → OfStmt n left s → OfMore n (after left s) room ss → OfMore n left (suc room) (stmt_then s ss)
+    and_more : {n left room : ℕ} {s : Stmt} {ss : Stmts}
+        → OfStmt n left s
+        → OfMore n (names_left_after left s) room ss
+        → OfMore n left (suc room) (stmt_then s ss)
 
 -- the statements of an action, which it may lack as an `if` may lack `else`
 abbrev pub OfBody : ℕ → ℕ → Stmts → Type 0
@@ -121,7 +169,7 @@ pub record OfAction (a : Action) : Type 0 where
   pub name : IsName a.name
   pub guard : OfExpr most_levels most_names a.guard
   pub body : OfBody most_levels most_names a.body
-  pub moved : OfMove most_levels (after_all most_names a.body) a.moved
+  pub moved : OfMove most_levels (names_left_after_all most_names a.body) a.moved
 
 pub data OfVars : ℕ → List Var → Type 0 where
   no_var : {room : ℕ} → OfVars room []
@@ -129,7 +177,10 @@ pub data OfVars : ℕ → List Var → Type 0 where
 
 pub data OfActions : ℕ → List Action → Type 0 where
   no_action : {room : ℕ} → OfActions room []
-  and_action : {room : ℕ} {a : Action} {more : List Action} → OfAction a → OfActions room more → OfActions (suc room) (a ∷ more)
+  and_action : {room : ℕ} {a : Action} {more : List Action}
+      → OfAction a
+      → OfActions room more
+      → OfActions (suc room) (a ∷ more)
 
 pub record OfProgram (p : Program) : Type 0 where
   pub vars : OfVars most_vars p.vars

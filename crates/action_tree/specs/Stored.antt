@@ -21,7 +21,9 @@ told_apart m n a b other same =
     grind arith
 
 abbrev name_code : Coded Name
-name_code = code_by (List ℕ × ℕ) (coded× (coded_list coded_ℕ) coded_ℕ) (λ v. (v.text, v.line)) (λ p. record { text = p.0; line = p.1 }) (λ _. refl)
+name_code =
+    code_by (List ℕ × ℕ) (coded× (coded_list coded_ℕ) coded_ℕ) (λ v. (v.text, v.line))
+    (λ p. record { text = p.0; line = p.1 }) (λ _. refl)
 
 abbrev literal_code : Coded Literal
 literal_code = code_by (ℕ × ℕ) (coded× coded_ℕ coded_ℕ) (λ n. (n.value, n.line)) (λ p. record { value = p.0; line = p.1 }) (λ _. refl)
@@ -113,7 +115,9 @@ abbrev mutual
   guard_stored (negation x) = with_parts 1 (guard_stored x)
   guard_stored (conjunction x) = with_parts 2 (guards_stored x)
   guard_stored (disjunction x) = with_parts 3 (guards_stored x)
-  guard_stored (quantified x0 x1 x2 x3) = with_parts 4 (gcons (quantifier_stored x0) (gcons (name_code.code x1) (gcons (set_code.code x2) (guard_stored x3))))
+  guard_stored (quantified x0 x1 x2 x3) =
+      with_parts 4
+      (gcons (quantifier_stored x0) (gcons (name_code.code x1) (gcons (set_code.code x2) (guard_stored x3))))
   guard_stored (tested x0 x1) = with_parts 5 (gcons (test_stored x0) (port_stored x1))
   guard_stored (comparison x0 x1 x2) = with_parts 6 (gcons (sum_stored x0) (gcons (cmp_code.code x1) (sum_stored x2)))
 
@@ -225,7 +229,8 @@ abbrev mutual
   stmt_stored (put_of x0 x1 x2) = with_parts 1 (gcons (port_stored x0) (gcons (name_code.code x1) (sum_stored x2)))
   stmt_stored (let_be x0 x1) = with_parts 2 (gcons (name_code.code x0) (port_stored x1))
   stmt_stored (if_then x0 x1 x2) = with_parts 3 (gcons (guard_stored x0) (gcons (stmts_stored x1) (stmts_stored x2)))
-  stmt_stored (for_each x0 x1 x2 x3) = with_parts 4 (gcons (name_code.code x0) (gcons (set_code.code x1) (gcons (guard_stored x2) (stmts_stored x3))))
+  stmt_stored (for_each x0 x1 x2 x3) =
+      with_parts 4 (gcons (name_code.code x0) (gcons (set_code.code x1) (gcons (guard_stored x2) (stmts_stored x3))))
 
   pub stmts_stored : Stmts → Gv
   stmts_stored no_stmts = with_parts 0 gnil
@@ -295,12 +300,15 @@ abbrev move_code : Coded Move
 move_code = record { code = move_stored; inj = move_told }
 
 abbrev var_code : Coded Var
-var_code = code_by (Name × Literal) (coded× name_code literal_code) (λ v. (v.name, v.max)) (λ p. record { name = p.0; max = p.1 }) (λ _. refl)
+var_code =
+    code_by (Name × Literal) (coded× name_code literal_code) (λ v. (v.name, v.max))
+    (λ p. record { name = p.0; max = p.1 }) (λ _. refl)
 
 abbrev action_code : Coded Action
 action_code =
     code_by (Name × (Guard × (Stmts × Move))) (coded× name_code (coded× guard_code (coded× stmts_code move_code)))
-    (λ a. (a.name, (a.guard, (a.body, a.moved)))) (λ p. record { name = p.0; guard = p.1.0; body = p.1.1.0; moved = p.1.1.1 }) (λ _. refl)
+    (λ a. (a.name, (a.guard, (a.body, a.moved))))
+    (λ p. record { name = p.0; guard = p.1.0; body = p.1.1.0; moved = p.1.1.1 }) (λ _. refl)
 
 abbrev pub program_code : Coded Program
 program_code =

@@ -76,7 +76,9 @@ abbrev pub guard_of : guard.Guard → tree.Guard
 guard_of = fold-Guard tree.Guard tree.PortExpr tree.Term tree.Part tree.Sum guard_step port_step term_step part_step sum_step
 
 abbrev pub port_of : port.PortExpr → tree.PortExpr
-port_of = fold-PortExpr tree.Guard tree.PortExpr tree.Term tree.Part tree.Sum guard_step port_step term_step part_step sum_step
+port_of =
+    fold-PortExpr tree.Guard tree.PortExpr tree.Term tree.Part tree.Sum guard_step port_step term_step part_step
+    sum_step
 
 abbrev pub term_of : term.Term → tree.Term
 term_of = fold-Term tree.Guard tree.PortExpr tree.Term tree.Part tree.Sum guard_step port_step term_step part_step sum_step
@@ -122,7 +124,8 @@ abbrev pub var_of : Var → tree.Var
 var_of v = record { name = name_of v.name; max = literal_of v.max }
 
 abbrev pub action_of : Action → tree.Action
-action_of a = record { name = name_of a.name; guard = guard_of a.guard; body = stmts_of a.body.items; moved = move_of a.moved }
+action_of a =
+    record { name = name_of a.name; guard = guard_of a.guard; body = stmts_of a.body.items; moved = move_of a.moved }
 
 abbrev pub program_of : Bool → List Var → List Action → tree.Program
 program_of guarded vs actions = record { guard = guarded; vars = map var_of vs; actions = map action_of actions }

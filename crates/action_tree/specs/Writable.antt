@@ -21,14 +21,14 @@ is_unit (disjunction gs) = false
 is_unit _ = true
 
 -- and else in parentheses, which open a level
-abbrev pub parens_unless : Bool → ℕ → ℕ
-parens_unless true levels = levels
-parens_unless false levels = suc levels
+abbrev pub levels_unless : Bool → ℕ → ℕ
+levels_unless true levels = levels
+levels_unless false levels = suc levels
 
 abbrev mutual
   pub guard_levels : Guard → ℕ
   guard_levels (atom a) = 0
-  guard_levels (negation g) = suc (parens_unless (is_unit g) (guard_levels g))
+  guard_levels (negation g) = suc (levels_unless (is_unit g) (guard_levels g))
   guard_levels (conjunction gs) = unit_levels gs
   guard_levels (disjunction gs) = conj_levels gs
   guard_levels (quantified q v s g) = suc (guard_levels g)
@@ -38,11 +38,11 @@ abbrev mutual
   -- the elements of an `and`, and those of an `or`
   pub unit_levels : Guards → ℕ
   unit_levels no_guards = 0
-  unit_levels (guard_then g gs) = max (parens_unless (is_unit g) (guard_levels g)) (unit_levels gs)
+  unit_levels (guard_then g gs) = max (levels_unless (is_unit g) (guard_levels g)) (unit_levels gs)
 
   pub conj_levels : Guards → ℕ
   conj_levels no_guards = 0
-  conj_levels (guard_then g gs) = max (parens_unless (is_conj g) (guard_levels g)) (conj_levels gs)
+  conj_levels (guard_then g gs) = max (levels_unless (is_conj g) (guard_levels g)) (conj_levels gs)
 
   pub sum_levels : Sum → ℕ
   sum_levels no_terms = 0
@@ -170,9 +170,9 @@ named v = is_name v.text
 abbrev pub numbered : Literal → Bool
 numbered n = has_few_digits n.value
 
-abbrev pub is_dirterm : DirTerm → Bool
-is_dirterm (fixed n) = numbered n
-is_dirterm (held v) = named v
+abbrev pub is_writable_dirterm : DirTerm → Bool
+is_writable_dirterm (fixed n) = numbered n
+is_writable_dirterm (held v) = named v
 
 -- an `and` and an `or` have two elements or more, and a sum has a term
 abbrev mutual
@@ -183,7 +183,8 @@ abbrev mutual
   is_guard (disjunction gs) = is_count_from 2 (guard_count gs) && are_guards gs
   is_guard (quantified q v s g) = named v && is_guard g
   is_guard (tested t p) = is_port p
-  is_guard (comparison a c b) = (is_count_from 1 (term_count a) && are_terms a) && (is_count_from 1 (term_count b) && are_terms b)
+  is_guard (comparison a c b) =
+      (is_count_from 1 (term_count a) && are_terms a) && (is_count_from 1 (term_count b) && are_terms b)
 
   pub are_guards : Guards → Bool
   are_guards no_guards = true
@@ -204,7 +205,7 @@ abbrev mutual
 
   pub is_port : PortExpr → Bool
   is_port (bound v) = named v
-  is_port (at_end e d) = is_dirterm d
+  is_port (at_end e d) = is_writable_dirterm d
   is_port (turned p n) = is_port p && numbered n
   is_port (first v s g) = named v && is_guard g
 
@@ -217,7 +218,8 @@ abbrev mutual
   is_stmt (put v s) = named v && is_sum s
   is_stmt (put_of p v s) = is_port p && named v && is_sum s
   is_stmt (let_be v p) = named v && is_port p
-  is_stmt (if_then g ss es) = is_guard g && is_count_from 1 (stmt_count ss) && are_stmts ss && is_count_from 0 (stmt_count es) && are_stmts es
+  is_stmt (if_then g ss es) =
+      is_guard g && is_count_from 1 (stmt_count ss) && are_stmts ss && is_count_from 0 (stmt_count es) && are_stmts es
   is_stmt (for_each v s g ss) = named v && is_guard g && is_count_from 1 (stmt_count ss) && are_stmts ss
 
   pub are_stmts : Stmts → Bool
@@ -242,4 +244,8 @@ is_action a =
 
 -- some text of the grammar within its limits gives this tree
 abbrev pub is_writable : Program → Bool
-is_writable p = nat_le (length p.vars) most_vars && list_all is_var p.vars && nat_le (length p.actions) most_actions && list_all is_action p.actions
+is_writable p =
+    nat_le (length p.vars) most_vars
+    && list_all is_var p.vars
+    && nat_le (length p.actions) most_actions
+    && list_all is_action p.actions

@@ -1,6 +1,7 @@
 //! What holds of the definitions. The functions do nothing: their clauses are the laws.
 
-ghost use Rattle.action_tree.specs.Laws.{WritableIsGiven, GivenIsWritable, WordsAreTokens, TokensAreWords, SamplesAreWritable, LimitsAreSharp};
+ghost use Rattle.action_tree.specs.Laws.{WritableIsGiven, GivenIsWritable, WordsAreTokens, TokensAreWords};
+ghost use Rattle.action_tree.specs.Laws.{SamplesAreWritable, LimitsAreSharp};
 
 /// The test passes exactly the trees that the productions of the grammar give.
 #[tactic(auto, using(crate::proofs::ProducedStatements::program_from, crate::proofs::MeasuredStatements::program_passes))]
@@ -20,7 +21,7 @@ pub fn limits_are_sharp()
 {}
 
 /// A word is what a text has as a token.
-#[tactic(auto, using(crate::proofs::Spelling::word_is_cut, crate::proofs::Spelling::cut_is_word))]
+#[tactic(auto, using(crate::proofs::WordsLemmas::word_is_cut, crate::proofs::WordsLemmas::cut_is_word))]
 pub fn words_are_tokens()
     ensures word { WordsAreTokens }
     ensures token { TokensAreWords }

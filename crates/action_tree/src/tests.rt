@@ -2,8 +2,8 @@ ghost use Rattle.std.specs.Prelude.{◌≡◌, true, false, map, IfOk};
 ghost use Rattle.action_tree.specs.Trees as tree;
 ghost use Rattle.action_tree.specs.Views.{name_of, guard_of, port_of, term_of, sum_of, stmt_of, move_of, action_of};
 ghost use Rattle.action_tree.specs.Words.{is_word};
-ghost use Rattle.action_tree.specs.Samples as sample;
-ghost use Rattle.action_tree.specs.Samples.{one};
+ghost use Rattle.action_tree.specs.Shipped as sample;
+ghost use Rattle.action_tree.specs.Shipped.{sum_of_term};
 
 use crate::{
     Action, Cmp, DirTerm, Guard, Lit, Move, Part, PortExpr, PortSet, Program, Stmt, Sum, Term, Var,
@@ -15,7 +15,7 @@ use std::test::Fail;
 
 fn word(text: &[u8]) -> Word
     requires { is_word text.now ≡ true }
-    ensures { name_of result ≡ sample.word text.now }
+    ensures { name_of result ≡ sample.example_name text.now }
 {
     Word::new(text, 0)
 }
@@ -51,7 +51,7 @@ fn first_p(alloc: Global) -> Result<PortExpr, AllocError>
 }
 
 fn sum(alloc: Global, term: Term) -> Result<Sum, AllocError>
-    ensures { IfOk result (λ s. sum_of s ≡ one (term_of term)) }
+    ensures { IfOk result (λ s. sum_of s ≡ sum_of_term (term_of term)) }
 {
     Ok(Sum {
         parts: vec![in alloc; Part { minus: false, term }]?,
@@ -102,7 +102,7 @@ fn every_sum(alloc: Global) -> Result<Sum, AllocError>
 }
 
 fn inner_is(alloc: Global, cmp: Cmp) -> Result<Guard, AllocError>
-    ensures { IfOk result (λ g. guard_of g ≡ tree.comparison (one tree.inner) cmp (one tree.inner)) }
+    ensures { IfOk result (λ g. guard_of g ≡ tree.comparison (sum_of_term tree.inner) cmp (sum_of_term tree.inner)) }
 {
     Ok(Guard::Compare(sum(alloc, Term::Inner)?, cmp, sum(alloc, Term::Inner)?))
 }
@@ -156,7 +156,12 @@ fn every_stmt(alloc: Global) -> Result<Vec<Stmt>, AllocError>
 }
 
 fn moving(alloc: Global, name: Word, moved: Move) -> Action
-    ensures { action_of result ≡ record { name = name_of name; guard = tree.atom tree.always; body = tree.no_stmts; moved = move_of moved } }
+    ensures { action_of result ≡ record {
+      name = name_of name;
+      guard = tree.atom tree.always;
+      body = tree.no_stmts;
+      moved = move_of moved;
+    } }
 {
     Action {
         name,

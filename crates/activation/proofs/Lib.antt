@@ -1,2 +1,2 @@
 pub mod Answered
-pub mod Deciding
+pub mod DecisionLemmas

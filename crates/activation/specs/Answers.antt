@@ -66,9 +66,13 @@ module _ {D : Type 0} (verdict : D → Shown → Verdict) where
   -- what the answer says is so: Busy that the claim was refused; the others that the claim was got, with this verdict on what it found; and
   -- Done that the entry of the change stands at its place
   abbrev pub IsSo : Token D → Token D → Turn → Type 0
-  IsSo old new (turn.Done receipt) = (held : Pairs) × (change : Change) × WasClaimed old held (decision.Change change) × (new ≡ committed_by old (mark.Done receipt.place) (commit_in old held change receipt.place))
-  IsSo old new (turn.Idle seen) = (held : Pairs) × WasClaimed old held decision.Idle × (new ≡ marked_by old (mark.Idle seen.place))
-  IsSo old new (turn.Failed why seen) = (held : Pairs) × WasClaimed old held (decision.Failed why) × (new ≡ marked_by old (mark.Failed why seen.place))
+  IsSo old new (turn.Done receipt) =
+      (held : Pairs) × (change : Change) × WasClaimed old held (decision.Change change)
+      × (new ≡ committed_by old (mark.Done receipt.place) (commit_in old held change receipt.place))
+  IsSo old new (turn.Idle seen) =
+      (held : Pairs) × WasClaimed old held decision.Idle × (new ≡ marked_by old (mark.Idle seen.place))
+  IsSo old new (turn.Failed why seen) =
+      (held : Pairs) × WasClaimed old held (decision.Failed why) × (new ≡ marked_by old (mark.Failed why seen.place))
   IsSo old new (turn.Busy by) = WasRefused verdict old new by
 
   -- the answer is this turn's and is so, and the caller is at its next turn with the answer's mark, and nothing else

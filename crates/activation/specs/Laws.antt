@@ -8,4 +8,8 @@ use Rattle.activation.specs.Answers.{HasAnswered}
 
 -- from one seat to another there is at most one answer: so Done, Idle, Failed and Busy exclude each other
 abbrev pub AnswerIsUnique : {D : Type 0} → (D → Shown → Verdict) → Type 0
-AnswerIsUnique {D} verdict = (old new : Token D) (one two : Turn) → HasAnswered verdict old new one → HasAnswered verdict old new two → one ≡ two
+AnswerIsUnique {D} verdict =
+    (old new : Token D) (one two : Turn)
+    → HasAnswered verdict old new one
+    → HasAnswered verdict old new two
+    → one ≡ two

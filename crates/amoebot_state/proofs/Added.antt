@@ -11,7 +11,7 @@ use Rattle.amoebot_state.specs.declared.bot.Bot.{Bot}
 use Rattle.amoebot_state.specs.Ports.{is_own}
 use Rattle.amoebot_state.specs.Configs.{Config, config_of, with_bot, IsBot, IsValid, IsGrid, IsWorld, bot_at, occupant, covers, is_close, has_values}
 use Rattle.amoebot_state.specs.Storage.{put_at}
-use Rattle.amoebot_state.specs.Refusals.{bot_fault, IsPlain, IsFaultless}
+use Rattle.amoebot_state.specs.Refusals.{bot_fault, IsBotInRange, IsFaultless}
 use Rattle.tri_lattice.proofs.Nodes.{cases_node}
 use Rattle.amoebot_state.proofs.Owns.{own_cases, own_head, own_tail, not_own}
 use Rattle.amoebot_state.proofs.Options.{none_if}
@@ -32,7 +32,7 @@ pub record MayCome (c : Config) (b : Bot) : Type 0 where
   pub head_free : occupant c b.head ≡ None
   pub tail_free : occupant c b.tail ≡ None
 
-pub no_fault : (c : Config) (b : Bot) → IsPlain b → bot_fault c b ≡ None → MayCome c b
+pub no_fault : (c : Config) (b : Bot) → IsBotInRange b → bot_fault c b ≡ None → MayCome c b
 no_fault c b plain h =
     let one = passes (is_in c.area b.head && is_in c.area b.tail) _ _ h in
     let ins = and_parts _ _ one.0 in

@@ -23,7 +23,7 @@ use Rattle.amoebot_state.proofs.Members.{Has, here, later, Has-append_left, Has-
 use Rattle.amoebot_state.proofs.Options.{none_if, is_some-option_map}
 use Rattle.amoebot_state.proofs.Occupants.{outside_empty}
 use Rattle.amoebot_state.proofs.Patched.{patch_lists_what_differs}
-use Rattle.amoebot_state.proofs.Rising.{Rising, Rising-append, Rising-map, Rising-filter_map, Rising-weaker, Rising-range, Rising-from_increasing, Rising-same, range_below}
+use Rattle.amoebot_state.proofs.RisingLists.{Rising, Rising-append, Rising-map, Rising-filter_map, Rising-weaker, Rising-range, Rising-from_increasing, Rising-same, range_below}
 use Rattle.amoebot_state.proofs.Values.{value_same, value_same-true}
 
 Has-range_with_len : (a n k : ℕ) → a ≤ k → k < a + n → Has k (range_with_len a n)

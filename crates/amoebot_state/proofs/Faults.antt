@@ -12,7 +12,7 @@ use Rattle.tri_lattice.specs.Extent.{Extent, IsArea, is_in}
 use Rattle.amoebot_state.specs.declared.bot.Bot.{Bot}
 use Rattle.amoebot_state.specs.Ports.{is_own}
 use Rattle.amoebot_state.specs.Configs.{Config, config_of, IsValid, blank, bot_at, occupant, covers, is_close, has_values}
-use Rattle.amoebot_state.specs.Refusals.{bot_fault, IsPlain, IsFaultless}
+use Rattle.amoebot_state.specs.Refusals.{bot_fault, IsBotInRange, IsFaultless}
 use Rattle.amoebot_state.specs.Laws.{ValidIsFaultless, FaultlessIsValid}
 use Rattle.amoebot_state.proofs.Added.{MayCome, no_fault, valid_with, config_push}
 use Rattle.amoebot_state.proofs.Occupants.{covers_below, occupant_none}
@@ -70,20 +70,20 @@ none_valid a maxes area eight bots = record {
 }
 
 -- one amoebot, and two, of which none has a fault
-pub valid_one : (a : Extent) (maxes : List ℕ) → IsArea a → length maxes ≡ 8 → (b : Bot) → IsPlain b → bot_fault (config_of a maxes []) b ≡ None → IsValid (config_of a maxes (b ∷ []))
+pub valid_one : (a : Extent) (maxes : List ℕ) → IsArea a → length maxes ≡ 8 → (b : Bot) → IsBotInRange b → bot_fault (config_of a maxes []) b ≡ None → IsValid (config_of a maxes (b ∷ []))
 valid_one a maxes area eight b plain fine = valid_with (config_of a maxes []) b (none_valid a maxes area eight []) (no_fault (config_of a maxes []) b plain fine)
 
-pub valid_two : (a : Extent) (maxes : List ℕ) → IsArea a → length maxes ≡ 8 → (b d : Bot) → IsPlain b → IsPlain d → bot_fault (config_of a maxes []) b ≡ None → bot_fault (config_of a maxes (b ∷ [])) d ≡ None → IsValid (config_of a maxes (b ∷ d ∷ []))
+pub valid_two : (a : Extent) (maxes : List ℕ) → IsArea a → length maxes ≡ 8 → (b d : Bot) → IsBotInRange b → IsBotInRange d → bot_fault (config_of a maxes []) b ≡ None → bot_fault (config_of a maxes (b ∷ [])) d ≡ None → IsValid (config_of a maxes (b ∷ d ∷ []))
 valid_two a maxes area eight b d plain_b plain_d fine apart = valid_with (config_of a maxes (b ∷ [])) d (valid_one a maxes area eight b plain_b fine) (no_fault (config_of a maxes (b ∷ [])) d plain_d apart)
 
 -- the amoebots before a place are those of a valid configuration
-before_valid : (a : Extent) (maxes : List ℕ) (bots : List Bot) → IsArea a → length maxes ≡ 8 → All IsPlain bots → (n : ℕ) → n ≤ length bots → IsFaultless a maxes bots n → IsValid (config_of a maxes (take n bots))
+before_valid : (a : Extent) (maxes : List ℕ) (bots : List Bot) → IsArea a → length maxes ≡ 8 → All IsBotInRange bots → (n : ℕ) → n ≤ length bots → IsFaultless a maxes bots n → IsValid (config_of a maxes (take n bots))
 before_valid a maxes bots area eight plain zero le faultless = none_valid a maxes area eight bots
 before_valid a maxes bots area eight plain (suc n) le faultless =
     let lt : n < length bots = omega arith in
     let b = get_or bots n blank in
     let c = config_of a maxes (take n bots) in
-    let may = no_fault c b (All-get_or IsPlain bots n blank lt plain) (faultless n b (omega arith) (slice_get-get_or bots n blank lt)) in
+    let may = no_fault c b (All-get_or IsBotInRange bots n blank lt plain) (faultless n b (omega arith) (slice_get-get_or bots n blank lt)) in
     let valid = before_valid a maxes bots area eight plain n (omega arith) (λ j d below at. faultless j d (omega arith) at) in
     subst IsValid (sym (ap (config_of a maxes) (take-suc bots n blank lt) ∙ config_push a maxes (take n bots) b)) (valid_with c b valid may)
 

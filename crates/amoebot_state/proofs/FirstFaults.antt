@@ -9,7 +9,7 @@ use Rattle.amoebot_state.specs.declared.refusal.WorldRefusal.{WorldRefusal}
 use Rattle.amoebot_state.specs.Configs.{config_of}
 use Rattle.amoebot_state.specs.Refusals.{bot_fault, IsFaultless, IsFirstFault}
 use Rattle.amoebot_state.specs.Laws.{FirstFaultIsUnique, FaultlessHasNoFault}
-use Rattle.amoebot_state.specs.Samples.{eight_by_eight, zeros, on, SmallFaults}
+use Rattle.amoebot_state.specs.Examples.{eight_by_eight, zeros, on, SmallFaults}
 
 -- before a first fault there is none
 not_before : (a : Extent) (maxes : List ℕ) (bots : List Bot) (one two : WorldRefusal) (x : IsFirstFault a maxes bots one) (y : IsFirstFault a maxes bots two) → x.place < y.place → ⊥

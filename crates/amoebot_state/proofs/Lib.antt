@@ -16,12 +16,13 @@ pub mod Once
 pub mod Options
 pub mod Owns
 pub mod Patched
-pub mod Rising
+pub mod RisingLists
 pub mod Runs
 mod Counterexamples
-pub mod Samples
-pub mod StepSamples
+pub mod ExampleLemmas
+pub mod StepExamples
 pub mod Shifts
 pub mod Shows
 pub mod Values
 pub mod Zones
+pub mod SerialTurns

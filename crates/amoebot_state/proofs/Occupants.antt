@@ -11,7 +11,7 @@ use Rattle.tri_lattice.specs.declared.node.Node.{Node}
 use Rattle.tri_lattice.specs.Extent.{Extent, IsArea, index_of, is_in}
 use Rattle.amoebot_state.specs.declared.bot.Bot.{Bot}
 use Rattle.amoebot_state.specs.Configs.{Config, IsValid, bot_at, occupant, covers}
-use Rattle.amoebot_state.specs.Refusals.{IsPlain}
+use Rattle.amoebot_state.specs.Refusals.{IsBotInRange}
 use Rattle.tri_lattice.proofs.Boxes.{near_in}
 use Rattle.amoebot_state.proofs.Options.{there_is, not_none}
 use Rattle.amoebot_state.proofs.Owns.{own_cases, covered}
@@ -119,8 +119,8 @@ outside_empty c valid v e =
     ] refl
 
 -- what an amoebot in an area has to be, and what a valid configuration says of an amoebot of it
-pub plain_in : (a : Extent) → IsArea a → (b : Bot) → IsTrue (is_in a b.head) → IsTrue (is_in a b.tail) → b.rot < 6 → length b.mem ≡ 8 → IsPlain b
+pub plain_in : (a : Extent) → IsArea a → (b : Bot) → IsTrue (is_in a b.head) → IsTrue (is_in a b.tail) → b.rot < 6 → length b.mem ≡ 8 → IsBotInRange b
 plain_in a area b head tail rot eight = record { head = near_in a b.head area head; tail = near_in a b.tail area tail; rot = rot; eight = eight }
 
-pub plain_bot : (c : Config) → IsValid c → (i : ℕ) (b : Bot) → bot_at c i ≡ Some b → IsPlain b
+pub plain_bot : (c : Config) → IsValid c → (i : ℕ) (b : Bot) → bot_at c i ≡ Some b → IsBotInRange b
 plain_bot c valid i b at = let fits = valid.each i b at in plain_in c.area valid.area b fits.head fits.tail fits.rot fits.eight

@@ -16,7 +16,7 @@ use Rattle.amoebot_state.specs.declared.cell.Cell.{Cell}
 use Rattle.amoebot_state.specs.declared.cell.Cell.TheVariants as cell
 use Rattle.amoebot_state.specs.Ports.{is_beside}
 use Rattle.amoebot_state.specs.Configs.{Config, IsValid, bot_at, bot_of, blank, occupant}
-use Rattle.amoebot_state.specs.Refusals.{IsPlain}
+use Rattle.amoebot_state.specs.Refusals.{IsBotInRange}
 use Rattle.amoebot_state.specs.Zones.{Shown, IsShown, IsFound, shown, shown_cell, zone, zone_nodes, others, shown_alone}
 use Rattle.amoebot_state.specs.Pairs.{spot_in}
 use Rattle.amoebot_state.proofs.Members.{Has, here, later, has_cases, not_in_none, length-filter_map-le}
@@ -64,7 +64,7 @@ found_by c i own s valid at is =
 pub shown_valid : (s : Shown) → IsShown s → IsValid (shown_alone s)
 shown_valid s is = let P : Shown → Type 0 = λ t. IsValid (shown_alone t) in subst P is.3 (alone_valid is.0 s.bot is.1)
 
-pub shown_plain : (s : Shown) (b : Bot) → IsFound s b → IsPlain b
+pub shown_plain : (s : Shown) (b : Bot) → IsFound s b → IsBotInRange b
 shown_plain s b is = plain_bot (shown_alone s) (shown_valid s is.shown) s.bot b is.owner
 
 -- the code's room is enough
@@ -132,6 +132,6 @@ pub is_shown : (c : Config) (i : ℕ) (a : Extent) (maxes : List ℕ) (cells : L
 is_shown c i a maxes cells e m x = λ t. record { area = e t; maxes = m t; bot = i; cells = x t }
 
 -- an amoebot of what is shown alone
-pub plain_if : (s : Shown) → IsShown s → (r : Option (Bor Bot)) (i : ℕ) → option_copied r ≡ bot_at (shown_alone s) i → IfSome r (λ b. IsPlain b.now)
+pub plain_if : (s : Shown) → IsShown s → (r : Option (Bor Bot)) (i : ℕ) → option_copied r ≡ bot_at (shown_alone s) i → IfSome r (λ b. IsBotInRange b.now)
 plain_if s is None i e = tt
 plain_if s is (Some b) i e = plain_bot (shown_alone s) (shown_valid s is) i b.now (sym e)

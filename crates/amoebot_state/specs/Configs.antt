@@ -29,7 +29,9 @@ bot_at c i = slice_index_or c.bots i None
 
 -- an amoebot that stands nowhere in particular
 abbrev pub blank : Bot
-blank = let origin : Node = record { x = pos 0; y = pos 0 } in record { head = origin; tail = origin; rot = 0; chir = chir.Plus; mem = 0 ∷ 0 ∷ 0 ∷ 0 ∷ 0 ∷ 0 ∷ 0 ∷ 0 ∷ [] }
+blank =
+    let origin : Node = record { x = pos 0; y = pos 0 } in
+    record { head = origin; tail = origin; rot = 0; chir = chir.Plus; mem = 0 ∷ 0 ∷ 0 ∷ 0 ∷ 0 ∷ 0 ∷ 0 ∷ 0 ∷ [] }
 
 -- the amoebot with an id that is there; else a blank one, so that the word is total
 abbrev pub bot_of : Config → ℕ → Bot

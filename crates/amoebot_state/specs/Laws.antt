@@ -20,13 +20,19 @@ use Rattle.amoebot_state.specs.Configs.{Config, IsValid, bot_at, occupant, value
 use Rattle.amoebot_state.specs.Zones.{Shown, IsShown, distinct, zone_nodes, zone_at, zone, shown, shown_alone}
 use Rattle.amoebot_state.specs.Known.{IsFront, known_zone, next_cell}
 use Rattle.amoebot_state.specs.Patches.{IsPatched, IsOrdered, same_value, diff}
-use Rattle.amoebot_state.specs.Refusals.{IsPlain, IsFaultless, IsFirstFault}
+use Rattle.amoebot_state.specs.Refusals.{IsBotInRange, IsFaultless, IsFirstFault}
 use Rattle.amoebot_state.specs.Occupied.{occupied}
 use Rattle.amoebot_state.specs.Steps.{Step, Run}
+use Rattle.amoebot_state.specs.SerialTurns.{SerialTurn}
+use Rattle.amoebot_state.specs.declared.verdict.Turned.{Turned}
 
 -- local and global directions are both 0 to 5, and the one is the inverse of the other, with either chirality
 abbrev pub GlobalAndLocalAreInverse : Type 0
-GlobalAndLocalAreInverse = (b : Bot) (d : ℕ) → b.rot < 6 → d < 6 → (global b d < 6) × (local b d < 6) × (local b (global b d) ≡ d) × (global b (local b d) ≡ d)
+GlobalAndLocalAreInverse =
+    (b : Bot) (d : ℕ)
+    → b.rot < 6
+    → d < 6
+    → (global b d < 6) × (local b d < 6) × (local b (global b d) ≡ d) × (global b (local b d) ≡ d)
 
 -- a contracted amoebot has six ports
 abbrev pub ContractedHasSixPorts : Type 0
@@ -42,7 +48,8 @@ SixPortsLeadToSixNodes = (b : Bot) → b.rot < 6 → b.head ≡ b.tail → lengt
 
 -- the ten ports of an expanded amoebot lead to eight
 abbrev pub TenPortsLeadToEightNodes : Type 0
-TenPortsLeadToEightNodes = (b : Bot) → b.rot < 6 → Adjacent b.head b.tail → length (distinct node_eq (map (behind b) (ports b))) ≡ 8
+TenPortsLeadToEightNodes =
+    (b : Bot) → b.rot < 6 → Adjacent b.head b.tail → length (distinct node_eq (map (behind b) (ports b))) ≡ 8
 
 -- the node behind a pair of an end and a direction, as a port is one, is beside the amoebot
 abbrev pub PortLeadsBeside : Type 0
@@ -50,7 +57,10 @@ PortLeadsBeside = (b : Bot) (p : Port) → IsTrue (is_beside b (behind b p))
 
 -- the own amoebot and the occupants of the zone's nodes determine the zone
 abbrev pub ZoneIsDetermined : Type 0
-ZoneIsDetermined = (a : Extent) (i : ℕ) (b : Bot) (on by : Node → Option ℕ) → ((v : Node) → Contains (zone_nodes a b) v → on v ≡ by v) → zone_at a on i (Some b) ≡ zone_at a by i (Some b)
+ZoneIsDetermined =
+    (a : Extent) (i : ℕ) (b : Bot) (on by : Node → Option ℕ)
+    → ((v : Node) → Contains (zone_nodes a b) v → on v ≡ by v)
+    → zone_at a on i (Some b) ≡ zone_at a by i (Some b)
 
 -- what an amoebot is shown lists the cells of its zone, in zone order
 abbrev pub ShownListsZone : Type 0
@@ -58,36 +68,68 @@ ShownListsZone = (c : Config) (i : ℕ) → map cell_of (shown c i).cells ≡ zo
 
 -- and each with what it holds
 abbrev pub ShownHoldsValues : Type 0
-ShownHoldsValues = (c : Config) (i : ℕ) → All (λ (p : CellName × Cell). value c (cell_of p) ≡ Some (cell_value p)) (shown c i).cells
+ShownHoldsValues =
+    (c : Config) (i : ℕ) → All (λ (p : CellName × Cell). value c (cell_of p) ≡ Some (cell_value p)) (shown c i).cells
 
 -- what is known of a zone, when a front of it was read, is a front of it
 abbrev pub KnownIsFront : Type 0
-KnownIsFront = (c : Config) (i : ℕ) (cells : Pairs) → IsSome (bot_at c i) → IsFront cells (shown c i).cells → IsFront (known_zone c.area i cells) (zone c i)
+KnownIsFront =
+    (c : Config) (i : ℕ) (cells : Pairs)
+    → IsSome (bot_at c i)
+    → IsFront cells (shown c i).cells
+    → IsFront (known_zone c.area i cells) (zone c i)
 
 -- the next cell is then the zone's next one; there is none where there is none in the zone
 abbrev pub NextIsInZone : Type 0
-NextIsInZone = (c : Config) (i : ℕ) (cells : Pairs) → IsSome (bot_at c i) → IsFront cells (shown c i).cells → next_cell c.area i cells ≡ slice_get (zone c i) (length cells)
+NextIsInZone =
+    (c : Config) (i : ℕ) (cells : Pairs)
+    → IsSome (bot_at c i)
+    → IsFront cells (shown c i).cells
+    → next_cell c.area i cells ≡ slice_get (zone c i) (length cells)
 
 -- the next cell has a value, and with it the cells that were read are a front again
 abbrev pub FrontGrows : Type 0
-FrontGrows = (c : Config) (i : ℕ) (cells : Pairs) (n : CellName) → IsSome (bot_at c i) → IsFront cells (shown c i).cells → next_cell c.area i cells ≡ Some n → (x : Cell) × (value c n ≡ Some x) × IsFront (cells ++ (n, x) ∷ []) (shown c i).cells
+FrontGrows =
+    (c : Config) (i : ℕ) (cells : Pairs) (n : CellName)
+    → IsSome (bot_at c i)
+    → IsFront cells (shown c i).cells
+    → next_cell c.area i cells ≡ Some n
+    → (x : Cell) × (value c n ≡ Some x) × IsFront (cells ++ (n, x) ∷ []) (shown c i).cells
 
 -- it is none of those that were read
 abbrev pub NextIsNew : Type 0
-NextIsNew = (c : Config) (i : ℕ) (cells : Pairs) (n : CellName) → IsSome (bot_at c i) → IsFront cells (shown c i).cells → next_cell c.area i cells ≡ Some n → All (λ (p : CellName × Cell). cell_of p ≢ n) cells
+NextIsNew =
+    (c : Config) (i : ℕ) (cells : Pairs) (n : CellName)
+    → IsSome (bot_at c i)
+    → IsFront cells (shown c i).cells
+    → next_cell c.area i cells ≡ Some n
+    → All (λ (p : CellName × Cell). cell_of p ≢ n) cells
 
 -- what is known grows at its end alone: further cells that are read leave the cells before as they were
 abbrev pub KnownGrowsAtItsEnd : Type 0
-KnownGrowsAtItsEnd = (c : Config) (i : ℕ) (cells more : Pairs) → IsSome (bot_at c i) → IsFront (cells ++ more) (shown c i).cells → IsFront (known_zone c.area i cells) (known_zone c.area i (cells ++ more))
+KnownGrowsAtItsEnd =
+    (c : Config) (i : ℕ) (cells more : Pairs)
+    → IsSome (bot_at c i)
+    → IsFront (cells ++ more) (shown c i).cells
+    → IsFront (known_zone c.area i cells) (known_zone c.area i (cells ++ more))
 
 -- there is no next cell exactly where what was read is all that the amoebot is shown
 abbrev pub WholeZoneIsShown : Type 0
-WholeZoneIsShown = (c : Config) (i : ℕ) (cells : Pairs) → IsSome (bot_at c i) → IsFront cells (shown c i).cells → (next_cell c.area i cells ≡ None) ↔ (cells ≡ (shown c i).cells)
+WholeZoneIsShown =
+    (c : Config) (i : ℕ) (cells : Pairs)
+    → IsSome (bot_at c i)
+    → IsFront cells (shown c i).cells
+    → (next_cell c.area i cells ≡ None) ↔ (cells ≡ (shown c i).cells)
 
 -- what was read of one configuration is a front of the zone in each other one with the same area in which the cells that were
 -- read hold the same
 abbrev pub FrontStands : Type 0
-FrontStands = (c d : Config) (i : ℕ) (cells : Pairs) → d.area ≡ c.area → IsFront cells (shown c i).cells → All (λ (p : CellName × Cell). value d (cell_of p) ≡ Some (cell_value p)) cells → IsFront cells (shown d i).cells
+FrontStands =
+    (c d : Config) (i : ℕ) (cells : Pairs)
+    → d.area ≡ c.area
+    → IsFront cells (shown c i).cells
+    → All (λ (p : CellName × Cell). value d (cell_of p) ≡ Some (cell_value p)) cells
+    → IsFront cells (shown d i).cells
 
 -- no cell stands twice in a zone
 abbrev pub ZoneListsEachCellOnce : Type 0
@@ -113,11 +155,22 @@ ZoneHasAtMostNineBodies = (c : Config) (i : ℕ) → IsValid c → count_by is_b
 
 -- the node behind a port is in the zone, if it lies in the area
 abbrev pub NodeBehindPortIsInZone : Type 0
-NodeBehindPortIsInZone = (c : Config) (i : ℕ) (b : Bot) (p : Port) → bot_at c i ≡ Some b → IsTrue (is_port b p) → IsTrue (is_in c.area (behind b p)) → Contains (zone c i) (name.Spot (behind b p))
+NodeBehindPortIsInZone =
+    (c : Config) (i : ℕ) (b : Bot) (p : Port)
+    → bot_at c i ≡ Some b
+    → IsTrue (is_port b p)
+    → IsTrue (is_in c.area (behind b p))
+    → Contains (zone c i) (name.Spot (behind b p))
 
 -- and so is the body of its occupant; what is occupied lies in the area
 abbrev pub OccupantBehindPortIsInZone : Type 0
-OccupantBehindPortIsInZone = (c : Config) (i j : ℕ) (b : Bot) (p : Port) → IsValid c → bot_at c i ≡ Some b → IsTrue (is_port b p) → occupant c (behind b p) ≡ Some j → Contains (zone c i) (name.Body j)
+OccupantBehindPortIsInZone =
+    (c : Config) (i j : ℕ) (b : Bot) (p : Port)
+    → IsValid c
+    → bot_at c i ≡ Some b
+    → IsTrue (is_port b p)
+    → occupant c (behind b p) ≡ Some j
+    → Contains (zone c i) (name.Body j)
 
 -- the configuration that has what is shown and no other amoebot shows just that
 abbrev pub ShownAloneShowsTheSame : Type 0
@@ -129,15 +182,28 @@ PatchedIsUnique = (old one two : Config) (ps : Pairs) → IsPatched old ps one �
 
 -- a patch lists each cell whose value differs
 abbrev pub PatchListsWhatDiffers : Type 0
-PatchListsWhatDiffers = (old new : Config) (ps : Pairs) → IsPatched old ps new → (n : CellName) → value new n ≢ value old n → Contains (map cell_of ps) n
+PatchListsWhatDiffers =
+    (old new : Config) (ps : Pairs)
+    → IsPatched old ps new
+    → (n : CellName)
+    → value new n ≢ value old n
+    → Contains (map cell_of ps) n
 
 -- a step has at most one result
 abbrev pub StepHasOneResult : Type 0
-StepHasOneResult = (f : Shown → Verdict) (old : Config) (e : Entry) (one two : Config) → Step f old e one → Step f old e two → one ≡ two
+StepHasOneResult =
+    (f : Shown → Verdict) (old : Config) (e : Entry) (one two : Config)
+    → Step f old e one
+    → Step f old e two
+    → one ≡ two
 
 -- so a run has at most one last configuration
 abbrev pub RunHasOneLast : Type 0
-RunHasOneLast = (f : Shown → Verdict) (old : Config) (es : List Entry) (one two : Config) → Run f old es one → Run f old es two → one ≡ two
+RunHasOneLast =
+    (f : Shown → Verdict) (old : Config) (es : List Entry) (one two : Config)
+    → Run f old es one
+    → Run f old es two
+    → one ≡ two
 
 -- the test of what cells hold answers whether it is equal
 abbrev pub SameValueIsEquality : Type 0
@@ -146,27 +212,57 @@ SameValueIsEquality = (x y : Option Cell) → IsTrue (same_value x y) ↔ (x ≡
 -- the difference of two valid configurations that differ in their amoebots at most and have the same ids leads from the old
 -- one to the new one, and each cell that it lists differs
 abbrev pub DiffLeads : Type 0
-DiffLeads = (old new : Config) → IsValid old → IsValid new → new ≡ record old { bots = new.bots } → length new.bots ≡ length old.bots → ((i : ℕ) → is_some (bot_at new i) ≡ is_some (bot_at old i)) → IsPatched old (diff old new) new × All (λ (p : CellName × Cell). value old (cell_of p) ≢ Some (cell_value p)) (diff old new)
+DiffLeads =
+    (old new : Config)
+    → IsValid old
+    → IsValid new
+    → new ≡ record old { bots = new.bots }
+    → length new.bots ≡ length old.bots
+    → ((i : ℕ) → is_some (bot_at new i) ≡ is_some (bot_at old i))
+    → IsPatched old (diff old new) new
+    × All (λ (p : CellName × Cell). value old (cell_of p) ≢ Some (cell_value p)) (diff old new)
 
 -- an ordered patch that leads from one valid configuration to another, and each of whose pairs differs, is their difference
 abbrev pub OrderedPatchIsDiff : Type 0
-OrderedPatchIsDiff = (old new : Config) (ps : Pairs) → IsValid old → IsPatched old ps new → IsOrdered ps → All (λ (p : CellName × Cell). value old (cell_of p) ≢ Some (cell_value p)) ps → ps ≡ diff old new
+OrderedPatchIsDiff =
+    (old new : Config) (ps : Pairs)
+    → IsValid old
+    → IsPatched old ps new
+    → IsOrdered ps
+    → All (λ (p : CellName × Cell). value old (cell_of p) ≢ Some (cell_value p)) ps
+    → ps ≡ diff old new
 
 -- no amoebot of a valid configuration is refused
 abbrev pub ValidIsFaultless : Type 0
-ValidIsFaultless = (a : Extent) (maxes : List ℕ) (bots : List Bot) → IsValid (config_of a maxes bots) → IsFaultless a maxes bots (length bots)
+ValidIsFaultless =
+    (a : Extent) (maxes : List ℕ) (bots : List Bot)
+    → IsValid (config_of a maxes bots)
+    → IsFaultless a maxes bots (length bots)
 
 -- amoebots of which none is refused make a valid configuration
 abbrev pub FaultlessIsValid : Type 0
-FaultlessIsValid = (a : Extent) (maxes : List ℕ) (bots : List Bot) → IsArea a → length maxes ≡ 8 → All IsPlain bots → IsFaultless a maxes bots (length bots) → IsValid (config_of a maxes bots)
+FaultlessIsValid =
+    (a : Extent) (maxes : List ℕ) (bots : List Bot)
+    → IsArea a
+    → length maxes ≡ 8
+    → All IsBotInRange bots
+    → IsFaultless a maxes bots (length bots)
+    → IsValid (config_of a maxes bots)
 
 -- at most one fault is the first one of a list of amoebots
 abbrev pub FirstFaultIsUnique : Type 0
-FirstFaultIsUnique = (a : Extent) (maxes : List ℕ) (bots : List Bot) (one two : WorldRefusal) → IsFirstFault a maxes bots one → IsFirstFault a maxes bots two → one ≡ two
+FirstFaultIsUnique =
+    (a : Extent) (maxes : List ℕ) (bots : List Bot) (one two : WorldRefusal)
+    → IsFirstFault a maxes bots one
+    → IsFirstFault a maxes bots two
+    → one ≡ two
 
 -- and amoebots of which none is refused have none
 abbrev pub FaultlessHasNoFault : Type 0
-FaultlessHasNoFault = (a : Extent) (maxes : List ℕ) (bots : List Bot) (e : WorldRefusal) → IsFaultless a maxes bots (length bots) → ¬ IsFirstFault a maxes bots e
+FaultlessHasNoFault =
+    (a : Extent) (maxes : List ℕ) (bots : List Bot) (e : WorldRefusal)
+    → IsFaultless a maxes bots (length bots)
+    → ¬ IsFirstFault a maxes bots e
 
 -- the configuration that has what is shown and no other amoebot is valid
 abbrev pub ShownAloneIsValid : Type 0
@@ -174,8 +270,24 @@ ShownAloneIsValid = (s : Shown) → IsShown s → IsValid (shown_alone s)
 
 -- each cell of a zone holds in the configuration that has what is shown and no other amoebot what it holds in the one that shows it
 abbrev pub ShownAloneHoldsTheSame : Type 0
-ShownAloneHoldsTheSame = (c : Config) (i : ℕ) (n : CellName) → IsValid c → IsSome (bot_at c i) → Contains (zone c i) n → value (shown_alone (shown c i)) n ≡ value c n
+ShownAloneHoldsTheSame =
+    (c : Config) (i : ℕ) (n : CellName)
+    → IsValid c
+    → IsSome (bot_at c i)
+    → Contains (zone c i) n
+    → value (shown_alone (shown c i)) n ≡ value c n
 
 -- in a valid configuration a node is occupied exactly where it is the head or the tail of an amoebot of it
 abbrev pub OccupiedIsOccupant : Type 0
-OccupiedIsOccupant = (c : Config) (v : Node) → IsValid c → IsTrue (occupied c v) ↔ ((i : ℕ) × (b : Bot) × (bot_at c i ≡ Some b) × ((b.head ≡ v) ⊎ (b.tail ≡ v)))
+OccupiedIsOccupant =
+    (c : Config) (v : Node)
+    → IsValid c
+    → IsTrue (occupied c v) ↔ ((i : ℕ) × (b : Bot) × (bot_at c i ≡ Some b) × ((b.head ≡ v) ⊎ (b.tail ≡ v)))
+
+-- a turn has at most one answer, and leaves at most one configuration
+abbrev pub SerialTurnIsUnique : Type 0
+SerialTurnIsUnique =
+    (f : Shown → Verdict) (caller turn bot : ℕ) (old : Config) (one two : Turned) (new other : Config)
+    → SerialTurn f caller turn bot old one new
+    → SerialTurn f caller turn bot old two other
+    → (one ≡ two) × (new ≡ other)

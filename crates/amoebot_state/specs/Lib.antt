@@ -10,4 +10,7 @@ pub mod Steps
 pub mod Storage
 pub mod Occupied
 pub mod Laws
-pub mod Samples
+pub mod Examples
+pub mod SerialTurns
+pub use Rattle.tri_lattice.specs.Extent
+pub use Rattle.tri_lattice.specs.Lattice

@@ -51,7 +51,9 @@ chir_eq chir.Minus chir.Minus = true
 
 -- of amoebots,
 abbrev pub bot_eq : Bot → Bot → Bool
-bot_eq a b = node_eq a.head b.head && node_eq a.tail b.tail && nat_eq a.rot b.rot && chir_eq a.chir b.chir && pointwise nat_eq a.mem b.mem
+bot_eq a b =
+    node_eq a.head b.head && node_eq a.tail b.tail && nat_eq a.rot b.rot && chir_eq a.chir b.chir
+    && pointwise nat_eq a.mem b.mem
 
 -- of the occupants of nodes,
 abbrev pub id_eq : Option ℕ → Option ℕ → Bool
@@ -80,7 +82,9 @@ changed old new n = if same_value (value old n) (value new n) then None else sho
 
 -- all cells: the nodes of the area in the order of their numbers, then the bodies in rising id
 abbrev pub all_cells : Config → List CellName
-all_cells c = map (λ k. name.Spot (node_at c.area k)) (range_with_len 0 (c.area.w * c.area.h)) ++ map name.Body (range_with_len 0 (length c.bots))
+all_cells c =
+    map (λ k. name.Spot (node_at c.area k)) (range_with_len 0 (c.area.w * c.area.h))
+    ++ map name.Body (range_with_len 0 (length c.bots))
 
 -- the cells whose value differs, with their new values: first the nodes, then the bodies in rising id
 abbrev pub diff : Config → Config → Pairs

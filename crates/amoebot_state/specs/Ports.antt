@@ -68,7 +68,9 @@ port e i = record { end = e; dir = i }
 
 -- all pairs of an end and a local direction, in port order: head before tail, then rising direction (this project's profile)
 abbrev pub all_ports : List Port
-all_ports = port Head 0 ∷ port Head 1 ∷ port Head 2 ∷ port Head 3 ∷ port Head 4 ∷ port Head 5 ∷ port Tail 0 ∷ port Tail 1 ∷ port Tail 2 ∷ port Tail 3 ∷ port Tail 4 ∷ port Tail 5 ∷ []
+all_ports =
+    port Head 0 ∷ port Head 1 ∷ port Head 2 ∷ port Head 3 ∷ port Head 4 ∷ port Head 5 ∷ port Tail 0 ∷ port Tail 1
+    ∷ port Tail 2 ∷ port Tail 3 ∷ port Tail 4 ∷ port Tail 5 ∷ []
 
 -- the ports of an amoebot, in port order
 abbrev pub ports : Bot → List Port

@@ -10,7 +10,7 @@ use Rattle.amoebot_state.specs.declared.refusal.WorldRefusal.TheVariants.{OutOfB
 use Rattle.amoebot_state.specs.Configs.{Config, occupant, is_close, has_values, config_of}
 
 -- an amoebot from whose nodes each step stays in range, and whose rotation is 0 to 5
-pub record IsPlain (b : Bot) : Type 0 where
+pub record IsBotInRange (b : Bot) : Type 0 where
   pub head : IsNear b.head
   pub tail : IsNear b.tail
   pub rot : b.rot < 6
@@ -28,7 +28,8 @@ bot_fault c b =
 
 -- no amoebot before place n breaks a condition, each judged beside those before it
 abbrev pub IsFaultless : Extent → List ℕ → List Bot → ℕ → Type 0
-IsFaultless a maxes bots n = (j : ℕ) (b : Bot) → j < n → slice_get bots j ≡ Some b → bot_fault (config_of a maxes (take j bots)) b ≡ None
+IsFaultless a maxes bots n =
+    (j : ℕ) (b : Bot) → j < n → slice_get bots j ≡ Some b → bot_fault (config_of a maxes (take j bots)) b ≡ None
 
 -- the first amoebot that breaks a condition, with the first that it breaks
 pub record IsFirstFault (a : Extent) (maxes : List ℕ) (bots : List Bot) (e : WorldRefusal) : Type 0 where

@@ -15,23 +15,29 @@ use Rattle.amoebot_state.specs.Zones.{Shown, shown, zone}
 use Rattle.amoebot_state.specs.Patches.{IsPatched, HasPatched, IsOrdered}
 
 -- f decides this change on what a valid configuration shows to an amoebot of its own
-pub record Changes (f : Shown → Verdict) (c : Config) (i : ℕ) (change : Change) : Type 0 where
+pub record DecidesChange (f : Shown → Verdict) (c : Config) (i : ℕ) (change : Change) : Type 0 where
   pub valid : IsValid c
   pub there : IsSome (bot_at c i)
   pub decided : f (shown c i) ≡ verdict.Change change
 
 -- a patch touches cells of the zone alone
 abbrev pub TouchesZone : (Shown → Verdict) → Type 0
-TouchesZone f = (c : Config) (i : ℕ) (change : Change) → Changes f c i change → All (λ (p : CellName × Cell). Contains (zone c i) (cell_of p)) change.patch
+TouchesZone f =
+    (c : Config) (i : ℕ) (change : Change)
+    → DecidesChange f c i change
+    → All (λ (p : CellName × Cell). Contains (zone c i) (cell_of p)) change.patch
 
 -- each valid configuration that shows what was found has one that the patch leads to
-abbrev pub HasNext : (Shown → Verdict) → Type 0
-HasNext f = (c : Config) (i : ℕ) (change : Change) → Changes f c i change → HasPatched c change.patch
+abbrev pub HasPatchedWorld : (Shown → Verdict) → Type 0
+HasPatchedWorld f = (c : Config) (i : ℕ) (change : Change) → DecidesChange f c i change → HasPatched c change.patch
 
 -- a patch is in its order, and holds exactly the cells whose value differs: each that it lists differs, and that each other
 -- cell stays is a part of `IsPatched`
-abbrev pub IsExact : (Shown → Verdict) → Type 0
-IsExact f = (c : Config) (i : ℕ) (change : Change) → Changes f c i change → IsOrdered change.patch × All (λ (p : CellName × Cell). value c (cell_of p) ≢ Some (cell_value p)) change.patch
+abbrev pub ListsDifferences : (Shown → Verdict) → Type 0
+ListsDifferences f =
+    (c : Config) (i : ℕ) (change : Change)
+    → DecidesChange f c i change
+    → IsOrdered change.patch × All (λ (p : CellName × Cell). value c (cell_of p) ≢ Some (cell_value p)) change.patch
 
 -- the change that an entry tells
 abbrev pub change_of : Entry → Change
@@ -39,7 +45,15 @@ change_of e = record { action = e.action; moved = e.moved; patch = e.patch }
 
 -- the entry of a change, with its caller, its turn and its amoebot
 abbrev pub entry_of : ℕ → ℕ → ℕ → Change → Entry
-entry_of caller turn bot change = record { caller = caller; turn = turn; bot = bot; action = change.action; moved = change.moved; patch = change.patch }
+entry_of caller turn bot change =
+    record {
+      caller = caller;
+      turn = turn;
+      bot = bot;
+      action = change.action;
+      moved = change.moved;
+      patch = change.patch;
+    }
 
 -- an activation of the model, whole in one step: f decides the entry's change on what the old configuration shows to the entry's
 -- amoebot, which is there, and its patch leads from the old configuration to the new one

@@ -1,6 +1,6 @@
 ghost use Rattle.std.specs.Prelude.{◌≡◌};
 ghost use Rattle.amoebot_state.specs.Zones.{Shown};
-ghost use Rattle.amoebot_state.specs.Steps.{TouchesZone, HasNext, IsExact};
+ghost use Rattle.amoebot_state.specs.Steps.{TouchesZone, HasPatchedWorld, ListsDifferences};
 ghost use Rattle.amoebot_state.specs.declared.verdict.Verdict.{Verdict};
 
 use crate::found::Found;
@@ -18,10 +18,10 @@ pub trait Decider: Sync {
     ghost touches_zone: { (decider : Self) → TouchesZone (verdict decider) };
 
     /// Each valid configuration that shows what was found has one that the patch leads to.
-    ghost has_next: { (decider : Self) → HasNext (verdict decider) };
+    ghost has_next: { (decider : Self) → HasPatchedWorld (verdict decider) };
 
     /// A patch is in its order, and holds only cells whose value differs.
-    ghost is_exact: { (decider : Self) → IsExact (verdict decider) };
+    ghost is_exact: { (decider : Self) → ListsDifferences (verdict decider) };
 }
 
 /// The first law of a decider, for a caller that needs it: its patches touch cells of the zone alone.
@@ -31,10 +31,10 @@ pub fn touches_zone<D: Decider>(_decider: &D)
 
 /// The second law: each valid configuration that shows what was found has one that the patch leads to.
 pub fn has_next<D: Decider>(_decider: &D)
-    ensures { HasNext (D.verdict _decider.now) }
+    ensures { HasPatchedWorld (D.verdict _decider.now) }
 {}
 
 /// The third law: its patches are in their order, and hold only cells whose value differs.
 pub fn is_exact<D: Decider>(_decider: &D)
-    ensures { IsExact (D.verdict _decider.now) }
+    ensures { ListsDifferences (D.verdict _decider.now) }
 {}

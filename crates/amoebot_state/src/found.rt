@@ -3,7 +3,7 @@ ghost use Rattle.std.specs.Option.{option_copied};
 ghost use Rattle.amoebot_state.specs.Limits.{cell_room};
 ghost use Rattle.amoebot_state.specs.Configs.{IsValid, bot_at, bot_of, occupant};
 ghost use Rattle.amoebot_state.specs.Ports.{is_beside};
-ghost use Rattle.amoebot_state.specs.Refusals.{IsPlain};
+ghost use Rattle.amoebot_state.specs.Refusals.{IsBotInRange};
 ghost use Rattle.amoebot_state.specs.Zones.{IsShown, IsFound, shown_alone};
 ghost use Rattle.amoebot_state.specs.Pairs.{body_at, body_in, spot_at, spot_in};
 
@@ -91,7 +91,7 @@ impl Found {
     /// The amoebot that is shown this.
     pub fn own(&self) -> &Bot
         ensures value { Some result.now ≡ bot_at (shown_alone self.now) self.now.bot }
-        ensures plain { IsPlain result.now }
+        ensures plain { IsBotInRange result.now }
         ensures shown { IsShown self.now }
         ensures valid { IsValid (shown_alone self.now) }
     {
@@ -110,7 +110,7 @@ impl Found {
     /// The amoebot with an id; None exactly where its body is not in the zone.
     pub fn body(&self, id: u16) -> Option<&Bot>
         ensures value { option_copied result ≡ bot_at (shown_alone self.now) id }
-        ensures plain { IfSome result (λ b. IsPlain b.now) }
+        ensures plain { IfSome result (λ b. IsBotInRange b.now) }
     {
         body_in(self.cells.as_slice(), id)
     }

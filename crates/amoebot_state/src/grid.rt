@@ -41,7 +41,9 @@ pub(crate) fn put_new(
     bot: &Bot,
 ) -> Result<(), AllocError>
     ensures bots { OnOk result (amoebots.new.items ≡ amoebots.old.items ++ bot.now ∷ []) }
-    ensures grid { OnOk result (occupants.new.items ≡ put_at (put_at occupants.old.items (index_of area.now bot.now.head) (Some id)) (index_of area.now bot.now.tail) (Some id)) }
+    ensures grid { OnOk result (occupants.new.items
+        ≡ put_at (put_at occupants.old.items (index_of area.now bot.now.head) (Some id))
+        (index_of area.now bot.now.tail) (Some id)) }
     ensures bots_stay { OnErr result (amoebots.new.items ≡ amoebots.old.items) }
     ensures grid_stays { OnErr result (occupants.new.items ≡ occupants.old.items) }
 {

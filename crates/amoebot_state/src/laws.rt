@@ -1,5 +1,16 @@
-ghost use Rattle.amoebot_state.specs.Laws.{GlobalAndLocalAreInverse, ContractedHasSixPorts, ExpandedHasTenPorts, SixPortsLeadToSixNodes, TenPortsLeadToEightNodes, ZoneIsDetermined, ShownListsZone, ShownHoldsValues, KnownIsFront, NextIsInZone, FrontGrows, NextIsNew, KnownGrowsAtItsEnd, WholeZoneIsShown, FrontStands, ZoneListsEachCellOnce, ZoneHasAtMostTenNodes, ZoneHasAtMostNineBodies, NodeBehindPortIsInZone, OccupantBehindPortIsInZone, ShownAloneShowsTheSame, PatchedIsUnique, PatchListsWhatDiffers, StepHasOneResult, RunHasOneLast, SameValueIsEquality, DiffLeads, OrderedPatchIsDiff, ValidIsFaultless, FaultlessIsValid, FirstFaultIsUnique, FaultlessHasNoFault, ShownAloneIsValid, ShownAloneHoldsTheSame, OccupiedIsOccupant, PortLeadsBeside};
-ghost use Rattle.amoebot_state.specs.Samples.{SmallFaults};
+ghost use Rattle.amoebot_state.specs.Laws.{GlobalAndLocalAreInverse, ContractedHasSixPorts, ExpandedHasTenPorts};
+ghost use Rattle.amoebot_state.specs.Laws.{SixPortsLeadToSixNodes, TenPortsLeadToEightNodes, ZoneIsDetermined};
+ghost use Rattle.amoebot_state.specs.Laws.{ShownListsZone, ShownHoldsValues, KnownIsFront, NextIsInZone, FrontGrows};
+ghost use Rattle.amoebot_state.specs.Laws.{NextIsNew, KnownGrowsAtItsEnd, WholeZoneIsShown, FrontStands};
+ghost use Rattle.amoebot_state.specs.Laws.{ZoneListsEachCellOnce, ZoneHasAtMostTenNodes, ZoneHasAtMostNineBodies};
+ghost use Rattle.amoebot_state.specs.Laws.{NodeBehindPortIsInZone, OccupantBehindPortIsInZone};
+ghost use Rattle.amoebot_state.specs.Laws.{ShownAloneShowsTheSame, PatchedIsUnique, PatchListsWhatDiffers};
+ghost use Rattle.amoebot_state.specs.Laws.{StepHasOneResult, RunHasOneLast, SameValueIsEquality, DiffLeads};
+ghost use Rattle.amoebot_state.specs.Laws.{OrderedPatchIsDiff, ValidIsFaultless, FaultlessIsValid};
+ghost use Rattle.amoebot_state.specs.Laws.{FirstFaultIsUnique, FaultlessHasNoFault, ShownAloneIsValid};
+ghost use Rattle.amoebot_state.specs.Laws.{ShownAloneHoldsTheSame, OccupiedIsOccupant, PortLeadsBeside};
+ghost use Rattle.amoebot_state.specs.Examples.{SmallFaults};
+ghost use Rattle.amoebot_state.specs.Laws.{SerialTurnIsUnique};
 
 /// Local and global directions are both 0 to 5, and the one is the inverse of the other, with either chirality.
 pub fn global_and_local_are_inverse()
@@ -185,4 +196,9 @@ pub fn shown_alone_holds_the_same()
 /// A node of a valid configuration is occupied exactly where it is the head or the tail of an amoebot.
 pub fn occupied_is_occupant()
     ensures { OccupiedIsOccupant }
+{}
+
+/// A turn has at most one answer, and leaves at most one configuration.
+pub fn serial_turn_is_unique()
+    ensures { SerialTurnIsUnique }
 {}

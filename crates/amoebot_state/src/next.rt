@@ -2,7 +2,7 @@ ghost use Rattle.std.specs.Prelude.{◌≡◌, ◌<◌, ◌≤◌, ◌+◌, ◌+
 ghost use Rattle.amoebot_state.specs.Limits.{node_room, cell_room};
 ghost use Rattle.amoebot_state.specs.Known.{read_on, known_zone, next_cell};
 ghost use Rattle.amoebot_state.specs.Pairs.{body_in};
-ghost use Rattle.amoebot_state.specs.Refusals.{IsPlain};
+ghost use Rattle.amoebot_state.specs.Refusals.{IsBotInRange};
 ghost use Rattle.amoebot_state.specs.Zones.{others};
 ghost use Rattle.arrayvec.specs.ArrayVec.{array_vec_len};
 
@@ -19,7 +19,7 @@ type Names = ArrayVec<CellName, CELL_ROOM>;
 /// then the nodes that follow from this, then the bodies that follow from the occupants that were read. None exactly where the
 /// zone as these cells tell it has no more. It takes no memory.
 pub fn next_cell(area: &Area, bot: u16, cells: &[(CellName, Cell)]) -> Option<CellName>
-    requires plain { IfSome (body_in cells.now bot) IsPlain }
+    requires plain { IfSome (body_in cells.now bot) IsBotInRange }
     ensures { result ≡ next_cell area.now bot cells.now }
 {
     let zone = known_zone(area, bot, cells);
@@ -28,7 +28,7 @@ pub fn next_cell(area: &Area, bot: u16, cells: &[(CellName, Cell)]) -> Option<Ce
 
 /// The zone as the cells that were read tell it.
 fn known_zone(area: &Area, bot: u16, cells: &[(CellName, Cell)]) -> Names
-    requires plain { IfSome (body_in cells.now bot) IsPlain }
+    requires plain { IfSome (body_in cells.now bot) IsBotInRange }
     ensures { result.items ≡ known_zone area.now bot cells.now }
 {
     let mut zone = ArrayVec::new();

@@ -2,7 +2,7 @@ ghost use Rattle.std.specs.Prelude.{◌≡◌, ◌≤◌, ◌∷◌, [], length,
 ghost use Rattle.std.specs.List.{All};
 ghost use Rattle.amoebot_state.specs.Limits.{most_bots};
 ghost use Rattle.amoebot_state.specs.Configs.{config_of};
-ghost use Rattle.amoebot_state.specs.Refusals.{IsPlain};
+ghost use Rattle.amoebot_state.specs.Refusals.{IsBotInRange};
 
 use crate::{Bot, Cell, CellName, Chir, Found, Patch, World, WorldRefusal, next_cell};
 use std::alloc::Global;
@@ -51,16 +51,18 @@ const AT_EDGE: Bot = Bot {
 /// A world of these amoebots in the area 0 0 8 8.
 fn world_of(alloc: Global, bots: &[Bot]) -> Result<World, Fail>
     requires few { length bots.now ≤ most_bots }
-    requires plain { All IsPlain bots.now }
-    ensures { IfOk result (λ w. w ≡ config_of (record { x0 = pos 0; y0 = pos 0; w = 8; h = 8 }) (1 ∷ 0 ∷ 0 ∷ 0 ∷ 0 ∷ 0 ∷ 0 ∷ 0 ∷ []) bots.now) }
+    requires plain { All IsBotInRange bots.now }
+    ensures { IfOk result (λ w. w
+        ≡ config_of (record { x0 = pos 0; y0 = pos 0; w = 8; h = 8 })
+        (1 ∷ 0 ∷ 0 ∷ 0 ∷ 0 ∷ 0 ∷ 0 ∷ 0 ∷ []) bots.now) }
 {
     let area = Area::new(0, 0, 8, 8).ok_or("an area")?;
     Ok(World::new(alloc, area, MAXES, bots)?)
 }
 
 fn refusal(alloc: Global, first: Bot, second: Bot) -> Option<WorldRefusal>
-    requires first { IsPlain first }
-    requires second { IsPlain second }
+    requires first { IsBotInRange first }
+    requires second { IsBotInRange second }
 {
     let area = Area::new(0, 0, 8, 8)?;
     World::new(alloc, area, MAXES, &[first, second]).err()

@@ -64,3 +64,11 @@ pub struct Entry {
     pub moved: Moved,
     pub patch: Patch,
 }
+
+/// What a turn did: an entry for the journal, or nothing.
+#[derive(Drop)]
+pub enum Turned {
+    Done(Entry),
+    Idle,
+    Failed(Failure),
+}

@@ -4,7 +4,7 @@ ghost use Rattle.amoebot_state.specs.Limits.{most_bots, node_room, cell_room};
 ghost use Rattle.amoebot_state.specs.Configs.{Config, IsValid, bot_at, occupant, config_of, with_bot};
 ghost use Rattle.amoebot_state.specs.Zones.{shown, shown_cell, zone, others};
 ghost use Rattle.amoebot_state.specs.Patches.{IsPatched, HasPatched};
-ghost use Rattle.amoebot_state.specs.Refusals.{IsPlain, IsFaultless, IsFirstFault, bot_fault};
+ghost use Rattle.amoebot_state.specs.Refusals.{IsBotInRange, IsFaultless, IsFirstFault, bot_fault};
 ghost use Rattle.arrayvec.specs.ArrayVec.{array_vec_len};
 
 use crate::bot::Bot;
@@ -52,7 +52,7 @@ impl World {
         bots: &[Bot],
     ) -> Result<World, WorldRefusal>
         requires few { length bots.now ≤ most_bots }
-        requires plain { All IsPlain bots.now }
+        requires plain { All IsBotInRange bots.now }
         ensures value { IfOk result (λ w. w ≡ config_of area maxes bots.now) }
         ensures faultless { OnOk result (IsFaultless area maxes bots.now (length bots.now)) }
         ensures fault { IfErr result (λ e. (e ≡ WorldRefusal.NoMemory) ⊎ IsFirstFault area maxes bots.now e) }
@@ -83,7 +83,7 @@ impl World {
     /// The first fault of an amoebot that is to be the next.
     fn fault(&self, bot: &Bot) -> Option<WorldRefusal>
         requires few { length self.now.bots < most_bots }
-        requires plain { IsPlain bot.now }
+        requires plain { IsBotInRange bot.now }
         ensures { result ≡ bot_fault self.now bot.now }
     {
         let id = self.amoebots.len() as u16;
@@ -104,7 +104,7 @@ impl World {
 
     fn add(&mut self, bot: &Bot) -> Result<(), WorldRefusal>
         requires few { length self.old.bots < most_bots }
-        requires plain { IsPlain bot.now }
+        requires plain { IsBotInRange bot.now }
         ensures ok { OnOk result ((bot_fault self.old bot.now ≡ None) × (self.new ≡ with_bot self.old bot.now)) }
         ensures err { IfErr result (λ e. (e ≡ WorldRefusal.NoMemory) ⊎ (bot_fault self.old bot.now ≡ Some e)) }
     {
@@ -152,7 +152,7 @@ impl World {
     pub fn bot(&self, id: u16) -> &Bot
         requires { id < length self.now.bots }
         ensures value { Some result.now ≡ bot_at self.now id }
-        ensures plain { IsPlain result.now }
+        ensures plain { IsBotInRange result.now }
     {
         &self.amoebots[usize::from(id)]
     }
@@ -205,7 +205,7 @@ impl World {
     /// The cells of an amoebot's zone with what they hold.
     fn zone_cells(&self, bot: u16, own: &Bot) -> Cells
         requires there { bot_at self.now bot ≡ Some own.now }
-        requires plain { IsPlain own.now }
+        requires plain { IsBotInRange own.now }
         ensures { result.items ≡ filter_map (shown_cell self.now) (zone self.now bot) }
     {
         let nodes = zone_nodes(&self.area, own);
@@ -220,7 +220,7 @@ impl World {
     fn own(&self, id: u16) -> Bot
         requires { id < length self.now.bots }
         ensures value { bot_at self.now id ≡ Some result }
-        ensures plain { IsPlain result }
+        ensures plain { IsBotInRange result }
     {
         let _area = &self.area;
         *self.bot(id)

@@ -2,7 +2,7 @@ ghost use Rattle.std.specs.Prelude.{◌≡◌, ◌<◌, ◌≤◌, ◌+◌, nat_
 ghost use Rattle.tri_lattice.specs.Lattice.{node_eq};
 ghost use Rattle.amoebot_state.specs.Limits.{node_room};
 ghost use Rattle.amoebot_state.specs.Ports.{own_nodes};
-ghost use Rattle.amoebot_state.specs.Refusals.{IsPlain};
+ghost use Rattle.amoebot_state.specs.Refusals.{IsBotInRange};
 ghost use Rattle.amoebot_state.specs.Storage.{with_new, with_other, with_port};
 ghost use Rattle.amoebot_state.specs.Zones.{zone_nodes};
 ghost use Rattle.arrayvec.specs.ArrayVec.{array_vec_len};
@@ -22,7 +22,7 @@ pub(crate) type Ids = ArrayVec<u16, ROOM>;
 
 /// The nodes of an amoebot's zone: its own, and those behind its ports that lie in the area, each once.
 pub(crate) fn zone_nodes(area: &Area, bot: &Bot) -> Nodes
-    requires { IsPlain bot.now }
+    requires { IsBotInRange bot.now }
     ensures value { result.items ≡ zone_nodes area.now bot.now }
     ensures few { array_vec_len result ≤ node_room }
 {
@@ -47,7 +47,7 @@ fn own_nodes(bot: &Bot) -> Nodes
 
 /// Adds the node behind a port, where it lies in the area and is new.
 fn push_port(area: &Area, bot: &Bot, port: Port, nodes: &mut Nodes)
-    requires plain { IsPlain bot.now }
+    requires plain { IsBotInRange bot.now }
     requires room { array_vec_len nodes.old < node_room }
     ensures value { nodes.new.items ≡ with_port area.now bot.now nodes.old.items port }
     ensures few { array_vec_len nodes.new ≤ array_vec_len nodes.old + 1 }

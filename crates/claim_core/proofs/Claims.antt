@@ -20,15 +20,15 @@ use Rattle.claim_core.specs.declared.state.Phase.{Phase}
 use Rattle.claim_core.specs.declared.state.Phase.TheVariants.{Claim, Refusing, Looking, Taking}
 use Rattle.claim_core.specs.declared.state.Caller.{Caller}
 use Rattle.claim_core.specs.Cells.{number, at, values_of, held_by}
-use Rattle.claim_core.specs.Machine.{Setup, State, bot, own_tag, found, next_of, decided, after_win, won, wins, with_caller}
-use Rattle.claim_core.specs.Soundness.{IsSetup, names, IsCommitting, marked, IsTurn, AreBefore, IsRefused, IsDecided, HasFront, IsHeld, CallerOk, Sound}
+use Rattle.claim_core.specs.Machine.{Setup, State, bot, own_tag, found, next_of, phase_of_verdict, after_win, caller_with_cell, wins, with_caller}
+use Rattle.claim_core.specs.Soundness.{IsSetup, names, IsCommitting, marked, IsTurn, AreBefore, IsRefusedPhase, HasDecision, HasFront, IsHeld, CallerOk, Sound}
 use Rattle.claim_core.proofs.Tags.{tag-positive}
 use Rattle.claim_core.proofs.Places.{at-put_here, at-put_else, at-put_cases}
 use Rattle.claim_core.proofs.Numbers.{same_number, value_at}
 use Rattle.claim_core.proofs.Fronts.{Valued, names-more, zone_value, next_is, whole_shown}
 use Rattle.claim_core.proofs.Frames.{own_stays}
 use Rattle.claim_core.proofs.Moved.{Moves, moved, right_same, holder_stays, told_stays}
-use Rattle.claim_core.proofs.Holding.{framed, same_area, is_known, before, refused_by}
+use Rattle.claim_core.proofs.HolderLemmas.{framed, same_area, is_known, before, refused_by}
 
 module _ (g : Setup) (ok : IsSetup g) (old : State) (s : Sound g old) (c : ℕ) (k : Caller) (there : slice_get old.callers c ≡ Some k) where
   abbrev is : CallerOk g old s.last c k
@@ -120,7 +120,7 @@ module _ (g : Setup) (ok : IsSetup g) (old : State) (s : Sound g old) (c : ℕ) 
       more = (n, x) ∷ k.held
 
       next_k : Caller
-      next_k = won g c k n x
+      next_k = caller_with_cell g c k n x
 
       new : State
       new = wins g c old k n (Some x)
@@ -172,7 +172,7 @@ module _ (g : Setup) (ok : IsSetup g) (old : State) (s : Sound g old) (c : ℕ) 
       next_more = ap (λ a. next_cell a own (reverse more)) (sym (same_area g ok old s)) ∙ next_is s.last own more front.0 there_own valued_more front_more
 
       -- in any phase of this turn
-      in_phase : (q : Phase) → IsTurn g.lists.turns q k.turn → HasFront g new s.last c (record k { phase = q; held = more }) q → (IsCommitting q → ⊥) → length k.marks ≡ marked q k.turn → IsRefused g new c q → CallerOk g new s.last c (record k { phase = q; held = more })
+      in_phase : (q : Phase) → IsTurn g.lists.turns q k.turn → HasFront g new s.last c (record k { phase = q; held = more }) q → (IsCommitting q → ⊥) → length k.marks ≡ marked q k.turn → IsRefusedPhase g new c q → CallerOk g new s.last c (record k { phase = q; held = more })
       in_phase q turn has not counts refused = record {
         turn = turn;
         held = held_more;
@@ -185,7 +185,7 @@ module _ (g : Setup) (ok : IsSetup g) (old : State) (s : Sound g old) (c : ℕ) 
         within = is.within;
       }
 
-      by_verdict : (v : Verdict) → IsDecided g s.last own more v → CallerOk g new s.last c (record k { phase = decided v; held = more })
+      by_verdict : (v : Verdict) → HasDecision g s.last own more v → CallerOk g new s.last c (record k { phase = phase_of_verdict v; held = more })
       by_verdict verdict.Idle by = in_phase (Looking look.Idle) turns by (λ h. h) (unmarked_yet p) tt
       by_verdict (verdict.Failed why) by = in_phase (Looking (look.Failed why)) turns by (λ h. h) (unmarked_yet p) tt
       by_verdict (verdict.Change change) by = in_phase (Taking change) turns by (λ h. h) (unmarked_yet p) tt

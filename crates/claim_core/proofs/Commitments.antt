@@ -24,7 +24,7 @@ use Rattle.claim_core.specs.Reached.{entries_of, placed, IsShownAt}
 use Rattle.claim_core.specs.Laws.{CommittedIsJournal, CommittedIsShown}
 use Rattle.claim_core.proofs.Stays.{IsWorldAt-append, world_last}
 use Rattle.claim_core.proofs.Fronts.{whole_shown}
-use Rattle.claim_core.proofs.Holding.{framed, same_area, valued}
+use Rattle.claim_core.proofs.HolderLemmas.{framed, same_area, valued}
 use Rattle.claim_core.proofs.Sounds.{always}
 
 -- an entry without its place

@@ -15,7 +15,7 @@ use Rattle.amoebot_state.specs.Pairs.{Pairs, cell_of, cell_value}
 use Rattle.amoebot_state.specs.Configs.{Config, bot_at}
 use Rattle.amoebot_state.specs.Zones.{zone}
 use Rattle.amoebot_state.specs.Patches.{IsPatched}
-use Rattle.amoebot_state.specs.Steps.{Changes, Step, Run}
+use Rattle.amoebot_state.specs.Steps.{DecidesChange, Step, Run}
 use Rattle.amoebot_state.proofs.Fronts.{slice_get_behind}
 use Rattle.amoebot_state.proofs.Members.{Has, All-from_Has, Contains-from_Has}
 use Rattle.claim_core.specs.declared.marks.Mark.{Mark}
@@ -24,8 +24,8 @@ use Rattle.claim_core.specs.declared.state.Phase.TheVariants.{Taking, Committing
 use Rattle.claim_core.specs.declared.state.Caller.{Caller}
 use Rattle.claim_core.specs.Good.{IsWorldAt, IsListed, Order, mark_of_turn, place_of, place_after}
 use Rattle.claim_core.specs.Cells.{values_of, patched}
-use Rattle.claim_core.specs.Machine.{Setup, State, bot, renewed, frees, entry, takes, commits}
-use Rattle.claim_core.specs.Soundness.{IsSetup, names, IsCommitting, marked, IsTurn, marks_so_far, IsDecided, HasFront, IsHeld, CallerOk, Sound}
+use Rattle.claim_core.specs.Machine.{Setup, State, bot, patched_pair, freeing_caller, entry, takes, commits}
+use Rattle.claim_core.specs.Soundness.{IsSetup, names, IsCommitting, marked, IsTurn, marks_so_far, HasDecision, HasFront, IsHeld, CallerOk, Sound}
 use Rattle.amoebot_state.proofs.Runs.{run_push}
 use Rattle.claim_core.proofs.Stays.{slice_get-pushed, world_last}
 use Rattle.claim_core.proofs.Places.{one_at}
@@ -34,15 +34,15 @@ use Rattle.claim_core.proofs.Nexts.{frees-marks, frees-held}
 use Rattle.claim_core.proofs.Fronts.{held_named}
 use Rattle.claim_core.proofs.Frames.{IsFramed, run_framed, own_stays}
 use Rattle.claim_core.proofs.Moved.{Moves, moved, told, told_by, told_stays, mine_now, right_same, right_push, within_stays}
-use Rattle.claim_core.proofs.Holding.{framed, same_area, is_known, one_owner}
+use Rattle.claim_core.proofs.HolderLemmas.{framed, same_area, is_known, one_owner}
 use Rattle.claim_core.proofs.Claims.{same_held, plain, goes_on}
-use Rattle.claim_core.proofs.Freeing.{Marked, frees_ok}
+use Rattle.claim_core.proofs.ReleaseLemmas.{Marked, frees_ok}
 
 -- new values leave the names
-names-renewed : (patch held : Pairs) → names (map (renewed patch) held) ≡ names held
+names-renewed : (patch held : Pairs) → names (map (patched_pair patch) held) ≡ names held
 names-renewed patch [] = refl
 names-renewed patch (p ∷ held) =
-    Rattle.claim_core.proofs.Fronts.names-more (renewed patch p) (map (renewed patch) held) ∙ ap (λ ns. ns ++ cell_of p ∷ []) (names-renewed patch held) ∙ sym (Rattle.claim_core.proofs.Fronts.names-more p held)
+    Rattle.claim_core.proofs.Fronts.names-more (patched_pair patch p) (map (patched_pair patch) held) ∙ ap (λ ns. ns ++ cell_of p ∷ []) (names-renewed patch held) ∙ sym (Rattle.claim_core.proofs.Fronts.names-more p held)
 
 module _ (g : Setup) (ok : IsSetup g) (old : State) (s : Sound g old) (c : ℕ) (k : Caller) (there : slice_get old.callers c ≡ Some k) (change : Change) where
   abbrev is : CallerOk g old s.last c k
@@ -94,13 +94,13 @@ module _ (g : Setup) (ok : IsSetup g) (old : State) (s : Sound g old) (c : ℕ) 
     count : length k.marks ≡ k.turn
     count = is.counted ∙ ap (λ q. marked q k.turn) p
 
-    is_decided : IsDecided g s.last own k.held (verdict.Change change)
+    is_decided : HasDecision g s.last own k.held (verdict.Change change)
     is_decided = subst (HasFront g old s.last c k) p is.front
 
     own_at : IsSome (bot_at s.last own)
     own_at = own_stays g ok c k.turn known s.last (framed g ok old s)
 
-    changes : Changes g.verdict s.last own change
+    changes : DecidesChange g.verdict s.last own change
     changes = record { valid = (framed g ok old s).valid; there = own_at; decided = is_decided.verdict }
 
     leads : (last : Config) × IsPatched s.last change.patch last
@@ -116,7 +116,7 @@ module _ (g : Setup) (ok : IsSetup g) (old : State) (s : Sound g old) (c : ℕ) 
     e = entry g c k.turn change
 
     abbrev cells : Pairs
-    cells = map (renewed change.patch) k.held
+    cells = map (patched_pair change.patch) k.held
 
     abbrev done : Mark
     done = mark.Done (length old.journal)
@@ -125,7 +125,7 @@ module _ (g : Setup) (ok : IsSetup g) (old : State) (s : Sound g old) (c : ℕ) 
     more = k.marks ++ done ∷ []
 
     abbrev next : Caller
-    next = frees g k.turn cells more
+    next = freeing_caller g k.turn cells more
 
     abbrev new : State
     new = commits g c old k change
@@ -177,7 +177,7 @@ module _ (g : Setup) (ok : IsSetup g) (old : State) (s : Sound g old) (c : ℕ) 
         record { tag = was.tag; value = is_patched.kept (cell_of q) (untouched d j ne found q has) ∙ was.value })
 
     own_held : All (IsHeld g new last c k.turn) cells
-    own_held = All-map (IsHeld g new last c k.turn) (renewed change.patch) k.held (All-weaker (IsHeld g old s.last c k.turn) (λ q. IsHeld g new last c k.turn (renewed change.patch q))
+    own_held = All-map (IsHeld g new last c k.turn) (patched_pair change.patch) k.held (All-weaker (IsHeld g old s.last c k.turn) (λ q. IsHeld g new last c k.turn (patched_pair change.patch q))
         (λ q was. record { tag = was.tag; value = value_patched s.last last change.patch is_patched (cell_of q) (cell_value q) was.value }) k.held is.held)
 
     marked_now : Marked g new last c k.turn cells more

@@ -20,7 +20,7 @@ use Rattle.claim_core.specs.declared.state.Caller.{Caller}
 use Rattle.claim_core.specs.Good.{IsWorldAt, HasVerdict, HasInZone, Order, mark_of_turn, place_of, place_after}
 use Rattle.claim_core.specs.Cells.{number, at, values_of}
 use Rattle.claim_core.specs.Machine.{Setup, State, bot}
-use Rattle.claim_core.specs.Soundness.{IsSetup, names, verdict_of, IsCommitting, marks_so_far, Holds, HasHeld, IsHolder, TurnOkSoFar, IsRefused, IsDecided, HasFront, IsHeld, CallerOk, Sound}
+use Rattle.claim_core.specs.Soundness.{IsSetup, names, verdict_of, IsCommitting, marks_so_far, Holds, HasHeld, IsHolder, TurnOkSoFar, IsRefusedPhase, HasDecision, HasFront, IsHeld, CallerOk, Sound}
 use Rattle.claim_core.proofs.Stays.{slice_get-pushed, IsWorldAt-append}
 use Rattle.claim_core.proofs.Places.{get-set_here, get-set_else, get-set_cases, get-map, get-append_left, one_at}
 use Rattle.claim_core.proofs.Fronts.{Valued, whole_shown, front_kept, whole_kept}
@@ -114,7 +114,7 @@ module _ (g : Setup) (old new : State) (c : ℕ) (k next : Caller) (mv : Moves g
   turn_stays d t (mark.Failed why place) ok = verdict_stays place (bot g d t) (verdict.Failed why) ok
   turn_stays d t (mark.Busy n by_caller by_turn by_bot place) ok = (zone_stays place (bot g d t) n ok.0, holder_stays d n by_caller by_turn by_bot ok.1)
 
-  pub refused_stays : (d : ℕ) (p : Phase) → IsRefused g old d p → IsRefused g new d p
+  pub refused_stays : (d : ℕ) (p : Phase) → IsRefusedPhase g old d p → IsRefusedPhase g new d p
   refused_stays d Claim is = is
   refused_stays d (Refusing n t) is = (is.0, holder_stays d n _ _ _ is.1)
   refused_stays d (Looking l) is = is
@@ -160,7 +160,7 @@ module _ (g : Setup) (old new : State) (c : ℕ) (k next : Caller) (mv : Moves g
           first [] e f = absurd (none-some n e)
           first (m ∷ more) e f = (more, ap (λ x. names j.held ++ x ∷ more) (sym (same_Some m n e)) ∙ f)
 
-      decided_stays : (v : Verdict) → IsDecided g s.last own j.held v → IsDecided g last own j.held v
+      decided_stays : (v : Verdict) → HasDecision g s.last own j.held v → HasDecision g last own j.held v
       decided_stays v by =
           let whole = whole_kept s.last last own j.held same_area (own_stays g ok d j.turn known s.last was_framed) (own_stays g ok d j.turn known last framed) was is by.whole in
           record {

@@ -13,9 +13,9 @@ use Rattle.amoebot_state.specs.Configs.{Config}
 use Rattle.amoebot_state.specs.Zones.{Shown, shown}
 use Rattle.amoebot_state.specs.Steps.{Step, Run}
 use Rattle.amoebot_state.proofs.Patched.{run_has_one_last}
-use Rattle.serial_model.specs.declared.Turned.{Turned}
-use Rattle.serial_model.specs.declared.Turned.TheVariants as turned
-use Rattle.serial_model.specs.SerialTurns.{SerialTurn}
+use Rattle.amoebot_state.specs.declared.verdict.Turned.{Turned}
+use Rattle.amoebot_state.specs.declared.verdict.Turned.TheVariants as turned
+use Rattle.amoebot_state.specs.SerialTurns.{SerialTurn}
 use Rattle.claim_core.specs.declared.marks.Mark.{Mark}
 use Rattle.claim_core.specs.declared.marks.Mark.TheVariants as mark
 use Rattle.claim_core.specs.declared.report.Report.{Report}

@@ -33,15 +33,15 @@ use Rattle.claim_core.specs.declared.state.Phase.{Phase}
 use Rattle.claim_core.specs.declared.state.Phase.TheVariants.{Claim, Refusing, Looking, Taking, Committing, Releasing, Ended}
 use Rattle.claim_core.specs.declared.state.Caller.{Caller}
 use Rattle.claim_core.specs.Cells.{number, at, values_of, held_by}
-use Rattle.claim_core.specs.Machine.{Setup, State, bot, next_of, decided, after_win, won, wins, claims, finds, tries, frees, opens, looks, takes, releases, renewed, by_phase, acts, next, fresh, after, with_caller}
+use Rattle.claim_core.specs.Machine.{Setup, State, bot, next_of, phase_of_verdict, after_win, caller_with_cell, wins, claims, finds, tries, freeing_caller, opening_phase, looks, takes, releases, patched_pair, by_phase, acts, next, fresh, after, with_caller}
 use Rattle.claim_core.specs.Soundness.{IsSetup, IsTurn, names, HasFront, IsCommitting, CallerOk, Sound}
 use Rattle.claim_core.specs.Reached.{HaveEnded}
 use Rattle.claim_core.specs.Laws.{RoundsEnd}
-use Rattle.claim_core.specs.Rounds.{steps_below, round, rounds, rounds_enough}
+use Rattle.claim_core.specs.StepRounds.{steps_below, step_round, step_rounds, most_step_rounds}
 use Rattle.claim_core.proofs.Numbers.{length-all_cells}
 use Rattle.claim_core.proofs.Fronts.{zone_value, next_is, length-names}
 use Rattle.claim_core.proofs.Frames.{own_stays}
-use Rattle.claim_core.proofs.Holding.{framed, same_area, is_known, valued}
+use Rattle.claim_core.proofs.HolderLemmas.{framed, same_area, is_known, valued}
 use Rattle.claim_core.proofs.Sounds.{one_step, always}
 
 -- the steps that a caller still has in its turn, at most, with so many cells held
@@ -106,14 +106,14 @@ module _ (g : Setup) where
   abbrev later : ℕ → ℕ
   later t = 40 * (g.lists.turns - (t + 1))
 
-  opens-rank : (t : ℕ) (marks : List Mark) → t < g.lists.turns → rank (Rattle.claim_core.specs.Machine.caller (t + 1) (opens g (t + 1)) [] marks) ≡ later t
+  opens-rank : (t : ℕ) (marks : List Mark) → t < g.lists.turns → rank (Rattle.claim_core.specs.Machine.caller (t + 1) (opening_phase g (t + 1)) [] marks) ≡ later t
   opens-rank t marks lt = by (nat_lt (t + 1) g.lists.turns) refl
     where
       by : (b : Bool) → nat_lt (t + 1) g.lists.turns ≡ b → rank (Rattle.claim_core.specs.Machine.caller (t + 1) (if b then Claim else Ended) [] marks) ≡ later t
       by true e = let more = ltb-true (t + 1) g.lists.turns e in omega arith
       by false e = let end : g.lists.turns ≤ t + 1 = grind (arith, nat_tests) in omega arith
 
-  frees-rank : (t : ℕ) (held : Pairs) (marks : List Mark) → t < g.lists.turns → rank (frees g t held marks) ≡ length held + later t
+  frees-rank : (t : ℕ) (held : Pairs) (marks : List Mark) → t < g.lists.turns → rank (freeing_caller g t held marks) ≡ length held + later t
   frees-rank t [] marks lt = omega (arith, opens-rank t marks lt)
   frees-rank t (p ∷ held) marks lt = refl
 
@@ -176,10 +176,10 @@ module _ (g : Setup) where
       has_value : (x : Cell) × (at s.values (number g.world.area front.0) ≡ Some x)
       has_value = (_, ap (at s.values) placed.1 ∙ slice_get-get_or s.values placed.0 (cell.Spot None) placed.2)
 
-      rank_won : (x : Cell) → rank (won g c k front.0 x) < rank k
+      rank_won : (x : Cell) → rank (caller_with_cell g c k front.0 x) < rank k
       rank_won x = by (next_of g own ((front.0, x) ∷ k.held))
         where
-          decide : (v : Verdict) → rank (record k { phase = decided v; held = (front.0, x) ∷ k.held }) < rank k
+          decide : (v : Verdict) → rank (record k { phase = phase_of_verdict v; held = (front.0, x) ∷ k.held }) < rank k
           decide verdict.Idle = omega (arith, rank_in Claim p, few)
           decide (verdict.Failed why) = omega (arith, rank_in Claim p, few)
           decide (verdict.Change change) = omega (arith, rank_in Claim p, few)
@@ -193,7 +193,7 @@ module _ (g : Setup) where
         where
           read : (o : Option Cell) → at s.values (number g.world.area front.0) ≡ o → total (wins g c s k front.0 o) < total s
           read None e = absurd (none-some has_value.0 (sym e ∙ has_value.1))
-          read (Some x) e = lowers (won g c k front.0 x) (rank_won x)
+          read (Some x) e = lowers (caller_with_cell g c k front.0 x) (rank_won x)
 
           by : (b : Bool) → total (if b then wins g c s k front.0 (at s.values (number g.world.area front.0)) else with_caller g s c (record k { phase = Refusing front.0 has_tag.0 })) < total s
           by true = read (at s.values (number g.world.area front.0)) refl
@@ -203,7 +203,7 @@ module _ (g : Setup) where
       tries_lowers = subst (λ o. total (tries g c s k o) < total s) (sym next_is_there) (subst (λ o. total (finds g c s k front.0 o) < total s) (sym has_tag.1) claim_lowers)
 
     looks_lowers : (p : Phase) → k.phase ≡ p → in_turn p (length k.held) ≡ 1 + length k.held → k.turn < g.lists.turns → (m : Mark) → total (looks g c s k m) < total s
-    looks_lowers p e one lt m = lowers (frees g k.turn k.held (k.marks ++ m ∷ [])) (omega (arith, rank_in p e, frees-rank k.turn k.held (k.marks ++ m ∷ []) lt))
+    looks_lowers p e one lt m = lowers (freeing_caller g k.turn k.held (k.marks ++ m ∷ [])) (omega (arith, rank_in p e, frees-rank k.turn k.held (k.marks ++ m ∷ []) lt))
 
     by_kind : (p : Phase) → k.phase ≡ p → Lower (by_phase g c s k p)
     by_kind Claim p = inl (tries_lowers p)
@@ -215,8 +215,8 @@ module _ (g : Setup) where
         taken None e = inl (lowers (record k { phase = Committing change }) (omega (arith, rank_in (Taking change) p)))
         taken (Some d) e = inr (refl, waits k change d there p e)
     by_kind (Committing change) p =
-        inl (lowers (frees g k.turn (map (renewed change.patch) k.held) (k.marks ++ mark.Done (length s.journal) ∷ []))
-        (omega (arith, rank_in (Committing change) p, frees-rank k.turn (map (renewed change.patch) k.held) (k.marks ++ mark.Done (length s.journal) ∷ []) (turns (Committing change) p), length-map k.held (renewed change.patch))))
+        inl (lowers (freeing_caller g k.turn (map (patched_pair change.patch) k.held) (k.marks ++ mark.Done (length s.journal) ∷ []))
+        (omega (arith, rank_in (Committing change) p, frees-rank k.turn (map (patched_pair change.patch) k.held) (k.marks ++ mark.Done (length s.journal) ∷ []) (turns (Committing change) p), length-map k.held (patched_pair change.patch))))
     by_kind Releasing p = freed k.held refl
       where
         freeing : HasFront g s sound.last c k Releasing
@@ -224,7 +224,7 @@ module _ (g : Setup) where
 
         freed : (held : Pairs) → k.held ≡ held → Lower (releases g c s k held)
         freed [] e = absurd (let none : length k.held ≡ 0 = ap (λ (h : Pairs). length h) e in omega (arith, freeing.some))
-        freed (q ∷ held) e = inl (lowers (frees g k.turn held k.marks) (omega (arith, rank_in Releasing p, ap (λ (h : Pairs). length h) e, frees-rank k.turn held k.marks (turns Releasing p))))
+        freed (q ∷ held) e = inl (lowers (freeing_caller g k.turn held k.marks) (omega (arith, rank_in Releasing p, ap (λ (h : Pairs). length h) e, frees-rank k.turn held k.marks (turns Releasing p))))
     by_kind Ended p = inr (refl, ended k there p)
 
   -- a step lowers the total, or changes nothing
@@ -271,7 +271,7 @@ module _ (g : Setup) where
       let by = sound.holder d h in
       absurd (none_committing s d by.0 by.1 by.2 (all d (let inside = slice_get_within s.callers d by.0 by.1 in omega (arith, sound.callers))))
 
-  pub round_lowers : IsSetup g → (s : State) → Sound g s → (total (round g s) < total s) ⊎ HaveEnded s
+  pub round_lowers : IsSetup g → (s : State) → Sound g s → (total (step_round g s) < total s) ⊎ HaveEnded s
   round_lowers ok s sound = elim (below_lowers ok s sound (length g.lists.ids)) [
     | inl lt ↦ inl lt
     | inr same ↦ inr (λ i d inside.
@@ -288,23 +288,23 @@ module _ (g : Setup) where
       by None e = refl
       by (Some k) e = ap (by_phase g n s k) (subst (λ (j : Caller). j.phase ≡ Ended) (Rattle.std.proofs.lemmas.Option.get_or_from_slice_get s.callers n k k e) (all n k (slice_get_within s.callers n k e)))
 
-  pub rounds_sound : IsSetup g → (s : State) → Sound g s → (n : ℕ) → Sound g (rounds g n s)
+  pub rounds_sound : IsSetup g → (s : State) → Sound g s → (n : ℕ) → Sound g (step_rounds g n s)
   rounds_sound ok s sound zero = sound
-  rounds_sound ok s sound (suc n) = below_sound ok (rounds g n s) (rounds_sound ok s sound n) (length g.lists.ids)
+  rounds_sound ok s sound (suc n) = below_sound ok (step_rounds g n s) (rounds_sound ok s sound n) (length g.lists.ids)
 
-  pub rounds_lower : IsSetup g → (s : State) → Sound g s → (n : ℕ) → (total (rounds g n s) + n ≤ total s) ⊎ HaveEnded (rounds g n s)
+  pub rounds_lower : IsSetup g → (s : State) → Sound g s → (n : ℕ) → (total (step_rounds g n s) + n ≤ total s) ⊎ HaveEnded (step_rounds g n s)
   rounds_lower ok s sound zero = inl (omega arith)
   rounds_lower ok s sound (suc n) = elim (rounds_lower ok s sound n) [
-    | inl le ↦ elim (round_lowers ok (rounds g n s) (rounds_sound ok s sound n)) [
+    | inl le ↦ elim (round_lowers ok (step_rounds g n s) (rounds_sound ok s sound n)) [
       | inl lt ↦ inl (omega arith)
-      | inr all ↦ inr (subst HaveEnded (sym (ended_below (rounds g n s) all (length g.lists.ids))) all)
+      | inr all ↦ inr (subst HaveEnded (sym (ended_below (step_rounds g n s) all (length g.lists.ids))) all)
     ]
-    | inr all ↦ inr (subst HaveEnded (sym (ended_below (rounds g n s) all (length g.lists.ids))) all)
+    | inr all ↦ inr (subst HaveEnded (sym (ended_below (step_rounds g n s) all (length g.lists.ids))) all)
   ]
 
-  pub rounds_end : IsSetup g → (s : State) → Sound g s → (n : ℕ) → total s ≤ n → HaveEnded (rounds g n s)
+  pub rounds_end : IsSetup g → (s : State) → Sound g s → (n : ℕ) → total s ≤ n → HaveEnded (step_rounds g n s)
   rounds_end ok s sound n le = elim (rounds_lower ok s sound n) [
-    | inl lt ↦ elim (round_lowers ok (rounds g n s) (rounds_sound ok s sound n)) [ inl less ↦ absurd (omega arith) | inr all ↦ all ]
+    | inl lt ↦ elim (round_lowers ok (step_rounds g n s) (rounds_sound ok s sound n)) [ inl less ↦ absurd (omega arith) | inr all ↦ all ]
     | inr all ↦ all
   ]
 
@@ -320,9 +320,9 @@ module _ (g : Setup) where
   all_fresh [] = omega arith
   all_fresh (i ∷ ids) = let ih = all_fresh ids in let one = fresh_rank in omega arith
 
-  pub total_after : IsSetup g → (steps : List ℕ) → total (after g steps) ≤ rounds_enough g.lists
+  pub total_after : IsSetup g → (steps : List ℕ) → total (after g steps) ≤ most_step_rounds g.lists
   total_after ok [] = all_fresh g.lists.ids
   total_after ok (c ∷ steps) = let le = step_keeps ok (after g steps) (always g ok steps) c in let ih = total_after ok steps in omega arith
 
 pub rounds_are_enough : RoundsEnd
-rounds_are_enough g ok steps = rounds_end g ok (after g steps) (always g ok steps) (rounds_enough g.lists) (total_after g ok steps)
+rounds_are_enough g ok steps = rounds_end g ok (after g steps) (always g ok steps) (most_step_rounds g.lists) (total_after g ok steps)

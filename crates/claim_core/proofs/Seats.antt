@@ -7,53 +7,53 @@ use Rattle.std.proofs.lemmas.List.{length-reverse, nil_from_length}
 use Rattle.std.proofs.lemmas.Option.{none-some, same_Some}
 use Rattle.amoebot_state.specs.Pairs.{Pairs}
 use Rattle.claim_core.specs.declared.marks.Mark.{Mark}
-use Rattle.claim_core.specs.declared.machine.Seat.{Seat}
+use Rattle.claim_core.specs.declared.machine.CoreCaller.{CoreCaller}
 use Rattle.claim_core.specs.declared.state.Phase.TheVariants as phase
 use Rattle.claim_core.specs.declared.state.Caller.{Caller}
-use Rattle.claim_core.specs.Machine.{Setup, frees, fresh}
+use Rattle.claim_core.specs.Machine.{Setup, freeing_caller, fresh}
 use Rattle.claim_core.specs.Cores.{caller_with, callers_with, Begins, Frees, unmarked}
 
-pub length-callers : (ss : List Seat) (ms : List (List Mark)) → length ms ≡ length ss → length (callers_with ss ms) ≡ length ss
+pub length-callers : (ss : List CoreCaller) (ms : List (List Mark)) → length ms ≡ length ss → length (callers_with ss ms) ≡ length ss
 length-callers [] ms e = refl
 length-callers (s ∷ ss) [] e = absurd (omega arith)
 length-callers (s ∷ ss) (m ∷ ms) e = ap suc (length-callers ss ms (omega arith))
 
-pub callers-at : (ss : List Seat) (ms : List (List Mark)) (c : ℕ) (s : Seat) → length ms ≡ length ss → c < length ss → s ≡ get_or ss c s → slice_get (callers_with ss ms) c ≡ Some (caller_with s (get_or ms c []))
+pub callers-at : (ss : List CoreCaller) (ms : List (List Mark)) (c : ℕ) (s : CoreCaller) → length ms ≡ length ss → c < length ss → s ≡ get_or ss c s → slice_get (callers_with ss ms) c ≡ Some (caller_with s (get_or ms c []))
 callers-at [] ms c s e lt read = absurd (omega arith)
 callers-at (x ∷ ss) [] c s e lt read = absurd (omega arith)
 callers-at (x ∷ ss) (m ∷ ms) zero s e lt read = ap (λ y. Some (caller_with y m)) (sym read)
 callers-at (x ∷ ss) (m ∷ ms) (suc c) s e lt read = callers-at ss ms c s (omega arith) (omega arith) read
 
-pub callers-set : (ss : List Seat) (ms : List (List Mark)) (c : ℕ) (s : Seat) → callers_with (set ss c s) ms ≡ set (callers_with ss ms) c (caller_with s (get_or ms c []))
+pub callers-set : (ss : List CoreCaller) (ms : List (List Mark)) (c : ℕ) (s : CoreCaller) → callers_with (set ss c s) ms ≡ set (callers_with ss ms) c (caller_with s (get_or ms c []))
 callers-set [] ms c s = refl
 callers-set (x ∷ ss) [] zero s = refl
 callers-set (x ∷ ss) [] (suc c) s = refl
 callers-set (x ∷ ss) (m ∷ ms) zero s = refl
 callers-set (x ∷ ss) (m ∷ ms) (suc c) s = ap (λ ks. caller_with x m ∷ ks) (callers-set ss ms c s)
 
-pub callers-set_both : (ss : List Seat) (ms : List (List Mark)) (c : ℕ) (s : Seat) (m : List Mark) → length ms ≡ length ss → callers_with (set ss c s) (set ms c m) ≡ set (callers_with ss ms) c (caller_with s m)
+pub callers-set_both : (ss : List CoreCaller) (ms : List (List Mark)) (c : ℕ) (s : CoreCaller) (m : List Mark) → length ms ≡ length ss → callers_with (set ss c s) (set ms c m) ≡ set (callers_with ss ms) c (caller_with s m)
 callers-set_both [] ms c s m e = refl
 callers-set_both (x ∷ ss) [] c s m e = absurd (omega arith)
 callers-set_both (x ∷ ss) (y ∷ ms) zero s m e = refl
 callers-set_both (x ∷ ss) (y ∷ ms) (suc c) s m e = ap (λ ks. caller_with x y ∷ ks) (callers-set_both ss ms c s m (omega arith))
 
-pub callers-marks_at : (ss : List Seat) (ms : List (List Mark)) (c : ℕ) (k : Caller) → slice_get (callers_with ss ms) c ≡ Some k → get_or ms c [] ≡ k.marks
+pub callers-marks_at : (ss : List CoreCaller) (ms : List (List Mark)) (c : ℕ) (k : Caller) → slice_get (callers_with ss ms) c ≡ Some k → get_or ms c [] ≡ k.marks
 callers-marks_at [] ms c k e = absurd (none-some k e)
 callers-marks_at (s ∷ ss) [] c k e = absurd (none-some k e)
 callers-marks_at (s ∷ ss) (m ∷ ms) zero k e = ap (λ (j : Caller). j.marks) (same_Some (caller_with s m) k e)
 callers-marks_at (s ∷ ss) (m ∷ ms) (suc c) k e = callers-marks_at ss ms c k e
 
-pub callers-marks : (ss : List Seat) (ms : List (List Mark)) → length ms ≡ length ss → map (λ (k : Caller). k.marks) (callers_with ss ms) ≡ ms
+pub callers-marks : (ss : List CoreCaller) (ms : List (List Mark)) → length ms ≡ length ss → map (λ (k : Caller). k.marks) (callers_with ss ms) ≡ ms
 callers-marks [] [] e = refl
 callers-marks [] (m ∷ ms) e = absurd (omega arith)
 callers-marks (s ∷ ss) [] e = absurd (omega arith)
 callers-marks (s ∷ ss) (m ∷ ms) e = ap (λ xs. m ∷ xs) (callers-marks ss ms (omega arith))
 
 -- a seat that frees its cells is the caller that does
-pub frees-is : (g : Setup) (old new : Seat) (marks : List Mark) → Frees g.lists.turns old new → caller_with new marks ≡ frees g old.turn (reverse old.held.items) marks
+pub frees-is : (g : Setup) (old new : CoreCaller) (marks : List Mark) → Frees g.lists.turns old new → caller_with new marks ≡ freeing_caller g old.turn (reverse old.held.items) marks
 frees-is g old new marks is = by (reverse old.held.items) refl
   where
-    by : (held : Pairs) → reverse old.held.items ≡ held → caller_with new marks ≡ frees g old.turn held marks
+    by : (held : Pairs) → reverse old.held.items ≡ held → caller_with new marks ≡ freeing_caller g old.turn held marks
     by [] e =
         let none : old.held.items ≡ [] = nil_from_length old.held.items (sym (length-reverse old.held.items) ∙ ap (λ (h : Pairs). length h) e) in
         let b = is.0 none in
@@ -70,18 +70,18 @@ unmarked-set turns zero (x ∷ ms) m inside lt = omega (arith, length-append x (
 unmarked-set turns (suc c) (x ∷ ms) m inside lt = let ih = unmarked-set turns c ms m (omega arith) lt in omega arith
 
 -- the callers have ended where the seats have
-pub seats_ended : (ss : List Seat) (ms : List (List Mark)) → length ms ≡ length ss → All (λ (s : Seat). s.phase ≡ phase.Ended) ss → All (λ (k : Caller). k.phase ≡ phase.Ended) (callers_with ss ms)
+pub seats_ended : (ss : List CoreCaller) (ms : List (List Mark)) → length ms ≡ length ss → All (λ (s : CoreCaller). s.phase ≡ phase.Ended) ss → All (λ (k : Caller). k.phase ≡ phase.Ended) (callers_with ss ms)
 seats_ended [] ms e all = All-nil (λ (k : Caller). k.phase ≡ phase.Ended)
 seats_ended (s ∷ ss) [] e all = absurd (omega arith)
-seats_ended (s ∷ ss) (m ∷ ms) e all = All-cons (λ (k : Caller). k.phase ≡ phase.Ended) (caller_with s m) (callers_with ss ms) (All-head (λ (x : Seat). x.phase ≡ phase.Ended) s ss all) (seats_ended ss ms (omega arith) (All-tail (λ (x : Seat). x.phase ≡ phase.Ended) s ss all))
+seats_ended (s ∷ ss) (m ∷ ms) e all = All-cons (λ (k : Caller). k.phase ≡ phase.Ended) (caller_with s m) (callers_with ss ms) (All-head (λ (x : CoreCaller). x.phase ≡ phase.Ended) s ss all) (seats_ended ss ms (omega arith) (All-tail (λ (x : CoreCaller). x.phase ≡ phase.Ended) s ss all))
 
-pub callers_ended : (ss : List Seat) (ms : List (List Mark)) → length ms ≡ length ss → All (λ (k : Caller). k.phase ≡ phase.Ended) (callers_with ss ms) → All (λ (s : Seat). s.phase ≡ phase.Ended) ss
-callers_ended [] ms e all = All-nil (λ (s : Seat). s.phase ≡ phase.Ended)
+pub callers_ended : (ss : List CoreCaller) (ms : List (List Mark)) → length ms ≡ length ss → All (λ (k : Caller). k.phase ≡ phase.Ended) (callers_with ss ms) → All (λ (s : CoreCaller). s.phase ≡ phase.Ended) ss
+callers_ended [] ms e all = All-nil (λ (s : CoreCaller). s.phase ≡ phase.Ended)
 callers_ended (s ∷ ss) [] e all = absurd (omega arith)
-callers_ended (s ∷ ss) (m ∷ ms) e all = All-cons (λ (x : Seat). x.phase ≡ phase.Ended) s ss (All-head (λ (k : Caller). k.phase ≡ phase.Ended) (caller_with s m) (callers_with ss ms) all) (callers_ended ss ms (omega arith) (All-tail (λ (k : Caller). k.phase ≡ phase.Ended) (caller_with s m) (callers_with ss ms) all))
+callers_ended (s ∷ ss) (m ∷ ms) e all = All-cons (λ (x : CoreCaller). x.phase ≡ phase.Ended) s ss (All-head (λ (k : Caller). k.phase ≡ phase.Ended) (caller_with s m) (callers_with ss ms) all) (callers_ended ss ms (omega arith) (All-tail (λ (k : Caller). k.phase ≡ phase.Ended) (caller_with s m) (callers_with ss ms) all))
 
 -- callers before their first turn
-pub callers_fresh : (g : Setup) (ss : List Seat) (ids : List (List ℕ)) → length ss ≡ length ids → All (Begins g.lists.turns 0) ss → callers_with ss (replicate (length ids) []) ≡ map (λ (_ : List ℕ). fresh g) ids
+pub callers_fresh : (g : Setup) (ss : List CoreCaller) (ids : List (List ℕ)) → length ss ≡ length ids → All (Begins g.lists.turns 0) ss → callers_with ss (replicate (length ids) []) ≡ map (λ (_ : List ℕ). fresh g) ids
 callers_fresh g [] [] e all = refl
 callers_fresh g [] (i ∷ ids) e all = absurd (omega arith)
 callers_fresh g (s ∷ ss) [] e all = absurd (omega arith)

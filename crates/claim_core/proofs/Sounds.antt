@@ -18,7 +18,7 @@ use Rattle.claim_core.specs.Soundness.{IsSetup, CallerOk, Sound}
 use Rattle.claim_core.proofs.Places.{map-get}
 use Rattle.claim_core.proofs.Frames.{run_framed}
 use Rattle.claim_core.proofs.Claims.{refuses, wins-sound}
-use Rattle.claim_core.proofs.Freeing.{opens_ok, refusing, looking, releases_sound}
+use Rattle.claim_core.proofs.ReleaseLemmas.{opens_ok, refusing, looking, releases_sound}
 use Rattle.claim_core.proofs.Commits.{takes_sound, commits_sound}
 
 module _ (g : Setup) (ok : IsSetup g) where

@@ -11,7 +11,7 @@ use Rattle.claim_core.specs.Laws.{TagTellsItsOwner, EndedStays, HoldsNothingHasN
 use Rattle.claim_core.proofs.Tags.{tag-parts, tag-positive}
 use Rattle.claim_core.proofs.Places.{one_at}
 use Rattle.claim_core.proofs.Frames.{own_small, turn_small}
-use Rattle.claim_core.proofs.Holding.{is_known, active, has_tag, one_owner}
+use Rattle.claim_core.proofs.HolderLemmas.{is_known, active, has_tag, one_owner}
 use Rattle.claim_core.proofs.Sounds.{always}
 
 pub tag_tells_its_owner : TagTellsItsOwner

@@ -27,7 +27,8 @@ HasVerdict f first entries place bot v = (world : Config) × IsWorldAt f first e
 
 -- a cell is in the zone of an amoebot in the world at a place
 abbrev pub HasInZone : (Shown → Verdict) → Config → List Entry → ℕ → ℕ → CellName → Type 0
-HasInZone f first entries place bot cell = (world : Config) × IsWorldAt f first entries place world × Contains (zone world bot) cell
+HasInZone f first entries place bot cell =
+    (world : Config) × IsWorldAt f first entries place world × Contains (zone world bot) cell
 
 -- an entry is one of a turn of the lists
 pub record IsListed (lists : CallerLists) (e : Entry) : Type 0 where
@@ -59,28 +60,40 @@ place_after (mark.Failed why place) = place
 place_after (mark.Busy cell by_caller by_turn by_bot place) = place
 
 -- a turn of another caller, on its amoebot, at whose mark's place the cell was in its zone
-pub record MayHold (f : Shown → Verdict) (first : Config) (lists : CallerLists) (entries : List Entry) (marks : MarkLists) (caller : ℕ) (cell : CellName) (by_caller by_turn by_bot : ℕ) : Type 0 where
+pub record MayHold (f : Shown → Verdict) (first : Config) (lists : CallerLists) (entries : List Entry)
+    (marks : MarkLists) (caller : ℕ) (cell : CellName) (by_caller by_turn by_bot : ℕ) : Type 0 where
   pub listed : by_caller < length lists.ids
   pub other : by_caller ≢ caller
   pub turn : by_turn < lists.turns
   pub bot : by_bot ≡ bot_of_turn lists by_caller by_turn
-  pub in_zone : (by : Mark) × (mark_of_turn marks by_caller by_turn ≡ Some by) × HasInZone f first entries (place_of by) by_bot cell
+  pub in_zone : (by : Mark) × (mark_of_turn marks by_caller by_turn ≡ Some by)
+      × HasInZone f first entries (place_of by) by_bot cell
 
 -- what the mark of a caller's turn says is so: Done that the entry at the place is the turn's; Idle and Failed that this is the
 -- verdict on the world at the place; Busy that the cell is in the amoebot's zone there and that the other turn may have held it
 abbrev pub TurnOk : (Shown → Verdict) → Config → CallerLists → List Entry → MarkLists → ℕ → ℕ → Mark → Type 0
-TurnOk f first lists entries marks caller turn (mark.Done place) = (e : Entry) × (slice_get entries place ≡ Some e) × (e.caller ≡ caller) × (e.turn ≡ turn)
-TurnOk f first lists entries marks caller turn (mark.Idle place) = HasVerdict f first entries place (bot_of_turn lists caller turn) verdict.Idle
-TurnOk f first lists entries marks caller turn (mark.Failed why place) = HasVerdict f first entries place (bot_of_turn lists caller turn) (verdict.Failed why)
-TurnOk f first lists entries marks caller turn (mark.Busy cell by_caller by_turn by_bot place) = HasInZone f first entries place (bot_of_turn lists caller turn) cell × MayHold f first lists entries marks caller cell by_caller by_turn by_bot
+TurnOk f first lists entries marks caller turn (mark.Done place) =
+    (e : Entry) × (slice_get entries place ≡ Some e) × (e.caller ≡ caller) × (e.turn ≡ turn)
+TurnOk f first lists entries marks caller turn (mark.Idle place) =
+    HasVerdict f first entries place (bot_of_turn lists caller turn) verdict.Idle
+TurnOk f first lists entries marks caller turn (mark.Failed why place) =
+    HasVerdict f first entries place (bot_of_turn lists caller turn) (verdict.Failed why)
+TurnOk f first lists entries marks caller turn (mark.Busy cell by_caller by_turn by_bot place) =
+    HasInZone f first entries place (bot_of_turn lists caller turn) cell
+    × MayHold f first lists entries marks caller cell by_caller by_turn by_bot
 
 -- each turn of each caller has one mark, which is right, and each entry is its turn's; along the turns of one caller places
 -- never fall, and a later one is above the own entry. So a later turn sees all that its caller committed
-pub record AreMarks (f : Shown → Verdict) (first : Config) (lists : CallerLists) (entries : List Entry) (marks : MarkLists) : Type 0 where
+pub record AreMarks (f : Shown → Verdict) (first : Config) (lists : CallerLists) (entries : List Entry)
+    (marks : MarkLists) : Type 0 where
   pub callers : length marks.marks ≡ length lists.ids
   pub turns : All (λ own. length own ≡ lists.turns) marks.marks
-  pub right : (caller turn : ℕ) (m : Mark) → mark_of_turn marks caller turn ≡ Some m → TurnOk f first lists entries marks caller turn m
-  pub committed : (place : ℕ) (e : Entry) → slice_get entries place ≡ Some e → mark_of_turn marks e.caller e.turn ≡ Some (mark.Done place)
+  pub right : (caller turn : ℕ) (m : Mark)
+      → mark_of_turn marks caller turn ≡ Some m
+      → TurnOk f first lists entries marks caller turn m
+  pub committed : (place : ℕ) (e : Entry)
+      → slice_get entries place ≡ Some e
+      → mark_of_turn marks e.caller e.turn ≡ Some (mark.Done place)
   pub rising : All (AllPairs (λ one later. place_after one ≤ place_of later)) marks.marks
 
 -- the journal is a run of the model from the valid world w0 to the report's world, its entries are those of turns of the lists

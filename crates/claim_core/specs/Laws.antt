@@ -23,11 +23,16 @@ use Rattle.claim_core.specs.Cells.{number, at}
 use Rattle.claim_core.specs.Machine.{Setup, State, next, after, committed}
 use Rattle.claim_core.specs.Soundness.{IsSetup, Sound, names}
 use Rattle.claim_core.specs.Reached.{HaveEnded, IsReportOf, Reached, entries_of, placed, IsShownAt}
-use Rattle.claim_core.specs.Rounds.{rounds, rounds_enough}
+use Rattle.claim_core.specs.StepRounds.{step_rounds, most_step_rounds}
 
 -- a tag tells its caller, its turn and its amoebot, and is not 0
 abbrev pub TagTellsItsOwner : Type 0
-TagTellsItsOwner = (caller turn bot : ℕ) → turn < most_turns → bot < most_bots → (tag_caller (tag caller turn bot) ≡ caller) × (tag_turn (tag caller turn bot) ≡ turn) × (tag_bot (tag caller turn bot) ≡ bot) × (tag caller turn bot ≢ 0)
+TagTellsItsOwner =
+    (caller turn bot : ℕ)
+    → turn < most_turns
+    → bot < most_bots
+    → (tag_caller (tag caller turn bot) ≡ caller) × (tag_turn (tag caller turn bot) ≡ turn)
+    × (tag_bot (tag caller turn bot) ≡ bot) × (tag caller turn bot ≢ 0)
 
 -- after any list of steps the state is sound
 abbrev pub IsAlwaysSound : Type 0
@@ -40,27 +45,52 @@ ReachedIsGood = (g : Setup) → IsSetup g → (report : Report) → Reached g re
 -- a state has at most one report: two of them have one world, journals of one first world and the same entries, and the same marks. So
 -- they are one, but for the room in their journals
 abbrev pub StateHasOneReport : Type 0
-StateHasOneReport = (g : Setup) (s : State) (one two : Report) → IsReportOf g s one → IsReportOf g s two → (one.world ≡ two.world) × (one.journal.first ≡ two.journal.first) × (one.journal.entries ≡ two.journal.entries) × (one.turns ≡ two.turns)
+StateHasOneReport =
+    (g : Setup) (s : State) (one two : Report)
+    → IsReportOf g s one
+    → IsReportOf g s two
+    → (one.world ≡ two.world) × (one.journal.first ≡ two.journal.first) × (one.journal.entries ≡ two.journal.entries)
+    × (one.turns ≡ two.turns)
 
 -- each entry's change was decided on what the run shows its amoebot at its place
 abbrev pub EntryIsDecided : Type 0
-EntryIsDecided = (g : Setup) → IsSetup g → (steps : List ℕ) (place : ℕ) (e : Entry) → slice_get (after g steps).journal place ≡ Some e → (world : Config) × IsWorldAt g.verdict g.world (after g steps).journal place world × (g.verdict (shown world e.bot) ≡ verdict.Change (change_of e))
+EntryIsDecided =
+    (g : Setup)
+    → IsSetup g
+    → (steps : List ℕ) (place : ℕ) (e : Entry)
+    → slice_get (after g steps).journal place ≡ Some e
+    → (world : Config) × IsWorldAt g.verdict g.world (after g steps).journal place world
+    × (g.verdict (shown world e.bot) ≡ verdict.Change (change_of e))
 
 -- what is kept beside the state as committed by a caller is the caller's entries of the journal, each with its place
 abbrev pub CommittedIsJournal : Type 0
-CommittedIsJournal = (g : Setup) (c : ℕ) (steps : List ℕ) → map placed (committed g c steps) ≡ entries_of c 0 (after g steps).journal
+CommittedIsJournal =
+    (g : Setup) (c : ℕ) (steps : List ℕ) → map placed (committed g c steps) ≡ entries_of c 0 (after g steps).journal
 
 -- and with what the run shows the entry's amoebot there
 abbrev pub CommittedIsShown : Type 0
-CommittedIsShown = (g : Setup) → IsSetup g → (c : ℕ) (steps : List ℕ) → All (IsShownAt g (after g steps).journal) (committed g c steps)
+CommittedIsShown =
+    (g : Setup)
+    → IsSetup g
+    → (c : ℕ) (steps : List ℕ)
+    → All (IsShownAt g (after g steps).journal) (committed g c steps)
 
 -- in a good report of at most one list no turn is Busy
 abbrev pub OneListIsNeverBusy : Type 0
-OneListIsNeverBusy = (f : Shown → Verdict) (w0 : Config) (lists : CallerLists) (report : Report) → length lists.ids ≤ 1 → Good f w0 lists report → (caller turn by_caller by_turn by_bot place : ℕ) (n : CellName) → mark_of_turn report.turns caller turn ≢ Some (mark.Busy n by_caller by_turn by_bot place)
+OneListIsNeverBusy =
+    (f : Shown → Verdict) (w0 : Config) (lists : CallerLists) (report : Report)
+    → length lists.ids ≤ 1
+    → Good f w0 lists report
+    → (caller turn by_caller by_turn by_bot place : ℕ) (n : CellName)
+    → mark_of_turn report.turns caller turn ≢ Some (mark.Busy n by_caller by_turn by_bot place)
 
 -- and the report is what the turns leave one after another, so that it is determined
 abbrev pub OneListIsSerial : Type 0
-OneListIsSerial = (f : Shown → Verdict) (w0 : Config) (lists : CallerLists) (report : Report) → length lists.ids ≤ 1 → Good f w0 lists report → SerialRun f w0 lists (all_turns lists) (left_by report)
+OneListIsSerial =
+    (f : Shown → Verdict) (w0 : Config) (lists : CallerLists) (report : Report)
+    → length lists.ids ≤ 1
+    → Good f w0 lists report
+    → SerialRun f w0 lists (all_turns lists) (left_by report)
 
 -- a step of a caller that has ended changes nothing
 abbrev pub EndedStays : Type 0
@@ -68,12 +98,30 @@ EndedStays = (g : Setup) (s : State) (c : ℕ) (k : Caller) → slice_get s.call
 
 -- no cell has a tag of a caller that holds nothing
 abbrev pub HoldsNothingHasNoTag : Type 0
-HoldsNothingHasNoTag = (g : Setup) → IsSetup g → (steps : List ℕ) (c : ℕ) (k : Caller) → slice_get (after g steps).callers c ≡ Some k → k.held ≡ [] → (n : CellName) (t : ℕ) → at (after g steps).tags (number g.world.area n) ≡ Some t → t ≢ 0 → tag_caller t ≢ c
+HoldsNothingHasNoTag =
+    (g : Setup)
+    → IsSetup g
+    → (steps : List ℕ) (c : ℕ) (k : Caller)
+    → slice_get (after g steps).callers c ≡ Some k
+    → k.held ≡ []
+    → (n : CellName) (t : ℕ)
+    → at (after g steps).tags (number g.world.area n) ≡ Some t
+    → t ≢ 0
+    → tag_caller t ≢ c
 
 -- no cell is held by two callers
 abbrev pub HeldByOne : Type 0
-HeldByOne = (g : Setup) → IsSetup g → (steps : List ℕ) (c d : ℕ) (k j : Caller) → slice_get (after g steps).callers c ≡ Some k → slice_get (after g steps).callers d ≡ Some j → (n : CellName) → Contains (names k.held) n → Contains (names j.held) n → c ≡ d
+HeldByOne =
+    (g : Setup)
+    → IsSetup g
+    → (steps : List ℕ) (c d : ℕ) (k j : Caller)
+    → slice_get (after g steps).callers c ≡ Some k
+    → slice_get (after g steps).callers d ≡ Some j
+    → (n : CellName)
+    → Contains (names k.held) n
+    → Contains (names j.held) n
+    → c ≡ d
 
 -- after any steps, so many rounds are enough for all callers to end
 abbrev pub RoundsEnd : Type 0
-RoundsEnd = (g : Setup) → IsSetup g → (steps : List ℕ) → HaveEnded (rounds g (rounds_enough g.lists) (after g steps))
+RoundsEnd = (g : Setup) → IsSetup g → (steps : List ℕ) → HaveEnded (step_rounds g (most_step_rounds g.lists) (after g steps))

@@ -6,8 +6,9 @@ pub mod Limits
 pub mod Machine
 pub mod Reached
 pub mod Rooms
-pub mod Rounds
+pub mod StepRounds
 pub mod SerialRuns
 pub mod Soundness
 pub mod Tags
 pub mod Turns
+pub use Rattle.amoebot_state.specs.Configs

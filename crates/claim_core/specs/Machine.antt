@@ -48,23 +48,23 @@ abbrev pub caller : ℕ → Phase → Pairs → List Mark → Caller
 caller t p h m = record { turn = t; phase = p; held = h; marks = m }
 
 -- the value of a held cell once a patch is committed
-abbrev pub renewed : Pairs → CellName × Cell → CellName × Cell
-renewed patch p = (cell_of p, unwrap_or (given patch (cell_of p)) (cell_value p))
+abbrev pub patched_pair : Pairs → CellName × Cell → CellName × Cell
+patched_pair patch p = (cell_of p, unwrap_or (given patch (cell_of p)) (cell_value p))
 
 -- the phase of a caller with its decision
-abbrev pub decided : Verdict → Phase
-decided verdict.Idle = Looking look.Idle
-decided (verdict.Failed why) = Looking (look.Failed why)
-decided (verdict.Change change) = Taking change
+abbrev pub phase_of_verdict : Verdict → Phase
+phase_of_verdict verdict.Idle = Looking look.Idle
+phase_of_verdict (verdict.Failed why) = Looking (look.Failed why)
+phase_of_verdict (verdict.Change change) = Taking change
 
 -- the mark of a turn that changes nothing
-abbrev pub looked : Look → ℕ → Mark
-looked look.Idle place = mark.Idle place
-looked (look.Failed why) place = mark.Failed why place
+abbrev pub mark_of_look : Look → ℕ → Mark
+mark_of_look look.Idle place = mark.Idle place
+mark_of_look (look.Failed why) place = mark.Failed why place
 
 -- the mark of a turn that found a tag at a cell
-abbrev pub refused : CellName → ℕ → ℕ → Mark
-refused n t place = mark.Busy n (tag_caller t) (tag_turn t) (tag_bot t) place
+abbrev pub busy_mark : CellName → ℕ → ℕ → Mark
+busy_mark n t place = mark.Busy n (tag_caller t) (tag_turn t) (tag_bot t) place
 
 module _ (g : Setup) where
   -- the amoebot of a caller's turn, and its tag
@@ -85,21 +85,21 @@ module _ (g : Setup) where
   -- the phase after a cell was won: with the last one of the zone comes the decision
   abbrev pub after_win : ℕ → Pairs → Option CellName → Phase
   after_win b held (Some n) = Claim
-  after_win b held None = decided (g.verdict (found b held))
+  after_win b held None = phase_of_verdict (g.verdict (found b held))
 
-  abbrev pub won : ℕ → Caller → CellName → Cell → Caller
-  won c k n x =
+  abbrev pub caller_with_cell : ℕ → Caller → CellName → Cell → Caller
+  caller_with_cell c k n x =
       let held : Pairs = (n, x) ∷ k.held in
       record k { phase = after_win (bot c k.turn) held (next_of (bot c k.turn) held); held = held }
 
   -- the phase in which a turn begins
-  abbrev pub opens : ℕ → Phase
-  opens t = if nat_lt t g.lists.turns then Claim else Ended
+  abbrev pub opening_phase : ℕ → Phase
+  opening_phase t = if nat_lt t g.lists.turns then Claim else Ended
 
   -- a caller that goes on to free its cells, of which there may be none: then its next turn begins
-  abbrev pub frees : ℕ → Pairs → List Mark → Caller
-  frees t [] m = caller (t + 1) (opens (t + 1)) [] m
-  frees t (p ∷ held) m = caller t Releasing (p ∷ held) m
+  abbrev pub freeing_caller : ℕ → Pairs → List Mark → Caller
+  freeing_caller t [] m = caller (t + 1) (opening_phase (t + 1)) [] m
+  freeing_caller t (p ∷ held) m = caller t Releasing (p ∷ held) m
 
   -- the state with another record of a caller
   abbrev pub with_caller : State → ℕ → Caller → State
@@ -108,10 +108,17 @@ module _ (g : Setup) where
   -- a claim: the cell is free and is won, or it has another's tag
   abbrev pub wins : ℕ → State → Caller → CellName → Option Cell → State
   wins c s k n None = s
-  wins c s k n (Some x) = record s { tags = put_at s.tags (number g.world.area n) (own_tag c k.turn); callers = slice_set s.callers c (won c k n x) }
+  wins c s k n (Some x) =
+      record s {
+        tags = put_at s.tags (number g.world.area n) (own_tag c k.turn);
+        callers = slice_set s.callers c (caller_with_cell c k n x);
+      }
 
   abbrev pub claims : ℕ → State → Caller → CellName → ℕ → State
-  claims c s k n t = if nat_eq t 0 then wins c s k n (at s.values (number g.world.area n)) else with_caller s c (record k { phase = Refusing n t })
+  claims c s k n t =
+      if nat_eq t 0
+      then wins c s k n (at s.values (number g.world.area n))
+      else with_caller s c (record k { phase = Refusing n t })
 
   abbrev pub finds : ℕ → State → Caller → CellName → Option ℕ → State
   finds c s k n None = s
@@ -123,7 +130,7 @@ module _ (g : Setup) where
 
   -- a look at the journal's length: it is the place in the turn's mark
   abbrev pub looks : ℕ → State → Caller → Mark → State
-  looks c s k m = with_caller s c (frees k.turn k.held (k.marks ++ m ∷ []))
+  looks c s k m = with_caller s c (freeing_caller k.turn k.held (k.marks ++ m ∷ []))
 
   -- a try to take the journal, which another may hold
   abbrev pub takes : ℕ → State → Caller → Change → Option ℕ → State
@@ -141,19 +148,25 @@ module _ (g : Setup) where
     values = patched g.world.area change.patch s.values;
     journal = s.journal ++ entry c k.turn change ∷ [];
     holder = None;
-    callers = slice_set s.callers c (frees k.turn (map (renewed change.patch) k.held) (k.marks ++ mark.Done (length s.journal) ∷ []));
+    callers =
+        slice_set s.callers c
+        (freeing_caller k.turn (map (patched_pair change.patch) k.held) (k.marks ++ mark.Done (length s.journal) ∷ []));
   }
 
   -- the release of the cell that was won last
   abbrev pub releases : ℕ → State → Caller → Pairs → State
   releases c s k [] = s
-  releases c s k (p ∷ held) = record s { tags = put_at s.tags (number g.world.area (cell_of p)) 0; callers = slice_set s.callers c (frees k.turn held k.marks) }
+  releases c s k (p ∷ held) =
+      record s {
+        tags = put_at s.tags (number g.world.area (cell_of p)) 0;
+        callers = slice_set s.callers c (freeing_caller k.turn held k.marks);
+      }
 
   -- the step of a caller in each phase
   abbrev pub by_phase : ℕ → State → Caller → Phase → State
   by_phase c s k Claim = tries c s k (next_of (bot c k.turn) k.held)
-  by_phase c s k (Refusing n t) = looks c s k (refused n t (length s.journal))
-  by_phase c s k (Looking l) = looks c s k (looked l (length s.journal))
+  by_phase c s k (Refusing n t) = looks c s k (busy_mark n t (length s.journal))
+  by_phase c s k (Looking l) = looks c s k (mark_of_look l (length s.journal))
   by_phase c s k (Taking change) = takes c s k change s.holder
   by_phase c s k (Committing change) = commits c s k change
   by_phase c s k Releasing = releases c s k k.held
@@ -169,11 +182,18 @@ module _ (g : Setup) where
 
   -- the callers before their first turn
   abbrev pub fresh : Caller
-  fresh = caller 0 (opens 0) [] []
+  fresh = caller 0 (opening_phase 0) [] []
 
   -- the state in which a run begins
   abbrev pub opening : State
-  opening = record { tags = map (λ _. 0) (values_of g.world); values = values_of g.world; journal = []; holder = None; callers = map (λ _. fresh) g.lists.ids }
+  opening =
+      record {
+        tags = map (λ _. 0) (values_of g.world);
+        values = values_of g.world;
+        journal = [];
+        holder = None;
+        callers = map (λ _. fresh) g.lists.ids;
+      }
 
   -- the state after steps of these callers, of which the last one stands first
   abbrev pub after : List ℕ → State
@@ -182,7 +202,8 @@ module _ (g : Setup) where
 
   -- what the next step of a caller commits, with what was found for it
   abbrev pub commit_of : ℕ → State → Caller → Phase → List Committed
-  commit_of c s k (Committing change) = record { place = length s.journal; entry = entry c k.turn change; found = found (bot c k.turn) k.held } ∷ []
+  commit_of c s k (Committing change) =
+      record { place = length s.journal; entry = entry c k.turn change; found = found (bot c k.turn) k.held } ∷ []
   commit_of c s k phase = []
 
   abbrev pub commit_by : ℕ → State → Option Caller → List Committed
@@ -192,4 +213,7 @@ module _ (g : Setup) where
   -- beside the state: the entries that a caller committed in these steps, each with its place and what was found for it
   abbrev pub committed : ℕ → List ℕ → List Committed
   committed c [] = []
-  committed c (d ∷ steps) = if nat_eq d c then committed c steps ++ commit_by c (after steps) (slice_get (after steps).callers c) else committed c steps
+  committed c (d ∷ steps) =
+      if nat_eq d c
+      then committed c steps ++ commit_by c (after steps) (slice_get (after steps).callers c)
+      else committed c steps

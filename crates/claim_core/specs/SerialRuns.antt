@@ -4,9 +4,9 @@ use Rattle.amoebot_state.specs.declared.verdict.Entry.{Entry}
 use Rattle.amoebot_state.specs.declared.verdict.Verdict.{Verdict}
 use Rattle.amoebot_state.specs.Configs.{Config}
 use Rattle.amoebot_state.specs.Zones.{Shown}
-use Rattle.serial_model.specs.declared.Turned.{Turned}
-use Rattle.serial_model.specs.declared.Turned.TheVariants as turned
-use Rattle.serial_model.specs.SerialTurns.{SerialTurn}
+use Rattle.amoebot_state.specs.declared.verdict.Turned.{Turned}
+use Rattle.amoebot_state.specs.declared.verdict.Turned.TheVariants as turned
+use Rattle.amoebot_state.specs.SerialTurns.{SerialTurn}
 use Rattle.claim_core.specs.declared.marks.Mark.{Mark}
 use Rattle.claim_core.specs.declared.marks.Mark.TheVariants as mark
 use Rattle.claim_core.specs.declared.report.Report.{Report}
@@ -53,8 +53,19 @@ left_by report = record { marks = marks_of report.turns 0; entries = report.jour
 
 -- so many turns leave at most one thing
 abbrev pub SerialRunIsDetermined : Type 0
-SerialRunIsDetermined = (f : Shown → Verdict) (w0 : Config) (lists : CallerLists) (turns : ℕ) (one two : Left) → SerialRun f w0 lists turns one → SerialRun f w0 lists turns two → one ≡ two
+SerialRunIsDetermined =
+    (f : Shown → Verdict) (w0 : Config) (lists : CallerLists) (turns : ℕ) (one two : Left)
+    → SerialRun f w0 lists turns one
+    → SerialRun f w0 lists turns two
+    → one ≡ two
 
 -- so two good reports of one run of at most one list have one world, the same entries and the same marks
 abbrev pub SerialReportIsDetermined : Type 0
-SerialReportIsDetermined = (f : Shown → Verdict) (w0 : Config) (lists : CallerLists) (one two : Report) → length lists.ids ≤ 1 → Good f w0 lists one → Good f w0 lists two → SerialRun f w0 lists (all_turns lists) (left_by one) → SerialRun f w0 lists (all_turns lists) (left_by two) → (one.world ≡ two.world) × (one.journal.entries ≡ two.journal.entries) × (one.turns.marks ≡ two.turns.marks)
+SerialReportIsDetermined =
+    (f : Shown → Verdict) (w0 : Config) (lists : CallerLists) (one two : Report)
+    → length lists.ids ≤ 1
+    → Good f w0 lists one
+    → Good f w0 lists two
+    → SerialRun f w0 lists (all_turns lists) (left_by one)
+    → SerialRun f w0 lists (all_turns lists) (left_by two)
+    → (one.world ≡ two.world) × (one.journal.entries ≡ two.journal.entries) × (one.turns.marks ≡ two.turns.marks)

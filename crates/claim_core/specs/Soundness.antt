@@ -12,7 +12,7 @@ use Rattle.amoebot_state.specs.Limits.{most_bots}
 use Rattle.amoebot_state.specs.Pairs.{Pairs, cell_of, cell_value}
 use Rattle.amoebot_state.specs.Configs.{Config, IsValid, bot_at, value}
 use Rattle.amoebot_state.specs.Zones.{shown, zone}
-use Rattle.amoebot_state.specs.Steps.{Run, TouchesZone, HasNext}
+use Rattle.amoebot_state.specs.Steps.{Run, TouchesZone, HasPatchedWorld}
 use Rattle.claim_core.specs.declared.marks.Mark.{Mark}
 use Rattle.claim_core.specs.declared.marks.Mark.TheVariants as mark
 use Rattle.claim_core.specs.declared.state.Look.{Look}
@@ -76,7 +76,7 @@ pub record IsSetup (g : Setup) : Type 0 where
   pub lists : AreLists g.lists
   pub bots : All (All (λ id. IsSome (bot_at g.world id))) g.lists.ids
   pub touches : TouchesZone g.verdict
-  pub leads : HasNext g.verdict
+  pub leads : HasPatchedWorld g.verdict
 
 module _ (g : Setup) where
   -- the marks of all callers so far
@@ -110,25 +110,26 @@ module _ (g : Setup) where
   TurnOkSoFar s c t (mark.Done place) = (e : Entry) × (slice_get s.journal place ≡ Some e) × (e.caller ≡ c) × (e.turn ≡ t)
   TurnOkSoFar s c t (mark.Idle place) = HasVerdict g.verdict g.world s.journal place (bot g c t) verdict.Idle
   TurnOkSoFar s c t (mark.Failed why place) = HasVerdict g.verdict g.world s.journal place (bot g c t) (verdict.Failed why)
-  TurnOkSoFar s c t (mark.Busy n by_caller by_turn by_bot place) = HasInZone g.verdict g.world s.journal place (bot g c t) n × IsHolder s c n by_caller by_turn by_bot
+  TurnOkSoFar s c t (mark.Busy n by_caller by_turn by_bot place) =
+      HasInZone g.verdict g.world s.journal place (bot g c t) n × IsHolder s c n by_caller by_turn by_bot
 
   -- the tag that was found is one, and names such a turn
-  abbrev pub IsRefused : State → ℕ → Phase → Type 0
-  IsRefused s c Claim = Unit {0}
-  IsRefused s c (Refusing n t) = (t ≢ 0) × IsHolder s c n (tag_caller t) (tag_turn t) (tag_bot t)
-  IsRefused s c (Looking l) = Unit {0}
-  IsRefused s c (Taking change) = Unit {0}
-  IsRefused s c (Committing change) = Unit {0}
-  IsRefused s c Releasing = Unit {0}
-  IsRefused s c Ended = Unit {0}
+  abbrev pub IsRefusedPhase : State → ℕ → Phase → Type 0
+  IsRefusedPhase s c Claim = Unit {0}
+  IsRefusedPhase s c (Refusing n t) = (t ≢ 0) × IsHolder s c n (tag_caller t) (tag_turn t) (tag_bot t)
+  IsRefusedPhase s c (Looking l) = Unit {0}
+  IsRefusedPhase s c (Taking change) = Unit {0}
+  IsRefusedPhase s c (Committing change) = Unit {0}
+  IsRefusedPhase s c Releasing = Unit {0}
+  IsRefusedPhase s c Ended = Unit {0}
 
   -- the cells are the whole zone, and this is the verdict on it
-  pub record IsDecided (world : Config) (b : ℕ) (held : Pairs) (v : Verdict) : Type 0 where
+  pub record HasDecision (world : Config) (b : ℕ) (held : Pairs) (v : Verdict) : Type 0 where
     pub whole : names held ≡ zone world b
     pub verdict : g.verdict (shown world b) ≡ v
 
   -- at least one cell is held, and those that are were a front of the zone at the place of the turn's mark
-  pub record IsFreeing (s : State) (c t : ℕ) (held : Pairs) (marks : List Mark) : Type 0 where
+  pub record IsReleasingCaller (s : State) (c t : ℕ) (held : Pairs) (marks : List Mark) : Type 0 where
     pub told : Mark
     pub marked : slice_get marks t ≡ Some told
     pub world : Config
@@ -141,10 +142,10 @@ module _ (g : Setup) where
   abbrev pub HasFront : State → Config → ℕ → Caller → Phase → Type 0
   HasFront s last c k Claim = (n : CellName) × AreBefore last (bot g c k.turn) k.held n
   HasFront s last c k (Refusing n t) = AreBefore last (bot g c k.turn) k.held n
-  HasFront s last c k (Looking l) = IsDecided last (bot g c k.turn) k.held (verdict_of l)
-  HasFront s last c k (Taking change) = IsDecided last (bot g c k.turn) k.held (verdict.Change change)
-  HasFront s last c k (Committing change) = IsDecided last (bot g c k.turn) k.held (verdict.Change change)
-  HasFront s last c k Releasing = IsFreeing s c k.turn k.held k.marks
+  HasFront s last c k (Looking l) = HasDecision last (bot g c k.turn) k.held (verdict_of l)
+  HasFront s last c k (Taking change) = HasDecision last (bot g c k.turn) k.held (verdict.Change change)
+  HasFront s last c k (Committing change) = HasDecision last (bot g c k.turn) k.held (verdict.Change change)
+  HasFront s last c k Releasing = IsReleasingCaller s c k.turn k.held k.marks
   HasFront s last c k Ended = k.held ≡ []
 
   -- a held cell has the tag of its caller's turn, and its recorded value is what it holds in the last world
@@ -160,7 +161,7 @@ module _ (g : Setup) where
     pub holder : IsCommitting k.phase → s.holder ≡ Some c
     pub counted : length k.marks ≡ marked k.phase k.turn
     pub right : (t : ℕ) (m : Mark) → slice_get k.marks t ≡ Some m → TurnOkSoFar s c t m
-    pub refused : IsRefused s c k.phase
+    pub refused : IsRefusedPhase s c k.phase
     pub rising : AllPairs (λ one later. place_after one ≤ place_of later) k.marks
     pub within : All (λ m. place_after m ≤ length s.journal) k.marks
 
@@ -173,8 +174,13 @@ module _ (g : Setup) where
     pub values : s.values ≡ values_of last
     pub tagged : length s.tags ≡ length s.values
     pub order : Order g.lists s.journal
-    pub committed : (place : ℕ) (e : Entry) → slice_get s.journal place ≡ Some e → mark_of_turn (marks_so_far s) e.caller e.turn ≡ Some (mark.Done place)
+    pub committed : (place : ℕ) (e : Entry)
+        → slice_get s.journal place ≡ Some e
+        → mark_of_turn (marks_so_far s) e.caller e.turn ≡ Some (mark.Done place)
     pub callers : length s.callers ≡ length g.lists.ids
     pub each : (c : ℕ) (k : Caller) → slice_get s.callers c ≡ Some k → CallerOk s last c k
-    pub owned : (n : CellName) (t : ℕ) → at s.tags (number g.world.area n) ≡ Some t → t ≢ 0 → (c : ℕ) × (k : Caller) × (slice_get s.callers c ≡ Some k) × Contains (names k.held) n
+    pub owned : (n : CellName) (t : ℕ)
+        → at s.tags (number g.world.area n) ≡ Some t
+        → t ≢ 0
+        → (c : ℕ) × (k : Caller) × (slice_get s.callers c ≡ Some k) × Contains (names k.held) n
     pub holder : (c : ℕ) → s.holder ≡ Some c → (k : Caller) × (slice_get s.callers c ≡ Some k) × IsCommitting k.phase

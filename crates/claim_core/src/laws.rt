@@ -1,4 +1,6 @@
-ghost use Rattle.claim_core.specs.Laws.{TagTellsItsOwner, IsAlwaysSound, ReachedIsGood, StateHasOneReport, EntryIsDecided, CommittedIsJournal, CommittedIsShown, OneListIsNeverBusy, OneListIsSerial, EndedStays, HoldsNothingHasNoTag, HeldByOne, RoundsEnd};
+ghost use Rattle.claim_core.specs.Laws.{TagTellsItsOwner, IsAlwaysSound, ReachedIsGood, StateHasOneReport};
+ghost use Rattle.claim_core.specs.Laws.{EntryIsDecided, CommittedIsJournal, CommittedIsShown, OneListIsNeverBusy};
+ghost use Rattle.claim_core.specs.Laws.{OneListIsSerial, EndedStays, HoldsNothingHasNoTag, HeldByOne, RoundsEnd};
 ghost use Rattle.claim_core.specs.SerialRuns.{SerialRunIsDetermined, SerialReportIsDetermined};
 
 use amoebot_state::step_has_one_result;

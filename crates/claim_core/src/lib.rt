@@ -1,5 +1,5 @@
-//! The callers' lists, the journal, the marks and the report of a concurrent run, what makes a report a good one, and the machine that the callers'
-//! claims, decisions, commits and releases step.
+//! The callers' lists, the journal, the marks and the report of a concurrent run, and what makes a report a good one.
+//! And the machine that the callers' claims, decisions, commits and releases step.
 #![tactic(auto)]
 
 mod cells;

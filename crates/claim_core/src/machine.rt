@@ -1,20 +1,21 @@
 ghost use Rattle.std.specs.Prelude.{◌≡◌, ◌<◌, ◌+◌, length, map, IfOk, IsSome, slice_get, Some, None, IfSome, IsTrue, ◌↔◌};
 ghost use Rattle.amoebot_state.specs.Pairs.{body_in};
-ghost use Rattle.amoebot_state.specs.Refusals.{IsPlain};
+ghost use Rattle.amoebot_state.specs.Refusals.{IsBotInRange};
 ghost use Rattle.amoebot_state.specs.Zones.{IsShown};
 ghost use Rattle.amoebot_state.specs.Known.{next_cell};
 ghost use Rattle.std.specs.List.{All};
 ghost use Rattle.claim_core.specs.Tags.{tag_caller};
 ghost use Rattle.claim_core.specs.Cells.{held_by};
-ghost use Rattle.claim_core.specs.Machine.{decided, refused, looked, next};
+ghost use Rattle.claim_core.specs.Machine.{phase_of_verdict, busy_mark, mark_of_look, next};
 ghost use Rattle.amoebot_state.specs.Configs.{bot_at};
 ghost use Rattle.claim_core.specs.Good.{Good};
 ghost use Rattle.claim_core.specs.Reached.{HaveEnded, IsReachedState, IsReportOf, Reached};
 ghost use Rattle.claim_core.specs.Soundness.{IsSetup, Sound};
-ghost use Rattle.claim_core.specs.Rounds.{round};
+ghost use Rattle.claim_core.specs.StepRounds.{step_round};
 ghost use Rattle.amoebot_state.specs.declared.verdict.Change.{Change};
 ghost use Rattle.claim_core.specs.declared.state.Phase.TheVariants as phase;
-ghost use Rattle.claim_core.specs.Cores.{Begins, Frees, IsFinished, opened, HasPhase, HasTurn, HoldsCells, IsSeat, IsUnmarked, IsCell, looks_at, opens_by, phase_after, stepped, setup_of};
+ghost use Rattle.claim_core.specs.Cores.{Begins, Frees, IsFinished, opening_core, HasPhase, HasTurn, HoldsCells, IsCoreCaller};
+ghost use Rattle.claim_core.specs.Cores.{IsUnmarked, IsCell, looks_at, opens_by, phase_after, stepped, setup_of};
 
 use crate::cells::{cell_number, cells_of};
 use crate::journal::Journal;
@@ -36,18 +37,18 @@ use tri_lattice::Area;
 /// A caller: its turn, what it does next, and the cells that it holds, in the order in which they were won, each with its value as
 /// it was recorded.
 #[derive(Drop)]
-struct Seat {
+struct CoreCaller {
     turn: u32,
     phase: Phase,
     held: ArrayVec<(CellName, Cell), CELL_ROOM>,
 }
 
-impl Seat {
+impl CoreCaller {
     /// A caller that begins a turn, of so many.
-    fn at(turn: u32, turns: u32) -> Seat
+    fn at(turn: u32, turns: u32) -> CoreCaller
         ensures { Begins turns turn result }
     {
-        Seat {
+        CoreCaller {
             turn,
             phase: opening_phase(turn, turns),
             held: ArrayVec::new(),
@@ -88,7 +89,7 @@ pub struct Core<'d, D: Decider> {
     tags: Vec<u64>,
     journal: Journal,
     holder: Option<u8>,
-    seats: Vec<Seat>,
+    seats: Vec<CoreCaller>,
     marks: Marks,
 }
 
@@ -99,7 +100,12 @@ impl<'d, D: Decider> Model for Core<'d, D> {
 
     ghost use Rattle.claim_core.specs.Cores.{state_of, IsCore};
 
-    ghost view = { λ c. record { decider = c.decider.now; first = c.journal.first; lists = c.lists; state = state_of c.tags.items c.world c.journal c.holder c.seats.items c.marks } };
+    ghost view = { λ c. record {
+      decider = c.decider.now;
+      first = c.journal.first;
+      lists = c.lists;
+      state = state_of c.tags.items c.world c.journal c.holder c.seats.items c.marks;
+    } };
 
     ghost invariant = { λ c. IsCore (D.verdict c.decider.now) c.lists c.tags.items c.world c.journal c.holder c.seats.items c.marks };
 }
@@ -113,7 +119,7 @@ impl<'d, D: Decider> Core<'d, D> {
         lists: &Lists,
     ) -> Result<Core<'d, D>, NoMemory>
         requires { All (All (λ id. IsSome (bot_at world id))) lists.now.ids }
-        ensures opened { IfOk result (λ core. core ≡ opened D.verdict decider.now world lists.now) }
+        ensures opened { IfOk result (λ core. core ≡ opening_core D.verdict decider.now world lists.now) }
         ensures callers { IfOk result (λ core. length core.state.callers ≡ length lists.now.ids) }
     {
         world.keeps();
@@ -132,7 +138,7 @@ impl<'d, D: Decider> Core<'d, D> {
         }
         let mut seats = Vec::new(alloc);
         for _caller in 0..callers {
-            if seats.push(Seat::at(0, turns)).is_err() {
+            if seats.push(CoreCaller::at(0, turns)).is_err() {
                 return Err(NoMemory);
             }
         }
@@ -200,9 +206,9 @@ impl<'d, D: Decider> Core<'d, D> {
         self.tags.as_slice()
     }
 
-    fn seat(&self, caller: u8) -> &Seat
+    fn seat(&self, caller: u8) -> &CoreCaller
         requires { caller < length self.now.state.callers }
-        ensures { IsSeat self.now.state.callers caller result.now }
+        ensures { IsCoreCaller self.now.state.callers caller result.now }
     {
         &self.seats[usize::from(caller)]
     }
@@ -275,7 +281,8 @@ impl<'d, D: Decider> Core<'d, D> {
     /// Refusing, Looking and the end of Committing: the turn gets its mark.
     fn settle(&mut self, caller: u8, mark: Mark)
         requires unmarked { IsUnmarked self.old.lists.turns self.old.state.callers caller }
-        requires next { next (setup_of D.verdict self.old) caller self.old.state ≡ looks_at (setup_of D.verdict self.old) caller self.old.state (slice_get self.old.state.callers caller) mark }
+        requires next { next (setup_of D.verdict self.old) caller self.old.state
+            ≡ looks_at (setup_of D.verdict self.old) caller self.old.state (slice_get self.old.state.callers caller) mark }
         ensures { self.new ≡ stepped D.verdict caller self.old }
     {
         let turns = self.lists.turns();
@@ -367,7 +374,7 @@ impl<'d, D: Decider> Core<'d, D> {
 
     /// One step of each caller, in rising number.
     fn round(&mut self)
-        ensures { self.new ≡ record self.old { state = round (setup_of D.verdict self.old) self.old.state } }
+        ensures { self.new ≡ record self.old { state = step_round (setup_of D.verdict self.old) self.old.state } }
     {
         let callers = self.lists.callers();
         for caller in 0..callers {
@@ -397,7 +404,7 @@ impl<'d, D: Decider> Core<'d, D> {
 }
 
 /// Whether each of the callers has ended.
-fn have_ended(seats: &[Seat]) -> bool
+fn have_ended(seats: &[CoreCaller]) -> bool
     ensures { IsTrue result ↔ All (λ seat. seat.phase ≡ phase.Ended) seats.now }
 {
     for seat in seats {
@@ -434,7 +441,7 @@ fn record_again(world: &World, held: &mut [(CellName, Cell)])
 fn busy(cell: CellName, tag: u64, place: u32) -> Mark
     requires known { tag_caller tag < 256 }
     requires found { 0 < tag }
-    ensures { result ≡ refused cell tag place }
+    ensures { result ≡ busy_mark cell tag place }
 {
     Mark::Busy {
         cell,
@@ -447,7 +454,7 @@ fn busy(cell: CellName, tag: u64, place: u32) -> Mark
 
 /// The mark of a turn that changes nothing.
 fn mark_of(look: Look, place: u32) -> Mark
-    ensures { result ≡ looked look place }
+    ensures { result ≡ mark_of_look look place }
 {
     match look {
         Look::Idle => Mark::Idle { place },
@@ -463,9 +470,11 @@ fn after_win<D: Decider>(
     bot: u16,
     cells: &[(CellName, Cell)],
 ) -> Phase
-    requires plain { IfSome (body_in cells.now bot) IsPlain }
+    requires plain { IfSome (body_in cells.now bot) IsBotInRange }
     requires shown { next_cell area bot cells.now ≡ None → IsShown (record { area = area; maxes = maxes; bot = bot; cells = cells.now }) }
-    ensures { result ≡ phase_after (D.verdict decider.now) (record { area = area; maxes = maxes; bot = bot; cells = cells.now }) (next_cell area bot cells.now) }
+    ensures { result
+        ≡ phase_after (D.verdict decider.now) (record { area = area; maxes = maxes; bot = bot; cells = cells.now })
+        (next_cell area bot cells.now) }
 {
     match next_cell(&area, bot, cells) {
         Some(_) => Phase::Claim,
@@ -475,7 +484,7 @@ fn after_win<D: Decider>(
 
 /// The phase of a caller with its decision.
 fn phase_of(verdict: Verdict) -> Phase
-    ensures { result ≡ decided verdict }
+    ensures { result ≡ phase_of_verdict verdict }
 {
     match verdict {
         Verdict::Idle => Phase::Looking(Look::Idle),

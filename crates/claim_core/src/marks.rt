@@ -67,7 +67,10 @@ impl Marks {
     pub fn add(&mut self, caller: u8, mark: Mark)
         requires caller { caller < length self.old.marks }
         requires next { length (marks_of self.old caller) < self.old.turns }
-        ensures { self.new ≡ record { turns = self.old.turns; marks = slice_set self.old.marks caller (marks_of self.old caller ++ mark ∷ []) } }
+        ensures { self.new ≡ record {
+          turns = self.old.turns;
+          marks = slice_set self.old.marks caller (marks_of self.old caller ++ mark ∷ []);
+        } }
     {
         self.marks[usize::from(caller)].push_reserved(mark);
     }

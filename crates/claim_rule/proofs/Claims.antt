@@ -15,25 +15,25 @@ use Rattle.amoebot_state.specs.Storage.{put_at}
 use Rattle.claim_core.specs.declared.state.Caller.{Caller}
 use Rattle.claim_core.specs.declared.state.Phase.TheVariants.{Claim, Refusing}
 use Rattle.claim_core.specs.Cells.{number, at, cells}
-use Rattle.claim_core.specs.Machine.{Setup, State, bot, next_of, after_win, won, wins, claims, finds, tries, by_phase, acts, next, after}
+use Rattle.claim_core.specs.Machine.{Setup, State, bot, next_of, after_win, caller_with_cell, wins, claims, finds, tries, by_phase, acts, next, after}
 use Rattle.claim_core.specs.Soundness.{IsSetup, Sound}
 use Rattle.claim_core.proofs.Tags.{tag-positive}
 use Rattle.claim_core.proofs.Places.{get-set_here, get-set_cases}
-use Rattle.claim_core.proofs.Holding.{before, refused_by}
-use Rattle.claim_core.proofs.Claiming.{won_plain, won_shown}
+use Rattle.claim_core.proofs.HolderLemmas.{before, refused_by}
+use Rattle.claim_core.proofs.ClaimLemmas.{won_plain, won_shown}
 use Rattle.claim_core.proofs.Ranks.{front, next_is_there, few, placed}
 use Rattle.claim_core.proofs.Sounds.{one_step}
 use Rattle.claim_rule.specs.declared.views.Slot.{Slot}
 use Rattle.claim_rule.specs.declared.views.Slot.TheVariants as slot
 use Rattle.claim_rule.specs.declared.views.Record.{Record}
 use Rattle.claim_rule.specs.declared.views.Terms.{Terms}
-use Rattle.claim_rule.specs.Views.{Content, Seated, view_of, own, setup}
+use Rattle.claim_rule.specs.Views.{Content, Seated, view_of, own, setup_of_terms}
 use Rattle.claim_rule.specs.Stands.{turns_left, AreWords, AreHomes, KeepsRule}
-use Rattle.claim_rule.specs.Plays.{IsPlaced, IsKnown, IsOthers, tried, IsToTry, claimed}
+use Rattle.claim_rule.specs.Plays.{IsPlaced, IsKnown, IsOthers, tried, IsToTry, Claims}
 use Rattle.claim_rule.specs.Nexts.{GoesOn, IsAt, ClaimIsNext}
 use Rattle.claim_rule.proofs.Tables.{words_written, tag_written, homes_kept}
 use Rattle.claim_rule.proofs.Moves.{sound, caller_at, counts, moves, journal_stays}
-use Rattle.claim_rule.proofs.Allowing.{tags_count, turns_same, allowed}
+use Rattle.claim_rule.proofs.NextsLemmas.{tags_count, turns_same, allowed}
 
 -- the cell that a caller tries next is one of the area, or an amoebot's that is there
 pub is_placed : (g : Setup) (ok : IsSetup g) (s : State) (sound : Sound g s) (c : ℕ) (k : Caller) → slice_get s.callers c ≡ Some k → k.phase ≡ Claim → (n : CellName) → next_of g (bot g c k.turn) k.held ≡ Some n → (i : ℕ) × IsPlaced g n i
@@ -44,7 +44,7 @@ is_placed g ok s sound c k there p n nx =
 
 module _ {D : Type 0} {verdict : D → Shown → Verdict} {z : Terms D} {s : Content D} {steps : List ℕ} {seat : ℕ} {r : Record} (table : IsAt verdict z s steps seat r) where
   abbrev g : Setup
-  g = setup verdict z
+  g = setup_of_terms verdict z
 
   abbrev core : State
   core = after g steps
@@ -69,13 +69,13 @@ module _ {D : Type 0} {verdict : D → Shown → Verdict} {z : Terms D} {s : Con
     claims_it = ap (acts g r.number core) (caller_at table) ∙ ap (by_phase g r.number core r.caller) to.phase ∙ ap (tries g r.number core r.caller) to.next ∙ ap (finds g r.number core r.caller n) found_tag
 
     -- the cell was free
-    hits : old ≡ 0 → GoesOn verdict z s steps i seat (view_of z (r ∷ []), carried) (claimed verdict (step slots i 0 t home.none) (view_of z (r ∷ []), carried)) t
+    hits : old ≡ 0 → GoesOn verdict z s steps i seat (view_of z (r ∷ []), carried) (Claims verdict (step slots i 0 t home.none) (view_of z (r ∷ []), carried)) t
     hits free = (
-      view_of z (record r { caller = won g r.number r.caller n x } ∷ []),
+      view_of z (record r { caller = caller_with_cell g r.number r.caller n x } ∷ []),
       takes i (slot.Cell x),
       table.stands.homes.cell i x (ap (at core.tags) (sym to.placed.0) ∙ found_free) (ap (at core.values) (sym to.placed.0) ∙ value),
-      moves table new (won g r.number r.caller n x) (set s.words i t) (set s.homes i home.none) leads refl refl refl fewer words homes,
-      ((λ _. (x, refl, refl, known)), λ held. absurd (held free)),
+      moves table new (caller_with_cell g r.number r.caller n x) (set s.words i t) (set s.homes i home.none) leads refl refl refl fewer words homes,
+      ((λ _. record { value = x; now = refl; out = refl; known = known }), λ held. absurd (held free)),
     )
       where
         x : Cell
@@ -97,7 +97,7 @@ module _ {D : Type 0} {verdict : D → Shown → Verdict} {z : Terms D} {s : Con
         tags = λ j. put_at core.tags (to.placed.0 j) (sym to.tag j)
 
         fewer : turns_left g new ≤ turns_left g core
-        fewer = turns_same g core new r.number r.caller (won g r.number r.caller n x) (caller_at table) refl refl
+        fewer = turns_same g core new r.number r.caller (caller_with_cell g r.number r.caller n x) (caller_at table) refl refl
 
         words : AreWords g new (set s.words i t)
         words = tag_written g core new s.words i t table.stands.words to.placed.1 inside tags refl
@@ -113,25 +113,25 @@ module _ {D : Type 0} {verdict : D → Shown → Verdict} {z : Terms D} {s : Con
         now_sound : Sound g new
         now_sound = subst (Sound g) (sym leads) (one_step g table.run core (sound table) r.number)
 
-        now_there : slice_get new.callers r.number ≡ Some (won g r.number r.caller n x)
-        now_there = get-set_here core.callers r.number (won g r.number r.caller n x) (slice_get_within core.callers r.number r.caller (caller_at table))
+        now_there : slice_get new.callers r.number ≡ Some (caller_with_cell g r.number r.caller n x)
+        now_there = get-set_here core.callers r.number (caller_with_cell g r.number r.caller n x) (slice_get_within core.callers r.number r.caller (caller_at table))
 
         known : IsKnown g b ((n, x) ∷ r.caller.held)
         known = record {
           plain = won_plain g table.run core (sound table) r.number r.caller (caller_at table) n x to.phase to.next found_free value b;
           few = omega (arith, few g table.run core (sound table) r.number r.caller (caller_at table) to.phase);
-          placed = λ m e. is_placed g table.run new now_sound r.number (won g r.number r.caller n x) now_there (ap (after_win g b ((n, x) ∷ r.caller.held)) e) m e;
+          placed = λ m e. is_placed g table.run new now_sound r.number (caller_with_cell g r.number r.caller n x) now_there (ap (after_win g b ((n, x) ∷ r.caller.held)) e) m e;
           shown = won_shown g table.run core (sound table) r.number r.caller (caller_at table) n x to.phase to.next found_free value;
         }
 
     -- another's tag was found
-    misses : old ≢ 0 → GoesOn verdict z s steps i seat (view_of z (r ∷ []), carried) (claimed verdict (step slots i 0 t home.none) (view_of z (r ∷ []), carried)) old
+    misses : old ≢ 0 → GoesOn verdict z s steps i seat (view_of z (r ∷ []), carried) (Claims verdict (step slots i 0 t home.none) (view_of z (r ∷ []), carried)) old
     misses held = (
       view_of z (record r { caller = k' } ∷ []),
       keeps,
       tt,
       moves table new k' (set s.words i old) s.homes leads refl refl refl fewer words homes,
-      ((λ free. absurd (held free)), λ _. (refl, refl, others)),
+      ((λ free. absurd (held free)), λ _. record { now = refl; out = refl; other = others }),
     )
       where
         k' : Caller
@@ -157,13 +157,13 @@ module _ {D : Type 0} {verdict : D → Shown → Verdict} {z : Terms D} {s : Con
             let by = refused_by g table.run core (sound table) r.number r.caller (caller_at table) n old (before g table.run core (sound table) r.number r.caller (caller_at table) n to.phase to.next) found_tag held in
             record { some = held; listed = by.listed; other = by.other; turn = by.turn; of = by.of }
 
-    pub claim_goes : GoesOn verdict z s steps i seat (view_of z (r ∷ []), carried) (claimed verdict (step slots i 0 t home.none) (view_of z (r ∷ []), carried)) (either (eqb old 0) t old)
-    claim_goes = exchanged old 0 t (GoesOn verdict z s steps i seat (view_of z (r ∷ []), carried) (claimed verdict (step slots i 0 t home.none) (view_of z (r ∷ []), carried))) hits misses
+    pub claim_goes : GoesOn verdict z s steps i seat (view_of z (r ∷ []), carried) (Claims verdict (step slots i 0 t home.none) (view_of z (r ∷ []), carried)) (either (eqb old 0) t old)
+    claim_goes = exchanged old 0 t (GoesOn verdict z s steps i seat (view_of z (r ∷ []), carried) (Claims verdict (step slots i 0 t home.none) (view_of z (r ∷ []), carried))) hits misses
 
-module _ {D : Type 0} (verdict : D → Shown → Verdict) (z : Terms D) (ok : IsSetup (setup verdict z)) where
-  pub claim_allowed : (slots seat : ℕ) (me : Seated D) (i t : ℕ) → me.0 ≡ view_of z (own me.0 ∷ []) → IsToTry verdict i t me.0 → Allows (KeepsRule verdict z) slots seat me i (λ x. either (eqb x 0) t x) (claimed verdict (step slots i 0 t home.none) me)
+module _ {D : Type 0} (verdict : D → Shown → Verdict) (z : Terms D) (ok : IsSetup (setup_of_terms verdict z)) where
+  pub claim_allowed : (slots seat : ℕ) (me : Seated D) (i t : ℕ) → me.0 ≡ view_of z (own me.0 ∷ []) → IsToTry verdict i t me.0 → Allows (KeepsRule verdict z) slots seat me i (λ x. either (eqb x 0) t x) (Claims verdict (step slots i 0 t home.none) me)
   claim_allowed slots seat me i t one to =
-      allowed verdict z ok slots seat me i (λ x. either (eqb x 0) t x) (λ m. IsToTry verdict i t m.0) (claimed verdict (step slots i 0 t home.none)) one to
+      allowed verdict z ok slots seat me i (λ x. either (eqb x 0) t x) (λ m. IsToTry verdict i t m.0) (Claims verdict (step slots i 0 t home.none)) one to
       (λ s steps r table fact. claim_goes table i t slots me.1 fact)
 
 pub claim_is_next : {D : Type 0} (verdict : D → Shown → Verdict) (z : Terms D) → ClaimIsNext verdict z

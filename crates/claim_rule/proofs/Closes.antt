@@ -21,17 +21,18 @@ use Rattle.claim_core.specs.Turns.{Kept}
 use Rattle.claim_core.specs.Machine.{Setup, State, after}
 use Rattle.claim_core.specs.Reached.{HasValues}
 use Rattle.claim_core.specs.Soundness.{IsSetup}
-use Rattle.claim_core.proofs.Holding.{framed}
+use Rattle.claim_core.proofs.HolderLemmas.{framed}
 use Rattle.claim_core.proofs.Sounds.{always}
 use Rattle.claim_rule.specs.declared.views.Slot.{Slot}
 use Rattle.claim_rule.specs.declared.views.Slot.TheVariants as slot
 use Rattle.claim_rule.specs.declared.views.Record.{Record}
 use Rattle.claim_rule.specs.declared.views.Terms.{Terms}
-use Rattle.claim_rule.specs.Views.{Content, Seated, view_of, setup}
-use Rattle.claim_rule.specs.Stands.{IsJournal, HasTaken, IsRecord, Stands, KeepsRule}
+use Rattle.claim_rule.specs.Views.{Content, Seated, view_of, setup_of_terms}
+use Rattle.claim_rule.specs.Stands.{IsCoreJournal, HasTaken, IsRecord, Stands, KeepsRule}
 use Rattle.claim_rule.specs.Tokens.{FieldOf, IsField, Token, number_in, record_in}
 use Rattle.claim_rule.specs.Seating.{SeatsOf, AreOf, AreSeats}
-use Rattle.claim_rule.specs.Closing.{ClosesAs, HaveAll}
+use Rattle.claim_rule.specs.Closing.{ClosesAs}
+use Rattle.claim_rule.specs.Internal.{HaveAll}
 
 -- the entries after the one whose patch was applied lead on to the same last world
 pub follows : (f : Shown → Verdict) (now next last : Config) (es : List Entry) (k : ℕ) (e : Entry) → slice_get es k ≡ Some e → Run f now (drop k es) last → IsPatched now e.patch next → Run f next (drop (k + 1) es) last
@@ -56,9 +57,9 @@ kept_in d (slot.Journal j) = j
 same_journal : (xs : List Slot) (k : ℕ) (i j : Kept) → get_elem? xs k ≡ home.some (slot.Journal i) → get_elem? xs k ≡ home.some (slot.Journal j) → i ≡ j
 same_journal xs k i j e f = ap (kept_in i) (home.some-injective (slot.Journal i) (slot.Journal j) (sym e ∙ f))
 
-module _ {D : Type 0} (verdict : D → Shown → Verdict) (z : Terms D) (ok : IsSetup (setup verdict z)) where
+module _ {D : Type 0} (verdict : D → Shown → Verdict) (z : Terms D) (ok : IsSetup (setup_of_terms verdict z)) where
   abbrev g : Setup
-  g = setup verdict z
+  g = setup_of_terms verdict z
 
   module _ (s : Content D) (steps : List ℕ) (st : Stands verdict z s (after g steps)) (id : ℕ) (rs : List Record) (mine : get_elem? s.views id ≡ home.some (view_of z rs))
       (seats : List (Option (Token D))) (count : length seats ≡ length z.lists.ids) (full : All (λ o. IsSome o) seats)
@@ -81,15 +82,15 @@ module _ {D : Type 0} (verdict : D → Shown → Verdict) (z : Terms D) (ok : Is
         let t = some_there seats c inside full in
         absurd (not_holder c t.0 t.1 e)
 
-    at_home : (j : Kept) × (get_elem? s.homes (cells z.world) ≡ home.some (home.some (slot.Journal j))) × IsJournal g core j
+    at_home : (j : Kept) × (get_elem? s.homes (cells z.world) ≡ home.some (home.some (slot.Journal j))) × IsCoreJournal g core j
     at_home = st.homes.journal (nobody core.holder refl)
 
     module _ (xs : List Slot) (are : (k : ℕ) (y : Slot) → get_elem? s.homes k ≡ home.some (home.some y) → get_elem? xs k ≡ home.some y) where
-      journal_in : (j : Kept) × (get_elem? xs (cells z.world) ≡ home.some (slot.Journal j)) × IsJournal g core j
+      journal_in : (j : Kept) × (get_elem? xs (cells z.world) ≡ home.some (slot.Journal j)) × IsCoreJournal g core j
       journal_in = (at_home.0, are (cells z.world) (slot.Journal at_home.0) at_home.1, at_home.2)
 
-      its_journal : (j : Kept) → get_elem? xs (cells z.world) ≡ home.some (slot.Journal j) → IsJournal g core j
-      its_journal j e = subst (IsJournal g core) (same_journal xs (cells z.world) journal_in.0 j journal_in.1 e) journal_in.2
+      its_journal : (j : Kept) → get_elem? xs (cells z.world) ≡ home.some (slot.Journal j) → IsCoreJournal g core j
+      its_journal j e = subst (IsCoreJournal g core) (same_journal xs (cells z.world) journal_in.0 j journal_in.1 e) journal_in.2
 
       runs : (j : Kept) → get_elem? xs (cells z.world) ≡ home.some (slot.Journal j) → (last : Config) × Run g.verdict g.world j.entries last
       runs j e = let sound = always g ok steps in (sound.last, subst (λ es. Run g.verdict g.world es sound.last) (sym (its_journal j e).entries) sound.run)

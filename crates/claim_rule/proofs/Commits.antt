@@ -16,7 +16,7 @@ use Rattle.amoebot_state.specs.declared.verdict.Entry.{Entry}
 use Rattle.amoebot_state.specs.declared.verdict.Verdict.{Verdict}
 use Rattle.amoebot_state.specs.declared.verdict.Verdict.TheVariants as decision
 use Rattle.amoebot_state.specs.Pairs.{Pairs, cell_of}
-use Rattle.amoebot_state.specs.Steps.{Changes}
+use Rattle.amoebot_state.specs.Steps.{DecidesChange}
 use Rattle.amoebot_state.specs.Zones.{Shown, zone}
 use Rattle.amoebot_state.proofs.Members.{Has-from_Contains, Contains-from_Has}
 use Rattle.claim_core.specs.declared.marks.Mark.{Mark}
@@ -24,30 +24,30 @@ use Rattle.claim_core.specs.declared.marks.Mark.TheVariants as mark
 use Rattle.claim_core.specs.declared.state.Caller.{Caller}
 use Rattle.claim_core.specs.declared.state.Committed.{Committed}
 use Rattle.claim_core.specs.Cells.{number, at, patched, cells}
-use Rattle.claim_core.specs.Machine.{Setup, State, bot, entry, frees, renewed, commits, by_phase, acts, next, after, commit_of, commit_by}
+use Rattle.claim_core.specs.Machine.{Setup, State, bot, entry, freeing_caller, patched_pair, commits, by_phase, acts, next, after, commit_of, commit_by}
 use Rattle.claim_core.specs.Machine as machine
 use Rattle.claim_core.specs.Reached.{entries_of, placed, IsShownAt}
-use Rattle.claim_core.specs.Soundness.{IsSetup, IsTurn, IsHeld, IsDecided, HasFront, names, marked}
+use Rattle.claim_core.specs.Soundness.{IsSetup, IsTurn, IsHeld, HasDecision, HasFront, names, marked}
 use Rattle.claim_core.proofs.Nexts.{frees-marks}
 use Rattle.claim_core.proofs.Places.{at-put_else}
 use Rattle.claim_core.proofs.Tags.{tag-positive}
 use Rattle.claim_core.proofs.Fronts.{name_of_held}
 use Rattle.claim_core.proofs.Frames.{own_stays}
-use Rattle.claim_core.proofs.Holding.{framed, is_known}
+use Rattle.claim_core.proofs.HolderLemmas.{framed, is_known}
 use Rattle.claim_core.proofs.Stays.{IsWorldAt-append}
 use Rattle.claim_core.proofs.Commitments.{committed_is_journal, committed_is_shown}
 use Rattle.claim_rule.specs.declared.views.Slot.{Slot}
 use Rattle.claim_rule.specs.declared.views.Slot.TheVariants as slot
 use Rattle.claim_rule.specs.declared.views.Record.{Record}
 use Rattle.claim_rule.specs.declared.views.Terms.{Terms}
-use Rattle.claim_rule.specs.Views.{Content, Seated, view_of, own, setup}
-use Rattle.claim_rule.specs.Stands.{turns_left, IsJournal, HasTaken, HasCommitted, AreWords, AreHomes, KeepsRule}
+use Rattle.claim_rule.specs.Views.{Content, Seated, view_of, own, setup_of_terms}
+use Rattle.claim_rule.specs.Stands.{turns_left, IsCoreJournal, HasTaken, HasCommitted, AreWords, AreHomes, KeepsRule}
 use Rattle.claim_rule.specs.Commits.{commit_at, with_commit, IsToCommit, stored}
 use Rattle.claim_rule.specs.Nexts.{GoesOn, IsAt, CommitIsNext}
 use Rattle.claim_rule.proofs.Tables.{journal_written}
 use Rattle.claim_rule.proofs.Moves.{sound, mine, caller_at, not_last, moved, taken_else}
-use Rattle.claim_rule.proofs.Allowing.{allowed}
-use Rattle.claim_rule.proofs.Marking.{one_fewer}
+use Rattle.claim_rule.proofs.NextsLemmas.{allowed}
+use Rattle.claim_rule.proofs.MarkLemmas.{one_fewer}
 
 -- a cell that the patch does not name keeps its value
 patched_else : (a : Extent) (ps : Pairs) (xs : List Cell) (i : ℕ) → All (λ (p : CellName × Cell). number a (cell_of p) ≢ Some i) ps → slice_get (patched a ps xs) i ≡ slice_get xs i
@@ -58,7 +58,7 @@ patched_else a (p ∷ ps) xs i all =
 
 module _ {D : Type 0} {verdict : D → Shown → Verdict} {z : Terms D} {s : Content D} {steps : List ℕ} {seat : ℕ} {r : Record} (table : IsAt verdict z s steps seat r) where
   abbrev g : Setup
-  g = setup verdict z
+  g = setup_of_terms verdict z
 
   abbrev core : State
   core = after g steps
@@ -77,7 +77,7 @@ module _ {D : Type 0} {verdict : D → Shown → Verdict} {z : Terms D} {s : Con
     place = length to.journal.entries
 
     -- what was taken is the journal still
-    has_taken : (core.holder ≡ Some r.number) × IsJournal g core to.journal
+    has_taken : (core.holder ≡ Some r.number) × IsCoreJournal g core to.journal
     has_taken = subst (HasTaken g core r.number) to.taken (mine table).committed.taken
 
     place_is : place ≡ length core.journal
@@ -93,7 +93,7 @@ module _ {D : Type 0} {verdict : D → Shown → Verdict} {z : Terms D} {s : Con
     leads = sym (ap (acts g r.number core) (caller_at table) ∙ ap (by_phase g r.number core r.caller) to.phase)
 
     callers : new.callers ≡ set core.callers r.number k'
-    callers = ap (λ n. set core.callers r.number (frees g r.caller.turn (map (renewed change.patch) r.caller.held) (r.caller.marks ++ mark.Done n ∷ []))) (sym place_is)
+    callers = ap (λ n. set core.callers r.number (freeing_caller g r.caller.turn (map (patched_pair change.patch) r.caller.held) (r.caller.marks ++ mark.Done n ∷ []))) (sym place_is)
 
     -- one turn more has its mark
     counted : length r.caller.marks < g.lists.turns
@@ -104,7 +104,7 @@ module _ {D : Type 0} {verdict : D → Shown → Verdict} {z : Terms D} {s : Con
         omega (arith, turn, counts)
 
     more : length k'.marks ≡ length r.caller.marks + 1
-    more = ap (λ (ms : List Mark). length ms) (frees-marks g r.caller.turn (map (renewed change.patch) r.caller.held) (r.caller.marks ++ mark.Done place ∷ [])) ∙ length-append r.caller.marks (mark.Done place ∷ [])
+    more = ap (λ (ms : List Mark). length ms) (frees-marks g r.caller.turn (map (patched_pair change.patch) r.caller.held) (r.caller.marks ++ mark.Done place ∷ [])) ∙ length-append r.caller.marks (mark.Done place ∷ [])
 
     fewer : turns_left g new + 1 ≡ turns_left g core
     fewer = ap (λ (ks : List Caller). Rattle.claim_core.specs.Cores.unmarked g.lists.turns (map (λ (j : Caller). j.marks) ks) + 1) callers ∙ one_fewer g.lists.turns core.callers r.number r.caller k' (caller_at table) counted more
@@ -119,10 +119,10 @@ module _ {D : Type 0} {verdict : D → Shown → Verdict} {z : Terms D} {s : Con
     words = journal_written g core new s.words x table.stands.words refl (to.word ∙ ap (λ (es : List Entry). 2 * length es) next_is ∙ (let q : 2 * length new.journal ≡ 2 * length new.journal + 0 = omega arith in q))
 
     -- a free cell is none of the patch
-    decided : IsDecided g (sound table).last (bot g r.number r.caller.turn) r.caller.held (decision.Change change)
+    decided : HasDecision g (sound table).last (bot g r.number r.caller.turn) r.caller.held (decision.Change change)
     decided = subst (HasFront g core (sound table).last r.number r.caller) to.phase ((sound table).each r.number r.caller (caller_at table)).front
 
-    changes : Changes g.verdict (sound table).last (bot g r.number r.caller.turn) change
+    changes : DecidesChange g.verdict (sound table).last (bot g r.number r.caller.turn) change
     changes = record { valid = (framed g table.run core (sound table)).valid; there = own_stays g table.run r.number r.caller.turn (is_known g table.run core (sound table) r.number r.caller (caller_at table)) (sound table).last (framed g table.run core (sound table)); decided = decided.verdict }
 
     not_held : (i : ℕ) → slice_get core.tags i ≡ Some 0 → (n : CellName) → Contains (names r.caller.held) n → number z.world.area n ≢ Some i
@@ -136,7 +136,7 @@ module _ {D : Type 0} {verdict : D → Shown → Verdict} {z : Terms D} {s : Con
         (All-weaker (λ (p : CellName × Cell). Contains (zone (sound table).last (bot g r.number r.caller.turn)) (cell_of p)) (λ (p : CellName × Cell). number z.world.area (cell_of p) ≢ Some i)
         (λ p in_zone. not_held i free (cell_of p) (subst (λ ns. Contains ns (cell_of p)) (sym decided.whole) in_zone)) change.patch (table.run.touches (sound table).last (bot g r.number r.caller.turn) change changes))
 
-    journal_is : IsJournal g new to.next
+    journal_is : IsCoreJournal g new to.next
     journal_is = record { first = to.pushed.first ∙ has_taken.1.first; entries = next_is; room = omega (arith, fewer, to.pushed.spare, has_taken.1.room) }
 
     homes : AreHomes g new (put_back s.homes carried)
@@ -198,7 +198,7 @@ module _ {D : Type 0} {verdict : D → Shown → Verdict} {z : Terms D} {s : Con
       ((place, record { change = change; phase = to.phase; journal = to.journal; taken = to.taken; behind = refl; now = refl }), refl),
     )
 
-module _ {D : Type 0} (verdict : D → Shown → Verdict) (z : Terms D) (ok : IsSetup (setup verdict z)) where
+module _ {D : Type 0} (verdict : D → Shown → Verdict) (z : Terms D) (ok : IsSetup (setup_of_terms verdict z)) where
   pub commit_allowed : (slots seat : ℕ) (me : Seated D) (x : ℕ) → me.0 ≡ view_of z (own me.0 ∷ []) → IsToCommit verdict (cells z.world) x me → Allows (KeepsRule verdict z) slots seat me (cells z.world) (λ _. x) (λ _. stored verdict (step slots (cells z.world) x 0 home.none) me x)
   commit_allowed slots seat me x one to =
       allowed verdict z ok slots seat me (cells z.world) (λ _. x) (IsToCommit verdict (cells z.world) x) (λ m _. stored verdict (step slots (cells z.world) x 0 home.none) m x) one to

@@ -15,9 +15,10 @@ use Rattle.atomic_table.specs.Seated.{TableId}
 use Rattle.claim_core.specs.declared.state.Caller.{Caller}
 use Rattle.claim_rule.specs.declared.views.Record.{Record}
 use Rattle.claim_rule.specs.declared.views.Terms.{Terms}
-use Rattle.claim_rule.specs.Views.{Seated, record_of, setup, view_of}
+use Rattle.claim_rule.specs.Views.{Seated, record_of, setup_of_terms, view_of}
 use Rattle.claim_rule.specs.Tokens.{FieldOf, Token, IsSeat}
-use Rattle.claim_rule.specs.Seating.{SeatsOf, dealt, left, AreSeats}
+use Rattle.claim_rule.specs.Seating.{SeatsOf, AreSeats}
+use Rattle.claim_rule.specs.Internal.{dealt, left_view}
 use Rattle.claim_rule.specs.Opened.{first_records, seat_with, first_seats}
 use Rattle.claim_rule.proofs.Opens.{from, there, fresh_there}
 
@@ -26,10 +27,10 @@ module _ {D : Type 0} (verdict : D → Shown → Verdict) (z : Terms D) where
   all = first_records verdict z
 
   abbrev pub next_one : ℕ → Record
-  next_one c = record_of c (fresh (setup verdict z))
+  next_one c = record_of c (fresh (setup_of_terms verdict z))
 
   next_there : (c : ℕ) → c < length z.lists.ids → slice_get all c ≡ Some (next_one c)
-  next_there c lt = there verdict z 0 c (map (λ (_ : List ℕ). fresh (setup verdict z)) z.lists.ids) (fresh (setup verdict z)) (fresh_there verdict z z.lists.ids c lt) ∙ ap (λ n. Some (next_one n)) (let n : 0 + c ≡ c = omega arith in n)
+  next_there c lt = there verdict z 0 c (map (λ (_ : List ℕ). fresh (setup_of_terms verdict z)) z.lists.ids) (fresh (setup_of_terms verdict z)) (fresh_there verdict z z.lists.ids c lt) ∙ ap (λ n. Some (next_one n)) (let n : 0 + c ≡ c = omega arith in n)
 
   -- what the first seat has before and after a record is dealt
   pub first_of_rest : (m : Seated D) (c : ℕ) → c < length z.lists.ids → m ≡ (view_of z (drop c all), []) → m.0 ≡ view_of z (next_one c ∷ drop (c + 1) all)
@@ -41,8 +42,8 @@ module _ {D : Type 0} (verdict : D → Shown → Verdict) (z : Terms D) where
   pub one_dealt : (m : Seated D) (c : ℕ) → c < length z.lists.ids → m ≡ (view_of z (drop c all), []) → dealt m.0 ≡ view_of z (next_one c ∷ [])
   one_dealt m c lt e = ap dealt (first_of_rest m c lt e)
 
-  pub others_left : (m : Seated D) (c : ℕ) → c < length z.lists.ids → m ≡ (view_of z (drop c all), []) → ◌≡◌ {A = Seated D} (left m.0, m.1) (view_of z (drop (c + 1) all), [])
-  others_left m c lt e = λ i. (left (first_of_rest m c lt e i), (e i).1)
+  pub others_left : (m : Seated D) (c : ℕ) → c < length z.lists.ids → m ≡ (view_of z (drop c all), []) → ◌≡◌ {A = Seated D} (left_view m.0, m.1) (view_of z (drop (c + 1) all), [])
+  others_left m c lt e = λ i. (left_view (first_of_rest m c lt e i), (e i).1)
 
   pub one_more : (c : ℕ) → c < length z.lists.ids → take (c + 1) all ≡ take c all ++ next_one c ∷ []
   one_more c lt =
@@ -51,7 +52,7 @@ module _ {D : Type 0} (verdict : D → Shown → Verdict) (z : Terms D) where
       take_more all c r (slice_get_within all c r at) ∙ ap (λ q. take c all ++ q ∷ []) (get_or_from_slice_get all c r r at)
 
   -- a seat with the record of a caller before its first turn keeps what a seat keeps
-  pub is_seat : (m : Seated D) (c : ℕ) (a : Extent) (greatest : List ℕ) → IsSetup (setup verdict z) → c < length z.lists.ids → a ≡ z.world.area → greatest ≡ z.world.maxes → m ≡ (view_of z (next_one c ∷ []), []) → IsSeat verdict m c 0 a greatest
+  pub is_seat : (m : Seated D) (c : ℕ) (a : Extent) (greatest : List ℕ) → IsSetup (setup_of_terms verdict z) → c < length z.lists.ids → a ≡ z.world.area → greatest ≡ z.world.maxes → m ≡ (view_of z (next_one c ∷ []), []) → IsSeat verdict m c 0 a greatest
   is_seat m c a greatest ok lt area maxes is = subst (λ (n : Seated D). IsSeat verdict n c 0 a greatest) (sym is) (record {
     alone = refl;
     run = ok;
@@ -87,7 +88,7 @@ module _ {D : Type 0} (verdict : D → Shown → Verdict) (f : FieldOf D) where
   length_from b (k ∷ ks) = ap suc (length_from (b + 1) ks)
 
   its_length : length its ≡ length z.lists.ids
-  its_length = length_from 0 (map (λ (_ : List ℕ). fresh (setup verdict z)) z.lists.ids) ∙ length-map z.lists.ids (λ (_ : List ℕ). fresh (setup verdict z))
+  its_length = length_from 0 (map (λ (_ : List ℕ). fresh (setup_of_terms verdict z)) z.lists.ids) ∙ length-map z.lists.ids (λ (_ : List ℕ). fresh (setup_of_terms verdict z))
 
   module _ (m : Seated D) (table : TableId) (seats : List (Option (Token D))) (c : ℕ) (all_done : c ≡ length z.lists.ids) (same : table ≡ f.table) (rest : m ≡ (view_of z (drop c its), [])) (are : seats ≡ its_seats (take c its)) where
     whole : length its ≤ c
@@ -100,7 +101,7 @@ module _ {D : Type 0} (verdict : D → Shown → Verdict) (f : FieldOf D) where
     each d t e =
         let one = map-get (λ r. Some (seat_with f r)) its d (Some t) e in
         let is = same_Some (seat_with f one.0) t one.2 in
-        let number = (from verdict z 0 d (map (λ (_ : List ℕ). fresh (setup verdict z)) z.lists.ids) one.0 one.1).0 in
+        let number = (from verdict z 0 d (map (λ (_ : List ℕ). fresh (setup_of_terms verdict z)) z.lists.ids) one.0 one.1).0 in
         subst (λ (u : Token D). (u.table ≡ table) × (u.view.terms ≡ Some z) × (Rattle.claim_rule.specs.Tokens.number_in u ≡ d)) is (sym same, refl, omega (arith, number))
 
     -- once all are dealt, the seats keep what they keep

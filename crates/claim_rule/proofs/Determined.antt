@@ -20,10 +20,10 @@ use Rattle.claim_core.specs.Soundness.{IsSetup, Sound}
 use Rattle.claim_core.proofs.Places.{same_by_get}
 use Rattle.claim_core.proofs.Sounds.{always}
 use Rattle.claim_rule.specs.declared.views.Terms.{Terms}
-use Rattle.claim_rule.specs.Views.{Content, setup}
+use Rattle.claim_rule.specs.Views.{Content, setup_of_terms}
 use Rattle.claim_rule.specs.Stands.{HasTaken, Stands}
 use Rattle.claim_rule.specs.Laws.{StateIsDetermined}
-use Rattle.claim_rule.proofs.Allowing.{tags_count}
+use Rattle.claim_rule.proofs.NextsLemmas.{tags_count}
 
 -- the entries of a caller where the first entry is its own, and where it is not
 own_first : (c p : ℕ) (e : Entry) (es : List Entry) → e.caller ≡ c → entries_of c p (e ∷ es) ≡ (p, e) ∷ entries_of c (p + 1) es
@@ -63,9 +63,9 @@ same_entries n p (e ∷ es) (f ∷ fs) few few' same =
       | inr not ↦ absurd (let n = not_before e.caller (p + 1) p e fs (ap (λ ys. slice_get ys 0) (sym (other_first e.caller p f fs not)) ∙ first) in omega (arith, n))
     ]
 
-module _ {D : Type 0} (verdict : D → Shown → Verdict) (z : Terms D) (s : Content D) (ok : IsSetup (setup verdict z)) where
+module _ {D : Type 0} (verdict : D → Shown → Verdict) (z : Terms D) (s : Content D) (ok : IsSetup (setup_of_terms verdict z)) where
   abbrev g : Setup
-  g = setup verdict z
+  g = setup_of_terms verdict z
 
   same_callers : (one two : State) (c : ℕ) → Stands verdict z s one → Stands verdict z s two → c < length z.lists.ids → slice_get one.callers c ≡ slice_get two.callers c
   same_callers one two c st st' lt =
@@ -128,4 +128,4 @@ module _ {D : Type 0} (verdict : D → Shown → Verdict) (z : Terms D) (s : Con
       values = sound.values ∙ ap values_of last ∙ sym sound'.values
 
 pub state_is_determined : {D : Type 0} (verdict : D → Shown → Verdict) → StateIsDetermined verdict
-state_is_determined verdict z s one two ok st st' = same_state verdict z s ok (after (setup verdict z) one) (after (setup verdict z) two) (always (setup verdict z) ok one) (always (setup verdict z) ok two) st st'
+state_is_determined verdict z s one two ok st st' = same_state verdict z s ok (after (setup_of_terms verdict z) one) (after (setup_of_terms verdict z) two) (always (setup_of_terms verdict z) ok one) (always (setup_of_terms verdict z) ok two) st st'

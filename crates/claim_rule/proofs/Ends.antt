@@ -18,12 +18,12 @@ use Rattle.claim_core.specs.Machine.{Setup, State, after}
 use Rattle.claim_core.specs.Reached.{HasValues}
 use Rattle.claim_core.specs.Soundness.{IsSetup, Sound}
 use Rattle.claim_core.proofs.Ends.{same_world}
-use Rattle.claim_core.proofs.Holding.{framed}
+use Rattle.claim_core.proofs.HolderLemmas.{framed}
 use Rattle.claim_core.proofs.Moved.{told_by}
 use Rattle.claim_core.proofs.Places.{same_by_get}
 use Rattle.claim_core.proofs.Sounds.{always}
 use Rattle.claim_rule.specs.declared.views.Terms.{Terms}
-use Rattle.claim_rule.specs.Views.{setup}
+use Rattle.claim_rule.specs.Views.{setup_of_terms}
 use Rattle.claim_rule.specs.Stands.{IsRecord}
 use Rattle.claim_rule.specs.Tokens.{Token, record_in, number_in, doing}
 use Rattle.claim_rule.specs.Closing.{ClosesAs}
@@ -63,9 +63,9 @@ same_runs v w (e ∷ es) (f ∷ fs) one two first second there back =
     let tails : es ≡ fs = same_runs v first.0 es fs one two first.2 (subst (λ c. Run v c fs two) mid second.2) (λ k x at. there (suc k) x at) (λ k x at. back (suc k) x at) in
     λ i. heads i ∷ tails i
 
-module _ {D : Type 0} (verdict : D → Shown → Verdict) (z : Terms D) (seats : List (Option (Token D))) (ok : IsSetup (setup verdict z)) (count : length seats ≡ length z.lists.ids) (full : All (λ o. IsSome o) seats) where
+module _ {D : Type 0} (verdict : D → Shown → Verdict) (z : Terms D) (seats : List (Option (Token D))) (ok : IsSetup (setup_of_terms verdict z)) (count : length seats ≡ length z.lists.ids) (full : All (λ o. IsSome o) seats) where
   abbrev g : Setup
-  g = setup verdict z
+  g = setup_of_terms verdict z
 
   abbrev Knows : State → Type 0
   Knows s = (c : ℕ) (t : Token D) → slice_get seats c ≡ Some (Some t) → slice_get s.callers c ≡ Some (doing t)

@@ -17,19 +17,19 @@ use Rattle.claim_core.specs.Machine.{Setup, State, after}
 use Rattle.claim_core.specs.Reached.{Reached}
 use Rattle.claim_core.specs.Soundness.{IsSetup, Sound}
 use Rattle.claim_core.proofs.Ends.{reached_is_good, same_world}
-use Rattle.claim_core.proofs.Holding.{framed}
+use Rattle.claim_core.proofs.HolderLemmas.{framed}
 use Rattle.claim_core.proofs.Places.{get-map, same_by_get}
 use Rattle.claim_core.proofs.Sounds.{always}
 use Rattle.claim_rule.specs.declared.views.Terms.{Terms}
-use Rattle.claim_rule.specs.Views.{setup}
+use Rattle.claim_rule.specs.Views.{setup_of_terms}
 use Rattle.claim_rule.specs.Tokens.{Token, doing}
 use Rattle.claim_rule.specs.Closing.{ClosesAs}
-use Rattle.claim_rule.specs.Laws.{FieldEndsSound, EndedFieldIsReached, marks_in, report_of}
+use Rattle.claim_rule.specs.Laws.{FieldEndsSound, EndedFieldIsReached, marks_at_seat, report_of}
 use Rattle.claim_rule.proofs.Closes.{some_there}
 
-module _ {D : Type 0} (verdict : D → Shown → Verdict) (z : Terms D) (seats : List (Option (Token D))) (world : Config) (journal : Kept) (ok : IsSetup (setup verdict z)) (ends : ClosesAs verdict z seats world journal) where
+module _ {D : Type 0} (verdict : D → Shown → Verdict) (z : Terms D) (seats : List (Option (Token D))) (world : Config) (journal : Kept) (ok : IsSetup (setup_of_terms verdict z)) (ends : ClosesAs verdict z seats world journal) where
   abbrev g : Setup
-  g = setup verdict z
+  g = setup_of_terms verdict z
 
   abbrev s : State
   s = after g ends.steps
@@ -57,12 +57,12 @@ module _ {D : Type 0} (verdict : D → Shown → Verdict) (z : Terms D) (seats :
     as_many : length s.callers ≡ length seats
     as_many = sound.callers ∙ sym count
 
-    marks_are : map marks_in seats ≡ map (λ (k : Caller). k.marks) s.callers
-    marks_are = same_by_get (map marks_in seats) (map (λ (k : Caller). k.marks) s.callers) (length-map seats marks_in ∙ sym as_many ∙ sym (length-map s.callers (λ (k : Caller). k.marks)))
+    marks_are : map marks_at_seat seats ≡ map (λ (k : Caller). k.marks) s.callers
+    marks_are = same_by_get (map marks_at_seat seats) (map (λ (k : Caller). k.marks) s.callers) (length-map seats marks_at_seat ∙ sym as_many ∙ sym (length-map s.callers (λ (k : Caller). k.marks)))
         (λ c ms e.
         let n = slice_get_within (map (λ (k : Caller). k.marks) s.callers) c ms e in
         let t = some_there seats c (omega (arith, n, as_many, length-map s.callers (λ (k : Caller). k.marks))) full in
-        get-map marks_in seats c (Some t.0) t.1 ∙ sym (get-map (λ (k : Caller). k.marks) s.callers c (doing t.0) (knows c t.0 t.1)) ∙ e)
+        get-map marks_at_seat seats c (Some t.0) t.1 ∙ sym (get-map (λ (k : Caller). k.marks) s.callers c (doing t.0) (knows c t.0 t.1)) ∙ e)
 
     pub is_reached : All (λ o. IfSome o (λ token. (doing token).phase ≡ Ended)) seats → Reached g (report_of z seats world journal)
     is_reached over = record {
@@ -85,4 +85,4 @@ field_ends_sound verdict z seats world journal ok ends = (is_run verdict z seats
 pub ended_field_is_reached : {D : Type 0} (verdict : D → Shown → Verdict) → EndedFieldIsReached verdict
 ended_field_is_reached verdict z seats world journal ok count full over ends =
     let reached = is_reached verdict z seats world journal ok ends count full over in
-    (reached, reached_is_good (setup verdict z) ok (report_of z seats world journal) reached)
+    (reached, reached_is_good (setup_of_terms verdict z) ok (report_of z seats world journal) reached)

@@ -22,17 +22,17 @@ use Rattle.claim_core.specs.Reached.{IsShownAt}
 use Rattle.claim_core.proofs.Places.{get-set_here, get-set_else}
 use Rattle.claim_core.proofs.Numbers.{value_at, value_held}
 use Rattle.claim_core.proofs.Fronts.{name_of_held}
-use Rattle.claim_core.proofs.Holding.{is_known, same_area}
+use Rattle.claim_core.proofs.HolderLemmas.{is_known, same_area}
 use Rattle.claim_core.proofs.Sounds.{always}
 use Rattle.claim_rule.specs.declared.views.Slot.{Slot}
 use Rattle.claim_rule.specs.declared.views.Record.{Record}
 use Rattle.claim_rule.specs.declared.views.Terms.{Terms}
 use Rattle.claim_rule.specs.declared.views.View.{View}
-use Rattle.claim_rule.specs.Views.{Content, view_of, setup}
-use Rattle.claim_rule.specs.Stands.{turns_left, IsJournal, HasTaken, HasCommitted, IsRecord, AreWords, AreHomes, HasRecord, Stands}
+use Rattle.claim_rule.specs.Views.{Content, view_of, setup_of_terms}
+use Rattle.claim_rule.specs.Stands.{turns_left, IsCoreJournal, HasTaken, HasCommitted, IsRecord, AreWords, AreHomes, HasRecord, Stands}
 use Rattle.claim_rule.specs.Nexts.{IsAt}
 use Rattle.claim_rule.proofs.Tables.{later, cases, back, forth}
-use Rattle.claim_rule.proofs.Allowing.{tags_count}
+use Rattle.claim_rule.proofs.NextsLemmas.{tags_count}
 
 -- the same number, where the state is sound, has the cell's value
 at_there : (xs : List Cell) (ts : List ℕ) (o : Option ℕ) (t : ℕ) → length ts ≡ length xs → at ts o ≡ Some t → (x : Cell) × (at xs o ≡ Some x)
@@ -56,13 +56,13 @@ pub taken_else : (g : Setup) (old new : State) (c : ℕ) (j : Option Kept) → o
 taken_else g old new c None was now t = now
 taken_else g old new c (Some v) was now t = absurd (was t.0)
 
-pub journal_stays : (g : Setup) (old new : State) → new.journal ≡ old.journal → turns_left g new ≤ turns_left g old → (j : Kept) → IsJournal g old j → IsJournal g new j
+pub journal_stays : (g : Setup) (old new : State) → new.journal ≡ old.journal → turns_left g new ≤ turns_left g old → (j : Kept) → IsCoreJournal g old j → IsCoreJournal g new j
 journal_stays g old new journal fewer j is = record { first = is.first; entries = is.entries ∙ sym journal; room = omega (arith, fewer, is.room) }
 
 -- a step of a seat's caller, at a table that stands for a state
 module _ {D : Type 0} {verdict : D → Shown → Verdict} {z : Terms D} {s : Content D} {steps : List ℕ} {seat : ℕ} {r : Record} (table : IsAt verdict z s steps seat r) where
   abbrev pub g : Setup
-  g = setup verdict z
+  g = setup_of_terms verdict z
 
   abbrev pub core : State
   core = after g steps

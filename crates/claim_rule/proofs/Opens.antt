@@ -26,7 +26,7 @@ use Rattle.claim_rule.specs.declared.views.Slot.TheVariants as slot
 use Rattle.claim_rule.specs.declared.views.Record.{Record}
 use Rattle.claim_rule.specs.declared.views.Terms.{Terms}
 use Rattle.claim_rule.specs.declared.views.View.{View}
-use Rattle.claim_rule.specs.Views.{record_of, setup}
+use Rattle.claim_rule.specs.Views.{record_of, setup_of_terms}
 use Rattle.claim_rule.specs.Stands.{HasCommitted, IsRecord, HasRecord, Stands, KeepsRule, records_from, first_view}
 use Rattle.claim_rule.specs.Tokens.{FieldOf, IsField}
 use Rattle.claim_rule.specs.Opened.{AreFirstSlots}
@@ -50,7 +50,7 @@ by_either (y ∷ ys) (suc k) x e = by_either ys k x e
 
 module _ {D : Type 0} (verdict : D → Shown → Verdict) (z : Terms D) where
   abbrev g : machine.Setup
-  g = setup verdict z
+  g = setup_of_terms verdict z
 
   abbrev start : machine.State
   start = machine.opening g
@@ -145,7 +145,7 @@ module _ {D : Type 0} (verdict : D → Shown → Verdict) (z : Terms D) where
   -- a field with these terms keeps what a field keeps
   pub is_field : (f : FieldOf D) → f.terms ≡ z → IsSetup g → f.table.words ≡ cells z.world + 1 → f.table.slots ≡ cells z.world + 1 → IsField verdict f z.decider z.world
   is_field f same ok words slots = record {
-    run = subst (λ t. IsSetup (setup verdict t)) (sym same) ok;
+    run = subst (λ t. IsSetup (setup_of_terms verdict t)) (sym same) ok;
     words = words ∙ ap (λ (t : Terms D). cells t.world + 1) (sym same);
     slots = slots ∙ ap (λ (t : Terms D). cells t.world + 1) (sym same);
     decider = ap (λ (t : Terms D). t.decider) same;

@@ -8,7 +8,7 @@ use Rattle.std.proofs.lemmas.Option.{slice_get_within}
 use Rattle.claim_core.proofs.Places.{get-map, map-get, get-set_here}
 use Rattle.claim_rule.specs.Tokens.{Token, number_in}
 use Rattle.claim_rule.specs.Seating.{SeatsOf}
-use Rattle.claim_rule.proofs.Giving.{set_back}
+use Rattle.claim_rule.proofs.SeatsLemmas.{set_back}
 
 module _ {A : Type 0} where
   -- where the same places have an element, and all have one, all have one

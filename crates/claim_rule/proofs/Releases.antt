@@ -14,37 +14,37 @@ use Rattle.amoebot_state.specs.Pairs.{Pairs}
 use Rattle.amoebot_state.specs.Zones.{Shown}
 use Rattle.amoebot_state.specs.Storage.{put_at}
 use Rattle.claim_core.specs.Cells.{number, at, values_of, cells}
-use Rattle.claim_core.specs.Machine.{Setup, State, frees, releases, by_phase, acts, next, after}
+use Rattle.claim_core.specs.Machine.{Setup, State, freeing_caller, releases, by_phase, acts, next, after}
 use Rattle.claim_core.specs.Soundness.{IsSetup, IsHeld}
 use Rattle.claim_core.proofs.Nexts.{frees-marks}
 use Rattle.claim_core.proofs.Numbers.{value_at, value_held}
 use Rattle.claim_core.proofs.Places.{get-set_cases}
-use Rattle.claim_core.proofs.Holding.{same_area}
+use Rattle.claim_core.proofs.HolderLemmas.{same_area}
 use Rattle.claim_rule.specs.declared.views.Slot.{Slot}
 use Rattle.claim_rule.specs.declared.views.Slot.TheVariants as slot
 use Rattle.claim_rule.specs.declared.views.Record.{Record}
 use Rattle.claim_rule.specs.declared.views.Terms.{Terms}
-use Rattle.claim_rule.specs.Views.{Content, Seated, view_of, own, setup}
+use Rattle.claim_rule.specs.Views.{Content, Seated, view_of, own, setup_of_terms}
 use Rattle.claim_rule.specs.Stands.{turns_left, AreWords, AreHomes, KeepsRule}
-use Rattle.claim_rule.specs.Plays.{but_last, released, IsToFree, freed}
+use Rattle.claim_rule.specs.Plays.{but_last, released_caller, IsToFree, Releases}
 use Rattle.claim_rule.specs.Nexts.{GoesOn, IsAt, ReleaseIsNext}
 use Rattle.claim_rule.proofs.Tables.{tag_written, homes_kept}
 use Rattle.claim_rule.proofs.Moves.{sound, caller_at, counts, moves, journal_stays}
-use Rattle.claim_rule.proofs.Allowing.{turns_same, allowed}
+use Rattle.claim_rule.proofs.NextsLemmas.{turns_same, allowed}
 
 module _ {D : Type 0} {verdict : D → Shown → Verdict} {z : Terms D} {s : Content D} {steps : List ℕ} {seat : ℕ} {r : Record} (table : IsAt verdict z s steps seat r) where
   abbrev g : Setup
-  g = setup verdict z
+  g = setup_of_terms verdict z
 
   abbrev core : State
   core = after g steps
 
-  pub release_goes : (i slots : ℕ) (carried : List (ℕ × Slot)) → IsToFree verdict i (view_of z (r ∷ []), carried) → GoesOn verdict z s steps i seat (view_of z (r ∷ []), carried) (λ _. freed verdict (step slots i 0 0 home.none) (view_of z (r ∷ []), carried) 0) 0
+  pub release_goes : (i slots : ℕ) (carried : List (ℕ × Slot)) → IsToFree verdict i (view_of z (r ∷ []), carried) → GoesOn verdict z s steps i seat (view_of z (r ∷ []), carried) (λ _. Releases verdict (step slots i 0 0 home.none) (view_of z (r ∷ []), carried) 0) 0
   release_goes i slots carried to = (
-    view_of z (record r { caller = released g r.caller } ∷ []),
+    view_of z (record r { caller = released_caller g r.caller } ∷ []),
     gives,
     tt,
-    moves table new (released g r.caller) (set s.words i 0) (put_back s.homes carried) leads callers refl refl fewer words homes,
+    moves table new (released_caller g r.caller) (set s.words i 0) (put_back s.homes carried) leads callers refl refl fewer words homes,
     (refl, refl),
   )
     where
@@ -72,14 +72,14 @@ module _ {D : Type 0} {verdict : D → Shown → Verdict} {z : Terms D} {s : Con
       leads : new ≡ next g r.number core
       leads = sym (ap (acts g r.number core) (caller_at table) ∙ ap (by_phase g r.number core r.caller) to.phase ∙ ap (releases g r.number core r.caller) is_held)
 
-      same : released g r.caller ≡ frees g r.caller.turn held r.caller.marks
-      same = ap (λ h. frees g r.caller.turn (but_last h) r.caller.marks) is_held
+      same : released_caller g r.caller ≡ freeing_caller g r.caller.turn held r.caller.marks
+      same = ap (λ h. freeing_caller g r.caller.turn (but_last h) r.caller.marks) is_held
 
-      callers : new.callers ≡ set core.callers r.number (released g r.caller)
+      callers : new.callers ≡ set core.callers r.number (released_caller g r.caller)
       callers = ap (set core.callers r.number) (sym same)
 
       fewer : turns_left g new ≤ turns_left g core
-      fewer = turns_same g core new r.number r.caller (frees g r.caller.turn held r.caller.marks) (caller_at table) refl (frees-marks g r.caller.turn held r.caller.marks)
+      fewer = turns_same g core new r.number r.caller (freeing_caller g r.caller.turn held r.caller.marks) (caller_at table) refl (frees-marks g r.caller.turn held r.caller.marks)
 
       tags : new.tags ≡ set core.tags i 0
       tags = ap (λ o. put_at core.tags o 0) numbered
@@ -106,10 +106,10 @@ module _ {D : Type 0} {verdict : D → Shown → Verdict} {z : Terms D} {s : Con
           ])
           (set_else s.homes i (cells g.world) (home.some (slot.Cell x)) (λ e. omega (arith, e, to.inside))) refl (journal_stays g core new refl fewer))
 
-module _ {D : Type 0} (verdict : D → Shown → Verdict) (z : Terms D) (ok : IsSetup (setup verdict z)) where
-  pub release_allowed : (slots seat : ℕ) (me : Seated D) (i : ℕ) → me.0 ≡ view_of z (own me.0 ∷ []) → IsToFree verdict i me → Allows (KeepsRule verdict z) slots seat me i (λ _. 0) (λ _. freed verdict (step slots i 0 0 home.none) me 0)
+module _ {D : Type 0} (verdict : D → Shown → Verdict) (z : Terms D) (ok : IsSetup (setup_of_terms verdict z)) where
+  pub release_allowed : (slots seat : ℕ) (me : Seated D) (i : ℕ) → me.0 ≡ view_of z (own me.0 ∷ []) → IsToFree verdict i me → Allows (KeepsRule verdict z) slots seat me i (λ _. 0) (λ _. Releases verdict (step slots i 0 0 home.none) me 0)
   release_allowed slots seat me i one to =
-      allowed verdict z ok slots seat me i (λ _. 0) (IsToFree verdict i) (λ m _. freed verdict (step slots i 0 0 home.none) m 0) one to
+      allowed verdict z ok slots seat me i (λ _. 0) (IsToFree verdict i) (λ m _. Releases verdict (step slots i 0 0 home.none) m 0) one to
       (λ s steps r table fact. release_goes table i slots me.1 fact)
 
 pub release_is_next : {D : Type 0} (verdict : D → Shown → Verdict) (z : Terms D) → ReleaseIsNext verdict z

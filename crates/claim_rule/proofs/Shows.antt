@@ -10,9 +10,9 @@ use Rattle.claim_core.specs.declared.state.Phase.TheVariants.{Claim, Refusing, L
 use Rattle.claim_core.specs.Machine.{Setup, State, bot, found, after}
 use Rattle.claim_core.specs.Soundness.{IsSetup, HasFront, CallerOk, Sound, names}
 use Rattle.claim_core.proofs.Fronts.{whole_shown}
-use Rattle.claim_core.proofs.Holding.{framed, same_area, valued}
+use Rattle.claim_core.proofs.HolderLemmas.{framed, same_area, valued}
 use Rattle.claim_core.proofs.Sounds.{always}
-use Rattle.claim_rule.specs.Views.{setup}
+use Rattle.claim_rule.specs.Views.{setup_of_terms}
 use Rattle.claim_rule.specs.Plays.{HoldsZone}
 use Rattle.claim_rule.specs.Laws.{FoundIsShown}
 
@@ -38,6 +38,6 @@ module _ (g : Setup) (ok : IsSetup g) (s : State) (sound : Sound g s) (c : ℕ) 
 
 pub found_is_shown : {D : Type 0} (verdict : D → Shown → Verdict) → FoundIsShown verdict
 found_is_shown verdict z s steps seat place r ok st has holds =
-    let g = setup verdict z in
+    let g = setup_of_terms verdict z in
     let sound = always g ok steps in
     (sound.last, sound.run, shows g ok (after g steps) sound r.number r.caller (st.views.each seat place r has).caller holds)

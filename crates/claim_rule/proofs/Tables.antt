@@ -17,7 +17,7 @@ use Rattle.claim_rule.specs.declared.views.Record.{Record}
 use Rattle.claim_rule.specs.declared.views.Terms.{Terms}
 use Rattle.claim_rule.specs.declared.views.View.{View}
 use Rattle.claim_rule.specs.Views.{view_of}
-use Rattle.claim_rule.specs.Stands.{word_of, journal_word, IsJournal, AreWords, AreHomes, HasRecord}
+use Rattle.claim_rule.specs.Stands.{cell_word, journal_word, IsCoreJournal, AreWords, AreHomes, HasRecord}
 
 -- the only record of a list of one
 pub only : {A : Type 0} (x y : A) (j : ℕ) → slice_get (x ∷ []) j ≡ Some y → (j ≡ 0) × (x ≡ y)
@@ -27,12 +27,12 @@ only x y (suc j) e = absurd (none-some y e)
 module _ (g : Setup) where
   -- the words, one of which was written
   pub words_written : (old new : State) (words : List ℕ) (i x : ℕ) → AreWords g old words → i < cells g.world + 1
-      → (i < cells g.world → x ≡ word_of new i) → (i ≡ cells g.world → x ≡ journal_word new)
-      → ((k : ℕ) → k ≢ i → k < cells g.world → word_of new k ≡ word_of old k) → (i ≢ cells g.world → journal_word new ≡ journal_word old) → AreWords g new (set words i x)
+      → (i < cells g.world → x ≡ cell_word new i) → (i ≡ cells g.world → x ≡ journal_word new)
+      → ((k : ℕ) → k ≢ i → k < cells g.world → cell_word new k ≡ cell_word old k) → (i ≢ cells g.world → journal_word new ≡ journal_word old) → AreWords g new (set words i x)
   words_written old new words i x is inside here last others other_last = record {
     count = length-set words i x ∙ is.count;
     cell = λ k lt. elim (cases_eq k i) [
-      | inl e ↦ ap (get_or (set words i x) k) refl ∙ subst (λ j. get_or (set words i x) j 0 ≡ word_of new j) (sym e) (get_or-set_same words i x 0 within ∙ here (omega (arith, e, lt)))
+      | inl e ↦ ap (get_or (set words i x) k) refl ∙ subst (λ j. get_or (set words i x) j 0 ≡ cell_word new j) (sym e) (get_or-set_same words i x 0 within ∙ here (omega (arith, e, lt)))
       | inr ne ↦ get_or-set_other words i k x 0 ne ∙ is.cell k lt ∙ sym (others k ne lt)
     ];
     journal = elim (cases_eq (cells g.world) i) [
@@ -58,7 +58,7 @@ module _ (g : Setup) where
   -- the slots, where the state has the same journal and what is at home there is told
   pub homes_kept : (old new : State) (homes later : List (home.Option Slot)) → AreHomes g old homes → length later ≡ length homes
       → ((k : ℕ) (x : Cell) → slice_get new.tags k ≡ Some 0 → slice_get new.values k ≡ Some x → get_elem? later k ≡ home.some (home.some (slot.Cell x)))
-      → get_elem? later (cells g.world) ≡ get_elem? homes (cells g.world) → new.holder ≡ old.holder → ((j : Kept) → IsJournal g old j → IsJournal g new j) → AreHomes g new later
+      → get_elem? later (cells g.world) ≡ get_elem? homes (cells g.world) → new.holder ≡ old.holder → ((j : Kept) → IsCoreJournal g old j → IsCoreJournal g new j) → AreHomes g new later
   homes_kept old new homes later is same cell journal holder keeps = record {
     count = same ∙ is.count;
     cell = cell;

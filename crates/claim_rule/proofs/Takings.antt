@@ -24,15 +24,15 @@ use Rattle.claim_rule.specs.declared.views.Slot.{Slot}
 use Rattle.claim_rule.specs.declared.views.Slot.TheVariants as slot
 use Rattle.claim_rule.specs.declared.views.Record.{Record}
 use Rattle.claim_rule.specs.declared.views.Terms.{Terms}
-use Rattle.claim_rule.specs.Views.{Content, Seated, view_of, own, setup}
-use Rattle.claim_rule.specs.Stands.{turns_left, IsJournal, HasCommitted, AreWords, AreHomes, KeepsRule}
+use Rattle.claim_rule.specs.Views.{Content, Seated, view_of, own, setup_of_terms}
+use Rattle.claim_rule.specs.Stands.{turns_left, IsCoreJournal, HasCommitted, AreWords, AreHomes, KeepsRule}
 use Rattle.claim_rule.specs.Commits.{Takes, HasRoomForEntry, with_journal, took}
 use Rattle.claim_rule.specs.Nexts.{GoesOn, IsAt, TakeIsNext}
 use Rattle.claim_rule.proofs.Tables.{journal_written}
 use Rattle.claim_rule.proofs.Moves.{sound, mine, caller_at, not_last, moved, moves, taken_else, journal_stays}
-use Rattle.claim_rule.proofs.Allowing.{turns_same, allowed}
-use Rattle.claim_rule.proofs.Giving.{set_back}
-use Rattle.claim_rule.proofs.Marking.{some_left}
+use Rattle.claim_rule.proofs.NextsLemmas.{turns_same, allowed}
+use Rattle.claim_rule.proofs.SeatsLemmas.{set_back}
+use Rattle.claim_rule.proofs.MarkLemmas.{some_left}
 
 -- the journal's word is odd exactly where it has a holder, and is odd after the try
 odd : (n : ℕ) (o : Option ℕ) → (2 * n + option_len o) % 2 ≡ option_len o
@@ -52,7 +52,7 @@ made_odd n o = by o (or_block 1 n 0 (option_len o) 1 (small o) (omega arith))
 
 module _ {D : Type 0} {verdict : D → Shown → Verdict} {z : Terms D} {s : Content D} {steps : List ℕ} {seat : ℕ} {r : Record} (table : IsAt verdict z s steps seat r) where
   abbrev g : Setup
-  g = setup verdict z
+  g = setup_of_terms verdict z
 
   abbrev core : State
   core = after g steps
@@ -102,7 +102,7 @@ module _ {D : Type 0} {verdict : D → Shown → Verdict} {z : Terms D} {s : Con
       ((λ _. record { change = change; phase = p; journal = j; room = room; now = refl; out = refl }), λ ne. absurd (ne (ap (λ x. x % 2) (word_is None e) ∙ odd (length core.journal) None))),
     )
       where
-        has : (v : Kept) × (get_elem? s.homes last ≡ home.some (home.some (slot.Journal v))) × IsJournal g core v
+        has : (v : Kept) × (get_elem? s.homes last ≡ home.some (home.some (slot.Journal v))) × IsCoreJournal g core v
         has = table.stands.homes.journal e
 
         j : Kept
@@ -150,7 +150,7 @@ module _ {D : Type 0} {verdict : D → Shown → Verdict} {z : Terms D} {s : Con
   pub take_goes : Takes r.caller.phase → Goes
   take_goes to = by_holder to.0 to.1 core.holder refl
 
-module _ {D : Type 0} (verdict : D → Shown → Verdict) (z : Terms D) (ok : IsSetup (setup verdict z)) where
+module _ {D : Type 0} (verdict : D → Shown → Verdict) (z : Terms D) (ok : IsSetup (setup_of_terms verdict z)) where
   pub take_allowed : (slots seat : ℕ) (me : Seated D) → me.0 ≡ view_of z (own me.0 ∷ []) → Takes (own me.0).caller.phase → Allows (KeepsRule verdict z) slots seat me (cells z.world) (λ x. bit_or x 1) (took (step slots (cells z.world) 1 0 home.none) me)
   take_allowed slots seat me one to =
       allowed verdict z ok slots seat me (cells z.world) (λ x. bit_or x 1) (λ m. Takes (own m.0).caller.phase) (took (step slots (cells z.world) 1 0 home.none)) one to

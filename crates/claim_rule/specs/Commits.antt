@@ -12,7 +12,7 @@ use Rattle.claim_core.specs.declared.state.Phase.{Phase}
 use Rattle.claim_core.specs.declared.state.Phase.TheVariants.{Taking, Committing}
 use Rattle.claim_core.specs.Limits.{most_turns}
 use Rattle.claim_core.specs.Turns.{Kept}
-use Rattle.claim_core.specs.Machine.{Setup, bot, found, entry, frees, renewed}
+use Rattle.claim_core.specs.Machine.{Setup, bot, found, entry, freeing_caller, patched_pair}
 use Rattle.claim_rule.specs.declared.views.Slot.{Slot}
 use Rattle.claim_rule.specs.declared.views.Slot.TheVariants as slot
 use Rattle.claim_rule.specs.declared.views.Record.{Record}
@@ -26,7 +26,11 @@ Takes p = (change : Change) × (p ≡ Taking change)
 
 -- the entry of a caller's change at a place, with what was found for it
 abbrev pub commit_at : Setup → Record → Change → ℕ → Committed
-commit_at g r change place = record { place = place; entry = entry g r.number r.caller.turn change; found = found g (bot g r.number r.caller.turn) r.caller.held }
+commit_at g r change place = record {
+  place = place;
+  entry = entry g r.number r.caller.turn change;
+  found = found g (bot g r.number r.caller.turn) r.caller.held;
+}
 
 -- the record of a caller that has the journal, as it was taken, and commits this change next
 abbrev pub with_journal : Record → Change → Kept → Record
@@ -37,7 +41,7 @@ with_journal r change j = record r { caller = record r.caller { phase = Committi
 abbrev pub with_commit : Setup → Record → Change → ℕ → Record
 with_commit g r change place = record {
   number = r.number;
-  caller = frees g r.caller.turn (map (renewed change.patch) r.caller.held) (r.caller.marks ++ mark.Done place ∷ []);
+  caller = freeing_caller g r.caller.turn (map (patched_pair change.patch) r.caller.held) (r.caller.marks ++ mark.Done place ∷ []);
   committed = r.committed ++ commit_at g r change place ∷ [];
   taken = None;
 }

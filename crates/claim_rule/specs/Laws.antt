@@ -21,7 +21,7 @@ use Rattle.claim_core.specs.Soundness.{IsSetup, TurnOkSoFar}
 use Rattle.claim_rule.specs.declared.views.Slot.{Slot}
 use Rattle.claim_rule.specs.declared.views.Record.{Record}
 use Rattle.claim_rule.specs.declared.views.Terms.{Terms}
-use Rattle.claim_rule.specs.Views.{Content, view_of, setup}
+use Rattle.claim_rule.specs.Views.{Content, view_of, setup_of_terms}
 use Rattle.claim_rule.specs.Stands.{HasRecord, Stands, first_view}
 use Rattle.claim_rule.specs.Plays.{HoldsZone}
 use Rattle.claim_rule.specs.Tokens.{Token, doing}
@@ -33,54 +33,95 @@ use Rattle.claim_rule.specs.Closing.{ClosesAs}
 -- stands for the opening
 abbrev pub OpeningStands : {D : Type 0} → (D → Shown → Verdict) → Type 0
 OpeningStands {D} verdict =
-    (z : Terms D) (slots : List Slot) → IsSetup (setup verdict z) → AreFirstSlots z.world z.lists slots → Stands verdict z (table.opening (replicate (cells z.world + 1) 0) slots (first_view verdict z)) (opening (setup verdict z))
+    (z : Terms D) (slots : List Slot)
+    → IsSetup (setup_of_terms verdict z)
+    → AreFirstSlots z.world z.lists slots
+    → Stands verdict z
+    (table.opening (replicate (cells z.world + 1) 0) slots (first_view verdict z))
+    (opening (setup_of_terms verdict z))
 
 -- where a seat gives its first record to a new one, the table stands for the same state as before
 abbrev pub SplitChangesNothing : {D : Type 0} → (D → Shown → Verdict) → Type 0
-SplitChangesNothing {D} verdict = (z : Terms D) (core : State) (seat : ℕ) (r : Record) (rs : List Record) → Splits (λ (s : Content D). Stands verdict z s core) seat (view_of z (r ∷ rs)) (view_of z rs) (view_of z (r ∷ []))
+SplitChangesNothing {D} verdict =
+    (z : Terms D) (core : State) (seat : ℕ) (r : Record) (rs : List Record)
+    → Splits (λ (s : Content D). Stands verdict z s core) seat (view_of z (r ∷ rs)) (view_of z rs) (view_of z (r ∷ []))
 
 -- and where a seat takes in the records of another
 abbrev pub JoinChangesNothing : {D : Type 0} → (D → Shown → Verdict) → Type 0
-JoinChangesNothing {D} verdict = (z : Terms D) (core : State) (seat other : ℕ) (rs qs : List Record) → Joins (λ (s : Content D). Stands verdict z s core) seat (view_of z rs) other (view_of z qs) (view_of z (rs ++ qs)) spent
+JoinChangesNothing {D} verdict =
+    (z : Terms D) (core : State) (seat other : ℕ) (rs qs : List Record)
+    → Joins (λ (s : Content D). Stands verdict z s core)
+    seat (view_of z rs) other (view_of z qs) (view_of z (rs ++ qs)) spent
 
 -- where the table stands for the state after some steps, the journal leads to one last world, and what a caller has found that holds
 -- its whole zone is what this world shows its amoebot. It is so after any steps, and hence until the turn has its mark
 abbrev pub FoundIsShown : {D : Type 0} → (D → Shown → Verdict) → Type 0
 FoundIsShown {D} verdict =
-    (z : Terms D) (s : Content D) (steps : List ℕ) (seat place : ℕ) (r : Record) → IsSetup (setup verdict z) → Stands verdict z s (after (setup verdict z) steps) → HasRecord s.views seat place r → HoldsZone r.caller.phase
-    → (let b : ℕ = bot (setup verdict z) r.number r.caller.turn in
-    (last : Config) × Run (verdict z.decider) z.world (after (setup verdict z) steps).journal last × (found (setup verdict z) b r.caller.held ≡ shown last b))
+    (z : Terms D) (s : Content D) (steps : List ℕ) (seat place : ℕ) (r : Record)
+    → IsSetup (setup_of_terms verdict z)
+    → Stands verdict z s (after (setup_of_terms verdict z) steps)
+    → HasRecord s.views seat place r
+    → HoldsZone r.caller.phase
+    → (let b : ℕ = bot (setup_of_terms verdict z) r.number r.caller.turn in
+    (last : Config)
+    × Run (verdict z.decider) z.world (after (setup_of_terms verdict z) steps).journal last
+    × (found (setup_of_terms verdict z) b r.caller.held ≡ shown last b))
 
 -- words, values at home and views stand for at most one state that steps of the callers lead to
 abbrev pub StateIsDetermined : {D : Type 0} → (D → Shown → Verdict) → Type 0
 StateIsDetermined {D} verdict =
-    (z : Terms D) (s : Content D) (one two : List ℕ) → IsSetup (setup verdict z) → Stands verdict z s (after (setup verdict z) one) → Stands verdict z s (after (setup verdict z) two) → after (setup verdict z) one ≡ after (setup verdict z) two
+    (z : Terms D) (s : Content D) (one two : List ℕ)
+    → IsSetup (setup_of_terms verdict z)
+    → Stands verdict z s (after (setup_of_terms verdict z) one)
+    → Stands verdict z s (after (setup_of_terms verdict z) two)
+    → after (setup_of_terms verdict z) one ≡ after (setup_of_terms verdict z) two
 
 -- what a field leaves is determined by what its seats know, once each caller's seat is there
 abbrev pub FieldEndsOneWay : {D : Type 0} → (D → Shown → Verdict) → Type 0
 FieldEndsOneWay {D} verdict =
-    (z : Terms D) (seats : List (Option (Token D))) (world other : Config) (journal second : Kept) → IsSetup (setup verdict z) → length seats ≡ length z.lists.ids → All (λ o. IsSome o) seats
-    → ClosesAs verdict z seats world journal → ClosesAs verdict z seats other second → (world ≡ other) × (journal.first ≡ second.first) × (journal.entries ≡ second.entries)
+    (z : Terms D) (seats : List (Option (Token D))) (world other : Config) (journal second : Kept)
+    → IsSetup (setup_of_terms verdict z)
+    → length seats ≡ length z.lists.ids
+    → All (λ o. IsSome o) seats
+    → ClosesAs verdict z seats world journal
+    → ClosesAs verdict z seats other second
+    → (world ≡ other) × (journal.first ≡ second.first) × (journal.entries ≡ second.entries)
 
 -- what each mark of a seat says is so of the turn of its caller, as far as the callers have come; and what is left is a run of the
 -- model from the first world to the last, whose entries are turns of the lists in their order
 abbrev pub FieldEndsSound : {D : Type 0} → (D → Shown → Verdict) → Type 0
 FieldEndsSound {D} verdict =
-    (z : Terms D) (seats : List (Option (Token D))) (world : Config) (journal : Kept) → IsSetup (setup verdict z) → (ends : ClosesAs verdict z seats world journal)
-    → Run (verdict z.decider) z.world journal.entries world × Order z.lists journal.entries
-    × ((c t : ℕ) (token : Token D) (m : Mark) → slice_get seats c ≡ Some (Some token) → slice_get (doing token).marks t ≡ Some m → TurnOkSoFar (setup verdict z) (after (setup verdict z) ends.steps) c t m)
+    (z : Terms D) (seats : List (Option (Token D))) (world : Config) (journal : Kept)
+    → IsSetup (setup_of_terms verdict z)
+    → (ends : ClosesAs verdict z seats world journal)
+    → Run (verdict z.decider) z.world journal.entries world
+    × Order z.lists journal.entries
+    × ((c t : ℕ) (token : Token D) (m : Mark)
+    → slice_get seats c ≡ Some (Some token)
+    → slice_get (doing token).marks t ≡ Some m
+    → TurnOkSoFar (setup_of_terms verdict z) (after (setup_of_terms verdict z) ends.steps) c t m)
 
 -- the marks of a seat's caller
-abbrev pub marks_in : {D : Type 0} → Option (Token D) → List Mark
-marks_in None = []
-marks_in (Some token) = (doing token).marks
+abbrev pub marks_at_seat : {D : Type 0} → Option (Token D) → List Mark
+marks_at_seat None = []
+marks_at_seat (Some token) = (doing token).marks
 
 -- what a field leaves, with the marks of all seats
 abbrev pub report_of : {D : Type 0} → Terms D → List (Option (Token D)) → Config → Kept → Report
-report_of z seats world journal = record { world = world; journal = journal; turns = record { turns = z.lists.turns; marks = map marks_in seats } }
+report_of z seats world journal = record {
+  world = world;
+  journal = journal;
+  turns = record { turns = z.lists.turns; marks = map marks_at_seat seats };
+}
 
 -- once each caller has ended and its seat is there, that is a report which some interleaving gives, and so a good one
 abbrev pub EndedFieldIsReached : {D : Type 0} → (D → Shown → Verdict) → Type 0
 EndedFieldIsReached {D} verdict =
-    (z : Terms D) (seats : List (Option (Token D))) (world : Config) (journal : Kept) → IsSetup (setup verdict z) → length seats ≡ length z.lists.ids → All (λ o. IsSome o) seats → All (λ o. IfSome o (λ token. (doing token).phase ≡ Ended)) seats
-    → ClosesAs verdict z seats world journal → Reached (setup verdict z) (report_of z seats world journal) × Good (verdict z.decider) z.world z.lists (report_of z seats world journal)
+    (z : Terms D) (seats : List (Option (Token D))) (world : Config) (journal : Kept)
+    → IsSetup (setup_of_terms verdict z)
+    → length seats ≡ length z.lists.ids
+    → All (λ o. IsSome o) seats
+    → All (λ o. IfSome o (λ token. (doing token).phase ≡ Ended)) seats
+    → ClosesAs verdict z seats world journal
+    → Reached (setup_of_terms verdict z) (report_of z seats world journal)
+    × Good (verdict z.decider) z.world z.lists (report_of z seats world journal)

@@ -13,9 +13,9 @@ use Rattle.claim_rule.specs.declared.views.Slot.{Slot}
 use Rattle.claim_rule.specs.declared.views.Record.{Record}
 use Rattle.claim_rule.specs.declared.views.Terms.{Terms}
 use Rattle.claim_rule.specs.declared.views.View.{View}
-use Rattle.claim_rule.specs.Views.{Content, Seated, own, view_of, setup}
+use Rattle.claim_rule.specs.Views.{Content, Seated, own, view_of, setup_of_terms}
 use Rattle.claim_rule.specs.Stands.{Stands}
-use Rattle.claim_rule.specs.Plays.{IsToTry, IsToFree, Reads, claimed, freed, read}
+use Rattle.claim_rule.specs.Plays.{IsToTry, IsToFree, IsToRead, Claims, Releases, ReadsLength}
 use Rattle.claim_rule.specs.Commits.{Takes, IsToCommit, took, stored}
 
 module _ {D : Type 0} (verdict : D → Shown → Verdict) (z : Terms D) where
@@ -23,35 +23,59 @@ module _ {D : Type 0} (verdict : D → Shown → Verdict) (z : Terms D) where
   -- state after one step more of the seat's caller, and the seat knows what the step tells
   abbrev pub GoesOn : Content D → List ℕ → ℕ → ℕ → Seated D → (ℕ → Seated D → Type 0) → ℕ → Type 0
   GoesOn s steps i seat me then x =
-      (w : View D) × (a : Act Slot) × Valid s.homes me.1 a × Stands verdict z (stepped s i x seat me.1 w a) (after (setup verdict z) ((own me.0).number ∷ steps)) × then (slice_index s.words i) (w, carried_after me.1 a)
+      (w : View D) × (a : Act Slot) × Valid s.homes me.1 a
+      × Stands verdict z (stepped s i x seat me.1 w a) (after (setup_of_terms verdict z) ((own me.0).number ∷ steps))
+      × then (slice_index s.words i) (w, carried_after me.1 a)
 
   -- a table that stands for the state after these steps, at which a seat has the record of one caller
   pub record IsAt (s : Content D) (steps : List ℕ) (seat : ℕ) (r : Record) : Type 0 where
-    pub run : IsSetup (setup verdict z)
-    pub stands : Stands verdict z s (after (setup verdict z) steps)
+    pub run : IsSetup (setup_of_terms verdict z)
+    pub stands : Stands verdict z s (after (setup_of_terms verdict z) steps)
     pub there : get_elem? s.views seat ≡ some (view_of z (r ∷ []))
 
   -- a try to claim a cell, which finds its word 0 and puts the tag, or leaves it
   abbrev pub ClaimIsNext : Type 0
-  ClaimIsNext = (s : Content D) (steps : List ℕ) (seat i t slots : ℕ) (r : Record) (out : List (ℕ × Slot)) → IsAt s steps seat r → IsToTry verdict i t (view_of z (r ∷ []))
-      → GoesOn s steps i seat (view_of z (r ∷ []), out) (claimed verdict (step slots i 0 t none) (view_of z (r ∷ []), out)) (either (slice_index s.words i == 0) t (slice_index s.words i))
+  ClaimIsNext =
+      (s : Content D) (steps : List ℕ) (seat i t slots : ℕ) (r : Record) (out : List (ℕ × Slot))
+      → IsAt s steps seat r
+      → IsToTry verdict i t (view_of z (r ∷ []))
+      → GoesOn s steps i seat (view_of z (r ∷ []), out)
+      (Claims verdict (step slots i 0 t none) (view_of z (r ∷ []), out))
+      (either (slice_index s.words i == 0) t (slice_index s.words i))
 
   -- the release of the cell that was won last, which puts 0
   abbrev pub ReleaseIsNext : Type 0
-  ReleaseIsNext = (s : Content D) (steps : List ℕ) (seat i slots : ℕ) (r : Record) (out : List (ℕ × Slot)) → IsAt s steps seat r → IsToFree verdict i (view_of z (r ∷ []), out)
-      → GoesOn s steps i seat (view_of z (r ∷ []), out) (λ _. freed verdict (step slots i 0 0 none) (view_of z (r ∷ []), out) 0) 0
+  ReleaseIsNext =
+      (s : Content D) (steps : List ℕ) (seat i slots : ℕ) (r : Record) (out : List (ℕ × Slot))
+      → IsAt s steps seat r
+      → IsToFree verdict i (view_of z (r ∷ []), out)
+      → GoesOn s steps i seat (view_of z (r ∷ []), out) (λ _. Releases verdict (step slots i 0 0 none) (view_of z (r ∷ []), out) 0) 0
 
   -- a look at the journal's word, which leaves it
   abbrev pub LookIsNext : Type 0
-  LookIsNext = (s : Content D) (steps : List ℕ) (seat slots : ℕ) (r : Record) (out : List (ℕ × Slot)) → IsAt s steps seat r → Reads r.caller.phase
-      → GoesOn s steps (cells z.world) seat (view_of z (r ∷ []), out) (read verdict (step slots (cells z.world) 0 0 none) (view_of z (r ∷ []), out)) (slice_index s.words (cells z.world))
+  LookIsNext =
+      (s : Content D) (steps : List ℕ) (seat slots : ℕ) (r : Record) (out : List (ℕ × Slot))
+      → IsAt s steps seat r
+      → IsToRead r.caller.phase
+      → GoesOn s steps (cells z.world) seat (view_of z (r ∷ []), out)
+      (ReadsLength verdict (step slots (cells z.world) 0 0 none) (view_of z (r ∷ []), out))
+      (slice_index s.words (cells z.world))
 
   -- a try to take the journal, which makes its word odd, or leaves it
   abbrev pub TakeIsNext : Type 0
-  TakeIsNext = (s : Content D) (steps : List ℕ) (seat slots : ℕ) (r : Record) (out : List (ℕ × Slot)) → IsAt s steps seat r → Takes r.caller.phase
-      → GoesOn s steps (cells z.world) seat (view_of z (r ∷ []), out) (took (step slots (cells z.world) 1 0 none) (view_of z (r ∷ []), out)) (bit_or (slice_index s.words (cells z.world)) 1)
+  TakeIsNext =
+      (s : Content D) (steps : List ℕ) (seat slots : ℕ) (r : Record) (out : List (ℕ × Slot))
+      → IsAt s steps seat r
+      → Takes r.caller.phase
+      → GoesOn s steps (cells z.world) seat (view_of z (r ∷ []), out)
+      (took (step slots (cells z.world) 1 0 none) (view_of z (r ∷ []), out))
+      (bit_or (slice_index s.words (cells z.world)) 1)
 
   -- a commit, which puts twice the new length in the journal's word
   abbrev pub CommitIsNext : Type 0
-  CommitIsNext = (s : Content D) (steps : List ℕ) (seat x slots : ℕ) (r : Record) (out : List (ℕ × Slot)) → IsAt s steps seat r → IsToCommit verdict (cells z.world) x (view_of z (r ∷ []), out)
-      → GoesOn s steps (cells z.world) seat (view_of z (r ∷ []), out) (λ _. stored verdict (step slots (cells z.world) x 0 none) (view_of z (r ∷ []), out) x) x
+  CommitIsNext =
+      (s : Content D) (steps : List ℕ) (seat x slots : ℕ) (r : Record) (out : List (ℕ × Slot))
+      → IsAt s steps seat r
+      → IsToCommit verdict (cells z.world) x (view_of z (r ∷ []), out)
+      → GoesOn s steps (cells z.world) seat (view_of z (r ∷ []), out)
+      (λ _. stored verdict (step slots (cells z.world) x 0 none) (view_of z (r ∷ []), out) x) x

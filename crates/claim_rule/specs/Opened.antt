@@ -12,7 +12,7 @@ use Rattle.claim_rule.specs.declared.views.Slot.{Slot}
 use Rattle.claim_rule.specs.declared.views.Slot.TheVariants as slot
 use Rattle.claim_rule.specs.declared.views.Record.{Record}
 use Rattle.claim_rule.specs.declared.views.Terms.{Terms}
-use Rattle.claim_rule.specs.Views.{setup, view_of}
+use Rattle.claim_rule.specs.Views.{setup_of_terms, view_of}
 use Rattle.claim_rule.specs.Tokens.{FieldOf, Token}
 use Rattle.claim_rule.specs.Stands.{records_from}
 use Rattle.claim_rule.specs.Seating.{SeatsOf}
@@ -33,7 +33,7 @@ module _ {D : Type 0} where
 module _ {D : Type 0} (verdict : D → Shown → Verdict) where
   -- the records of all callers before their first turn, by their numbers
   abbrev pub first_records : Terms D → List Record
-  first_records z = records_from verdict z 0 (map (λ (_ : List ℕ). fresh (setup verdict z)) z.lists.ids)
+  first_records z = records_from verdict z 0 (map (λ (_ : List ℕ). fresh (setup_of_terms verdict z)) z.lists.ids)
 
   -- a seat for each caller, each before its first turn
   abbrev pub first_seats : FieldOf D → SeatsOf D

@@ -8,7 +8,7 @@ use Rattle.amoebot_state.specs.declared.cell.Cell.{Cell}
 use Rattle.amoebot_state.specs.declared.verdict.Verdict.{Verdict}
 use Rattle.amoebot_state.specs.Limits.{most_cells}
 use Rattle.amoebot_state.specs.Pairs.{Pairs, body_in}
-use Rattle.amoebot_state.specs.Refusals.{IsPlain}
+use Rattle.amoebot_state.specs.Refusals.{IsBotInRange}
 use Rattle.amoebot_state.specs.Zones.{Shown, IsShown}
 use Rattle.claim_core.specs.declared.marks.Mark.{Mark}
 use Rattle.claim_core.specs.declared.marks.Mark.TheVariants as mark
@@ -18,7 +18,7 @@ use Rattle.claim_core.specs.declared.state.Phase.TheVariants.{Claim, Refusing, L
 use Rattle.claim_core.specs.Limits.{most_turns}
 use Rattle.claim_core.specs.Tags.{tag_caller, tag_turn, tag_bot}
 use Rattle.claim_core.specs.Cells.{number, cells}
-use Rattle.claim_core.specs.Machine.{Setup, bot, own_tag, found, next_of, won, frees, looked, refused}
+use Rattle.claim_core.specs.Machine.{Setup, bot, own_tag, found, next_of, caller_with_cell, freeing_caller, mark_of_look, busy_mark}
 use Rattle.claim_rule.specs.declared.views.Slot.{Slot}
 use Rattle.claim_rule.specs.declared.views.Slot.TheVariants as slot
 use Rattle.claim_rule.specs.declared.views.View.{View}
@@ -30,7 +30,7 @@ IsPlaced g n i = (number g.world.area n ≡ Some i) × (i < cells g.world)
 
 -- what is known of a zone of which these cells are held: it tells the next cell, and with the last one what its amoebot is shown
 pub record IsKnown (g : Setup) (b : ℕ) (held : Pairs) : Type 0 where
-  pub plain : IfSome (body_in (reverse held) b) IsPlain
+  pub plain : IfSome (body_in (reverse held) b) IsBotInRange
   pub few : length held ≤ most_cells
   pub placed : (n : CellName) → next_of g b held ≡ Some n → (i : ℕ) × IsPlaced g n i
   pub shown : next_of g b held ≡ None → IsShown (found g b held)
@@ -44,14 +44,14 @@ pub record IsOthers (g : Setup) (c t : ℕ) : Type 0 where
   pub of : tag_bot t ≡ bot g (tag_caller t) (tag_turn t)
 
 -- a caller in this phase reads the journal's length, for its turn's mark
-abbrev pub Reads : Phase → Type 0
-Reads Claim = ⊥
-Reads (Refusing n t) = Unit {0}
-Reads (Looking l) = Unit {0}
-Reads (Taking change) = ⊥
-Reads (Committing change) = ⊥
-Reads Releasing = ⊥
-Reads Ended = ⊥
+abbrev pub IsToRead : Phase → Type 0
+IsToRead Claim = ⊥
+IsToRead (Refusing n t) = Unit {0}
+IsToRead (Looking l) = Unit {0}
+IsToRead (Taking change) = ⊥
+IsToRead (Committing change) = ⊥
+IsToRead Releasing = ⊥
+IsToRead Ended = ⊥
 
 -- a caller in this phase holds its whole zone, and its turn has no mark
 abbrev pub HoldsZone : Phase → Type 0
@@ -64,14 +64,14 @@ HoldsZone Releasing = ⊥
 HoldsZone Ended = ⊥
 
 -- the mark that it gets, at the place that is read
-abbrev pub mark_at : Phase → ℕ → Mark
-mark_at Claim place = mark.Idle place
-mark_at (Refusing n t) place = refused n t place
-mark_at (Looking l) place = looked l place
-mark_at (Taking change) place = mark.Idle place
-mark_at (Committing change) place = mark.Idle place
-mark_at Releasing place = mark.Idle place
-mark_at Ended place = mark.Idle place
+abbrev pub mark_of_phase : Phase → ℕ → Mark
+mark_of_phase Claim place = mark.Idle place
+mark_of_phase (Refusing n t) place = busy_mark n t place
+mark_of_phase (Looking l) place = mark_of_look l place
+mark_of_phase (Taking change) place = mark.Idle place
+mark_of_phase (Committing change) place = mark.Idle place
+mark_of_phase Releasing place = mark.Idle place
+mark_of_phase Ended place = mark.Idle place
 
 -- the cells but the one that was won last
 abbrev pub but_last : Pairs → Pairs
@@ -80,11 +80,11 @@ but_last (p ∷ held) = held
 
 -- the caller with its turn's mark, at a place
 abbrev pub marked_at : Setup → Caller → ℕ → Caller
-marked_at g k place = frees g k.turn k.held (k.marks ++ mark_at k.phase place ∷ [])
+marked_at g k place = freeing_caller g k.turn k.held (k.marks ++ mark_of_phase k.phase place ∷ [])
 
 -- the caller without the cell that it won last
-abbrev pub released : Setup → Caller → Caller
-released g k = frees g k.turn (but_last k.held) k.marks
+abbrev pub released_caller : Setup → Caller → Caller
+released_caller g k = freeing_caller g k.turn (but_last k.held) k.marks
 
 module _ {D : Type 0} (verdict : D → Shown → Verdict) where
   abbrev pub about : View D → Setup
@@ -105,22 +105,36 @@ module _ {D : Type 0} (verdict : D → Shown → Verdict) where
     pub placed : IsPlaced (about v) (tried v) i
     pub tag : t ≡ own_tag (about v) (own v).number (own v).caller.turn
 
+  -- the cell with this number, which the caller tried, is won with its value, and its slot is out
+  pub record Wins (i : ℕ) (m m' : Seated D) : Type 0 where
+    pub value : Cell
+    pub now : m'.0 ≡ goes_on m.0 (caller_with_cell (about m.0) (own m.0).number (own m.0).caller (tried m.0) value)
+    pub out : m'.1 ≡ (i, slot.Cell value) ∷ m.1
+    pub known : IsKnown (about m.0) (bot_in m.0) ((tried m.0, value) ∷ (own m.0).caller.held)
+
+  -- the claim is refused by this tag of another caller
+  pub record IsRefusedAt (t : ℕ) (m m' : Seated D) : Type 0 where
+    pub now : m'.0 ≡ goes_on m.0 (record (own m.0).caller { phase = Refusing (tried m.0) t })
+    pub out : m'.1 ≡ m.1
+    pub other : IsOthers (about m.0) (own m.0).number t
+
   -- a tag of 0 was found, and the cell is won with its value; or another's was, and the claim is refused
-  abbrev pub claimed : Step Slot → Seated D → ℕ → Seated D → Type 0
-  claimed st m t m' =
-      (t ≡ 0 → (x : Cell) × (m'.0 ≡ goes_on m.0 (won (about m.0) (own m.0).number (own m.0).caller (tried m.0) x)) × (m'.1 ≡ (st.word, slot.Cell x) ∷ m.1) × IsKnown (about m.0) (bot_in m.0) ((tried m.0, x) ∷ (own m.0).caller.held))
-      × (t ≢ 0 → (m'.0 ≡ goes_on m.0 (record (own m.0).caller { phase = Refusing (tried m.0) t })) × (m'.1 ≡ m.1) × IsOthers (about m.0) (own m.0).number t)
+  abbrev pub Claims : Step Slot → Seated D → ℕ → Seated D → Type 0
+  Claims st m t m' = (t ≡ 0 → Wins st.word m m') × (t ≢ 0 → IsRefusedAt t m m')
 
   -- the cell with this number was won last, and the seat has its value to put home
   pub record IsToFree (i : ℕ) (m : Seated D) : Type 0 where
     pub phase : (own m.0).caller.phase ≡ Releasing
     pub inside : i < cells (about m.0).world
-    pub last : (n : CellName) × (x : Cell) × (held : Pairs) × (more : List (ℕ × Slot)) × ((own m.0).caller.held ≡ (n, x) ∷ held) × (number (about m.0).world.area n ≡ Some i) × (m.1 ≡ (i, slot.Cell x) ∷ more)
+    pub last : (n : CellName) × (x : Cell) × (held : Pairs) × (more : List (ℕ × Slot))
+        × ((own m.0).caller.held ≡ (n, x) ∷ held)
+        × (number (about m.0).world.area n ≡ Some i)
+        × (m.1 ≡ (i, slot.Cell x) ∷ more)
 
   -- the cell is free
-  abbrev pub freed : Step Slot → Seated D → ℕ → Seated D → Type 0
-  freed st m t m' = (m'.0 ≡ goes_on m.0 (released (about m.0) (own m.0).caller)) × (m'.1 ≡ rest m.1)
+  abbrev pub Releases : Step Slot → Seated D → ℕ → Seated D → Type 0
+  Releases st m t m' = (m'.0 ≡ goes_on m.0 (released_caller (about m.0) (own m.0).caller)) × (m'.1 ≡ rest m.1)
 
   -- the journal's length is half of its word, rounded down, and at most 65,536: the turn has its mark
-  abbrev pub read : Step Slot → Seated D → ℕ → Seated D → Type 0
-  read st m t m' = (m'.0 ≡ goes_on m.0 (marked_at (about m.0) (own m.0).caller (t / 2))) × (m'.1 ≡ m.1) × (t / 2 ≤ most_turns)
+  abbrev pub ReadsLength : Step Slot → Seated D → ℕ → Seated D → Type 0
+  ReadsLength st m t m' = (m'.0 ≡ goes_on m.0 (marked_at (about m.0) (own m.0).caller (t / 2))) × (m'.1 ≡ m.1) × (t / 2 ≤ most_turns)

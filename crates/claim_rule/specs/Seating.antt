@@ -1,28 +1,16 @@
 -- How the records of callers are dealt to seats, and gathered again.
-use Rattle.std.specs.Prelude.{◌≡◌, ℕ, ◌<◌, List, [], ◌++◌, take, drop, length, slice_get}
+use Rattle.std.specs.Prelude.{◌≡◌, ℕ, ◌<◌, List, [], length, slice_get}
 use Rattle.std.specs.declared.option.Option.{Option}
 use Rattle.std.specs.declared.option.Option.TheVariants.{Some, None}
 use Rattle.atomic_table.specs.Seated.{TableId}
 use Rattle.claim_rule.specs.declared.views.Terms.{Terms}
 use Rattle.claim_rule.specs.declared.views.View.{View}
-use Rattle.claim_rule.specs.Views.{Seated, like, view_of}
+use Rattle.claim_rule.specs.Views.{Seated, view_of}
 use Rattle.claim_rule.specs.Tokens.{FieldOf, Token, number_in}
 
-module _ {D : Type 0} where
-  -- a split gives the first record to the new seat, and leaves the others
-  abbrev pub dealt : View D → View D
-  dealt v = like v (take 1 v.records)
-
-  abbrev pub left : View D → View D
-  left v = like v (drop 1 v.records)
-
-  -- a join takes the records of the other seat in, behind the own
-  abbrev pub joined : View D → View D → View D
-  joined v w = like w (v.records ++ w.records)
-
-  -- the view of a seat that has no record
-  abbrev pub spent : View D
-  spent = record { terms = None; records = [] }
+-- the view of a seat that has no record
+abbrev pub spent : {D : Type 0} → View D
+spent {D} = record { terms = None; records = [] }
 
 -- the seats of a field: its table, what it is about, and the callers' seats by their numbers, each there or given out
 pub record SeatsOf (D : Type 0) : Type 0 where
@@ -47,4 +35,5 @@ module _ {D : Type 0} where
     pub terms : Terms D
     pub dealt : rest ≡ (view_of terms [], [])
     pub count : length seats ≡ length terms.lists.ids
-    pub each : (c : ℕ) (t : Token D) → slice_get seats c ≡ Some (Some t) → (t.table ≡ table) × (t.view.terms ≡ Some terms) × (number_in t ≡ c)
+    pub each : (c : ℕ) (t : Token D) → slice_get seats c ≡ Some (Some t)
+        → (t.table ≡ table) × (t.view.terms ≡ Some terms) × (number_in t ≡ c)

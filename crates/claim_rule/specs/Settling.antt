@@ -16,17 +16,8 @@ use Rattle.claim_rule.specs.declared.views.Slot.TheVariants as slot
 use Rattle.claim_rule.specs.declared.views.Record.{Record}
 use Rattle.claim_rule.specs.Views.{Seated, own, like}
 use Rattle.claim_rule.specs.Plays.{about}
-use Rattle.claim_rule.specs.Tokens.{Token, IsActivation, record_in, number_in, doing}
+use Rattle.claim_rule.specs.Tokens.{Token, PlacedTurn, IsActivation, placed_turn, record_in, number_in, doing}
 use Rattle.claim_rule.specs.Commits.{HasRoomForEntry, with_journal, with_commit}
-
--- a turn, and the place of the entry that it committed
-pub record ReceiptOf : Type 0 where
-  pub caller : ℕ
-  pub turn : ℕ
-  pub place : ℕ
-
-abbrev pub receipt_of : ℕ → ℕ → ℕ → ReceiptOf
-receipt_of c t place = record { caller = c; turn = t; place = place }
 
 module _ {D : Type 0} where
   -- the seat where its caller's record has changed
@@ -47,13 +38,14 @@ module _ {D : Type 0} where
 
   module _ (verdict : D → Shown → Verdict) where
     -- it has committed this change: its record has gained the entry with the place in the receipt and what was found, and the turn its mark
-    pub record HasStored (old new : Token D) (change : Change) (receipt : ReceiptOf) : Type 0 where
+    pub record HasStored (old new : Token D) (change : Change) (receipt : PlacedTurn) : Type 0 where
       pub now : new ≡ with_record old (with_commit (about verdict old.view) (record_in old) change receipt.place)
-      pub told : receipt ≡ receipt_of (number_in old) (doing old).turn receipt.place
+      pub told : receipt ≡ placed_turn (number_in old) (doing old).turn receipt.place
       pub few : receipt.place < most_turns
 
     -- it holds its whole zone and the journal, as it was taken, whose slot is out, and empty; but for the journal it is as it was
-    pub record IsTaken (m : Seated D) (c t b : ℕ) (a : Extent) (greatest : List ℕ) (pairs : Pairs) (change : Change) (j : Kept) : Type 0 where
+    pub record IsTaken (m : Seated D) (c t b : ℕ) (a : Extent) (greatest : List ℕ) (pairs : Pairs)
+        (change : Change) (j : Kept) : Type 0 where
       pub alone : m.0.records ≡ own m.0 ∷ []
       pub activation : IsActivation verdict (untaken m) c t b a greatest pairs
       pub turn : (own m.0).caller.turn ≡ t

@@ -1,5 +1,5 @@
 -- What contracts see of a field, of its seats, and of what is made of a seat.
-use Rattle.std.specs.Prelude.{◌≡◌, ◌⊎◌, ℕ, ◌+◌, ◌<◌, List, [], ◌∷◌, map, length, unwrap_or}
+use Rattle.std.specs.Prelude.{◌≡◌, ◌⊎◌, ℕ, ◌+◌, ◌<◌, List, [], ◌∷◌, map, reverse, length, unwrap_or}
 use Rattle.std.specs.List.{All}
 use Rattle.std.specs.declared.option.Option.{Option}
 use Rattle.std.specs.declared.option.Option.TheVariants.{Some, None}
@@ -16,14 +16,15 @@ use Rattle.claim_core.specs.declared.state.Look.{Look}
 use Rattle.claim_core.specs.declared.state.Phase.TheVariants.{Refusing, Looking, Releasing}
 use Rattle.claim_core.specs.Cells.{number, cells}
 use Rattle.claim_core.specs.Tags.{tag_caller, tag_turn, tag_bot}
-use Rattle.claim_core.specs.Machine.{bot, found, next_of, decided, after_win, opens, frees, caller}
+use Rattle.claim_core.specs.Machine.{bot, found, next_of, phase_of_verdict, after_win, opening_phase, freeing_caller, caller}
 use Rattle.claim_core.specs.Soundness.{IsSetup}
+use Rattle.claim_rule.specs.declared.activation.Activation.{Activation}
 use Rattle.claim_rule.specs.declared.views.Slot.{Slot}
 use Rattle.claim_rule.specs.declared.views.Slot.TheVariants as slot
 use Rattle.claim_rule.specs.declared.views.Record.{Record}
 use Rattle.claim_rule.specs.declared.views.Terms.{Terms}
 use Rattle.claim_rule.specs.declared.views.View.{View}
-use Rattle.claim_rule.specs.Views.{Seated, own, goes_on, setup, setup_at}
+use Rattle.claim_rule.specs.Views.{Seated, own, goes_on, setup_of_terms, setup_at}
 use Rattle.claim_rule.specs.Plays.{IsPlaced, IsKnown, IsOthers, about, bot_in}
 
 -- which table a field has, and what it is about
@@ -46,17 +47,25 @@ pub record RefusedOf : Type 0 where
   pub by_bot : ℕ
   pub place : ℕ
 
--- a turn, and the length of the journal that it saw with its whole zone held
-pub record SeenOf : Type 0 where
+-- a turn and a place in the journal: that of the entry which it committed, or the length that it saw with its whole zone held
+pub record PlacedTurn : Type 0 where
   pub caller : ℕ
   pub turn : ℕ
   pub place : ℕ
 
 abbrev pub refused_of : ℕ → ℕ → CellName → ℕ → ℕ → RefusedOf
-refused_of c t n by place = record { caller = c; turn = t; cell = n; by_caller = tag_caller by; by_turn = tag_turn by; by_bot = tag_bot by; place = place }
+refused_of c t n by place = record {
+  caller = c;
+  turn = t;
+  cell = n;
+  by_caller = tag_caller by;
+  by_turn = tag_turn by;
+  by_bot = tag_bot by;
+  place = place;
+}
 
-abbrev pub seen_of : ℕ → ℕ → ℕ → SeenOf
-seen_of c t place = record { caller = c; turn = t; place = place }
+abbrev pub placed_turn : ℕ → ℕ → ℕ → PlacedTurn
+placed_turn c t place = record { caller = c; turn = t; place = place }
 
 -- the slot of a cell is out, and empty
 abbrev pub emptied : Extent → CellName × Cell → ℕ × Slot
@@ -77,6 +86,13 @@ module _ {D : Type 0} where
   abbrev pub goes : Token D → Caller → Token D
   goes t k = record t { view = goes_on t.view k }
 
+  -- an activation as its seat's token, and the cells that it holds, the one won last at the front
+  abbrev pub token_in : Activation D → Token D
+  token_in a = record { table = a.seat.table_id; view = a.seat.me.0 }
+
+  abbrev pub cells_in : Activation D → Pairs
+  cells_in a = reverse a.cells.items
+
   -- the whole zone is held, the verdict on it is Idle or Failed, and the journal's length was not looked at
   abbrev pub IsToLook : Token D → Type 0
   IsToLook t = (l : Look) × ((doing t).phase ≡ Looking l)
@@ -93,7 +109,7 @@ module _ {D : Type 0} where
   module _ (verdict : D → Shown → Verdict) where
     -- what a field keeps: it is about something that may be run, and has a word and a slot for each cell and for the journal
     pub record IsField (f : FieldOf D) (d : D) (w : Config) : Type 0 where
-      pub run : IsSetup (setup verdict f.terms)
+      pub run : IsSetup (setup_of_terms verdict f.terms)
       pub words : f.table.words ≡ cells f.terms.world + 1
       pub slots : f.table.slots ≡ cells f.terms.world + 1
       pub decider : f.terms.decider ≡ d
@@ -105,7 +121,7 @@ module _ {D : Type 0} where
       pub run : IsSetup (setup_at verdict m.0.terms)
       pub number : (own m.0).number ≡ c
       pub listed : c < length (setup_at verdict m.0.terms).lists.ids
-      pub rests : (own m.0).caller ≡ caller t (opens (setup_at verdict m.0.terms) t) [] (own m.0).caller.marks
+      pub rests : (own m.0).caller ≡ caller t (opening_phase (setup_at verdict m.0.terms) t) [] (own m.0).caller.marks
       pub taken : (own m.0).taken ≡ None
       pub out : m.1 ≡ []
       pub area : a ≡ (setup_at verdict m.0.terms).world.area
@@ -137,6 +153,10 @@ module _ {D : Type 0} where
       pub placed : All (λ (p : CellName × Cell). (i : ℕ) × IsPlaced (about verdict m.0) (cell_of p) i) pairs
       pub out : m.1 ≡ map (emptied a) pairs
 
+    -- the same of the parts of an activation: what its seat knows and has out, its fields, and its cells
+    abbrev pub KeepsActivation : Activation D → Type 0
+    KeepsActivation a = IsActivation a.seat.me a.caller a.turn a.bot a.area a.maxes (cells_in a)
+
     -- it claims, or holds its whole zone
     pub record IsClaiming (m : Seated D) (t b : ℕ) (held : Pairs) : Type 0 where
       pub turn : (own m.0).caller.turn ≡ t
@@ -153,12 +173,12 @@ module _ {D : Type 0} where
       pub phase : (own m.0).caller.phase ≡ Refusing cell tag
 
     -- it holds its whole zone, and has this verdict on it or its mark
-    pub record IsWhole (m : Seated D) (t b : ℕ) (held : Pairs) (told : Shown) : Type 0 where
+    pub record HoldsWholeZone (m : Seated D) (t b : ℕ) (held : Pairs) (told : Shown) : Type 0 where
       pub turn : (own m.0).caller.turn ≡ t
       pub whole : next_of (about verdict m.0) b held ≡ None
       pub shown : told ≡ found (about verdict m.0) b held
-      pub phase : ((own m.0).caller.phase ≡ decided ((about verdict m.0).verdict told)) ⊎ ((own m.0).caller.phase ≡ Releasing)
+      pub phase : ((own m.0).caller.phase ≡ phase_of_verdict ((about verdict m.0).verdict told)) ⊎ ((own m.0).caller.phase ≡ Releasing)
 
     -- it has its mark and frees what it holds; with nothing held its next turn begins
     abbrev pub IsFreeing : Seated D → ℕ → Pairs → Type 0
-    IsFreeing m t held = (own m.0).caller ≡ frees (about verdict m.0) t held (own m.0).caller.marks
+    IsFreeing m t held = (own m.0).caller ≡ freeing_caller (about verdict m.0) t held (own m.0).caller.marks

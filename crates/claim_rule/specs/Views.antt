@@ -21,13 +21,13 @@ abbrev pub record_of : ℕ → Caller → Record
 record_of c k = record { number = c; caller = k; committed = []; taken = None }
 
 -- the record where the caller has come on
-abbrev pub with_caller : Record → Caller → Record
-with_caller r k = record r { caller = k }
+abbrev pub record_with : Record → Caller → Record
+record_with r k = record r { caller = k }
 
 -- the first record; that of nobody, where there is none
-abbrev pub first_of : List Record → Record
-first_of [] = record_of 0 (caller 0 phase.Ended [] [])
-first_of (r ∷ rs) = r
+abbrev pub first_record : List Record → Record
+first_record [] = record_of 0 (caller 0 phase.Ended [] [])
+first_record (r ∷ rs) = r
 
 -- the words, the values at home, and the views of the table
 abbrev pub Content : Type 0 → Type 0
@@ -39,11 +39,13 @@ Seated D = table.Me Slot (View D)
 
 -- a configuration with no node
 abbrev pub nowhere : Config
-nowhere = let a : Rattle.tri_lattice.specs.Extent.Extent = record { x0 = pos 0; y0 = pos 0; w = 0; h = 0 } in record { area = a; maxes = []; bots = [] }
+nowhere =
+    let a : Rattle.tri_lattice.specs.Extent.Extent = record { x0 = pos 0; y0 = pos 0; w = 0; h = 0 } in
+    record { area = a; maxes = []; bots = [] }
 
 module _ {D : Type 0} where
-  abbrev pub terms_of : D → Config → CallerLists → Terms D
-  terms_of d w l = record { decider = d; world = w; lists = l }
+  abbrev pub field_terms : D → Config → CallerLists → Terms D
+  field_terms d w l = record { decider = d; world = w; lists = l }
 
   -- a view of these terms
   abbrev pub view_of : Terms D → List Record → View D
@@ -55,18 +57,18 @@ module _ {D : Type 0} where
 
   -- the record of a view that has one
   abbrev pub own : View D → Record
-  own v = first_of v.records
+  own v = first_record v.records
 
   -- the view where its caller has come on
   abbrev pub goes_on : View D → Caller → View D
-  goes_on v k = like v (with_caller (own v) k ∷ [])
+  goes_on v k = like v (record_with (own v) k ∷ [])
 
   module _ (verdict : D → Shown → Verdict) where
     -- what the machine's run is about
-    abbrev pub setup : Terms D → Setup
-    setup z = record { verdict = verdict z.decider; world = z.world; lists = z.lists }
+    abbrev pub setup_of_terms : Terms D → Setup
+    setup_of_terms z = record { verdict = verdict z.decider; world = z.world; lists = z.lists }
 
     -- the same for a view, which a spent one has not
     abbrev pub setup_at : Option (Terms D) → Setup
     setup_at None = record { verdict = λ _. decision.Idle; world = nowhere; lists = record { turns = 0; ids = [] } }
-    setup_at (Some z) = setup z
+    setup_at (Some z) = setup_of_terms z

@@ -1,8 +1,8 @@
 ghost use Rattle.std.specs.Prelude.{◌≡◌, ◌<◌, ◌≤◌, None, length};
 ghost use Rattle.claim_core.specs.Limits.{most_turns};
-ghost use Rattle.claim_core.specs.Machine.{decided};
+ghost use Rattle.claim_core.specs.Machine.{phase_of_verdict};
 ghost use Rattle.claim_rule.specs.Plays.{about, marked_at};
-ghost use Rattle.claim_rule.specs.Tokens.{IsOf, IsToLook, IsMarked, number_in, doing, goes, next_in, found_in, verdict_in, seen_of};
+ghost use Rattle.claim_rule.specs.Tokens.{IsOf, IsToLook, IsMarked, number_in, doing, goes, next_in, found_in, verdict_in, placed_turn};
 
 use crate::activation::Activation;
 use crate::field::Field;
@@ -20,9 +20,9 @@ pub struct Seen {
 }
 
 impl Model for Seen {
-    ghost use Rattle.claim_rule.specs.Tokens.{SeenOf};
+    ghost use Rattle.claim_rule.specs.Tokens.{PlacedTurn};
 
-    ghost Value = { SeenOf };
+    ghost Value = { PlacedTurn };
 
     ghost view = { λ s. record { caller = s.caller; turn = s.turn; place = s.place } };
 }
@@ -58,14 +58,14 @@ pub struct Claimed<D: Decider> {
 }
 
 impl<D: Decider> Model for Claimed<D> {
-    ghost use Rattle.std.specs.Prelude.{reverse};
-    ghost use Rattle.claim_rule.specs.Tokens.{Token, IsActivation, IsWhole};
+    ghost use Rattle.claim_rule.specs.Tokens.{Token, HoldsWholeZone, KeepsActivation, token_in, cells_in};
 
     ghost Value = { Token D };
 
-    ghost view = { λ c. record { table = c.activation.seat.table_id; view = c.activation.seat.me.0 } };
+    ghost view = { λ c. token_in c.activation };
 
-    ghost invariant = { λ c. IsActivation D.verdict c.activation.seat.me c.activation.caller c.activation.turn c.activation.bot c.activation.area c.activation.maxes (reverse c.activation.cells.items) × IsWhole D.verdict c.activation.seat.me c.activation.turn c.activation.bot (reverse c.activation.cells.items) c.found };
+    ghost invariant = { λ c. KeepsActivation D.verdict c.activation
+        × HoldsWholeZone D.verdict c.activation.seat.me c.activation.turn c.activation.bot (cells_in c.activation) c.found };
 }
 
 impl<D: Decider> Claimed<D> {
@@ -81,7 +81,7 @@ impl<D: Decider> Claimed<D> {
 pub fn seal<D: Decider>(held: Held<D>) -> Claimed<D>
     requires whole { next_in D.verdict held ≡ None }
     ensures same { result ≡ held }
-    ensures decided { (doing held).phase ≡ decided (verdict_in D.verdict held) }
+    ensures decided { (doing held).phase ≡ phase_of_verdict (verdict_in D.verdict held) }
 {
     let Held { activation } = held;
     let found = Found::make(
@@ -99,7 +99,7 @@ pub fn look<D: Decider>(claimed: &mut Claimed<D>, field: &Field<'_, D>) -> Seen
     requires looks { IsToLook claimed.old }
     ensures marked { claimed.new ≡ goes claimed.old (marked_at (about D.verdict claimed.old.view) (doing claimed.old) result.place) }
     ensures frees { IsMarked claimed.new }
-    ensures told { result ≡ seen_of (number_in claimed.old) (doing claimed.old).turn result.place }
+    ensures told { result ≡ placed_turn (number_in claimed.old) (doing claimed.old).turn result.place }
     ensures few { result.place ≤ most_turns }
 {
     let activation = &mut claimed.activation;

@@ -12,7 +12,8 @@ ghost use Rattle.claim_rule.specs.declared.views.Slot.TheVariants as slot;
 ghost use Rattle.claim_rule.specs.Views.{view_of};
 ghost use Rattle.claim_rule.specs.Tokens.{Token};
 ghost use Rattle.claim_rule.specs.Seating.{AreOf};
-ghost use Rattle.claim_rule.specs.Closing.{ClosesAs, HaveAll};
+ghost use Rattle.claim_rule.specs.Closing.{ClosesAs};
+ghost use Rattle.claim_rule.specs.Internal.{HaveAll};
 
 use crate::field::Field;
 use crate::seat::Seat;
@@ -39,7 +40,7 @@ impl<'d, D: Decider> Field<'d, D> {
         } = self;
         let cells = cells_of(&world);
         let journal = journal_of(table.close_with(rest), cells);
-        follow(decider, &mut world, journal.entries());
+        apply_all(decider, &mut world, journal.entries());
         (world, journal)
     }
 }
@@ -51,8 +52,10 @@ pub(crate) fn gather_all<'d, D: Decider>(
     mut seats: Vec<Option<Seat<D>>>,
 ) -> TableSeat<Slot, View<D>>
     requires field { (rest.table_id ≡ field.now.table) × (rest.me ≡ (view_of field.now.terms [], [])) }
-    requires seats { (c : ℕ) (t : Token D) → slice_get seats.items c ≡ Some (Some t) → (t.table ≡ field.now.table) × (t.view.terms ≡ Some field.now.terms) }
-    ensures { (result.table_id ≡ field.now.table) × ((rs : List Record) × (result.me ≡ (view_of field.now.terms rs, [])) × HaveAll seats.items rs) }
+    requires seats { (c : ℕ) (t : Token D) → slice_get seats.items c ≡ Some (Some t)
+        → (t.table ≡ field.now.table) × (t.view.terms ≡ Some field.now.terms) }
+    ensures { (result.table_id ≡ field.now.table)
+        × ((rs : List Record) × (result.me ≡ (view_of field.now.terms rs, [])) × HaveAll seats.items rs) }
 {
     while let Some(place) = seats.pop() {
         if let Some(seat) = place {
@@ -81,7 +84,7 @@ fn journal_of(mut closed: Closed<Slot, Global>, cells: usize) -> Journal
 }
 
 /// Makes the world the last one of a run of these entries.
-fn follow<D: Decider>(decider: &D, world: &mut World, entries: &[Entry])
+fn apply_all<D: Decider>(decider: &D, world: &mut World, entries: &[Entry])
     requires { (last : Config) × Run (D.verdict decider.now) world.old entries.now last }
     ensures { Run (D.verdict decider.now) world.old entries.now world.new }
 {

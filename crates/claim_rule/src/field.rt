@@ -18,13 +18,19 @@ pub struct Field<'d, D: Decider> {
 
 impl<'d, D: Decider> Model for Field<'d, D> {
     ghost use Rattle.claim_rule.specs.Tokens.{FieldOf, IsField};
-    ghost use Rattle.claim_rule.specs.Views.{terms_of};
+    ghost use Rattle.claim_rule.specs.Views.{field_terms};
 
     ghost Value = { FieldOf D };
 
-    ghost view = { λ f. record { table = f.table.shared.table_id; terms = terms_of f.table.shared.key.decider.now f.table.shared.key.world f.table.shared.key.lists.now } };
+    ghost view = { λ f. record {
+      table = f.table.shared.table_id;
+      terms = field_terms f.table.shared.key.decider.now f.table.shared.key.world f.table.shared.key.lists.now;
+    } };
 
-    ghost invariant = { λ f. IsField D.verdict (record { table = f.table.shared.table_id; terms = terms_of f.table.shared.key.decider.now f.table.shared.key.world f.table.shared.key.lists.now }) f.decider.now f.world };
+    ghost invariant = { λ f. IsField D.verdict (record {
+      table = f.table.shared.table_id;
+      terms = field_terms f.table.shared.key.decider.now f.table.shared.key.world f.table.shared.key.lists.now;
+    }) f.decider.now f.world };
 }
 
 impl<'d, D: Decider> Field<'d, D> {

@@ -1,5 +1,5 @@
 ghost use Rattle.std.specs.Prelude.{◌≡◌, ◌<◌, [], length};
-ghost use Rattle.claim_rule.specs.Plays.{about, released};
+ghost use Rattle.claim_rule.specs.Plays.{about, released_caller};
 ghost use Rattle.claim_rule.specs.Tokens.{IsOf, doing, goes};
 
 use crate::activation::Activation;
@@ -16,14 +16,14 @@ pub struct Freeing<D: Decider> {
 }
 
 impl<D: Decider> Model for Freeing<D> {
-    ghost use Rattle.std.specs.Prelude.{reverse};
-    ghost use Rattle.claim_rule.specs.Tokens.{Token, IsActivation, IsFreeing};
+    ghost use Rattle.claim_rule.specs.Tokens.{Token, IsFreeing, KeepsActivation, token_in, cells_in};
 
     ghost Value = { Token D };
 
-    ghost view = { λ f. record { table = f.activation.seat.table_id; view = f.activation.seat.me.0 } };
+    ghost view = { λ f. token_in f.activation };
 
-    ghost invariant = { λ f. IsActivation D.verdict f.activation.seat.me f.activation.caller f.activation.turn f.activation.bot f.activation.area f.activation.maxes (reverse f.activation.cells.items) × IsFreeing D.verdict f.activation.seat.me f.activation.turn (reverse f.activation.cells.items) };
+    ghost invariant = { λ f. KeepsActivation D.verdict f.activation
+        × IsFreeing D.verdict f.activation.seat.me f.activation.turn (cells_in f.activation) };
 }
 
 impl<D: Decider> Freeing<D> {
@@ -39,7 +39,7 @@ impl<D: Decider> Freeing<D> {
 pub fn free_last<D: Decider>(freeing: Freeing<D>, field: &Field<'_, D>) -> Freeing<D>
     requires field { IsOf field.now freeing }
     requires some { 0 < length (doing freeing).held }
-    ensures { result ≡ goes freeing (released (about D.verdict freeing.view) (doing freeing)) }
+    ensures { result ≡ goes freeing (released_caller (about D.verdict freeing.view) (doing freeing)) }
 {
     let Freeing { mut activation } = freeing;
     let Some((cell, value)) = activation.cells.pop() else {

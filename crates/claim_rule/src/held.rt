@@ -2,7 +2,7 @@ ghost use Rattle.std.specs.Prelude.{◌≡◌, ◌<◌, ◌≤◌, length, Some,
 ghost use Rattle.amoebot_state.specs.declared.cell.Cell.{Cell};
 ghost use Rattle.amoebot_state.specs.Limits.{most_cells};
 ghost use Rattle.claim_core.specs.declared.state.Phase.TheVariants.{Refusing};
-ghost use Rattle.claim_core.specs.Machine.{won};
+ghost use Rattle.claim_core.specs.Machine.{caller_with_cell};
 ghost use Rattle.claim_rule.specs.Plays.{IsOthers, about, bot_in};
 ghost use Rattle.claim_rule.specs.Tokens.{IsOf, number_in, doing, goes, next_in};
 
@@ -22,14 +22,14 @@ pub struct Held<D: Decider> {
 }
 
 impl<D: Decider> Model for Held<D> {
-    ghost use Rattle.std.specs.Prelude.{reverse};
-    ghost use Rattle.claim_rule.specs.Tokens.{Token, IsActivation, IsClaiming};
+    ghost use Rattle.claim_rule.specs.Tokens.{Token, IsClaiming, KeepsActivation, token_in, cells_in};
 
     ghost Value = { Token D };
 
-    ghost view = { λ h. record { table = h.activation.seat.table_id; view = h.activation.seat.me.0 } };
+    ghost view = { λ h. token_in h.activation };
 
-    ghost invariant = { λ h. IsActivation D.verdict h.activation.seat.me h.activation.caller h.activation.turn h.activation.bot h.activation.area h.activation.maxes (reverse h.activation.cells.items) × IsClaiming D.verdict h.activation.seat.me h.activation.turn h.activation.bot (reverse h.activation.cells.items) };
+    ghost invariant = { λ h. KeepsActivation D.verdict h.activation
+        × IsClaiming D.verdict h.activation.seat.me h.activation.turn h.activation.bot (cells_in h.activation) };
 }
 
 impl<D: Decider> Held<D> {
@@ -92,8 +92,10 @@ pub fn win<D: Decider>(
 ) -> Result<Held<D>, (Stopped<D>, Tag)>
     requires field { IsOf field.now held }
     requires next { next_in D.verdict held ≡ Some cell }
-    ensures won { IfOk result (λ more. (x : Cell) × (more ≡ goes held (won (about D.verdict held.view) (number_in held) (doing held) cell x))) }
-    ensures refused { IfErr result (λ by. (by.0 ≡ goes held (record (doing held) { phase = Refusing cell by.1 })) × IsOthers (about D.verdict held.view) (number_in held) by.1) }
+    ensures won { IfOk result (λ more. (x : Cell)
+        × (more ≡ goes held (caller_with_cell (about D.verdict held.view) (number_in held) (doing held) cell x))) }
+    ensures refused { IfErr result (λ by. (by.0 ≡ goes held (record (doing held) { phase = Refusing cell by.1 }))
+        × IsOthers (about D.verdict held.view) (number_in held) by.1) }
 {
     let Held { mut activation } = held;
     let Some(number) = cell_number(&activation.area, cell) else {

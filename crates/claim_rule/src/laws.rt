@@ -1,5 +1,6 @@
 //! Laws of the rule.
-ghost use Rattle.claim_rule.specs.Laws.{OpeningStands, SplitChangesNothing, JoinChangesNothing, FoundIsShown, StateIsDetermined, FieldEndsOneWay, FieldEndsSound, EndedFieldIsReached};
+ghost use Rattle.claim_rule.specs.Laws.{OpeningStands, SplitChangesNothing, JoinChangesNothing, FoundIsShown, StateIsDetermined};
+ghost use Rattle.claim_rule.specs.Laws.{FieldEndsOneWay, FieldEndsSound, EndedFieldIsReached};
 
 use amoebot_state::Decider;
 

@@ -2,7 +2,7 @@
 ghost use Rattle.std.specs.Prelude.{◌≡◌, ◌≤◌, [], length, IfOk, IsSome};
 ghost use Rattle.std.specs.List.{All};
 ghost use Rattle.amoebot_state.specs.Configs.{bot_at};
-ghost use Rattle.claim_rule.specs.Views.{terms_of};
+ghost use Rattle.claim_rule.specs.Views.{field_terms};
 ghost use Rattle.claim_rule.specs.Stands.{first_view};
 ghost use Rattle.claim_rule.specs.Opened.{AreFirstSlots, first_seats};
 
@@ -26,7 +26,7 @@ impl<'d, D: Decider> Field<'d, D> {
     ) -> Result<(Field<'d, D>, Seats<D>), NoMemory>
         requires some { 1 ≤ length lists.now.ids }
         requires bots { All (All (λ id. IsSome (bot_at world id))) lists.now.ids }
-        ensures terms { IfOk result (λ made. made.0.terms ≡ terms_of decider.now world lists.now) }
+        ensures terms { IfOk result (λ made. made.0.terms ≡ field_terms decider.now world lists.now) }
         ensures seats { IfOk result (λ made. made.1 ≡ first_seats D.verdict made.0) }
         ensures all { IfOk result (λ made. All (λ seat. IsSome seat) made.1.seats) }
     {
@@ -44,7 +44,7 @@ fn open<'d, D: Decider>(
     lists: &'d Lists,
 ) -> Result<(Field<'d, D>, TableSeat<Slot, View<D>>), NoMemory>
     requires bots { All (All (λ id. IsSome (bot_at world id))) lists.now.ids }
-    ensures terms { IfOk result (λ made. made.0.terms ≡ terms_of decider.now world lists.now) }
+    ensures terms { IfOk result (λ made. made.0.terms ≡ field_terms decider.now world lists.now) }
     ensures seat { IfOk result (λ made. (made.1.table_id ≡ made.0.table) × (made.1.me ≡ (first_view D.verdict made.0.terms, []))) }
 {
     world.keeps();

@@ -1,13 +1,13 @@
 //! The values of held cells once a patch is committed.
 ghost use Rattle.std.specs.Prelude.{◌≡◌, map};
 ghost use Rattle.claim_core.specs.Cells.{given, name_eq};
-ghost use Rattle.claim_core.specs.Machine.{renewed};
+ghost use Rattle.claim_core.specs.Machine.{patched_pair};
 
 use amoebot_state::{Cell, CellName};
 
 /// Gives the cells their values of a patch; the others keep theirs.
 pub(crate) fn renew(held: &mut [(CellName, Cell)], patch: &[(CellName, Cell)])
-    ensures { held.new ≡ map (renewed patch.now) held.old }
+    ensures { held.new ≡ map (patched_pair patch.now) held.old }
 {
     for pair in held.iter_mut() {
         pair.1 = given(patch, pair.0).unwrap_or(pair.1);

@@ -1,7 +1,7 @@
 //! The rule, and what each step tells the seat that makes it. These types are for the proofs alone.
-ghost use Rattle.claim_rule.specs.Views.{terms_of};
+ghost use Rattle.claim_rule.specs.Views.{field_terms};
 ghost use Rattle.claim_rule.specs.Stands.{KeepsRule, first_view};
-ghost use Rattle.claim_rule.specs.Plays.{claimed, freed, read};
+ghost use Rattle.claim_rule.specs.Plays.{Claims, Releases, ReadsLength};
 ghost use Rattle.claim_rule.specs.Commits.{took, stored};
 
 use crate::views::{Key, Slot, View};
@@ -12,30 +12,30 @@ use atomic_table::{Play, TableRule};
 pub struct ClaimRule;
 
 impl<'d, D: Decider> TableRule<Slot, View<D>, Key<'d, D>> for ClaimRule {
-    ghost holds = { λ key. KeepsRule D.verdict (terms_of key.decider.now key.world key.lists.now) };
+    ghost holds = { λ key. KeepsRule D.verdict (field_terms key.decider.now key.world key.lists.now) };
 
-    ghost first = { λ key. first_view D.verdict (terms_of key.decider.now key.world key.lists.now) };
+    ghost first = { λ key. first_view D.verdict (field_terms key.decider.now key.world key.lists.now) };
 }
 
 /// A try to claim a cell.
 pub(crate) struct Claim;
 
 impl<D: Decider> Play<Slot, View<D>> for Claim {
-    ghost then = { claimed D.verdict };
+    ghost then = { Claims D.verdict };
 }
 
 /// The release of the cell that was won last.
 pub(crate) struct Free;
 
 impl<D: Decider> Play<Slot, View<D>> for Free {
-    ghost then = { λ st m t m'. freed D.verdict st m t m' };
+    ghost then = { λ st m t m'. Releases D.verdict st m t m' };
 }
 
 /// A look at the journal's length.
 pub(crate) struct Read;
 
 impl<D: Decider> Play<Slot, View<D>> for Read {
-    ghost then = { read D.verdict };
+    ghost then = { ReadsLength D.verdict };
 }
 
 /// A try to take the journal.

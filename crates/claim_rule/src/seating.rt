@@ -2,7 +2,8 @@
 ghost use Rattle.std.specs.Prelude.{◌≡◌, List, [], ◌∷◌};
 ghost use Rattle.claim_rule.specs.declared.views.Record.{Record as RecordValue};
 ghost use Rattle.claim_rule.specs.Views.{view_of};
-ghost use Rattle.claim_rule.specs.Seating.{dealt, joined, left, spent};
+ghost use Rattle.claim_rule.specs.Seating.{spent};
+ghost use Rattle.claim_rule.specs.Internal.{dealt, joined_view, left_view};
 
 use crate::field::Field;
 use crate::views::{Slot, View};
@@ -13,7 +14,7 @@ use atomic_table::{Join, Seat as TableSeat, Split};
 pub struct Deal;
 
 impl<D> Split<View<D>> for Deal {
-    ghost left = { left };
+    ghost left = { left_view };
 
     ghost right = { dealt };
 }
@@ -22,7 +23,7 @@ impl<D> Split<View<D>> for Deal {
 pub struct Gather;
 
 impl<D> Join<View<D>> for Gather {
-    ghost both = { joined };
+    ghost both = { joined_view };
 
     ghost spent = { spent };
 }
@@ -32,7 +33,7 @@ impl<'d, D: Decider> Field<'d, D> {
     pub(crate) fn deal(&self, seat: &mut TableSeat<Slot, View<D>>) -> TableSeat<Slot, View<D>>
         requires field { seat.old.table_id ≡ self.now.table }
         requires some { (r : RecordValue) × (rs : List RecordValue) × (seat.old.me.0 ≡ view_of self.now.terms (r ∷ rs)) }
-        ensures rest { (seat.new.table_id ≡ seat.old.table_id) × (seat.new.me ≡ (left seat.old.me.0, seat.old.me.1)) }
+        ensures rest { (seat.new.table_id ≡ seat.old.table_id) × (seat.new.me ≡ (left_view seat.old.me.0, seat.old.me.1)) }
         ensures dealt { (result.table_id ≡ seat.old.table_id) × (result.me ≡ (dealt seat.old.me.0, [])) }
     {
         self.table.shared.split_seat::<Deal>(seat)
@@ -47,7 +48,7 @@ impl<'d, D: Decider> Field<'d, D> {
         requires field { (seat.old.table_id ≡ self.now.table) × (other.table_id ≡ self.now.table) }
         requires own { (rs : List RecordValue) × (seat.old.me.0 ≡ view_of self.now.terms rs) }
         requires other { (qs : List RecordValue) × (other.me ≡ (view_of self.now.terms qs, [])) }
-        ensures { (seat.new.table_id ≡ seat.old.table_id) × (seat.new.me ≡ (joined seat.old.me.0 other.me.0, seat.old.me.1)) }
+        ensures { (seat.new.table_id ≡ seat.old.table_id) × (seat.new.me ≡ (joined_view seat.old.me.0 other.me.0, seat.old.me.1)) }
     {
         self.table.shared.join_seat::<Gather>(seat, other);
     }

@@ -30,7 +30,8 @@ impl<D: Decider> Seats<D> {
     /// The seat of the least number that is there; None where all were given out.
     pub fn take(&mut self) -> Option<Seat<D>>
         ensures none { (result ≡ None) ↔ All (λ seat. seat ≡ None) self.old.seats }
-        ensures first { IfSome result (λ seat. IsFirst self.old.seats seat × (self.new ≡ record self.old { seats = slice_set self.old.seats (number_in seat) None })) }
+        ensures first { IfSome result (λ seat. IsFirst self.old.seats seat
+            × (self.new ≡ record self.old { seats = slice_set self.old.seats (number_in seat) None })) }
         ensures of { IfSome result (λ seat. (seat.table ≡ self.old.table) × (seat.view.terms ≡ self.old.terms)) }
         ensures stays { result ≡ None → self.new ≡ self.old }
     {
@@ -52,7 +53,8 @@ impl<D: Decider> Seats<D> {
 /// The place of the first seat that is there.
 fn first_there<D: Decider>(seats: &[Option<Seat<D>>]) -> Option<usize>
     ensures none { (result ≡ None) ↔ All (λ seat. seat ≡ None) seats.now }
-    ensures first { IfSome result (λ place. (slice_get seats.now place ≢ Some None) × (place < length seats.now) × ((c : ℕ) → c < place → slice_get seats.now c ≡ Some None)) }
+    ensures first { IfSome result (λ place. (slice_get seats.now place ≢ Some None) × (place < length seats.now)
+        × ((c : ℕ) → c < place → slice_get seats.now c ≡ Some None)) }
 {
     for (place, seat) in seats.iter().enumerate() {
         if seat.is_some() {

@@ -15,9 +15,9 @@ pub struct Receipt {
 }
 
 impl Model for Receipt {
-    ghost use Rattle.claim_rule.specs.Settling.{ReceiptOf};
+    ghost use Rattle.claim_rule.specs.Tokens.{PlacedTurn};
 
-    ghost Value = { ReceiptOf };
+    ghost Value = { PlacedTurn };
 
     ghost view = { λ r. record { caller = r.caller; turn = r.turn; place = r.place } };
 }
@@ -52,14 +52,16 @@ pub struct Settled<D: Decider> {
 }
 
 impl<D: Decider> Model for Settled<D> {
-    ghost use Rattle.std.specs.Prelude.{◌<◌, reverse, length};
-    ghost use Rattle.claim_rule.specs.Tokens.{Token, IsActivation, IsFreeing};
+    ghost use Rattle.std.specs.Prelude.{◌<◌, length};
+    ghost use Rattle.claim_rule.specs.Tokens.{Token, IsFreeing, KeepsActivation, token_in, cells_in};
 
     ghost Value = { Token D };
 
-    ghost view = { λ s. record { table = s.activation.seat.table_id; view = s.activation.seat.me.0 } };
+    ghost view = { λ s. token_in s.activation };
 
-    ghost invariant = { λ s. IsActivation D.verdict s.activation.seat.me s.activation.caller s.activation.turn s.activation.bot s.activation.area s.activation.maxes (reverse s.activation.cells.items) × IsFreeing D.verdict s.activation.seat.me s.activation.turn (reverse s.activation.cells.items) × (0 < length (reverse s.activation.cells.items)) };
+    ghost invariant = { λ s. KeepsActivation D.verdict s.activation
+        × IsFreeing D.verdict s.activation.seat.me s.activation.turn (cells_in s.activation)
+        × (0 < length (cells_in s.activation)) };
 }
 
 /// The cells are to be freed. There is one at least, the own body.

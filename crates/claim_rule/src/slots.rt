@@ -5,6 +5,7 @@ ghost use Rattle.atomic_table.specs.Table.{rest};
 ghost use Rattle.claim_core.specs.Cells.{cells};
 ghost use Rattle.claim_core.specs.Turns.{Kept};
 ghost use Rattle.claim_rule.specs.declared.views.Slot.TheVariants as slot;
+ghost use Rattle.claim_rule.specs.Internal.{IsSameSeat};
 
 use crate::field::Field;
 use crate::views::{Slot, View};
@@ -17,7 +18,7 @@ impl<'d, D: Decider> Field<'d, D> {
     pub(crate) fn take_out(&self, seat: &mut Seat<Slot, View<D>>, cell: usize) -> Cell
         requires table { seat.old.table_id ≡ self.now.table }
         requires won { (x : Cell) × (seat.old.me.1 ≡ (cell, slot.Cell x) ∷ rest seat.old.me.1) }
-        ensures same { (seat.new.table_id ≡ seat.old.table_id) × (seat.new.id ≡ seat.old.id) }
+        ensures same { IsSameSeat seat.old seat.new }
         ensures value { seat.old.me.1 ≡ (cell, slot.Cell result) ∷ rest seat.old.me.1 }
         ensures emptied { seat.new.me ≡ (seat.old.me.0, (cell, slot.Empty) ∷ rest seat.old.me.1) }
     {
@@ -31,7 +32,7 @@ impl<'d, D: Decider> Field<'d, D> {
     pub(crate) fn put_home(&self, seat: &mut Seat<Slot, View<D>>, cell: usize, value: Cell)
         requires table { seat.old.table_id ≡ self.now.table }
         requires empty { seat.old.me.1 ≡ (cell, slot.Empty) ∷ rest seat.old.me.1 }
-        ensures same { (seat.new.table_id ≡ seat.old.table_id) × (seat.new.id ≡ seat.old.id) }
+        ensures same { IsSameSeat seat.old seat.new }
         ensures filled { seat.new.me ≡ (seat.old.me.0, (cell, slot.Cell value) ∷ rest seat.old.me.1) }
     {
         match self.table.shared.exchange(seat, cell, Slot::Cell(value)) {
@@ -44,7 +45,7 @@ impl<'d, D: Decider> Field<'d, D> {
     pub(crate) fn take_journal_out(&self, seat: &mut Seat<Slot, View<D>>) -> Journal
         requires table { seat.old.table_id ≡ self.now.table }
         requires got { (j : Kept) × (seat.old.me.1 ≡ (cells self.now.terms.world, slot.Journal j) ∷ rest seat.old.me.1) }
-        ensures same { (seat.new.table_id ≡ seat.old.table_id) × (seat.new.id ≡ seat.old.id) }
+        ensures same { IsSameSeat seat.old seat.new }
         ensures value { seat.old.me.1 ≡ (cells self.now.terms.world, slot.Journal result) ∷ rest seat.old.me.1 }
         ensures emptied { seat.new.me ≡ (seat.old.me.0, (cells self.now.terms.world, slot.Empty) ∷ rest seat.old.me.1) }
     {
@@ -59,7 +60,7 @@ impl<'d, D: Decider> Field<'d, D> {
     pub(crate) fn put_journal_home(&self, seat: &mut Seat<Slot, View<D>>, journal: Journal)
         requires table { seat.old.table_id ≡ self.now.table }
         requires empty { seat.old.me.1 ≡ (cells self.now.terms.world, slot.Empty) ∷ rest seat.old.me.1 }
-        ensures same { (seat.new.table_id ≡ seat.old.table_id) × (seat.new.id ≡ seat.old.id) }
+        ensures same { IsSameSeat seat.old seat.new }
         ensures filled { seat.new.me ≡ (seat.old.me.0, (cells self.now.terms.world, slot.Journal journal) ∷ rest seat.old.me.1) }
     {
         let number = self.journal_number();

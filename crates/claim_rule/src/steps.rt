@@ -1,12 +1,13 @@
 //! The steps on words that callers make.
-ghost use Rattle.std.specs.Prelude.{◌≡◌, ◌<◌, ◌≤◌, ◌*◌, ◌∷◌, []};
+ghost use Rattle.std.specs.Prelude.{◌≡◌, ◌<◌, ◌≤◌, ◌*◌};
 ghost use mathlib.Core.Option.{none};
 ghost use Rattle.atomic_table.specs.Table.{step};
 ghost use Rattle.claim_core.specs.Cells.{cells};
 ghost use Rattle.claim_core.specs.Limits.{most_turns};
-ghost use Rattle.claim_rule.specs.Views.{own, view_of, goes_on};
-ghost use Rattle.claim_rule.specs.Plays.{IsToTry, IsToFree, Reads, about, marked_at, claimed, freed, read};
+ghost use Rattle.claim_rule.specs.Views.{own, goes_on};
+ghost use Rattle.claim_rule.specs.Plays.{IsToTry, IsToFree, IsToRead, about, marked_at, Claims, Releases, ReadsLength};
 ghost use Rattle.claim_rule.specs.Commits.{Takes, IsToCommit, took, stored};
+ghost use Rattle.claim_rule.specs.Internal.{MayStep, IsSameSeat};
 
 use crate::field::Field;
 use crate::rule::{Claim, Commit, Free, Read, Take};
@@ -18,11 +19,10 @@ use claim_core::cells_of;
 impl<'d, D: Decider> Field<'d, D> {
     /// One try to claim the cell with this number. It returns the tag that was found, 0 where the cell is won.
     pub(crate) fn claim(&self, seat: &mut Seat<Slot, View<D>>, cell: usize, tag: u64) -> u64
-        requires table { seat.old.table_id ≡ self.now.table }
-        requires alone { seat.old.me.0 ≡ view_of self.now.terms (own seat.old.me.0 ∷ []) }
+        requires may { MayStep self.now seat.old }
         requires next { IsToTry D.verdict cell tag seat.old.me.0 }
-        ensures same { (seat.new.table_id ≡ seat.old.table_id) × (seat.new.id ≡ seat.old.id) }
-        ensures told { claimed D.verdict (step self.now.table.slots cell 0 tag none) seat.old.me result seat.new.me }
+        ensures same { IsSameSeat seat.old seat.new }
+        ensures told { Claims D.verdict (step self.now.table.slots cell 0 tag none) seat.old.me result seat.new.me }
     {
         self.table
             .shared
@@ -31,22 +31,21 @@ impl<'d, D: Decider> Field<'d, D> {
 
     /// One release, of the cell with this number, which was won last.
     pub(crate) fn free(&self, seat: &mut Seat<Slot, View<D>>, cell: usize)
-        requires table { seat.old.table_id ≡ self.now.table }
-        requires alone { seat.old.me.0 ≡ view_of self.now.terms (own seat.old.me.0 ∷ []) }
+        requires may { MayStep self.now seat.old }
         requires last { IsToFree D.verdict cell seat.old.me }
-        ensures same { (seat.new.table_id ≡ seat.old.table_id) × (seat.new.id ≡ seat.old.id) }
-        ensures told { freed D.verdict (step self.now.table.slots cell 0 0 none) seat.old.me 0 seat.new.me }
+        ensures same { IsSameSeat seat.old seat.new }
+        ensures told { Releases D.verdict (step self.now.table.slots cell 0 0 none) seat.old.me 0 seat.new.me }
     {
         self.table.shared.store::<Free>(seat, cell, 0)
     }
 
     /// One look at the journal's word.
     pub(crate) fn read(&self, seat: &mut Seat<Slot, View<D>>) -> u64
-        requires table { seat.old.table_id ≡ self.now.table }
-        requires alone { seat.old.me.0 ≡ view_of self.now.terms (own seat.old.me.0 ∷ []) }
-        requires reads { Reads (own seat.old.me.0).caller.phase }
-        ensures same { (seat.new.table_id ≡ seat.old.table_id) × (seat.new.id ≡ seat.old.id) }
-        ensures told { read D.verdict (step self.now.table.slots (cells self.now.terms.world) 0 0 none) seat.old.me result seat.new.me }
+        requires may { MayStep self.now seat.old }
+        requires reads { IsToRead (own seat.old.me.0).caller.phase }
+        ensures same { IsSameSeat seat.old seat.new }
+        ensures told { ReadsLength D.verdict (step self.now.table.slots (cells self.now.terms.world) 0 0 none)
+            seat.old.me result seat.new.me }
     {
         let journal = self.journal_number();
         self.table.shared.load::<Read>(seat, journal)
@@ -54,11 +53,11 @@ impl<'d, D: Decider> Field<'d, D> {
 
     /// The journal's length, for the mark of the turn.
     pub(crate) fn place(&self, seat: &mut Seat<Slot, View<D>>) -> u32
-        requires table { seat.old.table_id ≡ self.now.table }
-        requires alone { seat.old.me.0 ≡ view_of self.now.terms (own seat.old.me.0 ∷ []) }
-        requires reads { Reads (own seat.old.me.0).caller.phase }
-        ensures same { (seat.new.table_id ≡ seat.old.table_id) × (seat.new.id ≡ seat.old.id) }
-        ensures marked { seat.new.me.0 ≡ goes_on seat.old.me.0 (marked_at (about D.verdict seat.old.me.0) (own seat.old.me.0).caller result) }
+        requires may { MayStep self.now seat.old }
+        requires reads { IsToRead (own seat.old.me.0).caller.phase }
+        ensures same { IsSameSeat seat.old seat.new }
+        ensures marked { seat.new.me.0 ≡ goes_on seat.old.me.0
+            (marked_at (about D.verdict seat.old.me.0) (own seat.old.me.0).caller result) }
         ensures out { seat.new.me.1 ≡ seat.old.me.1 }
         ensures few { result ≤ most_turns }
     {
@@ -67,10 +66,9 @@ impl<'d, D: Decider> Field<'d, D> {
 
     /// One try to take the journal. It returns the journal's word as it was found, which is odd where another caller has it.
     pub(crate) fn take_journal(&self, seat: &mut Seat<Slot, View<D>>) -> u64
-        requires table { seat.old.table_id ≡ self.now.table }
-        requires alone { seat.old.me.0 ≡ view_of self.now.terms (own seat.old.me.0 ∷ []) }
+        requires may { MayStep self.now seat.old }
         requires takes { Takes (own seat.old.me.0).caller.phase }
-        ensures same { (seat.new.table_id ≡ seat.old.table_id) × (seat.new.id ≡ seat.old.id) }
+        ensures same { IsSameSeat seat.old seat.new }
         ensures told { took (step self.now.table.slots (cells self.now.terms.world) 1 0 none) seat.old.me result seat.new.me }
     {
         let journal = self.journal_number();
@@ -79,12 +77,12 @@ impl<'d, D: Decider> Field<'d, D> {
 
     /// Frees the journal, which has this length now: the commit.
     pub(crate) fn store_length(&self, seat: &mut Seat<Slot, View<D>>, length: u64)
-        requires table { seat.old.table_id ≡ self.now.table }
-        requires alone { seat.old.me.0 ≡ view_of self.now.terms (own seat.old.me.0 ∷ []) }
+        requires may { MayStep self.now seat.old }
         requires few { length ≤ most_turns }
         requires commits { IsToCommit D.verdict (cells self.now.terms.world) (2 * length) seat.old.me }
-        ensures same { (seat.new.table_id ≡ seat.old.table_id) × (seat.new.id ≡ seat.old.id) }
-        ensures told { stored D.verdict (step self.now.table.slots (cells self.now.terms.world) (2 * length) 0 none) seat.old.me (2 * length) seat.new.me }
+        ensures same { IsSameSeat seat.old seat.new }
+        ensures told { stored D.verdict (step self.now.table.slots (cells self.now.terms.world) (2 * length) 0 none)
+            seat.old.me (2 * length) seat.new.me }
     {
         let journal = self.journal_number();
         self.table.shared.store::<Commit>(seat, journal, 2 * length)

@@ -69,7 +69,15 @@ impl Model for Refused {
 
     ghost Value = { RefusedOf };
 
-    ghost view = { λ r. record { caller = r.caller; turn = r.turn; cell = r.cell; by_caller = r.by_caller; by_turn = r.by_turn; by_bot = r.by_bot; place = r.place } };
+    ghost view = { λ r. record {
+      caller = r.caller;
+      turn = r.turn;
+      cell = r.cell;
+      by_caller = r.by_caller;
+      by_turn = r.by_turn;
+      by_bot = r.by_bot;
+      place = r.place;
+    } };
 }
 
 impl Refused {
@@ -130,14 +138,14 @@ pub struct Stopped<D: Decider> {
 }
 
 impl<D: Decider> Model for Stopped<D> {
-    ghost use Rattle.std.specs.Prelude.{◌≡◌, reverse};
-    ghost use Rattle.claim_rule.specs.Tokens.{Token, IsActivation, IsStopped};
+    ghost use Rattle.claim_rule.specs.Tokens.{Token, IsStopped, KeepsActivation, token_in, cells_in};
 
     ghost Value = { Token D };
 
-    ghost view = { λ s. record { table = s.activation.seat.table_id; view = s.activation.seat.me.0 } };
+    ghost view = { λ s. token_in s.activation };
 
-    ghost invariant = { λ s. IsActivation D.verdict s.activation.seat.me s.activation.caller s.activation.turn s.activation.bot s.activation.area s.activation.maxes (reverse s.activation.cells.items) × IsStopped D.verdict s.activation.seat.me s.activation.caller s.activation.turn s.activation.bot (reverse s.activation.cells.items) };
+    ghost invariant = { λ s. KeepsActivation D.verdict s.activation
+        × IsStopped D.verdict s.activation.seat.me s.activation.caller s.activation.turn s.activation.bot (cells_in s.activation) };
 }
 
 /// The turn of a refused claim gets its mark: it reads the journal's length.

@@ -22,15 +22,15 @@ pub struct Taken<D: Decider> {
 }
 
 impl<D: Decider> Model for Taken<D> {
-    ghost use Rattle.std.specs.Prelude.{reverse};
-    ghost use Rattle.claim_rule.specs.Tokens.{Token};
+    ghost use Rattle.claim_rule.specs.Tokens.{Token, token_in, cells_in};
     ghost use Rattle.claim_rule.specs.Settling.{IsTaken};
 
     ghost Value = { Token D };
 
-    ghost view = { λ t. record { table = t.activation.seat.table_id; view = t.activation.seat.me.0 } };
+    ghost view = { λ t. token_in t.activation };
 
-    ghost invariant = { λ t. IsTaken D.verdict t.activation.seat.me t.activation.caller t.activation.turn t.activation.bot t.activation.area t.activation.maxes (reverse t.activation.cells.items) t.change t.journal };
+    ghost invariant = { λ t. IsTaken D.verdict t.activation.seat.me t.activation.caller t.activation.turn t.activation.bot
+        t.activation.area t.activation.maxes (cells_in t.activation) t.change t.journal };
 }
 
 /// One try to take the journal, for the change that was decided on what the claim found. The claim and the change come back as they

@@ -2,8 +2,8 @@
 use Rattle.std.proofs.Common.{ℕ, List, refl, subst}
 use Rattle.std.proofs.lemmas.Bool.{false≢true}
 use Rattle.claim_core.specs.declared.report.Report.{Report}
-use Rattle.document_grammar.specs.declared.section.Form.TheVariants as form
-use Rattle.document_grammar.specs.Documents.{Contents, HasContents, DocumentsAreDecided}
+use Rattle.shape_files.specs.declared.section_kind.Form.TheVariants as form
+use Rattle.shape_files.specs.Documents.{Contents, HasContents, DocumentsAreDecided}
 use Rattle.run_sample.specs.Laws.{SampleIsFit}
 use Rattle.command_runs.specs.Laws.{GoodStaysConnected}
 use Rattle.action_meaning.specs.Verdicts.{verdict_shown}
@@ -16,8 +16,8 @@ use Rattle.command_answers.specs.Owed.{IsTextOf, of_run, of_interleave, of_repla
 use Rattle.command_answers.specs.Outcomes.{is_done, is_differing}
 use Rattle.command_answers.specs.Headline.{IsRunOfDocument}
 use Rattle.command_answers.specs.Laws.{DocumentsHaveOutcomes, ReportsAreOfTurns, ReportsAreOfDocuments, ReportsAreOfSamples}
-use Rattle.command_answers.proofs.Sampled.{told_by_sample}
-use Rattle.command_answers.proofs.Owing.{same_contents, not_both}
+use Rattle.command_answers.proofs.SampleLemmas.{told_by_sample}
+use Rattle.command_answers.proofs.OwedLemmas.{same_contents, not_both}
 
 pub documents_have_outcomes : DocumentsAreDecided → DocumentsHaveOutcomes
 documents_have_outcomes documents c bytes a s report text h (refused d same r x) = absurd (not_both documents (form_of c) bytes a r h x)

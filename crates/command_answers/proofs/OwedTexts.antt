@@ -12,8 +12,8 @@ use Rattle.claim_core.specs.Reached.{Reached}
 use Rattle.claim_core.specs.Laws.{OneListIsSerial}
 use Rattle.action_tree.specs.Trees.{Program}
 use Rattle.action_meaning.specs.Verdicts.{verdict_shown}
-use Rattle.document_grammar.specs.Documents.{Contents, HasContents, IsRefused, bots_of}
-use Rattle.document_grammar.specs.Fitting.{FitTogether}
+use Rattle.shape_files.specs.Documents.{Contents, HasContents, IsDocumentFault, bots_of}
+use Rattle.shape_files.specs.Fitting.{FitTogether}
 use Rattle.shipped_programs.specs.declared.shipped.Shipped.{Shipped}
 use Rattle.shipped_programs.specs.Shipped.{tree_of}
 use Rattle.claim_core.specs.Machine.{setup}
@@ -37,10 +37,10 @@ use Rattle.command_answers.specs.Owed.{IsOwed, of_run, of_interleave, of_replay,
 use Rattle.command_answers.specs.Answers.{IsAnswerTo, IsPrepared, IsPreparedSample, IsTaskOf, done_with, refused_with}
 
 -- an answer that is another one
-same_answer : (c : DocumentCommand) (a : Contents) (one two : Answer) → one ≡ two → IsAnswerTo c a two → IsAnswerTo c a one
+pub same_answer : (c : DocumentCommand) (a : Contents) (one two : Answer) → one ≡ two → IsAnswerTo c a two → IsAnswerTo c a one
 same_answer c a one two same is bytes h = subst (λ (x : Answer). IsOwed (Some (Document c)) (whole bytes) x.status x.report x.text) (sym same) (is bytes h)
 
-pub refuses : (c : DocumentCommand) (bytes : List ℕ) (r : Refusal) (answer : Answer) → IsRefused (form_of c) bytes r → answer ≡ refused_with r → IsTaskOf c bytes (task.Answered answer)
+pub refuses : (c : DocumentCommand) (bytes : List ℕ) (r : Refusal) (answer : Answer) → IsDocumentFault (form_of c) bytes r → answer ≡ refused_with r → IsTaskOf c bytes (task.Answered answer)
 refuses c bytes r answer fault is = subst (λ (x : Answer). IsTaskOf c bytes (task.Answered x)) (sym is) (refused c bytes r fault, λ run done. cc)
 
 -- the amoebots of a document's lists are there
@@ -51,8 +51,10 @@ are_there a start lists fit its_shape its_lists no_gaps =
     λ i d inside j e within. no_gaps _ (bots i d inside j e within)
 
 -- a shipped program is shown
-pub shows : (p : Shipped) (text : List ℕ) → text ≡ check_text (tree_of p) → IsOwed (Some (Show p)) nothing status.Done None text
-shows p text is = subst (λ (t : List ℕ). IsOwed (Some (Show p)) nothing status.Done None t) (sym is) (shown p)
+pub shows : (p : Shipped) (text : List ℕ) (answer : Answer) → answer ≡ record { status = status.Done; report = None; text = text } → text ≡ check_text (tree_of p)
+    → IsOwed (Some (Show p)) nothing answer.status answer.report answer.text
+shows p text answer same is = subst (λ (x : Answer). IsOwed (Some (Show p)) nothing x.status x.report x.text) (sym same)
+    (subst (λ (t : List ℕ). IsOwed (Some (Show p)) nothing status.Done None t) (sym is) (shown p))
 
 -- the report of a run that was prepared
 pub prepares : OneListIsSerial → (a : Contents) (bytes : List ℕ) (p : Program) (start : Config) (lists : CallerLists) → HasContents (form_of Run) bytes a → a.checked ≡ Some p → a.world ≡ Some start → a.lists ≡ Some lists

@@ -2,7 +2,7 @@
 use Rattle.std.proofs.Common.{◌≡◌, ◌≢◌, ℕ, List, [], Option, Some, None, ap, sym, subst, refl, ◌∙◌}
 use Rattle.claim_core.specs.declared.report.Report.{Report}
 use Rattle.claim_core.proofs.Places.{one_at}
-use Rattle.document_grammar.specs.Documents.{Contents, DocumentsAreDecided}
+use Rattle.shape_files.specs.Documents.{Contents, DocumentsAreDecided}
 use Rattle.command_runs.specs.Replay.{differs_line}
 use Rattle.command_words.specs.declared.command.Command.{Command}
 use Rattle.command_words.specs.declared.command.Command.TheVariants.{Document}
@@ -21,7 +21,7 @@ use Rattle.command_answers.specs.Outcomes.{IsOutcome, is_done, is_differing}
 use Rattle.command_answers.specs.Answers.{IsPrepared, IsTaskOf}
 use Rattle.command_answers.specs.Laws.{SameIfAny, SameTask, OwedIsOne, TaskIsOne}
 use Rattle.command_answers.proofs.Outcomes.{documents_have_outcomes}
-use Rattle.command_answers.proofs.Owing.{same_contents}
+use Rattle.command_answers.proofs.OwedLemmas.{same_contents}
 
 -- the line that comes with a status other than Done
 abbrev line_of : Status → List ℕ

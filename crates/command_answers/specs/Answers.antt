@@ -12,7 +12,7 @@ use Rattle.claim_core.specs.Good.{Good}
 use Rattle.claim_core.specs.Reached.{Reached}
 use Rattle.action_tree.specs.Trees.{Program}
 use Rattle.action_meaning.specs.Verdicts.{verdict_shown}
-use Rattle.document_grammar.specs.Documents.{Contents, HasContents}
+use Rattle.shape_files.specs.Documents.{Contents, HasContents}
 use Rattle.run_sample.specs.Whole.{IsSample}
 use Rattle.claim_core.specs.Machine.{setup}
 use Rattle.command_runs.specs.Reports.{report_text}
@@ -32,7 +32,8 @@ use Rattle.command_answers.specs.Owed.{IsOwed}
 
 -- it is what the command owes for each whole input that is a document with these contents
 abbrev pub IsAnswerTo : DocumentCommand → Contents → Answer → Type 0
-IsAnswerTo c a answer = (bytes : List ℕ) → HasContents (form_of c) bytes a → IsOwed (Some (Document c)) (whole bytes) answer.status answer.report answer.text
+IsAnswerTo c a answer = (bytes : List ℕ) → HasContents (form_of c) bytes a
+    → IsOwed (Some (Document c)) (whole bytes) answer.status answer.report answer.text
 
 -- the line of a refusal
 abbrev pub refused_with : Refusal → Answer
@@ -49,13 +50,17 @@ pub record IsPrepared (a : Contents) (bytes : List ℕ) (program : Program) (sta
   pub its_shape : a.world ≡ Some start
   pub its_lists : a.lists ≡ Some lists
   pub there : All (All (λ (id : ℕ). IsSome (bot_at start id))) lists.ids
-  pub owed : (report : Report) → Good (verdict_shown program) start lists report → Reached (setup (verdict_shown program) start lists) report
+  pub owed : (report : Report) → Good (verdict_shown program) start lists report
+      → Reached (setup (verdict_shown program) start lists) report
       → IsOwed (Some (Document Run)) (whole bytes) status.Done (Some report) (report_text (length program.vars) report)
 
 -- what is to be done for a whole input: it is answered, which is never Done of `run`; or it is a document of `run`, and its run is prepared
 abbrev pub IsTaskOf : DocumentCommand → List ℕ → Task → Type 0
-IsTaskOf c bytes (task.Answered answer) = IsOwed (Some (Document c)) (whole bytes) answer.status answer.report answer.text × (c ≡ Run → answer.status ≢ status.Done)
-IsTaskOf c bytes (task.Run run) = (c ≡ Run) × (a : Contents) × HasContents (form_of c) bytes a × IsPrepared a bytes run.runner run.world run.lists
+IsTaskOf c bytes (task.Answered answer) =
+    IsOwed (Some (Document c)) (whole bytes) answer.status answer.report answer.text
+    × (c ≡ Run → answer.status ≢ status.Done)
+IsTaskOf c bytes (task.Run run) =
+    (c ≡ Run) × (a : Contents) × HasContents (form_of c) bytes a × IsPrepared a bytes run.runner run.world run.lists
 
 -- the same for each whole input that is a document with these contents
 abbrev pub IsTaskTo : DocumentCommand → Contents → Task → Type 0

@@ -1,7 +1,6 @@
 -- What a call tells that has a report: the headline, for the commands that make turns.
-use Rattle.std.specs.Prelude.{◌≡◌, ◌≤◌, ℕ, List, length, ⊤}
-use Rattle.std.specs.declared.option.Option.{Option}
-use Rattle.std.specs.declared.option.Option.TheVariants.{Some, None}
+use Rattle.std.specs.Prelude.{◌≡◌, ◌≤◌, ℕ, List, length}
+use Rattle.std.specs.declared.option.Option.TheVariants.{Some}
 use Rattle.tri_lattice.specs.Sets.{IsConnected}
 use Rattle.amoebot_state.specs.Configs.{Config}
 use Rattle.amoebot_state.specs.Occupied.{occupied}
@@ -14,26 +13,12 @@ use Rattle.action_tree.specs.Trees.{Program}
 use Rattle.action_meaning.specs.Verdicts.{verdict_shown}
 use Rattle.run_sample.specs.declared.whole.Sample.{Sample as SampleValue}
 use Rattle.run_sample.specs.Whole.{IsSample}
-use Rattle.document_grammar.specs.declared.section.Form.{Form}
-use Rattle.document_grammar.specs.Documents.{Contents, HasContents}
+use Rattle.shape_files.specs.declared.section_kind.Form.{Form}
+use Rattle.shape_files.specs.Documents.{Contents, HasContents}
 use Rattle.command_runs.specs.Laws.{StaysConnectedIn}
 use Rattle.claim_core.specs.Machine.{setup}
 use Rattle.command_runs.specs.Reports.{report_text}
 use Rattle.command_answers.specs.OfSample.{six_lines}
-use Rattle.command_words.specs.declared.command.Command.{Command}
-use Rattle.command_words.specs.declared.command.Command.TheVariants.{Document, Show, Sample}
-use Rattle.command_words.specs.declared.command.DocumentCommand.TheVariants.{Run, Interleave, Replay, Check, Measure}
-
--- the command makes the turns of lists: those of a document, or those of a sample
-abbrev pub MakesTurns : Option Command → Type 0
-MakesTurns None = ⊥
-MakesTurns (Some (Document Run)) = ⊤
-MakesTurns (Some (Document Interleave)) = ⊤
-MakesTurns (Some (Document Replay)) = ⊥
-MakesTurns (Some (Document Check)) = ⊥
-MakesTurns (Some (Document Measure)) = ⊥
-MakesTurns (Some (Show program)) = ⊥
-MakesTurns (Some (Sample seed)) = ⊤
 
 -- The bytes are a document of the form, which has a program, a shape and lists. The report is a good one of the lists' turns under the
 -- program, from the shape on, and an interleaving gives it. With at most one list it is what the turns leave, one after another, none of
@@ -60,5 +45,6 @@ pub record IsRunOfSample (seed : ℕ) (report : Report) (text : List ℕ) : Type
   pub its_sample : IsSample seed sample
   pub good : Good (verdict_shown sample.checked) sample.world sample.lists report
   pub reached : Reached (setup (verdict_shown sample.checked) sample.world sample.lists) report
-  pub connected : (place : ℕ) (world : Config) → IsWorldAt (verdict_shown sample.checked) sample.world report.journal.entries place world → IsConnected (occupied world)
+  pub connected : (place : ℕ) (world : Config)
+      → IsWorldAt (verdict_shown sample.checked) sample.world report.journal.entries place world → IsConnected (occupied world)
   pub writes : text ≡ six_lines seed

@@ -3,8 +3,8 @@ use Rattle.std.specs.Prelude.{◌≡◌, ◌≤◌, ◌↔◌, ℕ, List, length
 use Rattle.std.specs.declared.option.Option.{Option}
 use Rattle.std.specs.declared.option.Option.TheVariants.{Some, None}
 use Rattle.claim_core.specs.declared.report.Report.{Report}
-use Rattle.document_grammar.specs.declared.section.Form.TheVariants as form
-use Rattle.document_grammar.specs.Documents.{Contents, HasContents}
+use Rattle.shape_files.specs.declared.section_kind.Form.TheVariants as form
+use Rattle.shape_files.specs.Documents.{Contents, HasContents}
 use Rattle.command_runs.specs.Laws.{SameReport}
 use Rattle.command_words.specs.declared.command.Command.{Command}
 use Rattle.command_words.specs.declared.command.Command.TheVariants.{Document, Sample}
@@ -14,12 +14,12 @@ use Rattle.command_answers.specs.declared.answering.Task.{Task}
 use Rattle.command_answers.specs.declared.answering.Task.TheVariants as task
 use Rattle.command_answers.specs.declared.status.Status.{Status}
 use Rattle.command_answers.specs.declared.status.Status.TheVariants as status
-use Rattle.command_answers.specs.Commands.{form_of}
+use Rattle.command_answers.specs.Commands.{form_of, MakesTurns}
 use Rattle.command_answers.specs.Reads.{Read, nothing, whole}
 use Rattle.command_answers.specs.Owed.{IsOwed}
 use Rattle.command_answers.specs.Answers.{IsTaskOf}
 use Rattle.command_answers.specs.Outcomes.{IsOutcome}
-use Rattle.command_answers.specs.Headline.{MakesTurns, IsRunOfDocument, IsRunOfSample}
+use Rattle.command_answers.specs.Headline.{IsRunOfDocument, IsRunOfSample}
 
 -- reports that are one, or none
 abbrev pub SameIfAny : Option Report → Option Report → Type 0
@@ -28,9 +28,11 @@ SameIfAny None (Some two) = ⊥
 SameIfAny (Some one) None = ⊥
 SameIfAny (Some one) (Some two) = SameReport one two
 
--- at most one report may be told: but for `run` of a document with two lists or more, and for `sample`, where it is that of any interleaving
+-- At most one report may be told, except for `run` of a document with two lists or more, and for `sample`.
+-- There it is that of any interleaving.
 abbrev pub HasOneReport : Option Command → Read → Type 0
-HasOneReport (Some (Document Run)) (whole bytes) = (a : Contents) → HasContents form.Run bytes a → IfSome a.lists (λ lists. length lists.ids ≤ 1)
+HasOneReport (Some (Document Run)) (whole bytes) =
+    (a : Contents) → HasContents form.Run bytes a → IfSome a.lists (λ lists. length lists.ids ≤ 1)
 HasOneReport (Some (Sample seed)) read = ⊥
 HasOneReport c read = ⊤
 
@@ -47,7 +49,8 @@ pub record SameOwed (c : Option Command) (read : Read) (s t : Status) (one two :
   pub text : HasOneText c read → first ≡ second
 
 abbrev pub OwedIsOne : Type 0
-OwedIsOne = (c : Option Command) (read : Read) (s t : Status) (one two : Option Report) (text other : List ℕ) → IsOwed c read s one text → IsOwed c read t two other → SameOwed c read s t one two text other
+OwedIsOne = (c : Option Command) (read : Read) (s t : Status) (one two : Option Report) (text other : List ℕ)
+    → IsOwed c read s one text → IsOwed c read t two other → SameOwed c read s t one two text other
 
 -- tasks that are one, but for the room in a report's journal
 abbrev pub SameTask : Task → Task → Type 0
@@ -62,16 +65,22 @@ TaskIsOne = (c : DocumentCommand) (bytes : List ℕ) (one two : Task) → IsTask
 
 -- what is owed for a document of the command's form is an outcome of it
 abbrev pub DocumentsHaveOutcomes : Type 0
-DocumentsHaveOutcomes = (c : DocumentCommand) (bytes : List ℕ) (a : Contents) (s : Status) (report : Option Report) (text : List ℕ) → HasContents (form_of c) bytes a → IsOwed (Some (Document c)) (whole bytes) s report text → IsOutcome a c s report text
+DocumentsHaveOutcomes = (c : DocumentCommand) (bytes : List ℕ) (a : Contents) (s : Status) (report : Option Report) (text : List ℕ)
+    → HasContents (form_of c) bytes a → IsOwed (Some (Document c)) (whole bytes) s report text
+    → IsOutcome a c s report text
 
 -- a report is owed exactly where a command that makes turns is done
 abbrev pub ReportsAreOfTurns : Type 0
-ReportsAreOfTurns = (c : Option Command) (read : Read) (s : Status) (report : Option Report) (text : List ℕ) → IsOwed c read s report text → IsSome report ↔ ((s ≡ status.Done) × MakesTurns c)
+ReportsAreOfTurns = (c : Option Command) (read : Read) (s : Status) (report : Option Report) (text : List ℕ)
+    → IsOwed c read s report text → IsSome report ↔ ((s ≡ status.Done) × MakesTurns c)
 
 -- and then the input was read whole, it is a document, and the report is one of a run of it
 abbrev pub ReportsAreOfDocuments : Type 0
-ReportsAreOfDocuments = (c : DocumentCommand) (read : Read) (s : Status) (report : Report) (text : List ℕ) → IsOwed (Some (Document c)) read s (Some report) text → (bytes : List ℕ) × (read ≡ whole bytes) × IsRunOfDocument (form_of c) bytes report text
+ReportsAreOfDocuments = (c : DocumentCommand) (read : Read) (s : Status) (report : Report) (text : List ℕ)
+    → IsOwed (Some (Document c)) read s (Some report) text
+    → (bytes : List ℕ) × (read ≡ whole bytes) × IsRunOfDocument (form_of c) bytes report text
 
 -- or the command is `sample`, nothing was read, and the report is one of a run of the number's sample
 abbrev pub ReportsAreOfSamples : Type 0
-ReportsAreOfSamples = (seed : ℕ) (read : Read) (s : Status) (report : Report) (text : List ℕ) → IsOwed (Some (Sample seed)) read s (Some report) text → (read ≡ nothing) × IsRunOfSample seed report text
+ReportsAreOfSamples = (seed : ℕ) (read : Read) (s : Status) (report : Report) (text : List ℕ)
+    → IsOwed (Some (Sample seed)) read s (Some report) text → (read ≡ nothing) × IsRunOfSample seed report text

@@ -12,4 +12,10 @@ pub mod OfSample
 pub mod Outcomes
 pub mod Owed
 pub mod Reads
-pub mod Samples
+pub mod Examples
+pub mod ReplayLaws
+pub use Rattle.action_meaning.specs.Verdicts
+pub use Rattle.amoebot_state.specs.Limits
+pub use Rattle.claim_core.specs.Good
+pub use Rattle.serial_model.specs.Replays
+pub use Rattle.text_tokens.specs.Text

@@ -2,7 +2,7 @@
 use Rattle.std.specs.Prelude.{◌≡◌, ℕ, List}
 use Rattle.std.specs.declared.option.Option.TheVariants.{Some}
 use Rattle.action_tree.specs.Trees.{Program}
-use Rattle.document_grammar.specs.Documents.{Contents}
+use Rattle.shape_files.specs.Documents.{Contents}
 use Rattle.command_runs.specs.Check.{check_text}
 
 -- the document has a program, and this is its text

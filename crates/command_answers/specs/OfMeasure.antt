@@ -4,7 +4,7 @@ use Rattle.std.specs.declared.option.Option.{Option}
 use Rattle.std.specs.declared.option.Option.TheVariants.{Some}
 use Rattle.std.specs.Option.{option_or}
 use Rattle.amoebot_state.specs.Configs.{Config}
-use Rattle.document_grammar.specs.Documents.{Contents}
+use Rattle.shape_files.specs.Documents.{Contents}
 use Rattle.command_runs.specs.Measure.{IsMeasureText}
 
 -- the last shape of a document: the one at the end, if it has that, else the one at the start

@@ -5,7 +5,7 @@ use Rattle.amoebot_state.specs.declared.verdict.Entry.{Entry}
 use Rattle.amoebot_state.specs.Configs.{Config}
 use Rattle.action_tree.specs.Trees.{Program}
 use Rattle.action_meaning.specs.Verdicts.{verdict_shown}
-use Rattle.document_grammar.specs.Documents.{Contents}
+use Rattle.shape_files.specs.Documents.{Contents}
 use Rattle.command_runs.specs.Replay.{IsReplayText, DiffersAt}
 
 -- the document has this program, this shape, this journal and this final shape

@@ -5,7 +5,7 @@ use Rattle.amoebot_state.specs.Configs.{Config}
 use Rattle.claim_core.specs.declared.report.Report.{Report}
 use Rattle.claim_core.specs.Turns.{CallerLists}
 use Rattle.action_tree.specs.Trees.{Program}
-use Rattle.document_grammar.specs.Documents.{Contents}
+use Rattle.shape_files.specs.Documents.{Contents}
 use Rattle.command_runs.specs.Run.{IsRunText}
 
 -- the document has a program, a shape and lists, and the text is that of a report of their run

@@ -4,8 +4,8 @@ use Rattle.std.specs.declared.option.Option.{Option}
 use Rattle.std.specs.declared.option.Option.TheVariants.{Some, None}
 use Rattle.text_tokens.specs.declared.refusal.Refusal.{Refusal}
 use Rattle.claim_core.specs.declared.report.Report.{Report}
-use Rattle.document_grammar.specs.Documents.{Contents, HasContents, IsRefused}
-use Rattle.document_grammar.specs.declared.section.Form.TheVariants as form
+use Rattle.shape_files.specs.Documents.{Contents, HasContents, IsDocumentFault}
+use Rattle.shape_files.specs.declared.section_kind.Form.TheVariants as form
 use Rattle.shipped_programs.specs.declared.shipped.Shipped.{Shipped}
 use Rattle.shipped_programs.specs.Shipped.{tree_of}
 use Rattle.command_runs.specs.Check.{check_text}
@@ -34,22 +34,27 @@ pub data IsTextOf (a : Contents) : DocumentCommand → Option Report → List �
   of_check : (text : List ℕ) → IsTextOfCheck a text → IsTextOf a Check None text
   of_measure : (text : List ℕ) → IsTextOfMeasure a text → IsTextOf a Measure None text
 
--- what a call owes, by its command, if the words are one, and by what the input came to: the status, the report, and the text or line that is to
--- be written
+-- What a call owes, by its command, if the words are one, and by what the input came to.
+-- That is the status, the report, and the text or line that is to be written.
 pub data IsOwed : Option Command → Read → Status → Option Report → List ℕ → Type 0 where
   -- the words are no command
   usage : IsOwed None nothing status.Words None usage_line
   -- a read failed
   read_fault : (c : DocumentCommand) (got : List ℕ) → IsOwed (Some (Document c)) (up_to_fault got) status.ReadFault None read_fault_line
   -- the input is longer than a document of the command may be
-  longer : (c : DocumentCommand) (got : List ℕ) → IsOwed (Some (Document c)) (above got) (status.Refused too_long) None (refusal_line too_long)
+  longer : (c : DocumentCommand) (got : List ℕ)
+      → IsOwed (Some (Document c)) (above got) (status.Refused too_long) None (refusal_line too_long)
   -- the whole input is no document of the command's form, and this is its first fault
-  refused : (c : DocumentCommand) (bytes : List ℕ) (r : Refusal) → IsRefused (form_of c) bytes r → IsOwed (Some (Document c)) (whole bytes) (status.Refused r) None (refusal_line r)
+  refused : (c : DocumentCommand) (bytes : List ℕ) (r : Refusal) → IsDocumentFault (form_of c) bytes r
+      → IsOwed (Some (Document c)) (whole bytes) (status.Refused r) None (refusal_line r)
   -- it is a document of `replay` whose journal differs
-  differs : (bytes : List ℕ) (a : Contents) (place : ℕ) → HasContents form.Replay bytes a → IsDiffering a place → IsOwed (Some (Document Replay)) (whole bytes) (status.Differs place) None (differs_line place)
+  differs : (bytes : List ℕ) (a : Contents) (place : ℕ) → HasContents form.Replay bytes a → IsDiffering a place
+      → IsOwed (Some (Document Replay)) (whole bytes) (status.Differs place) None (differs_line place)
   -- it is a document, and the command does what it asks for
-  done : (c : DocumentCommand) (bytes : List ℕ) (a : Contents) (report : Option Report) (text : List ℕ) → HasContents (form_of c) bytes a → IsTextOf a c report text → IsOwed (Some (Document c)) (whole bytes) status.Done report text
+  done : (c : DocumentCommand) (bytes : List ℕ) (a : Contents) (report : Option Report) (text : List ℕ)
+      → HasContents (form_of c) bytes a → IsTextOf a c report text → IsOwed (Some (Document c)) (whole bytes) status.Done report text
   -- a shipped program is shown as `check` writes one; nothing is read
   shown : (program : Shipped) → IsOwed (Some (Show program)) nothing status.Done None (check_text (tree_of program))
   -- the sample of a number is run; nothing is read
-  sampled : (seed : ℕ) (report : Report) (text : List ℕ) → IsTextOfSample seed report text → IsOwed (Some (Sample seed)) nothing status.Done (Some report) text
+  sampled : (seed : ℕ) (report : Report) (text : List ℕ) → IsTextOfSample seed report text
+      → IsOwed (Some (Sample seed)) nothing status.Done (Some report) text

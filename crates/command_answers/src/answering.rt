@@ -1,13 +1,13 @@
 //! What a command answers to a whole input, and what is prepared for a run.
 
-ghost use Rattle.std.specs.Prelude.{◌≡◌, ◌<◌, ◌≤◌, IfOk, IsSome, Some};
+ghost use Rattle.std.specs.Prelude.{◌≡◌, ◌<◌, ◌≤◌, IfOk, IsSome, None, Some};
 ghost use Rattle.std.specs.Option.{option_or};
 ghost use Rattle.text_tokens.specs.Text.{IsCountable};
 ghost use Rattle.amoebot_state.specs.Limits.{most_vars};
 ghost use Rattle.serial_model.specs.Replays.{AreCountable};
 ghost use Rattle.claim_core.specs.Good.{Good};
 ghost use Rattle.action_meaning.specs.Verdicts.{verdict_shown};
-ghost use Rattle.document_grammar.specs.Fitting.{Fits};
+ghost use Rattle.shape_files.specs.Fitting.{Fits};
 ghost use Rattle.shape_files.specs.Views.{contents};
 ghost use Rattle.command_answers.specs.Answers.{IsAnswerTo, IsPreparedSample, IsTaskOf, IsTaskTo, TellsSample, done_with, refused_with};
 ghost use Rattle.command_words.specs.declared.command.Command.TheVariants.{Show};
@@ -25,9 +25,8 @@ use command_runs::{
     print_sample, run_interleaved,
 };
 use command_words::DocumentCommand;
-use document_grammar::documents_fit;
 use run_sample::{Sample, make_sample};
-use shape_files::{Parts, read_sections};
+use shape_files::{Parts, documents_fit, read_sections};
 use shipped_programs::Shipped;
 use std::alloc::Global;
 use text_tokens::{Lines, ReadRefusal, Refusal, Text};
@@ -93,11 +92,18 @@ pub fn answer_show(alloc: Global, program: Shipped) -> Result<Answer, NoMemory>
 {
     let shipped = program.program(alloc)?;
     let text = print_check(alloc, shipped.program())?;
-    Ok(Answer {
+    Ok(done(text))
+}
+
+/// The answer that is done with a text, and tells no report.
+fn done(text: Text) -> Answer
+    ensures { result ≡ record { status = Status.Done; report = None; text = text } }
+{
+    Answer {
         status: Status::Done,
         report: None,
         text,
-    })
+    }
 }
 
 /// The answer that is the line of a refusal.
@@ -180,11 +186,7 @@ fn answer_replay(alloc: Global, parts: Parts) -> Result<Answer, NoMemory>
     match compare(&runner, world.unwrap(), entries, &last) {
         Ok(()) => {
             let text = print_agrees(alloc, entries.len())?;
-            Ok(Answer {
-                status: Status::Done,
-                report: None,
-                text,
-            })
+            Ok(done(text))
         }
         Err(differs) => {
             let text = print_differs(alloc, differs.place)?;
@@ -204,11 +206,7 @@ fn answer_check(alloc: Global, parts: Parts) -> Result<Answer, NoMemory>
 {
     let Parts { checked, .. } = parts;
     let text = print_check(alloc, checked.unwrap().program())?;
-    Ok(Answer {
-        status: Status::Done,
-        report: None,
-        text,
-    })
+    Ok(done(text))
 }
 
 /// Its last shape is measured.
@@ -223,11 +221,7 @@ fn answer_measure(alloc: Global, parts: Parts) -> Result<Answer, NoMemory>
     } = parts;
     let last = last_shape(world, final_world);
     let text = print_measures(alloc, &last)?;
-    Ok(Answer {
-        status: Status::Done,
-        report: None,
-        text,
-    })
+    Ok(done(text))
 }
 
 /// The shape at the end, if there is one, and else the one at the start.

@@ -1,8 +1,9 @@
-ghost use Rattle.std.specs.Prelude.{◌≡◌};
-ghost use Rattle.command_answers.specs.Commands.{form_of, limit_of};
+ghost use Rattle.std.specs.Prelude.{◌≡◌, Some};
+ghost use Rattle.command_words.specs.declared.command.Command.TheVariants.{Document};
+ghost use Rattle.command_answers.specs.Commands.{form_of, limit_for};
 
 use command_words::DocumentCommand;
-use document_grammar::Form;
+use shape_files::Form;
 
 /// The form of a command's document.
 pub fn form_of(command: DocumentCommand) -> Form
@@ -19,7 +20,7 @@ pub fn form_of(command: DocumentCommand) -> Form
 
 /// The most bytes that a command's document may have.
 pub fn limit_of(command: DocumentCommand) -> u32
-    ensures { result ≡ limit_of (form_of command) }
+    ensures { result ≡ limit_for (Some (Document command)) }
 {
     match command {
         DocumentCommand::Run | DocumentCommand::Interleave | DocumentCommand::Check => 1_048_576,

@@ -1,15 +1,16 @@
 //! What holds of the answers. The functions do nothing: their clauses are the laws.
 
-ghost use Rattle.command_answers.specs.Laws.{DocumentsHaveOutcomes, OwedIsOne, ReportsAreOfDocuments, ReportsAreOfSamples, ReportsAreOfTurns, TaskIsOne};
-ghost use Rattle.command_answers.specs.Samples.{SmallAnswers};
+ghost use Rattle.command_answers.specs.Laws.{DocumentsHaveOutcomes, OwedIsOne, TaskIsOne};
+ghost use Rattle.command_answers.specs.Laws.{ReportsAreOfDocuments, ReportsAreOfSamples, ReportsAreOfTurns};
+ghost use Rattle.command_answers.specs.Examples.{SmallAnswers};
 
 use claim_core::{one_list_is_serial, reached_is_good};
 use command_runs::{
     good_stays_connected, interleave_text_is_one, measure_text_is_one, replay_is_decided,
     run_text_is_one,
 };
-use document_grammar::documents_are_decided;
 use run_sample::sample_is_fit;
+use shape_files::documents_are_decided;
 
 /// For a command and what the input came to, at most one status is owed. At most one report is owed, but for `run` of two lists or more
 /// and for `sample`; and at most one text, but for `run` of two lists or more.

@@ -4,6 +4,7 @@
 mod answering;
 mod documents;
 mod laws;
+mod replay_laws;
 mod status;
 
 pub use answering::{
@@ -13,4 +14,5 @@ pub use documents::{form_of, limit_of};
 pub use laws::{
     documents_have_outcomes, owed_is_one, reports_are_of_runs, small_answers, task_is_one,
 };
+pub use replay_laws::run_texts_are_replayed;
 pub use status::Status;

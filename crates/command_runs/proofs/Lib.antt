@@ -3,6 +3,6 @@ pub mod Interleavings
 pub mod Replays
 pub mod Reported
 pub mod SampleTexts
-pub mod Samples
+pub mod ExampleLemmas
 pub mod Scheduled
 pub mod Measures

@@ -11,16 +11,16 @@ use Rattle.tri_lattice.proofs.Nodes.{node_eq-true, each_direction}
 use Rattle.tri_lattice.proofs.Paths.{Joined-first, Joined-trans, Joined-sym}
 use Rattle.amoebot_state.specs.Configs.{IsValid}
 use Rattle.amoebot_state.specs.Occupied.{occupied}
-use Rattle.amoebot_state.specs.Samples.{zeros}
+use Rattle.amoebot_state.specs.Examples.{zeros}
 use Rattle.amoebot_state.proofs.Faults.{valid_one}
 use Rattle.amoebot_state.proofs.Occupants.{plain_in}
 use Rattle.shape_checks.specs.Hexagons.{IsHexagon}
 use Rattle.shape_checks.specs.Laws.{HexagonsAreConnected, OneAloneIsHexagon}
-use Rattle.small_worlds.specs.Rows.{row, node, bot_on}
+use Rattle.small_worlds.specs.Rows.{row_area, node, bot_in_row}
 use Rattle.small_worlds.proofs.Rows.{is_area}
 use Rattle.command_runs.specs.Measure.{IsMeasureText, measure_text}
 use Rattle.command_runs.specs.Laws.{MeasureTextIsOne}
-use Rattle.command_runs.specs.Samples.{spread, nobody, one_alone, two_apart}
+use Rattle.command_runs.specs.Examples.{second_spread, nobody, one_alone, two_apart}
 
 pub measure_text_is_one : MeasureTextIsOne
 measure_text_is_one c text other x y =
@@ -41,12 +41,12 @@ nobody_is_measured = record {
 -- ---- one amoebot alone
 
 one_valid : IsValid one_alone
-one_valid = valid_one row zeros is_area refl (bot_on 1 1) (plain_in row is_area (bot_on 1 1) refl refl (omega arith) refl) refl
+one_valid = valid_one row_area zeros is_area refl (bot_in_row 1 1) (plain_in row_area is_area (bot_in_row 1 1) refl refl (omega arith) refl) refl
 
 pub one_is_measured : HexagonsAreConnected → OneAloneIsHexagon → IsMeasureText one_alone (codes "bots 1\nconnected yes\nhexagon yes\n")
 unfolding digits
 one_is_measured connected one =
-    let h : IsHexagon one_alone = one one_alone (bot_on 1 1) one_valid refl refl in
+    let h : IsHexagon one_alone = one one_alone (bot_in_row 1 1) one_valid refl refl in
     record {
       connected = true;
       hexagon = true;
@@ -80,19 +80,19 @@ two_are_measured connected = record {
 
 -- ---- two that fill the row
 
-to_first : (v : Node) → IsTrue (occupied spread v) → Joined (occupied spread) v (node 0)
+to_first : (v : Node) → IsTrue (occupied second_spread v) → Joined (occupied second_spread) v (node 0)
 to_first v t = elim (cases_Bool (node_eq (node 0) v)) [
-  | inl e ↦ subst (λ (x : Node). Joined (occupied spread) x (node 0)) (node_eq-true (node 0) v e) (here refl)
+  | inl e ↦ subst (λ (x : Node). Joined (occupied second_spread) x (node 0)) (node_eq-true (node 0) v e) (here refl)
   | inr f ↦ elim (cases_Bool (node_eq (node 1) v)) [
-    | inl e ↦ subst (λ (x : Node). Joined (occupied spread) x (node 0)) (node_eq-true (node 1) v e) (along refl (3, omega arith, refl) (here refl))
+    | inl e ↦ subst (λ (x : Node). Joined (occupied second_spread) x (node 0)) (node_eq-true (node 1) v e) (along refl (3, omega arith, refl) (here refl))
     | inr g ↦ elim (cases_Bool (node_eq (node 2) v)) [
-      | inl e ↦ subst (λ (x : Node). Joined (occupied spread) x (node 0)) (node_eq-true (node 2) v e) (along refl (3, omega arith, refl) (along refl (3, omega arith, refl) (here refl)))
+      | inl e ↦ subst (λ (x : Node). Joined (occupied second_spread) x (node 0)) (node_eq-true (node 2) v e) (along refl (3, omega arith, refl) (along refl (3, omega arith, refl) (here refl)))
       | inr h ↦
-          (let none : occupied spread v ≡ false = rw f (rw g (rw h refl)) in
+          (let none : occupied second_spread v ≡ false = rw f (rw g (rw h refl)) in
           absurd (both_ways _ none t))
     ]
   ]
 ]
 
-pub spread_is_connected : IsConnected (occupied spread)
-spread_is_connected a b s t = Joined-trans (occupied spread) (to_first a s) (Joined-sym (occupied spread) (to_first b t))
+pub spread_is_connected : IsConnected (occupied second_spread)
+spread_is_connected a b s t = Joined-trans (occupied second_spread) (to_first a s) (Joined-sym (occupied second_spread) (to_first b t))

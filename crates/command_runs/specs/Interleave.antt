@@ -9,14 +9,14 @@ use Rattle.claim_core.specs.Turns.{CallerLists}
 use Rattle.claim_core.specs.Good.{Good}
 use Rattle.claim_core.specs.Machine.{Setup, State, after, setup}
 use Rattle.claim_core.specs.Reached.{HaveEnded, IsReportOf, Reached}
-use Rattle.claim_core.specs.Rounds.{rounds}
+use Rattle.claim_core.specs.StepRounds.{step_rounds}
 use Rattle.action_tree.specs.Trees.{Program}
 use Rattle.action_meaning.specs.Verdicts.{verdict_shown}
 use Rattle.command_runs.specs.Reports.{report_text}
 
 -- the state after the steps of the schedule and so many rounds
 abbrev pub at_round : Setup → List ℕ → ℕ → State
-at_round g schedule count = rounds g count (after g (reverse schedule))
+at_round g schedule count = step_rounds g count (after g (reverse schedule))
 
 -- the report is that of the state after the schedule and the rounds, of which the last is the first by which all callers have ended
 pub record IsScheduled (g : Setup) (schedule : List ℕ) (report : Report) : Type 0 where
@@ -26,12 +26,14 @@ pub record IsScheduled (g : Setup) (schedule : List ℕ) (report : Report) : Typ
   pub left : IsReportOf g (at_round g schedule count) report
 
 -- the report is a good one, which an interleaving gives: the one of the schedule
-pub record IsInterleaveReport (f : Shown → Verdict) (start : Config) (lists : CallerLists) (schedule : List ℕ) (report : Report) : Type 0 where
+pub record IsInterleaveReport (f : Shown → Verdict) (start : Config) (lists : CallerLists)
+    (schedule : List ℕ) (report : Report) : Type 0 where
   pub good : Good f start lists report
   pub reached : Reached (setup f start lists) report
   pub scheduled : IsScheduled (setup f start lists) schedule report
 
 -- what the command writes where a document has this program, this shape, these lists and this schedule: the text of such a report
-pub record IsInterleaveText (p : Program) (start : Config) (lists : CallerLists) (schedule : List ℕ) (report : Report) (text : List ℕ) : Type 0 where
+pub record IsInterleaveText (p : Program) (start : Config) (lists : CallerLists) (schedule : List ℕ)
+    (report : Report) (text : List ℕ) : Type 0 where
   pub run : IsInterleaveReport (verdict_shown p) start lists schedule report
   pub whole : text ≡ report_text (length p.vars) report

@@ -27,28 +27,54 @@ pub record SameReport (one two : Report) : Type 0 where
 
 -- a document of `run` with at most one list has at most one text
 abbrev pub RunTextIsOne : Type 0
-RunTextIsOne = (p : Program) (start : Config) (lists : CallerLists) (one two : Report) (text other : List ℕ) → length lists.ids ≤ 1 → IsRunText p start lists one text → IsRunText p start lists two other → SameReport one two × (text ≡ other)
+RunTextIsOne =
+    (p : Program) (start : Config) (lists : CallerLists) (one two : Report) (text other : List ℕ)
+    → length lists.ids ≤ 1
+    → IsRunText p start lists one text
+    → IsRunText p start lists two other
+    → SameReport one two × (text ≡ other)
 
 -- a schedule gives at most one report
 abbrev pub ScheduleHasOneReport : Type 0
-ScheduleHasOneReport = (g : Setup) (schedule : List ℕ) (one two : Report) → IsScheduled g schedule one → IsScheduled g schedule two → SameReport one two
+ScheduleHasOneReport =
+    (g : Setup) (schedule : List ℕ) (one two : Report)
+    → IsScheduled g schedule one
+    → IsScheduled g schedule two
+    → SameReport one two
 
 -- so a document of `interleave` has at most one text
 abbrev pub InterleaveTextIsOne : Type 0
-InterleaveTextIsOne = (p : Program) (start : Config) (lists : CallerLists) (schedule : List ℕ) (one two : Report) (text other : List ℕ) → IsInterleaveText p start lists schedule one text → IsInterleaveText p start lists schedule two other → SameReport one two × (text ≡ other)
+InterleaveTextIsOne =
+    (p : Program) (start : Config) (lists : CallerLists) (schedule : List ℕ) (one two : Report) (text other : List ℕ)
+    → IsInterleaveText p start lists schedule one text
+    → IsInterleaveText p start lists schedule two other
+    → SameReport one two × (text ≡ other)
 
 -- what agrees differs nowhere, and what differs does so at one place
 pub record ReplayIsDecided : Type 0 where
-  pub exclusive : (f : Shown → Verdict) (start final : Config) (entries : List Entry) (place : ℕ) → Agrees f start entries final → ¬ DiffersAt f start entries final place
-  pub one_place : (f : Shown → Verdict) (start final : Config) (entries : List Entry) (one two : ℕ) → DiffersAt f start entries final one → DiffersAt f start entries final two → one ≡ two
+  pub exclusive : (f : Shown → Verdict) (start final : Config) (entries : List Entry) (place : ℕ)
+      → Agrees f start entries final
+      → ¬ DiffersAt f start entries final place
+  pub one_place : (f : Shown → Verdict) (start final : Config) (entries : List Entry) (one two : ℕ)
+      → DiffersAt f start entries final one
+      → DiffersAt f start entries final two
+      → one ≡ two
 
 -- with the guard on and a connected shape at the start, the shape is connected in each world of the run
 abbrev pub StaysConnectedIn : Program → Config → List Entry → Type 0
-StaysConnectedIn p start entries = p.guard ≡ true → IsConnected (occupied start) → (place : ℕ) (world : Config) → IsWorldAt (verdict_shown p) start entries place world → IsConnected (occupied world)
+StaysConnectedIn p start entries =
+    p.guard ≡ true
+    → IsConnected (occupied start)
+    → (place : ℕ) (world : Config)
+    → IsWorldAt (verdict_shown p) start entries place world
+    → IsConnected (occupied world)
 
 -- so it is in each good report
 abbrev pub GoodStaysConnected : Type 0
-GoodStaysConnected = (p : Program) (start : Config) (lists : CallerLists) (report : Report) → Good (verdict_shown p) start lists report → StaysConnectedIn p start report.journal.entries
+GoodStaysConnected =
+    (p : Program) (start : Config) (lists : CallerLists) (report : Report)
+    → Good (verdict_shown p) start lists report
+    → StaysConnectedIn p start report.journal.entries
 
 -- the entries of a good report are those of amoebots that are there, and there is at most one for each turn
 pub record IsFew (start : Config) (lists : CallerLists) (entries : List Entry) : Type 0 where
@@ -56,7 +82,10 @@ pub record IsFew (start : Config) (lists : CallerLists) (entries : List Entry) :
   pub few : length entries ≤ length lists.ids * lists.turns
 
 abbrev pub GoodIsFew : Type 0
-GoodIsFew = (f : Shown → Verdict) (start : Config) (lists : CallerLists) (report : Report) → Good f start lists report → IsFew start lists report.journal.entries
+GoodIsFew =
+    (f : Shown → Verdict) (start : Config) (lists : CallerLists) (report : Report)
+    → Good f start lists report
+    → IsFew start lists report.journal.entries
 
 -- a shape has one text of its measures
 abbrev pub MeasureTextIsOne : Type 0
@@ -64,4 +93,8 @@ MeasureTextIsOne = (c : Config) (text other : List ℕ) → IsMeasureText c text
 
 -- a report has one text as that of a sample
 abbrev pub SampleTextIsOne : Type 0
-SampleTextIsOne = (f : Shown → Verdict) (start : Config) (lists : CallerLists) (seed : ℕ) (report : Report) (text other : List ℕ) → IsSampleText f start lists seed report text → IsSampleText f start lists seed report other → text ≡ other
+SampleTextIsOne =
+    (f : Shown → Verdict) (start : Config) (lists : CallerLists) (seed : ℕ) (report : Report) (text other : List ℕ)
+    → IsSampleText f start lists seed report text
+    → IsSampleText f start lists seed report other
+    → text ≡ other

@@ -6,4 +6,9 @@ pub mod Replay
 pub mod Reports
 pub mod Run
 pub mod Sample
-pub mod Samples
+pub mod Examples
+pub use Rattle.amoebot_state.specs.Limits
+pub use Rattle.claim_core.specs.Machine
+pub use Rattle.claim_core.specs.Turns
+pub use Rattle.serial_model.specs.Replays
+pub use Rattle.text_tokens.specs.Lines

@@ -11,7 +11,9 @@ yes_or_no true = codes "yes"
 yes_or_no false = codes "no"
 
 abbrev pub measure_text : ℕ → Bool → Bool → List ℕ
-measure_text bots connected hexagon = line_text (codes "bots" ∷ decimal bots ∷ []) ++ line_text (codes "connected" ∷ yes_or_no connected ∷ []) ++ line_text (codes "hexagon" ∷ yes_or_no hexagon ∷ [])
+measure_text bots connected hexagon =
+    line_text (codes "bots" ∷ decimal bots ∷ []) ++ line_text (codes "connected" ∷ yes_or_no connected ∷ [])
+    ++ line_text (codes "hexagon" ∷ yes_or_no hexagon ∷ [])
 
 -- the text of a shape: each answer is yes exactly where it is so
 pub record IsMeasureText (c : Config) (text : List ℕ) : Type 0 where

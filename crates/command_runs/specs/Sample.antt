@@ -21,9 +21,10 @@ sample_text seed bots callers turns connected agrees = lines_text (
     ∷ (codes "replay" ∷ yes_or_no agrees ∷ [])
     ∷ [])
 
--- the text of a report: its number, how many amoebots, callers and turns there are, whether the last world is connected, and whether the journal is a
--- run from the world at the start to the last one
-pub record IsSampleText (f : Shown → Verdict) (start : Config) (lists : CallerLists) (seed : ℕ) (report : Report) (text : List ℕ) : Type 0 where
+-- the text of a report: its number, how many amoebots, callers and turns there are, whether the last world is connected,
+-- and whether the journal is a run from the world at the start to the last one
+pub record IsSampleText (f : Shown → Verdict) (start : Config) (lists : CallerLists) (seed : ℕ)
+    (report : Report) (text : List ℕ) : Type 0 where
   pub connected : Bool
   pub agrees : Bool
   pub is_connected : Decides connected (IsConnected (occupied report.world))

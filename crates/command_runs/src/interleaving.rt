@@ -2,7 +2,7 @@ ghost use Rattle.std.specs.Prelude.{◌≡◌, ◌<◌, length, reverse, IfOk};
 ghost use Rattle.std.specs.List.{All};
 ghost use Rattle.claim_core.specs.Turns.{HaveBots};
 ghost use Rattle.claim_core.specs.Machine.{after};
-ghost use Rattle.claim_core.specs.Cores.{opened, setup_of};
+ghost use Rattle.claim_core.specs.Cores.{opening_core, setup_of};
 ghost use Rattle.command_runs.specs.Interleave.{IsInterleaveReport};
 
 use amoebot_state::{Decider, NoMemory, World};
@@ -35,7 +35,7 @@ pub fn run_interleaved<D: Decider>(
 /// One step of each of the callers, one after another.
 fn step_all<D: Decider>(core: &mut Core<'_, D>, schedule: &Schedule)
     requires callers { All (λ caller. caller < length core.old.state.callers) schedule.now }
-    requires opening { core.old ≡ opened D.verdict core.old.decider core.old.first core.old.lists }
+    requires opening { core.old ≡ opening_core D.verdict core.old.decider core.old.first core.old.lists }
     ensures { core.new ≡ record core.old { state = after (setup_of D.verdict core.old) (reverse schedule.now) } }
 {
     for number in 0..schedule.steps() {

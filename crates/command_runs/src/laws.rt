@@ -1,9 +1,10 @@
 //! What holds of the commands. The functions do nothing: their clauses are the laws.
 
-ghost use Rattle.command_runs.specs.Laws.{GoodIsFew, GoodStaysConnected, InterleaveTextIsOne, MeasureTextIsOne, ReplayIsDecided, RunTextIsOne, SampleTextIsOne, ScheduleHasOneReport};
-ghost use Rattle.command_runs.specs.Samples.{SmallCommands};
+ghost use Rattle.command_runs.specs.Laws.{GoodIsFew, GoodStaysConnected, InterleaveTextIsOne, MeasureTextIsOne};
+ghost use Rattle.command_runs.specs.Laws.{ReplayIsDecided, RunTextIsOne, SampleTextIsOne, ScheduleHasOneReport};
+ghost use Rattle.command_runs.specs.Examples.{SmallCommands};
 
-use action_meaning::guarded_runs_stay_connected;
+use action_meaning::program_runs_stay_connected;
 use amoebot_state::run_has_one_last;
 use claim_core::{
     one_list_is_serial, reached_is_good, serial_run_is_determined, state_has_one_report,
@@ -54,7 +55,7 @@ pub fn sample_text_is_one()
 pub fn good_stays_connected()
     ensures { GoodStaysConnected }
 {
-    guarded_runs_stay_connected();
+    program_runs_stay_connected();
 }
 
 /// Reports of the commands on a small shape, of one list and of two, journals that agree and differ, and texts of measures and of a sample.

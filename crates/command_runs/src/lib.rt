@@ -1,4 +1,5 @@
-//! What the commands do for a document, over what was read of it: they run, compare, measure and print. None of them reads or writes a byte.
+//! What the commands do for a document, over what was read of it: they run, compare, measure and print.
+//! None of them reads or writes a byte.
 #![tactic(auto)]
 
 mod interleaving;

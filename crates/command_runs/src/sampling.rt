@@ -46,7 +46,8 @@ pub fn print_sample<D: Decider>(
 fn agrees<D: Decider>(alloc: Global, decider: &D, report: &Report) -> Result<bool, NoMemory>
     requires there { All (λ e. e.bot < length report.now.journal.first.bots) report.now.journal.entries }
     requires few { AreCountable report.now.journal.entries }
-    ensures { IfOk result (λ agrees. Decides agrees (Agrees (D.verdict decider.now) report.now.journal.first report.now.journal.entries report.now.world)) }
+    ensures { IfOk result (λ agrees. Decides agrees
+        (Agrees (D.verdict decider.now) report.now.journal.first report.now.journal.entries report.now.world)) }
 {
     replay_is_decided();
     let first = report.journal.first().copy(alloc)?;
@@ -69,7 +70,8 @@ struct Told {
 
 /// A line for each.
 fn print_told(alloc: Global, told: &Told) -> Result<Text, NoMemory>
-    ensures { IfOk result (λ text. text ≡ sample_text told.now.seed told.now.bots told.now.callers told.now.turns told.now.connected told.now.agrees) }
+    ensures { IfOk result (λ text. text
+        ≡ sample_text told.now.seed told.now.bots told.now.callers told.now.turns told.now.connected told.now.agrees) }
 {
     let mut lines = Lines::new(alloc);
     put_number(&mut lines, "sample", told.seed)?;

@@ -3,7 +3,7 @@
 ghost use Rattle.std.specs.Prelude.{◌<◌, ◌≤◌, length, IfOk};
 ghost use Rattle.std.specs.List.{All};
 ghost use Rattle.amoebot_state.specs.Limits.{most_bots, most_vars};
-ghost use Rattle.amoebot_state.specs.Refusals.{IsPlain};
+ghost use Rattle.amoebot_state.specs.Refusals.{IsBotInRange};
 
 use crate::{compare, print_agrees, print_differs, print_report, run_interleaved};
 use amoebot_state::{Bot, Decider, End, Entry, Port, World};
@@ -40,7 +40,7 @@ fn interleaved<D: Decider>(
     schedule: &str,
 ) -> Result<Report, Fail>
     requires few { length bots.now ≤ most_bots }
-    requires plain { All IsPlain bots.now }
+    requires plain { All IsBotInRange bots.now }
     requires text { length schedule.now < 1000 }
 {
     let (turns, ids) = lists;
@@ -60,7 +60,7 @@ fn text_of<D: Decider>(
     vars: u8,
 ) -> Result<text_tokens::Text, Fail>
     requires few { length bots.now ≤ most_bots }
-    requires plain { All IsPlain bots.now }
+    requires plain { All IsBotInRange bots.now }
     requires vars { vars ≤ most_vars }
     requires text { length schedule.now < 1000 }
 {

@@ -1,4 +1,4 @@
-pub mod Judging
-pub mod Parsing
+pub mod CommandLemmas
+pub mod SyntaxLemmas
 pub mod Seeds
-pub mod Wording
+pub mod WordsLemmas

@@ -23,8 +23,8 @@ abbrev pub with_argument : Text → Text → Shape
 with_argument name id = (with_rule (new_app name) (needed id)).top
 
 -- a subcommand with none
-abbrev pub alone : DocumentCommand → Shape
-alone c = (new_app (word_of c)).top
+abbrev pub without_argument : DocumentCommand → Shape
+without_argument c = (new_app (word_of c)).top
 
 -- no name of the program, no help, no version; and a subcommand has to be given
 abbrev pub bare : App
@@ -39,7 +39,7 @@ bare = on_top (λ s. record s {
 -- and the subcommands
 abbrev pub words_syntax : App
 words_syntax = fold with_subcommand bare
-    (map alone documents ++ with_argument (codes "show") (codes "NAME") ∷ with_argument (codes "sample") (codes "NUMBER") ∷ [])
+    (map without_argument documents ++ with_argument (codes "show") (codes "NAME") ∷ with_argument (codes "sample") (codes "NUMBER") ∷ [])
 
 -- ---- what was read by it
 

@@ -8,7 +8,7 @@ use Rattle.std.specs.Char.{is_ascii_digit}
 use Rattle.std.specs.Str.Parse.{digits_value}
 use Rattle.shipped_programs.specs.declared.shipped.Shipped.{Shipped}
 use Rattle.shipped_programs.specs.declared.shipped.Shipped.TheVariants.{Hexagon, Erosion, Line}
-use Rattle.shipped_programs.specs.Shipped.{name_of}
+use Rattle.shipped_programs.specs.Shipped.{shipped_name}
 use Rattle.command_words.specs.declared.command.Command.{Command}
 use Rattle.command_words.specs.declared.command.Command.TheVariants.{Document, Show, Sample}
 use Rattle.command_words.specs.declared.command.DocumentCommand.{DocumentCommand}
@@ -35,7 +35,7 @@ pub record IsSeed (digits : List ℕ) (seed : ℕ) : Type 0 where
 -- one word; or `show` and the name of a program; or `sample` and a number
 pub data AreWordsOf : Command → List (List ℕ) → Type 0 where
   document : (c : DocumentCommand) → AreWordsOf (Document c) (word_of c ∷ [])
-  show : (program : Shipped) → AreWordsOf (Show program) (codes "show" ∷ name_of program ∷ [])
+  show : (program : Shipped) → AreWordsOf (Show program) (codes "show" ∷ shipped_name program ∷ [])
   sample : (digits : List ℕ) (seed : ℕ) → IsSeed digits seed → AreWordsOf (Sample seed) (codes "sample" ∷ digits ∷ [])
 
 -- ---- which command words are
@@ -51,7 +51,7 @@ documents = Run ∷ Interleave ∷ Replay ∷ Check ∷ Measure ∷ []
 -- the first of some programs whose name this is
 abbrev pub show_in : List Shipped → List ℕ → Option Command
 show_in [] name = None
-show_in (program ∷ programs) name = if bytes_eq (name_of program) name then Some (Show program) else show_in programs name
+show_in (program ∷ programs) name = if bytes_eq (shipped_name program) name then Some (Show program) else show_in programs name
 
 abbrev pub shipped : List Shipped
 shipped = Hexagon ∷ Erosion ∷ Line ∷ []
@@ -66,7 +66,12 @@ unfoldable pub sample_of : List ℕ → Option Command
 sample_of digits = if is_seed digits then Some (Sample (digits_value 10 digits)) else None
 
 unfoldable pub of_two_words : List ℕ → List ℕ → Option Command
-of_two_words word other = if bytes_eq (codes "show") word then show_in shipped other else if bytes_eq (codes "sample") word then sample_of other else None
+of_two_words word other =
+    if bytes_eq (codes "show") word
+    then show_in shipped other
+    else if bytes_eq (codes "sample") word
+    then sample_of other
+    else None
 
 -- the command that the words are
 abbrev pub command_of : List (List ℕ) → Option Command

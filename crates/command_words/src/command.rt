@@ -73,7 +73,9 @@ fn begins_with_dash(word: &str) -> bool
 
 /// What comes of words that are not read: no command, but for want of memory.
 fn of_fault(error: &Error) -> Result<Option<Command>, NoMemory>
-    ensures { MatchResult result (λ c. (c ≡ None) × (kind_of error.now ≢ ErrorKind.OutOfMemory)) (λ _. kind_of error.now ≡ ErrorKind.OutOfMemory) }
+    ensures { MatchResult result
+        (λ c. (c ≡ None) × (kind_of error.now ≢ ErrorKind.OutOfMemory))
+        (λ _. kind_of error.now ≡ ErrorKind.OutOfMemory) }
 {
     match error.kind() {
         ErrorKind::OutOfMemory => Err(NoMemory),

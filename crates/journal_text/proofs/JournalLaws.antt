@@ -8,12 +8,12 @@ use Rattle.text_tokens.specs.Reading.{Reader, ◌>>=◌, pure, no_limit, less}
 use Rattle.text_tokens.specs.Grammar.{Lang, Then, Made, Judged, Either, Limited, AtMost}
 use Rattle.text_tokens.specs.Lawful.{Exact, IsPart, always, Starts, AreElements}
 use Rattle.text_tokens.proofs.Exactness.{exact}
-use Rattle.text_tokens.proofs.Carrying.{part_made}
+use Rattle.text_tokens.proofs.CarriedTexts.{part_made}
 use Rattle.text_tokens.proofs.Parts.{part_judged}
-use Rattle.text_tokens.proofs.Beginnings.{starts_judged, starts_either}
-use Rattle.text_tokens.proofs.Repeating.{at_most_elements, part_repeated}
-use Rattle.text_tokens.proofs.Distinguishing.{other_text, starts_numeral, not_either}
-use Rattle.text_tokens.proofs.Joining.{one_behind, into, one_of_two, starts_behind, starts_into}
+use Rattle.text_tokens.proofs.StartsLemmas.{starts_judged, starts_either}
+use Rattle.text_tokens.proofs.RepeatedLemmas.{at_most_elements, part_repeated}
+use Rattle.text_tokens.proofs.LexemeLemmas.{other_text, starts_numeral, not_either}
+use Rattle.text_tokens.proofs.JoinedParts.{one_behind, into, one_of_two, starts_behind, starts_into}
 use Rattle.amoebot_state.specs.declared.bot.Port.{Port}
 use Rattle.amoebot_state.specs.declared.cell.CellName.{CellName}
 use Rattle.amoebot_state.specs.declared.cell.CellName.TheVariants as name
@@ -21,10 +21,11 @@ use Rattle.amoebot_state.specs.declared.cell.Cell.{Cell}
 use Rattle.amoebot_state.specs.declared.cell.Cell.TheVariants as cell
 use Rattle.amoebot_state.specs.declared.verdict.Moved.{Moved}
 use Rattle.amoebot_state.specs.declared.verdict.Moved.TheVariants as moved
-use Rattle.journal_text.specs.Parts.{word, is_end, one_more, IsWord, IsNumber, IsNode}
-use Rattle.journal_text.specs.Journals.{IsPortBehind, IsEndBehind, IsMovedBy, IsContracted, IsMoved, is_spot, is_body, is_cell, IsCellText, IsOccupant, IsValueOf, a_pair_of, IsPair, is_entry, numbers_of, AreNumbers, Written, written_of, past_entries, IsEntryWord, IsWritten, wrong, IsEntry, AreEntries, IsJournal}
-use Rattle.journal_text.specs.Readers.{a_word, port_behind, end_behind, moved_by, a_contraction, a_movement, a_cell, an_occupant, a_value, a_pair, pair_in, all_pairs, the_numbers, entry_word, written, an_entry, entries_from, journal}
-use Rattle.journal_text.proofs.PartLaws.{up_to_end, starts_word, part_word, part_word_within, starts_word_within, part_number, starts_means, number_no_word, part_end, part_node, part_port, part_bot}
+use Rattle.node_text.specs.Parts.{word, is_end, one_more, IsWord, IsNumber, IsNode}
+use Rattle.journal_text.specs.Journals.{IsPortBehind, IsEndBehind, IsMovedBy, IsContracted, IsMoved, is_spot_word, is_body_word, is_cell, IsCellText, IsOccupant, IsValueOf, a_pair_of, IsPair, is_entry, numbers_of, AreNumbers, Written, written_entry, past_entries, IsEntryWord, IsWrittenEntry, entry_fault, IsEntry, AreEntries, IsJournal}
+use Rattle.node_text.specs.PartReaders.{a_word}
+use Rattle.journal_text.specs.Readers.{port_behind, end_behind, moved_by, a_contraction, a_movement, a_cell, an_occupant, a_value, a_pair, pair_in, all_pairs, the_numbers, entry_word, a_written_entry, an_entry, entries_from, journal}
+use Rattle.node_text.proofs.PartLaws.{up_to_end, starts_word, part_word, part_word_within, starts_word_within, part_number, starts_means, number_no_word, part_end, part_node, part_port, part_bot}
 
 -- ---- movements
 
@@ -114,10 +115,10 @@ SpotCell = Then (IsWord (codes "spot")) (λ line. Made IsNode (λ v. name.Spot v
 abbrev BodyCell : Lang CellName
 BodyCell = Then (IsWord (codes "body")) (λ line. Made IsNumber (λ id. name.Body id))
 
-starts_spot : Starts SpotCell is_spot no_limit
+starts_spot : Starts SpotCell is_spot_word no_limit
 starts_spot = starts_word (codes "spot") (λ line. into (λ v. name.Spot v) part_node)
 
-starts_body : Starts BodyCell is_body no_limit
+starts_body : Starts BodyCell is_body_word no_limit
 starts_body = starts_word (codes "body") (λ line. into (λ id. name.Body id) part_number)
 
 pub part_cell : IsPart IsCellText a_cell always
@@ -128,7 +129,7 @@ part_cell = one_of_two starts_spot starts_body
     (one_behind (part_word (codes "body") refl) (λ line. into (λ id. name.Body id) part_number))
 
 starts_cell : Starts IsCellText is_cell no_limit
-starts_cell = starts_either SpotCell BodyCell is_spot is_body starts_spot starts_body
+starts_cell = starts_either SpotCell BodyCell is_spot_word is_body_word starts_spot starts_body
 
 part_occupant : IsPart IsOccupant an_occupant always
 unfolding an_occupant
@@ -175,35 +176,35 @@ module _ (vars : ℕ) where
   part_numbers = one_behind part_number (λ place. one_behind part_number (λ caller. one_behind part_number (λ turn. one_behind part_number (λ bot. into (λ action. numbers_of place caller turn bot action) part_number))))
 
   abbrev pub BehindWord : ℕ → Lang Written
-  BehindWord line = Then AreNumbers (λ n. Then IsMoved (λ m. Made (AtMost 10 (IsPair vars)) (λ pairs. written_of line n m pairs)))
+  BehindWord line = Then AreNumbers (λ n. Then IsMoved (λ m. Made (AtMost 10 (IsPair vars)) (λ pairs. written_entry line n m pairs)))
 
   abbrev behind_word : ℕ → Reader Written
-  behind_word line = the_numbers >>= λ n. a_movement >>= λ m. all_pairs vars >>= λ pairs. pure (written_of line n m pairs)
+  behind_word line = the_numbers >>= λ n. a_movement >>= λ m. all_pairs vars >>= λ pairs. pure (written_entry line n m pairs)
 
   part_behind_word : (line : ℕ) → IsPart (BehindWord line) (behind_word line) no_pair
-  part_behind_word line = one_behind part_numbers (λ n. one_behind part_movement (λ m. into (λ pairs. written_of line n m pairs) part_pairs))
+  part_behind_word line = one_behind part_numbers (λ n. one_behind part_movement (λ m. into (λ pairs. written_entry line n m pairs) part_pairs))
 
   part_entry_word : (before : ℕ) → IsPart (IsEntryWord before) (entry_word before) always
   unfolding entry_word
   part_entry_word before = part_word_within (codes "entry") (past_entries before) refl
 
-  part_written : (before : ℕ) → IsPart (IsWritten vars before) (written vars before) no_pair
-  unfolding written
+  part_written : (before : ℕ) → IsPart (IsWrittenEntry vars before) (a_written_entry vars before) no_pair
+  unfolding a_written_entry
   part_written before = one_behind (part_entry_word before) part_behind_word
 
-  starts_written : (before : ℕ) → Starts (IsWritten vars before) is_entry (past_entries before)
+  starts_written : (before : ℕ) → Starts (IsWrittenEntry vars before) is_entry (past_entries before)
   starts_written before = starts_behind (starts_word_within (codes "entry") (past_entries before)) part_behind_word
 
   module _ (bots actions : ℕ) where
     part_entry : (before : ℕ) → IsPart (IsEntry bots actions vars before) (an_entry bots actions vars before) no_pair
     unfolding an_entry
-    part_entry before = part_made (Judged (IsWritten vars before) (wrong bots actions before)) (λ w. w.entry) _ no_pair (part_judged (IsWritten vars before) (written vars before) (wrong bots actions before) no_pair (part_written before))
+    part_entry before = part_made (Judged (IsWrittenEntry vars before) (entry_fault bots actions before)) (λ w. w.entry) _ no_pair (part_judged (IsWrittenEntry vars before) (a_written_entry vars before) (entry_fault bots actions before) no_pair (part_written before))
 
     pub entry_elements : AreElements (IsEntry bots actions vars) (an_entry bots actions vars) is_entry no_pair is_end
     unfolding no_pair
     entry_elements = record {
       over = past_entries;
-      start = λ before. starts_into (λ w. w.entry) (starts_judged (IsWritten vars before) (wrong bots actions before) is_entry (past_entries before) (starts_written before));
+      start = λ before. starts_into (λ w. w.entry) (starts_judged (IsWrittenEntry vars before) (entry_fault bots actions before) is_entry (past_entries before) (starts_written before));
       part = part_entry;
       again = λ t e. rw (other_text Word (codes "entry") (codes "spot") t refl e, other_text Word (codes "entry") (codes "body") t refl e) refl;
       ends = λ t e. rw (other_text Word (codes "end") (codes "spot") t refl e, other_text Word (codes "end") (codes "body") t refl e) refl;

@@ -1,26 +1,18 @@
 -- The text of a journal is read as its entries.
-use Rattle.std.proofs.Common.{◌≡◌, ℕ, ℤ, pos, negsuc, zero, suc, ◌+◌, ◌-◌, ◌<◌, ◌≤◌, Bool, true, false, List, [], ◌∷◌, ◌++◌, length, map, take, replicate, Some, None, Ok, codes, refl, sym, ap, subst, ◌∙◌, arith, length-take-le, take-append-drop}
-use Rattle.std.specs.Prelude.{◌&&◌, ◌^◌, ◌==◌, decimal, bytes_eq, nat_lt, nat_le}
-use Rattle.std.specs.Fmt.{signed_decimal}
+use Rattle.std.proofs.Common.{◌≡◌, ℕ, zero, suc, ◌+◌, ◌-◌, ◌<◌, ◌≤◌, Bool, true, List, [], ◌∷◌, ◌++◌, length, map, Some, None, Ok, codes, refl, sym, ap, subst, ◌∙◌, arith}
+use Rattle.std.specs.Prelude.{◌&&◌, ◌^◌, ◌==◌, decimal, nat_lt, nat_le}
 use Rattle.std.specs.List.{All, list_all, flat_map, enumerate_from}
 use Rattle.std.proofs.lemmas.List.Folds.{list_all-append}
 use Rattle.std.proofs.lemmas.List.Elements.{All-head, All-tail}
-use Rattle.std.proofs.lemmas.Bool.{ltb-true, leb-true, le-ltb, and_parts}
-use Rattle.std.proofs.lemmas.Int.{ints}
+use Rattle.std.proofs.lemmas.Bool.{ltb-true, leb-true, and_parts}
 use Rattle.std.proofs.lemmas.Bool.Decides.{nat_tests}
 use Rattle.tri_lattice.specs.declared.node.Node.{Node}
-use Rattle.text_tokens.specs.declared.token.TokenKind.TheVariants.{Word, Sign}
-use Rattle.text_tokens.specs.declared.refusal.RefusalKind.TheVariants.{BadRange}
-use Rattle.text_tokens.specs.Text.{Lexeme, is_letter, is_word_byte}
-use Rattle.text_tokens.specs.Cursor.{is_the}
+use Rattle.text_tokens.specs.declared.token.TokenKind.TheVariants.{Word}
+use Rattle.text_tokens.specs.Text.{Lexeme}
 use Rattle.text_tokens.specs.Lines.{Words}
-use Rattle.text_tokens.specs.Reading.{value, no_limit, too_large, less}
-use Rattle.text_tokens.specs.Grammar.{Symbol, Lang, Then, then, Made, made, IsThe, of_first, is_nothing, Limited, in_limit, Repeated, no_more, AtMost}
-use Rattle.text_tokens.proofs.PrintedTokens.{kind_of, AreSpelled, none_printed, word_printed, IsOneToken, word_is_token, sign_is_token, word_kind, minus_printed}
-use Rattle.amoebot_state.specs.declared.bot.Bot.{Bot}
-use Rattle.amoebot_state.specs.declared.bot.Chir.{Chir}
-use Rattle.amoebot_state.specs.declared.bot.Chir.TheVariants as chir
-use Rattle.amoebot_state.specs.declared.bot.End.{End}
+use Rattle.text_tokens.specs.Reading.{less}
+use Rattle.text_tokens.specs.Grammar.{Symbol, Lang, Then, then, Made, made, IsThe, Limited, in_limit, Repeated, no_more, AtMost}
+use Rattle.text_tokens.proofs.PrintedTokens.{kind_of, IsOneToken, word_is_token}
 use Rattle.amoebot_state.specs.declared.bot.End.TheVariants as end
 use Rattle.amoebot_state.specs.declared.bot.Port.{Port}
 use Rattle.amoebot_state.specs.declared.cell.CellName.{CellName}
@@ -31,102 +23,20 @@ use Rattle.amoebot_state.specs.declared.verdict.Entry.{Entry}
 use Rattle.amoebot_state.specs.declared.verdict.Moved.{Moved}
 use Rattle.amoebot_state.specs.declared.verdict.Moved.TheVariants as moved
 use Rattle.amoebot_state.specs.Pairs.{Pairs}
-use Rattle.amoebot_state.specs.Ports.{end_word, port}
+use Rattle.amoebot_state.specs.Ports.{end_word}
 use Rattle.claim_core.specs.Limits.{most_turns}
-use Rattle.journal_text.specs.Parts.{word, is_minus, is_end, one_more, IsWord, Means, IsNumber, IsUpTo, negative, IsInt, a_node_of, IsNode, IsEnd, IsChirality, IsPort, IsValues, memory, a_bot_of, IsBotText}
-use Rattle.journal_text.specs.Journals.{IsPortBehind, IsMoved, IsCellText, a_pair_of, IsPair, Numbers, numbers_of, AreNumbers, Written, written_of, IsEntryWord, IsWritten, ids_of, ids_of_pair, is_known, wrong, IsEntry, AreEntries, IsJournal}
-use Rattle.journal_text.specs.JournalRows.{Says}
-use Rattle.journal_text.specs.Texts.{node_words, port_words, chir_word, bot_words, pair_words, moved_words, entry_numbers, entry_words, journal_text}
-use Rattle.journal_text.specs.Rereading.{size, HasCoordinates, HasLimits, IsWritable, IsPossible, KeepsLimits, JournalsReadBack}
-use Rattle.text_tokens.proofs.Respelling.{Found, Is, Any, Rereads, RereadsLines, rereads_behind, rereads_then, rereads_next, rereads_made, rereads_as, rereads_first, rereads_second, rereads_judged, rereads_nothing, rereads_into, rereads_more, lines_more, lines_then, lines_next, lines_nothing, the_passes, rereads_the, rereads_number, number_token, behind_found, found_by, found_made, one_found, the_found, number_found, one_rereads, reread_line}
-use Rattle.text_tokens.proofs.Stepping.{not_past}
-use Rattle.journal_text.proofs.Saying.{lines_say}
+use Rattle.node_text.specs.Parts.{word, is_end, one_more, IsWord}
+use Rattle.journal_text.specs.Journals.{IsPortBehind, IsMoved, IsCellText, a_pair_of, IsPair, Numbers, numbers_of, AreNumbers, Written, written_entry, IsEntryWord, IsWrittenEntry, ids_of_entry, ids_of_pair, is_known, entry_fault, IsEntry, AreEntries, IsJournal}
+use Rattle.text_tokens.specs.Inputs.{Says}
+use Rattle.node_text.specs.PartTexts.{node_words, port_words, bot_words}
+use Rattle.journal_text.specs.Texts.{pair_words, moved_words, entry_numbers, entry_words, journal_text}
+use Rattle.node_text.specs.PartLimits.{HasCoordinates}
+use Rattle.journal_text.specs.Rereading.{IsWritablePair, IsPossible, KeepsLimits, JournalsReadBack}
+use Rattle.text_tokens.proofs.LinesLemmas.{Found, Is, Any, Rereads, RereadsLines, rereads_behind, rereads_then, rereads_next, rereads_made, rereads_as, rereads_first, rereads_second, rereads_judged, rereads_nothing, rereads_into, rereads_more, lines_more, lines_then, lines_next, lines_nothing, the_passes, one_found, one_rereads, reread_line}
+use Rattle.text_tokens.proofs.StepsLemmas.{not_past}
+use Rattle.text_tokens.proofs.SaysLemmas.{lines_say}
 use Rattle.journal_text.proofs.JournalLaws.{BehindWord}
-
--- ---- words and numbers
-
-within : (most n : ℕ) → n ≤ most → (t : Lexeme) → value t ≡ n → too_large most BadRange t ≡ None
-within most n le t e = let b : nat_lt most n ≡ false = le-ltb _ _ le in rw (e, b) refl
-
-up_to : (most n : ℕ) → n ≤ most → most < 10 ^ 9 → Rereads (IsUpTo most) (Is n) (decimal n ∷ [])
-up_to most n le small = rereads_number n (omega arith) (too_large most BadRange) (within most n le)
-
-pub any_number : (n : ℕ) → n < 10 ^ 9 → Rereads IsNumber (Is n) (decimal n ∷ [])
-any_number n small = rereads_number n small no_limit (λ t e. refl)
-
-negative_is : (n : ℕ) → negative (suc n) ≡ negsuc n
-negative_is n = omega (arith, ints)
-
-minus_token : IsOneToken (codes "-")
-minus_token = sign_is_token (codes "-") refl refl
-
-module _ (most n : ℕ) (le : suc n ≤ most) (small : most < 10 ^ 9) where
-  minus_found : (ts : List Lexeme) → AreSpelled ts (codes "-" ∷ decimal (suc n) ∷ []) → Found (Then (IsThe is_minus) (λ line. Made (IsUpTo most) negative)) (Is (negsuc n)) ts
-  minus_found = behind_found {R = Any} (codes "-" ∷ []) (decimal (suc n) ∷ []) (the_found Sign (codes "-") refl refl)
-      (λ line x ts s. found_made negative (λ m e. ap negative e ∙ negative_is n) ts (number_found (suc n) (omega arith) (too_large most BadRange) (within most (suc n) le) ts s))
-
-  negative_int : Rereads (IsInt most) (Is (negsuc n)) (signed_decimal (negsuc n) ∷ [])
-  negative_int = record {
-    spelled = codes "-" ∷ decimal (suc n) ∷ [];
-    printed = word_printed (minus_printed (decimal (suc n)) (number_token (suc n) (omega arith))) none_printed;
-    read = λ ts s. found_by (λ z. z) (λ xs z is. of_first is) (λ z e. e) ts (minus_found ts s);
-  }
-
-pub an_int : (most : ℕ) (z : ℤ) → size z ≤ most → most < 10 ^ 9 → Rereads (IsInt most) (Is z) (signed_decimal z ∷ [])
-an_int most (pos n) le small = rereads_second (decimal n ∷ []) (rereads_as (λ n. pos n) (decimal n ∷ []) n (up_to most n le small))
-an_int most (negsuc n) le small = negative_int most n le small
-
-a_node : (v : Node) → HasCoordinates v → Rereads IsNode (Is v) (node_words v)
-a_node v c = rereads_then (signed_decimal v.x ∷ []) (signed_decimal v.y ∷ []) v.x (an_int 9999 v.x c.x (omega arith)) (rereads_as (λ y. a_node_of v.x y) (signed_decimal v.y ∷ []) v.y (an_int 9999 v.y c.y (omega arith)))
-
--- a word of the format
-module _ (b : ℕ) (bytes : List ℕ) (letter : is_letter b ≡ true) (more : list_all is_word_byte bytes ≡ true) (few : length (b ∷ bytes) ≤ 24) (same : bytes_eq (b ∷ bytes) (b ∷ bytes) ≡ true) where
-  pub the_kind : kind_of (b ∷ bytes) ≡ Word
-  the_kind = word_kind b bytes letter
-
-  pub the_word : Rereads (IsWord (b ∷ bytes)) Any ((b ∷ bytes) ∷ [])
-  the_word = rereads_the Word (b ∷ bytes) (word_is_token b bytes letter more few) the_kind same
-
-means : {A : Type 0} (test : Lexeme → Bool) (a : A) (words : Words) → Rereads (IsThe test) Any words → Rereads (Means test a) (Is a) words
-means test a words p = rereads_made (λ line. a) words (λ line x. refl) p
-
-an_end : (e : End) → Rereads IsEnd (Is e) (end_word e ∷ [])
-an_end end.Head = rereads_first (codes "head" ∷ []) (means (word (codes "head")) end.Head (codes "head" ∷ []) (the_word _ _ refl refl (omega arith) refl))
-an_end end.Tail = rereads_second (codes "tail" ∷ []) (means (word (codes "tail")) end.Tail (codes "tail" ∷ []) (the_word _ _ refl refl (omega arith) refl))
-
-a_chirality : (c : Chir) → Rereads IsChirality (Is c) (chir_word c ∷ [])
-a_chirality chir.Plus = rereads_first (codes "+" ∷ []) (means (λ t. is_the Sign (codes "+") t) chir.Plus (codes "+" ∷ []) (rereads_the Sign (codes "+") (sign_is_token (codes "+") refl refl) refl refl))
-a_chirality chir.Minus = rereads_second (codes "-" ∷ []) (means is_minus chir.Minus (codes "-" ∷ []) (rereads_the Sign (codes "-") minus_token refl refl))
-
-a_port : (p : Port) → p.dir ≤ 5 → Rereads IsPort (Is p) (port_words p)
-a_port p le = rereads_then (end_word p.end ∷ []) (decimal p.dir ∷ []) p.end (an_end p.end) (rereads_as (λ dir. port p.end dir) (decimal p.dir ∷ []) p.dir (up_to 5 p.dir le (omega arith)))
-
--- ---- amoebots
-
-many_values : (n : ℕ) (xs : List ℕ) → n ≤ length xs → All (λ v. v ≤ 255) xs → Rereads (IsValues n) (Is (take n xs)) (map decimal (take n xs))
-many_values zero xs le all = rereads_nothing [] is_nothing
-many_values (suc n) [] le all = absurd (omega arith)
-many_values (suc n) (x ∷ xs) le all =
-    rereads_then (decimal x ∷ []) (map decimal (take n xs)) x (up_to 255 x (All-head (λ v. v ≤ 255) x xs all) (omega arith))
-    (rereads_as (λ rest. x ∷ rest) (map decimal (take n xs)) (take n xs) (many_values n xs (omega arith) (All-tail (λ v. v ≤ 255) x xs all)))
-
-module _ (vars : ℕ) (le : vars ≤ 8) where
-  -- a memory that has 0 past the variables
-  its_memory : (b : Bot) → HasLimits vars b → memory (take vars b.mem) ≡ b.mem
-  its_memory b l =
-      let size : length (take vars b.mem) ≡ vars = length-take-le vars b.mem (let e = l.eight in omega arith) in
-      ap (λ n. take vars b.mem ++ replicate (8 - n) 0) size ∙ ap (λ rest. take vars b.mem ++ rest) (sym l.zeros) ∙ take-append-drop vars b.mem
-
-  pub a_bot : (b : Bot) → HasLimits vars b → Rereads (IsBotText vars) (Is b) (bot_words vars b)
-  a_bot b l =
-      let vs = take vars b.mem in
-      let same : a_bot_of b.head b.tail b.rot b.chir vs ≡ b = ap (λ (mem : List ℕ). record { head = b.head; tail = b.tail; rot = b.rot; chir = b.chir; mem = mem }) (its_memory b l) in
-      rereads_then (node_words b.head) (node_words b.tail ++ decimal b.rot ∷ chir_word b.chir ∷ map decimal vs) b.head (a_node b.head l.head)
-      (rereads_then (node_words b.tail) (decimal b.rot ∷ chir_word b.chir ∷ map decimal vs) b.tail (a_node b.tail l.tail)
-      (rereads_then (decimal b.rot ∷ []) (chir_word b.chir ∷ map decimal vs) b.rot (up_to 5 b.rot l.rot (omega arith))
-      (rereads_then (chir_word b.chir ∷ []) (map decimal vs) b.chir (a_chirality b.chir)
-      (rereads_made (λ values. a_bot_of b.head b.tail b.rot b.chir values) (map decimal vs) (λ values e. ap (λ values. a_bot_of b.head b.tail b.rot b.chir values) e ∙ same)
-      (many_values vars b.mem (let e = l.eight in omega arith) l.values)))))
+use Rattle.node_text.proofs.PartsReread.{any_number, the_word, means, an_end, a_port, a_node, a_bot}
 
 -- ---- movements
 
@@ -165,7 +75,7 @@ module _ (bots vars : ℕ) (few : bots < 2 ^ 16) (le : vars ≤ 8) where
   small : (id : ℕ) → there id ≡ true → id < 10 ^ 9
   small id e = let lt = ltb-true id bots e in omega arith
 
-  a_pair : (p : CellName × Cell) → IsWritable vars p → list_all there (ids_of_pair p) ≡ true → Rereads (IsPair vars) (Is p) (pair_words vars p)
+  a_pair : (p : CellName × Cell) → IsWritablePair vars p → list_all there (ids_of_pair p) ≡ true → Rereads (IsPair vars) (Is p) (pair_words vars p)
   a_pair (name.Spot v, cell.Spot None) w e = rereads_then (codes "spot" ∷ node_words v) (codes "empty" ∷ []) (name.Spot v) (a_spot v w)
       (rereads_as (λ x. a_pair_of (name.Spot v) x) (codes "empty" ∷ []) (cell.Spot None) (rereads_first (codes "empty" ∷ []) (means (word (codes "empty")) (cell.Spot None) (codes "empty" ∷ []) (the_word _ _ refl refl (omega arith) refl))))
   a_pair (name.Spot v, cell.Spot (Some id)) w e = rereads_then (codes "spot" ∷ node_words v) (decimal id ∷ []) (name.Spot v) (a_spot v w)
@@ -178,13 +88,13 @@ module _ (bots vars : ℕ) (few : bots < 2 ^ 16) (le : vars ≤ 8) where
   in_room : (room : ℕ) (p : CellName × Cell) → Rereads (IsPair vars) (Is p) (pair_words vars p) → Rereads (Limited (IsPair vars) (suc room)) (Is p) (pair_words vars p)
   in_room room p r = rereads_into (pair_words vars p) (λ xs a is. in_limit is) r
 
-  many_pairs : (room : ℕ) (ps : Pairs) → length ps ≤ room → All (IsWritable vars) ps → list_all there (flat_map ids_of_pair ps) ≡ true → Rereads (Repeated (λ room. Limited (IsPair vars) room) (λ room a. less room) room) (Is ps) (flat_map (pair_words vars) ps)
+  many_pairs : (room : ℕ) (ps : Pairs) → length ps ≤ room → All (IsWritablePair vars) ps → list_all there (flat_map ids_of_pair ps) ≡ true → Rereads (Repeated (λ room. Limited (IsPair vars) room) (λ room a. less room) room) (Is ps) (flat_map (pair_words vars) ps)
   many_pairs room [] fit all e = rereads_nothing [] no_more
   many_pairs zero (p ∷ ps) fit all e = absurd (omega arith)
   many_pairs (suc room) (p ∷ ps) fit all e =
       let both = and_parts (list_all there (ids_of_pair p)) (list_all there (flat_map ids_of_pair ps)) (sym (list_all-append there (ids_of_pair p) (flat_map ids_of_pair ps)) ∙ e) in
       rereads_more (λ room. Limited (IsPair vars) room) (λ room a. less room) (suc room) (pair_words vars p) (flat_map (pair_words vars) ps) p ps
-      (in_room room p (a_pair p (All-head (IsWritable vars) p ps all) both.0)) (many_pairs room ps (omega arith) (All-tail (IsWritable vars) p ps all) both.1)
+      (in_room room p (a_pair p (All-head (IsWritablePair vars) p ps all) both.0)) (many_pairs room ps (omega arith) (All-tail (IsWritablePair vars) p ps all) both.1)
 
 -- ---- entries
 
@@ -196,7 +106,7 @@ abbrev a_rest : Numbers → Moved → Pairs → Rest
 a_rest n m ps = (n, m, ps)
 
 abbrev written_with : ℕ → Rest → Written
-written_with line r = written_of line r.0 r.1 r.2
+written_with line r = written_entry line r.0 r.1 r.2
 
 map_made : {A B C : Type 0} {P : Lang A} (f : A → B) (h : B → C) (xs : List Symbol) (b : B) → Made P f xs b → Made P (λ a. h (f a)) xs (h b)
 map_made f h xs b (made a is) = made a is
@@ -232,7 +142,7 @@ module _ (bots actions vars : ℕ) (few_bots : bots < 2 ^ 16) (few_actions : act
 
   ranges : (e : Entry) → is_known bots actions e ≡ true → Ranges e
   ranges e known =
-      let all = list_all (λ id. nat_lt id bots) (ids_of e) in
+      let all = list_all (λ id. nat_lt id bots) (ids_of_entry e) in
       let a = and_parts (nat_le e.caller 15 && nat_le e.turn 65535 && nat_lt e.action actions) all known in
       let b = and_parts (nat_le e.caller 15 && nat_le e.turn 65535) (nat_lt e.action actions) a.0 in
       let c = and_parts (nat_le e.caller 15) (nat_le e.turn 65535) b.0 in
@@ -276,17 +186,17 @@ module _ (bots actions vars : ℕ) (few_bots : bots < 2 ^ 16) (few_actions : act
     the_entry_word : Rereads (IsEntryWord before) Any (codes "entry" ∷ [])
     the_entry_word = rereads_made (λ (t : Lexeme). t.line) (codes "entry" ∷ []) (λ t s. tt) (one_rereads (codes "entry") entry_token (one_found (codes "entry") (the_passes Word (codes "entry") entry_kind refl) (λ t s. not_past before most_turns room)))
 
-    the_written : Rereads (IsWritten vars before) (λ w. (w.place ≡ before) × (w.entry ≡ e)) (entry_words vars (before, e))
+    the_written : Rereads (IsWrittenEntry vars before) (λ w. (w.place ≡ before) × (w.entry ≡ e)) (entry_words vars (before, e))
     the_written = rereads_behind (codes "entry" ∷ []) rest_words the_entry_word the_rest.spelled the_rest.printed (λ line x ts s. found_with vars line its_rest ts (the_rest.read ts s))
 
-    not_wrong : (w : Written) → (w.place ≡ before) × (w.entry ≡ e) → wrong bots actions before w ≡ None
+    not_wrong : (w : Written) → (w.place ≡ before) × (w.entry ≡ e) → entry_fault bots actions before w ≡ None
     not_wrong w h =
         let a : (w.place == before) ≡ true = ap (λ n. n == before) h.0 ∙ same_number before in
         let b : is_known bots actions w.entry ≡ true = ap (is_known bots actions) h.1 ∙ k.known in
         rw (a, b) refl
 
     the_entry : Rereads (IsEntry bots actions vars before) (Is e) (entry_words vars (before, e))
-    the_entry = rereads_made (λ (w : Written). w.entry) (entry_words vars (before, e)) (λ w h. h.1) (rereads_judged (wrong bots actions before) (entry_words vars (before, e)) not_wrong the_written)
+    the_entry = rereads_made (λ (w : Written). w.entry) (entry_words vars (before, e)) (λ w h. h.1) (rereads_judged (entry_fault bots actions before) (entry_words vars (before, e)) not_wrong the_written)
 
   the_entries : (before : ℕ) (es : List Entry) → before + length es ≤ most_turns → All (KeepsLimits bots actions vars) es → RereadsLines (AreEntries bots actions vars before) (Is es) (map (entry_words vars) (enumerate_from before es))
   the_entries before [] fit all = lines_nothing [] no_more

@@ -9,25 +9,26 @@ use Rattle.text_tokens.specs.Grammar.{Lang, IsThe, Then, Either}
 use Rattle.text_tokens.specs.Lawful.{Exact, IsPart, always, Starts, AreElements}
 use Rattle.text_tokens.proofs.Exactness.{exact}
 use Rattle.text_tokens.proofs.Parts.{part_the}
-use Rattle.text_tokens.proofs.Beginnings.{starts_either}
-use Rattle.text_tokens.proofs.Repeating.{part_repeated}
-use Rattle.text_tokens.proofs.Distinguishing.{passing, other_text, not_either}
-use Rattle.text_tokens.proofs.Joining.{one_behind, into, one_of_two}
-use Rattle.journal_text.specs.Parts.{word, is_end, IsWord, IsNumber}
+use Rattle.text_tokens.proofs.StartsLemmas.{starts_either}
+use Rattle.text_tokens.proofs.RepeatedLemmas.{part_repeated}
+use Rattle.text_tokens.proofs.LexemeLemmas.{passing, other_text, not_either}
+use Rattle.text_tokens.proofs.JoinedParts.{one_behind, into, one_of_two}
+use Rattle.node_text.specs.Parts.{word, is_end, IsWord, IsNumber}
 use Rattle.journal_text.specs.Journals.{IsCellText}
-use Rattle.journal_text.specs.Turns.{Nothing, Unheeded, names_failure, is_failure, IsPlaced, IsFailed, IsClaimant, IsBusy, IsMark, is_turn, IsTurnLine, as_before, AreTurns, IsTurns}
-use Rattle.journal_text.specs.Readers.{a_word, a_number, unheeded, placed, a_cell, a_failed, a_claimant, a_busy, a_mark, a_turn, turn_in, all_turns, the_turns}
-use Rattle.journal_text.proofs.PartLaws.{up_to_end, starts_word, part_word, part_number}
+use Rattle.journal_text.specs.Turns.{Nothing, Unheeded, names_failure, is_failure, IsPlacedMark, IsFailed, IsClaimant, IsBusy, IsMark, is_turn, IsTurnLine, as_before, AreTurns, IsTurns}
+use Rattle.node_text.specs.PartReaders.{a_word, a_number}
+use Rattle.journal_text.specs.Readers.{unheeded, placed_mark, a_cell, a_failed, a_claimant, a_busy, a_mark, a_turn, turn_in, all_turn_lines, the_turns}
+use Rattle.node_text.proofs.PartLaws.{up_to_end, starts_word, part_word, part_number}
 use Rattle.journal_text.proofs.JournalLaws.{part_cell}
 
 part_unheeded : IsPart (Unheeded IsNumber) (unheeded a_number) always
 part_unheeded = into (λ n. tt) part_number
 
-part_placed : (text : List ℕ) → IsPart (IsWord text) (a_word text) always → IsPart (IsPlaced text) (placed text) always
-unfolding placed
+part_placed : (text : List ℕ) → IsPart (IsWord text) (a_word text) always → IsPart (IsPlacedMark text) (placed_mark text) always
+unfolding placed_mark
 part_placed text w = one_behind w (λ line. part_unheeded)
 
-starts_placed : (text : List ℕ) → Starts (IsPlaced text) (word text) no_limit
+starts_placed : (text : List ℕ) → Starts (IsPlacedMark text) (word text) no_limit
 starts_placed text = starts_word text (λ line. part_unheeded)
 
 passes_failure : is_failure (passing Word (codes "edge")) ≡ true
@@ -48,7 +49,7 @@ part_claimant : IsPart IsClaimant a_claimant always
 unfolding a_claimant
 part_claimant = one_behind (part_word (codes "by") refl) (λ line. one_behind part_number (λ caller. one_behind part_number (λ turn. part_unheeded)))
 
-part_behind_busy : IsPart (Then IsCellText (λ c. Then IsClaimant (λ u. IsPlaced (codes "place")))) (a_cell >>= λ c. a_claimant >>= λ u. placed (codes "place")) always
+part_behind_busy : IsPart (Then IsCellText (λ c. Then IsClaimant (λ u. IsPlacedMark (codes "place")))) (a_cell >>= λ c. a_claimant >>= λ u. placed_mark (codes "place")) always
 part_behind_busy = one_behind part_cell (λ c. one_behind part_claimant (λ u. part_placed (codes "place") (part_word (codes "place") refl)))
 
 part_busy : IsPart IsBusy a_busy always
@@ -74,13 +75,13 @@ abbrev Last2 : Lang Nothing
 Last2 = Either IsFailed IsBusy
 
 abbrev Last3 : Lang Nothing
-Last3 = Either (IsPlaced (codes "idle")) Last2
+Last3 = Either (IsPlacedMark (codes "idle")) Last2
 
 starts_last2 : Starts Last2 (λ t. by_failed t || by_busy t) no_limit
 starts_last2 = starts_either IsFailed IsBusy by_failed by_busy starts_failed starts_busy
 
 starts_last3 : Starts Last3 (λ t. by_idle t || (by_failed t || by_busy t)) no_limit
-starts_last3 = starts_either (IsPlaced (codes "idle")) Last2 by_idle (λ t. by_failed t || by_busy t) (starts_placed (codes "idle")) starts_last2
+starts_last3 = starts_either (IsPlacedMark (codes "idle")) Last2 by_idle (λ t. by_failed t || by_busy t) (starts_placed (codes "idle")) starts_last2
 
 part_mark : IsPart IsMark a_mark always
 unfolding a_mark
@@ -120,8 +121,8 @@ turn_elements = record {
   differ = λ t e. other_text Word (codes "end") (codes "turn") t refl e;
 }
 
-part_turns : IsPart AreTurns all_turns is_end
-unfolding all_turns
+part_turns : IsPart AreTurns all_turn_lines is_end
+unfolding all_turn_lines
 part_turns = part_repeated TurnIn turn_in as_before is_turn always is_end turn_elements tt
 
 pub part_the_turns : IsPart IsTurns the_turns always

@@ -16,21 +16,22 @@ use Rattle.amoebot_state.specs.declared.verdict.Failure.TheVariants as failure
 use Rattle.claim_core.specs.Turns.{MarkLists}
 use Rattle.claim_core.specs.declared.marks.Mark.{Mark}
 use Rattle.claim_core.specs.declared.marks.Mark.TheVariants as mark
-use Rattle.journal_text.specs.Parts.{IsWord, IsNumber}
+use Rattle.node_text.specs.Parts.{IsWord, IsNumber}
 use Rattle.journal_text.specs.Journals.{IsCellText}
 use Rattle.journal_text.specs.Texts.{cell_words, failure_word, mark_words, turn_words, caller_lines}
-use Rattle.journal_text.specs.Turns.{Nothing, Unheeded, names_failure, is_failure, IsPlaced, IsFailed, IsClaimant, IsBusy, IsMark, IsTurnLine, as_before, AreTurns, IsTurns}
+use Rattle.journal_text.specs.Turns.{Nothing, Unheeded, names_failure, is_failure, IsPlacedMark, IsFailed, IsClaimant, IsBusy, IsMark, IsTurnLine, as_before, AreTurns, IsTurns}
 use Rattle.journal_text.specs.Rereading.{IsWritableCell, IsClaim, IsWritableMark, AreWritable, TurnsReadBack}
-use Rattle.text_tokens.proofs.Respelling.{Is, Any, Rereads, RereadsLines, IsSpelled, rereads_next, rereads_made, rereads_first, rereads_second, one_found, one_rereads, kind_passes, found_made, more_of, lines_into, lines_behind_line, lines_next, lines_then, lines_made, lines_nothing, reread_line}
-use Rattle.journal_text.proofs.Saying.{lines_say}
-use Rattle.journal_text.proofs.JournalsReread.{any_number, the_word, a_spot, a_body, the_last_word}
+use Rattle.text_tokens.proofs.LinesLemmas.{Is, Any, Rereads, RereadsLines, IsSpelled, rereads_next, rereads_made, rereads_first, rereads_second, one_found, one_rereads, kind_passes, found_made, more_of, lines_into, lines_behind_line, lines_next, lines_then, lines_made, lines_nothing, reread_line}
+use Rattle.text_tokens.proofs.SaysLemmas.{lines_say}
+use Rattle.node_text.proofs.PartsReread.{any_number, the_word}
+use Rattle.journal_text.proofs.JournalsReread.{a_spot, a_body, the_last_word}
 
 -- ---- marks
 
 a_number : (n : ℕ) → IsShort n → Rereads (Unheeded IsNumber) (Is tt) (decimal n ∷ [])
 a_number n small = rereads_made (λ a. tt) (decimal n ∷ []) (λ a e. refl) (any_number n small)
 
-placed : (w : List ℕ) → Rereads (IsWord w) Any (w ∷ []) → (n : ℕ) → IsShort n → Rereads (IsPlaced w) (Is tt) (w ∷ decimal n ∷ [])
+placed : (w : List ℕ) → Rereads (IsWord w) Any (w ∷ []) → (n : ℕ) → IsShort n → Rereads (IsPlacedMark w) (Is tt) (w ∷ decimal n ∷ [])
 placed w first n small = rereads_next (w ∷ []) (decimal n ∷ []) first (a_number n small)
 
 failure_token : (f : Failure) → IsOneToken (failure_word f)

@@ -1,7 +1,6 @@
 pub mod JournalRows
 pub mod Journals
 pub mod Limits
-pub mod Parts
 pub mod Readers
 pub mod Rereading
 pub mod Texts
@@ -9,3 +8,6 @@ pub mod TextRows
 pub mod TurnRows
 pub mod Turns
 pub mod Views
+pub use Rattle.amoebot_state.specs.Limits as AmoebotStateLimits
+pub use Rattle.text_tokens.specs.Lawful
+pub use Rattle.text_tokens.specs.Steps

@@ -2,10 +2,6 @@
 use Rattle.std.specs.Prelude.{ℕ, ◌-◌}
 use Rattle.claim_core.specs.Limits.{most_callers, most_turns}
 
--- the farthest that a coordinate may be from 0
-abbrev pub most_coordinate : ℕ
-most_coordinate = 9999
-
 -- the number of the last caller, and that of the last turn of one
 abbrev pub last_caller : ℕ
 last_caller = most_callers - 1

@@ -1,9 +1,7 @@
 -- Entries that break no limit are read back from their text, and marks are read.
-use Rattle.std.specs.Prelude.{◌≡◌, ◌<◌, ◌≤◌, ◌-◌, ◌^◌, ℕ, ℤ, pos, negsuc, suc, true, List, length, drop, replicate, Ok}
+use Rattle.std.specs.Prelude.{◌≡◌, ◌<◌, ◌≤◌, ◌^◌, ℕ, true, List, length, Ok}
 use Rattle.std.specs.List.{All}
-use Rattle.tri_lattice.specs.declared.node.Node.{Node}
 use Rattle.text_tokens.specs.Cursor.{IsShort}
-use Rattle.amoebot_state.specs.declared.bot.Bot.{Bot}
 use Rattle.amoebot_state.specs.declared.cell.CellName.{CellName}
 use Rattle.amoebot_state.specs.declared.cell.CellName.TheVariants as name
 use Rattle.amoebot_state.specs.declared.cell.Cell.{Cell}
@@ -11,41 +9,23 @@ use Rattle.amoebot_state.specs.declared.cell.Cell.TheVariants as cell
 use Rattle.amoebot_state.specs.declared.verdict.Entry.{Entry}
 use Rattle.amoebot_state.specs.declared.verdict.Moved.{Moved}
 use Rattle.amoebot_state.specs.declared.verdict.Moved.TheVariants as moved
-use Rattle.amoebot_state.specs.Limits.{most_vars, most_value, most_pairs}
+use Rattle.amoebot_state.specs.Limits.{most_vars, most_pairs}
 use Rattle.claim_core.specs.declared.marks.Mark.{Mark}
 use Rattle.claim_core.specs.declared.marks.Mark.TheVariants as mark
 use Rattle.claim_core.specs.Limits.{most_callers, most_turns}
 use Rattle.claim_core.specs.Turns.{MarkLists}
-use Rattle.journal_text.specs.Limits.{most_coordinate}
 use Rattle.journal_text.specs.Turns.{IsTurns}
 use Rattle.journal_text.specs.Journals.{is_known, IsJournal}
-use Rattle.journal_text.specs.JournalRows.{Says}
+use Rattle.text_tokens.specs.Inputs.{Says}
 use Rattle.journal_text.specs.Texts.{journal_text, turns_text}
-
--- how far a whole number is from 0
-abbrev pub size : ℤ → ℕ
-size (pos n) = n
-size (negsuc n) = suc n
-
-pub record HasCoordinates (v : Node) : Type 0 where
-  pub x : size v.x ≤ most_coordinate
-  pub y : size v.y ≤ most_coordinate
-
--- an amoebot whose memory has 0 past the variables
-pub record HasLimits (vars : ℕ) (b : Bot) : Type 0 where
-  pub head : HasCoordinates b.head
-  pub tail : HasCoordinates b.tail
-  pub rot : b.rot ≤ 5
-  pub eight : length b.mem ≡ 8
-  pub values : All (λ v. v ≤ most_value) b.mem
-  pub zeros : drop vars b.mem ≡ replicate (most_vars - vars) 0
+use Rattle.node_text.specs.PartLimits.{HasCoordinates, HasLimits}
 
 -- a node with its occupant, or a body with an amoebot
-abbrev pub IsWritable : ℕ → CellName × Cell → Type 0
-IsWritable vars (name.Spot v, cell.Spot o) = HasCoordinates v
-IsWritable vars (name.Spot v, cell.Body b) = ⊥
-IsWritable vars (name.Body i, cell.Spot o) = ⊥
-IsWritable vars (name.Body i, cell.Body b) = HasLimits vars b
+abbrev pub IsWritablePair : ℕ → CellName × Cell → Type 0
+IsWritablePair vars (name.Spot v, cell.Spot o) = HasCoordinates v
+IsWritablePair vars (name.Spot v, cell.Body b) = ⊥
+IsWritablePair vars (name.Body i, cell.Spot o) = ⊥
+IsWritablePair vars (name.Body i, cell.Body b) = HasLimits vars b
 
 abbrev pub IsPossible : Moved → Type 0
 IsPossible moved.None = Unit {0}
@@ -59,11 +39,17 @@ pub record KeepsLimits (bots actions vars : ℕ) (e : Entry) : Type 0 where
   pub known : is_known bots actions e ≡ true
   pub movement : IsPossible e.moved
   pub few : length e.patch ≤ most_pairs
-  pub pairs : All (IsWritable vars) e.patch
+  pub pairs : All (IsWritablePair vars) e.patch
 
 -- such entries, at most so many, are read back from their text, in a world of so many amoebots, with a program of so many actions
 abbrev pub JournalsReadBack : Type 0
-JournalsReadBack = (bots actions vars : ℕ) (entries : List Entry) → bots < 2 ^ 16 → actions < 2 ^ 8 → vars ≤ most_vars → length entries ≤ most_turns → All (KeepsLimits bots actions vars) entries
+JournalsReadBack =
+    (bots actions vars : ℕ) (entries : List Entry)
+    → bots < 2 ^ 16
+    → actions < 2 ^ 8
+    → vars ≤ most_vars
+    → length entries ≤ most_turns
+    → All (KeepsLimits bots actions vars) entries
     → Says (IsJournal bots actions vars) (journal_text vars entries) (Ok entries)
 
 -- ---- marks

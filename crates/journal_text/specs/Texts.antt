@@ -1,14 +1,8 @@
 -- The texts of the sections `journal` and `turns`. An entry and a turn each have a line, whose tokens have one space between them.
-use Rattle.std.specs.Prelude.{ℕ, List, [], ◌∷◌, ◌++◌, codes, decimal, map, take}
-use Rattle.std.specs.Fmt.{signed_decimal}
+use Rattle.std.specs.Prelude.{ℕ, List, [], ◌∷◌, ◌++◌, codes, decimal, map}
 use Rattle.std.specs.List.{flat_map, enumerate_from}
 use Rattle.std.specs.declared.option.Option.TheVariants.{Some, None}
-use Rattle.tri_lattice.specs.declared.node.Node.{Node}
 use Rattle.text_tokens.specs.Lines.{Words, section_text}
-use Rattle.amoebot_state.specs.declared.bot.Bot.{Bot}
-use Rattle.amoebot_state.specs.declared.bot.Chir.{Chir}
-use Rattle.amoebot_state.specs.declared.bot.Chir.TheVariants as chir
-use Rattle.amoebot_state.specs.declared.bot.Port.{Port}
 use Rattle.amoebot_state.specs.declared.cell.CellName.{CellName}
 use Rattle.amoebot_state.specs.declared.cell.CellName.TheVariants as name
 use Rattle.amoebot_state.specs.declared.cell.Cell.{Cell}
@@ -23,21 +17,7 @@ use Rattle.amoebot_state.specs.Ports.{end_word}
 use Rattle.claim_core.specs.declared.marks.Mark.{Mark}
 use Rattle.claim_core.specs.declared.marks.Mark.TheVariants as mark
 use Rattle.claim_core.specs.Turns.{MarkLists}
-
--- the coordinates of a node, where a negative one has a `-` directly before its digits
-abbrev pub node_words : Node → Words
-node_words v = signed_decimal v.x ∷ signed_decimal v.y ∷ []
-
-abbrev pub port_words : Port → Words
-port_words p = end_word p.end ∷ decimal p.dir ∷ []
-
-abbrev pub chir_word : Chir → List ℕ
-chir_word chir.Plus = codes "+"
-chir_word chir.Minus = codes "-"
-
--- head, tail, rotation, chirality, and as many values as there are variables
-abbrev pub bot_words : ℕ → Bot → Words
-bot_words vars b = node_words b.head ++ node_words b.tail ++ decimal b.rot ∷ chir_word b.chir ∷ map decimal (take vars b.mem)
+use Rattle.node_text.specs.PartTexts.{node_words, port_words, bot_words}
 
 abbrev pub cell_words : CellName → Words
 cell_words (name.Spot v) = codes "spot" ∷ node_words v
@@ -88,7 +68,9 @@ abbrev pub mark_words : Mark → Words
 mark_words (mark.Done place) = codes "done" ∷ decimal place ∷ []
 mark_words (mark.Idle place) = codes "idle" ∷ decimal place ∷ []
 mark_words (mark.Failed f place) = codes "failed" ∷ failure_word f ∷ decimal place ∷ []
-mark_words (mark.Busy c by_caller by_turn by_bot place) = codes "busy" ∷ cell_words c ++ codes "by" ∷ decimal by_caller ∷ decimal by_turn ∷ decimal by_bot ∷ codes "place" ∷ decimal place ∷ []
+mark_words (mark.Busy c by_caller by_turn by_bot place) =
+    codes "busy" ∷ cell_words c ++ codes "by" ∷ decimal by_caller ∷ decimal by_turn ∷ decimal by_bot ∷ codes "place"
+    ∷ decimal place ∷ []
 
 -- the mark of a caller's turn
 abbrev pub turn_words : ℕ → ℕ × Mark → Words

@@ -12,7 +12,7 @@ use Rattle.text_tokens.specs.Text.{Lexeme}
 use Rattle.text_tokens.specs.Cursor.{is_kind}
 use Rattle.text_tokens.specs.Grammar.{Lang, Then, Made, IsThe, Closed, Either, Repeated}
 use Rattle.amoebot_state.specs.declared.verdict.Failure.TheVariants as failure
-use Rattle.journal_text.specs.Parts.{word, is_end, IsWord, IsNumber}
+use Rattle.node_text.specs.Parts.{word, is_end, IsWord, IsNumber}
 use Rattle.journal_text.specs.Journals.{IsCellText}
 use Rattle.journal_text.specs.Texts.{failure_word}
 
@@ -24,8 +24,10 @@ abbrev pub Unheeded : {A : Type 0} → Lang A → Lang Nothing
 Unheeded P = Made P (λ a. tt)
 
 abbrev pub failure_words : List (List ℕ)
-failure_words = map failure_word (failure.NoPort ∷ failure.NoNeighbour ∷ failure.OutOfRange ∷ failure.Occupied ∷ failure.NotContracted ∷ failure.NotExpanded ∷ failure.PeerNotExpanded
-    ∷ failure.PeerNotContracted ∷ failure.Edge ∷ failure.WouldSplit ∷ failure.NoChoice ∷ [])
+failure_words =
+    map failure_word (failure.NoPort ∷ failure.NoNeighbour ∷ failure.OutOfRange ∷ failure.Occupied
+    ∷ failure.NotContracted ∷ failure.NotExpanded ∷ failure.PeerNotExpanded ∷ failure.PeerNotContracted
+    ∷ failure.Edge ∷ failure.WouldSplit ∷ failure.NoChoice ∷ [])
 
 unfoldable pub names_failure : List ℕ → Bool
 names_failure text = list_any (λ word. bytes_eq word text) failure_words
@@ -36,8 +38,8 @@ is_failure t = is_kind Word t && names_failure t.text
 -- ---- marks
 
 -- a mark with a place
-abbrev pub IsPlaced : List ℕ → Lang Nothing
-IsPlaced text = Then (IsWord text) (λ line. Unheeded IsNumber)
+abbrev pub IsPlacedMark : List ℕ → Lang Nothing
+IsPlacedMark text = Then (IsWord text) (λ line. Unheeded IsNumber)
 
 abbrev pub IsFailed : Lang Nothing
 IsFailed = Then (IsWord (codes "failed")) (λ line. Then (IsThe is_failure) (λ line. Unheeded IsNumber))
@@ -47,10 +49,10 @@ abbrev pub IsClaimant : Lang Nothing
 IsClaimant = Then (IsWord (codes "by")) (λ line. Then IsNumber (λ caller. Then IsNumber (λ turn. Unheeded IsNumber)))
 
 abbrev pub IsBusy : Lang Nothing
-IsBusy = Then (IsWord (codes "busy")) (λ line. Then IsCellText (λ c. Then IsClaimant (λ u. IsPlaced (codes "place"))))
+IsBusy = Then (IsWord (codes "busy")) (λ line. Then IsCellText (λ c. Then IsClaimant (λ u. IsPlacedMark (codes "place"))))
 
 abbrev pub IsMark : Lang Nothing
-IsMark = Either (IsPlaced (codes "done")) (Either (IsPlaced (codes "idle")) (Either IsFailed IsBusy))
+IsMark = Either (IsPlacedMark (codes "done")) (Either (IsPlacedMark (codes "idle")) (Either IsFailed IsBusy))
 
 -- ---- the section
 

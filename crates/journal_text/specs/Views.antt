@@ -10,7 +10,7 @@ use Rattle.journal_text.specs.declared.journal.WrittenPair.{WrittenPair}
 use Rattle.journal_text.specs.declared.journal.WrittenPair.TheVariants as written_pair
 use Rattle.journal_text.specs.declared.journal.Numbers as code_numbers
 use Rattle.journal_text.specs.declared.journal.Written as code_written
-use Rattle.journal_text.specs.Journals.{Numbers, Written, numbers_of, written_of}
+use Rattle.journal_text.specs.Journals.{Numbers, Written, numbers_of, written_entry}
 
 abbrev pub cell : WrittenCell → CellName
 cell (written_cell.Spot v) = name.Spot v
@@ -23,5 +23,5 @@ pair (written_pair.Body id b) = (name.Body id, value.Body b)
 abbrev pub numbers : code_numbers.Numbers → Numbers
 numbers n = numbers_of n.place n.caller n.turn n.bot n.action
 
-abbrev pub written : code_written.Written → Written
-written w = written_of w.line (numbers w.numbers) w.moved (map pair w.pairs.items)
+abbrev pub entry_view : code_written.Written → Written
+entry_view w = written_entry w.line (numbers w.numbers) w.moved (map pair w.pairs.items)

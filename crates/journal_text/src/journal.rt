@@ -11,9 +11,9 @@ ghost use Rattle.journal_text.specs.Journals as spec;
 ghost use Rattle.journal_text.specs.Readers as reader;
 ghost use Rattle.journal_text.specs.Views as view;
 
-use crate::parts::{read_bot, read_end, read_node, read_port, read_word, read_word_within};
 use amoebot_state::{Bot, Cell, CellName, End, Entry, MOST_PAIRS, Moved, Patch, Port};
 use arrayvec::ArrayVec;
+use node_text::{read_bot, read_end, read_node, read_port, read_word, read_word_within};
 use std::alloc::Global;
 use std::marker::Model;
 use text_tokens::{ReadRefusal, RefusalKind, TokenKind, Tokens, number, refused};
@@ -229,10 +229,10 @@ fn read_numbers(tokens: &mut Tokens<'_>) -> Result<Numbers, ReadRefusal>
     })
 }
 
-#[tactic(auto, unfolding(crate::specs::Readers::written, crate::specs::Readers::entry_word))]
+#[tactic(auto, unfolding(crate::specs::Readers::a_written_entry, crate::specs::Readers::entry_word))]
 fn read_written(tokens: &mut Tokens<'_>, vars: u8, before: u32) -> Result<Written, ReadRefusal>
     requires { vars ≤ most_vars }
-    ensures reads { Gives view.written (reader.written vars before) tokens.old result tokens.new }
+    ensures reads { Gives view.entry_view (reader.a_written_entry vars before) tokens.old result tokens.new }
     ensures room { IfOk result (λ _. before < most_turns) }
 {
     let line = read_word_within(tokens, b"entry", MOST_ENTRIES, before)?;
@@ -271,7 +271,10 @@ fn known_pair(pair: WrittenPair, bots: u16) -> Option<(CellName, Cell)>
 /// The pairs, at most 10, if the amoebots that they name are some of so many.
 fn known_patch(pairs: &[WrittenPair], bots: u16) -> Option<Patch>
     requires { length pairs.now ≤ most_pairs }
-    ensures { result ≡ if list_all (λ id. nat_lt id bots) (flat_map spec.ids_of_pair (map view.pair pairs.now)) then Some (map view.pair pairs.now) else None }
+    ensures { result
+        ≡ if list_all (λ id. nat_lt id bots) (flat_map spec.ids_of_pair (map view.pair pairs.now))
+        then Some (map view.pair pairs.now)
+        else None }
 {
     let mut patch = Patch::new();
     for pair in pairs {
@@ -283,7 +286,8 @@ fn known_patch(pairs: &[WrittenPair], bots: u16) -> Option<Patch>
 
 /// The entry, if its caller and turn are ones that there may be, and its action and amoebots some of so many.
 fn known_entry(written: &Written, bots: u16, actions: u8) -> Option<Entry>
-    ensures { result ≡ if spec.is_known bots actions (view.written written.now).entry then Some (view.written written.now).entry else None }
+    ensures { result ≡ if spec.is_known bots actions (view.entry_view written.now).entry
+        then Some (view.entry_view written.now).entry else None }
 {
     let Numbers {
         caller,

@@ -1,17 +1,19 @@
 //! The sections `journal` and `turns` printed.
 
-ghost use Rattle.std.specs.Prelude.{◌≡◌, ◌<◌, ◌≤◌, ◌++◌, decimal, length, map, IfOk, OnOk};
+ghost use Rattle.std.specs.Prelude.{◌≡◌, ◌<◌, ◌≤◌, ◌++◌, length, map, IfOk, OnOk};
 ghost use Rattle.std.specs.List.{enumerate_from, flat_map};
 ghost use Rattle.text_tokens.specs.Lines.{line_text, lines_text, spaced};
 ghost use Rattle.amoebot_state.specs.Limits.{most_vars};
-ghost use Rattle.journal_text.specs.Texts.{bot_words, caller_lines, cell_words, chir_word, entry_numbers, entry_words, failure_word, journal_text, mark_words, moved_words, node_words, pair_words, port_words, turn_words, turns_text, value_words};
+ghost use Rattle.journal_text.specs.Texts.{caller_lines, cell_words, entry_numbers};
+ghost use Rattle.journal_text.specs.Texts.{entry_words, failure_word, journal_text, mark_words, moved_words};
+ghost use Rattle.journal_text.specs.Texts.{pair_words, turn_words, turns_text, value_words};
 ghost use Rattle.claim_core.specs.Turns.{marks_of};
 
-use amoebot_state::{Bot, Cell, CellName, Chir, Entry, Failure, Moved, NoMemory, Port};
+use amoebot_state::{Cell, CellName, Entry, Failure, Moved, NoMemory};
 use claim_core::{Mark, Marks};
+use node_text::{put_bot, put_node, put_port};
 use std::alloc::{AllocError, Global};
 use text_tokens::{Lines, Text};
-use tri_lattice::Node;
 
 /// The section `journal`: the entries, numbered from 0, with the values of so many variables, at most 8.
 pub fn print_journal(alloc: Global, entries: &[Entry], vars: u8) -> Result<Text, NoMemory>
@@ -185,27 +187,6 @@ fn put_value(lines: &mut Lines, value: &Cell, vars: u8) -> Result<(), AllocError
     }
 }
 
-/// Adds the nodes, the rotation, the chirality and the first values of an amoebot to a line.
-pub fn put_bot(lines: &mut Lines, bot: &Bot, vars: u8) -> Result<(), AllocError>
-    requires { vars ≤ most_vars }
-    ensures { OnOk result (lines.new ≡ lines.old ++ spaced (bot_words vars bot.now)) }
-{
-    put_node(lines, bot.head)?;
-    put_node(lines, bot.tail)?;
-    lines.number(bot.rot)?;
-    lines.word(chir_word(bot.chir))?;
-    put_values(lines, &bot.mem[..usize::from(vars)])
-}
-
-fn put_values(lines: &mut Lines, values: &[u8]) -> Result<(), AllocError>
-    ensures { OnOk result (lines.new ≡ lines.old ++ spaced (map decimal values.now)) }
-{
-    for value in values {
-        lines.number(*value)?;
-    }
-    Ok(())
-}
-
 fn put_moved(lines: &mut Lines, moved: Moved) -> Result<(), AllocError>
     ensures { OnOk result (lines.new ≡ lines.old ++ spaced (moved_words moved)) }
 {
@@ -227,29 +208,6 @@ fn put_moved(lines: &mut Lines, moved: Moved) -> Result<(), AllocError>
             lines.word("pull")?;
             put_port(lines, port)
         }
-    }
-}
-
-fn put_port(lines: &mut Lines, port: Port) -> Result<(), AllocError>
-    ensures { OnOk result (lines.new ≡ lines.old ++ spaced (port_words port)) }
-{
-    lines.word(port.end.word())?;
-    lines.number(port.dir)
-}
-
-fn put_node(lines: &mut Lines, node: Node) -> Result<(), AllocError>
-    ensures { OnOk result (lines.new ≡ lines.old ++ spaced (node_words node)) }
-{
-    lines.number(node.x)?;
-    lines.number(node.y)
-}
-
-fn chir_word(chir: Chir) -> &'static str
-    ensures { result.now ≡ chir_word chir }
-{
-    match chir {
-        Chir::Plus => "+",
-        Chir::Minus => "-",
     }
 }
 

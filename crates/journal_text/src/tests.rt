@@ -112,19 +112,24 @@ fn journals_of_runs_are_read_and_printed_again(rt: HostRuntime) {
             1,
         ),
         (
-            b"journal\nentry 0 0 0 0 0 pull tail 3 spot 2 3 1 body 0 3 3 3 3 0 + 0 body 1 2 3 1 3 0 + 0\nentry 1 1 1 1 1 none body 1 2 3 1 3 0 + 1\nend\n",
+            b"journal\n\
+                entry 0 0 0 0 0 pull tail 3 spot 2 3 1 body 0 3 3 3 3 0 + 0 body 1 2 3 1 3 0 + 0\n\
+                entry 1 1 1 1 1 none body 1 2 3 1 3 0 + 1\nend\n",
             2,
             2,
             1,
         ),
         (
-            b"journal\nentry 0 1 0 1 0 expand head 0 spot 7 6 1 body 1 7 6 6 6 0 +\nentry 1 0 0 0 0 expand head 0 spot 2 1 0 body 0 2 1 1 1 0 +\nend\n",
+            b"journal\nentry 0 1 0 1 0 expand head 0 spot 7 6 1 body 1 7 6 6 6 0 +\n\
+                entry 1 0 0 0 0 expand head 0 spot 2 1 0 body 0 2 1 1 1 0 +\nend\n",
             2,
             1,
             0,
         ),
         (
-            b"journal\nentry 0 15 65535 4095 31 contract head spot -9999 9999 empty spot 0 -1 4095 body 4095 -9999 -9999 9999 9999 5 -\nend\n",
+            b"journal\n\
+                entry 0 15 65535 4095 31 contract head spot -9999 9999 empty spot 0 -1 4095 body 4095 -9999 -9999 9999 9999 5 -\n\
+                end\n",
             4096,
             32,
             0,
@@ -136,7 +141,9 @@ fn journals_of_runs_are_read_and_printed_again(rt: HostRuntime) {
             8,
         ),
         (
-            b"journal\nentry 0 0 0 0 0 none spot 0 0 0 spot 0 0 1 spot 0 0 0 spot 0 0 1 spot 0 0 0 spot 0 0 1 spot 0 0 0 spot 0 0 1 spot 0 0 0 spot 0 0 1\nend\n",
+            b"journal\nentry 0 0 0 0 0 none \
+                spot 0 0 0 spot 0 0 1 spot 0 0 0 spot 0 0 1 spot 0 0 0 \
+                spot 0 0 1 spot 0 0 0 spot 0 0 1 spot 0 0 0 spot 0 0 1\nend\n",
             2,
             1,
             0,
@@ -305,12 +312,16 @@ fn journals_are_refused_at_their_first_fault(rt: HostRuntime) {
             BadByte,
         ),
         (
-            b"journal\nentry 1 16 0 0 0 none spot 0 0 0 spot 0 0 0 spot 0 0 0 spot 0 0 0 spot 0 0 0 spot 0 0 0 spot 0 0 0 spot 0 0 0 spot 0 0 0 spot 0 0 0\nbody 0",
+            b"journal\nentry 1 16 0 0 0 none \
+                spot 0 0 0 spot 0 0 0 spot 0 0 0 spot 0 0 0 spot 0 0 0 \
+                spot 0 0 0 spot 0 0 0 spot 0 0 0 spot 0 0 0 spot 0 0 0\nbody 0",
             3,
             TooMany,
         ),
         (
-            b"journal\nentry 1 16 0 0 0 none spot 0 0 0 spot 0 0 0 spot 0 0 0 spot 0 0 0 spot 0 0 0 spot 0 0 0 spot 0 0 0 spot 0 0 0 spot 0 0 0 spot 0 0 0\n+",
+            b"journal\nentry 1 16 0 0 0 none \
+                spot 0 0 0 spot 0 0 0 spot 0 0 0 spot 0 0 0 spot 0 0 0 \
+                spot 0 0 0 spot 0 0 0 spot 0 0 0 spot 0 0 0 spot 0 0 0\n+",
             2,
             BadPlace,
         ),
@@ -492,7 +503,10 @@ fn each_kind_of_mark_is_printed_and_read(rt: HostRuntime) -> Result<(), Fail> {
     let text = print_turns(rt.alloc(), &marks).ok().ok_or("no text")?;
     assert_eq!(rt;
         text.bytes(),
-        b"turns\nturn 0 0 done 0\nturn 0 1 failed peer_not_contracted 1\nturn 0 2 busy body 7 by 2 0 3 place 2\nturn 2 0 idle 65536\nturn 2 1 busy spot -4096 17 by 0 1 4095 place 1\nend\n".as_slice()
+        b"turns\nturn 0 0 done 0\nturn 0 1 failed peer_not_contracted 1\n\
+            turn 0 2 busy body 7 by 2 0 3 place 2\nturn 2 0 idle 65536\n\
+            turn 2 1 busy spot -4096 17 by 0 1 4095 place 1\nend\n"
+            .as_slice()
     );
     assert!(rt; turns_fault(text.bytes()).is_none());
     Ok(())

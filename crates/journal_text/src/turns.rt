@@ -9,7 +9,7 @@ ghost use Rattle.journal_text.specs.Turns as spec;
 ghost use Rattle.journal_text.specs.Readers as reader;
 
 use crate::journal::read_cell;
-use crate::parts::read_word;
+use node_text::read_word;
 use text_tokens::{ReadRefusal, RefusalKind, TokenKind, Tokens, number, refused};
 
 /// The words of failures.
@@ -52,9 +52,9 @@ fn read_failure(tokens: &mut Tokens<'_>) -> Result<u32, ReadRefusal>
 }
 
 /// A number behind this word.
-#[tactic(auto, unfolding(crate::specs::Readers::placed))]
+#[tactic(auto, unfolding(crate::specs::Readers::placed_mark))]
 fn read_placed(tokens: &mut Tokens<'_>, text: &[u8]) -> Result<(), ReadRefusal>
-    ensures { Gives (λ u. u) (reader.placed text.now) tokens.old result tokens.new }
+    ensures { Gives (λ u. u) (reader.placed_mark text.now) tokens.old result tokens.new }
 {
     read_word(tokens, text)?;
     number(tokens)?;
@@ -129,7 +129,7 @@ fn more_turn(tokens: &mut Tokens<'_>) -> Result<Option<()>, ReadRefusal>
 }
 
 fn read_all_turns(tokens: &mut Tokens<'_>) -> Result<(), ReadRefusal>
-    ensures { Gives (λ u. u) (reader.unheeded reader.all_turns) tokens.old result tokens.new }
+    ensures { Gives (λ u. u) (reader.unheeded reader.all_turn_lines) tokens.old result tokens.new }
 {
     while let Some(()) = more_turn(tokens)? {}
     Ok(())

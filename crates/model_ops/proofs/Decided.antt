@@ -13,7 +13,7 @@ use Rattle.model_ops.specs.Deciders.{ActsFor}
 use Rattle.model_ops.specs.Expansion.{verdict_by}
 use Rattle.model_ops.specs.Reaches.{Acts, Reaches, perform}
 use Rattle.model_ops.specs.Sites.{done}
-use Rattle.model_ops.specs.WorkingCopies.{WorkingCopy, opened, own_id, after, changes}
+use Rattle.model_ops.specs.WorkingCopies.{WorkingCopy, opened, own_id, copy_after, changes}
 
 -- a verdict is no change, or one that acts make
 abbrev pub MadeByActs : Shown → Verdict → Type 0
@@ -31,11 +31,11 @@ pub record Led (s : Shown) (op : Config → ℕ → Result Config Failure) (w : 
   pub by : op (shown_alone s) s.bot ≡ Ok w.reached
   pub of : w.found ≡ s
 
-pub led : (s : Shown) (op : Config → ℕ → Result Config Failure) (first w : WorkingCopy) → first ≡ opened s → done (op first.reached (own_id first)) ≡ Ok tt → w ≡ after first (op first.reached (own_id first)) → Led s op w
+pub led : (s : Shown) (op : Config → ℕ → Result Config Failure) (first w : WorkingCopy) → first ≡ opened s → done (op first.reached (own_id first)) ≡ Ok tt → w ≡ copy_after first (op first.reached (own_id first)) → Led s op w
 led s op first w is goes leads =
     let (d, by) = done_told (op first.reached (own_id first)) goes in
     let on : op (shown_alone s) s.bot ≡ Ok d = ap (λ (x : WorkingCopy). op x.reached (own_id x)) (sym is) ∙ by in
-    let there : w ≡ record { found = s; reached = d } = leads ∙ ap (after first) by ∙ ap (λ (x : WorkingCopy). let y : WorkingCopy = record x { reached = d } in y) is in
+    let there : w ≡ record { found = s; reached = d } = leads ∙ ap (copy_after first) by ∙ ap (λ (x : WorkingCopy). let y : WorkingCopy = record x { reached = d } in y) is in
     record { by = on ∙ ap (λ (x : WorkingCopy). Ok x.reached) (sym there); of = ap (λ (x : WorkingCopy). x.found) there }
   where
     done_told : (r : Result Config Failure) → done r ≡ Ok tt → (d : Config) × (r ≡ Ok d)

@@ -1,4 +1,4 @@
-mod Samples
+mod OperationExamples
 pub mod Told
 pub mod Becomes
 pub mod OneArcs
@@ -25,7 +25,7 @@ pub mod Answered
 pub mod Gathered
 pub mod Opened
 pub mod OneNode
-pub mod Patching
+pub mod PatchLemmas
 pub mod Carried
 pub mod Decided
 pub mod ExpansionLaws

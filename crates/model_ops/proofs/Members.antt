@@ -24,7 +24,7 @@ use Rattle.amoebot_state.specs.Pairs.{body_in}
 use Rattle.amoebot_state.specs.Zones.{Shown, IsShown, spread, with_id, shown, shown_alone}
 use Rattle.arrayvec.specs.ArrayVec.{ArrayVec, with_items}
 use Rattle.arrayvec.proofs.ArrayVecLemmas.{items-with_items}
-use Rattle.amoebot_state.specs.Refusals.{IsPlain}
+use Rattle.amoebot_state.specs.Refusals.{IsBotInRange}
 use Rattle.model_ops.specs.declared.member.Member.{Member}
 use Rattle.model_ops.specs.WorkingCopies.{WorkingCopy}
 use Rattle.model_ops.specs.Members.{IsBelow, AreRising, IsSite, has_id, body_by, config_by, id_by, body_found, body_now, config_found, config_now, copy_of}
@@ -207,12 +207,12 @@ found_with_now a maxes ms k d b =
 
 module _ (a : Extent) (maxes : List ℕ) (own : ℕ) (ms : List Member) (i k : ℕ) (d : Member) (b : Bot) (found : position (λ (m : Member). nat_eq m.id i) ms ≡ Some k) where
   -- a site stays one
-  pub site_with_now : IsSite a maxes own ms → IsPlain b → IsSite a maxes own (set ms k (with_now (get_or ms k d) b))
+  pub site_with_now : IsSite a maxes own ms → IsBotInRange b → IsSite a maxes own (set ms k (with_now (get_or ms k d) b))
   site_with_now is plain =
       let same = sym (found_with_now a maxes ms k d b) in
       record {
         rising = rising_with_now ms k d b is.rising;
-        plain = All-set (λ (m : Member). IsPlain m.now) ms k (with_now (get_or ms k d) b) plain is.plain;
+        plain = All-set (λ (m : Member). IsBotInRange m.now) ms k (with_now (get_or ms k d) b) plain is.plain;
         there = ap (λ (c : Config). is_some (bot_at c own)) (set_bot_of a maxes ms i k d b found) ∙ same_ids (config_now a maxes ms) i (get_or ms k d).now b (bot_placed (λ (m : Member). m.now) a maxes ms i k d found) own ∙ is.there;
         few = subst (λ n. n ≤ 9) (sym (length-set ms k (with_now (get_or ms k d) b))) is.few;
         was_shown = subst (λ (c : Config). IsShown (shown c own)) same is.was_shown;
@@ -237,5 +237,5 @@ near_site a maxes own ms v is inside =
     let area : is.was_shown.0.area ≡ a = ap (λ (s : Shown). s.area) is.was_shown.3 in
     near_in a v (subst IsArea area is.was_shown.1.area) inside
 
-pub near_own : (b : Bot) (v : Node) → IsPlain b → is_own b v ≡ true → IsNear v
+pub near_own : (b : Bot) (v : Node) → IsBotInRange b → is_own b v ≡ true → IsNear v
 near_own b v plain own = elim (own_cases b v own) [ inl h ↦ subst IsNear h plain.head | inr t ↦ subst IsNear t plain.tail ]

@@ -15,7 +15,7 @@ use Rattle.amoebot_state.specs.declared.cell.Cell.{Cell}
 use Rattle.amoebot_state.specs.declared.cell.Cell.TheVariants as cell
 use Rattle.amoebot_state.specs.Configs.{Config, IsValid, bot_at}
 use Rattle.amoebot_state.specs.Laws.{is_body}
-use Rattle.amoebot_state.specs.Refusals.{IsPlain}
+use Rattle.amoebot_state.specs.Refusals.{IsBotInRange}
 use Rattle.amoebot_state.specs.Pairs.{body_in}
 use Rattle.amoebot_state.specs.Zones.{Shown, IsShown, shown, shown_alone, spread, with_id, zone}
 use Rattle.amoebot_state.proofs.Counts.{zone_has_at_most_nine_bodies}
@@ -166,7 +166,7 @@ module _ (c : Config) (i : ℕ) (b : Bot) (valid : IsValid c) (at : bot_at c i �
   pub site_gathered : IsSite c.area c.maxes i ms
   site_gathered = record {
     rising = some.rising;
-    plain = All-from_recursion (λ (m : Member). IsPlain m.now) ms (each (λ m fresh. subst IsPlain (sym fresh.1) (plain_bot (shown_alone (shown c i)) (alone_valid c i valid) m.id m.found fresh.0)) ms some.fresh);
+    plain = All-from_recursion (λ (m : Member). IsBotInRange m.now) ms (each (λ m fresh. subst IsBotInRange (sym fresh.1) (plain_bot (shown_alone (shown c i)) (alone_valid c i valid) m.id m.found fresh.0)) ms some.fresh);
     there = ap (λ (d : Config). is_some (bot_at d i)) now_is ∙ ap is_some (alone_own c i b at);
     few =
         let fit = length-members-le (zone c i) ms some.rising (each (λ m fresh. (alone_only c i m.id m.found fresh.0).1) ms some.fresh) in

@@ -16,7 +16,7 @@ use Rattle.amoebot_state.specs.Pairs.{cell_of}
 use Rattle.amoebot_state.specs.Configs.{Config, value}
 use Rattle.amoebot_state.specs.Patches.{IsOrdered, diff, changed, rank, same_value}
 use Rattle.amoebot_state.proofs.Members.{Has, here, map_has, filter_map_has, Has-append_left}
-use Rattle.amoebot_state.proofs.Rising.{Rising, none, more, Rising-append, Rising-map, Rising-filter_map, Rising-weaker, Rising-range, range_below}
+use Rattle.amoebot_state.proofs.RisingLists.{Rising, none, more, Rising-append, Rising-map, Rising-filter_map, Rising-weaker, Rising-range, range_below}
 
 -- numbers that rise do so from one to the next
 pub increasing-from_Rising : {A : Type 0} (key : A → ℕ) (xs : List A) → Rising key xs → IsStrictlyIncreasing (map key xs)

@@ -23,4 +23,8 @@ DecidesByActs f = (s : Shown) (change : Change) → IsShown s → f s ≡ verdic
 
 -- and by acts with the guard on
 abbrev pub DecidesGuarded : (Shown → Verdict) → Type 0
-DecidesGuarded f = (s : Shown) (change : Change) → IsShown s → f s ≡ verdict.Change change → (by : ActsFor s change.patch) × (by.acts.guard ≡ true)
+DecidesGuarded f =
+    (s : Shown) (change : Change)
+    → IsShown s
+    → f s ≡ verdict.Change change
+    → (by : ActsFor s change.patch) × (by.acts.guard ≡ true)

@@ -22,7 +22,7 @@ use Rattle.amoebot_state.specs.Pairs.{cell_of, cell_value}
 use Rattle.amoebot_state.specs.Patches.{IsPatched, IsOrdered, diff}
 use Rattle.amoebot_state.specs.Ports.{behind, end_node, global}
 use Rattle.amoebot_state.specs.Zones.{Shown, IsShown, zone, shown, shown_alone}
-use Rattle.amoebot_state.specs.Steps.{Step, TouchesZone, HasNext, IsExact}
+use Rattle.amoebot_state.specs.Steps.{Step, TouchesZone, HasPatchedWorld, ListsDifferences}
 use Rattle.model_ops.specs.declared.peer.Peer.{Peer}
 use Rattle.model_ops.specs.Operations.{write, peer, expand, contract, push, pull}
 use Rattle.model_ops.specs.Reaches.{Writing, Acts, Reaches, write_all, move, perform}
@@ -41,11 +41,19 @@ pub record LooksBack (c : Config) (i : ℕ) (p : Port) (seen : Peer) : Type 0 wh
   pub by : occupant c (behind (bot_of c i) p) ≡ Some peer_id
   pub below : seen.dir < 6
   pub back : step (behind (bot_of c i) p) (global (bot_of c peer_id) seen.dir) ≡ end_node (bot_of c i) p.end
-  pub alone : (k : ℕ) → k < 6 → step (behind (bot_of c i) p) (global (bot_of c peer_id) k) ≡ end_node (bot_of c i) p.end → k ≡ seen.dir
+  pub alone : (k : ℕ)
+      → k < 6
+      → step (behind (bot_of c i) p) (global (bot_of c peer_id) k) ≡ end_node (bot_of c i) p.end
+      → k ≡ seen.dir
   pub at_head : seen.expanded ≡ false → seen.at_head ≡ true
 
 abbrev pub PeerLooksBack : Type 0
-PeerLooksBack = (c : Config) (i : ℕ) (p : Port) (seen : Peer) → IsValid c → IsSome (bot_at c i) → peer c i p ≡ Ok seen → LooksBack c i p seen
+PeerLooksBack =
+    (c : Config) (i : ℕ) (p : Port) (seen : Peer)
+    → IsValid c
+    → IsSome (bot_at c i)
+    → peer c i p ≡ Ok seen
+    → LooksBack c i p seen
 
 -- d is valid, differs from c in its amoebots at most, has the same ids, and holds what c holds in each cell that is not of the
 -- zone of i
@@ -66,15 +74,41 @@ StaysConnected c d = IsConnected (occupied c) → IsConnected (occupied d)
 
 -- each operation that changes a valid configuration and succeeds leaves its occupied nodes connected; Contract does with the guard
 pub record OperationsKeepConnected : Type 0 where
-  pub writes : (c : Config) (i : ℕ) (p : Option Port) (x : ℕ) (s : ℤ) (d : Config) → IsValid c → IsSome (bot_at c i) → write c i p x s ≡ Ok d → StaysConnected c d
-  pub expands : (c : Config) (i : ℕ) (p : Port) (d : Config) → IsValid c → IsSome (bot_at c i) → expand c i p ≡ Ok d → StaysConnected c d
-  pub contracts : (c : Config) (i : ℕ) (e : End) (d : Config) → IsValid c → IsSome (bot_at c i) → contract c i true e ≡ Ok d → StaysConnected c d
-  pub pushes : (c : Config) (i : ℕ) (p : Port) (d : Config) → IsValid c → IsSome (bot_at c i) → push c i p ≡ Ok d → StaysConnected c d
-  pub pulls : (c : Config) (i : ℕ) (p : Port) (d : Config) → IsValid c → IsSome (bot_at c i) → pull c i p ≡ Ok d → StaysConnected c d
+  pub writes : (c : Config) (i : ℕ) (p : Option Port) (x : ℕ) (s : ℤ) (d : Config)
+      → IsValid c
+      → IsSome (bot_at c i)
+      → write c i p x s ≡ Ok d
+      → StaysConnected c d
+  pub expands : (c : Config) (i : ℕ) (p : Port) (d : Config)
+      → IsValid c
+      → IsSome (bot_at c i)
+      → expand c i p ≡ Ok d
+      → StaysConnected c d
+  pub contracts : (c : Config) (i : ℕ) (e : End) (d : Config)
+      → IsValid c
+      → IsSome (bot_at c i)
+      → contract c i true e ≡ Ok d
+      → StaysConnected c d
+  pub pushes : (c : Config) (i : ℕ) (p : Port) (d : Config)
+      → IsValid c
+      → IsSome (bot_at c i)
+      → push c i p ≡ Ok d
+      → StaysConnected c d
+  pub pulls : (c : Config) (i : ℕ) (p : Port) (d : Config)
+      → IsValid c
+      → IsSome (bot_at c i)
+      → pull c i p ≡ Ok d
+      → StaysConnected c d
 
 -- so does an activation with the guard on
 abbrev pub ReachedStaysConnected : Type 0
-ReachedStaysConnected = (c : Config) (i : ℕ) (acts : Acts) (d : Config) → IsValid c → IsSome (bot_at c i) → acts.guard ≡ true → perform c i acts ≡ Ok d → StaysConnected c d
+ReachedStaysConnected =
+    (c : Config) (i : ℕ) (acts : Acts) (d : Config)
+    → IsValid c
+    → IsSome (bot_at c i)
+    → acts.guard ≡ true
+    → perform c i acts ≡ Ok d
+    → StaysConnected c d
 
 -- and with the guard off some Contract splits a connected shape, which the guard refuses
 pub record UnguardedSplits : Type 0 where
@@ -107,7 +141,8 @@ pub record MeetsTheSame (i : ℕ) (c d : Config) : Type 0 where
 
 -- so it is on each two valid configurations that show the same
 abbrev pub ShownMeetsTheSame : Type 0
-ShownMeetsTheSame = (c d : Config) (i : ℕ) → IsValid c → IsValid d → IsSome (bot_at c i) → shown d i ≡ shown c i → MeetsTheSame i c d
+ShownMeetsTheSame =
+    (c d : Config) (i : ℕ) → IsValid c → IsValid d → IsSome (bot_at c i) → shown d i ≡ shown c i → MeetsTheSame i c d
 
 -- the difference of d to c is in the order of a patch, with at most one node; each cell that it lists differs, and is one of the zone
 -- of i
@@ -130,19 +165,36 @@ pub record LeadsAlso (c : Config) (i : ℕ) (acts : Acts) (to d : Config) : Type
 
 -- so it is with each valid configuration that shows the same
 abbrev pub ReachedLeadsAlso : Type 0
-ReachedLeadsAlso = (c d : Config) (i : ℕ) (acts : Acts) (to : Config) → IsValid c → IsValid d → IsSome (bot_at c i) → shown d i ≡ shown c i → perform c i acts ≡ Ok to → LeadsAlso c i acts to d
+ReachedLeadsAlso =
+    (c d : Config) (i : ℕ) (acts : Acts) (to : Config)
+    → IsValid c
+    → IsValid d
+    → IsSome (bot_at c i)
+    → shown d i ≡ shown c i
+    → perform c i acts ≡ Ok to
+    → LeadsAlso c i acts to d
 
 -- a working copy is one from the first; writes leave it unmoved, and a movement leaves it a working copy
 pub record CopiesWork : Type 0 where
   pub opens : (s : Shown) → IsShown s → IsWorking (opened s) × IsUnmoved (opened s)
-  pub writes : (w : WorkingCopy) (p : Option Port) (x : ℕ) (s : ℤ) (d : Config) → IsWorking w → IsUnmoved w → write w.reached (own_id w) p x s ≡ Ok d → IsWorking (record w { reached = d }) × IsUnmoved (record w { reached = d })
-  pub moves : (w : WorkingCopy) (guard : Bool) (m : Moved) (d : Config) → IsWorking w → IsUnmoved w → move w.reached (own_id w) guard m ≡ Ok d → IsWorking (record w { reached = d })
+  pub writes : (w : WorkingCopy) (p : Option Port) (x : ℕ) (s : ℤ) (d : Config)
+      → IsWorking w
+      → IsUnmoved w
+      → write w.reached (own_id w) p x s ≡ Ok d
+      → IsWorking (record w { reached = d }) × IsUnmoved (record w { reached = d })
+  pub moves : (w : WorkingCopy) (guard : Bool) (m : Moved) (d : Config)
+      → IsWorking w
+      → IsUnmoved w
+      → move w.reached (own_id w) guard m ≡ Ok d
+      → IsWorking (record w { reached = d })
 
 -- a working copy stands for a configuration: acts that lead to what the copy reached lead from there to one other configuration; the
 -- copy's changes lead there, and are the difference there; as long as the copy is unmoved, the operations answer alike on both
 pub record StandsFor (w : WorkingCopy) (d : Config) : Type 0 where
   pub reached : Config
-  pub same_acts : (acts : Acts) → perform (shown_alone w.found) (own_id w) acts ≡ Ok w.reached → perform d (own_id w) acts ≡ Ok reached
+  pub same_acts : (acts : Acts)
+      → perform (shown_alone w.found) (own_id w) acts ≡ Ok w.reached
+      → perform d (own_id w) acts ≡ Ok reached
   pub patched : IsPatched d (changes w) reached
   pub same_changes : diff d reached ≡ changes w
   pub alike : IsUnmoved w → AnswersAlike (own_id w) w.reached reached
@@ -153,8 +205,13 @@ CopyStandsForWorlds = (w : WorkingCopy) (d : Config) → IsWorking w → IsValid
 
 -- what decides by acts keeps the three laws of deciders
 abbrev pub ActsKeepDeciderLaws : Type 0
-ActsKeepDeciderLaws = (f : Shown → Verdict) → DecidesByActs f → TouchesZone f × HasNext f × IsExact f
+ActsKeepDeciderLaws = (f : Shown → Verdict) → DecidesByActs f → TouchesZone f × HasPatchedWorld f × ListsDifferences f
 
 -- and with the guard on, a step from a valid configuration leaves the occupied nodes connected
 abbrev pub GuardedDecidersStayConnected : Type 0
-GuardedDecidersStayConnected = (f : Shown → Verdict) (old : Config) (e : Entry) (new : Config) → DecidesGuarded f → IsValid old → Step f old e new → StaysConnected old new
+GuardedDecidersStayConnected =
+    (f : Shown → Verdict) (old : Config) (e : Entry) (new : Config)
+    → DecidesGuarded f
+    → IsValid old
+    → Step f old e new
+    → StaysConnected old new

@@ -7,3 +7,10 @@ pub mod Members
 pub mod Sites
 pub mod Laws
 pub mod Expansion
+pub use Rattle.amoebot_state.specs.Configs
+pub use Rattle.amoebot_state.specs.Limits
+pub use Rattle.amoebot_state.specs.Occupied
+pub use Rattle.amoebot_state.specs.Ports
+pub use Rattle.amoebot_state.specs.Refusals
+pub use Rattle.amoebot_state.specs.Zones
+pub use Rattle.tri_lattice.specs.Extent

@@ -15,7 +15,7 @@ use Rattle.amoebot_state.specs.declared.bot.Port.{Port}
 use Rattle.amoebot_state.specs.Ports.{is_own, is_port, all_ports, behind}
 use Rattle.amoebot_state.specs.Configs.{Config, bot_at, bot_of, occupant}
 use Rattle.amoebot_state.specs.Patches.{id_eq, bot_eq}
-use Rattle.amoebot_state.specs.Refusals.{IsPlain}
+use Rattle.amoebot_state.specs.Refusals.{IsBotInRange}
 use Rattle.amoebot_state.specs.Zones.{Shown, IsShown, spread, shown, shown_alone}
 use Rattle.model_ops.specs.declared.member.Member.{Member}
 use Rattle.model_ops.specs.WorkingCopies.{WorkingCopy}
@@ -62,7 +62,7 @@ most_members = 9
 -- are what some valid configuration showed to the amoebot
 pub record IsSite (a : Extent) (maxes : List ℕ) (own : ℕ) (ms : List Member) : Type 0 where
   pub rising : AreRising ms
-  pub plain : All (λ (m : Member). IsPlain m.now) ms
+  pub plain : All (λ (m : Member). IsBotInRange m.now) ms
   pub there : IsSome (bot_at (config_now a maxes ms) own)
   pub few : length ms ≤ most_members
   pub was_shown : IsShown (shown (config_found a maxes ms) own)

@@ -41,6 +41,6 @@ abbrev pub changes : WorkingCopy → Pairs
 changes w = diff (shown_alone w.found) w.reached
 
 -- the copy after an operation on it: where that succeeds, its configuration is reached; a failure leaves the copy as it is
-abbrev pub after : WorkingCopy → Result Config Failure → WorkingCopy
-after w (Ok d) = record w { reached = d }
-after w (Err f) = w
+abbrev pub copy_after : WorkingCopy → Result Config Failure → WorkingCopy
+copy_after w (Ok d) = record w { reached = d }
+copy_after w (Err f) = w

@@ -1,4 +1,7 @@
-ghost use Rattle.model_ops.specs.Laws.{OneArcTestIsOneArc, ReachedKeepsRest, ReachedDiffIsExact, ReachedLeadsAlso, ShownMeetsTheSame, OperationsKeepConnected, ReachedStaysConnected, UnguardedSplits, PeerLooksBack, CopiesWork, CopyStandsForWorlds, ActsKeepDeciderLaws, GuardedDecidersStayConnected};
+ghost use Rattle.model_ops.specs.Laws.{OneArcTestIsOneArc, ReachedKeepsRest, ReachedDiffIsExact, ReachedLeadsAlso};
+ghost use Rattle.model_ops.specs.Laws.{ShownMeetsTheSame, OperationsKeepConnected, ReachedStaysConnected};
+ghost use Rattle.model_ops.specs.Laws.{UnguardedSplits, PeerLooksBack, CopiesWork, CopyStandsForWorlds};
+ghost use Rattle.model_ops.specs.Laws.{ActsKeepDeciderLaws, GuardedDecidersStayConnected};
 
 /// The test of one arc answers whether a ring is one arc.
 pub fn one_arc_test_is_one_arc()

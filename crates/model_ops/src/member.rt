@@ -77,7 +77,8 @@ fn add(members: &mut ArrayVec<Member, ROOM>, id: u16, bot: &Bot)
 /// Adds the occupant behind a port, if it has one that is new.
 fn add_neighbour(members: &mut ArrayVec<Member, ROOM>, found: &Found, port: Port)
     requires { array_vec_len members.old < ROOM }
-    ensures value { members.new.items ≡ with_neighbour (shown_alone found.now) (bot_of (shown_alone found.now) found.now.bot) members.old.items port }
+    ensures value { members.new.items
+        ≡ with_neighbour (shown_alone found.now) (bot_of (shown_alone found.now) found.now.bot) members.old.items port }
     ensures few { array_vec_len members.new ≤ array_vec_len members.old + 1 }
 {
     let own = found.own();

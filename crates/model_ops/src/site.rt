@@ -2,15 +2,16 @@ ghost use Rattle.std.specs.Prelude.{◌≡◌, ◌<◌, ℕ, is_some, IsSome, Is
 ghost use Rattle.amoebot_state.specs.Limits.{most_vars};
 ghost use Rattle.amoebot_state.specs.Configs.{bot_at, occupant, set_bot};
 ghost use Rattle.amoebot_state.specs.Ports.{is_port, behind};
-ghost use Rattle.amoebot_state.specs.Refusals.{IsPlain};
+ghost use Rattle.amoebot_state.specs.Refusals.{IsBotInRange};
 ghost use Rattle.tri_lattice.specs.Extent.{is_in};
 ghost use Rattle.tri_lattice.specs.Lattice.{IsNear};
 ghost use Rattle.ring_guard.specs.Rings.{ring_in};
 ghost use Rattle.amoebot_state.specs.Occupied.{occupied};
-ghost use Rattle.model_ops.specs.Operations.{need, connected, is_free, is_free_node, owner, read, write, is_value, peer, seen_over, expand, contract, push, pull, may_leave, grow, shrink};
+ghost use Rattle.model_ops.specs.Operations.{need, connected, is_free, is_free_node, owner, read, write, is_value};
+ghost use Rattle.model_ops.specs.Operations.{peer, seen_over, expand, contract, push, pull, may_leave, grow, shrink};
 ghost use Rattle.model_ops.specs.Reaches.{Reaches};
 ghost use Rattle.amoebot_state.specs.Zones.{shown_alone};
-ghost use Rattle.model_ops.specs.WorkingCopies.{opened, own_id, own_bot, after, changes};
+ghost use Rattle.model_ops.specs.WorkingCopies.{opened, own_id, own_bot, copy_after, changes};
 ghost use Rattle.model_ops.specs.Sites.{done};
 
 use crate::changes::changed_cells;
@@ -97,7 +98,7 @@ impl Site {
     pub fn write(&mut self, port: Option<Port>, var: u8, value: i32) -> Result<(), Failure>
         requires { var < most_vars }
         ensures value { result ≡ done (write self.old.reached (own_id self.old) port var value) }
-        ensures after { self.new ≡ after self.old (write self.old.reached (own_id self.old) port var value) }
+        ensures after { self.new ≡ copy_after self.old (write self.old.reached (own_id self.old) port var value) }
     {
         let id = self.owner(port)?;
         let stored = self.stored(var, value)?;
@@ -111,7 +112,7 @@ impl Site {
     /// node is outside the area; Occupied.
     pub fn expand(&mut self, port: Port) -> Result<(), Failure>
         ensures value { result ≡ done (expand self.old.reached (own_id self.old) port) }
-        ensures after { self.new ≡ after self.old (expand self.old.reached (own_id self.old) port) }
+        ensures after { self.new ≡ copy_after self.old (expand self.old.reached (own_id self.old) port) }
     {
         let own = self.own();
         if !own.is_contracted() {
@@ -132,7 +133,7 @@ impl Site {
     /// guard is on and the occupied nodes round the node, of which its other one is one, are not one arc.
     pub fn contract(&mut self, end: End, guard: bool) -> Result<(), Failure>
         ensures value { result ≡ done (contract self.old.reached (own_id self.old) guard end) }
-        ensures after { self.new ≡ after self.old (contract self.old.reached (own_id self.old) guard end) }
+        ensures after { self.new ≡ copy_after self.old (contract self.old.reached (own_id self.old) guard end) }
     {
         let own = self.own();
         if own.is_contracted() {
@@ -150,7 +151,7 @@ impl Site {
     /// PeerNotExpanded, the neighbour is contracted.
     pub fn push(&mut self, port: Port) -> Result<(), Failure>
         ensures value { result ≡ done (push self.old.reached (own_id self.old) port) }
-        ensures after { self.new ≡ after self.old (push self.old.reached (own_id self.old) port) }
+        ensures after { self.new ≡ copy_after self.old (push self.old.reached (own_id self.old) port) }
     {
         if !self.own().is_contracted() {
             return Err(Failure::NotContracted);
@@ -170,7 +171,7 @@ impl Site {
     #[tactic(auto, using(crate::proofs::Answered::neighbour_next))]
     pub fn pull(&mut self, port: Port) -> Result<(), Failure>
         ensures value { result ≡ done (pull self.old.reached (own_id self.old) port) }
-        ensures after { self.new ≡ after self.old (pull self.old.reached (own_id self.old) port) }
+        ensures after { self.new ≡ copy_after self.old (pull self.old.reached (own_id self.old) port) }
     {
         if self.own().is_contracted() {
             return Err(Failure::NotExpanded);
@@ -206,7 +207,7 @@ impl Site {
     /// The amoebot itself, as it is now.
     pub fn own(&self) -> &Bot
         ensures value { bot_at self.now.reached (own_id self.now) ≡ Some result.now }
-        ensures plain { IsPlain result.now }
+        ensures plain { IsBotInRange result.now }
     {
         self.bot(self.own)
     }
@@ -215,7 +216,7 @@ impl Site {
     fn bot(&self, id: u16) -> &Bot
         requires { IsSome (bot_at self.now.reached id) }
         ensures value { bot_at self.now.reached id ≡ Some result.now }
-        ensures plain { IsPlain result.now }
+        ensures plain { IsBotInRange result.now }
     {
         let place = place_of(self.members.as_slice(), id);
         &self.members[place].now
@@ -342,7 +343,7 @@ impl Site {
     /// Puts another amoebot in the place of the one with an id.
     fn put(&mut self, id: u16, bot: Bot)
         requires there { IsSome (bot_at self.old.reached id) }
-        requires plain { IsPlain bot }
+        requires plain { IsBotInRange bot }
         ensures { self.new ≡ record self.old { reached = set_bot self.old.reached id bot } }
     {
         let place = place_of(self.members.as_slice(), id);
@@ -352,9 +353,9 @@ impl Site {
 
 /// What an amoebot sees of a neighbour over the edge behind its port.
 fn seen_over(own: &Bot, port: Port, other: &Bot) -> Peer
-    requires own { IsPlain own.now }
+    requires own { IsBotInRange own.now }
     requires port { IsTrue (is_port own.now port) }
-    requires other { IsPlain other.now }
+    requires other { IsBotInRange other.now }
     ensures { result ≡ seen_over own.now port other.now }
 {
     Peer {

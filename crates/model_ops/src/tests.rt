@@ -2,11 +2,11 @@ ghost use Rattle.std.specs.Prelude.{◌≡◌, ◌<◌, ◌≤◌, length};
 ghost use Rattle.std.specs.List.{All};
 ghost use Rattle.tri_lattice.specs.Lattice.{IsNear};
 ghost use Rattle.amoebot_state.specs.Limits.{most_bots};
-ghost use Rattle.amoebot_state.specs.Refusals.{IsPlain};
+ghost use Rattle.amoebot_state.specs.Refusals.{IsBotInRange};
 ghost use Rattle.amoebot_state.specs.declared.verdict.Failure.{Failure};
 ghost use Rattle.model_ops.specs.Reaches.{move};
 ghost use Rattle.model_ops.specs.Sites.{done};
-ghost use Rattle.model_ops.specs.WorkingCopies.{IsUnmoved, own_id, after};
+ghost use Rattle.model_ops.specs.WorkingCopies.{IsUnmoved, own_id, copy_after};
 
 use crate::{Peer, Site};
 use amoebot_state::{Bot, Cell, CellName, Chir, End, Failure, Found, Moved, Patch, Port, World};
@@ -19,13 +19,13 @@ const MAXES: [u8; 8] = [3, 0, 0, 0, 0, 0, 0, 0];
 
 /// An amoebot with rotation 0 that goes round as the global directions, by its head and its tail.
 fn bot(head: (u8, u8), tail: (u8, u8)) -> Bot
-    ensures { IsPlain result }
+    ensures { IsBotInRange result }
 {
     turned_bot(head, tail, 0, Chir::Plus)
 }
 
 fn turned_bot(head: (u8, u8), tail: (u8, u8), rot: u8, chir: Chir) -> Bot
-    ensures { IsPlain result }
+    ensures { IsBotInRange result }
 {
     Bot {
         head: node(head),
@@ -63,7 +63,7 @@ const fn tail(dir: u8) -> Port {
 fn found(alloc: Global, bots: &[Bot]) -> Result<Found, Fail>
     requires some { 0 < length bots.now }
     requires few { length bots.now ≤ most_bots }
-    requires plain { All IsPlain bots.now }
+    requires plain { All IsBotInRange bots.now }
 {
     let area = Area::new(0, 0, 8, 8).ok_or("an area")?;
     let world = World::new(alloc, area, MAXES, bots)?;
@@ -93,7 +93,7 @@ fn write_first(site: &mut Site, port: Option<Port>, value: i32) -> Result<(), Fa
 
 fn carry_out(site: &mut Site, moved: Moved, guard: bool) -> Result<(), Failure>
     ensures value { result ≡ done (move site.old.reached (own_id site.old) guard moved) }
-    ensures after { site.new ≡ after site.old (move site.old.reached (own_id site.old) guard moved) }
+    ensures after { site.new ≡ copy_after site.old (move site.old.reached (own_id site.old) guard moved) }
 {
     match moved {
         Moved::None => Ok(()),

@@ -7,7 +7,7 @@ use Rattle.amoebot_state.specs.Zones.{Shown}
 use Rattle.claim_core.specs.declared.marks.Mark.{Mark}
 use Rattle.claim_core.specs.declared.state.Caller.{Caller}
 use Rattle.claim_core.specs.Limits.{most_turns}
-use Rattle.claim_core.specs.Machine.{Setup, found, next_of, decided, opens, refused, caller}
+use Rattle.claim_core.specs.Machine.{Setup, found, next_of, phase_of_verdict, opening_phase, busy_mark, caller}
 use Rattle.claim_rule.specs.Plays.{IsOthers, about, bot_in}
 use Rattle.claim_rule.specs.Tokens.{Token, RefusedOf, refused_of, number_in, doing, goes}
 
@@ -18,7 +18,7 @@ AreInOrder g b (p ∷ held) = (next_of g b held ≡ Some (cell_of p)) × AreInOr
 
 -- a caller that holds nothing, after this turn
 abbrev pub at_next : Setup → ℕ → List Mark → Caller
-at_next g t marks = caller (t + 1) (opens g (t + 1)) [] marks
+at_next g t marks = caller (t + 1) (opening_phase g (t + 1)) [] marks
 
 module _ {D : Type 0} (verdict : D → Shown → Verdict) where
   -- the zone was claimed in its order and is held, the whole of it and nothing more, with the values that were read and the
@@ -27,7 +27,11 @@ module _ {D : Type 0} (verdict : D → Shown → Verdict) where
     pub held : Pairs
     pub in_order : AreInOrder (about verdict old.view) (bot_in verdict old.view) held
     pub whole : next_of (about verdict old.view) (bot_in verdict old.view) held ≡ None
-    pub now : new ≡ goes old (record (doing old) { phase = decided ((about verdict old.view).verdict (found (about verdict old.view) (bot_in verdict old.view) held)); held = held })
+    pub now : new
+        ≡ goes old (record (doing old) {
+          phase = phase_of_verdict ((about verdict old.view).verdict (found (about verdict old.view) (bot_in verdict old.view) held));
+          held = held;
+        })
 
   -- cells were won in zone order, and at the next one another caller's tag was found; all of them are free again, and the turn has
   -- the mark that says so, and no other step was made
@@ -39,7 +43,10 @@ module _ {D : Type 0} (verdict : D → Shown → Verdict) where
     pub other : IsOthers (about verdict old.view) (number_in old) tag
     pub told : by ≡ refused_of (number_in old) (doing old).turn by.cell tag by.place
     pub few : by.place ≤ most_turns
-    pub now : new ≡ goes old (at_next (about verdict old.view) (doing old).turn ((doing old).marks ++ refused by.cell tag by.place ∷ []))
+    pub now : new
+        ≡ goes old
+        (at_next (about verdict old.view) (doing old).turn
+        ((doing old).marks ++ busy_mark by.cell tag by.place ∷ []))
 
   -- a caller that frees all that it holds is at its next turn, where it holds anything
   abbrev pub freed_by : Token D → Pairs → Token D

@@ -1,7 +1,7 @@
 ghost use Rattle.std.specs.Prelude.{◌≡◌, ◌≤◌, ◌<◌, IfOk, IfErr};
 ghost use Rattle.claim_core.specs.Limits.{most_turns};
 ghost use Rattle.claim_rule.specs.Plays.{about, bot_in, marked_at};
-ghost use Rattle.claim_rule.specs.Tokens.{IsOf, IsToLook, IsMarked, number_in, doing, goes, seen_of};
+ghost use Rattle.claim_rule.specs.Tokens.{IsOf, IsToLook, IsMarked, number_in, doing, goes, placed_turn};
 ghost use Rattle.node_claims.specs.Claims.{IsClaimed, WasRefused, at_next, freed_all};
 
 use amoebot_state::Decider;
@@ -43,7 +43,7 @@ pub fn place<D: Decider>(claimed: &mut Claimed<D>, field: &Field<'_, D>) -> Seen
     requires looks { IsToLook claimed.old }
     ensures marked { claimed.new ≡ goes claimed.old (marked_at (about D.verdict claimed.old.view) (doing claimed.old) result.place) }
     ensures frees { IsMarked claimed.new }
-    ensures told { result ≡ seen_of (number_in claimed.old) (doing claimed.old).turn result.place }
+    ensures told { result ≡ placed_turn (number_in claimed.old) (doing claimed.old).turn result.place }
     ensures few { result.place ≤ most_turns }
 {
     look(claimed, field)

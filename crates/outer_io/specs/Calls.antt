@@ -9,7 +9,11 @@ Calls passes fails old new answer piece = MatchResult answer (λ count. passes o
 -- these bytes passed in calls one after another, at least one in each, of which none failed, and there was no other call
 pub data Passed {T : Type 0} (passes : T → List ℕ → T → Type 0) (first : T) : List ℕ → T → Type 0 where
   none : Passed passes first [] first
-  more : {bytes piece : List ℕ} {mid last : T} → Passed passes first bytes mid → 0 < length piece → passes mid piece last → Passed passes first (bytes ++ piece) last
+  more : {bytes piece : List ℕ} {mid last : T}
+      → Passed passes first bytes mid
+      → 0 < length piece
+      → passes mid piece last
+      → Passed passes first (bytes ++ piece) last
 
 -- these bytes passed in calls one after another, and then none did in one call, which was the last
 pub record PassedToEnd {T : Type 0} (passes : T → List ℕ → T → Type 0) (first : T) (bytes : List ℕ) (last : T) : Type 0 where
@@ -18,7 +22,8 @@ pub record PassedToEnd {T : Type 0} (passes : T → List ℕ → T → Type 0) (
   pub ended : passes before [] last
 
 -- these bytes passed in calls one after another, and then a call failed, which was the last
-pub record PassedUpToFault {T : Type 0} (passes : T → List ℕ → T → Type 0) (fails : T → T → Type 0) (first : T) (bytes : List ℕ) (last : T) : Type 0 where
+pub record PassedUpToFault {T : Type 0} (passes : T → List ℕ → T → Type 0) (fails : T → T → Type 0)
+    (first : T) (bytes : List ℕ) (last : T) : Type 0 where
   pub before : T
   pub passed : Passed passes first bytes before
   pub failed : fails before last

@@ -10,5 +10,5 @@ abbrev pub most_faults : ℕ
 most_faults = 2 ^ 64 - 1
 
 -- a count after one more fault: the last value stays
-abbrev pub one_more : ℕ → ℕ
-one_more count = min (count + 1) most_faults
+abbrev pub raised_count : ℕ → ℕ
+raised_count count = min (count + 1) most_faults

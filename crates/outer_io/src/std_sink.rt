@@ -1,7 +1,7 @@
 ghost use Rattle.std.specs.Prelude.{◌≡◌, ◌<◌, ◌≤◌, length, IfOk, OnOk, OnErr};
 ghost use Rattle.std.specs.declared.option.Option.TheVariants.{None};
 ghost use Rattle.std.specs.Io.KnownBytes.{WriteAppends, Appends, Keeps};
-ghost use Rattle.outer_io.specs.Counted.{one_more};
+ghost use Rattle.outer_io.specs.Counted.{raised_count};
 
 use crate::errors::Failed;
 use crate::writing::Sink;
@@ -39,7 +39,7 @@ impl<T: Write + Drop> Sink for StdSink<T> {
 
     ghost takes = { λ old bytes new. Appends (T.contents old.inner) (T.contents new.inner) bytes × (new.faults ≡ old.faults) };
 
-    ghost fails = { λ old new. Keeps (T.contents old.inner) (T.contents new.inner) × (new.faults ≡ one_more old.faults) };
+    ghost fails = { λ old new. Keeps (T.contents old.inner) (T.contents new.inner) × (new.faults ≡ raised_count old.faults) };
 
     /// Writes once. An error of the writer, or a write that took nothing, raises the count, which stays once it
     /// stands at its last value.
@@ -49,7 +49,7 @@ impl<T: Write + Drop> Sink for StdSink<T> {
         ensures bytes { WriteAppends (T.contents self.old.inner) (T.contents self.new.inner) result piece.now }
         ensures never_falls { self.old.faults ≤ self.new.faults }
         ensures ok { OnOk result (self.new.faults ≡ self.old.faults) }
-        ensures err { OnErr result (self.new.faults ≡ one_more self.old.faults) }
+        ensures err { OnErr result (self.new.faults ≡ raised_count self.old.faults) }
     {
         match self.writer.write(piece) {
             Ok(taken) if taken > 0 => Ok(taken),

@@ -2,7 +2,7 @@ ghost use Rattle.std.specs.Prelude.{◌≡◌, ◌<◌, ◌≤◌, length, OnOk,
 ghost use Rattle.std.specs.declared.option.Option.TheVariants.{None};
 ghost use Rattle.std.specs.Io.{ReadsAtMost};
 ghost use Rattle.std.specs.Io.KnownBytes.{ReadConsumes, Consumes, Keeps};
-ghost use Rattle.outer_io.specs.Counted.{one_more};
+ghost use Rattle.outer_io.specs.Counted.{raised_count};
 
 use crate::errors::Failed;
 use crate::reading::Source;
@@ -40,7 +40,7 @@ impl<T: Read + Drop> Source for StdSource<T> {
 
     ghost gives = { λ old bytes new. Consumes (T.remaining old.inner) (T.remaining new.inner) bytes × (new.faults ≡ old.faults) };
 
-    ghost fails = { λ old new. Keeps (T.remaining old.inner) (T.remaining new.inner) × (new.faults ≡ one_more old.faults) };
+    ghost fails = { λ old new. Keeps (T.remaining old.inner) (T.remaining new.inner) × (new.faults ≡ raised_count old.faults) };
 
     /// Reads once. An error of the reader raises the count, which stays once it stands at its last value.
     fn read(&mut self, piece: &mut [u8]) -> Result<usize, Failed>
@@ -49,7 +49,7 @@ impl<T: Read + Drop> Source for StdSource<T> {
         ensures bytes { ReadConsumes (T.remaining self.old.inner) (T.remaining self.new.inner) result piece.new }
         ensures never_falls { self.old.faults ≤ self.new.faults }
         ensures ok { OnOk result (self.new.faults ≡ self.old.faults) }
-        ensures err { OnErr result (self.new.faults ≡ one_more self.old.faults) }
+        ensures err { OnErr result (self.new.faults ≡ raised_count self.old.faults) }
     {
         match self.reader.read(piece) {
             Ok(count) => Ok(count),

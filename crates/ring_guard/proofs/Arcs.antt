@@ -7,13 +7,13 @@ use Rattle.tri_lattice.specs.Lattice.{step, Adjacent}
 use Rattle.tri_lattice.specs.Sets.{Joined, here, along, TakesOut}
 use Rattle.tri_lattice.proofs.Nodes.{Adjacent-sym, cases_node, each_direction, next_neighbours_meet, step_leaves}
 use Rattle.tri_lattice.proofs.Paths.{Joined-first, Joined-trans, Joined-sym}
-use Rattle.ring_guard.specs.Rings.{entry, IsOneArc, ring_in}
+use Rattle.ring_guard.specs.Rings.{ring_entry, IsOneArc, ring_in}
 use Rattle.ring_guard.specs.Laws.{TakingKeeps, TakingLeaves, AloneIsAll}
 use Rattle.ring_guard.proofs.Tables.{reaches, linked}
 
 -- entry d of a ring is the test of the neighbour in direction d
-pub entry_in : (S : Node → Bool) (v : Node) (d : ℕ) → d < 6 → entry (ring_in S v) d ≡ S (step v d)
-entry_in S v = each_direction (λ d. entry (ring_in S v) d ≡ S (step v d)) refl refl refl refl refl refl
+pub entry_in : (S : Node → Bool) (v : Node) (d : ℕ) → d < 6 → ring_entry (ring_in S v) d ≡ S (step v d)
+entry_in S v = each_direction (λ d. ring_entry (ring_in S v) d ≡ S (step v d)) refl refl refl refl refl refl
 
 next_below : (i : ℕ) → (i + 1) % 6 < 6
 next_below i = omega arith

@@ -2,13 +2,13 @@
 use Rattle.std.proofs.Common.{◌≡◌, ℕ, suc, ◌-◌, ◌<◌, Bool, true, false, length, arith, refl, sym, subst, List}
 use Rattle.std.proofs.lemmas.List.{ext_get_or}
 use Rattle.std.proofs.Math.Bool.{beq}
-use Rattle.ring_guard.specs.Rings.{entry, row, IsOneArc, is_one_arc, IsRow}
+use Rattle.ring_guard.specs.Rings.{ring_entry, row, IsOneArc, is_one_arc, IsRow}
 use Rattle.ring_guard.specs.Laws.{ArcsAreRows}
 use Rattle.ring_guard.proofs.Tables.{each_list, each_below, each_below_at, some_below, some_below_at, implies, implies_at, beq-true, is_one_arc-true, IsOneArc-is_one_arc, ring_table}
 
 -- the ring is the row of suc k entries from one direction on
 abbrev is_row : List Bool → ℕ → ℕ → Bool
-is_row xs from k = each_below 6 (λ i. beq (entry xs i) (entry (row from (suc k)) i))
+is_row xs from k = each_below 6 (λ i. beq (ring_entry xs i) (ring_entry (row from (suc k)) i))
 
 arcs_row : each_list 6 (λ xs. implies (is_one_arc xs) (some_below 6 (λ from. some_below 6 (is_row xs from)))) ≡ true
 arcs_row = refl
@@ -27,7 +27,7 @@ row_of xs six arc =
       below = below;
       some = omega arith;
       most = omega arith;
-      is = ext_get_or false xs (row from (suc k)) six (λ i l. beq-true _ _ (each_below_at 6 (λ j. beq (entry xs j) (entry (row from (suc k)) j)) same i (omega arith)));
+      is = ext_get_or false xs (row from (suc k)) six (λ i l. beq-true _ _ (each_below_at 6 (λ j. beq (ring_entry xs j) (ring_entry (row from (suc k)) j)) same i (omega arith)));
     }
 
 arc_of : (from k : ℕ) → from < 6 → k < 6 → IsOneArc (row from (suc k))

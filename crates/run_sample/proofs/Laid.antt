@@ -18,7 +18,7 @@ use Rattle.amoebot_state.proofs.Added.{MayCome, valid_with, config_push}
 use Rattle.amoebot_state.proofs.Faults.{none_valid}
 use Rattle.amoebot_state.proofs.Options.{none_if}
 use Rattle.rand_pcg.specs.Lcg.{Lcg}
-use Rattle.run_sample.specs.Sample.{AreSample, Placed, none, more, Next, in_square, beside, is_taken, bot_on, memory, square_node, node_of, draw, drawn, sample_area, sample_maxes, IsInside}
+use Rattle.run_sample.specs.Sample.{AreSample, Placed, none, more, IsNextBot, in_square, beside, is_taken, bot_on, sample_memory, square_node, node_of, draw, drawn, sample_area, sample_maxes, IsInside}
 use Rattle.run_sample.proofs.Squares.{IsWithin, wider, within_inside, step_within, square_within, square_once, square_beside}
 use Rattle.run_sample.proofs.Drawn.{draw_below}
 use Rattle.run_sample.proofs.Taken.{taken_cases, taken_old, taken_new, puts_in, node_taken, beside_taken, occupied_push}
@@ -52,11 +52,11 @@ inside_in v w =
     let f = w.y_high in
     within_in sample_area v (record { x_low = omega (arith, ints); x_high = omega (arith, ints); y_low = omega (arith, ints); y_high = omega (arith, ints) })
 
-memory_fits : (id : ℕ) → IsTrue (has_values sample_maxes (memory id))
+memory_fits : (id : ℕ) → IsTrue (has_values sample_maxes (sample_memory id))
 memory_fits zero = refl
 memory_fits (suc n) = refl
 
-memory_eight : (id : ℕ) → length (memory id) ≡ 8
+memory_eight : (id : ℕ) → length (sample_memory id) ≡ 8
 memory_eight zero = refl
 memory_eight (suc n) = refl
 
@@ -131,7 +131,7 @@ square_meets bots laid lt = elim (cases_eq (length bots) 0) [
   | inr ne ↦ inl (let at = square_beside (length bots) lt ne in (square_node at.0, laid.filled at.0 at.1 (omega arith), at.2))
 ]
 
-next_laid : (bots : List Bot) (g : Lcg) (b : Bot) (h : Lcg) → length bots < 150 → IsLaid bots → Next bots g b h → IsLaid (bots ++ b ∷ [])
+next_laid : (bots : List Bot) (g : Lcg) (b : Bot) (h : Lcg) → length bots < 150 → IsLaid bots → IsNextBot bots g b h → IsLaid (bots ++ b ∷ [])
 next_laid bots g b h few laid (in_square lt) =
     laid_with bots (square_node (length bots)) (draw g 6) few (draw_below g 6 (omega arith)) laid (square_empty bots laid lt) (square_meets bots laid lt)
     (wider 0 (suc (length bots) - 100) (square_node (length bots)) (omega arith) (square_within (length bots) lt)) (λ _. refl)

@@ -1,6 +1,6 @@
 pub mod Drawn
-pub mod Coming
-pub mod Moving
+pub mod NextBotLemmas
+pub mod DirectionLemmas
 pub mod Fit
 pub mod Ids
 pub mod Squares

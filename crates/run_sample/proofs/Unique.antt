@@ -6,7 +6,7 @@ use Rattle.tri_lattice.specs.declared.node.Node.{Node}
 use Rattle.amoebot_state.specs.declared.bot.Bot.{Bot}
 use Rattle.amoebot_state.specs.Configs.{config_of}
 use Rattle.rand_pcg.specs.Lcg.{Lcg}
-use Rattle.run_sample.specs.Sample.{sample_area, sample_maxes, AreSample, Placed, none, more, Next, in_square, beside, is_taken, walked, bot_on, draw, drawn}
+use Rattle.run_sample.specs.Sample.{sample_area, sample_maxes, AreSample, Placed, none, more, IsNextBot, in_square, beside, is_taken, walked, bot_on, draw, drawn}
 use Rattle.run_sample.specs.Laws.{SampleIsUnique, FirstEmptyIsUnique}
 
 -- the node of two first empty ones that is nearer is taken, were it not the other
@@ -20,7 +20,7 @@ first_empty_is_unique bots from d u v one two = elim (cases_lt one.steps two.ste
 ]
 
 -- the amoebot that comes next, and the generator after it
-next_is_unique : (bots : List Bot) (g : Lcg) (a b : Bot) (h k : Lcg) → Next bots g a h → Next bots g b k → (a ≡ b) × (h ≡ k)
+next_is_unique : (bots : List Bot) (g : Lcg) (a b : Bot) (h k : Lcg) → IsNextBot bots g a h → IsNextBot bots g b k → (a ≡ b) × (h ≡ k)
 next_is_unique bots g a b h k (in_square lt) (in_square lt') = (refl, refl)
 next_is_unique bots g a b h k (in_square lt) (beside ge first) = absurd (omega arith)
 next_is_unique bots g a b h k (beside ge first) (in_square lt) = absurd (omega arith)
@@ -35,7 +35,7 @@ placed_is_unique seed one two g h e (more {bots = old} {b = a} {g = i} p next) (
     let long = length_push old a in
     let wide = length_push bs b in
     let before = placed_is_unique seed old bs i j (omega arith) p q in
-    let same : Next bs j a g = subst (λ (x : Lcg). Next bs x a g) before.1 (subst (λ (x : List Bot). Next x i a g) before.0 next) in
+    let same : IsNextBot bs j a g = subst (λ (x : Lcg). IsNextBot bs x a g) before.1 (subst (λ (x : List Bot). IsNextBot x i a g) before.0 next) in
     let last = next_is_unique bs j a b g h same after in
     (ap (λ (x : List Bot). x ++ a ∷ []) before.0 ∙ ap (λ (x : Bot). bs ++ x ∷ []) last.0, last.1)
 

@@ -10,15 +10,15 @@ use Rattle.amoebot_state.specs.declared.bot.Bot.{Bot}
 use Rattle.amoebot_state.specs.declared.refusal.WorldRefusal.{WorldRefusal}
 use Rattle.amoebot_state.specs.declared.refusal.WorldRefusal.TheVariants.{NoMemory}
 use Rattle.amoebot_state.specs.Configs.{Config, blank, config_of, IsValid}
-use Rattle.amoebot_state.specs.Refusals.{IsPlain, IsFirstFault}
+use Rattle.amoebot_state.specs.Refusals.{IsBotInRange, IsFirstFault}
 use Rattle.amoebot_state.proofs.Faults.{valid_is_faultless}
 use Rattle.amoebot_state.proofs.Occupants.{plain_bot}
 use Rattle.action_tree.specs.Trees.{Program}
-use Rattle.action_tree.specs.Samples as sample
+use Rattle.action_tree.specs.Shipped as sample
 use Rattle.run_sample.specs.Sample.{sample_area, sample_maxes}
 
-pub are_plain : (bots : List Bot) → IsValid (config_of sample_area sample_maxes bots) → All IsPlain bots
-are_plain bots valid = All-from_get_or IsPlain bots blank (λ i lt. plain_bot (config_of sample_area sample_maxes bots) valid i (get_or bots i blank) (get_or-map Some bots i blank None lt))
+pub are_plain : (bots : List Bot) → IsValid (config_of sample_area sample_maxes bots) → All IsBotInRange bots
+are_plain bots valid = All-from_get_or IsBotInRange bots blank (λ i lt. plain_bot (config_of sample_area sample_maxes bots) valid i (get_or bots i blank) (get_or-map Some bots i blank None lt))
 
 not_refused : (bots : List Bot) (e : WorldRefusal) → IsValid (config_of sample_area sample_maxes bots) → IsFirstFault sample_area sample_maxes bots e → ⊥
 not_refused bots e valid fault =

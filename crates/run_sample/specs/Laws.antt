@@ -12,11 +12,19 @@ use Rattle.run_sample.specs.Sample.{Placed, IsFirstEmpty, IsInside, bot_on, samp
 
 -- at most one node is the first empty one
 abbrev pub FirstEmptyIsUnique : Type 0
-FirstEmptyIsUnique = (bots : List Bot) (from : Node) (d : ℕ) (u v : Node) → IsFirstEmpty bots from d u → IsFirstEmpty bots from d v → u ≡ v
+FirstEmptyIsUnique =
+    (bots : List Bot) (from : Node) (d : ℕ) (u v : Node)
+    → IsFirstEmpty bots from d u
+    → IsFirstEmpty bots from d v
+    → u ≡ v
 
 -- a seed has at most one sample
 abbrev pub SampleIsUnique : Type 0
-SampleIsUnique = (seed : ℕ) (one two : Sample) → IsSample seed one → IsSample seed two → (one.checked ≡ two.checked) × (one.world ≡ two.world) × (one.lists ≡ two.lists)
+SampleIsUnique =
+    (seed : ℕ) (one two : Sample)
+    → IsSample seed one
+    → IsSample seed two
+    → (one.checked ≡ two.checked) × (one.world ≡ two.world) × (one.lists ≡ two.lists)
 
 -- the first two amoebots of seed one are turned by 0 and by 2
 abbrev pub FirstOfSeedOne : Type 0

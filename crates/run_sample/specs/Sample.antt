@@ -1,4 +1,5 @@
--- The sample of a seed: 150 contracted amoebots, of which 100 fill a square and 50 come beside them one by one. All of it is this project's profile; the generator is PCG32.
+-- The sample of a seed: 150 contracted amoebots, of which 100 fill a square and 50 come beside them one by one.
+-- All of it is this project's profile; the generator is PCG32.
 use Rattle.std.specs.Prelude.{◌≡◌, ℕ, zero, suc, pos, ◌+◌, ◌/◌, ◌%◌, ◌<◌, ◌≤◌, ◌≤ℤ◌, List, [], ◌∷◌, ◌++◌, Bool, false, IsTrue, length, slice_index_or}
 use Rattle.std.specs.List.{list_any}
 use Rattle.tri_lattice.specs.declared.node.Node.{Node}
@@ -47,13 +48,13 @@ pub record IsFirstEmpty (bots : List Bot) (from : Node) (d : ℕ) (v : Node) : T
   pub before : (s : ℕ) → 1 ≤ s → s < steps → IsTrue (is_taken bots (walked from d s))
 
 -- the values of the amoebot with an id: the first is the seed of the hexagon
-abbrev pub memory : ℕ → List ℕ
-memory zero = 1 ∷ 6 ∷ 0 ∷ 0 ∷ 0 ∷ 0 ∷ 0 ∷ 0 ∷ []
-memory (suc n) = 0 ∷ 6 ∷ 6 ∷ 0 ∷ 0 ∷ 0 ∷ 0 ∷ 0 ∷ []
+abbrev pub sample_memory : ℕ → List ℕ
+sample_memory zero = 1 ∷ 6 ∷ 0 ∷ 0 ∷ 0 ∷ 0 ∷ 0 ∷ 0 ∷ []
+sample_memory (suc n) = 0 ∷ 6 ∷ 6 ∷ 0 ∷ 0 ∷ 0 ∷ 0 ∷ 0 ∷ []
 
 -- the contracted amoebot with an id, on a node
 abbrev pub bot_on : ℕ → Node → ℕ → Bot
-bot_on id v rot = record { head = v; tail = v; rot = rot; chir = Plus; mem = memory id }
+bot_on id v rot = record { head = v; tail = v; rot = rot; chir = Plus; mem = sample_memory id }
 
 -- the nodes of a square of 10 by 10, row by row
 abbrev pub square_node : ℕ → Node
@@ -65,14 +66,17 @@ node_of bots i = (slice_index_or bots i blank).head
 
 -- the amoebot that comes next, with the generator after it. The first 100 fill the square, and each draws its rotation. Each later
 -- one draws an amoebot and then a direction, comes on the first empty node that is met from there, and then draws its rotation
-pub data Next (bots : List Bot) (g : Lcg) : Bot → Lcg → Type 0 where
-  in_square : length bots < square_bots → Next bots g (bot_on (length bots) (square_node (length bots)) (draw g 6)) (drawn g)
-  beside : {v : Node} → square_bots ≤ length bots → IsFirstEmpty bots (node_of bots (draw g (length bots))) (draw (drawn g) 6) v → Next bots g (bot_on (length bots) v (draw (drawn (drawn g)) 6)) (drawn (drawn (drawn g)))
+pub data IsNextBot (bots : List Bot) (g : Lcg) : Bot → Lcg → Type 0 where
+  in_square : length bots < square_bots → IsNextBot bots g (bot_on (length bots) (square_node (length bots)) (draw g 6)) (drawn g)
+  beside : {v : Node}
+      → square_bots ≤ length bots
+      → IsFirstEmpty bots (node_of bots (draw g (length bots))) (draw (drawn g) 6) v
+      → IsNextBot bots g (bot_on (length bots) v (draw (drawn (drawn g)) 6)) (drawn (drawn (drawn g)))
 
 -- amoebots that came one by one, with the generator after them
 pub data Placed (seed : ℕ) : List Bot → Lcg → Type 0 where
   none : Placed seed [] (seeded seed)
-  more : {bots : List Bot} {b : Bot} {g h : Lcg} → Placed seed bots g → Next bots g b h → Placed seed (bots ++ b ∷ []) h
+  more : {bots : List Bot} {b : Bot} {g h : Lcg} → Placed seed bots g → IsNextBot bots g b h → Placed seed (bots ++ b ∷ []) h
 
 -- the amoebots of a seed's sample
 pub record AreSample (seed : ℕ) (bots : List Bot) : Type 0 where

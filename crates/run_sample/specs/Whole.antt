@@ -2,7 +2,7 @@
 use Rattle.std.specs.Prelude.{◌≡◌, ℕ, List, true}
 use Rattle.amoebot_state.specs.declared.bot.Bot.{Bot}
 use Rattle.amoebot_state.specs.Configs.{config_of}
-use Rattle.action_tree.specs.Samples as trees
+use Rattle.action_tree.specs.Shipped as trees
 use Rattle.run_sample.specs.declared.whole.Sample.{Sample}
 use Rattle.run_sample.specs.Sample.{AreSample, sample_area, sample_maxes}
 use Rattle.run_sample.specs.Callers.{sample_lists}

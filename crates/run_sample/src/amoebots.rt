@@ -2,7 +2,8 @@
 
 ghost use Rattle.std.specs.Prelude.{ℕ, ◌≡◌, ◌<◌, ◌≤◌, length, IfOk, IsTrue};
 ghost use Rattle.tri_lattice.specs.declared.node.Node.{Node};
-ghost use Rattle.run_sample.specs.Sample.{square_bots, sample_bots, AreSample, Next, Placed, IsFirstEmpty, IsInside, is_taken, node_of, bot_on, square_node, seeded, draw, drawn};
+ghost use Rattle.run_sample.specs.Sample.{square_bots, sample_bots, AreSample, IsNextBot, Placed, IsFirstEmpty, IsInside};
+ghost use Rattle.run_sample.specs.Sample.{is_taken, node_of, bot_on, square_node, seeded, draw, drawn};
 
 use amoebot_state::{Bot, Chir, NoMemory};
 use rand_core::SeedableRng;
@@ -34,7 +35,7 @@ fn next(id: usize, bots: &[Bot], generator: &mut Pcg32) -> Bot
     requires placed { (seed : ℕ) × Placed seed bots.now generator.old }
     requires behind { id ≡ length bots.now }
     requires few { id < sample_bots }
-    ensures { Next bots.now generator.old result generator.new }
+    ensures { IsNextBot bots.now generator.old result generator.new }
 {
     if id < SQUARE {
         in_square(id, generator)
@@ -60,7 +61,7 @@ fn beside(id: usize, bots: &[Bot], generator: &mut Pcg32) -> Bot
     requires low { square_bots ≤ id }
     requires high { id < sample_bots }
     requires inside { (v : Node) → IsTrue (is_taken bots.now v) → IsInside v }
-    ensures { Next bots.now generator.old result generator.new }
+    ensures { IsNextBot bots.now generator.old result generator.new }
 {
     let index = draw(generator, id as u32);
     let dir = draw_dir(generator);

@@ -10,13 +10,13 @@ use Rattle.text_tokens.specs.Reading.{◌>>=◌, is_number, no_limit, too_large,
 use Rattle.text_tokens.specs.Grammar.{Then, Made, Closed}
 use Rattle.text_tokens.specs.Lawful.{Exact, IsPart, always, Starts, AreElements}
 use Rattle.text_tokens.proofs.Exactness.{exact}
-use Rattle.text_tokens.proofs.Repeating.{part_repeated}
-use Rattle.text_tokens.proofs.Distinguishing.{other_kind, other_text, a_numeral, starts_numeral}
-use Rattle.text_tokens.proofs.Joining.{one_behind, into, starts_behind}
+use Rattle.text_tokens.proofs.RepeatedLemmas.{part_repeated}
+use Rattle.text_tokens.proofs.LexemeLemmas.{other_kind, other_text, a_numeral, starts_numeral}
+use Rattle.text_tokens.proofs.JoinedParts.{one_behind, into, starts_behind}
 use Rattle.claim_core.specs.Limits.{most_turns}
-use Rattle.journal_text.specs.Parts.{word, is_end, one_more}
-use Rattle.journal_text.proofs.PartLaws.{up_to_end, starts_word, part_word, part_word_within, starts_word_within}
-use Rattle.schedule_text.specs.Lists.{past_ids, IsId, IdsFrom, AreIds, is_list, past_lists, IsListWord, IsCallerList, ListsFrom, lists_of, AreTurns, IsLists}
+use Rattle.node_text.specs.Parts.{word, is_end, one_more}
+use Rattle.node_text.proofs.PartLaws.{up_to_end, starts_word, part_word, part_word_within, starts_word_within}
+use Rattle.schedule_text.specs.Lists.{past_ids, IsId, IdsFrom, AreIds, is_list, past_lists, IsListWord, IsCallerList, ListsFrom, lists_of, IsTurnCount, IsLists}
 use Rattle.schedule_text.specs.Readers.{an_id, ids_from, all_ids, list_word, a_list, lists_from, all_lists, some_turns, the_lists}
 
 -- a word is no number
@@ -80,11 +80,11 @@ module _ (bots : ℕ) where
     unfolding all_lists
     part_all_lists = into (λ ids. lists_of turns ids) (part_lists_from 0)
 
-part_turns : IsPart AreTurns some_turns always
+part_turns : IsPart IsTurnCount some_turns always
 unfolding some_turns
 part_turns = one_behind (part_word (codes "turns") refl) (λ line. a_numeral (too_large most_turns TooMany))
 
-part_turns_and_lists : (bots : ℕ) → IsPart (Then AreTurns (λ turns. Closed (Made (ListsFrom bots turns 0) (λ ids. lists_of turns ids)) is_end)) (some_turns >>= λ turns. closed (all_lists bots turns) is_end) always
+part_turns_and_lists : (bots : ℕ) → IsPart (Then IsTurnCount (λ turns. Closed (Made (ListsFrom bots turns 0) (λ ids. lists_of turns ids)) is_end)) (some_turns >>= λ turns. closed (all_lists bots turns) is_end) always
 part_turns_and_lists bots = one_behind part_turns (λ turns. up_to_end (part_all_lists bots turns))
 
 pub part_lists : (bots : ℕ) → IsPart (IsLists bots) (the_lists bots) always

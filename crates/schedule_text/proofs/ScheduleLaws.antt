@@ -9,12 +9,12 @@ use Rattle.text_tokens.specs.Grammar.{Made, IsNumeral, IsOptional}
 use Rattle.text_tokens.specs.Lawful.{Exact, IsPart, always, Starts, AreElements}
 use Rattle.text_tokens.proofs.Exactness.{exact}
 use Rattle.text_tokens.proofs.Parts.{part_less}
-use Rattle.text_tokens.proofs.Choosing.{part_optional}
-use Rattle.text_tokens.proofs.Repeating.{part_repeated}
-use Rattle.text_tokens.proofs.Distinguishing.{other_text, a_numeral, starts_numeral}
-use Rattle.text_tokens.proofs.Joining.{one_behind, into, starts_behind}
-use Rattle.journal_text.specs.Parts.{word, is_end}
-use Rattle.journal_text.proofs.PartLaws.{up_to_end, starts_word, part_word, number_no_word}
+use Rattle.text_tokens.proofs.ChoiceLemmas.{part_optional}
+use Rattle.text_tokens.proofs.RepeatedLemmas.{part_repeated}
+use Rattle.text_tokens.proofs.LexemeLemmas.{other_text, a_numeral, starts_numeral}
+use Rattle.text_tokens.proofs.JoinedParts.{one_behind, into, starts_behind}
+use Rattle.node_text.specs.Parts.{word, is_end}
+use Rattle.node_text.proofs.PartLaws.{up_to_end, starts_word, part_word, number_no_word}
 use Rattle.schedule_text.specs.Schedules.{past_callers, past_times, is_times, stretch_of, IsTimes, IsStretch, more_steps, StretchesFrom, steps_of, IsSchedule}
 use Rattle.schedule_text.specs.Readers.{a_caller, number_of_times, its_times, any_times, a_stretch, stretches_from, all_steps, a_schedule}
 use Rattle.schedule_text.proofs.ListLaws.{word_no_number}

@@ -5,3 +5,7 @@ pub mod Readers
 pub mod ScheduleRows
 pub mod Schedules
 pub mod Views
+pub use Rattle.claim_core.specs.Limits
+pub use Rattle.claim_core.specs.Turns
+pub use Rattle.text_tokens.specs.Lawful
+pub use Rattle.text_tokens.specs.Steps

@@ -1,8 +1,9 @@
 -- The section `lists`: the turns of each caller, and the callers' lists.
 --   lists := "lists" "turns" NUMBER { list } "end"
 --   list  := "list" NUMBER { NUMBER }
--- Turns above 65,536, the 17th `list`, the `list` with which callers times turns pass 65,536 and the 4,097th id of a list are TooMany; of what else is wrong with
--- an id that comes first. An id that is no amoebot's is a BadId.
+-- These are TooMany: turns above 65,536, the 17th `list`, the `list` with which callers times turns pass 65,536,
+-- and the 4,097th id of a list.
+-- That comes before whatever else is wrong with an id. An id that is no amoebot's is a BadId.
 use Rattle.std.specs.Prelude.{ℕ, suc, ◌*◌, Bool, ◌&&◌, nat_le, if◌then◌else◌, List, ◌∷◌, Option, Some, None, codes}
 use Rattle.text_tokens.specs.declared.refusal.RefusalKind.{RefusalKind}
 use Rattle.text_tokens.specs.declared.refusal.RefusalKind.TheVariants.{TooMany}
@@ -11,7 +12,7 @@ use Rattle.text_tokens.specs.Reading.{too_large}
 use Rattle.text_tokens.specs.Grammar.{Lang, IsOne, Then, Made, IsNumeral, Closed, Repeated}
 use Rattle.claim_core.specs.Limits.{most_callers, most_turns, most_ids}
 use Rattle.claim_core.specs.Turns.{CallerLists}
-use Rattle.journal_text.specs.Parts.{word, is_end, one_more, IsWord}
+use Rattle.node_text.specs.Parts.{word, is_end, one_more, IsWord}
 use Rattle.schedule_text.specs.Known.{past_known}
 
 -- ---- ids
@@ -38,7 +39,8 @@ is_list = word (codes "list")
 
 -- one list too many behind so many, or too many turns with it
 abbrev pub past_lists : ℕ → ℕ → Lexeme → Option RefusalKind
-past_lists turns before t = if nat_le (suc before) most_callers && nat_le (suc before * turns) most_turns then None else Some TooMany
+past_lists turns before t =
+    if nat_le (suc before) most_callers && nat_le (suc before * turns) most_turns then None else Some TooMany
 
 -- the word of a list behind so many, for its line
 abbrev pub IsListWord : ℕ → ℕ → Lang ℕ
@@ -56,9 +58,11 @@ ListsFrom bots turns before = Repeated (IsCallerList bots turns) one_more before
 abbrev pub lists_of : ℕ → List (List ℕ) → CallerLists
 lists_of turns ids = record { turns = turns; ids = ids }
 
-abbrev pub AreTurns : Lang ℕ
-AreTurns = Then (IsWord (codes "turns")) (λ line. IsNumeral (too_large most_turns TooMany))
+abbrev pub IsTurnCount : Lang ℕ
+IsTurnCount = Then (IsWord (codes "turns")) (λ line. IsNumeral (too_large most_turns TooMany))
 
 -- the lists, of ids of so many amoebots
 abbrev pub IsLists : ℕ → Lang CallerLists
-IsLists bots = Then (IsWord (codes "lists")) (λ line. Then AreTurns (λ turns. Closed (Made (ListsFrom bots turns 0) (λ ids. lists_of turns ids)) is_end))
+IsLists bots =
+    Then (IsWord (codes "lists"))
+    (λ line. Then IsTurnCount (λ turns. Closed (Made (ListsFrom bots turns 0) (λ ids. lists_of turns ids)) is_end))

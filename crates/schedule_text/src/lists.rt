@@ -11,7 +11,7 @@ ghost use Rattle.schedule_text.specs.Readers as reader;
 
 use crate::known::read_known;
 use claim_core::Lists;
-use journal_text::read_word;
+use node_text::read_word;
 use std::alloc::Global;
 use text_tokens::{ReadRefusal, RefusalKind, TokenKind, Tokens, number_up_to, refused};
 
@@ -106,7 +106,8 @@ fn more_list(
 ) -> Result<Option<Vec<u16>>, ReadRefusal>
     requires turns { turns ≤ most_turns }
     requires before { before ≤ most_callers }
-    ensures reads { Gives (λ o. option_map (λ v. v.items) o) (another spec.is_list (reader.a_list bots turns before)) tokens.old result tokens.new }
+    ensures reads { Gives (λ o. option_map (λ v. v.items) o)
+        (another spec.is_list (reader.a_list bots turns before)) tokens.old result tokens.new }
     ensures few { IfOk result (λ o. IfSome o (λ _. AreFew (before + 1) turns)) }
     ensures list { IfOk result (λ o. IfSome o (λ v. IsList v.items)) }
     ensures there { IfOk result (λ o. IfSome o (λ v. All (λ id. id < bots) v.items)) }

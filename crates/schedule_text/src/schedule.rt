@@ -9,7 +9,7 @@ ghost use Rattle.schedule_text.specs.Readers as reader;
 ghost use Rattle.schedule_text.specs.Views as view;
 
 use crate::known::read_known;
-use journal_text::read_word;
+use node_text::read_word;
 use std::alloc::Global;
 use std::marker::Model;
 use text_tokens::{ReadRefusal, RefusalKind, TokenKind, Tokens, refused};
@@ -128,7 +128,8 @@ fn more_stretch(
     callers: u8,
     before: u32,
 ) -> Result<Option<Stretch>, ReadRefusal>
-    ensures reads { Gives (λ o. option_map view.stretch o) (another is_number (reader.a_stretch callers before)) tokens.old result tokens.new }
+    ensures reads { Gives (λ o. option_map view.stretch o)
+        (another is_number (reader.a_stretch callers before)) tokens.old result tokens.new }
     ensures room { IfOk result (λ o. IfSome o (λ s. before + s.times ≤ spec.most_steps)) }
     ensures some { IfOk result (λ o. IfSome o (λ s. 0 < s.times)) }
     ensures there { IfOk result (λ o. IfSome o (λ s. s.caller < callers)) }

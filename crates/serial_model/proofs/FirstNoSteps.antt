@@ -10,7 +10,7 @@ use Rattle.amoebot_state.specs.declared.verdict.Verdict.{Verdict}
 use Rattle.amoebot_state.specs.declared.verdict.Verdict.TheVariants as verdict
 use Rattle.amoebot_state.specs.Configs.{Config, IsValid, bot_at}
 use Rattle.amoebot_state.specs.Zones.{Shown, shown}
-use Rattle.amoebot_state.specs.Steps.{Step, Run, HasNext, change_of}
+use Rattle.amoebot_state.specs.Steps.{Step, Run, HasPatchedWorld, change_of}
 use Rattle.amoebot_state.proofs.Patched.{step_has_one_result}
 use Rattle.serial_model.specs.Replays.{IsNoStep, IsFirstNoStep}
 use Rattle.serial_model.specs.Laws.{FirstNoStepIsUnique, RunHasOnlySteps, RunOrFirstNoStep}
@@ -65,7 +65,7 @@ there_or_not None = inr false≢true
 there_or_not (Some b) = inl refl
 
 -- an entry is a step or is not
-step_or_not : (f : Shown → Verdict) (old : Config) (e : Entry) → HasNext f → IsValid old → ((new : Config) × Step f old e new) ⊎ IsNoStep f old e
+step_or_not : (f : Shown → Verdict) (old : Config) (e : Entry) → HasPatchedWorld f → IsValid old → ((new : Config) × Step f old e new) ⊎ IsNoStep f old e
 step_or_not f old e next valid = elim (there_or_not (bot_at old e.bot)) [
   | inl there ↦ elim (decided_or_not (f (shown old e.bot)) (change_of e)) [
     | inl decided ↦

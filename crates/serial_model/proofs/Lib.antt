@@ -1,3 +1,2 @@
 pub mod FirstNoSteps
 pub mod SameChanges
-pub mod SerialTurns

@@ -4,23 +4,28 @@ use Rattle.amoebot_state.specs.declared.verdict.Entry.{Entry}
 use Rattle.amoebot_state.specs.declared.verdict.Verdict.{Verdict}
 use Rattle.amoebot_state.specs.Configs.{Config, IsValid}
 use Rattle.amoebot_state.specs.Zones.{Shown}
-use Rattle.amoebot_state.specs.Steps.{Run, HasNext}
-use Rattle.serial_model.specs.declared.Turned.{Turned}
-use Rattle.serial_model.specs.SerialTurns.{SerialTurn}
+use Rattle.amoebot_state.specs.Steps.{Run, HasPatchedWorld}
 use Rattle.serial_model.specs.Replays.{IsFirstNoStep}
-
--- a turn has at most one answer, and leaves at most one configuration
-abbrev pub SerialTurnIsUnique : Type 0
-SerialTurnIsUnique = (f : Shown → Verdict) (caller turn bot : ℕ) (old : Config) (one two : Turned) (new other : Config) → SerialTurn f caller turn bot old one new → SerialTurn f caller turn bot old two other → (one ≡ two) × (new ≡ other)
 
 -- at most one place is the first that is no step
 abbrev pub FirstNoStepIsUnique : Type 0
-FirstNoStepIsUnique = (f : Shown → Verdict) (start : Config) (entries : List Entry) (one two : ℕ) → IsFirstNoStep f start entries one → IsFirstNoStep f start entries two → one ≡ two
+FirstNoStepIsUnique =
+    (f : Shown → Verdict) (start : Config) (entries : List Entry) (one two : ℕ)
+    → IsFirstNoStep f start entries one
+    → IsFirstNoStep f start entries two
+    → one ≡ two
 
 -- entries that are a run have no such place
 abbrev pub RunHasOnlySteps : Type 0
-RunHasOnlySteps = (f : Shown → Verdict) (start last : Config) (entries : List Entry) (place : ℕ) → Run f start entries last → ¬ IsFirstNoStep f start entries place
+RunHasOnlySteps =
+    (f : Shown → Verdict) (start last : Config) (entries : List Entry) (place : ℕ)
+    → Run f start entries last
+    → ¬ IsFirstNoStep f start entries place
 
 -- where each change that f decides leads somewhere, entries from a valid configuration are a run, or have such a place
 abbrev pub RunOrFirstNoStep : Type 0
-RunOrFirstNoStep = (f : Shown → Verdict) (start : Config) (entries : List Entry) → HasNext f → IsValid start → ((last : Config) × Run f start entries last) ⊎ ((place : ℕ) × IsFirstNoStep f start entries place)
+RunOrFirstNoStep =
+    (f : Shown → Verdict) (start : Config) (entries : List Entry)
+    → HasPatchedWorld f
+    → IsValid start
+    → ((last : Config) × Run f start entries last) ⊎ ((place : ℕ) × IsFirstNoStep f start entries place)

@@ -1,9 +1,4 @@
-ghost use Rattle.serial_model.specs.Laws.{FirstNoStepIsUnique, RunHasOnlySteps, RunOrFirstNoStep, SerialTurnIsUnique};
-
-/// A turn has at most one answer, and leaves at most one configuration.
-pub fn serial_turn_is_unique()
-    ensures { SerialTurnIsUnique }
-{}
+ghost use Rattle.serial_model.specs.Laws.{FirstNoStepIsUnique, RunHasOnlySteps, RunOrFirstNoStep};
 
 /// At most one place is the first that is no step.
 pub fn first_no_step_is_unique()

@@ -2,25 +2,16 @@
 #![tactic(auto)]
 
 ghost use Rattle.std.specs.Prelude.{◌≡◌, ◌<◌, length};
-ghost use Rattle.serial_model.specs.SerialTurns.{SerialTurn};
+ghost use Rattle.amoebot_state.specs.SerialTurns.{SerialTurn};
 
 mod laws;
 mod replays;
 
-use amoebot_state::{Decider, Entry, Failure, Verdict, World, has_next};
-pub use laws::{
-    first_no_step_is_unique, run_has_only_steps, run_or_first_no_step, serial_turn_is_unique,
-};
+pub use amoebot_state::{Turned, serial_turn_is_unique};
+use amoebot_state::{Decider, Entry, Verdict, World, has_next};
+pub use laws::{first_no_step_is_unique, run_has_only_steps, run_or_first_no_step};
 pub use replays::{Differs, replay};
 use std::marker::Model;
-
-/// What a turn did: an entry for the journal, or nothing.
-#[derive(Drop)]
-pub enum Turned {
-    Done(Entry),
-    Idle,
-    Failed(Failure),
-}
 
 /// A world that is changed one activation at a time.
 #[derive(Drop)]

@@ -22,7 +22,7 @@ pub fn replay<D: Decider>(decider: &D, start: World, entries: &[Entry]) -> Resul
 {
     let mut world = start;
     for (place, entry) in entries.iter().enumerate() {
-        if !follow(decider, &mut world, entry) {
+        if !makes_step(decider, &mut world, entry) {
             return Err(Differs {
                 place: place as u32,
             });
@@ -32,7 +32,7 @@ pub fn replay<D: Decider>(decider: &D, start: World, entries: &[Entry]) -> Resul
 }
 
 /// Makes the step of an entry, if there is one.
-fn follow<D: Decider>(decider: &D, world: &mut World, entry: &Entry) -> bool
+fn makes_step<D: Decider>(decider: &D, world: &mut World, entry: &Entry) -> bool
     requires { entry.now.bot < length world.old.bots }
     ensures step { OnTrue result (Step (D.verdict decider.now) world.old entry.now world.new) }
     ensures none { OnFalse result (IsNoStep (D.verdict decider.now) world.old entry.now) }

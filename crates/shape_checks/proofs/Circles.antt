@@ -4,7 +4,7 @@ use Rattle.std.specs.Prelude.{IsTrue}
 use Rattle.std.proofs.lemmas.Bool.{cases_lt, cases_eq, cases_Bool, both_ways}
 use Rattle.std.proofs.Math.Nat.{add-mod_left, mod-eq_of_lt}
 use Rattle.shape_checks.specs.Hexagons.{IsArc}
-use Rattle.shape_checks.specs.Arcs.{place, IsStart}
+use Rattle.shape_checks.specs.Arcs.{circle_entry, IsStart}
 use Rattle.shape_checks.specs.Laws.{TwoRunsAreNoArc}
 
 -- once round leads back to the same place
@@ -13,7 +13,7 @@ once_round m x y e = ap (λ k. k % m) e ∙ add-mod_left m y
 
 -- the place t places on from one, going round
 abbrev pub place_on : List Bool → ℕ → ℕ → Bool
-place_on circle from t = place circle ((from + t) % length circle)
+place_on circle from t = circle_entry circle ((from + t) % length circle)
 
 -- what is known after j places: all are true as long as it is not over; else the first n are, and the others are not
 pub record IsRun (circle : List Bool) (from : ℕ) (over : Bool) (j : ℕ) : Type 0 where
@@ -47,7 +47,7 @@ run_false circle from over j r here = record {
   ];
 }
 
-pub run_is_arc : (circle : List Bool) (from : ℕ) (over : Bool) (j : ℕ) → IsRun circle from over j → from < length circle → length circle ≤ j → IsArc (place circle) (length circle)
+pub run_is_arc : (circle : List Bool) (from : ℕ) (over : Bool) (j : ℕ) → IsRun circle from over j → from < length circle → length circle ≤ j → IsArc (circle_entry circle) (length circle)
 run_is_arc circle from over j r below all = elim (cases_Bool over) [
   | inl o ↦
       let (n, lt, front, rest) = r.ended o in (
@@ -121,46 +121,46 @@ two_runs_are_no_arc p m i j k l ij jk kl lm pi pj pk pl arc =
     (ap p first ∙ pi) (ap p (at j (omega arith) (omega arith)) ∙ pj) (ap p (at k (omega arith) (omega arith)) ∙ pk) (ap p (at l (omega arith) lm) ∙ pl) arc
 
 -- the last place round is the one before
-last_is_before : (circle : List Bool) (from : ℕ) → 0 < length circle → place_on circle from (length circle - 1) ≡ place circle ((from + length circle - 1) % length circle)
-last_is_before circle from some = ap (λ k. place circle (k % length circle)) (omega arith)
+last_is_before : (circle : List Bool) (from : ℕ) → 0 < length circle → place_on circle from (length circle - 1) ≡ circle_entry circle ((from + length circle - 1) % length circle)
+last_is_before circle from some = ap (λ k. circle_entry circle (k % length circle)) (omega arith)
 
-pub no_arc : (circle : List Bool) (from : ℕ) (over : Bool) (j : ℕ) → IsStart circle from → IsRun circle from over j → over ≡ true → j < length circle → IsTrue (place_on circle from j) → IsArc (place circle) (length circle) → ⊥
+pub no_arc : (circle : List Bool) (from : ℕ) (over : Bool) (j : ℕ) → IsStart circle from → IsRun circle from over j → over ≡ true → j < length circle → IsTrue (place_on circle from j) → IsArc (circle_entry circle) (length circle) → ⊥
 no_arc circle from over j start r o lt here =
     let (n, nl, front, rest) = r.ended o in
     let below = start.below in
-    let first : IsTrue (place_on circle from 0) = ap (place circle) (ap (λ k. k % length circle) (add-zero from) ∙ mod-eq_of_lt below) ∙ start.here in
+    let first : IsTrue (place_on circle from 0) = ap (circle_entry circle) (ap (λ k. k % length circle) (add-zero from) ∙ mod-eq_of_lt below) ∙ start.here in
     let last : place_on circle from (length circle - 1) ≡ false = last_is_before circle from (omega arith) ∙ start.before in
     let some : 0 < n = elim (cases_eq n 0) [ inl e ↦ absurd (both_ways _ (ap (place_on circle from) (sym e) ∙ rest n (omega arith) nl) first) | inr ne ↦ omega arith ] in
     let inside : j < length circle - 1 = elim (cases_eq j (length circle - 1)) [ inl e ↦ absurd (both_ways _ last (ap (place_on circle from) (sym e) ∙ here)) | inr ne ↦ omega arith ] in
-    no_two_runs (place circle) (length circle) from n j (length circle - 1) below some nl inside (omega arith) first (rest n (omega arith) nl) here last
+    no_two_runs (circle_entry circle) (length circle) from n j (length circle - 1) below some nl inside (omega arith) first (rest n (omega arith) nl) here last
 
 -- a circle in which no arc starts is all true or all false
 module _ (circle : List Bool) (none : (i : ℕ) → IsStart circle i → ⊥) where
-  back : (i : ℕ) → i < length circle → IsTrue (place circle i) → IsTrue (place circle ((i + length circle - 1) % length circle))
-  back i lt here = elim (cases_Bool (place circle ((i + length circle - 1) % length circle))) [
+  back : (i : ℕ) → i < length circle → IsTrue (circle_entry circle i) → IsTrue (circle_entry circle ((i + length circle - 1) % length circle))
+  back i lt here = elim (cases_Bool (circle_entry circle ((i + length circle - 1) % length circle))) [
     | inl t ↦ t
     | inr f ↦ absurd (none i (record { below = lt; here = here; before = f }))
   ]
 
-  down : (d i k : ℕ) → i + d ≡ k → k < length circle → IsTrue (place circle k) → IsTrue (place circle i)
-  down zero i k e lt here = let same : i ≡ k = omega arith in ap (place circle) same ∙ here
+  down : (d i k : ℕ) → i + d ≡ k → k < length circle → IsTrue (circle_entry circle k) → IsTrue (circle_entry circle i)
+  down zero i k e lt here = let same : i ≡ k = omega arith in ap (circle_entry circle) same ∙ here
   down (suc d) i k e lt here =
       let next = down d (i + 1) k (omega arith) lt here in
       let at : (i + 1 + length circle - 1) % length circle ≡ i = once_round (length circle) _ i (omega arith) ∙ mod-eq_of_lt (omega arith) in
-      ap (place circle) (sym at) ∙ back (i + 1) (omega arith) next
+      ap (circle_entry circle) (sym at) ∙ back (i + 1) (omega arith) next
 
-  pub no_start_is_arc : 0 < length circle → IsArc (place circle) (length circle)
-  no_start_is_arc some = elim (cases_Bool (place circle 0)) [
+  pub no_start_is_arc : 0 < length circle → IsArc (circle_entry circle) (length circle)
+  no_start_is_arc some = elim (cases_Bool (circle_entry circle 0)) [
     | inl t ↦
         let last : (0 + length circle - 1) % length circle ≡ length circle - 1 = ap (λ k. k % length circle) (omega arith) ∙ mod-eq_of_lt (omega arith) in
-        let top = ap (place circle) (sym last) ∙ back 0 some t in (
+        let top = ap (circle_entry circle) (sym last) ∙ back 0 some t in (
           0,
           length circle,
           some,
           λ j lt. (
             λ _. lt,
             λ _. let at : (0 + j) % length circle ≡ j = ap (λ k. k % length circle) (zero-add j) ∙ mod-eq_of_lt lt in
-                ap (place circle) at ∙ down (length circle - 1 - j) j (length circle - 1) (omega arith) (omega arith) top,
+                ap (circle_entry circle) at ∙ down (length circle - 1 - j) j (length circle - 1) (omega arith) (omega arith) top,
           ),
         )
     | inr f ↦ (
@@ -169,7 +169,7 @@ module _ (circle : List Bool) (none : (i : ℕ) → IsStart circle i → ⊥) wh
       some,
       λ j lt. (
         λ here. let at : (0 + j) % length circle ≡ j = ap (λ k. k % length circle) (zero-add j) ∙ mod-eq_of_lt lt in
-            absurd (both_ways _ f (down j 0 j (zero-add j) lt (ap (place circle) (sym at) ∙ here))),
+            absurd (both_ways _ f (down j 0 j (zero-add j) lt (ap (circle_entry circle) (sym at) ∙ here))),
         λ less. absurd (omega arith),
       ),
     )

@@ -9,8 +9,8 @@ use Rattle.std.proofs.lemmas.Nat.{mod_below}
 use Rattle.tri_lattice.specs.declared.node.Node.{Node}
 use Rattle.tri_lattice.specs.Lattice.{distance}
 use Rattle.tri_lattice.proofs.Nodes.{same_node}
-use Rattle.shape_checks.specs.Arcs.{place}
-use Rattle.shape_checks.specs.Hexagons.{moved, ring_node, IsArc, IsHexagonAt}
+use Rattle.shape_checks.specs.Arcs.{circle_entry}
+use Rattle.shape_checks.specs.Hexagons.{steps_away, ring_node, IsArc, IsHexagonAt}
 use Rattle.shape_checks.specs.Candidates.{IsCentral}
 
 -- two coordinates are equal or not
@@ -59,7 +59,7 @@ around c v r l =
     record { left = x.0; right = x.1; low = y.0; high = y.1 }
 
 -- so many steps do not lead far away
-pub moved_near : (v : Node) (d n : ℕ) → n ≤ 130 → IsCentral v → (negsuc 6999 ≤ℤ (moved v d n).x) × ((moved v d n).x ≤ℤ pos 7000) × (negsuc 6999 ≤ℤ (moved v d n).y) × ((moved v d n).y ≤ℤ pos 7000)
+pub moved_near : (v : Node) (d n : ℕ) → n ≤ 130 → IsCentral v → (negsuc 6999 ≤ℤ (steps_away v d n).x) × ((steps_away v d n).x ≤ℤ pos 7000) × (negsuc 6999 ≤ℤ (steps_away v d n).y) × ((steps_away v d n).y ≤ℤ pos 7000)
 moved_near v zero n l (a, b, e, f) = (omega (arith, ints), omega (arith, ints), omega (arith, ints), omega (arith, ints))
 moved_near v (suc zero) n l (a, b, e, f) = (omega (arith, ints), omega (arith, ints), omega (arith, ints), omega (arith, ints))
 moved_near v (suc (suc zero)) n l (a, b, e, f) = (omega (arith, ints), omega (arith, ints), omega (arith, ints), omega (arith, ints))
@@ -82,16 +82,16 @@ arc_on p q m n e same (i, run, il, each) = (
 
 -- where the rings below are full and nothing is farther out, whether the last ring is an arc tells whether it is a hexagon
 pub ring_decides : (S : Node → Bool) (c : Node) (r : ℕ) (ring circle : List Bool) (b : Bool) → 1 ≤ r → ((v : Node) → distance c v < r → IsTrue (S v)) → ((v : Node) → IsTrue (S v) → distance c v ≤ r)
-    → length ring ≡ 6 * r → ((k : ℕ) → k < 6 * r → place ring k ≡ S (ring_node c r k)) → circle ≡ ring → Decides b (IsArc (place circle) (length circle)) → Decides b (IsHexagonAt S c r)
+    → length ring ≡ 6 * r → ((k : ℕ) → k < 6 * r → circle_entry ring k ≡ S (ring_node c r k)) → circle ≡ ring → Decides b (IsArc (circle_entry circle) (length circle)) → Decides b (IsHexagonAt S c r)
 ring_decides S c r ring circle b some inside outside len places e arc =
     let on : ℕ → Bool = λ k. S (ring_node c r k) in
     let long : length circle ≡ 6 * r = ap length e ∙ len in
-    let same = λ (k : ℕ) (lt : k < 6 * r). ap (λ (ks : List Bool). place ks k) e ∙ places k lt in (
+    let same = λ (k : ℕ) (lt : k < 6 * r). ap (λ (ks : List Bool). circle_entry ks k) e ∙ places k lt in (
       λ t. record {
         some = some;
         inside = inside;
         outside = outside;
-        last = arc_on (place circle) on (length circle) (6 * r) long (λ k lt. same k (omega arith)) (arc.0 t);
+        last = arc_on (circle_entry circle) on (length circle) (6 * r) long (λ k lt. same k (omega arith)) (arc.0 t);
       },
-      λ h. arc.1 (arc_on on (place circle) (6 * r) (length circle) (sym long) (λ k lt. sym (same k lt)) h.last),
+      λ h. arc.1 (arc_on on (circle_entry circle) (6 * r) (length circle) (sym long) (λ k lt. sym (same k lt)) h.last),
     )

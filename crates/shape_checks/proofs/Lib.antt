@@ -3,9 +3,9 @@ pub mod Circles
 pub mod Extremes
 pub mod Discs
 pub mod Centres
-pub mod Marking
-pub mod Rounds
-pub mod Reaching
+pub mod MarksLemmas
+pub mod NeighbourLoops
+pub mod ReachLemmas
 pub mod Rings
 pub mod Hexagons
-pub mod Growing
+pub mod GrownMarks

@@ -8,13 +8,13 @@ use Rattle.std.proofs.Math.Nat.{mod-eq_of_lt}
 use Rattle.tri_lattice.specs.declared.node.Node.{Node}
 use Rattle.tri_lattice.specs.Lattice.{distance, turned, Adjacent}
 use Rattle.tri_lattice.proofs.Nodes.{same_node, each_direction}
-use Rattle.shape_checks.specs.Hexagons.{moved, ring_node}
+use Rattle.shape_checks.specs.Hexagons.{steps_away, ring_node}
 use Rattle.shape_checks.specs.Laws.{RingIsItsDistance, NextPlacesMeet}
 use Rattle.shape_checks.proofs.Circles.{once_round}
 
 -- the node that stands j places behind the corner of side s
 abbrev on_side : Node → ℕ → ℕ → ℕ → Node
-on_side c r s j = moved (moved c s r) (turned s 2) j
+on_side c r s j = steps_away (steps_away c s r) (turned s 2) j
 
 ring_at : (c : Node) (r s j : ℕ) → j < r → ring_node c r (s * r + j) ≡ on_side c r s j
 ring_at c r s j lt =

@@ -18,7 +18,8 @@ abbrev pub candidates : Extremes → ℕ → List Node
 candidates e r =
     let x = e.left.x +ℤ pos r in
     let y = e.low.y +ℤ pos r in
-    record { x = x; y = y } ∷ record { x = x -ℤ pos 1; y = y } ∷ record { x = x; y = y -ℤ pos 1 } ∷ record { x = x -ℤ pos 1; y = y -ℤ pos 1 } ∷ []
+    record { x = x; y = y } ∷ record { x = x -ℤ pos 1; y = y } ∷ record { x = x; y = y -ℤ pos 1 }
+    ∷ record { x = x -ℤ pos 1; y = y -ℤ pos 1 } ∷ []
 
 -- one of the four is the centre of a hexagon of radius r
 abbrev pub HasCentre : (Node → Bool) → Extremes → ℕ → Type 0

@@ -10,13 +10,13 @@ use Rattle.amoebot_state.specs.Occupied.{occupied}
 use Rattle.shape_checks.specs.Arcs.{AreFirst}
 
 -- the node so many steps away in direction d
-abbrev pub moved : Node → ℕ → ℕ → Node
-moved v d n = record { x = v.x +ℤ (dx d *ℤ pos n); y = v.y +ℤ (dy d *ℤ pos n) }
+abbrev pub steps_away : Node → ℕ → ℕ → Node
+steps_away v d n = record { x = v.x +ℤ (dx d *ℤ pos n); y = v.y +ℤ (dy d *ℤ pos n) }
 
 -- a place of the ring of radius r round c, going round from the corner in direction 0: the ring has six sides of r nodes, and
 -- side s begins at the corner in direction s and leads towards the next corner
 abbrev pub ring_node : Node → ℕ → ℕ → Node
-ring_node c r k = moved (moved c (k / r) r) (turned (k / r) 2) (k % r)
+ring_node c r k = steps_away (steps_away c (k / r) r) (turned (k / r) 2) (k % r)
 
 -- of m places in a circle those of an arc, and no others, pass a test: the first n from place i on, going round. With n = 0
 -- none passes, with n = m all do

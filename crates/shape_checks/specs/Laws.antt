@@ -18,7 +18,17 @@ NextPlacesMeet = (c : Node) (r k : ℕ) → 1 ≤ r → k < 6 * r → Adjacent (
 
 -- where of four places in this order the first and the third pass, and the second and the last do not, those that pass are no arc
 abbrev pub TwoRunsAreNoArc : Type 0
-TwoRunsAreNoArc = (p : ℕ → Bool) (m i j k l : ℕ) → i < j → j < k → k < l → l < m → IsTrue (p i) → p j ≡ false → IsTrue (p k) → p l ≡ false → ¬ IsArc p m
+TwoRunsAreNoArc =
+    (p : ℕ → Bool) (m i j k l : ℕ)
+    → i < j
+    → j < k
+    → k < l
+    → l < m
+    → IsTrue (p i)
+    → p j ≡ false
+    → IsTrue (p k)
+    → p l ≡ false
+    → ¬ IsArc p m
 
 -- the node is nearer than so far
 abbrev pub nearer : Node → ℕ → Node → Bool
@@ -31,7 +41,12 @@ FullRingsAreHexagons = (c : Node) (r : ℕ) → 1 ≤ r → IsHexagonAt (nearer 
 -- round one node a set is a hexagon of one radius only, or of two that follow one another: then the first one's ring is full and
 -- the other's is empty
 abbrev pub RadiiFollow : Type 0
-RadiiFollow = (S : Node → Bool) (c : Node) (r s : ℕ) → IsHexagonAt S c r → IsHexagonAt S c s → r < s → (s ≡ r + 1) × ((v : Node) → IsTrue (S v) ↔ (distance c v ≤ r))
+RadiiFollow =
+    (S : Node → Bool) (c : Node) (r s : ℕ)
+    → IsHexagonAt S c r
+    → IsHexagonAt S c s
+    → r < s
+    → (s ≡ r + 1) × ((v : Node) → IsTrue (S v) ↔ (distance c v ≤ r))
 
 -- a hexagon is connected
 abbrev pub HexagonsAreConnected : Type 0

@@ -4,3 +4,7 @@ pub mod Marks
 pub mod Arcs
 pub mod Candidates
 pub mod Laws
+pub use Rattle.amoebot_state.specs.Limits
+pub use Rattle.amoebot_state.specs.Occupied
+pub use Rattle.tri_lattice.specs.Lattice
+pub use Rattle.tri_lattice.specs.Sets

@@ -10,12 +10,12 @@ use Rattle.tri_lattice.specs.Lattice.{step}
 use Rattle.tri_lattice.specs.Sets.{Joined}
 
 -- a node is marked under its number in the area; none outside is
-abbrev pub marked : Extent → List Bool → Node → Bool
-marked a marks v = unwrap_or (option_map (λ k. slice_index_or marks k false) (index_of a v)) false
+abbrev pub node_mark : Extent → List Bool → Node → Bool
+node_mark a marks v = unwrap_or (option_map (λ k. slice_index_or marks k false) (index_of a v)) false
 
 -- how many numbers are not marked
-abbrev pub unmarked : List Bool → ℕ
-unmarked marks = count_by not marks
+abbrev pub unmarked_count : List Bool → ℕ
+unmarked_count marks = count_by not marks
 
 -- the marks with one more, under a number if there is one
 abbrev pub set_at : List Bool → Option ℕ → List Bool
@@ -27,7 +27,7 @@ with_mark a marks v = set_at marks (index_of a v)
 
 -- the nodes that were met with one more, if it is not marked yet
 abbrev pub with_met : Extent → List Bool → List Node → Node → List Node
-with_met a marks order v = if marked a marks v then order else order ++ v ∷ []
+with_met a marks order v = if node_mark a marks v then order else order ++ v ∷ []
 
 -- the node that was met as number j
 abbrev pub met : List Node → ℕ → Node
@@ -38,20 +38,25 @@ met order j = slice_index_or order j (record { x = pos 0; y = pos 0 })
 pub record IsSearch (S : Node → Bool) (a : Extent) (marks : List Bool) (order : List Node) (done : ℕ) : Type 0 where
   pub size : length marks ≡ a.w * a.h
   pub begun : 0 < length order
-  pub reached : (v : Node) → IsTrue (marked a marks v) → Joined S (met order 0) v
-  pub listed : (j : ℕ) → j < length order → IsTrue (marked a marks (met order j))
-  pub found : (v : Node) → IsTrue (marked a marks v) → (j : ℕ) × (j < length order) × (met order j ≡ v)
-  pub closed : (j : ℕ) → j < done → (d : ℕ) → d < 6 → IsTrue (S (step (met order j) d)) → IsTrue (marked a marks (step (met order j) d))
+  pub reached : (v : Node) → IsTrue (node_mark a marks v) → Joined S (met order 0) v
+  pub listed : (j : ℕ) → j < length order → IsTrue (node_mark a marks (met order j))
+  pub found : (v : Node) → IsTrue (node_mark a marks v) → (j : ℕ) × (j < length order) × (met order j ≡ v)
+  pub closed : (j : ℕ)
+      → j < done
+      → (d : ℕ)
+      → d < 6
+      → IsTrue (S (step (met order j) d))
+      → IsTrue (node_mark a marks (step (met order j) d))
   pub few : done ≤ length order
 
 -- exactly the nodes to which a path leads from the start are marked
 pub record IsReach (S : Node → Bool) (a : Extent) (start : Node) (marks : List Bool) : Type 0 where
   pub size : length marks ≡ a.w * a.h
-  pub reached : (v : Node) → IsTrue (marked a marks v) → Joined S start v
-  pub whole : (v : Node) → Joined S start v → IsTrue (marked a marks v)
+  pub reached : (v : Node) → IsTrue (node_mark a marks v) → Joined S start v
+  pub whole : (v : Node) → Joined S start v → IsTrue (node_mark a marks v)
 
 -- a node of the set that is not marked and has a marked neighbour
 pub record IsBeside (S : Node → Bool) (a : Extent) (marks : List Bool) (v : Node) : Type 0 where
   pub on : IsTrue (S v)
-  pub new : marked a marks v ≡ false
-  pub neighbour : (d : ℕ) × (d < 6) × IsTrue (marked a marks (step v d))
+  pub new : node_mark a marks v ≡ false
+  pub neighbour : (d : ℕ) × (d < 6) × IsTrue (node_mark a marks (step v d))

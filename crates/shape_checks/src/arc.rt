@@ -1,13 +1,13 @@
 ghost use Rattle.std.specs.Prelude.{◌<◌, ◌≤◌, ◌+◌, ◌-◌, ◌%◌, length, Decides, false, true, ℕ, IfSome, IfNone};
 ghost use Rattle.shape_checks.specs.Hexagons.{IsArc};
-ghost use Rattle.shape_checks.specs.Arcs.{place, IsStart};
+ghost use Rattle.shape_checks.specs.Arcs.{circle_entry, IsStart};
 ghost use Rattle.shape_checks.specs.Candidates.{most_places};
 
 /// Whether the true places of a circle are those of an arc: none, all, or some that follow one another.
 pub(crate) fn is_arc(circle: &[bool]) -> bool
     requires some { 0 < length circle.now }
     requires few { length circle.now ≤ most_places }
-    ensures { Decides result (IsArc (place circle.now) (length circle.now)) }
+    ensures { Decides result (IsArc (circle_entry circle.now) (length circle.now)) }
 {
     match start(circle) {
         Some(from) => is_one_arc(circle, from),
@@ -34,7 +34,7 @@ fn start(circle: &[bool]) -> Option<usize>
 fn is_one_arc(circle: &[bool], from: usize) -> bool
     requires start { IsStart circle.now from }
     requires few { length circle.now ≤ most_places }
-    ensures { Decides result (IsArc (place circle.now) (length circle.now)) }
+    ensures { Decides result (IsArc (circle_entry circle.now) (length circle.now)) }
 {
     let mut over = false;
     for j in 0..circle.len() {

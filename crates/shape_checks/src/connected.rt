@@ -3,7 +3,7 @@ ghost use Rattle.tri_lattice.specs.declared.node.Node.{Node};
 ghost use Rattle.tri_lattice.specs.Extent.{is_in};
 ghost use Rattle.tri_lattice.specs.Sets.{IsConnected};
 ghost use Rattle.amoebot_state.specs.Occupied.{occupied};
-ghost use Rattle.shape_checks.specs.Marks.{marked, unmarked, with_mark, with_met, met, IsSearch, IsReach};
+ghost use Rattle.shape_checks.specs.Marks.{node_mark, unmarked_count, with_mark, with_met, met, IsSearch, IsReach};
 
 use amoebot_state::{NoMemory, World};
 use std::alloc::Global;
@@ -53,7 +53,8 @@ fn mark_round(
     requires below { number < length order.old.items }
     ensures search { OnOk result (IsSearch (occupied world.now) world.now.area marks.new.items order.new.items (number + 1)) }
     ensures start { OnOk result (met order.new.items 0 ≡ met order.old.items 0) }
-    ensures measure { OnOk result (unmarked marks.new.items + length order.new.items ≡ unmarked marks.old.items + length order.old.items) }
+    ensures measure { OnOk result (
+        unmarked_count marks.new.items + length order.new.items ≡ unmarked_count marks.old.items + length order.old.items) }
 {
     world.keeps();
     let area = world.area();
@@ -90,7 +91,7 @@ fn mark(
 /// Whether all occupied nodes are marked.
 pub(crate) fn are_marked(world: &World, marks: &[bool]) -> bool
     requires { length marks.now ≡ world.now.area.w * world.now.area.h }
-    ensures { Decides result ((v : Node) → IsTrue (occupied world.now v) → IsTrue (marked world.now.area marks.now v)) }
+    ensures { Decides result ((v : Node) → IsTrue (occupied world.now v) → IsTrue (node_mark world.now.area marks.now v)) }
 {
     world.keeps();
     let area = world.area();
@@ -106,7 +107,7 @@ pub(crate) fn are_marked(world: &World, marks: &[bool]) -> bool
 /// Whether a node is marked.
 pub(crate) fn is_marked(area: &Area, marks: &[bool], node: Node) -> bool
     requires { length marks.now ≡ area.now.w * area.now.h }
-    ensures { result ≡ marked area.now marks.now node }
+    ensures { result ≡ node_mark area.now marks.now node }
 {
     match area.index(node) {
         Some(number) => marks[number as usize],

@@ -2,9 +2,9 @@ ghost use Rattle.std.specs.Prelude.{◌≡◌, ◌<◌, ◌≤◌, ◌*◌, ◌�
 ghost use Rattle.tri_lattice.specs.declared.node.Node.{Node};
 ghost use Rattle.tri_lattice.specs.Lattice.{IsNear, distance};
 ghost use Rattle.amoebot_state.specs.Occupied.{occupied};
-ghost use Rattle.shape_checks.specs.Arcs.{place};
+ghost use Rattle.shape_checks.specs.Arcs.{circle_entry};
 ghost use Rattle.shape_checks.specs.Candidates.{IsCentral, most_radius};
-ghost use Rattle.shape_checks.specs.Hexagons.{moved, ring_node, IsHexagonAt, AreContracted};
+ghost use Rattle.shape_checks.specs.Hexagons.{steps_away, ring_node, IsHexagonAt, AreContracted};
 
 use crate::arc::is_arc;
 use amoebot_state::{NoMemory, World};
@@ -99,7 +99,8 @@ pub(crate) fn ring(
     requires some { 1 ≤ radius }
     requires few { radius ≤ most_radius }
     ensures len { IfOk result (λ ring. length ring.items ≡ 6 * radius) }
-    ensures places { IfOk result (λ ring. (k : ℕ) → k < 6 * radius → place ring.items k ≡ occupied world.now (ring_node centre radius k)) }
+    ensures places { IfOk result (λ ring.
+        (k : ℕ) → k < 6 * radius → circle_entry ring.items k ≡ occupied world.now (ring_node centre radius k)) }
 {
     let mut ring = Vec::new(alloc);
     for k in 0..6 * radius {
@@ -119,19 +120,19 @@ fn ring_node(centre: Node, radius: u16, k: u16) -> Node
     ensures { result ≡ ring_node centre radius k }
 {
     let side = k / radius;
-    let corner = moved(centre, side, radius);
-    moved(corner, (side + 2) % 6, k % radius)
+    let corner = steps_away(centre, side, radius);
+    steps_away(corner, (side + 2) % 6, k % radius)
 }
 
 /// The node so many steps away in a direction.
-fn moved(from: Node, dir: u16, steps: u16) -> Node
+fn steps_away(from: Node, dir: u16, steps: u16) -> Node
     requires below { dir < 6 }
     requires few { steps ≤ most_radius }
     requires x_low { negsuc 6999 ≤ℤ from.x }
     requires x_high { from.x ≤ℤ pos 7000 }
     requires y_low { negsuc 6999 ≤ℤ from.y }
     requires y_high { from.y ≤ℤ pos 7000 }
-    ensures { result ≡ moved from dir steps }
+    ensures { result ≡ steps_away from dir steps }
 {
     let steps = steps as i16;
     let Node { x, y } = from;

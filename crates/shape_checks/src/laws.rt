@@ -1,4 +1,5 @@
-ghost use Rattle.shape_checks.specs.Laws.{RingIsItsDistance, NextPlacesMeet, TwoRunsAreNoArc, FullRingsAreHexagons, RadiiFollow, HexagonsAreConnected, OneAloneIsHexagon};
+ghost use Rattle.shape_checks.specs.Laws.{RingIsItsDistance, NextPlacesMeet, TwoRunsAreNoArc, FullRingsAreHexagons};
+ghost use Rattle.shape_checks.specs.Laws.{RadiiFollow, HexagonsAreConnected, OneAloneIsHexagon};
 
 /// What holds of rings and their arcs.
 pub fn ring_laws()

@@ -14,6 +14,8 @@ pub use laws::{hexagon_laws, ring_laws};
 pub use values::count_value;
 
 #[cfg(test)]
-mod plain;
+mod by_definition;
+#[cfg(test)]
+mod drawings;
 #[cfg(test)]
 mod tests;

@@ -1,4 +1,13 @@
-pub mod Heading
-pub mod Giving
-pub mod Forming
-pub mod Checking
+pub mod HeaderLemmas
+pub mod ReaderLemmas
+pub mod StraightLemmas
+pub mod CheckedLemmas
+pub mod FrameLemmas
+pub mod StraightForms
+pub mod ContinuedTexts
+pub mod SectionLemmas
+pub mod DocumentsLemmas
+pub mod DocumentRowLemmas
+pub mod Fine
+pub mod FittingLemmas
+pub mod RunTextsLemmas

@@ -1,2 +1,16 @@
 pub mod Views
 pub mod Straight
+pub mod Frame
+pub mod FrameReaders
+pub mod FrameLaws
+pub mod Documents
+pub mod DocumentReaders
+pub mod RunTexts
+pub mod Fitting
+pub mod DocumentRows
+pub use Rattle.action_tree.specs.Stored
+pub use Rattle.amoebot_state.specs.Limits
+pub use Rattle.text_tokens.specs.Grammar
+pub use Rattle.text_tokens.specs.Reading
+pub use Rattle.text_tokens.specs.Steps
+pub use Rattle.text_tokens.specs.Text

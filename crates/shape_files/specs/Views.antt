@@ -2,7 +2,7 @@
 use Rattle.std.specs.Prelude.{Result, Ok, Err}
 use Rattle.text_tokens.specs.declared.refusal.Refusal.{Refusal}
 use Rattle.shape_files.specs.declared.parts.Parts.{Parts}
-use Rattle.document_grammar.specs.Documents.{Contents}
+use Rattle.shape_files.specs.Documents.{Contents}
 use Rattle.text_tokens.specs.declared.refusal.ReadRefusal.{ReadRefusal}
 use Rattle.text_tokens.specs.declared.refusal.ReadRefusal.TheVariants.{Refused}
 
@@ -13,4 +13,12 @@ as_read (Err r) = Err (Refused r)
 
 -- what a document has
 abbrev pub contents : Parts → Contents
-contents p = record { checked = p.checked; world = p.world; lists = p.lists; schedule = p.schedule; entries = p.entries; final_world = p.final_world }
+contents p =
+    record {
+      checked = p.checked;
+      world = p.world;
+      lists = p.lists;
+      schedule = p.schedule;
+      entries = p.entries;
+      final_world = p.final_world;
+    }

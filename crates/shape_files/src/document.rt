@@ -3,14 +3,14 @@
 ghost use Rattle.text_tokens.specs.declared.refusal.RefusalKind.TheVariants.{Trailing};
 ghost use Rattle.text_tokens.specs.Text.{IsCountable};
 ghost use Rattle.text_tokens.specs.Steps.{ReadsInput, Gives};
-ghost use Rattle.document_grammar.specs.Documents.{IsDocument};
-ghost use Rattle.document_grammar.specs.DocumentReaders.{document};
+ghost use Rattle.shape_files.specs.Documents.{IsDocument};
+ghost use Rattle.shape_files.specs.DocumentReaders.{document};
 ghost use Rattle.shape_files.specs.Views.{contents};
 
+use crate::Form;
 use crate::forms::read_form;
 use crate::head::read_head;
 use crate::parts::{Parts, Sections};
-use document_grammar::Form;
 use std::alloc::Global;
 use text_tokens::{ReadRefusal, RefusalKind, Tokens};
 

@@ -2,12 +2,12 @@
 
 ghost use Rattle.text_tokens.specs.Steps.{Gives};
 ghost use Rattle.shape_files.specs.Views.{contents};
-ghost use Rattle.shape_files.specs.Straight.{needed, optional, callers, record_behind, behind_program, straight};
+ghost use Rattle.shape_files.specs.Straight.{needed_section, optional_section, callers, record_behind, behind_program, straight};
 
 use crate::head::{is_next, missing};
 use crate::parts::Parts;
 use crate::section::read_section;
-use document_grammar::{Form, Section};
+use crate::{Form, Section};
 use std::alloc::Global;
 use text_tokens::{ReadRefusal, Tokens};
 
@@ -18,7 +18,7 @@ fn need(
     parts: &mut Parts,
     section: Section,
 ) -> Result<(), ReadRefusal>
-    ensures { Gives (λ _. contents parts.new) (needed section (contents parts.old)) tokens.old result tokens.new }
+    ensures { Gives (λ _. contents parts.new) (needed_section section (contents parts.old)) tokens.old result tokens.new }
 {
     if !is_next(tokens, section) {
         return Err(missing(tokens).into());
@@ -33,7 +33,7 @@ fn may(
     parts: &mut Parts,
     section: Section,
 ) -> Result<bool, ReadRefusal>
-    ensures { Gives (λ came. (came, contents parts.new)) (optional section (contents parts.old)) tokens.old result tokens.new }
+    ensures { Gives (λ came. (came, contents parts.new)) (optional_section section (contents parts.old)) tokens.old result tokens.new }
 {
     if !is_next(tokens, section) {
         return Ok(false);

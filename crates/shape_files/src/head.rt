@@ -3,12 +3,12 @@
 ghost use Rattle.std.specs.Prelude.{◌≡◌};
 ghost use Rattle.text_tokens.specs.Cursor.{next_passes, refusal_at};
 ghost use Rattle.text_tokens.specs.Steps.{TellsOf, ReadsOf, Gives};
-ghost use Rattle.document_grammar.specs.Frame.{IsHeader, is_word, is_section_word};
-ghost use Rattle.document_grammar.specs.FrameReaders.{header};
+ghost use Rattle.shape_files.specs.Frame.{IsHeader, is_word_of_section, is_section_word};
+ghost use Rattle.shape_files.specs.FrameReaders.{header};
 ghost use Rattle.shape_files.specs.Views.{as_read};
 ghost use Rattle.shape_files.specs.Straight.{missing_kind};
 
-use document_grammar::Section;
+use crate::Section;
 use text_tokens::{Refusal, RefusalKind, TokenKind, Tokens};
 
 const VERSION: u32 = 1;
@@ -37,13 +37,13 @@ fn head(tokens: &mut Tokens<'_>) -> Result<(), Refusal>
 
 /// Whether the word of this section comes.
 pub(crate) fn is_next(tokens: &Tokens<'_>, section: Section) -> bool
-    ensures { result ≡ next_passes (is_word section) tokens.now.ahead }
+    ensures { result ≡ next_passes (is_word_of_section section) tokens.now.ahead }
 {
     tokens.is_next(TokenKind::Word, section.word().as_bytes())
 }
 
 /// Whether one of the eight section words comes.
-#[tactic(auto, using(crate::proofs::Heading::section_words))]
+#[tactic(auto, using(crate::proofs::HeaderLemmas::section_words))]
 fn is_section_next(tokens: &Tokens<'_>) -> bool
     ensures { result ≡ next_passes is_section_word tokens.now.ahead }
 {

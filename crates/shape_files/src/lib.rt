@@ -1,15 +1,42 @@
-//! Whole documents: a header, and the sections of a form.
+//! Whole documents: a header, and the sections of a form. The grammar of documents, and what reads them.
 #![tactic(auto)]
 
 mod document;
+mod document_laws;
 mod forms;
 mod head;
 mod parts;
 mod section;
+mod section_kind;
 
 pub use document::read_sections;
-pub use document_grammar::Form;
+pub use document_laws::{
+    Sectioned, documents_are_decided, documents_fit, forms_are_straight, in_frame,
+    runs_are_replayed,
+};
 pub use head::read_head;
 pub use parts::{Parts, Sections};
 pub use schedule_text::Schedule;
+pub use section_kind::{Form, Section};
 pub use shape_text::print_shape;
+
+#[cfg(test)]
+mod faults;
+#[cfg(test)]
+mod form_tables;
+#[cfg(test)]
+mod journals;
+#[cfg(test)]
+mod limits;
+#[cfg(test)]
+mod lists;
+#[cfg(test)]
+mod pieces;
+#[cfg(test)]
+mod programs;
+#[cfg(test)]
+mod runs;
+#[cfg(test)]
+mod shapes;
+#[cfg(test)]
+mod tests;

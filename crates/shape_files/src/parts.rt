@@ -4,7 +4,7 @@ ghost use Rattle.std.specs.Prelude.{◌≡◌, ◌≤◌};
 ghost use Rattle.std.specs.Option.{option_map};
 ghost use Rattle.amoebot_state.specs.Limits.{most_vars};
 ghost use Rattle.shape_files.specs.Views.{contents};
-ghost use Rattle.document_grammar.specs.Documents.{nothing_yet, vars_of, maxes_in, actions_of, bots_of, callers_of};
+ghost use Rattle.shape_files.specs.Documents.{nothing_yet, var_count, maxes_in, actions_of, bots_of, callers_of};
 
 use action_check::Checked;
 use amoebot_state::World;
@@ -45,7 +45,7 @@ impl Parts {
 
     /// How many variables the program has, and 0 where there is none.
     pub(crate) fn vars(&self) -> u8
-        ensures value { result ≡ vars_of self.now.checked }
+        ensures value { result ≡ var_count self.now.checked }
         ensures few { result ≤ most_vars }
     {
         match &self.checked {
@@ -104,7 +104,7 @@ pub struct Sections {
 impl Model for Sections {
     ghost use Rattle.std.specs.Coded.{codes};
     ghost use Rattle.action_tree.specs.Stored.{program_code};
-    ghost use Rattle.document_grammar.specs.Documents.{Contents};
+    ghost use Rattle.shape_files.specs.Documents.{Contents};
     ghost use Rattle.shape_files.specs.Views.{contents};
 
     ghost Value = { Contents };

@@ -1,13 +1,13 @@
 //! Each section, in the state that those before it gave.
 
 ghost use Rattle.text_tokens.specs.Steps.{Gives};
-ghost use Rattle.document_grammar.specs.DocumentReaders.{a_checked_program, body};
+ghost use Rattle.shape_files.specs.DocumentReaders.{a_checked_program, body};
 ghost use Rattle.shape_files.specs.Views.{contents};
 
+use crate::Section;
 use crate::parts::Parts;
 use action_check::{Checked, check};
 use action_parser::parse_program;
-use document_grammar::Section;
 use journal_text::{read_journal, read_turns};
 use schedule_text::{read_lists, read_schedule};
 use shape_text::{read_final, read_shape};

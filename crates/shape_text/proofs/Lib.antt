@@ -1,4 +1,4 @@
-pub mod Judging
+pub mod JudgementsLemmas
 pub mod NextLines
 pub mod ShapeLaws
 pub mod ShapesReread

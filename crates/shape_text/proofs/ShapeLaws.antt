@@ -6,17 +6,17 @@ use Rattle.text_tokens.specs.Reading.{◌>>=◌, pure, no_limit}
 use Rattle.text_tokens.specs.Grammar.{Lang, Then, Made, Judged}
 use Rattle.text_tokens.specs.Lawful.{Exact, IsPart, always, Starts, AreElements}
 use Rattle.text_tokens.proofs.Exactness.{exact}
-use Rattle.text_tokens.proofs.Carrying.{part_made}
+use Rattle.text_tokens.proofs.CarriedTexts.{part_made}
 use Rattle.text_tokens.proofs.Parts.{part_judged}
-use Rattle.text_tokens.proofs.Beginnings.{starts_judged}
-use Rattle.text_tokens.proofs.Repeating.{part_repeated}
-use Rattle.text_tokens.proofs.Distinguishing.{other_text, a_numeral}
-use Rattle.text_tokens.proofs.Joining.{one_behind, into, starts_behind, starts_into}
-use Rattle.journal_text.specs.Parts.{word, is_end, one_more, IsWord, IsBotText}
-use Rattle.journal_text.specs.Readers.{a_word, a_bot}
-use Rattle.journal_text.proofs.PartLaws.{up_to_end, starts_word, part_word, part_word_within, starts_word_within, part_int, part_bot}
-use Rattle.shape_text.specs.Shapes.{outside, IsSide, an_area_of, IsAreaLine, is_bot, written_bot, past_bots, IsBotWord, IsBotLine, AreBots, WrittenShape, written_shape, IsWritten, wrong, stands_for, IsShapeUnder, IsShape, IsFinal}
-use Rattle.shape_text.specs.Readers.{a_side, an_area, bot_word, a_bot_line, bots_from, a_drawing, written, shape_under, a_shape, a_final}
+use Rattle.text_tokens.proofs.StartsLemmas.{starts_judged}
+use Rattle.text_tokens.proofs.RepeatedLemmas.{part_repeated}
+use Rattle.text_tokens.proofs.LexemeLemmas.{other_text, a_numeral}
+use Rattle.text_tokens.proofs.JoinedParts.{one_behind, into, starts_behind, starts_into}
+use Rattle.node_text.specs.Parts.{word, is_end, one_more, IsWord, IsBotText}
+use Rattle.node_text.specs.PartReaders.{a_word, a_bot}
+use Rattle.node_text.proofs.PartLaws.{up_to_end, starts_word, part_word, part_word_within, starts_word_within, part_int, part_bot}
+use Rattle.shape_text.specs.Shapes.{outside, IsSide, an_area_of, IsAreaLine, is_bot, written_bot, past_bots, IsBotWord, IsBotLine, AreBots, WrittenShape, written_shape, IsWrittenShape, shape_fault, stands_for, IsShapeUnder, IsShape, IsFinal}
+use Rattle.shape_text.specs.Readers.{a_side, an_area, bot_word, a_bot_line, bots_from, a_drawing, a_written_shape, shape_under, a_shape, a_final}
 
 -- ---- the area
 
@@ -66,16 +66,16 @@ module _ (vars : ℕ) where
   -- ---- the sections
 
   module _ (text : List ℕ) (is : IsPart (IsWord text) (a_word text) always) where
-    part_written : IsPart (IsWritten text vars) (written text vars) always
-    unfolding written
+    part_written : IsPart (IsWrittenShape text vars) (a_written_shape text vars) always
+    unfolding a_written_shape
     part_written = one_behind is (λ line. up_to_end part_drawing)
 
     part_shape_under : (maxes : List ℕ) → IsPart (IsShapeUnder text vars maxes) (shape_under text vars maxes) always
     unfolding shape_under
-    part_shape_under maxes = part_made (Judged (IsWritten text vars) (wrong maxes)) (stands_for maxes) _ always (part_judged (IsWritten text vars) (written text vars) (wrong maxes) always part_written)
+    part_shape_under maxes = part_made (Judged (IsWrittenShape text vars) (shape_fault maxes)) (stands_for maxes) _ always (part_judged (IsWrittenShape text vars) (a_written_shape text vars) (shape_fault maxes) always part_written)
 
   starts_shape_under : (text maxes : List ℕ) → Starts (IsShapeUnder text vars maxes) (word text) no_limit
-  starts_shape_under text maxes = starts_into (stands_for maxes) (starts_judged (IsWritten text vars) (wrong maxes) (word text) no_limit (starts_word text (λ line. up_to_end part_drawing)))
+  starts_shape_under text maxes = starts_into (stands_for maxes) (starts_judged (IsWrittenShape text vars) (shape_fault maxes) (word text) no_limit (starts_word text (λ line. up_to_end part_drawing)))
 
 abbrev shape_word : IsPart (IsWord (codes "shape")) (a_word (codes "shape")) always
 shape_word = part_word (codes "shape") refl

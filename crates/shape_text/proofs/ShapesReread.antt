@@ -13,30 +13,30 @@ use Rattle.text_tokens.specs.declared.token.TokenKind.TheVariants.{Word}
 use Rattle.text_tokens.specs.declared.refusal.Refusal.{Refusal}
 use Rattle.text_tokens.specs.Text.{Lexeme}
 use Rattle.text_tokens.specs.Lines.{Words}
-use Rattle.text_tokens.specs.Reading.{value}
+use Rattle.text_tokens.specs.Reading.{lexeme_value}
 use Rattle.text_tokens.specs.Grammar.{Lang, Closed, Judged, no_more}
 use Rattle.text_tokens.proofs.PrintedTokens.{word_is_token}
 use Rattle.amoebot_state.specs.declared.bot.Bot.{Bot}
 use Rattle.amoebot_state.specs.Configs.{Config, config_of, IsValid, bot_at}
 use Rattle.amoebot_state.specs.Limits.{most_bots}
 use Rattle.amoebot_state.proofs.Faults.{valid_is_faultless}
-use Rattle.journal_text.specs.Parts.{is_end, one_more, IsWord}
-use Rattle.journal_text.specs.JournalRows.{Says}
-use Rattle.journal_text.specs.Rereading.{size, HasLimits}
-use Rattle.text_tokens.proofs.Respelling.{Is, Any, Rereads, RereadsLines, rereads_then, rereads_next, rereads_made, rereads_as, rereads_number, rereads_behind, one_rereads, one_found, the_passes, found_judged, found_made, rereads_the, reread_line, lines_by, lines_into, lines_made, lines_then, lines_next, lines_behind_line, lines_nothing, more_of}
-use Rattle.text_tokens.proofs.Stepping.{not_past}
-use Rattle.journal_text.proofs.Saying.{lines_say}
-use Rattle.journal_text.proofs.JournalsReread.{the_word, an_int, a_bot}
-use Rattle.shape_text.specs.Shapes.{outside, IsSide, an_area_of, IsAreaLine, WrittenBot, written_bot, bot_in, IsBotWord, IsBotLine, AreBots, WrittenShape, written_shape, wrong, stands_for, IsShapeUnder}
+use Rattle.node_text.specs.Parts.{is_end, one_more, IsWord}
+use Rattle.text_tokens.specs.Inputs.{Says}
+use Rattle.node_text.specs.PartLimits.{size, HasLimits}
+use Rattle.text_tokens.proofs.LinesLemmas.{Is, Any, Rereads, RereadsLines, rereads_then, rereads_next, rereads_made, rereads_as, rereads_number, rereads_behind, one_rereads, one_found, the_passes, found_judged, found_made, rereads_the, reread_line, lines_by, lines_into, lines_made, lines_then, lines_next, lines_behind_line, lines_nothing, more_of}
+use Rattle.text_tokens.proofs.StepsLemmas.{not_past}
+use Rattle.text_tokens.proofs.SaysLemmas.{lines_say}
+use Rattle.node_text.proofs.PartsReread.{the_word, an_int, a_bot}
+use Rattle.shape_text.specs.Shapes.{outside, IsSide, an_area_of, IsAreaLine, WrittenBot, written_bot, written_amoebot, IsBotWord, IsBotLine, AreBots, WrittenShape, written_shape, shape_fault, stands_for, IsShapeUnder}
 use Rattle.shape_text.specs.Texts.{area_words, bot_line, present, shape_text}
-use Rattle.shape_text.specs.Rereading.{IsWritable, ShapesReadBack}
-use Rattle.shape_text.proofs.Judging.{faultless_fits}
+use Rattle.shape_text.specs.Rereading.{IsWritableConfig, ShapesReadBack}
+use Rattle.shape_text.proofs.JudgementsLemmas.{faultless_fits}
 use Rattle.shape_text.proofs.ShapeLaws.{Drawing}
 use Rattle.shape_text.proofs.WithinLimits.{has_coordinates, small_values}
 
 -- ---- the area
 
-inside : (n : ℕ) → 1 ≤ n → n ≤ 128 → (t : Lexeme) → value t ≡ n → outside 1 128 t ≡ None
+inside : (n : ℕ) → 1 ≤ n → n ≤ 128 → (t : Lexeme) → lexeme_value t ≡ n → outside 1 128 t ≡ None
 inside n low high t e = let a : nat_le 1 n ≡ true = le-leb _ _ low in let b : nat_le n 128 ≡ true = le-leb _ _ high in rw (e, a, b) refl
 
 a_side : (n : ℕ) → 1 ≤ n → n ≤ 128 → Rereads IsSide (Is n) (decimal n ∷ [])
@@ -58,10 +58,10 @@ the_area a is =
 
 module _ (vars : ℕ) (le : vars ≤ 8) where
   abbrev Its : Bot → WrittenBot → Type 0
-  Its b w = bot_in w ≡ b
+  Its b w = written_amoebot w ≡ b
 
   abbrev These : List Bot → List WrittenBot → Type 0
-  These bs ws = map bot_in ws ≡ bs
+  These bs ws = map written_amoebot ws ≡ bs
 
   the_bot_word : (before : ℕ) → before < most_bots → Rereads (IsBotWord before) Any (codes "bot" ∷ [])
   the_bot_word before lt = rereads_made (λ (t : Lexeme). t.line) (codes "bot" ∷ []) (λ t s. tt) (one_rereads (codes "bot") (word_is_token _ _ refl refl (omega arith)) (one_found (codes "bot") (the_passes Word (codes "bot") refl refl) (λ t s. not_past before most_bots lt)))
@@ -72,13 +72,13 @@ module _ (vars : ℕ) (le : vars ≤ 8) where
       rereads_behind (codes "bot" ∷ []) _ (the_bot_word before lt) p.spelled p.printed (λ line x ts s. found_made (λ b. written_bot line b) (λ c e. e) ts (p.read ts s))
 
   the_bots : (before : ℕ) (bs : List Bot) → before + length bs ≤ most_bots → All (HasLimits vars) bs → RereadsLines (AreBots vars before) (These bs) (map (bot_line vars) bs)
-  the_bots before [] fit all = lines_by {A = List WrittenBot} {B = List WrittenBot} {P = AreBots vars before} {Q = AreBots vars before} {R = Is []} {S = These []} {lines = []} (λ ws. ws) (λ xs ws p. p) (λ ws e. ap (map bot_in) e) (lines_nothing [] no_more)
+  the_bots before [] fit all = lines_by {A = List WrittenBot} {B = List WrittenBot} {P = AreBots vars before} {Q = AreBots vars before} {R = Is []} {S = These []} {lines = []} (λ ws. ws) (λ xs ws p. p) (λ ws e. ap (map written_amoebot) e) (lines_nothing [] no_more)
   the_bots before (b ∷ bs) fit all =
       let more = the_bots (suc before) bs (omega arith) (All-tail (HasLimits vars) b bs all) in
       let one = reread_line (bot_line vars b) (the_bot before (omega arith) b (All-head (HasLimits vars) b bs all)) in
       lines_into (bot_line vars b ∷ map (bot_line vars) bs) (more_of (IsBotLine vars) one_more before)
       (lines_behind_line (bot_line vars b ∷ []) (map (bot_line vars) bs) one more.spelled more.printed
-      (λ w is ts s. found_made (λ ws. w ∷ ws) (λ ws are. ap (λ (c : Bot). c ∷ map bot_in ws) is ∙ ap (λ (cs : List Bot). b ∷ cs) are) ts (more.read ts s)))
+      (λ w is ts s. found_made (λ ws. w ∷ ws) (λ ws are. ap (λ (c : Bot). c ∷ map written_amoebot ws) is ∙ ap (λ (cs : List Bot). b ∷ cs) are) ts (more.read ts s)))
 
 -- ---- sections
 
@@ -88,7 +88,7 @@ lines_judged judge lines none p = record { spelled = p.spelled; printed = p.prin
 
 module _ (vars : ℕ) (le : vars ≤ 8) (a : Extent) (maxes : List ℕ) (bs : List Bot) (valid : IsValid (config_of a maxes bs)) (few : length bs ≤ most_bots) (limits : All (HasLimits vars) bs) where
   abbrev IsThis : WrittenShape → Type 0
-  IsThis s = (s.area ≡ a) × (map bot_in s.bots ≡ bs)
+  IsThis s = (s.area ≡ a) × (map written_amoebot s.bots ≡ bs)
 
   abbrev the_lines : List Words
   the_lines = area_words a ∷ map (bot_line vars) bs
@@ -101,17 +101,17 @@ module _ (vars : ℕ) (le : vars ≤ 8) (a : Extent) (maxes : List ℕ) (bs : Li
       let last = reread_line (codes "end" ∷ []) (rereads_the Word (codes "end") (word_is_token _ _ refl refl (omega arith)) refl refl) in
       lines_behind_line the_lines ((codes "end" ∷ []) ∷ []) drawing last.spelled last.printed (λ s is ts e. found_made (λ line. s) (λ line x. is) ts (last.read ts e))
 
-  fine : (s : WrittenShape) → IsThis s → wrong maxes s ≡ None
+  fine : (s : WrittenShape) → IsThis s → shape_fault maxes s ≡ None
   fine s is = faultless_fits a maxes bs (valid_is_faultless a maxes bs valid) s is.0 is.1
 
   same : (s : WrittenShape) → IsThis s → stands_for maxes s ≡ config_of a maxes bs
-  same s is = ap (λ (x : Extent). config_of x maxes (map bot_in s.bots)) is.0 ∙ ap (config_of a maxes) is.1
+  same s is = ap (λ (x : Extent). config_of x maxes (map written_amoebot s.bots)) is.0 ∙ ap (config_of a maxes) is.1
 
   -- in a section with this word
   pub shape_lines : (text : List ℕ) → Rereads (IsWord text) Any (text ∷ []) → RereadsLines (IsShapeUnder text vars maxes) (Is (config_of a maxes bs)) ((text ∷ []) ∷ the_lines ++ (codes "end" ∷ []) ∷ [])
   shape_lines text first =
       let all = (text ∷ []) ∷ the_lines ++ (codes "end" ∷ []) ∷ [] in
-      lines_made (stands_for maxes) all same (lines_judged (wrong maxes) all fine (lines_next ((text ∷ []) ∷ []) (the_lines ++ (codes "end" ∷ []) ∷ []) (reread_line (text ∷ []) first) closed_drawing))
+      lines_made (stands_for maxes) all same (lines_judged (shape_fault maxes) all fine (lines_next ((text ∷ []) ∷ []) (the_lines ++ (codes "end" ∷ []) ∷ []) (reread_line (text ∷ []) first) closed_drawing))
 
 -- ---- worlds
 
@@ -121,7 +121,7 @@ all_present [] some = refl
 all_present (Some b ∷ os) some = ap (λ (rest : List (Option Bot)). Some b ∷ rest) (all_present os (λ i lt. some (suc i) (omega arith)))
 all_present (None ∷ os) some = absurd (let is = some zero (omega arith) in cc)
 
-module _ (vars : ℕ) (c : Config) (w : IsWritable vars c) where
+module _ (vars : ℕ) (c : Config) (w : IsWritableConfig vars c) where
   abbrev bots : List Bot
   bots = present c.bots
 

@@ -6,3 +6,6 @@ pub mod Shapes
 pub mod TextRows
 pub mod Texts
 pub mod Views
+pub use Rattle.amoebot_state.specs.Limits
+pub use Rattle.text_tokens.specs.Lawful
+pub use Rattle.text_tokens.specs.Steps

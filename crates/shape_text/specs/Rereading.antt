@@ -5,12 +5,13 @@ use Rattle.std.specs.List.{All}
 use Rattle.amoebot_state.specs.declared.bot.Bot.{Bot}
 use Rattle.amoebot_state.specs.Configs.{Config, IsValid, bot_at}
 use Rattle.amoebot_state.specs.Limits.{most_bots, most_vars, most_value}
-use Rattle.journal_text.specs.JournalRows.{Says}
+use Rattle.text_tokens.specs.Inputs.{Says}
 use Rattle.shape_text.specs.Shapes.{IsShape, IsFinal}
 use Rattle.shape_text.specs.Texts.{shape_text}
 
--- What a world is: valid, with at most 4,096 amoebots, whose ids have no gaps. No maximum is above 255, and the amoebots have 0 past the variables.
-pub record IsWritable (vars : ℕ) (c : Config) : Type 0 where
+-- What a world is: valid, with at most 4,096 amoebots, whose ids have no gaps.
+-- No maximum is above 255, and the amoebots have 0 past the variables.
+pub record IsWritableConfig (vars : ℕ) (c : Config) : Type 0 where
   pub valid : IsValid c
   pub few : length c.bots ≤ most_bots
   pub no_gaps : (id : ℕ) → id < length c.bots → IsSome (bot_at c id)
@@ -18,9 +19,9 @@ pub record IsWritable (vars : ℕ) (c : Config) : Type 0 where
   pub zeros : (id : ℕ) (b : Bot) → bot_at c id ≡ Some b → drop vars b.mem ≡ replicate (most_vars - vars) 0
 
 -- such a configuration is read back, as the one section and as the other
-pub record ReadsBack (vars : ℕ) (c : Config) : Type 0 where
+pub record ShapeReadsBack (vars : ℕ) (c : Config) : Type 0 where
   pub shape : Says (IsShape vars c.maxes) (shape_text (codes "shape") vars c) (Ok c)
   pub final : Says (IsFinal vars c.maxes) (shape_text (codes "final") vars c) (Ok c)
 
 abbrev pub ShapesReadBack : Type 0
-ShapesReadBack = (vars : ℕ) (c : Config) → vars ≤ most_vars → IsWritable vars c → ReadsBack vars c
+ShapesReadBack = (vars : ℕ) (c : Config) → vars ≤ most_vars → IsWritableConfig vars c → ShapeReadsBack vars c

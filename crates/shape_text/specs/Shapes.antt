@@ -3,8 +3,10 @@
 --   final := "final" area { bot } "end"
 --   area  := "area" int int NUMBER NUMBER      where it begins, and how wide and high it is
 --   bot   := "bot" amoebot
--- The ids of the amoebots are their places. A beginning farther than 4,096 from 0 and a side that is not 1 to 128 is a BadRange, and the 4,097th `bot` is TooMany.
--- Behind `end` the amoebots are judged by rising id, as a world judges them: the first that breaks a rule is refused at its word, for the first rule that it breaks.
+-- The ids of the amoebots are their places.
+-- A beginning farther than 4,096 from 0 and a side that is not 1 to 128 is a BadRange, and the 4,097th `bot` is TooMany.
+-- Behind `end` the amoebots are judged by rising id, as a world judges them.
+-- The first that breaks a rule is refused at its word, for the first rule that it breaks.
 use Rattle.std.specs.Prelude.{ℕ, ℤ, Bool, ◌&&◌, nat_le, if◌then◌else◌, List, [], ◌∷◌, Option, Some, None, map, codes}
 use Rattle.std.specs.Option.{option_map, option_and_then, option_or}
 use Rattle.tri_lattice.specs.Extent.{Extent, most_start, most_side}
@@ -13,7 +15,7 @@ use Rattle.text_tokens.specs.declared.refusal.RefusalKind.{RefusalKind}
 use Rattle.text_tokens.specs.declared.refusal.RefusalKind.TheVariants as kind
 use Rattle.text_tokens.specs.Text.{Lexeme}
 use Rattle.text_tokens.specs.Cursor.{on_line}
-use Rattle.text_tokens.specs.Reading.{value}
+use Rattle.text_tokens.specs.Reading.{lexeme_value}
 use Rattle.text_tokens.specs.Grammar.{Lang, IsOne, Then, Made, IsNumeral, Closed, Judged, Repeated}
 use Rattle.amoebot_state.specs.declared.bot.Bot.{Bot}
 use Rattle.amoebot_state.specs.declared.refusal.WorldRefusal.{WorldRefusal}
@@ -21,12 +23,12 @@ use Rattle.amoebot_state.specs.declared.refusal.WorldRefusal.TheVariants as worl
 use Rattle.amoebot_state.specs.Configs.{Config, config_of, with_bot}
 use Rattle.amoebot_state.specs.Limits.{most_bots}
 use Rattle.amoebot_state.specs.Refusals.{bot_fault}
-use Rattle.journal_text.specs.Parts.{word, is_end, past_most, one_more, IsWord, IsInt, IsBotText}
+use Rattle.node_text.specs.Parts.{word, is_end, past_most, one_more, IsWord, IsInt, IsBotText}
 
 -- ---- the area
 
 abbrev pub outside : ℕ → ℕ → Lexeme → Option RefusalKind
-outside least most t = if nat_le least (value t) && nat_le (value t) most then None else Some kind.BadRange
+outside least most t = if nat_le least (lexeme_value t) && nat_le (lexeme_value t) most then None else Some kind.BadRange
 
 -- a side of an area
 abbrev pub IsSide : Lang ℕ
@@ -36,7 +38,9 @@ abbrev pub an_area_of : ℤ → ℤ → ℕ → ℕ → Extent
 an_area_of x0 y0 w h = record { x0 = x0; y0 = y0; w = w; h = h }
 
 abbrev pub IsAreaLine : Lang Extent
-IsAreaLine = Then (IsWord (codes "area")) (λ line. Then (IsInt most_start) (λ x0. Then (IsInt most_start) (λ y0. Then IsSide (λ w. Made IsSide (λ h. an_area_of x0 y0 w h)))))
+IsAreaLine =
+    Then (IsWord (codes "area")) (λ line. Then (IsInt most_start) (λ x0. Then (IsInt most_start) (λ y0.
+    Then IsSide (λ w. Made IsSide (λ h. an_area_of x0 y0 w h)))))
 
 -- ---- the amoebots
 
@@ -95,24 +99,26 @@ pub record WrittenShape : Type 0 where
 abbrev pub written_shape : Extent → List WrittenBot → WrittenShape
 written_shape area bots = record { area = area; bots = bots }
 
-abbrev pub bot_in : WrittenBot → Bot
-bot_in b = b.bot
+abbrev pub written_amoebot : WrittenBot → Bot
+written_amoebot b = b.bot
 
 -- a shape in a section with this word
-abbrev pub IsWritten : List ℕ → ℕ → Lang WrittenShape
-IsWritten text vars = Then (IsWord text) (λ line. Closed (Then IsAreaLine (λ area. Made (AreBots vars 0) (λ bots. written_shape area bots))) is_end)
+abbrev pub IsWrittenShape : List ℕ → ℕ → Lang WrittenShape
+IsWrittenShape text vars =
+    Then (IsWord text)
+    (λ line. Closed (Then IsAreaLine (λ area. Made (AreBots vars 0) (λ bots. written_shape area bots))) is_end)
 
 -- with these maxima of the variables: what is wrong with it, and the configuration that it stands for
 module _ (maxes : List ℕ) where
-  abbrev pub wrong : WrittenShape → Option Refusal
-  wrong s = first_broken (config_of s.area maxes []) s.bots
+  abbrev pub shape_fault : WrittenShape → Option Refusal
+  shape_fault s = first_broken (config_of s.area maxes []) s.bots
 
   abbrev pub stands_for : WrittenShape → Config
-  stands_for s = config_of s.area maxes (map bot_in s.bots)
+  stands_for s = config_of s.area maxes (map written_amoebot s.bots)
 
 -- a shape under this word, with the values of so many variables, and these maxima of all eight
 abbrev pub IsShapeUnder : List ℕ → ℕ → List ℕ → Lang Config
-IsShapeUnder text vars maxes = Made (Judged (IsWritten text vars) (wrong maxes)) (stands_for maxes)
+IsShapeUnder text vars maxes = Made (Judged (IsWrittenShape text vars) (shape_fault maxes)) (stands_for maxes)
 
 abbrev pub IsShape : ℕ → List ℕ → Lang Config
 IsShape = IsShapeUnder (codes "shape")

@@ -10,27 +10,27 @@ use Rattle.amoebot_state.specs.declared.refusal.WorldRefusal.TheVariants as worl
 use Rattle.amoebot_state.specs.Configs.{Config}
 use Rattle.shape_text.specs.declared.shape.WrittenBot as code_bot
 use Rattle.shape_text.specs.declared.shape.WrittenShape as code_shape
-use Rattle.shape_text.specs.Shapes.{WrittenBot, WrittenShape, written_bot, written_shape, wrong, stands_for}
+use Rattle.shape_text.specs.Shapes.{WrittenBot, WrittenShape, written_bot, written_shape, shape_fault, stands_for}
 
-abbrev pub bot : code_bot.WrittenBot → WrittenBot
-bot b = written_bot b.line b.bot
+abbrev pub bot_view : code_bot.WrittenBot → WrittenBot
+bot_view b = written_bot b.line b.bot
 
 abbrev pub shape : code_shape.WrittenShape → WrittenShape
-shape s = written_shape s.area (map bot s.bots.items)
+shape s = written_shape s.area (map bot_view s.bots.items)
 
 -- the amoebot that a world refuses, and for what
-abbrev pub blamed : WorldRefusal → Option (ℕ × RefusalKind)
-blamed (world.OutOfBox id) = Some (id, kind.OutOfBox)
-blamed (world.NotAdjacent id) = Some (id, kind.NotAdjacent)
-blamed (world.Overlap id) = Some (id, kind.Overlap)
-blamed (world.BadValue id) = Some (id, kind.BadValue)
-blamed world.NoMemory = None
+abbrev pub blamed_bot : WorldRefusal → Option (ℕ × RefusalKind)
+blamed_bot (world.OutOfBox id) = Some (id, kind.OutOfBox)
+blamed_bot (world.NotAdjacent id) = Some (id, kind.NotAdjacent)
+blamed_bot (world.Overlap id) = Some (id, kind.Overlap)
+blamed_bot (world.BadValue id) = Some (id, kind.BadValue)
+blamed_bot world.NoMemory = None
 
 -- the shape is refused for the first rule that it breaks, or it is this world; want of memory says nothing
 abbrev pub IsJudged : List ℕ → WrittenShape → Result Config ReadRefusal → Type 0
-IsJudged maxes s (Ok w) = (wrong maxes s ≡ None) × (w ≡ stands_for maxes s)
+IsJudged maxes s (Ok w) = (shape_fault maxes s ≡ None) × (w ≡ stands_for maxes s)
 IsJudged maxes s (Err NoMemory) = Unit {0}
-IsJudged maxes s (Err (Refused r)) = wrong maxes s ≡ Some r
+IsJudged maxes s (Err (Refused r)) = shape_fault maxes s ≡ Some r
 
 -- the refusal names the line of that amoebot
 abbrev pub BlamedAs : List code_bot.WrittenBot → Option (ℕ × RefusalKind) → ReadRefusal → Type 0

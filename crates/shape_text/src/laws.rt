@@ -7,7 +7,7 @@ ghost use Rattle.shape_text.specs.Readers.{a_final, a_shape};
 ghost use Rattle.shape_text.specs.Judgements.{JudgedAsWorlds};
 ghost use Rattle.shape_text.specs.Rereading.{ShapesReadBack};
 ghost use Rattle.shape_text.specs.ShapeRows.{ShapesAreRead};
-ghost use Rattle.shape_text.specs.TextRows.{TextsArePrinted};
+ghost use Rattle.shape_text.specs.TextRows.{ShapeTextsArePrinted};
 
 /// Of any tokens the grammar of a shape says one thing, and its reader answers that; and so does that of a last shape.
 pub fn shapes_are_decided()
@@ -25,7 +25,7 @@ pub fn shapes_read_back()
 
 /// Small configurations with their texts.
 pub fn texts_are_printed()
-    ensures { TextsArePrinted }
+    ensures { ShapeTextsArePrinted }
 {}
 
 /// What is wrong with a shape is what a world refuses.

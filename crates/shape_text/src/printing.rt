@@ -6,7 +6,7 @@ ghost use Rattle.amoebot_state.specs.Limits.{most_vars};
 ghost use Rattle.shape_text.specs.Texts.{area_words, bot_line, present, shape_text};
 
 use amoebot_state::{NoMemory, World};
-use journal_text::put_bot;
+use node_text::put_bot;
 use std::alloc::{AllocError, Global};
 use text_tokens::{Lines, Text};
 use tri_lattice::Area;

@@ -5,14 +5,14 @@ ghost use Rattle.std.specs.List.{All};
 ghost use Rattle.text_tokens.specs.declared.refusal.ReadRefusal.TheVariants.{NoMemory};
 ghost use Rattle.text_tokens.specs.Steps.{Gives, ReadsOf, TellsOf, another};
 ghost use Rattle.amoebot_state.specs.Limits.{most_bots, most_vars};
-ghost use Rattle.amoebot_state.specs.Refusals.{IsPlain};
+ghost use Rattle.amoebot_state.specs.Refusals.{IsBotInRange};
 ghost use Rattle.tri_lattice.specs.Extent.{most_side};
 ghost use Rattle.shape_text.specs.Shapes as spec;
 ghost use Rattle.shape_text.specs.Readers as reader;
 ghost use Rattle.shape_text.specs.Views as view;
 
 use amoebot_state::{Bot, World, WorldRefusal};
-use journal_text::{read_bot, read_int, read_word, read_word_within};
+use node_text::{read_bot, read_int, read_word, read_word_within};
 use std::alloc::Global;
 use text_tokens::{ReadRefusal, RefusalKind, TokenKind, Tokens, refused};
 use tri_lattice::Area;
@@ -68,9 +68,9 @@ fn read_area(tokens: &mut Tokens<'_>) -> Result<Area, ReadRefusal>
 #[tactic(auto, unfolding(crate::specs::Readers::a_bot_line, crate::specs::Readers::bot_word))]
 fn read_bot_line(tokens: &mut Tokens<'_>, vars: u8, before: u32) -> Result<WrittenBot, ReadRefusal>
     requires { vars ≤ most_vars }
-    ensures reads { Gives view.bot (reader.a_bot_line vars before) tokens.old result tokens.new }
+    ensures reads { Gives view.bot_view (reader.a_bot_line vars before) tokens.old result tokens.new }
     ensures room { IfOk result (λ _. before < most_bots) }
-    ensures plain { IfOk result (λ b. IsPlain b.bot) }
+    ensures plain { IfOk result (λ b. IsBotInRange b.bot) }
 {
     let line = read_word_within(tokens, b"bot", MOST_BOTS, before)?;
     let bot = read_bot(tokens, vars)?;
@@ -84,9 +84,10 @@ fn more_bot(
     before: u32,
 ) -> Result<Option<WrittenBot>, ReadRefusal>
     requires { vars ≤ most_vars }
-    ensures reads { Gives (λ o. option_map view.bot o) (another spec.is_bot (reader.a_bot_line vars before)) tokens.old result tokens.new }
+    ensures reads { Gives (λ o. option_map view.bot_view o) (another spec.is_bot (reader.a_bot_line vars before))
+        tokens.old result tokens.new }
     ensures room { IfOk result (λ o. IfSome o (λ _. before < most_bots)) }
-    ensures plain { IfOk result (λ o. IfSome o (λ b. IsPlain b.bot)) }
+    ensures plain { IfOk result (λ o. IfSome o (λ b. IsBotInRange b.bot)) }
 {
     if !tokens.is_next(TokenKind::Word, b"bot") {
         return Ok(None);
@@ -100,9 +101,9 @@ fn read_bots(
     vars: u8,
 ) -> Result<Vec<WrittenBot>, ReadRefusal>
     requires { vars ≤ most_vars }
-    ensures reads { Gives (λ v. map view.bot v.items) (reader.all_bots vars) tokens.old result tokens.new }
+    ensures reads { Gives (λ v. map view.bot_view v.items) (reader.all_bots vars) tokens.old result tokens.new }
     ensures few { IfOk result (λ v. vec_len v ≤ most_bots) }
-    ensures plain { IfOk result (λ v. All (λ b. IsPlain b.bot) v.items) }
+    ensures plain { IfOk result (λ v. All (λ b. IsBotInRange b.bot) v.items) }
 {
     let mut found = Vec::new(alloc);
     let mut before = 0;
@@ -122,7 +123,7 @@ fn read_drawing(
     requires { vars ≤ most_vars }
     ensures reads { Gives view.shape (reader.a_drawing vars) tokens.old result tokens.new }
     ensures few { IfOk result (λ s. vec_len s.bots ≤ most_bots) }
-    ensures plain { IfOk result (λ s. All (λ b. IsPlain b.bot) s.bots.items) }
+    ensures plain { IfOk result (λ s. All (λ b. IsBotInRange b.bot) s.bots.items) }
 {
     let area = read_area(tokens)?;
     let bots = read_bots(alloc, tokens, vars)?;
@@ -130,7 +131,7 @@ fn read_drawing(
 }
 
 /// A shape in a section with this word, up to its `end`.
-#[tactic(auto, unfolding(crate::specs::Readers::written))]
+#[tactic(auto, unfolding(crate::specs::Readers::a_written_shape))]
 fn read_written(
     alloc: Global,
     tokens: &mut Tokens<'_>,
@@ -138,9 +139,9 @@ fn read_written(
     vars: u8,
 ) -> Result<WrittenShape, ReadRefusal>
     requires { vars ≤ most_vars }
-    ensures reads { Gives view.shape (reader.written text.now vars) tokens.old result tokens.new }
+    ensures reads { Gives view.shape (reader.a_written_shape text.now vars) tokens.old result tokens.new }
     ensures few { IfOk result (λ s. vec_len s.bots ≤ most_bots) }
-    ensures plain { IfOk result (λ s. All (λ b. IsPlain b.bot) s.bots.items) }
+    ensures plain { IfOk result (λ s. All (λ b. IsBotInRange b.bot) s.bots.items) }
 {
     read_word(tokens, text)?;
     let shape = read_drawing(alloc, tokens, vars)?;
@@ -162,7 +163,7 @@ fn bots_of(alloc: Global, written: &[WrittenBot]) -> Result<Vec<Bot>, ReadRefusa
 
 /// The amoebot that is refused, and for what; `None` for want of memory.
 fn blamed(refusal: WorldRefusal) -> Option<(u16, RefusalKind)>
-    ensures { result ≡ view.blamed refusal }
+    ensures { result ≡ view.blamed_bot refusal }
 {
     match refusal {
         WorldRefusal::OutOfBox(id) => Some((id, RefusalKind::OutOfBox)),
@@ -175,8 +176,8 @@ fn blamed(refusal: WorldRefusal) -> Option<(u16, RefusalKind)>
 
 /// The refusal of an amoebot of these at its word.
 fn refusal_of(refusal: WorldRefusal, bots: &[WrittenBot]) -> ReadRefusal
-    requires { IfSome (view.blamed refusal) (λ b. b.0 < length bots.now) }
-    ensures { view.BlamedAs bots.now (view.blamed refusal) result }
+    requires { IfSome (view.blamed_bot refusal) (λ b. b.0 < length bots.now) }
+    ensures { view.BlamedAs bots.now (view.blamed_bot refusal) result }
 {
     match blamed(refusal) {
         Some((id, kind)) => refused(bots[usize::from(id)].line, kind),
@@ -187,7 +188,7 @@ fn refusal_of(refusal: WorldRefusal, bots: &[WrittenBot]) -> ReadRefusal
 /// The world that a shape stands for, or the first rule that it breaks, by rising id.
 fn world_of(alloc: Global, written: &WrittenShape, maxes: [u8; 8]) -> Result<World, ReadRefusal>
     requires few { vec_len written.now.bots ≤ most_bots }
-    requires plain { All (λ b. IsPlain b.bot) written.now.bots.items }
+    requires plain { All (λ b. IsBotInRange b.bot) written.now.bots.items }
     ensures judged { view.IsJudged maxes (view.shape written.now) result }
     ensures few { IfOk result (λ w. length w.bots ≤ most_bots) }
 {

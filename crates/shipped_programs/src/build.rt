@@ -2,9 +2,10 @@
 
 ghost use Rattle.std.specs.Prelude.{◌≡◌, ◌∷◌, [], false, codes, IfOk};
 ghost use Rattle.action_tree.specs.Trees as tree;
-ghost use Rattle.action_tree.specs.Views.{name_of, literal_of, guard_of, port_of, term_of, sum_of, stmt_of, stmts_of, move_of, var_of, action_of};
+ghost use Rattle.action_tree.specs.Views.{name_of, literal_of, guard_of, port_of, term_of, sum_of, stmt_of, stmts_of};
+ghost use Rattle.action_tree.specs.Views.{move_of, var_of, action_of};
 ghost use Rattle.action_tree.specs.declared.expression.PortSet.TheVariants.{Ports};
-ghost use Rattle.action_tree.specs.Samples as sample;
+ghost use Rattle.action_tree.specs.Shipped as sample;
 
 use action_tree::{
     Action, Cmp, Guard, Lit, Move, Part, PortExpr, PortSet, Stmt, Sum, Term, Var, Word,
@@ -24,14 +25,14 @@ pub(crate) fn p() -> PortExpr
 }
 
 pub(crate) fn q() -> PortExpr
-    ensures { port_of result ≡ tree.bound (sample.word (codes "q")) }
+    ensures { port_of result ≡ tree.bound (sample.example_name (codes "q")) }
 {
     PortExpr::Name(Word::new(b"q", 0))
 }
 
 /// A sum of one term.
 pub(crate) fn one(alloc: Global, term: Term) -> Result<Sum, AllocError>
-    ensures { IfOk result (λ s. sum_of s ≡ sample.one (term_of term)) }
+    ensures { IfOk result (λ s. sum_of s ≡ sample.sum_of_term (term_of term)) }
 {
     Ok(Sum {
         parts: vec![in alloc; Part { minus: false, term }]?,
@@ -92,14 +93,14 @@ pub(crate) fn turned(alloc: Global, port: PortExpr, by: u32) -> Result<PortExpr,
 
 /// `NAME := TERM`
 pub(crate) fn put(alloc: Global, name: Word, term: Term) -> Result<Stmt, AllocError>
-    ensures { IfOk result (λ s. stmt_of s ≡ tree.put (name_of name) (sample.one (term_of term))) }
+    ensures { IfOk result (λ s. stmt_of s ≡ tree.put (name_of name) (sample.sum_of_term (term_of term))) }
 {
     Ok(Stmt::Put(name, one(alloc, term)?))
 }
 
 /// `NAME := NUMBER`
 pub(crate) fn set_to(alloc: Global, name: Word, value: u32) -> Result<Stmt, AllocError>
-    ensures { IfOk result (λ s. stmt_of s ≡ tree.put (name_of name) (sample.one (tree.number (sample.literal value)))) }
+    ensures { IfOk result (λ s. stmt_of s ≡ tree.put (name_of name) (sample.sum_of_term (tree.number (sample.literal value)))) }
 {
     put(alloc, name, Term::Number(literal(value)))
 }
@@ -116,7 +117,12 @@ pub(crate) fn var(name: Word, max: u32) -> Var
 
 /// `action NAME when GUARD do BODY move MOVE`
 pub(crate) fn action(name: Word, guard: Guard, body: Vec<Stmt>, moved: Move) -> Action
-    ensures { action_of result ≡ record { name = name_of name; guard = guard_of guard; body = stmts_of body.items; moved = move_of moved } }
+    ensures { action_of result ≡ record {
+      name = name_of name;
+      guard = guard_of guard;
+      body = stmts_of body.items;
+      moved = move_of moved;
+    } }
 {
     Action {
         name,

@@ -4,7 +4,7 @@ ghost use Rattle.std.specs.Prelude.{◌≡◌, ◌∷◌, [], codes, take, map, 
 ghost use Rattle.action_tree.specs.Trees as tree;
 ghost use Rattle.action_tree.specs.Views.{name_of, guard_of, port_of, term_of, stmt_of, var_of, action_of};
 ghost use Rattle.action_tree.specs.declared.expression.PortSet.TheVariants.{Ports};
-ghost use Rattle.action_tree.specs.Samples as sample;
+ghost use Rattle.action_tree.specs.Shipped as sample;
 ghost use Rattle.shipped_programs.specs.Shipped.{run_ends, erode_guard, erode_body};
 
 use crate::build::{action, both, is, not, p, set_to, some_port, turned, var};
@@ -31,13 +31,13 @@ fn actions(alloc: Global) -> Result<Vec<Action>, AllocError>
 }
 
 fn cand() -> Word
-    ensures { name_of result ≡ sample.word (codes "cand") }
+    ensures { name_of result ≡ sample.example_name (codes "cand") }
 {
     Word::new(b"cand", 0)
 }
 
 fn leader() -> Word
-    ensures { name_of result ≡ sample.word (codes "leader") }
+    ensures { name_of result ≡ sample.example_name (codes "leader") }
 {
     Word::new(b"leader", 0)
 }
@@ -91,7 +91,7 @@ fn erode_body(alloc: Global) -> Result<Vec<Stmt>, AllocError>
 
 /// `count p in ports ( GUARD )`, for the ends of runs
 fn ends(alloc: Global) -> Result<Term, AllocError>
-    ensures { IfOk result (λ t. term_of t ≡ tree.count (sample.word (codes "p")) Ports run_ends) }
+    ensures { IfOk result (λ t. term_of t ≡ tree.count (sample.example_name (codes "p")) Ports run_ends) }
 {
     let guard = Box::new(alloc, ends_a_run(alloc)?)?;
     Ok(Term::Count(Word::new(b"p", 0), PortSet::Ports, guard))

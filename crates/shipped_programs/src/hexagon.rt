@@ -3,9 +3,12 @@
 ghost use Rattle.std.specs.Prelude.{◌≡◌, ◌∷◌, [], codes, map, IfOk};
 ghost use Rattle.action_tree.specs.Trees as tree;
 ghost use Rattle.action_tree.specs.Views.{name_of, guard_of, port_of, term_of, part_of, sum_of, stmt_of, var_of, action_of};
-ghost use Rattle.action_tree.specs.Samples as sample;
+ghost use Rattle.action_tree.specs.Shipped as sample;
 ghost use Rattle.amoebot_state.specs.declared.bot.End.TheVariants.{Tail};
-ghost use Rattle.shipped_programs.specs.Shipped.{root_guard, root_body, follow_guard, follow_body, retire_guard, retire_body, aimed_at, last_retired, next_is_still, go_guard, room, drag_guard, drag_body, tail_follower, follower_turned, parent_turned, rest_guard, waits, head_follower};
+ghost use Rattle.shipped_programs.specs.Shipped.{root_guard, root_body, follow_guard, follow_body, retire_guard};
+ghost use Rattle.shipped_programs.specs.Shipped.{retire_body, aimed_at, last_retired, next_is_still, go_guard, room};
+ghost use Rattle.shipped_programs.specs.Shipped.{drag_guard, drag_body, tail_follower, follower_turned, parent_turned};
+ghost use Rattle.shipped_programs.specs.Shipped.{rest_guard, waits, head_follower};
 
 use crate::build::{
     action, both, either, first_port, is, literal, not, one, p, put, q, set_to, some_port, turned,
@@ -42,19 +45,19 @@ fn actions(alloc: Global) -> Result<Vec<Action>, AllocError>
 }
 
 fn state() -> Word
-    ensures { name_of result ≡ sample.word (codes "state") }
+    ensures { name_of result ≡ sample.example_name (codes "state") }
 {
     Word::new(b"state", 0)
 }
 
 fn parent() -> Word
-    ensures { name_of result ≡ sample.word (codes "parent") }
+    ensures { name_of result ≡ sample.example_name (codes "parent") }
 {
     Word::new(b"parent", 0)
 }
 
 fn aim() -> Word
-    ensures { name_of result ≡ sample.word (codes "aim") }
+    ensures { name_of result ≡ sample.example_name (codes "aim") }
 {
     Word::new(b"aim", 0)
 }
@@ -68,7 +71,10 @@ fn state_is(alloc: Global, port: PortExpr, value: u32) -> Result<Guard, AllocErr
 
 /// `p . state = NUMBER or p . state = NUMBER`
 fn p_is(alloc: Global, one: u32, two: u32) -> Result<Guard, AllocError>
-    ensures { IfOk result (λ g. guard_of g ≡ sample.or (sample.there_is sample.p (codes "state") one ∷ sample.there_is sample.p (codes "state") two ∷ [])) }
+    ensures { IfOk result (λ g.
+        guard_of g
+        ≡ sample.or (sample.there_is sample.p (codes "state") one
+        ∷ sample.there_is sample.p (codes "state") two ∷ [])) }
 {
     either(
         alloc,
@@ -79,7 +85,8 @@ fn p_is(alloc: Global, one: u32, two: u32) -> Result<Guard, AllocError>
 
 /// `state = NUMBER or state = NUMBER`
 fn in_state(alloc: Global, one: u32, two: u32) -> Result<Guard, AllocError>
-    ensures { IfOk result (λ g. guard_of g ≡ sample.or (sample.own_is (codes "state") one ∷ sample.own_is (codes "state") two ∷ [])) }
+    ensures { IfOk result (λ g.
+        guard_of g ≡ sample.or (sample.own_is (codes "state") one ∷ sample.own_is (codes "state") two ∷ [])) }
 {
     let one = is(alloc, Term::Own(state()), one)?;
     let two = is(alloc, Term::Own(state()), two)?;
@@ -88,7 +95,8 @@ fn in_state(alloc: Global, one: u32, two: u32) -> Result<Guard, AllocError>
 
 /// `p . NAME = peer_dir p`
 fn points_here(alloc: Global, name: Word) -> Result<Guard, AllocError>
-    ensures { IfOk result (λ g. guard_of g ≡ sample.equals (tree.of_port sample.p (name_of name)) (tree.direction tree.peer_side sample.p)) }
+    ensures { IfOk result (λ g.
+        guard_of g ≡ sample.equals (tree.of_port sample.p (name_of name)) (tree.direction tree.peer_side sample.p)) }
 {
     let here = one(alloc, Term::PeerDir(p()))?;
     Ok(Guard::Compare(one(alloc, Term::Of(p(), name))?, Cmp::Eq, here))
@@ -137,7 +145,7 @@ fn follow_body(alloc: Global) -> Result<Vec<Stmt>, AllocError>
 
 /// `let q := first p in ports ( GUARD )`
 fn let_q(alloc: Global, guard: Guard) -> Result<Stmt, AllocError>
-    ensures { IfOk result (λ s. stmt_of s ≡ tree.let_be (sample.word (codes "q")) (sample.first_port (guard_of guard))) }
+    ensures { IfOk result (λ s. stmt_of s ≡ tree.let_be (sample.example_name (codes "q")) (sample.first_port (guard_of guard))) }
 {
     Ok(Stmt::Let(Word::new(b"q", 0), first_port(alloc, guard)?))
 }
@@ -198,7 +206,10 @@ fn next_is_still(alloc: Global) -> Result<Guard, AllocError>
 }
 
 fn go(alloc: Global) -> Result<Action, AllocError>
-    ensures { IfOk result (λ a. action_of a ≡ sample.action (codes "go") go_guard [] (tree.through tree.expand (tree.turned (sample.first_port room) (sample.literal 1)))) }
+    ensures { IfOk result (λ a.
+        action_of a
+        ≡ sample.action (codes "go") go_guard []
+        (tree.through tree.expand (tree.turned (sample.first_port room) (sample.literal 1)))) }
 {
     let port = turned(alloc, first_port(alloc, room(alloc)?)?, 1)?;
     Ok(action(
@@ -229,7 +240,10 @@ fn room(alloc: Global) -> Result<Guard, AllocError>
 }
 
 fn drag(alloc: Global) -> Result<Action, AllocError>
-    ensures { IfOk result (λ a. action_of a ≡ sample.action (codes "drag") drag_guard drag_body (tree.through tree.pull (tree.bound (sample.word (codes "q"))))) }
+    ensures { IfOk result (λ a.
+        action_of a
+        ≡ sample.action (codes "drag") drag_guard drag_body
+        (tree.through tree.pull (tree.bound (sample.example_name (codes "q"))))) }
 {
     Ok(action(
         Word::new(b"drag", 0),

@@ -2,7 +2,7 @@
 
 ghost use Rattle.std.specs.Prelude.{◌≡◌, map, IfOk};
 ghost use Rattle.action_tree.specs.Views.{port_of, action_of};
-ghost use Rattle.action_tree.specs.Samples as sample;
+ghost use Rattle.action_tree.specs.Shipped as sample;
 
 use crate::build::{action, both, literal};
 use action_tree::{Action, DirTerm, Guard, Move, PortExpr, Program, Word};

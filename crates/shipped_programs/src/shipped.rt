@@ -1,6 +1,6 @@
 ghost use Rattle.std.specs.Prelude.{◌≡◌, ◌≢◌, IfSome, IfNone, IfOk};
 ghost use Rattle.shipped_programs.specs.declared.shipped.Shipped.{Shipped};
-ghost use Rattle.shipped_programs.specs.Shipped.{name_of, tree_of, text_of};
+ghost use Rattle.shipped_programs.specs.Shipped.{shipped_name, tree_of, text_of};
 
 use crate::erosion::erosion;
 use crate::hexagon::hexagon;
@@ -101,8 +101,8 @@ pub enum Shipped {
 impl Shipped {
     /// The shipped program with a name; None exactly for another name than `hexagon`, `erosion` and `line`.
     pub fn named(name: &str) -> Option<Shipped>
-        ensures some { IfSome result (λ s. name.now ≡ name_of s) }
-        ensures none { IfNone result ((s : Shipped) → name.now ≢ name_of s) }
+        ensures some { IfSome result (λ s. name.now ≡ shipped_name s) }
+        ensures none { IfNone result ((s : Shipped) → name.now ≢ shipped_name s) }
     {
         if name == "hexagon" {
             Some(Shipped::Hexagon)
@@ -130,8 +130,8 @@ impl Shipped {
 
 /// The text of the shipped program with a name; None exactly for another name than `hexagon`, `erosion` and `line`.
 pub fn shipped_text(name: &str) -> Option<&'static str>
-    ensures some { IfSome result (λ text. (s : Shipped) × (name.now ≡ name_of s) × (text.now ≡ text_of s)) }
-    ensures none { IfNone result ((s : Shipped) → name.now ≢ name_of s) }
+    ensures some { IfSome result (λ text. (s : Shipped) × (name.now ≡ shipped_name s) × (text.now ≡ text_of s)) }
+    ensures none { IfNone result ((s : Shipped) → name.now ≢ shipped_name s) }
 {
     match Shipped::named(name)? {
         Shipped::Hexagon => Some(HEXAGON),
@@ -142,8 +142,8 @@ pub fn shipped_text(name: &str) -> Option<&'static str>
 
 /// The shipped program with a name; None exactly for another name than `hexagon`, `erosion` and `line`. All of its lines are 0.
 pub fn shipped_program(alloc: Global, name: &str) -> Result<Option<Checked>, NoMemory>
-    ensures some { IfOk result (λ o. IfSome o (λ program. (s : Shipped) × (name.now ≡ name_of s) × (program ≡ tree_of s))) }
-    ensures none { IfOk result (λ o. IfNone o ((s : Shipped) → name.now ≢ name_of s)) }
+    ensures some { IfOk result (λ o. IfSome o (λ program. (s : Shipped) × (name.now ≡ shipped_name s) × (program ≡ tree_of s))) }
+    ensures none { IfOk result (λ o. IfNone o ((s : Shipped) → name.now ≢ shipped_name s)) }
 {
     match Shipped::named(name) {
         Some(shipped) => Ok(Some(shipped.program(alloc)?)),

@@ -23,7 +23,7 @@ use Rattle.amoebot_state.specs.Pairs.{Pairs, cell_of, cell_value}
 use Rattle.amoebot_state.specs.Configs.{Config, IsValid, IsBot, bot_at, covers, value, set_bot, has_values}
 use Rattle.amoebot_state.specs.Zones.{Shown, zone, shown_alone}
 use Rattle.amoebot_state.specs.Patches.{IsPatched, HasPatched, IsOrdered}
-use Rattle.amoebot_state.specs.Steps.{Changes, TouchesZone, HasNext, IsExact}
+use Rattle.amoebot_state.specs.Steps.{DecidesChange, TouchesZone, HasPatchedWorld, ListsDifferences}
 use Rattle.amoebot_state.proofs.ShownAlone.{alone_own}
 use Rattle.amoebot_state.proofs.Members.{Contains-from_Has}
 use Rattle.amoebot_state.proofs.Occupants.{occupant_same, id_below}
@@ -31,11 +31,11 @@ use Rattle.amoebot_state.proofs.Options.{there_is}
 use Rattle.amoebot_state.proofs.Zones.{own_in_zone}
 
 -- the amoebot with 1 in variable 0, and the patch that makes it so
-abbrev pub marked : Bot → Bot
-marked b = record b { mem = slice_set b.mem 0 1 }
+abbrev pub marked_bot : Bot → Bot
+marked_bot b = record b { mem = slice_set b.mem 0 1 }
 
 abbrev pub marks : ℕ → Bot → Pairs
-marks i b = (name.Body i, cell.Body (marked b)) ∷ []
+marks i b = (name.Body i, cell.Body (marked_bot b)) ∷ []
 
 -- variable 0 is 0 and may be 1
 abbrev pub may_mark : List ℕ → Bot → Bool
@@ -44,7 +44,10 @@ may_mark maxes b = nat_eq (slice_index b.mem 0) 0 && nat_le 1 (slice_index maxes
 -- the verdict on an amoebot, if it is there
 abbrev pub marking_of : List ℕ → ℕ → Option Bot → Verdict
 marking_of maxes i None = verdict.Idle
-marking_of maxes i (Some b) = if may_mark maxes b then verdict.Change (record { action = 0; moved = moved.None; patch = marks i b }) else verdict.Idle
+marking_of maxes i (Some b) =
+    if may_mark maxes b
+    then verdict.Change (record { action = 0; moved = moved.None; patch = marks i b })
+    else verdict.Idle
 
 -- and on what it is shown
 abbrev pub marking : Shown → Verdict
@@ -52,10 +55,13 @@ marking s = marking_of s.maxes s.bot (bot_at (shown_alone s) s.bot)
 
 -- the configuration in which it is so
 abbrev after : Config → ℕ → Bot → Config
-after c i b = set_bot c i (marked b)
+after c i b = set_bot c i (marked_bot b)
 
 -- the value 1 fits where the maximum is not 0
-fits : (maxes mem : List ℕ) → nat_le 1 (slice_index maxes 0) ≡ true → has_values maxes mem ≡ true → has_values maxes (slice_set mem 0 1) ≡ true
+fits : (maxes mem : List ℕ)
+    → nat_le 1 (slice_index maxes 0) ≡ true
+    → has_values maxes mem ≡ true
+    → has_values maxes (slice_set mem 0 1) ≡ true
 fits maxes [] le all = all
 fits maxes (x ∷ mem) le all = and_from _ _ le (and_parts _ _ all).1
 
@@ -73,11 +79,11 @@ record Marking (c : Config) (i : ℕ) (b : Bot) : Type 0 where
 
 module _ (c : Config) (i : ℕ) (b : Bot) (m : Marking c i b) where
   -- what has each id then
-  at_own : bot_at (after c i b) i ≡ Some (marked b)
-  at_own = get_or-set_same c.bots i (Some (marked b)) None (id_below c i b m.there)
+  at_own : bot_at (after c i b) i ≡ Some (marked_bot b)
+  at_own = get_or-set_same c.bots i (Some (marked_bot b)) None (id_below c i b m.there)
 
   at_other : (j : ℕ) → j ≢ i → bot_at (after c i b) j ≡ bot_at c j
-  at_other j ne = get_or-set_other c.bots i j (Some (marked b)) None ne
+  at_other j ne = get_or-set_other c.bots i j (Some (marked_bot b)) None ne
 
   -- nobody moves
   alike : (v : Node) (j : ℕ) → covers (bot_at (after c i b) j) v ≡ covers (bot_at c j) v
@@ -93,7 +99,15 @@ module _ (c : Config) (i : ℕ) (b : Bot) (m : Marking c i b) where
     each = λ j a e. elim (cases_eq j i) [
       | inl same ↦
           let was = m.valid.each i b m.there in
-          subst (IsBot c.area c.maxes) (same_Some _ _ (sym at_own ∙ ap (bot_at (after c i b)) (sym same) ∙ e)) (record { head = was.head; tail = was.tail; close = was.close; rot = was.rot; values = fits c.maxes b.mem m.may was.values; eight = length-set b.mem 0 1 ∙ was.eight })
+          subst (IsBot c.area c.maxes) (same_Some _ _ (sym at_own ∙ ap (bot_at (after c i b)) (sym same) ∙ e))
+          (record {
+            head = was.head;
+            tail = was.tail;
+            close = was.close;
+            rot = was.rot;
+            values = fits c.maxes b.mem m.may was.values;
+            eight = length-set b.mem 0 1 ∙ was.eight;
+          })
       | inr ne ↦ m.valid.each j a (sym (at_other j ne) ∙ e)
     ];
     apart = λ j k v s t. m.valid.apart j k v (sym (alike v j) ∙ s) (sym (alike v k) ∙ t);
@@ -109,13 +123,17 @@ module _ (c : Config) (i : ℕ) (b : Bot) (m : Marking c i b) where
   patched = record {
     valid = after_valid;
     rest = refl;
-    size = length-set c.bots i (Some (marked b));
+    size = length-set c.bots i (Some (marked_bot b));
     ids = λ j. elim (cases_eq j i) [
       | inl e ↦ ap is_some (ap (bot_at (after c i b)) e ∙ at_own) ∙ sym (ap is_some (ap (bot_at c) e ∙ m.there))
       | inr ne ↦ ap is_some (at_other j ne)
     ];
-    given = let P : CellName × Cell → Type 0 = λ p. value (after c i b) p.0 ≡ Some p.1 in All-cons P (name.Body i, cell.Body (marked b)) [] (ap (option_map cell.Body) at_own) (All-nil P);
-    kept = λ n none. let P : CellName × Cell → Type 0 = λ p. p.0 ≢ n in stays n (λ e. All-head P (name.Body i, cell.Body (marked b)) [] none (sym e));
+    given =
+        let P : CellName × Cell → Type 0 = λ p. value (after c i b) p.0 ≡ Some p.1 in
+        All-cons P (name.Body i, cell.Body (marked_bot b)) [] (ap (option_map cell.Body) at_own) (All-nil P);
+    kept = λ n none.
+        let P : CellName × Cell → Type 0 = λ p. p.0 ≢ n in
+        stays n (λ e. All-head P (name.Body i, cell.Body (marked_bot b)) [] none (sym e));
   }
 
   -- it lists one cell, which differs and is in the zone
@@ -126,16 +144,24 @@ module _ (c : Config) (i : ℕ) (b : Bot) (m : Marking c i b) where
   differs : All (λ (p : CellName × Cell). value c (cell_of p) ≢ Some (cell_value p)) (marks i b)
   differs =
       let P : CellName × Cell → Type 0 = λ p. value c (cell_of p) ≢ Some (cell_value p) in
-      All-cons P (name.Body i, cell.Body (marked b)) [] (λ same. other_memory b.mem (m.valid.each i b m.there).eight m.was (ap (λ (a : Bot). a.mem) (body_of (sym (ap (option_map cell.Body) m.there) ∙ same)))) (All-nil P)
+      All-cons P (name.Body i, cell.Body (marked_bot b)) []
+      (λ same. other_memory b.mem (m.valid.each i b m.there).eight m.was
+      (ap (λ (a : Bot). a.mem) (body_of (sym (ap (option_map cell.Body) m.there) ∙ same)))) (All-nil P)
     where
       body_of : {a d : Bot} → Some (cell.Body a) ≡ Some (cell.Body d) → a ≡ d
       body_of e = let f = same_Some _ _ e in cc
 
   touches : All (λ (p : CellName × Cell). Contains (zone c i) (cell_of p)) (marks i b)
-  touches = let P : CellName × Cell → Type 0 = λ p. Contains (zone c i) p.0 in All-cons P (name.Body i, cell.Body (marked b)) [] (Contains-from_Has (zone c i) (own_in_zone c i b m.there)) (All-nil P)
+  touches =
+      let P : CellName × Cell → Type 0 = λ p. Contains (zone c i) p.0 in
+      All-cons P (name.Body i, cell.Body (marked_bot b)) []
+      (Contains-from_Has (zone c i) (own_in_zone c i b m.there)) (All-nil P)
 
 -- where it decides a change, it may, and the change's patch is this one
-change_is : (i : ℕ) (b : Bot) (t : Bool) (change : Change) → (if t then verdict.Change (record { action = 0; moved = moved.None; patch = marks i b }) else verdict.Idle) ≡ verdict.Change change → (t ≡ true) × (marks i b ≡ change.patch)
+change_is : (i : ℕ) (b : Bot) (t : Bool) (change : Change)
+    → (if t then verdict.Change (record { action = 0; moved = moved.None; patch = marks i b }) else verdict.Idle)
+    ≡ verdict.Change change
+    → (t ≡ true) × (marks i b ≡ change.patch)
 change_is i b true change e = (refl, ap patch_of e)
   where
     patch_of : Verdict → Pairs
@@ -150,7 +176,7 @@ record IsMarking (c : Config) (i : ℕ) (change : Change) : Type 0 where
   by : Marking c i bot
   patch : marks i bot ≡ change.patch
 
-is_marking : (c : Config) (i : ℕ) (change : Change) → Changes marking c i change → IsMarking c i change
+is_marking : (c : Config) (i : ℕ) (change : Change) → DecidesChange marking c i change → IsMarking c i change
 is_marking c i change changes =
     let own = there_is (bot_at c i) changes.there in
     let b = own.0 in
@@ -160,12 +186,16 @@ is_marking c i change changes =
 
 -- it keeps the laws of deciders
 pub marking_touches_zone : TouchesZone marking
-marking_touches_zone c i change changes = let m = is_marking c i change changes in subst (All (λ (p : CellName × Cell). Contains (zone c i) (cell_of p))) m.patch (touches c i m.bot m.by)
+marking_touches_zone c i change changes =
+    let m = is_marking c i change changes in
+    subst (All (λ (p : CellName × Cell). Contains (zone c i) (cell_of p))) m.patch (touches c i m.bot m.by)
 
-pub marking_has_next : HasNext marking
-marking_has_next c i change changes = let m = is_marking c i change changes in subst (HasPatched c) m.patch (after c i m.bot, patched c i m.bot m.by)
+pub marking_has_next : HasPatchedWorld marking
+marking_has_next c i change changes =
+    let m = is_marking c i change changes in
+    subst (HasPatched c) m.patch (after c i m.bot, patched c i m.bot m.by)
 
-pub marking_is_exact : IsExact marking
+pub marking_is_exact : ListsDifferences marking
 marking_is_exact c i change changes =
     let m = is_marking c i change changes in
     let P : Pairs → Type 0 = λ ps. IsOrdered ps × All (λ (p : CellName × Cell). value c (cell_of p) ≢ Some (cell_value p)) ps in

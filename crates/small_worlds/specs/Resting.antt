@@ -6,7 +6,7 @@ use Rattle.amoebot_state.specs.declared.verdict.Failure.TheVariants.{Edge}
 use Rattle.amoebot_state.specs.declared.verdict.Verdict.{Verdict}
 use Rattle.amoebot_state.specs.declared.verdict.Verdict.TheVariants as verdict
 use Rattle.amoebot_state.specs.Zones.{Shown}
-use Rattle.amoebot_state.specs.Steps.{TouchesZone, HasNext, IsExact}
+use Rattle.amoebot_state.specs.Steps.{TouchesZone, HasPatchedWorld, ListsDifferences}
 
 abbrev pub idle : Shown → Verdict
 idle s = verdict.Idle
@@ -33,8 +33,8 @@ edge_rests s = tt
 pub resting_touches_zone : (f : Shown → Verdict) → Rests f → TouchesZone f
 resting_touches_zone f rests c i change changes = absurd (subst IsNoChange changes.decided (rests _))
 
-pub resting_has_next : (f : Shown → Verdict) → Rests f → HasNext f
+pub resting_has_next : (f : Shown → Verdict) → Rests f → HasPatchedWorld f
 resting_has_next f rests c i change changes = absurd (subst IsNoChange changes.decided (rests _))
 
-pub resting_is_exact : (f : Shown → Verdict) → Rests f → IsExact f
+pub resting_is_exact : (f : Shown → Verdict) → Rests f → ListsDifferences f
 resting_is_exact f rests c i change changes = absurd (subst IsNoChange changes.decided (rests _))

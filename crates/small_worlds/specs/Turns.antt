@@ -1,7 +1,8 @@
--- Turns on the row, one after another: that of the first amoebot fails, since the node beside it is occupied; the second expands, and then it is idle.
+-- Turns on the row, one after another.
+-- That of the first amoebot fails, since the node beside it is occupied; the second expands, and then it is idle.
 use Rattle.amoebot_state.specs.declared.verdict.Failure.TheVariants as failure
-use Rattle.serial_model.specs.declared.Turned.TheVariants as turned
-use Rattle.serial_model.specs.SerialTurns.{SerialTurn}
+use Rattle.amoebot_state.specs.declared.verdict.Turned.TheVariants as turned
+use Rattle.amoebot_state.specs.SerialTurns.{SerialTurn}
 use Rattle.small_worlds.specs.Rows.{two_beside, expanded, one_refused}
 
 pub record SmallSerialTurns : Type 0 where

@@ -9,5 +9,5 @@ mod serial;
 mod worlds;
 
 pub use laws::{small_interleaving, small_serial_turns};
-pub use programs::{Blocked, Expander, Idler, Marker};
+pub use programs::{AtEdge, Expander, Idler, Marker};
 pub use worlds::{lists_of, node, spread, standing, turned, world_in, world_of};

@@ -87,9 +87,9 @@ impl Decider for Idler {
 }
 
 /// The program of one action, which always runs against the edge.
-pub struct Blocked;
+pub struct AtEdge;
 
-impl Decider for Blocked {
+impl Decider for AtEdge {
     ghost use Rattle.small_worlds.specs.Resting.{at_the_edge, edge_rests, resting_touches_zone, resting_has_next, resting_is_exact};
 
     ghost verdict = { λ _. at_the_edge };

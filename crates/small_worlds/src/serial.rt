@@ -1,9 +1,9 @@
 //! Tests of `serial_model` over these worlds: one turn, and entries that are a run or stop to be one.
 
 ghost use Rattle.std.specs.Prelude.{◌≡◌, ◌<◌, length, IfOk};
-ghost use Rattle.amoebot_state.specs.Refusals.{IsPlain};
+ghost use Rattle.amoebot_state.specs.Refusals.{IsBotInRange};
 
-use crate::programs::{Blocked, Marker};
+use crate::programs::{AtEdge, Marker};
 use crate::worlds::{standing, world_of};
 use amoebot_state::{Bot, Cell, CellName, End, Entry, Failure, Moved, Patch, World};
 use serial_model::{Serial, Turned, replay};
@@ -13,7 +13,7 @@ use std::test::Fail;
 /// An amoebot of the row, with its value of variable 0.
 fn in_row(id: u16, value: u8) -> Bot
     requires { id < 4 }
-    ensures { IsPlain result }
+    ensures { IsBotInRange result }
 {
     standing(2 + id as u8, 3, value)
 }
@@ -58,7 +58,7 @@ fn step(id: u16) -> Entry
 
 /// In what an entry differs from a step.
 #[derive(Clone, Copy)]
-enum Way {
+enum Mistake {
     Action,
     Movement,
     PairMore,
@@ -68,40 +68,40 @@ enum Way {
     IdleAmoebot,
 }
 
-fn wrong(id: u16, way: Way) -> Entry
+fn wrong(id: u16, way: Mistake) -> Entry
     requires { id < 3 }
     ensures { result.bot < 4 }
 {
     let right = step(id);
     match way {
-        Way::Action => Entry { action: 1, ..right },
-        Way::Movement => Entry {
+        Mistake::Action => Entry { action: 1, ..right },
+        Mistake::Movement => Entry {
             moved: Moved::Contract(End::Head),
             ..right
         },
-        Way::PairMore => {
+        Mistake::PairMore => {
             let mut patch = body(id, 1);
             patch.push(CellName::Spot(in_row(id, 1).head), Cell::Spot(Some(id)));
             Entry { patch, ..right }
         }
-        Way::PairLess => Entry {
+        Mistake::PairLess => Entry {
             patch: Patch::new(),
             ..right
         },
-        Way::PairOfAnother => Entry {
+        Mistake::PairOfAnother => Entry {
             patch: body(3, 1),
             ..right
         },
-        Way::OtherValue => Entry {
+        Mistake::OtherValue => Entry {
             patch: body(id, 0),
             ..right
         },
-        Way::IdleAmoebot => step(3),
+        Mistake::IdleAmoebot => step(3),
     }
 }
 
 /// The step of an amoebot, or, at the place, an entry that is none.
-fn entry_at(id: u16, place: u16, way: Way) -> Entry
+fn entry_at(id: u16, place: u16, way: Mistake) -> Entry
     requires { id < 3 }
     ensures { result.bot < 4 }
 {
@@ -118,7 +118,7 @@ fn a_failed_turn_leaves_the_world(rt: HostRuntime) -> Result<(), Fail> {
     let mut serial = Serial::new(world_of(rt.alloc(), &[alone])?);
     assert!(rt;
         matches!(
-            &serial.activate(&Blocked, 0, 0, 0),
+            &serial.activate(&AtEdge, 0, 0, 0),
             Turned::Failed(Failure::Edge)
         )
     );
@@ -141,13 +141,13 @@ fn entries_that_are_steps_agree(rt: HostRuntime) -> Result<(), Fail> {
 #[test]
 fn the_first_entry_that_is_no_step_is_told(rt: HostRuntime) -> Result<(), Fail> {
     let ways = [
-        Way::Action,
-        Way::Movement,
-        Way::PairMore,
-        Way::PairLess,
-        Way::PairOfAnother,
-        Way::OtherValue,
-        Way::IdleAmoebot,
+        Mistake::Action,
+        Mistake::Movement,
+        Mistake::PairMore,
+        Mistake::PairLess,
+        Mistake::PairOfAnother,
+        Mistake::OtherValue,
+        Mistake::IdleAmoebot,
     ];
     for way in ways {
         for place in 0..3 {

@@ -6,7 +6,7 @@ ghost use Rattle.std.specs.List.{All};
 ghost use Rattle.tri_lattice.specs.Lattice.{IsNear};
 ghost use Rattle.amoebot_state.specs.Limits.{most_bots};
 ghost use Rattle.amoebot_state.specs.Configs.{bot_at};
-ghost use Rattle.amoebot_state.specs.Refusals.{IsPlain};
+ghost use Rattle.amoebot_state.specs.Refusals.{IsBotInRange};
 ghost use Rattle.claim_core.specs.Turns.{HaveBots};
 
 use amoebot_state::{Bot, Chir, World};
@@ -27,14 +27,14 @@ pub fn node(x: u8, y: u8) -> Node
 
 /// A contracted amoebot with a value of variable 0, whose local directions are the global ones.
 pub fn standing(x: u8, y: u8, value: u8) -> Bot
-    ensures { IsPlain result }
+    ensures { IsBotInRange result }
 {
     spread((x, y), (x, y), value)
 }
 
 /// An amoebot by its head and its tail.
 pub fn spread(head: (u8, u8), tail: (u8, u8), value: u8) -> Bot
-    ensures { IsPlain result }
+    ensures { IsBotInRange result }
 {
     Bot {
         head: node(head.0, head.1),
@@ -47,7 +47,7 @@ pub fn spread(head: (u8, u8), tail: (u8, u8), value: u8) -> Bot
 
 /// A contracted amoebot whose local direction 0 is the global direction 3.
 pub fn turned(x: u8, y: u8) -> Bot
-    ensures { IsPlain result }
+    ensures { IsBotInRange result }
 {
     Bot {
         rot: 3,
@@ -58,7 +58,7 @@ pub fn turned(x: u8, y: u8) -> Bot
 /// The world of these amoebots in the area 0 0 8 8, whose variable 0 is 0 or 1.
 pub fn world_of(alloc: Global, bots: &[Bot]) -> Result<World, Fail>
     requires few { length bots.now ≤ most_bots }
-    requires plain { All IsPlain bots.now }
+    requires plain { All IsBotInRange bots.now }
     ensures { IfOk result (λ world. world.bots ≡ map Some bots.now) }
 {
     world_in(alloc, 8, 8, bots)
@@ -67,7 +67,7 @@ pub fn world_of(alloc: Global, bots: &[Bot]) -> Result<World, Fail>
 /// That world in the area of this width and height at 0 0.
 pub fn world_in(alloc: Global, w: u16, h: u16, bots: &[Bot]) -> Result<World, Fail>
     requires few { length bots.now ≤ most_bots }
-    requires plain { All IsPlain bots.now }
+    requires plain { All IsBotInRange bots.now }
     ensures { IfOk result (λ world. world.bots ≡ map Some bots.now) }
 {
     let area = Area::new(0, 0, w, h).ok_or("an area")?;

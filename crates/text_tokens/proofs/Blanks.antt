@@ -11,7 +11,7 @@ use Rattle.text_tokens.specs.declared.tokens.Between.{Between}
 use Rattle.text_tokens.specs.declared.tokens.Between.TheVariants.{LineFeed, Blank, Comment, Start}
 use Rattle.text_tokens.specs.Text.{is_blank, is_in_line, Skips, nothing, blank, comment, last_comment, IsSkipped, line_at, Comes}
 use Rattle.text_tokens.specs.Scan.{Input, between_at, skip_by, skip, ready}
-use Rattle.text_tokens.proofs.Scanning.{start_outside}
+use Rattle.text_tokens.proofs.ScanLemmas.{start_outside}
 
 -- ---- the text that is left, without places and lines
 

@@ -2,7 +2,7 @@
 use Rattle.std.proofs.Common.{◌≡◌, List, ◌++◌, refl, sym, subst}
 use Rattle.text_tokens.specs.Lines.{Words}
 use Rattle.text_tokens.specs.Grammar.{Symbol, Lang}
-use Rattle.text_tokens.proofs.Respelling.{Rereads, rereads_two}
+use Rattle.text_tokens.proofs.LinesLemmas.{Rereads, rereads_two}
 
 -- two parts as one
 pub record Both {A B : Type 0} (P : Lang A) (Q : Lang B) (text : List Symbol) (c : A × B) : Type 0 where

@@ -12,9 +12,9 @@ use Rattle.text_tokens.specs.declared.refusal.Refusal.{Refusal}
 use Rattle.text_tokens.specs.declared.refusal.RefusalKind.TheVariants.{Truncated}
 use Rattle.text_tokens.specs.Text.{is_letter, is_digit, is_word_byte, is_blank, is_one_of, is_sign, Skips, nothing, blank, IsSkipped, StopsRun, IsLongestSign, Cuts, word, number, sign, most_bytes, Lexeme, line_at, Comes, IsToken, AreTokens, ends, bad_byte, too_long, token}
 use Rattle.text_tokens.specs.Lines.{Words, line_text, lines_text, spaced}
-use Rattle.text_tokens.proofs.Tokenizing.{one_reading}
+use Rattle.text_tokens.proofs.PromisesLemmas.{one_reading}
 use Rattle.text_tokens.proofs.LineLemmas.{line_is_its_tokens}
-use Rattle.text_tokens.proofs.Cutting.{one_of_passes, sign_short}
+use Rattle.text_tokens.proofs.CutLemmas.{one_of_passes, sign_short}
 
 -- the kind of a token with these bytes
 abbrev pub kind_of : List ℕ → TokenKind

@@ -5,9 +5,9 @@ use Rattle.text_tokens.specs.declared.refusal.ReadRefusal.{ReadRefusal}
 use Rattle.text_tokens.specs.declared.refusal.ReadRefusal.TheVariants.{Refused, NoMemory}
 use Rattle.text_tokens.specs.Text.{Lexeme}
 use Rattle.text_tokens.specs.Cursor.{Cursor, next_passes}
-use Rattle.text_tokens.specs.Reading.{Answer, Reader, ◌>>=◌, pure, and_then, either}
+use Rattle.text_tokens.specs.Reading.{Answer, Reader, ◌>>=◌, pure, answer_and_then, either}
 use Rattle.text_tokens.specs.Steps.{SameSource, Gives}
-use Rattle.text_tokens.proofs.Stepping.{Reached, Failed, stays, stays_on, fails, on_made, is_first, is_second}
+use Rattle.text_tokens.proofs.StepsLemmas.{Reached, Failed, stays, stays_on, fails, on_made, is_first, is_second}
 
 pub record Left {A : Type 0} (p : Reader A) (start : Cursor) (q : Reader A) (here : Cursor) : Type 0 where
   pub reads : p start.last start.ahead ≡ q here.last here.ahead
@@ -27,7 +27,7 @@ module _ {A B : Type 0} (p : Reader A) (q : A → Reader B) {r : Reader B} {star
   -- the next part was read
   pub past_part : (a : A) (mid : Cursor) → Reached p here a mid → Left r start (q a) mid
   past_part a mid s = record {
-    reads = l.reads ∙ ap (λ (x : Answer A). and_then x (λ a us. q a here.last us)) s.0 ∙ ap (λ (last : Refusal). q a last mid.ahead) (sym s.1.last);
+    reads = l.reads ∙ ap (λ (x : Answer A). answer_and_then x (λ a us. q a here.last us)) s.0 ∙ ap (λ (last : Refusal). q a last mid.ahead) (sym s.1.last);
     stays = stays_on start here mid l.stays s.1;
   }
 

@@ -5,13 +5,13 @@ use Rattle.text_tokens.specs.declared.refusal.Refusal.{Refusal}
 use Rattle.text_tokens.specs.declared.refusal.ReadRefusal.{ReadRefusal}
 use Rattle.text_tokens.specs.declared.refusal.ReadRefusal.TheVariants.{Refused, NoMemory}
 use Rattle.text_tokens.specs.Cursor.{Cursor}
-use Rattle.text_tokens.specs.Reading.{Answer, Reader, and_then, times}
-use Rattle.text_tokens.proofs.Stepping.{Reached, Failed, stays_on}
-use Rattle.text_tokens.proofs.Looping.{prepend, StillReads, one_more_before}
+use Rattle.text_tokens.specs.Reading.{Answer, Reader, answer_and_then, times}
+use Rattle.text_tokens.proofs.StepsLemmas.{Reached, Failed, stays_on}
+use Rattle.text_tokens.proofs.LoopLemmas.{prepend, StillReads, one_more_before}
 
 module _ {A : Type 0} (p : Reader A) (whole : Reader (List A)) (start : Cursor) (found : List A) (here : Cursor) where
   abbrev Goes : ℕ → Answer (List A)
-  Goes n = and_then (p here.last here.ahead) (λ a us. and_then (times p n here.last us) (λ rest vs. Ok (a ∷ rest, vs)))
+  Goes n = answer_and_then (p here.last here.ahead) (λ a us. answer_and_then (times p n here.last us) (λ rest vs. Ok (a ∷ rest, vs)))
 
   goes : (n : ℕ) → times p (suc n) here.last here.ahead ≡ Goes n
   unfolding times
@@ -23,7 +23,7 @@ module _ {A : Type 0} (p : Reader A) (whole : Reader (List A)) (start : Cursor) 
       let one : n ≡ suc m = omega arith in
       record {
         reads = still.reads ∙ ap (λ (k : ℕ). prepend found (times p k here.last here.ahead)) one ∙ ap (prepend found) (goes m)
-            ∙ ap (λ (x : Answer A). prepend found (and_then x (λ a us. and_then (times p m here.last us) (λ rest vs. Ok (a ∷ rest, vs))))) s.0
+            ∙ ap (λ (x : Answer A). prepend found (answer_and_then x (λ a us. answer_and_then (times p m here.last us) (λ rest vs. Ok (a ∷ rest, vs))))) s.0
             ∙ one_more_before found a (times p m here.last mid.ahead)
             ∙ ap (λ (last : Refusal). prepend (found ++ a ∷ []) (times p m last mid.ahead)) (sym s.1.last)
             ∙ ap (λ (fs : List A). prepend fs (times p m mid.last mid.ahead)) (sym same);
@@ -34,7 +34,7 @@ module _ {A : Type 0} (p : Reader A) (whole : Reader (List A)) (start : Cursor) 
   pub times_fails : (n : ℕ) → 0 < n → StillReads whole start found (times p n) here → (k : ReadRefusal) (new : Cursor) → Failed p k here new → Failed whole k start new
   times_fails zero lt still k new f = absurd (omega arith)
   times_fails (suc n) lt still NoMemory new f = (tt, stays_on start here new still.stays f.1)
-  times_fails (suc n) lt still (Refused r) new f = (still.reads ∙ ap (prepend found) (goes n ∙ ap (λ (x : Answer A). and_then x (λ a us. and_then (times p n here.last us) (λ rest vs. Ok (a ∷ rest, vs)))) f.0), stays_on start here new still.stays f.1)
+  times_fails (suc n) lt still (Refused r) new f = (still.reads ∙ ap (prepend found) (goes n ∙ ap (λ (x : Answer A). answer_and_then x (λ a us. answer_and_then (times p n here.last us) (λ rest vs. Ok (a ∷ rest, vs)))) f.0), stays_on start here new still.stays f.1)
 
   none_left : times p zero here.last here.ahead ≡ Ok ([], here.ahead)
   unfolding times

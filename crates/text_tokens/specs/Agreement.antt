@@ -20,7 +20,22 @@ two last (t ∷ ts) = Err r0
 
 pub record AllButAgreement : Type 0 where
   pub tells : (last : Refusal) (ts : List Lexeme) → Tells Two last ts (two last ts)
-  pub reads : (xs : List Symbol) (a : Unit {0}) → Two xs a → (last : Refusal) (rest : List Lexeme) → Stops Two (tokens xs) rest → two last (tokens xs ++ rest) ≡ outcome xs a rest
-  pub limits : (us : List Lexeme) (x : Symbol) (t : Lexeme) (r : Refusal) → Next Two us x → x.token ≡ Some t → x.fault ≡ Some r → (last : Refusal) (rest : List Lexeme) → two last (us ++ t ∷ rest) ≡ Err r
-  pub judges : (us : List Lexeme) (x : Symbol) (r : Refusal) → Next Two us x → x.token ≡ None → x.fault ≡ Some r → (last : Refusal) (rest : List Lexeme) → Stops Two us rest → two last (us ++ rest) ≡ Err r
+  pub reads : (xs : List Symbol) (a : Unit {0})
+      → Two xs a
+      → (last : Refusal) (rest : List Lexeme)
+      → Stops Two (tokens xs) rest
+      → two last (tokens xs ++ rest) ≡ outcome xs a rest
+  pub limits : (us : List Lexeme) (x : Symbol) (t : Lexeme) (r : Refusal)
+      → Next Two us x
+      → x.token ≡ Some t
+      → x.fault ≡ Some r
+      → (last : Refusal) (rest : List Lexeme)
+      → two last (us ++ t ∷ rest) ≡ Err r
+  pub judges : (us : List Lexeme) (x : Symbol) (r : Refusal)
+      → Next Two us x
+      → x.token ≡ None
+      → x.fault ≡ Some r
+      → (last : Refusal) (rest : List Lexeme)
+      → Stops Two us rest
+      → two last (us ++ rest) ≡ Err r
   pub undecided : Lexeme → IsDecided Two → ⊥

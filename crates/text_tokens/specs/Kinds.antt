@@ -3,27 +3,27 @@ use Rattle.std.specs.Prelude.{ℕ, List, codes}
 use Rattle.text_tokens.specs.declared.refusal.RefusalKind.{RefusalKind}
 use Rattle.text_tokens.specs.declared.refusal.RefusalKind.TheVariants as kind
 
-unfoldable pub number : RefusalKind → ℕ
-number kind.BadByte = 1
-number kind.WordTooLong = 2
-number kind.Unexpected = 3
-number kind.TooDeep = 4
-number kind.TooMany = 5
-number kind.Truncated = 6
-number kind.UnknownName = 7
-number kind.TwiceNamed = 8
-number kind.WrongType = 9
-number kind.BadRange = 10
-number kind.BadId = 11
-number kind.OutOfBox = 12
-number kind.Overlap = 13
-number kind.NotAdjacent = 14
-number kind.BadValue = 15
-number kind.Trailing = 16
-number kind.WrongSection = 17
-number kind.BadEntry = 18
-number kind.BadPlace = 19
-number kind.TooLong = 20
+unfoldable pub kind_number : RefusalKind → ℕ
+kind_number kind.BadByte = 1
+kind_number kind.WordTooLong = 2
+kind_number kind.Unexpected = 3
+kind_number kind.TooDeep = 4
+kind_number kind.TooMany = 5
+kind_number kind.Truncated = 6
+kind_number kind.UnknownName = 7
+kind_number kind.TwiceNamed = 8
+kind_number kind.WrongType = 9
+kind_number kind.BadRange = 10
+kind_number kind.BadId = 11
+kind_number kind.OutOfBox = 12
+kind_number kind.Overlap = 13
+kind_number kind.NotAdjacent = 14
+kind_number kind.BadValue = 15
+kind_number kind.Trailing = 16
+kind_number kind.WrongSection = 17
+kind_number kind.BadEntry = 18
+kind_number kind.BadPlace = 19
+kind_number kind.TooLong = 20
 
 unfoldable pub name : RefusalKind → List ℕ
 name kind.BadByte = codes "BadByte"

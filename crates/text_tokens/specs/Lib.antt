@@ -11,10 +11,10 @@ pub mod Lawful
 pub mod Inputs
 pub mod Combinators
 pub mod Steps
-pub mod Journal
-pub mod JournalView
-pub mod JournalFaults
-pub mod JournalTexts
+pub mod Groups
+pub mod GroupViews
+pub mod GroupFaults
+pub mod GroupTexts
 pub mod Agreement
 pub mod Puts
 pub mod PutTexts

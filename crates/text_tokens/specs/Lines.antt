@@ -28,7 +28,9 @@ LineIsItsTokens = (word : List ℕ) (words : Words) → line_text (word ∷ word
 
 -- a section is its first line, those of its items, and its last line
 abbrev pub SectionIsItsLines : Type 0
-SectionIsItsLines = (word : List ℕ) (items : List Words) → section_text word items ≡ line_text (word ∷ []) ++ lines_text items ++ line_text (codes "end" ∷ [])
+SectionIsItsLines =
+    (word : List ℕ) (items : List Words)
+    → section_text word items ≡ line_text (word ∷ []) ++ lines_text items ++ line_text (codes "end" ∷ [])
 
 -- tokens and further ones, and lines and further ones, have the one text and then the other
 pub record TextsAddUp : Type 0 where
@@ -38,4 +40,6 @@ pub record TextsAddUp : Type 0 where
 -- a section without an item, and one with two
 pub record SmallSections : Type 0 where
   pub empty : section_text (codes "journal") [] ≡ codes "journal\nend\n"
-  pub two_items : section_text (codes "lists") ((codes "turns" ∷ decimal 12 ∷ []) ∷ (codes "list" ∷ decimal 0 ∷ decimal 7 ∷ []) ∷ []) ≡ codes "lists\nturns 12\nlist 0 7\nend\n"
+  pub two_items : section_text (codes "lists")
+      ((codes "turns" ∷ decimal 12 ∷ []) ∷ (codes "list" ∷ decimal 0 ∷ decimal 7 ∷ []) ∷ [])
+      ≡ codes "lists\nturns 12\nlist 0 7\nend\n"

@@ -12,7 +12,11 @@ pub record Same (ls ms : List Lexeme) (r s : Refusal) : Type 0 where
 
 -- a text has no more than one list of tokens, and one fault or end behind them
 abbrev pub OneReading : Type 0
-OneReading = (source : List ℕ) (ls ms : List Lexeme) (r s : Refusal) → AreTokens source 0 ls r → AreTokens source 0 ms s → Same ls ms r s
+OneReading =
+    (source : List ℕ) (ls ms : List Lexeme) (r s : Refusal)
+    → AreTokens source 0 ls r
+    → AreTokens source 0 ms s
+    → Same ls ms r s
 
 -- every text has one: the list that is cut from its front on
 abbrev pub TokensAreCut : Type 0
@@ -48,18 +52,25 @@ Reads source ls last = AreTokens source 0 ls last
 
 pub record SmallTexts : Type 0 where
   pub nothing : Reads [] [] (record { line = 1; kind = Truncated })
-  pub split : Reads (codes "3a") (number_from 0 1 (codes "3") ∷ word_from 1 1 (codes "a") ∷ []) (record { line = 1; kind = Truncated })
+  pub split : Reads (codes "3a") (number_from 0 1 (codes "3") ∷ word_from 1 1 (codes "a") ∷ [])
+      (record { line = 1; kind = Truncated })
   -- a:=b<=1 # c
-  pub longest : Reads (codes "a:=b<=1 # c") (word_from 0 1 (codes "a") ∷ sign_from 1 1 (codes ":=") ∷ word_from 3 1 (codes "b") ∷ sign_from 4 1 (codes "<=") ∷ number_from 6 1 (codes "1") ∷ []) (record { line = 1; kind = Truncated })
+  pub longest : Reads (codes "a:=b<=1 # c")
+      (word_from 0 1 (codes "a") ∷ sign_from 1 1 (codes ":=") ∷ word_from 3 1 (codes "b") ∷ sign_from 4 1 (codes "<=")
+      ∷ number_from 6 1 (codes "1") ∷ [])
+      (record { line = 1; kind = Truncated })
   -- < = with a blank between
-  pub apart : Reads (60 ∷ 32 ∷ 61 ∷ []) (sign_from 0 1 (60 ∷ []) ∷ sign_from 2 1 (61 ∷ []) ∷ []) (record { line = 1; kind = Truncated })
+  pub apart : Reads (60 ∷ 32 ∷ 61 ∷ []) (sign_from 0 1 (60 ∷ []) ∷ sign_from 2 1 (61 ∷ []) ∷ [])
+      (record { line = 1; kind = Truncated })
   -- a comment, whose LF counts as any other, and CR and tab, which do not
-  pub lines : Reads (35 ∷ 200 ∷ 10 ∷ 13 ∷ 9 ∷ 97 ∷ 10 ∷ []) (word_from 5 2 (97 ∷ []) ∷ []) (record { line = 3; kind = Truncated })
+  pub lines : Reads (35 ∷ 200 ∷ 10 ∷ 13 ∷ 9 ∷ 97 ∷ 10 ∷ []) (word_from 5 2 (97 ∷ []) ∷ [])
+      (record { line = 3; kind = Truncated })
   -- a single : and a single ! begin no token
   pub colon : Reads (97 ∷ 10 ∷ 58 ∷ 98 ∷ []) (word_from 0 1 (97 ∷ []) ∷ []) (record { line = 2; kind = BadByte })
   pub bang : Reads (33 ∷ []) [] (record { line = 1; kind = BadByte })
   pub high : Reads (195 ∷ []) [] (record { line = 1; kind = BadByte })
   pub nine : Reads (codes "000000009") (number_from 0 1 (codes "000000009") ∷ []) (record { line = 1; kind = Truncated })
   pub ten : Reads (codes "0000000009") [] (record { line = 1; kind = WordTooLong })
-  pub many : Reads (codes "abcdefghijklmnopqrstuvwx") (word_from 0 1 (codes "abcdefghijklmnopqrstuvwx") ∷ []) (record { line = 1; kind = Truncated })
+  pub many : Reads (codes "abcdefghijklmnopqrstuvwx") (word_from 0 1 (codes "abcdefghijklmnopqrstuvwx") ∷ [])
+      (record { line = 1; kind = Truncated })
   pub too_many : Reads (codes "abcdefghijklmnopqrstuvwxy") [] (record { line = 1; kind = WordTooLong })

@@ -19,14 +19,14 @@ abbrev pub first : List Lexeme → Option Lexeme
 first [] = None
 first (t ∷ ts) = Some t
 
-abbrev pub and_then : {A B : Type 0} → Answer A → (A → List Lexeme → Answer B) → Answer B
-and_then (Ok p) f = f p.0 p.1
-and_then (Err r) f = Err r
+abbrev pub answer_and_then : {A B : Type 0} → Answer A → (A → List Lexeme → Answer B) → Answer B
+answer_and_then (Ok p) f = f p.0 p.1
+answer_and_then (Err r) f = Err r
 
 -- one after the other
 infixl 10 ◌>>=◌
 abbrev pub ◌>>=◌ : {A B : Type 0} → Reader A → (A → Reader B) → Reader B
-p >>= q = λ last ts. and_then (p last ts) (λ a us. q a last us)
+p >>= q = λ last ts. answer_and_then (p last ts) (λ a us. q a last us)
 
 abbrev pub pure : {A : Type 0} → A → Reader A
 pure a = λ last ts. Ok (a, ts)
@@ -48,7 +48,8 @@ within (Some kind) t ts = Err (record { line = t.line; kind = kind })
 -- one token that passes the test, unless it passes a limit
 unfoldable pub one_within : (Lexeme → Bool) → (Lexeme → Option RefusalKind) → Reader Lexeme
 one_within test over last [] = Err last
-one_within test over last (t ∷ ts) = if test t then within (over t) t ts else Err (record { line = t.line; kind = Unexpected })
+one_within test over last (t ∷ ts) =
+    if test t then within (over t) t ts else Err (record { line = t.line; kind = Unexpected })
 
 abbrev pub no_limit : Lexeme → Option RefusalKind
 no_limit t = None
@@ -61,8 +62,8 @@ deep_at zero t = Some TooDeep
 deep_at (suc n) t = None
 
 -- a token that opens a level, where so many more may be opened
-abbrev pub opening : ℕ → (Lexeme → Bool) → Reader Lexeme
-opening levels test = one_within test (deep_at levels)
+abbrev pub opening_token : ℕ → (Lexeme → Bool) → Reader Lexeme
+opening_token levels test = one_within test (deep_at levels)
 
 abbrev pub past_sum : (Lexeme → ℕ) → ℕ → ℕ → Lexeme → Option RefusalKind
 past_sum weight most so_far t = if nat_lt most (so_far + weight t) then Some TooMany else None
@@ -78,16 +79,16 @@ the_line test = one test >>= λ t. pure t.line
 abbrev pub is_number : Lexeme → Bool
 is_number = is_kind Number
 
-abbrev pub value : Lexeme → ℕ
-value t = number_value t.text
+abbrev pub lexeme_value : Lexeme → ℕ
+lexeme_value t = number_value t.text
 
 -- a number above the most is refused for this
 abbrev pub too_large : ℕ → RefusalKind → Lexeme → Option RefusalKind
-too_large most kind t = if nat_lt most (value t) then Some kind else None
+too_large most kind t = if nat_lt most (lexeme_value t) then Some kind else None
 
 -- what a number stands for, unless it passes a limit
 unfoldable pub numeral : (Lexeme → Option RefusalKind) → Reader ℕ
-numeral over = one_within is_number over >>= λ t. pure (value t)
+numeral over = one_within is_number over >>= λ t. pure (lexeme_value t)
 
 -- a part up to a token that closes it
 abbrev pub closed : {A : Type 0} → Reader A → (Lexeme → Bool) → Reader A
@@ -157,7 +158,8 @@ times p (suc n) = p >>= λ a. times p n >>= λ rest. pure (a ∷ rest)
 -- so many elements at most, as long as one begins
 unfoldable pub elements : {A S : Type 0} → (Lexeme → Bool) → (S → Reader A) → (S → A → S) → ℕ → S → Reader (List A)
 elements starts element step zero s = pure []
-elements starts element step (suc n) s = either starts (element s >>= λ a. elements starts element step n (step s a) >>= λ rest. pure (a ∷ rest)) (pure [])
+elements starts element step (suc n) s =
+    either starts (element s >>= λ a. elements starts element step n (step s a) >>= λ rest. pure (a ∷ rest)) (pure [])
 
 -- Elements as long as one begins, each with the state so far. There are no more of them than tokens.
 unfoldable pub repeated : {A S : Type 0} → (Lexeme → Bool) → (S → Reader A) → (S → A → S) → S → Reader (List A)
@@ -175,14 +177,18 @@ at_most starts over most p = repeated starts (λ room. limited starts over room 
 abbrev pub behind_sign : {A S : Type 0} → (Lexeme → Bool) → (Lexeme → S → Reader A) → S → Reader A
 behind_sign separates element s = one separates >>= λ sign. element sign s
 
--- A first part, and further ones behind a separator each, which may have a meaning. The state starts from the first part and changes with each further one.
-abbrev pub chained : {F A B S : Type 0} → Reader F → (Lexeme → Bool) → (Lexeme → S → Reader A) → (S → A → S) → (F → S) → (F → List A → B) → Reader B
-chained p separates element step start whole = p >>= λ a. repeated separates (behind_sign separates element) step (start a) >>= λ more. pure (whole a more)
+-- A first part, and further ones behind a separator each, which may have a meaning.
+-- The state starts from the first part and changes with each further one.
+abbrev pub chained : {F A B S : Type 0} → Reader F → (Lexeme → Bool) → (Lexeme → S → Reader A) → (S → A → S) → (F → S)
+    → (F → List A → B) → Reader B
+chained p separates element step start whole =
+    p >>= λ a. repeated separates (behind_sign separates element) step (start a) >>= λ more. pure (whole a more)
 
 -- ---- readers that contain themselves
 
 -- Parts that contain each other one level deeper, by the reader of one level over those of the level below. At level 0 none may be opened.
-unfoldable pub by_levels : {K : Type 0} {A : K → Type 0} → (ℕ → ((k : K) → Reader (A k)) → (k : K) → Reader (A k)) → ℕ → (k : K) → Reader (A k)
+unfoldable pub by_levels : {K : Type 0} {A : K → Type 0} → (ℕ → ((k : K) → Reader (A k)) → (k : K) → Reader (A k)) → ℕ
+    → (k : K) → Reader (A k)
 by_levels level zero k = level zero (λ k. refuse) k
 by_levels level (suc n) k = level (suc n) (by_levels level n) k
 

@@ -36,7 +36,8 @@ skip_by Start line_feed blank comment start = start
 unfoldable pub skip : Bool → ℕ → ℕ → List ℕ → Input
 skip inside at line [] = record { text = []; at = at; line = line }
 skip inside at line (b ∷ text) = skip_by (between_at inside b)
-    (skip false (at + 1) (line + 1) text) (skip inside (at + 1) line text) (skip true (at + 1) line text) (record { text = b ∷ text; at = at; line = line })
+    (skip false (at + 1) (line + 1) text) (skip inside (at + 1) line text) (skip true (at + 1) line text)
+    (record { text = b ∷ text; at = at; line = line })
 
 unfoldable pub ready : Input → Input
 ready i = skip false i.at i.line i.text
@@ -66,8 +67,8 @@ front (b ∷ text) =
 abbrev pub lexeme : Input → Piece → Lexeme
 lexeme i p = record { kind = p.kind; text = take p.len i.text; from = i.at; line = i.line }
 
-abbrev pub past : Input → ℕ → Input
-past i len = record { text = drop len i.text; at = i.at + len; line = i.line }
+abbrev pub input_past : Input → ℕ → Input
+input_past i len = record { text = drop len i.text; at = i.at + len; line = i.line }
 
 abbrev pub len_of : Result Piece RefusalKind → ℕ
 len_of (Ok p) = p.len
@@ -80,7 +81,7 @@ with_front i (Err kind) ls = []
 -- the tokens from an input on. The number bounds how many.
 unfoldable pub scan : ℕ → Input → List Lexeme
 scan zero i = []
-scan (suc n) i = let j = ready i in with_front j (front j.text) (scan n (past j (len_of (front j.text))))
+scan (suc n) i = let j = ready i in with_front j (front j.text) (scan n (input_past j (len_of (front j.text))))
 
 abbrev pub fault_at : Input → Result Piece RefusalKind → Refusal → Refusal
 fault_at i (Ok p) last = last
@@ -89,7 +90,7 @@ fault_at i (Err kind) last = record { line = i.line; kind = kind }
 -- what is wrong behind them
 unfoldable pub scan_end : ℕ → Input → Refusal
 scan_end zero i = record { line = i.line; kind = Truncated }
-scan_end (suc n) i = let j = ready i in fault_at j (front j.text) (scan_end n (past j (len_of (front j.text))))
+scan_end (suc n) i = let j = ready i in fault_at j (front j.text) (scan_end n (input_past j (len_of (front j.text))))
 
 unfoldable pub ahead_of : Input → List Lexeme
 ahead_of i = scan (suc (length i.text)) i

@@ -43,7 +43,11 @@ is_in_line b = if b == 10 then false else true
 pub data Skips : List ℕ → List ℕ → Type 0 where
   nothing : {text : List ℕ} → Skips text text
   blank : {b : ℕ} {text rest : List ℕ} → is_blank b ≡ true → Skips text rest → Skips (b ∷ text) rest
-  comment : {rest : List ℕ} → (inside text : List ℕ) → list_all is_in_line inside ≡ true → Skips text rest → Skips (35 ∷ (inside ++ 10 ∷ text)) rest
+  comment : {rest : List ℕ}
+      → (inside text : List ℕ)
+      → list_all is_in_line inside ≡ true
+      → Skips text rest
+      → Skips (35 ∷ (inside ++ 10 ∷ text)) rest
   last_comment : (inside : List ℕ) → list_all is_in_line inside ≡ true → Skips (35 ∷ inside) []
 
 -- no blank and no comment begins here
@@ -60,12 +64,21 @@ StopsRun test (b ∷ text) = test b ≡ false
 
 -- no longer sign begins where this one does
 abbrev pub IsLongestSign : List ℕ → List ℕ → Type 0
-IsLongestSign bytes rest = (other more : List ℕ) → is_sign other ≡ true → bytes ++ rest ≡ other ++ more → length other ≤ length bytes
+IsLongestSign bytes rest =
+    (other more : List ℕ) → is_sign other ≡ true → bytes ++ rest ≡ other ++ more → length other ≤ length bytes
 
 -- the kind of a token, its bytes, and the text behind it
 pub data Cuts : TokenKind → List ℕ → List ℕ → Type 0 where
-  word : {b : ℕ} {bytes rest : List ℕ} → is_letter b ≡ true → list_all is_word_byte bytes ≡ true → StopsRun is_word_byte rest → Cuts Word (b ∷ bytes) rest
-  number : {b : ℕ} {bytes rest : List ℕ} → is_digit b ≡ true → list_all is_digit bytes ≡ true → StopsRun is_digit rest → Cuts Number (b ∷ bytes) rest
+  word : {b : ℕ} {bytes rest : List ℕ}
+      → is_letter b ≡ true
+      → list_all is_word_byte bytes ≡ true
+      → StopsRun is_word_byte rest
+      → Cuts Word (b ∷ bytes) rest
+  number : {b : ℕ} {bytes rest : List ℕ}
+      → is_digit b ≡ true
+      → list_all is_digit bytes ≡ true
+      → StopsRun is_digit rest
+      → Cuts Number (b ∷ bytes) rest
   sign : {bytes rest : List ℕ} → is_sign bytes ≡ true → IsLongestSign bytes rest → Cuts Sign bytes rest
 
 abbrev pub BeginsNoToken : List ℕ → Type 0
@@ -114,7 +127,25 @@ pub record IsToken (source : List ℕ) (l : Lexeme) : Type 0 where
 -- The tokens of a source from a place on, and what is wrong behind the last of them where one more is needed:
 -- the text ends there, or a byte begins no token, or a word or number is too long.
 pub data AreTokens (source : List ℕ) : ℕ → List Lexeme → Refusal → Type 0 where
-  ends : {at : ℕ} → Comes source at (length source) → AreTokens source at [] (record { line = line_at source (length source); kind = Truncated })
-  bad_byte : {at : ℕ} → (from : ℕ) → Comes source at from → from < length source → BeginsNoToken (drop from source) → AreTokens source at [] (record { line = line_at source from; kind = BadByte })
-  too_long : {at : ℕ} → (l : Lexeme) → Comes source at l.from → IsToken source l → most_bytes l.kind < length l.text → AreTokens source at [] (record { line = l.line; kind = WordTooLong })
-  token : {at : ℕ} {ls : List Lexeme} {last : Refusal} → (l : Lexeme) → Comes source at l.from → IsToken source l → length l.text ≤ most_bytes l.kind → AreTokens source (token_end l) ls last → AreTokens source at (l ∷ ls) last
+  ends : {at : ℕ}
+      → Comes source at (length source)
+      → AreTokens source at [] (record { line = line_at source (length source); kind = Truncated })
+  bad_byte : {at : ℕ}
+      → (from : ℕ)
+      → Comes source at from
+      → from < length source
+      → BeginsNoToken (drop from source)
+      → AreTokens source at [] (record { line = line_at source from; kind = BadByte })
+  too_long : {at : ℕ}
+      → (l : Lexeme)
+      → Comes source at l.from
+      → IsToken source l
+      → most_bytes l.kind < length l.text
+      → AreTokens source at [] (record { line = l.line; kind = WordTooLong })
+  token : {at : ℕ} {ls : List Lexeme} {last : Refusal}
+      → (l : Lexeme)
+      → Comes source at l.from
+      → IsToken source l
+      → length l.text ≤ most_bytes l.kind
+      → AreTokens source (token_end l) ls last
+      → AreTokens source at (l ∷ ls) last

@@ -1,23 +1,23 @@
 //! What two small formats say of their tokens. The functions do nothing: their clauses are the laws.
 
 ghost use Rattle.text_tokens.specs.declared.refusal.RefusalKind.TheVariants.{Trailing};
-ghost use Rattle.text_tokens.specs.Journal.{IsJournal, journal};
+ghost use Rattle.text_tokens.specs.Groups.{AreGroups, groups_to_end};
 ghost use Rattle.text_tokens.specs.Lawful.{Exact, IsDecided};
 ghost use Rattle.text_tokens.specs.Inputs.{IsDecidedInput};
 ghost use Rattle.text_tokens.specs.Agreement.{AllButAgreement};
-ghost use Rattle.text_tokens.specs.JournalFaults.{EntriesAreJudged};
-ghost use Rattle.text_tokens.specs.JournalTexts.{JournalsAreRead};
+ghost use Rattle.text_tokens.specs.GroupFaults.{GroupsAreJudged};
+ghost use Rattle.text_tokens.specs.GroupTexts.{GroupsAreRead};
 ghost use Rattle.text_tokens.specs.Puts.{IsPut, put};
 ghost use Rattle.text_tokens.specs.PutTexts.{PutsAreRead};
 
 /// The tokens of a journal, whose entries are judged once nothing more belongs to them, are read in one way, or have one
 /// first fault, and its reader answers that.
-pub fn journal_is_decided()
-    ensures exact { Exact IsJournal journal }
-    ensures decided { IsDecided IsJournal }
-    ensures input { IsDecidedInput IsJournal Trailing }
-    ensures judged { EntriesAreJudged }
-    ensures read { JournalsAreRead }
+pub fn groups_are_decided()
+    ensures exact { Exact AreGroups groups_to_end }
+    ensures decided { IsDecided AreGroups }
+    ensures input { IsDecidedInput AreGroups Trailing }
+    ensures judged { GroupsAreJudged }
+    ensures read { GroupsAreRead }
 {}
 
 /// So are those of a format of which two forms begin alike, and whose separators have a meaning.

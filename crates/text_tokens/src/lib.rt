@@ -3,7 +3,7 @@
 
 mod combinators;
 mod examples;
-pub mod journal;
+pub mod groups;
 mod laws;
 mod lines;
 mod refusal;
@@ -17,7 +17,7 @@ pub use combinators::{
     one_token, opening, option, refusing, repetition, running_sum, same_texts, sequence, stopping,
     whole_input,
 };
-pub use examples::{agreement_is_needed, journal_is_decided, puts_are_decided};
+pub use examples::{agreement_is_needed, groups_are_decided, puts_are_decided};
 pub use laws::{small_texts, spans_rise, tokens_are_cut, tokens_are_one};
 pub use lines::{Lines, Text, lines_add_up};
 pub use refusal::{ReadRefusal, Refusal, RefusalKind};

@@ -53,9 +53,9 @@ pub enum RefusalKind {
 
 impl RefusalKind {
     /// The number of the kind, from 1 to 20.
-    #[tactic(auto, unfolding(crate::specs::Kinds::number))]
+    #[tactic(auto, unfolding(crate::specs::Kinds::kind_number))]
     pub fn number(self) -> u8
-        ensures { result ≡ kinds.number self }
+        ensures { result ≡ kinds.kind_number self }
     {
         match self {
             RefusalKind::BadByte => 1,

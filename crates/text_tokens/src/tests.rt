@@ -1,5 +1,5 @@
 use super::*;
-use crate::journal::read_input;
+use crate::groups::read_input;
 use crate::refusal::RefusalKind::{
     BadByte, BadEntry, BadRange, TooDeep, TooMany, Trailing, Truncated, Unexpected, WordTooLong,
 };
@@ -499,7 +499,7 @@ fn laws_hold_at_a_type(rt: HostRuntime) {
     opening();
     running_sum();
     laws_of::<u8, u16>();
-    journal_is_decided();
+    groups_are_decided();
     puts_are_decided();
     agreement_is_needed();
     tokens_are_cut();

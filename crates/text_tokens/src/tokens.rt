@@ -6,7 +6,8 @@ ghost use Rattle.text_tokens.specs.declared.token.TokenKind.TheVariants.{Number}
 ghost use Rattle.text_tokens.specs.Text as text;
 ghost use Rattle.text_tokens.specs.Scan as scan;
 ghost use Rattle.text_tokens.specs.Cursor as cursor;
-ghost use Rattle.text_tokens.specs.Cursor.{AreCut, IsAtFront, IsDigits, IsShort, IsSlice, Spells, number_value, next_passes, is_the, is_kind, expect};
+ghost use Rattle.text_tokens.specs.Cursor.{AreCut, IsAtFront, IsDigits, IsShort, IsSlice, Spells, number_value};
+ghost use Rattle.text_tokens.specs.Cursor.{next_passes, is_the, is_kind, expect};
 
 use crate::refusal::{Refusal, RefusalKind};
 use crate::token::{Token, TokenKind};
@@ -173,7 +174,8 @@ fn between_at(inside: bool, b: u8) -> Between
 /// How many bytes of blanks and comments stand at the front, and the line behind them.
 fn skip(bytes: &[u8], line: u32) -> (usize, u32)
     requires { line + length bytes.now < 2 ^ 32 }
-    ensures skipped { (at : ℕ) → scan.skip false at line bytes.now ≡ record { text = drop result.0 bytes.now; at = at + result.0; line = result.1 } }
+    ensures skipped { (at : ℕ) → scan.skip false at line bytes.now
+        ≡ record { text = drop result.0 bytes.now; at = at + result.0; line = result.1 } }
     ensures within { result.0 ≤ length bytes.now }
     ensures line { result.1 ≤ line + result.0 }
 {

@@ -9,14 +9,14 @@ use Rattle.std.proofs.lemmas.Bool.{lt-ltb, ltb-true, false≢true}
 use Rattle.std.proofs.lemmas.Option.{cond_some, none-some, same_Some}
 use Rattle.tri_lattice.proofs.Nodes.{same_node, stepped}
 use Rattle.tri_lattice.specs.declared.node.Node.{Node}
-use Rattle.tri_lattice.specs.Extent.{Extent, place, index_of, is_in, node_at, IsArea}
+use Rattle.tri_lattice.specs.Extent.{Extent, axis_offset, index_of, is_in, node_at, IsArea}
 use Rattle.tri_lattice.specs.Laws.{IsWithin, BoxIsItsBounds, NodesHaveNumbers, NumbersHaveNodes}
 use Rattle.tri_lattice.specs.Lattice.{IsNear}
 use Rattle.std.specs.Prelude.{IsTrue, is_some, ◌-ℤ◌, ◌≤ℤ◌}
 use Rattle.std.proofs.lemmas.Int.{ints}
 
 -- what has a place in a side has one below its length
-pub place_below : (z : ℤ) (side n : ℕ) → place z side ≡ Some n → n < side
+pub place_below : (z : ℤ) (side n : ℕ) → axis_offset z side ≡ Some n → n < side
 place_below (pos m) side n e = let t = cond_some (ltb m side) m n e in let l = ltb-true m side t.0 in omega arith
 place_below (negsuc m) side n e = absurd (none-some n e)
 
@@ -29,7 +29,7 @@ row_below w h k (Some i) (Some j) a b e = let q = same_Some _ _ e in let l = mul
 pub index_below : (a : Extent) (v : Node) (k : ℕ) → index_of a v ≡ Some k → k < a.w * a.h
 index_below a v k e = row_below a.w a.h k _ _ (place_below _ a.w) (place_below _ a.h) e
 
-pub place_is : (z : ℤ) (side n : ℕ) → place z side ≡ Some n → z ≡ pos n
+pub place_is : (z : ℤ) (side n : ℕ) → axis_offset z side ≡ Some n → z ≡ pos n
 place_is (pos m) side n e = ap pos (cond_some (ltb m side) m n e).1
 place_is (negsuc m) side n e = absurd (none-some n e)
 
@@ -68,13 +68,13 @@ index_once a u v k eu ev =
     same_node u v (omega (arith, ints)) (omega (arith, ints))
 
 -- what lies so far into a side has that place
-pub place_at : (z : ℤ) (side n : ℕ) → z ≡ pos n → n < side → place z side ≡ Some n
-place_at z side n e l = ap (λ x. place x side) e ∙ ap (λ b. cond b (Some n) None) (lt-ltb n side l)
+pub place_at : (z : ℤ) (side n : ℕ) → z ≡ pos n → n < side → axis_offset z side ≡ Some n
+place_at z side n e l = ap (λ x. axis_offset x side) e ∙ ap (λ b. cond b (Some n) None) (lt-ltb n side l)
 
 -- the number from the places
 pub index_at : (a : Extent) (v : Node) (i j : ℕ) → v.x -ℤ a.x0 ≡ pos i → i < a.w → v.y -ℤ a.y0 ≡ pos j → j < a.h → index_of a v ≡ Some (j * a.w + i)
 index_at a v i j x li y lj =
-    ap (λ o. option_and_then (λ m. option_map (λ n. n * a.w + m) (place (v.y -ℤ a.y0) a.h)) o) (place_at _ a.w i x li)
+    ap (λ o. option_and_then (λ m. option_map (λ n. n * a.w + m) (axis_offset (v.y -ℤ a.y0) a.h)) o) (place_at _ a.w i x li)
     ∙ ap (option_map (λ n. n * a.w + i)) (place_at _ a.h j y lj)
 
 above : (a b z : ℤ) → b -ℤ a ≡ z → a ≤ℤ b → (n : ℕ) × (z ≡ pos n)

@@ -3,4 +3,4 @@ pub mod Nodes
 pub mod Steps
 pub mod Boxes
 pub mod Paths
-mod Samples
+mod LatticeExamples

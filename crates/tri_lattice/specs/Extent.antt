@@ -31,13 +31,13 @@ pub record IsArea (a : Extent) : Type 0 where
   pub h_high : a.h ≤ most_side
 
 -- the place in a side of this length of what lies so far from its beginning; none outside
-abbrev pub place : ℤ → ℕ → Option ℕ
-place (pos n) side = if nat_lt n side then Some n else None
-place (negsuc n) side = None
+abbrev pub axis_offset : ℤ → ℕ → Option ℕ
+axis_offset (pos n) side = if nat_lt n side then Some n else None
+axis_offset (negsuc n) side = None
 
 -- the number of a node of the box, row by row: (y - y0) * w + (x - x0); none outside
 abbrev pub index_of : Extent → Node → Option ℕ
-index_of a v = option_and_then (λ i. option_map (λ j. j * a.w + i) (place (v.y -ℤ a.y0) a.h)) (place (v.x -ℤ a.x0) a.w)
+index_of a v = option_and_then (λ i. option_map (λ j. j * a.w + i) (axis_offset (v.y -ℤ a.y0) a.h)) (axis_offset (v.x -ℤ a.x0) a.w)
 
 -- the node lies in the box
 abbrev pub is_in : Extent → Node → Bool

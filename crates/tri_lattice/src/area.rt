@@ -1,5 +1,5 @@
 ghost use Rattle.std.specs.Prelude.{◌≡◌, ◌<◌, ◌↔◌, ◌*◌, ◌-ℤ◌, IfSome, IsSome};
-ghost use Rattle.tri_lattice.specs.Extent.{Extent, IsArea, index_of, node_at, place as place_of};
+ghost use Rattle.tri_lattice.specs.Extent.{Extent, IsArea, index_of, node_at, axis_offset as place_of};
 
 use crate::node::Node;
 use std::marker::Model;
@@ -84,8 +84,8 @@ impl Area {
         ensures value { result ≡ index_of self.now node }
         ensures below { IfSome result (λ n. n < self.now.w * self.now.h) }
     {
-        let column = place(node.x, self.x0, self.w)?;
-        let row = place(node.y, self.y0, self.h)?;
+        let column = side_offset(node.x, self.x0, self.w)?;
+        let row = side_offset(node.y, self.y0, self.h)?;
         Some(row * u32::from(self.w) + column)
     }
 
@@ -105,7 +105,7 @@ impl Area {
 }
 
 /// The place of a coordinate in the side of this length that begins at `from`; None outside.
-fn place(at: i16, from: i16, side: u16) -> Option<u32>
+fn side_offset(at: i16, from: i16, side: u16) -> Option<u32>
     ensures value { result ≡ place_of (at -ℤ from) side }
     ensures below { IfSome result (λ n. n < side) }
 {

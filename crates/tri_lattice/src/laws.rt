@@ -1,4 +1,7 @@
-ghost use Rattle.tri_lattice.specs.Laws.{OppositeLeadsBack, NextNeighboursMeet, NeighboursAreDistinct, StepsLeave, AdjacencyIsSymmetric, NeighboursAreAtOne, NodeTestIsEquality, AdjacentTestIsAdjacency, BoxIsItsBounds, NumberCountsRows, NodesHaveNumbers, NumbersHaveNodes, SameKeeps, PuttingKeeps, FewAreConnected};
+ghost use Rattle.tri_lattice.specs.Laws.{OppositeLeadsBack, NextNeighboursMeet, NeighboursAreDistinct, StepsLeave};
+ghost use Rattle.tri_lattice.specs.Laws.{AdjacencyIsSymmetric, NeighboursAreAtOne, NodeTestIsEquality};
+ghost use Rattle.tri_lattice.specs.Laws.{AdjacentTestIsAdjacency, BoxIsItsBounds, NumberCountsRows, NodesHaveNumbers};
+ghost use Rattle.tri_lattice.specs.Laws.{NumbersHaveNodes, SameKeeps, PuttingKeeps, FewAreConnected};
 
 /// What holds of steps, neighbours and distances.
 pub fn lattice_laws()

@@ -1,5 +1,5 @@
-pub mod Taking
-pub mod Gathering
-pub mod Making
-pub mod Ending
+pub mod TakenSeats
+pub mod DeskLemmas
+pub mod WorkersLemmas
+pub mod WorkEnds
 pub mod Fixed

@@ -5,8 +5,7 @@ use Rattle.amoebot_state.specs.declared.verdict.Failure.TheVariants as failure
 use Rattle.claim_core.specs.declared.marks.Mark.TheVariants as mark
 use Rattle.claim_core.specs.Turns.{MarkLists}
 use Rattle.claim_core.specs.Tags.{tag}
-use Rattle.claim_rule.specs.Tokens.{refused_of, seen_of}
-use Rattle.claim_rule.specs.Settling.{receipt_of}
+use Rattle.claim_rule.specs.Tokens.{refused_of, placed_turn}
 use Rattle.activation.specs.declared.turn.Turn.{Turn}
 use Rattle.activation.specs.declared.turn.Turn.TheVariants as turn
 use Rattle.turn_workers.specs.Turns.{AreTurnsOf}
@@ -15,8 +14,9 @@ use Rattle.turn_workers.specs.Turns.{AreTurnsOf}
 abbrev pub TurnsAreOne : Type 0
 TurnsAreOne = (told : MarkLists) (one two : List (List Turn)) → AreTurnsOf told one → AreTurnsOf told two → one ≡ two
 
--- two callers with two turns each. The first commits, and is then idle, where the journal has one entry. The second finds the body of its amoebot held by the
--- first one's first turn, and then fails, since its movement might split the shape
+-- Two callers with two turns each. The first commits, and is then idle, where the journal has one entry.
+-- The second finds the body of its amoebot held by the first one's first turn.
+-- Then it fails, since its movement might split the shape.
 abbrev pub small_marks : MarkLists
 small_marks = record {
   turns = 2;
@@ -25,8 +25,8 @@ small_marks = record {
 
 abbrev pub small_turns : List (List Turn)
 small_turns =
-    (turn.Done (receipt_of 0 0 0) ∷ turn.Idle (seen_of 0 1 1) ∷ [])
-    ∷ (turn.Busy (refused_of 1 0 (name.Body 1) (tag 0 0 0) 0) ∷ turn.Failed failure.WouldSplit (seen_of 1 1 1) ∷ [])
+    (turn.Done (placed_turn 0 0 0) ∷ turn.Idle (placed_turn 0 1 1) ∷ [])
+    ∷ (turn.Busy (refused_of 1 0 (name.Body 1) (tag 0 0 0) 0) ∷ turn.Failed failure.WouldSplit (placed_turn 1 1 1) ∷ [])
     ∷ []
 
 abbrev pub SmallTurns : Type 0

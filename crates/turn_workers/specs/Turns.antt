@@ -21,4 +21,6 @@ marks_in turns = map mark_of turns
 -- the turns of each caller, each with this caller and its number, have the caller's marks in their order, and there are no others
 pub record AreTurnsOf (told : MarkLists) (turns : List (List Turn)) : Type 0 where
   pub marks : told.marks ≡ map marks_in turns
-  pub each : (caller turn : ℕ) (answer : Turn) → turn_at turns caller turn ≡ Some answer → (caller_of answer ≡ caller) × (turn_of answer ≡ turn)
+  pub each : (caller turn : ℕ) (answer : Turn)
+      → turn_at turns caller turn ≡ Some answer
+      → (caller_of answer ≡ caller) × (turn_of answer ≡ turn)

@@ -8,8 +8,8 @@ use Rattle.amoebot_state.specs.Zones.{Shown}
 use Rattle.claim_core.specs.declared.state.Caller.{Caller}
 use Rattle.claim_core.specs.declared.marks.Mark.{Mark}
 use Rattle.claim_core.specs.Turns.{MarkLists, marks_of}
-use Rattle.claim_core.specs.Machine.{Setup, caller, opens}
-use Rattle.claim_rule.specs.Views.{setup}
+use Rattle.claim_core.specs.Machine.{Setup, caller, opening_phase}
+use Rattle.claim_rule.specs.Views.{setup_of_terms}
 use Rattle.claim_rule.specs.Tokens.{FieldOf, Token, IsOf, number_in, doing}
 use Rattle.claim_rule.specs.Seating.{SeatsOf}
 use Rattle.activation.specs.declared.turn.Turn.{Turn}
@@ -18,8 +18,8 @@ use Rattle.turn_workers.specs.declared.workers.Desk.{Desk}
 use Rattle.turn_workers.specs.Turns.{marks_in}
 
 -- a caller that has made so many turns, with these marks, and holds nothing
-abbrev pub made : Setup → ℕ → List Mark → Caller
-made g t marks = caller t (opens g t) [] marks
+abbrev pub caller_between_turns : Setup → ℕ → List Mark → Caller
+caller_between_turns g t marks = caller t (opening_phase g t) [] marks
 
 -- the marks with these behind those that a caller has
 abbrev pub with_marks : MarkLists → ℕ → List Mark → MarkLists
@@ -45,19 +45,25 @@ module _ {D : Type 0} where
   -- all seats are out, and at these desks, each at its caller's place
   pub record AreTaken (s : SeatsOf D) (desks : List (Desk D)) : Type 0 where
     pub out : s.seats ≡ map (λ _. None) desks
-    pub each : (c : ℕ) (desk : Desk D) → slice_get desks c ≡ Some desk → (seat : Token D) × (desk.seat ≡ Some seat) × (number_in seat ≡ c) × (seat.table ≡ s.table) × (seat.view.terms ≡ s.terms)
+    pub each : (c : ℕ) (desk : Desk D)
+        → slice_get desks c ≡ Some desk
+        → (seat : Token D) × (desk.seat ≡ Some seat) × (number_in seat ≡ c) × (seat.table ≡ s.table)
+        × (seat.view.terms ≡ s.terms)
 
   module _ (verdict : D → Shown → Verdict) (f : FieldOf D) where
-    -- the seat of this caller is there, which has made its first so many turns; what became of each is kept, and there is room for the others
+    -- The seat of this caller is there, which has made its first so many turns.
+    -- What became of each is kept, and there is room for the others.
     pub record HasMade (c t : ℕ) (desk : Desk D) : Type 0 where
       pub seat : Token D
       pub there : desk.seat ≡ Some seat
       pub of : IsOf f seat
       pub number : number_in seat ≡ c
-      pub doing : doing seat ≡ made (setup verdict f.terms) t (marks_in desk.turns.items)
+      pub doing : doing seat ≡ caller_between_turns (setup_of_terms verdict f.terms) t (marks_in desk.turns.items)
       pub count : length desk.turns.items ≡ t
       pub room : f.terms.lists.turns ≤ vec_capacity desk.turns
-      pub each : (turn : ℕ) (answer : Turn) → slice_get desk.turns.items turn ≡ Some answer → (caller_of answer ≡ c) × (turn_of answer ≡ turn)
+      pub each : (turn : ℕ) (answer : Turn)
+          → slice_get desk.turns.items turn ≡ Some answer
+          → (caller_of answer ≡ c) × (turn_of answer ≡ turn)
 
     -- so it is of each caller
     abbrev pub HaveMade : ℕ → List (Desk D) → Type 0

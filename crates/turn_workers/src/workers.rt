@@ -38,7 +38,8 @@ pub(crate) fn make_all<R: Threads + Wait + Sync, D: Decider, G: Gate>(
 {
     let _callers = lists.callers();
     let worker = |caller: usize, desk: &mut Desk<D>|
-        requires { (caller < length lists.now.ids) × (length lists.now.ids ≤ most_callers) × (field.now.terms.lists ≡ lists.now) × HasMade D.verdict field.now caller 0 desk.now }
+        requires { (caller < length lists.now.ids) × (length lists.now.ids ≤ most_callers)
+            × (field.now.terms.lists ≡ lists.now) × HasMade D.verdict field.now caller 0 desk.now }
         ensures { HasMade D.verdict field.entry.now caller lists.entry.now.turns desk.exit.now }
     { make_turns(rt, field, lists, gate, caller as u8, desk) };
     thread::for_each_mut(rt, desks, WORKERS, &worker);

@@ -4,7 +4,7 @@ ghost use Rattle.amoebot_state.specs.Configs.{bot_at};
 ghost use Rattle.claim_core.specs.Good.{Good};
 ghost use Rattle.claim_core.specs.Reached.{Reached};
 ghost use Rattle.claim_core.specs.Turns.{AreFew, marks_of, no_marks};
-ghost use Rattle.claim_rule.specs.Views.{setup, terms_of};
+ghost use Rattle.claim_rule.specs.Views.{setup_of_terms, field_terms};
 ghost use Rattle.turn_workers.specs.Turns.{AreTurnsOf, marks_in};
 ghost use Rattle.turn_workers.specs.Workers.{AreClear, AreTaken, seat_at, turns_at, with_marks};
 
@@ -35,7 +35,7 @@ pub fn work<R: Threads + Wait + Sync, D: Decider, G: Gate>(
     gate: &G,
 ) -> Result<Worked, NoMemory>
     requires { All (All (λ id. IsSome (bot_at world id))) lists.now.ids }
-    ensures reached { IfOk result (λ worked. Reached (setup D.verdict (terms_of decider.now world lists.now)) worked.report) }
+    ensures reached { IfOk result (λ worked. Reached (setup_of_terms D.verdict (field_terms decider.now world lists.now)) worked.report) }
     ensures good { IfOk result (λ worked. Good (D.verdict decider.now) world lists.now worked.report) }
     ensures turns { IfOk result (λ worked. AreTurnsOf worked.report.turns worked.turns) }
 {
@@ -72,7 +72,7 @@ fn rest<D: Decider>(
     lists: &Lists,
 ) -> Result<Worked, NoMemory>
     requires { length lists.now.ids ≡ 0 }
-    ensures reached { IfOk result (λ worked. Reached (setup D.verdict (terms_of decider.now world lists.now)) worked.report) }
+    ensures reached { IfOk result (λ worked. Reached (setup_of_terms D.verdict (field_terms decider.now world lists.now)) worked.report) }
     ensures good { IfOk result (λ worked. Good (D.verdict decider.now) world lists.now worked.report) }
     ensures turns { IfOk result (λ worked. AreTurnsOf worked.report.turns worked.turns) }
 {

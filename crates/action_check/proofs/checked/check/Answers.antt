@@ -1,5 +1,5 @@
 use Rattle.std.proofs.lemmas.Result.{err_from_is_err_and}
-use Rattle.action_check.proofs.Declaring.{tells_behind}
+use Rattle.action_check.proofs.DeclarationLemmas.{tells_behind}
 use Rattle.action_check.proofs.checked.check.Goals as goal
 
 pub returns-in_err-check_actions-clause-refused : goal.returns-in_err-check_actions-clause-refused

@@ -5,7 +5,7 @@ use Rattle.action_tree.specs.Writable.{action_names}
 use Rattle.action_check.specs.Scopes.{Scope, HasRoom}
 use Rattle.action_check.specs.Faults.{action_faults}
 use Rattle.action_check.specs.Told.{first_of}
-use Rattle.action_check.proofs.Declaring.{action_room, actions_next}
+use Rattle.action_check.proofs.DeclarationLemmas.{action_room, actions_next}
 use Rattle.action_check.proofs.declaration.check_actions.Goals as goal
 
 pub check_action-requires : goal.check_action-requires

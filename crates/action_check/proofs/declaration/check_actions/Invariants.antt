@@ -1,6 +1,6 @@
 use Rattle.std.proofs.Common.{[]}
 use Rattle.action_check.specs.Told.{texts}
-use Rattle.action_check.proofs.Declaring.{ActionsLeft}
+use Rattle.action_check.proofs.DeclarationLemmas.{ActionsLeft}
 use Rattle.action_check.proofs.declaration.check_actions.Given as goal
 
 abbrev pub invariant-loop-action : goal.invariant-loop-action

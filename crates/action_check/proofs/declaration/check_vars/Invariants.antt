@@ -1,5 +1,5 @@
 use Rattle.action_check.specs.Told.{texts}
-use Rattle.action_check.proofs.Declaring.{VarsLeft}
+use Rattle.action_check.proofs.DeclarationLemmas.{VarsLeft}
 use Rattle.action_check.proofs.declaration.check_vars.Given as goal
 
 abbrev pub invariant-loop-var : goal.invariant-loop-var

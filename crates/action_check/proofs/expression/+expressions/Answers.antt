@@ -3,7 +3,7 @@ use Rattle.std.proofs.lemmas.Result.{err_from_is_err_and}
 use Rattle.action_tree.specs.Trees.{of_port, turned}
 use Rattle.action_tree.specs.Views.{name_of, literal_of, port_of, term_of}
 use Rattle.action_check.proofs.Firsts.{first_behind, first_before}
-use Rattle.action_check.proofs.Walking.{parts_next, parts_fail, parts_over}
+use Rattle.action_check.proofs.FaultLoops.{parts_next, parts_fail, parts_over}
 use Rattle.action_tree.proofs.Viewed.{sum_opened, term_member, port_turn}
 use Rattle.action_check.proofs.expression.+expressions.Goals as goal
 

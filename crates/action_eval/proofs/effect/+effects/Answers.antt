@@ -1,4 +1,4 @@
-use Rattle.std.proofs.Common.{◌∙◌, ℕ, ap, sym, subst, true, Some, None, arith}
+use Rattle.std.proofs.Common.{◌∙◌, ℕ, ap, sym, subst, Some, None, arith}
 use Rattle.std.proofs.lemmas.Result.{err_from_is_err_and}
 use Rattle.std.proofs.lemmas.Bool.{and_parts}
 use Rattle.amoebot_state.specs.declared.bot.End.TheVariants.{Head}
@@ -19,7 +19,7 @@ use Rattle.model_ops.specs.WorkingCopies.{own_id}
 use Rattle.action_meaning.specs.Names.{var_number}
 use Rattle.action_meaning.specs.Values.{sum_value}
 use Rattle.action_eval.specs.Known.{known, scope_of, sight_of}
-use Rattle.action_eval.proofs.Running.{put_tree, put_of_tree, let_tree, for_tree, put_ran, put_failed, scope_of_bound, room_to_bind, stmt_kept, stmt_counted, stmts_next, stmts_fail, stmts_over, ports_next, ports_fail, ports_over}
+use Rattle.action_eval.proofs.RunningLemmas.{put_tree, put_of_tree, let_tree, for_tree, put_ran, put_failed, scope_of_bound, room_to_bind, stmt_kept, stmt_counted, stmts_next, stmts_fail, stmts_over, ports_next, ports_fail, ports_over}
 use Rattle.action_eval.proofs.effect.+effects.Goals as goal
 
 -- a write without a port, and one through a port, as they answer
@@ -89,8 +89,13 @@ run_stmt-run_for-requires t c =
     let firsts = and_parts _ _ counts.0 in
     let is = ap the_size c.in-For.is in
     let at = ap (most the_size) c.deref-in-For.ensures.value in
-    let smaller = sized-For c.in-For.name c.in-For.set c.in-For.guard c.in-For.stmts in
-    (omega (arith, c.decreases, smaller, is, at), (kept.0, (kept.1, ((and_parts _ _ firsts.0).1, (rw c.deref-in-For.ensures.value kept.2, rw c.deref-in-For.ensures.value counts.1)))))
+    let smaller = sized-For c.in-For.name c.in-For.set c.in-For.guard c.in-For.stmts in (
+      omega (arith, c.decreases, smaller, is, at),
+      (
+        record { new = kept.0; kept = kept.1; counted = (and_parts _ _ firsts.0).1 },
+        record { kept = rw c.deref-in-For.ensures.value kept.2; counted = rw c.deref-in-For.ensures.value counts.1 },
+      ),
+    )
 
 pub run_stmt-returns-in_err-run_for-in-For : goal.run_stmt-returns-in_err-run_for-in-For
 run_stmt-returns-in_err-run_for-in-For t c =
@@ -133,7 +138,7 @@ run_stmts-run_stmt-requires t c =
 pub run_turn-run_stmts-requires : goal.run_turn-run_stmts-requires
 run_turn-run_stmts-requires t c =
     let P : Scope → Type 0 = λ sc. StmtsKept sc (stmts_of c.args.stmts.now) in
-    (omega (arith, c.decreases), (subst P (sym (ap scope_of c.bind.ensures ∙ scope_of_bound (known c.args.names.now) (name_of c.args.name.now) c.args.port)) c.requires.kept, c.requires.counted))
+    (omega (arith, c.decreases), (subst P (sym (ap scope_of c.bind.ensures ∙ scope_of_bound (known c.args.names.now) (name_of c.args.name.now) c.args.port)) c.requires.run.kept, c.requires.run.counted))
 
 pub run_stmts-loop-stmt-preserved : goal.run_stmts-loop-stmt-preserved
 run_stmts-loop-stmt-preserved t c =

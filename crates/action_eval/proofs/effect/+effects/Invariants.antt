@@ -1,7 +1,7 @@
 use Rattle.action_tree.specs.Views.{name_of, guard_of, stmts_of}
 use Rattle.action_eval.specs.Known.{known}
 use Rattle.action_eval.specs.Running.{turn_effect}
-use Rattle.action_eval.proofs.Running.{StmtsLeft, PortsLeft}
+use Rattle.action_eval.proofs.RunningLemmas.{StmtsLeft, PortsLeft}
 use Rattle.action_eval.proofs.effect.+effects.Given as goal
 
 abbrev pub invariant-run_for-loop-port : goal.invariant-run_for-loop-port

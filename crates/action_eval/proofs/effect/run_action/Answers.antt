@@ -8,7 +8,7 @@ use Rattle.model_ops.proofs.Carried.{moved_reaches}
 use Rattle.action_meaning.specs.Effects.{stmts_effect}
 use Rattle.action_eval.specs.Known.{known}
 use Rattle.action_eval.specs.Running.{moment_of}
-use Rattle.action_eval.proofs.Running.{names_behind_all, stmts_unmoved}
+use Rattle.action_eval.proofs.RunningLemmas.{names_behind_all, stmts_unmoved}
 use Rattle.action_eval.proofs.effect.run_action.Goals as goal
 
 pub move_value-requires-clause-kept : goal.move_value-requires-clause-kept

@@ -1,6 +1,6 @@
 use Rattle.std.proofs.Common.{◌∙◌, ap, sym, Ok}
 use Rattle.action_tree.proofs.Conditions.{left_of, right_of}
-use Rattle.action_eval.proofs.Deciding.{actions_begin, action_kept, action_formed, actions_next, action_decides, action_fails, actions_over}
+use Rattle.action_eval.proofs.ActionLoops.{actions_begin, action_kept, action_formed, actions_next, action_decides, action_fails, actions_over}
 use Rattle.action_eval.proofs.runner.actions_decide.Goals as goal
 
 pub loop-number-init : goal.loop-number-init

@@ -1,5 +1,5 @@
 use Rattle.action_eval.specs.Known.{known}
-use Rattle.action_eval.proofs.Deciding.{ActionsLeft}
+use Rattle.action_eval.proofs.ActionLoops.{ActionsLeft}
 use Rattle.action_eval.proofs.runner.actions_decide.Given as goal
 
 abbrev pub invariant-loop-number : goal.invariant-loop-number

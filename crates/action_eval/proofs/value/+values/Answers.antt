@@ -14,83 +14,84 @@ use Rattle.action_tree.proofs.Viewed.{sum_opened, port_turn}
 use Rattle.amoebot_state.specs.declared.bot.End.TheVariants.{Head}
 use Rattle.amoebot_state.specs.Ports.{port}
 use Rattle.action_meaning.specs.Values.{signed}
-use Rattle.action_meaning.specs.Choices.{any_of, all_of, first_of, count_of}
+use Rattle.action_meaning.specs.Choices.{any_of_ports, all_of_ports, first_of_ports, count_of_ports}
 use Rattle.action_eval.specs.Known.{known, scope_of, sight_of}
-use Rattle.action_eval.proofs.Adding.{TermsLeft, terms_fit, terms_start, term_kept, term_counted, terms_next, terms_fail, terms_over}
-use Rattle.action_eval.proofs.Asking.{any_goes_on, any_is_true, any_fails, all_goes_on, all_is_false, all_fails, first_goes_on, first_is_here, first_fails}
-use Rattle.action_eval.proofs.Walking.{inside, told_here, told_over, each_next, each_decided, each_fails, each_over, some_next, some_decided, some_fails, some_over, count_next, count_here, count_stops, count_over}
+use Rattle.action_eval.specs.UnderNames.{guard_at}
+use Rattle.action_eval.proofs.SumLoops.{TermsLeft, terms_fit, terms_start, term_kept, term_counted, terms_next, terms_fail, terms_over}
+use Rattle.action_eval.proofs.ChoicesLemmas.{any_goes_on, any_is_true, any_fails, all_goes_on, all_is_false, all_fails, first_goes_on, first_is_here, first_fails}
+use Rattle.action_eval.proofs.GuardLoops.{told_here, told_over, each_next, each_decided, each_fails, each_over, some_next, some_decided, some_fails, some_over, count_next, count_here, count_stops, count_over}
 use Rattle.action_eval.proofs.Nodes.{any_tree, all_tree, first_tree, count_tree, member_tree}
 use Rattle.action_tree.proofs.expression.Guard.TheLaws.{the_size}
 use Rattle.action_tree.proofs.expression.PortExpr.TheLaws.{the_size as port_size}
 use Rattle.action_tree.proofs.expression.Term.TheLaws.{the_size as term_size}
 use Rattle.action_eval.proofs.Terms.{of_port_fails, of_port_is, count_fails, count_is}
-use Rattle.action_eval.proofs.Falling.{guard_in_any, guard_in_all, guard_in_count, guard_in_first, port_in_turn, port_in_term, term_in_sum}
+use Rattle.action_eval.proofs.PartSizes.{guard_in_any, guard_in_all, guard_in_count, guard_in_first, port_in_turn, port_in_term, term_in_sum}
 use Rattle.action_eval.proofs.value.+values.Goals as goal
 use Rattle.action_eval.proofs.value.+values.Goals.{count_value-then-is_one, count_value-else-is_one}
 
 pub any_value-loop-port-preserved : goal.any_value-loop-port-preserved
 any_value-loop-port-preserved t c =
-    let asked = inside (sight_of c.args.site.now) (known c.args.names.now) c.args.name.now c.args.guard.now in
-    told_here (any_of asked) _ _ _ (port Head 0) _ c.loop-port.invariant c.loop-port-test.true (any_goes_on asked _ _ (sym c.inside_value.ensures ∙ c.in-Ok-false.is ∙ ap Ok c.in-Ok-false.field-0-test))
+    let asked = guard_at (sight_of c.args.site.now) (known c.args.names.now) c.args.name.now c.args.guard.now in
+    told_here (any_of_ports asked) _ _ _ (port Head 0) _ c.loop-port.invariant c.loop-port-test.true (any_goes_on asked _ _ (sym c.inside_value.ensures ∙ c.in-Ok-false.is ∙ ap Ok c.in-Ok-false.field-0-test))
 
 pub any_value-returns-in-Ok-true : goal.any_value-returns-in-Ok-true
 any_value-returns-in-Ok-true t c =
-    let asked = inside (sight_of c.args.site.now) (known c.args.names.now) c.args.name.now c.args.guard.now in
-    sym (told_here (any_of asked) _ _ _ (port Head 0) _ c.loop-port.invariant c.loop-port-test.true (any_is_true asked _ _ (sym c.inside_value.ensures ∙ c.in-Ok-true.is ∙ ap Ok c.in-Ok-true.field-0-test))) ∙ ap (any_of asked) (c.deref-port-items.ensures.0 ∙ c.ports_of-ports.ensures)
+    let asked = guard_at (sight_of c.args.site.now) (known c.args.names.now) c.args.name.now c.args.guard.now in
+    sym (told_here (any_of_ports asked) _ _ _ (port Head 0) _ c.loop-port.invariant c.loop-port-test.true (any_is_true asked _ _ (sym c.inside_value.ensures ∙ c.in-Ok-true.is ∙ ap Ok c.in-Ok-true.field-0-test))) ∙ ap (any_of_ports asked) (c.deref-port-items.ensures.0 ∙ c.ports_of-ports.ensures)
 
 pub any_value-returns-in-Err : goal.any_value-returns-in-Err
 any_value-returns-in-Err t c =
-    let asked = inside (sight_of c.args.site.now) (known c.args.names.now) c.args.name.now c.args.guard.now in
-    sym (told_here (any_of asked) _ _ _ (port Head 0) _ c.loop-port.invariant c.loop-port-test.true (any_fails asked _ _ _ (sym c.inside_value.ensures ∙ c.in-Err.is))) ∙ ap (any_of asked) (c.deref-port-items.ensures.0 ∙ c.ports_of-ports.ensures)
+    let asked = guard_at (sight_of c.args.site.now) (known c.args.names.now) c.args.name.now c.args.guard.now in
+    sym (told_here (any_of_ports asked) _ _ _ (port Head 0) _ c.loop-port.invariant c.loop-port-test.true (any_fails asked _ _ _ (sym c.inside_value.ensures ∙ c.in-Err.is))) ∙ ap (any_of_ports asked) (c.deref-port-items.ensures.0 ∙ c.ports_of-ports.ensures)
 
 pub any_value-returns : goal.any_value-returns
 any_value-returns t c =
-    let asked = inside (sight_of c.args.site.now) (known c.args.names.now) c.args.name.now c.args.guard.now in
-    sym (told_over (any_of asked) _ _ _ c.loop-port.invariant c.loop-port-test.false) ∙ ap (any_of asked) (c.deref-port-items.ensures.0 ∙ c.ports_of-ports.ensures)
+    let asked = guard_at (sight_of c.args.site.now) (known c.args.names.now) c.args.name.now c.args.guard.now in
+    sym (told_over (any_of_ports asked) _ _ _ c.loop-port.invariant c.loop-port-test.false) ∙ ap (any_of_ports asked) (c.deref-port-items.ensures.0 ∙ c.ports_of-ports.ensures)
 
 pub all_value-loop-port-preserved : goal.all_value-loop-port-preserved
 all_value-loop-port-preserved t c =
-    let asked = inside (sight_of c.args.site.now) (known c.args.names.now) c.args.name.now c.args.guard.now in
-    told_here (all_of asked) _ _ _ (port Head 0) _ c.loop-port.invariant c.loop-port-test.true (all_goes_on asked _ _ (sym c.inside_value.ensures ∙ c.in-Ok-true.is ∙ ap Ok c.in-Ok-true.field-0-test))
+    let asked = guard_at (sight_of c.args.site.now) (known c.args.names.now) c.args.name.now c.args.guard.now in
+    told_here (all_of_ports asked) _ _ _ (port Head 0) _ c.loop-port.invariant c.loop-port-test.true (all_goes_on asked _ _ (sym c.inside_value.ensures ∙ c.in-Ok-true.is ∙ ap Ok c.in-Ok-true.field-0-test))
 
 pub all_value-returns-in-Ok-false : goal.all_value-returns-in-Ok-false
 all_value-returns-in-Ok-false t c =
-    let asked = inside (sight_of c.args.site.now) (known c.args.names.now) c.args.name.now c.args.guard.now in
-    sym (told_here (all_of asked) _ _ _ (port Head 0) _ c.loop-port.invariant c.loop-port-test.true (all_is_false asked _ _ (sym c.inside_value.ensures ∙ c.in-Ok-false.is ∙ ap Ok c.in-Ok-false.field-0-test))) ∙ ap (all_of asked) (c.deref-port-items.ensures.0 ∙ c.ports_of-ports.ensures)
+    let asked = guard_at (sight_of c.args.site.now) (known c.args.names.now) c.args.name.now c.args.guard.now in
+    sym (told_here (all_of_ports asked) _ _ _ (port Head 0) _ c.loop-port.invariant c.loop-port-test.true (all_is_false asked _ _ (sym c.inside_value.ensures ∙ c.in-Ok-false.is ∙ ap Ok c.in-Ok-false.field-0-test))) ∙ ap (all_of_ports asked) (c.deref-port-items.ensures.0 ∙ c.ports_of-ports.ensures)
 
 pub all_value-returns-in-Err : goal.all_value-returns-in-Err
 all_value-returns-in-Err t c =
-    let asked = inside (sight_of c.args.site.now) (known c.args.names.now) c.args.name.now c.args.guard.now in
-    sym (told_here (all_of asked) _ _ _ (port Head 0) _ c.loop-port.invariant c.loop-port-test.true (all_fails asked _ _ _ (sym c.inside_value.ensures ∙ c.in-Err.is))) ∙ ap (all_of asked) (c.deref-port-items.ensures.0 ∙ c.ports_of-ports.ensures)
+    let asked = guard_at (sight_of c.args.site.now) (known c.args.names.now) c.args.name.now c.args.guard.now in
+    sym (told_here (all_of_ports asked) _ _ _ (port Head 0) _ c.loop-port.invariant c.loop-port-test.true (all_fails asked _ _ _ (sym c.inside_value.ensures ∙ c.in-Err.is))) ∙ ap (all_of_ports asked) (c.deref-port-items.ensures.0 ∙ c.ports_of-ports.ensures)
 
 pub all_value-returns : goal.all_value-returns
 all_value-returns t c =
-    let asked = inside (sight_of c.args.site.now) (known c.args.names.now) c.args.name.now c.args.guard.now in
-    sym (told_over (all_of asked) _ _ _ c.loop-port.invariant c.loop-port-test.false) ∙ ap (all_of asked) (c.deref-port-items.ensures.0 ∙ c.ports_of-ports.ensures)
+    let asked = guard_at (sight_of c.args.site.now) (known c.args.names.now) c.args.name.now c.args.guard.now in
+    sym (told_over (all_of_ports asked) _ _ _ c.loop-port.invariant c.loop-port-test.false) ∙ ap (all_of_ports asked) (c.deref-port-items.ensures.0 ∙ c.ports_of-ports.ensures)
 
 pub first_value-loop-port-preserved : goal.first_value-loop-port-preserved
 first_value-loop-port-preserved t c =
-    let asked = inside (sight_of c.args.site.now) (known c.args.names.now) c.args.name.now c.args.guard.now in
-    told_here (first_of asked) _ _ _ (port Head 0) _ c.loop-port.invariant c.loop-port-test.true (first_goes_on asked _ _ (sym c.inside_value.ensures ∙ c.in-Ok-false.is ∙ ap Ok c.in-Ok-false.field-0-test))
+    let asked = guard_at (sight_of c.args.site.now) (known c.args.names.now) c.args.name.now c.args.guard.now in
+    told_here (first_of_ports asked) _ _ _ (port Head 0) _ c.loop-port.invariant c.loop-port-test.true (first_goes_on asked _ _ (sym c.inside_value.ensures ∙ c.in-Ok-false.is ∙ ap Ok c.in-Ok-false.field-0-test))
 
 pub first_value-returns-in-Ok-true : goal.first_value-returns-in-Ok-true
 first_value-returns-in-Ok-true t c =
-    let asked = inside (sight_of c.args.site.now) (known c.args.names.now) c.args.name.now c.args.guard.now in
-    sym (told_here (first_of asked) _ _ _ (port Head 0) _ c.loop-port.invariant c.loop-port-test.true (first_is_here asked _ _ (sym c.inside_value.ensures ∙ c.in-Ok-true.is ∙ ap Ok c.in-Ok-true.field-0-test))) ∙ ap (first_of asked) (c.deref-port-items.ensures.0 ∙ c.ports_of-ports.ensures)
+    let asked = guard_at (sight_of c.args.site.now) (known c.args.names.now) c.args.name.now c.args.guard.now in
+    sym (told_here (first_of_ports asked) _ _ _ (port Head 0) _ c.loop-port.invariant c.loop-port-test.true (first_is_here asked _ _ (sym c.inside_value.ensures ∙ c.in-Ok-true.is ∙ ap Ok c.in-Ok-true.field-0-test))) ∙ ap (first_of_ports asked) (c.deref-port-items.ensures.0 ∙ c.ports_of-ports.ensures)
 
 pub first_value-returns-in-Err : goal.first_value-returns-in-Err
 first_value-returns-in-Err t c =
-    let asked = inside (sight_of c.args.site.now) (known c.args.names.now) c.args.name.now c.args.guard.now in
-    sym (told_here (first_of asked) _ _ _ (port Head 0) _ c.loop-port.invariant c.loop-port-test.true (first_fails asked _ _ _ (sym c.inside_value.ensures ∙ c.in-Err.is))) ∙ ap (first_of asked) (c.deref-port-items.ensures.0 ∙ c.ports_of-ports.ensures)
+    let asked = guard_at (sight_of c.args.site.now) (known c.args.names.now) c.args.name.now c.args.guard.now in
+    sym (told_here (first_of_ports asked) _ _ _ (port Head 0) _ c.loop-port.invariant c.loop-port-test.true (first_fails asked _ _ _ (sym c.inside_value.ensures ∙ c.in-Err.is))) ∙ ap (first_of_ports asked) (c.deref-port-items.ensures.0 ∙ c.ports_of-ports.ensures)
 
 pub first_value-returns : goal.first_value-returns
 first_value-returns t c =
-    let asked = inside (sight_of c.args.site.now) (known c.args.names.now) c.args.name.now c.args.guard.now in
-    sym (told_over (first_of asked) _ _ _ c.loop-port.invariant c.loop-port-test.false) ∙ ap (first_of asked) (c.deref-port-items.ensures.0 ∙ c.ports_of-ports.ensures)
+    let asked = guard_at (sight_of c.args.site.now) (known c.args.names.now) c.args.name.now c.args.guard.now in
+    sym (told_over (first_of_ports asked) _ _ _ c.loop-port.invariant c.loop-port-test.false) ∙ ap (first_of_ports asked) (c.deref-port-items.ensures.0 ∙ c.ports_of-ports.ensures)
 
 pub count_value-loop-port-preserved : goal.count_value-loop-port-preserved
 count_value-loop-port-preserved t c =
-    let asked = inside (sight_of c.args.site.now) (known c.args.names.now) c.args.name.now c.args.guard.now in
+    let asked = guard_at (sight_of c.args.site.now) (known c.args.names.now) c.args.name.now c.args.guard.now in
     let e = sym c.inside_value.ensures ∙ c.in-Ok.is in
     elim c.if-is_one.branch [
       | count_value-then-is_one w ↦ rw w.count-is (count_here asked _ _ _ (port Head 0) c.loop-port.invariant.0 c.loop-port-test.true (e ∙ ap Ok w.if-is_one.true), omega arith)
@@ -99,13 +100,13 @@ count_value-loop-port-preserved t c =
 
 pub count_value-returns-in-Err-clause-value : goal.count_value-returns-in-Err-clause-value
 count_value-returns-in-Err-clause-value t c =
-    let asked = inside (sight_of c.args.site.now) (known c.args.names.now) c.args.name.now c.args.guard.now in
-    sym (count_stops asked _ _ _ (port Head 0) _ c.loop-port.invariant.0 c.loop-port-test.true (sym c.inside_value.ensures ∙ c.in-Err.is)) ∙ ap (count_of asked) (c.deref-port-items.ensures.0 ∙ c.ports_of-ports.ensures)
+    let asked = guard_at (sight_of c.args.site.now) (known c.args.names.now) c.args.name.now c.args.guard.now in
+    sym (count_stops asked _ _ _ (port Head 0) _ c.loop-port.invariant.0 c.loop-port-test.true (sym c.inside_value.ensures ∙ c.in-Err.is)) ∙ ap (count_of_ports asked) (c.deref-port-items.ensures.0 ∙ c.ports_of-ports.ensures)
 
 pub count_value-returns-clause-value : goal.count_value-returns-clause-value
 count_value-returns-clause-value t c =
-    let asked = inside (sight_of c.args.site.now) (known c.args.names.now) c.args.name.now c.args.guard.now in
-    sym (count_over asked _ _ _ c.loop-port.invariant.0 c.loop-port-test.false) ∙ ap (count_of asked) (c.deref-port-items.ensures.0 ∙ c.ports_of-ports.ensures)
+    let asked = guard_at (sight_of c.args.site.now) (known c.args.names.now) c.args.name.now c.args.guard.now in
+    sym (count_over asked _ _ _ c.loop-port.invariant.0 c.loop-port-test.false) ∙ ap (count_of_ports asked) (c.deref-port-items.ensures.0 ∙ c.ports_of-ports.ensures)
 
 pub each_value-loop-guard-preserved : goal.each_value-loop-guard-preserved
 each_value-loop-guard-preserved t c = each_next _ _ _ _ _ _ c.loop-guard.invariant c.loop-guard-test.true c.guard-item.is (sym c.guard_value.ensures ∙ c.in-Ok-true.is ∙ ap Ok c.in-Ok-true.field-0-test)
@@ -192,7 +193,7 @@ guard_value-any_value-requires t c =
     let smaller = guard_in_any c.in-Any.name c.in-Any.set c.in-Any.guard in
     let is = ap the_size c.in-Any.is in
     let at = ap the_size c.deref-in-Any.ensures in
-    (omega (arith, c.decreases, smaller, is, at), (kept.0, (kept.1, (and_parts _ _ counted).1)))
+    (omega (arith, c.decreases, smaller, is, at), record { new = kept.0; kept = kept.1; counted = (and_parts _ _ counted).1 })
 
 pub guard_value-returns-in-Any : goal.guard_value-returns-in-Any
 guard_value-returns-in-Any t c =
@@ -207,7 +208,7 @@ guard_value-all_value-requires t c =
     let smaller = guard_in_all c.in-All.name c.in-All.set c.in-All.guard in
     let is = ap the_size c.in-All.is in
     let at = ap the_size c.deref-in-All.ensures in
-    (omega (arith, c.decreases, smaller, is, at), (kept.0, (kept.1, (and_parts _ _ counted).1)))
+    (omega (arith, c.decreases, smaller, is, at), record { new = kept.0; kept = kept.1; counted = (and_parts _ _ counted).1 })
 
 pub guard_value-returns-in-All : goal.guard_value-returns-in-All
 guard_value-returns-in-All t c =
@@ -222,7 +223,7 @@ port_value-first_value-requires t c =
     let smaller = guard_in_first c.in-First.name c.in-First.set c.in-First.guard in
     let is = ap port_size c.in-First.is in
     let at = ap the_size c.deref-in-First.ensures in
-    (omega (arith, c.decreases, smaller, is, at), (kept.0, (kept.1, (and_parts _ _ counted).1)))
+    (omega (arith, c.decreases, smaller, is, at), record { new = kept.0; kept = kept.1; counted = (and_parts _ _ counted).1 })
 
 pub port_value-returns-in-First : goal.port_value-returns-in-First
 port_value-returns-in-First t c =
@@ -237,7 +238,7 @@ term_value-count_value-requires t c =
     let smaller = guard_in_count c.in-Count.name c.in-Count.set c.in-Count.guard in
     let is = ap term_size c.in-Count.is in
     let at = ap the_size c.deref.ensures in
-    (omega (arith, c.decreases, smaller, is, at), (kept.0, (kept.1, (and_parts _ _ counted).1)))
+    (omega (arith, c.decreases, smaller, is, at), record { new = kept.0; kept = kept.1; counted = (and_parts _ _ counted).1 })
 
 pub port_value-port_value-requires : goal.port_value-port_value-requires
 port_value-port_value-requires t c =

@@ -2,9 +2,9 @@ use Rattle.std.proofs.Common.{◌≡◌, Bool, ◌≤◌, ◌∷◌, [], ℕ, tr
 use Rattle.std.proofs.lemmas.Result.{err_from_is_err_and}
 use Rattle.std.proofs.lemmas.List.{length-map}
 use Rattle.text_tokens.specs.Text.{Lexeme}
-use Rattle.text_tokens.specs.Reading.{◌>>=◌, pure, one, one_within, opening, less}
+use Rattle.text_tokens.specs.Reading.{◌>>=◌, pure, one, one_within, opening_token, less}
 use Rattle.text_tokens.specs.Steps.{lexeme_of}
-use Rattle.text_tokens.proofs.Stepping.{fails, on_made}
+use Rattle.text_tokens.proofs.StepsLemmas.{fails, on_made}
 use Rattle.text_tokens.proofs.Rows.{all_left, past_part, part_fails, gives_left}
 use Rattle.action_tree.specs.declared.expression.Guard.{Guard}
 use Rattle.action_tree.specs.declared.expression.PortExpr.{PortExpr}
@@ -12,10 +12,10 @@ use Rattle.action_tree.specs.declared.expression.Cmp.{Cmp}
 use Rattle.action_tree.specs.Trees as tree
 use Rattle.action_tree.specs.Views.{name_of, literal_of, dirterm_of, guard_of, sum_of, part_of, term_of, port_of}
 use Rattle.action_tree.specs.Limits.{most_further}
-use Rattle.action_grammar.specs.declared.role.Role.TheVariants.{AName, ANumber, OpenSign, CloseSign, MinusSign, CompareSign, AtomWord, NotWord, AndWord, OrWord, QuantifierWord, InWord, CountWord, SideWord, InnerWord, Mod6Word, EndWord, TurnWord, FirstWord}
-use Rattle.action_grammar.specs.Roles.{is_a, is_test, is_set, is_dirterm, is_plus_or_minus, as_name, as_literal, as_dirterm, as_set, as_end, as_cmp, atom_by, quantifier_by, test_by, side_by}
-use Rattle.action_grammar.specs.Expressions.{bound_at}
-use Rattle.action_grammar.specs.ExpressionReaders.{Readers, begins_unit, begins_term, a_selection, a_port, a_test, a_comparison, port_by, a_term, term_by, a_minus, part, a_sum, a_unit, unit_by, a_conj, inside, member}
+use Rattle.action_tree.specs.declared.role.Role.TheVariants.{AName, ANumber, OpenSign, CloseSign, MinusSign, CompareSign, AtomWord, NotWord, AndWord, OrWord, QuantifierWord, InWord, CountWord, SideWord, InnerWord, Mod6Word, EndWord, TurnWord, FirstWord}
+use Rattle.action_tree.specs.Roles.{is_a, is_test, is_set, is_dirterm, is_plus_or_minus, as_name, as_literal, as_dirterm, as_set, as_end, as_cmp, atom_by, quantifier_by, test_by, side_by}
+use Rattle.action_tree.specs.Expressions.{bound_at}
+use Rattle.action_tree.specs.ExpressionReaders.{Readers, begins_unit, begins_term, a_selection, a_port, a_test, a_comparison, port_by, a_term, term_by, a_minus, part, a_sum, a_unit, unit_by, a_conj, inside, member}
 use Rattle.action_parser.specs.Selections.{selection_of}
 use Rattle.action_parser.specs.Lists.{with_first, more_units, more_conjs}
 use Rattle.action_parser.proofs.Tokens.{taken, untaken, all_read}
@@ -23,7 +23,7 @@ use Rattle.action_tree.proofs.Viewed as built
 use Rattle.action_parser.proofs.Elements.{unit_elements, conj_elements, part_elements}
 use Rattle.action_parser.proofs.Levels.{next_is, gives_below, gives_bound, chosen, chosen_as, none_chosen, none_begins, unit_rest, term_rest, port_rest, port_term, test_unit}
 use Rattle.action_parser.proofs.Behind.{none_comes, sign_fails, one_too_many, element_fails, one_read}
-use Rattle.action_parser.proofs.Listing.{next_found, all_found, next_fails, counted_found, units_begun, conjs_begun, conj_read, conj_fails, expr_read, expr_fails, sum_read, sum_fails, view_pushed, two_pushed, all_in_two, any_in_two}
+use Rattle.action_parser.proofs.ListsLemmas.{next_found, all_found, next_fails, counted_found, units_begun, conjs_begun, conj_read, conj_fails, expr_read, expr_fails, sum_read, sum_fails, view_pushed, two_pushed, all_in_two, any_in_two}
 use Rattle.action_parser.proofs.expression.+expression.Goals as goal
 
 -- ---- more_conj
@@ -106,7 +106,7 @@ read_selection-returns-in_err-open t w =
     let l2 = past_part (one (is_a InWord)) _ l1 (lexeme_of w.bound_name.new.tokens.source w.in_ok-token.field-0) w.token.new.tokens w.in_ok-token.ensures.reads in
     let x3 = taken (one is_set) as_set w.token.new.tokens w.port_set.new.tokens (w.in_ok-set.set) w.in_ok-set.ensures in
     let l3 = past_part (one is_set) _ l2 x3.part w.port_set.new.tokens x3.reads in
-    rw (p.1, p.2) (part_fails (opening w.args.levels (is_a OpenSign)) _ l3 w.in_err-open.field-0.0 w.open.new.tokens w.in_err-open.ensures.reads)
+    rw (p.1, p.2) (part_fails (opening_token w.args.levels (is_a OpenSign)) _ l3 w.in_err-open.field-0.0 w.open.new.tokens w.in_err-open.ensures.reads)
 
 pub read_selection-returns-in_err-guard : goal.read_selection-returns-in_err-guard
 unfolding a_selection
@@ -118,7 +118,7 @@ read_selection-returns-in_err-guard t w =
     let l2 = past_part (one (is_a InWord)) _ l1 (lexeme_of w.bound_name.new.tokens.source w.in_ok-token.field-0) w.token.new.tokens w.in_ok-token.ensures.reads in
     let x3 = taken (one is_set) as_set w.token.new.tokens w.port_set.new.tokens (w.in_ok-set.set) w.in_ok-set.ensures in
     let l3 = past_part (one is_set) _ l2 x3.part w.port_set.new.tokens x3.reads in
-    let l4 = past_part (opening w.args.levels (is_a OpenSign)) _ l3 (lexeme_of w.port_set.new.tokens.source w.in_ok-open.field-0) w.open.new.tokens w.in_ok-open.ensures.reads in
+    let l4 = past_part (opening_token w.args.levels (is_a OpenSign)) _ l3 (lexeme_of w.port_set.new.tokens.source w.in_ok-open.field-0) w.open.new.tokens w.in_ok-open.ensures.reads in
     rw (p.1, p.2) (part_fails ((inside w.args.levels (less w.args.names)).expr) _ l4 w.in_err-guard.field-0.0 w.read_guard.new.tokens (gives_bound (λ (r : Readers). r.expr) guard_of w.args.levels w.args.names w.open.new.tokens w.read_guard.new.tokens (Err w.in_err-guard.field-0.0) w.in_ok-open.ensures.deep w.in_err-guard.ensures))
 
 pub read_selection-returns-in_err-token-2 : goal.read_selection-returns-in_err-token-2
@@ -131,7 +131,7 @@ read_selection-returns-in_err-token-2 t w =
     let l2 = past_part (one (is_a InWord)) _ l1 (lexeme_of w.bound_name.new.tokens.source w.in_ok-token.field-0) w.token.new.tokens w.in_ok-token.ensures.reads in
     let x3 = taken (one is_set) as_set w.token.new.tokens w.port_set.new.tokens (w.in_ok-set.set) w.in_ok-set.ensures in
     let l3 = past_part (one is_set) _ l2 x3.part w.port_set.new.tokens x3.reads in
-    let l4 = past_part (opening w.args.levels (is_a OpenSign)) _ l3 (lexeme_of w.port_set.new.tokens.source w.in_ok-open.field-0) w.open.new.tokens w.in_ok-open.ensures.reads in
+    let l4 = past_part (opening_token w.args.levels (is_a OpenSign)) _ l3 (lexeme_of w.port_set.new.tokens.source w.in_ok-open.field-0) w.open.new.tokens w.in_ok-open.ensures.reads in
     let l5 = past_part ((inside w.args.levels (less w.args.names)).expr) _ l4 (guard_of w.in_ok-guard.guard) w.read_guard.new.tokens (gives_bound (λ (r : Readers). r.expr) guard_of w.args.levels w.args.names w.open.new.tokens w.read_guard.new.tokens (Ok w.in_ok-guard.guard) w.in_ok-open.ensures.deep w.in_ok-guard.ensures) in
     rw (p.1, p.2) (part_fails (one (is_a CloseSign)) _ l5 w.in_err-token-2.field-0.0 w.token-2.new.tokens w.in_err-token-2.ensures.reads)
 
@@ -144,7 +144,7 @@ read_selection-returns t w =
     let l2 = past_part (one (is_a InWord)) _ l1 (lexeme_of w.bound_name.new.tokens.source w.in_ok-token.field-0) w.token.new.tokens w.in_ok-token.ensures.reads in
     let x3 = taken (one is_set) as_set w.token.new.tokens w.port_set.new.tokens (w.in_ok-set.set) w.in_ok-set.ensures in
     let l3 = past_part (one is_set) _ l2 x3.part w.port_set.new.tokens x3.reads in
-    let l4 = past_part (opening w.args.levels (is_a OpenSign)) _ l3 (lexeme_of w.port_set.new.tokens.source w.in_ok-open.field-0) w.open.new.tokens w.in_ok-open.ensures.reads in
+    let l4 = past_part (opening_token w.args.levels (is_a OpenSign)) _ l3 (lexeme_of w.port_set.new.tokens.source w.in_ok-open.field-0) w.open.new.tokens w.in_ok-open.ensures.reads in
     let l5 = past_part ((inside w.args.levels (less w.args.names)).expr) _ l4 (guard_of w.in_ok-guard.guard) w.read_guard.new.tokens (gives_bound (λ (r : Readers). r.expr) guard_of w.args.levels w.args.names w.open.new.tokens w.read_guard.new.tokens (Ok w.in_ok-guard.guard) w.in_ok-open.ensures.deep w.in_ok-guard.ensures) in
     let l6 = past_part (one (is_a CloseSign)) _ l5 (lexeme_of w.read_guard.new.tokens.source w.in_ok-token-2.field-0) w.token-2.new.tokens w.in_ok-token-2.ensures.reads in
     all_read (a_selection w.args.levels w.args.names (inside w.args.levels)) w.args.tokens.now w.token-2.new.tokens _ _ l6 (rw (x1.is, x3.is, w.in_ok-new.ensures.ok) refl)
@@ -299,14 +299,14 @@ unfolding a_port
 read_port-returns-in_err-open-in-TurnWord t w =
     let p = err_from_is_err_and w.from_residual-in_err-open-in-TurnWord.result w.from_residual-in_err-open-in-TurnWord.ensures.1 in
     let l0 = chosen (port_by w.args.levels w.args.names (inside w.args.levels)) w.args.tokens.now TurnWord (next_is w.next_role.ensures w.in-Some.is w.in-TurnWord.is) in
-    rw (p.1, p.2) (part_fails (opening w.args.levels (is_a TurnWord)) _ l0 w.in_err-open-in-TurnWord.field-0.0 w.open.new.tokens w.in_err-open-in-TurnWord.ensures.reads)
+    rw (p.1, p.2) (part_fails (opening_token w.args.levels (is_a TurnWord)) _ l0 w.in_err-open-in-TurnWord.field-0.0 w.open.new.tokens w.in_err-open-in-TurnWord.ensures.reads)
 
 pub read_port-returns-in_err-port-in-TurnWord : goal.read_port-returns-in_err-port-in-TurnWord
 unfolding a_port
 read_port-returns-in_err-port-in-TurnWord t w =
     let p = err_from_is_err_and w.from_residual-in_err-port-in-TurnWord.result w.from_residual-in_err-port-in-TurnWord.ensures.1 in
     let l0 = chosen (port_by w.args.levels w.args.names (inside w.args.levels)) w.args.tokens.now TurnWord (next_is w.next_role.ensures w.in-Some.is w.in-TurnWord.is) in
-    let l1 = past_part (opening w.args.levels (is_a TurnWord)) _ l0 (lexeme_of w.args.tokens.now.source w.in_ok-open-in-TurnWord.field-0) w.open.new.tokens w.in_ok-open-in-TurnWord.ensures.reads in
+    let l1 = past_part (opening_token w.args.levels (is_a TurnWord)) _ l0 (lexeme_of w.args.tokens.now.source w.in_ok-open-in-TurnWord.field-0) w.open.new.tokens w.in_ok-open-in-TurnWord.ensures.reads in
     rw (p.1, p.2) (part_fails ((inside w.args.levels w.args.names).port) _ l1 w.in_err-port-in-TurnWord.field-0.0 w.read_port.new.tokens (gives_below (λ (r : Readers). r.port) port_of w.args.levels w.args.names w.open.new.tokens w.read_port.new.tokens (Err w.in_err-port-in-TurnWord.field-0.0) w.in_ok-open-in-TurnWord.ensures.deep w.in_err-port-in-TurnWord.ensures))
 
 pub read_port-returns-in_err-by-in-TurnWord : goal.read_port-returns-in_err-by-in-TurnWord
@@ -314,7 +314,7 @@ unfolding a_port
 read_port-returns-in_err-by-in-TurnWord t w =
     let p = err_from_is_err_and w.from_residual-in_err-by-in-TurnWord.result w.from_residual-in_err-by-in-TurnWord.ensures.1 in
     let l0 = chosen (port_by w.args.levels w.args.names (inside w.args.levels)) w.args.tokens.now TurnWord (next_is w.next_role.ensures w.in-Some.is w.in-TurnWord.is) in
-    let l1 = past_part (opening w.args.levels (is_a TurnWord)) _ l0 (lexeme_of w.args.tokens.now.source w.in_ok-open-in-TurnWord.field-0) w.open.new.tokens w.in_ok-open-in-TurnWord.ensures.reads in
+    let l1 = past_part (opening_token w.args.levels (is_a TurnWord)) _ l0 (lexeme_of w.args.tokens.now.source w.in_ok-open-in-TurnWord.field-0) w.open.new.tokens w.in_ok-open-in-TurnWord.ensures.reads in
     let l2 = past_part ((inside w.args.levels w.args.names).port) _ l1 (port_of w.in_ok-port-in-TurnWord.port) w.read_port.new.tokens (gives_below (λ (r : Readers). r.port) port_of w.args.levels w.args.names w.open.new.tokens w.read_port.new.tokens (Ok w.in_ok-port-in-TurnWord.port) w.in_ok-open-in-TurnWord.ensures.deep w.in_ok-port-in-TurnWord.ensures) in
     rw (p.1, p.2) (part_fails (one (is_a ANumber)) _ l2 w.in_err-by-in-TurnWord.field-0.0 w.literal.new.tokens (untaken (one (is_a ANumber)) as_literal w.read_port.new.tokens w.literal.new.tokens w.in_err-by-in-TurnWord.field-0.0 w.in_err-by-in-TurnWord.ensures))
 
@@ -322,7 +322,7 @@ pub read_port-returns-in_ok-new-in-TurnWord : goal.read_port-returns-in_ok-new-i
 unfolding a_port
 read_port-returns-in_ok-new-in-TurnWord t w =
     let l0 = chosen (port_by w.args.levels w.args.names (inside w.args.levels)) w.args.tokens.now TurnWord (next_is w.next_role.ensures w.in-Some.is w.in-TurnWord.is) in
-    let l1 = past_part (opening w.args.levels (is_a TurnWord)) _ l0 (lexeme_of w.args.tokens.now.source w.in_ok-open-in-TurnWord.field-0) w.open.new.tokens w.in_ok-open-in-TurnWord.ensures.reads in
+    let l1 = past_part (opening_token w.args.levels (is_a TurnWord)) _ l0 (lexeme_of w.args.tokens.now.source w.in_ok-open-in-TurnWord.field-0) w.open.new.tokens w.in_ok-open-in-TurnWord.ensures.reads in
     let l2 = past_part ((inside w.args.levels w.args.names).port) _ l1 (port_of w.in_ok-port-in-TurnWord.port) w.read_port.new.tokens (gives_below (λ (r : Readers). r.port) port_of w.args.levels w.args.names w.open.new.tokens w.read_port.new.tokens (Ok w.in_ok-port-in-TurnWord.port) w.in_ok-open-in-TurnWord.ensures.deep w.in_ok-port-in-TurnWord.ensures) in
     let x3 = taken (one (is_a ANumber)) as_literal w.read_port.new.tokens w.literal.new.tokens (literal_of w.in_ok-by-in-TurnWord.by) w.in_ok-by-in-TurnWord.ensures in
     let l3 = past_part (one (is_a ANumber)) _ l2 x3.part w.literal.new.tokens x3.reads in
@@ -471,7 +471,7 @@ read_term-returns-in_err-open-in-Mod6Word t w =
     let p = err_from_is_err_and w.from_residual-in_err-open-in-Mod6Word.result w.from_residual-in_err-open-in-Mod6Word.ensures.1 in
     let l0 = chosen (term_by w.args.levels w.args.names (inside w.args.levels)) w.args.tokens.now Mod6Word (next_is w.next_role.ensures w.in-Some.is w.in-Mod6Word.is) in
     let l1 = past_part (one (is_a Mod6Word)) _ l0 (lexeme_of w.args.tokens.now.source w.in_ok-token-in-Mod6Word.field-0) w.token-in-Mod6Word.new.tokens w.in_ok-token-in-Mod6Word.ensures.reads in
-    rw (p.1, p.2) (part_fails (opening w.args.levels (is_a OpenSign)) _ l1 w.in_err-open-in-Mod6Word.field-0.0 w.open.new.tokens w.in_err-open-in-Mod6Word.ensures.reads)
+    rw (p.1, p.2) (part_fails (opening_token w.args.levels (is_a OpenSign)) _ l1 w.in_err-open-in-Mod6Word.field-0.0 w.open.new.tokens w.in_err-open-in-Mod6Word.ensures.reads)
 
 pub read_term-returns-in_err-sum-in-Mod6Word : goal.read_term-returns-in_err-sum-in-Mod6Word
 unfolding a_term
@@ -479,7 +479,7 @@ read_term-returns-in_err-sum-in-Mod6Word t w =
     let p = err_from_is_err_and w.from_residual-in_err-sum-in-Mod6Word.result w.from_residual-in_err-sum-in-Mod6Word.ensures.1 in
     let l0 = chosen (term_by w.args.levels w.args.names (inside w.args.levels)) w.args.tokens.now Mod6Word (next_is w.next_role.ensures w.in-Some.is w.in-Mod6Word.is) in
     let l1 = past_part (one (is_a Mod6Word)) _ l0 (lexeme_of w.args.tokens.now.source w.in_ok-token-in-Mod6Word.field-0) w.token-in-Mod6Word.new.tokens w.in_ok-token-in-Mod6Word.ensures.reads in
-    let l2 = past_part (opening w.args.levels (is_a OpenSign)) _ l1 (lexeme_of w.token-in-Mod6Word.new.tokens.source w.in_ok-open-in-Mod6Word.field-0) w.open.new.tokens w.in_ok-open-in-Mod6Word.ensures.reads in
+    let l2 = past_part (opening_token w.args.levels (is_a OpenSign)) _ l1 (lexeme_of w.token-in-Mod6Word.new.tokens.source w.in_ok-open-in-Mod6Word.field-0) w.open.new.tokens w.in_ok-open-in-Mod6Word.ensures.reads in
     rw (p.1, p.2) (part_fails ((inside w.args.levels w.args.names).sum) _ l2 w.in_err-sum-in-Mod6Word.field-0.0 w.read_sum.new.tokens (gives_below (λ (r : Readers). r.sum) sum_of w.args.levels w.args.names w.open.new.tokens w.read_sum.new.tokens (Err w.in_err-sum-in-Mod6Word.field-0.0) w.in_ok-open-in-Mod6Word.ensures.deep w.in_err-sum-in-Mod6Word.ensures))
 
 pub read_term-returns-in_err-token-in-Mod6Word-2 : goal.read_term-returns-in_err-token-in-Mod6Word-2
@@ -488,7 +488,7 @@ read_term-returns-in_err-token-in-Mod6Word-2 t w =
     let p = err_from_is_err_and w.from_residual-in_err-token-in-Mod6Word-2.result w.from_residual-in_err-token-in-Mod6Word-2.ensures.1 in
     let l0 = chosen (term_by w.args.levels w.args.names (inside w.args.levels)) w.args.tokens.now Mod6Word (next_is w.next_role.ensures w.in-Some.is w.in-Mod6Word.is) in
     let l1 = past_part (one (is_a Mod6Word)) _ l0 (lexeme_of w.args.tokens.now.source w.in_ok-token-in-Mod6Word.field-0) w.token-in-Mod6Word.new.tokens w.in_ok-token-in-Mod6Word.ensures.reads in
-    let l2 = past_part (opening w.args.levels (is_a OpenSign)) _ l1 (lexeme_of w.token-in-Mod6Word.new.tokens.source w.in_ok-open-in-Mod6Word.field-0) w.open.new.tokens w.in_ok-open-in-Mod6Word.ensures.reads in
+    let l2 = past_part (opening_token w.args.levels (is_a OpenSign)) _ l1 (lexeme_of w.token-in-Mod6Word.new.tokens.source w.in_ok-open-in-Mod6Word.field-0) w.open.new.tokens w.in_ok-open-in-Mod6Word.ensures.reads in
     let l3 = past_part ((inside w.args.levels w.args.names).sum) _ l2 (sum_of w.in_ok-sum-in-Mod6Word.sum) w.read_sum.new.tokens (gives_below (λ (r : Readers). r.sum) sum_of w.args.levels w.args.names w.open.new.tokens w.read_sum.new.tokens (Ok w.in_ok-sum-in-Mod6Word.sum) w.in_ok-open-in-Mod6Word.ensures.deep w.in_ok-sum-in-Mod6Word.ensures) in
     rw (p.1, p.2) (part_fails (one (is_a CloseSign)) _ l3 w.in_err-token-in-Mod6Word-2.field-0.0 w.token-in-Mod6Word-2.new.tokens w.in_err-token-in-Mod6Word-2.ensures.reads)
 
@@ -497,7 +497,7 @@ unfolding a_term
 read_term-returns-in_ok-token-in-Mod6Word-2 t w =
     let l0 = chosen (term_by w.args.levels w.args.names (inside w.args.levels)) w.args.tokens.now Mod6Word (next_is w.next_role.ensures w.in-Some.is w.in-Mod6Word.is) in
     let l1 = past_part (one (is_a Mod6Word)) _ l0 (lexeme_of w.args.tokens.now.source w.in_ok-token-in-Mod6Word.field-0) w.token-in-Mod6Word.new.tokens w.in_ok-token-in-Mod6Word.ensures.reads in
-    let l2 = past_part (opening w.args.levels (is_a OpenSign)) _ l1 (lexeme_of w.token-in-Mod6Word.new.tokens.source w.in_ok-open-in-Mod6Word.field-0) w.open.new.tokens w.in_ok-open-in-Mod6Word.ensures.reads in
+    let l2 = past_part (opening_token w.args.levels (is_a OpenSign)) _ l1 (lexeme_of w.token-in-Mod6Word.new.tokens.source w.in_ok-open-in-Mod6Word.field-0) w.open.new.tokens w.in_ok-open-in-Mod6Word.ensures.reads in
     let l3 = past_part ((inside w.args.levels w.args.names).sum) _ l2 (sum_of w.in_ok-sum-in-Mod6Word.sum) w.read_sum.new.tokens (gives_below (λ (r : Readers). r.sum) sum_of w.args.levels w.args.names w.open.new.tokens w.read_sum.new.tokens (Ok w.in_ok-sum-in-Mod6Word.sum) w.in_ok-open-in-Mod6Word.ensures.deep w.in_ok-sum-in-Mod6Word.ensures) in
     let l4 = past_part (one (is_a CloseSign)) _ l3 (lexeme_of w.read_sum.new.tokens.source w.in_ok-token-in-Mod6Word-2.field-0) w.token-in-Mod6Word-2.new.tokens w.in_ok-token-in-Mod6Word-2.ensures.reads in
     all_read (a_term w.args.levels w.args.names (inside w.args.levels)) w.args.tokens.now w.token-in-Mod6Word-2.new.tokens _ _ l4 (sym (built.term_mod6 w.in_ok-sum-in-Mod6Word.sum))
@@ -534,21 +534,21 @@ unfolding a_unit
 read_unit-returns-in_err-open-in-NotWord t w =
     let p = err_from_is_err_and w.from_residual-in_err-open-in-NotWord.result w.from_residual-in_err-open-in-NotWord.ensures.1 in
     let l0 = chosen (unit_by w.args.levels w.args.names (inside w.args.levels)) w.args.tokens.now NotWord (next_is w.next_role.ensures w.in-Some.is w.in-NotWord.is) in
-    rw (p.1, p.2) (part_fails (opening w.args.levels (is_a NotWord)) _ l0 w.in_err-open-in-NotWord.field-0.0 w.open.new.tokens w.in_err-open-in-NotWord.ensures.reads)
+    rw (p.1, p.2) (part_fails (opening_token w.args.levels (is_a NotWord)) _ l0 w.in_err-open-in-NotWord.field-0.0 w.open.new.tokens w.in_err-open-in-NotWord.ensures.reads)
 
 pub read_unit-returns-in_err-guard-in-NotWord : goal.read_unit-returns-in_err-guard-in-NotWord
 unfolding a_unit
 read_unit-returns-in_err-guard-in-NotWord t w =
     let p = err_from_is_err_and w.from_residual-in_err-guard-in-NotWord.result w.from_residual-in_err-guard-in-NotWord.ensures.1 in
     let l0 = chosen (unit_by w.args.levels w.args.names (inside w.args.levels)) w.args.tokens.now NotWord (next_is w.next_role.ensures w.in-Some.is w.in-NotWord.is) in
-    let l1 = past_part (opening w.args.levels (is_a NotWord)) _ l0 (lexeme_of w.args.tokens.now.source w.in_ok-open-in-NotWord.field-0) w.open.new.tokens w.in_ok-open-in-NotWord.ensures.reads in
+    let l1 = past_part (opening_token w.args.levels (is_a NotWord)) _ l0 (lexeme_of w.args.tokens.now.source w.in_ok-open-in-NotWord.field-0) w.open.new.tokens w.in_ok-open-in-NotWord.ensures.reads in
     rw (p.1, p.2) (part_fails ((inside w.args.levels w.args.names).unit) _ l1 w.in_err-guard-in-NotWord.field-0.0 w.read_unit.new.tokens (gives_below (λ (r : Readers). r.unit) guard_of w.args.levels w.args.names w.open.new.tokens w.read_unit.new.tokens (Err w.in_err-guard-in-NotWord.field-0.0) w.in_ok-open-in-NotWord.ensures.deep w.in_err-guard-in-NotWord.ensures))
 
 pub read_unit-returns-in_ok-new-in-NotWord : goal.read_unit-returns-in_ok-new-in-NotWord
 unfolding a_unit
 read_unit-returns-in_ok-new-in-NotWord t w =
     let l0 = chosen (unit_by w.args.levels w.args.names (inside w.args.levels)) w.args.tokens.now NotWord (next_is w.next_role.ensures w.in-Some.is w.in-NotWord.is) in
-    let l1 = past_part (opening w.args.levels (is_a NotWord)) _ l0 (lexeme_of w.args.tokens.now.source w.in_ok-open-in-NotWord.field-0) w.open.new.tokens w.in_ok-open-in-NotWord.ensures.reads in
+    let l1 = past_part (opening_token w.args.levels (is_a NotWord)) _ l0 (lexeme_of w.args.tokens.now.source w.in_ok-open-in-NotWord.field-0) w.open.new.tokens w.in_ok-open-in-NotWord.ensures.reads in
     let l2 = past_part ((inside w.args.levels w.args.names).unit) _ l1 (guard_of w.in_ok-guard-in-NotWord.guard) w.read_unit.new.tokens (gives_below (λ (r : Readers). r.unit) guard_of w.args.levels w.args.names w.open.new.tokens w.read_unit.new.tokens (Ok w.in_ok-guard-in-NotWord.guard) w.in_ok-open-in-NotWord.ensures.deep w.in_ok-guard-in-NotWord.ensures) in
     all_read (a_unit w.args.levels w.args.names (inside w.args.levels)) w.args.tokens.now w.read_unit.new.tokens _ _ l2 (ap (λ (g : Guard). tree.negation (guard_of g)) (sym w.in_ok-new-in-NotWord.ensures.ok) ∙ sym (built.guard_not w.in_ok-new-in-NotWord.field-0))
 
@@ -557,14 +557,14 @@ unfolding a_unit
 read_unit-returns-in_err-open-in-OpenSign t w =
     let p = err_from_is_err_and w.from_residual-in_err-open-in-OpenSign.result w.from_residual-in_err-open-in-OpenSign.ensures.1 in
     let l0 = chosen (unit_by w.args.levels w.args.names (inside w.args.levels)) w.args.tokens.now OpenSign (next_is w.next_role.ensures w.in-Some.is w.in-OpenSign.is) in
-    rw (p.1, p.2) (part_fails (opening w.args.levels (is_a OpenSign)) _ l0 w.in_err-open-in-OpenSign.field-0.0 w.open-in-OpenSign.new.tokens w.in_err-open-in-OpenSign.ensures.reads)
+    rw (p.1, p.2) (part_fails (opening_token w.args.levels (is_a OpenSign)) _ l0 w.in_err-open-in-OpenSign.field-0.0 w.open-in-OpenSign.new.tokens w.in_err-open-in-OpenSign.ensures.reads)
 
 pub read_unit-returns-in_err-guard-in-OpenSign : goal.read_unit-returns-in_err-guard-in-OpenSign
 unfolding a_unit
 read_unit-returns-in_err-guard-in-OpenSign t w =
     let p = err_from_is_err_and w.from_residual-in_err-guard-in-OpenSign.result w.from_residual-in_err-guard-in-OpenSign.ensures.1 in
     let l0 = chosen (unit_by w.args.levels w.args.names (inside w.args.levels)) w.args.tokens.now OpenSign (next_is w.next_role.ensures w.in-Some.is w.in-OpenSign.is) in
-    let l1 = past_part (opening w.args.levels (is_a OpenSign)) _ l0 (lexeme_of w.args.tokens.now.source w.in_ok-open-in-OpenSign.field-0) w.open-in-OpenSign.new.tokens w.in_ok-open-in-OpenSign.ensures.reads in
+    let l1 = past_part (opening_token w.args.levels (is_a OpenSign)) _ l0 (lexeme_of w.args.tokens.now.source w.in_ok-open-in-OpenSign.field-0) w.open-in-OpenSign.new.tokens w.in_ok-open-in-OpenSign.ensures.reads in
     rw (p.1, p.2) (part_fails ((inside w.args.levels w.args.names).expr) _ l1 w.in_err-guard-in-OpenSign.field-0.0 w.read_guard.new.tokens (gives_below (λ (r : Readers). r.expr) guard_of w.args.levels w.args.names w.open-in-OpenSign.new.tokens w.read_guard.new.tokens (Err w.in_err-guard-in-OpenSign.field-0.0) w.in_ok-open-in-OpenSign.ensures.deep w.in_err-guard-in-OpenSign.ensures))
 
 pub read_unit-returns-in_err-token-in-OpenSign : goal.read_unit-returns-in_err-token-in-OpenSign
@@ -572,7 +572,7 @@ unfolding a_unit
 read_unit-returns-in_err-token-in-OpenSign t w =
     let p = err_from_is_err_and w.from_residual-in_err-token-in-OpenSign.result w.from_residual-in_err-token-in-OpenSign.ensures.1 in
     let l0 = chosen (unit_by w.args.levels w.args.names (inside w.args.levels)) w.args.tokens.now OpenSign (next_is w.next_role.ensures w.in-Some.is w.in-OpenSign.is) in
-    let l1 = past_part (opening w.args.levels (is_a OpenSign)) _ l0 (lexeme_of w.args.tokens.now.source w.in_ok-open-in-OpenSign.field-0) w.open-in-OpenSign.new.tokens w.in_ok-open-in-OpenSign.ensures.reads in
+    let l1 = past_part (opening_token w.args.levels (is_a OpenSign)) _ l0 (lexeme_of w.args.tokens.now.source w.in_ok-open-in-OpenSign.field-0) w.open-in-OpenSign.new.tokens w.in_ok-open-in-OpenSign.ensures.reads in
     let l2 = past_part ((inside w.args.levels w.args.names).expr) _ l1 (guard_of w.in_ok-guard-in-OpenSign.guard) w.read_guard.new.tokens (gives_below (λ (r : Readers). r.expr) guard_of w.args.levels w.args.names w.open-in-OpenSign.new.tokens w.read_guard.new.tokens (Ok w.in_ok-guard-in-OpenSign.guard) w.in_ok-open-in-OpenSign.ensures.deep w.in_ok-guard-in-OpenSign.ensures) in
     rw (p.1, p.2) (part_fails (one (is_a CloseSign)) _ l2 w.in_err-token-in-OpenSign.field-0.0 w.token.new.tokens w.in_err-token-in-OpenSign.ensures.reads)
 
@@ -580,7 +580,7 @@ pub read_unit-returns-in_ok-token-in-OpenSign : goal.read_unit-returns-in_ok-tok
 unfolding a_unit
 read_unit-returns-in_ok-token-in-OpenSign t w =
     let l0 = chosen (unit_by w.args.levels w.args.names (inside w.args.levels)) w.args.tokens.now OpenSign (next_is w.next_role.ensures w.in-Some.is w.in-OpenSign.is) in
-    let l1 = past_part (opening w.args.levels (is_a OpenSign)) _ l0 (lexeme_of w.args.tokens.now.source w.in_ok-open-in-OpenSign.field-0) w.open-in-OpenSign.new.tokens w.in_ok-open-in-OpenSign.ensures.reads in
+    let l1 = past_part (opening_token w.args.levels (is_a OpenSign)) _ l0 (lexeme_of w.args.tokens.now.source w.in_ok-open-in-OpenSign.field-0) w.open-in-OpenSign.new.tokens w.in_ok-open-in-OpenSign.ensures.reads in
     let l2 = past_part ((inside w.args.levels w.args.names).expr) _ l1 (guard_of w.in_ok-guard-in-OpenSign.guard) w.read_guard.new.tokens (gives_below (λ (r : Readers). r.expr) guard_of w.args.levels w.args.names w.open-in-OpenSign.new.tokens w.read_guard.new.tokens (Ok w.in_ok-guard-in-OpenSign.guard) w.in_ok-open-in-OpenSign.ensures.deep w.in_ok-guard-in-OpenSign.ensures) in
     let l3 = past_part (one (is_a CloseSign)) _ l2 (lexeme_of w.read_guard.new.tokens.source w.in_ok-token-in-OpenSign.field-0) w.token.new.tokens w.in_ok-token-in-OpenSign.ensures.reads in
     all_read (a_unit w.args.levels w.args.names (inside w.args.levels)) w.args.tokens.now w.token.new.tokens _ _ l3 refl

@@ -1,5 +1,5 @@
 use Rattle.std.proofs.Common.{sym, ◌∙◌}
-use Rattle.action_grammar.specs.StatementReaders.{begins_stmt}
+use Rattle.action_tree.specs.StatementReaders.{begins_stmt}
 use Rattle.action_parser.proofs.Fullness.{full_at_role, full_at_end}
 use Rattle.action_parser.proofs.full.full_stmts.Goals as goal
 

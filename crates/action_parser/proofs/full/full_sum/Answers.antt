@@ -1,5 +1,5 @@
 use Rattle.std.proofs.Common.{sym, ◌∙◌}
-use Rattle.action_grammar.specs.ExpressionReaders.{begins_term}
+use Rattle.action_tree.specs.ExpressionReaders.{begins_term}
 use Rattle.action_parser.proofs.Fullness.{full_at_role, full_at_end}
 use Rattle.action_parser.proofs.full.full_sum.Goals as goal
 

@@ -1,9 +1,9 @@
 use Rattle.std.proofs.Common.{sym, ◌∙◌}
 use Rattle.std.proofs.lemmas.Result.{err_from_is_err_and}
 use Rattle.action_tree.specs.Limits.{most_levels, most_names}
-use Rattle.action_grammar.specs.declared.role.Role.TheVariants.{ActionWord}
-use Rattle.action_grammar.specs.Roles.{is_a}
-use Rattle.action_grammar.specs.ProgramReaders.{an_action}
+use Rattle.action_tree.specs.declared.role.Role.TheVariants.{ActionWord}
+use Rattle.action_tree.specs.Roles.{is_a}
+use Rattle.action_tree.specs.ProgramReaders.{an_action}
 use Rattle.action_parser.proofs.Behind.{no_part, part_too_many, part_refused, part_read}
 use Rattle.action_parser.proofs.program.more_action.Goals as goal
 

@@ -1,8 +1,8 @@
 use Rattle.std.proofs.Common.{sym, ◌∙◌}
 use Rattle.std.proofs.lemmas.Result.{err_from_is_err_and}
-use Rattle.action_grammar.specs.declared.role.Role.TheVariants.{VarWord}
-use Rattle.action_grammar.specs.Roles.{is_a}
-use Rattle.action_grammar.specs.ProgramReaders.{a_var}
+use Rattle.action_tree.specs.declared.role.Role.TheVariants.{VarWord}
+use Rattle.action_tree.specs.Roles.{is_a}
+use Rattle.action_tree.specs.ProgramReaders.{a_var}
 use Rattle.action_parser.proofs.Behind.{no_part, part_too_many, part_refused, part_read}
 use Rattle.action_parser.proofs.program.more_var.Goals as goal
 

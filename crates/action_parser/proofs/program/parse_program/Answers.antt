@@ -6,11 +6,11 @@ use Rattle.text_tokens.specs.Text.{Lexeme}
 use Rattle.text_tokens.specs.Cursor.{Cursor}
 use Rattle.text_tokens.specs.Grammar.{Lang, Symbol}
 use Rattle.text_tokens.specs.Steps.{TellsOf, Settles}
-use Rattle.text_tokens.proofs.Settling.{tells_of, reads_of}
-use Rattle.action_grammar.specs.Programs.{IsProgram}
-use Rattle.action_grammar.specs.ProgramReaders.{a_program}
-use Rattle.action_grammar.proofs.ProgramLaws.{exact_program}
-use Rattle.action_grammar.proofs.Deriving.{texts_give_writable}
+use Rattle.text_tokens.proofs.ExactReaders.{tells_of, reads_of}
+use Rattle.action_tree.specs.Programs.{IsProgram}
+use Rattle.action_tree.specs.ProgramReaders.{a_program}
+use Rattle.action_tree.proofs.ProgramLaws.{exact_program}
+use Rattle.action_tree.proofs.ProductionsLemmas.{texts_give_writable}
 use Rattle.action_parser.specs.PartsOf.{parts_of}
 use Rattle.action_parser.proofs.program.parse_program.Goals as goal
 

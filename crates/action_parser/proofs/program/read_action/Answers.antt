@@ -4,13 +4,13 @@ use Rattle.text_tokens.specs.Reading.{one}
 use Rattle.text_tokens.specs.Steps.{lexeme_of, Gives}
 use Rattle.text_tokens.proofs.Rows.{all_left, past_part, part_fails}
 use Rattle.action_tree.specs.declared.statement.Stmt.{Stmt}
-use Rattle.action_tree.specs.Productions.{after_all}
+use Rattle.action_tree.specs.Productions.{names_left_after_all}
 use Rattle.action_tree.specs.Limits.{most_levels, most_names}
 use Rattle.action_tree.specs.Views.{name_of, guard_of, stmts_of, move_of}
-use Rattle.action_grammar.specs.declared.role.Role.TheVariants.{AName, ActionWord, WhenWord}
-use Rattle.action_grammar.specs.Roles.{is_a, as_name}
-use Rattle.action_grammar.specs.ExpressionReaders.{expr_at}
-use Rattle.action_grammar.specs.ProgramReaders.{a_body, a_moved, an_action}
+use Rattle.action_tree.specs.declared.role.Role.TheVariants.{AName, ActionWord, WhenWord}
+use Rattle.action_tree.specs.Roles.{is_a, as_name}
+use Rattle.action_tree.specs.ExpressionReaders.{expr_at}
+use Rattle.action_tree.specs.ProgramReaders.{a_body, a_moved, an_action}
 use Rattle.action_parser.proofs.Tokens.{taken, untaken, all_read}
 use Rattle.action_parser.proofs.program.read_action.Goals as goal
 
@@ -73,7 +73,7 @@ returns-in_err-moved c =
     let l3 = past_part (one (is_a WhenWord)) _ l2 (lexeme_of c.name.new.tokens.source c.in_ok-token-2.field-0) c.token-2.new.tokens c.in_ok-token-2.ensures.reads in
     let l4 = past_part (expr_at most_levels most_names) _ l3 (guard_of c.in_ok-guard.guard) c.read_guard.new.tokens c.in_ok-guard.ensures in
     let l5 = past_part (a_body most_levels most_names) _ l4 (stmts_of c.in_ok-body.body.items) c.read_body.new.tokens c.in_ok-body.ensures in
-    rw (p.1, p.2) (part_fails (a_moved most_levels (after_all most_names (stmts_of c.in_ok-body.body.items))) _ l5 c.in_err-moved.field-0.0 c.read_moved.new.tokens (subst (λ (ss : List Stmt). Gives move_of (a_moved most_levels (after_all most_names (stmts_of ss))) c.read_body.new.tokens (Err c.in_err-moved.field-0.0) c.read_moved.new.tokens) c.deref.ensures.value c.in_err-moved.ensures))
+    rw (p.1, p.2) (part_fails (a_moved most_levels (names_left_after_all most_names (stmts_of c.in_ok-body.body.items))) _ l5 c.in_err-moved.field-0.0 c.read_moved.new.tokens (subst (λ (ss : List Stmt). Gives move_of (a_moved most_levels (names_left_after_all most_names (stmts_of ss))) c.read_body.new.tokens (Err c.in_err-moved.field-0.0) c.read_moved.new.tokens) c.deref.ensures.value c.in_err-moved.ensures))
 
 pub returns : goal.returns
 unfolding an_action
@@ -85,5 +85,5 @@ returns c =
     let l3 = past_part (one (is_a WhenWord)) _ l2 (lexeme_of c.name.new.tokens.source c.in_ok-token-2.field-0) c.token-2.new.tokens c.in_ok-token-2.ensures.reads in
     let l4 = past_part (expr_at most_levels most_names) _ l3 (guard_of c.in_ok-guard.guard) c.read_guard.new.tokens c.in_ok-guard.ensures in
     let l5 = past_part (a_body most_levels most_names) _ l4 (stmts_of c.in_ok-body.body.items) c.read_body.new.tokens c.in_ok-body.ensures in
-    let l6 = past_part (a_moved most_levels (after_all most_names (stmts_of c.in_ok-body.body.items))) _ l5 (move_of c.in_ok-moved.moved) c.read_moved.new.tokens (subst (λ (ss : List Stmt). Gives move_of (a_moved most_levels (after_all most_names (stmts_of ss))) c.read_body.new.tokens (Ok c.in_ok-moved.moved) c.read_moved.new.tokens) c.deref.ensures.value c.in_ok-moved.ensures) in
+    let l6 = past_part (a_moved most_levels (names_left_after_all most_names (stmts_of c.in_ok-body.body.items))) _ l5 (move_of c.in_ok-moved.moved) c.read_moved.new.tokens (subst (λ (ss : List Stmt). Gives move_of (a_moved most_levels (names_left_after_all most_names (stmts_of ss))) c.read_body.new.tokens (Ok c.in_ok-moved.moved) c.read_moved.new.tokens) c.deref.ensures.value c.in_ok-moved.ensures) in
     all_read (an_action most_levels most_names) c.args.tokens.now c.read_moved.new.tokens _ _ l6 (rw x2.is refl)

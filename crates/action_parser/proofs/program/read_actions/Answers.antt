@@ -1,15 +1,15 @@
 use Rattle.std.proofs.Common.{List, map, ap}
 use Rattle.std.proofs.lemmas.Result.{err_from_is_err_and}
 use Rattle.text_tokens.specs.Reading.{no_limit, less, at_most}
-use Rattle.text_tokens.proofs.Looping.{loop_begins}
+use Rattle.text_tokens.proofs.LoopLemmas.{loop_begins}
 use Rattle.action_tree.specs.declared.program.Action.{Action}
 use Rattle.action_tree.specs.Limits.{most_levels, most_names, most_actions}
 use Rattle.action_tree.specs.Views.{action_of}
-use Rattle.action_grammar.specs.declared.role.Role.TheVariants.{ActionWord}
-use Rattle.action_grammar.specs.Roles.{is_a}
-use Rattle.action_grammar.specs.ProgramReaders.{an_action}
+use Rattle.action_tree.specs.declared.role.Role.TheVariants.{ActionWord}
+use Rattle.action_tree.specs.Roles.{is_a}
+use Rattle.action_tree.specs.ProgramReaders.{an_action}
 use Rattle.action_parser.proofs.Elements.{action_elements}
-use Rattle.action_parser.proofs.Listing.{all_found, next_fails, counted_found, view_pushed}
+use Rattle.action_parser.proofs.ListsLemmas.{all_found, next_fails, counted_found, view_pushed}
 use Rattle.action_parser.proofs.program.read_actions.Goals as goal
 
 pub loop-found-init : goal.loop-found-init

@@ -1,11 +1,11 @@
 use Rattle.std.proofs.Common.{map}
 use Rattle.text_tokens.specs.Reading.{no_limit, limited, less, repeated, at_most}
-use Rattle.text_tokens.proofs.Looping.{StillReads}
+use Rattle.text_tokens.proofs.LoopLemmas.{StillReads}
 use Rattle.action_tree.specs.Limits.{most_levels, most_names, most_actions}
 use Rattle.action_tree.specs.Views.{action_of}
-use Rattle.action_grammar.specs.declared.role.Role.TheVariants.{ActionWord}
-use Rattle.action_grammar.specs.Roles.{is_a}
-use Rattle.action_grammar.specs.ProgramReaders.{an_action}
+use Rattle.action_tree.specs.declared.role.Role.TheVariants.{ActionWord}
+use Rattle.action_tree.specs.Roles.{is_a}
+use Rattle.action_tree.specs.ProgramReaders.{an_action}
 use Rattle.action_parser.proofs.program.read_actions.Given as goal
 
 abbrev pub invariant-loop-found : goal.invariant-loop-found

@@ -2,10 +2,10 @@ use Rattle.std.proofs.Common.{Bool, false, Err, sym, ◌∙◌}
 use Rattle.std.proofs.lemmas.Result.{err_from_is_err_and}
 use Rattle.text_tokens.specs.Reading.{◌>>=◌, pure, one}
 use Rattle.text_tokens.specs.Steps.{lexeme_of}
-use Rattle.text_tokens.proofs.Stepping.{stays, gives_as, on, fails, is_first, is_second}
-use Rattle.action_grammar.specs.declared.role.Role.TheVariants.{GuardWord}
-use Rattle.action_grammar.specs.Roles.{is_a}
-use Rattle.action_grammar.specs.ProgramReaders.{a_guarded}
+use Rattle.text_tokens.proofs.StepsLemmas.{stays, gives_as, on, fails, is_first, is_second}
+use Rattle.action_tree.specs.declared.role.Role.TheVariants.{GuardWord}
+use Rattle.action_tree.specs.Roles.{is_a}
+use Rattle.action_tree.specs.ProgramReaders.{a_guarded}
 use Rattle.action_parser.specs.Readings.{a_switch}
 use Rattle.action_parser.proofs.program.read_guarded.Goals as goal
 

@@ -6,9 +6,9 @@ use Rattle.text_tokens.proofs.Rows.{all_left, past_part, part_fails}
 use Rattle.amoebot_state.specs.Limits.{most_vars}
 use Rattle.action_tree.specs.Limits.{most_levels, most_names, most_actions}
 use Rattle.action_tree.specs.Views.{var_of, action_of}
-use Rattle.action_grammar.specs.declared.role.Role.TheVariants.{ProgramWord, VarWord, ActionWord, LastWord}
-use Rattle.action_grammar.specs.Roles.{is_a}
-use Rattle.action_grammar.specs.ProgramReaders.{an_action, a_var, a_guarded, a_program}
+use Rattle.action_tree.specs.declared.role.Role.TheVariants.{ProgramWord, VarWord, ActionWord, LastWord}
+use Rattle.action_tree.specs.Roles.{is_a}
+use Rattle.action_tree.specs.ProgramReaders.{an_action, a_var, a_guarded, a_program}
 use Rattle.action_parser.proofs.Tokens.{all_read}
 use Rattle.action_parser.proofs.program.read_parts.Goals as goal
 

@@ -4,9 +4,9 @@ use Rattle.text_tokens.specs.Reading.{one}
 use Rattle.text_tokens.specs.Steps.{lexeme_of}
 use Rattle.text_tokens.proofs.Rows.{all_left, past_part, part_fails}
 use Rattle.action_tree.specs.Views.{name_of, literal_of}
-use Rattle.action_grammar.specs.declared.role.Role.TheVariants.{AName, ANumber, VarWord}
-use Rattle.action_grammar.specs.Roles.{is_a, as_name, as_literal}
-use Rattle.action_grammar.specs.ProgramReaders.{a_var}
+use Rattle.action_tree.specs.declared.role.Role.TheVariants.{AName, ANumber, VarWord}
+use Rattle.action_tree.specs.Roles.{is_a, as_name, as_literal}
+use Rattle.action_tree.specs.ProgramReaders.{a_var}
 use Rattle.action_parser.proofs.Tokens.{taken, untaken, all_read}
 use Rattle.action_parser.proofs.program.read_var.Goals as goal
 

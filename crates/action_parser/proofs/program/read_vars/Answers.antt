@@ -1,15 +1,15 @@
 use Rattle.std.proofs.Common.{List, map, ap}
 use Rattle.std.proofs.lemmas.Result.{err_from_is_err_and}
 use Rattle.text_tokens.specs.Reading.{no_limit, less, at_most}
-use Rattle.text_tokens.proofs.Looping.{loop_begins}
+use Rattle.text_tokens.proofs.LoopLemmas.{loop_begins}
 use Rattle.amoebot_state.specs.Limits.{most_vars}
 use Rattle.action_tree.specs.declared.program.Var.{Var}
 use Rattle.action_tree.specs.Views.{var_of}
-use Rattle.action_grammar.specs.declared.role.Role.TheVariants.{VarWord}
-use Rattle.action_grammar.specs.Roles.{is_a}
-use Rattle.action_grammar.specs.ProgramReaders.{a_var}
+use Rattle.action_tree.specs.declared.role.Role.TheVariants.{VarWord}
+use Rattle.action_tree.specs.Roles.{is_a}
+use Rattle.action_tree.specs.ProgramReaders.{a_var}
 use Rattle.action_parser.proofs.Elements.{var_elements}
-use Rattle.action_parser.proofs.Listing.{all_found, next_fails, counted_found, view_pushed}
+use Rattle.action_parser.proofs.ListsLemmas.{all_found, next_fails, counted_found, view_pushed}
 use Rattle.action_parser.proofs.program.read_vars.Goals as goal
 
 pub loop-found-init : goal.loop-found-init

@@ -1,11 +1,11 @@
 use Rattle.std.proofs.Common.{map}
 use Rattle.text_tokens.specs.Reading.{no_limit, limited, less, repeated, at_most}
-use Rattle.text_tokens.proofs.Looping.{StillReads}
+use Rattle.text_tokens.proofs.LoopLemmas.{StillReads}
 use Rattle.amoebot_state.specs.Limits.{most_vars}
 use Rattle.action_tree.specs.Views.{var_of}
-use Rattle.action_grammar.specs.declared.role.Role.TheVariants.{VarWord}
-use Rattle.action_grammar.specs.Roles.{is_a}
-use Rattle.action_grammar.specs.ProgramReaders.{a_var}
+use Rattle.action_tree.specs.declared.role.Role.TheVariants.{VarWord}
+use Rattle.action_tree.specs.Roles.{is_a}
+use Rattle.action_tree.specs.ProgramReaders.{a_var}
 use Rattle.action_parser.proofs.program.read_vars.Given as goal
 
 abbrev pub invariant-loop-found : goal.invariant-loop-found

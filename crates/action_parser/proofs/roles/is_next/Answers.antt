@@ -4,9 +4,9 @@ use Rattle.std.specs.Option.{option_eq}
 use Rattle.text_tokens.specs.Text.{Lexeme}
 use Rattle.text_tokens.specs.Cursor.{next_passes}
 use Rattle.text_tokens.specs.Reading.{first}
-use Rattle.action_grammar.specs.contracts.role.RolePartialEq.TheImpl.{eq-value}
-use Rattle.action_grammar.specs.declared.role.Role.{Role}
-use Rattle.action_grammar.specs.Roles.{is_a, role, same_role}
+use Rattle.action_tree.specs.contracts.role.RolePartialEq.TheImpl.{eq-value}
+use Rattle.action_tree.specs.declared.role.Role.{Role}
+use Rattle.action_tree.specs.Roles.{is_a, role, same_role}
 use Rattle.action_parser.proofs.roles.is_next.Goals as goal
 
 same_next : (r : Role) (ts : List Lexeme) → option_eq eq-value.it (option_map role (first ts)) (Some r) ≡ next_passes (is_a r) ts

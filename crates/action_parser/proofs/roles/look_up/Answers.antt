@@ -1,8 +1,8 @@
 use Rattle.std.proofs.Common.{◌∙◌, true, false, List, [], sym, ap, ◌+◌, arith, Bor, ℕ}
 use Rattle.std.specs.Str.{bytes_eq}
-use Rattle.action_grammar.specs.declared.role.Role.{Role}
-use Rattle.action_grammar.specs.declared.role.Role.TheVariants as role
-use Rattle.action_grammar.specs.Roles.{Entry, entry}
+use Rattle.action_tree.specs.declared.role.Role.{Role}
+use Rattle.action_tree.specs.declared.role.Role.TheVariants as role
+use Rattle.action_tree.specs.Roles.{Entry, entry}
 use Rattle.action_parser.proofs.Tables.{said_here}
 use Rattle.action_parser.proofs.roles.look_up.Goals as goal
 

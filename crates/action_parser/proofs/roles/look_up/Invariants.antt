@@ -1,5 +1,5 @@
 use Rattle.std.proofs.Common.{◌≡◌, map, drop}
-use Rattle.action_grammar.specs.Roles.{look_up, entry}
+use Rattle.action_tree.specs.Roles.{look_up, entry}
 use Rattle.action_parser.proofs.roles.look_up.Given as goal
 
 -- the rest of the table says the same

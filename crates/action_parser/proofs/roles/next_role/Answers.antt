@@ -1,5 +1,5 @@
 use Rattle.std.proofs.Common.{◌∙◌, ap}
-use Rattle.action_grammar.specs.Roles.{role_by}
+use Rattle.action_tree.specs.Roles.{role_by}
 use Rattle.action_parser.proofs.RoleFacts.{seen}
 use Rattle.action_parser.proofs.roles.next_role.Goals as goal
 

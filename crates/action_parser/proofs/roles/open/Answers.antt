@@ -3,8 +3,8 @@ use Rattle.std.proofs.lemmas.Result.{err_from_is_err_and}
 use Rattle.text_tokens.specs.declared.refusal.RefusalKind.TheVariants.{TooDeep}
 use Rattle.text_tokens.specs.Reading.{deep_at}
 use Rattle.text_tokens.specs.Steps.{lexeme_of}
-use Rattle.text_tokens.proofs.Stepping.{deep_zero, deep_some}
-use Rattle.action_grammar.specs.Roles.{is_a}
+use Rattle.text_tokens.proofs.StepsLemmas.{deep_zero, deep_some}
+use Rattle.action_tree.specs.Roles.{is_a}
 use Rattle.action_parser.proofs.Tokens.{keeps_limit, passes_limit, refused_with}
 use Rattle.action_parser.proofs.roles.open.Goals as goal
 

@@ -1,6 +1,6 @@
 use Rattle.std.proofs.Common.{refl, sym, ◌∙◌}
 use Rattle.text_tokens.specs.Reading.{no_limit}
-use Rattle.action_grammar.specs.Roles.{is_a}
+use Rattle.action_tree.specs.Roles.{is_a}
 use Rattle.action_parser.proofs.Tokens.{not_next, next_taken}
 use Rattle.action_parser.proofs.roles.token.Goals as goal
 

@@ -1,26 +1,26 @@
 use Rattle.std.proofs.Common.{◌≡◌, ◌-◌, ◌++◌, ◌∷◌, [], ℕ, List, map, Ok, Err, Vec, sym, ap, subst, refl, ◌∙◌}
 use Rattle.std.specs.declared.alloc.Global.{Global}
 use Rattle.std.proofs.lemmas.Result.{err_from_is_err_and}
-use Rattle.text_tokens.specs.Reading.{Reader, ◌>>=◌, one, opening, less, optional}
+use Rattle.text_tokens.specs.Reading.{Reader, ◌>>=◌, one, opening_token, less, optional}
 use Rattle.text_tokens.specs.Steps.{lexeme_of}
-use Rattle.text_tokens.proofs.Looping.{StillReads, less_is}
+use Rattle.text_tokens.proofs.LoopLemmas.{StillReads, less_is}
 use Rattle.text_tokens.proofs.Rows.{all_left, past_part, part_fails, gives_left}
 use Rattle.action_tree.specs.declared.statement.Stmt.{Stmt}
 use Rattle.action_tree.specs.Trees as tree
-use Rattle.action_tree.specs.Productions.{after}
+use Rattle.action_tree.specs.Productions.{names_left_after}
 use Rattle.action_tree.specs.Limits.{most_further}
 use Rattle.action_tree.specs.Views.{guard_of, port_of, stmt_of, stmts_of}
-use Rattle.action_grammar.specs.declared.role.Role.TheVariants.{AName, SemicolonSign, LetWord, IfWord, ThenWord, ElseWord, FiWord, ForWord, DoWord, OdWord}
-use Rattle.action_grammar.specs.Roles.{is_a}
-use Rattle.action_grammar.specs.ExpressionReaders.{port_at, selection_at, expr_at}
-use Rattle.action_grammar.specs.StatementReaders.{begins_stmt, put_member, else_part, an_if, a_for, stmt_by, a_stmt, scope_behind, stmts_inside, stmts_at}
+use Rattle.action_tree.specs.declared.role.Role.TheVariants.{AName, SemicolonSign, LetWord, IfWord, ThenWord, ElseWord, FiWord, ForWord, DoWord, OdWord}
+use Rattle.action_tree.specs.Roles.{is_a}
+use Rattle.action_tree.specs.ExpressionReaders.{port_at, selection_at, expr_at}
+use Rattle.action_tree.specs.StatementReaders.{begins_stmt, put_member, else_part, an_if, a_for, stmt_by, a_stmt, scope_behind, stmts_inside, stmts_at}
 use Rattle.action_parser.specs.Selections.{selection_of}
 use Rattle.action_parser.specs.Lists.{more_stmts, all_listed}
 use Rattle.action_parser.proofs.Tokens.{all_read}
 use Rattle.action_parser.proofs.Elements.{stmt_elements}
 use Rattle.action_parser.proofs.Levels.{next_is, chosen, chosen_as, none_chosen, none_begins, gives_stmts, gives_bound_stmts, gives_level, port_stmt, stmt_rest}
 use Rattle.action_parser.proofs.Behind.{none_comes, sign_fails, one_too_many, element_fails, one_read, left_out, word_fails, behind_word}
-use Rattle.action_parser.proofs.Listing.{next_found, all_found, next_fails, view_pushed, begins_with, stmts_read, stmts_fails}
+use Rattle.action_parser.proofs.ListsLemmas.{next_found, all_found, next_fails, view_pushed, begins_with, stmts_read, stmts_fails}
 use Rattle.action_parser.proofs.statement.+statement.Goals as goal
 
 -- ---- more_stmt
@@ -56,7 +56,7 @@ pub read_stmts-loop-found-init : goal.read_stmts-loop-found-init
 read_stmts-loop-found-init t w =
     let s = w.in_ok-first.first in
     let items : w.push.new.self.items ≡ s ∷ [] = w.in_ok-push.ensures.items ∙ ap (λ (xs : List Stmt). xs ++ s ∷ []) w.new-found.ensures.items in
-    let begun = begins_with (all_listed w.args.levels w.args.names) (more_stmts w.args.levels (record { room = most_further; left = after w.args.names (stmt_of s) })) w.args.tokens.now w.read_stmt.new.tokens (stmt_of s) (map stmt_of w.push.new.self.items) (ap (λ (xs : List Stmt). map stmt_of xs) items)
+    let begun = begins_with (all_listed w.args.levels w.args.names) (more_stmts w.args.levels (record { room = most_further; left = names_left_after w.args.names (stmt_of s) })) w.args.tokens.now w.read_stmt.new.tokens (stmt_of s) (map stmt_of w.push.new.self.items) (ap (λ (xs : List Stmt). map stmt_of xs) items)
     (past_part (a_stmt w.args.levels w.args.names (stmts_inside w.args.levels)) _ (all_left (all_listed w.args.levels w.args.names) w.args.tokens.now) (stmt_of s) w.read_stmt.new.tokens w.in_ok-first.ensures) in
     rw (w.further_stmts-room.ensures, w.names_after-left.ensures) begun
 
@@ -72,9 +72,9 @@ read_stmts-loop-found-preserved t w =
     let found = map stmt_of w.push-in-Some.new.self.items in
     let next = rw w.in-Some.is at w.in_ok-next.ensures.reads in
     let more = next_found (stmt_elements w.args.levels w.args.names) scope_behind (record { room = w.loop-found.room; left = w.loop-found.left }) w.loop-found.invariant next found (view_pushed stmt_of w.loop-found.found.items h w.in_ok-push-2.ensures.items) in
-    let left : after w.loop-found.left (stmt_of h) ≡ w.names_after-left-in-Some.result = sym w.names_after-left-in-Some.ensures in
+    let left : names_left_after w.loop-found.left (stmt_of h) ≡ w.names_after-left-in-Some.result = sym w.names_after-left-in-Some.ensures in
     subst (λ (l : ℕ). StillReads (all_listed w.args.levels w.args.names) w.args.tokens.now found (more_stmts w.args.levels (record { room = w.loop-found.room - 1; left = l })) w.more_stmt.new.tokens) left
-    (subst (λ (room : ℕ). StillReads (all_listed w.args.levels w.args.names) w.args.tokens.now found (more_stmts w.args.levels (record { room = room; left = after w.loop-found.left (stmt_of h) })) w.more_stmt.new.tokens) (less_is w.loop-found.room) more)
+    (subst (λ (room : ℕ). StillReads (all_listed w.args.levels w.args.names) w.args.tokens.now found (more_stmts w.args.levels (record { room = room; left = names_left_after w.loop-found.left (stmt_of h) })) w.more_stmt.new.tokens) (less_is w.loop-found.room) more)
 
 pub read_stmts-returns : goal.read_stmts-returns
 read_stmts-returns t w =
@@ -130,14 +130,14 @@ unfolding an_if
 read_if-returns-in_err-open t w =
     let p = err_from_is_err_and w.from_residual.result w.from_residual.ensures.1 in
     let l0 = all_left (an_if w.args.levels w.args.names (stmts_inside w.args.levels)) w.args.tokens.now in
-    rw (p.1, p.2) (part_fails (opening w.args.levels (is_a IfWord)) _ l0 w.in_err-open.field-0.0 w.open.new.tokens w.in_err-open.ensures.reads)
+    rw (p.1, p.2) (part_fails (opening_token w.args.levels (is_a IfWord)) _ l0 w.in_err-open.field-0.0 w.open.new.tokens w.in_err-open.ensures.reads)
 
 pub read_if-returns-in_err-guard : goal.read_if-returns-in_err-guard
 unfolding an_if
 read_if-returns-in_err-guard t w =
     let p = err_from_is_err_and w.from_residual-in_err-guard.result w.from_residual-in_err-guard.ensures.1 in
     let l0 = all_left (an_if w.args.levels w.args.names (stmts_inside w.args.levels)) w.args.tokens.now in
-    let l1 = past_part (opening w.args.levels (is_a IfWord)) _ l0 (lexeme_of w.args.tokens.now.source w.in_ok-open.field-0) w.open.new.tokens w.in_ok-open.ensures.reads in
+    let l1 = past_part (opening_token w.args.levels (is_a IfWord)) _ l0 (lexeme_of w.args.tokens.now.source w.in_ok-open.field-0) w.open.new.tokens w.in_ok-open.ensures.reads in
     rw (p.1, p.2) (part_fails (expr_at (less w.args.levels) w.args.names) _ l1 w.in_err-guard.field-0.0 w.read_guard.new.tokens (gives_level (λ (n : ℕ). expr_at n w.args.names) guard_of w.args.levels w.open.new.tokens w.read_guard.new.tokens (Err w.in_err-guard.field-0.0) w.in_err-guard.ensures))
 
 pub read_if-returns-in_err-token : goal.read_if-returns-in_err-token
@@ -145,7 +145,7 @@ unfolding an_if
 read_if-returns-in_err-token t w =
     let p = err_from_is_err_and w.from_residual-in_err-token.result w.from_residual-in_err-token.ensures.1 in
     let l0 = all_left (an_if w.args.levels w.args.names (stmts_inside w.args.levels)) w.args.tokens.now in
-    let l1 = past_part (opening w.args.levels (is_a IfWord)) _ l0 (lexeme_of w.args.tokens.now.source w.in_ok-open.field-0) w.open.new.tokens w.in_ok-open.ensures.reads in
+    let l1 = past_part (opening_token w.args.levels (is_a IfWord)) _ l0 (lexeme_of w.args.tokens.now.source w.in_ok-open.field-0) w.open.new.tokens w.in_ok-open.ensures.reads in
     let l2 = past_part (expr_at (less w.args.levels) w.args.names) _ l1 (guard_of w.in_ok-guard.guard) w.read_guard.new.tokens (gives_level (λ (n : ℕ). expr_at n w.args.names) guard_of w.args.levels w.open.new.tokens w.read_guard.new.tokens (Ok w.in_ok-guard.guard) w.in_ok-guard.ensures) in
     rw (p.1, p.2) (part_fails (one (is_a ThenWord)) _ l2 w.in_err-token.field-0.0 w.token.new.tokens w.in_err-token.ensures.reads)
 
@@ -154,7 +154,7 @@ unfolding an_if
 read_if-returns-in_err-body t w =
     let p = err_from_is_err_and w.from_residual-in_err-body.result w.from_residual-in_err-body.ensures.1 in
     let l0 = all_left (an_if w.args.levels w.args.names (stmts_inside w.args.levels)) w.args.tokens.now in
-    let l1 = past_part (opening w.args.levels (is_a IfWord)) _ l0 (lexeme_of w.args.tokens.now.source w.in_ok-open.field-0) w.open.new.tokens w.in_ok-open.ensures.reads in
+    let l1 = past_part (opening_token w.args.levels (is_a IfWord)) _ l0 (lexeme_of w.args.tokens.now.source w.in_ok-open.field-0) w.open.new.tokens w.in_ok-open.ensures.reads in
     let l2 = past_part (expr_at (less w.args.levels) w.args.names) _ l1 (guard_of w.in_ok-guard.guard) w.read_guard.new.tokens (gives_level (λ (n : ℕ). expr_at n w.args.names) guard_of w.args.levels w.open.new.tokens w.read_guard.new.tokens (Ok w.in_ok-guard.guard) w.in_ok-guard.ensures) in
     let l3 = past_part (one (is_a ThenWord)) _ l2 (lexeme_of w.read_guard.new.tokens.source w.in_ok-token.field-0) w.token.new.tokens w.in_ok-token.ensures.reads in
     rw (p.1, p.2) (part_fails (stmts_inside w.args.levels w.args.names) _ l3 w.in_err-body.field-0.0 w.read_stmts.new.tokens (gives_stmts (λ (k : Reader tree.Stmts). k) (λ (v : Vec Stmt Global). stmts_of v.items) w.args.levels w.args.names w.token.new.tokens w.read_stmts.new.tokens (Err w.in_err-body.field-0.0) w.in_ok-open.ensures.deep w.in_err-body.ensures))
@@ -164,7 +164,7 @@ unfolding an_if
 read_if-returns-in_err-otherwise t w =
     let p = err_from_is_err_and w.from_residual-in_err-otherwise.result w.from_residual-in_err-otherwise.ensures.1 in
     let l0 = all_left (an_if w.args.levels w.args.names (stmts_inside w.args.levels)) w.args.tokens.now in
-    let l1 = past_part (opening w.args.levels (is_a IfWord)) _ l0 (lexeme_of w.args.tokens.now.source w.in_ok-open.field-0) w.open.new.tokens w.in_ok-open.ensures.reads in
+    let l1 = past_part (opening_token w.args.levels (is_a IfWord)) _ l0 (lexeme_of w.args.tokens.now.source w.in_ok-open.field-0) w.open.new.tokens w.in_ok-open.ensures.reads in
     let l2 = past_part (expr_at (less w.args.levels) w.args.names) _ l1 (guard_of w.in_ok-guard.guard) w.read_guard.new.tokens (gives_level (λ (n : ℕ). expr_at n w.args.names) guard_of w.args.levels w.open.new.tokens w.read_guard.new.tokens (Ok w.in_ok-guard.guard) w.in_ok-guard.ensures) in
     let l3 = past_part (one (is_a ThenWord)) _ l2 (lexeme_of w.read_guard.new.tokens.source w.in_ok-token.field-0) w.token.new.tokens w.in_ok-token.ensures.reads in
     let l4 = past_part (stmts_inside w.args.levels w.args.names) _ l3 (stmts_of w.in_ok-body.body.items) w.read_stmts.new.tokens (gives_stmts (λ (k : Reader tree.Stmts). k) (λ (v : Vec Stmt Global). stmts_of v.items) w.args.levels w.args.names w.token.new.tokens w.read_stmts.new.tokens (Ok w.in_ok-body.body) w.in_ok-open.ensures.deep w.in_ok-body.ensures) in
@@ -175,7 +175,7 @@ unfolding an_if
 read_if-returns-in_err-token-2 t w =
     let p = err_from_is_err_and w.from_residual-in_err-token-2.result w.from_residual-in_err-token-2.ensures.1 in
     let l0 = all_left (an_if w.args.levels w.args.names (stmts_inside w.args.levels)) w.args.tokens.now in
-    let l1 = past_part (opening w.args.levels (is_a IfWord)) _ l0 (lexeme_of w.args.tokens.now.source w.in_ok-open.field-0) w.open.new.tokens w.in_ok-open.ensures.reads in
+    let l1 = past_part (opening_token w.args.levels (is_a IfWord)) _ l0 (lexeme_of w.args.tokens.now.source w.in_ok-open.field-0) w.open.new.tokens w.in_ok-open.ensures.reads in
     let l2 = past_part (expr_at (less w.args.levels) w.args.names) _ l1 (guard_of w.in_ok-guard.guard) w.read_guard.new.tokens (gives_level (λ (n : ℕ). expr_at n w.args.names) guard_of w.args.levels w.open.new.tokens w.read_guard.new.tokens (Ok w.in_ok-guard.guard) w.in_ok-guard.ensures) in
     let l3 = past_part (one (is_a ThenWord)) _ l2 (lexeme_of w.read_guard.new.tokens.source w.in_ok-token.field-0) w.token.new.tokens w.in_ok-token.ensures.reads in
     let l4 = past_part (stmts_inside w.args.levels w.args.names) _ l3 (stmts_of w.in_ok-body.body.items) w.read_stmts.new.tokens (gives_stmts (λ (k : Reader tree.Stmts). k) (λ (v : Vec Stmt Global). stmts_of v.items) w.args.levels w.args.names w.token.new.tokens w.read_stmts.new.tokens (Ok w.in_ok-body.body) w.in_ok-open.ensures.deep w.in_ok-body.ensures) in
@@ -186,7 +186,7 @@ pub read_if-returns : goal.read_if-returns
 unfolding an_if
 read_if-returns t w =
     let l0 = all_left (an_if w.args.levels w.args.names (stmts_inside w.args.levels)) w.args.tokens.now in
-    let l1 = past_part (opening w.args.levels (is_a IfWord)) _ l0 (lexeme_of w.args.tokens.now.source w.in_ok-open.field-0) w.open.new.tokens w.in_ok-open.ensures.reads in
+    let l1 = past_part (opening_token w.args.levels (is_a IfWord)) _ l0 (lexeme_of w.args.tokens.now.source w.in_ok-open.field-0) w.open.new.tokens w.in_ok-open.ensures.reads in
     let l2 = past_part (expr_at (less w.args.levels) w.args.names) _ l1 (guard_of w.in_ok-guard.guard) w.read_guard.new.tokens (gives_level (λ (n : ℕ). expr_at n w.args.names) guard_of w.args.levels w.open.new.tokens w.read_guard.new.tokens (Ok w.in_ok-guard.guard) w.in_ok-guard.ensures) in
     let l3 = past_part (one (is_a ThenWord)) _ l2 (lexeme_of w.read_guard.new.tokens.source w.in_ok-token.field-0) w.token.new.tokens w.in_ok-token.ensures.reads in
     let l4 = past_part (stmts_inside w.args.levels w.args.names) _ l3 (stmts_of w.in_ok-body.body.items) w.read_stmts.new.tokens (gives_stmts (λ (k : Reader tree.Stmts). k) (λ (v : Vec Stmt Global). stmts_of v.items) w.args.levels w.args.names w.token.new.tokens w.read_stmts.new.tokens (Ok w.in_ok-body.body) w.in_ok-open.ensures.deep w.in_ok-body.ensures) in
@@ -201,14 +201,14 @@ unfolding a_for
 read_for-returns-in_err-open t w =
     let p = err_from_is_err_and w.from_residual.result w.from_residual.ensures.1 in
     let l0 = all_left (a_for w.args.levels w.args.names (stmts_inside w.args.levels)) w.args.tokens.now in
-    rw (p.1, p.2) (part_fails (opening w.args.levels (is_a ForWord)) _ l0 w.in_err-open.field-0.0 w.open.new.tokens w.in_err-open.ensures.reads)
+    rw (p.1, p.2) (part_fails (opening_token w.args.levels (is_a ForWord)) _ l0 w.in_err-open.field-0.0 w.open.new.tokens w.in_err-open.ensures.reads)
 
 pub read_for-returns-in_err-selection : goal.read_for-returns-in_err-selection
 unfolding a_for
 read_for-returns-in_err-selection t w =
     let p = err_from_is_err_and w.from_residual-in_err-selection.result w.from_residual-in_err-selection.ensures.1 in
     let l0 = all_left (a_for w.args.levels w.args.names (stmts_inside w.args.levels)) w.args.tokens.now in
-    let l1 = past_part (opening w.args.levels (is_a ForWord)) _ l0 (lexeme_of w.args.tokens.now.source w.in_ok-open.field-0) w.open.new.tokens w.in_ok-open.ensures.reads in
+    let l1 = past_part (opening_token w.args.levels (is_a ForWord)) _ l0 (lexeme_of w.args.tokens.now.source w.in_ok-open.field-0) w.open.new.tokens w.in_ok-open.ensures.reads in
     rw (p.1, p.2) (part_fails (selection_at (less w.args.levels) w.args.names) _ l1 w.in_err-selection.field-0.0 w.read_selection.new.tokens (gives_level (λ (n : ℕ). selection_at n w.args.names) selection_of w.args.levels w.open.new.tokens w.read_selection.new.tokens (Err w.in_err-selection.field-0.0) w.in_err-selection.ensures))
 
 pub read_for-returns-in_err-token : goal.read_for-returns-in_err-token
@@ -216,7 +216,7 @@ unfolding a_for
 read_for-returns-in_err-token t w =
     let p = err_from_is_err_and w.from_residual-in_err-token.result w.from_residual-in_err-token.ensures.1 in
     let l0 = all_left (a_for w.args.levels w.args.names (stmts_inside w.args.levels)) w.args.tokens.now in
-    let l1 = past_part (opening w.args.levels (is_a ForWord)) _ l0 (lexeme_of w.args.tokens.now.source w.in_ok-open.field-0) w.open.new.tokens w.in_ok-open.ensures.reads in
+    let l1 = past_part (opening_token w.args.levels (is_a ForWord)) _ l0 (lexeme_of w.args.tokens.now.source w.in_ok-open.field-0) w.open.new.tokens w.in_ok-open.ensures.reads in
     let l2 = past_part (selection_at (less w.args.levels) w.args.names) _ l1 (selection_of w.in_ok-selection.selection) w.read_selection.new.tokens (gives_level (λ (n : ℕ). selection_at n w.args.names) selection_of w.args.levels w.open.new.tokens w.read_selection.new.tokens (Ok w.in_ok-selection.selection) w.in_ok-selection.ensures) in
     rw (p.1, p.2) (part_fails (one (is_a DoWord)) _ l2 w.in_err-token.field-0.0 w.token.new.tokens w.in_err-token.ensures.reads)
 
@@ -225,7 +225,7 @@ unfolding a_for
 read_for-returns-in_err-body t w =
     let p = err_from_is_err_and w.from_residual-in_err-body.result w.from_residual-in_err-body.ensures.1 in
     let l0 = all_left (a_for w.args.levels w.args.names (stmts_inside w.args.levels)) w.args.tokens.now in
-    let l1 = past_part (opening w.args.levels (is_a ForWord)) _ l0 (lexeme_of w.args.tokens.now.source w.in_ok-open.field-0) w.open.new.tokens w.in_ok-open.ensures.reads in
+    let l1 = past_part (opening_token w.args.levels (is_a ForWord)) _ l0 (lexeme_of w.args.tokens.now.source w.in_ok-open.field-0) w.open.new.tokens w.in_ok-open.ensures.reads in
     let l2 = past_part (selection_at (less w.args.levels) w.args.names) _ l1 (selection_of w.in_ok-selection.selection) w.read_selection.new.tokens (gives_level (λ (n : ℕ). selection_at n w.args.names) selection_of w.args.levels w.open.new.tokens w.read_selection.new.tokens (Ok w.in_ok-selection.selection) w.in_ok-selection.ensures) in
     let l3 = past_part (one (is_a DoWord)) _ l2 (lexeme_of w.read_selection.new.tokens.source w.in_ok-token.field-0) w.token.new.tokens w.in_ok-token.ensures.reads in
     rw (p.1, p.2) (part_fails (stmts_inside w.args.levels (less w.args.names)) _ l3 w.in_err-body.field-0.0 w.read_stmts.new.tokens (gives_bound_stmts (λ (k : Reader tree.Stmts). k) (λ (v : Vec Stmt Global). stmts_of v.items) w.args.levels w.args.names w.token.new.tokens w.read_stmts.new.tokens (Err w.in_err-body.field-0.0) w.in_ok-open.ensures.deep w.saturating_sub.result (w.saturating_sub.ensures ∙ sym (less_is w.args.names)) w.in_err-body.ensures))
@@ -235,7 +235,7 @@ unfolding a_for
 read_for-returns-in_err-token-2 t w =
     let p = err_from_is_err_and w.from_residual-in_err-token-2.result w.from_residual-in_err-token-2.ensures.1 in
     let l0 = all_left (a_for w.args.levels w.args.names (stmts_inside w.args.levels)) w.args.tokens.now in
-    let l1 = past_part (opening w.args.levels (is_a ForWord)) _ l0 (lexeme_of w.args.tokens.now.source w.in_ok-open.field-0) w.open.new.tokens w.in_ok-open.ensures.reads in
+    let l1 = past_part (opening_token w.args.levels (is_a ForWord)) _ l0 (lexeme_of w.args.tokens.now.source w.in_ok-open.field-0) w.open.new.tokens w.in_ok-open.ensures.reads in
     let l2 = past_part (selection_at (less w.args.levels) w.args.names) _ l1 (selection_of w.in_ok-selection.selection) w.read_selection.new.tokens (gives_level (λ (n : ℕ). selection_at n w.args.names) selection_of w.args.levels w.open.new.tokens w.read_selection.new.tokens (Ok w.in_ok-selection.selection) w.in_ok-selection.ensures) in
     let l3 = past_part (one (is_a DoWord)) _ l2 (lexeme_of w.read_selection.new.tokens.source w.in_ok-token.field-0) w.token.new.tokens w.in_ok-token.ensures.reads in
     let l4 = past_part (stmts_inside w.args.levels (less w.args.names)) _ l3 (stmts_of w.in_ok-body.body.items) w.read_stmts.new.tokens (gives_bound_stmts (λ (k : Reader tree.Stmts). k) (λ (v : Vec Stmt Global). stmts_of v.items) w.args.levels w.args.names w.token.new.tokens w.read_stmts.new.tokens (Ok w.in_ok-body.body) w.in_ok-open.ensures.deep w.saturating_sub.result (w.saturating_sub.ensures ∙ sym (less_is w.args.names)) w.in_ok-body.ensures) in
@@ -245,7 +245,7 @@ pub read_for-returns : goal.read_for-returns
 unfolding a_for
 read_for-returns t w =
     let l0 = all_left (a_for w.args.levels w.args.names (stmts_inside w.args.levels)) w.args.tokens.now in
-    let l1 = past_part (opening w.args.levels (is_a ForWord)) _ l0 (lexeme_of w.args.tokens.now.source w.in_ok-open.field-0) w.open.new.tokens w.in_ok-open.ensures.reads in
+    let l1 = past_part (opening_token w.args.levels (is_a ForWord)) _ l0 (lexeme_of w.args.tokens.now.source w.in_ok-open.field-0) w.open.new.tokens w.in_ok-open.ensures.reads in
     let l2 = past_part (selection_at (less w.args.levels) w.args.names) _ l1 (selection_of w.in_ok-selection.selection) w.read_selection.new.tokens (gives_level (λ (n : ℕ). selection_at n w.args.names) selection_of w.args.levels w.open.new.tokens w.read_selection.new.tokens (Ok w.in_ok-selection.selection) w.in_ok-selection.ensures) in
     let l3 = past_part (one (is_a DoWord)) _ l2 (lexeme_of w.read_selection.new.tokens.source w.in_ok-token.field-0) w.token.new.tokens w.in_ok-token.ensures.reads in
     let l4 = past_part (stmts_inside w.args.levels (less w.args.names)) _ l3 (stmts_of w.in_ok-body.body.items) w.read_stmts.new.tokens (gives_bound_stmts (λ (k : Reader tree.Stmts). k) (λ (v : Vec Stmt Global). stmts_of v.items) w.args.levels w.args.names w.token.new.tokens w.read_stmts.new.tokens (Ok w.in_ok-body.body) w.in_ok-open.ensures.deep w.saturating_sub.result (w.saturating_sub.ensures ∙ sym (less_is w.args.names)) w.in_ok-body.ensures) in

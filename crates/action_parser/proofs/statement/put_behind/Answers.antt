@@ -5,10 +5,10 @@ use Rattle.text_tokens.specs.Steps.{lexeme_of, Gives}
 use Rattle.text_tokens.proofs.Rows.{all_left, past_part, part_fails, gives_left}
 use Rattle.action_tree.specs.Trees as tree
 use Rattle.action_tree.specs.Views.{name_of, sum_of, stmt_of}
-use Rattle.action_grammar.specs.declared.role.Role.TheVariants.{AName, DotSign, BecomesSign}
-use Rattle.action_grammar.specs.Roles.{is_a, as_name}
-use Rattle.action_grammar.specs.ExpressionReaders.{sum_at}
-use Rattle.action_grammar.specs.StatementReaders.{put_member, put_by, stmt_by, stmts_inside}
+use Rattle.action_tree.specs.declared.role.Role.TheVariants.{AName, DotSign, BecomesSign}
+use Rattle.action_tree.specs.Roles.{is_a, as_name}
+use Rattle.action_tree.specs.ExpressionReaders.{sum_at}
+use Rattle.action_tree.specs.StatementReaders.{put_member, put_by, stmt_by, stmts_inside}
 use Rattle.action_parser.proofs.Tokens.{taken, untaken, all_read}
 use Rattle.action_tree.proofs.Viewed as built
 use Rattle.action_parser.proofs.Levels.{next_is, chosen, none_chosen, none_begins, then_left, left_fails, put_rest}

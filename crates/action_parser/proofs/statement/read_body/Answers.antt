@@ -4,9 +4,9 @@ use Rattle.std.proofs.lemmas.Result.{err_from_is_err_and}
 use Rattle.action_tree.specs.declared.statement.Stmt.{Stmt}
 use Rattle.action_tree.specs.Trees as tree
 use Rattle.action_tree.specs.Views.{stmts_of}
-use Rattle.action_grammar.specs.declared.role.Role.TheVariants.{DoWord}
-use Rattle.action_grammar.specs.Roles.{is_a}
-use Rattle.action_grammar.specs.StatementReaders.{stmts_at}
+use Rattle.action_tree.specs.declared.role.Role.TheVariants.{DoWord}
+use Rattle.action_tree.specs.Roles.{is_a}
+use Rattle.action_tree.specs.StatementReaders.{stmts_at}
 use Rattle.action_parser.proofs.Behind.{left_out, word_fails, behind_word}
 use Rattle.action_parser.proofs.statement.read_body.Goals as goal
 

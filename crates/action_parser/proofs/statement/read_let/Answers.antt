@@ -5,11 +5,11 @@ use Rattle.text_tokens.specs.Steps.{lexeme_of}
 use Rattle.text_tokens.proofs.Rows.{all_left, past_part, part_fails}
 use Rattle.action_tree.specs.Trees as tree
 use Rattle.action_tree.specs.Views.{name_of, port_of}
-use Rattle.action_grammar.specs.declared.role.Role.TheVariants.{AName, BecomesSign, LetWord}
-use Rattle.action_grammar.specs.Roles.{is_a, as_name}
-use Rattle.action_grammar.specs.Expressions.{bound_at}
-use Rattle.action_grammar.specs.ExpressionReaders.{port_at}
-use Rattle.action_grammar.specs.StatementReaders.{stmt_by, stmts_inside}
+use Rattle.action_tree.specs.declared.role.Role.TheVariants.{AName, BecomesSign, LetWord}
+use Rattle.action_tree.specs.Roles.{is_a, as_name}
+use Rattle.action_tree.specs.Expressions.{bound_at}
+use Rattle.action_tree.specs.ExpressionReaders.{port_at}
+use Rattle.action_tree.specs.StatementReaders.{stmt_by, stmts_inside}
 use Rattle.action_parser.proofs.Tokens.{taken, untaken, all_read}
 use Rattle.action_tree.proofs.Viewed as built
 use Rattle.action_parser.proofs.statement.read_let.Goals as goal

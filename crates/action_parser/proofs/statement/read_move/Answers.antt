@@ -6,10 +6,10 @@ use Rattle.text_tokens.specs.Steps.{lexeme_of}
 use Rattle.text_tokens.proofs.Rows.{past_part, part_fails}
 use Rattle.action_tree.specs.Trees as tree
 use Rattle.action_tree.specs.Views.{port_of}
-use Rattle.action_grammar.specs.declared.role.Role.TheVariants.{EndWord, NoneWord, ThroughWord, ContractWord}
-use Rattle.action_grammar.specs.Roles.{is_a, as_end, port_move_by}
-use Rattle.action_grammar.specs.ExpressionReaders.{port_at}
-use Rattle.action_grammar.specs.ProgramReaders.{move_by, a_move}
+use Rattle.action_tree.specs.declared.role.Role.TheVariants.{EndWord, NoneWord, ThroughWord, ContractWord}
+use Rattle.action_tree.specs.Roles.{is_a, as_end, port_move_by}
+use Rattle.action_tree.specs.ExpressionReaders.{port_at}
+use Rattle.action_tree.specs.ProgramReaders.{move_by, a_move}
 use Rattle.action_parser.proofs.Tokens.{taken, untaken, all_read}
 use Rattle.action_parser.proofs.Levels.{next_is, chosen, none_chosen, none_begins, move_rest}
 use Rattle.action_parser.proofs.statement.read_move.Goals as goal

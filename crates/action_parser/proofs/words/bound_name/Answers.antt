@@ -3,10 +3,10 @@ use Rattle.text_tokens.specs.declared.refusal.RefusalKind.TheVariants.{TooMany}
 use Rattle.text_tokens.specs.declared.refusal.ReadRefusal.TheVariants.{Refused}
 use Rattle.text_tokens.specs.Reading.{pure, one_within}
 use Rattle.text_tokens.specs.Steps.{lexeme_of}
-use Rattle.text_tokens.proofs.Stepping.{fails}
-use Rattle.action_grammar.specs.declared.role.Role.TheVariants as role
-use Rattle.action_grammar.specs.Roles.{is_a, as_name}
-use Rattle.action_grammar.specs.Expressions.{bound_at}
+use Rattle.text_tokens.proofs.StepsLemmas.{fails}
+use Rattle.action_tree.specs.declared.role.Role.TheVariants as role
+use Rattle.action_tree.specs.Roles.{is_a, as_name}
+use Rattle.action_tree.specs.Expressions.{bound_at}
 use Rattle.action_parser.proofs.Tokens.{passes_limit, refused_with}
 use Rattle.action_parser.proofs.RoleFacts.{no_name_left, name_text}
 use Rattle.action_parser.proofs.words.bound_name.Goals as goal

@@ -1,10 +1,10 @@
 use Rattle.std.proofs.Common.{refl, sym, ap, ◌∙◌}
 use Rattle.std.proofs.lemmas.Result.{err_from_is_err_and}
 use Rattle.text_tokens.specs.Reading.{one}
-use Rattle.action_grammar.specs.declared.role.Role.TheVariants as role
-use Rattle.action_grammar.specs.Roles.{is_a, same_role, as_literal, as_name, as_dirterm}
+use Rattle.action_tree.specs.declared.role.Role.TheVariants as role
+use Rattle.action_tree.specs.Roles.{is_a, same_role, as_literal, as_name, as_dirterm}
 use Rattle.action_parser.proofs.Tokens.{left_reads, right_reads, left_fails, right_fails, taken, untaken}
-use Rattle.action_grammar.proofs.Playing.{other_role}
+use Rattle.action_tree.proofs.RolesLemmas.{other_role}
 use Rattle.action_tree.specs.Trees.{fixed, held}
 use Rattle.action_tree.specs.Views.{literal_of, name_of}
 use Rattle.action_parser.proofs.words.dirterm.Goals as goal

@@ -1,10 +1,10 @@
 use Rattle.std.proofs.Common.{true, false, refl, sym, ◌∙◌}
 use Rattle.std.proofs.lemmas.Result.{err_from_is_err_and}
 use Rattle.text_tokens.specs.Steps.{lexeme_of}
-use Rattle.action_grammar.specs.declared.role.Role.TheVariants as role
-use Rattle.action_grammar.specs.Roles.{is_a, same_role}
+use Rattle.action_tree.specs.declared.role.Role.TheVariants as role
+use Rattle.action_tree.specs.Roles.{is_a, same_role}
 use Rattle.action_parser.proofs.Tokens.{left_reads, right_reads, left_fails, right_fails}
-use Rattle.action_grammar.proofs.Playing.{other_role}
+use Rattle.action_tree.proofs.RolesLemmas.{other_role}
 use Rattle.action_parser.proofs.words.joint.Goals as goal
 
 pub returns-in_err-token : goal.returns-in_err-token

@@ -2,8 +2,8 @@ use Rattle.std.proofs.Common.{subst, sym, List, ℕ}
 use Rattle.text_tokens.specs.Cursor.{IsDigits}
 use Rattle.text_tokens.specs.Reading.{no_limit}
 use Rattle.text_tokens.specs.Steps.{lexeme_of}
-use Rattle.action_grammar.specs.declared.role.Role.TheVariants as role
-use Rattle.action_grammar.specs.Roles.{is_a}
+use Rattle.action_tree.specs.declared.role.Role.TheVariants as role
+use Rattle.action_tree.specs.Roles.{is_a}
 use Rattle.action_parser.proofs.Tokens.{passes}
 use Rattle.action_parser.proofs.RoleFacts.{number_spells}
 use Rattle.action_parser.proofs.words.literal.Goals as goal

@@ -5,9 +5,9 @@ use Rattle.text_tokens.specs.Steps.{lexeme_of}
 use Rattle.text_tokens.proofs.Rows.{all_left, past_part, part_fails}
 use Rattle.action_tree.specs.Trees.{of_port}
 use Rattle.action_tree.specs.Views.{name_of, port_of}
-use Rattle.action_grammar.specs.declared.role.Role.TheVariants as role
-use Rattle.action_grammar.specs.Roles.{is_a, as_name}
-use Rattle.action_grammar.specs.ExpressionReaders as spec
+use Rattle.action_tree.specs.declared.role.Role.TheVariants as role
+use Rattle.action_tree.specs.Roles.{is_a, as_name}
+use Rattle.action_tree.specs.ExpressionReaders as spec
 use Rattle.action_parser.proofs.Tokens.{taken, untaken, all_read}
 use Rattle.action_tree.proofs.Viewed.{term_member}
 use Rattle.action_parser.proofs.words.member.Goals as goal

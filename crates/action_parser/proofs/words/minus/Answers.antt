@@ -3,10 +3,10 @@ use Rattle.std.proofs.lemmas.Result.{err_from_is_err_and}
 use Rattle.text_tokens.specs.Text.{Lexeme}
 use Rattle.text_tokens.specs.Reading.{Reader, ◌>>=◌, pure, one}
 use Rattle.text_tokens.specs.Steps.{lexeme_of}
-use Rattle.text_tokens.proofs.Stepping.{is_first, is_second, gives_as, fails, on_made, stays}
-use Rattle.action_grammar.specs.declared.role.Role.TheVariants as role
-use Rattle.action_grammar.specs.Roles.{is_a}
-use Rattle.action_grammar.specs.ExpressionReaders.{a_minus}
+use Rattle.text_tokens.proofs.StepsLemmas.{is_first, is_second, gives_as, fails, on_made, stays}
+use Rattle.action_tree.specs.declared.role.Role.TheVariants as role
+use Rattle.action_tree.specs.Roles.{is_a}
+use Rattle.action_tree.specs.ExpressionReaders.{a_minus}
 use Rattle.action_parser.proofs.words.minus.Goals as goal
 
 abbrev taken : Reader Bool

@@ -1,13 +1,13 @@
 use Rattle.std.proofs.Common.{Ok, ap, sym, subst, ◌∙◌}
 use Rattle.text_tokens.specs.Reading.{Reader, pure, one, optional}
 use Rattle.text_tokens.specs.Steps.{Gives}
-use Rattle.text_tokens.proofs.Stepping.{is_first, is_second, gives_as}
+use Rattle.text_tokens.proofs.StepsLemmas.{is_first, is_second, gives_as}
 use Rattle.text_tokens.proofs.Rows.{all_left, past_part, gives_left}
 use Rattle.action_tree.specs.Trees as tree
 use Rattle.action_tree.specs.Views.{name_of, term_of}
-use Rattle.action_grammar.specs.declared.role.Role.TheVariants as role
-use Rattle.action_grammar.specs.Roles.{is_a, as_name}
-use Rattle.action_grammar.specs.ExpressionReaders as spec
+use Rattle.action_tree.specs.declared.role.Role.TheVariants as role
+use Rattle.action_tree.specs.Roles.{is_a, as_name}
+use Rattle.action_tree.specs.ExpressionReaders as spec
 use Rattle.action_parser.specs.Readings.{own_or_member}
 use Rattle.action_parser.proofs.Tokens.{taken}
 use Rattle.action_tree.proofs.Viewed.{term_own, port_name}

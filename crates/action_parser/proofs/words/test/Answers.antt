@@ -1,9 +1,9 @@
 use Rattle.std.proofs.Common.{sym, ◌∙◌, Bor, List, ℕ}
 use Rattle.text_tokens.specs.Text.{Lexeme}
 use Rattle.text_tokens.specs.Reading.{one}
-use Rattle.text_tokens.proofs.Stepping.{gives_as}
-use Rattle.action_grammar.specs.declared.role.Role.TheVariants as role
-use Rattle.action_grammar.specs.Roles.{is_a, is_test}
+use Rattle.text_tokens.proofs.StepsLemmas.{gives_as}
+use Rattle.action_tree.specs.declared.role.Role.TheVariants as role
+use Rattle.action_tree.specs.Roles.{is_a, is_test}
 use Rattle.action_parser.specs.Readings.{made}
 use Rattle.action_parser.proofs.Tokens.{left_same, right_same}
 use Rattle.action_parser.proofs.words.test.Goals as goal

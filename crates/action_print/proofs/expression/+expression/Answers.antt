@@ -5,7 +5,7 @@ use Rattle.action_tree.specs.Trees.{Part}
 use Rattle.action_tree.specs.Views.{guard_of, guards_of, port_of, name_of, sum_of, term_of, terms_of}
 use Rattle.action_tree.specs.Writable.{is_conj, is_unit}
 use Rattle.action_print.specs.Canon.{selection_words, cmp_sign, conjs, guard_words, joined, parens_unless, port_words, sum_words, term_words, units}
-use Rattle.action_print.specs.Rows.{between, sign}
+use Rattle.action_print.specs.Rows.{between, sign_words}
 use Rattle.text_tokens.proofs.LineLemmas.{tokens_more}
 use Rattle.action_print.proofs.RowLemmas.{token_then, guard_printed, row_more, units_next, conjs_next, sum_next}
 use Rattle.action_tree.proofs.Viewed.{guard_contracted, guard_not, guard_any, guard_all, guard_linked, guard_free, guard_at_head, guard_peer_expanded, guard_peer_head, guard_compare, part_opened}
@@ -75,5 +75,5 @@ pub put_parts-loop-place-preserved : goal.put_parts-loop-place-preserved
 put_parts-loop-place-preserved t c =
     let p = c.index-parts-place.result in
     let i = c.loop-place.place in
-    row_more _ _ _ _ (sum_words (terms_of (take i c.args.parts.now))) (sign i p.minus) (term_words (term_of p.term)) _ c.loop-place.invariant c.in_ok-put_sign.ensures
-    c.in_ok-put_term.ensures (sum_next c.args.parts.now i p (slice_get_read _ _ _ _ refl c.loop-place-test.true c.index-parts-place.is) ∙ ap (λ (q : Part). sum_words (terms_of (take i c.args.parts.now)) ++ (sign i q.minus ++ term_words q.term)) (part_opened p))
+    row_more _ _ _ _ (sum_words (terms_of (take i c.args.parts.now))) (sign_words i p.minus) (term_words (term_of p.term)) _ c.loop-place.invariant c.in_ok-put_sign.ensures
+    c.in_ok-put_term.ensures (sum_next c.args.parts.now i p (slice_get_read _ _ _ _ refl c.loop-place-test.true c.index-parts-place.is) ∙ ap (λ (q : Part). sum_words (terms_of (take i c.args.parts.now)) ++ (sign_words i q.minus ++ term_words q.term)) (part_opened p))

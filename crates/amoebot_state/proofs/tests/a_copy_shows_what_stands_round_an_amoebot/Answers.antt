@@ -4,7 +4,7 @@ use Rattle.tri_lattice.specs.declared.node.Node.{Node}
 use Rattle.amoebot_state.specs.Ports.{is_beside}
 use Rattle.amoebot_state.specs.Configs.{Config, bot_of}
 use Rattle.amoebot_state.specs.Zones.{Shown, shown, shown_alone}
-use Rattle.amoebot_state.proofs.Samples.{at, contracted, stretched, world}
+use Rattle.amoebot_state.proofs.ExampleLemmas.{at, contracted, stretched, world}
 use Rattle.amoebot_state.proofs.tests.a_copy_shows_what_stands_round_an_amoebot.Goals as goal
 
 abbrev three : Config

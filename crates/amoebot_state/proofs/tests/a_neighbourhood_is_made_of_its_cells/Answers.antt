@@ -2,7 +2,7 @@ use Rattle.std.proofs.Common.{◌∙◌, ap, sym}
 use Rattle.tri_lattice.specs.Extent.{Extent}
 use Rattle.amoebot_state.specs.Configs.{Config}
 use Rattle.amoebot_state.specs.Zones.{Shown, shown}
-use Rattle.amoebot_state.proofs.Samples.{edge, first}
+use Rattle.amoebot_state.proofs.ExampleLemmas.{edge, first}
 use Rattle.amoebot_state.proofs.tests.a_neighbourhood_is_made_of_its_cells.Goals as goal
 
 pub make-found-requires : goal.make-found-requires

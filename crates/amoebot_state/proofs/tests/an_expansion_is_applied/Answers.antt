@@ -3,7 +3,7 @@ use Rattle.amoebot_state.specs.declared.cell.CellName.{CellName}
 use Rattle.amoebot_state.specs.declared.cell.Cell.{Cell}
 use Rattle.amoebot_state.specs.Configs.{Config, IsValid}
 use Rattle.amoebot_state.specs.Patches.{IsPatched}
-use Rattle.amoebot_state.proofs.Samples.{at, held, with_body, expanded, alone, alone_out, going_out, alone_patched}
+use Rattle.amoebot_state.proofs.ExampleLemmas.{at, held, with_body, expanded, alone, alone_out, going_out, alone_patched}
 use Rattle.amoebot_state.proofs.tests.an_expansion_is_applied.Goals as goal
 
 pub apply-requires : goal.apply-requires

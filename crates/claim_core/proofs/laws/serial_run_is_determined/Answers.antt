@@ -7,9 +7,9 @@ use Rattle.amoebot_state.specs.Configs.{Config}
 use Rattle.amoebot_state.specs.Zones.{Shown, shown}
 use Rattle.amoebot_state.specs.Laws.{StepHasOneResult}
 use Rattle.amoebot_state.specs.Steps.{Step, change_of, entry_of}
-use Rattle.serial_model.specs.declared.Turned.{Turned}
-use Rattle.serial_model.specs.declared.Turned.TheVariants as turned
-use Rattle.serial_model.specs.SerialTurns.{SerialTurn, IsOfTurn}
+use Rattle.amoebot_state.specs.declared.verdict.Turned.{Turned}
+use Rattle.amoebot_state.specs.declared.verdict.Turned.TheVariants as turned
+use Rattle.amoebot_state.specs.SerialTurns.{SerialTurn, IsOfTurn}
 use Rattle.claim_core.specs.declared.marks.Mark.{Mark}
 use Rattle.claim_core.specs.Turns.{CallerLists, bot_of_turn}
 use Rattle.claim_core.specs.SerialRuns.{Left, SerialRun, MakesTurn, mark_at, entries_by, all_turns, left_by}

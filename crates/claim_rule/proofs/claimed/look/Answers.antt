@@ -1,4 +1,4 @@
-use Rattle.claim_rule.proofs.Activating.{looked}
+use Rattle.claim_rule.proofs.ActivationLemmas.{looked}
 use Rattle.claim_rule.proofs.claimed.look.Goals as goal
 
 pub invariant_of-claimed : goal.invariant_of-claimed

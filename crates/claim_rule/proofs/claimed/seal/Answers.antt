@@ -1,6 +1,6 @@
 use Rattle.std.proofs.Common.{reverse, ap, sym, ◌∙◌}
 use Rattle.claim_rule.specs.Tokens.{next_in}
-use Rattle.claim_rule.proofs.Activating.{whole_is_shown}
+use Rattle.claim_rule.proofs.ActivationLemmas.{whole_is_shown}
 use Rattle.claim_rule.proofs.claimed.seal.Goals as goal
 
 pub make-found-requires : goal.make-found-requires

@@ -1,6 +1,6 @@
 use Rattle.std.proofs.Common.{◌≡◌, ◌++◌, ◌∷◌, [], ap, sym, ◌∙◌, Some, None}
 use Rattle.claim_rule.specs.Tokens.{Token, record_in}
-use Rattle.claim_rule.proofs.Gathering.{one_record, none_gathered, last_is, skipped, taken_in}
+use Rattle.claim_rule.proofs.GatheredRecords.{one_record, none_gathered, last_is, skipped, taken_in}
 use Rattle.claim_rule.proofs.close.gather_all.Goals as goal
 
 -- src/close.rt

@@ -1,5 +1,5 @@
 use Rattle.std.proofs.Common.{◌≡◌, length}
-use Rattle.claim_rule.proofs.Gathering.{Gathered}
+use Rattle.claim_rule.proofs.GatheredRecords.{Gathered}
 use Rattle.claim_rule.proofs.close.gather_all.Given as goal
 
 abbrev pub invariant-loop-place : goal.invariant-loop-place

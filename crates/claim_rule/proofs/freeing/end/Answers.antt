@@ -1,6 +1,6 @@
 use Rattle.std.proofs.Common.{ap, sym, ◌∙◌}
 use Rattle.claim_rule.specs.Tokens.{Token, doing}
-use Rattle.claim_rule.proofs.Activating.{ends}
+use Rattle.claim_rule.proofs.ActivationLemmas.{ends}
 use Rattle.claim_rule.proofs.freeing.end.Goals as goal
 
 pub invariant_of-result : goal.invariant_of-result

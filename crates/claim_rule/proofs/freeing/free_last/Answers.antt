@@ -1,7 +1,7 @@
 use Rattle.std.proofs.Common.{reverse, ap, sym, ◌∙◌}
 use Rattle.std.proofs.lemmas.Option.{none-some}
 use Rattle.claim_core.specs.Cells.{number}
-use Rattle.claim_rule.proofs.Activating.{last_first, last_placed, to_free, frees_last}
+use Rattle.claim_rule.proofs.ActivationLemmas.{last_first, last_placed, to_free, frees_last}
 use Rattle.claim_rule.proofs.freeing.free_last.Goals as goal
 
 pub unreachable-requires-in_default-cell_number : goal.unreachable-requires-in_default-cell_number

@@ -1,7 +1,7 @@
 use Rattle.std.proofs.Common.{◌<◌, reverse, ap, sym, subst, ◌∙◌}
 use Rattle.claim_rule.specs.Plays.{about, bot_in}
 use Rattle.claim_rule.specs.Tokens.{Token, doing}
-use Rattle.claim_rule.proofs.Activating.{begun}
+use Rattle.claim_rule.proofs.ActivationLemmas.{begun}
 use Rattle.claim_rule.proofs.held.begin.Goals as goal
 
 pub invariant_of-result : goal.invariant_of-result

@@ -1,4 +1,4 @@
-use Rattle.claim_rule.proofs.Dealing.{join_changes_nothing}
+use Rattle.claim_rule.proofs.SeatingLemmas.{join_changes_nothing}
 use Rattle.claim_rule.proofs.laws.join_changes_nothing.Goals as goal
 
 pub returns : goal.returns

@@ -1,4 +1,4 @@
-use Rattle.claim_rule.proofs.Dealing.{split_changes_nothing}
+use Rattle.claim_rule.proofs.SeatingLemmas.{split_changes_nothing}
 use Rattle.claim_rule.proofs.laws.split_changes_nothing.Goals as goal
 
 pub returns : goal.returns

@@ -6,7 +6,7 @@ use Rattle.amoebot_state.specs.declared.cell.CellName.{CellName}
 use Rattle.amoebot_state.specs.declared.cell.CellName.TheVariants as name
 use Rattle.amoebot_state.specs.declared.cell.Cell.{Cell}
 use Rattle.amoebot_state.specs.declared.cell.Cell.TheVariants as cell
-use Rattle.claim_core.specs.Machine.{renewed}
+use Rattle.claim_core.specs.Machine.{patched_pair}
 use Rattle.claim_rule.proofs.renewal.renew.Goals as goal
 
 pub loop-pair-preserved : goal.loop-pair-preserved
@@ -15,4 +15,4 @@ loop-pair-preserved c =
     let x = get_or c.loop-pair.held c.loop-pair.pair-index d in
     let inside : c.loop-pair.pair-index < length c.loop-pair.held = omega arith in
     ap (λ v. set c.loop-pair.held c.loop-pair.pair-index (x.0, v)) (c.unwrap_or-pair.ensures ∙ ap (λ o. unwrap_or o x.1) c.given.ensures)
-    ∙ map_over_more (renewed c.args.patch.now) c.args.held.now c.loop-pair.held c.loop-pair.pair-index x (omega arith) c.loop-pair.invariant (get_or_default c.loop-pair.held c.loop-pair.pair-index d x inside)
+    ∙ map_over_more (patched_pair c.args.patch.now) c.args.held.now c.loop-pair.held c.loop-pair.pair-index x (omega arith) c.loop-pair.invariant (get_or_default c.loop-pair.held c.loop-pair.pair-index d x inside)

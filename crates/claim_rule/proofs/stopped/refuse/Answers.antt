@@ -1,4 +1,4 @@
-use Rattle.claim_rule.proofs.Activating.{marks}
+use Rattle.claim_rule.proofs.ActivationLemmas.{marks}
 use Rattle.claim_rule.proofs.stopped.refuse.Goals as goal
 
 pub invariant_of-result : goal.invariant_of-result

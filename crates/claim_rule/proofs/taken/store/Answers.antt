@@ -3,17 +3,17 @@ use Rattle.std.specs.List.{refill}
 use Rattle.std.proofs.lemmas.List.{length-map, take_at}
 use Rattle.amoebot_state.specs.declared.verdict.Entry.{Entry}
 use Rattle.amoebot_state.specs.Pairs.{Pairs}
-use Rattle.claim_core.specs.Machine.{renewed}
-use Rattle.claim_core.proofs.Stepping.{reverse-map}
-use Rattle.claim_rule.proofs.Settling.{to_commit, has_stored}
+use Rattle.claim_core.specs.Machine.{patched_pair}
+use Rattle.claim_core.proofs.MachineLemmas.{reverse-map}
+use Rattle.claim_rule.proofs.SettlingLemmas.{to_commit, has_stored}
 use Rattle.claim_rule.proofs.taken.store.Given.{Over}
 use Rattle.claim_rule.proofs.taken.store.Goals as goal
 
 -- the cells have the values of the patch
-news : (g : Over) (c : goal.After-store_length g) → refill (length c.taken.inside.activation.cells.items) c.taken.inside.activation.cells.items c.renew.new.held ≡ map (renewed c.taken.inside.change.patch) c.taken.inside.activation.cells.items
+news : (g : Over) (c : goal.After-store_length g) → refill (length c.taken.inside.activation.cells.items) c.taken.inside.activation.cells.items c.renew.new.held ≡ map (patched_pair c.taken.inside.change.patch) c.taken.inside.activation.cells.items
 news g c =
-    let again = c.renew.ensures ∙ (λ i. map (renewed (c.pairs.ensures.value i)) (c.as_mut_slice.ensures.value i)) in
-    take_at c.renew.new.held _ (length c.taken.inside.activation.cells.items) (ap (λ (ps : Pairs). length ps) again ∙ length-map c.taken.inside.activation.cells.items (renewed c.taken.inside.change.patch)) ∙ again
+    let again = c.renew.ensures ∙ (λ i. map (patched_pair (c.pairs.ensures.value i)) (c.as_mut_slice.ensures.value i)) in
+    take_at c.renew.new.held _ (length c.taken.inside.activation.cells.items) (ap (λ (ps : Pairs). length ps) again ∙ length-map c.taken.inside.activation.cells.items (patched_pair c.taken.inside.change.patch)) ∙ again
 
 pub store_length-requires-clause-commits : goal.store_length-requires-clause-commits
 store_length-requires-clause-commits g c κs within =
@@ -23,5 +23,5 @@ store_length-requires-clause-commits g c κs within =
 pub invariant_of-result : goal.invariant_of-result
 invariant_of-result g c =
     let all = has_stored g.D.Decider.verdict c.taken.inside.activation.seat.me _ _ _ _ _ _ c.taken.inside.change c.taken.inside.journal c.taken.invariant _ (length c.taken.inside.journal.entries) c.push.new.self c.put_journal_home.new.seat.me c.store_length.new.seat.me _
-    c.put_journal_home.ensures.filled c.store_length.ensures.told.0 c.store_length.ensures.told.1 Rattle.std.proofs.Common.refl (ap reverse (news g c) ∙ reverse-map (renewed c.taken.inside.change.patch) c.taken.inside.activation.cells.items) in
+    c.put_journal_home.ensures.filled c.store_length.ensures.told.0 c.store_length.ensures.told.1 Rattle.std.proofs.Common.refl (ap reverse (news g c) ∙ reverse-map (patched_pair c.taken.inside.change.patch) c.taken.inside.activation.cells.items) in
     (all.0, all.1, all.2)

@@ -2,7 +2,7 @@ use Rattle.std.proofs.Common.{ap, sym, ◌∙◌}
 use Rattle.claim_core.specs.Cells.{cells}
 use Rattle.claim_rule.specs.Views.{setup_at}
 use Rattle.claim_rule.specs.Tokens.{Token, doing}
-use Rattle.claim_rule.proofs.Settling.{got_it}
+use Rattle.claim_rule.proofs.SettlingLemmas.{got_it}
 use Rattle.claim_rule.proofs.taken.take.Goals as goal
 
 pub invariant_of-result-2 : goal.invariant_of-result-2

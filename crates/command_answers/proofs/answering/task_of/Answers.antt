@@ -1,6 +1,6 @@
 use Rattle.std.proofs.Common.{sym, subst}
-use Rattle.document_grammar.specs.declared.section.Form.{Form}
-use Rattle.document_grammar.specs.Documents.{Contents, HasContents, IsRefused}
+use Rattle.shape_files.specs.declared.section_kind.Form.{Form}
+use Rattle.shape_files.specs.Documents.{Contents, HasContents, IsDocumentFault}
 use Rattle.shape_files.specs.Views.{contents}
 use Rattle.command_answers.specs.Commands.{form_of}
 use Rattle.command_answers.proofs.OwedTexts.{refuses}
@@ -13,5 +13,5 @@ task_of_document-requires c =
 
 pub returns-in_ok-answer-in-Err-Refused : goal.returns-in_ok-answer-in-Err-Refused
 returns-in_ok-answer-in-Err-Refused c =
-    let fault : IsRefused (form_of c.args.command) c.args.bytes.now c.in-Err-Refused.refusal = subst (λ (form : Form). IsRefused form c.args.bytes.now c.in-Err-Refused.refusal) c.form_of.ensures (rw c.in-Err-Refused.field-0-is at c.in-Err-Refused.ensures) in
+    let fault : IsDocumentFault (form_of c.args.command) c.args.bytes.now c.in-Err-Refused.refusal = subst (λ (form : Form). IsDocumentFault form c.args.bytes.now c.in-Err-Refused.refusal) c.form_of.ensures (rw c.in-Err-Refused.field-0-is at c.in-Err-Refused.ensures) in
     refuses c.args.command c.args.bytes.now c.in-Err-Refused.refusal c.in_ok-answer-in-Err-Refused.answer fault (rw c.in-Err-Refused.field-0-is at c.in_ok-answer-in-Err-Refused.ensures)

@@ -1,4 +1,4 @@
-use Rattle.command_answers.proofs.Owing.{owed_is_one}
+use Rattle.command_answers.proofs.OwedLemmas.{owed_is_one}
 use Rattle.command_answers.proofs.laws.owed_is_one.Goals as goal
 
 pub returns : goal.returns

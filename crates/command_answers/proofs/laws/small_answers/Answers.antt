@@ -1,4 +1,4 @@
-use Rattle.command_answers.proofs.Samples.{small_answers}
+use Rattle.command_answers.proofs.ExampleLemmas.{small_answers}
 use Rattle.command_answers.proofs.laws.small_answers.Goals as goal
 
 pub returns : goal.returns

@@ -1,4 +1,4 @@
-use Rattle.command_runs.proofs.Samples.{small_commands}
+use Rattle.command_runs.proofs.ExampleLemmas.{small_commands}
 use Rattle.command_runs.proofs.laws.small_commands.Goals as goal
 
 pub returns : goal.returns

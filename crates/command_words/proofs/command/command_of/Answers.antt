@@ -5,7 +5,7 @@ use Rattle.clap.specs.Simple.{app_of}
 use Rattle.clap.proofs.WalkLemmas.{list_any-map}
 use Rattle.command_words.specs.declared.command.Command.{Command}
 use Rattle.command_words.specs.Syntax.{begins_with_dash}
-use Rattle.command_words.proofs.Judging.{dash_is_none, is_command, is_none}
+use Rattle.command_words.proofs.CommandLemmas.{dash_is_none, is_command, is_none}
 use Rattle.command_words.proofs.command.command_of.Goals as goal
 
 pub returns-then-any_begins_with_dash-clause-command : goal.returns-then-any_begins_with_dash-clause-command

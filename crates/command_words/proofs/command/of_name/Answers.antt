@@ -1,6 +1,6 @@
 use Rattle.std.proofs.Common.{ap, sym, ◌∙◌}
 use Rattle.command_words.specs.Words.{shipped, show_in}
-use Rattle.command_words.proofs.Wording.{own_name, none_shown}
+use Rattle.command_words.proofs.WordsLemmas.{own_name, none_shown}
 use Rattle.command_words.proofs.command.of_name.Goals as goal
 
 pub returns-in-Some : goal.returns-in-Some

@@ -1,4 +1,4 @@
-use Rattle.command_words.proofs.Wording.{small_words}
+use Rattle.command_words.proofs.WordsLemmas.{small_words}
 use Rattle.command_words.proofs.laws.small_words.Goals as goal
 
 pub returns : goal.returns

@@ -2,7 +2,7 @@ use Rattle.std.proofs.Common.{◌≡◌, ◌∙◌, Bool, true, false, List, [],
 use Rattle.std.specs.Prelude.{◌||◌}
 use Rattle.text_tokens.specs.Text.{Lexeme}
 use Rattle.text_tokens.specs.Cursor.{next_passes}
-use Rattle.journal_text.specs.Journals.{is_spot, is_body}
+use Rattle.journal_text.specs.Journals.{is_spot_word, is_body_word}
 use Rattle.journal_text.proofs.journal.is_cell_next.Goals as goal
 
 module _ (a b : Lexeme → Bool) where
@@ -15,7 +15,7 @@ module _ (a b : Lexeme → Bool) where
   passes_second (t ∷ ts) e = rw e refl
 
 pub returns-then-is_next : goal.returns-then-is_next
-returns-then-is_next c = c.if-is_next.true ∙ sym (passes_first is_spot is_body c.args.tokens.now.ahead (sym c.is_next.ensures ∙ c.if-is_next.true))
+returns-then-is_next c = c.if-is_next.true ∙ sym (passes_first is_spot_word is_body_word c.args.tokens.now.ahead (sym c.is_next.ensures ∙ c.if-is_next.true))
 
 pub returns-else-is_next : goal.returns-else-is_next
-returns-else-is_next c = c.is_next-else-is_next.ensures ∙ sym (passes_second is_spot is_body c.args.tokens.now.ahead (sym c.is_next.ensures ∙ c.if-is_next.false))
+returns-else-is_next c = c.is_next-else-is_next.ensures ∙ sym (passes_second is_spot_word is_body_word c.args.tokens.now.ahead (sym c.is_next.ensures ∙ c.if-is_next.false))

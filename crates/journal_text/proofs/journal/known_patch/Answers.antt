@@ -1,6 +1,6 @@
 use Rattle.std.proofs.Common.{◌≡◌, false, refl}
 use Rattle.std.proofs.lemmas.Option.{slice_get-get_or}
-use Rattle.journal_text.proofs.Knowing.{there, all_there, unknown, gave_none}
+use Rattle.journal_text.proofs.KnownBots.{there, all_there, unknown, gave_none}
 use Rattle.journal_text.proofs.journal.known_patch.Goals as goal
 
 pub returns-in_err-name : goal.returns-in_err-name

@@ -1,6 +1,6 @@
 use Rattle.std.proofs.Common.{◌≡◌, true, take, map}
 use Rattle.journal_text.specs.Views as view
-use Rattle.journal_text.proofs.Knowing.{all_there}
+use Rattle.journal_text.proofs.KnownBots.{all_there}
 use Rattle.journal_text.proofs.journal.known_patch.Given as goal
 
 abbrev pub invariant-loop-pair : goal.invariant-loop-pair

@@ -1,6 +1,6 @@
 use Rattle.std.proofs.Common.{◌∙◌, sym}
 use Rattle.std.proofs.lemmas.Result.{err_from_is_err_and}
-use Rattle.text_tokens.proofs.Stepping.{another_none, another_some, another_fails}
+use Rattle.text_tokens.proofs.StepsLemmas.{another_none, another_some, another_fails}
 use Rattle.journal_text.specs.Journals.{is_entry}
 use Rattle.journal_text.specs.Readers.{an_entry}
 use Rattle.journal_text.proofs.journal.more_entry.Goals as goal

@@ -4,7 +4,7 @@ use Rattle.text_tokens.specs.declared.refusal.RefusalKind.TheVariants.{TooMany}
 use Rattle.text_tokens.specs.declared.refusal.ReadRefusal.TheVariants.{Refused}
 use Rattle.text_tokens.specs.Cursor.{refusal_at}
 use Rattle.text_tokens.specs.Reading.{no_limit}
-use Rattle.text_tokens.proofs.Stepping.{another_none, another_some, another_fails, with_room, one_too_many}
+use Rattle.text_tokens.proofs.StepsLemmas.{another_none, another_some, another_fails, with_room, one_too_many}
 use Rattle.journal_text.specs.Journals.{is_cell}
 use Rattle.journal_text.specs.Readers.{a_pair, pair_in}
 use Rattle.journal_text.specs.Views as view

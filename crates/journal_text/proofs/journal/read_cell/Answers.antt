@@ -5,8 +5,9 @@ use Rattle.text_tokens.specs.Cursor.{Cursor, next_passes}
 use Rattle.text_tokens.specs.Reading.{Reader, ◌>>=◌, pure}
 use Rattle.amoebot_state.specs.declared.cell.CellName.{CellName}
 use Rattle.amoebot_state.specs.declared.cell.CellName.TheVariants as name
-use Rattle.journal_text.specs.Journals.{is_spot}
-use Rattle.journal_text.specs.Readers.{a_word, a_number, a_node, a_cell}
+use Rattle.journal_text.specs.Journals.{is_spot_word}
+use Rattle.node_text.specs.PartReaders.{a_word, a_number, a_node}
+use Rattle.journal_text.specs.Readers.{a_cell}
 use Rattle.text_tokens.proofs.Rows.{Left, all_left, first_left, second_left, past_part, part_fails, made_left}
 use Rattle.journal_text.proofs.journal.read_cell.Goals as goal
 
@@ -23,13 +24,13 @@ abbrev body_cell : Reader CellName
 body_cell = a_word (codes "body") >>= λ line. a_body
 
 module _ (here : Cursor) where
-  at_spot : next_passes is_spot here.ahead ≡ true → Left a_cell here spot_cell here
+  at_spot : next_passes is_spot_word here.ahead ≡ true → Left a_cell here spot_cell here
   unfolding a_cell
-  at_spot e = first_left is_spot spot_cell body_cell (all_left a_cell here) e
+  at_spot e = first_left is_spot_word spot_cell body_cell (all_left a_cell here) e
 
-  at_body : next_passes is_spot here.ahead ≡ false → Left a_cell here body_cell here
+  at_body : next_passes is_spot_word here.ahead ≡ false → Left a_cell here body_cell here
   unfolding a_cell
-  at_body e = second_left is_spot spot_cell body_cell (all_left a_cell here) e
+  at_body e = second_left is_spot_word spot_cell body_cell (all_left a_cell here) e
 
 pub returns-in_err-read_word : goal.returns-in_err-read_word
 returns-in_err-read_word c =

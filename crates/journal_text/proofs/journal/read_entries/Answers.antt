@@ -1,9 +1,9 @@
 use Rattle.std.proofs.Common.{◌≡◌, ◌<◌, ◌+◌, ℕ, suc, subst, arith}
 use Rattle.std.proofs.lemmas.Result.{err_from_is_err_and}
 use Rattle.text_tokens.specs.Reading.{repeated}
-use Rattle.text_tokens.proofs.Looping.{StillReads, loop_begins, loop_goes_on, loop_is_over, loop_fails}
+use Rattle.text_tokens.proofs.LoopLemmas.{StillReads, loop_begins, loop_goes_on, loop_is_over, loop_fails}
 use Rattle.claim_core.specs.Limits.{most_turns}
-use Rattle.journal_text.specs.Parts.{is_end, one_more}
+use Rattle.node_text.specs.Parts.{is_end, one_more}
 use Rattle.journal_text.specs.Journals.{is_entry, IsEntry}
 use Rattle.journal_text.specs.Readers.{an_entry, entries_from, all_entries}
 use Rattle.journal_text.proofs.JournalLaws.{no_pair, entry_elements}

@@ -1,5 +1,5 @@
 use Rattle.std.proofs.Common.{List}
-use Rattle.text_tokens.proofs.Settling.{tells_of, reads_of}
+use Rattle.text_tokens.proofs.ExactReaders.{tells_of, reads_of}
 use Rattle.amoebot_state.specs.declared.verdict.Entry.{Entry}
 use Rattle.journal_text.specs.Journals.{IsJournal}
 use Rattle.journal_text.specs.Readers.{journal}

@@ -3,7 +3,7 @@ use Rattle.std.proofs.lemmas.Result.{err_from_is_err_and}
 use Rattle.std.proofs.lemmas.List.{map_push}
 use Rattle.text_tokens.specs.Reading.{repeated, less}
 use Rattle.text_tokens.specs.Lawful.{always}
-use Rattle.text_tokens.proofs.Looping.{StillReads, loop_begins, loop_goes_on, loop_is_over, loop_fails, less_is}
+use Rattle.text_tokens.proofs.LoopLemmas.{StillReads, loop_begins, loop_goes_on, loop_is_over, loop_fails, less_is}
 use Rattle.journal_text.specs.Journals.{is_cell}
 use Rattle.journal_text.specs.Readers.{pair_in, all_pairs}
 use Rattle.journal_text.specs.Views as view

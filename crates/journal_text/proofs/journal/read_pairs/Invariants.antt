@@ -1,6 +1,6 @@
 use Rattle.std.proofs.Common.{◌≡◌, ◌+◌, map, length}
 use Rattle.text_tokens.specs.Reading.{repeated, less}
-use Rattle.text_tokens.proofs.Looping.{StillReads}
+use Rattle.text_tokens.proofs.LoopLemmas.{StillReads}
 use Rattle.journal_text.specs.Journals.{is_cell}
 use Rattle.journal_text.specs.Readers.{pair_in, all_pairs}
 use Rattle.journal_text.specs.Views as view

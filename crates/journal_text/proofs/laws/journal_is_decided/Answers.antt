@@ -2,10 +2,11 @@ use Rattle.std.proofs.Common.{refl}
 use Rattle.text_tokens.specs.Scan.{skip, ready, sign_len, front, scan, scan_end, ahead_of, last_of}
 use Rattle.text_tokens.specs.Cursor.{same_kind}
 use Rattle.text_tokens.specs.Reading.{one_within, the_line, numeral, either, limited, times, elements, repeated}
-use Rattle.text_tokens.proofs.Obeying.{exact_law}
-use Rattle.journal_text.proofs.Saying.{IsSaid, says}
+use Rattle.text_tokens.proofs.CombinatorLemmas.{exact_law}
+use Rattle.text_tokens.proofs.SaysLemmas.{IsSaid, says}
 use Rattle.journal_text.specs.Journals.{AreEntries, IsJournal}
-use Rattle.journal_text.specs.Readers.{an_int, a_node, an_end, a_chirality, a_port, a_bot, port_behind, end_behind, a_movement, a_cell, an_occupant, a_value, a_pair, all_pairs, the_numbers, entry_word, written, an_entry, entries_from, journal}
+use Rattle.node_text.specs.PartReaders.{an_int, a_node, an_end, a_chirality, a_port_text, a_bot}
+use Rattle.journal_text.specs.Readers.{port_behind, end_behind, a_movement, a_cell, an_occupant, a_value, a_pair, all_pairs, the_numbers, entry_word, a_written_entry, an_entry, entries_from, journal}
 use Rattle.journal_text.proofs.JournalLaws.{part_journal, exact_journal, exact_entries}
 use Rattle.journal_text.proofs.laws.journal_is_decided.Goals as goal
 
@@ -22,7 +23,7 @@ told_behind : IsSaid (AreEntries 3 2 1 65535) (entries_from 3 2 1 65535)
 told_behind = says (AreEntries 3 2 1 65535) (entries_from 3 2 1 65535) (exact_entries 3 2 1 65535)
 
 pub returns-clause-read : goal.returns-clause-read
-unfolding skip ready sign_len front scan scan_end ahead_of last_of same_kind one_within the_line numeral either limited times elements repeated an_int a_node an_end a_chirality a_port a_bot port_behind end_behind a_movement a_cell an_occupant a_value a_pair all_pairs the_numbers entry_word written an_entry entries_from journal
+unfolding skip ready sign_len front scan scan_end ahead_of last_of same_kind one_within the_line numeral either limited times elements repeated an_int a_node an_end a_chirality a_port_text a_bot port_behind end_behind a_movement a_cell an_occupant a_value a_pair all_pairs the_numbers entry_word a_written_entry an_entry entries_from journal
 returns-clause-read c = record {
   nothing = told _ _ refl;
   expand = told _ _ refl;

@@ -2,10 +2,11 @@ use Rattle.std.proofs.Common.{refl}
 use Rattle.text_tokens.specs.Scan.{skip, ready, sign_len, front, scan, scan_end, ahead_of, last_of}
 use Rattle.text_tokens.specs.Cursor.{same_kind}
 use Rattle.text_tokens.specs.Reading.{one_within, the_line, numeral, either, limited, times, elements, repeated}
-use Rattle.text_tokens.proofs.Obeying.{exact_law}
-use Rattle.journal_text.proofs.Saying.{IsSaid, says}
+use Rattle.text_tokens.proofs.CombinatorLemmas.{exact_law}
+use Rattle.text_tokens.proofs.SaysLemmas.{IsSaid, says}
 use Rattle.journal_text.specs.Turns.{names_failure, IsTurns}
-use Rattle.journal_text.specs.Readers.{an_int, a_node, a_cell, placed, a_failed, a_claimant, a_busy, a_mark, a_turn, all_turns, the_turns}
+use Rattle.node_text.specs.PartReaders.{an_int, a_node}
+use Rattle.journal_text.specs.Readers.{a_cell, placed_mark, a_failed, a_claimant, a_busy, a_mark, a_turn, all_turn_lines, the_turns}
 use Rattle.journal_text.proofs.TurnLaws.{part_the_turns, exact_turns}
 use Rattle.journal_text.proofs.laws.turns_are_decided.Goals as goal
 
@@ -19,7 +20,7 @@ told : IsSaid IsTurns the_turns
 told = says IsTurns the_turns exact_turns
 
 pub returns-clause-read : goal.returns-clause-read
-unfolding skip ready sign_len front scan scan_end ahead_of last_of same_kind one_within the_line numeral either limited times elements repeated names_failure an_int a_node a_cell placed a_failed a_claimant a_busy a_mark a_turn all_turns the_turns
+unfolding skip ready sign_len front scan scan_end ahead_of last_of same_kind one_within the_line numeral either limited times elements repeated names_failure an_int a_node a_cell placed_mark a_failed a_claimant a_busy a_mark a_turn all_turn_lines the_turns
 returns-clause-read c = record {
   nothing = told _ _ refl;
   marks = told _ _ refl;

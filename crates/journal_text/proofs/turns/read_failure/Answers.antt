@@ -7,8 +7,8 @@ use Rattle.text_tokens.specs.declared.refusal.RefusalKind.TheVariants.{Unexpecte
 use Rattle.text_tokens.specs.Text.{Lexeme}
 use Rattle.text_tokens.specs.Cursor.{Cursor, FirstIs, is_kind, token_of, expect_by, slice}
 use Rattle.text_tokens.specs.Reading.{no_limit, the_line}
-use Rattle.text_tokens.proofs.Stepping.{stays_past}
-use Rattle.text_tokens.proofs.Taking.{token_missed, token_taken}
+use Rattle.text_tokens.proofs.StepsLemmas.{stays_past}
+use Rattle.text_tokens.proofs.TakenTokens.{token_missed, token_taken}
 use Rattle.journal_text.specs.Turns.{names_failure, is_failure}
 use Rattle.journal_text.proofs.turns.read_failure.Goals as goal
 

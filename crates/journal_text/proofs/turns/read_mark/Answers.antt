@@ -3,9 +3,9 @@ use Rattle.std.specs.Prelude.{codes}
 use Rattle.text_tokens.specs.Cursor.{Cursor, next_passes}
 use Rattle.text_tokens.specs.Reading.{Reader, either}
 use Rattle.text_tokens.proofs.Rows.{Left, all_left, first_left, second_left, gives_left}
-use Rattle.journal_text.specs.Parts.{word}
+use Rattle.node_text.specs.Parts.{word}
 use Rattle.journal_text.specs.Turns.{Nothing}
-use Rattle.journal_text.specs.Readers.{placed, a_failed, a_busy, a_mark}
+use Rattle.journal_text.specs.Readers.{placed_mark, a_failed, a_busy, a_mark}
 use Rattle.journal_text.proofs.turns.read_mark.Goals as goal
 
 -- the forms from each on
@@ -13,7 +13,7 @@ abbrev last2 : Reader Nothing
 last2 = either (word (codes "failed")) a_failed a_busy
 
 abbrev last3 : Reader Nothing
-last3 = either (word (codes "idle")) (placed (codes "idle")) last2
+last3 = either (word (codes "idle")) (placed_mark (codes "idle")) last2
 
 abbrev stands : List ℕ → Cursor → Bool
 stands text here = next_passes (word text) here.ahead
@@ -22,21 +22,21 @@ module _ (here : Cursor) where
   abbrev Begins : Reader Nothing → Type 0
   Begins p = Left a_mark here p here
 
-  at_done : stands (codes "done") here ≡ true → Begins (placed (codes "done"))
+  at_done : stands (codes "done") here ≡ true → Begins (placed_mark (codes "done"))
   unfolding a_mark
-  at_done e = first_left (word (codes "done")) (placed (codes "done")) last3 (all_left a_mark here) e
+  at_done e = first_left (word (codes "done")) (placed_mark (codes "done")) last3 (all_left a_mark here) e
 
   module _ (done : stands (codes "done") here ≡ false) where
     from_idle : Begins last3
     unfolding a_mark
-    from_idle = second_left (word (codes "done")) (placed (codes "done")) last3 (all_left a_mark here) done
+    from_idle = second_left (word (codes "done")) (placed_mark (codes "done")) last3 (all_left a_mark here) done
 
-    at_idle : stands (codes "idle") here ≡ true → Begins (placed (codes "idle"))
-    at_idle e = first_left (word (codes "idle")) (placed (codes "idle")) last2 from_idle e
+    at_idle : stands (codes "idle") here ≡ true → Begins (placed_mark (codes "idle"))
+    at_idle e = first_left (word (codes "idle")) (placed_mark (codes "idle")) last2 from_idle e
 
     module _ (idle : stands (codes "idle") here ≡ false) where
       from_failed : Begins last2
-      from_failed = second_left (word (codes "idle")) (placed (codes "idle")) last2 from_idle idle
+      from_failed = second_left (word (codes "idle")) (placed_mark (codes "idle")) last2 from_idle idle
 
       at_failed : stands (codes "failed") here ≡ true → Begins a_failed
       at_failed e = first_left (word (codes "failed")) a_failed a_busy from_failed e

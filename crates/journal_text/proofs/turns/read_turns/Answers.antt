@@ -1,4 +1,4 @@
-use Rattle.text_tokens.proofs.Settling.{tells_of, reads_of}
+use Rattle.text_tokens.proofs.ExactReaders.{tells_of, reads_of}
 use Rattle.journal_text.specs.Turns.{Nothing, IsTurns}
 use Rattle.journal_text.specs.Readers.{the_turns}
 use Rattle.journal_text.proofs.TurnLaws.{exact_turns}

@@ -1,6 +1,6 @@
 use Rattle.std.proofs.Common.{arith}
 use Rattle.model_ops.specs.Members.{changed_body}
-use Rattle.model_ops.proofs.Patching.{more_given}
+use Rattle.model_ops.proofs.PatchLemmas.{more_given}
 use Rattle.model_ops.proofs.changes.push_bodies.Goals as goal
 
 pub loop-member-preserved : goal.loop-member-preserved

@@ -3,7 +3,7 @@ use Rattle.std.proofs.lemmas.List.{length_push}
 use Rattle.amoebot_state.specs.declared.bot.Bot.{Bot}
 use Rattle.rand_pcg.specs.Lcg.{Lcg}
 use Rattle.run_sample.specs.Sample.{Placed, none}
-use Rattle.run_sample.proofs.Coming.{one_more}
+use Rattle.run_sample.proofs.NextBotLemmas.{one_more}
 use Rattle.run_sample.proofs.amoebots.amoebots.Goals as goal
 
 pub loop-id-init : goal.loop-id-init

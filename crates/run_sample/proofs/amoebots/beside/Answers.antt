@@ -1,4 +1,4 @@
-use Rattle.run_sample.proofs.Coming.{comes_beside}
+use Rattle.run_sample.proofs.NextBotLemmas.{comes_beside}
 use Rattle.run_sample.proofs.amoebots.beside.Goals as goal
 
 pub returns : goal.returns

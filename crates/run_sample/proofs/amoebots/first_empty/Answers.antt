@@ -2,7 +2,7 @@ use Rattle.std.proofs.Common.{◌<◌, ap, sym, ◌∙◌, subst}
 use Rattle.tri_lattice.specs.declared.node.Node.{Node}
 use Rattle.tri_lattice.specs.Lattice.{step, IsNear}
 use Rattle.run_sample.specs.Sample.{node_of}
-use Rattle.run_sample.proofs.Moving.{beyond, count, nearer}
+use Rattle.run_sample.proofs.DirectionLemmas.{beyond, count, nearer}
 use Rattle.run_sample.proofs.Near.{near_inside, bot_is_near, head_at, first_reached, next_reached, last_reached}
 use Rattle.run_sample.proofs.amoebots.first_empty.Goals as goal
 

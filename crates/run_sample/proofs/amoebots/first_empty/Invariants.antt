@@ -1,5 +1,5 @@
 use Rattle.run_sample.specs.Sample.{node_of}
-use Rattle.run_sample.proofs.Moving.{beyond, count}
+use Rattle.run_sample.proofs.DirectionLemmas.{beyond, count}
 use Rattle.run_sample.proofs.Near.{IsReached}
 use Rattle.run_sample.proofs.amoebots.first_empty.Given as goal
 

@@ -1,5 +1,5 @@
 use Rattle.std.proofs.Common.{arith}
-use Rattle.run_sample.proofs.Coming.{comes_in_square}
+use Rattle.run_sample.proofs.NextBotLemmas.{comes_in_square}
 use Rattle.run_sample.proofs.Laid.{laid, inside}
 use Rattle.run_sample.proofs.amoebots.next.Goals as goal
 

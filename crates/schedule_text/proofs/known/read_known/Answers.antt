@@ -4,9 +4,9 @@ use Rattle.std.proofs.lemmas.Bool.{lt-ltb, le-ltb}
 use Rattle.std.proofs.lemmas.Result.{err_from_is_err_and}
 use Rattle.text_tokens.specs.declared.refusal.RefusalKind.TheVariants.{TooMany, BadId}
 use Rattle.text_tokens.specs.Text.{Lexeme}
-use Rattle.text_tokens.specs.Reading.{value}
+use Rattle.text_tokens.specs.Reading.{lexeme_value}
 use Rattle.text_tokens.specs.Steps.{lexeme_of}
-use Rattle.text_tokens.proofs.Taking.{number_missed, number_past, value_is, number_taken}
+use Rattle.text_tokens.proofs.TakenTokens.{number_missed, number_past, value_is, number_taken}
 use Rattle.schedule_text.specs.Known.{past_known}
 use Rattle.schedule_text.proofs.known.read_known.Goals as goal
 
@@ -18,11 +18,11 @@ module _ (most known before : ℕ) (t : Lexeme) where
     has_room : nat_lt before most ≡ true
     has_room = lt-ltb _ _ room
 
-    is_unknown : known ≤ value t → past_known most known before t ≡ Some BadId
-    is_unknown le = let b : nat_lt (value t) known ≡ false = le-ltb _ _ le in rw (has_room, b) refl
+    is_unknown : known ≤ lexeme_value t → past_known most known before t ≡ Some BadId
+    is_unknown le = let b : nat_lt (lexeme_value t) known ≡ false = le-ltb _ _ le in rw (has_room, b) refl
 
-    is_known : value t < known → past_known most known before t ≡ None
-    is_known lt = let b : nat_lt (value t) known ≡ true = lt-ltb _ _ lt in rw (has_room, b) refl
+    is_known : lexeme_value t < known → past_known most known before t ≡ None
+    is_known lt = let b : nat_lt (lexeme_value t) known ≡ true = lt-ltb _ _ lt in rw (has_room, b) refl
 
 pub returns-in_err-token-clause-reads : goal.returns-in_err-token-clause-reads
 returns-in_err-token-clause-reads c =

@@ -2,8 +2,8 @@ use Rattle.std.proofs.Common.{ℕ, refl}
 use Rattle.text_tokens.specs.Scan.{skip, ready, sign_len, front, scan, scan_end, ahead_of, last_of}
 use Rattle.text_tokens.specs.Cursor.{same_kind}
 use Rattle.text_tokens.specs.Reading.{one_within, the_line, numeral, either, elements, repeated}
-use Rattle.text_tokens.proofs.Obeying.{exact_law}
-use Rattle.journal_text.proofs.Saying.{IsSaid, says}
+use Rattle.text_tokens.proofs.CombinatorLemmas.{exact_law}
+use Rattle.text_tokens.proofs.SaysLemmas.{IsSaid, says}
 use Rattle.schedule_text.specs.Lists.{IdsFrom, ListsFrom, IsLists}
 use Rattle.schedule_text.specs.Readers.{an_id, ids_from, all_ids, list_word, a_list, lists_from, all_lists, some_turns, the_lists}
 use Rattle.schedule_text.proofs.ListLaws.{part_lists, exact_lists, exact_ids_from, exact_lists_from}

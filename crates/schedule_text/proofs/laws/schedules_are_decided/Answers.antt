@@ -2,8 +2,8 @@ use Rattle.std.proofs.Common.{ℕ, refl}
 use Rattle.text_tokens.specs.Scan.{skip, ready, sign_len, front, scan, scan_end, ahead_of, last_of}
 use Rattle.text_tokens.specs.Cursor.{same_kind}
 use Rattle.text_tokens.specs.Reading.{one_within, the_line, numeral, either, elements, repeated}
-use Rattle.text_tokens.proofs.Obeying.{exact_law}
-use Rattle.journal_text.proofs.Saying.{IsSaid, says}
+use Rattle.text_tokens.proofs.CombinatorLemmas.{exact_law}
+use Rattle.text_tokens.proofs.SaysLemmas.{IsSaid, says}
 use Rattle.schedule_text.specs.Schedules.{StretchesFrom, IsSchedule}
 use Rattle.schedule_text.specs.Readers.{a_caller, number_of_times, its_times, any_times, a_stretch, stretches_from, all_steps, a_schedule}
 use Rattle.schedule_text.proofs.ScheduleLaws.{part_schedule, exact_schedule, exact_stretches_from}

@@ -4,10 +4,10 @@ use Rattle.std.proofs.lemmas.List.Elements.{All-push}
 use Rattle.std.proofs.lemmas.Result.{err_from_is_err_and}
 use Rattle.std.proofs.lemmas.List.{length-append}
 use Rattle.text_tokens.specs.Reading.{pure, repeated}
-use Rattle.text_tokens.proofs.Stepping.{fails, on_made}
-use Rattle.text_tokens.proofs.Looping.{StillReads, loop_begins, loop_goes_on, loop_is_over, loop_fails}
+use Rattle.text_tokens.proofs.StepsLemmas.{fails, on_made}
+use Rattle.text_tokens.proofs.LoopLemmas.{StillReads, loop_begins, loop_goes_on, loop_is_over, loop_fails}
 use Rattle.claim_core.specs.Turns.{CallerLists, AreFew}
-use Rattle.journal_text.specs.Parts.{is_end, one_more}
+use Rattle.node_text.specs.Parts.{is_end, one_more}
 use Rattle.schedule_text.specs.Lists.{is_list, lists_of, IsCallerList}
 use Rattle.schedule_text.specs.Readers.{a_list, lists_from, all_lists}
 use Rattle.schedule_text.proofs.ListLaws.{no_number, list_elements}

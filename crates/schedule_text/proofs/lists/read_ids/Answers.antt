@@ -4,10 +4,10 @@ use Rattle.std.proofs.lemmas.List.Elements.{All-push}
 use Rattle.std.proofs.lemmas.Result.{err_from_is_err_and}
 use Rattle.text_tokens.specs.Reading.{◌>>=◌, pure, is_number, repeated}
 use Rattle.text_tokens.specs.Lawful.{always}
-use Rattle.text_tokens.proofs.Stepping.{fails}
-use Rattle.text_tokens.proofs.Looping.{StillReads, loop_chains, loop_goes_on, loop_is_over, loop_fails}
+use Rattle.text_tokens.proofs.StepsLemmas.{fails}
+use Rattle.text_tokens.proofs.LoopLemmas.{StillReads, loop_chains, loop_goes_on, loop_is_over, loop_fails}
 use Rattle.claim_core.specs.Limits.{most_ids}
-use Rattle.journal_text.specs.Parts.{one_more}
+use Rattle.node_text.specs.Parts.{one_more}
 use Rattle.schedule_text.specs.Lists.{IsId}
 use Rattle.schedule_text.specs.Readers.{an_id, ids_from, all_ids}
 use Rattle.schedule_text.proofs.ListLaws.{no_number, id_elements}

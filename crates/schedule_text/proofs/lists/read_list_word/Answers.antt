@@ -5,7 +5,7 @@ use Rattle.std.proofs.lemmas.Result.{err_from_is_err_and}
 use Rattle.text_tokens.specs.declared.refusal.RefusalKind.TheVariants.{TooMany}
 use Rattle.text_tokens.specs.Text.{Lexeme}
 use Rattle.text_tokens.specs.Steps.{lexeme_of}
-use Rattle.text_tokens.proofs.Taking.{token_missed, token_past, token_taken}
+use Rattle.text_tokens.proofs.TakenTokens.{token_missed, token_past, token_taken}
 use Rattle.claim_core.specs.Limits.{most_callers, most_turns}
 use Rattle.schedule_text.specs.Lists.{is_list, past_lists}
 use Rattle.schedule_text.specs.Readers.{list_word}

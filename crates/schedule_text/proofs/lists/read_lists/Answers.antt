@@ -1,4 +1,4 @@
-use Rattle.text_tokens.proofs.Settling.{tells_of, reads_of}
+use Rattle.text_tokens.proofs.ExactReaders.{tells_of, reads_of}
 use Rattle.claim_core.specs.Turns.{CallerLists}
 use Rattle.schedule_text.specs.Lists.{IsLists}
 use Rattle.schedule_text.specs.Readers.{the_lists}

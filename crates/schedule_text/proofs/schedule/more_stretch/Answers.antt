@@ -1,7 +1,7 @@
 use Rattle.std.proofs.Common.{◌∙◌, sym}
 use Rattle.std.proofs.lemmas.Result.{err_from_is_err_and}
 use Rattle.text_tokens.specs.Reading.{is_number}
-use Rattle.text_tokens.proofs.Stepping.{another_none, another_some, another_fails}
+use Rattle.text_tokens.proofs.StepsLemmas.{another_none, another_some, another_fails}
 use Rattle.schedule_text.specs.Views as view
 use Rattle.schedule_text.specs.Readers.{a_stretch}
 use Rattle.schedule_text.proofs.schedule.more_stretch.Goals as goal

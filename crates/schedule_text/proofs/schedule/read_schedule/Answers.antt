@@ -1,4 +1,4 @@
-use Rattle.text_tokens.proofs.Settling.{tells_of, reads_of}
+use Rattle.text_tokens.proofs.ExactReaders.{tells_of, reads_of}
 use Rattle.std.proofs.Common.{ℕ, List}
 use Rattle.schedule_text.specs.Schedules.{IsSchedule}
 use Rattle.schedule_text.specs.Readers.{a_schedule}

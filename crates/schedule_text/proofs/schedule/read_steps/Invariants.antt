@@ -1,7 +1,7 @@
 use Rattle.std.proofs.Common.{◌≡◌, ◌≤◌, ◌<◌, ◌-◌, List, length}
 use Rattle.std.specs.List.{All}
 use Rattle.text_tokens.specs.Reading.{is_number, repeated}
-use Rattle.text_tokens.proofs.Looping.{StillReads}
+use Rattle.text_tokens.proofs.LoopLemmas.{StillReads}
 use Rattle.schedule_text.specs.Schedules.{Stretch, most_steps, more_steps, steps_of}
 use Rattle.schedule_text.specs.Readers.{a_stretch, stretches_from}
 use Rattle.schedule_text.proofs.schedule.read_steps.Given as goal

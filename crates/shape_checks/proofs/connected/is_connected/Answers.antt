@@ -1,7 +1,7 @@
 use Rattle.std.proofs.Common.{sym}
 use Rattle.amoebot_state.specs.Occupied.{occupied}
 use Rattle.shape_checks.proofs.Bots.{head_occupied}
-use Rattle.shape_checks.proofs.Reaching.{marks_decide}
+use Rattle.shape_checks.proofs.ReachLemmas.{marks_decide}
 use Rattle.shape_checks.proofs.connected.is_connected.Goals as goal
 
 pub returns : goal.returns

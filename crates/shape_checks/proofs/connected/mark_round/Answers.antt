@@ -7,8 +7,8 @@ use Rattle.tri_lattice.specs.Lattice.{IsNear}
 use Rattle.tri_lattice.proofs.Boxes.{near_in}
 use Rattle.shape_checks.specs.Marks.{met}
 use Rattle.shape_checks.proofs.Bots.{occupied_in}
-use Rattle.shape_checks.proofs.Marking.{marked_in}
-use Rattle.shape_checks.proofs.Rounds.{round_none, round_made, round_left, round_all, next_is}
+use Rattle.shape_checks.proofs.MarksLemmas.{marked_in}
+use Rattle.shape_checks.proofs.NeighbourLoops.{round_none, round_made, round_left, round_all, next_is}
 use Rattle.shape_checks.proofs.connected.mark_round.Goals as goal
 use Rattle.shape_checks.proofs.connected.mark_round.Goals.{then-is_some+in_ok-mark, else-is_some}
 

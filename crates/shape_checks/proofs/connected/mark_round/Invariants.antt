@@ -1,5 +1,5 @@
 use Rattle.amoebot_state.specs.Occupied.{occupied}
-use Rattle.shape_checks.proofs.Rounds.{IsRound}
+use Rattle.shape_checks.proofs.NeighbourLoops.{IsRound}
 use Rattle.shape_checks.proofs.connected.mark_round.Given as goal
 
 abbrev pub invariant-loop-next : goal.invariant-loop-next

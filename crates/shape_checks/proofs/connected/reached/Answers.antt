@@ -2,7 +2,7 @@ use Rattle.std.proofs.Common.{◌≡◌, ◌*◌, ap, sym, ◌∙◌, subst, ari
 use Rattle.std.specs.Prelude.{IsTrue}
 use Rattle.tri_lattice.specs.Extent.{Extent, is_in}
 use Rattle.shape_checks.proofs.Bots.{occupied_in}
-use Rattle.shape_checks.proofs.Reaching.{search_begins, search_ends}
+use Rattle.shape_checks.proofs.ReachLemmas.{search_begins, search_ends}
 use Rattle.shape_checks.proofs.connected.reached.Goals as goal
 
 pub mark-requires-clause-inside : goal.mark-requires-clause-inside

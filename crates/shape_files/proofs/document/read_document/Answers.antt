@@ -1,16 +1,16 @@
 use Rattle.std.proofs.Common.{Ok, Err}
 use Rattle.std.proofs.lemmas.Result.{err_from_is_err_and}
 use Rattle.text_tokens.specs.declared.refusal.ReadRefusal.TheVariants.{Refused}
-use Rattle.text_tokens.proofs.Stepping.{on, fails, gives_as}
-use Rattle.document_grammar.specs.Frame.{IsHeader, course_of}
-use Rattle.document_grammar.specs.FrameReaders.{header, rest, in_frame}
-use Rattle.document_grammar.specs.Documents.{Contents, nothing_yet}
-use Rattle.document_grammar.specs.DocumentReaders.{body, document}
+use Rattle.text_tokens.proofs.StepsLemmas.{on, fails, gives_as}
+use Rattle.shape_files.specs.Frame.{IsHeader, course_of}
+use Rattle.shape_files.specs.FrameReaders.{header, rest, in_frame}
+use Rattle.shape_files.specs.Documents.{Contents, nothing_yet}
+use Rattle.shape_files.specs.DocumentReaders.{body, document}
 use Rattle.shape_files.specs.Views.{contents}
 use Rattle.shape_files.specs.Straight.{straight}
-use Rattle.shape_files.proofs.Heading.{exact_header}
-use Rattle.shape_files.proofs.Giving.{gives_of}
-use Rattle.shape_files.proofs.Forming.{form_next}
+use Rattle.shape_files.proofs.HeaderLemmas.{exact_header}
+use Rattle.shape_files.proofs.ReaderLemmas.{gives_of}
+use Rattle.shape_files.proofs.StraightLemmas.{form_next}
 use Rattle.shape_files.proofs.document.read_document.Goals as goal
 
 pub returns-in_err-read_head : goal.returns-in_err-read_head

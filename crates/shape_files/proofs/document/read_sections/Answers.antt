@@ -2,10 +2,10 @@ use Rattle.std.proofs.Common.{◌∙◌, Ok, Err, sym}
 use Rattle.std.proofs.lemmas.Result.{err_from_is_err_and}
 use Rattle.text_tokens.specs.declared.refusal.RefusalKind.TheVariants.{Trailing}
 use Rattle.text_tokens.specs.declared.refusal.ReadRefusal.TheVariants.{Refused}
-use Rattle.text_tokens.proofs.Settling.{tells_of, input_ends, input_fails, reads_input}
-use Rattle.document_grammar.specs.Documents.{Contents, IsDocument}
-use Rattle.document_grammar.specs.DocumentReaders.{document}
-use Rattle.document_grammar.proofs.Deciding.{document_framed}
+use Rattle.text_tokens.proofs.ExactReaders.{tells_of, input_ends, input_fails, reads_input}
+use Rattle.shape_files.specs.Documents.{Contents, IsDocument}
+use Rattle.shape_files.specs.DocumentReaders.{document}
+use Rattle.shape_files.proofs.DocumentsLemmas.{document_framed}
 use Rattle.shape_files.specs.Views.{contents}
 use Rattle.shape_files.proofs.document.read_sections.Goals as goal
 

@@ -1,10 +1,10 @@
 use Rattle.std.proofs.Common.{Err, sym, ap, ◌∙◌}
 use Rattle.text_tokens.specs.declared.refusal.Refusal.{Refusal}
-use Rattle.text_tokens.proofs.Stepping.{stays, gives_as}
-use Rattle.document_grammar.specs.DocumentReaders.{body}
+use Rattle.text_tokens.proofs.StepsLemmas.{stays, gives_as}
+use Rattle.shape_files.specs.DocumentReaders.{body}
 use Rattle.shape_files.specs.Views.{contents}
-use Rattle.shape_files.specs.Straight.{needed}
-use Rattle.shape_files.proofs.Forming.{needed_comes, needed_missing}
+use Rattle.shape_files.specs.Straight.{needed_section}
+use Rattle.shape_files.proofs.StraightLemmas.{needed_comes, needed_missing}
 use Rattle.shape_files.proofs.forms.need.Goals as goal
 
 pub returns-then-not-is_next : goal.returns-then-not-is_next
@@ -16,4 +16,4 @@ returns-then-not-is_next c =
 pub returns : goal.returns
 returns c =
     let s = contents c.args.parts.now in
-    gives_as _ (needed c.args.section s) (body c.args.section s) c.args.tokens.now c.read_section.new.tokens c.read_section.result (needed_comes c.args.section s c.args.tokens.now.last c.args.tokens.now.ahead (sym c.is_next.ensures ∙ c.if-not-is_next.false)) c.read_section.ensures
+    gives_as _ (needed_section c.args.section s) (body c.args.section s) c.args.tokens.now c.read_section.new.tokens c.read_section.result (needed_comes c.args.section s c.args.tokens.now.last c.args.tokens.now.ahead (sym c.is_next.ensures ∙ c.if-not-is_next.false)) c.read_section.ensures

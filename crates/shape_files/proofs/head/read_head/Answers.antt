@@ -1,8 +1,8 @@
-use Rattle.text_tokens.proofs.Settling.{tells_of, reads_of}
-use Rattle.document_grammar.specs.Frame.{IsHeader}
-use Rattle.document_grammar.specs.FrameReaders.{header}
+use Rattle.text_tokens.proofs.ExactReaders.{tells_of, reads_of}
+use Rattle.shape_files.specs.Frame.{IsHeader}
+use Rattle.shape_files.specs.FrameReaders.{header}
 use Rattle.shape_files.specs.Views.{as_read}
-use Rattle.shape_files.proofs.Heading.{exact_header}
+use Rattle.shape_files.proofs.HeaderLemmas.{exact_header}
 use Rattle.shape_files.proofs.head.read_head.Goals as goal
 
 pub returns-clause-tells : goal.returns-clause-tells

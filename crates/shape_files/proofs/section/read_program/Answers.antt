@@ -6,17 +6,17 @@ use Rattle.text_tokens.specs.declared.refusal.ReadRefusal.TheVariants.{Refused, 
 use Rattle.text_tokens.specs.Cursor.{Cursor}
 use Rattle.text_tokens.specs.Reading.{judge}
 use Rattle.text_tokens.specs.Steps.{Gives}
-use Rattle.text_tokens.proofs.Stepping.{Reached, fails, judged_wrong, judged_fine}
+use Rattle.text_tokens.proofs.StepsLemmas.{Reached, fails, judged_wrong, judged_fine}
 use Rattle.action_tree.specs.Trees as tree
-use Rattle.action_grammar.specs.Programs.{IsProgram}
-use Rattle.action_grammar.specs.ProgramReaders.{a_program}
-use Rattle.action_grammar.proofs.ProgramLaws.{exact_program}
+use Rattle.action_tree.specs.Programs.{IsProgram}
+use Rattle.action_tree.specs.ProgramReaders.{a_program}
+use Rattle.action_tree.proofs.ProgramLaws.{exact_program}
 use Rattle.action_check.specs.Faults.{faults, AreRulesKept}
 use Rattle.action_check.specs.Told.{TellsFirst}
-use Rattle.document_grammar.specs.DocumentReaders.{a_checked_program}
-use Rattle.document_grammar.proofs.Sectioning.{wrong}
-use Rattle.shape_files.proofs.Giving.{gives_of}
-use Rattle.shape_files.proofs.Checking.{none_first, some_first}
+use Rattle.shape_files.specs.DocumentReaders.{a_checked_program}
+use Rattle.shape_files.proofs.SectionLemmas.{wrong}
+use Rattle.shape_files.proofs.ReaderLemmas.{gives_of}
+use Rattle.shape_files.proofs.CheckedLemmas.{none_first, some_first}
 use Rattle.shape_files.proofs.section.read_program.Goals as goal
 
 abbrev itself : tree.Program → tree.Program

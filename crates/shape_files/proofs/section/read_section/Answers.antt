@@ -1,7 +1,7 @@
 use Rattle.std.proofs.Common.{ℕ, List, Some}
 use Rattle.std.proofs.lemmas.Result.{err_from_is_err_and}
 use Rattle.text_tokens.specs.Reading.{◌>>=◌, pure}
-use Rattle.text_tokens.proofs.Stepping.{Reached, Failed, fails, on_made}
+use Rattle.text_tokens.proofs.StepsLemmas.{Reached, Failed, fails, on_made}
 use Rattle.amoebot_state.specs.declared.verdict.Entry.{Entry}
 use Rattle.amoebot_state.specs.Configs.{Config}
 use Rattle.claim_core.specs.Turns.{CallerLists}
@@ -18,9 +18,9 @@ use Rattle.schedule_text.specs.Schedules.{IsSchedule}
 use Rattle.schedule_text.specs.Readers.{the_lists, a_schedule}
 use Rattle.schedule_text.proofs.ListLaws.{exact_lists}
 use Rattle.schedule_text.proofs.ScheduleLaws.{exact_schedule}
-use Rattle.document_grammar.specs.DocumentReaders.{a_checked_program, body}
+use Rattle.shape_files.specs.DocumentReaders.{a_checked_program, body}
 use Rattle.shape_files.specs.Views.{contents}
-use Rattle.shape_files.proofs.Giving.{kept, not_kept}
+use Rattle.shape_files.proofs.ReaderLemmas.{kept, not_kept}
 use Rattle.shape_files.proofs.section.read_section.Goals as goal
 
 pub returns-in_err-read_program-in-Program : goal.returns-in_err-read_program-in-Program

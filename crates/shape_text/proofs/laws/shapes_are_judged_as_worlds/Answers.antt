@@ -1,4 +1,4 @@
-use Rattle.shape_text.proofs.Judging.{judged_as_worlds}
+use Rattle.shape_text.proofs.JudgementsLemmas.{judged_as_worlds}
 use Rattle.shape_text.proofs.laws.shapes_are_judged_as_worlds.Goals as goal
 
 pub returns : goal.returns

@@ -1,6 +1,6 @@
 use Rattle.std.proofs.Common.{◌∙◌, sym}
 use Rattle.std.proofs.lemmas.Result.{err_from_is_err_and}
-use Rattle.text_tokens.proofs.Stepping.{another_none, another_some, another_fails}
+use Rattle.text_tokens.proofs.StepsLemmas.{another_none, another_some, another_fails}
 use Rattle.shape_text.specs.Shapes.{is_bot}
 use Rattle.shape_text.specs.Readers.{a_bot_line}
 use Rattle.shape_text.specs.Views as view
@@ -15,4 +15,4 @@ returns-in_err-read_bot_line-clause-reads c =
     rw (p.1, p.2) (another_fails is_bot (a_bot_line c.args.vars c.args.before) c.args.tokens.now (sym c.is_next.ensures ∙ c.if-not-is_next.false) c.in_err-read_bot_line.field-0.0 c.read_bot_line.new.tokens c.in_err-read_bot_line.ensures.reads)
 
 pub returns-clause-reads : goal.returns-clause-reads
-returns-clause-reads c = another_some is_bot (a_bot_line c.args.vars c.args.before) c.args.tokens.now (sym c.is_next.ensures ∙ c.if-not-is_next.false) (view.bot c.in_ok-read_bot_line.field-0) c.read_bot_line.new.tokens c.in_ok-read_bot_line.ensures.reads
+returns-clause-reads c = another_some is_bot (a_bot_line c.args.vars c.args.before) c.args.tokens.now (sym c.is_next.ensures ∙ c.if-not-is_next.false) (view.bot_view c.in_ok-read_bot_line.field-0) c.read_bot_line.new.tokens c.in_ok-read_bot_line.ensures.reads

@@ -7,9 +7,9 @@ use Rattle.text_tokens.specs.declared.refusal.ReadRefusal.{ReadRefusal}
 use Rattle.text_tokens.specs.Cursor.{Cursor}
 use Rattle.text_tokens.specs.Reading.{Reader, ◌>>=◌, pure}
 use Rattle.text_tokens.specs.Steps.{Gives}
-use Rattle.text_tokens.proofs.Stepping.{Reached}
+use Rattle.text_tokens.proofs.StepsLemmas.{Reached}
 use Rattle.tri_lattice.specs.Extent.{Extent, IsArea}
-use Rattle.journal_text.specs.Readers.{a_word, an_int}
+use Rattle.node_text.specs.PartReaders.{a_word, an_int}
 use Rattle.shape_text.specs.Readers.{a_side, an_area}
 use Rattle.shape_text.specs.Shapes.{an_area_of}
 use Rattle.text_tokens.proofs.Rows.{all_left, past_part}

@@ -1,4 +1,4 @@
-use Rattle.text_tokens.proofs.Settling.{tells_of, reads_of}
+use Rattle.text_tokens.proofs.ExactReaders.{tells_of, reads_of}
 use Rattle.amoebot_state.specs.Configs.{Config}
 use Rattle.shape_text.specs.Shapes.{IsShape}
 use Rattle.shape_text.specs.Readers.{a_shape}

@@ -1,4 +1,4 @@
-use Rattle.text_tokens.proofs.Obeying as obeying
+use Rattle.text_tokens.proofs.CombinatorLemmas as obeying
 use Rattle.text_tokens.proofs.combinators.chaining.Goals as goal
 
 pub returns : goal.returns

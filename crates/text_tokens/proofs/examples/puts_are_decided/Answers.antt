@@ -5,9 +5,9 @@ use Rattle.text_tokens.specs.Text.{Lexeme}
 use Rattle.text_tokens.specs.Cursor.{same_kind, on_line}
 use Rattle.text_tokens.specs.Reading.{Answer, one_within, the_line, numeral, either, by_role, limited, elements, repeated}
 use Rattle.text_tokens.specs.Lawful.{Tells}
-use Rattle.text_tokens.specs.Puts.{Put, a_part, a_put, IsPut, a_name, a_minus, part_of, a_sum, assigned, put}
-use Rattle.text_tokens.specs.PutTexts.{name, digits, op, IsRead, IsPutFault, to_a, four}
-use Rattle.text_tokens.proofs.Obeying.{decided}
+use Rattle.text_tokens.specs.Puts.{Put, a_summand, a_put, IsPut, a_put_name, a_put_minus, summand_of, a_put_sum, assigned, put}
+use Rattle.text_tokens.specs.PutTexts.{name_token, digits, op, IsPutText, IsPutFault, to_a, four}
+use Rattle.text_tokens.proofs.CombinatorLemmas.{decided}
 use Rattle.text_tokens.proofs.PutLaws.{exact_put}
 use Rattle.text_tokens.proofs.examples.puts_are_decided.Goals as goal
 
@@ -20,40 +20,40 @@ returns-clause-decided c = decided IsPut put exact_put
 is_so : (ts : List Lexeme) (r : Answer Put) → put (on_line 20 Truncated) ts ≡ r → Tells IsPut (on_line 20 Truncated) ts r
 is_so ts r e = subst (λ (s : Answer Put). Tells IsPut (on_line 20 Truncated) ts s) e (exact_put.tells (on_line 20 Truncated) ts)
 
-own : IsRead (to_a (digits 3 (codes "1") ∷ op 4 (codes "-") ∷ digits 5 (codes "2") ∷ name 6 (codes "b") ∷ [])) (a_put None (codes "a") (a_part false 1 ∷ a_part true 2 ∷ [])) (name 6 (codes "b") ∷ [])
-unfolding same_kind one_within the_line numeral either by_role limited elements repeated a_name a_minus part_of a_sum assigned put
+own : IsPutText (to_a (digits 3 (codes "1") ∷ op 4 (codes "-") ∷ digits 5 (codes "2") ∷ name_token 6 (codes "b") ∷ [])) (a_put None (codes "a") (a_summand false 1 ∷ a_summand true 2 ∷ [])) (name_token 6 (codes "b") ∷ [])
+unfolding same_kind one_within the_line numeral either by_role limited elements repeated a_put_name a_put_minus summand_of a_put_sum assigned put
 own = is_so _ (Ok (_, _)) refl
 
-others : IsRead (name 1 (codes "a") ∷ op 2 (codes ".") ∷ name 3 (codes "b") ∷ op 4 (codes ":=") ∷ op 5 (codes "-") ∷ digits 6 (codes "1") ∷ []) (a_put (Some (codes "a")) (codes "b") (a_part true 1 ∷ [])) []
-unfolding same_kind one_within the_line numeral either by_role limited elements repeated a_name a_minus part_of a_sum assigned put
+others : IsPutText (name_token 1 (codes "a") ∷ op 2 (codes ".") ∷ name_token 3 (codes "b") ∷ op 4 (codes ":=") ∷ op 5 (codes "-") ∷ digits 6 (codes "1") ∷ []) (a_put (Some (codes "a")) (codes "b") (a_summand true 1 ∷ [])) []
+unfolding same_kind one_within the_line numeral either by_role limited elements repeated a_put_name a_put_minus summand_of a_put_sum assigned put
 others = is_so _ (Ok (_, _)) refl
 
-neither : IsPutFault (name 1 (codes "a") ∷ op 2 (codes ";") ∷ []) (on_line 2 Unexpected)
-unfolding same_kind one_within the_line numeral either by_role limited elements repeated a_name a_minus part_of a_sum assigned put
+neither : IsPutFault (name_token 1 (codes "a") ∷ op 2 (codes ";") ∷ []) (on_line 2 Unexpected)
+unfolding same_kind one_within the_line numeral either by_role limited elements repeated a_put_name a_put_minus summand_of a_put_sum assigned put
 neither = is_so _ (Err _) refl
 
-alone : IsPutFault (name 1 (codes "a") ∷ []) (on_line 20 Truncated)
-unfolding same_kind one_within the_line numeral either by_role limited elements repeated a_name a_minus part_of a_sum assigned put
+alone : IsPutFault (name_token 1 (codes "a") ∷ []) (on_line 20 Truncated)
+unfolding same_kind one_within the_line numeral either by_role limited elements repeated a_put_name a_put_minus summand_of a_put_sum assigned put
 alone = is_so _ (Err _) refl
 
-no_name : IsPutFault (name 1 (codes "a") ∷ op 2 (codes ".") ∷ op 3 (codes ":=") ∷ []) (on_line 3 Unexpected)
-unfolding same_kind one_within the_line numeral either by_role limited elements repeated a_name a_minus part_of a_sum assigned put
+no_name : IsPutFault (name_token 1 (codes "a") ∷ op 2 (codes ".") ∷ op 3 (codes ":=") ∷ []) (on_line 3 Unexpected)
+unfolding same_kind one_within the_line numeral either by_role limited elements repeated a_put_name a_put_minus summand_of a_put_sum assigned put
 no_name = is_so _ (Err _) refl
 
 no_number : IsPutFault (to_a (digits 3 (codes "1") ∷ op 4 (codes "+") ∷ op 5 (codes "-") ∷ [])) (on_line 5 Unexpected)
-unfolding same_kind one_within the_line numeral either by_role limited elements repeated a_name a_minus part_of a_sum assigned put
+unfolding same_kind one_within the_line numeral either by_role limited elements repeated a_put_name a_put_minus summand_of a_put_sum assigned put
 no_number = is_so _ (Err _) refl
 
 no_more : IsPutFault (to_a (digits 3 (codes "1") ∷ op 4 (codes "+") ∷ [])) (on_line 20 Truncated)
-unfolding same_kind one_within the_line numeral either by_role limited elements repeated a_name a_minus part_of a_sum assigned put
+unfolding same_kind one_within the_line numeral either by_role limited elements repeated a_put_name a_put_minus summand_of a_put_sum assigned put
 no_more = is_so _ (Err _) refl
 
 fifth : IsPutFault (to_a (four (op 10 (codes "+") ∷ digits 11 (codes "5") ∷ []))) (on_line 11 TooMany)
-unfolding same_kind one_within the_line numeral either by_role limited elements repeated a_name a_minus part_of a_sum assigned put
+unfolding same_kind one_within the_line numeral either by_role limited elements repeated a_put_name a_put_minus summand_of a_put_sum assigned put
 fifth = is_so _ (Err _) refl
 
-no_fifth : IsPutFault (to_a (four (op 10 (codes "+") ∷ name 11 (codes "b") ∷ []))) (on_line 11 Unexpected)
-unfolding same_kind one_within the_line numeral either by_role limited elements repeated a_name a_minus part_of a_sum assigned put
+no_fifth : IsPutFault (to_a (four (op 10 (codes "+") ∷ name_token 11 (codes "b") ∷ []))) (on_line 11 Unexpected)
+unfolding same_kind one_within the_line numeral either by_role limited elements repeated a_put_name a_put_minus summand_of a_put_sum assigned put
 no_fifth = is_so _ (Err _) refl
 
 pub returns-clause-read : goal.returns-clause-read

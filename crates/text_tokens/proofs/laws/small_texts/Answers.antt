@@ -1,6 +1,6 @@
 use Rattle.std.proofs.Common.{refl}
 use Rattle.text_tokens.specs.Scan.{skip, ready, sign_len, front, scan, scan_end, ahead_of, last_of}
-use Rattle.text_tokens.proofs.Tokenizing.{computed}
+use Rattle.text_tokens.proofs.PromisesLemmas.{computed}
 use Rattle.text_tokens.proofs.laws.small_texts.Goals as goal
 
 pub returns : goal.returns

@@ -1,5 +1,5 @@
 use Rattle.std.proofs.Common.{refl}
-use Rattle.text_tokens.proofs.Tokenizing.{tokens_of_text}
+use Rattle.text_tokens.proofs.PromisesLemmas.{tokens_of_text}
 use Rattle.text_tokens.proofs.laws.tokens_are_cut.Goals as goal
 
 pub returns : goal.returns

@@ -3,8 +3,8 @@ use Rattle.std.proofs.lemmas.Result.{err_from_is_err_and}
 use Rattle.text_tokens.specs.declared.token.TokenKind.TheVariants.{Number}
 use Rattle.text_tokens.specs.Cursor.{Cursor, IsDigits}
 use Rattle.text_tokens.specs.Reading.{no_limit}
-use Rattle.text_tokens.proofs.Stepping.{is_number_of, kind_taken}
-use Rattle.text_tokens.proofs.Taking.{number_missed, value_is, number_taken}
+use Rattle.text_tokens.proofs.StepsLemmas.{is_number_of, kind_taken}
+use Rattle.text_tokens.proofs.TakenTokens.{number_missed, value_is, number_taken}
 use Rattle.text_tokens.proofs.terminals.number.Goals as goal
 
 pub returns-in_err-token-clause-reads : goal.returns-in_err-token-clause-reads

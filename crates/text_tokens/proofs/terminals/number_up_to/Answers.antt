@@ -2,8 +2,8 @@ use Rattle.std.proofs.Common.{sym, ◌∙◌}
 use Rattle.std.proofs.lemmas.Result.{err_from_is_err_and}
 use Rattle.text_tokens.specs.Reading.{too_large}
 use Rattle.text_tokens.specs.Steps.{lexeme_of}
-use Rattle.text_tokens.proofs.Stepping.{larger, not_larger}
-use Rattle.text_tokens.proofs.Taking.{number_missed, number_past, value_is, number_taken}
+use Rattle.text_tokens.proofs.StepsLemmas.{larger, not_larger}
+use Rattle.text_tokens.proofs.TakenTokens.{number_missed, number_past, value_is, number_taken}
 use Rattle.text_tokens.proofs.terminals.number_up_to.Goals as goal
 
 pub returns-in_err-token-clause-reads : goal.returns-in_err-token-clause-reads

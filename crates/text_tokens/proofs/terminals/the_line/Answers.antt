@@ -2,7 +2,7 @@ use Rattle.std.proofs.lemmas.Result.{err_from_is_err_and}
 use Rattle.text_tokens.specs.Cursor.{is_the}
 use Rattle.text_tokens.specs.Reading.{one, pure, the_line}
 use Rattle.text_tokens.specs.Steps.{lexeme_of}
-use Rattle.text_tokens.proofs.Stepping.{fails, on_made}
+use Rattle.text_tokens.proofs.StepsLemmas.{fails, on_made}
 use Rattle.text_tokens.proofs.terminals.the_line.Goals as goal
 
 pub returns-in_err-this_token : goal.returns-in_err-this_token

@@ -2,7 +2,7 @@ use Rattle.std.proofs.Common.{refl, sym, ◌∙◌}
 use Rattle.std.proofs.lemmas.Result.{err_from_is_err_and}
 use Rattle.text_tokens.specs.Cursor.{is_the}
 use Rattle.text_tokens.specs.Reading.{no_limit}
-use Rattle.text_tokens.proofs.Stepping.{took, missed}
+use Rattle.text_tokens.proofs.StepsLemmas.{took, missed}
 use Rattle.text_tokens.proofs.terminals.this_token.Goals as goal
 
 pub returns-in_err-take : goal.returns-in_err-take

@@ -2,7 +2,7 @@ use Rattle.std.proofs.Common.{◌≡◌, true, false, rules}
 use Rattle.std.proofs.lemmas.Iterator.{IsFirst-from_position, YieldsList-from_slice}
 use borrow.Author.Tests.{tests}
 use Rattle.text_tokens.specs.Text.{is_digit}
-use Rattle.text_tokens.proofs.Scanning.{run_is}
+use Rattle.text_tokens.proofs.ScanLemmas.{run_is}
 use Rattle.text_tokens.proofs.tokens.digits_len.Goals as goal
 
 pub returns : goal.returns

@@ -2,7 +2,7 @@ use Rattle.std.proofs.Common.{◌≡◌, ◌+◌, ℕ, length, arith, false, [],
 use Rattle.std.proofs.lemmas.List.{drop_all}
 use Rattle.text_tokens.specs.declared.tokens.Between.TheVariants.{LineFeed, Blank, Comment, Start}
 use Rattle.text_tokens.specs.Scan.{skip}
-use Rattle.text_tokens.proofs.Scanning.{skip_at, skip_end}
+use Rattle.text_tokens.proofs.ScanLemmas.{skip_at, skip_end}
 use Rattle.text_tokens.proofs.tokens.skip.Goals as goal
 use Rattle.text_tokens.proofs.tokens.skip.Goals.{in-LineFeed, in-Blank, in-Comment}
 

@@ -1,5 +1,5 @@
 use Rattle.std.proofs.Common.{sym, subst, ◌∙◌, ◌≤◌}
-use Rattle.turn_workers.proofs.Making.{one_made}
+use Rattle.turn_workers.proofs.WorkersLemmas.{one_made}
 use Rattle.turn_workers.proofs.workers.make_turn.Goals as goal
 
 -- src/workers.rt

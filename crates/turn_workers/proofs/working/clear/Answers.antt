@@ -1,6 +1,6 @@
 use Rattle.std.proofs.lemmas.List.{map-append}
 use Rattle.std.proofs.Common.{◌≡◌, ◌+◌, ◌∷◌, [], map, length, arith, ap, sym, ◌∙◌, subst, length-append}
-use Rattle.turn_workers.proofs.Gathering.{AreCleared, none_cleared, has_seat, is_of, is_given_out, one_cleared, all_cleared}
+use Rattle.turn_workers.proofs.DeskLemmas.{AreCleared, none_cleared, has_seat, is_of, is_given_out, one_cleared, all_cleared}
 use Rattle.turn_workers.proofs.working.clear.Goals.{in-Some-seat, in_default-seat}
 use Rattle.turn_workers.proofs.working.clear.Goals as goal
 

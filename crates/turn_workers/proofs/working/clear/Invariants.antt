@@ -1,5 +1,5 @@
 use Rattle.std.proofs.Common.{◌+◌, ◌≤◌, map, length, vec_capacity}
-use Rattle.turn_workers.proofs.Gathering.{AreCleared}
+use Rattle.turn_workers.proofs.DeskLemmas.{AreCleared}
 use Rattle.turn_workers.proofs.working.clear.Given as goal
 
 abbrev pub invariant-loop-seat : goal.invariant-loop-seat

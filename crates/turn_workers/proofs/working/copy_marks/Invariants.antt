@@ -1,4 +1,4 @@
-use Rattle.turn_workers.proofs.Gathering.{AreFilled}
+use Rattle.turn_workers.proofs.DeskLemmas.{AreFilled}
 use Rattle.turn_workers.proofs.working.copy_marks.Given as goal
 
 abbrev pub invariant-loop-own : goal.invariant-loop-own

@@ -1,5 +1,5 @@
 use Rattle.std.proofs.Common.{◌<◌, length, arith}
-use Rattle.turn_workers.proofs.Gathering.{one_more}
+use Rattle.turn_workers.proofs.DeskLemmas.{one_more}
 use Rattle.turn_workers.proofs.working.copy_own.Goals as goal
 
 -- src/working.rt

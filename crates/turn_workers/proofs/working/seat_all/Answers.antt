@@ -1,5 +1,5 @@
 use Rattle.std.proofs.Common.{◌<◌, ◌≤◌, ◌+◌, length, arith, ap, sym, ◌∙◌, subst, length-append}
-use Rattle.turn_workers.proofs.Gathering.{AreSeated, none_seated, one_seated, all_seated}
+use Rattle.turn_workers.proofs.DeskLemmas.{AreSeated, none_seated, one_seated, all_seated}
 use Rattle.turn_workers.proofs.working.seat_all.Goals as goal
 
 -- src/working.rt

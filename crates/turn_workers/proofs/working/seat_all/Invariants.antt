@@ -1,5 +1,5 @@
 use Rattle.std.proofs.Common.{◌≡◌, length}
-use Rattle.turn_workers.proofs.Gathering.{AreSeated}
+use Rattle.turn_workers.proofs.DeskLemmas.{AreSeated}
 use Rattle.turn_workers.proofs.working.seat_all.Given as goal
 
 abbrev pub invariant-loop-caller : goal.invariant-loop-caller

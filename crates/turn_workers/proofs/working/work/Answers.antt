@@ -5,14 +5,14 @@ use Rattle.claim_core.specs.Turns.{MarkLists, AreFew}
 use Rattle.claim_core.specs.Good.{Good}
 use Rattle.claim_core.specs.Reached.{Reached}
 use Rattle.claim_core.specs.Soundness.{IsSetup}
-use Rattle.claim_rule.specs.Views.{setup, terms_of}
+use Rattle.claim_rule.specs.Views.{setup_of_terms, field_terms}
 use Rattle.claim_rule.specs.declared.views.Terms.{Terms}
 use Rattle.claim_rule.specs.Seating.{SeatsOf}
 use Rattle.activation.specs.declared.turn.Turn.{Turn}
 use Rattle.turn_workers.specs.declared.workers.Desk.{Desk}
 use Rattle.turn_workers.specs.Turns.{AreTurnsOf, marks_in}
 use Rattle.turn_workers.specs.Workers.{AreClear, AreTaken, HaveMade, seat_at, turns_at}
-use Rattle.turn_workers.proofs.Ending.{first_have, are_taken, all_there, all_turns, are_turns, is_report, written, seats_count}
+use Rattle.turn_workers.proofs.WorkEnds.{first_have, are_taken, all_there, all_turns, are_turns, is_report, written, seats_count}
 use Rattle.turn_workers.proofs.working.work.Given.{Over}
 use Rattle.turn_workers.proofs.working.work.Goals.{After-make_all}
 use Rattle.turn_workers.proofs.working.work.Goals as goal
@@ -22,13 +22,13 @@ pub make_all-requires-clause-before : goal.make_all-requires-clause-before
 make_all-requires-clause-before g c κs within =
     let f = c.in_ok-field.field in
     let desks = c.in_ok-desks.desks.items in
-    let terms : f.terms ≡ terms_of c.args.decider.now c.args.world c.args.lists.now = c.in_ok-field.ensures.terms in
+    let terms : f.terms ≡ field_terms c.args.decider.now c.args.world c.args.lists.now = c.in_ok-field.ensures.terms in
     let turns_are : c.turns-2.result ≡ f.terms.lists.turns = c.turns-2.ensures ∙ ap (λ (z : Terms g.row.D.Denot). z.lists.turns) (sym terms) in
     let clear = subst (λ (p : ℕ × SeatsOf g.row.D.Denot). AreClear p.0 p.1.seats desks) (λ i. (turns_are i, c.in_ok-field.ensures.seats i)) c.in_ok-desks.ensures.desks in
     subst (HaveMade g.D.Decider.verdict f 0) (sym c.as_mut_slice.ensures.value) (first_have g.D.Decider.verdict f desks clear)
 
 -- once all turns are made: the terms of the field, and the desks, as many as callers, each as its last turn left it
-terms : (g : Over) (c : After-make_all g) → c.in_ok-field.field.terms ≡ terms_of c.args.decider.now c.args.world c.args.lists.now
+terms : (g : Over) (c : After-make_all g) → c.in_ok-field.field.terms ≡ field_terms c.args.decider.now c.args.world c.args.lists.now
 terms g c = c.in_ok-field.ensures.terms
 
 turns_are : (g : Over) (c : After-make_all g) → c.args.lists.now.turns ≡ c.in_ok-field.field.terms.lists.turns
@@ -52,11 +52,11 @@ kept : (g : Over) (c : After-make_all g) (turns : List (List Turn)) → turns �
 kept g c turns are = are ∙ ap (map turns_at) (whole g c)
 
 -- the field is closed, and what is left is a report
-report : (g : Over) (c : goal.After-copy_marks g) → Reached (setup g.D.Decider.verdict (terms_of c.args.decider.now c.args.world c.args.lists.now)) (record { world = c.close-world.result.0; journal = c.close-world.result.1; turns = c.copy_marks.new.marks })
+report : (g : Over) (c : goal.After-copy_marks g) → Reached (setup_of_terms g.D.Decider.verdict (field_terms c.args.decider.now c.args.world c.args.lists.now)) (record { world = c.close-world.result.0; journal = c.close-world.result.1; turns = c.copy_marks.new.marks })
     × Good (g.D.Decider.verdict c.args.decider.now) c.args.world c.args.lists.now (record { world = c.close-world.result.0; journal = c.close-world.result.1; turns = c.copy_marks.new.marks })
 report g c =
     let at = (goal.at.returns-clause-reached g c).After-make_all in
-    let run : IsSetup (setup g.D.Decider.verdict (terms_of c.args.decider.now c.args.world c.args.lists.now)) = record {
+    let run : IsSetup (setup_of_terms g.D.Decider.verdict (field_terms c.args.decider.now c.args.world c.args.lists.now)) = record {
       valid = c.keeps.ensures.valid;
       few = c.keeps.ensures.few;
       lists = c.callers.ensures.lists;
@@ -66,7 +66,7 @@ report g c =
     } in
     let seats : c.clear-turns.new.seats.seats ≡ map seat_at c.make_all.new.desks = ap (λ (s : SeatsOf g.row.D.Denot). s.seats) c.clear-turns.ensures.seats ∙ ap (map seat_at) (whole g at) in
     let told = c.copy_marks.ensures ∙ (λ i. record { turns = of_marks g at i; marks = map marks_in (kept g at c.clear-turns.result c.clear-turns.ensures.turns i) }) in
-    is_report g.D.Decider.verdict c.in_ok-field.field c.args.lists.now.turns (turns_are g at) c.make_all.new.desks c.make_all.ensures.after (terms_of c.args.decider.now c.args.world c.args.lists.now) (terms g at) c.ended_field_is_reached.ensures run (callers g at) c.clear-turns.new.seats.seats seats c.close-world.result.0 c.close-world.result.1 c.close-world.ensures c.copy_marks.new.marks told
+    is_report g.D.Decider.verdict c.in_ok-field.field c.args.lists.now.turns (turns_are g at) c.make_all.new.desks c.make_all.ensures.after (field_terms c.args.decider.now c.args.world c.args.lists.now) (terms g at) c.ended_field_is_reached.ensures run (callers g at) c.clear-turns.new.seats.seats seats c.close-world.result.0 c.close-world.result.1 c.close-world.ensures c.copy_marks.new.marks told
 
 pub clear-turns-requires-clause-taken : goal.clear-turns-requires-clause-taken
 clear-turns-requires-clause-taken g c κs within =

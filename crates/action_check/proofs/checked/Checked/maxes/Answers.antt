@@ -3,7 +3,7 @@ use Rattle.std.proofs.lemmas.List.{get_or-map, length-map}
 use Rattle.action_tree.specs.Writable.{is_writable}
 use Rattle.action_check.specs.Maxes.{maxes_of}
 use Rattle.action_check.specs.Rules.{ProgramKept}
-use Rattle.action_check.proofs.Filling.{filled, few_vars, small_max, all_filled}
+use Rattle.action_check.proofs.MaxesLemmas.{filled, few_vars, small_max, all_filled}
 use Rattle.action_check.proofs.checked.Checked.maxes.Goals as goal
 
 pub overflow_cast-maxes : goal.overflow_cast-maxes

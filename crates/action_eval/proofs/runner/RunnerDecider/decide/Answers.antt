@@ -3,7 +3,7 @@ use Rattle.std.specs.List.{list_all}
 use Rattle.action_tree.specs.Writable.{is_action}
 use Rattle.action_check.specs.Rules.{ProgramKept}
 use Rattle.action_meaning.specs.Verdicts.{verdict_shown}
-use Rattle.action_eval.proofs.Deciding.{actions_formed, all_kept, verdict_is}
+use Rattle.action_eval.proofs.ActionLoops.{actions_formed, all_kept, verdict_is}
 use Rattle.action_eval.proofs.runner.RunnerDecider.decide.Goals as goal
 
 pub actions_decide-requires-clause-kept : goal.actions_decide-requires-clause-kept

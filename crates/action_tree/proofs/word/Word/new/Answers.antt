@@ -1,5 +1,5 @@
 use Rattle.std.proofs.lemmas.Str.{IsUtf8-from_ascii}
-use Rattle.action_tree.proofs.Spelling.{word_is_ascii}
+use Rattle.action_tree.proofs.WordsLemmas.{word_is_ascii}
 use Rattle.action_tree.proofs.word.Word.new.Goals as goal
 
 pub unreachable-requires-in_default : goal.unreachable-requires-in_default

@@ -1,11 +1,11 @@
 use Rattle.std.proofs.Common.{refl, ◌≡◌, ℕ, ap, ◌∙◌, subst, arith, length}
 use Rattle.std.specs.Prelude.{slice_get}
 use Rattle.claim_core.specs.declared.state.Phase.TheVariants as phase
-use Rattle.claim_core.specs.Machine.{next, looked, refused}
+use Rattle.claim_core.specs.Machine.{next, mark_of_look, busy_mark}
 use Rattle.amoebot_state.specs.declared.verdict.Verdict.{Verdict}
 use Rattle.amoebot_state.specs.Zones.{Shown}
 use Rattle.claim_core.specs.Cores.{Running, stepped, HasPhase, IsUnmarked, looks_at, setup_of}
-use Rattle.claim_core.proofs.Stepping.{there_in, has_phase, refusing_unmarked, looking_unmarked, refusing_known, refusing_next, looking_next, ended_next, its_seat}
+use Rattle.claim_core.proofs.MachineLemmas.{there_in, has_phase, refusing_unmarked, looking_unmarked, refusing_known, refusing_next, looking_next, ended_next, its_seat}
 use Rattle.claim_core.proofs.machine.Core.act.Goals as goal
 
 ended : {D : Type 0} (verdict : D → Shown → Verdict) (c : ℕ) (r now : Running D) → r ≡ now → r.state ≡ next (setup_of verdict r) c r.state → now ≡ stepped verdict c now
@@ -39,7 +39,7 @@ pub settle-requires-clause-next : goal.settle-requires-clause-next
 settle-requires-clause-next g c =
     let seat = its_seat c.args.caller c.from.result c.index.result.now c.from.ensures (there_in c.self.invariant c.self.view_is refl c.requires) c.index.ensures in
     λ ks below. subst (λ r. next (setup_of g.D.Decider.verdict r) c.args.caller r.state ≡ looks_at (setup_of g.D.Decider.verdict r) c.args.caller r.state (slice_get r.state.callers c.args.caller) c.busy-mark.result) c.self.view_is
-    (refusing_next c.self.invariant seat c.in-Refusing.name c.in-Refusing.tag c.busy-mark.result c.in-Refusing.is (c.busy-mark.ensures ∙ ap (λ es. refused c.in-Refusing.name c.in-Refusing.tag (length es)) c.entries.ensures))
+    (refusing_next c.self.invariant seat c.in-Refusing.name c.in-Refusing.tag c.busy-mark.result c.in-Refusing.is (c.busy-mark.ensures ∙ ap (λ es. busy_mark c.in-Refusing.name c.in-Refusing.tag (length es)) c.entries.ensures))
 
 pub settle-requires-in-Looking-clause-unmarked : goal.settle-requires-in-Looking-clause-unmarked
 settle-requires-in-Looking-clause-unmarked g c =
@@ -50,7 +50,7 @@ pub settle-requires-in-Looking-clause-next : goal.settle-requires-in-Looking-cla
 settle-requires-in-Looking-clause-next g c =
     let seat = its_seat c.args.caller c.from.result c.index.result.now c.from.ensures (there_in c.self.invariant c.self.view_is refl c.requires) c.index.ensures in
     λ ks below. subst (λ r. next (setup_of g.D.Decider.verdict r) c.args.caller r.state ≡ looks_at (setup_of g.D.Decider.verdict r) c.args.caller r.state (slice_get r.state.callers c.args.caller) c.mark_of-mark.result) c.self.view_is
-    (looking_next c.self.invariant seat c.in-Looking.look c.mark_of-mark.result c.in-Looking.is (c.mark_of-mark.ensures ∙ ap (λ es. looked c.in-Looking.look (length es)) c.entries.ensures))
+    (looking_next c.self.invariant seat c.in-Looking.look c.mark_of-mark.result c.in-Looking.is (c.mark_of-mark.ensures ∙ ap (λ es. mark_of_look c.in-Looking.look (length es)) c.entries.ensures))
 
 pub take-requires-after_bounds : goal.take-requires-after_bounds
 take-requires-after_bounds g c =

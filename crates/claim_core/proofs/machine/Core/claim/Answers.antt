@@ -4,7 +4,7 @@ use Rattle.std.proofs.Math.ListN.{length-set}
 use Rattle.std.proofs.lemmas.Option.{none-some, same_Some}
 use Rattle.tri_lattice.specs.Extent.{Extent}
 use Rattle.amoebot_state.specs.Pairs.{Pairs, body_in}
-use Rattle.amoebot_state.specs.Refusals.{IsPlain}
+use Rattle.amoebot_state.specs.Refusals.{IsBotInRange}
 use Rattle.amoebot_state.specs.Known.{next_cell}
 use Rattle.amoebot_state.specs.Zones.{Shown, IsShown}
 use Rattle.claim_core.specs.declared.state.Phase.TheVariants as phase
@@ -12,7 +12,7 @@ use Rattle.claim_core.specs.Turns.{bot_of_turn}
 use Rattle.claim_core.specs.Tags.{tag}
 use Rattle.claim_core.specs.Cells.{number, held_by}
 use Rattle.claim_core.specs.Cores.{phase_after, state_of}
-use Rattle.claim_core.proofs.Stepping.{closes, kept, known as is_listed, claim_plain, claim_next, few_held, claim_number, claim_cell, claim_refused, claim_more_plain, claim_shown, claim_won, seat_in, inside_in, phase_in}
+use Rattle.claim_core.proofs.MachineLemmas.{closes, kept, known as is_listed, claim_plain, claim_next, few_held, claim_number, claim_cell, claim_refused, claim_more_plain, claim_shown, claim_won, seat_in, inside_in, phase_in}
 use Rattle.claim_core.proofs.machine.Core.claim.Goals as goal
 
 abbrev the_shown : Extent → List ℕ → ℕ → Pairs → Shown
@@ -30,7 +30,7 @@ pub next_cell-requires : goal.next_cell-requires
 next_cell-requires g c =
     let seat = seat_in c.self.invariant c.self.view_is refl c.args.caller phase.Claim c.requires c.from.result c.index_mut-seat.result.now c.from.ensures c.index_mut-seat.ensures.value in
     let plain = claim_plain c.self.invariant seat in
-    record { plain = subst (λ (z : Pairs × ℕ). IfSome (body_in z.0 z.1) IsPlain) (λ j. (sym c.as_slice.ensures.value j, sym c.bot-bot.ensures j)) plain }
+    record { plain = subst (λ (z : Pairs × ℕ). IfSome (body_in z.0 z.1) IsBotInRange) (λ j. (sym c.as_slice.ensures.value j, sym c.bot-bot.ensures j)) plain }
 
 pub unreachable-requires : goal.unreachable-requires
 unreachable-requires g c =
@@ -115,7 +115,7 @@ after_win-seat-requires-clause-plain g c =
     let at_n = ap (λ a. number a c.in-Some.name) (sym c.area-area.ensures) ∙ sym c.cell_number.ensures ∙ c.in-Some-cell_number.is in
     let cells : c.as_slice-2.result.now ≡ c.index_mut-seat.result.now.held.items ++ (c.in-Some.name, held_by c.self.inside.world c.in-Some.name) ∷ [] = c.as_slice-2.ensures.value ∙ c.push.ensures.items ∙ ap (λ x. c.index_mut-seat.result.now.held.items ++ (c.in-Some.name, x) ∷ []) c.value_of.ensures in
     let plain = claim_more_plain c.self.invariant seat ph c.in-Some.name nx c.in-Some-cell_number.number at_n c.index-found.result.now c.index-found.ensures c.if-found-ne0.false in
-    λ ks known. subst (λ (z : Pairs × ℕ). IfSome (body_in z.0 z.1) IsPlain) (λ j. (sym cells j, sym c.bot-bot.ensures j)) plain
+    λ ks known. subst (λ (z : Pairs × ℕ). IfSome (body_in z.0 z.1) IsBotInRange) (λ j. (sym cells j, sym c.bot-bot.ensures j)) plain
 
 pub after_win-seat-requires-clause-shown : goal.after_win-seat-requires-clause-shown
 after_win-seat-requires-clause-shown g c =

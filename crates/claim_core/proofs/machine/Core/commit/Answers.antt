@@ -13,7 +13,7 @@ use Rattle.claim_core.specs.Cores.{IsCell, Frees, unmarked}
 use Rattle.std.specs.List.{All}
 use Rattle.amoebot_state.specs.declared.cell.CellName.{CellName}
 use Rattle.amoebot_state.specs.declared.cell.Cell.{Cell}
-use Rattle.claim_core.proofs.Stepping.{turn_below, closes, kept, unmarked_count, room_after, there, committing_unmarked, committing_leads, committing_cells, committing_run, committed, seat_in, inside_in, phase_in}
+use Rattle.claim_core.proofs.MachineLemmas.{turn_below, closes, kept, unmarked_count, room_after, there, committing_unmarked, committing_leads, committing_cells, committing_run, committed, seat_in, inside_in, phase_in}
 use Rattle.claim_core.proofs.machine.Core.commit.Goals as goal
 
 refill_same : {A : Type 0} (xs ws : List A) → length ws ≡ length xs → refill (length xs) xs ws ≡ ws
@@ -25,7 +25,7 @@ index_mut-seat-requires g c = omega (arith, inside_in c.self.invariant c.self.vi
 pub bot-bot-requires : goal.bot-bot-requires
 bot-bot-requires g c =
     let seat = seat_in c.self.invariant c.self.view_is refl c.args.caller (phase.Committing c.requires.0) c.requires.1 c.from.result c.index_mut-seat.result.now c.from.ensures c.index_mut-seat.ensures.value in
-    Rattle.claim_core.proofs.Stepping.known c.self.invariant seat
+    Rattle.claim_core.proofs.MachineLemmas.known c.self.invariant seat
 
 pub unreachable-requires : goal.unreachable-requires
 unreachable-requires g c =

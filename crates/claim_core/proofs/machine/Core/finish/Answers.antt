@@ -3,7 +3,7 @@ use Rattle.std.proofs.lemmas.Bool.{false≢true}
 use Rattle.claim_core.specs.Machine.{after}
 use Rattle.claim_core.specs.Soundness.{IsSetup}
 use Rattle.claim_core.specs.Cores.{setup_of}
-use Rattle.claim_core.proofs.Finishing.{goes_on, lowers, same_callers, finishes}
+use Rattle.claim_core.proofs.RoundLemmas.{goes_on, lowers, same_callers, finishes}
 use Rattle.claim_core.proofs.machine.Core.finish.Goals as goal
 
 pub loop-self-preserved : goal.loop-self-preserved

@@ -1,6 +1,6 @@
 use Rattle.claim_core.specs.Cores.{setup_of}
 use Rattle.claim_core.proofs.Ranks.{total}
-use Rattle.claim_core.proofs.Finishing.{IsUnderway}
+use Rattle.claim_core.proofs.RoundLemmas.{IsUnderway}
 use Rattle.claim_core.proofs.machine.Core.finish.Given as goal
 
 abbrev pub invariant-loop-self : goal.invariant-loop-self

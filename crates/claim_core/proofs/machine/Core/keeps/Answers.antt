@@ -2,7 +2,7 @@ use Rattle.std.proofs.Common.{subst}
 use Rattle.claim_core.specs.Soundness.{IsSetup, Sound}
 use Rattle.claim_core.specs.Reached.{IsReachedState}
 use Rattle.claim_core.specs.Cores.{setup_of}
-use Rattle.claim_core.proofs.Stepping.{is_sound}
+use Rattle.claim_core.proofs.MachineLemmas.{is_sound}
 use Rattle.claim_core.proofs.machine.Core.keeps.Goals as goal
 
 pub returns-clause-setup : goal.returns-clause-setup

@@ -3,18 +3,18 @@ use Rattle.std.specs.Prelude.{replicate, if◌then◌else◌}
 use Rattle.std.specs.List.{All}
 use Rattle.std.proofs.lemmas.List.{length-map}
 use Rattle.std.proofs.lemmas.List.Elements.{All-push}
-use Rattle.claim_core.specs.declared.machine.Seat.{Seat}
+use Rattle.claim_core.specs.declared.machine.CoreCaller.{CoreCaller}
 use Rattle.claim_core.specs.Turns.{CallerLists, no_marks}
 use Rattle.claim_core.specs.Machine.{fresh, setup}
 use Rattle.claim_core.specs.Soundness.{IsSetup}
-use Rattle.claim_core.specs.Cores.{Begins, opened}
-use Rattle.claim_core.proofs.Opening.{grown, opens_so, is_core}
+use Rattle.claim_core.specs.Cores.{Begins, opening_core}
+use Rattle.claim_core.proofs.OpeningLemmas.{grown, opens_so, is_core}
 use Rattle.claim_core.proofs.machine.Core.make.Goals as goal
 
 pub loop-caller-preserved : goal.loop-caller-preserved
 loop-caller-preserved g c =
     let more : c.push.new.self.items ≡ c.loop-caller.seats.items ++ c.at.result ∷ [] = c.push.ensures.items ∙ ap (λ (b : Bool). if b then c.loop-caller.seats.items ++ c.at.result ∷ [] else c.loop-caller.seats.items) c.if-is_err-2.ensures.negation in
-    (omega (arith, ap (λ (ss : List Seat). length ss) more, length-append c.loop-caller.seats.items (c.at.result ∷ []), c.push.new.self.ok.0, c.loop-caller.seats.ok.0, c.loop-caller.invariant.0), subst (All (Begins c.turns-turns.result 0)) (sym more) (All-push (Begins c.turns-turns.result 0) c.loop-caller.seats.items c.at.result c.loop-caller.invariant.1 c.at.ensures))
+    (omega (arith, ap (λ (ss : List CoreCaller). length ss) more, length-append c.loop-caller.seats.items (c.at.result ∷ []), c.push.new.self.ok.0, c.loop-caller.seats.ok.0, c.loop-caller.invariant.0), subst (All (Begins c.turns-turns.result 0)) (sym more) (All-push (Begins c.turns-turns.result 0) c.loop-caller.seats.items c.at.result c.loop-caller.invariant.1 c.at.ensures))
 
 pub invariant_of-result : goal.invariant_of-result
 invariant_of-result g c =
@@ -43,7 +43,7 @@ returns-clause-opened g c =
     let begin = subst (λ t. All (Begins t 0) c.loop-caller.seats.items) c.turns-turns.ensures c.loop-caller.invariant.1 in
     let told = c.in_ok-marks.ensures ∙ (λ i. no_marks (c.callers-callers.ensures.value i) (c.turns-turns.ensures i)) in
     let opens = opens_so (g.D.Decider.verdict c.args.decider.now) c.args.world c.in_ok-lists.lists c.resize.new.self.items c.reserve.new.self c.loop-caller.seats.items c.in_ok-marks.marks first entries free many begin told in
-    (λ i. record { decider = c.args.decider.now; first = first i; lists = c.in_ok-lists.lists; state = opens i }) ∙ ap (opened g.D.Decider.verdict c.args.decider.now c.args.world) c.in_ok-lists.ensures
+    (λ i. record { decider = c.args.decider.now; first = first i; lists = c.in_ok-lists.lists; state = opens i }) ∙ ap (opening_core g.D.Decider.verdict c.args.decider.now c.args.world) c.in_ok-lists.ensures
 
 pub returns-clause-callers : goal.returns-clause-callers
 returns-clause-callers g c = ap (λ r. length r.state.callers) (returns-clause-opened g c) ∙ length-map c.args.lists.now.ids (λ _. fresh (setup (g.D.Decider.verdict c.args.decider.now) c.args.world c.args.lists.now))

@@ -5,7 +5,7 @@ use Rattle.std.proofs.lemmas.Option.{none-some, same_Some}
 use Rattle.claim_core.specs.declared.state.Phase.TheVariants as phase
 use Rattle.claim_core.specs.Cells.{number}
 use Rattle.claim_core.specs.Cores.{Frees}
-use Rattle.claim_core.proofs.Stepping.{closes, kept, released, holds_some, held_number, in_a_turn, seat_in, inside_in, phase_in}
+use Rattle.claim_core.proofs.MachineLemmas.{closes, kept, released, holds_some, held_number, in_a_turn, seat_in, inside_in, phase_in}
 use Rattle.claim_core.proofs.machine.Core.release.Goals as goal
 
 pub index_mut-seat-requires : goal.index_mut-seat-requires

@@ -3,7 +3,7 @@ use Rattle.claim_core.specs.Good.{Good}
 use Rattle.claim_core.specs.Reached.{HaveEnded, IsReportOf, Reached}
 use Rattle.claim_core.specs.Cores.{setup_of}
 use Rattle.claim_core.proofs.Ends.{reached_is_good}
-use Rattle.claim_core.proofs.Reporting.{left, reported}
+use Rattle.claim_core.proofs.ReportLemmas.{left, reported}
 use Rattle.claim_core.proofs.machine.Core.report.Goals as goal
 
 pub returns-clause-left : goal.returns-clause-left

@@ -1,8 +1,8 @@
 use Rattle.std.proofs.Common.{ap, subst, length, arith}
 use Rattle.claim_core.specs.Soundness.{IsSetup, Sound}
 use Rattle.claim_core.specs.Cores.{setup_of}
-use Rattle.claim_core.proofs.Stepping.{is_sound}
-use Rattle.claim_core.proofs.Finishing.{callers_there}
+use Rattle.claim_core.proofs.MachineLemmas.{is_sound}
+use Rattle.claim_core.proofs.RoundLemmas.{callers_there}
 use Rattle.claim_core.proofs.machine.Core.round.Goals as goal
 
 pub step-requires-after_bounds : goal.step-requires-after_bounds

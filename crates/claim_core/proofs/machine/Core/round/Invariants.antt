@@ -1,5 +1,5 @@
 use Rattle.std.proofs.Common.{◌≡◌}
-use Rattle.claim_core.specs.Rounds.{steps_below}
+use Rattle.claim_core.specs.StepRounds.{steps_below}
 use Rattle.claim_core.specs.Cores.{setup_of}
 use Rattle.claim_core.proofs.machine.Core.round.Given as goal
 

@@ -3,7 +3,7 @@ use Rattle.std.specs.Prelude.{slice_get}
 use Rattle.std.proofs.Math.ListN.{length-set}
 use Rattle.claim_core.specs.Machine.{next}
 use Rattle.claim_core.specs.Cores.{IsUnmarked, unmarked, looks_at, setup_of}
-use Rattle.claim_core.proofs.Stepping.{turn_below, closes, kept, there, seated_unmarked, unmarked_count, room_after, settled, its_seat}
+use Rattle.claim_core.proofs.MachineLemmas.{turn_below, closes, kept, there, seated_unmarked, unmarked_count, room_after, settled, its_seat}
 use Rattle.claim_core.proofs.machine.Core.settle.Goals as goal
 
 pub add-requires-clause-caller : goal.add-requires-clause-caller

@@ -1,7 +1,7 @@
 use Rattle.std.proofs.Common.{subst}
 use Rattle.claim_core.specs.Soundness.{IsSetup, Sound}
 use Rattle.claim_core.specs.Cores.{setup_of}
-use Rattle.claim_core.proofs.Stepping.{is_sound, length-stepped}
+use Rattle.claim_core.proofs.MachineLemmas.{is_sound, length-stepped}
 use Rattle.claim_core.proofs.machine.Core.step.Goals as goal
 
 pub returns-clause-callers : goal.returns-clause-callers

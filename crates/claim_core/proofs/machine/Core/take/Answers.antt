@@ -2,7 +2,7 @@ use Rattle.std.proofs.Common.{not, refl, sym, ap, ◌∙◌, arith}
 use Rattle.std.proofs.Math.ListN.{length-set}
 use Rattle.amoebot_state.proofs.Options.{none_if}
 use Rattle.claim_core.specs.declared.state.Phase.TheVariants as phase
-use Rattle.claim_core.proofs.Stepping.{closes, kept, taken, seat_in, inside_in, phase_in}
+use Rattle.claim_core.proofs.MachineLemmas.{closes, kept, taken, seat_in, inside_in, phase_in}
 use Rattle.claim_core.proofs.machine.Core.take.Goals as goal
 
 pub index_mut-seat-requires : goal.index_mut-seat-requires

@@ -13,8 +13,8 @@ journal_of-journal-requires-clause-journal g c =
     journal_there g.D.Decider.verdict _ _ c.self.view_is _ _ c.self.invariant c.seats.inside.rest.me c.seats.inside.rest.table_id c.seats.inside.seats.items c.seats.invariant c.args.seats c.seats.view_is c.requires.field
     c.requires.all _ c.cells_of-cells.ensures.value _ _ c.gather_all-rest.ensures.1 _ _ c.close_with.ensures.values.2
 
-pub follow-requires-after_bounds : goal.follow-requires-after_bounds
-follow-requires-after_bounds g c = λ κs within.
+pub apply_all-requires-after_bounds : goal.apply_all-requires-after_bounds
+apply_all-requires-after_bounds g c = λ κs within.
     let run = entries_run g.D.Decider.verdict _ _ c.self.view_is _ _ c.self.invariant c.seats.inside.rest.me c.seats.inside.rest.table_id c.seats.inside.seats.items c.seats.invariant c.args.seats c.seats.view_is c.requires.field
     c.requires.all _ c.cells_of-cells.ensures.value _ _ c.gather_all-rest.ensures.1 _ _ c.close_with.ensures.values.2 c.journal_of-journal.result c.journal_of-journal.ensures in
     (run.0, subst (λ es. Run (g.D.Decider.verdict c.self.inside.decider.now) c.self.inside.world es run.0) (sym c.entries.ensures) run.1)
@@ -22,5 +22,5 @@ follow-requires-after_bounds g c = λ κs within.
 pub returns : goal.returns
 returns g c =
     closes g.D.Decider.verdict _ _ c.self.view_is _ _ c.self.invariant c.seats.inside.rest.me c.seats.inside.rest.table_id c.seats.inside.seats.items c.seats.invariant c.args.seats c.seats.view_is c.requires.field
-    c.requires.all _ c.cells_of-cells.ensures.value _ _ c.gather_all-rest.ensures.1 _ _ c.close_with.ensures.values.2 c.journal_of-journal.result c.follow.new.world c.journal_of-journal.ensures
-    (subst (λ es. Run (g.D.Decider.verdict c.self.inside.decider.now) c.self.inside.world es c.follow.new.world) c.entries.ensures c.follow.ensures)
+    c.requires.all _ c.cells_of-cells.ensures.value _ _ c.gather_all-rest.ensures.1 _ _ c.close_with.ensures.values.2 c.journal_of-journal.result c.apply_all.new.world c.journal_of-journal.ensures
+    (subst (λ es. Run (g.D.Decider.verdict c.self.inside.decider.now) c.self.inside.world es c.apply_all.new.world) c.entries.ensures c.apply_all.ensures)

@@ -1,7 +1,7 @@
 use Rattle.std.proofs.Common.{◌∷◌, ap, sym, ◌∙◌, arith}
 use Rattle.claim_rule.specs.Tokens.{FieldOf}
 use Rattle.claim_rule.specs.Views.{view_of}
-use Rattle.claim_rule.proofs.Dealing.{splits_view}
+use Rattle.claim_rule.proofs.SeatingLemmas.{splits_view}
 use Rattle.claim_rule.proofs.field.Field.deal.Goals as goal
 
 -- src/seating.rt

@@ -1,7 +1,7 @@
 use Rattle.std.proofs.Common.{ap, sym, ◌∙◌, arith}
 use Rattle.claim_rule.specs.Tokens.{FieldOf}
 use Rattle.claim_rule.specs.Views.{Seated, view_of}
-use Rattle.claim_rule.proofs.Dealing.{joins_views}
+use Rattle.claim_rule.proofs.SeatingLemmas.{joins_views}
 use Rattle.claim_rule.proofs.field.Field.gather.Goals as goal
 
 -- src/seating.rt

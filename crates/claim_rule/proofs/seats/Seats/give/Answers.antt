@@ -2,7 +2,7 @@ use Rattle.std.proofs.Common.{Some, set, ap, sym, ◌∙◌, subst}
 use Rattle.claim_rule.specs.Views.{Seated}
 use Rattle.claim_rule.specs.Tokens.{Token, number_in}
 use Rattle.claim_rule.specs.Seating.{SeatsOf, AreSeats}
-use Rattle.claim_rule.proofs.Giving.{taken_back}
+use Rattle.claim_rule.proofs.SeatsLemmas.{taken_back}
 use Rattle.claim_rule.proofs.seats.Seats.give.Goals as goal
 
 -- src/seats.rt

@@ -1,7 +1,7 @@
 use Rattle.std.proofs.Common.{◌≡◌, ◌≢◌, ℕ, ◌<◌, length, Some, None, set, sym, subst}
 use Rattle.std.specs.Prelude.{slice_get}
 use Rattle.claim_rule.specs.Seating.{AreSeats}
-use Rattle.claim_rule.proofs.Giving.{given, takes, takes_own}
+use Rattle.claim_rule.proofs.SeatsLemmas.{given, takes, takes_own}
 use Rattle.claim_rule.proofs.seats.Seats.take.Goals as goal
 
 -- src/seats.rt

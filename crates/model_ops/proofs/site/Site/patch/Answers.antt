@@ -6,7 +6,7 @@ use Rattle.model_ops.specs.Members.{has_id, changed_cells}
 use Rattle.model_ops.specs.Reaches.{Reaches}
 use Rattle.model_ops.specs.WorkingCopies.{WorkingCopy, own_id, changes}
 use Rattle.model_ops.proofs.Members.{has_bot}
-use Rattle.model_ops.proofs.Patching.{patches}
+use Rattle.model_ops.proofs.PatchLemmas.{patches}
 use Rattle.model_ops.proofs.site.Site.patch.Goals as goal
 
 pub place_of-place-requires : goal.place_of-place-requires

@@ -1,5 +1,5 @@
 use Rattle.text_tokens.specs.Inside.{input_of}
-use Rattle.text_tokens.proofs.Tokenizing.{ahead_cut}
+use Rattle.text_tokens.proofs.PromisesLemmas.{ahead_cut}
 use Rattle.text_tokens.proofs.tokens.Tokens.are_cut.Goals as goal
 
 pub returns : goal.returns

@@ -1,7 +1,7 @@
 use Rattle.std.proofs.Common.{◌≡◌, ◌+◌, ◌-◌, ◌≤◌, ℕ, List, false, take, drop, length, sym, ◌∙◌, ap, arith, length-drop}
 use Rattle.std.proofs.lemmas.List.{take_rest}
 use Rattle.text_tokens.specs.Scan.{front, skip}
-use Rattle.text_tokens.proofs.Standing.{at_skipped, is_ready}
+use Rattle.text_tokens.proofs.InsideLemmas.{at_skipped, is_ready}
 use Rattle.text_tokens.proofs.tokens.Tokens.at_next.Goals as goal
 
 skipped_rest : (source : List ℕ) (at line blanks to : ℕ) → skip false at line (take (length source - at) (drop at source)) ≡ record { text = drop blanks (take (length source - at) (drop at source)); at = at + blanks; line = to }

@@ -1,5 +1,5 @@
 use Rattle.std.proofs.Common.{◌≡◌, true, false, sym, ◌∙◌}
-use Rattle.text_tokens.proofs.Standing.{within, tests, tests_none}
+use Rattle.text_tokens.proofs.InsideLemmas.{within, tests, tests_none}
 use Rattle.text_tokens.specs.Cursor.{same_kind, is_the}
 use Rattle.text_tokens.proofs.tokens.Tokens.is_next.Goals as goal
 

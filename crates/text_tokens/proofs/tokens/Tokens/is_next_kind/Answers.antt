@@ -1,5 +1,5 @@
 use Rattle.std.proofs.Common.{sym}
-use Rattle.text_tokens.proofs.Standing.{tests, tests_none}
+use Rattle.text_tokens.proofs.InsideLemmas.{tests, tests_none}
 use Rattle.text_tokens.specs.Cursor.{is_kind, same_kind}
 use Rattle.text_tokens.proofs.tokens.Tokens.is_next_kind.Goals as goal
 

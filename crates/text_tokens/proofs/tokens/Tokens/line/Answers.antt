@@ -1,5 +1,5 @@
 use Rattle.std.proofs.Common.{sym}
-use Rattle.text_tokens.proofs.Standing.{line_is}
+use Rattle.text_tokens.proofs.InsideLemmas.{line_is}
 use Rattle.text_tokens.proofs.tokens.Tokens.line.Goals as goal
 
 pub returns : goal.returns

@@ -1,6 +1,6 @@
 use Rattle.std.proofs.Common.{sym, subst, refl}
 use Rattle.text_tokens.specs.Cursor.{Cursor, IsAtFront}
-use Rattle.text_tokens.proofs.Tokenizing.{tokens_of_text}
+use Rattle.text_tokens.proofs.PromisesLemmas.{tokens_of_text}
 use Rattle.text_tokens.proofs.tokens.Tokens.new.Goals as goal
 
 pub returns : goal.returns

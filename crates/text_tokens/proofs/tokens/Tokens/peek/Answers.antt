@@ -1,6 +1,6 @@
 use Rattle.std.proofs.Common.{sym, ◌∙◌}
 use Rattle.text_tokens.specs.Cursor.{Spells}
-use Rattle.text_tokens.proofs.Standing.{fits_small, answers, spells, answers_none, no_token}
+use Rattle.text_tokens.proofs.InsideLemmas.{fits_small, answers, spells, answers_none, no_token}
 use Rattle.text_tokens.proofs.tokens.Tokens.peek.Goals as goal
 
 pub token_at-requires : goal.token_at-requires

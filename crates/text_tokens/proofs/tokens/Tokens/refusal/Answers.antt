@@ -1,5 +1,5 @@
 use Rattle.std.proofs.Common.{sym}
-use Rattle.text_tokens.proofs.Standing.{refuses, refuses_end}
+use Rattle.text_tokens.proofs.InsideLemmas.{refuses, refuses_end}
 use Rattle.text_tokens.proofs.tokens.Tokens.refusal.Goals as goal
 
 pub returns-in-Ok : goal.returns-in-Ok

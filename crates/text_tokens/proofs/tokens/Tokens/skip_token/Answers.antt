@@ -1,6 +1,6 @@
 use Rattle.std.proofs.Common.{◌∙◌, ap, arith}
 use Rattle.text_tokens.specs.Cursor.{past_token}
-use Rattle.text_tokens.proofs.Standing.{within, fits_small, passes, stays}
+use Rattle.text_tokens.proofs.InsideLemmas.{within, fits_small, passes, stays}
 use Rattle.text_tokens.proofs.tokens.Tokens.skip_token.Goals as goal
 
 pub overflow_add-self-inside : goal.overflow_add-self-inside

@@ -7,7 +7,7 @@ use Rattle.text_tokens.specs.declared.token.TokenKind.{TokenKind}
 use Rattle.text_tokens.specs.declared.token.TokenKind.TheVariants.{Number}
 use Rattle.text_tokens.specs.Text.{Lexeme}
 use Rattle.text_tokens.specs.Cursor.{Cursor, IsDigits, Spells, past_token, expect, expect_by, is_kind, next_passes}
-use Rattle.text_tokens.proofs.Stepping.{is_number_of, kind_taken}
+use Rattle.text_tokens.proofs.StepsLemmas.{is_number_of, kind_taken}
 use Rattle.text_tokens.proofs.tokens.Tokens.take_kind.Goals as goal
 
 -- a next token that passes is taken as any would be

@@ -1,9 +1,0 @@
-//! Tests of `check`, by tables of texts.
-#![tactic(auto)]
-
-#[cfg(test)]
-mod faults;
-#[cfg(test)]
-mod samples;
-#[cfg(test)]
-mod tests;

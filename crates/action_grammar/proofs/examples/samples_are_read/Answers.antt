@@ -1,8 +1,0 @@
-use Rattle.action_grammar.proofs.Computing.{samples_are_read, trees_are_read}
-use Rattle.action_grammar.proofs.examples.samples_are_read.Goals as goal
-
-pub returns-clause-samples : goal.returns-clause-samples
-returns-clause-samples c = samples_are_read
-
-pub returns-clause-trees : goal.returns-clause-trees
-returns-clause-trees c = trees_are_read

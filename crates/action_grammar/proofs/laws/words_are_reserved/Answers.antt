@@ -1,9 +1,0 @@
-use Rattle.std.proofs.Common.{refl}
-use Rattle.action_grammar.proofs.Naming.{names}
-use Rattle.action_grammar.proofs.laws.words_are_reserved.Goals as goal
-
-pub returns-clause-table : goal.returns-clause-table
-returns-clause-table c = refl
-
-pub returns-clause-names : goal.returns-clause-names
-returns-clause-names c = names

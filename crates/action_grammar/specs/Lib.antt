@@ -1,9 +1,0 @@
-pub mod Roles
-pub mod Expressions
-pub mod Statements
-pub mod Programs
-pub mod ExpressionReaders
-pub mod StatementReaders
-pub mod ProgramReaders
-pub mod Laws
-pub mod Examples

@@ -1,0 +1,93 @@
+-- How a call of `run` or `run_text` may end.
+use Rattle.std.specs.Prelude.{◌≡◌, ◌<◌, ◌≤◌, ◌⊎◌, ℕ, List, length, ⊤}
+use Rattle.std.specs.declared.option.Option.{Option}
+use Rattle.std.specs.declared.option.Option.TheVariants.{Some, None}
+use Rattle.outer_io.specs.Told.{Grows}
+use Rattle.outer_io.specs.KeptBytes.{KeptBytes, kept_after, written_of}
+use Rattle.claim_core.specs.declared.report.Report.{Report}
+use Rattle.shape_files.specs.Documents.{Contents}
+use Rattle.command_words.specs.declared.command.Command.{Command}
+use Rattle.command_words.specs.declared.command.Command.TheVariants.{Document, Sample}
+use Rattle.command_words.specs.declared.command.DocumentCommand.{DocumentCommand}
+use Rattle.command_answers.specs.declared.status.Status.{Status}
+use Rattle.command_answers.specs.declared.status.Status.TheVariants as status
+use Rattle.command_answers.specs.Commands.{form_of}
+use Rattle.command_answers.specs.Headline.{IsRunOfDocument, IsRunOfSample}
+use Rattle.command_answers.specs.Laws.{HasOneReport, HasOneText, SameIfAny}
+use Rattle.command_answers.specs.Outcomes.{IsOutcome}
+use Rattle.command_answers.specs.Reads.{Read, nothing, whole, above, up_to_fault, some}
+use Rattle.command_answers.specs.Owed.{IsOwed}
+
+-- no read failed, and no byte above the limit was got
+abbrev pub IsReadWithinLimit : Read → Type 0
+IsReadWithinLimit nothing = ⊤
+IsReadWithinLimit (whole bytes) = ⊤
+IsReadWithinLimit (above bytes) = ⊥
+IsReadWithinLimit (up_to_fault bytes) = ⊥
+IsReadWithinLimit (some bytes) = ⊤
+
+-- How a call ends for a command, if the words are one.
+-- `Reads` says what the input came to, and `Writes` that a text and nothing else was written.
+-- `Cuts` says that a write failed behind a front of it, and `Untouched` that nothing was written.
+pub data IsEnding
+    (command : Option Command) (Reads : Read → Type 0) (Writes Cuts : List ℕ → Type 0) (Untouched : Type 0)
+    : Status → Option Report → Type 0 where
+  -- what is owed for what was read was written whole
+  written : (read : Read) (s : Status) (report : Option Report) (text : List ℕ)
+      → Reads read → IsOwed command read s report text → Writes text
+      → IsEnding command Reads Writes Cuts Untouched s report
+  -- a write of it failed
+  cut : (read : Read) (s : Status) (report : Option Report) (text : List ℕ)
+      → Reads read → IsOwed command read s report text → Cuts text
+      → IsEnding command Reads Writes Cuts Untouched status.WriteFault None
+  -- it was out of memory, before the first write
+  wanting : (read : Read) → Reads read → IsReadWithinLimit read → Untouched
+      → IsEnding command Reads Writes Cuts Untouched status.NoMemory None
+
+-- the three that no document owes
+abbrev pub IsOutsideFault : Status → Type 0
+IsOutsideFault status.Done = ⊥
+IsOutsideFault status.Words = ⊥
+IsOutsideFault (status.Refused refusal) = ⊥
+IsOutsideFault status.ReadFault = ⊤
+IsOutsideFault status.WriteFault = ⊤
+IsOutsideFault status.NoMemory = ⊤
+IsOutsideFault (status.Differs place) = ⊥
+
+-- what was owed was not written whole: a write failed, or it was out of memory
+abbrev pub IsUnwritten : Status → Type 0
+IsUnwritten s = (s ≡ status.WriteFault) ⊎ (s ≡ status.NoMemory)
+
+-- the call answers what is owed: its status; and where at most one report may be told, or one text, its report and its text
+pub record IsAnswered
+    (command : Option Command) (read : Read) (s : Status) (report : Option Report) (text : List ℕ)
+    (Writes : List ℕ → Type 0) (ended : Status) (left : Option Report)
+    : Type 0 where
+  pub status : ended ≡ s
+  pub told : HasOneReport command read → SameIfAny left report
+  pub writes : HasOneText command read → Writes text
+
+-- What a report comes with: the command, the document that was read to its end, of whose run it is, and its text.
+-- That text was written, and nothing else.
+-- Or the number of a sample, of whose run it is, and the six lines, which were written and nothing else, where nothing was read.
+pub data IsReportOfCall (command : Option Command) (Reads : Read → Type 0) (Writes : List ℕ → Type 0) (report : Report) : Type 0 where
+  of_document : (c : DocumentCommand) (document text : List ℕ) → command ≡ Some (Document c) → Reads (whole document)
+      → IsRunOfDocument (form_of c) document report text → Writes text → IsReportOfCall command Reads Writes report
+  of_sample : (seed : ℕ) (text : List ℕ) → command ≡ Some (Sample seed) → Reads nothing
+      → IsRunOfSample seed report text → Writes text → IsReportOfCall command Reads Writes report
+
+-- a document is served: what is written is an outcome of it
+abbrev pub IsServed : Contents → DocumentCommand → (List ℕ → Type 0) → Status → Option Report → Type 0
+IsServed a c Writes s report = (text : List ℕ) × IsOutcome a c s report text × Writes text
+
+-- what the input of these bytes may have come to in a call that reads at most so many
+abbrev pub IsReadingOf : ℕ → List ℕ → Read → Type 0
+IsReadingOf limit bytes nothing = ⊤
+IsReadingOf limit bytes (whole got) = (got ≡ bytes) × (length bytes ≤ limit)
+IsReadingOf limit bytes (above got) = limit < length bytes
+IsReadingOf limit bytes (up_to_fault got) = ⊥
+IsReadingOf limit bytes (some got) = ⊤
+
+-- a sink in memory has a text behind what it had, as one write leaves it
+abbrev pub HasText : KeptBytes → KeptBytes → List ℕ → Type 0
+HasText old new text = (new ≡ kept_after old text) × Grows (written_of old) (written_of new) text

@@ -1,0 +1,190 @@
+//! The top calls. They alone may wait: all that they call returns, apart from `work`, which starts the workers.
+
+ghost use Rattle.std.specs.Prelude.{◌≡◌, ◌≢◌, ◌≤◌, ◌↔◌, ◌⊎◌, ℕ, true, List, length, IsSome, IfSome, Option, Some, None};
+ghost use Rattle.std.specs.List.{list_any};
+ghost use Rattle.std.specs.String.{string_bytes};
+ghost use Rattle.outer_io.specs.Told.{Rose};
+ghost use Rattle.claim_core.specs.declared.report.Report.{Report as ReportValue};
+ghost use Rattle.shape_files.specs.Documents.{Contents, HasContents};
+ghost use Rattle.command_words.specs.declared.command.Command.{Command as CommandValue};
+ghost use Rattle.command_words.specs.declared.command.DocumentCommand.{DocumentCommand as DocumentCommandValue};
+ghost use Rattle.command_answers.specs.declared.status.Status.{Status as StatusValue};
+ghost use Rattle.command_words.specs.Syntax.{begins_with_dash};
+ghost use Rattle.command_answers.specs.Commands.{MakesTurns, ReadsNothing, form_of, limit_for};
+ghost use Rattle.command_answers.specs.Reads.{nothing, whole};
+ghost use Rattle.command_answers.specs.Owed.{IsOwed};
+ghost use Rattle.command_answers.specs.OfSample.{six_lines};
+ghost use Rattle.amoebot_run.specs.Clauses.{CameTo, WroteAll, WroteFront, asked};
+ghost use Rattle.amoebot_run.specs.Endings.{HasText, IsAnswered, IsEnding, IsOutsideFault, IsReadingOf, IsServed, IsReportOfCall, IsUnwritten};
+ghost use Rattle.amoebot_run.specs.Working.{HasTurns};
+
+use crate::begin::{Begun, begin};
+use crate::ended::{Ended, end_with};
+use crate::finish::finish;
+use activation::{Gate, NoGate};
+use amoebot_state::NoMemory;
+use command_answers::{
+    Prepared, Status, documents_have_outcomes, owed_is_one, reports_are_of_runs,
+};
+use command_words::Command;
+use outer_io::{Sink, Source, SureSink, SureSource, pieces_are_kept_as_one};
+use std::alloc::Global;
+use std::sync::Wait;
+use std::thread::Threads;
+use turn_workers::work;
+
+/// Does what the words ask for: it reads a document of the command's form, if the command reads one, and writes its text.
+///
+/// The words are judged first. Then the input is read to its end, and the document is judged.
+/// Then the command does its work, and the whole text is made before the first byte is written.
+/// The line of a failed read takes no memory, nor does that of an input that is too long.
+/// The lists of `run` and of a sample are run by workers, which call the gate.
+pub fn run<R: Threads + Wait + Sync, S: Source, K: Sink, G: Gate>(
+    rt: &R,
+    alloc: Global,
+    words: &[String],
+    input: &mut S,
+    out: &mut K,
+    gate: &G,
+) -> Ended
+    // What is owed for what was read was written whole; or a write of it failed; or it was out of memory and nothing was written.
+    ensures ending { IsEnding (asked words.now)
+        (CameTo S.Source (asked words.now) input.old input.new)
+        (WroteAll K.Sink out.old out.new)
+        (WroteFront K.Sink out.old out.new)
+        (out.new ≡ out.old)
+        result.status result.report }
+
+    // What became of each turn comes exactly with Done of `run` and `sample`, and its mark is the report's.
+    ensures turns { HasTurns (asked words.now) result.status result.report result.turns }
+
+    // Where a word begins with `-`, being out of memory does not hide that the words are no command.
+    ensures dash { list_any (λ word. begins_with_dash (string_bytes word)) words.now ≡ true
+        → (result.status ≡ Status.Words) ⊎ (result.status ≡ Status.WriteFault) }
+    // Nothing is read where the words are no command, nor for a command that reads no document.
+    ensures unread { ReadsNothing (asked words.now) → input.new ≡ input.old }
+
+    // All clauses from here on follow from `ending`, by the laws of `command_answers`: they say what it comes to.
+
+    // A report comes exactly with Done of `run`, `interleave` and `sample`.
+    // Then the input was read to its end, the bytes read are a document, the report is a good one of its run, and its text was written.
+    // Or the report is a good one of the sample's run, and the six lines that tell so were written.
+    ensures report { IsSome result.report ↔ ((result.status ≡ Status.Done) × MakesTurns (asked words.now)) }
+    ensures headline { IfSome result.report (IsReportOfCall (asked words.now)
+        (CameTo S.Source (asked words.now) input.old input.new)
+        (WroteAll K.Sink out.old out.new)) }
+
+    // What is owed for an input whose bytes are told is what the call answers, unless it is out of memory or a read or a write fails:
+    // the status, and where the input decides what is told, the report and the text. With at most one list it does so for `run`.
+    ensures determined { (document : List ℕ) (s : StatusValue) (report : Option ReportValue) (text : List ℕ)
+        → S.left input.old ≡ Some document → length document ≤ limit_for (asked words.now)
+        → IsOwed (asked words.now) (whole document) s report text
+        → IsAnswered (asked words.now) (whole document) s report text
+        (WroteAll K.Sink out.old out.new) result.status result.report
+        ⊎ IsOutsideFault result.status }
+
+    // So it is of what is owed where nothing is read; no read can fail there. For `sample` that is the status and the text.
+    ensures determined_unread { (s : StatusValue) (report : Option ReportValue) (text : List ℕ)
+        → IsOwed (asked words.now) nothing s report text
+        → IsAnswered (asked words.now) nothing s report text
+        (WroteAll K.Sink out.old out.new) result.status result.report
+        ⊎ IsUnwritten result.status }
+
+    // Where the words are no command, only a write that fails or being out of memory hides that.
+    ensures words { result.status ≡ Status.Words → asked words.now ≡ None }
+    ensures no_command { asked words.now ≡ None → (result.status ≡ Status.Words) ⊎ IsUnwritten result.status }
+
+    // A fault is that of the object that was handed in. Where it was out of memory, nothing was written.
+    ensures read_fault { result.status ≡ Status.ReadFault → Rose (S.faults input.old) (S.faults input.new) }
+    ensures write_fault { result.status ≡ Status.WriteFault → Rose (K.faults out.old) (K.faults out.new) }
+    ensures no_memory { result.status ≡ Status.NoMemory → out.new ≡ out.old }
+
+    // A document within the limit is served, and a command that reads none is done, unless it is out of memory or a read or a write fails.
+    // Of `sample` the six lines are written.
+    ensures complete { (c : DocumentCommandValue) (document : List ℕ) (a : Contents)
+        → asked words.now ≡ Some (Command.Document c) → S.left input.old ≡ Some document
+        → length document ≤ limit_for (Some (Command.Document c)) → HasContents (form_of c) document a
+        → IsServed a c (WroteAll K.Sink out.old out.new) result.status result.report ⊎ IsOutsideFault result.status }
+    ensures complete_unread { (c : CommandValue) → asked words.now ≡ Some c → ReadsNothing (Some c)
+        → (result.status ≡ Status.Done) ⊎ IsUnwritten result.status }
+    ensures sample { (seed : ℕ) → asked words.now ≡ Some (Command.Sample seed)
+        → ((result.status ≡ Status.Done) × WroteAll K.Sink out.old out.new (six_lines seed)) ⊎ IsUnwritten result.status }
+{
+    owed_is_one();
+    documents_have_outcomes();
+    reports_are_of_runs();
+    let (prepared, telling) = match begin(alloc, words, input, out) {
+        Begun::Ended(ended) => return ended,
+        Begun::Run(prepared, telling) => (prepared, telling),
+    };
+    let Prepared {
+        runner,
+        world,
+        lists,
+    } = prepared;
+    match work(rt, alloc, &runner, world, &lists, gate) {
+        Ok(worked) => finish(alloc, out, telling, &runner, &lists, worked),
+        Err(NoMemory) => end_with(Status::NoMemory),
+    }
+}
+
+/// `run` over bytes in memory and without a gate. Each clause but `turns` follows from `ending`.
+///
+/// Where it is out of memory for a copy of the bytes, that is its status, whatever the words are.
+/// The sink is left as one write of the text or line leaves it.
+pub fn run_text<R: Threads + Wait + Sync>(
+    rt: &R,
+    alloc: Global,
+    words: &[String],
+    bytes: &[u8],
+    out: &mut SureSink,
+) -> Ended
+    // What is owed for the bytes was written whole; or it was out of memory and nothing was written. Bytes in memory have no faults.
+    ensures ending { IsEnding (asked words.now)
+        (IsReadingOf (limit_for (asked words.now)) bytes.now)
+        (HasText out.old out.new) (λ _. ⊥) (out.new ≡ out.old)
+        result.status result.report }
+
+    ensures report { IsSome result.report ↔ ((result.status ≡ Status.Done) × MakesTurns (asked words.now)) }
+    ensures headline { IfSome result.report (IsReportOfCall (asked words.now)
+        (IsReadingOf (limit_for (asked words.now)) bytes.now)
+        (HasText out.old out.new)) }
+    ensures turns { HasTurns (asked words.now) result.status result.report result.turns }
+
+    // What is owed for the bytes is what the call answers, unless it is out of memory. So it is of what is owed where nothing is read.
+    ensures determined { (s : StatusValue) (report : Option ReportValue) (text : List ℕ)
+        → length bytes.now ≤ limit_for (asked words.now)
+        → IsOwed (asked words.now) (whole bytes.now) s report text
+        → IsAnswered (asked words.now) (whole bytes.now) s report text
+        (HasText out.old out.new) result.status result.report
+        ⊎ (result.status ≡ Status.NoMemory) }
+    ensures determined_unread { (s : StatusValue) (report : Option ReportValue) (text : List ℕ)
+        → IsOwed (asked words.now) nothing s report text
+        → IsAnswered (asked words.now) nothing s report text
+        (HasText out.old out.new) result.status result.report
+        ⊎ (result.status ≡ Status.NoMemory) }
+
+    ensures words { result.status ≡ Status.Words → asked words.now ≡ None }
+    ensures no_command { asked words.now ≡ None
+        → (result.status ≡ Status.Words) ⊎ (result.status ≡ Status.NoMemory) }
+    ensures no_read_fault { result.status ≢ Status.ReadFault }
+    ensures no_write_fault { result.status ≢ Status.WriteFault }
+    ensures no_memory { result.status ≡ Status.NoMemory → out.new ≡ out.old }
+
+    // A document within the limit is served, and a command that reads none is done, unless it is out of memory.
+    // Of `sample` the six lines are written.
+    ensures complete { (c : DocumentCommandValue) (a : Contents)
+        → asked words.now ≡ Some (Command.Document c)
+        → length bytes.now ≤ limit_for (Some (Command.Document c)) → HasContents (form_of c) bytes.now a
+        → IsServed a c (HasText out.old out.new) result.status result.report ⊎ (result.status ≡ Status.NoMemory) }
+    ensures complete_unread { (c : CommandValue) → asked words.now ≡ Some c → ReadsNothing (Some c)
+        → (result.status ≡ Status.Done) ⊎ (result.status ≡ Status.NoMemory) }
+    ensures sample { (seed : ℕ) → asked words.now ≡ Some (Command.Sample seed)
+        → ((result.status ≡ Status.Done) × HasText out.old out.new (six_lines seed)) ⊎ (result.status ≡ Status.NoMemory) }
+{
+    pieces_are_kept_as_one();
+    match SureSource::new(alloc, bytes) {
+        Ok(mut input) => run(rt, alloc, words, &mut input, out, &NoGate),
+        Err(_) => end_with(Status::NoMemory),
+    }
+}

@@ -1,0 +1,11 @@
+//! The top calls: what the words ask for, over a source and a sink, and over bytes in memory.
+#![tactic(auto)]
+
+mod begin;
+mod calls;
+mod ended;
+mod finish;
+
+pub use calls::{run, run_text};
+pub use command_answers::Status;
+pub use ended::Ended;

@@ -1,0 +1,17 @@
+//! Tests of `run` and `run_text`: whole documents with what is written of them, and reports of runs on threads.
+#![tactic(auto)]
+
+#[cfg(test)]
+mod commands;
+#[cfg(test)]
+mod faults;
+#[cfg(test)]
+mod meetings;
+#[cfg(test)]
+mod pieces;
+#[cfg(test)]
+mod reports;
+#[cfg(test)]
+mod runs;
+#[cfg(test)]
+mod tests;

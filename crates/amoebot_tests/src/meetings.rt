@@ -1,0 +1,56 @@
+//! Documents whose callers meet, and one whose callers never do.
+
+use crate::pieces::{FAR, MARK, OUT};
+
+/// An amoebot that marks itself, in the list of each of sixteen callers.
+pub const ONE_FOR_SIXTEEN: &[&str] = &[
+    MARK,
+    "shape\narea 0 0 8 8\nbot 2 3 2 3 0 + 0\nend\nlists\nturns 4\n",
+    "list 0\nlist 0\nlist 0\nlist 0\nlist 0\nlist 0\nlist 0\nlist 0\n",
+    "list 0\nlist 0\nlist 0\nlist 0\nlist 0\nlist 0\nlist 0\nlist 0\nend\n",
+];
+
+/// Worlds with few amoebots whose zones meet, in the lists of two, four and sixteen callers.
+pub const MEETINGS: [&[&str]; 3] = [
+    // A light spreads from one amoebot to the three others.
+    &[
+        "amoebot 1\nprogram\nvar lit 1\n\
+        action light when lit = 0 and any p in ports ( p . lit = 1 ) do lit := 1\nend\n",
+        "shape\narea 0 0 8 8\n",
+        "bot 2 3 2 3 0 + 1\nbot 3 3 3 3 0 + 0\nbot 4 3 4 3 0 + 0\nbot 4 2 4 2 0 + 0\n",
+        "end\nlists\nturns 6\nlist 3 2 1\nlist 1 2 3\nend\n",
+    ],
+    // Two amoebots want one node, one has the border before it, and one has that one before it.
+    &[
+        "amoebot 1\nprogram\naction out when contracted move expand head 0\n\
+        action back when expanded move contract tail\nend\n",
+        "shape\narea 0 0 8 8\n",
+        "bot 2 3 2 3 0 +\nbot 4 3 4 3 3 +\nbot 7 4 7 4 0 +\nbot 6 4 6 4 0 +\n",
+        "end\nlists\nturns 6\nlist 0 2\nlist 1\nlist 3 0 1\nlist 2 3\nend\n",
+    ],
+    ONE_FOR_SIXTEEN,
+];
+
+/// Two amoebots far from each other, each in the list of one caller.
+pub const TWO_APART: &[&str] = &[OUT, FAR, "lists\nturns 3\nlist 0\nlist 1\nend\n"];
+
+/// Sixteen amoebots in a square of four by four that mark themselves, in this order in the list of each of sixteen callers.
+pub const SIXTEEN_FOR_SIXTEEN: &[&str] = &[
+    MARK,
+    "shape\narea 0 0 8 8\n",
+    "bot 2 2 2 2 0 + 0\nbot 3 2 3 2 0 + 0\nbot 4 2 4 2 0 + 0\nbot 5 2 5 2 0 + 0\n",
+    "bot 2 3 2 3 0 + 0\nbot 3 3 3 3 0 + 0\nbot 4 3 4 3 0 + 0\nbot 5 3 5 3 0 + 0\n",
+    "bot 2 4 2 4 0 + 0\nbot 3 4 3 4 0 + 0\nbot 4 4 4 4 0 + 0\nbot 5 4 5 4 0 + 0\n",
+    "bot 2 5 2 5 0 + 0\nbot 3 5 3 5 0 + 0\nbot 4 5 4 5 0 + 0\nbot 5 5 5 5 0 + 0\n",
+    "end\nlists\nturns 64\n",
+    ALL_FOR_FOUR,
+    ALL_FOR_FOUR,
+    ALL_FOR_FOUR,
+    ALL_FOR_FOUR,
+    "end\n",
+];
+
+const ALL_FOR_FOUR: &str = "list 0 1 2 3 4 5 6 7 8 9 10 11 12 13 14 15\n\
+    list 0 1 2 3 4 5 6 7 8 9 10 11 12 13 14 15\n\
+    list 0 1 2 3 4 5 6 7 8 9 10 11 12 13 14 15\n\
+    list 0 1 2 3 4 5 6 7 8 9 10 11 12 13 14 15\n";

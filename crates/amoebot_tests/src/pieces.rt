@@ -1,0 +1,109 @@
+//! Pieces of documents and of what is written of them, and what the rows of the tables hold.
+
+use amoebot_run::Status;
+use text_tokens::RefusalKind;
+
+/// The word of a command, its document in pieces, the status, how many entries the report has, and the text in pieces.
+pub type Row = (
+    &'static str,
+    &'static [&'static str],
+    Status,
+    Option<usize>,
+    &'static [&'static str],
+);
+
+/// The word of a command, its document in pieces, and the line and the kind of the refusal, with its text.
+pub type Fault = (
+    &'static str,
+    &'static [&'static str],
+    u32,
+    RefusalKind,
+    &'static str,
+);
+
+// ---- programs
+
+/// A contracted amoebot expands. Four lines.
+pub const OUT: &str = "amoebot 1\nprogram\naction out when contracted move expand head 0\nend\n";
+
+/// An amoebot marks itself.
+pub const MARK: &str = "amoebot 1\nprogram\nvar m 1\naction mark when m = 0 do m := 1\nend\n";
+
+/// An expanded amoebot takes the one behind its tail along, and then makes a note.
+pub const DRAG: &str = "amoebot 1\nprogram\nvar m 1\n\
+    action drag when expanded and linked tail 3 and not peer_expanded tail 3 move pull tail 3\n\
+    action note when expanded do m := 1\nend\n";
+
+/// An expanded amoebot contracts, with the guard on and off.
+pub const GUARDED: &str =
+    "amoebot 1\nprogram\nguard on\naction a when expanded move contract tail\nend\n";
+
+pub const UNGUARDED: &str =
+    "amoebot 1\nprogram\nguard off\naction a when expanded move contract tail\nend\n";
+
+pub const PUSH: &str = "amoebot 1\nprogram\naction a when true move push head 0\nend\n";
+
+pub const PULL: &str = "amoebot 1\nprogram\naction a when true move pull tail 3\nend\n";
+
+// ---- shapes, of four lines where there is one amoebot
+
+pub const ONE: &str = "shape\narea 0 0 8 8\nbot 2 3 2 3 0 +\nend\n";
+
+/// Two amoebots side by side.
+pub const TWO: &str = "shape\narea 0 0 8 8\nbot 2 3 2 3 0 + 0\nbot 3 3 3 3 0 + 0\nend\n";
+
+/// Two amoebots far from each other.
+pub const FAR: &str = "shape\narea 0 0 8 8\nbot 1 1 1 1 0 +\nbot 6 6 6 6 0 +\nend\n";
+
+/// An expanded amoebot with a contracted one behind its tail.
+pub const TRAILED: &str = "shape\narea 0 0 8 8\nbot 3 3 2 3 0 +\nbot 1 3 1 3 0 +\nend\n";
+
+pub const TRAILED_0: &str = "shape\narea 0 0 8 8\nbot 3 3 2 3 0 + 0\nbot 1 3 1 3 0 + 0\nend\n";
+
+// ---- lists
+
+pub const ONE_TURN: &str = "lists\nturns 1\nlist 0\nend\n";
+
+pub const TWO_TURNS: &str = "lists\nturns 2\nlist 0\nend\n";
+
+pub const ONE_EACH: &str = "lists\nturns 1\nlist 0\nlist 1\nend\n";
+
+pub const TWO_EACH: &str = "lists\nturns 2\nlist 0\nlist 1\nend\n";
+
+// ---- what is written
+
+pub const NO_ENTRY: &str = "journal\nend\n";
+
+pub const DONE: &str = "turns\nturn 0 0 done 0\nend\n";
+
+pub const EXPANDED: &str =
+    "journal\nentry 0 0 0 0 0 expand head 0 spot 3 3 0 body 0 3 3 2 3 0 +\nend\n";
+
+pub const PULLED: &str = "journal\n\
+    entry 0 0 0 0 0 pull tail 3 spot 2 3 1 body 0 3 3 3 3 0 + body 1 2 3 1 3 0 +\nend\n";
+
+pub const FAR_JOURNAL: &str = "journal\n\
+    entry 0 1 0 1 0 expand head 0 spot 7 6 1 body 1 7 6 6 6 0 +\n\
+    entry 1 0 0 0 0 expand head 0 spot 2 1 0 body 0 2 1 1 1 0 +\n\
+    end\n";
+
+/// The two entries, the other way round.
+pub const FAR_EXCHANGED: &str = "journal\n\
+    entry 0 0 0 0 0 expand head 0 spot 2 1 0 body 0 2 1 1 1 0 +\n\
+    entry 1 1 0 1 0 expand head 0 spot 7 6 1 body 1 7 6 6 6 0 +\n\
+    end\n";
+
+pub const FAR_FINAL: &str = "final\narea 0 0 8 8\nbot 2 1 1 1 0 +\nbot 7 6 6 6 0 +\nend\n";
+
+pub const DRAGGED_JOURNAL: &str = "journal\n\
+    entry 0 0 0 0 0 pull tail 3 spot 2 3 1 body 0 3 3 3 3 0 + 0 body 1 2 3 1 3 0 + 0\n\
+    entry 1 1 1 1 1 none body 1 2 3 1 3 0 + 1\n\
+    end\n";
+
+/// The two entries, the other way round: an amoebot makes a note of what has not happened.
+pub const DRAGGED_EXCHANGED: &str = "journal\n\
+    entry 0 1 1 1 1 none body 1 2 3 1 3 0 + 1\n\
+    entry 1 0 0 0 0 pull tail 3 spot 2 3 1 body 0 3 3 3 3 0 + 0 body 1 2 3 1 3 0 + 0\n\
+    end\n";
+
+pub const DRAGGED_FINAL: &str = "final\narea 0 0 8 8\nbot 3 3 3 3 0 + 0\nbot 2 3 1 3 0 + 1\nend\n";

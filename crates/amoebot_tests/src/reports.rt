@@ -1,0 +1,149 @@
+//! Reports of `run` on threads, by programs from their texts.
+//! Each is judged by a plain checker that knows the model and nothing of claims.
+//! Its text, behind the document, agrees under `replay`.
+
+use crate::meetings::{MEETINGS, ONE_FOR_SIXTEEN, SIXTEEN_FOR_SIXTEEN};
+use crate::tests::{check, joined, words};
+use action_eval::Runner;
+use amoebot_run::{Ended, Status, run_text};
+use claim_core::Report;
+use claim_tests::is_report;
+use outer_io::SureSink;
+use shape_files::{Form, read_sections};
+use shipped_programs::HEXAGON;
+use std::alloc::{AllocError, Global};
+use std::process::Abort;
+use std::sync::Wait;
+use std::test::Fail;
+use std::thread::Threads;
+
+/// What a run leaves: its report, and the document with the text behind it.
+#[derive(Drop)]
+struct Replayed {
+    report: Report,
+    whole: Vec<u8>,
+}
+
+/// Runs the document, whose last byte is LF, and compares what `replay` says of it with the text behind it.
+fn run_and_replay<R: Abort + Threads + Wait + Sync>(
+    rt: &R,
+    alloc: Global,
+    document: &str,
+) -> Result<Replayed, Fail> {
+    let mut out = SureSink::new(alloc, 4_000_000)?;
+    let words = words(alloc, &["run"])?;
+    let Ended {
+        status,
+        report,
+        turns,
+    } = run_text(rt, alloc, words.as_slice(), document.as_bytes(), &mut out);
+    assert_eq!(rt; status, Status::Done);
+    assert!(rt; turns.is_some());
+    let report = report.ok_or("a report")?;
+    let mut whole: Vec<u8> = Vec::new(alloc);
+    whole.extend_from_slice(document.as_bytes())?;
+    whole.extend_from_slice(out.bytes())?;
+    let agrees = format!(in alloc; "agrees {}\n", report.journal.entries().len())?;
+    check(
+        rt,
+        alloc,
+        &["replay"],
+        whole.as_slice(),
+        Status::Done,
+        None,
+        agrees.as_str(),
+    )?;
+    Ok(Replayed { report, whole })
+}
+
+/// Whether the report is one of the document's run, by the checker.
+fn is_report_of(alloc: Global, document: &str, report: &Report) -> Result<bool, Fail> {
+    if document.len() > 1_000_000 {
+        return Ok(false);
+    }
+    let Ok(sections) = read_sections(alloc, document.as_bytes(), Form::Run) else {
+        return Ok(false);
+    };
+    let parts = sections.into_parts();
+    let runner = Runner::new(parts.checked.ok_or("a program")?);
+    let world = parts.world.ok_or("a shape")?;
+    let lists = parts.lists.ok_or("lists")?;
+    is_report(alloc, &runner, &world, &lists, report)
+}
+
+/// Sixty runs, of two, four and sixteen lists.
+#[test]
+fn reports_where_zones_meet_pass_the_checker_and_agree(rt: HostRuntime) -> Result<(), Fail> {
+    for pieces in MEETINGS {
+        let document = joined(rt.alloc(), pieces)?;
+        for _time in 0..20 {
+            let replayed = run_and_replay(&rt, rt.alloc(), document.as_str())?;
+            let passes = is_report_of(rt.alloc(), document.as_str(), &replayed.report)?;
+            assert!(rt; passes);
+        }
+    }
+    Ok(())
+}
+
+#[test]
+fn one_of_sixteen_callers_marks_the_amoebot(rt: HostRuntime) -> Result<(), Fail> {
+    let document = joined(rt.alloc(), ONE_FOR_SIXTEEN)?;
+    let replayed = run_and_replay(&rt, rt.alloc(), document.as_str())?;
+    assert_eq!(rt; replayed.report.journal.entries().len(), 1);
+    assert_eq!(rt; replayed.report.turns.callers(), 16);
+    Ok(())
+}
+
+#[test]
+fn sixteen_callers_mark_each_amoebot_at_most_once(rt: HostRuntime) -> Result<(), Fail> {
+    let document = joined(rt.alloc(), SIXTEEN_FOR_SIXTEEN)?;
+    let replayed = run_and_replay(&rt, rt.alloc(), document.as_str())?;
+    assert!(rt; replayed.report.journal.entries().len() <= 16);
+    let passes = is_report_of(rt.alloc(), document.as_str(), &replayed.report)?;
+    assert!(rt; passes);
+    Ok(())
+}
+
+/// The document of 100 amoebots in a row, of which the first is the seed of a hexagon, in four lists of every fourth one.
+fn row_of_100(alloc: Global) -> Result<String, AllocError> {
+    let mut text = joined(alloc, &["amoebot 1\n", HEXAGON])?;
+    text = text.replacen(alloc, "guard off", "guard on", 1)?;
+    text.push_str("shape\narea 0 0 128 21\nbot 14 10 14 10 0 + 1 6 0\n")?;
+    for x in 15..114 {
+        let bot = format!(in alloc; "bot {x} 10 {x} 10 0 + 0 6 6\n")?;
+        text.push_str(&bot)?;
+    }
+    text.push_str("end\nlists\nturns 4000\n")?;
+    for caller in 0..4u16 {
+        text.push_str("list")?;
+        for k in 0..25u16 {
+            let id = format!(in alloc; " {}", 4 * k + caller)?;
+            text.push_str(&id)?;
+        }
+        text.push_str("\n")?;
+    }
+    text.push_str("end\n")?;
+    Ok(text)
+}
+
+#[test]
+fn a_guarded_row_of_100_stays_connected(rt: HostRuntime) -> Result<(), Fail> {
+    let document = row_of_100(rt.alloc())?;
+    let replayed = run_and_replay(&rt, rt.alloc(), document.as_str())?;
+    assert_eq!(rt; replayed.report.turns.callers(), 4);
+    let words = words(rt.alloc(), &["measure"])?;
+    let mut out = SureSink::new(rt.alloc(), 4096)?;
+    let ended = run_text(
+        &rt,
+        rt.alloc(),
+        words.as_slice(),
+        replayed.whole.as_slice(),
+        &mut out,
+    );
+    assert_eq!(rt; ended.status, Status::Done);
+    assert!(rt;
+        out.bytes()
+            .starts_with("bots 100\nconnected yes\n".as_bytes())
+    );
+    Ok(())
+}

@@ -1,0 +1,447 @@
+ghost use Rattle.std.specs.declared.option.Option.{Option};
+
+use crate::commands::{COMPARED_AND_CHECKED, INTERLEAVINGS, MEASURED, NO_COMMANDS, SHOWN};
+use crate::faults::FAULTS;
+use crate::meetings::TWO_APART;
+use crate::pieces::{Fault, Row};
+use crate::runs::{RUNS, WHOLE_PROGRAMS};
+use activation::NoGate;
+use amoebot_run::{Ended, Status, run, run_text};
+use arrayvec::ArrayVec;
+use outer_io::{Failed, Sink, Source, SureSink, SureSource};
+use std::alloc::{AllocError, Global};
+use std::process::Abort;
+use std::sync::Wait;
+use std::test::Fail;
+use std::thread::Threads;
+use text_tokens::{Refusal, RefusalKind};
+use turn_workers::MeetGate;
+
+/// The worked example on one line.
+const ON_ONE_LINE: &str =
+    "amoebot 1 program action out when contracted move expand head 0 end shape area 0 0 8 8 bot 2 3 2 3 0 + \
+                    end lists turns 2 list 0 end";
+
+pub(crate) fn words(alloc: Global, texts: &[&str]) -> Result<Vec<String>, AllocError> {
+    let mut words = Vec::new(alloc);
+    for text in texts {
+        words.push(String::from_str(alloc, text)?)?;
+    }
+    Ok(words)
+}
+
+pub(crate) fn joined(alloc: Global, pieces: &[&str]) -> Result<String, AllocError> {
+    let mut text = String::new(alloc);
+    for piece in pieces {
+        text.push_str(piece)?;
+    }
+    Ok(text)
+}
+
+/// Runs the bytes, and compares the status, the number of entries of the report, if there is one, and the text.
+pub(crate) fn check<R: Abort + Threads + Wait + Sync>(
+    rt: &R,
+    alloc: Global,
+    texts: &[&str],
+    bytes: &[u8],
+    status: Status,
+    entries: Option<usize>,
+    text: &str,
+) -> Result<(), AllocError> {
+    let words = words(alloc, texts)?;
+    let Ok(mut out) = SureSink::new(alloc, 4096) else {
+        return Err(AllocError);
+    };
+    let ended = run_text(rt, alloc, words.as_slice(), bytes, &mut out);
+    assert_eq!(rt; out.bytes(), text.as_bytes());
+    assert!(rt; out.whole());
+    assert_eq!(rt; ended.status, status);
+    let found = match &ended.report {
+        Some(report) => Some(report.journal.entries().len()),
+        None => None,
+    };
+    assert_eq!(rt; found, entries);
+    Ok(())
+}
+
+/// The word of each row does what the row says.
+fn check_rows<R: Abort + Threads + Wait + Sync>(
+    rt: &R,
+    alloc: Global,
+    rows: &[Row],
+) -> Result<(), AllocError> {
+    for (word, pieces, status, entries, texts) in rows {
+        let document = joined(alloc, pieces)?;
+        let text = joined(alloc, texts)?;
+        check(
+            rt,
+            alloc,
+            &[word],
+            document.as_bytes(),
+            *status,
+            *entries,
+            text.as_str(),
+        )?;
+    }
+    Ok(())
+}
+
+/// The word of each row refuses the document as the row says.
+fn check_faults<R: Abort + Threads + Wait + Sync>(
+    rt: &R,
+    alloc: Global,
+    faults: &[Fault],
+) -> Result<(), AllocError> {
+    for (word, pieces, line, kind, text) in faults {
+        let document = joined(alloc, pieces)?;
+        let status = Status::Refused(Refusal {
+            line: *line,
+            kind: *kind,
+        });
+        check(rt, alloc, &[word], document.as_bytes(), status, None, text)?;
+    }
+    Ok(())
+}
+
+/// Calls `run` with the words.
+fn call<R: Threads + Wait + Sync, S: Source, K: Sink>(
+    rt: &R,
+    alloc: Global,
+    texts: &[&str],
+    input: &mut S,
+    out: &mut K,
+) -> Result<Ended, AllocError> {
+    let words = words(alloc, texts)?;
+    Ok(run(rt, alloc, words.as_slice(), input, out, &NoGate))
+}
+
+/// Calls `run` with the words, and compares the status and what is written of it. No report comes.
+fn check_line<R: Abort + Threads + Wait + Sync, S: Source>(
+    rt: &R,
+    alloc: Global,
+    texts: &[&str],
+    input: &mut S,
+    status: Status,
+    line: &str,
+) -> Result<(), AllocError> {
+    let Ok(mut out) = SureSink::new(alloc, 4096) else {
+        return Err(AllocError);
+    };
+    let ended = call(rt, alloc, texts, input, &mut out)?;
+    assert_eq!(rt; ended.status, status);
+    assert!(rt; ended.report.is_none());
+    assert!(rt; ended.turns.is_none());
+    assert_eq!(rt; out.bytes(), line.as_bytes());
+    assert!(rt; out.whole());
+    Ok(())
+}
+
+#[test]
+fn lists_are_run(rt: HostRuntime) -> Result<(), Fail> {
+    check_rows(&rt, rt.alloc(), &RUNS)?;
+    Ok(())
+}
+
+#[test]
+fn schedules_are_followed(rt: HostRuntime) -> Result<(), Fail> {
+    check_rows(&rt, rt.alloc(), &INTERLEAVINGS)?;
+    Ok(())
+}
+
+#[test]
+fn whole_programs_are_run(rt: HostRuntime) -> Result<(), Fail> {
+    check_rows(&rt, rt.alloc(), &WHOLE_PROGRAMS)?;
+    Ok(())
+}
+
+#[test]
+fn journals_are_compared_and_programs_printed(rt: HostRuntime) -> Result<(), Fail> {
+    check_rows(&rt, rt.alloc(), &COMPARED_AND_CHECKED)?;
+    Ok(())
+}
+
+#[test]
+fn shapes_are_measured(rt: HostRuntime) -> Result<(), Fail> {
+    check_rows(&rt, rt.alloc(), &MEASURED)?;
+    Ok(())
+}
+
+#[test]
+fn first_faults_are_told(rt: HostRuntime) -> Result<(), Fail> {
+    check_faults(&rt, rt.alloc(), &FAULTS)?;
+    Ok(())
+}
+
+/// As many blanks as a document may have bytes, and one more.
+#[test]
+fn looks_at_no_document_above_the_limit(rt: HostRuntime) -> Result<(), Fail> {
+    let mut blanks = vec![in rt.alloc(); b' '; 1_048_576]?;
+    for (line, kind, text) in [
+        (1, RefusalKind::Truncated, "refused 1 Truncated\n"),
+        (0, RefusalKind::TooLong, "refused 0 TooLong\n"),
+    ] {
+        let status = Status::Refused(Refusal { line, kind });
+        for word in ["run", "interleave", "check"] {
+            check(
+                &rt,
+                rt.alloc(),
+                &[word],
+                blanks.as_slice(),
+                status,
+                None,
+                text,
+            )?;
+        }
+        blanks.push(b' ')?;
+    }
+    check(
+        &rt,
+        rt.alloc(),
+        &["replay"],
+        blanks.as_slice(),
+        Status::Refused(Refusal {
+            line: 1,
+            kind: RefusalKind::Truncated,
+        }),
+        None,
+        "refused 1 Truncated\n",
+    )?;
+    Ok(())
+}
+
+/// A source of comments, which fails after so many reads.
+#[derive(Drop)]
+struct FailingSource {
+    good: u32,
+    faults: u64,
+}
+
+impl Source for FailingSource {
+    ghost use Rattle.std.specs.declared.option.Option.TheVariants.{None};
+
+    ghost left = { λ _. None };
+
+    ghost faults = { λ source. source.faults };
+
+    fn read(&mut self, piece: &mut [u8]) -> Result<usize, Failed> {
+        if self.good == 0 {
+            self.faults = self.faults.saturating_add(1);
+            return Err(Failed);
+        }
+        self.good -= 1;
+        piece[0] = b'#';
+        Ok(1)
+    }
+}
+
+/// A source of a document, of which each read behind the one that told the end fails.
+#[derive(Drop)]
+struct EndingSource {
+    source: SureSource,
+    ended: bool,
+    faults: u64,
+}
+
+impl Source for EndingSource {
+    ghost use Rattle.std.specs.declared.option.Option.TheVariants.{None};
+
+    ghost left = { λ _. None };
+
+    ghost faults = { λ source. source.faults };
+
+    fn read(&mut self, piece: &mut [u8]) -> Result<usize, Failed> {
+        if self.ended {
+            self.faults = self.faults.saturating_add(1);
+            return Err(Failed);
+        }
+        let count = self.source.read(piece)?;
+        self.ended = count == 0;
+        Ok(count)
+    }
+}
+
+/// A sink that takes ten bytes at a time, and fails after so many writes.
+#[derive(Drop)]
+struct FailingSink {
+    good: u32,
+    taken: ArrayVec<u8, 64>,
+    faults: u64,
+}
+
+impl Sink for FailingSink {
+    ghost use Rattle.std.specs.declared.option.Option.TheVariants.{None};
+
+    ghost written = { λ _. None };
+
+    ghost faults = { λ sink. sink.faults };
+
+    fn write(&mut self, piece: &[u8]) -> Result<usize, Failed> {
+        if self.good == 0 {
+            self.faults = self.faults.saturating_add(1);
+            return Err(Failed);
+        }
+        self.good -= 1;
+        let count = piece.len().min(10);
+        let _ = self.taken.try_extend_from_slice(&piece[..count]);
+        Ok(count)
+    }
+}
+
+#[test]
+fn judges_the_words_before_it_reads(rt: HostRuntime) -> Result<(), Fail> {
+    let usage = "usage: run / interleave / replay / check / measure / show NAME / sample NUMBER\n";
+    for texts in &NO_COMMANDS {
+        let mut input = FailingSource { good: 0, faults: 0 };
+        check_line(&rt, rt.alloc(), texts, &mut input, Status::Words, usage)?;
+        assert_eq!(rt; input.faults, 0);
+    }
+    Ok(())
+}
+
+#[test]
+fn shipped_programs_are_shown_and_nothing_is_read(rt: HostRuntime) -> Result<(), Fail> {
+    for (name, text) in &SHOWN {
+        let mut input = FailingSource { good: 0, faults: 0 };
+        check_line(
+            &rt,
+            rt.alloc(),
+            &["show", name],
+            &mut input,
+            Status::Done,
+            text,
+        )?;
+        assert_eq!(rt; input.faults, 0);
+    }
+    Ok(())
+}
+
+#[test]
+fn a_sample_is_told_in_six_lines_and_nothing_is_read(rt: HostRuntime) -> Result<(), Fail> {
+    for (number, line) in [("1", "sample 1\n"), ("0000000023", "sample 23\n")] {
+        let mut input = FailingSource { good: 0, faults: 0 };
+        let mut out = SureSink::new(rt.alloc(), 4096)?;
+        let Ended {
+            status,
+            report,
+            turns,
+        } = call(&rt, rt.alloc(), &["sample", number], &mut input, &mut out)?;
+        assert_eq!(rt; status, Status::Done);
+        let lines = joined(
+            rt.alloc(),
+            &[
+                line,
+                "bots 150\ncallers 4\nturns 16000\nconnected yes\nreplay yes\n",
+            ],
+        )?;
+        assert_eq!(rt; out.bytes(), lines.as_bytes());
+        assert_eq!(rt; input.faults, 0);
+        assert!(rt; turns.is_some());
+        let report = report.ok_or("a report")?;
+        assert_eq!(rt; report.world.bots(), 150);
+        assert_eq!(rt; report.turns.callers(), 4);
+        for caller in 0..report.turns.callers() {
+            assert_eq!(rt; report.turns.count(caller), 4000);
+        }
+        assert!(rt; !report.journal.entries().is_empty());
+    }
+    Ok(())
+}
+
+/// Each turn waits in the gate, once it has claimed its zone, until both callers have come to that turn.
+/// One after another they would not meet.
+#[test]
+fn two_callers_meet_in_each_turn(rt: HostRuntime) -> Result<(), Fail> {
+    let document = joined(rt.alloc(), TWO_APART)?;
+    let words = words(rt.alloc(), &["run"])?;
+    let mut input = SureSource::new(rt.alloc(), document.as_bytes())?;
+    let mut out = SureSink::new(rt.alloc(), 4096)?;
+    let gate = MeetGate::new(2, 50_000_000);
+    let ended = run(
+        &rt,
+        rt.alloc(),
+        words.as_slice(),
+        &mut input,
+        &mut out,
+        &gate,
+    );
+    assert_eq!(rt; ended.status, Status::Done);
+    assert!(rt; gate.met());
+    Ok(())
+}
+
+#[test]
+fn answers_a_read_that_fails(rt: HostRuntime) -> Result<(), Fail> {
+    for good in [0, 3] {
+        let mut input = FailingSource { good, faults: 0 };
+        check_line(
+            &rt,
+            rt.alloc(),
+            &["run"],
+            &mut input,
+            Status::ReadFault,
+            "read fault\n",
+        )?;
+    }
+    Ok(())
+}
+
+#[test]
+fn reads_nothing_behind_the_end(rt: HostRuntime) -> Result<(), Fail> {
+    let source = SureSource::new(rt.alloc(), ON_ONE_LINE.as_bytes())?;
+    let mut input = EndingSource {
+        source,
+        ended: false,
+        faults: 0,
+    };
+    let mut out = SureSink::new(rt.alloc(), 4096)?;
+    let ended = call(&rt, rt.alloc(), &["run"], &mut input, &mut out)?;
+    assert_eq!(rt; ended.status, Status::Done);
+    assert!(rt; input.ended);
+    assert_eq!(rt; input.faults, 0);
+    Ok(())
+}
+
+#[test]
+fn answers_a_write_that_fails(rt: HostRuntime) -> Result<(), Fail> {
+    let writes: [(&[&str], u32, &str); 3] = [
+        (&["run"], 1, "journal\nen"),
+        (&["run"], 0, ""),
+        (&["walk"], 2, "usage: run / interle"),
+    ];
+    for (texts, good, taken) in writes {
+        let mut input = SureSource::new(rt.alloc(), ON_ONE_LINE.as_bytes())?;
+        let mut out = FailingSink {
+            good,
+            taken: ArrayVec::new(),
+            faults: 0,
+        };
+        let ended = call(&rt, rt.alloc(), texts, &mut input, &mut out)?;
+        assert_eq!(rt; ended.status, Status::WriteFault);
+        assert!(rt; ended.report.is_none());
+        assert_eq!(rt; out.taken.as_slice(), taken.as_bytes());
+    }
+    Ok(())
+}
+
+#[test]
+fn each_status_has_its_number(rt: HostRuntime) -> Result<(), Fail> {
+    let numbers = [
+        (Status::Done, 0),
+        (Status::Words, 2),
+        (
+            Status::Refused(Refusal {
+                line: 0,
+                kind: RefusalKind::TooLong,
+            }),
+            3,
+        ),
+        (Status::ReadFault, 4),
+        (Status::WriteFault, 5),
+        (Status::NoMemory, 6),
+        (Status::Differs(0), 7),
+    ];
+    for (status, number) in numbers {
+        assert_eq!(rt; status.number(), number);
+    }
+    Ok(())
+}

@@ -1,0 +1,14 @@
+use Rattle.command_answers.proofs.Replayed.{Laws, run_texts_are_replayed, interleave_texts_are_replayed, what_is_owed_is_replayed}
+use Rattle.command_answers.proofs.replay_laws.run_texts_are_replayed.Goals as goal
+
+pub returns : goal.returns
+returns c =
+    let laws : Laws = record {
+      fit = c.documents_fit.ensures;
+      replayed = c.runs_are_replayed.ensures;
+      few = c.good_is_few.ensures;
+      acts = c.changes_are_acts.ensures.acts;
+      decide = c.acts_decide.ensures.laws;
+      nine = c.zone_has_at_most_nine_bodies.ensures;
+    } in
+    record { run = run_texts_are_replayed laws; interleave = interleave_texts_are_replayed laws; owed = what_is_owed_is_replayed laws }

@@ -1,0 +1,57 @@
+-- A document with the text of its run behind it.
+use Rattle.std.specs.Prelude.{ℕ, List, ◌++◌, length}
+use Rattle.std.specs.declared.option.Option.TheVariants.{Some, None}
+use Rattle.claim_core.specs.declared.report.Report.{Report}
+use Rattle.shape_files.specs.declared.section_kind.Form.TheVariants as form
+use Rattle.shape_files.specs.Documents.{Contents, HasContents}
+use Rattle.shape_files.specs.RunTexts.{EndsLine}
+use Rattle.command_runs.specs.Replay.{agrees_line}
+use Rattle.command_words.specs.declared.command.Command.TheVariants.{Document}
+use Rattle.command_words.specs.declared.command.DocumentCommand.{DocumentCommand}
+use Rattle.command_words.specs.declared.command.DocumentCommand.TheVariants.{Replay}
+use Rattle.command_answers.specs.declared.status.Status.TheVariants as status
+use Rattle.command_answers.specs.Reads.{whole}
+use Rattle.command_answers.specs.OfRun.{IsTextOfRun}
+use Rattle.command_answers.specs.OfInterleave.{IsTextOfInterleave}
+use Rattle.command_answers.specs.Owed.{IsOwed}
+
+-- what a document has, and the entries and the last world of a report
+abbrev pub with_report : Contents → Report → Contents
+with_report a report = record a { entries = Some report.journal.entries; final_world = Some report.world }
+
+-- what `replay` owes for the bytes: that the journal agrees, with the number of its entries
+abbrev pub IsAgreed : List ℕ → Report → Type 0
+IsAgreed bytes report =
+    IsOwed (Some (Document Replay)) (whole bytes) status.Done None (agrees_line (length report.journal.entries))
+
+-- The bytes with the text behind them are a document of Replay, which has what the bytes have, and the report's entries
+-- and last world. For it is owed that the journal agrees.
+pub record IsReplayed (bytes : List ℕ) (a : Contents) (report : Report) (text : List ℕ) : Type 0 where
+  pub document : HasContents form.Replay (bytes ++ text) (with_report a report)
+  pub agrees : IsAgreed (bytes ++ text) report
+
+-- so it is with each text of `run` for a document whose last byte is a line feed
+abbrev pub RunTextsAreReplayed : Type 0
+RunTextsAreReplayed =
+    (bytes : List ℕ) (a : Contents) (report : Report) (text : List ℕ)
+    → EndsLine bytes
+    → HasContents form.Run bytes a
+    → IsTextOfRun a report text
+    → IsReplayed bytes a report text
+
+-- and with each text of `interleave`, whose documents are also documents of `run`
+pub record InterleaveTextsAreReplayed : Type 0 where
+  pub is_run : (bytes : List ℕ) (a : Contents) → HasContents form.Interleave bytes a → HasContents form.Run bytes a
+  pub replayed : (bytes : List ℕ) (a : Contents) (report : Report) (text : List ℕ)
+      → EndsLine bytes
+      → HasContents form.Run bytes a
+      → IsTextOfInterleave a report text
+      → IsReplayed bytes a report text
+
+-- so where a command on such a document is done with a report, `replay` agrees on the document with what was written behind it
+abbrev pub WhatIsOwedIsReplayed : Type 0
+WhatIsOwedIsReplayed =
+    (c : DocumentCommand) (bytes : List ℕ) (report : Report) (text : List ℕ)
+    → EndsLine bytes
+    → IsOwed (Some (Document c)) (whole bytes) status.Done (Some report) text
+    → IsAgreed (bytes ++ text) report

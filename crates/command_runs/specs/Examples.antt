@@ -1,0 +1,90 @@
+-- What the commands leave of two amoebots that stand side by side on a row of three nodes, where the program expands a contracted
+-- amoebot to the right.
+use Rattle.std.specs.Prelude.{◌≡◌, ℕ, List, [], ◌∷◌, ◌++◌, codes}
+use Rattle.amoebot_state.specs.declared.verdict.Entry.{Entry}
+use Rattle.amoebot_state.specs.declared.verdict.Verdict.{Verdict}
+use Rattle.amoebot_state.specs.Configs.{Config, config_of}
+use Rattle.amoebot_state.specs.Zones.{Shown}
+use Rattle.amoebot_state.specs.Examples.{zeros}
+use Rattle.claim_core.specs.declared.marks.Mark.TheVariants as mark
+use Rattle.claim_core.specs.declared.report.Report.{Report}
+use Rattle.claim_core.specs.Turns.{CallerLists}
+use Rattle.small_worlds.specs.Rows.{row_area, row_with, bot_in_row, two_beside, expanded, one_refused}
+use Rattle.action_print.specs.Pins.{counting}
+use Rattle.command_runs.specs.Check.{check_text}
+use Rattle.command_runs.specs.Reports.{report_text}
+use Rattle.command_runs.specs.Run.{IsRunReport}
+use Rattle.command_runs.specs.Interleave.{IsInterleaveReport}
+use Rattle.command_runs.specs.Replay.{Agrees, DiffersAt, agrees_line, differs_line}
+use Rattle.command_runs.specs.Measure.{IsMeasureText}
+use Rattle.command_runs.specs.Sample.{IsSampleText}
+
+-- the shape at the start, and the one in which the second amoebot has expanded
+abbrev pub start : Config
+start = row_with (bot_in_row 1 1)
+
+abbrev pub second_spread : Config
+second_spread = row_with (bot_in_row 2 1)
+
+abbrev pub decides : Shown → Verdict
+decides = two_beside.verdict
+
+-- one list, of the second amoebot alone, and two turns: it expands, and then it is idle
+abbrev pub second_list : CallerLists
+second_list = record { turns = 2; ids = (1 ∷ []) ∷ [] }
+
+abbrev pub second_expansion : Entry
+second_expansion = record expanded { caller = 0 }
+
+abbrev pub one_expanded : Report
+one_expanded = record {
+  world = second_spread;
+  journal = record { first = start; entries = second_expansion ∷ []; spare = 1 };
+  turns = record { turns = 2; marks = (mark.Done 0 ∷ mark.Idle 1 ∷ []) ∷ [] };
+}
+
+abbrev pub its_text : List ℕ
+its_text =
+    codes "journal\nentry 0 0 0 1 0 expand head 0 spot 2 0 1 body 1 2 0 1 0 0 +\nend\n"
+    ++ codes "final\narea 0 0 3 1\nbot 0 0 0 0 0 +\nbot 2 0 1 0 0 +\nend\nturns\nturn 0 0 done 0\nturn 0 1 idle 1\nend\n"
+
+-- Two lists of one turn. Caller 0 finds a node of caller 1 held and gives up.
+-- Caller 1 goes on until it has committed and freed a cell. The rounds free its other four.
+abbrev pub two_caller_schedule : List ℕ
+two_caller_schedule = 1 ∷ 1 ∷ 0 ∷ 0 ∷ 0 ∷ 1 ∷ 0 ∷ 0 ∷ 0 ∷ 1 ∷ 1 ∷ 1 ∷ 1 ∷ 1 ∷ []
+
+abbrev pub counting_checked : List ℕ
+counting_checked =
+    codes "amoebot 1\nprogram\nguard off\nvar m 3\naction a\nwhen ( m = 0 or m = 1 ) and not contracted\n"
+    ++ codes "do m := m + 1 ; if m > 2 then m := 0 fi\nmove contract tail\nend\n"
+
+-- the row without an amoebot
+abbrev pub nobody : Config
+nobody = config_of row_area zeros []
+
+-- with one amoebot alone, and with two that have a node between them
+abbrev pub one_alone : Config
+one_alone = config_of row_area zeros (bot_in_row 1 1 ∷ [])
+
+abbrev pub two_apart : Config
+two_apart = row_with (bot_in_row 2 2)
+
+pub record SmallCommands : Type 0 where
+  pub run : IsRunReport decides start second_list one_expanded
+  -- a run of two lists may leave what an interleaving of them leaves
+  pub two_lists : IsRunReport decides start two_beside.lists one_refused
+  pub text : report_text 0 one_expanded ≡ its_text
+  pub interleave : IsInterleaveReport decides start two_beside.lists two_caller_schedule one_refused
+  pub agrees : Agrees decides start (second_expansion ∷ []) second_spread
+  -- the amoebot is expanded when it is to expand again
+  pub differs : DiffersAt decides start (second_expansion ∷ second_expansion ∷ []) second_spread 1
+  pub other_shape : DiffersAt decides start (second_expansion ∷ []) start 1
+  pub agrees_line : agrees_line 12 ≡ codes "agrees 12\n"
+  pub check_text : check_text counting ≡ counting_checked
+  pub differs_line : differs_line 0 ≡ codes "differs 0\n"
+  pub measure : IsMeasureText nobody (codes "bots 0\nconnected yes\nhexagon no\n")
+  pub hexagon : IsMeasureText one_alone (codes "bots 1\nconnected yes\nhexagon yes\n")
+  pub apart : IsMeasureText two_apart (codes "bots 2\nconnected no\nhexagon no\n")
+  -- the six lines, as if the run of one list were that of a number's sample
+  pub sample : IsSampleText decides start second_list 7 one_expanded
+      (codes "sample 7\nbots 2\ncallers 1\nturns 2\nconnected yes\nreplay yes\n")

@@ -1,9 +1,0 @@
-pub mod Framing
-pub mod Plainness
-pub mod Continuing
-pub mod Sectioning
-pub mod Deciding
-pub mod Reading
-pub mod Fine
-pub mod Fitting
-pub mod Replaying

@@ -1,8 +1,0 @@
-use Rattle.document_grammar.proofs.Plainness.{plain, forms_are_distinct}
-use Rattle.document_grammar.proofs.laws.forms_are_plain.Goals as goal
-
-pub returns-clause-texts : goal.returns-clause-texts
-returns-clause-texts g c = λ words form distinct s. plain g.S.Sectioned.is words form distinct s
-
-pub returns-clause-forms : goal.returns-clause-forms
-returns-clause-forms g c = forms_are_distinct

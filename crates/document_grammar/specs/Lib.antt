@@ -1,8 +1,0 @@
-pub mod Frame
-pub mod FrameReaders
-pub mod FrameLaws
-pub mod Documents
-pub mod DocumentReaders
-pub mod RunTexts
-pub mod Fitting
-pub mod DocumentRows

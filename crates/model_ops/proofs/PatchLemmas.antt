@@ -1,0 +1,250 @@
+-- The cells of members that have changed are the difference.
+use Rattle.std.proofs.Common.{◌≡◌, ◌≢◌, ◌<◌, ◌+◌, ℕ, List, [], ◌∷◌, ◌++◌, length, get_or, take, Bool, true, false, not, cond, ap, sym, ◌∙◌, refl, subst, inl, inr, arith, Option, Some, None, nat_eq}
+use Rattle.std.specs.List.{All, filter_map, find, position}
+use Rattle.std.specs.Prelude.{IsSome, is_some, if◌then◌else◌}
+use Rattle.std.specs.Option.{option_map}
+use Rattle.std.proofs.lemmas.Bool.{cases_Bool, both_ways, eqb-true, eq-eqb, false≢true, not-false}
+use Rattle.std.proofs.lemmas.Option.{none-some, same_Some}
+use Rattle.std.proofs.lemmas.List.{append_assoc, take_more}
+use Rattle.std.proofs.lemmas.List.Elements.{filter_map-append, All-head, All-contains}
+use Rattle.amoebot_state.specs.declared.cell.CellName.{CellName}
+use Rattle.amoebot_state.specs.declared.cell.CellName.TheVariants as name
+use Rattle.amoebot_state.specs.declared.cell.Cell.{Cell}
+use Rattle.amoebot_state.specs.declared.cell.Cell.TheVariants as cell
+use Rattle.tri_lattice.specs.declared.node.Node.{Node}
+use Rattle.tri_lattice.specs.Extent.{Extent}
+use Rattle.tri_lattice.proofs.Nodes.{cases_node}
+use Rattle.amoebot_state.specs.declared.bot.Bot.{Bot}
+use Rattle.amoebot_state.specs.Ports.{is_own}
+use Rattle.amoebot_state.specs.Pairs.{cell_of, cell_value}
+use Rattle.amoebot_state.specs.Configs.{Config, IsValid, bot_at, bot_of, occupant, value}
+use Rattle.amoebot_state.specs.Patches.{IsOrdered, bot_eq, id_eq, rank, diff}
+use Rattle.amoebot_state.specs.Zones.{shown, shown_alone}
+use Rattle.amoebot_state.proofs.Differences.{ordered_patch_is_diff}
+use Rattle.amoebot_state.proofs.Shows.{shown_valid}
+use Rattle.amoebot_state.proofs.Members.{Has, here, later, has_cases, not_in_none, Has-append_cases, Has-append_right, Has-filter_map, filter_map_has, All-from_Has, Contains-from_Has}
+use Rattle.amoebot_state.proofs.Owns.{own_cases}
+use Rattle.amoebot_state.proofs.Values.{value_same, bot_eq-true, id_eq-true}
+use Rattle.amoebot_state.proofs.RisingLists.{Rising, none, more, Rising-append, Rising-weaker, Rising-filter_map}
+use Rattle.model_ops.specs.declared.member.Member.{Member}
+use Rattle.model_ops.specs.Members.{IsBelow, AreRising, IsSite, changed_cells, body_now, config_found, config_now, id_found_on, id_on, has_changed, nodes_of, changed_spot, changed_body}
+use Rattle.model_ops.proofs.Members.{bot_by, bot_placed, find_placed, occupant_of}
+use Rattle.model_ops.proofs.OneNode.{OneNode, one_node}
+use Rattle.model_ops.proofs.KeepsRest.{reached_keeps_rest}
+use Rattle.model_ops.proofs.RisingRanks.{increasing-from_Rising}
+use Rattle.model_ops.specs.Laws.{KeepsRest}
+use Rattle.model_ops.specs.Reaches.{Reaches}
+use Rattle.model_ops.proofs.Told.{bot_is}
+
+-- a list that grew by what one more element gives
+pub more_given : {X Y : Type 0} (h : X → Option Y) (xs : List X) (k : ℕ) (d : X) (base now next : List Y) → k < length xs → now ≡ base ++ filter_map h (take k xs) → next ≡ now ++ filter_map h (get_or xs k d ∷ []) → next ≡ base ++ filter_map h (take (k + 1) xs)
+more_given h xs k d base now next lt was grew =
+    grew ∙ ap (λ ys. ys ++ filter_map h (get_or xs k d ∷ [])) was ∙ append_assoc base (filter_map h (take k xs)) (filter_map h (get_or xs k d ∷ []))
+    ∙ ap (λ ys. base ++ ys) (sym (ap (filter_map h) (take_more xs k d lt) ∙ filter_map-append h (take k xs) (get_or xs k d ∷ [])))
+
+-- what the first element that passes tells
+find_told : {X : Type 0} (p : X → Bool) (xs : List X) (x : X) → find p xs ≡ Some x → Has x xs × (p x ≡ true)
+find_told p [] x = λ e. absurd (none-some x e)
+find_told p (y ∷ xs) x = elim (cases_Bool (p y)) as (λ _. find p (y ∷ xs) ≡ Some x → Has x (y ∷ xs) × (p x ≡ true)) [
+  | inl t ↦ rw t (λ e. let same = same_Some y x e in (subst (λ z. Has z (y ∷ xs)) same here, ap p (sym same) ∙ t))
+  | inr f ↦ rw f (λ e. let rest = find_told p xs x e in (later rest.0, rest.1))
+]
+
+find_none : {X : Type 0} (p : X → Bool) (xs : List X) (x : X) → find p xs ≡ None → Has x xs → p x ≡ false
+find_none p [] x = λ e has. absurd (not_in_none has)
+find_none {X} p (y ∷ xs) x = elim (cases_Bool (p y)) as (λ _. find p (y ∷ xs) ≡ None → Has x (y ∷ xs) → p x ≡ false) [
+  | inl t ↦ rw t (λ e has. absurd (none-some y (sym e)))
+  | inr f ↦ rw f (λ e has. elim (has_cases has) [ inl same ↦ ap p same ∙ f | inr rest ↦ find_none p xs x e rest ])
+]
+
+-- a member is found by its id
+below_all : (i : ℕ) (ms : List Member) (m : Member) → IsBelow i ms → Has m ms → i < m.id
+below_all i [] m below has = absurd (not_in_none has)
+below_all i (n ∷ ms) m below has = elim (has_cases has) [
+  | inl e ↦ let same = ap (λ (k : Member). k.id) e in omega (arith, below.0)
+  | inr rest ↦ below_all i ms m below.1 rest
+]
+
+find_member : (ms : List Member) (m : Member) → AreRising ms → Has m ms → find (λ (n : Member). nat_eq n.id m.id) ms ≡ Some m
+find_member [] m rising has = absurd (not_in_none has)
+find_member (n ∷ ms) m rising has = elim (has_cases has) [
+  | inl e ↦
+      let same : n.id ≡ m.id = ap (λ (k : Member). k.id) (sym e) in
+      ap (λ t. cond t (Some n) (find (λ (k : Member). nat_eq k.id m.id) ms)) (eq-eqb n.id m.id same) ∙ ap Some (sym e)
+  | inr rest ↦
+      let lt = below_all n.id ms m rising.0 rest in
+      let apart : nat_eq n.id m.id ≡ false = elim (cases_Bool (nat_eq n.id m.id)) [ inl t ↦ let e = eqb-true n.id m.id t in absurd (omega arith) | inr f ↦ f ] in
+      ap (λ t. cond t (Some n) (find (λ (k : Member). nat_eq k.id m.id) ms)) apart ∙ find_member ms m rising.1 rest
+]
+
+rising_by_id : (ms : List Member) → AreRising ms → Rising (λ (m : Member). m.id) ms
+rising_by_id [] rising = none
+rising_by_id (m ∷ ms) rising = more (λ n has. below_all m.id ms n rising.0 has) (rising_by_id ms rising.1)
+
+-- a member that has changed, and one that has not
+changed_told : (m : Member) (p : CellName × Cell) → changed_body m ≡ Some p → (p ≡ body_now m) × (m.found ≢ m.now)
+changed_told m p = elim (cases_Bool (bot_eq m.found m.now)) as (λ _. changed_body m ≡ Some p → (p ≡ body_now m) × (m.found ≢ m.now)) [
+  | inl t ↦ rw t (λ e. absurd (none-some p e))
+  | inr f ↦ rw f (λ e. (sym (same_Some (body_now m) p e), λ same. both_ways _ f (ap (bot_eq m.found) (sym same) ∙ value_same (Some (cell.Body m.found)))))
+]
+
+module _ (a : Extent) (maxes : List ℕ) (own : ℕ) (ms : List Member) (m : Member) (rising : AreRising ms) (is : find (λ (n : Member). nat_eq n.id own) ms ≡ Some m) (one : OneNode (config_found a maxes ms) own (config_now a maxes ms)) where
+  abbrev old : Config
+  old = config_found a maxes ms
+
+  abbrev new : Config
+  new = config_now a maxes ms
+
+  -- the amoebots of members
+  was : (n : Member) → Has n ms → bot_at old n.id ≡ Some n.found
+  was n has = bot_by (λ (k : Member). k.found) a maxes ms n.id ∙ ap (option_map (λ (k : Member). k.found)) (find_member ms n rising has)
+
+  now : (n : Member) → Has n ms → bot_at new n.id ≡ Some n.now
+  now n has = bot_by (λ (k : Member). k.now) a maxes ms n.id ∙ ap (option_map (λ (k : Member). k.now)) (find_member ms n rising has)
+
+  own_was : bot_of old own ≡ m.found
+  own_was = bot_is old own m.found (bot_by (λ (k : Member). k.found) a maxes ms own ∙ ap (option_map (λ (k : Member). k.found)) is)
+
+  own_now : bot_of new own ≡ m.now
+  own_now = bot_is new own m.now (bot_by (λ (k : Member). k.now) a maxes ms own ∙ ap (option_map (λ (k : Member). k.now)) is)
+
+  -- the one node is among those that are looked at
+  node_listed : Has one.node (nodes_of m)
+  node_listed =
+      let P : Node → Type 0 = λ v. Has v (nodes_of m) in
+      elim one.own [
+        | inl t ↦ elim (own_cases m.found one.node (ap (λ (b : Bot). is_own b one.node) (sym own_was) ∙ t)) [
+          | inl h ↦ subst P h (later (later here))
+          | inr h ↦ subst P h (later (later (later here)))
+        ]
+        | inr t ↦ elim (own_cases m.now one.node (ap (λ (b : Bot). is_own b one.node) (sym own_now) ∙ t)) [
+          | inl h ↦ subst P h here
+          | inr h ↦ subst P h (later here)
+        ]
+      ]
+
+  occupants : (v : Node) → (id_found_on ms v ≡ occupant old v) × (id_on ms v ≡ occupant new v)
+  occupants v = (sym (occupant_of (λ (k : Member). k.found) a maxes ms v rising), sym (occupant_of (λ (k : Member). k.now) a maxes ms v rising))
+
+  spot_differs : (v : Node) → has_changed ms v ≡ true → occupant new v ≢ occupant old v
+  spot_differs v t same =
+      let (before, after) = occupants v in
+      let equal : id_eq (id_found_on ms v) (id_on ms v) ≡ true = ap (id_eq (id_found_on ms v)) (after ∙ same ∙ sym before) ∙ value_same (Some (cell.Spot (id_found_on ms v))) in
+      false≢true (sym (ap not equal) ∙ t)
+
+  spot_same : (v : Node) → has_changed ms v ≡ false → occupant new v ≡ occupant old v
+  spot_same v f =
+      let (before, after) = occupants v in
+      sym after ∙ sym (id_eq-true (id_found_on ms v) (id_on ms v) (not-false _ f)) ∙ before
+
+  -- a node whose occupant has changed is the one node
+  spot_is : (v : Node) → has_changed ms v ≡ true → v ≡ one.node
+  spot_is v t = elim (cases_node v one.node) [ inl e ↦ e | inr ne ↦ absurd (spot_differs v t (one.spots v ne)) ]
+
+  -- the pairs that are listed
+  abbrev spots : List (CellName × Cell)
+  spots = changed_spot ms (find (has_changed ms) (nodes_of m))
+
+  abbrev bodies : List (CellName × Cell)
+  bodies = filter_map changed_body ms
+
+  spot_told : (p : CellName × Cell) (o : Option Node) → find (has_changed ms) (nodes_of m) ≡ o → Has p (changed_spot ms o) → (v : Node) × (has_changed ms v ≡ true) × (p ≡ (name.Spot v, cell.Spot (id_on ms v)))
+  spot_told p None e has = absurd (not_in_none has)
+  spot_told p (Some v) e has = elim (has_cases has) [
+    | inl same ↦ (v, (find_told (has_changed ms) (nodes_of m) v e).1, same)
+    | inr rest ↦ absurd (not_in_none rest)
+  ]
+
+  body_told : (p : CellName × Cell) → Has p bodies → (n : Member) × Has n ms × (p ≡ body_now n) × (n.found ≢ n.now)
+  body_told p has =
+      let (n, listed, e) = filter_map_has changed_body ms has in
+      let told = changed_told n p e in
+      (n, listed, told.0, told.1)
+
+  given : (p : CellName × Cell) → Has p (spots ++ bodies) → value new (cell_of p) ≡ Some (cell_value p)
+  given p has =
+      let P : CellName × Cell → Type 0 = λ q. value new (cell_of q) ≡ Some (cell_value q) in
+      elim (Has-append_cases spots has) [
+        | inl s ↦ let (v, t, e) = spot_told p (find (has_changed ms) (nodes_of m)) refl s in subst P (sym e) (ap (λ o. Some (cell.Spot o)) (sym (occupants v).1))
+        | inr b ↦ let (n, listed, e, ne) = body_told p b in subst P (sym e) (ap (option_map cell.Body) (now n listed))
+      ]
+
+  differs : (p : CellName × Cell) → Has p (spots ++ bodies) → value old (cell_of p) ≢ Some (cell_value p)
+  differs p has =
+      let P : CellName × Cell → Type 0 = λ q. value old (cell_of q) ≢ Some (cell_value q) in
+      elim (Has-append_cases spots has) [
+        | inl s ↦ let (v, t, e) = spot_told p (find (has_changed ms) (nodes_of m)) refl s in subst P (sym e) (λ h. let same : occupant old v ≡ id_on ms v = cc in spot_differs v t (sym (occupants v).1 ∙ sym same))
+        | inr b ↦ let (n, listed, e, ne) = body_told p b in subst P (sym e) (λ h. let f = sym (ap (option_map cell.Body) (was n listed)) ∙ h in let same : n.found ≡ n.now = cc in ne same)
+      ]
+
+  -- what is not listed stays
+  lacking : (n : CellName) (p : CellName × Cell) → All (λ (q : CellName × Cell). cell_of q ≢ n) (spots ++ bodies) → Has p (spots ++ bodies) → cell_of p ≢ n
+  lacking n p lacks has = All-contains (λ (q : CellName × Cell). cell_of q ≢ n) (spots ++ bodies) p lacks (Contains-from_Has (spots ++ bodies) has)
+
+  body_kept : (j : ℕ) (o : Option Member) → find (λ (k : Member). nat_eq k.id j) ms ≡ o → All (λ (q : CellName × Cell). cell_of q ≢ name.Body j) (spots ++ bodies) → bot_at new j ≡ bot_at old j
+  body_kept j None e lacks = bot_by (λ (k : Member). k.now) a maxes ms j ∙ ap (option_map (λ (k : Member). k.now)) e ∙ sym (bot_by (λ (k : Member). k.found) a maxes ms j ∙ ap (option_map (λ (k : Member). k.found)) e)
+  body_kept j (Some n) e lacks =
+      let (listed, t) = find_told (λ (k : Member). nat_eq k.id j) ms n e in
+      elim (cases_Bool (bot_eq n.found n.now)) [
+        | inl same ↦
+            bot_by (λ (k : Member). k.now) a maxes ms j ∙ ap (option_map (λ (k : Member). k.now)) e
+            ∙ ap Some (sym (bot_eq-true n.found n.now same))
+            ∙ sym (bot_by (λ (k : Member). k.found) a maxes ms j ∙ ap (option_map (λ (k : Member). k.found)) e)
+        | inr f ↦
+            let pair : changed_body n ≡ Some (body_now n) = ap (λ x. if x then None else Some (body_now n)) f in
+            absurd (lacking (name.Body j) (body_now n) lacks (Has-append_right spots (Has-filter_map changed_body ms listed pair)) (ap name.Body (eqb-true n.id j t)))
+      ]
+
+  spot_kept : (v : Node) (o : Option Node) → find (has_changed ms) (nodes_of m) ≡ o → All (λ (q : CellName × Cell). cell_of q ≢ name.Spot v) (changed_spot ms o ++ bodies) → occupant new v ≡ occupant old v
+  spot_kept v None e lacks = elim (cases_node v one.node) [
+    | inl same ↦ spot_same v (ap (has_changed ms) same ∙ find_none (has_changed ms) (nodes_of m) one.node e node_listed)
+    | inr ne ↦ one.spots v ne
+  ]
+  spot_kept v (Some u) e lacks = elim (cases_node v one.node) [
+    | inl same ↦
+        let told = find_told (has_changed ms) (nodes_of m) u e in
+        absurd (All-head (λ (q : CellName × Cell). cell_of q ≢ name.Spot v) (name.Spot u, cell.Spot (id_on ms u)) bodies lacks (ap name.Spot (spot_is u told.1 ∙ sym same)))
+    | inr ne ↦ one.spots v ne
+  ]
+
+  kept : (n : CellName) → All (λ (p : CellName × Cell). cell_of p ≢ n) (spots ++ bodies) → value new n ≡ value old n
+  kept (name.Spot v) lacks = ap (λ o. Some (cell.Spot o)) (spot_kept v (find (has_changed ms) (nodes_of m)) refl lacks)
+  kept (name.Body j) lacks = ap (option_map cell.Body) (body_kept j (find (λ (k : Member). nat_eq k.id j) ms) refl lacks)
+
+  abbrev key : CellName × Cell → ℕ
+  key p = rank (cell_of p)
+
+  spots_rise : (o : Option Node) → Rising key (changed_spot ms o)
+  spots_rise None = none
+  spots_rise (Some v) = more (λ y has. absurd (not_in_none has)) none
+
+  bodies_rise : Rising key bodies
+  bodies_rise = Rising-filter_map (λ (n : Member). n.id + 1) key changed_body (λ n p e. ap key (changed_told n p e).0) (Rising-weaker (λ (n : Member). n.id) (λ (n : Member). n.id + 1) (λ n k hn hk lt. omega (arith, lt)) (rising_by_id ms rising))
+
+  ordered : IsOrdered (spots ++ bodies)
+  ordered = increasing-from_Rising key (spots ++ bodies) (Rising-append key (spots_rise (find (has_changed ms) (nodes_of m))) bodies_rise (λ p q hp hq.
+      let (v, t, e) = spot_told p (find (has_changed ms) (nodes_of m)) refl hp in
+      let (n, listed, f, ne) = body_told q hq in
+      omega (arith, ap key e, ap key f)))
+
+  -- so they are the difference
+  pub difference : IsValid old → KeepsRest old own new → changed_cells ms m ≡ diff old new
+  difference valid keeps = ordered_patch_is_diff old new (spots ++ bodies) valid (record {
+    valid = keeps.valid;
+    rest = keeps.rest;
+    size = keeps.size;
+    ids = keeps.ids;
+    given = All-from_Has (λ (p : CellName × Cell). value new (cell_of p) ≡ Some (cell_value p)) (spots ++ bodies) given;
+    kept = kept;
+  }) ordered (All-from_Has (λ (p : CellName × Cell). value old (cell_of p) ≢ Some (cell_value p)) (spots ++ bodies) differs)
+
+-- what a site gives as its patch, where an activation reaches its configuration
+pub patches : (a : Extent) (maxes : List ℕ) (own : ℕ) (ms : List Member) (k : ℕ) (d : Member) → IsSite a maxes own ms → position (λ (n : Member). nat_eq n.id own) ms ≡ Some k → Reaches (shown_alone (shown (config_found a maxes ms) own)) own (config_now a maxes ms) → changed_cells ms (get_or ms k d) ≡ diff (shown_alone (shown (config_found a maxes ms) own)) (config_now a maxes ms)
+patches a maxes own ms k d is placed reaches =
+    let old = config_found a maxes ms in
+    let new = config_now a maxes ms in
+    let valid = subst IsValid is.whole (shown_valid (shown old own) is.was_shown) in
+    let there : IsSome (bot_at old own) = ap is_some (bot_placed (λ (n : Member). n.found) a maxes ms own k d placed) in
+    let reached = subst (λ (c : Config). Reaches c own new) is.whole reaches in
+    difference a maxes own ms (get_or ms k d) is.rising (find_placed (λ (n : Member). nat_eq n.id own) ms k d placed) (one_node old own new valid there reached) valid (reached_keeps_rest old own new valid there reached)
+    ∙ ap (λ (c : Config). diff c new) (sym is.whole)

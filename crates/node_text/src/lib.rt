@@ -1,0 +1,11 @@
+//! What several sections have: numbers, nodes, ends, ports and amoebots, as text both ways.
+#![tactic(auto)]
+
+mod parts;
+mod printing;
+
+pub use parts::{
+    read_bot, read_chirality, read_end, read_int, read_node, read_port, read_up_to, read_word,
+    read_word_within,
+};
+pub use printing::{put_bot, put_node, put_port};

@@ -1,9 +1,0 @@
-pub mod Bodies
-pub mod Patching
-pub mod Acting
-pub mod Worlds
-pub mod Entries
-pub mod Marking
-pub mod Sizes
-pub mod Interleaved
-pub mod Replayed

@@ -1,0 +1,5 @@
+use Rattle.shape_files.proofs.FrameLemmas.{framed}
+use Rattle.shape_files.proofs.document_laws.in_frame.Goals as goal
+
+pub returns : goal.returns
+returns g c = λ are form s. framed g.S.Sectioned.is g.S.Sectioned.reads are form s

@@ -1,0 +1,122 @@
+-- Documents: what each section is, in the state that those before it gave, and what a document of a form has.
+use Rattle.std.specs.Prelude.{◌≡◌, ℕ, List, [], ◌∷◌, Option, Some, None, Result, Ok, Err, length}
+use Rattle.text_tokens.specs.declared.refusal.Refusal.{Refusal}
+use Rattle.text_tokens.specs.declared.refusal.RefusalKind.TheVariants.{Trailing}
+use Rattle.text_tokens.specs.Text.{Lexeme, AreTokens}
+use Rattle.text_tokens.specs.Grammar.{Lang, Made, Judged}
+use Rattle.text_tokens.specs.Inputs.{IsInput, IsInputFault}
+use Rattle.amoebot_state.specs.declared.verdict.Entry.{Entry}
+use Rattle.amoebot_state.specs.Configs.{Config}
+use Rattle.claim_core.specs.Turns.{CallerLists}
+use Rattle.action_tree.specs.Trees as tree
+use Rattle.action_tree.specs.Programs.{IsProgram}
+use Rattle.action_check.specs.Faults.{faults}
+use Rattle.action_check.specs.Maxes.{maxes_of}
+use Rattle.journal_text.specs.Journals.{IsJournal}
+use Rattle.journal_text.specs.Turns.{IsTurns}
+use Rattle.shape_text.specs.Shapes.{IsShape, IsFinal}
+use Rattle.schedule_text.specs.Lists.{IsLists}
+use Rattle.schedule_text.specs.Schedules.{IsSchedule}
+use Rattle.shape_files.specs.declared.section_kind.Section.{Section}
+use Rattle.shape_files.specs.declared.section_kind.Section.TheVariants.{Program, Shape, Lists, Schedule, Journal, Final, Turns}
+use Rattle.shape_files.specs.declared.section_kind.Form.{Form}
+use Rattle.shape_files.specs.Frame.{course_of, IsInFrame}
+use Rattle.shape_files.specs.FrameLaws.{SameTexts}
+
+-- What a document has: its program, the configuration at the start, the lists, the steps of the schedule,
+-- the entries of the journal and the configuration at the end.
+-- Its turns are read by their grammar alone.
+pub record Contents : Type 0 where
+  pub checked : Option tree.Program
+  pub world : Option Config
+  pub lists : Option CallerLists
+  pub schedule : Option (List ℕ)
+  pub entries : Option (List Entry)
+  pub final_world : Option Config
+
+-- nothing is read yet
+abbrev pub nothing_yet : Contents
+nothing_yet = record { checked = None; world = None; lists = None; schedule = None; entries = None; final_world = None }
+
+-- ---- what later sections have to know of earlier ones
+
+-- how many variables and actions there are, and the maxima of the variables
+abbrev pub var_count : Option tree.Program → ℕ
+var_count None = 0
+var_count (Some p) = length p.vars
+
+abbrev pub actions_of : Option tree.Program → ℕ
+actions_of None = 0
+actions_of (Some p) = length p.actions
+
+abbrev pub maxes_in : Option tree.Program → List ℕ
+maxes_in None = 0 ∷ 0 ∷ 0 ∷ 0 ∷ 0 ∷ 0 ∷ 0 ∷ 0 ∷ []
+maxes_in (Some p) = maxes_of p
+
+-- how many amoebots
+abbrev pub bots_of : Option Config → ℕ
+bots_of None = 0
+bots_of (Some c) = length c.bots
+
+-- how many callers
+abbrev pub callers_of : Option CallerLists → ℕ
+callers_of None = 0
+callers_of (Some l) = length l.ids
+
+-- ---- the sections
+
+-- the first, if there is one
+abbrev pub first_in : List Refusal → Option Refusal
+first_in [] = None
+first_in (r ∷ rs) = Some r
+
+-- a program that keeps the rules on names and ranges
+abbrev pub IsCheckedProgram : Lang tree.Program
+IsCheckedProgram = Judged IsProgram (λ p. first_in (faults p))
+
+abbrev pub Body : Section → Contents → Lang Contents
+Body Program s = Made IsCheckedProgram (λ p. record s { checked = Some p })
+Body Shape s = Made (IsShape (var_count s.checked) (maxes_in s.checked)) (λ c. record s { world = Some c })
+Body Lists s = Made (IsLists (bots_of s.world)) (λ l. record s { lists = Some l })
+Body Schedule s = Made (IsSchedule (callers_of s.lists)) (λ steps. record s { schedule = Some steps })
+Body Journal s =
+    Made (IsJournal (bots_of s.world) (actions_of s.checked) (var_count s.checked))
+    (λ es. record s { entries = Some es })
+Body Final s = Made (IsFinal (var_count s.checked) (maxes_in s.checked)) (λ c. record s { final_world = Some c })
+Body Turns s = Made IsTurns (λ u. s)
+
+-- ---- documents
+
+-- the tokens of a document of a form, with what it has
+abbrev pub IsDocument : Form → Lang Contents
+IsDocument form = IsInFrame Body (course_of form) nothing_yet
+
+-- the bytes are a document of the form that has this
+abbrev pub HasContents : Form → List ℕ → Contents → Type 0
+HasContents form bytes a =
+    (ts : List Lexeme) (last : Refusal) → AreTokens bytes 0 ts last → IsInput (IsDocument form) Trailing last ts a
+
+-- they are none, and this is their first fault
+abbrev pub IsDocumentFault : Form → List ℕ → Refusal → Type 0
+IsDocumentFault form bytes r =
+    (ts : List Lexeme) (last : Refusal)
+    → AreTokens bytes 0 ts last
+    → IsInputFault (IsDocument form) Trailing last ts r
+
+-- ---- laws
+
+-- Of any bytes one thing holds: they are a document of the form, which has one thing, or they have one first fault.
+abbrev pub FormSays : Form → List ℕ → Result Contents Refusal → Type 0
+FormSays form bytes (Ok a) = HasContents form bytes a
+FormSays form bytes (Err r) = IsDocumentFault form bytes r
+
+pub record IsDecidedForm (form : Form) : Type 0 where
+  pub some : (bytes : List ℕ) → (r : Result Contents Refusal) × FormSays form bytes r
+  pub one : (bytes : List ℕ) (r s : Result Contents Refusal) → FormSays form bytes r → FormSays form bytes s → r ≡ s
+
+abbrev pub DocumentsAreDecided : Type 0
+DocumentsAreDecided = (form : Form) → IsDecidedForm form
+
+-- The documents of each form, behind the header, are the form's sections one behind the other.
+abbrev pub FormsAreStraight : Type 0
+FormsAreStraight = (form : Form) → SameTexts Body (course_of form) nothing_yet

@@ -1,0 +1,64 @@
+-- What a document has fits together: it has the sections of its form, and each section names only what the others have.
+use Rattle.std.specs.Prelude.{◌≡◌, ◌<◌, ◌≤◌, ℕ, true, List, [], None, length}
+use Rattle.std.specs.Option.{IfSome, IsSome}
+use Rattle.std.specs.List.{All}
+use Rattle.amoebot_state.specs.declared.verdict.Entry.{Entry}
+use Rattle.amoebot_state.specs.Limits.{most_vars}
+use Rattle.claim_core.specs.Limits.{most_turns}
+use Rattle.claim_core.specs.Turns.{HaveBots}
+use Rattle.action_tree.specs.Limits.{most_actions}
+use Rattle.action_check.specs.Faults.{faults}
+use Rattle.journal_text.specs.Journals.{is_known}
+use Rattle.shape_files.specs.declared.section_kind.Form.{Form}
+use Rattle.shape_files.specs.declared.section_kind.Form.TheVariants.{Run, Interleave, Replay, Check, Measure}
+use Rattle.shape_files.specs.Documents.{Contents, var_count, actions_of, maxes_in, bots_of, callers_of, HasContents}
+
+-- ---- which sections there are
+
+-- neither a journal nor a last shape
+abbrev pub IsUnrecorded : Contents → Type 0
+IsUnrecorded a = (a.entries ≡ None) × (a.final_world ≡ None)
+
+-- what a document of the form always has, and what it never has
+abbrev pub HasSections : Form → Contents → Type 0
+HasSections Run a = IsSome a.checked × IsSome a.world × IsSome a.lists × IsUnrecorded a
+HasSections Interleave a = IsSome a.checked × IsSome a.world × IsSome a.lists × IsSome a.schedule × IsUnrecorded a
+HasSections Check a = IsSome a.checked × IsUnrecorded a
+HasSections Replay a = IsSome a.checked × IsSome a.world × IsSome a.entries × IsSome a.final_world
+HasSections Measure a = IsSome a.checked × IsSome a.world
+
+-- a journal and a last shape come together
+pub record AreTogether (a : Contents) : Type 0 where
+  pub last : IfSome a.entries (λ es. IsSome a.final_world)
+  pub first : IfSome a.final_world (λ c. IsSome a.entries)
+
+-- ---- what they say of each other
+
+-- so many entries as there may be, of such amoebots and actions
+pub record AreEntriesOf (bots actions : ℕ) (es : List Entry) : Type 0 where
+  pub few : length es ≤ most_turns
+  pub there : All (λ e. e.bot < bots) es
+  pub known : All (λ e. is_known bots actions e ≡ true) es
+
+pub record FitTogether (a : Contents) : Type 0 where
+  -- the program keeps the rules on names and ranges, and its limits
+  pub checked : IfSome a.checked (λ p. faults p ≡ [])
+  pub vars : var_count a.checked ≤ most_vars
+  pub actions : actions_of a.checked ≤ most_actions
+  -- the maxima of the variables are the program's
+  pub world : IfSome a.world (λ c. c.maxes ≡ maxes_in a.checked)
+  pub final_world : IfSome a.final_world (λ c. c.maxes ≡ maxes_in a.checked)
+  -- the amoebots of the lists are the shape's, and the callers of the schedule have lists
+  pub lists : IfSome a.lists (λ l. IsSome a.world × HaveBots (bots_of a.world) l)
+  pub schedule : IfSome a.schedule (λ steps. IsSome a.lists × All (λ caller. caller < callers_of a.lists) steps)
+  -- the amoebots of the entries are the shape's, and their actions the program's
+  pub entries : IfSome a.entries (λ es. AreEntriesOf (bots_of a.world) (actions_of a.checked) es)
+
+pub record Fits (form : Form) (a : Contents) : Type 0 where
+  pub sections : HasSections form a
+  pub recorded : AreTogether a
+  pub together : FitTogether a
+
+-- what a document of a form has fits together
+abbrev pub DocumentsFit : Type 0
+DocumentsFit = (form : Form) (bytes : List ℕ) (a : Contents) → HasContents form bytes a → Fits form a

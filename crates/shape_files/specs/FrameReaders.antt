@@ -1,0 +1,29 @@
+-- The frame as a reader.
+use Rattle.std.specs.Prelude.{ℕ, if◌then◌else◌, Option}
+use Rattle.text_tokens.specs.declared.refusal.RefusalKind.TheVariants.{WrongSection}
+use Rattle.text_tokens.specs.Text.{Lexeme}
+use Rattle.text_tokens.specs.Reading.{Reader, starts_at, ◌>>=◌, pure, refuse, stop, choose, the_line, numeral}
+use Rattle.shape_files.specs.declared.section_kind.Section.{Section}
+use Rattle.shape_files.specs.Frame.{Course, ends, needs, may, is_word_of_section, is_header_word, is_section_word, other_version}
+
+-- why the next token does not begin a section that is needed
+abbrev pub missing : {A : Type 0} → Option Lexeme → Reader A
+missing next = if starts_at is_section_word next then stop WrongSection else refuse
+
+module _ {S : Type 0} (body : Section → S → Reader S) where
+  -- by the next token
+  unfoldable pub rest_at : Course → S → Option Lexeme → Reader S
+  rest_at ends s next = pure s
+  rest_at (needs k c) s next =
+      if starts_at (is_word_of_section k) next then (body k s >>= λ r. choose (λ u. rest_at c r u)) else missing next
+  rest_at (may k c d) s next =
+      if starts_at (is_word_of_section k) next then (body k s >>= λ r. choose (λ u. rest_at c r u)) else rest_at d s next
+
+  abbrev pub rest : Course → S → Reader S
+  rest c s = choose (λ next. rest_at c s next)
+
+unfoldable pub header : Reader ℕ
+header = the_line is_header_word >>= λ line. numeral other_version
+
+unfoldable pub in_frame : {S : Type 0} → (Section → S → Reader S) → Course → S → Reader S
+in_frame body c s = header >>= λ version. rest body c s

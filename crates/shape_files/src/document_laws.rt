@@ -1,0 +1,52 @@
+//! What holds of the frame, whatever its sections are. The functions do nothing: their clauses are the laws.
+
+ghost use Rattle.std.specs.Prelude.{List};
+ghost use Rattle.text_tokens.specs.Reading.{Reader};
+ghost use Rattle.text_tokens.specs.Grammar.{Symbol};
+ghost use Rattle.shape_files.specs.declared.section_kind.Section.{Section as SectionValue};
+ghost use Rattle.shape_files.specs.Documents.{Body, DocumentsAreDecided, FormsAreStraight};
+ghost use Rattle.shape_files.specs.DocumentReaders.{body};
+ghost use Rattle.shape_files.specs.DocumentRows.{DocumentsAreRead};
+ghost use Rattle.shape_files.specs.RunTexts.{RunsAreReplayed};
+ghost use Rattle.shape_files.specs.Fitting.{DocumentsFit};
+ghost use Rattle.shape_files.specs.FrameLaws.{AreSections, FrameLaw, StraightLaw, FormsAreDistinct};
+
+/// The sections of a document, each in the state that those before it gave, with what it makes of the state.
+pub trait Sectioned {
+    ghost is: { SectionValue → Self → List Symbol → Self → Type 0 };
+
+    ghost reads: { SectionValue → Self → Reader Self };
+}
+
+/// Of any tokens the frame says one thing for each form: they are a document, or have one first fault, and its reader answers that.
+pub fn in_frame<S: Sectioned>()
+    ensures { FrameLaw S.is S.reads }
+{}
+/// The documents of a form are those of the form as it is written down, one section behind the other.
+pub fn forms_are_straight<S: Sectioned>()
+    ensures texts { StraightLaw S.is }
+    ensures forms { FormsAreDistinct }
+{}
+
+/// A text is a document of a form in one way, or has one first fault, and never both.
+///
+/// The sections of documents are such as the frame asks for, each form is that which is written down, and some texts are
+/// documents or have this first fault.
+pub fn documents_are_decided()
+    ensures decided { DocumentsAreDecided }
+    ensures sections { AreSections Body body }
+    ensures plain { FormsAreStraight }
+    ensures read { DocumentsAreRead }
+{}
+
+/// A document of the form Run whose last byte is a line feed, followed by the text of a run, is one of the form Replay, with the
+/// run's entries and its last configuration.
+pub fn runs_are_replayed()
+    ensures { RunsAreReplayed }
+{}
+
+/// What a document has fits together: it has the sections of its form, its maxima are those of its program, and its lists, its
+/// schedule and its entries name only amoebots, callers and actions that there are.
+pub fn documents_fit()
+    ensures { DocumentsFit }
+{}

@@ -1,0 +1,243 @@
+use crate::faults::{BAD_BYTES, TWO_FAULTS};
+use crate::form_tables::{OTHER_FORMS, REPLAY_FORMS, RUN_FORMS};
+use crate::journals::{JOURNALS, Journal, LONG_JOURNALS};
+use crate::limits::LIMITS;
+use crate::lists::LISTS_AND_SCHEDULES;
+use crate::pieces::{Expected, FINAL, HEAD, LISTS, Long, PROGRAM, Row, SHAPE};
+use crate::programs::{HEADERS_AND_PROGRAMS, PROGRAM_LIMITS};
+use crate::runs::{CUTS, WORKED};
+use crate::shapes::SHAPES;
+use crate::{Form, Sections, read_head, read_sections};
+use std::alloc::{AllocError, Global};
+use std::process::Abort;
+use std::test::Fail;
+use text_tokens::{ReadRefusal, Refusal, RefusalKind, TokenKind, Tokens};
+
+/// Counts in the order of `Expected`.
+fn counts(found: &Sections) -> [i64; 6] {
+    let actions = match found.checked() {
+        Some(checked) => i64::from(checked.actions()),
+        None => -1,
+    };
+    let bots = match found.world() {
+        Some(world) => i64::from(world.bots()),
+        None => -1,
+    };
+    let callers = match found.lists() {
+        Some(lists) => i64::from(lists.callers()),
+        None => -1,
+    };
+    let steps = match found.schedule() {
+        Some(schedule) => i64::from(schedule.steps()),
+        None => -1,
+    };
+    let entries = match found.entries() {
+        Some(entries) => entries.entries().len() as i64,
+        None => -1,
+    };
+    let last = match found.final_world() {
+        Some(world) => i64::from(world.bots()),
+        None => -1,
+    };
+    [actions, bots, callers, steps, entries, last]
+}
+
+/// What a document has, or its first fault.
+fn answer(alloc: Global, bytes: &[u8], form: Form) -> Result<Expected, AllocError> {
+    if bytes.len() > 100_000_000 {
+        return Ok(Err((0, RefusalKind::TooLong)));
+    }
+    match read_sections(alloc, bytes, form) {
+        Ok(found) => Ok(Ok(counts(&found))),
+        Err(ReadRefusal::Refused(Refusal { line, kind })) => Ok(Err((line, kind))),
+        Err(ReadRefusal::NoMemory) => Err(AllocError),
+    }
+}
+
+fn joined(alloc: Global, pieces: &[&str]) -> Result<String, AllocError> {
+    let mut text = String::new(alloc);
+    for piece in pieces {
+        text.push_str(piece)?;
+    }
+    Ok(text)
+}
+
+/// Each document of a table is read or refused as the table says.
+fn are_read(rt: &impl Abort, alloc: Global, table: &[Row]) -> Result<(), AllocError> {
+    for (form, pieces, expected) in table {
+        let text = joined(alloc, pieces)?;
+        let found = answer(alloc, text.as_bytes(), *form)?;
+        assert_eq!(rt; found, *expected, "{text}");
+    }
+    Ok(())
+}
+
+fn repeated(alloc: Global, pieces: &[(&str, u32)]) -> Result<String, AllocError> {
+    let mut text = String::new(alloc);
+    for (piece, times) in pieces {
+        for _ in 0..*times {
+            text.push_str(piece)?;
+        }
+    }
+    Ok(text)
+}
+
+/// Each long document of a table is read or refused as the table says.
+fn are_limited(rt: &impl Abort, alloc: Global, table: &[Long]) -> Result<(), AllocError> {
+    for (form, pieces, expected) in table {
+        let text = repeated(alloc, pieces)?;
+        let found = answer(alloc, text.as_bytes(), *form)?;
+        assert_eq!(rt; found, *expected, "{text}");
+    }
+    Ok(())
+}
+
+#[test]
+fn limits_are_kept_exactly(rt: HostRuntime) -> Result<(), Fail> {
+    are_limited(&rt, rt.alloc(), &LIMITS)?;
+    Ok(())
+}
+
+#[test]
+fn runs_are_read(rt: HostRuntime) -> Result<(), Fail> {
+    are_read(&rt, rt.alloc(), &RUN_FORMS)?;
+    Ok(())
+}
+
+#[test]
+fn other_forms_are_read(rt: HostRuntime) -> Result<(), Fail> {
+    are_read(&rt, rt.alloc(), &OTHER_FORMS)?;
+    Ok(())
+}
+
+#[test]
+fn replays_are_read(rt: HostRuntime) -> Result<(), Fail> {
+    are_read(&rt, rt.alloc(), &REPLAY_FORMS)?;
+    Ok(())
+}
+
+#[test]
+fn headers_and_programs_are_read(rt: HostRuntime) -> Result<(), Fail> {
+    are_read(&rt, rt.alloc(), &HEADERS_AND_PROGRAMS)?;
+    Ok(())
+}
+
+#[test]
+fn shapes_are_read(rt: HostRuntime) -> Result<(), Fail> {
+    are_read(&rt, rt.alloc(), &SHAPES)?;
+    Ok(())
+}
+
+#[test]
+fn lists_and_schedules_are_read(rt: HostRuntime) -> Result<(), Fail> {
+    are_read(&rt, rt.alloc(), &LISTS_AND_SCHEDULES)?;
+    Ok(())
+}
+
+#[test]
+fn journals_are_read(rt: HostRuntime) -> Result<(), Fail> {
+    are_read(&rt, rt.alloc(), &JOURNALS)?;
+    Ok(())
+}
+
+#[test]
+fn a_run_and_its_changes_are_read(rt: HostRuntime) -> Result<(), Fail> {
+    are_read(&rt, rt.alloc(), &WORKED)?;
+    Ok(())
+}
+
+#[test]
+fn the_first_of_two_faults_is_told(rt: HostRuntime) -> Result<(), Fail> {
+    are_read(&rt, rt.alloc(), &TWO_FAULTS)?;
+    Ok(())
+}
+
+#[test]
+fn a_bad_byte_is_one_where_a_section_begins(rt: HostRuntime) -> Result<(), Fail> {
+    are_read(&rt, rt.alloc(), &BAD_BYTES)?;
+    Ok(())
+}
+
+#[test]
+fn limits_of_programs_are_kept_exactly(rt: HostRuntime) -> Result<(), Fail> {
+    are_limited(&rt, rt.alloc(), &PROGRAM_LIMITS)?;
+    Ok(())
+}
+
+/// The text of a document with so many entries that do nothing, and this behind them.
+fn with_entries(alloc: Global, entries: u32, behind: &str) -> Result<String, AllocError> {
+    let mut text = joined(alloc, &[HEAD, PROGRAM, SHAPE, "journal\n"])?;
+    for place in 0..entries {
+        let entry = format!(in alloc; "entry {place} 0 0 0 0 none\n")?;
+        text.push_str(&entry)?;
+    }
+    text.push_str(behind)?;
+    text.push_str(FINAL)?;
+    Ok(text)
+}
+
+fn have_entries(rt: &impl Abort, alloc: Global, table: &[Journal]) -> Result<(), AllocError> {
+    for (entries, behind, expected) in table {
+        let text = with_entries(alloc, *entries, behind)?;
+        let found = answer(alloc, text.as_bytes(), Form::Replay)?;
+        assert_eq!(rt; found, *expected, "{behind}");
+    }
+    Ok(())
+}
+
+#[test]
+fn a_document_has_at_most_65536_entries(rt: HostRuntime) -> Result<(), Fail> {
+    have_entries(&rt, rt.alloc(), &LONG_JOURNALS)?;
+    Ok(())
+}
+
+/// What is refused of the text before each byte of these lines, and that the whole text is a document.
+fn are_cut(rt: &impl Abort, alloc: Global, lines: &[(&str, &str)]) -> Result<(), AllocError> {
+    let mut text: Vec<u8> = Vec::new(alloc);
+    let mut line = 1u32;
+    for (bytes, kinds) in lines {
+        for (byte, kind) in bytes.bytes().zip(kinds.bytes()) {
+            let kind = if kind == b'x' {
+                RefusalKind::Unexpected
+            } else {
+                RefusalKind::Truncated
+            };
+            let found = answer(alloc, text.as_slice(), Form::Run)?;
+            assert_eq!(rt; found, Err((line, kind)), "{bytes}");
+            text.push(byte)?;
+        }
+        line = line.saturating_add(1);
+    }
+    assert!(rt; answer(alloc, text.as_slice(), Form::Run)?.is_ok());
+    Ok(())
+}
+
+#[test]
+fn beginnings_of_a_document_are_none(rt: HostRuntime) -> Result<(), Fail> {
+    are_cut(&rt, rt.alloc(), &CUTS)?;
+    Ok(())
+}
+
+#[test]
+fn a_header_is_read_alone(rt: HostRuntime) {
+    let mut tokens = Tokens::new(b"amoebot 1 program");
+    assert!(rt; read_head(&mut tokens).is_ok());
+    assert!(rt; tokens.is_next(TokenKind::Word, b"program"));
+}
+
+#[test]
+fn a_document_gives_its_parts(rt: HostRuntime) -> Result<(), Fail> {
+    let text = joined(rt.alloc(), &[HEAD, PROGRAM, SHAPE, LISTS])?;
+    assert!(rt; text.len() <= 1000);
+    let parts = read_sections(rt.alloc(), text.as_bytes(), Form::Run)
+        .ok()
+        .ok_or("not read")?
+        .into_parts();
+    assert!(rt; parts.checked.is_some());
+    assert!(rt; parts.world.is_some());
+    assert!(rt; parts.lists.is_some());
+    assert!(rt; parts.schedule.is_none());
+    assert!(rt; parts.entries.is_none());
+    assert!(rt; parts.final_world.is_none());
+    Ok(())
+}

@@ -1,0 +1,194 @@
+-- The first rule that the amoebots of a shape break is the one for which a world refuses them.
+use Rattle.std.proofs.Common.{◌≡◌, ℕ, zero, suc, ◌<◌, Bool, true, false, List, [], ◌∷◌, ◌++◌, length, take, map, slice_get, Option, Some, None, refl, sym, ap, subst, ◌∙◌, arith, append_assoc}
+use Rattle.std.specs.Prelude.{not, ◌&&◌, ◌||◌, is_some, if◌then◌else◌}
+use Rattle.std.specs.Option.{option_map}
+use Rattle.std.specs.List.{All}
+use Rattle.std.proofs.lemmas.List.{append-nil, length-map, length-take-le}
+use Rattle.std.proofs.lemmas.List.Elements.{All-map}
+use Rattle.std.proofs.lemmas.Option.{slice_get_within, slice_get-map}
+use Rattle.text_tokens.specs.declared.refusal.Refusal.{Refusal}
+use Rattle.text_tokens.specs.declared.refusal.RefusalKind.{RefusalKind}
+use Rattle.text_tokens.specs.declared.refusal.RefusalKind.TheVariants as kind
+use Rattle.text_tokens.specs.Cursor.{on_line}
+use Rattle.tri_lattice.specs.Extent.{Extent, is_in}
+use Rattle.amoebot_state.specs.declared.bot.Bot.{Bot}
+use Rattle.amoebot_state.specs.declared.refusal.WorldRefusal.{WorldRefusal}
+use Rattle.amoebot_state.specs.declared.refusal.WorldRefusal.TheVariants as world
+use Rattle.amoebot_state.specs.Configs.{Config, config_of, with_bot, occupant, is_close, has_values}
+use Rattle.amoebot_state.specs.Refusals.{bot_fault, IsBotInRange, IsFaultless, IsFirstFault}
+use Rattle.shape_text.specs.declared.shape.WrittenBot as code_bot
+use Rattle.shape_text.specs.Shapes.{WrittenBot, WrittenShape, kind_of, broken, first_broken, written_amoebot, shape_fault}
+use Rattle.shape_text.specs.Judgements.{JudgedAsWorlds}
+use Rattle.shape_text.specs.Views as view
+use Rattle.shape_text.specs.Views.{blamed_bot}
+
+-- these amoebots behind those that are there
+abbrev with_bots : Config → List Bot → Config
+with_bots c bots = record { area = c.area; maxes = c.maxes; bots = c.bots ++ map Some bots }
+
+-- none of the first so many breaks a rule beside those before it
+abbrev AreFine : Config → List Bot → ℕ → Type 0
+AreFine c bots n = (j : ℕ) (b : Bot) → j < n → slice_get bots j ≡ Some b → bot_fault (with_bots c (take j bots)) b ≡ None
+
+with_none : (c : Config) → with_bots c [] ≡ c
+with_none c = ap (λ (bots : List (Option Bot)). record { area = c.area; maxes = c.maxes; bots = bots }) (append-nil c.bots)
+
+with_more : (c : Config) (b : Bot) (bots : List Bot) → with_bots (with_bot c b) bots ≡ with_bots c (b ∷ bots)
+with_more c b bots = ap (λ (all : List (Option Bot)). record { area = c.area; maxes = c.maxes; bots = all }) (append_assoc c.bots (Some b ∷ []) (map Some bots))
+
+rest_fine : (c : Config) (b : Bot) (bots : List Bot) (n : ℕ) → AreFine c (b ∷ bots) (suc n) → AreFine (with_bot c b) bots n
+rest_fine c b bots n fine j d lt at = ap (λ (x : Config). bot_fault x d) (with_more c b (take j bots)) ∙ fine (suc j) d (omega arith) at
+
+first_fine : (c : Config) (b : Bot) (bots : List Bot) (n : ℕ) → AreFine c (b ∷ bots) (suc n) → bot_fault c b ≡ None
+first_fine c b bots n fine = ap (λ (x : Config). bot_fault x b) (sym (with_none c)) ∙ fine zero b (omega arith) refl
+
+unbroken : (c : Config) (w : WrittenBot) → bot_fault c w.bot ≡ None → broken c w ≡ None
+unbroken c w e = rw e refl
+
+pub none_broken : (c : Config) (ws : List WrittenBot) → AreFine c (map written_amoebot ws) (length ws) → first_broken c ws ≡ None
+none_broken c [] fine = refl
+none_broken c (w ∷ ws) fine =
+    let one : broken c w ≡ None = unbroken c w (first_fine c w.bot (map written_amoebot ws) (length ws) fine) in
+    rw one (none_broken (with_bot c w.bot) ws (rest_fine c w.bot (map written_amoebot ws) (length ws) fine))
+
+pub one_broken : (c : Config) (ws : List WrittenBot) (n : ℕ) (w : WrittenBot) (r : Refusal) → slice_get ws n ≡ Some w → AreFine c (map written_amoebot ws) n → broken (with_bots c (take n (map written_amoebot ws))) w ≡ Some r → first_broken c ws ≡ Some r
+one_broken c [] n w r at fine e = absurd cc
+one_broken c (v ∷ ws) zero w r at fine e =
+    let same : v ≡ w = cc in
+    let one : broken c v ≡ Some r = ap (broken c) same ∙ ap (λ (x : Config). broken x w) (sym (with_none c)) ∙ e in
+    rw one refl
+one_broken c (v ∷ ws) (suc n) w r at fine e =
+    let one : broken c v ≡ None = unbroken c v (first_fine c v.bot (map written_amoebot ws) n fine) in
+    rw one (one_broken (with_bot c v.bot) ws n w r at (rest_fine c v.bot (map written_amoebot ws) n fine) (ap (λ (x : Config). broken x w) (with_more c v.bot (take n (map written_amoebot ws))) ∙ e))
+
+-- ---- what a world says
+
+-- the amoebot that is refused is the next one, and it is refused for the rule that it breaks
+pub record Blames (c : Config) (b : Bot) (e : WorldRefusal) : Type 0 where
+  pub kind : RefusalKind
+  pub names : blamed_bot e ≡ Some (length c.bots, kind)
+  pub breaks : kind_of e ≡ Some kind
+
+blames : (c : Config) (b : Bot) (e : WorldRefusal) → bot_fault c b ≡ Some e → Blames c b e
+blames c b e f = by_box (not (is_in c.area b.head && is_in c.area b.tail)) (not (is_close b.head b.tail)) (is_some (occupant c b.head) || is_some (occupant c b.tail)) (not (has_values c.maxes b.mem)) f
+  where
+    n : ℕ
+    n = length c.bots
+
+    is_this : (x : WorldRefusal) → Some x ≡ Some e → Blames c b x → Blames c b e
+    is_this x s k = let same : x ≡ e = cc in subst (λ (y : WorldRefusal). Blames c b y) same k
+
+    by_value : (v : Bool) → (if v then Some (world.BadValue n) else None) ≡ Some e → Blames c b e
+    by_value true s = is_this (world.BadValue n) s (record { kind = kind.BadValue; names = refl; breaks = refl })
+    by_value false s = absurd cc
+
+    by_overlap : (o v : Bool) → (if o then Some (world.Overlap n) else if v then Some (world.BadValue n) else None) ≡ Some e → Blames c b e
+    by_overlap true v s = is_this (world.Overlap n) s (record { kind = kind.Overlap; names = refl; breaks = refl })
+    by_overlap false v s = by_value v s
+
+    by_close : (a o v : Bool) → (if a then Some (world.NotAdjacent n) else if o then Some (world.Overlap n) else if v then Some (world.BadValue n) else None) ≡ Some e → Blames c b e
+    by_close true o v s = is_this (world.NotAdjacent n) s (record { kind = kind.NotAdjacent; names = refl; breaks = refl })
+    by_close false o v s = by_overlap o v s
+
+    by_box : (x a o v : Bool) → (if x then Some (world.OutOfBox n) else if a then Some (world.NotAdjacent n) else if o then Some (world.Overlap n) else if v then Some (world.BadValue n) else None) ≡ Some e → Blames c b e
+    by_box true a o v s = is_this (world.OutOfBox n) s (record { kind = kind.OutOfBox; names = refl; breaks = refl })
+    by_box false a o v s = by_close a o v s
+
+breaks_it : (c : Config) (w : WrittenBot) (e : WorldRefusal) (k : RefusalKind) → bot_fault c w.bot ≡ Some e → kind_of e ≡ Some k → broken c w ≡ Some (on_line w.line k)
+breaks_it c w e k f g = rw (f, g) refl
+
+-- ---- the amoebots as the code has them
+
+abbrev Code : Type 0
+Code = code_bot.WrittenBot
+
+abbrev pub its_bot : Code → Bot
+its_bot b = b.bot
+
+pub same_bots : (ws : List Code) → map written_amoebot (map view.bot_view ws) ≡ map its_bot ws
+same_bots [] = refl
+same_bots (w ∷ ws) = ap (λ (bs : List Bot). w.bot ∷ bs) (same_bots ws)
+
+pub plain_bots : (ws : List Code) → All (λ (b : Code). IsBotInRange b.bot) ws → All IsBotInRange (map its_bot ws)
+plain_bots ws all = All-map IsBotInRange its_bot ws all
+
+-- the one of which an element of the image is
+record Of (f : Code → Bot) (ws : List Code) (n : ℕ) (b : Bot) : Type 0 where
+  pub one : Code
+  pub there : slice_get ws n ≡ Some one
+  pub is : f one ≡ b
+
+of_image : (f : Code → Bot) (ws : List Code) (n : ℕ) (b : Bot) → slice_get (map f ws) n ≡ Some b → Of f ws n b
+of_image f [] n b at = absurd cc
+of_image f (w ∷ ws) zero b at = record { one = w; there = refl; is = cc }
+of_image f (w ∷ ws) (suc n) b at = let o = of_image f ws n b at in record { one = o.one; there = o.there; is = o.is }
+
+seen_at : (ws : List Code) (n : ℕ) (w : Code) → slice_get ws n ≡ Some w → slice_get (map view.bot_view ws) n ≡ Some (view.bot_view w)
+seen_at [] n w at = absurd cc
+seen_at (v ∷ ws) zero w at = let same : v ≡ w = cc in ap (λ (x : Code). Some (view.bot_view x)) same
+seen_at (v ∷ ws) (suc n) w at = seen_at ws n w at
+
+module _ (a : Extent) (maxes : List ℕ) (ws : List Code) where
+  abbrev start : Config
+  start = config_of a maxes []
+
+  abbrev Bots : List Bot
+  Bots = map its_bot ws
+
+  fine_of : (n : ℕ) → IsFaultless a maxes Bots n → AreFine start (map written_amoebot (map view.bot_view ws)) n
+  fine_of n fine = subst (λ (bs : List Bot). AreFine start bs n) (sym (same_bots ws)) (λ j b lt at. fine j b lt at)
+
+  pub is_faultless : IsFaultless a maxes Bots (length Bots) → first_broken start (map view.bot_view ws) ≡ None
+  is_faultless fine =
+      let size : length Bots ≡ length (map view.bot_view ws) = length-map ws its_bot ∙ sym (length-map ws view.bot_view) in
+      none_broken start (map view.bot_view ws) (subst (λ (n : ℕ). AreFine start (map written_amoebot (map view.bot_view ws)) n) size (fine_of (length Bots) fine))
+
+  -- the amoebot that a world refuses, with its line
+  pub record Refusing (e : WorldRefusal) : Type 0 where
+    pub place : ℕ
+    pub one : Code
+    pub kind : RefusalKind
+    pub there : slice_get ws place ≡ Some one
+    pub inside : place < length ws
+    pub names : blamed_bot e ≡ Some (place, kind)
+    pub first : first_broken start (map view.bot_view ws) ≡ Some (on_line one.line kind)
+
+  pub refusing : (e : WorldRefusal) → IsFirstFault a maxes Bots e → Refusing e
+  refusing e f =
+      let o = of_image its_bot ws f.place f.bot f.there in
+      let c = config_of a maxes (take f.place Bots) in
+      let b = blames c f.bot e f.fault in
+      let size : length c.bots ≡ f.place = length-map (take f.place Bots) Some ∙ length-take-le f.place Bots (let lt = slice_get_within Bots f.place f.bot f.there in omega arith) in
+      let fault : bot_fault c o.one.bot ≡ Some e = ap (bot_fault c) o.is ∙ f.fault in
+      let before : with_bots start (take f.place (map written_amoebot (map view.bot_view ws))) ≡ c = ap (λ (bs : List Bot). with_bots start (take f.place bs)) (same_bots ws) in
+      let rule : broken (with_bots start (take f.place (map written_amoebot (map view.bot_view ws)))) (view.bot_view o.one) ≡ Some (on_line o.one.line b.kind) = ap (λ (x : Config). broken x (view.bot_view o.one)) before ∙ breaks_it c (view.bot_view o.one) e b.kind fault b.breaks in
+      record {
+        place = f.place;
+        one = o.one;
+        kind = b.kind;
+        there = o.there;
+        inside = slice_get_within ws f.place o.one o.there;
+        names = b.names ∙ ap (λ (n : ℕ). Some (n, b.kind)) size;
+        first = one_broken start (map view.bot_view ws) f.place (view.bot_view o.one) (on_line o.one.line b.kind) (seen_at ws f.place o.one o.there) (fine_of f.place f.before) rule;
+      }
+
+-- a shape whose amoebots break no rule
+pub faultless_fits : (a : Extent) (maxes : List ℕ) (bs : List Bot) → IsFaultless a maxes bs (length bs) → (s : WrittenShape) → s.area ≡ a → map written_amoebot s.bots ≡ bs → shape_fault maxes s ≡ None
+faultless_fits a maxes bs fine s area bots =
+    let size : length bs ≡ length s.bots = sym (ap length bots) ∙ length-map s.bots written_amoebot in
+    let same : config_of a maxes [] ≡ config_of s.area maxes [] = ap (λ (x : Extent). config_of x maxes []) (sym area) in
+    let here : AreFine (config_of a maxes []) bs (length bs) = λ j b lt at. fine j b lt at in
+    none_broken (config_of s.area maxes []) s.bots
+    (subst (λ (n : ℕ). AreFine (config_of s.area maxes []) (map written_amoebot s.bots) n) size
+    (subst (λ (cs : List Bot). AreFine (config_of s.area maxes []) cs (length bs)) (sym bots)
+    (subst (λ (x : Config). AreFine x bs (length bs)) same here)))
+
+pub judged_as_worlds : JudgedAsWorlds
+judged_as_worlds = record {
+  fine = λ maxes s fine. faultless_fits s.area maxes (map written_amoebot s.bots) (subst (λ (n : ℕ). IsFaultless s.area maxes (map written_amoebot s.bots) n) (sym (length-map s.bots written_amoebot)) fine) s refl refl;
+  first = λ maxes s e f w k at kind.
+      let there : Some f.bot ≡ Some w.bot = sym f.there ∙ slice_get-map written_amoebot s.bots f.place ∙ ap (option_map written_amoebot) at in
+      let same : f.bot ≡ w.bot = cc in
+      let fault : bot_fault (config_of s.area maxes (take f.place (map written_amoebot s.bots))) w.bot ≡ Some e = ap (bot_fault (config_of s.area maxes (take f.place (map written_amoebot s.bots)))) (sym same) ∙ f.fault in
+      one_broken (config_of s.area maxes []) s.bots f.place w (on_line w.line k) at (λ j b lt seen. f.before j b lt seen) (breaks_it (config_of s.area maxes (take f.place (map written_amoebot s.bots))) w e k fault kind);
+}

@@ -1,5 +1,0 @@
-//! Tests of `shipped_programs`: its trees beside its texts.
-#![tactic(auto)]
-
-#[cfg(test)]
-mod tests;

@@ -1,0 +1,114 @@
+-- What a `Tokens` that is ready shows.
+use Rattle.std.proofs.Common.{◌≡◌, ℕ, ◌+◌, ◌-◌, ◌<◌, ◌≤◌, ◌^◌, Bool, false, List, [], ◌∷◌, length, drop, Some, Result, Ok, Err, refl, sym, ap, subst, ◌∙◌, arith, length-drop}
+use Rattle.std.proofs.lemmas.List.{drop-drop, length-take-le}
+use Rattle.text_tokens.specs.declared.token.Token.{Token}
+use Rattle.text_tokens.specs.declared.refusal.Refusal.{Refusal}
+use Rattle.text_tokens.specs.declared.refusal.RefusalKind.{RefusalKind}
+use Rattle.text_tokens.specs.declared.refusal.RefusalKind.TheVariants.{Truncated}
+use Rattle.std.specs.Prelude.{IfOk, IfSome}
+use Rattle.text_tokens.specs.declared.tokens.Piece.{Piece}
+use Rattle.text_tokens.specs.declared.tokens.Tokens.TheInside.{Inside}
+use Rattle.text_tokens.specs.Text.{Lexeme}
+use Rattle.text_tokens.specs.Scan.{Input, skip, ready, front, lexeme, input_past, ahead_of}
+use Rattle.text_tokens.specs.Cursor.{token_of, end_or, answer, past_token, refusal_at, line_of, next_passes, Spells, at_input, at_place}
+use Rattle.text_tokens.specs.Inside.{input_of, cursor_of, IsReady}
+use Rattle.text_tokens.proofs.CutLemmas.{Found, front_found}
+use Rattle.text_tokens.proofs.ScanLemmas.{ready_twice, front_fits, ahead_ok, ahead_err, last_ok, last_err, ahead_ready, last_ready}
+
+-- no token stands behind the last one
+pub no_token : (P : Token → Type 0) (last : Refusal) (k : RefusalKind) → IfOk (end_or last k) (λ found. IfSome found P)
+no_token P last Truncated = tt
+no_token P last _ = tt
+
+-- from a place on it is as from the next token on
+pub at_ready : (source : List ℕ) (i : Input) → at_input source (ready i) ≡ at_input source i
+at_ready source i = rw (ahead_ready i, last_ready i) refl
+
+pub at_skipped : (source : List ℕ) (at line blanks to : ℕ) → skip false at line (drop at source) ≡ record { text = drop blanks (drop at source); at = at + blanks; line = to }
+    → at_place source at line ≡ at_place source (at + blanks) to
+unfolding ready
+at_skipped source at line blanks to e =
+    sym (at_ready source (record { text = drop at source; at = at; line = line }))
+    ∙ ap (at_input source) (e ∙ ap (λ (text : List ℕ). record { text = text; at = at + blanks; line = to }) (drop-drop blanks at source))
+
+pub is_ready : (source : List ℕ) (at line blanks to : ℕ) → skip false at line (drop at source) ≡ record { text = drop blanks (drop at source); at = at + blanks; line = to }
+    → ready (record { text = drop (at + blanks) source; at = at + blanks; line = to }) ≡ record { text = drop (at + blanks) source; at = at + blanks; line = to }
+unfolding ready
+is_ready source at line blanks to e =
+    let is : skip false at line (drop at source) ≡ record { text = drop (at + blanks) source; at = at + blanks; line = to } = e ∙ ap (λ (text : List ℕ). record { text = text; at = at + blanks; line = to }) (drop-drop blanks at source) in
+    subst (λ (i : Input). ready i ≡ i) is (ready_twice (record { text = drop at source; at = at; line = line }))
+
+module _ (t : Inside) (h : IsReady t) where
+  -- at a token
+  module _ (p : Piece) (e : t.front ≡ Ok p) where
+    cut : front (input_of t).text ≡ Ok p
+    cut = sym h.front ∙ e
+
+    pub within : t.at + p.len ≤ length t.source.now
+    within = let w = h.within in let f = front_fits (drop t.at t.source.now) p cut in omega (arith, length-drop t.at t.source.now)
+
+    pub fits_small : t.at + p.len < 2 ^ 32
+    fits_small = let w = within in let s = h.small in omega arith
+
+    ahead_is : (cursor_of t).ahead ≡ lexeme (input_of t) p ∷ ahead_of (input_past (input_of t) p.len)
+    ahead_is = ahead_ok (input_of t) p h.skipped cut
+
+    abbrev here : Token
+    here = record { kind = p.kind; «from» = t.at; to = t.at + p.len; line = t.line }
+
+    here_is : token_of (lexeme (input_of t) p) ≡ here
+    here_is = let w = within in rw (length-take-le p.len (drop t.at t.source.now) (omega (arith, length-drop t.at t.source.now))) refl
+
+    pub answers : answer (cursor_of t) ≡ Ok (Some here)
+    answers = rw ahead_is (ap (λ (x : Token). Ok (Some x)) here_is)
+
+    pub spells : Spells (cursor_of t) here
+    spells =
+        let w = within in
+        let rest : List ℕ = drop t.at t.source.now in
+        let len : t.at + p.len - t.at ≡ p.len = omega arith in
+        let found : Found rest p = front_found rest p cut in
+        record {
+          within = record { rises = omega arith; within = within };
+          bytes = rw (ahead_is, len) refl;
+          cuts = rw (len, ← drop-drop p.len t.at t.source.now) found.cuts;
+          sized = (let small = found.sized in rw (len, length-take-le p.len rest (omega (arith, length-drop t.at t.source.now))) small);
+        }
+
+    pub passes : at_place t.source.now (t.at + p.len) t.line ≡ past_token (cursor_of t)
+    passes =
+        let text : drop p.len (drop t.at t.source.now) ≡ drop (t.at + p.len) t.source.now = drop-drop p.len t.at t.source.now in
+        rw (ahead_is, last_ok (input_of t) p h.skipped cut, text) refl
+
+    pub refuses : (kind : RefusalKind) → refusal_at (cursor_of t).last kind (cursor_of t).ahead ≡ record { line = t.line; kind = kind }
+    refuses kind = rw ahead_is refl
+
+    pub tests : (test : Lexeme → Bool) → next_passes test (cursor_of t).ahead ≡ test (lexeme (input_of t) p)
+    tests test = rw ahead_is refl
+
+  -- at a fault, or at the end
+  module _ (k : RefusalKind) (e : t.front ≡ Err k) where
+    pub none_ahead : (cursor_of t).ahead ≡ []
+    none_ahead = ahead_err (input_of t) k h.skipped (sym h.front ∙ e)
+
+    last_is : (cursor_of t).last ≡ record { line = t.line; kind = k }
+    last_is = last_err (input_of t) k h.skipped (sym h.front ∙ e)
+
+    pub answers_none : answer (cursor_of t) ≡ end_or (record { line = t.line; kind = k }) k
+    answers_none = rw (none_ahead, last_is) refl
+
+    pub stays : cursor_of t ≡ past_token (cursor_of t)
+    stays = rw none_ahead refl
+
+    pub refuses_end : (kind : RefusalKind) → refusal_at (cursor_of t).last kind (cursor_of t).ahead ≡ record { line = t.line; kind = k }
+    refuses_end kind = rw (none_ahead, last_is) refl
+
+    pub tests_none : (test : Lexeme → Bool) → next_passes test (cursor_of t).ahead ≡ false
+    tests_none test = rw none_ahead refl
+
+  line_by : (r : Result Piece RefusalKind) → t.front ≡ r → line_of (cursor_of t).ahead (cursor_of t).last ≡ t.line
+  line_by (Ok p) e = rw (ahead_is p e) refl
+  line_by (Err k) e = rw (none_ahead k e, last_is k e) refl
+
+  pub line_is : line_of (cursor_of t).ahead (cursor_of t).last ≡ t.line
+  line_is = line_by t.front refl

@@ -1,4 +1,0 @@
-pub mod Endings
-pub mod Fronts
-pub mod InMemory
-pub mod Working

@@ -1,9 +1,0 @@
-use Rattle.std.proofs.Common.{refl}
-use Rattle.top_calls.proofs.Endings.{is_written, is_cut}
-use Rattle.top_calls.proofs.calls.end_with_outcome.Goals as goal
-
-pub returns-in-Ok : goal.returns-in-Ok
-returns-in-Ok g c = is_written _ _ _ _ _ _ c.bytes.ensures c.in-Ok.ensures.all refl
-
-pub returns-in-Err : goal.returns-in-Err
-returns-in-Err g c = is_cut _ _ _ _ _ _ c.bytes.ensures c.in-Err.ensures.fault c.in-Err.ensures.front c.end_with.ensures

@@ -1,0 +1,127 @@
+ghost use Rattle.std.specs.Prelude.{◌≡◌, map, is_some, IfOk, IsSome, OnOk};
+ghost use Rattle.std.specs.List.{All};
+ghost use Rattle.claim_rule.specs.Seating.{AreOf};
+ghost use Rattle.claim_rule.specs.Tokens.{IsOf, number_in};
+
+use crate::fixtures::{is_entry, turn_of};
+use crate::machine::{is_left, is_marked, machine_leaves};
+use activation::NoGate;
+use amoebot_state::World;
+use claim_core::{Journal, Lists, Marks};
+use claim_rule::{Field, Seat, Seats};
+use claim_tests::field_of;
+use small_worlds::{Marker, lists_of, standing, world_in};
+use std::alloc::Global;
+use std::process::Abort;
+use std::sync::Wait;
+use std::test::Fail;
+
+/// Makes all turns of the seat, with the marks that are expected.
+fn turns_of<R: Wait + Abort>(
+    rt: &R,
+    field: &Field<'_, Marker>,
+    lists: &Lists,
+    expected: &Marks,
+    mut seat: Seat<Marker>,
+) -> Result<Seat<Marker>, Fail>
+    requires of { IsOf field.now seat }
+    requires lists { field.now.terms.lists ≡ lists.now }
+    ensures of { IfOk result (λ after. IsOf field.now after) }
+    ensures same { IfOk result (λ after. number_in after ≡ number_in seat) }
+{
+    for _turn in 0..lists.turns() {
+        let (after, answer) = turn_of(rt, field, lists, &NoGate, seat)?;
+        is_marked(rt, expected, &answer)?;
+        seat = after;
+    }
+    assert_eq!(rt; seat.next_turn(), lists.turns());
+    Ok(seat)
+}
+
+/// So many callers make all their turns, one caller after another, and their seats are given back.
+fn after_turns<R: Wait + Abort>(
+    rt: &R,
+    field: &Field<'_, Marker>,
+    lists: &Lists,
+    expected: &Marks,
+    seats: &mut Seats<Marker>,
+    callers: u8,
+) -> Result<(), Fail>
+    requires of { AreOf field.now seats.old }
+    requires lists { field.now.terms.lists ≡ lists.now }
+    ensures of { OnOk result (AreOf field.now seats.new) }
+    ensures there { OnOk result (map is_some seats.new.seats ≡ map is_some seats.old.seats) }
+{
+    if callers == 0 {
+        return Ok(());
+    }
+    match seats.take() {
+        None => Err(Fail::from("no seat is left")),
+        Some(seat) => {
+            let seat = turns_of(rt, field, lists, expected, seat)?;
+            after_turns(rt, field, lists, expected, seats, callers - 1)?;
+            seats.give(seat);
+            Ok(())
+        }
+    }
+}
+
+/// What the field leaves once so many callers have made all their turns.
+fn closed<R: Wait + Abort>(
+    rt: &R,
+    field: Field<'_, Marker>,
+    lists: &Lists,
+    expected: &Marks,
+    mut seats: Seats<Marker>,
+    callers: u8,
+) -> Result<(World, Journal), Fail>
+    requires of { AreOf field seats }
+    requires lists { field.terms.lists ≡ lists.now }
+    requires all { All (λ seat. IsSome seat) seats.seats }
+{
+    after_turns(rt, &field, lists, expected, &mut seats, callers)?;
+    Ok(field.close(seats))
+}
+
+/// Four callers, of which so many make all their turns: the field leaves so many entries then, and what the machine leaves by the same
+/// steps once all have made them.
+fn closes_after<R: Wait + Abort>(
+    rt: &R,
+    alloc: Global,
+    callers: u8,
+    entries: usize,
+) -> Result<Journal, Fail> {
+    let bots = &[standing(2, 3, 0), standing(3, 3, 0), standing(6, 6, 0)];
+    let world = world_in(alloc, 10, 10, bots)?;
+    let ids: &[&[u16]] = &[&[0], &[1, 0], &[0, 2], &[2]];
+    let lists = lists_of(alloc, 2, &world, ids)?;
+    let steps = &[(0, 39), (1, 39), (2, 39), (3, 38)];
+    let report = machine_leaves(alloc, &Marker, &world, &lists, steps)?;
+    let (field, seats) = field_of(alloc, &Marker, world, &lists)?;
+    let (last, journal) = closed(rt, field, &lists, &report.turns, seats, callers)?;
+    assert_eq!(rt; journal.entries().len(), entries);
+    if callers == lists.callers() {
+        is_left(rt, &report, &last, &journal);
+    }
+    Ok(journal)
+}
+
+#[test]
+fn a_field_is_closed_after_the_turns_of_each_caller(rt: HostRuntime) -> Result<(), Fail> {
+    for (callers, entries) in [(0, 0), (1, 1), (2, 2), (3, 3)] {
+        closes_after(&rt, rt.alloc(), callers, entries)?;
+    }
+    Ok(())
+}
+
+#[test]
+fn four_callers_leave_what_the_machine_does_by_the_same_steps(rt: HostRuntime) -> Result<(), Fail> {
+    let journal = closes_after(&rt, rt.alloc(), 4, 3)?;
+    let [one, two, three] = journal.entries() else {
+        return Err(Fail::from("three entries"));
+    };
+    is_entry(&rt, one, 0, 0, 0);
+    is_entry(&rt, two, 1, 0, 1);
+    is_entry(&rt, three, 2, 1, 2);
+    Ok(())
+}
