@@ -102,7 +102,11 @@ fn try_all(
     hexagon: bool,
     name: &str,
 ) -> Result<(), Fail> {
-    assert_eq!(rt; by_definition::is_connected(alloc, world)?, connected, "{name}");
+    assert_eq!(rt;
+        by_definition::is_connected(alloc, world)?,
+        connected,
+        "{name}"
+    );
     assert_eq!(rt; by_definition::is_hexagon(alloc, world)?, hexagon, "{name}");
     Ok(())
 }
