@@ -58,7 +58,7 @@ pub record IsAnswerOf (Text : List ℕ → Type 0) (report : Report) (answer : A
 
 -- ---- the first part
 
--- a report that is told as a sample's has few entries
+-- a report that is written as that of a sample has few entries
 abbrev pub IsCounted : Telling → Report → Type 0
 IsCounted tell.Report report = ⊤
 IsCounted (tell.Sample seed) report = AreCountable report.journal.entries

@@ -24,7 +24,7 @@ use shipped_programs::Shipped;
 use std::alloc::Global;
 use text_tokens::{Refusal, RefusalKind};
 
-/// What is told of a run.
+/// What is written of a run.
 #[derive(Clone, Copy)]
 pub enum Telling {
     /// Its report.
@@ -38,7 +38,7 @@ pub enum Telling {
 pub enum Begun {
     /// It has ended.
     Ended(Ended),
-    /// Workers are to run these lists, and then their report is told.
+    /// Workers are to run these lists, and then their report is written.
     Run(Prepared, Telling),
 }
 

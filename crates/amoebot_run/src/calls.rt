@@ -15,7 +15,8 @@ ghost use Rattle.command_answers.specs.Reads.{nothing, whole};
 ghost use Rattle.command_answers.specs.Owed.{IsOwed};
 ghost use Rattle.command_answers.specs.OfSample.{six_lines};
 ghost use Rattle.amoebot_run.specs.Clauses.{CameTo, WroteAll, WroteFront, asked};
-ghost use Rattle.amoebot_run.specs.Endings.{HasText, IsAnswered, IsEnding, IsOutsideFault, IsReadingOf, IsServed, IsReportOfCall, IsUnwritten};
+ghost use Rattle.amoebot_run.specs.Endings.{HasText, IsAnswered, IsEnding, IsOutsideFault, IsReadingOf};
+ghost use Rattle.amoebot_run.specs.Endings.{IsReportOfCall, IsServed, IsUnwritten};
 ghost use Rattle.amoebot_run.specs.Working.{HasTurns};
 
 use crate::begin::{Begun, begin};
@@ -74,8 +75,8 @@ pub fn run<R: Threads + Wait + Sync, S: Source, K: Sink, G: Gate>(
         (CameTo S.Source (asked words.now) input.old input.new)
         (WroteAll K.Sink out.old out.new)) }
 
-    // What is owed for an input whose bytes are told is what the call answers, unless it is out of memory or a read or a write fails:
-    // the status, and where the input decides what is told, the report and the text. With at most one list it does so for `run`.
+    // What is owed for an input that reports its bytes is what the call answers, unless it is out of memory or a read or a write fails:
+    // the status, and where the input decides what is written, the report and the text. With at most one list it does so for `run`.
     ensures determined { (document : List ℕ) (s : StatusValue) (report : Option ReportValue) (text : List ℕ)
         → S.left input.old ≡ Some document → length document ≤ limit_for (asked words.now)
         → IsOwed (asked words.now) (whole document) s report text
