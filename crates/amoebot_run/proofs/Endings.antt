@@ -11,7 +11,6 @@ use Rattle.shipped_programs.specs.declared.shipped.Shipped.{Shipped}
 use Rattle.command_words.specs.declared.command.Command.{Command}
 use Rattle.command_words.specs.declared.command.Command.TheVariants.{Document, Show, Sample}
 use Rattle.command_words.specs.declared.command.DocumentCommand.{DocumentCommand}
-use Rattle.command_words.specs.declared.command.DocumentCommand.TheVariants.{Run, Interleave, Replay, Check, Measure}
 use Rattle.command_answers.specs.declared.status.Status.{Status}
 use Rattle.command_answers.specs.declared.status.Status.TheVariants as status
 use Rattle.command_answers.specs.Commands.{MakesTurns, ReadsNothing, form_of}
@@ -20,7 +19,8 @@ use Rattle.text_tokens.specs.Kinds.{name}
 use Rattle.command_answers.specs.Lines.{refusal_line, too_long}
 use Rattle.command_answers.specs.Laws.{OwedIsOne, SameOwed, DocumentsHaveOutcomes, ReportsAreOfTurns, ReportsAreOfDocuments, ReportsAreOfSamples}
 use Rattle.command_answers.specs.Reads.{Read, nothing, whole, above, up_to_fault, some}
-use Rattle.command_answers.specs.Owed.{IsOwed, usage, read_fault, longer, refused, differs, done, shown, sampled}
+use Rattle.command_answers.specs.Outcomes.{IsOutcome, of_run, of_interleave, agreeing, differing, of_check, of_measure}
+use Rattle.command_answers.specs.Owed.{IsOwed, usage, read_fault, longer, refused, served, shown, sampled}
 use Rattle.amoebot_run.specs.declared.ended.Ended.{Ended}
 use Rattle.amoebot_run.specs.Clauses.{WroteAll, WroteFront}
 use Rattle.amoebot_run.specs.Endings.{IsEnding, written, cut, wanting, IsReadWithinLimit, IsAnswered, IsOutsideFault, IsUnwritten, IsServed, IsReportOfCall, of_document, of_sample}
@@ -141,23 +141,14 @@ one_unread law t other its Writes command _ _ owes (written read s report text r
 one_unread law t other its Writes command _ _ owes (cut read s report text reads x cuts) = inr (inl refl)
 one_unread law t other its Writes command _ _ owes (wanting read reads within untouched) = inr (inr refl)
 
--- a command that reads a document reads something
-pub reads_a_document : (c : DocumentCommand) → ReadsNothing (Some (Document c)) → ⊥
-reads_a_document Run none = none
-reads_a_document Interleave none = none
-reads_a_document Replay none = none
-reads_a_document Check none = none
-reads_a_document Measure none = none
-
 -- a command that reads nothing is done
 done_unread : (c : Command) (read : Read) (s : Status) (report : Option Report) (text : List ℕ) → ReadsNothing (Some c) → IsOwed (Some c) read s report text → s ≡ status.Done
 done_unread c read s report text nothing_read (shown p) = refl
 done_unread c read s report text nothing_read (sampled seed told v x) = refl
-done_unread c read s report text nothing_read (read_fault d got) = absurd (reads_a_document d nothing_read)
-done_unread c read s report text nothing_read (longer d got) = absurd (reads_a_document d nothing_read)
-done_unread c read s report text nothing_read (refused d bytes r x) = absurd (reads_a_document d nothing_read)
-done_unread c read s report text nothing_read (differs bytes a place x l) = absurd nothing_read
-done_unread c read s report text nothing_read (done d bytes a r t x l) = refl
+done_unread c read s report text nothing_read (read_fault d got) = absurd nothing_read
+done_unread c read s report text nothing_read (longer d got) = absurd nothing_read
+done_unread c read s report text nothing_read (refused d bytes r x) = absurd nothing_read
+done_unread c read s report text nothing_read (served d bytes a t r v x is) = absurd nothing_read
 
 pub served_unread : {Reads : Read → Type 0} {Writes Cuts : List ℕ → Type 0} {Untouched : Type 0} (c : Command) (command : Option Command) (s : Status) (report : Option Report)
     → command ≡ Some c → ReadsNothing (Some c) → IsEnding command Reads Writes Cuts Untouched s report → (s ≡ status.Done) ⊎ IsUnwritten s
@@ -177,18 +168,18 @@ six_lines_written law seed Writes command _ _ is (wanting read reads within unto
 
 -- a document is served
 module _ (law : DocumentsHaveOutcomes) (document : List ℕ) (a : Contents) (Writes : List ℕ → Type 0) where
-  served_owed : (c : DocumentCommand) (read : Read) (s : Status) (report : Option Report) (text : List ℕ) → IsAll document read → HasContents (form_of c) document a → Writes text → IsOwed (Some (Document c)) read s report text → IsServed a c Writes s report ⊎ IsOutsideFault s
-  served_owed c (whole bytes) s report text same holds writes owes = inl (text, law c document a s report text holds (subst (λ b. IsOwed (Some (Document c)) (whole b) s report text) same owes), writes)
-  served_owed c (above got) s report text same holds writes owes = absurd same
-  served_owed c (up_to_fault got) s report text same holds writes (read_fault d more) = inr tt
-  served_owed c nothing s report text same holds writes owes = elim owes [ ]
-  served_owed c (some got) s report text same holds writes owes = elim owes [ ]
+  serves_owed : (c : DocumentCommand) (read : Read) (s : Status) (report : Option Report) (text : List ℕ) → IsAll document read → HasContents (form_of c) document a → Writes text → IsOwed (Some (Document c)) read s report text → IsServed a c Writes s report ⊎ IsOutsideFault s
+  serves_owed c (whole bytes) s report text same holds writes owes = inl (text, law c document a s report text holds (subst (λ b. IsOwed (Some (Document c)) (whole b) s report text) same owes), writes)
+  serves_owed c (above got) s report text same holds writes owes = absurd same
+  serves_owed c (up_to_fault got) s report text same holds writes (read_fault d more) = inr tt
+  serves_owed c nothing s report text same holds writes owes = elim owes [ ]
+  serves_owed c (some got) s report text same holds writes owes = elim owes [ ]
 
-  pub served : {Reads : Read → Type 0} {Cuts : List ℕ → Type 0} {Untouched : Type 0} → ((r : Read) → Reads r → IsAll document r) → (c : DocumentCommand) (command : Option Command) (s : Status) (report : Option Report)
+  pub serves : {Reads : Read → Type 0} {Cuts : List ℕ → Type 0} {Untouched : Type 0} → ((r : Read) → Reads r → IsAll document r) → (c : DocumentCommand) (command : Option Command) (s : Status) (report : Option Report)
       → command ≡ Some (Document c) → HasContents (form_of c) document a → IsEnding command Reads Writes Cuts Untouched s report → IsServed a c Writes s report ⊎ IsOutsideFault s
-  served is_all c command _ _ is holds (written read s report text reads x writes) = served_owed c read s report text (is_all read reads) holds writes (subst (λ o. IsOwed o read s report text) is x)
-  served is_all c command _ _ is holds (cut read s report text reads x cuts) = inr tt
-  served is_all c command _ _ is holds (wanting read reads within untouched) = inr tt
+  serves is_all c command _ _ is holds (written read s report text reads x writes) = serves_owed c read s report text (is_all read reads) holds writes (subst (λ o. IsOwed o read s report text) is x)
+  serves is_all c command _ _ is holds (cut read s report text reads x cuts) = inr tt
+  serves is_all c command _ _ is holds (wanting read reads within untouched) = inr tt
 
 -- ---- the causes
 
@@ -200,6 +191,14 @@ Cause command read status.WriteFault = ⊥
 Cause command read status.NoMemory = ⊥
 Cause command read s = ⊤
 
+cause_of_outcome : (a : Contents) (c : DocumentCommand) (bytes : List ℕ) (s : Status) (report : Option Report) (text : List ℕ) → IsOutcome a c s report text → Cause (Some (Document c)) (whole bytes) s
+cause_of_outcome a c bytes s report text (of_run d r good reached serial) = tt
+cause_of_outcome a c bytes s report text (of_interleave d schedule r its_schedule good reached scheduled) = tt
+cause_of_outcome a c bytes s report text (agreeing d agrees) = tt
+cause_of_outcome a c bytes s report text (differing d place differs) = tt
+cause_of_outcome a c bytes s report text (of_check p its_program) = tt
+cause_of_outcome a c bytes s report text (of_measure last t its_last measures) = tt
+
 cause_of : (command : Option Command) (read : Read) (s : Status) (report : Option Report) (text : List ℕ) → IsOwed command read s report text → Cause command read s
 cause_of command read s report text usage = refl
 cause_of command read s report text (read_fault c got) = (got, refl)
@@ -207,8 +206,7 @@ cause_of command read s report text (longer c got) = tt
 cause_of command read s report text (refused c bytes r x) = tt
 cause_of command read s report text (shown p) = tt
 cause_of command read s report text (sampled seed told v x) = tt
-cause_of command read s report text (differs bytes a place x l) = tt
-cause_of command read s report text (done c bytes a r t x l) = tt
+cause_of command read s report text (served c bytes a t told v x is) = cause_of_outcome a c bytes s report text is
 
 module _ {Reads : Read → Type 0} {Writes Cuts : List ℕ → Type 0} {Untouched : Type 0} where
   -- where the words are no command, that is answered

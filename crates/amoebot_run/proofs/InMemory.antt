@@ -1,7 +1,7 @@
 -- A call over bytes in memory.
 use Rattle.std.proofs.Common.{◌≡◌, ◌≤◌, refl, subst, List, ℕ, length, Option, Some, None, inl, inr, arith}
 use Rattle.std.specs.Prelude.{IfSome}
-use Rattle.outer_io.specs.KeptBytes.{KeptBytes, KeepsPiece, PiecesAreKeptAsOne, written_of}
+use Rattle.outer_io.specs.KeptBytes.{KeptBytes, KeepsPiece, TextIsKeptAsOnePiece, written_of}
 use Rattle.outer_io.specs.Told.{Rose}
 use Rattle.outer_io.specs.Writings.{WritesAll}
 use Rattle.claim_core.specs.declared.report.Report.{Report}
@@ -27,7 +27,7 @@ reading_of left gives fails limit old new bytes is (above got) reads = let most 
 reading_of left gives fails limit old new bytes is (up_to_fault got) reads = absurd (not_risen reads.0)
 reading_of left gives fails limit old new bytes is (some got) reads = tt
 
-pub has_text : PiecesAreKeptAsOne → (old new : KeptBytes) (text : List ℕ) → WritesAll written_of KeepsPiece old new text → HasText old new text
+pub has_text : TextIsKeptAsOnePiece → (old new : KeptBytes) (text : List ℕ) → WritesAll written_of KeepsPiece old new text → HasText old new text
 has_text law old new text writes = (law old new text writes.writes, writes.told)
 
 -- of the three failures want of memory alone is left

@@ -5,9 +5,6 @@ use Rattle.claim_core.specs.declared.report.Report.{Report}
 use Rattle.outer_io.specs.declared.writing.Sink.{Ghosts as SinkOf}
 use Rattle.activation.specs.declared.turn.Turn.{Turn}
 use Rattle.command_words.specs.declared.command.Command.{Command}
-use Rattle.command_words.specs.declared.command.Command.TheVariants.{Document}
-use Rattle.command_words.specs.declared.command.DocumentCommand.{DocumentCommand}
-use Rattle.command_words.specs.declared.command.DocumentCommand.TheVariants.{Run, Interleave, Replay, Check, Measure}
 use Rattle.command_answers.specs.declared.status.Status.{Status}
 use Rattle.command_answers.specs.declared.status.Status.TheVariants as status
 use Rattle.command_answers.specs.Commands.{IsWorked}
@@ -32,10 +29,3 @@ line_turns c s text ended not written = turns_of c s None None text ended (no_tu
 
 pub without_turns : (c : Option Command) (ended : Ended) → ended ≡ record { status = status.NoMemory; report = None; turns = None } → HasTurns c ended.status ended.report ended.turns
 without_turns c ended is = subst (λ (e : Ended). HasTurns c e.status e.report e.turns) (sym is) (no_turns c status.NoMemory None (λ done worked. cc))
-
-pub is_run : (c : DocumentCommand) → IsWorked (Some (Document c)) → c ≡ Run
-is_run Run worked = refl
-is_run Interleave worked = absurd worked
-is_run Replay worked = absurd worked
-is_run Check worked = absurd worked
-is_run Measure worked = absurd worked

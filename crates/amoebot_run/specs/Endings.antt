@@ -11,7 +11,6 @@ use Rattle.command_words.specs.declared.command.Command.TheVariants.{Document, S
 use Rattle.command_words.specs.declared.command.DocumentCommand.{DocumentCommand}
 use Rattle.command_answers.specs.declared.status.Status.{Status}
 use Rattle.command_answers.specs.declared.status.Status.TheVariants as status
-use Rattle.command_answers.specs.Commands.{form_of}
 use Rattle.command_answers.specs.Headline.{IsRunOfDocument, IsRunOfSample}
 use Rattle.command_answers.specs.Laws.{HasOneReport, HasOneText, SameIfAny}
 use Rattle.command_answers.specs.Outcomes.{IsOutcome}
@@ -72,7 +71,7 @@ pub record IsAnswered
 -- Or the number of a sample, of whose run it is, and the six lines, which were written and nothing else, where nothing was read.
 pub data IsReportOfCall (command : Option Command) (Reads : Read → Type 0) (Writes : List ℕ → Type 0) (report : Report) : Type 0 where
   of_document : (c : DocumentCommand) (document text : List ℕ) → command ≡ Some (Document c) → Reads (whole document)
-      → IsRunOfDocument (form_of c) document report text → Writes text → IsReportOfCall command Reads Writes report
+      → IsRunOfDocument c document report text → Writes text → IsReportOfCall command Reads Writes report
   of_sample : (seed : ℕ) (text : List ℕ) → command ≡ Some (Sample seed) → Reads nothing
       → IsRunOfSample seed report text → Writes text → IsReportOfCall command Reads Writes report
 

@@ -15,31 +15,20 @@ ghost use Rattle.amoebot_run.specs.Working.{HasTurns};
 
 use crate::ended::{Ended, end_with, end_with_answer, end_with_line};
 use amoebot_state::NoMemory;
-use command_answers::{Prepared, Status, Task, answer_show, limit_of, prepare_sample, task_of};
-use command_runs::good_is_few;
+use command_answers::{Prepared, Status, Task, answer_show, prepare_sample, row_of, task_of};
 use command_words::{Command, DocumentCommand, command_of};
 use outer_io::{ReadError, Sink, Source, read_document};
-use run_sample::sample_is_fit;
 use shipped_programs::Shipped;
 use std::alloc::Global;
 use text_tokens::{Refusal, RefusalKind};
-
-/// What is written of a run.
-#[derive(Clone, Copy)]
-pub enum Telling {
-    /// Its report.
-    Report,
-    /// That it is the run of this number's sample.
-    Sample(u32),
-}
 
 /// What a call has come to without workers.
 #[derive(Drop)]
 pub enum Begun {
     /// It has ended.
     Ended(Ended),
-    /// Workers are to run these lists, and then their report is written.
-    Run(Prepared, Telling),
+    /// Workers are to run these lists, and then their report is told.
+    Run(Prepared),
 }
 
 /// What is written where the words are no command.
@@ -97,7 +86,7 @@ fn begin_document<S: Source, K: Sink>(
         (WroteAll K.Sink out.old out.new) (WroteFront K.Sink out.old out.new) (out.new ≡ out.old)
         result }
 {
-    let document = match read_document(alloc, input, limit_of(command)) {
+    let document = match read_document(alloc, input, row_of(command).limit) {
         Ok(document) => document,
         Err(ReadError::ReadFault) => {
             return Begun::Ended(end_with_line(out, READ_FAULT, Status::ReadFault));
@@ -113,7 +102,7 @@ fn begin_document<S: Source, K: Sink>(
     };
     match task {
         Task::Answered(answer) => Begun::Ended(end_with_answer(out, answer, None)),
-        Task::Run(prepared) => Begun::Run(prepared, Telling::Report),
+        Task::Run(prepared) => Begun::Run(prepared),
     }
 }
 
@@ -134,10 +123,8 @@ fn end_show<K: Sink>(alloc: Global, program: Shipped, out: &mut K) -> Ended
 fn begin_sample(alloc: Global, seed: u32) -> Begun
     ensures { IsBegun (Some (Command.Sample seed)) (λ read. read ≡ nothing) (λ text. ⊥) (λ text. ⊥) ⊤ result }
 {
-    sample_is_fit();
-    good_is_few();
     match prepare_sample(alloc, seed) {
-        Ok(prepared) => Begun::Run(prepared, Telling::Sample(seed)),
+        Ok(prepared) => Begun::Run(prepared),
         Err(NoMemory) => Begun::Ended(end_with(Status::NoMemory)),
     }
 }

@@ -28,7 +28,7 @@ use command_answers::{
     Prepared, Status, documents_have_outcomes, owed_is_one, reports_are_of_runs,
 };
 use command_words::Command;
-use outer_io::{Sink, Source, SureSink, SureSource, pieces_are_kept_as_one};
+use outer_io::{Sink, Source, SureSink, SureSource, text_is_kept_as_one_piece};
 use std::alloc::Global;
 use std::sync::Wait;
 use std::thread::Threads;
@@ -114,14 +114,15 @@ pub fn run<R: Threads + Wait + Sync, S: Source, K: Sink, G: Gate>(
     owed_is_one();
     documents_have_outcomes();
     reports_are_of_runs();
-    let (prepared, telling) = match begin(alloc, words, input, out) {
+    let prepared = match begin(alloc, words, input, out) {
         Begun::Ended(ended) => return ended,
-        Begun::Run(prepared, telling) => (prepared, telling),
+        Begun::Run(prepared) => prepared,
     };
     let Prepared {
         runner,
         world,
         lists,
+        telling,
     } = prepared;
     match work(rt, alloc, &runner, world, &lists, gate) {
         Ok(worked) => finish(alloc, out, telling, &runner, &lists, worked),
@@ -183,7 +184,7 @@ pub fn run_text<R: Threads + Wait + Sync>(
     ensures sample { (seed : ℕ) → asked words.now ≡ Some (Command.Sample seed)
         → ((result.status ≡ Status.Done) × HasText out.old out.new (six_lines seed)) ⊎ (result.status ≡ Status.NoMemory) }
 {
-    pieces_are_kept_as_one();
+    text_is_kept_as_one_piece();
     match SureSource::new(alloc, bytes) {
         Ok(mut input) => run(rt, alloc, words, &mut input, out, &NoGate),
         Err(_) => end_with(Status::NoMemory),

@@ -1,5 +1,5 @@
 -- The answers of the samples: the steps of the schedule are computed, and what they leave is also what the turns leave.
-use Rattle.std.proofs.Common.{◌≡◌, ℕ, List, replicate, [], ◌∷◌, ◌++◌, Some, None, Ok, Err, zero, suc, refl, ap, arith, codes}
+use Rattle.std.proofs.Common.{◌≡◌, ℕ, List, replicate, [], ◌∷◌, ◌++◌, Some, None, Ok, Err, zero, suc, refl, ap, arith, codes, subst, sym}
 use Rattle.std.specs.Prelude.{is_some, reverse}
 use Rattle.std.specs.Fmt.{digits}
 use Rattle.std.specs.List.{All}
@@ -22,18 +22,22 @@ use Rattle.shape_files.specs.declared.section_kind.Form.TheVariants as form
 use Rattle.shape_files.specs.DocumentRows.{program_text, out, only_program}
 use Rattle.small_worlds.specs.Rows.{row_area, node, bot_in_row}
 use Rattle.claim_core.specs.declared.report.Report.{Report}
-use Rattle.command_runs.specs.Run.{IsRunReport}
 use Rattle.command_runs.specs.Reports.{report_text}
-use Rattle.command_runs.specs.Interleave.{IsScheduled, IsInterleaveReport}
+use Rattle.command_runs.specs.Interleave.{IsScheduled}
 use Rattle.command_runs.specs.Replay.{at_end}
 use Rattle.command_runs.specs.Examples.{nobody, one_alone}
 use Rattle.command_runs.proofs.Measures.{nobody_is_measured}
 use Rattle.small_worlds.proofs.Rows.{is_area, one_id, IsThereIn, one_has_ended, two_have_ended}
 use Rattle.shipped_programs.specs.declared.shipped.Shipped.TheVariants.{Line}
 use Rattle.command_words.specs.declared.command.DocumentCommand.TheVariants.{Run, Interleave, Replay, Check, Measure}
-use Rattle.command_answers.specs.OfReplay.{HasJournal}
-use Rattle.command_answers.specs.Owed.{of_run, of_interleave, of_replay, of_check, of_measure, usage, read_fault, longer, refused, differs, done, shown}
-use Rattle.command_words.specs.Words.{is_seed, of_two_words, sample_of}
+use Rattle.command_words.specs.declared.command.Command.TheVariants.{Document}
+use Rattle.command_answers.specs.declared.answer.Telling.TheVariants as telling
+use Rattle.command_answers.specs.declared.status.Status.TheVariants as status
+use Rattle.command_answers.specs.Reads.{whole}
+use Rattle.command_answers.specs.Outcomes.{DocumentLists, DocumentJournal, of_run, of_interleave, agreeing, differing, of_check, of_measure}
+use Rattle.command_answers.specs.Owed.{IsOwed, usage, read_fault, longer, refused, served, shown}
+use Rattle.command_answers.specs.Answers.{of_document}
+use Rattle.command_words.specs.Words.{is_number_word, of_two_words, numbered_by}
 use Rattle.command_answers.specs.Examples.{with_shape, with_nobody, with_list, with_two_lists, with_schedule, expansion_journal, spread_text, still_text, spread_config, one_list, two_lists, schedule, expansion, and_nobody, and_list, and_two_lists, and_schedule, and_journal, expansion_report, expansion_report_text, two_callers_report, both_text, empty_refused, SmallAnswers}
 use Rattle.command_answers.proofs.SmallDocuments.{says, are_answered}
 
@@ -95,25 +99,33 @@ both_reached = record { steps = steps_of_both; ended = both_ended; left = record
 scheduled : IsScheduled g schedule expansion_report
 scheduled = record { count = 0; ended = ended; first = λ n lt. absurd (omega arith); left = left }
 
-has : (final : Config) → HasJournal (and_journal final) out one_alone (expansion ∷ []) final
-has final = record { its_program = refl; its_shape = refl; its_journal = refl; its_final = refl }
+-- what the documents have
+abbrev its_lists : DocumentLists and_list
+its_lists = record { program = out; start = one_alone; lists = one_list; its_program = refl; its_shape = refl; its_lists = refl }
+
+abbrev its_two_lists : DocumentLists and_two_lists
+its_two_lists = record { program = out; start = one_alone; lists = two_lists; its_program = refl; its_shape = refl; its_lists = refl }
+
+abbrev its_schedule : DocumentLists and_schedule
+its_schedule = record { program = out; start = one_alone; lists = one_list; its_program = refl; its_shape = refl; its_lists = refl }
+
+abbrev its_journal : (final : Config) → DocumentJournal (and_journal final)
+its_journal final = record { program = out; start = one_alone; entries = expansion ∷ []; final = final; its_program = refl; its_shape = refl; its_journal = refl; its_final = refl }
 
 module _ (goods : ReachedIsGood) (serials : OneListIsSerial) where
   good : Good (verdict_shown out) one_alone one_list expansion_report
   good = goods g may_run expansion_report reached
 
-  both_report : IsRunReport (verdict_shown out) one_alone two_lists two_callers_report
-  both_report = let its_good = goods both both_may_run two_callers_report both_reached in record { good = its_good; reached = both_reached; serial = λ few. absurd (omega arith) }
+  both_good : Good (verdict_shown out) one_alone two_lists two_callers_report
+  both_good = goods both both_may_run two_callers_report both_reached
 
-  -- any report that is good and reached is one of `run`
-  report_of_run : (report : Report) → Good (verdict_shown out) one_alone one_list report → Reached g report → IsRunReport (verdict_shown out) one_alone one_list report
-  report_of_run report its_good its_reached = record { good = its_good; reached = its_reached; serial = λ few. serials (verdict_shown out) one_alone one_list report few its_good }
-
-  interleave_report : IsInterleaveReport (verdict_shown out) one_alone one_list schedule expansion_report
-  interleave_report = record { good = good; reached = reached; scheduled = scheduled }
+  -- each good report that an interleaving gives is owed
+  owes_report : (report : Report) → Good (verdict_shown out) one_alone one_list report → Reached g report → IsOwed (Some (Document Run)) (whole with_list) status.Done (Some report) (report_text 0 report)
+  owes_report report its_good its_reached = served Run with_list and_list status.Done (Some report) (report_text 0 report) (says form.Run with_list (Ok and_list) are_answered.list)
+      (of_run its_lists report its_good its_reached (λ few. serials (verdict_shown out) one_alone one_list report few its_good))
 
   pub small_answers : SmallAnswers
-  unfolding digits name of_two_words sample_of is_seed
+  unfolding digits name of_two_words numbered_by is_number_word
   small_answers = record {
     no_words = usage;
     two_words = usage;
@@ -122,25 +134,20 @@ module _ (goods : ReachedIsGood) (serials : OneListIsSerial) where
     fails = read_fault Run (codes "amoe");
     long = λ bytes. longer Check bytes;
     empty = refused Interleave [] empty_refused (says form.Interleave [] (Err empty_refused) are_answered.empty);
-    run = done Run with_list and_list (Some expansion_report) expansion_report_text (says form.Run with_list (Ok and_list) are_answered.list) (of_run expansion_report expansion_report_text (record { program = out; start = one_alone; lists = one_list; its_program = refl; its_shape = refl; its_lists = refl; writes = record { run = report_of_run expansion_report good reached; whole = refl } }));
-    two_lists = done Run with_two_lists and_two_lists (Some two_callers_report) both_text (says form.Run with_two_lists (Ok and_two_lists) are_answered.two_lists) (of_run two_callers_report both_text (record { program = out; start = one_alone; lists = two_lists; its_program = refl; its_shape = refl; its_lists = refl; writes = record { run = both_report; whole = refl } }));
-    interleave = done Interleave with_schedule and_schedule (Some expansion_report) expansion_report_text (says form.Interleave with_schedule (Ok and_schedule) are_answered.schedule) (of_interleave expansion_report expansion_report_text (record { program = out; start = one_alone; lists = one_list; schedule = schedule; its_program = refl; its_shape = refl; its_lists = refl; its_schedule = refl; writes = record { run = interleave_report; whole = refl } }));
-    agrees = done Replay (with_shape ++ expansion_journal ++ spread_text) (and_journal spread_config) None (codes "agrees 1\n") (says form.Replay (with_shape ++ expansion_journal ++ spread_text) (Ok (and_journal spread_config)) are_answered.journal) (of_replay (codes "agrees 1\n") (record { program = out; start = one_alone; entries = expansion ∷ []; final = spread_config; has = has spread_config; writes = record { agrees = good.run; whole = refl } }));
-    differs = differs (with_shape ++ expansion_journal ++ still_text) (and_journal one_alone) 1 (says form.Replay (with_shape ++ expansion_journal ++ still_text) (Ok (and_journal one_alone)) are_answered.other_final) (record { program = out; start = one_alone; entries = expansion ∷ []; final = one_alone; has = has one_alone; differs = at_end spread_config good.run (λ same. let e = ap (λ (c : Config). occupant c (node 2)) same in cc) });
-    check = done Check program_text only_program None _ (says form.Check program_text (Ok only_program) are_answered.program) (of_check _ (record { program = out; its_program = refl; writes = refl }));
+    run = owes_report expansion_report good reached;
+    two_lists = served Run with_two_lists and_two_lists status.Done (Some two_callers_report) both_text (says form.Run with_two_lists (Ok and_two_lists) are_answered.two_lists) (of_run its_two_lists two_callers_report both_good both_reached (λ few. absurd (omega arith)));
+    interleave = served Interleave with_schedule and_schedule status.Done (Some expansion_report) expansion_report_text (says form.Interleave with_schedule (Ok and_schedule) are_answered.schedule) (of_interleave its_schedule schedule expansion_report refl good reached scheduled);
+    agrees = served Replay (with_shape ++ expansion_journal ++ spread_text) (and_journal spread_config) status.Done None (codes "agrees 1\n") (says form.Replay (with_shape ++ expansion_journal ++ spread_text) (Ok (and_journal spread_config)) are_answered.journal) (agreeing (its_journal spread_config) good.run);
+    differs = served Replay (with_shape ++ expansion_journal ++ still_text) (and_journal one_alone) (status.Differs 1) None (codes "differs 1\n") (says form.Replay (with_shape ++ expansion_journal ++ still_text) (Ok (and_journal one_alone)) are_answered.other_final) (differing (its_journal one_alone) 1 (at_end spread_config good.run (λ same. let e = ap (λ (c : Config). occupant c (node 2)) same in cc)));
+    check = served Check program_text only_program status.Done None _ (says form.Check program_text (Ok only_program) are_answered.program) (of_check out refl);
     show = shown Line;
-    measure = done Measure with_nobody and_nobody None _ (says form.Measure with_nobody (Ok and_nobody) are_answered.nobody) (of_measure _ (record { last = nobody; its_last = refl; writes = nobody_is_measured }));
-    refused_task = (refused Interleave [] empty_refused (says form.Interleave [] (Err empty_refused) are_answered.empty), λ same. absurd (cc));
-    run_task = (
-      refl,
-      and_list,
-      says form.Run with_list (Ok and_list) are_answered.list,
-      record {
-        its_program = refl;
-        its_shape = refl;
-        its_lists = refl;
-        there = may_run.bots;
-        owed = λ report its_good its_reached. done Run with_list and_list (Some report) (report_text 0 report) (says form.Run with_list (Ok and_list) are_answered.list) (of_run report (report_text 0 report) (record { program = out; start = one_alone; lists = one_list; its_program = refl; its_shape = refl; its_lists = refl; writes = record { run = report_of_run report its_good its_reached; whole = refl } }));
-      },
-    );
+    measure = served Measure with_nobody and_nobody status.Done None _ (says form.Measure with_nobody (Ok and_nobody) are_answered.nobody) (of_measure nobody _ refl nobody_is_measured);
+    refused_task = (refused Interleave [] empty_refused (says form.Interleave [] (Err empty_refused) are_answered.empty), λ worked. absurd worked);
+    run_task = record {
+      by_workers = tt;
+      its_lists = of_document Run with_list and_list (says form.Run with_list (Ok and_list) are_answered.list) refl refl refl refl;
+      there = may_run.bots;
+      few = λ report its_good. tt;
+      owed = λ report text its_good its_reached tells. subst (λ (t : List ℕ). IsOwed (Some (Document Run)) (whole with_list) status.Done (Some report) t) (sym tells) (owes_report report its_good its_reached);
+    };
   }

@@ -1,10 +1,11 @@
 pub mod Outcomes
 pub mod OwedTexts
+pub mod PreparedRuns
 pub mod OwedLemmas
 pub mod SampleLemmas
 pub mod ExampleLemmas
 pub mod SmallDocuments
-pub mod Tasks
+pub mod TaskLemmas
 pub mod Bodies
 pub mod PatchLemmas
 pub mod ActionLemmas

@@ -1,19 +1,20 @@
 -- What is owed for a document, and by whom a report is owed.
-use Rattle.std.proofs.Common.{ℕ, List, refl, subst}
+use Rattle.std.proofs.Common.{◌≡◌, ◌↔◌, ℕ, List, Option, Some, refl, subst}
+use Rattle.std.specs.Prelude.{IsSome}
 use Rattle.std.proofs.lemmas.Bool.{false≢true}
 use Rattle.claim_core.specs.declared.report.Report.{Report}
-use Rattle.shape_files.specs.declared.section_kind.Form.TheVariants as form
+use Rattle.claim_core.specs.Laws.{OneListIsSerial}
+use Rattle.action_meaning.specs.Verdicts.{verdict_shown}
 use Rattle.shape_files.specs.Documents.{Contents, HasContents, DocumentsAreDecided}
 use Rattle.run_sample.specs.Laws.{SampleIsFit}
 use Rattle.command_runs.specs.Laws.{GoodStaysConnected}
-use Rattle.action_meaning.specs.Verdicts.{verdict_shown}
-use Rattle.claim_core.specs.Laws.{OneListIsSerial}
-use Rattle.command_answers.specs.Commands.{form_of}
-use Rattle.command_answers.specs.OfRun.{IsTextOfRun}
-use Rattle.command_answers.specs.OfInterleave.{IsTextOfInterleave}
-use Rattle.command_answers.specs.OfReplay.{IsDiffering}
-use Rattle.command_answers.specs.Owed.{IsTextOf, of_run, of_interleave, of_replay, of_check, of_measure, usage, read_fault, longer, refused, differs, done, shown, sampled}
-use Rattle.command_answers.specs.Outcomes.{is_done, is_differing}
+use Rattle.command_words.specs.declared.command.Command.TheVariants.{Document}
+use Rattle.command_words.specs.declared.command.DocumentCommand.{DocumentCommand}
+use Rattle.command_answers.specs.declared.status.Status.{Status}
+use Rattle.command_answers.specs.declared.status.Status.TheVariants as status
+use Rattle.command_answers.specs.Commands.{IsWorked, MakesTurns, form_of}
+use Rattle.command_answers.specs.Outcomes.{IsOutcome, of_run, of_interleave, agreeing, differing, of_check, of_measure}
+use Rattle.command_answers.specs.Owed.{usage, read_fault, longer, refused, served, shown, sampled}
 use Rattle.command_answers.specs.Headline.{IsRunOfDocument}
 use Rattle.command_answers.specs.Laws.{DocumentsHaveOutcomes, ReportsAreOfTurns, ReportsAreOfDocuments, ReportsAreOfSamples}
 use Rattle.command_answers.proofs.SampleLemmas.{told_by_sample}
@@ -21,33 +22,55 @@ use Rattle.command_answers.proofs.OwedLemmas.{same_contents, not_both}
 
 pub documents_have_outcomes : DocumentsAreDecided → DocumentsHaveOutcomes
 documents_have_outcomes documents c bytes a s report text h (refused d same r x) = absurd (not_both documents (form_of c) bytes a r h x)
-documents_have_outcomes documents c bytes a s report text h (differs same b place x l) = is_differing place refl (subst (λ (k : Contents). IsDiffering k place) (same_contents documents form.Replay bytes b a x h) l)
-documents_have_outcomes documents c bytes a s report text h (done d same b told v x l) = is_done report text (subst (λ (k : Contents). IsTextOf k c report text) (same_contents documents (form_of c) bytes b a x h) l)
+documents_have_outcomes documents c bytes a s report text h (served d same b t told v x is) = subst (λ (k : Contents). IsOutcome k c s report text) (same_contents documents (form_of c) bytes b a x h) is
+
+-- a command whose turns workers make has no other outcome than that it is done
+pub worked_is_done : (a : Contents) (c : DocumentCommand) (s : Status) (report : Option Report) (text : List ℕ) → IsWorked (Some (Document c)) → IsOutcome a c s report text → s ≡ status.Done
+worked_is_done a c s report text worked (of_run d r good reached serial) = refl
+worked_is_done a c s report text worked (of_interleave d schedule r its_schedule good reached scheduled) = refl
+worked_is_done a c s report text worked (agreeing d agrees) = refl
+worked_is_done a c s report text worked (differing d place differs) = absurd worked
+worked_is_done a c s report text worked (of_check program its_program) = refl
+worked_is_done a c s report text worked (of_measure last t its_last measures) = refl
+
+-- ---- by whom a report is owed
+
+outcomes_are_of_turns : (a : Contents) (c : DocumentCommand) (s : Status) (report : Option Report) (text : List ℕ) → IsOutcome a c s report text → IsSome report ↔ ((s ≡ status.Done) × MakesTurns (Some (Document c)))
+outcomes_are_of_turns a c s report text (of_run d r good reached serial) = (λ some. (refl, tt), λ both. refl)
+outcomes_are_of_turns a c s report text (of_interleave d schedule r its_schedule good reached scheduled) = (λ some. (refl, tt), λ both. refl)
+outcomes_are_of_turns a c s report text (agreeing d agrees) = (λ some. absurd (false≢true some), λ (is, makes). absurd makes)
+outcomes_are_of_turns a c s report text (differing d place differs) = (λ some. absurd (false≢true some), λ (is, makes). absurd makes)
+outcomes_are_of_turns a c s report text (of_check program its_program) = (λ some. absurd (false≢true some), λ (is, makes). absurd makes)
+outcomes_are_of_turns a c s report text (of_measure last t its_last measures) = (λ some. absurd (false≢true some), λ (is, makes). absurd makes)
 
 pub reports_are_of_turns : ReportsAreOfTurns
 reports_are_of_turns c read s report text usage = (λ some. absurd (false≢true some), λ (is, makes). cc)
 reports_are_of_turns c read s report text (read_fault d got) = (λ some. absurd (false≢true some), λ (is, makes). cc)
 reports_are_of_turns c read s report text (longer d got) = (λ some. absurd (false≢true some), λ (is, makes). cc)
 reports_are_of_turns c read s report text (refused d bytes r x) = (λ some. absurd (false≢true some), λ (is, makes). cc)
-reports_are_of_turns c read s report text (differs bytes a place x l) = (λ some. absurd (false≢true some), λ (is, makes). cc)
-reports_are_of_turns c read s report text (done d bytes a told v x (of_run r t y)) = (λ some. (refl, tt), λ both. refl)
-reports_are_of_turns c read s report text (done d bytes a told v x (of_interleave r t y)) = (λ some. (refl, tt), λ both. refl)
-reports_are_of_turns c read s report text (done d bytes a told v x (of_replay t y)) = (λ some. absurd (false≢true some), λ (is, makes). absurd makes)
-reports_are_of_turns c read s report text (done d bytes a told v x (of_check t y)) = (λ some. absurd (false≢true some), λ (is, makes). absurd makes)
-reports_are_of_turns c read s report text (done d bytes a told v x (of_measure t y)) = (λ some. absurd (false≢true some), λ (is, makes). absurd makes)
+reports_are_of_turns c read s report text (served d bytes a t told v x is) = outcomes_are_of_turns a d s report text is
 reports_are_of_turns c read s report text (shown p) = (λ some. absurd (false≢true some), λ (is, makes). absurd makes)
 reports_are_of_turns c read s report text (sampled seed told v x) = (λ some. (refl, tt), λ both. refl)
 
 module _ (stays : GoodStaysConnected) (serials : OneListIsSerial) where
-  told_by_run : (bytes : List ℕ) (a : Contents) (report : Report) (text : List ℕ) → HasContents form.Run bytes a → IsTextOfRun a report text → IsRunOfDocument form.Run bytes report text
-  told_by_run bytes a report text h x = record { contents = a; program = x.program; start = x.start; lists = x.lists; document = h; its_program = x.its_program; its_shape = x.its_shape; its_lists = x.its_lists; good = x.writes.run.good; reached = x.writes.run.reached; serial = x.writes.run.serial; connected = stays x.program x.start x.lists report x.writes.run.good; writes = x.writes.whole }
-
-  told_by_interleave : (bytes : List ℕ) (a : Contents) (report : Report) (text : List ℕ) → HasContents form.Interleave bytes a → IsTextOfInterleave a report text → IsRunOfDocument form.Interleave bytes report text
-  told_by_interleave bytes a report text h x = record { contents = a; program = x.program; start = x.start; lists = x.lists; document = h; its_program = x.its_program; its_shape = x.its_shape; its_lists = x.its_lists; good = x.writes.run.good; reached = x.writes.run.reached; serial = λ few. serials (verdict_shown x.program) x.start x.lists report few x.writes.run.good; connected = stays x.program x.start x.lists report x.writes.run.good; writes = x.writes.whole }
+  told_by_outcome : (c : DocumentCommand) (bytes : List ℕ) (a : Contents) (s : Status) (report : Report) (text : List ℕ) → HasContents (form_of c) bytes a → IsOutcome a c s (Some report) text → IsRunOfDocument c bytes report text
+  told_by_outcome c bytes a s report text h (of_run d r good reached serial) = record {
+    contents = a; program = d.program; start = d.start; lists = d.lists;
+    document = h; its_program = d.its_program; its_shape = d.its_shape; its_lists = d.its_lists;
+    good = good; reached = reached; serial = serial;
+    connected = stays d.program d.start d.lists report good;
+    writes = refl;
+  }
+  told_by_outcome c bytes a s report text h (of_interleave d schedule r its_schedule good reached scheduled) = record {
+    contents = a; program = d.program; start = d.start; lists = d.lists;
+    document = h; its_program = d.its_program; its_shape = d.its_shape; its_lists = d.its_lists;
+    good = good; reached = reached; serial = λ few. serials (verdict_shown d.program) d.start d.lists report few good;
+    connected = stays d.program d.start d.lists report good;
+    writes = refl;
+  }
 
   pub reports_are_of_documents : ReportsAreOfDocuments
-  reports_are_of_documents c read s report text (done d bytes a told v x (of_run r t y)) = (bytes, refl, told_by_run bytes a report text x y)
-  reports_are_of_documents c read s report text (done d bytes a told v x (of_interleave r t y)) = (bytes, refl, told_by_interleave bytes a report text x y)
+  reports_are_of_documents c read s report text (served d bytes a t told v x is) = (bytes, refl, told_by_outcome c bytes a s report text x is)
 
 pub reports_are_of_samples : GoodStaysConnected → SampleIsFit → ReportsAreOfSamples
 reports_are_of_samples stays fit seed read s report text (sampled same told v x) = (refl, told_by_sample stays fit seed report text x)

@@ -27,8 +27,12 @@ use Rattle.shape_files.specs.Fitting.{FitTogether, DocumentsFit}
 use Rattle.command_runs.specs.Reports.{report_text}
 use Rattle.command_runs.specs.Replay.{agrees_line}
 use Rattle.command_runs.specs.Laws.{GoodIsFew}
-use Rattle.command_words.specs.declared.command.DocumentCommand.TheVariants.{Replay}
-use Rattle.command_answers.specs.Owed.{of_run, of_interleave, of_replay, done}
+use Rattle.command_words.specs.declared.command.DocumentCommand.{DocumentCommand}
+use Rattle.command_words.specs.declared.command.DocumentCommand.TheVariants.{Run, Interleave, Replay, Check, Measure}
+use Rattle.command_answers.specs.declared.status.Status.TheVariants as status
+use Rattle.command_answers.specs.Commands.{form_of}
+use Rattle.command_answers.specs.Outcomes.{IsOutcome, of_run, of_interleave, agreeing}
+use Rattle.command_answers.specs.Owed.{served}
 use Rattle.command_answers.specs.ReplayLaws.{with_report, IsReplayed, RunTextsAreReplayed, InterleaveTextsAreReplayed, WhatIsOwedIsReplayed}
 use Rattle.claim_core.proofs.Frames.{IsFramed, framed_first, framed_on}
 use Rattle.command_answers.proofs.Worlds.{MayRun, maxes_are, is_writable}
@@ -125,26 +129,34 @@ module _ (laws : Laws) (bytes : List ℕ) (a : Contents) (p : Program) (start : 
       subst (λ (t : List ℕ). HasContents form.Replay (bytes ++ t) (with_report a report)) same (laws.replayed bytes a report.journal.entries report.world report.turns line holds keeps) in
       record {
         document = document;
-        agrees = done Replay (bytes ++ text) (with_report a report) None (agrees_line (length report.journal.entries)) document (of_replay (agrees_line (length report.journal.entries)) (record {
+        agrees = served Replay (bytes ++ text) (with_report a report) status.Done None (agrees_line (length report.journal.entries)) document (agreeing (record {
           program = p;
           start = start;
           entries = report.journal.entries;
           final = report.world;
-          has = record { its_program = its_program; its_shape = its_shape; its_journal = refl; its_final = refl };
-          writes = record { agrees = good.run; whole = refl };
-        }));
+          its_program = its_program;
+          its_shape = its_shape;
+          its_journal = refl;
+          its_final = refl;
+        }) good.run);
       }
 
 module _ (laws : Laws) where
   pub run_texts_are_replayed : RunTextsAreReplayed
-  run_texts_are_replayed bytes a report text line holds is = is_replayed laws bytes a is.program is.start is.lists report holds is.its_program is.its_shape is.its_lists is.writes.run.good text line is.writes.whole
+  run_texts_are_replayed bytes a report text line holds (of_run d r good reached serial) = is_replayed laws bytes a d.program d.start d.lists report holds d.its_program d.its_shape d.its_lists good text line refl
+
+  interleave_text_is_replayed : (bytes : List ℕ) (a : Contents) (report : Report) (text : List ℕ) → EndsLine bytes → HasContents form.Run bytes a → IsOutcome a Interleave status.Done (Some report) text → IsReplayed bytes a report text
+  interleave_text_is_replayed bytes a report text line holds (of_interleave d schedule r its_schedule good reached scheduled) = is_replayed laws bytes a d.program d.start d.lists report holds d.its_program d.its_shape d.its_lists good text line refl
 
   pub interleave_texts_are_replayed : InterleaveTextsAreReplayed
-  interleave_texts_are_replayed = record {
-    is_run = interleaves_are_runs;
-    replayed = λ bytes a report text line holds is. is_replayed laws bytes a is.program is.start is.lists report holds is.its_program is.its_shape is.its_lists is.writes.run.good text line is.writes.whole;
-  }
+  interleave_texts_are_replayed = record { is_run = interleaves_are_runs; replayed = interleave_text_is_replayed }
+
+  outcome_is_replayed : (c : DocumentCommand) (bytes : List ℕ) (a : Contents) (report : Report) (text : List ℕ) → EndsLine bytes → HasContents (form_of c) bytes a → IsOutcome a c status.Done (Some report) text → IsReplayed bytes a report text
+  outcome_is_replayed Run bytes a report text line holds is = run_texts_are_replayed bytes a report text line holds is
+  outcome_is_replayed Interleave bytes a report text line holds is = interleave_text_is_replayed bytes a report text line (interleaves_are_runs bytes a holds) is
+  outcome_is_replayed Replay bytes a report text line holds is = elim is [ ]
+  outcome_is_replayed Check bytes a report text line holds is = elim is [ ]
+  outcome_is_replayed Measure bytes a report text line holds is = elim is [ ]
 
   pub what_is_owed_is_replayed : WhatIsOwedIsReplayed
-  what_is_owed_is_replayed c bytes report text line (done d same a told v holds (of_run r t is)) = (run_texts_are_replayed bytes a report text line holds is).agrees
-  what_is_owed_is_replayed c bytes report text line (done d same a told v holds (of_interleave r t is)) = (interleave_texts_are_replayed.replayed bytes a report text line (interleaves_are_runs bytes a holds) is).agrees
+  what_is_owed_is_replayed c bytes report text line (served d same a s told v holds is) = (outcome_is_replayed c bytes a report text line holds is).agrees

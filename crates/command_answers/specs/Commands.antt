@@ -1,5 +1,5 @@
 -- The table of the commands, and the numbers of the statuses.
-use Rattle.std.specs.Prelude.{ℕ, IfSome, ⊤}
+use Rattle.std.specs.Prelude.{ℕ, ⊤}
 use Rattle.std.specs.declared.option.Option.{Option}
 use Rattle.std.specs.declared.option.Option.TheVariants.{Some, None}
 use Rattle.shape_files.specs.declared.section_kind.Form.{Form}
@@ -11,52 +11,82 @@ use Rattle.command_words.specs.declared.command.DocumentCommand.TheVariants.{Run
 use Rattle.command_answers.specs.declared.status.Status.{Status}
 use Rattle.command_answers.specs.declared.status.Status.TheVariants as status
 
+-- who makes the turns of lists for a command
+pub data TurnMaker : Type 0 where
+  -- the command makes no turns
+  no_maker : TurnMaker
+  -- one step of a caller after another, along a schedule
+  the_schedule : TurnMaker
+  -- a worker for each list
+  the_workers : TurnMaker
+
+-- what the table says of a command that reads a document
+pub record CommandRow : Type 0 where
+  -- the form of its document
+  pub form : Form
+  -- the most bytes that its document may have
+  pub limit : ℕ
+  pub maker : TurnMaker
+
+-- a mebibyte, and 128 of them for a document that may have a journal
+abbrev pub mebibyte : ℕ
+mebibyte = 1048576
+
+abbrev pub many_mebibytes : ℕ
+many_mebibytes = 134217728
+
+-- the table
+abbrev pub row_of : DocumentCommand → CommandRow
+row_of Run = record { form = form.Run; limit = mebibyte; maker = the_workers }
+row_of Interleave = record { form = form.Interleave; limit = mebibyte; maker = the_schedule }
+row_of Replay = record { form = form.Replay; limit = many_mebibytes; maker = no_maker }
+row_of Check = record { form = form.Check; limit = mebibyte; maker = no_maker }
+row_of Measure = record { form = form.Measure; limit = many_mebibytes; maker = no_maker }
+
 -- the form of a command's document
 abbrev pub form_of : DocumentCommand → Form
-form_of Run = form.Run
-form_of Interleave = form.Interleave
-form_of Replay = form.Replay
-form_of Check = form.Check
-form_of Measure = form.Measure
-
--- what the table says of a command
-pub record CommandRow : Type 1 where
-  -- the form of its document, if it reads one
-  pub form : Option Form
-  -- the most bytes that are read for it
-  pub limit : ℕ
-  -- it makes the turns of lists: those of a document, or those of a sample
-  pub makes_turns : Type 0
-  -- and workers make them
-  pub by_workers : Type 0
-
--- The table. A document has at most a mebibyte, and 128 of them where it may have a journal.
--- Where the words are no command, nothing is read.
-abbrev pub row_of : Option Command → CommandRow
-row_of None = record { form = None; limit = 0; makes_turns = ⊥; by_workers = ⊥ }
-row_of (Some (Document Run)) = record { form = Some (form_of Run); limit = 1048576; makes_turns = ⊤; by_workers = ⊤ }
-row_of (Some (Document Interleave)) = record { form = Some (form_of Interleave); limit = 1048576; makes_turns = ⊤; by_workers = ⊥ }
-row_of (Some (Document Replay)) = record { form = Some (form_of Replay); limit = 134217728; makes_turns = ⊥; by_workers = ⊥ }
-row_of (Some (Document Check)) = record { form = Some (form_of Check); limit = 1048576; makes_turns = ⊥; by_workers = ⊥ }
-row_of (Some (Document Measure)) = record { form = Some (form_of Measure); limit = 134217728; makes_turns = ⊥; by_workers = ⊥ }
-row_of (Some (Show program)) = record { form = None; limit = 0; makes_turns = ⊥; by_workers = ⊥ }
-row_of (Some (Sample seed)) = record { form = None; limit = 0; makes_turns = ⊤; by_workers = ⊤ }
+form_of c = (row_of c).form
 
 -- the most bytes that are read for a command
 abbrev pub limit_for : Option Command → ℕ
-limit_for c = (row_of c).limit
+limit_for (Some (Document c)) = (row_of c).limit
+limit_for (Some (Show program)) = 0
+limit_for (Some (Sample seed)) = 0
+limit_for None = 0
 
 -- nothing is read for it
 abbrev pub ReadsNothing : Option Command → Type 0
-ReadsNothing c = IfSome (row_of c).form (λ form. ⊥)
+ReadsNothing (Some (Document c)) = ⊥
+ReadsNothing (Some (Show program)) = ⊤
+ReadsNothing (Some (Sample seed)) = ⊤
+ReadsNothing None = ⊤
 
--- the command makes the turns of lists
+-- who makes its turns
+abbrev pub maker_of : Option Command → TurnMaker
+maker_of (Some (Document c)) = (row_of c).maker
+maker_of (Some (Show program)) = no_maker
+maker_of (Some (Sample seed)) = the_workers
+maker_of None = no_maker
+
+-- somebody makes them
+abbrev pub IsMaker : TurnMaker → Type 0
+IsMaker no_maker = ⊥
+IsMaker the_schedule = ⊤
+IsMaker the_workers = ⊤
+
+-- workers make them
+abbrev pub AreWorkers : TurnMaker → Type 0
+AreWorkers no_maker = ⊥
+AreWorkers the_schedule = ⊥
+AreWorkers the_workers = ⊤
+
+-- the command makes the turns of lists: those of a document, or those of a sample
 abbrev pub MakesTurns : Option Command → Type 0
-MakesTurns c = (row_of c).makes_turns
+MakesTurns c = IsMaker (maker_of c)
 
--- workers make the turns of the command
+-- and workers make them
 abbrev pub IsWorked : Option Command → Type 0
-IsWorked c = (row_of c).by_workers
+IsWorked c = AreWorkers (maker_of c)
 
 -- the number with which the program ends
 abbrev pub status_number : Status → ℕ

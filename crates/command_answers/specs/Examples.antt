@@ -24,7 +24,8 @@ use Rattle.command_words.specs.Words.{command_of}
 use Rattle.command_answers.specs.Lines.{usage_line, too_long}
 use Rattle.command_answers.specs.Reads.{nothing, whole, above, up_to_fault}
 use Rattle.command_answers.specs.Owed.{IsOwed}
-use Rattle.command_answers.specs.declared.answering.Task.TheVariants as task
+use Rattle.command_answers.specs.declared.answer.Task.TheVariants as task
+use Rattle.command_answers.specs.declared.answer.Telling.TheVariants as telling
 use Rattle.command_answers.specs.Answers.{IsTaskOf, refused_with}
 use Rattle.command_words.specs.declared.command.DocumentCommand.TheVariants.{Run, Interleave}
 
@@ -160,4 +161,4 @@ pub record SmallAnswers : Type 0 where
   pub show : IsOwed (command_of (codes "show" ∷ codes "line" ∷ [])) nothing status.Done None shown_line
   -- what is to be done for an input that is refused at once, and for a document of `run`
   pub refused_task : IsTaskOf Interleave [] (task.Answered (refused_with empty_refused))
-  pub run_task : IsTaskOf Run with_list (task.Run (record { runner = out; world = one_alone; lists = one_list }))
+  pub run_task : IsTaskOf Run with_list (task.Run (record { runner = out; world = one_alone; lists = one_list; telling = telling.Report }))

@@ -13,22 +13,24 @@ use Rattle.action_tree.specs.Trees.{Program}
 use Rattle.action_meaning.specs.Verdicts.{verdict_shown}
 use Rattle.run_sample.specs.declared.whole.Sample.{Sample as SampleValue}
 use Rattle.run_sample.specs.Whole.{IsSample}
-use Rattle.shape_files.specs.declared.section_kind.Form.{Form}
 use Rattle.shape_files.specs.Documents.{Contents, HasContents}
 use Rattle.command_runs.specs.Laws.{StaysConnectedIn}
 use Rattle.claim_core.specs.Machine.{setup}
 use Rattle.command_runs.specs.Reports.{report_text}
+use Rattle.command_words.specs.declared.command.DocumentCommand.{DocumentCommand}
+use Rattle.command_answers.specs.Commands.{form_of}
 use Rattle.command_answers.specs.OfSample.{six_lines}
 
--- The bytes are a document of the form, which has a program, a shape and lists. The report is a good one of the lists' turns under the
--- program, from the shape on, and an interleaving gives it. With at most one list it is what the turns leave, one after another, none of
--- them Busy. If the guard is on and the shape is connected, then it is so in each world of the run. The text is the report's.
-pub record IsRunOfDocument (form : Form) (bytes : List ℕ) (report : Report) (text : List ℕ) : Type 0 where
+-- The bytes are a document of the command's form, which has a program, a shape and lists.
+-- The report is a good one of the lists' turns under the program, from the shape on, and an interleaving gives it.
+-- With at most one list it is what the turns leave, one after another, none of them Busy.
+-- If the guard is on and the shape is connected, then it is so in each world of the run. The text is the report's.
+pub record IsRunOfDocument (c : DocumentCommand) (bytes : List ℕ) (report : Report) (text : List ℕ) : Type 0 where
   pub contents : Contents
   pub program : Program
   pub start : Config
   pub lists : CallerLists
-  pub document : HasContents form bytes contents
+  pub document : HasContents (form_of c) bytes contents
   pub its_program : contents.checked ≡ Some program
   pub its_shape : contents.world ≡ Some start
   pub its_lists : contents.lists ≡ Some lists

@@ -10,8 +10,8 @@ use Rattle.command_words.specs.declared.command.Command.{Command}
 use Rattle.command_words.specs.declared.command.Command.TheVariants.{Document, Sample}
 use Rattle.command_words.specs.declared.command.DocumentCommand.{DocumentCommand}
 use Rattle.command_words.specs.declared.command.DocumentCommand.TheVariants.{Run}
-use Rattle.command_answers.specs.declared.answering.Task.{Task}
-use Rattle.command_answers.specs.declared.answering.Task.TheVariants as task
+use Rattle.command_answers.specs.declared.answer.Task.{Task}
+use Rattle.command_answers.specs.declared.answer.Task.TheVariants as task
 use Rattle.command_answers.specs.declared.status.Status.{Status}
 use Rattle.command_answers.specs.declared.status.Status.TheVariants as status
 use Rattle.command_answers.specs.Commands.{form_of, MakesTurns}
@@ -78,7 +78,7 @@ ReportsAreOfTurns = (c : Option Command) (read : Read) (s : Status) (report : Op
 abbrev pub ReportsAreOfDocuments : Type 0
 ReportsAreOfDocuments = (c : DocumentCommand) (read : Read) (s : Status) (report : Report) (text : List ℕ)
     → IsOwed (Some (Document c)) read s (Some report) text
-    → (bytes : List ℕ) × (read ≡ whole bytes) × IsRunOfDocument (form_of c) bytes report text
+    → (bytes : List ℕ) × (read ≡ whole bytes) × IsRunOfDocument c bytes report text
 
 -- or the command is `sample`, nothing was read, and the report is one of a run of the number's sample
 abbrev pub ReportsAreOfSamples : Type 0

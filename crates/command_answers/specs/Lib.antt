@@ -3,11 +3,6 @@ pub mod Commands
 pub mod Headline
 pub mod Laws
 pub mod Lines
-pub mod OfCheck
-pub mod OfInterleave
-pub mod OfMeasure
-pub mod OfReplay
-pub mod OfRun
 pub mod OfSample
 pub mod Outcomes
 pub mod Owed

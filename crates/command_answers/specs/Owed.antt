@@ -5,34 +5,19 @@ use Rattle.std.specs.declared.option.Option.TheVariants.{Some, None}
 use Rattle.text_tokens.specs.declared.refusal.Refusal.{Refusal}
 use Rattle.claim_core.specs.declared.report.Report.{Report}
 use Rattle.shape_files.specs.Documents.{Contents, HasContents, IsDocumentFault}
-use Rattle.shape_files.specs.declared.section_kind.Form.TheVariants as form
 use Rattle.shipped_programs.specs.declared.shipped.Shipped.{Shipped}
 use Rattle.shipped_programs.specs.Shipped.{tree_of}
 use Rattle.command_runs.specs.Check.{check_text}
-use Rattle.command_runs.specs.Replay.{differs_line}
 use Rattle.command_words.specs.declared.command.Command.{Command}
 use Rattle.command_words.specs.declared.command.Command.TheVariants.{Document, Show, Sample}
 use Rattle.command_words.specs.declared.command.DocumentCommand.{DocumentCommand}
-use Rattle.command_words.specs.declared.command.DocumentCommand.TheVariants.{Run, Interleave, Replay, Check, Measure}
 use Rattle.command_answers.specs.declared.status.Status.{Status}
 use Rattle.command_answers.specs.declared.status.Status.TheVariants as status
 use Rattle.command_answers.specs.Commands.{form_of}
 use Rattle.command_answers.specs.Lines.{usage_line, read_fault_line, refusal_line, too_long}
 use Rattle.command_answers.specs.Reads.{Read, nothing, whole, above, up_to_fault}
-use Rattle.command_answers.specs.OfRun.{IsTextOfRun}
-use Rattle.command_answers.specs.OfInterleave.{IsTextOfInterleave}
-use Rattle.command_answers.specs.OfReplay.{IsTextOfReplay, IsDiffering}
-use Rattle.command_answers.specs.OfCheck.{IsTextOfCheck}
-use Rattle.command_answers.specs.OfMeasure.{IsTextOfMeasure}
+use Rattle.command_answers.specs.Outcomes.{IsOutcome}
 use Rattle.command_answers.specs.OfSample.{IsTextOfSample}
-
--- the text of a command for a document, with the report that it tells, if it tells one
-pub data IsTextOf (a : Contents) : DocumentCommand → Option Report → List ℕ → Type 0 where
-  of_run : (report : Report) (text : List ℕ) → IsTextOfRun a report text → IsTextOf a Run (Some report) text
-  of_interleave : (report : Report) (text : List ℕ) → IsTextOfInterleave a report text → IsTextOf a Interleave (Some report) text
-  of_replay : (text : List ℕ) → IsTextOfReplay a text → IsTextOf a Replay None text
-  of_check : (text : List ℕ) → IsTextOfCheck a text → IsTextOf a Check None text
-  of_measure : (text : List ℕ) → IsTextOfMeasure a text → IsTextOf a Measure None text
 
 -- What a call owes, by its command, if the words are one, and by what the input came to.
 -- That is the status, the report, and the text or line that is to be written.
@@ -45,16 +30,17 @@ pub data IsOwed : Option Command → Read → Status → Option Report → List 
   longer : (c : DocumentCommand) (got : List ℕ)
       → IsOwed (Some (Document c)) (above got) (status.Refused too_long) None (refusal_line too_long)
   -- the whole input is no document of the command's form, and this is its first fault
-  refused : (c : DocumentCommand) (bytes : List ℕ) (r : Refusal) → IsDocumentFault (form_of c) bytes r
+  refused : (c : DocumentCommand) (bytes : List ℕ) (r : Refusal)
+      → IsDocumentFault (form_of c) bytes r
       → IsOwed (Some (Document c)) (whole bytes) (status.Refused r) None (refusal_line r)
-  -- it is a document of `replay` whose journal differs
-  differs : (bytes : List ℕ) (a : Contents) (place : ℕ) → HasContents form.Replay bytes a → IsDiffering a place
-      → IsOwed (Some (Document Replay)) (whole bytes) (status.Differs place) None (differs_line place)
-  -- it is a document, and the command does what it asks for
-  done : (c : DocumentCommand) (bytes : List ℕ) (a : Contents) (report : Option Report) (text : List ℕ)
-      → HasContents (form_of c) bytes a → IsTextOf a c report text → IsOwed (Some (Document c)) (whole bytes) status.Done report text
+  -- it is a document of that form, and this is an outcome of it
+  served : (c : DocumentCommand) (bytes : List ℕ) (a : Contents) (s : Status) (report : Option Report) (text : List ℕ)
+      → HasContents (form_of c) bytes a
+      → IsOutcome a c s report text
+      → IsOwed (Some (Document c)) (whole bytes) s report text
   -- a shipped program is shown as `check` writes one; nothing is read
   shown : (program : Shipped) → IsOwed (Some (Show program)) nothing status.Done None (check_text (tree_of program))
   -- the sample of a number is run; nothing is read
-  sampled : (seed : ℕ) (report : Report) (text : List ℕ) → IsTextOfSample seed report text
+  sampled : (seed : ℕ) (report : Report) (text : List ℕ)
+      → IsTextOfSample seed report text
       → IsOwed (Some (Sample seed)) nothing status.Done (Some report) text

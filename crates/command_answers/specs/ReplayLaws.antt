@@ -8,11 +8,10 @@ use Rattle.shape_files.specs.RunTexts.{EndsLine}
 use Rattle.command_runs.specs.Replay.{agrees_line}
 use Rattle.command_words.specs.declared.command.Command.TheVariants.{Document}
 use Rattle.command_words.specs.declared.command.DocumentCommand.{DocumentCommand}
-use Rattle.command_words.specs.declared.command.DocumentCommand.TheVariants.{Replay}
+use Rattle.command_words.specs.declared.command.DocumentCommand.TheVariants.{Run, Interleave, Replay}
 use Rattle.command_answers.specs.declared.status.Status.TheVariants as status
 use Rattle.command_answers.specs.Reads.{whole}
-use Rattle.command_answers.specs.OfRun.{IsTextOfRun}
-use Rattle.command_answers.specs.OfInterleave.{IsTextOfInterleave}
+use Rattle.command_answers.specs.Outcomes.{IsOutcome}
 use Rattle.command_answers.specs.Owed.{IsOwed}
 
 -- what a document has, and the entries and the last world of a report
@@ -30,22 +29,22 @@ pub record IsReplayed (bytes : List ℕ) (a : Contents) (report : Report) (text 
   pub document : HasContents form.Replay (bytes ++ text) (with_report a report)
   pub agrees : IsAgreed (bytes ++ text) report
 
--- so it is with each text of `run` for a document whose last byte is a line feed
+-- so it is with each text of a report of `run` for a document whose last byte is a line feed
 abbrev pub RunTextsAreReplayed : Type 0
 RunTextsAreReplayed =
     (bytes : List ℕ) (a : Contents) (report : Report) (text : List ℕ)
     → EndsLine bytes
     → HasContents form.Run bytes a
-    → IsTextOfRun a report text
+    → IsOutcome a Run status.Done (Some report) text
     → IsReplayed bytes a report text
 
--- and with each text of `interleave`, whose documents are also documents of `run`
+-- and with each such text of `interleave`, whose documents are also documents of `run`
 pub record InterleaveTextsAreReplayed : Type 0 where
   pub is_run : (bytes : List ℕ) (a : Contents) → HasContents form.Interleave bytes a → HasContents form.Run bytes a
   pub replayed : (bytes : List ℕ) (a : Contents) (report : Report) (text : List ℕ)
       → EndsLine bytes
       → HasContents form.Run bytes a
-      → IsTextOfInterleave a report text
+      → IsOutcome a Interleave status.Done (Some report) text
       → IsReplayed bytes a report text
 
 -- so where a command on such a document is done with a report, `replay` agrees on the document with what was written behind it

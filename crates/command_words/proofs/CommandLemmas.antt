@@ -17,8 +17,9 @@ use Rattle.clap.proofs.OnLiterals.{clap_on_literals}
 use Rattle.shipped_programs.specs.declared.shipped.Shipped.TheVariants.{Hexagon, Erosion, Line}
 use Rattle.command_words.specs.declared.command.Command.{Command}
 use Rattle.command_words.specs.declared.command.DocumentCommand.{DocumentCommand}
+use Rattle.command_words.specs.declared.command.Command.TheVariants.{Sample}
 use Rattle.command_words.specs.declared.command.DocumentCommand.TheVariants.{Run, Interleave, Replay, Check, Measure}
-use Rattle.command_words.specs.Words.{AreWordsOf, command_of, of_two_words, sample_of, shipped, show_in, word_of}
+use Rattle.command_words.specs.Words.{AreWordsOf, command_of, of_two_words, numbered_by, shipped, show_in, word_of}
 use Rattle.command_words.specs.Syntax.{begins_with_dash, of_subcommand, words_syntax}
 use Rattle.command_words.proofs.WordsLemmas.{same_word, command_is_its_words}
 use Rattle.command_words.proofs.SyntaxLemmas.{argument, fault_in, is_free_syntax, is_simple_syntax, leaf, names, none_wanted, one_read, one_too_many, one_wanted, read_in, strange_word}
@@ -145,7 +146,7 @@ judged_show = judged_with (codes "show") (codes "NAME") (show_in shipped) refl r
 
 judged_sample : (rest : List Text) → list_any begins_with_dash rest ≡ false → Judged (codes "sample" ∷ rest)
 unfolding clap_on_literals of_two_words
-judged_sample = judged_with (codes "sample") (codes "NUMBER") sample_of refl refl refl refl (λ rows. refl) (λ x. refl) (refused refl refl)
+judged_sample = judged_with (codes "sample") (codes "NUMBER") (numbered_by Sample) refl refl refl refl (λ rows. refl) (λ x. refl) (refused refl refl)
 
 judged_nothing : Judged []
 unfolding clap_on_literals

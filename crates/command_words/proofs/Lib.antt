@@ -1,4 +1,4 @@
 pub mod CommandLemmas
 pub mod SyntaxLemmas
-pub mod Seeds
+pub mod NumberWords
 pub mod WordsLemmas

@@ -11,9 +11,9 @@ use Rattle.command_words.specs.declared.command.Command.{Command}
 use Rattle.command_words.specs.declared.command.Command.TheVariants.{Document, Show, Sample}
 use Rattle.command_words.specs.declared.command.DocumentCommand.{DocumentCommand}
 use Rattle.command_words.specs.declared.command.DocumentCommand.TheVariants.{Run, Interleave, Replay, Check, Measure}
-use Rattle.command_words.specs.Words.{AreWordsOf, IsSeed, word_of, document_in, documents, show_in, shipped, is_seed, sample_of, of_two_words, command_of}
+use Rattle.command_words.specs.Words.{AreWordsOf, IsNumberWord, word_of, document_in, documents, show_in, shipped, is_number_word, numbered_by, of_two_words, command_of}
 use Rattle.command_words.specs.Laws.{CommandIsItsWords, SmallWords}
-use Rattle.command_words.proofs.Seeds.{decides_seed}
+use Rattle.command_words.proofs.NumberWords.{decides_seed}
 
 pub same_word : (one two : List ℕ) → bytes_eq one two ≡ true → one ≡ two
 same_word one two = (bytes_eq-Decides one two).0
@@ -41,18 +41,18 @@ show_named (p ∷ programs) name c e = elim (by_choice (bytes_eq (shipped_name p
   | inr by ↦ show_named programs name c by.1
 ]
 
-sample_named : (digits : List ℕ) (c : Command) → sample_of digits ≡ Some c → AreWordsOf c (codes "sample" ∷ digits ∷ [])
-unfolding sample_of
-sample_named digits c e = elim (by_choice (is_seed digits) (Some (Sample (digits_value 10 digits))) None c e) [
+sample_named : (digits : List ℕ) (c : Command) → numbered_by Sample digits ≡ Some c → AreWordsOf c (codes "sample" ∷ digits ∷ [])
+unfolding numbered_by
+sample_named digits c e = elim (by_choice (is_number_word digits) (Some (Sample (digits_value 10 digits))) None c e) [
   | inl by ↦ let one : Sample (digits_value 10 digits) ≡ c = cc in subst (λ k. AreWordsOf k (codes "sample" ∷ digits ∷ [])) one (AreWordsOf.sample digits (digits_value 10 digits) ((decides_seed digits).0 by.0))
   | inr by ↦ absurd (let none : None ≡ Some c = by.1 in cc)
 ]
 
 two_named : (word other : List ℕ) (c : Command) → of_two_words word other ≡ Some c → AreWordsOf c (word ∷ other ∷ [])
 unfolding of_two_words
-two_named word other c e = elim (by_choice (bytes_eq (codes "show") word) (show_in shipped other) (if bytes_eq (codes "sample") word then sample_of other else None) c e) [
+two_named word other c e = elim (by_choice (bytes_eq (codes "show") word) (show_in shipped other) (if bytes_eq (codes "sample") word then numbered_by Sample other else None) c e) [
   | inl by ↦ subst (λ w. AreWordsOf c (w ∷ other ∷ [])) (same_word (codes "show") word by.0) (show_named shipped other c by.1)
-  | inr rest ↦ elim (by_choice (bytes_eq (codes "sample") word) (sample_of other) None c rest.1) [
+  | inr rest ↦ elim (by_choice (bytes_eq (codes "sample") word) ((numbered_by Sample) other) None c rest.1) [
     | inl by ↦ subst (λ w. AreWordsOf c (w ∷ other ∷ [])) (same_word (codes "sample") word by.0) (sample_named other c by.1)
     | inr by ↦ absurd (let none : None ≡ Some c = by.1 in cc)
   ]
@@ -77,10 +77,10 @@ own_name Hexagon = refl
 own_name Erosion = refl
 own_name Line = refl
 
-own_seed : (digits : List ℕ) (seed : ℕ) → IsSeed digits seed → sample_of digits ≡ Some (Sample seed)
-unfolding sample_of
+own_seed : (digits : List ℕ) (seed : ℕ) → IsNumberWord digits seed → numbered_by Sample digits ≡ Some (Sample seed)
+unfolding numbered_by
 own_seed digits seed s =
-    let here : IsSeed digits (digits_value 10 digits) = subst (IsSeed digits) (sym s.value) s in
+    let here : IsNumberWord digits (digits_value 10 digits) = subst (IsNumberWord digits) (sym s.value) s in
     ap (λ (b : Bool). if b then Some (Sample (digits_value 10 digits)) else None) ((decides_seed digits).1 here) ∙ ap (λ (n : ℕ). Some (Sample n)) s.value
 
 own_words : (c : Command) (words : List (List ℕ)) → AreWordsOf c words → command_of words ≡ Some c
@@ -105,5 +105,5 @@ pub none_shown : (name : List ℕ) → ((program : Shipped) → name ≡ shipped
 none_shown name none = none_in shipped name none
 
 pub small_words : SmallWords
-unfolding of_two_words sample_of is_seed
+unfolding of_two_words numbered_by is_number_word
 small_words = record { run = refl; show = refl; sample = refl; greatest = refl; above = refl; eleven = refl; none = refl; signed = refl; nothing = refl; further = refl; other = refl }

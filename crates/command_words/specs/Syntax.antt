@@ -4,8 +4,9 @@ use Rattle.std.specs.Str.{bytes_eq}
 use Rattle.clap.specs.Walk.{Row, Rule, Text, first_of}
 use Rattle.clap.specs.Simple.{App, Shape, new_app, new_rule, on_top, with_rule, with_subcommand}
 use Rattle.command_words.specs.declared.command.Command.{Command}
+use Rattle.command_words.specs.declared.command.Command.TheVariants.{Sample}
 use Rattle.command_words.specs.declared.command.DocumentCommand.{DocumentCommand}
-use Rattle.command_words.specs.Words.{document_in, documents, sample_of, shipped, show_in, word_of}
+use Rattle.command_words.specs.Words.{document_in, documents, numbered_by, shipped, show_in, word_of}
 
 -- the word begins with `-` (45)
 abbrev pub begins_with_dash : List ℕ → Bool
@@ -48,5 +49,5 @@ abbrev pub of_subcommand : Option (Text × List Row) → Option Command
 of_subcommand None = None
 of_subcommand (Some (word, arguments)) =
     if bytes_eq (codes "show") word then option_and_then (show_in shipped) (first_of (codes "NAME") arguments)
-    else if bytes_eq (codes "sample") word then option_and_then sample_of (first_of (codes "NUMBER") arguments)
+    else if bytes_eq (codes "sample") word then option_and_then (numbered_by Sample) (first_of (codes "NUMBER") arguments)
     else document_in documents word

@@ -24,19 +24,19 @@ word_of Replay = codes "replay"
 word_of Check = codes "check"
 word_of Measure = codes "measure"
 
--- one digit to ten, which write a number below 2^32
-pub record IsSeed (digits : List ℕ) (seed : ℕ) : Type 0 where
+-- a word that is a number: one digit to ten, which write one below 2^32
+pub record IsNumberWord (digits : List ℕ) (number : ℕ) : Type 0 where
   pub some : 1 ≤ length digits
   pub few : length digits ≤ 10
   pub all : list_all is_ascii_digit digits ≡ true
-  pub value : digits_value 10 digits ≡ seed
-  pub small : seed < 2 ^ 32
+  pub value : digits_value 10 digits ≡ number
+  pub small : number < 2 ^ 32
 
 -- one word; or `show` and the name of a program; or `sample` and a number
 pub data AreWordsOf : Command → List (List ℕ) → Type 0 where
   document : (c : DocumentCommand) → AreWordsOf (Document c) (word_of c ∷ [])
   show : (program : Shipped) → AreWordsOf (Show program) (codes "show" ∷ shipped_name program ∷ [])
-  sample : (digits : List ℕ) (seed : ℕ) → IsSeed digits seed → AreWordsOf (Sample seed) (codes "sample" ∷ digits ∷ [])
+  sample : (digits : List ℕ) (seed : ℕ) → IsNumberWord digits seed → AreWordsOf (Sample seed) (codes "sample" ∷ digits ∷ [])
 
 -- ---- which command words are
 
@@ -59,18 +59,19 @@ shipped = Hexagon ∷ Erosion ∷ Line ∷ []
 abbrev pub are_few_digits : List ℕ → Bool
 are_few_digits digits = nat_le (length digits) 10 && list_all is_ascii_digit digits
 
-unfoldable pub is_seed : List ℕ → Bool
-is_seed digits = are_few_digits digits && (nat_le 1 (length digits) && nat_lt (digits_value 10 digits) (2 ^ 32))
+unfoldable pub is_number_word : List ℕ → Bool
+is_number_word digits = are_few_digits digits && (nat_le 1 (length digits) && nat_lt (digits_value 10 digits) (2 ^ 32))
 
-unfoldable pub sample_of : List ℕ → Option Command
-sample_of digits = if is_seed digits then Some (Sample (digits_value 10 digits)) else None
+-- the command of a number, where the word is one
+unfoldable pub numbered_by : (ℕ → Command) → List ℕ → Option Command
+numbered_by command digits = if is_number_word digits then Some (command (digits_value 10 digits)) else None
 
 unfoldable pub of_two_words : List ℕ → List ℕ → Option Command
 of_two_words word other =
     if bytes_eq (codes "show") word
     then show_in shipped other
     else if bytes_eq (codes "sample") word
-    then sample_of other
+    then numbered_by Sample other
     else None
 
 -- the command that the words are

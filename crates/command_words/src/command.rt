@@ -2,7 +2,8 @@ ghost use Rattle.std.specs.Prelude.{◌≡◌, map, codes, option_and_then, true
 ghost use Rattle.std.specs.Char.{is_ascii_digit};
 ghost use Rattle.std.specs.List.{list_all, list_any};
 ghost use Rattle.std.specs.String.{string_bytes};
-ghost use Rattle.command_words.specs.Words.{are_few_digits, command_of, document_in, documents, sample_of, shipped, show_in};
+ghost use Rattle.command_words.specs.declared.command.Command.TheVariants.{Sample};
+ghost use Rattle.command_words.specs.Words.{are_few_digits, command_of, document_in, documents, numbered_by, shipped, show_in};
 ghost use Rattle.command_words.specs.Syntax.{begins_with_dash, of_subcommand};
 ghost use Rattle.clap.specs.Words.{first_of, found_of, kind_of, rows_of, subcommand_rows_of};
 
@@ -108,7 +109,7 @@ fn of_name_in(arguments: &ArgMatches<'_>) -> Option<Command>
 }
 
 fn of_number_in(arguments: &ArgMatches<'_>) -> Option<Command>
-    ensures { result ≡ option_and_then sample_of (first_of (codes "NUMBER") (rows_of (found_of arguments.now))) }
+    ensures { result ≡ option_and_then (numbered_by Sample) (first_of (codes "NUMBER") (rows_of (found_of arguments.now))) }
 {
     of_number(arguments.get_str("NUMBER")?)
 }
@@ -137,7 +138,7 @@ fn of_name(name: &str) -> Option<Command>
 }
 
 fn of_number(digits: &str) -> Option<Command>
-    ensures { result ≡ sample_of digits.now }
+    ensures { result ≡ numbered_by Sample digits.now }
 {
     if !are_few_digits(digits.as_bytes()) {
         return None;

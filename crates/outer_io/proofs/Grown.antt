@@ -5,7 +5,7 @@ use Rattle.std.specs.declared.option.Option.TheVariants.{Some, None}
 use Rattle.std.proofs.Math.Seq.{take-add}
 use Rattle.std.proofs.lemmas.List.{length-append, length-take-le, take-append-le}
 use Rattle.outer_io.specs.Told.{Grows}
-use Rattle.outer_io.specs.Calls.{Passed, more}
+use Rattle.outer_io.specs.Writings.{Handed, more}
 
 -- a front, and then a front of what is left, make a longer front
 pub Grows-take : (old mid new : Option (List ℕ)) (bytes piece : List ℕ) (from taken : ℕ) → piece ≡ drop from bytes → Grows old mid (take from bytes) → Grows mid new (take taken piece) → Grows old new (take (from + taken) bytes)
@@ -23,10 +23,10 @@ length-append_take xs ys n h = length-append xs (take n ys) ∙ ap (λ k. length
 pub some_taken : (piece : List ℕ) (taken : ℕ) → 0 < taken → taken ≤ length piece → 0 < length (take taken piece)
 some_taken piece taken some fits = subst (λ count. 0 < count) (sym (length-take-le taken piece fits)) some
 
--- the same of what writes did, one after another
-pub Passed-take : {T : Type 0} {passes : T → List ℕ → T → Type 0} {first mid last : T} (bytes piece : List ℕ) (from taken : ℕ) → piece ≡ drop from bytes → Passed passes first (take from bytes) mid → 0 < taken → taken ≤ length piece → passes mid (take taken piece) last → Passed passes first (take (from + taken) bytes) last
-Passed-take {T} {passes} {first} {mid} {last} bytes piece from taken e before some fits now =
-    subst (λ all. Passed passes first all last) (ap (λ l. take from bytes ++ take taken l) e ∙ sym (take-add from taken bytes)) (more before (some_taken piece taken some fits) now)
+-- one more write, which was given all that was left
+pub Handed-more : {T : Type 0} {takes : T → List ℕ → ℕ → T → Type 0} {first mid last : T} (text piece : List ℕ) (from taken : ℕ)
+    → piece ≡ drop from text → Handed takes first text from mid → 0 < taken → takes mid piece taken last → Handed takes first text (from + taken) last
+Handed-more {takes = takes} {mid = mid} {last = last} text piece from taken e before some now = more before some (subst (λ l. takes mid l taken last) e now)
 
 -- a piece of which only the front was filled, read from a longer one
 pub got_front : (bytes piece rest : List ℕ) (n : ℕ) → n ≤ length piece → bytes ++ take n piece ≡ bytes ++ take n (piece ++ rest)

@@ -1,19 +1,13 @@
--- What a sink of a fixed room keeps of pieces, one after another.
-use Rattle.std.proofs.Common.{◌≡◌, ℕ, zero, suc, ◌+◌, ◌-◌, List, [], ◌∷◌, ◌++◌, length, take, Bool, ◌&&◌, refl, ap, sym, ◌∙◌, append_assoc, arith}
+-- What a sink of a fixed room keeps of a text that was written whole.
+use Rattle.std.proofs.Common.{◌≡◌, ℕ, zero, suc, ◌+◌, ◌-◌, ◌<◌, ◌≤◌, List, [], ◌∷◌, ◌++◌, length, take, drop, Bool, true, ◌&&◌, refl, ap, sym, subst, ◌∙◌, arith}
 use Rattle.std.specs.Prelude.{nat_le}
-use Rattle.std.proofs.Math.Bool.{and-true, and_assoc}
+use Rattle.std.proofs.Math.Bool.{and-true}
 use Rattle.std.proofs.Math.Dec.{leb-zero}
-use Rattle.std.proofs.lemmas.Bool.Decides.{leb_tells}
-use Rattle.std.proofs.lemmas.List.{append-nil, length-append, length-take}
-use Rattle.outer_io.specs.KeptBytes.{KeptBytes, kept_after, PiecesAreKeptAsOne}
-use Rattle.outer_io.specs.Calls.{none, more}
+use Rattle.std.proofs.lemmas.List.{append-nil, length-drop}
+use Rattle.outer_io.specs.KeptBytes.{KeptBytes, KeepsPiece, kept_after, TextIsKeptAsOnePiece}
+use Rattle.outer_io.specs.Writings.{Handed, none, more}
 
-abbrev the_kept : ℕ → List ℕ → Bool → KeptBytes
-the_kept room bytes whole = record { room = room; bytes = bytes; is_whole = whole }
-
-same_kept : (room : ℕ) (bytes other : List ℕ) (whole all : Bool) → bytes ≡ other → whole ≡ all → the_kept room bytes whole ≡ the_kept room other all
-same_kept room bytes other whole all e f = cc
-
+-- a piece of no byte leaves the sink as it was
 take_of_none : (n : ℕ) → take {A = ℕ} n [] ≡ []
 take_of_none zero = refl
 take_of_none (suc n) = refl
@@ -21,32 +15,17 @@ take_of_none (suc n) = refl
 nothing : (kept : KeptBytes) → kept ≡ kept_after kept []
 nothing kept =
     let free = kept.room - length kept.bytes in
-    same_kept kept.room kept.bytes _ kept.is_whole _ (sym (ap (λ bs. kept.bytes ++ bs) (take_of_none free) ∙ append-nil kept.bytes)) (sym (ap (λ b. kept.is_whole && b) (leb-zero free) ∙ and-true kept.is_whole))
+    let bytes : kept.bytes ≡ kept.bytes ++ take free [] = sym (ap (λ bs. kept.bytes ++ bs) (take_of_none free) ∙ append-nil kept.bytes) in
+    let whole : kept.is_whole ≡ kept.is_whole && nat_le 0 free = sym (ap (λ b. kept.is_whole && b) (leb-zero free) ∙ and-true kept.is_whole) in
+    λ i. record { room = kept.room; bytes = bytes i; is_whole = whole i }
 
--- two pieces fit exactly where both together do
-both_fit : (free one two : ℕ) → (nat_le one free && nat_le two (free - one)) ≡ nat_le (one + two) free
-both_fit free one two = grind (arith, leb_tells)
+-- after the first write nothing is left
+kept_by : (old new : KeptBytes) (text : List ℕ) (count : ℕ) → count ≡ length text → Handed KeepsPiece old text count new → new ≡ kept_after old text
+kept_by old new [] count e none = nothing old
+kept_by old new (t ∷ ts) count e none = absurd (omega (arith, e))
+kept_by old new text count e (more none some now) = now.1
+kept_by old new text count e (more (more {count = first} {taken = taken} before some_first now_first) some now) =
+    absurd (omega (arith, some, some_first, now.0, now_first.0, length-drop first text, length-drop (first + taken) text))
 
--- a front of two pieces
-front_of_two : (free : ℕ) (one two : List ℕ) → take free one ++ take (free - length one) two ≡ take free (one ++ two)
-front_of_two zero one two = let full : 0 - length one ≡ 0 = omega arith in ap (λ n. take n two) full
-front_of_two (suc free) [] two = let all : suc free - 0 ≡ suc free = omega arith in ap (λ n. take n two) all
-front_of_two (suc free) (x ∷ xs) two =
-    let same : suc free - length (x ∷ xs) ≡ free - length xs = omega arith in
-    ap (λ n. x ∷ (take free xs ++ take n two)) same ∙ ap (λ bs. x ∷ bs) (front_of_two free xs two)
-
--- the room behind the front of a piece
-room_behind : (kept : KeptBytes) (one : List ℕ) → kept.room - length (kept.bytes ++ take (kept.room - length kept.bytes) one) ≡ kept.room - length kept.bytes - length one
-room_behind kept one = omega (arith, length-append kept.bytes (take (kept.room - length kept.bytes) one), length-take (kept.room - length kept.bytes) one)
-
-twice : (kept : KeptBytes) (one two : List ℕ) → kept_after (kept_after kept one) two ≡ kept_after kept (one ++ two)
-twice kept one two =
-    let free = kept.room - length kept.bytes in
-    let behind = room_behind kept one in
-    same_kept kept.room _ _ _ _
-    (ap (λ n. kept.bytes ++ take free one ++ take n two) behind ∙ append_assoc kept.bytes (take free one) (take (free - length one) two) ∙ ap (λ bs. kept.bytes ++ bs) (front_of_two free one two))
-    (ap (λ n. kept.is_whole && nat_le (length one) free && nat_le (length two) n) behind ∙ and_assoc kept.is_whole _ _ ∙ ap (λ b. kept.is_whole && b) (both_fit free (length one) (length two) ∙ ap (λ n. nat_le n free) (sym (length-append one two))))
-
-pub pieces : PiecesAreKeptAsOne
-pieces old new bytes none = nothing old
-pieces old new bytes (more {bytes = got} {piece = piece} {mid = mid} before some now) = now ∙ ap (λ kept. kept_after kept piece) (pieces old mid got before) ∙ twice old got piece
+pub kept_as_one : TextIsKeptAsOnePiece
+kept_as_one old new text handed = kept_by old new text (length text) refl handed

@@ -2,7 +2,7 @@
 use Rattle.std.specs.Prelude.{◌≡◌, ℕ, ◌-◌, List, [], ◌++◌, length, take, Bool, true, ◌&&◌, nat_le, if◌then◌else◌}
 use Rattle.std.specs.declared.option.Option.{Option}
 use Rattle.std.specs.declared.option.Option.TheVariants.{Some, None}
-use Rattle.outer_io.specs.Calls.{Passed}
+use Rattle.outer_io.specs.Writings.{Handed}
 
 -- the room in bytes, the bytes kept, and whether these are all that it was given
 pub record KeptBytes : Type 0 where
@@ -22,14 +22,14 @@ kept_after kept piece = record {
   is_whole = kept.is_whole && nat_le (length piece) (kept.room - length kept.bytes);
 }
 
--- what a write of these bytes makes of the sink
-abbrev pub KeepsPiece : KeptBytes → List ℕ → KeptBytes → Type 0
-KeepsPiece old piece new = new ≡ kept_after old piece
+-- a write takes the whole piece, and makes that of the sink
+abbrev pub KeepsPiece : KeptBytes → List ℕ → ℕ → KeptBytes → Type 0
+KeepsPiece old piece taken new = (taken ≡ length piece) × (new ≡ kept_after old piece)
 
 -- the bytes are told while none was dropped
 abbrev pub written_of : KeptBytes → Option (List ℕ)
 written_of kept = if kept.is_whole then Some kept.bytes else None
 
--- what is kept of a text does not depend on how it is cut into pieces
-abbrev pub PiecesAreKeptAsOne : Type 0
-PiecesAreKeptAsOne = (old new : KeptBytes) (bytes : List ℕ) → Passed KeepsPiece old bytes new → new ≡ kept_after old bytes
+-- a text that was written whole is kept as one piece
+abbrev pub TextIsKeptAsOnePiece : Type 0
+TextIsKeptAsOnePiece = (old new : KeptBytes) (text : List ℕ) → Handed KeepsPiece old text (length text) new → new ≡ kept_after old text

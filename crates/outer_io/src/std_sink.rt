@@ -1,4 +1,4 @@
-ghost use Rattle.std.specs.Prelude.{◌≡◌, ◌<◌, ◌≤◌, length, IfOk, OnOk, OnErr};
+ghost use Rattle.std.specs.Prelude.{◌≡◌, ◌<◌, ◌≤◌, length, take, IfOk, OnOk, OnErr};
 ghost use Rattle.std.specs.declared.option.Option.TheVariants.{None};
 ghost use Rattle.std.specs.Io.KnownBytes.{WriteAppends, Appends, Keeps};
 ghost use Rattle.outer_io.specs.Counted.{raised_count};
@@ -37,9 +37,10 @@ impl<T: Write + Drop> Sink for StdSink<T> {
 
     ghost faults = { λ counted. counted.faults };
 
-    ghost takes = { λ old bytes new. Appends (T.contents old.inner) (T.contents new.inner) bytes × (new.faults ≡ old.faults) };
+    ghost takes = { λ old piece taken new.
+        Appends (T.contents old.inner) (T.contents new.inner) (take taken piece) × (new.faults ≡ old.faults) };
 
-    ghost fails = { λ old new. Keeps (T.contents old.inner) (T.contents new.inner) × (new.faults ≡ raised_count old.faults) };
+    ghost fails = { λ old piece new. Keeps (T.contents old.inner) (T.contents new.inner) × (new.faults ≡ raised_count old.faults) };
 
     /// Writes once. An error of the writer, or a write that took nothing, raises the count, which stays once it
     /// stands at its last value.

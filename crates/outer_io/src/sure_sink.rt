@@ -1,5 +1,5 @@
 ghost use Rattle.std.specs.Prelude.{◌≡◌, ◌<◌, ◌↔◌, length, IfOk, IsTrue, IsSome};
-ghost use Rattle.outer_io.specs.KeptBytes.{nothing_kept, kept_after, KeepsPiece, written_of, PiecesAreKeptAsOne};
+ghost use Rattle.outer_io.specs.KeptBytes.{nothing_kept, kept_after, KeepsPiece, written_of, TextIsKeptAsOnePiece};
 
 use crate::errors::{Failed, NoMemory};
 use crate::writing::Sink;
@@ -64,7 +64,7 @@ impl Sink for SureSink {
 
     ghost takes = { KeepsPiece };
 
-    ghost fails = { λ _ _. ⊥ };
+    ghost fails = { λ _ _ _. ⊥ };
 
     /// Takes the piece whole, and drops the bytes of it that no longer fit.
     fn write(&mut self, piece: &[u8]) -> Result<usize, Failed>
@@ -83,7 +83,7 @@ impl Sink for SureSink {
     }
 }
 
-/// A text that goes to a `SureSink` in several writes leaves it as one write of the whole text does.
-pub fn pieces_are_kept_as_one()
-    ensures { PiecesAreKeptAsOne }
+/// A text that was written whole to a `SureSink` leaves it as one write of the text does.
+pub fn text_is_kept_as_one_piece()
+    ensures { TextIsKeptAsOnePiece }
 {}

@@ -1,7 +1,6 @@
-ghost use Rattle.std.specs.Prelude.{◌≡◌, ℕ, ◌<◌, ◌≤◌, List, [], length, ⊤, IfOk, OnOk, OnErr};
+ghost use Rattle.std.specs.Prelude.{◌≡◌, ℕ, ◌<◌, ◌≤◌, List, [], length, ⊤, IfOk, MatchResult, OnOk, OnErr};
 ghost use Rattle.std.specs.declared.option.Option.{Option};
 ghost use Rattle.outer_io.specs.Told.{Rose, TakesFront};
-ghost use Rattle.outer_io.specs.Calls.{Calls};
 ghost use Rattle.outer_io.specs.Writings.{WritesAll, WritesFront};
 
 use crate::errors::{Failed, WriteFault};
@@ -16,11 +15,12 @@ pub trait Sink {
     /// How often a write failed. The count never falls, and may stay at 2^64 - 1, its last value.
     ghost faults: { Self → ℕ };
 
-    /// What a write that took these bytes may make of the sink. A sink that does not say lets it be anything.
-    ghost takes: { Self → List ℕ → Self → Type 0 } = { λ _ _ _. ⊤ };
+    /// What a write that was given this piece, and took so many bytes of it, may make of the sink.
+    /// A sink that does not say lets it be anything.
+    ghost takes: { Self → List ℕ → ℕ → Self → Type 0 } = { λ _ _ _ _. ⊤ };
 
-    /// What a write that failed may make of the sink. A sink that does not say lets it be anything.
-    ghost fails: { Self → Self → Type 0 } = { λ _ _. ⊤ };
+    /// What a write that was given this piece, and failed, may make of the sink. A sink that does not say lets it be anything.
+    ghost fails: { Self → List ℕ → Self → Type 0 } = { λ _ _ _. ⊤ };
 
     /// Takes at least one byte from the front of `piece`, and gives the number of bytes taken.
     ///
@@ -29,7 +29,9 @@ pub trait Sink {
         requires { 0 < length piece.now }
         ensures bound { IfOk result (λ taken. (1 ≤ taken) × (taken ≤ length piece.now)) }
         ensures bytes { TakesFront (written self.old) (written self.new) result piece.now }
-        ensures call { Calls takes fails self.old self.new result piece.now }
+        ensures call { MatchResult result
+            (λ taken. takes self.old piece.now taken self.new)
+            (λ _. fails self.old piece.now self.new) }
         ensures never_falls { faults self.old ≤ faults self.new }
         ensures cause { OnErr result (Rose (faults self.old) (faults self.new)) };
 }

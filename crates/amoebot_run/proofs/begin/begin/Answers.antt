@@ -7,7 +7,6 @@ use Rattle.command_answers.specs.Reads.{nothing}
 use Rattle.command_words.specs.declared.command.Command.TheVariants.{Show, Sample}
 use Rattle.amoebot_run.specs.Clauses.{CameTo}
 use Rattle.amoebot_run.specs.Parts.{has_ended}
-use Rattle.amoebot_run.proofs.Endings.{reads_a_document}
 use Rattle.amoebot_run.proofs.Parts.{begun_at, begun_maps, line_begun, without_begun}
 use Rattle.amoebot_run.proofs.begin.begin.Goals as goal
 
@@ -23,7 +22,7 @@ returns-in-Document-clause-begun g c = begun_at (λ o. CameTo g.S.Source o c.arg
     c.begin_document.ensures
 
 pub returns-in-Document-clause-unread : goal.returns-in-Document-clause-unread
-returns-in-Document-clause-unread g c = λ none. absurd (reads_a_document _ (subst ReadsNothing (sym (ap Some (sym c.in-Document.is) ∙ sym c.in-Ok-Some.field-0-is ∙ c.in-Ok-Some.ensures.command)) none))
+returns-in-Document-clause-unread g c = λ none. absurd (subst ReadsNothing (sym (ap Some (sym c.in-Document.is) ∙ sym c.in-Ok-Some.field-0-is ∙ c.in-Ok-Some.ensures.command)) none)
 
 pub returns-in-Show-clause-begun : goal.returns-in-Show-clause-begun
 returns-in-Show-clause-begun g c = begun_at (λ o. CameTo g.S.Source o c.args.input.now c.args.input.now) _ _ (ap Some (sym c.in-Show.is) ∙ sym c.in-Ok-Some.field-0-is ∙ c.in-Ok-Some.ensures.command)

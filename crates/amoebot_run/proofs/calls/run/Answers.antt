@@ -1,9 +1,9 @@
 use Rattle.std.proofs.Common.{◌≤◌, length, subst, sym}
 use Rattle.action_eval.proofs.SharedRunner.{runner_sync}
 use Rattle.command_answers.specs.Commands.{limit_for}
-use Rattle.amoebot_run.proofs.Endings.{reported, told, one, one_unread, served, served_unread, six_lines_written, no_command, no_command_at, at_read_fault, at_write_fault, without_memory}
+use Rattle.amoebot_run.proofs.Endings.{reported, told, one, one_unread, serves, served_unread, six_lines_written, no_command, no_command_at, at_read_fault, at_write_fault, without_memory}
 use Rattle.amoebot_run.proofs.Fronts.{reads_all}
-use Rattle.amoebot_run.proofs.Parts.{ended_of, its_turns, ready_of, untouched_of, finished, finished_turns, from_first, unworked}
+use Rattle.amoebot_run.proofs.Parts.{ended_of, its_turns, ready_of, finished, finished_turns, from_first, unworked}
 use Rattle.amoebot_run.proofs.calls.run.Goals as goal
 
 -- ---- the call has ended at once
@@ -42,7 +42,7 @@ pub returns-in-Ended-clause-no_memory : goal.returns-in-Ended-clause-no_memory
 returns-in-Ended-clause-no_memory g c = without_memory _ _ _ (returns-in-Ended-clause-ending g c)
 
 pub returns-in-Ended-clause-complete : goal.returns-in-Ended-clause-complete
-returns-in-Ended-clause-complete g c = λ command document a is left few holds. served c.documents_have_outcomes.ensures document a _ (reads_all g.S.Source.left g.S.Source.gives g.S.Source.fails g.S.Source.faults _ _ _ _ left (subst (λ o. length document ≤ limit_for o) (sym is) few)) command _ _ _ is holds (returns-in-Ended-clause-ending g c)
+returns-in-Ended-clause-complete g c = λ command document a is left few holds. serves c.documents_have_outcomes.ensures document a _ (reads_all g.S.Source.left g.S.Source.gives g.S.Source.fails g.S.Source.faults _ _ _ _ left (subst (λ o. length document ≤ limit_for o) (sym is) few)) command _ _ _ is holds (returns-in-Ended-clause-ending g c)
 
 pub returns-in-Ended-clause-complete_unread : goal.returns-in-Ended-clause-complete_unread
 returns-in-Ended-clause-complete_unread g c = λ command is none. served_unread command _ _ _ is none (returns-in-Ended-clause-ending g c)
@@ -53,21 +53,19 @@ returns-in-Ended-clause-sample g c = λ seed is. six_lines_written c.reports_are
 -- ---- workers run lists
 
 pub work-requires : goal.work-requires
-work-requires g c = (record { shared = c.type_bounds.sync-R.shared }, (record { shared = runner_sync.shared }, (record { shared = c.type_bounds.sync-G.shared }, (ready_of _ _ c.in-Run.ensures.begun).there)))
+work-requires g c = (record { shared = c.type_bounds.sync-R.shared }, (record { shared = runner_sync.shared }, (record { shared = c.type_bounds.sync-G.shared }, (ready_of _ c.in-Run.ensures.begun).prepared.there)))
 
 pub finish-requires-clause-good : goal.finish-requires-clause-good
 finish-requires-clause-good g c = from_first c.in-Run.prepared c.in-Ok.worked.report c.in-Ok.ensures.good
 
 pub finish-requires-clause-few : goal.finish-requires-clause-few
-finish-requires-clause-few g c = (ready_of _ _ c.in-Run.ensures.begun).few c.in-Ok.worked.report c.in-Ok.ensures.good
+finish-requires-clause-few g c = (ready_of _ c.in-Run.ensures.begun).prepared.few c.in-Ok.worked.report c.in-Ok.ensures.good
 
 pub returns-in-Ok-clause-ending : goal.returns-in-Ok-clause-ending
-returns-in-Ok-clause-ending g c = finished g.K.Sink _ c.in-Run.prepared c.in-Run.telling (ready_of _ _ c.in-Run.ensures.begun) c.in-Ok.worked.report c.in-Ok.worked.turns c.in-Ok.ensures.good c.in-Ok.ensures.reached c.in-Ok.ensures.turns
-    _ _ _ _ (untouched_of _ _ c.in-Run.ensures.begun) c.finish.ensures
+returns-in-Ok-clause-ending g c = finished g.K.Sink _ _ _ _ c.in-Run.prepared (ready_of _ c.in-Run.ensures.begun) c.in-Ok.worked.report c.in-Ok.worked.turns c.in-Ok.ensures.good c.in-Ok.ensures.reached c.in-Ok.ensures.turns _ c.finish.ensures
 
 pub returns-in-Ok-clause-turns : goal.returns-in-Ok-clause-turns
-returns-in-Ok-clause-turns g c = finished_turns g.K.Sink _ c.in-Run.prepared c.in-Run.telling (ready_of _ _ c.in-Run.ensures.begun) c.in-Ok.worked.report c.in-Ok.worked.turns c.in-Ok.ensures.good c.in-Ok.ensures.reached c.in-Ok.ensures.turns
-    _ _ _ c.finish.ensures
+returns-in-Ok-clause-turns g c = finished_turns g.K.Sink _ _ _ _ c.in-Run.prepared (ready_of _ c.in-Run.ensures.begun) c.in-Ok.worked.report c.in-Ok.worked.turns c.in-Ok.ensures.good c.in-Ok.ensures.reached c.in-Ok.ensures.turns _ c.finish.ensures
 
 pub returns-in-Ok-clause-report : goal.returns-in-Ok-clause-report
 returns-in-Ok-clause-report g c = reported c.reports_are_of_runs.ensures.exactly _ _ _ (returns-in-Ok-clause-ending g c)
@@ -97,7 +95,7 @@ pub returns-in-Ok-clause-no_memory : goal.returns-in-Ok-clause-no_memory
 returns-in-Ok-clause-no_memory g c = without_memory _ _ _ (returns-in-Ok-clause-ending g c)
 
 pub returns-in-Ok-clause-complete : goal.returns-in-Ok-clause-complete
-returns-in-Ok-clause-complete g c = λ command document a is left few holds. served c.documents_have_outcomes.ensures document a _ (reads_all g.S.Source.left g.S.Source.gives g.S.Source.fails g.S.Source.faults _ _ _ _ left (subst (λ o. length document ≤ limit_for o) (sym is) few)) command _ _ _ is holds (returns-in-Ok-clause-ending g c)
+returns-in-Ok-clause-complete g c = λ command document a is left few holds. serves c.documents_have_outcomes.ensures document a _ (reads_all g.S.Source.left g.S.Source.gives g.S.Source.fails g.S.Source.faults _ _ _ _ left (subst (λ o. length document ≤ limit_for o) (sym is) few)) command _ _ _ is holds (returns-in-Ok-clause-ending g c)
 
 pub returns-in-Ok-clause-complete_unread : goal.returns-in-Ok-clause-complete_unread
 returns-in-Ok-clause-complete_unread g c = λ command is none. served_unread command _ _ _ is none (returns-in-Ok-clause-ending g c)
@@ -108,4 +106,4 @@ returns-in-Ok-clause-sample g c = λ seed is. six_lines_written c.reports_are_of
 -- ---- or they are out of memory
 
 pub returns-clause-ending : goal.returns-clause-ending
-returns-clause-ending g c = unworked _ c.in-Run.prepared c.in-Run.telling _ (ready_of _ _ c.in-Run.ensures.begun) c.end_with.ensures (untouched_of _ _ c.in-Run.ensures.begun)
+returns-clause-ending g c = unworked _ c.in-Run.prepared _ (ready_of _ c.in-Run.ensures.begun) c.end_with.ensures

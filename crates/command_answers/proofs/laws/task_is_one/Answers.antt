@@ -1,4 +1,4 @@
-use Rattle.command_answers.proofs.Tasks.{task_is_one}
+use Rattle.command_answers.proofs.TaskLemmas.{task_is_one}
 use Rattle.command_answers.proofs.laws.task_is_one.Goals as goal
 
 pub returns : goal.returns

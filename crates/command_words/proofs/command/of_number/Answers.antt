@@ -1,6 +1,6 @@
 use Rattle.std.proofs.Common.{ap, sym, ◌∙◌}
 use Rattle.command_words.specs.Words.{are_few_digits}
-use Rattle.command_words.proofs.Seeds.{as_none, as_number, many_are_none}
+use Rattle.command_words.proofs.NumberWords.{as_none, as_number, many_are_none}
 use Rattle.command_words.proofs.command.of_number.Goals as goal
 
 pub returns-then-not-are_few_digits : goal.returns-then-not-are_few_digits

@@ -2,13 +2,14 @@ use Rattle.std.proofs.Common.{◌≡◌, ◌∙◌, None, ap, codes, rules}
 use Rattle.std.specs.Prelude.{option_and_then}
 use Rattle.clap.specs.Words.{found_of}
 use Rattle.clap.proofs.WalkLemmas.{first_value-rows}
-use Rattle.command_words.specs.Words.{sample_of}
+use Rattle.command_words.specs.declared.command.Command.TheVariants.{Sample}
+use Rattle.command_words.specs.Words.{numbered_by}
 use Rattle.command_words.proofs.command.of_number_in.Goals as goal
 
 pub returns-in_err-get_str : goal.returns-in_err-get_str
 returns-in_err-get_str c =
     let none : c.from_residual.result ≡ None = search rules in
-    none ∙ ap (option_and_then sample_of) (c.in_err-get_str.ensures ∙ first_value-rows (found_of c.args.arguments.now) (codes "NUMBER"))
+    none ∙ ap (option_and_then (numbered_by Sample)) (c.in_err-get_str.ensures ∙ first_value-rows (found_of c.args.arguments.now) (codes "NUMBER"))
 
 pub returns : goal.returns
-returns c = c.of_number.ensures ∙ ap (option_and_then sample_of) (c.in_ok-get_str.ensures ∙ first_value-rows (found_of c.args.arguments.now) (codes "NUMBER"))
+returns c = c.of_number.ensures ∙ ap (option_and_then (numbered_by Sample)) (c.in_ok-get_str.ensures ∙ first_value-rows (found_of c.args.arguments.now) (codes "NUMBER"))

@@ -1,0 +1,84 @@
+-- One task is to be done.
+use Rattle.std.proofs.Common.{◌≡◌, ◌≢◌, ℕ, List, [], Option, Some, None, ap, sym, subst, refl, ◌∙◌}
+use Rattle.claim_core.specs.declared.report.Report.{Report}
+use Rattle.claim_core.proofs.Places.{one_at}
+use Rattle.shape_files.specs.Documents.{Contents, HasContents, DocumentsAreDecided}
+use Rattle.command_runs.specs.Replay.{differs_line}
+use Rattle.command_words.specs.declared.command.Command.{Command}
+use Rattle.command_words.specs.declared.command.Command.TheVariants.{Document}
+use Rattle.command_words.specs.declared.command.DocumentCommand.{DocumentCommand}
+use Rattle.command_words.specs.declared.command.DocumentCommand.TheVariants.{Run, Interleave, Replay, Check, Measure}
+use Rattle.command_answers.specs.declared.answer.Answer.{Answer}
+use Rattle.command_answers.specs.declared.answer.Prepared.{Prepared}
+use Rattle.command_answers.specs.declared.answer.Task.TheVariants as task
+use Rattle.command_answers.specs.declared.status.Status.{Status}
+use Rattle.command_answers.specs.declared.status.Status.TheVariants as status
+use Rattle.command_answers.specs.Commands.{IsWorked, form_of}
+use Rattle.command_answers.specs.Lines.{usage_line, read_fault_line, refusal_line}
+use Rattle.command_answers.specs.Reads.{Read, whole}
+use Rattle.command_answers.specs.Owed.{IsOwed, usage, read_fault, longer, refused, served, shown, sampled}
+use Rattle.command_answers.specs.Outcomes.{IsOutcome, of_run, of_interleave, agreeing, differing, of_check, of_measure}
+use Rattle.command_answers.specs.Answers.{IsRunFor, IsTaskOf, of_document}
+use Rattle.command_answers.specs.Laws.{SameIfAny, SameTask, OwedIsOne, TaskIsOne}
+use Rattle.command_answers.proofs.Outcomes.{documents_have_outcomes, worked_is_done}
+use Rattle.command_answers.proofs.OwedLemmas.{same_contents}
+
+-- the line that comes with a status other than Done
+abbrev line_of : Status → List ℕ
+line_of status.Done = []
+line_of status.Words = usage_line
+line_of (status.Refused r) = refusal_line r
+line_of status.ReadFault = read_fault_line
+line_of status.WriteFault = []
+line_of status.NoMemory = []
+line_of (status.Differs place) = differs_line place
+
+-- and no report comes with it
+unserved : (a : Contents) (c : DocumentCommand) (s : Status) (report : Option Report) (text : List ℕ) → IsOutcome a c s report text → s ≢ status.Done → (report ≡ None) × (text ≡ line_of s)
+unserved a c s report text (of_run d r good reached serial) other = absurd (other refl)
+unserved a c s report text (of_interleave d schedule r its_schedule good reached scheduled) other = absurd (other refl)
+unserved a c s report text (agreeing d agrees) other = absurd (other refl)
+unserved a c s report text (differing d place differs) other = (refl, refl)
+unserved a c s report text (of_check p its_program) other = absurd (other refl)
+unserved a c s report text (of_measure last t its_last measures) other = absurd (other refl)
+
+untold : (c : Option Command) (read : Read) (s : Status) (report : Option Report) (text : List ℕ) → IsOwed c read s report text → s ≢ status.Done → (report ≡ None) × (text ≡ line_of s)
+untold c read s report text usage other = (refl, refl)
+untold c read s report text (read_fault d got) other = (refl, refl)
+untold c read s report text (longer d got) other = (refl, refl)
+untold c read s report text (refused d bytes r x) other = (refl, refl)
+untold c read s report text (served d bytes a t told v x is) other = unserved a d s report text is other
+untold c read s report text (shown p) other = absurd (other refl)
+untold c read s report text (sampled seed told v x) other = absurd (other refl)
+
+module _ (documents : DocumentsAreDecided) (owed : OwedIsOne) where
+  both_answered : (c : DocumentCommand) (bytes : List ℕ) (one two : Answer) → IsTaskOf c bytes (task.Answered one) → IsTaskOf c bytes (task.Answered two) → SameTask (task.Answered one) (task.Answered two)
+  both_answered Run bytes one two x y =
+      let first = untold (Some (Document Run)) (whole bytes) one.status one.report one.text x.0 (x.1 tt) in
+      let second = untold (Some (Document Run)) (whole bytes) two.status two.report two.text y.0 (y.1 tt) in
+      let same = (owed (Some (Document Run)) (whole bytes) one.status two.status one.report two.report one.text two.text x.0 y.0).status in
+      (same, subst (λ (z : Option Report × Option Report). SameIfAny z.0 z.1) (λ i. (sym first.0 i, sym second.0 i)) tt, first.1 ∙ ap line_of same ∙ sym second.1)
+  both_answered Interleave bytes one two x y = let same = owed (Some (Document Interleave)) (whole bytes) one.status two.status one.report two.report one.text two.text x.0 y.0 in (same.status, same.report tt, same.text tt)
+  both_answered Replay bytes one two x y = let same = owed (Some (Document Replay)) (whole bytes) one.status two.status one.report two.report one.text two.text x.0 y.0 in (same.status, same.report tt, same.text tt)
+  both_answered Check bytes one two x y = let same = owed (Some (Document Check)) (whole bytes) one.status two.status one.report two.report one.text two.text x.0 y.0 in (same.status, same.report tt, same.text tt)
+  both_answered Measure bytes one two x y = let same = owed (Some (Document Measure)) (whole bytes) one.status two.status one.report two.report one.text two.text x.0 y.0 in (same.status, same.report tt, same.text tt)
+
+  -- for a document whose lists workers are to run nothing but Done is an outcome
+  not_answered : (c : DocumentCommand) (bytes : List ℕ) (answer : Answer) (run : Prepared) → IsTaskOf c bytes (task.Answered answer) → IsWorked (Some (Document c)) → IsRunFor run (Some (Document c)) (whole bytes) → ⊥
+  not_answered c bytes answer run x worked (of_document d same a h its_program its_shape its_lists its_telling) =
+      x.1 worked (worked_is_done a c answer.status answer.report answer.text worked (documents_have_outcomes documents c bytes a answer.status answer.report answer.text h x.0))
+
+  both_run : (c : DocumentCommand) (bytes : List ℕ) (one two : Prepared) → IsRunFor one (Some (Document c)) (whole bytes) → IsRunFor two (Some (Document c)) (whole bytes) → one ≡ two
+  both_run c bytes one two (of_document d same a h its_program its_shape its_lists its_telling) (of_document e equal b k other_program other_shape other_lists other_telling) =
+      let contents : b ≡ a = same_contents documents (form_of c) bytes b a k h in
+      let program = one_at _ one.runner two.runner its_program (ap (λ (x : Contents). x.checked) (sym contents) ∙ other_program) in
+      let shape = one_at _ one.world two.world its_shape (ap (λ (x : Contents). x.world) (sym contents) ∙ other_shape) in
+      let lists = one_at _ one.lists two.lists its_lists (ap (λ (x : Contents). x.lists) (sym contents) ∙ other_lists) in
+      let telling = its_telling ∙ sym other_telling in
+      λ i. record { runner = program i; world = shape i; lists = lists i; telling = telling i }
+
+  pub task_is_one : TaskIsOne
+  task_is_one c bytes (task.Answered one) (task.Answered two) x y = both_answered c bytes one two x y
+  task_is_one c bytes (task.Answered one) (task.Run two) x y = not_answered c bytes one two x y.by_workers y.its_lists
+  task_is_one c bytes (task.Run one) (task.Answered two) x y = not_answered c bytes two one y x.by_workers x.its_lists
+  task_is_one c bytes (task.Run one) (task.Run two) x y = both_run c bytes one two x.its_lists y.its_lists

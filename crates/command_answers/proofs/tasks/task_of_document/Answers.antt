@@ -1,0 +1,9 @@
+use Rattle.std.proofs.Common.{sym, subst}
+use Rattle.shape_files.specs.Views.{contents}
+use Rattle.command_answers.specs.declared.answer.Task.TheVariants as task
+use Rattle.command_words.specs.declared.command.DocumentCommand.{DocumentCommand}
+use Rattle.command_answers.specs.Answers.{IsTaskTo}
+use Rattle.command_answers.proofs.tasks.task_of_document.Goals as goal
+
+pub returns-in-Run : goal.returns-in-Run
+returns-in-Run c = subst (λ (d : DocumentCommand). IsTaskTo d (contents c.args.parts) (task.Run c.prepare.result)) (sym c.in-Run.is) c.prepare.ensures

@@ -1,0 +1,73 @@
+//! What is answered, and what is prepared for workers.
+
+ghost use Rattle.std.specs.Prelude.{◌≡◌, IfOk, None};
+ghost use Rattle.command_answers.specs.Answers.{refused_with};
+
+use crate::status::Status;
+use action_eval::Runner;
+use amoebot_state::{NoMemory, World};
+use claim_core::{Lists, Report};
+use std::alloc::Global;
+use text_tokens::{Lines, Refusal, Text};
+
+/// What a command answers: how it ended, its report if it ran, and the text or line that is to be written.
+#[derive(Drop)]
+pub struct Answer {
+    pub status: Status,
+    pub report: Option<Report>,
+    pub text: Text,
+}
+
+/// What is told of a run that workers made.
+#[derive(Clone, Copy, Debug, PartialEq, Eq)]
+pub enum Telling {
+    /// Its report.
+    Report,
+    /// The lines of the sample of this number.
+    Sample(u32),
+}
+
+/// A run that is prepared: its decider, the world at its start, its callers' lists, and what is told of it.
+#[derive(Drop)]
+pub struct Prepared {
+    pub runner: Runner,
+    pub world: World,
+    pub lists: Lists,
+    pub telling: Telling,
+}
+
+/// What is to be done for a whole input.
+#[derive(Drop)]
+pub enum Task {
+    /// It is answered.
+    Answered(Answer),
+    /// It is a document whose lists workers are to run.
+    Run(Prepared),
+}
+
+/// The answer that is done with a text, and tells no report.
+pub(crate) fn done(text: Text) -> Answer
+    ensures { result ≡ record { status = Status.Done; report = None; text = text } }
+{
+    Answer {
+        status: Status::Done,
+        report: None,
+        text,
+    }
+}
+
+/// The answer that is the line of a refusal.
+pub(crate) fn refuse(alloc: Global, refusal: Refusal) -> Result<Answer, NoMemory>
+    ensures { IfOk result (λ a. a ≡ refused_with refusal) }
+{
+    let mut lines = Lines::new(alloc);
+    lines.begin("refused")?;
+    lines.number(refusal.line)?;
+    lines.word(refusal.kind.name())?;
+    lines.end()?;
+    Ok(Answer {
+        status: Status::Refused(refusal),
+        report: None,
+        text: lines.text(),
+    })
+}

@@ -1,0 +1,51 @@
+//! What is to be done for a whole input of a command that reads a document.
+
+ghost use Rattle.std.specs.Prelude.{IfOk};
+ghost use Rattle.text_tokens.specs.Text.{IsCountable};
+ghost use Rattle.shape_files.specs.Fitting.{Fits};
+ghost use Rattle.shape_files.specs.Views.{contents};
+ghost use Rattle.command_answers.specs.Answers.{IsTaskOf, IsTaskTo};
+ghost use Rattle.command_answers.specs.Commands.{form_of};
+
+use crate::answer::{Task, refuse};
+use crate::of_check::answer_check;
+use crate::of_interleave::answer_interleave;
+use crate::of_measure::answer_measure;
+use crate::of_replay::answer_replay;
+use crate::of_run::prepare;
+use crate::table::row_of;
+use amoebot_state::NoMemory;
+use command_words::DocumentCommand;
+use shape_files::{Parts, documents_fit, read_sections};
+use std::alloc::Global;
+use text_tokens::ReadRefusal;
+
+/// What is to be done for a whole input of a command. Without enough memory that is not known.
+pub fn task_of(alloc: Global, command: DocumentCommand, bytes: &[u8]) -> Result<Task, NoMemory>
+    requires { IsCountable bytes.now }
+    ensures { IfOk result (IsTaskOf command bytes.now) }
+{
+    documents_fit();
+    match read_sections(alloc, bytes, row_of(command).form) {
+        Ok(sections) => task_of_document(alloc, command, sections.into_parts()),
+        Err(ReadRefusal::Refused(refusal)) => {
+            let answer = refuse(alloc, refusal)?;
+            Ok(Task::Answered(answer))
+        }
+        Err(ReadRefusal::NoMemory) => Err(NoMemory),
+    }
+}
+
+/// What is to be done for a document of the command's form.
+fn task_of_document(alloc: Global, command: DocumentCommand, parts: Parts) -> Result<Task, NoMemory>
+    requires { Fits (form_of command) (contents parts) }
+    ensures { IfOk result (IsTaskTo command (contents parts)) }
+{
+    match command {
+        DocumentCommand::Run => Ok(Task::Run(prepare(parts))),
+        DocumentCommand::Interleave => Ok(Task::Answered(answer_interleave(alloc, parts)?)),
+        DocumentCommand::Replay => Ok(Task::Answered(answer_replay(alloc, parts)?)),
+        DocumentCommand::Check => Ok(Task::Answered(answer_check(alloc, parts)?)),
+        DocumentCommand::Measure => Ok(Task::Answered(answer_measure(alloc, parts)?)),
+    }
+}

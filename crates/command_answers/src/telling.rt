@@ -1,0 +1,76 @@
+//! What is told of a run.
+
+ghost use Rattle.std.specs.Prelude.{◌≡◌, ◌≤◌, IfOk, length};
+ghost use Rattle.amoebot_state.specs.Limits.{most_vars};
+ghost use Rattle.claim_core.specs.Good.{Good};
+ghost use Rattle.action_meaning.specs.Verdicts.{verdict_shown};
+ghost use Rattle.command_answers.specs.Answers.{IsCounted, IsToldBy, done_with};
+
+use crate::answer::{Answer, Telling};
+use crate::status::Status;
+use action_eval::Runner;
+use amoebot_state::NoMemory;
+use claim_core::{Lists, Report};
+use command_runs::{good_is_few, print_report, print_sample};
+use std::alloc::Global;
+
+/// The answer that tells a good report of the lists' turns, as is to be told of it.
+pub fn tell(
+    alloc: Global,
+    telling: Telling,
+    runner: &Runner,
+    lists: &Lists,
+    report: Report,
+) -> Result<Answer, NoMemory>
+    requires good { Good (verdict_shown runner.now) report.journal.first lists.now report }
+    requires few { IsCounted telling report }
+    ensures { IfOk result (IsToldBy telling runner.now lists.now report) }
+{
+    match telling {
+        Telling::Report => tell_report(alloc, runner, report),
+        Telling::Sample(seed) => tell_sample(alloc, seed, runner, lists, report),
+    }
+}
+
+/// The answer that tells a report of a program's run.
+fn tell_report(alloc: Global, runner: &Runner, report: Report) -> Result<Answer, NoMemory>
+    ensures { IfOk result (λ a. a ≡ done_with (length runner.now.vars) report) }
+{
+    let checked = runner.checked();
+    checked.program();
+    answer_report(alloc, report, checked.vars())
+}
+
+/// The answer that tells a report, where an amoebot has the values of so many variables.
+pub(crate) fn answer_report(alloc: Global, report: Report, vars: u8) -> Result<Answer, NoMemory>
+    requires { vars ≤ most_vars }
+    ensures { IfOk result (λ a. a ≡ done_with vars report) }
+{
+    let text = print_report(alloc, &report, vars)?;
+    Ok(Answer {
+        status: Status::Done,
+        report: Some(report),
+        text,
+    })
+}
+
+/// The answer that tells a report as that of a number's sample.
+fn tell_sample(
+    alloc: Global,
+    seed: u32,
+    runner: &Runner,
+    lists: &Lists,
+    report: Report,
+) -> Result<Answer, NoMemory>
+    requires good { Good (verdict_shown runner.now) report.journal.first lists.now report }
+    requires few { IsCounted (Telling.Sample seed) report }
+    ensures { IfOk result (IsToldBy (Telling.Sample seed) runner.now lists.now report) }
+{
+    good_is_few();
+    let text = print_sample(alloc, seed, runner, lists, &report)?;
+    Ok(Answer {
+        status: Status::Done,
+        report: Some(report),
+        text,
+    })
+}

@@ -1,5 +1,0 @@
-use Rattle.outer_io.proofs.KeptPieces.{pieces}
-use Rattle.outer_io.proofs.sure_sink.pieces_are_kept_as_one.Goals as goal
-
-pub returns : goal.returns
-returns c = pieces
