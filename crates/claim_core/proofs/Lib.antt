@@ -17,6 +17,7 @@ pub mod OpeningLemmas
 pub mod Places
 pub mod Ranks
 pub mod ReportLemmas
+pub mod ReportsExist
 pub mod Seats
 pub mod Sounds
 pub mod Stays

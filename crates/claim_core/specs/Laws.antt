@@ -125,3 +125,15 @@ HeldByOne =
 -- after any steps, so many rounds are enough for all callers to end
 abbrev pub RoundsEnd : Type 0
 RoundsEnd = (g : Setup) → IsSetup g → (steps : List ℕ) → HaveEnded (step_rounds g (most_step_rounds g.lists) (after g steps))
+
+-- after any steps, some number of rounds is the first with which all callers have ended, and then there is a report
+pub record EndsInRounds (g : Setup) (steps : List ℕ) : Type 0 where
+  pub count : ℕ
+  pub ended : HaveEnded (step_rounds g count (after g steps))
+  pub first : (n : ℕ) → n < count → ¬ HaveEnded (step_rounds g n (after g steps))
+  pub report : Report
+  pub left : IsReportOf g (step_rounds g count (after g steps)) report
+  pub reached : Reached g report
+
+abbrev pub RoundsLeaveAReport : Type 0
+RoundsLeaveAReport = (g : Setup) → IsSetup g → (steps : List ℕ) → EndsInRounds g steps

@@ -1,6 +1,6 @@
 ghost use Rattle.claim_core.specs.Laws.{TagTellsItsOwner, IsAlwaysSound, ReachedIsGood, StateHasOneReport};
 ghost use Rattle.claim_core.specs.Laws.{EntryIsDecided, CommittedIsJournal, CommittedIsShown, OneListIsNeverBusy};
-ghost use Rattle.claim_core.specs.Laws.{OneListIsSerial, EndedStays, HoldsNothingHasNoTag, HeldByOne, RoundsEnd};
+ghost use Rattle.claim_core.specs.Laws.{OneListIsSerial, EndedStays, HoldsNothingHasNoTag, HeldByOne, RoundsEnd, RoundsLeaveAReport};
 ghost use Rattle.claim_core.specs.SerialRuns.{SerialRunIsDetermined, SerialReportIsDetermined};
 
 use amoebot_state::step_has_one_result;
@@ -77,4 +77,9 @@ pub fn held_by_one()
 /// After any steps, 40 rounds for each turn of all callers together are enough for all callers to end.
 pub fn rounds_are_enough()
     ensures { RoundsEnd }
+{}
+
+/// After any steps, some number of rounds is the first with which all callers have ended, and then there is a report.
+pub fn rounds_leave_a_report()
+    ensures { RoundsLeaveAReport }
 {}

@@ -17,8 +17,8 @@ pub use journal::Journal;
 pub use laws::{
     committed_is_journal, committed_is_shown, ended_stays, entry_is_decided, held_by_one,
     holds_nothing_has_no_tag, is_always_sound, one_list_is_never_busy, one_list_is_serial,
-    reached_is_good, rounds_are_enough, serial_run_is_determined, state_has_one_report,
-    tag_tells_its_owner,
+    reached_is_good, rounds_are_enough, rounds_leave_a_report, serial_run_is_determined,
+    state_has_one_report, tag_tells_its_owner,
 };
 pub use lists::Lists;
 pub use machine::Core;

@@ -1,6 +1,7 @@
 pub mod Entries
 pub mod Interleavings
 pub mod Replays
+pub mod SameConfigs
 pub mod Reported
 pub mod SampleTexts
 pub mod ExampleLemmas

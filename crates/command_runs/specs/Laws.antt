@@ -1,10 +1,11 @@
 -- What follows from the definitions alone.
-use Rattle.std.specs.Prelude.{◌≡◌, ◌<◌, ◌≤◌, ◌*◌, ℕ, true, List, length}
+use Rattle.std.specs.Prelude.{◌≡◌, ◌<◌, ◌≤◌, ◌*◌, ◌⊎◌, ℕ, true, List, length}
 use Rattle.std.specs.List.{All}
 use Rattle.tri_lattice.specs.Sets.{IsConnected}
 use Rattle.amoebot_state.specs.declared.verdict.Entry.{Entry}
 use Rattle.amoebot_state.specs.declared.verdict.Verdict.{Verdict}
-use Rattle.amoebot_state.specs.Configs.{Config}
+use Rattle.amoebot_state.specs.Configs.{Config, IsValid}
+use Rattle.amoebot_state.specs.Steps.{HasPatchedWorld}
 use Rattle.amoebot_state.specs.Occupied.{occupied}
 use Rattle.amoebot_state.specs.Zones.{Shown}
 use Rattle.claim_core.specs.declared.report.Report.{Report}
@@ -50,7 +51,8 @@ InterleaveTextIsOne =
     → IsInterleaveText p start lists schedule two other
     → SameReport one two × (text ≡ other)
 
--- what agrees differs nowhere, and what differs does so at one place
+-- what agrees differs nowhere, and what differs does so at one place;
+-- and where each change that is decided leads somewhere, a journal from a valid shape agrees or differs
 pub record ReplayIsDecided : Type 0 where
   pub exclusive : (f : Shown → Verdict) (start final : Config) (entries : List Entry) (place : ℕ)
       → Agrees f start entries final
@@ -59,6 +61,10 @@ pub record ReplayIsDecided : Type 0 where
       → DiffersAt f start entries final one
       → DiffersAt f start entries final two
       → one ≡ two
+  pub some : (f : Shown → Verdict) (start final : Config) (entries : List Entry)
+      → HasPatchedWorld f
+      → IsValid start
+      → Agrees f start entries final ⊎ ((place : ℕ) × DiffersAt f start entries final place)
 
 -- with the guard on and a connected shape at the start, the shape is connected in each world of the run
 abbrev pub StaysConnectedIn : Program → Config → List Entry → Type 0

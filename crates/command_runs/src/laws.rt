@@ -9,7 +9,7 @@ use amoebot_state::run_has_one_last;
 use claim_core::{
     one_list_is_serial, reached_is_good, serial_run_is_determined, state_has_one_report,
 };
-use serial_model::{first_no_step_is_unique, run_has_only_steps};
+use serial_model::{first_no_step_is_unique, run_has_only_steps, run_or_first_no_step};
 use shape_checks::hexagon_laws;
 
 /// A document of `run` with at most one list has at most one report, and one text.
@@ -27,13 +27,14 @@ pub fn interleave_text_is_one()
     state_has_one_report();
 }
 
-/// A journal that agrees differs nowhere, and one that differs does so at one place.
+/// A journal that agrees differs nowhere, and one that differs does so at one place. From a valid shape each journal does one of both.
 pub fn replay_is_decided()
     ensures { ReplayIsDecided }
 {
     first_no_step_is_unique();
     run_has_only_steps();
     run_has_one_last();
+    run_or_first_no_step();
 }
 
 /// A shape has one text of its measures.

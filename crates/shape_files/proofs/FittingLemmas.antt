@@ -49,7 +49,7 @@ no_first : (rs : List Refusal) → first_in rs ≡ None → rs ≡ []
 no_first [] e = refl
 no_first (r ∷ rs) e = absurd cc
 
-program_fits : (p : tree.Program) → Fine IsCheckedProgram p → IsChecked p
+pub program_fits : (p : tree.Program) → Fine IsCheckedProgram p → IsChecked p
 program_fits p f =
     let j = judged_of f in
     let word = both_of j.0 in

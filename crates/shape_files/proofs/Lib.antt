@@ -10,4 +10,5 @@ pub mod DocumentsLemmas
 pub mod DocumentRowLemmas
 pub mod Fine
 pub mod FittingLemmas
+pub mod SoundDocuments
 pub mod RunTextsLemmas

@@ -3,9 +3,10 @@ use Rattle.std.specs.Prelude.{◌≡◌, ◌<◌, ◌≤◌, ℕ, true, List, []
 use Rattle.std.specs.Option.{IfSome, IsSome}
 use Rattle.std.specs.List.{All}
 use Rattle.amoebot_state.specs.declared.verdict.Entry.{Entry}
-use Rattle.amoebot_state.specs.Limits.{most_vars}
+use Rattle.amoebot_state.specs.Configs.{Config, IsValid, bot_at}
+use Rattle.amoebot_state.specs.Limits.{most_bots, most_vars}
 use Rattle.claim_core.specs.Limits.{most_turns}
-use Rattle.claim_core.specs.Turns.{HaveBots}
+use Rattle.claim_core.specs.Turns.{AreLists, HaveBots}
 use Rattle.action_tree.specs.Limits.{most_actions}
 use Rattle.action_check.specs.Faults.{faults}
 use Rattle.journal_text.specs.Journals.{is_known}
@@ -58,6 +59,26 @@ pub record Fits (form : Form) (a : Contents) : Type 0 where
   pub sections : HasSections form a
   pub recorded : AreTogether a
   pub together : FitTogether a
+
+-- ---- what they are by themselves
+
+-- a shape is that of a world: it is valid, it has at most 4,096 amoebots, and each id has one
+pub record IsDrawn (c : Config) : Type 0 where
+  pub valid : IsValid c
+  pub few : length c.bots ≤ most_bots
+  pub no_gaps : (id : ℕ) → id < length c.bots → IsSome (bot_at c id)
+
+-- the shapes of a document are those of worlds, and its lists are such as callers may have
+pub record IsSoundDocument (a : Contents) : Type 0 where
+  pub world : IfSome a.world IsDrawn
+  pub final_world : IfSome a.final_world IsDrawn
+  pub lists : IfSome a.lists AreLists
+
+-- ---- laws
+
+-- so it is with each document
+abbrev pub DocumentsAreSound : Type 0
+DocumentsAreSound = (form : Form) (bytes : List ℕ) (a : Contents) → HasContents form bytes a → IsSoundDocument a
 
 -- what a document of a form has fits together
 abbrev pub DocumentsFit : Type 0

@@ -8,7 +8,7 @@ ghost use Rattle.shape_files.specs.Documents.{Body, DocumentsAreDecided, FormsAr
 ghost use Rattle.shape_files.specs.DocumentReaders.{body};
 ghost use Rattle.shape_files.specs.DocumentRows.{DocumentsAreRead};
 ghost use Rattle.shape_files.specs.RunTexts.{RunsAreReplayed};
-ghost use Rattle.shape_files.specs.Fitting.{DocumentsFit};
+ghost use Rattle.shape_files.specs.Fitting.{DocumentsAreSound, DocumentsFit};
 ghost use Rattle.shape_files.specs.FrameLaws.{AreSections, FrameLaw, StraightLaw, FormsAreDistinct};
 
 /// The sections of a document, each in the state that those before it gave, with what it makes of the state.
@@ -49,4 +49,9 @@ pub fn runs_are_replayed()
 /// schedule and its entries name only amoebots, callers and actions that there are.
 pub fn documents_fit()
     ensures { DocumentsFit }
+{}
+
+/// The shapes of a document are those of worlds, and its lists are such as callers may have.
+pub fn documents_are_sound()
+    ensures { DocumentsAreSound }
 {}

@@ -1,7 +1,7 @@
 -- The first rule that the amoebots of a shape break is the one for which a world refuses them.
 use Rattle.std.proofs.Common.{◌≡◌, ℕ, zero, suc, ◌<◌, Bool, true, false, List, [], ◌∷◌, ◌++◌, length, take, map, slice_get, Option, Some, None, refl, sym, ap, subst, ◌∙◌, arith, append_assoc}
 use Rattle.std.specs.Prelude.{not, ◌&&◌, ◌||◌, is_some, if◌then◌else◌}
-use Rattle.std.specs.Option.{option_map}
+use Rattle.std.specs.Option.{option_map, option_or}
 use Rattle.std.specs.List.{All}
 use Rattle.std.proofs.lemmas.List.{append-nil, length-map, length-take-le}
 use Rattle.std.proofs.lemmas.List.Elements.{All-map}
@@ -192,3 +192,40 @@ judged_as_worlds = record {
       let fault : bot_fault (config_of s.area maxes (take f.place (map written_amoebot s.bots))) w.bot ≡ Some e = ap (bot_fault (config_of s.area maxes (take f.place (map written_amoebot s.bots)))) (sym same) ∙ f.fault in
       one_broken (config_of s.area maxes []) s.bots f.place w (on_line w.line k) at (λ j b lt seen. f.before j b lt seen) (breaks_it (config_of s.area maxes (take f.place (map written_amoebot s.bots))) w e k fault kind);
 }
+
+-- ---- amoebots of which none breaks a rule
+
+-- what is refused breaks a rule
+is_broken : (c : Config) (w : WrittenBot) (e : WorldRefusal) → bot_fault c w.bot ≡ Some e → broken c w ≡ None → ⊥
+is_broken c w e fault none =
+    let b = blames c w.bot e fault in
+    let rule : broken c w ≡ Some (on_line w.line b.kind) = breaks_it c w e b.kind fault b.breaks in
+    let no : None ≡ Some (on_line w.line b.kind) = sym none ∙ rule in
+    absurd cc
+
+fine_alone : (c : Config) (w : WrittenBot) → broken c w ≡ None → bot_fault c w.bot ≡ None
+fine_alone c w none = by (bot_fault c w.bot) refl
+  where
+    by : (o : Option WorldRefusal) → bot_fault c w.bot ≡ o → bot_fault c w.bot ≡ None
+    by None e = e
+    by (Some e) f = absurd (is_broken c w e f none)
+
+first_alone : (o q : Option Refusal) → option_or o q ≡ None → (o ≡ None) × (q ≡ None)
+first_alone None q e = (refl, e)
+first_alone (Some r) q e = absurd cc
+
+all_fine : (c : Config) (ws : List WrittenBot) → first_broken c ws ≡ None → AreFine c (map written_amoebot ws) (length ws)
+all_fine c [] none j b lt at = absurd (omega arith)
+all_fine c (w ∷ ws) none zero b lt at =
+    let both = first_alone (broken c w) (first_broken (with_bot c w.bot) ws) none in
+    let same : w.bot ≡ b = cc in
+    ap (λ (x : Config). bot_fault x b) (with_none c) ∙ subst (λ (d : Bot). bot_fault c d ≡ None) same (fine_alone c w both.0)
+all_fine c (w ∷ ws) none (suc j) b lt at =
+    let both = first_alone (broken c w) (first_broken (with_bot c w.bot) ws) none in
+    ap (λ (x : Config). bot_fault x b) (sym (with_more c w.bot (take j (map written_amoebot ws)))) ∙ all_fine (with_bot c w.bot) ws both.1 j b (omega arith) at
+
+-- a shape without a fault is one of which a world refuses nothing
+pub unrefused : (maxes : List ℕ) (s : WrittenShape) → shape_fault maxes s ≡ None → IsFaultless s.area maxes (map written_amoebot s.bots) (length (map written_amoebot s.bots))
+unrefused maxes s none j b lt at =
+    let size : length (map written_amoebot s.bots) ≡ length s.bots = length-map s.bots written_amoebot in
+    all_fine (config_of s.area maxes []) s.bots none j b (omega arith) at
