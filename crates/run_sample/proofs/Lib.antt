@@ -8,4 +8,5 @@ pub mod Taken
 pub mod Near
 pub mod Laid
 pub mod Unique
+pub mod Some
 pub mod Worlds

@@ -26,6 +26,10 @@ SampleIsUnique =
     → IsSample seed two
     → (one.checked ≡ two.checked) × (one.world ≡ two.world) × (one.lists ≡ two.lists)
 
+-- each seed has a sample
+abbrev pub SampleIsSome : Type 0
+SampleIsSome = (seed : ℕ) → (s : Sample) × IsSample seed s
+
 -- the first two amoebots of seed one are turned by 0 and by 2
 abbrev pub FirstOfSeedOne : Type 0
 FirstOfSeedOne = Placed 1 (bot_on 0 (square_node 0) 0 ∷ bot_on 1 (square_node 1) 2 ∷ []) (drawn (drawn (seeded 1)))

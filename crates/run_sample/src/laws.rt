@@ -1,4 +1,4 @@
-ghost use Rattle.run_sample.specs.Laws.{FirstEmptyIsUnique, SampleIsFit, SampleIsUnique, FirstOfSeedOne};
+ghost use Rattle.run_sample.specs.Laws.{FirstEmptyIsUnique, SampleIsFit, SampleIsSome, SampleIsUnique, FirstOfSeedOne};
 
 /// At most one node is the first empty one that is met.
 pub fn first_empty_is_unique()
@@ -8,6 +8,11 @@ pub fn first_empty_is_unique()
 /// A seed has at most one sample.
 pub fn sample_is_unique()
     ensures { SampleIsUnique }
+{}
+
+/// Each seed has a sample.
+pub fn sample_is_some()
+    ensures { SampleIsSome }
 {}
 
 /// A sample has 150 amoebots, which make a connected shape with x and y of 9 to 118, and its lists are of them.
