@@ -35,8 +35,8 @@ next_is_some : (seed : ℕ) (bots : List Bot) (g : Lcg) → length bots < 150 �
 next_is_some seed bots g few placed = elim (cases_lt (length bots) 100) [
   | inl lt ↦ (bot_on (length bots) (square_node (length bots)) (draw g 6), drawn g, in_square lt)
   | inr ge ↦ (
-    let first = first_empty_is_some bots (node_of bots (draw g (length bots))) (draw (drawn g) 6) (inside bots (omega arith) (laid seed bots g (omega arith) placed)) in
-    (bot_on (length bots) first.0 (draw (drawn (drawn g)) 6), drawn (drawn (drawn g)), beside (omega arith) first.1))
+      let first = first_empty_is_some bots (node_of bots (draw g (length bots))) (draw (drawn g) 6) (inside bots (omega arith) (laid seed bots g (omega arith) placed)) in
+      (bot_on (length bots) first.0 (draw (drawn (drawn g)) 6), drawn (drawn (drawn g)), beside (omega arith) first.1))
 ]
 
 -- so many amoebots come one by one
@@ -51,11 +51,13 @@ placed_is_some seed (suc n) few =
 
 pub sample_is_some : SampleIsSome
 sample_is_some seed =
-    let all = placed_is_some seed 150 (omega arith) in
-    (record { checked = record trees.hexagon { guard = true }; world = config_of sample_area sample_maxes all.0; lists = sample_lists }, record {
-      program = refl;
-      bots = all.0;
-      come = record { many = all.2; left = all.1; placed = all.3 };
-      world = refl;
-      lists = refl;
-    })
+    let all = placed_is_some seed 150 (omega arith) in (
+      record { checked = record trees.hexagon { guard = true }; world = config_of sample_area sample_maxes all.0; lists = sample_lists },
+      record {
+        program = refl;
+        bots = all.0;
+        come = record { many = all.2; left = all.1; placed = all.3 };
+        world = refl;
+        lists = refl;
+      },
+    )

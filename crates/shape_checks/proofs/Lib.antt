@@ -9,3 +9,5 @@ pub mod ReachLemmas
 pub mod Rings
 pub mod Hexagons
 pub mod GrownMarks
+pub mod Known
+pub mod Decided

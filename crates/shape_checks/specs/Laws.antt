@@ -1,11 +1,12 @@
 -- What follows from the definitions alone.
-use Rattle.std.specs.Prelude.{◌≡◌, ◌↔◌, ℕ, ◌<◌, ◌≤◌, ◌+◌, ◌*◌, ◌%◌, nat_lt, Bool, false, IsTrue, [], ◌∷◌}
+use Rattle.std.specs.Prelude.{◌≡◌, ◌↔◌, ℕ, ◌<◌, ◌≤◌, ◌+◌, ◌*◌, ◌%◌, nat_lt, Bool, false, IsTrue, Decides, [], ◌∷◌}
 use Rattle.std.specs.declared.option.Option.TheVariants.{Some}
 use Rattle.tri_lattice.specs.declared.node.Node.{Node}
 use Rattle.tri_lattice.specs.Lattice.{distance, Adjacent}
 use Rattle.tri_lattice.specs.Sets.{IsConnected}
 use Rattle.amoebot_state.specs.declared.bot.Bot.{Bot}
 use Rattle.amoebot_state.specs.Configs.{Config, IsValid}
+use Rattle.amoebot_state.specs.Occupied.{occupied}
 use Rattle.shape_checks.specs.Hexagons.{ring_node, IsArc, IsHexagonAt, IsHexagon}
 
 -- the places of a ring are the nodes at that distance
@@ -55,3 +56,10 @@ HexagonsAreConnected = (S : Node → Bool) (c : Node) (r : ℕ) → IsHexagonAt 
 -- one contracted amoebot alone is a hexagon
 abbrev pub OneAloneIsHexagon : Type 0
 OneAloneIsHexagon = (w : Config) (b : Bot) → IsValid w → w.bots ≡ Some b ∷ [] → b.head ≡ b.tail → IsHexagon w
+
+-- for each valid configuration an answer tells whether its shape is connected, and one whether it is a hexagon
+abbrev pub MeasuresAreDecided : Type 0
+MeasuresAreDecided =
+    (c : Config)
+    → IsValid c
+    → ((b : Bool) × Decides b (IsConnected (occupied c))) × ((b : Bool) × Decides b (IsHexagon c))

@@ -1,5 +1,5 @@
 ghost use Rattle.shape_checks.specs.Laws.{RingIsItsDistance, NextPlacesMeet, TwoRunsAreNoArc, FullRingsAreHexagons};
-ghost use Rattle.shape_checks.specs.Laws.{RadiiFollow, HexagonsAreConnected, OneAloneIsHexagon};
+ghost use Rattle.shape_checks.specs.Laws.{RadiiFollow, HexagonsAreConnected, OneAloneIsHexagon, MeasuresAreDecided};
 
 /// What holds of rings and their arcs.
 pub fn ring_laws()
@@ -14,4 +14,9 @@ pub fn hexagon_laws()
     ensures radii { RadiiFollow }
     ensures connected { HexagonsAreConnected }
     ensures one { OneAloneIsHexagon }
+{}
+
+/// Each valid configuration is connected or not, and a hexagon or not.
+pub fn measures_are_decided()
+    ensures { MeasuresAreDecided }
 {}

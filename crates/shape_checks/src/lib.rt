@@ -10,7 +10,7 @@ mod values;
 
 pub use connected::is_connected;
 pub use hexagon::is_hexagon;
-pub use laws::{hexagon_laws, ring_laws};
+pub use laws::{hexagon_laws, measures_are_decided, ring_laws};
 pub use values::count_value;
 
 #[cfg(test)]
