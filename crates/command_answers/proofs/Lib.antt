@@ -3,6 +3,7 @@ pub mod OwedTexts
 pub mod PreparedRuns
 pub mod OwedLemmas
 pub mod SampleLemmas
+pub mod SomethingOwedLemmas
 pub mod ExampleLemmas
 pub mod SmallDocuments
 pub mod TaskLemmas

@@ -4,10 +4,11 @@ use Rattle.std.specs.declared.option.Option.{Option}
 use Rattle.std.specs.declared.option.Option.TheVariants.{Some, None}
 use Rattle.claim_core.specs.declared.report.Report.{Report}
 use Rattle.shape_files.specs.declared.section_kind.Form.TheVariants as form
+use Rattle.shipped_programs.specs.declared.shipped.Shipped.{Shipped}
 use Rattle.shape_files.specs.Documents.{Contents, HasContents}
 use Rattle.command_runs.specs.Laws.{SameReport}
 use Rattle.command_words.specs.declared.command.Command.{Command}
-use Rattle.command_words.specs.declared.command.Command.TheVariants.{Document, Sample}
+use Rattle.command_words.specs.declared.command.Command.TheVariants.{Document, Show, Sample}
 use Rattle.command_words.specs.declared.command.DocumentCommand.{DocumentCommand}
 use Rattle.command_words.specs.declared.command.DocumentCommand.TheVariants.{Run}
 use Rattle.command_answers.specs.declared.answer.Task.{Task}
@@ -15,7 +16,7 @@ use Rattle.command_answers.specs.declared.answer.Task.TheVariants as task
 use Rattle.command_answers.specs.declared.status.Status.{Status}
 use Rattle.command_answers.specs.declared.status.Status.TheVariants as status
 use Rattle.command_answers.specs.Commands.{form_of, MakesTurns}
-use Rattle.command_answers.specs.Reads.{Read, nothing, whole}
+use Rattle.command_answers.specs.Reads.{Read, nothing, whole, above, up_to_fault}
 use Rattle.command_answers.specs.Owed.{IsOwed}
 use Rattle.command_answers.specs.Answers.{IsTaskOf}
 use Rattle.command_answers.specs.Outcomes.{IsOutcome}
@@ -84,3 +85,19 @@ ReportsAreOfDocuments = (c : DocumentCommand) (read : Read) (s : Status) (report
 abbrev pub ReportsAreOfSamples : Type 0
 ReportsAreOfSamples = (seed : ℕ) (read : Read) (s : Status) (report : Report) (text : List ℕ)
     → IsOwed (Some (Sample seed)) read s (Some report) text → (read ≡ nothing) × IsRunOfSample seed report text
+
+-- for a command, if the words are one, and what was read there is a status, a report or none, and a text that are owed
+pub record SomethingOwed (c : Option Command) (read : Read) : Type 0 where
+  pub status : Status
+  pub report : Option Report
+  pub text : List ℕ
+  pub owed : IsOwed c read status report text
+
+-- so it is for each whole input, each input that is too long, and each that fails; and where nothing is read
+pub record OwedIsSome : Type 0 where
+  pub whole_input : (c : DocumentCommand) (bytes : List ℕ) → SomethingOwed (Some (Document c)) (whole bytes)
+  pub long_input : (c : DocumentCommand) (got : List ℕ) → SomethingOwed (Some (Document c)) (above got)
+  pub failed_input : (c : DocumentCommand) (got : List ℕ) → SomethingOwed (Some (Document c)) (up_to_fault got)
+  pub show : (program : Shipped) → SomethingOwed (Some (Show program)) nothing
+  pub sample : (seed : ℕ) → SomethingOwed (Some (Sample seed)) nothing
+  pub no_command : SomethingOwed None nothing

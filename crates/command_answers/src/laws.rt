@@ -1,16 +1,19 @@
 //! What holds of the answers. The functions do nothing: their clauses are the laws.
 
-ghost use Rattle.command_answers.specs.Laws.{DocumentsHaveOutcomes, OwedIsOne, TaskIsOne};
+ghost use Rattle.command_answers.specs.Laws.{DocumentsHaveOutcomes, OwedIsOne, OwedIsSome, TaskIsOne};
 ghost use Rattle.command_answers.specs.Laws.{ReportsAreOfDocuments, ReportsAreOfSamples, ReportsAreOfTurns};
 ghost use Rattle.command_answers.specs.Examples.{SmallAnswers};
 
-use claim_core::{one_list_is_serial, reached_is_good};
+use action_meaning::changes_are_acts;
+use claim_core::{one_list_is_serial, reached_is_good, rounds_leave_a_report};
 use command_runs::{
     good_stays_connected, interleave_text_is_one, measure_text_is_one, replay_is_decided,
     run_text_is_one,
 };
-use run_sample::sample_is_fit;
-use shape_files::documents_are_decided;
+use model_ops::acts_decide;
+use run_sample::{sample_is_fit, sample_is_some};
+use shape_checks::measures_are_decided;
+use shape_files::{documents_are_decided, documents_are_sound, documents_fit};
 
 /// For a command and what the input came to, at most one status is owed. At most one report is owed, but for `run` of two lists or more
 /// and for `sample`; and at most one text, but for `run` of two lists or more.
@@ -24,6 +27,25 @@ pub fn owed_is_one()
     measure_text_is_one();
     good_stays_connected();
     sample_is_fit();
+}
+
+/// For a command and what the input came to, a status, a report or none, and a text are owed.
+pub fn owed_is_some()
+    ensures { OwedIsSome }
+{
+    documents_are_decided();
+    documents_fit();
+    documents_are_sound();
+    rounds_leave_a_report();
+    reached_is_good();
+    one_list_is_serial();
+    replay_is_decided();
+    measures_are_decided();
+    good_stays_connected();
+    sample_is_fit();
+    sample_is_some();
+    changes_are_acts();
+    acts_decide();
 }
 
 /// For a whole input of a command at most one task is to be done: one answer, but for the room in its report's journal, or one run.

@@ -4,8 +4,9 @@ use Rattle.std.specs.List.{All}
 use Rattle.tri_lattice.specs.Sets.{IsConnected}
 use Rattle.tri_lattice.specs.declared.node.Node.{Node}
 use Rattle.amoebot_state.specs.declared.bot.Bot.{Bot}
-use Rattle.amoebot_state.specs.Configs.{bot_at}
+use Rattle.amoebot_state.specs.Configs.{IsValid, bot_at}
 use Rattle.amoebot_state.specs.Occupied.{occupied}
+use Rattle.claim_core.specs.Turns.{AreLists}
 use Rattle.run_sample.specs.declared.whole.Sample.{Sample}
 use Rattle.run_sample.specs.Whole.{IsSample}
 use Rattle.run_sample.specs.Sample.{Placed, IsFirstEmpty, IsInside, bot_on, sample_bots, square_node, seeded, drawn}
@@ -34,11 +35,14 @@ SampleIsSome = (seed : ℕ) → (s : Sample) × IsSample seed s
 abbrev pub FirstOfSeedOne : Type 0
 FirstOfSeedOne = Placed 1 (bot_on 0 (square_node 0) 0 ∷ bot_on 1 (square_node 1) 2 ∷ []) (drawn (drawn (seeded 1)))
 
--- a sample has 150 amoebots, whose shape is connected and not far from the square, and the amoebots of its lists are among them
+-- A sample has 150 amoebots in a valid world, whose shape is connected and not far from the square.
+-- Its lists are such as callers may have, and their amoebots are among those.
 pub record IsFit (s : Sample) : Type 0 where
+  pub valid : IsValid s.world
   pub many : length s.world.bots ≡ sample_bots
   pub connected : IsConnected (occupied s.world)
   pub inside : (v : Node) → IsTrue (occupied s.world v) → IsInside v
+  pub listed : AreLists s.lists
   pub there : All (All (λ id. IsSome (bot_at s.world id))) s.lists.ids
 
 abbrev pub SampleIsFit : Type 0

@@ -1,0 +1,195 @@
+-- Something is owed.
+use Rattle.std.proofs.Common.{◌≡◌, ◌<◌, ◌≤◌, ℕ, List, [], length, true, Option, Some, None, Result, Ok, Err, inl, inr, refl, ap, sym, subst, arith}
+use Rattle.std.specs.Prelude.{IsSome, IfSome, reverse}
+use Rattle.std.specs.List.{All}
+use Rattle.std.specs.Option.{option_or}
+use Rattle.text_tokens.specs.declared.refusal.Refusal.{Refusal}
+use Rattle.amoebot_state.specs.declared.verdict.Entry.{Entry}
+use Rattle.amoebot_state.specs.Configs.{Config, IsValid, bot_at}
+use Rattle.amoebot_state.specs.Limits.{most_bots}
+use Rattle.amoebot_state.specs.Steps.{HasPatchedWorld}
+use Rattle.amoebot_state.proofs.Options.{there_is}
+use Rattle.model_ops.specs.Laws.{ActsKeepDeciderLaws}
+use Rattle.claim_core.specs.Turns.{AreLists, CallerLists}
+use Rattle.claim_core.specs.Good.{Good}
+use Rattle.claim_core.specs.Machine.{Setup, setup}
+use Rattle.claim_core.specs.Soundness.{IsSetup}
+use Rattle.claim_core.specs.Laws.{OneListIsSerial, ReachedIsGood, RoundsLeaveAReport}
+use Rattle.claim_core.proofs.Stays.{world_last}
+use Rattle.action_tree.specs.Trees.{Program}
+use Rattle.action_meaning.specs.Laws.{ProgramsDecideByActs}
+use Rattle.action_meaning.specs.Verdicts.{verdict_shown}
+use Rattle.shape_checks.specs.Laws.{MeasuresAreDecided}
+use Rattle.shape_files.specs.declared.section_kind.Form.TheVariants as form
+use Rattle.shape_files.specs.Documents.{Contents, HasContents, DocumentsAreDecided, FormSays}
+use Rattle.shape_files.specs.Fitting.{DocumentsAreSound, DocumentsFit, Fits, IsDrawn, IsSoundDocument}
+use Rattle.run_sample.specs.Laws.{SampleIsFit, SampleIsSome}
+use Rattle.command_runs.specs.Check.{check_text}
+use Rattle.command_runs.specs.Laws.{GoodStaysConnected, ReplayIsDecided}
+use Rattle.command_runs.specs.Measure.{measure_text}
+use Rattle.command_runs.specs.Replay.{agrees_line, differs_line}
+use Rattle.command_runs.specs.Reports.{report_text}
+use Rattle.command_runs.specs.Sample.{sample_text}
+use Rattle.command_words.specs.declared.command.Command.TheVariants.{Document, Sample}
+use Rattle.command_words.specs.declared.command.DocumentCommand.{DocumentCommand}
+use Rattle.command_words.specs.declared.command.DocumentCommand.TheVariants.{Run, Interleave, Replay, Check, Measure}
+use Rattle.command_answers.specs.declared.status.Status.{Status}
+use Rattle.command_answers.specs.declared.status.Status.TheVariants as status
+use Rattle.command_answers.specs.Commands.{form_of}
+use Rattle.command_answers.specs.Lines.{read_fault_line, refusal_line, too_long, usage_line}
+use Rattle.command_answers.specs.Outcomes.{DocumentJournal, DocumentLists, IsOutcome, last_shape, of_run, of_interleave, agreeing, differing, of_check, of_measure}
+use Rattle.command_answers.specs.Owed.{usage, read_fault, longer, refused, served, shown, sampled}
+use Rattle.command_answers.specs.Reads.{nothing, whole}
+use Rattle.command_answers.specs.Laws.{OwedIsSome, SomethingOwed}
+use Rattle.command_answers.proofs.OwedTexts.{are_there}
+use Rattle.shipped_programs.specs.Shipped.{tree_of}
+
+-- what the laws of lower crates say
+pub record Exists : Type 0 where
+  pub documents : DocumentsAreDecided
+  pub fit : DocumentsFit
+  pub sound : DocumentsAreSound
+  pub rounds : RoundsLeaveAReport
+  pub goods : ReachedIsGood
+  pub serials : OneListIsSerial
+  pub replays : ReplayIsDecided
+  pub measures : MeasuresAreDecided
+  pub stays : GoodStaysConnected
+  pub samples : SampleIsSome
+  pub fits : SampleIsFit
+  pub acts : ProgramsDecideByActs
+  pub decide : ActsKeepDeciderLaws
+
+-- an outcome of a document
+record HasOutcome (a : Contents) (c : DocumentCommand) : Type 0 where
+  status : Status
+  report : Option Rattle.claim_core.specs.declared.report.Report.Report
+  text : List ℕ
+  is : IsOutcome a c status report text
+
+module _ (laws : Exists) where
+  -- ---- runs
+
+  may_run : (p : Program) (start : Config) (lists : CallerLists) → IsValid start → length start.bots ≤ most_bots → AreLists lists → All (All (λ (id : ℕ). IsSome (bot_at start id))) lists.ids → IsSetup (setup (verdict_shown p) start lists)
+  may_run p start lists valid few listed there =
+      let keep = laws.decide (verdict_shown p) (laws.acts p) in
+      record { valid = valid; few = few; lists = listed; bots = there; touches = keep.0; leads = keep.1 }
+
+  module _ (bytes : List ℕ) (a : Contents) (c : DocumentCommand) (h : HasContents (form_of c) bytes a) where
+    fits : Fits (form_of c) a
+    fits = laws.fit (form_of c) bytes a h
+
+    sound : IsSoundDocument a
+    sound = laws.sound (form_of c) bytes a h
+
+    drawn : (start : Config) → a.world ≡ Some start → IsDrawn start
+    drawn start e = subst (λ (o : Option Config). IfSome o IsDrawn) e sound.world
+
+    -- lists of a document, and what they make a run of
+    lists_of : IsSome a.checked → IsSome a.world → IsSome a.lists → DocumentLists a
+    lists_of checked world lists =
+        let p = there_is a.checked checked in
+        let w = there_is a.world world in
+        let l = there_is a.lists lists in
+        record { program = p.0; start = w.0; lists = l.0; its_program = p.1; its_shape = w.1; its_lists = l.1 }
+
+    runs : (d : DocumentLists a) → IsSetup (setup (verdict_shown d.program) d.start d.lists)
+    runs d =
+        let is = drawn d.start d.its_shape in
+        may_run d.program d.start d.lists is.valid is.few (subst (λ (o : Option CallerLists). IfSome o AreLists) d.its_lists sound.lists)
+        (are_there a d.start d.lists fits.together d.its_shape d.its_lists is.no_gaps)
+
+    run_outcome : DocumentLists a → HasOutcome a Run
+    run_outcome d =
+        let g = setup (verdict_shown d.program) d.start d.lists in
+        let end = laws.rounds g (runs d) [] in
+        let good : Good (verdict_shown d.program) d.start d.lists end.report = laws.goods g (runs d) end.report end.reached in
+        record { status = status.Done; report = Some end.report; text = report_text (length d.program.vars) end.report; is = of_run d end.report good end.reached (λ few. laws.serials (verdict_shown d.program) d.start d.lists end.report few good) }
+
+    interleave_outcome : DocumentLists a → IsSome a.schedule → HasOutcome a Interleave
+    interleave_outcome d scheduled =
+        let schedule = there_is a.schedule scheduled in
+        let g = setup (verdict_shown d.program) d.start d.lists in
+        let end = laws.rounds g (runs d) (reverse schedule.0) in
+        let good : Good (verdict_shown d.program) d.start d.lists end.report = laws.goods g (runs d) end.report end.reached in
+        record { status = status.Done; report = Some end.report; text = report_text (length d.program.vars) end.report; is = of_interleave d schedule.0 end.report schedule.1 good end.reached (record { count = end.count; ended = end.ended; first = end.first; left = end.left }) }
+
+    -- ---- journals and measures
+
+    replay_outcome : (d : DocumentJournal a) → HasOutcome a Replay
+    replay_outcome d =
+        let keep = laws.decide (verdict_shown d.program) (laws.acts d.program) in
+        elim (laws.replays.some (verdict_shown d.program) d.start d.final d.entries keep.1 (drawn d.start d.its_shape).valid) [
+          | inl agrees ↦ record { status = status.Done; report = None; text = agrees_line (length d.entries); is = agreeing d agrees }
+          | inr by ↦ record { status = status.Differs by.0; report = None; text = differs_line by.0; is = differing d by.0 by.1 }
+        ]
+
+    measured : (last : Config) → last_shape a ≡ Some last → IsValid last → HasOutcome a Measure
+    measured last e valid =
+        let by = laws.measures last valid in
+        let text = measure_text (length last.bots) by.0.0 by.1.0 in
+        record { status = status.Done; report = None; text = text; is = of_measure last text e (record { connected = by.0.0; hexagon = by.1.0; is_connected = by.0.1; is_hexagon = by.1.1; whole = refl }) }
+
+    measure_outcome : IsSome a.world → HasOutcome a Measure
+    measure_outcome some = by a.final_world refl
+      where
+        by : (o : Option Config) → a.final_world ≡ o → HasOutcome a Measure
+        by (Some last) e = measured last (ap (λ (o : Option Config). option_or o a.world) e) (subst (λ (o : Option Config). IfSome o IsDrawn) e sound.final_world).valid
+        by None e = let w = there_is a.world some in measured w.0 (subst (λ (o : Option Config). option_or o a.world ≡ Some w.0) (sym e) w.1) (drawn w.0 w.1).valid
+
+  outcome : (c : DocumentCommand) (bytes : List ℕ) (a : Contents) → HasContents (form_of c) bytes a → HasOutcome a c
+  outcome Run bytes a h = let has = (fits bytes a Run h).sections in run_outcome bytes a Run h (lists_of bytes a Run h has.0 has.1 has.2.0)
+  outcome Interleave bytes a h = let has = (fits bytes a Interleave h).sections in interleave_outcome bytes a Interleave h (lists_of bytes a Interleave h has.0 has.1 has.2.0) has.2.1.0
+  outcome Replay bytes a h =
+      let has = (fits bytes a Replay h).sections in
+      let p = there_is a.checked has.0 in
+      let w = there_is a.world has.1 in
+      let es = there_is a.entries has.2.0 in
+      let last = there_is a.final_world has.2.1 in
+      replay_outcome bytes a Replay h (record { program = p.0; start = w.0; entries = es.0; final = last.0; its_program = p.1; its_shape = w.1; its_journal = es.1; its_final = last.1 })
+  outcome Check bytes a h = let p = there_is a.checked (fits bytes a Check h).sections.0 in record { status = status.Done; report = None; text = check_text p.0; is = of_check p.0 p.1 }
+  outcome Measure bytes a h = measure_outcome bytes a Measure h (fits bytes a Measure h).sections.1
+
+  for_whole : (c : DocumentCommand) (bytes : List ℕ) → SomethingOwed (Some (Document c)) (whole bytes)
+  for_whole c bytes = let by = (laws.documents (form_of c)).some bytes in said by.0 by.1
+    where
+      said : (r : Result Contents Refusal) → FormSays (form_of c) bytes r → SomethingOwed (Some (Document c)) (whole bytes)
+      said (Err r) is = record { status = status.Refused r; report = None; text = refusal_line r; owed = refused c bytes r is }
+      said (Ok a) is = let o = outcome c bytes a is in record { status = o.status; report = o.report; text = o.text; owed = served c bytes a o.status o.report o.text is o.is }
+
+  -- ---- samples
+
+  for_sample : (seed : ℕ) → SomethingOwed (Some (Sample seed)) nothing
+  for_sample seed =
+      let by = laws.samples seed in
+      let s = by.0 in
+      let fit = laws.fits seed s by.1 in
+      let g = setup (verdict_shown s.checked) s.world s.lists in
+      let many : length s.world.bots ≡ 150 = fit.many in
+      let runs = may_run s.checked s.world s.lists fit.valid (omega (arith, many)) fit.listed fit.there in
+      let end = laws.rounds g runs [] in
+      let good : Good (verdict_shown s.checked) s.world s.lists end.report = laws.goods g runs end.report end.reached in
+      let last = laws.stays s.checked s.world s.lists end.report good (ap (λ (p : Program). p.guard) by.1.program) fit.connected (length end.report.journal.entries) end.report.world (world_last (verdict_shown s.checked) s.world end.report.world end.report.journal.entries good.run) in
+      let text = sample_text seed (length s.world.bots) (length s.lists.ids) (length s.lists.ids * s.lists.turns) true true in
+      record {
+        status = status.Done;
+        report = Some end.report;
+        text = text;
+        owed = sampled seed end.report text (record {
+          sample = s;
+          its_sample = by.1;
+          good = good;
+          reached = end.reached;
+          writes = record { connected = true; agrees = true; is_connected = (λ is. last, λ is. refl); is_run = (λ is. good.run, λ is. refl); whole = refl };
+        });
+      }
+
+  pub owed_is_some : OwedIsSome
+  owed_is_some = record {
+    whole_input = for_whole;
+    long_input = λ c got. record { status = status.Refused too_long; report = None; text = refusal_line too_long; owed = longer c got };
+    failed_input = λ c got. record { status = status.ReadFault; report = None; text = read_fault_line; owed = read_fault c got };
+    show = λ program. record { status = status.Done; report = None; text = check_text (tree_of program); owed = shown program };
+    sample = for_sample;
+    no_command = record { status = status.Words; report = None; text = usage_line; owed = usage };
+  }

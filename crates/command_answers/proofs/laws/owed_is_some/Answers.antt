@@ -1,0 +1,21 @@
+use Rattle.command_answers.proofs.SomethingOwedLemmas.{Exists, owed_is_some}
+use Rattle.command_answers.proofs.laws.owed_is_some.Goals as goal
+
+pub returns : goal.returns
+returns c =
+    let laws : Exists = record {
+      documents = c.documents_are_decided.ensures.decided;
+      fit = c.documents_fit.ensures;
+      sound = c.documents_are_sound.ensures;
+      rounds = c.rounds_leave_a_report.ensures;
+      goods = c.reached_is_good.ensures;
+      serials = c.one_list_is_serial.ensures;
+      replays = c.replay_is_decided.ensures;
+      measures = c.measures_are_decided.ensures;
+      stays = c.good_stays_connected.ensures;
+      samples = c.sample_is_some.ensures;
+      fits = c.sample_is_fit.ensures;
+      acts = c.changes_are_acts.ensures.acts;
+      decide = c.acts_decide.ensures.laws;
+    } in
+    owed_is_some laws
