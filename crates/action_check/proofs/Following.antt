@@ -7,11 +7,12 @@ use Rattle.text_tokens.specs.declared.refusal.RefusalKind.TheVariants.{UnknownNa
 use Rattle.amoebot_state.specs.Limits.{most_value}
 use Rattle.action_tree.specs.Trees.{Name, Literal, DirTerm, fixed, held, Guard, atom, negation, conjunction, disjunction, quantified, tested, comparison, Guards, no_guards, guard_then, Sum, no_terms, term_then, Term, number, own, of_port, count, direction, inner, mod6, PortExpr, bound, at_end, turned, first, Stmt, put, put_of, let_be, if_then, for_each, Stmts, no_stmts, stmt_then, Move, no_move, through, contract, Var, Action}
 use Rattle.action_tree.specs.Lines.{lines_in_dirterm, lines_in_guard, lines_in_guards, lines_in_sum, lines_in_term, lines_in_port, lines_in_stmt, lines_in_stmts, lines_in_move, lines_in_var, lines_in_action}
+use Rattle.action_tree.proofs.TextLines.{lines_follow_text}
 use Rattle.action_tree.proofs.Rising.{Picks, over, skip, keep, picks_both, picked_never_fall}
 use Rattle.action_check.specs.Limits.{most_literal, most_direction}
 use Rattle.action_check.specs.Scopes.{Scope, is_among, scope_with, scope_after, scope_after_all}
 use Rattle.action_check.specs.Faults.{blamed, var_faults, bound_faults, binding_faults, declared_faults, range_faults, dirterm_faults, guard_faults, guards_faults, sum_faults, term_faults, port_faults, stmt_faults, stmts_faults, move_faults, vars_faults, action_faults, actions_faults, at_start}
-use Rattle.action_check.specs.Laws.{FaultsFollowText}
+use Rattle.action_check.specs.Laws.{FaultsFollowText, FaultsOfTextNeverFall}
 
 abbrev lines : List Refusal → List ℕ
 lines rs = map (λ (r : Refusal). r.line) rs
@@ -129,3 +130,6 @@ actions_follow sc earlier (a ∷ more) = both (declared_follows earlier a.name) 
 
 pub faults_follow_text : FaultsFollowText
 faults_follow_text p up = picked_never_fall (both (vars_follow [] p.vars) (actions_follow (at_start p) [] p.actions)).picked up
+
+pub faults_of_text_never_fall : FaultsOfTextNeverFall
+faults_of_text_never_fall bytes at ts rest last p are text = faults_follow_text p (lines_follow_text bytes at ts rest last p are text)

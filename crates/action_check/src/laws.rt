@@ -1,7 +1,7 @@
 //! What holds of the definitions. The functions do nothing: their clauses are the laws.
 
 ghost use Rattle.action_check.specs.Laws.{FaultlessIsKept, KeptIsFaultless, RowsAreDerived, SamplesKeepRules};
-ghost use Rattle.action_check.specs.Laws.{FaultsIgnoreLines, RulesIgnoreLines, FaultsFollowText};
+ghost use Rattle.action_check.specs.Laws.{FaultsIgnoreLines, RulesIgnoreLines, FaultsFollowText, FaultsOfTextNeverFall};
 
 /// The list of faults is empty exactly where each part of the program is what an evaluation relies on.
 #[tactic(auto, using(crate::proofs::Whole::program_kept, crate::proofs::Whole::program_fine))]
@@ -25,5 +25,6 @@ pub fn faults_ignore_lines()
 
 /// The faults stand in the order of the text: where the lines of a program never fall, those of its faults never do.
 pub fn faults_follow_text()
-    ensures { FaultsFollowText }
+    ensures program { FaultsFollowText }
+    ensures text { FaultsOfTextNeverFall }
 {}
