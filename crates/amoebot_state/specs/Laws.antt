@@ -284,6 +284,11 @@ ShownAloneHasTheZone =
     (c : Config) (i j : ℕ) (b : Bot)
     → (bot_at (shown_alone (shown c i)) j ≡ Some b) ↔ ((bot_at c j ≡ Some b) × Contains (zone c i) (name.Body j))
 
+-- it has none with an id exactly where the body of that id is not in the zone
+abbrev pub NoneIsOutsideTheZone : Type 0
+NoneIsOutsideTheZone =
+    (c : Config) (i j : ℕ) → (bot_at (shown_alone (shown c i)) j ≡ None) ↔ (¬ Contains (zone c i) (name.Body j))
+
 -- a node that is the amoebot's own or adjacent to one has in it the occupant that it has in the one that shows it, in the area or not
 abbrev pub BesideHoldsTheSame : Type 0
 BesideHoldsTheSame =
