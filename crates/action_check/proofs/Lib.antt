@@ -8,3 +8,5 @@ pub mod Firsts
 pub mod FaultLoops
 pub mod DeclarationLemmas
 pub mod MaxesLemmas
+pub mod Lineless
+pub mod Following

@@ -9,4 +9,4 @@ mod scope;
 mod statement;
 
 pub use checked::{Checked, check};
-pub use laws::{faultless_is_kept, rows_are_derived};
+pub use laws::{faultless_is_kept, faults_follow_text, faults_ignore_lines, rows_are_derived};

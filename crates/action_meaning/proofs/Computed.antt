@@ -3,4 +3,4 @@ use Rattle.std.proofs.Common.{refl}
 use Rattle.action_meaning.specs.Laws.{ValuesAreComputed}
 
 pub values_are_computed : ValuesAreComputed
-values_are_computed = record { guards = refl; compared = refl; sums = refl; verdicts = refl }
+values_are_computed = record { guards = refl; compared = refl; sums = refl; verdicts = refl; unguarded = refl; guarded = refl }

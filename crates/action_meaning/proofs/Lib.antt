@@ -2,3 +2,4 @@
 pub mod Alongside
 pub mod Decided
 pub mod Computed
+pub mod Lineless

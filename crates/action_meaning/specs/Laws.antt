@@ -1,6 +1,8 @@
 -- What holds of the verdict of every program.
 use Rattle.std.specs.Prelude.{◌≡◌, ℕ, true, List, IsSome, map}
 use Rattle.std.specs.declared.result.Result.TheVariants.{Ok}
+use Rattle.text_tokens.specs.declared.refusal.Refusal.{Refusal}
+use Rattle.text_tokens.specs.Text.{Lexeme, AreTokens}
 use Rattle.amoebot_state.specs.declared.verdict.Entry.{Entry}
 use Rattle.amoebot_state.specs.declared.verdict.Verdict.{Verdict}
 use Rattle.amoebot_state.specs.Configs.{Config, IsValid, bot_at}
@@ -9,8 +11,13 @@ use Rattle.amoebot_state.specs.Steps.{Step, Run}
 use Rattle.model_ops.specs.Deciders.{DecidesByActs, DecidesGuarded}
 use Rattle.model_ops.specs.Laws.{StaysConnected}
 use Rattle.action_tree.specs.Trees.{Program}
+use Rattle.action_tree.specs.Lines.{without_lines}
+use Rattle.action_tree.specs.Writable.{is_writable}
+use Rattle.action_print.specs.Canon.{canon}
+use Rattle.action_print.specs.ReadsBack.{AreReadAs}
+use Rattle.action_check.specs.Faults.{AreRulesKept}
 use Rattle.action_meaning.specs.Verdicts.{verdict_on, verdict_shown}
-use Rattle.action_meaning.specs.Rows.{guard_in_shape, guard_rows, compared_in_shape, compared_rows, sum_in_shape, sum_rows, verdict_in_shape, verdict_rows}
+use Rattle.action_meaning.specs.Rows.{guard_in_shape, guard_rows, compared_in_shape, compared_rows, sum_in_shape, sum_rows, verdict_in_shape, verdict_rows, verdict_in_queue, queue_rows, guarded_in_queue, guarded_rows}
 
 -- on what a valid configuration shows to an amoebot of it, f decides the verdict of the program on that configuration; ids without an
 -- amoebot are allowed, and any greatest values
@@ -53,9 +60,30 @@ ProgramStepsStayConnected = (p : Program) → GuardedStepsStayConnected (verdict
 abbrev pub ProgramRunsStayConnected : Type 0
 ProgramRunsStayConnected = (p : Program) → GuardedRunsStayConnected (verdict_shown p) p
 
--- expressions and programs on one configuration have the values and the verdicts of the tables
+-- programs that are equal without their lines have the same verdict
+abbrev pub VerdictIgnoresLines : Type 0
+VerdictIgnoresLines =
+    (p q : Program)
+    → without_lines p ≡ without_lines q
+    → (c : Config) (i : ℕ)
+    → verdict_on p c i ≡ verdict_on q c i
+
+-- the canonical text of a program that keeps the rules is read as a program that keeps them too, and has the same verdict
+abbrev pub CanonMeansTheSame : Type 0
+CanonMeansTheSame =
+    (p : Program) (ts : List Lexeme) (last : Refusal)
+    → is_writable p ≡ true
+    → AreRulesKept p
+    → AreTokens (canon p) 0 ts last
+    → (read : AreReadAs p ts last)
+    × AreRulesKept read.program
+    × ((c : Config) (i : ℕ) → verdict_on read.program c i ≡ verdict_on p c i)
+
+-- expressions and programs on two configurations have the values and the verdicts of the tables
 pub record ValuesAreComputed : Type 0 where
   pub guards : map guard_in_shape guard_rows ≡ map (λ r. r.value) guard_rows
   pub compared : map (λ r. compared_in_shape r.0) compared_rows ≡ map (λ r. map Ok r.1) compared_rows
   pub sums : map sum_in_shape sum_rows ≡ map (λ r. r.value) sum_rows
   pub verdicts : map verdict_in_shape verdict_rows ≡ map (λ r. r.verdict) verdict_rows
+  pub unguarded : map verdict_in_queue queue_rows ≡ map (λ r. r.verdict) queue_rows
+  pub guarded : map guarded_in_queue guarded_rows ≡ map (λ r. r.verdict) guarded_rows

@@ -1,4 +1,4 @@
--- Expressions and programs on one small configuration, each with its value or its failure, written out by hand.
+-- Expressions and programs on two small configurations, each with its value or its failure, written out by hand.
 use Rattle.std.specs.Prelude.{ℕ, ℤ, pos, negsuc, Bool, true, false, List, [], ◌∷◌, codes}
 use Rattle.std.specs.declared.option.Option.TheVariants.{Some, None}
 use Rattle.std.specs.declared.result.Result.{Result}
@@ -14,7 +14,8 @@ use Rattle.amoebot_state.specs.declared.cell.CellName.TheVariants as name
 use Rattle.amoebot_state.specs.declared.cell.Cell.{Cell}
 use Rattle.amoebot_state.specs.declared.cell.Cell.TheVariants as cell
 use Rattle.amoebot_state.specs.declared.verdict.Failure.{Failure}
-use Rattle.amoebot_state.specs.declared.verdict.Failure.TheVariants.{NoPort, NoNeighbour, OutOfRange, NotContracted, NotExpanded, Occupied, NoChoice}
+use Rattle.amoebot_state.specs.declared.verdict.Failure.TheVariants.{NoPort, NoNeighbour, OutOfRange, NotContracted, NotExpanded, PeerNotExpanded, PeerNotContracted, Occupied, Edge, WouldSplit, NoChoice}
+use Rattle.amoebot_state.specs.declared.verdict.Moved.{Moved}
 use Rattle.amoebot_state.specs.declared.verdict.Moved.TheVariants as moved
 use Rattle.amoebot_state.specs.declared.verdict.Verdict.{Verdict}
 use Rattle.amoebot_state.specs.declared.verdict.Verdict.TheVariants as verdict
@@ -31,7 +32,7 @@ use Rattle.action_meaning.specs.Names.{Names}
 use Rattle.action_meaning.specs.Values.{guard_value, sum_value}
 use Rattle.action_meaning.specs.Verdicts.{verdict_on}
 
--- ---- the configuration, in the area 0 0 8 8
+-- ---- the first configuration, in the area 0 0 8 8
 
 abbrev node : ℕ → ℕ → Node
 node x y = record { x = pos x; y = pos y }
@@ -57,8 +58,30 @@ two = body (node 2 3) (node 2 3) 2 chir.Minus 7 0
 abbrev three : Bot
 three = body (node 1 1) (node 0 1) 1 chir.Plus 0 0
 
+abbrev of_bots : List Bot → Config
+of_bots bots = let area : Extent = record { x0 = pos 0; y0 = pos 0; w = 8; h = 8 } in config_of area (values 9 9) bots
+
 abbrev shape : Config
-shape = let area : Extent = record { x0 = pos 0; y0 = pos 0; w = 8; h = 8 } in config_of area (values 9 9) (zero ∷ one ∷ two ∷ three ∷ [])
+shape = of_bots (zero ∷ one ∷ two ∷ three ∷ [])
+
+-- ---- the second one, in the same area
+
+-- Amoebot 0 is expanded. Behind its port (tail, 3) is amoebot 1, contracted, and behind its port (head, 0) the tail of amoebot 2, which is
+-- expanded. Amoebot 3 is contracted and alone, in the corner of the area.
+abbrev middle : Bot
+middle = body (node 3 3) (node 2 3) 0 chir.Plus 4 6
+
+abbrev back : Bot
+back = body (node 1 3) (node 1 3) 2 chir.Minus 2 0
+
+abbrev front : Bot
+front = body (node 5 3) (node 4 3) 0 chir.Plus 7 0
+
+abbrev corner : Bot
+corner = body (node 7 7) (node 7 7) 0 chir.Plus 0 0
+
+abbrev queue : Config
+queue = of_bots (middle ∷ back ∷ front ∷ corner ∷ [])
 
 -- ---- parts of trees
 
@@ -284,15 +307,24 @@ pub record VerdictRow : Type 0 where
 abbrev decided : ℕ → List Action → Verdict → VerdictRow
 decided bot actions v = record { bot = bot; actions = actions; verdict = v }
 
--- of the program of the variables x and y, up to 9, with these actions and the guard off
-abbrev pub verdict_in_shape : VerdictRow → Verdict
-verdict_in_shape d =
+-- of the program of the variables x and y, up to 9, with these actions and the guard off or on
+abbrev verdict_in : Config → Bool → VerdictRow → Verdict
+verdict_in c guarded d =
     let program : Program = record {
-      guard = false;
+      guard = guarded;
       vars = record { name = x; max = literal 9 } ∷ record { name = y; max = literal 9 } ∷ [];
       actions = d.actions;
     } in
-    verdict_on program shape d.bot
+    verdict_on program c d.bot
+
+abbrev pub verdict_in_shape : VerdictRow → Verdict
+verdict_in_shape d = verdict_in shape false d
+
+abbrev pub verdict_in_queue : VerdictRow → Verdict
+verdict_in_queue d = verdict_in queue false d
+
+abbrev pub guarded_in_queue : VerdictRow → Verdict
+guarded_in_queue d = verdict_in queue true d
 
 abbrev set_x : ℕ → Stmt
 set_x n = tree.put x (sum (number n))
@@ -302,6 +334,13 @@ patched i b = (name.Body i, cell.Body b)
 
 abbrev change : ℕ → List (CellName × Cell) → Verdict
 change action cells = verdict.Change (record { action = action; moved = moved.None; patch = cells })
+
+-- of the one action, with a movement
+abbrev moving : Moved → List (CellName × Cell) → Verdict
+moving by cells = verdict.Change (record { action = 0; moved = by; patch = cells })
+
+abbrev moves : Move → List Action
+moves m = act yes [] m ∷ []
 
 abbrev pub verdict_rows : List VerdictRow
 verdict_rows =
@@ -317,6 +356,8 @@ verdict_rows =
     ∷ decided 0 (act yes [] tree.no_move ∷ []) (change 0 [])
     -- a write that fails ends the activation, with what was written before it
     ∷ decided 0 (act yes (set_x 1 ∷ set_x 10 ∷ []) tree.no_move ∷ []) (verdict.Failed OutOfRange)
+    ∷ decided 0 (act yes (tree.put x (terms (plus (number 0) ∷ less (tree.own x) ∷ [])) ∷ []) tree.no_move ∷ [])
+    (verdict.Failed OutOfRange)
     -- the port, then the sum, then the write
     ∷ decided 0 (act yes (tree.put_of (head 1) x (sum tree.inner) ∷ []) tree.no_move ∷ []) (verdict.Failed NotExpanded)
     ∷ decided 0 (act yes (tree.put_of (first_p Ports no) x (sum tree.inner) ∷ []) tree.no_move ∷ [])
@@ -348,6 +389,12 @@ verdict_rows =
     ∷ decided 0 (act yes [] (tree.through tree.pull (tree.at_end Head (tree.held y))) ∷ []) (verdict.Failed NoPort)
     ∷ decided 0 (act yes [] (tree.through tree.expand (head 0)) ∷ []) (verdict.Failed Occupied)
     ∷ decided 0 (act yes (set_x 1 ∷ []) (tree.contract Tail) ∷ []) (verdict.Failed NotExpanded)
+    ∷ decided 0 (moves (tree.through tree.expand (tail 1))) (verdict.Failed NoPort)
+    ∷ decided 0 (moves (tree.through tree.pull (head 0))) (verdict.Failed NotExpanded)
+    ∷ decided 3 (moves (tree.through tree.push (head 0))) (verdict.Failed NotContracted)
+    ∷ decided 0 (moves (tree.through tree.push (tail 0))) (verdict.Failed NoPort)
+    ∷ decided 0 (moves (tree.through tree.push (head 1))) (verdict.Failed NoNeighbour)
+    ∷ decided 0 (moves (tree.through tree.push (head 3))) (verdict.Failed PeerNotExpanded)
     -- a push, and a contraction that leaves the head
     ∷ decided 0 (act yes [] (tree.through tree.push (head 0)) ∷ [])
     (verdict.Change (record {
@@ -363,4 +410,45 @@ verdict_rows =
       moved = moved.Contract Head;
       patch = (name.Spot (node 1 1), cell.Spot None) ∷ patched 3 (body (node 0 1) (node 0 1) 1 chir.Plus 0 0) ∷ [];
     }))
+    ∷ []
+
+-- with the guard off, the second configuration may fall apart
+abbrev pub queue_rows : List VerdictRow
+queue_rows =
+    decided 0 (moves (tree.contract Tail))
+    (moving (moved.Contract Tail) ((name.Spot (node 2 3), cell.Spot None) ∷ patched 0 (body (node 3 3) (node 3 3) 0 chir.Plus 4 6) ∷ []))
+    ∷ decided 0 (moves (tree.contract Head))
+    (moving (moved.Contract Head) ((name.Spot (node 3 3), cell.Spot None) ∷ patched 0 (body (node 2 3) (node 2 3) 0 chir.Plus 4 6) ∷ []))
+    ∷ []
+
+-- amoebot 0 leaves the node of its tail, and amoebot 1 enters it
+abbrev pulled : Verdict
+pulled =
+    moving (moved.Pull (port Tail 3))
+    ((name.Spot (node 2 3), cell.Spot (Some 1)) ∷ patched 0 (body (node 3 3) (node 3 3) 0 chir.Plus 4 6)
+    ∷ patched 1 (body (node 2 3) (node 1 3) 2 chir.Minus 2 0) ∷ [])
+
+-- with the guard on, it does not
+abbrev pub guarded_rows : List VerdictRow
+guarded_rows =
+    -- on both sides of the node that is left is a neighbour; and what was written before is not
+    decided 0 (moves (tree.contract Tail)) (verdict.Failed WouldSplit)
+    ∷ decided 0 (act yes (set_x 1 ∷ []) (tree.contract Head) ∷ []) (verdict.Failed WouldSplit)
+    -- on one side alone
+    ∷ decided 2 (moves (tree.contract Head))
+    (moving (moved.Contract Head) ((name.Spot (node 5 3), cell.Spot None) ∷ patched 2 (body (node 4 3) (node 4 3) 0 chir.Plus 7 0) ∷ []))
+    ∷ decided 1 (moves (tree.contract Head)) (verdict.Failed NotExpanded)
+    -- a pull, which the guard lets pass
+    ∷ decided 0 (moves (tree.through tree.pull (tail 3))) pulled
+    ∷ decided 0 (moves (tree.through tree.pull (head 3))) (verdict.Failed NoPort)
+    ∷ decided 0 (moves (tree.through tree.pull (head 1))) (verdict.Failed NoNeighbour)
+    ∷ decided 0 (moves (tree.through tree.pull (head 0))) (verdict.Failed PeerNotContracted)
+    ∷ decided 3 (moves (tree.through tree.expand (head 0))) (verdict.Failed Edge)
+    -- the ports of an expanded amoebot: those of the head, then those of the tail
+    ∷ decided 0 (moves (tree.through tree.pull (first_p Ports (tree.negation (tree.tested tree.peer_expanded port_p))))) pulled
+    ∷ decided 0 (act yes (tree.for_each p Ports yes (stmts (tree.put_of port_p y (sum (dir port_p)) ∷ set_x 1 ∷ [])) ∷ [])
+    tree.no_move ∷ []) (change 0 (patched 0 (record middle { mem = values 1 6 }) ∷ patched 1 (record back { mem = values 2 3 }) ∷ []))
+    -- the edge is at the neighbour's tail, and at a contracted one's head
+    ∷ decided 0 (act (tree.tested tree.peer_head (head 0)) [] tree.no_move ∷ act (tree.tested tree.peer_head (tail 3)) [] tree.no_move ∷ [])
+    (change 1 [])
     ∷ []

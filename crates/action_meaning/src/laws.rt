@@ -2,6 +2,7 @@
 
 ghost use Rattle.action_meaning.specs.Laws.{VerdictIsShown, ProgramsDecideByActs, GuardedProgramsDecideGuarded};
 ghost use Rattle.action_meaning.specs.Laws.{ProgramStepsStayConnected, ProgramRunsStayConnected, ValuesAreComputed};
+ghost use Rattle.action_meaning.specs.Laws.{VerdictIgnoresLines, CanonMeansTheSame};
 
 /// The verdict on what a valid configuration shows is the verdict on that configuration, ids without an amoebot allowed.
 #[tactic(auto, using(crate::proofs::Decided::verdict_is_shown))]
@@ -23,7 +24,18 @@ pub fn program_runs_stay_connected()
     ensures runs { ProgramRunsStayConnected }
 {}
 
-/// Values, failures and verdicts of small expressions and programs on one configuration, of each form at least one.
+/// Programs that are equal without their lines have the same verdict on each amoebot of each configuration.
+#[tactic(auto, using(crate::proofs::Lineless::verdict_ignores_lines))]
+pub fn verdict_ignores_lines()
+    ensures { VerdictIgnoresLines }
+{}
+
+/// The canonical text of a program that keeps the rules is read as a program that keeps them too, and has the same verdict.
+pub fn canon_means_the_same()
+    ensures { CanonMeansTheSame }
+{}
+
+/// Values, failures and verdicts of small expressions and programs on two configurations, of each form at least one.
 #[tactic(auto, using(crate::proofs::Computed::values_are_computed))]
 pub fn values_are_computed()
     ensures { ValuesAreComputed }

@@ -13,5 +13,7 @@ pub mod StatementLaws
 pub mod ProgramLaws
 pub mod NameLemmas
 pub mod Fine
+pub mod Rising
 pub mod ProductionsLemmas
+pub mod TextLines
 pub mod ExamplesLemmas

@@ -18,7 +18,6 @@ use Rattle.action_tree.specs.declared.expression.Part.{Part, roll-Part}
 use Rattle.action_tree.specs.declared.expression.Term.{Term}
 use Rattle.action_tree.specs.declared.expression.Guard.TheOpen.{Guard-F, PortExpr-F, Term-F, Part-F, Sum-F}
 use Rattle.action_tree.specs.declared.expression.Guard.TheFolds.{fold-roll-Guard, fold-roll-PortExpr, fold-roll-Term, fold-roll-Part, fold-roll-Sum, fold_out-Part, fold_out-Sum}
-use Rattle.action_tree.specs.declared.statement.Stmt.{Stmt}
 use Rattle.action_tree.specs.declared.statement.Stmt.TheVariants as stmt
 use Rattle.action_tree.specs.declared.statement.Stmt.TheOpen.{Stmt-F}
 use Rattle.action_tree.specs.declared.statement.Stmt.TheFolds.{fold-roll-Stmt}

@@ -1,5 +1,6 @@
 -- What holds of the grammar of programs.
 use Rattle.std.specs.Prelude.{◌≡◌, ℕ, true, not, ◌&&◌, List, map}
+use Rattle.std.specs.List.Sorted.{IsNonDecreasing}
 use Rattle.text_tokens.specs.declared.token.TokenKind.TheVariants.{Word}
 use Rattle.text_tokens.specs.declared.refusal.Refusal.{Refusal}
 use Rattle.text_tokens.specs.Text.{Lexeme, AreTokens}
@@ -8,6 +9,7 @@ use Rattle.text_tokens.specs.Lawful.{IsText, IsDecided}
 use Rattle.action_tree.specs.Trees.{Program}
 use Rattle.action_tree.specs.Words.{reserved, is_reserved}
 use Rattle.action_tree.specs.Writable.{is_writable}
+use Rattle.action_tree.specs.Lines.{lines_in_program}
 use Rattle.action_tree.specs.declared.role.Role.TheVariants.{AName}
 use Rattle.action_tree.specs.Roles.{words, is_a}
 use Rattle.action_tree.specs.Expressions.{IsExpr}
@@ -40,3 +42,11 @@ BytesGiveWritable =
     → AreTokens bytes at ts last
     → IsText IsProgram ts p rest
     → is_writable p ≡ true
+
+-- the lines of the names and numbers of a program that bytes give never fall
+abbrev pub LinesFollowText : Type 0
+LinesFollowText =
+    (bytes : List ℕ) (at : ℕ) (ts rest : List Lexeme) (last : Refusal) (p : Program)
+    → AreTokens bytes at ts last
+    → IsText IsProgram ts p rest
+    → IsNonDecreasing (lines_in_program p)

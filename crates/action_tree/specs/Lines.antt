@@ -1,5 +1,6 @@
--- Trees without their lines.
-use Rattle.std.specs.Prelude.{map}
+-- Trees without their lines, and the lines of a tree.
+use Rattle.std.specs.Prelude.{ℕ, List, [], ◌∷◌, ◌++◌, map}
+use Rattle.std.specs.List.{flat_map}
 use Rattle.action_tree.specs.Trees.{Name, Literal, DirTerm, fixed, held, Guard, atom, negation, conjunction, disjunction, quantified, tested, comparison, Guards, no_guards, guard_then, Sum, no_terms, term_then, Term, number, own, of_port, count, direction, inner, mod6, PortExpr, bound, at_end, turned, first, Stmt, put, put_of, let_be, if_then, for_each, Stmts, no_stmts, stmt_then, Move, no_move, through, contract, Var, Action, Program}
 
 abbrev pub bare_name : Name → Name
@@ -76,3 +77,68 @@ bare_action a = record {
 -- each line is 0
 abbrev pub without_lines : Program → Program
 without_lines p = record { guard = p.guard; vars = map bare_var p.vars; actions = map bare_action p.actions }
+
+-- ---- the lines of all names and numbers, in the order of the text
+
+abbrev pub lines_in_dirterm : DirTerm → List ℕ
+lines_in_dirterm (fixed n) = n.line ∷ []
+lines_in_dirterm (held v) = v.line ∷ []
+
+abbrev mutual
+  pub lines_in_guard : Guard → List ℕ
+  lines_in_guard (atom a) = []
+  lines_in_guard (negation g) = lines_in_guard g
+  lines_in_guard (conjunction gs) = lines_in_guards gs
+  lines_in_guard (disjunction gs) = lines_in_guards gs
+  lines_in_guard (quantified q v s g) = v.line ∷ lines_in_guard g
+  lines_in_guard (tested t p) = lines_in_port p
+  lines_in_guard (comparison a c b) = lines_in_sum a ++ lines_in_sum b
+
+  pub lines_in_guards : Guards → List ℕ
+  lines_in_guards no_guards = []
+  lines_in_guards (guard_then g gs) = lines_in_guard g ++ lines_in_guards gs
+
+  pub lines_in_sum : Sum → List ℕ
+  lines_in_sum no_terms = []
+  lines_in_sum (term_then minus t s) = lines_in_term t ++ lines_in_sum s
+
+  pub lines_in_term : Term → List ℕ
+  lines_in_term (number n) = n.line ∷ []
+  lines_in_term (own v) = v.line ∷ []
+  lines_in_term (of_port p v) = lines_in_port p ++ v.line ∷ []
+  lines_in_term (count v s g) = v.line ∷ lines_in_guard g
+  lines_in_term (direction side p) = lines_in_port p
+  lines_in_term inner = []
+  lines_in_term (mod6 s) = lines_in_sum s
+
+  pub lines_in_port : PortExpr → List ℕ
+  lines_in_port (bound v) = v.line ∷ []
+  lines_in_port (at_end e d) = lines_in_dirterm d
+  lines_in_port (turned p n) = lines_in_port p ++ n.line ∷ []
+  lines_in_port (first v s g) = v.line ∷ lines_in_guard g
+
+abbrev mutual
+  pub lines_in_stmt : Stmt → List ℕ
+  lines_in_stmt (put v s) = v.line ∷ lines_in_sum s
+  lines_in_stmt (put_of p v s) = lines_in_port p ++ v.line ∷ lines_in_sum s
+  lines_in_stmt (let_be v p) = v.line ∷ lines_in_port p
+  lines_in_stmt (if_then g ss es) = lines_in_guard g ++ (lines_in_stmts ss ++ lines_in_stmts es)
+  lines_in_stmt (for_each v s g ss) = v.line ∷ (lines_in_guard g ++ lines_in_stmts ss)
+
+  pub lines_in_stmts : Stmts → List ℕ
+  lines_in_stmts no_stmts = []
+  lines_in_stmts (stmt_then s ss) = lines_in_stmt s ++ lines_in_stmts ss
+
+abbrev pub lines_in_move : Move → List ℕ
+lines_in_move no_move = []
+lines_in_move (through m p) = lines_in_port p
+lines_in_move (contract e) = []
+
+abbrev pub lines_in_var : Var → List ℕ
+lines_in_var v = v.name.line ∷ v.max.line ∷ []
+
+abbrev pub lines_in_action : Action → List ℕ
+lines_in_action a = a.name.line ∷ (lines_in_guard a.guard ++ (lines_in_stmts a.body ++ lines_in_move a.moved))
+
+abbrev pub lines_in_program : Program → List ℕ
+lines_in_program p = flat_map lines_in_var p.vars ++ flat_map lines_in_action p.actions

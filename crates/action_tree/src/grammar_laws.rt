@@ -4,7 +4,7 @@ ghost use Rattle.text_tokens.specs.Lawful.{Exact, IsDecided};
 ghost use Rattle.action_tree.specs.Programs.{IsProgram};
 ghost use Rattle.action_tree.specs.ProgramReaders.{a_program};
 ghost use Rattle.action_tree.specs.GrammarLaws.{WordsAreReserved, NamesAreNotReserved, ExpressionsAreDecided};
-ghost use Rattle.action_tree.specs.GrammarLaws.{StatementsAreDecided, TextsGiveWritable, BytesGiveWritable};
+ghost use Rattle.action_tree.specs.GrammarLaws.{StatementsAreDecided, TextsGiveWritable, BytesGiveWritable, LinesFollowText};
 
 /// Of any tokens the grammar says one thing: they are read as one program, or have one first fault. So does the grammar of
 /// expressions, and that of statements.
@@ -29,4 +29,9 @@ pub fn words_are_reserved()
 pub fn texts_give_writable_trees()
     ensures tokens { TextsGiveWritable }
     ensures bytes { BytesGiveWritable }
+{}
+
+/// The lines of a program that a text gives never fall, in the order of its names and numbers.
+pub fn lines_follow_text()
+    ensures { LinesFollowText }
 {}

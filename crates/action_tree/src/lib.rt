@@ -13,7 +13,8 @@ mod word;
 pub use examples::{faults_are_found, limits_are_kept, samples_are_read};
 pub use expression::{Cmp, DirTerm, Guard, Part, PortExpr, PortSet, Sum, Term};
 pub use grammar_laws::{
-    program_is_decided, program_is_exact, texts_give_writable_trees, words_are_reserved,
+    lines_follow_text, program_is_decided, program_is_exact, texts_give_writable_trees,
+    words_are_reserved,
 };
 pub use laws::{limits_are_sharp, samples_are_writable, words_are_tokens, writable_is_given};
 pub use program::{Action, Program, Var};

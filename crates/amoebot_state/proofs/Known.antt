@@ -19,16 +19,16 @@ use Rattle.amoebot_state.specs.declared.cell.Cell.{Cell}
 use Rattle.amoebot_state.specs.declared.cell.Cell.TheVariants as cell
 use Rattle.amoebot_state.specs.Pairs.{Pairs, cell_of, cell_value, body_in}
 use Rattle.amoebot_state.specs.Configs.{Config, bot_at, occupant, value}
-use Rattle.amoebot_state.specs.Zones.{distinct, zone_nodes, others, zone_of, zone, shown, shown_cell}
+use Rattle.amoebot_state.specs.Zones.{distinct, zone_nodes, others, zone_of, zone, shown, shown_cell, shown_alone}
 use Rattle.amoebot_state.specs.Storage.{with_new}
 use Rattle.amoebot_state.specs.Known.{IsFront, read_on, known_from, known_zone, next_cell}
-use Rattle.amoebot_state.specs.Laws.{ShownListsZone, ShownHoldsValues, KnownIsFront, NextIsInZone, FrontGrows, NextIsNew, KnownGrowsAtItsEnd, WholeZoneIsShown, FrontStands}
+use Rattle.amoebot_state.specs.Laws.{ShownListsZone, ShownHoldsValues, KnownIsFront, NextIsInZone, FrontGrows, NextIsNew, KnownGrowsAtItsEnd, WholeZoneIsShown, FrontStands, NoneIsOutsideTheZone}
 use Rattle.amoebot_state.proofs.Options.{there_is, is_some-option_map}
 use Rattle.amoebot_state.proofs.Distinct.{without, taken_up, taken_from_none}
 use Rattle.amoebot_state.proofs.Fronts.{front_rest, front_take, front_takes, front_kept, front_map, front_behind, front_left, front_next, front_push, Has-from_slice_get, slice_get_left, take-filter_map, map-filter_map, filter_map-none}
-use Rattle.amoebot_state.proofs.ShownAlone.{body_shown}
+use Rattle.amoebot_state.proofs.ShownAlone.{body_shown, alone_has, alone_only}
 use Rattle.amoebot_state.proofs.Zones.{zone_is}
-use Rattle.amoebot_state.proofs.Members.{Has, here, later, has_cases, not_in_none, map_has, Has-map, Has-append_left, Has-append_right, Has-append_cases, filter_map-same, filter_map_has, All-from_Has, Contains-from_Has}
+use Rattle.amoebot_state.proofs.Members.{Has, here, later, has_cases, not_in_none, map_has, Has-map, Has-append_left, Has-append_right, Has-append_cases, filter_map-same, filter_map_has, All-from_Has, Contains-from_Has, Has-from_Contains}
 use Rattle.amoebot_state.proofs.Occupants.{occupant_covers}
 use Rattle.amoebot_state.proofs.Once.{Once, once_parts, Once-distinct, zone_once, same_spot, same_body, spot_is_no_body}
 use Rattle.amoebot_state.proofs.Owns.{covered}
@@ -301,3 +301,20 @@ front_stands c d i (p ∷ rest) area front holds =
   where
     no_front : {A : Type 0} (x : A) (xs : List A) → x ∷ xs ≡ [] → ⊥
     no_front x xs e = cc
+
+-- ---- which amoebots are not shown
+
+not_absent : (c : Config) (i j : ℕ) → Has (name.Body j) (zone c i) → bot_at (shown_alone (shown c i)) j ≡ None → ⊥
+not_absent c i j has none = elim (bot_at c i) as (λ o. bot_at c i ≡ o → ⊥) [
+  | None ↦ λ e. not_in_none (subst (Has (name.Body j)) (no_zone c i e) has)
+  | Some b ↦ λ e. let (x, is) = cell_there c i b (name.Body j) e has in none-some x (sym (ap (option_map cell.Body) (sym (alone_has c i j has) ∙ none)) ∙ is)
+] refl
+
+pub none_is_outside_the_zone : NoneIsOutsideTheZone
+none_is_outside_the_zone c i j = (
+  (λ none listed. not_absent c i j (Has-from_Contains (zone c i) listed) none),
+  (λ outside. elim (bot_at (shown_alone (shown c i)) j) as (λ o. bot_at (shown_alone (shown c i)) j ≡ o → bot_at (shown_alone (shown c i)) j ≡ None) [
+    | None ↦ λ e. e
+    | Some b ↦ λ e. absurd (outside (Contains-from_Has (zone c i) (alone_only c i j b e).1))
+  ] refl),
+)

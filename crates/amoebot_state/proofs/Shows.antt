@@ -19,12 +19,13 @@ use Rattle.amoebot_state.specs.Configs.{Config, IsValid, bot_at, bot_of, blank, 
 use Rattle.amoebot_state.specs.Refusals.{IsBotInRange}
 use Rattle.amoebot_state.specs.Zones.{Shown, IsShown, IsFound, shown, shown_cell, zone, zone_nodes, others, shown_alone}
 use Rattle.amoebot_state.specs.Pairs.{spot_in}
-use Rattle.amoebot_state.proofs.Members.{Has, here, later, has_cases, not_in_none, length-filter_map-le}
+use Rattle.amoebot_state.specs.Laws.{ShownAloneHasTheZone, BesideHoldsTheSame}
+use Rattle.amoebot_state.proofs.Members.{Has, here, later, has_cases, not_in_none, length-filter_map-le, Contains-from_Has, Has-from_Contains}
 use Rattle.amoebot_state.proofs.Options.{there_is, none_if}
 use Rattle.amoebot_state.proofs.Occupants.{plain_bot, outside_empty}
 use Rattle.amoebot_state.proofs.Directions.{beside_in_zone}
 use Rattle.amoebot_state.proofs.Zones.{length-zone_nodes-le, length-zone_of-le}
-use Rattle.amoebot_state.proofs.ShownAlone.{alone_own, alone_valid, alone_occupant}
+use Rattle.amoebot_state.proofs.ShownAlone.{alone_own, alone_valid, alone_occupant, alone_has, alone_only}
 use Rattle.amoebot_state.proofs.Zones.{zone_is, spot_in_zone, zone_inside}
 
 -- the cells of nodes and of bodies
@@ -135,3 +136,17 @@ is_shown c i a maxes cells e m x = λ t. record { area = e t; maxes = m t; bot =
 pub plain_if : (s : Shown) → IsShown s → (r : Option (Bor Bot)) (i : ℕ) → option_copied r ≡ bot_at (shown_alone s) i → IfSome r (λ b. IsBotInRange b.now)
 plain_if s is None i e = tt
 plain_if s is (Some b) i e = plain_bot (shown_alone s) (shown_valid s is) i b.now (sym e)
+
+-- ---- what is shown alone, and the configuration that shows it
+
+pub shown_alone_has_the_zone : ShownAloneHasTheZone
+shown_alone_has_the_zone c i j b = (
+  (λ e. let only = alone_only c i j b e in (only.0, Contains-from_Has (zone c i) only.1)),
+  (λ there. alone_has c i j (Has-from_Contains (zone c i) there.1) ∙ there.0),
+)
+
+pub beside_holds_the_same : BesideHoldsTheSame
+beside_holds_the_same c i b v valid at beside = elim (cases_Bool (is_in c.area v)) [
+  | inl inside ↦ alone_occupant c i b v valid at (beside_in_zone c.area b v (valid.each i b at).rot beside inside)
+  | inr outside ↦ sym (outside_empty (shown_alone (shown c i)) (alone_valid c i valid) v (none_if _ outside)) ∙ outside_empty c valid v (none_if _ outside)
+]

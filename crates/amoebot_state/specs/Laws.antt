@@ -277,6 +277,27 @@ ShownAloneHoldsTheSame =
     → Contains (zone c i) n
     → value (shown_alone (shown c i)) n ≡ value c n
 
+-- an amoebot is in the configuration that has what is shown and no other amoebot exactly where it is in the one that shows it, and its
+-- body is in the zone
+abbrev pub ShownAloneHasTheZone : Type 0
+ShownAloneHasTheZone =
+    (c : Config) (i j : ℕ) (b : Bot)
+    → (bot_at (shown_alone (shown c i)) j ≡ Some b) ↔ ((bot_at c j ≡ Some b) × Contains (zone c i) (name.Body j))
+
+-- it has none with an id exactly where the body of that id is not in the zone
+abbrev pub NoneIsOutsideTheZone : Type 0
+NoneIsOutsideTheZone =
+    (c : Config) (i j : ℕ) → (bot_at (shown_alone (shown c i)) j ≡ None) ↔ (¬ Contains (zone c i) (name.Body j))
+
+-- a node that is the amoebot's own or adjacent to one has in it the occupant that it has in the one that shows it, in the area or not
+abbrev pub BesideHoldsTheSame : Type 0
+BesideHoldsTheSame =
+    (c : Config) (i : ℕ) (b : Bot) (v : Node)
+    → IsValid c
+    → bot_at c i ≡ Some b
+    → IsTrue (is_beside b v)
+    → occupant (shown_alone (shown c i)) v ≡ occupant c v
+
 -- in a valid configuration a node is occupied exactly where it is the head or the tail of an amoebot of it
 abbrev pub OccupiedIsOccupant : Type 0
 OccupiedIsOccupant =

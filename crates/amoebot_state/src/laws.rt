@@ -9,6 +9,7 @@ ghost use Rattle.amoebot_state.specs.Laws.{StepHasOneResult, RunHasOneLast, Same
 ghost use Rattle.amoebot_state.specs.Laws.{OrderedPatchIsDiff, ValidIsFaultless, FaultlessIsValid};
 ghost use Rattle.amoebot_state.specs.Laws.{FirstFaultIsUnique, FaultlessHasNoFault, ShownAloneIsValid};
 ghost use Rattle.amoebot_state.specs.Laws.{ShownAloneHoldsTheSame, OccupiedIsOccupant, PortLeadsBeside};
+ghost use Rattle.amoebot_state.specs.Laws.{ShownAloneHasTheZone, NoneIsOutsideTheZone, BesideHoldsTheSame};
 ghost use Rattle.amoebot_state.specs.Examples.{SmallFaults};
 ghost use Rattle.amoebot_state.specs.Laws.{SerialTurnIsUnique};
 
@@ -191,6 +192,21 @@ pub fn shown_alone_is_valid()
 /// Each cell of a zone holds in that configuration what it holds in the one that shows it.
 pub fn shown_alone_holds_the_same()
     ensures { ShownAloneHoldsTheSame }
+{}
+
+/// An amoebot is in that configuration exactly where it is in the one that shows it and its body is in the zone.
+pub fn shown_alone_has_the_zone()
+    ensures { ShownAloneHasTheZone }
+{}
+
+/// It has none with an id exactly where the body of that id is not in the zone.
+pub fn none_is_outside_the_zone()
+    ensures { NoneIsOutsideTheZone }
+{}
+
+/// A node that is the amoebot's own or adjacent to one has in it the same occupant, or none, in the area or not.
+pub fn beside_holds_the_same()
+    ensures { BesideHoldsTheSame }
 {}
 
 /// A node of a valid configuration is occupied exactly where it is the head or the tail of an amoebot.

@@ -13,7 +13,7 @@ use Rattle.amoebot_state.specs.Zones.{Shown, shown}
 use Rattle.amoebot_state.specs.Steps.{Step, Run, HasPatchedWorld, change_of}
 use Rattle.amoebot_state.proofs.Patched.{step_has_one_result}
 use Rattle.serial_model.specs.Replays.{IsNoStep, IsFirstNoStep}
-use Rattle.serial_model.specs.Laws.{FirstNoStepIsUnique, RunHasOnlySteps, RunOrFirstNoStep}
+use Rattle.serial_model.specs.Laws.{FirstNoStepIsUnique, RunHasOnlySteps, RunOrFirstNoStep, NoStepIsAnotherVerdict}
 use Rattle.serial_model.proofs.SameChanges.{same_or_not}
 
 -- behind a step, a first place that is no step is one place on
@@ -85,6 +85,15 @@ run_or_first_no_step f start (e ∷ es) next valid = elim (step_or_not f start e
   ]
   | inr none ↦ inr (0, record { entry = e; there = refl; world = start; before = refl; none = none })
 ]
+
+-- what is decided leads somewhere, so where no step does the verdict is another
+pub no_step_is_another_verdict : NoStepIsAnotherVerdict
+no_step_is_another_verdict f old e next valid there = (
+  (λ none decided.
+      let led = next old e.bot (change_of e) (record { valid = valid; there = there; decided = decided }) in
+      none led.0 (record { there = there; decided = decided; patched = led.1 })),
+  (λ other new step. other step.decided),
+)
 
 -- ---- an example
 

@@ -1,11 +1,12 @@
 -- What follows from the definitions alone.
-use Rattle.std.specs.Prelude.{◌≡◌, ◌⊎◌, ℕ, List}
+use Rattle.std.specs.Prelude.{◌≡◌, ◌≢◌, ◌↔◌, ◌⊎◌, ℕ, List, IsSome}
 use Rattle.amoebot_state.specs.declared.verdict.Entry.{Entry}
 use Rattle.amoebot_state.specs.declared.verdict.Verdict.{Verdict}
-use Rattle.amoebot_state.specs.Configs.{Config, IsValid}
-use Rattle.amoebot_state.specs.Zones.{Shown}
-use Rattle.amoebot_state.specs.Steps.{Run, HasPatchedWorld}
-use Rattle.serial_model.specs.Replays.{IsFirstNoStep}
+use Rattle.amoebot_state.specs.declared.verdict.Verdict.TheVariants as verdict
+use Rattle.amoebot_state.specs.Configs.{Config, IsValid, bot_at}
+use Rattle.amoebot_state.specs.Zones.{Shown, shown}
+use Rattle.amoebot_state.specs.Steps.{Run, HasPatchedWorld, change_of}
+use Rattle.serial_model.specs.Replays.{IsNoStep, IsFirstNoStep}
 
 -- at most one place is the first that is no step
 abbrev pub FirstNoStepIsUnique : Type 0
@@ -29,3 +30,13 @@ RunOrFirstNoStep =
     → HasPatchedWorld f
     → IsValid start
     → ((last : Config) × Run f start entries last) ⊎ ((place : ℕ) × IsFirstNoStep f start entries place)
+
+-- where each change that f decides leads somewhere, an entry of an amoebot of a valid configuration is no step exactly where the
+-- verdict on that amoebot is not a change with the entry's action, movement and patch
+abbrev pub NoStepIsAnotherVerdict : Type 0
+NoStepIsAnotherVerdict =
+    (f : Shown → Verdict) (old : Config) (e : Entry)
+    → HasPatchedWorld f
+    → IsValid old
+    → IsSome (bot_at old e.bot)
+    → IsNoStep f old e ↔ (f (shown old e.bot) ≢ verdict.Change (change_of e))

@@ -1,4 +1,4 @@
-ghost use Rattle.serial_model.specs.Laws.{FirstNoStepIsUnique, RunHasOnlySteps, RunOrFirstNoStep};
+ghost use Rattle.serial_model.specs.Laws.{FirstNoStepIsUnique, RunHasOnlySteps, RunOrFirstNoStep, NoStepIsAnotherVerdict};
 
 /// At most one place is the first that is no step.
 pub fn first_no_step_is_unique()
@@ -13,4 +13,10 @@ pub fn run_has_only_steps()
 /// Entries are a run, or have a first place that is no step.
 pub fn run_or_first_no_step()
     ensures { RunOrFirstNoStep }
+{}
+
+/// An entry of an amoebot of a valid configuration is no step exactly where the verdict on that amoebot is not a change with the
+/// entry's action, movement and patch.
+pub fn no_step_is_another_verdict()
+    ensures { NoStepIsAnotherVerdict }
 {}

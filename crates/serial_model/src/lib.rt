@@ -9,7 +9,9 @@ mod replays;
 
 pub use amoebot_state::{Turned, serial_turn_is_unique};
 use amoebot_state::{Decider, Entry, Verdict, World, has_next};
-pub use laws::{first_no_step_is_unique, run_has_only_steps, run_or_first_no_step};
+pub use laws::{
+    first_no_step_is_unique, no_step_is_another_verdict, run_has_only_steps, run_or_first_no_step,
+};
 pub use replays::{Differs, replay};
 use std::marker::Model;
 
