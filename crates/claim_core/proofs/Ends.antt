@@ -12,18 +12,20 @@ use Rattle.amoebot_state.specs.declared.cell.Cell.{Cell}
 use Rattle.amoebot_state.specs.declared.cell.Cell.TheVariants as cell
 use Rattle.amoebot_state.specs.declared.verdict.Entry.{Entry}
 use Rattle.amoebot_state.specs.declared.verdict.Verdict.{Verdict}
+use Rattle.amoebot_state.specs.Pairs.{Pairs}
 use Rattle.amoebot_state.specs.Configs.{Config, bot_at, blank}
 use Rattle.amoebot_state.specs.Zones.{Shown}
 use Rattle.amoebot_state.specs.Steps.{Step, Run}
 use Rattle.amoebot_state.proofs.Patched.{same_config}
 use Rattle.claim_core.specs.declared.marks.Mark.{Mark}
 use Rattle.claim_core.specs.declared.marks.Mark.TheVariants as mark
-use Rattle.claim_core.specs.declared.state.Phase.TheVariants.{Ended}
+use Rattle.claim_core.specs.declared.state.Phase.{Phase}
+use Rattle.claim_core.specs.declared.state.Phase.TheVariants.{Claim, Refusing, Looking, Taking, Committing, Releasing, Ended}
 use Rattle.claim_core.specs.declared.state.Caller.{Caller}
-use Rattle.claim_core.specs.Good.{Order, TurnOk, AreMarks, place_of, place_after}
+use Rattle.claim_core.specs.Good.{Order, TurnOk, AreMarks, AreMarksSoFar, place_of, place_after}
 use Rattle.claim_core.specs.Cells.{number, at, values_of}
 use Rattle.claim_core.specs.Machine.{Setup, State, after}
-use Rattle.claim_core.specs.Soundness.{IsSetup, IsTurn, TurnOkSoFar, Sound, marks_so_far, marked}
+use Rattle.claim_core.specs.Soundness.{IsTurn, HasFront, TurnOkSoFar, Sound, marks_so_far, marked, names}
 use Rattle.claim_core.specs.Reached.{HaveEnded, HasValues}
 use Rattle.claim_core.specs.Laws.{ReachedIsGood, StateHasOneReport, EntryIsDecided}
 use Rattle.claim_core.proofs.Numbers.{value_of_body}
@@ -57,16 +59,21 @@ state_has_one_report g s one two first second =
     let bots = same_bots one.world two.world area (first.world.size ∙ sym second.world.size) (λ i. first.world.ids i ∙ sym (second.world.ids i)) (first.world.values ∙ sym second.world.values) in
     (same_config one.world two.world area maxes bots, first.first ∙ sym second.first, first.entries ∙ sym second.entries, first.marks ∙ sym second.marks)
 
-module _ (g : Setup) (ok : IsSetup g) (s : State) (sound : Sound g s) (ended : HaveEnded s) where
-  has_ended : (c : ℕ) (k : Caller) → slice_get s.callers c ≡ Some k → k.phase ≡ Ended
-  has_ended c k there = subst (λ (j : Caller). j.phase ≡ Ended) (Rattle.std.proofs.lemmas.Option.get_or_from_slice_get s.callers c k k there) (ended c k (slice_get_within s.callers c k there))
+-- a caller has at most as many marks as turns
+at_most : (turns t : ℕ) (p : Phase) → IsTurn turns p t → marked p t ≤ turns
+at_most turns t Claim is = omega (arith, is)
+at_most turns t (Refusing n u) is = omega (arith, is)
+at_most turns t (Looking l) is = omega (arith, is)
+at_most turns t (Taking change) is = omega (arith, is)
+at_most turns t (Committing change) is = omega (arith, is)
+at_most turns t Releasing is = omega (arith, is)
+at_most turns t Ended is = omega (arith, is)
 
-  all_marked : (c : ℕ) (k : Caller) → slice_get s.callers c ≡ Some k → length k.marks ≡ g.lists.turns
-  all_marked c k there =
-      let is = sound.each c k there in
-      let e = has_ended c k there in
-      is.counted ∙ ap (λ p. marked p k.turn) e ∙ subst (λ p. IsTurn g.lists.turns p k.turn) e is.turn
+each_marks : (s : State) (P : List Mark → Type 0) → ((c : ℕ) (k : Caller) → slice_get s.callers c ≡ Some k → P k.marks) → All P (map (λ (k : Caller). k.marks) s.callers)
+each_marks s P each = All-map P (λ (k : Caller). k.marks) s.callers (λ i d inside. each i (get_or s.callers i d) (slice_get-get_or s.callers i d inside))
 
+-- where nobody holds a cell, what each mark says is so
+module _ (g : Setup) (s : State) (sound : Sound g s) (free : (c : ℕ) (k : Caller) → slice_get s.callers c ≡ Some k → k.held ≡ []) where
   -- the other turn has its mark
   settled : (c t : ℕ) (m : Mark) → TurnOkSoFar g s c t m → TurnOk g.verdict g.world g.lists s.journal (marks_so_far g s) c t m
   settled c t (mark.Done place) is = is
@@ -80,23 +87,35 @@ module _ (g : Setup) (ok : IsSetup g) (s : State) (sound : Sound g s) (ended : H
       turn = is.1.turn;
       bot = is.1.of;
       in_zone = elim is.1.holds [
-        | inl holds ↦ absurd (let all = all_marked by_caller holds.record_of holds.there in let none = holds.unmarked in let lt = is.1.turn in omega arith)
+        | inl holds ↦ absurd (let none : length (names holds.record_of.held) ≡ 0 = ap (λ (h : Pairs). length (names h)) (free by_caller holds.record_of holds.there) in let inside = holds.held.1 in omega arith)
         | inr held ↦ (held.told, held.marked, held.in_zone)
       ];
     },
   )
 
-  each_marks : (P : List Mark → Type 0) → ((c : ℕ) (k : Caller) → slice_get s.callers c ≡ Some k → P k.marks) → All P (map (λ (k : Caller). k.marks) s.callers)
-  each_marks P each = All-map P (λ (k : Caller). k.marks) s.callers (λ i d inside. each i (get_or s.callers i d) (slice_get-get_or s.callers i d inside))
-
-  pub are_marks : AreMarks g.verdict g.world g.lists s.journal (marks_so_far g s)
-  are_marks = record {
+  pub are_marks_so_far : AreMarksSoFar g.verdict g.world g.lists s.journal (marks_so_far g s)
+  are_marks_so_far = record {
     callers = length-map s.callers (λ (k : Caller). k.marks) ∙ sound.callers;
-    turns = each_marks (λ own. length own ≡ g.lists.turns) all_marked;
+    turns = each_marks s (λ own. length own ≤ g.lists.turns) (λ c k there. let is = sound.each c k there in let few = at_most g.lists.turns k.turn k.phase is.turn in omega (arith, few, is.counted));
     right = λ c t m has. let by = told_by g s c t m has in settled c t m ((sound.each c by.0 by.1).right t m by.2);
     committed = sound.committed;
-    rising = each_marks (AllPairs (λ one later. place_after one ≤ place_of later)) (λ c k there. (sound.each c k there).rising);
+    rising = each_marks s (AllPairs (λ one later. place_after one ≤ place_of later)) (λ c k there. (sound.each c k there).rising);
   }
+
+module _ (g : Setup) (s : State) (sound : Sound g s) (ended : HaveEnded s) where
+  has_ended : (c : ℕ) (k : Caller) → slice_get s.callers c ≡ Some k → k.phase ≡ Ended
+  has_ended c k there = subst (λ (j : Caller). j.phase ≡ Ended) (Rattle.std.proofs.lemmas.Option.get_or_from_slice_get s.callers c k k there) (ended c k (slice_get_within s.callers c k there))
+
+  all_marked : (c : ℕ) (k : Caller) → slice_get s.callers c ≡ Some k → length k.marks ≡ g.lists.turns
+  all_marked c k there =
+      let is = sound.each c k there in
+      let e = has_ended c k there in
+      is.counted ∙ ap (λ p. marked p k.turn) e ∙ subst (λ p. IsTurn g.lists.turns p k.turn) e is.turn
+
+  pub are_marks : AreMarks g.verdict g.world g.lists s.journal (marks_so_far g s)
+  are_marks =
+      let so_far = are_marks_so_far g s sound (λ c k there. subst (HasFront g s sound.last c k) (has_ended c k there) (sound.each c k there).front) in
+      record { callers = so_far.callers; turns = each_marks s (λ own. length own ≡ g.lists.turns) all_marked; right = so_far.right; committed = so_far.committed; rising = so_far.rising }
 
 pub reached_is_good : ReachedIsGood
 reached_is_good g ok report reached =
@@ -104,7 +123,7 @@ reached_is_good g ok report reached =
     let sound = always g ok reached.steps in
     let is = reached.left in
     let world = same_world g s report.world sound.last is.world (run_framed g.verdict g.world sound.last s.journal sound.valid sound.run) sound.values in
-    let marks = are_marks g ok s sound reached.ended in
+    let marks = are_marks g s sound reached.ended in
     record {
       valid = ok.valid;
       first = is.first;

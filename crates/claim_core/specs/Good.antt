@@ -96,6 +96,20 @@ pub record AreMarks (f : Shown → Verdict) (first : Config) (lists : CallerList
       → mark_of_turn marks e.caller e.turn ≡ Some (mark.Done place)
   pub rising : All (AllPairs (λ one later. place_after one ≤ place_of later)) marks.marks
 
+-- the same of the turns that callers have made so far, of each caller the first ones: each mark is right, Busy included, each entry is
+-- its turn's, and places never fall
+pub record AreMarksSoFar (f : Shown → Verdict) (first : Config) (lists : CallerLists) (entries : List Entry)
+    (marks : MarkLists) : Type 0 where
+  pub callers : length marks.marks ≡ length lists.ids
+  pub turns : All (λ own. length own ≤ lists.turns) marks.marks
+  pub right : (caller turn : ℕ) (m : Mark)
+      → mark_of_turn marks caller turn ≡ Some m
+      → TurnOk f first lists entries marks caller turn m
+  pub committed : (place : ℕ) (e : Entry)
+      → slice_get entries place ≡ Some e
+      → mark_of_turn marks e.caller e.turn ≡ Some (mark.Done place)
+  pub rising : All (AllPairs (λ one later. place_after one ≤ place_of later)) marks.marks
+
 -- the journal is a run of the model from the valid world w0 to the report's world, its entries are those of turns of the lists
 -- in their order, and the marks are those of the turns
 pub record Good (f : Shown → Verdict) (w0 : Config) (lists : CallerLists) (report : Report) : Type 0 where

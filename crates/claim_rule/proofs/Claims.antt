@@ -30,7 +30,7 @@ use Rattle.claim_rule.specs.declared.views.Terms.{Terms}
 use Rattle.claim_rule.specs.Views.{Content, Seated, view_of, own, setup_of_terms}
 use Rattle.claim_rule.specs.Stands.{turns_left, AreWords, AreHomes, KeepsRule}
 use Rattle.claim_rule.specs.Plays.{IsPlaced, IsKnown, IsOthers, tried, IsToTry, Claims}
-use Rattle.claim_rule.specs.Nexts.{GoesOn, IsAt, ClaimIsNext}
+use Rattle.claim_rule.specs.Nexts.{GoesOn, IsAt}
 use Rattle.claim_rule.proofs.Tables.{words_written, tag_written, homes_kept}
 use Rattle.claim_rule.proofs.Moves.{sound, caller_at, counts, moves, journal_stays}
 use Rattle.claim_rule.proofs.NextsLemmas.{tags_count, turns_same, allowed}
@@ -165,6 +165,3 @@ module _ {D : Type 0} (verdict : D → Shown → Verdict) (z : Terms D) (ok : Is
   claim_allowed slots seat me i t one to =
       allowed verdict z ok slots seat me i (λ x. either (eqb x 0) t x) (λ m. IsToTry verdict i t m.0) (Claims verdict (step slots i 0 t home.none)) one to
       (λ s steps r table fact. claim_goes table i t slots me.1 fact)
-
-pub claim_is_next : {D : Type 0} (verdict : D → Shown → Verdict) (z : Terms D) → ClaimIsNext verdict z
-claim_is_next verdict z s steps seat i t slots r out is to = claim_goes is i t slots out to

@@ -1,6 +1,6 @@
 -- What a field leaves once all its seats are back.
 use Rattle.std.proofs.Common.{◌≡◌, ◌≢◌, ℕ, ◌+◌, ◌<◌, List, [], ◌∷◌, drop, length, Option, Some, None, ap, sym, refl, subst, ◌∙◌, arith}
-use Rattle.std.specs.Prelude.{slice_get, IsSome}
+use Rattle.std.specs.Prelude.{slice_get, IsSome, IfSome}
 use Rattle.std.specs.List.{All}
 use Rattle.std.proofs.lemmas.Option.{same_Some, slice_get-get_or, slice_get_within, get_or_from_slice_get}
 use Rattle.std.proofs.lemmas.Bool.{false≢true}
@@ -29,9 +29,9 @@ use Rattle.claim_rule.specs.declared.views.Record.{Record}
 use Rattle.claim_rule.specs.declared.views.Terms.{Terms}
 use Rattle.claim_rule.specs.Views.{Content, Seated, view_of, setup_of_terms}
 use Rattle.claim_rule.specs.Stands.{IsCoreJournal, HasTaken, IsRecord, Stands, KeepsRule}
-use Rattle.claim_rule.specs.Tokens.{FieldOf, IsField, Token, number_in, record_in}
+use Rattle.claim_rule.specs.Tokens.{FieldOf, Token, number_in, record_in, doing}
 use Rattle.claim_rule.specs.Seating.{SeatsOf, AreOf, AreSeats}
-use Rattle.claim_rule.specs.Closing.{ClosesAs}
+use Rattle.claim_rule.specs.Closing.{ClosesAs, HoldNothing}
 use Rattle.claim_rule.specs.Internal.{HaveAll}
 
 -- the entries after the one whose patch was applied lead on to the same last world
@@ -104,8 +104,7 @@ module _ {D : Type 0} (verdict : D → Shown → Verdict) (z : Terms D) (ok : Is
           let last_has : HasValues g core sound.last = record { rest = fr.rest; size = fr.size; ids = fr.ids; values = sym sound.values } in
           record { steps = steps; callers = λ c t e. (number c t e, its c t e); first = is.first; entries = is.entries; values = subst (HasValues g core) same last_has }
 
-module _ {D : Type 0} (verdict : D → Shown → Verdict) (own f : FieldOf D) (f_is : own ≡ f) (d : D) (w : Config) (keeps : IsField verdict own d w)
-    (rest : Seated D) (table : TableId) (items : List (Option (Token D))) (are : AreSeats rest table items) (s : SeatsOf D)
+module _ {D : Type 0} (verdict : D → Shown → Verdict) (f : FieldOf D) (rest : Seated D) (table : TableId) (items : List (Option (Token D))) (are : AreSeats rest table items) (s : SeatsOf D)
     (s_is : (let t : SeatsOf D = record { table = table; terms = rest.0.terms; seats = items } in t) ≡ s) (of : AreOf f s) where
   same_terms : are.terms ≡ f.terms
   same_terms = same_Some are.terms f.terms (ap (λ (m : Seated D). m.0.terms) (sym are.dealt) ∙ ap (λ (t : SeatsOf D). t.terms) s_is ∙ of.terms)
@@ -114,16 +113,13 @@ module _ {D : Type 0} (verdict : D → Shown → Verdict) (own f : FieldOf D) (f
   pub seats_of : (c : ℕ) (t : Token D) → slice_get items c ≡ Some (Some t) → (t.table ≡ f.table) × (t.view.terms ≡ Some f.terms)
   seats_of c t e = let is = are.each c t e in (is.0 ∙ ap (λ (u : SeatsOf D). u.table) s_is ∙ of.table, is.1 ∙ ap (λ (y : Terms D). Some y) same_terms)
 
-  module _ (full : All (λ o. IsSome o) s.seats) (n : ℕ) (n_is : n ≡ cells w) (id : ℕ) (m : Seated D) (gathered : (rs : List Record) × (m ≡ (view_of f.terms rs, [])) × HaveAll items rs)
-      (words : List ℕ) (xs : List Slot) (end : Final (Seen (KeepsRule verdict own.terms) id m.0) words xs) where
-    terms_are : own.terms ≡ f.terms
-    terms_are = ap (λ (h : FieldOf D). h.terms) f_is
+  module _ (ok : IsSetup (setup_of_terms verdict f.terms)) (full : All (λ o. IsSome o) s.seats) (id : ℕ) (m : Seated D) (gathered : (rs : List Record) × (m ≡ (view_of f.terms rs, [])) × HaveAll items rs)
+      (words : List ℕ) (xs : List Slot) (end : Final (Seen (KeepsRule verdict f.terms) id m.0) words xs) where
+    mine : get_elem? end.0.views id ≡ home.some (view_of f.terms gathered.0)
+    mine = end.1.1 ∙ ap (λ (k : Seated D). home.some k.0) gathered.1
 
-    mine : get_elem? end.0.views id ≡ home.some (view_of own.terms gathered.0)
-    mine = end.1.1 ∙ ap (λ (k : Seated D). home.some k.0) gathered.1 ∙ ap (λ y. home.some (view_of y gathered.0)) (sym terms_are)
-
-    count : length items ≡ length own.terms.lists.ids
-    count = are.count ∙ ap (λ (y : Terms D). length y.lists.ids) (same_terms ∙ sym terms_are)
+    count : length items ≡ length f.terms.lists.ids
+    count = are.count ∙ ap (λ (y : Terms D). length y.lists.ids) same_terms
 
     items_are : items ≡ s.seats
     items_are = ap (λ (t : SeatsOf D). t.seats) s_is
@@ -134,24 +130,28 @@ module _ {D : Type 0} (verdict : D → Shown → Verdict) (own f : FieldOf D) (f
     number : (c : ℕ) (t : Token D) → slice_get items c ≡ Some (Some t) → number_in t ≡ c
     number c t e = (are.each c t e).2
 
-    place_is : cells own.terms.world ≡ n
-    place_is = ap (λ (c : Config). cells c) keeps.world ∙ sym n_is
-
     -- the journal is in its slot,
-    pub journal_there : (j : Kept) × (get_elem? xs n ≡ home.some (slot.Journal j))
+    pub journal_there : (j : Kept) × (get_elem? xs (cells f.terms.world) ≡ home.some (slot.Journal j))
     journal_there =
-        let j = journal_in verdict own.terms keeps.run end.0 end.1.0.0 end.1.0.1 id gathered.0 mine items count all_there number gathered.2 xs end.4 in
-        (j.0, ap (get_elem? xs) (sym place_is) ∙ j.1)
+        let j = journal_in verdict f.terms ok end.0 end.1.0.0 end.1.0.1 id gathered.0 mine items count all_there number gathered.2 xs end.4 in
+        (j.0, j.1)
 
     -- its entries are a run,
-    pub entries_run : (j : Kept) → get_elem? xs n ≡ home.some (slot.Journal j) → (last : Config) × Run (verdict d) w j.entries last
-    entries_run j e =
-        let is = runs verdict own.terms keeps.run end.0 end.1.0.0 end.1.0.1 id gathered.0 mine items count all_there number gathered.2 xs end.4 j (ap (get_elem? xs) place_is ∙ e) in
-        (is.0, subst (λ (p : D × Config). Run (verdict p.0) p.1 j.entries is.0) (λ i. (keeps.decider i, keeps.world i)) is.1)
+    pub entries_run : (j : Kept) → get_elem? xs (cells f.terms.world) ≡ home.some (slot.Journal j) → (last : Config) × Run (verdict f.terms.decider) f.terms.world j.entries last
+    entries_run j e = runs verdict f.terms ok end.0 end.1.0.0 end.1.0.1 id gathered.0 mine items count all_there number gathered.2 xs end.4 j e
+
+    -- there are as many seats as callers,
+    pub listed : length s.seats ≡ length f.terms.lists.ids
+    listed = ap (λ (os : List (Option (Token D))). length os) (sym items_are) ∙ count
+
+    -- they hold nothing,
+    pub rests : HoldNothing s.seats
+    rests = subst (λ (os : List (Option (Token D))). HoldNothing os) items_are (λ c d lt.
+        let t = some_there items c lt all_there in
+        subst (λ o. IfSome o (λ token. (doing token).held ≡ [])) (sym (get_or_from_slice_get items c (Some t.0) d t.1)) (gathered.2 c t.0 t.1).3)
 
     -- and with its last world the field has ended as it does
-    pub closes : (j : Kept) (world : Config) → get_elem? xs n ≡ home.some (slot.Journal j) → Run (verdict d) w j.entries world → ClosesAs verdict f.terms s.seats world j
+    pub closes : (j : Kept) (world : Config) → get_elem? xs (cells f.terms.world) ≡ home.some (slot.Journal j) → Run (verdict f.terms.decider) f.terms.world j.entries world → ClosesAs verdict f.terms s.seats world j
     closes j world e run =
-        subst (λ (p : Terms D × List (Option (Token D))). ClosesAs verdict p.0 p.1 world j) (λ i. (terms_are i, items_are i))
-        (closed verdict own.terms keeps.run end.0 end.1.0.0 end.1.0.1 id gathered.0 mine items count all_there number gathered.2 xs end.4 j world (ap (get_elem? xs) place_is ∙ e)
-        (subst (λ (p : D × Config). Run (verdict p.0) p.1 j.entries world) (λ i. (sym keeps.decider i, sym keeps.world i)) run))
+        subst (λ os. ClosesAs verdict f.terms os world j) items_are
+        (closed verdict f.terms ok end.0 end.1.0.0 end.1.0.1 id gathered.0 mine items count all_there number gathered.2 xs end.4 j world e run)

@@ -43,7 +43,7 @@ use Rattle.claim_rule.specs.declared.views.Terms.{Terms}
 use Rattle.claim_rule.specs.Views.{Content, Seated, view_of, own, setup_of_terms}
 use Rattle.claim_rule.specs.Stands.{turns_left, IsCoreJournal, HasTaken, HasCommitted, AreWords, AreHomes, KeepsRule}
 use Rattle.claim_rule.specs.Commits.{commit_at, with_commit, IsToCommit, stored}
-use Rattle.claim_rule.specs.Nexts.{GoesOn, IsAt, CommitIsNext}
+use Rattle.claim_rule.specs.Nexts.{GoesOn, IsAt}
 use Rattle.claim_rule.proofs.Tables.{journal_written}
 use Rattle.claim_rule.proofs.Moves.{sound, mine, caller_at, not_last, moved, taken_else}
 use Rattle.claim_rule.proofs.NextsLemmas.{allowed}
@@ -203,6 +203,3 @@ module _ {D : Type 0} (verdict : D → Shown → Verdict) (z : Terms D) (ok : Is
   commit_allowed slots seat me x one to =
       allowed verdict z ok slots seat me (cells z.world) (λ _. x) (IsToCommit verdict (cells z.world) x) (λ m _. stored verdict (step slots (cells z.world) x 0 home.none) m x) one to
       (λ s steps r table fact. commit_goes table x me.1 fact slots)
-
-pub commit_is_next : {D : Type 0} (verdict : D → Shown → Verdict) (z : Terms D) → CommitIsNext verdict z
-commit_is_next verdict z s steps seat x slots r out is to = commit_goes is x out to slots

@@ -1,8 +1,8 @@
 -- Words, values at home and views stand for at most one state.
-use Rattle.std.proofs.Common.{◌≡◌, ◌≢◌, ℕ, ◌+◌, ◌<◌, ◌≤◌, List, [], ◌∷◌, length, drop, Option, Some, None, inl, inr, ap, sym, refl, subst, ◌∙◌, arith, eq-eqb, ne_eqb}
-use Rattle.std.specs.Prelude.{slice_get, if◌then◌else◌}
+use Rattle.std.proofs.Common.{◌≡◌, ◌≢◌, ℕ, ◌+◌, ◌<◌, ◌≤◌, List, [], ◌∷◌, length, drop, map, Option, Some, None, inl, inr, ap, sym, refl, subst, ◌∙◌, arith, eq-eqb, ne_eqb}
+use Rattle.std.specs.Prelude.{slice_get, slice_index, is_some, if◌then◌else◌}
 use Rattle.std.specs.List.{All}
-use Rattle.std.proofs.lemmas.Bool.{cases_eq}
+use Rattle.std.proofs.lemmas.Bool.{cases_eq, false≢true}
 use Rattle.std.proofs.lemmas.List.{ext_get_or}
 use Rattle.std.proofs.lemmas.List.Elements.{All-head, All-tail, All-weaker}
 use Rattle.std.proofs.lemmas.Option.{none-some, same_Some, slice_get_within}
@@ -19,9 +19,11 @@ use Rattle.claim_core.specs.Reached.{entries_of}
 use Rattle.claim_core.specs.Soundness.{IsSetup, Sound}
 use Rattle.claim_core.proofs.Places.{same_by_get}
 use Rattle.claim_core.proofs.Sounds.{always}
+use Rattle.claim_rule.specs.declared.views.Record.{Record}
 use Rattle.claim_rule.specs.declared.views.Terms.{Terms}
+use Rattle.claim_rule.specs.declared.views.View.{View}
 use Rattle.claim_rule.specs.Views.{Content, setup_of_terms}
-use Rattle.claim_rule.specs.Stands.{HasTaken, Stands}
+use Rattle.claim_rule.specs.Stands.{HasTaken, HasRecord, Stands}
 use Rattle.claim_rule.specs.Laws.{StateIsDetermined}
 use Rattle.claim_rule.proofs.NextsLemmas.{tags_count}
 
@@ -63,69 +65,100 @@ same_entries n p (e ∷ es) (f ∷ fs) few few' same =
       | inr not ↦ absurd (let n = not_before e.caller (p + 1) p e fs (ap (λ ys. slice_get ys 0) (sym (other_first e.caller p f fs not)) ∙ first) in omega (arith, n))
     ]
 
-module _ {D : Type 0} (verdict : D → Shown → Verdict) (z : Terms D) (s : Content D) (ok : IsSetup (setup_of_terms verdict z)) where
+-- two records are of one caller, with the same entries
+pub record AreAlike (r q : Record) : Type 0 where
+  pub number : r.number ≡ q.number
+  pub committed : r.committed ≡ q.committed
+
+-- and say the same of the state, apart from the room of a journal that was taken
+pub record SayTheSame (r q : Record) : Type 0 where
+  pub alike : AreAlike r q
+  pub caller : r.caller ≡ q.caller
+  pub taken : is_some r.taken ≡ is_some q.taken
+
+pub itself : (r : Record) → SayTheSame r r
+itself r = record { alike = record { number = refl; committed = refl }; caller = refl; taken = refl }
+
+-- each record of the one views has such a one in the others
+abbrev pub HasTwins : {D : Type 0} → (Record → Record → Type 0) → List (View D) → List (View D) → Type 0
+HasTwins Twin views others = (seat place : ℕ) (r : Record) → HasRecord views seat place r → (seat' place' : ℕ) × (q : Record) × HasRecord others seat' place' q × Twin r q
+
+module _ {D : Type 0} (verdict : D → Shown → Verdict) (z : Terms D) (s s' : Content D) (ok : IsSetup (setup_of_terms verdict z)) where
   abbrev g : Setup
   g = setup_of_terms verdict z
-
-  same_callers : (one two : State) (c : ℕ) → Stands verdict z s one → Stands verdict z s two → c < length z.lists.ids → slice_get one.callers c ≡ slice_get two.callers c
-  same_callers one two c st st' lt =
-      let r = st.views.some c lt in
-      subst (λ n. slice_get one.callers n ≡ slice_get two.callers n) r.4 ((st.views.each r.0 r.1 r.2 r.3).caller ∙ sym (st'.views.each r.0 r.1 r.2 r.3).caller)
-
-  same_own : (one two : State) (c : ℕ) → Stands verdict z s one → Stands verdict z s two → c < length z.lists.ids → entries_of c 0 one.journal ≡ entries_of c 0 two.journal
-  same_own one two c st st' lt =
-      let r = st.views.some c lt in
-      subst (λ n. entries_of n 0 one.journal ≡ entries_of n 0 two.journal) r.4 (sym (st.views.each r.0 r.1 r.2 r.3).committed.entries ∙ (st'.views.each r.0 r.1 r.2 r.3).committed.entries)
-
-  same_taken : (one two : State) (c : ℕ) (o : Option Kept) → HasTaken g one c o → HasTaken g two c o → one.holder ≡ Some c → two.holder ≡ Some c
-  same_taken one two c None has has' holds = absurd (has holds)
-  same_taken one two c (Some j) has has' holds = has'.0
-
-  holds_too : (one two : State) (c : ℕ) → Stands verdict z s one → Stands verdict z s two → c < length z.lists.ids → one.holder ≡ Some c → two.holder ≡ Some c
-  holds_too one two c st st' lt holds =
-      let r = st.views.some c lt in
-      let has = st.views.each r.0 r.1 r.2 r.3 in
-      let has' = st'.views.each r.0 r.1 r.2 r.3 in
-      subst (λ n. two.holder ≡ Some n) r.4 (same_taken one two r.2.number r.2.taken has.committed.taken has'.committed.taken (holds ∙ ap (λ n. Some n) (sym r.4)))
-
-  -- a holder is a caller
-  is_caller : (one : State) (c : ℕ) → Sound g one → one.holder ≡ Some c → c < length z.lists.ids
-  is_caller one c sound holds = let k = sound.holder c holds in let n = slice_get_within one.callers c k.0 k.1 in omega (arith, n, sound.callers)
-
-  same_holder : (one two : State) → Sound g one → Sound g two → Stands verdict z s one → Stands verdict z s two → one.holder ≡ two.holder
-  same_holder one two sound sound' st st' = by one.holder two.holder refl refl
-    where
-      by : (a b : Option ℕ) → one.holder ≡ a → two.holder ≡ b → one.holder ≡ two.holder
-      by None None e f = e ∙ sym f
-      by None (Some c) e f = absurd (none-some c (sym e ∙ holds_too two one c st' st (is_caller two c sound' f) f))
-      by (Some c) b e f = e ∙ sym (holds_too one two c st st' (is_caller one c sound e) e)
 
   listed : (one : State) → Sound g one → All (λ (e : Entry). e.caller < length z.lists.ids) one.journal
   listed one sound = All-weaker (IsListed z.lists) (λ (e : Entry). e.caller < length z.lists.ids) (λ e is. is.caller) one.journal sound.order.listed
 
-  same_state : (one two : State) → Sound g one → Sound g two → Stands verdict z s one → Stands verdict z s two → one ≡ two
-  same_state one two sound sound' st st' = λ i. record { tags = tags i; values = values i; journal = journal i; holder = holder i; callers = callers i }
+  -- the records of callers determine the journal,
+  pub same_journal : (one two : State) → Sound g one → Sound g two → Stands verdict z s one → Stands verdict z s' two → HasTwins AreAlike s.views s'.views → one.journal ≡ two.journal
+  same_journal one two sound sound' st st' twins = same_entries (length z.lists.ids) 0 one.journal two.journal (listed one sound) (listed two sound') own
     where
-      journal : one.journal ≡ two.journal
-      journal = same_entries (length z.lists.ids) 0 one.journal two.journal (listed one sound) (listed two sound') (λ c lt. same_own one two c st st' lt)
+      own : (c : ℕ) → c < length z.lists.ids → entries_of c 0 one.journal ≡ entries_of c 0 two.journal
+      own c lt =
+          let r = st.views.some c lt in
+          let q = twins r.0 r.1 r.2 r.3 in
+          subst (λ n. entries_of n 0 one.journal ≡ entries_of n 0 two.journal) r.4 (
+          sym (st.views.each r.0 r.1 r.2 r.3).committed.entries ∙ ap (map Rattle.claim_core.specs.Reached.placed) q.4.committed
+          ∙ (st'.views.each q.0 q.1 q.2 q.3).committed.entries ∙ ap (λ n. entries_of n 0 two.journal) (sym q.4.number)
+          )
+
+  -- and so its last world
+  pub same_last : (one two : State) (sound : Sound g one) (sound' : Sound g two) → one.journal ≡ two.journal → sound.last ≡ sound'.last
+  same_last one two sound sound' same = run_has_one_last g.verdict g.world one.journal sound.last sound'.last sound.run (subst (λ es. Run g.verdict g.world es sound'.last) (sym same) sound'.run)
+
+  -- with the words they determine the state
+  pub same_state : (one two : State) → Sound g one → Sound g two → Stands verdict z s one → Stands verdict z s' two → s.words ≡ s'.words → HasTwins SayTheSame s.views s'.views → one ≡ two
+  same_state one two sound sound' st st' words twins = λ i. record { tags = tags i; values = values i; journal = journal i; holder = holder i; callers = callers i }
+    where
+      same_callers : (c : ℕ) → c < length z.lists.ids → slice_get one.callers c ≡ slice_get two.callers c
+      same_callers c lt =
+          let r = st.views.some c lt in
+          let q = twins r.0 r.1 r.2 r.3 in
+          subst (λ n. slice_get one.callers n ≡ slice_get two.callers n) r.4 ((st.views.each r.0 r.1 r.2 r.3).caller ∙ ap (λ k. Some k) q.4.caller ∙ sym (st'.views.each q.0 q.1 q.2 q.3).caller ∙ ap (slice_get two.callers) (sym q.4.alike.number))
+
+      holds_too : (a b : State) (c : ℕ) (o p : Option Kept) → HasTaken g a c o → HasTaken g b c p → is_some o ≡ is_some p → a.holder ≡ Some c → b.holder ≡ Some c
+      holds_too a b c None p has has' same holds = absurd (has holds)
+      holds_too a b c (Some j) None has has' same holds = absurd (false≢true (sym same))
+      holds_too a b c (Some j) (Some i) has has' same holds = has'.0
+
+      same_holds : (c : ℕ) → c < length z.lists.ids → (one.holder ≡ Some c → two.holder ≡ Some c) × (two.holder ≡ Some c → one.holder ≡ Some c)
+      same_holds c lt =
+          let r = st.views.some c lt in
+          let q = twins r.0 r.1 r.2 r.3 in
+          let has = subst (λ n. HasTaken g one n r.2.taken) r.4 (st.views.each r.0 r.1 r.2 r.3).committed.taken in
+          let has' = subst (λ n. HasTaken g two n q.2.taken) (sym q.4.alike.number ∙ r.4) (st'.views.each q.0 q.1 q.2 q.3).committed.taken in
+          (holds_too one two c r.2.taken q.2.taken has has' q.4.taken, holds_too two one c q.2.taken r.2.taken has' has (sym q.4.taken))
+
+      -- a holder is a caller
+      is_caller : (a : State) (c : ℕ) → Sound g a → a.holder ≡ Some c → c < length z.lists.ids
+      is_caller a c is holds = let k = is.holder c holds in let n = slice_get_within a.callers c k.0 k.1 in omega (arith, n, is.callers)
 
       holder : one.holder ≡ two.holder
-      holder = same_holder one two sound sound' st st'
+      holder = by one.holder two.holder refl refl
+        where
+          by : (a b : Option ℕ) → one.holder ≡ a → two.holder ≡ b → one.holder ≡ two.holder
+          by None None e f = e ∙ sym f
+          by None (Some c) e f = absurd (none-some c (sym e ∙ (same_holds c (is_caller two c sound' f)).1 f))
+          by (Some c) b e f = e ∙ sym ((same_holds c (is_caller one c sound e)).0 e)
+
+      journal : one.journal ≡ two.journal
+      journal = same_journal one two sound sound' st st' (λ d j r has. let q = twins d j r has in (q.0, q.1, q.2, q.3, q.4.alike))
 
       callers : one.callers ≡ two.callers
-      callers = same_by_get one.callers two.callers (sound.callers ∙ sym sound'.callers) (λ c k e. let n = slice_get_within two.callers c k e in same_callers one two c st st' (omega (arith, n, sound'.callers)) ∙ e)
+      callers = same_by_get one.callers two.callers (sound.callers ∙ sym sound'.callers) (λ c k e. let n = slice_get_within two.callers c k e in same_callers c (omega (arith, n, sound'.callers)) ∙ e)
 
       tags : one.tags ≡ two.tags
       tags =
           let many = (tags_count g ok one sound).0 in
           let many' = (tags_count g ok two sound').0 in
-          ext_get_or 0 one.tags two.tags (many ∙ sym many') (λ k lt. let inside : k < cells z.world = omega (arith, lt, many) in sym (st.words.cell k inside) ∙ st'.words.cell k inside)
-
-      last : sound.last ≡ sound'.last
-      last = run_has_one_last g.verdict g.world one.journal sound.last sound'.last sound.run (subst (λ es. Run g.verdict g.world es sound'.last) (sym journal) sound'.run)
+          ext_get_or 0 one.tags two.tags (many ∙ sym many')
+          (λ k lt. let inside : k < cells z.world = omega (arith, lt, many) in sym (st.words.cell k inside) ∙ ap (λ (ws : List ℕ). slice_index ws k) words ∙ st'.words.cell k inside)
 
       values : one.values ≡ two.values
-      values = sound.values ∙ ap values_of last ∙ sym sound'.values
+      values = sound.values ∙ ap values_of (same_last one two sound sound' journal) ∙ sym sound'.values
 
 pub state_is_determined : {D : Type 0} (verdict : D → Shown → Verdict) → StateIsDetermined verdict
-state_is_determined verdict z s one two ok st st' = same_state verdict z s ok (after (setup_of_terms verdict z) one) (after (setup_of_terms verdict z) two) (always (setup_of_terms verdict z) ok one) (always (setup_of_terms verdict z) ok two) st st'
+state_is_determined verdict z s one two ok st st' =
+    let g = setup_of_terms verdict z in
+    same_state verdict z s s ok (after g one) (after g two) (always g ok one) (always g ok two) st st' refl (λ d j r has. (d, j, r, has, itself r))

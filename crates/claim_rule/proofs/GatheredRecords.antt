@@ -10,7 +10,7 @@ use Rattle.claim_core.proofs.Places.{get-append_left}
 use Rattle.claim_rule.specs.declared.views.Record.{Record}
 use Rattle.claim_rule.specs.declared.views.Terms.{Terms}
 use Rattle.claim_rule.specs.Views.{Seated, view_of, own}
-use Rattle.claim_rule.specs.Tokens.{Token, record_in}
+use Rattle.claim_rule.specs.Tokens.{Token, record_in, doing}
 use Rattle.claim_rule.specs.Internal.{joined_view}
 
 -- each seat is still there or has its record at the first seat
@@ -19,7 +19,7 @@ pub record Gathered {D : Type 0} (z : Terms D) (all left : List (Option (Token D
   pub has : m ≡ (view_of z records, [])
   pub gone : List (Option (Token D))
   pub parts : all ≡ left ++ gone
-  pub each : (c : ℕ) (t : Token D) → slice_get all c ≡ Some (Some t) → (c < length left) ⊎ ((place : ℕ) × (slice_get records place ≡ Some (record_in t)) × ((record_in t).taken ≡ None))
+  pub each : (c : ℕ) (t : Token D) → slice_get all c ≡ Some (Some t) → (c < length left) ⊎ ((place : ℕ) × (slice_get records place ≡ Some (record_in t)) × ((record_in t).taken ≡ None) × ((doing t).held ≡ []))
 
 module _ {D : Type 0} (z : Terms D) where
   -- what a seat with one record knows and has
@@ -50,7 +50,7 @@ module _ {D : Type 0} (z : Terms D) where
 
       -- its record, if it has one, is at the first seat then
       pub one_less : (m' : Seated D) (rs : List Record) → m' ≡ (view_of z rs, []) → ((k : ℕ) (r : Record) → slice_get so_far.records k ≡ Some r → slice_get rs k ≡ Some r)
-          → ((t : Token D) → o ≡ Some t → (place : ℕ) × (slice_get rs place ≡ Some (record_in t)) × ((record_in t).taken ≡ None)) → Gathered z all new m'
+          → ((t : Token D) → o ≡ Some t → (place : ℕ) × (slice_get rs place ≡ Some (record_in t)) × ((record_in t).taken ≡ None) × ((doing t).held ≡ [])) → Gathered z all new m'
       one_less m' rs has longer its = record {
         records = rs;
         has = has;
@@ -61,7 +61,7 @@ module _ {D : Type 0} (z : Terms D) where
             | inl is ↦ inr (its t (same_Some o (Some t) (sym last_is ∙ ap (slice_get all) (sym is) ∙ e)))
             | inr not ↦ inl (let n = ap (λ (xs : List (Option (Token D))). length xs) pops ∙ length-append new (o ∷ []) in omega (arith, lt, n, not))
           ]
-          | inr there ↦ inr (there.0, longer there.0 (record_in t) there.1, there.2)
+          | inr there ↦ inr (there.0, longer there.0 (record_in t) there.1, there.2, there.3)
         ];
       }
 
@@ -70,8 +70,8 @@ module _ {D : Type 0} (z : Terms D) where
     skipped left new m so_far pops = one_less left new None m so_far pops m so_far.records so_far.has (λ k r e. e) (λ t e. absurd (none-some t e))
 
     -- a seat's record comes in behind the others
-    pub taken_in : (left new : List (Option (Token D))) (t : Token D) (m other m' : Seated D) → Gathered z all left m → left ≡ new ++ Some t ∷ [] → (record_in t).taken ≡ None → other ≡ (view_of z (record_in t ∷ []), []) → m' ≡ (joined_view m.0 other.0, m.1) → Gathered z all new m'
-    taken_in left new t m other m' so_far pops none its is =
+    pub taken_in : (left new : List (Option (Token D))) (t : Token D) (m other m' : Seated D) → Gathered z all left m → left ≡ new ++ Some t ∷ [] → (record_in t).taken ≡ None → (doing t).held ≡ [] → other ≡ (view_of z (record_in t ∷ []), []) → m' ≡ (joined_view m.0 other.0, m.1) → Gathered z all new m'
+    taken_in left new t m other m' so_far pops none rests its is =
         one_less left new (Some t) m so_far pops m' (so_far.records ++ record_in t ∷ []) (is ∙ (λ i. (joined_view (so_far.has i).0 (its i).0, (so_far.has i).1)))
         (λ k r e. get-append_left so_far.records (record_in t ∷ []) k r e)
-        (λ u e. let same = same_Some t u e in (length so_far.records, slice_get_behind so_far.records (record_in t) [] ∙ ap (λ (v : Token D). Some (record_in v)) same, ap (λ (v : Token D). (record_in v).taken) (sym same) ∙ none))
+        (λ u e. let same = same_Some t u e in (length so_far.records, slice_get_behind so_far.records (record_in t) [] ∙ ap (λ (v : Token D). Some (record_in v)) same, ap (λ (v : Token D). (record_in v).taken) (sym same) ∙ none, ap (λ (v : Token D). (doing v).held) (sym same) ∙ rests))

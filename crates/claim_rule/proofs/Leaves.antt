@@ -1,9 +1,10 @@
 -- What a field leaves is sound, and reached once all callers have ended.
-use Rattle.std.proofs.Common.{◌≡◌, ℕ, List, map, length, Option, Some, ap, sym, subst, ◌∙◌, arith}
+use Rattle.std.proofs.Common.{◌≡◌, ℕ, List, [], map, length, Option, Some, ap, sym, subst, ◌∙◌, arith}
 use Rattle.std.specs.Prelude.{slice_get, IsSome, IfSome}
 use Rattle.std.specs.List.{All}
 use Rattle.std.proofs.lemmas.List.{length-map}
-use Rattle.std.proofs.lemmas.Option.{slice_get_within, get_or_from_slice_get}
+use Rattle.std.proofs.lemmas.Option.{same_Some, slice_get_within, get_or_from_slice_get}
+use Rattle.amoebot_state.specs.declared.verdict.Entry.{Entry}
 use Rattle.amoebot_state.specs.declared.verdict.Verdict.{Verdict}
 use Rattle.amoebot_state.specs.Configs.{Config}
 use Rattle.amoebot_state.specs.Steps.{Run}
@@ -12,19 +13,19 @@ use Rattle.claim_core.specs.declared.marks.Mark.{Mark}
 use Rattle.claim_core.specs.declared.state.Caller.{Caller}
 use Rattle.claim_core.specs.declared.state.Phase.TheVariants.{Ended}
 use Rattle.claim_core.specs.Turns.{Kept}
-use Rattle.claim_core.specs.Good.{Order}
+use Rattle.claim_core.specs.Good.{Order, AreMarksSoFar}
 use Rattle.claim_core.specs.Machine.{Setup, State, after}
 use Rattle.claim_core.specs.Reached.{Reached}
 use Rattle.claim_core.specs.Soundness.{IsSetup, Sound}
-use Rattle.claim_core.proofs.Ends.{reached_is_good, same_world}
+use Rattle.claim_core.proofs.Ends.{are_marks_so_far, reached_is_good, same_world}
 use Rattle.claim_core.proofs.HolderLemmas.{framed}
 use Rattle.claim_core.proofs.Places.{get-map, same_by_get}
 use Rattle.claim_core.proofs.Sounds.{always}
 use Rattle.claim_rule.specs.declared.views.Terms.{Terms}
 use Rattle.claim_rule.specs.Views.{setup_of_terms}
 use Rattle.claim_rule.specs.Tokens.{Token, doing}
-use Rattle.claim_rule.specs.Closing.{ClosesAs}
-use Rattle.claim_rule.specs.Laws.{FieldEndsSound, EndedFieldIsReached, marks_at_seat, report_of}
+use Rattle.claim_rule.specs.Closing.{ClosesAs, HoldNothing, EndsRight, marks_at_seat, report_of}
+use Rattle.claim_rule.specs.Laws.{FieldEndsSound, FieldEndsRight, EndedFieldIsReached}
 use Rattle.claim_rule.proofs.Closes.{some_there}
 
 module _ {D : Type 0} (verdict : D → Shown → Verdict) (z : Terms D) (seats : List (Option (Token D))) (world : Config) (journal : Kept) (ok : IsSetup (setup_of_terms verdict z)) (ends : ClosesAs verdict z seats world journal) where
@@ -78,6 +79,35 @@ module _ {D : Type 0} (verdict : D → Shown → Verdict) (z : Terms D) (seats :
         marks = λ i. record { turns = z.lists.turns; marks = marks_are i };
       };
     }
+
+module _ {D : Type 0} (verdict : D → Shown → Verdict) (z : Terms D) (seats : List (Option (Token D))) (world : Config) (journal : Kept) (ok : IsSetup (setup_of_terms verdict z)) (ends : ClosesAs verdict z seats world journal)
+    (count : length seats ≡ length z.lists.ids) (full : All (λ o. IsSome o) seats) (rest : HoldNothing seats) where
+  abbrev its_setup : Setup
+  its_setup = setup_of_terms verdict z
+
+  abbrev its : State
+  its = after its_setup ends.steps
+
+  its_sound : Sound its_setup its
+  its_sound = always its_setup ok ends.steps
+
+  free : (c : ℕ) (k : Caller) → slice_get its.callers c ≡ Some k → k.held ≡ []
+  free c k there =
+      let inside = slice_get_within its.callers c k there in
+      let t = some_there seats c (omega (arith, inside, its_sound.callers, count)) full in
+      let held : (doing t.0).held ≡ [] = subst (λ o. IfSome o (λ token. (doing token).held ≡ [])) (get_or_from_slice_get seats c (Some t.0) (Some t.0) t.1) (rest c (Some t.0) (omega (arith, inside, its_sound.callers, count))) in
+      ap (λ (j : Caller). j.held) (same_Some k (doing t.0) (sym there ∙ knows verdict z seats world journal ok ends c t.0 t.1)) ∙ held
+
+  pub ends_right : EndsRight verdict z seats world journal
+  ends_right = record {
+    run = is_run verdict z seats world journal ok ends;
+    order = is_order verdict z seats world journal ok ends;
+    marks = subst (λ (q : List Entry × List (List Mark)). AreMarksSoFar its_setup.verdict z.world z.lists q.0 (record { turns = z.lists.turns; marks = q.1 }))
+        (λ i. (sym ends.entries i, sym (marks_are verdict z seats world journal ok ends count full) i)) (are_marks_so_far its_setup its its_sound free);
+  }
+
+pub field_ends_right : {D : Type 0} (verdict : D → Shown → Verdict) → FieldEndsRight verdict
+field_ends_right verdict z seats world journal ok count full rest ends = ends_right verdict z seats world journal ok ends count full rest
 
 pub field_ends_sound : {D : Type 0} (verdict : D → Shown → Verdict) → FieldEndsSound verdict
 field_ends_sound verdict z seats world journal ok ends = (is_run verdict z seats world journal ok ends, is_order verdict z seats world journal ok ends, is_right verdict z seats world journal ok ends)

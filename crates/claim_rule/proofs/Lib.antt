@@ -22,3 +22,4 @@ pub mod Closes
 pub mod Determined
 pub mod Ends
 pub mod Leaves
+pub mod Made

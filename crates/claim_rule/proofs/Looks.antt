@@ -22,7 +22,7 @@ use Rattle.claim_rule.specs.declared.views.Terms.{Terms}
 use Rattle.claim_rule.specs.Views.{Content, Seated, view_of, own, setup_of_terms}
 use Rattle.claim_rule.specs.Stands.{turns_left, AreWords, AreHomes, KeepsRule}
 use Rattle.claim_rule.specs.Plays.{IsToRead, mark_of_phase, marked_at, ReadsLength}
-use Rattle.claim_rule.specs.Nexts.{GoesOn, IsAt, LookIsNext}
+use Rattle.claim_rule.specs.Nexts.{GoesOn, IsAt}
 use Rattle.claim_rule.proofs.Tables.{journal_written, homes_kept}
 use Rattle.claim_rule.proofs.Moves.{caller_at, moves, journal_stays}
 use Rattle.claim_rule.proofs.NextsLemmas.{allowed}
@@ -96,6 +96,3 @@ module _ {D : Type 0} (verdict : D → Shown → Verdict) (z : Terms D) (ok : Is
   look_allowed slots seat me one reads =
       allowed verdict z ok slots seat me (cells z.world) (λ x. x) (λ m. IsToRead (own m.0).caller.phase) (ReadsLength verdict (step slots (cells z.world) 0 0 home.none)) one reads
       (λ s steps r table fact. look_goes table slots me.1 fact)
-
-pub look_is_next : {D : Type 0} (verdict : D → Shown → Verdict) (z : Terms D) → LookIsNext verdict z
-look_is_next verdict z s steps seat slots r out is reads = look_goes is slots out reads

@@ -27,7 +27,7 @@ use Rattle.claim_rule.specs.declared.views.Terms.{Terms}
 use Rattle.claim_rule.specs.Views.{Content, Seated, view_of, own, setup_of_terms}
 use Rattle.claim_rule.specs.Stands.{turns_left, AreWords, AreHomes, KeepsRule}
 use Rattle.claim_rule.specs.Plays.{but_last, released_caller, IsToFree, Releases}
-use Rattle.claim_rule.specs.Nexts.{GoesOn, IsAt, ReleaseIsNext}
+use Rattle.claim_rule.specs.Nexts.{GoesOn, IsAt}
 use Rattle.claim_rule.proofs.Tables.{tag_written, homes_kept}
 use Rattle.claim_rule.proofs.Moves.{sound, caller_at, counts, moves, journal_stays}
 use Rattle.claim_rule.proofs.NextsLemmas.{turns_same, allowed}
@@ -111,6 +111,3 @@ module _ {D : Type 0} (verdict : D → Shown → Verdict) (z : Terms D) (ok : Is
   release_allowed slots seat me i one to =
       allowed verdict z ok slots seat me i (λ _. 0) (IsToFree verdict i) (λ m _. Releases verdict (step slots i 0 0 home.none) m 0) one to
       (λ s steps r table fact. release_goes table i slots me.1 fact)
-
-pub release_is_next : {D : Type 0} (verdict : D → Shown → Verdict) (z : Terms D) → ReleaseIsNext verdict z
-release_is_next verdict z s steps seat i slots r out is to = release_goes is i slots out to

@@ -24,6 +24,12 @@ pub only : {A : Type 0} (x y : A) (j : ℕ) → slice_get (x ∷ []) j ≡ Some 
 only x y zero e = (refl, same_Some x y e)
 only x y (suc j) e = absurd (none-some y e)
 
+-- a place that has an element is one of the list's
+pub at_home : {A : Type 0} (xs : List A) (i : ℕ) (x : A) → get_elem? xs i ≡ home.some x → i < length xs
+at_home [] i x e = absurd (home.some-ne-none x (sym e))
+at_home (y ∷ ys) zero x e = omega arith
+at_home (y ∷ ys) (suc i) x e = let ih = at_home ys i x e in omega arith
+
 module _ (g : Setup) where
   -- the words, one of which was written
   pub words_written : (old new : State) (words : List ℕ) (i x : ℕ) → AreWords g old words → i < cells g.world + 1
@@ -69,11 +75,6 @@ module _ {D : Type 0} (z : Terms D) (views : List (View D)) (seat : ℕ) (r : Re
   -- the views where a seat's only record has changed
   abbrev pub later : List (View D)
   later = set views seat (view_of z (new ∷ []))
-
-  at_home : (xs : List (View D)) (i : ℕ) (v : View D) → get_elem? xs i ≡ home.some v → i < length xs
-  at_home [] i v e = absurd (home.some-ne-none v (sym e))
-  at_home (x ∷ xs) zero v e = omega arith
-  at_home (x ∷ xs) (suc i) v e = let ih = at_home xs i v e in omega arith
 
   -- a record there is the new one, or was there before, at another seat
   pub cases : (s j : ℕ) (q : Record) → HasRecord later s j q → ((s ≡ seat) × (j ≡ 0) × (new ≡ q)) ⊎ ((s ≢ seat) × HasRecord views s j q)

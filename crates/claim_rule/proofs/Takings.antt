@@ -27,7 +27,7 @@ use Rattle.claim_rule.specs.declared.views.Terms.{Terms}
 use Rattle.claim_rule.specs.Views.{Content, Seated, view_of, own, setup_of_terms}
 use Rattle.claim_rule.specs.Stands.{turns_left, IsCoreJournal, HasCommitted, AreWords, AreHomes, KeepsRule}
 use Rattle.claim_rule.specs.Commits.{Takes, HasRoomForEntry, with_journal, took}
-use Rattle.claim_rule.specs.Nexts.{GoesOn, IsAt, TakeIsNext}
+use Rattle.claim_rule.specs.Nexts.{GoesOn, IsAt}
 use Rattle.claim_rule.proofs.Tables.{journal_written}
 use Rattle.claim_rule.proofs.Moves.{sound, mine, caller_at, not_last, moved, moves, taken_else, journal_stays}
 use Rattle.claim_rule.proofs.NextsLemmas.{turns_same, allowed}
@@ -155,6 +155,3 @@ module _ {D : Type 0} (verdict : D → Shown → Verdict) (z : Terms D) (ok : Is
   take_allowed slots seat me one to =
       allowed verdict z ok slots seat me (cells z.world) (λ x. bit_or x 1) (λ m. Takes (own m.0).caller.phase) (took (step slots (cells z.world) 1 0 home.none)) one to
       (λ s steps r table fact. take_goes table fact slots me.1)
-
-pub take_is_next : {D : Type 0} (verdict : D → Shown → Verdict) (z : Terms D) → TakeIsNext verdict z
-take_is_next verdict z s steps seat slots r out is to = take_goes is to slots out

@@ -7,7 +7,7 @@ use Rattle.claim_rule.specs.declared.views.Slot.{Slot}
 use Rattle.claim_rule.specs.declared.views.Record.{Record}
 use Rattle.claim_rule.specs.declared.views.View.{View}
 use Rattle.claim_rule.specs.Views.{own, like, view_of}
-use Rattle.claim_rule.specs.Tokens.{FieldOf, Token, record_in}
+use Rattle.claim_rule.specs.Tokens.{FieldOf, Token, record_in, doing}
 
 module _ {D : Type 0} where
   -- the seat may step on this field: it is of the field's table, and has the record of one caller
@@ -31,8 +31,8 @@ module _ {D : Type 0} where
   abbrev pub joined_view : View D → View D → View D
   joined_view v w = like w (v.records ++ w.records)
 
-  -- the records of all seats that are there are among these, and none of them has the journal taken
+  -- the records of all seats that are there are among these, and none of them has the journal taken or holds a cell
   abbrev pub HaveAll : List (Option (Token D)) → List Record → Type 0
   HaveAll seats rs =
       (c : ℕ) (t : Token D) → slice_get seats c ≡ Some (Some t)
-      → (place : ℕ) × (slice_get rs place ≡ Some (record_in t)) × ((record_in t).taken ≡ None)
+      → (place : ℕ) × (slice_get rs place ≡ Some (record_in t)) × ((record_in t).taken ≡ None) × ((doing t).held ≡ [])

@@ -1,8 +1,8 @@
 -- Laws of the rule.
-use Rattle.std.specs.Prelude.{◌≡◌, ℕ, ◌+◌, List, [], ◌∷◌, ◌++◌, map, replicate, length, slice_get, IsSome, IfSome}
+use Rattle.std.specs.Prelude.{◌≡◌, ℕ, ◌+◌, List, [], ◌∷◌, ◌++◌, replicate, length, slice_get, IsSome, IfSome}
 use Rattle.std.specs.List.{All}
 use Rattle.std.specs.declared.option.Option.{Option}
-use Rattle.std.specs.declared.option.Option.TheVariants.{Some, None}
+use Rattle.std.specs.declared.option.Option.TheVariants.{Some}
 use Rattle.atomic_table.specs.Table.{Splits, Joins}
 use Rattle.atomic_table.specs.Table as table
 use Rattle.amoebot_state.specs.Configs.{Config}
@@ -12,7 +12,6 @@ use Rattle.amoebot_state.specs.Zones.{Shown, shown}
 use Rattle.claim_core.specs.Cells.{cells}
 use Rattle.claim_core.specs.Turns.{Kept}
 use Rattle.claim_core.specs.declared.marks.Mark.{Mark}
-use Rattle.claim_core.specs.declared.report.Report.{Report}
 use Rattle.claim_core.specs.declared.state.Phase.TheVariants.{Ended}
 use Rattle.claim_core.specs.Good.{Order, Good}
 use Rattle.claim_core.specs.Reached.{Reached}
@@ -27,7 +26,7 @@ use Rattle.claim_rule.specs.Plays.{HoldsZone}
 use Rattle.claim_rule.specs.Tokens.{Token, doing}
 use Rattle.claim_rule.specs.Opened.{AreFirstSlots}
 use Rattle.claim_rule.specs.Seating.{spent}
-use Rattle.claim_rule.specs.Closing.{ClosesAs}
+use Rattle.claim_rule.specs.Closing.{ClosesAs, HoldNothing, EndsRight, report_of}
 
 -- a table whose words are 0, whose slots hold what a field begins with, and whose one seat knows all callers before their first turn
 -- stands for the opening
@@ -101,18 +100,16 @@ FieldEndsSound {D} verdict =
     → slice_get (doing token).marks t ≡ Some m
     → TurnOkSoFar (setup_of_terms verdict z) (after (setup_of_terms verdict z) ends.steps) c t m)
 
--- the marks of a seat's caller
-abbrev pub marks_at_seat : {D : Type 0} → Option (Token D) → List Mark
-marks_at_seat None = []
-marks_at_seat (Some token) = (doing token).marks
-
--- what a field leaves, with the marks of all seats
-abbrev pub report_of : {D : Type 0} → Terms D → List (Option (Token D)) → Config → Kept → Report
-report_of z seats world journal = record {
-  world = world;
-  journal = journal;
-  turns = record { turns = z.lists.turns; marks = map marks_at_seat seats };
-}
+-- and where each caller's seat is there and holds nothing, all that is left is right, whether or not the callers have ended
+abbrev pub FieldEndsRight : {D : Type 0} → (D → Shown → Verdict) → Type 0
+FieldEndsRight {D} verdict =
+    (z : Terms D) (seats : List (Option (Token D))) (world : Config) (journal : Kept)
+    → IsSetup (setup_of_terms verdict z)
+    → length seats ≡ length z.lists.ids
+    → All (λ o. IsSome o) seats
+    → HoldNothing seats
+    → ClosesAs verdict z seats world journal
+    → EndsRight verdict z seats world journal
 
 -- once each caller has ended and its seat is there, that is a report which some interleaving gives, and so a good one
 abbrev pub EndedFieldIsReached : {D : Type 0} → (D → Shown → Verdict) → Type 0

@@ -12,7 +12,7 @@ ghost use Rattle.claim_rule.specs.declared.views.Slot.TheVariants as slot;
 ghost use Rattle.claim_rule.specs.Views.{view_of};
 ghost use Rattle.claim_rule.specs.Tokens.{Token};
 ghost use Rattle.claim_rule.specs.Seating.{AreOf};
-ghost use Rattle.claim_rule.specs.Closing.{ClosesAs};
+ghost use Rattle.claim_rule.specs.Closing.{ClosesAs, HoldNothing, EndsRight};
 ghost use Rattle.claim_rule.specs.Internal.{HaveAll};
 
 use crate::field::Field;
@@ -25,21 +25,20 @@ use claim_core::{Journal, cells_of};
 use std::alloc::Global;
 
 impl<'d, D: Decider> Field<'d, D> {
-    /// The world after all that was committed, and the journal, once all seats are back. It takes no memory.
+    /// The world after all that was committed, and the journal, once all seats are back. The callers need not have ended: the seats
+    /// hold nothing, and each of their marks is right. It takes no memory.
     pub fn close(self, seats: Seats<D>) -> (World, Journal)
         requires field { AreOf self seats }
         requires all { All (λ seat. IsSome seat) seats.seats }
-        ensures { ClosesAs D.verdict self.entry.terms seats.seats result.0 result.1 }
+        ensures closes { ClosesAs D.verdict self.entry.terms seats.seats result.0 result.1 }
+        ensures rests { HoldNothing seats.seats }
+        ensures right { EndsRight D.verdict self.entry.terms seats.seats result.0 result.1 }
     {
         let Seats { rest, seats } = seats;
         let rest = gather_all(&self, rest, seats);
-        let Field {
-            table,
-            decider,
-            mut world,
-        } = self;
+        let (closed, decider, mut world) = self.give_back(rest);
         let cells = cells_of(&world);
-        let journal = journal_of(table.close_with(rest), cells);
+        let journal = journal_of(closed, cells);
         apply_all(decider, &mut world, journal.entries());
         (world, journal)
     }

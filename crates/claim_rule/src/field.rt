@@ -1,9 +1,24 @@
-ghost use Rattle.std.specs.Prelude.{◌≡◌};
+//! The table that callers share. It is private to this module and those in it, so no other code touches a word or a slot.
+//! It is laid out and given back here.
+//! `steps`, `slots` and `seating` have one function for each step on a word, each move of a value, and each move of records.
+ghost use Rattle.std.specs.Prelude.{◌≡◌, ◌+◌, [], IfOk};
+ghost use Rattle.std.specs.Slots.{slots_items, slots_len, IsFull};
+ghost use Rattle.atomic_table.specs.Table.{Final, Seen};
+ghost use Rattle.claim_core.specs.Cells.{cells};
+ghost use Rattle.claim_core.specs.Soundness.{IsSetup};
+ghost use Rattle.claim_rule.specs.Views.{field_terms, setup_of_terms};
+ghost use Rattle.claim_rule.specs.Stands.{KeepsRule, first_view};
+ghost use Rattle.claim_rule.specs.Opened.{AreFirstSlots};
+
+mod seating;
+mod slots;
+mod steps;
 
 use crate::rule::ClaimRule;
 use crate::views::{Key, Slot, View};
-use amoebot_state::{Decider, World};
-use atomic_table::Table;
+use amoebot_state::{Decider, NoMemory, World};
+use atomic_table::{Closed, Seat as TableSeat, Table};
+use claim_core::{Lists, cells_of};
 use std::alloc::Global;
 use std::marker::Model;
 
@@ -11,9 +26,9 @@ use std::marker::Model;
 /// is about: the decider, the first world and the lists.
 #[derive(Drop)]
 pub struct Field<'d, D: Decider> {
-    pub(crate) table: Table<Slot, View<D>, Key<'d, D>, ClaimRule, Global>,
-    pub(crate) decider: &'d D,
-    pub(crate) world: World,
+    table: Table<Slot, View<D>, Key<'d, D>, ClaimRule, Global>,
+    decider: &'d D,
+    world: World,
 }
 
 impl<'d, D: Decider> Model for Field<'d, D> {
@@ -39,5 +54,73 @@ impl<'d, D: Decider> Field<'d, D> {
         ensures { result.now ≡ self.now.terms.decider }
     {
         self.decider
+    }
+
+    /// The world before the first step. What the field is about may be run.
+    pub(crate) fn world(&self) -> &World
+        ensures first { result.now ≡ self.now.terms.world }
+        ensures run { IsSetup (setup_of_terms D.verdict self.now.terms) }
+    {
+        &self.world
+    }
+
+    /// A field whose words are 0 and whose slots hold these values, with all records at one seat.
+    pub(crate) fn lay_out(
+        alloc: Global,
+        decider: &'d D,
+        world: World,
+        lists: &'d Lists,
+        slots: Vec<Slot>,
+    ) -> Result<(Field<'d, D>, TableSeat<Slot, View<D>>), NoMemory>
+        requires run { IsSetup (setup_of_terms D.verdict (field_terms decider.now world lists.now)) }
+        requires slots { AreFirstSlots world lists.now slots.items }
+        ensures terms { IfOk result (λ made. made.0.terms ≡ field_terms decider.now world lists.now) }
+        ensures seat { IfOk result (λ made. (made.1.table_id ≡ made.0.table) × (made.1.me ≡ (first_view D.verdict made.0.terms, []))) }
+    {
+        let cells = cells_of(&world);
+        let words = Vec::from_elem(alloc, 0u64, cells + 1)?;
+        let key = Key {
+            decider,
+            world,
+            lists,
+        };
+        match Table::new(alloc, words.as_slice(), slots, &key) {
+            Ok((table, seat)) => {
+                let Key {
+                    decider,
+                    world,
+                    lists: _,
+                } = key;
+                let field = Field {
+                    table,
+                    decider,
+                    world,
+                };
+                Ok((field, seat))
+            }
+            Err(_) => Err(NoMemory),
+        }
+    }
+
+    /// The slots as they are at the end, with what the last seat knows, and the first world.
+    pub(crate) fn give_back(
+        self,
+        last: TableSeat<Slot, View<D>>,
+    ) -> (Closed<Slot, Global>, &'d D, World)
+        requires { last.table_id ≡ self.table }
+        ensures run { IsSetup (setup_of_terms D.verdict self.entry.terms) }
+        ensures count { slots_len result.0.slots ≡ cells self.entry.terms.world + 1 }
+        ensures full { IsFull result.0.slots }
+        ensures ends { Final (Seen (KeepsRule D.verdict self.entry.terms) last.id last.me.0)
+            (slots_items result.0.words) (slots_items result.0.slots) }
+        ensures decider { result.1.now ≡ self.entry.terms.decider }
+        ensures world { result.2 ≡ self.entry.terms.world }
+    {
+        let Field {
+            table,
+            decider,
+            world,
+        } = self;
+        (table.close_with(last), decider, world)
     }
 }

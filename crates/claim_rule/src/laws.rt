@@ -1,6 +1,6 @@
 //! Laws of the rule.
 ghost use Rattle.claim_rule.specs.Laws.{OpeningStands, SplitChangesNothing, JoinChangesNothing, FoundIsShown, StateIsDetermined};
-ghost use Rattle.claim_rule.specs.Laws.{FieldEndsOneWay, FieldEndsSound, EndedFieldIsReached};
+ghost use Rattle.claim_rule.specs.Laws.{FieldEndsOneWay, FieldEndsSound, FieldEndsRight, EndedFieldIsReached};
 
 use amoebot_state::Decider;
 
@@ -35,8 +35,10 @@ pub fn field_ends_one_way<D: Decider>(_decider: &D)
 {}
 
 /// What a field leaves is a run of the model in the callers' order, and each mark of its seats is right as far as the callers have come.
+/// Where all seats are there and hold nothing, as at `close`, each mark is right, whether or not the callers have ended.
 pub fn field_ends_sound<D: Decider>(_decider: &D)
-    ensures { FieldEndsSound D.verdict }
+    ensures so_far { FieldEndsSound D.verdict }
+    ensures right { FieldEndsRight D.verdict }
 {}
 
 /// What a field leaves whose callers have all ended, with the marks of its seats, is a report that some interleaving gives.

@@ -9,10 +9,10 @@ ghost use Rattle.claim_rule.specs.Opened.{AreFirstSlots, first_seats};
 use crate::field::Field;
 use crate::seat::Seat;
 use crate::seats::Seats;
-use crate::views::{Key, Slot, View};
+use crate::views::{Slot, View};
 use amoebot_state::{Cell, Decider, NoMemory, World, has_next, touches_zone};
-use atomic_table::{Seat as TableSeat, Table};
-use claim_core::{Journal, Lists, cells_of};
+use atomic_table::Seat as TableSeat;
+use claim_core::{Journal, Lists};
 use std::alloc::Global;
 
 impl<'d, D: Decider> Field<'d, D> {
@@ -51,30 +51,8 @@ fn open<'d, D: Decider>(
     touches_zone(decider);
     has_next(decider);
     let _callers = lists.callers();
-    let cells = cells_of(&world);
-    let words = Vec::from_elem(alloc, 0u64, cells + 1)?;
     let slots = first_slots(alloc, &world, lists)?;
-    let key = Key {
-        decider,
-        world,
-        lists,
-    };
-    match Table::new(alloc, words.as_slice(), slots, &key) {
-        Ok((table, seat)) => {
-            let Key {
-                decider,
-                world,
-                lists: _,
-            } = key;
-            let field = Field {
-                table,
-                decider,
-                world,
-            };
-            Ok((field, seat))
-        }
-        Err(_) => Err(NoMemory),
-    }
+    Field::lay_out(alloc, decider, world, lists, slots)
 }
 
 /// Deals the records of all callers to seats.
@@ -89,8 +67,9 @@ fn deal_all<'d, D: Decider>(
     requires callers { callers ≡ length field.now.terms.lists.ids }
     ensures { IfOk result (λ seats. seats ≡ first_seats D.verdict field.now) }
 {
-    let area = field.world.area();
-    let maxes = field.world.maxes();
+    let world = field.world();
+    let area = world.area();
+    let maxes = world.maxes();
     let mut seats = Vec::new(alloc);
     for caller in 0..callers {
         let seat = field.deal(&mut rest);

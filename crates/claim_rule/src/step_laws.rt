@@ -1,4 +1,5 @@
 //! Each step of a seat, at whatever table stands for a state, leads to a table that stands for the state after its caller's next step.
+//! There is such a step, and each that keeps the rule and tells what it has to tell is one.
 ghost use Rattle.claim_rule.specs.declared.views.Terms.{Terms};
 ghost use Rattle.claim_rule.specs.Nexts.{ClaimIsNext, ReleaseIsNext, LookIsNext, TakeIsNext, CommitIsNext};
 

@@ -1,12 +1,15 @@
 ghost use Rattle.std.specs.Prelude.{◌≡◌, map, is_some, IfOk, IsSome, OnOk};
 ghost use Rattle.std.specs.List.{All};
+ghost use Rattle.amoebot_state.specs.Steps.{Run};
+ghost use Rattle.claim_core.specs.Good.{AreMarksSoFar, Order};
+ghost use Rattle.claim_core.specs.Turns.{MarkLists};
 ghost use Rattle.claim_rule.specs.Seating.{AreOf};
 ghost use Rattle.claim_rule.specs.Tokens.{IsOf, number_in};
 
 use crate::fixtures::{is_entry, turn_of};
 use crate::machine::{is_left, is_marked, machine_leaves};
 use activation::NoGate;
-use amoebot_state::World;
+use amoebot_state::{Decider, World};
 use claim_core::{Journal, Lists, Marks};
 use claim_rule::{Field, Seat, Seats};
 use claim_tests::field_of;
@@ -17,13 +20,13 @@ use std::sync::Wait;
 use std::test::Fail;
 
 /// Makes all turns of the seat, with the marks that are expected.
-fn turns_of<R: Wait + Abort>(
+fn turns_of<R: Wait + Abort, D: Decider>(
     rt: &R,
-    field: &Field<'_, Marker>,
+    field: &Field<'_, D>,
     lists: &Lists,
     expected: &Marks,
-    mut seat: Seat<Marker>,
-) -> Result<Seat<Marker>, Fail>
+    mut seat: Seat<D>,
+) -> Result<Seat<D>, Fail>
     requires of { IsOf field.now seat }
     requires lists { field.now.terms.lists ≡ lists.now }
     ensures of { IfOk result (λ after. IsOf field.now after) }
@@ -39,12 +42,12 @@ fn turns_of<R: Wait + Abort>(
 }
 
 /// So many callers make all their turns, one caller after another, and their seats are given back.
-fn after_turns<R: Wait + Abort>(
+fn after_turns<R: Wait + Abort, D: Decider>(
     rt: &R,
-    field: &Field<'_, Marker>,
+    field: &Field<'_, D>,
     lists: &Lists,
     expected: &Marks,
-    seats: &mut Seats<Marker>,
+    seats: &mut Seats<D>,
     callers: u8,
 ) -> Result<(), Fail>
     requires of { AreOf field.now seats.old }
@@ -66,18 +69,23 @@ fn after_turns<R: Wait + Abort>(
     }
 }
 
-/// What the field leaves once so many callers have made all their turns.
-fn closed<R: Wait + Abort>(
+/// What the field leaves once so many callers have made all their turns, and the others none. It is a run of the model from the first
+/// world, in the callers' order, and there are right marks for it.
+fn closed<R: Wait + Abort, D: Decider>(
     rt: &R,
-    field: Field<'_, Marker>,
+    field: Field<'_, D>,
     lists: &Lists,
     expected: &Marks,
-    mut seats: Seats<Marker>,
+    mut seats: Seats<D>,
     callers: u8,
 ) -> Result<(World, Journal), Fail>
     requires of { AreOf field seats }
     requires lists { field.terms.lists ≡ lists.now }
     requires all { All (λ seat. IsSome seat) seats.seats }
+    ensures run { IfOk result (λ left. let z = field.entry.terms in Run (D.verdict z.decider) z.world left.1.entries left.0) }
+    ensures order { IfOk result (λ left. Order field.entry.terms.lists left.1.entries) }
+    ensures marks { IfOk result (λ left. (marks : MarkLists) × (let z = field.entry.terms in
+        AreMarksSoFar (D.verdict z.decider) z.world z.lists left.1.entries marks)) }
 {
     after_turns(rt, &field, lists, expected, &mut seats, callers)?;
     Ok(field.close(seats))

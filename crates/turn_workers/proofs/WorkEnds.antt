@@ -22,7 +22,7 @@ use Rattle.claim_rule.specs.Tokens.{FieldOf, Token, number_in, doing}
 use Rattle.claim_rule.specs.declared.views.Terms.{Terms}
 use Rattle.claim_rule.specs.Seating.{SeatsOf}
 use Rattle.claim_rule.specs.Stands.{records_from}
-use Rattle.claim_rule.specs.Closing.{ClosesAs}
+use Rattle.claim_rule.specs.Closing.{ClosesAs, marks_at_seat}
 use Rattle.claim_rule.specs.Opened.{first_records, first_seats, seat_with}
 use Rattle.claim_rule.specs.Laws as laws
 use Rattle.claim_rule.proofs.Opens.{from}
@@ -90,11 +90,11 @@ module _ {D : Type 0} (verdict : D → Shown → Verdict) (f : FieldOf D) where
         (ap (λ (k : Caller). k.phase) h.doing ∙ ap (λ b. if b then Claim else Ended) (le-ltb t f.terms.lists.turns (let le : f.terms.lists.turns ≤ t = omega (arith, all) in le))))
 
     -- their marks are those of what became of their turns
-    pub marks_are : map laws.marks_at_seat (map seat_at desks) ≡ map marks_in (map turns_at desks)
-    marks_are = map-map laws.marks_at_seat seat_at desks ∙ maps_agree (λ d. laws.marks_at_seat (seat_at d)) (λ d. marks_in (turns_at d)) desks desks refl (λ c x y at of.
+    pub marks_are : map marks_at_seat (map seat_at desks) ≡ map marks_in (map turns_at desks)
+    marks_are = map-map marks_at_seat seat_at desks ∙ maps_agree (λ d. marks_at_seat (seat_at d)) (λ d. marks_in (turns_at d)) desks desks refl (λ c x y at of.
         let same = same_Some x y (sym at ∙ of) in
         let h = has c x at in
-        ap laws.marks_at_seat h.there ∙ ap (λ (k : Caller). k.marks) h.doing ∙ ap (λ d. marks_in (turns_at d)) same) ∙ sym (map-map marks_in turns_at desks)
+        ap marks_at_seat h.there ∙ ap (λ (k : Caller). k.marks) h.doing ∙ ap (λ d. marks_in (turns_at d)) same) ∙ sym (map-map marks_in turns_at desks)
 
     -- there are as many turns as a caller has
     pub all_turns : All (λ own. length own ≡ t) (map turns_at desks)
@@ -119,7 +119,7 @@ module _ {D : Type 0} (verdict : D → Shown → Verdict) (f : FieldOf D) where
         → Reached (setup_of_terms verdict z) (record { world = world; journal = journal; turns = marks }) × Good (verdict z.decider) z.world z.lists (record { world = world; journal = journal; turns = marks })
     is_report z terms law run count seats are world journal closes marks told =
         let report = law z (map seat_at desks) world journal run (length-map desks seat_at ∙ count) all_there all_ended (subst (λ (p : Terms D × List (Option (Token D))). ClosesAs verdict p.0 p.1 world journal) (λ i. (terms i, are i)) closes) in
-        let same : record { turns = z.lists.turns; marks = map laws.marks_at_seat (map seat_at desks) } ≡ marks = ap (λ ms. record { turns = z.lists.turns; marks = ms }) marks_are ∙ sym told in
+        let same : record { turns = z.lists.turns; marks = map marks_at_seat (map seat_at desks) } ≡ marks = ap (λ ms. record { turns = z.lists.turns; marks = ms }) marks_are ∙ sym told in
         subst (λ (ms : MarkLists). Reached (setup_of_terms verdict z) (record { world = world; journal = journal; turns = ms }) × Good (verdict z.decider) z.world z.lists (record { world = world; journal = journal; turns = ms })) same report
 
 -- a vector whose elements were written through a slice has these

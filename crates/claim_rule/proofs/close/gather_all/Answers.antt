@@ -1,5 +1,6 @@
 use Rattle.std.proofs.Common.{◌≡◌, ◌++◌, ◌∷◌, [], ap, sym, ◌∙◌, Some, None}
-use Rattle.claim_rule.specs.Tokens.{Token, record_in}
+use Rattle.claim_core.specs.declared.state.Caller.{Caller}
+use Rattle.claim_rule.specs.Tokens.{Token, record_in, doing}
 use Rattle.claim_rule.proofs.GatheredRecords.{one_record, none_gathered, last_is, skipped, taken_in}
 use Rattle.claim_rule.proofs.close.gather_all.Goals as goal
 
@@ -26,9 +27,10 @@ loop-place-preserved-in-Some-place g c =
     let pops : c.loop-place.seats.items ≡ c.pop.new.self.items ++ Some c.in-Some-place.seat ∷ [] = c.in-Some.ensures.items ∙ (λ i. c.pop.new.self.items ++ c.in-Some-place.is i ∷ []) in
     let there = last_is z c.args.seats.items c.loop-place.seats.items c.pop.new.self.items (Some c.in-Some-place.seat) c.loop-place.rest.me c.loop-place.invariant.1 pops in
     let its = one_record z c.seat.inside.seat.me c.in-Some-place.seat c.seat.inside.seat.table_id c.seat.view_is c.seat.invariant.alone c.seat.invariant.out (c.requires.seats _ c.in-Some-place.seat there).1 in
-    let none = ap (λ (t : Token g.row.D.Denot). (record_in t).taken) (sym c.seat.view_is) ∙ c.seat.invariant.taken in (
+    let none = ap (λ (t : Token g.row.D.Denot). (record_in t).taken) (sym c.seat.view_is) ∙ c.seat.invariant.taken in
+    let rests = ap (λ (t : Token g.row.D.Denot). (doing t).held) (sym c.seat.view_is) ∙ ap (λ (k : Caller). k.held) c.seat.invariant.rests in (
       c.gather.ensures.0 ∙ c.loop-place.invariant.0,
-      taken_in z c.args.seats.items c.loop-place.seats.items c.pop.new.self.items c.in-Some-place.seat c.loop-place.rest.me c.seat.inside.seat.me c.gather.new.seat.me c.loop-place.invariant.1 pops none its c.gather.ensures.1,
+      taken_in z c.args.seats.items c.loop-place.seats.items c.pop.new.self.items c.in-Some-place.seat c.loop-place.rest.me c.seat.inside.seat.me c.gather.new.seat.me c.loop-place.invariant.1 pops none rests its c.gather.ensures.1,
     )
 
 pub loop-place-preserved : goal.loop-place-preserved

@@ -1,8 +1,6 @@
-use Rattle.std.proofs.Common.{◌≡◌, ◌<◌, ◌+◌, [], length, drop, ap, sym, ◌∙◌, arith, subst}
+use Rattle.std.proofs.Common.{◌≡◌, ◌<◌, ◌+◌, [], length, drop, ap, ◌∙◌, arith}
 use Rattle.amoebot_state.specs.Configs.{Config}
-use Rattle.claim_core.specs.Soundness.{IsSetup}
-use Rattle.claim_rule.specs.Views.{Seated, setup_of_terms}
-use Rattle.claim_rule.specs.Tokens.{FieldOf}
+use Rattle.claim_rule.specs.Views.{Seated}
 use Rattle.claim_rule.specs.Opened.{first_records}
 use Rattle.claim_rule.proofs.Deals.{next_one, first_of_rest, one_dealt, others_left, is_seat, dealt_so_far, are_seats, are_first}
 use Rattle.claim_rule.proofs.make.deal_all.Goals as goal
@@ -24,9 +22,9 @@ pub invariant_of-push : goal.invariant_of-push
 invariant_of-push g c =
     let z = c.args.field.now.terms in
     let lt : c.loop-caller.caller < length z.lists.ids = omega (arith, c.loop-caller-test.true, c.requires.callers) in
-    let world = sym c.field.invariant.world ∙ ap (λ (f : FieldOf g.row.D.Denot). f.terms.world) c.field.view_is in
+    let world = c.world-world.ensures.first in
     is_seat g.D.Decider.verdict z c.deal-seat.result.me c.loop-caller.caller c.area-area.result c.maxes-maxes.result
-    (subst (λ (f : FieldOf g.row.D.Denot). IsSetup (setup_of_terms g.D.Decider.verdict f.terms)) c.field.view_is c.field.invariant.run) lt
+    c.world-world.ensures.run lt
     (c.area-area.ensures ∙ ap (λ (w : Config). w.area) world) (c.maxes-maxes.ensures ∙ ap (λ (w : Config). w.maxes) world)
     (c.deal-seat.ensures.dealt.1 ∙ (λ i. (one_dealt g.D.Decider.verdict z c.loop-caller.rest.me c.loop-caller.caller lt c.loop-caller.invariant.1 i, [])))
 

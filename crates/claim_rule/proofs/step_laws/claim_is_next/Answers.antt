@@ -1,4 +1,4 @@
-use Rattle.claim_rule.proofs.Claims.{claim_is_next}
+use Rattle.claim_rule.proofs.Made.{claim_is_next}
 use Rattle.claim_rule.proofs.step_laws.claim_is_next.Goals as goal
 
 pub returns : goal.returns

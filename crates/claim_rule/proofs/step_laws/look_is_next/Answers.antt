@@ -1,4 +1,4 @@
-use Rattle.claim_rule.proofs.Looks.{look_is_next}
+use Rattle.claim_rule.proofs.Made.{look_is_next}
 use Rattle.claim_rule.proofs.step_laws.look_is_next.Goals as goal
 
 pub returns : goal.returns

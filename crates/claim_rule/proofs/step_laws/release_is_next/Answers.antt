@@ -1,4 +1,4 @@
-use Rattle.claim_rule.proofs.Releases.{release_is_next}
+use Rattle.claim_rule.proofs.Made.{release_is_next}
 use Rattle.claim_rule.proofs.step_laws.release_is_next.Goals as goal
 
 pub returns : goal.returns

@@ -66,7 +66,7 @@ report g c =
     } in
     let seats : c.clear-turns.new.seats.seats ≡ map seat_at c.make_all.new.desks = ap (λ (s : SeatsOf g.row.D.Denot). s.seats) c.clear-turns.ensures.seats ∙ ap (map seat_at) (whole g at) in
     let told = c.copy_marks.ensures ∙ (λ i. record { turns = of_marks g at i; marks = map marks_in (kept g at c.clear-turns.result c.clear-turns.ensures.turns i) }) in
-    is_report g.D.Decider.verdict c.in_ok-field.field c.args.lists.now.turns (turns_are g at) c.make_all.new.desks c.make_all.ensures.after (field_terms c.args.decider.now c.args.world c.args.lists.now) (terms g at) c.ended_field_is_reached.ensures run (callers g at) c.clear-turns.new.seats.seats seats c.close-world.result.0 c.close-world.result.1 c.close-world.ensures c.copy_marks.new.marks told
+    is_report g.D.Decider.verdict c.in_ok-field.field c.args.lists.now.turns (turns_are g at) c.make_all.new.desks c.make_all.ensures.after (field_terms c.args.decider.now c.args.world c.args.lists.now) (terms g at) c.ended_field_is_reached.ensures run (callers g at) c.clear-turns.new.seats.seats seats c.close-world.result.0 c.close-world.result.1 c.close-world.ensures.closes c.copy_marks.new.marks told
 
 pub clear-turns-requires-clause-taken : goal.clear-turns-requires-clause-taken
 clear-turns-requires-clause-taken g c κs within =

@@ -1,0 +1,178 @@
+-- Whatever view and act a seat has taken by a step, the table stands for the state after its caller's next step.
+use Rattle.std.proofs.Common.{◌≡◌, ℕ, ◌%◌, ◌/◌, List, [], ◌∷◌, length, set, Some, inl, inr, ap, sym, refl, subst, ◌∙◌, eqb, bit_or}
+use Rattle.std.specs.Prelude.{slice_index}
+use Rattle.std.proofs.lemmas.Bool.{cases_eq}
+use Rattle.std.proofs.lemmas.List.Elements.{All-head}
+use Rattle.std.proofs.lemmas.Option.{same_Some}
+use mathlib.Core.Option as home
+use prog.Atomic.{either}
+use Rattle.atomic_table.specs.Table.{step, homes_after}
+use Rattle.atomic_table.proofs.Lists.{set_here, set_else}
+use Rattle.amoebot_state.specs.declared.cell.CellName.{CellName}
+use Rattle.amoebot_state.specs.declared.cell.Cell.{Cell}
+use Rattle.amoebot_state.specs.declared.verdict.Change.{Change}
+use Rattle.amoebot_state.specs.declared.verdict.Verdict.{Verdict}
+use Rattle.amoebot_state.specs.Configs.{Config, value}
+use Rattle.amoebot_state.specs.Zones.{Shown}
+use Rattle.claim_core.specs.declared.state.Phase.TheVariants.{Taking, Committing, Refusing}
+use Rattle.claim_core.specs.Cells.{cells}
+use Rattle.claim_core.specs.Turns.{Kept}
+use Rattle.claim_core.specs.Machine.{Setup, State, after, caller_with_cell}
+use Rattle.claim_core.specs.Soundness.{IsHeld}
+use Rattle.claim_core.proofs.Sounds.{always}
+use Rattle.claim_rule.specs.declared.views.Slot.{Slot}
+use Rattle.claim_rule.specs.declared.views.Record.{Record}
+use Rattle.claim_rule.specs.declared.views.Terms.{Terms}
+use Rattle.claim_rule.specs.declared.views.View.{View}
+use Rattle.claim_rule.specs.Views.{Content, view_of, setup_of_terms}
+use Rattle.claim_rule.specs.Stands.{HasRecord, Stands, KeepsRule}
+use Rattle.claim_rule.specs.Plays.{IsToTry, IsToFree, IsToRead, Claims, Releases, ReadsLength, tried, marked_at, released_caller}
+use Rattle.claim_rule.specs.Commits.{Takes, IsToCommit, with_commit, with_journal, took, stored}
+use Rattle.claim_rule.specs.Nexts.{IsAt, IsEachStep, ClaimIsNext, ReleaseIsNext, LookIsNext, TakeIsNext, CommitIsNext}
+use Rattle.claim_rule.proofs.Tables.{cases, at_home}
+use Rattle.claim_rule.proofs.Determined.{AreAlike, SayTheSame, HasTwins, itself, same_journal, same_last, same_state}
+use Rattle.claim_rule.proofs.Claims.{claim_goes}
+use Rattle.claim_rule.proofs.Releases.{release_goes}
+use Rattle.claim_rule.proofs.Looks.{look_goes}
+use Rattle.claim_rule.proofs.Takings.{take_goes}
+use Rattle.claim_rule.proofs.Commits.{commit_goes}
+
+same_taking : (a b : Change) → Taking a ≡ Taking b → a ≡ b
+same_taking a b e = cc
+
+same_committing : (a b : Change) → Committing a ≡ Committing b → a ≡ b
+same_committing a b e = cc
+
+alike : (r : Record) → AreAlike r r
+alike r = record { number = refl; committed = refl }
+
+module _ {D : Type 0} {verdict : D → Shown → Verdict} {z : Terms D} {s : Content D} {steps : List ℕ} {seat : ℕ} {r : Record} (table : IsAt verdict z s steps seat r) where
+  abbrev g : Setup
+  g = setup_of_terms verdict z
+
+  abbrev last : ℕ
+  last = cells z.world
+
+  abbrev end : State
+  end = after g (r.number ∷ steps)
+
+  -- the table after a step with which the seat has this view, or this record alone
+  abbrev left : List ℕ → List (home.Option Slot) → View D → Content D
+  left words homes v = record { words = words; homes = homes; views = set s.views seat v }
+
+  abbrev given : List ℕ → List (home.Option Slot) → Record → Content D
+  given words homes p = left words homes (view_of z (p ∷ []))
+
+  here : (p : Record) → HasRecord (set s.views seat (view_of z (p ∷ []))) seat 0 p
+  here p = (view_of z (p ∷ []), set_here s.views seat (view_of z (p ∷ [])) (at_home s.views seat (view_of z (r ∷ [])) table.there), refl)
+
+  twins : (Twin : Record → Record → Type 0) → ((x : Record) → Twin x x) → (p q : Record) → Twin p q → HasTwins Twin (set s.views seat (view_of z (p ∷ []))) (set s.views seat (view_of z (q ∷ [])))
+  twins Twin same p q twin d j x has = elim (cases z s.views seat r p table.there d j x has) [
+    | inl mine ↦ (seat, 0, q, here q, subst (λ y. Twin y q) mine.2 twin)
+    | inr other ↦ (d, j, x, (other.1.0, set_else s.views seat d (view_of z (q ∷ [])) other.0 ∙ other.1.1, other.1.2), same x)
+  ]
+
+  -- a table that keeps the rule stands for the same state as another, where the seat's records say the same
+  stands_too : (words : List ℕ) (homes homes' : List (home.Option Slot)) (p q : Record) → Stands verdict z (given words homes' q) end
+      → ((other : List ℕ) → Stands verdict z (given words homes p) (after g other) → SayTheSame p q) → KeepsRule verdict z (given words homes p) → Stands verdict z (given words homes p) end
+  stands_too words homes homes' p q st says rule =
+      subst (Stands verdict z (given words homes p))
+      (same_state verdict z (given words homes p) (given words homes' q) table.run (after g rule.0) end (always g table.run rule.0) (always g table.run (r.number ∷ steps)) rule.1 st refl (twins SayTheSame itself p q (says rule.0 rule.1))) rule.1
+
+  by_view : (words : List ℕ) (homes homes' : List (home.Option Slot)) (w v : View D) (p q : Record) → w ≡ view_of z (p ∷ []) → v ≡ view_of z (q ∷ []) → Stands verdict z (left words homes' v) end
+      → ((other : List ℕ) → Stands verdict z (given words homes p) (after g other) → SayTheSame p q) → KeepsRule verdict z (left words homes w) → Stands verdict z (left words homes w) end
+  by_view words homes homes' w v p q w_is v_is st says rule =
+      subst (λ y. Stands verdict z (left words homes y) end) (sym w_is)
+      (stands_too words homes homes' p q (subst (λ y. Stands verdict z (left words homes' y) end) v_is st) says (subst (λ y. KeepsRule verdict z (left words homes y)) w_is rule))
+
+  -- the value of a cell that was won is determined, since the journal is
+  module _ (n : CellName) where
+    abbrev won : Cell → Record
+    won x = record r { caller = caller_with_cell g r.number r.caller n x }
+
+    value_is : (other words : List ℕ) (homes : List (home.Option Slot)) (x : Cell) → Stands verdict z (given words homes (won x)) (after g other) → value (always g table.run other).last n ≡ Some x
+    value_is other words homes x st =
+        let sound = always g table.run other in
+        let there = (st.views.each seat 0 (won x) (here (won x))).caller in
+        (All-head (IsHeld g (after g other) sound.last r.number r.caller.turn) (n, x) r.caller.held (sound.each r.number (won x).caller there).held).value
+
+    same_won : (words : List ℕ) (homes homes' : List (home.Option Slot)) (x y : Cell) → Stands verdict z (given words homes' (won y)) end → (other : List ℕ) → Stands verdict z (given words homes (won x)) (after g other) → SayTheSame (won x) (won y)
+    same_won words homes homes' x y st other st' =
+        let one = always g table.run other in
+        let two = always g table.run (r.number ∷ steps) in
+        let journal = same_journal verdict z (given words homes (won x)) (given words homes' (won y)) table.run (after g other) end one two st' st (twins AreAlike alike (won x) (won y) (record { number = refl; committed = refl })) in
+        let last_is = same_last verdict z (given words homes (won x)) (given words homes' (won y)) table.run (after g other) end one two journal in
+        let same : x ≡ y = same_Some x y (sym (value_is other words homes x st') ∙ ap (λ (c : Config). value c n) last_is ∙ value_is (r.number ∷ steps) words homes' y st) in
+        record { alike = record { number = refl; committed = refl }; caller = ap (λ v. caller_with_cell g r.number r.caller n v) same; taken = refl }
+
+  claim_each : (i t slots : ℕ) (out : List (ℕ × Slot)) → IsToTry verdict i t (view_of z (r ∷ [])) → IsEachStep verdict z s steps i seat (view_of z (r ∷ []), out)
+      (Claims verdict (step slots i 0 t home.none) (view_of z (r ∷ []), out)) (either (eqb (slice_index s.words i) 0) t (slice_index s.words i))
+  claim_each i t slots out to w a rule told =
+      let goes = claim_goes table i t slots out to in
+      let n = tried verdict (view_of z (r ∷ [])) in
+      let words = set s.words i (either (eqb (slice_index s.words i) 0) t (slice_index s.words i)) in
+      let homes = homes_after s.homes out a in
+      let homes' = homes_after s.homes out goes.1 in
+      elim (cases_eq (slice_index s.words i) 0) [
+        | inl free ↦
+            let one = told.0 free in
+            let two = goes.4.0 free in
+            by_view words homes homes' w goes.0 (won n one.value) (won n two.value) one.now two.now goes.3
+            (same_won n words homes homes' one.value two.value (subst (λ y. Stands verdict z (left words homes' y) end) two.now goes.3)) rule
+        | inr held ↦
+            let p = record r { caller = record r.caller { phase = Refusing n (slice_index s.words i) } } in
+            by_view words homes homes' w goes.0 p p (told.1 held).now (goes.4.1 held).now goes.3 (λ _ _. itself p) rule
+      ]
+
+  release_each : (i slots : ℕ) (out : List (ℕ × Slot)) → IsToFree verdict i (view_of z (r ∷ []), out) → IsEachStep verdict z s steps i seat (view_of z (r ∷ []), out) (λ _. Releases verdict (step slots i 0 0 home.none) (view_of z (r ∷ []), out) 0) 0
+  release_each i slots out to w a rule told =
+      let goes = release_goes table i slots out to in
+      let p = record r { caller = released_caller g r.caller } in
+      by_view (set s.words i 0) (homes_after s.homes out a) (homes_after s.homes out goes.1) w goes.0 p p told.0 goes.4.0 goes.3 (λ _ _. itself p) rule
+
+  look_each : (slots : ℕ) (out : List (ℕ × Slot)) → IsToRead r.caller.phase → IsEachStep verdict z s steps last seat (view_of z (r ∷ []), out) (ReadsLength verdict (step slots last 0 0 home.none) (view_of z (r ∷ []), out)) (slice_index s.words last)
+  look_each slots out to w a rule told =
+      let goes = look_goes table slots out to in
+      let p = record r { caller = marked_at g r.caller (slice_index s.words last / 2) } in
+      by_view (set s.words last (slice_index s.words last)) (homes_after s.homes out a) (homes_after s.homes out goes.1) w goes.0 p p told.0 goes.4.0 goes.3 (λ _ _. itself p) rule
+
+  take_each : (slots : ℕ) (out : List (ℕ × Slot)) → Takes r.caller.phase → IsEachStep verdict z s steps last seat (view_of z (r ∷ []), out) (took (step slots last 1 0 home.none) (view_of z (r ∷ []), out)) (bit_or (slice_index s.words last) 1)
+  take_each slots out to w a rule told =
+      let goes = take_goes table to slots out in
+      let words = set s.words last (bit_or (slice_index s.words last) 1) in
+      elim (cases_eq (slice_index s.words last % 2) 0) [
+        | inl even ↦
+            let one = told.0 even in
+            let two = goes.4.0 even in
+            let change = same_taking one.change two.change (sym one.phase ∙ two.phase) in
+            by_view words (homes_after s.homes out a) (homes_after s.homes out goes.1) w goes.0 (with_journal r one.change one.journal) (with_journal r two.change two.journal) one.now two.now goes.3
+            (λ _ _. record { alike = record { number = refl; committed = refl }; caller = ap (λ c. record r.caller { phase = Committing c }) change; taken = refl }) rule
+        | inr odd ↦
+            by_view words (homes_after s.homes out a) (homes_after s.homes out goes.1) w goes.0 r r (ap (λ (m : View D × List (ℕ × Slot)). m.0) (told.1 odd)) (ap (λ (m : View D × List (ℕ × Slot)). m.0) (goes.4.1 odd)) goes.3
+            (λ _ _. itself r) rule
+      ]
+
+  commit_each : (x slots : ℕ) (out : List (ℕ × Slot)) → IsToCommit verdict last x (view_of z (r ∷ []), out) → IsEachStep verdict z s steps last seat (view_of z (r ∷ []), out) (λ _. stored verdict (step slots last x 0 home.none) (view_of z (r ∷ []), out) x) x
+  commit_each x slots out to w a rule told =
+      let goes = commit_goes table x out to slots in
+      let one = told.0 in
+      let two = goes.4.0 in
+      let change = same_committing one.1.change two.1.change (sym one.1.phase ∙ two.1.phase) in
+      let place : one.0 ≡ two.0 = one.1.behind ∙ ap (λ (j : Kept). length j.entries) (same_Some one.1.journal two.1.journal (sym one.1.taken ∙ two.1.taken)) ∙ sym two.1.behind in
+      by_view (set s.words last x) (homes_after s.homes out a) (homes_after s.homes out goes.1) w goes.0 (with_commit g r one.1.change one.0) (with_commit g r two.1.change two.0) one.1.now two.1.now goes.3
+      (λ _ _. subst (SayTheSame (with_commit g r one.1.change one.0)) (λ i. with_commit g r (change i) (place i)) (itself (with_commit g r one.1.change one.0))) rule
+
+pub claim_is_next : {D : Type 0} (verdict : D → Shown → Verdict) (z : Terms D) → ClaimIsNext verdict z
+claim_is_next verdict z s steps seat i t slots r out is to = record { some = claim_goes is i t slots out to; each = claim_each is i t slots out to }
+
+pub release_is_next : {D : Type 0} (verdict : D → Shown → Verdict) (z : Terms D) → ReleaseIsNext verdict z
+release_is_next verdict z s steps seat i slots r out is to = record { some = release_goes is i slots out to; each = release_each is i slots out to }
+
+pub look_is_next : {D : Type 0} (verdict : D → Shown → Verdict) (z : Terms D) → LookIsNext verdict z
+look_is_next verdict z s steps seat slots r out is to = record { some = look_goes is slots out to; each = look_each is slots out to }
+
+pub take_is_next : {D : Type 0} (verdict : D → Shown → Verdict) (z : Terms D) → TakeIsNext verdict z
+take_is_next verdict z s steps seat slots r out is to = record { some = take_goes is to slots out; each = take_each is slots out to }
+
+pub commit_is_next : {D : Type 0} (verdict : D → Shown → Verdict) (z : Terms D) → CommitIsNext verdict z
+commit_is_next verdict z s steps seat x slots r out is to = record { some = commit_goes is x out to slots; each = commit_each is x slots out to }
