@@ -11,3 +11,5 @@ pub mod DocumentRowLemmas
 pub mod Fine
 pub mod FittingLemmas
 pub mod RunTextsLemmas
+pub mod BareFaults
+pub mod WholeTextsLemmas

@@ -6,6 +6,7 @@ pub mod FrameLaws
 pub mod Documents
 pub mod DocumentReaders
 pub mod RunTexts
+pub mod WholeTexts
 pub mod Fitting
 pub mod DocumentRows
 pub use Rattle.action_tree.specs.Stored
