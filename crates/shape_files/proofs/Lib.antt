@@ -13,3 +13,4 @@ pub mod FittingLemmas
 pub mod RunTextsLemmas
 pub mod BareFaults
 pub mod WholeTextsLemmas
+pub mod WholeTextRowLemmas

@@ -9,6 +9,7 @@ ghost use Rattle.shape_files.specs.DocumentReaders.{body};
 ghost use Rattle.shape_files.specs.DocumentRows.{DocumentsAreRead};
 ghost use Rattle.shape_files.specs.RunTexts.{RunsAreReplayed};
 ghost use Rattle.shape_files.specs.WholeTexts.{DocumentsReadBack};
+ghost use Rattle.shape_files.specs.WholeTextRows.{WholeTextRows};
 ghost use Rattle.shape_files.specs.Fitting.{DocumentsFit};
 ghost use Rattle.shape_files.specs.FrameLaws.{AreSections, FrameLaw, HeaderIsDecided, StraightLaw, FormsAreDistinct};
 
@@ -50,9 +51,10 @@ pub fn runs_are_replayed()
 /// A document that is printed whole has exactly what was printed, lines of the program aside.
 ///
 /// That is the header, the canonical program, and the shape, the journal, the last shape and the turns, as far as each is there,
-/// in each form that has no other section.
+/// in each form that has no other section. The texts of two small documents are written out.
 pub fn documents_read_back()
-    ensures { DocumentsReadBack }
+    ensures law { DocumentsReadBack }
+    ensures small { WholeTextRows }
 {}
 
 /// What a document has fits together: it has the sections of its form, its maxima are those of its program, and its lists, its
