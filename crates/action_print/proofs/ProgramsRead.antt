@@ -22,7 +22,7 @@ use Rattle.action_tree.proofs.ProgramLaws.{exact_program}
 use Rattle.action_print.specs.Canon.{guard_words, stmts_words, move_words, guard_line, var_line, do_lines, action_lines, program_lines}
 use Rattle.action_print.specs.ReadsBack.{CanonReadsBack, CanonIsRead}
 use Rattle.text_tokens.proofs.Exactness.{none_stops}
-use Rattle.text_tokens.proofs.LinesLemmas.{Rereads, rereads_by, rereads_two, rereads_none, reread_lines, lines_found, rereads_kept}
+use Rattle.text_tokens.proofs.LinesLemmas.{Rereads, RereadsLines, rereads_by, rereads_two, rereads_none, reread_lines, lines_found, rereads_kept}
 use Rattle.text_tokens.proofs.InSequence.{rereads_three, rereads_five, rereads_six}
 use Rattle.action_print.proofs.Leaves.{a_word, free_of, a_name, a_number, an_end, a_port_move, a_switch}
 use Rattle.action_print.proofs.ExpressionsRead.{IsGuardOf, port_read}
@@ -116,7 +116,7 @@ guarded_read true = rereads_two {T = λ b. b ≡ true} (λ t b. b) (λ xs ys t b
 guarded_read false = rereads_two {T = λ b. b ≡ false} (λ t b. b) (λ xs ys t b p q. of_first (then t p q)) (λ t b p q. q) (a_word free_of GuardWord (codes "guard") refl refl) (rereads_by _ (λ xs t p. made t p) (λ t e. e) (a_switch false (codes "off") refl refl refl))
 
 -- the lines of a program, with its first and its last
-abbrev all_lines : Program → List Words
+abbrev pub all_lines : Program → List Words
 all_lines p = (codes "program" ∷ []) ∷ program_lines p ++ (codes "end" ∷ []) ∷ []
 
 abbrev program_words : Program → Words
@@ -137,12 +137,14 @@ program_read p f =
     (a_word free_of ProgramWord (codes "program") refl refl) (guarded_read p.guard) (vars_read p.vars most_vars (leb-true _ most_vars (left_of _ _ vs)) (right_of _ _ vs))
     (actions_read p.actions most_actions (leb-true _ most_actions (right_of _ _ few)) (right_of _ _ f)) (a_word free_of LastWord (codes "end") refl refl)
 
+pub canon_lines : (p : Program) → is_writable p ≡ true → RereadsLines IsProgram (λ q. without_lines q ≡ without_lines p) (all_lines p)
+canon_lines p f = reread_lines (all_lines p) (subst (λ (words : Words). Rereads IsProgram (λ q. without_lines q ≡ without_lines p) words) (sym (program_lines_are p)) (program_read p f))
+
 -- ---- the law
 
 pub canon_reads_back : CanonReadsBack
 canon_reads_back p f ts last are =
-    let read = subst (λ (words : Words). Rereads IsProgram (λ q. without_lines q ≡ without_lines p) words) (sym (program_lines_are p)) (program_read p f) in
-    let found = lines_found (all_lines p) (reread_lines (all_lines p) read) ts last are in
+    let found = lines_found (all_lines p) (canon_lines p f) ts last are in
     let r = found.0 in
     record {
       program = r.value;

@@ -1,9 +1,10 @@
 //! The section `journal` read.
 
-ghost use Rattle.std.specs.Prelude.{◌≡◌, ◌<◌, ◌≤◌, length, map, option_map, nat_lt, if◌then◌else◌, IfOk, IfSome, Some, None};
+ghost use Rattle.std.specs.Prelude.{◌≡◌, ◌≢◌, ◌<◌, ◌≤◌, length, map, option_map, nat_lt, if◌then◌else◌, IfErr, IfOk, IfSome, Some, None};
 ghost use Rattle.std.specs.List.{flat_map, list_all};
 ghost use Rattle.text_tokens.specs.Cursor.{next_passes};
 ghost use Rattle.text_tokens.specs.Steps.{Gives, ReadsOf, TellsOf, another};
+ghost use Rattle.text_tokens.specs.declared.refusal.ReadRefusal.TheVariants.{NoMemory};
 ghost use Rattle.amoebot_state.specs.declared.cell.Cell.TheVariants as cell;
 ghost use Rattle.amoebot_state.specs.Limits.{most_vars, most_pairs};
 ghost use Rattle.claim_core.specs.Limits.{most_turns};
@@ -129,7 +130,8 @@ fn read_moved(tokens: &mut Tokens<'_>) -> Result<Moved, ReadRefusal>
 
 /// A cell, with the number of any amoebot.
 pub(crate) fn read_cell(tokens: &mut Tokens<'_>) -> Result<WrittenCell, ReadRefusal>
-    ensures { Gives view.cell reader.a_cell tokens.old result tokens.new }
+    ensures reads { Gives view.cell reader.a_cell tokens.old result tokens.new }
+    ensures sure { IfErr result (λ e. e ≢ NoMemory) }
 {
     if tokens.is_next(TokenKind::Word, b"spot") {
         read_word(tokens, b"spot")?;

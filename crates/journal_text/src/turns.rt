@@ -1,10 +1,11 @@
 //! The section `turns` read.
 
-ghost use Rattle.std.specs.Prelude.{◌≡◌};
+ghost use Rattle.std.specs.Prelude.{◌≡◌, ◌≢◌, IfErr};
 ghost use Rattle.std.specs.List.{list_any};
 ghost use Rattle.std.specs.Str.{bytes_eq};
 ghost use Rattle.text_tokens.specs.Reading as reading;
 ghost use Rattle.text_tokens.specs.Steps.{Gives, ReadsOf, TellsOf, another};
+ghost use Rattle.text_tokens.specs.declared.refusal.ReadRefusal.TheVariants.{NoMemory};
 ghost use Rattle.journal_text.specs.Turns as spec;
 ghost use Rattle.journal_text.specs.Readers as reader;
 
@@ -42,7 +43,8 @@ fn is_one_of(word: &[u8], words: &[&str]) -> bool
 /// The word of a failure, for its line.
 #[tactic(auto, unfolding(text_tokens::specs::Reading::the_line))]
 fn read_failure(tokens: &mut Tokens<'_>) -> Result<u32, ReadRefusal>
-    ensures { Gives (λ line. line) (reading.the_line spec.is_failure) tokens.old result tokens.new }
+    ensures reads { Gives (λ line. line) (reading.the_line spec.is_failure) tokens.old result tokens.new }
+    ensures sure { IfErr result (λ e. e ≢ NoMemory) }
 {
     let token = tokens.take_kind(TokenKind::Word)?;
     if !names_failure(tokens.text(&token)) {
@@ -54,7 +56,8 @@ fn read_failure(tokens: &mut Tokens<'_>) -> Result<u32, ReadRefusal>
 /// A number behind this word.
 #[tactic(auto, unfolding(crate::specs::Readers::placed_mark))]
 fn read_placed(tokens: &mut Tokens<'_>, text: &[u8]) -> Result<(), ReadRefusal>
-    ensures { Gives (λ u. u) (reader.placed_mark text.now) tokens.old result tokens.new }
+    ensures reads { Gives (λ u. u) (reader.placed_mark text.now) tokens.old result tokens.new }
+    ensures sure { IfErr result (λ e. e ≢ NoMemory) }
 {
     read_word(tokens, text)?;
     number(tokens)?;
@@ -63,7 +66,8 @@ fn read_placed(tokens: &mut Tokens<'_>, text: &[u8]) -> Result<(), ReadRefusal>
 
 #[tactic(auto, unfolding(crate::specs::Readers::a_failed))]
 fn read_failed(tokens: &mut Tokens<'_>) -> Result<(), ReadRefusal>
-    ensures { Gives (λ u. u) reader.a_failed tokens.old result tokens.new }
+    ensures reads { Gives (λ u. u) reader.a_failed tokens.old result tokens.new }
+    ensures sure { IfErr result (λ e. e ≢ NoMemory) }
 {
     read_word(tokens, b"failed")?;
     read_failure(tokens)?;
@@ -74,7 +78,8 @@ fn read_failed(tokens: &mut Tokens<'_>) -> Result<(), ReadRefusal>
 /// The caller, the turn and the amoebot of a claim.
 #[tactic(auto, unfolding(crate::specs::Readers::a_claimant))]
 fn read_claimant(tokens: &mut Tokens<'_>) -> Result<(), ReadRefusal>
-    ensures { Gives (λ u. u) reader.a_claimant tokens.old result tokens.new }
+    ensures reads { Gives (λ u. u) reader.a_claimant tokens.old result tokens.new }
+    ensures sure { IfErr result (λ e. e ≢ NoMemory) }
 {
     read_word(tokens, b"by")?;
     number(tokens)?;
@@ -85,7 +90,8 @@ fn read_claimant(tokens: &mut Tokens<'_>) -> Result<(), ReadRefusal>
 
 #[tactic(auto, unfolding(crate::specs::Readers::a_busy))]
 fn read_busy(tokens: &mut Tokens<'_>) -> Result<(), ReadRefusal>
-    ensures { Gives (λ u. u) reader.a_busy tokens.old result tokens.new }
+    ensures reads { Gives (λ u. u) reader.a_busy tokens.old result tokens.new }
+    ensures sure { IfErr result (λ e. e ≢ NoMemory) }
 {
     read_word(tokens, b"busy")?;
     read_cell(tokens)?;
@@ -94,7 +100,8 @@ fn read_busy(tokens: &mut Tokens<'_>) -> Result<(), ReadRefusal>
 }
 
 fn read_mark(tokens: &mut Tokens<'_>) -> Result<(), ReadRefusal>
-    ensures { Gives (λ u. u) reader.a_mark tokens.old result tokens.new }
+    ensures reads { Gives (λ u. u) reader.a_mark tokens.old result tokens.new }
+    ensures sure { IfErr result (λ e. e ≢ NoMemory) }
 {
     if tokens.is_next(TokenKind::Word, b"done") {
         read_placed(tokens, b"done")
@@ -109,7 +116,8 @@ fn read_mark(tokens: &mut Tokens<'_>) -> Result<(), ReadRefusal>
 
 #[tactic(auto, unfolding(crate::specs::Readers::a_turn))]
 fn read_turn(tokens: &mut Tokens<'_>) -> Result<(), ReadRefusal>
-    ensures { Gives (λ u. u) reader.a_turn tokens.old result tokens.new }
+    ensures reads { Gives (λ u. u) reader.a_turn tokens.old result tokens.new }
+    ensures sure { IfErr result (λ e. e ≢ NoMemory) }
 {
     read_word(tokens, b"turn")?;
     number(tokens)?;
@@ -119,7 +127,8 @@ fn read_turn(tokens: &mut Tokens<'_>) -> Result<(), ReadRefusal>
 
 /// One more turn, if one comes.
 fn more_turn(tokens: &mut Tokens<'_>) -> Result<Option<()>, ReadRefusal>
-    ensures { Gives (λ o. o) (another spec.is_turn reader.a_turn) tokens.old result tokens.new }
+    ensures reads { Gives (λ o. o) (another spec.is_turn reader.a_turn) tokens.old result tokens.new }
+    ensures sure { IfErr result (λ e. e ≢ NoMemory) }
 {
     if !tokens.is_next(TokenKind::Word, b"turn") {
         return Ok(None);
@@ -129,7 +138,8 @@ fn more_turn(tokens: &mut Tokens<'_>) -> Result<Option<()>, ReadRefusal>
 }
 
 fn read_all_turns(tokens: &mut Tokens<'_>) -> Result<(), ReadRefusal>
-    ensures { Gives (λ u. u) (reader.unheeded reader.all_turn_lines) tokens.old result tokens.new }
+    ensures reads { Gives (λ u. u) (reader.unheeded reader.all_turn_lines) tokens.old result tokens.new }
+    ensures sure { IfErr result (λ e. e ≢ NoMemory) }
 {
     while let Some(()) = more_turn(tokens)? {}
     Ok(())
@@ -137,7 +147,8 @@ fn read_all_turns(tokens: &mut Tokens<'_>) -> Result<(), ReadRefusal>
 
 #[tactic(auto, unfolding(crate::specs::Readers::the_turns))]
 fn read_whole(tokens: &mut Tokens<'_>) -> Result<(), ReadRefusal>
-    ensures { Gives (λ u. u) reader.the_turns tokens.old result tokens.new }
+    ensures reads { Gives (λ u. u) reader.the_turns tokens.old result tokens.new }
+    ensures sure { IfErr result (λ e. e ≢ NoMemory) }
 {
     read_word(tokens, b"turns")?;
     read_all_turns(tokens)?;
@@ -145,10 +156,11 @@ fn read_whole(tokens: &mut Tokens<'_>) -> Result<(), ReadRefusal>
     Ok(())
 }
 
-/// Reads the section `turns` up to its `end`, by its grammar alone.
+/// Reads the section `turns` up to its `end`, by its grammar alone. It takes no memory, and never answers out of memory.
 pub fn read_turns(tokens: &mut Tokens<'_>) -> Result<(), ReadRefusal>
     ensures tells { TellsOf spec.IsTurns (λ u. u) tokens.old result tokens.new }
     ensures reads { ReadsOf spec.IsTurns (λ u. u) tokens.old result tokens.new }
+    ensures sure { IfErr result (λ e. e ≢ NoMemory) }
 {
     read_whole(tokens)
 }

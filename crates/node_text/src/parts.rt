@@ -1,10 +1,12 @@
-//! What several sections have: numbers, nodes, ends, ports and amoebots.
+//! What several sections have: numbers, nodes, ends, ports and amoebots. No reader here takes memory, so none answers out of
+//! memory.
 
-ghost use Rattle.std.specs.Prelude.{◌≡◌, ◌<◌, ◌≤◌, ◌≤ℤ◌, ◌-ℤ◌, pos, length, IfOk};
+ghost use Rattle.std.specs.Prelude.{◌≡◌, ◌≢◌, ◌<◌, ◌≤◌, ◌≤ℤ◌, ◌-ℤ◌, pos, length, IfErr, IfOk};
 ghost use Rattle.tri_lattice.specs.Lattice.{IsNear};
 ghost use Rattle.amoebot_state.specs.Limits.{most_vars};
 ghost use Rattle.amoebot_state.specs.Refusals.{IsBotInRange};
 ghost use Rattle.text_tokens.specs.Steps.{Gives};
+ghost use Rattle.text_tokens.specs.declared.refusal.ReadRefusal.TheVariants.{NoMemory};
 ghost use Rattle.node_text.specs.Parts as spec;
 ghost use Rattle.node_text.specs.PartReaders as reader;
 
@@ -18,7 +20,8 @@ const VALUES: usize = 8;
 
 /// The word that has to stand here, for its line.
 pub fn read_word(tokens: &mut Tokens<'_>, text: &[u8]) -> Result<u32, ReadRefusal>
-    ensures { Gives (λ line. line) (reader.a_word text.now) tokens.old result tokens.new }
+    ensures reads { Gives (λ line. line) (reader.a_word text.now) tokens.old result tokens.new }
+    ensures sure { IfErr result (λ e. e ≢ NoMemory) }
 {
     the_line(tokens, TokenKind::Word, text)
 }
@@ -32,6 +35,7 @@ pub fn read_word_within(
 ) -> Result<u32, ReadRefusal>
     ensures reads { Gives (λ line. line) (reader.word_within text.now most before) tokens.old result tokens.new }
     ensures room { IfOk result (λ _. before < most) }
+    ensures sure { IfErr result (λ e. e ≢ NoMemory) }
 {
     let token = tokens.take(TokenKind::Word, text)?;
     if before >= most {
@@ -44,6 +48,7 @@ pub fn read_word_within(
 pub fn read_up_to(tokens: &mut Tokens<'_>, most: u32) -> Result<u32, ReadRefusal>
     ensures reads { Gives (λ n. n) (reader.up_to most) tokens.old result tokens.new }
     ensures within { IfOk result (λ n. n ≤ most) }
+    ensures sure { IfErr result (λ e. e ≢ NoMemory) }
 {
     number_up_to(tokens, most, RefusalKind::BadRange)
 }
@@ -54,6 +59,7 @@ pub fn read_int(tokens: &mut Tokens<'_>, most: u16) -> Result<i16, ReadRefusal>
     ensures reads { Gives (λ z. z) (reader.an_int most) tokens.old result tokens.new }
     ensures low { IfOk result (λ z. (pos 0 -ℤ pos most) ≤ℤ z) }
     ensures high { IfOk result (λ z. z ≤ℤ pos most) }
+    ensures sure { IfErr result (λ e. e ≢ NoMemory) }
 {
     if tokens.is_next(TokenKind::Sign, b"-") {
         the_line(tokens, TokenKind::Sign, b"-")?;
@@ -68,6 +74,7 @@ pub fn read_int(tokens: &mut Tokens<'_>, most: u16) -> Result<i16, ReadRefusal>
 pub fn read_node(tokens: &mut Tokens<'_>) -> Result<Node, ReadRefusal>
     ensures reads { Gives (λ v. v) reader.a_node tokens.old result tokens.new }
     ensures near { IfOk result IsNear }
+    ensures sure { IfErr result (λ e. e ≢ NoMemory) }
 {
     let x = read_int(tokens, 9999)?;
     let y = read_int(tokens, 9999)?;
@@ -76,7 +83,8 @@ pub fn read_node(tokens: &mut Tokens<'_>) -> Result<Node, ReadRefusal>
 
 /// An end of an amoebot.
 pub fn read_end(tokens: &mut Tokens<'_>) -> Result<End, ReadRefusal>
-    ensures { Gives (λ e. e) reader.an_end tokens.old result tokens.new }
+    ensures reads { Gives (λ e. e) reader.an_end tokens.old result tokens.new }
+    ensures sure { IfErr result (λ e. e ≢ NoMemory) }
 {
     if tokens.is_next(TokenKind::Word, b"head") {
         read_word(tokens, b"head")?;
@@ -89,7 +97,8 @@ pub fn read_end(tokens: &mut Tokens<'_>) -> Result<End, ReadRefusal>
 
 /// A chirality.
 pub fn read_chirality(tokens: &mut Tokens<'_>) -> Result<Chir, ReadRefusal>
-    ensures { Gives (λ c. c) reader.a_chirality tokens.old result tokens.new }
+    ensures reads { Gives (λ c. c) reader.a_chirality tokens.old result tokens.new }
+    ensures sure { IfErr result (λ e. e ≢ NoMemory) }
 {
     if tokens.is_next(TokenKind::Sign, b"+") {
         the_line(tokens, TokenKind::Sign, b"+")?;
@@ -103,7 +112,8 @@ pub fn read_chirality(tokens: &mut Tokens<'_>) -> Result<Chir, ReadRefusal>
 /// A port, whose direction is 0 to 5.
 #[tactic(auto, unfolding(crate::specs::PartReaders::a_port_text))]
 pub fn read_port(tokens: &mut Tokens<'_>) -> Result<Port, ReadRefusal>
-    ensures { Gives (λ p. p) reader.a_port_text tokens.old result tokens.new }
+    ensures reads { Gives (λ p. p) reader.a_port_text tokens.old result tokens.new }
+    ensures sure { IfErr result (λ e. e ≢ NoMemory) }
 {
     let end = read_end(tokens)?;
     let dir = read_up_to(tokens, 5)? as u8;
@@ -113,7 +123,8 @@ pub fn read_port(tokens: &mut Tokens<'_>) -> Result<Port, ReadRefusal>
 /// A value for each variable, of which there are at most 8.
 fn read_values(tokens: &mut Tokens<'_>, vars: u8) -> Result<ArrayVec<u8, VALUES>, ReadRefusal>
     requires { vars ≤ most_vars }
-    ensures { Gives (λ values. values.items) (reader.values vars) tokens.old result tokens.new }
+    ensures reads { Gives (λ values. values.items) (reader.values vars) tokens.old result tokens.new }
+    ensures sure { IfErr result (λ e. e ≢ NoMemory) }
 {
     let mut values = ArrayVec::new();
     for _variable in 0..vars {
@@ -140,6 +151,7 @@ pub fn read_bot(tokens: &mut Tokens<'_>, vars: u8) -> Result<Bot, ReadRefusal>
     requires { vars ≤ most_vars }
     ensures reads { Gives (λ b. b) (reader.a_bot vars) tokens.old result tokens.new }
     ensures plain { IfOk result IsBotInRange }
+    ensures sure { IfErr result (λ e. e ≢ NoMemory) }
 {
     let head = read_node(tokens)?;
     let tail = read_node(tokens)?;

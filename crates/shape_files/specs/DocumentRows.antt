@@ -93,14 +93,14 @@ out =
       moved = through expand (at_end Head (fixed direction));
     } ∷ [])
 
-abbrev expanded : Bot
-expanded = shape_bot (pos 3) (pos 3) (pos 2) (pos 3) 0 Plus []
+abbrev pub bot_after : Bot
+bot_after = shape_bot (pos 3) (pos 3) (pos 2) (pos 3) 0 Plus []
 
-abbrev one_bot : Bot → Config
-one_bot b = config_of eight_by_eight zeros (b ∷ [])
+abbrev pub shape_of_one : Bot → Config
+shape_of_one b = config_of eight_by_eight zeros (b ∷ [])
 
-abbrev expansion : Entry
-expansion = record {
+abbrev pub entry_made : Entry
+entry_made = record {
   caller = 0;
   turn = 0;
   bot = 0;
@@ -108,23 +108,23 @@ expansion = record {
   moved = moved.Expand (port Head 0);
   patch =
       a_pair_of (name.Spot (a_node_of (pos 3) (pos 3))) (cell.Spot (Some 0))
-      ∷ a_pair_of (name.Body 0) (cell.Body expanded) ∷ [];
+      ∷ a_pair_of (name.Body 0) (cell.Body bot_after) ∷ [];
 }
 
 abbrev pub only_program : Contents
 only_program = record { checked = Some out; world = None; lists = None; schedule = None; entries = None; final_world = None }
 
-abbrev and_shape : Contents
-and_shape = record only_program { world = Some (one_bot (shape_bot (pos 2) (pos 3) (pos 2) (pos 3) 0 Plus [])) }
+abbrev pub program_and_shape : Contents
+program_and_shape = record only_program { world = Some (shape_of_one (shape_bot (pos 2) (pos 3) (pos 2) (pos 3) 0 Plus [])) }
 
 abbrev and_lists : Contents
-and_lists = record and_shape { lists = Some (lists_of 2 ((0 ∷ []) ∷ [])) }
+and_lists = record program_and_shape { lists = Some (lists_of 2 ((0 ∷ []) ∷ [])) }
 
 abbrev and_schedule : Contents
 and_schedule = record and_lists { schedule = Some (0 ∷ 0 ∷ []) }
 
-abbrev recorded : Contents → Contents
-recorded a = record a { entries = Some (expansion ∷ []); final_world = Some (one_bot expanded) }
+abbrev pub with_record : Contents → Contents
+with_record a = record a { entries = Some (entry_made ∷ []); final_world = Some (shape_of_one bot_after) }
 
 -- ---- documents
 
@@ -134,17 +134,17 @@ document_rows =
     ∷ has Run (with_lists ++ schedule_text) and_schedule
     ∷ has Interleave (with_lists ++ schedule_text) and_schedule
     ∷ has Check program_text only_program
-    ∷ has Check with_shape and_shape
+    ∷ has Check with_shape program_and_shape
     ∷ has Check with_lists and_lists
     ∷ has Check (with_lists ++ schedule_text) and_schedule
-    ∷ has Replay (with_shape ++ record_text) (recorded and_shape)
-    ∷ has Replay (with_lists ++ record_text ++ turns_section) (recorded and_lists)
-    ∷ has Replay (with_lists ++ schedule_text ++ record_text ++ turns_section) (recorded and_schedule)
-    ∷ has Measure with_shape and_shape
+    ∷ has Replay (with_shape ++ record_text) (with_record program_and_shape)
+    ∷ has Replay (with_lists ++ record_text ++ turns_section) (with_record and_lists)
+    ∷ has Replay (with_lists ++ schedule_text ++ record_text ++ turns_section) (with_record and_schedule)
+    ∷ has Measure with_shape program_and_shape
     ∷ has Measure with_lists and_lists
     ∷ has Measure (with_lists ++ schedule_text) and_schedule
-    ∷ has Measure (with_shape ++ record_text) (recorded and_shape)
-    ∷ has Measure (with_lists ++ record_text ++ turns_section) (recorded and_lists)
+    ∷ has Measure (with_shape ++ record_text) (with_record program_and_shape)
+    ∷ has Measure (with_lists ++ record_text ++ turns_section) (with_record and_lists)
     ∷ []
 
 -- ---- texts that are none

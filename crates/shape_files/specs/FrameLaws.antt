@@ -8,8 +8,13 @@ use Rattle.text_tokens.specs.Lawful.{IsWhole, Exact, IsDecided, always, IsPart, 
 use Rattle.text_tokens.specs.Inputs.{IsDecidedInput, ExactInput}
 use Rattle.shape_files.specs.declared.section_kind.Section.{Section}
 use Rattle.shape_files.specs.declared.section_kind.Form.{Form}
-use Rattle.shape_files.specs.Frame.{Course, ends, needs, may, course_of, is_word_of_section, comes, IsRest, IsInFrame}
-use Rattle.shape_files.specs.FrameReaders.{in_frame}
+use Rattle.shape_files.specs.Frame.{Course, ends, needs, may, course_of, is_word_of_section, comes, IsRest, IsHeader, IsInFrame}
+use Rattle.shape_files.specs.FrameReaders.{header, in_frame}
+
+-- Of any tokens the header says one thing, and its reader answers it.
+pub record HeaderIsDecided : Type 0 where
+  pub exact : Exact IsHeader header
+  pub decided : IsDecided IsHeader
 
 -- What the frame asks of the sections: in every state each is a part behind which nothing of it comes, and begins with its word.
 pub record AreSections {S : Type 0} (Body : Section → S → Lang S) (body : Section → S → Reader S) : Type 0 where

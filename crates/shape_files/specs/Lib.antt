@@ -6,8 +6,10 @@ pub mod FrameLaws
 pub mod Documents
 pub mod DocumentReaders
 pub mod RunTexts
+pub mod WholeTexts
 pub mod Fitting
 pub mod DocumentRows
+pub mod WholeTextRows
 pub use Rattle.action_tree.specs.Stored
 pub use Rattle.amoebot_state.specs.Limits
 pub use Rattle.text_tokens.specs.Grammar

@@ -8,8 +8,10 @@ ghost use Rattle.shape_files.specs.Documents.{Body, DocumentsAreDecided, FormsAr
 ghost use Rattle.shape_files.specs.DocumentReaders.{body};
 ghost use Rattle.shape_files.specs.DocumentRows.{DocumentsAreRead};
 ghost use Rattle.shape_files.specs.RunTexts.{RunsAreReplayed};
+ghost use Rattle.shape_files.specs.WholeTexts.{DocumentsReadBack};
+ghost use Rattle.shape_files.specs.WholeTextRows.{WholeTextRows};
 ghost use Rattle.shape_files.specs.Fitting.{DocumentsAreSound, DocumentsFit};
-ghost use Rattle.shape_files.specs.FrameLaws.{AreSections, FrameLaw, StraightLaw, FormsAreDistinct};
+ghost use Rattle.shape_files.specs.FrameLaws.{AreSections, FrameLaw, HeaderIsDecided, StraightLaw, FormsAreDistinct};
 
 /// The sections of a document, each in the state that those before it gave, with what it makes of the state.
 pub trait Sectioned {
@@ -30,10 +32,11 @@ pub fn forms_are_straight<S: Sectioned>()
 
 /// A text is a document of a form in one way, or has one first fault, and never both.
 ///
-/// The sections of documents are such as the frame asks for, each form is that which is written down, and some texts are
-/// documents or have this first fault.
+/// So is the header alone. The sections of documents are such as the frame asks for, each form is that which is written down,
+/// and some texts are documents or have this first fault.
 pub fn documents_are_decided()
     ensures decided { DocumentsAreDecided }
+    ensures header { HeaderIsDecided }
     ensures sections { AreSections Body body }
     ensures plain { FormsAreStraight }
     ensures read { DocumentsAreRead }
@@ -43,6 +46,15 @@ pub fn documents_are_decided()
 /// run's entries and its last configuration.
 pub fn runs_are_replayed()
     ensures { RunsAreReplayed }
+{}
+
+/// A document that is printed whole has exactly what was printed, lines of the program aside.
+///
+/// That is the header, the canonical program, and the shape, the journal, the last shape and the turns, as far as each is there,
+/// in each form that has no other section. The texts of two small documents are written out.
+pub fn documents_read_back()
+    ensures law { DocumentsReadBack }
+    ensures small { WholeTextRows }
 {}
 
 /// What a document has fits together: it has the sections of its form, its maxima are those of its program, and its lists, its

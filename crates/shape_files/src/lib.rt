@@ -11,8 +11,8 @@ mod section_kind;
 
 pub use document::read_sections;
 pub use document_laws::{
-    Sectioned, documents_are_decided, documents_are_sound, documents_fit, forms_are_straight,
-    in_frame, runs_are_replayed,
+    Sectioned, documents_are_decided, documents_are_sound, documents_fit, documents_read_back,
+    forms_are_straight, in_frame, runs_are_replayed,
 };
 pub use head::read_head;
 pub use parts::{Parts, Sections};

@@ -1,4 +1,4 @@
--- The laws of the small journal.
+-- The laws of groups.
 use Rattle.std.proofs.Common.{ℕ, Bool, refl, ap}
 use Rattle.std.proofs.lemmas.Bool.{not-true}
 use Rattle.std.specs.Prelude.{codes, not}
@@ -25,7 +25,7 @@ part_pair = part_behind (IsThe is_group_pair) (the_line is_group_pair) (λ line.
 starts_pair : Starts IsGroupPair is_group_pair no_limit
 starts_pair = starts_then (IsThe is_group_pair) (λ line. IsNumeral (too_large 9 BadRange)) is_group_pair no_limit (starts_the is_group_pair) (λ line. some_text (IsNumeral (too_large 9 BadRange)) (numeral (too_large 9 BadRange)) (a_numeral (too_large 9 BadRange)).law)
 
--- nothing but a pair goes on behind the pairs of an entry
+-- nothing but a pair goes on behind the pairs of a group
 abbrev pub no_pair : Lexeme → Bool
 no_pair t = not (is_group_pair t)
 
@@ -39,7 +39,7 @@ part_pairs : IsPart (AtMost 2 IsGroupPair) all_group_pairs no_pair
 unfolding all_group_pairs
 part_pairs = part_repeated PairIn group_pair_in (λ room a. less room) is_group_pair always no_pair pair_elements 2
 
--- ---- entries
+-- ---- groups
 
 abbrev WithPairs : ℕ → ℕ → Lang WrittenGroup
 WithPairs line count = Made (AtMost 2 IsGroupPair) (λ ps. record { line = line; count = count; pairs = ps })
@@ -80,9 +80,9 @@ part_entries = part_repeated EntryIn group_in same_state is_group no_pair is_gro
 
 -- ---- the whole
 
-pub part_journal : IsPart AreGroups groups_to_end always
+pub part_groups : IsPart AreGroups groups_to_end always
 unfolding groups_to_end
-part_journal = part_closed (Repeated (λ s. IsGroup) same_state tt) all_groups is_groups_end (passing Word (codes "end")) (passes Word (codes "end") refl) part_entries
+part_groups = part_closed (Repeated (λ s. IsGroup) same_state tt) all_groups is_groups_end (passing Word (codes "end")) (passes Word (codes "end") refl) part_entries
 
-pub exact_journal : Exact AreGroups groups_to_end
-exact_journal = exact AreGroups groups_to_end part_journal.law
+pub exact_groups : Exact AreGroups groups_to_end
+exact_groups = exact AreGroups groups_to_end part_groups.law

@@ -1,4 +1,4 @@
--- When an entry of the small journal is judged.
+-- When a group is judged.
 use Rattle.std.specs.Prelude.{ℕ, List, [], ◌∷◌, codes}
 use Rattle.text_tokens.specs.declared.token.TokenKind.TheVariants.{Word, Number}
 use Rattle.text_tokens.specs.declared.refusal.Refusal.{Refusal}
@@ -14,7 +14,7 @@ word_on line text = record { kind = Word; text = text; «from» = 0; line = line
 abbrev pub number_on : ℕ → List ℕ → Lexeme
 number_on line text = record { kind = Number; text = text; «from» = 0; line = line }
 
--- on line 1 an entry of two pairs, on line 2 one of them, and then what follows
+-- on line 1 a group of two pairs, on line 2 one of them, and then what follows
 abbrev pub half_group : List Lexeme → List Lexeme
 half_group rest = word_on 1 (codes "entry") ∷ number_on 1 (codes "2") ∷ word_on 2 (codes "pair") ∷ number_on 2 (codes "7") ∷ rest
 

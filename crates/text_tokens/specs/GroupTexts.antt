@@ -1,4 +1,4 @@
--- Some texts of the small journal, and some whole inputs.
+-- Some texts of groups, and some whole inputs.
 use Rattle.std.specs.Prelude.{ℕ, List, [], ◌∷◌, codes}
 use Rattle.text_tokens.specs.declared.refusal.Refusal.{Refusal}
 use Rattle.text_tokens.specs.declared.refusal.RefusalKind.TheVariants.{BadByte, TooMany, Truncated, Trailing, BadRange, BadEntry}
@@ -11,7 +11,7 @@ use Rattle.text_tokens.specs.Inputs.{IsInput, IsInputFault}
 use Rattle.text_tokens.specs.Groups.{WrittenGroup, AreGroups}
 use Rattle.text_tokens.specs.GroupFaults.{word_on, number_on}
 
--- an entry of two pairs, of which the second has this number, and one of none
+-- a group of two pairs, of which the second has this number, and one of none
 abbrev pub two_groups_then : List ℕ → List Lexeme → List Lexeme
 two_groups_then digits rest =
     word_on 1 (codes "entry") ∷ number_on 2 (codes "2") ∷ word_on 3 (codes "pair") ∷ number_on 4 (codes "7")

@@ -1,4 +1,4 @@
--- The entries of the small journal, as what its grammar says that a text stands for.
+-- The groups that the code reads, as what their grammar says that a text stands for.
 use Rattle.text_tokens.specs.declared.groups.Group.{Group}
 use Rattle.text_tokens.specs.Groups.{WrittenGroup}
 

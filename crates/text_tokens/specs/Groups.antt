@@ -1,8 +1,8 @@
 -- A small format in which something is judged that may still go on.
---   journal := { entry } "end"
---   entry   := "entry" NUMBER { "pair" NUMBER }
--- Limits: 2 pairs of one entry, 9 for the number of a pair.
--- An entry whose number is not that of its pairs is refused on its own line, once what stands behind it is no further pair.
+--   groups := { group } "end"
+--   group  := "entry" NUMBER { "pair" NUMBER }
+-- Limits: 2 pairs of one group, 9 for the number of a pair.
+-- A group whose number is not that of its pairs is refused on its own line, once what stands behind it is no further pair.
 use Rattle.std.specs.Prelude.{ℕ, Bool, ◌==◌, if◌then◌else◌, List, length, Option, Some, None, codes}
 use Rattle.text_tokens.specs.declared.token.TokenKind.TheVariants.{Word}
 use Rattle.text_tokens.specs.declared.refusal.Refusal.{Refusal}
@@ -21,13 +21,13 @@ is_group_pair = is_the Word (codes "pair")
 abbrev pub is_groups_end : Lexeme → Bool
 is_groups_end = is_the Word (codes "end")
 
--- an entry, with the line of its word
+-- a group, with the line of its word
 pub record WrittenGroup : Type 0 where
   pub line : ℕ
   pub count : ℕ
   pub pairs : List ℕ
 
--- what is wrong with an entry
+-- what is wrong with a group
 abbrev pub group_fault : WrittenGroup → Option Refusal
 group_fault e = if length e.pairs == e.count then None else Some (record { line = e.line; kind = BadEntry })
 

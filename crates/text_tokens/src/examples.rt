@@ -10,8 +10,8 @@ ghost use Rattle.text_tokens.specs.GroupTexts.{GroupsAreRead};
 ghost use Rattle.text_tokens.specs.Puts.{IsPut, put};
 ghost use Rattle.text_tokens.specs.PutTexts.{PutsAreRead};
 
-/// The tokens of a journal, whose entries are judged once nothing more belongs to them, are read in one way, or have one
-/// first fault, and its reader answers that.
+/// The tokens of groups, each judged once nothing more belongs to it, are read in one way, or have one first fault, and their
+/// reader answers that.
 pub fn groups_are_decided()
     ensures exact { Exact AreGroups groups_to_end }
     ensures decided { IsDecided AreGroups }

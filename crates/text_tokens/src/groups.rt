@@ -1,4 +1,4 @@
-//! A small format in which an entry is judged once nothing more belongs to it. It is the pattern for elements that may go
+//! A small format in which a group is judged once nothing more belongs to it. It is the pattern for elements that may go
 //! on, and for a whole input.
 
 ghost use Rattle.std.specs.Prelude.{◌<◌, IfOk, IfSome, map, option_map};
@@ -14,13 +14,13 @@ use crate::token::TokenKind;
 use crate::tokens::Tokens;
 use std::alloc::Global;
 
-/// How many pairs an entry may have.
+/// How many pairs a group may have.
 const PAIRS: u32 = 2;
 
 /// The largest number of a pair.
 const LARGEST: u32 = 9;
 
-/// An entry, with the line of its word, the number of its pairs as it says, and their numbers.
+/// A group, with the line of its word, the number of its pairs as it says, and their numbers.
 #[derive(Drop)]
 pub struct Group {
     pub line: u32,
@@ -62,7 +62,7 @@ fn read_pairs(alloc: Global, tokens: &mut Tokens<'_>) -> Result<Vec<u32>, ReadRe
     Ok(found)
 }
 
-/// An entry, which is judged once no further pair comes.
+/// A group, which is judged once no further pair comes.
 fn read_group(alloc: Global, tokens: &mut Tokens<'_>) -> Result<Group, ReadRefusal>
     ensures { Gives view.written_group spec.a_group tokens.old result tokens.new }
 {
@@ -75,7 +75,7 @@ fn read_group(alloc: Global, tokens: &mut Tokens<'_>) -> Result<Group, ReadRefus
     Ok(Group { line, count, pairs })
 }
 
-/// One more entry, if one comes.
+/// One more group, if one comes.
 fn more_group(alloc: Global, tokens: &mut Tokens<'_>) -> Result<Option<Group>, ReadRefusal>
     ensures { Gives (λ o. option_map view.written_group o) (another spec.is_group spec.a_group) tokens.old result tokens.new }
 {
@@ -104,7 +104,7 @@ fn read_whole(alloc: Global, tokens: &mut Tokens<'_>) -> Result<Vec<Group>, Read
     Ok(entries)
 }
 
-/// Reads a journal up to its `end`.
+/// Reads groups up to their `end`.
 pub fn read_groups(alloc: Global, tokens: &mut Tokens<'_>) -> Result<Vec<Group>, ReadRefusal>
     ensures tells { TellsOf spec.AreGroups (λ v. map view.written_group v.items) tokens.old result tokens.new }
     ensures reads { ReadsOf spec.AreGroups (λ v. map view.written_group v.items) tokens.old result tokens.new }
@@ -112,7 +112,7 @@ pub fn read_groups(alloc: Global, tokens: &mut Tokens<'_>) -> Result<Vec<Group>,
     read_whole(alloc, tokens)
 }
 
-/// Reads bytes that are a journal, with nothing behind it but blanks and comments. A token behind it is `Trailing`.
+/// Reads bytes that are groups up to their `end`, with nothing behind it but blanks and comments. A token behind it is `Trailing`.
 pub fn read_input(alloc: Global, bytes: &[u8]) -> Result<Vec<Group>, ReadRefusal>
     requires { IsCountable bytes.now }
     ensures { ReadsInput spec.AreGroups Trailing (λ v. map view.written_group v.items) bytes.now result }

@@ -6,7 +6,7 @@ ghost use Rattle.text_tokens.specs.declared.refusal.ReadRefusal.TheVariants.{NoM
 
 use std::alloc::{AllocError, AllocFailed};
 
-/// What is wrong with a text. The kinds are numbered from 1 on, in this order.
+/// What is wrong with a text.
 #[derive(Clone, Copy, Debug, PartialEq, Eq)]
 pub enum RefusalKind {
     /// A byte that is no blank and begins no token.
@@ -52,7 +52,7 @@ pub enum RefusalKind {
 }
 
 impl RefusalKind {
-    /// The number of the kind, from 1 to 20.
+    /// The number of the kind. No two kinds have the same.
     #[tactic(auto, unfolding(crate::specs::Kinds::kind_number))]
     pub fn number(self) -> u8
         ensures { result ≡ kinds.kind_number self }
@@ -123,7 +123,7 @@ pub struct Refusal {
 pub enum ReadRefusal {
     /// This is wrong with the text.
     Refused(Refusal),
-    /// The text was not read to its end.
+    /// Memory ran out before the answer was there.
     NoMemory,
 }
 

@@ -1,10 +1,10 @@
-//! Parts of one token.
+//! Parts of one token. They take no memory, so they never answer out of memory.
 
-ghost use Rattle.std.specs.Prelude.{◌≡◌, ◌<◌, ◌≤◌, IfOk};
+ghost use Rattle.std.specs.Prelude.{◌≡◌, ◌≢◌, ◌<◌, ◌≤◌, IfErr, IfOk};
 ghost use Rattle.text_tokens.specs.Steps.{Gives, lexeme_of};
 ghost use Rattle.text_tokens.specs.Cursor.{IsShort, is_the};
 ghost use Rattle.text_tokens.specs.Reading as reading;
-ghost use Rattle.text_tokens.specs.declared.refusal.ReadRefusal.TheVariants.{Refused};
+ghost use Rattle.text_tokens.specs.declared.refusal.ReadRefusal.TheVariants.{NoMemory, Refused};
 
 use crate::refusal::{ReadRefusal, Refusal, RefusalKind};
 use crate::token::{Token, TokenKind};
@@ -23,7 +23,8 @@ pub fn this_token(
     kind: TokenKind,
     text: &[u8],
 ) -> Result<Token, ReadRefusal>
-    ensures { Gives (lexeme_of tokens.old.source) (reading.one (is_the kind text.now)) tokens.old result tokens.new }
+    ensures reads { Gives (lexeme_of tokens.old.source) (reading.one (is_the kind text.now)) tokens.old result tokens.new }
+    ensures sure { IfErr result (λ e. e ≢ NoMemory) }
 {
     Ok(tokens.take(kind, text)?)
 }
@@ -31,7 +32,8 @@ pub fn this_token(
 /// This token, for its line.
 #[tactic(auto, unfolding(crate::specs::Reading::the_line))]
 pub fn the_line(tokens: &mut Tokens<'_>, kind: TokenKind, text: &[u8]) -> Result<u32, ReadRefusal>
-    ensures { Gives (λ line. line) (reading.the_line (is_the kind text.now)) tokens.old result tokens.new }
+    ensures reads { Gives (λ line. line) (reading.the_line (is_the kind text.now)) tokens.old result tokens.new }
+    ensures sure { IfErr result (λ e. e ≢ NoMemory) }
 {
     Ok(this_token(tokens, kind, text)?.line)
 }
@@ -41,6 +43,7 @@ pub fn the_line(tokens: &mut Tokens<'_>, kind: TokenKind, text: &[u8]) -> Result
 pub fn number(tokens: &mut Tokens<'_>) -> Result<u32, ReadRefusal>
     ensures reads { Gives (λ n. n) (reading.numeral reading.no_limit) tokens.old result tokens.new }
     ensures small { IfOk result IsShort }
+    ensures sure { IfErr result (λ e. e ≢ NoMemory) }
 {
     let token = tokens.take_kind(TokenKind::Number)?;
     Ok(tokens.number(&token))
@@ -55,11 +58,12 @@ pub fn number_up_to(
 ) -> Result<u32, ReadRefusal>
     ensures reads { Gives (λ n. n) (reading.numeral (reading.too_large most kind)) tokens.old result tokens.new }
     ensures within { IfOk result (λ n. n ≤ most) }
+    ensures sure { IfErr result (λ e. e ≢ NoMemory) }
 {
-    let token = tokens.take_kind(TokenKind::Number)?;
-    let value = tokens.number(&token);
+    let found = tokens.take_kind(TokenKind::Number)?;
+    let value = tokens.number(&found);
     if value > most {
-        return Err(refused(token.line, kind));
+        return Err(refused(found.line, kind));
     }
     Ok(value)
 }

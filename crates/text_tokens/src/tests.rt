@@ -362,7 +362,7 @@ fn a_kind_has_a_name_and_a_number(rt: HostRuntime) {
     assert_eq!(rt; RefusalKind::NotAdjacent.number(), 14);
 }
 
-/// Whether bytes are a journal, or refused so.
+/// Whether bytes are groups, or refused so.
 fn is_input(alloc: Global, bytes: &[u8], refusal: Option<(u32, RefusalKind)>) -> bool {
     if bytes.len() > 100 {
         return false;
@@ -375,7 +375,7 @@ fn is_input(alloc: Global, bytes: &[u8], refusal: Option<(u32, RefusalKind)>) ->
 }
 
 #[test]
-fn journals_are_read_or_refused(rt: HostRuntime) {
+fn groups_are_read_or_refused(rt: HostRuntime) {
     for (bytes, refusal) in [
         (b"end".as_slice(), None),
         (b"entry 0 entry 2 pair 7 pair 9 end # \xff", None),

@@ -32,40 +32,40 @@ module _ (here : Cursor) where
   unfolding a_cell
   at_body e = second_left is_spot_word spot_cell body_cell (all_left a_cell here) e
 
-pub returns-in_err-read_word : goal.returns-in_err-read_word
-returns-in_err-read_word c =
+pub returns-in_err-read_word-clause-reads : goal.returns-in_err-read_word-clause-reads
+returns-in_err-read_word-clause-reads c =
     let p = err_from_is_err_and c.from_residual.result c.from_residual.ensures.1 in
     let l = at_spot c.args.tokens.now (sym c.is_next.ensures ∙ c.if-is_next.true) in
-    rw (p.1, p.2) (part_fails (a_word (codes "spot")) (λ line. a_spot) l c.in_err-read_word.field-0.0 c.read_word.new.tokens c.in_err-read_word.ensures)
+    rw (p.1, p.2) (part_fails (a_word (codes "spot")) (λ line. a_spot) l c.in_err-read_word.field-0.0 c.read_word.new.tokens c.in_err-read_word.ensures.reads)
 
-pub returns-in_err-read_node : goal.returns-in_err-read_node
-returns-in_err-read_node c =
+pub returns-in_err-read_node-clause-reads : goal.returns-in_err-read_node-clause-reads
+returns-in_err-read_node-clause-reads c =
     let p = err_from_is_err_and c.from_residual-in_err-read_node.result c.from_residual-in_err-read_node.ensures.1 in
     let l = at_spot c.args.tokens.now (sym c.is_next.ensures ∙ c.if-is_next.true) in
-    let m = past_part (a_word (codes "spot")) (λ line. a_spot) l c.in_ok-read_word.field-0 c.read_word.new.tokens c.in_ok-read_word.ensures in
+    let m = past_part (a_word (codes "spot")) (λ line. a_spot) l c.in_ok-read_word.field-0 c.read_word.new.tokens c.in_ok-read_word.ensures.reads in
     rw (p.1, p.2) (part_fails a_node (λ v. pure (name.Spot v)) m c.in_err-read_node.field-0.0 c.read_node.new.tokens c.in_err-read_node.ensures.reads)
 
-pub returns-in_err-read_word-2 : goal.returns-in_err-read_word-2
-returns-in_err-read_word-2 c =
+pub returns-in_err-read_word-2-clause-reads : goal.returns-in_err-read_word-2-clause-reads
+returns-in_err-read_word-2-clause-reads c =
     let p = err_from_is_err_and c.from_residual-in_err-read_word-2.result c.from_residual-in_err-read_word-2.ensures.1 in
     let l = at_body c.args.tokens.now (sym c.is_next.ensures ∙ c.if-is_next.false) in
-    rw (p.1, p.2) (part_fails (a_word (codes "body")) (λ line. a_body) l c.in_err-read_word-2.field-0.0 c.read_word-else-is_next.new.tokens c.in_err-read_word-2.ensures)
+    rw (p.1, p.2) (part_fails (a_word (codes "body")) (λ line. a_body) l c.in_err-read_word-2.field-0.0 c.read_word-else-is_next.new.tokens c.in_err-read_word-2.ensures.reads)
 
-pub returns-in_err-number : goal.returns-in_err-number
-returns-in_err-number c =
+pub returns-in_err-number-clause-reads : goal.returns-in_err-number-clause-reads
+returns-in_err-number-clause-reads c =
     let p = err_from_is_err_and c.from_residual-in_err-number.result c.from_residual-in_err-number.ensures.1 in
     let l = at_body c.args.tokens.now (sym c.is_next.ensures ∙ c.if-is_next.false) in
-    let m = past_part (a_word (codes "body")) (λ line. a_body) l c.in_ok-read_word-2.field-0 c.read_word-else-is_next.new.tokens c.in_ok-read_word-2.ensures in
+    let m = past_part (a_word (codes "body")) (λ line. a_body) l c.in_ok-read_word-2.field-0 c.read_word-else-is_next.new.tokens c.in_ok-read_word-2.ensures.reads in
     rw (p.1, p.2) (part_fails a_number (λ id. pure (name.Body id)) m c.in_err-number.field-0.0 c.number.new.tokens c.in_err-number.ensures.reads)
 
-pub returns-in_ok-read_node : goal.returns-in_ok-read_node
-returns-in_ok-read_node c =
+pub returns-in_ok-read_node-clause-reads : goal.returns-in_ok-read_node-clause-reads
+returns-in_ok-read_node-clause-reads c =
     let l = at_spot c.args.tokens.now (sym c.is_next.ensures ∙ c.if-is_next.true) in
-    let m = past_part (a_word (codes "spot")) (λ line. a_spot) l c.in_ok-read_word.field-0 c.read_word.new.tokens c.in_ok-read_word.ensures in
+    let m = past_part (a_word (codes "spot")) (λ line. a_spot) l c.in_ok-read_word.field-0 c.read_word.new.tokens c.in_ok-read_word.ensures.reads in
     made_left a_node (λ v. name.Spot v) m c.in_ok-read_node.field-0 c.read_node.new.tokens c.in_ok-read_node.ensures.reads
 
-pub returns-in_ok-number : goal.returns-in_ok-number
-returns-in_ok-number c =
+pub returns-in_ok-number-clause-reads : goal.returns-in_ok-number-clause-reads
+returns-in_ok-number-clause-reads c =
     let l = at_body c.args.tokens.now (sym c.is_next.ensures ∙ c.if-is_next.false) in
-    let m = past_part (a_word (codes "body")) (λ line. a_body) l c.in_ok-read_word-2.field-0 c.read_word-else-is_next.new.tokens c.in_ok-read_word-2.ensures in
+    let m = past_part (a_word (codes "body")) (λ line. a_body) l c.in_ok-read_word-2.field-0 c.read_word-else-is_next.new.tokens c.in_ok-read_word-2.ensures.reads in
     made_left a_number (λ id. name.Body id) m c.in_ok-number.field-0 c.number.new.tokens c.in_ok-number.ensures.reads

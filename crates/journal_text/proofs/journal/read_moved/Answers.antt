@@ -61,10 +61,10 @@ pub returns-in_err-read_word : goal.returns-in_err-read_word
 returns-in_err-read_word c =
     let p = err_from_is_err_and c.from_residual.result c.from_residual.ensures.1 in
     let l = at_none c.args.tokens.now (sym c.is_next.ensures ∙ c.if-is_next.true) in
-    rw (p.1, p.2) (part_fails (the_line (word (codes "none"))) (λ line. pure moved.None) l c.in_err-read_word.field-0.0 c.read_word.new.tokens c.in_err-read_word.ensures)
+    rw (p.1, p.2) (part_fails (the_line (word (codes "none"))) (λ line. pure moved.None) l c.in_err-read_word.field-0.0 c.read_word.new.tokens c.in_err-read_word.ensures.reads)
 
 pub returns-in_ok-read_word : goal.returns-in_ok-read_word
-returns-in_ok-read_word c = made_left (the_line (word (codes "none"))) (λ line. moved.None) (at_none c.args.tokens.now (sym c.is_next.ensures ∙ c.if-is_next.true)) c.in_ok-read_word.field-0 c.read_word.new.tokens c.in_ok-read_word.ensures
+returns-in_ok-read_word c = made_left (the_line (word (codes "none"))) (λ line. moved.None) (at_none c.args.tokens.now (sym c.is_next.ensures ∙ c.if-is_next.true)) c.in_ok-read_word.field-0 c.read_word.new.tokens c.in_ok-read_word.ensures.reads
 
 pub returns-in_err-read_port_behind : goal.returns-in_err-read_port_behind
 returns-in_err-read_port_behind c =

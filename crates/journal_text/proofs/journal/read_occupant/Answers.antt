@@ -30,7 +30,7 @@ pub returns-in_err-read_word : goal.returns-in_err-read_word
 returns-in_err-read_word c =
     let p = err_from_is_err_and c.from_residual.result c.from_residual.ensures.1 in
     let l = at_empty c.args.tokens.now (sym c.is_next.ensures ∙ c.if-is_next.true) in
-    rw (p.1, p.2) (part_fails (the_line (word (codes "empty"))) (λ line. pure (cell.Spot None)) l c.in_err-read_word.field-0.0 c.read_word.new.tokens c.in_err-read_word.ensures)
+    rw (p.1, p.2) (part_fails (the_line (word (codes "empty"))) (λ line. pure (cell.Spot None)) l c.in_err-read_word.field-0.0 c.read_word.new.tokens c.in_err-read_word.ensures.reads)
 
 pub returns-in_err-number : goal.returns-in_err-number
 returns-in_err-number c =
@@ -39,7 +39,7 @@ returns-in_err-number c =
     rw (p.1, p.2) (part_fails a_number (λ id. pure (cell.Spot (Some id))) l c.in_err-number.field-0.0 c.number.new.tokens c.in_err-number.ensures.reads)
 
 pub returns-in_ok-read_word : goal.returns-in_ok-read_word
-returns-in_ok-read_word c = made_left (the_line (word (codes "empty"))) (λ line. cell.Spot None) (at_empty c.args.tokens.now (sym c.is_next.ensures ∙ c.if-is_next.true)) c.in_ok-read_word.field-0 c.read_word.new.tokens c.in_ok-read_word.ensures
+returns-in_ok-read_word c = made_left (the_line (word (codes "empty"))) (λ line. cell.Spot None) (at_empty c.args.tokens.now (sym c.is_next.ensures ∙ c.if-is_next.true)) c.in_ok-read_word.field-0 c.read_word.new.tokens c.in_ok-read_word.ensures.reads
 
 pub returns-in_ok-number : goal.returns-in_ok-number
 returns-in_ok-number c = made_left a_number (λ id. cell.Spot (Some id)) (at_number c.args.tokens.now (sym c.is_next.ensures ∙ c.if-is_next.false)) c.in_ok-number.field-0 c.number.new.tokens c.in_ok-number.ensures.reads

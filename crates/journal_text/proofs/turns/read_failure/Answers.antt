@@ -42,16 +42,16 @@ module _ (source : List ℕ) (t : Token) where
       by true f same = let r : names_failure l.text ≡ true = ap names_failure text ∙ one in rw (f, r) same
       by false f same = absurd cc
 
-pub returns-in_err-token : goal.returns-in_err-token
+pub returns-in_err-token-clause-reads : goal.returns-in_err-token-clause-reads
 unfolding the_line
-returns-in_err-token c =
+returns-in_err-token-clause-reads c =
     let p = err_from_is_err_and c.from_residual.result c.from_residual.ensures.1 in
     let now = c.args.tokens.now in
     rw (p.1, p.2) (token_missed is_failure no_limit (λ (t : Lexeme). t.line) now c.take_kind.new.self c.in_err-token.field-0.0 (no_word now.ahead now.last c.in_err-token.field-0.0 (sym c.take_kind.ensures.answer ∙ c.in_err-token.was)) c.in_err-token.ensures.again)
 
-pub returns-then-not-names_failure : goal.returns-then-not-names_failure
+pub returns-then-not-names_failure-clause-reads : goal.returns-then-not-names_failure-clause-reads
 unfolding the_line
-returns-then-not-names_failure c =
+returns-then-not-names_failure-clause-reads c =
     let now = c.args.tokens.now in
     let t = c.in_ok-token.token in
     let same = ap (λ (v : Cursor). v.source) c.in_ok-token.ensures.moves in
@@ -62,9 +62,9 @@ returns-then-not-names_failure c =
     let f = token_missed is_failure no_limit (λ (t : Lexeme). t.line) now now refusal e refl in
     rw c.refused.ensures (f.0, stays_past now c.take_kind.new.self c.in_ok-token.ensures.moves)
 
-pub returns : goal.returns
+pub returns-clause-reads : goal.returns-clause-reads
 unfolding the_line
-returns c =
+returns-clause-reads c =
     let now = c.args.tokens.now in
     let t = c.in_ok-token.token in
     let same = ap (λ (v : Cursor). v.source) c.in_ok-token.ensures.moves in

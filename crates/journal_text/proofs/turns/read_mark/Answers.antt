@@ -44,19 +44,19 @@ module _ (here : Cursor) where
       at_busy : stands (codes "failed") here ≡ false → Begins a_busy
       at_busy e = second_left (word (codes "failed")) a_failed a_busy from_failed e
 
-pub returns-then-is_next : goal.returns-then-is_next
-returns-then-is_next c = gives_left (λ (u : Nothing). u) c.read_placed.result c.read_placed.new.tokens (at_done c.args.tokens.now (sym c.is_next.ensures ∙ c.if-is_next.true)) c.read_placed.ensures
+pub returns-then-is_next-clause-reads : goal.returns-then-is_next-clause-reads
+returns-then-is_next-clause-reads c = gives_left (λ (u : Nothing). u) c.read_placed.result c.read_placed.new.tokens (at_done c.args.tokens.now (sym c.is_next.ensures ∙ c.if-is_next.true)) c.read_placed.ensures.reads
 
-pub returns-then-is_next-2 : goal.returns-then-is_next-2
-returns-then-is_next-2 c =
-    gives_left (λ (u : Nothing). u) c.read_placed-then-is_next-2.result c.read_placed-then-is_next-2.new.tokens (at_idle c.args.tokens.now (sym c.is_next.ensures ∙ c.if-is_next.false) (sym c.is_next-else-is_next.ensures ∙ c.if-is_next-2.true)) c.read_placed-then-is_next-2.ensures
+pub returns-then-is_next-2-clause-reads : goal.returns-then-is_next-2-clause-reads
+returns-then-is_next-2-clause-reads c =
+    gives_left (λ (u : Nothing). u) c.read_placed-then-is_next-2.result c.read_placed-then-is_next-2.new.tokens (at_idle c.args.tokens.now (sym c.is_next.ensures ∙ c.if-is_next.false) (sym c.is_next-else-is_next.ensures ∙ c.if-is_next-2.true)) c.read_placed-then-is_next-2.ensures.reads
 
-pub returns-then-is_next-3 : goal.returns-then-is_next-3
-returns-then-is_next-3 c =
+pub returns-then-is_next-3-clause-reads : goal.returns-then-is_next-3-clause-reads
+returns-then-is_next-3-clause-reads c =
     gives_left (λ (u : Nothing). u) c.read_failed.result c.read_failed.new.tokens
-    (at_failed c.args.tokens.now (sym c.is_next.ensures ∙ c.if-is_next.false) (sym c.is_next-else-is_next.ensures ∙ c.if-is_next-2.false) (sym c.is_next-else-is_next-2.ensures ∙ c.if-is_next-3.true)) c.read_failed.ensures
+    (at_failed c.args.tokens.now (sym c.is_next.ensures ∙ c.if-is_next.false) (sym c.is_next-else-is_next.ensures ∙ c.if-is_next-2.false) (sym c.is_next-else-is_next-2.ensures ∙ c.if-is_next-3.true)) c.read_failed.ensures.reads
 
-pub returns-else-is_next-3 : goal.returns-else-is_next-3
-returns-else-is_next-3 c =
+pub returns-else-is_next-3-clause-reads : goal.returns-else-is_next-3-clause-reads
+returns-else-is_next-3-clause-reads c =
     gives_left (λ (u : Nothing). u) c.read_busy.result c.read_busy.new.tokens
-    (at_busy c.args.tokens.now (sym c.is_next.ensures ∙ c.if-is_next.false) (sym c.is_next-else-is_next.ensures ∙ c.if-is_next-2.false) (sym c.is_next-else-is_next-2.ensures ∙ c.if-is_next-3.false)) c.read_busy.ensures
+    (at_busy c.args.tokens.now (sym c.is_next.ensures ∙ c.if-is_next.false) (sym c.is_next-else-is_next.ensures ∙ c.if-is_next-2.false) (sym c.is_next-else-is_next-2.ensures ∙ c.if-is_next-3.false)) c.read_busy.ensures.reads

@@ -35,8 +35,8 @@ returns-clause-reads c =
     let rot = c.in_ok-rot.field-0 in
     let l3 = past_part (up_to 5) (behind_rotation c.args.vars head tail) l2 rot c.read_up_to.new.tokens c.in_ok-rot.ensures.reads in
     let chir = c.in_ok-chir.chir in
-    let l4 = past_part (a_chirality) (behind_chirality c.args.vars head tail rot) l3 chir c.read_chirality.new.tokens c.in_ok-chir.ensures in
+    let l4 = past_part (a_chirality) (behind_chirality c.args.vars head tail rot) l3 chir c.read_chirality.new.tokens c.in_ok-chir.ensures.reads in
     let vs = c.in_ok-values.values.items in
-    let l5 = past_part (values c.args.vars) (λ vs. pure (a_bot_of head tail rot chir vs)) l4 vs c.read_values.new.tokens c.in_ok-values.ensures in
+    let l5 = past_part (values c.args.vars) (λ vs. pure (a_bot_of head tail rot chir vs)) l4 vs c.read_values.new.tokens c.in_ok-values.ensures.reads in
     let m : c.memory.result ≡ memory vs = c.memory.ensures ∙ ap memory c.as_slice.ensures.value in
     (l5.reads ∙ ap (λ (mem : List ℕ). Ok (bot_with head tail rot chir mem, c.read_values.new.tokens.ahead)) (sym m), l5.stays)

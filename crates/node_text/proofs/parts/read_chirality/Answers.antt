@@ -7,22 +7,22 @@ use Rattle.node_text.specs.PartReaders.{a_chirality}
 use Rattle.node_text.proofs.Meanings.{first_fails, first_read, second_fails, second_read}
 use Rattle.node_text.proofs.parts.read_chirality.Goals as goal
 
-pub returns-in_err-the_line : goal.returns-in_err-the_line
+pub returns-in_err-the_line-clause-reads : goal.returns-in_err-the_line-clause-reads
 unfolding a_chirality
-returns-in_err-the_line c =
+returns-in_err-the_line-clause-reads c =
     let p = err_from_is_err_and c.from_residual.result c.from_residual.ensures.1 in
-    rw (p.1, p.2) (first_fails (sign (codes "+")) (sign (codes "-")) Plus Minus c.args.tokens.now c.the_line.new.tokens (sym c.is_next.ensures ∙ c.if-is_next.true) c.in_err-the_line.field-0.0 c.in_err-the_line.ensures)
+    rw (p.1, p.2) (first_fails (sign (codes "+")) (sign (codes "-")) Plus Minus c.args.tokens.now c.the_line.new.tokens (sym c.is_next.ensures ∙ c.if-is_next.true) c.in_err-the_line.field-0.0 c.in_err-the_line.ensures.reads)
 
-pub returns-in_err-the_line-2 : goal.returns-in_err-the_line-2
+pub returns-in_err-the_line-2-clause-reads : goal.returns-in_err-the_line-2-clause-reads
 unfolding a_chirality
-returns-in_err-the_line-2 c =
+returns-in_err-the_line-2-clause-reads c =
     let p = err_from_is_err_and c.from_residual-in_err-the_line-2.result c.from_residual-in_err-the_line-2.ensures.1 in
-    rw (p.1, p.2) (second_fails (sign (codes "+")) (sign (codes "-")) Plus Minus c.args.tokens.now c.the_line-else-is_next.new.tokens (sym c.is_next.ensures ∙ c.if-is_next.false) c.in_err-the_line-2.field-0.0 c.in_err-the_line-2.ensures)
+    rw (p.1, p.2) (second_fails (sign (codes "+")) (sign (codes "-")) Plus Minus c.args.tokens.now c.the_line-else-is_next.new.tokens (sym c.is_next.ensures ∙ c.if-is_next.false) c.in_err-the_line-2.field-0.0 c.in_err-the_line-2.ensures.reads)
 
-pub returns-in_ok-the_line : goal.returns-in_ok-the_line
+pub returns-in_ok-the_line-clause-reads : goal.returns-in_ok-the_line-clause-reads
 unfolding a_chirality
-returns-in_ok-the_line c = first_read (sign (codes "+")) (sign (codes "-")) Plus Minus c.args.tokens.now c.the_line.new.tokens (sym c.is_next.ensures ∙ c.if-is_next.true) c.in_ok-the_line.field-0 c.in_ok-the_line.ensures
+returns-in_ok-the_line-clause-reads c = first_read (sign (codes "+")) (sign (codes "-")) Plus Minus c.args.tokens.now c.the_line.new.tokens (sym c.is_next.ensures ∙ c.if-is_next.true) c.in_ok-the_line.field-0 c.in_ok-the_line.ensures.reads
 
-pub returns-in_ok-the_line-2 : goal.returns-in_ok-the_line-2
+pub returns-in_ok-the_line-2-clause-reads : goal.returns-in_ok-the_line-2-clause-reads
 unfolding a_chirality
-returns-in_ok-the_line-2 c = second_read (sign (codes "+")) (sign (codes "-")) Plus Minus c.args.tokens.now c.the_line-else-is_next.new.tokens (sym c.is_next.ensures ∙ c.if-is_next.false) c.in_ok-the_line-2.field-0 c.in_ok-the_line-2.ensures
+returns-in_ok-the_line-2-clause-reads c = second_read (sign (codes "+")) (sign (codes "-")) Plus Minus c.args.tokens.now c.the_line-else-is_next.new.tokens (sym c.is_next.ensures ∙ c.if-is_next.false) c.in_ok-the_line-2.field-0 c.in_ok-the_line-2.ensures.reads

@@ -7,22 +7,22 @@ use Rattle.node_text.specs.PartReaders.{an_end}
 use Rattle.node_text.proofs.Meanings.{first_fails, first_read, second_fails, second_read}
 use Rattle.node_text.proofs.parts.read_end.Goals as goal
 
-pub returns-in_err-read_word : goal.returns-in_err-read_word
+pub returns-in_err-read_word-clause-reads : goal.returns-in_err-read_word-clause-reads
 unfolding an_end
-returns-in_err-read_word c =
+returns-in_err-read_word-clause-reads c =
     let p = err_from_is_err_and c.from_residual.result c.from_residual.ensures.1 in
-    rw (p.1, p.2) (first_fails (word (codes "head")) (word (codes "tail")) Head Tail c.args.tokens.now c.read_word.new.tokens (sym c.is_next.ensures ∙ c.if-is_next.true) c.in_err-read_word.field-0.0 c.in_err-read_word.ensures)
+    rw (p.1, p.2) (first_fails (word (codes "head")) (word (codes "tail")) Head Tail c.args.tokens.now c.read_word.new.tokens (sym c.is_next.ensures ∙ c.if-is_next.true) c.in_err-read_word.field-0.0 c.in_err-read_word.ensures.reads)
 
-pub returns-in_err-read_word-2 : goal.returns-in_err-read_word-2
+pub returns-in_err-read_word-2-clause-reads : goal.returns-in_err-read_word-2-clause-reads
 unfolding an_end
-returns-in_err-read_word-2 c =
+returns-in_err-read_word-2-clause-reads c =
     let p = err_from_is_err_and c.from_residual-in_err-read_word-2.result c.from_residual-in_err-read_word-2.ensures.1 in
-    rw (p.1, p.2) (second_fails (word (codes "head")) (word (codes "tail")) Head Tail c.args.tokens.now c.read_word-else-is_next.new.tokens (sym c.is_next.ensures ∙ c.if-is_next.false) c.in_err-read_word-2.field-0.0 c.in_err-read_word-2.ensures)
+    rw (p.1, p.2) (second_fails (word (codes "head")) (word (codes "tail")) Head Tail c.args.tokens.now c.read_word-else-is_next.new.tokens (sym c.is_next.ensures ∙ c.if-is_next.false) c.in_err-read_word-2.field-0.0 c.in_err-read_word-2.ensures.reads)
 
-pub returns-in_ok-read_word : goal.returns-in_ok-read_word
+pub returns-in_ok-read_word-clause-reads : goal.returns-in_ok-read_word-clause-reads
 unfolding an_end
-returns-in_ok-read_word c = first_read (word (codes "head")) (word (codes "tail")) Head Tail c.args.tokens.now c.read_word.new.tokens (sym c.is_next.ensures ∙ c.if-is_next.true) c.in_ok-read_word.field-0 c.in_ok-read_word.ensures
+returns-in_ok-read_word-clause-reads c = first_read (word (codes "head")) (word (codes "tail")) Head Tail c.args.tokens.now c.read_word.new.tokens (sym c.is_next.ensures ∙ c.if-is_next.true) c.in_ok-read_word.field-0 c.in_ok-read_word.ensures.reads
 
-pub returns-in_ok-read_word-2 : goal.returns-in_ok-read_word-2
+pub returns-in_ok-read_word-2-clause-reads : goal.returns-in_ok-read_word-2-clause-reads
 unfolding an_end
-returns-in_ok-read_word-2 c = second_read (word (codes "head")) (word (codes "tail")) Head Tail c.args.tokens.now c.read_word-else-is_next.new.tokens (sym c.is_next.ensures ∙ c.if-is_next.false) c.in_ok-read_word-2.field-0 c.in_ok-read_word-2.ensures
+returns-in_ok-read_word-2-clause-reads c = second_read (word (codes "head")) (word (codes "tail")) Head Tail c.args.tokens.now c.read_word-else-is_next.new.tokens (sym c.is_next.ensures ∙ c.if-is_next.false) c.in_ok-read_word-2.field-0 c.in_ok-read_word-2.ensures.reads

@@ -37,13 +37,13 @@ pub returns-in_err-the_line-clause-reads : goal.returns-in_err-the_line-clause-r
 returns-in_err-the_line-clause-reads c =
     let p = err_from_is_err_and c.from_residual.result c.from_residual.ensures.1 in
     let l0 = with_sign c.args.most c.args.tokens.now (sym c.is_next.ensures ∙ c.if-is_next.true) in
-    rw (p.1, p.2) (part_fails (the_line is_minus) (λ line. negated c.args.most) l0 c.in_err-the_line.field-0.0 c.the_line.new.tokens c.in_err-the_line.ensures)
+    rw (p.1, p.2) (part_fails (the_line is_minus) (λ line. negated c.args.most) l0 c.in_err-the_line.field-0.0 c.the_line.new.tokens c.in_err-the_line.ensures.reads)
 
 pub returns-in_err-read_up_to-clause-reads : goal.returns-in_err-read_up_to-clause-reads
 returns-in_err-read_up_to-clause-reads c =
     let p = err_from_is_err_and c.from_residual-in_err-read_up_to.result c.from_residual-in_err-read_up_to.ensures.1 in
     let l0 = with_sign c.args.most c.args.tokens.now (sym c.is_next.ensures ∙ c.if-is_next.true) in
-    let l1 = past_part (the_line is_minus) (λ line. negated c.args.most) l0 c.in_ok-the_line.field-0 c.the_line.new.tokens c.in_ok-the_line.ensures in
+    let l1 = past_part (the_line is_minus) (λ line. negated c.args.most) l0 c.in_ok-the_line.field-0 c.the_line.new.tokens c.in_ok-the_line.ensures.reads in
     rw (p.1, p.2) (part_fails (up_to c.args.most) (λ n. pure (negative n)) l1 c.in_err-read_up_to.field-0.0 c.read_up_to.new.tokens (rw c.from.ensures at c.in_err-read_up_to.ensures.reads))
 
 pub returns-in_err-read_up_to-2-clause-reads : goal.returns-in_err-read_up_to-2-clause-reads
@@ -55,7 +55,7 @@ returns-in_err-read_up_to-2-clause-reads c =
 pub returns-in_ok-read_up_to-clause-reads : goal.returns-in_ok-read_up_to-clause-reads
 returns-in_ok-read_up_to-clause-reads c =
     let l0 = with_sign c.args.most c.args.tokens.now (sym c.is_next.ensures ∙ c.if-is_next.true) in
-    let l1 = past_part (the_line is_minus) (λ line. negated c.args.most) l0 c.in_ok-the_line.field-0 c.the_line.new.tokens c.in_ok-the_line.ensures in
+    let l1 = past_part (the_line is_minus) (λ line. negated c.args.most) l0 c.in_ok-the_line.field-0 c.the_line.new.tokens c.in_ok-the_line.ensures.reads in
     let m = made_left (up_to c.args.most) negative l1 c.in_ok-read_up_to.field-0 c.read_up_to.new.tokens (rw c.from.ensures at c.in_ok-read_up_to.ensures.reads) in
     let small : c.in_ok-read_up_to.field-0 < 32768 = omega (arith, c.in_ok-read_up_to.ensures.within) in
     (m.0 ∙ ap (λ (z : ℤ). Ok (z, c.read_up_to.new.tokens.ahead)) (sym (as_code c.in_ok-read_up_to.field-0 small)), m.1)

@@ -37,7 +37,7 @@ pub returns : goal.returns
 unfolding an_area
 returns c =
     let l0 = all_left an_area c.args.tokens.now in
-    let l1 = past_part (a_word (codes "area")) behind_word l0 c.in_ok-line.line c.read_word.new.tokens c.in_ok-line.ensures in
+    let l1 = past_part (a_word (codes "area")) behind_word l0 c.in_ok-line.line c.read_word.new.tokens c.in_ok-line.ensures.reads in
     let x0 = c.in_ok-x0.x0 in
     let l2 = past_part (an_int 4096) behind_x0 l1 x0 c.read_int.new.tokens c.in_ok-x0.ensures.reads in
     let y0 = c.in_ok-y0.y0 in

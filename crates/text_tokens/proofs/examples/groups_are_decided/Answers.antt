@@ -16,17 +16,17 @@ use Rattle.text_tokens.proofs.CombinatorLemmas.{decided}
 use Rattle.text_tokens.proofs.ChoiceLemmas.{part_limited}
 use Rattle.text_tokens.proofs.LexemeLemmas.{a_numeral, starts_numeral}
 use Rattle.text_tokens.proofs.InputLemmas.{exact_input, decided_input}
-use Rattle.text_tokens.proofs.GroupLaws.{exact_journal}
+use Rattle.text_tokens.proofs.GroupLaws.{exact_groups}
 use Rattle.text_tokens.proofs.examples.groups_are_decided.Goals as goal
 
 pub returns-clause-exact : goal.returns-clause-exact
-returns-clause-exact c = exact_journal
+returns-clause-exact c = exact_groups
 
 pub returns-clause-decided : goal.returns-clause-decided
-returns-clause-decided c = decided AreGroups groups_to_end exact_journal
+returns-clause-decided c = decided AreGroups groups_to_end exact_groups
 
 pub returns-clause-input : goal.returns-clause-input
-returns-clause-input c = decided_input AreGroups Trailing groups_to_end exact_journal
+returns-clause-input c = decided_input AreGroups Trailing groups_to_end exact_groups
 
 abbrev Answers : List Lexeme → Refusal → Type 0
 Answers ts r = ◌≡◌ {A = Answer (List WrittenGroup)} (groups_to_end (on_line 3 BadByte) ts) (Err r)
@@ -60,10 +60,10 @@ unfolding same_kind one_within the_line numeral either limited elements repeated
 beyond = refl
 
 is_it : (ts : List Lexeme) (r : Refusal) → Answers ts r → IsGroupsFault ts r
-is_it ts r e = subst (λ (s : Answer (List WrittenGroup)). Tells AreGroups (on_line 3 BadByte) ts s) e (exact_journal.tells (on_line 3 BadByte) ts)
+is_it ts r e = subst (λ (s : Answer (List WrittenGroup)). Tells AreGroups (on_line 3 BadByte) ts s) e (exact_groups.tells (on_line 3 BadByte) ts)
 
 is_other : (ts : List Lexeme) (r s : Refusal) → Answers ts r → IsGroupsFault ts s → r.kind ≡ s.kind
-is_other ts r s e f = let g : ◌≡◌ {A = Answer (List WrittenGroup)} (Err r) (Err s) = sym e ∙ exact_journal.only (on_line 3 BadByte) ts (Err s) f in let h : r ≡ s = cc in ap (λ (r : Refusal). r.kind) h
+is_other ts r s e f = let g : ◌≡◌ {A = Answer (List WrittenGroup)} (Err r) (Err s) = sym e ∙ exact_groups.only (on_line 3 BadByte) ts (Err s) f in let h : r ≡ s = cc in ap (λ (r : Refusal). r.kind) h
 
 pub returns-clause-judged : goal.returns-clause-judged
 returns-clause-judged c = record {
@@ -80,10 +80,10 @@ returns-clause-judged c = record {
 -- ---- texts and whole inputs
 
 tells : (last : Refusal) (ts : List Lexeme) (r : Answer (List WrittenGroup)) → groups_to_end last ts ≡ r → Tells AreGroups last ts r
-tells last ts r e = subst (λ (s : Answer (List WrittenGroup)). Tells AreGroups last ts s) e (exact_journal.tells last ts)
+tells last ts r e = subst (λ (s : Answer (List WrittenGroup)). Tells AreGroups last ts s) e (exact_groups.tells last ts)
 
 tells_input : (last : Refusal) (ts : List Lexeme) (r : Result (List WrittenGroup) Refusal) → whole_input Trailing groups_to_end last ts ≡ r → TellsInput AreGroups Trailing last ts r
-tells_input last ts r e = subst (λ (s : Result (List WrittenGroup) Refusal). TellsInput AreGroups Trailing last ts s) e ((exact_input AreGroups Trailing groups_to_end exact_journal).tells last ts)
+tells_input last ts r e = subst (λ (s : Result (List WrittenGroup) Refusal). TellsInput AreGroups Trailing last ts s) e ((exact_input AreGroups Trailing groups_to_end exact_groups).tells last ts)
 
 text_read : IsText AreGroups (read.closed_by_end (word_on 10 (codes "entry") ∷ [])) read.two_groups (word_on 10 (codes "entry") ∷ [])
 unfolding same_kind one_within the_line numeral either limited elements repeated a_group_pair all_group_pairs unjudged_group a_group all_groups groups_to_end

@@ -30,14 +30,14 @@ unfolding unjudged_group
 returns-in_err-line c =
     let p = err_from_is_err_and c.from_residual.result c.from_residual.ensures.1 in
     let e = c.in_err-line.field-0.0 in
-    rw (p.1, p.2) (unnoted e c.args.tokens.now c.the_line.new.tokens (fails (the_line is_group) behind_line e c.args.tokens.now c.the_line.new.tokens c.in_err-line.ensures))
+    rw (p.1, p.2) (unnoted e c.args.tokens.now c.the_line.new.tokens (fails (the_line is_group) behind_line e c.args.tokens.now c.the_line.new.tokens c.in_err-line.ensures.reads))
 
 pub returns-in_err-count : goal.returns-in_err-count
 unfolding unjudged_group
 returns-in_err-count c =
     let p = err_from_is_err_and c.from_residual-in_err-count.result c.from_residual-in_err-count.ensures.1 in
     let e = c.in_err-count.field-0.0 in
-    rw (p.1, p.2) (unnoted e c.args.tokens.now c.number.new.tokens (on (λ (a : WrittenGroup). a) (the_line is_group) behind_line c.args.tokens.now c.the_line.new.tokens c.number.new.tokens c.in_ok-line.line (Err e) c.in_ok-line.ensures
+    rw (p.1, p.2) (unnoted e c.args.tokens.now c.number.new.tokens (on (λ (a : WrittenGroup). a) (the_line is_group) behind_line c.args.tokens.now c.the_line.new.tokens c.number.new.tokens c.in_ok-line.line (Err e) c.in_ok-line.ensures.reads
     (fails (numeral no_limit) (behind_count c.in_ok-line.line) e c.the_line.new.tokens c.number.new.tokens c.in_err-count.ensures.reads)))
 
 pub returns-in_err-pairs : goal.returns-in_err-pairs
@@ -45,7 +45,7 @@ unfolding unjudged_group
 returns-in_err-pairs c =
     let p = err_from_is_err_and c.from_residual-in_err-pairs.result c.from_residual-in_err-pairs.ensures.1 in
     let e = c.in_err-pairs.field-0.0 in
-    rw (p.1, p.2) (unnoted e c.args.tokens.now c.read_pairs.new.tokens (on (λ (a : WrittenGroup). a) (the_line is_group) behind_line c.args.tokens.now c.the_line.new.tokens c.read_pairs.new.tokens c.in_ok-line.line (Err e) c.in_ok-line.ensures
+    rw (p.1, p.2) (unnoted e c.args.tokens.now c.read_pairs.new.tokens (on (λ (a : WrittenGroup). a) (the_line is_group) behind_line c.args.tokens.now c.the_line.new.tokens c.read_pairs.new.tokens c.in_ok-line.line (Err e) c.in_ok-line.ensures.reads
     (on (λ (a : WrittenGroup). a) (numeral no_limit) (behind_count c.in_ok-line.line) c.the_line.new.tokens c.number.new.tokens c.read_pairs.new.tokens c.in_ok-count.count (Err e) c.in_ok-count.ensures.reads
     (fails all_group_pairs (λ ps. pure (put c.in_ok-line.line c.in_ok-count.count ps)) e c.number.new.tokens c.read_pairs.new.tokens c.in_err-pairs.ensures))))
 
@@ -68,8 +68,8 @@ module _ (old mid end new : Cursor) (line count : ℕ) (pairs : List ℕ) (l : R
   same_count same = judged_fine unjudged_group group_fault old new (put line count pairs) noted_reached (rw (eq-eqb (length pairs) count same) refl)
 
 pub returns-then-len-count : goal.returns-then-len-count
-returns-then-len-count c = rw c.refused.ensures (other_count c.args.tokens.now c.the_line.new.tokens c.number.new.tokens c.read_pairs.new.tokens c.in_ok-line.line c.in_ok-count.count c.in_ok-pairs.pairs.items c.in_ok-line.ensures c.in_ok-count.ensures.reads c.in_ok-pairs.ensures
+returns-then-len-count c = rw c.refused.ensures (other_count c.args.tokens.now c.the_line.new.tokens c.number.new.tokens c.read_pairs.new.tokens c.in_ok-line.line c.in_ok-count.count c.in_ok-pairs.pairs.items c.in_ok-line.ensures.reads c.in_ok-count.ensures.reads c.in_ok-pairs.ensures
     (λ same. c.if-len-count.true (c.len.ensures ∙ c.in_ok-pairs.pairs.ok.0 ∙ same)))
 
 pub returns : goal.returns
-returns c = same_count c.args.tokens.now c.the_line.new.tokens c.number.new.tokens c.read_pairs.new.tokens c.in_ok-line.line c.in_ok-count.count c.in_ok-pairs.pairs.items c.in_ok-line.ensures c.in_ok-count.ensures.reads c.in_ok-pairs.ensures (sym c.in_ok-pairs.pairs.ok.0 ∙ sym c.len.ensures ∙ c.if-len-count.false)
+returns c = same_count c.args.tokens.now c.the_line.new.tokens c.number.new.tokens c.read_pairs.new.tokens c.in_ok-line.line c.in_ok-count.count c.in_ok-pairs.pairs.items c.in_ok-line.ensures.reads c.in_ok-count.ensures.reads c.in_ok-pairs.ensures (sym c.in_ok-pairs.pairs.ok.0 ∙ sym c.len.ensures ∙ c.if-len-count.false)

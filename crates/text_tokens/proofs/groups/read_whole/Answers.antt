@@ -13,4 +13,4 @@ returns-in_err-the_line c =
     let e = c.in_err-the_line.field-0.0 in
     let found = map written_group c.in_ok-entries.entries.items in
     rw (p.1, p.2) (on (λ (es : List WrittenGroup). es) all_groups (λ es. the_line is_groups_end >>= λ line. pure es) c.args.tokens.now c.read_group_list.new.tokens c.the_line.new.tokens found (Err e) c.in_ok-entries.ensures
-    (fails (the_line is_groups_end) (λ line. pure found) e c.read_group_list.new.tokens c.the_line.new.tokens c.in_err-the_line.ensures))
+    (fails (the_line is_groups_end) (λ line. pure found) e c.read_group_list.new.tokens c.the_line.new.tokens c.in_err-the_line.ensures.reads))

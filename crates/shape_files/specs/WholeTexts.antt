@@ -1,0 +1,99 @@
+-- Documents that are printed whole. Such a document has what was printed, lines of the program aside.
+use Rattle.std.specs.Prelude.{◌≡◌, ◌≤◌, ℕ, true, List, [], ◌∷◌, ◌++◌, Option, Some, None, length, codes, decimal}
+use Rattle.std.specs.Option.{option_map, IfSome, IsSome}
+use Rattle.std.specs.List.{All, flat_map}
+use Rattle.text_tokens.specs.Lines.{Words, line_text}
+use Rattle.amoebot_state.specs.declared.verdict.Entry.{Entry}
+use Rattle.amoebot_state.specs.Configs.{Config}
+use Rattle.claim_core.specs.Limits.{most_callers, most_turns}
+use Rattle.claim_core.specs.Turns.{MarkLists}
+use Rattle.action_tree.specs.Trees as tree
+use Rattle.action_tree.specs.Lines.{without_lines}
+use Rattle.action_tree.specs.Writable.{is_writable}
+use Rattle.action_print.specs.Canon.{canon}
+use Rattle.action_check.specs.Faults.{faults}
+use Rattle.journal_text.specs.Texts.{journal_text, turns_text}
+use Rattle.journal_text.specs.Rereading.{KeepsLimits, AreWritable}
+use Rattle.shape_text.specs.Texts.{shape_text}
+use Rattle.shape_text.specs.Rereading.{IsWritableConfig}
+use Rattle.shape_files.specs.declared.section_kind.Form.{Form}
+use Rattle.shape_files.specs.Documents.{Contents, var_count, actions_of, maxes_in, bots_of, HasContents}
+use Rattle.shape_files.specs.Fitting.{HasSections, AreTogether}
+
+-- ---- the text
+
+-- the first line: the word of documents, and the version
+abbrev pub header_line : Words
+header_line = codes "amoebot" ∷ decimal 1 ∷ []
+
+-- the text of what is there
+abbrev pub text_of_some : {A : Type 0} → (A → List ℕ) → Option A → List (List ℕ)
+text_of_some text None = []
+text_of_some text (Some a) = text a ∷ []
+
+-- the sections that are there, in the order of documents; lists and schedules are not printed
+abbrev pub section_texts : Contents → Option MarkLists → List (List ℕ)
+section_texts a marks =
+    text_of_some canon a.checked
+    ++ text_of_some (shape_text (codes "shape") (var_count a.checked)) a.world
+    ++ text_of_some (journal_text (var_count a.checked)) a.entries
+    ++ text_of_some (shape_text (codes "final") (var_count a.checked)) a.final_world
+    ++ text_of_some turns_text marks
+
+-- the first line, and then the sections
+abbrev pub document_text : Contents → Option MarkLists → List ℕ
+document_text a marks = line_text header_line ++ flat_map (λ text. text) (section_texts a marks)
+
+-- ---- what can be printed
+
+-- a program that keeps its limits, and the rules on names and ranges
+pub record IsWritableProgram (p : tree.Program) : Type 0 where
+  pub writable : is_writable p ≡ true
+  pub checked : faults p ≡ []
+
+-- a configuration that a world has, with the maxima of the program
+pub record IsWritableShape (a : Contents) (c : Config) : Type 0 where
+  pub world : IsWritableConfig (var_count a.checked) c
+  pub maxes : c.maxes ≡ maxes_in a.checked
+
+-- entries that break no limit, of the amoebots and actions that there are
+pub record AreWritableEntries (a : Contents) (es : List Entry) : Type 0 where
+  pub few : length es ≤ most_turns
+  pub each : All (KeepsLimits (bots_of a.world) (actions_of a.checked) (var_count a.checked)) es
+
+-- marks of such numbers as a text can hold; they stand behind a last shape
+pub record AreWritableMarks (a : Contents) (m : MarkLists) : Type 0 where
+  pub behind : IsSome a.final_world
+  pub callers : length m.marks ≤ most_callers
+  pub each : All AreWritable m.marks
+
+-- The sections are those of the form, without lists and a schedule, and each of them can be printed.
+pub record IsWritableDocument (form : Form) (a : Contents) (marks : Option MarkLists) : Type 0 where
+  pub sections : HasSections form a
+  pub recorded : AreTogether a
+  pub no_lists : a.lists ≡ None
+  pub no_schedule : a.schedule ≡ None
+  pub program : IfSome a.checked IsWritableProgram
+  pub world : IfSome a.world (IsWritableShape a)
+  pub entries : IfSome a.entries (AreWritableEntries a)
+  pub final_world : IfSome a.final_world (IsWritableShape a)
+  pub turns : IfSome marks (AreWritableMarks a)
+
+-- ---- the law
+
+-- with a program without lines
+abbrev pub bare_contents : Contents → Contents
+bare_contents a = record a { checked = option_map without_lines a.checked }
+
+-- the bytes are a document of the form that has this, lines of the program aside
+pub record HasBareContents (form : Form) (bytes : List ℕ) (a : Contents) : Type 0 where
+  pub contents : Contents
+  pub has : HasContents form bytes contents
+  pub same : bare_contents contents ≡ bare_contents a
+
+-- what can be printed is read back from its text
+abbrev pub DocumentsReadBack : Type 0
+DocumentsReadBack =
+    (form : Form) (a : Contents) (marks : Option MarkLists)
+    → IsWritableDocument form a marks
+    → HasBareContents form (document_text a marks) a
