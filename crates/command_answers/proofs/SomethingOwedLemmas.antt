@@ -1,5 +1,5 @@
 -- Something is owed.
-use Rattle.std.proofs.Common.{◌≡◌, ◌<◌, ◌≤◌, ℕ, List, [], length, true, Option, Some, None, Result, Ok, Err, inl, inr, refl, ap, sym, subst, arith}
+use Rattle.std.proofs.Common.{◌≡◌, ◌<◌, ◌≤◌, ◌*◌, ℕ, List, [], length, true, Option, Some, None, Result, Ok, Err, inl, inr, refl, ap, sym, subst, arith}
 use Rattle.std.specs.Prelude.{IsSome, IfSome, reverse}
 use Rattle.std.specs.List.{All}
 use Rattle.std.specs.Option.{option_or}
@@ -138,14 +138,14 @@ module _ (laws : Exists) where
         by None e = let w = there_is a.world some in measured w.0 (subst (λ (o : Option Config). option_or o a.world ≡ Some w.0) (sym e) w.1) (drawn w.0 w.1).valid
 
   outcome : (c : DocumentCommand) (bytes : List ℕ) (a : Contents) → HasContents (form_of c) bytes a → HasOutcome a c
-  outcome Run bytes a h = let has = (fits bytes a Run h).sections in run_outcome bytes a Run h (lists_of bytes a Run h has.0 has.1 has.2.0)
-  outcome Interleave bytes a h = let has = (fits bytes a Interleave h).sections in interleave_outcome bytes a Interleave h (lists_of bytes a Interleave h has.0 has.1 has.2.0) has.2.1.0
+  outcome Run bytes a h = let has = (fits bytes a Run h).sections in run_outcome bytes a Run h (lists_of bytes a Run h has.0 has.1 has.2)
+  outcome Interleave bytes a h = let has = (fits bytes a Interleave h).sections in interleave_outcome bytes a Interleave h (lists_of bytes a Interleave h has.0 has.1 has.2) has.3
   outcome Replay bytes a h =
       let has = (fits bytes a Replay h).sections in
       let p = there_is a.checked has.0 in
       let w = there_is a.world has.1 in
-      let es = there_is a.entries has.2.0 in
-      let last = there_is a.final_world has.2.1 in
+      let es = there_is a.entries has.2 in
+      let last = there_is a.final_world has.3 in
       replay_outcome bytes a Replay h (record { program = p.0; start = w.0; entries = es.0; final = last.0; its_program = p.1; its_shape = w.1; its_journal = es.1; its_final = last.1 })
   outcome Check bytes a h = let p = there_is a.checked (fits bytes a Check h).sections.0 in record { status = status.Done; report = None; text = check_text p.0; is = of_check p.0 p.1 }
   outcome Measure bytes a h = measure_outcome bytes a Measure h (fits bytes a Measure h).sections.1
