@@ -32,7 +32,7 @@ FaultsIgnoreLines =
 abbrev pub RulesIgnoreLines : Type 0
 RulesIgnoreLines = (p q : Program) → without_lines p ≡ without_lines q → AreRulesKept p → AreRulesKept q
 
--- the faults stand in the order of the text: where the lines of names and numbers never fall, those of the faults never do
+-- the faults stand in the order of lines: where the lines of names and numbers never fall, those of the faults never do
 abbrev pub FaultsFollowText : Type 0
 FaultsFollowText =
     (p : Program) → IsNonDecreasing (lines_in_program p) → IsNonDecreasing (map (λ (r : Refusal). r.line) (faults p))

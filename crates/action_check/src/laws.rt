@@ -23,7 +23,7 @@ pub fn faults_ignore_lines()
     ensures rules { RulesIgnoreLines }
 {}
 
-/// The faults stand in the order of the text: where the lines of a program never fall, those of its faults never do.
+/// The faults stand in the order of lines: where the lines of a program never fall, those of its faults never do.
 pub fn faults_follow_text()
     ensures program { FaultsFollowText }
     ensures text { FaultsOfTextNeverFall }

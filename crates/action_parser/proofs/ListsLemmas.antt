@@ -18,7 +18,7 @@ use Rattle.action_tree.specs.Limits.{most_further}
 use Rattle.action_tree.specs.ExpressionReaders.{a_unit, a_conj, an_expr, a_sum, inside, a_minus, a_term, part}
 use Rattle.action_tree.specs.StatementReaders.{a_stmt, all_stmts, stmts_inside, stmts_at}
 use Rattle.action_parser.specs.Readings.{made}
-use Rattle.action_parser.specs.Lists.{with_first, more_units, more_conjs, more_parts, all_units, all_conjs, all_parts, more_stmts, all_listed, all_in, any_in}
+use Rattle.action_parser.proofs.Lists.{with_first, more_units, more_conjs, more_parts, all_units, all_conjs, all_parts, more_stmts, all_listed, all_in, any_in}
 
 -- a loop over elements, from what it has found
 module _ {A S : Type 0} {E : S → Lang A} {element : S → Reader A} {starts between stop : Lexeme → Bool} (e : AreElements E element starts between stop) (step : S → A → S) (s : S) {all : Reader (List A)} {start : Cursor} {found : List A} {here : Cursor} (still : StillReads all start found (repeated starts element step s) here) where

@@ -1,7 +1,6 @@
 pub mod Readings
 pub mod Full
 pub mod Selections
-pub mod Lists
 pub mod PartsOf
 pub use Rattle.action_tree.specs.ExpressionReaders
 pub use Rattle.action_tree.specs.Productions

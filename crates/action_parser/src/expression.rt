@@ -1,6 +1,6 @@
 //! Guards, sums and ports. They contain each other, one level deeper behind each token that opens one.
 //!
-//! Each function is told how many more levels may be opened, and how many more names may be bound.
+//! Each function knows how many more levels may be opened, and how many more names may be bound.
 
 ghost use Rattle.std.specs.Prelude.{◌<◌, IfOk, IfSome, option_map};
 ghost use Rattle.text_tokens.specs.Steps.{Gives, another};

@@ -20,7 +20,7 @@ use Rattle.command_answers.specs.declared.answer.Task.TheVariants as task
 use Rattle.command_answers.specs.declared.answer.Telling.{Telling}
 use Rattle.command_answers.specs.declared.status.Status.{Status}
 use Rattle.command_answers.specs.declared.status.Status.TheVariants as status
-use Rattle.command_answers.specs.Answers.{IsPrepared, IsTaskOf, IsToldBy, Tells}
+use Rattle.command_answers.specs.Answers.{IsPrepared, IsTaskOf, TellsReport, Tells}
 use Rattle.command_answers.specs.Owed.{IsOwed}
 use Rattle.command_answers.specs.Reads.{Read, whole}
 use Rattle.amoebot_run.specs.declared.begin.Begun.{Begun}
@@ -90,7 +90,7 @@ module _ {command : Option Command} {Reads : Read → Type 0} {Writes Cuts : Lis
 
 -- the text of an answer that tells the report was written
 pub told_by : {K : Type 0} {sink : SinkOf K} {old new : K} (t : Telling) (p : Program) (lists : CallerLists) (report : Report) (turns : List (List Turn)) (answer : Answer) (ended : Ended)
-    → IsToldBy t p lists report answer → IsEndOfWriting sink old new answer.status answer.report (Some turns) answer.text ended
+    → TellsReport t p lists report answer → IsEndOfWriting sink old new answer.status answer.report (Some turns) answer.text ended
     → IsEndedRun sink old new (Tells t p lists report) report turns ended
 told_by {sink = sink} {old = old} {new = new} t p lists report turns answer ended is writes =
     told answer.text ended is.text (subst (λ (z : Status × Option Report). IsEndOfWriting sink old new z.0 z.1 (Some turns) answer.text ended) (λ i. (is.done i, is.its_report i)) writes)

@@ -27,7 +27,7 @@ use text_tokens::{Refusal, RefusalKind};
 pub enum Begun {
     /// It has ended.
     Ended(Ended),
-    /// Workers are to run these lists, and then their report is told.
+    /// Workers are to run these lists, and then the text of their report is made.
     Run(Prepared),
 }
 

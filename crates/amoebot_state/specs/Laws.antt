@@ -277,8 +277,8 @@ ShownAloneHoldsTheSame =
     → Contains (zone c i) n
     → value (shown_alone (shown c i)) n ≡ value c n
 
--- an amoebot is in the configuration that has what is shown and no other amoebot exactly where it is in the one that shows it, and its
--- body is in the zone
+-- Take the configuration that has what is shown and no other amoebot.
+-- An amoebot is in it exactly where it is in the one that shows it, and its body is in the zone.
 abbrev pub ShownAloneHasTheZone : Type 0
 ShownAloneHasTheZone =
     (c : Config) (i j : ℕ) (b : Bot)
@@ -289,7 +289,7 @@ abbrev pub NoneIsOutsideTheZone : Type 0
 NoneIsOutsideTheZone =
     (c : Config) (i j : ℕ) → (bot_at (shown_alone (shown c i)) j ≡ None) ↔ (¬ Contains (zone c i) (name.Body j))
 
--- a node that is the amoebot's own or adjacent to one has in it the occupant that it has in the one that shows it, in the area or not
+-- A node that is the amoebot's own or adjacent to one has the same occupant in both, whether it is in the area or not.
 abbrev pub BesideHoldsTheSame : Type 0
 BesideHoldsTheSame =
     (c : Config) (i : ℕ) (b : Bot) (v : Node)

@@ -46,8 +46,8 @@ report_of z seats world journal = record {
   turns = record { turns = z.lists.turns; marks = map marks_at_seat seats };
 }
 
--- what a field leaves is right: it is a run of the model from the first world to the last, its entries are turns of the lists in their
--- order, and of the turns that were made each mark is right, Busy included
+-- What a field leaves is right: it is a run of the model from the first world to the last.
+-- Its entries are turns of the lists in their order. Of the turns that were made each mark is right, Busy included.
 pub record EndsRight {D : Type 0} (verdict : D → Shown → Verdict) (z : Terms D)
     (seats : List (Option (Token D))) (world : Config) (journal : Kept) : Type 0 where
   pub run : Run (verdict z.decider) z.world journal.entries world

@@ -19,16 +19,16 @@ use Rattle.claim_rule.specs.Plays.{IsToTry, IsToFree, IsToRead, Claims, Releases
 use Rattle.claim_rule.specs.Commits.{Takes, IsToCommit, took, stored}
 
 module _ {D : Type 0} (verdict : D → Shown → Verdict) (z : Terms D) where
-  -- there is a view of the seat, and an act on slots, with which the table stands for the state after one step more of the seat's caller
-  -- once x is put in the word i, and the seat knows what the step tells
+  -- Once x is put in the word i, the table stands for the state after one step more of the seat's caller.
+  -- It does so with some view of the seat and some act on slots, and the seat knows what the step tells.
   abbrev pub GoesOn : Content D → List ℕ → ℕ → ℕ → Seated D → (ℕ → Seated D → Type 0) → ℕ → Type 0
   GoesOn s steps i seat me then x =
       (w : View D) × (a : Act Slot) × Valid s.homes me.1 a
       × Stands verdict z (stepped s i x seat me.1 w a) (after (setup_of_terms verdict z) ((own me.0).number ∷ steps))
       × then (slice_index s.words i) (w, carried_after me.1 a)
 
-  -- and whatever view and act the seat has taken, if the rule is kept and the seat knows what the step tells, the table stands for that
-  -- state
+  -- Whatever view and act the seat has taken: if the rule is kept, and the seat knows what the step tells,
+  -- then the table stands for that state.
   abbrev pub IsEachStep : Content D → List ℕ → ℕ → ℕ → Seated D → (ℕ → Seated D → Type 0) → ℕ → Type 0
   IsEachStep s steps i seat me then x =
       (w : View D) (a : Act Slot)

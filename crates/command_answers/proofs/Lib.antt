@@ -13,6 +13,5 @@ pub mod ActionLemmas
 pub mod Worlds
 pub mod Entries
 pub mod MarkLemmas
-pub mod Sizes
 pub mod Interleaved
 pub mod Replayed

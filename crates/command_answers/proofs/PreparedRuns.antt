@@ -31,7 +31,7 @@ use Rattle.command_answers.specs.Commands.{form_of}
 use Rattle.command_answers.specs.Reads.{nothing, whole}
 use Rattle.command_answers.specs.Outcomes.{of_run}
 use Rattle.command_answers.specs.Owed.{IsOwed, served, sampled}
-use Rattle.command_answers.specs.Answers.{IsCounted, IsPrepared, IsToldBy, Tells, of_document, of_number, done_with}
+use Rattle.command_answers.specs.Answers.{IsCounted, IsPrepared, TellsReport, Tells, of_document, of_number, done_with}
 
 -- the run of a document
 pub prepares : OneListIsSerial → (a : Contents) (bytes : List ℕ) (run : Prepared) → HasContents (form_of Run) bytes a → a.checked ≡ Some run.runner → a.world ≡ Some run.world → a.lists ≡ Some run.lists → run.telling ≡ telling.Report
@@ -88,8 +88,8 @@ pub done_with_all : {E : Type 0} (vars number : ℕ) (report : Report) (r : Resu
 done_with_all vars number report r e ok = subst (λ (v : ℕ). IfOk r (λ (a : Answer). a ≡ done_with v report)) e ok
 
 -- an answer with the report's own text tells it
-pub report_told : (p : Program) (lists : CallerLists) (report : Report) (t : Telling) (answer : Answer) → t ≡ telling.Report → answer ≡ done_with (length p.vars) report → IsToldBy t p lists report answer
-report_told p lists report t answer is same = subst (λ (t : Telling). IsToldBy t p lists report answer) (sym is) (record {
+pub report_told : (p : Program) (lists : CallerLists) (report : Report) (t : Telling) (answer : Answer) → t ≡ telling.Report → answer ≡ done_with (length p.vars) report → TellsReport t p lists report answer
+report_told p lists report t answer is same = subst (λ (t : Telling). TellsReport t p lists report answer) (sym is) (record {
   done = ap (λ (a : Answer). a.status) same;
   its_report = ap (λ (a : Answer). a.report) same;
   text = ap (λ (a : Answer). a.text) same;

@@ -8,7 +8,7 @@ use Rattle.amoebot_state.specs.Configs.{Config}
 use Rattle.amoebot_state.specs.Laws.{ZoneHasAtMostNineBodies}
 use Rattle.claim_core.specs.declared.report.Report.{Report}
 use Rattle.claim_core.specs.Limits.{most_turns}
-use Rattle.claim_core.specs.Turns.{CallerLists, AreFew, HaveBots}
+use Rattle.claim_core.specs.Turns.{CallerLists, AreFew, AreLists, HaveBots}
 use Rattle.claim_core.specs.Good.{Good}
 use Rattle.journal_text.specs.Rereading.{KeepsLimits}
 use Rattle.journal_text.specs.Texts.{journal_text, turns_text}
@@ -23,7 +23,7 @@ use Rattle.action_meaning.specs.Laws.{ProgramsDecideByActs}
 use Rattle.shape_files.specs.declared.section_kind.Form.TheVariants as form
 use Rattle.shape_files.specs.Documents.{Contents, var_count, actions_of, maxes_in, bots_of, HasContents}
 use Rattle.shape_files.specs.RunTexts.{run_text, KeepsRunLimits, EndsLine, RunsAreReplayed}
-use Rattle.shape_files.specs.Fitting.{FitTogether, DocumentsFit}
+use Rattle.shape_files.specs.Fitting.{FitTogether, DocumentsAreSound, DocumentsFit, IsSoundDocument, IsWorldShape}
 use Rattle.command_runs.specs.Reports.{report_text}
 use Rattle.command_runs.specs.Replay.{agrees_line}
 use Rattle.command_runs.specs.Laws.{GoodIsFew}
@@ -38,12 +38,12 @@ use Rattle.claim_core.proofs.Frames.{IsFramed, framed_first, framed_on}
 use Rattle.command_answers.proofs.Worlds.{MayRun, maxes_are, is_writable}
 use Rattle.command_answers.proofs.Entries.{all_keep_limits}
 use Rattle.command_answers.proofs.MarkLemmas.{few_callers, marks_writable}
-use Rattle.command_answers.proofs.Sizes.{HasRoom, IsDrawn, documents_have_room}
 use Rattle.command_answers.proofs.Interleaved.{interleaves_are_runs}
 
 -- what the laws of lower crates say
 pub record Laws : Type 0 where
   pub fit : DocumentsFit
+  pub sound : DocumentsAreSound
   pub replayed : RunsAreReplayed
   pub few : GoodIsFew
   pub acts : ProgramsDecideByActs
@@ -58,16 +58,16 @@ module _ (laws : Laws) (bytes : List ℕ) (a : Contents) (p : Program) (start : 
   fits : FitTogether a
   fits = (laws.fit form.Run bytes a holds).together
 
-  room : HasRoom a
-  room = documents_have_room bytes a holds
+  sound : IsSoundDocument a
+  sound = laws.sound form.Run bytes a holds
 
   -- ---- of the parts by themselves
 
-  drawn : IsDrawn start
-  drawn = subst (λ (o : Option Config). IfSome o IsDrawn) its_shape room.shape
+  drawn : IsWorldShape start
+  drawn = subst (λ (o : Option Config). IfSome o IsWorldShape) its_shape sound.world
 
   few_lists : AreFew (length lists.ids) lists.turns
-  few_lists = subst (λ (o : Option CallerLists). IfSome o (λ l. AreFew (length l.ids) l.turns)) its_lists room.lists
+  few_lists = (subst (λ (o : Option CallerLists). IfSome o AreLists) its_lists sound.lists).few
 
   bots_there : HaveBots (length start.bots) lists
   bots_there =

@@ -22,7 +22,7 @@ use Rattle.action_meaning.specs.Verdicts.{verdict_shown}
 use Rattle.shape_checks.specs.Laws.{MeasuresAreDecided}
 use Rattle.shape_files.specs.declared.section_kind.Form.TheVariants as form
 use Rattle.shape_files.specs.Documents.{Contents, HasContents, DocumentsAreDecided, FormSays}
-use Rattle.shape_files.specs.Fitting.{DocumentsAreSound, DocumentsFit, Fits, IsDrawn, IsSoundDocument}
+use Rattle.shape_files.specs.Fitting.{DocumentsAreSound, DocumentsFit, Fits, IsWorldShape, IsSoundDocument}
 use Rattle.run_sample.specs.Laws.{SampleIsFit, SampleIsSome}
 use Rattle.command_runs.specs.Check.{check_text}
 use Rattle.command_runs.specs.Laws.{GoodStaysConnected, ReplayIsDecided}
@@ -82,8 +82,8 @@ module _ (laws : Exists) where
     sound : IsSoundDocument a
     sound = laws.sound (form_of c) bytes a h
 
-    drawn : (start : Config) → a.world ≡ Some start → IsDrawn start
-    drawn start e = subst (λ (o : Option Config). IfSome o IsDrawn) e sound.world
+    drawn : (start : Config) → a.world ≡ Some start → IsWorldShape start
+    drawn start e = subst (λ (o : Option Config). IfSome o IsWorldShape) e sound.world
 
     -- lists of a document, and what they make a run of
     lists_of : IsSome a.checked → IsSome a.world → IsSome a.lists → DocumentLists a
@@ -134,7 +134,7 @@ module _ (laws : Exists) where
     measure_outcome some = by a.final_world refl
       where
         by : (o : Option Config) → a.final_world ≡ o → HasOutcome a Measure
-        by (Some last) e = measured last (ap (λ (o : Option Config). option_or o a.world) e) (subst (λ (o : Option Config). IfSome o IsDrawn) e sound.final_world).valid
+        by (Some last) e = measured last (ap (λ (o : Option Config). option_or o a.world) e) (subst (λ (o : Option Config). IfSome o IsWorldShape) e sound.final_world).valid
         by None e = let w = there_is a.world some in measured w.0 (subst (λ (o : Option Config). option_or o a.world ≡ Some w.0) (sym e) w.1) (drawn w.0 w.1).valid
 
   outcome : (c : DocumentCommand) (bytes : List ℕ) (a : Contents) → HasContents (form_of c) bytes a → HasOutcome a c

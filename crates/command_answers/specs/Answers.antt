@@ -55,19 +55,19 @@ Tells telling.Report p lists report text = text ≡ report_text (length p.vars) 
 Tells (telling.Sample seed) p lists report text = IsSampleText (verdict_shown p) report.journal.first lists seed report text
 
 -- an answer is done with a report, and its text tells it
-pub record IsToldBy (t : Telling) (p : Program) (lists : CallerLists) (report : Report) (answer : Answer) : Type 0 where
+pub record TellsReport (t : Telling) (p : Program) (lists : CallerLists) (report : Report) (answer : Answer) : Type 0 where
   pub done : answer.status ≡ status.Done
   pub its_report : answer.report ≡ Some report
   pub text : Tells t p lists report answer.text
 
--- a report that is told as that of a sample has few entries
+-- a report that gets the lines of a sample has few entries
 abbrev pub IsCounted : Telling → Report → Type 0
 IsCounted telling.Report report = ⊤
 IsCounted (telling.Sample seed) report = AreCountable report.journal.entries
 
--- whose lists are to be run, under which program and from which shape on, and what is told of it
+-- whose lists are to be run, under which program and from which shape on, and which text the run gets
 pub data IsRunFor (run : Prepared) : Option Command → Read → Type 0 where
-  -- those of a document, whose report is told
+  -- those of a document; it gets the text of its report
   of_document : (c : DocumentCommand) (bytes : List ℕ) (a : Contents)
       → HasContents (form_of c) bytes a
       → a.checked ≡ Some run.runner
@@ -75,7 +75,7 @@ pub data IsRunFor (run : Prepared) : Option Command → Read → Type 0 where
       → a.lists ≡ Some run.lists
       → run.telling ≡ telling.Report
       → IsRunFor run (Some (Document c)) (whole bytes)
-  -- those of a number's sample, of which six lines are told
+  -- those of a number's sample; it gets the six lines
   of_number : (seed : ℕ)
       → IsSample seed (record { checked = run.runner; world = run.world; lists = run.lists })
       → run.telling ≡ telling.Sample seed

@@ -69,10 +69,10 @@ maker_of (Some (Sample seed)) = the_workers
 maker_of None = no_maker
 
 -- somebody makes them
-abbrev pub IsMaker : TurnMaker → Type 0
-IsMaker no_maker = ⊥
-IsMaker the_schedule = ⊤
-IsMaker the_workers = ⊤
+abbrev pub SomebodyMakes : TurnMaker → Type 0
+SomebodyMakes no_maker = ⊥
+SomebodyMakes the_schedule = ⊤
+SomebodyMakes the_workers = ⊤
 
 -- workers make them
 abbrev pub AreWorkers : TurnMaker → Type 0
@@ -82,7 +82,7 @@ AreWorkers the_workers = ⊤
 
 -- the command makes the turns of lists: those of a document, or those of a sample
 abbrev pub MakesTurns : Option Command → Type 0
-MakesTurns c = IsMaker (maker_of c)
+MakesTurns c = SomebodyMakes (maker_of c)
 
 -- and workers make them
 abbrev pub IsWorked : Option Command → Type 0

@@ -53,7 +53,7 @@ abbrev pub OwedIsOne : Type 0
 OwedIsOne = (c : Option Command) (read : Read) (s t : Status) (one two : Option Report) (text other : List ℕ)
     → IsOwed c read s one text → IsOwed c read t two other → SameOwed c read s t one two text other
 
--- tasks that are one, but for the room in a report's journal
+-- tasks that are one, apart from the room in a report's journal
 abbrev pub SameTask : Task → Task → Type 0
 SameTask (task.Answered one) (task.Answered two) = (one.status ≡ two.status) × SameIfAny one.report two.report × (one.text ≡ two.text)
 SameTask (task.Answered one) (task.Run two) = ⊥
@@ -86,7 +86,7 @@ abbrev pub ReportsAreOfSamples : Type 0
 ReportsAreOfSamples = (seed : ℕ) (read : Read) (s : Status) (report : Report) (text : List ℕ)
     → IsOwed (Some (Sample seed)) read s (Some report) text → (read ≡ nothing) × IsRunOfSample seed report text
 
--- for a command, if the words are one, and what was read there is a status, a report or none, and a text that are owed
+-- a status, a report or none, and a text are owed for a command, if the words are one, and for what was read
 pub record SomethingOwed (c : Option Command) (read : Read) : Type 0 where
   pub status : Status
   pub report : Option Report

@@ -18,7 +18,7 @@ pub struct Answer {
     pub text: Text,
 }
 
-/// What is told of a run that workers made.
+/// Which text a run that workers made gets.
 #[derive(Clone, Copy, Debug, PartialEq, Eq)]
 pub enum Telling {
     /// Its report.
@@ -27,7 +27,7 @@ pub enum Telling {
     Sample(u32),
 }
 
-/// A run that is prepared: its decider, the world at its start, its callers' lists, and what is told of it.
+/// A run that is prepared: its decider, the world at its start, its callers' lists, and which text it gets.
 #[derive(Drop)]
 pub struct Prepared {
     pub runner: Runner,

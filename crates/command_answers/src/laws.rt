@@ -15,8 +15,9 @@ use run_sample::{sample_is_fit, sample_is_some};
 use shape_checks::measures_are_decided;
 use shape_files::{documents_are_decided, documents_are_sound, documents_fit};
 
-/// For a command and what the input came to, at most one status is owed. At most one report is owed, but for `run` of two lists or more
-/// and for `sample`; and at most one text, but for `run` of two lists or more.
+/// For a command and what the input came to, at most one status is owed.
+/// At most one report is owed, except for `run` of two lists or more and for `sample`.
+/// At most one text is owed, except for `run` of two lists or more.
 pub fn owed_is_one()
     ensures { OwedIsOne }
 {
@@ -48,7 +49,8 @@ pub fn owed_is_some()
     acts_decide();
 }
 
-/// For a whole input of a command at most one task is to be done: one answer, but for the room in its report's journal, or one run.
+/// For a whole input of a command at most one task is to be done.
+/// It is one answer, apart from the room in its report's journal, or one run.
 pub fn task_is_one()
     ensures { TaskIsOne }
 {

@@ -15,7 +15,7 @@ use command_words::DocumentCommand;
 use shape_files::Parts;
 use std::alloc::Global;
 
-/// The steps of the schedule are made, and then rounds, and the report is told.
+/// The steps of the schedule are made, and then rounds, and the text of the report is made.
 pub(crate) fn answer_interleave(alloc: Global, parts: Parts) -> Result<Answer, NoMemory>
     requires { Fits (form_of DocumentCommand.Interleave) (contents parts) }
     ensures { IfOk result (IsAnswerTo DocumentCommand.Interleave (contents parts)) }

@@ -12,7 +12,7 @@ use claim_core::one_list_is_serial;
 use command_words::DocumentCommand;
 use shape_files::Parts;
 
-/// The run of a document's lists is prepared, and its report is to be told.
+/// The run of a document's lists is prepared; it gets the text of its report.
 pub(crate) fn prepare(parts: Parts) -> Prepared
     requires { Fits (form_of DocumentCommand.Run) (contents parts) }
     ensures { IsTaskTo DocumentCommand.Run (contents parts) (Task.Run result) }

@@ -12,7 +12,7 @@ use command_runs::good_is_few;
 use run_sample::{make_sample, sample_is_fit};
 use std::alloc::Global;
 
-/// The run of a number's sample is prepared, and the six lines of it are to be told. Nothing is read.
+/// The run of a number's sample is prepared; it gets the six lines. Nothing is read.
 pub fn prepare_sample(alloc: Global, seed: u32) -> Result<Prepared, NoMemory>
     ensures { IfOk result (IsPrepared (Some (Sample seed)) nothing) }
 {

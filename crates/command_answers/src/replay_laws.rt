@@ -6,7 +6,7 @@ use action_meaning::changes_are_acts;
 use amoebot_state::zone_has_at_most_nine_bodies;
 use command_runs::good_is_few;
 use model_ops::acts_decide;
-use shape_files::{documents_fit, runs_are_replayed};
+use shape_files::{documents_are_sound, documents_fit, runs_are_replayed};
 
 /// A document of `run` or of `interleave` whose last byte is a line feed, followed by the text of a report of its run, is one of
 /// `replay`, with the report's entries and its last world; and `replay` agrees.
@@ -16,6 +16,7 @@ pub fn run_texts_are_replayed()
     ensures owed { WhatIsOwedIsReplayed }
 {
     documents_fit();
+    documents_are_sound();
     runs_are_replayed();
     good_is_few();
     changes_are_acts();

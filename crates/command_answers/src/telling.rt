@@ -1,10 +1,10 @@
-//! What is told of a run.
+//! The answers that have a report, with its text.
 
 ghost use Rattle.std.specs.Prelude.{◌≡◌, ◌≤◌, IfOk, length};
 ghost use Rattle.amoebot_state.specs.Limits.{most_vars};
 ghost use Rattle.claim_core.specs.Good.{Good};
 ghost use Rattle.action_meaning.specs.Verdicts.{verdict_shown};
-ghost use Rattle.command_answers.specs.Answers.{IsCounted, IsToldBy, done_with};
+ghost use Rattle.command_answers.specs.Answers.{IsCounted, TellsReport, done_with};
 
 use crate::answer::{Answer, Telling};
 use crate::status::Status;
@@ -14,7 +14,7 @@ use claim_core::{Lists, Report};
 use command_runs::{good_is_few, print_report, print_sample};
 use std::alloc::Global;
 
-/// The answer that tells a good report of the lists' turns, as is to be told of it.
+/// The answer that has a good report of the lists' turns, with the text that such a run gets.
 pub fn tell(
     alloc: Global,
     telling: Telling,
@@ -24,7 +24,7 @@ pub fn tell(
 ) -> Result<Answer, NoMemory>
     requires good { Good (verdict_shown runner.now) report.journal.first lists.now report }
     requires few { IsCounted telling report }
-    ensures { IfOk result (IsToldBy telling runner.now lists.now report) }
+    ensures { IfOk result (TellsReport telling runner.now lists.now report) }
 {
     match telling {
         Telling::Report => tell_report(alloc, runner, report),
@@ -64,7 +64,7 @@ fn tell_sample(
 ) -> Result<Answer, NoMemory>
     requires good { Good (verdict_shown runner.now) report.journal.first lists.now report }
     requires few { IsCounted (Telling.Sample seed) report }
-    ensures { IfOk result (IsToldBy (Telling.Sample seed) runner.now lists.now report) }
+    ensures { IfOk result (TellsReport (Telling.Sample seed) runner.now lists.now report) }
 {
     good_is_few();
     let text = print_sample(alloc, seed, runner, lists, &report)?;

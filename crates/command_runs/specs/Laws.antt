@@ -20,7 +20,7 @@ use Rattle.command_runs.specs.Replay.{Agrees, DiffersAt}
 use Rattle.command_runs.specs.Measure.{IsMeasureText}
 use Rattle.command_runs.specs.Sample.{IsSampleText}
 
--- one report, but for the room in its journal
+-- one report, apart from the room in its journal
 pub record SameReport (one two : Report) : Type 0 where
   pub world : one.world ≡ two.world
   pub entries : one.journal.entries ≡ two.journal.entries

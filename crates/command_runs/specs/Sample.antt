@@ -1,4 +1,4 @@
--- The command `sample`: what is told of a report of lists' turns, made from a number.
+-- The command `sample`: the text of a report of lists' turns, which were made from a number.
 use Rattle.std.specs.Prelude.{◌≡◌, ℕ, ◌*◌, Bool, List, [], ◌∷◌, length, codes, decimal, Decides}
 use Rattle.text_tokens.specs.Lines.{lines_text}
 use Rattle.tri_lattice.specs.Sets.{IsConnected}

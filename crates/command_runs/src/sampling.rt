@@ -13,7 +13,7 @@ use shape_checks::is_connected;
 use std::alloc::Global;
 use text_tokens::{Lines, Text};
 
-/// What is told of a report of the lists' turns, under the number from which they were made: how many amoebots, callers and turns
+/// The text of a report of the lists' turns, under the number from which they were made: how many amoebots, callers and turns
 /// there are, whether the last world is connected, and whether the journal, replayed from the first world, leads to the last one.
 pub fn print_sample<D: Decider>(
     alloc: Global,
@@ -57,7 +57,7 @@ fn agrees<D: Decider>(alloc: Global, decider: &D, report: &Report) -> Result<boo
     }
 }
 
-/// What is told of a sample.
+/// What the six lines say of a sample.
 #[derive(Clone, Copy)]
 struct Told {
     seed: u32,

@@ -72,7 +72,7 @@ fn begins_with_dash(word: &str) -> bool
     word.starts_with('-')
 }
 
-/// What comes of words that are not read: no command, but for want of memory.
+/// What comes of words that are not read: no command, unless it was out of memory.
 fn of_fault(error: &Error) -> Result<Option<Command>, NoMemory>
     ensures { MatchResult result
         (λ c. (c ≡ None) × (kind_of error.now ≢ ErrorKind.OutOfMemory))

@@ -30,6 +30,10 @@ KeepsPiece old piece taken new = (taken ≡ length piece) × (new ≡ kept_after
 abbrev pub written_of : KeptBytes → Option (List ℕ)
 written_of kept = if kept.is_whole then Some kept.bytes else None
 
+-- two pieces are kept as one that is both, one behind the other
+abbrev pub PiecesAreKeptAsOne : Type 0
+PiecesAreKeptAsOne = (kept : KeptBytes) (one two : List ℕ) → kept_after (kept_after kept one) two ≡ kept_after kept (one ++ two)
+
 -- a text that was written whole is kept as one piece
 abbrev pub TextIsKeptAsOnePiece : Type 0
 TextIsKeptAsOnePiece = (old new : KeptBytes) (text : List ℕ) → Handed KeepsPiece old text (length text) new → new ≡ kept_after old text

@@ -1,5 +1,5 @@
 -- What was written to a sink of a text.
-use Rattle.std.specs.Prelude.{ℕ, ◌+◌, ◌<◌, List, length, take, drop}
+use Rattle.std.specs.Prelude.{◌≡◌, ℕ, ◌+◌, ◌<◌, List, [], ◌∷◌, ◌++◌, length, take, drop}
 use Rattle.std.specs.declared.option.Option.{Option}
 use Rattle.outer_io.specs.Told.{Grows}
 
@@ -29,3 +29,18 @@ pub record WritesFront {T : Type 0} (written : T → Option (List ℕ)) (takes :
   pub before : T
   pub writes : Handed takes old text count before
   pub failed : fails before (drop count text) new
+
+-- ---- examples
+
+-- a sink that notes what each write is given, and how many bytes it took
+abbrev pub NotesWrite : List (List ℕ × ℕ) → List ℕ → ℕ → List (List ℕ × ℕ) → Type 0
+NotesWrite old piece taken new = new ≡ old ++ (piece, taken) ∷ []
+
+abbrev pub three_bytes : List ℕ
+three_bytes = 7 ∷ 8 ∷ 9 ∷ []
+
+-- Two bytes of three are taken, and then the last one.
+-- A first write that is given two bytes alone is none of such writes.
+pub record SmallWritings : Type 0 where
+  pub in_two : Handed NotesWrite [] three_bytes 3 ((7 ∷ 8 ∷ 9 ∷ [], 2) ∷ (9 ∷ [], 1) ∷ [])
+  pub in_parts : ¬ Handed NotesWrite [] three_bytes 3 ((7 ∷ 8 ∷ [], 2) ∷ (9 ∷ [], 1) ∷ [])

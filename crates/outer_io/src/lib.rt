@@ -16,6 +16,6 @@ pub use errors::{Failed, NoMemory, ReadError, WriteFault};
 pub use reading::{Document, Source, read_document};
 pub use std_sink::StdSink;
 pub use std_source::StdSource;
-pub use sure_sink::{SureSink, text_is_kept_as_one_piece};
+pub use sure_sink::{SureSink, pieces_are_kept_as_one, text_is_kept_as_one_piece};
 pub use sure_source::SureSource;
-pub use writing::{Sink, write_all};
+pub use writing::{Sink, write_all, writes_are_handed};

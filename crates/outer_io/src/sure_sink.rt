@@ -1,5 +1,5 @@
 ghost use Rattle.std.specs.Prelude.{◌≡◌, ◌<◌, ◌↔◌, length, IfOk, IsTrue, IsSome};
-ghost use Rattle.outer_io.specs.KeptBytes.{nothing_kept, kept_after, KeepsPiece, written_of, TextIsKeptAsOnePiece};
+ghost use Rattle.outer_io.specs.KeptBytes.{nothing_kept, kept_after, KeepsPiece, written_of, PiecesAreKeptAsOne, TextIsKeptAsOnePiece};
 
 use crate::errors::{Failed, NoMemory};
 use crate::writing::Sink;
@@ -82,6 +82,11 @@ impl Sink for SureSink {
         Ok(piece.len())
     }
 }
+
+/// What a `SureSink` keeps of two pieces is what it keeps of both as one.
+pub fn pieces_are_kept_as_one()
+    ensures { PiecesAreKeptAsOne }
+{}
 
 /// A text that was written whole to a `SureSink` leaves it as one write of the text does.
 pub fn text_is_kept_as_one_piece()

@@ -215,6 +215,31 @@ fn each_write_is_given_all_that_is_left(rt: HostRuntime) -> Result<(), Fail> {
     Ok(())
 }
 
+/// Takes whatever it is given, and keeps how much that was.
+#[derive(Drop)]
+struct Noting {
+    given: usize,
+}
+
+impl Write for Noting {
+    fn write(&mut self, piece: &[u8]) -> io::Result<usize> {
+        self.given = piece.len();
+        Ok(piece.len())
+    }
+
+    fn flush(&mut self) -> io::Result<()> {
+        Ok(())
+    }
+}
+
+#[test]
+fn a_std_sink_hands_on_the_whole_piece(rt: HostRuntime) -> Result<(), Fail> {
+    let mut noting = Noting { given: 0 };
+    write_all(&mut StdSink::new(&mut noting), b"abcde")?;
+    assert_eq!(rt; noting.given, 5);
+    Ok(())
+}
+
 #[test]
 fn a_sure_sink_keeps_what_fits(rt: HostRuntime) -> Result<(), Fail> {
     let mut sink = SureSink::new(rt.alloc(), 4)?;

@@ -1,7 +1,7 @@
 ghost use Rattle.std.specs.Prelude.{◌≡◌, ℕ, ◌<◌, ◌≤◌, List, [], length, ⊤, IfOk, MatchResult, OnOk, OnErr};
 ghost use Rattle.std.specs.declared.option.Option.{Option};
 ghost use Rattle.outer_io.specs.Told.{Rose, TakesFront};
-ghost use Rattle.outer_io.specs.Writings.{WritesAll, WritesFront};
+ghost use Rattle.outer_io.specs.Writings.{SmallWritings, WritesAll, WritesFront};
 
 use crate::errors::{Failed, WriteFault};
 
@@ -60,3 +60,8 @@ pub fn write_all<K: Sink>(sink: &mut K, bytes: &[u8]) -> Result<(), WriteFault>
     }
     Ok(())
 }
+
+/// Of three bytes two are taken, and then the last one; a write that is given a part alone is none of `write_all`.
+pub fn writes_are_handed()
+    ensures { SmallWritings }
+{}

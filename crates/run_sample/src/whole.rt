@@ -61,7 +61,7 @@ fn world_of(alloc: Global, maxes: [u8; 8], bots: &[Bot]) -> Result<World, NoMemo
     }
 }
 
-/// What is left of a refusal that can be want of memory alone.
+/// What is left of a refusal that can be out of memory alone.
 fn wanting(refusal: WorldRefusal) -> NoMemory
     requires { refusal ≡ WorldRefusal.NoMemory }
 {

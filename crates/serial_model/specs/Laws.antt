@@ -31,8 +31,8 @@ RunOrFirstNoStep =
     → IsValid start
     → ((last : Config) × Run f start entries last) ⊎ ((place : ℕ) × IsFirstNoStep f start entries place)
 
--- where each change that f decides leads somewhere, an entry of an amoebot of a valid configuration is no step exactly where the
--- verdict on that amoebot is not a change with the entry's action, movement and patch
+-- Where each change that f decides leads somewhere, take an entry of an amoebot of a valid configuration.
+-- It is no step exactly where the verdict on that amoebot is another than the entry's action, movement and patch.
 abbrev pub NoStepIsAnotherVerdict : Type 0
 NoStepIsAnotherVerdict =
     (f : Shown → Verdict) (old : Config) (e : Entry)

@@ -15,8 +15,8 @@ pub fn run_or_first_no_step()
     ensures { RunOrFirstNoStep }
 {}
 
-/// An entry of an amoebot of a valid configuration is no step exactly where the verdict on that amoebot is not a change with the
-/// entry's action, movement and patch.
+/// Take an entry of an amoebot of a valid configuration.
+/// It is no step exactly where the verdict on that amoebot is another than the entry's action, movement and patch.
 pub fn no_step_is_another_verdict()
     ensures { NoStepIsAnotherVerdict }
 {}

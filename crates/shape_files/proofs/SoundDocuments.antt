@@ -37,7 +37,7 @@ use Rattle.shape_files.specs.declared.section_kind.Section.TheVariants as sectio
 use Rattle.shape_files.specs.declared.section_kind.Form.{Form}
 use Rattle.shape_files.specs.Frame.{Course, ends, needs, may, course_of}
 use Rattle.shape_files.specs.Documents.{Contents, nothing_yet, Body, var_count, maxes_in, bots_of, HasContents}
-use Rattle.shape_files.specs.Fitting.{IsDrawn, IsSoundDocument, DocumentsAreSound}
+use Rattle.shape_files.specs.Fitting.{IsWorldShape, IsSoundDocument, DocumentsAreSound}
 use Rattle.shape_files.proofs.Fine.{Fine, OfToken, both_of, made_of, closed_of, judged_of, nothing_of, either_of, one_of, numeral_of, all_of, counted_of}
 use Rattle.shape_files.proofs.FittingLemmas.{There, program_fits, written_down}
 
@@ -135,7 +135,7 @@ bot_room vars n w f = let word = made_of (both_of f).before in ltb-true n most_b
 line_in_range : (vars : ℕ) → vars ≤ most_vars → (n : ℕ) (w : WrittenBot) → Fine (IsBotLine vars n) w → IsBotInRange (written_amoebot w)
 line_in_range vars few n w f = let b = made_of (both_of f).behind in subst (λ (v : WrittenBot). IsBotInRange (written_amoebot v)) b.same (bot_in_range vars few b.value b.before)
 
-shape_drawn : (text : List ℕ) (vars : ℕ) (maxes : List ℕ) → vars ≤ most_vars → length maxes ≡ 8 → (c : Config) → Fine (IsShapeUnder text vars maxes) c → IsDrawn c
+shape_drawn : (text : List ℕ) (vars : ℕ) (maxes : List ℕ) → vars ≤ most_vars → length maxes ≡ 8 → (c : Config) → Fine (IsShapeUnder text vars maxes) c → IsWorldShape c
 shape_drawn text vars maxes few_vars eight c f =
     let whole = made_of f in
     let judged = judged_of whole.before in
@@ -146,12 +146,12 @@ shape_drawn text vars maxes few_vars eight c f =
     let each = all_of (λ (w : WrittenBot). IsBotInRange (written_amoebot w)) (line_in_range vars few_vars) bots.before in
     let shape : WrittenShape = written_shape area.value bots.value in
     let faultless = unrefused maxes shape (subst (λ (s : WrittenShape). Rattle.shape_text.specs.Shapes.shape_fault maxes s ≡ None) (sym bots.same) judged.1) in
-    let drawn : IsDrawn (stands_for maxes shape) = record {
+    let drawn : IsWorldShape (stands_for maxes shape) = record {
       valid = faultless_is_valid area.value maxes (map written_amoebot bots.value) (area_within area.value area.before) eight (All-map IsBotInRange written_amoebot bots.value each) faultless;
       few = (let one = length-map bots.value written_amoebot in let all = length-map (map written_amoebot bots.value) Some in omega arith);
       no_gaps = λ id lt. all_there (map written_amoebot bots.value) id lt;
     } in
-    subst IsDrawn whole.same (subst (λ (s : WrittenShape). IsDrawn (stands_for maxes s)) bots.same drawn)
+    subst IsWorldShape whole.same (subst (λ (s : WrittenShape). IsWorldShape (stands_for maxes s)) bots.same drawn)
 
 -- ---- lists
 

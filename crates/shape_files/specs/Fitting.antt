@@ -63,15 +63,15 @@ pub record Fits (form : Form) (a : Contents) : Type 0 where
 -- ---- what they are by themselves
 
 -- a shape is that of a world: it is valid, it has at most 4,096 amoebots, and each id has one
-pub record IsDrawn (c : Config) : Type 0 where
+pub record IsWorldShape (c : Config) : Type 0 where
   pub valid : IsValid c
   pub few : length c.bots ≤ most_bots
   pub no_gaps : (id : ℕ) → id < length c.bots → IsSome (bot_at c id)
 
 -- the shapes of a document are those of worlds, and its lists are such as callers may have
 pub record IsSoundDocument (a : Contents) : Type 0 where
-  pub world : IfSome a.world IsDrawn
-  pub final_world : IfSome a.final_world IsDrawn
+  pub world : IfSome a.world IsWorldShape
+  pub final_world : IfSome a.final_world IsWorldShape
   pub lists : IfSome a.lists AreLists
 
 -- ---- laws

@@ -6,7 +6,7 @@ use Rattle.shape_files.specs.Documents.{Contents}
 use Rattle.text_tokens.specs.declared.refusal.ReadRefusal.{ReadRefusal}
 use Rattle.text_tokens.specs.declared.refusal.ReadRefusal.TheVariants.{Refused}
 
--- an answer without want of memory, as one that may have it
+-- an answer that is never out of memory, as one that may be
 abbrev pub as_read : {A : Type 0} → Result A Refusal → Result A ReadRefusal
 as_read (Ok a) = Ok a
 as_read (Err r) = Err (Refused r)

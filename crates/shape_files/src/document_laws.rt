@@ -32,8 +32,8 @@ pub fn forms_are_straight<S: Sectioned>()
 
 /// A text is a document of a form in one way, or has one first fault, and never both.
 ///
-/// So is the header alone. The sections of documents are such as the frame asks for, each form is that which is written down,
-/// and some texts are documents or have this first fault.
+/// So is the header alone. The sections of documents are such as the frame asks for.
+/// Each form is that which is written down. Some texts are documents, or have this first fault.
 pub fn documents_are_decided()
     ensures decided { DocumentsAreDecided }
     ensures header { HeaderIsDecided }
@@ -51,7 +51,8 @@ pub fn runs_are_replayed()
 /// A document that is printed whole has exactly what was printed, lines of the program aside.
 ///
 /// That is the header, the canonical program, and the shape, the journal, the last shape and the turns, as far as each is there,
-/// in each form that has no other section. The texts of two small documents are written out.
+/// in each form that has no other section. Of the turns it says only that their section is read: a document does not keep them.
+/// The texts of two small documents are written out.
 pub fn documents_read_back()
     ensures law { DocumentsReadBack }
     ensures small { WholeTextRows }

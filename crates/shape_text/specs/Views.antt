@@ -26,7 +26,7 @@ blamed_bot (world.Overlap id) = Some (id, kind.Overlap)
 blamed_bot (world.BadValue id) = Some (id, kind.BadValue)
 blamed_bot world.NoMemory = None
 
--- the shape is refused for the first rule that it breaks, or it is this world; want of memory says nothing
+-- the shape is refused for the first rule that it breaks, or it is this world; out of memory says nothing
 abbrev pub IsJudged : List ℕ → WrittenShape → Result Config ReadRefusal → Type 0
 IsJudged maxes s (Ok w) = (shape_fault maxes s ≡ None) × (w ≡ stands_for maxes s)
 IsJudged maxes s (Err NoMemory) = Unit {0}

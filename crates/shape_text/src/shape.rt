@@ -161,7 +161,7 @@ fn bots_of(alloc: Global, written: &[WrittenBot]) -> Result<Vec<Bot>, ReadRefusa
     Ok(bots)
 }
 
-/// The amoebot that is refused, and for what; `None` for want of memory.
+/// The amoebot that is refused, and for what; `None` where it was out of memory.
 fn blamed(refusal: WorldRefusal) -> Option<(u16, RefusalKind)>
     ensures { result ≡ view.blamed_bot refusal }
 {

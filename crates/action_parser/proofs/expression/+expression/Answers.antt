@@ -17,7 +17,7 @@ use Rattle.action_tree.specs.Roles.{is_a, is_test, is_set, is_dirterm, is_plus_o
 use Rattle.action_tree.specs.Expressions.{bound_at}
 use Rattle.action_tree.specs.ExpressionReaders.{Readers, begins_unit, begins_term, a_selection, a_port, a_test, a_comparison, port_by, a_term, term_by, a_minus, part, a_sum, a_unit, unit_by, a_conj, inside, member}
 use Rattle.action_parser.specs.Selections.{selection_of}
-use Rattle.action_parser.specs.Lists.{with_first, more_units, more_conjs}
+use Rattle.action_parser.proofs.Lists.{with_first, more_units, more_conjs}
 use Rattle.action_parser.proofs.Tokens.{taken, untaken, all_read}
 use Rattle.action_tree.proofs.Viewed as built
 use Rattle.action_parser.proofs.Elements.{unit_elements, conj_elements, part_elements}

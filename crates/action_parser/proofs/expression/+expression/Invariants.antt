@@ -1,7 +1,7 @@
 use Rattle.std.proofs.Common.{◌+◌, ◌*◌, ◌≤◌, length, map}
 use Rattle.text_tokens.proofs.LoopLemmas.{StillReads}
 use Rattle.action_tree.specs.Views.{guard_of, part_of}
-use Rattle.action_parser.specs.Lists.{more_units, more_conjs, more_parts, all_units, all_conjs, all_parts}
+use Rattle.action_parser.proofs.Lists.{more_units, more_conjs, more_parts, all_units, all_conjs, all_parts}
 use Rattle.action_parser.proofs.expression.+expression.Given as goal
 
 -- by levels, and on one level by which function calls which

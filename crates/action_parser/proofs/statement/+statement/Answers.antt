@@ -15,7 +15,7 @@ use Rattle.action_tree.specs.Roles.{is_a}
 use Rattle.action_tree.specs.ExpressionReaders.{port_at, selection_at, expr_at}
 use Rattle.action_tree.specs.StatementReaders.{begins_stmt, put_member, else_part, an_if, a_for, stmt_by, a_stmt, scope_behind, stmts_inside, stmts_at}
 use Rattle.action_parser.specs.Selections.{selection_of}
-use Rattle.action_parser.specs.Lists.{more_stmts, all_listed}
+use Rattle.action_parser.proofs.Lists.{more_stmts, all_listed}
 use Rattle.action_parser.proofs.Tokens.{all_read}
 use Rattle.action_parser.proofs.Elements.{stmt_elements}
 use Rattle.action_parser.proofs.Levels.{next_is, chosen, chosen_as, none_chosen, none_begins, gives_stmts, gives_bound_stmts, gives_level, port_stmt, stmt_rest}

@@ -1,7 +1,7 @@
 use Rattle.std.proofs.Common.{◌+◌, ◌*◌, map}
 use Rattle.text_tokens.proofs.LoopLemmas.{StillReads}
 use Rattle.action_tree.specs.Views.{stmt_of}
-use Rattle.action_parser.specs.Lists.{more_stmts, all_listed}
+use Rattle.action_parser.proofs.Lists.{more_stmts, all_listed}
 use Rattle.action_parser.proofs.statement.+statement.Given as goal
 
 abbrev pub decreases-read_if : goal.decreases-read_if

@@ -1,4 +1,3 @@
-use Rattle.action_tree.specs.declared.role.Role.TheVariants as role
 use Rattle.action_parser.proofs.RoleFacts.{name_text}
 use Rattle.action_parser.proofs.words.name.Goals as goal
 

@@ -5,6 +5,7 @@ pub returns : goal.returns
 returns c =
     let laws : Laws = record {
       fit = c.documents_fit.ensures;
+      sound = c.documents_are_sound.ensures;
       replayed = c.runs_are_replayed.ensures;
       few = c.good_is_few.ensures;
       acts = c.changes_are_acts.ensures.acts;

@@ -1,7 +1,7 @@
 use Rattle.std.proofs.Common.{subst, sym}
 use Rattle.std.proofs.lemmas.Result.{IfOk-weaker}
 use Rattle.command_answers.specs.declared.answer.Telling.{Telling}
-use Rattle.command_answers.specs.Answers.{IsCounted, IsToldBy}
+use Rattle.command_answers.specs.Answers.{IsCounted, TellsReport}
 use Rattle.command_answers.proofs.PreparedRuns.{report_told}
 use Rattle.command_answers.proofs.telling.tell.Goals as goal
 
@@ -12,4 +12,4 @@ pub tell_sample-requires-clause-few : goal.tell_sample-requires-clause-few
 tell_sample-requires-clause-few c = subst (λ (t : Telling). IsCounted t c.args.report) c.in-Sample.is c.requires.few
 
 pub returns-in-Sample : goal.returns-in-Sample
-returns-in-Sample c = IfOk-weaker _ _ _ (λ answer is. subst (λ (t : Telling). IsToldBy t c.args.runner.now c.args.lists.now c.args.report answer) (sym c.in-Sample.is) is) c.tell_sample.ensures
+returns-in-Sample c = IfOk-weaker _ _ _ (λ answer is. subst (λ (t : Telling). TellsReport t c.args.runner.now c.args.lists.now c.args.report answer) (sym c.in-Sample.is) is) c.tell_sample.ensures
