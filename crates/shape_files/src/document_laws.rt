@@ -50,8 +50,8 @@ pub fn runs_are_replayed()
 
 /// A document that is printed whole has exactly what was printed, lines of the program aside.
 ///
-/// That is the header, the canonical program, and the shape, the journal, the last shape and the turns, as far as each is there,
-/// in each form that has no other section. The texts of two small documents are written out.
+/// That is the header, the canonical program, and the shape, the journal, the last shape and the turns, as far as each is there.
+/// It is so in the forms that need no lists: Check, Replay and Measure. The texts of two small documents are written out.
 pub fn documents_read_back()
     ensures law { DocumentsReadBack }
     ensures small { WholeTextRows }
