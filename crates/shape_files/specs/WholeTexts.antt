@@ -31,7 +31,8 @@ abbrev pub text_of_some : {A : Type 0} → (A → List ℕ) → Option A → Lis
 text_of_some text None = []
 text_of_some text (Some a) = text a ∷ []
 
--- the sections that are there, in the order of documents; lists and schedules are not printed
+-- The sections that are there, in the order of documents.
+-- Lists and schedules are not printed.
 abbrev pub section_texts : Contents → Option MarkLists → List (List ℕ)
 section_texts a marks =
     text_of_some canon a.checked
@@ -61,7 +62,8 @@ pub record AreWritableEntries (a : Contents) (es : List Entry) : Type 0 where
   pub few : length es ≤ most_turns
   pub each : All (KeepsLimits (bots_of a.world) (actions_of a.checked) (var_count a.checked)) es
 
--- marks of such numbers as a text can hold; they stand behind a last shape
+-- Marks of such numbers as a text can hold.
+-- They stand behind a last shape.
 pub record AreWritableMarks (a : Contents) (m : MarkLists) : Type 0 where
   pub behind : IsSome a.final_world
   pub callers : length m.marks ≤ most_callers

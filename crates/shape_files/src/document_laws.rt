@@ -50,8 +50,9 @@ pub fn runs_are_replayed()
 
 /// A document that is printed whole has exactly what was printed, lines of the program aside.
 ///
-/// That is the header, the canonical program, and the shape, the journal, the last shape and the turns, as far as each is there,
-/// in each form that has no other section. Of the turns it says only that their section is read: a document does not keep them.
+/// That is the header, the canonical program, and the shape, the journal, the last shape and the turns, as far as each is there.
+/// It is so in the forms that need no lists: Check, Replay and Measure.
+/// Of the turns it says only that their section is read, since a document does not keep them.
 /// The texts of two small documents are written out.
 pub fn documents_read_back()
     ensures law { DocumentsReadBack }

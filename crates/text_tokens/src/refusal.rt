@@ -52,7 +52,7 @@ pub enum RefusalKind {
 }
 
 impl RefusalKind {
-    /// The number of the kind. No two kinds have the same.
+    /// The number of the kind.
     #[tactic(auto, unfolding(crate::specs::Kinds::kind_number))]
     pub fn number(self) -> u8
         ensures { result ≡ kinds.kind_number self }
