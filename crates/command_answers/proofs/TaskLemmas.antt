@@ -1,8 +1,13 @@
 -- One task is to be done.
 use Rattle.std.proofs.Common.{◌≡◌, ◌≢◌, ℕ, List, [], Option, Some, None, ap, sym, subst, refl, ◌∙◌}
 use Rattle.claim_core.specs.declared.report.Report.{Report}
+use Rattle.claim_core.specs.Turns.{CallerLists}
 use Rattle.claim_core.proofs.Places.{one_at}
+use Rattle.action_tree.specs.Trees.{Program}
+use Rattle.action_meaning.specs.Verdicts.{verdict_shown}
 use Rattle.shape_files.specs.Documents.{Contents, HasContents, DocumentsAreDecided}
+use Rattle.run_sample.specs.Laws.{SampleIsUnique}
+use Rattle.command_runs.specs.Laws.{SampleTextIsOne}
 use Rattle.command_runs.specs.Replay.{differs_line}
 use Rattle.command_words.specs.declared.command.Command.{Command}
 use Rattle.command_words.specs.declared.command.Command.TheVariants.{Document}
@@ -11,6 +16,8 @@ use Rattle.command_words.specs.declared.command.DocumentCommand.TheVariants.{Run
 use Rattle.command_answers.specs.declared.answer.Answer.{Answer}
 use Rattle.command_answers.specs.declared.answer.Prepared.{Prepared}
 use Rattle.command_answers.specs.declared.answer.Task.TheVariants as task
+use Rattle.command_answers.specs.declared.answer.Telling.{Telling}
+use Rattle.command_answers.specs.declared.answer.Telling.TheVariants as telling
 use Rattle.command_answers.specs.declared.status.Status.{Status}
 use Rattle.command_answers.specs.declared.status.Status.TheVariants as status
 use Rattle.command_answers.specs.Commands.{IsWorked, form_of}
@@ -18,8 +25,8 @@ use Rattle.command_answers.specs.Lines.{usage_line, read_fault_line, refusal_lin
 use Rattle.command_answers.specs.Reads.{Read, whole}
 use Rattle.command_answers.specs.Owed.{IsOwed, usage, read_fault, longer, refused, served, shown, sampled}
 use Rattle.command_answers.specs.Outcomes.{IsOutcome, of_run, of_interleave, agreeing, differing, of_check, of_measure}
-use Rattle.command_answers.specs.Answers.{IsRunFor, IsTaskOf, of_document}
-use Rattle.command_answers.specs.Laws.{SameIfAny, SameTask, OwedIsOne, TaskIsOne}
+use Rattle.command_answers.specs.Answers.{IsRunFor, IsTaskOf, Tells, of_document, of_number}
+use Rattle.command_answers.specs.Laws.{SameIfAny, SameTask, OwedIsOne, PreparedIsOne, TaskIsOne, TellingIsOne}
 use Rattle.command_answers.proofs.Outcomes.{documents_have_outcomes, worked_is_done}
 use Rattle.command_answers.proofs.OwedLemmas.{same_contents}
 
@@ -82,3 +89,30 @@ module _ (documents : DocumentsAreDecided) (owed : OwedIsOne) where
   task_is_one c bytes (task.Answered one) (task.Run two) x y = not_answered c bytes one two x y.by_workers y.its_lists
   task_is_one c bytes (task.Run one) (task.Answered two) x y = not_answered c bytes two one y x.by_workers x.its_lists
   task_is_one c bytes (task.Run one) (task.Run two) x y = both_run c bytes one two x.its_lists y.its_lists
+
+-- ---- runs that are prepared, and the texts of their reports
+
+pub prepared_is_one : DocumentsAreDecided → SampleIsUnique → PreparedIsOne
+prepared_is_one documents unique command read one two (of_document c bytes a h its_program its_shape its_lists its_telling) (of_document e same b k other_program other_shape other_lists other_telling) =
+    let contents : b ≡ a = same_contents documents (form_of c) bytes b a k h in
+    let program = one_at _ one.runner two.runner its_program (ap (λ (x : Contents). x.checked) (sym contents) ∙ other_program) in
+    let shape = one_at _ one.world two.world its_shape (ap (λ (x : Contents). x.world) (sym contents) ∙ other_shape) in
+    let lists = one_at _ one.lists two.lists its_lists (ap (λ (x : Contents). x.lists) (sym contents) ∙ other_lists) in
+    let telling = its_telling ∙ sym other_telling in
+    λ i. record { runner = program i; world = shape i; lists = lists i; telling = telling i }
+prepared_is_one documents unique command read one two (of_number seed is its_telling) (of_number same other other_telling) =
+    let by = unique seed _ _ is other in
+    let telling = its_telling ∙ sym other_telling in
+    λ i. record { runner = by.0 i; world = by.1 i; lists = by.2 i; telling = telling i }
+
+-- two texts of a report
+one_text : SampleTextIsOne → (t : Telling) (p : Program) (lists : CallerLists) (report : Report) (text other : List ℕ) → Tells t p lists report text → Tells t p lists report other → text ≡ other
+one_text law telling.Report p lists report text other x y = x ∙ sym y
+one_text law (telling.Sample seed) p lists report text other x y = law (verdict_shown p) report.journal.first lists seed report text other x y
+
+pub telling_is_one : SampleTextIsOne → TellingIsOne
+telling_is_one law t p lists report one two x y =
+    let s = x.done ∙ sym y.done in
+    let r = x.its_report ∙ sym y.its_report in
+    let text = one_text law t p lists report one.text two.text x.text y.text in
+    λ i. record { status = s i; report = r i; text = text i }

@@ -3,6 +3,8 @@ use Rattle.std.specs.Prelude.{◌≡◌, ◌≤◌, ◌↔◌, ℕ, List, length
 use Rattle.std.specs.declared.option.Option.{Option}
 use Rattle.std.specs.declared.option.Option.TheVariants.{Some, None}
 use Rattle.claim_core.specs.declared.report.Report.{Report}
+use Rattle.claim_core.specs.Turns.{CallerLists}
+use Rattle.action_tree.specs.Trees.{Program}
 use Rattle.shape_files.specs.declared.section_kind.Form.TheVariants as form
 use Rattle.shipped_programs.specs.declared.shipped.Shipped.{Shipped}
 use Rattle.shape_files.specs.Documents.{Contents, HasContents}
@@ -11,14 +13,17 @@ use Rattle.command_words.specs.declared.command.Command.{Command}
 use Rattle.command_words.specs.declared.command.Command.TheVariants.{Document, Show, Sample}
 use Rattle.command_words.specs.declared.command.DocumentCommand.{DocumentCommand}
 use Rattle.command_words.specs.declared.command.DocumentCommand.TheVariants.{Run}
+use Rattle.command_answers.specs.declared.answer.Answer.{Answer}
+use Rattle.command_answers.specs.declared.answer.Prepared.{Prepared}
 use Rattle.command_answers.specs.declared.answer.Task.{Task}
 use Rattle.command_answers.specs.declared.answer.Task.TheVariants as task
+use Rattle.command_answers.specs.declared.answer.Telling.{Telling}
 use Rattle.command_answers.specs.declared.status.Status.{Status}
 use Rattle.command_answers.specs.declared.status.Status.TheVariants as status
 use Rattle.command_answers.specs.Commands.{form_of, MakesTurns}
 use Rattle.command_answers.specs.Reads.{Read, nothing, whole, above, up_to_fault}
 use Rattle.command_answers.specs.Owed.{IsOwed}
-use Rattle.command_answers.specs.Answers.{IsTaskOf}
+use Rattle.command_answers.specs.Answers.{IsRunFor, IsTaskOf, TellsReport}
 use Rattle.command_answers.specs.Outcomes.{IsOutcome}
 use Rattle.command_answers.specs.Headline.{IsRunOfDocument, IsRunOfSample}
 
@@ -63,6 +68,18 @@ SameTask (task.Run one) (task.Run two) = one ≡ two
 -- for a whole input of a command at most one task is to be done
 abbrev pub TaskIsOne : Type 0
 TaskIsOne = (c : DocumentCommand) (bytes : List ℕ) (one two : Task) → IsTaskOf c bytes one → IsTaskOf c bytes two → SameTask one two
+
+-- for a command and what was read at most one run is prepared
+abbrev pub PreparedIsOne : Type 0
+PreparedIsOne = (c : Option Command) (read : Read) (one two : Prepared) → IsRunFor one c read → IsRunFor two c read → one ≡ two
+
+-- and a report gets at most one text
+abbrev pub TellingIsOne : Type 0
+TellingIsOne =
+    (t : Telling) (p : Program) (lists : CallerLists) (report : Report) (one two : Answer)
+    → TellsReport t p lists report one
+    → TellsReport t p lists report two
+    → one ≡ two
 
 -- what is owed for a document of the command's form is an outcome of it
 abbrev pub DocumentsHaveOutcomes : Type 0

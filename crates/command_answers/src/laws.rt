@@ -1,6 +1,6 @@
 //! What holds of the answers. The functions do nothing: their clauses are the laws.
 
-ghost use Rattle.command_answers.specs.Laws.{DocumentsHaveOutcomes, OwedIsOne, OwedIsSome, TaskIsOne};
+ghost use Rattle.command_answers.specs.Laws.{DocumentsHaveOutcomes, OwedIsOne, OwedIsSome, PreparedIsOne, TaskIsOne, TellingIsOne};
 ghost use Rattle.command_answers.specs.Laws.{ReportsAreOfDocuments, ReportsAreOfSamples, ReportsAreOfTurns};
 ghost use Rattle.command_answers.specs.Examples.{SmallAnswers};
 
@@ -8,10 +8,10 @@ use action_meaning::changes_are_acts;
 use claim_core::{one_list_is_serial, reached_is_good, rounds_leave_a_report};
 use command_runs::{
     good_stays_connected, interleave_text_is_one, measure_text_is_one, replay_is_decided,
-    run_text_is_one,
+    run_text_is_one, sample_text_is_one,
 };
 use model_ops::acts_decide;
-use run_sample::{sample_is_fit, sample_is_some};
+use run_sample::{sample_is_fit, sample_is_some, sample_is_unique};
 use shape_checks::measures_are_decided;
 use shape_files::{documents_are_decided, documents_are_sound, documents_fit};
 
@@ -56,6 +56,16 @@ pub fn task_is_one()
 {
     documents_are_decided();
     owed_is_one();
+}
+
+/// For a command and what was read at most one run is prepared, and a report gets at most one text.
+pub fn prepared_is_one()
+    ensures run { PreparedIsOne }
+    ensures text { TellingIsOne }
+{
+    documents_are_decided();
+    sample_is_unique();
+    sample_text_is_one();
 }
 
 /// For a document of the command's form it is done; or, for `replay`, the journal differs.

@@ -18,8 +18,8 @@ mod telling;
 
 pub use answer::{Answer, Prepared, Task, Telling};
 pub use laws::{
-    documents_have_outcomes, owed_is_one, owed_is_some, reports_are_of_runs, small_answers,
-    task_is_one,
+    documents_have_outcomes, owed_is_one, owed_is_some, prepared_is_one, reports_are_of_runs,
+    small_answers, task_is_one,
 };
 pub use of_sample::prepare_sample;
 pub use of_show::answer_show;
