@@ -1,4 +1,4 @@
--- What is prepared for workers, and what is told of their reports.
+-- What is prepared for workers, and the texts of their reports.
 use Rattle.std.proofs.Common.{◌≡◌, ◌≤◌, ◌*◌, ℕ, Bool, true, false, List, length, Some, Result, refl, ap, sym, subst, ◌∙◌, arith}
 use Rattle.std.specs.Prelude.{◌&&◌, IfOk, IsSome}
 use Rattle.std.proofs.lemmas.Bool.{leb-true}
@@ -73,7 +73,7 @@ prepares_sample fit law seed run is its_telling = record {
       });
 }
 
--- ---- what is told of a report
+-- ---- the text of a report
 
 -- a program that can be written has few variables
 left_of : (a b : Bool) → (a && b) ≡ true → a ≡ true
