@@ -6,6 +6,8 @@ mod commands;
 #[cfg(test)]
 mod faults;
 #[cfg(test)]
+mod gates;
+#[cfg(test)]
 mod meetings;
 #[cfg(test)]
 mod pieces;
