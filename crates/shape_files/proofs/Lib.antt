@@ -12,6 +12,6 @@ pub mod Fine
 pub mod FittingLemmas
 pub mod SoundDocuments
 pub mod RunTextsLemmas
-pub mod BareFaults
+pub mod BareParts
 pub mod WholeTextsLemmas
 pub mod WholeTextRowLemmas

@@ -52,7 +52,7 @@ use Rattle.shape_files.specs.Documents.{Contents, nothing_yet, first_in, Body, I
 use Rattle.shape_files.specs.WholeTexts.{header_line, text_of_some, document_text, IsWritableProgram, AreWritableMarks, IsWritableDocument, bare_contents, HasBareContents, DocumentsReadBack}
 use Rattle.shape_files.proofs.HeaderLemmas.{version_passes}
 use Rattle.shape_files.proofs.CheckedLemmas.{none_first}
-use Rattle.shape_files.proofs.BareFaults.{still_faultless, as_many_vars, as_many_actions, same_maxes}
+use Rattle.shape_files.proofs.BareParts.{still_faultless, as_many_vars, as_many_actions, same_maxes}
 use Rattle.shape_files.proofs.StraightForms.{plain, forms_are_distinct}
 use Rattle.shape_files.proofs.SectionLemmas.{are_sections}
 use Rattle.shape_files.proofs.DocumentsLemmas.{says_of}
