@@ -55,16 +55,32 @@ reports_are_of_turns c read s report text (sampled seed told v x) = (λ some. (r
 module _ (stays : GoodStaysConnected) (serials : OneListIsSerial) where
   told_by_outcome : (c : DocumentCommand) (bytes : List ℕ) (a : Contents) (s : Status) (report : Report) (text : List ℕ) → HasContents (form_of c) bytes a → IsOutcome a c s (Some report) text → IsRunOfDocument c bytes report text
   told_by_outcome c bytes a s report text h (of_run d r good reached serial) = record {
-    contents = a; program = d.program; start = d.start; lists = d.lists;
-    document = h; its_program = d.its_program; its_shape = d.its_shape; its_lists = d.its_lists;
-    good = good; reached = reached; serial = serial;
+    contents = a;
+    program = d.program;
+    start = d.start;
+    lists = d.lists;
+    document = h;
+    its_program = d.its_program;
+    its_shape = d.its_shape;
+    its_lists = d.its_lists;
+    good = good;
+    reached = reached;
+    serial = serial;
     connected = stays d.program d.start d.lists report good;
     writes = refl;
   }
   told_by_outcome c bytes a s report text h (of_interleave d schedule r its_schedule good reached scheduled) = record {
-    contents = a; program = d.program; start = d.start; lists = d.lists;
-    document = h; its_program = d.its_program; its_shape = d.its_shape; its_lists = d.its_lists;
-    good = good; reached = reached; serial = λ few. serials (verdict_shown d.program) d.start d.lists report few good;
+    contents = a;
+    program = d.program;
+    start = d.start;
+    lists = d.lists;
+    document = h;
+    its_program = d.its_program;
+    its_shape = d.its_shape;
+    its_lists = d.its_lists;
+    good = good;
+    reached = reached;
+    serial = λ few. serials (verdict_shown d.program) d.start d.lists report few good;
     connected = stays d.program d.start d.lists report good;
     writes = refl;
   }
