@@ -103,7 +103,7 @@ own_then_rest b vs =
     ]
 
 -- the nodes of a zone are the amoebot's own, and then no more than its ports lead to
-own_then_few : (a : Extent) (b : Bot) → (rest : List Node) × (zone_nodes a b ≡ own_nodes b ++ rest) × (length rest ≤ length (reached b))
+pub own_then_few : (a : Extent) (b : Bot) → (rest : List Node) × (zone_nodes a b ≡ own_nodes b ++ rest) × (length rest ≤ length (reached b))
 own_then_few a b =
     let nodes = map (behind b) (ports b) in
     let (rest, whole, few) = own_then_rest b (filter (is_in a) nodes) in
@@ -117,7 +117,7 @@ at_most_eight_reached b rot joined = elim (or_cases _ _ joined) [
   | inr t ↦ let eight = ten_ports_lead_to_eight_nodes b rot (is_adjacent-true b.head b.tail t) in omega (arith, eight)
 ]
 
-at_most_ten_nodes : (a : Extent) (b : Bot) → b.rot < 6 → IsTrue (is_close b.head b.tail) → length (zone_nodes a b) ≤ 10
+pub at_most_ten_nodes : (a : Extent) (b : Bot) → b.rot < 6 → IsTrue (is_close b.head b.tail) → length (zone_nodes a b) ≤ 10
 at_most_ten_nodes a b rot joined =
     let (rest, whole, few) = own_then_few a b in
     omega (arith, ap length whole, length-append (own_nodes b) rest, length-own_nodes-le b, few, at_most_eight_reached b rot joined)
@@ -139,7 +139,7 @@ others_beyond c i b rest valid at =
     ]
 
 -- each of them is on a node that a port leads to
-at_most_eight_others : (c : Config) (i : ℕ) (b : Bot) → IsValid c → bot_at c i ≡ Some b → length (others (occupant c) i (zone_nodes c.area b)) ≤ 8
+pub at_most_eight_others : (c : Config) (i : ℕ) (b : Bot) → IsValid c → bot_at c i ≡ Some b → length (others (occupant c) i (zone_nodes c.area b)) ≤ 8
 at_most_eight_others c i b valid at =
     let fits = valid.each i b at in
     let (rest, whole, few) = own_then_few c.area b in

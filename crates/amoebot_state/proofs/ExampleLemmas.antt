@@ -17,7 +17,7 @@ use Rattle.amoebot_state.specs.declared.refusal.WorldRefusal.{WorldRefusal}
 use Rattle.amoebot_state.specs.declared.refusal.WorldRefusal.TheVariants.{OutOfBox, NotAdjacent, Overlap, BadValue}
 use Rattle.amoebot_state.specs.Ports.{port, ports, global, local}
 use Rattle.amoebot_state.specs.Configs.{Config, with_bot, IsValid, config_of, bot_at, value}
-use Rattle.amoebot_state.specs.Zones.{Shown, zone, shown, shown_alone}
+use Rattle.amoebot_state.specs.Zones.{Shown, zone, shown_with, shown, shown_alone}
 use Rattle.amoebot_state.specs.Known.{known_zone, next_cell}
 use Rattle.amoebot_state.specs.Patches.{IsPatched, diff}
 use Rattle.std.specs.Option.{option_or}
@@ -63,7 +63,7 @@ abbrev pub world : List Bot → Config
 world bots = config_of eight_by_eight (first 1) bots
 
 abbrev pub shows : ℕ → List (CellName × Cell) → Shown
-shows i cells = record { area = eight_by_eight; maxes = first 1; bot = i; cells = cells }
+shows i cells = shown_with (world []) i cells
 
 -- local directions 0 to 5, with either chirality
 directions : map (global (contracted (at 2 3))) (0 ∷ 1 ∷ 2 ∷ 3 ∷ 4 ∷ 5 ∷ []) ≡ 0 ∷ 1 ∷ 2 ∷ 3 ∷ 4 ∷ 5 ∷ []
@@ -184,11 +184,11 @@ ports_stretched = refl
 zone_train_0 : zone train 0 ≡ body 0 ∷ spot 3 3 ∷ spot 2 3 ∷ spot 4 3 ∷ spot 3 4 ∷ spot 2 4 ∷ spot 3 2 ∷ spot 4 2 ∷ spot 1 4 ∷ spot 1 3 ∷ spot 2 2 ∷ body 1 ∷ []
 zone_train_0 = refl
 
-shown_train_0 : shown train 0 ≡ shows 0 (with_body 0 stretched ∷ held 3 3 0 ∷ held 2 3 0 ∷ free 4 3 ∷ free 3 4 ∷ free 2 4 ∷ free 3 2 ∷ free 4 2 ∷ free 1 4 ∷ held 1 3 1 ∷ free 2 2 ∷ with_body 1 (contracted (at 1 3)) ∷ [])
+pub shown_train_0 : shown train 0 ≡ shows 0 (with_body 0 stretched ∷ held 3 3 0 ∷ held 2 3 0 ∷ free 4 3 ∷ free 3 4 ∷ free 2 4 ∷ free 3 2 ∷ free 4 2 ∷ free 1 4 ∷ held 1 3 1 ∷ free 2 2 ∷ with_body 1 (contracted (at 1 3)) ∷ [])
 shown_train_0 = refl
 
 -- the same zone as it is read: the body first; then its nodes are known, and the neighbour once the node that it is on was read
-abbrev read_train : ℕ → List (CellName × Cell)
+abbrev pub read_train : ℕ → List (CellName × Cell)
 read_train n = take n (with_body 0 stretched ∷ held 3 3 0 ∷ held 2 3 0 ∷ free 4 3 ∷ free 3 4 ∷ free 2 4 ∷ free 3 2 ∷ free 4 2 ∷ free 1 4 ∷ held 1 3 1 ∷ free 2 2 ∷ with_body 1 (contracted (at 1 3)) ∷ [])
 
 known_of_nothing : known_zone eight_by_eight 0 (read_train 0) ≡ body 0 ∷ []
@@ -232,7 +232,7 @@ zone_pulled_1 = refl
 abbrev scattered : Config
 scattered = world (contracted (at 6 6) ∷ contracted (at 2 3) ∷ contracted (at 0 0) ∷ contracted (at 3 3) ∷ [])
 
-alone_scattered : shown_alone (shown scattered 1) ≡ record { area = eight_by_eight; maxes = first 1; bots = None ∷ Some (contracted (at 2 3)) ∷ None ∷ Some (contracted (at 3 3)) ∷ [] }
+alone_scattered : shown_alone (shown scattered 1) ≡ record (world []) { bots = None ∷ Some (contracted (at 2 3)) ∷ None ∷ Some (contracted (at 3 3)) ∷ [] }
 alone_scattered = refl
 
 alone_shows : shown (shown_alone (shown scattered 1)) 1 ≡ shown scattered 1

@@ -76,11 +76,11 @@ shown_holds_values c i = All-from_Has (λ (p : CellName × Cell). value c (cell_
 -- ---- what is known after the body and the first m further cells were read
 
 -- the cells of a zone behind the body
-abbrev behind_body : Config → ℕ → Bot → List CellName
+abbrev pub behind_body : Config → ℕ → Bot → List CellName
 behind_body c i b = map name.Spot (zone_nodes c.area b) ++ map name.Body (others (occupant c) i (zone_nodes c.area b))
 
 -- the zone as far as the first m nodes tell it
-abbrev told_by : Config → ℕ → Bot → ℕ → List CellName
+abbrev pub told_by : Config → ℕ → Bot → ℕ → List CellName
 told_by c i b m = name.Body i ∷ (map name.Spot (zone_nodes c.area b) ++ map name.Body (others (occupant c) i (take m (zone_nodes c.area b))))
 
 take-append : {A : Type 0} (m : ℕ) (xs ys : List A) → (k : ℕ) × (take m (xs ++ ys) ≡ take m xs ++ take k ys)
@@ -144,7 +144,7 @@ known_from_read c i b m at =
 -- ---- the laws
 
 -- cells that are a front of what is shown: none, or the body and the first few behind it
-read_cases : (c : Config) (i : ℕ) (b : Bot) (cells : Pairs) → bot_at c i ≡ Some b → IsFront cells (shown c i).cells → (cells ≡ []) ⊎ ((m : ℕ) × (length cells ≡ suc m) × (cells ≡ filter_map (shown_cell c) (name.Body i ∷ take m (behind_body c i b))))
+pub read_cases : (c : Config) (i : ℕ) (b : Bot) (cells : Pairs) → bot_at c i ≡ Some b → IsFront cells (shown c i).cells → (cells ≡ []) ⊎ ((m : ℕ) × (length cells ≡ suc m) × (cells ≡ filter_map (shown_cell c) (name.Body i ∷ take m (behind_body c i b))))
 read_cases c i b [] at front = inl refl
 read_cases c i b (p ∷ cells) at front = inr (
   length cells,
@@ -153,14 +153,14 @@ read_cases c i b (p ∷ cells) at front = inr (
 )
 
 -- the zone as the cells that were read tell it: the body alone, or as far as the nodes that were read tell it
-known_cases : (c : Config) (i : ℕ) (b : Bot) (cells : Pairs) → bot_at c i ≡ Some b → IsFront cells (shown c i).cells → ((length cells ≡ 0) × (known_zone c.area i cells ≡ name.Body i ∷ [])) ⊎ ((m : ℕ) × (length cells ≡ suc m) × (known_zone c.area i cells ≡ told_by c i b m))
+pub known_cases : (c : Config) (i : ℕ) (b : Bot) (cells : Pairs) → bot_at c i ≡ Some b → IsFront cells (shown c i).cells → ((length cells ≡ 0) × (known_zone c.area i cells ≡ name.Body i ∷ [])) ⊎ ((m : ℕ) × (length cells ≡ suc m) × (known_zone c.area i cells ≡ told_by c i b m))
 known_cases c i b cells at front = elim (read_cases c i b cells at front) [
   | inl e ↦ inl (ap length e, ap (known_zone c.area i) e)
   | inr (m, long, e) ↦ inr (m, long, ap (known_zone c.area i) e ∙ known_from_read c i b m at)
 ]
 
 -- who else is on a front of nodes is a front of who else is on them
-others_longer : (on : Node → Option ℕ) (i : ℕ) (xs zs : List Node) → (js : List ℕ) × (others on i (xs ++ zs) ≡ others on i xs ++ js)
+pub others_longer : (on : Node → Option ℕ) (i : ℕ) (xs zs : List Node) → (js : List ℕ) × (others on i (xs ++ zs) ≡ others on i xs ++ js)
 others_longer on i xs zs =
     let passes : ℕ → Bool = λ j. not (nat_eq j i) in
     let us = filter passes (filter_map on xs) in

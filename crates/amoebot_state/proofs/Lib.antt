@@ -16,6 +16,7 @@ pub mod Once
 pub mod Options
 pub mod Owns
 pub mod Patched
+pub mod ReadInOrder
 pub mod RisingLists
 pub mod Runs
 mod Counterexamples

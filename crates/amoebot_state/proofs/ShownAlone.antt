@@ -11,7 +11,7 @@ use Rattle.amoebot_state.specs.declared.cell.CellName.TheVariants as name
 use Rattle.amoebot_state.specs.declared.cell.Cell.{Cell}
 use Rattle.amoebot_state.specs.declared.cell.Cell.TheVariants as cell
 use Rattle.amoebot_state.specs.Configs.{Config, IsValid, bot_at, occupant, covers, value}
-use Rattle.amoebot_state.specs.Zones.{Shown, shown, shown_cell, zone, zone_nodes, with_id, spread, shown_alone}
+use Rattle.amoebot_state.specs.Zones.{Shown, shown_with, shown, shown_cell, zone, zone_nodes, with_id, spread, shown_alone}
 use Rattle.amoebot_state.specs.Pairs.{body_in}
 use Rattle.amoebot_state.specs.Laws.{ShownAloneShowsTheSame, ShownAloneHoldsTheSame}
 use Rattle.amoebot_state.proofs.Options.{there_is}
@@ -136,8 +136,7 @@ alone_value c i b valid e (name.Spot v) has = ap (λ o. Some (cell.Spot o)) (alo
 -- what is shown alone shows the same
 pub alone_shows : (c : Config) (i : ℕ) (b : Bot) → IsValid c → bot_at c i ≡ Some b → shown (shown_alone (shown c i)) i ≡ shown c i
 alone_shows c i b valid e =
-    let made : List (CellName × Cell) → Shown = λ xs. record { area = c.area; maxes = c.maxes; bot = i; cells = xs } in
-    ap made (ap (filter_map (shown_cell (shown_alone (shown c i)))) (alone_zone c i b valid e) ∙ filter_map-same (shown_cell (shown_alone (shown c i))) (shown_cell c) (zone c i) (λ n has. ap (option_map (λ x. (n, x))) (alone_value c i b valid e n has)))
+    ap (shown_with c i) (ap (filter_map (shown_cell (shown_alone (shown c i)))) (alone_zone c i b valid e) ∙ filter_map-same (shown_cell (shown_alone (shown c i))) (shown_cell c) (zone c i) (λ n has. ap (option_map (λ x. (n, x))) (alone_value c i b valid e n has)))
 
 pub shown_alone_shows_the_same : ShownAloneShowsTheSame
 shown_alone_shows_the_same s (c, valid, has, e) =

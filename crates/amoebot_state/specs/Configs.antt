@@ -81,9 +81,17 @@ pub record IsValid (c : Config) : Type 0 where
   pub each : (i : ℕ) (b : Bot) → bot_at c i ≡ Some b → IsBot c.area c.maxes b
   pub apart : (i j : ℕ) (v : Node) → IsTrue (covers (bot_at c i) v) → IsTrue (covers (bot_at c j) v) → i ≡ j
 
--- the amoebots of a list, each with its place as its id
+-- an area and the greatest values of the variables, with no amoebot
+abbrev pub bare_of : Extent → List ℕ → Config
+bare_of a maxes = record { area = a; maxes = maxes; bots = [] }
+
+-- a configuration with the amoebots of a list, each with its place as its id, in place of its own
+abbrev pub with_these : Config → List Bot → Config
+with_these c bots = record c { bots = map Some bots }
+
+-- the amoebots of a list in an area, with greatest values
 abbrev pub config_of : Extent → List ℕ → List Bot → Config
-config_of a maxes bots = record { area = a; maxes = maxes; bots = map Some bots }
+config_of a maxes bots = with_these (bare_of a maxes) bots
 
 -- the configuration with one more amoebot
 abbrev pub with_bot : Config → Bot → Config

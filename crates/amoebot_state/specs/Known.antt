@@ -1,6 +1,6 @@
 -- What is known of a zone whose cells are read one after another, in zone order. That a zone is found while its cells are read is
 -- this project's profile.
-use Rattle.std.specs.Prelude.{◌≡◌, ℕ, List, [], ◌∷◌, length, take, slice_get, unwrap_or}
+use Rattle.std.specs.Prelude.{◌≡◌, ℕ, List, [], ◌∷◌, length, take, slice_get, unwrap_or, IsSome}
 use Rattle.std.specs.declared.option.Option.{Option}
 use Rattle.std.specs.declared.option.Option.TheVariants.{Some, None}
 use Rattle.tri_lattice.specs.declared.node.Node.{Node}
@@ -9,7 +9,8 @@ use Rattle.amoebot_state.specs.declared.bot.Bot.{Bot}
 use Rattle.amoebot_state.specs.declared.cell.CellName.{CellName}
 use Rattle.amoebot_state.specs.declared.cell.CellName.TheVariants as name
 use Rattle.amoebot_state.specs.Pairs.{Pairs, body_in, spot_in}
-use Rattle.amoebot_state.specs.Zones.{zone_at}
+use Rattle.amoebot_state.specs.Configs.{Config, IsValid, bot_at}
+use Rattle.amoebot_state.specs.Zones.{zone_at, shown}
 
 -- the list is what the other one begins with
 abbrev pub IsFront : {A : Type 0} → List A → List A → Type 0
@@ -33,3 +34,11 @@ known_zone a i cells = known_from a i cells (body_in cells i)
 -- zone that they tell; none where that has no more
 abbrev pub next_cell : Extent → ℕ → Pairs → Option CellName
 next_cell a i cells = slice_get (known_zone a i cells) (length cells)
+
+-- the cells are the first ones that a valid configuration with this area shows to its amoebot of this id, in zone order
+pub record AreReadInOrder (a : Extent) (i : ℕ) (cells : Pairs) : Type 0 where
+  pub config : Config
+  pub valid : IsValid config
+  pub area : config.area ≡ a
+  pub there : IsSome (bot_at config i)
+  pub front : IsFront cells (shown config i).cells

@@ -14,7 +14,7 @@ use Rattle.amoebot_state.specs.declared.cell.CellName.TheVariants as name
 use Rattle.amoebot_state.specs.declared.cell.Cell.{Cell}
 use Rattle.amoebot_state.specs.declared.cell.Cell.TheVariants as cell
 use Rattle.amoebot_state.specs.Ports.{own_nodes, ports, behind}
-use Rattle.amoebot_state.specs.Configs.{Config, IsValid, bot_at, occupant, value}
+use Rattle.amoebot_state.specs.Configs.{Config, IsValid, bot_at, occupant, value, bare_of}
 
 -- the list without the elements that equal an earlier one
 abbrev pub distinct : {A : Type 0} → (A → A → Bool) → List A → List A
@@ -54,9 +54,13 @@ pub record Shown : Type 0 where
 abbrev pub shown_cell : Config → CellName → Option (CellName × Cell)
 shown_cell c n = option_map (λ x. (n, x)) (value c n)
 
+-- what a configuration shows to an id by these cells
+abbrev pub shown_with : Config → ℕ → List (CellName × Cell) → Shown
+shown_with c i cells = record { area = c.area; maxes = c.maxes; bot = i; cells = cells }
+
 -- what an amoebot is shown: each cell of its zone with what it holds
 abbrev pub shown : Config → ℕ → Shown
-shown c i = record { area = c.area; maxes = c.maxes; bot = i; cells = filter_map (shown_cell c) (zone c i) }
+shown c i = shown_with c i (filter_map (shown_cell c) (zone c i))
 
 -- some valid configuration shows it to an amoebot of its own
 abbrev pub IsShown : Shown → Type 0
@@ -78,7 +82,7 @@ spread ((name.Body i, cell.Body b) ∷ cells) = with_id (spread cells) i b
 
 -- the configuration that has what is shown and no other amoebot: the ids that are not shown are gaps in it
 abbrev pub shown_alone : Shown → Config
-shown_alone s = record { area = s.area; maxes = s.maxes; bots = spread s.cells }
+shown_alone s = record (bare_of s.area s.maxes) { bots = spread s.cells }
 
 -- a neighbourhood that some configuration shows to this amoebot
 pub record IsFound (s : Shown) (own : Bot) : Type 0 where

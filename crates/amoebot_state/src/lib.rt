@@ -8,6 +8,7 @@ mod found;
 mod grid;
 mod laws;
 mod next;
+mod reading;
 mod refusal;
 mod verdict;
 mod world;
@@ -32,6 +33,7 @@ pub use laws::{
     zone_lists_each_cell_once,
 };
 pub use next::next_cell;
+pub use reading::KnownZone;
 pub use refusal::{NoMemory, WorldRefusal};
 pub use verdict::{Change, Entry, Failure, Moved, Turned, Verdict};
 pub use world::World;

@@ -2,9 +2,10 @@ ghost use Rattle.std.specs.Prelude.{◌≡◌, ◌≤◌, ◌∷◌, [], length,
 ghost use Rattle.std.specs.List.{All};
 ghost use Rattle.amoebot_state.specs.Limits.{most_bots};
 ghost use Rattle.amoebot_state.specs.Configs.{config_of};
+ghost use Rattle.amoebot_state.specs.Known.{AreReadInOrder};
 ghost use Rattle.amoebot_state.specs.Refusals.{IsBotInRange};
 
-use crate::{Bot, Cell, CellName, Chir, Found, Patch, World, WorldRefusal, next_cell};
+use crate::{Bot, Cell, CellName, Chir, Found, KnownZone, Patch, World, WorldRefusal, next_cell};
 use std::alloc::Global;
 use std::test::Fail;
 use tri_lattice::{Area, Node};
@@ -157,21 +158,23 @@ fn a_neighbourhood_is_made_of_its_cells(rt: HostRuntime) -> Result<(), Fail> {
 
 #[test]
 fn a_zone_is_found_while_its_cells_are_read(rt: HostRuntime) -> Result<(), Fail> {
-    let area = Area::new(0, 0, 8, 8).ok_or("an area")?;
+    let world = world_of(rt.alloc(), &[STRETCHED, BEHIND])?;
+    assert_eq!(rt; world.found(0).bot(), 0);
+    let area = world.area();
     let node = |x, y| CellName::Spot(Node { x, y });
     let empty = Cell::Spot(None);
     let cells = [
         (CellName::Body(0), Cell::Body(STRETCHED)),
-        (node(3, 3), Cell::Spot(Some(0))),
-        (node(2, 3), Cell::Spot(Some(0))),
-        (node(4, 3), empty),
-        (node(3, 4), empty),
-        (node(2, 4), empty),
-        (node(3, 2), empty),
-        (node(4, 2), empty),
-        (node(1, 4), empty),
-        (node(1, 3), Cell::Spot(Some(1))),
-        (node(2, 2), empty),
+        (CellName::Spot(Node { x: 3, y: 3 }), Cell::Spot(Some(0))),
+        (CellName::Spot(Node { x: 2, y: 3 }), Cell::Spot(Some(0))),
+        (CellName::Spot(Node { x: 4, y: 3 }), empty),
+        (CellName::Spot(Node { x: 3, y: 4 }), empty),
+        (CellName::Spot(Node { x: 2, y: 4 }), empty),
+        (CellName::Spot(Node { x: 3, y: 2 }), empty),
+        (CellName::Spot(Node { x: 4, y: 2 }), empty),
+        (CellName::Spot(Node { x: 1, y: 4 }), empty),
+        (CellName::Spot(Node { x: 1, y: 3 }), Cell::Spot(Some(1))),
+        (CellName::Spot(Node { x: 2, y: 2 }), empty),
         (CellName::Body(1), Cell::Body(BEHIND)),
     ];
     assert_eq!(rt; next_cell(&area, 0, &[]), Some(CellName::Body(0)));
@@ -180,5 +183,21 @@ fn a_zone_is_found_while_its_cells_are_read(rt: HostRuntime) -> Result<(), Fail>
     assert_eq!(rt; next_cell(&area, 0, &cells[..10]), Some(node(2, 2)));
     assert_eq!(rt; next_cell(&area, 0, &cells[..11]), Some(CellName::Body(1)));
     assert_eq!(rt; next_cell(&area, 0, &cells), None);
+    assert_eq!(rt; both_read(&area, 0, &cells), true);
     Ok(())
+}
+
+/// Whether a zone that is kept and one that is made anew both give these cells one by one, and then no more.
+fn both_read(area: &Area, id: u16, cells: &[(CellName, Cell)]) -> bool
+    requires { AreReadInOrder area.now id cells.now }
+{
+    let mut zone = KnownZone::new(9);
+    zone.begin(id);
+    for (read, (name, cell)) in cells.iter().enumerate() {
+        if zone.next(read) != Some(*name) || next_cell(area, id, &cells[..read]) != Some(*name) {
+            return false;
+        }
+        zone.push(area, cell);
+    }
+    zone.next(cells.len()).is_none() && next_cell(area, id, cells).is_none()
 }

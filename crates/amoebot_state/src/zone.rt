@@ -71,8 +71,12 @@ fn push_new_node(nodes: &mut Nodes, node: Node)
 }
 
 /// Adds an occupant, where there is one that is another amoebot than `id` and not there yet.
-pub(crate) fn push_other(ids: &mut Ids, id: u16, occupant: Option<u16>)
-    requires { array_vec_len ids.old < node_room }
+pub(crate) fn push_other<const ROOM: usize>(
+    ids: &mut ArrayVec<u16, ROOM>,
+    id: u16,
+    occupant: Option<u16>,
+)
+    requires { array_vec_len ids.old < ROOM }
     ensures value { ids.new.items ≡ with_other id ids.old.items occupant }
     ensures few { array_vec_len ids.new ≤ array_vec_len ids.old + 1 }
 {
@@ -83,8 +87,8 @@ pub(crate) fn push_other(ids: &mut Ids, id: u16, occupant: Option<u16>)
     }
 }
 
-fn push_new_id(ids: &mut Ids, id: u16)
-    requires { array_vec_len ids.old < node_room }
+fn push_new_id<const ROOM: usize>(ids: &mut ArrayVec<u16, ROOM>, id: u16)
+    requires { array_vec_len ids.old < ROOM }
     ensures value { ids.new.items ≡ with_new nat_eq ids.old.items id }
     ensures few { array_vec_len ids.new ≤ array_vec_len ids.old + 1 }
 {

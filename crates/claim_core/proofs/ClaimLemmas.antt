@@ -1,5 +1,5 @@
 -- What the code needs to know at a claim.
-use Rattle.std.proofs.Common.{◌≡◌, ℕ, [], ◌∷◌, reverse, Bool, true, false, Option, Some, None, ap, sym, refl, subst, ◌∙◌, nat_eq}
+use Rattle.std.proofs.Common.{◌≡◌, ℕ, List, [], ◌∷◌, ◌++◌, append-nil, reverse, Bool, true, false, Option, Some, None, ap, sym, refl, subst, ◌∙◌, nat_eq}
 use Rattle.std.specs.Prelude.{slice_get, IfSome, if◌then◌else◌}
 use Rattle.std.specs.List.{All}
 use Rattle.std.specs.Option.{option_or, option_map}
@@ -16,14 +16,15 @@ use Rattle.amoebot_state.specs.declared.verdict.Verdict.TheVariants as verdict
 use Rattle.amoebot_state.specs.Pairs.{Pairs, body_in}
 use Rattle.amoebot_state.specs.Configs.{Config, IsValid, bot_at, value}
 use Rattle.amoebot_state.specs.Refusals.{IsBotInRange}
-use Rattle.amoebot_state.specs.Zones.{Shown, IsShown, zone}
+use Rattle.amoebot_state.specs.Zones.{IsShown, shown_with, zone}
+use Rattle.amoebot_state.specs.Known.{AreReadInOrder}
 use Rattle.amoebot_state.proofs.Occupants.{plain_bot}
 use Rattle.claim_core.specs.declared.state.Caller.{Caller}
 use Rattle.claim_core.specs.declared.state.Phase.TheVariants.{Claim}
 use Rattle.claim_core.specs.Cells.{number, at}
 use Rattle.claim_core.specs.Machine.{Setup, State, bot, found, next_of, phase_of_verdict, after_win, caller_with_cell, wins}
 use Rattle.claim_core.specs.Soundness.{IsSetup, names, HasFront, Sound}
-use Rattle.claim_core.proofs.Fronts.{Valued, whole_shown, All-reverse}
+use Rattle.claim_core.proofs.Fronts.{Valued, whole_shown, in_order, All-reverse}
 use Rattle.claim_core.proofs.Frames.{own_stays}
 use Rattle.claim_core.proofs.Places.{get-set_here}
 use Rattle.claim_core.proofs.HolderLemmas.{framed, same_area, is_known, valued}
@@ -92,5 +93,22 @@ module _ (g : Setup) (ok : IsSetup g) where
           now_sound.last,
           fr.valid,
           own_stays g ok c k.turn known now_sound.last fr,
-          whole_shown now_sound.last (bot g c k.turn) more (valued g ok new now_sound c (caller_with_cell g c k n x) mine) whole ∙ (λ i. let a : Shown = record { area = same_area g ok new now_sound i; maxes = ap (λ (d : Config). d.maxes) fr.rest i; bot = bot g c k.turn; cells = reverse more } in a),
+          whole_shown now_sound.last (bot g c k.turn) more (valued g ok new now_sound c (caller_with_cell g c k n x) mine) whole ∙ ap (λ (d : Config). shown_with d (bot g c k.turn) (reverse more)) fr.rest,
         )
+
+    rest_by : (v : Verdict) → HasFront g new now_sound.last c (caller_with_cell g c k n x) (phase_of_verdict v) → (rest : List CellName) × (names more ++ rest ≡ zone now_sound.last (bot g c k.turn))
+    rest_by v f = ([], append-nil (names more) ∙ whole_by v f)
+
+    -- the cells were read in order, the new one too
+    pub won_in_order : AreReadInOrder g.world.area (bot g c k.turn) (reverse more)
+    won_in_order =
+        let own = bot g c k.turn in
+        let mine = now_sound.each c (caller_with_cell g c k n x) now_there in
+        let fr = framed g ok new now_sound in
+        let there = own_stays g ok c k.turn (is_known g ok s sound c k there) now_sound.last fr in
+        let front = by (next_of g own more) mine.front in
+        subst (λ a. AreReadInOrder a own (reverse more)) (same_area g ok new now_sound) (in_order now_sound.last own more front.0 fr.valid there (valued g ok new now_sound c (caller_with_cell g c k n x) mine) front.1)
+      where
+        by : (o : Option CellName) → HasFront g new now_sound.last c (caller_with_cell g c k n x) (after_win g (bot g c k.turn) more o) → (rest : List CellName) × (names more ++ rest ≡ zone now_sound.last (bot g c k.turn))
+        by None f = rest_by (g.verdict (found g (bot g c k.turn) more)) f
+        by (Some m) f = (f.0 ∷ f.1.0, f.1.1)

@@ -12,7 +12,7 @@ use Rattle.amoebot_state.specs.declared.verdict.Verdict.TheVariants as verdict
 use Rattle.amoebot_state.specs.Pairs.{Pairs, cell_of}
 use Rattle.amoebot_state.specs.Configs.{Config, bot_at, value}
 use Rattle.amoebot_state.specs.Known.{next_cell}
-use Rattle.amoebot_state.specs.Zones.{Shown, zone}
+use Rattle.amoebot_state.specs.Zones.{shown_with, zone}
 use Rattle.amoebot_state.proofs.Members.{Has, here, Has-append_right}
 use Rattle.amoebot_state.proofs.Patched.{length_put_at}
 use Rattle.claim_core.specs.declared.state.Look.TheVariants as look
@@ -205,5 +205,5 @@ module _ (g : Setup) (ok : IsSetup g) (old : State) (s : Sound g old) (c : ℕ) 
           whole : names more ≡ zone s.last own
           whole = ends front.0 (sym next_more ∙ e) front_more
 
-          same_frame : (let a : Shown = record { area = s.last.area; maxes = s.last.maxes; bot = own; cells = reverse more } in a) ≡ found g own more
-          same_frame = λ i. let a : Shown = record { area = same_area g ok old s i; maxes = ap (λ (d : Config). d.maxes) (framed g ok old s).rest i; bot = own; cells = reverse more } in a
+          same_frame : shown_with s.last own (reverse more) ≡ found g own more
+          same_frame = ap (λ (d : Config). shown_with d own (reverse more)) (framed g ok old s).rest

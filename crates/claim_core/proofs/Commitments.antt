@@ -11,7 +11,7 @@ use Rattle.amoebot_state.specs.declared.verdict.Change.{Change}
 use Rattle.amoebot_state.specs.declared.verdict.Entry.{Entry}
 use Rattle.amoebot_state.specs.Pairs.{Pairs}
 use Rattle.amoebot_state.specs.Configs.{Config}
-use Rattle.amoebot_state.specs.Zones.{Shown, shown}
+use Rattle.amoebot_state.specs.Zones.{shown_with, shown}
 use Rattle.claim_core.specs.declared.state.Phase.{Phase}
 use Rattle.claim_core.specs.declared.state.Phase.TheVariants.{Claim, Refusing, Looking, Taking, Committing, Releasing, Ended}
 use Rattle.claim_core.specs.declared.state.Caller.{Caller}
@@ -24,7 +24,7 @@ use Rattle.claim_core.specs.Reached.{entries_of, placed, IsShownAt}
 use Rattle.claim_core.specs.Laws.{CommittedIsJournal, CommittedIsShown}
 use Rattle.claim_core.proofs.Stays.{IsWorldAt-append, world_last}
 use Rattle.claim_core.proofs.Fronts.{whole_shown}
-use Rattle.claim_core.proofs.HolderLemmas.{framed, same_area, valued}
+use Rattle.claim_core.proofs.HolderLemmas.{framed, valued}
 use Rattle.claim_core.proofs.Sounds.{always}
 
 -- an entry without its place
@@ -89,7 +89,7 @@ module _ (g : Setup) where
       by Ended e = inl (ap (commit_of g c s k) e)
 
 -- one more entry
-entries_of-push : (c place : ℕ) (es : List Entry) (e : Entry) → entries_of c place (es ++ e ∷ []) ≡ entries_of c place es ++ (if nat_eq e.caller c then (place + length es, e) ∷ [] else [])
+pub entries_of-push : (c place : ℕ) (es : List Entry) (e : Entry) → entries_of c place (es ++ e ∷ []) ≡ entries_of c place es ++ (if nat_eq e.caller c then (place + length es, e) ∷ [] else [])
 entries_of-push c place [] e = elim (cases_Bool (nat_eq e.caller c)) [
   | inl t ↦ rw t (λ i. ((let at : place ≡ place + 0 = omega arith in at) i, e) ∷ [])
   | inr f ↦ rw f refl
@@ -171,7 +171,7 @@ committed_is_shown g ok c (d ∷ steps) =
           let by = subst (HasFront g s sound.last d k) some.2.phase is.front in
           let fr = framed g ok s sound in
           let shows : found g (bot g d k.turn) k.held ≡ shown sound.last (bot g d k.turn) =
-          (λ i. let a : Shown = record { area = sym (same_area g ok s sound) i; maxes = ap (λ (x : Config). x.maxes) (sym fr.rest) i; bot = bot g d k.turn; cells = reverse k.held } in a)
+          ap (λ (x : Config). shown_with x (bot g d k.turn) (reverse k.held)) (sym fr.rest)
           ∙ sym (whole_shown sound.last (bot g d k.turn) k.held (valued g ok s sound d k is) by.whole) in
           let at : IsWorldAt g.verdict g.world (next g d s).journal (length s.journal) sound.last =
           subst (λ es. IsWorldAt g.verdict g.world es (length s.journal) sound.last) (sym grown) (IsWorldAt-append g.verdict g.world sound.last s.journal (map entry_in (commit_by g d s (slice_get s.callers d))) (length s.journal) (world_last g.verdict g.world sound.last s.journal sound.run)) in

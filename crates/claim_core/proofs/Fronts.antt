@@ -13,7 +13,7 @@ use Rattle.amoebot_state.specs.declared.cell.Cell.{Cell}
 use Rattle.amoebot_state.specs.declared.cell.Cell.TheVariants as cell
 use Rattle.amoebot_state.specs.Pairs.{Pairs, cell_of, cell_value}
 use Rattle.amoebot_state.specs.Configs.{Config, IsValid, bot_at, occupant, value}
-use Rattle.amoebot_state.specs.Zones.{Shown, shown, shown_cell, zone, zone_nodes, others}
+use Rattle.amoebot_state.specs.Zones.{shown_with, shown, shown_cell, zone, zone_nodes, others}
 use Rattle.amoebot_state.proofs.Members.{Has, has_cases, map_has, Has-map, not_in_none, Has-append_cases, Has-append_left, Has-append_right, here, later, Contains-from_Has}
 use Rattle.amoebot_state.proofs.Once.{zone_lists_each_cell_once}
 use Rattle.amoebot_state.proofs.Fronts.{front_of_append}
@@ -21,7 +21,7 @@ use Rattle.amoebot_state.proofs.Zones.{zone_is, others_occupy}
 use Rattle.amoebot_state.proofs.Known.{next_is_in_zone}
 use Rattle.amoebot_state.proofs.Occupants.{occupant_covers}
 use Rattle.amoebot_state.proofs.Owns.{covered}
-use Rattle.amoebot_state.specs.Known.{IsFront, next_cell}
+use Rattle.amoebot_state.specs.Known.{IsFront, AreReadInOrder, next_cell}
 use Rattle.amoebot_state.proofs.Options.{there_is}
 use Rattle.claim_core.specs.Cells.{held_by}
 use Rattle.claim_core.specs.Soundness.{names}
@@ -104,10 +104,9 @@ shown_as c (p ∷ ps) all =
     ∙ ap (λ qs. p ∷ qs) (shown_as c ps (All-tail (Valued c) p ps all))
 
 -- a whole zone, with what its cells hold, is what is shown
-pub whole_shown : (c : Config) (i : ℕ) (held : Pairs) → All (Valued c) held → names held ≡ zone c i → shown c i ≡ (let s : Shown = record { area = c.area; maxes = c.maxes; bot = i; cells = reverse held } in s)
+pub whole_shown : (c : Config) (i : ℕ) (held : Pairs) → All (Valued c) held → names held ≡ zone c i → shown c i ≡ shown_with c i (reverse held)
 whole_shown c i held valued whole =
-    let cells = ap (filter_map (shown_cell c)) (sym whole) ∙ shown_as c (reverse held) (All-reverse (Valued c) held valued) in
-    λ t. record { area = c.area; maxes = c.maxes; bot = i; cells = cells t }
+    ap (shown_with c i) (ap (filter_map (shown_cell c)) (sym whole) ∙ shown_as c (reverse held) (All-reverse (Valued c) held valued))
 
 -- the next cell is the zone's
 pub next_is : (c : Config) (i : ℕ) (held : Pairs) (rest : List CellName) → IsSome (bot_at c i) → All (Valued c) held → names held ++ rest ≡ zone c i → next_cell c.area i (reverse held) ≡ slice_get rest 0
@@ -149,3 +148,10 @@ whole_kept c d i held area tc td old new whole =
     ends : (more : List CellName) → slice_get more 0 ≡ None → names held ++ more ≡ zone d i → names held ≡ zone d i
     ends [] e f = sym (append-nil (names held)) ∙ f
     ends (n ∷ more) e f = absurd (none-some n (sym e))
+
+-- cells with what they hold, whose names are a front of a zone, were read in order
+pub in_order : (c : Config) (i : ℕ) (held : Pairs) (rest : List CellName) → IsValid c → IsSome (bot_at c i) → All (Valued c) held → names held ++ rest ≡ zone c i → AreReadInOrder c.area i (reverse held)
+in_order c i held rest valid there valued front =
+    let cells : (shown c i).cells ≡ reverse held ++ filter_map (shown_cell c) rest =
+    ap (filter_map (shown_cell c)) (sym front) ∙ filter_map-append (shown_cell c) (names held) rest ∙ ap (λ ps. ps ++ filter_map (shown_cell c) rest) (shown_as c (reverse held) (All-reverse (Valued c) held valued)) in
+    record { config = c; valid = valid; area = refl; there = there; front = subst (IsFront (reverse held)) (sym cells) (front_of_append (reverse held) (filter_map (shown_cell c) rest)) }

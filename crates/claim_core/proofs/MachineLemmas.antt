@@ -1,12 +1,13 @@
 -- The code's steps are those of the machine.
 use Rattle.std.proofs.Common.{◌≡◌, ◌≢◌, ℕ, zero, suc, ◌+◌, ◌<◌, ◌≤◌, List, [], ◌∷◌, ◌++◌, map, reverse, length, get_or, set, Option, Some, None, inl, inr, ap, sym, refl, subst, ◌∙◌, arith, ne_eqb}
-use Rattle.std.specs.Prelude.{slice_get, slice_set, IsSome, IfSome, if◌then◌else◌}
+use Rattle.std.specs.Prelude.{slice_get, slice_set, IsSome, if◌then◌else◌}
 use Rattle.std.proofs.lemmas.Bool.{eq-eqb, cases_lt}
 use Rattle.std.specs.List.{All}
 use Rattle.std.proofs.lemmas.List.{reverse-append, reverse-reverse, length-reverse, map-append, get_or_past}
 use Rattle.std.proofs.lemmas.List.Elements.{All-head, All-tail, All-weaker}
 use Rattle.std.specs.Option.{option_map}
 use Rattle.std.proofs.lemmas.Option.{none-some, same_Some, slice_get_within, slice_get_read, slice_get-get_or}
+use Rattle.tri_lattice.specs.Extent.{Extent}
 use Rattle.amoebot_state.specs.declared.cell.CellName.{CellName}
 use Rattle.amoebot_state.specs.declared.cell.CellName.TheVariants as name
 use Rattle.amoebot_state.specs.declared.cell.Cell.{Cell}
@@ -14,14 +15,13 @@ use Rattle.amoebot_state.specs.declared.verdict.Change.{Change}
 use Rattle.amoebot_state.specs.declared.verdict.Entry.{Entry}
 use Rattle.amoebot_state.specs.declared.verdict.Verdict.{Verdict}
 use Rattle.amoebot_state.specs.declared.verdict.Verdict.TheVariants as decision
-use Rattle.amoebot_state.specs.Pairs.{Pairs, body_in}
+use Rattle.amoebot_state.specs.Pairs.{Pairs}
 use Rattle.amoebot_state.specs.declared.cell.Cell.TheVariants as cell
 use Rattle.amoebot_state.specs.Configs.{Config, IsValid, bot_at, value}
 use Rattle.amoebot_state.specs.Patches.{IsPatched, HasPatched}
 use Rattle.amoebot_state.proofs.Patched.{run_has_one_last}
-use Rattle.amoebot_state.specs.Refusals.{IsBotInRange}
-use Rattle.amoebot_state.specs.Known.{next_cell}
-use Rattle.amoebot_state.specs.Zones.{Shown, IsShown, shown}
+use Rattle.amoebot_state.specs.Known.{AreReadInOrder, known_zone, next_cell}
+use Rattle.amoebot_state.specs.Zones.{Shown, IsShown, shown_with, shown}
 use Rattle.amoebot_state.specs.Steps.{Run}
 use Rattle.amoebot_state.specs.Storage.{put_at}
 use Rattle.claim_core.specs.declared.marks.Mark.{Mark}
@@ -37,16 +37,16 @@ use Rattle.claim_core.specs.declared.state.Look.{Look}
 use Rattle.claim_core.specs.Cells.{number, at, held_by, values_of, patched}
 use Rattle.claim_core.specs.Machine.{Setup, State, bot, own_tag, entry, patched_pair, looks, mark_of_look, busy_mark, found, next_of, after_win, caller_with_cell, wins, claims, finds, tries, with_caller, freeing_caller, takes, releases, by_phase, acts, next, after}
 use Rattle.claim_core.specs.Soundness.{IsSetup, IsTurn, IsRefusedPhase, marked, HasDecision, HasFront, IsHeld, Sound}
-use Rattle.claim_core.specs.Cores.{Running, setup_of, stepped, phase_after, IsCell, HasPhase, IsUnmarked, looks_at, caller_with, callers_with, Frees, unmarked, state_of, IsCore}
+use Rattle.claim_core.specs.Cores.{Running, setup_of, stepped, phase_after, IsCell, HasPhase, IsUnmarked, looks_at, caller_with, callers_with, Frees, unmarked, state_of, KeepsZone, KeepZones, IsCore}
 use Rattle.claim_core.proofs.Sounds.{one_step, always}
 use Rattle.claim_core.proofs.Fronts.{Valued, All-reverse, reverse-more}
 use Rattle.amoebot_state.proofs.Runs.{run_push}
 use Rattle.claim_core.proofs.Frames.{run_framed, own_stays}
 use Rattle.claim_core.proofs.HolderLemmas.{is_known}
 use Rattle.claim_core.proofs.Numbers.{value_at, value_held, value_patched, values-patched}
-use Rattle.claim_core.proofs.ClaimLemmas.{held_plain, won_plain, won_shown}
+use Rattle.claim_core.proofs.ClaimLemmas.{won_in_order, won_shown}
 use Rattle.claim_core.proofs.Ranks.{length-values, front, next_is_there, few, placed}
-use Rattle.claim_core.proofs.Seats.{length-callers, callers-at, callers-set, callers-set_both, callers-marks_at, frees-is, unmarked-set}
+use Rattle.claim_core.proofs.Seats.{length-callers, callers-at, callers-set, callers-set_both, callers-marks_at, frees-is, unmarked-set, zones_set, frees_zone}
 
 -- a caller that has no mark for its turn yet is in one
 pub turn_below : (turns : ℕ) (callers : List Caller) (c n : ℕ) (k : Caller) → IsUnmarked turns callers c → slice_get callers c ≡ Some k → n ≡ turns → k.turn < n
@@ -66,6 +66,18 @@ pub closes : {D : Type 0} (verdict : D → Shown → Verdict) (decider : D) (fir
 closes {D} verdict decider first new_first lists old new now c view same step =
     (λ i. record { decider = decider; first = same i; lists = lists; state = step i }) ∙ ap (stepped verdict c) view
 
+-- cells that are not none
+pub some_held : (cells : Pairs) → length cells ≢ 0 → 0 < length cells
+some_held [] ne = absurd (ne refl)
+some_held (p ∷ cells) ne = omega arith
+
+-- what is not Claim
+pub committing_past : (change : Change) → phase.Committing change ≡ phase.Claim → ⊥
+committing_past change e = cc
+
+pub refusing_past : (n : CellName) (t : ℕ) → phase.Refusing n t ≡ phase.Claim → ⊥
+refusing_past n t e = cc
+
 -- the caller has a seat, and it is this one, at its place
 pub record IsSeatOf (seats : List CoreCaller) (c i : ℕ) (seat : CoreCaller) : Type 0 where
   pub same : i ≡ c
@@ -78,9 +90,9 @@ its_seat c i seat same inside read = record { same = same; inside = inside; read
 -- the core keeps what it keeps
 pub kept : {verdict : Shown → Verdict} {lists : CallerLists} {tags tags' : List ℕ} {world world' : Config} {journal journal' : Kept} {holder holder' : Option ℕ} {seats seats' : List CoreCaller} {marks marks' : MarkLists} → IsCore verdict lists tags world journal holder seats marks → (c : ℕ)
     → journal'.first ≡ journal.first → state_of tags' world' journal' holder' seats' marks' ≡ next (record { verdict = verdict; world = journal.first; lists = lists }) c (state_of tags world journal holder seats marks)
-    → Run verdict journal'.first journal'.entries world' → marks'.turns ≡ lists.turns → length marks'.marks ≡ length seats' → unmarked lists.turns marks'.marks ≤ journal'.spare → length journal'.entries + unmarked lists.turns marks'.marks ≤ most_turns
+    → Run verdict journal'.first journal'.entries world' → marks'.turns ≡ lists.turns → length marks'.marks ≡ length seats' → unmarked lists.turns marks'.marks ≤ journal'.spare → length journal'.entries + unmarked lists.turns marks'.marks ≤ most_turns → KeepZones journal.first.area lists seats'
     → IsCore verdict lists tags' world' journal' holder' seats' marks'
-kept {verdict} {lists} {tags} {tags'} {world} {world'} {journal} {journal'} {holder} {holder'} {seats} {seats'} {marks} {marks'} is c first step run turns each room few = record {
+kept {verdict} {lists} {tags} {tags'} {world} {world'} {journal} {journal'} {holder} {holder'} {seats} {seats'} {marks} {marks'} is c first step run turns each room few zones = record {
   setup = subst (λ w. let g : Setup = record { verdict = verdict; world = w; lists = lists } in IsSetup g) (sym first) is.setup;
   steps = c ∷ is.steps;
   reached = step ∙ ap (next (record { verdict = verdict; world = journal.first; lists = lists }) c) is.reached ∙ (λ j. after (record { verdict = verdict; world = sym first j; lists = lists }) (c ∷ is.steps));
@@ -89,6 +101,7 @@ kept {verdict} {lists} {tags} {tags'} {world} {world'} {journal} {journal'} {hol
   each = each;
   room = room;
   few = few;
+  zones = subst (λ (w : Config). KeepZones w.area lists seats') (sym first) zones;
 }
 
 module _ {verdict : Shown → Verdict} {lists : CallerLists} {tags : List ℕ} {world : Config} {journal : Kept} {holder : Option ℕ} {seats : List CoreCaller} {marks : MarkLists} (is : IsCore verdict lists tags world journal holder seats marks) where
@@ -104,9 +117,6 @@ module _ {verdict : Shown → Verdict} {lists : CallerLists} {tags : List ℕ} {
   -- the world has the first one's area
   pub same_extent : world.area ≡ journal.first.area
   same_extent = ap (λ (w : Config). w.area) (run_framed verdict journal.first world journal.entries is.setup.valid is.run).rest
-
-  pub same_maxes : world.maxes ≡ journal.first.maxes
-  same_maxes = ap (λ (w : Config). w.maxes) (run_framed verdict journal.first world journal.entries is.setup.valid is.run).rest
 
   -- the callers that contracts see
   pub seen : {D : Type 0} (now : Running D) (r : Running D) → r ≡ now → r.state ≡ old → (c : ℕ) (p : Phase) → HasPhase now.state.callers c p → HasPhase old.callers c p
@@ -218,11 +228,23 @@ module _ {verdict : Shown → Verdict} {lists : CallerLists} {tags : List ℕ} {
     abbrev pub own : ℕ
     own = bot g c seat.turn
 
+    -- what is known of its zone, while it claims
+    pub claim_zone : seat.phase ≡ phase.Claim → 0 < length seat.held.items → seat.zone ≡ known_zone journal.first.area own seat.held.items
+    claim_zone = is.zones c seat (ap (slice_get seats) (sym here.same) ∙ slice_get_read seats (length seats) i seat refl (subst (λ j. j < length seats) (sym here.same) here.inside) here.read)
+
+    -- the seats with another seat of the caller keep what is known of their zones
+    pub zones_with : (new : CoreCaller) → KeepsZone journal.first.area lists c new → KeepZones journal.first.area lists (set seats i new)
+    zones_with new = zones_set journal.first.area lists seats i c new here.same is.zones
+
+    pub zones_freed : (left new : CoreCaller) → Frees lists.turns left new → KeepZones journal.first.area lists (set seats i new)
+    zones_freed left new freed = zones_with new (frees_zone journal.first.area lists c lists.turns left new freed)
+
+    -- a seat that doesn't claim need not keep it
+    pub zones_past : (new : CoreCaller) → new.phase ≢ phase.Claim → KeepZones journal.first.area lists (set seats i new)
+    zones_past new past = zones_with new (λ claims some. absurd (past claims))
+
     pub known : c < length lists.ids
     known = is_known g is.setup old is_sound c k there
-
-    pub claim_plain : IfSome (body_in seat.held.items own) IsBotInRange
-    claim_plain = subst (λ cells. IfSome (body_in cells own) IsBotInRange) (reverse-reverse seat.held.items) (held_plain g is.setup old is_sound c k there own)
 
     -- the next cell, by the cells as the code keeps them
     as_read : next_cell world.area own seat.held.items ≡ next_of g own k.held
@@ -232,6 +254,12 @@ module _ {verdict : Shown → Verdict} {lists : CallerLists} {tags : List ℕ} {
     module _ (ph : seat.phase ≡ phase.Claim) where
       pub claim_next : (n : CellName) × (next_cell world.area own seat.held.items ≡ Some n)
       claim_next = ((front g is.setup old is_sound c k there ph).0, as_read ∙ next_is_there g is.setup old is_sound c k there ph)
+
+      -- a look at what is known of the zone, by what the code has
+      pub looked : (zone : List CellName) (next : Option CellName) (b : ℕ) (cells : Pairs) → b ≡ own → cells ≡ seat.held.items → ((a : Extent) → (0 < length cells → seat.zone ≡ known_zone a b cells) → (zone ≡ known_zone a b cells) × (next ≡ next_cell a b cells)) → (zone ≡ known_zone journal.first.area own seat.held.items) × (next_cell world.area own seat.held.items ≡ next)
+      looked zone next b cells b_is cells_are look =
+          let (known, is) = look journal.first.area (λ some. claim_zone ph (subst (λ ps. 0 < length ps) cells_are some) ∙ (λ j. known_zone journal.first.area (sym b_is j) (sym cells_are j))) in
+          (known ∙ (λ j. known_zone journal.first.area (b_is j) (cells_are j)), (λ j. next_cell (same_extent j) (sym b_is j) (sym cells_are j)) ∙ sym is)
 
       pub few_held : length seat.held.items ≤ 18
       few_held = omega (arith, few g is.setup old is_sound c k there ph, length-reverse seat.held.items)
@@ -295,22 +323,40 @@ module _ {verdict : Shown → Verdict} {lists : CallerLists} {tags : List ℕ} {
             turned : reverse ((n, held_by world n) ∷ reverse seat.held.items) ≡ more
             turned = reverse-more (n, held_by world n) (reverse seat.held.items) ∙ ap (λ cells. cells ++ (n, held_by world n) ∷ []) (reverse-reverse seat.held.items)
 
-            pub claim_more_plain : IfSome (body_in more own) IsBotInRange
-            claim_more_plain = subst (λ cells. IfSome (body_in cells own) IsBotInRange) turned (won_plain g is.setup old is_sound c k there n (held_by world n) ph is_next found_free valued own)
+            -- what is known of the zone grows with the cell
+            module _ (zone : List CellName) (area : Extent) (x : Cell) (area_is : area ≡ world.area) (x_is : x ≡ held_by world n) (was : zone ≡ known_zone journal.first.area own seat.held.items) where
+              same_first : area ≡ journal.first.area
+              same_first = area_is ∙ same_extent
 
-            frame : (let a : Shown = record { area = journal.first.area; maxes = journal.first.maxes; bot = own; cells = more } in a) ≡ (let a : Shown = record { area = world.area; maxes = world.maxes; bot = own; cells = more } in a)
-            frame = λ j. let a : Shown = record { area = sym same_extent j; maxes = sym same_maxes j; bot = own; cells = more } in a
+              known_there : zone ≡ known_zone area own seat.held.items
+              known_there = was ∙ ap (λ a. known_zone a own seat.held.items) (sym same_first)
+
+              in_turn : AreReadInOrder area own (seat.held.items ++ (n, x) ∷ [])
+              in_turn = subst (λ (z : Extent × Cell). AreReadInOrder z.0 own (seat.held.items ++ (n, z.1) ∷ [])) (λ j. (sym same_first j, sym x_is j)) (subst (AreReadInOrder journal.first.area own) turned (won_in_order g is.setup old is_sound c k there n (held_by world n) ph is_next found_free valued))
+
+              pub claim_push : (b : ℕ) × (cells : Pairs) × (m : CellName) × (zone ≡ known_zone area b cells) × AreReadInOrder area b (cells ++ (m, x) ∷ [])
+              claim_push = (own, seat.held.items, n, known_there, in_turn)
+
+              pub claim_known : (new : List CellName) → ((b : ℕ) (cells : Pairs) (m : CellName) → zone ≡ known_zone area b cells → AreReadInOrder area b (cells ++ (m, x) ∷ []) → new ≡ known_zone area b (cells ++ (m, x) ∷ [])) → new ≡ known_zone journal.first.area own more
+              claim_known new pushed = pushed own seat.held.items n known_there in_turn ∙ (λ j. known_zone (same_first j) own (seat.held.items ++ (n, x_is j) ∷ []))
+
+            -- and so the next cell is known
+            pub claim_after : (new : List CellName) (len : ℕ) (next : Option CellName) → new ≡ known_zone journal.first.area own more → len ≡ length more → next ≡ slice_get new len → next ≡ next_cell world.area own more
+            claim_after new len next known long is_it = is_it ∙ (λ j. slice_get (known j) (long j)) ∙ ap (λ a. next_cell a own more) (sym same_extent)
+
+            frame : shown_with journal.first own more ≡ shown_with world own more
+            frame = ap (λ (w : Config). shown_with w own more) (sym (run_framed verdict journal.first world journal.entries is.setup.valid is.run).rest)
 
             next_more : next_of g own ((n, held_by world n) ∷ k.held) ≡ next_cell world.area own more
             next_more = ap (next_cell journal.first.area own) turned ∙ ap (λ a. next_cell a own more) (sym same_extent)
 
-            shown_more : found g own ((n, held_by world n) ∷ k.held) ≡ (let a : Shown = record { area = world.area; maxes = world.maxes; bot = own; cells = more } in a)
-            shown_more = (λ j. let a : Shown = record { area = journal.first.area; maxes = journal.first.maxes; bot = own; cells = turned j } in a) ∙ frame
+            shown_more : found g own ((n, held_by world n) ∷ k.held) ≡ shown_with world own more
+            shown_more = ap (shown_with journal.first own) turned ∙ frame
 
-            pub claim_shown : next_cell world.area own more ≡ None → IsShown (record { area = world.area; maxes = world.maxes; bot = own; cells = more })
+            pub claim_shown : next_cell world.area own more ≡ None → IsShown (shown_with world own more)
             claim_shown none = subst IsShown shown_more (won_shown g is.setup old is_sound c k there n (held_by world n) ph is_next found_free valued (next_more ∙ none))
 
-            pub claim_won : (new : CoreCaller) → new.turn ≡ seat.turn → new.held.items ≡ more → new.phase ≡ phase_after verdict (record { area = world.area; maxes = world.maxes; bot = own; cells = more }) (next_cell world.area own more) → state_of (set tags num (tag c seat.turn own)) world journal holder (set seats i new) marks ≡ next g c old
+            pub claim_won : (new : CoreCaller) → new.turn ≡ seat.turn → new.held.items ≡ more → new.phase ≡ phase_after verdict (shown_with world own more) (next_cell world.area own more) → state_of (set tags num (tag c seat.turn own)) world journal holder (set seats i new) marks ≡ next g c old
             claim_won new turn held ph' =
                 let mine : caller_with new own_marks ≡ caller_with_cell g c k n (held_by world n) = λ l. record {
                   turn = turn l;

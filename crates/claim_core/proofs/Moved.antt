@@ -10,7 +10,7 @@ use Rattle.amoebot_state.specs.declared.verdict.Entry.{Entry}
 use Rattle.amoebot_state.specs.declared.verdict.Verdict.{Verdict}
 use Rattle.amoebot_state.specs.declared.verdict.Verdict.TheVariants as verdict
 use Rattle.amoebot_state.specs.Configs.{Config}
-use Rattle.amoebot_state.specs.Zones.{Shown, zone}
+use Rattle.amoebot_state.specs.Zones.{shown_with, zone}
 use Rattle.amoebot_state.specs.Steps.{Run}
 use Rattle.claim_core.specs.declared.marks.Mark.{Mark}
 use Rattle.claim_core.specs.declared.marks.Mark.TheVariants as mark
@@ -143,9 +143,6 @@ module _ (g : Setup) (old new : State) (c : ℕ) (k next : Caller) (mv : Moves g
     same_area : last.area ≡ s.last.area
     same_area = ap (λ (c : Config). c.area) framed.rest ∙ sym (ap (λ (c : Config). c.area) was_framed.rest)
 
-    same_maxes : last.maxes ≡ s.last.maxes
-    same_maxes = ap (λ (c : Config). c.maxes) framed.rest ∙ sym (ap (λ (c : Config). c.maxes) was_framed.rest)
-
     -- what another caller holds is as before
     module _ (d : ℕ) (j : Caller) (known : d < length g.lists.ids) (was : All (Valued s.last) j.held) (is : All (Valued last) j.held) where
       abbrev own : ℕ
@@ -165,7 +162,7 @@ module _ (g : Setup) (old new : State) (c : ℕ) (k next : Caller) (mv : Moves g
           let whole = whole_kept s.last last own j.held same_area (own_stays g ok d j.turn known s.last was_framed) (own_stays g ok d j.turn known last framed) was is by.whole in
           record {
             whole = whole;
-            verdict = ap g.verdict (whole_shown last own j.held is whole ∙ (λ i. let x : Shown = record { area = same_area i; maxes = same_maxes i; bot = own; cells = Rattle.std.proofs.Common.reverse j.held } in x) ∙ sym (whole_shown s.last own j.held was by.whole)) ∙ by.verdict;
+            verdict = ap g.verdict (whole_shown last own j.held is whole ∙ ap (λ (x : Config). shown_with x own (Rattle.std.proofs.Common.reverse j.held)) framed.rest ∙ ap (λ (x : Config). shown_with x own (Rattle.std.proofs.Common.reverse j.held)) (sym was_framed.rest) ∙ sym (whole_shown s.last own j.held was by.whole)) ∙ by.verdict;
           }
 
       front_stays : (p : Phase) → HasFront g old s.last d j p → HasFront g new last d j p

@@ -54,7 +54,7 @@ same_number a xs n m x e same = split (number a n) refl
     split None none = absurd (none-some x (sym (ap (at xs) none) ∙ e))
     split (Some k) some = number_once a m n k (same ∙ some) some
 
-get-range : {A : Type 0} (f : ℕ → A) (n k : ℕ) → k < n → slice_get (map f (range_with_len 0 n)) k ≡ Some (f k)
+pub get-range : {A : Type 0} (f : ℕ → A) (n k : ℕ) → k < n → slice_get (map f (range_with_len 0 n)) k ≡ Some (f k)
 get-range f n k lt =
     slice_get-get_or (map f (range_with_len 0 n)) k (f 0) (rw length-map-range_with_len lt) ∙ ap Some (get_or-map-range_with_len f 0 n k k (f 0) lt (omega arith))
 
@@ -68,10 +68,10 @@ module _ (c : Config) where
   pub length-all_cells : length (all_cells c) ≡ size + length c.bots
   length-all_cells = length-append spots (map name.Body (range_with_len 0 (length c.bots))) ∙ simp length-map-range_with_len
 
-  spot_at : (k : ℕ) → k < size → slice_get (all_cells c) k ≡ Some (name.Spot (node_at c.area k))
+  pub spot_at : (k : ℕ) → k < size → slice_get (all_cells c) k ≡ Some (name.Spot (node_at c.area k))
   spot_at k lt = get-append_left spots _ k _ (get-range (λ j. name.Spot (node_at c.area j)) size k lt)
 
-  body_at : (k i : ℕ) → k ≡ size + i → i < length c.bots → slice_get (all_cells c) k ≡ Some (name.Body i)
+  pub body_at : (k i : ℕ) → k ≡ size + i → i < length c.bots → slice_get (all_cells c) k ≡ Some (name.Body i)
   body_at k i e lt = get-append_right spots _ i k (omega (arith, length-map-range_with_len (λ j. name.Spot (node_at c.area j)) 0 size)) ∙ get-range name.Body (length c.bots) i lt
 
   -- the cell with a number has it

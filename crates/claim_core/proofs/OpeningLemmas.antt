@@ -15,7 +15,7 @@ use Rattle.claim_core.specs.Cells.{values_of}
 use Rattle.claim_core.specs.Machine.{Setup, opening}
 use Rattle.claim_core.specs.Soundness.{IsSetup}
 use Rattle.claim_core.specs.Cores.{Begins, unmarked, state_of, callers_with, IsCore}
-use Rattle.claim_core.proofs.Seats.{callers_fresh, unmarked-none}
+use Rattle.claim_core.proofs.Seats.{callers_fresh, fresh_zones, unmarked-none}
 use Rattle.claim_core.proofs.Ranks.{length-values}
 
 map-const : {A B : Type 0} (x : B) (xs : List A) → map (λ (_ : A). x) xs ≡ replicate (length xs) x
@@ -60,4 +60,5 @@ module _ (verdict : Shown → Verdict) (world : Config) (lists : CallerLists) (t
         each = ap (λ (ms : List (List Mark)). length ms) same_marks ∙ length-replicate (length lists.ids) [] ∙ sym many;
         room = omega (arith, none, room);
         few = omega (arith, none, few, ap (λ (es : List Entry). length es) entries);
+        zones = fresh_zones journal.first.area lists lists.turns seats begin;
       }

@@ -1,5 +1,5 @@
 -- Rounds until all callers have ended leave a report.
-use Rattle.std.proofs.Common.{◌≡◌, ℕ, zero, suc, ◌+◌, ◌<◌, ◌≤◌, ◌⊎◌, List, [], ◌∷◌, length, inl, inr, refl, ap, sym, subst, ◌∙◌, arith}
+use Rattle.std.proofs.Common.{◌≡◌, ℕ, zero, suc, ◌+◌, ◌<◌, ◌⊎◌, List, [], ◌∷◌, length, inl, inr, refl, ap, sym, subst, ◌∙◌, arith}
 use Rattle.std.specs.List.{All}
 use Rattle.std.proofs.lemmas.Bool.{cases_eq}
 use Rattle.std.proofs.lemmas.List.Elements.{All-nil, All-cons, All-head, All-tail}
@@ -8,8 +8,8 @@ use Rattle.claim_core.specs.declared.state.Caller.{Caller}
 use Rattle.claim_core.specs.declared.state.Phase.{Phase}
 use Rattle.claim_core.specs.declared.state.Phase.TheVariants.{Claim, Refusing, Looking, Taking, Committing, Releasing, Ended}
 use Rattle.claim_core.specs.Machine.{Setup, State, after, next}
-use Rattle.claim_core.specs.Soundness.{IsSetup, Sound, marks_so_far}
-use Rattle.claim_core.specs.Reached.{HaveEnded, IsReportOf, Reached}
+use Rattle.claim_core.specs.Soundness.{Sound, marks_so_far}
+use Rattle.claim_core.specs.Reached.{HaveEnded, IsReportOf}
 use Rattle.claim_core.specs.StepRounds.{steps_below, step_rounds, most_step_rounds}
 use Rattle.claim_core.specs.Laws.{RoundsLeaveAReport}
 use Rattle.claim_core.proofs.Frames.{run_framed}

@@ -1,17 +1,24 @@
 -- The callers as the code keeps them: seats and marks beside each other.
-use Rattle.std.proofs.Common.{◌≡◌, ℕ, zero, suc, ◌+◌, ◌*◌, ◌<◌, List, [], ◌∷◌, ◌++◌, map, reverse, length, get_or, set, Some, ap, sym, refl, ◌∙◌, arith, length-append}
+use Rattle.std.proofs.Common.{◌≡◌, ℕ, zero, suc, ◌+◌, ◌*◌, ◌<◌, List, [], ◌∷◌, ◌++◌, map, reverse, length, get_or, set, Some, inl, inr, ap, sym, refl, subst, ◌∙◌, arith, length-append}
 use Rattle.std.specs.Prelude.{slice_get, nat_lt, if◌then◌else◌, replicate}
 use Rattle.std.specs.List.{All}
-use Rattle.std.proofs.lemmas.List.Elements.{All-nil, All-cons, All-head, All-tail}
+use Rattle.std.proofs.lemmas.List.Elements.{All-contains, All-nil, All-cons, All-head, All-tail}
 use Rattle.std.proofs.lemmas.List.{length-reverse, nil_from_length}
+use Rattle.std.proofs.lemmas.Bool.{cases_eq}
 use Rattle.std.proofs.lemmas.Option.{none-some, same_Some}
+use Rattle.tri_lattice.specs.Extent.{Extent}
 use Rattle.amoebot_state.specs.Pairs.{Pairs}
+use Rattle.amoebot_state.specs.Known.{known_zone}
+use Rattle.amoebot_state.proofs.Members.{Contains-from_Has}
+use Rattle.amoebot_state.proofs.Fronts.{Has-from_slice_get}
+use Rattle.claim_core.specs.Turns.{CallerLists, bot_of_turn}
 use Rattle.claim_core.specs.declared.marks.Mark.{Mark}
 use Rattle.claim_core.specs.declared.machine.CoreCaller.{CoreCaller}
 use Rattle.claim_core.specs.declared.state.Phase.TheVariants as phase
 use Rattle.claim_core.specs.declared.state.Caller.{Caller}
 use Rattle.claim_core.specs.Machine.{Setup, freeing_caller, fresh}
-use Rattle.claim_core.specs.Cores.{caller_with, callers_with, Begins, Frees, unmarked}
+use Rattle.claim_core.proofs.Places.{get-set_else}
+use Rattle.claim_core.specs.Cores.{KeepsZone, KeepZones, caller_with, callers_with, Begins, Frees, unmarked}
 
 pub length-callers : (ss : List CoreCaller) (ms : List (List Mark)) → length ms ≡ length ss → length (callers_with ss ms) ≡ length ss
 length-callers [] ms e = refl
@@ -92,3 +99,38 @@ callers_fresh g (s ∷ ss) (i ∷ ids) e all =
 pub unmarked-none : (turns n : ℕ) → unmarked turns (replicate n []) ≡ n * turns
 unmarked-none turns zero = omega arith
 unmarked-none turns (suc n) = let ih = unmarked-none turns n in omega arith
+
+-- ---- what is known of their zones
+
+-- the seats keep it where one of them is replaced by one that does
+pub zones_set : (a : Extent) (lists : CallerLists) (ss : List CoreCaller) (i c : ℕ) (new : CoreCaller) → i ≡ c → KeepZones a lists ss → KeepsZone a lists c new → KeepZones a lists (set ss i new)
+zones_set a lists ss i c new same zones mine = λ d s there. elim (cases_eq d i) [
+  | inl e ↦
+      let one : new ≡ s = set_here ss i s (subst (λ k. slice_get (set ss i new) k ≡ Some s) e there) in
+      subst (KeepsZone a lists d) one (subst (λ k. KeepsZone a lists k new) (sym (e ∙ same)) mine)
+  | inr ne ↦ zones d s (sym (get-set_else ss i d new ne) ∙ there)
+]
+  where
+    set_here : (xs : List CoreCaller) (k : ℕ) (s : CoreCaller) → slice_get (set xs k new) k ≡ Some s → new ≡ s
+    set_here [] k s e = absurd (none-some s e)
+    set_here (x ∷ xs) zero s e = same_Some new s e
+    set_here (x ∷ xs) (suc k) s e = set_here xs k s e
+
+-- a seat that frees its cells, or begins its next turn
+pub frees_zone : (a : Extent) (lists : CallerLists) (c turns : ℕ) (old new : CoreCaller) → Frees turns old new → KeepsZone a lists c new
+frees_zone a lists c turns old new is claims some = by old.held.items refl
+  where
+    not_both : phase.Claim ≡ phase.Releasing → ⊥
+    not_both e = cc
+
+    by : (held : Pairs) → old.held.items ≡ held → new.zone ≡ known_zone a (bot_of_turn lists c new.turn) new.held.items
+    by [] e = absurd (omega (arith, some, ap (λ (h : Pairs). length h) (is.0 e).held))
+    by (p ∷ held) e =
+        let stays = is.1 (omega (arith, ap (λ (h : Pairs). length h) e)) in
+        absurd (not_both (sym claims ∙ stays.phase))
+
+-- seats before their first turn hold nothing
+pub fresh_zones : (a : Extent) (lists : CallerLists) (turns : ℕ) (ss : List CoreCaller) → All (Begins turns 0) ss → KeepZones a lists ss
+fresh_zones a lists turns ss all = λ c s there claims some.
+    let b = All-contains (Begins turns 0) ss s all (Contains-from_Has ss (Has-from_slice_get ss c s there)) in
+    absurd (omega (arith, some, ap (λ (h : Pairs). length h) b.held))

@@ -2,12 +2,14 @@
 use Rattle.std.specs.Prelude.{◌≡◌, ℕ, ◌+◌, ◌-◌, ◌<◌, ◌≤◌, List, [], ◌∷◌, length, reverse, nat_lt, if◌then◌else◌, slice_get}
 use Rattle.std.specs.declared.option.Option.{Option}
 use Rattle.std.specs.declared.option.Option.TheVariants.{Some, None}
+use Rattle.tri_lattice.specs.Extent.{Extent}
 use Rattle.amoebot_state.specs.declared.cell.CellName.{CellName}
 use Rattle.amoebot_state.specs.declared.cell.CellName.TheVariants as name
 use Rattle.amoebot_state.specs.declared.verdict.Verdict.{Verdict}
 use Rattle.amoebot_state.specs.Configs.{Config}
 use Rattle.amoebot_state.specs.Pairs.{Pairs}
 use Rattle.amoebot_state.specs.Zones.{Shown}
+use Rattle.amoebot_state.specs.Known.{known_zone}
 use Rattle.amoebot_state.specs.Steps.{Run}
 use Rattle.claim_core.specs.declared.marks.Mark.{Mark}
 use Rattle.claim_core.specs.declared.machine.CoreCaller.{CoreCaller}
@@ -15,7 +17,7 @@ use Rattle.claim_core.specs.declared.state.Caller.{Caller}
 use Rattle.claim_core.specs.declared.state.Phase.{Phase}
 use Rattle.claim_core.specs.declared.state.Phase.TheVariants as phase
 use Rattle.claim_core.specs.Limits.{most_turns}
-use Rattle.claim_core.specs.Turns.{CallerLists, MarkLists, Kept}
+use Rattle.claim_core.specs.Turns.{CallerLists, MarkLists, Kept, bot_of_turn}
 use Rattle.claim_core.specs.Cells.{values_of}
 use Rattle.claim_core.specs.Machine.{Setup, State, phase_of_verdict, looks, next, opening, setup, after}
 use Rattle.claim_core.specs.Soundness.{IsSetup}
@@ -115,6 +117,14 @@ pub record StaysReleasing (old new : CoreCaller) : Type 0 where
 abbrev pub Frees : ℕ → CoreCaller → CoreCaller → Type 0
 Frees turns old new = (old.held.items ≡ [] → Begins turns (old.turn + 1) new) × (0 < length old.held.items → StaysReleasing old new)
 
+-- a caller that claims and holds some cells keeps what is known of its zone, in this area
+abbrev pub KeepsZone : Extent → CallerLists → ℕ → CoreCaller → Type 0
+KeepsZone a lists c s = s.phase ≡ phase.Claim → 0 < length s.held.items → s.zone ≡ known_zone a (bot_of_turn lists c s.turn) s.held.items
+
+-- and so does each
+abbrev pub KeepZones : Extent → CallerLists → List CoreCaller → Type 0
+KeepZones a lists seats = (c : ℕ) (s : CoreCaller) → slice_get seats c ≡ Some s → KeepsZone a lists c s
+
 -- the turns that have no mark yet
 abbrev pub unmarked : ℕ → List (List Mark) → ℕ
 unmarked turns [] = 0
@@ -130,8 +140,8 @@ state_of tags world journal holder seats marks =
       callers = callers_with seats marks.marks;
     }
 
--- what a core keeps: some steps led to its state, its world is the last one of the run, and there is room in the journal for all turns that
--- have no mark yet
+-- what a core keeps: some steps led to its state, its world is the last one of the run, there is room in the journal for all turns that
+-- have no mark yet, and the callers keep what is known of their zones
 pub record IsCore (verdict : Shown → Verdict) (lists : CallerLists) (tags : List ℕ) (world : Config)
     (journal : Kept) (holder : Option ℕ) (seats : List CoreCaller) (marks : MarkLists) : Type 0 where
   pub setup : let g : Setup = record { verdict = verdict; world = journal.first; lists = lists } in IsSetup g
@@ -143,3 +153,4 @@ pub record IsCore (verdict : Shown → Verdict) (lists : CallerLists) (tags : Li
   pub each : length marks.marks ≡ length seats
   pub room : unmarked lists.turns marks.marks ≤ journal.spare
   pub few : length journal.entries + unmarked lists.turns marks.marks ≤ most_turns
+  pub zones : KeepZones journal.first.area lists seats

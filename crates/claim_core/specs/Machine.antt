@@ -10,7 +10,7 @@ use Rattle.amoebot_state.specs.declared.verdict.Verdict.{Verdict}
 use Rattle.amoebot_state.specs.declared.verdict.Verdict.TheVariants as verdict
 use Rattle.amoebot_state.specs.Pairs.{Pairs, cell_of, cell_value}
 use Rattle.amoebot_state.specs.Configs.{Config}
-use Rattle.amoebot_state.specs.Zones.{Shown}
+use Rattle.amoebot_state.specs.Zones.{Shown, shown_with}
 use Rattle.amoebot_state.specs.Known.{next_cell}
 use Rattle.amoebot_state.specs.Steps.{entry_of}
 use Rattle.amoebot_state.specs.Storage.{put_at}
@@ -76,7 +76,7 @@ module _ (g : Setup) where
 
   -- what an amoebot was shown, where the cells were read in the zone's order; the last one stands first
   abbrev pub found : ℕ → Pairs → Shown
-  found b held = record { area = g.world.area; maxes = g.world.maxes; bot = b; cells = reverse held }
+  found b held = shown_with g.world b (reverse held)
 
   -- the next cell of the zone of an amoebot, by what is known of those that are held
   abbrev pub next_of : ℕ → Pairs → Option CellName

@@ -1,13 +1,12 @@
-ghost use Rattle.std.specs.Prelude.{◌≡◌, ◌<◌, ◌+◌, length, map, IfOk, IsSome, slice_get, Some, None, IfSome, IsTrue, ◌↔◌};
-ghost use Rattle.amoebot_state.specs.Pairs.{body_in};
-ghost use Rattle.amoebot_state.specs.Refusals.{IsBotInRange};
-ghost use Rattle.amoebot_state.specs.Zones.{IsShown};
-ghost use Rattle.amoebot_state.specs.Known.{next_cell};
+ghost use Rattle.std.specs.Prelude.{◌≡◌, ◌<◌, ◌+◌, length, map, IfOk, IsSome, slice_get, Some, None, IsTrue, ◌↔◌};
+ghost use Rattle.tri_lattice.specs.Extent.{Extent};
+ghost use Rattle.amoebot_state.specs.Zones.{IsShown, shown_with};
+ghost use Rattle.amoebot_state.specs.Known.{known_zone, next_cell};
 ghost use Rattle.std.specs.List.{All};
 ghost use Rattle.claim_core.specs.Tags.{tag_caller};
 ghost use Rattle.claim_core.specs.Cells.{held_by};
 ghost use Rattle.claim_core.specs.Machine.{phase_of_verdict, busy_mark, mark_of_look, next};
-ghost use Rattle.amoebot_state.specs.Configs.{bot_at};
+ghost use Rattle.amoebot_state.specs.Configs.{bot_at, bare_of};
 ghost use Rattle.claim_core.specs.Good.{Good};
 ghost use Rattle.claim_core.specs.Reached.{HaveEnded, IsReachedState, IsReportOf, Reached};
 ghost use Rattle.claim_core.specs.Soundness.{IsSetup, Sound};
@@ -25,8 +24,8 @@ use crate::owner::{tag, tag_bot, tag_caller, tag_turn};
 use crate::report::Report;
 use crate::state::{Look, Phase};
 use amoebot_state::{
-    CELL_ROOM, Cell, CellName, Decider, Entry, Found, NoMemory, Verdict, World, has_next,
-    next_cell, touches_zone,
+    CELL_ROOM, Cell, CellName, Decider, Entry, Found, KnownZone, NoMemory, Verdict, World,
+    has_next, touches_zone,
 };
 use arrayvec::ArrayVec;
 use std::alloc::Global;
@@ -34,12 +33,13 @@ use std::marker::Model;
 use std::mem::replace;
 use tri_lattice::Area;
 
-/// A caller: its turn, what it does next, and the cells that it holds, in the order in which they were won, each with its value as
-/// it was recorded.
+/// A caller: its turn, what it does next, what is known of its amoebot's zone while it claims, and the cells that it holds, in the
+/// order in which they were won, each with its value as it was recorded.
 #[derive(Drop)]
 struct CoreCaller {
     turn: u32,
     phase: Phase,
+    zone: KnownZone,
     held: ArrayVec<(CellName, Cell), CELL_ROOM>,
 }
 
@@ -51,6 +51,7 @@ impl CoreCaller {
         CoreCaller {
             turn,
             phase: opening_phase(turn, turns),
+            zone: KnownZone::new(0),
             held: ArrayVec::new(),
         }
     }
@@ -254,7 +255,8 @@ impl<'d, D: Decider> Core<'d, D> {
         let seat = &mut self.seats[usize::from(caller)];
         let bot = self.lists.bot(caller, seat.turn);
         let area = self.world.area();
-        let name = match next_cell(&area, bot, seat.held.as_slice()) {
+        let next = next_known(&mut seat.zone, bot, seat.held.as_slice());
+        let name = match next {
             Some(name) => name,
             None => unreachable!(),
         };
@@ -268,13 +270,16 @@ impl<'d, D: Decider> Core<'d, D> {
             return;
         }
         self.tags[number] = tag(caller, seat.turn, bot);
-        seat.held.push((name, value_of(&self.world, name)));
+        let value = value_of(&self.world, name);
+        seat.zone.push(&area, &value);
+        seat.held.push((name, value));
         seat.phase = after_win(
             self.decider,
             area,
             self.world.maxes(),
             bot,
             seat.held.as_slice(),
+            seat.zone.next(seat.held.len()),
         );
     }
 
@@ -462,21 +467,31 @@ fn mark_of(look: Look, place: u32) -> Mark
     }
 }
 
-/// What a caller does after it won a cell: with the last one of the zone comes the decision.
+/// The next cell of an amoebot's zone, of which a caller holds these cells. What is known of the zone begins anew with its first cell.
+fn next_known(zone: &mut KnownZone, bot: u16, held: &[(CellName, Cell)]) -> Option<CellName>
+    ensures { (a : Extent) → (0 < length held.now → zone.old ≡ known_zone a bot held.now)
+        → (zone.new ≡ known_zone a bot held.now) × (result ≡ next_cell a bot held.now) }
+{
+    if held.is_empty() {
+        zone.begin(bot);
+        return Some(CellName::Body(bot));
+    }
+    zone.next(held.len())
+}
+
+/// What a caller does after it won a cell, where this is the next one: with the last one of the zone comes the decision.
 fn after_win<D: Decider>(
     decider: &D,
     area: Area,
     maxes: [u8; 8],
     bot: u16,
     cells: &[(CellName, Cell)],
+    next: Option<CellName>,
 ) -> Phase
-    requires plain { IfSome (body_in cells.now bot) IsBotInRange }
-    requires shown { next_cell area bot cells.now ≡ None → IsShown (record { area = area; maxes = maxes; bot = bot; cells = cells.now }) }
-    ensures { result
-        ≡ phase_after (D.verdict decider.now) (record { area = area; maxes = maxes; bot = bot; cells = cells.now })
-        (next_cell area bot cells.now) }
+    requires { next ≡ None → IsShown (shown_with (bare_of area maxes) bot cells.now) }
+    ensures { result ≡ phase_after (D.verdict decider.now) (shown_with (bare_of area maxes) bot cells.now) next }
 {
-    match next_cell(&area, bot, cells) {
+    match next {
         Some(_) => Phase::Claim,
         None => phase_of(decider.decide(&Found::make(area, maxes, bot, cells))),
     }

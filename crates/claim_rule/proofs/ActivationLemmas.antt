@@ -1,24 +1,31 @@
 -- The states of an activation: what each keeps after a step.
-use Rattle.std.proofs.Common.{◌≡◌, ℕ, ◌+◌, ◌*◌, ◌<◌, List, [], ◌∷◌, ◌++◌, map, reverse, length, Some, None, inr, ap, sym, refl, subst, ◌∙◌, arith, lt-ltb}
-use Rattle.std.specs.Prelude.{unwrap_or, if◌then◌else◌}
+use Rattle.std.proofs.Common.{◌≡◌, ◌≢◌, ℕ, ◌+◌, ◌*◌, ◌<◌, ◌≤◌, List, [], ◌∷◌, ◌++◌, map, reverse, length, Some, None, inl, inr, ap, sym, refl, subst, ◌∙◌, arith, lt-ltb, length-append, suc-ne-zero}
+use Rattle.std.specs.Prelude.{unwrap_or, slice_get, if◌then◌else◌}
 use Rattle.std.specs.List.{All}
-use Rattle.std.proofs.lemmas.List.{reverse-append, reverse-reverse}
+use Rattle.std.proofs.lemmas.List.{reverse-append, reverse-reverse, length-map}
 use Rattle.std.proofs.lemmas.List.Elements.{All-nil, All-cons, All-head, All-tail}
 use Rattle.std.proofs.lemmas.Option.{none-some, same_Some}
 use Rattle.atomic_table.specs.Table.{rest}
-use Rattle.tri_lattice.specs.Extent.{Extent}
 use Rattle.amoebot_state.specs.declared.cell.CellName.{CellName}
 use Rattle.amoebot_state.specs.declared.cell.CellName.TheVariants as name
 use Rattle.amoebot_state.specs.declared.cell.Cell.{Cell}
 use Rattle.amoebot_state.specs.declared.cell.Cell.TheVariants as cell
 use Rattle.amoebot_state.specs.declared.verdict.Verdict.{Verdict}
+use Rattle.amoebot_state.specs.declared.verdict.Verdict.TheVariants as decision
+use Rattle.amoebot_state.specs.Configs.{Config}
 use Rattle.amoebot_state.specs.Pairs.{Pairs, cell_of}
+use Rattle.amoebot_state.proofs.Fronts.{slice_get_behind}
 use Rattle.amoebot_state.specs.Zones.{Shown, IsShown}
 use Rattle.claim_core.specs.declared.marks.Mark.{Mark}
 use Rattle.claim_core.specs.declared.state.Caller.{Caller}
-use Rattle.claim_core.specs.declared.state.Phase.TheVariants.{Claim, Refusing, Releasing, Ended}
+use Rattle.claim_core.specs.declared.state.Phase.{Phase}
+use Rattle.claim_core.specs.declared.state.Phase.TheVariants.{Claim, Refusing, Looking, Taking, Committing, Releasing, Ended}
+use Rattle.claim_core.specs.declared.state.Look.TheVariants as look
 use Rattle.claim_core.specs.Cells.{number}
-use Rattle.claim_core.specs.Machine.{Setup, bot, next_of, after_win, caller_with_cell, opening_phase, freeing_caller}
+use Rattle.claim_core.specs.Good.{place_after}
+use Rattle.claim_core.specs.Limits.{most_turns}
+use Rattle.claim_rule.specs.Words.{node_word}
+use Rattle.claim_core.specs.Machine.{Setup, bot, own_tag, next_of, after_win, caller_with_cell, opening_phase, freeing_caller, phase_of_verdict}
 use Rattle.claim_core.specs.Soundness.{IsSetup}
 use Rattle.amoebot_state.proofs.Occupants.{there_below}
 use Rattle.claim_core.proofs.Frames.{own_there}
@@ -26,10 +33,12 @@ use Rattle.claim_core.proofs.Nexts.{frees-marks, frees-held}
 use Rattle.claim_rule.specs.declared.views.Slot.{Slot}
 use Rattle.claim_rule.specs.declared.views.Slot.TheVariants as slot
 use Rattle.claim_rule.specs.declared.views.Record.{Record}
-use Rattle.claim_rule.specs.declared.views.View.{View}
 use Rattle.claim_rule.specs.Views.{Seated, like, own, goes_on}
-use Rattle.claim_rule.specs.Plays.{IsPlaced, IsKnown, IsOthers, IsToFree, about, bot_in, tried, but_last, mark_of_phase, marked_at, released_caller}
-use Rattle.claim_rule.specs.Tokens.{emptied, IsSeat, IsActivation, IsClaiming, IsStopped, HoldsWholeZone, IsFreeing}
+use Rattle.tri_lattice.specs.declared.node.Node.{Node}
+use Rattle.claim_rule.specs.declared.views.Note.{Note}
+use Rattle.claim_rule.specs.Stands.{first_plain, slot_of}
+use Rattle.claim_rule.specs.Plays.{IsPlaced, IsKnown, IsOthers, IsToTry, IsToTryNode, IsToFree, Wins, IsRefusedAt, tried, IsToFreeNode, IsToRead, occ_in, but_first, but_last, mark_of_phase, marked_at, released_caller, with_node, about, bot_in}
+use Rattle.claim_rule.specs.Tokens.{emptied, nodes_held, IsSeat, IsActivation, IsClaiming, IsStopped, HoldsWholeZone, HasMark, IsFreeing}
 
 -- the last one is the first, the other way round
 pub last_first : (xs : Pairs) (x : CellName × Cell) → reverse (xs ++ x ∷ []) ≡ x ∷ reverse xs
@@ -41,6 +50,16 @@ first_value [] = cell.Spot None
 first_value ((i, slot.Empty) ∷ out) = cell.Spot None
 first_value ((i, slot.Cell x) ∷ out) = x
 first_value ((i, slot.Journal j) ∷ out) = cell.Spot None
+
+abbrev tail_of : {A : Type 0} → List A → List A
+tail_of [] = []
+tail_of (x ∷ xs) = xs
+
+-- there are no more nodes than cells
+nodes_few : (ps : Pairs) → length (nodes_held ps) ≤ length ps
+nodes_few [] = omega arith
+nodes_few ((name.Spot v, x) ∷ ps) = let ih = nodes_few ps in omega (arith, ih)
+nodes_few ((name.Body i, x) ∷ ps) = let ih = nodes_few ps in omega (arith, ih)
 
 -- of a zone of which nothing was read, the body is next
 pub begins : (g : Setup) (ok : IsSetup g) (c t : ℕ) → c < length g.lists.ids → IsKnown g (bot g c t) []
@@ -71,12 +90,39 @@ pub frees_phase : (g : Setup) (t : ℕ) (held : Pairs) (ms : List Mark) → 0 < 
 frees_phase g t [] ms some = absurd (omega (arith, some))
 frees_phase g t (p ∷ held) ms some = (refl, refl)
 
+-- where no node is noted, there is no note
+none_of : (ws : List Note) → map (λ (w : Note). w.node) ws ≡ [] → ws ≡ []
+none_of [] e = refl
+none_of (w ∷ ws) e = absurd (suc-ne-zero (length (map (λ (w : Note). w.node) ws)) (ap length e))
+
+-- a decision is no mark
+not_decided : (v : Verdict) → phase_of_verdict v ≡ Releasing → ⊥
+not_decided decision.Idle e = cc
+not_decided (decision.Failed f) e = cc
+not_decided (decision.Change change) e = cc
+
+-- a caller that frees cells is what it is by its turn, its cells and its marks
+as_freed : (g : Setup) (k : Caller) (t : ℕ) (held : Pairs) → k.turn ≡ t → k.phase ≡ Releasing → k.held ≡ held → 0 < length held → k ≡ freeing_caller g t held k.marks
+as_freed g k t [] turn phase are some = absurd (omega (arith, some))
+as_freed g k t (p ∷ held) turn phase are some = λ i. record { turn = turn i; phase = phase i; held = are i; marks = k.marks }
+
+-- the place that a turn without a change reads is the one behind its mark
+read_place : (p : Phase) (place : ℕ) → IsToRead p → place_after (mark_of_phase p place) ≡ place
+read_place Claim place reads = absurd reads
+read_place (Refusing n t) place reads = refl
+read_place (Looking look.Idle) place reads = refl
+read_place (Looking (look.Failed f)) place reads = refl
+read_place (Taking change) place reads = absurd reads
+read_place (Committing change) place reads = absurd reads
+read_place Releasing place reads = absurd reads
+read_place Ended place reads = absurd reads
+
 module _ {D : Type 0} (verdict : D → Shown → Verdict) where
   -- the caller's next turn begins
-  pub begun : (m : Seated D) (c u t b : ℕ) (a : Extent) (greatest : List ℕ) (pairs : Pairs) → IsSeat verdict m c u a greatest → t ≡ (own m.0).caller.turn → t < (about verdict m.0).lists.turns → b ≡ bot_in verdict m.0 → pairs ≡ []
-      → IsActivation verdict m c t b a greatest pairs × IsClaiming verdict m t b pairs
-  begun m c u t b a greatest pairs is turn lt of none =
-      subst (λ ps. IsActivation verdict m c t b a greatest ps × IsClaiming verdict m t b ps) (sym none) (
+  pub begun : (m : Seated D) (c u t b : ℕ) (bare : Config) (pairs : Pairs) (notes : List Note) → IsSeat verdict m c u bare → t ≡ (own m.0).caller.turn → t < (about verdict m.0).lists.turns → b ≡ bot_in verdict m.0 → pairs ≡ [] → notes ≡ []
+      → IsActivation verdict m c t b bare pairs notes × IsClaiming verdict m t b pairs
+  begun m c u t b bare pairs notes is turn lt of none no_notes =
+      subst (λ (q : Pairs × List Note). IsActivation verdict m c t b bare q.0 q.1 × IsClaiming verdict m t b q.0) (λ i. (sym none i, sym no_notes i)) (
         record {
           alone = is.alone;
           run = is.run;
@@ -85,14 +131,18 @@ module _ {D : Type 0} (verdict : D → Shown → Verdict) where
           turn = lt;
           bot = amoebot;
           taken = is.taken;
-          area = is.area;
-          maxes = is.maxes;
+          world = is.world;
           held = ap (λ (k : Caller). k.held) is.rests;
           placed = All-nil (λ (p : CellName × Cell). (i : ℕ) × IsPlaced g (cell_of p) i);
+          won = is.won;
+          note = is.note;
+          nodes = refl;
+          few = All-nil (λ (w : Note). w.stamp ≤ most_turns);
           out = is.out;
         },
         record {
           turn = sym turn;
+          counted = is.counted ∙ sym (ap (λ (k : Caller). k.turn) is.rests) ∙ sym turn;
           phase = ap (λ (k : Caller). k.phase) is.rests ∙ ap (opening_phase g) (sym (ap (λ (k : Caller). k.turn) is.rests) ∙ sym turn) ∙ opens_claim g t lt;
           known = subst (λ x. IsKnown g x []) (sym amoebot) (begins g is.run c t is.listed);
         },
@@ -104,7 +154,7 @@ module _ {D : Type 0} (verdict : D → Shown → Verdict) where
       amoebot : b ≡ bot g c t
       amoebot = of ∙ (λ i. bot g (is.number i) (sym turn i))
 
-  module _ (m : Seated D) (c t b : ℕ) (a : Extent) (greatest : List ℕ) (pairs : Pairs) (is : IsActivation verdict m c t b a greatest pairs) where
+  module _ (m : Seated D) (c t b : ℕ) (bare : Config) (pairs : Pairs) (notes : List Note) (is : IsActivation verdict m c t b bare pairs notes) where
     abbrev g : Setup
     g = about verdict m.0
 
@@ -118,9 +168,10 @@ module _ {D : Type 0} (verdict : D → Shown → Verdict) where
     abbrev HasPlace : CellName × Cell → Type 0
     HasPlace p = (i : ℕ) × IsPlaced g (cell_of p) i
 
-    -- the seat with another record of the same caller, which holds these cells and has their slots out
-    pub with_held : (r : Record) (out : List (ℕ × Slot)) (cells : Pairs) → r.number ≡ c → r.taken ≡ None → r.caller.held ≡ cells → All HasPlace cells → out ≡ map (emptied a) cells → IsActivation verdict (like m.0 (r ∷ []), out) c t b a greatest cells
-    with_held r out cells number taken held placed slots = record {
+    -- the seat with another record of the same caller, which holds these cells and has the slots of the bodies among them out
+    pub with_held : (r : Record) (out : List (ℕ × Slot)) (cells : Pairs) (ws : List Note) → All (λ (w : Note). w.stamp ≤ most_turns) ws → r.number ≡ c → r.taken ≡ None → r.caller.held ≡ cells → All HasPlace cells → r.won ≡ ws → r.note ≡ None → map (λ (w : Note). w.node) ws ≡ nodes_held cells → out ≡ emptied cells
+        → IsActivation verdict (like m.0 (r ∷ []), out) c t b bare cells ws
+    with_held r out cells ws few number taken held placed won note nodes slots = record {
       alone = refl;
       run = is.run;
       number = number;
@@ -128,36 +179,31 @@ module _ {D : Type 0} (verdict : D → Shown → Verdict) where
       turn = is.turn;
       bot = is.bot;
       taken = taken;
-      area = is.area;
-      maxes = is.maxes;
+      world = is.world;
       held = held;
       placed = placed;
+      won = won;
+      note = note;
+      nodes = nodes;
+      few = few;
       out = slots;
     }
 
-    -- and where its caller alone has come on
-    came_on : (k : Caller) (out : List (ℕ × Slot)) (cells : Pairs) → k.held ≡ cells → All HasPlace cells → out ≡ map (emptied a) cells → IsActivation verdict (goes_on m.0 k, out) c t b a greatest cells
-    came_on k out cells = with_held (record (own m.0) { caller = k }) out cells is.number is.taken
-
     -- the seat after a step that leaves it what it has out of slots
-    pub stays : (m' : Seated D) (k : Caller) → m'.0 ≡ goes_on m.0 k → k.held ≡ (own m.0).caller.held → m'.1 ≡ m.1 → IsActivation verdict m' c t b a greatest pairs
-    stays m' k view held out = subst (λ q. IsActivation verdict q c t b a greatest pairs) (λ i. (sym view i, sym out i)) now
-      where
-        now : IsActivation verdict (goes_on m.0 k, m.1) c t b a greatest pairs
-        now = came_on k m.1 pairs (held ∙ is.held) is.placed is.out
+    pub stays : (m' : Seated D) (k : Caller) → m'.0 ≡ goes_on m.0 k → k.held ≡ (own m.0).caller.held → m'.1 ≡ m.1 → IsActivation verdict m' c t b bare pairs notes
+    stays m' k view held out =
+        subst (λ q. IsActivation verdict q c t b bare pairs notes) (λ i. (sym view i, sym out i))
+        (with_held (record (own m.0) { caller = k }) m.1 pairs notes is.few is.number is.taken (held ∙ is.held) is.placed is.won is.note is.nodes is.out)
 
-    -- a cell was won, and its value taken out
-    pub wins : (m' m2 : Seated D) (n : CellName) (x v : Cell) (i : ℕ) → IsClaiming verdict m t b pairs → next_of g (bot_in verdict m.0) (own m.0).caller.held ≡ Some n → number a n ≡ Some i
-        → m'.0 ≡ goes_on m.0 (caller_with_cell g (own m.0).number (own m.0).caller (tried verdict m.0) x) → m'.1 ≡ (i, slot.Cell x) ∷ m.1 → IsKnown g (bot_in verdict m.0) ((tried verdict m.0, x) ∷ (own m.0).caller.held)
+    -- a body was won, and its value taken out
+    pub wins_body : (m' m2 : Seated D) (i : ℕ) (x v : Cell) → IsClaiming verdict m t b pairs → next_of g (bot_in verdict m.0) (own m.0).caller.held ≡ Some (name.Body i)
+        → m'.0 ≡ goes_on m.0 (caller_with_cell g (own m.0).number (own m.0).caller (name.Body i) x) → m'.1 ≡ (i, slot.Cell x) ∷ m.1 → IsKnown g (bot_in verdict m.0) ((name.Body i, x) ∷ (own m.0).caller.held)
         → m'.1 ≡ (i, slot.Cell v) ∷ rest m'.1 → m2 ≡ (m'.0, (i, slot.Empty) ∷ rest m'.1)
-        → IsActivation verdict m2 c t b a greatest ((n, v) ∷ pairs) × IsClaiming verdict m2 t b ((n, v) ∷ pairs)
-    wins m' m2 n x v i cl next at_n view out known read filled = subst (λ q. IsActivation verdict q c t b a greatest ((n, v) ∷ pairs) × IsClaiming verdict q t b ((n, v) ∷ pairs)) (sym now) (after, claiming)
+        → IsActivation verdict m2 c t b bare ((name.Body i, v) ∷ pairs) notes × IsClaiming verdict m2 t b ((name.Body i, v) ∷ pairs)
+    wins_body m' m2 i x v cl next view out known read filled = subst (λ q. IsActivation verdict q c t b bare ((name.Body i, v) ∷ pairs) notes × IsClaiming verdict q t b ((name.Body i, v) ∷ pairs)) (sym now) (after, claiming)
       where
-        is_n : tried verdict m.0 ≡ n
-        is_n = ap (λ o. unwrap_or o (name.Body 0)) next
-
         k : Caller
-        k = caller_with_cell g (own m.0).number (own m.0).caller (tried verdict m.0) x
+        k = caller_with_cell g (own m.0).number (own m.0).caller (name.Body i) x
 
         same : v ≡ x
         same = ap first_value (sym read ∙ out)
@@ -165,128 +211,292 @@ module _ {D : Type 0} (verdict : D → Shown → Verdict) where
         now : m2 ≡ (goes_on m.0 k, (i, slot.Empty) ∷ m.1)
         now = filled ∙ (λ j. (view j, (i, slot.Empty) ∷ rest (out j)))
 
-        pairs_are : (tried verdict m.0, x) ∷ (own m.0).caller.held ≡ (n, v) ∷ pairs
-        pairs_are = λ j. (is_n j, sym same j) ∷ is.held j
+        pairs_are : (name.Body i, x) ∷ (own m.0).caller.held ≡ (name.Body i, v) ∷ pairs
+        pairs_are = λ j. (name.Body i, sym same j) ∷ is.held j
 
-        known_now : IsKnown g b ((n, v) ∷ pairs)
-        known_now = subst (λ (q : ℕ × Pairs). IsKnown g q.0 q.1) (λ j. (bot_same cl.turn j, pairs_are j)) known
+        place : (j : ℕ) × IsPlaced g (name.Body i) j
+        place = cl.known.placed (name.Body i) (sym (next_same cl.turn) ∙ next)
 
-        place : (j : ℕ) × IsPlaced g n j
-        place = cl.known.placed n (sym (next_same cl.turn) ∙ next)
+        after : IsActivation verdict (goes_on m.0 k, (i, slot.Empty) ∷ m.1) c t b bare ((name.Body i, v) ∷ pairs) notes
+        after = with_held (record (own m.0) { caller = k }) ((i, slot.Empty) ∷ m.1) ((name.Body i, v) ∷ pairs) notes is.few is.number is.taken pairs_are (All-cons HasPlace (name.Body i, v) pairs place is.placed) is.won is.note is.nodes (λ j. (i, slot.Empty) ∷ is.out j)
 
-        after : IsActivation verdict (goes_on m.0 k, (i, slot.Empty) ∷ m.1) c t b a greatest ((n, v) ∷ pairs)
-        after = came_on k ((i, slot.Empty) ∷ m.1) ((n, v) ∷ pairs) pairs_are (All-cons HasPlace (n, v) pairs place is.placed) (λ j. (unwrap_or (sym at_n j) 0, slot.Empty) ∷ is.out j)
-
-        claiming : IsClaiming verdict (goes_on m.0 k, (i, slot.Empty) ∷ m.1) t b ((n, v) ∷ pairs)
+        claiming : IsClaiming verdict (goes_on m.0 k, (i, slot.Empty) ∷ m.1) t b ((name.Body i, v) ∷ pairs)
         claiming = record {
           turn = cl.turn;
+          counted = cl.counted;
           phase = λ j. after_win g (bot_same cl.turn j) (pairs_are j) (next_of g (bot_same cl.turn j) (pairs_are j));
-          known = known_now;
+          known = subst (λ (q : ℕ × Pairs). IsKnown g q.0 q.1) (λ j. (bot_same cl.turn j, pairs_are j)) known;
+        }
+
+    -- so it is after a try that won it
+    pub wins_plain : (m' m2 : Seated D) (i : ℕ) (v : Cell) → IsClaiming verdict m t b pairs → next_of g (bot_in verdict m.0) (own m.0).caller.held ≡ Some (name.Body i) → Wins verdict m m' → m'.1 ≡ (i, slot.Cell v) ∷ rest m'.1 → m2 ≡ (m'.0, (i, slot.Empty) ∷ rest m'.1)
+        → IsActivation verdict m2 c t b bare ((name.Body i, v) ∷ pairs) notes × IsClaiming verdict m2 t b ((name.Body i, v) ∷ pairs)
+    wins_plain m' m2 i v cl next won read filled =
+        wins_body m' m2 i won.value v cl next
+        (won.now ∙ ap (λ n. goes_on m.0 (caller_with_cell g (own m.0).number (own m.0).caller n won.value)) is_i)
+        (won.out ∙ ap (λ n. (slot_of n, slot.Cell won.value) ∷ m.1) is_i)
+        (subst (λ n. IsKnown g (bot_in verdict m.0) ((n, won.value) ∷ (own m.0).caller.held)) is_i won.known) read filled
+      where
+        is_i : tried verdict m.0 ≡ name.Body i
+        is_i = ap (λ o. unwrap_or o (name.Body 0)) next
+
+    -- a node was won, with what its word said
+    pub wins_node : (m' : Seated D) (v : Node) (w : Note) → w.node ≡ v → w.stamp ≤ most_turns → IsClaiming verdict m t b pairs → next_of g (bot_in verdict m.0) (own m.0).caller.held ≡ Some (name.Spot v)
+        → m'.0 ≡ like m.0 (with_node g (own m.0) w ∷ []) → m'.1 ≡ m.1 → IsKnown g (bot_in verdict m.0) ((name.Spot w.node, cell.Spot w.occ) ∷ (own m.0).caller.held)
+        → IsActivation verdict m' c t b bare ((name.Spot v, cell.Spot w.occ) ∷ pairs) (w ∷ notes) × IsClaiming verdict m' t b ((name.Spot v, cell.Spot w.occ) ∷ pairs)
+    wins_node m' v w of small cl next view out known = subst (λ q. IsActivation verdict q c t b bare ((name.Spot v, cell.Spot w.occ) ∷ pairs) (w ∷ notes) × IsClaiming verdict q t b ((name.Spot v, cell.Spot w.occ) ∷ pairs)) (λ j. (sym view j, sym out j)) (after, claiming)
+      where
+        r : Record
+        r = with_node g (own m.0) w
+
+        pairs_are : (name.Spot w.node, cell.Spot w.occ) ∷ (own m.0).caller.held ≡ (name.Spot v, cell.Spot w.occ) ∷ pairs
+        pairs_are = λ j. (name.Spot (of j), cell.Spot w.occ) ∷ is.held j
+
+        place : (j : ℕ) × IsPlaced g (name.Spot v) j
+        place = cl.known.placed (name.Spot v) (sym (next_same cl.turn) ∙ next)
+
+        after : IsActivation verdict (like m.0 (r ∷ []), m.1) c t b bare ((name.Spot v, cell.Spot w.occ) ∷ pairs) (w ∷ notes)
+        after = with_held r m.1 ((name.Spot v, cell.Spot w.occ) ∷ pairs) (w ∷ notes) (All-cons (λ (u : Note). u.stamp ≤ most_turns) w notes small is.few) is.number is.taken pairs_are (All-cons HasPlace (name.Spot v, cell.Spot w.occ) pairs place is.placed) (λ j. w ∷ is.won j) refl (λ j. of j ∷ is.nodes j) is.out
+
+        claiming : IsClaiming verdict (like m.0 (r ∷ []), m.1) t b ((name.Spot v, cell.Spot w.occ) ∷ pairs)
+        claiming = record {
+          turn = cl.turn;
+          counted = cl.counted;
+          phase = λ j. after_win g (bot_same cl.turn j) (pairs_are j) (next_of g (bot_same cl.turn j) (pairs_are j));
+          known = subst (λ (q : ℕ × Pairs). IsKnown g q.0 q.1) (λ j. (bot_same cl.turn j, pairs_are j)) known;
         }
 
     -- another caller's tag was found
     pub stops : (m' : Seated D) (n : CellName) (tag : ℕ) → IsClaiming verdict m t b pairs → next_of g (bot_in verdict m.0) (own m.0).caller.held ≡ Some n
-        → m'.0 ≡ goes_on m.0 (record (own m.0).caller { phase = Refusing (tried verdict m.0) tag }) → IsOthers g (own m.0).number tag → IsStopped verdict m' c t b pairs
-    stops m' n tag cl next view other = subst (λ (v : View D). IsStopped verdict (v, m'.1) c t b pairs) (sym view) (record {
-      turn = cl.turn;
-      cell = n;
-      next = sym (next_same cl.turn) ∙ next;
-      tag = tag;
-      other = subst (λ k. IsOthers g k tag) is.number other;
-      phase = ap (λ o. Refusing (unwrap_or o (name.Body 0)) tag) next;
-    })
+        → m'.0 ≡ like m.0 (record (own m.0) { caller = record (own m.0).caller { phase = Refusing n tag }; note = None } ∷ []) → m'.1 ≡ m.1 → IsOthers g (own m.0).number tag → IsActivation verdict m' c t b bare pairs notes × IsStopped verdict m' c t b pairs
+    stops m' n tag cl next view out other = subst (λ (q : Seated D). IsActivation verdict q c t b bare pairs notes × IsStopped verdict q c t b pairs) (λ j. (sym view j, sym out j)) (
+      with_held (record (own m.0) { caller = record (own m.0).caller { phase = Refusing n tag }; note = None }) m.1 pairs notes is.few is.number is.taken is.held is.placed is.won refl is.nodes is.out,
+      record {
+        turn = cl.turn;
+        counted = cl.counted;
+        cell = n;
+        next = sym (next_same cl.turn) ∙ next;
+        tag = tag;
+        other = subst (λ k. IsOthers g k tag) is.number other;
+        phase = refl;
+      },
+    )
+
+    -- so it is after a try of a plain cell
+    pub stops_plain : (m' : Seated D) (i tag : ℕ) → IsClaiming verdict m t b pairs → next_of g (bot_in verdict m.0) (own m.0).caller.held ≡ Some (name.Body i) → IsRefusedAt verdict tag m m' → IsActivation verdict m' c t b bare pairs notes × IsStopped verdict m' c t b pairs
+    stops_plain m' i tag cl next by =
+        stops m' (name.Body i) tag cl next
+        (by.now ∙ (λ j. like m.0 (record (own m.0) { caller = record (own m.0).caller { phase = Refusing (ap (λ o. unwrap_or o (name.Body 0)) next j) tag }; note = is.note j } ∷ []))) by.out by.other
+
+    -- the body is tried next
+    pub to_try_body : (i j tag : ℕ) → IsClaiming verdict m t b pairs → next_of g (bot_in verdict m.0) (own m.0).caller.held ≡ Some (name.Body i) → number bare.area (name.Body i) ≡ Some j → tag ≡ own_tag g c t → IsToTry verdict j tag m.0
+    to_try_body i j tag cl next at_j mine =
+        let nx = sym (next_same cl.turn) ∙ next in
+        let is_i : tried verdict m.0 ≡ name.Body i = ap (λ o. unwrap_or o (name.Body 0)) next in
+        let place = cl.known.placed (name.Body i) nx in
+        let same : place.0 ≡ j = same_Some place.0 j (sym place.1.0 ∙ ap (λ (q : Config). number q.area (name.Body i)) (sym is.world) ∙ at_j) in
+        let placed : IsPlaced g (name.Body i) j = subst (IsPlaced g (name.Body i)) same place.1 in
+        record {
+          phase = cl.phase ∙ ap (after_win g b pairs) nx;
+          next = next ∙ ap (λ n. Some n) (sym is_i);
+          placed = subst (λ n. IsPlaced g n j) (sym is_i) placed;
+          plain = (let e = same_Some (first_plain g.world + i) j placed.0 in omega (arith, e));
+          tag = mine ∙ (λ k. own_tag g (sym is.number k) (sym cl.turn k));
+        }
+
+    -- the node is tried next
+    pub to_try : (v : Node) (i : ℕ) → IsClaiming verdict m t b pairs → next_of g (bot_in verdict m.0) (own m.0).caller.held ≡ Some (name.Spot v) → number bare.area (name.Spot v) ≡ Some i → (to : IsToTryNode verdict i m.0) × (to.node ≡ v)
+    to_try v i cl next at_i =
+        let nx = sym (next_same cl.turn) ∙ next in
+        let place = cl.known.placed (name.Spot v) nx in
+        let same : place.0 ≡ i = same_Some place.0 i (sym place.1.0 ∙ ap (λ (q : Config). number q.area (name.Spot v)) (sym is.world) ∙ at_i) in
+        (record { phase = cl.phase ∙ ap (after_win g b pairs) nx; node = v; next = next; placed = subst (IsPlaced g (name.Spot v)) same place.1 }, refl)
 
     abbrev marks_with : ℕ → List Mark
     marks_with place = (own m.0).caller.marks ++ mark_of_phase (own m.0).caller.phase place ∷ []
 
-    -- the turn has its mark
-    pub marks : (m' : Seated D) (place : ℕ) → (own m.0).caller.turn ≡ t → m'.0 ≡ goes_on m.0 (marked_at g (own m.0).caller place) → m'.1 ≡ m.1 → IsActivation verdict m' c t b a greatest pairs × IsFreeing verdict m' t pairs
-    marks m' place turn view out = (
+    marks_are : (turn place : ℕ) → (freeing_caller g turn (own m.0).caller.held (marks_with place)).marks ≡ marks_with place
+    marks_are turn place = frees-marks g turn (own m.0).caller.held (marks_with place)
+
+    -- the turn has its mark, at the place that was read
+    has_mark : (place : ℕ) → length (own m.0).caller.marks ≡ t → IsToRead (own m.0).caller.phase → place ≤ most_turns → (turn : ℕ) → HasMark (goes_on m.0 (marked_at g (own m.0).caller place), m.1) t place
+    has_mark place counted reads few turn = record {
+      mark = mark_of_phase (own m.0).caller.phase place;
+      counted = ap (λ (ms : List Mark). length ms) (marks_are (own m.0).caller.turn place) ∙ length-append (own m.0).caller.marks (mark_of_phase (own m.0).caller.phase place ∷ []) ∙ ap (λ n. n + 1) counted;
+      there = ap (λ ms. slice_get ms t) (marks_are (own m.0).caller.turn place) ∙ ap (slice_get (marks_with place)) (sym counted) ∙ slice_get_behind (own m.0).caller.marks (mark_of_phase (own m.0).caller.phase place) [];
+      stamp = sym (read_place (own m.0).caller.phase place reads);
+      few = few;
+    }
+
+    pub marks : (m' : Seated D) (place : ℕ) → (own m.0).caller.turn ≡ t → length (own m.0).caller.marks ≡ t → IsToRead (own m.0).caller.phase → place ≤ most_turns → m'.0 ≡ goes_on m.0 (marked_at g (own m.0).caller place) → m'.1 ≡ m.1
+        → IsActivation verdict m' c t b bare pairs notes × IsFreeing verdict m' t pairs place
+    marks m' place turn counted reads few view out = (
       stays m' (marked_at g (own m.0).caller place) view (frees-held g (own m.0).caller.turn (own m.0).caller.held _) out,
-      subst (λ q. IsFreeing verdict q t pairs) (λ i. (sym view i, sym out i)) now,
+      subst (λ q. IsFreeing verdict q t pairs place) (λ i. (sym view i, sym out i)) (record { caller = now; marked = has_mark place counted reads few t }),
     )
       where
-        now : IsFreeing verdict (goes_on m.0 (marked_at g (own m.0).caller place), m.1) t pairs
-        now = λ i. freeing_caller g (turn i) (is.held i) (sym (frees-marks g (own m.0).caller.turn (own m.0).caller.held (marks_with place)) i)
+        now : marked_at g (own m.0).caller place ≡ freeing_caller g t pairs (marked_at g (own m.0).caller place).marks
+        now = λ i. freeing_caller g (turn i) (is.held i) (sym (marks_are (own m.0).caller.turn place) i)
 
     -- the turn of a whole zone has its mark
-    pub looked : (m' : Seated D) (place : ℕ) (told : Shown) → HoldsWholeZone verdict m t b pairs told → m'.0 ≡ goes_on m.0 (marked_at g (own m.0).caller place) → m'.1 ≡ m.1 → IsActivation verdict m' c t b a greatest pairs × HoldsWholeZone verdict m' t b pairs told
-    looked m' place told wh view out = (
-      (marks m' place wh.turn view out).0,
-      subst (λ q. HoldsWholeZone verdict q t b pairs told) (λ i. (sym view i, sym out i)) now,
+    pub looked : (m' : Seated D) (place after : ℕ) (told : Shown) → HoldsWholeZone verdict m t b pairs told after → IsToRead (own m.0).caller.phase → place ≤ most_turns → m'.0 ≡ goes_on m.0 (marked_at g (own m.0).caller place) → m'.1 ≡ m.1
+        → IsActivation verdict m' c t b bare pairs notes × HoldsWholeZone verdict m' t b pairs told place
+    looked m' place after told wh reads few view out = (
+      stays m' (marked_at g (own m.0).caller place) view (frees-held g (own m.0).caller.turn (own m.0).caller.held _) out,
+      subst (λ q. HoldsWholeZone verdict q t b pairs told place) (λ i. (sym view i, sym out i)) now,
     )
       where
         some : 0 < length (own m.0).caller.held
         some = subst (λ ps. 0 < length ps) (sym is.held) (whole_some g b pairs wh.whole)
 
-        now : HoldsWholeZone verdict (goes_on m.0 (marked_at g (own m.0).caller place), m.1) t b pairs told
+        counted : length (own m.0).caller.marks ≡ t
+        counted = elim wh.phase [
+          | inl decided ↦ decided.1
+          | inr released ↦ absurd (subst IsToRead released.0 reads)
+        ]
+
+        now : HoldsWholeZone verdict (goes_on m.0 (marked_at g (own m.0).caller place), m.1) t b pairs told place
         now = record {
           turn = (frees_phase g (own m.0).caller.turn (own m.0).caller.held (marks_with place) some).1 ∙ wh.turn;
           whole = wh.whole;
           shown = wh.shown;
-          phase = inr (frees_phase g (own m.0).caller.turn (own m.0).caller.held (marks_with place) some).0;
+          phase = inr ((frees_phase g (own m.0).caller.turn (own m.0).caller.held (marks_with place) some).0, has_mark place counted reads few t);
         }
 
+    -- a marked turn of a whole zone frees its cells
+    pub unsealed : (told : Shown) (after : ℕ) → HoldsWholeZone verdict m t b pairs told after → (own m.0).caller.phase ≡ Releasing → IsFreeing verdict m t pairs after × (0 < length pairs)
+    unsealed told after wh marked = (record { caller = now; marked = has }, whole_some g b pairs wh.whole)
+      where
+        has : HasMark m t after
+        has = elim wh.phase [
+          | inl decided ↦ absurd (not_decided ((about verdict m.0).verdict told) (sym decided.0 ∙ marked))
+          | inr released ↦ released.1
+        ]
+
+        now : (own m.0).caller ≡ freeing_caller g t pairs (own m.0).caller.marks
+        now = as_freed g (own m.0).caller t pairs wh.turn marked is.held (whole_some g b pairs wh.whole)
+
     -- what was found in a whole zone is what some configuration shows
-    pub whole_is_shown : (found_cells : Pairs) → IsClaiming verdict m t b pairs → pairs ≡ reverse found_cells → next_of g (bot_in verdict m.0) (own m.0).caller.held ≡ None → IsShown (record { area = a; maxes = greatest; bot = b; cells = found_cells })
+    pub whole_is_shown : (found_cells : Pairs) → IsClaiming verdict m t b pairs → pairs ≡ reverse found_cells → next_of g (bot_in verdict m.0) (own m.0).caller.held ≡ None
+        → IsShown (record { area = bare.area; maxes = bare.maxes; bot = b; cells = found_cells })
     whole_is_shown found_cells cl are none =
-        subst IsShown (λ i. let s : Shown = record { area = sym is.area i; maxes = sym is.maxes i; bot = b; cells = (ap reverse are ∙ reverse-reverse found_cells) i } in s) (cl.known.shown (sym (next_same cl.turn) ∙ none))
+        subst IsShown (λ i. let s : Shown = record { area = (sym is.world i).area; maxes = (sym is.world i).maxes; bot = b; cells = (ap reverse are ∙ reverse-reverse found_cells) i } in s) (cl.known.shown (sym (next_same cl.turn) ∙ none))
 
-    module _ (n : CellName) (x : Cell) (held : Pairs) (are : pairs ≡ (n, x) ∷ held) (fr : IsFreeing verdict m t pairs) where
+    -- there is room for one note more
+    pub few_notes : (x : CellName × Cell) → IsKnown g (bot_in verdict m.0) (x ∷ (own m.0).caller.held) → length notes < 19
+    few_notes x known =
+        let n : length notes ≡ length (nodes_held pairs) = sym (length-map notes (λ (w : Note). w.node)) ∙ ap length is.nodes in
+        let few = known.few in
+        let held = ap length is.held in
+        let le = nodes_few pairs in
+        omega (arith, n, few, held, le)
+
+    -- the cell that was won last is freed
+    module _ (n : CellName) (x : Cell) (held : Pairs) (are : pairs ≡ (n, x) ∷ held) (after : ℕ) (fr : IsFreeing verdict m t pairs after) where
       turn_is : (own m.0).caller.turn ≡ t
-      turn_is = ap (λ (k : Caller). k.turn) fr ∙ ap (λ ps. (freeing_caller g t ps (own m.0).caller.marks).turn) are
+      turn_is = ap (λ (k : Caller). k.turn) fr.caller ∙ ap (λ ps. (freeing_caller g t ps (own m.0).caller.marks).turn) are
 
-      -- the cell that was won last has a number
+      phase_is : (own m.0).caller.phase ≡ Releasing
+      phase_is = ap (λ (k : Caller). k.phase) fr.caller ∙ ap (λ ps. (freeing_caller g t ps (own m.0).caller.marks).phase) are
+
+      -- it has a number
       pub last_placed : (i : ℕ) × IsPlaced g n i
       last_placed = All-head HasPlace (n, x) held (subst (All HasPlace) are is.placed)
 
-      pub last_number : (i : ℕ) → number a n ≡ Some i → IsPlaced g n i
+      pub last_number : (i : ℕ) → number bare.area n ≡ Some i → IsPlaced g n i
       last_number i at_n =
-          let same : last_placed.0 ≡ i = same_Some last_placed.0 i (sym last_placed.1.0 ∙ ap (λ e. number e n) (sym is.area) ∙ at_n) in
+          let same : last_placed.0 ≡ i = same_Some last_placed.0 i (sym last_placed.1.0 ∙ ap (λ (q : Config). number q.area n) (sym is.world) ∙ at_n) in
           subst (IsPlaced g n) same last_placed.1
 
-      pub last_out : (i : ℕ) → number a n ≡ Some i → m.1 ≡ (i, slot.Empty) ∷ map (emptied a) held
-      last_out i at_n = is.out ∙ ap (map (emptied a)) are ∙ (λ j. (unwrap_or (at_n j) 0, slot.Empty) ∷ map (emptied a) held)
+      k : Caller
+      k = released_caller g (own m.0).caller
 
-      pub to_free : (m' : Seated D) (i : ℕ) → number a n ≡ Some i → m' ≡ (m.0, (i, slot.Cell x) ∷ rest m.1) → IsToFree verdict i m'
-      to_free m' i at_n now = subst (IsToFree verdict i) (sym now) (record {
-        phase = ap (λ (k : Caller). k.phase) fr ∙ ap (λ ps. (freeing_caller g t ps (own m.0).caller.marks).phase) are;
-        inside = (last_number i at_n).1;
-        last = (n, x, held, rest m.1, is.held ∙ are, (last_number i at_n).0, refl);
-      })
+      k_is : released_caller g (own m.0).caller ≡ freeing_caller g t held (own m.0).caller.marks
+      k_is = λ j. freeing_caller g (turn_is j) (but_last ((is.held ∙ are) j)) (own m.0).caller.marks
 
-      pub frees_last : (m' m2 : Seated D) (i : ℕ) → number a n ≡ Some i → m' ≡ (m.0, (i, slot.Cell x) ∷ rest m.1) → m2.0 ≡ goes_on m'.0 (released_caller (about verdict m'.0) (own m'.0).caller) → m2.1 ≡ rest m'.1
-          → IsActivation verdict m2 c t b a greatest held × IsFreeing verdict m2 t held
-      frees_last m' m2 i at_n now view out = subst (λ q. IsActivation verdict q c t b a greatest held × IsFreeing verdict q t held) (sym is_now) (after, freeing)
+      rest_placed : All HasPlace held
+      rest_placed = All-tail HasPlace (n, x) held (subst (All HasPlace) are is.placed)
+
+      freeing_still : (r : Record) (out : List (ℕ × Slot)) → r.caller ≡ released_caller g (own m.0).caller → IsFreeing verdict (like m.0 (r ∷ []), out) t held after
+      freeing_still r out same =
+          let marks : r.caller.marks ≡ (own m.0).caller.marks = ap (λ (j : Caller). j.marks) (same ∙ k_is) ∙ frees-marks g t held (own m.0).caller.marks in
+          record {
+            caller = same ∙ k_is ∙ ap (freeing_caller g t held) (sym marks);
+            marked = record { mark = fr.marked.mark; counted = ap (λ (ms : List Mark). length ms) marks ∙ fr.marked.counted; there = ap (λ ms. slice_get ms t) marks ∙ fr.marked.there; stamp = fr.marked.stamp; few = fr.marked.few };
+          }
+
+    -- a node
+    module _ (v : Node) (x : Cell) (held : Pairs) (are : pairs ≡ (name.Spot v, x) ∷ held) (w : Note) (ws : List Note) (notes_are : notes ≡ w ∷ ws) (after : ℕ) (fr : IsFreeing verdict m t pairs after) where
+      pub note_few : w.stamp ≤ most_turns
+      note_few = All-head (λ (u : Note). u.stamp ≤ most_turns) w ws (subst (All (λ (u : Note). u.stamp ≤ most_turns)) notes_are is.few)
+
+      pub to_free_node : (i stamp : ℕ) → number bare.area (name.Spot v) ≡ Some i → (occ_in x ≡ w.occ → stamp ≡ w.stamp) → (occ_in x ≢ w.occ → stamp ≡ after) → IsToFreeNode verdict i (node_word 0 (occ_in x) stamp) m.0
+      to_free_node i stamp at_n same changed = record {
+        phase = phase_is (name.Spot v) x held are after fr;
+        node = v;
+        value = x;
+        held = held;
+        last = is.held ∙ are;
+        placed = last_number (name.Spot v) x held are after fr i at_n;
+        note = w;
+        more = ws;
+        won = is.won ∙ notes_are;
+        stamp = stamp;
+        left = record {
+          same = same;
+          changed = λ ne. (fr.marked.mark, ap (slice_get (own m.0).caller.marks) (turn_is (name.Spot v) x held are after fr) ∙ fr.marked.there, changed ne ∙ fr.marked.stamp);
+        };
+        word = refl;
+      }
+
+      pub frees_node : (m2 : Seated D) → m2.0 ≡ like m.0 (record (own m.0) { caller = released_caller g (own m.0).caller; won = but_first (own m.0).won } ∷ []) → m2.1 ≡ m.1 → IsActivation verdict m2 c t b bare held ws × IsFreeing verdict m2 t held after
+      frees_node m2 view out = subst (λ q. IsActivation verdict q c t b bare held ws × IsFreeing verdict q t held after) (λ j. (sym view j, sym out j)) (
+        with_held (record (own m.0) { caller = released_caller g (own m.0).caller; won = but_first (own m.0).won }) m.1 held ws (All-tail (λ (u : Note). u.stamp ≤ most_turns) w ws (subst (All (λ (u : Note). u.stamp ≤ most_turns)) notes_are is.few)) is.number is.taken
+            (ap (λ (j : Caller). j.held) (k_is (name.Spot v) x held are after fr) ∙ frees-held g t held (own m.0).caller.marks) (rest_placed (name.Spot v) x held are after fr)
+            (ap but_first (is.won ∙ notes_are)) is.note (λ j. tail_of ((ap (map (λ (u : Note). u.node)) (sym notes_are) ∙ is.nodes ∙ ap nodes_held are) j)) (is.out ∙ ap emptied are),
+        freeing_still (name.Spot v) x held are after fr (record (own m.0) { caller = released_caller g (own m.0).caller; won = but_first (own m.0).won }) m.1 refl,
+      )
+
+    -- a body
+    module _ (i : ℕ) (x : Cell) (held : Pairs) (are : pairs ≡ (name.Body i, x) ∷ held) (after : ℕ) (fr : IsFreeing verdict m t pairs after) where
+      pub last_out : m.1 ≡ (i, slot.Empty) ∷ rest m.1
+      last_out = subst (λ (out : List (ℕ × Slot)). out ≡ (i, slot.Empty) ∷ rest out) (sym (is.out ∙ ap emptied are)) refl
+
+      pub to_free : (m' : Seated D) (j : ℕ) → number bare.area (name.Body i) ≡ Some j → m' ≡ (m.0, (i, slot.Cell x) ∷ rest m.1) → IsToFree verdict j m'
+      to_free m' j at_n now =
+          let placed = last_number (name.Body i) x held are after fr j at_n in
+          subst (IsToFree verdict j) (sym now) (record {
+            phase = phase_is (name.Body i) x held are after fr;
+            inside = placed.1;
+            plain = (let e = same_Some (first_plain g.world + i) j placed.0 in omega (arith, e));
+            last = (name.Body i, x, held, rest m.1, is.held ∙ are, placed.0, refl);
+          })
+
+      pub frees_body : (m' m2 : Seated D) → m' ≡ (m.0, (i, slot.Cell x) ∷ rest m.1) → m2.0 ≡ goes_on m'.0 (released_caller (about verdict m'.0) (own m'.0).caller) → m2.1 ≡ rest m'.1 → IsActivation verdict m2 c t b bare held notes × IsFreeing verdict m2 t held after
+      frees_body m' m2 now view out = subst (λ q. IsActivation verdict q c t b bare held notes × IsFreeing verdict q t held after) (sym is_now) (
+        with_held (record (own m.0) { caller = released_caller g (own m.0).caller }) (emptied held) held notes is.few is.number is.taken
+            (ap (λ (j : Caller). j.held) (k_is (name.Body i) x held are after fr) ∙ frees-held g t held (own m.0).caller.marks) (rest_placed (name.Body i) x held are after fr) is.won is.note (is.nodes ∙ ap nodes_held are) refl,
+        freeing_still (name.Body i) x held are after fr (record (own m.0) { caller = released_caller g (own m.0).caller }) (emptied held) refl,
+      )
         where
-          k : Caller
-          k = released_caller g (own m.0).caller
-
-          is_now : m2 ≡ (goes_on m.0 k, map (emptied a) held)
+          is_now : m2 ≡ (goes_on m.0 (released_caller g (own m.0).caller), emptied held)
           is_now = λ j. (
             (view ∙ ap (λ (q : Seated D). goes_on q.0 (released_caller (about verdict q.0) (own q.0).caller)) now) j,
-            (out ∙ ap (λ (q : Seated D). rest q.1) now ∙ ap rest (last_out i at_n)) j,
+            (out ∙ ap (λ (q : Seated D). rest q.1) now ∙ ap rest (is.out ∙ ap emptied are)) j,
           )
 
-          k_is : k ≡ freeing_caller g t held (own m.0).caller.marks
-          k_is = λ j. freeing_caller g (turn_is j) (but_last ((is.held ∙ are) j)) (own m.0).caller.marks
-
-          after : IsActivation verdict (goes_on m.0 k, map (emptied a) held) c t b a greatest held
-          after = came_on k (map (emptied a) held) held (ap (λ (j : Caller). j.held) k_is ∙ frees-held g t held (own m.0).caller.marks) (All-tail HasPlace (n, x) held (subst (All HasPlace) are is.placed)) refl
-
-          freeing : IsFreeing verdict (goes_on m.0 k, map (emptied a) held) t held
-          freeing = k_is ∙ ap (freeing_caller g t held) (sym (ap (λ (j : Caller). j.marks) k_is ∙ frees-marks g t held (own m.0).caller.marks))
-
     -- with nothing held the next turn begins
-    pub ends : IsFreeing verdict m t pairs → pairs ≡ [] → IsSeat verdict m c (t + 1) a greatest
-    ends fr none = record {
+    pub ends : (after : ℕ) → IsFreeing verdict m t pairs after → pairs ≡ [] → IsSeat verdict m c (t + 1) bare
+    ends after fr none = record {
       alone = is.alone;
       run = is.run;
       number = is.number;
       listed = is.listed;
-      rests = fr ∙ ap (λ ps. freeing_caller g t ps (own m.0).caller.marks) none;
+      counted = fr.marked.counted;
+      rests = fr.caller ∙ ap (λ ps. freeing_caller g t ps (own m.0).caller.marks) none;
       taken = is.taken;
-      out = is.out ∙ ap (map (emptied a)) none;
-      area = is.area;
-      maxes = is.maxes;
+      won = is.won ∙ none_of notes (is.nodes ∙ ap nodes_held none);
+      note = is.note;
+      out = is.out ∙ ap emptied none;
+      world = is.world;
     }

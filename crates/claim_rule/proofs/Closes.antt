@@ -16,7 +16,6 @@ use Rattle.amoebot_state.specs.Patches.{IsPatched}
 use Rattle.amoebot_state.specs.Steps.{Run}
 use Rattle.amoebot_state.specs.Zones.{Shown}
 use Rattle.amoebot_state.proofs.Patched.{patched_is_unique, run_has_one_last}
-use Rattle.claim_core.specs.Cells.{cells}
 use Rattle.claim_core.specs.Turns.{Kept}
 use Rattle.claim_core.specs.Machine.{Setup, State, after}
 use Rattle.claim_core.specs.Reached.{HasValues}
@@ -28,7 +27,7 @@ use Rattle.claim_rule.specs.declared.views.Slot.TheVariants as slot
 use Rattle.claim_rule.specs.declared.views.Record.{Record}
 use Rattle.claim_rule.specs.declared.views.Terms.{Terms}
 use Rattle.claim_rule.specs.Views.{Content, Seated, view_of, setup_of_terms}
-use Rattle.claim_rule.specs.Stands.{IsCoreJournal, HasTaken, IsRecord, Stands, KeepsRule}
+use Rattle.claim_rule.specs.Stands.{journal_slot, IsCoreJournal, HasTaken, IsRecord, Stands, KeepsRule}
 use Rattle.claim_rule.specs.Tokens.{FieldOf, Token, number_in, record_in, doing}
 use Rattle.claim_rule.specs.Seating.{SeatsOf, AreOf, AreSeats}
 use Rattle.claim_rule.specs.Closing.{ClosesAs, HoldNothing}
@@ -82,20 +81,20 @@ module _ {D : Type 0} (verdict : D → Shown → Verdict) (z : Terms D) (ok : Is
         let t = some_there seats c inside full in
         absurd (not_holder c t.0 t.1 e)
 
-    at_home : (j : Kept) × (get_elem? s.homes (cells z.world) ≡ home.some (home.some (slot.Journal j))) × IsCoreJournal g core j
+    at_home : (j : Kept) × (get_elem? s.homes (journal_slot z.world) ≡ home.some (home.some (slot.Journal j))) × IsCoreJournal g core j
     at_home = st.homes.journal (nobody core.holder refl)
 
     module _ (xs : List Slot) (are : (k : ℕ) (y : Slot) → get_elem? s.homes k ≡ home.some (home.some y) → get_elem? xs k ≡ home.some y) where
-      journal_in : (j : Kept) × (get_elem? xs (cells z.world) ≡ home.some (slot.Journal j)) × IsCoreJournal g core j
-      journal_in = (at_home.0, are (cells z.world) (slot.Journal at_home.0) at_home.1, at_home.2)
+      journal_in : (j : Kept) × (get_elem? xs (journal_slot z.world) ≡ home.some (slot.Journal j)) × IsCoreJournal g core j
+      journal_in = (at_home.0, are (journal_slot z.world) (slot.Journal at_home.0) at_home.1, at_home.2)
 
-      its_journal : (j : Kept) → get_elem? xs (cells z.world) ≡ home.some (slot.Journal j) → IsCoreJournal g core j
-      its_journal j e = subst (IsCoreJournal g core) (same_journal xs (cells z.world) journal_in.0 j journal_in.1 e) journal_in.2
+      its_journal : (j : Kept) → get_elem? xs (journal_slot z.world) ≡ home.some (slot.Journal j) → IsCoreJournal g core j
+      its_journal j e = subst (IsCoreJournal g core) (same_journal xs (journal_slot z.world) journal_in.0 j journal_in.1 e) journal_in.2
 
-      runs : (j : Kept) → get_elem? xs (cells z.world) ≡ home.some (slot.Journal j) → (last : Config) × Run g.verdict g.world j.entries last
+      runs : (j : Kept) → get_elem? xs (journal_slot z.world) ≡ home.some (slot.Journal j) → (last : Config) × Run g.verdict g.world j.entries last
       runs j e = let sound = always g ok steps in (sound.last, subst (λ es. Run g.verdict g.world es sound.last) (sym (its_journal j e).entries) sound.run)
 
-      closed : (j : Kept) (world : Config) → get_elem? xs (cells z.world) ≡ home.some (slot.Journal j) → Run g.verdict g.world j.entries world → ClosesAs verdict z seats world j
+      closed : (j : Kept) (world : Config) → get_elem? xs (journal_slot z.world) ≡ home.some (slot.Journal j) → Run g.verdict g.world j.entries world → ClosesAs verdict z seats world j
       closed j world e run =
           let sound = always g ok steps in
           let is = its_journal j e in
@@ -131,13 +130,13 @@ module _ {D : Type 0} (verdict : D → Shown → Verdict) (f : FieldOf D) (rest 
     number c t e = (are.each c t e).2
 
     -- the journal is in its slot,
-    pub journal_there : (j : Kept) × (get_elem? xs (cells f.terms.world) ≡ home.some (slot.Journal j))
+    pub journal_there : (j : Kept) × (get_elem? xs (journal_slot f.terms.world) ≡ home.some (slot.Journal j))
     journal_there =
         let j = journal_in verdict f.terms ok end.0 end.1.0.0 end.1.0.1 id gathered.0 mine items count all_there number gathered.2 xs end.4 in
         (j.0, j.1)
 
     -- its entries are a run,
-    pub entries_run : (j : Kept) → get_elem? xs (cells f.terms.world) ≡ home.some (slot.Journal j) → (last : Config) × Run (verdict f.terms.decider) f.terms.world j.entries last
+    pub entries_run : (j : Kept) → get_elem? xs (journal_slot f.terms.world) ≡ home.some (slot.Journal j) → (last : Config) × Run (verdict f.terms.decider) f.terms.world j.entries last
     entries_run j e = runs verdict f.terms ok end.0 end.1.0.0 end.1.0.1 id gathered.0 mine items count all_there number gathered.2 xs end.4 j e
 
     -- there are as many seats as callers,
@@ -151,7 +150,7 @@ module _ {D : Type 0} (verdict : D → Shown → Verdict) (f : FieldOf D) (rest 
         subst (λ o. IfSome o (λ token. (doing token).held ≡ [])) (sym (get_or_from_slice_get items c (Some t.0) d t.1)) (gathered.2 c t.0 t.1).3)
 
     -- and with its last world the field has ended as it does
-    pub closes : (j : Kept) (world : Config) → get_elem? xs (cells f.terms.world) ≡ home.some (slot.Journal j) → Run (verdict f.terms.decider) f.terms.world j.entries world → ClosesAs verdict f.terms s.seats world j
+    pub closes : (j : Kept) (world : Config) → get_elem? xs (journal_slot f.terms.world) ≡ home.some (slot.Journal j) → Run (verdict f.terms.decider) f.terms.world j.entries world → ClosesAs verdict f.terms s.seats world j
     closes j world e run =
         subst (λ os. ClosesAs verdict f.terms os world j) items_are
         (closed verdict f.terms ok end.0 end.1.0.0 end.1.0.1 id gathered.0 mine items count all_there number gathered.2 xs end.4 j world e run)

@@ -1,10 +1,10 @@
 -- A commit keeps the rule: what other callers have recorded stays true.
-use Rattle.std.proofs.Common.{◌≡◌, ◌≢◌, ℕ, ◌+◌, ◌*◌, ◌<◌, List, [], ◌∷◌, ◌++◌, map, length, length-append, set, length-set, Some, None, ap, sym, refl, subst, ◌∙◌, arith, eq-eqb, ne_eqb}
-use Rattle.std.specs.Prelude.{slice_get, if◌then◌else◌}
+use Rattle.std.proofs.Common.{◌≡◌, ◌≢◌, ℕ, zero, suc, ◌+◌, ◌*◌, ◌<◌, ◌≤◌, Option, inr, List, [], ◌∷◌, ◌++◌, map, length, length-append, set, length-set, Some, None, inl, ap, sym, refl, subst, ◌∙◌, arith, eq-eqb, ne_eqb}
+use Rattle.std.specs.Prelude.{slice_get, slice_index, if◌then◌else◌}
 use Rattle.std.specs.List.{All, Contains}
-use Rattle.std.proofs.lemmas.List.{map-append}
-use Rattle.std.proofs.lemmas.List.Elements.{All-head, All-tail, All-weaker, All-push, All-contains, Contains-push}
-use Rattle.std.proofs.lemmas.Option.{none-some, same_Some}
+use Rattle.std.proofs.lemmas.List.{map-append, append-nil}
+use Rattle.std.proofs.lemmas.List.Elements.{All-head, All-tail, All-weaker, All-push, All-contains}
+use Rattle.std.proofs.lemmas.Option.{none-some, same_Some, slice_get_within, get_or_from_slice_get}
 use mathlib.Core.Option as home
 use Rattle.atomic_table.specs.Table.{step, gives, put_back, Allows}
 use Rattle.atomic_table.proofs.Lists.{set_else, set_here}
@@ -24,8 +24,7 @@ use Rattle.claim_core.specs.declared.marks.Mark.TheVariants as mark
 use Rattle.claim_core.specs.declared.state.Caller.{Caller}
 use Rattle.claim_core.specs.declared.state.Committed.{Committed}
 use Rattle.claim_core.specs.Cells.{number, at, patched, cells}
-use Rattle.claim_core.specs.Machine.{Setup, State, bot, entry, freeing_caller, patched_pair, commits, by_phase, acts, next, after, commit_of, commit_by}
-use Rattle.claim_core.specs.Machine as machine
+use Rattle.claim_core.specs.Machine.{Setup, State, bot, entry, freeing_caller, patched_pair, commits, by_phase, acts, next}
 use Rattle.claim_core.specs.Reached.{entries_of, placed, IsShownAt}
 use Rattle.claim_core.specs.Soundness.{IsSetup, IsTurn, IsHeld, HasDecision, HasFront, names, marked}
 use Rattle.claim_core.proofs.Nexts.{frees-marks}
@@ -34,20 +33,38 @@ use Rattle.claim_core.proofs.Tags.{tag-positive}
 use Rattle.claim_core.proofs.Fronts.{name_of_held}
 use Rattle.claim_core.proofs.Frames.{own_stays}
 use Rattle.claim_core.proofs.HolderLemmas.{framed, is_known}
-use Rattle.claim_core.proofs.Stays.{IsWorldAt-append}
-use Rattle.claim_core.proofs.Commitments.{committed_is_journal, committed_is_shown}
+use Rattle.claim_core.proofs.Stays.{IsWorldAt-append, world_last}
+use Rattle.claim_core.proofs.Commitments.{entries_of-push}
 use Rattle.claim_rule.specs.declared.views.Slot.{Slot}
 use Rattle.claim_rule.specs.declared.views.Slot.TheVariants as slot
 use Rattle.claim_rule.specs.declared.views.Record.{Record}
 use Rattle.claim_rule.specs.declared.views.Terms.{Terms}
 use Rattle.claim_rule.specs.Views.{Content, Seated, view_of, own, setup_of_terms}
-use Rattle.claim_rule.specs.Stands.{turns_left, IsCoreJournal, HasTaken, HasCommitted, AreWords, AreHomes, KeepsRule}
+use Rattle.claim_rule.specs.Stands.{cell_tag, first_plain, journal_slot, IsWon, IsStamped, turns_left, IsCoreJournal, HasTaken, HasCommitted, AreWords, AreHomes, KeepsRule}
+use Rattle.claim_rule.specs.Plays.{HoldsZone}
 use Rattle.claim_rule.specs.Commits.{commit_at, with_commit, IsToCommit, stored}
-use Rattle.claim_rule.specs.Nexts.{GoesOn, IsAt}
-use Rattle.claim_rule.proofs.Tables.{journal_written}
-use Rattle.claim_rule.proofs.Moves.{sound, mine, caller_at, not_last, moved, taken_else}
+use Rattle.claim_rule.specs.Nexts.{GoesTo, IsAt}
+use Rattle.claim_rule.proofs.Tables.{journal_written, journal_else, stamped_alike}
+use Rattle.claim_rule.proofs.Settles.{won_renewed, settled_now}
+use Rattle.claim_rule.proofs.NodeReleases.{frees_won}
+use Rattle.amoebot_state.proofs.Fronts.{slice_get_behind}
+use Rattle.claim_core.proofs.Numbers.{length-patched}
+use Rattle.claim_rule.specs.Words.{word_occ, word_stamp}
+use Rattle.claim_rule.proofs.Moves.{sound, on, mine, caller_at, counts, my_stamps, moved, taken_else}
+use Rattle.claim_rule.proofs.Shows.{shows}
 use Rattle.claim_rule.proofs.NextsLemmas.{allowed}
 use Rattle.claim_rule.proofs.MarkLemmas.{one_fewer}
+
+-- what stands at no place of a list
+past : {A : Type 0} (xs : List A) (k : ℕ) → slice_get xs k ≡ None → length xs ≤ k
+past [] k e = omega arith
+past (x ∷ xs) zero e = absurd (none-some x (sym e))
+past (x ∷ xs) (suc k) e = let ih = past xs k e in omega (arith, ih)
+
+slice_get_past : {A : Type 0} (xs : List A) (k : ℕ) → length xs ≤ k → slice_get xs k ≡ None
+slice_get_past [] k le = refl
+slice_get_past (x ∷ xs) zero le = absurd (omega (arith, le))
+slice_get_past (x ∷ xs) (suc k) le = slice_get_past xs k (omega (arith, le))
 
 -- a cell that the patch does not name keeps its value
 patched_else : (a : Extent) (ps : Pairs) (xs : List Cell) (i : ℕ) → All (λ (p : CellName × Cell). number a (cell_of p) ≢ Some i) ps → slice_get (patched a ps xs) i ≡ slice_get xs i
@@ -56,17 +73,14 @@ patched_else a (p ∷ ps) xs i all =
     at-put_else (patched a ps xs) (number a (cell_of p)) (Some i) p.1 (λ e. All-head (λ (q : CellName × Cell). number a (cell_of q) ≢ Some i) p ps all (sym e))
     ∙ patched_else a ps xs i (All-tail (λ (q : CellName × Cell). number a (cell_of q) ≢ Some i) p ps all)
 
-module _ {D : Type 0} {verdict : D → Shown → Verdict} {z : Terms D} {s : Content D} {steps : List ℕ} {seat : ℕ} {r : Record} (table : IsAt verdict z s steps seat r) where
+module _ {D : Type 0} {verdict : D → Shown → Verdict} {z : Terms D} {s : Content D} {core : State} {seat : ℕ} {r : Record} (table : IsAt verdict z s core seat r) where
   abbrev g : Setup
   g = setup_of_terms verdict z
-
-  abbrev core : State
-  core = after g steps
 
   abbrev last : ℕ
   last = cells z.world
 
-  module _ (x : ℕ) (carried : List (ℕ × Slot)) (to : IsToCommit verdict last x (view_of z (r ∷ []), carried)) where
+  module _ (x : ℕ) (carried : List (ℕ × Slot)) (to : IsToCommit verdict (journal_slot z.world) x (view_of z (r ∷ []), carried)) where
     abbrev change : Change
     change = to.change
 
@@ -115,9 +129,6 @@ module _ {D : Type 0} {verdict : D → Shown → Verdict} {z : Terms D} {s : Con
     next_is : to.next.entries ≡ new.journal
     next_is = to.pushed.entries ∙ ap (λ (es : List Entry). es ++ e ∷ []) has_taken.1.entries
 
-    words : AreWords g new (set s.words last x)
-    words = journal_written g core new s.words x table.stands.words refl (to.word ∙ ap (λ (es : List Entry). 2 * length es) next_is ∙ (let q : 2 * length new.journal ≡ 2 * length new.journal + 0 = omega arith in q))
-
     -- a free cell is none of the patch
     decided : HasDecision g (sound table).last (bot g r.number r.caller.turn) r.caller.held (decision.Change change)
     decided = subst (HasFront g core (sound table).last r.number r.caller) to.phase ((sound table).each r.number r.caller (caller_at table)).front
@@ -136,14 +147,30 @@ module _ {D : Type 0} {verdict : D → Shown → Verdict} {z : Terms D} {s : Con
         (All-weaker (λ (p : CellName × Cell). Contains (zone (sound table).last (bot g r.number r.caller.turn)) (cell_of p)) (λ (p : CellName × Cell). number z.world.area (cell_of p) ≢ Some i)
         (λ p in_zone. not_held i free (cell_of p) (subst (λ ns. Contains ns (cell_of p)) (sym decided.whole) in_zone)) change.patch (table.run.touches (sound table).last (bot g r.number r.caller.turn) change changes))
 
+    free_value : (k : ℕ) → cell_tag core k ≡ 0 → slice_get new.values k ≡ slice_get core.values k
+    free_value k none = by (slice_get core.tags k) refl
+      where
+        by : (o : Option ℕ) → slice_get core.tags k ≡ o → slice_get new.values k ≡ slice_get core.values k
+        by (Some t) q = free_stays k (q ∙ ap (λ (m : ℕ). Some m) (sym (get_or_from_slice_get core.tags k t 0 q) ∙ none))
+        by None q = by_length (slice_get_past core.values k (sized (past core.tags k q)))
+          where
+            sized : length core.tags ≤ k → length core.values ≤ k
+            sized le = omega (arith, le, (counts table).0, (counts table).1)
+
+            by_length : slice_get core.values k ≡ None → slice_get new.values k ≡ slice_get core.values k
+            by_length n = slice_get_past new.values k (let le = sized (past core.tags k q) in let same = length-patched z.world.area change.patch core.values in omega (arith, le, same)) ∙ sym n
+
+    words : AreWords g new (set s.words last x)
+    words = journal_written g core new s.words x table.stands.words refl free_value (omega (arith, longer)) (to.word ∙ ap (λ (es : List Entry). 2 * length es) next_is ∙ (let q : 2 * length new.journal ≡ 2 * length new.journal + 0 = omega arith in q))
+
     journal_is : IsCoreJournal g new to.next
     journal_is = record { first = to.pushed.first ∙ has_taken.1.first; entries = next_is; room = omega (arith, fewer, to.pushed.spare, has_taken.1.room) }
 
     homes : AreHomes g new (put_back s.homes carried)
     homes = subst (AreHomes g new) (sym (ap (put_back s.homes) to.out)) (record {
-      count = length-set s.homes last (home.some (slot.Journal to.next)) ∙ table.stands.homes.count;
-      cell = λ i y free value. set_else s.homes last i (home.some (slot.Journal to.next)) (not_last table i 0 free) ∙ table.stands.homes.cell i y free (sym (free_stays i free) ∙ value);
-      journal = λ none. (to.next, set_here s.homes last (home.some (slot.Journal to.next)) (omega (arith, table.stands.homes.count)), journal_is);
+      count = length-set s.homes (journal_slot z.world) (home.some (slot.Journal to.next)) ∙ table.stands.homes.count;
+      cell = λ i y free value. set_else s.homes (journal_slot z.world) i (home.some (slot.Journal to.next)) (λ q. let lt = slice_get_within core.tags (first_plain z.world + i) 0 free in omega (arith, q, lt, (counts table).0)) ∙ table.stands.homes.cell i y free (sym (free_stays (first_plain z.world + i) free) ∙ value);
+      journal = λ none. (to.next, set_here s.homes (journal_slot z.world) (home.some (slot.Journal to.next)) (omega (arith, table.stands.homes.count)), journal_is);
     })
 
     -- what was committed stays found
@@ -153,9 +180,8 @@ module _ {D : Type 0} {verdict : D → Shown → Verdict} {z : Terms D} {s : Con
     -- another caller has the entries that it had
     other_entries : (d : ℕ) → d ≢ r.number → entries_of d 0 new.journal ≡ entries_of d 0 core.journal
     other_entries d apart =
-        ap (λ (q : State). entries_of d 0 q.journal) leads ∙ sym (committed_is_journal g d (r.number ∷ steps))
-        ∙ ap (λ b. map placed (if b then machine.committed g d steps ++ commit_by g d core (slice_get core.callers d) else machine.committed g d steps)) (ne_eqb r.number d (λ q. apart (sym q)))
-        ∙ committed_is_journal g d steps
+        entries_of-push d 0 core.journal e
+        ∙ ap (λ b. entries_of d 0 core.journal ++ (if b then (0 + length core.journal, e) ∷ [] else [])) (ne_eqb r.number d (λ f. apart (sym f))) ∙ append-nil (entries_of d 0 core.journal)
 
     others : (q : Record) → q.number ≢ r.number → HasCommitted g core q.number q.committed q.taken → HasCommitted g new q.number q.committed q.taken
     others q apart is = record {
@@ -165,22 +191,18 @@ module _ {D : Type 0} {verdict : D → Shown → Verdict} {z : Terms D} {s : Con
     }
 
     -- and the own caller one more
-    own_steps : machine.committed g r.number (r.number ∷ steps) ≡ machine.committed g r.number steps ++ commit_at g r change (length core.journal) ∷ []
-    own_steps =
-        ap (λ b. if b then machine.committed g r.number steps ++ commit_by g r.number core (slice_get core.callers r.number) else machine.committed g r.number steps) (eq-eqb r.number r.number refl)
-        ∙ ap (λ o. machine.committed g r.number steps ++ commit_by g r.number core o) (caller_at table) ∙ ap (λ p. machine.committed g r.number steps ++ commit_of g r.number core r.caller p) to.phase
-
     own_entries : map placed (r.committed ++ commit_at g r change place ∷ []) ≡ entries_of r.number 0 new.journal
     own_entries =
-        map-append placed r.committed (commit_at g r change place ∷ []) ∙ (λ i. (mine table).committed.entries i ++ (place_is i, e) ∷ [])
-        ∙ ap (λ ps. ps ++ (length core.journal, e) ∷ []) (sym (committed_is_journal g r.number steps))
-        ∙ sym (map-append placed (machine.committed g r.number steps) (commit_at g r change (length core.journal) ∷ [])) ∙ ap (map placed) (sym own_steps)
-        ∙ committed_is_journal g r.number (r.number ∷ steps) ∙ ap (λ (q : State). entries_of r.number 0 q.journal) (sym leads)
+        map-append placed r.committed (commit_at g r change place ∷ []) ∙ (λ i. (mine table).committed.entries i ++ ((place_is ∙ (let q : length core.journal ≡ 0 + length core.journal = omega arith in q)) i, e) ∷ [])
+        ∙ sym (entries_of-push r.number 0 core.journal e ∙ ap (λ b. entries_of r.number 0 core.journal ++ (if b then (0 + length core.journal, e) ∷ [] else [])) (eq-eqb r.number r.number refl))
 
     own_found : IsShownAt g new.journal (commit_at g r change place)
-    own_found = subst (IsShownAt g new.journal) (ap (commit_at g r change) (sym place_is)) (subst (λ (q : State). IsShownAt g q.journal (commit_at g r change (length core.journal))) (sym leads)
-        (All-contains (IsShownAt g (next g r.number core).journal) (machine.committed g r.number steps ++ commit_at g r change (length core.journal) ∷ []) (commit_at g r change (length core.journal))
-        (subst (All (IsShownAt g (next g r.number core).journal)) own_steps (committed_is_shown g table.run r.number (r.number ∷ steps))) (Contains-push (machine.committed g r.number steps) (commit_at g r change (length core.journal)))))
+    own_found = (
+      (sound table).last,
+      subst (λ n. Rattle.claim_core.specs.Good.IsWorldAt g.verdict g.world new.journal n (sound table).last) (sym place_is)
+          (IsWorldAt-append g.verdict g.world (sound table).last core.journal (e ∷ []) (length core.journal) (world_last g.verdict g.world (sound table).last core.journal (sound table).run)),
+      shows g table.run core (sound table) r.number r.caller (caller_at table) (subst HoldsZone (sym to.phase) tt),
+    )
 
     mine_is : HasCommitted g new r.number (r.committed ++ commit_at g r change place ∷ []) None
     mine_is = record {
@@ -189,17 +211,36 @@ module _ {D : Type 0} {verdict : D → Shown → Verdict} {z : Terms D} {s : Con
       taken = λ h. none-some r.number h;
     }
 
-    pub commit_goes : (slots : ℕ) → GoesOn verdict z s steps last seat (view_of z (r ∷ []), carried) (λ _. stored verdict (step slots last x 0 home.none) (view_of z (r ∷ []), carried) x) x
+    same : (k : ℕ) → k < first_plain z.world → slice_index (set s.words last x) k ≡ slice_index s.words k
+    same = journal_else g s.words x
+
+    stamps_stay : (q : Record) → IsStamped g s.words q → IsStamped g (set s.words last x) q
+    stamps_stay = stamped_alike g s.words (set s.words last x) (λ k lt. (ap word_occ (same k lt), ap word_stamp (same k lt)))
+
+    count : length r.caller.marks ≡ r.caller.turn
+    count = ((sound table).each r.number r.caller (caller_at table)).counted ∙ ap (λ q. marked q r.caller.turn) to.phase
+
+    -- the turn has committed: each node that it holds has a stamp of at most the place
+    stamped : IsStamped g (set s.words last x) (with_commit g r change place)
+    stamped = record {
+      won = frees_won g (set s.words last x) r.caller.turn (map (patched_pair change.patch) r.caller.held) (r.caller.marks ++ mark.Done place ∷ []) r.won
+          (won_renewed change.patch (IsHeld g core (sound table).last r.number r.caller.turn) (IsWon g s.words r.caller.turn r.caller.marks) (IsWon g (set s.words last x) r.caller.turn (r.caller.marks ++ mark.Done place ∷ []))
+          (λ v y y' w held is. settled_now g core s.words (set s.words last x) table.stands.words same (sound table).last r.number r.caller.turn r.caller.marks count (mark.Done place) place_is v y y' w (λ _. inr (place, ap (slice_get (r.caller.marks ++ mark.Done place ∷ [])) (sym count) ∙ slice_get_behind r.caller.marks (mark.Done place) [])) held is)
+          r.caller.held r.won ((sound table).each r.number r.caller (caller_at table)).held (my_stamps table).won);
+      noted = λ m q. (stamps_stay r (my_stamps table)).noted m q;
+    }
+
+    pub commit_goes : (slots : ℕ) → GoesTo verdict z s (next g r.number core) last seat (view_of z (r ∷ []), carried) (λ _. stored verdict (step slots last x 0 home.none) (view_of z (r ∷ []), carried) x) x
     commit_goes slots = (
       view_of z (with_commit g r change place ∷ []),
       gives,
       tt,
-      moved table new (with_commit g r change place) (set s.words last x) (put_back s.homes carried) leads refl callers words homes others mine_is (omega (arith, fewer, longer, table.stands.few)),
+      moved table new (next g r.number core) (on table) (with_commit g r change place) (set s.words last x) (put_back s.homes carried) leads refl callers words homes others mine_is (λ q apart rec st. stamps_stay q st) stamped (omega (arith, fewer, longer, table.stands.few)),
       ((place, record { change = change; phase = to.phase; journal = to.journal; taken = to.taken; behind = refl; now = refl }), refl),
     )
 
 module _ {D : Type 0} (verdict : D → Shown → Verdict) (z : Terms D) (ok : IsSetup (setup_of_terms verdict z)) where
-  pub commit_allowed : (slots seat : ℕ) (me : Seated D) (x : ℕ) → me.0 ≡ view_of z (own me.0 ∷ []) → IsToCommit verdict (cells z.world) x me → Allows (KeepsRule verdict z) slots seat me (cells z.world) (λ _. x) (λ _. stored verdict (step slots (cells z.world) x 0 home.none) me x)
+  pub commit_allowed : (slots seat : ℕ) (me : Seated D) (x : ℕ) → me.0 ≡ view_of z (own me.0 ∷ []) → IsToCommit verdict (journal_slot z.world) x me → Allows (KeepsRule verdict z) slots seat me (cells z.world) (λ _. x) (λ _. stored verdict (step slots (cells z.world) x 0 home.none) me x)
   commit_allowed slots seat me x one to =
-      allowed verdict z ok slots seat me (cells z.world) (λ _. x) (IsToCommit verdict (cells z.world) x) (λ m _. stored verdict (step slots (cells z.world) x 0 home.none) m x) one to
-      (λ s steps r table fact. commit_goes table x me.1 fact slots)
+      allowed verdict z ok slots seat me (cells z.world) (λ _. x) (IsToCommit verdict (journal_slot z.world) x) (λ m _. stored verdict (step slots (cells z.world) x 0 home.none) m x) one to
+      (λ s core r table fact. inl (commit_goes table x me.1 fact slots))

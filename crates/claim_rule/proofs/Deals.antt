@@ -16,7 +16,7 @@ use Rattle.claim_core.specs.declared.state.Caller.{Caller}
 use Rattle.claim_rule.specs.declared.views.Record.{Record}
 use Rattle.claim_rule.specs.declared.views.Terms.{Terms}
 use Rattle.claim_rule.specs.Views.{Seated, record_of, setup_of_terms, view_of}
-use Rattle.claim_rule.specs.Tokens.{FieldOf, Token, IsSeat}
+use Rattle.claim_rule.specs.Tokens.{FieldOf, Token, IsSeat, frame_of}
 use Rattle.claim_rule.specs.Seating.{SeatsOf, AreSeats}
 use Rattle.claim_rule.specs.Internal.{dealt, left_view}
 use Rattle.claim_rule.specs.Opened.{first_records, seat_with, first_seats}
@@ -52,17 +52,19 @@ module _ {D : Type 0} (verdict : D → Shown → Verdict) (z : Terms D) where
       take_more all c r (slice_get_within all c r at) ∙ ap (λ q. take c all ++ q ∷ []) (get_or_from_slice_get all c r r at)
 
   -- a seat with the record of a caller before its first turn keeps what a seat keeps
-  pub is_seat : (m : Seated D) (c : ℕ) (a : Extent) (greatest : List ℕ) → IsSetup (setup_of_terms verdict z) → c < length z.lists.ids → a ≡ z.world.area → greatest ≡ z.world.maxes → m ≡ (view_of z (next_one c ∷ []), []) → IsSeat verdict m c 0 a greatest
-  is_seat m c a greatest ok lt area maxes is = subst (λ (n : Seated D). IsSeat verdict n c 0 a greatest) (sym is) (record {
+  pub is_seat : (m : Seated D) (c : ℕ) (a : Extent) (greatest : List ℕ) → IsSetup (setup_of_terms verdict z) → c < length z.lists.ids → a ≡ z.world.area → greatest ≡ z.world.maxes → m ≡ (view_of z (next_one c ∷ []), []) → IsSeat verdict m c 0 (frame_of a greatest)
+  is_seat m c a greatest ok lt area maxes is = subst (λ (n : Seated D). IsSeat verdict n c 0 (frame_of a greatest)) (sym is) (record {
     alone = refl;
     run = ok;
     number = refl;
     listed = lt;
+    counted = refl;
     rests = refl;
     taken = refl;
+    won = refl;
+    note = refl;
     out = refl;
-    area = area;
-    maxes = maxes;
+    world = λ i. frame_of (area i) (maxes i);
   })
 
 module _ {D : Type 0} (verdict : D → Shown → Verdict) (f : FieldOf D) where

@@ -2,7 +2,7 @@
 use Rattle.std.proofs.Common.{◌≡◌, ◌≢◌, ℕ, ◌+◌, ◌<◌, ◌≤◌, List, [], ◌∷◌, length, drop, map, Option, Some, None, inl, inr, ap, sym, refl, subst, ◌∙◌, arith, eq-eqb, ne_eqb}
 use Rattle.std.specs.Prelude.{slice_get, slice_index, is_some, if◌then◌else◌}
 use Rattle.std.specs.List.{All}
-use Rattle.std.proofs.lemmas.Bool.{cases_eq, false≢true}
+use Rattle.std.proofs.lemmas.Bool.{cases_eq, cases_lt, false≢true}
 use Rattle.std.proofs.lemmas.List.{ext_get_or}
 use Rattle.std.proofs.lemmas.List.Elements.{All-head, All-tail, All-weaker}
 use Rattle.std.proofs.lemmas.Option.{none-some, same_Some, slice_get_within}
@@ -22,8 +22,9 @@ use Rattle.claim_core.proofs.Sounds.{always}
 use Rattle.claim_rule.specs.declared.views.Record.{Record}
 use Rattle.claim_rule.specs.declared.views.Terms.{Terms}
 use Rattle.claim_rule.specs.declared.views.View.{View}
+use Rattle.claim_rule.specs.Words.{word_tag}
 use Rattle.claim_rule.specs.Views.{Content, setup_of_terms}
-use Rattle.claim_rule.specs.Stands.{HasTaken, HasRecord, Stands}
+use Rattle.claim_rule.specs.Stands.{cell_tag, first_plain, HasTaken, HasRecord, Stands}
 use Rattle.claim_rule.specs.Laws.{StateIsDetermined}
 use Rattle.claim_rule.proofs.NextsLemmas.{tags_count}
 
@@ -107,6 +108,13 @@ module _ {D : Type 0} (verdict : D → Shown → Verdict) (z : Terms D) (s s' : 
   pub same_last : (one two : State) (sound : Sound g one) (sound' : Sound g two) → one.journal ≡ two.journal → sound.last ≡ sound'.last
   same_last one two sound sound' same = run_has_one_last g.verdict g.world one.journal sound.last sound'.last sound.run (subst (λ es. Run g.verdict g.world es sound'.last) (sym same) sound'.run)
 
+  -- a word has one tag,
+  same_tag : (one two : State) → Stands verdict z s one → Stands verdict z s' two → s.words ≡ s'.words → (k : ℕ) → k < cells z.world → cell_tag one k ≡ cell_tag two k
+  same_tag one two st st' words k inside = elim (cases_lt k (first_plain z.world)) [
+    | inl lt ↦ sym (st.words.node k lt).tag ∙ ap (λ (ws : List ℕ). word_tag (slice_index ws k)) words ∙ (st'.words.node k lt).tag
+    | inr le ↦ sym (st.words.plain k le inside) ∙ ap (λ (ws : List ℕ). slice_index ws k) words ∙ st'.words.plain k le inside
+  ]
+
   -- with the words they determine the state
   pub same_state : (one two : State) → Sound g one → Sound g two → Stands verdict z s one → Stands verdict z s' two → s.words ≡ s'.words → HasTwins SayTheSame s.views s'.views → one ≡ two
   same_state one two sound sound' st st' words twins = λ i. record { tags = tags i; values = values i; journal = journal i; holder = holder i; callers = callers i }
@@ -153,7 +161,7 @@ module _ {D : Type 0} (verdict : D → Shown → Verdict) (z : Terms D) (s s' : 
           let many = (tags_count g ok one sound).0 in
           let many' = (tags_count g ok two sound').0 in
           ext_get_or 0 one.tags two.tags (many ∙ sym many')
-          (λ k lt. let inside : k < cells z.world = omega (arith, lt, many) in sym (st.words.cell k inside) ∙ ap (λ (ws : List ℕ). slice_index ws k) words ∙ st'.words.cell k inside)
+          (λ k lt. let inside : k < cells z.world = omega (arith, lt, many) in same_tag one two st st' words k inside)
 
       values : one.values ≡ two.values
       values = sound.values ∙ ap values_of (same_last one two sound sound' journal) ∙ sym sound'.values

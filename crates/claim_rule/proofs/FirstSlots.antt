@@ -1,34 +1,52 @@
--- What the slots hold at the start, while they are made.
-use Rattle.std.proofs.Common.{◌≡◌, ℕ, ◌+◌, ◌*◌, List, [], ◌∷◌, ◌++◌, map, length, ap, sym, refl, ◌∙◌, arith, append_assoc}
+-- What the words and the slots hold at the start, while they are made.
+use Rattle.std.proofs.Common.{◌≡◌, ℕ, ◌+◌, ◌*◌, ◌<◌, List, [], ◌∷◌, ◌++◌, map, length, Some, ap, sym, refl, ◌∙◌, arith, append_assoc}
+use Rattle.std.specs.Prelude.{slice_get}
 use Rattle.std.specs.List.{range_with_len}
 use Rattle.std.proofs.lemmas.List.FromFn.{map-range_with_len_more}
 use Rattle.tri_lattice.specs.Extent.{node_at}
 use Rattle.amoebot_state.specs.declared.cell.CellName.TheVariants as name
-use Rattle.amoebot_state.specs.declared.cell.Cell.{Cell}
 use Rattle.amoebot_state.specs.declared.cell.Cell.TheVariants as cell
 use Rattle.amoebot_state.specs.Configs.{Config, bot_of, occupant}
 use Rattle.claim_core.specs.Cells.{held_by, values_of}
+use Rattle.claim_core.proofs.Numbers.{spot_at, body_at}
+use Rattle.claim_core.proofs.Places.{get-map}
 use Rattle.claim_rule.specs.declared.views.Slot.{Slot}
 use Rattle.claim_rule.specs.declared.views.Slot.TheVariants as slot
+use Rattle.claim_rule.specs.Words.{node_word}
+use Rattle.claim_rule.specs.Opened.{first_word}
 
--- the slots of so many nodes, and of so many amoebots
-abbrev pub nodes_so_far : Config → ℕ → List Slot
-nodes_so_far w n = map (λ k. slot.Cell (cell.Spot (occupant w (node_at w.area k)))) (range_with_len 0 n)
+-- the words of so many nodes, and of so many amoebots
+abbrev pub node_words : Config → ℕ → List ℕ
+node_words w n = map (λ k. node_word 0 (occupant w (node_at w.area k)) 0) (range_with_len 0 n)
 
+abbrev pub zeros : ℕ → List ℕ
+zeros n = map (λ _. 0) (range_with_len 0 n)
+
+-- the slots of so many amoebots
 abbrev pub bodies_so_far : Config → ℕ → List Slot
 bodies_so_far w n = map (λ i. slot.Cell (cell.Body (bot_of w i))) (range_with_len 0 n)
 
-pub one_more_node : (w : Config) (n : ℕ) → nodes_so_far w (n + 1) ≡ nodes_so_far w n ++ slot.Cell (cell.Spot (occupant w (node_at w.area n))) ∷ []
-one_more_node w n = map-range_with_len_more (λ k. slot.Cell (cell.Spot (occupant w (node_at w.area k)))) 0 n n (omega arith)
+pub one_more_node : (w : Config) (n : ℕ) → node_words w (n + 1) ≡ node_words w n ++ node_word 0 (occupant w (node_at w.area n)) 0 ∷ []
+one_more_node w n = map-range_with_len_more (λ k. node_word 0 (occupant w (node_at w.area k)) 0) 0 n n (omega arith)
 
-pub one_more_body : (w : Config) (xs : List Slot) (n : ℕ) → xs ++ bodies_so_far w (n + 1) ≡ (xs ++ bodies_so_far w n) ++ slot.Cell (cell.Body (bot_of w n)) ∷ []
-one_more_body w xs n = ap (λ ys. xs ++ ys) (map-range_with_len_more (λ i. slot.Cell (cell.Body (bot_of w i))) 0 n n (omega arith)) ∙ sym (append_assoc xs (bodies_so_far w n) (slot.Cell (cell.Body (bot_of w n)) ∷ []))
+pub one_more_zero : (xs : List ℕ) (n : ℕ) → xs ++ zeros (n + 1) ≡ (xs ++ zeros n) ++ 0 ∷ []
+one_more_zero xs n = ap (λ ys. xs ++ ys) (map-range_with_len_more (λ _. 0) 0 n n (omega arith)) ∙ sym (append_assoc xs (zeros n) (0 ∷ []))
 
-map_parts : (w : Config) (ks is : List ℕ) → map (λ (x : Cell). slot.Cell x) (map (held_by w) (map (λ k. name.Spot (node_at w.area k)) ks ++ map name.Body is)) ≡ map (λ k. slot.Cell (cell.Spot (occupant w (node_at w.area k)))) ks ++ map (λ i. slot.Cell (cell.Body (bot_of w i))) is
-map_parts w [] [] = refl
-map_parts w [] (i ∷ is) = ap (λ ys. slot.Cell (cell.Body (bot_of w i)) ∷ ys) (map_parts w [] is)
-map_parts w (k ∷ ks) is = ap (λ ys. slot.Cell (cell.Spot (occupant w (node_at w.area k))) ∷ ys) (map_parts w ks is)
+pub one_more_body : (w : Config) (n : ℕ) → bodies_so_far w (n + 1) ≡ bodies_so_far w n ++ slot.Cell (cell.Body (bot_of w n)) ∷ []
+one_more_body w n = map-range_with_len_more (λ i. slot.Cell (cell.Body (bot_of w i))) 0 n n (omega arith)
 
--- all of them are what the cells hold
-pub all_slots : (w : Config) → map (λ (x : Cell). slot.Cell x) (values_of w) ≡ nodes_so_far w (w.area.w * w.area.h) ++ bodies_so_far w (length w.bots)
-all_slots w = map_parts w (range_with_len 0 (w.area.w * w.area.h)) (range_with_len 0 (length w.bots))
+word_parts : (w : Config) (ks is : List ℕ) → map first_word (map (held_by w) (map (λ k. name.Spot (node_at w.area k)) ks ++ map name.Body is)) ≡ map (λ k. node_word 0 (occupant w (node_at w.area k)) 0) ks ++ map (λ _. 0) is
+word_parts w [] [] = refl
+word_parts w [] (i ∷ is) = ap (λ (ys : List ℕ). 0 ∷ ys) (word_parts w [] is)
+word_parts w (k ∷ ks) is = ap (λ (ys : List ℕ). node_word 0 (occupant w (node_at w.area k)) 0 ∷ ys) (word_parts w ks is)
+
+-- all of them are those of what the cells hold
+pub all_words : (w : Config) → map first_word (values_of w) ≡ node_words w (w.area.w * w.area.h) ++ zeros (length w.bots)
+all_words w = word_parts w (range_with_len 0 (w.area.w * w.area.h)) (range_with_len 0 (length w.bots))
+
+-- what the cell of a node holds, and that of a body
+pub value_of_node : (w : Config) (k : ℕ) → k < w.area.w * w.area.h → slice_get (values_of w) k ≡ Some (cell.Spot (occupant w (node_at w.area k)))
+value_of_node w k lt = get-map (held_by w) _ k (name.Spot (node_at w.area k)) (spot_at w k lt)
+
+pub value_of_body : (w : Config) (i : ℕ) → i < length w.bots → slice_get (values_of w) (w.area.w * w.area.h + i) ≡ Some (held_by w (name.Body i))
+value_of_body w i lt = get-map (held_by w) _ (w.area.w * w.area.h + i) (name.Body i) (body_at w (w.area.w * w.area.h + i) i refl lt)

@@ -9,7 +9,7 @@ use Rattle.amoebot_state.proofs.Fronts.{slice_get_behind}
 use Rattle.claim_core.proofs.Places.{get-append_left}
 use Rattle.claim_rule.specs.declared.views.Record.{Record}
 use Rattle.claim_rule.specs.declared.views.Terms.{Terms}
-use Rattle.claim_rule.specs.Views.{Seated, view_of, own}
+use Rattle.claim_rule.specs.Views.{Seated, view_of, own, seen}
 use Rattle.claim_rule.specs.Tokens.{Token, record_in, doing}
 use Rattle.claim_rule.specs.Internal.{joined_view}
 
@@ -23,10 +23,10 @@ pub record Gathered {D : Type 0} (z : Terms D) (all left : List (Option (Token D
 
 module _ {D : Type 0} (z : Terms D) where
   -- what a seat with one record knows and has
-  pub one_record : (m : Seated D) (t : Token D) (table : TableId) → record { table = table; view = m.0 } ≡ t → m.0.records ≡ own m.0 ∷ [] → m.1 ≡ [] → t.view.terms ≡ Some z → m ≡ (view_of z (record_in t ∷ []), [])
-  one_record m t table is alone out terms =
+  pub one_record : (m : Seated D) (t : Token D) (table : TableId) → record { table = table; view = seen m.0 } ≡ t → m.0.records ≡ own m.0 ∷ [] → (own m.0).won ≡ [] → (own m.0).note ≡ None → m.1 ≡ [] → t.view.terms ≡ Some z → m ≡ (view_of z (record_in t ∷ []), [])
+  one_record m t table is alone won note out terms =
       let same : m.0.terms ≡ Some z = ap (λ (u : Token D). u.view.terms) is ∙ terms in
-      let mine : m.0.records ≡ record_in t ∷ [] = alone ∙ ap (λ (u : Token D). record_in u ∷ []) is in
+      let mine : m.0.records ≡ record_in t ∷ [] = alone ∙ (λ i. record (own m.0) { won = won i; note = note i } ∷ []) ∙ ap (λ (u : Token D). record_in u ∷ []) is in
       λ i. (record { terms = same i; records = mine i }, out i)
 
   module _ (all : List (Option (Token D))) where

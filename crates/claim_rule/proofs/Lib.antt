@@ -1,7 +1,12 @@
+pub mod Stamping
 pub mod Tables
 pub mod Moves
 pub mod NextsLemmas
 pub mod TokensLemmas
+pub mod NodeClaims
+pub mod NodeReleases
+pub mod Settles
+pub mod Winning
 pub mod Claims
 pub mod Releases
 pub mod Shows

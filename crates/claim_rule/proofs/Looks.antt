@@ -1,7 +1,7 @@
 -- A look at the journal's length, for the mark of a turn that is refused or changes nothing, keeps the rule.
-use Rattle.std.proofs.Common.{◌≡◌, ℕ, zero, suc, ◌+◌, ◌*◌, ◌/◌, ◌≤◌, List, [], ◌∷◌, ◌++◌, map, length, set, Option, Some, None, ap, sym, refl, ◌∙◌, arith, length-append}
+use Rattle.std.proofs.Common.{◌≡◌, ℕ, zero, suc, ◌+◌, ◌*◌, ◌/◌, ◌<◌, ◌≤◌, ◌⊎◌, inl, inr, List, [], ◌∷◌, ◌++◌, map, length, set, Option, Some, None, ap, sym, refl, ◌∙◌, arith, length-append}
 use Rattle.std.specs.Prelude.{slice_get, slice_index}
-use Rattle.std.proofs.lemmas.Option.{none-some, same_Some}
+use Rattle.std.proofs.lemmas.Option.{none-some, same_Some, slice_get_within}
 use Rattle.std.specs.Option.{option_len}
 use mathlib.Core.Option as home
 use Rattle.atomic_table.specs.Table.{step, keeps, Allows}
@@ -13,18 +13,27 @@ use Rattle.claim_core.specs.declared.state.Phase.{Phase}
 use Rattle.claim_core.specs.declared.state.Phase.TheVariants.{Claim, Refusing, Looking, Taking, Committing, Releasing, Ended}
 use Rattle.claim_core.specs.Cells.{cells}
 use Rattle.claim_core.specs.Cores.{unmarked}
-use Rattle.claim_core.specs.Machine.{Setup, State, looks, by_phase, acts, next, after}
-use Rattle.claim_core.specs.Soundness.{IsSetup}
+use Rattle.claim_core.specs.Machine.{Setup, State, looks, by_phase, acts, next}
+use Rattle.claim_core.specs.Soundness.{IsSetup, IsHeld, marked}
+use Rattle.claim_core.specs.Good.{place_of}
+use Rattle.claim_core.specs.declared.state.Look.TheVariants as look
+use Rattle.tri_lattice.specs.declared.node.Node.{Node}
+use Rattle.amoebot_state.specs.declared.cell.Cell.{Cell}
+use Rattle.amoebot_state.specs.declared.cell.Cell.TheVariants as cell
 use Rattle.claim_core.proofs.Nexts.{frees-marks}
 use Rattle.claim_rule.specs.declared.views.Slot.{Slot}
 use Rattle.claim_rule.specs.declared.views.Record.{Record}
 use Rattle.claim_rule.specs.declared.views.Terms.{Terms}
 use Rattle.claim_rule.specs.Views.{Content, Seated, view_of, own, setup_of_terms}
-use Rattle.claim_rule.specs.Stands.{turns_left, AreWords, AreHomes, KeepsRule}
+use Rattle.claim_rule.specs.declared.views.Note.{Note}
+use Rattle.claim_rule.specs.Words.{word_occ, word_stamp}
+use Rattle.claim_rule.specs.Stands.{first_plain, turns_left, IsWon, IsStamped, AreWords, AreHomes, KeepsRule}
 use Rattle.claim_rule.specs.Plays.{IsToRead, mark_of_phase, marked_at, ReadsLength}
-use Rattle.claim_rule.specs.Nexts.{GoesOn, IsAt}
-use Rattle.claim_rule.proofs.Tables.{journal_written, homes_kept}
-use Rattle.claim_rule.proofs.Moves.{caller_at, moves, journal_stays}
+use Rattle.claim_rule.specs.Nexts.{GoesTo, IsAt}
+use Rattle.claim_rule.proofs.Tables.{Alike, journal_written, journal_else, homes_same, won_weaker, stamped_alike}
+use Rattle.claim_rule.proofs.Settles.{settled_now}
+use Rattle.claim_rule.proofs.NodeReleases.{frees_won}
+use Rattle.claim_rule.proofs.Moves.{sound, on, caller_at, moves, my_stamps, journal_stays}
 use Rattle.claim_rule.proofs.NextsLemmas.{allowed}
 
 -- half of the journal's word is its length
@@ -48,22 +57,19 @@ looks_so g s c k (Committing change) reads = absurd reads
 looks_so g s c k Releasing reads = absurd reads
 looks_so g s c k Ended reads = absurd reads
 
-module _ {D : Type 0} {verdict : D → Shown → Verdict} {z : Terms D} {s : Content D} {steps : List ℕ} {seat : ℕ} {r : Record} (table : IsAt verdict z s steps seat r) where
+module _ {D : Type 0} {verdict : D → Shown → Verdict} {z : Terms D} {s : Content D} {core : State} {seat : ℕ} {r : Record} (table : IsAt verdict z s core seat r) where
   abbrev g : Setup
   g = setup_of_terms verdict z
-
-  abbrev core : State
-  core = after g steps
 
   abbrev last : ℕ
   last = cells z.world
 
-  pub look_goes : (slots : ℕ) (carried : List (ℕ × Slot)) → IsToRead r.caller.phase → GoesOn verdict z s steps last seat (view_of z (r ∷ []), carried) (ReadsLength verdict (step slots last 0 0 home.none) (view_of z (r ∷ []), carried)) (slice_index s.words last)
+  pub look_goes : (slots : ℕ) (carried : List (ℕ × Slot)) → IsToRead r.caller.phase → GoesTo verdict z s (next g r.number core) last seat (view_of z (r ∷ []), carried) (ReadsLength verdict (step slots last 0 0 home.none) (view_of z (r ∷ []), carried)) (slice_index s.words last)
   look_goes slots carried reads = (
     view_of z (record r { caller = k' } ∷ []),
     keeps,
     tt,
-    moves table new k' (set s.words last (slice_index s.words last)) s.homes leads refl refl refl fewer words homes,
+    moves table new (next g r.number core) (on table) k' r.won r.note (set s.words last (slice_index s.words last)) s.homes leads refl refl refl fewer words homes (λ q apart rec st. still q st) stamped,
     (ap (λ n. view_of z (record r { caller = marked_at g r.caller n } ∷ [])) (sym length_is), refl, omega (arith, table.stands.few, length_is)),
   )
     where
@@ -86,13 +92,63 @@ module _ {D : Type 0} {verdict : D → Shown → Verdict} {z : Terms D} {s : Con
       fewer = turns_fewer g.lists.turns core.callers r.number r.caller k' (caller_at table) more
 
       words : AreWords g new (set s.words last (slice_index s.words last))
-      words = journal_written g core new s.words (slice_index s.words last) table.stands.words refl table.stands.words.journal
+      words = journal_written g core new s.words (slice_index s.words last) table.stands.words refl (λ k none. refl) (omega arith) table.stands.words.journal
 
       homes : AreHomes g new s.homes
-      homes = homes_kept g core new s.homes s.homes table.stands.homes refl table.stands.homes.cell refl refl (journal_stays g core new refl fewer)
+      homes = homes_same g core new s.homes table.stands.homes (λ k le. refl) refl refl (journal_stays g core new refl fewer)
+
+      same : (k : ℕ) → k < first_plain z.world → slice_index (set s.words last (slice_index s.words last)) k ≡ slice_index s.words k
+      same = journal_else g s.words (slice_index s.words last)
+
+      alike : (k : ℕ) → k < first_plain z.world → Alike (slice_index s.words k) (slice_index (set s.words last (slice_index s.words last)) k)
+      alike k lt = (ap word_occ (same k lt), ap word_stamp (same k lt))
+
+      still : (q : Record) → IsStamped g s.words q → IsStamped g (set s.words last (slice_index s.words last)) q
+      still q = stamped_alike g s.words (set s.words last (slice_index s.words last)) alike q
+
+      -- the turn has no mark before
+      count : length r.caller.marks ≡ r.caller.turn
+      count = by r.caller.phase reads ((sound table).each r.number r.caller (caller_at table)).counted
+        where
+          by : (p : Phase) → IsToRead p → length r.caller.marks ≡ marked p r.caller.turn → length r.caller.marks ≡ r.caller.turn
+          by Claim reads e = absurd reads
+          by (Refusing n t) reads e = e
+          by (Looking l) reads e = e
+          by (Taking change) reads e = absurd reads
+          by (Committing change) reads e = absurd reads
+          by Releasing reads e = absurd reads
+          by Ended reads e = absurd reads
+
+      place : place_of (mark_of_phase r.caller.phase (length core.journal)) ≡ length core.journal
+      place = by r.caller.phase
+        where
+          by : (p : Phase) → place_of (mark_of_phase p (length core.journal)) ≡ length core.journal
+          by Claim = refl
+          by (Refusing n t) = refl
+          by (Looking look.Idle) = refl
+          by (Looking (look.Failed why)) = refl
+          by (Taking change) = refl
+          by (Committing change) = refl
+          by Releasing = refl
+          by Ended = refl
+
+      value : (v : Node) (x : Cell) (w : Note) → IsWon g s.words r.caller.turn r.caller.marks v x w → (x ≡ cell.Spot w.occ) ⊎ ((p : ℕ) × (slice_get (r.caller.marks ++ (mark_of_phase r.caller.phase (length core.journal)) ∷ []) r.caller.turn ≡ Some (Rattle.claim_core.specs.declared.marks.Mark.TheVariants.Done p)))
+      value v x w is = elim is.value [
+        | inl e ↦ inl e
+        | inr done ↦ (let lt = slice_get_within r.caller.marks r.caller.turn _ done.1 in absurd (omega (arith, lt, count)))
+      ]
+
+      stamped : IsStamped g (set s.words last (slice_index s.words last)) (record r { caller = k'; won = r.won; note = r.note })
+      stamped = record {
+        won = frees_won g (set s.words last (slice_index s.words last)) r.caller.turn r.caller.held (r.caller.marks ++ (mark_of_phase r.caller.phase (length core.journal)) ∷ []) r.won
+            (won_weaker (IsHeld g core (sound table).last r.number r.caller.turn) (IsWon g s.words r.caller.turn r.caller.marks) (IsWon g (set s.words last (slice_index s.words last)) r.caller.turn (r.caller.marks ++ (mark_of_phase r.caller.phase (length core.journal)) ∷ []))
+            (λ v x w held is. settled_now g core s.words (set s.words last (slice_index s.words last)) table.stands.words same (sound table).last r.number r.caller.turn r.caller.marks count (mark_of_phase r.caller.phase (length core.journal)) place v x x w (value v x w) held is)
+            r.caller.held r.won ((sound table).each r.number r.caller (caller_at table)).held (my_stamps table).won);
+        noted = λ m e. ((still r (my_stamps table)).noted) m e;
+      }
 
 module _ {D : Type 0} (verdict : D → Shown → Verdict) (z : Terms D) (ok : IsSetup (setup_of_terms verdict z)) where
   pub look_allowed : (slots seat : ℕ) (me : Seated D) → me.0 ≡ view_of z (own me.0 ∷ []) → IsToRead (own me.0).caller.phase → Allows (KeepsRule verdict z) slots seat me (cells z.world) (λ x. x) (ReadsLength verdict (step slots (cells z.world) 0 0 home.none) me)
   look_allowed slots seat me one reads =
       allowed verdict z ok slots seat me (cells z.world) (λ x. x) (λ m. IsToRead (own m.0).caller.phase) (ReadsLength verdict (step slots (cells z.world) 0 0 home.none)) one reads
-      (λ s steps r table fact. look_goes table slots me.1 fact)
+      (λ s core r table fact. inl (look_goes table slots me.1 fact))

@@ -16,20 +16,21 @@ use Rattle.claim_core.specs.declared.state.Committed.{Committed}
 use Rattle.claim_core.specs.Limits.{most_turns}
 use Rattle.claim_core.specs.Turns.{Kept}
 use Rattle.claim_core.specs.Cells.{number, at, cells}
-use Rattle.claim_core.specs.Machine.{Setup, State, next, after}
+use Rattle.claim_core.specs.Machine.{Setup, State, next}
 use Rattle.claim_core.specs.Soundness.{IsHeld, names, Sound}
 use Rattle.claim_core.specs.Reached.{IsShownAt}
 use Rattle.claim_core.proofs.Places.{get-set_here, get-set_else}
 use Rattle.claim_core.proofs.Numbers.{value_at, value_held}
 use Rattle.claim_core.proofs.Fronts.{name_of_held}
 use Rattle.claim_core.proofs.HolderLemmas.{is_known, same_area}
-use Rattle.claim_core.proofs.Sounds.{always}
+use Rattle.claim_core.proofs.Sounds.{one_step}
 use Rattle.claim_rule.specs.declared.views.Slot.{Slot}
 use Rattle.claim_rule.specs.declared.views.Record.{Record}
 use Rattle.claim_rule.specs.declared.views.Terms.{Terms}
 use Rattle.claim_rule.specs.declared.views.View.{View}
 use Rattle.claim_rule.specs.Views.{Content, view_of, setup_of_terms}
-use Rattle.claim_rule.specs.Stands.{turns_left, IsCoreJournal, HasTaken, HasCommitted, IsRecord, AreWords, AreHomes, HasRecord, Stands}
+use Rattle.claim_rule.specs.declared.views.Note.{Note}
+use Rattle.claim_rule.specs.Stands.{IsStamped, turns_left, IsCoreJournal, HasTaken, HasCommitted, IsRecord, AreWords, AreHomes, HasRecord, Stands}
 use Rattle.claim_rule.specs.Nexts.{IsAt}
 use Rattle.claim_rule.proofs.Tables.{later, cases, back, forth}
 use Rattle.claim_rule.proofs.NextsLemmas.{tags_count}
@@ -60,20 +61,15 @@ pub journal_stays : (g : Setup) (old new : State) → new.journal ≡ old.journa
 journal_stays g old new journal fewer j is = record { first = is.first; entries = is.entries ∙ sym journal; room = omega (arith, fewer, is.room) }
 
 -- a step of a seat's caller, at a table that stands for a state
-module _ {D : Type 0} {verdict : D → Shown → Verdict} {z : Terms D} {s : Content D} {steps : List ℕ} {seat : ℕ} {r : Record} (table : IsAt verdict z s steps seat r) where
+module _ {D : Type 0} {verdict : D → Shown → Verdict} {z : Terms D} {s : Content D} {core : State} {seat : ℕ} {r : Record} (table : IsAt verdict z s core seat r) where
   abbrev pub g : Setup
   g = setup_of_terms verdict z
 
-  abbrev pub core : State
-  core = after g steps
-
   -- a cell with a tag has the value that its holder recorded
-  held_by_record : (steps : List ℕ) (views : List (View D)) → ((c : ℕ) → c < length z.lists.ids → (seat place : ℕ) × (r : Record) × HasRecord views seat place r × (r.number ≡ c))
-      → ((seat place : ℕ) (r : Record) → HasRecord views seat place r → IsRecord g (after g steps) r) → (n : CellName) (t : ℕ) → at (after g steps).tags (number z.world.area n) ≡ Some t → t ≢ 0
-      → (seat place : ℕ) × (r : Record) × HasRecord views seat place r × ((x : Cell) × Contains r.caller.held (n, x) × (at (after g steps).values (number z.world.area n) ≡ Some x))
-  held_by_record steps views some each n t there tagged =
-      let core = after g steps in
-      let sound = always g table.run steps in
+  held_by_record : (core : State) → Sound g core → (views : List (View D)) → ((c : ℕ) → c < length z.lists.ids → (seat place : ℕ) × (r : Record) × HasRecord views seat place r × (r.number ≡ c))
+      → ((seat place : ℕ) (r : Record) → HasRecord views seat place r → IsRecord g core r) → (n : CellName) (t : ℕ) → at core.tags (number z.world.area n) ≡ Some t → t ≢ 0
+      → (seat place : ℕ) × (r : Record) × HasRecord views seat place r × ((x : Cell) × Contains r.caller.held (n, x) × (at core.values (number z.world.area n) ≡ Some x))
+  held_by_record core sound views some each n t there tagged =
       let by = sound.owned n t there tagged in
       let r = some by.0 (is_known g table.run core sound by.0 by.1 by.2) in
       let same : by.1 ≡ r.2.caller = same_Some by.1 r.2.caller (sym by.2 ∙ ap (slice_get core.callers) (sym r.4) ∙ (each r.0 r.1 r.2 r.3).caller) in
@@ -87,7 +83,11 @@ module _ {D : Type 0} {verdict : D → Shown → Verdict} {z : Terms D} {s : Con
       (r.0, r.1, r.2, r.3, (p.0.1, subst (λ (q : Caller × CellName). Contains q.0.held (q.1, p.0.1)) (λ i. (same i, sym p.2 i)) there_p, read.1 ∙ ap (λ (x : Cell). Some x) value))
 
   pub sound : Sound g core
-  sound = always g table.run steps
+  sound = table.sound
+
+  -- and so is the state after the caller's next step
+  pub on : Sound g (next g r.number core)
+  on = one_step g table.run core table.sound r.number
 
   -- what the record says is so
   pub mine : IsRecord g core r
@@ -103,12 +103,14 @@ module _ {D : Type 0} {verdict : D → Shown → Verdict} {z : Terms D} {s : Con
   pub not_last : (i t : ℕ) → slice_get core.tags i ≡ Some t → i ≢ cells z.world
   not_last i t tagged = λ e. omega (arith, e, slice_get_within core.tags i t tagged, counts.0)
 
-  -- after a step of the seat's caller; what of the core and of the other records it leaves is told
-  pub moved : (new : State) (r' : Record) (words : List ℕ) (homes : List (home.Option Slot)) → new ≡ next g r.number core → r'.number ≡ r.number → new.callers ≡ set core.callers r.number r'.caller
+  -- after a step of the seat, at whose end the state is this one; what of the core, of the other records and of the nodes' words it leaves
+  -- is told
+  pub moved : (new end : State) → Sound g end → (r' : Record) (words : List ℕ) (homes : List (home.Option Slot)) → new ≡ end → r'.number ≡ r.number → new.callers ≡ set core.callers r.number r'.caller
       → AreWords g new words → AreHomes g new homes → ((q : Record) → q.number ≢ r.number → HasCommitted g core q.number q.committed q.taken → HasCommitted g new q.number q.committed q.taken)
-      → HasCommitted g new r.number r'.committed r'.taken → length new.journal + turns_left g new ≤ most_turns
-      → Stands verdict z (record { words = words; homes = homes; views = set s.views seat (view_of z (r' ∷ [])) }) (after g (r.number ∷ steps))
-  moved new r' words homes step same callers words_are homes_are others own few = subst (Stands verdict z _) step stands
+      → HasCommitted g new r.number r'.committed r'.taken → ((q : Record) → q.number ≢ r.number → IsRecord g core q → IsStamped g s.words q → IsStamped g words q) → IsStamped g words r'
+      → length new.journal + turns_left g new ≤ most_turns
+      → Stands verdict z (record { words = words; homes = homes; views = set s.views seat (view_of z (r' ∷ [])) }) end
+  moved new end end_sound r' words homes step same callers words_are homes_are others own others_stamped own_stamped few = subst (Stands verdict z _) step stands
     where
       views : List (View D)
       views = later z s.views seat r r' table.there
@@ -122,13 +124,13 @@ module _ {D : Type 0} {verdict : D → Shown → Verdict} {z : Terms D} {s : Con
         committed = subst (λ c. HasCommitted g new c r'.committed r'.taken) (sym same) own;
       }
 
-      each : (d j : ℕ) (q : Record) → HasRecord views d j q → IsRecord g new q
+      each : (d j : ℕ) (q : Record) → HasRecord views d j q → IsRecord g new q × IsStamped g words q
       each d j q has = elim (cases z s.views seat r r' table.there d j q has) [
-        | inl is ↦ subst (IsRecord g new) is.2 is_new
+        | inl is ↦ (subst (IsRecord g new) is.2 is_new, subst (IsStamped g words) is.2 own_stamped)
         | inr is ↦
             let was = table.stands.views.each d j q is.1 in
             let apart : q.number ≢ r.number = λ e. is.0 (table.stands.views.one d j seat zero q r is.1 (view_of z (r ∷ []), table.there, refl) e).0 in
-            record { caller = ap (λ l. slice_get l q.number) callers ∙ get-set_else core.callers r.number q.number r'.caller apart ∙ was.caller; committed = others q apart was.committed }
+            (record { caller = ap (λ l. slice_get l q.number) callers ∙ get-set_else core.callers r.number q.number r'.caller apart ∙ was.caller; committed = others q apart was.committed }, others_stamped q apart was (table.stands.stamps d j q is.1))
       ]
 
       some : (c : ℕ) → c < length z.lists.ids → (d j : ℕ) × (q : Record) × HasRecord views d j q × (q.number ≡ c)
@@ -143,18 +145,23 @@ module _ {D : Type 0} {verdict : D → Shown → Verdict} {z : Terms D} {s : Con
             | inl is ↦ sym (ap (λ (w : View D). w.terms) is.1)
             | inr is ↦ table.stands.views.terms d j v q is.1 at_j
           ];
-          each = each;
+          each = λ d j q has. (each d j q has).0;
           some = some;
           one = λ d j d' j' q p has has' e. let a = back z s.views seat r r' table.there same d j q has in let b = back z s.views seat r r' table.there same d' j' p has' in table.stands.views.one d j d' j' a.0 b.0 a.1 b.1 (a.2 ∙ e ∙ sym b.2);
           held = subst (λ (c : State). (n : CellName) (t : ℕ) → at c.tags (number z.world.area n) ≡ Some t → t ≢ 0 → (d j : ℕ) × (q : Record) × HasRecord views d j q × ((x : Cell) × Contains q.caller.held (n, x) × (at c.values (number z.world.area n) ≡ Some x))) (sym step)
-              (held_by_record (r.number ∷ steps) views some (λ d j q has. subst (λ c. IsRecord g c q) step (each d j q has)));
+              (held_by_record end end_sound views some (λ d j q has. subst (λ c. IsRecord g c q) step (each d j q has).0));
         };
+        stamps = λ d j q has. (each d j q has).1;
         few = few;
       }
 
+  pub my_stamps : IsStamped g s.words r
+  my_stamps = table.stands.stamps seat zero r (view_of z (r ∷ []), table.there, refl)
+
   -- the same where the journal and its holder are as before, and no mark goes
-  pub moves : (new : State) (k : Caller) (words : List ℕ) (homes : List (home.Option Slot)) → new ≡ next g r.number core → new.callers ≡ set core.callers r.number k → new.journal ≡ core.journal → new.holder ≡ core.holder → turns_left g new ≤ turns_left g core
-      → AreWords g new words → AreHomes g new homes → Stands verdict z (record { words = words; homes = homes; views = set s.views seat (view_of z (record r { caller = k } ∷ [])) }) (after g (r.number ∷ steps))
-  moves new k words homes step callers journal holder fewer words_are homes_are = moved new (record r { caller = k }) words homes step refl callers words_are homes_are
-      (λ q apart. committed_stays g core new q.number q.committed q.taken journal holder fewer) (committed_stays g core new r.number r.committed r.taken journal holder fewer mine.committed)
+  pub moves : (new end : State) → Sound g end → (k : Caller) (won : List Note) (note : Option Note) (words : List ℕ) (homes : List (home.Option Slot)) → new ≡ end → new.callers ≡ set core.callers r.number k → new.journal ≡ core.journal → new.holder ≡ core.holder → turns_left g new ≤ turns_left g core
+      → AreWords g new words → AreHomes g new homes → ((q : Record) → q.number ≢ r.number → IsRecord g core q → IsStamped g s.words q → IsStamped g words q) → IsStamped g words (record r { caller = k; won = won; note = note })
+      → Stands verdict z (record { words = words; homes = homes; views = set s.views seat (view_of z (record r { caller = k; won = won; note = note } ∷ [])) }) end
+  moves new end end_sound k won note words homes step callers journal holder fewer words_are homes_are others own = moved new end end_sound (record r { caller = k; won = won; note = note }) words homes step refl callers words_are homes_are
+      (λ q apart. committed_stays g core new q.number q.committed q.taken journal holder fewer) (committed_stays g core new r.number r.committed r.taken journal holder fewer mine.committed) others own
       (omega (arith, fewer, table.stands.few, ap (λ (es : List _). length es) journal))

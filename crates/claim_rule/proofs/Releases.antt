@@ -1,5 +1,5 @@
 -- The release of the cell that was won last keeps the rule.
-use Rattle.std.proofs.Common.{◌≡◌, ℕ, ◌<◌, ◌≤◌, List, [], ◌∷◌, length, set, length-set, Some, inl, inr, ap, sym, refl, subst, ◌∙◌, arith}
+use Rattle.std.proofs.Common.{◌≡◌, ℕ, ◌+◌, ◌<◌, ◌≤◌, List, [], ◌∷◌, length, set, length-set, Some, inl, inr, ap, sym, refl, subst, ◌∙◌, arith}
 use Rattle.std.specs.Prelude.{slice_get}
 use Rattle.std.specs.List.{All}
 use Rattle.std.proofs.lemmas.List.Elements.{All-head}
@@ -13,8 +13,8 @@ use Rattle.amoebot_state.specs.declared.verdict.Verdict.{Verdict}
 use Rattle.amoebot_state.specs.Pairs.{Pairs}
 use Rattle.amoebot_state.specs.Zones.{Shown}
 use Rattle.amoebot_state.specs.Storage.{put_at}
-use Rattle.claim_core.specs.Cells.{number, at, values_of, cells}
-use Rattle.claim_core.specs.Machine.{Setup, State, freeing_caller, releases, by_phase, acts, next, after}
+use Rattle.claim_core.specs.Cells.{number, at, values_of}
+use Rattle.claim_core.specs.Machine.{Setup, State, freeing_caller, releases, by_phase, acts, next}
 use Rattle.claim_core.specs.Soundness.{IsSetup, IsHeld}
 use Rattle.claim_core.proofs.Nexts.{frees-marks}
 use Rattle.claim_core.proofs.Numbers.{value_at, value_held}
@@ -25,26 +25,27 @@ use Rattle.claim_rule.specs.declared.views.Slot.TheVariants as slot
 use Rattle.claim_rule.specs.declared.views.Record.{Record}
 use Rattle.claim_rule.specs.declared.views.Terms.{Terms}
 use Rattle.claim_rule.specs.Views.{Content, Seated, view_of, own, setup_of_terms}
-use Rattle.claim_rule.specs.Stands.{turns_left, AreWords, AreHomes, KeepsRule}
+use Rattle.claim_rule.specs.Stands.{first_plain, slot_of, journal_slot, IsWon, AreWon, IsStamped, turns_left, AreWords, AreHomes, KeepsRule}
 use Rattle.claim_rule.specs.Plays.{but_last, released_caller, IsToFree, Releases}
-use Rattle.claim_rule.specs.Nexts.{GoesOn, IsAt}
-use Rattle.claim_rule.proofs.Tables.{tag_written, homes_kept}
-use Rattle.claim_rule.proofs.Moves.{sound, caller_at, counts, moves, journal_stays}
+use Rattle.claim_rule.specs.Nexts.{GoesTo, IsAt}
+use Rattle.claim_rule.proofs.Tables.{slot_is, won_behind, plain_written, stamped_alike}
+use Rattle.claim_rule.proofs.NodeReleases.{frees_won}
+use Rattle.claim_rule.specs.Words.{word_occ, word_stamp}
+use Rattle.std.proofs.lemmas.List.{get_or-set_other}
+use Rattle.claim_core.specs.declared.state.Caller.{Caller}
+use Rattle.claim_rule.proofs.Moves.{sound, on, caller_at, counts, moves, my_stamps, journal_stays}
 use Rattle.claim_rule.proofs.NextsLemmas.{turns_same, allowed}
 
-module _ {D : Type 0} {verdict : D → Shown → Verdict} {z : Terms D} {s : Content D} {steps : List ℕ} {seat : ℕ} {r : Record} (table : IsAt verdict z s steps seat r) where
+module _ {D : Type 0} {verdict : D → Shown → Verdict} {z : Terms D} {s : Content D} {core : State} {seat : ℕ} {r : Record} (table : IsAt verdict z s core seat r) where
   abbrev g : Setup
   g = setup_of_terms verdict z
 
-  abbrev core : State
-  core = after g steps
-
-  pub release_goes : (i slots : ℕ) (carried : List (ℕ × Slot)) → IsToFree verdict i (view_of z (r ∷ []), carried) → GoesOn verdict z s steps i seat (view_of z (r ∷ []), carried) (λ _. Releases verdict (step slots i 0 0 home.none) (view_of z (r ∷ []), carried) 0) 0
+  pub release_goes : (i slots : ℕ) (carried : List (ℕ × Slot)) → IsToFree verdict i (view_of z (r ∷ []), carried) → GoesTo verdict z s (next g r.number core) i seat (view_of z (r ∷ []), carried) (λ _. Releases verdict (step slots i 0 0 home.none) (view_of z (r ∷ []), carried) 0) 0
   release_goes i slots carried to = (
     view_of z (record r { caller = released_caller g r.caller } ∷ []),
     gives,
     tt,
-    moves table new (released_caller g r.caller) (set s.words i 0) (put_back s.homes carried) leads callers refl refl fewer words homes,
+    moves table new (next g r.number core) (on table) (released_caller g r.caller) r.won r.note (set s.words i 0) (put_back s.homes carried) leads callers refl refl fewer words homes (λ q apart rec st. still q st) mine,
     (refl, refl),
   )
     where
@@ -63,6 +64,18 @@ module _ {D : Type 0} {verdict : D → Shown → Verdict} {z : Terms D} {s : Con
       numbered : number z.world.area n ≡ Some i
       numbered = to.last.5
 
+      at_slot : ℕ
+      at_slot = slot_of n
+
+      is_i : first_plain z.world + at_slot ≡ i
+      is_i = slot_is g n i numbered to.plain
+
+      slot_few : at_slot < journal_slot z.world
+      slot_few = let e = is_i in omega (arith, e, to.inside)
+
+      still : (q : Record) → IsStamped g s.words q → IsStamped g (set s.words i 0) q
+      still q = stamped_alike g s.words (set s.words i 0) (λ k lt. let e = get_or-set_other s.words i k 0 0 (λ c. omega (arith, c, to.plain, lt)) in (ap word_occ e, ap word_stamp e)) q
+
       inside : i < length core.tags
       inside = omega (arith, to.inside, (counts table).0)
 
@@ -75,6 +88,13 @@ module _ {D : Type 0} {verdict : D → Shown → Verdict} {z : Terms D} {s : Con
       same : released_caller g r.caller ≡ freeing_caller g r.caller.turn held r.caller.marks
       same = ap (λ h. freeing_caller g r.caller.turn (but_last h) r.caller.marks) is_held
 
+      mine : IsStamped g (set s.words i 0) (record r { caller = released_caller g r.caller; won = r.won; note = r.note })
+      mine = record {
+        won = subst (λ (k : Caller). AreWon (IsWon g (set s.words i 0) k.turn k.marks) k.held r.won) (sym same) (frees_won g (set s.words i 0) r.caller.turn held r.caller.marks r.won
+            (won_behind g (IsWon g (set s.words i 0) r.caller.turn r.caller.marks) n x held r.won i numbered to.plain (subst (λ (ps : Pairs). AreWon (IsWon g (set s.words i 0) r.caller.turn r.caller.marks) ps r.won) is_held (still r (my_stamps table)).won)));
+        noted = (still r (my_stamps table)).noted;
+      }
+
       callers : new.callers ≡ set core.callers r.number (released_caller g r.caller)
       callers = ap (set core.callers r.number) (sym same)
 
@@ -85,7 +105,7 @@ module _ {D : Type 0} {verdict : D → Shown → Verdict} {z : Terms D} {s : Con
       tags = ap (λ o. put_at core.tags o 0) numbered
 
       words : AreWords g new (set s.words i 0)
-      words = tag_written g core new s.words i 0 table.stands.words to.inside inside tags refl
+      words = plain_written g core new s.words i 0 table.stands.words to.plain to.inside inside tags refl refl refl
 
       -- the value that the cell has in the state is the one that was recorded
       value : (y : Cell) → at core.values (number z.world.area n) ≡ Some y → x ≡ y
@@ -94,20 +114,24 @@ module _ {D : Type 0} {verdict : D → Shown → Verdict} {z : Terms D} {s : Con
           let has = value_at (sound table).last n y (ap (λ a. at (values_of (sound table).last) (number a n)) (same_area g table.run core (sound table)) ∙ ap (λ xs. at xs (number z.world.area n)) (sym (sound table).values) ∙ e) in
           sym (has ∙ value_held (sound table).last n x is.value)
 
-      put_is : put_back s.homes carried ≡ set s.homes i (home.some (slot.Cell x))
+      put_is : put_back s.homes carried ≡ set s.homes at_slot (home.some (slot.Cell x))
       put_is = ap (put_back s.homes) to.last.6
 
       homes : AreHomes g new (put_back s.homes carried)
-      homes = subst (AreHomes g new) (sym put_is) (homes_kept g core new s.homes (set s.homes i (home.some (slot.Cell x))) table.stands.homes (length-set s.homes i (home.some (slot.Cell x)))
-          (λ j y e v. elim (get-set_cases core.tags i j 0 0 (ap (λ ts. slice_get ts j) (sym tags) ∙ e)) [
-            | inl here ↦ subst (λ (q : ℕ × Cell). get_elem? (set s.homes i (home.some (slot.Cell x))) q.0 ≡ home.some (home.some (slot.Cell q.1))) (λ l. (sym here.0 l, value y (ap (at core.values) numbered ∙ ap (slice_get core.values) (sym here.0) ∙ v) l))
-                (set_here s.homes i (home.some (slot.Cell x)) (omega (arith, to.inside, table.stands.homes.count)))
-            | inr was ↦ set_else s.homes i j (home.some (slot.Cell x)) was.0 ∙ table.stands.homes.cell j y was.1 v
-          ])
-          (set_else s.homes i (cells g.world) (home.some (slot.Cell x)) (λ e. omega (arith, e, to.inside))) refl (journal_stays g core new refl fewer))
+      homes = subst (AreHomes g new) (sym put_is) (record {
+        count = length-set s.homes at_slot (home.some (slot.Cell x)) ∙ table.stands.homes.count;
+        cell = λ j y e v. elim (get-set_cases core.tags i (first_plain z.world + j) 0 0 (ap (λ ts. slice_get ts (first_plain z.world + j)) (sym tags) ∙ e)) [
+          | inl here ↦
+              let same_j : at_slot ≡ j = (let p = here.0 in let q = is_i in omega (arith, p, q)) in
+              subst (λ (q : ℕ × Cell). get_elem? (set s.homes at_slot (home.some (slot.Cell x))) q.0 ≡ home.some (home.some (slot.Cell q.1))) (λ l. (same_j l, value y (ap (at core.values) numbered ∙ ap (slice_get core.values) (sym here.0) ∙ v) l))
+              (set_here s.homes at_slot (home.some (slot.Cell x)) (omega (arith, slot_few, table.stands.homes.count)))
+          | inr was ↦ set_else s.homes at_slot j (home.some (slot.Cell x)) (λ q. was.0 (ap (λ m. first_plain z.world + m) q ∙ is_i)) ∙ table.stands.homes.cell j y was.1 v
+        ];
+        journal = λ none. let was = table.stands.homes.journal none in (was.0, set_else s.homes at_slot (journal_slot z.world) (home.some (slot.Cell x)) (λ q. omega (arith, q, slot_few)) ∙ was.1, journal_stays g core new refl fewer was.0 was.2);
+      })
 
 module _ {D : Type 0} (verdict : D → Shown → Verdict) (z : Terms D) (ok : IsSetup (setup_of_terms verdict z)) where
   pub release_allowed : (slots seat : ℕ) (me : Seated D) (i : ℕ) → me.0 ≡ view_of z (own me.0 ∷ []) → IsToFree verdict i me → Allows (KeepsRule verdict z) slots seat me i (λ _. 0) (λ _. Releases verdict (step slots i 0 0 home.none) me 0)
   release_allowed slots seat me i one to =
       allowed verdict z ok slots seat me i (λ _. 0) (IsToFree verdict i) (λ m _. Releases verdict (step slots i 0 0 home.none) m 0) one to
-      (λ s steps r table fact. release_goes table i slots me.1 fact)
+      (λ s core r table fact. inl (release_goes table i slots me.1 fact))

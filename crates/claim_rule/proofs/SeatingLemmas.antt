@@ -65,6 +65,7 @@ module _ {D : Type 0} (verdict : D → Shown → Verdict) (z : Terms D) where
       one = one;
       held = λ n t there tagged. let was = st.views.held n t there tagged in let now = forth was.0 was.1 was.2 was.3 in (now.0, now.1, was.2, now.2, was.4);
     };
+    stamps = λ d j q has. let was = back d j q has in st.stamps was.0 was.1 q was.2;
     few = st.few;
   }
 

@@ -1,35 +1,40 @@
 -- What a caller keeps that takes the journal, and that commits.
-use Rattle.std.proofs.Common.{◌≡◌, ℕ, ◌+◌, ◌*◌, ◌<◌, List, [], ◌∷◌, ◌++◌, map, length, ap, sym, refl, subst, ◌∙◌, arith, length-append}
+use Rattle.std.proofs.Common.{◌≡◌, ℕ, ◌+◌, ◌*◌, ◌<◌, List, [], ◌∷◌, ◌++◌, map, length, inl, inr, ap, sym, refl, subst, ◌∙◌, arith, length-append}
+use Rattle.std.specs.Prelude.{slice_get}
 use Rattle.std.proofs.lemmas.List.{length-map}
 use Rattle.std.proofs.lemmas.List.Elements.{All-map}
 use Rattle.std.proofs.lemmas.Option.{same_Some}
 use Rattle.atomic_table.specs.Table.{rest}
-use Rattle.tri_lattice.specs.Extent.{Extent}
+use Rattle.tri_lattice.specs.declared.node.Node.{Node}
 use Rattle.amoebot_state.specs.declared.cell.CellName.{CellName}
+use Rattle.amoebot_state.specs.declared.cell.CellName.TheVariants as name
 use Rattle.amoebot_state.specs.declared.cell.Cell.{Cell}
 use Rattle.amoebot_state.specs.declared.verdict.Change.{Change}
 use Rattle.amoebot_state.specs.declared.verdict.Entry.{Entry}
 use Rattle.amoebot_state.specs.declared.verdict.Verdict.{Verdict}
 use Rattle.amoebot_state.specs.Pairs.{Pairs, cell_of}
+use Rattle.amoebot_state.specs.Configs.{Config}
 use Rattle.amoebot_state.specs.Zones.{Shown}
+use Rattle.amoebot_state.proofs.Fronts.{slice_get_behind}
 use Rattle.amoebot_state.specs.Steps.{entry_of}
 use Rattle.claim_core.specs.declared.marks.Mark.{Mark}
 use Rattle.claim_core.specs.declared.marks.Mark.TheVariants as mark
 use Rattle.claim_core.specs.declared.state.Caller.{Caller}
 use Rattle.claim_core.specs.declared.state.Phase.{Phase}
-use Rattle.claim_core.specs.declared.state.Phase.TheVariants.{Taking, Committing}
-use Rattle.claim_core.specs.Cells.{cells}
+use Rattle.claim_core.specs.declared.state.Phase.TheVariants.{Taking, Committing, Releasing}
 use Rattle.claim_core.specs.Turns.{Kept}
 use Rattle.claim_core.specs.Machine.{Setup, entry, freeing_caller, patched_pair}
 use Rattle.claim_core.proofs.Nexts.{frees-marks, frees-held}
 use Rattle.claim_rule.specs.declared.views.Slot.{Slot}
 use Rattle.claim_rule.specs.declared.views.Slot.TheVariants as slot
+use Rattle.claim_rule.specs.declared.views.Note.{Note}
 use Rattle.claim_rule.specs.declared.views.Record.{Record}
 use Rattle.claim_rule.specs.declared.views.View.{View}
 use Rattle.claim_rule.specs.Views.{Seated, own, like}
+use Rattle.claim_rule.specs.Stands.{journal_slot}
 use Rattle.claim_rule.specs.Plays.{IsPlaced, about}
 use Rattle.claim_rule.specs.Commits.{HasRoomForEntry, GotJournal, IsPushed, IsToCommit, Commits, with_journal, with_commit}
-use Rattle.claim_rule.specs.Tokens.{emptied, IsActivation, HoldsWholeZone, IsFreeing}
+use Rattle.claim_rule.specs.Tokens.{emptied, nodes_held, IsActivation, HoldsWholeZone, IsFreeing}
 use Rattle.claim_rule.specs.Settling.{untaken, IsTaken}
 use Rattle.claim_rule.proofs.ActivationLemmas.{with_held, stays, whole_some}
 
@@ -46,19 +51,28 @@ journal_or d ((i, slot.Cell x) ∷ out) = d
 journal_or d ((i, slot.Journal j) ∷ out) = j
 
 -- new values leave the cells
-emptied_renewed : (a : Extent) (patch xs : Pairs) → map (emptied a) (map (patched_pair patch) xs) ≡ map (emptied a) xs
-emptied_renewed a patch [] = refl
-emptied_renewed a patch (x ∷ xs) = ap (λ out. emptied a x ∷ out) (emptied_renewed a patch xs)
+emptied_renewed : (patch xs : Pairs) → emptied (map (patched_pair patch) xs) ≡ emptied xs
+emptied_renewed patch [] = refl
+emptied_renewed patch ((name.Spot v, x) ∷ xs) = emptied_renewed patch xs
+emptied_renewed patch ((name.Body i, x) ∷ xs) = ap (λ (out : List (ℕ × Slot)). (i, slot.Empty) ∷ out) (emptied_renewed patch xs)
 
-module _ {D : Type 0} (verdict : D → Shown → Verdict) (m : Seated D) (c t b : ℕ) (a : Extent) (greatest : List ℕ) (pairs : Pairs) where
+nodes_renewed : (patch xs : Pairs) → nodes_held (map (patched_pair patch) xs) ≡ nodes_held xs
+nodes_renewed patch [] = refl
+nodes_renewed patch ((name.Spot v, x) ∷ xs) = ap (λ (vs : List Node). v ∷ vs) (nodes_renewed patch xs)
+nodes_renewed patch ((name.Body i, x) ∷ xs) = nodes_renewed patch xs
+
+not_released : (change : Change) → Taking change ≡ Releasing → ⊥
+not_released change e = cc
+
+module _ {D : Type 0} (verdict : D → Shown → Verdict) (m : Seated D) (c t b : ℕ) (bare : Config) (pairs : Pairs) (notes : List Note) where
   abbrev g : Setup
   g = about verdict m.0
 
   -- the journal was got
-  pub got_it : (told : Shown) (change : Change) (i : ℕ) (m' m2 : Seated D) (j : Kept) → IsActivation verdict m c t b a greatest pairs → HoldsWholeZone verdict m t b pairs told → (own m.0).caller.phase ≡ Taking change → i ≡ cells g.world
+  pub got_it : (told : Shown) (after : ℕ) (change : Change) (i : ℕ) (m' m2 : Seated D) (j : Kept) → IsActivation verdict m c t b bare pairs notes → HoldsWholeZone verdict m t b pairs told after → (own m.0).caller.phase ≡ Taking change → i ≡ journal_slot g.world
       → GotJournal i m m' → m'.1 ≡ (i, slot.Journal j) ∷ rest m'.1 → m2 ≡ (m'.0, (i, slot.Empty) ∷ rest m'.1)
-      → IsTaken verdict m2 c t b a greatest pairs change j × (m2.0 ≡ like m.0 (with_journal (own m.0) change j ∷ []))
-  got_it told change i m' m2 j is wh phase at_i got read taken_out = (subst (λ q. IsTaken verdict q c t b a greatest pairs change j) (sym now) after, ap (λ (q : Seated D). q.0) now)
+      → IsTaken verdict m2 c t b bare pairs notes change j × (m2.0 ≡ like m.0 (with_journal (own m.0) change j ∷ []))
+  got_it told after_mark change i m' m2 j is wh phase at_i got read taken_out = (subst (λ q. IsTaken verdict q c t b bare pairs notes change j) (sym now) after, ap (λ (q : Seated D). q.0) now)
     where
       same_change : got.change ≡ change
       same_change = ap (change_or change) (sym got.phase ∙ phase)
@@ -69,17 +83,24 @@ module _ {D : Type 0} (verdict : D → Shown → Verdict) (m : Seated D) (c t b 
       v : View D
       v = like m.0 (with_journal (own m.0) change j ∷ [])
 
-      now : m2 ≡ (v, (cells g.world, slot.Empty) ∷ m.1)
+      now : m2 ≡ (v, (journal_slot g.world, slot.Empty) ∷ m.1)
       now = taken_out ∙ (λ q. ((got.now ∙ (λ p. like m.0 (with_journal (own m.0) (same_change p) (same_journal p) ∷ []))) q, (at_i q, slot.Empty) ∷ rest (got.out q)))
 
       k : Caller
       k = record (own m.0).caller { phase = Committing change }
 
-      after : IsTaken verdict (v, (cells g.world, slot.Empty) ∷ m.1) c t b a greatest pairs change j
+      counted : length (own m.0).caller.marks ≡ t
+      counted = elim wh.phase [
+        | inl decided ↦ decided.1
+        | inr released ↦ absurd (not_released change (sym phase ∙ released.0))
+      ]
+
+      after : IsTaken verdict (v, (journal_slot g.world, slot.Empty) ∷ m.1) c t b bare pairs notes change j
       after = record {
         alone = refl;
-        activation = stays verdict m c t b a greatest pairs is (untaken (v, (cells g.world, slot.Empty) ∷ m.1)) k (λ p. like m.0 (record (own m.0) { caller = k; taken = sym is.taken p } ∷ [])) refl refl;
+        activation = stays verdict m c t b bare pairs notes is (untaken (v, (journal_slot g.world, slot.Empty) ∷ m.1)) k (λ p. like m.0 (record (own m.0) { caller = k; taken = sym is.taken p } ∷ [])) refl refl;
         turn = wh.turn;
+        counted = counted;
         whole = wh.whole;
         phase = refl;
         taken = refl;
@@ -87,7 +108,7 @@ module _ {D : Type 0} (verdict : D → Shown → Verdict) (m : Seated D) (c t b 
         out = refl;
       }
 
-  module _ (change : Change) (j : Kept) (tk : IsTaken verdict m c t b a greatest pairs change j) where
+  module _ (change : Change) (j : Kept) (tk : IsTaken verdict m c t b bare pairs notes change j) where
     entry_is : entry g (own m.0).number (own m.0).caller.turn change ≡ entry_of c t b change
     entry_is = λ p. entry_of (tk.activation.number p) (tk.turn p) (((λ q. Rattle.claim_core.specs.Machine.bot g (tk.activation.number q) (tk.turn q)) ∙ sym tk.activation.bot) p) change
 
@@ -108,10 +129,10 @@ module _ {D : Type 0} (verdict : D → Shown → Verdict) (m : Seated D) (c t b 
 
     -- and afterwards it is
     pub has_stored : (i place : ℕ) (next : Kept) (m' m2 : Seated D) (news : Pairs) → m' ≡ (m.0, (i, slot.Journal next) ∷ rest m.1) → (n : ℕ) × Commits verdict m'.0 m2.0 n → m2.1 ≡ rest m'.1 → place ≡ length j.entries → news ≡ map (patched_pair change.patch) pairs
-        → IsActivation verdict m2 c t b a greatest news × IsFreeing verdict m2 t news × (0 < length news) × (m2.0 ≡ like m.0 (with_commit g (own m.0) change place ∷ []))
+        → IsActivation verdict m2 c t b bare news notes × IsFreeing verdict m2 t news (place + 1) × (0 < length news) × (m2.0 ≡ like m.0 (with_commit g (own m.0) change place ∷ []))
     has_stored i place next m' m2 news now told out place_is news_are = (
-      subst (λ (q : Seated D × Pairs). IsActivation verdict q.0 c t b a greatest q.1) (λ p. (sym now2 p, sym news_are p)) after,
-      subst (λ (q : Seated D × Pairs). IsFreeing verdict q.0 t q.1) (λ p. (sym now2 p, sym news_are p)) freeing,
+      subst (λ (q : Seated D × Pairs). IsActivation verdict q.0 c t b bare q.1 notes) (λ p. (sym now2 p, sym news_are p)) after,
+      subst (λ (q : Seated D × Pairs). IsFreeing verdict q.0 t q.1 (place + 1)) (λ p. (sym now2 p, sym news_are p)) freeing,
       subst (λ (ps : Pairs). 0 < length ps) (sym news_are) some,
       ap (λ (q : Seated D). q.0) now2,
     )
@@ -143,9 +164,22 @@ module _ {D : Type 0} (verdict : D → Shown → Verdict) (m : Seated D) (c t b 
         some : 0 < length ps
         some = let one = whole_some g b pairs tk.whole in omega (arith, one, length-map pairs (patched_pair change.patch))
 
-        after : IsActivation verdict (like m.0 (r ∷ []), rest m.1) c t b a greatest ps
-        after = with_held verdict (untaken m) c t b a greatest pairs tk.activation r (rest m.1) ps tk.activation.number refl (ap (λ (q : Caller). q.held) k_is ∙ frees-held g t ps ms)
-            (All-map (λ (p : CellName × Cell). (n : ℕ) × IsPlaced g (cell_of p) n) (patched_pair change.patch) pairs tk.activation.placed) (tk.activation.out ∙ sym (emptied_renewed a change.patch pairs))
+        after : IsActivation verdict (like m.0 (r ∷ []), rest m.1) c t b bare ps notes
+        after = with_held verdict (untaken m) c t b bare pairs notes tk.activation r (rest m.1) ps notes tk.activation.few tk.activation.number refl (ap (λ (q : Caller). q.held) k_is ∙ frees-held g t ps ms)
+            (All-map (λ (p : CellName × Cell). (n : ℕ) × IsPlaced g (cell_of p) n) (patched_pair change.patch) pairs tk.activation.placed) tk.activation.won tk.activation.note
+            (tk.activation.nodes ∙ sym (nodes_renewed change.patch pairs)) (tk.activation.out ∙ sym (emptied_renewed change.patch pairs))
 
-        freeing : IsFreeing verdict (like m.0 (r ∷ []), rest m.1) t ps
-        freeing = k_is ∙ ap (freeing_caller g t ps) (sym (ap (λ (q : Caller). q.marks) k_is ∙ frees-marks g t ps ms))
+        marks_are : r.caller.marks ≡ ms
+        marks_are = ap (λ (q : Caller). q.marks) k_is ∙ frees-marks g t ps ms
+
+        freeing : IsFreeing verdict (like m.0 (r ∷ []), rest m.1) t ps (place + 1)
+        freeing = record {
+          caller = k_is ∙ ap (freeing_caller g t ps) (sym marks_are);
+          marked = record {
+            mark = mark.Done place;
+            counted = ap (λ (q : List Mark). length q) marks_are ∙ length-append (own m.0).caller.marks (mark.Done place ∷ []) ∙ ap (λ n. n + 1) tk.counted;
+            there = ap (λ q. slice_get q t) marks_are ∙ ap (slice_get ms) (sym tk.counted) ∙ slice_get_behind (own m.0).caller.marks (mark.Done place) [];
+            stamp = refl;
+            few = (let e = place_is in let f = tk.room.few in omega (arith, e, f));
+          };
+        }

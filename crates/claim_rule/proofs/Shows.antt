@@ -30,7 +30,7 @@ module _ (g : Setup) (ok : IsSetup g) (s : State) (sound : Sound g s) (c : ℕ) 
   whole Releasing front holds = absurd holds
   whole Ended front holds = absurd holds
 
-  shows : HoldsZone k.phase → found g b k.held ≡ shown sound.last b
+  pub shows : HoldsZone k.phase → found g b k.held ≡ shown sound.last b
   shows holds =
       let is : CallerOk g s sound.last c k = sound.each c k there in
       (λ i. let a : Shown = record { area = sym (same_area g ok s sound) i; maxes = ap (λ (x : Config). x.maxes) (sym (framed g ok s sound).rest) i; bot = b; cells = reverse k.held } in a)

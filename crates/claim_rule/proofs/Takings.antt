@@ -1,10 +1,10 @@
 -- A try to take the journal keeps the rule, and tells whether it was got.
-use Rattle.std.proofs.Common.{◌≡◌, ◌≢◌, ℕ, ◌+◌, ◌*◌, ◌%◌, ◌^◌, ◌<◌, ◌≤◌, List, [], ◌∷◌, length, set, length-set, bit_or, Option, Some, None, ap, sym, refl, subst, ◌∙◌, arith, suc-ne-zero}
+use Rattle.std.proofs.Common.{◌≡◌, ◌≢◌, ℕ, ◌+◌, ◌*◌, ◌%◌, ◌^◌, ◌<◌, ◌≤◌, List, [], ◌∷◌, length, set, length-set, bit_or, Option, Some, None, inl, ap, sym, refl, subst, ◌∙◌, arith, suc-ne-zero}
 use Rattle.std.specs.Prelude.{slice_index}
 use Rattle.std.specs.Int.Bits.{or_zero_r}
 use Rattle.std.proofs.lemmas.Nat.{or_block}
 use Rattle.std.proofs.lemmas.List.{set-set}
-use Rattle.std.proofs.lemmas.Option.{none-some, same_Some}
+use Rattle.std.proofs.lemmas.Option.{none-some, same_Some, slice_get_within}
 use Rattle.std.specs.Option.{option_len}
 use mathlib.Core.Option as home
 use lib.ListN.{get_elem?}
@@ -17,7 +17,7 @@ use Rattle.claim_core.specs.declared.state.Phase.TheVariants.{Taking, Committing
 use Rattle.claim_core.specs.Cells.{cells}
 use Rattle.claim_core.specs.Limits.{most_turns}
 use Rattle.claim_core.specs.Turns.{Kept}
-use Rattle.claim_core.specs.Machine.{Setup, State, by_phase, acts, next, after}
+use Rattle.claim_core.specs.Machine.{Setup, State, by_phase, acts, next}
 use Rattle.claim_core.specs.Machine as machine
 use Rattle.claim_core.specs.Soundness.{IsSetup, IsTurn, marked}
 use Rattle.claim_rule.specs.declared.views.Slot.{Slot}
@@ -25,13 +25,15 @@ use Rattle.claim_rule.specs.declared.views.Slot.TheVariants as slot
 use Rattle.claim_rule.specs.declared.views.Record.{Record}
 use Rattle.claim_rule.specs.declared.views.Terms.{Terms}
 use Rattle.claim_rule.specs.Views.{Content, Seated, view_of, own, setup_of_terms}
-use Rattle.claim_rule.specs.Stands.{turns_left, IsCoreJournal, HasCommitted, AreWords, AreHomes, KeepsRule}
+use Rattle.claim_rule.specs.Stands.{first_plain, journal_slot, turns_left, IsCoreJournal, HasCommitted, AreWords, AreHomes, KeepsRule}
 use Rattle.claim_rule.specs.Commits.{Takes, HasRoomForEntry, with_journal, took}
-use Rattle.claim_rule.specs.Nexts.{GoesOn, IsAt}
-use Rattle.claim_rule.proofs.Tables.{journal_written}
-use Rattle.claim_rule.proofs.Moves.{sound, mine, caller_at, not_last, moved, moves, taken_else, journal_stays}
+use Rattle.claim_rule.specs.Nexts.{GoesTo, IsAt}
+use Rattle.claim_rule.proofs.Tables.{journal_written, journal_else, stamped_alike}
+use Rattle.claim_rule.proofs.Moves.{sound, on, counts, mine, caller_at, my_stamps, moved, moves, taken_else, journal_stays}
 use Rattle.claim_rule.proofs.NextsLemmas.{turns_same, allowed}
 use Rattle.claim_rule.proofs.SeatsLemmas.{set_back}
+use Rattle.claim_rule.specs.Words.{word_occ, word_stamp}
+use Rattle.claim_rule.specs.Stands.{IsStamped}
 use Rattle.claim_rule.proofs.MarkLemmas.{some_left}
 
 -- the journal's word is odd exactly where it has a holder, and is odd after the try
@@ -50,12 +52,9 @@ made_odd n o = by o (or_block 1 n 0 (option_len o) 1 (small o) (omega arith))
     by None e = ap (λ (x : ℕ). bit_or x 1) (let q : 2 * n + 0 ≡ n * 2 ^ 1 + 0 = omega arith in q) ∙ (e ∙ (ap (λ (m : ℕ). m * 2 ^ 1 + 1) (or_zero_r n) ∙ (let q : n * 2 ^ 1 + 1 ≡ 2 * n + 1 = omega arith in q)))
     by (Some c) e = ap (λ (x : ℕ). bit_or x 1) (let q : 2 * n + 1 ≡ n * 2 ^ 1 + 1 = omega arith in q) ∙ (e ∙ (ap (λ (m : ℕ). m * 2 ^ 1 + 1) (or_zero_r n) ∙ (let q : n * 2 ^ 1 + 1 ≡ 2 * n + 1 = omega arith in q)))
 
-module _ {D : Type 0} {verdict : D → Shown → Verdict} {z : Terms D} {s : Content D} {steps : List ℕ} {seat : ℕ} {r : Record} (table : IsAt verdict z s steps seat r) where
+module _ {D : Type 0} {verdict : D → Shown → Verdict} {z : Terms D} {s : Content D} {core : State} {seat : ℕ} {r : Record} (table : IsAt verdict z s core seat r) where
   abbrev g : Setup
   g = setup_of_terms verdict z
-
-  abbrev core : State
-  core = after g steps
 
   abbrev last : ℕ
   last = cells z.world
@@ -64,7 +63,10 @@ module _ {D : Type 0} {verdict : D → Shown → Verdict} {z : Terms D} {s : Con
   old = slice_index s.words last
 
   abbrev Goes : Type 0
-  Goes = (slots : ℕ) (carried : List (ℕ × Slot)) → GoesOn verdict z s steps last seat (view_of z (r ∷ []), carried) (took (step slots last 1 0 home.none) (view_of z (r ∷ []), carried)) (bit_or old 1)
+  Goes = (slots : ℕ) (carried : List (ℕ × Slot)) → GoesTo verdict z s (next g r.number core) last seat (view_of z (r ∷ []), carried) (took verdict (step slots last 1 0 home.none) (view_of z (r ∷ []), carried)) (bit_or old 1)
+
+  still : (x : ℕ) (q : Record) → IsStamped g s.words q → IsStamped g (set s.words last x) q
+  still x q = stamped_alike g s.words (set s.words last x) (λ k lt. (ap word_occ (journal_else g s.words x k lt), ap word_stamp (journal_else g s.words x k lt))) q
 
   module _ (change : Change) (p : r.caller.phase ≡ Taking change) where
     leads_by : (o : Option ℕ) → core.holder ≡ o → next g r.number core ≡ machine.takes g r.number core r.caller change o
@@ -79,7 +81,7 @@ module _ {D : Type 0} {verdict : D → Shown → Verdict} {z : Terms D} {s : Con
       view_of z (r ∷ []),
       keeps,
       tt,
-      moves table core r.caller (set s.words last (bit_or old 1)) s.homes (sym (leads_by (Some d) e)) same_callers refl refl (omega arith) words table.stands.homes,
+      moves table core (next g r.number core) (on table) r.caller r.won r.note (set s.words last (bit_or old 1)) s.homes (sym (leads_by (Some d) e)) same_callers refl refl (omega arith) words table.stands.homes (λ q apart rec st. still (bit_or old 1) q st) (still (bit_or old 1) r (my_stamps table)),
       ((λ even. absurd (suc-ne-zero 0 (sym (ap (λ x. x % 2) (word_is (Some d) e) ∙ odd (length core.journal) (Some d)) ∙ even))), λ _. refl),
     )
       where
@@ -90,19 +92,19 @@ module _ {D : Type 0} {verdict : D → Shown → Verdict} {z : Terms D} {s : Con
         word_stays = ap (λ x. bit_or x 1) (word_is (Some d) e) ∙ made_odd (length core.journal) (Some d) ∙ sym (word_is (Some d) e)
 
         words : AreWords g core (set s.words last (bit_or old 1))
-        words = journal_written g core core s.words (bit_or old 1) table.stands.words refl (word_stays ∙ table.stands.words.journal)
+        words = journal_written g core core s.words (bit_or old 1) table.stands.words refl (λ k none. refl) (omega arith) (word_stays ∙ table.stands.words.journal)
 
     -- nobody has it
     hits : core.holder ≡ None → Goes
     hits e slots carried = (
       view_of z (with_journal r change j ∷ []),
-      takes last (slot.Journal j),
+      takes (journal_slot z.world) (slot.Journal j),
       has.1,
-      moved table new (with_journal r change j) (set s.words last (bit_or old 1)) (set s.homes last home.none) (sym (leads_by None e)) refl refl words homes others mine_is few,
+      moved table new (next g r.number core) (on table) (with_journal r change j) (set s.words last (bit_or old 1)) (set s.homes (journal_slot z.world) home.none) (sym (leads_by None e)) refl refl words homes others mine_is (λ q apart rec st. still (bit_or old 1) q st) (let st = still (bit_or old 1) r (my_stamps table) in record { won = st.won; noted = st.noted }) few,
       ((λ _. record { change = change; phase = p; journal = j; room = room; now = refl; out = refl }), λ ne. absurd (ne (ap (λ x. x % 2) (word_is None e) ∙ odd (length core.journal) None))),
     )
       where
-        has : (v : Kept) × (get_elem? s.homes last ≡ home.some (home.some (slot.Journal v))) × IsCoreJournal g core v
+        has : (v : Kept) × (get_elem? s.homes (journal_slot z.world) ≡ home.some (home.some (slot.Journal v))) × IsCoreJournal g core v
         has = table.stands.homes.journal e
 
         j : Kept
@@ -125,12 +127,13 @@ module _ {D : Type 0} {verdict : D → Shown → Verdict} {z : Terms D} {s : Con
         room = record { some = omega (arith, left, has.2.room); few = omega (arith, left, table.stands.few, ap (λ (es : List _). length es) has.2.entries) }
 
         words : AreWords g new (set s.words last (bit_or old 1))
-        words = journal_written g core new s.words (bit_or old 1) table.stands.words refl (ap (λ x. bit_or x 1) (word_is None e) ∙ made_odd (length core.journal) None)
+        words = journal_written g core new s.words (bit_or old 1) table.stands.words refl (λ k none. refl) (omega arith) (ap (λ x. bit_or x 1) (word_is None e) ∙ made_odd (length core.journal) None)
 
-        homes : AreHomes g new (set s.homes last home.none)
+        homes : AreHomes g new (set s.homes (journal_slot z.world) home.none)
         homes = record {
-          count = length-set s.homes last home.none ∙ table.stands.homes.count;
-          cell = λ i x free value. set_else s.homes last i home.none (not_last table i 0 free) ∙ table.stands.homes.cell i x free value;
+          count = length-set s.homes (journal_slot z.world) home.none ∙ table.stands.homes.count;
+          cell = λ i x free value.
+              set_else s.homes (journal_slot z.world) i home.none (λ q. let lt = slice_get_within core.tags (first_plain z.world + i) 0 free in omega (arith, q, lt, (counts table).0)) ∙ table.stands.homes.cell i x free value;
           journal = λ none. absurd (none-some r.number (sym none));
         }
 
@@ -151,7 +154,7 @@ module _ {D : Type 0} {verdict : D → Shown → Verdict} {z : Terms D} {s : Con
   take_goes to = by_holder to.0 to.1 core.holder refl
 
 module _ {D : Type 0} (verdict : D → Shown → Verdict) (z : Terms D) (ok : IsSetup (setup_of_terms verdict z)) where
-  pub take_allowed : (slots seat : ℕ) (me : Seated D) → me.0 ≡ view_of z (own me.0 ∷ []) → Takes (own me.0).caller.phase → Allows (KeepsRule verdict z) slots seat me (cells z.world) (λ x. bit_or x 1) (took (step slots (cells z.world) 1 0 home.none) me)
+  pub take_allowed : (slots seat : ℕ) (me : Seated D) → me.0 ≡ view_of z (own me.0 ∷ []) → Takes (own me.0).caller.phase → Allows (KeepsRule verdict z) slots seat me (cells z.world) (λ x. bit_or x 1) (took verdict (step slots (cells z.world) 1 0 home.none) me)
   take_allowed slots seat me one to =
-      allowed verdict z ok slots seat me (cells z.world) (λ x. bit_or x 1) (λ m. Takes (own m.0).caller.phase) (took (step slots (cells z.world) 1 0 home.none)) one to
-      (λ s steps r table fact. take_goes table fact slots me.1)
+      allowed verdict z ok slots seat me (cells z.world) (λ x. bit_or x 1) (λ m. Takes (own m.0).caller.phase) (took verdict (step slots (cells z.world) 1 0 home.none)) one to
+      (λ s core r table fact. inl (take_goes table fact slots me.1))

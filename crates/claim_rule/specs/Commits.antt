@@ -18,6 +18,7 @@ use Rattle.claim_rule.specs.declared.views.Slot.TheVariants as slot
 use Rattle.claim_rule.specs.declared.views.Record.{Record}
 use Rattle.claim_rule.specs.declared.views.View.{View}
 use Rattle.claim_rule.specs.Views.{Seated, own, like}
+use Rattle.claim_rule.specs.Stands.{journal_slot}
 use Rattle.claim_rule.specs.Plays.{about}
 
 -- a caller in this phase tries to take the journal
@@ -41,6 +42,8 @@ with_journal r change j = record r { caller = record r.caller { phase = Committi
 abbrev pub with_commit : Setup → Record → Change → ℕ → Record
 with_commit g r change place = record {
   number = r.number;
+  won = r.won;
+  note = r.note;
   caller = freeing_caller g r.caller.turn (map (patched_pair change.patch) r.caller.held) (r.caller.marks ++ mark.Done place ∷ []);
   committed = r.committed ++ commit_at g r change place ∷ [];
   taken = None;
@@ -67,11 +70,11 @@ module _ {D : Type 0} where
     pub now : m'.0 ≡ like m.0 (with_journal (own m.0) change journal ∷ [])
     pub out : m'.1 ≡ (i, slot.Journal journal) ∷ m.1
 
+module _ {D : Type 0} (verdict : D → Shown → Verdict) where
   -- an even word was found, and the seat has the journal; or an odd one, and nothing changed, since another caller has it
   abbrev pub took : Step Slot → Seated D → ℕ → Seated D → Type 0
-  took st m t m' = (t % 2 ≡ 0 → GotJournal st.word m m') × (t % 2 ≢ 0 → m' ≡ m)
+  took st m t m' = (t % 2 ≡ 0 → GotJournal (journal_slot (about verdict m.0).world) m m') × (t % 2 ≢ 0 → m' ≡ m)
 
-module _ {D : Type 0} (verdict : D → Shown → Verdict) where
   -- the caller's change is to be committed: the seat has the journal to put home with the slot of this number, with the change's
   -- entry in it, and the word to store is twice its length
   pub record IsToCommit (i x : ℕ) (m : Seated D) : Type 0 where

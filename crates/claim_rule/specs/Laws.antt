@@ -1,5 +1,5 @@
 -- Laws of the rule.
-use Rattle.std.specs.Prelude.{◌≡◌, ℕ, ◌+◌, List, [], ◌∷◌, ◌++◌, replicate, length, slice_get, IsSome, IfSome}
+use Rattle.std.specs.Prelude.{◌≡◌, ℕ, List, [], ◌∷◌, ◌++◌, length, slice_get, IsSome, IfSome}
 use Rattle.std.specs.List.{All}
 use Rattle.std.specs.declared.option.Option.{Option}
 use Rattle.std.specs.declared.option.Option.TheVariants.{Some}
@@ -9,7 +9,6 @@ use Rattle.amoebot_state.specs.Configs.{Config}
 use Rattle.amoebot_state.specs.declared.verdict.Verdict.{Verdict}
 use Rattle.amoebot_state.specs.Steps.{Run}
 use Rattle.amoebot_state.specs.Zones.{Shown, shown}
-use Rattle.claim_core.specs.Cells.{cells}
 use Rattle.claim_core.specs.Turns.{Kept}
 use Rattle.claim_core.specs.declared.marks.Mark.{Mark}
 use Rattle.claim_core.specs.declared.state.Phase.TheVariants.{Ended}
@@ -24,11 +23,11 @@ use Rattle.claim_rule.specs.Views.{Content, view_of, setup_of_terms}
 use Rattle.claim_rule.specs.Stands.{HasRecord, Stands, first_view}
 use Rattle.claim_rule.specs.Plays.{HoldsZone}
 use Rattle.claim_rule.specs.Tokens.{Token, doing}
-use Rattle.claim_rule.specs.Opened.{AreFirstSlots}
+use Rattle.claim_rule.specs.Opened.{AreFirstSlots, first_words}
 use Rattle.claim_rule.specs.Seating.{spent}
 use Rattle.claim_rule.specs.Closing.{ClosesAs, HoldNothing, EndsRight, report_of}
 
--- a table whose words are 0, whose slots hold what a field begins with, and whose one seat knows all callers before their first turn
+-- a table whose words and slots hold what a field begins with, and whose one seat knows all callers before their first turn
 -- stands for the opening
 abbrev pub OpeningStands : {D : Type 0} → (D → Shown → Verdict) → Type 0
 OpeningStands {D} verdict =
@@ -36,7 +35,7 @@ OpeningStands {D} verdict =
     → IsSetup (setup_of_terms verdict z)
     → AreFirstSlots z.world z.lists slots
     → Stands verdict z
-    (table.opening (replicate (cells z.world + 1) 0) slots (first_view verdict z))
+    (table.opening (first_words z.world) slots (first_view verdict z))
     (opening (setup_of_terms verdict z))
 
 -- where a seat gives its first record to a new one, the table stands for the same state as before

@@ -1,26 +1,39 @@
 -- How a field begins: what its slots hold, and its seats.
 use Rattle.std.specs.Prelude.{◌≡◌, ◌≤◌, ◌*◌, ℕ, List, [], ◌∷◌, ◌++◌, map, length}
+use Rattle.std.specs.List.{range_with_len}
 use Rattle.std.specs.declared.option.Option.TheVariants.{Some}
+use Rattle.amoebot_state.specs.declared.cell.CellName.TheVariants as name
 use Rattle.amoebot_state.specs.declared.cell.Cell.{Cell}
+use Rattle.amoebot_state.specs.declared.cell.Cell.TheVariants as cell
 use Rattle.amoebot_state.specs.declared.verdict.Verdict.{Verdict}
 use Rattle.amoebot_state.specs.Configs.{Config}
 use Rattle.amoebot_state.specs.Zones.{Shown}
 use Rattle.claim_core.specs.Turns.{CallerLists, Kept}
-use Rattle.claim_core.specs.Cells.{values_of}
+use Rattle.claim_core.specs.Cells.{held_by, values_of}
 use Rattle.claim_core.specs.Machine.{fresh}
 use Rattle.claim_rule.specs.declared.views.Slot.{Slot}
 use Rattle.claim_rule.specs.declared.views.Slot.TheVariants as slot
 use Rattle.claim_rule.specs.declared.views.Record.{Record}
 use Rattle.claim_rule.specs.declared.views.Terms.{Terms}
+use Rattle.claim_rule.specs.Words.{node_word}
 use Rattle.claim_rule.specs.Views.{setup_of_terms, view_of}
 use Rattle.claim_rule.specs.Tokens.{FieldOf, Token}
 use Rattle.claim_rule.specs.Stands.{records_from}
 use Rattle.claim_rule.specs.Seating.{SeatsOf}
 
--- the slots at the start: what each cell holds, by the cells' numbers, and then a journal with no entry and room for all turns
+-- the words at the start: each node's has its occupant, no tag and stamp 0, and those of the bodies and of the journal are 0
+abbrev pub first_word : Cell → ℕ
+first_word (cell.Spot o) = node_word 0 o 0
+first_word (cell.Body b) = 0
+
+abbrev pub first_words : Config → List ℕ
+first_words world = map first_word (values_of world) ++ 0 ∷ []
+
+-- the slots at the start: what each body's cell holds, by the ids, and then a journal with no entry and room for all turns
 pub record AreFirstSlots (world : Config) (lists : CallerLists) (slots : List Slot) : Type 0 where
   pub journal : Kept
-  pub are : slots ≡ map (λ (x : Cell). slot.Cell x) (values_of world) ++ slot.Journal journal ∷ []
+  pub are : slots
+      ≡ map (λ i. slot.Cell (held_by world (name.Body i))) (range_with_len 0 (length world.bots)) ++ slot.Journal journal ∷ []
   pub first : journal.first ≡ world
   pub entries : journal.entries ≡ []
   pub room : length lists.ids * lists.turns ≤ journal.spare

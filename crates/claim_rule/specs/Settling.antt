@@ -1,20 +1,21 @@
 -- What contracts see of a caller that has the journal, and of one that has committed.
-use Rattle.std.specs.Prelude.{◌≡◌, ℕ, ◌<◌, List, [], ◌∷◌}
+use Rattle.std.specs.Prelude.{◌≡◌, ℕ, ◌<◌, List, [], ◌∷◌, length}
 use Rattle.std.specs.declared.option.Option.TheVariants.{Some, None}
 use Rattle.atomic_table.specs.Table.{rest}
-use Rattle.tri_lattice.specs.Extent.{Extent}
 use Rattle.amoebot_state.specs.declared.verdict.Change.{Change}
 use Rattle.amoebot_state.specs.declared.verdict.Verdict.{Verdict}
+use Rattle.amoebot_state.specs.Configs.{Config}
 use Rattle.amoebot_state.specs.Pairs.{Pairs}
 use Rattle.amoebot_state.specs.Zones.{Shown}
 use Rattle.claim_core.specs.declared.state.Phase.TheVariants.{Taking, Committing}
-use Rattle.claim_core.specs.Cells.{cells}
 use Rattle.claim_core.specs.Limits.{most_turns}
 use Rattle.claim_core.specs.Turns.{Kept}
 use Rattle.claim_core.specs.Machine.{next_of}
 use Rattle.claim_rule.specs.declared.views.Slot.TheVariants as slot
+use Rattle.claim_rule.specs.declared.views.Note.{Note}
 use Rattle.claim_rule.specs.declared.views.Record.{Record}
 use Rattle.claim_rule.specs.Views.{Seated, own, like}
+use Rattle.claim_rule.specs.Stands.{journal_slot}
 use Rattle.claim_rule.specs.Plays.{about}
 use Rattle.claim_rule.specs.Tokens.{Token, PlacedTurn, IsActivation, placed_turn, record_in, number_in, doing}
 use Rattle.claim_rule.specs.Commits.{HasRoomForEntry, with_journal, with_commit}
@@ -44,13 +45,14 @@ module _ {D : Type 0} where
       pub few : receipt.place < most_turns
 
     -- it holds its whole zone and the journal, as it was taken, whose slot is out, and empty; but for the journal it is as it was
-    pub record IsTaken (m : Seated D) (c t b : ℕ) (a : Extent) (greatest : List ℕ) (pairs : Pairs)
+    pub record IsTaken (m : Seated D) (c t b : ℕ) (w : Config) (pairs : Pairs) (notes : List Note)
         (change : Change) (j : Kept) : Type 0 where
       pub alone : m.0.records ≡ own m.0 ∷ []
-      pub activation : IsActivation verdict (untaken m) c t b a greatest pairs
+      pub activation : IsActivation verdict (untaken m) c t b w pairs notes
       pub turn : (own m.0).caller.turn ≡ t
+      pub counted : length (own m.0).caller.marks ≡ t
       pub whole : next_of (about verdict m.0) b pairs ≡ None
       pub phase : (own m.0).caller.phase ≡ Committing change
       pub taken : (own m.0).taken ≡ Some j
       pub room : HasRoomForEntry j
-      pub out : m.1 ≡ (cells (about verdict m.0).world, slot.Empty) ∷ rest m.1
+      pub out : m.1 ≡ (journal_slot (about verdict m.0).world, slot.Empty) ∷ rest m.1

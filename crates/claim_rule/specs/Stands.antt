@@ -1,33 +1,43 @@
 -- For which words, values at home and views a state of the machine stands, and the rule.
-use Rattle.std.specs.Prelude.{◌≡◌, ◌≢◌, ℕ, ◌+◌, ◌*◌, ◌<◌, ◌≤◌, List, [], ◌∷◌, map, length, slice_get, slice_index}
+use Rattle.std.specs.Prelude.{◌≡◌, ◌≢◌, ◌⊎◌, ℕ, ◌+◌, ◌*◌, ◌<◌, ◌≤◌, List, [], ◌∷◌, map, length, slice_get, slice_index, unwrap_or}
 use Rattle.std.specs.List.{All, Contains}
 use Rattle.std.specs.declared.option.Option.{Option}
 use Rattle.std.specs.declared.option.Option.TheVariants.{Some, None}
 use Rattle.std.specs.Option.{option_len}
 use mathlib.Core.Option as home
 use lib.ListN.{get_elem?}
+use Rattle.tri_lattice.specs.declared.node.Node.{Node}
 use Rattle.amoebot_state.specs.declared.cell.CellName.{CellName}
+use Rattle.amoebot_state.specs.declared.cell.CellName.TheVariants as name
 use Rattle.amoebot_state.specs.declared.cell.Cell.{Cell}
+use Rattle.amoebot_state.specs.declared.cell.Cell.TheVariants as cell
 use Rattle.amoebot_state.specs.declared.verdict.Verdict.{Verdict}
+use Rattle.amoebot_state.specs.Configs.{Config}
+use Rattle.amoebot_state.specs.Pairs.{Pairs}
 use Rattle.amoebot_state.specs.Zones.{Shown}
+use Rattle.claim_core.specs.declared.marks.Mark.{Mark}
+use Rattle.claim_core.specs.declared.marks.Mark.TheVariants as mark
 use Rattle.claim_core.specs.declared.state.Caller.{Caller}
 use Rattle.claim_core.specs.declared.state.Committed.{Committed}
 use Rattle.claim_core.specs.Limits.{most_turns}
 use Rattle.claim_core.specs.Turns.{Kept}
 use Rattle.claim_core.specs.Cells.{number, at, cells}
+use Rattle.claim_core.specs.Good.{place_of}
 use Rattle.claim_core.specs.Machine.{Setup, State, fresh, after}
 use Rattle.claim_core.specs.Reached.{entries_of, placed, IsShownAt}
 use Rattle.claim_core.specs.Cores.{unmarked}
 use Rattle.claim_rule.specs.declared.views.Slot.{Slot}
 use Rattle.claim_rule.specs.declared.views.Slot.TheVariants as slot
 use Rattle.claim_rule.specs.declared.views.Record.{Record}
+use Rattle.claim_rule.specs.declared.views.Note.{Note}
 use Rattle.claim_rule.specs.declared.views.Terms.{Terms}
 use Rattle.claim_rule.specs.declared.views.View.{View}
+use Rattle.claim_rule.specs.Words.{word_tag, word_occ, word_stamp}
 use Rattle.claim_rule.specs.Views.{Content, record_of, view_of, setup_of_terms}
 
--- the word of the cell with this number: its tag
-abbrev pub cell_word : State → ℕ → ℕ
-cell_word core k = slice_index core.tags k
+-- the tag of the cell with this number
+abbrev pub cell_tag : State → ℕ → ℕ
+cell_tag core k = slice_index core.tags k
 
 -- the journal's word: twice its length, plus one exactly where it has a holder
 abbrev pub journal_word : State → ℕ
@@ -59,20 +69,70 @@ pub record IsRecord (g : Setup) (core : State) (r : Record) : Type 0 where
   pub caller : slice_get core.callers r.number ≡ Some r.caller
   pub committed : HasCommitted g core r.number r.committed r.taken
 
+-- the number of the first cell whose word is its tag, and which has a slot: the nodes come before it, and the bodies from it on
+abbrev pub first_plain : Config → ℕ
+first_plain c = c.area.w * c.area.h
+
+-- the number of the slot of a cell that has one, which is that of the cell, counted from the first plain one on
+abbrev pub slot_number : CellName → Option ℕ
+slot_number (name.Spot v) = None
+slot_number (name.Body i) = Some i
+
+abbrev pub slot_of : CellName → ℕ
+slot_of n = unwrap_or (slot_number n) 0
+
+-- the number of the journal's slot, behind those of the cells
+abbrev pub journal_slot : Config → ℕ
+journal_slot c = length c.bots
+
+-- the word of the node with this number: its tag; where that is 0, its occupant; and its stamp, at most the journal's length
+pub record IsNodeWord (core : State) (k w : ℕ) : Type 0 where
+  pub tag : word_tag w ≡ cell_tag core k
+  pub free : cell_tag core k ≡ 0 → slice_get core.values k ≡ Some (cell.Spot (word_occ w))
+  pub stamp : word_stamp w ≤ length core.journal
+
 -- the words of the cells by their numbers, and that of the journal behind them
 pub record AreWords (g : Setup) (core : State) (words : List ℕ) : Type 0 where
   pub count : length words ≡ cells g.world + 1
-  pub cell : (k : ℕ) → k < cells g.world → slice_index words k ≡ cell_word core k
+  pub node : (k : ℕ) → k < first_plain g.world → IsNodeWord core k (slice_index words k)
+  pub plain : (k : ℕ) → first_plain g.world ≤ k → k < cells g.world → slice_index words k ≡ cell_tag core k
   pub journal : slice_index words (cells g.world) ≡ journal_word core
 
--- the slots of the cells by their numbers, and that of the journal behind them: a free cell's is at home with its value, and the
--- journal's where it has no holder
+-- the slots of the plain cells, and that of the journal behind them: a free cell's is at home with its value, and the journal's where
+-- it has no holder
 pub record AreHomes (g : Setup) (core : State) (homes : List (home.Option Slot)) : Type 0 where
-  pub count : length homes ≡ cells g.world + 1
-  pub cell : (k : ℕ) (x : Cell) → slice_get core.tags k ≡ Some 0 → slice_get core.values k ≡ Some x
-      → get_elem? homes k ≡ home.some (home.some (slot.Cell x))
+  pub count : length homes ≡ journal_slot g.world + 1
+  pub cell : (i : ℕ) (x : Cell) → slice_get core.tags (first_plain g.world + i) ≡ Some 0
+      → slice_get core.values (first_plain g.world + i) ≡ Some x
+      → get_elem? homes i ≡ home.some (home.some (slot.Cell x))
   pub journal : core.holder ≡ None
-      → (j : Kept) × (get_elem? homes (cells g.world) ≡ home.some (home.some (slot.Journal j))) × IsCoreJournal g core j
+      → (j : Kept) × (get_elem? homes (journal_slot g.world) ≡ home.some (home.some (slot.Journal j))) × IsCoreJournal g core j
+
+-- the node's word says what it said when the node was won; its stamp is at most the place in this turn's mark; and the node has the
+-- value with which it was won, except for a commit of this turn
+pub record IsWon (g : Setup) (words : List ℕ) (t : ℕ) (marks : List Mark) (v : Node) (x : Cell) (w : Note) : Type 0 where
+  pub node : w.node ≡ v
+  pub occ : (i : ℕ) → number g.world.area (name.Spot v) ≡ Some i → word_occ (slice_index words i) ≡ w.occ
+  pub stamp : (i : ℕ) → number g.world.area (name.Spot v) ≡ Some i → word_stamp (slice_index words i) ≡ w.stamp
+  pub settled : (m : Mark) → slice_get marks t ≡ Some m → w.stamp ≤ place_of m
+  pub value : (x ≡ cell.Spot w.occ) ⊎ ((place : ℕ) × (slice_get marks t ≡ Some (mark.Done place)))
+
+-- so it is of each node that is held, in the order of the cells that are held
+abbrev pub AreWon : (Node → Cell → Note → Type 0) → Pairs → List Note → Type 0
+AreWon Is [] ws = ws ≡ []
+AreWon Is ((name.Spot v, x) ∷ held) ws = (w : Note) × (more : List Note) × (ws ≡ w ∷ more) × Is v x w × AreWon Is held more
+AreWon Is ((name.Body i, x) ∷ held) ws = AreWon Is held ws
+
+-- the node's stamp is at least the noted one, and where it is that one, so is the occupant
+pub record IsNoted (g : Setup) (words : List ℕ) (m : Note) : Type 0 where
+  pub least : (i : ℕ) → number g.world.area (name.Spot m.node) ≡ Some i → m.stamp ≤ word_stamp (slice_index words i)
+  pub same : (i : ℕ) → number g.world.area (name.Spot m.node) ≡ Some i → word_stamp (slice_index words i) ≡ m.stamp
+      → word_occ (slice_index words i) ≡ m.occ
+
+-- what a record says of nodes' words is so
+pub record IsStamped (g : Setup) (words : List ℕ) (r : Record) : Type 0 where
+  pub won : AreWon (IsWon g words r.caller.turn r.caller.marks) r.caller.held r.won
+  pub noted : (m : Note) → r.note ≡ Some m → IsNoted g words m
 
 module _ {D : Type 0} where
   -- the view of a seat has this record at a place
@@ -103,6 +163,7 @@ module _ {D : Type 0} where
       pub words : AreWords (setup_of_terms verdict z) core s.words
       pub homes : AreHomes (setup_of_terms verdict z) core s.homes
       pub views : AreViews core s.views
+      pub stamps : (seat place : ℕ) (r : Record) → HasRecord s.views seat place r → IsStamped (setup_of_terms verdict z) s.words r
       pub few : length core.journal + turns_left (setup_of_terms verdict z) core ≤ most_turns
 
     -- the rule: it stands for a state that steps of the callers, the last one first, lead to from the opening

@@ -1,31 +1,39 @@
 -- What contracts see of a field, of its seats, and of what is made of a seat.
-use Rattle.std.specs.Prelude.{◌≡◌, ◌⊎◌, ℕ, ◌+◌, ◌<◌, List, [], ◌∷◌, map, reverse, length, unwrap_or}
+use Rattle.std.specs.Prelude.{◌≡◌, ◌⊎◌, ℕ, ◌+◌, ◌<◌, ◌≤◌, List, [], ◌∷◌, map, reverse, length, slice_get}
 use Rattle.std.specs.List.{All}
 use Rattle.std.specs.declared.option.Option.{Option}
 use Rattle.std.specs.declared.option.Option.TheVariants.{Some, None}
 use Rattle.atomic_table.specs.Seated.{TableId}
 use Rattle.tri_lattice.specs.Extent.{Extent}
+use Rattle.tri_lattice.specs.declared.node.Node.{Node}
 use Rattle.amoebot_state.specs.declared.cell.CellName.{CellName}
+use Rattle.amoebot_state.specs.declared.cell.CellName.TheVariants as name
 use Rattle.amoebot_state.specs.declared.cell.Cell.{Cell}
 use Rattle.amoebot_state.specs.declared.verdict.Verdict.{Verdict}
 use Rattle.amoebot_state.specs.Pairs.{Pairs, cell_of}
 use Rattle.amoebot_state.specs.Configs.{Config}
 use Rattle.amoebot_state.specs.Zones.{Shown}
+use Rattle.claim_core.specs.declared.marks.Mark.{Mark}
 use Rattle.claim_core.specs.declared.state.Caller.{Caller}
 use Rattle.claim_core.specs.declared.state.Look.{Look}
 use Rattle.claim_core.specs.declared.state.Phase.TheVariants.{Refusing, Looking, Releasing}
-use Rattle.claim_core.specs.Cells.{number, cells}
+use Rattle.claim_core.specs.Cells.{cells}
+use Rattle.claim_core.specs.Good.{place_after}
+use Rattle.claim_core.specs.Limits.{most_turns}
 use Rattle.claim_core.specs.Tags.{tag_caller, tag_turn, tag_bot}
 use Rattle.claim_core.specs.Machine.{bot, found, next_of, phase_of_verdict, after_win, opening_phase, freeing_caller, caller}
 use Rattle.claim_core.specs.Soundness.{IsSetup}
 use Rattle.claim_rule.specs.declared.activation.Activation.{Activation}
 use Rattle.claim_rule.specs.declared.views.Slot.{Slot}
 use Rattle.claim_rule.specs.declared.views.Slot.TheVariants as slot
+use Rattle.claim_rule.specs.declared.views.Note.{Note}
 use Rattle.claim_rule.specs.declared.views.Record.{Record}
 use Rattle.claim_rule.specs.declared.views.Terms.{Terms}
 use Rattle.claim_rule.specs.declared.views.View.{View}
-use Rattle.claim_rule.specs.Views.{Seated, own, goes_on, setup_of_terms, setup_at}
-use Rattle.claim_rule.specs.Plays.{IsPlaced, IsKnown, IsOthers, about, bot_in}
+use Rattle.claim_rule.specs.Words.{word_tag, word_stamp}
+use Rattle.claim_rule.specs.Views.{Seated, own, like, with_note, seen, goes_on, setup_of_terms, setup_at}
+use Rattle.claim_rule.specs.Stands.{journal_slot}
+use Rattle.claim_rule.specs.Plays.{IsPlaced, IsKnown, IsOthers, note_of, about, bot_in}
 
 -- which table a field has, and what it is about
 pub record FieldOf (D : Type 0) : Type 0 where
@@ -36,6 +44,13 @@ pub record FieldOf (D : Type 0) : Type 0 where
 pub record Token (D : Type 0) : Type 0 where
   pub table : TableId
   pub view : View D
+
+-- what a seat knows that has noted a free word: the seat, without the note; the node; and the occupant and the stamp in its word
+pub record NotedOf (D : Type 0) : Type 0 where
+  pub claim : Token D
+  pub node : Node
+  pub occ : Option ℕ
+  pub stamp : ℕ
 
 -- a turn's mark that a cell of its zone was held, as the call that was refused tells it
 pub record RefusedOf : Type 0 where
@@ -67,9 +82,24 @@ refused_of c t n by place = record {
 abbrev pub placed_turn : ℕ → ℕ → ℕ → PlacedTurn
 placed_turn c t place = record { caller = c; turn = t; place = place }
 
--- the slot of a cell is out, and empty
-abbrev pub emptied : Extent → CellName × Cell → ℕ × Slot
-emptied a p = (unwrap_or (number a (cell_of p)) 0, slot.Empty)
+-- the slots of the bodies that are held are out, and empty
+abbrev pub emptied : Pairs → List (ℕ × Slot)
+emptied [] = []
+emptied ((name.Spot v, x) ∷ held) = emptied held
+emptied ((name.Body i, x) ∷ held) = (i, slot.Empty) ∷ emptied held
+
+-- the nodes that are held, in their order
+abbrev pub nodes_held : Pairs → List Node
+nodes_held [] = []
+nodes_held ((name.Spot v, x) ∷ held) = v ∷ nodes_held held
+nodes_held ((name.Body i, x) ∷ held) = nodes_held held
+
+-- a configuration without its amoebots, and one of an area and of maxima
+abbrev pub frame : Config → Config
+frame c = record c { bots = [] }
+
+abbrev pub frame_of : Extent → List ℕ → Config
+frame_of a greatest = record { area = a; maxes = greatest; bots = [] }
 
 module _ {D : Type 0} where
   -- the record of the seat's caller, the caller's number, and where it stands
@@ -88,10 +118,17 @@ module _ {D : Type 0} where
 
   -- an activation as its seat's token, and the cells that it holds, the one won last at the front
   abbrev pub token_in : Activation D → Token D
-  token_in a = record { table = a.seat.table_id; view = a.seat.me.0 }
+  token_in a = record { table = a.seat.table_id; view = seen a.seat.me.0 }
 
   abbrev pub cells_in : Activation D → Pairs
   cells_in a = reverse a.cells.items
+
+  abbrev pub notes_in : Activation D → List Note
+  notes_in a = reverse a.notes.items
+
+  -- the seat without its note
+  abbrev pub unnoted : Seated D → Seated D
+  unnoted m = (like m.0 (with_note (own m.0) None ∷ []), m.1)
 
   -- the whole zone is held, the verdict on it is Idle or Failed, and the journal's length was not looked at
   abbrev pub IsToLook : Token D → Type 0
@@ -101,31 +138,42 @@ module _ {D : Type 0} where
   abbrev pub IsMarked : Token D → Type 0
   IsMarked t = (doing t).phase ≡ Releasing
 
+  -- this turn has its mark, and this is the stamp of a node that its commit has changed
+  pub record HasMark (m : Seated D) (t after : ℕ) : Type 0 where
+    pub mark : Mark
+    pub counted : length (own m.0).caller.marks ≡ t + 1
+    pub there : slice_get (own m.0).caller.marks t ≡ Some mark
+    pub stamp : after ≡ place_after mark
+    pub few : after ≤ most_turns
+
   -- the seat is of this field
   pub record IsOf (f : FieldOf D) (t : Token D) : Type 0 where
     pub table : t.table ≡ f.table
     pub terms : t.view.terms ≡ Some f.terms
 
   module _ (verdict : D → Shown → Verdict) where
-    -- what a field keeps: it is about something that may be run, and has a word and a slot for each cell and for the journal
+    -- what a field keeps: it is about something that may be run, and has a word for each cell and for the journal,
+    -- and a slot for each amoebot and for the journal
     pub record IsField (f : FieldOf D) (d : D) (w : Config) : Type 0 where
       pub run : IsSetup (setup_of_terms verdict f.terms)
       pub words : f.table.words ≡ cells f.terms.world + 1
-      pub slots : f.table.slots ≡ cells f.terms.world + 1
+      pub slots : f.table.slots ≡ journal_slot f.terms.world + 1
       pub decider : f.terms.decider ≡ d
       pub world : f.terms.world ≡ w
 
     -- what a seat between two turns keeps: it has the record of one caller, which is to begin this turn or has ended, and no slot
-    pub record IsSeat (m : Seated D) (c t : ℕ) (a : Extent) (greatest : List ℕ) : Type 0 where
+    pub record IsSeat (m : Seated D) (c t : ℕ) (w : Config) : Type 0 where
       pub alone : m.0.records ≡ own m.0 ∷ []
       pub run : IsSetup (setup_at verdict m.0.terms)
       pub number : (own m.0).number ≡ c
       pub listed : c < length (setup_at verdict m.0.terms).lists.ids
+      pub counted : length (own m.0).caller.marks ≡ t
       pub rests : (own m.0).caller ≡ caller t (opening_phase (setup_at verdict m.0.terms) t) [] (own m.0).caller.marks
       pub taken : (own m.0).taken ≡ None
+      pub won : (own m.0).won ≡ []
+      pub note : (own m.0).note ≡ None
       pub out : m.1 ≡ []
-      pub area : a ≡ (setup_at verdict m.0.terms).world.area
-      pub maxes : greatest ≡ (setup_at verdict m.0.terms).world.maxes
+      pub world : w ≡ frame (setup_at verdict m.0.terms).world
 
     -- the next cell of the zone by the values that were recorded, what was found in the cells that are held, and the decision on it
     abbrev pub next_in : Token D → Option CellName
@@ -138,8 +186,8 @@ module _ {D : Type 0} where
     verdict_in t = (about verdict t.view).verdict (found_in t)
 
     -- what every activation keeps: the seat has the record of one caller in this turn of its list, which holds these cells, with
-    -- their values; the slot of each of them is out, and empty
-    pub record IsActivation (m : Seated D) (c t b : ℕ) (a : Extent) (greatest : List ℕ) (pairs : Pairs) : Type 0 where
+    -- their values, and won the nodes among them with what these notes say; the slot of each body among them is out, and empty
+    pub record IsActivation (m : Seated D) (c t b : ℕ) (w : Config) (pairs : Pairs) (notes : List Note) : Type 0 where
       pub alone : m.0.records ≡ own m.0 ∷ []
       pub run : IsSetup (about verdict m.0)
       pub number : (own m.0).number ≡ c
@@ -147,25 +195,40 @@ module _ {D : Type 0} where
       pub turn : t < (about verdict m.0).lists.turns
       pub bot : b ≡ bot (about verdict m.0) c t
       pub taken : (own m.0).taken ≡ None
-      pub area : a ≡ (about verdict m.0).world.area
-      pub maxes : greatest ≡ (about verdict m.0).world.maxes
+      pub world : w ≡ frame (about verdict m.0).world
       pub held : (own m.0).caller.held ≡ pairs
       pub placed : All (λ (p : CellName × Cell). (i : ℕ) × IsPlaced (about verdict m.0) (cell_of p) i) pairs
-      pub out : m.1 ≡ map (emptied a) pairs
+      pub won : (own m.0).won ≡ notes
+      pub note : (own m.0).note ≡ None
+      pub nodes : map (λ (n : Note). n.node) notes ≡ nodes_held pairs
+      pub few : All (λ (n : Note). n.stamp ≤ most_turns) notes
+      pub out : m.1 ≡ emptied pairs
 
     -- the same of the parts of an activation: what its seat knows and has out, its fields, and its cells
     abbrev pub KeepsActivation : Activation D → Type 0
-    KeepsActivation a = IsActivation a.seat.me a.caller a.turn a.bot a.area a.maxes (cells_in a)
+    KeepsActivation a = IsActivation a.seat.me a.caller a.turn a.bot (frame_of a.area a.maxes) (cells_in a) (notes_in a)
 
     -- it claims, or holds its whole zone
     pub record IsClaiming (m : Seated D) (t b : ℕ) (held : Pairs) : Type 0 where
       pub turn : (own m.0).caller.turn ≡ t
+      pub counted : length (own m.0).caller.marks ≡ t
       pub phase : (own m.0).caller.phase ≡ after_win (about verdict m.0) b held (next_of (about verdict m.0) b held)
       pub known : IsKnown (about verdict m.0) b held
+
+    -- it claims, and has noted this free word of this node, which is the next cell; except for the note it is as it was
+    pub record IsNoting (m : Seated D) (c t b : ℕ) (w : Config) (pairs : Pairs) (notes : List Note) (v : Node) (word : ℕ) : Type 0 where
+      pub alone : m.0.records ≡ own m.0 ∷ []
+      pub activation : IsActivation (unnoted m) c t b w pairs notes
+      pub claiming : IsClaiming (unnoted m) t b pairs
+      pub note : (own m.0).note ≡ Some (note_of v word)
+      pub next : next_of (about verdict m.0) b pairs ≡ Some (name.Spot v)
+      pub free : word_tag word ≡ 0
+      pub few : word_stamp word ≤ most_turns
 
     -- in this turn it found the tag of another caller's turn at the next cell
     pub record IsStopped (m : Seated D) (c t b : ℕ) (held : Pairs) : Type 0 where
       pub turn : (own m.0).caller.turn ≡ t
+      pub counted : length (own m.0).caller.marks ≡ t
       pub cell : CellName
       pub next : next_of (about verdict m.0) b held ≡ Some cell
       pub tag : ℕ
@@ -173,12 +236,14 @@ module _ {D : Type 0} where
       pub phase : (own m.0).caller.phase ≡ Refusing cell tag
 
     -- it holds its whole zone, and has this verdict on it or its mark
-    pub record HoldsWholeZone (m : Seated D) (t b : ℕ) (held : Pairs) (told : Shown) : Type 0 where
+    pub record HoldsWholeZone (m : Seated D) (t b : ℕ) (held : Pairs) (told : Shown) (after : ℕ) : Type 0 where
       pub turn : (own m.0).caller.turn ≡ t
       pub whole : next_of (about verdict m.0) b held ≡ None
       pub shown : told ≡ found (about verdict m.0) b held
-      pub phase : ((own m.0).caller.phase ≡ phase_of_verdict ((about verdict m.0).verdict told)) ⊎ ((own m.0).caller.phase ≡ Releasing)
+      pub phase : (((own m.0).caller.phase ≡ phase_of_verdict ((about verdict m.0).verdict told)) × (length (own m.0).caller.marks ≡ t))
+          ⊎ (((own m.0).caller.phase ≡ Releasing) × HasMark m t after)
 
     -- it has its mark and frees what it holds; with nothing held its next turn begins
-    abbrev pub IsFreeing : Seated D → ℕ → Pairs → Type 0
-    IsFreeing m t held = (own m.0).caller ≡ freeing_caller (about verdict m.0) t held (own m.0).caller.marks
+    pub record IsFreeing (m : Seated D) (t : ℕ) (held : Pairs) (after : ℕ) : Type 0 where
+      pub caller : (own m.0).caller ≡ freeing_caller (about verdict m.0) t held (own m.0).caller.marks
+      pub marked : HasMark m t after

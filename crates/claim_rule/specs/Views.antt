@@ -12,17 +12,26 @@ use Rattle.claim_core.specs.declared.state.Phase.TheVariants as phase
 use Rattle.claim_core.specs.Turns.{CallerLists}
 use Rattle.claim_core.specs.Machine.{Setup, caller}
 use Rattle.claim_rule.specs.declared.views.Slot.{Slot}
+use Rattle.claim_rule.specs.declared.views.Note.{Note}
 use Rattle.claim_rule.specs.declared.views.Record.{Record}
 use Rattle.claim_rule.specs.declared.views.Terms.{Terms}
 use Rattle.claim_rule.specs.declared.views.View.{View}
 
 -- the record of a caller that has committed nothing
 abbrev pub record_of : ℕ → Caller → Record
-record_of c k = record { number = c; caller = k; committed = []; taken = None }
+record_of c k = record { number = c; caller = k; committed = []; taken = None; won = []; note = None }
 
 -- the record where the caller has come on
 abbrev pub record_with : Record → Caller → Record
 record_with r k = record r { caller = k }
+
+-- the record where its note is another
+abbrev pub with_note : Record → Option Note → Record
+with_note r o = record r { note = o }
+
+-- the record without what it says of nodes' words
+abbrev pub plain_record : Record → Record
+plain_record r = record r { won = []; note = None }
 
 -- the first record; that of nobody, where there is none
 abbrev pub first_record : List Record → Record
@@ -58,6 +67,10 @@ module _ {D : Type 0} where
   -- the record of a view that has one
   abbrev pub own : View D → Record
   own v = first_record v.records
+
+  -- the view as contracts see it: without what it knows of nodes' words
+  abbrev pub seen : View D → View D
+  seen v = like v (plain_record (own v) ∷ [])
 
   -- the view where its caller has come on
   abbrev pub goes_on : View D → Caller → View D

@@ -65,7 +65,8 @@ impl<D: Decider> Model for Claimed<D> {
     ghost view = { λ c. token_in c.activation };
 
     ghost invariant = { λ c. KeepsActivation D.verdict c.activation
-        × HoldsWholeZone D.verdict c.activation.seat.me c.activation.turn c.activation.bot (cells_in c.activation) c.found };
+        × HoldsWholeZone D.verdict c.activation.seat.me c.activation.turn c.activation.bot (cells_in c.activation) c.found
+        c.activation.after };
 }
 
 impl<D: Decider> Claimed<D> {
@@ -104,6 +105,7 @@ pub fn look<D: Decider>(claimed: &mut Claimed<D>, field: &Field<'_, D>) -> Seen
 {
     let activation = &mut claimed.activation;
     let place = field.place(&mut activation.seat);
+    activation.after = place;
     Seen {
         caller: activation.caller,
         turn: activation.turn,

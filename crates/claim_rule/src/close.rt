@@ -21,7 +21,7 @@ use crate::seats::Seats;
 use crate::views::{Slot, View};
 use amoebot_state::{Decider, Entry, World};
 use atomic_table::{Closed, Seat as TableSeat};
-use claim_core::{Journal, cells_of};
+use claim_core::Journal;
 use std::alloc::Global;
 
 impl<'d, D: Decider> Field<'d, D> {
@@ -37,8 +37,8 @@ impl<'d, D: Decider> Field<'d, D> {
         let Seats { rest, seats } = seats;
         let rest = gather_all(&self, rest, seats);
         let (closed, decider, mut world) = self.give_back(rest);
-        let cells = cells_of(&world);
-        let journal = journal_of(closed, cells);
+        let bodies = usize::from(world.bots());
+        let journal = journal_of(closed, bodies);
         apply_all(decider, &mut world, journal.entries());
         (world, journal)
     }
@@ -64,16 +64,16 @@ pub(crate) fn gather_all<'d, D: Decider>(
     rest
 }
 
-/// The journal in the slot behind those of so many cells. The slots are given back.
-fn journal_of(mut closed: Closed<Slot, Global>, cells: usize) -> Journal
-    requires count { slots_len closed.slots ≡ cells + 1 }
+/// The journal in the slot behind those of so many bodies. The slots are given back.
+fn journal_of(mut closed: Closed<Slot, Global>, bodies: usize) -> Journal
+    requires count { slots_len closed.slots ≡ bodies + 1 }
     requires full { IsFull closed.slots }
-    requires journal { (kept : Kept) × (get_elem? (slots_items closed.slots) cells ≡ some (slot.Journal kept)) }
-    ensures { get_elem? (slots_items closed.slots) cells ≡ some (slot.Journal result) }
+    requires journal { (kept : Kept) × (get_elem? (slots_items closed.slots) bodies ≡ some (slot.Journal kept)) }
+    ensures { get_elem? (slots_items closed.slots) bodies ≡ some (slot.Journal result) }
 {
-    let last = closed.take(cells);
-    for cell in 0..cells {
-        drop(closed.take(cell));
+    let last = closed.take(bodies);
+    for body in 0..bodies {
+        drop(closed.take(body));
     }
     closed.free();
     match last {

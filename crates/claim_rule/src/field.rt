@@ -1,15 +1,15 @@
 //! The table that callers share. It is private to this module and those in it, so no other code touches a word or a slot.
 //! It is laid out and given back here.
-//! `steps`, `slots` and `seating` have one function for each step on a word, each move of a value, and each move of records.
+//! `steps`, `nodes`, `slots` and `seating` have one function for each step on a word, each move of a value, and each move of records.
 ghost use Rattle.std.specs.Prelude.{◌≡◌, ◌+◌, [], IfOk};
 ghost use Rattle.std.specs.Slots.{slots_items, slots_len, IsFull};
 ghost use Rattle.atomic_table.specs.Table.{Final, Seen};
-ghost use Rattle.claim_core.specs.Cells.{cells};
 ghost use Rattle.claim_core.specs.Soundness.{IsSetup};
 ghost use Rattle.claim_rule.specs.Views.{field_terms, setup_of_terms};
-ghost use Rattle.claim_rule.specs.Stands.{KeepsRule, first_view};
-ghost use Rattle.claim_rule.specs.Opened.{AreFirstSlots};
+ghost use Rattle.claim_rule.specs.Stands.{KeepsRule, first_view, journal_slot};
+ghost use Rattle.claim_rule.specs.Opened.{AreFirstSlots, first_words};
 
+mod nodes;
 mod seating;
 mod slots;
 mod steps;
@@ -18,12 +18,12 @@ use crate::rule::ClaimRule;
 use crate::views::{Key, Slot, View};
 use amoebot_state::{Decider, NoMemory, World};
 use atomic_table::{Closed, Seat as TableSeat, Table};
-use claim_core::{Lists, cells_of};
+use claim_core::Lists;
 use std::alloc::Global;
 use std::marker::Model;
 
-/// The words and slots that the callers of a run share: for each cell and for the journal one. It is seen as its table and what it
-/// is about: the decider, the first world and the lists.
+/// The words and slots that the callers of a run share: a word for each cell and for the journal, and a slot for each amoebot and for
+/// the journal. It is seen as its table and what it is about: the decider, the first world and the lists.
 #[derive(Drop)]
 pub struct Field<'d, D: Decider> {
     table: Table<Slot, View<D>, Key<'d, D>, ClaimRule, Global>,
@@ -64,21 +64,21 @@ impl<'d, D: Decider> Field<'d, D> {
         &self.world
     }
 
-    /// A field whose words are 0 and whose slots hold these values, with all records at one seat.
+    /// A field with these words, and whose slots hold these values, with all records at one seat.
     pub(crate) fn lay_out(
         alloc: Global,
         decider: &'d D,
         world: World,
         lists: &'d Lists,
+        words: Vec<u64>,
         slots: Vec<Slot>,
     ) -> Result<(Field<'d, D>, TableSeat<Slot, View<D>>), NoMemory>
         requires run { IsSetup (setup_of_terms D.verdict (field_terms decider.now world lists.now)) }
+        requires words { words.items ≡ first_words world }
         requires slots { AreFirstSlots world lists.now slots.items }
         ensures terms { IfOk result (λ made. made.0.terms ≡ field_terms decider.now world lists.now) }
         ensures seat { IfOk result (λ made. (made.1.table_id ≡ made.0.table) × (made.1.me ≡ (first_view D.verdict made.0.terms, []))) }
     {
-        let cells = cells_of(&world);
-        let words = Vec::from_elem(alloc, 0u64, cells + 1)?;
         let key = Key {
             decider,
             world,
@@ -109,7 +109,7 @@ impl<'d, D: Decider> Field<'d, D> {
     ) -> (Closed<Slot, Global>, &'d D, World)
         requires { last.table_id ≡ self.table }
         ensures run { IsSetup (setup_of_terms D.verdict self.entry.terms) }
-        ensures count { slots_len result.0.slots ≡ cells self.entry.terms.world + 1 }
+        ensures count { slots_len result.0.slots ≡ journal_slot self.entry.terms.world + 1 }
         ensures full { IsFull result.0.slots }
         ensures ends { Final (Seen (KeepsRule D.verdict self.entry.terms) last.id last.me.0)
             (slots_items result.0.words) (slots_items result.0.slots) }

@@ -1,11 +1,13 @@
-ghost use Rattle.std.specs.Prelude.{◌≡◌, ◌<◌, [], length};
-ghost use Rattle.claim_rule.specs.Plays.{about, released_caller};
+ghost use Rattle.std.specs.Prelude.{◌≡◌, ◌≢◌, ◌<◌, [], length};
+ghost use Rattle.claim_rule.specs.Plays.{about, released_caller, occ_in};
 ghost use Rattle.claim_rule.specs.Tokens.{IsOf, doing, goes};
 
 use crate::activation::Activation;
 use crate::field::Field;
 use crate::seat::Seat;
-use amoebot_state::Decider;
+use crate::views::Note;
+use crate::words::node_word;
+use amoebot_state::{Cell, CellName, Decider};
 use claim_core::cell_number;
 use std::marker::Model;
 
@@ -23,7 +25,7 @@ impl<D: Decider> Model for Freeing<D> {
     ghost view = { λ f. token_in f.activation };
 
     ghost invariant = { λ f. KeepsActivation D.verdict f.activation
-        × IsFreeing D.verdict f.activation.seat.me f.activation.turn (cells_in f.activation) };
+        × IsFreeing D.verdict f.activation.seat.me f.activation.turn (cells_in f.activation) f.activation.after };
 }
 
 impl<D: Decider> Freeing<D> {
@@ -48,9 +50,40 @@ pub fn free_last<D: Decider>(freeing: Freeing<D>, field: &Field<'_, D>) -> Freei
     let Some(number) = cell_number(&activation.area, cell) else {
         unreachable!()
     };
-    field.put_home(&mut activation.seat, number, value);
-    field.free(&mut activation.seat, number);
-    Freeing { activation }
+    match cell {
+        CellName::Body(id) => {
+            field.put_home(&mut activation.seat, usize::from(id), value);
+            field.free(&mut activation.seat, number);
+            Freeing { activation }
+        }
+        CellName::Spot(_) => {
+            let Some(note) = activation.notes.pop() else {
+                unreachable!()
+            };
+            let occ = occupant_in(value);
+            let stamp = stamp_left(occ, note, activation.after);
+            let word = node_word(0, occ, stamp);
+            field.free_node(&mut activation.seat, number, word);
+            Freeing { activation }
+        }
+    }
+}
+
+/// The occupant in the value of a node.
+fn occupant_in(value: Cell) -> Option<u16>
+    ensures { result ≡ occ_in value }
+{
+    match value {
+        Cell::Spot(occ) => occ,
+        Cell::Body(_) => None,
+    }
+}
+
+/// The stamp with which a node is freed: another one where its occupant has changed.
+fn stamp_left(occ: Option<u16>, note: Note, after: u32) -> u32
+    ensures { (occ ≡ note.occ → result ≡ note.stamp) × (occ ≢ note.occ → result ≡ after) }
+{
+    if occ == note.occ { note.stamp } else { after }
 }
 
 /// The turn is over: nothing is held.
@@ -67,6 +100,8 @@ pub fn end<D: Decider>(freeing: Freeing<D>) -> Seat<D>
         area,
         maxes,
         cells: _,
+        notes: _,
+        after: _,
     } = activation;
     Seat {
         seat,

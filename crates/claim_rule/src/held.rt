@@ -1,5 +1,6 @@
 ghost use Rattle.std.specs.Prelude.{◌≡◌, ◌<◌, ◌≤◌, length, Some, IfOk, IfErr};
 ghost use Rattle.amoebot_state.specs.declared.cell.Cell.{Cell};
+ghost use Rattle.amoebot_state.specs.declared.cell.CellName.TheVariants as name;
 ghost use Rattle.amoebot_state.specs.Limits.{most_cells};
 ghost use Rattle.claim_core.specs.declared.state.Phase.TheVariants.{Refusing};
 ghost use Rattle.claim_core.specs.Machine.{caller_with_cell};
@@ -8,12 +9,14 @@ ghost use Rattle.claim_rule.specs.Tokens.{IsOf, number_in, doing, goes, next_in}
 
 use crate::activation::Activation;
 use crate::field::Field;
+use crate::node_steps::{look_at, try_at};
 use crate::seat::Seat;
 use crate::stopped::{Stopped, Tag};
 use amoebot_state::{CellName, Decider, next_cell};
 use arrayvec::ArrayVec;
 use claim_core::{cell_number, tag};
 use std::marker::Model;
+use tri_lattice::Node;
 
 /// A caller that claims the zone of its turn's amoebot, or that holds it whole.
 #[derive(Drop)]
@@ -79,12 +82,15 @@ pub fn begin<D: Decider>(seat: Seat<D>, turn: u32, bot: u16) -> Held<D>
             area,
             maxes,
             cells: ArrayVec::new(),
+            notes: ArrayVec::new(),
+            after: 0,
         },
     }
 }
 
-/// One try to claim the next cell of the zone. It is won with its value where nobody held it; else this step found another caller's
-/// tag, and the turn claims no more.
+/// The claim of the next cell of the zone. It is won with its value where nobody held it; else another caller's tag was found, and the
+/// turn claims no more. A body is claimed by one try. The word of a node is looked at, and tried while it is found free and changed:
+/// each such try finds a greater stamp.
 pub fn win<D: Decider>(
     held: Held<D>,
     field: &Field<'_, D>,
@@ -97,8 +103,27 @@ pub fn win<D: Decider>(
     ensures refused { IfErr result (λ by. (by.0 ≡ goes held (record (doing held) { phase = Refusing cell by.1 }))
         × IsOthers (about D.verdict held.view) (number_in held) by.1) }
 {
+    match cell {
+        CellName::Body(id) => win_body(held, field, id),
+        CellName::Spot(node) => win_node(held, field, node),
+    }
+}
+
+/// One try to claim a body, which is the next cell.
+fn win_body<D: Decider>(
+    held: Held<D>,
+    field: &Field<'_, D>,
+    id: u16,
+) -> Result<Held<D>, (Stopped<D>, Tag)>
+    requires field { IsOf field.now held }
+    requires next { next_in D.verdict held ≡ Some (name.Body id) }
+    ensures won { IfOk result (λ more. (x : Cell)
+        × (more ≡ goes held (caller_with_cell (about D.verdict held.view) (number_in held) (doing held) (name.Body id) x))) }
+    ensures refused { IfErr result (λ by. (by.0 ≡ goes held (record (doing held) { phase = Refusing (name.Body id) by.1 }))
+        × IsOthers (about D.verdict held.view) (number_in held) by.1) }
+{
     let Held { mut activation } = held;
-    let Some(number) = cell_number(&activation.area, cell) else {
+    let Some(number) = cell_number(&activation.area, CellName::Body(id)) else {
         unreachable!()
     };
     let mine = tag(activation.caller, activation.turn, activation.bot);
@@ -106,7 +131,29 @@ pub fn win<D: Decider>(
     if found != 0 {
         return Err((Stopped { activation }, Tag { number: found }));
     }
-    let value = field.take_out(&mut activation.seat, number);
-    activation.cells.push((cell, value));
+    let value = field.take_out(&mut activation.seat, usize::from(id));
+    activation.cells.push((CellName::Body(id), value));
     Ok(Held { activation })
+}
+
+/// The claim of a node, which is the next cell: a look at its word, and tries while it is found free.
+fn win_node<D: Decider>(
+    held: Held<D>,
+    field: &Field<'_, D>,
+    node: Node,
+) -> Result<Held<D>, (Stopped<D>, Tag)>
+    requires field { IsOf field.now held }
+    requires next { next_in D.verdict held ≡ Some (name.Spot node) }
+    ensures won { IfOk result (λ more. (x : Cell)
+        × (more ≡ goes held (caller_with_cell (about D.verdict held.view) (number_in held) (doing held) (name.Spot node) x))) }
+    ensures refused { IfErr result (λ by. (by.0 ≡ goes held (record (doing held) { phase = Refusing (name.Spot node) by.1 }))
+        × IsOthers (about D.verdict held.view) (number_in held) by.1) }
+{
+    let mut noted = look_at(held, field, node)?;
+    loop {
+        match try_at(noted, field) {
+            Ok(more) => return Ok(more),
+            Err(again) => noted = again?,
+        }
+    }
 }

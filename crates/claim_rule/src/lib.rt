@@ -9,6 +9,7 @@ mod freeing;
 mod held;
 mod laws;
 mod make;
+mod node_steps;
 mod renewal;
 mod rule;
 mod seat;
@@ -18,6 +19,7 @@ mod step_laws;
 mod stopped;
 mod taken;
 mod views;
+mod words;
 
 pub use claimed::{Claimed, Seen, look, seal, unseal};
 pub use field::Field;
@@ -27,11 +29,15 @@ pub use laws::{
     ended_field_is_reached, field_ends_one_way, field_ends_sound, found_is_shown,
     join_changes_nothing, opening_stands, split_changes_nothing, state_is_determined,
 };
+pub use node_steps::{Noted, look_at, try_at};
 pub use rule::ClaimRule;
 pub use seat::Seat;
 pub use seats::Seats;
 pub use settled::{Receipt, Settled, unsettle};
-pub use step_laws::{claim_is_next, commit_is_next, look_is_next, release_is_next, take_is_next};
+pub use step_laws::{
+    claim_is_next, commit_is_next, look_is_next, node_claim_is_next, node_look_is_next,
+    node_release_is_next, release_is_next, take_is_next,
+};
 pub use stopped::{Refused, Stopped, Tag, refuse};
 pub use taken::{Taken, store, take};
-pub use views::{Key, Record, Slot, Terms, View};
+pub use views::{Key, Note, Record, Slot, Terms, View};

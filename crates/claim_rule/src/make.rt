@@ -4,12 +4,13 @@ ghost use Rattle.std.specs.List.{All};
 ghost use Rattle.amoebot_state.specs.Configs.{bot_at};
 ghost use Rattle.claim_rule.specs.Views.{field_terms};
 ghost use Rattle.claim_rule.specs.Stands.{first_view};
-ghost use Rattle.claim_rule.specs.Opened.{AreFirstSlots, first_seats};
+ghost use Rattle.claim_rule.specs.Opened.{AreFirstSlots, first_seats, first_words};
 
 use crate::field::Field;
 use crate::seat::Seat;
 use crate::seats::Seats;
 use crate::views::{Slot, View};
+use crate::words::node_word;
 use amoebot_state::{Cell, Decider, NoMemory, World, has_next, touches_zone};
 use atomic_table::Seat as TableSeat;
 use claim_core::{Journal, Lists};
@@ -51,8 +52,9 @@ fn open<'d, D: Decider>(
     touches_zone(decider);
     has_next(decider);
     let _callers = lists.callers();
+    let words = words_at_first(alloc, &world)?;
     let slots = first_slots(alloc, &world, lists)?;
-    Field::lay_out(alloc, decider, world, lists, slots)
+    Field::lay_out(alloc, decider, world, lists, words, slots)
 }
 
 /// Deals the records of all callers to seats.
@@ -84,16 +86,28 @@ fn deal_all<'d, D: Decider>(
     Ok(Seats { rest, seats })
 }
 
-/// What the slots hold at the start: what each cell holds, by the cells' numbers, and then the journal, with room for all turns.
+/// The words at the start: each node's has its occupant, and all others are 0.
+fn words_at_first(alloc: Global, world: &World) -> Result<Vec<u64>, NoMemory>
+    ensures { IfOk result (λ words. words.items ≡ first_words world.now) }
+{
+    let area = world.area();
+    let mut words = Vec::new(alloc);
+    for number in 0..area.size() {
+        let node = area.node(number);
+        words.push(node_word(0, world.occupant(node), 0))?;
+    }
+    for _id in 0..world.bots() {
+        words.push(0)?;
+    }
+    words.push(0)?;
+    Ok(words)
+}
+
+/// What the slots hold at the start: what each body's cell holds, by the ids, and then the journal, with room for all turns.
 fn first_slots(alloc: Global, world: &World, lists: &Lists) -> Result<Vec<Slot>, NoMemory>
     ensures { IfOk result (λ slots. AreFirstSlots world.now lists.now slots.items) }
 {
-    let area = world.area();
     let mut slots = Vec::new(alloc);
-    for number in 0..area.size() {
-        let node = area.node(number);
-        slots.push(Slot::Cell(Cell::Spot(world.occupant(node))))?;
-    }
     for id in 0..world.bots() {
         slots.push(Slot::Cell(Cell::Body(*world.bot(id))))?;
     }

@@ -1,7 +1,7 @@
 //! The rule, and what each step tells the seat that makes it. These types are for the proofs alone.
 ghost use Rattle.claim_rule.specs.Views.{field_terms};
 ghost use Rattle.claim_rule.specs.Stands.{KeepsRule, first_view};
-ghost use Rattle.claim_rule.specs.Plays.{Claims, Releases, ReadsLength};
+ghost use Rattle.claim_rule.specs.Plays.{Claims, Releases, LooksAt, TriesNode, ReleasesNode, ReadsLength};
 ghost use Rattle.claim_rule.specs.Commits.{took, stored};
 
 use crate::views::{Key, Slot, View};
@@ -17,14 +17,35 @@ impl<'d, D: Decider> TableRule<Slot, View<D>, Key<'d, D>> for ClaimRule {
     ghost first = { λ key. first_view D.verdict (field_terms key.decider.now key.world key.lists.now) };
 }
 
-/// A try to claim a cell.
+/// A look at a node's word.
+pub(crate) struct Look;
+
+impl<D: Decider> Play<Slot, View<D>> for Look {
+    ghost then = { LooksAt D.verdict };
+}
+
+/// A try to put a tag into a node's word.
+pub(crate) struct Try;
+
+impl<D: Decider> Play<Slot, View<D>> for Try {
+    ghost then = { TriesNode D.verdict };
+}
+
+/// The release of the node that was won last.
+pub(crate) struct FreeNode;
+
+impl<D: Decider> Play<Slot, View<D>> for FreeNode {
+    ghost then = { ReleasesNode D.verdict };
+}
+
+/// A try to claim a body.
 pub(crate) struct Claim;
 
 impl<D: Decider> Play<Slot, View<D>> for Claim {
     ghost then = { Claims D.verdict };
 }
 
-/// The release of the cell that was won last.
+/// The release of the body that was won last.
 pub(crate) struct Free;
 
 impl<D: Decider> Play<Slot, View<D>> for Free {
@@ -42,7 +63,7 @@ impl<D: Decider> Play<Slot, View<D>> for Read {
 pub(crate) struct Take;
 
 impl<D: Decider> Play<Slot, View<D>> for Take {
-    ghost then = { took };
+    ghost then = { took D.verdict };
 }
 
 /// A commit.

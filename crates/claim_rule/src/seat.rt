@@ -18,13 +18,14 @@ pub struct Seat<D: Decider> {
 }
 
 impl<D: Decider> Model for Seat<D> {
-    ghost use Rattle.claim_rule.specs.Tokens.{Token, IsSeat};
+    ghost use Rattle.claim_rule.specs.Views.{seen};
+    ghost use Rattle.claim_rule.specs.Tokens.{Token, IsSeat, frame_of};
 
     ghost Value = { Token D };
 
-    ghost view = { λ s. record { table = s.seat.table_id; view = s.seat.me.0 } };
+    ghost view = { λ s. record { table = s.seat.table_id; view = seen s.seat.me.0 } };
 
-    ghost invariant = { λ s. IsSeat D.verdict s.seat.me s.caller s.turn s.area s.maxes };
+    ghost invariant = { λ s. IsSeat D.verdict s.seat.me s.caller s.turn (frame_of s.area s.maxes) };
 }
 
 impl<D: Decider> Seat<D> {

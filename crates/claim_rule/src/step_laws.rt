@@ -1,16 +1,33 @@
-//! Each step of a seat, at whatever table stands for a state, leads to a table that stands for the state after its caller's next step.
-//! There is such a step, and each that keeps the rule and tells what it has to tell is one.
+//! Each step of a seat, at whatever table stands for a state, leads to a table that stands for the state after its caller's next step;
+//! a free word of a node that is found and not won leaves the state as it was. There is such a step, and each that keeps the rule and
+//! tells what it has to tell is one.
 ghost use Rattle.claim_rule.specs.declared.views.Terms.{Terms};
 ghost use Rattle.claim_rule.specs.Nexts.{ClaimIsNext, ReleaseIsNext, LookIsNext, TakeIsNext, CommitIsNext};
+ghost use Rattle.claim_rule.specs.Nexts.{NodeLookIsNext, NodeClaimIsNext, NodeReleaseIsNext};
 
 use amoebot_state::Decider;
 
-/// A try to claim a cell, won or refused.
+/// A look at a node's word, which is noted where it is free, and else is a refused claim.
+pub fn node_look_is_next<D: Decider>(_decider: &D)
+    ensures { (z : Terms D) → NodeLookIsNext D.verdict z }
+{}
+
+/// A try to put the tag into the noted word of a node: won, refused, or noted again.
+pub fn node_claim_is_next<D: Decider>(_decider: &D)
+    ensures { (z : Terms D) → NodeClaimIsNext D.verdict z }
+{}
+
+/// The release of the node that was won last.
+pub fn node_release_is_next<D: Decider>(_decider: &D)
+    ensures { (z : Terms D) → NodeReleaseIsNext D.verdict z }
+{}
+
+/// A try to claim a body, won or refused.
 pub fn claim_is_next<D: Decider>(_decider: &D)
     ensures { (z : Terms D) → ClaimIsNext D.verdict z }
 {}
 
-/// The release of the cell that was won last.
+/// The release of the body that was won last.
 pub fn release_is_next<D: Decider>(_decider: &D)
     ensures { (z : Terms D) → ReleaseIsNext D.verdict z }
 {}

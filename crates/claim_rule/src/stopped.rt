@@ -163,6 +163,7 @@ pub fn refuse<D: Decider>(
 {
     let Stopped { mut activation } = stopped;
     let place = field.place(&mut activation.seat);
+    activation.after = place;
     let refused = Refused {
         caller: activation.caller,
         turn: activation.turn,

@@ -22,7 +22,7 @@ pub struct Taken<D: Decider> {
 }
 
 impl<D: Decider> Model for Taken<D> {
-    ghost use Rattle.claim_rule.specs.Tokens.{Token, token_in, cells_in};
+    ghost use Rattle.claim_rule.specs.Tokens.{Token, frame_of, token_in, cells_in, notes_in};
     ghost use Rattle.claim_rule.specs.Settling.{IsTaken};
 
     ghost Value = { Token D };
@@ -30,7 +30,7 @@ impl<D: Decider> Model for Taken<D> {
     ghost view = { λ t. token_in t.activation };
 
     ghost invariant = { λ t. IsTaken D.verdict t.activation.seat.me t.activation.caller t.activation.turn t.activation.bot
-        t.activation.area t.activation.maxes (cells_in t.activation) t.change t.journal };
+        (frame_of t.activation.area t.activation.maxes) (cells_in t.activation) (notes_in t.activation) t.change t.journal };
 }
 
 /// One try to take the journal, for the change that was decided on what the claim found. The claim and the change come back as they
@@ -88,6 +88,7 @@ pub fn store<D: Decider>(taken: Taken<D>, field: &Field<'_, D>) -> (Settled<D>, 
     });
     field.put_journal_home(&mut activation.seat, journal);
     field.store_length(&mut activation.seat, u64::from(place) + 1);
+    activation.after = place + 1;
     let receipt = Receipt {
         caller: activation.caller,
         turn: activation.turn,

@@ -1,7 +1,7 @@
 ghost use Rattle.std.specs.Prelude.{◌≡◌, IfOk, IfErr, OnOk};
 ghost use Rattle.claim_rule.specs.Tokens.{IsOf, IsToLook, number_in};
 
-use amoebot_state::CellName;
+use amoebot_state::{CellName, Decider};
 use claim_core::Lists;
 use claim_rule::{Claimed, Field, Held, Refused, Seat, Seats, begin, seal, win};
 use node_claims::{place, release, try_claim};
@@ -20,11 +20,11 @@ pub fn none_left(seats: &mut Seats<Idler>) -> Result<(), Fail>
 }
 
 /// The seat's next turn begins.
-pub fn begun(
-    field: &Field<'_, Idler>,
+pub fn begun<D: Decider>(
+    field: &Field<'_, D>,
     lists: &Lists,
-    seat: Seat<Idler>,
-) -> Result<Held<Idler>, Fail>
+    seat: Seat<D>,
+) -> Result<Held<D>, Fail>
     requires of { IsOf field.now seat }
     requires lists { field.now.terms.lists ≡ lists.now }
     ensures of { IfOk result (λ held. IsOf field.now held) }
@@ -58,11 +58,11 @@ pub fn claim(
 }
 
 /// Claims these cells, which are the next ones of the zone.
-pub fn won(
-    field: &Field<'_, Idler>,
-    mut held: Held<Idler>,
+pub fn won<D: Decider>(
+    field: &Field<'_, D>,
+    mut held: Held<D>,
     cells: &[CellName],
-) -> Result<Held<Idler>, Fail>
+) -> Result<Held<D>, Fail>
     requires { IsOf field.now held }
     ensures of { IfOk result (λ more. IsOf field.now more) }
     ensures same { IfOk result (λ more. number_in more ≡ number_in held) }
@@ -73,7 +73,7 @@ pub fn won(
     Ok(held)
 }
 
-fn won_one(field: &Field<'_, Idler>, held: Held<Idler>, cell: CellName) -> Result<Held<Idler>, Fail>
+fn won_one<D: Decider>(field: &Field<'_, D>, held: Held<D>, cell: CellName) -> Result<Held<D>, Fail>
     requires { IsOf field.now held }
     ensures of { IfOk result (λ more. IsOf field.now more) }
     ensures same { IfOk result (λ more. number_in more ≡ number_in held) }

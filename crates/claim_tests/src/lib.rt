@@ -15,6 +15,8 @@ mod core_rows;
 #[cfg(test)]
 mod field_fixtures;
 #[cfg(test)]
+mod overtaken;
+#[cfg(test)]
 mod parts;
 #[cfg(test)]
 mod pulled;

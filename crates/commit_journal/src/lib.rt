@@ -3,4 +3,4 @@
 
 mod waiting;
 
-pub use waiting::commit;
+pub use waiting::{commit, try_commit};

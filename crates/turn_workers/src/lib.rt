@@ -3,6 +3,7 @@
 
 mod laws;
 mod meeting;
+mod start;
 mod turns;
 mod workers;
 mod working;

@@ -3,10 +3,12 @@ ghost use Rattle.std.specs.Prelude.{◌≡◌, ◌<◌, ◌≤◌, ◌+◌, leng
 ghost use Rattle.claim_core.specs.Limits.{most_callers};
 ghost use Rattle.turn_workers.specs.Workers.{HasMade, HaveMade};
 
+use crate::start::Start;
 use activation::{Gate, Turn, activate};
 use amoebot_state::Decider;
 use claim_core::Lists;
 use claim_rule::{Field, Seat};
+use std::mem::swap;
 use std::sync::Wait;
 use std::thread;
 use std::thread::Threads;
@@ -36,22 +38,24 @@ pub(crate) fn make_all<R: Threads + Wait + Sync, D: Decider, G: Gate>(
     ensures count { length desks.new ≡ length desks.old }
     ensures after { HaveMade D.verdict field.now lists.now.turns desks.new }
 {
-    let _callers = lists.callers();
+    let start = Start::of(lists.callers());
     let worker = |caller: usize, desk: &mut Desk<D>|
         requires { (caller < length lists.now.ids) × (length lists.now.ids ≤ most_callers)
             × (field.now.terms.lists ≡ lists.now) × HasMade D.verdict field.now caller 0 desk.now }
         ensures { HasMade D.verdict field.entry.now caller lists.entry.now.turns desk.exit.now }
-    { make_turns(rt, field, lists, gate, caller as u8, desk) };
+    { make_turns(rt, field, lists, gate, caller as u8, &start, desk) };
     thread::for_each_mut(rt, desks, WORKERS, &worker);
 }
 
-/// One worker: makes all turns of a caller in their order, and keeps what became of each.
+/// One worker: begins with the others, makes all turns of a caller in their order, and keeps what became of each. Meanwhile the desk is
+/// its own, apart from those of the others: they lie side by side in memory, and what one writes there slows the others down.
 fn make_turns<R: Wait, D: Decider, G: Gate>(
     rt: &R,
     field: &Field<'_, D>,
     lists: &Lists,
     gate: &G,
     caller: u8,
+    start: &Start,
     desk: &mut Desk<D>,
 )
     requires listed { caller < length lists.now.ids }
@@ -59,12 +63,20 @@ fn make_turns<R: Wait, D: Decider, G: Gate>(
     requires before { HasMade D.verdict field.now caller 0 desk.old }
     ensures { HasMade D.verdict field.now caller lists.now.turns desk.new }
 {
+    let mut own = Desk {
+        seat: None,
+        turns: Vec::new(*desk.turns.allocator()),
+    };
+    swap(desk, &mut own);
+    start.begin();
     for turn in 0..lists.turns() {
-        make_turn(rt, field, lists, gate, caller, turn, desk);
+        make_turn(rt, field, lists, gate, caller, turn, &mut own);
     }
+    *desk = own;
 }
 
-/// Makes one turn of a caller.
+/// Makes one turn of a caller. Where there are others, and the turn has changed nothing, the worker lets them go first: what its amoebots
+/// wait for may be their turn.
 fn make_turn<R: Wait, D: Decider, G: Gate>(
     rt: &R,
     field: &Field<'_, D>,
@@ -85,6 +97,9 @@ fn make_turn<R: Wait, D: Decider, G: Gate>(
     };
     let bot = lists.bot(caller, turn);
     let (seat, answer) = activate(rt, field, seat, gate, turn, bot);
+    if lists.callers() > 1 && !matches!(&answer, Turn::Done(_)) {
+        thread::yield_now();
+    }
     desk.seat = Some(seat);
     desk.turns.push_reserved(answer);
 }

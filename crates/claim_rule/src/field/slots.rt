@@ -2,9 +2,9 @@
 ghost use Rattle.std.specs.Prelude.{◌≡◌, ◌∷◌};
 ghost use Rattle.amoebot_state.specs.declared.cell.Cell.{Cell};
 ghost use Rattle.atomic_table.specs.Table.{rest};
-ghost use Rattle.claim_core.specs.Cells.{cells};
 ghost use Rattle.claim_core.specs.Turns.{Kept};
-ghost use Rattle.claim_rule.specs.declared.views.Slot.TheVariants as slot;
+ghost use Rattle.claim_rule.specs.declared.views.Slot.TheVariants as filling;
+ghost use Rattle.claim_rule.specs.Stands.{journal_slot};
 ghost use Rattle.claim_rule.specs.Internal.{IsSameSeat};
 
 use crate::field::Field;
@@ -14,28 +14,28 @@ use atomic_table::Seat;
 use claim_core::Journal;
 
 impl<'d, D: Decider> Field<'d, D> {
-    /// Takes the value out of the slot of the cell that was won last.
-    pub(crate) fn take_out(&self, seat: &mut Seat<Slot, View<D>>, cell: usize) -> Cell
+    /// Takes the value out of the slot of the body that was won last.
+    pub(crate) fn take_out(&self, seat: &mut Seat<Slot, View<D>>, slot: usize) -> Cell
         requires table { seat.old.table_id ≡ self.now.table }
-        requires won { (x : Cell) × (seat.old.me.1 ≡ (cell, slot.Cell x) ∷ rest seat.old.me.1) }
+        requires won { (x : Cell) × (seat.old.me.1 ≡ (slot, filling.Cell x) ∷ rest seat.old.me.1) }
         ensures same { IsSameSeat seat.old seat.new }
-        ensures value { seat.old.me.1 ≡ (cell, slot.Cell result) ∷ rest seat.old.me.1 }
-        ensures emptied { seat.new.me ≡ (seat.old.me.0, (cell, slot.Empty) ∷ rest seat.old.me.1) }
+        ensures value { seat.old.me.1 ≡ (slot, filling.Cell result) ∷ rest seat.old.me.1 }
+        ensures emptied { seat.new.me ≡ (seat.old.me.0, (slot, filling.Empty) ∷ rest seat.old.me.1) }
     {
-        match self.table.shared.exchange(seat, cell, Slot::Empty) {
+        match self.table.shared.exchange(seat, slot, Slot::Empty) {
             Slot::Cell(value) => value,
             _ => unreachable!(),
         }
     }
 
-    /// Puts a value into the slot of the cell that was won last, which is out and empty.
-    pub(crate) fn put_home(&self, seat: &mut Seat<Slot, View<D>>, cell: usize, value: Cell)
+    /// Puts a value into the slot of the body that was won last, which is out and empty.
+    pub(crate) fn put_home(&self, seat: &mut Seat<Slot, View<D>>, slot: usize, value: Cell)
         requires table { seat.old.table_id ≡ self.now.table }
-        requires empty { seat.old.me.1 ≡ (cell, slot.Empty) ∷ rest seat.old.me.1 }
+        requires empty { seat.old.me.1 ≡ (slot, filling.Empty) ∷ rest seat.old.me.1 }
         ensures same { IsSameSeat seat.old seat.new }
-        ensures filled { seat.new.me ≡ (seat.old.me.0, (cell, slot.Cell value) ∷ rest seat.old.me.1) }
+        ensures filled { seat.new.me ≡ (seat.old.me.0, (slot, filling.Cell value) ∷ rest seat.old.me.1) }
     {
-        match self.table.shared.exchange(seat, cell, Slot::Cell(value)) {
+        match self.table.shared.exchange(seat, slot, Slot::Cell(value)) {
             Slot::Empty => {}
             _ => unreachable!(),
         }
@@ -44,12 +44,12 @@ impl<'d, D: Decider> Field<'d, D> {
     /// Takes the journal out of its slot, which was taken last.
     pub(crate) fn take_journal_out(&self, seat: &mut Seat<Slot, View<D>>) -> Journal
         requires table { seat.old.table_id ≡ self.now.table }
-        requires got { (j : Kept) × (seat.old.me.1 ≡ (cells self.now.terms.world, slot.Journal j) ∷ rest seat.old.me.1) }
+        requires got { (j : Kept) × (seat.old.me.1 ≡ (journal_slot self.now.terms.world, filling.Journal j) ∷ rest seat.old.me.1) }
         ensures same { IsSameSeat seat.old seat.new }
-        ensures value { seat.old.me.1 ≡ (cells self.now.terms.world, slot.Journal result) ∷ rest seat.old.me.1 }
-        ensures emptied { seat.new.me ≡ (seat.old.me.0, (cells self.now.terms.world, slot.Empty) ∷ rest seat.old.me.1) }
+        ensures value { seat.old.me.1 ≡ (journal_slot self.now.terms.world, filling.Journal result) ∷ rest seat.old.me.1 }
+        ensures emptied { seat.new.me ≡ (seat.old.me.0, (journal_slot self.now.terms.world, filling.Empty) ∷ rest seat.old.me.1) }
     {
-        let journal = self.journal_number();
+        let journal = self.journal_slot();
         match self.table.shared.exchange(seat, journal, Slot::Empty) {
             Slot::Journal(journal) => journal,
             _ => unreachable!(),
@@ -59,11 +59,11 @@ impl<'d, D: Decider> Field<'d, D> {
     /// Puts the journal into its slot, which is out and empty.
     pub(crate) fn put_journal_home(&self, seat: &mut Seat<Slot, View<D>>, journal: Journal)
         requires table { seat.old.table_id ≡ self.now.table }
-        requires empty { seat.old.me.1 ≡ (cells self.now.terms.world, slot.Empty) ∷ rest seat.old.me.1 }
+        requires empty { seat.old.me.1 ≡ (journal_slot self.now.terms.world, filling.Empty) ∷ rest seat.old.me.1 }
         ensures same { IsSameSeat seat.old seat.new }
-        ensures filled { seat.new.me ≡ (seat.old.me.0, (cells self.now.terms.world, slot.Journal journal) ∷ rest seat.old.me.1) }
+        ensures filled { seat.new.me ≡ (seat.old.me.0, (journal_slot self.now.terms.world, filling.Journal journal) ∷ rest seat.old.me.1) }
     {
-        let number = self.journal_number();
+        let number = self.journal_slot();
         match self
             .table
             .shared

@@ -5,6 +5,7 @@ ghost use Rattle.atomic_table.specs.Table.{step};
 ghost use Rattle.claim_core.specs.Cells.{cells};
 ghost use Rattle.claim_core.specs.Limits.{most_turns};
 ghost use Rattle.claim_rule.specs.Views.{own, goes_on};
+ghost use Rattle.claim_rule.specs.Stands.{journal_slot};
 ghost use Rattle.claim_rule.specs.Plays.{IsToTry, IsToFree, IsToRead, about, marked_at, Claims, Releases, ReadsLength};
 ghost use Rattle.claim_rule.specs.Commits.{Takes, IsToCommit, took, stored};
 ghost use Rattle.claim_rule.specs.Internal.{MayStep, IsSameSeat};
@@ -17,7 +18,7 @@ use atomic_table::Seat;
 use claim_core::cells_of;
 
 impl<'d, D: Decider> Field<'d, D> {
-    /// One try to claim the cell with this number. It returns the tag that was found, 0 where the cell is won.
+    /// One try to claim the body with this number. It returns the tag that was found, 0 where the body is won.
     pub(crate) fn claim(&self, seat: &mut Seat<Slot, View<D>>, cell: usize, tag: u64) -> u64
         requires may { MayStep self.now seat.old }
         requires next { IsToTry D.verdict cell tag seat.old.me.0 }
@@ -29,7 +30,7 @@ impl<'d, D: Decider> Field<'d, D> {
             .compare_exchange::<Claim>(seat, cell, 0, tag)
     }
 
-    /// One release, of the cell with this number, which was won last.
+    /// One release, of the body with this number, which was won last.
     pub(crate) fn free(&self, seat: &mut Seat<Slot, View<D>>, cell: usize)
         requires may { MayStep self.now seat.old }
         requires last { IsToFree D.verdict cell seat.old.me }
@@ -69,17 +70,23 @@ impl<'d, D: Decider> Field<'d, D> {
         requires may { MayStep self.now seat.old }
         requires takes { Takes (own seat.old.me.0).caller.phase }
         ensures same { IsSameSeat seat.old seat.new }
-        ensures told { took (step self.now.table.slots (cells self.now.terms.world) 1 0 none) seat.old.me result seat.new.me }
+        ensures told { took D.verdict (step self.now.table.slots (cells self.now.terms.world) 1 0 none) seat.old.me result seat.new.me }
     {
         let journal = self.journal_number();
         self.table.shared.fetch_or::<Take>(seat, journal, 1)
+    }
+
+    /// Whether another caller had the journal at some moment. It is no step, and nothing is promised of it.
+    pub fn is_journal_taken(&self) -> bool {
+        let journal = self.journal_number();
+        self.table.shared.peek(journal) % 2 != 0
     }
 
     /// Frees the journal, which has this length now: the commit.
     pub(crate) fn store_length(&self, seat: &mut Seat<Slot, View<D>>, length: u64)
         requires may { MayStep self.now seat.old }
         requires few { length ≤ most_turns }
-        requires commits { IsToCommit D.verdict (cells self.now.terms.world) (2 * length) seat.old.me }
+        requires commits { IsToCommit D.verdict (journal_slot self.now.terms.world) (2 * length) seat.old.me }
         ensures same { IsSameSeat seat.old seat.new }
         ensures told { stored D.verdict (step self.now.table.slots (cells self.now.terms.world) (2 * length) 0 none)
             seat.old.me (2 * length) seat.new.me }
@@ -88,11 +95,18 @@ impl<'d, D: Decider> Field<'d, D> {
         self.table.shared.store::<Commit>(seat, journal, 2 * length)
     }
 
-    /// The number of the journal's word and of its slot, behind those of the cells.
+    /// The number of the journal's word, behind those of the cells.
     pub(crate) fn journal_number(&self) -> usize
         ensures number { result ≡ cells self.now.terms.world }
         ensures word { result < self.now.table.words }
     {
         cells_of(&self.world)
+    }
+
+    /// The number of the journal's slot, behind those of the bodies.
+    pub(crate) fn journal_slot(&self) -> usize
+        ensures { result ≡ journal_slot self.now.terms.world }
+    {
+        usize::from(self.world.bots())
     }
 }

@@ -19,14 +19,14 @@ gather-requires-clause-other g c = λ κs within.
     let z = c.args.field.now.terms in
     let pops : c.loop-place.seats.items ≡ c.pop.new.self.items ++ Some c.in-Some-place.seat ∷ [] = c.in-Some.ensures.items ∙ (λ i. c.pop.new.self.items ++ c.in-Some-place.is i ∷ []) in
     let there = last_is z c.args.seats.items c.loop-place.seats.items c.pop.new.self.items (Some c.in-Some-place.seat) c.loop-place.rest.me c.loop-place.invariant.1 pops in
-    (record_in c.in-Some-place.seat ∷ [], one_record z c.seat.inside.seat.me c.in-Some-place.seat c.seat.inside.seat.table_id c.seat.view_is c.seat.invariant.alone c.seat.invariant.out (c.requires.seats _ c.in-Some-place.seat there).1)
+    (record_in c.in-Some-place.seat ∷ [], one_record z c.seat.inside.seat.me c.in-Some-place.seat c.seat.inside.seat.table_id c.seat.view_is c.seat.invariant.alone c.seat.invariant.won c.seat.invariant.note c.seat.invariant.out (c.requires.seats _ c.in-Some-place.seat there).1)
 
 pub loop-place-preserved-in-Some-place : goal.loop-place-preserved-in-Some-place
 loop-place-preserved-in-Some-place g c =
     let z = c.args.field.now.terms in
     let pops : c.loop-place.seats.items ≡ c.pop.new.self.items ++ Some c.in-Some-place.seat ∷ [] = c.in-Some.ensures.items ∙ (λ i. c.pop.new.self.items ++ c.in-Some-place.is i ∷ []) in
     let there = last_is z c.args.seats.items c.loop-place.seats.items c.pop.new.self.items (Some c.in-Some-place.seat) c.loop-place.rest.me c.loop-place.invariant.1 pops in
-    let its = one_record z c.seat.inside.seat.me c.in-Some-place.seat c.seat.inside.seat.table_id c.seat.view_is c.seat.invariant.alone c.seat.invariant.out (c.requires.seats _ c.in-Some-place.seat there).1 in
+    let its = one_record z c.seat.inside.seat.me c.in-Some-place.seat c.seat.inside.seat.table_id c.seat.view_is c.seat.invariant.alone c.seat.invariant.won c.seat.invariant.note c.seat.invariant.out (c.requires.seats _ c.in-Some-place.seat there).1 in
     let none = ap (λ (t : Token g.row.D.Denot). (record_in t).taken) (sym c.seat.view_is) ∙ c.seat.invariant.taken in
     let rests = ap (λ (t : Token g.row.D.Denot). (doing t).held) (sym c.seat.view_is) ∙ ap (λ (k : Caller). k.held) c.seat.invariant.rests in (
       c.gather.ensures.0 ∙ c.loop-place.invariant.0,

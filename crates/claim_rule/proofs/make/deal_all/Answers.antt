@@ -1,6 +1,6 @@
 use Rattle.std.proofs.Common.{◌≡◌, ◌<◌, ◌+◌, [], length, drop, ap, ◌∙◌, arith}
 use Rattle.amoebot_state.specs.Configs.{Config}
-use Rattle.claim_rule.specs.Views.{Seated}
+use Rattle.claim_rule.specs.Views.{Seated, seen}
 use Rattle.claim_rule.specs.Opened.{first_records}
 use Rattle.claim_rule.proofs.Deals.{next_one, first_of_rest, one_dealt, others_left, is_seat, dealt_so_far, are_seats, are_first}
 use Rattle.claim_rule.proofs.make.deal_all.Goals as goal
@@ -36,7 +36,7 @@ loop-caller-preserved g c =
     let table = c.deal-seat.ensures.dealt.0 ∙ c.loop-caller.invariant.0 in (
       c.deal-seat.ensures.rest.0 ∙ c.loop-caller.invariant.0,
       c.deal-seat.ensures.rest.1 ∙ others_left g.D.Decider.verdict z c.loop-caller.rest.me c.loop-caller.caller lt c.loop-caller.invariant.1,
-      c.in_ok-push.ensures.items ∙ dealt_so_far g.D.Decider.verdict c.args.field.now c.loop-caller.seats.items c.loop-caller.caller _ lt c.loop-caller.invariant.2 (λ i. record { table = table i; view = view i }),
+      c.in_ok-push.ensures.items ∙ dealt_so_far g.D.Decider.verdict c.args.field.now c.loop-caller.seats.items c.loop-caller.caller _ lt c.loop-caller.invariant.2 (λ i. record { table = table i; view = seen (view i) }),
     )
 
 pub invariant_of-result : goal.invariant_of-result

@@ -1,26 +1,17 @@
-use Rattle.std.proofs.Common.{◌≡◌, ◌*◌, ◌++◌, ◌∷◌, [], ap, sym, ◌∙◌, arith, length}
+use Rattle.std.proofs.Common.{◌≡◌, ◌++◌, ◌∷◌, [], ap, sym, ◌∙◌, arith, length}
 use Rattle.std.specs.Prelude.{unwrap_or}
-use Rattle.tri_lattice.specs.Extent.{Extent, node_at}
 use Rattle.amoebot_state.specs.declared.cell.Cell.TheVariants as cell
-use Rattle.amoebot_state.specs.Configs.{blank, occupant}
+use Rattle.amoebot_state.specs.Configs.{blank}
 use Rattle.claim_core.specs.Turns.{Kept}
 use Rattle.claim_rule.specs.declared.views.Slot.TheVariants as slot
-use Rattle.claim_rule.proofs.FirstSlots.{nodes_so_far, bodies_so_far, one_more_node, one_more_body, all_slots}
+use Rattle.claim_rule.proofs.FirstSlots.{bodies_so_far, one_more_body}
 use Rattle.claim_rule.proofs.make.first_slots.Goals as goal
-
--- src/make.rt
-pub loop-number-preserved : goal.loop-number-preserved
-loop-number-preserved c =
-    let w = c.args.world.now in
-    let node = c.node-node.ensures ∙ ap (λ (a : Extent). node_at a c.loop-number.number) c.area-area.ensures in
-    let occupant = c.occupant.ensures ∙ ap (occupant w) node in
-    (c.area-area.ensures, c.in_ok-push.ensures.items ∙ (λ i. c.loop-number.invariant.1 i ++ slot.Cell (cell.Spot (occupant i)) ∷ []) ∙ sym (one_more_node w c.loop-number.number))
 
 pub loop-id-preserved : goal.loop-id-preserved
 loop-id-preserved c =
     let w = c.args.world.now in
     let body = ap (λ o. unwrap_or o blank) c.bot.ensures.value in
-    c.in_ok-push-2.ensures.items ∙ (λ i. c.loop-id.invariant i ++ slot.Cell (cell.Body (body i)) ∷ []) ∙ sym (one_more_body w (nodes_so_far w (w.area.w * w.area.h)) c.loop-id.id)
+    c.in_ok-push.ensures.items ∙ (λ i. c.loop-id.invariant i ++ slot.Cell (cell.Body (body i)) ∷ []) ∙ sym (one_more_body w c.loop-id.id)
 
 pub returns : goal.returns
 returns c =
@@ -28,7 +19,7 @@ returns c =
     let all : c.loop-id.id ≡ length w.bots = omega (arith, c.loop-id-test.false, c.loop-id.auto.id-end, c.bots-id-end.ensures.value) in
     record {
       journal = c.reserve.new.self;
-      are = c.in_ok-push-3.ensures.items ∙ ap (λ xs. xs ++ slot.Journal c.reserve.new.self ∷ []) (c.loop-id.invariant ∙ ap (λ n. nodes_so_far w (w.area.w * w.area.h) ++ bodies_so_far w n) all ∙ sym (all_slots w));
+      are = c.in_ok-push-2.ensures.items ∙ ap (λ xs. xs ++ slot.Journal c.reserve.new.self ∷ []) (c.loop-id.invariant ∙ ap (bodies_so_far w) all);
       first = ap (λ (j : Kept). j.first) c.in_ok-reserve.ensures.ok ∙ c.in_ok-journal.ensures.first;
       entries = ap (λ (j : Kept). j.entries) c.in_ok-reserve.ensures.ok ∙ c.in_ok-journal.ensures.entries;
       room = omega (arith, ap (λ (j : Kept). j.spare) c.in_ok-reserve.ensures.ok, c.all_turns.ensures);

@@ -22,6 +22,6 @@ store_length-requires-clause-commits g c κs within =
 
 pub invariant_of-result : goal.invariant_of-result
 invariant_of-result g c =
-    let all = has_stored g.D.Decider.verdict c.taken.inside.activation.seat.me _ _ _ _ _ _ c.taken.inside.change c.taken.inside.journal c.taken.invariant _ (length c.taken.inside.journal.entries) c.push.new.self c.put_journal_home.new.seat.me c.store_length.new.seat.me _
-    c.put_journal_home.ensures.filled c.store_length.ensures.told.0 c.store_length.ensures.told.1 Rattle.std.proofs.Common.refl (ap reverse (news g c) ∙ reverse-map (patched_pair c.taken.inside.change.patch) c.taken.inside.activation.cells.items) in
+    let all = has_stored g.D.Decider.verdict c.taken.inside.activation.seat.me _ _ _ _ _ _ c.taken.inside.change c.taken.inside.journal c.taken.invariant _ (length c.entries.result.now) c.push.new.self c.put_journal_home.new.seat.me c.store_length.new.seat.me _
+    c.put_journal_home.ensures.filled c.store_length.ensures.told.0 c.store_length.ensures.told.1 (ap (λ (es : List Entry). length es) c.entries.ensures) (ap reverse (news g c) ∙ reverse-map (patched_pair c.taken.inside.change.patch) c.taken.inside.activation.cells.items) in
     (all.0, all.1, all.2)

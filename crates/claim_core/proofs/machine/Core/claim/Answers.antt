@@ -1,22 +1,21 @@
-use Rattle.std.proofs.Common.{◌≡◌, ◌++◌, ◌∷◌, [], refl, sym, ap, ◌∙◌, subst, arith, List, ℕ, set}
-use Rattle.std.specs.Prelude.{IfSome}
+use Rattle.std.proofs.Common.{◌≡◌, ◌++◌, ◌∷◌, [], refl, sym, ap, ◌∙◌, subst, arith, List, ℕ, length, set}
 use Rattle.std.proofs.Math.ListN.{length-set}
 use Rattle.std.proofs.lemmas.Option.{none-some, same_Some}
 use Rattle.tri_lattice.specs.Extent.{Extent}
-use Rattle.amoebot_state.specs.Pairs.{Pairs, body_in}
-use Rattle.amoebot_state.specs.Refusals.{IsBotInRange}
-use Rattle.amoebot_state.specs.Known.{next_cell}
-use Rattle.amoebot_state.specs.Zones.{Shown, IsShown}
+use Rattle.amoebot_state.specs.Configs.{bare_of}
+use Rattle.amoebot_state.specs.Pairs.{Pairs}
+use Rattle.amoebot_state.specs.Known.{known_zone, next_cell}
+use Rattle.amoebot_state.specs.Zones.{Shown, IsShown, shown_with}
 use Rattle.claim_core.specs.declared.state.Phase.TheVariants as phase
 use Rattle.claim_core.specs.Turns.{bot_of_turn}
 use Rattle.claim_core.specs.Tags.{tag}
 use Rattle.claim_core.specs.Cells.{number, held_by}
 use Rattle.claim_core.specs.Cores.{phase_after, state_of}
-use Rattle.claim_core.proofs.MachineLemmas.{closes, kept, known as is_listed, claim_plain, claim_next, few_held, claim_number, claim_cell, claim_refused, claim_more_plain, claim_shown, claim_won, seat_in, inside_in, phase_in}
+use Rattle.claim_core.proofs.MachineLemmas.{closes, kept, known as is_listed, looked, zones_past, zones_with, refusing_past, claim_next, few_held, claim_number, claim_cell, claim_refused, claim_push, claim_known, claim_after, claim_shown, claim_won, seat_in, inside_in, phase_in}
 use Rattle.claim_core.proofs.machine.Core.claim.Goals as goal
 
 abbrev the_shown : Extent → List ℕ → ℕ → Pairs → Shown
-the_shown a m b cells = record { area = a; maxes = m; bot = b; cells = cells }
+the_shown a m b cells = shown_with (bare_of a m) b cells
 
 pub index_mut-seat-requires : goal.index_mut-seat-requires
 index_mut-seat-requires g c = omega (arith, inside_in c.self.invariant c.self.view_is refl c.args.caller phase.Claim c.requires, c.from.ensures, c.self.inside.seats.ok.0)
@@ -26,17 +25,11 @@ bot-bot-requires g c =
     let seat = seat_in c.self.invariant c.self.view_is refl c.args.caller phase.Claim c.requires c.from.result c.index_mut-seat.result.now c.from.ensures c.index_mut-seat.ensures.value in
     is_listed c.self.invariant seat
 
-pub next_cell-requires : goal.next_cell-requires
-next_cell-requires g c =
-    let seat = seat_in c.self.invariant c.self.view_is refl c.args.caller phase.Claim c.requires c.from.result c.index_mut-seat.result.now c.from.ensures c.index_mut-seat.ensures.value in
-    let plain = claim_plain c.self.invariant seat in
-    record { plain = subst (λ (z : Pairs × ℕ). IfSome (body_in z.0 z.1) IsBotInRange) (λ j. (sym c.as_slice.ensures.value j, sym c.bot-bot.ensures j)) plain }
-
 pub unreachable-requires : goal.unreachable-requires
 unreachable-requires g c =
     let seat = seat_in c.self.invariant c.self.view_is refl c.args.caller phase.Claim c.requires c.from.result c.index_mut-seat.result.now c.from.ensures c.index_mut-seat.ensures.value in
     let ph = phase_in c.self.invariant seat c.self.view_is refl phase.Claim c.requires in
-    let asked : next_cell c.self.inside.world.area (bot_of_turn c.self.inside.lists c.args.caller c.index_mut-seat.result.now.turn) c.index_mut-seat.result.now.held.items ≡ c.next_cell.result = (λ j. next_cell (sym c.area-area.ensures j) (sym c.bot-bot.ensures j) (sym c.as_slice.ensures.value j)) ∙ sym c.next_cell.ensures in
+    let (known, asked) = looked c.self.invariant seat ph c.next_known-next.new.zone c.next_known-next.result c.bot-bot.result c.as_slice.result.now c.bot-bot.ensures c.as_slice.ensures.value c.next_known-next.ensures in
     let some = claim_next c.self.invariant seat ph in
     none-some some.0 (sym c.in-None.is ∙ sym asked ∙ some.1)
 
@@ -44,7 +37,7 @@ pub unreachable-requires-in-None-cell_number : goal.unreachable-requires-in-None
 unreachable-requires-in-None-cell_number g c =
     let seat = seat_in c.self.invariant c.self.view_is refl c.args.caller phase.Claim c.requires c.from.result c.index_mut-seat.result.now c.from.ensures c.index_mut-seat.ensures.value in
     let ph = phase_in c.self.invariant seat c.self.view_is refl phase.Claim c.requires in
-    let asked : next_cell c.self.inside.world.area (bot_of_turn c.self.inside.lists c.args.caller c.index_mut-seat.result.now.turn) c.index_mut-seat.result.now.held.items ≡ c.next_cell.result = (λ j. next_cell (sym c.area-area.ensures j) (sym c.bot-bot.ensures j) (sym c.as_slice.ensures.value j)) ∙ sym c.next_cell.ensures in
+    let (known, asked) = looked c.self.invariant seat ph c.next_known-next.new.zone c.next_known-next.result c.bot-bot.result c.as_slice.result.now c.bot-bot.ensures c.as_slice.ensures.value c.next_known-next.ensures in
     let nx = asked ∙ c.in-Some.is in
     let num = claim_number c.self.invariant seat ph c.in-Some.name nx in
     none-some num.0 (sym c.in-None-cell_number.is ∙ c.cell_number.ensures ∙ ap (λ a. number a c.in-Some.name) c.area-area.ensures ∙ num.1)
@@ -53,7 +46,7 @@ pub index-found-requires : goal.index-found-requires
 index-found-requires g c =
     let seat = seat_in c.self.invariant c.self.view_is refl c.args.caller phase.Claim c.requires c.from.result c.index_mut-seat.result.now c.from.ensures c.index_mut-seat.ensures.value in
     let ph = phase_in c.self.invariant seat c.self.view_is refl phase.Claim c.requires in
-    let asked : next_cell c.self.inside.world.area (bot_of_turn c.self.inside.lists c.args.caller c.index_mut-seat.result.now.turn) c.index_mut-seat.result.now.held.items ≡ c.next_cell.result = (λ j. next_cell (sym c.area-area.ensures j) (sym c.bot-bot.ensures j) (sym c.as_slice.ensures.value j)) ∙ sym c.next_cell.ensures in
+    let (known, asked) = looked c.self.invariant seat ph c.next_known-next.new.zone c.next_known-next.result c.bot-bot.result c.as_slice.result.now c.bot-bot.ensures c.as_slice.ensures.value c.next_known-next.ensures in
     let nx = asked ∙ c.in-Some.is in
     let at_n = ap (λ a. number a c.in-Some.name) (sym c.area-area.ensures) ∙ sym c.cell_number.ensures ∙ c.in-Some-cell_number.is in
     let num = claim_number c.self.invariant seat ph c.in-Some.name nx in
@@ -64,38 +57,38 @@ pub invariant_of-self : goal.invariant_of-self
 invariant_of-self g c =
     let seat = seat_in c.self.invariant c.self.view_is refl c.args.caller phase.Claim c.requires c.from.result c.index_mut-seat.result.now c.from.ensures c.index_mut-seat.ensures.value in
     let ph = phase_in c.self.invariant seat c.self.view_is refl phase.Claim c.requires in
-    let asked : next_cell c.self.inside.world.area (bot_of_turn c.self.inside.lists c.args.caller c.index_mut-seat.result.now.turn) c.index_mut-seat.result.now.held.items ≡ c.next_cell.result = (λ j. next_cell (sym c.area-area.ensures j) (sym c.bot-bot.ensures j) (sym c.as_slice.ensures.value j)) ∙ sym c.next_cell.ensures in
+    let (known, asked) = looked c.self.invariant seat ph c.next_known-next.new.zone c.next_known-next.result c.bot-bot.result c.as_slice.result.now c.bot-bot.ensures c.as_slice.ensures.value c.next_known-next.ensures in
     let nx = asked ∙ c.in-Some.is in
     let at_n = ap (λ a. number a c.in-Some.name) (sym c.area-area.ensures) ∙ sym c.cell_number.ensures ∙ c.in-Some-cell_number.is in
-    let step = claim_refused c.self.invariant seat ph c.in-Some.name nx c.in-Some-cell_number.number at_n c.index-found.result.now c.index-found.ensures (record c.index_mut-seat.result.now { phase = phase.Refusing c.in-Some.name c.index-found.result.now }) c.if-found-ne0.true refl refl refl in
-    kept c.self.invariant c.args.caller refl step c.self.invariant.run c.self.invariant.turns (c.self.invariant.each ∙ sym (length-set c.self.inside.seats.items c.from.result _)) c.self.invariant.room c.self.invariant.few
+    let step = claim_refused c.self.invariant seat ph c.in-Some.name nx c.in-Some-cell_number.number at_n c.index-found.result.now c.index-found.ensures (record c.index_mut-seat.result.now { phase = phase.Refusing c.in-Some.name c.index-found.result.now; zone = c.next_known-next.new.zone }) c.if-found-ne0.true refl refl refl in
+    kept c.self.invariant c.args.caller refl step c.self.invariant.run c.self.invariant.turns (c.self.invariant.each ∙ sym (length-set c.self.inside.seats.items c.from.result _)) c.self.invariant.room c.self.invariant.few (zones_past c.self.invariant seat _ (refusing_past c.in-Some.name c.index-found.result.now))
 
 pub returns-then-found-ne0 : goal.returns-then-found-ne0
 returns-then-found-ne0 g c =
     let seat = seat_in c.self.invariant c.self.view_is refl c.args.caller phase.Claim c.requires c.from.result c.index_mut-seat.result.now c.from.ensures c.index_mut-seat.ensures.value in
     let ph = phase_in c.self.invariant seat c.self.view_is refl phase.Claim c.requires in
-    let asked : next_cell c.self.inside.world.area (bot_of_turn c.self.inside.lists c.args.caller c.index_mut-seat.result.now.turn) c.index_mut-seat.result.now.held.items ≡ c.next_cell.result = (λ j. next_cell (sym c.area-area.ensures j) (sym c.bot-bot.ensures j) (sym c.as_slice.ensures.value j)) ∙ sym c.next_cell.ensures in
+    let (known, asked) = looked c.self.invariant seat ph c.next_known-next.new.zone c.next_known-next.result c.bot-bot.result c.as_slice.result.now c.bot-bot.ensures c.as_slice.ensures.value c.next_known-next.ensures in
     let nx = asked ∙ c.in-Some.is in
     let at_n = ap (λ a. number a c.in-Some.name) (sym c.area-area.ensures) ∙ sym c.cell_number.ensures ∙ c.in-Some-cell_number.is in
-    let step = claim_refused c.self.invariant seat ph c.in-Some.name nx c.in-Some-cell_number.number at_n c.index-found.result.now c.index-found.ensures (record c.index_mut-seat.result.now { phase = phase.Refusing c.in-Some.name c.index-found.result.now }) c.if-found-ne0.true refl refl refl in
+    let step = claim_refused c.self.invariant seat ph c.in-Some.name nx c.in-Some-cell_number.number at_n c.index-found.result.now c.index-found.ensures (record c.index_mut-seat.result.now { phase = phase.Refusing c.in-Some.name c.index-found.result.now; zone = c.next_known-next.new.zone }) c.if-found-ne0.true refl refl refl in
     closes g.D.Decider.verdict c.self.inside.decider.now c.self.inside.journal.first c.self.inside.journal.first c.self.inside.lists _ _ c.args.self.now c.args.caller c.self.view_is refl step
 
 pub index_mut-requires : goal.index_mut-requires
 index_mut-requires g c =
     let seat = seat_in c.self.invariant c.self.view_is refl c.args.caller phase.Claim c.requires c.from.result c.index_mut-seat.result.now c.from.ensures c.index_mut-seat.ensures.value in
     let ph = phase_in c.self.invariant seat c.self.view_is refl phase.Claim c.requires in
-    let asked : next_cell c.self.inside.world.area (bot_of_turn c.self.inside.lists c.args.caller c.index_mut-seat.result.now.turn) c.index_mut-seat.result.now.held.items ≡ c.next_cell.result = (λ j. next_cell (sym c.area-area.ensures j) (sym c.bot-bot.ensures j) (sym c.as_slice.ensures.value j)) ∙ sym c.next_cell.ensures in
+    let (known, asked) = looked c.self.invariant seat ph c.next_known-next.new.zone c.next_known-next.result c.bot-bot.result c.as_slice.result.now c.bot-bot.ensures c.as_slice.ensures.value c.next_known-next.ensures in
     let nx = asked ∙ c.in-Some.is in
     let at_n = ap (λ a. number a c.in-Some.name) (sym c.area-area.ensures) ∙ sym c.cell_number.ensures ∙ c.in-Some-cell_number.is in
     let num = claim_number c.self.invariant seat ph c.in-Some.name nx in
     let same = same_Some num.0 c.in-Some-cell_number.number (sym num.1 ∙ at_n) in
     omega (arith, num.2, same, c.self.inside.tags.ok.0)
 
-pub value_of-requires : goal.value_of-requires
-value_of-requires g c =
+pub value_of-value-requires : goal.value_of-value-requires
+value_of-value-requires g c =
     let seat = seat_in c.self.invariant c.self.view_is refl c.args.caller phase.Claim c.requires c.from.result c.index_mut-seat.result.now c.from.ensures c.index_mut-seat.ensures.value in
     let ph = phase_in c.self.invariant seat c.self.view_is refl phase.Claim c.requires in
-    let asked : next_cell c.self.inside.world.area (bot_of_turn c.self.inside.lists c.args.caller c.index_mut-seat.result.now.turn) c.index_mut-seat.result.now.held.items ≡ c.next_cell.result = (λ j. next_cell (sym c.area-area.ensures j) (sym c.bot-bot.ensures j) (sym c.as_slice.ensures.value j)) ∙ sym c.next_cell.ensures in
+    let (known, asked) = looked c.self.invariant seat ph c.next_known-next.new.zone c.next_known-next.result c.bot-bot.result c.as_slice.result.now c.bot-bot.ensures c.as_slice.ensures.value c.next_known-next.ensures in
     let nx = asked ∙ c.in-Some.is in
     claim_cell c.self.invariant seat ph c.in-Some.name nx
 
@@ -103,63 +96,69 @@ pub push-requires : goal.push-requires
 push-requires g c =
     let seat = seat_in c.self.invariant c.self.view_is refl c.args.caller phase.Claim c.requires c.from.result c.index_mut-seat.result.now c.from.ensures c.index_mut-seat.ensures.value in
     let ph = phase_in c.self.invariant seat c.self.view_is refl phase.Claim c.requires in
+    let (known, asked) = looked c.self.invariant seat ph c.next_known-next.new.zone c.next_known-next.result c.bot-bot.result c.as_slice.result.now c.bot-bot.ensures c.as_slice.ensures.value c.next_known-next.ensures in
+    let nx = asked ∙ c.in-Some.is in
+    let at_n = ap (λ a. number a c.in-Some.name) (sym c.area-area.ensures) ∙ sym c.cell_number.ensures ∙ c.in-Some-cell_number.is in
+    claim_push c.self.invariant seat ph c.in-Some.name nx c.in-Some-cell_number.number at_n c.index-found.result.now c.index-found.ensures c.if-found-ne0.false c.next_known-next.new.zone c.area-area.result c.value_of-value.result c.area-area.ensures c.value_of-value.ensures known
+
+pub push-requires-2 : goal.push-requires-2
+push-requires-2 g c =
+    let seat = seat_in c.self.invariant c.self.view_is refl c.args.caller phase.Claim c.requires c.from.result c.index_mut-seat.result.now c.from.ensures c.index_mut-seat.ensures.value in
+    let ph = phase_in c.self.invariant seat c.self.view_is refl phase.Claim c.requires in
     let few = few_held c.self.invariant seat ph in
     (omega arith, omega (arith, few))
 
-pub after_win-seat-requires-clause-plain : goal.after_win-seat-requires-clause-plain
-after_win-seat-requires-clause-plain g c =
+pub after_win-seat-requires-after_bounds : goal.after_win-seat-requires-after_bounds
+after_win-seat-requires-after_bounds g c =
     let seat = seat_in c.self.invariant c.self.view_is refl c.args.caller phase.Claim c.requires c.from.result c.index_mut-seat.result.now c.from.ensures c.index_mut-seat.ensures.value in
     let ph = phase_in c.self.invariant seat c.self.view_is refl phase.Claim c.requires in
-    let asked : next_cell c.self.inside.world.area (bot_of_turn c.self.inside.lists c.args.caller c.index_mut-seat.result.now.turn) c.index_mut-seat.result.now.held.items ≡ c.next_cell.result = (λ j. next_cell (sym c.area-area.ensures j) (sym c.bot-bot.ensures j) (sym c.as_slice.ensures.value j)) ∙ sym c.next_cell.ensures in
+    let (known, asked) = looked c.self.invariant seat ph c.next_known-next.new.zone c.next_known-next.result c.bot-bot.result c.as_slice.result.now c.bot-bot.ensures c.as_slice.ensures.value c.next_known-next.ensures in
     let nx = asked ∙ c.in-Some.is in
     let at_n = ap (λ a. number a c.in-Some.name) (sym c.area-area.ensures) ∙ sym c.cell_number.ensures ∙ c.in-Some-cell_number.is in
-    let cells : c.as_slice-2.result.now ≡ c.index_mut-seat.result.now.held.items ++ (c.in-Some.name, held_by c.self.inside.world c.in-Some.name) ∷ [] = c.as_slice-2.ensures.value ∙ c.push.ensures.items ∙ ap (λ x. c.index_mut-seat.result.now.held.items ++ (c.in-Some.name, x) ∷ []) c.value_of.ensures in
-    let plain = claim_more_plain c.self.invariant seat ph c.in-Some.name nx c.in-Some-cell_number.number at_n c.index-found.result.now c.index-found.ensures c.if-found-ne0.false in
-    λ ks known. subst (λ (z : Pairs × ℕ). IfSome (body_in z.0 z.1) IsBotInRange) (λ j. (sym cells j, sym c.bot-bot.ensures j)) plain
-
-pub after_win-seat-requires-clause-shown : goal.after_win-seat-requires-clause-shown
-after_win-seat-requires-clause-shown g c =
-    let seat = seat_in c.self.invariant c.self.view_is refl c.args.caller phase.Claim c.requires c.from.result c.index_mut-seat.result.now c.from.ensures c.index_mut-seat.ensures.value in
-    let ph = phase_in c.self.invariant seat c.self.view_is refl phase.Claim c.requires in
-    let asked : next_cell c.self.inside.world.area (bot_of_turn c.self.inside.lists c.args.caller c.index_mut-seat.result.now.turn) c.index_mut-seat.result.now.held.items ≡ c.next_cell.result = (λ j. next_cell (sym c.area-area.ensures j) (sym c.bot-bot.ensures j) (sym c.as_slice.ensures.value j)) ∙ sym c.next_cell.ensures in
-    let nx = asked ∙ c.in-Some.is in
-    let at_n = ap (λ a. number a c.in-Some.name) (sym c.area-area.ensures) ∙ sym c.cell_number.ensures ∙ c.in-Some-cell_number.is in
-    let cells : c.as_slice-2.result.now ≡ c.index_mut-seat.result.now.held.items ++ (c.in-Some.name, held_by c.self.inside.world c.in-Some.name) ∷ [] = c.as_slice-2.ensures.value ∙ c.push.ensures.items ∙ ap (λ x. c.index_mut-seat.result.now.held.items ++ (c.in-Some.name, x) ∷ []) c.value_of.ensures in
-    λ ks known none.
-    let shown = claim_shown c.self.invariant seat ph c.in-Some.name nx c.in-Some-cell_number.number at_n c.index-found.result.now c.index-found.ensures c.if-found-ne0.false ((λ j. next_cell (sym c.area-area.ensures j) (sym c.bot-bot.ensures j) (sym cells j)) ∙ none) in
+    let held : c.push-2.new.self.items ≡ c.index_mut-seat.result.now.held.items ++ (c.in-Some.name, held_by c.self.inside.world c.in-Some.name) ∷ [] = c.push-2.ensures.items ∙ ap (λ x. c.index_mut-seat.result.now.held.items ++ (c.in-Some.name, x) ∷ []) c.value_of-value.ensures in
+    let cells : c.as_slice-2.result.now ≡ c.index_mut-seat.result.now.held.items ++ (c.in-Some.name, held_by c.self.inside.world c.in-Some.name) ∷ [] = c.as_slice-2.ensures.value ∙ held in
+    let knows = claim_known c.self.invariant seat ph c.in-Some.name nx c.in-Some-cell_number.number at_n c.index-found.result.now c.index-found.ensures c.if-found-ne0.false c.next_known-next.new.zone c.area-area.result c.value_of-value.result c.area-area.ensures c.value_of-value.ensures known c.push.new.self c.push.ensures in
+    let follows = claim_after c.self.invariant seat ph c.in-Some.name nx c.in-Some-cell_number.number at_n c.index-found.result.now c.index-found.ensures c.if-found-ne0.false c.push.new.self c.len.result c.next.result knows (c.len.ensures.value ∙ ap (λ (ps : Pairs). length ps) held) c.next.ensures in
+    λ ks below none.
+    let shown = claim_shown c.self.invariant seat ph c.in-Some.name nx c.in-Some-cell_number.number at_n c.index-found.result.now c.index-found.ensures c.if-found-ne0.false (sym follows ∙ none) in
     subst IsShown (λ j. the_shown (sym c.area-area.ensures j) (sym c.maxes.ensures j) (sym c.bot-bot.ensures j) (sym cells j)) shown
 
 pub invariant_of-self-2 : goal.invariant_of-self-2
 invariant_of-self-2 g c =
     let seat = seat_in c.self.invariant c.self.view_is refl c.args.caller phase.Claim c.requires c.from.result c.index_mut-seat.result.now c.from.ensures c.index_mut-seat.ensures.value in
     let ph = phase_in c.self.invariant seat c.self.view_is refl phase.Claim c.requires in
-    let asked : next_cell c.self.inside.world.area (bot_of_turn c.self.inside.lists c.args.caller c.index_mut-seat.result.now.turn) c.index_mut-seat.result.now.held.items ≡ c.next_cell.result = (λ j. next_cell (sym c.area-area.ensures j) (sym c.bot-bot.ensures j) (sym c.as_slice.ensures.value j)) ∙ sym c.next_cell.ensures in
+    let (known, asked) = looked c.self.invariant seat ph c.next_known-next.new.zone c.next_known-next.result c.bot-bot.result c.as_slice.result.now c.bot-bot.ensures c.as_slice.ensures.value c.next_known-next.ensures in
     let nx = asked ∙ c.in-Some.is in
     let at_n = ap (λ a. number a c.in-Some.name) (sym c.area-area.ensures) ∙ sym c.cell_number.ensures ∙ c.in-Some-cell_number.is in
-    let cells : c.as_slice-2.result.now ≡ c.index_mut-seat.result.now.held.items ++ (c.in-Some.name, held_by c.self.inside.world c.in-Some.name) ∷ [] = c.as_slice-2.ensures.value ∙ c.push.ensures.items ∙ ap (λ x. c.index_mut-seat.result.now.held.items ++ (c.in-Some.name, x) ∷ []) c.value_of.ensures in
+    let held : c.push-2.new.self.items ≡ c.index_mut-seat.result.now.held.items ++ (c.in-Some.name, held_by c.self.inside.world c.in-Some.name) ∷ [] = c.push-2.ensures.items ∙ ap (λ x. c.index_mut-seat.result.now.held.items ++ (c.in-Some.name, x) ∷ []) c.value_of-value.ensures in
+    let cells : c.as_slice-2.result.now ≡ c.index_mut-seat.result.now.held.items ++ (c.in-Some.name, held_by c.self.inside.world c.in-Some.name) ∷ [] = c.as_slice-2.ensures.value ∙ held in
+    let knows = claim_known c.self.invariant seat ph c.in-Some.name nx c.in-Some-cell_number.number at_n c.index-found.result.now c.index-found.ensures c.if-found-ne0.false c.next_known-next.new.zone c.area-area.result c.value_of-value.result c.area-area.ensures c.value_of-value.ensures known c.push.new.self c.push.ensures in
+    let follows = claim_after c.self.invariant seat ph c.in-Some.name nx c.in-Some-cell_number.number at_n c.index-found.result.now c.index-found.ensures c.if-found-ne0.false c.push.new.self c.len.result c.next.result knows (c.len.ensures.value ∙ ap (λ (ps : Pairs). length ps) held) c.next.ensures in
     let own = bot_of_turn c.self.inside.lists c.args.caller c.index_mut-seat.result.now.turn in
     let ph2 : c.after_win-seat.result ≡ phase_after (g.D.Decider.verdict c.self.inside.decider.now) (the_shown c.self.inside.world.area c.self.inside.world.maxes own (c.index_mut-seat.result.now.held.items ++ (c.in-Some.name, held_by c.self.inside.world c.in-Some.name) ∷ [])) (next_cell c.self.inside.world.area own (c.index_mut-seat.result.now.held.items ++ (c.in-Some.name, held_by c.self.inside.world c.in-Some.name) ∷ [])) =
-    c.after_win-seat.ensures ∙ (λ j. phase_after (g.D.Decider.verdict c.self.inside.decider.now) (the_shown (c.area-area.ensures j) (c.maxes.ensures j) (c.bot-bot.ensures j) (cells j)) (next_cell (c.area-area.ensures j) (c.bot-bot.ensures j) (cells j))) in
-    let held = c.push.ensures.items ∙ ap (λ x. c.index_mut-seat.result.now.held.items ++ (c.in-Some.name, x) ∷ []) c.value_of.ensures in
-    let new = record c.index_mut-seat.result.now { phase = c.after_win-seat.result; held = c.push.new.self } in
+    c.after_win-seat.ensures ∙ (λ j. phase_after (g.D.Decider.verdict c.self.inside.decider.now) (the_shown (c.area-area.ensures j) (c.maxes.ensures j) (c.bot-bot.ensures j) (cells j)) (follows j)) in
+    let new = record c.index_mut-seat.result.now { phase = c.after_win-seat.result; zone = c.push.new.self; held = c.push-2.new.self } in
     let won = claim_won c.self.invariant seat ph c.in-Some.name nx c.in-Some-cell_number.number at_n c.index-found.result.now c.index-found.ensures c.if-found-ne0.false new refl held ph2 in
     let tagged : c.tag.result ≡ tag c.args.caller c.index_mut-seat.result.now.turn own = c.tag.ensures ∙ ap (tag c.args.caller c.index_mut-seat.result.now.turn) c.bot-bot.ensures in
     let step = ap (λ t. state_of (set c.self.inside.tags.items c.in-Some-cell_number.number t) c.self.inside.world c.self.inside.journal c.self.inside.holder (set c.self.inside.seats.items c.from.result new) c.self.inside.marks) tagged ∙ won in
     kept c.self.invariant c.args.caller refl step c.self.invariant.run c.self.invariant.turns (c.self.invariant.each ∙ sym (length-set c.self.inside.seats.items c.from.result _)) c.self.invariant.room c.self.invariant.few
+    (zones_with c.self.invariant seat new (λ claims some. knows ∙ ap (known_zone c.self.inside.journal.first.area own) (sym held)))
 
 pub returns : goal.returns
 returns g c =
     let seat = seat_in c.self.invariant c.self.view_is refl c.args.caller phase.Claim c.requires c.from.result c.index_mut-seat.result.now c.from.ensures c.index_mut-seat.ensures.value in
     let ph = phase_in c.self.invariant seat c.self.view_is refl phase.Claim c.requires in
-    let asked : next_cell c.self.inside.world.area (bot_of_turn c.self.inside.lists c.args.caller c.index_mut-seat.result.now.turn) c.index_mut-seat.result.now.held.items ≡ c.next_cell.result = (λ j. next_cell (sym c.area-area.ensures j) (sym c.bot-bot.ensures j) (sym c.as_slice.ensures.value j)) ∙ sym c.next_cell.ensures in
+    let (known, asked) = looked c.self.invariant seat ph c.next_known-next.new.zone c.next_known-next.result c.bot-bot.result c.as_slice.result.now c.bot-bot.ensures c.as_slice.ensures.value c.next_known-next.ensures in
     let nx = asked ∙ c.in-Some.is in
     let at_n = ap (λ a. number a c.in-Some.name) (sym c.area-area.ensures) ∙ sym c.cell_number.ensures ∙ c.in-Some-cell_number.is in
-    let cells : c.as_slice-2.result.now ≡ c.index_mut-seat.result.now.held.items ++ (c.in-Some.name, held_by c.self.inside.world c.in-Some.name) ∷ [] = c.as_slice-2.ensures.value ∙ c.push.ensures.items ∙ ap (λ x. c.index_mut-seat.result.now.held.items ++ (c.in-Some.name, x) ∷ []) c.value_of.ensures in
+    let held : c.push-2.new.self.items ≡ c.index_mut-seat.result.now.held.items ++ (c.in-Some.name, held_by c.self.inside.world c.in-Some.name) ∷ [] = c.push-2.ensures.items ∙ ap (λ x. c.index_mut-seat.result.now.held.items ++ (c.in-Some.name, x) ∷ []) c.value_of-value.ensures in
+    let cells : c.as_slice-2.result.now ≡ c.index_mut-seat.result.now.held.items ++ (c.in-Some.name, held_by c.self.inside.world c.in-Some.name) ∷ [] = c.as_slice-2.ensures.value ∙ held in
+    let knows = claim_known c.self.invariant seat ph c.in-Some.name nx c.in-Some-cell_number.number at_n c.index-found.result.now c.index-found.ensures c.if-found-ne0.false c.next_known-next.new.zone c.area-area.result c.value_of-value.result c.area-area.ensures c.value_of-value.ensures known c.push.new.self c.push.ensures in
+    let follows = claim_after c.self.invariant seat ph c.in-Some.name nx c.in-Some-cell_number.number at_n c.index-found.result.now c.index-found.ensures c.if-found-ne0.false c.push.new.self c.len.result c.next.result knows (c.len.ensures.value ∙ ap (λ (ps : Pairs). length ps) held) c.next.ensures in
     let own = bot_of_turn c.self.inside.lists c.args.caller c.index_mut-seat.result.now.turn in
     let ph2 : c.after_win-seat.result ≡ phase_after (g.D.Decider.verdict c.self.inside.decider.now) (the_shown c.self.inside.world.area c.self.inside.world.maxes own (c.index_mut-seat.result.now.held.items ++ (c.in-Some.name, held_by c.self.inside.world c.in-Some.name) ∷ [])) (next_cell c.self.inside.world.area own (c.index_mut-seat.result.now.held.items ++ (c.in-Some.name, held_by c.self.inside.world c.in-Some.name) ∷ [])) =
-    c.after_win-seat.ensures ∙ (λ j. phase_after (g.D.Decider.verdict c.self.inside.decider.now) (the_shown (c.area-area.ensures j) (c.maxes.ensures j) (c.bot-bot.ensures j) (cells j)) (next_cell (c.area-area.ensures j) (c.bot-bot.ensures j) (cells j))) in
-    let held = c.push.ensures.items ∙ ap (λ x. c.index_mut-seat.result.now.held.items ++ (c.in-Some.name, x) ∷ []) c.value_of.ensures in
-    let new = record c.index_mut-seat.result.now { phase = c.after_win-seat.result; held = c.push.new.self } in
+    c.after_win-seat.ensures ∙ (λ j. phase_after (g.D.Decider.verdict c.self.inside.decider.now) (the_shown (c.area-area.ensures j) (c.maxes.ensures j) (c.bot-bot.ensures j) (cells j)) (follows j)) in
+    let new = record c.index_mut-seat.result.now { phase = c.after_win-seat.result; zone = c.push.new.self; held = c.push-2.new.self } in
     let won = claim_won c.self.invariant seat ph c.in-Some.name nx c.in-Some-cell_number.number at_n c.index-found.result.now c.index-found.ensures c.if-found-ne0.false new refl held ph2 in
     let tagged : c.tag.result ≡ tag c.args.caller c.index_mut-seat.result.now.turn own = c.tag.ensures ∙ ap (tag c.args.caller c.index_mut-seat.result.now.turn) c.bot-bot.ensures in
     let step = ap (λ t. state_of (set c.self.inside.tags.items c.in-Some-cell_number.number t) c.self.inside.world c.self.inside.journal c.self.inside.holder (set c.self.inside.seats.items c.from.result new) c.self.inside.marks) tagged ∙ won in

@@ -13,7 +13,7 @@ use Rattle.claim_core.specs.Cores.{IsCell, Frees, unmarked}
 use Rattle.std.specs.List.{All}
 use Rattle.amoebot_state.specs.declared.cell.CellName.{CellName}
 use Rattle.amoebot_state.specs.declared.cell.Cell.{Cell}
-use Rattle.claim_core.proofs.MachineLemmas.{turn_below, closes, kept, unmarked_count, room_after, there, committing_unmarked, committing_leads, committing_cells, committing_run, committed, seat_in, inside_in, phase_in}
+use Rattle.claim_core.proofs.MachineLemmas.{zones_freed, turn_below, closes, kept, unmarked_count, room_after, there, committing_unmarked, committing_leads, committing_cells, committing_run, committed, seat_in, inside_in, phase_in}
 use Rattle.claim_core.proofs.machine.Core.commit.Goals as goal
 
 refill_same : {A : Type 0} (xs ws : List A) → length ws ≡ length xs → refill (length xs) xs ws ≡ ws
@@ -90,7 +90,7 @@ invariant_of-self g c =
     let less : unmarked c.self.inside.lists.turns c.add.new.self.marks + 1 ≡ unmarked c.self.inside.lists.turns c.self.inside.marks.marks = ap (λ ms. unmarked c.self.inside.lists.turns ms + 1) added ∙ room in
     let longer = ap (λ es. length es) c.push.ensures.entries ∙ length-append c.self.inside.journal.entries _ in
     let run2 = subst (λ (z : Config × List Entry). Run (g.D.Decider.verdict c.self.inside.decider.now) z.0 z.1 c.apply.new.self) (λ j. (sym c.push.ensures.first j, sym c.push.ensures.entries j)) run in
-    kept c.self.invariant c.args.caller c.push.ensures.first step run2 (ap (λ m. m.turns) c.add.ensures ∙ c.self.invariant.turns) (ap (λ ms. length ms) added ∙ length-set _ _ _ ∙ c.self.invariant.each ∙ sym (length-set c.self.inside.seats.items c.from.result _)) (omega (arith, less, c.self.invariant.room, c.push.ensures.spare)) (omega (arith, less, c.self.invariant.few, longer))
+    kept c.self.invariant c.args.caller c.push.ensures.first step run2 (ap (λ m. m.turns) c.add.ensures ∙ c.self.invariant.turns) (ap (λ ms. length ms) added ∙ length-set _ _ _ ∙ c.self.invariant.each ∙ sym (length-set c.self.inside.seats.items c.from.result _)) (omega (arith, less, c.self.invariant.room, c.push.ensures.spare)) (omega (arith, less, c.self.invariant.few, longer)) (zones_freed c.self.invariant seat left c.free.new.self freed)
 
 pub returns : goal.returns
 returns g c =

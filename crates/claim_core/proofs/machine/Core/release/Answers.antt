@@ -5,7 +5,7 @@ use Rattle.std.proofs.lemmas.Option.{none-some, same_Some}
 use Rattle.claim_core.specs.declared.state.Phase.TheVariants as phase
 use Rattle.claim_core.specs.Cells.{number}
 use Rattle.claim_core.specs.Cores.{Frees}
-use Rattle.claim_core.proofs.MachineLemmas.{closes, kept, released, holds_some, held_number, in_a_turn, seat_in, inside_in, phase_in}
+use Rattle.claim_core.proofs.MachineLemmas.{zones_freed, closes, kept, released, holds_some, held_number, in_a_turn, seat_in, inside_in, phase_in}
 use Rattle.claim_core.proofs.machine.Core.release.Goals as goal
 
 pub index_mut-seat-requires : goal.index_mut-seat-requires
@@ -46,7 +46,7 @@ invariant_of-self g c =
     let at_n = ap (λ a. number a c.in-Some.name) (sym c.area-area.ensures) ∙ sym c.cell_number.ensures ∙ c.in-Some-cell_number.is in
     let freed = subst (λ n. Frees n left c.free.new.self) c.turns-turns.ensures c.free.ensures in
     let step = released c.self.invariant seat left c.free.new.self c.in-Some.name c.in-Some._value c.in-Some-cell_number.number ph c.in-Some.ensures.items refl at_n freed in
-    kept c.self.invariant c.args.caller refl step c.self.invariant.run c.self.invariant.turns (c.self.invariant.each ∙ sym (length-set c.self.inside.seats.items c.from.result _)) c.self.invariant.room c.self.invariant.few
+    kept c.self.invariant c.args.caller refl step c.self.invariant.run c.self.invariant.turns (c.self.invariant.each ∙ sym (length-set c.self.inside.seats.items c.from.result _)) c.self.invariant.room c.self.invariant.few (zones_freed c.self.invariant seat left c.free.new.self freed)
 
 pub returns : goal.returns
 returns g c =

@@ -3,7 +3,7 @@ use Rattle.std.specs.Prelude.{slice_get}
 use Rattle.std.proofs.Math.ListN.{length-set}
 use Rattle.claim_core.specs.Machine.{next}
 use Rattle.claim_core.specs.Cores.{IsUnmarked, unmarked, looks_at, setup_of}
-use Rattle.claim_core.proofs.MachineLemmas.{turn_below, closes, kept, there, seated_unmarked, unmarked_count, room_after, settled, its_seat}
+use Rattle.claim_core.proofs.MachineLemmas.{zones_freed, turn_below, closes, kept, there, seated_unmarked, unmarked_count, room_after, settled, its_seat}
 use Rattle.claim_core.proofs.machine.Core.settle.Goals as goal
 
 pub add-requires-clause-caller : goal.add-requires-clause-caller
@@ -36,7 +36,7 @@ invariant_of-self g c =
     let step = settled c.self.invariant seat c.free.new.self c.args.mark c.add.new.self (subst (λ n. Rattle.claim_core.specs.Cores.Frees n c.index_mut-seat.result.now c.free.new.self) c.turns-turns.ensures c.free.ensures) added now in
     let room = room_after c.self.invariant c.args.caller c.args.mark has in
     let less : unmarked c.self.inside.lists.turns c.add.new.self.marks + 1 ≡ unmarked c.self.inside.lists.turns c.self.inside.marks.marks = ap (λ ms. unmarked c.self.inside.lists.turns ms + 1) added ∙ room in
-    kept c.self.invariant c.args.caller refl step c.self.invariant.run (ap (λ m. m.turns) c.add.ensures ∙ c.self.invariant.turns) (ap length added ∙ length-set _ _ _ ∙ c.self.invariant.each ∙ sym (length-set c.self.inside.seats.items c.from.result _)) (omega (arith, less, c.self.invariant.room)) (omega (arith, less, c.self.invariant.few))
+    kept c.self.invariant c.args.caller refl step c.self.invariant.run (ap (λ m. m.turns) c.add.ensures ∙ c.self.invariant.turns) (ap length added ∙ length-set _ _ _ ∙ c.self.invariant.each ∙ sym (length-set c.self.inside.seats.items c.from.result _)) (omega (arith, less, c.self.invariant.room)) (omega (arith, less, c.self.invariant.few)) (zones_freed c.self.invariant seat c.index_mut-seat.result.now c.free.new.self (subst (λ n. Rattle.claim_core.specs.Cores.Frees n c.index_mut-seat.result.now c.free.new.self) c.turns-turns.ensures c.free.ensures))
 
 pub returns : goal.returns
 returns g c =

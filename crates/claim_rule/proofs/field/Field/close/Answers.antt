@@ -5,13 +5,13 @@ use Rattle.std.specs.Slots.{slots_items}
 use Rattle.amoebot_state.specs.declared.verdict.Entry.{Entry}
 use Rattle.amoebot_state.specs.Configs.{Config}
 use Rattle.amoebot_state.specs.Steps.{Run}
-use Rattle.claim_core.specs.Cells.{cells}
 use Rattle.claim_rule.specs.declared.views.Slot.TheVariants as slot
+use Rattle.claim_rule.specs.Stands.{journal_slot}
 use Rattle.claim_rule.specs.Closing.{ClosesAs, HoldNothing}
 use Rattle.claim_rule.proofs.Closes.{seats_of, journal_there, entries_run, listed, rests, closes}
 use Rattle.claim_rule.proofs.Leaves.{field_ends_right}
 use Rattle.claim_rule.proofs.field.Field.close.Given.{Over}
-use Rattle.claim_rule.proofs.field.Field.close.Goals.{After-cells_of-cells, After-entries, After-apply_all}
+use Rattle.claim_rule.proofs.field.Field.close.Goals.{After-from-bodies, After-entries, After-apply_all}
 use Rattle.claim_rule.proofs.field.Field.close.Goals as goal
 
 -- src/close.rt
@@ -20,18 +20,18 @@ gather_all-rest-requires-clause-seats g c = λ κs within.
     seats_of g.D.Decider.verdict c.args.self c.seats.inside.rest.me c.seats.inside.rest.table_id c.seats.inside.seats.items c.seats.invariant c.args.seats c.seats.view_is c.requires.field
 
 -- the number of the journal's slot
-place : (g : Over) (c : After-cells_of-cells g) → c.cells_of-cells.result ≡ cells c.args.self.terms.world
-place g c = c.cells_of-cells.ensures.value ∙ ap (λ (w : Config). cells w) c.give_back-closed.ensures.world
+place : (g : Over) (c : After-from-bodies g) → c.from-bodies.result ≡ journal_slot c.args.self.terms.world
+place g c = c.from-bodies.ensures ∙ c.bots.ensures.value ∙ ap (λ (w : Config). journal_slot w) c.give_back-closed.ensures.world
 
 pub journal_of-journal-requires-clause-journal : goal.journal_of-journal-requires-clause-journal
 journal_of-journal-requires-clause-journal g c =
     let there = journal_there g.D.Decider.verdict c.args.self c.seats.inside.rest.me c.seats.inside.rest.table_id c.seats.inside.seats.items c.seats.invariant c.args.seats c.seats.view_is c.requires.field
     c.give_back-closed.ensures.run c.requires.all _ _ c.gather_all-rest.ensures.1 _ _ c.give_back-closed.ensures.ends in
-    (there.0, ap (get_elem? (slots_items c.give_back-closed.result.0.slots)) (place g (goal.at.journal_of-journal-requires-clause-journal g c).After-cells_of-cells) ∙ there.1)
+    (there.0, ap (get_elem? (slots_items c.give_back-closed.result.0.slots)) (place g (goal.at.journal_of-journal-requires-clause-journal g c).After-from-bodies) ∙ there.1)
 
 -- the journal is in its slot
-journal : (g : Over) (c : After-entries g) → get_elem? (slots_items c.give_back-closed.result.0.slots) (cells c.args.self.terms.world) ≡ some (slot.Journal c.journal_of-journal.result)
-journal g c = ap (get_elem? (slots_items c.give_back-closed.result.0.slots)) (sym (place g (goal.at.apply_all-requires-after_bounds g c).After-cells_of-cells)) ∙ c.journal_of-journal.ensures
+journal : (g : Over) (c : After-entries g) → get_elem? (slots_items c.give_back-closed.result.0.slots) (journal_slot c.args.self.terms.world) ≡ some (slot.Journal c.journal_of-journal.result)
+journal g c = ap (get_elem? (slots_items c.give_back-closed.result.0.slots)) (sym (place g (goal.at.apply_all-requires-after_bounds g c).After-from-bodies)) ∙ c.journal_of-journal.ensures
 
 pub apply_all-requires-after_bounds : goal.apply_all-requires-after_bounds
 apply_all-requires-after_bounds g c = λ κs within.

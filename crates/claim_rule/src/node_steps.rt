@@ -1,0 +1,131 @@
+//! The claim of a node in half-steps: a look at its word, which is no claim, and a try to put the tag into the word that was found.
+ghost use Rattle.std.specs.Prelude.{◌≡◌, ◌<◌, ◌≤◌, Some, IfOk, IfErr};
+ghost use Rattle.amoebot_state.specs.declared.cell.Cell.TheVariants as cell;
+ghost use Rattle.amoebot_state.specs.declared.cell.CellName.TheVariants as name;
+ghost use Rattle.claim_core.specs.declared.state.Phase.TheVariants.{Refusing};
+ghost use Rattle.claim_core.specs.Limits.{most_turns};
+ghost use Rattle.claim_core.specs.Machine.{caller_with_cell};
+ghost use Rattle.claim_rule.specs.Plays.{IsOthers, about};
+ghost use Rattle.claim_rule.specs.Tokens.{IsOf, number_in, doing, goes, next_in};
+
+use crate::activation::Activation;
+use crate::field::Field;
+use crate::held::Held;
+use crate::stopped::{Stopped, Tag};
+use crate::views::Note;
+use crate::words::{word_occ, word_stamp, word_tag};
+use amoebot_state::{Cell, CellName, Decider};
+use claim_core::{cell_number, tag};
+use std::marker::Model;
+use tri_lattice::Node;
+
+/// A caller that claims the zone of its turn's amoebot, and has found the word of the next cell, a node, free. Contracts see it as the
+/// claim, the node, and the occupant and the stamp in the word.
+#[derive(Drop)]
+pub struct Noted<D: Decider> {
+    pub(crate) activation: Activation<D>,
+    pub(crate) node: Node,
+    pub(crate) word: u64,
+}
+
+impl<D: Decider> Model for Noted<D> {
+    ghost use Rattle.claim_rule.specs.Words.{word_occ, word_stamp};
+    ghost use Rattle.claim_rule.specs.Tokens.{NotedOf, IsNoting, frame_of, token_in, cells_in, notes_in};
+
+    ghost Value = { NotedOf D };
+
+    ghost view = { λ n. record { claim = token_in n.activation; node = n.node; occ = word_occ n.word; stamp = word_stamp n.word } };
+
+    ghost invariant = { λ n. IsNoting D.verdict n.activation.seat.me n.activation.caller n.activation.turn n.activation.bot
+        (frame_of n.activation.area n.activation.maxes) (cells_in n.activation) (notes_in n.activation) n.node n.word };
+}
+
+impl<D: Decider> Noted<D> {
+    /// The occupant in the word that was found.
+    pub fn occupant(&self) -> Option<u16>
+        ensures { result ≡ self.now.occ }
+    {
+        word_occ(self.word)
+    }
+
+    /// The stamp in it.
+    pub fn stamp(&self) -> u32
+        ensures { result ≡ self.now.stamp }
+    {
+        word_stamp(self.word)
+    }
+}
+
+/// A look at the word of the next cell, a node. It is free, and noted, or another caller's tag was found, and the turn claims no more.
+pub fn look_at<D: Decider>(
+    held: Held<D>,
+    field: &Field<'_, D>,
+    node: Node,
+) -> Result<Noted<D>, (Stopped<D>, Tag)>
+    requires field { IsOf field.now held }
+    requires next { next_in D.verdict held ≡ Some (name.Spot node) }
+    ensures noted { IfOk result (λ noted. (noted.claim ≡ held) × (noted.node ≡ node)) }
+    ensures refused { IfErr result (λ by. (by.0 ≡ goes held (record (doing held) { phase = Refusing (name.Spot node) by.1 }))
+        × IsOthers (about D.verdict held.view) (number_in held) by.1) }
+{
+    let Held { mut activation } = held;
+    let Some(number) = cell_number(&activation.area, CellName::Spot(node)) else {
+        unreachable!()
+    };
+    let word = field.look_node(&mut activation.seat, number);
+    let by = word_tag(word);
+    if by != 0 {
+        return Err((Stopped { activation }, Tag { number: by }));
+    }
+    Ok(Noted {
+        activation,
+        node,
+        word,
+    })
+}
+
+/// A try to put the turn's tag into the word that was noted. The node is won with its occupant; or another free word was found, with a
+/// greater stamp, and is noted; or another caller's tag was found, and the turn claims no more.
+pub fn try_at<D: Decider>(
+    noted: Noted<D>,
+    field: &Field<'_, D>,
+) -> Result<Held<D>, Result<Noted<D>, (Stopped<D>, Tag)>>
+    requires field { IsOf field.now noted.claim }
+    ensures won { IfOk result (λ more. more ≡ goes noted.claim
+        (caller_with_cell (about D.verdict noted.claim.view) (number_in noted.claim) (doing noted.claim)
+        (name.Spot noted.node) (cell.Spot noted.occ))) }
+    ensures again { IfErr result (λ found. IfOk found (λ next. (next.claim ≡ noted.claim) × (next.node ≡ noted.node)
+        × (noted.stamp < next.stamp) × (next.stamp ≤ most_turns))) }
+    ensures refused { IfErr result (λ found. IfErr found (λ by.
+        (by.0 ≡ goes noted.claim (record (doing noted.claim) { phase = Refusing (name.Spot noted.node) by.1 }))
+        × IsOthers (about D.verdict noted.claim.view) (number_in noted.claim) by.1)) }
+{
+    let Noted {
+        mut activation,
+        node,
+        word,
+    } = noted;
+    let Some(number) = cell_number(&activation.area, CellName::Spot(node)) else {
+        unreachable!()
+    };
+    let mine = tag(activation.caller, activation.turn, activation.bot);
+    let found = field.try_node(&mut activation.seat, number, word, word + mine);
+    if found == word {
+        let occ = word_occ(word);
+        let stamp = word_stamp(word);
+        activation
+            .cells
+            .push((CellName::Spot(node), Cell::Spot(occ)));
+        activation.notes.push(Note { node, occ, stamp });
+        return Ok(Held { activation });
+    }
+    let by = word_tag(found);
+    if by != 0 {
+        return Err(Err((Stopped { activation }, Tag { number: by })));
+    }
+    Err(Ok(Noted {
+        activation,
+        node,
+        word: found,
+    }))
+}

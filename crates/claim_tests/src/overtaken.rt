@@ -1,0 +1,230 @@
+//! A caller looks at the word of a node, another one makes its whole turn, and then the first one tries the word that it noted.
+ghost use Rattle.std.specs.Prelude.{◌≡◌, IfOk};
+ghost use Rattle.claim_rule.specs.Tokens.{IsOf};
+ghost use Rattle.claim_rule.specs.Settling.{IsToTake};
+
+use crate::field_fixtures::{begun, won};
+use crate::fields::{field_of, seat_of};
+use amoebot_state::{CellName, Change, Decider, End, Port, Verdict};
+use claim_core::Lists;
+use claim_rule::{Claimed, Field, Held, Noted, Seat, look_at, store, take, try_at};
+use node_claims::{release_settled, try_claim};
+use small_worlds::{Expander, Marker, lists_of, standing, world_in};
+use std::process::Abort;
+use std::test::Fail;
+use tri_lattice::Node;
+
+/// The node that the zones of amoebot 0 at (2, 3) and of amoebot 1 at (4, 3) share, and no other cell.
+const SHARED: Node = Node { x: 3, y: 3 };
+
+/// The cells of the zone of amoebot 1 before that node.
+static BEFORE: [CellName; 5] = [
+    CellName::Body(1),
+    CellName::Spot(Node { x: 4, y: 3 }),
+    CellName::Spot(Node { x: 5, y: 3 }),
+    CellName::Spot(Node { x: 4, y: 4 }),
+    CellName::Spot(Node { x: 3, y: 4 }),
+];
+
+/// The nodes of the zone after it.
+static AFTER: [CellName; 2] = [
+    CellName::Spot(Node { x: 4, y: 2 }),
+    CellName::Spot(Node { x: 5, y: 2 }),
+];
+
+/// The program that expands through port 0 of the head.
+const EXPANDER: Expander = Expander {
+    port: Port {
+        end: End::Head,
+        dir: 0,
+    },
+};
+
+/// The occupant 0 in a word, and the stamp 1.
+const OCCUPANT_0: u64 = 1 << 33;
+
+const STAMP_1: u64 = 1 << 46;
+
+/// The node is the next cell, and is noted.
+fn noted_at<D: Decider>(field: &Field<'_, D>, held: Held<D>, node: Node) -> Result<Noted<D>, Fail>
+    requires { IsOf field.now held }
+    ensures { IfOk result (λ noted. IsOf field.now noted.claim) }
+{
+    match held.next(field) {
+        Some(CellName::Spot(next)) => {
+            if next != node {
+                return Err(Fail::from("another node is next"));
+            }
+            match look_at(held, field, next) {
+                Ok(noted) => Ok(noted),
+                Err(_) => Err(Fail::from("the node is held")),
+            }
+        }
+        _ => Err(Fail::from("no node is next")),
+    }
+}
+
+/// The zone of the seat's next turn is held, and its change was decided.
+fn decided<D: Decider>(
+    field: &Field<'_, D>,
+    lists: &Lists,
+    seat: Seat<D>,
+) -> Result<(Claimed<D>, Change), Fail>
+    requires of { IsOf field.now seat }
+    requires lists { field.now.terms.lists ≡ lists.now }
+    ensures of { IfOk result (λ got. IsOf field.now got.0) }
+    ensures takes { IfOk result (λ got. IsToTake got.0 got.1) }
+{
+    let turn = seat.next_turn();
+    let caller = seat.caller();
+    if caller >= lists.callers() || turn >= lists.turns() {
+        return Err(Fail::from("no turn is left"));
+    }
+    match try_claim(seat, field, turn, lists.bot(caller, turn)) {
+        Err(_) => Err(Fail::from("a cell is held")),
+        Ok(claimed) => match field.decider().decide(claimed.found()) {
+            Verdict::Change(change) => Ok((claimed, change)),
+            _ => Err(Fail::from("no change")),
+        },
+    }
+}
+
+/// The seat's next turn is Done at place 0, and the seat holds nothing then.
+fn turn_done<D: Decider>(
+    rt: &impl Abort,
+    field: &Field<'_, D>,
+    lists: &Lists,
+    seat: Seat<D>,
+) -> Result<(), Fail>
+    requires of { IsOf field.now seat }
+    requires lists { field.now.terms.lists ≡ lists.now }
+{
+    let (claimed, change) = decided(field, lists, seat)?;
+    match take(claimed, field, change) {
+        Err(_) => Err(Fail::from("the journal is taken")),
+        Ok(taken) => {
+            let (settled, receipt) = store(taken, field);
+            assert_eq!(rt; (receipt.caller(), receipt.place()), (0, 0));
+            let seat = release_settled(settled, field);
+            assert_eq!(rt; seat.next_turn(), 1);
+            Ok(())
+        }
+    }
+}
+
+/// Caller 1 has noted the shared node, as it was before caller 0 made its whole turn.
+fn overtaken<D: Decider>(
+    rt: &impl Abort,
+    field: &Field<'_, D>,
+    lists: &Lists,
+    zero: Seat<D>,
+    one: Seat<D>,
+) -> Result<Noted<D>, Fail>
+    requires zero { IsOf field.now zero }
+    requires one { IsOf field.now one }
+    requires lists { field.now.terms.lists ≡ lists.now }
+    ensures { IfOk result (λ noted. IsOf field.now noted.claim) }
+{
+    let held = won(field, begun(field, lists, one)?, &BEFORE)?;
+    assert_eq!(rt; field.peek_node(SHARED), Some(0));
+    let noted = noted_at(field, held, SHARED)?;
+    assert_eq!(rt; (noted.occupant(), noted.stamp()), (None, 0));
+    turn_done(rt, field, lists, zero)?;
+    Ok(noted)
+}
+
+/// The rest of the zone is won, up to this cell, which is next.
+fn wins_rest<D: Decider>(
+    rt: &impl Abort,
+    field: &Field<'_, D>,
+    held: Held<D>,
+    next: Option<CellName>,
+) -> Result<(), Fail>
+    requires { IsOf field.now held }
+{
+    assert_eq!(rt; held.count(), 6);
+    let held = won(field, held, &AFTER)?;
+    assert_eq!(rt; held.next(field), next);
+    Ok(())
+}
+
+/// Each node of the area has stamp 0.
+fn has_no_stamp<D: Decider>(rt: &impl Abort, field: &Field<'_, D>) {
+    for x in 0..8i16 {
+        for y in 0..8i16 {
+            let word = field.peek_node(Node { x, y }).unwrap_or(STAMP_1);
+            assert!(rt; word < STAMP_1);
+        }
+    }
+}
+
+/// The commit has changed a variable, and so no node: the first try wins.
+fn first_try_wins(
+    rt: &impl Abort,
+    field: &Field<'_, Marker>,
+    lists: &Lists,
+    zero: Seat<Marker>,
+    one: Seat<Marker>,
+) -> Result<(), Fail>
+    requires zero { IsOf field.now zero }
+    requires one { IsOf field.now one }
+    requires lists { field.now.terms.lists ≡ lists.now }
+{
+    let noted = overtaken(rt, field, lists, zero, one)?;
+    has_no_stamp(rt, field);
+    assert_eq!(rt; field.peek_node(SHARED), Some(0));
+    assert_eq!(rt; field.peek_node(Node { x: 2, y: 3 }), Some(OCCUPANT_0));
+    match try_at(noted, field) {
+        Ok(held) => wins_rest(rt, field, held, None),
+        Err(_) => Err(Fail::from("the first try does not win")),
+    }
+}
+
+/// The commit has changed the node: the first try finds its new word, and the second wins it with its occupant.
+fn second_try_wins(
+    rt: &impl Abort,
+    field: &Field<'_, Expander>,
+    lists: &Lists,
+    zero: Seat<Expander>,
+    one: Seat<Expander>,
+) -> Result<(), Fail>
+    requires zero { IsOf field.now zero }
+    requires one { IsOf field.now one }
+    requires lists { field.now.terms.lists ≡ lists.now }
+{
+    let noted = overtaken(rt, field, lists, zero, one)?;
+    assert_eq!(rt; field.peek_node(SHARED), Some(OCCUPANT_0 + STAMP_1));
+    assert_eq!(rt; field.peek_node(Node { x: 2, y: 3 }), Some(OCCUPANT_0));
+    match try_at(noted, field) {
+        Err(Ok(again)) => {
+            assert_eq!(rt; (again.occupant(), again.stamp()), (Some(0), 1));
+            match try_at(again, field) {
+                Ok(held) => wins_rest(rt, field, held, Some(CellName::Body(0))),
+                Err(_) => Err(Fail::from("the second try does not win")),
+            }
+        }
+        _ => Err(Fail::from("the first try does not find the new word")),
+    }
+}
+
+#[test]
+fn a_node_that_a_commit_left_is_won_by_the_first_try(rt: HostRuntime) -> Result<(), Fail> {
+    let alloc = rt.alloc();
+    let world = world_in(alloc, 8, 8, &[standing(2, 3, 0), standing(4, 3, 0)])?;
+    let lists = lists_of(alloc, 1, &world, &[&[0], &[1]])?;
+    let (field, mut seats) = field_of(alloc, &Marker, world, &lists)?;
+    let zero = seat_of(&field, &mut seats, 0)?;
+    let one = seat_of(&field, &mut seats, 1)?;
+    first_try_wins(&rt, &field, &lists, zero, one)
+}
+
+#[test]
+fn a_node_that_a_commit_changed_is_won_by_the_second_try(rt: HostRuntime) -> Result<(), Fail> {
+    let alloc = rt.alloc();
+    let world = world_in(alloc, 8, 8, &[standing(2, 3, 0), standing(4, 3, 0)])?;
+    let lists = lists_of(alloc, 1, &world, &[&[0], &[1]])?;
+    let (field, mut seats) = field_of(alloc, &EXPANDER, world, &lists)?;
+    let zero = seat_of(&field, &mut seats, 0)?;
+    let one = seat_of(&field, &mut seats, 1)?;
+    second_try_wins(&rt, &field, &lists, zero, one)
+}
