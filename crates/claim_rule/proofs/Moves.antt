@@ -103,8 +103,8 @@ module _ {D : Type 0} {verdict : D → Shown → Verdict} {z : Terms D} {s : Con
   pub not_last : (i t : ℕ) → slice_get core.tags i ≡ Some t → i ≢ cells z.world
   not_last i t tagged = λ e. omega (arith, e, slice_get_within core.tags i t tagged, counts.0)
 
-  -- after a step of the seat, at whose end the state is this one; what of the core, of the other records and of the nodes' words it leaves
-  -- is told
+  -- the table stands for the state at the end of a step of the seat; the premises say what the step leaves of the core, of the other
+  -- records and of the nodes' words
   pub moved : (new end : State) → Sound g end → (r' : Record) (words : List ℕ) (homes : List (home.Option Slot)) → new ≡ end → r'.number ≡ r.number → new.callers ≡ set core.callers r.number r'.caller
       → AreWords g new words → AreHomes g new homes → ((q : Record) → q.number ≢ r.number → HasCommitted g core q.number q.committed q.taken → HasCommitted g new q.number q.committed q.taken)
       → HasCommitted g new r.number r'.committed r'.taken → ((q : Record) → q.number ≢ r.number → IsRecord g core q → IsStamped g s.words q → IsStamped g words q) → IsStamped g words r'

@@ -1,14 +1,16 @@
-//! Fields and their seats.
+//! Fields, their seats, and turns that have decided.
 
 ghost use Rattle.std.specs.Prelude.{◌≡◌, ◌≤◌, length, slice_set, None, IfOk, IsSome};
 ghost use Rattle.std.specs.List.{All};
 ghost use Rattle.amoebot_state.specs.Configs.{bot_at};
 ghost use Rattle.claim_rule.specs.Seating.{AreOf, IsFirst};
+ghost use Rattle.claim_rule.specs.Settling.{IsToTake};
 ghost use Rattle.claim_rule.specs.Tokens.{IsOf, number_in};
 
-use amoebot_state::{Decider, World};
+use amoebot_state::{Change, Decider, Verdict, World};
 use claim_core::Lists;
-use claim_rule::{Field, Seat, Seats};
+use claim_rule::{Claimed, Field, Seat, Seats};
+use node_claims::try_claim;
 use std::alloc::Global;
 use std::test::Fail;
 
@@ -51,5 +53,31 @@ pub fn seat_of<D: Decider>(
             }
             Ok(seat)
         }
+    }
+}
+
+/// The whole zone of the seat's next turn is held, and its change was decided.
+pub fn decided<D: Decider>(
+    field: &Field<'_, D>,
+    lists: &Lists,
+    seat: Seat<D>,
+) -> Result<(Claimed<D>, Change), Fail>
+    requires of { IsOf field.now seat }
+    requires lists { field.now.terms.lists ≡ lists.now }
+    ensures of { IfOk result (λ got. IsOf field.now got.0) }
+    ensures same { IfOk result (λ got. number_in got.0 ≡ number_in seat) }
+    ensures takes { IfOk result (λ got. IsToTake got.0 got.1) }
+{
+    let turn = seat.next_turn();
+    let caller = seat.caller();
+    if caller >= lists.callers() || turn >= lists.turns() {
+        return Err(Fail::from("no turn is left"));
+    }
+    match try_claim(seat, field, turn, lists.bot(caller, turn)) {
+        Err(_) => Err(Fail::from("a cell is held")),
+        Ok(claimed) => match field.decider().decide(claimed.found()) {
+            Verdict::Change(change) => Ok((claimed, change)),
+            _ => Err(Fail::from("no change")),
+        },
     }
 }

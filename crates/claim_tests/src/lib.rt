@@ -6,7 +6,7 @@ mod core_fixtures;
 mod fields;
 
 pub use checker::is_report;
-pub use fields::{field_of, seat_of};
+pub use fields::{decided, field_of, seat_of};
 
 #[cfg(test)]
 mod claim_rows;

@@ -1,14 +1,13 @@
 //! A caller looks at the word of a node, another one makes its whole turn, and then the first one tries the word that it noted.
 ghost use Rattle.std.specs.Prelude.{◌≡◌, IfOk};
 ghost use Rattle.claim_rule.specs.Tokens.{IsOf};
-ghost use Rattle.claim_rule.specs.Settling.{IsToTake};
 
 use crate::field_fixtures::{begun, won};
-use crate::fields::{field_of, seat_of};
-use amoebot_state::{CellName, Change, Decider, End, Port, Verdict};
+use crate::fields::{decided, field_of, seat_of};
+use amoebot_state::{CellName, Decider, End, Port};
 use claim_core::Lists;
-use claim_rule::{Claimed, Field, Held, Noted, Seat, look_at, store, take, try_at};
-use node_claims::{release_settled, try_claim};
+use claim_rule::{Field, Held, Noted, Seat, look_at, store, take, try_at};
+use node_claims::release_settled;
 use small_worlds::{Expander, Marker, lists_of, standing, world_in};
 use std::process::Abort;
 use std::test::Fail;
@@ -61,31 +60,6 @@ fn noted_at<D: Decider>(field: &Field<'_, D>, held: Held<D>, node: Node) -> Resu
             }
         }
         _ => Err(Fail::from("no node is next")),
-    }
-}
-
-/// The zone of the seat's next turn is held, and its change was decided.
-fn decided<D: Decider>(
-    field: &Field<'_, D>,
-    lists: &Lists,
-    seat: Seat<D>,
-) -> Result<(Claimed<D>, Change), Fail>
-    requires of { IsOf field.now seat }
-    requires lists { field.now.terms.lists ≡ lists.now }
-    ensures of { IfOk result (λ got. IsOf field.now got.0) }
-    ensures takes { IfOk result (λ got. IsToTake got.0 got.1) }
-{
-    let turn = seat.next_turn();
-    let caller = seat.caller();
-    if caller >= lists.callers() || turn >= lists.turns() {
-        return Err(Fail::from("no turn is left"));
-    }
-    match try_claim(seat, field, turn, lists.bot(caller, turn)) {
-        Err(_) => Err(Fail::from("a cell is held")),
-        Ok(claimed) => match field.decider().decide(claimed.found()) {
-            Verdict::Change(change) => Ok((claimed, change)),
-            _ => Err(Fail::from("no change")),
-        },
     }
 }
 

@@ -1,13 +1,10 @@
 ghost use Rattle.std.specs.Prelude.{◌≡◌, IfOk};
 ghost use Rattle.claim_rule.specs.Tokens.{IsOf, number_in};
-ghost use Rattle.claim_rule.specs.Settling.{IsToTake};
 
 use activation::{Gate, Turn, activate};
-use amoebot_state::{Change, Decider, Entry, Verdict};
+use amoebot_state::{Decider, Entry};
 use claim_core::Lists;
-use claim_rule::{Claimed, Field, Seat};
-use node_claims::try_claim;
-use small_worlds::Marker;
+use claim_rule::{Field, Seat};
 use std::process::Abort;
 use std::sync::Wait;
 use std::sync::atomic::{AtomicU64, Ordering};
@@ -56,32 +53,6 @@ pub fn turn_of<R: Wait, D: Decider, G: Gate>(
         return Err(Fail::from("no turn is left"));
     }
     Ok(activate(rt, field, seat, gate, turn, lists.bot(caller, turn)))
-}
-
-/// The whole zone of the seat's next turn is held, and its change was decided.
-pub fn decided(
-    field: &Field<'_, Marker>,
-    lists: &Lists,
-    seat: Seat<Marker>,
-) -> Result<(Claimed<Marker>, Change), Fail>
-    requires of { IsOf field.now seat }
-    requires lists { field.now.terms.lists ≡ lists.now }
-    ensures of { IfOk result (λ got. IsOf field.now got.0) }
-    ensures same { IfOk result (λ got. number_in got.0 ≡ number_in seat) }
-    ensures takes { IfOk result (λ got. IsToTake got.0 got.1) }
-{
-    let turn = seat.next_turn();
-    let caller = seat.caller();
-    if caller >= lists.callers() || turn >= lists.turns() {
-        return Err(Fail::from("no turn is left"));
-    }
-    match try_claim(seat, field, turn, lists.bot(caller, turn)) {
-        Err(_) => Err(Fail::from("a cell is held")),
-        Ok(claimed) => match field.decider().decide(claimed.found()) {
-            Verdict::Change(change) => Ok((claimed, change)),
-            _ => Err(Fail::from("no change")),
-        },
-    }
 }
 
 /// An entry of a turn, which sets variable 0 of the amoebot.

@@ -2,11 +2,10 @@ ghost use Rattle.std.specs.Prelude.{◌≡◌, IfOk};
 ghost use Rattle.claim_rule.specs.Tokens.{IsOf};
 ghost use Rattle.claim_rule.specs.Settling.{IsToTake};
 
-use crate::fixtures::decided;
 use amoebot_state::Change;
 use claim_core::Lists;
 use claim_rule::{Claimed, Field, Seat, Settled, Taken, store, take};
-use claim_tests::{field_of, seat_of};
+use claim_tests::{decided, field_of, seat_of};
 use node_claims::release_settled;
 use small_worlds::{Marker, lists_of, standing, world_in};
 use std::process::Abort;

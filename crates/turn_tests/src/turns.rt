@@ -4,13 +4,13 @@ ghost use Rattle.claim_rule.specs.Seating.{AreOf};
 ghost use Rattle.claim_rule.specs.Tokens.{IsOf, number_in};
 ghost use Rattle.claim_rule.specs.Settling.{IsToTake};
 
-use crate::fixtures::{Counter, decided, is_entry, turn_of};
+use crate::fixtures::{Counter, is_entry, turn_of};
 use crate::machine::{is_left, is_marked, machine_leaves};
 use activation::Gate;
 use amoebot_state::{CellName, Change, Decider, Failure, World};
 use claim_core::{Journal, Lists, Mark, Marks};
 use claim_rule::{Claimed, Field, Seat, Seats};
-use claim_tests::{field_of, seat_of};
+use claim_tests::{decided, field_of, seat_of};
 use commit_journal::commit;
 use node_claims::release_settled;
 use small_worlds::{AtEdge, Marker, lists_of, standing, world_in};
