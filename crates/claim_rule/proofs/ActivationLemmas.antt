@@ -64,7 +64,7 @@ nodes_few ((name.Body i, x) ∷ ps) = let ih = nodes_few ps in omega (arith, ih)
 -- of a zone of which nothing was read, the body is next
 pub begins : (g : Setup) (ok : IsSetup g) (c t : ℕ) → c < length g.lists.ids → IsKnown g (bot g c t) []
 begins g ok c t listed = record {
-  plain = tt;
+  order = record { config = g.world; valid = ok.valid; area = refl; there = own_there g ok c t listed; front = refl };
   few = omega arith;
   placed = λ n e. subst (λ m. (i : ℕ) × IsPlaced g m i) (same_Some (name.Body b) n e) (g.world.area.w * g.world.area.h + b, (refl, omega (arith, there)));
   shown = λ e. absurd (none-some (name.Body b) (sym e));

@@ -20,7 +20,7 @@ use Rattle.claim_core.specs.Soundness.{IsSetup, Sound}
 use Rattle.claim_core.proofs.Tags.{tag-positive}
 use Rattle.claim_core.proofs.Places.{get-set_here, get-set_cases}
 use Rattle.claim_core.proofs.HolderLemmas.{before, refused_by}
-use Rattle.claim_core.proofs.ClaimLemmas.{won_plain, won_shown}
+use Rattle.claim_core.proofs.ClaimLemmas.{won_in_order, won_shown}
 use Rattle.claim_core.proofs.Ranks.{few}
 use Rattle.claim_core.proofs.Sounds.{one_step}
 use Rattle.claim_rule.specs.declared.views.Slot.{Slot}
@@ -126,7 +126,7 @@ module _ {D : Type 0} {verdict : D → Shown → Verdict} {z : Terms D} {s : Con
 
         known : IsKnown g b ((n, x) ∷ r.caller.held)
         known = record {
-          plain = won_plain g table.run core (sound table) r.number r.caller (caller_at table) n x to.phase to.next found_free value b;
+          order = won_in_order g table.run core (sound table) r.number r.caller (caller_at table) n x to.phase to.next found_free value;
           few = omega (arith, few g table.run core (sound table) r.number r.caller (caller_at table) to.phase);
           placed = λ m e. is_placed g table.run new now_sound r.number (caller_with_cell g r.number r.caller n x) now_there (ap (after_win g b ((n, x) ∷ r.caller.held)) e) m e;
           shown = won_shown g table.run core (sound table) r.number r.caller (caller_at table) n x to.phase to.next found_free value;

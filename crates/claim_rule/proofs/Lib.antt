@@ -23,6 +23,7 @@ pub mod FirstSlots
 pub mod Opens
 pub mod Deals
 pub mod GatheredRecords
+mod KnownTurns
 pub mod Closes
 pub mod Determined
 pub mod Ends

@@ -26,7 +26,7 @@ use Rattle.claim_core.proofs.Tags.{tag-positive}
 use Rattle.claim_core.proofs.Places.{get-set_here, get-set_else}
 use Rattle.claim_core.proofs.Frames.{own_small, turn_small}
 use Rattle.claim_core.proofs.HolderLemmas.{before, refused_by, is_known}
-use Rattle.claim_core.proofs.ClaimLemmas.{won_plain, won_shown}
+use Rattle.claim_core.proofs.ClaimLemmas.{won_in_order, won_shown}
 use Rattle.claim_core.proofs.Ranks.{front, next_is_there, few, placed}
 use Rattle.claim_core.proofs.Sounds.{one_step}
 use Rattle.claim_rule.specs.declared.views.Slot.{Slot}
@@ -242,7 +242,7 @@ module _ {D : Type 0} {verdict : D → Shown → Verdict} {z : Terms D} {s : Con
 
       pub known_now : IsKnown g b ((n, x) ∷ r.caller.held)
       known_now = record {
-        plain = won_plain g table.run core (sound table) r.number r.caller (caller_at table) n x phase next_node found_free value b;
+        order = won_in_order g table.run core (sound table) r.number r.caller (caller_at table) n x phase next_node found_free value;
         few = omega (arith, few g table.run core (sound table) r.number r.caller (caller_at table) phase);
         placed = λ m e. is_placed g table.run new now_sound r.number k' now_there (ap (after_win g b ((n, x) ∷ r.caller.held)) e) m e;
         shown = won_shown g table.run core (sound table) r.number r.caller (caller_at table) n x phase next_node found_free value;

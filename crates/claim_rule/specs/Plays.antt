@@ -1,5 +1,5 @@
 -- What each step tells the seat that makes it: how its record changes, and nothing else.
-use Rattle.std.specs.Prelude.{◌≡◌, ◌≢◌, ℕ, ◌+◌, ◌/◌, ◌<◌, ◌≤◌, List, [], ◌∷◌, ◌++◌, reverse, length, slice_get, unwrap_or, IfSome}
+use Rattle.std.specs.Prelude.{◌≡◌, ◌≢◌, ℕ, ◌+◌, ◌/◌, ◌<◌, ◌≤◌, List, [], ◌∷◌, ◌++◌, reverse, length, slice_get, unwrap_or}
 use Rattle.std.specs.declared.option.Option.{Option}
 use Rattle.std.specs.declared.option.Option.TheVariants.{Some, None}
 use Rattle.atomic_table.specs.Table.{Step, rest}
@@ -9,9 +9,9 @@ use Rattle.amoebot_state.specs.declared.cell.CellName.TheVariants as name
 use Rattle.amoebot_state.specs.declared.cell.Cell.{Cell}
 use Rattle.amoebot_state.specs.declared.cell.Cell.TheVariants as cell
 use Rattle.amoebot_state.specs.declared.verdict.Verdict.{Verdict}
+use Rattle.amoebot_state.specs.Known.{AreReadInOrder}
 use Rattle.amoebot_state.specs.Limits.{most_cells}
-use Rattle.amoebot_state.specs.Pairs.{Pairs, body_in}
-use Rattle.amoebot_state.specs.Refusals.{IsBotInRange}
+use Rattle.amoebot_state.specs.Pairs.{Pairs}
 use Rattle.amoebot_state.specs.Zones.{Shown, IsShown}
 use Rattle.claim_core.specs.declared.marks.Mark.{Mark}
 use Rattle.claim_core.specs.declared.marks.Mark.TheVariants as mark
@@ -36,9 +36,10 @@ use Rattle.claim_rule.specs.Stands.{first_plain, slot_of}
 abbrev pub IsPlaced : Setup → CellName → ℕ → Type 0
 IsPlaced g n i = (number g.world.area n ≡ Some i) × (i < cells g.world)
 
--- what is known of a zone of which these cells are held: it tells the next cell, and with the last one what its amoebot is shown
+-- what is known of a zone of which these cells are held: they were read in zone order; they tell the next cell, and, if it is the whole
+-- zone, what its amoebot is shown
 pub record IsKnown (g : Setup) (b : ℕ) (held : Pairs) : Type 0 where
-  pub plain : IfSome (body_in (reverse held) b) IsBotInRange
+  pub order : AreReadInOrder g.world.area b (reverse held)
   pub few : length held ≤ most_cells
   pub placed : (n : CellName) → next_of g b held ≡ Some n → (i : ℕ) × IsPlaced g n i
   pub shown : next_of g b held ≡ None → IsShown (found g b held)

@@ -12,6 +12,7 @@ use Rattle.amoebot_state.specs.declared.cell.Cell.{Cell}
 use Rattle.amoebot_state.specs.declared.verdict.Verdict.{Verdict}
 use Rattle.amoebot_state.specs.Pairs.{Pairs, cell_of}
 use Rattle.amoebot_state.specs.Configs.{Config}
+use Rattle.amoebot_state.specs.Known.{known_zone}
 use Rattle.amoebot_state.specs.Zones.{Shown}
 use Rattle.claim_core.specs.declared.marks.Mark.{Mark}
 use Rattle.claim_core.specs.declared.state.Caller.{Caller}
@@ -20,10 +21,11 @@ use Rattle.claim_core.specs.declared.state.Phase.TheVariants.{Refusing, Looking,
 use Rattle.claim_core.specs.Cells.{cells}
 use Rattle.claim_core.specs.Good.{place_after}
 use Rattle.claim_core.specs.Limits.{most_turns}
-use Rattle.claim_core.specs.Tags.{tag_caller, tag_turn, tag_bot}
+use Rattle.claim_core.specs.Tags.{tag, tag_caller, tag_turn, tag_bot}
 use Rattle.claim_core.specs.Machine.{bot, found, next_of, phase_of_verdict, after_win, opening_phase, freeing_caller, caller}
 use Rattle.claim_core.specs.Soundness.{IsSetup}
 use Rattle.claim_rule.specs.declared.activation.Activation.{Activation}
+use Rattle.claim_rule.specs.declared.activation.Room.{Room}
 use Rattle.claim_rule.specs.declared.views.Slot.{Slot}
 use Rattle.claim_rule.specs.declared.views.Slot.TheVariants as slot
 use Rattle.claim_rule.specs.declared.views.Note.{Note}
@@ -101,6 +103,11 @@ frame c = record c { bots = [] }
 abbrev pub frame_of : Extent → List ℕ → Config
 frame_of a greatest = record { area = a; maxes = greatest; bots = [] }
 
+-- what a caller knows of its turn while it claims: its tag, and the zone as far as the cells tell it that are held
+pub record KnowsTurn (r : Room) : Type 0 where
+  pub tag : r.tag ≡ tag r.caller r.turn r.bot
+  pub zone : r.zone ≡ known_zone r.area r.bot r.cells.items
+
 module _ {D : Type 0} where
   -- the record of the seat's caller, the caller's number, and where it stands
   abbrev pub record_in : Token D → Record
@@ -121,10 +128,10 @@ module _ {D : Type 0} where
   token_in a = record { table = a.seat.table_id; view = seen a.seat.me.0 }
 
   abbrev pub cells_in : Activation D → Pairs
-  cells_in a = reverse a.cells.items
+  cells_in a = reverse a.room.value.cells.items
 
   abbrev pub notes_in : Activation D → List Note
-  notes_in a = reverse a.notes.items
+  notes_in a = reverse a.room.value.notes.items
 
   -- the seat without its note
   abbrev pub unnoted : Seated D → Seated D
@@ -204,9 +211,12 @@ module _ {D : Type 0} where
       pub few : All (λ (n : Note). n.stamp ≤ most_turns) notes
       pub out : m.1 ≡ emptied pairs
 
-    -- the same of the parts of an activation: what its seat knows and has out, its fields, and its cells
+    -- the same of the parts of an activation: what its seat knows and has out, and its room
+    abbrev pub KeepsRoom : Seated D → Room → Type 0
+    KeepsRoom m r = IsActivation m r.caller r.turn r.bot (frame_of r.area r.maxes) (reverse r.cells.items) (reverse r.notes.items)
+
     abbrev pub KeepsActivation : Activation D → Type 0
-    KeepsActivation a = IsActivation a.seat.me a.caller a.turn a.bot (frame_of a.area a.maxes) (cells_in a) (notes_in a)
+    KeepsActivation a = KeepsRoom a.seat.me a.room.value
 
     -- it claims, or holds its whole zone
     pub record IsClaiming (m : Seated D) (t b : ℕ) (held : Pairs) : Type 0 where

@@ -65,8 +65,8 @@ impl<D: Decider> Model for Claimed<D> {
     ghost view = { λ c. token_in c.activation };
 
     ghost invariant = { λ c. KeepsActivation D.verdict c.activation
-        × HoldsWholeZone D.verdict c.activation.seat.me c.activation.turn c.activation.bot (cells_in c.activation) c.found
-        c.activation.after };
+        × HoldsWholeZone D.verdict c.activation.seat.me c.activation.room.value.turn c.activation.room.value.bot (cells_in c.activation)
+        c.found c.activation.room.value.after };
 }
 
 impl<D: Decider> Claimed<D> {
@@ -85,12 +85,8 @@ pub fn seal<D: Decider>(held: Held<D>) -> Claimed<D>
     ensures decided { (doing held).phase ≡ phase_of_verdict (verdict_in D.verdict held) }
 {
     let Held { activation } = held;
-    let found = Found::make(
-        activation.area,
-        activation.maxes,
-        activation.bot,
-        activation.cells.as_slice(),
-    );
+    let room = &*activation.room;
+    let found = Found::make(room.area, room.maxes, room.bot, room.cells.as_slice());
     Claimed { activation, found }
 }
 
@@ -105,10 +101,11 @@ pub fn look<D: Decider>(claimed: &mut Claimed<D>, field: &Field<'_, D>) -> Seen
 {
     let activation = &mut claimed.activation;
     let place = field.place(&mut activation.seat);
-    activation.after = place;
+    let room = &mut *activation.room;
+    room.after = place;
     Seen {
-        caller: activation.caller,
-        turn: activation.turn,
+        caller: room.caller,
+        turn: room.turn,
         place,
     }
 }

@@ -77,7 +77,7 @@ fn journal_of(mut closed: Closed<Slot, Global>, bodies: usize) -> Journal
     }
     closed.free();
     match last {
-        Slot::Journal(journal) => journal,
+        Slot::Journal(journal) => journal.into_journal(),
         _ => unreachable!(),
     }
 }

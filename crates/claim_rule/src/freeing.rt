@@ -25,7 +25,7 @@ impl<D: Decider> Model for Freeing<D> {
     ghost view = { λ f. token_in f.activation };
 
     ghost invariant = { λ f. KeepsActivation D.verdict f.activation
-        × IsFreeing D.verdict f.activation.seat.me f.activation.turn (cells_in f.activation) f.activation.after };
+        × IsFreeing D.verdict f.activation.seat.me f.activation.room.value.turn (cells_in f.activation) f.activation.room.value.after };
 }
 
 impl<D: Decider> Freeing<D> {
@@ -33,7 +33,7 @@ impl<D: Decider> Freeing<D> {
     pub fn count(&self) -> u8
         ensures { result ≡ length (doing self.now).held }
     {
-        self.activation.cells.len() as u8
+        self.activation.room.cells.len() as u8
     }
 }
 
@@ -44,10 +44,11 @@ pub fn free_last<D: Decider>(freeing: Freeing<D>, field: &Field<'_, D>) -> Freei
     ensures { result ≡ goes freeing (released_caller (about D.verdict freeing.view) (doing freeing)) }
 {
     let Freeing { mut activation } = freeing;
-    let Some((cell, value)) = activation.cells.pop() else {
+    let room = &mut *activation.room;
+    let Some((cell, value)) = room.cells.pop() else {
         unreachable!()
     };
-    let Some(number) = cell_number(&activation.area, cell) else {
+    let Some(number) = cell_number(&room.area, cell) else {
         unreachable!()
     };
     match cell {
@@ -57,11 +58,11 @@ pub fn free_last<D: Decider>(freeing: Freeing<D>, field: &Field<'_, D>) -> Freei
             Freeing { activation }
         }
         CellName::Spot(_) => {
-            let Some(note) = activation.notes.pop() else {
+            let Some(note) = room.notes.pop() else {
                 unreachable!()
             };
             let occ = occupant_in(value);
-            let stamp = stamp_left(occ, note, activation.after);
+            let stamp = stamp_left(occ, note, room.after);
             let word = node_word(0, occ, stamp);
             field.free_node(&mut activation.seat, number, word);
             Freeing { activation }
@@ -92,22 +93,7 @@ pub fn end<D: Decider>(freeing: Freeing<D>) -> Seat<D>
     ensures { result ≡ freeing }
 {
     let Freeing { activation } = freeing;
-    let Activation {
-        seat,
-        caller,
-        turn,
-        bot: _,
-        area,
-        maxes,
-        cells: _,
-        notes: _,
-        after: _,
-    } = activation;
-    Seat {
-        seat,
-        caller,
-        turn: turn + 1,
-        area,
-        maxes,
-    }
+    let Activation { seat, mut room } = activation;
+    room.turn += 1;
+    Seat { seat, room }
 }

@@ -12,9 +12,8 @@ use crate::field::Field;
 use crate::node_steps::{look_at, try_at};
 use crate::seat::Seat;
 use crate::stopped::{Stopped, Tag};
-use amoebot_state::{CellName, Decider, next_cell};
-use arrayvec::ArrayVec;
-use claim_core::{cell_number, tag};
+use amoebot_state::{CellName, Decider};
+use claim_core::cell_number;
 use std::marker::Model;
 use tri_lattice::Node;
 
@@ -25,14 +24,15 @@ pub struct Held<D: Decider> {
 }
 
 impl<D: Decider> Model for Held<D> {
-    ghost use Rattle.claim_rule.specs.Tokens.{Token, IsClaiming, KeepsActivation, token_in, cells_in};
+    ghost use Rattle.claim_rule.specs.Tokens.{Token, IsClaiming, KeepsActivation, KnowsTurn, token_in, cells_in};
 
     ghost Value = { Token D };
 
     ghost view = { λ h. token_in h.activation };
 
     ghost invariant = { λ h. KeepsActivation D.verdict h.activation
-        × IsClaiming D.verdict h.activation.seat.me h.activation.turn h.activation.bot (cells_in h.activation) };
+        × IsClaiming D.verdict h.activation.seat.me h.activation.room.value.turn h.activation.room.value.bot (cells_in h.activation)
+        × KnowsTurn h.activation.room.value };
 }
 
 impl<D: Decider> Held<D> {
@@ -43,19 +43,15 @@ impl<D: Decider> Held<D> {
         ensures next { result ≡ next_in D.verdict self.now }
         ensures few { length (doing self.now).held ≤ most_cells }
     {
-        let activation = &self.activation;
-        next_cell(
-            &activation.area,
-            activation.bot,
-            activation.cells.as_slice(),
-        )
+        let room = &*self.activation.room;
+        room.zone.next(room.cells.len())
     }
 
     /// How many cells are held.
     pub fn count(&self) -> u8
         ensures { result ≡ length (doing self.now).held }
     {
-        self.activation.cells.len() as u8
+        self.activation.room.cells.len() as u8
     }
 }
 
@@ -66,25 +62,10 @@ pub fn begin<D: Decider>(seat: Seat<D>, turn: u32, bot: u16) -> Held<D>
     ensures same { result ≡ seat }
     ensures one { result ≡ goes seat (doing seat) }
 {
-    let Seat {
-        seat,
-        caller,
-        turn: _,
-        area,
-        maxes,
-    } = seat;
+    let Seat { seat, mut room } = seat;
+    room.begin(turn, bot);
     Held {
-        activation: Activation {
-            seat,
-            caller,
-            turn,
-            bot,
-            area,
-            maxes,
-            cells: ArrayVec::new(),
-            notes: ArrayVec::new(),
-            after: 0,
-        },
+        activation: Activation { seat, room },
     }
 }
 
@@ -123,16 +104,16 @@ fn win_body<D: Decider>(
         × IsOthers (about D.verdict held.view) (number_in held) by.1) }
 {
     let Held { mut activation } = held;
-    let Some(number) = cell_number(&activation.area, CellName::Body(id)) else {
+    let room = &*activation.room;
+    let Some(number) = cell_number(&room.area, CellName::Body(id)) else {
         unreachable!()
     };
-    let mine = tag(activation.caller, activation.turn, activation.bot);
-    let found = field.claim(&mut activation.seat, number, mine);
+    let found = field.claim(&mut activation.seat, number, room.tag);
     if found != 0 {
         return Err((Stopped { activation }, Tag { number: found }));
     }
     let value = field.take_out(&mut activation.seat, usize::from(id));
-    activation.cells.push((CellName::Body(id), value));
+    activation.room.hold(CellName::Body(id), value);
     Ok(Held { activation })
 }
 

@@ -7,6 +7,7 @@ mod close;
 mod field;
 mod freeing;
 mod held;
+mod journal_box;
 mod laws;
 mod make;
 mod node_steps;
@@ -25,6 +26,7 @@ pub use claimed::{Claimed, Seen, look, seal, unseal};
 pub use field::Field;
 pub use freeing::{Freeing, end, free_last};
 pub use held::{Held, begin, win};
+pub use journal_box::JournalBox;
 pub use laws::{
     ended_field_is_reached, field_ends_one_way, field_ends_sound, found_is_shown,
     join_changes_nothing, opening_stands, split_changes_nothing, state_is_determined,

@@ -6,7 +6,9 @@ ghost use Rattle.claim_rule.specs.Views.{field_terms};
 ghost use Rattle.claim_rule.specs.Stands.{first_view};
 ghost use Rattle.claim_rule.specs.Opened.{AreFirstSlots, first_seats, first_words};
 
+use crate::activation::Room;
 use crate::field::Field;
+use crate::journal_box::JournalBox;
 use crate::seat::Seat;
 use crate::seats::Seats;
 use crate::views::{Slot, View};
@@ -74,14 +76,9 @@ fn deal_all<'d, D: Decider>(
     let maxes = world.maxes();
     let mut seats = Vec::new(alloc);
     for caller in 0..callers {
+        let room = Box::new(alloc, Room::new(caller, area, maxes))?;
         let seat = field.deal(&mut rest);
-        seats.push(Some(Seat {
-            seat,
-            caller,
-            turn: 0,
-            area,
-            maxes,
-        }))?;
+        seats.push(Some(Seat { seat, room }))?;
     }
     Ok(Seats { rest, seats })
 }
@@ -113,6 +110,7 @@ fn first_slots(alloc: Global, world: &World, lists: &Lists) -> Result<Vec<Slot>,
     }
     let mut journal = Journal::make(alloc, world)?;
     journal.reserve(alloc, lists.all_turns())?;
-    slots.push(Slot::Journal(journal))?;
+    let boxed = JournalBox::make(alloc, journal)?;
+    slots.push(Slot::Journal(boxed))?;
     Ok(slots)
 }

@@ -15,7 +15,7 @@ use crate::stopped::{Stopped, Tag};
 use crate::views::Note;
 use crate::words::{word_occ, word_stamp, word_tag};
 use amoebot_state::{Cell, CellName, Decider};
-use claim_core::{cell_number, tag};
+use claim_core::cell_number;
 use std::marker::Model;
 use tri_lattice::Node;
 
@@ -30,14 +30,15 @@ pub struct Noted<D: Decider> {
 
 impl<D: Decider> Model for Noted<D> {
     ghost use Rattle.claim_rule.specs.Words.{word_occ, word_stamp};
-    ghost use Rattle.claim_rule.specs.Tokens.{NotedOf, IsNoting, frame_of, token_in, cells_in, notes_in};
+    ghost use Rattle.claim_rule.specs.Tokens.{NotedOf, IsNoting, KnowsTurn, frame_of, token_in, cells_in, notes_in};
 
     ghost Value = { NotedOf D };
 
     ghost view = { λ n. record { claim = token_in n.activation; node = n.node; occ = word_occ n.word; stamp = word_stamp n.word } };
 
-    ghost invariant = { λ n. IsNoting D.verdict n.activation.seat.me n.activation.caller n.activation.turn n.activation.bot
-        (frame_of n.activation.area n.activation.maxes) (cells_in n.activation) (notes_in n.activation) n.node n.word };
+    ghost invariant = { λ n. IsNoting D.verdict n.activation.seat.me n.activation.room.value.caller n.activation.room.value.turn
+        n.activation.room.value.bot (frame_of n.activation.room.value.area n.activation.room.value.maxes) (cells_in n.activation)
+        (notes_in n.activation) n.node n.word × KnowsTurn n.activation.room.value };
 }
 
 impl<D: Decider> Noted<D> {
@@ -69,7 +70,7 @@ pub fn look_at<D: Decider>(
         × IsOthers (about D.verdict held.view) (number_in held) by.1) }
 {
     let Held { mut activation } = held;
-    let Some(number) = cell_number(&activation.area, CellName::Spot(node)) else {
+    let Some(number) = cell_number(&activation.room.area, CellName::Spot(node)) else {
         unreachable!()
     };
     let word = field.look_node(&mut activation.seat, number);
@@ -105,18 +106,17 @@ pub fn try_at<D: Decider>(
         node,
         word,
     } = noted;
-    let Some(number) = cell_number(&activation.area, CellName::Spot(node)) else {
+    let room = &*activation.room;
+    let Some(number) = cell_number(&room.area, CellName::Spot(node)) else {
         unreachable!()
     };
-    let mine = tag(activation.caller, activation.turn, activation.bot);
-    let found = field.try_node(&mut activation.seat, number, word, word + mine);
+    let found = field.try_node(&mut activation.seat, number, word, word + room.tag);
     if found == word {
         let occ = word_occ(word);
         let stamp = word_stamp(word);
-        activation
-            .cells
-            .push((CellName::Spot(node), Cell::Spot(occ)));
-        activation.notes.push(Note { node, occ, stamp });
+        let room = &mut *activation.room;
+        room.hold(CellName::Spot(node), Cell::Spot(occ));
+        room.notes.push(Note { node, occ, stamp });
         return Ok(Held { activation });
     }
     let by = word_tag(found);

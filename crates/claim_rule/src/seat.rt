@@ -1,20 +1,17 @@
 ghost use Rattle.std.specs.Prelude.{◌≡◌};
 ghost use Rattle.claim_rule.specs.Tokens.{number_in, doing};
 
+use crate::activation::Room;
 use crate::views::{Slot, View};
 use amoebot_state::Decider;
 use std::marker::Model;
-use tri_lattice::Area;
 
 /// A caller between two turns. It holds no cell. It is seen as its field's table and what it knows: its caller's number, turn and
 /// marks.
 #[derive(Drop)]
 pub struct Seat<D: Decider> {
     pub(crate) seat: atomic_table::Seat<Slot, View<D>>,
-    pub(crate) caller: u8,
-    pub(crate) turn: u32,
-    pub(crate) area: Area,
-    pub(crate) maxes: [u8; 8],
+    pub(crate) room: Box<Room>,
 }
 
 impl<D: Decider> Model for Seat<D> {
@@ -25,7 +22,8 @@ impl<D: Decider> Model for Seat<D> {
 
     ghost view = { λ s. record { table = s.seat.table_id; view = seen s.seat.me.0 } };
 
-    ghost invariant = { λ s. IsSeat D.verdict s.seat.me s.caller s.turn (frame_of s.area s.maxes) };
+    ghost invariant = { λ s. IsSeat D.verdict s.seat.me s.room.value.caller s.room.value.turn
+        (frame_of s.room.value.area s.room.value.maxes) };
 }
 
 impl<D: Decider> Seat<D> {
@@ -33,13 +31,13 @@ impl<D: Decider> Seat<D> {
     pub fn caller(&self) -> u8
         ensures { result ≡ number_in self.now }
     {
-        self.caller
+        self.room.caller
     }
 
     /// The turn that the caller makes next; the number of turns of its list, where it has made all.
     pub fn next_turn(&self) -> u32
         ensures { result ≡ (doing self.now).turn }
     {
-        self.turn
+        self.room.turn
     }
 }

@@ -45,7 +45,7 @@ impl<D: Decider> Seats<D> {
         requires out { slice_get self.old.seats (number_in seat) ≡ Some None }
         ensures { self.new ≡ record self.old { seats = slice_set self.old.seats (number_in seat) (Some seat) } }
     {
-        let place = usize::from(seat.caller);
+        let place = usize::from(seat.room.caller);
         self.seats[place] = Some(seat);
     }
 }

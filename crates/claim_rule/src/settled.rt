@@ -60,7 +60,7 @@ impl<D: Decider> Model for Settled<D> {
     ghost view = { λ s. token_in s.activation };
 
     ghost invariant = { λ s. KeepsActivation D.verdict s.activation
-        × IsFreeing D.verdict s.activation.seat.me s.activation.turn (cells_in s.activation) s.activation.after
+        × IsFreeing D.verdict s.activation.seat.me s.activation.room.value.turn (cells_in s.activation) s.activation.room.value.after
         × (0 < length (cells_in s.activation)) };
 }
 

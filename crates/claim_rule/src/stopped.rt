@@ -145,7 +145,8 @@ impl<D: Decider> Model for Stopped<D> {
     ghost view = { λ s. token_in s.activation };
 
     ghost invariant = { λ s. KeepsActivation D.verdict s.activation
-        × IsStopped D.verdict s.activation.seat.me s.activation.caller s.activation.turn s.activation.bot (cells_in s.activation) };
+        × IsStopped D.verdict s.activation.seat.me s.activation.room.value.caller s.activation.room.value.turn
+        s.activation.room.value.bot (cells_in s.activation) };
 }
 
 /// The turn of a refused claim gets its mark: it reads the journal's length.
@@ -163,10 +164,11 @@ pub fn refuse<D: Decider>(
 {
     let Stopped { mut activation } = stopped;
     let place = field.place(&mut activation.seat);
-    activation.after = place;
+    let room = &mut *activation.room;
+    room.after = place;
     let refused = Refused {
-        caller: activation.caller,
-        turn: activation.turn,
+        caller: room.caller,
+        turn: room.turn,
         cell,
         by_caller: tag.caller(),
         by_turn: tag.turn(),

@@ -7,10 +7,10 @@ ghost use Rattle.claim_rule.specs.Settling.{HasGot, HasStored, IsToTake};
 use crate::activation::Activation;
 use crate::claimed::Claimed;
 use crate::field::Field;
+use crate::journal_box::JournalBox;
 use crate::renewal::renew;
 use crate::settled::{Receipt, Settled};
 use amoebot_state::{Change, Decider, Entry};
-use claim_core::Journal;
 use std::marker::Model;
 
 /// A caller that holds the whole zone of its turn's amoebot, and the journal, and commits its change next.
@@ -18,7 +18,7 @@ use std::marker::Model;
 pub struct Taken<D: Decider> {
     activation: Activation<D>,
     change: Change,
-    journal: Journal,
+    journal: JournalBox,
 }
 
 impl<D: Decider> Model for Taken<D> {
@@ -29,8 +29,9 @@ impl<D: Decider> Model for Taken<D> {
 
     ghost view = { λ t. token_in t.activation };
 
-    ghost invariant = { λ t. IsTaken D.verdict t.activation.seat.me t.activation.caller t.activation.turn t.activation.bot
-        (frame_of t.activation.area t.activation.maxes) (cells_in t.activation) (notes_in t.activation) t.change t.journal };
+    ghost invariant = { λ t. IsTaken D.verdict t.activation.seat.me t.activation.room.value.caller t.activation.room.value.turn
+        t.activation.room.value.bot (frame_of t.activation.room.value.area t.activation.room.value.maxes) (cells_in t.activation)
+        (notes_in t.activation) t.change t.journal };
 }
 
 /// One try to take the journal, for the change that was decided on what the claim found. The claim and the change come back as they
@@ -77,21 +78,22 @@ pub fn store<D: Decider>(taken: Taken<D>, field: &Field<'_, D>) -> (Settled<D>, 
         patch,
     } = change;
     let place = journal.entries().len() as u32;
-    renew(activation.cells.as_mut_slice(), patch.pairs());
+    let room = &mut *activation.room;
+    renew(room.cells.as_mut_slice(), patch.pairs());
     journal.push(Entry {
-        caller: activation.caller,
-        turn: activation.turn,
-        bot: activation.bot,
+        caller: room.caller,
+        turn: room.turn,
+        bot: room.bot,
         action,
         moved,
         patch,
     });
     field.put_journal_home(&mut activation.seat, journal);
     field.store_length(&mut activation.seat, u64::from(place) + 1);
-    activation.after = place + 1;
+    room.after = place + 1;
     let receipt = Receipt {
-        caller: activation.caller,
-        turn: activation.turn,
+        caller: room.caller,
+        turn: room.turn,
         place,
     };
     (Settled { activation }, receipt)

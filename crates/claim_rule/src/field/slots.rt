@@ -8,10 +8,10 @@ ghost use Rattle.claim_rule.specs.Stands.{journal_slot};
 ghost use Rattle.claim_rule.specs.Internal.{IsSameSeat};
 
 use crate::field::Field;
+use crate::journal_box::JournalBox;
 use crate::views::{Slot, View};
 use amoebot_state::{Cell, Decider};
 use atomic_table::Seat;
-use claim_core::Journal;
 
 impl<'d, D: Decider> Field<'d, D> {
     /// Takes the value out of the slot of the body that was won last.
@@ -42,7 +42,7 @@ impl<'d, D: Decider> Field<'d, D> {
     }
 
     /// Takes the journal out of its slot, which was taken last.
-    pub(crate) fn take_journal_out(&self, seat: &mut Seat<Slot, View<D>>) -> Journal
+    pub(crate) fn take_journal_out(&self, seat: &mut Seat<Slot, View<D>>) -> JournalBox
         requires table { seat.old.table_id ≡ self.now.table }
         requires got { (j : Kept) × (seat.old.me.1 ≡ (journal_slot self.now.terms.world, filling.Journal j) ∷ rest seat.old.me.1) }
         ensures same { IsSameSeat seat.old seat.new }
@@ -57,7 +57,7 @@ impl<'d, D: Decider> Field<'d, D> {
     }
 
     /// Puts the journal into its slot, which is out and empty.
-    pub(crate) fn put_journal_home(&self, seat: &mut Seat<Slot, View<D>>, journal: Journal)
+    pub(crate) fn put_journal_home(&self, seat: &mut Seat<Slot, View<D>>, journal: JournalBox)
         requires table { seat.old.table_id ≡ self.now.table }
         requires empty { seat.old.me.1 ≡ (journal_slot self.now.terms.world, filling.Empty) ∷ rest seat.old.me.1 }
         ensures same { IsSameSeat seat.old seat.new }

@@ -1,13 +1,19 @@
 use Rattle.std.proofs.Common.{◌<◌, reverse, ap, sym, subst, ◌∙◌}
+use Rattle.claim_rule.specs.declared.activation.Room.{Room}
 use Rattle.claim_rule.specs.Plays.{about, bot_in}
-use Rattle.claim_rule.specs.Tokens.{Token, doing}
+use Rattle.claim_rule.specs.Tokens.{Token, KeepsRoom, IsClaiming, doing}
 use Rattle.claim_rule.proofs.ActivationLemmas.{begun}
 use Rattle.claim_rule.proofs.held.begin.Goals as goal
 
 pub invariant_of-result : goal.invariant_of-result
 invariant_of-result g c =
-    begun g.D.Decider.verdict c.seat.inside.seat.me _ _ c.args.turn c.args.bot _ (reverse c.new.result.items) (reverse c.new-2.result.items) c.seat.invariant
+    let m = c.seat.inside.seat.me in
+    let room = c.begin.new.self in
+    let now = c.begin.ensures.same ∙ ap (λ (q : Room). record q { turn = c.args.turn; bot = c.args.bot; tag = room.tag; zone = room.zone; cells = room.cells; notes = room.notes }) c.deref_mut.ensures.value in
+    let first = begun g.D.Decider.verdict m _ _ c.args.turn c.args.bot _ (reverse room.cells.items) (reverse room.notes.items) c.seat.invariant
     (c.requires.turn.0 ∙ ap (λ (t : Token _). (doing t).turn) (sym c.seat.view_is))
     (subst (λ (t : Token _). c.args.turn < (about g.D.Decider.verdict t.view).lists.turns) (sym c.seat.view_is) c.requires.turn.1)
     (c.requires.bot ∙ ap (λ (t : Token _). bot_in g.D.Decider.verdict t.view) (sym c.seat.view_is))
-    (ap reverse c.new.ensures) (ap reverse c.new-2.ensures)
+    (ap reverse c.begin.ensures.empty.0) (ap reverse c.begin.ensures.empty.1) in
+    let all = subst (λ (q : Room). KeepsRoom g.D.Decider.verdict m q × IsClaiming g.D.Decider.verdict m q.turn q.bot (reverse q.cells.items)) (sym now) first in
+    (all.0, all.1, c.begin.ensures.knows)

@@ -1,31 +1,69 @@
-use Rattle.std.proofs.Common.{◌∷◌, reverse, ap, sym, subst, ◌∙◌}
+use Rattle.std.proofs.Common.{◌<◌, ◌++◌, ◌∷◌, [], length, reverse, ap, sym, subst, ◌∙◌}
 use Rattle.amoebot_state.specs.declared.cell.CellName.TheVariants as name
+use Rattle.amoebot_state.specs.Known.{AreReadInOrder}
+use Rattle.amoebot_state.specs.Limits.{most_cells}
 use Rattle.amoebot_state.specs.Pairs.{Pairs}
 use Rattle.atomic_table.specs.Table.{rest}
+use Rattle.claim_core.specs.Cells.{number}
+use Rattle.claim_core.specs.Tags.{tag}
+use Rattle.claim_rule.specs.declared.activation.Room.{Room}
 use Rattle.claim_rule.specs.declared.views.Slot.TheVariants as slot
-use Rattle.claim_rule.specs.Tokens.{IsActivation, IsClaiming, frame_of, next_in}
+use Rattle.claim_rule.specs.Tokens.{IsActivation, IsClaiming, KeepsRoom, KnowsTurn, frame_of, next_in}
 use Rattle.claim_rule.proofs.ActivationLemmas.{to_try_body, wins_plain, stops_plain, last_first}
+use Rattle.claim_rule.proofs.KnownTurns.{in_order, has_room}
 use Rattle.claim_rule.proofs.held.win_body.Goals as goal
 
 pub claim-found-requires-clause-next : goal.claim-found-requires-clause-next
 claim-found-requires-clause-next g c κs within =
-    to_try_body g.D.Decider.verdict c.held.inside.activation.seat.me _ _ _ _ _ _ c.held.invariant.0 c.args.id c.in-Some.number c.tag-mine.result c.held.invariant.1
-    (ap (next_in g.D.Decider.verdict) c.held.view_is ∙ c.requires.next) (sym c.cell_number.ensures ∙ c.in-Some.is)
-    (c.tag-mine.ensures ∙ ap (Rattle.claim_core.specs.Tags.tag c.held.inside.activation.caller c.held.inside.activation.turn) c.held.invariant.0.bot)
+    let room = c.held.inside.activation.room.value in
+    to_try_body g.D.Decider.verdict c.held.inside.activation.seat.me _ _ _ _ _ _ c.held.invariant.0 c.args.id c.in-Some.number c.deref-room.result.now.tag c.held.invariant.1
+    (ap (next_in g.D.Decider.verdict) c.held.view_is ∙ c.requires.next)
+    (ap (λ (q : Room). number q.area (name.Body c.args.id)) (sym c.deref-room.ensures) ∙ sym c.cell_number.ensures ∙ c.in-Some.is)
+    (ap (λ (q : Room). q.tag) c.deref-room.ensures ∙ c.held.invariant.2.tag ∙ ap (tag room.caller room.turn) c.held.invariant.0.bot)
 
 pub invariant_of-result : goal.invariant_of-result
 invariant_of-result g c =
     stops_plain g.D.Decider.verdict c.held.inside.activation.seat.me _ _ _ _ _ _ c.held.invariant.0 c.claim-found.new.seat.me c.args.id c.claim-found.result c.held.invariant.1
     (ap (next_in g.D.Decider.verdict) c.held.view_is ∙ c.requires.next) (c.claim-found.ensures.told.1 c.if-found-ne0.true)
 
-pub invariant_of-result-2 : goal.invariant_of-result-2
-invariant_of-result-2 g c =
-    let told = c.claim-found.ensures.told.0 c.if-found-ne0.false in
+pub hold-requires-clause-few : goal.hold-requires-clause-few
+hold-requires-clause-few g c =
     let v = c.take_out-value.result in
     let a = c.held.inside.activation in
-    let now = ap reverse c.push.ensures.items ∙ last_first a.cells.items (name.Body c.args.id, v) in
-    subst (λ (ps : Pairs). IsActivation g.D.Decider.verdict c.take_out-value.new.seat.me a.caller a.turn a.bot (frame_of a.area a.maxes) ps (reverse a.notes.items) × IsClaiming g.D.Decider.verdict c.take_out-value.new.seat.me a.turn a.bot ps) (sym now)
-    (wins_plain g.D.Decider.verdict a.seat.me _ _ _ _ _ _ c.held.invariant.0 c.claim-found.new.seat.me c.take_out-value.new.seat.me c.args.id v c.held.invariant.1
-    (ap (next_in g.D.Decider.verdict) c.held.view_is ∙ c.requires.next) told
+    let m = c.take_out-value.new.seat.me in
+    let won = wins_plain g.D.Decider.verdict a.seat.me _ _ _ _ _ _ c.held.invariant.0 c.claim-found.new.seat.me m c.args.id v c.held.invariant.1
+    (ap (next_in g.D.Decider.verdict) c.held.view_is ∙ c.requires.next) (c.claim-found.ensures.told.0 c.if-found-ne0.false)
     (c.take_out-value.ensures.value ∙ ap (λ n. (n, slot.Cell v) ∷ rest c.claim-found.new.seat.me.1) c.from.ensures)
-    (c.take_out-value.ensures.emptied ∙ ap (λ n. (c.claim-found.new.seat.me.0, (n, slot.Empty) ∷ rest c.claim-found.new.seat.me.1)) c.from.ensures))
+    (c.take_out-value.ensures.emptied ∙ ap (λ n. (c.claim-found.new.seat.me.0, (n, slot.Empty) ∷ rest c.claim-found.new.seat.me.1)) c.from.ensures) in
+    subst (λ (q : Room). length q.cells.items < most_cells) (sym c.deref_mut.ensures.value) (has_room g.D.Decider.verdict m _ _ _ _ _ a.room.value.cells.items _ _ _ won.0 won.1)
+
+pub hold-requires-clause-knows : goal.hold-requires-clause-knows
+hold-requires-clause-knows g c = subst KnowsTurn (sym c.deref_mut.ensures.value) c.held.invariant.2
+
+pub hold-requires-clause-order : goal.hold-requires-clause-order
+hold-requires-clause-order g c =
+    let v = c.take_out-value.result in
+    let a = c.held.inside.activation in
+    let m = c.take_out-value.new.seat.me in
+    let won = wins_plain g.D.Decider.verdict a.seat.me _ _ _ _ _ _ c.held.invariant.0 c.claim-found.new.seat.me m c.args.id v c.held.invariant.1
+    (ap (next_in g.D.Decider.verdict) c.held.view_is ∙ c.requires.next) (c.claim-found.ensures.told.0 c.if-found-ne0.false)
+    (c.take_out-value.ensures.value ∙ ap (λ n. (n, slot.Cell v) ∷ rest c.claim-found.new.seat.me.1) c.from.ensures)
+    (c.take_out-value.ensures.emptied ∙ ap (λ n. (c.claim-found.new.seat.me.0, (n, slot.Empty) ∷ rest c.claim-found.new.seat.me.1)) c.from.ensures) in
+    subst (λ (q : Room). AreReadInOrder q.area q.bot (q.cells.items ++ (name.Body c.args.id, v) ∷ [])) (sym c.deref_mut.ensures.value) (in_order g.D.Decider.verdict m _ _ _ _ _ a.room.value.cells.items _ _ _ won.0 won.1)
+
+pub invariant_of-result-2 : goal.invariant_of-result-2
+invariant_of-result-2 g c =
+    let v = c.take_out-value.result in
+    let a = c.held.inside.activation in
+    let m = c.take_out-value.new.seat.me in
+    let won = wins_plain g.D.Decider.verdict a.seat.me _ _ _ _ _ _ c.held.invariant.0 c.claim-found.new.seat.me m c.args.id v c.held.invariant.1
+    (ap (next_in g.D.Decider.verdict) c.held.view_is ∙ c.requires.next) (c.claim-found.ensures.told.0 c.if-found-ne0.false)
+    (c.take_out-value.ensures.value ∙ ap (λ n. (n, slot.Cell v) ∷ rest c.claim-found.new.seat.me.1) c.from.ensures)
+    (c.take_out-value.ensures.emptied ∙ ap (λ n. (c.claim-found.new.seat.me.0, (n, slot.Empty) ∷ rest c.claim-found.new.seat.me.1)) c.from.ensures) in
+    let r = a.room.value in
+    let new = c.hold.new.self in
+    let now = c.hold.ensures.same ∙ ap (λ (q : Room). record q { zone = new.zone; cells = new.cells }) c.deref_mut.ensures.value in
+    let cells = ap reverse (c.hold.ensures.cells ∙ ap (λ (q : Room). q.cells.items ++ (name.Body c.args.id, v) ∷ []) c.deref_mut.ensures.value) ∙ last_first r.cells.items (name.Body c.args.id, v) in
+    let with_cells = subst (λ (ps : Pairs). IsActivation g.D.Decider.verdict m r.caller r.turn r.bot (frame_of r.area r.maxes) ps (reverse r.notes.items) × IsClaiming g.D.Decider.verdict m r.turn r.bot ps) (sym cells) won in
+    let all = subst (λ (q : Room). KeepsRoom g.D.Decider.verdict m q × IsClaiming g.D.Decider.verdict m q.turn q.bot (reverse q.cells.items)) (sym now) with_cells in
+    (all.0, all.1, c.hold.ensures.knows)

@@ -1,6 +1,9 @@
-use Rattle.std.proofs.Common.{◌≡◌, ◌<◌, ◌+◌, [], length, drop, ap, ◌∙◌, arith}
+use Rattle.std.proofs.Common.{◌≡◌, ℕ, ◌<◌, ◌+◌, List, [], length, drop, ap, sym, subst, ◌∙◌, arith}
+use Rattle.tri_lattice.specs.Extent.{Extent}
 use Rattle.amoebot_state.specs.Configs.{Config}
+use Rattle.claim_rule.specs.declared.activation.Room.{Room}
 use Rattle.claim_rule.specs.Views.{Seated, seen}
+use Rattle.claim_rule.specs.Tokens.{IsSeat, frame_of}
 use Rattle.claim_rule.specs.Opened.{first_records}
 use Rattle.claim_rule.proofs.Deals.{next_one, first_of_rest, one_dealt, others_left, is_seat, dealt_so_far, are_seats, are_first}
 use Rattle.claim_rule.proofs.make.deal_all.Goals as goal
@@ -23,10 +26,16 @@ invariant_of-push g c =
     let z = c.args.field.now.terms in
     let lt : c.loop-caller.caller < length z.lists.ids = omega (arith, c.loop-caller-test.true, c.requires.callers) in
     let world = c.world-world.ensures.first in
-    is_seat g.D.Decider.verdict z c.deal-seat.result.me c.loop-caller.caller c.area-area.result c.maxes-maxes.result
+    let room = c.in_ok-room.ensures.ok in
+    let caller = ap (λ (q : Room). q.caller) room ∙ c.new.ensures.caller.0 in
+    let turn = ap (λ (q : Room). q.turn) room ∙ c.new.ensures.caller.1 in
+    let extent = ap (λ (q : Room). q.area) room ∙ c.new.ensures.frame.0 in
+    let greatest = ap (λ (q : Room). q.maxes) room ∙ c.new.ensures.frame.1 in
+    subst (λ (q : ℕ × ℕ × Extent × List ℕ). IsSeat g.D.Decider.verdict c.deal-seat.result.me q.0 q.1 (frame_of q.2 q.3)) (λ i. (sym caller i, sym turn i, sym extent i, sym greatest i))
+    (is_seat g.D.Decider.verdict z c.deal-seat.result.me c.loop-caller.caller c.area-area.result c.maxes-maxes.result
     c.world-world.ensures.run lt
     (c.area-area.ensures ∙ ap (λ (w : Config). w.area) world) (c.maxes-maxes.ensures ∙ ap (λ (w : Config). w.maxes) world)
-    (c.deal-seat.ensures.dealt.1 ∙ (λ i. (one_dealt g.D.Decider.verdict z c.loop-caller.rest.me c.loop-caller.caller lt c.loop-caller.invariant.1 i, [])))
+    (c.deal-seat.ensures.dealt.1 ∙ (λ i. (one_dealt g.D.Decider.verdict z c.loop-caller.rest.me c.loop-caller.caller lt c.loop-caller.invariant.1 i, []))))
 
 pub loop-caller-preserved : goal.loop-caller-preserved
 loop-caller-preserved g c =

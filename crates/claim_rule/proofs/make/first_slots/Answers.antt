@@ -19,7 +19,7 @@ returns c =
     let all : c.loop-id.id ≡ length w.bots = omega (arith, c.loop-id-test.false, c.loop-id.auto.id-end, c.bots-id-end.ensures.value) in
     record {
       journal = c.reserve.new.self;
-      are = c.in_ok-push-2.ensures.items ∙ ap (λ xs. xs ++ slot.Journal c.reserve.new.self ∷ []) (c.loop-id.invariant ∙ ap (bodies_so_far w) all);
+      are = c.in_ok-push-2.ensures.items ∙ ap (λ (j : Kept). c.loop-id.slots.items ++ slot.Journal j ∷ []) c.in_ok-boxed.ensures ∙ ap (λ xs. xs ++ slot.Journal c.reserve.new.self ∷ []) (c.loop-id.invariant ∙ ap (bodies_so_far w) all);
       first = ap (λ (j : Kept). j.first) c.in_ok-reserve.ensures.ok ∙ c.in_ok-journal.ensures.first;
       entries = ap (λ (j : Kept). j.entries) c.in_ok-reserve.ensures.ok ∙ c.in_ok-journal.ensures.entries;
       room = omega (arith, ap (λ (j : Kept). j.spare) c.in_ok-reserve.ensures.ok, c.all_turns.ensures);

@@ -1,4 +1,7 @@
 use Rattle.std.proofs.Common.{ap, sym, ◌∙◌}
+use Rattle.amoebot_state.specs.declared.cell.CellName.TheVariants as name
+use Rattle.claim_core.specs.Cells.{number}
+use Rattle.claim_rule.specs.declared.activation.Room.{Room}
 use Rattle.claim_rule.specs.Tokens.{next_in}
 use Rattle.claim_rule.proofs.ActivationLemmas.{to_try, next_same}
 use Rattle.claim_rule.proofs.Winning.{noted, stopped}
@@ -7,7 +10,7 @@ use Rattle.claim_rule.proofs.node_steps.look_at.Goals as goal
 pub look_node-word-requires-clause-next : goal.look_node-word-requires-clause-next
 look_node-word-requires-clause-next g c κs within =
     (to_try g.D.Decider.verdict c.held.inside.activation.seat.me _ _ _ _ _ _ c.held.invariant.0 c.args.node c.in-Some.number c.held.invariant.1
-    (ap (next_in g.D.Decider.verdict) c.held.view_is ∙ c.requires.next) (sym c.cell_number.ensures ∙ c.in-Some.is)).0
+    (ap (next_in g.D.Decider.verdict) c.held.view_is ∙ c.requires.next) (ap (λ (q : Room). number q.area (name.Spot c.args.node)) (sym c.deref.ensures) ∙ sym c.cell_number.ensures ∙ c.in-Some.is)).0
 
 pub invariant_of-result : goal.invariant_of-result
 invariant_of-result g c =
@@ -18,6 +21,7 @@ invariant_of-result g c =
 pub invariant_of-result-2 : goal.invariant_of-result-2
 invariant_of-result-2 g c =
     let free = sym c.word_tag-by.ensures ∙ c.if-by-ne0.false in
-    (noted g.D.Decider.verdict _ _ _ _ _ _ c.args.node c.held.inside.activation.seat.me c.held.invariant.0 c.held.invariant.1
+    let all = noted g.D.Decider.verdict _ _ _ _ _ _ c.args.node c.held.inside.activation.seat.me c.held.invariant.0 c.held.invariant.1
     (sym (next_same g.D.Decider.verdict c.held.inside.activation.seat.me _ _ _ _ _ _ c.held.invariant.0 c.held.invariant.1.turn) ∙ ap (next_in g.D.Decider.verdict) c.held.view_is ∙ c.requires.next)
-    c.look_node-word.result c.look_node-word.new.seat.me free (c.look_node-word.ensures.told.0 free)).0
+    c.look_node-word.result c.look_node-word.new.seat.me free (c.look_node-word.ensures.told.0 free) in
+    (all.0, c.held.invariant.2)
