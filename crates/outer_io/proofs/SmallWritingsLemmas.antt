@@ -1,5 +1,5 @@
 -- Small runs of writes.
-use Rattle.std.proofs.Common.{◌≡◌, ◌⊎◌, ℕ, ◌<◌, List, [], ◌∷◌, ◌++◌, drop, length, inl, inr, refl, ap, ◌∙◌, arith}
+use Rattle.std.proofs.Common.{◌≡◌, ◌⊎◌, ℕ, List, [], ◌∷◌, ◌++◌, drop, length, inl, inr, refl, ap, ◌∙◌, arith}
 use Rattle.outer_io.specs.Writings.{Handed, none, more, NotesWrite, SmallWritings, three_bytes}
 
 in_two : Handed NotesWrite [] three_bytes 3 ((7 ∷ 8 ∷ 9 ∷ [], 2) ∷ (9 ∷ [], 1) ∷ [])

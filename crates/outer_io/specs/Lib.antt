@@ -4,3 +4,6 @@ pub mod Readings
 pub mod Writings
 pub mod KeptBytes
 pub mod Counted
+pub mod CallPlans
+pub mod MemReads
+pub mod MemWrites

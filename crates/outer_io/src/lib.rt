@@ -3,6 +3,9 @@
 #![tactic(auto)]
 
 mod errors;
+mod mem_sink;
+mod mem_source;
+mod plan;
 mod reading;
 mod std_sink;
 mod std_source;
@@ -13,6 +16,8 @@ mod tests;
 mod writing;
 
 pub use errors::{Failed, NoMemory, ReadError, WriteFault};
+pub use mem_sink::{MemSink, mem_writes_are_one, torn_writes};
+pub use mem_source::{MemSource, mem_reads_are_one, torn_reads};
 pub use reading::{Document, Source, read_document};
 pub use std_sink::StdSink;
 pub use std_source::StdSource;

@@ -1,30 +1,13 @@
 ghost use Rattle.std.specs.declared.option.Option.TheVariants.{Some, None};
 
 use crate::{
-    Failed, ReadError, Sink, Source, StdSink, StdSource, SureSink, SureSource, WriteFault,
-    read_document, write_all,
+    Failed, MemSink, MemSource, ReadError, Sink, Source, StdSink, StdSource, SureSink, SureSource,
+    WriteFault, read_document, write_all,
 };
 use std::io::{self, ErrorKind, Read, Write};
 use std::test::Fail;
 
-/// Gives at most three bytes a read.
-#[derive(Drop)]
-struct Slow {
-    source: SureSource,
-}
-
-impl Source for Slow {
-    ghost left = { λ slow. Some slow.source };
-
-    ghost faults = { λ _. 0 };
-
-    fn read(&mut self, piece: &mut [u8]) -> Result<usize, Failed> {
-        let count = piece.len().min(3);
-        self.source.read(&mut piece[..count])
-    }
-}
-
-/// Never ends, and gives two bytes a read.
+/// Never ends, gives two bytes a read, and tells nothing of its calls.
 #[derive(Drop)]
 struct Endless {
     given: u64,
@@ -100,7 +83,7 @@ impl Write for Halting {
     }
 }
 
-/// Takes two bytes a write, and keeps what the first three writes were given.
+/// Takes two bytes a write, and keeps what the first three writes were given. It tells nothing of its calls.
 #[derive(Drop)]
 struct Nibbling {
     writes: usize,
@@ -124,9 +107,8 @@ impl Sink for Nibbling {
 #[test]
 fn a_document_comes_in_pieces(rt: HostRuntime) -> Result<(), Fail> {
     for (limit, fits) in [(4, false), (5, true), (6, true)] {
-        let source = SureSource::new(rt.alloc(), b"hello")?;
-        let mut slow = Slow { source };
-        match read_document(rt.alloc(), &mut slow, limit) {
+        let mut source = MemSource::new(rt.alloc(), b"hello", 3, &[])?;
+        match read_document(rt.alloc(), &mut source, limit) {
             Ok(document) => assert!(rt; fits && document.bytes() == b"hello".as_slice()),
             Err(error) => assert!(rt; !fits && error == ReadError::TooLong),
         }
@@ -247,5 +229,81 @@ fn a_sure_sink_keeps_what_fits(rt: HostRuntime) -> Result<(), Fail> {
     assert!(rt; sink.whole() && sink.bytes() == b"ab".as_slice());
     write_all(&mut sink, b"cde")?;
     assert!(rt; !sink.whole() && sink.bytes() == b"abcd".as_slice());
+    Ok(())
+}
+
+/// Two bytes a read at most: reads 1 and 3 fail and keep the bytes that are left.
+#[test]
+fn a_mem_source_fails_exactly_by_its_numbers(rt: HostRuntime) -> Result<(), Fail> {
+    let mut source = MemSource::new(rt.alloc(), b"abcde", 2, &[3, 1, 9])?;
+    let mut piece = [0u8; 4];
+    let answers = [
+        Ok(b"ab".as_slice()),
+        Err(Failed),
+        Ok(b"cd"),
+        Err(Failed),
+        Ok(b"e"),
+        Ok(b""),
+        Ok(b""),
+    ];
+    for answer in answers {
+        let given = source.read(&mut piece);
+        assert_eq!(rt; given, answer.map(|bytes| bytes.len()));
+        if let Ok(bytes) = answer {
+            assert!(rt; piece.starts_with(bytes));
+        }
+    }
+    Ok(())
+}
+
+#[test]
+fn a_mem_source_gives_no_more_than_there_is_room(rt: HostRuntime) -> Result<(), Fail> {
+    let mut source = MemSource::new(rt.alloc(), b"abc", 10, &[])?;
+    let mut piece = [0u8; 2];
+    assert_eq!(rt; source.read(&mut piece), Ok(2));
+    assert_eq!(rt; source.read(&mut piece), Ok(1));
+    assert_eq!(rt; source.read(&mut piece), Ok(0));
+    Ok(())
+}
+
+/// A room of five, two bytes a write at most: write 1 fails, and each write to the full room.
+#[test]
+fn a_mem_sink_fails_by_its_numbers_and_once_it_is_full(rt: HostRuntime) -> Result<(), Fail> {
+    let mut sink = MemSink::new(rt.alloc(), 5, 2, &[1])?;
+    let answers = [Ok(2), Err(Failed), Ok(2), Ok(1), Err(Failed), Err(Failed)];
+    for answer in answers {
+        assert_eq!(rt; sink.write(b"xyz"), answer);
+    }
+    assert!(rt; sink.bytes() == b"xyxyx".as_slice());
+    Ok(())
+}
+
+/// Each read of ten bytes in pieces of three fails in turn, that of the end too.
+#[test]
+fn each_read_fails_in_turn(rt: HostRuntime) -> Result<(), Fail> {
+    for failing in 0..5u32 {
+        let mut source = MemSource::new(rt.alloc(), b"0123456789", 3, &[failing])?;
+        match read_document(rt.alloc(), &mut source, 10) {
+            Ok(_) => assert!(rt; false),
+            Err(error) => assert_eq!(rt; error, ReadError::ReadFault),
+        }
+    }
+    let mut source = MemSource::new(rt.alloc(), b"0123456789", 3, &[5])?;
+    let document = read_document(rt.alloc(), &mut source, 10)?;
+    assert_eq!(rt; document.bytes().len(), 10);
+    Ok(())
+}
+
+/// Each write of ten bytes in pieces of three fails in turn: what went out before is three bytes a write.
+#[test]
+fn each_write_fails_in_turn(rt: HostRuntime) -> Result<(), Fail> {
+    for (failing, front) in [(0u32, ""), (1, "012"), (2, "012345"), (3, "012345678")] {
+        let mut sink = MemSink::new(rt.alloc(), 100, 3, &[failing])?;
+        assert_eq!(rt; write_all(&mut sink, b"0123456789"), Err(WriteFault));
+        assert!(rt; sink.bytes() == front.as_bytes());
+    }
+    let mut sink = MemSink::new(rt.alloc(), 10, 3, &[4])?;
+    write_all(&mut sink, b"0123456789")?;
+    assert!(rt; sink.bytes() == b"0123456789".as_slice());
     Ok(())
 }
