@@ -3,14 +3,17 @@ use Rattle.std.specs.Prelude.{◌≡◌, ℕ, ◌<◌, List, [], ◌∷◌, leng
 use Rattle.std.specs.declared.option.Option.TheVariants.{Some, None}
 use Rattle.atomic_table.specs.Table.{rest}
 use Rattle.amoebot_state.specs.declared.verdict.Change.{Change}
+use Rattle.amoebot_state.specs.declared.verdict.Entry.{Entry}
 use Rattle.amoebot_state.specs.declared.verdict.Verdict.{Verdict}
 use Rattle.amoebot_state.specs.Configs.{Config}
 use Rattle.amoebot_state.specs.Pairs.{Pairs}
+use Rattle.amoebot_state.specs.Steps.{change_of, entry_of}
 use Rattle.amoebot_state.specs.Zones.{Shown}
 use Rattle.claim_core.specs.declared.state.Phase.TheVariants.{Taking, Committing}
 use Rattle.claim_core.specs.Limits.{most_turns}
 use Rattle.claim_core.specs.Turns.{Kept}
 use Rattle.claim_core.specs.Machine.{next_of}
+use Rattle.claim_rule.specs.declared.activation.Room.{Room}
 use Rattle.claim_rule.specs.declared.views.Slot.TheVariants as slot
 use Rattle.claim_rule.specs.declared.views.Note.{Note}
 use Rattle.claim_rule.specs.declared.views.Record.{Record}
@@ -19,6 +22,11 @@ use Rattle.claim_rule.specs.Stands.{journal_slot}
 use Rattle.claim_rule.specs.Plays.{about}
 use Rattle.claim_rule.specs.Tokens.{Token, PlacedTurn, IsActivation, placed_turn, record_in, number_in, doing}
 use Rattle.claim_rule.specs.Commits.{HasRoomForEntry, with_journal, with_commit}
+
+-- the entry is that of the room's turn, and the room has a copy of its patch
+pub record IsReadyEntry (r : Room) (e : Entry) : Type 0 where
+  pub entry : e ≡ entry_of r.caller r.turn r.bot (change_of e)
+  pub changes : r.changes.items ≡ e.patch
 
 module _ {D : Type 0} where
   -- the seat where its caller's record has changed

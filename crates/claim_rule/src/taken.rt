@@ -1,5 +1,6 @@
 ghost use Rattle.std.specs.Prelude.{◌≡◌, ◌<◌, IfOk, IfErr};
 ghost use Rattle.amoebot_state.specs.declared.verdict.Change.{Change as ChangeValue};
+ghost use Rattle.amoebot_state.specs.Steps.{change_of};
 ghost use Rattle.claim_core.specs.declared.state.Phase.TheVariants.{Committing};
 ghost use Rattle.claim_rule.specs.Tokens.{IsOf, doing};
 ghost use Rattle.claim_rule.specs.Settling.{HasGot, HasStored, IsToTake};
@@ -8,7 +9,6 @@ use crate::activation::Activation;
 use crate::claimed::Claimed;
 use crate::field::Field;
 use crate::journal_box::JournalBox;
-use crate::renewal::renew;
 use crate::settled::{Receipt, Settled};
 use amoebot_state::{Change, Decider, Entry};
 use std::marker::Model;
@@ -17,13 +17,14 @@ use std::marker::Model;
 #[derive(Drop)]
 pub struct Taken<D: Decider> {
     activation: Activation<D>,
-    change: Change,
+    entry: Entry,
     journal: JournalBox,
 }
 
 impl<D: Decider> Model for Taken<D> {
     ghost use Rattle.claim_rule.specs.Tokens.{Token, frame_of, token_in, cells_in, notes_in};
-    ghost use Rattle.claim_rule.specs.Settling.{IsTaken};
+    ghost use Rattle.claim_rule.specs.Settling.{IsTaken, IsReadyEntry};
+    ghost use Rattle.amoebot_state.specs.Steps.{change_of};
 
     ghost Value = { Token D };
 
@@ -31,7 +32,7 @@ impl<D: Decider> Model for Taken<D> {
 
     ghost invariant = { λ t. IsTaken D.verdict t.activation.seat.me t.activation.room.value.caller t.activation.room.value.turn
         t.activation.room.value.bot (frame_of t.activation.room.value.area t.activation.room.value.maxes) (cells_in t.activation)
-        (notes_in t.activation) t.change t.journal };
+        (notes_in t.activation) (change_of t.entry) t.journal × IsReadyEntry t.activation.room.value t.entry };
 }
 
 /// One try to take the journal, for the change that was decided on what the claim found. The claim and the change come back as they
@@ -50,16 +51,28 @@ pub fn take<D: Decider>(
         mut activation,
         found,
     } = claimed;
+    let entry = activation.room.ready(change);
     let word = field.take_journal(&mut activation.seat);
     if word % 2 != 0 {
-        return Err((Claimed { activation, found }, change));
+        return Err((Claimed { activation, found }, change_of(entry)));
     }
     let journal = field.take_journal_out(&mut activation.seat);
     Ok(Taken {
         activation,
-        change,
+        entry,
         journal,
     })
+}
+
+/// The change of an entry.
+fn change_of(entry: Entry) -> Change
+    ensures { result ≡ change_of entry }
+{
+    Change {
+        action: entry.action,
+        moved: entry.moved,
+        patch: entry.patch,
+    }
 }
 
 /// The commit, one step: the entry joins the journal, which is free again, and the cells that are held have the values of the patch.
@@ -69,27 +82,15 @@ pub fn store<D: Decider>(taken: Taken<D>, field: &Field<'_, D>) -> (Settled<D>, 
 {
     let Taken {
         mut activation,
-        change,
+        entry,
         mut journal,
     } = taken;
-    let Change {
-        action,
-        moved,
-        patch,
-    } = change;
     let place = journal.entries().len() as u32;
-    let room = &mut *activation.room;
-    renew(room.cells.as_mut_slice(), patch.pairs());
-    journal.push(Entry {
-        caller: room.caller,
-        turn: room.turn,
-        bot: room.bot,
-        action,
-        moved,
-        patch,
-    });
+    journal.push(entry);
     field.put_journal_home(&mut activation.seat, journal);
     field.store_length(&mut activation.seat, u64::from(place) + 1);
+    let room = &mut *activation.room;
+    room.settle();
     room.after = place + 1;
     let receipt = Receipt {
         caller: room.caller,

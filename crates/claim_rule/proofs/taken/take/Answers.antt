@@ -1,14 +1,40 @@
-use Rattle.std.proofs.Common.{ap, sym, subst, ◌∙◌}
-use Rattle.claim_rule.specs.Views.{setup_at}
+use Rattle.std.proofs.Common.{reverse, ap, sym, subst, ◌∙◌}
+use Rattle.amoebot_state.specs.declared.verdict.Change.{Change}
+use Rattle.amoebot_state.specs.declared.verdict.Entry.{Entry}
+use Rattle.amoebot_state.specs.Steps.{change_of, entry_of}
+use Rattle.claim_rule.specs.declared.activation.Room.{Room}
+use Rattle.claim_rule.specs.Views.{Seated, setup_at}
 use Rattle.claim_rule.specs.Stands.{journal_slot}
 use Rattle.claim_rule.specs.Commits.{GotJournal}
-use Rattle.claim_rule.specs.Tokens.{Token, doing}
+use Rattle.claim_rule.specs.Tokens.{Token, KeepsRoom, HoldsWholeZone, doing, frame_of}
+use Rattle.claim_rule.specs.Settling.{IsTaken, IsReadyEntry}
 use Rattle.claim_rule.proofs.SettlingLemmas.{got_it}
 use Rattle.claim_rule.proofs.taken.take.Goals as goal
+
+pub invariant_of-result : goal.invariant_of-result
+invariant_of-result g c =
+    let room = c.ready-entry.new.self in
+    let m = c.take_journal-word.new.seat.me in
+    let now = c.ready-entry.ensures.same ∙ ap (λ (q : Room). record q { changes = room.changes }) c.deref_mut.ensures.value in
+    let r = c.claimed.inside.activation.room.value in
+    let stays = subst (λ (n : Seated g.row.D.Denot). KeepsRoom g.D.Decider.verdict n r × HoldsWholeZone g.D.Decider.verdict n r.turn r.bot (reverse r.cells.items) c.claimed.inside.found r.after) (sym (c.take_journal-word.ensures.told.1 c.if-word-ne0.true)) c.claimed.invariant in
+    subst (λ (q : Room). KeepsRoom g.D.Decider.verdict m q × HoldsWholeZone g.D.Decider.verdict m q.turn q.bot (reverse q.cells.items) c.claimed.inside.found q.after) (sym now) stays
 
 pub invariant_of-result-2 : goal.invariant_of-result-2
 invariant_of-result-2 g c =
     let terms = ap (λ (t : Token _). t.view.terms) c.claimed.view_is ∙ c.requires.field.terms in
-    (got_it g.D.Decider.verdict c.claimed.inside.activation.seat.me _ _ _ _ _ _ c.claimed.inside.found _ c.args.change _ c.take_journal-word.new.seat.me c.take_journal_out-journal.new.seat.me c.take_journal_out-journal.result
+    let m = c.take_journal_out-journal.new.seat.me in
+    let got = got_it g.D.Decider.verdict c.claimed.inside.activation.seat.me _ _ _ _ _ _ c.claimed.inside.found _ c.args.change _ c.take_journal-word.new.seat.me m c.take_journal_out-journal.result
     c.claimed.invariant.0 c.claimed.invariant.1 (ap (λ (t : Token _). (doing t).phase) c.claimed.view_is ∙ c.requires.change) (sym (ap (λ o. journal_slot (setup_at g.D.Decider.verdict o).world) terms))
-    (subst (λ k. GotJournal k c.claimed.inside.activation.seat.me c.take_journal-word.new.seat.me) (ap (λ o. journal_slot (setup_at g.D.Decider.verdict o).world) terms) (c.take_journal-word.ensures.told.0 c.if-word-ne0.false)) c.take_journal_out-journal.ensures.value c.take_journal_out-journal.ensures.emptied).0
+    (subst (λ k. GotJournal k c.claimed.inside.activation.seat.me c.take_journal-word.new.seat.me) (ap (λ o. journal_slot (setup_at g.D.Decider.verdict o).world) terms) (c.take_journal-word.ensures.told.0 c.if-word-ne0.false)) c.take_journal_out-journal.ensures.value c.take_journal_out-journal.ensures.emptied in
+    let r = c.claimed.inside.activation.room.value in
+    let room = c.ready-entry.new.self in
+    let now = c.ready-entry.ensures.same ∙ ap (λ (q : Room). record q { changes = room.changes }) c.deref_mut.ensures.value in
+    let entry = c.ready-entry.ensures.entry ∙ ap (λ (q : Room). entry_of q.caller q.turn q.bot c.args.change) c.deref_mut.ensures.value in
+    let change = ap change_of entry in
+    let taken = subst (λ (q : Room × Change). IsTaken g.D.Decider.verdict m q.0.caller q.0.turn q.0.bot (frame_of q.0.area q.0.maxes) (reverse q.0.cells.items) (reverse q.0.notes.items) q.1 c.take_journal_out-journal.result) (λ i. (sym now i, sym change i)) got.0 in
+    let ready = subst (λ (q : Room). IsReadyEntry q c.ready-entry.result) (sym now) (record {
+      entry = entry ∙ ap (entry_of r.caller r.turn r.bot) (sym change);
+      changes = c.ready-entry.ensures.changes ∙ sym (ap (λ (e : Entry). e.patch) entry);
+    }) in
+    (taken, ready)
