@@ -12,7 +12,6 @@ use Rattle.tri_lattice.specs.declared.node.Node.{Node}
 use Rattle.amoebot_state.specs.declared.bot.Bot.{Bot}
 use Rattle.amoebot_state.specs.Configs.{Config, IsValid, bot_at, blank, with_these}
 use Rattle.amoebot_state.specs.Occupied.{occupied}
-use Rattle.claim_core.specs.Limits.{most_ids}
 use Rattle.claim_core.specs.Turns.{AreLists, CallerLists, IsList}
 use Rattle.run_sample.specs.Sample.{IsInside, sample_frame}
 use Rattle.run_sample.specs.Callers.{ids_below, ids_of, sample_lists}

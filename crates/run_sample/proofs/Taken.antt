@@ -6,7 +6,6 @@ use Rattle.std.proofs.Math.Bool.{or-false, or_self}
 use Rattle.std.proofs.lemmas.List.Folds.{list_any-append, list_any_at}
 use Rattle.tri_lattice.specs.declared.node.Node.{Node}
 use Rattle.tri_lattice.specs.Lattice.{node_eq, Adjacent}
-use Rattle.tri_lattice.specs.Extent.{Extent}
 use Rattle.tri_lattice.specs.Sets.{PutsIn}
 use Rattle.tri_lattice.proofs.Nodes.{node_eq-true, node_eq-false, node_eq_same}
 use Rattle.amoebot_state.specs.declared.bot.Bot.{Bot}
