@@ -20,7 +20,7 @@ use Rattle.amoebot_state.specs.declared.verdict.Moved.TheVariants as moved
 use Rattle.amoebot_state.specs.declared.verdict.Verdict.{Verdict}
 use Rattle.amoebot_state.specs.declared.verdict.Verdict.TheVariants as verdict
 use Rattle.amoebot_state.specs.Ports.{port}
-use Rattle.amoebot_state.specs.Configs.{Config, config_of}
+use Rattle.amoebot_state.specs.Configs.{Config, frame_of, with_these}
 use Rattle.model_ops.specs.Sights.{sight}
 use Rattle.action_tree.specs.declared.expression.PortSet.{PortSet}
 use Rattle.action_tree.specs.declared.expression.PortSet.TheVariants.{Ports, Free}
@@ -59,7 +59,7 @@ abbrev three : Bot
 three = body (node 1 1) (node 0 1) 1 chir.Plus 0 0
 
 abbrev of_bots : List Bot → Config
-of_bots bots = let area : Extent = record { x0 = pos 0; y0 = pos 0; w = 8; h = 8 } in config_of area (values 9 9) bots
+of_bots bots = let area : Extent = record { x0 = pos 0; y0 = pos 0; w = 8; h = 8 } in with_these (frame_of area (values 9 9)) bots
 
 abbrev shape : Config
 shape = of_bots (zero ∷ one ∷ two ∷ three ∷ [])

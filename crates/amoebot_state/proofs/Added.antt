@@ -5,11 +5,11 @@ use Rattle.std.proofs.lemmas.List.{take_more, length-map, get_or_append_left, ge
 use Rattle.std.proofs.lemmas.Bool.{cases_eq, both_ways, cases_lt, or_parts, and_parts}
 use Rattle.std.proofs.lemmas.Option.{none-some, same_Some}
 use Rattle.tri_lattice.specs.declared.node.Node.{Node}
-use Rattle.tri_lattice.specs.Extent.{Extent, index_of, is_in}
+use Rattle.tri_lattice.specs.Extent.{index_of, is_in}
 use Rattle.tri_lattice.proofs.Boxes.{index_below}
 use Rattle.amoebot_state.specs.declared.bot.Bot.{Bot}
 use Rattle.amoebot_state.specs.Ports.{is_own}
-use Rattle.amoebot_state.specs.Configs.{Config, config_of, with_bot, IsBot, IsValid, IsGrid, IsWorld, bot_at, occupant, covers, is_close, has_values}
+use Rattle.amoebot_state.specs.Configs.{Config, frame, with_these, with_bot, IsBot, IsValid, IsGrid, IsWorld, bot_at, occupant, covers, is_close, has_values}
 use Rattle.amoebot_state.specs.Storage.{put_at}
 use Rattle.amoebot_state.specs.Refusals.{bot_fault, IsBotInRange, IsFaultless}
 use Rattle.tri_lattice.proofs.Nodes.{cases_node}
@@ -28,7 +28,7 @@ blocks false e r h = (refl, h)
 
 -- an amoebot without a fault
 pub record MayCome (c : Config) (b : Bot) : Type 0 where
-  pub fits : IsBot c.area c.maxes b
+  pub fits : IsBot (frame c) b
   pub head_free : occupant c b.head ≡ None
   pub tail_free : occupant c b.tail ≡ None
 
@@ -80,11 +80,11 @@ meet c b v i j valid may (older lt h) (newest e own) = absurd (both_ways _ (none
 meet c b v i j valid may (newest e own) (older lt h) = absurd (both_ways _ (none_passes (λ o. covers o v) c.bots None (own_free c b v may own) j lt) h)
 meet c b v i j valid may (newest e own) (newest e' own') = e ∙ sym e'
 
-each_with : (c : Config) (b : Bot) → IsValid c → MayCome c b → (i : ℕ) (a : Bot) → bot_at (with_bot c b) i ≡ Some a → IsBot c.area c.maxes a
+each_with : (c : Config) (b : Bot) → IsValid c → MayCome c b → (i : ℕ) (a : Bot) → bot_at (with_bot c b) i ≡ Some a → IsBot (frame c) a
 each_with c b valid may i a h = elim (cases_lt i (length c.bots)) [
   | inl lt ↦ valid.each i a (sym (get_or_append_left c.bots (Some b ∷ []) None i lt) ∙ h)
   | inr ge ↦ elim (cases_eq i (length c.bots)) [
-    | inl e ↦ let same : b ≡ a = same_Some b a (sym (get_or_push c.bots (Some b) None i (sym e)) ∙ h) in let P : Bot → Type 0 = λ x. IsBot c.area c.maxes x in subst P same may.fits
+    | inl e ↦ let same : b ≡ a = same_Some b a (sym (get_or_push c.bots (Some b) None i (sym e)) ∙ h) in let P : Bot → Type 0 = λ x. IsBot (frame c) x in subst P same may.fits
     | inr ne ↦ let long = length_push c.bots (Some b) in absurd (none-some a (sym (get_or_past (c.bots ++ Some b ∷ []) i None (omega arith)) ∙ h))
   ]
 ]
@@ -136,28 +136,28 @@ world_with c b g few may world = record {
   few = let long = length_push c.bots (Some b) in omega arith;
 }
 
-pub config_push : (a : Extent) (maxes : List ℕ) (bs : List Bot) (b : Bot) → config_of a maxes (bs ++ b ∷ []) ≡ with_bot (config_of a maxes bs) b
-config_push a maxes bs b = ap (λ (os : List (Option Bot)). let c : Config = record { area = a; maxes = maxes; bots = os } in c) (map_push Some bs b)
+pub these_push : (c : Config) (bs : List Bot) (b : Bot) → with_these c (bs ++ b ∷ []) ≡ with_bot (with_these c bs) b
+these_push c bs b = ap (λ (os : List (Option Bot)). let d : Config = record c { bots = os } in d) (map_push Some bs b)
 
 -- the fields with one amoebot more
-pub world_made : (a : Extent) (maxes : List ℕ) (bs cs : List Bot) (g h : List (Option ℕ)) (b : Bot) (n : ℕ) → n ≡ length bs → n < 4096 → MayCome (config_of a maxes bs) b → IsWorld (config_of a maxes bs) g → cs ≡ bs ++ b ∷ [] → h ≡ put_at (put_at g (index_of a b.head) (Some n)) (index_of a b.tail) (Some n) → IsWorld (config_of a maxes cs) h
-world_made a maxes bs cs g h b n size few may world longer grid =
+pub world_made : (c : Config) (bs cs : List Bot) (g h : List (Option ℕ)) (b : Bot) (n : ℕ) → n ≡ length bs → n < 4096 → MayCome (with_these c bs) b → IsWorld (with_these c bs) g → cs ≡ bs ++ b ∷ [] → h ≡ put_at (put_at g (index_of c.area b.head) (Some n)) (index_of c.area b.tail) (Some n) → IsWorld (with_these c cs) h
+world_made c bs cs g h b n size few may world longer grid =
     let long : n ≡ length (map Some bs) = size ∙ sym (length-map bs Some) in
-    let P : List (Option ℕ) → Type 0 = λ k. IsWorld (with_bot (config_of a maxes bs) b) k in
-    let Q : Config → Type 0 = λ c. IsWorld c h in
-    let same : with_bot (config_of a maxes bs) b ≡ config_of a maxes cs = sym (config_push a maxes bs b) ∙ ap (config_of a maxes) (sym longer) in
-    let to : put_at (put_at g (index_of a b.head) (Some (length (map Some bs)))) (index_of a b.tail) (Some (length (map Some bs))) ≡ h = ap (λ k. put_at (put_at g (index_of a b.head) (Some k)) (index_of a b.tail) (Some k)) (sym long) ∙ sym grid in
-    subst Q same (subst P to (world_with (config_of a maxes bs) b g (subst (λ k. k < 4096) long few) may world))
+    let P : List (Option ℕ) → Type 0 = λ k. IsWorld (with_bot (with_these c bs) b) k in
+    let Q : Config → Type 0 = λ d. IsWorld d h in
+    let same : with_bot (with_these c bs) b ≡ with_these c cs = sym (these_push c bs b) ∙ ap (with_these c) (sym longer) in
+    let to : put_at (put_at g (index_of c.area b.head) (Some (length (map Some bs)))) (index_of c.area b.tail) (Some (length (map Some bs))) ≡ h = ap (λ k. put_at (put_at g (index_of c.area b.head) (Some k)) (index_of c.area b.tail) (Some k)) (sym long) ∙ sym grid in
+    subst Q same (subst P to (world_with (with_these c bs) b g (subst (λ k. k < 4096) long few) may world))
 
 -- an amoebot without a fault behind amoebots without one
-pub faultless_more : (a : Extent) (maxes : List ℕ) (bots : List Bot) (i : ℕ) (b : Bot) (c : Config) → slice_get bots i ≡ Some b → c ≡ config_of a maxes (take i bots) → IsFaultless a maxes bots i → bot_fault c b ≡ None → IsFaultless a maxes bots (i + 1)
-faultless_more a maxes bots i b c at is before none j d lt e = elim (cases_eq j i) [
+pub faultless_more : (c : Config) (bots : List Bot) (i : ℕ) (b : Bot) (w : Config) → slice_get bots i ≡ Some b → w ≡ with_these c (take i bots) → IsFaultless c bots i → bot_fault w b ≡ None → IsFaultless c bots (i + 1)
+faultless_more c bots i b w at is before none j d lt e = elim (cases_eq j i) [
   | inl same ↦
       let one : d ≡ b = same_Some d b (sym e ∙ ap (slice_get bots) same ∙ at) in
-      ap (λ k. bot_fault (config_of a maxes (take k bots)) d) same ∙ ap (bot_fault (config_of a maxes (take i bots))) one ∙ ap (λ f. bot_fault f b) (sym is) ∙ none
+      ap (λ k. bot_fault (with_these c (take k bots)) d) same ∙ ap (bot_fault (with_these c (take i bots))) one ∙ ap (λ f. bot_fault f b) (sym is) ∙ none
   | inr ne ↦ before j d (omega arith) e
 ]
 
 -- the world with one amoebot more has one amoebot more of the list
-pub world_more : (a : Extent) (maxes : List ℕ) (bots : List Bot) (i : ℕ) (d : Bot) (c e : Config) → i < length bots → c ≡ config_of a maxes (take i bots) → e ≡ with_bot c (get_or bots i d) → e ≡ config_of a maxes (take (i + 1) bots)
-world_more a maxes bots i d c e lt is more = more ∙ ap (λ f. with_bot f (get_or bots i d)) is ∙ sym (ap (config_of a maxes) (take_more bots i d lt) ∙ config_push a maxes (take i bots) (get_or bots i d))
+pub world_more : (c : Config) (bots : List Bot) (i : ℕ) (d : Bot) (w e : Config) → i < length bots → w ≡ with_these c (take i bots) → e ≡ with_bot w (get_or bots i d) → e ≡ with_these c (take (i + 1) bots)
+world_more c bots i d w e lt is more = more ∙ ap (λ f. with_bot f (get_or bots i d)) is ∙ sym (ap (with_these c) (take_more bots i d lt) ∙ these_push c (take i bots) (get_or bots i d))

@@ -16,7 +16,7 @@ use Rattle.amoebot_state.specs.declared.cell.Cell.TheVariants as cell
 use Rattle.amoebot_state.specs.declared.refusal.WorldRefusal.{WorldRefusal}
 use Rattle.amoebot_state.specs.declared.refusal.WorldRefusal.TheVariants.{OutOfBox, NotAdjacent, Overlap, BadValue}
 use Rattle.amoebot_state.specs.Ports.{port, ports, global, local}
-use Rattle.amoebot_state.specs.Configs.{Config, with_bot, IsValid, config_of, bot_at, value}
+use Rattle.amoebot_state.specs.Configs.{Config, with_bot, IsValid, frame_of, with_these, bot_at, value}
 use Rattle.amoebot_state.specs.Zones.{Shown, zone, shown_with, shown, shown_alone}
 use Rattle.amoebot_state.specs.Known.{known_zone, next_cell}
 use Rattle.amoebot_state.specs.Patches.{IsPatched, diff}
@@ -60,7 +60,7 @@ against rot v = record { head = v; tail = v; rot = rot; chir = Minus; mem = firs
 
 -- amoebots in the area 0 0 8 8, with one variable, of 0 or 1
 abbrev pub world : List Bot → Config
-world bots = config_of eight_by_eight (first 1) bots
+world bots = with_these (frame_of eight_by_eight (first 1)) bots
 
 abbrev pub shows : ℕ → List (CellName × Cell) → Shown
 shows i cells = shown_with (world []) i cells

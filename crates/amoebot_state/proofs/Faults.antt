@@ -8,13 +8,13 @@ use Rattle.std.proofs.lemmas.List.{get_or-map, get_or-take, take-map, length-map
 use Rattle.std.proofs.lemmas.List.Elements.{All-get_or}
 use Rattle.std.proofs.lemmas.Option.{get_or_from_slice_get, slice_get-get_or, none-some}
 use Rattle.tri_lattice.specs.declared.node.Node.{Node}
-use Rattle.tri_lattice.specs.Extent.{Extent, IsArea, is_in}
+use Rattle.tri_lattice.specs.Extent.{IsArea, is_in}
 use Rattle.amoebot_state.specs.declared.bot.Bot.{Bot}
 use Rattle.amoebot_state.specs.Ports.{is_own}
-use Rattle.amoebot_state.specs.Configs.{Config, config_of, IsValid, blank, bot_at, occupant, covers, is_close, has_values}
+use Rattle.amoebot_state.specs.Configs.{Config, frame, with_these, IsValid, blank, bot_at, occupant, covers, is_close, has_values}
 use Rattle.amoebot_state.specs.Refusals.{bot_fault, IsBotInRange, IsFaultless}
 use Rattle.amoebot_state.specs.Laws.{ValidIsFaultless, FaultlessIsValid}
-use Rattle.amoebot_state.proofs.Added.{MayCome, no_fault, valid_with, config_push}
+use Rattle.amoebot_state.proofs.Added.{MayCome, no_fault, valid_with, these_push}
 use Rattle.amoebot_state.proofs.Occupants.{covers_below, occupant_none}
 use Rattle.amoebot_state.proofs.Owns.{own_head, own_tail}
 
@@ -34,16 +34,16 @@ fault_free c b may =
     (unblocked (is_some (occupant c b.head) || is_some (occupant c b.tail)) _ _ (or_from _ _ (ap is_some may.head_free) (ap is_some may.tail_free))
     (pass (has_values c.maxes b.mem) _ _ may.fits.values refl)))
 
-module _ (a : Extent) (maxes : List ℕ) (bots : List Bot) where
+module _ (c : Config) (bots : List Bot) where
   -- the amoebots before a place have the same ids as in the whole list
-  before_at : (j k : ℕ) → k < j → bot_at (config_of a maxes (take j bots)) k ≡ bot_at (config_of a maxes bots) k
+  before_at : (j k : ℕ) → k < j → bot_at (with_these c (take j bots)) k ≡ bot_at (with_these c bots) k
   before_at j k lt = ap (λ os. get_or os k None) (sym (take-map Some j bots)) ∙ get_or-take j (map Some bots) k None lt
 
   -- none of them has a node of the one at that place
-  node_free : IsValid (config_of a maxes bots) → (j : ℕ) (b : Bot) (v : Node) → j < length bots → bot_at (config_of a maxes bots) j ≡ Some b → is_own b v ≡ true → occupant (config_of a maxes (take j bots)) v ≡ None
-  node_free valid j b v within at own = occupant_none (config_of a maxes (take j bots)) v (λ k. elim (cases_Bool (covers (bot_at (config_of a maxes (take j bots)) k) v)) [
+  node_free : IsValid (with_these c bots) → (j : ℕ) (b : Bot) (v : Node) → j < length bots → bot_at (with_these c bots) j ≡ Some b → is_own b v ≡ true → occupant (with_these c (take j bots)) v ≡ None
+  node_free valid j b v within at own = occupant_none (with_these c (take j bots)) v (λ k. elim (cases_Bool (covers (bot_at (with_these c (take j bots)) k) v)) [
     | inl t ↦
-        let below = covers_below (config_of a maxes (take j bots)) k v t in
+        let below = covers_below (with_these c (take j bots)) k v t in
         let long : length (map Some (take j bots)) ≡ j = length-map (take j bots) Some ∙ length-take-le j bots (omega arith) in
         let lt : k < j = omega arith in
         let same : k ≡ j = valid.apart k j v (ap (λ o. covers o v) (sym (before_at j k lt)) ∙ t) (ap (λ o. covers o v) at ∙ own) in
@@ -52,17 +52,17 @@ module _ (a : Extent) (maxes : List ℕ) (bots : List Bot) where
   ])
 
 pub valid_is_faultless : ValidIsFaultless
-valid_is_faultless a maxes bots valid j b lt there =
-    let at : bot_at (config_of a maxes bots) j ≡ Some b = get_or-map Some bots j b None lt ∙ ap Some (get_or_from_slice_get bots j b b there) in
-    fault_free (config_of a maxes (take j bots)) b (record {
+valid_is_faultless c bots valid j b lt there =
+    let at : bot_at (with_these c bots) j ≡ Some b = get_or-map Some bots j b None lt ∙ ap Some (get_or_from_slice_get bots j b b there) in
+    fault_free (with_these c (take j bots)) b (record {
       fits = valid.each j b at;
-      head_free = node_free a maxes bots valid j b b.head lt at (own_head b b.head refl);
-      tail_free = node_free a maxes bots valid j b b.tail lt at (own_tail b b.tail refl);
+      head_free = node_free c bots valid j b b.head lt at (own_head b b.head refl);
+      tail_free = node_free c bots valid j b b.tail lt at (own_tail b b.tail refl);
     })
 
--- no amoebot at all
-pub none_valid : (a : Extent) (maxes : List ℕ) → IsArea a → length maxes ≡ 8 → (bots : List Bot) → IsValid (config_of a maxes (take 0 bots))
-none_valid a maxes area eight bots = record {
+-- a frame of an area and of eight maxima is valid
+pub frame_valid : (c : Config) → IsArea c.area → length c.maxes ≡ 8 → IsValid (frame c)
+frame_valid c area eight = record {
   area = area;
   eight = eight;
   each = λ i b e. absurd (none-some b e);
@@ -70,23 +70,23 @@ none_valid a maxes area eight bots = record {
 }
 
 -- one amoebot, and two, of which none has a fault
-pub valid_one : (a : Extent) (maxes : List ℕ) → IsArea a → length maxes ≡ 8 → (b : Bot) → IsBotInRange b → bot_fault (config_of a maxes []) b ≡ None → IsValid (config_of a maxes (b ∷ []))
-valid_one a maxes area eight b plain fine = valid_with (config_of a maxes []) b (none_valid a maxes area eight []) (no_fault (config_of a maxes []) b plain fine)
+pub valid_one : (c : Config) → IsValid (frame c) → (b : Bot) → IsBotInRange b → bot_fault (frame c) b ≡ None → IsValid (with_these c (b ∷ []))
+valid_one c valid b plain fine = valid_with (frame c) b valid (no_fault (frame c) b plain fine)
 
-pub valid_two : (a : Extent) (maxes : List ℕ) → IsArea a → length maxes ≡ 8 → (b d : Bot) → IsBotInRange b → IsBotInRange d → bot_fault (config_of a maxes []) b ≡ None → bot_fault (config_of a maxes (b ∷ [])) d ≡ None → IsValid (config_of a maxes (b ∷ d ∷ []))
-valid_two a maxes area eight b d plain_b plain_d fine apart = valid_with (config_of a maxes (b ∷ [])) d (valid_one a maxes area eight b plain_b fine) (no_fault (config_of a maxes (b ∷ [])) d plain_d apart)
+pub valid_two : (c : Config) → IsValid (frame c) → (b d : Bot) → IsBotInRange b → IsBotInRange d → bot_fault (frame c) b ≡ None → bot_fault (with_these c (b ∷ [])) d ≡ None → IsValid (with_these c (b ∷ d ∷ []))
+valid_two c valid b d plain_b plain_d fine apart = valid_with (with_these c (b ∷ [])) d (valid_one c valid b plain_b fine) (no_fault (with_these c (b ∷ [])) d plain_d apart)
 
 -- the amoebots before a place are those of a valid configuration
-before_valid : (a : Extent) (maxes : List ℕ) (bots : List Bot) → IsArea a → length maxes ≡ 8 → All IsBotInRange bots → (n : ℕ) → n ≤ length bots → IsFaultless a maxes bots n → IsValid (config_of a maxes (take n bots))
-before_valid a maxes bots area eight plain zero le faultless = none_valid a maxes area eight bots
-before_valid a maxes bots area eight plain (suc n) le faultless =
+before_valid : (c : Config) (bots : List Bot) → IsValid (frame c) → All IsBotInRange bots → (n : ℕ) → n ≤ length bots → IsFaultless c bots n → IsValid (with_these c (take n bots))
+before_valid c bots valid plain zero le faultless = valid
+before_valid c bots valid plain (suc n) le faultless =
     let lt : n < length bots = omega arith in
     let b = get_or bots n blank in
-    let c = config_of a maxes (take n bots) in
-    let may = no_fault c b (All-get_or IsBotInRange bots n blank lt plain) (faultless n b (omega arith) (slice_get-get_or bots n blank lt)) in
-    let valid = before_valid a maxes bots area eight plain n (omega arith) (λ j d below at. faultless j d (omega arith) at) in
-    subst IsValid (sym (ap (config_of a maxes) (take-suc bots n blank lt) ∙ config_push a maxes (take n bots) b)) (valid_with c b valid may)
+    let was = with_these c (take n bots) in
+    let may = no_fault was b (All-get_or IsBotInRange bots n blank lt plain) (faultless n b (omega arith) (slice_get-get_or bots n blank lt)) in
+    let before = before_valid c bots valid plain n (omega arith) (λ j d below at. faultless j d (omega arith) at) in
+    subst IsValid (sym (ap (with_these c) (take-suc bots n blank lt) ∙ these_push c (take n bots) b)) (valid_with was b before may)
 
 pub faultless_is_valid : FaultlessIsValid
-faultless_is_valid a maxes bots area eight plain faultless =
-    subst (λ (bs : List Bot). IsValid (config_of a maxes bs)) (take-length bots) (before_valid a maxes bots area eight plain (length bots) (omega arith) faultless)
+faultless_is_valid c bots valid plain faultless =
+    subst (λ (bs : List Bot). IsValid (with_these c bs)) (take-length bots) (before_valid c bots valid plain (length bots) (omega arith) faultless)

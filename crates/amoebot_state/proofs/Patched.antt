@@ -14,7 +14,7 @@ use Rattle.amoebot_state.specs.declared.cell.CellName.{CellName}
 use Rattle.amoebot_state.specs.declared.cell.CellName.TheVariants as name
 use Rattle.amoebot_state.specs.declared.cell.Cell.{Cell}
 use Rattle.amoebot_state.specs.declared.cell.Cell.TheVariants as cell
-use Rattle.amoebot_state.specs.Configs.{Config, IsValid, IsGrid, IsWorld, config_of, bot_at, occupant, value}
+use Rattle.amoebot_state.specs.Configs.{Config, IsValid, IsGrid, IsWorld, with_these, bot_at, occupant, value}
 use Rattle.amoebot_state.specs.Patches.{IsPatched}
 use Rattle.amoebot_state.specs.Steps.{Run}
 use Rattle.amoebot_state.specs.Laws.{PatchedIsUnique, PatchListsWhatDiffers, StepHasOneResult, RunHasOneLast}
@@ -93,9 +93,9 @@ body_alike (Some b) None e = absurd (cc)
 body_alike (Some b) (Some c) e = cc
 
 -- after the patch the amoebots are those of the patched configuration
-pub bots_patched : (a : Extent) (maxes : List ℕ) (bs : List Bot) (ps : List (CellName × Cell)) (new : Config) → IsPatched (config_of a maxes bs) ps new → map Some (put_bots bs ps) ≡ new.bots
+pub bots_patched : (c : Config) (bs : List Bot) (ps : List (CellName × Cell)) (new : Config) → IsPatched (with_these c bs) ps new → map Some (put_bots bs ps) ≡ new.bots
 unfolding BotRight
-bots_patched a maxes bs ps new patched =
+bots_patched c bs ps new patched =
     let long : length (map Some (put_bots bs ps)) ≡ length bs = length-map (put_bots bs ps) Some ∙ length_puts ps bs in
     let size : length new.bots ≡ length bs = patched.size ∙ length-map bs Some in
     ext_get_or None _ _ (long ∙ sym size) (λ i below.
@@ -184,18 +184,18 @@ pub same_config : (a b : Config) → a.area ≡ b.area → a.maxes ≡ b.maxes �
 same_config a b x y z = λ i. record { area = x i; maxes = y i; bots = z i }
 
 -- the fields after the patch are those of the patched configuration
-pub is_patched : (a : Extent) (maxes : List ℕ) (bs : List Bot) (ps : List (CellName × Cell)) (new : Config) → IsPatched (config_of a maxes bs) ps new → new ≡ config_of a maxes (put_bots bs ps)
-is_patched a maxes bs ps new patched = patched.rest ∙ ap (λ (os : List (Option Bot)). let c : Config = record { area = a; maxes = maxes; bots = os } in c) (sym (bots_patched a maxes bs ps new patched))
+pub is_patched : (c : Config) (bs : List Bot) (ps : List (CellName × Cell)) (new : Config) → IsPatched (with_these c bs) ps new → new ≡ with_these c (put_bots bs ps)
+is_patched c bs ps new patched = patched.rest ∙ ap (λ (os : List (Option Bot)). let d : Config = record c { bots = os } in d) (sym (bots_patched c bs ps new patched))
 
 -- a world stays one
-pub world_patched : (a : Extent) (maxes : List ℕ) (bs : List Bot) (g : List (Option ℕ)) (ps : List (CellName × Cell)) (new : Config) → IsWorld (config_of a maxes bs) g → IsPatched (config_of a maxes bs) ps new → IsWorld (config_of a maxes (put_bots bs ps)) (put_spots a g ps)
-world_patched a maxes bs g ps new world patched =
-    let same = is_patched a maxes bs ps new patched in
+pub world_patched : (c : Config) (bs : List Bot) (g : List (Option ℕ)) (ps : List (CellName × Cell)) (new : Config) → IsWorld (with_these c bs) g → IsPatched (with_these c bs) ps new → IsWorld (with_these c (put_bots bs ps)) (put_spots c.area g ps)
+world_patched c bs g ps new world patched =
+    let same = is_patched c bs ps new patched in
     record {
       valid = subst IsValid same patched.valid;
       kept =
-          let P : Config → Type 0 = λ c. IsGrid c (put_spots c.area g ps) in
-          subst P same (grid_patched (config_of a maxes bs) new g ps world.kept patched (ap (λ (c : Config). c.area) patched.rest));
+          let P : Config → Type 0 = λ d. IsGrid d (put_spots d.area g ps) in
+          subst P same (grid_patched (with_these c bs) new g ps world.kept patched (ap (λ (d : Config). d.area) patched.rest));
       few =
           let e : length (map Some (put_bots bs ps)) ≡ length (map Some bs) = length-map (put_bots bs ps) Some ∙ length_puts ps bs ∙ sym (length-map bs Some) in
           let f = world.few in omega arith;

@@ -15,7 +15,7 @@ use Rattle.amoebot_state.specs.declared.cell.CellName.TheVariants as name
 use Rattle.amoebot_state.specs.declared.cell.Cell.{Cell}
 use Rattle.amoebot_state.specs.declared.cell.Cell.TheVariants as cell
 use Rattle.amoebot_state.specs.Ports.{is_beside}
-use Rattle.amoebot_state.specs.Configs.{Config, IsValid, bot_at, bot_of, blank, occupant, bare_of}
+use Rattle.amoebot_state.specs.Configs.{Config, IsValid, bot_at, bot_of, blank, occupant, frame_of}
 use Rattle.amoebot_state.specs.Refusals.{IsBotInRange}
 use Rattle.amoebot_state.specs.Zones.{Shown, IsShown, IsFound, shown_with, shown, shown_cell, zone, zone_nodes, others, shown_alone}
 use Rattle.amoebot_state.specs.Pairs.{spot_in}
@@ -129,8 +129,8 @@ spot_told s is v beside =
           ∙ outside_empty (shown_alone (shown c i)) (alone_valid c i valid) v (none_if _ outside)
     ]) beside
 
-pub is_shown : (c : Config) (i : ℕ) (a : Extent) (maxes : List ℕ) (cells : List (CellName × Cell)) → a ≡ c.area → maxes ≡ c.maxes → cells ≡ filter_map (shown_cell c) (zone c i) → shown_with (bare_of a maxes) i cells ≡ shown c i
-is_shown c i a maxes cells e m x = λ t. shown_with (bare_of (e t) (m t)) i (x t)
+pub is_shown : (c : Config) (i : ℕ) (a : Extent) (maxes : List ℕ) (cells : List (CellName × Cell)) → a ≡ c.area → maxes ≡ c.maxes → cells ≡ filter_map (shown_cell c) (zone c i) → shown_with (frame_of a maxes) i cells ≡ shown c i
+is_shown c i a maxes cells e m x = λ t. shown_with (frame_of (e t) (m t)) i (x t)
 
 -- an amoebot of what is shown alone
 pub plain_if : (s : Shown) → IsShown s → (r : Option (Bor Bot)) (i : ℕ) → option_copied r ≡ bot_at (shown_alone s) i → IfSome r (λ b. IsBotInRange b.now)

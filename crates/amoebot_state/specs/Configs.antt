@@ -63,35 +63,35 @@ variables = 0 ∷ 1 ∷ 2 ∷ 3 ∷ 4 ∷ 5 ∷ 6 ∷ 7 ∷ []
 abbrev pub has_values : List ℕ → List ℕ → Bool
 has_values maxes values = list_all (λ k. nat_le (slice_index values k) (slice_index maxes k)) variables
 
--- an amoebot that may stand in the area: it is there on one node or on two adjacent ones (the paper's geometric variant), has
--- a rotation of 0 to 5, and no value above its maximum (this project's profile)
-pub record IsBot (area : Extent) (maxes : List ℕ) (b : Bot) : Type 0 where
-  pub head : IsTrue (is_in area b.head)
-  pub tail : IsTrue (is_in area b.tail)
+-- a configuration's frame: the configuration without its amoebots
+abbrev pub frame : Config → Config
+frame c = record c { bots = [] }
+
+-- the frame with an area and with the greatest values of the variables
+abbrev pub frame_of : Extent → List ℕ → Config
+frame_of area maxes = record { area = area; maxes = maxes; bots = [] }
+
+-- an amoebot that may stand in a frame: it is in the area on one node or on two adjacent ones (the paper's geometric variant),
+-- has a rotation of 0 to 5, and no value above its maximum (this project's profile)
+pub record IsBot (c : Config) (b : Bot) : Type 0 where
+  pub head : IsTrue (is_in c.area b.head)
+  pub tail : IsTrue (is_in c.area b.tail)
   pub close : IsTrue (is_close b.head b.tail)
   pub rot : b.rot < 6
-  pub values : IsTrue (has_values maxes b.mem)
+  pub values : IsTrue (has_values c.maxes b.mem)
   pub eight : length b.mem ≡ 8
 
--- each amoebot may stand in the area, and no node belongs to two ids (the paper's geometric variant, within this project's
+-- each amoebot may stand in the frame, and no node belongs to two ids (the paper's geometric variant, within this project's
 -- area)
 pub record IsValid (c : Config) : Type 0 where
   pub area : IsArea c.area
   pub eight : length c.maxes ≡ 8
-  pub each : (i : ℕ) (b : Bot) → bot_at c i ≡ Some b → IsBot c.area c.maxes b
+  pub each : (i : ℕ) (b : Bot) → bot_at c i ≡ Some b → IsBot (frame c) b
   pub apart : (i j : ℕ) (v : Node) → IsTrue (covers (bot_at c i) v) → IsTrue (covers (bot_at c j) v) → i ≡ j
 
--- an area and the greatest values of the variables, with no amoebot
-abbrev pub bare_of : Extent → List ℕ → Config
-bare_of a maxes = record { area = a; maxes = maxes; bots = [] }
-
--- a configuration with the amoebots of a list, each with its place as its id, in place of its own
+-- a configuration's frame with the amoebots of a list, each with its place as its id
 abbrev pub with_these : Config → List Bot → Config
 with_these c bots = record c { bots = map Some bots }
-
--- the amoebots of a list in an area, with greatest values
-abbrev pub config_of : Extent → List ℕ → List Bot → Config
-config_of a maxes bots = with_these (bare_of a maxes) bots
 
 -- the configuration with one more amoebot
 abbrev pub with_bot : Config → Bot → Config

@@ -5,6 +5,7 @@ use Rattle.tri_lattice.specs.Extent.{Extent}
 use Rattle.amoebot_state.specs.declared.bot.Bot.{Bot}
 use Rattle.amoebot_state.specs.declared.bot.Chir.TheVariants.{Plus}
 use Rattle.amoebot_state.specs.declared.refusal.WorldRefusal.TheVariants.{NotAdjacent, Overlap}
+use Rattle.amoebot_state.specs.Configs.{frame_of}
 use Rattle.amoebot_state.specs.Refusals.{IsFirstFault}
 
 abbrev pub eight_by_eight : Extent
@@ -29,5 +30,5 @@ abbrev pub one_torn : List Bot
 one_torn = on 2 2 ∷ on 4 2 ∷ on 2 2 ∷ []
 
 pub record SmallFaults : Type 0 where
-  pub overlap : IsFirstFault eight_by_eight zeros one_on_another (Overlap 1)
-  pub torn : IsFirstFault eight_by_eight zeros one_torn (NotAdjacent 1)
+  pub overlap : IsFirstFault (frame_of eight_by_eight zeros) one_on_another (Overlap 1)
+  pub torn : IsFirstFault (frame_of eight_by_eight zeros) one_torn (NotAdjacent 1)

@@ -5,7 +5,7 @@ use Rattle.std.specs.declared.option.Option.{Option}
 use Rattle.std.specs.declared.option.Option.TheVariants.{Some, None}
 use Rattle.tri_lattice.specs.declared.node.Node.{Node}
 use Rattle.tri_lattice.specs.Lattice.{node_eq, Adjacent}
-use Rattle.tri_lattice.specs.Extent.{Extent, IsArea, is_in}
+use Rattle.tri_lattice.specs.Extent.{Extent, is_in}
 use Rattle.amoebot_state.specs.declared.bot.Bot.{Bot}
 use Rattle.amoebot_state.specs.declared.bot.Port.{Port}
 use Rattle.amoebot_state.specs.declared.cell.CellName.{CellName}
@@ -16,7 +16,7 @@ use Rattle.amoebot_state.specs.declared.verdict.Entry.{Entry}
 use Rattle.amoebot_state.specs.declared.verdict.Verdict.{Verdict}
 use Rattle.amoebot_state.specs.Pairs.{Pairs, cell_of, cell_value}
 use Rattle.amoebot_state.specs.Ports.{global, local, is_port, ports, behind, is_beside}
-use Rattle.amoebot_state.specs.Configs.{Config, IsValid, bot_at, occupant, value, config_of}
+use Rattle.amoebot_state.specs.Configs.{Config, IsValid, bot_at, occupant, value, frame, with_these}
 use Rattle.amoebot_state.specs.Zones.{Shown, IsShown, distinct, zone_nodes, zone_at, zone, shown, shown_alone}
 use Rattle.amoebot_state.specs.Known.{IsFront, known_zone, next_cell}
 use Rattle.amoebot_state.specs.Patches.{IsPatched, IsOrdered, same_value, diff}
@@ -235,34 +235,29 @@ OrderedPatchIsDiff =
 -- no amoebot of a valid configuration is refused
 abbrev pub ValidIsFaultless : Type 0
 ValidIsFaultless =
-    (a : Extent) (maxes : List ℕ) (bots : List Bot)
-    → IsValid (config_of a maxes bots)
-    → IsFaultless a maxes bots (length bots)
+    (c : Config) (bots : List Bot) → IsValid (with_these c bots) → IsFaultless c bots (length bots)
 
--- amoebots of which none is refused make a valid configuration
+-- amoebots of which none is refused in a valid frame make a valid configuration
 abbrev pub FaultlessIsValid : Type 0
 FaultlessIsValid =
-    (a : Extent) (maxes : List ℕ) (bots : List Bot)
-    → IsArea a
-    → length maxes ≡ 8
+    (c : Config) (bots : List Bot)
+    → IsValid (frame c)
     → All IsBotInRange bots
-    → IsFaultless a maxes bots (length bots)
-    → IsValid (config_of a maxes bots)
+    → IsFaultless c bots (length bots)
+    → IsValid (with_these c bots)
 
 -- at most one fault is the first one of a list of amoebots
 abbrev pub FirstFaultIsUnique : Type 0
 FirstFaultIsUnique =
-    (a : Extent) (maxes : List ℕ) (bots : List Bot) (one two : WorldRefusal)
-    → IsFirstFault a maxes bots one
-    → IsFirstFault a maxes bots two
+    (c : Config) (bots : List Bot) (one two : WorldRefusal)
+    → IsFirstFault c bots one
+    → IsFirstFault c bots two
     → one ≡ two
 
 -- and amoebots of which none is refused have none
 abbrev pub FaultlessHasNoFault : Type 0
 FaultlessHasNoFault =
-    (a : Extent) (maxes : List ℕ) (bots : List Bot) (e : WorldRefusal)
-    → IsFaultless a maxes bots (length bots)
-    → ¬ IsFirstFault a maxes bots e
+    (c : Config) (bots : List Bot) (e : WorldRefusal) → IsFaultless c bots (length bots) → ¬ IsFirstFault c bots e
 
 -- the configuration that has what is shown and no other amoebot is valid
 abbrev pub ShownAloneIsValid : Type 0

@@ -2,12 +2,12 @@
 use Rattle.std.specs.Prelude.{◌≡◌, ℕ, ◌<◌, List, not, ◌&&◌, ◌||◌, if◌then◌else◌, length, is_some, slice_get, take}
 use Rattle.std.specs.declared.option.Option.{Option}
 use Rattle.std.specs.declared.option.Option.TheVariants.{Some, None}
-use Rattle.tri_lattice.specs.Extent.{Extent, is_in}
+use Rattle.tri_lattice.specs.Extent.{is_in}
 use Rattle.tri_lattice.specs.Lattice.{IsNear}
 use Rattle.amoebot_state.specs.declared.bot.Bot.{Bot}
 use Rattle.amoebot_state.specs.declared.refusal.WorldRefusal.{WorldRefusal}
 use Rattle.amoebot_state.specs.declared.refusal.WorldRefusal.TheVariants.{OutOfBox, NotAdjacent, Overlap, BadValue}
-use Rattle.amoebot_state.specs.Configs.{Config, occupant, is_close, has_values, config_of}
+use Rattle.amoebot_state.specs.Configs.{Config, occupant, is_close, has_values, with_these}
 
 -- an amoebot from whose nodes each step stays in range, and whose rotation is 0 to 5
 pub record IsBotInRange (b : Bot) : Type 0 where
@@ -26,15 +26,15 @@ bot_fault c b =
     else if not (has_values c.maxes b.mem) then Some (BadValue (length c.bots))
     else None
 
--- no amoebot before place n breaks a condition, each judged beside those before it
-abbrev pub IsFaultless : Extent → List ℕ → List Bot → ℕ → Type 0
-IsFaultless a maxes bots n =
-    (j : ℕ) (b : Bot) → j < n → slice_get bots j ≡ Some b → bot_fault (config_of a maxes (take j bots)) b ≡ None
+-- in a frame no amoebot of a list before place n breaks a condition, each judged beside those before it
+abbrev pub IsFaultless : Config → List Bot → ℕ → Type 0
+IsFaultless c bots n =
+    (j : ℕ) (b : Bot) → j < n → slice_get bots j ≡ Some b → bot_fault (with_these c (take j bots)) b ≡ None
 
--- the first amoebot that breaks a condition, with the first that it breaks
-pub record IsFirstFault (a : Extent) (maxes : List ℕ) (bots : List Bot) (e : WorldRefusal) : Type 0 where
+-- in a frame the first amoebot of a list that breaks a condition, with the first that it breaks
+pub record IsFirstFault (c : Config) (bots : List Bot) (e : WorldRefusal) : Type 0 where
   pub place : ℕ
   pub bot : Bot
   pub there : slice_get bots place ≡ Some bot
-  pub fault : bot_fault (config_of a maxes (take place bots)) bot ≡ Some e
-  pub before : IsFaultless a maxes bots place
+  pub fault : bot_fault (with_these c (take place bots)) bot ≡ Some e
+  pub before : IsFaultless c bots place

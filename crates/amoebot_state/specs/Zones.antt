@@ -14,7 +14,7 @@ use Rattle.amoebot_state.specs.declared.cell.CellName.TheVariants as name
 use Rattle.amoebot_state.specs.declared.cell.Cell.{Cell}
 use Rattle.amoebot_state.specs.declared.cell.Cell.TheVariants as cell
 use Rattle.amoebot_state.specs.Ports.{own_nodes, ports, behind}
-use Rattle.amoebot_state.specs.Configs.{Config, IsValid, bot_at, occupant, value, bare_of}
+use Rattle.amoebot_state.specs.Configs.{Config, IsValid, bot_at, occupant, value, frame_of}
 
 -- the list without the elements that equal an earlier one
 abbrev pub distinct : {A : Type 0} → (A → A → Bool) → List A → List A
@@ -82,7 +82,7 @@ spread ((name.Body i, cell.Body b) ∷ cells) = with_id (spread cells) i b
 
 -- the configuration that has what is shown and no other amoebot: the ids that are not shown are gaps in it
 abbrev pub shown_alone : Shown → Config
-shown_alone s = record (bare_of s.area s.maxes) { bots = spread s.cells }
+shown_alone s = record (frame_of s.area s.maxes) { bots = spread s.cells }
 
 -- a neighbourhood that some configuration shows to this amoebot
 pub record IsFound (s : Shown) (own : Bot) : Type 0 where

@@ -1,7 +1,7 @@
 ghost use Rattle.std.specs.Prelude.{◌≡◌, ◌≤◌, length, IfSome, IsTrue};
 ghost use Rattle.std.specs.Option.{option_copied};
 ghost use Rattle.amoebot_state.specs.Limits.{cell_room};
-ghost use Rattle.amoebot_state.specs.Configs.{IsValid, bot_at, bot_of, bare_of, occupant};
+ghost use Rattle.amoebot_state.specs.Configs.{IsValid, bot_at, bot_of, frame_of, occupant};
 ghost use Rattle.amoebot_state.specs.Ports.{is_beside};
 ghost use Rattle.amoebot_state.specs.Refusals.{IsBotInRange};
 ghost use Rattle.amoebot_state.specs.Zones.{IsShown, IsFound, shown_alone, shown_with};
@@ -25,22 +25,22 @@ pub struct Found {
 }
 
 impl Model for Found {
-    ghost use Rattle.amoebot_state.specs.Configs.{bare_of};
+    ghost use Rattle.amoebot_state.specs.Configs.{frame_of};
     ghost use Rattle.amoebot_state.specs.Zones.{Shown, IsFound, shown_with};
 
     ghost Value = { Shown };
 
-    ghost view = { λ f. shown_with (bare_of f.area f.maxes) f.bot f.cells.items };
+    ghost view = { λ f. shown_with (frame_of f.area f.maxes) f.bot f.cells.items };
 
-    ghost invariant = { λ f. IsFound (shown_with (bare_of f.area f.maxes) f.bot f.cells.items) f.own };
+    ghost invariant = { λ f. IsFound (shown_with (frame_of f.area f.maxes) f.bot f.cells.items) f.own };
 }
 
 impl Found {
     /// The closed neighbourhood that has these cells, which are the whole zone of an amoebot of some valid world, in zone
     /// order, with what they hold there. It takes no memory.
     pub fn make(area: Area, maxes: [u8; 8], bot: u16, cells: &[(CellName, Cell)]) -> Found
-        requires { IsShown (shown_with (bare_of area maxes) bot cells.now) }
-        ensures { result ≡ shown_with (bare_of area maxes) bot cells.now }
+        requires { IsShown (shown_with (frame_of area maxes) bot cells.now) }
+        ensures { result ≡ shown_with (frame_of area maxes) bot cells.now }
     {
         let own = match body_in(cells, bot) {
             Some(own) => *own,
@@ -56,8 +56,8 @@ impl Found {
     }
 
     pub(crate) fn of(area: Area, maxes: [u8; 8], bot: u16, own: Bot, cells: Cells) -> Found
-        requires { IsFound (shown_with (bare_of area maxes) bot cells.items) own }
-        ensures { result ≡ shown_with (bare_of area maxes) bot cells.items }
+        requires { IsFound (shown_with (frame_of area maxes) bot cells.items) own }
+        ensures { result ≡ shown_with (frame_of area maxes) bot cells.items }
     {
         Found {
             area,

@@ -1,7 +1,7 @@
 ghost use Rattle.std.specs.Prelude.{◌≡◌, ◌≤◌, ◌∷◌, [], length, pos, IfOk};
 ghost use Rattle.std.specs.List.{All};
 ghost use Rattle.amoebot_state.specs.Limits.{most_bots};
-ghost use Rattle.amoebot_state.specs.Configs.{config_of};
+ghost use Rattle.amoebot_state.specs.Configs.{frame_of, with_these};
 ghost use Rattle.amoebot_state.specs.Known.{AreReadInOrder};
 ghost use Rattle.amoebot_state.specs.Refusals.{IsBotInRange};
 
@@ -54,8 +54,8 @@ fn world_of(alloc: Global, bots: &[Bot]) -> Result<World, Fail>
     requires few { length bots.now ≤ most_bots }
     requires plain { All IsBotInRange bots.now }
     ensures { IfOk result (λ w. w
-        ≡ config_of (record { x0 = pos 0; y0 = pos 0; w = 8; h = 8 })
-        (1 ∷ 0 ∷ 0 ∷ 0 ∷ 0 ∷ 0 ∷ 0 ∷ 0 ∷ []) bots.now) }
+        ≡ with_these (frame_of (record { x0 = pos 0; y0 = pos 0; w = 8; h = 8 })
+        (1 ∷ 0 ∷ 0 ∷ 0 ∷ 0 ∷ 0 ∷ 0 ∷ 0 ∷ [])) bots.now) }
 {
     let area = Area::new(0, 0, 8, 8).ok_or("an area")?;
     Ok(World::new(alloc, area, MAXES, bots)?)

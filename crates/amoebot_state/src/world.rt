@@ -1,7 +1,7 @@
 ghost use Rattle.std.specs.Prelude.{ℕ, ◌≡◌, ◌⊎◌, ◌+◌, ◌++◌, ◌<◌, ◌≤◌, [], OnOk, IfOk, IfErr, length, map, IsSome, Decides};
 ghost use Rattle.std.specs.List.{All, filter_map};
 ghost use Rattle.amoebot_state.specs.Limits.{most_bots, node_room, cell_room};
-ghost use Rattle.amoebot_state.specs.Configs.{Config, IsValid, bot_at, occupant, config_of, with_bot};
+ghost use Rattle.amoebot_state.specs.Configs.{Config, IsValid, bot_at, occupant, frame_of, with_these, with_bot};
 ghost use Rattle.amoebot_state.specs.Zones.{shown, shown_cell, zone, others};
 ghost use Rattle.amoebot_state.specs.Patches.{IsPatched, HasPatched};
 ghost use Rattle.amoebot_state.specs.Refusals.{IsBotInRange, IsFaultless, IsFirstFault, bot_fault};
@@ -32,13 +32,13 @@ pub struct World {
 }
 
 impl Model for World {
-    ghost use Rattle.amoebot_state.specs.Configs.{Config, config_of, IsWorld};
+    ghost use Rattle.amoebot_state.specs.Configs.{Config, frame_of, with_these, IsWorld};
 
     ghost Value = { Config };
 
-    ghost view = { λ w. config_of w.area w.maxes w.amoebots.items };
+    ghost view = { λ w. with_these (frame_of w.area w.maxes) w.amoebots.items };
 
-    ghost invariant = { λ w. IsWorld (config_of w.area w.maxes w.amoebots.items) w.occupants.items };
+    ghost invariant = { λ w. IsWorld (with_these (frame_of w.area w.maxes) w.amoebots.items) w.occupants.items };
 }
 
 impl World {
@@ -53,9 +53,9 @@ impl World {
     ) -> Result<World, WorldRefusal>
         requires few { length bots.now ≤ most_bots }
         requires plain { All IsBotInRange bots.now }
-        ensures value { IfOk result (λ w. w ≡ config_of area maxes bots.now) }
-        ensures faultless { OnOk result (IsFaultless area maxes bots.now (length bots.now)) }
-        ensures fault { IfErr result (λ e. (e ≡ WorldRefusal.NoMemory) ⊎ IsFirstFault area maxes bots.now e) }
+        ensures value { IfOk result (λ w. w ≡ with_these (frame_of area maxes) bots.now) }
+        ensures faultless { OnOk result (IsFaultless (frame_of area maxes) bots.now (length bots.now)) }
+        ensures fault { IfErr result (λ e. (e ≡ WorldRefusal.NoMemory) ⊎ IsFirstFault (frame_of area maxes) bots.now e) }
     {
         let mut world = World::empty(alloc, area, maxes, bots.len())?;
         for bot in bots {
@@ -65,7 +65,7 @@ impl World {
     }
 
     fn empty(alloc: Global, area: Area, maxes: [u8; 8], room: usize) -> Result<World, WorldRefusal>
-        ensures value { IfOk result (λ w. w ≡ config_of area maxes []) }
+        ensures value { IfOk result (λ w. w ≡ frame_of area maxes) }
         ensures err { IfErr result (λ e. e ≡ WorldRefusal.NoMemory) }
     {
         let mut amoebots = Vec::new(alloc);

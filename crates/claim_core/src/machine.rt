@@ -6,7 +6,7 @@ ghost use Rattle.std.specs.List.{All};
 ghost use Rattle.claim_core.specs.Tags.{tag_caller};
 ghost use Rattle.claim_core.specs.Cells.{held_by};
 ghost use Rattle.claim_core.specs.Machine.{phase_of_verdict, busy_mark, mark_of_look, next};
-ghost use Rattle.amoebot_state.specs.Configs.{bot_at, bare_of};
+ghost use Rattle.amoebot_state.specs.Configs.{bot_at, frame_of};
 ghost use Rattle.claim_core.specs.Good.{Good};
 ghost use Rattle.claim_core.specs.Reached.{HaveEnded, IsReachedState, IsReportOf, Reached};
 ghost use Rattle.claim_core.specs.Soundness.{IsSetup, Sound};
@@ -488,8 +488,8 @@ fn after_win<D: Decider>(
     cells: &[(CellName, Cell)],
     next: Option<CellName>,
 ) -> Phase
-    requires { next ≡ None → IsShown (shown_with (bare_of area maxes) bot cells.now) }
-    ensures { result ≡ phase_after (D.verdict decider.now) (shown_with (bare_of area maxes) bot cells.now) next }
+    requires { next ≡ None → IsShown (shown_with (frame_of area maxes) bot cells.now) }
+    ensures { result ≡ phase_after (D.verdict decider.now) (shown_with (frame_of area maxes) bot cells.now) next }
 {
     match next {
         Some(_) => Phase::Claim,

@@ -4,14 +4,14 @@ use Rattle.std.specs.List.{All}
 use Rattle.std.specs.declared.option.Option.{Option}
 use Rattle.std.specs.declared.option.Option.TheVariants.{Some, None}
 use Rattle.atomic_table.specs.Seated.{TableId}
-use Rattle.tri_lattice.specs.Extent.{Extent}
 use Rattle.tri_lattice.specs.declared.node.Node.{Node}
 use Rattle.amoebot_state.specs.declared.cell.CellName.{CellName}
 use Rattle.amoebot_state.specs.declared.cell.CellName.TheVariants as name
 use Rattle.amoebot_state.specs.declared.cell.Cell.{Cell}
 use Rattle.amoebot_state.specs.declared.verdict.Verdict.{Verdict}
 use Rattle.amoebot_state.specs.Pairs.{Pairs, cell_of}
-use Rattle.amoebot_state.specs.Configs.{Config}
+use Rattle.amoebot_state.specs.Configs.{Config, frame}
+pub use Rattle.amoebot_state.specs.Configs.{frame_of}
 use Rattle.amoebot_state.specs.Known.{known_zone}
 use Rattle.amoebot_state.specs.Zones.{Shown}
 use Rattle.claim_core.specs.declared.marks.Mark.{Mark}
@@ -95,13 +95,6 @@ abbrev pub nodes_held : Pairs → List Node
 nodes_held [] = []
 nodes_held ((name.Spot v, x) ∷ held) = v ∷ nodes_held held
 nodes_held ((name.Body i, x) ∷ held) = nodes_held held
-
--- a configuration without its amoebots, and one of an area and of maxima
-abbrev pub frame : Config → Config
-frame c = record c { bots = [] }
-
-abbrev pub frame_of : Extent → List ℕ → Config
-frame_of a greatest = record { area = a; maxes = greatest; bots = [] }
 
 -- what a caller knows of its turn while it claims: its tag, and the zone as far as the cells tell it that are held
 pub record KnowsTurn (r : Room) : Type 0 where

@@ -3,9 +3,9 @@ use Rattle.std.proofs.Common.{◌≡◌, ℕ, ◌+◌, ◌-◌, ◌<◌, ◌≤�
 use Rattle.std.specs.Prelude.{slice_index}
 use Rattle.std.specs.List.{All}
 use Rattle.std.proofs.lemmas.List.{get_or-drop, get_or-replicate, length-drop, length-replicate, ext_get_or}
-use Rattle.tri_lattice.specs.Extent.{Extent, IsArea}
+use Rattle.tri_lattice.specs.Extent.{IsArea}
 use Rattle.amoebot_state.specs.declared.bot.Bot.{Bot}
-use Rattle.amoebot_state.specs.Configs.{IsBot, has_values}
+use Rattle.amoebot_state.specs.Configs.{Config, IsBot, frame, has_values}
 use Rattle.amoebot_state.specs.Limits.{most_vars, most_value}
 use Rattle.node_text.specs.PartLimits.{HasLimits}
 use Rattle.shape_text.proofs.WithinLimits.{has_coordinates, below_max, small_values}
@@ -35,12 +35,12 @@ module _ (maxes mem : List ℕ) (has : has_values maxes mem ≡ true) where
 
 -- ---- amoebots
 
-pub limits_of : (vars : ℕ) (area : Extent) (maxes : List ℕ) → vars ≤ most_vars → IsArea area → length maxes ≡ 8 → All (λ m. m ≤ most_value) maxes → ((k : ℕ) → vars ≤ k → slice_index maxes k ≡ 0) → (b : Bot) → IsBot area maxes b → HasLimits vars b
-limits_of vars area maxes few is_area most small none b is = record {
-  head = has_coordinates area b.head is_area is.head;
-  tail = has_coordinates area b.tail is_area is.tail;
+pub limits_of : (vars : ℕ) (c : Config) → vars ≤ most_vars → IsArea c.area → length c.maxes ≡ 8 → All (λ m. m ≤ most_value) c.maxes → ((k : ℕ) → vars ≤ k → slice_index c.maxes k ≡ 0) → (b : Bot) → IsBot (frame c) b → HasLimits vars b
+limits_of vars c few is_area most small none b is = record {
+  head = has_coordinates c.area b.head is_area is.head;
+  tail = has_coordinates c.area b.tail is_area is.tail;
   rot = (let r = is.rot in omega arith);
   eight = is.eight;
-  values = small_values maxes b.mem is.values is.eight most small;
-  zeros = zeros_past maxes b.mem is.values vars few is.eight none;
+  values = small_values c.maxes b.mem is.values is.eight most small;
+  zeros = zeros_past c.maxes b.mem is.values vars few is.eight none;
 }

@@ -6,8 +6,7 @@ use Rattle.std.specs.List.{All}
 use Rattle.std.proofs.lemmas.List.Elements.{All-nil, All-cons}
 use Rattle.text_tokens.specs.Kinds.{name}
 use Rattle.amoebot_state.specs.Configs.{Config, IsValid, bot_at, occupant}
-use Rattle.amoebot_state.specs.Examples.{zeros}
-use Rattle.amoebot_state.proofs.Faults.{valid_one}
+use Rattle.amoebot_state.proofs.Faults.{frame_valid, valid_one}
 use Rattle.amoebot_state.proofs.Occupants.{plain_in}
 use Rattle.model_ops.proofs.ActsDecide.{acts_keep_decider_laws}
 use Rattle.claim_core.specs.Turns.{IsList}
@@ -20,7 +19,7 @@ use Rattle.action_meaning.specs.Verdicts.{verdict_shown}
 use Rattle.action_meaning.proofs.Decided.{programs_decide_by_acts}
 use Rattle.shape_files.specs.declared.section_kind.Form.TheVariants as form
 use Rattle.shape_files.specs.DocumentRows.{program_text, out, only_program}
-use Rattle.small_worlds.specs.Rows.{row_area, node, bot_in_row}
+use Rattle.small_worlds.specs.Rows.{row_area, row_frame, node, bot_in_row}
 use Rattle.claim_core.specs.declared.report.Report.{Report}
 use Rattle.command_runs.specs.Reports.{report_text}
 use Rattle.command_runs.specs.Interleave.{IsScheduled}
@@ -45,7 +44,7 @@ abbrev g : Setup
 g = setup (verdict_shown out) one_alone one_list
 
 valid : IsValid one_alone
-valid = valid_one row_area zeros is_area refl (bot_in_row 1 1) (plain_in row_area is_area (bot_in_row 1 1) refl refl (omega arith) refl) refl
+valid = valid_one row_frame (frame_valid row_frame is_area refl) (bot_in_row 1 1) (plain_in row_area is_area (bot_in_row 1 1) refl refl (omega arith) refl) refl
 
 only_bot : All (IsThereIn one_alone) (0 ∷ [])
 only_bot = All-cons (IsThereIn one_alone) 0 [] refl (All-nil (IsThereIn one_alone))

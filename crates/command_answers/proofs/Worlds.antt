@@ -70,7 +70,7 @@ module _ (p : Program) (start : Config) (may : MayRun p start) (c : Config) (is 
   none_past k le = ap (λ (ms : List ℕ). slice_index ms k) maxes_are ∙ past_maxes_of p k le
 
   pub has_limits : (i : ℕ) (b : Bot) → bot_at c i ≡ Some b → HasLimits (length p.vars) b
-  has_limits i b at = limits_of (length p.vars) c.area c.maxes may.vars is.valid.area is.valid.eight small none_past b (is.valid.each i b at)
+  has_limits i b at = limits_of (length p.vars) c may.vars is.valid.area is.valid.eight small none_past b (is.valid.each i b at)
 
   pub is_writable : shape.IsWritableConfig (length p.vars) c
   is_writable = record {

@@ -9,15 +9,14 @@ use Rattle.amoebot_state.specs.declared.cell.CellName.TheVariants as name
 use Rattle.amoebot_state.specs.declared.cell.Cell.TheVariants as cell
 use Rattle.amoebot_state.specs.declared.verdict.Entry.{Entry}
 use Rattle.amoebot_state.specs.declared.verdict.Moved.TheVariants as moved
-use Rattle.amoebot_state.specs.Configs.{Config, config_of}
-use Rattle.amoebot_state.specs.Examples.{zeros}
+use Rattle.amoebot_state.specs.Configs.{Config, with_these}
 use Rattle.claim_core.specs.declared.marks.Mark.TheVariants as mark
 use Rattle.claim_core.specs.declared.report.Report.{Report}
 use Rattle.claim_core.specs.Turns.{CallerLists}
 use Rattle.schedule_text.specs.Lists.{lists_of}
 use Rattle.shape_files.specs.Documents.{Contents}
 use Rattle.shape_files.specs.DocumentRows.{program_text, turns_section, out, only_program}
-use Rattle.small_worlds.specs.Rows.{row_area, node, bot_in_row, to_the_right}
+use Rattle.small_worlds.specs.Rows.{row_frame, node, bot_in_row, to_the_right}
 use Rattle.command_runs.specs.Examples.{nobody, one_alone}
 use Rattle.command_answers.specs.declared.status.Status.TheVariants as status
 use Rattle.command_words.specs.Words.{command_of}
@@ -62,7 +61,7 @@ two_turns_text = codes "turns\nturn 0 0 done 0\nturn 1 0 idle 1\nend\n"
 -- ---- what they say
 
 abbrev pub one_bot_config : Bot → Config
-one_bot_config b = config_of row_area zeros (b ∷ [])
+one_bot_config b = with_these row_frame (b ∷ [])
 
 abbrev pub spread_config : Config
 spread_config = one_bot_config (bot_in_row 2 1)

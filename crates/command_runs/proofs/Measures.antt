@@ -11,12 +11,11 @@ use Rattle.tri_lattice.proofs.Nodes.{node_eq-true, each_direction}
 use Rattle.tri_lattice.proofs.Paths.{Joined-first, Joined-trans, Joined-sym}
 use Rattle.amoebot_state.specs.Configs.{IsValid}
 use Rattle.amoebot_state.specs.Occupied.{occupied}
-use Rattle.amoebot_state.specs.Examples.{zeros}
-use Rattle.amoebot_state.proofs.Faults.{valid_one}
+use Rattle.amoebot_state.proofs.Faults.{frame_valid, valid_one}
 use Rattle.amoebot_state.proofs.Occupants.{plain_in}
 use Rattle.shape_checks.specs.Hexagons.{IsHexagon}
 use Rattle.shape_checks.specs.Laws.{HexagonsAreConnected, OneAloneIsHexagon}
-use Rattle.small_worlds.specs.Rows.{row_area, node, bot_in_row}
+use Rattle.small_worlds.specs.Rows.{row_area, row_frame, node, bot_in_row}
 use Rattle.small_worlds.proofs.Rows.{is_area}
 use Rattle.command_runs.specs.Measure.{IsMeasureText, measure_text}
 use Rattle.command_runs.specs.Laws.{MeasureTextIsOne}
@@ -41,7 +40,7 @@ nobody_is_measured = record {
 -- ---- one amoebot alone
 
 one_valid : IsValid one_alone
-one_valid = valid_one row_area zeros is_area refl (bot_in_row 1 1) (plain_in row_area is_area (bot_in_row 1 1) refl refl (omega arith) refl) refl
+one_valid = valid_one row_frame (frame_valid row_frame is_area refl) (bot_in_row 1 1) (plain_in row_area is_area (bot_in_row 1 1) refl refl (omega arith) refl) refl
 
 pub one_is_measured : HexagonsAreConnected → OneAloneIsHexagon → IsMeasureText one_alone (codes "bots 1\nconnected yes\nhexagon yes\n")
 unfolding digits

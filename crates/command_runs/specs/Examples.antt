@@ -3,13 +3,12 @@
 use Rattle.std.specs.Prelude.{◌≡◌, ℕ, List, [], ◌∷◌, ◌++◌, codes}
 use Rattle.amoebot_state.specs.declared.verdict.Entry.{Entry}
 use Rattle.amoebot_state.specs.declared.verdict.Verdict.{Verdict}
-use Rattle.amoebot_state.specs.Configs.{Config, config_of}
+use Rattle.amoebot_state.specs.Configs.{Config, with_these}
 use Rattle.amoebot_state.specs.Zones.{Shown}
-use Rattle.amoebot_state.specs.Examples.{zeros}
 use Rattle.claim_core.specs.declared.marks.Mark.TheVariants as mark
 use Rattle.claim_core.specs.declared.report.Report.{Report}
 use Rattle.claim_core.specs.Turns.{CallerLists}
-use Rattle.small_worlds.specs.Rows.{row_area, row_with, bot_in_row, two_beside, expanded, one_refused}
+use Rattle.small_worlds.specs.Rows.{row_frame, row_with, bot_in_row, two_beside, expanded, one_refused}
 use Rattle.action_print.specs.Pins.{counting}
 use Rattle.command_runs.specs.Check.{check_text}
 use Rattle.command_runs.specs.Reports.{report_text}
@@ -60,11 +59,11 @@ counting_checked =
 
 -- the row without an amoebot
 abbrev pub nobody : Config
-nobody = config_of row_area zeros []
+nobody = row_frame
 
 -- with one amoebot alone, and with two that have a node between them
 abbrev pub one_alone : Config
-one_alone = config_of row_area zeros (bot_in_row 1 1 ∷ [])
+one_alone = with_these row_frame (bot_in_row 1 1 ∷ [])
 
 abbrev pub two_apart : Config
 two_apart = row_with (bot_in_row 2 2)

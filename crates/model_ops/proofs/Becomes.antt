@@ -7,14 +7,14 @@ use Rattle.std.proofs.lemmas.Option.{same_Some}
 use Rattle.tri_lattice.specs.declared.node.Node.{Node}
 use Rattle.amoebot_state.specs.declared.bot.Bot.{Bot}
 use Rattle.amoebot_state.specs.Ports.{is_own}
-use Rattle.amoebot_state.specs.Configs.{Config, IsValid, IsBot, bot_at, covers, occupant, set_bot}
+use Rattle.amoebot_state.specs.Configs.{Config, IsValid, IsBot, frame, bot_at, covers, occupant, set_bot}
 use Rattle.amoebot_state.proofs.Occupants.{occupant_at, occupant_none, nobody_covers, occupant_same, id_below}
 
--- the amoebot may become the other one: that one may stand in the area, and each node of it is one of the amoebot's or empty
+-- the amoebot may become the other one: that one may stand in the frame, and each node of it is one of the amoebot's or empty
 pub record MayBecome (c : Config) (i : ℕ) (a b : Bot) : Type 0 where
   pub valid : IsValid c
   pub there : bot_at c i ≡ Some a
-  pub fits : IsBot c.area c.maxes b
+  pub fits : IsBot (frame c) b
   pub free : (v : Node) → is_own b v ≡ true → (is_own a v ≡ true) ⊎ (occupant c v ≡ None)
 
 -- the occupant of a node after that
@@ -59,7 +59,7 @@ module _ (c : Config) (i : ℕ) (a b : Bot) (may : MayBecome c i a b) where
     area = may.valid.area;
     eight = may.valid.eight;
     each = λ j d e. elim (cases_eq j i) [
-      | inl same ↦ let P : Bot → Type 0 = IsBot c.area c.maxes in subst P (same_Some _ _ (sym (at_own c i a b may.there) ∙ ap (bot_at (set_bot c i b)) (sym same) ∙ e)) may.fits
+      | inl same ↦ let P : Bot → Type 0 = IsBot (frame c) in subst P (same_Some _ _ (sym (at_own c i a b may.there) ∙ ap (bot_at (set_bot c i b)) (sym same) ∙ e)) may.fits
       | inr ne ↦ may.valid.each j d (sym (at_other c i b j ne) ∙ e)
     ];
     apart = λ j k v s t. elim (who j v s) [

@@ -11,7 +11,7 @@ use Rattle.std.proofs.lemmas.Bool.{false≢true, cases_Bool, cases_eq, cases_lt,
 use Rattle.std.proofs.lemmas.List.{length-set, get_or-set_same, get_or-set_other, ext_get_or}
 use Rattle.std.proofs.lemmas.List.Quantifiers.{position-Some}
 use Rattle.tri_lattice.specs.declared.node.Node.{Node}
-use Rattle.tri_lattice.specs.Extent.{Extent, IsArea, is_in}
+use Rattle.tri_lattice.specs.Extent.{IsArea, is_in}
 use Rattle.tri_lattice.specs.Lattice.{IsNear}
 use Rattle.tri_lattice.proofs.Boxes.{near_in}
 use Rattle.amoebot_state.proofs.Options.{is_some-option_map}
@@ -82,14 +82,14 @@ nobody_below part (m ∷ ms) i k below le = elim (cases_Bool (nat_eq m.id k)) [
 ]
 
 -- the occupant of a node is the first member that has it
-pub occupant_of : (part : Member → Bot) (a : Extent) (maxes : List ℕ) (ms : List Member) (v : Node) → AreRising ms → occupant (config_by part a maxes ms) v ≡ id_by part ms v
-occupant_of part a maxes [] v rising = refl
-occupant_of part a maxes (m ∷ ms) v rising =
+pub occupant_of : (part : Member → Bot) (c : Config) (ms : List Member) (v : Node) → AreRising ms → occupant (config_by part c ms) v ≡ id_by part ms v
+occupant_of part c [] v rising = refl
+occupant_of part c (m ∷ ms) v rising =
     let rest = map (body_by part) ms in
     position_with_id (λ o. covers o v) refl (spread rest) m.id (part m) (λ k le. spread_at rest k ∙ nobody_below part ms m.id k rising.0 le)
     ∙ elim (cases_Bool (is_own (part m) v)) [
       | inl t ↦ rw t refl
-      | inr f ↦ rw f (occupant_of part a maxes ms v rising.1)
+      | inr f ↦ rw f (occupant_of part c ms v rising.1)
     ]
 
 -- the list is as long whatever the amoebots are
@@ -134,8 +134,8 @@ body_with_now (m ∷ ms) (suc k) i j d b lt here before =
     ]
 
 -- the configuration in which the first member with an id has another amoebot
-pub set_bot_of : (a : Extent) (maxes : List ℕ) (ms : List Member) (i k : ℕ) (d : Member) (b : Bot) → position (λ (m : Member). nat_eq m.id i) ms ≡ Some k → config_now a maxes (set ms k (with_now (get_or ms k d) b)) ≡ set_bot (config_now a maxes ms) i b
-set_bot_of a maxes ms i k d b found =
+pub set_bot_of : (c : Config) (ms : List Member) (i k : ℕ) (d : Member) (b : Bot) → position (λ (m : Member). nat_eq m.id i) ms ≡ Some k → config_now c (set ms k (with_now (get_or ms k d) b)) ≡ set_bot (config_now c ms) i b
+set_bot_of c ms i k d b found =
     let at = position-Some (λ (m : Member). nat_eq m.id i) ms k d found in
     let old = spread (map body_now ms) in
     let new = spread (map body_now (set ms k (with_now (get_or ms k d) b))) in
@@ -144,7 +144,7 @@ set_bot_of a maxes ms i k d b found =
     ∙ body_with_now ms k i j d b at.0 at.1 at.2
     ∙ ap (cond (nat_eq i j) (Some b)) (sym (spread_at (map body_now ms) j)) in
     let size : length new ≡ length old = length-with_now ms k d b in
-    ap (λ (os : List (Option Bot)). let c : Config = record { area = a; maxes = maxes; bots = os } in c)
+    ap (λ (os : List (Option Bot)). let e : Config = record c { bots = os } in e)
     (ext_get_or None new (set old i (Some b)) (size ∙ sym (length-set old i (Some b))) (λ j lt. looked j ∙ elim (cases_eq j i) [
       | inl e ↦ ap (λ t. cond t (Some b) (get_or old j None)) (eq-eqb i j (sym e)) ∙ sym (ap (λ l. get_or (set old i (Some b)) l None) e ∙ get_or-set_same old i (Some b) None (omega arith))
       | inr ne ↦ ap (λ t. cond t (Some b) (get_or old j None)) (differs i j ne) ∙ sym (get_or-set_other old i j (Some b) None ne)
@@ -160,11 +160,11 @@ find_placed p xs k d found =
     find_at p xs ∙ ap (slice_get xs) at.1 ∙ slice_get-get_or xs k d (position-Some p xs k d found).0
 
 -- the amoebot with an id
-pub bot_by : (part : Member → Bot) (a : Extent) (maxes : List ℕ) (ms : List Member) (i : ℕ) → bot_at (config_by part a maxes ms) i ≡ option_map part (find (λ m. nat_eq m.id i) ms)
-bot_by part a maxes ms i = spread_at (map (body_by part) ms) i ∙ body_of part ms i
+pub bot_by : (part : Member → Bot) (c : Config) (ms : List Member) (i : ℕ) → bot_at (config_by part c ms) i ≡ option_map part (find (λ m. nat_eq m.id i) ms)
+bot_by part c ms i = spread_at (map (body_by part) ms) i ∙ body_of part ms i
 
-pub bot_placed : (part : Member → Bot) (a : Extent) (maxes : List ℕ) (ms : List Member) (i k : ℕ) (d : Member) → position (λ (m : Member). nat_eq m.id i) ms ≡ Some k → bot_at (config_by part a maxes ms) i ≡ Some (part (get_or ms k d))
-bot_placed part a maxes ms i k d found = bot_by part a maxes ms i ∙ ap (option_map part) (find_placed (λ (m : Member). nat_eq m.id i) ms k d found)
+pub bot_placed : (part : Member → Bot) (c : Config) (ms : List Member) (i k : ℕ) (d : Member) → position (λ (m : Member). nat_eq m.id i) ms ≡ Some k → bot_at (config_by part c ms) i ≡ Some (part (get_or ms k d))
+bot_placed part c ms i k d found = bot_by part c ms i ∙ ap (option_map part) (find_placed (λ (m : Member). nat_eq m.id i) ms k d found)
 
 -- an element that passes has a place
 pub any_placed : {X : Type 0} (p : X → Bool) (xs : List X) → list_any p xs ≡ true → is_some (position p xs) ≡ true
@@ -175,8 +175,8 @@ any_placed p (x ∷ xs) = λ t. ap is_some (position_cons p x xs) ∙ elim (case
 ]
 
 -- an amoebot is there exactly where a member has its id
-pub has_bot : (part : Member → Bot) (a : Extent) (maxes : List ℕ) (ms : List Member) (i : ℕ) → is_some (bot_at (config_by part a maxes ms) i) ≡ has_id ms i
-has_bot part a maxes ms i = ap is_some (bot_by part a maxes ms i) ∙ found_any part ms
+pub has_bot : (part : Member → Bot) (c : Config) (ms : List Member) (i : ℕ) → is_some (bot_at (config_by part c ms) i) ≡ has_id ms i
+has_bot part c ms i = ap is_some (bot_by part c ms i) ∙ found_any part ms
   where
     found_any : (part : Member → Bot) (ms : List Member) → is_some (option_map part (find (λ (m : Member). nat_eq m.id i) ms)) ≡ has_id ms i
     found_any part [] = refl
@@ -186,8 +186,8 @@ has_bot part a maxes ms i = ap is_some (bot_by part a maxes ms i) ∙ found_any 
     ]
 
 -- so an id that is there in the copy has a member
-pub member_there : (a : Extent) (maxes : List ℕ) (own : ℕ) (ms : List Member) (w : WorkingCopy) (i : ℕ) → copy_of a maxes own ms ≡ w → is_some (bot_at w.reached i) ≡ true → has_id ms i ≡ true
-member_there a maxes own ms w i is there = sym (has_bot (λ (m : Member). m.now) a maxes ms i) ∙ ap (λ (x : WorkingCopy). is_some (bot_at x.reached i)) is ∙ there
+pub member_there : (c : Config) (own : ℕ) (ms : List Member) (w : WorkingCopy) (i : ℕ) → copy_of c own ms ≡ w → is_some (bot_at w.reached i) ≡ true → has_id ms i ≡ true
+member_there c own ms w i is there = sym (has_bot (λ (m : Member). m.now) c ms i) ∙ ap (λ (x : WorkingCopy). is_some (bot_at x.reached i)) is ∙ there
 
 -- what stands below all members stands below them when one of them has another amoebot
 below_with_now : (ms : List Member) (i k : ℕ) (d : Member) (b : Bot) → IsBelow i ms → IsBelow i (set ms k (with_now (get_or ms k d) b))
@@ -201,29 +201,29 @@ rising_with_now (m ∷ ms) zero d b rising = rising
 rising_with_now (m ∷ ms) (suc k) d b rising = (below_with_now ms m.id k d b rising.0, rising_with_now ms k d b rising.1)
 
 -- what was found stays
-found_with_now : (a : Extent) (maxes : List ℕ) (ms : List Member) (k : ℕ) (d : Member) (b : Bot) → config_found a maxes (set ms k (with_now (get_or ms k d) b)) ≡ config_found a maxes ms
-found_with_now a maxes ms k d b =
-    ap (λ cells. let c : Config = record { area = a; maxes = maxes; bots = spread cells } in c) (map-set_same body_found ms k (with_now (get_or ms k d) b) d refl)
+found_with_now : (c : Config) (ms : List Member) (k : ℕ) (d : Member) (b : Bot) → config_found c (set ms k (with_now (get_or ms k d) b)) ≡ config_found c ms
+found_with_now c ms k d b =
+    ap (λ cells. let e : Config = record c { bots = spread cells } in e) (map-set_same body_found ms k (with_now (get_or ms k d) b) d refl)
 
-module _ (a : Extent) (maxes : List ℕ) (own : ℕ) (ms : List Member) (i k : ℕ) (d : Member) (b : Bot) (found : position (λ (m : Member). nat_eq m.id i) ms ≡ Some k) where
+module _ (c : Config) (own : ℕ) (ms : List Member) (i k : ℕ) (d : Member) (b : Bot) (found : position (λ (m : Member). nat_eq m.id i) ms ≡ Some k) where
   -- a site stays one
-  pub site_with_now : IsSite a maxes own ms → IsBotInRange b → IsSite a maxes own (set ms k (with_now (get_or ms k d) b))
+  pub site_with_now : IsSite c own ms → IsBotInRange b → IsSite c own (set ms k (with_now (get_or ms k d) b))
   site_with_now is plain =
-      let same = sym (found_with_now a maxes ms k d b) in
+      let same = sym (found_with_now c ms k d b) in
       record {
         rising = rising_with_now ms k d b is.rising;
         plain = All-set (λ (m : Member). IsBotInRange m.now) ms k (with_now (get_or ms k d) b) plain is.plain;
-        there = ap (λ (c : Config). is_some (bot_at c own)) (set_bot_of a maxes ms i k d b found) ∙ same_ids (config_now a maxes ms) i (get_or ms k d).now b (bot_placed (λ (m : Member). m.now) a maxes ms i k d found) own ∙ is.there;
+        there = ap (λ (e : Config). is_some (bot_at e own)) (set_bot_of c ms i k d b found) ∙ same_ids (config_now c ms) i (get_or ms k d).now b (bot_placed (λ (m : Member). m.now) c ms i k d found) own ∙ is.there;
         few = subst (λ n. n ≤ 9) (sym (length-set ms k (with_now (get_or ms k d) b))) is.few;
-        was_shown = subst (λ (c : Config). IsShown (shown c own)) same is.was_shown;
-        whole = subst (λ (c : Config). shown_alone (shown c own) ≡ c) same is.whole;
+        was_shown = subst (λ (e : Config). IsShown (shown e own)) same is.was_shown;
+        whole = subst (λ (e : Config). shown_alone (shown e own) ≡ e) same is.whole;
       }
 
   -- and what it stands for has the other amoebot
-  pub copy_with_now : copy_of a maxes own (set ms k (with_now (get_or ms k d) b)) ≡ record (copy_of a maxes own ms) { reached = set_bot (config_now a maxes ms) i b }
+  pub copy_with_now : copy_of c own (set ms k (with_now (get_or ms k d) b)) ≡ record (copy_of c own ms) { reached = set_bot (config_now c ms) i b }
   copy_with_now =
-      let made : Config → Config → WorkingCopy = λ c e. record { found = shown c own; reached = e } in
-      ap (λ c. made c (config_now a maxes (set ms k (with_now (get_or ms k d) b)))) (found_with_now a maxes ms k d b) ∙ ap (made (config_found a maxes ms)) (set_bot_of a maxes ms i k d b found)
+      let made : Config → Config → WorkingCopy = λ d e. record { found = shown d own; reached = e } in
+      ap (λ e. made e (config_now c (set ms k (with_now (get_or ms k d) b)))) (found_with_now c ms k d b) ∙ ap (made (config_found c ms)) (set_bot_of c ms i k d b found)
 
 -- the members after a write through the slice of them
 pub written_items : (v : ArrayVec Member) (xs : List Member) (k : ℕ) (d : Member) (b : Bot) → xs ≡ v.items → (with_items v (set xs k (with_now (get_or xs k d) b))).items ≡ set v.items k (with_now (get_or v.items k d) b)
@@ -232,10 +232,10 @@ written_items v xs k d b is =
     ∙ ap (λ (ys : List Member). set ys k (with_now (get_or ys k d) b)) is
 
 -- a node of the area is near enough to step from, and so is a node of an amoebot
-pub near_site : (a : Extent) (maxes : List ℕ) (own : ℕ) (ms : List Member) (v : Node) → IsSite a maxes own ms → is_in a v ≡ true → IsNear v
-near_site a maxes own ms v is inside =
-    let area : is.was_shown.0.area ≡ a = ap (λ (s : Shown). s.area) is.was_shown.3 in
-    near_in a v (subst IsArea area is.was_shown.1.area) inside
+pub near_site : (c : Config) (own : ℕ) (ms : List Member) (v : Node) → IsSite c own ms → is_in c.area v ≡ true → IsNear v
+near_site c own ms v is inside =
+    let area : is.was_shown.0.area ≡ c.area = ap (λ (s : Shown). s.area) is.was_shown.3 in
+    near_in c.area v (subst IsArea area is.was_shown.1.area) inside
 
 pub near_own : (b : Bot) (v : Node) → IsBotInRange b → is_own b v ≡ true → IsNear v
 near_own b v plain own = elim (own_cases b v own) [ inl h ↦ subst IsNear h plain.head | inr t ↦ subst IsNear t plain.tail ]

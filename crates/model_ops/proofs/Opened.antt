@@ -13,7 +13,7 @@ use Rattle.amoebot_state.specs.declared.cell.CellName.{CellName}
 use Rattle.amoebot_state.specs.declared.cell.CellName.TheVariants as name
 use Rattle.amoebot_state.specs.declared.cell.Cell.{Cell}
 use Rattle.amoebot_state.specs.declared.cell.Cell.TheVariants as cell
-use Rattle.amoebot_state.specs.Configs.{Config, IsValid, bot_at}
+use Rattle.amoebot_state.specs.Configs.{Config, IsValid, frame, frame_of, bot_at}
 use Rattle.amoebot_state.specs.Laws.{is_body}
 use Rattle.amoebot_state.specs.Refusals.{IsBotInRange}
 use Rattle.amoebot_state.specs.Pairs.{body_in}
@@ -150,20 +150,20 @@ module _ (c : Config) (i : ℕ) (b : Bot) (valid : IsValid c) (at : bot_at c i �
     ] refl
   ] refl
 
-  found_is : config_found c.area c.maxes ms ≡ shown_alone (shown c i)
+  found_is : config_found c ms ≡ shown_alone (shown c i)
   found_is =
-      let made : List (Option Bot) → Config = λ os. record { area = c.area; maxes = c.maxes; bots = os } in
+      let made : List (Option Bot) → Config = λ os. record c { bots = os } in
       ap made (same_spread (map body_found ms) (shown c i).cells (λ j. found_at j ∙ spread_at (shown c i).cells j))
 
-  now_is : config_now c.area c.maxes ms ≡ shown_alone (shown c i)
+  now_is : config_now c ms ≡ shown_alone (shown c i)
   now_is =
-      let made : List (CellName × Cell) → Config = λ cells. record { area = c.area; maxes = c.maxes; bots = spread cells } in
+      let made : List (CellName × Cell) → Config = λ cells. record c { bots = spread cells } in
       ap made (fresh_now (shown_alone (shown c i)) ms some.fresh) ∙ found_is
 
-  shows_is : shown (config_found c.area c.maxes ms) i ≡ shown c i
+  shows_is : shown (config_found c ms) i ≡ shown c i
   shows_is = ap (λ (d : Config). shown d i) found_is ∙ alone_shows c i b valid at
 
-  pub site_gathered : IsSite c.area c.maxes i ms
+  pub site_gathered : IsSite (frame c) i ms
   site_gathered = record {
     rising = some.rising;
     plain = All-from_recursion (λ (m : Member). IsBotInRange m.now) ms (each (λ m fresh. subst IsBotInRange (sym fresh.1) (plain_bot (shown_alone (shown c i)) (alone_valid c i valid) m.id m.found fresh.0)) ms some.fresh);
@@ -177,18 +177,18 @@ module _ (c : Config) (i : ℕ) (b : Bot) (valid : IsValid c) (at : bot_at c i �
     whole = ap shown_alone shows_is ∙ sym found_is;
   }
 
-  pub copy_gathered : copy_of c.area c.maxes i ms ≡ opened (shown c i)
+  pub copy_gathered : copy_of (frame c) i ms ≡ opened (shown c i)
   copy_gathered =
       let made : Shown → Config → WorkingCopy = λ s d. record { found = s; reached = d } in
-      ap (λ s. made s (config_now c.area c.maxes ms)) shows_is ∙ ap (made (shown c i)) now_is
+      ap (λ s. made s (config_now c ms)) shows_is ∙ ap (made (shown c i)) now_is
 
 -- what is gathered of what is shown
-shown_opens : (s : Shown) → IsShown s → IsSite s.area s.maxes s.bot (gathered s) × (copy_of s.area s.maxes s.bot (gathered s) ≡ opened s)
+shown_opens : (s : Shown) → IsShown s → IsSite (frame_of s.area s.maxes) s.bot (gathered s) × (copy_of (frame_of s.area s.maxes) s.bot (gathered s) ≡ opened s)
 shown_opens s is =
     let c = is.0 in
     let i = s.bot in
     let b = there_is (bot_at c i) is.2 in
-    let P : Shown → Type 0 = λ t. IsSite t.area t.maxes i (gathered t) × (copy_of t.area t.maxes i (gathered t) ≡ opened t) in
+    let P : Shown → Type 0 = λ t. IsSite (frame_of t.area t.maxes) i (gathered t) × (copy_of (frame_of t.area t.maxes) i (gathered t) ≡ opened t) in
     subst P is.3 (
     let ms = gathered (shown c i) in
     let some = some_gathered c i b.0 is.1 b.1 in
@@ -196,7 +196,7 @@ shown_opens s is =
     (site_gathered c i b.0 is.1 b.1 ms some all, copy_gathered c i b.0 is.1 b.1 ms some all))
 
 -- the same of fields that are equal to these
-pub opens : (s : Shown) (a : Extent) (maxes : List ℕ) (i : ℕ) (ms : List Member) → IsShown s → a ≡ s.area → maxes ≡ s.maxes → i ≡ s.bot → ms ≡ gathered s → IsSite a maxes i ms × (copy_of a maxes i ms ≡ opened s)
+pub opens : (s : Shown) (a : Extent) (maxes : List ℕ) (i : ℕ) (ms : List Member) → IsShown s → a ≡ s.area → maxes ≡ s.maxes → i ≡ s.bot → ms ≡ gathered s → IsSite (frame_of a maxes) i ms × (copy_of (frame_of a maxes) i ms ≡ opened s)
 opens s a maxes i ms is ea em ei es =
-    let P : Extent × List ℕ × ℕ × List Member → Type 0 = λ f. IsSite f.0 f.1 f.2 f.3 × (copy_of f.0 f.1 f.2 f.3 ≡ opened s) in
-    subst P (λ t. (sym ea t, sym em t, sym ei t, sym es t)) (shown_opens s is)
+    let P : Config × ℕ × List Member → Type 0 = λ f. IsSite f.0 f.1 f.2 × (copy_of f.0 f.1 f.2 ≡ opened s) in
+    subst P (λ t. (frame_of (sym ea t) (sym em t), sym ei t, sym es t)) (shown_opens s is)

@@ -13,7 +13,7 @@ use Rattle.amoebot_state.specs.declared.cell.Cell.TheVariants as cell
 use Rattle.amoebot_state.specs.declared.verdict.Failure.TheVariants.{NoPort, NoNeighbour, OutOfRange, Occupied, NotContracted, NotExpanded, PeerNotExpanded, PeerNotContracted, Edge, WouldSplit}
 use Rattle.amoebot_state.specs.declared.verdict.Moved.TheVariants as moved
 use Rattle.amoebot_state.specs.Ports.{port}
-use Rattle.amoebot_state.specs.Configs.{Config, config_of}
+use Rattle.amoebot_state.specs.Configs.{Config, frame_of, with_these}
 use Rattle.amoebot_state.specs.Zones.{shown, shown_alone}
 use Rattle.model_ops.specs.WorkingCopies.{changes}
 use Rattle.amoebot_state.specs.Patches.{diff}
@@ -33,7 +33,7 @@ bot head tail m = record { head = head; tail = tail; rot = 0; chir = Plus; mem =
 
 -- amoebots in the area 0 0 8 8, whose first variable is at most this
 abbrev world : ℕ → List Bot → Config
-world max bots = let area : Extent = record { x0 = pos 0; y0 = pos 0; w = 8; h = 8 } in config_of area (first max) bots
+world max bots = let area : Extent = record { x0 = pos 0; y0 = pos 0; w = 8; h = 8 } in with_these (frame_of area (first max)) bots
 
 -- pairs of a patch: a node with its occupant, a node without one, a body
 abbrev held : ℕ → ℕ → ℕ → CellName × Cell

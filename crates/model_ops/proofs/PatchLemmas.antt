@@ -12,7 +12,6 @@ use Rattle.amoebot_state.specs.declared.cell.CellName.TheVariants as name
 use Rattle.amoebot_state.specs.declared.cell.Cell.{Cell}
 use Rattle.amoebot_state.specs.declared.cell.Cell.TheVariants as cell
 use Rattle.tri_lattice.specs.declared.node.Node.{Node}
-use Rattle.tri_lattice.specs.Extent.{Extent}
 use Rattle.tri_lattice.proofs.Nodes.{cases_node}
 use Rattle.amoebot_state.specs.declared.bot.Bot.{Bot}
 use Rattle.amoebot_state.specs.Ports.{is_own}
@@ -88,25 +87,25 @@ changed_told m p = elim (cases_Bool (bot_eq m.found m.now)) as (λ _. changed_bo
   | inr f ↦ rw f (λ e. (sym (same_Some (body_now m) p e), λ same. both_ways _ f (ap (bot_eq m.found) (sym same) ∙ value_same (Some (cell.Body m.found)))))
 ]
 
-module _ (a : Extent) (maxes : List ℕ) (own : ℕ) (ms : List Member) (m : Member) (rising : AreRising ms) (is : find (λ (n : Member). nat_eq n.id own) ms ≡ Some m) (one : OneNode (config_found a maxes ms) own (config_now a maxes ms)) where
+module _ (c : Config) (own : ℕ) (ms : List Member) (m : Member) (rising : AreRising ms) (is : find (λ (n : Member). nat_eq n.id own) ms ≡ Some m) (one : OneNode (config_found c ms) own (config_now c ms)) where
   abbrev old : Config
-  old = config_found a maxes ms
+  old = config_found c ms
 
   abbrev new : Config
-  new = config_now a maxes ms
+  new = config_now c ms
 
   -- the amoebots of members
   was : (n : Member) → Has n ms → bot_at old n.id ≡ Some n.found
-  was n has = bot_by (λ (k : Member). k.found) a maxes ms n.id ∙ ap (option_map (λ (k : Member). k.found)) (find_member ms n rising has)
+  was n has = bot_by (λ (k : Member). k.found) c ms n.id ∙ ap (option_map (λ (k : Member). k.found)) (find_member ms n rising has)
 
   now : (n : Member) → Has n ms → bot_at new n.id ≡ Some n.now
-  now n has = bot_by (λ (k : Member). k.now) a maxes ms n.id ∙ ap (option_map (λ (k : Member). k.now)) (find_member ms n rising has)
+  now n has = bot_by (λ (k : Member). k.now) c ms n.id ∙ ap (option_map (λ (k : Member). k.now)) (find_member ms n rising has)
 
   own_was : bot_of old own ≡ m.found
-  own_was = bot_is old own m.found (bot_by (λ (k : Member). k.found) a maxes ms own ∙ ap (option_map (λ (k : Member). k.found)) is)
+  own_was = bot_is old own m.found (bot_by (λ (k : Member). k.found) c ms own ∙ ap (option_map (λ (k : Member). k.found)) is)
 
   own_now : bot_of new own ≡ m.now
-  own_now = bot_is new own m.now (bot_by (λ (k : Member). k.now) a maxes ms own ∙ ap (option_map (λ (k : Member). k.now)) is)
+  own_now = bot_is new own m.now (bot_by (λ (k : Member). k.now) c ms own ∙ ap (option_map (λ (k : Member). k.now)) is)
 
   -- the one node is among those that are looked at
   node_listed : Has one.node (nodes_of m)
@@ -124,7 +123,7 @@ module _ (a : Extent) (maxes : List ℕ) (own : ℕ) (ms : List Member) (m : Mem
       ]
 
   occupants : (v : Node) → (id_found_on ms v ≡ occupant old v) × (id_on ms v ≡ occupant new v)
-  occupants v = (sym (occupant_of (λ (k : Member). k.found) a maxes ms v rising), sym (occupant_of (λ (k : Member). k.now) a maxes ms v rising))
+  occupants v = (sym (occupant_of (λ (k : Member). k.found) c ms v rising), sym (occupant_of (λ (k : Member). k.now) c ms v rising))
 
   spot_differs : (v : Node) → has_changed ms v ≡ true → occupant new v ≢ occupant old v
   spot_differs v t same =
@@ -182,14 +181,14 @@ module _ (a : Extent) (maxes : List ℕ) (own : ℕ) (ms : List Member) (m : Mem
   lacking n p lacks has = All-contains (λ (q : CellName × Cell). cell_of q ≢ n) (spots ++ bodies) p lacks (Contains-from_Has (spots ++ bodies) has)
 
   body_kept : (j : ℕ) (o : Option Member) → find (λ (k : Member). nat_eq k.id j) ms ≡ o → All (λ (q : CellName × Cell). cell_of q ≢ name.Body j) (spots ++ bodies) → bot_at new j ≡ bot_at old j
-  body_kept j None e lacks = bot_by (λ (k : Member). k.now) a maxes ms j ∙ ap (option_map (λ (k : Member). k.now)) e ∙ sym (bot_by (λ (k : Member). k.found) a maxes ms j ∙ ap (option_map (λ (k : Member). k.found)) e)
+  body_kept j None e lacks = bot_by (λ (k : Member). k.now) c ms j ∙ ap (option_map (λ (k : Member). k.now)) e ∙ sym (bot_by (λ (k : Member). k.found) c ms j ∙ ap (option_map (λ (k : Member). k.found)) e)
   body_kept j (Some n) e lacks =
       let (listed, t) = find_told (λ (k : Member). nat_eq k.id j) ms n e in
       elim (cases_Bool (bot_eq n.found n.now)) [
         | inl same ↦
-            bot_by (λ (k : Member). k.now) a maxes ms j ∙ ap (option_map (λ (k : Member). k.now)) e
+            bot_by (λ (k : Member). k.now) c ms j ∙ ap (option_map (λ (k : Member). k.now)) e
             ∙ ap Some (sym (bot_eq-true n.found n.now same))
-            ∙ sym (bot_by (λ (k : Member). k.found) a maxes ms j ∙ ap (option_map (λ (k : Member). k.found)) e)
+            ∙ sym (bot_by (λ (k : Member). k.found) c ms j ∙ ap (option_map (λ (k : Member). k.found)) e)
         | inr f ↦
             let pair : changed_body n ≡ Some (body_now n) = ap (λ x. if x then None else Some (body_now n)) f in
             absurd (lacking (name.Body j) (body_now n) lacks (Has-append_right spots (Has-filter_map changed_body ms listed pair)) (ap name.Body (eqb-true n.id j t)))
@@ -239,12 +238,12 @@ module _ (a : Extent) (maxes : List ℕ) (own : ℕ) (ms : List Member) (m : Mem
   }) ordered (All-from_Has (λ (p : CellName × Cell). value old (cell_of p) ≢ Some (cell_value p)) (spots ++ bodies) differs)
 
 -- what a site gives as its patch, where an activation reaches its configuration
-pub patches : (a : Extent) (maxes : List ℕ) (own : ℕ) (ms : List Member) (k : ℕ) (d : Member) → IsSite a maxes own ms → position (λ (n : Member). nat_eq n.id own) ms ≡ Some k → Reaches (shown_alone (shown (config_found a maxes ms) own)) own (config_now a maxes ms) → changed_cells ms (get_or ms k d) ≡ diff (shown_alone (shown (config_found a maxes ms) own)) (config_now a maxes ms)
-patches a maxes own ms k d is placed reaches =
-    let old = config_found a maxes ms in
-    let new = config_now a maxes ms in
+pub patches : (c : Config) (own : ℕ) (ms : List Member) (k : ℕ) (d : Member) → IsSite c own ms → position (λ (n : Member). nat_eq n.id own) ms ≡ Some k → Reaches (shown_alone (shown (config_found c ms) own)) own (config_now c ms) → changed_cells ms (get_or ms k d) ≡ diff (shown_alone (shown (config_found c ms) own)) (config_now c ms)
+patches c own ms k d is placed reaches =
+    let old = config_found c ms in
+    let new = config_now c ms in
     let valid = subst IsValid is.whole (shown_valid (shown old own) is.was_shown) in
-    let there : IsSome (bot_at old own) = ap is_some (bot_placed (λ (n : Member). n.found) a maxes ms own k d placed) in
-    let reached = subst (λ (c : Config). Reaches c own new) is.whole reaches in
-    difference a maxes own ms (get_or ms k d) is.rising (find_placed (λ (n : Member). nat_eq n.id own) ms k d placed) (one_node old own new valid there reached) valid (reached_keeps_rest old own new valid there reached)
-    ∙ ap (λ (c : Config). diff c new) (sym is.whole)
+    let there : IsSome (bot_at old own) = ap is_some (bot_placed (λ (n : Member). n.found) c ms own k d placed) in
+    let reached = subst (λ (e : Config). Reaches e own new) is.whole reaches in
+    difference c own ms (get_or ms k d) is.rising (find_placed (λ (n : Member). nat_eq n.id own) ms k d placed) (one_node old own new valid there reached) valid (reached_keeps_rest old own new valid there reached)
+    ∙ ap (λ (e : Config). diff e new) (sym is.whole)

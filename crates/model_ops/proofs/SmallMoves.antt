@@ -10,7 +10,7 @@ use Rattle.tri_lattice.proofs.Nodes.{node_eq-true, node_eq_same, eq-node_eq, cas
 use Rattle.tri_lattice.proofs.Steps.{Adjacent-is_adjacent}
 use Rattle.amoebot_state.specs.declared.bot.Bot.{Bot}
 use Rattle.amoebot_state.specs.Ports.{is_own, is_contracted}
-use Rattle.amoebot_state.specs.Configs.{Config, IsValid, IsBot, bot_at, bot_of, occupant, set_bot}
+use Rattle.amoebot_state.specs.Configs.{Config, IsValid, IsBot, frame, bot_at, bot_of, occupant, set_bot}
 use Rattle.amoebot_state.specs.Occupied.{occupied}
 use Rattle.amoebot_state.proofs.Owns.{own_cases, own_head, own_tail, not_own}
 use Rattle.model_ops.specs.Operations.{with_head, contracted_in, other_node, grow, shrink}
@@ -60,7 +60,7 @@ other_own : (b : Bot) (v : Node) → Others b v → is_own b (other_node b v) �
 other_own b v (keeps_tail h e) = own_tail b (other_node b v) (sym e)
 other_own b v (keeps_head h ne e) = own_head b (other_node b v) (sym e)
 
-other_inside : (c : Config) (b : Bot) (v : Node) → IsBot c.area c.maxes b → Others b v → is_in c.area (other_node b v) ≡ true
+other_inside : (c : Config) (b : Bot) (v : Node) → IsBot (frame c) b → Others b v → is_in c.area (other_node b v) ≡ true
 other_inside c b v fits (keeps_tail h e) = ap (is_in c.area) e ∙ fits.tail
 other_inside c b v fits (keeps_head h ne e) = ap (is_in c.area) e ∙ fits.head
 

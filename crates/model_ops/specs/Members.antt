@@ -5,7 +5,6 @@ use Rattle.std.specs.Option.{option_map}
 use Rattle.std.specs.declared.option.Option.{Option}
 use Rattle.std.specs.declared.option.Option.TheVariants.{Some, None}
 use Rattle.tri_lattice.specs.declared.node.Node.{Node}
-use Rattle.tri_lattice.specs.Extent.{Extent}
 use Rattle.amoebot_state.specs.declared.cell.CellName.{CellName}
 use Rattle.amoebot_state.specs.declared.cell.CellName.TheVariants as name
 use Rattle.amoebot_state.specs.declared.cell.Cell.{Cell}
@@ -40,33 +39,33 @@ body_found = body_by (λ m. m.found)
 abbrev pub body_now : Member → CellName × Cell
 body_now = body_by (λ m. m.now)
 
--- the configuration that has the members so, and no other amoebot
-abbrev pub config_by : (Member → Bot) → Extent → List ℕ → List Member → Config
-config_by part a maxes ms = record { area = a; maxes = maxes; bots = spread (map (body_by part) ms) }
+-- a configuration's frame with the members so, and no other amoebot
+abbrev pub config_by : (Member → Bot) → Config → List Member → Config
+config_by part c ms = record c { bots = spread (map (body_by part) ms) }
 
-abbrev pub config_found : Extent → List ℕ → List Member → Config
+abbrev pub config_found : Config → List Member → Config
 config_found = config_by (λ m. m.found)
 
-abbrev pub config_now : Extent → List ℕ → List Member → Config
+abbrev pub config_now : Config → List Member → Config
 config_now = config_by (λ m. m.now)
 
--- the working copy: what the members as found show to the amoebot, and the configuration of the members as they are
-abbrev pub copy_of : Extent → List ℕ → ℕ → List Member → WorkingCopy
-copy_of a maxes own ms = record { found = shown (config_found a maxes ms) own; reached = config_now a maxes ms }
+-- the working copy in a frame: what the members as found show to the amoebot, and the configuration of the members as they are
+abbrev pub copy_of : Config → ℕ → List Member → WorkingCopy
+copy_of c own ms = record { found = shown (config_found c ms) own; reached = config_now c ms }
 
 -- the most amoebots of a neighbourhood: an expanded one and eight beside it
 abbrev pub most_members : ℕ
 most_members = 9
 
--- what a site keeps: the members stand in rising id, the amoebot itself is one of them, they are at most nine, and together they
--- are what some valid configuration showed to the amoebot
-pub record IsSite (a : Extent) (maxes : List ℕ) (own : ℕ) (ms : List Member) : Type 0 where
+-- what a site keeps in a frame: the members stand in rising id, the amoebot itself is one of them, they are at most nine, and
+-- together they are what some valid configuration showed to the amoebot
+pub record IsSite (c : Config) (own : ℕ) (ms : List Member) : Type 0 where
   pub rising : AreRising ms
   pub plain : All (λ (m : Member). IsBotInRange m.now) ms
-  pub there : IsSome (bot_at (config_now a maxes ms) own)
+  pub there : IsSome (bot_at (config_now c ms) own)
   pub few : length ms ≤ most_members
-  pub was_shown : IsShown (shown (config_found a maxes ms) own)
-  pub whole : shown_alone (shown (config_found a maxes ms) own) ≡ config_found a maxes ms
+  pub was_shown : IsShown (shown (config_found c ms) own)
+  pub whole : shown_alone (shown (config_found c ms) own) ≡ config_found c ms
 
 -- an amoebot as it was found, which has not changed yet
 abbrev pub unchanged : ℕ → Bot → Member

@@ -36,14 +36,15 @@ pub struct Site {
 }
 
 impl Model for Site {
+    ghost use Rattle.amoebot_state.specs.Configs.{frame_of};
     ghost use Rattle.model_ops.specs.WorkingCopies.{WorkingCopy};
     ghost use Rattle.model_ops.specs.Members.{copy_of, IsSite};
 
     ghost Value = { WorkingCopy };
 
-    ghost view = { λ s. copy_of s.area s.maxes s.own s.members.items };
+    ghost view = { λ s. copy_of (frame_of s.area s.maxes) s.own s.members.items };
 
-    ghost invariant = { λ s. IsSite s.area s.maxes s.own s.members.items };
+    ghost invariant = { λ s. IsSite (frame_of s.area s.maxes) s.own s.members.items };
 }
 
 impl Site {

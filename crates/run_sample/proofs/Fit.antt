@@ -10,11 +10,10 @@ use Rattle.std.proofs.lemmas.List.FromFn.{length-range_with_len, get_or-range_wi
 use Rattle.tri_lattice.specs.Sets.{IsConnected}
 use Rattle.tri_lattice.specs.declared.node.Node.{Node}
 use Rattle.amoebot_state.specs.declared.bot.Bot.{Bot}
-use Rattle.amoebot_state.specs.Configs.{Config, IsValid, bot_at, blank, config_of}
+use Rattle.amoebot_state.specs.Configs.{Config, IsValid, bot_at, blank, with_these}
 use Rattle.amoebot_state.specs.Occupied.{occupied}
-use Rattle.claim_core.specs.Limits.{most_ids}
 use Rattle.claim_core.specs.Turns.{AreLists, CallerLists, IsList}
-use Rattle.run_sample.specs.Sample.{IsInside, sample_area, sample_maxes}
+use Rattle.run_sample.specs.Sample.{IsInside, sample_frame}
 use Rattle.run_sample.specs.Callers.{ids_below, ids_of, sample_lists}
 use Rattle.run_sample.specs.Laws.{SampleIsFit}
 use Rattle.run_sample.proofs.Laid.{IsLaid, connected, inside, sample_laid}
@@ -28,19 +27,19 @@ below n c = All-filter _ (λ id. id < n) (range_with_len 0 n) (λ k d inside.
     omega arith)
 
 -- an id below the number of the amoebots is one's
-is_there : (bots : List Bot) (id : ℕ) → id < length bots → IsSome (bot_at (config_of sample_area sample_maxes bots) id)
+is_there : (bots : List Bot) (id : ℕ) → id < length bots → IsSome (bot_at (with_these sample_frame bots) id)
 is_there bots id lt = ap is_some (get_or-map Some bots id blank None lt)
 
-there : (bots : List Bot) → length bots ≡ 150 → All (All (λ id. IsSome (bot_at (config_of sample_area sample_maxes bots) id))) sample_lists.ids
+there : (bots : List Bot) → length bots ≡ 150 → All (All (λ id. IsSome (bot_at (with_these sample_frame bots) id))) sample_lists.ids
 there bots many = All-map There ids_of (0 ∷ 1 ∷ 2 ∷ 3 ∷ []) (λ k d inside. of (get_or (0 ∷ 1 ∷ 2 ∷ 3 ∷ []) k d))
   where
     There : List ℕ → Type 0
-    There = All (λ (id : ℕ). IsSome (bot_at (config_of sample_area sample_maxes bots) id))
+    There = All (λ (id : ℕ). IsSome (bot_at (with_these sample_frame bots) id))
 
     of : (c : ℕ) → There (ids_of c)
-    of c = All-weaker (λ id. id < 150) (λ (id : ℕ). IsSome (bot_at (config_of sample_area sample_maxes bots) id)) (λ id lt. is_there bots id (omega (arith, many))) (ids_of c) (below 150 c)
+    of c = All-weaker (λ id. id < 150) (λ (id : ℕ). IsSome (bot_at (with_these sample_frame bots) id)) (λ id lt. is_there bots id (omega (arith, many))) (ids_of c) (below 150 c)
 
-all_inside : (bots : List Bot) → length bots ≡ 150 → IsLaid bots → (v : Node) → IsTrue (occupied (config_of sample_area sample_maxes bots) v) → IsInside v
+all_inside : (bots : List Bot) → length bots ≡ 150 → IsLaid bots → (v : Node) → IsTrue (occupied (with_these sample_frame bots) v) → IsInside v
 all_inside bots many l v t = inside bots (omega (arith, many)) l v (sym (l.same v) ∙ t)
 
 -- the lists are such as callers may have

@@ -12,13 +12,13 @@ use Rattle.tri_lattice.proofs.Boxes.{within_in}
 use Rattle.tri_lattice.proofs.Nodes.{node_eq_same}
 use Rattle.tri_lattice.proofs.Paths.{putting_keeps, few_are_connected, same_keeps}
 use Rattle.amoebot_state.specs.declared.bot.Bot.{Bot}
-use Rattle.amoebot_state.specs.Configs.{config_of, IsValid, IsBot, occupant, has_values}
+use Rattle.amoebot_state.specs.Configs.{with_these, IsValid, IsBot, occupant, has_values}
 use Rattle.amoebot_state.specs.Occupied.{occupied}
-use Rattle.amoebot_state.proofs.Added.{MayCome, valid_with, config_push}
-use Rattle.amoebot_state.proofs.Faults.{none_valid}
+use Rattle.amoebot_state.proofs.Added.{MayCome, valid_with, these_push}
+use Rattle.amoebot_state.proofs.Faults.{frame_valid}
 use Rattle.amoebot_state.proofs.Options.{none_if}
 use Rattle.rand_pcg.specs.Lcg.{Lcg}
-use Rattle.run_sample.specs.Sample.{AreSample, Placed, none, more, IsNextBot, in_square, beside, is_taken, bot_on, sample_memory, square_node, node_of, draw, drawn, sample_area, sample_maxes, IsInside}
+use Rattle.run_sample.specs.Sample.{AreSample, Placed, none, more, IsNextBot, in_square, beside, is_taken, bot_on, sample_memory, square_node, node_of, draw, drawn, sample_area, sample_maxes, sample_frame, IsInside}
 use Rattle.run_sample.proofs.Squares.{IsWithin, wider, within_inside, step_within, square_within, square_once, square_beside}
 use Rattle.run_sample.proofs.Drawn.{draw_below}
 use Rattle.run_sample.proofs.Taken.{taken_cases, taken_old, taken_new, puts_in, node_taken, beside_taken, occupied_push}
@@ -28,8 +28,8 @@ pub record IsLaid (bots : List Bot) : Type 0 where
   pub connected : IsConnected (is_taken bots)
   pub rows : (v : Node) → IsTrue (is_taken bots v) → length bots ≤ 100 → (i : ℕ) × (i < length bots) × (v ≡ square_node i)
   pub filled : (i : ℕ) → i < length bots → i < 100 → IsTrue (is_taken bots (square_node i))
-  pub same : (v : Node) → occupied (config_of sample_area sample_maxes bots) v ≡ is_taken bots v
-  pub valid : IsValid (config_of sample_area sample_maxes bots)
+  pub same : (v : Node) → occupied (with_these sample_frame bots) v ≡ is_taken bots v
+  pub valid : IsValid (with_these sample_frame bots)
 
 pub is_area : IsArea sample_area
 is_area = record {
@@ -67,7 +67,7 @@ none_laid = record {
   rows = λ v t le. absurd (false≢true t);
   filled = λ i lt low. absurd (omega arith);
   same = λ v. refl;
-  valid = none_valid sample_area sample_maxes is_area refl [];
+  valid = frame_valid sample_frame is_area refl;
 }
 
 -- one amoebot more stays beside the others, or is the first
@@ -87,8 +87,8 @@ laid_with bots v rot few turns laid empty meets near row =
     let b = bot_on n v rot in
     let long : length (bots ++ b ∷ []) ≡ suc n = omega (arith, length_push bots b) in
     let inside : IsInside v = within_inside (suc n - 100) v (omega arith) near in
-    let free : occupant (config_of sample_area sample_maxes bots) v ≡ None = none_if _ (laid.same v ∙ empty) in
-    let fits : IsBot sample_area sample_maxes b = record {
+    let free : occupant (with_these sample_frame bots) v ≡ None = none_if _ (laid.same v ∙ empty) in
+    let fits : IsBot sample_frame b = record {
       head = inside_in v inside;
       tail = inside_in v inside;
       close = or_left (node_eq v v) (is_adjacent v v) (node_eq_same v);
@@ -96,7 +96,7 @@ laid_with bots v rot few turns laid empty meets near row =
       values = memory_fits n;
       eight = memory_eight n;
     } in
-    let may : MayCome (config_of sample_area sample_maxes bots) b = record { fits = fits; head_free = free; tail_free = free } in
+    let may : MayCome (with_these sample_frame bots) b = record { fits = fits; head_free = free; tail_free = free } in
     record {
       within = λ u t. subst (λ k. IsWithin (k - 100) u) (sym long) (elim (taken_cases bots b u t) [
         | inl old ↦ wider (n - 100) (suc n - 100) u (omega arith) (laid.within u old)
@@ -114,8 +114,8 @@ laid_with bots v rot few turns laid empty meets near row =
         | inl e ↦ subst (λ (w : Node). IsTrue (is_taken (bots ++ b ∷ []) w)) (row (omega arith) ∙ ap square_node (sym e)) (taken_new bots b)
         | inr ne ↦ taken_old bots b (square_node i) (laid.filled i (omega arith) low)
       ];
-      same = λ u. occupied_push sample_area sample_maxes bots b u refl (laid.same u);
-      valid = subst IsValid (sym (config_push sample_area sample_maxes bots b)) (valid_with (config_of sample_area sample_maxes bots) b laid.valid may);
+      same = λ u. occupied_push sample_frame bots b u refl (laid.same u);
+      valid = subst IsValid (sym (these_push sample_frame bots b)) (valid_with (with_these sample_frame bots) b laid.valid may);
     }
 
 -- the next node of the square is empty, and beside an earlier one
@@ -157,8 +157,8 @@ pub inside : (bots : List Bot) → length bots ≤ 150 → IsLaid bots → (v : 
 inside bots few l v t = within_inside (length bots - 100) v (omega arith) (l.within v t)
 
 -- and their shape is connected
-pub connected : (bots : List Bot) → IsLaid bots → IsConnected (occupied (config_of sample_area sample_maxes bots))
-connected bots l = same_keeps (is_taken bots) (occupied (config_of sample_area sample_maxes bots)) l.same l.connected
+pub connected : (bots : List Bot) → IsLaid bots → IsConnected (occupied (with_these sample_frame bots))
+connected bots l = same_keeps (is_taken bots) (occupied (with_these sample_frame bots)) l.same l.connected
 
 -- so it is of a seed's sample
 pub sample_laid : (seed : ℕ) (bots : List Bot) → AreSample seed bots → IsLaid bots

@@ -6,10 +6,10 @@ use Rattle.std.proofs.lemmas.List.{length_push}
 use Rattle.tri_lattice.specs.declared.node.Node.{Node}
 use Rattle.tri_lattice.specs.Lattice.{step}
 use Rattle.amoebot_state.specs.declared.bot.Bot.{Bot}
-use Rattle.amoebot_state.specs.Configs.{config_of}
+use Rattle.amoebot_state.specs.Configs.{with_these}
 use Rattle.action_tree.specs.Shipped as trees
 use Rattle.rand_pcg.specs.Lcg.{Lcg}
-use Rattle.run_sample.specs.Sample.{Placed, none, more, IsNextBot, in_square, beside, is_taken, IsFirstEmpty, IsInside, bot_on, node_of, square_node, seeded, draw, drawn, sample_area, sample_maxes}
+use Rattle.run_sample.specs.Sample.{Placed, none, more, IsNextBot, in_square, beside, is_taken, IsFirstEmpty, IsInside, bot_on, node_of, square_node, seeded, draw, drawn, sample_frame}
 use Rattle.run_sample.specs.Callers.{sample_lists}
 use Rattle.run_sample.specs.Laws.{SampleIsSome}
 use Rattle.run_sample.proofs.DirectionLemmas.{beyond, count, nearer}
@@ -52,7 +52,7 @@ placed_is_some seed (suc n) few =
 pub sample_is_some : SampleIsSome
 sample_is_some seed =
     let all = placed_is_some seed 150 (omega arith) in (
-      record { checked = record trees.hexagon { guard = true }; world = config_of sample_area sample_maxes all.0; lists = sample_lists },
+      record { checked = record trees.hexagon { guard = true }; world = with_these sample_frame all.0; lists = sample_lists },
       record {
         program = refl;
         bots = all.0;

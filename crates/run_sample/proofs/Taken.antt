@@ -6,14 +6,13 @@ use Rattle.std.proofs.Math.Bool.{or-false, or_self}
 use Rattle.std.proofs.lemmas.List.Folds.{list_any-append, list_any_at}
 use Rattle.tri_lattice.specs.declared.node.Node.{Node}
 use Rattle.tri_lattice.specs.Lattice.{node_eq, Adjacent}
-use Rattle.tri_lattice.specs.Extent.{Extent}
 use Rattle.tri_lattice.specs.Sets.{PutsIn}
 use Rattle.tri_lattice.proofs.Nodes.{node_eq-true, node_eq-false, node_eq_same}
 use Rattle.amoebot_state.specs.declared.bot.Bot.{Bot}
 use Rattle.amoebot_state.specs.Ports.{is_own}
-use Rattle.amoebot_state.specs.Configs.{blank, config_of, occupant, covers}
+use Rattle.amoebot_state.specs.Configs.{Config, blank, with_these, occupant, covers}
 use Rattle.amoebot_state.specs.Occupied.{occupied}
-use Rattle.amoebot_state.proofs.Added.{config_push}
+use Rattle.amoebot_state.proofs.Added.{these_push}
 use Rattle.amoebot_state.proofs.Occupants.{position_push}
 use Rattle.run_sample.specs.Sample.{is_taken, walked, node_of, IsFirstEmpty}
 
@@ -54,11 +53,11 @@ some_push None false n = refl
 some_push (Some i) t n = refl
 
 -- the nodes that are occupied are those that are taken, with a contracted amoebot more
-pub occupied_push : (a : Extent) (maxes : List ℕ) (bots : List Bot) (b : Bot) (v : Node) → b.tail ≡ b.head → occupied (config_of a maxes bots) v ≡ is_taken bots v → occupied (config_of a maxes (bots ++ b ∷ [])) v ≡ is_taken (bots ++ b ∷ []) v
-occupied_push a maxes bots b v contracted old =
-    let one : occupied (config_of a maxes (bots ++ b ∷ [])) v ≡ (occupied (config_of a maxes bots) v || is_own b v) =
-    ap (λ c. occupied c v) (config_push a maxes bots b)
-    ∙ ap is_some (position_push (λ o. covers o v) (map Some bots) (Some b) None (occupant (config_of a maxes bots) v) refl)
-    ∙ some_push (occupant (config_of a maxes bots) v) (is_own b v) (length (map Some bots)) in
+pub occupied_push : (c : Config) (bots : List Bot) (b : Bot) (v : Node) → b.tail ≡ b.head → occupied (with_these c bots) v ≡ is_taken bots v → occupied (with_these c (bots ++ b ∷ [])) v ≡ is_taken (bots ++ b ∷ []) v
+occupied_push c bots b v contracted old =
+    let one : occupied (with_these c (bots ++ b ∷ [])) v ≡ (occupied (with_these c bots) v || is_own b v) =
+    ap (λ (d : Config). occupied d v) (these_push c bots b)
+    ∙ ap is_some (position_push (λ o. covers o v) (map Some bots) (Some b) None (occupant (with_these c bots) v) refl)
+    ∙ some_push (occupant (with_these c bots) v) (is_own b v) (length (map Some bots)) in
     let own : is_own b v ≡ node_eq b.head v = ap (λ (t : Node). node_eq b.head v || node_eq t v) contracted ∙ or_self (node_eq b.head v) in
     one ∙ ap (λ t. t || is_own b v) old ∙ ap (λ t. is_taken bots v || t) own ∙ sym (taken_push bots b v)

@@ -4,9 +4,9 @@ use Rattle.std.proofs.lemmas.Bool.{cases_lt, both_ways}
 use Rattle.std.proofs.lemmas.List.{length_push}
 use Rattle.tri_lattice.specs.declared.node.Node.{Node}
 use Rattle.amoebot_state.specs.declared.bot.Bot.{Bot}
-use Rattle.amoebot_state.specs.Configs.{config_of}
+use Rattle.amoebot_state.specs.Configs.{with_these}
 use Rattle.rand_pcg.specs.Lcg.{Lcg}
-use Rattle.run_sample.specs.Sample.{sample_area, sample_maxes, AreSample, Placed, none, more, IsNextBot, in_square, beside, is_taken, walked, bot_on, draw, drawn}
+use Rattle.run_sample.specs.Sample.{sample_frame, AreSample, Placed, none, more, IsNextBot, in_square, beside, is_taken, walked, bot_on, draw, drawn}
 use Rattle.run_sample.specs.Laws.{SampleIsUnique, FirstEmptyIsUnique}
 
 -- the node of two first empty ones that is nearer is taken, were it not the other
@@ -45,6 +45,6 @@ bots_are_unique seed one two a b = (placed_is_unique seed one two a.left b.left 
 pub sample_is_unique : SampleIsUnique
 sample_is_unique seed one two a b = (
   a.program ∙ sym b.program,
-  a.world ∙ ap (config_of sample_area sample_maxes) (bots_are_unique seed a.bots b.bots a.come b.come) ∙ sym b.world,
+  a.world ∙ ap (with_these sample_frame) (bots_are_unique seed a.bots b.bots a.come b.come) ∙ sym b.world,
   a.lists ∙ sym b.lists,
 )

@@ -9,26 +9,26 @@ use Rattle.tri_lattice.specs.Extent.{Extent}
 use Rattle.amoebot_state.specs.declared.bot.Bot.{Bot}
 use Rattle.amoebot_state.specs.declared.refusal.WorldRefusal.{WorldRefusal}
 use Rattle.amoebot_state.specs.declared.refusal.WorldRefusal.TheVariants.{NoMemory}
-use Rattle.amoebot_state.specs.Configs.{Config, blank, config_of, IsValid}
+use Rattle.amoebot_state.specs.Configs.{Config, blank, frame_of, with_these, IsValid}
 use Rattle.amoebot_state.specs.Refusals.{IsBotInRange, IsFirstFault}
 use Rattle.amoebot_state.proofs.Faults.{valid_is_faultless}
 use Rattle.amoebot_state.proofs.Occupants.{plain_bot}
 use Rattle.action_tree.specs.Trees.{Program}
 use Rattle.action_tree.specs.Shipped as sample
-use Rattle.run_sample.specs.Sample.{sample_area, sample_maxes}
+use Rattle.run_sample.specs.Sample.{sample_area, sample_maxes, sample_frame}
 
-pub are_plain : (bots : List Bot) → IsValid (config_of sample_area sample_maxes bots) → All IsBotInRange bots
-are_plain bots valid = All-from_get_or IsBotInRange bots blank (λ i lt. plain_bot (config_of sample_area sample_maxes bots) valid i (get_or bots i blank) (get_or-map Some bots i blank None lt))
+pub are_plain : (bots : List Bot) → IsValid (with_these sample_frame bots) → All IsBotInRange bots
+are_plain bots valid = All-from_get_or IsBotInRange bots blank (λ i lt. plain_bot (with_these sample_frame bots) valid i (get_or bots i blank) (get_or-map Some bots i blank None lt))
 
-not_refused : (bots : List Bot) (e : WorldRefusal) → IsValid (config_of sample_area sample_maxes bots) → IsFirstFault sample_area sample_maxes bots e → ⊥
+not_refused : (bots : List Bot) (e : WorldRefusal) → IsValid (with_these sample_frame bots) → IsFirstFault sample_frame bots e → ⊥
 not_refused bots e valid fault =
     let lt = slice_get_within bots fault.place fault.bot fault.there in
-    none-some e (sym (valid_is_faultless sample_area sample_maxes bots valid fault.place fault.bot lt fault.there) ∙ fault.fault)
+    none-some e (sym (valid_is_faultless sample_frame bots valid fault.place fault.bot lt fault.there) ∙ fault.fault)
 
 -- so what it is refused for is memory
-pub memory_wanted : (a : Extent) (maxes : List ℕ) (bots : List Bot) (e : WorldRefusal) → a ≡ sample_area → maxes ≡ sample_maxes → IsValid (config_of sample_area sample_maxes bots) → (e ≡ NoMemory) ⊎ IsFirstFault a maxes bots e → e ≡ NoMemory
+pub memory_wanted : (a : Extent) (maxes : List ℕ) (bots : List Bot) (e : WorldRefusal) → a ≡ sample_area → maxes ≡ sample_maxes → IsValid (with_these sample_frame bots) → (e ≡ NoMemory) ⊎ IsFirstFault (frame_of a maxes) bots e → e ≡ NoMemory
 memory_wanted a maxes bots e area most valid (inl is) = is
-memory_wanted a maxes bots e area most valid (inr fault) = absurd (not_refused bots e valid (subst (λ (z : Extent × List ℕ). IsFirstFault z.0 z.1 bots e) (λ i. (area i, most i)) fault))
+memory_wanted a maxes bots e area most valid (inr fault) = absurd (not_refused bots e valid (subst (λ (c : Config). IsFirstFault c bots e) (λ i. frame_of (area i) (most i)) fault))
 
 -- the same program with its guard on
 with_guard : Program → Program
@@ -38,8 +38,8 @@ pub guarded : (p q : Program) → p ≡ sample.hexagon → q ≡ record p { guar
 unfolding with_guard
 guarded p q is set = set ∙ ap with_guard is
 
-pub world_is : (w : Config) (a : Extent) (maxes : List ℕ) (bots : List Bot) → w ≡ config_of a maxes bots → a ≡ sample_area → maxes ≡ sample_maxes → w ≡ config_of sample_area sample_maxes bots
-world_is w a maxes bots is area most = is ∙ ap (λ (x : Extent). config_of x maxes bots) area ∙ ap (λ (m : List ℕ). config_of sample_area m bots) most
+pub world_is : (w : Config) (a : Extent) (maxes : List ℕ) (bots : List Bot) → w ≡ with_these (frame_of a maxes) bots → a ≡ sample_area → maxes ≡ sample_maxes → w ≡ with_these sample_frame bots
+world_is w a maxes bots is area most = is ∙ (λ i. with_these (frame_of (area i) (most i)) bots)
 
 pub area_is : (o : Option Extent) (a : Extent) → IfSome o (λ x. x ≡ sample_area) → o ≡ Some a → a ≡ sample_area
 area_is o a value is = subst (λ (x : Option Extent). IfSome x (λ y. y ≡ sample_area)) is value

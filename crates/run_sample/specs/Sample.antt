@@ -7,7 +7,7 @@ use Rattle.tri_lattice.specs.Lattice.{step, node_eq}
 use Rattle.tri_lattice.specs.Extent.{Extent}
 use Rattle.amoebot_state.specs.declared.bot.Bot.{Bot}
 use Rattle.amoebot_state.specs.declared.bot.Chir.TheVariants.{Plus}
-use Rattle.amoebot_state.specs.Configs.{blank}
+use Rattle.amoebot_state.specs.Configs.{Config, frame_of, blank}
 use Rattle.rand_core.specs.Pcg32Seed.{pcg32_seed}
 use Rattle.rand_pcg.specs.Lcg.{Lcg}
 use Rattle.rand_pcg.specs.Pcg.{pcg32, pcg32_of_seed}
@@ -98,3 +98,7 @@ sample_area = record { x0 = pos 0; y0 = pos 0; w = 128; h = 128 }
 -- the greatest values of the variables of `hexagon`
 abbrev pub sample_maxes : List ℕ
 sample_maxes = 4 ∷ 6 ∷ 6 ∷ 0 ∷ 0 ∷ 0 ∷ 0 ∷ 0 ∷ []
+
+-- a sample without its amoebots
+abbrev pub sample_frame : Config
+sample_frame = frame_of sample_area sample_maxes

@@ -1,9 +1,9 @@
 ghost use Rattle.std.specs.Prelude.{◌≡◌, ◌≤◌, length, IfOk, true};
 ghost use Rattle.tri_lattice.specs.Sets.{IsConnected};
-ghost use Rattle.amoebot_state.specs.Configs.{IsValid, config_of};
+ghost use Rattle.amoebot_state.specs.Configs.{IsValid, with_these};
 ghost use Rattle.amoebot_state.specs.Occupied.{occupied};
 ghost use Rattle.action_tree.specs.Shipped as sample;
-ghost use Rattle.run_sample.specs.Sample.{sample_area, sample_bots, sample_maxes};
+ghost use Rattle.run_sample.specs.Sample.{sample_area, sample_bots, sample_frame, sample_maxes};
 ghost use Rattle.run_sample.specs.Whole.{IsSample};
 
 use crate::amoebots::amoebots;
@@ -52,8 +52,8 @@ fn guarded_hexagon(alloc: Global) -> Result<Checked, NoMemory>
 fn world_of(alloc: Global, maxes: [u8; 8], bots: &[Bot]) -> Result<World, NoMemory>
     requires maxes { maxes ≡ sample_maxes }
     requires few { length bots.now ≤ sample_bots }
-    requires valid { IsValid (config_of sample_area sample_maxes bots.now) }
-    ensures { IfOk result (λ world. world ≡ config_of sample_area sample_maxes bots.now) }
+    requires valid { IsValid (with_these sample_frame bots.now) }
+    ensures { IfOk result (λ world. world ≡ with_these sample_frame bots.now) }
 {
     match World::new(alloc, area(), maxes, bots) {
         Ok(world) => Ok(world),

@@ -21,7 +21,7 @@ use Rattle.amoebot_state.specs.declared.bot.Bot.{Bot}
 use Rattle.amoebot_state.specs.Configs.{Config, IsValid, bot_at}
 use Rattle.amoebot_state.specs.Limits.{most_bots, most_vars, most_value}
 use Rattle.amoebot_state.specs.Refusals.{IsBotInRange}
-use Rattle.amoebot_state.proofs.Faults.{faultless_is_valid}
+use Rattle.amoebot_state.proofs.Faults.{frame_valid, faultless_is_valid}
 use Rattle.amoebot_state.proofs.Options.{all_there}
 use Rattle.claim_core.specs.Limits.{most_callers, most_ids, most_turns}
 use Rattle.claim_core.specs.Turns.{CallerLists, AreFew, AreLists, IsList}
@@ -29,7 +29,7 @@ use Rattle.action_tree.specs.Trees as tree
 use Rattle.action_check.specs.Maxes.{first_or_zero, maxes_of}
 use Rattle.node_text.specs.Limits.{most_coordinate}
 use Rattle.node_text.specs.Parts.{IsBotText, IsInt, IsNode, IsUpTo, IsValues, memory, negative}
-use Rattle.shape_text.specs.Shapes.{WrittenBot, WrittenShape, written_shape, written_amoebot, stands_for, outside, IsSide, IsAreaLine, IsBotLine, IsShapeUnder}
+use Rattle.shape_text.specs.Shapes.{WrittenBot, WrittenShape, written_shape, written_amoebot, shape_frame, stands_for, outside, IsSide, IsAreaLine, IsBotLine, IsShapeUnder}
 use Rattle.shape_text.proofs.JudgementsLemmas.{unrefused}
 use Rattle.schedule_text.specs.Lists.{IdsFrom, IsCallerList, IsId, IsLists}
 use Rattle.shape_files.specs.declared.section_kind.Section.{Section}
@@ -147,7 +147,7 @@ shape_drawn text vars maxes few_vars eight c f =
     let shape : WrittenShape = written_shape area.value bots.value in
     let faultless = unrefused maxes shape (subst (λ (s : WrittenShape). Rattle.shape_text.specs.Shapes.shape_fault maxes s ≡ None) (sym bots.same) judged.1) in
     let drawn : IsWorldShape (stands_for maxes shape) = record {
-      valid = faultless_is_valid area.value maxes (map written_amoebot bots.value) (area_within area.value area.before) eight (All-map IsBotInRange written_amoebot bots.value each) faultless;
+      valid = faultless_is_valid (shape_frame maxes shape) (map written_amoebot bots.value) (frame_valid (shape_frame maxes shape) (area_within area.value area.before) eight) (All-map IsBotInRange written_amoebot bots.value each) faultless;
       few = (let one = length-map bots.value written_amoebot in let all = length-map (map written_amoebot bots.value) Some in omega arith);
       no_gaps = λ id lt. all_there (map written_amoebot bots.value) id lt;
     } in

@@ -7,11 +7,11 @@ use Rattle.std.proofs.lemmas.Int.{ints}
 use Rattle.std.proofs.lemmas.List.Elements.{All-nil, All-cons, All-replicate, All-from_recursion}
 use Rattle.amoebot_state.specs.declared.bot.Bot.{Bot}
 use Rattle.amoebot_state.specs.declared.bot.Chir.TheVariants.{Plus}
-use Rattle.amoebot_state.specs.Configs.{IsValid, config_of, bot_at}
+use Rattle.amoebot_state.specs.Configs.{IsValid, frame_of, bot_at}
 use Rattle.amoebot_state.specs.Refusals.{IsBotInRange, bot_fault}
 use Rattle.amoebot_state.specs.Limits.{most_value}
 use Rattle.amoebot_state.specs.Examples.{eight_by_eight, zeros}
-use Rattle.amoebot_state.proofs.Faults.{valid_one}
+use Rattle.amoebot_state.proofs.Faults.{frame_valid, valid_one}
 use Rattle.amoebot_state.proofs.StepExamples.{plain}
 use Rattle.claim_core.specs.declared.marks.Mark.TheVariants as mark
 use Rattle.node_text.specs.Parts.{a_node_of}
@@ -25,9 +25,9 @@ use Rattle.shape_files.specs.WholeTextRows.{two_marks, WholeTextRows}
 
 -- ---- one amoebot
 
-one_valid : (b : Bot) → IsBotInRange b → bot_fault (config_of eight_by_eight zeros []) b ≡ None → IsValid (shape_of_one b)
+one_valid : (b : Bot) → IsBotInRange b → bot_fault (frame_of eight_by_eight zeros) b ≡ None → IsValid (shape_of_one b)
 one_valid b plain fine =
-    valid_one eight_by_eight zeros (record {
+    valid_one (frame_of eight_by_eight zeros) (frame_valid (frame_of eight_by_eight zeros) (record {
       x_low = omega (arith, ints);
       x_high = omega (arith, ints);
       y_low = omega (arith, ints);
@@ -36,7 +36,7 @@ one_valid b plain fine =
       w_high = omega arith;
       h_low = omega arith;
       h_high = omega arith;
-    }) refl b plain fine
+    }) refl) b plain fine
 
 one_written : (b : Bot) → b.mem ≡ zeros → IsValid (shape_of_one b) → IsWritableConfig 0 (shape_of_one b)
 one_written b e valid = record { valid = valid; few = omega arith; no_gaps = none; maxes = All-replicate (λ m. m ≤ most_value) 8 0 (omega arith); zeros = all }

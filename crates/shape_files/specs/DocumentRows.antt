@@ -11,7 +11,7 @@ use Rattle.amoebot_state.specs.declared.cell.CellName.TheVariants as name
 use Rattle.amoebot_state.specs.declared.cell.Cell.TheVariants as cell
 use Rattle.amoebot_state.specs.declared.verdict.Entry.{Entry}
 use Rattle.amoebot_state.specs.declared.verdict.Moved.TheVariants as moved
-use Rattle.amoebot_state.specs.Configs.{Config, config_of}
+use Rattle.amoebot_state.specs.Configs.{Config, frame_of, with_these}
 use Rattle.amoebot_state.specs.Ports.{port}
 use Rattle.amoebot_state.specs.Examples.{eight_by_eight, zeros}
 use Rattle.action_tree.specs.Trees as tree
@@ -97,7 +97,7 @@ abbrev pub bot_after : Bot
 bot_after = shape_bot (pos 3) (pos 3) (pos 2) (pos 3) 0 Plus []
 
 abbrev pub shape_of_one : Bot → Config
-shape_of_one b = config_of eight_by_eight zeros (b ∷ [])
+shape_of_one b = with_these (frame_of eight_by_eight zeros) (b ∷ [])
 
 abbrev pub entry_made : Entry
 entry_made = record {

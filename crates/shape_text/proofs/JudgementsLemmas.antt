@@ -10,31 +10,31 @@ use Rattle.text_tokens.specs.declared.refusal.Refusal.{Refusal}
 use Rattle.text_tokens.specs.declared.refusal.RefusalKind.{RefusalKind}
 use Rattle.text_tokens.specs.declared.refusal.RefusalKind.TheVariants as kind
 use Rattle.text_tokens.specs.Cursor.{on_line}
-use Rattle.tri_lattice.specs.Extent.{Extent, is_in}
+use Rattle.tri_lattice.specs.Extent.{is_in}
 use Rattle.amoebot_state.specs.declared.bot.Bot.{Bot}
 use Rattle.amoebot_state.specs.declared.refusal.WorldRefusal.{WorldRefusal}
 use Rattle.amoebot_state.specs.declared.refusal.WorldRefusal.TheVariants as world
-use Rattle.amoebot_state.specs.Configs.{Config, config_of, with_bot, occupant, is_close, has_values}
+use Rattle.amoebot_state.specs.Configs.{Config, frame, with_these, with_bot, occupant, is_close, has_values}
 use Rattle.amoebot_state.specs.Refusals.{bot_fault, IsBotInRange, IsFaultless, IsFirstFault}
 use Rattle.shape_text.specs.declared.shape.WrittenBot as code_bot
-use Rattle.shape_text.specs.Shapes.{WrittenBot, WrittenShape, kind_of, broken, first_broken, written_amoebot, shape_fault}
+use Rattle.shape_text.specs.Shapes.{WrittenBot, WrittenShape, kind_of, broken, first_broken, written_amoebot, shape_frame, shape_fault}
 use Rattle.shape_text.specs.Judgements.{JudgedAsWorlds}
 use Rattle.shape_text.specs.Views as view
 use Rattle.shape_text.specs.Views.{blamed_bot}
 
 -- these amoebots behind those that are there
 abbrev with_bots : Config → List Bot → Config
-with_bots c bots = record { area = c.area; maxes = c.maxes; bots = c.bots ++ map Some bots }
+with_bots c bots = record c { bots = c.bots ++ map Some bots }
 
 -- none of the first so many breaks a rule beside those before it
 abbrev AreFine : Config → List Bot → ℕ → Type 0
 AreFine c bots n = (j : ℕ) (b : Bot) → j < n → slice_get bots j ≡ Some b → bot_fault (with_bots c (take j bots)) b ≡ None
 
 with_none : (c : Config) → with_bots c [] ≡ c
-with_none c = ap (λ (bots : List (Option Bot)). record { area = c.area; maxes = c.maxes; bots = bots }) (append-nil c.bots)
+with_none c = ap (λ (bots : List (Option Bot)). record c { bots = bots }) (append-nil c.bots)
 
 with_more : (c : Config) (b : Bot) (bots : List Bot) → with_bots (with_bot c b) bots ≡ with_bots c (b ∷ bots)
-with_more c b bots = ap (λ (all : List (Option Bot)). record { area = c.area; maxes = c.maxes; bots = all }) (append_assoc c.bots (Some b ∷ []) (map Some bots))
+with_more c b bots = ap (λ (all : List (Option Bot)). record c { bots = all }) (append_assoc c.bots (Some b ∷ []) (map Some bots))
 
 rest_fine : (c : Config) (b : Bot) (bots : List Bot) (n : ℕ) → AreFine c (b ∷ bots) (suc n) → AreFine (with_bot c b) bots n
 rest_fine c b bots n fine j d lt at = ap (λ (x : Config). bot_fault x d) (with_more c b (take j bots)) ∙ fine (suc j) d (omega arith) at
@@ -128,17 +128,17 @@ seen_at [] n w at = absurd cc
 seen_at (v ∷ ws) zero w at = let same : v ≡ w = cc in ap (λ (x : Code). Some (view.bot_view x)) same
 seen_at (v ∷ ws) (suc n) w at = seen_at ws n w at
 
-module _ (a : Extent) (maxes : List ℕ) (ws : List Code) where
+module _ (c : Config) (ws : List Code) where
   abbrev start : Config
-  start = config_of a maxes []
+  start = frame c
 
   abbrev Bots : List Bot
   Bots = map its_bot ws
 
-  fine_of : (n : ℕ) → IsFaultless a maxes Bots n → AreFine start (map written_amoebot (map view.bot_view ws)) n
+  fine_of : (n : ℕ) → IsFaultless c Bots n → AreFine start (map written_amoebot (map view.bot_view ws)) n
   fine_of n fine = subst (λ (bs : List Bot). AreFine start bs n) (sym (same_bots ws)) (λ j b lt at. fine j b lt at)
 
-  pub is_faultless : IsFaultless a maxes Bots (length Bots) → first_broken start (map view.bot_view ws) ≡ None
+  pub is_faultless : IsFaultless c Bots (length Bots) → first_broken start (map view.bot_view ws) ≡ None
   is_faultless fine =
       let size : length Bots ≡ length (map view.bot_view ws) = length-map ws its_bot ∙ sym (length-map ws view.bot_view) in
       none_broken start (map view.bot_view ws) (subst (λ (n : ℕ). AreFine start (map written_amoebot (map view.bot_view ws)) n) size (fine_of (length Bots) fine))
@@ -153,15 +153,15 @@ module _ (a : Extent) (maxes : List ℕ) (ws : List Code) where
     pub names : blamed_bot e ≡ Some (place, kind)
     pub first : first_broken start (map view.bot_view ws) ≡ Some (on_line one.line kind)
 
-  pub refusing : (e : WorldRefusal) → IsFirstFault a maxes Bots e → Refusing e
+  pub refusing : (e : WorldRefusal) → IsFirstFault c Bots e → Refusing e
   refusing e f =
       let o = of_image its_bot ws f.place f.bot f.there in
-      let c = config_of a maxes (take f.place Bots) in
-      let b = blames c f.bot e f.fault in
-      let size : length c.bots ≡ f.place = length-map (take f.place Bots) Some ∙ length-take-le f.place Bots (let lt = slice_get_within Bots f.place f.bot f.there in omega arith) in
-      let fault : bot_fault c o.one.bot ≡ Some e = ap (bot_fault c) o.is ∙ f.fault in
-      let before : with_bots start (take f.place (map written_amoebot (map view.bot_view ws))) ≡ c = ap (λ (bs : List Bot). with_bots start (take f.place bs)) (same_bots ws) in
-      let rule : broken (with_bots start (take f.place (map written_amoebot (map view.bot_view ws)))) (view.bot_view o.one) ≡ Some (on_line o.one.line b.kind) = ap (λ (x : Config). broken x (view.bot_view o.one)) before ∙ breaks_it c (view.bot_view o.one) e b.kind fault b.breaks in
+      let was = with_these c (take f.place Bots) in
+      let b = blames was f.bot e f.fault in
+      let size : length was.bots ≡ f.place = length-map (take f.place Bots) Some ∙ length-take-le f.place Bots (let lt = slice_get_within Bots f.place f.bot f.there in omega arith) in
+      let fault : bot_fault was o.one.bot ≡ Some e = ap (bot_fault was) o.is ∙ f.fault in
+      let before : with_bots start (take f.place (map written_amoebot (map view.bot_view ws))) ≡ was = ap (λ (bs : List Bot). with_bots start (take f.place bs)) (same_bots ws) in
+      let rule : broken (with_bots start (take f.place (map written_amoebot (map view.bot_view ws)))) (view.bot_view o.one) ≡ Some (on_line o.one.line b.kind) = ap (λ (x : Config). broken x (view.bot_view o.one)) before ∙ breaks_it was (view.bot_view o.one) e b.kind fault b.breaks in
       record {
         place = f.place;
         one = o.one;
@@ -173,24 +173,24 @@ module _ (a : Extent) (maxes : List ℕ) (ws : List Code) where
       }
 
 -- a shape whose amoebots break no rule
-pub faultless_fits : (a : Extent) (maxes : List ℕ) (bs : List Bot) → IsFaultless a maxes bs (length bs) → (s : WrittenShape) → s.area ≡ a → map written_amoebot s.bots ≡ bs → shape_fault maxes s ≡ None
-faultless_fits a maxes bs fine s area bots =
+pub faultless_fits : (maxes : List ℕ) (c : Config) (bs : List Bot) → IsFaultless c bs (length bs) → (s : WrittenShape) → shape_frame maxes s ≡ frame c → map written_amoebot s.bots ≡ bs → shape_fault maxes s ≡ None
+faultless_fits maxes c bs fine s framed bots =
     let size : length bs ≡ length s.bots = sym (ap length bots) ∙ length-map s.bots written_amoebot in
-    let same : config_of a maxes [] ≡ config_of s.area maxes [] = ap (λ (x : Extent). config_of x maxes []) (sym area) in
-    let here : AreFine (config_of a maxes []) bs (length bs) = λ j b lt at. fine j b lt at in
-    none_broken (config_of s.area maxes []) s.bots
-    (subst (λ (n : ℕ). AreFine (config_of s.area maxes []) (map written_amoebot s.bots) n) size
-    (subst (λ (cs : List Bot). AreFine (config_of s.area maxes []) cs (length bs)) (sym bots)
-    (subst (λ (x : Config). AreFine x bs (length bs)) same here)))
+    let here : AreFine (frame c) bs (length bs) = λ j b lt at. fine j b lt at in
+    none_broken (shape_frame maxes s) s.bots
+    (subst (λ (n : ℕ). AreFine (shape_frame maxes s) (map written_amoebot s.bots) n) size
+    (subst (λ (cs : List Bot). AreFine (shape_frame maxes s) cs (length bs)) (sym bots)
+    (subst (λ (x : Config). AreFine x bs (length bs)) (sym framed) here)))
 
 pub judged_as_worlds : JudgedAsWorlds
 judged_as_worlds = record {
-  fine = λ maxes s fine. faultless_fits s.area maxes (map written_amoebot s.bots) (subst (λ (n : ℕ). IsFaultless s.area maxes (map written_amoebot s.bots) n) (sym (length-map s.bots written_amoebot)) fine) s refl refl;
+  fine = λ maxes s fine. faultless_fits maxes (shape_frame maxes s) (map written_amoebot s.bots) (subst (λ (n : ℕ). IsFaultless (shape_frame maxes s) (map written_amoebot s.bots) n) (sym (length-map s.bots written_amoebot)) fine) s refl refl;
   first = λ maxes s e f w k at kind.
       let there : Some f.bot ≡ Some w.bot = sym f.there ∙ slice_get-map written_amoebot s.bots f.place ∙ ap (option_map written_amoebot) at in
       let same : f.bot ≡ w.bot = cc in
-      let fault : bot_fault (config_of s.area maxes (take f.place (map written_amoebot s.bots))) w.bot ≡ Some e = ap (bot_fault (config_of s.area maxes (take f.place (map written_amoebot s.bots)))) (sym same) ∙ f.fault in
-      one_broken (config_of s.area maxes []) s.bots f.place w (on_line w.line k) at (λ j b lt seen. f.before j b lt seen) (breaks_it (config_of s.area maxes (take f.place (map written_amoebot s.bots))) w e k fault kind);
+      let was = with_these (shape_frame maxes s) (take f.place (map written_amoebot s.bots)) in
+      let fault : bot_fault was w.bot ≡ Some e = ap (bot_fault was) (sym same) ∙ f.fault in
+      one_broken (shape_frame maxes s) s.bots f.place w (on_line w.line k) at (λ j b lt seen. f.before j b lt seen) (breaks_it was w e k fault kind);
 }
 
 -- ---- amoebots of which none breaks a rule
@@ -225,7 +225,7 @@ all_fine c (w ∷ ws) none (suc j) b lt at =
     ap (λ (x : Config). bot_fault x b) (sym (with_more c w.bot (take j (map written_amoebot ws)))) ∙ all_fine (with_bot c w.bot) ws both.1 j b (omega arith) at
 
 -- a shape without a fault is one of which a world refuses nothing
-pub unrefused : (maxes : List ℕ) (s : WrittenShape) → shape_fault maxes s ≡ None → IsFaultless s.area maxes (map written_amoebot s.bots) (length (map written_amoebot s.bots))
+pub unrefused : (maxes : List ℕ) (s : WrittenShape) → shape_fault maxes s ≡ None → IsFaultless (shape_frame maxes s) (map written_amoebot s.bots) (length (map written_amoebot s.bots))
 unrefused maxes s none j b lt at =
     let size : length (map written_amoebot s.bots) ≡ length s.bots = length-map s.bots written_amoebot in
-    all_fine (config_of s.area maxes []) s.bots none j b (omega arith) at
+    all_fine (shape_frame maxes s) s.bots none j b (omega arith) at

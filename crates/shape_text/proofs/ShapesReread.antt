@@ -17,7 +17,7 @@ use Rattle.text_tokens.specs.Reading.{lexeme_value}
 use Rattle.text_tokens.specs.Grammar.{Lang, Closed, Judged, no_more}
 use Rattle.text_tokens.proofs.PrintedTokens.{word_is_token}
 use Rattle.amoebot_state.specs.declared.bot.Bot.{Bot}
-use Rattle.amoebot_state.specs.Configs.{Config, config_of, IsValid, bot_at}
+use Rattle.amoebot_state.specs.Configs.{Config, frame, frame_of, with_these, IsValid, bot_at}
 use Rattle.amoebot_state.specs.Limits.{most_bots}
 use Rattle.amoebot_state.proofs.Faults.{valid_is_faultless}
 use Rattle.node_text.specs.Parts.{is_end, one_more, IsWord}
@@ -27,7 +27,7 @@ use Rattle.text_tokens.proofs.LinesLemmas.{Is, Any, Rereads, RereadsLines, rerea
 use Rattle.text_tokens.proofs.StepsLemmas.{not_past}
 use Rattle.text_tokens.proofs.SaysLemmas.{lines_say}
 use Rattle.node_text.proofs.PartsReread.{the_word, an_int, a_bot}
-use Rattle.shape_text.specs.Shapes.{outside, IsSide, an_area_of, IsAreaLine, WrittenBot, written_bot, written_amoebot, IsBotWord, IsBotLine, AreBots, WrittenShape, written_shape, shape_fault, stands_for, IsShapeUnder}
+use Rattle.shape_text.specs.Shapes.{outside, IsSide, an_area_of, IsAreaLine, WrittenBot, written_bot, written_amoebot, IsBotWord, IsBotLine, AreBots, WrittenShape, written_shape, shape_frame, shape_fault, stands_for, IsShapeUnder}
 use Rattle.shape_text.specs.Texts.{area_words, bot_line, present, shape_text}
 use Rattle.shape_text.specs.Rereading.{IsWritableConfig, ShapesReadBack}
 use Rattle.shape_text.proofs.JudgementsLemmas.{faultless_fits}
@@ -86,32 +86,35 @@ module _ (vars : ℕ) (le : vars ≤ 8) where
 lines_judged : {A : Type 0} {P : Lang A} {R : A → Type 0} (judge : A → Option Refusal) (lines : List Words) → ((a : A) → R a → judge a ≡ None) → RereadsLines P R lines → RereadsLines (Judged P judge) R lines
 lines_judged judge lines none p = record { spelled = p.spelled; printed = p.printed; read = λ ts s. found_judged judge none ts (p.read ts s) }
 
-module _ (vars : ℕ) (le : vars ≤ 8) (a : Extent) (maxes : List ℕ) (bs : List Bot) (valid : IsValid (config_of a maxes bs)) (few : length bs ≤ most_bots) (limits : All (HasLimits vars) bs) where
+module _ (vars : ℕ) (le : vars ≤ 8) (c : Config) (bs : List Bot) (valid : IsValid (with_these c bs)) (few : length bs ≤ most_bots) (limits : All (HasLimits vars) bs) where
   abbrev IsThis : WrittenShape → Type 0
-  IsThis s = (s.area ≡ a) × (map written_amoebot s.bots ≡ bs)
+  IsThis s = (s.area ≡ c.area) × (map written_amoebot s.bots ≡ bs)
 
   abbrev the_lines : List Words
-  the_lines = area_words a ∷ map (bot_line vars) bs
+  the_lines = area_words c.area ∷ map (bot_line vars) bs
 
   drawing : RereadsLines (Drawing vars) IsThis the_lines
-  drawing = lines_then (area_words a ∷ []) (map (bot_line vars) bs) a (reread_line (area_words a) (the_area a valid.area)) (lines_made (λ bots. written_shape a bots) (map (bot_line vars) bs) (λ ws e. (refl, e)) (the_bots vars le 0 bs (omega (arith, few)) limits))
+  drawing = lines_then (area_words c.area ∷ []) (map (bot_line vars) bs) c.area (reread_line (area_words c.area) (the_area c.area valid.area)) (lines_made (λ bots. written_shape c.area bots) (map (bot_line vars) bs) (λ ws e. (refl, e)) (the_bots vars le 0 bs (omega (arith, few)) limits))
 
   closed_drawing : RereadsLines (Closed (Drawing vars) is_end) IsThis (the_lines ++ (codes "end" ∷ []) ∷ [])
   closed_drawing =
       let last = reread_line (codes "end" ∷ []) (rereads_the Word (codes "end") (word_is_token _ _ refl refl (omega arith)) refl refl) in
       lines_behind_line the_lines ((codes "end" ∷ []) ∷ []) drawing last.spelled last.printed (λ s is ts e. found_made (λ line. s) (λ line x. is) ts (last.read ts e))
 
-  fine : (s : WrittenShape) → IsThis s → shape_fault maxes s ≡ None
-  fine s is = faultless_fits a maxes bs (valid_is_faultless a maxes bs valid) s is.0 is.1
+  framed : (s : WrittenShape) → IsThis s → shape_frame c.maxes s ≡ frame c
+  framed s is = ap (λ (x : Extent). frame_of x c.maxes) is.0
 
-  same : (s : WrittenShape) → IsThis s → stands_for maxes s ≡ config_of a maxes bs
-  same s is = ap (λ (x : Extent). config_of x maxes (map written_amoebot s.bots)) is.0 ∙ ap (config_of a maxes) is.1
+  fine : (s : WrittenShape) → IsThis s → shape_fault c.maxes s ≡ None
+  fine s is = faultless_fits c.maxes c bs (valid_is_faultless c bs valid) s (framed s is) is.1
+
+  same : (s : WrittenShape) → IsThis s → stands_for c.maxes s ≡ with_these c bs
+  same s is = ap (λ (x : Config). with_these x (map written_amoebot s.bots)) (framed s is) ∙ ap (with_these c) is.1
 
   -- in a section with this word
-  pub shape_lines : (text : List ℕ) → Rereads (IsWord text) Any (text ∷ []) → RereadsLines (IsShapeUnder text vars maxes) (Is (config_of a maxes bs)) ((text ∷ []) ∷ the_lines ++ (codes "end" ∷ []) ∷ [])
+  pub shape_lines : (text : List ℕ) → Rereads (IsWord text) Any (text ∷ []) → RereadsLines (IsShapeUnder text vars c.maxes) (Is (with_these c bs)) ((text ∷ []) ∷ the_lines ++ (codes "end" ∷ []) ∷ [])
   shape_lines text first =
       let all = (text ∷ []) ∷ the_lines ++ (codes "end" ∷ []) ∷ [] in
-      lines_made (stands_for maxes) all same (lines_judged (shape_fault maxes) all fine (lines_next ((text ∷ []) ∷ []) (the_lines ++ (codes "end" ∷ []) ∷ []) (reread_line (text ∷ []) first) closed_drawing))
+      lines_made (stands_for c.maxes) all same (lines_judged (shape_fault c.maxes) all fine (lines_next ((text ∷ []) ∷ []) (the_lines ++ (codes "end" ∷ []) ∷ []) (reread_line (text ∷ []) first) closed_drawing))
 
 -- ---- worlds
 
@@ -128,8 +131,8 @@ module _ (vars : ℕ) (c : Config) (w : IsWritableConfig vars c) where
   all : map Some bots ≡ c.bots
   all = all_present c.bots w.no_gaps
 
-  is : config_of c.area c.maxes bots ≡ c
-  is = ap (λ (os : List (Option Bot)). record { area = c.area; maxes = c.maxes; bots = os }) all
+  is : with_these c bots ≡ c
+  is = ap (λ (os : List (Option Bot)). record c { bots = os }) all
 
   limits_of : (k : ℕ) (b : Bot) → bot_at c k ≡ Some b → HasLimits vars b
   limits_of k b at =
@@ -151,7 +154,7 @@ module _ (vars : ℕ) (c : Config) (w : IsWritableConfig vars c) where
 
   pub config_lines : vars ≤ 8 → (text : List ℕ) → Rereads (IsWord text) Any (text ∷ []) → RereadsLines (IsShapeUnder text vars c.maxes) (Is c) ((text ∷ []) ∷ (area_words c.area ∷ map (bot_line vars) bots) ++ (codes "end" ∷ []) ∷ [])
   config_lines le text first = subst (λ (x : Config). RereadsLines (IsShapeUnder text vars c.maxes) (Is x) ((text ∷ []) ∷ (area_words c.area ∷ map (bot_line vars) bots) ++ (codes "end" ∷ []) ∷ [])) is
-      (shape_lines vars le c.area c.maxes bots (subst IsValid (sym is) w.valid) few limits text first)
+      (shape_lines vars le c bots (subst IsValid (sym is) w.valid) few limits text first)
 
   says_it : vars ≤ 8 → (text : List ℕ) → Rereads (IsWord text) Any (text ∷ []) → Says (IsShapeUnder text vars c.maxes) (shape_text text vars c) (Ok c)
   says_it le text first = lines_say (IsShapeUnder text vars c.maxes) c ((text ∷ []) ∷ (area_words c.area ∷ map (bot_line vars) bots) ++ (codes "end" ∷ []) ∷ []) (config_lines le text first)

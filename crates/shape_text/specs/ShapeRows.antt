@@ -7,7 +7,7 @@ use Rattle.text_tokens.specs.Cursor.{on_line}
 use Rattle.amoebot_state.specs.declared.bot.Bot.{Bot}
 use Rattle.amoebot_state.specs.declared.bot.Chir.{Chir}
 use Rattle.amoebot_state.specs.declared.bot.Chir.TheVariants.{Plus, Minus}
-use Rattle.amoebot_state.specs.Configs.{config_of}
+use Rattle.amoebot_state.specs.Configs.{frame_of, with_these}
 use Rattle.amoebot_state.specs.Examples.{eight_by_eight, zeros}
 use Rattle.node_text.specs.Parts.{a_node_of, a_bot_of}
 use Rattle.text_tokens.specs.Inputs.{Says}
@@ -26,7 +26,7 @@ shape_bot hx hy tx ty rot chir values = a_bot_of (a_node_of hx hy) (a_node_of tx
 
 -- a shape with this area and these amoebots
 abbrev pub YieldsShape : List ℕ → Extent → List Bot → Type 0
-YieldsShape text area bots = Says (IsShape 1 up_to_3) text (Ok (config_of area up_to_3 bots))
+YieldsShape text area bots = Says (IsShape 1 up_to_3) text (Ok (with_these (frame_of area up_to_3) bots))
 
 -- a text with this first fault
 abbrev pub FailsAsShape : List ℕ → ℕ → RefusalKind → Type 0
@@ -54,11 +54,11 @@ pub record ShapesAreRead : Type 0 where
       (shape_bot (pos 4096) (negsuc 3968) (pos 4096) (negsuc 3968) 0 Plus (0 ∷ []) ∷ [])
   -- no variable, and eight
   pub no_value : Says (IsShape 0 zeros) (codes "shape area 0 0 8 8 bot 2 3 2 3 0 + end")
-      (Ok (config_of eight_by_eight zeros (shape_bot (pos 2) (pos 3) (pos 2) (pos 3) 0 Plus [] ∷ [])))
+      (Ok (with_these (frame_of eight_by_eight zeros) (shape_bot (pos 2) (pos 3) (pos 2) (pos 3) 0 Plus [] ∷ [])))
   pub eight_values : Says (IsShape 8 rising) (codes "shape area 0 0 8 8 bot 2 3 2 3 0 + 1 2 3 4 5 6 7 255 end")
-      (Ok (config_of eight_by_eight rising (shape_bot (pos 2) (pos 3) (pos 2) (pos 3) 0 Plus rising ∷ [])))
+      (Ok (with_these (frame_of eight_by_eight rising) (shape_bot (pos 2) (pos 3) (pos 2) (pos 3) 0 Plus rising ∷ [])))
   pub last_shape : Says (IsFinal 1 up_to_3) (codes "final area 0 0 8 8 bot 2 3 2 3 0 + 1 end")
-      (Ok (config_of eight_by_eight up_to_3 (shape_bot (pos 2) (pos 3) (pos 2) (pos 3) 0 Plus (1 ∷ []) ∷ [])))
+      (Ok (with_these (frame_of eight_by_eight up_to_3) (shape_bot (pos 2) (pos 3) (pos 2) (pos 3) 0 Plus (1 ∷ []) ∷ [])))
   -- the last amoebot that a shape may have
   pub last_amoebot : Says (AreBots 0 4095) (codes "bot 0 0 0 0 0 +")
       (Ok (written_bot 1 (shape_bot (pos 0) (pos 0) (pos 0) (pos 0) 0 Plus []) ∷ []))

@@ -20,7 +20,7 @@ use Rattle.text_tokens.specs.Grammar.{Lang, IsOne, Then, Made, IsNumeral, Closed
 use Rattle.amoebot_state.specs.declared.bot.Bot.{Bot}
 use Rattle.amoebot_state.specs.declared.refusal.WorldRefusal.{WorldRefusal}
 use Rattle.amoebot_state.specs.declared.refusal.WorldRefusal.TheVariants as world
-use Rattle.amoebot_state.specs.Configs.{Config, config_of, with_bot}
+use Rattle.amoebot_state.specs.Configs.{Config, frame_of, with_these, with_bot}
 use Rattle.amoebot_state.specs.Limits.{most_bots}
 use Rattle.amoebot_state.specs.Refusals.{bot_fault}
 use Rattle.node_text.specs.Parts.{word, is_end, past_most, one_more, IsWord, IsInt, IsBotText}
@@ -108,13 +108,16 @@ IsWrittenShape text vars =
     Then (IsWord text)
     (λ line. Closed (Then IsAreaLine (λ area. Made (AreBots vars 0) (λ bots. written_shape area bots))) is_end)
 
--- with these maxima of the variables: what is wrong with it, and the configuration that it stands for
+-- with these maxima of the variables: its frame, what is wrong with it, and the configuration that it stands for
 module _ (maxes : List ℕ) where
+  abbrev pub shape_frame : WrittenShape → Config
+  shape_frame s = frame_of s.area maxes
+
   abbrev pub shape_fault : WrittenShape → Option Refusal
-  shape_fault s = first_broken (config_of s.area maxes []) s.bots
+  shape_fault s = first_broken (shape_frame s) s.bots
 
   abbrev pub stands_for : WrittenShape → Config
-  stands_for s = config_of s.area maxes (map written_amoebot s.bots)
+  stands_for s = with_these (shape_frame s) (map written_amoebot s.bots)
 
 -- a shape under this word, with the values of so many variables, and these maxima of all eight
 abbrev pub IsShapeUnder : List ℕ → ℕ → List ℕ → Lang Config

@@ -7,8 +7,7 @@ use Rattle.std.proofs.lemmas.List.Elements.{All-nil, All-cons}
 use Rattle.tri_lattice.specs.Extent.{IsArea}
 use Rattle.amoebot_state.specs.declared.cell.CellName.TheVariants as name
 use Rattle.amoebot_state.specs.Configs.{Config, IsValid, bot_at}
-use Rattle.amoebot_state.specs.Examples.{zeros}
-use Rattle.amoebot_state.proofs.Faults.{valid_two}
+use Rattle.amoebot_state.proofs.Faults.{frame_valid, valid_two}
 use Rattle.amoebot_state.proofs.Occupants.{plain_in}
 use Rattle.model_ops.proofs.ExpansionLaws.{expansion_touches_zone, expansion_has_next}
 use Rattle.claim_core.specs.declared.marks.Mark.TheVariants as mark
@@ -20,7 +19,7 @@ use Rattle.claim_core.specs.Soundness.{IsSetup}
 use Rattle.claim_core.specs.Good.{Good}
 use Rattle.claim_core.specs.Reached.{HaveEnded, IsReportOf, Reached}
 use Rattle.claim_core.proofs.Ends.{reached_is_good}
-use Rattle.small_worlds.specs.Rows.{row_area, node, bot_in_row, to_the_right, two_beside, interleaving, one_refused, SmallInterleaving}
+use Rattle.small_worlds.specs.Rows.{row_area, row_frame, node, bot_in_row, to_the_right, two_beside, interleaving, one_refused, SmallInterleaving}
 
 pub is_area : IsArea row_area
 is_area = record {
@@ -35,7 +34,7 @@ is_area = record {
 }
 
 pub valid : IsValid two_beside.world
-valid = valid_two row_area zeros is_area refl (bot_in_row 0 0) (bot_in_row 1 1) (plain_in row_area is_area (bot_in_row 0 0) refl refl (omega arith) refl) (plain_in row_area is_area (bot_in_row 1 1) refl refl (omega arith) refl) refl refl
+valid = valid_two row_frame (frame_valid row_frame is_area refl) (bot_in_row 0 0) (bot_in_row 1 1) (plain_in row_area is_area (bot_in_row 0 0) refl refl (omega arith) refl) (plain_in row_area is_area (bot_in_row 1 1) refl refl (omega arith) refl) refl refl
 
 pub one_id : (i : ℕ) → IsList (i ∷ [])
 one_id i = record { some = omega arith; few = omega arith }

@@ -20,7 +20,7 @@ use Rattle.amoebot_state.specs.declared.verdict.Moved.TheVariants as moved
 use Rattle.amoebot_state.specs.declared.verdict.Verdict.{Verdict}
 use Rattle.amoebot_state.specs.declared.verdict.Verdict.TheVariants as verdict
 use Rattle.amoebot_state.specs.Pairs.{Pairs, cell_of, cell_value}
-use Rattle.amoebot_state.specs.Configs.{Config, IsValid, IsBot, bot_at, covers, value, set_bot, has_values}
+use Rattle.amoebot_state.specs.Configs.{Config, IsValid, IsBot, frame, bot_at, covers, value, set_bot, has_values}
 use Rattle.amoebot_state.specs.Zones.{Shown, zone, shown_alone}
 use Rattle.amoebot_state.specs.Patches.{IsPatched, HasPatched, IsOrdered}
 use Rattle.amoebot_state.specs.Steps.{DecidesChange, TouchesZone, HasPatchedWorld, ListsDifferences}
@@ -99,7 +99,7 @@ module _ (c : Config) (i : ℕ) (b : Bot) (m : Marking c i b) where
     each = λ j a e. elim (cases_eq j i) [
       | inl same ↦
           let was = m.valid.each i b m.there in
-          subst (IsBot c.area c.maxes) (same_Some _ _ (sym at_own ∙ ap (bot_at (after c i b)) (sym same) ∙ e))
+          subst (IsBot (frame c)) (same_Some _ _ (sym at_own ∙ ap (bot_at (after c i b)) (sym same) ∙ e))
           (record {
             head = was.head;
             tail = was.tail;

@@ -11,7 +11,7 @@ use Rattle.amoebot_state.specs.declared.cell.CellName.TheVariants as name
 use Rattle.amoebot_state.specs.declared.cell.Cell.TheVariants as cell
 use Rattle.amoebot_state.specs.declared.verdict.Entry.{Entry}
 use Rattle.amoebot_state.specs.declared.verdict.Moved.TheVariants as moved
-use Rattle.amoebot_state.specs.Configs.{Config, config_of}
+use Rattle.amoebot_state.specs.Configs.{Config, frame_of, with_these}
 use Rattle.amoebot_state.specs.Examples.{zeros}
 use Rattle.model_ops.specs.Expansion.{expansion_verdict_shown}
 use Rattle.claim_core.specs.declared.marks.Mark.TheVariants as mark
@@ -29,9 +29,13 @@ node x = record { x = pos x; y = pos 0 }
 abbrev pub bot_in_row : ℕ → ℕ → Bot
 bot_in_row head tail = record { head = node head; tail = node tail; rot = 0; chir = Plus; mem = zeros }
 
+-- the row without an amoebot
+abbrev pub row_frame : Config
+row_frame = frame_of row_area zeros
+
 -- two amoebots, of which the first is contracted on the first node
 abbrev pub row_with : Bot → Config
-row_with second = config_of row_area zeros (bot_in_row 0 0 ∷ second ∷ [])
+row_with second = with_these row_frame (bot_in_row 0 0 ∷ second ∷ [])
 
 abbrev pub to_the_right : Port
 to_the_right = record { end = Head; dir = 0 }

@@ -1,6 +1,6 @@
 use Rattle.std.proofs.Common.{◌∙◌, ap, sym}
 use Rattle.tri_lattice.specs.Extent.{Extent}
-use Rattle.amoebot_state.specs.Configs.{Config, bare_of}
+use Rattle.amoebot_state.specs.Configs.{Config, frame_of}
 use Rattle.amoebot_state.specs.Zones.{Shown, shown_with, shown}
 use Rattle.amoebot_state.proofs.ExampleLemmas.{edge, first}
 use Rattle.amoebot_state.proofs.tests.a_neighbourhood_is_made_of_its_cells.Goals as goal
@@ -8,7 +8,7 @@ use Rattle.amoebot_state.proofs.tests.a_neighbourhood_is_made_of_its_cells.Goals
 pub make-found-requires : goal.make-found-requires
 make-found-requires g c =
     let is = c.in_ok-world.ensures in
-    let within : Extent → Shown = λ a. shown_with (bare_of a (first 1)) 0 (shown edge 0).cells in (
+    let within : Extent → Shown = λ a. shown_with (frame_of a (first 1)) 0 (shown edge 0).cells in (
       c.in_ok-world.world,
       c.found.ensures.valid,
       c.found.ensures.there,

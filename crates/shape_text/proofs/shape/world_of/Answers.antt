@@ -7,7 +7,7 @@ use Rattle.tri_lattice.specs.Extent.{Extent}
 use Rattle.amoebot_state.specs.declared.bot.Bot.{Bot}
 use Rattle.amoebot_state.specs.declared.refusal.WorldRefusal.{WorldRefusal}
 use Rattle.amoebot_state.specs.declared.refusal.WorldRefusal.TheVariants as world
-use Rattle.amoebot_state.specs.Configs.{config_of}
+use Rattle.amoebot_state.specs.Configs.{frame_of, with_these}
 use Rattle.amoebot_state.specs.Refusals.{IsBotInRange, IsFaultless, IsFirstFault}
 use Rattle.shape_text.specs.declared.shape.WrittenBot.{WrittenBot}
 use Rattle.shape_text.specs.Shapes.{written_shape}
@@ -16,21 +16,21 @@ use Rattle.shape_text.proofs.JudgementsLemmas.{same_bots, plain_bots, is_faultle
 use Rattle.shape_text.proofs.shape.world_of.Goals as goal
 
 module _ (a : Extent) (maxes : List ℕ) (ws : List WrittenBot) (bots : List Bot) (are : bots ≡ map its_bot ws) where
-  named : (e : WorldRefusal) → (e ≡ world.NoMemory) ⊎ IsFirstFault a maxes bots e → IfSome (view.blamed_bot e) (λ b. b.0 < length ws)
+  named : (e : WorldRefusal) → (e ≡ world.NoMemory) ⊎ IsFirstFault (frame_of a maxes) bots e → IfSome (view.blamed_bot e) (λ b. b.0 < length ws)
   named e (inl none) = rw none tt
   named e (inr f) =
-      let r = refusing a maxes ws e (subst (λ (bs : List Bot). IsFirstFault a maxes bs e) are f) in
+      let r = refusing (frame_of a maxes) ws e (subst (λ (bs : List Bot). IsFirstFault (frame_of a maxes) bs e) are f) in
       rw r.names r.inside
 
-  refused_as : (e : WorldRefusal) (result : ReadRefusal) → (e ≡ world.NoMemory) ⊎ IsFirstFault a maxes bots e → view.BlamedAs ws (view.blamed_bot e) result → view.IsJudged maxes (written_shape a (map view.bot_view ws)) (Err result)
+  refused_as : (e : WorldRefusal) (result : ReadRefusal) → (e ≡ world.NoMemory) ⊎ IsFirstFault (frame_of a maxes) bots e → view.BlamedAs ws (view.blamed_bot e) result → view.IsJudged maxes (written_shape a (map view.bot_view ws)) (Err result)
   refused_as e result (inl none) as_blamed = rw ((rw none at as_blamed)) tt
   refused_as e result (inr f) as_blamed =
-      let r = refusing a maxes ws e (subst (λ (bs : List Bot). IsFirstFault a maxes bs e) are f) in
+      let r = refusing (frame_of a maxes) ws e (subst (λ (bs : List Bot). IsFirstFault (frame_of a maxes) bs e) are f) in
       let is : result ≡ Refused (on_line r.one.line r.kind) = (rw r.names at as_blamed) r.one r.there in
       rw is r.first
 
-  fine : IsFaultless a maxes bots (length bots) → view.IsJudged maxes (written_shape a (map view.bot_view ws)) (Ok (config_of a maxes bots))
-  fine faultless = (is_faultless a maxes ws (subst (λ (bs : List Bot). IsFaultless a maxes bs (length bs)) are faultless), ap (config_of a maxes) (are ∙ sym (same_bots ws)))
+  fine : IsFaultless (frame_of a maxes) bots (length bots) → view.IsJudged maxes (written_shape a (map view.bot_view ws)) (Ok (with_these (frame_of a maxes) bots))
+  fine faultless = (is_faultless (frame_of a maxes) ws (subst (λ (bs : List Bot). IsFaultless (frame_of a maxes) bs (length bs)) are faultless), ap (with_these (frame_of a maxes)) (are ∙ sym (same_bots ws)))
 
 pub new-requires-clause-plain : goal.new-requires-clause-plain
 new-requires-clause-plain c = subst (λ (bs : List Bot). All IsBotInRange bs) (sym (c.as_slice-2.ensures.value ∙ c.in_ok-bots.ensures.value ∙ ap (map its_bot) c.as_slice.ensures.value)) (plain_bots c.args.written.now.bots.items c.requires.plain)

@@ -2,7 +2,7 @@ use Rattle.std.proofs.Common.{◌≡◌, ◌++◌, ◌∷◌, [], refl, sym, ap,
 use Rattle.std.proofs.Math.ListN.{length-set}
 use Rattle.std.proofs.lemmas.Option.{none-some, same_Some}
 use Rattle.tri_lattice.specs.Extent.{Extent}
-use Rattle.amoebot_state.specs.Configs.{bare_of}
+use Rattle.amoebot_state.specs.Configs.{frame_of}
 use Rattle.amoebot_state.specs.Pairs.{Pairs}
 use Rattle.amoebot_state.specs.Known.{known_zone, next_cell}
 use Rattle.amoebot_state.specs.Zones.{Shown, IsShown, shown_with}
@@ -15,7 +15,7 @@ use Rattle.claim_core.proofs.MachineLemmas.{closes, kept, known as is_listed, lo
 use Rattle.claim_core.proofs.machine.Core.claim.Goals as goal
 
 abbrev the_shown : Extent → List ℕ → ℕ → Pairs → Shown
-the_shown a m b cells = shown_with (bare_of a m) b cells
+the_shown a m b cells = shown_with (frame_of a m) b cells
 
 pub index_mut-seat-requires : goal.index_mut-seat-requires
 index_mut-seat-requires g c = omega (arith, inside_in c.self.invariant c.self.view_is refl c.args.caller phase.Claim c.requires, c.from.ensures, c.self.inside.seats.ok.0)

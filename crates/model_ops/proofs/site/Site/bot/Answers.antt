@@ -1,6 +1,6 @@
 use Rattle.std.proofs.Common.{◌∙◌, ap, sym, get_or, List, Some, nat_eq}
 use Rattle.std.specs.List.{position}
-use Rattle.amoebot_state.specs.Configs.{bot_at}
+use Rattle.amoebot_state.specs.Configs.{bot_at, frame_of}
 use Rattle.model_ops.specs.declared.member.Member.{Member}
 use Rattle.model_ops.specs.Members.{has_id}
 use Rattle.model_ops.specs.WorkingCopies.{WorkingCopy}
@@ -10,14 +10,16 @@ use Rattle.model_ops.proofs.site.Site.bot.Goals as goal
 pub place_of-place-requires : goal.place_of-place-requires
 place_of-place-requires c =
     let s = c.self.inside in
-    ap (λ (ms : List Member). has_id ms c.args.id) c.as_slice.ensures.value ∙ member_there s.area s.maxes s.own s.members.items _ c.args.id c.self.view_is c.requires
+    let frame = frame_of s.area s.maxes in
+    ap (λ (ms : List Member). has_id ms c.args.id) c.as_slice.ensures.value ∙ member_there frame s.own s.members.items _ c.args.id c.self.view_is c.requires
 
 pub returns-clause-value : goal.returns-clause-value
 returns-clause-value c =
     let s = c.self.inside in
+    let frame = frame_of s.area s.maxes in
     let ms = s.members.items in
     let k = c.place_of-place.result in
     let placed = ap (λ (xs : List Member). position (λ m. nat_eq m.id c.args.id) xs) (sym c.as_slice.ensures.value) ∙ c.place_of-place.ensures in
     ap (λ (w : WorkingCopy). bot_at w.reached c.args.id) (sym c.self.view_is)
-    ∙ bot_placed (λ (m : Member). m.now) s.area s.maxes ms c.args.id k _ placed
+    ∙ bot_placed (λ (m : Member). m.now) frame ms c.args.id k _ placed
     ∙ ap (λ (xs : List Member). Some (get_or {A = Member} xs k _).now) (sym c.deref.ensures.0)
