@@ -46,7 +46,7 @@ fn check_each_read<R: Abort + Threads + Wait + Sync>(
 ) -> Result<(), Fail> {
     let document = joined(alloc, row.1)?;
     let text = joined(alloc, row.4)?;
-    let reads = calls_for(document.len()) + 1;
+    let reads = calls_for(document.len()).saturating_add(1);
     for failing in 0..reads {
         let fault = "read fault\n";
         check_read(
@@ -93,7 +93,8 @@ fn check_write<R: Abort + Threads + Wait + Sync>(
     Ok(())
 }
 
-/// Each write of the row's text fails in turn: then ten bytes of it are there for each write before. The write behind the last is never made.
+/// Each write of the row's text fails in turn: then ten bytes of it are there for each write before.
+/// The write behind the last is never made.
 fn check_each_write<R: Abort + Threads + Wait + Sync>(
     rt: &R,
     alloc: Global,
