@@ -4,7 +4,11 @@
 #[cfg(test)]
 mod commands;
 #[cfg(test)]
+mod failing;
+#[cfg(test)]
 mod faults;
+#[cfg(test)]
+mod fronts;
 #[cfg(test)]
 mod gates;
 #[cfg(test)]
@@ -15,5 +19,7 @@ mod pieces;
 mod reports;
 #[cfg(test)]
 mod runs;
+#[cfg(test)]
+mod tampered;
 #[cfg(test)]
 mod tests;

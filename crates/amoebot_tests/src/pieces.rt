@@ -1,6 +1,6 @@
 //! Pieces of documents and of what is written of them, and what the rows of the tables hold.
 
-use amoebot_run::Status;
+use amoebot_run::Status::{self, Done};
 use text_tokens::RefusalKind;
 
 /// The word of a command, its document in pieces, the status, how many entries the report has, and the text in pieces.
@@ -107,3 +107,16 @@ pub const DRAGGED_EXCHANGED: &str = "journal\n\
     end\n";
 
 pub const DRAGGED_FINAL: &str = "final\narea 0 0 8 8\nbot 3 3 3 3 0 + 0\nbot 2 3 1 3 0 + 1\nend\n";
+
+/// The worked example: an amoebot expands, and then it is idle.
+pub const WORKED: Row = (
+    "run",
+    &[OUT, ONE, TWO_TURNS],
+    Done,
+    Some(1),
+    &[
+        EXPANDED,
+        "final\narea 0 0 8 8\nbot 3 3 2 3 0 +\nend\n",
+        "turns\nturn 0 0 done 0\nturn 0 1 idle 1\nend\n",
+    ],
+);

@@ -2,24 +2,13 @@
 
 use crate::pieces::{
     DONE, EXPANDED, GUARDED, MARK, NO_ENTRY, ONE, ONE_EACH, ONE_TURN, OUT, PULL, PULLED, PUSH, Row,
-    TRAILED, TWO, TWO_TURNS, UNGUARDED,
+    TRAILED, TWO, TWO_TURNS, UNGUARDED, WORKED,
 };
 use amoebot_run::Status::Done;
 
 /// Runs whose text is decided: of at most one list, and of two lists that never meet and change nothing. Some turns fail.
 pub static RUNS: [Row; 14] = [
-    // An amoebot expands, and then it is idle.
-    (
-        "run",
-        &[OUT, ONE, TWO_TURNS],
-        Done,
-        Some(1),
-        &[
-            EXPANDED,
-            "final\narea 0 0 8 8\nbot 3 3 2 3 0 +\nend\n",
-            "turns\nturn 0 0 done 0\nturn 0 1 idle 1\nend\n",
-        ],
-    ),
+    WORKED,
     // There is no list.
     (
         "run",

@@ -1,6 +1,7 @@
 ghost use Rattle.std.specs.declared.option.Option.{Option};
 
 use crate::commands::{COMPARED_AND_CHECKED, INTERLEAVINGS, MEASURED, NO_COMMANDS, SHOWN};
+use crate::failing::{is_unread, unread};
 use crate::faults::FAULTS;
 use crate::meetings::TWO_APART;
 use crate::pieces::{Fault, Row};
@@ -65,7 +66,7 @@ pub(crate) fn check<R: Abort + Threads + Wait + Sync>(
 }
 
 /// The word of each row does what the row says.
-fn check_rows<R: Abort + Threads + Wait + Sync>(
+pub(crate) fn check_rows<R: Abort + Threads + Wait + Sync>(
     rt: &R,
     alloc: Global,
     rows: &[Row],
@@ -87,7 +88,7 @@ fn check_rows<R: Abort + Threads + Wait + Sync>(
 }
 
 /// The word of each row refuses the document as the row says.
-fn check_faults<R: Abort + Threads + Wait + Sync>(
+pub(crate) fn check_faults<R: Abort + Threads + Wait + Sync>(
     rt: &R,
     alloc: Global,
     faults: &[Fault],
@@ -104,7 +105,7 @@ fn check_faults<R: Abort + Threads + Wait + Sync>(
 }
 
 /// Calls `run` with the words.
-fn call<R: Threads + Wait + Sync, S: Source, K: Sink>(
+pub(crate) fn call<R: Threads + Wait + Sync, S: Source, K: Sink>(
     rt: &R,
     alloc: Global,
     texts: &[&str],
@@ -209,7 +210,7 @@ fn looks_at_no_document_above_the_limit(rt: HostRuntime) -> Result<(), Fail> {
     Ok(())
 }
 
-/// A source of comments, which fails after so many reads.
+/// A source of comments, which fails after so many reads. It tells nothing of its calls.
 #[derive(Drop)]
 struct FailingSource {
     good: u32,
@@ -234,33 +235,7 @@ impl Source for FailingSource {
     }
 }
 
-/// A source of a document, of which each read behind the one that told the end fails.
-#[derive(Drop)]
-struct EndingSource {
-    source: SureSource,
-    ended: bool,
-    faults: u64,
-}
-
-impl Source for EndingSource {
-    ghost use Rattle.std.specs.declared.option.Option.TheVariants.{None};
-
-    ghost left = { λ _. None };
-
-    ghost faults = { λ source. source.faults };
-
-    fn read(&mut self, piece: &mut [u8]) -> Result<usize, Failed> {
-        if self.ended {
-            self.faults = self.faults.saturating_add(1);
-            return Err(Failed);
-        }
-        let count = self.source.read(piece)?;
-        self.ended = count == 0;
-        Ok(count)
-    }
-}
-
-/// A sink that takes ten bytes at a time, and fails after so many writes.
+/// A sink that takes ten bytes at a time, and fails after so many writes. It tells nothing of its calls.
 #[derive(Drop)]
 struct FailingSink {
     good: u32,
@@ -291,9 +266,9 @@ impl Sink for FailingSink {
 fn judges_the_words_before_it_reads(rt: HostRuntime) -> Result<(), Fail> {
     let usage = "usage: run / interleave / replay / check / measure / show NAME / sample NUMBER\n";
     for texts in &NO_COMMANDS {
-        let mut input = FailingSource { good: 0, faults: 0 };
+        let mut input = unread(rt.alloc())?;
         check_line(&rt, rt.alloc(), texts, &mut input, Status::Words, usage)?;
-        assert_eq!(rt; input.faults, 0);
+        assert!(rt; is_unread(&mut input));
     }
     Ok(())
 }
@@ -301,7 +276,7 @@ fn judges_the_words_before_it_reads(rt: HostRuntime) -> Result<(), Fail> {
 #[test]
 fn shipped_programs_are_shown_and_nothing_is_read(rt: HostRuntime) -> Result<(), Fail> {
     for (name, text) in &SHOWN {
-        let mut input = FailingSource { good: 0, faults: 0 };
+        let mut input = unread(rt.alloc())?;
         check_line(
             &rt,
             rt.alloc(),
@@ -310,7 +285,7 @@ fn shipped_programs_are_shown_and_nothing_is_read(rt: HostRuntime) -> Result<(),
             Status::Done,
             text,
         )?;
-        assert_eq!(rt; input.faults, 0);
+        assert!(rt; is_unread(&mut input));
     }
     Ok(())
 }
@@ -318,7 +293,7 @@ fn shipped_programs_are_shown_and_nothing_is_read(rt: HostRuntime) -> Result<(),
 #[test]
 fn a_sample_is_told_in_six_lines_and_nothing_is_read(rt: HostRuntime) -> Result<(), Fail> {
     for (number, line) in [("1", "sample 1\n"), ("0000000023", "sample 23\n")] {
-        let mut input = FailingSource { good: 0, faults: 0 };
+        let mut input = unread(rt.alloc())?;
         let mut out = SureSink::new(rt.alloc(), 4096)?;
         let Ended {
             status,
@@ -334,7 +309,7 @@ fn a_sample_is_told_in_six_lines_and_nothing_is_read(rt: HostRuntime) -> Result<
             ],
         )?;
         assert_eq!(rt; out.bytes(), lines.as_bytes());
-        assert_eq!(rt; input.faults, 0);
+        assert!(rt; is_unread(&mut input));
         assert!(rt; turns.is_some());
         let report = report.ok_or("a report")?;
         assert_eq!(rt; report.world.bots(), 150);
@@ -382,22 +357,6 @@ fn answers_a_read_that_fails(rt: HostRuntime) -> Result<(), Fail> {
             "read fault\n",
         )?;
     }
-    Ok(())
-}
-
-#[test]
-fn reads_nothing_behind_the_end(rt: HostRuntime) -> Result<(), Fail> {
-    let source = SureSource::new(rt.alloc(), ON_ONE_LINE.as_bytes())?;
-    let mut input = EndingSource {
-        source,
-        ended: false,
-        faults: 0,
-    };
-    let mut out = SureSink::new(rt.alloc(), 4096)?;
-    let ended = call(&rt, rt.alloc(), &["run"], &mut input, &mut out)?;
-    assert_eq!(rt; ended.status, Status::Done);
-    assert!(rt; input.ended);
-    assert_eq!(rt; input.faults, 0);
     Ok(())
 }
 
