@@ -7,10 +7,8 @@ use Rattle.std.specs.List.{list_all, count_by}
 use Rattle.std.specs.Prelude.{◌==◌}
 use Rattle.std.proofs.lemmas.Bool.Decides.{nat_tests}
 use Rattle.std.proofs.lemmas.Bool.{and_parts, or_parts}
-use Rattle.text_tokens.specs.declared.tokens.Between.{Between}
-use Rattle.text_tokens.specs.declared.tokens.Between.TheVariants.{LineFeed, Blank, Comment, Start}
 use Rattle.text_tokens.specs.Text.{is_blank, is_in_line, Skips, nothing, blank, comment, last_comment, IsSkipped, line_at, Comes}
-use Rattle.text_tokens.specs.Scan.{Input, between_at, skip_by, skip, ready}
+use Rattle.text_tokens.specs.Scan.{Between, LineFeed, Blank, Comment, Start, Input, between_at, skip_by, skip, ready}
 use Rattle.text_tokens.proofs.ScanLemmas.{start_outside}
 
 -- ---- the text that is left, without places and lines

@@ -1,5 +1,6 @@
 -- The scan of a text, step by step.
-use Rattle.std.proofs.Common.{◌≡◌, ℕ, zero, suc, ◌+◌, ◌<◌, ◌≤◌, Bool, true, false, cond, List, [], ◌∷◌, length, get_or, drop, Option, Result, Ok, Err, refl, sym, ap, ◌∙◌, arith, drop-cons, length-drop, add-one}
+use Rattle.std.proofs.Common.{◌≡◌, ◌⊎◌, inl, inr, ℕ, zero, suc, ◌+◌, ◌<◌, ◌≤◌, Bool, true, false, cond, List, [], ◌∷◌, length, get_or, drop, Option, Result, Ok, Err, refl, sym, ap, ◌∙◌, arith, drop-cons, length-drop, add-one}
+use Rattle.std.proofs.lemmas.Bool.Decides.{nat_tests}
 use Rattle.std.proofs.lemmas.Iterator.{index_from_first}
 use Rattle.std.proofs.lemmas.List.{drop_all}
 use Rattle.std.proofs.lemmas.List.Sums.{prefix_len-le-length}
@@ -12,10 +13,8 @@ use Rattle.text_tokens.specs.declared.refusal.Refusal.{Refusal}
 use Rattle.text_tokens.specs.declared.refusal.RefusalKind.{RefusalKind}
 use Rattle.text_tokens.specs.declared.refusal.RefusalKind.TheVariants.{WordTooLong}
 use Rattle.text_tokens.specs.declared.tokens.Piece.{Piece}
-use Rattle.text_tokens.specs.declared.tokens.Between.{Between}
-use Rattle.text_tokens.specs.declared.tokens.Between.TheVariants.{LineFeed, Blank, Comment, Start}
 use Rattle.text_tokens.specs.Text.{Lexeme, is_letter, is_digit, is_word_byte, is_sign, most_bytes}
-use Rattle.text_tokens.specs.Scan.{Input, between_at, skip_by, skip, ready, sign_len, sized, sign_of, front, lexeme, input_past, len_of, with_front, scan, fault_at, scan_end, ahead_of, last_of}
+use Rattle.text_tokens.specs.Scan.{Between, LineFeed, Blank, Comment, Start, Input, between_at, skip_by, skip, ready, sign_len, sized, sign_of, front, lexeme, input_past, len_of, with_front, scan, fault_at, scan_end, ahead_of, last_of}
 
 -- ---- blanks and comments
 
@@ -32,6 +31,45 @@ skip_at b inside at line text i lt e = rw (add-one i) (skip_cons inside at line 
 pub skip_end : (inside : Bool) (at line : ℕ) (text : List ℕ) (i : ℕ) → length text ≤ i → skip inside at line (drop i text) ≡ record { text = []; at = at; line = line }
 unfolding skip
 skip_end inside at line text i le = rw (drop_all i text le) refl
+
+not_eq : (b k : ℕ) → (b ≡ k → ⊥) → (b == k) ≡ false
+not_eq b k n = grind (arith, nat_tests)
+
+-- ---- one step of the loops, by the byte at a place
+
+-- a comment goes on
+pub inside_at : (at line : ℕ) (text : List ℕ) (i : ℕ) → i < length text → (get_or text i 0 ≡ 10 → ⊥) → skip true at line (drop i text) ≡ skip true (at + 1) line (drop (i + 1) text)
+inside_at at line text i lt n = skip_at Blank true at line text i lt (ap (λ b. cond b LineFeed Blank) (not_eq (get_or text i 0) 10 n))
+
+-- a comment ends at a line feed, and with the text
+pub outside_at : (at line : ℕ) (text : List ℕ) (i : ℕ) → i < length text → get_or text i 0 ≡ 10 → skip true at line (drop i text) ≡ skip false at line (drop i text)
+outside_at at line text i lt is =
+    let e : (inside : Bool) → between_at inside (get_or text i 0) ≡ LineFeed = λ inside. ap (between_at inside) is in
+    skip_at LineFeed true at line text i lt (e true) ∙ sym (skip_at LineFeed false at line text i lt (e false))
+
+pub outside_end : (at line : ℕ) (text : List ℕ) (i : ℕ) → length text ≤ i → skip true at line (drop i text) ≡ skip false at line (drop i text)
+outside_end at line text i le = skip_end true at line text i le ∙ sym (skip_end false at line text i le)
+
+-- outside a comment
+pub line_feed_at : (at line : ℕ) (text : List ℕ) (i : ℕ) → i < length text → get_or text i 0 ≡ 10 → skip false at line (drop i text) ≡ skip false (at + 1) (line + 1) (drop (i + 1) text)
+line_feed_at at line text i lt is = skip_at LineFeed false at line text i lt (ap (between_at false) is)
+
+pub comment_at : (at line : ℕ) (text : List ℕ) (i : ℕ) → i < length text → get_or text i 0 ≡ 35 → skip false at line (drop i text) ≡ skip true (at + 1) line (drop (i + 1) text)
+comment_at at line text i lt is = skip_at Comment false at line text i lt (ap (between_at false) is)
+
+blank_by : (b : ℕ) → (b ≡ 9) ⊎ ((b ≡ 13) ⊎ (b ≡ 32)) → between_at false b ≡ Blank
+blank_by b (inl is) = ap (between_at false) is
+blank_by b (inr (inl is)) = ap (between_at false) is
+blank_by b (inr (inr is)) = ap (between_at false) is
+
+pub blank_at : (at line : ℕ) (text : List ℕ) (i : ℕ) → i < length text → (get_or text i 0 ≡ 9) ⊎ ((get_or text i 0 ≡ 13) ⊎ (get_or text i 0 ≡ 32)) → skip false at line (drop i text) ≡ skip false (at + 1) line (drop (i + 1) text)
+blank_at at line text i lt is = skip_at Blank false at line text i lt (blank_by (get_or text i 0) is)
+
+start_by : (b : ℕ) → (b ≡ 9 → ⊥) → (b ≡ 10 → ⊥) → (b ≡ 13 → ⊥) → (b ≡ 32 → ⊥) → (b ≡ 35 → ⊥) → between_at false b ≡ Start
+start_by b tab feed return space hash = rw (not_eq b 10 feed, not_eq b 32 space, not_eq b 9 tab, not_eq b 13 return, not_eq b 35 hash) refl
+
+pub start_at : (at line : ℕ) (text : List ℕ) (i : ℕ) → i < length text → (get_or text i 0 ≡ 9 → ⊥) → (get_or text i 0 ≡ 10 → ⊥) → (get_or text i 0 ≡ 13 → ⊥) → (get_or text i 0 ≡ 32 → ⊥) → (get_or text i 0 ≡ 35 → ⊥) → skip false at line (drop i text) ≡ record { text = drop i text; at = at; line = line }
+start_at at line text i lt tab feed return space hash = skip_at Start false at line text i lt (start_by (get_or text i 0) tab feed return space hash)
 
 shorter_by : (b : Between) (c : ℕ) (text : List ℕ) (at line : ℕ) (x y z : Input) → length x.text ≤ length text → length y.text ≤ length text → length z.text ≤ length text → length (skip_by b x y z (record { text = c ∷ text; at = at; line = line })).text ≤ suc (length text)
 shorter_by LineFeed c text at line x y z p q r = omega arith

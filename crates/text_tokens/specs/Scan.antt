@@ -7,8 +7,6 @@ use Rattle.text_tokens.specs.declared.refusal.Refusal.{Refusal}
 use Rattle.text_tokens.specs.declared.refusal.RefusalKind.{RefusalKind}
 use Rattle.text_tokens.specs.declared.refusal.RefusalKind.TheVariants.{BadByte, WordTooLong, Truncated}
 use Rattle.text_tokens.specs.declared.tokens.Piece.{Piece}
-use Rattle.text_tokens.specs.declared.tokens.Between.{Between}
-use Rattle.text_tokens.specs.declared.tokens.Between.TheVariants.{LineFeed, Blank, Comment, Start}
 use Rattle.text_tokens.specs.Text.{Lexeme, is_letter, is_digit, is_word_byte, is_blank, is_sign, most_bytes}
 
 -- what is left of a text, its place in the whole and its line
@@ -17,7 +15,14 @@ pub record Input : Type 0 where
   pub at : ℕ
   pub line : ℕ
 
--- what a byte is between tokens, in a comment or not
+-- what a byte is between tokens
+pub data Between : Type 0 where
+  LineFeed : Between
+  Blank : Between
+  Comment : Between
+  Start : Between
+
+-- the same of a byte in a comment or not
 abbrev pub between_at : Bool → ℕ → Between
 between_at inside b =
     if b == 10 then LineFeed

@@ -20,15 +20,6 @@ struct Piece {
     len: usize,
 }
 
-/// What a byte is between tokens.
-#[derive(Clone, Copy)]
-enum Between {
-    LineFeed,
-    Blank,
-    Comment,
-    Start,
-}
-
 /// The tokens of a text, from left to right. Contracts see the source, the tokens that are ahead, and what is wrong
 /// behind the last of them where one more is needed.
 #[derive(Drop)]
@@ -74,20 +65,22 @@ fn is_word_byte(b: u8) -> bool
 fn word_len(bytes: &[u8]) -> usize
     ensures { result ≡ prefix_len text.is_word_byte bytes.now }
 {
-    bytes
-        .iter()
-        .position(|b| !is_word_byte(*b))
-        .unwrap_or(bytes.len())
+    let mut len = 0;
+    while len < bytes.len() && is_word_byte(bytes[len]) {
+        len += 1;
+    }
+    len
 }
 
 /// How many digits stand at the front.
 fn digits_len(bytes: &[u8]) -> usize
     ensures { result ≡ prefix_len text.is_digit bytes.now }
 {
-    bytes
-        .iter()
-        .position(|b| !is_digit(*b))
-        .unwrap_or(bytes.len())
+    let mut len = 0;
+    while len < bytes.len() && is_digit(bytes[len]) {
+        len += 1;
+    }
+    len
 }
 
 /// The length of the longest sign at the front, or 0.
@@ -159,16 +152,19 @@ fn front(bytes: &[u8]) -> Result<Piece, RefusalKind>
     }
 }
 
-fn between_at(inside: bool, b: u8) -> Between
-    ensures { result ≡ scan.between_at inside b }
+/// Where a comment ends, from a place inside it on: at its line feed, or with the text.
+fn comment_end(bytes: &[u8], from: usize) -> usize
+    requires { from ≤ length bytes.now }
+    ensures skipped { (at line : ℕ) → scan.skip true (at + from) line (drop from bytes.now)
+        ≡ scan.skip false (at + result) line (drop result bytes.now) }
+    ensures behind { from ≤ result }
+    ensures within { result ≤ length bytes.now }
 {
-    match b {
-        b'\n' => Between::LineFeed,
-        _ if inside => Between::Blank,
-        b' ' | b'\t' | b'\r' => Between::Blank,
-        b'#' => Between::Comment,
-        _ => Between::Start,
+    let mut at = from;
+    while at < bytes.len() && bytes[at] != b'\n' {
+        at += 1;
     }
+    at
 }
 
 /// How many bytes of blanks and comments stand at the front, and the line behind them.
@@ -180,19 +176,19 @@ fn skip(bytes: &[u8], line: u32) -> (usize, u32)
     ensures line { result.1 ≤ line + result.0 }
 {
     let mut line_now = line;
-    let mut inside = false;
-    for (i, b) in bytes.iter().enumerate() {
-        match between_at(inside, *b) {
-            Between::LineFeed => {
+    let mut at = 0;
+    while at < bytes.len() {
+        match bytes[at] {
+            b' ' | b'\t' | b'\r' => at += 1,
+            b'\n' => {
                 line_now += 1;
-                inside = false;
+                at += 1;
             }
-            Between::Blank => {}
-            Between::Comment => inside = true,
-            Between::Start => return (i, line_now),
+            b'#' => at = comment_end(bytes, at + 1),
+            _ => return (at, line_now),
         }
     }
-    (bytes.len(), line_now)
+    (at, line_now)
 }
 
 /// What digits stand for.

@@ -1,32 +1,31 @@
-use Rattle.std.proofs.Common.{◌≡◌, ◌+◌, ℕ, length, arith, false, [], sym, subst, ◌∙◌, add_assoc}
+use Rattle.std.proofs.Common.{◌+◌, false, rules, arith, add_assoc, sym, ◌∙◌}
 use Rattle.std.proofs.lemmas.List.{drop_all}
-use Rattle.text_tokens.specs.declared.tokens.Between.TheVariants.{LineFeed, Blank, Comment, Start}
-use Rattle.text_tokens.specs.Scan.{skip}
-use Rattle.text_tokens.proofs.ScanLemmas.{skip_at, skip_end}
+use Rattle.text_tokens.proofs.ScanLemmas.{blank_at, line_feed_at, comment_at, start_at, skip_end}
 use Rattle.text_tokens.proofs.tokens.skip.Goals as goal
-use Rattle.text_tokens.proofs.tokens.skip.Goals.{in-LineFeed, in-Blank, in-Comment}
 
-pub returns-in-Start-clause-skipped : goal.returns-in-Start-clause-skipped
-returns-in-Start-clause-skipped c = λ at. sym (c.loop-i.invariant.rest at) ∙ skip_at Start c.loop-i.inside (at + c.loop-i.i) c.loop-i.line_now c.args.bytes.now c.loop-i.i c.loop-i-test.true (sym c.between_at.ensures ∙ c.in-Start.is)
+pub loop-at-preserved-in-32 : goal.loop-at-preserved-in-32
+loop-at-preserved-in-32 c = record {
+  rest = λ start. rw (← add_assoc start c.loop-at.at 1) (sym (blank_at (start + c.loop-at.at) c.loop-at.line_now c.args.bytes.now c.loop-at.at c.loop-at-test.true c.in-32.is) ∙ c.loop-at.invariant.rest start);
+  line = omega arith;
+  within = omega arith;
+}
 
-pub loop-i-preserved : goal.loop-i-preserved
-loop-i-preserved c = elim c.match-between_at.branch [
-  | in-LineFeed w ↦ record {
-    rest = λ at. rw (w.inside-is, w.line_now-is, ← add_assoc at c.loop-i.i 1) (sym (skip_at LineFeed c.loop-i.inside (at + c.loop-i.i) c.loop-i.line_now c.args.bytes.now c.loop-i.i c.loop-i-test.true (sym c.between_at.ensures ∙ w.in-LineFeed.is)) ∙ c.loop-i.invariant.rest at);
-    line = omega arith;
-  }
-  | in-Blank w ↦ record {
-    rest = λ at. rw (w.inside-is, w.line_now-is, ← add_assoc at c.loop-i.i 1) (sym (skip_at Blank c.loop-i.inside (at + c.loop-i.i) c.loop-i.line_now c.args.bytes.now c.loop-i.i c.loop-i-test.true (sym c.between_at.ensures ∙ w.in-Blank.is)) ∙ c.loop-i.invariant.rest at);
-    line = omega arith;
-  }
-  | in-Comment w ↦ record {
-    rest = λ at. rw (w.inside-is, w.line_now-is, ← add_assoc at c.loop-i.i 1) (sym (skip_at Comment c.loop-i.inside (at + c.loop-i.i) c.loop-i.line_now c.args.bytes.now c.loop-i.i c.loop-i-test.true (sym c.between_at.ensures ∙ w.in-Comment.is)) ∙ c.loop-i.invariant.rest at);
-    line = omega arith;
-  }
-]
+pub loop-at-preserved-in-10 : goal.loop-at-preserved-in-10
+loop-at-preserved-in-10 c = record {
+  rest = λ start. rw (← add_assoc start c.loop-at.at 1) (sym (line_feed_at (start + c.loop-at.at) c.loop-at.line_now c.args.bytes.now c.loop-at.at c.loop-at-test.true c.in-10.is) ∙ c.loop-at.invariant.rest start);
+  line = omega arith;
+  within = omega arith;
+}
+
+pub loop-at-preserved : goal.loop-at-preserved
+loop-at-preserved c = let h = c.in-35.is in record {
+  rest = λ start. sym (c.comment_end-at.ensures.skipped start c.loop-at.line_now) ∙ rw (← add_assoc start c.loop-at.at 1) (sym (comment_at (start + c.loop-at.at) c.loop-at.line_now c.args.bytes.now c.loop-at.at c.loop-at-test.true c.in-35.is) ∙ c.loop-at.invariant.rest start);
+  line = omega arith;
+  within = omega arith;
+}
+
+pub returns-in_default-clause-skipped : goal.returns-in_default-clause-skipped
+returns-in_default-clause-skipped c = λ at. sym (c.loop-at.invariant.rest at) ∙ start_at (at + c.loop-at.at) c.loop-at.line_now c.args.bytes.now c.loop-at.at c.loop-at-test.true (search rules) (search rules) (search rules) (search rules) (search rules)
 
 pub returns-clause-skipped : goal.returns-clause-skipped
-returns-clause-skipped c = λ at.
-    let bytes = c.args.bytes.now in
-    let is : c.loop-i.i ≡ length bytes = omega arith in
-    rw (drop_all (length bytes) bytes (omega arith)) (subst (λ (k : ℕ). skip false at c.args.line bytes ≡ record { text = []; at = at + k; line = c.loop-i.line_now }) is (sym (c.loop-i.invariant.rest at) ∙ skip_end c.loop-i.inside (at + c.loop-i.i) c.loop-i.line_now bytes c.loop-i.i c.loop-i-test.false))
+returns-clause-skipped c = λ at. rw (drop_all c.loop-at.at c.args.bytes.now c.loop-at-test.false) (sym (c.loop-at.invariant.rest at) ∙ skip_end false (at + c.loop-at.at) c.loop-at.line_now c.args.bytes.now c.loop-at.at c.loop-at-test.false)

@@ -1,0 +1,11 @@
+use Rattle.std.proofs.Common.{◌≡◌, ◌+◌, ◌-◌, length, drop}
+use Rattle.std.specs.List.{prefix_len}
+use Rattle.text_tokens.specs.Text.{is_digit}
+use Rattle.text_tokens.proofs.tokens.digits_len.Given as goal
+
+-- the length is what was counted, and what stands behind it
+abbrev pub invariant-loop-len : goal.invariant-loop-len
+invariant-loop-len l = l.len + prefix_len is_digit (drop l.len l.bytes) ≡ prefix_len is_digit l.bytes
+
+abbrev pub decreases-loop-len : goal.decreases-loop-len
+decreases-loop-len l = length l.bytes - l.len
