@@ -21,6 +21,7 @@ pub mod PeerLooksBack
 pub mod CopiesStand
 pub mod ActsDecide
 pub mod Members
+pub mod BehindsLemmas
 pub mod Answered
 pub mod Gathered
 pub mod Opened

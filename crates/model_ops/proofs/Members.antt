@@ -43,7 +43,7 @@ body_of part (m ∷ ms) i = elim (cases_Bool (nat_eq m.id i)) [
 ]
 
 -- the first place that passes, one place on
-position_cons : {X : Type 0} (p : X → Bool) (x : X) (xs : List X) → position p (x ∷ xs) ≡ cond (p x) (Some 0) (option_map suc (position p xs))
+pub position_cons : {X : Type 0} (p : X → Bool) (x : X) (xs : List X) → position p (x ∷ xs) ≡ cond (p x) (Some 0) (option_map suc (position p xs))
 position_cons p x xs = elim (cases_Bool (p x)) [
   | inl t ↦ rw t (ap (λ l. cond l (Some 0) None) (lt-ltb 0 (suc (length xs)) (omega arith)))
   | inr f ↦ rw f (elim (cases_lt (position_or_len p xs) (length xs)) [

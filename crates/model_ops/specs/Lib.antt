@@ -1,3 +1,4 @@
+pub mod Behinds
 pub mod Operations
 pub mod Sights
 pub mod Reaches

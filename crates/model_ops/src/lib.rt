@@ -1,7 +1,9 @@
 //! The operations of the model, and what an activation reaches by them.
 #![tactic(auto)]
 
+mod behind;
 mod changes;
+mod draft;
 mod laws;
 mod member;
 mod peer;

@@ -1,11 +1,13 @@
-ghost use Rattle.std.specs.Prelude.{◌≡◌, ◌<◌, ◌≤◌, ◌+◌, IsTrue, nat_eq, nat_lt};
+ghost use Rattle.std.specs.Prelude.{◌≡◌, ℕ, ◌<◌, ◌≤◌, ◌+◌, IsSome, IsTrue, Some, nat_eq, nat_lt};
 ghost use Rattle.std.specs.List.{position};
-ghost use Rattle.amoebot_state.specs.Configs.{bot_of};
+ghost use Rattle.amoebot_state.specs.Configs.{bot_at};
 ghost use Rattle.amoebot_state.specs.Zones.{IsShown, shown_alone};
 ghost use Rattle.arrayvec.specs.ArrayVec.{array_vec_len};
-ghost use Rattle.model_ops.specs.Members.{gathered, has_id, id_found_on, id_on, unchanged, with_member, with_neighbour};
+ghost use Rattle.model_ops.specs.Behinds.{all_behind, with_behind};
+ghost use Rattle.model_ops.specs.Members.{gathered, has_id, id_found_on, id_on, unchanged, with_member, with_occupant};
 
-use amoebot_state::{ALL_PORTS, Bot, Found, Port};
+use crate::behind::Behind;
+use amoebot_state::{Bot, Found};
 use arrayvec::ArrayVec;
 use tri_lattice::Node;
 
@@ -74,20 +76,26 @@ fn add(members: &mut ArrayVec<Member, ROOM>, id: u16, bot: &Bot)
     );
 }
 
-/// Adds the occupant behind a port, if it has one that is new.
-fn add_neighbour(members: &mut ArrayVec<Member, ROOM>, found: &Found, port: Port)
-    requires { array_vec_len members.old < ROOM }
-    ensures value { members.new.items
-        ≡ with_neighbour (shown_alone found.now) (bot_of (shown_alone found.now) found.now.bot) members.old.items port }
+/// Adds the amoebot behind a pair, if there is one and it is new.
+fn add_behind(members: &mut ArrayVec<Member, ROOM>, found: &Found, behind: Behind)
+    requires room { array_vec_len members.old < ROOM }
+    requires there { (i : ℕ) → behind ≡ Behind.Bot i → IsSome (bot_at (shown_alone found.now) i) }
+    ensures value { members.new.items ≡ with_behind (shown_alone found.now) members.old.items behind }
     ensures few { array_vec_len members.new ≤ array_vec_len members.old + 1 }
 {
-    let own = found.own();
-    if !own.is_port(port) {
-        return;
+    match behind {
+        Behind::NoPort | Behind::Edge | Behind::Empty => {}
+        Behind::Bot(id) => add_occupant(members, found, id),
     }
-    let Some(id) = found.occupant(own.behind(port)) else {
-        return;
-    };
+}
+
+/// Adds an amoebot, if it is new.
+fn add_occupant(members: &mut ArrayVec<Member, ROOM>, found: &Found, id: u16)
+    requires room { array_vec_len members.old < ROOM }
+    requires there { IsSome (bot_at (shown_alone found.now) id) }
+    ensures value { members.new.items ≡ with_occupant (shown_alone found.now) members.old.items (Some id) }
+    ensures few { array_vec_len members.new ≤ array_vec_len members.old + 1 }
+{
     if has_id(members.as_slice(), id) {
         return;
     }
@@ -104,14 +112,15 @@ fn has_id(members: &[Member], id: u16) -> bool
 }
 
 /// The amoebots of a neighbourhood.
-pub(crate) fn members_of(found: &Found) -> ArrayVec<Member, ROOM>
+pub(crate) fn members_of(found: &Found, around: &[Behind]) -> ArrayVec<Member, ROOM>
+    requires { around.now ≡ all_behind (shown_alone found.now) found.now.bot }
     ensures value { result.items ≡ gathered found.now }
     ensures shown { IsShown found.now }
 {
     let mut members = ArrayVec::new();
     add(&mut members, found.bot(), found.own());
-    for port in ALL_PORTS.iter() {
-        add_neighbour(&mut members, found, *port);
+    for behind in around {
+        add_behind(&mut members, found, *behind);
     }
     members
 }

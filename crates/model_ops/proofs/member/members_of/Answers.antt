@@ -1,28 +1,27 @@
-use Rattle.std.proofs.Common.{◌≡◌, ◌∙◌, ◌∷◌, [], ap, arith, get_or, sym, take}
+use Rattle.std.proofs.Common.{◌≡◌, ◌∙◌, ◌∷◌, [], ap, length, arith, take, List}
 use Rattle.std.specs.List.{fold}
-use Rattle.std.proofs.lemmas.List.Sums.{fold_more}
-use Rattle.amoebot_state.specs.declared.bot.End.TheVariants.{Head}
 use Rattle.amoebot_state.specs.Configs.{bot_of}
-use Rattle.amoebot_state.specs.Ports.{all_ports, port}
+use Rattle.amoebot_state.specs.Ports.{all_ports}
 use Rattle.amoebot_state.specs.Zones.{shown_alone}
-use Rattle.model_ops.specs.Members.{gathered, unchanged, with_neighbour}
+use Rattle.model_ops.specs.declared.behind.Behind.{Behind}
+use Rattle.model_ops.specs.Behinds.{all_behind, with_behind}
+use Rattle.model_ops.specs.Members.{gathered, unchanged}
+use Rattle.model_ops.proofs.BehindsLemmas.{each_there, with_pairs}
 use Rattle.model_ops.proofs.member.members_of.Goals as goal
 
-pub loop-port-preserved : goal.loop-port-preserved
-loop-port-preserved c =
-    let g = shown_alone c.args.found.now in
-    let i = c.args.found.now.bot in
-    let add = with_neighbour g (bot_of g i) in (
-      c.add_neighbour.ensures.value
-          ∙ ap (λ ms. add ms (get_or all_ports c.loop-port.port-index (port Head 0))) c.loop-port.invariant.0
-          ∙ sym (fold_more add (unchanged i (bot_of g i) ∷ []) all_ports c.loop-port.port-index (port Head 0) c.loop-port-test.true),
-      omega arith,
-    )
+pub add_behind-requires-clause-there : goal.add_behind-requires-clause-there
+add_behind-requires-clause-there c n is =
+    each_there (shown_alone c.args.found.now) c.args.found.now.bot c.args.around.now c.loop-behind.behind-index n c.requires c.loop-behind-test.true is
 
 pub returns-clause-value : goal.returns-clause-value
 unfolding gathered
 returns-clause-value c =
     let g = shown_alone c.args.found.now in
     let i = c.args.found.now.bot in
-    let all : c.loop-port.port-index ≡ 12 = omega arith in
-    c.loop-port.invariant.0 ∙ ap (λ k. fold (with_neighbour g (bot_of g i)) (unchanged i (bot_of g i) ∷ []) (take k all_ports)) all
+    let start = unchanged i (bot_of g i) ∷ [] in
+    let twelve : length c.args.around.now ≡ 12 = ap length c.requires in
+    let all : c.loop-behind.behind-index ≡ 12 = omega (arith, twelve) in
+    c.loop-behind.invariant.0
+    ∙ ap (λ (bs : List Behind). fold (with_behind g) start (take c.loop-behind.behind-index bs)) c.requires
+    ∙ ap (λ k. fold (with_behind g) start (take k (all_behind g i))) all
+    ∙ with_pairs g i start all_ports

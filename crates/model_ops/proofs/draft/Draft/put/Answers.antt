@@ -5,7 +5,7 @@ use Rattle.model_ops.specs.declared.member.Member.{Member}
 use Rattle.model_ops.specs.WorkingCopies.{WorkingCopy}
 use Rattle.model_ops.specs.Members.{IsSite, copy_of, has_id}
 use Rattle.model_ops.proofs.Members.{member_there, site_with_now, copy_with_now, written_items}
-use Rattle.model_ops.proofs.site.Site.put.Goals as goal
+use Rattle.model_ops.proofs.draft.Draft.put.Goals as goal
 
 pub place_of-place-requires : goal.place_of-place-requires
 place_of-place-requires c =

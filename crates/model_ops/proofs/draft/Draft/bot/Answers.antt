@@ -5,7 +5,7 @@ use Rattle.model_ops.specs.declared.member.Member.{Member}
 use Rattle.model_ops.specs.Members.{has_id}
 use Rattle.model_ops.specs.WorkingCopies.{WorkingCopy}
 use Rattle.model_ops.proofs.Members.{bot_placed, member_there}
-use Rattle.model_ops.proofs.site.Site.bot.Goals as goal
+use Rattle.model_ops.proofs.draft.Draft.bot.Goals as goal
 
 pub place_of-place-requires : goal.place_of-place-requires
 place_of-place-requires c =

@@ -2,7 +2,7 @@ use Rattle.std.proofs.Common.{◌∙◌, ap, sym, Ok}
 use Rattle.amoebot_state.specs.Configs.{occupant}
 use Rattle.model_ops.specs.Operations.{with_peer}
 use Rattle.model_ops.proofs.Answered.{exit, refused, passed, neighbour_is, neighbour_there}
-use Rattle.model_ops.proofs.site.Site.neighbour.Goals as goal
+use Rattle.model_ops.proofs.draft.Draft.neighbour.Goals as goal
 
 pub returns-in_err-node-clause-value : goal.returns-in_err-node-clause-value
 returns-in_err-node-clause-value c = exit _ _ c.from_residual.ensures.1 ∙ refused _ _ _ _ _ c.in_err-node.ensures

@@ -8,7 +8,7 @@ use Rattle.model_ops.specs.Reaches.{Reaches}
 use Rattle.model_ops.specs.WorkingCopies.{WorkingCopy, own_id, changes}
 use Rattle.model_ops.proofs.Members.{has_bot}
 use Rattle.model_ops.proofs.PatchLemmas.{patches}
-use Rattle.model_ops.proofs.site.Site.patch.Goals as goal
+use Rattle.model_ops.proofs.draft.Draft.patch.Goals as goal
 
 pub place_of-place-requires : goal.place_of-place-requires
 place_of-place-requires c =

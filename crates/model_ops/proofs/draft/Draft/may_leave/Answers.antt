@@ -3,7 +3,7 @@ use Rattle.std.proofs.lemmas.Bool.Decides.{same_from_decides}
 use Rattle.ring_guard.specs.Rings.{is_one_arc, ring_in}
 use Rattle.amoebot_state.specs.Occupied.{occupied}
 use Rattle.model_ops.proofs.OneArcs.{one_arc_test_is_one_arc}
-use Rattle.model_ops.proofs.site.Site.may_leave.Goals as goal
+use Rattle.model_ops.proofs.draft.Draft.may_leave.Goals as goal
 
 pub returns-else-not-guard : goal.returns-else-not-guard
 returns-else-not-guard c =

@@ -6,7 +6,7 @@ use Rattle.model_ops.specs.Operations.{seen_over}
 use Rattle.model_ops.specs.WorkingCopies.{own_id}
 use Rattle.model_ops.proofs.Answered.{exit, neighbour_next, neighbour_told}
 use Rattle.model_ops.proofs.Told.{bot_is}
-use Rattle.model_ops.proofs.site.Site.peer.Goals as goal
+use Rattle.model_ops.proofs.draft.Draft.peer.Goals as goal
 
 pub returns-in_err-id : goal.returns-in_err-id
 returns-in_err-id c =

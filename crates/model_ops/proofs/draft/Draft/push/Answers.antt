@@ -7,7 +7,7 @@ use Rattle.model_ops.specs.WorkingCopies.{own_id}
 use Rattle.model_ops.proofs.Answered.{neighbour_told}
 use Rattle.model_ops.proofs.Members.{near_own}
 use Rattle.model_ops.proofs.Told.{bot_is, occupant_told}
-use Rattle.model_ops.proofs.site.Site.push.Goals as goal
+use Rattle.model_ops.proofs.draft.Draft.push.Goals as goal
 
 pub grow-requires-clause-near : goal.grow-requires-clause-near
 grow-requires-clause-near c =

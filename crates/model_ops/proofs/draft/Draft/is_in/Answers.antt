@@ -2,7 +2,7 @@ use Rattle.std.proofs.Common.{◌∙◌, ap, sym}
 use Rattle.std.specs.Prelude.{is_some}
 use Rattle.amoebot_state.specs.Configs.{frame_of}
 use Rattle.model_ops.proofs.Members.{near_site}
-use Rattle.model_ops.proofs.site.Site.is_in.Goals as goal
+use Rattle.model_ops.proofs.draft.Draft.is_in.Goals as goal
 
 pub returns-clause-near : goal.returns-clause-near
 returns-clause-near c = λ t.

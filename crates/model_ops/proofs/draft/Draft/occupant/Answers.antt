@@ -6,7 +6,7 @@ use Rattle.amoebot_state.specs.Ports.{is_own}
 use Rattle.model_ops.specs.declared.member.Member.{Member}
 use Rattle.model_ops.specs.WorkingCopies.{WorkingCopy}
 use Rattle.model_ops.proofs.Members.{occupant_of}
-use Rattle.model_ops.proofs.site.Site.occupant.Goals as goal
+use Rattle.model_ops.proofs.draft.Draft.occupant.Goals as goal
 
 pub returns : goal.returns
 returns c =

@@ -1,0 +1,105 @@
+//! What is behind each pair of an end and a direction of an amoebot, looked up once.
+
+ghost use Rattle.std.specs.Prelude.{◌≡◌, ◌<◌, ◌≤◌, Some, length, slice_get};
+ghost use Rattle.amoebot_state.specs.Zones.{shown_alone};
+ghost use Rattle.model_ops.specs.Behinds.{all_behind, behind_pair, pair_place, connected_there, free_there, owner_there};
+
+use amoebot_state::{ALL_PORTS, End, Failure, Found, Port};
+use arrayvec::ArrayVec;
+
+/// What is behind a pair of an end and a direction.
+#[derive(Clone, Copy, Default, Drop)]
+pub(crate) enum Behind {
+    /// The pair is no port of the amoebot.
+    #[default]
+    NoPort,
+    /// A node outside of the area.
+    Edge,
+    /// A node without an occupant.
+    Empty,
+    /// The occupant with this id.
+    Bot(u16),
+}
+
+/// What is behind the twelve pairs, in port order.
+pub(crate) type Around = ArrayVec<Behind, 12>;
+
+/// What is behind the pairs of the amoebot that was shown this.
+pub(crate) fn around(found: &Found) -> Around
+    ensures { result.items ≡ all_behind (shown_alone found.now) found.now.bot }
+{
+    let mut around = ArrayVec::new();
+    for port in ALL_PORTS.iter() {
+        around.push(found_behind(found, *port));
+    }
+    around
+}
+
+fn found_behind(found: &Found, port: Port) -> Behind
+    ensures { result ≡ behind_pair (shown_alone found.now) found.now.bot port }
+{
+    let own = found.own();
+    if !own.is_port(port) {
+        return Behind::NoPort;
+    }
+    let node = own.behind(port);
+    match found.occupant(node) {
+        Some(id) => Behind::Bot(id),
+        None => {
+            if found.area().index(node).is_some() {
+                Behind::Empty
+            } else {
+                Behind::Edge
+            }
+        }
+    }
+}
+
+/// What is behind a pair, of what is behind all of them.
+pub(crate) fn behind_at(around: &[Behind], port: Port) -> Behind
+    requires { length around.now ≡ 12 }
+    ensures below { port.dir < 6 → slice_get around.now (pair_place port) ≡ Some result }
+    ensures above { 6 ≤ port.dir → result ≡ Behind.NoPort }
+{
+    if port.dir > 5 {
+        return Behind::NoPort;
+    }
+    let place = match port.end {
+        End::Head => usize::from(port.dir),
+        End::Tail => 6 + usize::from(port.dir),
+    };
+    around[place]
+}
+
+/// Whether the node there is occupied. NoPort, where the pair is none.
+pub(crate) fn connected_there(behind: Behind) -> Result<bool, Failure>
+    ensures { result ≡ connected_there behind }
+{
+    match behind {
+        Behind::NoPort => Err(Failure::NoPort),
+        Behind::Bot(_) => Ok(true),
+        Behind::Edge | Behind::Empty => Ok(false),
+    }
+}
+
+/// Whether the node there is in the area and empty. NoPort, where the pair is none.
+pub(crate) fn free_there(behind: Behind) -> Result<bool, Failure>
+    ensures { result ≡ free_there behind }
+{
+    match behind {
+        Behind::NoPort => Err(Failure::NoPort),
+        Behind::Empty => Ok(true),
+        Behind::Edge | Behind::Bot(_) => Ok(false),
+    }
+}
+
+/// The id of the occupant there. NoPort, where the pair is none; NoNeighbour.
+pub(crate) fn owner_there(behind: Behind) -> Result<u16, Failure>
+    ensures { result ≡ owner_there behind }
+{
+    match behind {
+        Behind::NoPort => Err(Failure::NoPort),
+        Behind::Bot(id) => Ok(id),
+        Behind::Edge | Behind::Empty => Err(Failure::NoNeighbour),
+    }
+}
