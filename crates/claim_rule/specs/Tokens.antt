@@ -246,6 +246,12 @@ module _ {D : Type 0} where
       pub phase : (((own m.0).caller.phase ≡ phase_of_verdict ((about verdict m.0).verdict told)) × (length (own m.0).caller.marks ≡ t))
           ⊎ (((own m.0).caller.phase ≡ Releasing) × HasMark m t after)
 
+    -- so it is of what its room keeps as found
+    pub record KeepsFound (m : Seated D) (r : Room) : Type 0 where
+      pub told : Shown
+      pub kept : r.found ≡ Some told
+      pub whole : HoldsWholeZone m r.turn r.bot (reverse r.cells.items) told r.after
+
     -- it has its mark and frees what it holds; with nothing held its next turn begins
     pub record IsFreeing (m : Seated D) (t : ℕ) (held : Pairs) (after : ℕ) : Type 0 where
       pub caller : (own m.0).caller ≡ freeing_caller (about verdict m.0) t held (own m.0).caller.marks

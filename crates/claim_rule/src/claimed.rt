@@ -54,19 +54,17 @@ impl Seen {
 #[derive(Drop)]
 pub struct Claimed<D: Decider> {
     pub(crate) activation: Activation<D>,
-    pub(crate) found: Found,
 }
 
 impl<D: Decider> Model for Claimed<D> {
-    ghost use Rattle.claim_rule.specs.Tokens.{Token, HoldsWholeZone, KeepsActivation, token_in, cells_in};
+    ghost use Rattle.claim_rule.specs.Tokens.{Token, KeepsActivation, KeepsFound, token_in};
 
     ghost Value = { Token D };
 
     ghost view = { λ c. token_in c.activation };
 
     ghost invariant = { λ c. KeepsActivation D.verdict c.activation
-        × HoldsWholeZone D.verdict c.activation.seat.me c.activation.room.value.turn c.activation.room.value.bot (cells_in c.activation)
-        c.found c.activation.room.value.after };
+        × KeepsFound D.verdict c.activation.seat.me c.activation.room.value };
 }
 
 impl<D: Decider> Claimed<D> {
@@ -74,7 +72,10 @@ impl<D: Decider> Claimed<D> {
     pub fn found(&self) -> &Found
         ensures { result.now ≡ found_in D.verdict self.now }
     {
-        &self.found
+        match &self.activation.room.found {
+            Some(found) => found,
+            None => unreachable!(),
+        }
     }
 }
 
@@ -84,10 +85,9 @@ pub fn seal<D: Decider>(held: Held<D>) -> Claimed<D>
     ensures same { result ≡ held }
     ensures decided { (doing held).phase ≡ phase_of_verdict (verdict_in D.verdict held) }
 {
-    let Held { activation } = held;
-    let room = &*activation.room;
-    let found = Found::make(room.area, room.maxes, room.bot, room.cells.as_slice());
-    Claimed { activation, found }
+    let Held { mut activation } = held;
+    activation.room.seal();
+    Claimed { activation }
 }
 
 /// The turn of a claim that decides Idle or Failed gets its mark: it reads the journal's length.
@@ -116,9 +116,6 @@ pub fn unseal<D: Decider>(claimed: Claimed<D>) -> Freeing<D>
     ensures same { result ≡ claimed }
     ensures some { 0 < length (doing claimed).held }
 {
-    let Claimed {
-        activation,
-        found: _,
-    } = claimed;
+    let Claimed { activation } = claimed;
     Freeing { activation }
 }

@@ -47,14 +47,11 @@ pub fn take<D: Decider>(
     ensures got { IfOk result (λ taken. HasGot claimed taken change) }
     ensures busy { IfErr result (λ back. (back.0 ≡ claimed) × (back.1 ≡ change)) }
 {
-    let Claimed {
-        mut activation,
-        found,
-    } = claimed;
+    let Claimed { mut activation } = claimed;
     let entry = activation.room.ready(change);
     let word = field.take_journal(&mut activation.seat);
     if word % 2 != 0 {
-        return Err((Claimed { activation, found }, change_of(entry)));
+        return Err((Claimed { activation }, change_of(entry)));
     }
     let journal = field.take_journal_out(&mut activation.seat);
     Ok(Taken {

@@ -1,4 +1,4 @@
-use Rattle.std.proofs.Common.{reverse, ap, sym, subst, ◌∙◌}
+use Rattle.std.proofs.Common.{reverse, ap, sym, subst, refl, ◌∙◌}
 use Rattle.amoebot_state.specs.Configs.{frame_of}
 use Rattle.amoebot_state.specs.Zones.{IsShown, shown_with}
 use Rattle.claim_rule.specs.declared.activation.Room.{Room}
@@ -6,8 +6,8 @@ use Rattle.claim_rule.specs.Tokens.{next_in}
 use Rattle.claim_rule.proofs.ActivationLemmas.{whole_is_shown}
 use Rattle.claim_rule.proofs.claimed.seal.Goals as goal
 
-pub make-found-requires : goal.make-found-requires
-make-found-requires g c =
-    subst (λ (q : Room). IsShown (shown_with (frame_of q.area q.maxes) q.bot c.as_slice.result.now)) (sym c.deref-room.ensures)
-    (whole_is_shown g.D.Decider.verdict c.held.inside.activation.seat.me _ _ _ _ (reverse c.held.inside.activation.room.value.cells.items) _ c.held.invariant.0 c.as_slice.result.now c.held.invariant.1
-    (ap (λ (q : Room). reverse q.cells.items) (sym c.deref-room.ensures) ∙ ap reverse (sym c.as_slice.ensures.value)) (ap (next_in g.D.Decider.verdict) c.held.view_is ∙ c.requires.whole))
+pub seal-requires : goal.seal-requires
+seal-requires g c =
+    let r = c.held.inside.activation.room.value in
+    subst (λ (q : Room). IsShown (shown_with (frame_of q.area q.maxes) q.bot q.cells.items)) (sym c.deref_mut.ensures.value)
+    (whole_is_shown g.D.Decider.verdict c.held.inside.activation.seat.me _ _ _ _ (reverse r.cells.items) _ c.held.invariant.0 r.cells.items c.held.invariant.1 refl (ap (next_in g.D.Decider.verdict) c.held.view_is ∙ c.requires.whole))

@@ -6,7 +6,7 @@ use Rattle.claim_rule.specs.declared.activation.Room.{Room}
 use Rattle.claim_rule.specs.Views.{Seated, setup_at}
 use Rattle.claim_rule.specs.Stands.{journal_slot}
 use Rattle.claim_rule.specs.Commits.{GotJournal}
-use Rattle.claim_rule.specs.Tokens.{Token, KeepsRoom, HoldsWholeZone, doing, frame_of}
+use Rattle.claim_rule.specs.Tokens.{Token, KeepsRoom, KeepsFound, doing, frame_of}
 use Rattle.claim_rule.specs.Settling.{IsTaken, IsReadyEntry}
 use Rattle.claim_rule.proofs.SettlingLemmas.{got_it}
 use Rattle.claim_rule.proofs.taken.take.Goals as goal
@@ -17,15 +17,16 @@ invariant_of-result g c =
     let m = c.take_journal-word.new.seat.me in
     let now = c.ready-entry.ensures.same ∙ ap (λ (q : Room). record q { changes = room.changes }) c.deref_mut.ensures.value in
     let r = c.claimed.inside.activation.room.value in
-    let stays = subst (λ (n : Seated g.row.D.Denot). KeepsRoom g.D.Decider.verdict n r × HoldsWholeZone g.D.Decider.verdict n r.turn r.bot (reverse r.cells.items) c.claimed.inside.found r.after) (sym (c.take_journal-word.ensures.told.1 c.if-word-ne0.true)) c.claimed.invariant in
-    subst (λ (q : Room). KeepsRoom g.D.Decider.verdict m q × HoldsWholeZone g.D.Decider.verdict m q.turn q.bot (reverse q.cells.items) c.claimed.inside.found q.after) (sym now) stays
+    let stays = subst (λ (n : Seated g.row.D.Denot). KeepsRoom g.D.Decider.verdict n r × KeepsFound g.D.Decider.verdict n r) (sym (c.take_journal-word.ensures.told.1 c.if-word-ne0.true)) c.claimed.invariant in
+    let found = stays.1 in
+    subst (λ (q : Room). KeepsRoom g.D.Decider.verdict m q × KeepsFound g.D.Decider.verdict m q) (sym now) (stays.0, record { told = found.told; kept = found.kept; whole = found.whole })
 
 pub invariant_of-result-2 : goal.invariant_of-result-2
 invariant_of-result-2 g c =
     let terms = ap (λ (t : Token _). t.view.terms) c.claimed.view_is ∙ c.requires.field.terms in
     let m = c.take_journal_out-journal.new.seat.me in
-    let got = got_it g.D.Decider.verdict c.claimed.inside.activation.seat.me _ _ _ _ _ _ c.claimed.inside.found _ c.args.change _ c.take_journal-word.new.seat.me m c.take_journal_out-journal.result
-    c.claimed.invariant.0 c.claimed.invariant.1 (ap (λ (t : Token _). (doing t).phase) c.claimed.view_is ∙ c.requires.change) (sym (ap (λ o. journal_slot (setup_at g.D.Decider.verdict o).world) terms))
+    let got = got_it g.D.Decider.verdict c.claimed.inside.activation.seat.me _ _ _ _ _ _ c.claimed.invariant.1.told _ c.args.change _ c.take_journal-word.new.seat.me m c.take_journal_out-journal.result
+    c.claimed.invariant.0 c.claimed.invariant.1.whole (ap (λ (t : Token _). (doing t).phase) c.claimed.view_is ∙ c.requires.change) (sym (ap (λ o. journal_slot (setup_at g.D.Decider.verdict o).world) terms))
     (subst (λ k. GotJournal k c.claimed.inside.activation.seat.me c.take_journal-word.new.seat.me) (ap (λ o. journal_slot (setup_at g.D.Decider.verdict o).world) terms) (c.take_journal-word.ensures.told.0 c.if-word-ne0.false)) c.take_journal_out-journal.ensures.value c.take_journal_out-journal.ensures.emptied in
     let r = c.claimed.inside.activation.room.value in
     let room = c.ready-entry.new.self in
