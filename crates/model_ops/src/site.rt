@@ -37,7 +37,8 @@ impl Model for Site {
 
     ghost view = { λ s. s.draft };
 
-    ghost invariant = { λ s. (known : ArrayVec Behind) → s.around ≡ Some known → known.items ≡ all_behind s.draft.reached (own_id s.draft) };
+    ghost invariant = { λ s. (known : ArrayVec Behind) → s.around ≡ Some known
+        → known.items ≡ all_behind s.draft.reached (own_id s.draft) };
 }
 
 impl Site {
