@@ -8,6 +8,8 @@ ghost use Rattle.model_ops.specs.Reaches.{move};
 ghost use Rattle.model_ops.specs.Sites.{done};
 ghost use Rattle.model_ops.specs.WorkingCopies.{IsUnmoved, own_id, copy_after};
 
+use crate::behind::around;
+use crate::draft::Draft;
 use crate::{Peer, Site};
 use amoebot_state::{Bot, Cell, CellName, Chir, End, Failure, Found, Moved, Patch, Port, World};
 use std::alloc::Global;
@@ -421,5 +423,38 @@ fn nodes_outside_the_area_belong_to_no_arc(rt: HostRuntime) -> Result<(), Fail> 
     assert_eq!(rt; failure(&apart, Moved::Contract(End::Head), true), None);
     let joined = found(rt.alloc(), &[own, beyond, bot((1, 1), (0, 1))])?;
     assert_eq!(rt; failure(&joined, Moved::Contract(End::Tail), true), None);
+    Ok(())
+}
+
+/// A site answers each question about a pair as the copy that searches does, also for directions that there are none.
+fn answers_alike(rt: &impl Abort, found: &Found) {
+    let site = Site::new(found);
+    let draft = Draft::new(found, around(found).as_slice());
+    for dir in 0..8u8 {
+        for port in [head(dir), tail(dir)].iter() {
+            assert_eq!(rt; site.connected(*port), draft.connected(*port));
+            assert_eq!(rt; site.is_free(*port), draft.is_free(*port));
+            assert_eq!(rt; site.read(Some(*port), 0), draft.read(Some(*port), 0));
+        }
+    }
+    assert_eq!(rt; site.read(None, 0), draft.read(None, 0));
+}
+
+#[test]
+fn a_site_answers_as_a_search_does(rt: HostRuntime) -> Result<(), Fail> {
+    let alloc = rt.alloc();
+    let crowd = [
+        turned_bot((3, 3), (2, 3), 4, Chir::Minus),
+        bot((4, 3), (4, 3)),
+        bot((3, 2), (4, 2)),
+        bot((1, 3), (1, 3)),
+    ];
+    let corner = [
+        turned_bot((0, 0), (0, 0), 1, Chir::Plus),
+        bot((1, 0), (2, 0)),
+    ];
+    answers_alike(&rt, &found(alloc, &crowd)?);
+    answers_alike(&rt, &found(alloc, &corner)?);
+    answers_alike(&rt, &found(alloc, &[bot((7, 7), (6, 7))])?);
     Ok(())
 }
