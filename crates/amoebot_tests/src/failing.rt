@@ -134,7 +134,7 @@ fn check_each_call<R: Abort + Threads + Wait + Sync>(
 }
 
 #[test]
-fn a_read_or_write_that_fails_is_the_status(rt: HostRuntime) -> Result<(), Fail> {
+fn each_read_and_each_write_that_fails_gives_its_status(rt: HostRuntime) -> Result<(), Fail> {
     check_each_call(&rt, rt.alloc(), &WORKED)
 }
 
@@ -153,24 +153,24 @@ fn a_sink_gets_what_it_has_room_for(rt: HostRuntime) -> Result<(), Fail> {
 
 /// One of the turns is Busy.
 #[test]
-fn a_read_or_write_of_an_interleaving_fails(rt: HostRuntime) -> Result<(), Fail> {
+fn each_failing_call_of_an_interleaving_gives_its_status(rt: HostRuntime) -> Result<(), Fail> {
     check_each_call(&rt, rt.alloc(), &INTERLEAVINGS[0])
 }
 
 #[test]
-fn a_read_or_write_of_a_replay_fails(rt: HostRuntime) -> Result<(), Fail> {
+fn each_failing_call_of_a_replay_gives_its_status(rt: HostRuntime) -> Result<(), Fail> {
     check_each_call(&rt, rt.alloc(), &COMPARED_AND_CHECKED[0])?;
     check_each_call(&rt, rt.alloc(), &COMPARED_AND_CHECKED[2])
 }
 
 #[test]
-fn a_read_or_write_of_a_measure_fails(rt: HostRuntime) -> Result<(), Fail> {
+fn each_failing_call_of_a_measure_gives_its_status(rt: HostRuntime) -> Result<(), Fail> {
     check_each_call(&rt, rt.alloc(), &MEASURED[3])
 }
 
 /// The text of a shipped program is its own canonical text.
 #[test]
-fn a_read_or_write_of_a_check_fails(rt: HostRuntime) -> Result<(), Fail> {
+fn each_failing_call_of_a_check_gives_its_status(rt: HostRuntime) -> Result<(), Fail> {
     let case = Case {
         word: "check",
         document: SHOWN[0].1,
