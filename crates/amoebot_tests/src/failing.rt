@@ -1,11 +1,11 @@
 //! Reads and writes that fail: each one of a call in turn, and what stands then.
 
-use crate::commands::{COMPARED_AND_CHECKED, INTERLEAVINGS, MEASURED};
+use crate::commands::{COMPARED_AND_CHECKED, INTERLEAVINGS, MEASURED, SHOWN};
 use crate::pieces::{Row, WORKED};
 use crate::tests::{call, joined};
 use amoebot_run::Status;
 use outer_io::{Failed, MemSink, MemSource, Source, SureSink, SureSource};
-use std::alloc::{AllocError, Global};
+use std::alloc::Global;
 use std::process::Abort;
 use std::sync::Wait;
 use std::test::Fail;
@@ -19,71 +19,59 @@ fn calls_for(bytes: usize) -> u32 {
     bytes.div_ceil(10).min(1000) as u32
 }
 
+/// A document with the word that reads it, the status and the text.
+#[derive(Clone, Copy)]
+struct Case<'a> {
+    word: &'a str,
+    document: &'a str,
+    status: Status,
+    text: &'a str,
+}
+
 /// Runs the document in pieces, of which one read fails, and compares the status and what is written.
 fn check_read<R: Abort + Threads + Wait + Sync>(
     rt: &R,
     alloc: Global,
-    row: &Row,
-    document: &str,
+    case: &Case,
     failing: u32,
     status: Status,
     text: &str,
 ) -> Result<(), Fail> {
-    let mut input = MemSource::new(alloc, document.as_bytes(), PIECE, &[failing])?;
+    let mut input = MemSource::new(alloc, case.document.as_bytes(), PIECE, &[failing])?;
     let mut out = SureSink::new(alloc, 4096)?;
-    let ended = call(rt, alloc, &[row.0], &mut input, &mut out)?;
+    let ended = call(rt, alloc, &[case.word], &mut input, &mut out)?;
     assert_eq!(rt; ended.status, status);
     assert_eq!(rt; out.bytes(), text.as_bytes());
     assert!(rt; out.whole());
     Ok(())
 }
 
-/// Each read of the row's document fails in turn, the one that would tell the end too. The read behind that is never made.
+/// Each read of the document fails in turn, the one that would tell the end too. The read behind that is never made.
 fn check_each_read<R: Abort + Threads + Wait + Sync>(
     rt: &R,
     alloc: Global,
-    row: &Row,
+    case: &Case,
 ) -> Result<(), Fail> {
-    let document = joined(alloc, row.1)?;
-    let text = joined(alloc, row.4)?;
-    let reads = calls_for(document.len()).saturating_add(1);
+    let reads = calls_for(case.document.len()).saturating_add(1);
     for failing in 0..reads {
-        let fault = "read fault\n";
-        check_read(
-            rt,
-            alloc,
-            row,
-            document.as_str(),
-            failing,
-            Status::ReadFault,
-            fault,
-        )?;
+        check_read(rt, alloc, case, failing, Status::ReadFault, "read fault\n")?;
     }
-    check_read(
-        rt,
-        alloc,
-        row,
-        document.as_str(),
-        reads,
-        row.2,
-        text.as_str(),
-    )
+    check_read(rt, alloc, case, reads, case.status, case.text)
 }
 
 /// Runs the document into a sink of this room, of which one write fails, and compares the status and the bytes taken.
 fn check_write<R: Abort + Threads + Wait + Sync>(
     rt: &R,
     alloc: Global,
-    row: &Row,
-    document: &str,
+    case: &Case,
     room: u32,
     failing: &[u32],
     status: Status,
     taken: &[u8],
 ) -> Result<(), Fail> {
-    let mut input = SureSource::new(alloc, document.as_bytes())?;
+    let mut input = SureSource::new(alloc, case.document.as_bytes())?;
     let mut out = MemSink::new(alloc, room, PIECE, failing)?;
-    let ended = call(rt, alloc, &[row.0], &mut input, &mut out)?;
+    let ended = call(rt, alloc, &[case.word], &mut input, &mut out)?;
     assert_eq!(rt; ended.status, status);
     assert_eq!(rt; out.bytes(), taken);
     if status == Status::WriteFault {
@@ -93,137 +81,122 @@ fn check_write<R: Abort + Threads + Wait + Sync>(
     Ok(())
 }
 
-/// Each write of the row's text fails in turn: then ten bytes of it are there for each write before.
+/// Each write of the text fails in turn: then ten bytes of it are there for each write before.
 /// The write behind the last is never made.
 fn check_each_write<R: Abort + Threads + Wait + Sync>(
     rt: &R,
     alloc: Global,
-    row: &Row,
+    case: &Case,
 ) -> Result<(), Fail> {
-    let document = joined(alloc, row.1)?;
-    let text = joined(alloc, row.4)?;
+    let text = case.text.as_bytes();
     let writes = calls_for(text.len());
     let mut before = 0;
     for failing in 0..writes {
-        let taken = text.as_bytes().get(..before).ok_or("a front")?;
-        check_write(
-            rt,
-            alloc,
-            row,
-            document.as_str(),
-            4096,
-            &[failing],
-            Status::WriteFault,
-            taken,
-        )?;
+        let taken = text.get(..before).ok_or("a front")?;
+        check_write(rt, alloc, case, 4096, &[failing], Status::WriteFault, taken)?;
         before = before.saturating_add(10);
     }
-    check_write(
-        rt,
-        alloc,
-        row,
-        document.as_str(),
-        4096,
-        &[writes],
-        row.2,
-        text.as_bytes(),
-    )
+    check_write(rt, alloc, case, 4096, &[writes], case.status, text)
 }
 
-/// A sink that has room for fewer bytes than the row's text gets what it has room for.
+/// A sink that has room for fewer bytes than the text gets what it has room for.
 fn check_each_room<R: Abort + Threads + Wait + Sync>(
+    rt: &R,
+    alloc: Global,
+    case: &Case,
+) -> Result<(), Fail> {
+    let text = case.text.as_bytes();
+    let mut room = 0;
+    for (at, _byte) in text.iter().enumerate() {
+        let taken = text.get(..at).ok_or("a front")?;
+        check_write(rt, alloc, case, room, &[], Status::WriteFault, taken)?;
+        room = room.saturating_add(1);
+    }
+    check_write(rt, alloc, case, room, &[], case.status, text)
+}
+
+/// Each read and each write of a row fails in turn.
+fn check_each_call<R: Abort + Threads + Wait + Sync>(
     rt: &R,
     alloc: Global,
     row: &Row,
 ) -> Result<(), Fail> {
     let document = joined(alloc, row.1)?;
     let text = joined(alloc, row.4)?;
-    let mut room = 0;
-    for (at, _byte) in text.as_bytes().iter().enumerate() {
-        let taken = text.as_bytes().get(..at).ok_or("a front")?;
-        check_write(
-            rt,
-            alloc,
-            row,
-            document.as_str(),
-            room,
-            &[],
-            Status::WriteFault,
-            taken,
-        )?;
-        room = room.saturating_add(1);
-    }
-    check_write(
-        rt,
-        alloc,
-        row,
-        document.as_str(),
-        room,
-        &[],
-        row.2,
-        text.as_bytes(),
-    )
+    let case = Case {
+        word: row.0,
+        document: document.as_str(),
+        status: row.2,
+        text: text.as_str(),
+    };
+    check_each_read(rt, alloc, &case)?;
+    check_each_write(rt, alloc, &case)
 }
 
 #[test]
-fn each_read_that_fails_is_a_read_fault(rt: HostRuntime) -> Result<(), Fail> {
-    check_each_read(&rt, rt.alloc(), &WORKED)
-}
-
-#[test]
-fn each_write_that_fails_leaves_ten_bytes_for_each_before(rt: HostRuntime) -> Result<(), Fail> {
-    check_each_write(&rt, rt.alloc(), &WORKED)
+fn each_read_and_each_write_that_fails_gives_its_status(rt: HostRuntime) -> Result<(), Fail> {
+    check_each_call(&rt, rt.alloc(), &WORKED)
 }
 
 #[test]
 fn a_sink_gets_what_it_has_room_for(rt: HostRuntime) -> Result<(), Fail> {
-    check_each_room(&rt, rt.alloc(), &WORKED)
-}
-
-/// An interleaving with a Busy turn, a journal that differs, a program that is printed, and a last shape that is measured.
-#[test]
-fn each_read_that_fails_is_a_read_fault_of_each_command(rt: HostRuntime) -> Result<(), Fail> {
-    check_each_read(&rt, rt.alloc(), &INTERLEAVINGS[0])?;
-    check_each_read(&rt, rt.alloc(), &COMPARED_AND_CHECKED[2])?;
-    check_each_read(&rt, rt.alloc(), &COMPARED_AND_CHECKED[4])?;
-    check_each_read(&rt, rt.alloc(), &MEASURED[3])?;
-    Ok(())
-}
-
-#[test]
-fn each_write_that_fails_is_a_write_fault_of_each_command(rt: HostRuntime) -> Result<(), Fail> {
-    check_each_write(&rt, rt.alloc(), &INTERLEAVINGS[0])?;
-    check_each_write(&rt, rt.alloc(), &COMPARED_AND_CHECKED[2])?;
-    check_each_write(&rt, rt.alloc(), &COMPARED_AND_CHECKED[4])?;
-    check_each_write(&rt, rt.alloc(), &MEASURED[3])?;
-    Ok(())
-}
-
-/// The third read fails: ten bytes came in each of the two before.
-#[test]
-fn the_third_read_fails(rt: HostRuntime) -> Result<(), Fail> {
     let document = joined(rt.alloc(), WORKED.1)?;
-    check_read(
-        &rt,
-        rt.alloc(),
-        &WORKED,
-        document.as_str(),
-        2,
-        Status::ReadFault,
-        "read fault\n",
-    )
+    let text = joined(rt.alloc(), WORKED.4)?;
+    let case = Case {
+        word: WORKED.0,
+        document: document.as_str(),
+        status: WORKED.2,
+        text: text.as_str(),
+    };
+    check_each_room(&rt, rt.alloc(), &case)
 }
 
-/// The second write fails: ten bytes went out before.
+/// One of the turns is Busy.
 #[test]
-fn the_second_write_fails(rt: HostRuntime) -> Result<(), Fail> {
+fn each_failing_call_of_an_interleaving_gives_its_status(rt: HostRuntime) -> Result<(), Fail> {
+    check_each_call(&rt, rt.alloc(), &INTERLEAVINGS[0])
+}
+
+#[test]
+fn each_failing_call_of_a_replay_gives_its_status(rt: HostRuntime) -> Result<(), Fail> {
+    check_each_call(&rt, rt.alloc(), &COMPARED_AND_CHECKED[0])?;
+    check_each_call(&rt, rt.alloc(), &COMPARED_AND_CHECKED[2])
+}
+
+#[test]
+fn each_failing_call_of_a_measure_gives_its_status(rt: HostRuntime) -> Result<(), Fail> {
+    check_each_call(&rt, rt.alloc(), &MEASURED[3])
+}
+
+/// The text of a shipped program is its own canonical text.
+#[test]
+fn each_failing_call_of_a_check_gives_its_status(rt: HostRuntime) -> Result<(), Fail> {
+    let case = Case {
+        word: "check",
+        document: SHOWN[0].1,
+        status: Status::Done,
+        text: SHOWN[0].1,
+    };
+    check_each_read(&rt, rt.alloc(), &case)?;
+    check_each_write(&rt, rt.alloc(), &case)
+}
+
+/// The third read fails, and then the second write: ten bytes went out before.
+#[test]
+fn the_third_read_fails_and_then_the_second_write(rt: HostRuntime) -> Result<(), Fail> {
     let document = joined(rt.alloc(), WORKED.1)?;
+    let case = Case {
+        word: WORKED.0,
+        document: document.as_str(),
+        status: WORKED.2,
+        text: "",
+    };
+    check_read(&rt, rt.alloc(), &case, 2, Status::ReadFault, "read fault\n")?;
     let taken = "journal\nen".as_bytes();
     check_write(
         &rt,
         rt.alloc(),
-        &WORKED,
-        document.as_str(),
+        &case,
         1000,
         &[1],
         Status::WriteFault,

@@ -4,7 +4,7 @@
 //! Or it ends inside a token. What is left of a number is a number, and what is left of another word is a name where a
 //! name may stand. Else that token is at fault.
 
-use crate::commands::{COMPARED_AND_CHECKED, INTERLEAVINGS, MEASURED};
+use crate::commands::{COMPARED_AND_CHECKED, INTERLEAVINGS, MEASURED, SHOWN};
 use crate::pieces::{Row, WORKED};
 use crate::tests::{check, joined};
 use amoebot_run::Status;
@@ -279,5 +279,14 @@ fn fronts_of_a_checked_document_may_end_behind_each_section(rt: HostRuntime) -> 
         (4, Status::Done, None, text),
     ];
     check_fronts(&rt, rt.alloc(), "check", document.as_str(), &wholes, false)?;
+    Ok(())
+}
+
+/// The text of a shipped program.
+#[test]
+fn fronts_of_a_program_end_before_its_end(rt: HostRuntime) -> Result<(), Fail> {
+    let text = SHOWN[0].1;
+    let wholes = [(1, Status::Done, None, text)];
+    check_fronts(&rt, rt.alloc(), "check", text, &wholes, false)?;
     Ok(())
 }
