@@ -36,7 +36,7 @@ use Rattle.amoebot_state.proofs.Zones.{zone_is, others_taken_up}
 abbrev pub parts : ℕ → List Node → List ℕ → List CellName
 parts i vs js = name.Body i ∷ (map name.Spot vs ++ map name.Body js)
 
--- the parts are told by the names
+-- the names determine the parts
 same_bodies : (js ks : List ℕ) → map name.Body js ≡ map name.Body ks → js ≡ ks
 same_bodies [] [] e = refl
 same_bodies [] (k ∷ ks) e = absurd (cc)
