@@ -41,7 +41,7 @@ first_fails asked p ps f e = rw e (rw e refl)
 abbrev pub and_so_many : ℕ → Result ℕ Failure → Result ℕ Failure
 and_so_many n r = and_then r (λ k. Ok (n + k))
 
-and_none : (r : Result ℕ Failure) → r ≡ and_so_many 0 r
+pub and_none : (r : Result ℕ Failure) → r ≡ and_so_many 0 r
 and_none (Ok k) = let e : k ≡ 0 + k = omega arith in ap Ok e
 and_none (Err f) = refl
 

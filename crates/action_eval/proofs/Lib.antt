@@ -9,5 +9,6 @@ pub mod Nodes
 pub mod PartSizes
 pub mod Terms
 pub mod RunningLemmas
+pub mod UnderNamesLemmas
 pub mod ActionLoops
 pub mod SharedRunner

@@ -2,6 +2,7 @@
 -- Private functions alone cite it.
 use Rattle.std.specs.Prelude.{◌≡◌, List, true}
 use Rattle.model_ops.specs.Sights.{Sight}
+use Rattle.amoebot_state.specs.declared.bot.Port.{Port}
 use Rattle.action_tree.specs.declared.word.Word.{Word}
 use Rattle.action_tree.specs.declared.expression.Guard.{Guard}
 use Rattle.action_tree.specs.declared.statement.Stmt.{Stmt}
@@ -20,6 +21,11 @@ pub record MayAsk (xs : Names) (name : Word) (guard : Guard) : Type 0 where
   pub new : IsNew (scope_of xs) (name_of name)
   pub kept : GuardKept (scope_bind (scope_of xs) (name_of name)) (guard_of guard)
   pub counted : is_guard (guard_of guard) ≡ true
+
+-- the names are those known and one more in force, which stands for some port
+pub record IsUnder (xs : Names) (name : Word) (inner : Names) : Type 0 where
+  pub port : Port
+  pub bound : inner ≡ bind xs (name_of name) port
 
 -- the statements keep the rules with the name in force; the counts in them are those of a text
 pub record MayRunUnder (xs : Names) (name : Word) (stmts : List Stmt) : Type 0 where

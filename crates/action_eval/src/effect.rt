@@ -18,7 +18,7 @@ ghost use Rattle.action_eval.specs.UnderNames.{MayAsk, MayRunUnder};
 
 use crate::names::Names;
 use crate::port::ports_of;
-use crate::value::{guard_value, inside_value, port_value, sum_value};
+use crate::value::{guard_value, port_value, sum_value};
 use action_tree::{Action, Guard, Move, PortSet, Stmt, Sum, Word};
 use amoebot_state::{Failure, Moved, Port};
 use model_ops::Site;
@@ -140,8 +140,9 @@ fn run_turn(
         port (moment_of site.old (known names.now)))
         (λ _. known names.now) result site.old site.new }
 {
-    if inside_value(name, port, guard, site, names)? {
-        run_stmts(stmts, site, names.bind(name, port))?;
+    let inner = names.bind(name, port);
+    if guard_value(guard, site, &inner)? {
+        run_stmts(stmts, site, inner)?;
     }
     Ok(())
 }

@@ -29,8 +29,10 @@ impl<'p> Names<'p> {
     ghost use Rattle.std.specs.Prelude.{◌<◌, []};
     ghost use Rattle.action_tree.specs.Views.{name_of};
     ghost use Rattle.action_check.specs.Rules.{IsVariable};
-    ghost use Rattle.action_meaning.specs.Names.{var_number, port_named, bind as spec_bind};
+    ghost use Rattle.action_meaning.specs.Names.{Names as Known, var_number, port_named, bind as spec_bind};
+    ghost use Rattle.action_tree.specs.declared.word.Word.{Word};
     ghost use Rattle.action_eval.specs.Known.{known, var_names, scope_of};
+    ghost use Rattle.action_eval.specs.UnderNames.{IsUnder};
 
     /// The names at the start of an action: no name is in force.
     pub fn new(vars: &'p [Var]) -> Names<'p>
@@ -93,6 +95,16 @@ impl<'p> Names<'p> {
             port,
         });
         names
+    }
+
+    /// The last name in force stands for another port.
+    pub fn set_last(&mut self, port: Port)
+        requires { 0 < length (known self.old).bound }
+        ensures { (xs : Known) (name : Word) → IsUnder xs name (known self.old)
+            → known self.new ≡ spec_bind xs (name_of name) port }
+    {
+        let last = self.bound.len() - 1;
+        self.bound[last].port = port;
     }
 }
 

@@ -106,21 +106,6 @@ fn some_value(guards: &[Guard], site: &Site, names: &Names<'_>) -> Result<bool, 
     Ok(false)
 }
 
-/// A guard in the parenthesis of a name that stands for a port.
-#[cycle(values)]
-pub fn inside_value(
-    name: &Word,
-    port: Port,
-    guard: &Guard,
-    site: &Site,
-    names: &Names<'_>,
-) -> Result<bool, Failure>
-    requires { MayAsk (known names.now) name.now guard.now }
-    ensures { result ≡ guard_at (sight_of site.now) (known names.now) name.now guard.now port }
-{
-    guard_value(guard, site, &names.bind(name, port))
-}
-
 /// `any`: the first port of which the guard is not false decides.
 #[cycle(values)]
 fn any_value(
@@ -135,8 +120,10 @@ fn any_value(
         (spec.ports_of (sight_of site.now) set) }
 {
     let ports = ports_of(set, site);
+    let mut inner = names.bind(name, Port::default());
     for port in ports.iter() {
-        match inside_value(name, *port, guard, site, names) {
+        inner.set_last(*port);
+        match guard_value(guard, site, &inner) {
             Ok(false) => {}
             Ok(true) => return Ok(true),
             Err(failure) => return Err(failure),
@@ -159,8 +146,10 @@ fn all_value(
         (spec.ports_of (sight_of site.now) set) }
 {
     let ports = ports_of(set, site);
+    let mut inner = names.bind(name, Port::default());
     for port in ports.iter() {
-        match inside_value(name, *port, guard, site, names) {
+        inner.set_last(*port);
+        match guard_value(guard, site, &inner) {
             Ok(true) => {}
             Ok(false) => return Ok(false),
             Err(failure) => return Err(failure),
@@ -183,8 +172,10 @@ fn first_value(
         (spec.ports_of (sight_of site.now) set) }
 {
     let ports = ports_of(set, site);
+    let mut inner = names.bind(name, Port::default());
     for port in ports.iter() {
-        match inside_value(name, *port, guard, site, names) {
+        inner.set_last(*port);
+        match guard_value(guard, site, &inner) {
             Ok(false) => {}
             Ok(true) => return Ok(*port),
             Err(failure) => return Err(failure),
@@ -208,9 +199,11 @@ fn count_value(
     ensures few { IfOk result (λ n. n < 13) }
 {
     let ports = ports_of(set, site);
+    let mut inner = names.bind(name, Port::default());
     let mut count = 0;
     for port in ports.iter() {
-        let is_one = match inside_value(name, *port, guard, site, names) {
+        inner.set_last(*port);
+        let is_one = match guard_value(guard, site, &inner) {
             Ok(is_one) => is_one,
             Err(failure) => return Err(failure),
         };

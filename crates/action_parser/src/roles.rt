@@ -1,6 +1,6 @@
 //! The role of the next token, and parts of one token.
 
-ghost use Rattle.std.specs.Prelude.{◌≡◌, ◌<◌, map, option_map, IfOk, OnOk};
+ghost use Rattle.std.specs.Prelude.{◌≡◌, ◌<◌, option_map, IfOk, OnOk};
 ghost use Rattle.text_tokens.specs.Cursor.{Spells, next_passes, refusal_at};
 ghost use Rattle.text_tokens.specs.declared.refusal.RefusalKind.TheVariants.{Unexpected};
 ghost use Rattle.text_tokens.specs.declared.refusal.ReadRefusal.TheVariants.{Refused};
@@ -9,112 +9,9 @@ ghost use Rattle.text_tokens.specs.Reading.{one};
 ghost use Rattle.text_tokens.specs.Steps.{Gives, lexeme_of};
 ghost use Rattle.action_tree.specs.Roles as roles;
 ghost use Rattle.action_tree.specs.Roles.{is_a};
-ghost use Rattle.action_tree.specs.declared.role.Role.TheVariants as role;
 
-use action_tree::Role;
-use text_tokens::{ReadRefusal, RefusalKind, Token, TokenKind, Tokens, refused};
-
-/// The reserved words. A word that is not among them is a name.
-const WORDS: [(&str, Role); 48] = [
-    ("amoebot", Role::Foreign),
-    ("program", Role::ProgramWord),
-    ("guard", Role::GuardWord),
-    ("on", Role::SwitchWord),
-    ("off", Role::SwitchWord),
-    ("var", Role::VarWord),
-    ("action", Role::ActionWord),
-    ("when", Role::WhenWord),
-    ("do", Role::DoWord),
-    ("move", Role::MoveWord),
-    ("end", Role::LastWord),
-    ("if", Role::IfWord),
-    ("then", Role::ThenWord),
-    ("else", Role::ElseWord),
-    ("fi", Role::FiWord),
-    ("for", Role::ForWord),
-    ("od", Role::OdWord),
-    ("let", Role::LetWord),
-    ("in", Role::InWord),
-    ("ports", Role::PortsWord),
-    ("free", Role::FreeWord),
-    ("true", Role::AtomWord),
-    ("false", Role::AtomWord),
-    ("contracted", Role::AtomWord),
-    ("expanded", Role::AtomWord),
-    ("not", Role::NotWord),
-    ("and", Role::AndWord),
-    ("or", Role::OrWord),
-    ("any", Role::QuantifierWord),
-    ("all", Role::QuantifierWord),
-    ("count", Role::CountWord),
-    ("first", Role::FirstWord),
-    ("head", Role::EndWord),
-    ("tail", Role::EndWord),
-    ("turn", Role::TurnWord),
-    ("dir", Role::SideWord),
-    ("peer_dir", Role::SideWord),
-    ("peer_head", Role::TestWord),
-    ("peer_expanded", Role::TestWord),
-    ("at_head", Role::TestWord),
-    ("linked", Role::TestWord),
-    ("inner", Role::InnerWord),
-    ("mod6", Role::Mod6Word),
-    ("none", Role::NoneWord),
-    ("expand", Role::ThroughWord),
-    ("contract", Role::ContractWord),
-    ("push", Role::ThroughWord),
-    ("pull", Role::ThroughWord),
-];
-
-const SIGNS: [(&str, Role); 13] = [
-    ("(", Role::OpenSign),
-    (")", Role::CloseSign),
-    (".", Role::DotSign),
-    (";", Role::SemicolonSign),
-    (":=", Role::BecomesSign),
-    ("+", Role::PlusSign),
-    ("-", Role::MinusSign),
-    ("=", Role::CompareSign),
-    ("!=", Role::CompareSign),
-    ("<", Role::CompareSign),
-    ("<=", Role::CompareSign),
-    (">", Role::CompareSign),
-    (">=", Role::CompareSign),
-];
-
-/// What a text is by a table, and otherwise.
-fn look_up(otherwise: Role, table: &[(&str, Role)], text: &[u8]) -> Role
-    ensures { result ≡ roles.look_up otherwise (map (λ e. roles.entry e.0.now e.1) table.now) text.now }
-{
-    for (word, role) in table {
-        if text == word.as_bytes() {
-            return *role;
-        }
-    }
-    otherwise
-}
-
-fn word_role(text: &[u8]) -> Role
-    ensures { result ≡ roles.look_up role.AName roles.words text.now }
-{
-    look_up(Role::AName, &WORDS, text)
-}
-
-fn sign_role(text: &[u8]) -> Role
-    ensures { result ≡ roles.look_up role.Foreign roles.signs text.now }
-{
-    look_up(Role::Foreign, &SIGNS, text)
-}
-
-fn role_of(kind: TokenKind, text: &[u8]) -> Role
-    ensures { result ≡ roles.role_by kind text.now }
-{
-    match kind {
-        TokenKind::Word => word_role(text),
-        TokenKind::Number => Role::ANumber,
-        TokenKind::Sign => sign_role(text),
-    }
-}
+use action_tree::{Role, role_of};
+use text_tokens::{ReadRefusal, RefusalKind, Token, Tokens, refused};
 
 /// The role of the next token, if there is one.
 pub fn next_role(tokens: &Tokens<'_>) -> Option<Role>

@@ -17,3 +17,4 @@ pub mod Rising
 pub mod ProductionsLemmas
 pub mod TextLines
 pub mod ExamplesLemmas
+pub mod Tables

@@ -7,6 +7,7 @@ mod grammar_laws;
 mod laws;
 mod program;
 mod role;
+mod roles;
 mod statement;
 mod word;
 
@@ -19,6 +20,7 @@ pub use grammar_laws::{
 pub use laws::{limits_are_sharp, samples_are_writable, words_are_tokens, writable_is_given};
 pub use program::{Action, Program, Var};
 pub use role::Role;
+pub use roles::role_of;
 pub use statement::{Move, Stmt};
 pub use word::{Lit, MOST_NAMES, NameText, Word};
 

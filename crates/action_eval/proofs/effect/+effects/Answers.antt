@@ -138,7 +138,7 @@ run_stmts-run_stmt-requires t c =
 pub run_turn-run_stmts-requires : goal.run_turn-run_stmts-requires
 run_turn-run_stmts-requires t c =
     let P : Scope → Type 0 = λ sc. StmtsKept sc (stmts_of c.args.stmts.now) in
-    (omega (arith, c.decreases), (subst P (sym (ap scope_of c.bind.ensures ∙ scope_of_bound (known c.args.names.now) (name_of c.args.name.now) c.args.port)) c.requires.run.kept, c.requires.run.counted))
+    (omega (arith, c.decreases), (subst P (sym (ap scope_of c.bind-inner.ensures ∙ scope_of_bound (known c.args.names.now) (name_of c.args.name.now) c.args.port)) c.requires.run.kept, c.requires.run.counted))
 
 pub run_stmts-loop-stmt-preserved : goal.run_stmts-loop-stmt-preserved
 run_stmts-loop-stmt-preserved t c =

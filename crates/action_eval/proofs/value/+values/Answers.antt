@@ -1,4 +1,4 @@
-use Rattle.std.proofs.Common.{◌≡◌, ◌≤◌, ◌+◌, ◌∙◌, ℕ, length, ap, sym, subst, arith, rules, Ok}
+use Rattle.std.proofs.Common.{◌≡◌, ◌≤◌, ◌+◌, ◌∙◌, ℕ, length, refl, ap, sym, subst, arith, rules, Ok}
 use Rattle.std.specs.Prelude.{◌+ℤ◌}
 use Rattle.std.specs.Int.RustNames.{FitsSigned}
 use mir.Syntax.{w32}
@@ -16,9 +16,11 @@ use Rattle.amoebot_state.specs.Ports.{port}
 use Rattle.action_meaning.specs.Values.{signed}
 use Rattle.action_meaning.specs.Choices.{any_of_ports, all_of_ports, first_of_ports, count_of_ports}
 use Rattle.action_eval.specs.Known.{known, scope_of, sight_of}
-use Rattle.action_eval.specs.UnderNames.{guard_at}
+use Rattle.action_eval.specs.UnderNames.{IsUnder, guard_at}
+use Rattle.action_eval.proofs.UnderNamesLemmas.{has_last, kept_under, asked_at}
+use Rattle.action_eval.proofs.RunningLemmas.{room_to_bind}
 use Rattle.action_eval.proofs.SumLoops.{TermsLeft, terms_fit, terms_start, term_kept, term_counted, terms_next, terms_fail, terms_over}
-use Rattle.action_eval.proofs.ChoicesLemmas.{any_goes_on, any_is_true, any_fails, all_goes_on, all_is_false, all_fails, first_goes_on, first_is_here, first_fails}
+use Rattle.action_eval.proofs.ChoicesLemmas.{and_none, any_goes_on, any_is_true, any_fails, all_goes_on, all_is_false, all_fails, first_goes_on, first_is_here, first_fails}
 use Rattle.action_eval.proofs.GuardLoops.{told_here, told_over, each_next, each_decided, each_fails, each_over, some_next, some_decided, some_fails, some_over, count_next, count_here, count_stops, count_over}
 use Rattle.action_eval.proofs.Nodes.{any_tree, all_tree, first_tree, count_tree, member_tree}
 use Rattle.action_tree.proofs.expression.Guard.TheLaws.{the_size}
@@ -29,84 +31,143 @@ use Rattle.action_eval.proofs.PartSizes.{guard_in_any, guard_in_all, guard_in_co
 use Rattle.action_eval.proofs.value.+values.Goals as goal
 use Rattle.action_eval.proofs.value.+values.Goals.{count_value-then-is_one, count_value-else-is_one}
 
+pub any_value-bind-inner-requires : goal.any_value-bind-inner-requires
+any_value-bind-inner-requires t c = room_to_bind (known c.args.names.now) _ c.requires.new
+
+pub any_value-loop-port-init : goal.any_value-loop-port-init
+any_value-loop-port-init t c = (record { port = _; bound = c.bind-inner.ensures }, refl)
+
+pub any_value-set_last-requires : goal.any_value-set_last-requires
+any_value-set_last-requires t c = has_last _ _ _ c.loop-port.invariant.0
+
+pub any_value-guard_value-requires : goal.any_value-guard_value-requires
+any_value-guard_value-requires t c = (omega (arith, c.decreases), (kept_under _ _ _ _ _ c.requires (c.set_last.ensures (known c.args.names.now) c.args.name.now c.loop-port.invariant.0), c.requires.counted))
+
+pub all_value-bind-inner-requires : goal.all_value-bind-inner-requires
+all_value-bind-inner-requires t c = room_to_bind (known c.args.names.now) _ c.requires.new
+
+pub all_value-loop-port-init : goal.all_value-loop-port-init
+all_value-loop-port-init t c = (record { port = _; bound = c.bind-inner.ensures }, refl)
+
+pub all_value-set_last-requires : goal.all_value-set_last-requires
+all_value-set_last-requires t c = has_last _ _ _ c.loop-port.invariant.0
+
+pub all_value-guard_value-requires : goal.all_value-guard_value-requires
+all_value-guard_value-requires t c = (omega (arith, c.decreases), (kept_under _ _ _ _ _ c.requires (c.set_last.ensures (known c.args.names.now) c.args.name.now c.loop-port.invariant.0), c.requires.counted))
+
+pub first_value-bind-inner-requires : goal.first_value-bind-inner-requires
+first_value-bind-inner-requires t c = room_to_bind (known c.args.names.now) _ c.requires.new
+
+pub first_value-loop-port-init : goal.first_value-loop-port-init
+first_value-loop-port-init t c = (record { port = _; bound = c.bind-inner.ensures }, refl)
+
+pub first_value-set_last-requires : goal.first_value-set_last-requires
+first_value-set_last-requires t c = has_last _ _ _ c.loop-port.invariant.0
+
+pub first_value-guard_value-requires : goal.first_value-guard_value-requires
+first_value-guard_value-requires t c = (omega (arith, c.decreases), (kept_under _ _ _ _ _ c.requires (c.set_last.ensures (known c.args.names.now) c.args.name.now c.loop-port.invariant.0), c.requires.counted))
+
+pub count_value-bind-inner-requires : goal.count_value-bind-inner-requires
+count_value-bind-inner-requires t c = room_to_bind (known c.args.names.now) _ c.requires.new
+
+pub count_value-loop-port-init : goal.count_value-loop-port-init
+count_value-loop-port-init t c = (record { port = _; bound = c.bind-inner.ensures }, and_none _, omega arith)
+
+pub count_value-set_last-requires : goal.count_value-set_last-requires
+count_value-set_last-requires t c = has_last _ _ _ c.loop-port.invariant.0
+
+pub count_value-guard_value-requires : goal.count_value-guard_value-requires
+count_value-guard_value-requires t c = (omega (arith, c.decreases), (kept_under _ _ _ _ _ c.requires (c.set_last.ensures (known c.args.names.now) c.args.name.now c.loop-port.invariant.0), c.requires.counted))
+
 pub any_value-loop-port-preserved : goal.any_value-loop-port-preserved
 any_value-loop-port-preserved t c =
     let asked = guard_at (sight_of c.args.site.now) (known c.args.names.now) c.args.name.now c.args.guard.now in
-    told_here (any_of_ports asked) _ _ _ (port Head 0) _ c.loop-port.invariant c.loop-port-test.true (any_goes_on asked _ _ (sym c.inside_value.ensures ∙ c.in-Ok-false.is ∙ ap Ok c.in-Ok-false.field-0-test))
+    let under = c.set_last.ensures (known c.args.names.now) c.args.name.now c.loop-port.invariant.0 in
+    (record { port = _; bound = under }, told_here (any_of_ports asked) _ _ _ (port Head 0) _ c.loop-port.invariant.1 c.loop-port-test.true (any_goes_on asked _ _ (asked_at _ (known c.args.names.now) c.args.name.now c.args.guard.now _ _ _ under c.guard_value.ensures ∙ c.in-Ok-false.is ∙ ap Ok c.in-Ok-false.field-0-test)))
 
 pub any_value-returns-in-Ok-true : goal.any_value-returns-in-Ok-true
 any_value-returns-in-Ok-true t c =
     let asked = guard_at (sight_of c.args.site.now) (known c.args.names.now) c.args.name.now c.args.guard.now in
-    sym (told_here (any_of_ports asked) _ _ _ (port Head 0) _ c.loop-port.invariant c.loop-port-test.true (any_is_true asked _ _ (sym c.inside_value.ensures ∙ c.in-Ok-true.is ∙ ap Ok c.in-Ok-true.field-0-test))) ∙ ap (any_of_ports asked) (c.deref-port-items.ensures.0 ∙ c.ports_of-ports.ensures)
+    let under = c.set_last.ensures (known c.args.names.now) c.args.name.now c.loop-port.invariant.0 in
+    sym (told_here (any_of_ports asked) _ _ _ (port Head 0) _ c.loop-port.invariant.1 c.loop-port-test.true (any_is_true asked _ _ (asked_at _ (known c.args.names.now) c.args.name.now c.args.guard.now _ _ _ under c.guard_value.ensures ∙ c.in-Ok-true.is ∙ ap Ok c.in-Ok-true.field-0-test))) ∙ ap (any_of_ports asked) (c.deref-port-items.ensures.0 ∙ c.ports_of-ports.ensures)
 
 pub any_value-returns-in-Err : goal.any_value-returns-in-Err
 any_value-returns-in-Err t c =
     let asked = guard_at (sight_of c.args.site.now) (known c.args.names.now) c.args.name.now c.args.guard.now in
-    sym (told_here (any_of_ports asked) _ _ _ (port Head 0) _ c.loop-port.invariant c.loop-port-test.true (any_fails asked _ _ _ (sym c.inside_value.ensures ∙ c.in-Err.is))) ∙ ap (any_of_ports asked) (c.deref-port-items.ensures.0 ∙ c.ports_of-ports.ensures)
+    let under = c.set_last.ensures (known c.args.names.now) c.args.name.now c.loop-port.invariant.0 in
+    sym (told_here (any_of_ports asked) _ _ _ (port Head 0) _ c.loop-port.invariant.1 c.loop-port-test.true (any_fails asked _ _ _ (asked_at _ (known c.args.names.now) c.args.name.now c.args.guard.now _ _ _ under c.guard_value.ensures ∙ c.in-Err.is))) ∙ ap (any_of_ports asked) (c.deref-port-items.ensures.0 ∙ c.ports_of-ports.ensures)
 
 pub any_value-returns : goal.any_value-returns
 any_value-returns t c =
     let asked = guard_at (sight_of c.args.site.now) (known c.args.names.now) c.args.name.now c.args.guard.now in
-    sym (told_over (any_of_ports asked) _ _ _ c.loop-port.invariant c.loop-port-test.false) ∙ ap (any_of_ports asked) (c.deref-port-items.ensures.0 ∙ c.ports_of-ports.ensures)
+    sym (told_over (any_of_ports asked) _ _ _ c.loop-port.invariant.1 c.loop-port-test.false) ∙ ap (any_of_ports asked) (c.deref-port-items.ensures.0 ∙ c.ports_of-ports.ensures)
 
 pub all_value-loop-port-preserved : goal.all_value-loop-port-preserved
 all_value-loop-port-preserved t c =
     let asked = guard_at (sight_of c.args.site.now) (known c.args.names.now) c.args.name.now c.args.guard.now in
-    told_here (all_of_ports asked) _ _ _ (port Head 0) _ c.loop-port.invariant c.loop-port-test.true (all_goes_on asked _ _ (sym c.inside_value.ensures ∙ c.in-Ok-true.is ∙ ap Ok c.in-Ok-true.field-0-test))
+    let under = c.set_last.ensures (known c.args.names.now) c.args.name.now c.loop-port.invariant.0 in
+    (record { port = _; bound = under }, told_here (all_of_ports asked) _ _ _ (port Head 0) _ c.loop-port.invariant.1 c.loop-port-test.true (all_goes_on asked _ _ (asked_at _ (known c.args.names.now) c.args.name.now c.args.guard.now _ _ _ under c.guard_value.ensures ∙ c.in-Ok-true.is ∙ ap Ok c.in-Ok-true.field-0-test)))
 
 pub all_value-returns-in-Ok-false : goal.all_value-returns-in-Ok-false
 all_value-returns-in-Ok-false t c =
     let asked = guard_at (sight_of c.args.site.now) (known c.args.names.now) c.args.name.now c.args.guard.now in
-    sym (told_here (all_of_ports asked) _ _ _ (port Head 0) _ c.loop-port.invariant c.loop-port-test.true (all_is_false asked _ _ (sym c.inside_value.ensures ∙ c.in-Ok-false.is ∙ ap Ok c.in-Ok-false.field-0-test))) ∙ ap (all_of_ports asked) (c.deref-port-items.ensures.0 ∙ c.ports_of-ports.ensures)
+    let under = c.set_last.ensures (known c.args.names.now) c.args.name.now c.loop-port.invariant.0 in
+    sym (told_here (all_of_ports asked) _ _ _ (port Head 0) _ c.loop-port.invariant.1 c.loop-port-test.true (all_is_false asked _ _ (asked_at _ (known c.args.names.now) c.args.name.now c.args.guard.now _ _ _ under c.guard_value.ensures ∙ c.in-Ok-false.is ∙ ap Ok c.in-Ok-false.field-0-test))) ∙ ap (all_of_ports asked) (c.deref-port-items.ensures.0 ∙ c.ports_of-ports.ensures)
 
 pub all_value-returns-in-Err : goal.all_value-returns-in-Err
 all_value-returns-in-Err t c =
     let asked = guard_at (sight_of c.args.site.now) (known c.args.names.now) c.args.name.now c.args.guard.now in
-    sym (told_here (all_of_ports asked) _ _ _ (port Head 0) _ c.loop-port.invariant c.loop-port-test.true (all_fails asked _ _ _ (sym c.inside_value.ensures ∙ c.in-Err.is))) ∙ ap (all_of_ports asked) (c.deref-port-items.ensures.0 ∙ c.ports_of-ports.ensures)
+    let under = c.set_last.ensures (known c.args.names.now) c.args.name.now c.loop-port.invariant.0 in
+    sym (told_here (all_of_ports asked) _ _ _ (port Head 0) _ c.loop-port.invariant.1 c.loop-port-test.true (all_fails asked _ _ _ (asked_at _ (known c.args.names.now) c.args.name.now c.args.guard.now _ _ _ under c.guard_value.ensures ∙ c.in-Err.is))) ∙ ap (all_of_ports asked) (c.deref-port-items.ensures.0 ∙ c.ports_of-ports.ensures)
 
 pub all_value-returns : goal.all_value-returns
 all_value-returns t c =
     let asked = guard_at (sight_of c.args.site.now) (known c.args.names.now) c.args.name.now c.args.guard.now in
-    sym (told_over (all_of_ports asked) _ _ _ c.loop-port.invariant c.loop-port-test.false) ∙ ap (all_of_ports asked) (c.deref-port-items.ensures.0 ∙ c.ports_of-ports.ensures)
+    sym (told_over (all_of_ports asked) _ _ _ c.loop-port.invariant.1 c.loop-port-test.false) ∙ ap (all_of_ports asked) (c.deref-port-items.ensures.0 ∙ c.ports_of-ports.ensures)
 
 pub first_value-loop-port-preserved : goal.first_value-loop-port-preserved
 first_value-loop-port-preserved t c =
     let asked = guard_at (sight_of c.args.site.now) (known c.args.names.now) c.args.name.now c.args.guard.now in
-    told_here (first_of_ports asked) _ _ _ (port Head 0) _ c.loop-port.invariant c.loop-port-test.true (first_goes_on asked _ _ (sym c.inside_value.ensures ∙ c.in-Ok-false.is ∙ ap Ok c.in-Ok-false.field-0-test))
+    let under = c.set_last.ensures (known c.args.names.now) c.args.name.now c.loop-port.invariant.0 in
+    (record { port = _; bound = under }, told_here (first_of_ports asked) _ _ _ (port Head 0) _ c.loop-port.invariant.1 c.loop-port-test.true (first_goes_on asked _ _ (asked_at _ (known c.args.names.now) c.args.name.now c.args.guard.now _ _ _ under c.guard_value.ensures ∙ c.in-Ok-false.is ∙ ap Ok c.in-Ok-false.field-0-test)))
 
 pub first_value-returns-in-Ok-true : goal.first_value-returns-in-Ok-true
 first_value-returns-in-Ok-true t c =
     let asked = guard_at (sight_of c.args.site.now) (known c.args.names.now) c.args.name.now c.args.guard.now in
-    sym (told_here (first_of_ports asked) _ _ _ (port Head 0) _ c.loop-port.invariant c.loop-port-test.true (first_is_here asked _ _ (sym c.inside_value.ensures ∙ c.in-Ok-true.is ∙ ap Ok c.in-Ok-true.field-0-test))) ∙ ap (first_of_ports asked) (c.deref-port-items.ensures.0 ∙ c.ports_of-ports.ensures)
+    let under = c.set_last.ensures (known c.args.names.now) c.args.name.now c.loop-port.invariant.0 in
+    sym (told_here (first_of_ports asked) _ _ _ (port Head 0) _ c.loop-port.invariant.1 c.loop-port-test.true (first_is_here asked _ _ (asked_at _ (known c.args.names.now) c.args.name.now c.args.guard.now _ _ _ under c.guard_value.ensures ∙ c.in-Ok-true.is ∙ ap Ok c.in-Ok-true.field-0-test))) ∙ ap (first_of_ports asked) (c.deref-port-items.ensures.0 ∙ c.ports_of-ports.ensures)
 
 pub first_value-returns-in-Err : goal.first_value-returns-in-Err
 first_value-returns-in-Err t c =
     let asked = guard_at (sight_of c.args.site.now) (known c.args.names.now) c.args.name.now c.args.guard.now in
-    sym (told_here (first_of_ports asked) _ _ _ (port Head 0) _ c.loop-port.invariant c.loop-port-test.true (first_fails asked _ _ _ (sym c.inside_value.ensures ∙ c.in-Err.is))) ∙ ap (first_of_ports asked) (c.deref-port-items.ensures.0 ∙ c.ports_of-ports.ensures)
+    let under = c.set_last.ensures (known c.args.names.now) c.args.name.now c.loop-port.invariant.0 in
+    sym (told_here (first_of_ports asked) _ _ _ (port Head 0) _ c.loop-port.invariant.1 c.loop-port-test.true (first_fails asked _ _ _ (asked_at _ (known c.args.names.now) c.args.name.now c.args.guard.now _ _ _ under c.guard_value.ensures ∙ c.in-Err.is))) ∙ ap (first_of_ports asked) (c.deref-port-items.ensures.0 ∙ c.ports_of-ports.ensures)
 
 pub first_value-returns : goal.first_value-returns
 first_value-returns t c =
     let asked = guard_at (sight_of c.args.site.now) (known c.args.names.now) c.args.name.now c.args.guard.now in
-    sym (told_over (first_of_ports asked) _ _ _ c.loop-port.invariant c.loop-port-test.false) ∙ ap (first_of_ports asked) (c.deref-port-items.ensures.0 ∙ c.ports_of-ports.ensures)
+    sym (told_over (first_of_ports asked) _ _ _ c.loop-port.invariant.1 c.loop-port-test.false) ∙ ap (first_of_ports asked) (c.deref-port-items.ensures.0 ∙ c.ports_of-ports.ensures)
 
 pub count_value-loop-port-preserved : goal.count_value-loop-port-preserved
 count_value-loop-port-preserved t c =
     let asked = guard_at (sight_of c.args.site.now) (known c.args.names.now) c.args.name.now c.args.guard.now in
-    let e = sym c.inside_value.ensures ∙ c.in-Ok.is in
+    let under = c.set_last.ensures (known c.args.names.now) c.args.name.now c.loop-port.invariant.0 in
+    let e = asked_at _ (known c.args.names.now) c.args.name.now c.args.guard.now _ _ _ under c.guard_value.ensures ∙ c.in-Ok.is in
     elim c.if-is_one.branch [
-      | count_value-then-is_one w ↦ rw w.count-is (count_here asked _ _ _ (port Head 0) c.loop-port.invariant.0 c.loop-port-test.true (e ∙ ap Ok w.if-is_one.true), omega arith)
-      | count_value-else-is_one w ↦ rw w.count-is (count_next asked _ _ _ (port Head 0) c.loop-port.invariant.0 c.loop-port-test.true (e ∙ ap Ok w.if-is_one.false), omega arith)
+      | count_value-then-is_one w ↦ rw w.count-is (record { port = _; bound = under }, count_here asked _ _ _ (port Head 0) c.loop-port.invariant.1 c.loop-port-test.true (e ∙ ap Ok w.if-is_one.true), omega arith)
+      | count_value-else-is_one w ↦ rw w.count-is (record { port = _; bound = under }, count_next asked _ _ _ (port Head 0) c.loop-port.invariant.1 c.loop-port-test.true (e ∙ ap Ok w.if-is_one.false), omega arith)
     ]
 
 pub count_value-returns-in-Err-clause-value : goal.count_value-returns-in-Err-clause-value
 count_value-returns-in-Err-clause-value t c =
     let asked = guard_at (sight_of c.args.site.now) (known c.args.names.now) c.args.name.now c.args.guard.now in
-    sym (count_stops asked _ _ _ (port Head 0) _ c.loop-port.invariant.0 c.loop-port-test.true (sym c.inside_value.ensures ∙ c.in-Err.is)) ∙ ap (count_of_ports asked) (c.deref-port-items.ensures.0 ∙ c.ports_of-ports.ensures)
+    let under = c.set_last.ensures (known c.args.names.now) c.args.name.now c.loop-port.invariant.0 in
+    sym (count_stops asked _ _ _ (port Head 0) _ c.loop-port.invariant.1 c.loop-port-test.true (asked_at _ (known c.args.names.now) c.args.name.now c.args.guard.now _ _ _ under c.guard_value.ensures ∙ c.in-Err.is)) ∙ ap (count_of_ports asked) (c.deref-port-items.ensures.0 ∙ c.ports_of-ports.ensures)
 
 pub count_value-returns-clause-value : goal.count_value-returns-clause-value
 count_value-returns-clause-value t c =
     let asked = guard_at (sight_of c.args.site.now) (known c.args.names.now) c.args.name.now c.args.guard.now in
-    sym (count_over asked _ _ _ c.loop-port.invariant.0 c.loop-port-test.false) ∙ ap (count_of_ports asked) (c.deref-port-items.ensures.0 ∙ c.ports_of-ports.ensures)
+    sym (count_over asked _ _ _ c.loop-port.invariant.1 c.loop-port-test.false) ∙ ap (count_of_ports asked) (c.deref-port-items.ensures.0 ∙ c.ports_of-ports.ensures)
 
 pub each_value-loop-guard-preserved : goal.each_value-loop-guard-preserved
 each_value-loop-guard-preserved t c = each_next _ _ _ _ _ _ c.loop-guard.invariant c.loop-guard-test.true c.guard-item.is (sym c.guard_value.ensures ∙ c.in-Ok-true.is ∙ ap Ok c.in-Ok-true.field-0-test)

@@ -1,7 +1,7 @@
 use Rattle.std.proofs.Common.{◌≡◌, ◌≤◌, drop}
 use Rattle.action_meaning.specs.Choices.{any_of_ports, all_of_ports, first_of_ports, count_of_ports}
 use Rattle.action_eval.specs.Known.{known, scope_of, sight_of}
-use Rattle.action_eval.specs.UnderNames.{guard_at}
+use Rattle.action_eval.specs.UnderNames.{IsUnder, guard_at}
 use Rattle.action_eval.proofs.ChoicesLemmas.{and_so_many}
 use Rattle.action_eval.proofs.SumLoops.{TermsLeft}
 use Rattle.action_eval.proofs.GuardLoops.{EachLeft, SomeLeft}
@@ -16,22 +16,22 @@ invariant-some_value-loop-guard l = SomeLeft (sight_of l.site) (known l.names) (
 abbrev pub invariant-any_value-loop-port : goal.invariant-any_value-loop-port
 invariant-any_value-loop-port l =
     let asked = guard_at (sight_of l.site) (known l.names) l.name l.guard in
-    any_of_ports asked l.port-items ≡ any_of_ports asked (drop l.port-index l.port-items)
+    IsUnder (known l.names) l.name (known l.inner) × (any_of_ports asked l.port-items ≡ any_of_ports asked (drop l.port-index l.port-items))
 
 abbrev pub invariant-all_value-loop-port : goal.invariant-all_value-loop-port
 invariant-all_value-loop-port l =
     let asked = guard_at (sight_of l.site) (known l.names) l.name l.guard in
-    all_of_ports asked l.port-items ≡ all_of_ports asked (drop l.port-index l.port-items)
+    IsUnder (known l.names) l.name (known l.inner) × (all_of_ports asked l.port-items ≡ all_of_ports asked (drop l.port-index l.port-items))
 
 abbrev pub invariant-first_value-loop-port : goal.invariant-first_value-loop-port
 invariant-first_value-loop-port l =
     let asked = guard_at (sight_of l.site) (known l.names) l.name l.guard in
-    first_of_ports asked l.port-items ≡ first_of_ports asked (drop l.port-index l.port-items)
+    IsUnder (known l.names) l.name (known l.inner) × (first_of_ports asked l.port-items ≡ first_of_ports asked (drop l.port-index l.port-items))
 
 abbrev pub invariant-count_value-loop-port : goal.invariant-count_value-loop-port
 invariant-count_value-loop-port l =
     let asked = guard_at (sight_of l.site) (known l.names) l.name l.guard in
-    (count_of_ports asked l.port-items ≡ and_so_many l.count (count_of_ports asked (drop l.port-index l.port-items))) × (l.count ≤ l.port-index)
+    IsUnder (known l.names) l.name (known l.inner) × (count_of_ports asked l.port-items ≡ and_so_many l.count (count_of_ports asked (drop l.port-index l.port-items))) × (l.count ≤ l.port-index)
 
 abbrev pub invariant-sum_value-loop-part : goal.invariant-sum_value-loop-part
 invariant-sum_value-loop-part l = TermsLeft (sight_of l.site) (known l.names) (scope_of (known l.names)) l.part-items l.part-index l.total

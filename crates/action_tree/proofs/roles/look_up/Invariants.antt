@@ -1,6 +1,6 @@
 use Rattle.std.proofs.Common.{◌≡◌, map, drop}
 use Rattle.action_tree.specs.Roles.{look_up, entry}
-use Rattle.action_parser.proofs.roles.look_up.Given as goal
+use Rattle.action_tree.proofs.roles.look_up.Given as goal
 
 -- the rest of the table says the same
 abbrev pub invariant-loop-word : goal.invariant-loop-word

@@ -3,8 +3,8 @@ use Rattle.std.specs.Str.{bytes_eq}
 use Rattle.action_tree.specs.declared.role.Role.{Role}
 use Rattle.action_tree.specs.declared.role.Role.TheVariants as role
 use Rattle.action_tree.specs.Roles.{Entry, entry}
-use Rattle.action_parser.proofs.Tables.{said_here}
-use Rattle.action_parser.proofs.roles.look_up.Goals as goal
+use Rattle.action_tree.proofs.Tables.{said_here}
+use Rattle.action_tree.proofs.roles.look_up.Goals as goal
 
 abbrev as_entry : Bor (List ℕ) × Role → Entry Role
 as_entry e = entry e.0.now e.1
