@@ -38,7 +38,7 @@ use Rattle.tri_lattice.specs.declared.node.Node.{Node}
 use Rattle.claim_rule.specs.declared.views.Note.{Note}
 use Rattle.claim_rule.specs.Stands.{first_plain, slot_of}
 use Rattle.claim_rule.specs.Plays.{IsPlaced, IsKnown, IsOthers, IsToTry, IsToTryNode, IsToFree, Wins, IsRefusedAt, tried, IsToFreeNode, IsToRead, occ_in, but_first, but_last, mark_of_phase, marked_at, released_caller, with_node, about, bot_in}
-use Rattle.claim_rule.specs.Tokens.{emptied, nodes_held, IsSeat, IsActivation, IsClaiming, IsStopped, HoldsWholeZone, HasMark, IsFreeing}
+use Rattle.claim_rule.specs.Tokens.{AreOut, nodes_held, IsSeat, IsActivation, IsClaiming, IsStopped, HoldsWholeZone, HasMark, IsFreeing}
 
 -- the last one is the first, the other way round
 pub last_first : (xs : Pairs) (x : CellName × Cell) → reverse (xs ++ x ∷ []) ≡ x ∷ reverse xs
@@ -47,7 +47,6 @@ last_first xs x = reverse-append xs (x ∷ [])
 -- the value of the slot that was taken last
 abbrev first_value : List (ℕ × Slot) → Cell
 first_value [] = cell.Spot None
-first_value ((i, slot.Empty) ∷ out) = cell.Spot None
 first_value ((i, slot.Cell x) ∷ out) = x
 first_value ((i, slot.Journal j) ∷ out) = cell.Spot None
 
@@ -169,7 +168,7 @@ module _ {D : Type 0} (verdict : D → Shown → Verdict) where
     HasPlace p = (i : ℕ) × IsPlaced g (cell_of p) i
 
     -- the seat with another record of the same caller, which holds these cells and has the slots of the bodies among them out
-    pub with_held : (r : Record) (out : List (ℕ × Slot)) (cells : Pairs) (ws : List Note) → All (λ (w : Note). w.stamp ≤ most_turns) ws → r.number ≡ c → r.taken ≡ None → r.caller.held ≡ cells → All HasPlace cells → r.won ≡ ws → r.note ≡ None → map (λ (w : Note). w.node) ws ≡ nodes_held cells → out ≡ emptied cells
+    pub with_held : (r : Record) (out : List (ℕ × Slot)) (cells : Pairs) (ws : List Note) → All (λ (w : Note). w.stamp ≤ most_turns) ws → r.number ≡ c → r.taken ≡ None → r.caller.held ≡ cells → All HasPlace cells → r.won ≡ ws → r.note ≡ None → map (λ (w : Note). w.node) ws ≡ nodes_held cells → AreOut cells out
         → IsActivation verdict (like m.0 (r ∷ []), out) c t b bare cells ws
     with_held r out cells ws few number taken held placed won note nodes slots = record {
       alone = refl;
@@ -195,12 +194,12 @@ module _ {D : Type 0} (verdict : D → Shown → Verdict) where
         subst (λ q. IsActivation verdict q c t b bare pairs notes) (λ i. (sym view i, sym out i))
         (with_held (record (own m.0) { caller = k }) m.1 pairs notes is.few is.number is.taken (held ∙ is.held) is.placed is.won is.note is.nodes is.out)
 
-    -- a body was won, and its value taken out
+    -- a body was won, and its value read
     pub wins_body : (m' m2 : Seated D) (i : ℕ) (x v : Cell) → IsClaiming verdict m t b pairs → next_of g (bot_in verdict m.0) (own m.0).caller.held ≡ Some (name.Body i)
         → m'.0 ≡ goes_on m.0 (caller_with_cell g (own m.0).number (own m.0).caller (name.Body i) x) → m'.1 ≡ (i, slot.Cell x) ∷ m.1 → IsKnown g (bot_in verdict m.0) ((name.Body i, x) ∷ (own m.0).caller.held)
-        → m'.1 ≡ (i, slot.Cell v) ∷ rest m'.1 → m2 ≡ (m'.0, (i, slot.Empty) ∷ rest m'.1)
+        → m'.1 ≡ (i, slot.Cell v) ∷ rest m'.1 → m2 ≡ m'
         → IsActivation verdict m2 c t b bare ((name.Body i, v) ∷ pairs) notes × IsClaiming verdict m2 t b ((name.Body i, v) ∷ pairs)
-    wins_body m' m2 i x v cl next view out known read filled = subst (λ q. IsActivation verdict q c t b bare ((name.Body i, v) ∷ pairs) notes × IsClaiming verdict q t b ((name.Body i, v) ∷ pairs)) (sym now) (after, claiming)
+    wins_body m' m2 i x v cl next view out known read stays = subst (λ q. IsActivation verdict q c t b bare ((name.Body i, v) ∷ pairs) notes × IsClaiming verdict q t b ((name.Body i, v) ∷ pairs)) (sym now) (after, claiming)
       where
         k : Caller
         k = caller_with_cell g (own m.0).number (own m.0).caller (name.Body i) x
@@ -208,8 +207,8 @@ module _ {D : Type 0} (verdict : D → Shown → Verdict) where
         same : v ≡ x
         same = ap first_value (sym read ∙ out)
 
-        now : m2 ≡ (goes_on m.0 k, (i, slot.Empty) ∷ m.1)
-        now = filled ∙ (λ j. (view j, (i, slot.Empty) ∷ rest (out j)))
+        now : m2 ≡ (goes_on m.0 k, (i, slot.Cell x) ∷ m.1)
+        now = stays ∙ (λ j. (view j, out j))
 
         pairs_are : (name.Body i, x) ∷ (own m.0).caller.held ≡ (name.Body i, v) ∷ pairs
         pairs_are = λ j. (name.Body i, sym same j) ∷ is.held j
@@ -217,10 +216,10 @@ module _ {D : Type 0} (verdict : D → Shown → Verdict) where
         place : (j : ℕ) × IsPlaced g (name.Body i) j
         place = cl.known.placed (name.Body i) (sym (next_same cl.turn) ∙ next)
 
-        after : IsActivation verdict (goes_on m.0 k, (i, slot.Empty) ∷ m.1) c t b bare ((name.Body i, v) ∷ pairs) notes
-        after = with_held (record (own m.0) { caller = k }) ((i, slot.Empty) ∷ m.1) ((name.Body i, v) ∷ pairs) notes is.few is.number is.taken pairs_are (All-cons HasPlace (name.Body i, v) pairs place is.placed) is.won is.note is.nodes (λ j. (i, slot.Empty) ∷ is.out j)
+        after : IsActivation verdict (goes_on m.0 k, (i, slot.Cell x) ∷ m.1) c t b bare ((name.Body i, v) ∷ pairs) notes
+        after = with_held (record (own m.0) { caller = k }) ((i, slot.Cell x) ∷ m.1) ((name.Body i, v) ∷ pairs) notes is.few is.number is.taken pairs_are (All-cons HasPlace (name.Body i, v) pairs place is.placed) is.won is.note is.nodes (x, m.1, refl, is.out)
 
-        claiming : IsClaiming verdict (goes_on m.0 k, (i, slot.Empty) ∷ m.1) t b ((name.Body i, v) ∷ pairs)
+        claiming : IsClaiming verdict (goes_on m.0 k, (i, slot.Cell x) ∷ m.1) t b ((name.Body i, v) ∷ pairs)
         claiming = record {
           turn = cl.turn;
           counted = cl.counted;
@@ -229,13 +228,13 @@ module _ {D : Type 0} (verdict : D → Shown → Verdict) where
         }
 
     -- so it is after a try that won it
-    pub wins_plain : (m' m2 : Seated D) (i : ℕ) (v : Cell) → IsClaiming verdict m t b pairs → next_of g (bot_in verdict m.0) (own m.0).caller.held ≡ Some (name.Body i) → Wins verdict m m' → m'.1 ≡ (i, slot.Cell v) ∷ rest m'.1 → m2 ≡ (m'.0, (i, slot.Empty) ∷ rest m'.1)
+    pub wins_plain : (m' m2 : Seated D) (i : ℕ) (v : Cell) → IsClaiming verdict m t b pairs → next_of g (bot_in verdict m.0) (own m.0).caller.held ≡ Some (name.Body i) → Wins verdict m m' → m'.1 ≡ (i, slot.Cell v) ∷ rest m'.1 → m2 ≡ m'
         → IsActivation verdict m2 c t b bare ((name.Body i, v) ∷ pairs) notes × IsClaiming verdict m2 t b ((name.Body i, v) ∷ pairs)
-    wins_plain m' m2 i v cl next won read filled =
+    wins_plain m' m2 i v cl next won read stays =
         wins_body m' m2 i won.value v cl next
         (won.now ∙ ap (λ n. goes_on m.0 (caller_with_cell g (own m.0).number (own m.0).caller n won.value)) is_i)
         (won.out ∙ ap (λ n. (slot_of n, slot.Cell won.value) ∷ m.1) is_i)
-        (subst (λ n. IsKnown g (bot_in verdict m.0) ((n, won.value) ∷ (own m.0).caller.held)) is_i won.known) read filled
+        (subst (λ n. IsKnown g (bot_in verdict m.0) ((n, won.value) ∷ (own m.0).caller.held)) is_i won.known) read stays
       where
         is_i : tried verdict m.0 ≡ name.Body i
         is_i = ap (λ o. unwrap_or o (name.Body 0)) next
@@ -453,14 +452,17 @@ module _ {D : Type 0} (verdict : D → Shown → Verdict) where
       frees_node m2 view out = subst (λ q. IsActivation verdict q c t b bare held ws × IsFreeing verdict q t held after) (λ j. (sym view j, sym out j)) (
         with_held (record (own m.0) { caller = released_caller g (own m.0).caller; won = but_first (own m.0).won }) m.1 held ws (All-tail (λ (u : Note). u.stamp ≤ most_turns) w ws (subst (All (λ (u : Note). u.stamp ≤ most_turns)) notes_are is.few)) is.number is.taken
             (ap (λ (j : Caller). j.held) (k_is (name.Spot v) x held are after fr) ∙ frees-held g t held (own m.0).caller.marks) (rest_placed (name.Spot v) x held are after fr)
-            (ap but_first (is.won ∙ notes_are)) is.note (λ j. tail_of ((ap (map (λ (u : Note). u.node)) (sym notes_are) ∙ is.nodes ∙ ap nodes_held are) j)) (is.out ∙ ap emptied are),
+            (ap but_first (is.won ∙ notes_are)) is.note (λ j. tail_of ((ap (map (λ (u : Note). u.node)) (sym notes_are) ∙ is.nodes ∙ ap nodes_held are) j)) (subst (λ (ps : Pairs). AreOut ps m.1) are is.out),
         freeing_still (name.Spot v) x held are after fr (record (own m.0) { caller = released_caller g (own m.0).caller; won = but_first (own m.0).won }) m.1 refl,
       )
 
     -- a body
     module _ (i : ℕ) (x : Cell) (held : Pairs) (are : pairs ≡ (name.Body i, x) ∷ held) (after : ℕ) (fr : IsFreeing verdict m t pairs after) where
-      pub last_out : m.1 ≡ (i, slot.Empty) ∷ rest m.1
-      last_out = subst (λ (out : List (ℕ × Slot)). out ≡ (i, slot.Empty) ∷ rest out) (sym (is.out ∙ ap emptied are)) refl
+      outs : AreOut ((name.Body i, x) ∷ held) m.1
+      outs = subst (λ (ps : Pairs). AreOut ps m.1) are is.out
+
+      pub last_out : (y : Cell) × (m.1 ≡ (i, slot.Cell y) ∷ rest m.1)
+      last_out = (outs.0, subst (λ (out : List (ℕ × Slot)). out ≡ (i, slot.Cell outs.0) ∷ rest out) (sym outs.2) refl)
 
       pub to_free : (m' : Seated D) (j : ℕ) → number bare.area (name.Body i) ≡ Some j → m' ≡ (m.0, (i, slot.Cell x) ∷ rest m.1) → IsToFree verdict j m'
       to_free m' j at_n now =
@@ -474,15 +476,15 @@ module _ {D : Type 0} (verdict : D → Shown → Verdict) where
 
       pub frees_body : (m' m2 : Seated D) → m' ≡ (m.0, (i, slot.Cell x) ∷ rest m.1) → m2.0 ≡ goes_on m'.0 (released_caller (about verdict m'.0) (own m'.0).caller) → m2.1 ≡ rest m'.1 → IsActivation verdict m2 c t b bare held notes × IsFreeing verdict m2 t held after
       frees_body m' m2 now view out = subst (λ q. IsActivation verdict q c t b bare held notes × IsFreeing verdict q t held after) (sym is_now) (
-        with_held (record (own m.0) { caller = released_caller g (own m.0).caller }) (emptied held) held notes is.few is.number is.taken
-            (ap (λ (j : Caller). j.held) (k_is (name.Body i) x held are after fr) ∙ frees-held g t held (own m.0).caller.marks) (rest_placed (name.Body i) x held are after fr) is.won is.note (is.nodes ∙ ap nodes_held are) refl,
-        freeing_still (name.Body i) x held are after fr (record (own m.0) { caller = released_caller g (own m.0).caller }) (emptied held) refl,
+        with_held (record (own m.0) { caller = released_caller g (own m.0).caller }) (rest m.1) held notes is.few is.number is.taken
+            (ap (λ (j : Caller). j.held) (k_is (name.Body i) x held are after fr) ∙ frees-held g t held (own m.0).caller.marks) (rest_placed (name.Body i) x held are after fr) is.won is.note (is.nodes ∙ ap nodes_held are) (subst (AreOut held) (sym (ap rest outs.2)) outs.3),
+        freeing_still (name.Body i) x held are after fr (record (own m.0) { caller = released_caller g (own m.0).caller }) (rest m.1) refl,
       )
         where
-          is_now : m2 ≡ (goes_on m.0 (released_caller g (own m.0).caller), emptied held)
+          is_now : m2 ≡ (goes_on m.0 (released_caller g (own m.0).caller), rest m.1)
           is_now = λ j. (
             (view ∙ ap (λ (q : Seated D). goes_on q.0 (released_caller (about verdict q.0) (own q.0).caller)) now) j,
-            (out ∙ ap (λ (q : Seated D). rest q.1) now ∙ ap rest (is.out ∙ ap emptied are)) j,
+            (out ∙ ap (λ (q : Seated D). rest q.1) now) j,
           )
 
     -- with nothing held the next turn begins
@@ -497,6 +499,6 @@ module _ {D : Type 0} (verdict : D → Shown → Verdict) where
       taken = is.taken;
       won = is.won ∙ none_of notes (is.nodes ∙ ap nodes_held none);
       note = is.note;
-      out = is.out ∙ ap emptied none;
+      out = subst (λ (ps : Pairs). AreOut ps m.1) none is.out;
       world = is.world;
     }

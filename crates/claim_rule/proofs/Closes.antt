@@ -49,7 +49,6 @@ some_there {A} xs c lt all = by (get_or xs c None) (slice_get-get_or xs c None l
 
 -- a slot with a journal has one
 abbrev kept_in : Kept → Slot → Kept
-kept_in d slot.Empty = d
 kept_in d (slot.Cell x) = d
 kept_in d (slot.Journal j) = j
 

@@ -33,8 +33,8 @@ use Rattle.claim_rule.specs.declared.views.View.{View}
 use Rattle.claim_rule.specs.Views.{Seated, own, like}
 use Rattle.claim_rule.specs.Stands.{journal_slot}
 use Rattle.claim_rule.specs.Plays.{IsPlaced, about}
-use Rattle.claim_rule.specs.Commits.{HasRoomForEntry, GotJournal, IsPushed, IsToCommit, Commits, with_journal, with_commit}
-use Rattle.claim_rule.specs.Tokens.{emptied, nodes_held, IsActivation, HoldsWholeZone, IsFreeing}
+use Rattle.claim_rule.specs.Commits.{GotJournal, IsPushed, IsToCommit, Commits, with_journal, with_commit}
+use Rattle.claim_rule.specs.Tokens.{AreOut, nodes_held, IsActivation, HoldsWholeZone, IsFreeing}
 use Rattle.claim_rule.specs.Settling.{untaken, IsTaken}
 use Rattle.claim_rule.proofs.ActivationLemmas.{with_held, stays, whole_some}
 
@@ -46,15 +46,14 @@ change_or d p = d
 
 abbrev journal_or : Kept → List (ℕ × Slot) → Kept
 journal_or d [] = d
-journal_or d ((i, slot.Empty) ∷ out) = d
 journal_or d ((i, slot.Cell x) ∷ out) = d
 journal_or d ((i, slot.Journal j) ∷ out) = j
 
--- new values leave the cells
-emptied_renewed : (patch xs : Pairs) → emptied (map (patched_pair patch) xs) ≡ emptied xs
-emptied_renewed patch [] = refl
-emptied_renewed patch ((name.Spot v, x) ∷ xs) = emptied_renewed patch xs
-emptied_renewed patch ((name.Body i, x) ∷ xs) = ap (λ (out : List (ℕ × Slot)). (i, slot.Empty) ∷ out) (emptied_renewed patch xs)
+-- new values leave the cells, and their slots
+out_still : (patch xs : Pairs) (outs : List (ℕ × Slot)) → AreOut xs outs → AreOut (map (patched_pair patch) xs) outs
+out_still patch [] outs are = are
+out_still patch ((name.Spot v, x) ∷ xs) outs are = out_still patch xs outs are
+out_still patch ((name.Body i, x) ∷ xs) outs are = (are.0, are.1, are.2, out_still patch xs are.1 are.3)
 
 nodes_renewed : (patch xs : Pairs) → nodes_held (map (patched_pair patch) xs) ≡ nodes_held xs
 nodes_renewed patch [] = refl
@@ -69,22 +68,18 @@ module _ {D : Type 0} (verdict : D → Shown → Verdict) (m : Seated D) (c t b 
   g = about verdict m.0
 
   -- the journal was got
-  pub got_it : (told : Shown) (after : ℕ) (change : Change) (i : ℕ) (m' m2 : Seated D) (j : Kept) → IsActivation verdict m c t b bare pairs notes → HoldsWholeZone verdict m t b pairs told after → (own m.0).caller.phase ≡ Taking change → i ≡ journal_slot g.world
-      → GotJournal i m m' → m'.1 ≡ (i, slot.Journal j) ∷ rest m'.1 → m2 ≡ (m'.0, (i, slot.Empty) ∷ rest m'.1)
-      → IsTaken verdict m2 c t b bare pairs notes change j × (m2.0 ≡ like m.0 (with_journal (own m.0) change j ∷ []))
-  got_it told after_mark change i m' m2 j is wh phase at_i got read taken_out = (subst (λ q. IsTaken verdict q c t b bare pairs notes change j) (sym now) after, ap (λ (q : Seated D). q.0) now)
+  pub got_it : (told : Shown) (after : ℕ) (change : Change) (i : ℕ) (m' : Seated D) → IsActivation verdict m c t b bare pairs notes → HoldsWholeZone verdict m t b pairs told after → (own m.0).caller.phase ≡ Taking change → i ≡ journal_slot g.world
+      → (got : GotJournal i m m') → IsTaken verdict m' c t b bare pairs notes change × (m'.0 ≡ like m.0 (with_journal (own m.0) change got.journal ∷ []))
+  got_it told after_mark change i m' is wh phase at_i got = (subst (λ q. IsTaken verdict q c t b bare pairs notes change) (sym now) after, ap (λ (q : Seated D). q.0) now)
     where
       same_change : got.change ≡ change
       same_change = ap (change_or change) (sym got.phase ∙ phase)
 
-      same_journal : got.journal ≡ j
-      same_journal = ap (journal_or j) (sym got.out ∙ read)
-
       v : View D
-      v = like m.0 (with_journal (own m.0) change j ∷ [])
+      v = like m.0 (with_journal (own m.0) change got.journal ∷ [])
 
-      now : m2 ≡ (v, (journal_slot g.world, slot.Empty) ∷ m.1)
-      now = taken_out ∙ (λ q. ((got.now ∙ (λ p. like m.0 (with_journal (own m.0) (same_change p) (same_journal p) ∷ []))) q, (at_i q, slot.Empty) ∷ rest (got.out q)))
+      now : m' ≡ (v, (journal_slot g.world, slot.Journal got.journal) ∷ m.1)
+      now = λ q. ((got.now ∙ (λ p. like m.0 (with_journal (own m.0) (same_change p) got.journal ∷ []))) q, (got.out ∙ (λ p. (at_i p, slot.Journal got.journal) ∷ m.1)) q)
 
       k : Caller
       k = record (own m.0).caller { phase = Committing change }
@@ -95,42 +90,46 @@ module _ {D : Type 0} (verdict : D → Shown → Verdict) (m : Seated D) (c t b 
         | inr released ↦ absurd (not_released change (sym phase ∙ released.0))
       ]
 
-      after : IsTaken verdict (v, (journal_slot g.world, slot.Empty) ∷ m.1) c t b bare pairs notes change j
+      after : IsTaken verdict (v, (journal_slot g.world, slot.Journal got.journal) ∷ m.1) c t b bare pairs notes change
       after = record {
         alone = refl;
-        activation = stays verdict m c t b bare pairs notes is (untaken (v, (journal_slot g.world, slot.Empty) ∷ m.1)) k (λ p. like m.0 (record (own m.0) { caller = k; taken = sym is.taken p } ∷ [])) refl refl;
+        activation = stays verdict m c t b bare pairs notes is (untaken (v, (journal_slot g.world, slot.Journal got.journal) ∷ m.1)) k (λ p. like m.0 (record (own m.0) { caller = k; taken = sym is.taken p } ∷ [])) refl refl;
         turn = wh.turn;
         counted = counted;
         whole = wh.whole;
         phase = refl;
+        journal = got.journal;
         taken = refl;
-        room = subst HasRoomForEntry same_journal got.room;
+        room = got.room;
         out = refl;
       }
 
-  module _ (change : Change) (j : Kept) (tk : IsTaken verdict m c t b bare pairs notes change j) where
+  module _ (change : Change) (tk : IsTaken verdict m c t b bare pairs notes change) (i : ℕ) (j : Kept) (there : m.1 ≡ (i, slot.Journal j) ∷ rest m.1) where
+    same_journal : j ≡ tk.journal
+    same_journal = ap (journal_or j) (sym there ∙ tk.out)
+
     entry_is : entry g (own m.0).number (own m.0).caller.turn change ≡ entry_of c t b change
     entry_is = λ p. entry_of (tk.activation.number p) (tk.turn p) (((λ q. Rattle.claim_core.specs.Machine.bot g (tk.activation.number q) (tk.turn q)) ∙ sym tk.activation.bot) p) change
 
-    -- with the entry in the journal, and the journal home, the change is to be committed
-    pub to_commit : (i x : ℕ) (next : Kept) (m' : Seated D) → m' ≡ (m.0, (i, slot.Journal next) ∷ rest m.1) → IsPushed j (entry_of c t b change) next → x ≡ length j.entries + 1
+    -- with the entry in the journal the change is to be committed
+    pub to_commit : (x : ℕ) (next : Kept) (m' : Seated D) → m' ≡ (m.0, (i, slot.Journal next) ∷ rest m.1) → IsPushed j (entry_of c t b change) next → x ≡ length j.entries + 1
         → IsToCommit verdict i (2 * x) m'
-    to_commit i x next m' now pushed longer = subst (IsToCommit verdict i (2 * x)) (sym now) (record {
+    to_commit x next m' now pushed longer = subst (IsToCommit verdict i (2 * x)) (sym now) (record {
       change = change;
       phase = tk.phase;
-      journal = j;
+      journal = tk.journal;
       taken = tk.taken;
       next = next;
-      pushed = subst (λ e. IsPushed j e next) (sym entry_is) pushed;
+      pushed = subst (λ (q : Kept × Entry). IsPushed q.0 q.1 next) (λ p. (same_journal p, sym entry_is p)) pushed;
       more = rest m.1;
       out = refl;
       word = ap (λ n. 2 * n) (longer ∙ sym (length-append j.entries (entry_of c t b change ∷ [])) ∙ ap (λ (es : List Entry). length es) (sym pushed.entries));
     })
 
     -- and afterwards it is
-    pub has_stored : (i place : ℕ) (next : Kept) (m' m2 : Seated D) (news : Pairs) → m' ≡ (m.0, (i, slot.Journal next) ∷ rest m.1) → (n : ℕ) × Commits verdict m'.0 m2.0 n → m2.1 ≡ rest m'.1 → place ≡ length j.entries → news ≡ map (patched_pair change.patch) pairs
+    pub has_stored : (place : ℕ) (next : Kept) (m' m2 : Seated D) (news : Pairs) → m' ≡ (m.0, (i, slot.Journal next) ∷ rest m.1) → (n : ℕ) × Commits verdict m'.0 m2.0 n → m2.1 ≡ rest m'.1 → place ≡ length j.entries → news ≡ map (patched_pair change.patch) pairs
         → IsActivation verdict m2 c t b bare news notes × IsFreeing verdict m2 t news (place + 1) × (0 < length news) × (m2.0 ≡ like m.0 (with_commit g (own m.0) change place ∷ []))
-    has_stored i place next m' m2 news now told out place_is news_are = (
+    has_stored place next m' m2 news now told out place_is news_are = (
       subst (λ (q : Seated D × Pairs). IsActivation verdict q.0 c t b bare q.1 notes) (λ p. (sym now2 p, sym news_are p)) after,
       subst (λ (q : Seated D × Pairs). IsFreeing verdict q.0 t q.1 (place + 1)) (λ p. (sym now2 p, sym news_are p)) freeing,
       subst (λ (ps : Pairs). 0 < length ps) (sym news_are) some,
@@ -147,7 +146,7 @@ module _ {D : Type 0} (verdict : D → Shown → Verdict) (m : Seated D) (c t b 
         same_change = ap (change_or change) (sym did.phase ∙ tk.phase)
 
         same_place : told.0 ≡ place
-        same_place = did.behind ∙ ap (λ (q : Kept). length q.entries) (same_Some did.journal j (sym did.taken ∙ tk.taken)) ∙ sym place_is
+        same_place = did.behind ∙ ap (λ (q : Kept). length q.entries) (same_Some did.journal tk.journal (sym did.taken ∙ tk.taken) ∙ sym same_journal) ∙ sym place_is
 
         r : Record
         r = with_commit g (own m.0) change place
@@ -167,7 +166,7 @@ module _ {D : Type 0} (verdict : D → Shown → Verdict) (m : Seated D) (c t b 
         after : IsActivation verdict (like m.0 (r ∷ []), rest m.1) c t b bare ps notes
         after = with_held verdict (untaken m) c t b bare pairs notes tk.activation r (rest m.1) ps notes tk.activation.few tk.activation.number refl (ap (λ (q : Caller). q.held) k_is ∙ frees-held g t ps ms)
             (All-map (λ (p : CellName × Cell). (n : ℕ) × IsPlaced g (cell_of p) n) (patched_pair change.patch) pairs tk.activation.placed) tk.activation.won tk.activation.note
-            (tk.activation.nodes ∙ sym (nodes_renewed change.patch pairs)) (tk.activation.out ∙ sym (emptied_renewed change.patch pairs))
+            (tk.activation.nodes ∙ sym (nodes_renewed change.patch pairs)) (out_still change.patch pairs (rest m.1) tk.activation.out)
 
         marks_are : r.caller.marks ≡ ms
         marks_are = ap (λ (q : Caller). q.marks) k_is ∙ frees-marks g t ps ms
@@ -180,6 +179,6 @@ module _ {D : Type 0} (verdict : D → Shown → Verdict) (m : Seated D) (c t b 
             counted = ap (λ (q : List Mark). length q) marks_are ∙ length-append (own m.0).caller.marks (mark.Done place ∷ []) ∙ ap (λ n. n + 1) tk.counted;
             there = ap (λ q. slice_get q t) marks_are ∙ ap (slice_get ms) (sym tk.counted) ∙ slice_get_behind (own m.0).caller.marks (mark.Done place) [];
             stamp = refl;
-            few = (let e = place_is in let f = tk.room.few in omega (arith, e, f));
+            few = (let e = place_is ∙ ap (λ (q : Kept). length q.entries) same_journal in let f = tk.room.few in omega (arith, e, f));
           };
         }

@@ -52,15 +52,15 @@ module _ {D : Type 0} where
       pub told : receipt ≡ placed_turn (number_in old) (doing old).turn receipt.place
       pub few : receipt.place < most_turns
 
-    -- it holds its whole zone and the journal, as it was taken, whose slot is out, and empty; but for the journal it is as it was
-    pub record IsTaken (m : Seated D) (c t b : ℕ) (w : Config) (pairs : Pairs) (notes : List Note)
-        (change : Change) (j : Kept) : Type 0 where
+    -- it holds its whole zone, and the journal's slot is out, with the journal as it was taken; but for the journal it is as it was
+    pub record IsTaken (m : Seated D) (c t b : ℕ) (w : Config) (pairs : Pairs) (notes : List Note) (change : Change) : Type 0 where
       pub alone : m.0.records ≡ own m.0 ∷ []
       pub activation : IsActivation verdict (untaken m) c t b w pairs notes
       pub turn : (own m.0).caller.turn ≡ t
       pub counted : length (own m.0).caller.marks ≡ t
       pub whole : next_of (about verdict m.0) b pairs ≡ None
       pub phase : (own m.0).caller.phase ≡ Committing change
-      pub taken : (own m.0).taken ≡ Some j
-      pub room : HasRoomForEntry j
-      pub out : m.1 ≡ (journal_slot (about verdict m.0).world, slot.Empty) ∷ rest m.1
+      pub journal : Kept
+      pub taken : (own m.0).taken ≡ Some journal
+      pub room : HasRoomForEntry journal
+      pub out : m.1 ≡ (journal_slot (about verdict m.0).world, slot.Journal journal) ∷ rest m.1

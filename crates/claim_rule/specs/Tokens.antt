@@ -84,11 +84,11 @@ refused_of c t n by place = record {
 abbrev pub placed_turn : ℕ → ℕ → ℕ → PlacedTurn
 placed_turn c t place = record { caller = c; turn = t; place = place }
 
--- the slots of the bodies that are held are out, and empty
-abbrev pub emptied : Pairs → List (ℕ × Slot)
-emptied [] = []
-emptied ((name.Spot v, x) ∷ held) = emptied held
-emptied ((name.Body i, x) ∷ held) = (i, slot.Empty) ∷ emptied held
+-- the slots of the bodies that are held are out, each with the value of some cell
+abbrev pub AreOut : Pairs → List (ℕ × Slot) → Type 0
+AreOut [] outs = outs ≡ []
+AreOut ((name.Spot v, x) ∷ held) outs = AreOut held outs
+AreOut ((name.Body i, x) ∷ held) outs = (y : Cell) × (more : List (ℕ × Slot)) × (outs ≡ (i, slot.Cell y) ∷ more) × AreOut held more
 
 -- the nodes that are held, in their order
 abbrev pub nodes_held : Pairs → List Node
@@ -186,7 +186,7 @@ module _ {D : Type 0} where
     verdict_in t = (about verdict t.view).verdict (found_in t)
 
     -- what every activation keeps: the seat has the record of one caller in this turn of its list, which holds these cells, with
-    -- their values, and won the nodes among them with what these notes say; the slot of each body among them is out, and empty
+    -- their values, and won the nodes among them with what these notes say; the slot of each body among them is out
     pub record IsActivation (m : Seated D) (c t b : ℕ) (w : Config) (pairs : Pairs) (notes : List Note) : Type 0 where
       pub alone : m.0.records ≡ own m.0 ∷ []
       pub run : IsSetup (about verdict m.0)
@@ -202,7 +202,7 @@ module _ {D : Type 0} where
       pub note : (own m.0).note ≡ None
       pub nodes : map (λ (n : Note). n.node) notes ≡ nodes_held pairs
       pub few : All (λ (n : Note). n.stamp ≤ most_turns) notes
-      pub out : m.1 ≡ emptied pairs
+      pub out : AreOut pairs m.1
 
     -- the same of the parts of an activation: what its seat knows and has out, and its room
     abbrev pub KeepsRoom : Seated D → Room → Type 0

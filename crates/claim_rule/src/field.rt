@@ -1,6 +1,6 @@
 //! The table that callers share. It is private to this module and those in it, so no other code touches a word or a slot.
 //! It is laid out and given back here.
-//! `steps`, `nodes`, `slots` and `seating` have one function for each step on a word, each move of a value, and each move of records.
+//! `steps`, `nodes`, `slots` and `seating` have one function for each step on a word, each use of a slot, and each move of records.
 ghost use Rattle.std.specs.Prelude.{◌≡◌, ◌+◌, [], IfOk};
 ghost use Rattle.std.specs.Slots.{slots_items, slots_len, IsFull};
 ghost use Rattle.atomic_table.specs.Table.{Final, Seen};

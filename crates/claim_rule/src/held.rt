@@ -112,7 +112,7 @@ fn win_body<D: Decider>(
     if found != 0 {
         return Err((Stopped { activation }, Tag { number: found }));
     }
-    let value = field.take_out(&mut activation.seat, usize::from(id));
+    let value = field.cell_there(&mut activation.seat, usize::from(id));
     activation.room.hold(CellName::Body(id), value);
     Ok(Held { activation })
 }

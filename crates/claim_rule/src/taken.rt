@@ -8,7 +8,6 @@ ghost use Rattle.claim_rule.specs.Settling.{HasGot, HasStored, IsToTake};
 use crate::activation::Activation;
 use crate::claimed::Claimed;
 use crate::field::Field;
-use crate::journal_box::JournalBox;
 use crate::settled::{Receipt, Settled};
 use amoebot_state::{Change, Decider, Entry};
 use std::marker::Model;
@@ -18,7 +17,6 @@ use std::marker::Model;
 pub struct Taken<D: Decider> {
     activation: Activation<D>,
     entry: Entry,
-    journal: JournalBox,
 }
 
 impl<D: Decider> Model for Taken<D> {
@@ -32,7 +30,7 @@ impl<D: Decider> Model for Taken<D> {
 
     ghost invariant = { λ t. IsTaken D.verdict t.activation.seat.me t.activation.room.value.caller t.activation.room.value.turn
         t.activation.room.value.bot (frame_of t.activation.room.value.area t.activation.room.value.maxes) (cells_in t.activation)
-        (notes_in t.activation) (change_of t.entry) t.journal × IsReadyEntry t.activation.room.value t.entry };
+        (notes_in t.activation) (change_of t.entry) × IsReadyEntry t.activation.room.value t.entry };
 }
 
 /// One try to take the journal, for the change that was decided on what the claim found. The claim and the change come back as they
@@ -53,12 +51,7 @@ pub fn take<D: Decider>(
     if word % 2 != 0 {
         return Err((Claimed { activation }, change_of(entry)));
     }
-    let journal = field.take_journal_out(&mut activation.seat);
-    Ok(Taken {
-        activation,
-        entry,
-        journal,
-    })
+    Ok(Taken { activation, entry })
 }
 
 /// The change of an entry.
@@ -80,11 +73,8 @@ pub fn store<D: Decider>(taken: Taken<D>, field: &Field<'_, D>) -> (Settled<D>, 
     let Taken {
         mut activation,
         entry,
-        mut journal,
     } = taken;
-    let place = journal.entries().len() as u32;
-    journal.push(entry);
-    field.put_journal_home(&mut activation.seat, journal);
+    let place = field.push_entry(&mut activation.seat, entry);
     field.store_length(&mut activation.seat, u64::from(place) + 1);
     let room = &mut *activation.room;
     room.settle();

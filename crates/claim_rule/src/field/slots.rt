@@ -1,76 +1,69 @@
-//! The moves of cells' values, and of the journal, between their slots and a caller that holds them.
-ghost use Rattle.std.specs.Prelude.{◌≡◌, ◌∷◌};
+//! What a caller does with the slots that it has taken. The values stay in them: they are read and written in place.
+ghost use Rattle.std.specs.Prelude.{◌≡◌, ◌∷◌, length};
 ghost use Rattle.amoebot_state.specs.declared.cell.Cell.{Cell};
 ghost use Rattle.atomic_table.specs.Table.{rest};
 ghost use Rattle.claim_core.specs.Turns.{Kept};
 ghost use Rattle.claim_rule.specs.declared.views.Slot.TheVariants as filling;
 ghost use Rattle.claim_rule.specs.Stands.{journal_slot};
+ghost use Rattle.claim_rule.specs.Commits.{HasRoomForEntry, IsPushed};
 ghost use Rattle.claim_rule.specs.Internal.{IsSameSeat};
 
 use crate::field::Field;
-use crate::journal_box::JournalBox;
 use crate::views::{Slot, View};
-use amoebot_state::{Cell, Decider};
+use amoebot_state::{Cell, Decider, Entry};
 use atomic_table::Seat;
 
 impl<'d, D: Decider> Field<'d, D> {
-    /// Takes the value out of the slot of the body that was won last.
-    pub(crate) fn take_out(&self, seat: &mut Seat<Slot, View<D>>, slot: usize) -> Cell
+    /// Reads the value in the slot of the body that was won last.
+    pub(crate) fn cell_there(&self, seat: &mut Seat<Slot, View<D>>, slot: usize) -> Cell
         requires table { seat.old.table_id ≡ self.now.table }
         requires won { (x : Cell) × (seat.old.me.1 ≡ (slot, filling.Cell x) ∷ rest seat.old.me.1) }
         ensures same { IsSameSeat seat.old seat.new }
         ensures value { seat.old.me.1 ≡ (slot, filling.Cell result) ∷ rest seat.old.me.1 }
-        ensures emptied { seat.new.me ≡ (seat.old.me.0, (slot, filling.Empty) ∷ rest seat.old.me.1) }
+        ensures stays { seat.new.me ≡ seat.old.me }
     {
-        match self.table.shared.exchange(seat, slot, Slot::Empty) {
-            Slot::Cell(value) => value,
-            _ => unreachable!(),
+        match seat.slot_mut(&self.table.shared, slot) {
+            Slot::Cell(value) => *value,
+            Slot::Journal(_) => unreachable!(),
         }
     }
 
-    /// Puts a value into the slot of the body that was won last, which is out and empty.
-    pub(crate) fn put_home(&self, seat: &mut Seat<Slot, View<D>>, slot: usize, value: Cell)
+    /// Puts a value into the slot of the body that was won last. It is written only where the slot has another.
+    pub(crate) fn put_there(&self, seat: &mut Seat<Slot, View<D>>, slot: usize, value: Cell)
         requires table { seat.old.table_id ≡ self.now.table }
-        requires empty { seat.old.me.1 ≡ (slot, filling.Empty) ∷ rest seat.old.me.1 }
+        requires won { (x : Cell) × (seat.old.me.1 ≡ (slot, filling.Cell x) ∷ rest seat.old.me.1) }
         ensures same { IsSameSeat seat.old seat.new }
-        ensures filled { seat.new.me ≡ (seat.old.me.0, (slot, filling.Cell value) ∷ rest seat.old.me.1) }
+        ensures there { seat.new.me ≡ (seat.old.me.0, (slot, filling.Cell value) ∷ rest seat.old.me.1) }
     {
-        match self.table.shared.exchange(seat, slot, Slot::Cell(value)) {
-            Slot::Empty => {}
-            _ => unreachable!(),
+        match seat.slot_mut(&self.table.shared, slot) {
+            Slot::Cell(there) => {
+                if *there != value {
+                    *there = value;
+                }
+            }
+            Slot::Journal(_) => unreachable!(),
         }
     }
 
-    /// Takes the journal out of its slot, which was taken last.
-    pub(crate) fn take_journal_out(&self, seat: &mut Seat<Slot, View<D>>) -> JournalBox
+    /// Pushes an entry to the journal, whose slot was taken last. It returns the number of entries before it.
+    pub(crate) fn push_entry(&self, seat: &mut Seat<Slot, View<D>>, entry: Entry) -> u32
         requires table { seat.old.table_id ≡ self.now.table }
-        requires got { (j : Kept) × (seat.old.me.1 ≡ (journal_slot self.now.terms.world, filling.Journal j) ∷ rest seat.old.me.1) }
+        requires taken { (j : Kept) × HasRoomForEntry j
+            × (seat.old.me.1 ≡ (journal_slot self.now.terms.world, filling.Journal j) ∷ rest seat.old.me.1) }
         ensures same { IsSameSeat seat.old seat.new }
-        ensures value { seat.old.me.1 ≡ (journal_slot self.now.terms.world, filling.Journal result) ∷ rest seat.old.me.1 }
-        ensures emptied { seat.new.me ≡ (seat.old.me.0, (journal_slot self.now.terms.world, filling.Empty) ∷ rest seat.old.me.1) }
+        ensures pushed { (j : Kept) × (next : Kept)
+            × (seat.old.me.1 ≡ (journal_slot self.now.terms.world, filling.Journal j) ∷ rest seat.old.me.1)
+            × (seat.new.me ≡ (seat.old.me.0, (journal_slot self.now.terms.world, filling.Journal next) ∷ rest seat.old.me.1))
+            × IsPushed j entry next × (result ≡ length j.entries) }
     {
-        let journal = self.journal_slot();
-        match self.table.shared.exchange(seat, journal, Slot::Empty) {
-            Slot::Journal(journal) => journal,
-            _ => unreachable!(),
-        }
-    }
-
-    /// Puts the journal into its slot, which is out and empty.
-    pub(crate) fn put_journal_home(&self, seat: &mut Seat<Slot, View<D>>, journal: JournalBox)
-        requires table { seat.old.table_id ≡ self.now.table }
-        requires empty { seat.old.me.1 ≡ (journal_slot self.now.terms.world, filling.Empty) ∷ rest seat.old.me.1 }
-        ensures same { IsSameSeat seat.old seat.new }
-        ensures filled { seat.new.me ≡ (seat.old.me.0, (journal_slot self.now.terms.world, filling.Journal journal) ∷ rest seat.old.me.1) }
-    {
-        let number = self.journal_slot();
-        match self
-            .table
-            .shared
-            .exchange(seat, number, Slot::Journal(journal))
-        {
-            Slot::Empty => {}
-            _ => unreachable!(),
+        let slot = self.journal_slot();
+        match seat.slot_mut(&self.table.shared, slot) {
+            Slot::Journal(journal) => {
+                let place = journal.entries().len() as u32;
+                journal.push(entry);
+                place
+            }
+            Slot::Cell(_) => unreachable!(),
         }
     }
 }

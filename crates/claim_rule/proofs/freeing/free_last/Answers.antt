@@ -21,9 +21,9 @@ unreachable-requires-in_default-cell_number g c =
 pub free-requires-clause-last : goal.free-requires-clause-last
 free-requires-clause-last g c κs within =
     let are = ap (λ (q : Room). reverse q.cells.items) (sym c.deref_mut-room.ensures.value) ∙ ap reverse c.in-Some.ensures.items ∙ last_first c.pop.new.self.items (c.in-Some.cell, c.in-Some.value) ∙ ap (λ n. (n, c.in-Some.value) ∷ reverse c.pop.new.self.items) c.in-Body.is in
-    to_free g.D.Decider.verdict c.freeing.inside.activation.seat.me _ _ _ _ _ _ c.freeing.invariant.0 c.in-Body.id c.in-Some.value _ are c.freeing.inside.activation.room.value.after c.freeing.invariant.1 c.put_home.new.seat.me c.in-Some-cell_number.number
+    to_free g.D.Decider.verdict c.freeing.inside.activation.seat.me _ _ _ _ _ _ c.freeing.invariant.0 c.in-Body.id c.in-Some.value _ are c.freeing.inside.activation.room.value.after c.freeing.invariant.1 c.put_there.new.seat.me c.in-Some-cell_number.number
     (ap (number c.freeing.inside.activation.room.value.area) (sym c.in-Body.is) ∙ ap (λ (q : Room). number q.area c.in-Some.cell) (sym c.deref_mut-room.ensures.value) ∙ sym c.cell_number.ensures ∙ c.in-Some-cell_number.is)
-    (c.put_home.ensures.filled ∙ ap (λ i. (c.freeing.inside.activation.seat.me.0, (i, Rattle.claim_rule.specs.declared.views.Slot.TheVariants.Cell c.in-Some.value) ∷ Rattle.atomic_table.specs.Table.rest c.freeing.inside.activation.seat.me.1)) c.from.ensures)
+    (c.put_there.ensures.there ∙ ap (λ i. (c.freeing.inside.activation.seat.me.0, (i, Rattle.claim_rule.specs.declared.views.Slot.TheVariants.Cell c.in-Some.value) ∷ Rattle.atomic_table.specs.Table.rest c.freeing.inside.activation.seat.me.1)) c.from.ensures)
 
 pub invariant_of-t-21 : goal.invariant_of-t-21
 invariant_of-t-21 g c =
@@ -31,8 +31,8 @@ invariant_of-t-21 g c =
     let m = c.free.new.seat.me in
     let held = reverse c.pop.new.self.items in
     subst (λ (q : Room). IsActivation g.D.Decider.verdict m q.caller q.turn q.bot (frame_of q.area q.maxes) held (reverse q.notes.items) × IsFreeing g.D.Decider.verdict m q.turn held q.after) (sym c.deref_mut-room.ensures.value)
-    (frees_body g.D.Decider.verdict c.freeing.inside.activation.seat.me _ _ _ _ _ _ c.freeing.invariant.0 c.in-Body.id c.in-Some.value _ are c.freeing.inside.activation.room.value.after c.freeing.invariant.1 c.put_home.new.seat.me m
-    (c.put_home.ensures.filled ∙ ap (λ i. (c.freeing.inside.activation.seat.me.0, (i, Rattle.claim_rule.specs.declared.views.Slot.TheVariants.Cell c.in-Some.value) ∷ Rattle.atomic_table.specs.Table.rest c.freeing.inside.activation.seat.me.1)) c.from.ensures)
+    (frees_body g.D.Decider.verdict c.freeing.inside.activation.seat.me _ _ _ _ _ _ c.freeing.invariant.0 c.in-Body.id c.in-Some.value _ are c.freeing.inside.activation.room.value.after c.freeing.invariant.1 c.put_there.new.seat.me m
+    (c.put_there.ensures.there ∙ ap (λ i. (c.freeing.inside.activation.seat.me.0, (i, Rattle.claim_rule.specs.declared.views.Slot.TheVariants.Cell c.in-Some.value) ∷ Rattle.atomic_table.specs.Table.rest c.freeing.inside.activation.seat.me.1)) c.from.ensures)
     c.free.ensures.told.0 c.free.ensures.told.1)
 
 pub node_word-word-requires-clause-stamp : goal.node_word-word-requires-clause-stamp

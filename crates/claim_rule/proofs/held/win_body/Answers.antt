@@ -28,13 +28,13 @@ invariant_of-result g c =
 
 pub hold-requires-clause-few : goal.hold-requires-clause-few
 hold-requires-clause-few g c =
-    let v = c.take_out-value.result in
+    let v = c.cell_there-value.result in
     let a = c.held.inside.activation in
-    let m = c.take_out-value.new.seat.me in
+    let m = c.cell_there-value.new.seat.me in
     let won = wins_plain g.D.Decider.verdict a.seat.me _ _ _ _ _ _ c.held.invariant.0 c.claim-found.new.seat.me m c.args.id v c.held.invariant.1
     (ap (next_in g.D.Decider.verdict) c.held.view_is ∙ c.requires.next) (c.claim-found.ensures.told.0 c.if-found-ne0.false)
-    (c.take_out-value.ensures.value ∙ ap (λ n. (n, slot.Cell v) ∷ rest c.claim-found.new.seat.me.1) c.from.ensures)
-    (c.take_out-value.ensures.emptied ∙ ap (λ n. (c.claim-found.new.seat.me.0, (n, slot.Empty) ∷ rest c.claim-found.new.seat.me.1)) c.from.ensures) in
+    (c.cell_there-value.ensures.value ∙ ap (λ n. (n, slot.Cell v) ∷ rest c.claim-found.new.seat.me.1) c.from.ensures)
+    c.cell_there-value.ensures.stays in
     subst (λ (q : Room). length q.cells.items < most_cells) (sym c.deref_mut.ensures.value) (has_room g.D.Decider.verdict m _ _ _ _ _ a.room.value.cells.items _ _ _ won.0 won.1)
 
 pub hold-requires-clause-knows : goal.hold-requires-clause-knows
@@ -42,24 +42,24 @@ hold-requires-clause-knows g c = subst KnowsTurn (sym c.deref_mut.ensures.value)
 
 pub hold-requires-clause-order : goal.hold-requires-clause-order
 hold-requires-clause-order g c =
-    let v = c.take_out-value.result in
+    let v = c.cell_there-value.result in
     let a = c.held.inside.activation in
-    let m = c.take_out-value.new.seat.me in
+    let m = c.cell_there-value.new.seat.me in
     let won = wins_plain g.D.Decider.verdict a.seat.me _ _ _ _ _ _ c.held.invariant.0 c.claim-found.new.seat.me m c.args.id v c.held.invariant.1
     (ap (next_in g.D.Decider.verdict) c.held.view_is ∙ c.requires.next) (c.claim-found.ensures.told.0 c.if-found-ne0.false)
-    (c.take_out-value.ensures.value ∙ ap (λ n. (n, slot.Cell v) ∷ rest c.claim-found.new.seat.me.1) c.from.ensures)
-    (c.take_out-value.ensures.emptied ∙ ap (λ n. (c.claim-found.new.seat.me.0, (n, slot.Empty) ∷ rest c.claim-found.new.seat.me.1)) c.from.ensures) in
+    (c.cell_there-value.ensures.value ∙ ap (λ n. (n, slot.Cell v) ∷ rest c.claim-found.new.seat.me.1) c.from.ensures)
+    c.cell_there-value.ensures.stays in
     subst (λ (q : Room). AreReadInOrder q.area q.bot (q.cells.items ++ (name.Body c.args.id, v) ∷ [])) (sym c.deref_mut.ensures.value) (in_order g.D.Decider.verdict m _ _ _ _ _ a.room.value.cells.items _ _ _ won.0 won.1)
 
 pub invariant_of-result-2 : goal.invariant_of-result-2
 invariant_of-result-2 g c =
-    let v = c.take_out-value.result in
+    let v = c.cell_there-value.result in
     let a = c.held.inside.activation in
-    let m = c.take_out-value.new.seat.me in
+    let m = c.cell_there-value.new.seat.me in
     let won = wins_plain g.D.Decider.verdict a.seat.me _ _ _ _ _ _ c.held.invariant.0 c.claim-found.new.seat.me m c.args.id v c.held.invariant.1
     (ap (next_in g.D.Decider.verdict) c.held.view_is ∙ c.requires.next) (c.claim-found.ensures.told.0 c.if-found-ne0.false)
-    (c.take_out-value.ensures.value ∙ ap (λ n. (n, slot.Cell v) ∷ rest c.claim-found.new.seat.me.1) c.from.ensures)
-    (c.take_out-value.ensures.emptied ∙ ap (λ n. (c.claim-found.new.seat.me.0, (n, slot.Empty) ∷ rest c.claim-found.new.seat.me.1)) c.from.ensures) in
+    (c.cell_there-value.ensures.value ∙ ap (λ n. (n, slot.Cell v) ∷ rest c.claim-found.new.seat.me.1) c.from.ensures)
+    c.cell_there-value.ensures.stays in
     let r = a.room.value in
     let new = c.hold.new.self in
     let now = c.hold.ensures.same ∙ ap (λ (q : Room). record q { zone = new.zone; cells = new.cells }) c.deref_mut.ensures.value in
