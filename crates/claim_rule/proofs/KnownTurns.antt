@@ -1,5 +1,5 @@
 -- What a caller knows of its turn once one more cell is won: it has room for the cell, which was read in zone order.
-use Rattle.std.proofs.Common.{◌≡◌, ℕ, ◌<◌, List, [], ◌∷◌, ◌++◌, reverse, length, ap, sym, subst, ◌∙◌, arith}
+use Rattle.std.proofs.Common.{◌≡◌, ℕ, ◌<◌, List, [], ◌∷◌, ◌++◌, reverse, length, ap, sym, subst, ◌∙◌, arith, Bool}
 use Rattle.std.proofs.lemmas.List.{reverse-reverse, length-reverse}
 use Rattle.tri_lattice.specs.Extent.{Extent}
 use Rattle.amoebot_state.specs.declared.cell.CellName.{CellName}
@@ -15,8 +15,8 @@ use Rattle.claim_rule.specs.Views.{Seated}
 use Rattle.claim_rule.specs.Tokens.{IsActivation, IsClaiming, frame_of}
 use Rattle.claim_rule.proofs.ActivationLemmas.{last_first}
 
-module _ {D : Type 0} (verdict : D → Shown → Verdict) (m : Seated D) (c t b : ℕ) (area : Extent) (maxes : List ℕ) (cells : Pairs) (n : CellName) (x : Cell) (notes : List Note)
-    (is : IsActivation verdict m c t b (frame_of area maxes) ((n, x) ∷ reverse cells) notes) (claims : IsClaiming verdict m t b ((n, x) ∷ reverse cells)) where
+module _ {D : Type 0} (verdict : D → Shown → Verdict) (m : Seated D) (c t b : ℕ) (s : Bool) (area : Extent) (maxes : List ℕ) (cells : Pairs) (n : CellName) (x : Cell) (notes : List Note)
+    (is : IsActivation verdict m c t b s (frame_of area maxes) ((n, x) ∷ reverse cells) notes) (claims : IsClaiming verdict m t b ((n, x) ∷ reverse cells)) where
   turned : reverse ((n, x) ∷ reverse cells) ≡ cells ++ (n, x) ∷ []
   turned = ap reverse (sym (last_first cells (n, x))) ∙ reverse-reverse (cells ++ (n, x) ∷ [])
 

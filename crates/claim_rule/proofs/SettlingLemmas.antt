@@ -1,5 +1,5 @@
 -- What a caller keeps that takes the journal, and that commits.
-use Rattle.std.proofs.Common.{◌≡◌, ℕ, ◌+◌, ◌*◌, ◌<◌, List, [], ◌∷◌, ◌++◌, map, length, inl, inr, ap, sym, refl, subst, ◌∙◌, arith, length-append}
+use Rattle.std.proofs.Common.{◌≡◌, ℕ, ◌+◌, ◌*◌, ◌<◌, List, [], ◌∷◌, ◌++◌, map, length, inl, inr, ap, sym, refl, subst, ◌∙◌, arith, length-append, Bool, true, false}
 use Rattle.std.specs.Prelude.{slice_get}
 use Rattle.std.proofs.lemmas.List.{length-map}
 use Rattle.std.proofs.lemmas.List.Elements.{All-map}
@@ -49,11 +49,11 @@ journal_or d [] = d
 journal_or d ((i, slot.Cell x) ∷ out) = d
 journal_or d ((i, slot.Journal j) ∷ out) = j
 
--- new values leave the cells, and their slots
-out_still : (patch xs : Pairs) (outs : List (ℕ × Slot)) → AreOut xs outs → AreOut (map (patched_pair patch) xs) outs
-out_still patch [] outs are = are
-out_still patch ((name.Spot v, x) ∷ xs) outs are = out_still patch xs outs are
-out_still patch ((name.Body i, x) ∷ xs) outs are = (are.0, are.1, are.2, out_still patch xs are.1 are.3)
+-- new values leave the cells, and their slots, which are stale then
+out_still : (s : Bool) (patch xs : Pairs) (outs : List (ℕ × Slot)) → AreOut s xs outs → AreOut true (map (patched_pair patch) xs) outs
+out_still s patch [] outs are = are
+out_still s patch ((name.Spot v, x) ∷ xs) outs are = out_still s patch xs outs are
+out_still s patch ((name.Body i, x) ∷ xs) outs are = (are.0, are.1, are.2, (λ e. cc), out_still s patch xs are.1 are.4)
 
 nodes_renewed : (patch xs : Pairs) → nodes_held (map (patched_pair patch) xs) ≡ nodes_held xs
 nodes_renewed patch [] = refl
@@ -63,14 +63,14 @@ nodes_renewed patch ((name.Body i, x) ∷ xs) = nodes_renewed patch xs
 not_released : (change : Change) → Taking change ≡ Releasing → ⊥
 not_released change e = cc
 
-module _ {D : Type 0} (verdict : D → Shown → Verdict) (m : Seated D) (c t b : ℕ) (bare : Config) (pairs : Pairs) (notes : List Note) where
+module _ {D : Type 0} (verdict : D → Shown → Verdict) (m : Seated D) (c t b : ℕ) (s : Bool) (bare : Config) (pairs : Pairs) (notes : List Note) where
   abbrev g : Setup
   g = about verdict m.0
 
   -- the journal was got
-  pub got_it : (told : Shown) (after : ℕ) (change : Change) (i : ℕ) (m' : Seated D) → IsActivation verdict m c t b bare pairs notes → HoldsWholeZone verdict m t b pairs told after → (own m.0).caller.phase ≡ Taking change → i ≡ journal_slot g.world
-      → (got : GotJournal i m m') → IsTaken verdict m' c t b bare pairs notes change × (m'.0 ≡ like m.0 (with_journal (own m.0) change got.journal ∷ []))
-  got_it told after_mark change i m' is wh phase at_i got = (subst (λ q. IsTaken verdict q c t b bare pairs notes change) (sym now) after, ap (λ (q : Seated D). q.0) now)
+  pub got_it : (told : Shown) (after : ℕ) (change : Change) (i : ℕ) (m' : Seated D) → IsActivation verdict m c t b s bare pairs notes → HoldsWholeZone verdict m t b pairs told after → (own m.0).caller.phase ≡ Taking change → i ≡ journal_slot g.world
+      → (got : GotJournal i m m') → IsTaken verdict m' c t b s bare pairs notes change × (m'.0 ≡ like m.0 (with_journal (own m.0) change got.journal ∷ []))
+  got_it told after_mark change i m' is wh phase at_i got = (subst (λ q. IsTaken verdict q c t b s bare pairs notes change) (sym now) after, ap (λ (q : Seated D). q.0) now)
     where
       same_change : got.change ≡ change
       same_change = ap (change_or change) (sym got.phase ∙ phase)
@@ -90,10 +90,10 @@ module _ {D : Type 0} (verdict : D → Shown → Verdict) (m : Seated D) (c t b 
         | inr released ↦ absurd (not_released change (sym phase ∙ released.0))
       ]
 
-      after : IsTaken verdict (v, (journal_slot g.world, slot.Journal got.journal) ∷ m.1) c t b bare pairs notes change
+      after : IsTaken verdict (v, (journal_slot g.world, slot.Journal got.journal) ∷ m.1) c t b s bare pairs notes change
       after = record {
         alone = refl;
-        activation = stays verdict m c t b bare pairs notes is (untaken (v, (journal_slot g.world, slot.Journal got.journal) ∷ m.1)) k (λ p. like m.0 (record (own m.0) { caller = k; taken = sym is.taken p } ∷ [])) refl refl;
+        activation = stays verdict m c t b s bare pairs notes is (untaken (v, (journal_slot g.world, slot.Journal got.journal) ∷ m.1)) k (λ p. like m.0 (record (own m.0) { caller = k; taken = sym is.taken p } ∷ [])) refl refl;
         turn = wh.turn;
         counted = counted;
         whole = wh.whole;
@@ -104,7 +104,7 @@ module _ {D : Type 0} (verdict : D → Shown → Verdict) (m : Seated D) (c t b 
         out = refl;
       }
 
-  module _ (change : Change) (tk : IsTaken verdict m c t b bare pairs notes change) (i : ℕ) (j : Kept) (there : m.1 ≡ (i, slot.Journal j) ∷ rest m.1) where
+  module _ (change : Change) (tk : IsTaken verdict m c t b s bare pairs notes change) (i : ℕ) (j : Kept) (there : m.1 ≡ (i, slot.Journal j) ∷ rest m.1) where
     same_journal : j ≡ tk.journal
     same_journal = ap (journal_or j) (sym there ∙ tk.out)
 
@@ -128,9 +128,9 @@ module _ {D : Type 0} (verdict : D → Shown → Verdict) (m : Seated D) (c t b 
 
     -- and afterwards it is
     pub has_stored : (place : ℕ) (next : Kept) (m' m2 : Seated D) (news : Pairs) → m' ≡ (m.0, (i, slot.Journal next) ∷ rest m.1) → (n : ℕ) × Commits verdict m'.0 m2.0 n → m2.1 ≡ rest m'.1 → place ≡ length j.entries → news ≡ map (patched_pair change.patch) pairs
-        → IsActivation verdict m2 c t b bare news notes × IsFreeing verdict m2 t news (place + 1) × (0 < length news) × (m2.0 ≡ like m.0 (with_commit g (own m.0) change place ∷ []))
+        → IsActivation verdict m2 c t b true bare news notes × IsFreeing verdict m2 t news (place + 1) × (0 < length news) × (m2.0 ≡ like m.0 (with_commit g (own m.0) change place ∷ []))
     has_stored place next m' m2 news now told out place_is news_are = (
-      subst (λ (q : Seated D × Pairs). IsActivation verdict q.0 c t b bare q.1 notes) (λ p. (sym now2 p, sym news_are p)) after,
+      subst (λ (q : Seated D × Pairs). IsActivation verdict q.0 c t b true bare q.1 notes) (λ p. (sym now2 p, sym news_are p)) after,
       subst (λ (q : Seated D × Pairs). IsFreeing verdict q.0 t q.1 (place + 1)) (λ p. (sym now2 p, sym news_are p)) freeing,
       subst (λ (ps : Pairs). 0 < length ps) (sym news_are) some,
       ap (λ (q : Seated D). q.0) now2,
@@ -163,10 +163,10 @@ module _ {D : Type 0} (verdict : D → Shown → Verdict) (m : Seated D) (c t b 
         some : 0 < length ps
         some = let one = whole_some g b pairs tk.whole in omega (arith, one, length-map pairs (patched_pair change.patch))
 
-        after : IsActivation verdict (like m.0 (r ∷ []), rest m.1) c t b bare ps notes
-        after = with_held verdict (untaken m) c t b bare pairs notes tk.activation r (rest m.1) ps notes tk.activation.few tk.activation.number refl (ap (λ (q : Caller). q.held) k_is ∙ frees-held g t ps ms)
+        after : IsActivation verdict (like m.0 (r ∷ []), rest m.1) c t b true bare ps notes
+        after = with_held verdict (untaken m) c t b s bare pairs notes tk.activation true r (rest m.1) ps notes tk.activation.few tk.activation.number refl (ap (λ (q : Caller). q.held) k_is ∙ frees-held g t ps ms)
             (All-map (λ (p : CellName × Cell). (n : ℕ) × IsPlaced g (cell_of p) n) (patched_pair change.patch) pairs tk.activation.placed) tk.activation.won tk.activation.note
-            (tk.activation.nodes ∙ sym (nodes_renewed change.patch pairs)) (out_still change.patch pairs (rest m.1) tk.activation.out)
+            (tk.activation.nodes ∙ sym (nodes_renewed change.patch pairs)) (out_still s change.patch pairs (rest m.1) tk.activation.out)
 
         marks_are : r.caller.marks ≡ ms
         marks_are = ap (λ (q : Caller). q.marks) k_is ∙ frees-marks g t ps ms

@@ -1,5 +1,5 @@
 -- How the claim of a node comes on: what the seat keeps after a look at the node's word, and after a try to put the tag into it.
-use Rattle.std.proofs.Common.{◌≡◌, ◌≢◌, ℕ, ◌+◌, ◌<◌, ◌≤◌, List, [], ◌∷◌, length, None, Some, ap, sym, refl, subst, ◌∙◌, arith}
+use Rattle.std.proofs.Common.{◌≡◌, ◌≢◌, ℕ, ◌+◌, ◌<◌, ◌≤◌, List, [], ◌∷◌, length, None, Some, ap, sym, refl, subst, ◌∙◌, arith, Bool}
 use Rattle.std.proofs.lemmas.Option.{same_Some}
 use mathlib.Core.Option as home
 use Rattle.atomic_table.specs.Table.{step}
@@ -23,13 +23,13 @@ use Rattle.claim_rule.proofs.ActivationLemmas.{bot_same, next_same, with_held, s
 same_spot : (u v : Node) → name.Spot u ≡ name.Spot v → u ≡ v
 same_spot u v e = cc
 
-module _ {D : Type 0} (verdict : D → Shown → Verdict) (c t b : ℕ) (bare : Config) (pairs : Pairs) (notes : List Note) (v : Node) where
-  module _ (m : Seated D) (is : IsActivation verdict m c t b bare pairs notes) (cl : IsClaiming verdict m t b pairs) (nx : next_of (about verdict m.0) b pairs ≡ Some (name.Spot v)) where
+module _ {D : Type 0} (verdict : D → Shown → Verdict) (c t b : ℕ) (s : Bool) (bare : Config) (pairs : Pairs) (notes : List Note) (v : Node) where
+  module _ (m : Seated D) (is : IsActivation verdict m c t b s bare pairs notes) (cl : IsClaiming verdict m t b pairs) (nx : next_of (about verdict m.0) b pairs ≡ Some (name.Spot v)) where
     abbrev g : Setup
     g = about verdict m.0
 
     its_next : next_of g (bot_in verdict m.0) (own m.0).caller.held ≡ Some (name.Spot v)
-    its_next = next_same verdict m c t b bare pairs notes is cl.turn ∙ nx
+    its_next = next_same verdict m c t b s bare pairs notes is cl.turn ∙ nx
 
     is_node : (u : Node) → next_of g (bot_in verdict m.0) (own m.0).caller.held ≡ Some (name.Spot u) → u ≡ v
     is_node u e = same_spot u v (same_Some (name.Spot u) (name.Spot v) (sym e ∙ its_next))
@@ -39,16 +39,16 @@ module _ {D : Type 0} (verdict : D → Shown → Verdict) (c t b : ℕ) (bare : 
     with w = (like m.0 (with_note (own m.0) (Some (note_of v w)) ∷ []), m.1)
 
     -- a free word was found, and noted
-    pub noted : (w : ℕ) (m' : Seated D) → word_tag w ≡ 0 → NotesWord verdict m w m' → IsNoting verdict m' c t b bare pairs notes v w × (seen m'.0 ≡ seen m.0)
-    noted w m' free n = (subst (λ (q : Seated D). IsNoting verdict q c t b bare pairs notes v w) (sym now) noting, ap (λ (q : Seated D). seen q.0) now)
+    pub noted : (w : ℕ) (m' : Seated D) → word_tag w ≡ 0 → NotesWord verdict m w m' → IsNoting verdict m' c t b s bare pairs notes v w × (seen m'.0 ≡ seen m.0)
+    noted w m' free n = (subst (λ (q : Seated D). IsNoting verdict q c t b s bare pairs notes v w) (sym now) noting, ap (λ (q : Seated D). seen q.0) now)
       where
         now : m' ≡ with w
         now = λ i. ((n.now ∙ ap (λ u. like m.0 (with_note (own m.0) (Some (note_of u w)) ∷ [])) (is_node n.node n.next)) i, n.out i)
 
-        noting : IsNoting verdict (with w) c t b bare pairs notes v w
+        noting : IsNoting verdict (with w) c t b s bare pairs notes v w
         noting = record {
           alone = refl;
-          activation = with_held verdict m c t b bare pairs notes is (with_note (own m.0) None) m.1 pairs notes is.few is.number is.taken is.held is.placed is.won refl is.nodes is.out;
+          activation = with_held verdict m c t b s bare pairs notes is s (with_note (own m.0) None) m.1 pairs notes is.few is.number is.taken is.held is.placed is.won refl is.nodes is.out;
           claiming = record { turn = cl.turn; counted = cl.counted; phase = cl.phase; known = cl.known };
           note = refl;
           next = nx;
@@ -57,14 +57,14 @@ module _ {D : Type 0} (verdict : D → Shown → Verdict) (c t b : ℕ) (bare : 
         }
 
     -- another caller's tag was found
-    pub stopped : (w : ℕ) (m' : Seated D) → StopsAt verdict m w m' → IsActivation verdict m' c t b bare pairs notes × IsStopped verdict m' c t b pairs
-    stopped w m' n = stops verdict m c t b bare pairs notes is m' (name.Spot n.node) (word_tag w) cl n.next n.now n.out n.other
+    pub stopped : (w : ℕ) (m' : Seated D) → StopsAt verdict m w m' → IsActivation verdict m' c t b s bare pairs notes × IsStopped verdict m' c t b pairs
+    stopped w m' n = stops verdict m c t b s bare pairs notes is m' (name.Spot n.node) (word_tag w) cl n.next n.now n.out n.other
 
     -- and contracts see the refusal at this node
     pub seen_stopped : (w : ℕ) (m' : Seated D) → StopsAt verdict m w m' → seen m'.0 ≡ seen (like m.0 (refused_at (own m.0) v (word_tag w) ∷ []))
     seen_stopped w m' n = ap seen (n.now ∙ ap (λ u. like m.0 (refused_at (own m.0) u (word_tag w) ∷ [])) (is_node n.node n.next))
 
-  module _ (m : Seated D) (w : ℕ) (is : IsNoting verdict m c t b bare pairs notes v w) where
+  module _ (m : Seated D) (w : ℕ) (is : IsNoting verdict m c t b s bare pairs notes v w) where
     abbrev h : Setup
     h = about verdict m.0
 
@@ -73,7 +73,7 @@ module _ {D : Type 0} (verdict : D → Shown → Verdict) (c t b : ℕ) (bare : 
     to_win i tag at_i mine =
         let turn = is.claiming.turn in
         let its = its_next (unnoted m) is.activation is.claiming is.next in
-        let to = to_try verdict (unnoted m) c t b bare pairs notes is.activation v i is.claiming its at_i in
+        let to = to_try verdict (unnoted m) c t b s bare pairs notes is.activation v i is.claiming its at_i in
         record {
           tries = record { phase = to.0.phase; node = v; next = its; placed = subst (λ u. Rattle.claim_rule.specs.Plays.IsPlaced h (name.Spot u) i) to.1 to.0.placed };
           note = note_of v w;
@@ -85,9 +85,9 @@ module _ {D : Type 0} (verdict : D → Shown → Verdict) (c t b : ℕ) (bare : 
 
     module _ (i put slots again : ℕ) (m' : Seated D) (told : TriesNode verdict (step slots i w put home.none) m again m') where
       -- the noted word was found, and the node is won
-      pub wins_it : again ≡ w → IsActivation verdict m' c t b bare ((name.Spot v, cell.Spot (word_occ w)) ∷ pairs) (note_of v w ∷ notes) × IsClaiming verdict m' t b ((name.Spot v, cell.Spot (word_occ w)) ∷ pairs)
+      pub wins_it : again ≡ w → IsActivation verdict m' c t b s bare ((name.Spot v, cell.Spot (word_occ w)) ∷ pairs) (note_of v w ∷ notes) × IsClaiming verdict m' t b ((name.Spot v, cell.Spot (word_occ w)) ∷ pairs)
       wins_it hit =
-          wins_node verdict (unnoted m) c t b bare pairs notes is.activation m' v (note_of v w) refl is.few is.claiming (its_next (unnoted m) is.activation is.claiming is.next)
+          wins_node verdict (unnoted m) c t b s bare pairs notes is.activation m' v (note_of v w) refl is.few is.claiming (its_next (unnoted m) is.activation is.claiming is.next)
           (won.now ∙ ap (λ (u : Note). like m.0 (with_node h (own m.0) u ∷ [])) same) won.out
           (subst (λ (u : Note). IsKnown h (bot_in verdict m.0) ((name.Spot u.node, cell.Spot u.occ) ∷ (own m.0).caller.held)) same won.known)
         where
@@ -111,14 +111,14 @@ module _ {D : Type 0} (verdict : D → Shown → Verdict) (c t b : ℕ) (bare : 
       like_stopped n = record { node = n.node; next = n.next; now = n.now; out = n.out; other = n.other }
 
       -- another free word was found, with a greater stamp
-      pub noted_again : word_tag again ≡ 0 → again ≢ w → IsNoting verdict m' c t b bare pairs notes v again × (seen m'.0 ≡ seen m.0) × (word_stamp w < word_stamp again) × (word_stamp again ≤ most_turns)
+      pub noted_again : word_tag again ≡ 0 → again ≢ w → IsNoting verdict m' c t b s bare pairs notes v again × (seen m'.0 ≡ seen m.0) × (word_stamp w < word_stamp again) × (word_stamp again ≤ most_turns)
       noted_again free other =
           let n = told.2 free other in
           let all = noted (unnoted m) is.activation is.claiming is.next again m' free (like_noted n.0) in
           (all.0, all.1, n.1, n.0.few)
 
       -- another caller's tag was found
-      pub stopped_again : word_tag again ≢ 0 → IsActivation verdict m' c t b bare pairs notes × IsStopped verdict m' c t b pairs × (seen m'.0 ≡ seen (like m.0 (refused_at (own m.0) v (word_tag again) ∷ []))) × IsOthers h (own m.0).number (word_tag again)
+      pub stopped_again : word_tag again ≢ 0 → IsActivation verdict m' c t b s bare pairs notes × IsStopped verdict m' c t b pairs × (seen m'.0 ≡ seen (like m.0 (refused_at (own m.0) v (word_tag again) ∷ []))) × IsOthers h (own m.0).number (word_tag again)
       stopped_again held =
           let n = told.1 held in
           let all = stopped (unnoted m) is.activation is.claiming is.next again m' (like_stopped n) in
@@ -130,4 +130,4 @@ module _ {D : Type 0} (verdict : D → Shown → Verdict) (c t b : ℕ) (bare : 
           let won : WinsNode verdict m m' = told.0 hit in
           let few = won.known.few in
           let held = ap length is.activation.held in
-          (Rattle.claim_rule.proofs.ActivationLemmas.few_notes verdict (unnoted m) c t b bare pairs notes is.activation (name.Spot won.note.node, cell.Spot won.note.occ) won.known, omega (arith, few, held))
+          (Rattle.claim_rule.proofs.ActivationLemmas.few_notes verdict (unnoted m) c t b s bare pairs notes is.activation (name.Spot won.note.node, cell.Spot won.note.occ) won.known, omega (arith, few, held))

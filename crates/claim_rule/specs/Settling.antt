@@ -1,5 +1,5 @@
 -- What contracts see of a caller that has the journal, and of one that has committed.
-use Rattle.std.specs.Prelude.{◌≡◌, ℕ, ◌<◌, List, [], ◌∷◌, length}
+use Rattle.std.specs.Prelude.{◌≡◌, ℕ, ◌<◌, List, [], ◌∷◌, length, Bool}
 use Rattle.std.specs.declared.option.Option.TheVariants.{Some, None}
 use Rattle.atomic_table.specs.Table.{rest}
 use Rattle.amoebot_state.specs.declared.verdict.Change.{Change}
@@ -53,9 +53,10 @@ module _ {D : Type 0} where
       pub few : receipt.place < most_turns
 
     -- it holds its whole zone, and the journal's slot is out, with the journal as it was taken; but for the journal it is as it was
-    pub record IsTaken (m : Seated D) (c t b : ℕ) (w : Config) (pairs : Pairs) (notes : List Note) (change : Change) : Type 0 where
+    pub record IsTaken (m : Seated D) (c t b : ℕ) (stale : Bool) (w : Config) (pairs : Pairs) (notes : List Note)
+        (change : Change) : Type 0 where
       pub alone : m.0.records ≡ own m.0 ∷ []
-      pub activation : IsActivation verdict (untaken m) c t b w pairs notes
+      pub activation : IsActivation verdict (untaken m) c t b stale w pairs notes
       pub turn : (own m.0).caller.turn ≡ t
       pub counted : length (own m.0).caller.marks ≡ t
       pub whole : next_of (about verdict m.0) b pairs ≡ None

@@ -1,5 +1,5 @@
 -- What contracts see of a field, of its seats, and of what is made of a seat.
-use Rattle.std.specs.Prelude.{◌≡◌, ◌⊎◌, ℕ, ◌+◌, ◌<◌, ◌≤◌, List, [], ◌∷◌, map, reverse, length, slice_get}
+use Rattle.std.specs.Prelude.{◌≡◌, ◌⊎◌, ℕ, ◌+◌, ◌<◌, ◌≤◌, List, [], ◌∷◌, map, reverse, length, slice_get, Bool, false}
 use Rattle.std.specs.List.{All}
 use Rattle.std.specs.declared.option.Option.{Option}
 use Rattle.std.specs.declared.option.Option.TheVariants.{Some, None}
@@ -84,11 +84,12 @@ refused_of c t n by place = record {
 abbrev pub placed_turn : ℕ → ℕ → ℕ → PlacedTurn
 placed_turn c t place = record { caller = c; turn = t; place = place }
 
--- the slots of the bodies that are held are out, each with the value of some cell
-abbrev pub AreOut : Pairs → List (ℕ × Slot) → Type 0
-AreOut [] outs = outs ≡ []
-AreOut ((name.Spot v, x) ∷ held) outs = AreOut held outs
-AreOut ((name.Body i, x) ∷ held) outs = (y : Cell) × (more : List (ℕ × Slot)) × (outs ≡ (i, slot.Cell y) ∷ more) × AreOut held more
+-- the slots of the bodies that are held are out, each with the value that is held, except where they are stale
+abbrev pub AreOut : Bool → Pairs → List (ℕ × Slot) → Type 0
+AreOut stale [] outs = outs ≡ []
+AreOut stale ((name.Spot v, x) ∷ held) outs = AreOut stale held outs
+AreOut stale ((name.Body i, x) ∷ held) outs =
+    (y : Cell) × (more : List (ℕ × Slot)) × (outs ≡ (i, slot.Cell y) ∷ more) × (stale ≡ false → y ≡ x) × AreOut stale held more
 
 -- the nodes that are held, in their order
 abbrev pub nodes_held : Pairs → List Node
@@ -186,8 +187,8 @@ module _ {D : Type 0} where
     verdict_in t = (about verdict t.view).verdict (found_in t)
 
     -- what every activation keeps: the seat has the record of one caller in this turn of its list, which holds these cells, with
-    -- their values, and won the nodes among them with what these notes say; the slot of each body among them is out
-    pub record IsActivation (m : Seated D) (c t b : ℕ) (w : Config) (pairs : Pairs) (notes : List Note) : Type 0 where
+    -- their values, and won the nodes among them with what these notes say; the slots of the bodies among them are out, and stale or not
+    pub record IsActivation (m : Seated D) (c t b : ℕ) (stale : Bool) (w : Config) (pairs : Pairs) (notes : List Note) : Type 0 where
       pub alone : m.0.records ≡ own m.0 ∷ []
       pub run : IsSetup (about verdict m.0)
       pub number : (own m.0).number ≡ c
@@ -202,11 +203,11 @@ module _ {D : Type 0} where
       pub note : (own m.0).note ≡ None
       pub nodes : map (λ (n : Note). n.node) notes ≡ nodes_held pairs
       pub few : All (λ (n : Note). n.stamp ≤ most_turns) notes
-      pub out : AreOut pairs m.1
+      pub out : AreOut stale pairs m.1
 
     -- the same of the parts of an activation: what its seat knows and has out, and its room
     abbrev pub KeepsRoom : Seated D → Room → Type 0
-    KeepsRoom m r = IsActivation m r.caller r.turn r.bot (frame_of r.area r.maxes) (reverse r.cells.items) (reverse r.notes.items)
+    KeepsRoom m r = IsActivation m r.caller r.turn r.bot r.stale (frame_of r.area r.maxes) (reverse r.cells.items) (reverse r.notes.items)
 
     abbrev pub KeepsActivation : Activation D → Type 0
     KeepsActivation a = KeepsRoom a.seat.me a.room.value
@@ -219,9 +220,10 @@ module _ {D : Type 0} where
       pub known : IsKnown (about verdict m.0) b held
 
     -- it claims, and has noted this free word of this node, which is the next cell; except for the note it is as it was
-    pub record IsNoting (m : Seated D) (c t b : ℕ) (w : Config) (pairs : Pairs) (notes : List Note) (v : Node) (word : ℕ) : Type 0 where
+    pub record IsNoting (m : Seated D) (c t b : ℕ) (stale : Bool) (w : Config) (pairs : Pairs) (notes : List Note)
+        (v : Node) (word : ℕ) : Type 0 where
       pub alone : m.0.records ≡ own m.0 ∷ []
-      pub activation : IsActivation (unnoted m) c t b w pairs notes
+      pub activation : IsActivation (unnoted m) c t b stale w pairs notes
       pub claiming : IsClaiming (unnoted m) t b pairs
       pub note : (own m.0).note ≡ Some (note_of v word)
       pub next : next_of (about verdict m.0) b pairs ≡ Some (name.Spot v)

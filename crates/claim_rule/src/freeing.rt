@@ -53,7 +53,7 @@ pub fn free_last<D: Decider>(freeing: Freeing<D>, field: &Field<'_, D>) -> Freei
     };
     match cell {
         CellName::Body(id) => {
-            field.put_there(&mut activation.seat, usize::from(id), value);
+            field.put_there(&mut activation.seat, usize::from(id), value, room.stale);
             field.free(&mut activation.seat, number);
             Freeing { activation }
         }

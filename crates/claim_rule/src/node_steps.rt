@@ -37,7 +37,8 @@ impl<D: Decider> Model for Noted<D> {
     ghost view = { λ n. record { claim = token_in n.activation; node = n.node; occ = word_occ n.word; stamp = word_stamp n.word } };
 
     ghost invariant = { λ n. IsNoting D.verdict n.activation.seat.me n.activation.room.value.caller n.activation.room.value.turn
-        n.activation.room.value.bot (frame_of n.activation.room.value.area n.activation.room.value.maxes) (cells_in n.activation)
+        n.activation.room.value.bot n.activation.room.value.stale
+        (frame_of n.activation.room.value.area n.activation.room.value.maxes) (cells_in n.activation)
         (notes_in n.activation) n.node n.word × KnowsTurn n.activation.room.value };
 }
 

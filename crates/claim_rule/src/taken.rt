@@ -29,7 +29,8 @@ impl<D: Decider> Model for Taken<D> {
     ghost view = { λ t. token_in t.activation };
 
     ghost invariant = { λ t. IsTaken D.verdict t.activation.seat.me t.activation.room.value.caller t.activation.room.value.turn
-        t.activation.room.value.bot (frame_of t.activation.room.value.area t.activation.room.value.maxes) (cells_in t.activation)
+        t.activation.room.value.bot t.activation.room.value.stale
+        (frame_of t.activation.room.value.area t.activation.room.value.maxes) (cells_in t.activation)
         (notes_in t.activation) (change_of t.entry) × IsReadyEntry t.activation.room.value t.entry };
 }
 

@@ -1,5 +1,5 @@
 //! What a caller does with the slots that it has taken. The values stay in them: they are read and written in place.
-ghost use Rattle.std.specs.Prelude.{◌≡◌, ◌∷◌, length};
+ghost use Rattle.std.specs.Prelude.{◌≡◌, ◌∷◌, false, length};
 ghost use Rattle.amoebot_state.specs.declared.cell.Cell.{Cell};
 ghost use Rattle.atomic_table.specs.Table.{rest};
 ghost use Rattle.claim_core.specs.Turns.{Kept};
@@ -28,20 +28,24 @@ impl<'d, D: Decider> Field<'d, D> {
         }
     }
 
-    /// Puts a value into the slot of the body that was won last. It is written only where the slot has another.
-    pub(crate) fn put_there(&self, seat: &mut Seat<Slot, View<D>>, slot: usize, value: Cell)
+    /// Puts a value into the slot of the body that was won last. It is written only where the slot is stale: else it is there.
+    pub(crate) fn put_there(
+        &self,
+        seat: &mut Seat<Slot, View<D>>,
+        slot: usize,
+        value: Cell,
+        stale: bool,
+    )
         requires table { seat.old.table_id ≡ self.now.table }
-        requires won { (x : Cell) × (seat.old.me.1 ≡ (slot, filling.Cell x) ∷ rest seat.old.me.1) }
+        requires won { (x : Cell) × (seat.old.me.1 ≡ (slot, filling.Cell x) ∷ rest seat.old.me.1) × (stale ≡ false → x ≡ value) }
         ensures same { IsSameSeat seat.old seat.new }
         ensures there { seat.new.me ≡ (seat.old.me.0, (slot, filling.Cell value) ∷ rest seat.old.me.1) }
     {
-        match seat.slot_mut(&self.table.shared, slot) {
-            Slot::Cell(there) => {
-                if *there != value {
-                    *there = value;
-                }
+        if stale {
+            match seat.slot_mut(&self.table.shared, slot) {
+                Slot::Cell(there) => *there = value,
+                Slot::Journal(_) => unreachable!(),
             }
-            Slot::Journal(_) => unreachable!(),
         }
     }
 

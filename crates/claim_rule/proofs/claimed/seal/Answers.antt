@@ -10,4 +10,4 @@ pub seal-requires : goal.seal-requires
 seal-requires g c =
     let r = c.held.inside.activation.room.value in
     subst (λ (q : Room). IsShown (shown_with (frame_of q.area q.maxes) q.bot q.cells.items)) (sym c.deref_mut.ensures.value)
-    (whole_is_shown g.D.Decider.verdict c.held.inside.activation.seat.me _ _ _ _ (reverse r.cells.items) _ c.held.invariant.0 r.cells.items c.held.invariant.1 refl (ap (next_in g.D.Decider.verdict) c.held.view_is ∙ c.requires.whole))
+    (whole_is_shown g.D.Decider.verdict c.held.inside.activation.seat.me _ _ _ _ _ (reverse r.cells.items) _ c.held.invariant.0 r.cells.items c.held.invariant.1 refl (ap (next_in g.D.Decider.verdict) c.held.view_is ∙ c.requires.whole))

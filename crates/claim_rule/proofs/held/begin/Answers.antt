@@ -1,4 +1,4 @@
-use Rattle.std.proofs.Common.{◌<◌, reverse, ap, sym, subst, ◌∙◌}
+use Rattle.std.proofs.Common.{◌<◌, false, reverse, ap, sym, subst, ◌∙◌}
 use Rattle.claim_rule.specs.declared.activation.Room.{Room}
 use Rattle.claim_rule.specs.Plays.{about, bot_in}
 use Rattle.claim_rule.specs.Tokens.{Token, KeepsRoom, IsClaiming, doing}
@@ -9,7 +9,7 @@ pub invariant_of-result : goal.invariant_of-result
 invariant_of-result g c =
     let m = c.seat.inside.seat.me in
     let room = c.begin.new.self in
-    let now = c.begin.ensures.same ∙ ap (λ (q : Room). record q { turn = c.args.turn; bot = c.args.bot; tag = room.tag; zone = room.zone; cells = room.cells; notes = room.notes }) c.deref_mut.ensures.value in
+    let now = c.begin.ensures.same ∙ ap (λ (q : Room). record q { turn = c.args.turn; bot = c.args.bot; tag = room.tag; zone = room.zone; cells = room.cells; notes = room.notes; stale = false }) c.deref_mut.ensures.value in
     let first = begun g.D.Decider.verdict m _ _ c.args.turn c.args.bot _ (reverse room.cells.items) (reverse room.notes.items) c.seat.invariant
     (c.requires.turn.0 ∙ ap (λ (t : Token _). (doing t).turn) (sym c.seat.view_is))
     (subst (λ (t : Token _). c.args.turn < (about g.D.Decider.verdict t.view).lists.turns) (sym c.seat.view_is) c.requires.turn.1)

@@ -16,14 +16,14 @@ use Rattle.claim_rule.proofs.held.win_body.Goals as goal
 pub claim-found-requires-clause-next : goal.claim-found-requires-clause-next
 claim-found-requires-clause-next g c κs within =
     let room = c.held.inside.activation.room.value in
-    to_try_body g.D.Decider.verdict c.held.inside.activation.seat.me _ _ _ _ _ _ c.held.invariant.0 c.args.id c.in-Some.number c.deref-room.result.now.tag c.held.invariant.1
+    to_try_body g.D.Decider.verdict c.held.inside.activation.seat.me _ _ _ _ _ _ _ c.held.invariant.0 c.args.id c.in-Some.number c.deref-room.result.now.tag c.held.invariant.1
     (ap (next_in g.D.Decider.verdict) c.held.view_is ∙ c.requires.next)
     (ap (λ (q : Room). number q.area (name.Body c.args.id)) (sym c.deref-room.ensures) ∙ sym c.cell_number.ensures ∙ c.in-Some.is)
     (ap (λ (q : Room). q.tag) c.deref-room.ensures ∙ c.held.invariant.2.tag ∙ ap (tag room.caller room.turn) c.held.invariant.0.bot)
 
 pub invariant_of-result : goal.invariant_of-result
 invariant_of-result g c =
-    stops_plain g.D.Decider.verdict c.held.inside.activation.seat.me _ _ _ _ _ _ c.held.invariant.0 c.claim-found.new.seat.me c.args.id c.claim-found.result c.held.invariant.1
+    stops_plain g.D.Decider.verdict c.held.inside.activation.seat.me _ _ _ _ _ _ _ c.held.invariant.0 c.claim-found.new.seat.me c.args.id c.claim-found.result c.held.invariant.1
     (ap (next_in g.D.Decider.verdict) c.held.view_is ∙ c.requires.next) (c.claim-found.ensures.told.1 c.if-found-ne0.true)
 
 pub hold-requires-clause-few : goal.hold-requires-clause-few
@@ -31,11 +31,11 @@ hold-requires-clause-few g c =
     let v = c.cell_there-value.result in
     let a = c.held.inside.activation in
     let m = c.cell_there-value.new.seat.me in
-    let won = wins_plain g.D.Decider.verdict a.seat.me _ _ _ _ _ _ c.held.invariant.0 c.claim-found.new.seat.me m c.args.id v c.held.invariant.1
+    let won = wins_plain g.D.Decider.verdict a.seat.me _ _ _ _ _ _ _ c.held.invariant.0 c.claim-found.new.seat.me m c.args.id v c.held.invariant.1
     (ap (next_in g.D.Decider.verdict) c.held.view_is ∙ c.requires.next) (c.claim-found.ensures.told.0 c.if-found-ne0.false)
     (c.cell_there-value.ensures.value ∙ ap (λ n. (n, slot.Cell v) ∷ rest c.claim-found.new.seat.me.1) c.from.ensures)
     c.cell_there-value.ensures.stays in
-    subst (λ (q : Room). length q.cells.items < most_cells) (sym c.deref_mut.ensures.value) (has_room g.D.Decider.verdict m _ _ _ _ _ a.room.value.cells.items _ _ _ won.0 won.1)
+    subst (λ (q : Room). length q.cells.items < most_cells) (sym c.deref_mut.ensures.value) (has_room g.D.Decider.verdict m _ _ _ _ _ _ a.room.value.cells.items _ _ _ won.0 won.1)
 
 pub hold-requires-clause-knows : goal.hold-requires-clause-knows
 hold-requires-clause-knows g c = subst KnowsTurn (sym c.deref_mut.ensures.value) c.held.invariant.2
@@ -45,18 +45,18 @@ hold-requires-clause-order g c =
     let v = c.cell_there-value.result in
     let a = c.held.inside.activation in
     let m = c.cell_there-value.new.seat.me in
-    let won = wins_plain g.D.Decider.verdict a.seat.me _ _ _ _ _ _ c.held.invariant.0 c.claim-found.new.seat.me m c.args.id v c.held.invariant.1
+    let won = wins_plain g.D.Decider.verdict a.seat.me _ _ _ _ _ _ _ c.held.invariant.0 c.claim-found.new.seat.me m c.args.id v c.held.invariant.1
     (ap (next_in g.D.Decider.verdict) c.held.view_is ∙ c.requires.next) (c.claim-found.ensures.told.0 c.if-found-ne0.false)
     (c.cell_there-value.ensures.value ∙ ap (λ n. (n, slot.Cell v) ∷ rest c.claim-found.new.seat.me.1) c.from.ensures)
     c.cell_there-value.ensures.stays in
-    subst (λ (q : Room). AreReadInOrder q.area q.bot (q.cells.items ++ (name.Body c.args.id, v) ∷ [])) (sym c.deref_mut.ensures.value) (in_order g.D.Decider.verdict m _ _ _ _ _ a.room.value.cells.items _ _ _ won.0 won.1)
+    subst (λ (q : Room). AreReadInOrder q.area q.bot (q.cells.items ++ (name.Body c.args.id, v) ∷ [])) (sym c.deref_mut.ensures.value) (in_order g.D.Decider.verdict m _ _ _ _ _ _ a.room.value.cells.items _ _ _ won.0 won.1)
 
 pub invariant_of-result-2 : goal.invariant_of-result-2
 invariant_of-result-2 g c =
     let v = c.cell_there-value.result in
     let a = c.held.inside.activation in
     let m = c.cell_there-value.new.seat.me in
-    let won = wins_plain g.D.Decider.verdict a.seat.me _ _ _ _ _ _ c.held.invariant.0 c.claim-found.new.seat.me m c.args.id v c.held.invariant.1
+    let won = wins_plain g.D.Decider.verdict a.seat.me _ _ _ _ _ _ _ c.held.invariant.0 c.claim-found.new.seat.me m c.args.id v c.held.invariant.1
     (ap (next_in g.D.Decider.verdict) c.held.view_is ∙ c.requires.next) (c.claim-found.ensures.told.0 c.if-found-ne0.false)
     (c.cell_there-value.ensures.value ∙ ap (λ n. (n, slot.Cell v) ∷ rest c.claim-found.new.seat.me.1) c.from.ensures)
     c.cell_there-value.ensures.stays in
@@ -64,6 +64,6 @@ invariant_of-result-2 g c =
     let new = c.hold.new.self in
     let now = c.hold.ensures.same ∙ ap (λ (q : Room). record q { zone = new.zone; cells = new.cells }) c.deref_mut.ensures.value in
     let cells = ap reverse (c.hold.ensures.cells ∙ ap (λ (q : Room). q.cells.items ++ (name.Body c.args.id, v) ∷ []) c.deref_mut.ensures.value) ∙ last_first r.cells.items (name.Body c.args.id, v) in
-    let with_cells = subst (λ (ps : Pairs). IsActivation g.D.Decider.verdict m r.caller r.turn r.bot (frame_of r.area r.maxes) ps (reverse r.notes.items) × IsClaiming g.D.Decider.verdict m r.turn r.bot ps) (sym cells) won in
+    let with_cells = subst (λ (ps : Pairs). IsActivation g.D.Decider.verdict m r.caller r.turn r.bot r.stale (frame_of r.area r.maxes) ps (reverse r.notes.items) × IsClaiming g.D.Decider.verdict m r.turn r.bot ps) (sym cells) won in
     let all = subst (λ (q : Room). KeepsRoom g.D.Decider.verdict m q × IsClaiming g.D.Decider.verdict m q.turn q.bot (reverse q.cells.items)) (sym now) with_cells in
     (all.0, all.1, c.hold.ensures.knows)
