@@ -159,7 +159,7 @@ module _ {D : Type 0} {verdict : D → Shown → Verdict} {z : Terms D} {s : Con
             by_view end (on table) words (homes_after s.homes out a) (homes_after s.homes out goes.1) w goes.0 (with_journal r one.change one.journal) (with_journal r two.change two.journal) one.now two.now goes.3
             (λ _ _. record { alike = record { number = refl; committed = refl }; caller = ap (λ c. record r.caller { phase = Committing c }) change; taken = refl }) rule
         | inr odd ↦
-            by_view end (on table) words (homes_after s.homes out a) (homes_after s.homes out goes.1) w goes.0 r r (ap (λ (m : View D × List (ℕ × Slot)). m.0) (told.1 odd)) (ap (λ (m : View D × List (ℕ × Slot)). m.0) (goes.4.1 odd)) goes.3
+            by_view end (on table) words (homes_after s.homes out a) (homes_after s.homes out goes.1) w goes.0 r r (ap (λ (m : View D × List (ℕ × Slot)). m.0) (told.1 odd).0) (ap (λ (m : View D × List (ℕ × Slot)). m.0) (goes.4.1 odd).0) goes.3
             (λ _ _. itself r) rule
       ]
 

@@ -1,6 +1,6 @@
 -- A try to take the journal keeps the rule, and tells whether it was got.
 use Rattle.std.proofs.Common.{◌≡◌, ◌≢◌, ℕ, ◌+◌, ◌*◌, ◌%◌, ◌^◌, ◌<◌, ◌≤◌, List, [], ◌∷◌, length, set, length-set, bit_or, Option, Some, None, inl, ap, sym, refl, subst, ◌∙◌, arith, suc-ne-zero}
-use Rattle.std.specs.Prelude.{slice_index}
+use Rattle.std.specs.Prelude.{slice_get, slice_index}
 use Rattle.std.specs.Int.Bits.{or_zero_r}
 use Rattle.std.proofs.lemmas.Nat.{or_block}
 use Rattle.std.proofs.lemmas.List.{set-set}
@@ -13,20 +13,21 @@ use Rattle.atomic_table.proofs.Lists.{set_else}
 use Rattle.amoebot_state.specs.declared.verdict.Change.{Change}
 use Rattle.amoebot_state.specs.declared.verdict.Verdict.{Verdict}
 use Rattle.amoebot_state.specs.Zones.{Shown}
+use Rattle.claim_core.specs.declared.state.Caller.{Caller}
 use Rattle.claim_core.specs.declared.state.Phase.TheVariants.{Taking, Committing}
 use Rattle.claim_core.specs.Cells.{cells}
 use Rattle.claim_core.specs.Limits.{most_turns}
 use Rattle.claim_core.specs.Turns.{Kept}
 use Rattle.claim_core.specs.Machine.{Setup, State, by_phase, acts, next}
 use Rattle.claim_core.specs.Machine as machine
-use Rattle.claim_core.specs.Soundness.{IsSetup, IsTurn, marked}
+use Rattle.claim_core.specs.Soundness.{IsSetup, IsTurn, IsCommitting, marked}
 use Rattle.claim_rule.specs.declared.views.Slot.{Slot}
 use Rattle.claim_rule.specs.declared.views.Slot.TheVariants as slot
 use Rattle.claim_rule.specs.declared.views.Record.{Record}
 use Rattle.claim_rule.specs.declared.views.Terms.{Terms}
 use Rattle.claim_rule.specs.Views.{Content, Seated, view_of, own, setup_of_terms}
 use Rattle.claim_rule.specs.Stands.{first_plain, journal_slot, turns_left, IsCoreJournal, HasCommitted, AreWords, AreHomes, KeepsRule}
-use Rattle.claim_rule.specs.Commits.{Takes, HasRoomForEntry, with_journal, took}
+use Rattle.claim_rule.specs.Commits.{Takes, HasRoomForEntry, IsTakenElsewhere, with_journal, took}
 use Rattle.claim_rule.specs.Nexts.{GoesTo, IsAt}
 use Rattle.claim_rule.proofs.Tables.{journal_written, journal_else, stamped_alike}
 use Rattle.claim_rule.proofs.Moves.{sound, on, counts, mine, caller_at, my_stamps, moved, moves, taken_else, journal_stays}
@@ -82,9 +83,18 @@ module _ {D : Type 0} {verdict : D → Shown → Verdict} {z : Terms D} {s : Con
       keeps,
       tt,
       moves table core (next g r.number core) (on table) r.caller r.won r.note (set s.words last (bit_or old 1)) s.homes (sym (leads_by (Some d) e)) same_callers refl refl (omega arith) words table.stands.homes (λ q apart rec st. still (bit_or old 1) q st) (still (bit_or old 1) r (my_stamps table)),
-      ((λ even. absurd (suc-ne-zero 0 (sym (ap (λ x. x % 2) (word_is (Some d) e) ∙ odd (length core.journal) (Some d)) ∙ even))), λ _. refl),
+      ((λ even. absurd (suc-ne-zero 0 (sym (ap (λ x. x % 2) (word_is (Some d) e) ∙ odd (length core.journal) (Some d)) ∙ even))), λ _. (refl, elsewhere)),
     )
       where
+        is_not_mine : d ≢ r.number
+        is_not_mine same =
+            let has = (sound table).holder d e in
+            let it : has.0 ≡ r.caller = same_Some has.0 r.caller (sym has.1 ∙ ap (slice_get core.callers) same ∙ caller_at table) in
+            subst IsCommitting (ap (λ (k : Caller). k.phase) it ∙ p) has.2
+
+        elsewhere : IsTakenElsewhere verdict (view_of z (r ∷ []))
+        elsewhere = record { core = core; sound = sound table; mine = caller_at table; holder = d; has = e; other = is_not_mine }
+
         same_callers : core.callers ≡ set core.callers r.number r.caller
         same_callers = sym (set_back core.callers r.number r.caller r.caller (caller_at table)) ∙ set-set core.callers r.number r.caller r.caller
 

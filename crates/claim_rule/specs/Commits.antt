@@ -1,5 +1,5 @@
 -- What a try to take the journal and a commit tell the seat that makes them: how its record changes, and nothing else.
-use Rattle.std.specs.Prelude.{◌≡◌, ◌≢◌, ℕ, ◌+◌, ◌*◌, ◌%◌, ◌<◌, List, [], ◌∷◌, ◌++◌, map, length}
+use Rattle.std.specs.Prelude.{◌≡◌, ◌≢◌, ℕ, ◌+◌, ◌*◌, ◌%◌, ◌<◌, List, [], ◌∷◌, ◌++◌, map, length, slice_get}
 use Rattle.std.specs.declared.option.Option.TheVariants.{Some, None}
 use Rattle.atomic_table.specs.Table.{Step, rest}
 use Rattle.amoebot_state.specs.declared.verdict.Change.{Change}
@@ -12,7 +12,8 @@ use Rattle.claim_core.specs.declared.state.Phase.{Phase}
 use Rattle.claim_core.specs.declared.state.Phase.TheVariants.{Taking, Committing}
 use Rattle.claim_core.specs.Limits.{most_turns}
 use Rattle.claim_core.specs.Turns.{Kept}
-use Rattle.claim_core.specs.Machine.{Setup, bot, found, entry, freeing_caller, patched_pair}
+use Rattle.claim_core.specs.Machine.{Setup, State, bot, found, entry, freeing_caller, patched_pair}
+use Rattle.claim_core.specs.Soundness.{Sound}
 use Rattle.claim_rule.specs.declared.views.Slot.{Slot}
 use Rattle.claim_rule.specs.declared.views.Slot.TheVariants as slot
 use Rattle.claim_rule.specs.declared.views.Record.{Record}
@@ -71,9 +72,18 @@ module _ {D : Type 0} where
     pub out : m'.1 ≡ (i, slot.Journal journal) ∷ m.1
 
 module _ {D : Type 0} (verdict : D → Shown → Verdict) where
+  -- another caller has the journal, in a sound state of the machine in which this caller is as its record says
+  pub record IsTakenElsewhere (v : View D) : Type 0 where
+    pub core : State
+    pub sound : Sound (about verdict v) core
+    pub mine : slice_get core.callers (own v).number ≡ Some (own v).caller
+    pub holder : ℕ
+    pub has : core.holder ≡ Some holder
+    pub other : holder ≢ (own v).number
+
   -- an even word was found, and the seat has the journal; or an odd one, and nothing changed, since another caller has it
   abbrev pub took : Step Slot → Seated D → ℕ → Seated D → Type 0
-  took st m t m' = (t % 2 ≡ 0 → GotJournal (journal_slot (about verdict m.0).world) m m') × (t % 2 ≢ 0 → m' ≡ m)
+  took st m t m' = (t % 2 ≡ 0 → GotJournal (journal_slot (about verdict m.0).world) m m') × (t % 2 ≢ 0 → (m' ≡ m) × IsTakenElsewhere m.0)
 
   -- the caller's change is to be committed: the seat has the journal to put home with the slot of this number, with the change's
   -- entry in it, and the word to store is twice its length

@@ -3,6 +3,7 @@ ghost use Rattle.amoebot_state.specs.declared.verdict.Change.{Change as ChangeVa
 ghost use Rattle.amoebot_state.specs.Steps.{change_of};
 ghost use Rattle.claim_core.specs.declared.state.Phase.TheVariants.{Committing};
 ghost use Rattle.claim_rule.specs.Tokens.{IsOf, doing};
+ghost use Rattle.claim_rule.specs.Commits.{IsTakenElsewhere};
 ghost use Rattle.claim_rule.specs.Settling.{HasGot, HasStored, IsToTake};
 
 use crate::activation::Activation;
@@ -44,7 +45,7 @@ pub fn take<D: Decider>(
     requires field { IsOf field.now claimed }
     requires change { IsToTake claimed change }
     ensures got { IfOk result (λ taken. HasGot claimed taken change) }
-    ensures busy { IfErr result (λ back. (back.0 ≡ claimed) × (back.1 ≡ change)) }
+    ensures busy { IfErr result (λ back. (back.0 ≡ claimed) × (back.1 ≡ change) × IsTakenElsewhere D.verdict claimed.view) }
 {
     let Claimed { mut activation } = claimed;
     let entry = activation.room.ready(change);

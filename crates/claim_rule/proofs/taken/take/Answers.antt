@@ -17,7 +17,7 @@ invariant_of-result g c =
     let m = c.take_journal-word.new.seat.me in
     let now = c.ready-entry.ensures.same ∙ ap (λ (q : Room). record q { changes = room.changes }) c.deref_mut.ensures.value in
     let r = c.claimed.inside.activation.room.value in
-    let stays = subst (λ (n : Seated g.row.D.Denot). KeepsRoom g.D.Decider.verdict n r × KeepsFound g.D.Decider.verdict n r) (sym (c.take_journal-word.ensures.told.1 c.if-word-ne0.true)) c.claimed.invariant in
+    let stays = subst (λ (n : Seated g.row.D.Denot). KeepsRoom g.D.Decider.verdict n r × KeepsFound g.D.Decider.verdict n r) (sym (c.take_journal-word.ensures.told.1 c.if-word-ne0.true).0) c.claimed.invariant in
     let found = stays.1 in
     subst (λ (q : Room). KeepsRoom g.D.Decider.verdict m q × KeepsFound g.D.Decider.verdict m q) (sym now) (stays.0, record { told = found.told; kept = found.kept; whole = found.whole })
 
