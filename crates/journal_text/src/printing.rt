@@ -78,11 +78,11 @@ fn put_entry(lines: &mut Lines, place: usize, entry: &Entry, vars: u8) -> Result
 fn put_numbers(lines: &mut Lines, place: usize, entry: &Entry) -> Result<(), AllocError>
     ensures { OnOk result (lines.new ≡ lines.old ++ spaced (entry_numbers place entry.now)) }
 {
-    lines.number(place)?;
-    lines.number(entry.caller)?;
-    lines.number(entry.turn)?;
-    lines.number(entry.bot)?;
-    lines.number(entry.action)
+    lines.unsigned(place as u64)?;
+    lines.unsigned(u64::from(entry.caller))?;
+    lines.unsigned(u64::from(entry.turn))?;
+    lines.unsigned(u64::from(entry.bot))?;
+    lines.unsigned(u64::from(entry.action))
 }
 
 fn put_callers(lines: &mut Lines, marks: &Marks) -> Result<(), AllocError>
@@ -108,8 +108,8 @@ fn put_turn(lines: &mut Lines, caller: u8, turn: u32, mark: Mark) -> Result<(), 
     ensures { OnOk result (lines.new ≡ lines.old ++ line_text (turn_words caller (turn, mark))) }
 {
     lines.begin("turn")?;
-    lines.number(caller)?;
-    lines.number(turn)?;
+    lines.unsigned(u64::from(caller))?;
+    lines.unsigned(u64::from(turn))?;
     put_mark(lines, mark)?;
     lines.end()
 }
@@ -120,16 +120,16 @@ fn put_mark(lines: &mut Lines, mark: Mark) -> Result<(), AllocError>
     match mark {
         Mark::Done { place } => {
             lines.word("done")?;
-            lines.number(place)
+            lines.unsigned(u64::from(place))
         }
         Mark::Idle { place } => {
             lines.word("idle")?;
-            lines.number(place)
+            lines.unsigned(u64::from(place))
         }
         Mark::Failed { failure, place } => {
             lines.word("failed")?;
             lines.word(failure_word(failure))?;
-            lines.number(place)
+            lines.unsigned(u64::from(place))
         }
         Mark::Busy {
             cell,
@@ -141,11 +141,11 @@ fn put_mark(lines: &mut Lines, mark: Mark) -> Result<(), AllocError>
             lines.word("busy")?;
             put_cell(lines, cell)?;
             lines.word("by")?;
-            lines.number(by_caller)?;
-            lines.number(by_turn)?;
-            lines.number(by_bot)?;
+            lines.unsigned(u64::from(by_caller))?;
+            lines.unsigned(u64::from(by_turn))?;
+            lines.unsigned(u64::from(by_bot))?;
             lines.word("place")?;
-            lines.number(place)
+            lines.unsigned(u64::from(place))
         }
     }
 }
@@ -171,7 +171,7 @@ fn put_cell(lines: &mut Lines, name: CellName) -> Result<(), AllocError>
         }
         CellName::Body(id) => {
             lines.word("body")?;
-            lines.number(id)
+            lines.unsigned(u64::from(id))
         }
     }
 }
@@ -181,7 +181,7 @@ fn put_value(lines: &mut Lines, value: &Cell, vars: u8) -> Result<(), AllocError
     ensures { OnOk result (lines.new ≡ lines.old ++ spaced (value_words vars value.now)) }
 {
     match value {
-        Cell::Spot(Some(id)) => lines.number(*id),
+        Cell::Spot(Some(id)) => lines.unsigned(u64::from(*id)),
         Cell::Spot(None) => lines.word("empty"),
         Cell::Body(bot) => put_bot(lines, bot, vars),
     }

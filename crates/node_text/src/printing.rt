@@ -17,7 +17,7 @@ pub fn put_bot(lines: &mut Lines, bot: &Bot, vars: u8) -> Result<(), AllocError>
 {
     put_node(lines, bot.head)?;
     put_node(lines, bot.tail)?;
-    lines.number(bot.rot)?;
+    lines.unsigned(u64::from(bot.rot))?;
     lines.word(chir_word(bot.chir))?;
     put_values(lines, &bot.mem[..usize::from(vars)])
 }
@@ -26,7 +26,7 @@ fn put_values(lines: &mut Lines, values: &[u8]) -> Result<(), AllocError>
     ensures { OnOk result (lines.new ≡ lines.old ++ spaced (map decimal values.now)) }
 {
     for value in values {
-        lines.number(*value)?;
+        lines.unsigned(u64::from(*value))?;
     }
     Ok(())
 }
@@ -36,15 +36,15 @@ pub fn put_port(lines: &mut Lines, port: Port) -> Result<(), AllocError>
     ensures { OnOk result (lines.new ≡ lines.old ++ spaced (port_words port)) }
 {
     lines.word(port.end.word())?;
-    lines.number(port.dir)
+    lines.unsigned(u64::from(port.dir))
 }
 
 /// Adds the coordinates of a node to a line.
 pub fn put_node(lines: &mut Lines, node: Node) -> Result<(), AllocError>
     ensures { OnOk result (lines.new ≡ lines.old ++ spaced (node_words node)) }
 {
-    lines.number(node.x)?;
-    lines.number(node.y)
+    lines.signed(i64::from(node.x))?;
+    lines.signed(i64::from(node.y))
 }
 
 fn chir_word(chir: Chir) -> &'static str

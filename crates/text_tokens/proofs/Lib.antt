@@ -1,4 +1,5 @@
 pub mod LineLemmas
+pub mod TextBehind
 pub mod NextLines
 pub mod PrintedTokens
 pub mod ScanLemmas

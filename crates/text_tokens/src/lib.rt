@@ -7,6 +7,7 @@ pub mod groups;
 mod laws;
 mod lines;
 mod refusal;
+mod room;
 mod terminals;
 mod token;
 mod tokens;

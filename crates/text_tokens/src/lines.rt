@@ -1,6 +1,8 @@
-ghost use Rattle.std.specs.Prelude.{◌≡◌, ◌∷◌, ◌++◌, [], codes, OnOk};
+ghost use Rattle.std.specs.Prelude.{◌≡◌, ◌∷◌, ◌++◌, [], codes, decimal, OnOk};
+ghost use Rattle.std.specs.Fmt.{signed_decimal};
 ghost use Rattle.text_tokens.specs.Lines.{line_text, LineIsItsTokens, SectionIsItsLines, SmallSections, TextsAddUp};
 
+use crate::room::{put, put_digits};
 use itoa::{Buffer, Integer};
 use std::alloc::{AllocError, Global};
 use std::marker::Model;
@@ -28,21 +30,29 @@ impl Text {
     }
 }
 
+/// How many bytes of room are made at once.
+const ROOM: usize = 1024;
+
 /// A text as it is made, line by line and token by token. It is seen as the bytes so far.
 ///
 /// A line is `begin`, a `word` or a `number` for each further token, and `end`. Where a call finds no memory, the text
-/// may end anywhere.
+/// may end anywhere. A line is put together in the room behind the text, where it stays.
 #[derive(Drop)]
 pub struct Lines {
+    /// The text so far, and room behind it.
     bytes: Vec<u8>,
+    /// Where the text so far ends.
+    end: usize,
 }
 
 impl Model for Lines {
-    ghost use Rattle.std.specs.Prelude.{ℕ, List};
+    ghost use Rattle.std.specs.Prelude.{ℕ, List, ◌≤◌, length, take};
 
     ghost Value = { List ℕ };
 
-    ghost view = { λ lines. lines.bytes.items };
+    ghost view = { λ lines. take lines.end lines.bytes.items };
+
+    ghost invariant = { λ lines. lines.end ≤ length lines.bytes.items };
 }
 
 impl Lines {
@@ -52,6 +62,7 @@ impl Lines {
     {
         Lines {
             bytes: Vec::new(alloc),
+            end: 0,
         }
     }
 
@@ -59,22 +70,24 @@ impl Lines {
     pub fn text(self) -> Text
         ensures { result ≡ self }
     {
-        Text { bytes: self.bytes }
+        let Lines { mut bytes, end } = self;
+        bytes.truncate(end);
+        Text { bytes }
     }
 
     /// The first token of a line.
     pub fn begin(&mut self, word: &str) -> Result<(), AllocError>
         ensures { OnOk result (self.new ≡ self.old ++ word.now) }
     {
-        self.bytes.extend_from_slice(word.as_bytes())
+        self.add(word.as_bytes())
     }
 
     /// A further token of a line.
     pub fn word(&mut self, word: &str) -> Result<(), AllocError>
         ensures { OnOk result (self.new ≡ self.old ++ 32 ∷ word.now) }
     {
-        self.bytes.push(b' ')?;
-        self.bytes.extend_from_slice(word.as_bytes())
+        self.add(b" ")?;
+        self.add(word.as_bytes())
     }
 
     /// A further token that is a decimal number. A negative one has a `-` directly before its digits.
@@ -85,12 +98,49 @@ impl Lines {
         self.word(buffer.format(number))
     }
 
+    /// The same of a number of at most 64 bits. At most five digits are written where they stay.
+    pub fn unsigned(&mut self, number: u64) -> Result<(), AllocError>
+        ensures { OnOk result (self.new ≡ self.old ++ 32 ∷ decimal number) }
+    {
+        let room = self.bytes.len() - self.end;
+        if number >= 100_000 || room < 6 {
+            return self.copied(number);
+        }
+        let at = put(self.bytes.as_mut_slice(), self.end, b" ");
+        self.end = put_digits(self.bytes.as_mut_slice(), at, number);
+        Ok(())
+    }
+
+    /// The same of a number that may be negative.
+    pub fn signed(&mut self, number: i64) -> Result<(), AllocError>
+        ensures { OnOk result (self.new ≡ self.old ++ 32 ∷ signed_decimal number) }
+    {
+        let size = number.unsigned_abs();
+        let room = self.bytes.len() - self.end;
+        if size >= 100_000 || room < 7 {
+            return self.copied(number);
+        }
+        let mut at = put(self.bytes.as_mut_slice(), self.end, b" ");
+        if number < 0 {
+            at = put(self.bytes.as_mut_slice(), at, b"-");
+        }
+        self.end = put_digits(self.bytes.as_mut_slice(), at, size);
+        Ok(())
+    }
+
+    /// A number as `number` adds it.
+    #[cold]
+    fn copied<I: Integer + Drop>(&mut self, number: I) -> Result<(), AllocError>
+        ensures { OnOk result (self.new ≡ self.old ++ 32 ∷ I.text number) }
+    {
+        self.number(number)
+    }
+
     /// The end of a line.
     pub fn end(&mut self) -> Result<(), AllocError>
         ensures { OnOk result (self.new ≡ self.old ++ codes "\n") }
     {
-        self.bytes.push(b'\n')?;
-        Ok(())
+        self.add(b"\n")
     }
 
     /// The first line of a section, which is its word.
@@ -108,6 +158,29 @@ impl Lines {
         self.begin("end")?;
         self.end()
     }
+
+    /// Bytes join the text. They are put into the room, if they fit.
+    #[inline(always)]
+    fn add(&mut self, bytes: &[u8]) -> Result<(), AllocError>
+        ensures { OnOk result (self.new ≡ self.old ++ bytes.now) }
+    {
+        if self.bytes.len() - self.end < bytes.len() {
+            return self.append(bytes);
+        }
+        self.end = put(self.bytes.as_mut_slice(), self.end, bytes);
+        Ok(())
+    }
+
+    /// Bytes join the text, however little room there is, and new room is made behind them.
+    #[cold]
+    fn append(&mut self, bytes: &[u8]) -> Result<(), AllocError>
+        ensures { OnOk result (self.new ≡ self.old ++ bytes.now) }
+    {
+        self.bytes.truncate(self.end);
+        self.bytes.extend_from_slice(bytes)?;
+        self.end = self.bytes.len();
+        self.bytes.extend_from_slice(&[0; ROOM])
+    }
 }
 
 /// How the texts of tokens, lines and sections add up.
@@ -121,7 +194,104 @@ pub fn lines_add_up()
 #[cfg(test)]
 mod tests {
     use crate::lines::Lines;
+    use itoa::Buffer;
     use std::test::Fail;
+
+    /// A text of so many lines, each with a number, is the same bytes put one behind the other in a vector.
+    #[test]
+    fn lines_go_on_behind_their_room(rt: HostRuntime) -> Result<(), Fail> {
+        let mut lines = Lines::new(rt.alloc());
+        let mut plain = Vec::new(rt.alloc());
+        for number in 0..2000u32 {
+            lines.begin("line")?;
+            lines.unsigned(u64::from(number))?;
+            lines.word("of")?;
+            lines.number(number)?;
+            lines.end()?;
+            let mut buffer = Buffer::new();
+            let digits = buffer.format(number).as_bytes();
+            plain.extend_from_slice(b"line ")?;
+            plain.extend_from_slice(digits)?;
+            plain.extend_from_slice(b" of ")?;
+            plain.extend_from_slice(digits)?;
+            plain.push(b'\n')?;
+        }
+        let text = lines.text();
+        assert!(rt; text.bytes() == plain.as_slice());
+        Ok(())
+    }
+
+    /// A word that is longer than any room.
+    #[test]
+    fn a_long_word_is_a_token(rt: HostRuntime) -> Result<(), Fail> {
+        let mut long = String::new(rt.alloc());
+        for _ in 0..500 {
+            long.push_str("a_long_word")?;
+        }
+        let mut lines = Lines::new(rt.alloc());
+        lines.begin("to")?;
+        lines.word(long.as_str())?;
+        lines.unsigned(5)?;
+        let text = lines.text();
+        let mut plain = String::from_str(rt.alloc(), "to ")?;
+        plain.push_str(long.as_str())?;
+        plain.push_str(" 5")?;
+        assert!(rt; text.bytes() == plain.as_str().as_bytes());
+        Ok(())
+    }
+
+    /// Numbers that are written where they stay, and the same numbers copied.
+    #[test]
+    fn numbers_are_put_as_they_are_copied(rt: HostRuntime) -> Result<(), Fail> {
+        let mut put = Lines::new(rt.alloc());
+        let mut copied = Lines::new(rt.alloc());
+        for number in [
+            0,
+            7,
+            9,
+            10,
+            42,
+            99,
+            100,
+            256,
+            999,
+            1000,
+            4096,
+            9999,
+            10_000,
+            65_536,
+            99_999,
+            100_000,
+            1_048_576,
+            4_294_967_296,
+            18_446_744_073_709_551_615,
+        ] {
+            put.unsigned(number)?;
+            copied.number(number)?;
+        }
+        for number in [
+            -9_223_372_036_854_775_808,
+            -100_000,
+            -99_999,
+            -4096,
+            -10,
+            -9,
+            -1,
+            0,
+            1,
+            10,
+            4095,
+            99_999,
+            9_223_372_036_854_775_807,
+        ] {
+            put.signed(number)?;
+            copied.number(number)?;
+        }
+        let put = put.text();
+        let copied = copied.text();
+        assert_eq!(rt; put.bytes(), copied.bytes());
+        Ok(())
+    }
 
     #[test]
     fn a_section_of_words_and_numbers_is_printed(rt: HostRuntime) -> Result<(), Fail> {
