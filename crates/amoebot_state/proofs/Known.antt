@@ -211,7 +211,7 @@ next_is_in_zone c i cells is front =
     ]
 
 -- what is shown has the pair of each cell of the zone, at the same place
-shown_at : (c : Config) (i k : ℕ) (n : CellName) → slice_get (zone c i) k ≡ Some n → (x : Cell) × (value c n ≡ Some x) × (slice_get (shown c i).cells k ≡ Some (n, x))
+pub shown_at : (c : Config) (i k : ℕ) (n : CellName) → slice_get (zone c i) k ≡ Some n → (x : Cell) × (value c n ≡ Some x) × (slice_get (shown c i).cells k ≡ Some (n, x))
 shown_at c i k n e =
     let named : option_map cell_of (slice_get (shown c i).cells k) ≡ Some n = sym (slice_get-map cell_of (shown c i).cells k) ∙ ap (λ ns. slice_get ns k) (shown_lists_zone c i) ∙ e in
     elim (slice_get (shown c i).cells k) as (λ o. slice_get (shown c i).cells k ≡ o → (x : Cell) × (value c n ≡ Some x) × (slice_get (shown c i).cells k ≡ Some (n, x))) [

@@ -1,5 +1,5 @@
 pub mod Added
-pub mod Behind
+pub mod BehindPorts
 pub mod Counts
 pub mod Differences
 pub mod Directions
@@ -25,5 +25,7 @@ pub mod StepExamples
 pub mod Shifts
 pub mod Shows
 pub mod Values
+pub mod Ways
+pub mod WaysFound
 pub mod Zones
 pub mod SerialTurns

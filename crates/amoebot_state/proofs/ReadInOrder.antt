@@ -60,13 +60,14 @@ same_parts (v ∷ vs) (u ∷ us) js ks e =
     (λ t. first t ∷ more.0 t, more.1)
 
 -- what the cell was, and what is known with it
-pub record IsOwnBody (a : Extent) (i : ℕ) (vs : List Node) (js : List ℕ) (x : Cell) (new : List CellName) : Type 0 where
+pub record IsOwnBody (a : Extent) (i : ℕ) (vs : List Node) (js : List ℕ) (x : Cell) (own : Option Bot) (new : List CellName) : Type 0 where
   pub bot : Bot
   pub holds : x ≡ cell.Body bot
   pub nodes : vs ≡ []
   pub bodies : js ≡ []
   pub plain : IsBotInRange bot
   pub few : length (zone_nodes a bot) ≤ 10
+  pub read : own ≡ Some bot
   pub now : new ≡ parts i (zone_nodes a bot) []
 
 pub record IsOnNode (i : ℕ) (vs : List Node) (js : List ℕ) (x : Cell) (new : List CellName) : Type 0 where
@@ -81,8 +82,9 @@ pub record IsOtherBody (i : ℕ) (vs : List Node) (js : List ℕ) (x : Cell) (ne
   pub some : 0 < length vs
   pub now : new ≡ parts i vs js
 
-abbrev pub Grown : Extent → ℕ → List Node → List ℕ → Cell → List CellName → Type 0
-Grown a i vs js x new = IsOwnBody a i vs js x new ⊎ (IsOnNode i vs js x new ⊎ IsOtherBody i vs js x new)
+-- the own amoebot as it was read before and after
+abbrev pub Grown : Extent → ℕ → List Node → List ℕ → Cell → Option Bot → Option Bot → List CellName → Type 0
+Grown a i vs js x was own new = IsOwnBody a i vs js x own new ⊎ ((IsOnNode i vs js x new ⊎ IsOtherBody i vs js x new) × (own ≡ was))
 
 -- the cell that was read last is the next one of the zone, and has its value
 next_one : (c : Config) (i : ℕ) (cells : Pairs) (n : CellName) (x : Cell) → IsFront (cells ++ (n, x) ∷ []) (shown c i).cells → (slice_get (zone c i) (length cells) ≡ Some n) × (value c n ≡ Some x)
@@ -181,7 +183,14 @@ module _ (c : Config) (i : ℕ) (b : Bot) (valid : IsValid c) (at : bot_at c i �
       some_nodes : 0 < length nodes
       some_nodes = some_zone_nodes c.area b
 
-  grown_here : (own : ℕ) (vs : List Node) (js : List ℕ) (cells : Pairs) (n : CellName) (x : Cell) → parts own vs js ≡ known_zone c.area i cells → IsFront (cells ++ (n, x) ∷ []) (shown c i).cells → Grown c.area own vs js x (known_zone c.area i (cells ++ (n, x) ∷ []))
+  -- the own amoebot is among the cells that were read
+  own_among : (m : ℕ) (cells : Pairs) → length cells ≡ suc m → IsFront cells (shown c i).cells → body_in cells i ≡ Some b
+  own_among m cells long front = elim (read_cases c i b cells at front) [
+    | inl none ↦ absurd (omega (arith, long, ap length none))
+    | inr (k, _, e) ↦ ap (λ ps. body_in ps i) e ∙ body_shown c (name.Body i ∷ take k (behind_body c i b)) i here ∙ at
+  ]
+
+  grown_here : (own : ℕ) (vs : List Node) (js : List ℕ) (cells : Pairs) (n : CellName) (x : Cell) → parts own vs js ≡ known_zone c.area i cells → IsFront (cells ++ (n, x) ∷ []) (shown c i).cells → Grown c.area own vs js x (body_in cells i) (body_in (cells ++ (n, x) ∷ []) i) (known_zone c.area i (cells ++ (n, x) ∷ []))
   grown_here own vs js cells n x was front =
       let more = cells ++ (n, x) ∷ [] in
       let (next, holds) = next_one c i cells n x front in
@@ -200,6 +209,7 @@ module _ (c : Config) (i : ℕ) (b : Bot) (valid : IsValid c) (at : bot_at c i �
                 bodies = none_yet.1;
                 plain = plain_bot c valid i b at;
                 few = few_nodes;
+                read = own_among m more longer front;
                 now = now ∙ ap (told_by c i b) first ∙ ap (λ k. parts k nodes []) (sym own_is);
               })
           | inr (k, short, before) ↦
@@ -207,9 +217,10 @@ module _ (c : Config) (i : ℕ) (b : Bot) (valid : IsValid c) (at : bot_at c i �
               let step : m ≡ suc k = omega (arith, longer, long, short) in
               let told : told_by c i b (suc k) ≡ known_zone c.area i more = sym (now ∙ ap (told_by c i b) step) in
               let there : slice_get (map name.Spot nodes ++ map name.Body (others on i nodes)) k ≡ Some n = ap (slice_get (parts i nodes (others on i nodes))) (sym short) ∙ listed in
+              let same_own = own_among m more longer front ∙ sym (own_among k cells short (front_left cells ((n, x) ∷ []) (shown c i).cells front)) in
               elim (behind k n x there holds) [
-                | inl node ↦ inr (inl (subst5 (λ o us ks ns. IsOnNode o us ks x ns) own_is same.0 same.1 told node))
-                | inr body ↦ inr (inr (subst5 (λ o us ks ns. IsOtherBody o us ks x ns) own_is same.0 same.1 told body))
+                | inl node ↦ inr (inl (subst5 (λ o us ks ns. IsOnNode o us ks x ns) own_is same.0 same.1 told node), same_own)
+                | inr body ↦ inr (inr (subst5 (λ o us ks ns. IsOtherBody o us ks x ns) own_is same.0 same.1 told body), same_own)
               ]
         ]
       ]
@@ -223,39 +234,39 @@ module _ (c : Config) (i : ℕ) (b : Bot) (valid : IsValid c) (at : bot_at c i �
       subst5 : (P : ℕ → List Node → List ℕ → List CellName → Type 0) {o k : ℕ} {vs us : List Node} {js ks : List ℕ} {ms ns : List CellName} → o ≡ k → vs ≡ us → js ≡ ks → ms ≡ ns → P k us ks ms → P o vs js ns
       subst5 P {o} {k} {vs} {us} {js} {ks} {ms} {ns} e f g h p = subst (λ z. P z vs js ns) (sym e) (subst (λ z. P k z js ns) (sym f) (subst (λ z. P k us z ns) (sym g) (subst (λ z. P k us ks z) h p)))
 
-pub grown : (a : Extent) (i own : ℕ) (vs : List Node) (js : List ℕ) (cells : Pairs) (n : CellName) (x : Cell) → parts own vs js ≡ known_zone a i cells → AreReadInOrder a i (cells ++ (n, x) ∷ []) → Grown a own vs js x (known_zone a i (cells ++ (n, x) ∷ []))
+pub grown : (a : Extent) (i own : ℕ) (vs : List Node) (js : List ℕ) (cells : Pairs) (n : CellName) (x : Cell) → parts own vs js ≡ known_zone a i cells → AreReadInOrder a i (cells ++ (n, x) ∷ []) → Grown a own vs js x (body_in cells i) (body_in (cells ++ (n, x) ∷ []) i) (known_zone a i (cells ++ (n, x) ∷ []))
 grown a i own vs js cells n x was read =
     let (b, at) = there_is (bot_at read.config i) read.there in
-    subst (λ e. parts own vs js ≡ known_zone e i cells → Grown e own vs js x (known_zone e i (cells ++ (n, x) ∷ []))) read.area
+    subst (λ e. parts own vs js ≡ known_zone e i cells → Grown e own vs js x (body_in cells i) (body_in (cells ++ (n, x) ∷ []) i) (known_zone e i (cells ++ (n, x) ∷ []))) read.area
     (λ known. grown_here read.config i b read.valid at own vs js cells n x known read.front) was
 
 -- the same by what the code finds: a body where no node is known, a body where one is, and a node
-module _ (a : Extent) (i : ℕ) (vs : List Node) (js : List ℕ) (x : Cell) (new : List CellName) (is : Grown a i vs js x new) where
-  pub own_read : (b : Bot) → x ≡ cell.Body b → length vs ≡ 0 → IsBotInRange b × (length (zone_nodes a b) ≤ 10) × (new ≡ parts i (zone_nodes a b) js)
+module _ (a : Extent) (i : ℕ) (vs : List Node) (js : List ℕ) (x : Cell) (was own : Option Bot) (new : List CellName) (is : Grown a i vs js x was own new) where
+  pub own_read : (b : Bot) → x ≡ cell.Body b → length vs ≡ 0 → IsBotInRange b × (length (zone_nodes a b) ≤ 10) × (new ≡ parts i (zone_nodes a b) js) × (own ≡ Some b)
   own_read b holds none = elim is [
-    | inl own ↦
-        let same : own.bot ≡ b = let e = own.holds in cc in
-        (subst IsBotInRange same own.plain, subst (λ d. length (zone_nodes a d) ≤ 10) same own.few, own.now ∙ (λ t. parts i (zone_nodes a (same t)) (sym own.bodies t)))
-    | inr more ↦ elim more [
+    | inl first ↦
+        let same : first.bot ≡ b = let e = first.holds in cc in
+        (subst IsBotInRange same first.plain, subst (λ d. length (zone_nodes a d) ≤ 10) same first.few, first.now ∙ (λ t. parts i (zone_nodes a (same t)) (sym first.bodies t)), first.read ∙ ap Some same)
+    | inr (more, _) ↦ elim more [
       | inl node ↦ let e = node.holds in absurd (cc)
       | inr other ↦ absurd (omega (arith, none, other.some))
     ]
   ]
 
-  pub other_read : (b : Bot) → x ≡ cell.Body b → length vs ≢ 0 → new ≡ parts i vs js
+  pub other_read : (b : Bot) → x ≡ cell.Body b → length vs ≢ 0 → (new ≡ parts i vs js) × (own ≡ was)
   other_read b holds some = elim is [
-    | inl own ↦ absurd (some (ap length own.nodes))
-    | inr more ↦ elim more [
+    | inl first ↦ absurd (some (ap length first.nodes))
+    | inr (more, stays) ↦ elim more [
       | inl node ↦ let e = node.holds in absurd (cc)
-      | inr other ↦ other.now
+      | inr other ↦ (other.now, stays)
     ]
   ]
 
-  pub node_read : (o : Option ℕ) → x ≡ cell.Spot o → (length js ≤ 8) × (new ≡ parts i vs (with_other i js o))
+  pub node_read : (o : Option ℕ) → x ≡ cell.Spot o → (length js ≤ 8) × (new ≡ parts i vs (with_other i js o)) × (own ≡ was)
   node_read o holds = elim is [
-    | inl own ↦ let e = own.holds in absurd (cc)
-    | inr more ↦ elim more [
-      | inl node ↦ let same : node.who ≡ o = let e = node.holds in cc in (node.few, node.now ∙ ap (λ w. parts i vs (with_other i js w)) same)
+    | inl first ↦ let e = first.holds in absurd (cc)
+    | inr (more, stays) ↦ elim more [
+      | inl node ↦ let same : node.who ≡ o = let e = node.holds in cc in (node.few, node.now ∙ ap (λ w. parts i vs (with_other i js w)) same, stays)
       | inr other ↦ let e = other.holds in absurd (cc)
     ]
   ]

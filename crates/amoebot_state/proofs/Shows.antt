@@ -1,10 +1,12 @@
 -- What is shown, as the code makes and reads it.
 use Rattle.std.proofs.Common.{◌≡◌, ◌≤◌, ℕ, List, [], ◌∷◌, ◌++◌, length, map, true, ap, sym, ◌∙◌, refl, subst, inl, inr, arith, Bor, Option, Some, None}
-use Rattle.std.specs.Prelude.{IfSome, IsSome, is_some, unwrap_or}
+use Rattle.std.specs.Prelude.{IfSome, unwrap_or}
 use Rattle.std.specs.List.{filter_map, cons_option}
 use Rattle.std.specs.Option.{option_map, option_copied}
 use Rattle.std.proofs.lemmas.Bool.{cases_Bool, both_ways}
 use Rattle.std.proofs.lemmas.List.Elements.{filter_map-append}
+use Rattle.std.proofs.lemmas.List.{length-append, length-map}
+use Rattle.std.proofs.lemmas.Option.{same_Some}
 use Rattle.tri_lattice.specs.declared.node.Node.{Node}
 use Rattle.tri_lattice.specs.Lattice.{node_eq}
 use Rattle.tri_lattice.specs.Extent.{Extent, is_in}
@@ -17,16 +19,18 @@ use Rattle.amoebot_state.specs.declared.cell.Cell.TheVariants as cell
 use Rattle.amoebot_state.specs.Ports.{is_beside}
 use Rattle.amoebot_state.specs.Configs.{Config, IsValid, bot_at, bot_of, blank, occupant, frame_of}
 use Rattle.amoebot_state.specs.Refusals.{IsBotInRange}
-use Rattle.amoebot_state.specs.Zones.{Shown, IsShown, IsFound, shown_with, shown, shown_cell, zone, zone_nodes, others, shown_alone}
-use Rattle.amoebot_state.specs.Pairs.{spot_in}
+use Rattle.amoebot_state.specs.Zones.{Shown, IsShown, shown_with, shown, shown_cell, zone, zone_nodes, others, shown_alone}
+use Rattle.amoebot_state.specs.Pairs.{spot_in, body_in}
+use Rattle.amoebot_state.specs.Ways.{IsFound, ways_of}
+use Rattle.amoebot_state.specs.declared.way.Way.{Way}
+use Rattle.amoebot_state.proofs.Counts.{at_most_ten_nodes, at_most_eight_others}
 use Rattle.amoebot_state.specs.Laws.{ShownAloneHasTheZone, BesideHoldsTheSame}
 use Rattle.amoebot_state.proofs.Members.{Has, here, later, has_cases, not_in_none, length-filter_map-le, Contains-from_Has, Has-from_Contains}
 use Rattle.amoebot_state.proofs.Options.{there_is, none_if}
 use Rattle.amoebot_state.proofs.Occupants.{plain_bot, outside_empty}
 use Rattle.amoebot_state.proofs.Directions.{beside_in_zone}
-use Rattle.amoebot_state.proofs.Zones.{length-zone_nodes-le, length-zone_of-le}
-use Rattle.amoebot_state.proofs.ShownAlone.{alone_own, alone_valid, alone_occupant, alone_has, alone_only}
-use Rattle.amoebot_state.proofs.Zones.{zone_is, spot_in_zone, zone_inside}
+use Rattle.amoebot_state.proofs.ShownAlone.{spread_at, body_shown, alone_own, alone_valid, alone_occupant, alone_has, alone_only}
+use Rattle.amoebot_state.proofs.Zones.{zone_is, own_in_zone, spot_in_zone, zone_inside}
 
 -- the cells of nodes and of bodies
 spot_cells : (c : Config) (vs : List Node) → filter_map (shown_cell c) (map name.Spot vs) ≡ map (λ v. (name.Spot v, cell.Spot (occupant c v))) vs
@@ -52,32 +56,44 @@ cells_made c i own nodes ids cells at ns is made =
     ∙ ap (λ o. cons_option (option_map (λ y. (name.Body i, y)) (option_map cell.Body o)) (filter_map (shown_cell c) (map name.Spot (zone_nodes c.area own) ++ map name.Body (others (occupant c) i (zone_nodes c.area own))))) (sym at)
     ∙ ap (filter_map (shown_cell c)) (sym (zone_is c i own at))
 
--- what a valid configuration shows to this amoebot is found by it
-pub found_by : (c : Config) (i : ℕ) (own : Bot) (s : Shown) → IsValid c → bot_at c i ≡ Some own → shown c i ≡ s → IsFound s own
-found_by c i own s valid at is =
-    let P : Shown → Type 0 = λ t. IsFound t own in
-    subst P is (record { shown = (c, valid, is_there (bot_at c i) own at, refl); owner = alone_own c i own at })
-  where
-    is_there : (o : Option Bot) (b : Bot) → o ≡ Some b → IsSome o
-    is_there o b e = ap is_some e
-
 -- what is shown alone is valid
 pub shown_valid : (s : Shown) → IsShown s → IsValid (shown_alone s)
 shown_valid s is = let P : Shown → Type 0 = λ t. IsValid (shown_alone t) in subst P is.3 (alone_valid is.0 s.bot is.1)
 
-pub shown_plain : (s : Shown) (b : Bot) → IsFound s b → IsBotInRange b
-shown_plain s b is = plain_bot (shown_alone s) (shown_valid s is.shown) s.bot b is.owner
+pub shown_plain : (s : Shown) (b : Bot) (ways : List Way) → IsFound s b ways → IsBotInRange b
+shown_plain s b ways is = plain_bot (shown_alone s) (shown_valid s is.shown) s.bot b is.owner
 
--- the code's room is enough
-pub length-shown-le : (s : Shown) → IsShown s → length s.cells ≤ 30
+-- a zone has at most nineteen cells
+pub length-shown-le : (s : Shown) → IsShown s → length s.cells ≤ 19
 length-shown-le s is =
     let c = is.0 in
-    let own = there_is (bot_at c s.bot) is.2 in
-    let names = zone c s.bot in
-    let few : length names ≤ 29 = subst (λ xs. length xs ≤ 29) (sym (zone_is c s.bot own.0 own.1)) (length-zone_of-le (occupant c) s.bot (zone_nodes c.area own.0) (length-zone_nodes-le c.area own.0)) in
-    let le : length (filter_map (shown_cell c) names) ≤ length names = length-filter_map-le (shown_cell c) names in
-    let all : length (filter_map (shown_cell c) names) ≤ 30 = omega arith in
-    subst (λ (t : Shown). length t.cells ≤ 30) is.3 all
+    let (b, at) = there_is (bot_at c s.bot) is.2 in
+    let fits = is.1.each s.bot b at in
+    let vs = zone_nodes c.area b in
+    let ids = others (occupant c) s.bot vs in
+    let parts = length-append (map name.Spot vs) (map name.Body ids) in
+    let whole = ap length (zone_is c s.bot b at) in
+    let le = length-filter_map-le (shown_cell c) (zone c s.bot) in
+    let few : length (filter_map (shown_cell c) (zone c s.bot)) ≤ 19 = omega (arith, le, whole, parts, length-map vs name.Spot, length-map ids name.Body, at_most_ten_nodes c.area b fits.rot fits.close, at_most_eight_others c s.bot b is.1 at) in
+    subst (λ (t : Shown). length t.cells ≤ 19) is.3 few
+
+-- what is shown to an amoebot has it, as one that may stand, and with a small zone
+pub shown_own : (s : Shown) → IsShown s → (b : Bot) × (body_in s.cells s.bot ≡ Some b) × IsBotInRange b × (length (zone_nodes s.area b) ≤ 10)
+shown_own s is =
+    let c = is.0 in
+    let (b, at) = there_is (bot_at c s.bot) is.2 in
+    let fits = is.1.each s.bot b at in
+    let P : Shown → Type 0 = λ t. (a : Bot) × (body_in t.cells s.bot ≡ Some a) × IsBotInRange a × (length (zone_nodes t.area a) ≤ 10) in
+    subst P is.3 (b, body_shown c (zone c s.bot) s.bot (own_in_zone c s.bot b at) ∙ at, plain_bot c is.1 s.bot b at, at_most_ten_nodes c.area b fits.rot fits.close)
+
+pub own_fits : (s : Shown) (own : Bot) → IsShown s → Some own ≡ body_in s.cells s.bot → IsBotInRange own × (length (zone_nodes s.area own) ≤ 10)
+own_fits s own is e =
+    let (b, at, plain, few) = shown_own s is in
+    let same : b ≡ own = same_Some b own (sym at ∙ sym e) in
+    (subst IsBotInRange same plain, subst (λ a. length (zone_nodes s.area a) ≤ 10) same few)
+
+pub found_with : (s : Shown) (own : Bot) (ws : List Way) → IsShown s → Some own ≡ body_in s.cells s.bot → ws ≡ ways_of s.area own → IsFound s own ws
+found_with s own ws is e to = record { shown = is; owner = spread_at s.cells s.bot ∙ sym e; ways = to }
 
 -- a node of the zone has its occupant among the cells
 pub spot_found : (c : Config) (names : List CellName) (v : Node) → Has (name.Spot v) names → spot_in (filter_map (shown_cell c) names) v ≡ Some (occupant c v)

@@ -4,6 +4,8 @@ pub mod Pairs
 pub mod Configs
 pub mod Zones
 pub mod Known
+pub mod Ways
+pub mod Around
 pub mod Patches
 pub mod Refusals
 pub mod Steps

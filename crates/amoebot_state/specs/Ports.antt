@@ -72,6 +72,10 @@ all_ports =
     port Head 0 ∷ port Head 1 ∷ port Head 2 ∷ port Head 3 ∷ port Head 4 ∷ port Head 5 ∷ port Tail 0 ∷ port Tail 1
     ∷ port Tail 2 ∷ port Tail 3 ∷ port Tail 4 ∷ port Tail 5 ∷ []
 
+-- the place of a pair in port order
+abbrev pub pair_place : Port → ℕ
+pair_place p = if is_head p.end then p.dir else 6 + p.dir
+
 -- the ports of an amoebot, in port order
 abbrev pub ports : Bot → List Port
 ports b = filter (is_port b) all_ports

@@ -83,8 +83,3 @@ spread ((name.Body i, cell.Body b) ∷ cells) = with_id (spread cells) i b
 -- the configuration that has what is shown and no other amoebot: the ids that are not shown are gaps in it
 abbrev pub shown_alone : Shown → Config
 shown_alone s = record (frame_of s.area s.maxes) { bots = spread s.cells }
-
--- a neighbourhood that some configuration shows to this amoebot
-pub record IsFound (s : Shown) (own : Bot) : Type 0 where
-  pub shown : IsShown s
-  pub owner : bot_at (shown_alone s) s.bot ≡ Some own

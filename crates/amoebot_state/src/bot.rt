@@ -1,6 +1,6 @@
 ghost use Rattle.std.specs.Prelude.{◌≡◌, ◌<◌, true};
 ghost use Rattle.tri_lattice.specs.Lattice.{IsNear};
-ghost use Rattle.amoebot_state.specs.Ports.{global, local, is_port, behind, end_node, end_word, is_contracted, is_own};
+ghost use Rattle.amoebot_state.specs.Ports.{pair_place, global, local, is_port, behind, end_node, end_word, is_contracted, is_own};
 
 use tri_lattice::{Dir, Node};
 
@@ -37,6 +37,19 @@ impl End {
 pub struct Port {
     pub end: End,
     pub dir: u8,
+}
+
+impl Port {
+    /// Its place in port order.
+    pub fn place(self) -> usize
+        requires { self.dir < 6 }
+        ensures { result ≡ pair_place self }
+    {
+        match self.end {
+            End::Head => usize::from(self.dir),
+            End::Tail => 6 + usize::from(self.dir),
+        }
+    }
 }
 
 /// An amoebot: its nodes, which are equal or adjacent; its rotation, 0 to 5; its chirality; its public memory.

@@ -1,17 +1,38 @@
-ghost use Rattle.std.specs.Prelude.{◌≡◌, ◌≤◌, length, IfSome, IsTrue};
+ghost use Rattle.std.specs.Prelude.{◌≡◌, ℕ, Option, ◌+◌, ◌≤◌, ◌<◌, length, slice_get, true, IfSome, IsSome, IsTrue, Some};
 ghost use Rattle.std.specs.Option.{option_copied};
-ghost use Rattle.amoebot_state.specs.Limits.{cell_room};
+ghost use Rattle.amoebot_state.specs.Limits.{most_cells};
 ghost use Rattle.amoebot_state.specs.Configs.{IsValid, bot_at, bot_of, frame_of, occupant};
 ghost use Rattle.amoebot_state.specs.Ports.{is_beside};
+ghost use Rattle.amoebot_state.specs.Around.{behind_pair, on_node};
 ghost use Rattle.amoebot_state.specs.Refusals.{IsBotInRange};
-ghost use Rattle.amoebot_state.specs.Zones.{IsShown, IsFound, shown_alone, shown_with};
+ghost use Rattle.amoebot_state.specs.Ways.{reading};
+ghost use Rattle.amoebot_state.specs.Zones.{IsShown, shown_alone, shown_with, zone_nodes};
 ghost use Rattle.amoebot_state.specs.Pairs.{body_at, body_in, spot_at, spot_in};
 
-use crate::bot::Bot;
-use crate::cell::{Cell, CellName, Cells};
+use crate::bot::{Bot, Port};
+use crate::cell::{Cell, CellName, MOST_CELLS};
+use crate::reading::KnownZone;
+use crate::way::{Way, Ways, ways_of};
 use arrayvec::ArrayVec;
 use std::marker::Model;
 use tri_lattice::{Area, Node};
+
+/// The cells of a zone with what they hold.
+type Cells = ArrayVec<(CellName, Cell), MOST_CELLS>;
+
+/// What is behind a pair of an end and a direction.
+#[derive(Clone, Copy, Debug, Default, Drop, PartialEq, Eq)]
+pub enum Behind {
+    /// The pair is no port of the amoebot.
+    #[default]
+    NoPort,
+    /// A node outside of the area.
+    Edge,
+    /// A node without an occupant.
+    Empty,
+    /// The occupant with this id.
+    Bot(u16),
+}
 
 /// What an amoebot is shown of a world: its closed neighbourhood. That is the area, the maxima of the variables, and the
 /// cells of its zone with their values.
@@ -21,18 +42,20 @@ pub struct Found {
     maxes: [u8; 8],
     bot: u16,
     own: Bot,
+    ways: Ways,
     cells: Cells,
 }
 
 impl Model for Found {
     ghost use Rattle.amoebot_state.specs.Configs.{frame_of};
-    ghost use Rattle.amoebot_state.specs.Zones.{Shown, IsFound, shown_with};
+    ghost use Rattle.amoebot_state.specs.Ways.{IsFound};
+    ghost use Rattle.amoebot_state.specs.Zones.{Shown, shown_with};
 
     ghost Value = { Shown };
 
     ghost view = { λ f. shown_with (frame_of f.area f.maxes) f.bot f.cells.items };
 
-    ghost invariant = { λ f. IsFound (shown_with (frame_of f.area f.maxes) f.bot f.cells.items) f.own };
+    ghost invariant = { λ f. IsFound (shown_with (frame_of f.area f.maxes) f.bot f.cells.items) f.own f.ways };
 }
 
 impl Found {
@@ -42,30 +65,36 @@ impl Found {
         requires { IsShown (shown_with (frame_of area maxes) bot cells.now) }
         ensures { result ≡ shown_with (frame_of area maxes) bot cells.now }
     {
-        let own = match body_in(cells, bot) {
-            Some(own) => *own,
-            None => unreachable!(),
-        };
+        let own = own_in(cells, bot);
         Found {
             area,
             maxes,
             bot,
             own,
+            ways: ways_of(&area, &own),
             cells: copied(cells),
         }
     }
 
-    pub(crate) fn of(area: Area, maxes: [u8; 8], bot: u16, own: Bot, cells: Cells) -> Found
-        requires { IsFound (shown_with (frame_of area maxes) bot cells.items) own }
-        ensures { result ≡ shown_with (frame_of area maxes) bot cells.items }
+    /// The same in the place of what was found before, of a zone of which all is known.
+    pub fn renew(
+        &mut self,
+        area: Area,
+        maxes: [u8; 8],
+        bot: u16,
+        zone: &KnownZone,
+        cells: &[(CellName, Cell)],
+    )
+        requires shown { IsShown (shown_with (frame_of area maxes) bot cells.now) }
+        requires known { zone.now ≡ reading area bot cells.now }
+        ensures { self.new ≡ shown_with (frame_of area maxes) bot cells.now }
     {
-        Found {
-            area,
-            maxes,
-            bot,
-            own,
-            cells,
-        }
+        self.area = area;
+        self.maxes = maxes;
+        self.bot = bot;
+        self.own = own_in(cells, bot);
+        self.ways = zone.ways();
+        copy_all(&mut self.cells, cells);
     }
 
     /// The id of the amoebot that is shown this.
@@ -99,6 +128,40 @@ impl Found {
         &self.own
     }
 
+    /// What is behind a pair of an end and a direction.
+    pub fn behind(&self, port: Port) -> Behind
+        ensures { result ≡ behind_pair (shown_alone self.now) self.now.bot port }
+    {
+        if port.dir > 5 {
+            return Behind::NoPort;
+        }
+        match self.ways[port.place()] {
+            Way::NoPort => Behind::NoPort,
+            Way::Outside => Behind::Edge,
+            Way::To(node) => self.on_place(usize::from(node)),
+        }
+    }
+
+    /// What is on the node with this place among the nodes of the zone, whose cell has this name and this occupant.
+    fn on_place(&self, place: usize) -> Behind
+        requires { 1 + place < length self.now.cells }
+        ensures { (n : CellName) (o : Option ℕ) → slice_get self.now.cells (1 + place) ≡ Some (n, Cell.Spot o) → result ≡ on_node true o }
+    {
+        let (_, cell) = &self.cells.as_slice()[1 + place];
+        match cell {
+            Cell::Spot(Some(id)) => Behind::Bot(*id),
+            Cell::Spot(None) | Cell::Body(_) => Behind::Empty,
+        }
+    }
+
+    /// The cells of the zone with what they hold, in zone order.
+    pub fn cells(&self) -> &[(CellName, Cell)]
+        ensures value { result.now ≡ self.now.cells }
+        ensures shown { IsShown self.now }
+    {
+        self.cells.as_slice()
+    }
+
     /// The id of a node's occupant; None for an empty node and for one outside the area. The node is an own one or adjacent to
     /// one.
     pub fn occupant(&self, node: Node) -> Option<u16>
@@ -114,6 +177,38 @@ impl Found {
         ensures plain { IfSome result (λ b. IsBotInRange b.now) }
     {
         body_in(self.cells.as_slice(), id)
+    }
+}
+
+/// The own amoebot, which the cells hold.
+fn own_in(cells: &[(CellName, Cell)], bot: u16) -> Bot
+    requires { IsSome (body_in cells.now bot) }
+    ensures { Some result ≡ body_in cells.now bot }
+{
+    match body_in(cells, bot) {
+        Some(own) => *own,
+        None => unreachable!(),
+    }
+}
+
+fn copied(cells: &[(CellName, Cell)]) -> Cells
+    requires { length cells.now ≤ most_cells }
+    ensures { result.items ≡ cells.now }
+{
+    let mut copy = ArrayVec::new();
+    copy_all(&mut copy, cells);
+    copy
+}
+
+/// Puts these cells in the place of what the list has.
+fn copy_all(copy: &mut Cells, cells: &[(CellName, Cell)])
+    requires { length cells.now ≤ most_cells }
+    ensures { copy.new.items ≡ cells.now }
+{
+    copy.clear();
+    match copy.try_extend_from_slice(cells) {
+        Ok(()) => {}
+        Err(_) => unreachable!(),
     }
 }
 
@@ -173,15 +268,4 @@ fn spot_at(name: &CellName, cell: &Cell, node: Node) -> Option<Option<u16>>
         },
         CellName::Body(_) => None,
     }
-}
-
-fn copied(cells: &[(CellName, Cell)]) -> Cells
-    requires { length cells.now ≤ cell_room }
-    ensures { result.items ≡ cells.now }
-{
-    let mut copy = ArrayVec::new();
-    for cell in cells {
-        copy.push(*cell);
-    }
-    copy
 }

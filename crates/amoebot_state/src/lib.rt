@@ -11,13 +11,14 @@ mod next;
 mod reading;
 mod refusal;
 mod verdict;
+mod way;
 mod world;
 mod zone;
 
 pub use bot::{ALL_PORTS, Bot, Chir, End, Port};
 pub use cell::{CELL_ROOM, Cell, CellName, MOST_CELLS, MOST_PAIRS, Patch};
 pub use decider::{Decider, has_next, is_exact, touches_zone};
-pub use found::Found;
+pub use found::{Behind, Found};
 pub use laws::{
     beside_holds_the_same, contracted_has_six_ports, diff_leads, expanded_has_ten_ports,
     faultless_has_no_fault, faultless_is_valid, first_fault_is_unique, front_grows, front_stands,

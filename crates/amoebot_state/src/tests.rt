@@ -5,7 +5,10 @@ ghost use Rattle.amoebot_state.specs.Configs.{frame_of, with_these};
 ghost use Rattle.amoebot_state.specs.Known.{AreReadInOrder};
 ghost use Rattle.amoebot_state.specs.Refusals.{IsBotInRange};
 
-use crate::{Bot, Cell, CellName, Chir, Found, KnownZone, Patch, World, WorldRefusal, next_cell};
+use crate::{
+    Behind, Bot, Cell, CellName, Chir, End, Found, KnownZone, Patch, Port, World, WorldRefusal,
+    next_cell,
+};
 use std::alloc::Global;
 use std::test::Fail;
 use tri_lattice::{Area, Node};
@@ -61,6 +64,10 @@ fn world_of(alloc: Global, bots: &[Bot]) -> Result<World, Fail>
     Ok(World::new(alloc, area, MAXES, bots)?)
 }
 
+const fn port(end: End, dir: u8) -> Port {
+    Port { end, dir }
+}
+
 fn refusal(alloc: Global, first: Bot, second: Bot) -> Option<WorldRefusal>
     requires first { IsBotInRange first }
     requires second { IsBotInRange second }
@@ -114,6 +121,10 @@ fn a_copy_shows_what_stands_round_an_amoebot(rt: HostRuntime) -> Result<(), Fail
     assert_eq!(rt; *found.own(), STRETCHED);
     assert_eq!(rt; found.occupant(Node { x: 1, y: 3 }), Some(2));
     assert_eq!(rt; found.occupant(Node { x: 4, y: 3 }), None);
+    assert_eq!(rt; found.behind(port(End::Tail, 3)), Behind::Bot(2));
+    assert_eq!(rt; found.behind(port(End::Tail, 2)), Behind::Empty);
+    assert_eq!(rt; found.behind(port(End::Head, 3)), Behind::NoPort);
+    assert_eq!(rt; found.cells().len(), 12);
     assert_eq!(rt; found.body(2).copied(), Some(BEHIND));
     assert_eq!(rt; found.body(0).copied(), None);
     Ok(())
@@ -151,6 +162,7 @@ fn a_neighbourhood_is_made_of_its_cells(rt: HostRuntime) -> Result<(), Fail> {
     ];
     let found = Found::make(world.area(), MAXES, 0, &cells);
     assert_eq!(rt; *found.own(), AT_EDGE);
+    assert_eq!(rt; found.behind(port(End::Head, 0)), Behind::Edge);
     assert_eq!(rt; found.area(), world.area());
     assert_eq!(rt; found.maxes(), MAXES);
     Ok(())

@@ -199,7 +199,7 @@ impl World {
     {
         let own = self.own(bot);
         let cells = self.zone_cells(bot, &own);
-        Found::of(self.area, self.maxes, bot, own, cells)
+        Found::make(self.area, self.maxes, bot, cells.as_slice())
     }
 
     /// The cells of an amoebot's zone with what they hold.

@@ -20,7 +20,8 @@ use Rattle.amoebot_state.specs.declared.cell.Cell.TheVariants as cell
 use Rattle.amoebot_state.specs.Configs.{Config, IsValid, bot_at, value}
 use Rattle.amoebot_state.specs.Patches.{IsPatched, HasPatched}
 use Rattle.amoebot_state.proofs.Patched.{run_has_one_last}
-use Rattle.amoebot_state.specs.Known.{AreReadInOrder, known_zone, next_cell}
+use Rattle.amoebot_state.specs.Known.{AreReadInOrder, next_cell}
+use Rattle.amoebot_state.specs.Ways.{Reading, reading}
 use Rattle.amoebot_state.specs.Zones.{Shown, IsShown, shown_with, shown}
 use Rattle.amoebot_state.specs.Steps.{Run}
 use Rattle.amoebot_state.specs.Storage.{put_at}
@@ -229,7 +230,7 @@ module _ {verdict : Shown → Verdict} {lists : CallerLists} {tags : List ℕ} {
     own = bot g c seat.turn
 
     -- what is known of its zone, while it claims
-    pub claim_zone : seat.phase ≡ phase.Claim → 0 < length seat.held.items → seat.zone ≡ known_zone journal.first.area own seat.held.items
+    pub claim_zone : seat.phase ≡ phase.Claim → 0 < length seat.held.items → seat.zone ≡ reading journal.first.area own seat.held.items
     claim_zone = is.zones c seat (ap (slice_get seats) (sym here.same) ∙ slice_get_read seats (length seats) i seat refl (subst (λ j. j < length seats) (sym here.same) here.inside) here.read)
 
     -- the seats with another seat of the caller keep what is known of their zones
@@ -256,10 +257,10 @@ module _ {verdict : Shown → Verdict} {lists : CallerLists} {tags : List ℕ} {
       claim_next = ((front g is.setup old is_sound c k there ph).0, as_read ∙ next_is_there g is.setup old is_sound c k there ph)
 
       -- a look at what is known of the zone, by what the code has
-      pub looked : (zone : List CellName) (next : Option CellName) (b : ℕ) (cells : Pairs) → b ≡ own → cells ≡ seat.held.items → ((a : Extent) → (0 < length cells → seat.zone ≡ known_zone a b cells) → (zone ≡ known_zone a b cells) × (next ≡ next_cell a b cells)) → (zone ≡ known_zone journal.first.area own seat.held.items) × (next_cell world.area own seat.held.items ≡ next)
+      pub looked : (zone : Reading) (next : Option CellName) (b : ℕ) (cells : Pairs) → b ≡ own → cells ≡ seat.held.items → ((a : Extent) → (0 < length cells → seat.zone ≡ reading a b cells) → (zone ≡ reading a b cells) × (next ≡ next_cell a b cells)) → (zone ≡ reading journal.first.area own seat.held.items) × (next_cell world.area own seat.held.items ≡ next)
       looked zone next b cells b_is cells_are look =
-          let (known, is) = look journal.first.area (λ some. claim_zone ph (subst (λ ps. 0 < length ps) cells_are some) ∙ (λ j. known_zone journal.first.area (sym b_is j) (sym cells_are j))) in
-          (known ∙ (λ j. known_zone journal.first.area (b_is j) (cells_are j)), (λ j. next_cell (same_extent j) (sym b_is j) (sym cells_are j)) ∙ sym is)
+          let (known, is) = look journal.first.area (λ some. claim_zone ph (subst (λ ps. 0 < length ps) cells_are some) ∙ (λ j. reading journal.first.area (sym b_is j) (sym cells_are j))) in
+          (known ∙ (λ j. reading journal.first.area (b_is j) (cells_are j)), (λ j. next_cell (same_extent j) (sym b_is j) (sym cells_are j)) ∙ sym is)
 
       pub few_held : length seat.held.items ≤ 18
       few_held = omega (arith, few g is.setup old is_sound c k there ph, length-reverse seat.held.items)
@@ -324,25 +325,25 @@ module _ {verdict : Shown → Verdict} {lists : CallerLists} {tags : List ℕ} {
             turned = reverse-more (n, held_by world n) (reverse seat.held.items) ∙ ap (λ cells. cells ++ (n, held_by world n) ∷ []) (reverse-reverse seat.held.items)
 
             -- what is known of the zone grows with the cell
-            module _ (zone : List CellName) (area : Extent) (x : Cell) (area_is : area ≡ world.area) (x_is : x ≡ held_by world n) (was : zone ≡ known_zone journal.first.area own seat.held.items) where
+            module _ (zone : Reading) (area : Extent) (x : Cell) (area_is : area ≡ world.area) (x_is : x ≡ held_by world n) (was : zone ≡ reading journal.first.area own seat.held.items) where
               same_first : area ≡ journal.first.area
               same_first = area_is ∙ same_extent
 
-              known_there : zone ≡ known_zone area own seat.held.items
-              known_there = was ∙ ap (λ a. known_zone a own seat.held.items) (sym same_first)
+              known_there : zone ≡ reading area own seat.held.items
+              known_there = was ∙ ap (λ a. reading a own seat.held.items) (sym same_first)
 
               in_turn : AreReadInOrder area own (seat.held.items ++ (n, x) ∷ [])
               in_turn = subst (λ (z : Extent × Cell). AreReadInOrder z.0 own (seat.held.items ++ (n, z.1) ∷ [])) (λ j. (sym same_first j, sym x_is j)) (subst (AreReadInOrder journal.first.area own) turned (won_in_order g is.setup old is_sound c k there n (held_by world n) ph is_next found_free valued))
 
-              pub claim_push : (b : ℕ) × (cells : Pairs) × (m : CellName) × (zone ≡ known_zone area b cells) × AreReadInOrder area b (cells ++ (m, x) ∷ [])
+              pub claim_push : (b : ℕ) × (cells : Pairs) × (m : CellName) × (zone ≡ reading area b cells) × AreReadInOrder area b (cells ++ (m, x) ∷ [])
               claim_push = (own, seat.held.items, n, known_there, in_turn)
 
-              pub claim_known : (new : List CellName) → ((b : ℕ) (cells : Pairs) (m : CellName) → zone ≡ known_zone area b cells → AreReadInOrder area b (cells ++ (m, x) ∷ []) → new ≡ known_zone area b (cells ++ (m, x) ∷ [])) → new ≡ known_zone journal.first.area own more
-              claim_known new pushed = pushed own seat.held.items n known_there in_turn ∙ (λ j. known_zone (same_first j) own (seat.held.items ++ (n, x_is j) ∷ []))
+              pub claim_known : (new : Reading) → ((b : ℕ) (cells : Pairs) (m : CellName) → zone ≡ reading area b cells → AreReadInOrder area b (cells ++ (m, x) ∷ []) → new ≡ reading area b (cells ++ (m, x) ∷ [])) → new ≡ reading journal.first.area own more
+              claim_known new pushed = pushed own seat.held.items n known_there in_turn ∙ (λ j. reading (same_first j) own (seat.held.items ++ (n, x_is j) ∷ []))
 
             -- and so the next cell is known
-            pub claim_after : (new : List CellName) (len : ℕ) (next : Option CellName) → new ≡ known_zone journal.first.area own more → len ≡ length more → next ≡ slice_get new len → next ≡ next_cell world.area own more
-            claim_after new len next known long is_it = is_it ∙ (λ j. slice_get (known j) (long j)) ∙ ap (λ a. next_cell a own more) (sym same_extent)
+            pub claim_after : (new : Reading) (len : ℕ) (next : Option CellName) → new ≡ reading journal.first.area own more → len ≡ length more → next ≡ slice_get new.names len → next ≡ next_cell world.area own more
+            claim_after new len next known long is_it = is_it ∙ (λ j. slice_get (known j).names (long j)) ∙ ap (λ a. next_cell a own more) (sym same_extent)
 
             frame : shown_with journal.first own more ≡ shown_with world own more
             frame = ap (λ (w : Config). shown_with w own more) (sym (run_framed verdict journal.first world journal.entries is.setup.valid is.run).rest)

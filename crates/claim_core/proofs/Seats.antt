@@ -8,7 +8,7 @@ use Rattle.std.proofs.lemmas.Bool.{cases_eq}
 use Rattle.std.proofs.lemmas.Option.{none-some, same_Some}
 use Rattle.tri_lattice.specs.Extent.{Extent}
 use Rattle.amoebot_state.specs.Pairs.{Pairs}
-use Rattle.amoebot_state.specs.Known.{known_zone}
+use Rattle.amoebot_state.specs.Ways.{reading}
 use Rattle.amoebot_state.proofs.Members.{Contains-from_Has}
 use Rattle.amoebot_state.proofs.Fronts.{Has-from_slice_get}
 use Rattle.claim_core.specs.Turns.{CallerLists, bot_of_turn}
@@ -123,7 +123,7 @@ frees_zone a lists c turns old new is claims some = by old.held.items refl
     not_both : phase.Claim ≡ phase.Releasing → ⊥
     not_both e = cc
 
-    by : (held : Pairs) → old.held.items ≡ held → new.zone ≡ known_zone a (bot_of_turn lists c new.turn) new.held.items
+    by : (held : Pairs) → old.held.items ≡ held → new.zone ≡ reading a (bot_of_turn lists c new.turn) new.held.items
     by [] e = absurd (omega (arith, some, ap (λ (h : Pairs). length h) (is.0 e).held))
     by (p ∷ held) e =
         let stays = is.1 (omega (arith, ap (λ (h : Pairs). length h) e)) in

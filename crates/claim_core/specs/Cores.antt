@@ -9,7 +9,7 @@ use Rattle.amoebot_state.specs.declared.verdict.Verdict.{Verdict}
 use Rattle.amoebot_state.specs.Configs.{Config}
 use Rattle.amoebot_state.specs.Pairs.{Pairs}
 use Rattle.amoebot_state.specs.Zones.{Shown}
-use Rattle.amoebot_state.specs.Known.{known_zone}
+use Rattle.amoebot_state.specs.Ways.{reading}
 use Rattle.amoebot_state.specs.Steps.{Run}
 use Rattle.claim_core.specs.declared.marks.Mark.{Mark}
 use Rattle.claim_core.specs.declared.machine.CoreCaller.{CoreCaller}
@@ -119,7 +119,7 @@ Frees turns old new = (old.held.items ≡ [] → Begins turns (old.turn + 1) new
 
 -- a caller that claims and holds some cells keeps what is known of its zone, in this area
 abbrev pub KeepsZone : Extent → CallerLists → ℕ → CoreCaller → Type 0
-KeepsZone a lists c s = s.phase ≡ phase.Claim → 0 < length s.held.items → s.zone ≡ known_zone a (bot_of_turn lists c s.turn) s.held.items
+KeepsZone a lists c s = s.phase ≡ phase.Claim → 0 < length s.held.items → s.zone ≡ reading a (bot_of_turn lists c s.turn) s.held.items
 
 -- and so does each
 abbrev pub KeepZones : Extent → CallerLists → List CoreCaller → Type 0

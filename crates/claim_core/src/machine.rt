@@ -1,7 +1,8 @@
 ghost use Rattle.std.specs.Prelude.{◌≡◌, ◌<◌, ◌+◌, length, map, IfOk, IsSome, slice_get, Some, None, IsTrue, ◌↔◌};
 ghost use Rattle.tri_lattice.specs.Extent.{Extent};
 ghost use Rattle.amoebot_state.specs.Zones.{IsShown, shown_with};
-ghost use Rattle.amoebot_state.specs.Known.{known_zone, next_cell};
+ghost use Rattle.amoebot_state.specs.Known.{next_cell};
+ghost use Rattle.amoebot_state.specs.Ways.{reading};
 ghost use Rattle.std.specs.List.{All};
 ghost use Rattle.claim_core.specs.Tags.{tag_caller};
 ghost use Rattle.claim_core.specs.Cells.{held_by};
@@ -469,8 +470,8 @@ fn mark_of(look: Look, place: u32) -> Mark
 
 /// The next cell of an amoebot's zone, of which a caller holds these cells. What is known of the zone begins anew with its first cell.
 fn next_known(zone: &mut KnownZone, bot: u16, held: &[(CellName, Cell)]) -> Option<CellName>
-    ensures { (a : Extent) → (0 < length held.now → zone.old ≡ known_zone a bot held.now)
-        → (zone.new ≡ known_zone a bot held.now) × (result ≡ next_cell a bot held.now) }
+    ensures { (a : Extent) → (0 < length held.now → zone.old ≡ reading a bot held.now)
+        → (zone.new ≡ reading a bot held.now) × (result ≡ next_cell a bot held.now) }
 {
     if held.is_empty() {
         zone.begin(bot);

@@ -12,7 +12,7 @@ use Rattle.amoebot_state.specs.declared.verdict.Verdict.{Verdict}
 use Rattle.amoebot_state.specs.Pairs.{Pairs, cell_of}
 use Rattle.amoebot_state.specs.Configs.{Config, frame}
 pub use Rattle.amoebot_state.specs.Configs.{frame_of}
-use Rattle.amoebot_state.specs.Known.{known_zone}
+use Rattle.amoebot_state.specs.Ways.{reading}
 use Rattle.amoebot_state.specs.Zones.{Shown}
 use Rattle.claim_core.specs.declared.marks.Mark.{Mark}
 use Rattle.claim_core.specs.declared.state.Caller.{Caller}
@@ -100,7 +100,7 @@ nodes_held ((name.Body i, x) ∷ held) = nodes_held held
 -- what a caller knows of its turn while it claims: its tag, and the zone as far as the cells tell it that are held
 pub record KnowsTurn (r : Room) : Type 0 where
   pub tag : r.tag ≡ tag r.caller r.turn r.bot
-  pub zone : r.zone ≡ known_zone r.area r.bot r.cells.items
+  pub zone : r.zone ≡ reading r.area r.bot r.cells.items
 
 module _ {D : Type 0} where
   -- the record of the seat's caller, the caller's number, and where it stands

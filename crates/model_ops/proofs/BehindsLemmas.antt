@@ -1,25 +1,23 @@
 -- What is behind a pair answers what is asked of it, and writes do not change it.
-use Rattle.std.proofs.Common.{◌≡◌, ◌<◌, ◌≤◌, ◌+◌, ℕ, zero, suc, List, [], ◌∷◌, map, Bool, true, false, ap, sym, ◌∙◌, refl, inl, inr, arith, Option, Some, None, Ok, Err, Result, get_or, set, length, cond, subst}
+use Rattle.std.proofs.Common.{◌≡◌, ◌<◌, ◌≤◌, ℕ, zero, suc, List, [], ◌∷◌, map, Bool, true, false, ap, sym, ◌∙◌, refl, inl, inr, Option, Some, None, Ok, Err, Result, get_or, set, cond}
 use Rattle.std.specs.Prelude.{IfOk, IsSome, slice_get, unwrap_or, is_none, is_some, ◌&&◌, if◌then◌else◌}
-use Rattle.std.specs.List.{fold, position}
+use Rattle.std.specs.List.{position}
 use Rattle.std.specs.Option.{option_map}
-use Rattle.std.proofs.lemmas.Bool.{le-ltb, cases_lt, cases_eq}
+use Rattle.std.proofs.lemmas.Bool.{cases_lt, cases_eq}
 use Rattle.std.proofs.lemmas.Option.{same_Some}
 use Rattle.tri_lattice.specs.declared.node.Node.{Node}
 use Rattle.tri_lattice.specs.Extent.{is_in}
 use Rattle.amoebot_state.specs.declared.bot.Bot.{Bot}
-use Rattle.amoebot_state.specs.declared.bot.End.{End}
-use Rattle.amoebot_state.specs.declared.bot.End.TheVariants.{Head, Tail}
 use Rattle.amoebot_state.specs.declared.bot.Port.{Port}
 use Rattle.amoebot_state.specs.declared.verdict.Failure.{Failure}
 use Rattle.amoebot_state.specs.declared.verdict.Failure.TheVariants as failure
-use Rattle.amoebot_state.specs.Ports.{all_ports, behind, is_port, port}
+use Rattle.amoebot_state.specs.Ports.{all_ports, behind, is_port, pair_place}
 use Rattle.amoebot_state.specs.Configs.{Config, bot_at, bot_of, blank, covers, occupant, set_bot}
-use Rattle.model_ops.specs.declared.behind.Behind.{Behind}
-use Rattle.model_ops.specs.declared.behind.Behind.TheVariants as there
-use Rattle.model_ops.specs.Behinds.{on_node, behind_pair, all_behind, pair_place, connected_there, free_there, owner_there, with_behind}
-use Rattle.model_ops.specs.declared.member.Member.{Member}
-use Rattle.model_ops.specs.Members.{with_neighbour, with_occupant}
+use Rattle.amoebot_state.specs.declared.found.Behind.{Behind}
+use Rattle.amoebot_state.specs.declared.found.Behind.TheVariants as there
+use Rattle.amoebot_state.specs.Around.{on_node, behind_pair, all_behind}
+use Rattle.model_ops.specs.Behinds.{connected_there, free_there, owner_there}
+use Rattle.amoebot_state.proofs.WaysFound.{at_pair, no_pair}
 use Rattle.model_ops.specs.WorkingCopies.{WorkingCopy, own_id, copy_after}
 use Rattle.model_ops.proofs.Becomes.{at_own, at_other}
 use Rattle.model_ops.proofs.Members.{position_cons}
@@ -57,34 +55,8 @@ pub owner_pair : (c : Config) (i : ℕ) (p : Port) → owner_there (behind_pair 
 owner_pair c i p = let b = bot_of c i in owner_by (is_port b p) (is_in c.area (behind b p)) (occupant c (behind b p))
 
 -- the place of a pair has what is behind it
-at_head : (f : Port → Behind) (d : ℕ) → d < 6 → slice_get (map f all_ports) d ≡ Some (f (port Head d))
-at_head f zero lt = refl
-at_head f (suc zero) lt = refl
-at_head f (suc (suc zero)) lt = refl
-at_head f (suc (suc (suc zero))) lt = refl
-at_head f (suc (suc (suc (suc zero)))) lt = refl
-at_head f (suc (suc (suc (suc (suc zero))))) lt = refl
-at_head f (suc (suc (suc (suc (suc (suc d)))))) lt = absurd (omega (arith, lt))
-
-at_tail : (f : Port → Behind) (d : ℕ) → d < 6 → slice_get (map f all_ports) (6 + d) ≡ Some (f (port Tail d))
-at_tail f zero lt = refl
-at_tail f (suc zero) lt = refl
-at_tail f (suc (suc zero)) lt = refl
-at_tail f (suc (suc (suc zero))) lt = refl
-at_tail f (suc (suc (suc (suc zero)))) lt = refl
-at_tail f (suc (suc (suc (suc (suc zero))))) lt = refl
-at_tail f (suc (suc (suc (suc (suc (suc d)))))) lt = absurd (omega (arith, lt))
-
-at_place : (f : Port → Behind) (e : End) (d : ℕ) → d < 6 → slice_get (map f all_ports) (pair_place (port e d)) ≡ Some (f (port e d))
-at_place f Head d lt = at_head f d lt
-at_place f Tail d lt = at_tail f d lt
-
 pub pair_at : (c : Config) (i : ℕ) (p : Port) → p.dir < 6 → slice_get (all_behind c i) (pair_place p) ≡ Some (behind_pair c i p)
-pair_at c i p lt = at_place (behind_pair c i) p.end p.dir lt
-
--- a pair of another direction is no port
-pub no_pair : (c : Config) (i : ℕ) (p : Port) → 6 ≤ p.dir → behind_pair c i p ≡ there.NoPort
-no_pair c i p ge = rw (le-ltb p.dir 6 ge) refl
+pair_at c i p lt = at_pair (behind_pair c i) p lt
 
 -- what is found at the place of a pair, or for another direction, is behind the pair
 pub pair_found : (c : Config) (i : ℕ) (p : Port) (bs : List Behind) (x : Behind) → bs ≡ all_behind c i → (p.dir < 6 → slice_get bs (pair_place p) ≡ Some x) → (6 ≤ p.dir → x ≡ there.NoPort) → x ≡ behind_pair c i p
@@ -93,45 +65,12 @@ pair_found c i p bs x all below above = elim (cases_lt p.dir 6) [
   | inr ge ↦ above ge ∙ sym (no_pair c i p ge)
 ]
 
--- an amoebot behind a pair is there
-bot_by : (holds inside : Bool) (o : Option ℕ) (n : ℕ) → (if holds then on_node inside o else there.NoPort) ≡ there.Bot n → o ≡ Some n
-bot_by false inside o n e = absurd (cc)
-bot_by true inside (Some m) n e = cc
-bot_by true true None n e = absurd (cc)
-bot_by true false None n e = absurd (cc)
-
-pub bot_there : (c : Config) (i : ℕ) (p : Port) (n : ℕ) → behind_pair c i p ≡ there.Bot n → IsSome (bot_at c n)
-bot_there c i p n e =
-    let b = bot_of c i in
-    ap is_some (occupant_told c (behind b p) n (bot_by (is_port b p) (is_in c.area (behind b p)) (occupant c (behind b p)) n e)).0
-
-each_by : (c : Config) (i : ℕ) (ps : List Port) (k n : ℕ) → k < length ps → get_or (map (behind_pair c i) ps) k there.NoPort ≡ there.Bot n → IsSome (bot_at c n)
-each_by c i [] k n lt e = absurd (omega (arith, lt))
-each_by c i (p ∷ ps) zero n lt e = bot_there c i p n e
-each_by c i (p ∷ ps) (suc k) n lt e = each_by c i ps k n (omega (arith, lt)) e
-
-pub each_there : (c : Config) (i : ℕ) (bs : List Behind) (k n : ℕ) → bs ≡ all_behind c i → k < length bs → get_or bs k there.NoPort ≡ there.Bot n → IsSome (bot_at c n)
-each_there c i bs k n all lt e = each_by c i all_ports k n (subst (λ (ys : List Behind). k < length ys) all lt) (sym (ap (λ (ys : List Behind). get_or ys k there.NoPort) all) ∙ e)
-
+-- an occupant behind a pair is there
 pub owner_is_there : (c d : Config) (i : ℕ) (p : Port) (r : Result ℕ Failure) → r ≡ owner_there (behind_pair c i p) → c ≡ d → IfOk r (λ n. IsSome (bot_at d n))
 owner_is_there c d i p (Err f) is same = tt
 owner_is_there c d i p (Ok n) is same =
     let told = neighbour_told c i p n (is ∙ owner_pair c i p) in
     ap (λ (e : Config). is_some (bot_at e n)) (sym same) ∙ ap is_some (occupant_told c (behind (bot_of c i) p) n told.1).0
-
--- what is behind the pairs gives the members
-with_by : (c : Config) (ms : List Member) (holds inside : Bool) (o : Option ℕ) → with_behind c ms (if holds then on_node inside o else there.NoPort) ≡ (if holds then with_occupant c ms o else ms)
-with_by c ms false inside o = refl
-with_by c ms true inside (Some n) = refl
-with_by c ms true true None = refl
-with_by c ms true false None = refl
-
-pub with_pairs : (c : Config) (i : ℕ) (ms : List Member) (ps : List Port) → fold (with_behind c) ms (map (behind_pair c i) ps) ≡ fold (with_neighbour c (bot_of c i)) ms ps
-with_pairs c i ms [] = refl
-with_pairs c i ms (p ∷ ps) =
-    let b = bot_of c i in
-    ap (λ (ns : List Member). fold (with_behind c) ns (map (behind_pair c i) ps)) (with_by c ms (is_port b p) (is_in c.area (behind b p)) (occupant c (behind b p)))
-    ∙ with_pairs c i (with_neighbour c b ms p) ps
 
 -- the first place that passes is the same where an element is exchanged for one that passes alike
 position_set : {X : Type 0} (p : X → Bool) (xs : List X) (n : ℕ) (d y : X) → p y ≡ p (get_or xs n d) → position p (set xs n y) ≡ position p xs

@@ -1,29 +1,28 @@
 -- How the members of a neighbourhood are gathered.
-use Rattle.std.proofs.Common.{◌≡◌, ◌<◌, ◌≤◌, ◌+◌, ℕ, suc, List, [], ◌∷◌, ◌++◌, length, map, Bool, true, false, not, cond, ◌||◌, ap, sym, ◌∙◌, refl, subst, inl, inr, arith, Option, Some, None, nat_eq, nat_lt, filter, ◌⊎◌}
+use Rattle.std.proofs.Common.{◌≡◌, ◌<◌, ◌≤◌, ◌+◌, ℕ, suc, List, [], ◌∷◌, length, map, Bool, true, false, not, cond, ◌||◌, ap, sym, ◌∙◌, refl, subst, inl, inr, arith, Option, Some, None, nat_eq, nat_lt}
 use Rattle.std.specs.List.{AllByRecursion, fold, insert, position, position_or_len}
+use Rattle.std.specs.Option.{option_map, option_or}
 use Rattle.std.specs.Prelude.{if◌then◌else◌, unwrap_or, is_some}
-use Rattle.std.proofs.lemmas.Bool.{cases_Bool, cases_eq, cases_lt, both_ways, or_left, or_right, eq-eqb, lt-ltb, le-ltb, ltb-true, ltb-false, or_parts}
-use Rattle.std.proofs.lemmas.Option.{same_Some}
+use Rattle.std.proofs.Math.Bool.{or-false}
+use Rattle.std.proofs.lemmas.Bool.{cases_Bool, cases_eq, cases_lt, both_ways, eqb-true, eq-eqb, lt-ltb, le-ltb, ltb-true, ltb-false, or_parts}
+use Rattle.std.proofs.lemmas.Option.{none-some, same_Some}
 use Rattle.std.proofs.lemmas.List.{length-take}
+use Rattle.std.proofs.lemmas.List.Elements.{All-contains}
 use Rattle.std.proofs.lemmas.List.Folds.{length-prefix_len}
-use Rattle.tri_lattice.specs.declared.node.Node.{Node}
-use Rattle.tri_lattice.specs.Lattice.{node_eq}
-use Rattle.tri_lattice.specs.Extent.{Extent, is_in}
-use Rattle.amoebot_state.specs.declared.cell.CellName.TheVariants as name
-use Rattle.amoebot_state.specs.Zones.{shown, shown_alone, zone_of, zone_nodes, others}
-use Rattle.amoebot_state.proofs.ShownAlone.{alone_own, alone_only, alone_occupant}
-use Rattle.amoebot_state.proofs.Zones.{zone_is, others_occupy}
-use Rattle.amoebot_state.proofs.Members.{Has, has_cases, not_in_none, Has-append_cases, map_has, distinct_has, filter_has}
-use Rattle.amoebot_state.proofs.Occupants.{occupant_at}
-use Rattle.amoebot_state.proofs.Owns.{own_head, own_tail}
-use Rattle.model_ops.specs.declared.member.Member.{Member}
 use Rattle.amoebot_state.specs.declared.bot.Bot.{Bot}
-use Rattle.amoebot_state.specs.declared.bot.Port.{Port}
-use Rattle.amoebot_state.specs.Ports.{is_own, is_contracted, is_port, all_ports, ports, behind, own_nodes}
-use Rattle.amoebot_state.specs.Configs.{Config, IsValid, bot_at, bot_of, covers, occupant}
-use Rattle.amoebot_state.specs.Pairs.{body_in}
-use Rattle.model_ops.specs.Members.{IsBelow, AreRising, has_id, body_found, with_member, with_occupant, with_neighbour, unchanged, gathered}
-use Rattle.model_ops.proofs.Told.{bot_is, occupant_told}
+use Rattle.amoebot_state.specs.declared.cell.CellName.{CellName}
+use Rattle.amoebot_state.specs.declared.cell.CellName.TheVariants as name
+use Rattle.amoebot_state.specs.declared.cell.Cell.{Cell}
+use Rattle.amoebot_state.specs.declared.cell.Cell.TheVariants as cell
+use Rattle.amoebot_state.specs.Configs.{Config, bot_at, value}
+use Rattle.amoebot_state.specs.Pairs.{Pairs, body_in, cell_of, cell_value}
+use Rattle.amoebot_state.specs.Zones.{Shown, shown, shown_alone}
+use Rattle.amoebot_state.proofs.Known.{shown_lists_zone, shown_holds_values}
+use Rattle.amoebot_state.proofs.Members.{Has, here, later, Has-map, Contains-from_Has}
+use Rattle.amoebot_state.proofs.Once.{Once, once_parts, zone_once}
+use Rattle.amoebot_state.proofs.ShownAlone.{spread_at, alone_has}
+use Rattle.model_ops.specs.declared.member.Member.{Member}
+use Rattle.model_ops.specs.Members.{IsBelow, AreRising, has_id, body_found, with_member, with_cell, unchanged, gathered}
 
 -- the place before the first that passes, by the first place that does
 pub position_or_len-le : {X : Type 0} (p : X → Bool) (xs : List X) → position_or_len p xs ≤ length xs
@@ -88,6 +87,10 @@ rising_with_member (n ∷ ms) m rising new = elim (cases_Bool (nat_lt m.id n.id)
       rw f (below_with_member ms m n.id rising.0 apart, rising_with_member ms m rising.1 parts.1)
 ]
 
+pub length-with_member : (ms : List Member) (m : Member) → length (with_member ms m) ≡ suc (length ms)
+length-with_member [] m = refl
+length-with_member (n ∷ ms) m = elim (cases_Bool (nat_lt m.id n.id)) [ inl t ↦ rw t refl | inr f ↦ rw f (ap suc (length-with_member ms m)) ]
+
 all_with_member : (P : Member → Type 0) (ms : List Member) (m : Member) → AllByRecursion P ms → P m → AllByRecursion P (with_member ms m)
 all_with_member P [] m all is = (is, tt)
 all_with_member P (n ∷ ms) m all is = elim (cases_Bool (nat_lt m.id n.id)) [
@@ -104,103 +107,69 @@ pub record Gathered (c : Config) (ms : List Member) : Type 0 where
   pub rising : AreRising ms
   pub fresh : AllByRecursion (IsFresh c) ms
 
--- taking up an occupant that is there keeps them so, keeps what they have, and has the occupant
-occupant_keeps : (c : Config) (ms : List Member) (o : Option ℕ) → ((i : ℕ) → o ≡ Some i → bot_at c i ≡ Some (bot_of c i)) → Gathered c ms → Gathered c (with_occupant c ms o)
-occupant_keeps c ms None there was = was
-occupant_keeps c ms (Some i) there was = elim (cases_Bool (has_id ms i)) [
-  | inl t ↦ rw t was
-  | inr f ↦ rw f (record {
-    rising = rising_with_member ms (unchanged i (bot_of c i)) was.rising f;
-    fresh = all_with_member (IsFresh c) ms (unchanged i (bot_of c i)) was.fresh (there i refl, refl);
-  })
-]
+-- the amoebots of cells that name each body once are taken up so
+pub cells_keep : (c : Config) (cells : Pairs) (ms : List Member) → Once (map cell_of cells)
+    → ((j : ℕ) → Has (name.Body j) (map cell_of cells) → has_id ms j ≡ false)
+    → ((j : ℕ) (b : Bot) → Has (name.Body j, cell.Body b) cells → bot_at c j ≡ Some b)
+    → Gathered c ms
+    → Gathered c (fold with_cell ms cells)
+cells_keep c [] ms once new told was = was
+cells_keep c ((name.Spot v, x) ∷ cells) ms once new told was =
+    cells_keep c cells ms (once_parts once).1 (λ j has. new j (later has)) (λ j b has. told j b (later has)) was
+cells_keep c ((name.Body i, cell.Spot o) ∷ cells) ms once new told was =
+    cells_keep c cells ms (once_parts once).1 (λ j has. new j (later has)) (λ j b has. told j b (later has)) was
+cells_keep c ((name.Body i, cell.Body b) ∷ cells) ms once new told was =
+    let (first, rest) = once_parts once in
+    cells_keep c cells (with_member ms (unchanged i b)) rest
+    (λ j has. has_with_member ms (unchanged i b) j ∙ elim (cases_Bool (nat_eq i j)) [
+      | inl t ↦ absurd (first (subst (λ k. Has (name.Body k) (map cell_of cells)) (sym (eqb-true i j t)) has))
+      | inr f ↦ ap (λ t. t || has_id ms j) f ∙ new j (later has)
+    ])
+    (λ j a has. told j a (later has))
+    (record {
+      rising = rising_with_member ms (unchanged i b) was.rising (new i here);
+      fresh = all_with_member (IsFresh c) ms (unchanged i b) was.fresh (told i b here, refl);
+    })
 
-occupant_has : (c : Config) (ms : List Member) (o : Option ℕ) (j : ℕ) → has_id ms j ≡ true → has_id (with_occupant c ms o) j ≡ true
-occupant_has c ms None j has = has
-occupant_has c ms (Some i) j has = elim (cases_Bool (has_id ms i)) [
-  | inl t ↦ rw t has
-  | inr f ↦ rw f (has_with_member ms (unchanged i (bot_of c i)) j ∙ or_right (nat_eq i j) (has_id ms j) has)
-]
+-- they have each amoebot of the cells
+cells_have : (cells : Pairs) (ms : List Member) (j : ℕ) → has_id (fold with_cell ms cells) j ≡ (has_id ms j || is_some (body_in cells j))
+cells_have [] ms j = sym (or-false (has_id ms j))
+cells_have ((name.Spot v, x) ∷ cells) ms j = cells_have cells ms j
+cells_have ((name.Body i, cell.Spot o) ∷ cells) ms j = cells_have cells ms j
+cells_have ((name.Body i, cell.Body b) ∷ cells) ms j =
+    cells_have cells (with_member ms (unchanged i b)) j
+    ∙ ap (λ t. t || is_some (body_in cells j)) (has_with_member ms (unchanged i b) j)
+    ∙ either (nat_eq i j) (has_id ms j)
+  where
+    either : (x y : Bool) → ((x || y) || is_some (body_in cells j)) ≡ (y || is_some (option_or (if x then Some b else None) (body_in cells j)))
+    either true true = refl
+    either true false = refl
+    either false true = refl
+    either false false = refl
 
-occupant_taken : (c : Config) (ms : List Member) (i : ℕ) → has_id (with_occupant c ms (Some i)) i ≡ true
-occupant_taken c ms i = elim (cases_Bool (has_id ms i)) [
-  | inl t ↦ ap (λ x. has_id (if x then ms else with_member ms (unchanged i (bot_of c i))) i) t ∙ t
-  | inr f ↦ ap (λ x. has_id (if x then ms else with_member ms (unchanged i (bot_of c i))) i) f ∙ has_with_member ms (unchanged i (bot_of c i)) i ∙ or_left (nat_eq i i) (has_id ms i) (eq-eqb i i refl)
-]
+-- taking up further cells leaves no fewer
+pub cells_grow : (cells : Pairs) (ms : List Member) → length ms ≤ length (fold with_cell ms cells)
+cells_grow [] ms = omega arith
+cells_grow ((name.Spot v, x) ∷ cells) ms = cells_grow cells ms
+cells_grow ((name.Body i, cell.Spot o) ∷ cells) ms = cells_grow cells ms
+cells_grow ((name.Body i, cell.Body b) ∷ cells) ms =
+    omega (arith, cells_grow cells (with_member ms (unchanged i b)), length-with_member ms (unchanged i b))
 
--- and so does taking up the neighbours behind ports
-chosen : (P : List Member → Type 0) (t : Bool) (xs ys : List Member) → P xs → P ys → P (if t then xs else ys)
-chosen P true xs ys p q = p
-chosen P false xs ys p q = q
+-- each amoebot that is shown is gathered
+pub all_gathered : (s : Shown) (j : ℕ) (a : Bot) → bot_at (shown_alone s) j ≡ Some a → has_id (gathered s) j ≡ true
+unfolding gathered
+all_gathered s j a there = cells_have s.cells [] j ∙ ap is_some (sym (spread_at s.cells j) ∙ there)
 
-module _ (c : Config) (b : Bot) where
-  pub neighbours_keep : (ps : List Port) (ms : List Member) → Gathered c ms → Gathered c (fold (with_neighbour c b) ms ps)
-  neighbours_keep [] ms was = was
-  neighbours_keep (p ∷ ps) ms was = neighbours_keep ps (with_neighbour c b ms p) (chosen (Gathered c) (is_port b p) (with_occupant c ms (occupant c (behind b p))) ms (occupant_keeps c ms (occupant c (behind b p)) (λ i by. (occupant_told c (behind b p) i by).0) was) was)
-
-  neighbours_have : (ps : List Port) (ms : List Member) (i : ℕ) → has_id ms i ≡ true → has_id (fold (with_neighbour c b) ms ps) i ≡ true
-  neighbours_have [] ms i has = has
-  neighbours_have (p ∷ ps) ms i has = neighbours_have ps (with_neighbour c b ms p) i (chosen (λ xs. has_id xs i ≡ true) (is_port b p) (with_occupant c ms (occupant c (behind b p))) ms (occupant_has c ms (occupant c (behind b p)) i has) has)
-
-  neighbours_taken : (ps : List Port) (ms : List Member) (p : Port) (i : ℕ) → Has p ps → is_port b p ≡ true → occupant c (behind b p) ≡ Some i → has_id (fold (with_neighbour c b) ms ps) i ≡ true
-  neighbours_taken [] ms p i has port by = absurd (not_in_none has)
-  neighbours_taken (q ∷ ps) ms p i has port by = elim (has_cases has) [
-    | inl e ↦ neighbours_have ps (with_neighbour c b ms q) i (ap (λ r. has_id (with_neighbour c b ms r) i) (sym e) ∙ ap (λ t. has_id (if t then with_occupant c ms (occupant c (behind b p)) else ms) i) port ∙ ap (λ o. has_id (with_occupant c ms o) i) by ∙ occupant_taken c ms i)
-    | inr rest ↦ neighbours_taken ps (with_neighbour c b ms q) p i rest port by
-  ]
-
--- a body of the zone is the amoebot's own, or that of another one on a node of the zone
-body_told : (on : Node → Option ℕ) (i j : ℕ) (vs : List Node) → Has (name.Body j) (zone_of on i vs) → (j ≡ i) ⊎ Has j (others on i vs)
-body_told on i j vs has = elim (has_cases has) [
-  | inl e ↦ inl (cc)
-  | inr rest ↦ elim (Has-append_cases (map name.Spot vs) rest) [
-    | inl s ↦ let e = (map_has name.Spot vs s).2 in absurd (cc)
-    | inr t ↦ let found = map_has name.Body (others on i vs) t in let e : found.0 ≡ j = (let f = found.2 in cc) in inr (subst (λ k. Has k (others on i vs)) e found.1)
-  ]
-]
-
--- a node of the zone is one of the amoebot's own, or lies behind a port
-node_told : (a : Extent) (b : Bot) (v : Node) → Has v (zone_nodes a b) → Has v (own_nodes b) ⊎ ((p : Port) × Has p (ports b) × (v ≡ behind b p))
-node_told a b v has = elim (Has-append_cases (own_nodes b) (distinct_has node_eq (own_nodes b ++ filter (is_in a) (map (behind b) (ports b))) has)) [
-  | inl own ↦ inl own
-  | inr next ↦ inr (map_has (behind b) (ports b) (filter_has (is_in a) (map (behind b) (ports b)) next).0)
-]
-
-own_told : (b : Bot) (v : Node) → Has v (own_nodes b) → is_own b v ≡ true
-own_told b v = elim (cases_Bool (is_contracted b)) as (λ _. Has v (own_nodes b) → is_own b v ≡ true) [
-  | inl t ↦ rw t (λ h. elim (has_cases h) [ inl e ↦ own_head b v (sym e) | inr r ↦ absurd (not_in_none r) ])
-  | inr f ↦ rw f (λ h. elim (has_cases h) [
-    | inl e ↦ own_head b v (sym e)
-    | inr r ↦ elim (has_cases r) [ inl e ↦ own_tail b v (sym e) | inr q ↦ absurd (not_in_none q) ]
-  ])
-]
-
-module _ (c : Config) (i : ℕ) (b : Bot) (valid : IsValid c) (at : bot_at c i ≡ Some b) where
-  -- each amoebot that is shown is gathered
-  pub all_gathered : (j : ℕ) (a : Bot) → bot_at (shown_alone (shown c i)) j ≡ Some a → has_id (gathered (shown c i)) j ≡ true
-  unfolding gathered
-  all_gathered j a there =
-      let g = shown_alone (shown c i) in
-      let own : bot_of g i ≡ b = bot_is g i b (alone_own c i b at) in
-      let first = unchanged i (bot_of g i) ∷ [] in
-      let vs = zone_nodes c.area b in
-      elim (body_told (occupant c) i j vs (subst (Has (name.Body j)) (zone_is c i b at) (alone_only c i j a there).1)) [
-        | inl e ↦ neighbours_have g (bot_of g i) all_ports first j (or_left (nat_eq i j) false (eq-eqb i j (sym e)))
-        | inr other ↦
-            let by = others_occupy (occupant c) i vs j other in
-            elim (node_told c.area b by.0 by.1) [
-              | inl mine ↦ absurd (by.3 (same_Some j i (sym by.2 ∙ occupant_at c valid i by.0 (ap (λ o. covers o by.0) at ∙ own_told b by.0 mine))))
-              | inr next ↦
-                  let listed = filter_has (is_port b) all_ports next.1 in
-                  neighbours_taken g (bot_of g i) all_ports first next.0 j listed.0 (ap (λ (d : Bot). is_port d next.0) own ∙ listed.1)
-                  (ap (λ (d : Bot). occupant g (behind d next.0)) own ∙ ap (occupant g) (sym next.2) ∙ alone_occupant c i b by.0 valid at by.1 ∙ by.2)
-            ]
-      ]
-
-  -- and they are gathered in rising id
-  pub some_gathered : Gathered (shown_alone (shown c i)) (gathered (shown c i))
-  unfolding gathered
-  some_gathered =
-      let g = shown_alone (shown c i) in
-      let own : bot_at g i ≡ Some (bot_of g i) = alone_own c i b at ∙ ap Some (sym (bot_is g i b (alone_own c i b at))) in
-      neighbours_keep g (bot_of g i) all_ports (unchanged i (bot_of g i) ∷ []) (record { rising = (tt, tt); fresh = ((own, refl), tt) })
+-- and they are gathered in rising id
+pub some_gathered : (c : Config) (i : ℕ) → Gathered (shown_alone (shown c i)) (gathered (shown c i))
+unfolding gathered
+some_gathered c i =
+    cells_keep (shown_alone (shown c i)) (shown c i).cells [] (subst Once (sym (shown_lists_zone c i)) (zone_once c i)) (λ j has. refl)
+    (λ j b has.
+    let holds = All-contains (λ (p : CellName × Cell). value c (cell_of p) ≡ Some (cell_value p)) (shown c i).cells (name.Body j, cell.Body b) (shown_holds_values c i) (Contains-from_Has (shown c i).cells has) in
+    let listed = subst (Has (name.Body j)) (shown_lists_zone c i) (Has-map cell_of has) in
+    alone_has c i j listed ∙ body_held (bot_at c j) b holds) (record { rising = tt; fresh = tt })
+  where
+    body_held : (o : Option Bot) (b : Bot) → option_map cell.Body o ≡ Some (cell.Body b) → o ≡ Some b
+    body_held None b e = absurd (none-some (cell.Body b) e)
+    body_held (Some a) b e = let same = same_Some (cell.Body a) (cell.Body b) e in cc

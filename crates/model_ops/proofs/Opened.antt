@@ -1,7 +1,9 @@
 -- The members that are gathered of what is shown make a site.
-use Rattle.std.proofs.Common.{◌≡◌, ◌≢◌, ◌≤◌, ◌-◌, ℕ, zero, suc, List, [], ◌∷◌, length, map, get_or, true, ap, sym, ◌∙◌, refl, subst, inl, inr, arith, Option, Some, None, nat_eq, filter}
+use Rattle.std.proofs.Common.{◌≡◌, ◌≢◌, ◌<◌, ◌≤◌, ◌+◌, ◌-◌, take, drop, ℕ, zero, suc, List, [], ◌∷◌, length, map, get_or, true, ap, sym, ◌∙◌, refl, subst, inl, inr, arith, Option, Some, None, nat_eq, filter}
 use Rattle.std.specs.Prelude.{is_some, if◌then◌else◌}
-use Rattle.std.specs.List.{AllByRecursion}
+use Rattle.std.specs.List.{AllByRecursion, fold}
+use Rattle.std.proofs.lemmas.List.{take-append-drop}
+use Rattle.std.proofs.lemmas.List.Sums.{fold-append, fold_more}
 use Rattle.std.proofs.lemmas.Bool.{cases_Bool, cases_lt, both_ways, false≢true, eqb-true, eq-eqb}
 use Rattle.std.proofs.lemmas.List.{get_or_past, ext_get_or}
 use Rattle.std.proofs.lemmas.List.Sums.{length-filter}
@@ -25,8 +27,8 @@ use Rattle.amoebot_state.proofs.Occupants.{plain_bot}
 use Rattle.amoebot_state.proofs.Options.{there_is}
 use Rattle.model_ops.specs.declared.member.Member.{Member}
 use Rattle.model_ops.specs.WorkingCopies.{WorkingCopy, opened}
-use Rattle.model_ops.specs.Members.{IsBelow, AreRising, IsSite, body_found, body_now, config_found, config_now, copy_of, has_id, gathered}
-use Rattle.model_ops.proofs.Gathered.{Gathered, IsFresh, all_gathered, some_gathered, has_found}
+use Rattle.model_ops.specs.Members.{IsBelow, AreRising, IsSite, body_found, body_now, config_found, config_now, copy_of, has_id, gathered, unchanged, with_cell, with_member}
+use Rattle.model_ops.proofs.Gathered.{Gathered, IsFresh, all_gathered, cells_grow, length-with_member, some_gathered, has_found}
 
 -- a list of amoebots at ids ends with an amoebot
 some_with_id : (os : List (Option Bot)) (i : ℕ) (b : Bot) → length (with_id os i b) ≡ 0 → ⊥
@@ -183,7 +185,7 @@ module _ (c : Config) (i : ℕ) (b : Bot) (valid : IsValid c) (at : bot_at c i �
       ap (λ s. made s (config_now c ms)) shows_is ∙ ap (made (shown c i)) now_is
 
 -- what is gathered of what is shown
-shown_opens : (s : Shown) → IsShown s → IsSite (frame_of s.area s.maxes) s.bot (gathered s) × (copy_of (frame_of s.area s.maxes) s.bot (gathered s) ≡ opened s)
+pub shown_opens : (s : Shown) → IsShown s → IsSite (frame_of s.area s.maxes) s.bot (gathered s) × (copy_of (frame_of s.area s.maxes) s.bot (gathered s) ≡ opened s)
 shown_opens s is =
     let c = is.0 in
     let i = s.bot in
@@ -191,8 +193,8 @@ shown_opens s is =
     let P : Shown → Type 0 = λ t. IsSite (frame_of t.area t.maxes) i (gathered t) × (copy_of (frame_of t.area t.maxes) i (gathered t) ≡ opened t) in
     subst P is.3 (
     let ms = gathered (shown c i) in
-    let some = some_gathered c i b.0 is.1 b.1 in
-    let all = all_gathered c i b.0 is.1 b.1 in
+    let some = some_gathered c i in
+    let all = all_gathered (shown c i) in
     (site_gathered c i b.0 is.1 b.1 ms some all, copy_gathered c i b.0 is.1 b.1 ms some all))
 
 -- the same of fields that are equal to these
@@ -200,3 +202,13 @@ pub opens : (s : Shown) (a : Extent) (maxes : List ℕ) (i : ℕ) (ms : List Mem
 opens s a maxes i ms is ea em ei es =
     let P : Config × ℕ × List Member → Type 0 = λ f. IsSite f.0 f.1 f.2 × (copy_of f.0 f.1 f.2 ≡ opened s) in
     subst P (λ t. (frame_of (sym ea t) (sym em t), sym ei t, sym es t)) (shown_opens s is)
+
+-- where a body comes next among the cells, there is room for one more member
+pub room_left : (s : Shown) (k i : ℕ) (b : Bot) (d : CellName × Cell) → IsShown s → k < length s.cells → get_or s.cells k d ≡ (name.Body i, cell.Body b) → length (fold with_cell [] (take k s.cells)) < 9
+unfolding gathered
+room_left s k i b d is lt at =
+    let before = fold with_cell [] (take k s.cells) in
+    let after = fold with_cell [] (take (k + 1) s.cells) in
+    let next : after ≡ with_member before (unchanged i b) = fold_more with_cell [] s.cells k d lt ∙ ap (with_cell before) at in
+    let whole : gathered s ≡ fold with_cell after (drop (k + 1) s.cells) = ap (fold with_cell []) (sym (take-append-drop (k + 1) s.cells)) ∙ fold-append with_cell [] (take (k + 1) s.cells) (drop (k + 1) s.cells) in
+    omega (arith, (shown_opens s is).0.few, ap (λ (ms : List Member). length ms) whole, cells_grow (drop (k + 1) s.cells) after, ap (λ (ms : List Member). length ms) next, length-with_member before (unchanged i b))

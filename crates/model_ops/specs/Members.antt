@@ -10,9 +10,8 @@ use Rattle.amoebot_state.specs.declared.cell.CellName.TheVariants as name
 use Rattle.amoebot_state.specs.declared.cell.Cell.{Cell}
 use Rattle.amoebot_state.specs.declared.cell.Cell.TheVariants as cell
 use Rattle.amoebot_state.specs.declared.bot.Bot.{Bot}
-use Rattle.amoebot_state.specs.declared.bot.Port.{Port}
-use Rattle.amoebot_state.specs.Ports.{is_own, is_port, all_ports, behind}
-use Rattle.amoebot_state.specs.Configs.{Config, bot_at, bot_of, occupant}
+use Rattle.amoebot_state.specs.Ports.{is_own}
+use Rattle.amoebot_state.specs.Configs.{Config, bot_at}
 use Rattle.amoebot_state.specs.Patches.{id_eq, bot_eq}
 use Rattle.amoebot_state.specs.Refusals.{IsBotInRange}
 use Rattle.amoebot_state.specs.Zones.{Shown, IsShown, spread, shown, shown_alone}
@@ -80,21 +79,15 @@ with_member (n ∷ ms) m = if nat_lt m.id n.id then m ∷ n ∷ ms else n ∷ wi
 abbrev pub has_id : List Member → ℕ → Bool
 has_id ms i = list_any (λ m. nat_eq m.id i) ms
 
--- the members with an occupant of the configuration, if there is one and it is new
-abbrev pub with_occupant : Config → List Member → Option ℕ → List Member
-with_occupant c ms None = ms
-with_occupant c ms (Some i) = if has_id ms i then ms else with_member ms (unchanged i (bot_of c i))
+-- the members with the amoebot of a cell, where that is a body
+abbrev pub with_cell : List Member → CellName × Cell → List Member
+with_cell ms (name.Body i, cell.Body b) = with_member ms (unchanged i b)
+with_cell ms (name.Body i, cell.Spot o) = ms
+with_cell ms (name.Spot v, x) = ms
 
--- the same for the node behind a pair of an end and a direction, where that is a port of the amoebot
-abbrev pub with_neighbour : Config → Bot → List Member → Port → List Member
-with_neighbour c b ms p = if is_port b p then with_occupant c ms (occupant c (behind b p)) else ms
-
--- the members of what is shown: the amoebot, and the neighbours behind its ports
+-- the members of what is shown: the amoebots of its cells
 unfoldable pub gathered : Shown → List Member
-gathered s =
-    let c = shown_alone s in
-    let b = bot_of c s.bot in
-    fold (with_neighbour c b) (unchanged s.bot b ∷ []) all_ports
+gathered s = fold with_cell [] s.cells
 
 -- the id on a node: that of the first member that has the node, as it was found or as it is now
 abbrev pub id_by : (Member → Bot) → List Member → Node → Option ℕ

@@ -2,24 +2,12 @@
 
 ghost use Rattle.std.specs.Prelude.{◌≡◌, ◌<◌, ◌≤◌, Some, length, slice_get};
 ghost use Rattle.amoebot_state.specs.Zones.{shown_alone};
-ghost use Rattle.model_ops.specs.Behinds.{all_behind, behind_pair, pair_place, connected_there, free_there, owner_there};
+ghost use Rattle.amoebot_state.specs.Around.{all_behind};
+ghost use Rattle.amoebot_state.specs.Ports.{pair_place};
+ghost use Rattle.model_ops.specs.Behinds.{connected_there, free_there, owner_there};
 
-use amoebot_state::{ALL_PORTS, End, Failure, Found, Port};
+use amoebot_state::{ALL_PORTS, Behind, Failure, Found, Port};
 use arrayvec::ArrayVec;
-
-/// What is behind a pair of an end and a direction.
-#[derive(Clone, Copy, Default, Drop)]
-pub(crate) enum Behind {
-    /// The pair is no port of the amoebot.
-    #[default]
-    NoPort,
-    /// A node outside of the area.
-    Edge,
-    /// A node without an occupant.
-    Empty,
-    /// The occupant with this id.
-    Bot(u16),
-}
 
 /// What is behind the twelve pairs, in port order.
 pub(crate) type Around = ArrayVec<Behind, 12>;
@@ -30,29 +18,9 @@ pub(crate) fn around(found: &Found) -> Around
 {
     let mut around = ArrayVec::new();
     for port in ALL_PORTS.iter() {
-        around.push(found_behind(found, *port));
+        around.push(found.behind(*port));
     }
     around
-}
-
-fn found_behind(found: &Found, port: Port) -> Behind
-    ensures { result ≡ behind_pair (shown_alone found.now) found.now.bot port }
-{
-    let own = found.own();
-    if !own.is_port(port) {
-        return Behind::NoPort;
-    }
-    let node = own.behind(port);
-    match found.occupant(node) {
-        Some(id) => Behind::Bot(id),
-        None => {
-            if found.area().index(node).is_some() {
-                Behind::Empty
-            } else {
-                Behind::Edge
-            }
-        }
-    }
 }
 
 /// What is behind a pair, of what is behind all of them.
@@ -64,11 +32,7 @@ pub(crate) fn behind_at(around: &[Behind], port: Port) -> Behind
     if port.dir > 5 {
         return Behind::NoPort;
     }
-    let place = match port.end {
-        End::Head => usize::from(port.dir),
-        End::Tail => 6 + usize::from(port.dir),
-    };
-    around[place]
+    around[port.place()]
 }
 
 /// Whether the node there is occupied. NoPort, where the pair is none.

@@ -7,7 +7,7 @@ ghost use Rattle.tri_lattice.specs.Extent.{is_in};
 ghost use Rattle.tri_lattice.specs.Lattice.{IsNear};
 ghost use Rattle.ring_guard.specs.Rings.{ring_in};
 ghost use Rattle.amoebot_state.specs.Occupied.{occupied};
-ghost use Rattle.model_ops.specs.Behinds.{all_behind};
+ghost use Rattle.amoebot_state.specs.Around.{all_behind};
 ghost use Rattle.model_ops.specs.Operations.{need, connected, is_free, is_free_node, owner, read, write, is_value};
 ghost use Rattle.model_ops.specs.Operations.{peer, seen_over, expand, contract, push, pull, may_leave, grow, shrink};
 ghost use Rattle.model_ops.specs.Reaches.{Reaches};
@@ -15,7 +15,6 @@ ghost use Rattle.amoebot_state.specs.Zones.{shown_alone};
 ghost use Rattle.model_ops.specs.WorkingCopies.{opened, own_id, own_bot, copy_after, changes};
 ghost use Rattle.model_ops.specs.Sites.{done};
 
-use crate::behind::Behind;
 use crate::changes::changed_cells;
 use crate::member::{Member, ROOM, id_on, members_of, place_of};
 use crate::peer::Peer;
@@ -48,15 +47,14 @@ impl Model for Draft {
 
 impl Draft {
     /// The copy at first: what was found, and no other amoebot. It takes no memory.
-    pub fn new(found: &Found, around: &[Behind]) -> Draft
-        requires { around.now ≡ all_behind (shown_alone found.now) found.now.bot }
+    pub fn new(found: &Found) -> Draft
         ensures { result ≡ opened found.now }
     {
         Draft {
             area: found.area(),
             maxes: found.maxes(),
             own: found.bot(),
-            members: members_of(found, around),
+            members: members_of(found),
         }
     }
 

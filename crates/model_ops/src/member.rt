@@ -1,18 +1,15 @@
-ghost use Rattle.std.specs.Prelude.{◌≡◌, ℕ, ◌<◌, ◌≤◌, ◌+◌, IsSome, IsTrue, Some, nat_eq, nat_lt};
+ghost use Rattle.std.specs.Prelude.{◌≡◌, ◌<◌, ◌+◌, IsTrue, Some, nat_eq, nat_lt};
 ghost use Rattle.std.specs.List.{position};
-ghost use Rattle.amoebot_state.specs.Configs.{bot_at};
-ghost use Rattle.amoebot_state.specs.Zones.{IsShown, shown_alone};
+ghost use Rattle.amoebot_state.specs.Zones.{IsShown};
 ghost use Rattle.arrayvec.specs.ArrayVec.{array_vec_len};
-ghost use Rattle.model_ops.specs.Behinds.{all_behind, with_behind};
-ghost use Rattle.model_ops.specs.Members.{gathered, has_id, id_found_on, id_on, unchanged, with_member, with_occupant};
+ghost use Rattle.model_ops.specs.Members.{gathered, has_id, id_found_on, id_on, unchanged, with_member};
 
-use crate::behind::Behind;
-use amoebot_state::{Bot, Found};
+use amoebot_state::{Bot, Cell, CellName, Found};
 use arrayvec::ArrayVec;
 use tri_lattice::Node;
 
-/// Room for the amoebot itself and one more behind each pair of an end and a direction.
-pub(crate) const ROOM: usize = 13;
+/// Room for the amoebots of a neighbourhood.
+pub(crate) const ROOM: usize = 9;
 
 /// An amoebot of a neighbourhood, as it was found and as it is now.
 #[derive(Clone, Copy, Default, Drop)]
@@ -76,51 +73,20 @@ fn add(members: &mut ArrayVec<Member, ROOM>, id: u16, bot: &Bot)
     );
 }
 
-/// Adds the amoebot behind a pair, if there is one and it is new.
-fn add_behind(members: &mut ArrayVec<Member, ROOM>, found: &Found, behind: Behind)
-    requires room { array_vec_len members.old < ROOM }
-    requires there { (i : ℕ) → behind ≡ Behind.Bot i → IsSome (bot_at (shown_alone found.now) i) }
-    ensures value { members.new.items ≡ with_behind (shown_alone found.now) members.old.items behind }
-    ensures few { array_vec_len members.new ≤ array_vec_len members.old + 1 }
-{
-    match behind {
-        Behind::NoPort | Behind::Edge | Behind::Empty => {}
-        Behind::Bot(id) => add_occupant(members, found, id),
-    }
-}
-
-/// Adds an amoebot, if it is new.
-fn add_occupant(members: &mut ArrayVec<Member, ROOM>, found: &Found, id: u16)
-    requires room { array_vec_len members.old < ROOM }
-    requires there { IsSome (bot_at (shown_alone found.now) id) }
-    ensures value { members.new.items ≡ with_occupant (shown_alone found.now) members.old.items (Some id) }
-    ensures few { array_vec_len members.new ≤ array_vec_len members.old + 1 }
-{
-    if has_id(members.as_slice(), id) {
-        return;
-    }
-    match found.body(id) {
-        Some(bot) => add(members, id, bot),
-        None => unreachable!(),
-    }
-}
-
-fn has_id(members: &[Member], id: u16) -> bool
-    ensures { result ≡ has_id members.now id }
-{
-    members.iter().any(|member| member.id == id)
-}
-
-/// The amoebots of a neighbourhood.
-pub(crate) fn members_of(found: &Found, around: &[Behind]) -> ArrayVec<Member, ROOM>
-    requires { around.now ≡ all_behind (shown_alone found.now) found.now.bot }
+/// The amoebots of a neighbourhood, which are those of the bodies among its cells.
+pub(crate) fn members_of(found: &Found) -> ArrayVec<Member, ROOM>
     ensures value { result.items ≡ gathered found.now }
     ensures shown { IsShown found.now }
 {
     let mut members = ArrayVec::new();
-    add(&mut members, found.bot(), found.own());
-    for behind in around {
-        add_behind(&mut members, found, *behind);
+    for (name, cell) in found.cells() {
+        match name {
+            CellName::Body(id) => match cell {
+                Cell::Body(bot) => add(&mut members, *id, bot),
+                Cell::Spot(_) => {}
+            },
+            CellName::Spot(_) => {}
+        }
     }
     members
 }

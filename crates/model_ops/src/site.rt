@@ -29,8 +29,8 @@ pub struct Site {
 impl Model for Site {
     ghost use Rattle.std.specs.Prelude.{◌≡◌, Some};
     ghost use Rattle.arrayvec.specs.ArrayVec.{ArrayVec};
-    ghost use Rattle.model_ops.specs.declared.behind.Behind.{Behind};
-    ghost use Rattle.model_ops.specs.Behinds.{all_behind};
+    ghost use Rattle.amoebot_state.specs.Around.{all_behind};
+    ghost use Rattle.amoebot_state.specs.declared.found.Behind.{Behind};
     ghost use Rattle.model_ops.specs.WorkingCopies.{WorkingCopy, own_id};
 
     ghost Value = { WorkingCopy };
@@ -48,7 +48,7 @@ impl Site {
     {
         let around = around(found);
         Site {
-            draft: Draft::new(found, around.as_slice()),
+            draft: Draft::new(found),
             around: Some(around),
         }
     }

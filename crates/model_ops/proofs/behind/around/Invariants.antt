@@ -2,7 +2,7 @@ use Rattle.std.proofs.Common.{◌≡◌, map, take}
 use Rattle.amoebot_state.specs.Ports.{all_ports}
 use Rattle.amoebot_state.specs.Zones.{shown_alone}
 use Rattle.arrayvec.specs.ArrayVec.{array_vec_len}
-use Rattle.model_ops.specs.Behinds.{behind_pair}
+use Rattle.amoebot_state.specs.Around.{behind_pair}
 use Rattle.model_ops.proofs.behind.around.Given as goal
 
 abbrev pub invariant-loop-port : goal.invariant-loop-port

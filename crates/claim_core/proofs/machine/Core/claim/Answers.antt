@@ -4,7 +4,8 @@ use Rattle.std.proofs.lemmas.Option.{none-some, same_Some}
 use Rattle.tri_lattice.specs.Extent.{Extent}
 use Rattle.amoebot_state.specs.Configs.{frame_of}
 use Rattle.amoebot_state.specs.Pairs.{Pairs}
-use Rattle.amoebot_state.specs.Known.{known_zone, next_cell}
+use Rattle.amoebot_state.specs.Known.{next_cell}
+use Rattle.amoebot_state.specs.Ways.{reading}
 use Rattle.amoebot_state.specs.Zones.{Shown, IsShown, shown_with}
 use Rattle.claim_core.specs.declared.state.Phase.TheVariants as phase
 use Rattle.claim_core.specs.Turns.{bot_of_turn}
@@ -142,7 +143,7 @@ invariant_of-self-2 g c =
     let tagged : c.tag.result ≡ tag c.args.caller c.index_mut-seat.result.now.turn own = c.tag.ensures ∙ ap (tag c.args.caller c.index_mut-seat.result.now.turn) c.bot-bot.ensures in
     let step = ap (λ t. state_of (set c.self.inside.tags.items c.in-Some-cell_number.number t) c.self.inside.world c.self.inside.journal c.self.inside.holder (set c.self.inside.seats.items c.from.result new) c.self.inside.marks) tagged ∙ won in
     kept c.self.invariant c.args.caller refl step c.self.invariant.run c.self.invariant.turns (c.self.invariant.each ∙ sym (length-set c.self.inside.seats.items c.from.result _)) c.self.invariant.room c.self.invariant.few
-    (zones_with c.self.invariant seat new (λ claims some. knows ∙ ap (known_zone c.self.inside.journal.first.area own) (sym held)))
+    (zones_with c.self.invariant seat new (λ claims some. knows ∙ ap (reading c.self.inside.journal.first.area own) (sym held)))
 
 pub returns : goal.returns
 returns g c =

@@ -1,5 +1,5 @@
 use Rattle.std.proofs.Common.{ap, sym, ◌∙◌, arith}
-use Rattle.amoebot_state.specs.Known.{known_zone}
+use Rattle.amoebot_state.specs.Ways.{reading}
 use Rattle.claim_rule.proofs.activation.Room.hold.Goals as goal
 
 pub push-requires : goal.push-requires
@@ -12,4 +12,4 @@ pub returns-clause-knows : goal.returns-clause-knows
 returns-clause-knows c =
     let room = c.args.self.now in
     let zone = c.push.ensures room.bot room.cells.items c.args.cell c.requires.knows.zone c.requires.order in
-    record { tag = c.requires.knows.tag; zone = zone ∙ ap (known_zone room.area room.bot) (sym c.push-2.ensures.items) }
+    record { tag = c.requires.knows.tag; zone = zone ∙ ap (reading room.area room.bot) (sym c.push-2.ensures.items) }

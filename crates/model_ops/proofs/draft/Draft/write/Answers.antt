@@ -1,5 +1,5 @@
 use Rattle.std.proofs.Common.{◌∙◌, ap}
-use Rattle.model_ops.specs.Behinds.{all_behind}
+use Rattle.amoebot_state.specs.Around.{all_behind}
 use Rattle.model_ops.specs.WorkingCopies.{WorkingCopy}
 use Rattle.model_ops.proofs.BehindsLemmas.{memory_leaves_pairs}
 use Rattle.model_ops.proofs.draft.Draft.write.Goals as goal

@@ -1,5 +1,6 @@
 use Rattle.std.proofs.Common.{◌≡◌, ◌∙◌, ap, sym, Some}
-use Rattle.model_ops.specs.Behinds.{owner_there, behind_pair}
+use Rattle.model_ops.specs.Behinds.{owner_there}
+use Rattle.amoebot_state.specs.Around.{behind_pair}
 use Rattle.model_ops.specs.Operations.{owner}
 use Rattle.model_ops.specs.WorkingCopies.{WorkingCopy, own_id}
 use Rattle.model_ops.proofs.BehindsLemmas.{owner_pair, owner_is_there, pair_found}

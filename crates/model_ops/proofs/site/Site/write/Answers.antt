@@ -1,5 +1,5 @@
 use Rattle.std.proofs.Common.{◌∙◌, ap, sym}
-use Rattle.model_ops.specs.Behinds.{all_behind}
+use Rattle.amoebot_state.specs.Around.{all_behind}
 use Rattle.model_ops.specs.WorkingCopies.{own_id}
 use Rattle.model_ops.proofs.BehindsLemmas.{same_own}
 use Rattle.model_ops.proofs.site.Site.write.Goals as goal

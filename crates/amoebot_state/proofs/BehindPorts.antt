@@ -15,7 +15,7 @@ use Rattle.amoebot_state.proofs.Occupants.{occupant_covers, covered_in}
 use Rattle.amoebot_state.proofs.Zones.{spot_in_zone, body_in_zone}
 
 -- the node behind a port is one of the zone's, if it lies in the area
-behind_in_nodes : (a : Extent) (b : Bot) (p : Port) → is_port b p ≡ true → is_in a (behind b p) ≡ true → Has (behind b p) (zone_nodes a b)
+pub behind_in_nodes : (a : Extent) (b : Bot) (p : Port) → is_port b p ≡ true → is_in a (behind b p) ≡ true → Has (behind b p) (zone_nodes a b)
 behind_in_nodes a b p port inside =
     let below : p.dir < 6 = ltb-true p.dir 6 (and_parts _ _ port).0 in
     let has : Has p (ports b) = Has-filter (is_port b) all_ports (listed p.end p.dir below) port in
