@@ -10,11 +10,12 @@ use Rattle.action_tree.specs.declared.program.Action as code_action
 use Rattle.action_tree.specs.Views.{name_of, var_of, action_of}
 use Rattle.action_tree.specs.Writable.{action_names, is_action}
 use Rattle.action_tree.proofs.Conditions.{left_of, right_of}
-use Rattle.action_check.specs.Scopes.{Scope, HasRoom}
-use Rattle.action_check.specs.Faults.{declared_faults, action_faults, vars_faults, actions_faults, names_of_vars}
+use Rattle.action_tree.specs.Scopes.{Scope, HasRoom}
+use Rattle.action_check.specs.Faults.{declared_faults, action_faults, vars_faults, actions_faults}
+use Rattle.action_tree.specs.Scopes.{names_of_vars}
 use Rattle.action_check.specs.Told.{first_of, TellsFirst}
 use Rattle.action_check.proofs.Firsts.{first_behind}
-use Rattle.action_check.proofs.RulesKept.{few_names}
+use Rattle.action_tree.proofs.Rooms.{few_names}
 use Rattle.action_check.proofs.FaultLoops.{here}
 
 -- before the variable at i, behind those of these names

@@ -9,7 +9,7 @@ use Rattle.action_tree.specs.declared.expression.Part as code_part
 use Rattle.action_tree.specs.declared.statement.Stmt as code_stmt
 use Rattle.action_tree.specs.Views.{guards_of, term_of, terms_of, stmts_of}
 use Rattle.action_tree.specs.Writable.{guards_names, sum_names, stmts_names}
-use Rattle.action_check.specs.Scopes.{Scope, HasRoom, scope_after_all}
+use Rattle.action_tree.specs.Scopes.{Scope, HasRoom, scope_after_all}
 use Rattle.action_check.specs.Faults.{guards_faults, sum_faults, term_faults, stmts_faults}
 use Rattle.action_check.specs.Told.{first_of}
 use Rattle.action_tree.proofs.Viewed.{part_opened}

@@ -10,8 +10,9 @@ use Rattle.action_tree.specs.Lines.{lines_in_dirterm, lines_in_guard, lines_in_g
 use Rattle.action_tree.proofs.TextLines.{lines_follow_text}
 use Rattle.action_tree.proofs.Rising.{Picks, over, skip, keep, picks_both, picked_never_fall}
 use Rattle.action_check.specs.Limits.{most_literal, most_direction}
-use Rattle.action_check.specs.Scopes.{Scope, is_among, scope_with, scope_after, scope_after_all}
-use Rattle.action_check.specs.Faults.{blamed, var_faults, bound_faults, binding_faults, declared_faults, range_faults, dirterm_faults, guard_faults, guards_faults, sum_faults, term_faults, port_faults, stmt_faults, stmts_faults, move_faults, vars_faults, action_faults, actions_faults, at_start}
+use Rattle.action_tree.specs.Scopes.{Scope, is_among, scope_with, scope_after, scope_after_all}
+use Rattle.action_check.specs.Faults.{blamed, var_faults, bound_faults, binding_faults, declared_faults, range_faults, dirterm_faults, guard_faults, guards_faults, sum_faults, term_faults, port_faults, stmt_faults, stmts_faults, move_faults, vars_faults, action_faults, actions_faults}
+use Rattle.action_tree.specs.Scopes.{at_start}
 use Rattle.action_check.specs.Laws.{FaultsFollowText, FaultsOfTextNeverFall}
 
 abbrev lines : List Refusal → List ℕ

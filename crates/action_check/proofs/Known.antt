@@ -8,7 +8,7 @@ use Rattle.std.proofs.lemmas.Map.Views.{list_any-from_Contains, Contains-from_an
 use Rattle.action_tree.specs.Trees.{Name, Literal}
 use Rattle.text_tokens.specs.declared.refusal.RefusalKind.TheVariants.{UnknownName, TwiceNamed, WrongType, BadRange}
 use Rattle.action_tree.specs.Limits.{most_names}
-use Rattle.action_check.specs.Scopes.{Scope, is_among}
+use Rattle.action_tree.specs.Scopes.{Scope, is_among}
 use Rattle.action_check.specs.Faults.{blamed, var_faults, bound_faults, binding_faults, declared_faults, range_faults}
 use Rattle.action_check.specs.Rules.{IsVariable, IsInForce, IsNew, IsAtMost}
 

@@ -8,8 +8,9 @@ use Rattle.amoebot_state.specs.Limits.{most_value}
 use Rattle.action_tree.specs.Trees.{Name, Literal, DirTerm, fixed, held, Guard, atom, negation, conjunction, disjunction, quantified, tested, comparison, Guards, no_guards, guard_then, Sum, no_terms, term_then, Term, number, own, of_port, count, direction, inner, mod6, PortExpr, bound, at_end, turned, first, Stmt, put, put_of, let_be, if_then, for_each, Stmts, no_stmts, stmt_then, Move, no_move, through, contract, Var, Action, Program}
 use Rattle.action_tree.specs.Lines.{bare_name, bare_literal, bare_dirterm, bare_guard, bare_guards, bare_sum, bare_term, bare_port, bare_stmt, bare_stmts, bare_move, bare_var, bare_action, without_lines}
 use Rattle.action_check.specs.Limits.{most_literal, most_direction}
-use Rattle.action_check.specs.Scopes.{Scope, is_among, scope_with, scope_after, scope_after_all}
-use Rattle.action_check.specs.Faults.{blamed, var_faults, bound_faults, binding_faults, declared_faults, range_faults, dirterm_faults, guard_faults, guards_faults, sum_faults, term_faults, port_faults, stmt_faults, stmts_faults, move_faults, vars_faults, action_faults, actions_faults, names_of_vars, at_start, faults}
+use Rattle.action_tree.specs.Scopes.{Scope, is_among, scope_with, scope_after, scope_after_all}
+use Rattle.action_check.specs.Faults.{blamed, var_faults, bound_faults, binding_faults, declared_faults, range_faults, dirterm_faults, guard_faults, guards_faults, sum_faults, term_faults, port_faults, stmt_faults, stmts_faults, move_faults, vars_faults, action_faults, actions_faults, faults}
+use Rattle.action_tree.specs.Scopes.{names_of_vars, at_start}
 use Rattle.action_check.specs.Laws.{FaultsIgnoreLines, RulesIgnoreLines}
 
 abbrev kinds : List Refusal → List RefusalKind

@@ -1,19 +1,14 @@
 -- Where nothing is wrong, each part is what an evaluation relies on.
-use Rattle.std.proofs.Common.{true, ◌≡◌, ◌≤◌, ℕ, suc, [], ◌∷◌, length-append, arith}
+use Rattle.std.proofs.Common.{true, ◌≡◌, ◌≤◌, ℕ, suc, [], arith}
 use Rattle.text_tokens.proofs.StartsLemmas.{right_empty}
 use Rattle.action_tree.specs.Trees.{Name, DirTerm, fixed, held, Guard, atom, negation, conjunction, disjunction, quantified, tested, comparison, Guards, no_guards, guard_then, Sum, no_terms, term_then, Term, number, own, of_port, count, direction, inner, mod6, PortExpr, bound, at_end, turned, first, Stmt, put, put_of, let_be, if_then, for_each, Stmts, no_stmts, stmt_then, Move, no_move, through, contract, Action}
-use Rattle.action_tree.specs.Limits.{most_names}
-use Rattle.action_tree.specs.Writable.{guard_names, guards_names, sum_names, term_names, port_names, with_let, stmt_names, stmts_names, move_names, action_names, is_action}
-use Rattle.action_tree.proofs.Conditions.{right_of}
-use Rattle.std.proofs.lemmas.Bool.{leb-true}
+use Rattle.action_tree.specs.Writable.{guard_names, guards_names, sum_names, term_names, port_names, with_let, stmt_names, stmts_names, move_names, action_names}
+use Rattle.action_tree.proofs.Rooms.{room_behind, room_after, room_after_all}
 use Rattle.action_check.specs.Limits.{most_literal, most_direction}
-use Rattle.action_check.specs.Scopes.{Scope, HasRoom, scope_with, scope_after, scope_after_all}
+use Rattle.action_tree.specs.Scopes.{Scope, HasRoom, scope_with, scope_after, scope_after_all}
 use Rattle.action_check.specs.Faults.{dirterm_faults, guard_faults, guards_faults, sum_faults, term_faults, port_faults, stmt_faults, stmts_faults, move_faults, action_faults}
 use Rattle.action_check.specs.Rules.{DirTermKept, GuardKept, GuardsKept, SumKept, TermKept, PortKept, StmtKept, StmtsKept, MoveKept, ActionKept}
 use Rattle.action_check.proofs.Known.{left_empty, is_var, is_in_force, is_new, is_within}
-
-pub room_behind : (sc : Scope) (v : Name) (more : ℕ) → HasRoom sc (suc more) → HasRoom (scope_with sc v) more
-room_behind sc v more room = omega (arith, length-append sc.bound (v.text ∷ []))
 
 dirterm_kept : (sc : Scope) (d : DirTerm) → dirterm_faults sc d ≡ [] → DirTermKept sc d
 dirterm_kept sc (fixed n) e = is_within most_direction n e
@@ -55,14 +50,6 @@ mutual
   port_kept sc (first v s g) room e =
       (is_new sc v (omega arith) (left_empty _ _ e), guard_kept (scope_with sc v) g (room_behind sc v _ room) (right_empty _ _ e))
 
--- what a `let` leaves for the statements behind it
-room_after : (sc : Scope) (s : Stmt) (more : ℕ) → HasRoom sc (with_let s more) → HasRoom (scope_after sc s) more
-room_after sc (let_be v p) more room = room_behind sc v more room
-room_after sc (put v s) more room = room
-room_after sc (put_of p v s) more room = room
-room_after sc (if_then g ss es) more room = room
-room_after sc (for_each v s g ss) more room = room
-
 mutual
   pub stmt_kept : (sc : Scope) (s : Stmt) (more : ℕ) → HasRoom sc (stmt_names s) → HasRoom sc (with_let s more) → stmt_faults sc s ≡ [] → StmtKept sc s
   stmt_kept sc (put v s) more room _ e = (is_var sc v (left_empty _ _ e), sum_kept sc s room (right_empty _ _ e))
@@ -82,29 +69,10 @@ mutual
   stmts_kept sc (stmt_then s ss) more room e =
       (stmt_kept sc s (stmts_names more ss) (omega arith) (omega arith) (left_empty _ _ e), stmts_kept (scope_after sc s) ss more (room_after sc s _ (omega arith)) (right_empty _ _ e))
 
-pub room_after_all : (sc : Scope) (ss : Stmts) (more : ℕ) → HasRoom sc (stmts_names more ss) → HasRoom (scope_after_all sc ss) more
-room_after_all sc no_stmts more room = room
-room_after_all sc (stmt_then s ss) more room = room_after_all (scope_after sc s) ss more (room_after sc s _ (omega arith))
-
--- what goes on with less has fewer names
-fewer_behind : (s : Stmt) (a b : ℕ) → a ≤ b → with_let s a ≤ with_let s b
-fewer_behind (let_be v p) a b le = omega arith
-fewer_behind (put v s) a b le = le
-fewer_behind (put_of p v s) a b le = le
-fewer_behind (if_then g ss es) a b le = le
-fewer_behind (for_each v s g ss) a b le = le
-
-pub fewer_names : (ss : Stmts) (a b : ℕ) → a ≤ b → stmts_names a ss ≤ stmts_names b ss
-fewer_names no_stmts a b le = le
-fewer_names (stmt_then s ss) a b le = omega (arith, fewer_behind s _ _ (fewer_names ss a b le))
-
 move_kept : (sc : Scope) (m : Move) → HasRoom sc (move_names m) → move_faults sc m ≡ [] → MoveKept sc m
 move_kept sc no_move room e = tt
 move_kept sc (through m p) room e = port_kept sc p room e
 move_kept sc (contract e) room f = tt
-
-pub few_names : (a : Action) → is_action a ≡ true → action_names a ≤ most_names
-few_names a f = leb-true (action_names a) most_names (right_of _ _ f)
 
 pub action_kept : (sc : Scope) (a : Action) → HasRoom sc (action_names a) → action_faults sc a ≡ [] → ActionKept sc a
 action_kept sc a room e =

@@ -7,12 +7,14 @@ use Rattle.text_tokens.proofs.StartsLemmas.{right_empty}
 use Rattle.action_tree.specs.Trees.{Var, Action, Program}
 use Rattle.action_tree.specs.Writable.{action_names, is_action, is_writable}
 use Rattle.action_tree.proofs.Conditions.{left_of, right_of}
-use Rattle.action_check.specs.Scopes.{Scope, HasRoom}
-use Rattle.action_check.specs.Faults.{vars_faults, actions_faults, names_of_vars, names_of_actions, at_start, AreRulesKept}
+use Rattle.action_tree.specs.Scopes.{Scope, HasRoom}
+use Rattle.action_check.specs.Faults.{vars_faults, actions_faults, names_of_actions, AreRulesKept}
+use Rattle.action_tree.specs.Scopes.{names_of_vars, at_start}
 use Rattle.action_check.specs.Rules.{IsAtMost, ActionKept, ProgramKept}
 use Rattle.action_check.proofs.Known.{left_empty, both_empty, is_fresh, fresh_is_fine, is_within, within_is_fine}
 use Rattle.action_check.proofs.Distinct.{AreFresh, none_distinct, distinct_from, fresh_from}
-use Rattle.action_check.proofs.RulesKept.{few_names, action_kept}
+use Rattle.action_check.proofs.RulesKept.{action_kept}
+use Rattle.action_tree.proofs.Rooms.{few_names}
 use Rattle.action_check.proofs.Faultless.{action_fine}
 
 -- ---- variables

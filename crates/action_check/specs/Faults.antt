@@ -7,7 +7,7 @@ use Rattle.text_tokens.specs.declared.refusal.RefusalKind.TheVariants.{UnknownNa
 use Rattle.amoebot_state.specs.Limits.{most_value}
 use Rattle.action_tree.specs.Trees.{Name, Literal, DirTerm, fixed, held, Guard, atom, negation, conjunction, disjunction, quantified, tested, comparison, Guards, no_guards, guard_then, Sum, no_terms, term_then, Term, number, own, of_port, count, direction, inner, mod6, PortExpr, bound, at_end, turned, first, Stmt, put, put_of, let_be, if_then, for_each, Stmts, no_stmts, stmt_then, Move, no_move, through, contract, Var, Action, Program}
 use Rattle.action_check.specs.Limits.{most_literal, most_direction}
-use Rattle.action_check.specs.Scopes.{Scope, is_among, scope_with, scope_after, scope_after_all}
+use Rattle.action_tree.specs.Scopes.{Scope, is_among, scope_with, scope_after, scope_after_all, at_start}
 
 -- ---- one name, and one number
 
@@ -115,15 +115,8 @@ actions_faults sc earlier [] = []
 actions_faults sc earlier (a ∷ more) =
     declared_faults earlier a.name ++ (action_faults sc a ++ actions_faults sc (earlier ++ a.name.text ∷ []) more)
 
-abbrev pub names_of_vars : List Var → List (List ℕ)
-names_of_vars vs = map (λ v. v.name.text) vs
-
 abbrev pub names_of_actions : List Action → List (List ℕ)
 names_of_actions actions = map (λ a. a.name.text) actions
-
--- what is known at the beginning of each action
-abbrev pub at_start : Program → Scope
-at_start p = record { vars = names_of_vars p.vars; bound = [] }
 
 abbrev pub faults : Program → List Refusal
 faults p = vars_faults [] p.vars ++ actions_faults (at_start p) [] p.actions

@@ -1,11 +1,11 @@
 pub mod Limits
-pub mod Scopes
 pub mod Faults
 pub mod Rules
 pub mod Told
 pub mod Maxes
 pub mod Rows
 pub mod Laws
+pub use Rattle.action_tree.specs.Scopes
 pub use Rattle.action_tree.specs.Stored
 pub use Rattle.action_tree.specs.Trees
 pub use Rattle.action_tree.specs.Views

@@ -6,8 +6,9 @@ use Rattle.amoebot_state.specs.Limits.{most_value}
 use Rattle.action_tree.specs.Trees.{Name, Literal, DirTerm, fixed, held, Guard, atom, negation, conjunction, disjunction, quantified, tested, comparison, Guards, no_guards, guard_then, Sum, no_terms, term_then, Term, number, own, of_port, count, direction, inner, mod6, PortExpr, bound, at_end, turned, first, Stmt, put, put_of, let_be, if_then, for_each, Stmts, no_stmts, stmt_then, Move, no_move, through, contract, Action, Program}
 use Rattle.action_tree.specs.Limits.{most_names}
 use Rattle.action_check.specs.Limits.{most_literal, most_direction}
-use Rattle.action_check.specs.Scopes.{Scope, scope_with, scope_after, scope_after_all}
-use Rattle.action_check.specs.Faults.{names_of_vars, names_of_actions, at_start}
+use Rattle.action_tree.specs.Scopes.{Scope, scope_with, scope_after, scope_after_all}
+use Rattle.action_check.specs.Faults.{names_of_actions}
+use Rattle.action_tree.specs.Scopes.{names_of_vars, at_start}
 
 -- ---- one name, and one number
 

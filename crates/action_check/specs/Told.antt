@@ -5,7 +5,7 @@ use Rattle.text_tokens.specs.declared.refusal.Refusal.{Refusal}
 use Rattle.text_tokens.specs.declared.refusal.ReadRefusal.{ReadRefusal}
 use Rattle.text_tokens.specs.declared.refusal.ReadRefusal.TheVariants.{Refused, NoMemory}
 use Rattle.action_check.specs.declared.scope.Scope as code
-use Rattle.action_check.specs.Scopes.{Scope}
+use Rattle.action_tree.specs.Scopes.{Scope}
 
 -- it ends well where there is no fault, and else tells the first
 abbrev pub first_of : List Refusal → Result (Unit {0}) Refusal

@@ -28,7 +28,8 @@ impl Model for Checked {
     ghost coded = { program_code };
 
     ghost use Rattle.action_tree.specs.Writable.{is_writable};
-    ghost use Rattle.action_check.specs.Faults.{AreRulesKept, names_of_vars};
+    ghost use Rattle.action_check.specs.Faults.{AreRulesKept};
+    ghost use Rattle.action_tree.specs.Scopes.{names_of_vars};
     ghost use Rattle.action_check.specs.Told.{texts};
 
     ghost view = { λ c. c.program };

@@ -2,6 +2,7 @@
 
 ghost use Rattle.std.specs.Prelude.{◌≡◌, [], ◌∷◌, ◌++◌, true, map, OnOk, IfOk, IfErr, Ok};
 ghost use Rattle.std.specs.List.{list_all};
+ghost use Rattle.action_tree.specs.Scopes.{names_of_vars};
 ghost use Rattle.action_tree.specs.Views.{name_of, var_of, action_of};
 ghost use Rattle.action_tree.specs.Writable.{is_action};
 ghost use Rattle.action_check.specs.Faults as spec;
@@ -32,7 +33,7 @@ fn declare(names: &mut IndexSet<NameText>, name: &Word) -> Result<(), ReadRefusa
 /// The variables, whose names are given back in the order of their declaration.
 pub fn check_vars(alloc: Global, vars: &[Var]) -> Result<IndexSet<NameText>, ReadRefusal>
     ensures fine { OnOk result (first_of (spec.vars_faults [] (map var_of vars.now)) ≡ Ok tt) }
-    ensures names { IfOk result (λ names. texts names.keys ≡ spec.names_of_vars (map var_of vars.now)) }
+    ensures names { IfOk result (λ names. texts names.keys ≡ names_of_vars (map var_of vars.now)) }
     ensures wrong { IfErr result (TellsFirst (spec.vars_faults [] (map var_of vars.now))) }
 {
     let mut names = IndexSet::new(alloc);

@@ -2,7 +2,7 @@
 
 ghost use Rattle.std.specs.Prelude.{◌≡◌, []};
 ghost use Rattle.action_tree.specs.Views.{name_of, literal_of};
-ghost use Rattle.action_check.specs.Scopes.{HasRoom, is_among, scope_with as spec_bind};
+ghost use Rattle.action_tree.specs.Scopes.{HasRoom, is_among, scope_with as spec_bind};
 ghost use Rattle.action_check.specs.Faults as spec;
 ghost use Rattle.action_check.specs.Told.{first_of, known_scope, texts};
 

@@ -3,7 +3,7 @@
 ghost use Rattle.std.specs.Prelude.{◌≡◌, Ok, Err, IfOk, IfErr};
 ghost use Rattle.action_tree.specs.Views as view;
 ghost use Rattle.action_tree.specs.Writable.{with_let, stmt_names, stmts_names, move_names, action_names};
-ghost use Rattle.action_check.specs.Scopes.{HasRoom, scope_after, scope_after_all};
+ghost use Rattle.action_tree.specs.Scopes.{HasRoom, scope_after, scope_after_all};
 ghost use Rattle.action_check.specs.Faults as spec;
 ghost use Rattle.action_check.specs.Told.{first_of, known_scope};
 

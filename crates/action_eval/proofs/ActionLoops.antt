@@ -15,9 +15,9 @@ use Rattle.action_tree.specs.Trees.{Action, Program}
 use Rattle.action_tree.specs.Views.{var_of, guard_of, action_of}
 use Rattle.action_tree.specs.Writable.{is_action, is_writable}
 use Rattle.action_tree.proofs.Conditions.{left_of, right_of}
-use Rattle.action_check.specs.Faults.{names_of_vars, at_start}
+use Rattle.action_tree.specs.Scopes.{names_of_vars, at_start}
 use Rattle.action_check.specs.Rules.{ActionKept, ProgramKept}
-use Rattle.action_check.specs.Scopes.{Scope}
+use Rattle.action_tree.specs.Scopes.{Scope}
 use Rattle.action_meaning.specs.Names.{Names}
 use Rattle.action_meaning.specs.Values.{guard_value}
 use Rattle.action_meaning.specs.Verdicts.{action_effect, verdict_of_result, decided_by_guard, actions_verdict, names_at_start, verdict_shown}

@@ -12,7 +12,7 @@ use Rattle.action_tree.specs.Trees.{Guards, guard_then}
 use Rattle.action_tree.specs.Views.{guard_of, guards_of}
 use Rattle.action_tree.specs.Writable.{are_guards}
 use Rattle.action_check.specs.Rules.{GuardsKept}
-use Rattle.action_check.specs.Scopes.{Scope}
+use Rattle.action_tree.specs.Scopes.{Scope}
 use Rattle.action_meaning.specs.Names.{Names}
 use Rattle.action_meaning.specs.Choices.{Asked, count_of_ports}
 use Rattle.action_meaning.specs.Values.{guard_value, each_value, some_value}

@@ -28,9 +28,9 @@ use Rattle.action_tree.specs.Views.{stmt_step, name_of, port_of, sum_of, guard_o
 use Rattle.action_tree.specs.Writable.{is_stmt, are_stmts}
 use Rattle.action_tree.proofs.Viewed.{stmt_put, stmt_put_of, stmt_let}
 use Rattle.action_check.specs.Rules.{IsNew, StmtKept, StmtsKept}
-use Rattle.action_check.specs.Scopes.{Scope, scope_with as scope_bind}
-use Rattle.action_check.specs.Scopes.{scope_after as after_stmt}
-use Rattle.action_check.specs.Scopes.{scope_after_all}
+use Rattle.action_tree.specs.Scopes.{Scope, scope_with as scope_bind}
+use Rattle.action_tree.specs.Scopes.{scope_after as after_stmt}
+use Rattle.action_tree.specs.Scopes.{scope_after_all}
 use Rattle.amoebot_state.specs.Zones.{Shown, IsShown, shown_alone}
 use Rattle.amoebot_state.proofs.Shows.{shown_valid}
 use Rattle.model_ops.specs.Reaches.{ReachesUnmoved}

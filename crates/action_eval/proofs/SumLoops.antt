@@ -15,7 +15,7 @@ use Rattle.action_tree.specs.Limits.{most_elements}
 use Rattle.action_tree.specs.Writable.{is_term, are_terms, is_sum, is_count_from, term_count}
 use Rattle.action_check.specs.Limits.{most_literal}
 use Rattle.action_check.specs.Rules.{SumKept, TermKept}
-use Rattle.action_check.specs.Scopes.{Scope}
+use Rattle.action_tree.specs.Scopes.{Scope}
 use Rattle.action_tree.proofs.Viewed.{part_opened}
 use Rattle.action_meaning.specs.Names.{Names}
 use Rattle.action_meaning.specs.Values.{sum_value, term_value, signed}

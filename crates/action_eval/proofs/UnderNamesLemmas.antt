@@ -9,7 +9,7 @@ use Rattle.action_tree.specs.declared.word.Word.{Word}
 use Rattle.action_tree.specs.declared.expression.Guard as code
 use Rattle.action_tree.specs.Views.{name_of, guard_of}
 use Rattle.action_check.specs.Rules.{GuardKept}
-use Rattle.action_check.specs.Scopes.{Scope, scope_with}
+use Rattle.action_tree.specs.Scopes.{Scope, scope_with}
 use Rattle.action_meaning.specs.Names.{Names, Bound, bind}
 use Rattle.action_meaning.specs.Values.{guard_value}
 use Rattle.action_eval.specs.Known.{scope_of}

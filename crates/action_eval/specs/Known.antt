@@ -7,7 +7,7 @@ use Rattle.model_ops.specs.WorkingCopies.{WorkingCopy, own_id}
 use Rattle.action_tree.specs.declared.program.Var.{Var}
 use Rattle.action_tree.specs.declared.expression.PortSet.{PortSet}
 use Rattle.action_tree.specs.declared.expression.PortSet.TheVariants as port_set
-use Rattle.action_check.specs.Scopes.{Scope}
+use Rattle.action_tree.specs.Scopes.{Scope}
 use Rattle.action_meaning.specs.Names.{Names, Bound}
 use Rattle.action_meaning.specs.Choices.{is_true}
 use Rattle.action_eval.specs.declared.names.Names as code

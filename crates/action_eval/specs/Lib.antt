@@ -3,7 +3,7 @@ pub mod UnderNames
 pub mod Running
 pub use Rattle.action_check.specs.Limits as ActionCheckLimits
 pub use Rattle.action_check.specs.Rules
-pub use Rattle.action_check.specs.Scopes
+pub use Rattle.action_tree.specs.Scopes
 pub use Rattle.action_meaning.specs.Laws
 pub use Rattle.action_meaning.specs.Names
 pub use Rattle.action_meaning.specs.Values

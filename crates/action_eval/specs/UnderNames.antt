@@ -9,7 +9,7 @@ use Rattle.action_tree.specs.declared.statement.Stmt.{Stmt}
 use Rattle.action_tree.specs.Views.{name_of, guard_of, stmts_of}
 use Rattle.action_tree.specs.Writable.{is_guard, are_stmts}
 use Rattle.action_check.specs.Rules.{IsNew, GuardKept, StmtsKept}
-use Rattle.action_check.specs.Scopes.{scope_with as scope_bind}
+use Rattle.action_tree.specs.Scopes.{scope_with as scope_bind}
 use Rattle.action_meaning.specs.Names.{Names, bind}
 use Rattle.action_meaning.specs.Choices.{Asked}
 use Rattle.action_meaning.specs.Values.{guard_value}

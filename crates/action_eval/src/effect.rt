@@ -4,7 +4,7 @@ ghost use Rattle.std.specs.Prelude.{◌≡◌, true, IfOk, IfErr, Ok, Err};
 ghost use Rattle.action_tree.specs.Views as view;
 ghost use Rattle.action_tree.specs.Writable.{is_sum, is_stmt, are_stmts, is_move};
 ghost use Rattle.action_check.specs.Rules.{IsVariable, SumKept, StmtKept, StmtsKept, MoveKept};
-ghost use Rattle.action_check.specs.Scopes.{scope_after_all};
+ghost use Rattle.action_tree.specs.Scopes.{scope_after_all};
 ghost use Rattle.model_ops.specs.Reaches.{Reaches, move};
 ghost use Rattle.model_ops.specs.Sites.{done};
 ghost use Rattle.model_ops.specs.WorkingCopies.{opened, own_id, copy_after};

@@ -16,7 +16,7 @@ use Rattle.model_ops.specs.Operations.{and_then}
 use Rattle.model_ops.specs.Reaches.{move}
 use Rattle.model_ops.specs.Sights.{Sight, sight}
 use Rattle.action_tree.specs.Trees.{PortMove, expand, push, pull, Move, no_move, through, contract, Action, Program}
-use Rattle.action_check.specs.Faults.{names_of_vars}
+use Rattle.action_tree.specs.Scopes.{names_of_vars}
 use Rattle.action_meaning.specs.Names.{Names}
 use Rattle.action_meaning.specs.Values.{guard_value, port_value}
 use Rattle.action_meaning.specs.Effects.{Moment, moment, stmts_effect}

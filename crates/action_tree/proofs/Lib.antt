@@ -18,3 +18,5 @@ pub mod ProductionsLemmas
 pub mod TextLines
 pub mod ExamplesLemmas
 pub mod Tables
+pub mod Rooms
+pub mod PlacesLemmas

@@ -3,6 +3,9 @@ pub mod Stored
 pub mod Views
 pub mod Words
 pub mod Limits
+pub mod Scopes
+pub mod Places
+pub mod PlacedScope
 pub mod Writable
 pub mod Productions
 pub mod Lines

@@ -5,9 +5,12 @@ mod examples;
 mod expression;
 mod grammar_laws;
 mod laws;
+mod placed_actions;
+mod places;
 mod program;
 mod role;
 mod roles;
+mod scope;
 mod statement;
 mod word;
 

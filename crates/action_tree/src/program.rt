@@ -5,6 +5,7 @@ ghost use Rattle.action_tree.specs.Views.{var_of, action_of, program_of};
 ghost use Rattle.action_tree.specs.Writable.{is_writable};
 
 use crate::expression::Guard;
+use crate::placed_actions::place_actions;
 use crate::statement::{Move, Stmt};
 use crate::word::{Lit, Word};
 use std::marker::Model;
@@ -47,15 +48,24 @@ impl Model for Program {
 
     ghost view = { λ p. program_of p.guard p.vars.items p.actions.items };
 
-    ghost invariant = { λ p. is_writable (program_of p.guard p.vars.items p.actions.items) ≡ true };
+    ghost use Rattle.std.specs.Prelude.{[]};
+    ghost use Rattle.action_tree.specs.Places.{actions_placed};
+    ghost use Rattle.action_tree.specs.Scopes.{at_start};
+
+    ghost invariant = { λ p. (is_writable (program_of p.guard p.vars.items p.actions.items) ≡ true)
+        × (actions_placed p.actions.items (at_start (program_of p.guard p.vars.items p.actions.items)) ≡ true) };
 }
 
 impl Program {
+    ghost use Rattle.action_tree.specs.Places.{actions_placed};
+    ghost use Rattle.action_tree.specs.Scopes.{at_start};
+
     /// The program with the guard of movements on or off, these variables and these actions.
-    pub fn make(guard: bool, vars: Vec<Var>, actions: Vec<Action>) -> Program
+    pub fn make(guard: bool, vars: Vec<Var>, mut actions: Vec<Action>) -> Program
         requires { is_writable (program_of guard vars.items actions.items) ≡ true }
         ensures { result ≡ program_of guard vars.items actions.items }
     {
+        place_actions(&mut actions, &vars);
         Program {
             guard,
             vars,
@@ -84,9 +94,10 @@ impl Program {
         &self.vars
     }
 
-    /// The actions, in the order of the text.
+    /// The actions, in the order of the text. Each name that is used in them has its place.
     pub fn actions(&self) -> &[Action]
         ensures actions { map action_of result.now ≡ self.now.actions }
+        ensures placed { actions_placed result.now (at_start self.now) ≡ true }
         ensures writable { is_writable self.now ≡ true }
     {
         &self.actions

@@ -14,7 +14,8 @@ use Rattle.node_text.specs.PartLimits.{HasLimits}
 use Rattle.shape_text.specs.Rereading as shape
 use Rattle.action_tree.specs.Trees.{Var, Program}
 use Rattle.amoebot_state.specs.Limits.{most_value, most_bots, most_vars}
-use Rattle.action_check.specs.Faults.{vars_faults, actions_faults, at_start, faults}
+use Rattle.action_check.specs.Faults.{vars_faults, actions_faults, faults}
+use Rattle.action_tree.specs.Scopes.{at_start}
 use Rattle.action_check.specs.Maxes.{first_or_zero, maxes_of}
 use Rattle.claim_core.proofs.Frames.{IsFramed, framed_step}
 use Rattle.action_check.proofs.Known.{left_empty}

@@ -2,7 +2,7 @@ use Rattle.std.proofs.Common.{◌≡◌, refl, sym, subst}
 use Rattle.std.specs.Prelude.{Ok}
 use Rattle.action_tree.specs.Views.{action_of}
 use Rattle.action_tree.specs.Writable.{action_names}
-use Rattle.action_check.specs.Scopes.{Scope, HasRoom}
+use Rattle.action_tree.specs.Scopes.{Scope, HasRoom}
 use Rattle.action_check.specs.Faults.{action_faults}
 use Rattle.action_check.specs.Told.{first_of}
 use Rattle.action_check.proofs.DeclarationLemmas.{action_room, actions_next}

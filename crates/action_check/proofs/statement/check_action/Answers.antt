@@ -1,9 +1,9 @@
 use Rattle.std.proofs.Common.{sym, subst, arith}
 use Rattle.action_tree.specs.Views.{move_of, stmts_of}
 use Rattle.action_tree.specs.Writable.{move_names, stmts_names}
-use Rattle.action_check.specs.Scopes.{Scope, HasRoom}
+use Rattle.action_tree.specs.Scopes.{Scope, HasRoom}
 use Rattle.action_check.specs.Told.{known_scope}
-use Rattle.action_check.proofs.RulesKept.{fewer_names, room_after_all}
+use Rattle.action_tree.proofs.Rooms.{fewer_names, room_after_all}
 use Rattle.action_check.proofs.statement.check_action.Goals as goal
 
 pub check_stmts-requires : goal.check_stmts-requires

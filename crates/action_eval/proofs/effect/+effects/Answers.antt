@@ -13,7 +13,7 @@ use Rattle.action_tree.proofs.statement.Stmt.TheLaws.{the_size}
 use Rattle.action_eval.specs.Running.{turn_effect}
 use Rattle.action_tree.specs.Views.{name_of, guard_of, sum_of, stmts_of}
 use Rattle.action_check.specs.Rules.{StmtsKept}
-use Rattle.action_check.specs.Scopes.{Scope}
+use Rattle.action_tree.specs.Scopes.{Scope}
 use Rattle.model_ops.specs.Operations.{write}
 use Rattle.model_ops.specs.WorkingCopies.{own_id}
 use Rattle.action_meaning.specs.Names.{var_number}

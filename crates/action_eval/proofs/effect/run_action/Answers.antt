@@ -1,7 +1,7 @@
 use Rattle.std.proofs.Common.{◌≡◌, ◌∙◌, sym, subst, ap}
 use Rattle.std.specs.declared.result.Result.TheVariants.{Ok}
 use Rattle.action_tree.specs.Views.{move_of, stmts_of}
-use Rattle.action_check.specs.Scopes.{Scope}
+use Rattle.action_tree.specs.Scopes.{Scope}
 use Rattle.action_check.specs.Rules.{MoveKept}
 use Rattle.model_ops.specs.WorkingCopies.{own_id}
 use Rattle.model_ops.proofs.Carried.{moved_reaches}

@@ -1,9 +1,9 @@
 -- Which names are known where a part of a program stands.
-use Rattle.std.specs.Prelude.{ℕ, ◌+◌, ◌≤◌, Bool, List, [], ◌∷◌, ◌++◌, length}
+use Rattle.std.specs.Prelude.{ℕ, ◌+◌, ◌≤◌, Bool, List, [], ◌∷◌, ◌++◌, map, length}
 use Rattle.std.specs.List.{list_any}
 use Rattle.std.specs.Str.{bytes_eq}
 use Rattle.action_tree.specs.Limits.{most_names}
-use Rattle.action_tree.specs.Trees.{Name, Stmt, let_be, Stmts, no_stmts, stmt_then}
+use Rattle.action_tree.specs.Trees.{Name, Stmt, let_be, Stmts, no_stmts, stmt_then, Var, Program}
 
 -- the variables of the program, and the names in force, which stand for ports, each in the order of the text
 pub record Scope : Type 0 where
@@ -29,3 +29,11 @@ scope_after sc _ = sc
 abbrev pub scope_after_all : Scope → Stmts → Scope
 scope_after_all sc no_stmts = sc
 scope_after_all sc (stmt_then s ss) = scope_after_all (scope_after sc s) ss
+
+-- ---- at the beginning of each action: no name is in force
+
+abbrev pub names_of_vars : List Var → List (List ℕ)
+names_of_vars vs = map (λ v. v.name.text) vs
+
+abbrev pub at_start : Program → Scope
+at_start p = record { vars = names_of_vars p.vars; bound = [] }
