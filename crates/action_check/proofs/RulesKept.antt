@@ -1,11 +1,11 @@
 -- Where nothing is wrong, each part is what an evaluation relies on.
-use Rattle.std.proofs.Common.{true, ◌≡◌, ◌≤◌, ℕ, suc, [], arith}
+use Rattle.std.proofs.Common.{◌≡◌, ℕ, suc, [], arith}
 use Rattle.text_tokens.proofs.StartsLemmas.{right_empty}
-use Rattle.action_tree.specs.Trees.{Name, DirTerm, fixed, held, Guard, atom, negation, conjunction, disjunction, quantified, tested, comparison, Guards, no_guards, guard_then, Sum, no_terms, term_then, Term, number, own, of_port, count, direction, inner, mod6, PortExpr, bound, at_end, turned, first, Stmt, put, put_of, let_be, if_then, for_each, Stmts, no_stmts, stmt_then, Move, no_move, through, contract, Action}
+use Rattle.action_tree.specs.Trees.{DirTerm, fixed, held, Guard, atom, negation, conjunction, disjunction, quantified, tested, comparison, Guards, no_guards, guard_then, Sum, no_terms, term_then, Term, number, own, of_port, count, direction, inner, mod6, PortExpr, bound, at_end, turned, first, Stmt, put, put_of, let_be, if_then, for_each, Stmts, no_stmts, stmt_then, Move, no_move, through, contract, Action}
 use Rattle.action_tree.specs.Writable.{guard_names, guards_names, sum_names, term_names, port_names, with_let, stmt_names, stmts_names, move_names, action_names}
 use Rattle.action_tree.proofs.Rooms.{room_behind, room_after, room_after_all}
 use Rattle.action_check.specs.Limits.{most_literal, most_direction}
-use Rattle.action_tree.specs.Scopes.{Scope, HasRoom, scope_with, scope_after, scope_after_all}
+use Rattle.action_tree.specs.Scopes.{Scope, HasRoom, scope_with, scope_after}
 use Rattle.action_check.specs.Faults.{dirterm_faults, guard_faults, guards_faults, sum_faults, term_faults, port_faults, stmt_faults, stmts_faults, move_faults, action_faults}
 use Rattle.action_check.specs.Rules.{DirTermKept, GuardKept, GuardsKept, SumKept, TermKept, PortKept, StmtKept, StmtsKept, MoveKept, ActionKept}
 use Rattle.action_check.proofs.Known.{left_empty, is_var, is_in_force, is_new, is_within}

@@ -1,5 +1,5 @@
 -- The actions of a program, one after the other.
-use Rattle.std.proofs.Common.{◌≡◌, ◌≤◌, ◌<◌, ◌+◌, ◌∙◌, ℕ, suc, Bool, true, false, List, [], ◌∷◌, length, map, drop, get_or, refl, sym, ap, subst, arith}
+use Rattle.std.proofs.Common.{◌≡◌, ◌≤◌, ◌<◌, ◌+◌, ◌∙◌, ℕ, suc, Bool, true, false, List, [], length, map, drop, get_or, refl, sym, ap, subst, arith}
 use Rattle.std.specs.List.{All, list_all}
 use Rattle.std.specs.declared.result.Result.TheVariants.{Ok, Err}
 use Rattle.std.proofs.lemmas.List.{get_or-map, length-map}
@@ -13,6 +13,7 @@ use Rattle.action_tree.specs.declared.program.Var as code_var
 use Rattle.action_tree.specs.declared.program.Action as code
 use Rattle.action_tree.specs.Trees.{Action, Program}
 use Rattle.action_tree.specs.Views.{var_of, guard_of, action_of}
+use Rattle.action_tree.specs.Places.{actions_placed}
 use Rattle.action_tree.specs.Writable.{is_action, is_writable}
 use Rattle.action_tree.proofs.Conditions.{left_of, right_of}
 use Rattle.action_tree.specs.Scopes.{names_of_vars, at_start}
@@ -21,7 +22,7 @@ use Rattle.action_tree.specs.Scopes.{Scope}
 use Rattle.action_meaning.specs.Names.{Names}
 use Rattle.action_meaning.specs.Values.{guard_value}
 use Rattle.action_meaning.specs.Verdicts.{action_effect, verdict_of_result, decided_by_guard, actions_verdict, names_at_start, verdict_shown}
-use Rattle.action_eval.specs.Known.{var_names, scope_of, sight_of}
+use Rattle.action_eval.specs.Known.{scope_of, sight_of}
 use Rattle.action_eval.specs.Running.{moment_of}
 use Rattle.action_check.proofs.FaultLoops.{here}
 
@@ -80,23 +81,21 @@ actions_over guarded xs w actions k left l =
 
 -- ---- the parts of a program that a text gives
 
-pub names_are : (vs : List code_var.Var) (p : Program) → map var_of vs ≡ p.vars → var_names vs ≡ names_of_vars p.vars
-names_are vs p e = same vs ∙ ap names_of_vars e
-  where
-    same : (ws : List code_var.Var) → var_names ws ≡ names_of_vars (map var_of ws)
-    same [] = refl
-    same (w ∷ ws) = ap (λ rest. w.name.text.bytes ∷ rest) (same ws)
+scope_at_start : (p : Program) (vs : List code_var.Var) (xs : Names) → map var_of vs ≡ p.vars → xs ≡ record { vars = names_of_vars (map var_of vs); bound = [] } → scope_of xs ≡ at_start p
+scope_at_start p vs xs vars_are is = ap scope_of is ∙ ap (λ ws. let sc : Scope = record { vars = ws; bound = [] } in sc) (ap names_of_vars vars_are)
 
-pub all_kept : (p : Program) (vs : List code_var.Var) (actions : List code.Action) (xs : Names) → map var_of vs ≡ p.vars → map action_of actions ≡ p.actions → xs ≡ record { vars = var_names vs; bound = [] } → ProgramKept p → All (ActionKept (scope_of xs)) (map action_of actions)
+pub all_kept : (p : Program) (vs : List code_var.Var) (actions : List code.Action) (xs : Names) → map var_of vs ≡ p.vars → map action_of actions ≡ p.actions → xs ≡ record { vars = names_of_vars (map var_of vs); bound = [] } → ProgramKept p → All (ActionKept (scope_of xs)) (map action_of actions)
 all_kept p vs actions xs vars_are actions_are is kept =
-    let start : scope_of xs ≡ at_start p = ap scope_of is ∙ ap (λ ws. let sc : Scope = record { vars = ws; bound = [] } in sc) (names_are vs p vars_are) in
     let P : Scope → Type 0 = λ sc. All (ActionKept sc) (map action_of actions) in
     let Q : List Action → Type 0 = λ ts. All (ActionKept (at_start p)) ts in
-    subst P (sym start) (subst Q (sym actions_are) kept.each)
+    subst P (sym (scope_at_start p vs xs vars_are is)) (subst Q (sym actions_are) kept.each)
 
-pub verdict_is : (p : Program) (s : Shown) (w : WorkingCopy) (guarded : Bool) (vs : List code_var.Var) (actions : List code.Action) (xs : Names) → guarded ≡ p.guard → w ≡ opened s → map var_of vs ≡ p.vars → map action_of actions ≡ p.actions → xs ≡ record { vars = var_names vs; bound = [] } → verdict_from guarded xs w 0 actions ≡ verdict_shown p s
+pub all_placed : (p : Program) (vs : List code_var.Var) (actions : List code.Action) (xs : Names) → map var_of vs ≡ p.vars → xs ≡ record { vars = names_of_vars (map var_of vs); bound = [] } → actions_placed actions (at_start p) ≡ true → actions_placed actions (scope_of xs) ≡ true
+all_placed p vs actions xs vars_are is placed = ap (actions_placed actions) (scope_at_start p vs xs vars_are is) ∙ placed
+
+pub verdict_is : (p : Program) (s : Shown) (w : WorkingCopy) (guarded : Bool) (vs : List code_var.Var) (actions : List code.Action) (xs : Names) → guarded ≡ p.guard → w ≡ opened s → map var_of vs ≡ p.vars → map action_of actions ≡ p.actions → xs ≡ record { vars = names_of_vars (map var_of vs); bound = [] } → verdict_from guarded xs w 0 actions ≡ verdict_shown p s
 verdict_is p s w guarded vs actions xs on at vars_are actions_are is =
-    let names : xs ≡ names_at_start p = is ∙ ap (λ ws. let ys : Names = record { vars = ws; bound = [] } in ys) (names_are vs p vars_are) in
+    let names : xs ≡ names_at_start p = is ∙ ap (λ ws. let ys : Names = record { vars = ws; bound = [] } in ys) (ap names_of_vars vars_are) in
     ap (λ g. actions_verdict g xs w.reached (own_id w) 0 (map action_of actions)) on
     ∙ ap (λ ys. actions_verdict p.guard ys w.reached (own_id w) 0 (map action_of actions)) names
     ∙ ap (λ (v : WorkingCopy). actions_verdict p.guard (names_at_start p) v.reached (own_id v) 0 (map action_of actions)) at

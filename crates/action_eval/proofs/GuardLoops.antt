@@ -10,8 +10,8 @@ use Rattle.model_ops.specs.Sights.{Sight}
 use Rattle.action_tree.specs.declared.expression.Guard as code
 use Rattle.action_tree.specs.Trees.{Guards, guard_then}
 use Rattle.action_tree.specs.Views.{guard_of, guards_of}
-use Rattle.action_tree.specs.Writable.{are_guards}
-use Rattle.action_check.specs.Rules.{GuardsKept}
+use Rattle.action_tree.specs.Writable.{is_guard, are_guards}
+use Rattle.action_check.specs.Rules.{GuardKept, GuardsKept}
 use Rattle.action_tree.specs.Scopes.{Scope}
 use Rattle.action_meaning.specs.Names.{Names}
 use Rattle.action_meaning.specs.Choices.{Asked, count_of_ports}
@@ -31,6 +31,12 @@ EachLeft s xs sc gs i = GuardsLeft (each_value s xs) sc gs i
 
 abbrev pub SomeLeft : Sight → Names → Scope → List code.Guard → ℕ → Type 0
 SomeLeft s xs sc gs i = GuardsLeft (some_value s xs) sc gs i
+
+pub guard_kept : (value : Guards → Result Bool Failure) (sc : Scope) (gs : List code.Guard) (i : ℕ) (g : code.Guard) → GuardsLeft value sc gs i → i < length gs → g ≡ get_or gs i g → GuardKept sc (guard_of g) × (is_guard (guard_of g) ≡ true)
+guard_kept value sc gs i g left l is =
+    let kept = rw (here gs i g l is) at left.kept in
+    let counted = rw (here gs i g l is) at left.counted in
+    (kept.0, (and_parts _ _ counted).0)
 
 guards_told : (value : Guards → Result Bool Failure) (sc : Scope) (gs : List code.Guard) (i : ℕ) (g : code.Guard) (r : Result Bool Failure) → GuardsLeft value sc gs i → i < length gs → g ≡ get_or gs i g → value (guard_then (guard_of g) (guards_of (drop (i + 1) gs))) ≡ r → value (guards_of gs) ≡ r
 guards_told value sc gs i g r left l is e =

@@ -1,4 +1,5 @@
-pub mod Bound
+pub mod AtPlace
+pub mod Placed
 pub mod ChoicesLemmas
 pub mod Thens
 pub mod Evaluated

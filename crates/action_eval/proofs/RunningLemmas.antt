@@ -26,6 +26,8 @@ use Rattle.std.specs.declared.alloc.Global.{Global}
 use Rattle.action_tree.specs.Trees.{Name, Guard, Stmt, put, put_of, let_be, if_then, for_each, Stmts, no_stmts, stmt_then}
 use Rattle.action_tree.specs.Views.{stmt_step, name_of, port_of, sum_of, guard_of, stmt_of, stmts_of}
 use Rattle.action_tree.specs.Writable.{is_stmt, are_stmts}
+use Rattle.action_tree.specs.Places.{stmt_placed, stmts_placed}
+use Rattle.action_tree.proofs.PlacesLemmas.{behind_is}
 use Rattle.action_tree.proofs.Viewed.{stmt_put, stmt_put_of, stmt_let}
 use Rattle.action_check.specs.Rules.{IsNew, StmtKept, StmtsKept}
 use Rattle.action_tree.specs.Scopes.{Scope, scope_with as scope_bind}
@@ -49,6 +51,9 @@ use Rattle.action_check.proofs.FaultLoops.{here}
 stmt_at_for : (w : Word) (set : PortSet) (g : code_guard.Guard) (v : Vec code.Stmt Global) → stmt_of (variant.For w set g v) ≡ for_each (name_of w) set (guard_of g) (stmts_of v.items)
 stmt_at_for w set g v = ap stmt_of (sym (variant.rolls-For w set g v)) ∙ fold-roll-Stmt Stmt stmt_step (Stmt-F.For w set g v)
 
+stmt_at_if : (g : code_guard.Guard) (v w : Vec code.Stmt Global) → stmt_of (variant.If g v w) ≡ if_then (guard_of g) (stmts_of v.items) (stmts_of w.items)
+stmt_at_if g v w = ap stmt_of (sym (variant.rolls-If g v w)) ∙ fold-roll-Stmt Stmt stmt_step (Stmt-F.If g v w)
+
 -- of a statement whose variant is known
 
 pub put_tree : (s : code.Stmt) (w : Word) (a : Sum) → s ≡ variant.Put w a → stmt_of s ≡ put (name_of w) (sum_of a)
@@ -59,6 +64,9 @@ put_of_tree s p w a is = ap stmt_of is ∙ stmt_put_of p w a
 
 pub let_tree : (s : code.Stmt) (w : Word) (p : PortExpr) → s ≡ variant.Let w p → stmt_of s ≡ let_be (name_of w) (port_of p)
 let_tree s w p is = ap stmt_of is ∙ stmt_let w p
+
+pub if_tree : (s : code.Stmt) (g : code_guard.Guard) (v w : Vec code.Stmt Global) → s ≡ variant.If g v w → stmt_of s ≡ if_then (guard_of g) (stmts_of v.items) (stmts_of w.items)
+if_tree s g v w is = ap stmt_of is ∙ stmt_at_if g v w
 
 pub for_tree : (s : code.Stmt) (w : Word) (set : PortSet) (g : code_guard.Guard) (v : Vec code.Stmt Global) → s ≡ variant.For w set g v → stmt_of s ≡ for_each (name_of w) set (guard_of g) (stmts_of v.items)
 for_tree s w set g v is = ap stmt_of is ∙ stmt_at_for w set g v
@@ -193,6 +201,7 @@ stmts_unmoved w v ss xs ys shown is e found =
 -- before the statement at a place: what is left does from here what the whole does from the start
 pub record StmtsLeft (first : WorkingCopy) (start : Names) (ss : List code.Stmt) (k : ℕ) (now : WorkingCopy) (xs : Names) : Type 0 where
   pub kept : StmtsKept (scope_of xs) (stmts_of (drop k ss))
+  pub placed : stmts_placed (drop k ss) (scope_of xs) ≡ true
   pub counted : are_stmts (stmts_of (drop k ss)) ≡ true
   pub told : stmts_effect (own_id first) (stmts_of ss) (moment_of first start) ≡ stmts_effect (own_id first) (stmts_of (drop k ss)) (moment_of now xs)
   pub found : now.found ≡ first.found
@@ -201,6 +210,11 @@ pub stmt_kept : (first : WorkingCopy) (start : Names) (ss : List code.Stmt) (k :
 stmt_kept first start ss k now xs s left l is =
     let kept = rw (here ss k s l is) at left.kept in
     kept.0
+
+pub stmt_in_place : (first : WorkingCopy) (start : Names) (ss : List code.Stmt) (k : ℕ) (now : WorkingCopy) (xs : Names) (s : code.Stmt) → StmtsLeft first start ss k now xs → k < length ss → s ≡ get_or ss k s → stmt_placed s (scope_of xs) ≡ true
+stmt_in_place first start ss k now xs s left l is =
+    let placed = rw (here ss k s l is) at left.placed in
+    (and_parts _ _ placed).0
 
 pub stmt_counted : (first : WorkingCopy) (start : Names) (ss : List code.Stmt) (k : ℕ) (now : WorkingCopy) (xs : Names) (s : code.Stmt) → StmtsLeft first start ss k now xs → k < length ss → s ≡ get_or ss k s → is_stmt (stmt_of s) ≡ true
 stmt_counted first start ss k now xs s left l is =
@@ -216,10 +230,14 @@ stmts_next first start ss k now xs s new ys left l is e found =
     let kept = rw (here ss k s l is) at left.kept in
     let counted = rw (here ss k s l is) at left.counted in
     let told = rw (here ss k s l is) at left.told in
+    let placed = rw (here ss k s l is) at left.placed in
     let P : Scope → Type 0 = λ sc. StmtsKept sc (stmts_of (drop (k + 1) ss)) in
+    let Q : Scope → Type 0 = λ sc. stmts_placed (drop (k + 1) ss) sc ≡ true in
+    let behind = sym (names_behind (own_id now) (stmt_of s) (moment_of now xs) (moment_of new ys) e) in
     let ran : stmt_effect (own_id first) (stmt_of s) (moment_of now xs) ≡ Ok (moment_of new ys) = ap (λ i. stmt_effect i (stmt_of s) (moment_of now xs)) (sym (same_id first now left.found)) ∙ e in
     record {
-      kept = subst P (sym (names_behind (own_id now) (stmt_of s) (moment_of now xs) (moment_of new ys) e)) kept.1;
+      kept = subst P behind kept.1;
+      placed = subst Q (behind_is (scope_of xs) s ∙ behind) (and_parts _ _ placed).1;
       counted = (and_parts _ _ counted).1;
       told = told ∙ ap (λ r. and_then r (λ n. stmts_effect (own_id first) (stmts_of (drop (k + 1) ss)) n)) ran;
       found = found ∙ left.found;

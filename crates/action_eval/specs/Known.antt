@@ -1,27 +1,30 @@
 -- What the code's names in force stand for, and what its working copy lets an evaluation ask.
 -- Private functions alone cite it.
-use Rattle.std.specs.Prelude.{ℕ, List, map, Bool}
+use Rattle.std.specs.Prelude.{ℕ, List, [], map, Bool, Option, None, Some}
+use Rattle.std.specs.Borrow.{Bor}
 use Rattle.amoebot_state.specs.declared.bot.Port.{Port}
 use Rattle.model_ops.specs.Sights.{Sight, sight}
 use Rattle.model_ops.specs.WorkingCopies.{WorkingCopy, own_id}
-use Rattle.action_tree.specs.declared.program.Var.{Var}
+use Rattle.action_tree.specs.declared.word.Word.{Word}
 use Rattle.action_tree.specs.declared.expression.PortSet.{PortSet}
 use Rattle.action_tree.specs.declared.expression.PortSet.TheVariants as port_set
-use Rattle.action_tree.specs.Scopes.{Scope}
+use Rattle.action_tree.specs.Scopes.{Scope, names_of_vars}
+use Rattle.action_tree.specs.Views.{var_of}
 use Rattle.action_meaning.specs.Names.{Names, Bound}
 use Rattle.action_meaning.specs.Choices.{is_true}
 use Rattle.action_eval.specs.declared.names.Names as code
 use Rattle.action_eval.specs.declared.names.Bound as code_bound
 
-abbrev pub bound_of : code_bound.Bound → Bound
-bound_of b = record { text = b.text.bytes; port = b.port }
+abbrev pub text_of : Option (Bor Word) → List ℕ
+text_of None = []
+text_of (Some w) = w.now.text.bytes
 
-abbrev pub var_names : List Var → List (List ℕ)
-var_names vs = map (λ v. v.name.text.bytes) vs
+abbrev pub bound_of : code_bound.Bound → Bound
+bound_of b = record { text = text_of b.name; port = b.port }
 
 -- the names that an evaluation knows, with their ports
 abbrev pub known : code.Names → Names
-known xs = record { vars = var_names xs.vars.now; bound = map bound_of xs.bound.items }
+known xs = record { vars = names_of_vars (map var_of xs.vars.now); bound = map bound_of xs.bound.items }
 
 -- the same without the ports
 abbrev pub scope_of : Names → Scope

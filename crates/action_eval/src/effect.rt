@@ -1,6 +1,7 @@
 //! What statements and movements do to a working copy.
 
 ghost use Rattle.std.specs.Prelude.{◌≡◌, true, IfOk, IfErr, Ok, Err};
+ghost use Rattle.action_tree.specs.Places.{is_at_place, sum_placed, stmt_placed, stmts_placed, move_placed};
 ghost use Rattle.action_tree.specs.Views as view;
 ghost use Rattle.action_tree.specs.Writable.{is_sum, is_stmt, are_stmts, is_move};
 ghost use Rattle.action_check.specs.Rules.{IsVariable, SumKept, StmtKept, StmtsKept, MoveKept};
@@ -25,15 +26,17 @@ use model_ops::Site;
 
 /// Gives a variable the value of a sum: the amoebot's own, or that of the neighbour behind a port. The failure of the sum comes
 /// before those of the write.
-fn put(
+fn put<'p>(
     port: Option<Port>,
-    name: &Word,
-    sum: &Sum,
+    name: &'p Word,
+    sum: &'p Sum,
     site: &mut Site,
-    names: &Names<'_>,
+    names: &Names<'p>,
 ) -> Result<(), Failure>
     requires var { IsVariable (scope_of (known names.now)) (view.name_of name.now) }
+    requires var_placed { is_at_place (scope_of (known names.now)).vars name.now ≡ true }
     requires kept { SumKept (scope_of (known names.now)) (view.sum_of sum.now) }
+    requires placed { sum_placed sum.now (scope_of (known names.now)) ≡ true }
     requires counted { is_sum (view.sum_of sum.now) ≡ true }
     ensures value { result ≡ done
         (put_reached site.old (known names.now) port (view.name_of name.now) (view.sum_of sum.now)) }
@@ -46,8 +49,9 @@ fn put(
 
 /// A statement. The names in force behind it are given back.
 #[cycle(effects)]
-fn run_stmt<'p>(stmt: &Stmt, site: &mut Site, names: Names<'p>) -> Result<Names<'p>, Failure>
+fn run_stmt<'p>(stmt: &'p Stmt, site: &mut Site, names: Names<'p>) -> Result<Names<'p>, Failure>
     requires kept { StmtKept (scope_of (known names)) (view.stmt_of stmt.now) }
+    requires placed { stmt_placed stmt.now (scope_of (known names)) ≡ true }
     requires counted { is_stmt (view.stmt_of stmt.now) ≡ true }
     ensures { HasRun (stmt_effect (own_id site.old) (view.stmt_of stmt.now) (moment_of site.old (known names.entry)))
         known result site.old site.new }
@@ -84,11 +88,12 @@ fn run_stmt<'p>(stmt: &Stmt, site: &mut Site, names: Names<'p>) -> Result<Names<
 /// Statements, one after the other. The names in force behind them are given back.
 #[cycle(effects)]
 fn run_stmts<'p>(
-    stmts: &[Stmt],
+    stmts: &'p [Stmt],
     site: &mut Site,
     mut names: Names<'p>,
 ) -> Result<Names<'p>, Failure>
     requires kept { StmtsKept (scope_of (known names)) (view.stmts_of stmts.now) }
+    requires placed { stmts_placed stmts.now (scope_of (known names)) ≡ true }
     requires counted { are_stmts (view.stmts_of stmts.now) ≡ true }
     ensures { HasRun (stmts_effect (own_id site.old) (view.stmts_of stmts.now) (moment_of site.old (known names.entry)))
         known result site.old site.new }
@@ -101,13 +106,13 @@ fn run_stmts<'p>(
 
 /// `for`: the ports of a set, one after the other. Which ports these are is settled at the start.
 #[cycle(effects)]
-fn run_for(
-    name: &Word,
+fn run_for<'p>(
+    name: &'p Word,
     set: PortSet,
-    stmts: &[Stmt],
-    guard: &Guard,
+    stmts: &'p [Stmt],
+    guard: &'p Guard,
     site: &mut Site,
-    names: &Names<'_>,
+    names: &Names<'p>,
 ) -> Result<(), Failure>
     requires asked { MayAsk (known names.now) name.now guard.now }
     requires run { MayRunUnder (known names.now) name.now stmts.now }
@@ -125,13 +130,13 @@ fn run_for(
 
 /// `for` at one port: where the guard is true in what was reached so far, the statements run.
 #[cycle(effects)]
-fn run_turn(
-    name: &Word,
+fn run_turn<'p>(
+    name: &'p Word,
     port: Port,
-    stmts: &[Stmt],
-    guard: &Guard,
+    stmts: &'p [Stmt],
+    guard: &'p Guard,
     site: &mut Site,
-    names: &Names<'_>,
+    names: &Names<'p>,
 ) -> Result<(), Failure>
     requires asked { MayAsk (known names.now) name.now guard.now }
     requires run { MayRunUnder (known names.now) name.now stmts.now }
@@ -148,8 +153,9 @@ fn run_turn(
 }
 
 /// The movement that an action names, with its port as evaluated.
-fn move_value(moved: &Move, site: &Site, names: &Names<'_>) -> Result<Moved, Failure>
+fn move_value<'p>(moved: &'p Move, site: &Site, names: &Names<'p>) -> Result<Moved, Failure>
     requires kept { MoveKept (scope_of (known names.now)) (view.move_of moved.now) }
+    requires placed { move_placed moved.now (scope_of (known names.now)) ≡ true }
     requires counted { is_move (view.move_of moved.now) ≡ true }
     ensures { result ≡ spec_move_value (sight_of site.now) (known names.now) (view.move_of moved.now) }
 {
@@ -187,17 +193,20 @@ fn make_move(moved: Moved, guard: bool, site: &mut Site) -> Result<(), Failure>
 
 /// The statements of an action, and then its movement, in which what they bound is in force. The movement that was made is given
 /// back.
-pub fn run_action(
-    action: &Action,
+pub fn run_action<'p>(
+    action: &'p Action,
     guard: bool,
     site: &mut Site,
-    names: Names<'_>,
+    names: Names<'p>,
 ) -> Result<Moved, Failure>
     requires body { StmtsKept (scope_of (known names)) (view.stmts_of action.now.body.items) }
     requires body_counted { are_stmts (view.stmts_of action.now.body.items) ≡ true }
     requires moved { MoveKept (scope_after_all (scope_of (known names)) (view.stmts_of action.now.body.items))
         (view.move_of action.now.moved) }
     requires moved_counted { is_move (view.move_of action.now.moved) ≡ true }
+    requires body_placed { stmts_placed action.now.body.items (scope_of (known names)) ≡ true }
+    requires moved_placed { move_placed action.now.moved
+        (scope_after_all (scope_of (known names)) (view.stmts_of action.now.body.items)) ≡ true }
     requires shown { IsShown site.old.found }
     requires opened { site.old ≡ opened site.old.found }
     ensures made { IfOk result (λ moved.

@@ -1,43 +1,44 @@
 //! What names stand for where a part of a program is evaluated.
 
 ghost use Rattle.std.specs.Prelude.{◌≡◌, ◌≤◌, length};
-ghost use Rattle.std.specs.List.{position};
-ghost use Rattle.std.specs.Str.{bytes_eq};
 ghost use Rattle.amoebot_state.specs.Limits.{most_vars};
 ghost use Rattle.action_tree.specs.Limits.{most_names};
 
-use action_tree::{MOST_NAMES, NameText, Var, Word};
-use amoebot_state::{End, Port};
+use action_tree::{MOST_NAMES, Var, Word};
+use amoebot_state::Port;
 use arrayvec::ArrayVec;
 
-/// A name in force, and the port that it stands for.
+/// A name in force, and the port that it stands for. What no name stands in has none.
 #[derive(Clone, Copy, Default)]
-pub struct Bound {
-    pub text: NameText,
+pub struct Bound<'p> {
+    pub name: Option<&'p Word>,
     pub port: Port,
 }
 
 /// The variables in the order of their declaration, and the names in force in the order of the text.
+/// Each name that is used has its place among them, so none is looked for.
 #[derive(Drop)]
 pub struct Names<'p> {
     pub vars: &'p [Var],
-    pub bound: ArrayVec<Bound, MOST_NAMES>,
+    pub bound: ArrayVec<Bound<'p>, MOST_NAMES>,
     ghost few: { length vars.now ≤ most_vars },
 }
 
 impl<'p> Names<'p> {
-    ghost use Rattle.std.specs.Prelude.{◌<◌, []};
-    ghost use Rattle.action_tree.specs.Views.{name_of};
-    ghost use Rattle.action_check.specs.Rules.{IsVariable};
+    ghost use Rattle.std.specs.Prelude.{◌<◌, [], true, map};
+    ghost use Rattle.action_tree.specs.Views.{name_of, var_of};
+    ghost use Rattle.action_tree.specs.Scopes.{names_of_vars};
+    ghost use Rattle.action_tree.specs.Places.{is_at_place};
+    ghost use Rattle.action_check.specs.Rules.{IsInForce, IsVariable};
     ghost use Rattle.action_meaning.specs.Names.{Names as Known, var_number, port_named, bind as spec_bind};
     ghost use Rattle.action_tree.specs.declared.word.Word.{Word};
-    ghost use Rattle.action_eval.specs.Known.{known, var_names, scope_of};
+    ghost use Rattle.action_eval.specs.Known.{known, scope_of};
     ghost use Rattle.action_eval.specs.UnderNames.{IsUnder};
 
     /// The names at the start of an action: no name is in force.
     pub fn new(vars: &'p [Var]) -> Names<'p>
         requires { length vars.now ≤ most_vars }
-        ensures { known result ≡ record { vars = var_names vars.now; bound = [] } }
+        ensures { known result ≡ record { vars = names_of_vars (map var_of vars.now); bound = [] } }
     {
         Names {
             vars,
@@ -47,27 +48,21 @@ impl<'p> Names<'p> {
 
     /// The number of a variable: how many were declared before it.
     pub fn var_number(&self, name: &Word) -> u8
-        requires { IsVariable (scope_of (known self.now)) (name_of name.now) }
+        requires kept { IsVariable (scope_of (known self.now)) (name_of name.now) }
+        requires placed { is_at_place (scope_of (known self.now)).vars name.now ≡ true }
         ensures value { result ≡ var_number (known self.now) (name_of name.now) }
         ensures below { result < most_vars }
     {
-        let place = first_named(self.vars, name).unwrap();
-        place as u8
+        name.place
     }
 
     /// The port that a name in force stands for.
     pub fn port_named(&self, name: &Word) -> Port
+        requires kept { IsInForce (scope_of (known self.now)) (name_of name.now) }
+        requires placed { is_at_place (scope_of (known self.now)).bound name.now ≡ true }
         ensures { result ≡ port_named (known self.now) (name_of name.now) }
     {
-        for bound in self.bound.iter() {
-            if bound.text == name.text {
-                return bound.port;
-            }
-        }
-        Port {
-            end: End::Head,
-            dir: 0,
-        }
+        self.bound[usize::from(name.place)].port
     }
 
     /// The same names again.
@@ -85,13 +80,13 @@ impl<'p> Names<'p> {
     }
 
     /// With one more name in force.
-    pub fn bind(&self, name: &Word, port: Port) -> Names<'p>
+    pub fn bind(&self, name: &'p Word, port: Port) -> Names<'p>
         requires { length (known self.now).bound < most_names }
         ensures { known result ≡ spec_bind (known self.now) (name_of name.now) port }
     {
         let mut names = self.copy();
         names.bound.push(Bound {
-            text: name.text,
+            name: Some(name),
             port,
         });
         names
@@ -106,11 +101,4 @@ impl<'p> Names<'p> {
         let last = self.bound.len() - 1;
         self.bound[last].port = port;
     }
-}
-
-/// The place of the first variable with a name.
-fn first_named(vars: &[Var], name: &Word) -> Option<usize>
-    ensures { result ≡ position (λ v. bytes_eq v.name.text.bytes name.now.text.bytes) vars.now }
-{
-    vars.iter().position(|var| var.name.text == name.text)
 }

@@ -5,6 +5,7 @@ ghost use Rattle.std.specs.List.{All, list_all};
 ghost use Rattle.amoebot_state.specs.Zones.{IsShown};
 ghost use Rattle.model_ops.specs.WorkingCopies.{opened, own_id};
 ghost use Rattle.action_tree.specs.Limits.{most_actions};
+ghost use Rattle.action_tree.specs.Places.{action_placed, actions_placed};
 ghost use Rattle.action_tree.specs.Views as view;
 ghost use Rattle.action_tree.specs.Writable.{is_action};
 ghost use Rattle.action_check.specs.Rules.{ActionKept};
@@ -75,11 +76,12 @@ impl Decider for Runner {
 }
 
 /// The actions in the order of the text: the first whose guard is not false decides.
-fn actions_decide(actions: &[Action], guard: bool, site: Site, names: Names<'_>) -> Verdict
+fn actions_decide<'p>(actions: &'p [Action], guard: bool, site: Site, names: Names<'p>) -> Verdict
     requires shown { IsShown site.found }
     requires opened { site ≡ opened site.found }
     requires few { length actions.now ≤ most_actions }
     requires kept { All (ActionKept (scope_of (known names))) (map view.action_of actions.now) }
+    requires placed { actions_placed actions.now (scope_of (known names)) ≡ true }
     requires counted { list_all is_action (map view.action_of actions.now) ≡ true }
     ensures { result ≡ actions_verdict guard (known names.entry) site.reached (own_id site) 0
         (map view.action_of actions.now) }
@@ -95,16 +97,17 @@ fn actions_decide(actions: &[Action], guard: bool, site: Site, names: Names<'_>)
 }
 
 /// An action whose guard is true: what its statements and its movement do decides, or their failure.
-fn action_decides(
+fn action_decides<'p>(
     number: u8,
-    action: &Action,
+    action: &'p Action,
     guard: bool,
     mut site: Site,
-    names: Names<'_>,
+    names: Names<'p>,
 ) -> Verdict
     requires shown { IsShown site.found }
     requires opened { site ≡ opened site.found }
     requires kept { ActionKept (scope_of (known names)) (view.action_of action.now) }
+    requires placed { action_placed action.now (scope_of (known names)) ≡ true }
     requires counted { is_action (view.action_of action.now) ≡ true }
     ensures { result ≡ verdict_of_result site.reached number
         (action_effect guard (own_id site) (view.action_of action.now) (moment_of site (known names.entry))) }

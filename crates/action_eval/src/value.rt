@@ -1,6 +1,7 @@
 //! The values of guards, sums and ports.
 
 ghost use Rattle.std.specs.Prelude.{◌≡◌, ◌<◌, ◌≤ℤ◌, pos, true, IfOk};
+ghost use Rattle.action_tree.specs.Places.{dirterm_placed, guard_placed, guards_placed, port_placed, term_placed, sum_placed};
 ghost use Rattle.action_tree.specs.Views as view;
 ghost use Rattle.action_tree.specs.Writable.{is_guard, are_guards, is_sum, is_term, is_port as is_port_expr};
 ghost use Rattle.action_check.specs.Limits.{most_literal};
@@ -20,8 +21,9 @@ use model_ops::Site;
 /// The value of a guard.
 #[tactic(auto, using(crate::proofs::Evaluated::value_steps))]
 #[cycle(values)]
-pub fn guard_value(guard: &Guard, site: &Site, names: &Names<'_>) -> Result<bool, Failure>
+pub fn guard_value<'p>(guard: &'p Guard, site: &Site, names: &Names<'p>) -> Result<bool, Failure>
     requires kept { GuardKept (scope_of (known names.now)) (view.guard_of guard.now) }
+    requires placed { guard_placed guard.now (scope_of (known names.now)) ≡ true }
     requires counted { is_guard (view.guard_of guard.now) ≡ true }
     ensures { result ≡ spec.guard_value (sight_of site.now) (known names.now) (view.guard_of guard.now) }
 {
@@ -74,8 +76,9 @@ pub fn guard_value(guard: &Guard, site: &Site, names: &Names<'_>) -> Result<bool
 
 /// `and` stops at the first false element.
 #[cycle(values)]
-fn each_value(guards: &[Guard], site: &Site, names: &Names<'_>) -> Result<bool, Failure>
+fn each_value<'p>(guards: &'p [Guard], site: &Site, names: &Names<'p>) -> Result<bool, Failure>
     requires kept { GuardsKept (scope_of (known names.now)) (view.guards_of guards.now) }
+    requires placed { guards_placed guards.now (scope_of (known names.now)) ≡ true }
     requires counted { are_guards (view.guards_of guards.now) ≡ true }
     ensures { result ≡ spec.each_value (sight_of site.now) (known names.now) (view.guards_of guards.now) }
 {
@@ -91,8 +94,9 @@ fn each_value(guards: &[Guard], site: &Site, names: &Names<'_>) -> Result<bool, 
 
 /// `or` stops at the first true element.
 #[cycle(values)]
-fn some_value(guards: &[Guard], site: &Site, names: &Names<'_>) -> Result<bool, Failure>
+fn some_value<'p>(guards: &'p [Guard], site: &Site, names: &Names<'p>) -> Result<bool, Failure>
     requires kept { GuardsKept (scope_of (known names.now)) (view.guards_of guards.now) }
+    requires placed { guards_placed guards.now (scope_of (known names.now)) ≡ true }
     requires counted { are_guards (view.guards_of guards.now) ≡ true }
     ensures { result ≡ spec.some_value (sight_of site.now) (known names.now) (view.guards_of guards.now) }
 {
@@ -108,12 +112,12 @@ fn some_value(guards: &[Guard], site: &Site, names: &Names<'_>) -> Result<bool, 
 
 /// `any`: the first port of which the guard is not false decides.
 #[cycle(values)]
-fn any_value(
-    name: &Word,
+fn any_value<'p>(
+    name: &'p Word,
     set: PortSet,
-    guard: &Guard,
+    guard: &'p Guard,
     site: &Site,
-    names: &Names<'_>,
+    names: &Names<'p>,
 ) -> Result<bool, Failure>
     requires { MayAsk (known names.now) name.now guard.now }
     ensures { result ≡ any_of_ports (guard_at (sight_of site.now) (known names.now) name.now guard.now)
@@ -134,12 +138,12 @@ fn any_value(
 
 /// `all`: the first port of which the guard is not true decides.
 #[cycle(values)]
-fn all_value(
-    name: &Word,
+fn all_value<'p>(
+    name: &'p Word,
     set: PortSet,
-    guard: &Guard,
+    guard: &'p Guard,
     site: &Site,
-    names: &Names<'_>,
+    names: &Names<'p>,
 ) -> Result<bool, Failure>
     requires { MayAsk (known names.now) name.now guard.now }
     ensures { result ≡ all_of_ports (guard_at (sight_of site.now) (known names.now) name.now guard.now)
@@ -160,12 +164,12 @@ fn all_value(
 
 /// `first`: the first port of which the guard is not false. NoChoice, where there is none.
 #[cycle(values)]
-fn first_value(
-    name: &Word,
+fn first_value<'p>(
+    name: &'p Word,
     set: PortSet,
-    guard: &Guard,
+    guard: &'p Guard,
     site: &Site,
-    names: &Names<'_>,
+    names: &Names<'p>,
 ) -> Result<Port, Failure>
     requires { MayAsk (known names.now) name.now guard.now }
     ensures { result ≡ first_of_ports (guard_at (sight_of site.now) (known names.now) name.now guard.now)
@@ -186,12 +190,12 @@ fn first_value(
 
 /// `count`: of how many ports the guard is true.
 #[cycle(values)]
-fn count_value(
-    name: &Word,
+fn count_value<'p>(
+    name: &'p Word,
     set: PortSet,
-    guard: &Guard,
+    guard: &'p Guard,
     site: &Site,
-    names: &Names<'_>,
+    names: &Names<'p>,
 ) -> Result<u8, Failure>
     requires { MayAsk (known names.now) name.now guard.now }
     ensures value { result ≡ count_of_ports (guard_at (sight_of site.now) (known names.now) name.now guard.now)
@@ -217,8 +221,9 @@ fn count_value(
 /// The value of a sum. It has at most 64 terms, each of at most 65,535 in size, so it stays far within 32 bits.
 #[tactic(auto, using(crate::proofs::Evaluated::value_steps))]
 #[cycle(values)]
-pub fn sum_value(sum: &Sum, site: &Site, names: &Names<'_>) -> Result<i32, Failure>
+pub fn sum_value<'p>(sum: &'p Sum, site: &Site, names: &Names<'p>) -> Result<i32, Failure>
     requires kept { SumKept (scope_of (known names.now)) (view.sum_of sum.now) }
+    requires placed { sum_placed sum.now (scope_of (known names.now)) ≡ true }
     requires counted { is_sum (view.sum_of sum.now) ≡ true }
     ensures { result ≡ spec.sum_value (sight_of site.now) (known names.now) (view.sum_of sum.now) }
 {
@@ -233,8 +238,9 @@ pub fn sum_value(sum: &Sum, site: &Site, names: &Names<'_>) -> Result<i32, Failu
 /// The value of a term without its sign.
 #[tactic(auto, using(crate::proofs::Evaluated::value_steps))]
 #[cycle(values)]
-fn term_value(term: &Term, site: &Site, names: &Names<'_>) -> Result<i32, Failure>
+fn term_value<'p>(term: &'p Term, site: &Site, names: &Names<'p>) -> Result<i32, Failure>
     requires kept { TermKept (scope_of (known names.now)) (view.term_of term.now) }
+    requires placed { term_placed term.now (scope_of (known names.now)) ≡ true }
     requires counted { is_term (view.term_of term.now) ≡ true }
     ensures value { result ≡ spec.term_value (sight_of site.now) (known names.now) (view.term_of term.now) }
     ensures range { IfOk result (λ x. (pos 0 ≤ℤ x) × (x ≤ℤ pos most_literal)) }
@@ -281,8 +287,9 @@ fn term_value(term: &Term, site: &Site, names: &Names<'_>) -> Result<i32, Failur
 /// The pair that a port expression names.
 #[tactic(auto, using(crate::proofs::Evaluated::value_steps))]
 #[cycle(values)]
-pub fn port_value(port: &PortExpr, site: &Site, names: &Names<'_>) -> Result<Port, Failure>
+pub fn port_value<'p>(port: &'p PortExpr, site: &Site, names: &Names<'p>) -> Result<Port, Failure>
     requires kept { PortKept (scope_of (known names.now)) (view.port_of port.now) }
+    requires placed { port_placed port.now (scope_of (known names.now)) ≡ true }
     requires counted { is_port_expr (view.port_of port.now) ≡ true }
     ensures { result ≡ spec.port_value (sight_of site.now) (known names.now) (view.port_of port.now) }
 {
@@ -306,6 +313,7 @@ pub fn port_value(port: &PortExpr, site: &Site, names: &Names<'_>) -> Result<Por
 /// A local direction. NoPort, the value of the variable is none.
 fn direction_value(direction: &DirTerm, site: &Site, names: &Names<'_>) -> Result<u8, Failure>
     requires kept { DirTermKept (scope_of (known names.now)) (view.dirterm_of direction.now) }
+    requires placed { dirterm_placed direction.now (scope_of (known names.now)) ≡ true }
     ensures { result ≡ spec.dirterm_value (sight_of site.now) (known names.now) (view.dirterm_of direction.now) }
 {
     match direction {

@@ -1,5 +1,7 @@
 use Rattle.std.proofs.Common.{◌∙◌, ap, sym, Ok}
 use Rattle.action_tree.proofs.Conditions.{left_of, right_of}
+use Rattle.action_tree.specs.Places.{action_placed}
+use Rattle.action_eval.proofs.Placed.{placed_at}
 use Rattle.action_eval.proofs.ActionLoops.{actions_begin, action_kept, action_formed, actions_next, action_decides, action_fails, actions_over}
 use Rattle.action_eval.proofs.runner.actions_decide.Goals as goal
 
@@ -17,6 +19,12 @@ action_decides-requires-clause-kept c = action_kept _ _ _ _ c.requires.kept c.lo
 
 pub action_decides-requires-clause-counted : goal.action_decides-requires-clause-counted
 action_decides-requires-clause-counted c = action_formed _ _ _ _ _ _ c.loop-number.invariant c.loop-number-test.true c.index-actions-number.is
+
+pub guard_value-requires-clause-placed : goal.guard_value-requires-clause-placed
+guard_value-requires-clause-placed c = left_of _ _ (placed_at action_placed _ _ _ _ c.requires.placed c.loop-number-test.true c.index-actions-number.is)
+
+pub action_decides-requires-clause-placed : goal.action_decides-requires-clause-placed
+action_decides-requires-clause-placed c = placed_at action_placed _ _ _ _ c.requires.placed c.loop-number-test.true c.index-actions-number.is
 
 pub returns-in-Ok-true : goal.returns-in-Ok-true
 returns-in-Ok-true c = c.action_decides.ensures ∙ sym (action_decides _ _ _ _ _ _ c.loop-number.invariant c.loop-number-test.true c.index-actions-number.is (sym c.guard_value.ensures ∙ c.in-Ok-true.is ∙ ap Ok c.in-Ok-true.field-0-test))

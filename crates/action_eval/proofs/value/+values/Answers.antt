@@ -1,3 +1,4 @@
+use denote.Param.Weighed.{at_most}
 use Rattle.std.proofs.Common.{◌≡◌, ◌≤◌, ◌+◌, ◌∙◌, ℕ, length, refl, ap, sym, subst, arith, rules, Ok}
 use Rattle.std.specs.Prelude.{◌+ℤ◌}
 use Rattle.std.specs.Int.RustNames.{FitsSigned}
@@ -13,20 +14,22 @@ use Rattle.action_check.specs.Rules.{SumKept}
 use Rattle.action_tree.proofs.Viewed.{sum_opened, port_turn}
 use Rattle.amoebot_state.specs.declared.bot.End.TheVariants.{Head}
 use Rattle.amoebot_state.specs.Ports.{port}
-use Rattle.action_meaning.specs.Values.{signed}
+use Rattle.action_meaning.specs.Values.{signed, each_value, some_value}
+use Rattle.action_tree.specs.Places.{guard_placed}
 use Rattle.action_meaning.specs.Choices.{any_of_ports, all_of_ports, first_of_ports, count_of_ports}
 use Rattle.action_eval.specs.Known.{known, scope_of, sight_of}
-use Rattle.action_eval.specs.UnderNames.{IsUnder, guard_at}
-use Rattle.action_eval.proofs.UnderNamesLemmas.{has_last, kept_under, asked_at}
+use Rattle.action_eval.specs.UnderNames.{guard_at}
+use Rattle.action_eval.proofs.UnderNamesLemmas.{has_last, kept_under, placed_under, asked_at}
 use Rattle.action_eval.proofs.RunningLemmas.{room_to_bind}
 use Rattle.action_eval.proofs.SumLoops.{TermsLeft, terms_fit, terms_start, term_kept, term_counted, terms_next, terms_fail, terms_over}
 use Rattle.action_eval.proofs.ChoicesLemmas.{and_none, any_goes_on, any_is_true, any_fails, all_goes_on, all_is_false, all_fails, first_goes_on, first_is_here, first_fails}
-use Rattle.action_eval.proofs.GuardLoops.{told_here, told_over, each_next, each_decided, each_fails, each_over, some_next, some_decided, some_fails, some_over, count_next, count_here, count_stops, count_over}
+use Rattle.action_eval.proofs.GuardLoops.{guard_kept, told_here, told_over, each_next, each_decided, each_fails, each_over, some_next, some_decided, some_fails, some_over, count_next, count_here, count_stops, count_over}
 use Rattle.action_eval.proofs.Nodes.{any_tree, all_tree, first_tree, count_tree, member_tree}
 use Rattle.action_tree.proofs.expression.Guard.TheLaws.{the_size}
 use Rattle.action_tree.proofs.expression.PortExpr.TheLaws.{the_size as port_size}
 use Rattle.action_tree.proofs.expression.Term.TheLaws.{the_size as term_size}
 use Rattle.action_eval.proofs.Terms.{of_port_fails, of_port_is, count_fails, count_is}
+use Rattle.action_eval.proofs.Placed.{placed_at, term_is_placed, in_any, in_all, in_first, in_count, in_turned, in_member}
 use Rattle.action_eval.proofs.PartSizes.{guard_in_any, guard_in_all, guard_in_count, guard_in_first, port_in_turn, port_in_term, term_in_sum}
 use Rattle.action_eval.proofs.value.+values.Goals as goal
 use Rattle.action_eval.proofs.value.+values.Goals.{count_value-then-is_one, count_value-else-is_one}
@@ -41,7 +44,7 @@ pub any_value-set_last-requires : goal.any_value-set_last-requires
 any_value-set_last-requires t c = has_last _ _ _ c.loop-port.invariant.0
 
 pub any_value-guard_value-requires : goal.any_value-guard_value-requires
-any_value-guard_value-requires t c = (omega (arith, c.decreases), (kept_under _ _ _ _ _ c.requires (c.set_last.ensures (known c.args.names.now) c.args.name.now c.loop-port.invariant.0), c.requires.counted))
+any_value-guard_value-requires t c = (omega (arith, c.decreases), (kept_under _ _ _ _ _ c.requires (c.set_last.ensures (known c.args.names.now) c.args.name.now c.loop-port.invariant.0), (placed_under _ _ _ _ _ c.requires (c.set_last.ensures (known c.args.names.now) c.args.name.now c.loop-port.invariant.0), c.requires.counted)))
 
 pub all_value-bind-inner-requires : goal.all_value-bind-inner-requires
 all_value-bind-inner-requires t c = room_to_bind (known c.args.names.now) _ c.requires.new
@@ -53,7 +56,7 @@ pub all_value-set_last-requires : goal.all_value-set_last-requires
 all_value-set_last-requires t c = has_last _ _ _ c.loop-port.invariant.0
 
 pub all_value-guard_value-requires : goal.all_value-guard_value-requires
-all_value-guard_value-requires t c = (omega (arith, c.decreases), (kept_under _ _ _ _ _ c.requires (c.set_last.ensures (known c.args.names.now) c.args.name.now c.loop-port.invariant.0), c.requires.counted))
+all_value-guard_value-requires t c = (omega (arith, c.decreases), (kept_under _ _ _ _ _ c.requires (c.set_last.ensures (known c.args.names.now) c.args.name.now c.loop-port.invariant.0), (placed_under _ _ _ _ _ c.requires (c.set_last.ensures (known c.args.names.now) c.args.name.now c.loop-port.invariant.0), c.requires.counted)))
 
 pub first_value-bind-inner-requires : goal.first_value-bind-inner-requires
 first_value-bind-inner-requires t c = room_to_bind (known c.args.names.now) _ c.requires.new
@@ -65,7 +68,7 @@ pub first_value-set_last-requires : goal.first_value-set_last-requires
 first_value-set_last-requires t c = has_last _ _ _ c.loop-port.invariant.0
 
 pub first_value-guard_value-requires : goal.first_value-guard_value-requires
-first_value-guard_value-requires t c = (omega (arith, c.decreases), (kept_under _ _ _ _ _ c.requires (c.set_last.ensures (known c.args.names.now) c.args.name.now c.loop-port.invariant.0), c.requires.counted))
+first_value-guard_value-requires t c = (omega (arith, c.decreases), (kept_under _ _ _ _ _ c.requires (c.set_last.ensures (known c.args.names.now) c.args.name.now c.loop-port.invariant.0), (placed_under _ _ _ _ _ c.requires (c.set_last.ensures (known c.args.names.now) c.args.name.now c.loop-port.invariant.0), c.requires.counted)))
 
 pub count_value-bind-inner-requires : goal.count_value-bind-inner-requires
 count_value-bind-inner-requires t c = room_to_bind (known c.args.names.now) _ c.requires.new
@@ -77,7 +80,7 @@ pub count_value-set_last-requires : goal.count_value-set_last-requires
 count_value-set_last-requires t c = has_last _ _ _ c.loop-port.invariant.0
 
 pub count_value-guard_value-requires : goal.count_value-guard_value-requires
-count_value-guard_value-requires t c = (omega (arith, c.decreases), (kept_under _ _ _ _ _ c.requires (c.set_last.ensures (known c.args.names.now) c.args.name.now c.loop-port.invariant.0), c.requires.counted))
+count_value-guard_value-requires t c = (omega (arith, c.decreases), (kept_under _ _ _ _ _ c.requires (c.set_last.ensures (known c.args.names.now) c.args.name.now c.loop-port.invariant.0), (placed_under _ _ _ _ _ c.requires (c.set_last.ensures (known c.args.names.now) c.args.name.now c.loop-port.invariant.0), c.requires.counted)))
 
 pub any_value-loop-port-preserved : goal.any_value-loop-port-preserved
 any_value-loop-port-preserved t c =
@@ -169,6 +172,14 @@ count_value-returns-clause-value t c =
     let asked = guard_at (sight_of c.args.site.now) (known c.args.names.now) c.args.name.now c.args.guard.now in
     sym (count_over asked _ _ _ c.loop-port.invariant.1 c.loop-port-test.false) ∙ ap (count_of_ports asked) (c.deref-port-items.ensures.0 ∙ c.ports_of-ports.ensures)
 
+pub each_value-guard_value-requires : goal.each_value-guard_value-requires
+each_value-guard_value-requires t c =
+    let sc = scope_of (known c.args.names.now) in
+    let deeper = at_most the_size c.args.guards.now c.loop-guard.guard-index c.guard-item.result c.loop-guard-test.true in
+    let same = ap the_size c.guard-item.is in
+    let kept = guard_kept (each_value (sight_of c.args.site.now) (known c.args.names.now)) sc _ _ _ c.loop-guard.invariant c.loop-guard-test.true c.guard-item.is in
+    (omega (arith, c.decreases, deeper, same), (kept.0, (placed_at guard_placed sc _ _ _ c.requires.placed c.loop-guard-test.true c.guard-item.is, kept.1)))
+
 pub each_value-loop-guard-preserved : goal.each_value-loop-guard-preserved
 each_value-loop-guard-preserved t c = each_next _ _ _ _ _ _ c.loop-guard.invariant c.loop-guard-test.true c.guard-item.is (sym c.guard_value.ensures ∙ c.in-Ok-true.is ∙ ap Ok c.in-Ok-true.field-0-test)
 
@@ -180,6 +191,14 @@ each_value-returns-in-Err t c = sym (each_fails _ _ _ _ _ _ _ c.loop-guard.invar
 
 pub each_value-returns : goal.each_value-returns
 each_value-returns t c = sym (each_over _ _ _ _ _ c.loop-guard.invariant c.loop-guard-test.false)
+
+pub some_value-guard_value-requires : goal.some_value-guard_value-requires
+some_value-guard_value-requires t c =
+    let sc = scope_of (known c.args.names.now) in
+    let deeper = at_most the_size c.args.guards.now c.loop-guard.guard-index c.guard-item.result c.loop-guard-test.true in
+    let same = ap the_size c.guard-item.is in
+    let kept = guard_kept (some_value (sight_of c.args.site.now) (known c.args.names.now)) sc _ _ _ c.loop-guard.invariant c.loop-guard-test.true c.guard-item.is in
+    (omega (arith, c.decreases, deeper, same), (kept.0, (placed_at guard_placed sc _ _ _ c.requires.placed c.loop-guard-test.true c.guard-item.is, kept.1)))
 
 pub some_value-loop-guard-preserved : goal.some_value-loop-guard-preserved
 some_value-loop-guard-preserved t c = some_next _ _ _ _ _ _ c.loop-guard.invariant c.loop-guard-test.true c.guard-item.is (sym c.guard_value.ensures ∙ c.in-Ok-false.is ∙ ap Ok c.in-Ok-false.field-0-test)
@@ -202,7 +221,7 @@ sum_value-loop-part-init t c =
 pub sum_value-term_value-requires : goal.sum_value-term_value-requires
 sum_value-term_value-requires t c =
     let smaller = term_in_sum c.args.sum.now _ c.loop-part.part-index c.part-item.result c.deref-part-items.ensures.value c.loop-part-test.true c.part-item.is in
-    (omega (arith, c.decreases, smaller), (term_kept _ _ _ _ _ _ _ c.loop-part.invariant c.loop-part-test.true c.part-item.is, term_counted _ _ _ _ _ _ _ c.loop-part.invariant c.loop-part-test.true c.part-item.is))
+    (omega (arith, c.decreases, smaller), (term_kept _ _ _ _ _ _ _ c.loop-part.invariant c.loop-part-test.true c.part-item.is, (term_is_placed c.args.sum.now _ _ c.loop-part.part-index c.part-item.result c.deref-part-items.ensures.value c.requires.placed c.loop-part-test.true c.part-item.is, term_counted _ _ _ _ _ _ _ c.loop-part.invariant c.loop-part-test.true c.part-item.is)))
 
 pub sum_value-returns-in_err-value : goal.sum_value-returns-in_err-value
 sum_value-returns-in_err-value t c =
@@ -254,7 +273,7 @@ guard_value-any_value-requires t c =
     let smaller = guard_in_any c.in-Any.name c.in-Any.set c.in-Any.guard in
     let is = ap the_size c.in-Any.is in
     let at = ap the_size c.deref-in-Any.ensures in
-    (omega (arith, c.decreases, smaller, is, at), record { new = kept.0; kept = kept.1; counted = (and_parts _ _ counted).1 })
+    (omega (arith, c.decreases, smaller, is, at), record { new = kept.0; kept = kept.1; placed = in_any _ _ _ _ _ _ c.in-Any.is c.deref-in-Any.ensures c.requires.placed; counted = (and_parts _ _ counted).1 })
 
 pub guard_value-returns-in-Any : goal.guard_value-returns-in-Any
 guard_value-returns-in-Any t c =
@@ -269,7 +288,7 @@ guard_value-all_value-requires t c =
     let smaller = guard_in_all c.in-All.name c.in-All.set c.in-All.guard in
     let is = ap the_size c.in-All.is in
     let at = ap the_size c.deref-in-All.ensures in
-    (omega (arith, c.decreases, smaller, is, at), record { new = kept.0; kept = kept.1; counted = (and_parts _ _ counted).1 })
+    (omega (arith, c.decreases, smaller, is, at), record { new = kept.0; kept = kept.1; placed = in_all _ _ _ _ _ _ c.in-All.is c.deref-in-All.ensures c.requires.placed; counted = (and_parts _ _ counted).1 })
 
 pub guard_value-returns-in-All : goal.guard_value-returns-in-All
 guard_value-returns-in-All t c =
@@ -284,7 +303,7 @@ port_value-first_value-requires t c =
     let smaller = guard_in_first c.in-First.name c.in-First.set c.in-First.guard in
     let is = ap port_size c.in-First.is in
     let at = ap the_size c.deref-in-First.ensures in
-    (omega (arith, c.decreases, smaller, is, at), record { new = kept.0; kept = kept.1; counted = (and_parts _ _ counted).1 })
+    (omega (arith, c.decreases, smaller, is, at), record { new = kept.0; kept = kept.1; placed = in_first _ _ _ _ _ _ c.in-First.is c.deref-in-First.ensures c.requires.placed; counted = (and_parts _ _ counted).1 })
 
 pub port_value-returns-in-First : goal.port_value-returns-in-First
 port_value-returns-in-First t c =
@@ -299,7 +318,7 @@ term_value-count_value-requires t c =
     let smaller = guard_in_count c.in-Count.name c.in-Count.set c.in-Count.guard in
     let is = ap term_size c.in-Count.is in
     let at = ap the_size c.deref.ensures in
-    (omega (arith, c.decreases, smaller, is, at), record { new = kept.0; kept = kept.1; counted = (and_parts _ _ counted).1 })
+    (omega (arith, c.decreases, smaller, is, at), record { new = kept.0; kept = kept.1; placed = in_count _ _ _ _ _ _ c.in-Count.is c.deref.ensures c.requires.placed; counted = (and_parts _ _ counted).1 })
 
 pub port_value-port_value-requires : goal.port_value-port_value-requires
 port_value-port_value-requires t c =
@@ -309,7 +328,7 @@ port_value-port_value-requires t c =
     let smaller = port_in_turn c.in-Turn.port c.in-Turn.number in
     let is = ap port_size c.in-Turn.is in
     let at = ap port_size c.deref.ensures in
-    (omega (arith, c.decreases, smaller, is, at), (kept.0, (and_parts _ _ counted).0))
+    (omega (arith, c.decreases, smaller, is, at), (kept.0, (in_turned _ _ _ _ _ c.in-Turn.is c.deref.ensures c.requires.placed, (and_parts _ _ counted).0)))
 
 pub term_value-port_value-requires : goal.term_value-port_value-requires
 term_value-port_value-requires t c =
@@ -318,7 +337,10 @@ term_value-port_value-requires t c =
     let counted = rw e at c.requires.counted in
     let smaller = port_in_term c.in-Of.port c.in-Of.name in
     let is = ap term_size c.in-Of.is in
-    (omega (arith, c.decreases, smaller, is), (kept.0, (and_parts _ _ counted).0))
+    (omega (arith, c.decreases, smaller, is), (kept.0, ((in_member _ _ _ _ c.in-Of.is c.requires.placed).0, (and_parts _ _ counted).0)))
+
+pub term_value-var_number-requires-in-Of-clause-placed : goal.term_value-var_number-requires-in-Of-clause-placed
+term_value-var_number-requires-in-Of-clause-placed t c = (in_member _ _ _ _ c.in-Of.is c.requires.placed).1
 
 pub term_value-returns-in_err-value-in-Of-clause-value : goal.term_value-returns-in_err-value-in-Of-clause-value
 term_value-returns-in_err-value-in-Of-clause-value t c =

@@ -1,10 +1,14 @@
-use Rattle.std.proofs.Common.{sym, ◌∙◌}
-use Rattle.action_tree.specs.Views.{name_of}
-use Rattle.action_eval.proofs.Bound.{var_there, var_place}
+use Rattle.std.proofs.Common.{map, arith}
+use Rattle.std.proofs.lemmas.Bool.{eqb-true}
+use Rattle.std.proofs.lemmas.List.{length-map}
+use Rattle.action_tree.specs.Scopes.{names_of_vars}
+use Rattle.action_tree.specs.Views.{var_of}
+use Rattle.action_eval.proofs.AtPlace.{place_below}
 use Rattle.action_eval.proofs.names.Names.var_number.Goals as goal
 
-pub unwrap-place-requires : goal.unwrap-place-requires
-unwrap-place-requires c = var_there (name_of c.args.name.now) c.args.self.now.vars.now _ c.requires c.first_named.ensures
-
-pub returns-clause-value : goal.returns-clause-value
-returns-clause-value c = var_place c.args.name.now.text.bytes c.args.self.now.vars.now _ (sym c.unwrap-place.ensures ∙ c.first_named.ensures)
+pub returns-clause-below : goal.returns-clause-below
+returns-clause-below c =
+    let vs = c.args.self.now.vars.now in
+    let e = eqb-true _ _ c.requires.placed in
+    let l = place_below (names_of_vars (map var_of vs)) c.args.name.now.text.bytes c.requires.kept in
+    omega (arith, length-map vs var_of, length-map (map var_of vs) (λ v. v.name.text), c.args.self.now.few)

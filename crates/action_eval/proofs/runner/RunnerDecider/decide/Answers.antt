@@ -3,7 +3,7 @@ use Rattle.std.specs.List.{list_all}
 use Rattle.action_tree.specs.Writable.{is_action}
 use Rattle.action_check.specs.Rules.{ProgramKept}
 use Rattle.action_meaning.specs.Verdicts.{verdict_shown}
-use Rattle.action_eval.proofs.ActionLoops.{actions_formed, all_kept, verdict_is}
+use Rattle.action_eval.proofs.ActionLoops.{actions_formed, all_kept, all_placed, verdict_is}
 use Rattle.action_eval.proofs.runner.RunnerDecider.decide.Goals as goal
 
 pub actions_decide-requires-clause-kept : goal.actions_decide-requires-clause-kept
@@ -13,6 +13,10 @@ actions_decide-requires-clause-kept c =
 
 pub actions_decide-requires-clause-counted : goal.actions_decide-requires-clause-counted
 actions_decide-requires-clause-counted c = ap (list_all is_action) c.actions.ensures.actions ∙ actions_formed c.program-program.result.now c.actions.ensures.writable
+
+pub actions_decide-requires-clause-placed : goal.actions_decide-requires-clause-placed
+actions_decide-requires-clause-placed c =
+    all_placed c.program-program.result.now c.vars.result.now c.actions.result.now _ c.vars.ensures c.new-names.ensures c.actions.ensures.placed
 
 pub returns : goal.returns
 returns c =
