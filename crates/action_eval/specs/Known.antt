@@ -15,12 +15,13 @@ use Rattle.action_meaning.specs.Choices.{is_true}
 use Rattle.action_eval.specs.declared.names.Names as code
 use Rattle.action_eval.specs.declared.names.Bound as code_bound
 
-abbrev pub text_of : Option (Bor Word) → List ℕ
-text_of None = []
-text_of (Some w) = w.now.text.bytes
+-- what no name stands in has no text
+abbrev pub bound_text : Option (Bor Word) → List ℕ
+bound_text None = []
+bound_text (Some w) = w.now.text.bytes
 
 abbrev pub bound_of : code_bound.Bound → Bound
-bound_of b = record { text = text_of b.name; port = b.port }
+bound_of b = record { text = bound_text b.name; port = b.port }
 
 -- the names that an evaluation knows, with their ports
 abbrev pub known : code.Names → Names
