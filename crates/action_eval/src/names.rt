@@ -8,7 +8,7 @@ use action_tree::{MOST_NAMES, Var, Word};
 use amoebot_state::Port;
 use arrayvec::ArrayVec;
 
-/// A name in force, and the port that it stands for. What no name stands in has none.
+/// A name in force, and the port that it stands for. A free place has no name.
 #[derive(Clone, Copy, Default)]
 pub struct Bound<'p> {
     pub name: Option<&'p Word>,
