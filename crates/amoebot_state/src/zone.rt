@@ -1,4 +1,5 @@
 ghost use Rattle.std.specs.Prelude.{◌≡◌, ◌<◌, ◌≤◌, ◌+◌, nat_eq};
+ghost use Rattle.std.specs.List.{list_any};
 ghost use Rattle.tri_lattice.specs.Lattice.{node_eq};
 ghost use Rattle.amoebot_state.specs.Limits.{node_room};
 ghost use Rattle.amoebot_state.specs.Ports.{own_nodes};
@@ -92,7 +93,13 @@ fn push_new_id<const ROOM: usize>(ids: &mut ArrayVec<u16, ROOM>, id: u16)
     ensures value { ids.new.items ≡ with_new nat_eq ids.old.items id }
     ensures few { array_vec_len ids.new ≤ array_vec_len ids.old + 1 }
 {
-    if !ids.as_slice().contains(&id) {
+    if !has_id(ids.as_slice(), id) {
         ids.push(id);
     }
+}
+
+fn has_id(ids: &[u16], id: u16) -> bool
+    ensures { result ≡ list_any (λ j. nat_eq j id) ids.now }
+{
+    ids.iter().any(|other| *other == id)
 }
