@@ -52,7 +52,7 @@ module _ {D : Type 0} where
       pub told : receipt ≡ placed_turn (number_in old) (doing old).turn receipt.place
       pub few : receipt.place < most_turns
 
-    -- it holds its whole zone, and the journal's slot is out, with the journal as it was taken; but for the journal it is as it was
+    -- it holds its whole zone, and the journal's slot is out, with the journal as it was taken; except for the journal it is as it was
     pub record IsTaken (m : Seated D) (c t b : ℕ) (stale : Bool) (w : Config) (pairs : Pairs) (notes : List Note)
         (change : Change) : Type 0 where
       pub alone : m.0.records ≡ own m.0 ∷ []
