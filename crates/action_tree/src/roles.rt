@@ -142,10 +142,6 @@ pub fn role_of(kind: TokenKind, text: &[u8]) -> Role
 
 #[cfg(test)]
 mod tests {
-    ghost use Rattle.std.specs.Prelude.{◌≡◌};
-    ghost use Rattle.action_tree.specs.Roles as roles;
-    ghost use Rattle.action_tree.specs.declared.role.Role.TheVariants as role;
-
     use crate::role::Role;
     use crate::roles::{look_up, word_role};
     use std::test::*;
