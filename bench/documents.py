@@ -15,7 +15,7 @@ MARK = "var m 1\naction mark when m = 0 do m := 1"
 
 def program_of(example):
     """The program of an example, without the words `program` and `end`."""
-    text = (EXAMPLES / f"{example}.amoebot").read_text()
+    text = next(EXAMPLES.rglob(f"{example}.amoebot")).read_text()
     return text[text.index("program\n") + len("program\n"):text.index("\nend\nshape\n")]
 
 
