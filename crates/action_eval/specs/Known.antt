@@ -12,6 +12,9 @@ use Rattle.action_tree.specs.Scopes.{Scope, names_of_vars}
 use Rattle.action_tree.specs.Views.{var_of}
 use Rattle.action_meaning.specs.Names.{Names, Bound}
 use Rattle.action_meaning.specs.Choices.{is_true}
+use Rattle.action_tree.specs.Trees as tree
+use Rattle.action_eval.specs.declared.value.Test.{Test}
+use Rattle.action_eval.specs.declared.value.Test.TheVariants as test
 use Rattle.action_eval.specs.declared.names.Names as code
 use Rattle.action_eval.specs.declared.names.Bound as code_bound
 
@@ -39,3 +42,11 @@ sight_of w = sight w.reached (own_id w)
 abbrev pub is_in_set : Sight → PortSet → Port → Bool
 is_in_set s port_set.Ports p = is_true (s.connects p)
 is_in_set s port_set.Free p = is_true (s.frees p)
+
+-- what the code asks of a port
+abbrev pub asked_by : Test → tree.PortTest
+asked_by test.Linked = tree.linked
+asked_by test.Free = tree.free
+asked_by test.AtHead = tree.at_head
+asked_by test.PeerExpanded = tree.peer_expanded
+asked_by test.PeerHead = tree.peer_head

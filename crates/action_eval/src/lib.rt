@@ -5,6 +5,7 @@ mod effect;
 mod laws;
 mod names;
 mod number;
+mod plain;
 mod port;
 mod runner;
 mod value;

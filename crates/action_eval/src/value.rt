@@ -1,22 +1,36 @@
 //! The values of guards, sums and ports.
+//!
+//! Quantifiers and tests of ports stay out of line: a comparison then makes no room for what they need.
 
 ghost use Rattle.std.specs.Prelude.{◌≡◌, ◌<◌, ◌≤ℤ◌, pos, true, IfOk};
 ghost use Rattle.action_tree.specs.Places.{dirterm_placed, guard_placed, guards_placed, port_placed, term_placed, sum_placed};
+ghost use Rattle.action_tree.specs.Trees as tree;
 ghost use Rattle.action_tree.specs.Views as view;
 ghost use Rattle.action_tree.specs.Writable.{is_guard, are_guards, is_sum, is_term, is_port as is_port_expr};
 ghost use Rattle.action_check.specs.Limits.{most_literal};
 ghost use Rattle.action_check.specs.Rules.{GuardKept, GuardsKept, SumKept, TermKept, PortKept, DirTermKept};
 ghost use Rattle.action_meaning.specs.Choices.{any_of_ports, all_of_ports, first_of_ports, count_of_ports};
 ghost use Rattle.action_meaning.specs.Values as spec;
-ghost use Rattle.action_eval.specs.Known.{known, scope_of, sight_of};
+ghost use Rattle.action_eval.specs.Known.{known, scope_of, sight_of, asked_by};
 ghost use Rattle.action_eval.specs.UnderNames.{MayAsk, guard_at};
 
 use crate::names::Names;
 use crate::number::{compare, signed};
+use crate::plain::plain_comparison;
 use crate::port::{inner_value, is_own_port, ports_of};
 use action_tree::{DirTerm, Guard, PortExpr, PortSet, Sum, Term, Word};
 use amoebot_state::{End, Failure, Port};
 use model_ops::Site;
+
+/// What is asked of one port.
+#[derive(Clone, Copy)]
+enum Test {
+    Linked,
+    Free,
+    AtHead,
+    PeerExpanded,
+    PeerHead,
+}
 
 /// The value of a guard.
 #[tactic(auto, using(crate::proofs::Evaluated::value_steps))]
@@ -40,36 +54,56 @@ pub fn guard_value<'p>(guard: &'p Guard, site: &Site, names: &Names<'p>) -> Resu
         Guard::Or(guards) => some_value(guards, site, names),
         Guard::Any(name, set, guard) => any_value(name, *set, guard, site, names),
         Guard::All(name, set, guard) => all_value(name, *set, guard, site, names),
-        Guard::Linked(port) => {
-            let port = port_value(port, site, names)?;
-            site.connected(port)
-        }
-        Guard::Free(port) => {
-            let port = port_value(port, site, names)?;
-            site.is_free(port)
-        }
-        Guard::AtHead(port) => {
-            let port = port_value(port, site, names)?;
+        Guard::Linked(port) => test_value(Test::Linked, port, site, names),
+        Guard::Free(port) => test_value(Test::Free, port, site, names),
+        Guard::AtHead(port) => test_value(Test::AtHead, port, site, names),
+        Guard::PeerExpanded(port) => test_value(Test::PeerExpanded, port, site, names),
+        Guard::PeerHead(port) => test_value(Test::PeerHead, port, site, names),
+        Guard::Compare(left, cmp, right) => match plain_comparison(left, *cmp, right, site, names) {
+            Some(value) => Ok(value),
+            None => {
+                let left = sum_value(left, site, names)?;
+                let right = sum_value(right, site, names)?;
+                Ok(compare(*cmp, left, right))
+            }
+        },
+    }
+}
+
+/// What is asked of the port that an expression names.
+#[inline(never)]
+#[tactic(auto, using(crate::proofs::Evaluated::value_steps))]
+#[cycle(values)]
+fn test_value<'p>(
+    test: Test,
+    port: &'p PortExpr,
+    site: &Site,
+    names: &Names<'p>,
+) -> Result<bool, Failure>
+    requires kept { PortKept (scope_of (known names.now)) (view.port_of port.now) }
+    requires placed { port_placed port.now (scope_of (known names.now)) ≡ true }
+    requires counted { is_port_expr (view.port_of port.now) ≡ true }
+    ensures { result ≡ spec.guard_value (sight_of site.now) (known names.now)
+        (tree.tested (asked_by test) (view.port_of port.now)) }
+{
+    let port = port_value(port, site, names)?;
+    match test {
+        Test::Linked => site.connected(port),
+        Test::Free => site.is_free(port),
+        Test::AtHead => {
             if is_own_port(port, site) {
                 Ok(port.end == End::Head)
             } else {
                 Err(Failure::NoPort)
             }
         }
-        Guard::PeerExpanded(port) => {
-            let port = port_value(port, site, names)?;
+        Test::PeerExpanded => {
             let seen = site.peer(port)?;
             Ok(seen.expanded)
         }
-        Guard::PeerHead(port) => {
-            let port = port_value(port, site, names)?;
+        Test::PeerHead => {
             let seen = site.peer(port)?;
             Ok(seen.at_head)
-        }
-        Guard::Compare(left, cmp, right) => {
-            let left = sum_value(left, site, names)?;
-            let right = sum_value(right, site, names)?;
-            Ok(compare(*cmp, left, right))
         }
     }
 }
@@ -111,6 +145,7 @@ fn some_value<'p>(guards: &'p [Guard], site: &Site, names: &Names<'p>) -> Result
 }
 
 /// `any`: the first port of which the guard is not false decides.
+#[inline(never)]
 #[cycle(values)]
 fn any_value<'p>(
     name: &'p Word,
@@ -137,6 +172,7 @@ fn any_value<'p>(
 }
 
 /// `all`: the first port of which the guard is not true decides.
+#[inline(never)]
 #[cycle(values)]
 fn all_value<'p>(
     name: &'p Word,
@@ -163,6 +199,7 @@ fn all_value<'p>(
 }
 
 /// `first`: the first port of which the guard is not false. NoChoice, where there is none.
+#[inline(never)]
 #[cycle(values)]
 fn first_value<'p>(
     name: &'p Word,
@@ -189,6 +226,7 @@ fn first_value<'p>(
 }
 
 /// `count`: of how many ports the guard is true.
+#[inline(never)]
 #[cycle(values)]
 fn count_value<'p>(
     name: &'p Word,
