@@ -4,19 +4,19 @@ ghost use Rattle.amoebot_state.specs.Limits.{most_pairs};
 ghost use Rattle.amoebot_state.specs.Patches.{bot_eq};
 ghost use Rattle.model_ops.specs.Members.{changed_body, changed_cells, changed_spot, has_changed, most_members, nodes_of};
 
-use crate::member::{Member, id_found_on, id_on};
+use crate::member::{Member, id_found_on, id_on, ranked};
 use amoebot_state::{Bot, Cell, CellName, Patch};
 use tri_lattice::Node;
 
 /// The cells that differ from what was found, of whose nodes at most one does, which is one of the own ones: that node first,
-/// and then the bodies in the order of the members.
+/// and then the bodies in rising id.
 pub(crate) fn changed_cells(members: &[Member], own: &Member) -> Patch
     requires { length members.now ≤ most_members }
     ensures { result ≡ changed_cells members.now own.entry.now }
 {
     let mut patch = Patch::new();
     push_node(&mut patch, members, own);
-    push_bodies(&mut patch, members);
+    push_bodies(&mut patch, ranked(members).as_slice());
     patch
 }
 

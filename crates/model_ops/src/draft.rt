@@ -192,8 +192,7 @@ impl Draft {
         requires { Reaches (shown_alone self.now.found) (own_id self.now) self.now.reached }
         ensures { result ≡ changes self.now }
     {
-        let place = place_of(self.members.as_slice(), self.own);
-        changed_cells(self.members.as_slice(), &self.members[place])
+        changed_cells(self.members.as_slice(), &self.members[0])
     }
 
     /// The id of the amoebot itself.
@@ -209,7 +208,7 @@ impl Draft {
         ensures value { bot_at self.now.reached (own_id self.now) ≡ Some result.now }
         ensures plain { IsBotInRange result.now }
     {
-        self.bot(self.own)
+        &self.members[0].now
     }
 
     /// The amoebot with an id.
