@@ -1,13 +1,12 @@
 -- The cells of members that have changed are the difference.
-use Rattle.std.proofs.Common.{◌≡◌, ◌≢◌, ◌<◌, ◌+◌, ℕ, List, [], ◌∷◌, ◌++◌, length, get_or, take, Bool, true, false, not, cond, ◌||◌, ap, sym, ◌∙◌, refl, subst, inl, inr, arith, Option, Some, None, nat_eq}
-use Rattle.std.specs.List.{All, filter_map, find}
-use Rattle.std.specs.Prelude.{IsSome, is_some, if◌then◌else◌}
+use Rattle.std.proofs.Common.{◌≡◌, ◌≢◌, ◌<◌, ◌+◌, ℕ, List, [], ◌∷◌, ◌++◌, map, filter, get_or, Bool, true, false, not, cond, ◌||◌, ap, sym, ◌∙◌, refl, subst, inl, inr, arith, Option, Some, None, nat_eq}
+use Rattle.std.specs.List.{All, find}
+use Rattle.std.specs.Prelude.{IsSome, is_some}
 use Rattle.std.specs.Option.{option_map}
-use Rattle.std.proofs.lemmas.Bool.{cases_Bool, both_ways, eqb-true, eq-eqb, false≢true, not-false}
+use Rattle.std.proofs.lemmas.Bool.{cases_Bool, both_ways, eqb-true, eq-eqb, false≢true, not-false, not-true}
 use Rattle.std.proofs.lemmas.Option.{none-some, same_Some}
 use Rattle.std.proofs.Math.Bool.{or-true}
-use Rattle.std.proofs.lemmas.List.{append_assoc, take_more}
-use Rattle.std.proofs.lemmas.List.Elements.{filter_map-append, All-head, All-contains}
+use Rattle.std.proofs.lemmas.List.Elements.{All-head, All-contains}
 use Rattle.amoebot_state.specs.declared.cell.CellName.{CellName}
 use Rattle.amoebot_state.specs.declared.cell.CellName.TheVariants as name
 use Rattle.amoebot_state.specs.declared.cell.Cell.{Cell}
@@ -22,26 +21,20 @@ use Rattle.amoebot_state.specs.Patches.{IsOrdered, bot_eq, id_eq, rank, diff}
 use Rattle.amoebot_state.specs.Zones.{shown, shown_alone}
 use Rattle.amoebot_state.proofs.Differences.{ordered_patch_is_diff}
 use Rattle.amoebot_state.proofs.Shows.{shown_valid}
-use Rattle.amoebot_state.proofs.Members.{Has, here, later, has_cases, not_in_none, Has-append_cases, Has-append_right, Has-filter_map, filter_map_has, All-from_Has, Contains-from_Has}
+use Rattle.amoebot_state.proofs.Members.{Has, here, later, has_cases, not_in_none, Has-append_cases, Has-append_right, Has-map, map_has, Has-filter, filter_has, All-from_Has, Contains-from_Has}
 use Rattle.amoebot_state.proofs.Owns.{own_cases}
 use Rattle.amoebot_state.proofs.Values.{value_same, bot_eq-true, id_eq-true}
-use Rattle.amoebot_state.proofs.RisingLists.{Rising, none, more, Rising-append, Rising-weaker, Rising-filter_map}
+use Rattle.amoebot_state.proofs.RisingLists.{Rising, none, more, Rising-append, Rising-weaker, Rising-map}
 use Rattle.model_ops.specs.declared.member.Member.{Member}
-use Rattle.model_ops.specs.Members.{AreApart, IsSite, ranked, has_id, changed_cells, body_now, config_found, config_now, id_found_on, id_on, has_changed, nodes_of, changed_spot, changed_body}
+use Rattle.model_ops.specs.Members.{AreApart, IsSite, ranked, has_id, changed_cells, body_now, config_found, config_now, id_found_on, id_on, has_changed, nodes_of, changed_spot, is_changed}
 use Rattle.model_ops.proofs.Members.{bot_by, find_first, occupant_of}
-use Rattle.model_ops.proofs.Ranked.{IsBelow, AreRising, ranked_has, Has-ranked, rising_ranked}
+use Rattle.model_ops.proofs.Ranked.{IsBelow, AreRising, ranked_has, Has-ranked, rising_ranked, apart_filter}
 use Rattle.model_ops.proofs.OneNode.{OneNode, one_node}
 use Rattle.model_ops.proofs.KeepsRest.{reached_keeps_rest}
 use Rattle.model_ops.proofs.RisingRanks.{increasing-from_Rising}
 use Rattle.model_ops.specs.Laws.{KeepsRest}
 use Rattle.model_ops.specs.Reaches.{Reaches}
 use Rattle.model_ops.proofs.Told.{bot_is}
-
--- a list that grew by what one more element gives
-pub more_given : {X Y : Type 0} (h : X → Option Y) (xs : List X) (k : ℕ) (d : X) (base now next : List Y) → k < length xs → now ≡ base ++ filter_map h (take k xs) → next ≡ now ++ filter_map h (get_or xs k d ∷ []) → next ≡ base ++ filter_map h (take (k + 1) xs)
-more_given h xs k d base now next lt was grew =
-    grew ∙ ap (λ ys. ys ++ filter_map h (get_or xs k d ∷ [])) was ∙ append_assoc base (filter_map h (take k xs)) (filter_map h (get_or xs k d ∷ []))
-    ∙ ap (λ ys. base ++ ys) (sym (ap (filter_map h) (take_more xs k d lt) ∙ filter_map-append h (take k xs) (get_or xs k d ∷ [])))
 
 -- what the first element that passes tells
 find_told : {X : Type 0} (p : X → Bool) (xs : List X) (x : X) → find p xs ≡ Some x → Has x xs × (p x ≡ true)
@@ -91,12 +84,9 @@ rising_by_id : (ms : List Member) → AreRising ms → Rising (λ (m : Member). 
 rising_by_id [] rising = none
 rising_by_id (m ∷ ms) rising = more (λ n has. below_all m.id ms n rising.0 has) (rising_by_id ms rising.1)
 
--- a member that has changed, and one that has not
-changed_told : (m : Member) (p : CellName × Cell) → changed_body m ≡ Some p → (p ≡ body_now m) × (m.found ≢ m.now)
-changed_told m p = elim (cases_Bool (bot_eq m.found m.now)) as (λ _. changed_body m ≡ Some p → (p ≡ body_now m) × (m.found ≢ m.now)) [
-  | inl t ↦ rw t (λ e. absurd (none-some p e))
-  | inr f ↦ rw f (λ e. (sym (same_Some (body_now m) p e), λ same. both_ways _ f (ap (bot_eq m.found) (sym same) ∙ value_same (Some (cell.Body m.found)))))
-]
+-- a member that has changed
+changed_told : (m : Member) → is_changed m ≡ true → m.found ≢ m.now
+changed_told m t same = both_ways _ (not-true _ t) (ap (bot_eq m.found) (sym same) ∙ value_same (Some (cell.Body m.found)))
 
 module _ (c : Config) (own : ℕ) (ms : List Member) (m : Member) (apart : AreApart ms) (is : find (λ (n : Member). nat_eq n.id own) ms ≡ Some m) (one : OneNode (config_found c ms) own (config_now c ms)) where
   abbrev old : Config
@@ -125,11 +115,11 @@ module _ (c : Config) (own : ℕ) (ms : List Member) (m : Member) (apart : AreAp
       elim one.own [
         | inl t ↦ elim (own_cases m.found one.node (ap (λ (b : Bot). is_own b one.node) (sym own_was) ∙ t)) [
           | inl h ↦ subst P h (later (later here))
-          | inr h ↦ subst P h (later (later (later here)))
+          | inr h ↦ subst P h (later here)
         ]
         | inr t ↦ elim (own_cases m.now one.node (ap (λ (b : Bot). is_own b one.node) (sym own_now) ∙ t)) [
           | inl h ↦ subst P h here
-          | inr h ↦ subst P h (later here)
+          | inr h ↦ subst P h (later (later (later here)))
         ]
       ]
 
@@ -156,7 +146,7 @@ module _ (c : Config) (own : ℕ) (ms : List Member) (m : Member) (apart : AreAp
   spots = changed_spot ms (find (has_changed ms) (nodes_of m))
 
   abbrev bodies : List (CellName × Cell)
-  bodies = filter_map changed_body (ranked ms)
+  bodies = map body_now (ranked (filter is_changed ms))
 
   spot_told : (p : CellName × Cell) (o : Option Node) → find (has_changed ms) (nodes_of m) ≡ o → Has p (changed_spot ms o) → (v : Node) × (has_changed ms v ≡ true) × (p ≡ (name.Spot v, cell.Spot (id_on ms v)))
   spot_told p None e has = absurd (not_in_none has)
@@ -167,9 +157,9 @@ module _ (c : Config) (own : ℕ) (ms : List Member) (m : Member) (apart : AreAp
 
   body_told : (p : CellName × Cell) → Has p bodies → (n : Member) × Has n ms × (p ≡ body_now n) × (n.found ≢ n.now)
   body_told p has =
-      let (n, listed, e) = filter_map_has changed_body (ranked ms) has in
-      let told = changed_told n p e in
-      (n, ranked_has ms n listed, told.0, told.1)
+      let (n, listed, e) = map_has body_now (ranked (filter is_changed ms)) has in
+      let kept = filter_has is_changed ms (ranked_has (filter is_changed ms) n listed) in
+      (n, kept.0, e, changed_told n kept.1)
 
   given : (p : CellName × Cell) → Has p (spots ++ bodies) → value new (cell_of p) ≡ Some (cell_value p)
   given p has =
@@ -201,8 +191,8 @@ module _ (c : Config) (own : ℕ) (ms : List Member) (m : Member) (apart : AreAp
             ∙ ap Some (sym (bot_eq-true n.found n.now same))
             ∙ sym (bot_by (λ (k : Member). k.found) c ms j ∙ ap (option_map (λ (k : Member). k.found)) e)
         | inr f ↦
-            let pair : changed_body n ≡ Some (body_now n) = ap (λ x. if x then None else Some (body_now n)) f in
-            absurd (lacking (name.Body j) (body_now n) lacks (Has-append_right spots (Has-filter_map changed_body (ranked ms) (Has-ranked ms n listed) pair)) (ap name.Body (eqb-true n.id j t)))
+            let pair = Has-map body_now (Has-ranked (filter is_changed ms) n (Has-filter is_changed ms listed (ap not f))) in
+            absurd (lacking (name.Body j) (body_now n) lacks (Has-append_right spots pair) (ap name.Body (eqb-true n.id j t)))
       ]
 
   spot_kept : (v : Node) (o : Option Node) → find (has_changed ms) (nodes_of m) ≡ o → All (λ (q : CellName × Cell). cell_of q ≢ name.Spot v) (changed_spot ms o ++ bodies) → occupant new v ≡ occupant old v
@@ -229,7 +219,7 @@ module _ (c : Config) (own : ℕ) (ms : List Member) (m : Member) (apart : AreAp
   spots_rise (Some v) = more (λ y has. absurd (not_in_none has)) none
 
   bodies_rise : Rising key bodies
-  bodies_rise = Rising-filter_map (λ (n : Member). n.id + 1) key changed_body (λ n p e. ap key (changed_told n p e).0) (Rising-weaker (λ (n : Member). n.id) (λ (n : Member). n.id + 1) (λ n k hn hk lt. omega (arith, lt)) (rising_by_id (ranked ms) (rising_ranked ms apart)))
+  bodies_rise = Rising-map (λ (n : Member). n.id + 1) key body_now (λ n has. refl) (Rising-weaker (λ (n : Member). n.id) (λ (n : Member). n.id + 1) (λ n k hn hk lt. omega (arith, lt)) (rising_by_id (ranked (filter is_changed ms)) (rising_ranked (filter is_changed ms) (apart_filter is_changed ms apart))))
 
   ordered : IsOrdered (spots ++ bodies)
   ordered = increasing-from_Rising key (spots ++ bodies) (Rising-append key (spots_rise (find (has_changed ms) (nodes_of m))) bodies_rise (λ p q hp hq.

@@ -1,5 +1,5 @@
 -- How members are put in rising id.
-use Rattle.std.proofs.Common.{◌≡◌, ◌⊎◌, ◌<◌, ◌≤◌, ◌+◌, ℕ, suc, List, [], ◌∷◌, length, Bool, true, false, not, cond, ◌||◌, ap, ◌∙◌, refl, subst, inl, inr, arith, Some, None, nat_eq, nat_lt}
+use Rattle.std.proofs.Common.{◌≡◌, ◌⊎◌, ◌<◌, ◌≤◌, ◌+◌, ℕ, suc, List, [], ◌∷◌, length, filter, Bool, true, false, not, cond, ◌||◌, ap, ◌∙◌, refl, subst, inl, inr, arith, Some, None, nat_eq, nat_lt}
 use Rattle.std.specs.List.{fold, insert, position, position_or_len}
 use Rattle.std.specs.Prelude.{unwrap_or}
 use Rattle.std.proofs.lemmas.Bool.{cases_Bool, cases_eq, cases_lt, both_ways, eqb-true, eq-eqb, lt-ltb, le-ltb, ltb-true, ltb-false, or_parts}
@@ -139,6 +139,19 @@ Has-ranked ms n has = Has-taken_up_new ms [] n has
 pub rising_ranked : (ms : List Member) → AreApart ms → AreRising (ranked ms)
 rising_ranked ms apart = rising_taken_up ms [] apart (λ i t. refl) tt
 
-pub length-taken_up : (ms acc : List Member) → length (fold with_member acc ms) ≡ length acc + length ms
-length-taken_up [] acc = omega arith
-length-taken_up (m ∷ ms) acc = omega (arith, length-taken_up ms (with_member acc m), length-with_member acc m)
+-- some of several members
+has_filter : (p : Member → Bool) (ms : List Member) (i : ℕ) → has_id ms i ≡ false → has_id (filter p ms) i ≡ false
+has_filter p [] i new = refl
+has_filter p (m ∷ ms) i new =
+    let parts = or_parts (nat_eq m.id i) (has_id ms i) new in
+    elim (cases_Bool (p m)) [
+      | inl t ↦ rw t (ap (λ b. b || has_id (filter p ms) i) parts.0 ∙ has_filter p ms i parts.1)
+      | inr f ↦ rw f (has_filter p ms i parts.1)
+    ]
+
+pub apart_filter : (p : Member → Bool) (ms : List Member) → AreApart ms → AreApart (filter p ms)
+apart_filter p [] apart = tt
+apart_filter p (m ∷ ms) apart = elim (cases_Bool (p m)) [
+  | inl t ↦ rw t (has_filter p ms m.id apart.0, apart_filter p ms apart.1)
+  | inr f ↦ rw f (apart_filter p ms apart.1)
+]

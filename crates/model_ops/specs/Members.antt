@@ -1,5 +1,5 @@
 -- The amoebots of a neighbourhood, each as it was found and as it is now, as a site keeps them. No public clause cites these.
-use Rattle.std.specs.Prelude.{◌≡◌, ℕ, ◌≤◌, List, [], ◌∷◌, ◌++◌, IsSome, length, map, Bool, false, not, if◌then◌else◌, nat_eq, nat_lt, min}
+use Rattle.std.specs.Prelude.{◌≡◌, ℕ, ◌≤◌, List, [], ◌∷◌, ◌++◌, IsSome, length, map, filter, Bool, false, not, if◌then◌else◌, nat_eq, nat_lt, min}
 use Rattle.std.specs.List.{All, filter_map, find, fold, list_any}
 use Rattle.std.specs.declared.option.Option.{Option}
 use Rattle.std.specs.declared.option.Option.TheVariants.{Some, None}
@@ -115,17 +115,17 @@ has_changed ms v = not (id_eq (id_found_on ms v) (id_on ms v))
 
 -- the nodes of a member, as it is now and as it was found
 abbrev pub nodes_of : Member → List Node
-nodes_of m = m.now.head ∷ m.now.tail ∷ m.found.head ∷ m.found.tail ∷ []
+nodes_of m = m.now.head ∷ m.found.tail ∷ m.found.head ∷ m.now.tail ∷ []
 
 -- a node with its new occupant, if there is one
 abbrev pub changed_spot : List Member → Option Node → List (CellName × Cell)
 changed_spot ms None = []
 changed_spot ms (Some v) = (name.Spot v, cell.Spot (id_on ms v)) ∷ []
 
--- a member's body with its new value, where it has changed
-abbrev pub changed_body : Member → Option (CellName × Cell)
-changed_body m = if bot_eq m.found m.now then None else Some (body_now m)
+-- the member has another amoebot than it was found with
+abbrev pub is_changed : Member → Bool
+is_changed m = not (bot_eq m.found m.now)
 
 -- the first node of a member whose occupant has changed, and then the bodies that have, in rising id
 abbrev pub changed_cells : List Member → Member → List (CellName × Cell)
-changed_cells ms m = changed_spot ms (find (has_changed ms) (nodes_of m)) ++ filter_map changed_body (ranked ms)
+changed_cells ms m = changed_spot ms (find (has_changed ms) (nodes_of m)) ++ map body_now (ranked (filter is_changed ms))

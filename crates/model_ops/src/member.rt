@@ -1,8 +1,8 @@
-ghost use Rattle.std.specs.Prelude.{◌≡◌, ◌<◌, ◌≤◌, ◌+◌, IsTrue, Some, length, nat_eq, nat_lt};
+ghost use Rattle.std.specs.Prelude.{◌≡◌, ◌<◌, ◌+◌, IsTrue, Some, nat_eq, nat_lt};
 ghost use Rattle.std.specs.List.{position};
 ghost use Rattle.amoebot_state.specs.Zones.{IsShown};
 ghost use Rattle.arrayvec.specs.ArrayVec.{array_vec_len};
-ghost use Rattle.model_ops.specs.Members.{gathered, has_id, id_found_on, id_on, lower, ranked, with_member};
+ghost use Rattle.model_ops.specs.Members.{gathered, has_id, id_found_on, id_on, lower, with_member};
 
 use amoebot_state::{Bot, Cell, CellName, Found};
 use arrayvec::ArrayVec;
@@ -77,26 +77,13 @@ fn place_above(members: &[Member], id: u16) -> Option<usize>
 }
 
 /// Adds a member at its place in rising id.
-fn add(members: &mut ArrayVec<Member, ROOM>, member: &Member)
+pub(crate) fn add(members: &mut ArrayVec<Member, ROOM>, member: &Member)
     requires { array_vec_len members.old < ROOM }
     ensures value { members.new.items ≡ with_member members.old.items member.entry.now }
     ensures longer { array_vec_len members.new ≡ array_vec_len members.old + 1 }
 {
     let place = place_above(members.as_slice(), member.id).unwrap_or(members.len());
     members.insert(place, *member);
-}
-
-/// The same members in rising id.
-pub(crate) fn ranked(members: &[Member]) -> ArrayVec<Member, ROOM>
-    requires { length members.now ≤ ROOM }
-    ensures value { result.items ≡ ranked members.now }
-    ensures few { length result.items ≤ ROOM }
-{
-    let mut ranked = ArrayVec::new();
-    for member in members {
-        add(&mut ranked, member);
-    }
-    ranked
 }
 
 /// The amoebots of a neighbourhood, which are those of the bodies among its cells, in the order of the cells.

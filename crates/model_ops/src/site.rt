@@ -145,7 +145,9 @@ impl Site {
         requires { Reaches (shown_alone self.now.found) (own_id self.now) self.now.reached }
         ensures { result ≡ changes self.now }
     {
-        self.draft.patch()
+        let mut patch = Patch::new();
+        self.draft.push_changes(&mut patch);
+        patch
     }
 
     /// The amoebot itself, as it is now.
