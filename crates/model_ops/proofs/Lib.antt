@@ -23,7 +23,8 @@ pub mod ActsDecide
 pub mod Members
 pub mod BehindsLemmas
 pub mod Answered
-pub mod Gathered
+pub mod Ranked
+pub mod Lowest
 pub mod Opened
 pub mod OneNode
 pub mod PatchLemmas

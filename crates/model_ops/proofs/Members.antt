@@ -1,4 +1,4 @@
--- Look-ups among members in rising id, and the write of one.
+-- Look-ups among members, and the write of one.
 use Rattle.std.proofs.Common.{◌≡◌, ◌≢◌, ◌<◌, ◌≤◌, ◌+◌, ℕ, zero, suc, List, [], ◌∷◌, length, map, get_or, set, Bool, true, false, cond, ◌||◌, ap, sym, ◌∙◌, refl, subst, inl, inr, arith, Option, Some, None, nat_eq}
 use Rattle.std.specs.Prelude.{is_some, slice_get}
 use Rattle.std.proofs.lemmas.List.Elements.{All-set}
@@ -7,7 +7,7 @@ use Rattle.std.proofs.lemmas.List.Folds.{find_at}
 use Rattle.std.proofs.lemmas.Option.{cond_some, slice_get-get_or}
 use Rattle.std.specs.List.{find, list_any, position, position_or_len}
 use Rattle.std.specs.Option.{option_map, option_or}
-use Rattle.std.proofs.lemmas.Bool.{false≢true, cases_Bool, cases_eq, cases_lt, both_ways, eqb-true, eq-eqb, lt-ltb, le-ltb}
+use Rattle.std.proofs.lemmas.Bool.{false≢true, cases_Bool, cases_eq, cases_lt, both_ways, eqb-true, eq-eqb, lt-ltb, le-ltb, or_parts}
 use Rattle.std.proofs.lemmas.List.{length-set, get_or-set_same, get_or-set_other, ext_get_or}
 use Rattle.std.proofs.lemmas.List.Quantifiers.{position-Some}
 use Rattle.tri_lattice.specs.declared.node.Node.{Node}
@@ -27,7 +27,7 @@ use Rattle.arrayvec.proofs.ArrayVecLemmas.{items-with_items}
 use Rattle.amoebot_state.specs.Refusals.{IsBotInRange}
 use Rattle.model_ops.specs.declared.member.Member.{Member}
 use Rattle.model_ops.specs.WorkingCopies.{WorkingCopy}
-use Rattle.model_ops.specs.Members.{IsBelow, AreRising, IsSite, has_id, body_by, config_by, id_by, body_found, body_now, config_found, config_now, copy_of}
+use Rattle.model_ops.specs.Members.{AreApart, IsFirst, IsSite, has_id, lower, body_by, config_by, id_by, body_found, body_now, config_found, config_now, copy_of}
 use Rattle.model_ops.proofs.Becomes.{same_ids}
 
 -- the member with another amoebot
@@ -55,42 +55,57 @@ position_cons p x xs = elim (cases_Bool (p x)) [
     one_more : (n : ℕ) → 1 + n ≡ suc n
     one_more n = omega arith
 
-over : (t : Bool) (i : ℕ) (o : Option ℕ) → option_map suc (cond t (Some i) o) ≡ cond t (Some (suc i)) (option_map suc o)
-over true i o = refl
+-- the lower of two ids that are each one higher
+over : (t : Bool) (i : ℕ) (o : Option ℕ) → option_map suc (cond t (Some (lower i o)) o) ≡ cond t (Some (lower (suc i) (option_map suc o))) (option_map suc o)
+over true i None = refl
+over true i (Some j) = ap Some (omega arith)
 over false i o = refl
 
--- the first place that passes where one more is put below all that are there
-position_with_id : (p : Option Bot → Bool) → p None ≡ false → (os : List (Option Bot)) (i : ℕ) (b : Bot) → ((k : ℕ) → k ≤ i → get_or os k None ≡ None) → position p (with_id os i b) ≡ cond (p (Some b)) (Some i) (position p os)
-position_with_id p none [] zero b below = position_cons p (Some b) []
-position_with_id p none [] (suc i) b below = position_cons p None (with_id [] i b) ∙ ap (λ t. cond t (Some 0) (option_map suc (position p (with_id [] i b)))) none ∙ ap (option_map suc) (position_with_id p none [] i b (λ k le. refl)) ∙ over (p (Some b)) i None
-position_with_id p none (o ∷ os) zero b below =
+lower_zero : (o : Option ℕ) → lower 0 o ≡ 0
+lower_zero None = refl
+lower_zero (Some j) = omega arith
+
+above_first : (t : Bool) (i : ℕ) → Some 0 ≡ cond t (Some (lower (suc i) (Some 0))) (Some 0)
+above_first true i = ap Some (omega arith)
+above_first false i = refl
+
+-- the first place that passes where one more is put at a place where nobody was
+position_with_id : (p : Option Bot → Bool) → p None ≡ false → (os : List (Option Bot)) (i : ℕ) (b : Bot) → get_or os i None ≡ None → position p (with_id os i b) ≡ cond (p (Some b)) (Some (lower i (position p os))) (position p os)
+position_with_id p none [] zero b free = position_cons p (Some b) []
+position_with_id p none [] (suc i) b free = position_cons p None (with_id [] i b) ∙ ap (λ t. cond t (Some 0) (option_map suc (position p (with_id [] i b)))) none ∙ ap (option_map suc) (position_with_id p none [] i b refl) ∙ over (p (Some b)) i None
+position_with_id p none (o ∷ os) zero b free =
+    let next : position p (o ∷ os) ≡ option_map suc (position p os) = position_cons p o os ∙ ap (λ t. cond t (Some 0) (option_map suc (position p os))) (ap p free ∙ none) in
     position_cons p (Some b) os
-    ∙ ap (cond (p (Some b)) (Some 0)) (sym (position_cons p o os ∙ ap (λ t. cond t (Some 0) (option_map suc (position p os))) (ap p (below 0 (omega arith)) ∙ none)))
-position_with_id p none (o ∷ os) (suc i) b below =
-    position_cons p o (with_id os i b)
-    ∙ ap (λ t. cond t (Some 0) (option_map suc (position p (with_id os i b)))) (ap p (below 0 (omega arith)) ∙ none)
-    ∙ ap (option_map suc) (position_with_id p none os i b (λ k le. below (suc k) (omega arith)))
-    ∙ over (p (Some b)) i (position p os)
-    ∙ ap (cond (p (Some b)) (Some (suc i))) (sym (position_cons p o os ∙ ap (λ t. cond t (Some 0) (option_map suc (position p os))) (ap p (below 0 (omega arith)) ∙ none)))
-
--- below all members there is nobody
-nobody_below : (part : Member → Bot) (ms : List Member) (i k : ℕ) → IsBelow i ms → k ≤ i → body_in (map (body_by part) ms) k ≡ None
-nobody_below part [] i k below le = refl
-nobody_below part (m ∷ ms) i k below le = elim (cases_Bool (nat_eq m.id k)) [
-  | inl t ↦ let e = eqb-true m.id k t in absurd (omega (arith, below.0))
-  | inr f ↦ rw f (nobody_below part ms i k below.1 le)
-]
-
--- the occupant of a node is the first member that has it
-pub occupant_of : (part : Member → Bot) (c : Config) (ms : List Member) (v : Node) → AreRising ms → occupant (config_by part c ms) v ≡ id_by part ms v
-occupant_of part c [] v rising = refl
-occupant_of part c (m ∷ ms) v rising =
-    let rest = map (body_by part) ms in
-    position_with_id (λ o. covers o v) refl (spread rest) m.id (part m) (λ k le. spread_at rest k ∙ nobody_below part ms m.id k rising.0 le)
-    ∙ elim (cases_Bool (is_own (part m) v)) [
-      | inl t ↦ rw t refl
-      | inr f ↦ rw f (occupant_of part c ms v rising.1)
+    ∙ ap (cond (p (Some b)) (Some 0)) (sym next)
+    ∙ ap (λ n. cond (p (Some b)) (Some n) (position p (o ∷ os))) (sym (lower_zero (position p (o ∷ os))))
+position_with_id p none (o ∷ os) (suc i) b free =
+    position_cons p o (with_id os i b) ∙ elim (cases_Bool (p o)) [
+      | inl t ↦
+          let first : position p (o ∷ os) ≡ Some 0 = position_cons p o os ∙ ap (λ u. cond u (Some 0) (option_map suc (position p os))) t in
+          ap (λ u. cond u (Some 0) (option_map suc (position p (with_id os i b)))) t ∙ above_first (p (Some b)) i
+          ∙ ap (λ q. cond (p (Some b)) (Some (lower (suc i) q)) q) (sym first)
+      | inr f ↦
+          let next : position p (o ∷ os) ≡ option_map suc (position p os) = position_cons p o os ∙ ap (λ u. cond u (Some 0) (option_map suc (position p os))) f in
+          ap (λ u. cond u (Some 0) (option_map suc (position p (with_id os i b)))) f
+          ∙ ap (option_map suc) (position_with_id p none os i b free)
+          ∙ over (p (Some b)) i (position p os)
+          ∙ ap (λ q. cond (p (Some b)) (Some (lower (suc i) q)) q) (sym next)
     ]
+
+-- an id that no member has is nobody's
+nobody_else : (part : Member → Bot) (ms : List Member) (i : ℕ) → has_id ms i ≡ false → body_in (map (body_by part) ms) i ≡ None
+nobody_else part [] i new = refl
+nobody_else part (m ∷ ms) i new =
+    let parts = or_parts (nat_eq m.id i) (has_id ms i) new in
+    rw parts.0 (nobody_else part ms i parts.1)
+
+-- the occupant of a node is the lowest id of the members that have it
+pub occupant_of : (part : Member → Bot) (c : Config) (ms : List Member) (v : Node) → AreApart ms → occupant (config_by part c ms) v ≡ id_by part ms v
+occupant_of part c [] v apart = refl
+occupant_of part c (m ∷ ms) v apart =
+    let rest = map (body_by part) ms in
+    position_with_id (λ o. covers o v) refl (spread rest) m.id (part m) (spread_at rest m.id ∙ nobody_else part ms m.id apart.0)
+    ∙ ap (λ o. cond (is_own (part m) v) (Some (lower m.id o)) o) (occupant_of part c ms v apart.1)
 
 -- the list is as long whatever the amoebots are
 length-with_id : (os qs : List (Option Bot)) (i : ℕ) (b d : Bot) → length os ≡ length qs → length (with_id os i b) ≡ length (with_id qs i d)
@@ -166,6 +181,15 @@ bot_by part c ms i = spread_at (map (body_by part) ms) i ∙ body_of part ms i
 pub bot_placed : (part : Member → Bot) (c : Config) (ms : List Member) (i k : ℕ) (d : Member) → position (λ (m : Member). nat_eq m.id i) ms ≡ Some k → bot_at (config_by part c ms) i ≡ Some (part (get_or ms k d))
 bot_placed part c ms i k d found = bot_by part c ms i ∙ ap (option_map part) (find_placed (λ (m : Member). nat_eq m.id i) ms k d found)
 
+-- the amoebot itself is the first member
+pub first_there : (i : ℕ) (ms : List Member) → IsFirst i ms → 0 < length ms
+first_there i [] first = absurd first
+first_there i (m ∷ ms) first = omega arith
+
+pub find_first : (i : ℕ) (ms : List Member) (d : Member) → IsFirst i ms → find (λ (m : Member). nat_eq m.id i) ms ≡ Some (get_or ms 0 d)
+find_first i [] d first = absurd first
+find_first i (m ∷ ms) d first = ap (λ t. cond t (Some m) (find (λ (n : Member). nat_eq n.id i) ms)) (eq-eqb m.id i first)
+
 -- an element that passes has a place
 pub any_placed : {X : Type 0} (p : X → Bool) (xs : List X) → list_any p xs ≡ true → is_some (position p xs) ≡ true
 any_placed p [] = λ t. absurd (false≢true t)
@@ -189,16 +213,21 @@ has_bot part c ms i = ap is_some (bot_by part c ms i) ∙ found_any part ms
 pub member_there : (c : Config) (own : ℕ) (ms : List Member) (w : WorkingCopy) (i : ℕ) → copy_of c own ms ≡ w → is_some (bot_at w.reached i) ≡ true → has_id ms i ≡ true
 member_there c own ms w i is there = sym (has_bot (λ (m : Member). m.now) c ms i) ∙ ap (λ (x : WorkingCopy). is_some (bot_at x.reached i)) is ∙ there
 
--- what stands below all members stands below them when one of them has another amoebot
-below_with_now : (ms : List Member) (i k : ℕ) (d : Member) (b : Bot) → IsBelow i ms → IsBelow i (set ms k (with_now (get_or ms k d) b))
-below_with_now [] i k d b below = below
-below_with_now (m ∷ ms) i zero d b below = below
-below_with_now (m ∷ ms) i (suc k) d b below = (below.0, below_with_now ms i k d b below.1)
+-- another amoebot of a member leaves the ids
+has_with_now : (ms : List Member) (k : ℕ) (d : Member) (b : Bot) (i : ℕ) → has_id (set ms k (with_now (get_or ms k d) b)) i ≡ has_id ms i
+has_with_now [] k d b i = refl
+has_with_now (m ∷ ms) zero d b i = refl
+has_with_now (m ∷ ms) (suc k) d b i = ap (λ t. nat_eq m.id i || t) (has_with_now ms k d b i)
 
-rising_with_now : (ms : List Member) (k : ℕ) (d : Member) (b : Bot) → AreRising ms → AreRising (set ms k (with_now (get_or ms k d) b))
-rising_with_now [] k d b rising = rising
-rising_with_now (m ∷ ms) zero d b rising = rising
-rising_with_now (m ∷ ms) (suc k) d b rising = (below_with_now ms m.id k d b rising.0, rising_with_now ms k d b rising.1)
+apart_with_now : (ms : List Member) (k : ℕ) (d : Member) (b : Bot) → AreApart ms → AreApart (set ms k (with_now (get_or ms k d) b))
+apart_with_now [] k d b apart = apart
+apart_with_now (m ∷ ms) zero d b apart = apart
+apart_with_now (m ∷ ms) (suc k) d b apart = (has_with_now ms k d b m.id ∙ apart.0, apart_with_now ms k d b apart.1)
+
+first_with_now : (own : ℕ) (ms : List Member) (k : ℕ) (d : Member) (b : Bot) → IsFirst own ms → IsFirst own (set ms k (with_now (get_or ms k d) b))
+first_with_now own [] k d b first = first
+first_with_now own (m ∷ ms) zero d b first = first
+first_with_now own (m ∷ ms) (suc k) d b first = first
 
 -- what was found stays
 found_with_now : (c : Config) (ms : List Member) (k : ℕ) (d : Member) (b : Bot) → config_found c (set ms k (with_now (get_or ms k d) b)) ≡ config_found c ms
@@ -211,7 +240,8 @@ module _ (c : Config) (own : ℕ) (ms : List Member) (i k : ℕ) (d : Member) (b
   site_with_now is plain =
       let same = sym (found_with_now c ms k d b) in
       record {
-        rising = rising_with_now ms k d b is.rising;
+        apart = apart_with_now ms k d b is.apart;
+        first = first_with_now own ms k d b is.first;
         plain = All-set (λ (m : Member). IsBotInRange m.now) ms k (with_now (get_or ms k d) b) plain is.plain;
         there = ap (λ (e : Config). is_some (bot_at e own)) (set_bot_of c ms i k d b found) ∙ same_ids (config_now c ms) i (get_or ms k d).now b (bot_placed (λ (m : Member). m.now) c ms i k d found) own ∙ is.there;
         few = subst (λ n. n ≤ 9) (sym (length-set ms k (with_now (get_or ms k d) b))) is.few;

@@ -1,12 +1,12 @@
 -- The cells of members that have changed are the difference.
-use Rattle.std.proofs.Common.{◌≡◌, ◌≢◌, ◌<◌, ◌+◌, ℕ, List, [], ◌∷◌, ◌++◌, length, get_or, take, Bool, true, false, not, cond, ap, sym, ◌∙◌, refl, subst, inl, inr, arith, Option, Some, None, nat_eq}
-use Rattle.std.specs.List.{All, filter_map, find, position}
-use Rattle.std.specs.Prelude.{IsSome, is_some, if◌then◌else◌}
+use Rattle.std.proofs.Common.{◌≡◌, ◌≢◌, ◌<◌, ◌+◌, ℕ, List, [], ◌∷◌, ◌++◌, map, filter, get_or, Bool, true, false, not, cond, ◌||◌, ap, sym, ◌∙◌, refl, subst, inl, inr, arith, Option, Some, None, nat_eq}
+use Rattle.std.specs.List.{All, find}
+use Rattle.std.specs.Prelude.{IsSome, is_some}
 use Rattle.std.specs.Option.{option_map}
-use Rattle.std.proofs.lemmas.Bool.{cases_Bool, both_ways, eqb-true, eq-eqb, false≢true, not-false}
+use Rattle.std.proofs.lemmas.Bool.{cases_Bool, both_ways, eqb-true, eq-eqb, false≢true, not-false, not-true}
 use Rattle.std.proofs.lemmas.Option.{none-some, same_Some}
-use Rattle.std.proofs.lemmas.List.{append_assoc, take_more}
-use Rattle.std.proofs.lemmas.List.Elements.{filter_map-append, All-head, All-contains}
+use Rattle.std.proofs.Math.Bool.{or-true}
+use Rattle.std.proofs.lemmas.List.Elements.{All-head, All-contains}
 use Rattle.amoebot_state.specs.declared.cell.CellName.{CellName}
 use Rattle.amoebot_state.specs.declared.cell.CellName.TheVariants as name
 use Rattle.amoebot_state.specs.declared.cell.Cell.{Cell}
@@ -21,25 +21,20 @@ use Rattle.amoebot_state.specs.Patches.{IsOrdered, bot_eq, id_eq, rank, diff}
 use Rattle.amoebot_state.specs.Zones.{shown, shown_alone}
 use Rattle.amoebot_state.proofs.Differences.{ordered_patch_is_diff}
 use Rattle.amoebot_state.proofs.Shows.{shown_valid}
-use Rattle.amoebot_state.proofs.Members.{Has, here, later, has_cases, not_in_none, Has-append_cases, Has-append_right, Has-filter_map, filter_map_has, All-from_Has, Contains-from_Has}
+use Rattle.amoebot_state.proofs.Members.{Has, here, later, has_cases, not_in_none, Has-append_cases, Has-append_right, Has-map, map_has, Has-filter, filter_has, All-from_Has, Contains-from_Has}
 use Rattle.amoebot_state.proofs.Owns.{own_cases}
 use Rattle.amoebot_state.proofs.Values.{value_same, bot_eq-true, id_eq-true}
-use Rattle.amoebot_state.proofs.RisingLists.{Rising, none, more, Rising-append, Rising-weaker, Rising-filter_map}
+use Rattle.amoebot_state.proofs.RisingLists.{Rising, none, more, Rising-append, Rising-weaker, Rising-map}
 use Rattle.model_ops.specs.declared.member.Member.{Member}
-use Rattle.model_ops.specs.Members.{IsBelow, AreRising, IsSite, changed_cells, body_now, config_found, config_now, id_found_on, id_on, has_changed, nodes_of, changed_spot, changed_body}
-use Rattle.model_ops.proofs.Members.{bot_by, bot_placed, find_placed, occupant_of}
+use Rattle.model_ops.specs.Members.{AreApart, IsSite, ranked, has_id, changed_cells, body_now, config_found, config_now, id_found_on, id_on, has_changed, nodes_of, changed_spot, is_changed}
+use Rattle.model_ops.proofs.Members.{bot_by, find_first, occupant_of}
+use Rattle.model_ops.proofs.Ranked.{IsBelow, AreRising, ranked_has, Has-ranked, rising_ranked, apart_filter}
 use Rattle.model_ops.proofs.OneNode.{OneNode, one_node}
 use Rattle.model_ops.proofs.KeepsRest.{reached_keeps_rest}
 use Rattle.model_ops.proofs.RisingRanks.{increasing-from_Rising}
 use Rattle.model_ops.specs.Laws.{KeepsRest}
 use Rattle.model_ops.specs.Reaches.{Reaches}
 use Rattle.model_ops.proofs.Told.{bot_is}
-
--- a list that grew by what one more element gives
-pub more_given : {X Y : Type 0} (h : X → Option Y) (xs : List X) (k : ℕ) (d : X) (base now next : List Y) → k < length xs → now ≡ base ++ filter_map h (take k xs) → next ≡ now ++ filter_map h (get_or xs k d ∷ []) → next ≡ base ++ filter_map h (take (k + 1) xs)
-more_given h xs k d base now next lt was grew =
-    grew ∙ ap (λ ys. ys ++ filter_map h (get_or xs k d ∷ [])) was ∙ append_assoc base (filter_map h (take k xs)) (filter_map h (get_or xs k d ∷ []))
-    ∙ ap (λ ys. base ++ ys) (sym (ap (filter_map h) (take_more xs k d lt) ∙ filter_map-append h (take k xs) (get_or xs k d ∷ [])))
 
 -- what the first element that passes tells
 find_told : {X : Type 0} (p : X → Bool) (xs : List X) (x : X) → find p xs ≡ Some x → Has x xs × (p x ≡ true)
@@ -64,30 +59,36 @@ below_all i (n ∷ ms) m below has = elim (has_cases has) [
   | inr rest ↦ below_all i ms m below.1 rest
 ]
 
-find_member : (ms : List Member) (m : Member) → AreRising ms → Has m ms → find (λ (n : Member). nat_eq n.id m.id) ms ≡ Some m
-find_member [] m rising has = absurd (not_in_none has)
-find_member (n ∷ ms) m rising has = elim (has_cases has) [
+listed_id : (ms : List Member) (m : Member) → Has m ms → has_id ms m.id ≡ true
+listed_id [] m has = absurd (not_in_none has)
+listed_id (n ∷ ms) m has = elim (has_cases has) [
+  | inl e ↦ ap (λ t. t || has_id ms m.id) (eq-eqb n.id m.id (ap (λ (k : Member). k.id) (sym e)))
+  | inr rest ↦ ap (λ t. nat_eq n.id m.id || t) (listed_id ms m rest) ∙ or-true (nat_eq n.id m.id)
+]
+
+find_member : (ms : List Member) (m : Member) → AreApart ms → Has m ms → find (λ (n : Member). nat_eq n.id m.id) ms ≡ Some m
+find_member [] m apart has = absurd (not_in_none has)
+find_member (n ∷ ms) m apart has = elim (has_cases has) [
   | inl e ↦
       let same : n.id ≡ m.id = ap (λ (k : Member). k.id) (sym e) in
       ap (λ t. cond t (Some n) (find (λ (k : Member). nat_eq k.id m.id) ms)) (eq-eqb n.id m.id same) ∙ ap Some (sym e)
   | inr rest ↦
-      let lt = below_all n.id ms m rising.0 rest in
-      let apart : nat_eq n.id m.id ≡ false = elim (cases_Bool (nat_eq n.id m.id)) [ inl t ↦ let e = eqb-true n.id m.id t in absurd (omega arith) | inr f ↦ f ] in
-      ap (λ t. cond t (Some n) (find (λ (k : Member). nat_eq k.id m.id) ms)) apart ∙ find_member ms m rising.1 rest
+      let other : nat_eq n.id m.id ≡ false = elim (cases_Bool (nat_eq n.id m.id)) [
+        | inl t ↦ absurd (both_ways _ apart.0 (ap (has_id ms) (eqb-true n.id m.id t) ∙ listed_id ms m rest))
+        | inr f ↦ f
+      ] in
+      ap (λ t. cond t (Some n) (find (λ (k : Member). nat_eq k.id m.id) ms)) other ∙ find_member ms m apart.1 rest
 ]
 
 rising_by_id : (ms : List Member) → AreRising ms → Rising (λ (m : Member). m.id) ms
 rising_by_id [] rising = none
 rising_by_id (m ∷ ms) rising = more (λ n has. below_all m.id ms n rising.0 has) (rising_by_id ms rising.1)
 
--- a member that has changed, and one that has not
-changed_told : (m : Member) (p : CellName × Cell) → changed_body m ≡ Some p → (p ≡ body_now m) × (m.found ≢ m.now)
-changed_told m p = elim (cases_Bool (bot_eq m.found m.now)) as (λ _. changed_body m ≡ Some p → (p ≡ body_now m) × (m.found ≢ m.now)) [
-  | inl t ↦ rw t (λ e. absurd (none-some p e))
-  | inr f ↦ rw f (λ e. (sym (same_Some (body_now m) p e), λ same. both_ways _ f (ap (bot_eq m.found) (sym same) ∙ value_same (Some (cell.Body m.found)))))
-]
+-- a member that has changed
+changed_told : (m : Member) → is_changed m ≡ true → m.found ≢ m.now
+changed_told m t same = both_ways _ (not-true _ t) (ap (bot_eq m.found) (sym same) ∙ value_same (Some (cell.Body m.found)))
 
-module _ (c : Config) (own : ℕ) (ms : List Member) (m : Member) (rising : AreRising ms) (is : find (λ (n : Member). nat_eq n.id own) ms ≡ Some m) (one : OneNode (config_found c ms) own (config_now c ms)) where
+module _ (c : Config) (own : ℕ) (ms : List Member) (m : Member) (apart : AreApart ms) (is : find (λ (n : Member). nat_eq n.id own) ms ≡ Some m) (one : OneNode (config_found c ms) own (config_now c ms)) where
   abbrev old : Config
   old = config_found c ms
 
@@ -96,10 +97,10 @@ module _ (c : Config) (own : ℕ) (ms : List Member) (m : Member) (rising : AreR
 
   -- the amoebots of members
   was : (n : Member) → Has n ms → bot_at old n.id ≡ Some n.found
-  was n has = bot_by (λ (k : Member). k.found) c ms n.id ∙ ap (option_map (λ (k : Member). k.found)) (find_member ms n rising has)
+  was n has = bot_by (λ (k : Member). k.found) c ms n.id ∙ ap (option_map (λ (k : Member). k.found)) (find_member ms n apart has)
 
   now : (n : Member) → Has n ms → bot_at new n.id ≡ Some n.now
-  now n has = bot_by (λ (k : Member). k.now) c ms n.id ∙ ap (option_map (λ (k : Member). k.now)) (find_member ms n rising has)
+  now n has = bot_by (λ (k : Member). k.now) c ms n.id ∙ ap (option_map (λ (k : Member). k.now)) (find_member ms n apart has)
 
   own_was : bot_of old own ≡ m.found
   own_was = bot_is old own m.found (bot_by (λ (k : Member). k.found) c ms own ∙ ap (option_map (λ (k : Member). k.found)) is)
@@ -114,16 +115,16 @@ module _ (c : Config) (own : ℕ) (ms : List Member) (m : Member) (rising : AreR
       elim one.own [
         | inl t ↦ elim (own_cases m.found one.node (ap (λ (b : Bot). is_own b one.node) (sym own_was) ∙ t)) [
           | inl h ↦ subst P h (later (later here))
-          | inr h ↦ subst P h (later (later (later here)))
+          | inr h ↦ subst P h (later here)
         ]
         | inr t ↦ elim (own_cases m.now one.node (ap (λ (b : Bot). is_own b one.node) (sym own_now) ∙ t)) [
           | inl h ↦ subst P h here
-          | inr h ↦ subst P h (later here)
+          | inr h ↦ subst P h (later (later (later here)))
         ]
       ]
 
   occupants : (v : Node) → (id_found_on ms v ≡ occupant old v) × (id_on ms v ≡ occupant new v)
-  occupants v = (sym (occupant_of (λ (k : Member). k.found) c ms v rising), sym (occupant_of (λ (k : Member). k.now) c ms v rising))
+  occupants v = (sym (occupant_of (λ (k : Member). k.found) c ms v apart), sym (occupant_of (λ (k : Member). k.now) c ms v apart))
 
   spot_differs : (v : Node) → has_changed ms v ≡ true → occupant new v ≢ occupant old v
   spot_differs v t same =
@@ -145,7 +146,7 @@ module _ (c : Config) (own : ℕ) (ms : List Member) (m : Member) (rising : AreR
   spots = changed_spot ms (find (has_changed ms) (nodes_of m))
 
   abbrev bodies : List (CellName × Cell)
-  bodies = filter_map changed_body ms
+  bodies = map body_now (ranked (filter is_changed ms))
 
   spot_told : (p : CellName × Cell) (o : Option Node) → find (has_changed ms) (nodes_of m) ≡ o → Has p (changed_spot ms o) → (v : Node) × (has_changed ms v ≡ true) × (p ≡ (name.Spot v, cell.Spot (id_on ms v)))
   spot_told p None e has = absurd (not_in_none has)
@@ -156,9 +157,9 @@ module _ (c : Config) (own : ℕ) (ms : List Member) (m : Member) (rising : AreR
 
   body_told : (p : CellName × Cell) → Has p bodies → (n : Member) × Has n ms × (p ≡ body_now n) × (n.found ≢ n.now)
   body_told p has =
-      let (n, listed, e) = filter_map_has changed_body ms has in
-      let told = changed_told n p e in
-      (n, listed, told.0, told.1)
+      let (n, listed, e) = map_has body_now (ranked (filter is_changed ms)) has in
+      let kept = filter_has is_changed ms (ranked_has (filter is_changed ms) n listed) in
+      (n, kept.0, e, changed_told n kept.1)
 
   given : (p : CellName × Cell) → Has p (spots ++ bodies) → value new (cell_of p) ≡ Some (cell_value p)
   given p has =
@@ -190,8 +191,8 @@ module _ (c : Config) (own : ℕ) (ms : List Member) (m : Member) (rising : AreR
             ∙ ap Some (sym (bot_eq-true n.found n.now same))
             ∙ sym (bot_by (λ (k : Member). k.found) c ms j ∙ ap (option_map (λ (k : Member). k.found)) e)
         | inr f ↦
-            let pair : changed_body n ≡ Some (body_now n) = ap (λ x. if x then None else Some (body_now n)) f in
-            absurd (lacking (name.Body j) (body_now n) lacks (Has-append_right spots (Has-filter_map changed_body ms listed pair)) (ap name.Body (eqb-true n.id j t)))
+            let pair = Has-map body_now (Has-ranked (filter is_changed ms) n (Has-filter is_changed ms listed (ap not f))) in
+            absurd (lacking (name.Body j) (body_now n) lacks (Has-append_right spots pair) (ap name.Body (eqb-true n.id j t)))
       ]
 
   spot_kept : (v : Node) (o : Option Node) → find (has_changed ms) (nodes_of m) ≡ o → All (λ (q : CellName × Cell). cell_of q ≢ name.Spot v) (changed_spot ms o ++ bodies) → occupant new v ≡ occupant old v
@@ -218,7 +219,7 @@ module _ (c : Config) (own : ℕ) (ms : List Member) (m : Member) (rising : AreR
   spots_rise (Some v) = more (λ y has. absurd (not_in_none has)) none
 
   bodies_rise : Rising key bodies
-  bodies_rise = Rising-filter_map (λ (n : Member). n.id + 1) key changed_body (λ n p e. ap key (changed_told n p e).0) (Rising-weaker (λ (n : Member). n.id) (λ (n : Member). n.id + 1) (λ n k hn hk lt. omega (arith, lt)) (rising_by_id ms rising))
+  bodies_rise = Rising-map (λ (n : Member). n.id + 1) key body_now (λ n has. refl) (Rising-weaker (λ (n : Member). n.id) (λ (n : Member). n.id + 1) (λ n k hn hk lt. omega (arith, lt)) (rising_by_id (ranked (filter is_changed ms)) (rising_ranked (filter is_changed ms) (apart_filter is_changed ms apart))))
 
   ordered : IsOrdered (spots ++ bodies)
   ordered = increasing-from_Rising key (spots ++ bodies) (Rising-append key (spots_rise (find (has_changed ms) (nodes_of m))) bodies_rise (λ p q hp hq.
@@ -238,12 +239,13 @@ module _ (c : Config) (own : ℕ) (ms : List Member) (m : Member) (rising : AreR
   }) ordered (All-from_Has (λ (p : CellName × Cell). value old (cell_of p) ≢ Some (cell_value p)) (spots ++ bodies) differs)
 
 -- what a site gives as its patch, where an activation reaches its configuration
-pub patches : (c : Config) (own : ℕ) (ms : List Member) (k : ℕ) (d : Member) → IsSite c own ms → position (λ (n : Member). nat_eq n.id own) ms ≡ Some k → Reaches (shown_alone (shown (config_found c ms) own)) own (config_now c ms) → changed_cells ms (get_or ms k d) ≡ diff (shown_alone (shown (config_found c ms) own)) (config_now c ms)
-patches c own ms k d is placed reaches =
+pub patches : (c : Config) (own : ℕ) (ms : List Member) (d : Member) → IsSite c own ms → Reaches (shown_alone (shown (config_found c ms) own)) own (config_now c ms) → changed_cells ms (get_or ms 0 d) ≡ diff (shown_alone (shown (config_found c ms) own)) (config_now c ms)
+patches c own ms d is reaches =
     let old = config_found c ms in
     let new = config_now c ms in
+    let own_is = find_first own ms d is.first in
     let valid = subst IsValid is.whole (shown_valid (shown old own) is.was_shown) in
-    let there : IsSome (bot_at old own) = ap is_some (bot_placed (λ (n : Member). n.found) c ms own k d placed) in
+    let there : IsSome (bot_at old own) = ap is_some (bot_by (λ (n : Member). n.found) c ms own ∙ ap (option_map (λ (n : Member). n.found)) own_is) in
     let reached = subst (λ (e : Config). Reaches e own new) is.whole reaches in
-    difference c own ms (get_or ms k d) is.rising (find_placed (λ (n : Member). nat_eq n.id own) ms k d placed) (one_node old own new valid there reached) valid (reached_keeps_rest old own new valid there reached)
+    difference c own ms (get_or ms 0 d) is.apart own_is (one_node old own new valid there reached) valid (reached_keeps_rest old own new valid there reached)
     ∙ ap (λ (e : Config). diff e new) (sym is.whole)

@@ -1,7 +1,6 @@
 -- The amoebots of a neighbourhood, each as it was found and as it is now, as a site keeps them. No public clause cites these.
-use Rattle.std.specs.Prelude.{◌≡◌, ℕ, ◌<◌, ◌≤◌, List, [], ◌∷◌, ◌++◌, IsSome, length, map, Bool, not, if◌then◌else◌, nat_eq, nat_lt}
+use Rattle.std.specs.Prelude.{◌≡◌, ℕ, ◌≤◌, List, [], ◌∷◌, ◌++◌, IsSome, length, map, filter, Bool, false, not, if◌then◌else◌, nat_eq, nat_lt, min}
 use Rattle.std.specs.List.{All, filter_map, find, fold, list_any}
-use Rattle.std.specs.Option.{option_map}
 use Rattle.std.specs.declared.option.Option.{Option}
 use Rattle.std.specs.declared.option.Option.TheVariants.{Some, None}
 use Rattle.tri_lattice.specs.declared.node.Node.{Node}
@@ -18,15 +17,19 @@ use Rattle.amoebot_state.specs.Zones.{Shown, IsShown, spread, shown, shown_alone
 use Rattle.model_ops.specs.declared.member.Member.{Member}
 use Rattle.model_ops.specs.WorkingCopies.{WorkingCopy}
 
--- the id is below those of the members
-abbrev pub IsBelow : ℕ → List Member → Type 0
-IsBelow i [] = Unit {0}
-IsBelow i (m ∷ ms) = (i < m.id) × IsBelow i ms
+-- one of the members has the id
+abbrev pub has_id : List Member → ℕ → Bool
+has_id ms i = list_any (λ m. nat_eq m.id i) ms
 
--- the members stand in rising id
-abbrev pub AreRising : List Member → Type 0
-AreRising [] = Unit {0}
-AreRising (m ∷ ms) = IsBelow m.id ms × AreRising ms
+-- no two members have one id
+abbrev pub AreApart : List Member → Type 0
+AreApart [] = Unit {0}
+AreApart (m ∷ ms) = (has_id ms m.id ≡ false) × AreApart ms
+
+-- the first member has the id
+abbrev pub IsFirst : ℕ → List Member → Type 0
+IsFirst i [] = ⊥
+IsFirst i (m ∷ ms) = m.id ≡ i
 
 -- a member's body, with one of its amoebots: as it was found, or as it is now
 abbrev pub body_by : (Member → Bot) → Member → CellName × Cell
@@ -56,10 +59,11 @@ copy_of c own ms = record { found = shown (config_found c ms) own; reached = con
 abbrev pub most_members : ℕ
 most_members = 9
 
--- what a site keeps in a frame: the members stand in rising id, the amoebot itself is one of them, they are at most nine, and
--- together they are what some valid configuration showed to the amoebot
+-- what a site keeps in a frame: no two members have one id, the amoebot itself is the first, they are at most nine, and together
+-- they are what some valid configuration showed to the amoebot
 pub record IsSite (c : Config) (own : ℕ) (ms : List Member) : Type 0 where
-  pub rising : AreRising ms
+  pub apart : AreApart ms
+  pub first : IsFirst own ms
   pub plain : All (λ (m : Member). IsBotInRange m.now) ms
   pub there : IsSome (bot_at (config_now c ms) own)
   pub few : length ms ≤ most_members
@@ -75,23 +79,29 @@ abbrev pub with_member : List Member → Member → List Member
 with_member [] m = m ∷ []
 with_member (n ∷ ms) m = if nat_lt m.id n.id then m ∷ n ∷ ms else n ∷ with_member ms m
 
--- one of the members has the id
-abbrev pub has_id : List Member → ℕ → Bool
-has_id ms i = list_any (λ m. nat_eq m.id i) ms
+-- the same members in rising id
+abbrev pub ranked : List Member → List Member
+ranked ms = fold with_member [] ms
 
--- the members with the amoebot of a cell, where that is a body
-abbrev pub with_cell : List Member → CellName × Cell → List Member
-with_cell ms (name.Body i, cell.Body b) = with_member ms (unchanged i b)
-with_cell ms (name.Body i, cell.Spot o) = ms
-with_cell ms (name.Spot v, x) = ms
+-- the member that a cell tells of, where that is a body
+abbrev pub taken : CellName × Cell → Option Member
+taken (name.Body i, cell.Body b) = Some (unchanged i b)
+taken (name.Body i, cell.Spot o) = None
+taken (name.Spot v, x) = None
 
--- the members of what is shown: the amoebots of its cells
-unfoldable pub gathered : Shown → List Member
-gathered s = fold with_cell [] s.cells
+-- the members of what is shown: the amoebots of its cells, in the order of the cells
+abbrev pub gathered : Shown → List Member
+gathered s = filter_map taken s.cells
 
--- the id on a node: that of the first member that has the node, as it was found or as it is now
+-- the lower of an id and another one, if there is another one
+abbrev pub lower : ℕ → Option ℕ → ℕ
+lower i None = i
+lower i (Some j) = min i j
+
+-- the id on a node: the lowest of the members that have the node, as they were found or as they are now
 abbrev pub id_by : (Member → Bot) → List Member → Node → Option ℕ
-id_by part ms v = option_map (λ (m : Member). m.id) (find (λ m. is_own (part m) v) ms)
+id_by part [] v = None
+id_by part (m ∷ ms) v = if is_own (part m) v then Some (lower m.id (id_by part ms v)) else id_by part ms v
 
 abbrev pub id_found_on : List Member → Node → Option ℕ
 id_found_on = id_by (λ m. m.found)
@@ -105,17 +115,17 @@ has_changed ms v = not (id_eq (id_found_on ms v) (id_on ms v))
 
 -- the nodes of a member, as it is now and as it was found
 abbrev pub nodes_of : Member → List Node
-nodes_of m = m.now.head ∷ m.now.tail ∷ m.found.head ∷ m.found.tail ∷ []
+nodes_of m = m.now.head ∷ m.found.tail ∷ m.found.head ∷ m.now.tail ∷ []
 
 -- a node with its new occupant, if there is one
 abbrev pub changed_spot : List Member → Option Node → List (CellName × Cell)
 changed_spot ms None = []
 changed_spot ms (Some v) = (name.Spot v, cell.Spot (id_on ms v)) ∷ []
 
--- a member's body with its new value, where it has changed
-abbrev pub changed_body : Member → Option (CellName × Cell)
-changed_body m = if bot_eq m.found m.now then None else Some (body_now m)
+-- the member has another amoebot than it was found with
+abbrev pub is_changed : Member → Bool
+is_changed m = not (bot_eq m.found m.now)
 
--- the first node of a member whose occupant has changed, and then the bodies that have
+-- the first node of a member whose occupant has changed, and then the bodies that have, in rising id
 abbrev pub changed_cells : List Member → Member → List (CellName × Cell)
-changed_cells ms m = changed_spot ms (find (has_changed ms) (nodes_of m)) ++ filter_map changed_body ms
+changed_cells ms m = changed_spot ms (find (has_changed ms) (nodes_of m)) ++ map body_now (ranked (filter is_changed ms))

@@ -1,23 +1,25 @@
-ghost use Rattle.std.specs.Prelude.{◌≡◌, ◌+◌, ◌<◌, ◌≤◌, ◌∷◌, ◌++◌, [], length};
-ghost use Rattle.std.specs.List.{filter_map, find};
+ghost use Rattle.std.specs.Prelude.{◌≡◌, ◌+◌, ◌<◌, ◌≤◌, ◌++◌, [], filter, length, map};
+ghost use Rattle.std.specs.List.{find};
 ghost use Rattle.amoebot_state.specs.Limits.{most_pairs};
 ghost use Rattle.amoebot_state.specs.Patches.{bot_eq};
-ghost use Rattle.model_ops.specs.Members.{changed_body, changed_cells, changed_spot, has_changed, most_members, nodes_of};
+ghost use Rattle.model_ops.specs.Members.{body_now, changed_cells, changed_spot, has_changed, is_changed, most_members, nodes_of, ranked};
 
-use crate::member::{Member, id_found_on, id_on};
+use crate::member::{Member, ROOM, add, id_found_on, id_on};
 use amoebot_state::{Bot, Cell, CellName, Patch};
+use arrayvec::ArrayVec;
 use tri_lattice::Node;
 
-/// The cells that differ from what was found, of whose nodes at most one does, which is one of the own ones: that node first,
-/// and then the bodies in the order of the members.
-pub(crate) fn changed_cells(members: &[Member], own: &Member) -> Patch
-    requires { length members.now ≤ most_members }
-    ensures { result ≡ changed_cells members.now own.entry.now }
+/// Adds the cells that differ from what was found, of whose nodes at most one does, which is one of the own ones: that node first,
+/// and then the bodies in rising id.
+pub(crate) fn push_changed(patch: &mut Patch, members: &[Member], own: &Member)
+    requires none { patch.old ≡ [] }
+    requires few { length members.now ≤ most_members }
+    ensures { patch.new ≡ changed_cells members.now own.entry.now }
 {
-    let mut patch = Patch::new();
-    push_node(&mut patch, members, own);
-    push_bodies(&mut patch, members);
-    patch
+    push_node(patch, members, own);
+    let mut changed = ArrayVec::new();
+    add_changed(&mut changed, members);
+    push_bodies(patch, changed.as_slice());
 }
 
 fn push_node(patch: &mut Patch, members: &[Member], own: &Member)
@@ -25,7 +27,7 @@ fn push_node(patch: &mut Patch, members: &[Member], own: &Member)
     ensures value { patch.new ≡ patch.old ++ changed_spot members.now (find (has_changed members.now) (nodes_of own.entry.now)) }
     ensures few { length patch.new ≤ length patch.old + 1 }
 {
-    let nodes = [own.now.head, own.now.tail, own.found.head, own.found.tail];
+    let nodes = [own.now.head, own.found.tail, own.found.head, own.now.tail];
     if let Some(node) = changed_node(members, &nodes) {
         patch.push(CellName::Spot(node), Cell::Spot(id_on(members, node)));
     }
@@ -48,27 +50,38 @@ fn has_changed(members: &[Member], node: Node) -> bool
     id_found_on(members, node) != id_on(members, node)
 }
 
-fn push_bodies(patch: &mut Patch, members: &[Member])
-    requires { length patch.old + length members.now ≤ most_pairs }
-    ensures { patch.new ≡ patch.old ++ filter_map changed_body members.now }
+/// Adds the members that have changed, in rising id.
+fn add_changed(changed: &mut ArrayVec<Member, ROOM>, members: &[Member])
+    requires none { changed.old.items ≡ [] }
+    requires few { length members.now ≤ most_members }
+    ensures value { changed.new.items ≡ ranked (filter is_changed members.now) }
+    ensures few { length changed.new.items ≤ length members.now }
 {
     for member in members {
-        push_body(patch, member);
+        if is_changed(member) {
+            add(changed, member);
+        }
     }
 }
 
-fn push_body(patch: &mut Patch, member: &Member)
-    requires { length patch.old < most_pairs }
-    ensures value { patch.new ≡ patch.old ++ filter_map changed_body (member.entry.now ∷ []) }
-    ensures few { length patch.new ≤ length patch.old + 1 }
+fn is_changed(member: &Member) -> bool
+    ensures { result ≡ is_changed member.entry.now }
 {
-    if !is_same(&member.found, &member.now) {
-        patch.push(CellName::Body(member.id), Cell::Body(member.now));
-    }
+    !is_same(&member.found, &member.now)
 }
 
 fn is_same(a: &Bot, b: &Bot) -> bool
     ensures { result ≡ bot_eq a.now b.now }
 {
     a == b
+}
+
+/// Adds the bodies of members.
+fn push_bodies(patch: &mut Patch, members: &[Member])
+    requires { length patch.old + length members.now ≤ most_pairs }
+    ensures { patch.new ≡ patch.old ++ map body_now members.now }
+{
+    for member in members {
+        patch.push(CellName::Body(member.id), Cell::Body(member.now));
+    }
 }

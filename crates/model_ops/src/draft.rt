@@ -1,4 +1,4 @@
-ghost use Rattle.std.specs.Prelude.{◌≡◌, ◌<◌, ℕ, is_some, IsSome, IsTrue, IfOk, Some, None, true, unsigned_abs};
+ghost use Rattle.std.specs.Prelude.{◌≡◌, ◌<◌, ℕ, [], is_some, IsSome, IsTrue, IfOk, Some, None, true, unsigned_abs};
 ghost use Rattle.amoebot_state.specs.Limits.{most_vars};
 ghost use Rattle.amoebot_state.specs.Configs.{bot_at, occupant, set_bot};
 ghost use Rattle.amoebot_state.specs.Ports.{is_port, behind};
@@ -15,7 +15,7 @@ ghost use Rattle.amoebot_state.specs.Zones.{shown_alone};
 ghost use Rattle.model_ops.specs.WorkingCopies.{opened, own_id, own_bot, copy_after, changes};
 ghost use Rattle.model_ops.specs.Sites.{done};
 
-use crate::changes::changed_cells;
+use crate::changes::push_changed;
 use crate::member::{Member, ROOM, id_on, members_of, place_of};
 use crate::peer::Peer;
 use amoebot_state::{Bot, End, Failure, Found, Patch, Port};
@@ -186,14 +186,14 @@ impl Draft {
         Ok(())
     }
 
-    /// The cells that differ from what was found, with their values now: at most one node, which stands first, and the bodies in
-    /// rising id. What the copy has reached is reached by writes and then at most one movement.
-    pub fn patch(&self) -> Patch
-        requires { Reaches (shown_alone self.now.found) (own_id self.now) self.now.reached }
-        ensures { result ≡ changes self.now }
+    /// Adds the cells that differ from what was found, with their values now, to an empty patch: at most one node, which stands
+    /// first, and the bodies in rising id. What the copy has reached is reached by writes and then at most one movement.
+    pub fn push_changes(&self, patch: &mut Patch)
+        requires none { patch.old ≡ [] }
+        requires reaches { Reaches (shown_alone self.now.found) (own_id self.now) self.now.reached }
+        ensures { patch.new ≡ changes self.now }
     {
-        let place = place_of(self.members.as_slice(), self.own);
-        changed_cells(self.members.as_slice(), &self.members[place])
+        push_changed(patch, self.members.as_slice(), &self.members[0]);
     }
 
     /// The id of the amoebot itself.
@@ -209,7 +209,7 @@ impl Draft {
         ensures value { bot_at self.now.reached (own_id self.now) ≡ Some result.now }
         ensures plain { IsBotInRange result.now }
     {
-        self.bot(self.own)
+        &self.members[0].now
     }
 
     /// The amoebot with an id.

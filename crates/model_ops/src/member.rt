@@ -2,7 +2,7 @@ ghost use Rattle.std.specs.Prelude.{◌≡◌, ◌<◌, ◌+◌, IsTrue, Some, n
 ghost use Rattle.std.specs.List.{position};
 ghost use Rattle.amoebot_state.specs.Zones.{IsShown};
 ghost use Rattle.arrayvec.specs.ArrayVec.{array_vec_len};
-ghost use Rattle.model_ops.specs.Members.{gathered, has_id, id_found_on, id_on, unchanged, with_member};
+ghost use Rattle.model_ops.specs.Members.{gathered, has_id, id_found_on, id_on, lower, with_member};
 
 use amoebot_state::{Bot, Cell, CellName, Found};
 use arrayvec::ArrayVec;
@@ -33,20 +33,40 @@ fn first_with(members: &[Member], id: u16) -> Option<usize>
     members.iter().position(|member| member.id == id)
 }
 
-/// The id on a node, as the members are now: that of the first one that has the node.
+/// The lower of an id and another one, if there is another one.
+fn lower(id: u16, other: Option<u16>) -> u16
+    ensures { result ≡ lower id other }
+{
+    match other {
+        Some(other) => id.min(other),
+        None => id,
+    }
+}
+
+/// The id on a node, as the members are now: the lowest of those that have the node.
 pub(crate) fn id_on(members: &[Member], node: Node) -> Option<u16>
     ensures { result ≡ id_on members.now node }
 {
-    let member = members.iter().find(|member| member.now.is_own(node))?;
-    Some(member.id)
+    let mut lowest = None;
+    for member in members {
+        if member.now.is_own(node) {
+            lowest = Some(lower(member.id, lowest));
+        }
+    }
+    lowest
 }
 
 /// The id on a node, as the members were found.
 pub(crate) fn id_found_on(members: &[Member], node: Node) -> Option<u16>
     ensures { result ≡ id_found_on members.now node }
 {
-    let member = members.iter().find(|member| member.found.is_own(node))?;
-    Some(member.id)
+    let mut lowest = None;
+    for member in members {
+        if member.found.is_own(node) {
+            lowest = Some(lower(member.id, lowest));
+        }
+    }
+    lowest
 }
 
 /// The place of the first member with a higher id.
@@ -57,23 +77,16 @@ fn place_above(members: &[Member], id: u16) -> Option<usize>
 }
 
 /// Adds a member at its place in rising id.
-fn add(members: &mut ArrayVec<Member, ROOM>, id: u16, bot: &Bot)
+pub(crate) fn add(members: &mut ArrayVec<Member, ROOM>, member: &Member)
     requires { array_vec_len members.old < ROOM }
-    ensures value { members.new.items ≡ with_member members.old.items (unchanged id bot.now) }
+    ensures value { members.new.items ≡ with_member members.old.items member.entry.now }
     ensures longer { array_vec_len members.new ≡ array_vec_len members.old + 1 }
 {
-    let place = place_above(members.as_slice(), id).unwrap_or(members.len());
-    members.insert(
-        place,
-        Member {
-            id,
-            found: *bot,
-            now: *bot,
-        },
-    );
+    let place = place_above(members.as_slice(), member.id).unwrap_or(members.len());
+    members.insert(place, *member);
 }
 
-/// The amoebots of a neighbourhood, which are those of the bodies among its cells.
+/// The amoebots of a neighbourhood, which are those of the bodies among its cells, in the order of the cells.
 pub(crate) fn members_of(found: &Found) -> ArrayVec<Member, ROOM>
     ensures value { result.items ≡ gathered found.now }
     ensures shown { IsShown found.now }
@@ -82,7 +95,11 @@ pub(crate) fn members_of(found: &Found) -> ArrayVec<Member, ROOM>
     for (name, cell) in found.cells() {
         match name {
             CellName::Body(id) => match cell {
-                Cell::Body(bot) => add(&mut members, *id, bot),
+                Cell::Body(bot) => members.push(Member {
+                    id: *id,
+                    found: *bot,
+                    now: *bot,
+                }),
                 Cell::Spot(_) => {}
             },
             CellName::Spot(_) => {}

@@ -27,8 +27,7 @@ pub struct Site {
 }
 
 impl Model for Site {
-    ghost use Rattle.std.specs.Prelude.{◌≡◌, Some};
-    ghost use Rattle.arrayvec.specs.ArrayVec.{ArrayVec};
+    ghost use Rattle.std.specs.Prelude.{◌≡◌, List, Some};
     ghost use Rattle.amoebot_state.specs.Around.{all_behind};
     ghost use Rattle.amoebot_state.specs.declared.found.Behind.{Behind};
     ghost use Rattle.model_ops.specs.WorkingCopies.{WorkingCopy, own_id};
@@ -37,8 +36,8 @@ impl Model for Site {
 
     ghost view = { λ s. s.draft };
 
-    ghost invariant = { λ s. (known : ArrayVec Behind) → s.around ≡ Some known
-        → known.items ≡ all_behind s.draft.reached (own_id s.draft) };
+    ghost invariant = { λ s. (known : List Behind) → s.around ≡ Some known
+        → known ≡ all_behind s.draft.reached (own_id s.draft) };
 }
 
 impl Site {
@@ -58,7 +57,7 @@ impl Site {
         ensures { result ≡ connected self.now.reached (own_id self.now) port }
     {
         match &self.around {
-            Some(around) => connected_there(behind_at(around.as_slice(), port)),
+            Some(around) => connected_there(behind_at(around, port)),
             None => self.draft.connected(port),
         }
     }
@@ -68,7 +67,7 @@ impl Site {
         ensures { result ≡ is_free self.now.reached (own_id self.now) port }
     {
         match &self.around {
-            Some(around) => free_there(behind_at(around.as_slice(), port)),
+            Some(around) => free_there(behind_at(around, port)),
             None => self.draft.is_free(port),
         }
     }
@@ -146,7 +145,9 @@ impl Site {
         requires { Reaches (shown_alone self.now.found) (own_id self.now) self.now.reached }
         ensures { result ≡ changes self.now }
     {
-        self.draft.patch()
+        let mut patch = Patch::new();
+        self.draft.push_changes(&mut patch);
+        patch
     }
 
     /// The amoebot itself, as it is now.
@@ -164,7 +165,7 @@ impl Site {
     {
         match port {
             Some(port) => match &self.around {
-                Some(around) => owner_there(behind_at(around.as_slice(), port)),
+                Some(around) => owner_there(behind_at(around, port)),
                 None => self.draft.neighbour(port),
             },
             None => Ok(self.draft.own_id()),

@@ -9,7 +9,7 @@ use Rattle.model_ops.proofs.site.Site.owner.Goals as goal
 found : (c : goal.After-owner_there) → c.behind_at.result ≡ behind_pair c.self.inside.draft.reached (own_id c.self.inside.draft) c.in-Some.port
 found c =
     let w = c.self.inside.draft in
-    let all = c.as_slice.ensures.value ∙ c.self.invariant c.in-Some-around.around c.in-Some-around.is in
+    let all = c.self.invariant c.in-Some-around.around c.in-Some-around.is in
     pair_found w.reached (own_id w) c.in-Some.port _ _ all c.behind_at.ensures.below c.behind_at.ensures.above
 
 pub returns-in-Some-around-clause-value : goal.returns-in-Some-around-clause-value

@@ -1,0 +1,7 @@
+use Rattle.std.proofs.Common.{◌≡◌, drop}
+use Rattle.model_ops.specs.Members.{id_found_on}
+use Rattle.model_ops.proofs.Lowest.{least}
+use Rattle.model_ops.proofs.member.id_found_on.Given as goal
+
+abbrev pub invariant-loop-member : goal.invariant-loop-member
+invariant-loop-member l = least l.lowest (id_found_on (drop l.member-index l.members) l.node) ≡ id_found_on l.members l.node
