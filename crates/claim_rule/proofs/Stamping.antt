@@ -61,6 +61,20 @@ free_same w v fw fv occ stamp = omega (arith, fw, fv, stamp, same_occ (w / 2 ^ 3
     same_occ (suc n) zero e = absurd (none-some n (sym (sym (some_occ n) ∙ e)))
     same_occ (suc n) (suc m) e = let f = same_Some n m (sym (some_occ n) ∙ e ∙ some_occ m) in omega (arith, f)
 
+-- a free word is made of what it says
+pub free_made : (w : ℕ) → word_tag w ≡ 0 → w ≡ node_word 0 (word_occ w) (word_stamp w)
+free_made w free = free_same w (node_word 0 (word_occ w) (word_stamp w)) free made.0 (sym made.1) (sym made.2)
+  where
+    numbered : (n : ℕ) → occ_number (occ_of n) ≡ n
+    numbered zero = refl
+    numbered (suc n) = ap occ_number (some_occ n) ∙ (let e : n + 1 ≡ suc n = omega arith in e)
+
+    small : occ_number (word_occ w) < 2 ^ 13
+    small = let e = numbered (w / 2 ^ 33 % 2 ^ 13) in omega (arith, e)
+
+    made : (word_tag (node_word 0 (word_occ w) (word_stamp w)) ≡ 0) × (word_occ (node_word 0 (word_occ w) (word_stamp w)) ≡ word_occ w) × (word_stamp (node_word 0 (word_occ w) (word_stamp w)) ≡ word_stamp w)
+    made = made_of 0 (word_occ w) (word_stamp w) (omega arith) small
+
 -- the number of an occupant is small
 pub small_occ : (c : Config) → length c.bots ≤ most_bots → (v : Node) → occ_number (occupant c v) < 2 ^ 13
 small_occ c few v = by (occupant c v) refl

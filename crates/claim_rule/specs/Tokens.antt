@@ -100,7 +100,7 @@ nodes_held ((name.Body i, x) ∷ held) = nodes_held held
 -- what a caller knows of its turn while it claims: its tag, and the zone as far as the cells tell it that are held
 pub record KnowsTurn (r : Room) : Type 0 where
   pub tag : r.tag ≡ tag r.caller r.turn r.bot
-  pub zone : r.zone ≡ reading r.area r.bot r.cells.items
+  pub zone : r.zone ≡ reading r.area r.bot r.cells
 
 module _ {D : Type 0} where
   -- the record of the seat's caller, the caller's number, and where it stands
@@ -122,10 +122,10 @@ module _ {D : Type 0} where
   token_in a = record { table = a.seat.table_id; view = seen a.seat.me.0 }
 
   abbrev pub cells_in : Activation D → Pairs
-  cells_in a = reverse a.room.value.cells.items
+  cells_in a = reverse a.room.value.cells
 
   abbrev pub notes_in : Activation D → List Note
-  notes_in a = reverse a.room.value.notes.items
+  notes_in a = reverse a.room.value.notes
 
   -- the seat without its note
   abbrev pub unnoted : Seated D → Seated D
@@ -207,7 +207,7 @@ module _ {D : Type 0} where
 
     -- the same of the parts of an activation: what its seat knows and has out, and its room
     abbrev pub KeepsRoom : Seated D → Room → Type 0
-    KeepsRoom m r = IsActivation m r.caller r.turn r.bot r.stale (frame_of r.area r.maxes) (reverse r.cells.items) (reverse r.notes.items)
+    KeepsRoom m r = IsActivation m r.caller r.turn r.bot r.stale (frame_of r.area r.maxes) (reverse r.cells) (reverse r.notes)
 
     abbrev pub KeepsActivation : Activation D → Type 0
     KeepsActivation a = KeepsRoom a.seat.me a.room.value
@@ -252,7 +252,7 @@ module _ {D : Type 0} where
     pub record KeepsFound (m : Seated D) (r : Room) : Type 0 where
       pub told : Shown
       pub kept : r.found ≡ Some told
-      pub whole : HoldsWholeZone m r.turn r.bot (reverse r.cells.items) told r.after
+      pub whole : HoldsWholeZone m r.turn r.bot (reverse r.cells) told r.after
 
     -- it has its mark and frees what it holds; with nothing held its next turn begins
     pub record IsFreeing (m : Seated D) (t : ℕ) (held : Pairs) (after : ℕ) : Type 0 where

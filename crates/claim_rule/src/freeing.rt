@@ -1,12 +1,13 @@
-ghost use Rattle.std.specs.Prelude.{◌≡◌, ◌≢◌, ◌<◌, [], length};
+ghost use Rattle.std.specs.Prelude.{◌≡◌, ◌≢◌, ℕ, ◌<◌, ◌≤◌, [], length};
+ghost use Rattle.claim_core.specs.Limits.{most_turns};
 ghost use Rattle.claim_rule.specs.Plays.{about, released_caller, occ_in};
 ghost use Rattle.claim_rule.specs.Tokens.{IsOf, doing, goes};
+ghost use Rattle.claim_rule.specs.Words.{node_word, word_tag, word_occ, word_stamp};
 
 use crate::activation::Activation;
 use crate::field::Field;
 use crate::seat::Seat;
-use crate::views::Note;
-use crate::words::node_word;
+use crate::words::{node_word, word_occ};
 use amoebot_state::{Cell, CellName, Decider};
 use claim_core::cell_number;
 use std::marker::Model;
@@ -45,46 +46,49 @@ pub fn free_last<D: Decider>(freeing: Freeing<D>, field: &Field<'_, D>) -> Freei
 {
     let Freeing { mut activation } = freeing;
     let room = &mut *activation.room;
-    let Some((cell, value)) = room.cells.pop() else {
-        unreachable!()
-    };
-    let Some(number) = cell_number(&room.area, cell) else {
+    let (cell, value) = room.cells.last();
+    let Some(number) = cell_number(&room.area, *cell) else {
         unreachable!()
     };
     match cell {
         CellName::Body(id) => {
-            field.put_there(&mut activation.seat, usize::from(id), value, room.stale);
+            field.put_there(&mut activation.seat, usize::from(*id), value, room.stale);
             field.free(&mut activation.seat, number);
+            room.cells.drop_last();
             Freeing { activation }
         }
         CellName::Spot(_) => {
-            let Some(note) = room.notes.pop() else {
-                unreachable!()
-            };
             let occ = occupant_in(value);
-            let stamp = stamp_left(occ, note, room.after);
-            let word = node_word(0, occ, stamp);
+            let word = word_left(room.notes.pop(), occ, room.after);
             field.free_node(&mut activation.seat, number, word);
+            room.cells.drop_last();
             Freeing { activation }
         }
     }
 }
 
 /// The occupant in the value of a node.
-fn occupant_in(value: Cell) -> Option<u16>
-    ensures { result ≡ occ_in value }
+fn occupant_in(value: &Cell) -> Option<u16>
+    ensures { result ≡ occ_in value.now }
 {
     match value {
-        Cell::Spot(occ) => occ,
+        Cell::Spot(occ) => *occ,
         Cell::Body(_) => None,
     }
 }
 
-/// The stamp with which a node is freed: another one where its occupant has changed.
-fn stamp_left(occ: Option<u16>, note: Note, after: u32) -> u32
-    ensures { (occ ≡ note.occ → result ≡ note.stamp) × (occ ≢ note.occ → result ≡ after) }
+/// The word with which a node is freed that was found with this word: the same, or one with another stamp where its occupant has changed.
+fn word_left(found: u64, occ: Option<u16>, after: u32) -> u64
+    requires free { word_tag found ≡ 0 }
+    requires few { after ≤ most_turns }
+    ensures { (stamp : ℕ) × (result ≡ node_word 0 occ stamp)
+        × (occ ≡ word_occ found → stamp ≡ word_stamp found) × (occ ≢ word_occ found → stamp ≡ after) }
 {
-    if occ == note.occ { note.stamp } else { after }
+    if occ == word_occ(found) {
+        found
+    } else {
+        node_word(0, occ, after)
+    }
 }
 
 /// The turn is over: nothing is held.

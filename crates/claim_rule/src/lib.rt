@@ -2,6 +2,7 @@
 #![tactic(auto)]
 
 mod activation;
+mod cells;
 mod claimed;
 mod close;
 mod field;
@@ -11,6 +12,7 @@ mod journal_box;
 mod laws;
 mod make;
 mod node_steps;
+mod notes;
 mod renewal;
 mod rule;
 mod seat;

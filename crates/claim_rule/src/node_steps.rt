@@ -12,7 +12,6 @@ use crate::activation::Activation;
 use crate::field::Field;
 use crate::held::Held;
 use crate::stopped::{Stopped, Tag};
-use crate::views::Note;
 use crate::words::{word_occ, word_stamp, word_tag};
 use amoebot_state::{Cell, CellName, Decider};
 use claim_core::cell_number;
@@ -25,10 +24,15 @@ use tri_lattice::Node;
 pub struct Noted<D: Decider> {
     pub(crate) activation: Activation<D>,
     pub(crate) node: Node,
+    /// The number of the node's word.
+    pub(crate) index: usize,
     pub(crate) word: u64,
 }
 
 impl<D: Decider> Model for Noted<D> {
+    ghost use Rattle.std.specs.Prelude.{◌≡◌, Some};
+    ghost use Rattle.amoebot_state.specs.declared.cell.CellName.TheVariants as name;
+    ghost use Rattle.claim_core.specs.Cells.{number};
     ghost use Rattle.claim_rule.specs.Words.{word_occ, word_stamp};
     ghost use Rattle.claim_rule.specs.Tokens.{NotedOf, IsNoting, KnowsTurn, frame_of, token_in, cells_in, notes_in};
 
@@ -39,7 +43,8 @@ impl<D: Decider> Model for Noted<D> {
     ghost invariant = { λ n. IsNoting D.verdict n.activation.seat.me n.activation.room.value.caller n.activation.room.value.turn
         n.activation.room.value.bot n.activation.room.value.stale
         (frame_of n.activation.room.value.area n.activation.room.value.maxes) (cells_in n.activation)
-        (notes_in n.activation) n.node n.word × KnowsTurn n.activation.room.value };
+        (notes_in n.activation) n.node n.word × KnowsTurn n.activation.room.value
+        × (number n.activation.room.value.area (name.Spot n.node) ≡ Some n.index) };
 }
 
 impl<D: Decider> Noted<D> {
@@ -71,10 +76,10 @@ pub fn look_at<D: Decider>(
         × IsOthers (about D.verdict held.view) (number_in held) by.1) }
 {
     let Held { mut activation } = held;
-    let Some(number) = cell_number(&activation.room.area, CellName::Spot(node)) else {
+    let Some(index) = cell_number(&activation.room.area, CellName::Spot(node)) else {
         unreachable!()
     };
-    let word = field.look_node(&mut activation.seat, number);
+    let word = field.look_node(&mut activation.seat, index);
     let by = word_tag(word);
     if by != 0 {
         return Err((Stopped { activation }, Tag { number: by }));
@@ -82,6 +87,7 @@ pub fn look_at<D: Decider>(
     Ok(Noted {
         activation,
         node,
+        index,
         word,
     })
 }
@@ -105,19 +111,16 @@ pub fn try_at<D: Decider>(
     let Noted {
         mut activation,
         node,
+        index,
         word,
     } = noted;
-    let room = &*activation.room;
-    let Some(number) = cell_number(&room.area, CellName::Spot(node)) else {
-        unreachable!()
-    };
-    let found = field.try_node(&mut activation.seat, number, word, word + room.tag);
+    let tag = activation.room.tag;
+    let found = field.try_node(&mut activation.seat, index, word, word + tag);
     if found == word {
         let occ = word_occ(word);
-        let stamp = word_stamp(word);
         let room = &mut *activation.room;
         room.hold(CellName::Spot(node), Cell::Spot(occ));
-        room.notes.push(Note { node, occ, stamp });
+        room.notes.push(node, word);
         return Ok(Held { activation });
     }
     let by = word_tag(found);
@@ -127,6 +130,7 @@ pub fn try_at<D: Decider>(
     Err(Ok(Noted {
         activation,
         node,
+        index,
         word: found,
     }))
 }

@@ -33,17 +33,17 @@ impl<'d, D: Decider> Field<'d, D> {
         &self,
         seat: &mut Seat<Slot, View<D>>,
         slot: usize,
-        value: Cell,
+        value: &Cell,
         stale: bool,
     )
         requires table { seat.old.table_id ≡ self.now.table }
-        requires won { (x : Cell) × (seat.old.me.1 ≡ (slot, filling.Cell x) ∷ rest seat.old.me.1) × (stale ≡ false → x ≡ value) }
+        requires won { (x : Cell) × (seat.old.me.1 ≡ (slot, filling.Cell x) ∷ rest seat.old.me.1) × (stale ≡ false → x ≡ value.now) }
         ensures same { IsSameSeat seat.old seat.new }
-        ensures there { seat.new.me ≡ (seat.old.me.0, (slot, filling.Cell value) ∷ rest seat.old.me.1) }
+        ensures there { seat.new.me ≡ (seat.old.me.0, (slot, filling.Cell value.now) ∷ rest seat.old.me.1) }
     {
         if stale {
             match seat.slot_mut(&self.table.shared, slot) {
-                Slot::Cell(there) => *there = value,
+                Slot::Cell(there) => *there = *value,
                 Slot::Journal(_) => unreachable!(),
             }
         }

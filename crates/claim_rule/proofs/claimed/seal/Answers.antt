@@ -12,5 +12,5 @@ seal-requires-clause-knows g c = subst KnowsTurn (sym c.deref_mut.ensures.value)
 pub seal-requires-clause-whole : goal.seal-requires-clause-whole
 seal-requires-clause-whole g c =
     let r = c.held.inside.activation.room.value in
-    subst (λ (q : Room). IsShown (shown_with (frame_of q.area q.maxes) q.bot q.cells.items)) (sym c.deref_mut.ensures.value)
-    (whole_is_shown g.D.Decider.verdict c.held.inside.activation.seat.me _ _ _ _ _ (reverse r.cells.items) _ c.held.invariant.0 r.cells.items c.held.invariant.1 refl (ap (next_in g.D.Decider.verdict) c.held.view_is ∙ c.requires.whole))
+    subst (λ (q : Room). IsShown (shown_with (frame_of q.area q.maxes) q.bot q.cells)) (sym c.deref_mut.ensures.value)
+    (whole_is_shown g.D.Decider.verdict c.held.inside.activation.seat.me _ _ _ _ _ (reverse r.cells) _ c.held.invariant.0 r.cells c.held.invariant.1 refl (ap (next_in g.D.Decider.verdict) c.held.view_is ∙ c.requires.whole))

@@ -35,7 +35,7 @@ hold-requires-clause-few g c =
     (ap (next_in g.D.Decider.verdict) c.held.view_is ∙ c.requires.next) (c.claim-found.ensures.told.0 c.if-found-ne0.false)
     (c.cell_there-value.ensures.value ∙ ap (λ n. (n, slot.Cell v) ∷ rest c.claim-found.new.seat.me.1) c.from.ensures)
     c.cell_there-value.ensures.stays in
-    subst (λ (q : Room). length q.cells.items < most_cells) (sym c.deref_mut.ensures.value) (has_room g.D.Decider.verdict m _ _ _ _ _ _ a.room.value.cells.items _ _ _ won.0 won.1)
+    subst (λ (q : Room). length q.cells < most_cells) (sym c.deref_mut.ensures.value) (has_room g.D.Decider.verdict m _ _ _ _ _ _ a.room.value.cells _ _ _ won.0 won.1)
 
 pub hold-requires-clause-knows : goal.hold-requires-clause-knows
 hold-requires-clause-knows g c = subst KnowsTurn (sym c.deref_mut.ensures.value) c.held.invariant.2
@@ -49,7 +49,7 @@ hold-requires-clause-order g c =
     (ap (next_in g.D.Decider.verdict) c.held.view_is ∙ c.requires.next) (c.claim-found.ensures.told.0 c.if-found-ne0.false)
     (c.cell_there-value.ensures.value ∙ ap (λ n. (n, slot.Cell v) ∷ rest c.claim-found.new.seat.me.1) c.from.ensures)
     c.cell_there-value.ensures.stays in
-    subst (λ (q : Room). AreReadInOrder q.area q.bot (q.cells.items ++ (name.Body c.args.id, v) ∷ [])) (sym c.deref_mut.ensures.value) (in_order g.D.Decider.verdict m _ _ _ _ _ _ a.room.value.cells.items _ _ _ won.0 won.1)
+    subst (λ (q : Room). AreReadInOrder q.area q.bot (q.cells ++ (name.Body c.args.id, v) ∷ [])) (sym c.deref_mut.ensures.value) (in_order g.D.Decider.verdict m _ _ _ _ _ _ a.room.value.cells _ _ _ won.0 won.1)
 
 pub invariant_of-result-2 : goal.invariant_of-result-2
 invariant_of-result-2 g c =
@@ -63,7 +63,7 @@ invariant_of-result-2 g c =
     let r = a.room.value in
     let new = c.hold.new.self in
     let now = c.hold.ensures.same ∙ ap (λ (q : Room). record q { zone = new.zone; cells = new.cells }) c.deref_mut.ensures.value in
-    let cells = ap reverse (c.hold.ensures.cells ∙ ap (λ (q : Room). q.cells.items ++ (name.Body c.args.id, v) ∷ []) c.deref_mut.ensures.value) ∙ last_first r.cells.items (name.Body c.args.id, v) in
-    let with_cells = subst (λ (ps : Pairs). IsActivation g.D.Decider.verdict m r.caller r.turn r.bot r.stale (frame_of r.area r.maxes) ps (reverse r.notes.items) × IsClaiming g.D.Decider.verdict m r.turn r.bot ps) (sym cells) won in
-    let all = subst (λ (q : Room). KeepsRoom g.D.Decider.verdict m q × IsClaiming g.D.Decider.verdict m q.turn q.bot (reverse q.cells.items)) (sym now) with_cells in
+    let cells = ap reverse (c.hold.ensures.cells ∙ ap (λ (q : Room). q.cells ++ (name.Body c.args.id, v) ∷ []) c.deref_mut.ensures.value) ∙ last_first r.cells (name.Body c.args.id, v) in
+    let with_cells = subst (λ (ps : Pairs). IsActivation g.D.Decider.verdict m r.caller r.turn r.bot r.stale (frame_of r.area r.maxes) ps (reverse r.notes) × IsClaiming g.D.Decider.verdict m r.turn r.bot ps) (sym cells) won in
+    let all = subst (λ (q : Room). KeepsRoom g.D.Decider.verdict m q × IsClaiming g.D.Decider.verdict m q.turn q.bot (reverse q.cells)) (sym now) with_cells in
     (all.0, all.1, c.hold.ensures.knows)

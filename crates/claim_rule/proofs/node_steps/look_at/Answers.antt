@@ -9,7 +9,7 @@ use Rattle.claim_rule.proofs.node_steps.look_at.Goals as goal
 
 pub look_node-word-requires-clause-next : goal.look_node-word-requires-clause-next
 look_node-word-requires-clause-next g c κs within =
-    (to_try g.D.Decider.verdict c.held.inside.activation.seat.me _ _ _ _ _ _ _ c.held.invariant.0 c.args.node c.in-Some.number c.held.invariant.1
+    (to_try g.D.Decider.verdict c.held.inside.activation.seat.me _ _ _ _ _ _ _ c.held.invariant.0 c.args.node c.in-Some.index c.held.invariant.1
     (ap (next_in g.D.Decider.verdict) c.held.view_is ∙ c.requires.next) (ap (λ (q : Room). number q.area (name.Spot c.args.node)) (sym c.deref.ensures) ∙ sym c.cell_number.ensures ∙ c.in-Some.is)).0
 
 pub invariant_of-result : goal.invariant_of-result
@@ -24,4 +24,4 @@ invariant_of-result-2 g c =
     let all = noted g.D.Decider.verdict _ _ _ _ _ _ _ c.args.node c.held.inside.activation.seat.me c.held.invariant.0 c.held.invariant.1
     (sym (next_same g.D.Decider.verdict c.held.inside.activation.seat.me _ _ _ _ _ _ _ c.held.invariant.0 c.held.invariant.1.turn) ∙ ap (next_in g.D.Decider.verdict) c.held.view_is ∙ c.requires.next)
     c.look_node-word.result c.look_node-word.new.seat.me free (c.look_node-word.ensures.told.0 free) in
-    (all.0, c.held.invariant.2)
+    (all.0, c.held.invariant.2, ap (λ (q : Room). number q.area (name.Spot c.args.node)) (sym c.deref.ensures) ∙ sym c.cell_number.ensures ∙ c.in-Some.is)

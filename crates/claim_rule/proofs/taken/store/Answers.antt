@@ -23,11 +23,11 @@ invariant_of-result g c =
     let r = taken.activation.room.value in
     let room = c.settle.new.self in
     let now = c.settle.ensures.same ∙ ap (λ (q : Room). record q { cells = room.cells; stale = true }) c.deref_mut-room.ensures.value in
-    let cells = c.settle.ensures.cells ∙ ap (λ (q : Room). map (patched_pair q.changes.items) q.cells.items) c.deref_mut-room.ensures.value ∙ ap (λ (ps : Pairs). map (patched_pair ps) r.cells.items) c.taken.invariant.1.changes in
+    let cells = c.settle.ensures.cells ∙ ap (λ (q : Room). map (patched_pair q.changes.items) q.cells) c.deref_mut-room.ensures.value ∙ ap (λ (ps : Pairs). map (patched_pair ps) r.cells) c.taken.invariant.1.changes in
     let m = c.store_length.new.seat.me in
     let did = c.push_entry-place.ensures.pushed in
     let place = c.push_entry-place.result in
     let all = has_stored g.D.Decider.verdict taken.activation.seat.me _ _ _ _ _ _ _ (change_of taken.entry) c.taken.invariant.0 _ did.0 did.2 place did.1 c.push_entry-place.new.seat.me m _
-    did.3 c.store_length.ensures.told.0 c.store_length.ensures.told.1 did.5 (ap reverse cells ∙ reverse-map (patched_pair taken.entry.patch) r.cells.items) in
-    let held = reverse room.cells.items in
-    subst (λ (q : Room). IsActivation g.D.Decider.verdict m q.caller q.turn q.bot q.stale (frame_of q.area q.maxes) held (reverse q.notes.items) × IsFreeing g.D.Decider.verdict m q.turn held (place + 1) × (0 < length held)) (sym now) (all.0, all.1, all.2)
+    did.3 c.store_length.ensures.told.0 c.store_length.ensures.told.1 did.5 (ap reverse cells ∙ reverse-map (patched_pair taken.entry.patch) r.cells) in
+    let held = reverse room.cells in
+    subst (λ (q : Room). IsActivation g.D.Decider.verdict m q.caller q.turn q.bot q.stale (frame_of q.area q.maxes) held (reverse q.notes) × IsFreeing g.D.Decider.verdict m q.turn held (place + 1) × (0 < length held)) (sym now) (all.0, all.1, all.2)

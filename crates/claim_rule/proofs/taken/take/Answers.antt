@@ -33,7 +33,7 @@ invariant_of-result-2 g c =
     let now = c.ready-entry.ensures.same ∙ ap (λ (q : Room). record q { changes = room.changes }) c.deref_mut.ensures.value in
     let entry = c.ready-entry.ensures.entry ∙ ap (λ (q : Room). entry_of q.caller q.turn q.bot c.args.change) c.deref_mut.ensures.value in
     let change = ap change_of entry in
-    let taken = subst (λ (q : Room × Change). IsTaken g.D.Decider.verdict m q.0.caller q.0.turn q.0.bot q.0.stale (frame_of q.0.area q.0.maxes) (reverse q.0.cells.items) (reverse q.0.notes.items) q.1) (λ i. (sym now i, sym change i)) got.0 in
+    let taken = subst (λ (q : Room × Change). IsTaken g.D.Decider.verdict m q.0.caller q.0.turn q.0.bot q.0.stale (frame_of q.0.area q.0.maxes) (reverse q.0.cells) (reverse q.0.notes) q.1) (λ i. (sym now i, sym change i)) got.0 in
     let ready = subst (λ (q : Room). IsReadyEntry q c.ready-entry.result) (sym now) (record {
       entry = entry ∙ ap (entry_of r.caller r.turn r.bot) (sym change);
       changes = c.ready-entry.ensures.changes ∙ sym (ap (λ (e : Entry). e.patch) entry);
