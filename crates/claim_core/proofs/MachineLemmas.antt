@@ -341,9 +341,9 @@ module _ {verdict : Shown → Verdict} {lists : CallerLists} {tags : List ℕ} {
               pub claim_known : (new : Reading) → ((b : ℕ) (cells : Pairs) (m : CellName) → zone ≡ reading area b cells → AreReadInOrder area b (cells ++ (m, x) ∷ []) → new ≡ reading area b (cells ++ (m, x) ∷ [])) → new ≡ reading journal.first.area own more
               claim_known new pushed = pushed own seat.held.items n known_there in_turn ∙ (λ j. reading (same_first j) own (seat.held.items ++ (n, x_is j) ∷ []))
 
-            -- and so the next cell is known
-            pub claim_after : (new : Reading) (len : ℕ) (next : Option CellName) → new ≡ reading journal.first.area own more → len ≡ length more → next ≡ slice_get new.names len → next ≡ next_cell world.area own more
-            claim_after new len next known long is_it = is_it ∙ (λ j. slice_get (known j).names (long j)) ∙ ap (λ a. next_cell a own more) (sym same_extent)
+            -- in the area of the world, which is that of the first one
+            pub claim_reads : (new : Reading) → new ≡ reading journal.first.area own more → new ≡ reading world.area own more
+            claim_reads new known = known ∙ ap (λ a. reading a own more) (sym same_extent)
 
             frame : shown_with journal.first own more ≡ shown_with world own more
             frame = ap (λ (w : Config). shown_with w own more) (sym (run_framed verdict journal.first world journal.entries is.setup.valid is.run).rest)

@@ -1,6 +1,6 @@
 ghost use Rattle.std.specs.Prelude.{◌≡◌, ◌<◌, ◌+◌, length, map, IfOk, IsSome, slice_get, Some, None, IsTrue, ◌↔◌};
 ghost use Rattle.tri_lattice.specs.Extent.{Extent};
-ghost use Rattle.amoebot_state.specs.Zones.{IsShown, shown_with};
+ghost use Rattle.amoebot_state.specs.Zones.{IsShown, Shown, shown_with};
 ghost use Rattle.amoebot_state.specs.Known.{next_cell};
 ghost use Rattle.amoebot_state.specs.Ways.{reading};
 ghost use Rattle.std.specs.List.{All};
@@ -66,7 +66,34 @@ impl CoreCaller {
             self.turn += 1;
             self.phase = opening_phase(self.turn, turns);
         } else {
-            self.phase = Phase::Releasing;
+            match self.phase {
+                Phase::Releasing => {}
+                _ => self.phase = Phase::Releasing,
+            }
+        }
+    }
+
+    /// Goes on after a cell was won, of which all that is held is known: with the last one of the zone comes the decision.
+    fn go_on<D: Decider>(
+        &mut self,
+        decider: &D,
+        found: &mut Option<Found>,
+        area: Area,
+        maxes: [u8; 8],
+        bot: u16,
+    )
+        requires claims { self.old.phase ≡ phase.Claim }
+        requires knows { self.old.zone ≡ reading area bot self.old.held.items }
+        requires whole { next_cell area bot self.old.held.items ≡ None
+            → IsShown (shown_with (frame_of area maxes) bot self.old.held.items) }
+        ensures { self.new ≡ record self.old {
+          phase = phase_after (D.verdict decider.now) (shown_with (frame_of area maxes) bot self.old.held.items)
+              (next_cell area bot self.old.held.items);
+        } }
+    {
+        if self.zone.next(self.held.len()).is_none() {
+            seal(found, area, maxes, bot, &self.zone, self.held.as_slice());
+            self.phase = decided(decider, found);
         }
     }
 }
@@ -93,6 +120,8 @@ pub struct Core<'d, D: Decider> {
     holder: Option<u8>,
     seats: Vec<CoreCaller>,
     marks: Marks,
+    /// What was found for the last decision. Its place serves for the next one.
+    found: Option<Found>,
 }
 
 impl<'d, D: Decider> Model for Core<'d, D> {
@@ -153,6 +182,7 @@ impl<'d, D: Decider> Core<'d, D> {
             holder: None,
             seats,
             marks,
+            found: None,
         })
     }
 
@@ -274,14 +304,7 @@ impl<'d, D: Decider> Core<'d, D> {
         let value = value_of(&self.world, name);
         seat.zone.push(&area, &value);
         seat.held.push((name, value));
-        seat.phase = after_win(
-            self.decider,
-            area,
-            self.world.maxes(),
-            bot,
-            seat.held.as_slice(),
-            seat.zone.next(seat.held.len()),
-        );
+        seat.go_on(self.decider, &mut self.found, area, self.world.maxes(), bot);
     }
 
     /// Refusing, Looking and the end of Committing: the turn gets its mark.
@@ -480,21 +503,33 @@ fn next_known(zone: &mut KnownZone, bot: u16, held: &[(CellName, Cell)]) -> Opti
     zone.next(held.len())
 }
 
-/// What a caller does after it won a cell, where this is the next one: with the last one of the zone comes the decision.
-fn after_win<D: Decider>(
-    decider: &D,
+/// Keeps what was found in the cells of a whole zone, of which all is known.
+fn seal(
+    found: &mut Option<Found>,
     area: Area,
     maxes: [u8; 8],
     bot: u16,
+    zone: &KnownZone,
     cells: &[(CellName, Cell)],
-    next: Option<CellName>,
-) -> Phase
-    requires { next ≡ None → IsShown (shown_with (frame_of area maxes) bot cells.now) }
-    ensures { result ≡ phase_after (D.verdict decider.now) (shown_with (frame_of area maxes) bot cells.now) next }
+)
+    requires known { zone.now ≡ reading area bot cells.now }
+    requires shown { IsShown (shown_with (frame_of area maxes) bot cells.now) }
+    ensures { found.new ≡ Some (shown_with (frame_of area maxes) bot cells.now) }
 {
-    match next {
-        Some(_) => Phase::Claim,
-        None => phase_of(decider.decide(&Found::make(area, maxes, bot, cells))),
+    match found {
+        Some(found) => found.renew(area, maxes, bot, zone, cells),
+        None => *found = Some(Found::make(area, maxes, bot, cells)),
+    }
+}
+
+/// The phase of a caller that decides on what was found.
+fn decided<D: Decider>(decider: &D, found: &Option<Found>) -> Phase
+    requires { IsSome found.now }
+    ensures { (s : Shown) → found.now ≡ Some s → result ≡ phase_of_verdict (D.verdict decider.now s) }
+{
+    match found {
+        Some(found) => phase_of(decider.decide(found)),
+        None => unreachable!(),
     }
 }
 

@@ -1,4 +1,4 @@
-use Rattle.std.proofs.Common.{◌≡◌, ◌++◌, ◌∷◌, [], refl, sym, ap, ◌∙◌, subst, arith, List, ℕ, length, set}
+use Rattle.std.proofs.Common.{◌≡◌, ◌++◌, ◌∷◌, [], refl, sym, ap, ◌∙◌, subst, arith, List, ℕ, set}
 use Rattle.std.proofs.Math.ListN.{length-set}
 use Rattle.std.proofs.lemmas.Option.{none-some, same_Some}
 use Rattle.tri_lattice.specs.Extent.{Extent}
@@ -7,12 +7,13 @@ use Rattle.amoebot_state.specs.Pairs.{Pairs}
 use Rattle.amoebot_state.specs.Known.{next_cell}
 use Rattle.amoebot_state.specs.Ways.{reading}
 use Rattle.amoebot_state.specs.Zones.{Shown, IsShown, shown_with}
+use Rattle.claim_core.specs.declared.machine.CoreCaller.{CoreCaller}
 use Rattle.claim_core.specs.declared.state.Phase.TheVariants as phase
 use Rattle.claim_core.specs.Turns.{bot_of_turn}
 use Rattle.claim_core.specs.Tags.{tag}
 use Rattle.claim_core.specs.Cells.{number, held_by}
 use Rattle.claim_core.specs.Cores.{phase_after, state_of}
-use Rattle.claim_core.proofs.MachineLemmas.{closes, kept, known as is_listed, looked, zones_past, zones_with, refusing_past, claim_next, few_held, claim_number, claim_cell, claim_refused, claim_push, claim_known, claim_after, claim_shown, claim_won, seat_in, inside_in, phase_in}
+use Rattle.claim_core.proofs.MachineLemmas.{closes, kept, known as is_listed, looked, zones_past, zones_with, refusing_past, claim_next, few_held, claim_number, claim_cell, claim_refused, claim_push, claim_known, claim_reads, claim_shown, claim_won, seat_in, inside_in, phase_in}
 use Rattle.claim_core.proofs.machine.Core.claim.Goals as goal
 
 abbrev the_shown : Extent → List ℕ → ℕ → Pairs → Shown
@@ -109,20 +110,40 @@ push-requires-2 g c =
     let few = few_held c.self.invariant seat ph in
     (omega arith, omega (arith, few))
 
-pub after_win-seat-requires-after_bounds : goal.after_win-seat-requires-after_bounds
-after_win-seat-requires-after_bounds g c =
+pub go_on-requires-clause-claims : goal.go_on-requires-clause-claims
+go_on-requires-clause-claims g c =
+    let seat = seat_in c.self.invariant c.self.view_is refl c.args.caller phase.Claim c.requires c.from.result c.index_mut-seat.result.now c.from.ensures c.index_mut-seat.ensures.value in
+    let ph = phase_in c.self.invariant seat c.self.view_is refl phase.Claim c.requires in
+    λ ks below. ph
+
+pub go_on-requires-clause-knows : goal.go_on-requires-clause-knows
+go_on-requires-clause-knows g c =
     let seat = seat_in c.self.invariant c.self.view_is refl c.args.caller phase.Claim c.requires c.from.result c.index_mut-seat.result.now c.from.ensures c.index_mut-seat.ensures.value in
     let ph = phase_in c.self.invariant seat c.self.view_is refl phase.Claim c.requires in
     let (known, asked) = looked c.self.invariant seat ph c.next_known-next.new.zone c.next_known-next.result c.bot-bot.result c.as_slice.result.now c.bot-bot.ensures c.as_slice.ensures.value c.next_known-next.ensures in
     let nx = asked ∙ c.in-Some.is in
     let at_n = ap (λ a. number a c.in-Some.name) (sym c.area-area.ensures) ∙ sym c.cell_number.ensures ∙ c.in-Some-cell_number.is in
     let held : c.push-2.new.self.items ≡ c.index_mut-seat.result.now.held.items ++ (c.in-Some.name, held_by c.self.inside.world c.in-Some.name) ∷ [] = c.push-2.ensures.items ∙ ap (λ x. c.index_mut-seat.result.now.held.items ++ (c.in-Some.name, x) ∷ []) c.value_of-value.ensures in
-    let cells : c.as_slice-2.result.now ≡ c.index_mut-seat.result.now.held.items ++ (c.in-Some.name, held_by c.self.inside.world c.in-Some.name) ∷ [] = c.as_slice-2.ensures.value ∙ held in
     let knows = claim_known c.self.invariant seat ph c.in-Some.name nx c.in-Some-cell_number.number at_n c.index-found.result.now c.index-found.ensures c.if-found-ne0.false c.next_known-next.new.zone c.area-area.result c.value_of-value.result c.area-area.ensures c.value_of-value.ensures known c.push.new.self c.push.ensures in
-    let follows = claim_after c.self.invariant seat ph c.in-Some.name nx c.in-Some-cell_number.number at_n c.index-found.result.now c.index-found.ensures c.if-found-ne0.false c.push.new.self c.len.result c.next.result knows (c.len.ensures.value ∙ ap (λ (ps : Pairs). length ps) held) c.next.ensures in
+    let reads = claim_reads c.self.invariant seat ph c.in-Some.name nx c.in-Some-cell_number.number at_n c.index-found.result.now c.index-found.ensures c.if-found-ne0.false c.push.new.self knows in
+    λ ks below. reads ∙ (λ j. reading (sym c.area-area.ensures j) (sym c.bot-bot.ensures j) (sym held j))
+
+pub go_on-requires-clause-whole : goal.go_on-requires-clause-whole
+go_on-requires-clause-whole g c =
+    let seat = seat_in c.self.invariant c.self.view_is refl c.args.caller phase.Claim c.requires c.from.result c.index_mut-seat.result.now c.from.ensures c.index_mut-seat.ensures.value in
+    let ph = phase_in c.self.invariant seat c.self.view_is refl phase.Claim c.requires in
+    let (known, asked) = looked c.self.invariant seat ph c.next_known-next.new.zone c.next_known-next.result c.bot-bot.result c.as_slice.result.now c.bot-bot.ensures c.as_slice.ensures.value c.next_known-next.ensures in
+    let nx = asked ∙ c.in-Some.is in
+    let at_n = ap (λ a. number a c.in-Some.name) (sym c.area-area.ensures) ∙ sym c.cell_number.ensures ∙ c.in-Some-cell_number.is in
+    let held : c.push-2.new.self.items ≡ c.index_mut-seat.result.now.held.items ++ (c.in-Some.name, held_by c.self.inside.world c.in-Some.name) ∷ [] = c.push-2.ensures.items ∙ ap (λ x. c.index_mut-seat.result.now.held.items ++ (c.in-Some.name, x) ∷ []) c.value_of-value.ensures in
+    let knows = claim_known c.self.invariant seat ph c.in-Some.name nx c.in-Some-cell_number.number at_n c.index-found.result.now c.index-found.ensures c.if-found-ne0.false c.next_known-next.new.zone c.area-area.result c.value_of-value.result c.area-area.ensures c.value_of-value.ensures known c.push.new.self c.push.ensures in
+    let reads = claim_reads c.self.invariant seat ph c.in-Some.name nx c.in-Some-cell_number.number at_n c.index-found.result.now c.index-found.ensures c.if-found-ne0.false c.push.new.self knows in
+    let own = bot_of_turn c.self.inside.lists c.args.caller c.index_mut-seat.result.now.turn in
+    let more = c.index_mut-seat.result.now.held.items ++ (c.in-Some.name, held_by c.self.inside.world c.in-Some.name) ∷ [] in
+    let is_next : next_cell c.self.inside.world.area own more ≡ next_cell c.area-area.result c.bot-bot.result c.push-2.new.self.items = λ j. next_cell (sym c.area-area.ensures j) (sym c.bot-bot.ensures j) (sym held j) in
     λ ks below none.
-    let shown = claim_shown c.self.invariant seat ph c.in-Some.name nx c.in-Some-cell_number.number at_n c.index-found.result.now c.index-found.ensures c.if-found-ne0.false (sym follows ∙ none) in
-    subst IsShown (λ j. the_shown (sym c.area-area.ensures j) (sym c.maxes.ensures j) (sym c.bot-bot.ensures j) (sym cells j)) shown
+    let shown = claim_shown c.self.invariant seat ph c.in-Some.name nx c.in-Some-cell_number.number at_n c.index-found.result.now c.index-found.ensures c.if-found-ne0.false (is_next ∙ none) in
+    subst IsShown (λ j. the_shown (sym c.area-area.ensures j) (sym c.maxes.ensures j) (sym c.bot-bot.ensures j) (sym held j)) shown
 
 pub invariant_of-self-2 : goal.invariant_of-self-2
 invariant_of-self-2 g c =
@@ -132,18 +153,18 @@ invariant_of-self-2 g c =
     let nx = asked ∙ c.in-Some.is in
     let at_n = ap (λ a. number a c.in-Some.name) (sym c.area-area.ensures) ∙ sym c.cell_number.ensures ∙ c.in-Some-cell_number.is in
     let held : c.push-2.new.self.items ≡ c.index_mut-seat.result.now.held.items ++ (c.in-Some.name, held_by c.self.inside.world c.in-Some.name) ∷ [] = c.push-2.ensures.items ∙ ap (λ x. c.index_mut-seat.result.now.held.items ++ (c.in-Some.name, x) ∷ []) c.value_of-value.ensures in
-    let cells : c.as_slice-2.result.now ≡ c.index_mut-seat.result.now.held.items ++ (c.in-Some.name, held_by c.self.inside.world c.in-Some.name) ∷ [] = c.as_slice-2.ensures.value ∙ held in
     let knows = claim_known c.self.invariant seat ph c.in-Some.name nx c.in-Some-cell_number.number at_n c.index-found.result.now c.index-found.ensures c.if-found-ne0.false c.next_known-next.new.zone c.area-area.result c.value_of-value.result c.area-area.ensures c.value_of-value.ensures known c.push.new.self c.push.ensures in
-    let follows = claim_after c.self.invariant seat ph c.in-Some.name nx c.in-Some-cell_number.number at_n c.index-found.result.now c.index-found.ensures c.if-found-ne0.false c.push.new.self c.len.result c.next.result knows (c.len.ensures.value ∙ ap (λ (ps : Pairs). length ps) held) c.next.ensures in
+    let reads = claim_reads c.self.invariant seat ph c.in-Some.name nx c.in-Some-cell_number.number at_n c.index-found.result.now c.index-found.ensures c.if-found-ne0.false c.push.new.self knows in
     let own = bot_of_turn c.self.inside.lists c.args.caller c.index_mut-seat.result.now.turn in
-    let ph2 : c.after_win-seat.result ≡ phase_after (g.D.Decider.verdict c.self.inside.decider.now) (the_shown c.self.inside.world.area c.self.inside.world.maxes own (c.index_mut-seat.result.now.held.items ++ (c.in-Some.name, held_by c.self.inside.world c.in-Some.name) ∷ [])) (next_cell c.self.inside.world.area own (c.index_mut-seat.result.now.held.items ++ (c.in-Some.name, held_by c.self.inside.world c.in-Some.name) ∷ [])) =
-    c.after_win-seat.ensures ∙ (λ j. phase_after (g.D.Decider.verdict c.self.inside.decider.now) (the_shown (c.area-area.ensures j) (c.maxes.ensures j) (c.bot-bot.ensures j) (cells j)) (follows j)) in
-    let new = record c.index_mut-seat.result.now { phase = c.after_win-seat.result; zone = c.push.new.self; held = c.push-2.new.self } in
-    let won = claim_won c.self.invariant seat ph c.in-Some.name nx c.in-Some-cell_number.number at_n c.index-found.result.now c.index-found.ensures c.if-found-ne0.false new refl held ph2 in
+    let new = c.go_on.new.self in
+    let ph2 : new.phase ≡ phase_after (g.D.Decider.verdict c.self.inside.decider.now) (the_shown c.self.inside.world.area c.self.inside.world.maxes own (c.index_mut-seat.result.now.held.items ++ (c.in-Some.name, held_by c.self.inside.world c.in-Some.name) ∷ [])) (next_cell c.self.inside.world.area own (c.index_mut-seat.result.now.held.items ++ (c.in-Some.name, held_by c.self.inside.world c.in-Some.name) ∷ [])) =
+    ap (λ (s : CoreCaller). s.phase) c.go_on.ensures ∙ (λ j. phase_after (g.D.Decider.verdict c.self.inside.decider.now) (the_shown (c.area-area.ensures j) (c.maxes.ensures j) (c.bot-bot.ensures j) (held j)) (next_cell (c.area-area.ensures j) (c.bot-bot.ensures j) (held j))) in
+    let kept_held = ap (λ (s : CoreCaller). s.held.items) c.go_on.ensures ∙ held in
+    let won = claim_won c.self.invariant seat ph c.in-Some.name nx c.in-Some-cell_number.number at_n c.index-found.result.now c.index-found.ensures c.if-found-ne0.false new (ap (λ (s : CoreCaller). s.turn) c.go_on.ensures) kept_held ph2 in
     let tagged : c.tag.result ≡ tag c.args.caller c.index_mut-seat.result.now.turn own = c.tag.ensures ∙ ap (tag c.args.caller c.index_mut-seat.result.now.turn) c.bot-bot.ensures in
     let step = ap (λ t. state_of (set c.self.inside.tags.items c.in-Some-cell_number.number t) c.self.inside.world c.self.inside.journal c.self.inside.holder (set c.self.inside.seats.items c.from.result new) c.self.inside.marks) tagged ∙ won in
     kept c.self.invariant c.args.caller refl step c.self.invariant.run c.self.invariant.turns (c.self.invariant.each ∙ sym (length-set c.self.inside.seats.items c.from.result _)) c.self.invariant.room c.self.invariant.few
-    (zones_with c.self.invariant seat new (λ claims some. knows ∙ ap (reading c.self.inside.journal.first.area own) (sym held)))
+    (zones_with c.self.invariant seat new (λ claims some. ap (λ (s : CoreCaller). s.zone) c.go_on.ensures ∙ knows ∙ (λ j. reading c.self.inside.journal.first.area (bot_of_turn c.self.inside.lists c.args.caller (ap (λ (s : CoreCaller). s.turn) (sym c.go_on.ensures) j)) (sym kept_held j))))
 
 pub returns : goal.returns
 returns g c =
@@ -153,14 +174,14 @@ returns g c =
     let nx = asked ∙ c.in-Some.is in
     let at_n = ap (λ a. number a c.in-Some.name) (sym c.area-area.ensures) ∙ sym c.cell_number.ensures ∙ c.in-Some-cell_number.is in
     let held : c.push-2.new.self.items ≡ c.index_mut-seat.result.now.held.items ++ (c.in-Some.name, held_by c.self.inside.world c.in-Some.name) ∷ [] = c.push-2.ensures.items ∙ ap (λ x. c.index_mut-seat.result.now.held.items ++ (c.in-Some.name, x) ∷ []) c.value_of-value.ensures in
-    let cells : c.as_slice-2.result.now ≡ c.index_mut-seat.result.now.held.items ++ (c.in-Some.name, held_by c.self.inside.world c.in-Some.name) ∷ [] = c.as_slice-2.ensures.value ∙ held in
     let knows = claim_known c.self.invariant seat ph c.in-Some.name nx c.in-Some-cell_number.number at_n c.index-found.result.now c.index-found.ensures c.if-found-ne0.false c.next_known-next.new.zone c.area-area.result c.value_of-value.result c.area-area.ensures c.value_of-value.ensures known c.push.new.self c.push.ensures in
-    let follows = claim_after c.self.invariant seat ph c.in-Some.name nx c.in-Some-cell_number.number at_n c.index-found.result.now c.index-found.ensures c.if-found-ne0.false c.push.new.self c.len.result c.next.result knows (c.len.ensures.value ∙ ap (λ (ps : Pairs). length ps) held) c.next.ensures in
+    let reads = claim_reads c.self.invariant seat ph c.in-Some.name nx c.in-Some-cell_number.number at_n c.index-found.result.now c.index-found.ensures c.if-found-ne0.false c.push.new.self knows in
     let own = bot_of_turn c.self.inside.lists c.args.caller c.index_mut-seat.result.now.turn in
-    let ph2 : c.after_win-seat.result ≡ phase_after (g.D.Decider.verdict c.self.inside.decider.now) (the_shown c.self.inside.world.area c.self.inside.world.maxes own (c.index_mut-seat.result.now.held.items ++ (c.in-Some.name, held_by c.self.inside.world c.in-Some.name) ∷ [])) (next_cell c.self.inside.world.area own (c.index_mut-seat.result.now.held.items ++ (c.in-Some.name, held_by c.self.inside.world c.in-Some.name) ∷ [])) =
-    c.after_win-seat.ensures ∙ (λ j. phase_after (g.D.Decider.verdict c.self.inside.decider.now) (the_shown (c.area-area.ensures j) (c.maxes.ensures j) (c.bot-bot.ensures j) (cells j)) (follows j)) in
-    let new = record c.index_mut-seat.result.now { phase = c.after_win-seat.result; zone = c.push.new.self; held = c.push-2.new.self } in
-    let won = claim_won c.self.invariant seat ph c.in-Some.name nx c.in-Some-cell_number.number at_n c.index-found.result.now c.index-found.ensures c.if-found-ne0.false new refl held ph2 in
+    let new = c.go_on.new.self in
+    let ph2 : new.phase ≡ phase_after (g.D.Decider.verdict c.self.inside.decider.now) (the_shown c.self.inside.world.area c.self.inside.world.maxes own (c.index_mut-seat.result.now.held.items ++ (c.in-Some.name, held_by c.self.inside.world c.in-Some.name) ∷ [])) (next_cell c.self.inside.world.area own (c.index_mut-seat.result.now.held.items ++ (c.in-Some.name, held_by c.self.inside.world c.in-Some.name) ∷ [])) =
+    ap (λ (s : CoreCaller). s.phase) c.go_on.ensures ∙ (λ j. phase_after (g.D.Decider.verdict c.self.inside.decider.now) (the_shown (c.area-area.ensures j) (c.maxes.ensures j) (c.bot-bot.ensures j) (held j)) (next_cell (c.area-area.ensures j) (c.bot-bot.ensures j) (held j))) in
+    let kept_held = ap (λ (s : CoreCaller). s.held.items) c.go_on.ensures ∙ held in
+    let won = claim_won c.self.invariant seat ph c.in-Some.name nx c.in-Some-cell_number.number at_n c.index-found.result.now c.index-found.ensures c.if-found-ne0.false new (ap (λ (s : CoreCaller). s.turn) c.go_on.ensures) kept_held ph2 in
     let tagged : c.tag.result ≡ tag c.args.caller c.index_mut-seat.result.now.turn own = c.tag.ensures ∙ ap (tag c.args.caller c.index_mut-seat.result.now.turn) c.bot-bot.ensures in
     let step = ap (λ t. state_of (set c.self.inside.tags.items c.in-Some-cell_number.number t) c.self.inside.world c.self.inside.journal c.self.inside.holder (set c.self.inside.seats.items c.from.result new) c.self.inside.marks) tagged ∙ won in
     closes g.D.Decider.verdict c.self.inside.decider.now c.self.inside.journal.first c.self.inside.journal.first c.self.inside.lists _ _ c.args.self.now c.args.caller c.self.view_is refl step
