@@ -1,4 +1,4 @@
-ghost use Rattle.std.specs.Prelude.{◌≡◌, ◌<◌, true};
+ghost use Rattle.std.specs.Prelude.{◌≡◌, ◌<◌, ◌%◌, true};
 ghost use Rattle.tri_lattice.specs.Lattice.{IsNear};
 ghost use Rattle.amoebot_state.specs.Ports.{pair_place, global, local, is_port, behind, end_node, end_word, is_contracted, is_own};
 
@@ -84,8 +84,8 @@ impl Bot {
         ensures { result ≡ global self.now local }
     {
         let number = match self.chir {
-            Chir::Plus => (self.rot + local) % 6,
-            Chir::Minus => (self.rot + (6 - local)) % 6,
+            Chir::Plus => within_six(self.rot + local),
+            Chir::Minus => within_six(self.rot + (6 - local)),
         };
         Dir::new(number).unwrap()
     }
@@ -97,8 +97,8 @@ impl Bot {
     {
         let number = dir.number();
         match self.chir {
-            Chir::Plus => (number + (6 - self.rot)) % 6,
-            Chir::Minus => (self.rot + (6 - number)) % 6,
+            Chir::Plus => within_six(number + (6 - self.rot)),
+            Chir::Minus => within_six(self.rot + (6 - number)),
         }
     }
 
@@ -141,6 +141,14 @@ impl Bot {
             !self.is_own(self.behind(port))
         }
     }
+}
+
+/// The remainder that division by 6 leaves of a number below 12.
+fn within_six(number: u8) -> u8
+    requires { number < 12 }
+    ensures { result ≡ number % 6 }
+{
+    if number < 6 { number } else { number - 6 }
 }
 
 /// All pairs of an end and a local direction, in port order: head before tail, then rising direction.

@@ -1,14 +1,16 @@
-ghost use Rattle.std.specs.Prelude.{◌≡◌, ◌<◌, ◌≤◌, ◌+◌, [], length};
-ghost use Rattle.std.specs.List.{position};
-ghost use Rattle.amoebot_state.specs.Ports.{is_port, behind};
+ghost use Rattle.std.specs.Prelude.{◌≡◌, ◌<◌, ◌≤◌, ◌+◌, [], length, take, IsTrue, true, false, if◌then◌else◌};
+ghost use Rattle.std.specs.List.{fold, position};
+ghost use Rattle.amoebot_state.specs.declared.bot.End.TheVariants.{Head, Tail};
+ghost use Rattle.amoebot_state.specs.Ports.{all_ports, behind, is_contracted, own_nodes, port};
 ghost use Rattle.amoebot_state.specs.Refusals.{IsBotInRange};
 ghost use Rattle.amoebot_state.specs.Storage.{with_new, with_port};
 ghost use Rattle.amoebot_state.specs.Ways.{node_place, way_among, ways_of};
 ghost use Rattle.amoebot_state.specs.Zones.{zone_nodes};
 ghost use Rattle.arrayvec.specs.ArrayVec.{array_vec_len};
+ghost use Rattle.tri_lattice.specs.Extent.{is_in};
 ghost use Rattle.tri_lattice.specs.Lattice.{node_eq};
 
-use crate::bot::{ALL_PORTS, Bot, Port};
+use crate::bot::Bot;
 use arrayvec::ArrayVec;
 use tri_lattice::{Area, Node};
 
@@ -55,24 +57,60 @@ pub(crate) fn push_nodes(nodes: &mut FewNodes, area: &Area, bot: &Bot) -> Ways
     if !bot.is_contracted() {
         nodes.push(bot.tail);
     }
+    let inner = area.has_ring(bot.head);
     let mut ways = [Way::NoPort; 12];
-    for (place, port) in ALL_PORTS.iter().enumerate() {
-        ways[place] = push_way(nodes, area, bot, *port);
+    for dir in 0..6 {
+        ways[dir] = push_head_way(nodes, area, bot, inner, dir as u8);
+    }
+    for dir in 0..tail_pairs(bot) {
+        ways[6 + dir] = push_tail_way(nodes, area, bot, dir as u8);
     }
     ways
 }
 
-/// Adds the node behind a port, where it lies in the area and is new, and tells where the pair leads.
-fn push_way(nodes: &mut FewNodes, area: &Area, bot: &Bot, port: Port) -> Way
-    requires plain { IsBotInRange bot.now }
-    requires room { length (with_port area.now bot.now nodes.old.items port) ≤ 10 }
-    ensures nodes { nodes.new.items ≡ with_port area.now bot.now nodes.old.items port }
-    ensures way { result ≡ way_among area.now bot.now nodes.new.items port }
+/// How many of the tail's pairs may be ports: none of a contracted amoebot, which has those of its head.
+fn tail_pairs(bot: &Bot) -> usize
+    ensures value { result ≡ (if is_contracted bot.now then 0 else 6) }
+    ensures most { result ≤ 6 }
 {
-    if !bot.is_port(port) {
+    if bot.is_contracted() { 0 } else { 6 }
+}
+
+/// Adds the node behind a pair of the head, where that is a port and the node lies in the area, and tells where the pair leads. The
+/// pairs before it have added theirs. So the node is new: a port of the head leads to no own node, and no other one leads there.
+fn push_head_way(nodes: &mut FewNodes, area: &Area, bot: &Bot, inner: bool, dir: u8) -> Way
+    requires plain { IsBotInRange bot.now }
+    requires below { dir < 6 }
+    requires inner { inner ≡ true → IsTrue (is_in area.now (behind bot.now (port Head dir))) }
+    requires before { nodes.old.items ≡ fold (with_port area.now bot.now) (own_nodes bot.now) (take dir all_ports) }
+    requires room { length (with_port area.now bot.now nodes.old.items (port Head dir)) ≤ 10 }
+    ensures nodes { nodes.new.items ≡ with_port area.now bot.now nodes.old.items (port Head dir) }
+    ensures way { result ≡ way_among area.now bot.now nodes.new.items (port Head dir) }
+{
+    let node = bot.head.step(bot.global(dir));
+    if node == bot.tail {
         return Way::NoPort;
     }
-    let node = bot.behind(port);
+    if !inner && area.index(node).is_none() {
+        return Way::Outside;
+    }
+    nodes.push(node);
+    Way::To((nodes.len() - 1) as u8)
+}
+
+/// The same for a pair of an expanded amoebot's tail, whose node may be behind a port of its head too.
+fn push_tail_way(nodes: &mut FewNodes, area: &Area, bot: &Bot, dir: u8) -> Way
+    requires plain { IsBotInRange bot.now }
+    requires below { dir < 6 }
+    requires expanded { is_contracted bot.now ≡ false }
+    requires room { length (with_port area.now bot.now nodes.old.items (port Tail dir)) ≤ 10 }
+    ensures nodes { nodes.new.items ≡ with_port area.now bot.now nodes.old.items (port Tail dir) }
+    ensures way { result ≡ way_among area.now bot.now nodes.new.items (port Tail dir) }
+{
+    let node = bot.tail.step(bot.global(dir));
+    if node == bot.head {
+        return Way::NoPort;
+    }
     if area.index(node).is_none() {
         return Way::Outside;
     }

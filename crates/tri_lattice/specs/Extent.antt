@@ -1,5 +1,5 @@
 -- A box of nodes, and the numbers of its nodes. All of it is this project's profile: the paper's lattice has no bounds.
-use Rattle.std.specs.Prelude.{ℕ, ℤ, pos, negsuc, neg_ℤ, ◌+ℤ◌, ◌-ℤ◌, ◌≤ℤ◌, nat_lt, is_some, ◌+◌, ◌*◌, ◌/◌, ◌%◌, ◌≤◌, Bool, if◌then◌else◌}
+use Rattle.std.specs.Prelude.{ℕ, ℤ, pos, negsuc, neg_ℤ, ◌+ℤ◌, ◌-ℤ◌, ◌≤ℤ◌, nat_lt, is_some, ◌+◌, ◌*◌, ◌/◌, ◌%◌, ◌≤◌, Bool, false, ◌&&◌, if◌then◌else◌}
 use Rattle.std.specs.declared.option.Option.{Option}
 use Rattle.std.specs.Option.{option_and_then, option_map}
 use Rattle.std.specs.declared.option.Option.TheVariants.{Some, None}
@@ -46,3 +46,12 @@ is_in a v = is_some (index_of a v)
 -- the node with a number
 abbrev pub node_at : Extent → ℕ → Node
 node_at a n = record { x = a.x0 +ℤ pos (n % a.w); y = a.y0 +ℤ pos (n / a.w) }
+
+-- what lies so far from the beginning of a side of this length is in the side, and at neither end of it
+abbrev pub is_amid_side : ℤ → ℕ → Bool
+is_amid_side (pos n) side = nat_lt 0 n && nat_lt (n + 1) side
+is_amid_side (negsuc n) side = false
+
+-- the node lies in the box, and at no side of it
+abbrev pub is_amid : Extent → Node → Bool
+is_amid a v = is_amid_side (v.x -ℤ a.x0) a.w && is_amid_side (v.y -ℤ a.y0) a.h

@@ -1,5 +1,6 @@
-ghost use Rattle.std.specs.Prelude.{◌≡◌, ◌<◌, ◌↔◌, ◌*◌, ◌-ℤ◌, IfSome, IsSome};
-ghost use Rattle.tri_lattice.specs.Extent.{Extent, IsArea, index_of, node_at, axis_offset as place_of};
+ghost use Rattle.std.specs.Prelude.{◌≡◌, ℕ, ◌<◌, ◌↔◌, ◌*◌, ◌-ℤ◌, Decides, IfSome, IsSome, IsTrue};
+ghost use Rattle.tri_lattice.specs.Extent.{Extent, IsArea, index_of, is_in, is_amid, is_amid_side, node_at, axis_offset as place_of};
+ghost use Rattle.tri_lattice.specs.Lattice.{step};
 
 use crate::node::Node;
 use std::marker::Model;
@@ -89,6 +90,20 @@ impl Area {
         Some(row * u32::from(self.w) + column)
     }
 
+    /// Whether all six neighbours of a node lie inside.
+    pub fn has_ring(&self, node: Node) -> bool
+        ensures { Decides result ((d : ℕ) → d < 6 → IsTrue (is_in self.now (step node d))) }
+    {
+        self.is_amid(node)
+    }
+
+    /// Whether the node lies inside, and at no side of the area.
+    fn is_amid(&self, node: Node) -> bool
+        ensures { result ≡ is_amid self.now node }
+    {
+        is_amid_side(node.x, self.x0, self.w) && is_amid_side(node.y, self.y0, self.h)
+    }
+
     /// The node with a number below the size.
     pub fn node(&self, number: u32) -> Node
         requires { number < self.now.w * self.now.h }
@@ -119,4 +134,16 @@ fn side_offset(at: i16, from: i16, side: u16) -> Option<u32>
     } else {
         None
     }
+}
+
+/// Whether a coordinate is in the side of this length that begins at `from`, and at neither end of it.
+fn is_amid_side(at: i16, from: i16, side: u16) -> bool
+    ensures { result ≡ is_amid_side (at -ℤ from) side }
+{
+    let into = i32::from(at) - i32::from(from);
+    if into < 0 {
+        return false;
+    }
+    let into = into as u32;
+    into > 0 && into + 1 < u32::from(side)
 }

@@ -1,0 +1,51 @@
+-- When all six neighbours of a node lie in a box.
+use Rattle.std.proofs.Common.{◌≡◌, ◌<◌, ◌+◌, ℕ, ℤ, pos, negsuc, ◌+ℤ◌, ◌-ℤ◌, ◌≤ℤ◌, true, arith, refl}
+use Rattle.std.proofs.lemmas.Bool.{and_parts, and_from, lt-ltb, ltb-true, false≢true}
+use Rattle.std.proofs.lemmas.Int.{ints}
+use Rattle.std.specs.Prelude.{IsTrue}
+use Rattle.tri_lattice.specs.declared.node.Node.{Node}
+use Rattle.tri_lattice.specs.Lattice.{step, dx, dy}
+use Rattle.tri_lattice.specs.Extent.{Extent, is_in, is_amid, is_amid_side}
+use Rattle.tri_lattice.proofs.Nodes.{each_direction}
+use Rattle.tri_lattice.proofs.Boxes.{within_in, in_within}
+
+amid_parts : (z : ℤ) (side : ℕ) → is_amid_side z side ≡ true → (n : ℕ) × (z ≡ pos n) × (0 < n) × (n + 1 < side)
+amid_parts (pos n) side t = let (low, high) = and_parts _ _ t in (n, refl, ltb-true 0 n low, ltb-true (n + 1) side high)
+amid_parts (negsuc n) side t = absurd (false≢true t)
+
+amid_from : (z : ℤ) (side : ℕ) → (pos 1 ≤ℤ z) → ((z +ℤ pos 2) ≤ℤ pos side) → is_amid_side z side ≡ true
+amid_from (pos n) side low high = and_from _ _ (lt-ltb 0 n (omega (arith, ints))) (lt-ltb (n + 1) side (omega (arith, ints)))
+amid_from (negsuc n) side low high = absurd (omega (arith, ints))
+
+-- from a node at no side each step leads to a node of the box
+pub ring_inside : (a : Extent) (v : Node) → is_amid a v ≡ true → (d : ℕ) → d < 6 → IsTrue (is_in a (step v d))
+ring_inside a v t =
+    let parts = and_parts (is_amid_side (v.x -ℤ a.x0) a.w) (is_amid_side (v.y -ℤ a.y0) a.h) t in
+    let (i, x, left, right) = amid_parts (v.x -ℤ a.x0) a.w parts.0 in
+    let (j, y, low, high) = amid_parts (v.y -ℤ a.y0) a.h parts.1 in
+    let next : (d : ℕ) → (negsuc 0 ≤ℤ dx d) → (dx d ≤ℤ pos 1) → (negsuc 0 ≤ℤ dy d) → (dy d ≤ℤ pos 1) → IsTrue (is_in a (step v d)) = λ d west east south north. within_in a (step v d) (record {
+      x_low = omega (arith, ints);
+      x_high = omega (arith, ints);
+      y_low = omega (arith, ints);
+      y_high = omega (arith, ints);
+    }) in
+    each_direction (λ d. IsTrue (is_in a (step v d)))
+    (next 0 (omega arith) (omega arith) (omega arith) (omega arith))
+    (next 1 (omega arith) (omega arith) (omega arith) (omega arith))
+    (next 2 (omega arith) (omega arith) (omega arith) (omega arith))
+    (next 3 (omega arith) (omega arith) (omega arith) (omega arith))
+    (next 4 (omega arith) (omega arith) (omega arith) (omega arith))
+    (next 5 (omega arith) (omega arith) (omega arith) (omega arith))
+
+-- and from no other node
+pub amid_of_ring : (a : Extent) (v : Node) → ((d : ℕ) → d < 6 → IsTrue (is_in a (step v d))) → is_amid a v ≡ true
+amid_of_ring a v all =
+    let east = in_within a (step v 0) (all 0 (omega arith)) in
+    let west = in_within a (step v 3) (all 3 (omega arith)) in
+    let north = in_within a (step v 1) (all 1 (omega arith)) in
+    let south = in_within a (step v 4) (all 4 (omega arith)) in
+    let right = east.x_high in
+    let left = west.x_low in
+    let high = north.y_high in
+    let low = south.y_low in
+    and_from _ _ (amid_from (v.x -ℤ a.x0) a.w (omega (arith, ints)) (omega (arith, ints))) (amid_from (v.y -ℤ a.y0) a.h (omega (arith, ints)) (omega (arith, ints)))
