@@ -12,25 +12,25 @@ ghost use Rattle.model_ops.specs.Operations.{need, connected, is_free, is_free_n
 ghost use Rattle.model_ops.specs.Operations.{peer, seen_over, expand, contract, push, pull, may_leave, grow, shrink};
 ghost use Rattle.model_ops.specs.Reaches.{Reaches};
 ghost use Rattle.amoebot_state.specs.Zones.{shown_alone};
-ghost use Rattle.model_ops.specs.WorkingCopies.{opened, own_id, own_bot, copy_after, changes};
+ghost use Rattle.model_ops.specs.WorkingCopies.{own_id, own_bot, copy_after, changes};
 ghost use Rattle.model_ops.specs.Sites.{done};
 
 use crate::changes::push_changed;
-use crate::member::{Member, ROOM, id_on, members_of, place_of};
+use crate::member::{Member, ROOM, id_on, place_of};
 use crate::peer::Peer;
-use amoebot_state::{Bot, End, Failure, Found, Patch, Port};
+use amoebot_state::{Bot, End, Failure, Patch, Port};
 use arrayvec::ArrayVec;
 use ring_guard::one_arc;
 use std::marker::Model;
 use tri_lattice::{Area, Node};
 
-/// A working copy that looks among its amoebots for each answer.
+/// A working copy that looks among its amoebots for each answer. The amoebot itself is the first of them.
 #[derive(Drop)]
 pub(crate) struct Draft {
-    area: Area,
-    maxes: [u8; 8],
-    own: u16,
-    members: ArrayVec<Member, ROOM>,
+    pub(crate) area: Area,
+    pub(crate) maxes: [u8; 8],
+    pub(crate) own: u16,
+    pub(crate) members: ArrayVec<Member, ROOM>,
 }
 
 impl Model for Draft {
@@ -46,18 +46,6 @@ impl Model for Draft {
 }
 
 impl Draft {
-    /// The copy at first: what was found, and no other amoebot. It takes no memory.
-    pub fn new(found: &Found) -> Draft
-        ensures { result ≡ opened found.now }
-    {
-        Draft {
-            area: found.area(),
-            maxes: found.maxes(),
-            own: found.bot(),
-            members: members_of(found),
-        }
-    }
-
     /// Whether the node behind a port is occupied. NoPort, where it is none of the amoebot's.
     pub fn connected(&self, port: Port) -> Result<bool, Failure>
         ensures { result ≡ connected self.now.reached (own_id self.now) port }

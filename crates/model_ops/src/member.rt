@@ -1,4 +1,4 @@
-ghost use Rattle.std.specs.Prelude.{◌≡◌, ◌<◌, ◌+◌, IsTrue, Some, nat_eq, nat_lt};
+ghost use Rattle.std.specs.Prelude.{◌≡◌, ◌<◌, ◌+◌, [], IsTrue, Some, nat_eq, nat_lt};
 ghost use Rattle.std.specs.List.{position};
 ghost use Rattle.amoebot_state.specs.Zones.{IsShown};
 ghost use Rattle.arrayvec.specs.ArrayVec.{array_vec_len};
@@ -86,12 +86,12 @@ pub(crate) fn add(members: &mut ArrayVec<Member, ROOM>, member: &Member)
     members.insert(place, *member);
 }
 
-/// The amoebots of a neighbourhood, which are those of the bodies among its cells, in the order of the cells.
-pub(crate) fn members_of(found: &Found) -> ArrayVec<Member, ROOM>
-    ensures value { result.items ≡ gathered found.now }
+/// Adds the amoebots of a neighbourhood, which are those of the bodies among its cells, in the order of the cells.
+pub(crate) fn gather(members: &mut ArrayVec<Member, ROOM>, found: &Found)
+    requires { members.old.items ≡ [] }
+    ensures value { members.new.items ≡ gathered found.now }
     ensures shown { IsShown found.now }
 {
-    let mut members = ArrayVec::new();
     for (name, cell) in found.cells() {
         match name {
             CellName::Body(id) => match cell {
@@ -105,5 +105,4 @@ pub(crate) fn members_of(found: &Found) -> ArrayVec<Member, ROOM>
             CellName::Spot(_) => {}
         }
     }
-    members
 }

@@ -10,8 +10,10 @@ ghost use Rattle.model_ops.specs.Sites.{done};
 
 use crate::behind::{Around, around, behind_at, connected_there, free_there, owner_there};
 use crate::draft::Draft;
+use crate::member::gather;
 use crate::peer::Peer;
 use amoebot_state::{Bot, End, Failure, Found, Patch, Port};
+use arrayvec::ArrayVec;
 use std::marker::Model;
 
 /// A working copy of what an amoebot was shown, on which it operates before anything is committed.
@@ -21,7 +23,7 @@ use std::marker::Model;
 /// which takes them for empty.
 #[derive(Drop)]
 pub struct Site {
-    draft: Draft,
+    pub(crate) draft: Draft,
     /// What is behind the pairs of the amoebot, until a movement is tried.
     around: Option<Around>,
 }
@@ -45,10 +47,16 @@ impl Site {
     pub fn new(found: &Found) -> Site
         ensures { result ≡ opened found.now }
     {
-        let around = around(found);
+        let mut members = ArrayVec::new();
+        gather(&mut members, found);
         Site {
-            draft: Draft::new(found),
-            around: Some(around),
+            draft: Draft {
+                area: found.area(),
+                maxes: found.maxes(),
+                own: found.bot(),
+                members,
+            },
+            around: Some(around(found)),
         }
     }
 

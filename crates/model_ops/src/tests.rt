@@ -8,7 +8,6 @@ ghost use Rattle.model_ops.specs.Reaches.{move};
 ghost use Rattle.model_ops.specs.Sites.{done};
 ghost use Rattle.model_ops.specs.WorkingCopies.{IsUnmoved, own_id, copy_after};
 
-use crate::draft::Draft;
 use crate::{Peer, Site};
 use amoebot_state::{Bot, Cell, CellName, Chir, End, Failure, Found, Moved, Patch, Port, World};
 use std::alloc::Global;
@@ -428,7 +427,7 @@ fn nodes_outside_the_area_belong_to_no_arc(rt: HostRuntime) -> Result<(), Fail> 
 /// A site answers each question about a pair as the copy that searches does, also for directions that there are none.
 fn answers_alike(rt: &impl Abort, found: &Found) {
     let site = Site::new(found);
-    let draft = Draft::new(found);
+    let draft = &site.draft;
     for dir in 0..8u8 {
         for port in [head(dir), tail(dir)].iter() {
             assert_eq!(rt; site.connected(*port), draft.connected(*port));

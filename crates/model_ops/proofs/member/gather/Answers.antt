@@ -5,8 +5,8 @@ use Rattle.arrayvec.specs.ArrayVec.{ArrayVec}
 use Rattle.model_ops.specs.declared.member.Member.{Member}
 use Rattle.model_ops.specs.Members.{taken, unchanged}
 use Rattle.model_ops.proofs.Opened.{body_taken, none_taken, room_left, spot_taken}
-use Rattle.model_ops.proofs.member.members_of.Goals as goal
-use Rattle.model_ops.proofs.member.members_of.Goals.{in-Body+in-Body-cell, in-Body+in-Spot-cell, in-Spot}
+use Rattle.model_ops.proofs.member.gather.Goals as goal
+use Rattle.model_ops.proofs.member.gather.Goals.{in-Body+in-Body-cell, in-Body+in-Spot-cell, in-Spot}
 
 pub push-requires : goal.push-requires
 push-requires c =
