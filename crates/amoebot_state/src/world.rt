@@ -12,7 +12,8 @@ use crate::cell::{Cell, CellName, Cells, Patch};
 use crate::found::Found;
 use crate::grid::{has_values, is_close, put_all, put_new};
 use crate::refusal::{NoMemory, WorldRefusal};
-use crate::zone::{Ids, push_other, zone_nodes};
+use crate::way::few_nodes;
+use crate::zone::{Ids, push_other};
 use arrayvec::ArrayVec;
 use std::alloc::Global;
 use std::marker::Model;
@@ -208,7 +209,7 @@ impl World {
         requires plain { IsBotInRange own.now }
         ensures { result.items ≡ filter_map (shown_cell self.now) (zone self.now bot) }
     {
-        let nodes = zone_nodes(&self.area, own);
+        let nodes = few_nodes(&self.area, own);
         let ids = self.others(bot, nodes.as_slice());
         let mut cells = ArrayVec::new();
         cells.push((CellName::Body(bot), Cell::Body(*own)));
