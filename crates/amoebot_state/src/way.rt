@@ -45,17 +45,6 @@ pub(crate) fn ways_of(area: &Area, bot: &Bot) -> Ways
     push_nodes(&mut nodes, area, bot)
 }
 
-/// The nodes of the amoebot's zone, which are few.
-pub(crate) fn few_nodes(area: &Area, bot: &Bot) -> FewNodes
-    requires plain { IsBotInRange bot.now }
-    requires few { length (zone_nodes area.now bot.now) ≤ 10 }
-    ensures { result.items ≡ zone_nodes area.now bot.now }
-{
-    let mut nodes = ArrayVec::new();
-    push_nodes(&mut nodes, area, bot);
-    nodes
-}
-
 /// Adds the nodes of the amoebot's zone, and tells where its pairs lead.
 pub(crate) fn push_nodes(nodes: &mut FewNodes, area: &Area, bot: &Bot) -> Ways
     requires plain { IsBotInRange bot.now }
