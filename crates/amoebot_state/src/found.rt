@@ -5,7 +5,8 @@ ghost use Rattle.amoebot_state.specs.Configs.{IsValid, bot_at, bot_of, frame_of,
 ghost use Rattle.amoebot_state.specs.Ports.{is_beside};
 ghost use Rattle.amoebot_state.specs.Around.{behind_pair, on_node};
 ghost use Rattle.amoebot_state.specs.Refusals.{IsBotInRange};
-ghost use Rattle.amoebot_state.specs.Ways.{reading};
+ghost use Rattle.amoebot_state.specs.declared.bot.Bot.{Bot};
+ghost use Rattle.amoebot_state.specs.Ways.{reading, ways_of};
 ghost use Rattle.amoebot_state.specs.Zones.{IsShown, shown_alone, shown_with, zone_nodes};
 ghost use Rattle.amoebot_state.specs.Pairs.{body_at, body_in, spot_at, spot_in};
 
@@ -66,12 +67,27 @@ impl Found {
         ensures { result ≡ shown_with (frame_of area maxes) bot cells.now }
     {
         let own = own_in(cells, bot);
+        Found::with_ways(area, maxes, bot, cells, ways_of(&area, &own))
+    }
+
+    /// The same, where it is known where the pairs of the amoebot lead.
+    pub(crate) fn with_ways(
+        area: Area,
+        maxes: [u8; 8],
+        bot: u16,
+        cells: &[(CellName, Cell)],
+        ways: Ways,
+    ) -> Found
+        requires shown { IsShown (shown_with (frame_of area maxes) bot cells.now) }
+        requires known { (own : Bot) → Some own ≡ body_in cells.now bot → ways ≡ ways_of area own }
+        ensures { result ≡ shown_with (frame_of area maxes) bot cells.now }
+    {
         Found {
             area,
             maxes,
             bot,
-            own,
-            ways: ways_of(&area, &own),
+            own: own_in(cells, bot),
+            ways,
             cells: copied(cells),
         }
     }

@@ -2,7 +2,7 @@ ghost use Rattle.std.specs.Prelude.{ℕ, ◌≡◌, ◌⊎◌, ◌+◌, ◌++◌
 ghost use Rattle.std.specs.List.{All, filter_map};
 ghost use Rattle.amoebot_state.specs.Limits.{most_bots, node_room, cell_room};
 ghost use Rattle.amoebot_state.specs.Configs.{Config, IsValid, bot_at, occupant, frame_of, with_these, with_bot};
-ghost use Rattle.amoebot_state.specs.Zones.{shown, shown_cell, zone, others};
+ghost use Rattle.amoebot_state.specs.Zones.{shown, shown_cell, zone, zone_nodes, others};
 ghost use Rattle.amoebot_state.specs.Patches.{IsPatched, HasPatched};
 ghost use Rattle.amoebot_state.specs.Refusals.{IsBotInRange, IsFaultless, IsFirstFault, bot_fault};
 ghost use Rattle.arrayvec.specs.ArrayVec.{array_vec_len};
@@ -12,7 +12,8 @@ use crate::cell::{Cell, CellName, Cells, Patch};
 use crate::found::Found;
 use crate::grid::{has_values, is_close, put_all, put_new};
 use crate::refusal::{NoMemory, WorldRefusal};
-use crate::zone::{Ids, push_other, zone_nodes};
+use crate::way::push_nodes;
+use crate::zone::{Ids, push_other};
 use arrayvec::ArrayVec;
 use std::alloc::Global;
 use std::marker::Model;
@@ -198,21 +199,23 @@ impl World {
         ensures there { IsSome (bot_at self.now bot) }
     {
         let own = self.own(bot);
-        let cells = self.zone_cells(bot, &own);
-        Found::make(self.area, self.maxes, bot, cells.as_slice())
+        let mut nodes = ArrayVec::new();
+        let ways = push_nodes(&mut nodes, &self.area, &own);
+        let cells = self.zone_cells(bot, &own, nodes.as_slice());
+        Found::with_ways(self.area, self.maxes, bot, cells.as_slice(), ways)
     }
 
-    /// The cells of an amoebot's zone with what they hold.
-    fn zone_cells(&self, bot: u16, own: &Bot) -> Cells
+    /// The cells of an amoebot's zone, which has these nodes, with what they hold.
+    fn zone_cells(&self, bot: u16, own: &Bot, nodes: &[Node]) -> Cells
         requires there { bot_at self.now bot ≡ Some own.now }
-        requires plain { IsBotInRange own.now }
+        requires nodes { nodes.now ≡ zone_nodes self.now.area own.now }
+        requires few { length nodes.now ≤ node_room }
         ensures { result.items ≡ filter_map (shown_cell self.now) (zone self.now bot) }
     {
-        let nodes = zone_nodes(&self.area, own);
-        let ids = self.others(bot, nodes.as_slice());
+        let ids = self.others(bot, nodes);
         let mut cells = ArrayVec::new();
         cells.push((CellName::Body(bot), Cell::Body(*own)));
-        self.add_spots(&mut cells, nodes.as_slice());
+        self.add_spots(&mut cells, nodes);
         self.add_bodies(&mut cells, ids.as_slice());
         cells
     }

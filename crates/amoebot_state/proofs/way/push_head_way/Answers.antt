@@ -1,11 +1,11 @@
-use Rattle.std.proofs.Common.{◌∙◌, ◌≡◌, ◌∷◌, ◌++◌, ◌-◌, [], List, length, true, false, not, ap, sym, arith, length-append}
+use Rattle.std.proofs.Common.{◌∙◌, ◌≡◌, ◌∷◌, ◌++◌, ◌-◌, [], List, length, true, not, ap, sym, arith, length-append}
 use Rattle.std.specs.Prelude.{is_some}
 use Rattle.tri_lattice.specs.declared.node.Node.{Node}
 use Rattle.tri_lattice.specs.Lattice.{node_eq, step}
 use Rattle.tri_lattice.specs.Extent.{is_in}
 use Rattle.amoebot_state.specs.declared.bot.End.TheVariants.{Head}
 use Rattle.amoebot_state.specs.declared.way.Way.TheVariants as way
-use Rattle.amoebot_state.specs.Ports.{behind, is_port, port}
+use Rattle.amoebot_state.specs.Ports.{behind, port}
 use Rattle.amoebot_state.specs.Ways.{way_among}
 use Rattle.amoebot_state.proofs.Ways.{head_port, head_adds, no_port, port_outside}
 use Rattle.amoebot_state.proofs.way.push_head_way.Goals as goal

@@ -1,13 +1,13 @@
-use Rattle.std.proofs.Common.{◌∙◌, ◌≡◌, ◌≤◌, List, length, true, false, not, ap, sym, subst, arith}
+use Rattle.std.proofs.Common.{◌∙◌, ◌≤◌, List, length, not, ap, sym, subst}
 use Rattle.std.specs.Prelude.{is_some}
 use Rattle.tri_lattice.specs.declared.node.Node.{Node}
 use Rattle.tri_lattice.specs.Lattice.{node_eq, step}
 use Rattle.tri_lattice.specs.Extent.{is_in}
 use Rattle.amoebot_state.specs.declared.bot.End.TheVariants.{Tail}
 use Rattle.amoebot_state.specs.declared.way.Way.TheVariants as way
-use Rattle.amoebot_state.specs.Ports.{behind, is_port, port}
+use Rattle.amoebot_state.specs.Ports.{port}
 use Rattle.amoebot_state.specs.Storage.{with_new}
-use Rattle.amoebot_state.specs.Ways.{node_place, way_among}
+use Rattle.amoebot_state.specs.Ways.{node_place}
 use Rattle.amoebot_state.proofs.Ways.{tail_port, no_port, port_outside, port_inside}
 use Rattle.amoebot_state.proofs.way.push_tail_way.Goals as goal
 

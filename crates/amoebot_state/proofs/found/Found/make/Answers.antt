@@ -1,11 +1,8 @@
-use Rattle.std.proofs.Common.{ap, subst, sym, List}
+use Rattle.std.proofs.Common.{◌∙◌, ap, sym}
 use Rattle.std.specs.Prelude.{is_some}
-use Rattle.amoebot_state.specs.declared.cell.CellName.{CellName}
-use Rattle.amoebot_state.specs.declared.cell.Cell.{Cell}
-use Rattle.amoebot_state.specs.Configs.{frame_of}
-use Rattle.amoebot_state.specs.Zones.{shown_with}
-use Rattle.amoebot_state.specs.Ways.{IsFound}
-use Rattle.amoebot_state.proofs.Shows.{length-shown-le, shown_own, own_fits, found_with}
+use Rattle.std.proofs.lemmas.Option.{same_Some}
+use Rattle.amoebot_state.specs.Ways.{ways_of}
+use Rattle.amoebot_state.proofs.Shows.{shown_own, own_fits}
 use Rattle.amoebot_state.proofs.found.Found.make.Goals as goal
 
 pub own_in-own-requires : goal.own_in-own-requires
@@ -17,10 +14,5 @@ ways_of-requires-clause-plain c = (own_fits _ c.own_in-own.result c.requires c.o
 pub ways_of-requires-clause-few : goal.ways_of-requires-clause-few
 ways_of-requires-clause-few c = (own_fits _ c.own_in-own.result c.requires c.own_in-own.ensures).1
 
-pub copied-requires : goal.copied-requires
-copied-requires c = length-shown-le _ c.requires
-
-pub invariant_of-result : goal.invariant_of-result
-invariant_of-result c =
-    let P : List (CellName × Cell) → Type 0 = λ cells. IsFound (shown_with (frame_of c.args.area c.args.maxes) c.args.bot cells) c.own_in-own.result c.ways_of.result in
-    subst P (sym c.copied.ensures) (found_with _ c.own_in-own.result c.ways_of.result c.requires c.own_in-own.ensures c.ways_of.ensures)
+pub with_ways-requires-clause-known : goal.with_ways-requires-clause-known
+with_ways-requires-clause-known c = λ own is. c.ways_of.ensures ∙ ap (ways_of c.args.area) (same_Some c.own_in-own.result own (c.own_in-own.ensures ∙ sym is))
