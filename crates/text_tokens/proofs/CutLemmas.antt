@@ -9,9 +9,8 @@ use Rattle.std.proofs.lemmas.Bool.Decides.{nat_tests}
 use Rattle.text_tokens.specs.declared.token.TokenKind.{TokenKind}
 use Rattle.text_tokens.specs.declared.token.TokenKind.TheVariants.{Word, Number, Sign}
 use Rattle.text_tokens.specs.declared.refusal.RefusalKind.TheVariants.{BadByte, WordTooLong, Truncated}
-use Rattle.text_tokens.specs.declared.tokens.Piece.{Piece}
 use Rattle.text_tokens.specs.Text.{is_letter, is_digit, is_word_byte, is_one_of, is_sign, StopsRun, IsLongestSign, Cuts, word, number, sign, BeginsNoToken, most_bytes, is_in_line}
-use Rattle.text_tokens.specs.Scan.{sign_len, sized, sign_of, front}
+use Rattle.text_tokens.specs.Scan.{Piece, sign_len, sized, sign_of, front}
 use Rattle.text_tokens.proofs.Blanks.{in_line}
 
 -- ---- runs of bytes that pass a test

@@ -2,16 +2,16 @@
 use Rattle.std.proofs.Common.{◌≡◌, ℕ, ◌+◌, ◌-◌, ◌<◌, ◌≤◌, ◌^◌, Bool, false, List, [], ◌∷◌, length, drop, Some, Result, Ok, Err, refl, sym, ap, subst, ◌∙◌, arith, length-drop}
 use Rattle.std.proofs.lemmas.List.{drop-drop, length-take-le}
 use Rattle.text_tokens.specs.declared.token.Token.{Token}
+use Rattle.text_tokens.specs.declared.token.TokenKind.{TokenKind}
 use Rattle.text_tokens.specs.declared.refusal.Refusal.{Refusal}
 use Rattle.text_tokens.specs.declared.refusal.RefusalKind.{RefusalKind}
 use Rattle.text_tokens.specs.declared.refusal.RefusalKind.TheVariants.{Truncated}
 use Rattle.std.specs.Prelude.{IfOk, IfSome}
-use Rattle.text_tokens.specs.declared.tokens.Piece.{Piece}
 use Rattle.text_tokens.specs.declared.tokens.Tokens.TheInside.{Inside}
 use Rattle.text_tokens.specs.Text.{Lexeme}
-use Rattle.text_tokens.specs.Scan.{Input, skip, ready, front, lexeme, input_past, ahead_of}
+use Rattle.text_tokens.specs.Scan.{Piece, Input, skip, ready, front, lexeme, input_past, ahead_of}
 use Rattle.text_tokens.specs.Cursor.{token_of, end_or, answer, past_token, refusal_at, line_of, next_passes, Spells, at_input, at_place}
-use Rattle.text_tokens.specs.Inside.{input_of, cursor_of, IsReady}
+use Rattle.text_tokens.specs.Inside.{input_of, cursor_of, piece_by, IsReady}
 use Rattle.text_tokens.proofs.CutLemmas.{Found, front_found}
 use Rattle.text_tokens.proofs.ScanLemmas.{ready_twice, front_fits, ahead_ok, ahead_err, last_ok, last_err, ahead_ready, last_ready}
 
@@ -40,9 +40,12 @@ is_ready source at line blanks to e =
 
 module _ (t : Inside) (h : IsReady t) where
   -- at a token
-  module _ (p : Piece) (e : t.front ≡ Ok p) where
+  module _ (k : TokenKind) (e : t.front.kind ≡ Ok k) where
+    abbrev p : Piece
+    p = record { kind = k; len = t.front.len }
+
     cut : front (input_of t).text ≡ Ok p
-    cut = sym h.front ∙ e
+    cut = sym h.front ∙ ap (λ (r : Result TokenKind RefusalKind). piece_by r t.front.len) e
 
     pub within : t.at + p.len ≤ length t.source.now
     within = let w = h.within in let f = front_fits (drop t.at t.source.now) p cut in omega (arith, length-drop t.at t.source.now)
@@ -87,12 +90,15 @@ module _ (t : Inside) (h : IsReady t) where
     tests test = rw ahead_is refl
 
   -- at a fault, or at the end
-  module _ (k : RefusalKind) (e : t.front ≡ Err k) where
+  module _ (k : RefusalKind) (e : t.front.kind ≡ Err k) where
+    faulty : front (input_of t).text ≡ Err k
+    faulty = sym h.front ∙ ap (λ (r : Result TokenKind RefusalKind). piece_by r t.front.len) e
+
     pub none_ahead : (cursor_of t).ahead ≡ []
-    none_ahead = ahead_err (input_of t) k h.skipped (sym h.front ∙ e)
+    none_ahead = ahead_err (input_of t) k h.skipped faulty
 
     last_is : (cursor_of t).last ≡ record { line = t.line; kind = k }
-    last_is = last_err (input_of t) k h.skipped (sym h.front ∙ e)
+    last_is = last_err (input_of t) k h.skipped faulty
 
     pub answers_none : answer (cursor_of t) ≡ end_or (record { line = t.line; kind = k }) k
     answers_none = rw (none_ahead, last_is) refl
@@ -106,9 +112,9 @@ module _ (t : Inside) (h : IsReady t) where
     pub tests_none : (test : Lexeme → Bool) → next_passes test (cursor_of t).ahead ≡ false
     tests_none test = rw none_ahead refl
 
-  line_by : (r : Result Piece RefusalKind) → t.front ≡ r → line_of (cursor_of t).ahead (cursor_of t).last ≡ t.line
-  line_by (Ok p) e = rw (ahead_is p e) refl
+  line_by : (r : Result TokenKind RefusalKind) → t.front.kind ≡ r → line_of (cursor_of t).ahead (cursor_of t).last ≡ t.line
+  line_by (Ok k) e = rw (ahead_is k e) refl
   line_by (Err k) e = rw (none_ahead k e, last_is k e) refl
 
   pub line_is : line_of (cursor_of t).ahead (cursor_of t).last ≡ t.line
-  line_is = line_by t.front refl
+  line_is = line_by t.front.kind refl

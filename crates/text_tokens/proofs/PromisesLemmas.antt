@@ -10,9 +10,8 @@ use Rattle.text_tokens.specs.declared.refusal.Refusal.{Refusal}
 use Rattle.text_tokens.specs.declared.refusal.RefusalKind.{RefusalKind}
 use Rattle.text_tokens.specs.declared.refusal.RefusalKind.TheVariants.{BadByte, WordTooLong, Truncated}
 use Rattle.text_tokens.specs.Text.{IsSkipped, Cuts, BeginsNoToken, most_bytes, Lexeme, token_end, line_at, Comes, IsToken, AreTokens, ends, bad_byte, too_long, token}
-use Rattle.text_tokens.specs.Scan.{Input, ready, sized, front, lexeme, input_past, len_of, with_front, scan, ahead_of, last_of}
+use Rattle.text_tokens.specs.Scan.{Piece, Input, ready, sized, front, lexeme, input_past, len_of, with_front, scan, ahead_of, last_of}
 use Rattle.text_tokens.specs.Cursor.{AreCut}
-use Rattle.text_tokens.specs.declared.tokens.Piece.{Piece}
 use Rattle.text_tokens.specs.Promises.{OneReading, Rises, SpansRise}
 use Rattle.text_tokens.proofs.Blanks.{IsPlace, point, at_place, place_is, line_past, ready_comes, comes_ready}
 use Rattle.text_tokens.proofs.ScanLemmas.{ready_twice, ready_shorter, ahead_ok, ahead_err, last_ok, last_err, ahead_ready, last_ready}

@@ -12,9 +12,8 @@ use Rattle.text_tokens.specs.declared.token.TokenKind.TheVariants.{Word, Number}
 use Rattle.text_tokens.specs.declared.refusal.Refusal.{Refusal}
 use Rattle.text_tokens.specs.declared.refusal.RefusalKind.{RefusalKind}
 use Rattle.text_tokens.specs.declared.refusal.RefusalKind.TheVariants.{WordTooLong}
-use Rattle.text_tokens.specs.declared.tokens.Piece.{Piece}
 use Rattle.text_tokens.specs.Text.{Lexeme, is_letter, is_digit, is_word_byte, is_sign, most_bytes}
-use Rattle.text_tokens.specs.Scan.{Between, LineFeed, Blank, Comment, Start, Input, between_at, skip_by, skip, ready, sign_len, sized, sign_of, front, lexeme, input_past, len_of, with_front, scan, fault_at, scan_end, ahead_of, last_of}
+use Rattle.text_tokens.specs.Scan.{Piece, Between, LineFeed, Blank, Comment, Start, Input, between_at, skip_by, skip, ready, sign_len, sized, sign_of, front, lexeme, input_past, len_of, with_front, scan, fault_at, scan_end, ahead_of, last_of}
 
 -- ---- blanks and comments
 

@@ -6,8 +6,12 @@ use Rattle.text_tokens.specs.declared.token.TokenKind.TheVariants.{Word, Number,
 use Rattle.text_tokens.specs.declared.refusal.Refusal.{Refusal}
 use Rattle.text_tokens.specs.declared.refusal.RefusalKind.{RefusalKind}
 use Rattle.text_tokens.specs.declared.refusal.RefusalKind.TheVariants.{BadByte, WordTooLong, Truncated}
-use Rattle.text_tokens.specs.declared.tokens.Piece.{Piece}
 use Rattle.text_tokens.specs.Text.{Lexeme, is_letter, is_digit, is_word_byte, is_blank, is_sign, most_bytes}
+
+-- a token at the front of a text: its kind, and how many bytes it has
+pub record Piece : Type 0 where
+  pub kind : TokenKind
+  pub len : ℕ
 
 -- what is left of a text, its place in the whole and its line
 pub record Input : Type 0 where

@@ -24,7 +24,7 @@ pub use lines::{Lines, Text, lines_add_up};
 pub use refusal::{ReadRefusal, Refusal, RefusalKind};
 pub use terminals::{number, number_up_to, refused, the_line, this_token};
 pub use token::{Token, TokenKind};
-pub use tokens::Tokens;
+pub use tokens::{Tokens, is_same};
 
 #[cfg(test)]
 mod tests;

@@ -1,11 +1,13 @@
 //! A cursor over the tokens of a text, which cuts each as it is reached.
 
-ghost use Rattle.std.specs.Prelude.{◌≡◌, ◌<◌, ◌≤◌, ◌+◌, ◌^◌, ℕ, length, take, drop, IfOk, IfSome, OnOk, OnErr, true, false};
+ghost use Rattle.std.specs.Prelude.{◌≡◌, ◌<◌, ◌≤◌, ◌+◌, ◌^◌, ℕ, length, take, drop, IfOk, IfSome, OnOk, OnErr, Err, true, false};
 ghost use Rattle.std.specs.List.{list_all, prefix_len};
+ghost use Rattle.std.specs.Str.{bytes_eq};
 ghost use Rattle.text_tokens.specs.declared.token.TokenKind.TheVariants.{Number};
 ghost use Rattle.text_tokens.specs.Text as text;
 ghost use Rattle.text_tokens.specs.Scan as scan;
 ghost use Rattle.text_tokens.specs.Cursor as cursor;
+ghost use Rattle.text_tokens.specs.Inside.{piece_of};
 ghost use Rattle.text_tokens.specs.Cursor.{AreCut, IsAtFront, IsDigits, IsShort, IsSlice, Spells, number_value};
 ghost use Rattle.text_tokens.specs.Cursor.{next_passes, is_the, is_kind, expect};
 
@@ -13,11 +15,22 @@ use crate::refusal::{Refusal, RefusalKind};
 use crate::token::{Token, TokenKind};
 use std::marker::Model;
 
-/// A token at the front of a text: its kind, and how many bytes it has.
+/// What stands at the front of a text: the kind of a token and how many bytes it has, or what is wrong there.
 #[derive(Clone, Copy)]
-struct Piece {
-    kind: TokenKind,
+struct Lead {
+    kind: Result<TokenKind, RefusalKind>,
     len: usize,
+}
+
+impl Lead {
+    fn fault(kind: RefusalKind) -> Lead
+        ensures { piece_of result ≡ Err kind }
+    {
+        Lead {
+            kind: Err(kind),
+            len: 0,
+        }
+    }
 }
 
 /// The tokens of a text, from left to right. Contracts see the source, the tokens that are ahead, and what is wrong
@@ -28,7 +41,7 @@ pub struct Tokens<'a> {
     at: usize,
     line: u32,
     /// What stands at `at`. Where the text ends there, it is `Truncated`.
-    front: Result<Piece, RefusalKind>,
+    front: Lead,
 }
 
 impl<'a> Model for Tokens<'a> {
@@ -58,7 +71,13 @@ fn is_digit(b: u8) -> bool
 fn is_word_byte(b: u8) -> bool
     ensures { result ≡ text.is_word_byte b }
 {
-    is_letter(b) || is_digit(b)
+    if b >= b'a' {
+        b <= b'z'
+    } else if b >= b'A' {
+        b <= b'Z' || b == b'_'
+    } else {
+        is_digit(b)
+    }
 }
 
 /// How many bytes of a word stand at the front.
@@ -110,36 +129,39 @@ fn most_bytes(kind: TokenKind) -> usize
 }
 
 /// A token of so many bytes, if it may have so many.
-fn sized(kind: TokenKind, len: usize) -> Result<Piece, RefusalKind>
-    ensures { result ≡ scan.sized kind len }
+fn sized(kind: TokenKind, len: usize) -> Lead
+    ensures { piece_of result ≡ scan.sized kind len }
 {
     if len > most_bytes(kind) {
-        Err(RefusalKind::WordTooLong)
+        Lead::fault(RefusalKind::WordTooLong)
     } else {
-        Ok(Piece { kind, len })
+        Lead {
+            kind: Ok(kind),
+            len,
+        }
     }
 }
 
-fn sign(len: usize) -> Result<Piece, RefusalKind>
-    ensures { result ≡ scan.sign_of len }
+fn sign(len: usize) -> Lead
+    ensures { piece_of result ≡ scan.sign_of len }
 {
     if len == 0 {
-        Err(RefusalKind::BadByte)
+        Lead::fault(RefusalKind::BadByte)
     } else {
-        Ok(Piece {
-            kind: TokenKind::Sign,
+        Lead {
+            kind: Ok(TokenKind::Sign),
             len,
-        })
+        }
     }
 }
 
 /// The token at the front, or what is wrong there.
 #[tactic(auto, unfolding(crate::specs::Scan::front))]
-fn front(bytes: &[u8]) -> Result<Piece, RefusalKind>
-    ensures { result ≡ scan.front bytes.now }
+fn front(bytes: &[u8]) -> Lead
+    ensures { piece_of result ≡ scan.front bytes.now }
 {
     match bytes {
-        [] => Err(RefusalKind::Truncated),
+        [] => Lead::fault(RefusalKind::Truncated),
         [b, ..] => {
             if is_letter(*b) {
                 sized(TokenKind::Word, word_len(bytes))
@@ -178,14 +200,21 @@ fn skip(bytes: &[u8], line: u32) -> (usize, u32)
     let mut line_now = line;
     let mut at = 0;
     while at < bytes.len() {
-        match bytes[at] {
-            b' ' | b'\t' | b'\r' => at += 1,
-            b'\n' => {
-                line_now += 1;
-                at += 1;
+        let b = bytes[at];
+        if b == b' ' {
+            at += 1;
+        } else if b > b'#' {
+            return (at, line_now);
+        } else {
+            match b {
+                b'\t' | b'\r' => at += 1,
+                b'\n' => {
+                    line_now += 1;
+                    at += 1;
+                }
+                b'#' => at = comment_end(bytes, at + 1),
+                _ => return (at, line_now),
             }
-            b'#' => at = comment_end(bytes, at + 1),
-            _ => return (at, line_now),
         }
     }
     (at, line_now)
@@ -212,17 +241,35 @@ fn bytes_at(source: &[u8], from: usize, len: usize) -> &[u8]
     &source[from..from + len]
 }
 
-/// A piece as a token, where it stands.
-fn token_at(piece: Piece, at: usize, line: u32) -> Token
-    requires { at + piece.len < 2 ^ 32 }
-    ensures { result ≡ record { kind = piece.kind; «from» = at; to = at + piece.len; line = line } }
+/// A token of this kind and with so many bytes, where it stands.
+fn token_at(kind: TokenKind, at: usize, len: usize, line: u32) -> Token
+    requires { at + len < 2 ^ 32 }
+    ensures { result ≡ record { kind = kind; «from» = at; to = at + len; line = line } }
 {
     Token {
-        kind: piece.kind,
+        kind,
         from: at as u32,
-        to: (at + piece.len) as u32,
+        to: (at + len) as u32,
         line,
     }
+}
+
+/// Whether two texts are the same. Most are short, and differ soon.
+#[inline(always)]
+pub fn is_same(text: &[u8], other: &[u8]) -> bool
+    ensures { result ≡ bytes_eq text.now other.now }
+{
+    if text.len() != other.len() {
+        return false;
+    }
+    let mut at = 0;
+    while at < other.len() {
+        if text[at] != other[at] {
+            return false;
+        }
+        at += 1;
+    }
+    true
 }
 
 /// What stands behind the last token: the end, or else a fault.
@@ -245,6 +292,7 @@ impl<'a> Tokens<'a> {
     }
 
     /// Stands at the first token or fault from a place on, which lies on this line.
+    #[inline(always)]
     fn at_next(source: &'a [u8], at: usize, line: u32) -> Tokens<'a>
         requires within { at ≤ length source.now }
         requires line { line ≤ at + 1 }
@@ -266,8 +314,8 @@ impl<'a> Tokens<'a> {
         ensures answer { result ≡ cursor.answer self.now }
         ensures spells { IfOk result (λ found. IfSome found (Spells self.now)) }
     {
-        match self.front {
-            Ok(piece) => Ok(Some(token_at(piece, self.at, self.line))),
+        match self.front.kind {
+            Ok(kind) => Ok(Some(token_at(kind, self.at, self.front.len, self.line))),
             Err(kind) => end_or(self.line, kind),
         }
     }
@@ -290,8 +338,8 @@ impl<'a> Tokens<'a> {
     fn skip_token(&mut self)
         ensures { self.new ≡ cursor.past_token self.old }
     {
-        if let Ok(piece) = self.front {
-            *self = Tokens::at_next(self.source, self.at + piece.len, self.line);
+        if let Ok(_kind) = self.front.kind {
+            *self = Tokens::at_next(self.source, self.at + self.front.len, self.line);
         }
     }
 
@@ -324,7 +372,7 @@ impl<'a> Tokens<'a> {
     pub fn refusal(&self, kind: RefusalKind) -> Refusal
         ensures { result ≡ cursor.refusal_at self.now.last kind self.now.ahead }
     {
-        match self.front {
+        match self.front.kind {
             Ok(_) => Refusal {
                 line: self.line,
                 kind,
@@ -358,8 +406,10 @@ impl<'a> Tokens<'a> {
     pub fn is_next(&self, kind: TokenKind, text: &[u8]) -> bool
         ensures { result ≡ next_passes (is_the kind text.now) self.now.ahead }
     {
-        match self.front {
-            Ok(piece) => piece.kind == kind && bytes_at(self.source, self.at, piece.len) == text,
+        match self.front.kind {
+            Ok(found) => {
+                found == kind && is_same(bytes_at(self.source, self.at, self.front.len), text)
+            }
             Err(_) => false,
         }
     }
@@ -368,8 +418,8 @@ impl<'a> Tokens<'a> {
     pub fn is_next_kind(&self, kind: TokenKind) -> bool
         ensures { result ≡ next_passes (is_kind kind) self.now.ahead }
     {
-        match self.front {
-            Ok(piece) => piece.kind == kind,
+        match self.front.kind {
+            Ok(found) => found == kind,
             Err(_) => false,
         }
     }
