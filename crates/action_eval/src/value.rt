@@ -67,21 +67,27 @@ pub fn guard_value<'p>(guard: &'p Guard, site: &Site, names: &Names<'p>) -> Resu
     }
 }
 
-/// The value of a guard. Most are comparisons of plain sums, which are looked up at once.
+/// The value of a guard. Those that stand most often are answered here, without the room that the others need: comparisons of plain
+/// sums are looked up at once.
 #[inline(always)]
 #[cycle(values)]
-fn quick_value<'p>(guard: &'p Guard, site: &Site, names: &Names<'p>) -> Result<bool, Failure>
+pub fn quick_value<'p>(guard: &'p Guard, site: &Site, names: &Names<'p>) -> Result<bool, Failure>
     requires kept { GuardKept (scope_of (known names.now)) (view.guard_of guard.now) }
     requires placed { guard_placed guard.now (scope_of (known names.now)) ≡ true }
     requires counted { is_guard (view.guard_of guard.now) ≡ true }
     ensures { result ≡ spec.guard_value (sight_of site.now) (known names.now) (view.guard_of guard.now) }
 {
-    if let Guard::Compare(left, cmp, right) = guard
-        && let Some(value) = plain_comparison(left, *cmp, right, site, names)
-    {
-        return Ok(value);
+    match guard {
+        Guard::Contracted => Ok(site.own().is_contracted()),
+        Guard::Expanded => Ok(!site.own().is_contracted()),
+        Guard::And(guards) => each_value(guards, site, names),
+        Guard::Or(guards) => some_value(guards, site, names),
+        Guard::Compare(left, cmp, right) => match plain_comparison(left, *cmp, right, site, names) {
+            Some(value) => Ok(value),
+            None => guard_value(guard, site, names),
+        },
+        _ => guard_value(guard, site, names),
     }
-    guard_value(guard, site, names)
 }
 
 /// What is asked of the port that an expression names.
