@@ -1,13 +1,14 @@
 -- Loops over the elements of an `and` or an `or`, and over the ports of a set.
-use Rattle.std.proofs.Common.{◌≡◌, ◌≤◌, ◌<◌, ◌+◌, ◌∙◌, ℕ, Bool, true, false, List, [], ◌∷◌, length, drop, get_or, refl, sym, ap, arith}
+use Rattle.std.proofs.Common.{◌≡◌, ◌≤◌, ◌<◌, ◌+◌, ◌∙◌, ℕ, Bool, true, false, List, length, drop, get_or, refl, sym, ap, arith}
 use Rattle.std.specs.Prelude.{Result, Ok, Err}
 use Rattle.std.proofs.Math.ListN.{drop_of_length-le}
 use Rattle.std.proofs.lemmas.Bool.{and_parts}
-use Rattle.std.proofs.lemmas.List.{drop_more}
 use Rattle.amoebot_state.specs.declared.bot.Port.{Port}
 use Rattle.amoebot_state.specs.declared.verdict.Failure.{Failure}
+use Rattle.amoebot_state.specs.Ports.{all_ports}
 use Rattle.model_ops.specs.Sights.{Sight}
 use Rattle.action_tree.specs.declared.expression.Guard as code
+use Rattle.action_tree.specs.declared.expression.PortSet.{PortSet}
 use Rattle.action_tree.specs.Trees.{Guards, guard_then}
 use Rattle.action_tree.specs.Views.{guard_of, guards_of}
 use Rattle.action_tree.specs.Writable.{is_guard, are_guards}
@@ -16,6 +17,8 @@ use Rattle.action_tree.specs.Scopes.{Scope}
 use Rattle.action_meaning.specs.Names.{Names}
 use Rattle.action_meaning.specs.Choices.{Asked, count_of_ports}
 use Rattle.action_meaning.specs.Values.{guard_value, each_value, some_value}
+use Rattle.action_eval.specs.Known.{is_in_set}
+use Rattle.action_eval.proofs.PortsOf.{ports_from, told_here, told_over}
 use Rattle.action_eval.proofs.ChoicesLemmas.{and_so_many, count_goes_on, count_one_more, count_fails, and_more}
 use Rattle.action_check.proofs.FaultLoops.{here}
 
@@ -73,27 +76,18 @@ some_fails s xs sc gs i g f left l is e = guards_told (some_value s xs) sc gs i 
 pub some_over : (s : Sight) (xs : Names) (sc : Scope) (gs : List code.Guard) (i : ℕ) → SomeLeft s xs sc gs i → length gs ≤ i → some_value s xs (guards_of gs) ≡ Ok false
 some_over s xs sc gs i left l = rw (drop_of_length-le gs l) at left.told
 
--- ---- ports
+-- ---- ports, with the number of those counted before
 
--- the whole is what comes of the ports from a place on, of which the first one tells what that is
-pub told_here : {A : Type 0} (f : List Port → A) (whole : A) (ps : List Port) (i : ℕ) (d : Port) (r : A) → whole ≡ f (drop i ps) → i < length ps → f (get_or ps i d ∷ drop (i + 1) ps) ≡ r → whole ≡ r
-told_here f whole ps i d r left l e = left ∙ ap f (drop_more ps i d l) ∙ e
+pub count_next : (asked : Asked) (whole : Result ℕ Failure) (s : Sight) (set : PortSet) (i n : ℕ) (d : Port) → whole ≡ and_so_many n (count_of_ports asked (ports_from s set i)) → i < length all_ports → is_in_set s set (get_or all_ports i d) ≡ true → asked (get_or all_ports i d) ≡ Ok false → whole ≡ and_so_many n (count_of_ports asked (ports_from s set (i + 1)))
+count_next asked whole s set i n d left l is e = told_here (λ ps. and_so_many n (count_of_ports asked ps)) whole s set i d _ left l is (ap (and_so_many n) (count_goes_on asked _ _ e))
 
--- behind the last port
-pub told_over : {A : Type 0} (f : List Port → A) (whole : A) (ps : List Port) (i : ℕ) → whole ≡ f (drop i ps) → length ps ≤ i → whole ≡ f []
-told_over f whole ps i left l = left ∙ ap f (drop_of_length-le ps l)
+pub count_here : (asked : Asked) (whole : Result ℕ Failure) (s : Sight) (set : PortSet) (i n : ℕ) (d : Port) → whole ≡ and_so_many n (count_of_ports asked (ports_from s set i)) → i < length all_ports → is_in_set s set (get_or all_ports i d) ≡ true → asked (get_or all_ports i d) ≡ Ok true → whole ≡ and_so_many (n + 1) (count_of_ports asked (ports_from s set (i + 1)))
+count_here asked whole s set i n d left l is e = told_here (λ ps. and_so_many n (count_of_ports asked ps)) whole s set i d _ left l is (ap (and_so_many n) (count_one_more asked _ _ e) ∙ sym (and_more n 1 (count_of_ports asked (ports_from s set (i + 1)))))
 
-pub count_next : (asked : Asked) (ps : List Port) (i n : ℕ) (d : Port) → count_of_ports asked ps ≡ and_so_many n (count_of_ports asked (drop i ps)) → i < length ps → asked (get_or ps i d) ≡ Ok false → count_of_ports asked ps ≡ and_so_many n (count_of_ports asked (drop (i + 1) ps))
-count_next asked ps i n d left l e = left ∙ ap (λ qs. and_so_many n (count_of_ports asked qs)) (drop_more ps i d l) ∙ ap (and_so_many n) (count_goes_on asked _ _ e)
+pub count_stops : (asked : Asked) (whole : Result ℕ Failure) (s : Sight) (set : PortSet) (i n : ℕ) (d : Port) (f : Failure) → whole ≡ and_so_many n (count_of_ports asked (ports_from s set i)) → i < length all_ports → is_in_set s set (get_or all_ports i d) ≡ true → asked (get_or all_ports i d) ≡ Err f → whole ≡ Err f
+count_stops asked whole s set i n d f left l is e = told_here (λ ps. and_so_many n (count_of_ports asked ps)) whole s set i d _ left l is (ap (and_so_many n) (count_fails asked _ _ f e))
 
-pub count_here : (asked : Asked) (ps : List Port) (i n : ℕ) (d : Port) → count_of_ports asked ps ≡ and_so_many n (count_of_ports asked (drop i ps)) → i < length ps → asked (get_or ps i d) ≡ Ok true → count_of_ports asked ps ≡ and_so_many (n + 1) (count_of_ports asked (drop (i + 1) ps))
-count_here asked ps i n d left l e = left ∙ ap (λ qs. and_so_many n (count_of_ports asked qs)) (drop_more ps i d l) ∙ ap (and_so_many n) (count_one_more asked _ _ e) ∙ sym (and_more n 1 (count_of_ports asked (drop (i + 1) ps)))
-
-pub count_stops : (asked : Asked) (ps : List Port) (i n : ℕ) (d : Port) (f : Failure) → count_of_ports asked ps ≡ and_so_many n (count_of_ports asked (drop i ps)) → i < length ps → asked (get_or ps i d) ≡ Err f → count_of_ports asked ps ≡ Err f
-count_stops asked ps i n d f left l e = left ∙ ap (λ qs. and_so_many n (count_of_ports asked qs)) (drop_more ps i d l) ∙ ap (and_so_many n) (count_fails asked _ _ f e)
-
-pub count_over : (asked : Asked) (ps : List Port) (i n : ℕ) → count_of_ports asked ps ≡ and_so_many n (count_of_ports asked (drop i ps)) → length ps ≤ i → count_of_ports asked ps ≡ Ok n
-count_over asked ps i n left l =
-    let told = rw (drop_of_length-le ps l) at left in
+pub count_over : (asked : Asked) (whole : Result ℕ Failure) (s : Sight) (set : PortSet) (i n : ℕ) → whole ≡ and_so_many n (count_of_ports asked (ports_from s set i)) → length all_ports ≤ i → whole ≡ Ok n
+count_over asked whole s set i n left l =
     let e : n + 0 ≡ n = omega arith in
-    told ∙ ap Ok e
+    told_over (λ ps. and_so_many n (count_of_ports asked ps)) whole s set i left l ∙ ap Ok e

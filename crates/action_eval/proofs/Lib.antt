@@ -9,6 +9,7 @@ pub mod SumLoops
 pub mod Nodes
 pub mod PartSizes
 pub mod PlainSums
+pub mod PortsOf
 pub mod Terms
 pub mod RunningLemmas
 pub mod UnderNamesLemmas

@@ -14,6 +14,7 @@ use action_tree::{Cmp, PortExpr, Sum, Term};
 use model_ops::Site;
 
 /// The comparison of two plain sums. None, where one of them is not plain or fails.
+#[inline(always)]
 pub fn plain_comparison(
     left: &Sum,
     cmp: Cmp,

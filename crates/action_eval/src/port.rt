@@ -25,7 +25,8 @@ pub fn ports_of(set: PortSet, site: &Site) -> ArrayVec<Port, 12>
 }
 
 /// Whether a pair is a port of the set.
-fn is_one_of(set: PortSet, site: &Site, port: Port) -> bool
+#[inline(always)]
+pub fn is_one_of(set: PortSet, site: &Site, port: Port) -> bool
     ensures { result ≡ is_in_set (sight_of site.now) set port }
 {
     let is_one = match set {

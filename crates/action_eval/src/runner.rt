@@ -15,7 +15,7 @@ ghost use Rattle.action_eval.specs.Running.{moment_of};
 
 use crate::effect::run_action;
 use crate::names::Names;
-use crate::value::guard_value;
+use crate::value::quick_value;
 use action_check::Checked;
 use action_tree::Action;
 use amoebot_state::{Change, Decider, Found, Verdict};
@@ -87,7 +87,7 @@ fn actions_decide<'p>(actions: &'p [Action], guard: bool, site: Site, names: Nam
         (map view.action_of actions.now) }
 {
     for (number, action) in actions.iter().enumerate() {
-        match guard_value(&action.guard, &site, &names) {
+        match quick_value(&action.guard, &site, &names) {
             Ok(false) => {}
             Ok(true) => return action_decides(number as u8, action, guard, site, names),
             Err(failure) => return Verdict::Failed(failure),

@@ -17,9 +17,9 @@ ghost use Rattle.action_eval.specs.UnderNames.{MayAsk, guard_at};
 use crate::names::Names;
 use crate::number::{compare, signed};
 use crate::plain::plain_comparison;
-use crate::port::{inner_value, is_own_port, ports_of};
+use crate::port::{inner_value, is_one_of, is_own_port};
 use action_tree::{DirTerm, Guard, PortExpr, PortSet, Sum, Term, Word};
-use amoebot_state::{End, Failure, Port};
+use amoebot_state::{ALL_PORTS, End, Failure, Port};
 use model_ops::Site;
 
 /// What is asked of one port.
@@ -59,14 +59,34 @@ pub fn guard_value<'p>(guard: &'p Guard, site: &Site, names: &Names<'p>) -> Resu
         Guard::AtHead(port) => test_value(Test::AtHead, port, site, names),
         Guard::PeerExpanded(port) => test_value(Test::PeerExpanded, port, site, names),
         Guard::PeerHead(port) => test_value(Test::PeerHead, port, site, names),
+        Guard::Compare(left, cmp, right) => {
+            let left = sum_value(left, site, names)?;
+            let right = sum_value(right, site, names)?;
+            Ok(compare(*cmp, left, right))
+        }
+    }
+}
+
+/// The value of a guard. Those that stand most often are answered here, without the room that the others need: comparisons of plain
+/// sums are looked up at once.
+#[inline(always)]
+#[cycle(values)]
+pub fn quick_value<'p>(guard: &'p Guard, site: &Site, names: &Names<'p>) -> Result<bool, Failure>
+    requires kept { GuardKept (scope_of (known names.now)) (view.guard_of guard.now) }
+    requires placed { guard_placed guard.now (scope_of (known names.now)) ≡ true }
+    requires counted { is_guard (view.guard_of guard.now) ≡ true }
+    ensures { result ≡ spec.guard_value (sight_of site.now) (known names.now) (view.guard_of guard.now) }
+{
+    match guard {
+        Guard::Contracted => Ok(site.own().is_contracted()),
+        Guard::Expanded => Ok(!site.own().is_contracted()),
+        Guard::And(guards) => each_value(guards, site, names),
+        Guard::Or(guards) => some_value(guards, site, names),
         Guard::Compare(left, cmp, right) => match plain_comparison(left, *cmp, right, site, names) {
             Some(value) => Ok(value),
-            None => {
-                let left = sum_value(left, site, names)?;
-                let right = sum_value(right, site, names)?;
-                Ok(compare(*cmp, left, right))
-            }
+            None => guard_value(guard, site, names),
         },
+        _ => guard_value(guard, site, names),
     }
 }
 
@@ -117,7 +137,7 @@ fn each_value<'p>(guards: &'p [Guard], site: &Site, names: &Names<'p>) -> Result
     ensures { result ≡ spec.each_value (sight_of site.now) (known names.now) (view.guards_of guards.now) }
 {
     for guard in guards {
-        match guard_value(guard, site, names) {
+        match quick_value(guard, site, names) {
             Ok(true) => {}
             Ok(false) => return Ok(false),
             Err(failure) => return Err(failure),
@@ -135,7 +155,7 @@ fn some_value<'p>(guards: &'p [Guard], site: &Site, names: &Names<'p>) -> Result
     ensures { result ≡ spec.some_value (sight_of site.now) (known names.now) (view.guards_of guards.now) }
 {
     for guard in guards {
-        match guard_value(guard, site, names) {
+        match quick_value(guard, site, names) {
             Ok(false) => {}
             Ok(true) => return Ok(true),
             Err(failure) => return Err(failure),
@@ -158,11 +178,13 @@ fn any_value<'p>(
     ensures { result ≡ any_of_ports (guard_at (sight_of site.now) (known names.now) name.now guard.now)
         (spec.ports_of (sight_of site.now) set) }
 {
-    let ports = ports_of(set, site);
     let mut inner = names.bind(name, Port::default());
-    for port in ports.iter() {
+    for port in ALL_PORTS.iter() {
+        if !is_one_of(set, site, *port) {
+            continue;
+        }
         inner.set_last(*port);
-        match guard_value(guard, site, &inner) {
+        match quick_value(guard, site, &inner) {
             Ok(false) => {}
             Ok(true) => return Ok(true),
             Err(failure) => return Err(failure),
@@ -185,11 +207,13 @@ fn all_value<'p>(
     ensures { result ≡ all_of_ports (guard_at (sight_of site.now) (known names.now) name.now guard.now)
         (spec.ports_of (sight_of site.now) set) }
 {
-    let ports = ports_of(set, site);
     let mut inner = names.bind(name, Port::default());
-    for port in ports.iter() {
+    for port in ALL_PORTS.iter() {
+        if !is_one_of(set, site, *port) {
+            continue;
+        }
         inner.set_last(*port);
-        match guard_value(guard, site, &inner) {
+        match quick_value(guard, site, &inner) {
             Ok(true) => {}
             Ok(false) => return Ok(false),
             Err(failure) => return Err(failure),
@@ -212,11 +236,13 @@ fn first_value<'p>(
     ensures { result ≡ first_of_ports (guard_at (sight_of site.now) (known names.now) name.now guard.now)
         (spec.ports_of (sight_of site.now) set) }
 {
-    let ports = ports_of(set, site);
     let mut inner = names.bind(name, Port::default());
-    for port in ports.iter() {
+    for port in ALL_PORTS.iter() {
+        if !is_one_of(set, site, *port) {
+            continue;
+        }
         inner.set_last(*port);
-        match guard_value(guard, site, &inner) {
+        match quick_value(guard, site, &inner) {
             Ok(false) => {}
             Ok(true) => return Ok(*port),
             Err(failure) => return Err(failure),
@@ -240,12 +266,14 @@ fn count_value<'p>(
         (spec.ports_of (sight_of site.now) set) }
     ensures few { IfOk result (λ n. n < 13) }
 {
-    let ports = ports_of(set, site);
     let mut inner = names.bind(name, Port::default());
     let mut count = 0;
-    for port in ports.iter() {
+    for port in ALL_PORTS.iter() {
+        if !is_one_of(set, site, *port) {
+            continue;
+        }
         inner.set_last(*port);
-        let is_one = match guard_value(guard, site, &inner) {
+        let is_one = match quick_value(guard, site, &inner) {
             Ok(is_one) => is_one,
             Err(failure) => return Err(failure),
         };

@@ -1,20 +1,13 @@
-use Rattle.std.proofs.Common.{◌≡◌, ◌∙◌, ap, refl, arith, take}
+use Rattle.std.proofs.Common.{◌≡◌, ◌∙◌, ap, arith, take}
 use Rattle.std.specs.List.{filter}
 use Rattle.std.proofs.lemmas.List.{append-nil}
 use Rattle.std.proofs.lemmas.List.Elements.{filter_more}
 use Rattle.amoebot_state.specs.declared.bot.End.TheVariants.{Head}
 use Rattle.amoebot_state.specs.Ports.{all_ports, port}
-use Rattle.model_ops.specs.Sights.{Sight}
-use Rattle.action_tree.specs.declared.expression.PortSet.{PortSet}
-use Rattle.action_tree.specs.declared.expression.PortSet.TheVariants.{Ports, Free}
-use Rattle.action_meaning.specs.Values.{ports_of}
 use Rattle.action_eval.specs.Known.{sight_of, is_in_set}
+use Rattle.action_eval.proofs.PortsOf.{all_in_set}
 use Rattle.action_eval.proofs.port.ports_of.Goals as goal
 use Rattle.action_eval.proofs.port.ports_of.Goals.{then-is_one_of, else-is_one_of}
-
-all_in_set : (s : Sight) (set : PortSet) → filter (is_in_set s set) all_ports ≡ ports_of s set
-all_in_set s Ports = refl
-all_in_set s Free = refl
 
 pub returns : goal.returns
 returns c =

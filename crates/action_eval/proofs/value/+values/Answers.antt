@@ -1,5 +1,5 @@
 use denote.Param.Weighed.{at_most}
-use Rattle.std.proofs.Common.{◌≡◌, ◌≤◌, ◌+◌, ◌∙◌, ℕ, length, refl, ap, sym, subst, arith, rules, Ok}
+use Rattle.std.proofs.Common.{◌≡◌, ◌≤◌, ◌+◌, ◌∙◌, ℕ, length, ap, sym, subst, arith, rules, Ok}
 use Rattle.std.specs.Prelude.{◌+ℤ◌}
 use Rattle.std.specs.Int.RustNames.{FitsSigned}
 use mir.Syntax.{w32}
@@ -22,8 +22,9 @@ use Rattle.action_eval.specs.UnderNames.{guard_at}
 use Rattle.action_eval.proofs.UnderNamesLemmas.{has_last, kept_under, placed_under, asked_at}
 use Rattle.action_eval.proofs.RunningLemmas.{room_to_bind}
 use Rattle.action_eval.proofs.SumLoops.{TermsLeft, terms_fit, terms_start, term_kept, term_counted, terms_next, terms_fail, terms_over}
-use Rattle.action_eval.proofs.ChoicesLemmas.{and_none, any_goes_on, any_is_true, any_fails, all_goes_on, all_is_false, all_fails, first_goes_on, first_is_here, first_fails}
-use Rattle.action_eval.proofs.GuardLoops.{guard_kept, told_here, told_over, each_next, each_decided, each_fails, each_over, some_next, some_decided, some_fails, some_over, count_next, count_here, count_stops, count_over}
+use Rattle.action_eval.proofs.ChoicesLemmas.{and_none, and_so_many, any_goes_on, any_is_true, any_fails, all_goes_on, all_is_false, all_fails, first_goes_on, first_is_here, first_fails}
+use Rattle.action_eval.proofs.PortsOf.{all_in_set, told_here, told_behind, told_over}
+use Rattle.action_eval.proofs.GuardLoops.{guard_kept, each_next, each_decided, each_fails, each_over, some_next, some_decided, some_fails, some_over, count_next, count_here, count_stops, count_over}
 use Rattle.action_eval.proofs.Nodes.{any_tree, all_tree, first_tree, count_tree, member_tree}
 use Rattle.action_tree.proofs.expression.Guard.TheLaws.{the_size}
 use Rattle.action_tree.proofs.expression.PortExpr.TheLaws.{the_size as port_size}
@@ -38,142 +39,171 @@ pub any_value-bind-inner-requires : goal.any_value-bind-inner-requires
 any_value-bind-inner-requires t c = room_to_bind (known c.args.names.now) _ c.requires.new
 
 pub any_value-loop-port-init : goal.any_value-loop-port-init
-any_value-loop-port-init t c = (record { port = _; bound = c.bind-inner.ensures }, refl)
+any_value-loop-port-init t c =
+    let asked = guard_at (sight_of c.args.site.now) (known c.args.names.now) c.args.name.now c.args.guard.now in
+    (record { port = _; bound = c.bind-inner.ensures }, ap (any_of_ports asked) (sym (all_in_set (sight_of c.args.site.now) c.args.set)))
 
 pub any_value-set_last-requires : goal.any_value-set_last-requires
 any_value-set_last-requires t c = has_last _ _ _ c.loop-port.invariant.0
 
-pub any_value-guard_value-requires : goal.any_value-guard_value-requires
-any_value-guard_value-requires t c = (omega (arith, c.decreases), (kept_under _ _ _ _ _ c.requires (c.set_last.ensures (known c.args.names.now) c.args.name.now c.loop-port.invariant.0), (placed_under _ _ _ _ _ c.requires (c.set_last.ensures (known c.args.names.now) c.args.name.now c.loop-port.invariant.0), c.requires.counted)))
+pub any_value-quick_value-requires : goal.any_value-quick_value-requires
+any_value-quick_value-requires t c = (omega (arith, c.decreases), (kept_under _ _ _ _ _ c.requires (c.set_last.ensures (known c.args.names.now) c.args.name.now c.loop-port.invariant.0), (placed_under _ _ _ _ _ c.requires (c.set_last.ensures (known c.args.names.now) c.args.name.now c.loop-port.invariant.0), c.requires.counted)))
 
 pub all_value-bind-inner-requires : goal.all_value-bind-inner-requires
 all_value-bind-inner-requires t c = room_to_bind (known c.args.names.now) _ c.requires.new
 
 pub all_value-loop-port-init : goal.all_value-loop-port-init
-all_value-loop-port-init t c = (record { port = _; bound = c.bind-inner.ensures }, refl)
+all_value-loop-port-init t c =
+    let asked = guard_at (sight_of c.args.site.now) (known c.args.names.now) c.args.name.now c.args.guard.now in
+    (record { port = _; bound = c.bind-inner.ensures }, ap (all_of_ports asked) (sym (all_in_set (sight_of c.args.site.now) c.args.set)))
 
 pub all_value-set_last-requires : goal.all_value-set_last-requires
 all_value-set_last-requires t c = has_last _ _ _ c.loop-port.invariant.0
 
-pub all_value-guard_value-requires : goal.all_value-guard_value-requires
-all_value-guard_value-requires t c = (omega (arith, c.decreases), (kept_under _ _ _ _ _ c.requires (c.set_last.ensures (known c.args.names.now) c.args.name.now c.loop-port.invariant.0), (placed_under _ _ _ _ _ c.requires (c.set_last.ensures (known c.args.names.now) c.args.name.now c.loop-port.invariant.0), c.requires.counted)))
+pub all_value-quick_value-requires : goal.all_value-quick_value-requires
+all_value-quick_value-requires t c = (omega (arith, c.decreases), (kept_under _ _ _ _ _ c.requires (c.set_last.ensures (known c.args.names.now) c.args.name.now c.loop-port.invariant.0), (placed_under _ _ _ _ _ c.requires (c.set_last.ensures (known c.args.names.now) c.args.name.now c.loop-port.invariant.0), c.requires.counted)))
 
 pub first_value-bind-inner-requires : goal.first_value-bind-inner-requires
 first_value-bind-inner-requires t c = room_to_bind (known c.args.names.now) _ c.requires.new
 
 pub first_value-loop-port-init : goal.first_value-loop-port-init
-first_value-loop-port-init t c = (record { port = _; bound = c.bind-inner.ensures }, refl)
+first_value-loop-port-init t c =
+    let asked = guard_at (sight_of c.args.site.now) (known c.args.names.now) c.args.name.now c.args.guard.now in
+    (record { port = _; bound = c.bind-inner.ensures }, ap (first_of_ports asked) (sym (all_in_set (sight_of c.args.site.now) c.args.set)))
 
 pub first_value-set_last-requires : goal.first_value-set_last-requires
 first_value-set_last-requires t c = has_last _ _ _ c.loop-port.invariant.0
 
-pub first_value-guard_value-requires : goal.first_value-guard_value-requires
-first_value-guard_value-requires t c = (omega (arith, c.decreases), (kept_under _ _ _ _ _ c.requires (c.set_last.ensures (known c.args.names.now) c.args.name.now c.loop-port.invariant.0), (placed_under _ _ _ _ _ c.requires (c.set_last.ensures (known c.args.names.now) c.args.name.now c.loop-port.invariant.0), c.requires.counted)))
+pub first_value-quick_value-requires : goal.first_value-quick_value-requires
+first_value-quick_value-requires t c = (omega (arith, c.decreases), (kept_under _ _ _ _ _ c.requires (c.set_last.ensures (known c.args.names.now) c.args.name.now c.loop-port.invariant.0), (placed_under _ _ _ _ _ c.requires (c.set_last.ensures (known c.args.names.now) c.args.name.now c.loop-port.invariant.0), c.requires.counted)))
 
 pub count_value-bind-inner-requires : goal.count_value-bind-inner-requires
 count_value-bind-inner-requires t c = room_to_bind (known c.args.names.now) _ c.requires.new
 
 pub count_value-loop-port-init : goal.count_value-loop-port-init
-count_value-loop-port-init t c = (record { port = _; bound = c.bind-inner.ensures }, and_none _, omega arith)
+count_value-loop-port-init t c =
+    let asked = guard_at (sight_of c.args.site.now) (known c.args.names.now) c.args.name.now c.args.guard.now in
+    (record { port = _; bound = c.bind-inner.ensures }, ap (count_of_ports asked) (sym (all_in_set (sight_of c.args.site.now) c.args.set)) ∙ and_none _, omega arith)
 
 pub count_value-set_last-requires : goal.count_value-set_last-requires
 count_value-set_last-requires t c = has_last _ _ _ c.loop-port.invariant.0
 
-pub count_value-guard_value-requires : goal.count_value-guard_value-requires
-count_value-guard_value-requires t c = (omega (arith, c.decreases), (kept_under _ _ _ _ _ c.requires (c.set_last.ensures (known c.args.names.now) c.args.name.now c.loop-port.invariant.0), (placed_under _ _ _ _ _ c.requires (c.set_last.ensures (known c.args.names.now) c.args.name.now c.loop-port.invariant.0), c.requires.counted)))
+pub count_value-quick_value-requires : goal.count_value-quick_value-requires
+count_value-quick_value-requires t c = (omega (arith, c.decreases), (kept_under _ _ _ _ _ c.requires (c.set_last.ensures (known c.args.names.now) c.args.name.now c.loop-port.invariant.0), (placed_under _ _ _ _ _ c.requires (c.set_last.ensures (known c.args.names.now) c.args.name.now c.loop-port.invariant.0), c.requires.counted)))
+
+pub any_value-loop-port-preserved-then-not-is_one_of : goal.any_value-loop-port-preserved-then-not-is_one_of
+any_value-loop-port-preserved-then-not-is_one_of t c =
+    let asked = guard_at (sight_of c.args.site.now) (known c.args.names.now) c.args.name.now c.args.guard.now in
+    (c.loop-port.invariant.0, told_behind (any_of_ports asked) _ (sight_of c.args.site.now) c.args.set _ (port Head 0) c.loop-port.invariant.1 c.loop-port-test.true (sym c.is_one_of.ensures ∙ c.if-not-is_one_of.true))
 
 pub any_value-loop-port-preserved : goal.any_value-loop-port-preserved
 any_value-loop-port-preserved t c =
     let asked = guard_at (sight_of c.args.site.now) (known c.args.names.now) c.args.name.now c.args.guard.now in
     let under = c.set_last.ensures (known c.args.names.now) c.args.name.now c.loop-port.invariant.0 in
-    (record { port = _; bound = under }, told_here (any_of_ports asked) _ _ _ (port Head 0) _ c.loop-port.invariant.1 c.loop-port-test.true (any_goes_on asked _ _ (asked_at _ (known c.args.names.now) c.args.name.now c.args.guard.now _ _ _ under c.guard_value.ensures ∙ c.in-Ok-false.is ∙ ap Ok c.in-Ok-false.field-0-test)))
+    (record { port = _; bound = under }, told_here (any_of_ports asked) _ (sight_of c.args.site.now) c.args.set _ (port Head 0) _ c.loop-port.invariant.1 c.loop-port-test.true (sym c.is_one_of.ensures ∙ c.if-not-is_one_of.false) (any_goes_on asked _ _ (asked_at _ (known c.args.names.now) c.args.name.now c.args.guard.now _ _ _ under c.quick_value.ensures ∙ c.in-Ok-false.is ∙ ap Ok c.in-Ok-false.field-0-test)))
 
 pub any_value-returns-in-Ok-true : goal.any_value-returns-in-Ok-true
 any_value-returns-in-Ok-true t c =
     let asked = guard_at (sight_of c.args.site.now) (known c.args.names.now) c.args.name.now c.args.guard.now in
     let under = c.set_last.ensures (known c.args.names.now) c.args.name.now c.loop-port.invariant.0 in
-    sym (told_here (any_of_ports asked) _ _ _ (port Head 0) _ c.loop-port.invariant.1 c.loop-port-test.true (any_is_true asked _ _ (asked_at _ (known c.args.names.now) c.args.name.now c.args.guard.now _ _ _ under c.guard_value.ensures ∙ c.in-Ok-true.is ∙ ap Ok c.in-Ok-true.field-0-test))) ∙ ap (any_of_ports asked) (c.deref-port-items.ensures.0 ∙ c.ports_of-ports.ensures)
+    sym (told_here (any_of_ports asked) _ (sight_of c.args.site.now) c.args.set _ (port Head 0) _ c.loop-port.invariant.1 c.loop-port-test.true (sym c.is_one_of.ensures ∙ c.if-not-is_one_of.false) (any_is_true asked _ _ (asked_at _ (known c.args.names.now) c.args.name.now c.args.guard.now _ _ _ under c.quick_value.ensures ∙ c.in-Ok-true.is ∙ ap Ok c.in-Ok-true.field-0-test)))
 
 pub any_value-returns-in-Err : goal.any_value-returns-in-Err
 any_value-returns-in-Err t c =
     let asked = guard_at (sight_of c.args.site.now) (known c.args.names.now) c.args.name.now c.args.guard.now in
     let under = c.set_last.ensures (known c.args.names.now) c.args.name.now c.loop-port.invariant.0 in
-    sym (told_here (any_of_ports asked) _ _ _ (port Head 0) _ c.loop-port.invariant.1 c.loop-port-test.true (any_fails asked _ _ _ (asked_at _ (known c.args.names.now) c.args.name.now c.args.guard.now _ _ _ under c.guard_value.ensures ∙ c.in-Err.is))) ∙ ap (any_of_ports asked) (c.deref-port-items.ensures.0 ∙ c.ports_of-ports.ensures)
+    sym (told_here (any_of_ports asked) _ (sight_of c.args.site.now) c.args.set _ (port Head 0) _ c.loop-port.invariant.1 c.loop-port-test.true (sym c.is_one_of.ensures ∙ c.if-not-is_one_of.false) (any_fails asked _ _ _ (asked_at _ (known c.args.names.now) c.args.name.now c.args.guard.now _ _ _ under c.quick_value.ensures ∙ c.in-Err.is)))
 
 pub any_value-returns : goal.any_value-returns
 any_value-returns t c =
     let asked = guard_at (sight_of c.args.site.now) (known c.args.names.now) c.args.name.now c.args.guard.now in
-    sym (told_over (any_of_ports asked) _ _ _ c.loop-port.invariant.1 c.loop-port-test.false) ∙ ap (any_of_ports asked) (c.deref-port-items.ensures.0 ∙ c.ports_of-ports.ensures)
+    sym (told_over (any_of_ports asked) _ (sight_of c.args.site.now) c.args.set _ c.loop-port.invariant.1 c.loop-port-test.false)
+
+pub all_value-loop-port-preserved-then-not-is_one_of : goal.all_value-loop-port-preserved-then-not-is_one_of
+all_value-loop-port-preserved-then-not-is_one_of t c =
+    let asked = guard_at (sight_of c.args.site.now) (known c.args.names.now) c.args.name.now c.args.guard.now in
+    (c.loop-port.invariant.0, told_behind (all_of_ports asked) _ (sight_of c.args.site.now) c.args.set _ (port Head 0) c.loop-port.invariant.1 c.loop-port-test.true (sym c.is_one_of.ensures ∙ c.if-not-is_one_of.true))
 
 pub all_value-loop-port-preserved : goal.all_value-loop-port-preserved
 all_value-loop-port-preserved t c =
     let asked = guard_at (sight_of c.args.site.now) (known c.args.names.now) c.args.name.now c.args.guard.now in
     let under = c.set_last.ensures (known c.args.names.now) c.args.name.now c.loop-port.invariant.0 in
-    (record { port = _; bound = under }, told_here (all_of_ports asked) _ _ _ (port Head 0) _ c.loop-port.invariant.1 c.loop-port-test.true (all_goes_on asked _ _ (asked_at _ (known c.args.names.now) c.args.name.now c.args.guard.now _ _ _ under c.guard_value.ensures ∙ c.in-Ok-true.is ∙ ap Ok c.in-Ok-true.field-0-test)))
+    (record { port = _; bound = under }, told_here (all_of_ports asked) _ (sight_of c.args.site.now) c.args.set _ (port Head 0) _ c.loop-port.invariant.1 c.loop-port-test.true (sym c.is_one_of.ensures ∙ c.if-not-is_one_of.false) (all_goes_on asked _ _ (asked_at _ (known c.args.names.now) c.args.name.now c.args.guard.now _ _ _ under c.quick_value.ensures ∙ c.in-Ok-true.is ∙ ap Ok c.in-Ok-true.field-0-test)))
 
 pub all_value-returns-in-Ok-false : goal.all_value-returns-in-Ok-false
 all_value-returns-in-Ok-false t c =
     let asked = guard_at (sight_of c.args.site.now) (known c.args.names.now) c.args.name.now c.args.guard.now in
     let under = c.set_last.ensures (known c.args.names.now) c.args.name.now c.loop-port.invariant.0 in
-    sym (told_here (all_of_ports asked) _ _ _ (port Head 0) _ c.loop-port.invariant.1 c.loop-port-test.true (all_is_false asked _ _ (asked_at _ (known c.args.names.now) c.args.name.now c.args.guard.now _ _ _ under c.guard_value.ensures ∙ c.in-Ok-false.is ∙ ap Ok c.in-Ok-false.field-0-test))) ∙ ap (all_of_ports asked) (c.deref-port-items.ensures.0 ∙ c.ports_of-ports.ensures)
+    sym (told_here (all_of_ports asked) _ (sight_of c.args.site.now) c.args.set _ (port Head 0) _ c.loop-port.invariant.1 c.loop-port-test.true (sym c.is_one_of.ensures ∙ c.if-not-is_one_of.false) (all_is_false asked _ _ (asked_at _ (known c.args.names.now) c.args.name.now c.args.guard.now _ _ _ under c.quick_value.ensures ∙ c.in-Ok-false.is ∙ ap Ok c.in-Ok-false.field-0-test)))
 
 pub all_value-returns-in-Err : goal.all_value-returns-in-Err
 all_value-returns-in-Err t c =
     let asked = guard_at (sight_of c.args.site.now) (known c.args.names.now) c.args.name.now c.args.guard.now in
     let under = c.set_last.ensures (known c.args.names.now) c.args.name.now c.loop-port.invariant.0 in
-    sym (told_here (all_of_ports asked) _ _ _ (port Head 0) _ c.loop-port.invariant.1 c.loop-port-test.true (all_fails asked _ _ _ (asked_at _ (known c.args.names.now) c.args.name.now c.args.guard.now _ _ _ under c.guard_value.ensures ∙ c.in-Err.is))) ∙ ap (all_of_ports asked) (c.deref-port-items.ensures.0 ∙ c.ports_of-ports.ensures)
+    sym (told_here (all_of_ports asked) _ (sight_of c.args.site.now) c.args.set _ (port Head 0) _ c.loop-port.invariant.1 c.loop-port-test.true (sym c.is_one_of.ensures ∙ c.if-not-is_one_of.false) (all_fails asked _ _ _ (asked_at _ (known c.args.names.now) c.args.name.now c.args.guard.now _ _ _ under c.quick_value.ensures ∙ c.in-Err.is)))
 
 pub all_value-returns : goal.all_value-returns
 all_value-returns t c =
     let asked = guard_at (sight_of c.args.site.now) (known c.args.names.now) c.args.name.now c.args.guard.now in
-    sym (told_over (all_of_ports asked) _ _ _ c.loop-port.invariant.1 c.loop-port-test.false) ∙ ap (all_of_ports asked) (c.deref-port-items.ensures.0 ∙ c.ports_of-ports.ensures)
+    sym (told_over (all_of_ports asked) _ (sight_of c.args.site.now) c.args.set _ c.loop-port.invariant.1 c.loop-port-test.false)
+
+pub first_value-loop-port-preserved-then-not-is_one_of : goal.first_value-loop-port-preserved-then-not-is_one_of
+first_value-loop-port-preserved-then-not-is_one_of t c =
+    let asked = guard_at (sight_of c.args.site.now) (known c.args.names.now) c.args.name.now c.args.guard.now in
+    (c.loop-port.invariant.0, told_behind (first_of_ports asked) _ (sight_of c.args.site.now) c.args.set _ (port Head 0) c.loop-port.invariant.1 c.loop-port-test.true (sym c.is_one_of.ensures ∙ c.if-not-is_one_of.true))
 
 pub first_value-loop-port-preserved : goal.first_value-loop-port-preserved
 first_value-loop-port-preserved t c =
     let asked = guard_at (sight_of c.args.site.now) (known c.args.names.now) c.args.name.now c.args.guard.now in
     let under = c.set_last.ensures (known c.args.names.now) c.args.name.now c.loop-port.invariant.0 in
-    (record { port = _; bound = under }, told_here (first_of_ports asked) _ _ _ (port Head 0) _ c.loop-port.invariant.1 c.loop-port-test.true (first_goes_on asked _ _ (asked_at _ (known c.args.names.now) c.args.name.now c.args.guard.now _ _ _ under c.guard_value.ensures ∙ c.in-Ok-false.is ∙ ap Ok c.in-Ok-false.field-0-test)))
+    (record { port = _; bound = under }, told_here (first_of_ports asked) _ (sight_of c.args.site.now) c.args.set _ (port Head 0) _ c.loop-port.invariant.1 c.loop-port-test.true (sym c.is_one_of.ensures ∙ c.if-not-is_one_of.false) (first_goes_on asked _ _ (asked_at _ (known c.args.names.now) c.args.name.now c.args.guard.now _ _ _ under c.quick_value.ensures ∙ c.in-Ok-false.is ∙ ap Ok c.in-Ok-false.field-0-test)))
 
 pub first_value-returns-in-Ok-true : goal.first_value-returns-in-Ok-true
 first_value-returns-in-Ok-true t c =
     let asked = guard_at (sight_of c.args.site.now) (known c.args.names.now) c.args.name.now c.args.guard.now in
     let under = c.set_last.ensures (known c.args.names.now) c.args.name.now c.loop-port.invariant.0 in
-    sym (told_here (first_of_ports asked) _ _ _ (port Head 0) _ c.loop-port.invariant.1 c.loop-port-test.true (first_is_here asked _ _ (asked_at _ (known c.args.names.now) c.args.name.now c.args.guard.now _ _ _ under c.guard_value.ensures ∙ c.in-Ok-true.is ∙ ap Ok c.in-Ok-true.field-0-test))) ∙ ap (first_of_ports asked) (c.deref-port-items.ensures.0 ∙ c.ports_of-ports.ensures)
+    sym (told_here (first_of_ports asked) _ (sight_of c.args.site.now) c.args.set _ (port Head 0) _ c.loop-port.invariant.1 c.loop-port-test.true (sym c.is_one_of.ensures ∙ c.if-not-is_one_of.false) (first_is_here asked _ _ (asked_at _ (known c.args.names.now) c.args.name.now c.args.guard.now _ _ _ under c.quick_value.ensures ∙ c.in-Ok-true.is ∙ ap Ok c.in-Ok-true.field-0-test)))
 
 pub first_value-returns-in-Err : goal.first_value-returns-in-Err
 first_value-returns-in-Err t c =
     let asked = guard_at (sight_of c.args.site.now) (known c.args.names.now) c.args.name.now c.args.guard.now in
     let under = c.set_last.ensures (known c.args.names.now) c.args.name.now c.loop-port.invariant.0 in
-    sym (told_here (first_of_ports asked) _ _ _ (port Head 0) _ c.loop-port.invariant.1 c.loop-port-test.true (first_fails asked _ _ _ (asked_at _ (known c.args.names.now) c.args.name.now c.args.guard.now _ _ _ under c.guard_value.ensures ∙ c.in-Err.is))) ∙ ap (first_of_ports asked) (c.deref-port-items.ensures.0 ∙ c.ports_of-ports.ensures)
+    sym (told_here (first_of_ports asked) _ (sight_of c.args.site.now) c.args.set _ (port Head 0) _ c.loop-port.invariant.1 c.loop-port-test.true (sym c.is_one_of.ensures ∙ c.if-not-is_one_of.false) (first_fails asked _ _ _ (asked_at _ (known c.args.names.now) c.args.name.now c.args.guard.now _ _ _ under c.quick_value.ensures ∙ c.in-Err.is)))
 
 pub first_value-returns : goal.first_value-returns
 first_value-returns t c =
     let asked = guard_at (sight_of c.args.site.now) (known c.args.names.now) c.args.name.now c.args.guard.now in
-    sym (told_over (first_of_ports asked) _ _ _ c.loop-port.invariant.1 c.loop-port-test.false) ∙ ap (first_of_ports asked) (c.deref-port-items.ensures.0 ∙ c.ports_of-ports.ensures)
+    sym (told_over (first_of_ports asked) _ (sight_of c.args.site.now) c.args.set _ c.loop-port.invariant.1 c.loop-port-test.false)
+
+pub count_value-loop-port-preserved-then-not-is_one_of : goal.count_value-loop-port-preserved-then-not-is_one_of
+count_value-loop-port-preserved-then-not-is_one_of t c =
+    let asked = guard_at (sight_of c.args.site.now) (known c.args.names.now) c.args.name.now c.args.guard.now in
+    (c.loop-port.invariant.0, told_behind (λ ps. and_so_many c.loop-port.count (count_of_ports asked ps)) _ (sight_of c.args.site.now) c.args.set _ (port Head 0) c.loop-port.invariant.1 c.loop-port-test.true (sym c.is_one_of.ensures ∙ c.if-not-is_one_of.true), omega arith)
 
 pub count_value-loop-port-preserved : goal.count_value-loop-port-preserved
 count_value-loop-port-preserved t c =
     let asked = guard_at (sight_of c.args.site.now) (known c.args.names.now) c.args.name.now c.args.guard.now in
     let under = c.set_last.ensures (known c.args.names.now) c.args.name.now c.loop-port.invariant.0 in
-    let e = asked_at _ (known c.args.names.now) c.args.name.now c.args.guard.now _ _ _ under c.guard_value.ensures ∙ c.in-Ok.is in
+    let e = asked_at _ (known c.args.names.now) c.args.name.now c.args.guard.now _ _ _ under c.quick_value.ensures ∙ c.in-Ok.is in
+    let in_set = sym c.is_one_of.ensures ∙ c.if-not-is_one_of.false in
     elim c.if-is_one.branch [
-      | count_value-then-is_one w ↦ rw w.count-is (record { port = _; bound = under }, count_here asked _ _ _ (port Head 0) c.loop-port.invariant.1 c.loop-port-test.true (e ∙ ap Ok w.if-is_one.true), omega arith)
-      | count_value-else-is_one w ↦ rw w.count-is (record { port = _; bound = under }, count_next asked _ _ _ (port Head 0) c.loop-port.invariant.1 c.loop-port-test.true (e ∙ ap Ok w.if-is_one.false), omega arith)
+      | count_value-then-is_one w ↦ rw w.count-is (record { port = _; bound = under }, count_here asked _ (sight_of c.args.site.now) c.args.set _ _ (port Head 0) c.loop-port.invariant.1 c.loop-port-test.true in_set (e ∙ ap Ok w.if-is_one.true), omega arith)
+      | count_value-else-is_one w ↦ rw w.count-is (record { port = _; bound = under }, count_next asked _ (sight_of c.args.site.now) c.args.set _ _ (port Head 0) c.loop-port.invariant.1 c.loop-port-test.true in_set (e ∙ ap Ok w.if-is_one.false), omega arith)
     ]
 
 pub count_value-returns-in-Err-clause-value : goal.count_value-returns-in-Err-clause-value
 count_value-returns-in-Err-clause-value t c =
     let asked = guard_at (sight_of c.args.site.now) (known c.args.names.now) c.args.name.now c.args.guard.now in
     let under = c.set_last.ensures (known c.args.names.now) c.args.name.now c.loop-port.invariant.0 in
-    sym (count_stops asked _ _ _ (port Head 0) _ c.loop-port.invariant.1 c.loop-port-test.true (asked_at _ (known c.args.names.now) c.args.name.now c.args.guard.now _ _ _ under c.guard_value.ensures ∙ c.in-Err.is)) ∙ ap (count_of_ports asked) (c.deref-port-items.ensures.0 ∙ c.ports_of-ports.ensures)
+    sym (count_stops asked _ (sight_of c.args.site.now) c.args.set _ _ (port Head 0) _ c.loop-port.invariant.1 c.loop-port-test.true (sym c.is_one_of.ensures ∙ c.if-not-is_one_of.false) (asked_at _ (known c.args.names.now) c.args.name.now c.args.guard.now _ _ _ under c.quick_value.ensures ∙ c.in-Err.is))
 
 pub count_value-returns-clause-value : goal.count_value-returns-clause-value
 count_value-returns-clause-value t c =
     let asked = guard_at (sight_of c.args.site.now) (known c.args.names.now) c.args.name.now c.args.guard.now in
-    sym (count_over asked _ _ _ c.loop-port.invariant.1 c.loop-port-test.false) ∙ ap (count_of_ports asked) (c.deref-port-items.ensures.0 ∙ c.ports_of-ports.ensures)
+    sym (count_over asked _ (sight_of c.args.site.now) c.args.set _ _ c.loop-port.invariant.1 c.loop-port-test.false)
 
-pub each_value-guard_value-requires : goal.each_value-guard_value-requires
-each_value-guard_value-requires t c =
+pub each_value-quick_value-requires : goal.each_value-quick_value-requires
+each_value-quick_value-requires t c =
     let sc = scope_of (known c.args.names.now) in
     let deeper = at_most the_size c.args.guards.now c.loop-guard.guard-index c.guard-item.result c.loop-guard-test.true in
     let same = ap the_size c.guard-item.is in
@@ -181,19 +211,19 @@ each_value-guard_value-requires t c =
     (omega (arith, c.decreases, deeper, same), (kept.0, (placed_at guard_placed sc _ _ _ c.requires.placed c.loop-guard-test.true c.guard-item.is, kept.1)))
 
 pub each_value-loop-guard-preserved : goal.each_value-loop-guard-preserved
-each_value-loop-guard-preserved t c = each_next _ _ _ _ _ _ c.loop-guard.invariant c.loop-guard-test.true c.guard-item.is (sym c.guard_value.ensures ∙ c.in-Ok-true.is ∙ ap Ok c.in-Ok-true.field-0-test)
+each_value-loop-guard-preserved t c = each_next _ _ _ _ _ _ c.loop-guard.invariant c.loop-guard-test.true c.guard-item.is (sym c.quick_value.ensures ∙ c.in-Ok-true.is ∙ ap Ok c.in-Ok-true.field-0-test)
 
 pub each_value-returns-in-Ok-false : goal.each_value-returns-in-Ok-false
-each_value-returns-in-Ok-false t c = sym (each_decided _ _ _ _ _ _ c.loop-guard.invariant c.loop-guard-test.true c.guard-item.is (sym c.guard_value.ensures ∙ c.in-Ok-false.is ∙ ap Ok c.in-Ok-false.field-0-test))
+each_value-returns-in-Ok-false t c = sym (each_decided _ _ _ _ _ _ c.loop-guard.invariant c.loop-guard-test.true c.guard-item.is (sym c.quick_value.ensures ∙ c.in-Ok-false.is ∙ ap Ok c.in-Ok-false.field-0-test))
 
 pub each_value-returns-in-Err : goal.each_value-returns-in-Err
-each_value-returns-in-Err t c = sym (each_fails _ _ _ _ _ _ _ c.loop-guard.invariant c.loop-guard-test.true c.guard-item.is (sym c.guard_value.ensures ∙ c.in-Err.is))
+each_value-returns-in-Err t c = sym (each_fails _ _ _ _ _ _ _ c.loop-guard.invariant c.loop-guard-test.true c.guard-item.is (sym c.quick_value.ensures ∙ c.in-Err.is))
 
 pub each_value-returns : goal.each_value-returns
 each_value-returns t c = sym (each_over _ _ _ _ _ c.loop-guard.invariant c.loop-guard-test.false)
 
-pub some_value-guard_value-requires : goal.some_value-guard_value-requires
-some_value-guard_value-requires t c =
+pub some_value-quick_value-requires : goal.some_value-quick_value-requires
+some_value-quick_value-requires t c =
     let sc = scope_of (known c.args.names.now) in
     let deeper = at_most the_size c.args.guards.now c.loop-guard.guard-index c.guard-item.result c.loop-guard-test.true in
     let same = ap the_size c.guard-item.is in
@@ -201,13 +231,13 @@ some_value-guard_value-requires t c =
     (omega (arith, c.decreases, deeper, same), (kept.0, (placed_at guard_placed sc _ _ _ c.requires.placed c.loop-guard-test.true c.guard-item.is, kept.1)))
 
 pub some_value-loop-guard-preserved : goal.some_value-loop-guard-preserved
-some_value-loop-guard-preserved t c = some_next _ _ _ _ _ _ c.loop-guard.invariant c.loop-guard-test.true c.guard-item.is (sym c.guard_value.ensures ∙ c.in-Ok-false.is ∙ ap Ok c.in-Ok-false.field-0-test)
+some_value-loop-guard-preserved t c = some_next _ _ _ _ _ _ c.loop-guard.invariant c.loop-guard-test.true c.guard-item.is (sym c.quick_value.ensures ∙ c.in-Ok-false.is ∙ ap Ok c.in-Ok-false.field-0-test)
 
 pub some_value-returns-in-Ok-true : goal.some_value-returns-in-Ok-true
-some_value-returns-in-Ok-true t c = sym (some_decided _ _ _ _ _ _ c.loop-guard.invariant c.loop-guard-test.true c.guard-item.is (sym c.guard_value.ensures ∙ c.in-Ok-true.is ∙ ap Ok c.in-Ok-true.field-0-test))
+some_value-returns-in-Ok-true t c = sym (some_decided _ _ _ _ _ _ c.loop-guard.invariant c.loop-guard-test.true c.guard-item.is (sym c.quick_value.ensures ∙ c.in-Ok-true.is ∙ ap Ok c.in-Ok-true.field-0-test))
 
 pub some_value-returns-in-Err : goal.some_value-returns-in-Err
-some_value-returns-in-Err t c = sym (some_fails _ _ _ _ _ _ _ c.loop-guard.invariant c.loop-guard-test.true c.guard-item.is (sym c.guard_value.ensures ∙ c.in-Err.is))
+some_value-returns-in-Err t c = sym (some_fails _ _ _ _ _ _ _ c.loop-guard.invariant c.loop-guard-test.true c.guard-item.is (sym c.quick_value.ensures ∙ c.in-Err.is))
 
 pub some_value-returns : goal.some_value-returns
 some_value-returns t c = sym (some_over _ _ _ _ _ c.loop-guard.invariant c.loop-guard-test.false)
