@@ -1,13 +1,16 @@
 -- The actions of a program, one after the other.
-use Rattle.std.proofs.Common.{◌≡◌, ◌≤◌, ◌<◌, ◌+◌, ◌∙◌, ℕ, suc, Bool, true, false, List, [], length, map, drop, get_or, refl, sym, ap, subst, arith}
+use Rattle.std.proofs.Common.{◌≡◌, ◌≤◌, ◌<◌, ◌+◌, ◌∙◌, ℕ, suc, Bool, true, false, List, [], length, map, drop, get_or, Option, Some, None, refl, sym, ap, subst, arith}
 use Rattle.std.specs.List.{All, list_all}
+use Rattle.std.specs.declared.result.Result.{Result}
 use Rattle.std.specs.declared.result.Result.TheVariants.{Ok, Err}
 use Rattle.std.proofs.lemmas.List.{get_or-map, length-map}
 use Rattle.std.proofs.Math.ListN.{drop_of_length-le}
 use Rattle.amoebot_state.specs.declared.verdict.Failure.{Failure}
+use Rattle.amoebot_state.specs.declared.verdict.Moved.{Moved}
 use Rattle.amoebot_state.specs.declared.verdict.Verdict.{Verdict}
 use Rattle.amoebot_state.specs.declared.verdict.Verdict.TheVariants as verdict
-use Rattle.model_ops.specs.WorkingCopies.{WorkingCopy, opened, own_id}
+use Rattle.amoebot_state.specs.Patches.{diff}
+use Rattle.model_ops.specs.WorkingCopies.{WorkingCopy, opened, own_id, changes}
 use Rattle.amoebot_state.specs.Zones.{Shown, shown_alone}
 use Rattle.action_tree.specs.declared.program.Var as code_var
 use Rattle.action_tree.specs.declared.program.Action as code
@@ -23,7 +26,7 @@ use Rattle.action_meaning.specs.Names.{Names}
 use Rattle.action_meaning.specs.Values.{guard_value}
 use Rattle.action_meaning.specs.Verdicts.{action_effect, verdict_of_result, decided_by_guard, actions_verdict, names_at_start, verdict_shown}
 use Rattle.action_eval.specs.Known.{scope_of, sight_of}
-use Rattle.action_eval.specs.Running.{moment_of}
+use Rattle.action_eval.specs.Running.{moment_of, HasDecided}
 use Rattle.action_check.proofs.FaultLoops.{here}
 
 -- the verdict of actions that are numbered from a number on
@@ -78,6 +81,36 @@ pub actions_over : (guarded : Bool) (xs : Names) (w : WorkingCopy) (actions : Li
 actions_over guarded xs w actions k left l =
     let told = rw (drop_of_length-le actions l) at left.told in
     told
+
+-- ---- the same where the working copy is still as it was
+
+pub action_has_decided : (guarded : Bool) (xs : Names) (w : WorkingCopy) (actions : List code.Action) (k : ℕ) (a : code.Action) (s : WorkingCopy) (r : Result (Option (ℕ × Moved)) Failure) (new : WorkingCopy) → ActionsLeft guarded xs w actions k × (s ≡ w) → k < length actions → a ≡ get_or actions k a → guard_value (sight_of s) xs (guard_of a.guard) ≡ Ok true
+    → HasDecided (verdict_of_result s.reached k (action_effect guarded (own_id s) (action_of a) (moment_of s xs))) r s new → HasDecided (verdict_from guarded xs w 0 actions) r w new
+action_has_decided guarded xs w actions k a s r new left l is e own =
+    let told = action_decides guarded xs w actions k a left.0 l is (ap (λ (q : WorkingCopy). guard_value (sight_of q) xs (guard_of a.guard)) (sym left.1) ∙ e) in
+    let own_w = subst (λ (q : WorkingCopy). HasDecided (verdict_of_result q.reached k (action_effect guarded (own_id q) (action_of a) (moment_of q xs))) r q new) left.1 own in
+    subst (λ v. HasDecided v r w new) (sym told) own_w
+
+pub action_has_failed : (guarded : Bool) (xs : Names) (w : WorkingCopy) (actions : List code.Action) (k : ℕ) (a : code.Action) (s : WorkingCopy) (f : Failure) → ActionsLeft guarded xs w actions k × (s ≡ w) → k < length actions → a ≡ get_or actions k a → guard_value (sight_of s) xs (guard_of a.guard) ≡ Err f → verdict_from guarded xs w 0 actions ≡ verdict.Failed f
+action_has_failed guarded xs w actions k a s f left l is e = action_fails guarded xs w actions k a f left.0 l is (ap (λ (q : WorkingCopy). guard_value (sight_of q) xs (guard_of a.guard)) (sym left.1) ∙ e)
+
+pub actions_go_on : (guarded : Bool) (xs : Names) (w : WorkingCopy) (actions : List code.Action) (k : ℕ) (a : code.Action) (s : WorkingCopy) → ActionsLeft guarded xs w actions k × (s ≡ w) → k < length actions → a ≡ get_or actions k a → guard_value (sight_of s) xs (guard_of a.guard) ≡ Ok false → ActionsLeft guarded xs w actions (k + 1) × (s ≡ w)
+actions_go_on guarded xs w actions k a s left l is e = (actions_next guarded xs w actions k a left.0 l is (ap (λ (q : WorkingCopy). guard_value (sight_of q) xs (guard_of a.guard)) (sym left.1) ∙ e), left.1)
+
+-- ---- what was decided on a copy that was just opened
+
+pub made_is : (v : Verdict) (r : Result (Option (ℕ × Moved)) Failure) (made : ℕ × Moved) (s : Shown) (old new : WorkingCopy) → HasDecided v r old new → r ≡ Ok (Some made) → old ≡ opened s → verdict.Change (record { action = made.0; moved = made.1; patch = changes new }) ≡ v
+made_is v r made s old new has e at =
+    let is = subst (λ q. HasDecided v q old new) e has in
+    let found = is.1 ∙ ap (λ (w : WorkingCopy). w.found) at in
+    let same = ap shown_alone found ∙ sym (ap (λ (w : WorkingCopy). w.reached) at) in
+    ap (λ c. verdict.Change (record { action = made.0; moved = made.1; patch = diff c new.reached })) same ∙ sym is.0
+
+pub idle_is : (v : Verdict) (r : Result (Option (ℕ × Moved)) Failure) (old new : WorkingCopy) → HasDecided v r old new → r ≡ Ok None → verdict.Idle ≡ v
+idle_is v r old new has e = sym (subst (λ q. HasDecided v q old new) e has)
+
+pub failed_is : (v : Verdict) (r : Result (Option (ℕ × Moved)) Failure) (f : Failure) (old new : WorkingCopy) → HasDecided v r old new → r ≡ Err f → verdict.Failed f ≡ v
+failed_is v r f old new has e = sym (subst (λ q. HasDecided v q old new) e has)
 
 -- ---- the parts of a program that a text gives
 

@@ -2,8 +2,10 @@
 
 ghost use Rattle.std.specs.Prelude.{◌≡◌, ◌≤◌, true, length, map};
 ghost use Rattle.std.specs.List.{All, list_all};
-ghost use Rattle.amoebot_state.specs.Zones.{IsShown};
-ghost use Rattle.model_ops.specs.WorkingCopies.{opened, own_id};
+ghost use Rattle.amoebot_state.specs.declared.verdict.Verdict.TheVariants as verdict;
+ghost use Rattle.amoebot_state.specs.Zones.{IsShown, shown_alone};
+ghost use Rattle.model_ops.specs.Reaches.{Reaches};
+ghost use Rattle.model_ops.specs.WorkingCopies.{opened, own_id, changes};
 ghost use Rattle.action_tree.specs.Limits.{most_actions};
 ghost use Rattle.action_tree.specs.Places.{action_placed, actions_placed};
 ghost use Rattle.action_tree.specs.Views as view;
@@ -11,14 +13,14 @@ ghost use Rattle.action_tree.specs.Writable.{is_action};
 ghost use Rattle.action_check.specs.Rules.{ActionKept};
 ghost use Rattle.action_meaning.specs.Verdicts.{actions_verdict, action_effect, verdict_of_result};
 ghost use Rattle.action_eval.specs.Known.{known, scope_of};
-ghost use Rattle.action_eval.specs.Running.{moment_of};
+ghost use Rattle.action_eval.specs.Running.{HasDecided, moment_of};
 
 use crate::effect::run_action;
 use crate::names::Names;
 use crate::value::quick_value;
 use action_check::Checked;
 use action_tree::Action;
-use amoebot_state::{Change, Decider, Found, Verdict};
+use amoebot_state::{Change, Decider, Failure, Found, Moved, Verdict};
 use model_ops::Site;
 use std::marker::Model;
 
@@ -65,7 +67,12 @@ impl Decider for Runner {
     fn decide(&self, found: &Found) -> Verdict {
         let program = self.checked.program();
         let names = Names::new(program.vars());
-        actions_decide(program.actions(), program.guard(), Site::new(found), names)
+        let mut site = Site::new(found);
+        match actions_decide(program.actions(), program.guard(), &mut site, names) {
+            Ok(Some((action, moved))) => change_made(action, moved, &site),
+            Ok(None) => Verdict::Idle,
+            Err(failure) => Verdict::Failed(failure),
+        }
     }
 
     ghost touches_zone = { λ p. (acts_keep_decider_laws (verdict_shown p) (programs_decide_by_acts p)).0 };
@@ -75,25 +82,29 @@ impl Decider for Runner {
     ghost is_exact = { λ p. (acts_keep_decider_laws (verdict_shown p) (programs_decide_by_acts p)).2 };
 }
 
-/// The actions in the order of the text: the first whose guard is not false decides.
-fn actions_decide<'p>(actions: &'p [Action], guard: bool, site: Site, names: Names<'p>) -> Verdict
-    requires shown { IsShown site.found }
-    requires opened { site ≡ opened site.found }
+/// The actions in the order of the text: the first whose guard is not false decides. Where it is made, the working copy has come to what
+/// it leaves, and its number and its movement are given back.
+fn actions_decide<'p>(
+    actions: &'p [Action],
+    guard: bool,
+    site: &mut Site,
+    names: Names<'p>,
+) -> Result<Option<(u8, Moved)>, Failure>
+    requires shown { IsShown site.old.found }
+    requires opened { site.old ≡ opened site.old.found }
     requires few { length actions.now ≤ most_actions }
     requires kept { All (ActionKept (scope_of (known names))) (map view.action_of actions.now) }
     requires placed { actions_placed actions.now (scope_of (known names)) ≡ true }
     requires counted { list_all is_action (map view.action_of actions.now) ≡ true }
-    ensures { result ≡ actions_verdict guard (known names.entry) site.reached (own_id site) 0
-        (map view.action_of actions.now) }
+    ensures { HasDecided (actions_verdict guard (known names.entry) site.old.reached (own_id site.old) 0
+        (map view.action_of actions.now)) result site.old site.new }
 {
     for (number, action) in actions.iter().enumerate() {
-        match quick_value(&action.guard, &site, &names) {
-            Ok(false) => {}
-            Ok(true) => return action_decides(number as u8, action, guard, site, names),
-            Err(failure) => return Verdict::Failed(failure),
+        if quick_value(&action.guard, site, &names)? {
+            return action_decides(number as u8, action, guard, site, names);
         }
     }
-    Verdict::Idle
+    Ok(None)
 }
 
 /// An action whose guard is true: what its statements and its movement do decides, or their failure.
@@ -101,23 +112,31 @@ fn action_decides<'p>(
     number: u8,
     action: &'p Action,
     guard: bool,
-    mut site: Site,
+    site: &mut Site,
     names: Names<'p>,
-) -> Verdict
-    requires shown { IsShown site.found }
-    requires opened { site ≡ opened site.found }
+) -> Result<Option<(u8, Moved)>, Failure>
+    requires shown { IsShown site.old.found }
+    requires opened { site.old ≡ opened site.old.found }
     requires kept { ActionKept (scope_of (known names)) (view.action_of action.now) }
     requires placed { action_placed action.now (scope_of (known names)) ≡ true }
     requires counted { is_action (view.action_of action.now) ≡ true }
-    ensures { result ≡ verdict_of_result site.reached number
-        (action_effect guard (own_id site) (view.action_of action.now) (moment_of site (known names.entry))) }
+    ensures { HasDecided (verdict_of_result site.old.reached number (action_effect guard (own_id site.old)
+        (view.action_of action.now) (moment_of site.old (known names.entry)))) result site.old site.new }
 {
-    match run_action(action, guard, &mut site, names) {
-        Ok(moved) => Verdict::Change(Change {
-            action: number,
-            moved,
-            patch: site.patch(),
-        }),
-        Err(failure) => Verdict::Failed(failure),
-    }
+    let moved = run_action(action, guard, site, names)?;
+    Ok(Some((number, moved)))
+}
+
+/// The verdict that an action was made, which leaves what the working copy has come to. It stays a function of its own, since most turns
+/// make none.
+#[inline(never)]
+fn change_made(action: u8, moved: Moved, site: &Site) -> Verdict
+    requires { Reaches (shown_alone site.now.found) (own_id site.now) site.now.reached }
+    ensures { result ≡ verdict.Change (record { action = action; moved = moved; patch = changes site.now }) }
+{
+    Verdict::Change(Change {
+        action,
+        moved,
+        patch: site.patch(),
+    })
 }
