@@ -5,7 +5,7 @@ ghost use Rattle.action_tree.specs.Roles as roles;
 ghost use Rattle.action_tree.specs.declared.role.Role.TheVariants as role;
 
 use crate::role::Role;
-use text_tokens::TokenKind;
+use text_tokens::{TokenKind, is_same};
 
 /// The reserved words, by their first letters. A word that is not among them is a name.
 static WORDS: [(&str, Role); 48] = [
@@ -80,7 +80,7 @@ fn look_up(otherwise: Role, table: &[(&str, Role)], text: &[u8]) -> Role
     ensures { result ≡ roles.look_up otherwise (map (λ e. roles.entry e.0.now e.1) table.now) text.now }
 {
     for (word, role) in table {
-        if text == word.as_bytes() {
+        if is_same(text, word.as_bytes()) {
             return *role;
         }
     }

@@ -1,10 +1,10 @@
 -- Digits, and what they stand for.
-use Rattle.std.proofs.Common.{◌≡◌, ℕ, zero, suc, ◌+◌, ◌-◌, ◌*◌, ◌^◌, ◌<◌, ◌≤◌, true, List, [], ◌∷◌, length, get_or, drop, sym, ap, ◌∙◌, arith, drop-cons, length-drop, add-one}
-use Rattle.std.proofs.lemmas.List.{drop_all}
+use Rattle.std.proofs.Common.{◌≡◌, ℕ, zero, suc, ◌+◌, ◌-◌, ◌*◌, ◌^◌, ◌<◌, ◌≤◌, true, false, List, [], ◌∷◌, ◌++◌, length, get_or, take, drop, refl, sym, ap, ◌∙◌, arith, drop-cons, length-drop, length-append, add-one}
+use Rattle.std.proofs.lemmas.List.{drop_all, take_more}
 use Rattle.std.proofs.Math.Nat.{add-mul, mul_assoc, mul_comm, pow-succ', pow-le-pow_right}
 use Rattle.std.proofs.lemmas.Bool.Decides.{nat_tests}
 use Rattle.std.proofs.lemmas.Bool.{and_parts}
-use Rattle.std.specs.List.{list_all}
+use Rattle.std.specs.List.{list_all, prefix_len}
 use Rattle.text_tokens.specs.Text.{is_digit}
 use Rattle.text_tokens.specs.Cursor.{number_value}
 
@@ -13,7 +13,7 @@ digit_passes [] i lt e = absurd (omega arith)
 digit_passes (b ∷ digits) zero lt e = (and_parts (is_digit b) (list_all is_digit digits) e).0
 digit_passes (b ∷ digits) (suc i) lt e = digit_passes digits i (omega arith) (and_parts (is_digit b) (list_all is_digit digits) e).1
 
-digit_range : (b : ℕ) → is_digit b ≡ true → (48 ≤ b) × (b ≤ 57)
+pub digit_range : (b : ℕ) → is_digit b ≡ true → (48 ≤ b) × (b ≤ 57)
 digit_range b e = grind (arith, nat_tests)
 
 pub digit_at : (digits : List ℕ) (i : ℕ) → i < length digits → list_all is_digit digits ≡ true → (48 ≤ get_or digits i 0) × (get_or digits i 0 ≤ 57)
@@ -50,3 +50,29 @@ pub value_end : (digits : List ℕ) (i v : ℕ) → length digits ≤ i → v * 
 value_end digits i v le =
     let n : length digits - i ≡ 0 = omega arith in
     rw (n, drop_all i digits le) (omega arith)
+
+-- ---- digits as they are scanned
+
+more_by : (x p q v w d : ℕ) → q ≡ 10 * p → w ≡ 10 * v + d → x * q + w ≡ 10 * (x * p + v) + d
+more_by x p q v w d e f =
+    let m : x * q ≡ 10 * (x * p) = ap (λ (k : ℕ). x * k) e ∙ sym (mul_assoc x 10 p) ∙ ap (λ (k : ℕ). k * p) (mul_comm x 10) ∙ mul_assoc 10 x p in
+    omega arith
+
+number_value-more : (digits : List ℕ) (b : ℕ) → number_value (digits ++ b ∷ []) ≡ 10 * number_value digits + (b - 48)
+number_value-more [] b = omega arith
+number_value-more (d ∷ digits) b =
+    let l : length (digits ++ b ∷ []) ≡ suc (length digits) = simp length-append (omega arith) in
+    more_by (d - 48) (10 ^ length digits) (10 ^ length (digits ++ b ∷ [])) (number_value digits) (number_value (digits ++ b ∷ [])) (b - 48)
+    (ap (λ (k : ℕ). 10 ^ k) l ∙ pow-succ' 10 (length digits)) (number_value-more digits b)
+
+pub value_more : (bytes : List ℕ) (i : ℕ) → i < length bytes → number_value (take (i + 1) bytes) ≡ 10 * number_value (take i bytes) + (get_or bytes i 0 - 48)
+value_more bytes i lt = ap number_value (take_more bytes i 0 lt) ∙ number_value-more (take i bytes) (get_or bytes i 0)
+
+pub digit_more : (bytes : List ℕ) (i : ℕ) → i < length bytes → is_digit (get_or bytes i 0) ≡ true → prefix_len is_digit (drop i bytes) ≡ 1 + prefix_len is_digit (drop (i + 1) bytes)
+digit_more bytes i lt e = rw (add-one, drop-cons bytes i 0 lt, e) refl
+
+pub no_digit : (bytes : List ℕ) (i : ℕ) → i < length bytes → is_digit (get_or bytes i 0) ≡ false → prefix_len is_digit (drop i bytes) ≡ 0
+no_digit bytes i lt e = rw (drop-cons bytes i 0 lt, e) refl
+
+pub no_digit_left : (bytes : List ℕ) (i : ℕ) → length bytes ≤ i → prefix_len is_digit (drop i bytes) ≡ 0
+no_digit_left bytes i le = rw (drop_all i bytes le) refl

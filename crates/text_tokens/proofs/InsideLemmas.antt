@@ -1,16 +1,19 @@
 -- What a `Tokens` that is ready shows.
-use Rattle.std.proofs.Common.{◌≡◌, ℕ, ◌+◌, ◌-◌, ◌<◌, ◌≤◌, ◌^◌, Bool, false, List, [], ◌∷◌, length, drop, Some, Result, Ok, Err, refl, sym, ap, subst, ◌∙◌, arith, length-drop}
+use Rattle.std.proofs.Common.{◌≡◌, ℕ, ◌+◌, ◌-◌, ◌<◌, ◌≤◌, ◌^◌, Bool, true, false, cond, rules, List, [], ◌∷◌, length, take, drop, Some, Result, Ok, Err, refl, sym, ap, subst, ◌∙◌, arith, length-drop}
 use Rattle.std.proofs.lemmas.List.{drop-drop, length-take-le}
 use Rattle.text_tokens.specs.declared.token.Token.{Token}
+use denote.Enum.Bare.{same_true}
+use Rattle.text_tokens.specs.contracts.token.TokenKind.{the_type}
 use Rattle.text_tokens.specs.declared.token.TokenKind.{TokenKind}
+use Rattle.text_tokens.specs.declared.token.TokenKind.TheVariants.{Number}
 use Rattle.text_tokens.specs.declared.refusal.Refusal.{Refusal}
 use Rattle.text_tokens.specs.declared.refusal.RefusalKind.{RefusalKind}
-use Rattle.text_tokens.specs.declared.refusal.RefusalKind.TheVariants.{Truncated}
+use Rattle.text_tokens.specs.declared.refusal.RefusalKind.TheVariants.{Truncated, Unexpected}
 use Rattle.std.specs.Prelude.{IfOk, IfSome}
 use Rattle.text_tokens.specs.declared.tokens.Tokens.TheInside.{Inside}
 use Rattle.text_tokens.specs.Text.{Lexeme}
 use Rattle.text_tokens.specs.Scan.{Piece, Input, skip, ready, front, lexeme, input_past, ahead_of}
-use Rattle.text_tokens.specs.Cursor.{token_of, end_or, answer, past_token, refusal_at, line_of, next_passes, Spells, at_input, at_place}
+use Rattle.text_tokens.specs.Cursor.{token_of, end_or, answer, past_token, refusal_at, line_of, next_passes, Spells, at_input, at_place, expect, expect_by, is_kind, same_kind, number_value, slice}
 use Rattle.text_tokens.specs.Inside.{input_of, cursor_of, piece_by, IsReady}
 use Rattle.text_tokens.proofs.CutLemmas.{Found, front_found}
 use Rattle.text_tokens.proofs.ScanLemmas.{ready_twice, front_fits, ahead_ok, ahead_err, last_ok, last_err, ahead_ready, last_ready}
@@ -118,3 +121,22 @@ module _ (t : Inside) (h : IsReady t) where
 
   pub line_is : line_of (cursor_of t).ahead (cursor_of t).last ≡ t.line
   line_is = line_by t.front.kind refl
+
+  number_here : (k : TokenKind) → t.front.kind ≡ Ok k → (b : Bool) → same_kind k Number ≡ b → (u : Token) → cond {A = Result Token Refusal} b (Ok (record { kind = k; «from» = t.at; to = t.at + t.front.len; line = t.line })) (Err (record { line = t.line; kind = Unexpected })) ≡ Ok u → t.front.value ≡ number_value (slice t.source.now u)
+  unfolding same_kind
+  number_here k e true same u is =
+      let number : k ≡ Number = same_true the_type (search rules) k Number same in
+      let len : t.at + t.front.len - t.at ≡ t.front.len = omega arith in
+      let here_is : record { kind = k; «from» = t.at; to = t.at + t.front.len; line = t.line } ≡ u = cc in
+      h.stands.value (e ∙ ap (λ (n : TokenKind). Ok n) number) ∙ sym (ap (λ (n : ℕ). number_value (take n (drop t.at t.source.now))) len) ∙ ap (λ (v : Token). number_value (slice t.source.now v)) here_is
+  number_here k e false same u is = absurd cc
+
+  value_by : (r : Result TokenKind RefusalKind) → t.front.kind ≡ r → (u : Token) → expect (is_kind Number) (cursor_of t) ≡ Ok u → t.front.value ≡ number_value (slice t.source.now u)
+  value_by (Ok k) e u is =
+      let shown : expect (is_kind Number) (cursor_of t) ≡ cond {A = Result Token Refusal} (same_kind k Number) (Ok (here k e)) (Err (record { line = t.line; kind = Unexpected })) =
+      rw (ahead_is k e) (ap (λ (x : Token). cond {A = Result Token Refusal} (same_kind k Number) (Ok x) (Err (record { line = t.line; kind = Unexpected }))) (here_is k e)) in
+      number_here k e (same_kind k Number) refl u (sym shown ∙ is)
+  value_by (Err k) e u is = let none : Err (cursor_of t).last ≡ Ok u = sym (ap (λ (ls : List Lexeme). expect_by (is_kind Number) ls (cursor_of t).last) (none_ahead k e)) ∙ is in absurd cc
+
+  pub value_shown : (u : Token) → expect (is_kind Number) (cursor_of t) ≡ Ok u → t.front.value ≡ number_value (slice t.source.now u)
+  value_shown = value_by t.front.kind refl

@@ -45,8 +45,9 @@ pub fn number(tokens: &mut Tokens<'_>) -> Result<u32, ReadRefusal>
     ensures small { IfOk result IsShort }
     ensures sure { IfErr result (λ e. e ≢ NoMemory) }
 {
-    let token = tokens.take_kind(TokenKind::Number)?;
-    Ok(tokens.number(&token))
+    let number = tokens.value();
+    tokens.take_kind(TokenKind::Number)?;
+    Ok(number)
 }
 
 /// A number of at most so much. A number above is refused for this kind.
@@ -60,8 +61,8 @@ pub fn number_up_to(
     ensures within { IfOk result (λ n. n ≤ most) }
     ensures sure { IfErr result (λ e. e ≢ NoMemory) }
 {
+    let value = tokens.value();
     let found = tokens.take_kind(TokenKind::Number)?;
-    let value = tokens.number(&found);
     if value > most {
         return Err(refused(found.line, kind));
     }

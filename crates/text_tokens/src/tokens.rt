@@ -1,13 +1,14 @@
 //! A cursor over the tokens of a text, which cuts each as it is reached.
 
-ghost use Rattle.std.specs.Prelude.{◌≡◌, ◌<◌, ◌≤◌, ◌+◌, ◌^◌, ℕ, length, take, drop, IfOk, IfSome, OnOk, OnErr, Err, true, false};
+ghost use Rattle.std.specs.Prelude.{◌≡◌, ◌<◌, ◌≤◌, ◌+◌, ◌^◌, ℕ, length, take, drop, IfOk, IfSome, OnOk, OnErr, List, Ok, Err, true, false};
 ghost use Rattle.std.specs.List.{list_all, prefix_len};
 ghost use Rattle.std.specs.Str.{bytes_eq};
-ghost use Rattle.text_tokens.specs.declared.token.TokenKind.TheVariants.{Number};
+ghost use Rattle.text_tokens.specs.declared.token.TokenKind.TheVariants.{Number, Word};
+ghost use Rattle.text_tokens.specs.declared.token.Token.{Token};
 ghost use Rattle.text_tokens.specs.Text as text;
 ghost use Rattle.text_tokens.specs.Scan as scan;
 ghost use Rattle.text_tokens.specs.Cursor as cursor;
-ghost use Rattle.text_tokens.specs.Inside.{piece_of};
+ghost use Rattle.text_tokens.specs.Inside.{HasItsNumber, piece_of};
 ghost use Rattle.text_tokens.specs.Cursor.{AreCut, IsAtFront, IsDigits, IsShort, IsSlice, Spells, number_value};
 ghost use Rattle.text_tokens.specs.Cursor.{next_passes, is_the, is_kind, expect};
 
@@ -15,20 +16,24 @@ use crate::refusal::{Refusal, RefusalKind};
 use crate::token::{Token, TokenKind};
 use std::marker::Model;
 
-/// What stands at the front of a text: the kind of a token and how many bytes it has, or what is wrong there.
+/// What stands at the front of a text: the kind of a token, how many bytes it has, and what it stands for if it is a number; or what
+/// is wrong there.
 #[derive(Clone, Copy)]
 struct Lead {
     kind: Result<TokenKind, RefusalKind>,
     len: usize,
+    value: u32,
 }
 
 impl Lead {
     fn fault(kind: RefusalKind) -> Lead
-        ensures { piece_of result ≡ Err kind }
+        ensures is { piece_of result ≡ Err kind }
+        ensures stands { (bytes : List ℕ) → HasItsNumber bytes result }
     {
         Lead {
             kind: Err(kind),
             len: 0,
+            value: 0,
         }
     }
 }
@@ -91,17 +96,6 @@ fn word_len(bytes: &[u8]) -> usize
     len
 }
 
-/// How many digits stand at the front.
-fn digits_len(bytes: &[u8]) -> usize
-    ensures { result ≡ prefix_len text.is_digit bytes.now }
-{
-    let mut len = 0;
-    while len < bytes.len() && is_digit(bytes[len]) {
-        len += 1;
-    }
-    len
-}
-
 /// The length of the longest sign at the front, or 0.
 #[tactic(auto, unfolding(crate::specs::Scan::sign_len))]
 fn sign_len(bytes: &[u8]) -> usize
@@ -128,45 +122,70 @@ fn most_bytes(kind: TokenKind) -> usize
     }
 }
 
-/// A token of so many bytes, if it may have so many.
-fn sized(kind: TokenKind, len: usize) -> Lead
-    ensures { piece_of result ≡ scan.sized kind len }
+/// A word of so many bytes, if it may have so many.
+fn word(len: usize) -> Lead
+    ensures is { piece_of result ≡ scan.sized Word len }
+    ensures stands { (bytes : List ℕ) → HasItsNumber bytes result }
 {
-    if len > most_bytes(kind) {
-        Lead::fault(RefusalKind::WordTooLong)
-    } else {
-        Lead {
-            kind: Ok(kind),
-            len,
-        }
+    if len > most_bytes(TokenKind::Word) {
+        return Lead::fault(RefusalKind::WordTooLong);
+    }
+    Lead {
+        kind: Ok(TokenKind::Word),
+        len,
+        value: 0,
+    }
+}
+
+/// The number at the front, with what it stands for.
+fn leading_number(bytes: &[u8]) -> Lead
+    ensures is { piece_of result ≡ scan.sized Number (prefix_len text.is_digit bytes.now) }
+    ensures stands { HasItsNumber bytes.now result }
+{
+    let end = bytes.len().min(most_bytes(TokenKind::Number));
+    let mut len = 0;
+    let mut value: u32 = 0;
+    while len < end && is_digit(bytes[len]) {
+        value = 10 * value + (bytes[len] - b'0') as u32;
+        len += 1;
+    }
+    if len < bytes.len() && is_digit(bytes[len]) {
+        return Lead::fault(RefusalKind::WordTooLong);
+    }
+    Lead {
+        kind: Ok(TokenKind::Number),
+        len,
+        value,
     }
 }
 
 fn sign(len: usize) -> Lead
-    ensures { piece_of result ≡ scan.sign_of len }
+    ensures is { piece_of result ≡ scan.sign_of len }
+    ensures stands { (bytes : List ℕ) → HasItsNumber bytes result }
 {
     if len == 0 {
-        Lead::fault(RefusalKind::BadByte)
-    } else {
-        Lead {
-            kind: Ok(TokenKind::Sign),
-            len,
-        }
+        return Lead::fault(RefusalKind::BadByte);
+    }
+    Lead {
+        kind: Ok(TokenKind::Sign),
+        len,
+        value: 0,
     }
 }
 
 /// The token at the front, or what is wrong there.
 #[tactic(auto, unfolding(crate::specs::Scan::front))]
 fn front(bytes: &[u8]) -> Lead
-    ensures { piece_of result ≡ scan.front bytes.now }
+    ensures is { piece_of result ≡ scan.front bytes.now }
+    ensures stands { HasItsNumber bytes.now result }
 {
     match bytes {
         [] => Lead::fault(RefusalKind::Truncated),
         [b, ..] => {
             if is_letter(*b) {
-                sized(TokenKind::Word, word_len(bytes))
+                word(word_len(bytes))
             } else if is_digit(*b) {
-                sized(TokenKind::Number, digits_len(bytes))
+                leading_number(bytes)
             } else {
                 sign(sign_len(bytes))
             }
@@ -365,6 +384,15 @@ impl<'a> Tokens<'a> {
         ensures small { IsShort result }
     {
         decimal(self.text(token))
+    }
+
+    /// What the next token stands for, if it is a number.
+    pub(crate) fn value(&self) -> u32
+        ensures value { (t : Token) → expect (is_kind Number) self.now ≡ Ok t
+            → result ≡ number_value (cursor.slice self.now.source t) }
+        ensures small { IsShort result }
+    {
+        self.front.value
     }
 
     /// A refusal of this kind on the line of the next token; where there is none, what is wrong there, which is

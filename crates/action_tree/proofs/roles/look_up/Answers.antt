@@ -12,12 +12,12 @@ as_entry e = entry e.0.now e.1
 abbrev none : Bor (List ℕ) × Role
 none = (record { ref_ptr = (0, 0); now = [] }, role.AName)
 
-pub returns-then-eq : goal.returns-then-eq
-returns-then-eq c =
-    let is = ap (λ (w : List ℕ). bytes_eq c.args.text.now w) (sym c.as_bytes.ensures.value) ∙ sym c.eq.ensures ∙ c.if-eq.true in
+pub returns-then-is_same : goal.returns-then-is_same
+returns-then-is_same c =
+    let is = ap (λ (w : List ℕ). bytes_eq c.args.text.now w) (sym c.as_bytes.ensures.value) ∙ sym c.is_same.ensures ∙ c.if-is_same.true in
     sym (c.loop-word.invariant ∙ said_here as_entry c.args.otherwise c.args.text.now c.args.table.now c.loop-word.word-index (c.loop-word.word-index + 1) none true (omega arith) c.loop-word-test.true is)
 
 pub loop-word-preserved : goal.loop-word-preserved
 loop-word-preserved c =
-    let is = ap (λ (w : List ℕ). bytes_eq c.args.text.now w) (sym c.as_bytes.ensures.value) ∙ sym c.eq.ensures ∙ c.if-eq.false in
+    let is = ap (λ (w : List ℕ). bytes_eq c.args.text.now w) (sym c.as_bytes.ensures.value) ∙ sym c.is_same.ensures ∙ c.if-is_same.false in
     c.loop-word.invariant ∙ said_here as_entry c.args.otherwise c.args.text.now c.args.table.now c.loop-word.word-index (c.loop-word.word-index + 1) none false (omega arith) c.loop-word-test.true is

@@ -3,7 +3,7 @@ use Rattle.std.proofs.lemmas.Result.{err_from_is_err_and}
 use Rattle.text_tokens.specs.Reading.{too_large}
 use Rattle.text_tokens.specs.Steps.{lexeme_of}
 use Rattle.text_tokens.proofs.StepsLemmas.{larger, not_larger}
-use Rattle.text_tokens.proofs.TakenTokens.{number_missed, number_past, value_is, number_taken}
+use Rattle.text_tokens.proofs.TakenTokens.{number_missed, number_past, number_taken}
 use Rattle.text_tokens.proofs.terminals.number_up_to.Goals as goal
 
 pub returns-in_err-found-clause-reads : goal.returns-in_err-found-clause-reads
@@ -18,7 +18,7 @@ returns-then-value-most-clause-reads c =
     let new = c.take_kind.new.self in
     let t = c.in_ok-found.found in
     let answer = sym c.take_kind.ensures.answer ∙ c.in_ok-found.was in
-    let v = value_is over now new t answer c.in_ok-found.ensures.moves c.in_ok-found.ensures.spells c.number-value.result c.number-value.ensures.value in
+    let v = c.value-value.ensures.value t answer in
     rw c.refused.ensures (number_past over now new t answer c.in_ok-found.ensures.moves c.in_ok-found.ensures.spells c.args.kind (larger c.args.most c.args.kind (lexeme_of now.source t) (rw (← v) c.if-value-most.true)))
 
 pub returns-clause-reads : goal.returns-clause-reads
@@ -28,5 +28,5 @@ returns-clause-reads c =
     let new = c.take_kind.new.self in
     let t = c.in_ok-found.found in
     let answer = sym c.take_kind.ensures.answer ∙ c.in_ok-found.was in
-    let v = value_is over now new t answer c.in_ok-found.ensures.moves c.in_ok-found.ensures.spells c.number-value.result c.number-value.ensures.value in
-    number_taken over now new t answer c.in_ok-found.ensures.moves c.in_ok-found.ensures.spells c.number-value.result v (not_larger c.args.most c.args.kind (lexeme_of now.source t) (rw (← v) c.if-value-most.false))
+    let v = c.value-value.ensures.value t answer in
+    number_taken over now new t answer c.in_ok-found.ensures.moves c.in_ok-found.ensures.spells c.value-value.result v (not_larger c.args.most c.args.kind (lexeme_of now.source t) (rw (← v) c.if-value-most.false))
