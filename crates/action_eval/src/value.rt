@@ -16,7 +16,7 @@ ghost use Rattle.action_eval.specs.UnderNames.{MayAsk, guard_at};
 
 use crate::names::Names;
 use crate::number::{compare, signed};
-use crate::plain::plain_comparison;
+use crate::plain::{plain_comparison, plain_port};
 use crate::port::{inner_value, is_one_of, is_own_port};
 use action_tree::{DirTerm, Guard, PortExpr, PortSet, Sum, Term, Word};
 use amoebot_state::{ALL_PORTS, End, Failure, Port};
@@ -106,7 +106,7 @@ fn test_value<'p>(
     ensures { result ≡ spec.guard_value (sight_of site.now) (known names.now)
         (tree.tested (asked_by test) (view.port_of port.now)) }
 {
-    let port = port_value(port, site, names)?;
+    let port = quick_port(port, site, names)?;
     match test {
         Test::Linked => site.connected(port),
         Test::Free => site.is_free(port),
@@ -347,6 +347,21 @@ fn term_value<'p>(term: &'p Term, site: &Site, names: &Names<'p>) -> Result<i32,
             let value = sum_value(sum, site, names)?;
             Ok(value.rem_euclid(6))
         }
+    }
+}
+
+/// The pair that a port expression names. Most are names, or turned from one.
+#[inline(always)]
+#[cycle(values)]
+fn quick_port<'p>(port: &'p PortExpr, site: &Site, names: &Names<'p>) -> Result<Port, Failure>
+    requires kept { PortKept (scope_of (known names.now)) (view.port_of port.now) }
+    requires placed { port_placed port.now (scope_of (known names.now)) ≡ true }
+    requires counted { is_port_expr (view.port_of port.now) ≡ true }
+    ensures { result ≡ spec.port_value (sight_of site.now) (known names.now) (view.port_of port.now) }
+{
+    match plain_port(port, names) {
+        Some(port) => Ok(port),
+        None => port_value(port, site, names),
     }
 }
 
