@@ -86,13 +86,8 @@ impl Site {
         requires { var < most_vars }
         ensures { result ≡ read self.now.reached (own_id self.now) port var }
     {
-        match port {
-            Some(port) => {
-                let id = self.neighbour(port)?;
-                Ok(self.draft.bot(id).mem[usize::from(var)])
-            }
-            None => Ok(self.draft.own().mem[usize::from(var)]),
-        }
+        let id = self.owner(port)?;
+        Ok(self.draft.bot(id).mem[usize::from(var)])
     }
 
     /// What is seen of the neighbour behind a port. NoPort; NoNeighbour.
@@ -171,14 +166,17 @@ impl Site {
         self.draft.own()
     }
 
-    /// The id of the occupant behind a port. NoPort; NoNeighbour.
-    fn neighbour(&self, port: Port) -> Result<u16, Failure>
-        ensures value { result ≡ owner self.now.reached (own_id self.now) (Some port) }
+    /// Whose memory is meant: the amoebot's own, or that of the occupant behind a port.
+    fn owner(&self, port: Option<Port>) -> Result<u16, Failure>
+        ensures value { result ≡ owner self.now.reached (own_id self.now) port }
         ensures there { IfOk result (λ id. IsSome (bot_at self.now.reached id)) }
     {
-        match &self.around {
-            Some(around) => owner_there(behind_at(around, port)),
-            None => self.draft.neighbour(port),
+        match port {
+            Some(port) => match &self.around {
+                Some(around) => owner_there(behind_at(around, port)),
+                None => self.draft.neighbour(port),
+            },
+            None => Ok(self.draft.own_id()),
         }
     }
 }
