@@ -27,10 +27,10 @@ use tri_lattice::{Area, Node};
 /// A working copy that looks among its amoebots for each answer. The amoebot itself is the first of them.
 #[derive(Drop)]
 pub(crate) struct Draft {
+    pub(crate) members: ArrayVec<Member, ROOM>,
     pub(crate) area: Area,
     pub(crate) maxes: [u8; 8],
     pub(crate) own: u16,
-    pub(crate) members: ArrayVec<Member, ROOM>,
 }
 
 impl Model for Draft {

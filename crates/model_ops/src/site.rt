@@ -51,10 +51,10 @@ impl Site {
         gather(&mut members, found);
         Site {
             draft: Draft {
+                members,
                 area: found.area(),
                 maxes: found.maxes(),
                 own: found.bot(),
-                members,
             },
             around: Some(around(found)),
         }
