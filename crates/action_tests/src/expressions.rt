@@ -341,6 +341,73 @@ static SUMS: [Asked; 44] = [
     ("- x <= - 4", 0, True),
 ];
 
+/// Comparisons that need no sum and the same with one, and ports that are a name or turned once and the same turned twice, all asked
+/// by amoebot 0.
+static IN_BOTH_FORMS: [(&'static str, &'static str, Value); 22] = [
+    ("x = 4", "x + 0 = 4", True),
+    ("x = 5", "x + 0 = 5", False),
+    ("x != 5", "x + 0 != 5", True),
+    ("x != 4", "x + 0 != 4", False),
+    ("x < 5", "x + 0 < 5", True),
+    ("x < 4", "x + 0 < 4", False),
+    ("x <= 4", "x + 0 <= 4", True),
+    ("x <= 3", "x + 0 <= 3", False),
+    ("x > 3", "x + 0 > 3", True),
+    ("x > 4", "x + 0 > 4", False),
+    ("x >= 4", "x + 0 >= 4", True),
+    ("x >= 5", "x + 0 >= 5", False),
+    (
+        "any p in ports ( p . x = 7 )",
+        "any p in ports ( 0 + p . x = 7 )",
+        True,
+    ),
+    (
+        "any p in ports ( p . x = 1 )",
+        "any p in ports ( 0 + p . x = 1 )",
+        False,
+    ),
+    (
+        "all p in ports ( p . x > y )",
+        "all p in ports ( p . x > y + 0 )",
+        False,
+    ),
+    (
+        "count p in ports ( p . x > 2 ) = 1",
+        "count p in ports ( p . x > 1 + 1 ) = 1",
+        True,
+    ),
+    (
+        "all p in ports ( turn p 3 . x > 1 )",
+        "all p in ports ( turn turn p 1 2 . x > 1 )",
+        True,
+    ),
+    (
+        "dir first p in ports ( turn p 3 . x = 2 ) = 3",
+        "dir first p in ports ( turn turn p 4 5 . x = 2 ) = 3",
+        True,
+    ),
+    (
+        "any p in ports ( turn p 1 . x = 0 )",
+        "any p in ports ( turn turn p 2 5 . x = 0 )",
+        Fails(NoNeighbour),
+    ),
+    (
+        "all p in ports ( linked turn p 3 )",
+        "all p in ports ( linked turn turn p 1 2 )",
+        True,
+    ),
+    (
+        "any p in ports ( free turn p 3 )",
+        "any p in ports ( free turn turn p 1 2 )",
+        False,
+    ),
+    (
+        "all p in ports ( free turn p 1 )",
+        "all p in ports ( free turn turn p 0 1 )",
+        True,
+    ),
+];
+
 /// Each expression has what the table says: its action is run and changes nothing, or it is not run, or the turn fails.
 fn are_valued(rt: &impl Abort, alloc: Global, table: &[Asked]) -> Result<(), Fail> {
     let world = world_of(alloc, [9, 9, 0, 0, 0, 0, 0, 0], &SHAPE)?;
@@ -396,4 +463,14 @@ fn what_is_asked_of_a_port_fails_as_the_port_does(rt: HostRuntime) -> Result<(),
 #[test]
 fn sums_and_their_comparisons_have_these_values(rt: HostRuntime) -> Result<(), Fail> {
     are_valued(&rt, rt.alloc(), &SUMS)
+}
+
+#[test]
+fn both_forms_of_an_expression_have_this_value(rt: HostRuntime) -> Result<(), Fail> {
+    let world = world_of(rt.alloc(), [9, 9, 0, 0, 0, 0, 0, 0], &SHAPE)?;
+    for (short, long, value) in &IN_BOTH_FORMS {
+        is_valued(&rt, rt.alloc(), &world, &(*short, 0, *value))?;
+        is_valued(&rt, rt.alloc(), &world, &(*long, 0, *value))?;
+    }
+    Ok(())
 }
