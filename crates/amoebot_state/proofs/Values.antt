@@ -15,7 +15,7 @@ use Rattle.amoebot_state.specs.declared.bot.Chir.TheVariants as chir
 use Rattle.amoebot_state.specs.contracts.bot.ChirPartialEq.TheImpl as same_chir
 use Rattle.amoebot_state.specs.declared.cell.Cell.{Cell}
 use Rattle.amoebot_state.specs.declared.cell.Cell.TheVariants as cell
-use Rattle.amoebot_state.specs.Configs.{Config, frame_of, with_these}
+use Rattle.amoebot_state.specs.Configs.{Config, frame, with_these}
 use Rattle.amoebot_state.specs.Patches.{chir_eq, bot_eq, id_eq, cell_eq, same_value}
 use Rattle.amoebot_state.specs.Laws.{SameValueIsEquality}
 
@@ -114,10 +114,10 @@ same_extent a b t =
     λ i. record { x0 = x0 i; y0 = y0 i; w = w i; h = h i }
 
 -- configurations of listed amoebots are equal exactly where the lists are, if the rest is
-pub same_configs : (a b : Extent) (m n : List ℕ) (xs ys : List Bot) (r : Bool) → a ≡ b → m ≡ n → Decides r (xs ≡ ys) → Decides r (with_these (frame_of a m) xs ≡ with_these (frame_of b n) ys)
-same_configs a b m n xs ys r areas maxes decides = (
-  λ t. let bots = decides.0 t in λ i. with_these (frame_of (areas i) (maxes i)) (bots i),
-  λ e. decides.1 (sym (listed xs) ∙ ap (λ (c : Config). filter_map (λ o. o) c.bots) e ∙ listed ys),
+pub same_configs : (c d : Config) (xs ys : List Bot) (r : Bool) → frame c ≡ frame d → Decides r (xs ≡ ys) → Decides r (with_these c xs ≡ with_these d ys)
+same_configs c d xs ys r frames decides = (
+  λ t. let bots = decides.0 t in λ i. with_these (frames i) (bots i),
+  λ e. decides.1 (sym (listed xs) ∙ ap (λ (k : Config). filter_map (λ o. o) k.bots) e ∙ listed ys),
 )
   where
     listed : (bots : List Bot) → filter_map (λ o. o) (map Some bots) ≡ bots

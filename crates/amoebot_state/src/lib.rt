@@ -5,6 +5,7 @@ mod bot;
 mod cell;
 mod decider;
 mod found;
+mod frame;
 mod grid;
 mod laws;
 mod next;

@@ -10,6 +10,7 @@ ghost use Rattle.arrayvec.specs.ArrayVec.{array_vec_len};
 use crate::bot::Bot;
 use crate::cell::{Cell, CellName, Cells, Patch};
 use crate::found::Found;
+use crate::frame::Frame;
 use crate::grid::{has_values, is_close, put_all, put_new};
 use crate::refusal::{NoMemory, WorldRefusal};
 use crate::way::push_nodes;
@@ -26,20 +27,19 @@ use tri_lattice::{Area, Node};
 /// Beside them it keeps the occupant of each node of the area.
 #[derive(Drop)]
 pub struct World {
-    area: Area,
-    maxes: [u8; 8],
+    frame: Frame,
     amoebots: Vec<Bot>,
     occupants: Vec<Option<u16>>,
 }
 
 impl Model for World {
-    ghost use Rattle.amoebot_state.specs.Configs.{Config, frame_of, with_these, IsWorld};
+    ghost use Rattle.amoebot_state.specs.Configs.{Config, with_these, IsWorld};
 
     ghost Value = { Config };
 
-    ghost view = { λ w. with_these (frame_of w.area w.maxes) w.amoebots.items };
+    ghost view = { λ w. with_these w.frame w.amoebots.items };
 
-    ghost invariant = { λ w. IsWorld (with_these (frame_of w.area w.maxes) w.amoebots.items) w.occupants.items };
+    ghost invariant = { λ w. IsWorld (with_these w.frame w.amoebots.items) w.occupants.items };
 }
 
 impl World {
@@ -58,24 +58,23 @@ impl World {
         ensures faultless { OnOk result (IsFaultless (frame_of area maxes) bots.now (length bots.now)) }
         ensures fault { IfErr result (λ e. (e ≡ WorldRefusal.NoMemory) ⊎ IsFirstFault (frame_of area maxes) bots.now e) }
     {
-        let mut world = World::empty(alloc, area, maxes, bots.len())?;
+        let mut world = World::empty(alloc, Frame::new(area, maxes), bots.len())?;
         for bot in bots {
             world.add(bot)?;
         }
         Ok(world)
     }
 
-    fn empty(alloc: Global, area: Area, maxes: [u8; 8], room: usize) -> Result<World, WorldRefusal>
-        ensures value { IfOk result (λ w. w ≡ frame_of area maxes) }
+    fn empty(alloc: Global, frame: Frame, room: usize) -> Result<World, WorldRefusal>
+        ensures value { IfOk result (λ w. w ≡ with_these frame []) }
         ensures err { IfErr result (λ e. e ≡ WorldRefusal.NoMemory) }
     {
         let mut amoebots = Vec::new(alloc);
         amoebots.reserve_exact(room)?;
         let mut occupants = Vec::new(alloc);
-        occupants.resize(area.size() as usize, None)?;
+        occupants.resize(frame.area().size() as usize, None)?;
         Ok(World {
-            area,
-            maxes,
+            frame,
             amoebots,
             occupants,
         })
@@ -88,7 +87,8 @@ impl World {
         ensures { result ≡ bot_fault self.now bot.now }
     {
         let id = self.amoebots.len() as u16;
-        if self.area.index(bot.head).is_none() || self.area.index(bot.tail).is_none() {
+        let area = self.frame.area();
+        if area.index(bot.head).is_none() || area.index(bot.tail).is_none() {
             return Some(WorldRefusal::OutOfBox(id));
         }
         if !is_close(bot.head, bot.tail) {
@@ -97,7 +97,7 @@ impl World {
         if self.occupant(bot.head).is_some() || self.occupant(bot.tail).is_some() {
             return Some(WorldRefusal::Overlap(id));
         }
-        if !has_values(&self.maxes, &bot.mem) {
+        if !has_values(self.frame.maxes(), &bot.mem) {
             return Some(WorldRefusal::BadValue(id));
         }
         None
@@ -114,7 +114,13 @@ impl World {
             None => {}
         }
         let id = self.amoebots.len() as u16;
-        put_new(&self.area, &mut self.amoebots, &mut self.occupants, id, bot)?;
+        put_new(
+            self.frame.area(),
+            &mut self.amoebots,
+            &mut self.occupants,
+            id,
+            bot,
+        )?;
         Ok(())
     }
 
@@ -124,21 +130,21 @@ impl World {
         ensures few { length self.now.bots ≤ most_bots }
         ensures no_gaps { (id : ℕ) → id < length self.now.bots → IsSome (bot_at self.now id) }
     {
-        let _area = &self.area;
+        let _frame = &self.frame;
     }
 
     /// The area.
     pub fn area(&self) -> Area
         ensures { result ≡ self.now.area }
     {
-        self.area
+        *self.frame.area()
     }
 
     /// The greatest value of each variable.
     pub fn maxes(&self) -> [u8; 8]
         ensures { result ≡ self.now.maxes }
     {
-        self.maxes
+        *self.frame.maxes()
     }
 
     /// How many amoebots there are, at most 4,096.
@@ -162,7 +168,7 @@ impl World {
     pub fn occupant(&self, node: Node) -> Option<u16>
         ensures { result ≡ occupant self.now node }
     {
-        match self.area.index(node) {
+        match self.frame.area().index(node) {
             Some(number) => self.occupants[number as usize],
             None => None,
         }
@@ -172,8 +178,7 @@ impl World {
     pub fn same(&self, other: &World) -> bool
         ensures { Decides result (self.now ≡ other.now) }
     {
-        self.area == other.area
-            && self.maxes == other.maxes
+        self.frame.same(&other.frame)
             && same_bots(self.amoebots.as_slice(), other.amoebots.as_slice())
     }
 
@@ -184,8 +189,7 @@ impl World {
         let amoebots = Vec::from_slice(alloc, self.amoebots.as_slice())?;
         let occupants = Vec::from_slice(alloc, self.occupants.as_slice())?;
         Ok(World {
-            area: self.area,
-            maxes: self.maxes,
+            frame: self.frame.copy(),
             amoebots,
             occupants,
         })
@@ -198,11 +202,14 @@ impl World {
         ensures valid { IsValid self.now }
         ensures there { IsSome (bot_at self.now bot) }
     {
+        let _frame = &self.frame;
         let own = self.own(bot);
+        let area = self.area();
+        let maxes = self.maxes();
         let mut nodes = ArrayVec::new();
-        let ways = push_nodes(&mut nodes, &self.area, &own);
+        let ways = push_nodes(&mut nodes, &area, &own);
         let cells = self.zone_cells(bot, &own, nodes.as_slice());
-        Found::with_ways(self.area, self.maxes, bot, cells.as_slice(), ways)
+        Found::with_ways(area, maxes, bot, cells.as_slice(), ways)
     }
 
     /// The cells of an amoebot's zone, which has these nodes, with what they hold.
@@ -225,7 +232,7 @@ impl World {
         ensures value { bot_at self.now id ≡ Some result }
         ensures plain { IsBotInRange result }
     {
-        let _area = &self.area;
+        let _frame = &self.frame;
         *self.bot(id)
     }
 
@@ -267,7 +274,7 @@ impl World {
         ensures { IsPatched self.old patch.now self.new }
     {
         put_all(
-            &self.area,
+            self.frame.area(),
             &mut self.amoebots,
             &mut self.occupants,
             patch.pairs(),

@@ -1,6 +1,7 @@
 use Rattle.std.proofs.Common.{ap, sym, ◌∙◌, subst, List, ℕ, Option}
+use Rattle.tri_lattice.specs.Extent.{Extent}
 use Rattle.amoebot_state.specs.declared.bot.Bot.{Bot}
-use Rattle.amoebot_state.specs.Configs.{Config, IsWorld, frame_of, with_these}
+use Rattle.amoebot_state.specs.Configs.{Config, IsWorld, with_these}
 use Rattle.amoebot_state.specs.Patches.{IsPatched}
 use Rattle.amoebot_state.specs.Storage.{put_bots, put_spots}
 use Rattle.amoebot_state.proofs.Patched.{is_patched, world_patched}
@@ -9,10 +10,10 @@ use Rattle.amoebot_state.proofs.world.World.apply.Goals as goal
 pub invariant_of-self : goal.invariant_of-self
 invariant_of-self c =
     let was = c.self.inside in
-    let frame = frame_of was.area was.maxes in
+    let frame = was.frame in
     let patch = c.args.patch.now in
     let bots = c.put_all.ensures.bots ∙ ap (put_bots was.amoebots.items) c.pairs.ensures.value in
-    let grid = c.put_all.ensures.grid ∙ ap (put_spots was.area was.occupants.items) c.pairs.ensures.value in
+    let grid = c.put_all.ensures.grid ∙ ap (λ (a : Extent). put_spots a was.occupants.items c.pairs.result.now) c.area.ensures ∙ ap (put_spots was.frame.area was.occupants.items) c.pairs.ensures.value in
     let P : Config → Type 0 = λ d. IsPatched d patch c.requires.0 in
     let Q : List Bot → Type 0 = λ bs. IsWorld (with_these frame bs) c.put_all.new.occupants.items in
     let R : List (Option ℕ) → Type 0 = λ g. IsWorld (with_these frame (put_bots was.amoebots.items patch)) g in
@@ -21,7 +22,7 @@ invariant_of-self c =
 pub returns : goal.returns
 returns c =
     let was = c.self.inside in
-    let frame = frame_of was.area was.maxes in
+    let frame = was.frame in
     let patch = c.args.patch.now in
     let bots = c.put_all.ensures.bots ∙ ap (put_bots was.amoebots.items) c.pairs.ensures.value in
     let P : Config → Type 0 = λ d. IsPatched d patch c.requires.0 in

@@ -1,4 +1,5 @@
-use Rattle.std.proofs.Common.{◌≡◌, sym, subst, None}
+use Rattle.std.proofs.Common.{◌≡◌, ◌∙◌, ap, sym, subst, None}
+use Rattle.tri_lattice.specs.Extent.{Extent, index_of}
 use Rattle.amoebot_state.specs.Configs.{Config, occupant}
 use Rattle.amoebot_state.proofs.Occupants.{outside_empty}
 use Rattle.amoebot_state.proofs.world.World.occupant.Goals as goal
@@ -6,4 +7,4 @@ use Rattle.amoebot_state.proofs.world.World.occupant.Goals as goal
 pub returns-in-None : goal.returns-in-None
 returns-in-None c =
     let P : Config → Type 0 = λ x. None ≡ occupant x c.args.node in
-    subst P c.self.view_is (outside_empty _ c.self.invariant.valid c.args.node (sym c.in-None.ensures.value))
+    subst P c.self.view_is (outside_empty _ c.self.invariant.valid c.args.node (ap (λ (a : Extent). index_of a c.args.node) (sym c.area.ensures) ∙ sym c.in-None.ensures.value))
