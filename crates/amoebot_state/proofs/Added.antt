@@ -3,15 +3,16 @@ use Rattle.std.proofs.Common.{◌≡◌, ◌<◌, ◌+◌, ℕ, List, [], ◌∷
 use Rattle.std.specs.Prelude.{is_some, slice_get}
 use Rattle.std.proofs.lemmas.List.{take_more, length-map, get_or_append_left, get_or_push, get_or_past, length_push, map_push}
 use Rattle.std.proofs.lemmas.Bool.{cases_eq, both_ways, cases_lt, or_parts, and_parts}
-use Rattle.std.proofs.lemmas.Option.{none-some, same_Some}
+use Rattle.std.proofs.lemmas.Option.{none-some, same_Some, slice_get-get_or}
 use Rattle.tri_lattice.specs.declared.node.Node.{Node}
 use Rattle.tri_lattice.specs.Extent.{index_of, is_in}
 use Rattle.tri_lattice.proofs.Boxes.{index_below}
 use Rattle.amoebot_state.specs.declared.bot.Bot.{Bot}
 use Rattle.amoebot_state.specs.Ports.{is_own}
-use Rattle.amoebot_state.specs.Configs.{Config, frame, with_these, with_bot, IsBot, IsValid, IsGrid, IsWorld, bot_at, occupant, covers, is_close, has_values}
+use Rattle.amoebot_state.specs.Configs.{Config, frame, with_these, with_bot, IsBot, IsValid, IsGrid, IsWorld, bot_at, is_wall, occupant, covers, is_close, has_values}
 use Rattle.amoebot_state.specs.Storage.{put_at}
-use Rattle.amoebot_state.specs.Refusals.{bot_fault, IsBotInRange, IsFaultless}
+use Rattle.amoebot_state.specs.declared.refusal.WorldRefusal.{WorldRefusal}
+use Rattle.amoebot_state.specs.Refusals.{bot_fault, IsBotInRange, IsFaultless, IsFirstFault}
 use Rattle.tri_lattice.proofs.Nodes.{cases_node}
 use Rattle.amoebot_state.proofs.Owns.{own_cases, own_head, own_tail, not_own}
 use Rattle.amoebot_state.proofs.Options.{none_if}
@@ -37,11 +38,13 @@ no_fault c b plain h =
     let one = passes (is_in c.area b.head && is_in c.area b.tail) _ _ h in
     let ins = and_parts _ _ one.0 in
     let two = passes (is_close b.head b.tail) _ _ one.1 in
-    let three = blocks (is_some (occupant c b.head) || is_some (occupant c b.tail)) _ _ two.1 in
+    let walls = blocks (is_wall c b.head || is_wall c b.tail) _ _ two.1 in
+    let open_nodes = or_parts _ _ walls.0 in
+    let three = blocks (is_some (occupant c b.head) || is_some (occupant c b.tail)) _ _ walls.1 in
     let free = or_parts _ _ three.0 in
     let four = passes (has_values c.maxes b.mem) _ _ three.1 in
     record {
-      fits = record { head = ins.0; tail = ins.1; close = two.0; rot = plain.rot; values = four.0; eight = plain.eight };
+      fits = record { head = ins.0; tail = ins.1; head_open = open_nodes.0; tail_open = open_nodes.1; close = two.0; rot = plain.rot; values = four.0; eight = plain.eight };
       head_free = none_if _ free.0;
       tail_free = none_if _ free.1;
     }
@@ -94,6 +97,8 @@ pub valid_with : (c : Config) (b : Bot) → IsValid c → MayCome c b → IsVali
 valid_with c b valid may = record {
   area = valid.area;
   eight = valid.eight;
+  rising = valid.rising;
+  walled = valid.walled;
   each = each_with c b valid may;
   apart = λ i j v h h'. meet c b v i j valid may (who c b v i h) (who c b v j h');
 }
@@ -161,3 +166,13 @@ faultless_more c bots i b w at is before none j d lt e = elim (cases_eq j i) [
 -- the world with one amoebot more has one amoebot more of the list
 pub world_more : (c : Config) (bots : List Bot) (i : ℕ) (d : Bot) (w e : Config) → i < length bots → w ≡ with_these c (take i bots) → e ≡ with_bot w (get_or bots i d) → e ≡ with_these c (take (i + 1) bots)
 world_more c bots i d w e lt is more = more ∙ ap (λ f. with_bot f (get_or bots i d)) is ∙ sym (ap (with_these c) (take_more bots i d lt) ∙ these_push c (take i bots) (get_or bots i d))
+
+-- and one with a fault behind amoebots without one is the first
+pub first_fault_at : (c : Config) (bots : List Bot) (i : ℕ) (d : Bot) (w : Config) (e : WorldRefusal) → i < length bots → w ≡ with_these c (take i bots) → IsFaultless c bots i → bot_fault w (get_or bots i d) ≡ Some e → IsFirstFault c bots e
+first_fault_at c bots i d w e lt is before fault = record {
+  place = i;
+  bot = get_or bots i d;
+  there = slice_get-get_or bots i d lt;
+  fault = ap (λ f. bot_fault f (get_or bots i d)) (sym is) ∙ fault;
+  before = before;
+}

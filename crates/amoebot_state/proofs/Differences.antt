@@ -26,7 +26,7 @@ use Rattle.amoebot_state.proofs.Patched.{patch_lists_what_differs}
 use Rattle.amoebot_state.proofs.RisingLists.{Rising, Rising-append, Rising-map, Rising-filter_map, Rising-weaker, Rising-range, Rising-from_increasing, Rising-same, range_below}
 use Rattle.amoebot_state.proofs.Values.{value_same, value_same-true}
 
-Has-range_with_len : (a n k : ℕ) → a ≤ k → k < a + n → Has k (range_with_len a n)
+pub Has-range_with_len : (a n k : ℕ) → a ≤ k → k < a + n → Has k (range_with_len a n)
 Has-range_with_len a zero k low high = absurd (omega arith)
 Has-range_with_len a (suc n) k low high = elim (cases_eq k a) [
   | inl e ↦ subst (λ j. Has j (range_with_len a (suc n))) (sym e) here

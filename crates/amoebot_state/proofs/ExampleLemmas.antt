@@ -1,5 +1,5 @@
 -- The definitions at small values, computed: what is expected was written out by hand.
-use Rattle.std.proofs.Common.{◌≡◌, ◌≢◌, ℕ, zero, suc, List, pos, [], ◌∷◌, refl, map, ap, inl, inr, None, Some, Option}
+use Rattle.std.proofs.Common.{◌≡◌, ◌≢◌, ℕ, zero, suc, List, pos, [], ◌∷◌, refl, map, true, false, ap, inl, inr, None, Some, Option}
 use Rattle.std.specs.Prelude.{is_some, take}
 use Rattle.std.proofs.lemmas.Bool.{cases_Bool}
 use Rattle.std.proofs.lemmas.List.Elements.{All-from_recursion, recursion_from_All}
@@ -14,10 +14,13 @@ use Rattle.amoebot_state.specs.declared.cell.CellName.TheVariants as name
 use Rattle.amoebot_state.specs.declared.cell.Cell.{Cell}
 use Rattle.amoebot_state.specs.declared.cell.Cell.TheVariants as cell
 use Rattle.amoebot_state.specs.declared.refusal.WorldRefusal.{WorldRefusal}
-use Rattle.amoebot_state.specs.declared.refusal.WorldRefusal.TheVariants.{OutOfBox, NotAdjacent, Overlap, BadValue}
+use Rattle.amoebot_state.specs.declared.refusal.WorldRefusal.TheVariants.{OutOfBox, NotAdjacent, OnWall, Overlap, BadValue}
+use Rattle.amoebot_state.specs.declared.found.Behind.TheVariants as there
 use Rattle.amoebot_state.specs.Ports.{port, ports, global, local}
-use Rattle.amoebot_state.specs.Configs.{Config, with_bot, IsValid, frame_of, with_these, bot_at, value}
-use Rattle.amoebot_state.specs.Zones.{Shown, zone, shown_with, shown, shown_alone}
+use Rattle.amoebot_state.specs.Configs.{Config, with_bot, IsValid, frame, frame_of, is_wall, walled_frame, with_these, bot_at, value}
+use Rattle.amoebot_state.specs.Walls.{node_numbers, true_places}
+use Rattle.amoebot_state.specs.Around.{behind_pair}
+use Rattle.amoebot_state.specs.Zones.{Shown, is_number_among, zone, shown_with, shown, shown_alone}
 use Rattle.amoebot_state.specs.Known.{known_zone, next_cell}
 use Rattle.amoebot_state.specs.Patches.{IsPatched, diff}
 use Rattle.std.specs.Option.{option_or}
@@ -297,3 +300,62 @@ with_rotation rot = record { head = at 2 3; tail = at 2 3; rot = rot; chir = Plu
 
 plus_goes_with : global (with_rotation 5) 3 ≡ 2
 plus_goes_with = refl
+
+-- walls by the rising numbers of their nodes: each once, and none outside
+numbers_of_nodes : node_numbers eight_by_eight (at 7 7 ∷ at 0 0 ∷ at 3 3 ∷ at 0 0 ∷ []) ≡ 0 ∷ 27 ∷ 63 ∷ []
+numbers_of_nodes = refl
+
+no_number_outside : node_numbers eight_by_eight (at 8 0 ∷ at 0 8 ∷ []) ≡ []
+no_number_outside = refl
+
+places_of_a_grid : true_places (false ∷ true ∷ true ∷ []) ≡ 1 ∷ 2 ∷ []
+places_of_a_grid = refl
+
+-- two walls, one of them beside the amoebot on (2, 3)
+abbrev pub beside_walls : Config
+beside_walls = with_these (walled_frame eight_by_eight (at 7 7 ∷ at 3 3 ∷ []) (first 1)) (contracted (at 2 3) ∷ [])
+
+walls_listed : beside_walls.walls ≡ 27 ∷ 63 ∷ []
+walls_listed = refl
+
+-- a wall is a node of the zone that has no occupant, and no other wall is shown
+zone_beside_walls : zone beside_walls 0 ≡ zone alone 0
+zone_beside_walls = refl
+
+shown_beside_walls : shown beside_walls 0 ≡ record (shown alone 0) { walls = 27 ∷ [] }
+unfolding is_number_among
+shown_beside_walls = refl
+
+wall_is_empty : value beside_walls (spot 3 3) ≡ Some (cell.Spot None)
+wall_is_empty = refl
+
+walls_told : map (is_wall beside_walls) (at 3 3 ∷ at 2 3 ∷ at 7 7 ∷ at 8 8 ∷ []) ≡ true ∷ false ∷ true ∷ false ∷ []
+walls_told = refl
+
+behind_walls : map (behind_pair beside_walls 0) (port Head 0 ∷ port Head 1 ∷ port Tail 0 ∷ []) ≡ there.Wall ∷ there.Empty ∷ there.NoPort ∷ []
+behind_walls = refl
+
+walls_stay : diff beside_walls (with_bot (frame beside_walls) (too_high (at 2 3) (at 2 3))) ≡ with_body 0 (too_high (at 2 3) (at 2 3)) ∷ []
+walls_stay = refl
+
+-- head or tail on a wall, behind what is torn and before what overlaps
+abbrev beside_one : List Bot → Option WorldRefusal
+beside_one bots = fault_beside (walled_frame eight_by_eight (at 2 3 ∷ []) (first 1)) bots
+
+head_on_wall : beside_one (contracted (at 3 3) ∷ expanded (at 2 3) (at 1 3) ∷ []) ≡ Some (OnWall 1)
+head_on_wall = refl
+
+tail_on_wall : beside_one (expanded (at 1 3) (at 2 3) ∷ []) ≡ Some (OnWall 0)
+tail_on_wall = refl
+
+torn_before_wall : beside_one (expanded (at 2 3) (at 4 3) ∷ []) ≡ Some (NotAdjacent 0)
+torn_before_wall = refl
+
+outside_before_wall : fault_beside (walled_frame eight_by_eight (at 7 3 ∷ []) (first 1)) (expanded (at 8 3) (at 7 3) ∷ []) ≡ Some (OutOfBox 0)
+outside_before_wall = refl
+
+wall_before_overlap : beside_one (contracted (at 3 3) ∷ expanded (at 3 3) (at 2 3) ∷ []) ≡ Some (OnWall 1)
+wall_before_overlap = refl
+
+wall_before_value : beside_one (too_high (at 2 3) (at 2 3) ∷ []) ≡ Some (OnWall 0)
+wall_before_value = refl

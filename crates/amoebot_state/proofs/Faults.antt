@@ -1,7 +1,8 @@
 -- That amoebots without a fault are those of a valid configuration.
-use Rattle.std.proofs.Common.{◌≡◌, ◌<◌, ◌≤◌, ℕ, zero, suc, List, [], ◌∷◌, length, map, take, get_or, Bool, true, false, not, ◌&&◌, ◌||◌, cond, ap, sym, ◌∙◌, refl, subst, inl, inr, arith, Option, Some, None}
+use Rattle.std.proofs.Common.{◌≡◌, ◌<◌, ◌≤◌, ◌*◌, ℕ, zero, suc, List, [], ◌∷◌, length, map, take, get_or, Bool, true, false, not, ◌&&◌, ◌||◌, cond, ap, sym, ◌∙◌, refl, subst, inl, inr, arith, Option, Some, None}
 use Rattle.std.specs.Prelude.{is_some}
 use Rattle.std.specs.List.{All}
+use Rattle.std.specs.List.Sorted.{IsStrictlyIncreasing}
 use Rattle.std.proofs.Math.Seq.{take-suc, take-length}
 use Rattle.std.proofs.lemmas.Bool.{cases_Bool, and_from, or_from, false≢true}
 use Rattle.std.proofs.lemmas.List.{get_or-map, get_or-take, take-map, length-map, length-take-le}
@@ -11,12 +12,14 @@ use Rattle.tri_lattice.specs.declared.node.Node.{Node}
 use Rattle.tri_lattice.specs.Extent.{IsArea, is_in}
 use Rattle.amoebot_state.specs.declared.bot.Bot.{Bot}
 use Rattle.amoebot_state.specs.Ports.{is_own}
-use Rattle.amoebot_state.specs.Configs.{Config, frame, with_these, IsValid, blank, bot_at, occupant, covers, is_close, has_values}
+use Rattle.amoebot_state.specs.Configs.{Config, frame, with_these, IsValid, blank, bot_at, is_wall, occupant, covers, is_close, has_values, walled_frame}
 use Rattle.amoebot_state.specs.Refusals.{bot_fault, IsBotInRange, IsFaultless}
-use Rattle.amoebot_state.specs.Laws.{ValidIsFaultless, FaultlessIsValid}
+use Rattle.amoebot_state.specs.Laws.{ValidIsFaultless, FaultlessIsValid, WalledFrameIsValid}
 use Rattle.amoebot_state.proofs.Added.{MayCome, no_fault, valid_with, these_push}
 use Rattle.amoebot_state.proofs.Occupants.{covers_below, occupant_none}
 use Rattle.amoebot_state.proofs.Owns.{own_head, own_tail}
+use Rattle.amoebot_state.proofs.Walls.{node_numbers_below, node_numbers_rise, numbers_rising}
+use Rattle.amoebot_state.specs.Walls.{node_numbers}
 
 pass : {E : Type 0} (x : Bool) (e : E) (r : Option E) → x ≡ true → r ≡ None → cond (not x) (Some e) r ≡ None
 pass true e r t none = none
@@ -31,8 +34,9 @@ fault_free : (c : Config) (b : Bot) → MayCome c b → bot_fault c b ≡ None
 fault_free c b may =
     pass (is_in c.area b.head && is_in c.area b.tail) _ _ (and_from _ _ may.fits.head may.fits.tail)
     (pass (is_close b.head b.tail) _ _ may.fits.close
+    (unblocked (is_wall c b.head || is_wall c b.tail) _ _ (or_from _ _ may.fits.head_open may.fits.tail_open)
     (unblocked (is_some (occupant c b.head) || is_some (occupant c b.tail)) _ _ (or_from _ _ (ap is_some may.head_free) (ap is_some may.tail_free))
-    (pass (has_values c.maxes b.mem) _ _ may.fits.values refl)))
+    (pass (has_values c.maxes b.mem) _ _ may.fits.values refl))))
 
 module _ (c : Config) (bots : List Bot) where
   -- the amoebots before a place have the same ids as in the whole list
@@ -60,14 +64,20 @@ valid_is_faultless c bots valid j b lt there =
       tail_free = node_free c bots valid j b b.tail lt at (own_tail b b.tail refl);
     })
 
--- a frame of an area and of eight maxima is valid
-pub frame_valid : (c : Config) → IsArea c.area → length c.maxes ≡ 8 → IsValid (frame c)
-frame_valid c area eight = record {
+-- a frame of an area, of eight maxima and of walls in order is valid
+pub frame_valid : (c : Config) → IsArea c.area → length c.maxes ≡ 8 → IsStrictlyIncreasing c.walls → All (λ k. k < c.area.w * c.area.h) c.walls → IsValid (frame c)
+frame_valid c area eight rising walled = record {
   area = area;
   eight = eight;
+  rising = rising;
+  walled = walled;
   each = λ i b e. absurd (none-some b e);
   apart = λ i j v one two. absurd (false≢true one);
 }
+
+pub walled_frame_is_valid : WalledFrameIsValid
+walled_frame_is_valid a walls maxes area eight =
+    frame_valid (walled_frame a walls maxes) area eight (numbers_rising (node_numbers a walls) (node_numbers_rise a walls)) (node_numbers_below a walls)
 
 -- one amoebot, and two, of which none has a fault
 pub valid_one : (c : Config) → IsValid (frame c) → (b : Bot) → IsBotInRange b → bot_fault (frame c) b ≡ None → IsValid (with_these c (b ∷ []))

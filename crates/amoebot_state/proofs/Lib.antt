@@ -6,6 +6,7 @@ pub mod Directions
 pub mod Distinct
 pub mod Faults
 pub mod FirstFaults
+pub mod Frames
 pub mod Fronts
 pub mod ShownAlone
 pub mod Known
@@ -25,6 +26,8 @@ pub mod StepExamples
 pub mod Shifts
 pub mod Shows
 pub mod Values
+pub mod Walls
+pub mod WallsRead
 pub mod Ways
 pub mod WaysFound
 pub mod Zones

@@ -1,7 +1,8 @@
 -- Values that may be there or not.
-use Rattle.std.proofs.Common.{◌≡◌, ◌<◌, ℕ, zero, suc, false, List, [], ◌∷◌, length, map, ap, sym, refl, Option, Some, None, arith}
+use Rattle.std.proofs.Common.{◌≡◌, ◌<◌, ℕ, zero, suc, false, List, [], ◌∷◌, length, map, ap, sym, refl, subst, Option, Some, None, Result, Ok, Err, arith}
 use Rattle.std.specs.Prelude.{IsSome, is_some, slice_index_or}
 use Rattle.std.specs.Option.{option_map}
+use Rattle.std.specs.Result.{IfErr, IsErrAnd}
 use Rattle.std.proofs.lemmas.Bool.{false≢true}
 
 pub there_is : {A : Type 0} (o : Option A) → IsSome o → (x : A) × (o ≡ Some x)
@@ -24,3 +25,8 @@ pub all_there : {A : Type 0} (xs : List A) (k : ℕ) → k < length (map Some xs
 all_there [] k inside = absurd (omega arith)
 all_there (x ∷ xs) zero inside = refl
 all_there (x ∷ xs) (suc k) inside = all_there xs k (omega arith)
+
+-- what holds of a fault holds of the answer that carries it
+pub err_told : {A E : Type 0} (r : Result A E) (P : E → Type 0) (x : E) → IsErrAnd r (λ e. e ≡ x) → P x → IfErr r P
+err_told (Ok a) P x is holds = tt
+err_told (Err e) P x is holds = subst P (sym is) holds

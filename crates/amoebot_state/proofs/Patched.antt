@@ -180,8 +180,8 @@ grid_patched old new g ps grid patched area = record {
     spot_same : (o q : Option ℕ) → Some (cell.Spot o) ≡ Some (cell.Spot q) → q ≡ o
     spot_same o q e = let f = same_Some _ _ e in cc
 
-pub same_config : (a b : Config) → a.area ≡ b.area → a.maxes ≡ b.maxes → a.bots ≡ b.bots → a ≡ b
-same_config a b x y z = λ i. record { area = x i; maxes = y i; bots = z i }
+pub same_config : (a b : Config) → a.area ≡ b.area → a.walls ≡ b.walls → a.maxes ≡ b.maxes → a.bots ≡ b.bots → a ≡ b
+same_config a b x w y z = λ i. record { area = x i; walls = w i; maxes = y i; bots = z i }
 
 -- the fields after the patch are those of the patched configuration
 pub is_patched : (c : Config) (bs : List Bot) (ps : List (CellName × Cell)) (new : Config) → IsPatched (with_these c bs) ps new → new ≡ with_these c (put_bots bs ps)
@@ -201,7 +201,7 @@ world_patched c bs g ps new world patched =
           let f = world.few in omega arith;
     }
 
-All-at : {A : Type 0} (P : A → Type 0) {x : A} (xs : List A) → All P xs → Has x xs → P x
+pub All-at : {A : Type 0} (P : A → Type 0) {x : A} (xs : List A) → All P xs → Has x xs → P x
 All-at P [] all has = absurd (not_in_none has)
 All-at {A} P {x} (y ∷ xs) all has = elim (has_cases has) [
   | inl e ↦ subst P (sym e) (All-head P y xs all)
@@ -236,7 +236,7 @@ values_alike old one two ps first second n = elim (listed_or_not n (decide_name 
 
 pub patched_is_unique : PatchedIsUnique
 patched_is_unique old one two ps first second =
-    same_config one two (ap (λ (c : Config). c.area) first.rest ∙ sym (ap (λ (c : Config). c.area) second.rest)) (ap (λ (c : Config). c.maxes) first.rest ∙ sym (ap (λ (c : Config). c.maxes) second.rest))
+    same_config one two (ap (λ (c : Config). c.area) first.rest ∙ sym (ap (λ (c : Config). c.area) second.rest)) (ap (λ (c : Config). c.walls) first.rest ∙ sym (ap (λ (c : Config). c.walls) second.rest)) (ap (λ (c : Config). c.maxes) first.rest ∙ sym (ap (λ (c : Config). c.maxes) second.rest))
     (ext_get_or None one.bots two.bots (first.size ∙ sym second.size) (λ i below. body_alike _ _ (values_alike old one two ps first second (name.Body i))))
 
 pub step_has_one_result : StepHasOneResult

@@ -1,7 +1,10 @@
 -- Lists whose elements rise by a number.
-use Rattle.std.proofs.Common.{◌≡◌, ◌<◌, ◌≤◌, ◌+◌, ℕ, zero, suc, List, [], ◌∷◌, ◌++◌, map, ap, sym, ◌∙◌, refl, inl, inr, arith, Option, Some, None}
+use Rattle.std.proofs.Common.{◌≡◌, ◌<◌, ◌≤◌, ◌+◌, ℕ, zero, suc, List, [], ◌∷◌, ◌++◌, map, filter, Bool, ap, sym, ◌∙◌, refl, subst, inl, inr, arith, Option, Some, None}
+use Rattle.std.specs.Prelude.{slice_index}
+use Rattle.std.specs.List.Sorted.{IsStrictlyIncreasing}
+use Rattle.std.proofs.lemmas.Bool.{cases_Bool}
 use Rattle.std.specs.List.{AllPairs, filter_map, range_with_len}
-use Rattle.amoebot_state.proofs.Members.{Has, here, later, has_cases, not_in_none, map_has, Has-map, filter_map_has, Has-append_cases, Contains-from_Has}
+use Rattle.amoebot_state.proofs.Members.{Has, here, later, has_cases, not_in_none, map_has, Has-map, filter_has, filter_map_has, Has-append_cases, Contains-from_Has}
 
 -- the number of each element is below those of all that follow
 pub data Rising {A : Type 0} (key : A → ℕ) : List A → Type 0 where
@@ -27,6 +30,13 @@ Rising-filter_map {A} {B} old new h same (more {x = x} {xs = xs} lt rest) = elim
   | Some y ↦ λ e. rw e (more {x = y} (λ z has. let found = filter_map_has h xs has in omega (arith, lt found.0 found.1, same x y e, same found.0 z found.2)) (Rising-filter_map old new h same rest))
 ] refl
 
+pub Rising-filter : {A : Type 0} (key : A → ℕ) (p : A → Bool) {xs : List A} → Rising key xs → Rising key (filter p xs)
+Rising-filter key p none = none
+Rising-filter {A} key p (more {x = x} {xs = xs} lt rest) = elim (cases_Bool (p x)) [
+  | inl t ↦ rw t (more (λ y has. lt y (filter_has p xs has).0) (Rising-filter key p rest))
+  | inr f ↦ rw f (Rising-filter key p rest)
+]
+
 -- another number that rises where the first does
 pub Rising-weaker : {A : Type 0} (old new : A → ℕ) {xs : List A} → ((x y : A) → Has x xs → Has y xs → old x < old y → new x < new y) → Rising old xs → Rising new xs
 Rising-weaker old new within none = none
@@ -51,6 +61,16 @@ Rising-from_increasing key [] pairs = none
 Rising-from_increasing key (x ∷ xs) pairs = more
     (λ y has. let at = Contains-from_Has (map key xs) (Has-map key has) in let lt = pairs 0 (suc at.0) (key y) (omega arith) (omega (arith, at.1)) in omega (arith, lt, at.2))
     (Rising-from_increasing key xs (λ i j d before within. pairs (suc i) (suc j) d (omega arith) (omega arith)))
+
+-- and the other way round
+pub increasing-from_Rising : {A : Type 0} (key : A → ℕ) (xs : List A) → Rising key xs → IsStrictlyIncreasing (map key xs)
+increasing-from_Rising key [] none k lt = absurd (omega arith)
+increasing-from_Rising key (x ∷ []) (more below rest) k lt = absurd (omega arith)
+increasing-from_Rising key (x ∷ y ∷ ys) (more below rest) zero lt = below y here
+increasing-from_Rising key (x ∷ y ∷ ys) (more below rest) (suc k) lt =
+    let at : suc k + 1 ≡ suc (k + 1) = omega arith in
+    let P : ℕ → Type 0 = λ z. slice_index (map key (y ∷ ys)) k < slice_index (map key (x ∷ y ∷ ys)) z in
+    subst P (sym at) (increasing-from_Rising key (y ∷ ys) rest k (omega arith))
 
 -- two such lists with the same elements are one
 pub Rising-same : {A : Type 0} (key : A → ℕ) {xs ys : List A} → Rising key xs → Rising key ys → ((x : A) → Has x xs → Has x ys) → ((x : A) → Has x ys → Has x xs) → xs ≡ ys

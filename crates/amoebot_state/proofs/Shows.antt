@@ -1,7 +1,8 @@
 -- What is shown, as the code makes and reads it.
-use Rattle.std.proofs.Common.{◌≡◌, ◌≤◌, ℕ, List, [], ◌∷◌, ◌++◌, length, map, true, ap, sym, ◌∙◌, refl, subst, inl, inr, arith, Bor, Option, Some, None}
+use Rattle.std.proofs.Common.{◌≡◌, ◌≤◌, ℕ, suc, List, [], ◌∷◌, ◌++◌, length, map, filter, true, ap, sym, ◌∙◌, refl, subst, inl, inr, arith, Bor, Option, Some, None}
 use Rattle.std.specs.Prelude.{IfSome, unwrap_or}
 use Rattle.std.specs.List.{filter_map, cons_option}
+use Rattle.std.proofs.lemmas.List.Sums.{length-filter}
 use Rattle.std.specs.Option.{option_map, option_copied}
 use Rattle.std.proofs.lemmas.Bool.{cases_Bool, both_ways}
 use Rattle.std.proofs.lemmas.List.Elements.{filter_map-append}
@@ -17,19 +18,22 @@ use Rattle.amoebot_state.specs.declared.cell.CellName.TheVariants as name
 use Rattle.amoebot_state.specs.declared.cell.Cell.{Cell}
 use Rattle.amoebot_state.specs.declared.cell.Cell.TheVariants as cell
 use Rattle.amoebot_state.specs.Ports.{is_beside}
-use Rattle.amoebot_state.specs.Configs.{Config, IsValid, bot_at, bot_of, blank, occupant, frame_of}
+use Rattle.amoebot_state.specs.Configs.{Config, IsValid, bot_at, bot_of, blank, occupant}
 use Rattle.amoebot_state.specs.Refusals.{IsBotInRange}
-use Rattle.amoebot_state.specs.Zones.{Shown, IsShown, shown_with, shown, shown_cell, zone, zone_nodes, others, shown_alone}
-use Rattle.amoebot_state.specs.Pairs.{spot_in, body_in}
+use Rattle.amoebot_state.specs.Zones.{Shown, IsShown, shown_by, shown_with, shown, shown_cell, zone, zone_nodes, others, shown_alone}
+use Rattle.amoebot_state.specs.Pairs.{spot_in, body_in, nodes_in}
+use Rattle.amoebot_state.specs.Known.{walls_read}
+use Rattle.amoebot_state.specs.Walls.{node_numbers}
 use Rattle.amoebot_state.specs.Ways.{IsFound, ways_of}
 use Rattle.amoebot_state.specs.declared.way.Way.{Way}
-use Rattle.amoebot_state.proofs.Counts.{at_most_ten_nodes, at_most_eight_others}
-use Rattle.amoebot_state.specs.Laws.{ShownAloneHasTheZone, BesideHoldsTheSame}
+use Rattle.amoebot_state.proofs.Counts.{at_most_ten_nodes, at_most_eight_others, zone_has_at_most_ten_nodes}
+use Rattle.amoebot_state.specs.Laws.{ShownAloneHasTheZone, BesideHoldsTheSame, BesideHasTheSameWalls, is_spot}
 use Rattle.amoebot_state.proofs.Members.{Has, here, later, has_cases, not_in_none, length-filter_map-le, Contains-from_Has, Has-from_Contains}
 use Rattle.amoebot_state.proofs.Options.{there_is, none_if}
 use Rattle.amoebot_state.proofs.Occupants.{plain_bot, outside_empty}
 use Rattle.amoebot_state.proofs.Directions.{beside_in_zone}
-use Rattle.amoebot_state.proofs.ShownAlone.{spread_at, body_shown, alone_own, alone_valid, alone_occupant, alone_has, alone_only}
+use Rattle.amoebot_state.proofs.ShownAlone.{spread_at, body_shown, alone_own, alone_valid, alone_occupant, alone_has, alone_only, alone_wall, no_wall_outside}
+use Rattle.amoebot_state.proofs.WallsRead.{walls_are}
 use Rattle.amoebot_state.proofs.Zones.{zone_is, own_in_zone, spot_in_zone, zone_inside}
 
 -- the cells of nodes and of bodies
@@ -145,8 +149,24 @@ spot_told s is v beside =
           ∙ outside_empty (shown_alone (shown c i)) (alone_valid c i valid) v (none_if _ outside)
     ]) beside
 
-pub is_shown : (c : Config) (i : ℕ) (a : Extent) (maxes : List ℕ) (cells : List (CellName × Cell)) → a ≡ c.area → maxes ≡ c.maxes → cells ≡ filter_map (shown_cell c) (zone c i) → shown_with (frame_of a maxes) i cells ≡ shown c i
-is_shown c i a maxes cells e m x = λ t. shown_with (frame_of (e t) (m t)) i (x t)
+-- what the code puts together is what is shown with these cells
+pub is_shown_with : (c : Config) (i : ℕ) (a : Extent) (maxes : List ℕ) (cells : List (CellName × Cell)) (walls : List Node) → IsValid c → a ≡ c.area → maxes ≡ c.maxes → walls ≡ walls_read c cells → shown_by a maxes i (node_numbers a walls) cells ≡ shown_with c i cells
+is_shown_with c i a maxes cells walls valid e m w = (λ t. shown_by (e t) (m t) i (node_numbers (e t) (w t)) cells) ∙ ap (λ ns. shown_by c.area c.maxes i ns cells) (walls_are c cells valid)
+
+pub is_shown : (c : Config) (i : ℕ) (a : Extent) (maxes : List ℕ) (cells : List (CellName × Cell)) (walls : List Node) → IsValid c → a ≡ c.area → maxes ≡ c.maxes → cells ≡ filter_map (shown_cell c) (zone c i) → walls ≡ walls_read c cells → shown_by a maxes i (node_numbers a walls) cells ≡ shown c i
+is_shown c i a maxes cells walls valid e m x w = is_shown_with c i a maxes cells walls valid e m w ∙ ap (shown_with c i) x
+
+-- the nodes of a zone are few
+pub few_nodes : (c : Config) (i : ℕ) → IsValid c → length (nodes_in (shown c i).cells) ≤ 10
+few_nodes c i valid = omega (arith, length-nodes c (zone c i), length-filter is_spot (zone c i), zone_has_at_most_ten_nodes c i valid)
+  where
+    length-nodes : (c : Config) (names : List CellName) → length (nodes_in (filter_map (shown_cell c) names)) ≡ length (filter is_spot names)
+    length-nodes c [] = refl
+    length-nodes c (name.Spot v ∷ names) = ap suc (length-nodes c names)
+    length-nodes c (name.Body i ∷ names) = elim (bot_at c i) as (λ o. bot_at c i ≡ o → length (nodes_in (filter_map (shown_cell c) (name.Body i ∷ names))) ≡ length (filter is_spot names)) [
+      | None ↦ λ e. rw e (length-nodes c names)
+      | Some b ↦ λ e. rw e (length-nodes c names)
+    ] refl
 
 -- an amoebot of what is shown alone
 pub plain_if : (s : Shown) → IsShown s → (r : Option (Bor Bot)) (i : ℕ) → option_copied r ≡ bot_at (shown_alone s) i → IfSome r (λ b. IsBotInRange b.now)
@@ -160,6 +180,12 @@ shown_alone_has_the_zone c i j b = (
   (λ e. let only = alone_only c i j b e in (only.0, Contains-from_Has (zone c i) only.1)),
   (λ there. alone_has c i j (Has-from_Contains (zone c i) there.1) ∙ there.0),
 )
+
+pub beside_has_the_same_walls : BesideHasTheSameWalls
+beside_has_the_same_walls c i b v valid at beside = elim (cases_Bool (is_in c.area v)) [
+  | inl inside ↦ alone_wall c i v (spot_in_zone c i b v at (beside_in_zone c.area b v (valid.each i b at).rot beside inside))
+  | inr outside ↦ no_wall_outside (shown_alone (shown c i)) v outside ∙ sym (no_wall_outside c v outside)
+]
 
 pub beside_holds_the_same : BesideHoldsTheSame
 beside_holds_the_same c i b v valid at beside = elim (cases_Bool (is_in c.area v)) [

@@ -18,7 +18,7 @@ use Rattle.amoebot_state.specs.Zones.{Shown, shown}
 use Rattle.amoebot_state.specs.Patches.{IsPatched, diff}
 use Rattle.amoebot_state.specs.Examples.{eight_by_eight}
 use Rattle.amoebot_state.specs.Steps.{Step, Run, change_of}
-use Rattle.amoebot_state.proofs.Faults.{frame_valid, valid_one, valid_two}
+use Rattle.amoebot_state.proofs.Faults.{walled_frame_is_valid, valid_one, valid_two}
 use Rattle.amoebot_state.proofs.Occupants.{plain_in}
 use Rattle.amoebot_state.proofs.Differences.{diff_leads}
 use Rattle.amoebot_state.proofs.ExampleLemmas.{at, held, free, shows, with_body, first, expanded, contracted, against, world, alone, alone_out, going_out, pair, marked, stretched, train, pulled, turned, turned_out}
@@ -39,11 +39,14 @@ eight_is_area = record {
 pub plain : (b : Bot) → IsTrue (is_in eight_by_eight b.head) → IsTrue (is_in eight_by_eight b.tail) → b.rot < 6 → length b.mem ≡ 8 → IsBotInRange b
 plain = plain_in eight_by_eight eight_is_area
 
+open_valid : IsValid (world [])
+open_valid = walled_frame_is_valid eight_by_eight [] (first 1) eight_is_area refl
+
 one_valid : (b : Bot) → IsBotInRange b → bot_fault (world []) b ≡ None → IsValid (world (b ∷ []))
-one_valid = valid_one (world []) (frame_valid (world []) eight_is_area refl)
+one_valid = valid_one (world []) open_valid
 
 pub two_valid : (a b : Bot) → IsBotInRange a → IsBotInRange b → bot_fault (world []) a ≡ None → bot_fault (world (a ∷ [])) b ≡ None → IsValid (world (a ∷ b ∷ []))
-two_valid = valid_two (world []) (frame_valid (world []) eight_is_area refl)
+two_valid = valid_two (world []) open_valid
 
 -- the difference of two leads from the one to the other
 one_leads : (a b : Bot) → IsValid (world (a ∷ [])) → IsValid (world (b ∷ [])) → IsPatched (world (a ∷ [])) (diff (world (a ∷ [])) (world (b ∷ []))) (world (b ∷ []))

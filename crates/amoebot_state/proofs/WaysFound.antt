@@ -19,7 +19,7 @@ use Rattle.amoebot_state.specs.declared.found.Behind.TheVariants as there
 use Rattle.amoebot_state.specs.declared.way.Way.{Way}
 use Rattle.amoebot_state.specs.declared.way.Way.TheVariants as way
 use Rattle.amoebot_state.specs.Ports.{all_ports, behind, is_port, port, pair_place}
-use Rattle.amoebot_state.specs.Configs.{Config, IsValid, bot_at, bot_of, occupant}
+use Rattle.amoebot_state.specs.Configs.{Config, IsValid, bot_at, bot_of, is_wall, occupant}
 use Rattle.amoebot_state.specs.Around.{on_node, behind_pair}
 use Rattle.amoebot_state.specs.Ways.{IsFound, node_place, way_among}
 use Rattle.amoebot_state.specs.Zones.{Shown, shown, shown_alone, zone, zone_nodes, others}
@@ -95,7 +95,7 @@ node_found s own ways v is has =
 pub record Leads (s : Shown) (p : Port) (w : Way) : Type 0 where
   pub no_port : w ≡ way.NoPort → behind_pair (shown_alone s) s.bot p ≡ there.NoPort
   pub outside : w ≡ way.Outside → behind_pair (shown_alone s) s.bot p ≡ there.Edge
-  pub node : (k : ℕ) → w ≡ way.To k → (v : Node) × (slice_get s.cells (suc k) ≡ Some (name.Spot v, cell.Spot (occupant (shown_alone s) v))) × (behind_pair (shown_alone s) s.bot p ≡ on_node true (occupant (shown_alone s) v))
+  pub node : (k : ℕ) → w ≡ way.To k → (v : Node) × (slice_get s.cells (suc k) ≡ Some (name.Spot v, cell.Spot (occupant (shown_alone s) v))) × (behind_pair (shown_alone s) s.bot p ≡ on_node true (is_wall (shown_alone s) v) (occupant (shown_alone s) v))
 
 leads_by : (s : Shown) (own : Bot) (ways : List Way) (p : Port) (w : Way) → IsFound s own ways → bot_of (shown_alone s) s.bot ≡ own → way_among s.area own (zone_nodes s.area own) p ≡ w → Leads s p w
 leads_by s own ways p w is mine e = elim (cases_Bool (is_port own p)) [
@@ -114,14 +114,14 @@ leads_by s own ways p w is mine e = elim (cases_Bool (is_port own p)) [
         let to : way.Outside ≡ w = sym (way_by true false t f) ∙ e in
         record {
           no_port = λ g. let z = to ∙ g in absurd (cc);
-          outside = λ _. pair_by true false t f ∙ ap (on_node false) (sym (outside_empty (shown_alone s) (shown_valid s is.shown) (behind own p) (none_if _ f)));
+          outside = λ _. pair_by true false t f ∙ ap (on_node false (is_wall (shown_alone s) (behind own p))) (sym (outside_empty (shown_alone s) (shown_valid s is.shown) (behind own p) (none_if _ f)));
           node = λ k g. let z = to ∙ g in absurd (cc);
         }
   ]
   | inr f ↦
       let to : way.NoPort ≡ w = sym (ap (λ t. if t then (if is_in s.area (behind own p) then way.To (node_place (zone_nodes s.area own) (behind own p)) else way.Outside) else way.NoPort) f) ∙ e in
       record {
-        no_port = λ _. ap (λ (b : Bot). if is_port b p then on_node (is_in s.area (behind b p)) (occupant (shown_alone s) (behind b p)) else there.NoPort) mine ∙ ap (λ t. if t then on_node (is_in s.area (behind own p)) (occupant (shown_alone s) (behind own p)) else there.NoPort) f;
+        no_port = λ _. ap (λ (b : Bot). if is_port b p then on_node (is_in s.area (behind b p)) (is_wall (shown_alone s) (behind b p)) (occupant (shown_alone s) (behind b p)) else there.NoPort) mine ∙ ap (λ t. if t then on_node (is_in s.area (behind own p)) (is_wall (shown_alone s) (behind own p)) (occupant (shown_alone s) (behind own p)) else there.NoPort) f;
         outside = λ g. let z = to ∙ g in absurd (cc);
         node = λ k g. let z = to ∙ g in absurd (cc);
       }
@@ -130,10 +130,10 @@ leads_by s own ways p w is mine e = elim (cases_Bool (is_port own p)) [
     way_by : (holds inside : Bool) → is_port own p ≡ holds → is_in s.area (behind own p) ≡ inside → way_among s.area own (zone_nodes s.area own) p ≡ (if holds then (if inside then way.To (node_place (zone_nodes s.area own) (behind own p)) else way.Outside) else way.NoPort)
     way_by holds inside t u = λ j. if t j then (if u j then way.To (node_place (zone_nodes s.area own) (behind own p)) else way.Outside) else way.NoPort
 
-    pair_by : (holds inside : Bool) → is_port own p ≡ holds → is_in s.area (behind own p) ≡ inside → behind_pair (shown_alone s) s.bot p ≡ (if holds then on_node inside (occupant (shown_alone s) (behind own p)) else there.NoPort)
+    pair_by : (holds inside : Bool) → is_port own p ≡ holds → is_in s.area (behind own p) ≡ inside → behind_pair (shown_alone s) s.bot p ≡ (if holds then on_node inside (is_wall (shown_alone s) (behind own p)) (occupant (shown_alone s) (behind own p)) else there.NoPort)
     pair_by holds inside t u =
-        ap (λ (b : Bot). if is_port b p then on_node (is_in s.area (behind b p)) (occupant (shown_alone s) (behind b p)) else there.NoPort) mine
-        ∙ (λ j. if t j then on_node (u j) (occupant (shown_alone s) (behind own p)) else there.NoPort)
+        ap (λ (b : Bot). if is_port b p then on_node (is_in s.area (behind b p)) (is_wall (shown_alone s) (behind b p)) (occupant (shown_alone s) (behind b p)) else there.NoPort) mine
+        ∙ (λ j. if t j then on_node (u j) (is_wall (shown_alone s) (behind own p)) (occupant (shown_alone s) (behind own p)) else there.NoPort)
 
 leads : (s : Shown) (own : Bot) (ways : List Way) (p : Port) (w : Way) → IsFound s own ways → p.dir < 6 → slice_get ways (pair_place p) ≡ Some w → Leads s p w
 leads s own ways p w is lt at =

@@ -5,21 +5,23 @@ use Rattle.std.specs.declared.option.Option.TheVariants.{Some, None}
 use Rattle.tri_lattice.specs.Extent.{is_in}
 use Rattle.amoebot_state.specs.declared.bot.Port.{Port}
 use Rattle.amoebot_state.specs.Ports.{all_ports, behind, is_port}
-use Rattle.amoebot_state.specs.Configs.{Config, bot_of, occupant}
+use Rattle.amoebot_state.specs.Configs.{Config, bot_of, is_wall, occupant}
 use Rattle.amoebot_state.specs.declared.found.Behind.{Behind}
 use Rattle.amoebot_state.specs.declared.found.Behind.TheVariants as there
 
--- on a node: its occupant, if it has one; else nobody, where it lies in the area
-abbrev pub on_node : Bool → Option ℕ → Behind
-on_node inside (Some i) = there.Bot i
-on_node true None = there.Empty
-on_node false None = there.Edge
+-- on a node, of which is said whether it lies in the area and whether it is a wall: its occupant, if it has one; else nobody
+abbrev pub on_node : Bool → Bool → Option ℕ → Behind
+on_node inside wall (Some i) = there.Bot i
+on_node true true None = there.Wall
+on_node true false None = there.Empty
+on_node false wall None = there.Edge
 
 -- behind a pair of an amoebot
 abbrev pub behind_pair : Config → ℕ → Port → Behind
 behind_pair c i p =
     let b = bot_of c i in
-    if is_port b p then on_node (is_in c.area (behind b p)) (occupant c (behind b p)) else there.NoPort
+    let v = behind b p in
+    if is_port b p then on_node (is_in c.area v) (is_wall c v) (occupant c v) else there.NoPort
 
 -- behind all pairs, in port order
 abbrev pub all_behind : Config → ℕ → List Behind

@@ -1,7 +1,8 @@
--- Configurations: an area, the greatest values of the variables, and the amoebots by their ids. An id may have none. Configurations
--- of amoebots on nodes are the paper's; areas, maxima, ids, cells and gaps are this project's profile.
+-- Configurations: an area, its walls, the greatest values of the variables, and the amoebots by their ids. An id may have none.
+-- Configurations of amoebots on nodes are the paper's; areas, walls, maxima, ids, cells and gaps are this project's profile.
 use Rattle.std.specs.Prelude.{◌≡◌, ℕ, ◌<◌, ◌≤◌, ◌*◌, List, [], ◌∷◌, ◌++◌, Bool, false, ◌||◌, map, length, slice_index, slice_index_or, slice_set, IsTrue, nat_le, pos, unwrap_or}
-use Rattle.std.specs.List.{list_all, position}
+use Rattle.std.specs.List.{All, list_all, position}
+use Rattle.std.specs.List.Sorted.{IsStrictlyIncreasing}
 use Rattle.std.specs.Option.{option_map}
 use Rattle.std.specs.declared.option.Option.{Option}
 use Rattle.std.specs.declared.option.Option.TheVariants.{Some, None}
@@ -16,10 +17,13 @@ use Rattle.amoebot_state.specs.declared.cell.Cell.{Cell}
 use Rattle.amoebot_state.specs.declared.cell.Cell.TheVariants as cell
 use Rattle.amoebot_state.specs.Limits.{most_bots}
 use Rattle.amoebot_state.specs.Ports.{is_own}
+use Rattle.amoebot_state.specs.Walls.{has_number, node_numbers}
 
--- an area, the greatest value of each of eight variables, and the amoebot of each id, if it has one
+-- an area, walls by the rising numbers of their nodes, the greatest value of each of eight variables, and the amoebot of each id, if
+-- it has one
 pub record Config : Type 0 where
   pub area : Extent
+  pub walls : List ℕ
   pub maxes : List ℕ
   pub bots : List (Option Bot)
 
@@ -46,6 +50,10 @@ covers (Some b) v = is_own b v
 abbrev pub occupant : Config → Node → Option ℕ
 occupant c v = position (λ o. covers o v) c.bots
 
+-- the node is a wall
+abbrev pub is_wall : Config → Node → Bool
+is_wall c v = has_number c.walls (index_of c.area v)
+
 -- what a cell holds: a node its occupant or none; a body the amoebot, if there is one (this project's profile)
 abbrev pub value : Config → CellName → Option Cell
 value c (name.Spot v) = Some (cell.Spot (occupant c v))
@@ -67,25 +75,37 @@ has_values maxes values = list_all (λ k. nat_le (slice_index values k) (slice_i
 abbrev pub frame : Config → Config
 frame c = record c { bots = [] }
 
--- the frame with an area and with the greatest values of the variables
+-- the frame with an area and with the greatest values of the variables, and with no wall
 abbrev pub frame_of : Extent → List ℕ → Config
-frame_of area maxes = record { area = area; maxes = maxes; bots = [] }
+frame_of area maxes = record { area = area; walls = []; maxes = maxes; bots = [] }
+
+-- the same with walls on the nodes of a list that lie in the area
+abbrev pub walled_frame : Extent → List Node → List ℕ → Config
+walled_frame area walls maxes = record (frame_of area maxes) { walls = node_numbers area walls }
+
+-- a configuration's area and maxima, with neither walls nor amoebots
+abbrev pub open_frame : Config → Config
+open_frame c = frame_of c.area c.maxes
 
 -- an amoebot that may stand in a frame: it is in the area on one node or on two adjacent ones (the paper's geometric variant),
--- has a rotation of 0 to 5, and no value above its maximum (this project's profile)
+-- neither of them a wall, has a rotation of 0 to 5, and no value above its maximum (this project's profile)
 pub record IsBot (c : Config) (b : Bot) : Type 0 where
   pub head : IsTrue (is_in c.area b.head)
   pub tail : IsTrue (is_in c.area b.tail)
+  pub head_open : is_wall c b.head ≡ false
+  pub tail_open : is_wall c b.tail ≡ false
   pub close : IsTrue (is_close b.head b.tail)
   pub rot : b.rot < 6
   pub values : IsTrue (has_values c.maxes b.mem)
   pub eight : length b.mem ≡ 8
 
 -- each amoebot may stand in the frame, and no node belongs to two ids (the paper's geometric variant, within this project's
--- area)
+-- area); each wall is in the area and stands once, in the order of numbers (this project's profile)
 pub record IsValid (c : Config) : Type 0 where
   pub area : IsArea c.area
   pub eight : length c.maxes ≡ 8
+  pub rising : IsStrictlyIncreasing c.walls
+  pub walled : All (λ k. k < c.area.w * c.area.h) c.walls
   pub each : (i : ℕ) (b : Bot) → bot_at c i ≡ Some b → IsBot (frame c) b
   pub apart : (i j : ℕ) (v : Node) → IsTrue (covers (bot_at c i) v) → IsTrue (covers (bot_at c j) v) → i ≡ j
 

@@ -1,6 +1,6 @@
 -- What is known of a zone whose cells are read one after another, in zone order. That a zone is found while its cells are read is
 -- this project's profile.
-use Rattle.std.specs.Prelude.{◌≡◌, ℕ, List, [], ◌∷◌, length, take, slice_get, unwrap_or, IsSome}
+use Rattle.std.specs.Prelude.{◌≡◌, ℕ, List, [], ◌∷◌, Bool, false, filter, length, take, slice_get, unwrap_or, IsSome}
 use Rattle.std.specs.declared.option.Option.{Option}
 use Rattle.std.specs.declared.option.Option.TheVariants.{Some, None}
 use Rattle.tri_lattice.specs.declared.node.Node.{Node}
@@ -8,8 +8,8 @@ use Rattle.tri_lattice.specs.Extent.{Extent}
 use Rattle.amoebot_state.specs.declared.bot.Bot.{Bot}
 use Rattle.amoebot_state.specs.declared.cell.CellName.{CellName}
 use Rattle.amoebot_state.specs.declared.cell.CellName.TheVariants as name
-use Rattle.amoebot_state.specs.Pairs.{Pairs, body_in, spot_in}
-use Rattle.amoebot_state.specs.Configs.{Config, IsValid, bot_at}
+use Rattle.amoebot_state.specs.Pairs.{Pairs, body_in, nodes_in, spot_in}
+use Rattle.amoebot_state.specs.Configs.{Config, IsValid, bot_at, is_wall}
 use Rattle.amoebot_state.specs.Zones.{zone_at, shown}
 
 -- the list is what the other one begins with
@@ -19,6 +19,15 @@ IsFront xs ys = xs ≡ take (length xs) ys
 -- who is on a node as far as it was read: nobody, where it was not
 abbrev pub read_on : Pairs → Node → Option ℕ
 read_on cells v = unwrap_or (spot_in cells v) None
+
+-- the walls among the nodes that were read, in the order of reading
+abbrev pub walls_read : Config → Pairs → List Node
+walls_read c cells = filter (is_wall c) (nodes_in cells)
+
+-- the cell is a node that is a wall
+abbrev pub is_wall_cell : Config → CellName → Bool
+is_wall_cell c (name.Spot v) = is_wall c v
+is_wall_cell c (name.Body i) = false
 
 -- the zone of an id whose amoebot was read as this: that gives the nodes, and who was read on them gives the other bodies; where
 -- the amoebot was not read, the zone begins with its body

@@ -5,7 +5,7 @@ use Rattle.std.specs.declared.option.Option.{Option}
 use Rattle.std.specs.declared.option.Option.TheVariants.{Some, None}
 use Rattle.tri_lattice.specs.declared.node.Node.{Node}
 use Rattle.tri_lattice.specs.Lattice.{node_eq, Adjacent}
-use Rattle.tri_lattice.specs.Extent.{Extent, is_in}
+use Rattle.tri_lattice.specs.Extent.{Extent, IsArea, index_of, is_in}
 use Rattle.amoebot_state.specs.declared.bot.Bot.{Bot}
 use Rattle.amoebot_state.specs.declared.bot.Port.{Port}
 use Rattle.amoebot_state.specs.declared.cell.CellName.{CellName}
@@ -16,11 +16,12 @@ use Rattle.amoebot_state.specs.declared.verdict.Entry.{Entry}
 use Rattle.amoebot_state.specs.declared.verdict.Verdict.{Verdict}
 use Rattle.amoebot_state.specs.Pairs.{Pairs, cell_of, cell_value}
 use Rattle.amoebot_state.specs.Ports.{global, local, is_port, ports, behind, is_beside}
-use Rattle.amoebot_state.specs.Configs.{Config, IsValid, bot_at, occupant, value, frame, with_these}
+use Rattle.amoebot_state.specs.Walls.{has_node, has_number, node_numbers}
+use Rattle.amoebot_state.specs.Configs.{Config, IsValid, bot_at, is_wall, occupant, value, frame, walled_frame, with_these}
 use Rattle.amoebot_state.specs.Zones.{Shown, IsShown, distinct, zone_nodes, zone_at, zone, shown, shown_alone}
 use Rattle.amoebot_state.specs.Known.{IsFront, known_zone, next_cell}
 use Rattle.amoebot_state.specs.Patches.{IsPatched, IsOrdered, same_value, diff}
-use Rattle.amoebot_state.specs.Refusals.{IsBotInRange, IsFaultless, IsFirstFault}
+use Rattle.amoebot_state.specs.Refusals.{IsBotInRange, IsFaultless, IsFirstFault, IsFirstRefusal}
 use Rattle.amoebot_state.specs.Occupied.{occupied}
 use Rattle.amoebot_state.specs.Steps.{Step, Run}
 use Rattle.amoebot_state.specs.SerialTurns.{SerialTurn}
@@ -259,6 +260,26 @@ abbrev pub FaultlessHasNoFault : Type 0
 FaultlessHasNoFault =
     (c : Config) (bots : List Bot) (e : WorldRefusal) → IsFaultless c bots (length bots) → ¬ IsFirstFault c bots e
 
+-- at most one refusal is the first one of a list of walls and a list of amoebots
+abbrev pub FirstRefusalIsUnique : Type 0
+FirstRefusalIsUnique =
+    (a : Extent) (walls : List Node) (maxes : List ℕ) (bots : List Bot) (one two : WorldRefusal)
+    → IsFirstRefusal a walls maxes bots one
+    → IsFirstRefusal a walls maxes bots two
+    → one ≡ two
+
+-- a frame with walls, of an area and of eight maxima, is valid
+abbrev pub WalledFrameIsValid : Type 0
+WalledFrameIsValid =
+    (a : Extent) (walls : List Node) (maxes : List ℕ) → IsArea a → length maxes ≡ 8 → IsValid (walled_frame a walls maxes)
+
+-- a node of the area is one of these nodes exactly where its number is one of their numbers
+abbrev pub NodesAreTheirNumbers : Type 0
+NodesAreTheirNumbers =
+    (a : Extent) (vs : List Node) (v : Node)
+    → IsTrue (is_in a v)
+    → has_number (node_numbers a vs) (index_of a v) ≡ has_node vs v
+
 -- the configuration that has what is shown and no other amoebot is valid
 abbrev pub ShownAloneIsValid : Type 0
 ShownAloneIsValid = (s : Shown) → IsShown s → IsValid (shown_alone s)
@@ -292,6 +313,21 @@ BesideHoldsTheSame =
     → bot_at c i ≡ Some b
     → IsTrue (is_beside b v)
     → occupant (shown_alone (shown c i)) v ≡ occupant c v
+
+-- Its walls are those of the zone.
+abbrev pub ShownHasTheWalls : Type 0
+ShownHasTheWalls =
+    (c : Config) (i : ℕ) (v : Node)
+    → IsTrue (is_wall (shown_alone (shown c i)) v) ↔ (IsTrue (is_wall c v) × Contains (zone c i) (name.Spot v))
+
+-- A node that is the amoebot's own or adjacent to one is a wall in both or in neither.
+abbrev pub BesideHasTheSameWalls : Type 0
+BesideHasTheSameWalls =
+    (c : Config) (i : ℕ) (b : Bot) (v : Node)
+    → IsValid c
+    → bot_at c i ≡ Some b
+    → IsTrue (is_beside b v)
+    → is_wall (shown_alone (shown c i)) v ≡ is_wall c v
 
 -- in a valid configuration a node is occupied exactly where it is the head or the tail of an amoebot of it
 abbrev pub OccupiedIsOccupant : Type 0

@@ -1,6 +1,7 @@
 pub mod Limits
 pub mod Ports
 pub mod Pairs
+pub mod Walls
 pub mod Configs
 pub mod Zones
 pub mod Known

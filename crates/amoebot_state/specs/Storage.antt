@@ -1,5 +1,5 @@
 -- How a world writes into its lists. No public clause of this crate cites these.
-use Rattle.std.specs.Prelude.{ℕ, List, [], ◌∷◌, ◌++◌, Bool, not, ◌&&◌, if◌then◌else◌, slice_set, nat_eq}
+use Rattle.std.specs.Prelude.{◌≡◌, ℕ, ◌*◌, List, [], ◌∷◌, ◌++◌, Bool, false, not, ◌&&◌, if◌then◌else◌, length, slice_index_or, slice_set, nat_eq}
 use Rattle.std.specs.List.{list_any, fold}
 use Rattle.std.specs.declared.option.Option.{Option}
 use Rattle.std.specs.declared.option.Option.TheVariants.{Some, None}
@@ -9,6 +9,8 @@ use Rattle.tri_lattice.specs.Lattice.{node_eq}
 use Rattle.amoebot_state.specs.declared.bot.Bot.{Bot}
 use Rattle.amoebot_state.specs.declared.bot.Port.{Port}
 use Rattle.amoebot_state.specs.Ports.{is_port, behind}
+use Rattle.amoebot_state.specs.Walls.{has_node, true_places}
+use Rattle.amoebot_state.specs.Configs.{Config, IsValid, frame_of}
 use Rattle.amoebot_state.specs.declared.cell.CellName.{CellName}
 use Rattle.amoebot_state.specs.declared.cell.CellName.TheVariants as name
 use Rattle.amoebot_state.specs.declared.cell.Cell.{Cell}
@@ -49,3 +51,17 @@ with_port a b vs p = if is_port b p && is_in a (behind b p) then with_new node_e
 abbrev pub with_other : ℕ → List ℕ → Option ℕ → List ℕ
 with_other i is None = is
 with_other i is (Some j) = if not (nat_eq j i) then with_new nat_eq is j else is
+
+-- the grid says of each node of the area whether it is one of these
+pub record IsMarked (a : Extent) (vs : List Node) (grid : List Bool) : Type 0 where
+  pub size : length grid ≡ a.w * a.h
+  pub right : (v : Node) (k : ℕ) → index_of a v ≡ Some k → slice_index_or grid k false ≡ has_node vs v
+
+-- the frame whose walls are the nodes that such a grid marks
+abbrev pub gridded_frame : Extent → List ℕ → List Bool → Config
+gridded_frame area maxes grid = record (frame_of area maxes) { walls = true_places grid }
+
+-- what a frame keeps: it is valid, and says of each node of the area whether it is a wall
+pub record IsFrame (c : Config) (grid : List Bool) : Type 0 where
+  pub valid : IsValid c
+  pub size : length grid ≡ c.area.w * c.area.h

@@ -7,13 +7,15 @@ use Rattle.std.specs.declared.option.Option.{Option}
 use Rattle.std.specs.declared.option.Option.TheVariants.{Some, None}
 use Rattle.tri_lattice.specs.declared.node.Node.{Node}
 use Rattle.tri_lattice.specs.Lattice.{node_eq}
-use Rattle.tri_lattice.specs.Extent.{Extent, is_in}
+use Rattle.tri_lattice.specs.Extent.{Extent, is_in, node_at}
 use Rattle.amoebot_state.specs.declared.bot.Bot.{Bot}
 use Rattle.amoebot_state.specs.declared.cell.CellName.{CellName}
 use Rattle.amoebot_state.specs.declared.cell.CellName.TheVariants as name
 use Rattle.amoebot_state.specs.declared.cell.Cell.{Cell}
 use Rattle.amoebot_state.specs.declared.cell.Cell.TheVariants as cell
 use Rattle.amoebot_state.specs.Ports.{own_nodes, ports, behind}
+use Rattle.amoebot_state.specs.Pairs.{nodes_in}
+use Rattle.amoebot_state.specs.Walls.{has_node}
 use Rattle.amoebot_state.specs.Configs.{Config, IsValid, bot_at, occupant, value, frame_of}
 
 -- the list without the elements that equal an earlier one
@@ -43,20 +45,34 @@ zone_at a on i (Some b) = zone_of on i (zone_nodes a b)
 abbrev pub zone : Config → ℕ → List CellName
 zone c i = zone_at c.area (occupant c) i (bot_at c i)
 
--- a closed neighbourhood (this project's profile): the area, the greatest values, the id that is shown it, and cells with what they hold
+-- a closed neighbourhood (this project's profile): the area, the greatest values, the id that is shown it, the rising numbers of the
+-- walls among its nodes, and cells with what they hold
 pub record Shown : Type 0 where
   pub area : Extent
   pub maxes : List ℕ
   pub bot : ℕ
+  pub walls : List ℕ
   pub cells : List (CellName × Cell)
 
 -- a cell with what it holds
 abbrev pub shown_cell : Config → CellName → Option (CellName × Cell)
 shown_cell c n = option_map (λ x. (n, x)) (value c n)
 
+-- the number is that of a node among these cells
+unfoldable pub is_number_among : Extent → List (CellName × Cell) → ℕ → Bool
+is_number_among a cells k = has_node (nodes_in cells) (node_at a k)
+
+-- the walls on the nodes among these cells
+abbrev pub walls_among : Config → List (CellName × Cell) → List ℕ
+walls_among c cells = filter (is_number_among c.area cells) c.walls
+
+-- what is shown, by its parts
+abbrev pub shown_by : Extent → List ℕ → ℕ → List ℕ → List (CellName × Cell) → Shown
+shown_by area maxes i walls cells = record { area = area; maxes = maxes; bot = i; walls = walls; cells = cells }
+
 -- what a configuration shows to an id by these cells
 abbrev pub shown_with : Config → ℕ → List (CellName × Cell) → Shown
-shown_with c i cells = record { area = c.area; maxes = c.maxes; bot = i; cells = cells }
+shown_with c i cells = shown_by c.area c.maxes i (walls_among c cells) cells
 
 -- what an amoebot is shown: each cell of its zone with what it holds
 abbrev pub shown : Config → ℕ → Shown
@@ -82,4 +98,4 @@ spread ((name.Body i, cell.Body b) ∷ cells) = with_id (spread cells) i b
 
 -- the configuration that has what is shown and no other amoebot: the ids that are not shown are gaps in it
 abbrev pub shown_alone : Shown → Config
-shown_alone s = record (frame_of s.area s.maxes) { bots = spread s.cells }
+shown_alone s = record (frame_of s.area s.maxes) { walls = s.walls; bots = spread s.cells }

@@ -1,19 +1,21 @@
 ghost use Rattle.std.specs.Prelude.{◌≡◌, ℕ, Option, ◌+◌, ◌≤◌, ◌<◌, length, slice_get, true, IfSome, IsSome, IsTrue, Some};
 ghost use Rattle.std.specs.Option.{option_copied};
-ghost use Rattle.amoebot_state.specs.Limits.{most_cells};
-ghost use Rattle.amoebot_state.specs.Configs.{IsValid, bot_at, bot_of, frame_of, occupant};
+ghost use Rattle.amoebot_state.specs.Limits.{most_cells, most_nodes};
+ghost use Rattle.amoebot_state.specs.Configs.{IsValid, bot_at, bot_of, is_wall, occupant};
 ghost use Rattle.amoebot_state.specs.Ports.{is_beside};
 ghost use Rattle.amoebot_state.specs.Around.{behind_pair, on_node};
 ghost use Rattle.amoebot_state.specs.Refusals.{IsBotInRange};
 ghost use Rattle.amoebot_state.specs.declared.bot.Bot.{Bot};
 ghost use Rattle.amoebot_state.specs.Ways.{reading, ways_of};
-ghost use Rattle.amoebot_state.specs.Zones.{IsShown, shown_alone, shown_with, zone_nodes};
+ghost use Rattle.amoebot_state.specs.Walls.{has_node, node_numbers};
+ghost use Rattle.amoebot_state.specs.Zones.{IsShown, shown_alone, shown_by, zone_nodes};
+ghost use Rattle.tri_lattice.specs.declared.node.Node.{Node};
 ghost use Rattle.amoebot_state.specs.Pairs.{body_at, body_in, spot_at, spot_in};
 
 use crate::bot::{Bot, Port};
 use crate::cell::{Cell, CellName, MOST_CELLS};
 use crate::reading::KnownZone;
-use crate::way::{Way, Ways, ways_of};
+use crate::way::{FewNodes, Way, Ways, ways_of};
 use arrayvec::ArrayVec;
 use std::marker::Model;
 use tri_lattice::{Area, Node};
@@ -29,14 +31,16 @@ pub enum Behind {
     NoPort,
     /// A node outside of the area.
     Edge,
+    /// A node that is a wall.
+    Wall,
     /// A node without an occupant.
     Empty,
     /// The occupant with this id.
     Bot(u16),
 }
 
-/// What an amoebot is shown of a world: its closed neighbourhood. That is the area, the maxima of the variables, and the
-/// cells of its zone with their values.
+/// What an amoebot is shown of a world: its closed neighbourhood. That is the area, the maxima of the variables, the
+/// cells of its zone with their values, and the walls among its nodes.
 #[derive(Drop)]
 pub struct Found {
     area: Area,
@@ -45,29 +49,37 @@ pub struct Found {
     own: Bot,
     ways: Ways,
     cells: Cells,
+    walls: FewNodes,
 }
 
 impl Model for Found {
-    ghost use Rattle.amoebot_state.specs.Configs.{frame_of};
+    ghost use Rattle.amoebot_state.specs.Walls.{node_numbers};
     ghost use Rattle.amoebot_state.specs.Ways.{IsFound};
-    ghost use Rattle.amoebot_state.specs.Zones.{Shown, shown_with};
+    ghost use Rattle.amoebot_state.specs.Zones.{Shown, shown_by};
 
     ghost Value = { Shown };
 
-    ghost view = { λ f. shown_with (frame_of f.area f.maxes) f.bot f.cells.items };
+    ghost view = { λ f. shown_by f.area f.maxes f.bot (node_numbers f.area f.walls.items) f.cells.items };
 
-    ghost invariant = { λ f. IsFound (shown_with (frame_of f.area f.maxes) f.bot f.cells.items) f.own f.ways };
+    ghost invariant = { λ f. IsFound (shown_by f.area f.maxes f.bot (node_numbers f.area f.walls.items) f.cells.items) f.own f.ways };
 }
 
 impl Found {
-    /// The closed neighbourhood that has these cells, which are the whole zone of an amoebot of some valid world, in zone
-    /// order, with what they hold there. It takes no memory.
-    pub fn make(area: Area, maxes: [u8; 8], bot: u16, cells: &[(CellName, Cell)]) -> Found
-        requires { IsShown (shown_with (frame_of area maxes) bot cells.now) }
-        ensures { result ≡ shown_with (frame_of area maxes) bot cells.now }
+    /// The closed neighbourhood that has these cells and these walls. The cells are the whole zone of an amoebot of some valid world,
+    /// in zone order, with what they hold there, and the walls are those of that world on the nodes among them. It takes no memory.
+    pub fn make(
+        area: Area,
+        maxes: [u8; 8],
+        bot: u16,
+        cells: &[(CellName, Cell)],
+        walls: &[Node],
+    ) -> Found
+        requires shown { IsShown (shown_by area maxes bot (node_numbers area walls.now) cells.now) }
+        requires few { length walls.now ≤ most_nodes }
+        ensures { result ≡ shown_by area maxes bot (node_numbers area walls.now) cells.now }
     {
         let own = own_in(cells, bot);
-        Found::with_ways(area, maxes, bot, cells, ways_of(&area, &own))
+        Found::with_ways(area, maxes, bot, cells, walls, ways_of(&area, &own))
     }
 
     /// The same, where it is known where the pairs of the amoebot lead.
@@ -76,11 +88,13 @@ impl Found {
         maxes: [u8; 8],
         bot: u16,
         cells: &[(CellName, Cell)],
+        walls: &[Node],
         ways: Ways,
     ) -> Found
-        requires shown { IsShown (shown_with (frame_of area maxes) bot cells.now) }
+        requires shown { IsShown (shown_by area maxes bot (node_numbers area walls.now) cells.now) }
+        requires few { length walls.now ≤ most_nodes }
         requires known { (own : Bot) → Some own ≡ body_in cells.now bot → ways ≡ ways_of area own }
-        ensures { result ≡ shown_with (frame_of area maxes) bot cells.now }
+        ensures { result ≡ shown_by area maxes bot (node_numbers area walls.now) cells.now }
     {
         Found {
             area,
@@ -89,6 +103,7 @@ impl Found {
             own: own_in(cells, bot),
             ways,
             cells: copied(cells),
+            walls: copied_nodes(walls),
         }
     }
 
@@ -100,10 +115,12 @@ impl Found {
         bot: u16,
         zone: &KnownZone,
         cells: &[(CellName, Cell)],
+        walls: &[Node],
     )
-        requires shown { IsShown (shown_with (frame_of area maxes) bot cells.now) }
+        requires shown { IsShown (shown_by area maxes bot (node_numbers area walls.now) cells.now) }
+        requires few { length walls.now ≤ most_nodes }
         requires known { zone.now ≡ reading area bot cells.now }
-        ensures { self.new ≡ shown_with (frame_of area maxes) bot cells.now }
+        ensures { self.new ≡ shown_by area maxes bot (node_numbers area walls.now) cells.now }
     {
         self.area = area;
         self.maxes = maxes;
@@ -111,6 +128,7 @@ impl Found {
         self.own = own_in(cells, bot);
         self.ways = zone.ways();
         copy_all(&mut self.cells, cells);
+        copy_nodes(&mut self.walls, walls);
     }
 
     /// The id of the amoebot that is shown this.
@@ -158,16 +176,48 @@ impl Found {
         }
     }
 
-    /// What is on the node with this place among the nodes of the zone, whose cell has this name and this occupant.
+    /// What is on the node with this place among the nodes of the zone.
     fn on_place(&self, place: usize) -> Behind
         requires { 1 + place < length self.now.cells }
-        ensures { (n : CellName) (o : Option ℕ) → slice_get self.now.cells (1 + place) ≡ Some (n, Cell.Spot o) → result ≡ on_node true o }
+        ensures { (v : Node) (o : Option ℕ) → slice_get self.now.cells (1 + place) ≡ Some (CellName.Spot v, Cell.Spot o)
+            → result ≡ on_node true (is_wall (shown_alone self.now) v) o }
     {
-        let (_, cell) = &self.cells.as_slice()[1 + place];
+        let (name, cell) = &self.cells.as_slice()[1 + place];
         match cell {
             Cell::Spot(Some(id)) => Behind::Bot(*id),
-            Cell::Spot(None) | Cell::Body(_) => Behind::Empty,
+            Cell::Spot(None) | Cell::Body(_) => self.on_empty(name),
         }
+    }
+
+    /// What is on a node without an occupant.
+    fn on_empty(&self, name: &CellName) -> Behind
+        ensures { (v : Node) → name.now ≡ CellName.Spot v → result ≡ on_node true (is_wall (shown_alone self.now) v) None }
+    {
+        match name {
+            CellName::Spot(node) => {
+                if self.is_wall(*node) {
+                    Behind::Wall
+                } else {
+                    Behind::Empty
+                }
+            }
+            CellName::Body(_) => Behind::Empty,
+        }
+    }
+
+    /// Whether a node of the zone is a wall. A node outside the zone is none.
+    pub fn is_wall(&self, node: Node) -> bool
+        ensures { result ≡ is_wall (shown_alone self.now) node }
+    {
+        has_node(self.walls.as_slice(), node) && self.area.index(node).is_some()
+    }
+
+    /// The walls of the zone.
+    pub fn walls(&self) -> &[Node]
+        ensures value { node_numbers self.now.area result.now ≡ self.now.walls }
+        ensures few { length result.now ≤ most_nodes }
+    {
+        self.walls.as_slice()
     }
 
     /// The cells of the zone with what they hold, in zone order.
@@ -226,6 +276,34 @@ fn copy_all(copy: &mut Cells, cells: &[(CellName, Cell)])
         Ok(()) => {}
         Err(_) => unreachable!(),
     }
+}
+
+fn copied_nodes(nodes: &[Node]) -> FewNodes
+    requires { length nodes.now ≤ most_nodes }
+    ensures { result.items ≡ nodes.now }
+{
+    let mut copy = ArrayVec::new();
+    copy_nodes(&mut copy, nodes);
+    copy
+}
+
+/// Puts these nodes in the place of what the list has.
+fn copy_nodes(copy: &mut FewNodes, nodes: &[Node])
+    requires { length nodes.now ≤ most_nodes }
+    ensures { copy.new.items ≡ nodes.now }
+{
+    copy.clear();
+    match copy.try_extend_from_slice(nodes) {
+        Ok(()) => {}
+        Err(_) => unreachable!(),
+    }
+}
+
+/// Whether one of the nodes is this one.
+fn has_node(nodes: &[Node], node: Node) -> bool
+    ensures { result ≡ has_node nodes.now node }
+{
+    nodes.iter().any(|other| *other == node)
 }
 
 /// The first amoebot that the cells hold for this id.

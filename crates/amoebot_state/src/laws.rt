@@ -10,7 +10,9 @@ ghost use Rattle.amoebot_state.specs.Laws.{OrderedPatchIsDiff, ValidIsFaultless,
 ghost use Rattle.amoebot_state.specs.Laws.{FirstFaultIsUnique, FaultlessHasNoFault, ShownAloneIsValid};
 ghost use Rattle.amoebot_state.specs.Laws.{ShownAloneHoldsTheSame, OccupiedIsOccupant, PortLeadsBeside};
 ghost use Rattle.amoebot_state.specs.Laws.{ShownAloneHasTheZone, NoneIsOutsideTheZone, BesideHoldsTheSame};
-ghost use Rattle.amoebot_state.specs.Examples.{SmallFaults};
+ghost use Rattle.amoebot_state.specs.Laws.{FirstRefusalIsUnique, WalledFrameIsValid, NodesAreTheirNumbers};
+ghost use Rattle.amoebot_state.specs.Laws.{ShownHasTheWalls, BesideHasTheSameWalls};
+ghost use Rattle.amoebot_state.specs.Examples.{SmallFaults, SmallRefusals};
 ghost use Rattle.amoebot_state.specs.Laws.{SerialTurnIsUnique};
 
 /// Local and global directions are both 0 to 5, and the one is the inverse of the other, with either chirality.
@@ -184,6 +186,26 @@ pub fn small_faults()
     ensures { SmallFaults }
 {}
 
+/// At most one refusal is the first one of a list of walls and a list of amoebots.
+pub fn first_refusal_is_unique()
+    ensures { FirstRefusalIsUnique }
+{}
+
+/// Lists of walls and of amoebots with their first refusal.
+pub fn small_refusals()
+    ensures { SmallRefusals }
+{}
+
+/// A frame with walls, of an area and of eight maxima, is valid.
+pub fn walled_frame_is_valid()
+    ensures { WalledFrameIsValid }
+{}
+
+/// A node of the area is one of these nodes exactly where its number is one of their numbers.
+pub fn nodes_are_their_numbers()
+    ensures { NodesAreTheirNumbers }
+{}
+
 /// The configuration that has what is shown and no other amoebot is valid.
 pub fn shown_alone_is_valid()
     ensures { ShownAloneIsValid }
@@ -207,6 +229,16 @@ pub fn none_is_outside_the_zone()
 /// A node that is the amoebot's own or adjacent to one has in it the same occupant, or none, in the area or not.
 pub fn beside_holds_the_same()
     ensures { BesideHoldsTheSame }
+{}
+
+/// Its walls are those of the zone.
+pub fn shown_has_the_walls()
+    ensures { ShownHasTheWalls }
+{}
+
+/// A node that is the amoebot's own or adjacent to one is a wall in both or in neither.
+pub fn beside_has_the_same_walls()
+    ensures { BesideHasTheSameWalls }
 {}
 
 /// A node of a valid configuration is occupied exactly where it is the head or the tail of an amoebot.

@@ -21,18 +21,19 @@ pub use cell::{CELL_ROOM, Cell, CellName, MOST_CELLS, MOST_PAIRS, Patch};
 pub use decider::{Decider, has_next, is_exact, touches_zone};
 pub use found::{Behind, Found};
 pub use laws::{
-    beside_holds_the_same, contracted_has_six_ports, diff_leads, expanded_has_ten_ports,
-    faultless_has_no_fault, faultless_is_valid, first_fault_is_unique, front_grows, front_stands,
-    global_and_local_are_inverse, known_grows_at_its_end, known_is_front, next_is_in_zone,
-    next_is_new, node_behind_port_is_in_zone, none_is_outside_the_zone,
+    beside_has_the_same_walls, beside_holds_the_same, contracted_has_six_ports, diff_leads,
+    expanded_has_ten_ports, faultless_has_no_fault, faultless_is_valid, first_fault_is_unique,
+    first_refusal_is_unique, front_grows, front_stands, global_and_local_are_inverse,
+    known_grows_at_its_end, known_is_front, next_is_in_zone, next_is_new,
+    node_behind_port_is_in_zone, nodes_are_their_numbers, none_is_outside_the_zone,
     occupant_behind_port_is_in_zone, occupied_is_occupant, ordered_patch_is_diff,
     patch_lists_what_differs, patched_is_unique, port_leads_beside, run_has_one_last,
     same_value_is_equality, serial_turn_is_unique, shown_alone_has_the_zone,
     shown_alone_holds_the_same, shown_alone_is_valid, shown_alone_shows_the_same,
-    shown_holds_values, shown_lists_zone, six_ports_lead_to_six_nodes, small_faults,
-    step_has_one_result, ten_ports_lead_to_eight_nodes, valid_is_faultless, whole_zone_is_shown,
-    zone_has_at_most_nine_bodies, zone_has_at_most_ten_nodes, zone_is_determined,
-    zone_lists_each_cell_once,
+    shown_has_the_walls, shown_holds_values, shown_lists_zone, six_ports_lead_to_six_nodes,
+    small_faults, small_refusals, step_has_one_result, ten_ports_lead_to_eight_nodes,
+    valid_is_faultless, walled_frame_is_valid, whole_zone_is_shown, zone_has_at_most_nine_bodies,
+    zone_has_at_most_ten_nodes, zone_is_determined, zone_lists_each_cell_once,
 };
 pub use next::next_cell;
 pub use reading::KnownZone;

@@ -19,7 +19,8 @@ impl<T: Drop> From<AllocFailed<T>> for NoMemory {
     }
 }
 
-/// Why there is no world. All but `NoMemory` carry the id of the amoebot at fault, which is its place in the list.
+/// Why there is no world. `BadWall` carries the place of the wall at fault in its list, and all others but `NoMemory` the id of the
+/// amoebot at fault, which is its place in the list.
 #[derive(Clone, Copy, Debug, Drop, PartialEq, Eq)]
 pub enum WorldRefusal {
     /// Its head or its tail is outside the area.
@@ -32,6 +33,10 @@ pub enum WorldRefusal {
     BadValue(u16),
     /// There was not enough memory.
     NoMemory,
+    /// It is outside the area, or stands on an earlier one.
+    BadWall(u32),
+    /// A node of it is a wall.
+    OnWall(u16),
 }
 
 impl From<AllocError> for WorldRefusal {

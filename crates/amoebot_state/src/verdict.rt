@@ -26,6 +26,8 @@ pub enum Failure {
     WouldSplit,
     /// No port meets the condition.
     NoChoice,
+    /// The node to be entered is a wall.
+    Blocked,
 }
 
 /// A movement, with its port as evaluated. `Contract` names the end that is left.

@@ -1,10 +1,14 @@
-ghost use Rattle.std.specs.Prelude.{ℕ, ◌≡◌, ◌⊎◌, ◌+◌, ◌++◌, ◌<◌, ◌≤◌, [], OnOk, IfOk, IfErr, length, map, IsSome, Decides};
+ghost use Rattle.std.specs.Prelude.{ℕ, ◌≡◌, ◌⊎◌, ◌+◌, ◌++◌, ◌∷◌, ◌<◌, ◌≤◌, [], OnOk, IfOk, IfErr, length, map, IsSome, Decides};
 ghost use Rattle.std.specs.List.{All, filter_map};
-ghost use Rattle.amoebot_state.specs.Limits.{most_bots, node_room, cell_room};
-ghost use Rattle.amoebot_state.specs.Configs.{Config, IsValid, bot_at, occupant, frame_of, with_these, with_bot};
-ghost use Rattle.amoebot_state.specs.Zones.{shown, shown_cell, zone, zone_nodes, others};
+ghost use Rattle.amoebot_state.specs.Limits.{most_bots, most_nodes, most_walls, node_room, cell_room};
+ghost use Rattle.amoebot_state.specs.Configs.{Config, IsValid, bot_at, is_wall, occupant, frame_of, walled_frame, with_these, with_bot};
+ghost use Rattle.amoebot_state.specs.Zones.{IsShown, shown, shown_cell, shown_with, zone, zone_nodes, others};
+ghost use Rattle.amoebot_state.specs.Known.{walls_read};
+ghost use Rattle.amoebot_state.specs.Ways.{reading};
+ghost use Rattle.amoebot_state.specs.Pairs.{nodes_in};
+ghost use Rattle.tri_lattice.specs.Extent.{index_of};
 ghost use Rattle.amoebot_state.specs.Patches.{IsPatched, HasPatched};
-ghost use Rattle.amoebot_state.specs.Refusals.{IsBotInRange, IsFaultless, IsFirstFault, bot_fault};
+ghost use Rattle.amoebot_state.specs.Refusals.{AreWalls, IsBotInRange, IsFaultless, IsFirstFault, IsFirstRefusal, bot_fault};
 ghost use Rattle.arrayvec.specs.ArrayVec.{array_vec_len};
 
 use crate::bot::Bot;
@@ -12,17 +16,18 @@ use crate::cell::{Cell, CellName, Cells, Patch};
 use crate::found::Found;
 use crate::frame::Frame;
 use crate::grid::{has_values, is_close, put_all, put_new};
+use crate::reading::KnownZone;
 use crate::refusal::{NoMemory, WorldRefusal};
-use crate::way::push_nodes;
+use crate::way::{FewNodes, push_nodes};
 use crate::zone::{Ids, push_other};
 use arrayvec::ArrayVec;
 use std::alloc::Global;
 use std::marker::Model;
 use tri_lattice::{Area, Node};
 
-/// A world: an area, the maxima of the variables, and at most 4,096 amoebots, which are numbered from 0. It is valid: each
-/// amoebot stands in the area, on one node or on two adjacent ones; no node belongs to two amoebots; each rotation is below 6
-/// and no value is above its maximum.
+/// A world: an area, walls in it, the maxima of the variables, and at most 4,096 amoebots, which are numbered from 0. It is valid:
+/// each amoebot stands in the area, on one node or on two adjacent ones, and on no wall; no node belongs to two amoebots; each
+/// rotation is below 6 and no value is above its maximum.
 ///
 /// Beside them it keeps the occupant of each node of the area.
 #[derive(Drop)]
@@ -43,9 +48,9 @@ impl Model for World {
 }
 
 impl World {
-    /// A world of these amoebots, at most 4,096, whose ids are their places in the list. Otherwise the first fault of the first
-    /// amoebot that has one: OutOfBox, NotAdjacent, Overlap with an earlier one, BadValue, in this order. NoMemory may come in
-    /// place of any answer.
+    /// A world of these amoebots, at most 4,096, whose ids are their places in the list, and without walls. Otherwise the first
+    /// fault of the first amoebot that has one: OutOfBox, NotAdjacent, Overlap with an earlier one, BadValue, in this order.
+    /// NoMemory may come in place of any answer.
     pub fn new(
         alloc: Global,
         area: Area,
@@ -58,7 +63,41 @@ impl World {
         ensures faultless { OnOk result (IsFaultless (frame_of area maxes) bots.now (length bots.now)) }
         ensures fault { IfErr result (λ e. (e ≡ WorldRefusal.NoMemory) ⊎ IsFirstFault (frame_of area maxes) bots.now e) }
     {
-        let mut world = World::empty(alloc, Frame::new(area, maxes), bots.len())?;
+        World::walled(alloc, area, &[], maxes, bots)
+    }
+
+    /// A world of these walls and these amoebots, at most 16,384 and 4,096, where the ids of the amoebots are their places in the list.
+    /// Otherwise BadWall for the first wall that is outside the area or equals an earlier one; else the first fault of the first
+    /// amoebot that has one: OutOfBox, NotAdjacent, OnWall, Overlap with an earlier one, BadValue, in this order. NoMemory may come in
+    /// place of any answer.
+    pub fn walled(
+        alloc: Global,
+        area: Area,
+        walls: &[Node],
+        maxes: [u8; 8],
+        bots: &[Bot],
+    ) -> Result<World, WorldRefusal>
+        requires few_walls { length walls.now ≤ most_walls }
+        requires few { length bots.now ≤ most_bots }
+        requires plain { All IsBotInRange bots.now }
+        ensures value { IfOk result (λ w. w ≡ with_these (walled_frame area walls.now maxes) bots.now) }
+        ensures walls { OnOk result (AreWalls area walls.now (length walls.now)) }
+        ensures faultless { OnOk result (IsFaultless (walled_frame area walls.now maxes) bots.now (length bots.now)) }
+        ensures fault { IfErr result (λ e. (e ≡ WorldRefusal.NoMemory) ⊎ IsFirstRefusal area walls.now maxes bots.now e) }
+    {
+        let frame = Frame::make(alloc, area, walls, maxes)?;
+        World::framed(alloc, frame, bots)
+    }
+
+    /// A world of these amoebots in a frame.
+    fn framed(alloc: Global, frame: Frame, bots: &[Bot]) -> Result<World, WorldRefusal>
+        requires few { length bots.now ≤ most_bots }
+        requires plain { All IsBotInRange bots.now }
+        ensures value { IfOk result (λ w. w ≡ with_these frame bots.now) }
+        ensures faultless { OnOk result (IsFaultless frame bots.now (length bots.now)) }
+        ensures fault { IfErr result (λ e. (e ≡ WorldRefusal.NoMemory) ⊎ IsFirstFault frame bots.now e) }
+    {
+        let mut world = World::empty(alloc, frame, bots.len())?;
         for bot in bots {
             world.add(bot)?;
         }
@@ -69,6 +108,7 @@ impl World {
         ensures value { IfOk result (λ w. w ≡ with_these frame []) }
         ensures err { IfErr result (λ e. e ≡ WorldRefusal.NoMemory) }
     {
+        frame.keeps();
         let mut amoebots = Vec::new(alloc);
         amoebots.reserve_exact(room)?;
         let mut occupants = Vec::new(alloc);
@@ -93,6 +133,9 @@ impl World {
         }
         if !is_close(bot.head, bot.tail) {
             return Some(WorldRefusal::NotAdjacent(id));
+        }
+        if self.is_wall(bot.head) || self.is_wall(bot.tail) {
+            return Some(WorldRefusal::OnWall(id));
         }
         if self.occupant(bot.head).is_some() || self.occupant(bot.tail).is_some() {
             return Some(WorldRefusal::Overlap(id));
@@ -174,7 +217,21 @@ impl World {
         }
     }
 
-    /// Whether the worlds are equal: in area, maxima and amoebots.
+    /// Whether a node is a wall; a node outside the area is none.
+    pub fn is_wall(&self, node: Node) -> bool
+        ensures { result ≡ is_wall self.now node }
+    {
+        self.frame.is_wall(node)
+    }
+
+    /// Whether the node with this number is a wall.
+    pub fn is_wall_number(&self, number: u32) -> bool
+        ensures { (v : Node) → index_of self.now.area v ≡ Some number → result ≡ is_wall self.now v }
+    {
+        self.frame.is_wall_number(number)
+    }
+
+    /// Whether the worlds are equal: in area, walls, maxima and amoebots.
     pub fn same(&self, other: &World) -> bool
         ensures { Decides result (self.now ≡ other.now) }
     {
@@ -189,7 +246,7 @@ impl World {
         let amoebots = Vec::from_slice(alloc, self.amoebots.as_slice())?;
         let occupants = Vec::from_slice(alloc, self.occupants.as_slice())?;
         Ok(World {
-            frame: self.frame.copy(),
+            frame: self.frame.copy(alloc)?,
             amoebots,
             occupants,
         })
@@ -209,7 +266,65 @@ impl World {
         let mut nodes = ArrayVec::new();
         let ways = push_nodes(&mut nodes, &area, &own);
         let cells = self.zone_cells(bot, &own, nodes.as_slice());
-        Found::with_ways(area, maxes, bot, cells.as_slice(), ways)
+        let walls = self.walls_in(cells.as_slice());
+        Found::with_ways(area, maxes, bot, cells.as_slice(), walls.as_slice(), ways)
+    }
+
+    /// What an amoebot is shown, where these are the cells that it is shown.
+    pub fn found_with(&self, bot: u16, cells: &[(CellName, Cell)]) -> Found
+        requires { IsShown (shown_with self.now bot cells.now) }
+        ensures { result ≡ shown_with self.now bot cells.now }
+    {
+        let _frame = &self.frame;
+        let walls = self.walls_in(cells);
+        Found::make(self.area(), self.maxes(), bot, cells, walls.as_slice())
+    }
+
+    /// The same in the place of what was found before, of a zone of which all is known.
+    pub fn renew_found(
+        &self,
+        found: &mut Found,
+        bot: u16,
+        zone: &KnownZone,
+        cells: &[(CellName, Cell)],
+    )
+        requires shown { IsShown (shown_with self.now bot cells.now) }
+        requires known { zone.now ≡ reading self.now.area bot cells.now }
+        ensures { found.new ≡ shown_with self.now bot cells.now }
+    {
+        let _frame = &self.frame;
+        let walls = self.walls_in(cells);
+        found.renew(
+            self.area(),
+            self.maxes(),
+            bot,
+            zone,
+            cells,
+            walls.as_slice(),
+        );
+    }
+
+    /// The walls on the nodes among the cells.
+    fn walls_in(&self, cells: &[(CellName, Cell)]) -> FewNodes
+        requires { length (nodes_in cells.now) ≤ most_nodes }
+        ensures { result.items ≡ walls_read self.now cells.now }
+    {
+        let mut walls = ArrayVec::new();
+        for (name, _) in cells {
+            self.push_wall(&mut walls, name);
+        }
+        walls
+    }
+
+    fn push_wall(&self, walls: &mut FewNodes, name: &CellName)
+        requires { length (walls.old.items ++ walls_read self.now ((name.now, Cell.Spot None) ∷ [])) ≤ most_nodes }
+        ensures { walls.new.items ≡ walls.old.items ++ walls_read self.now ((name.now, Cell.Spot None) ∷ []) }
+    {
+        if let CellName::Spot(node) = name {
+            if self.is_wall(*node) {
+                walls.push(*node);
+            }
+        }
     }
 
     /// The cells of an amoebot's zone, which has these nodes, with what they hold.
