@@ -1,7 +1,7 @@
 ghost use Rattle.std.specs.Prelude.{◌≡◌, ◌≤◌, ◌∷◌, [], length, pos, IfOk};
 ghost use Rattle.std.specs.List.{All};
-ghost use Rattle.amoebot_state.specs.Limits.{most_bots};
-ghost use Rattle.amoebot_state.specs.Configs.{frame_of, with_these};
+ghost use Rattle.amoebot_state.specs.Limits.{most_bots, most_walls};
+ghost use Rattle.amoebot_state.specs.Configs.{frame_of, walled_frame, with_these};
 ghost use Rattle.amoebot_state.specs.Known.{AreReadInOrder};
 ghost use Rattle.amoebot_state.specs.Refusals.{IsBotInRange};
 
@@ -64,6 +64,29 @@ fn world_of(alloc: Global, bots: &[Bot]) -> Result<World, Fail>
     Ok(World::new(alloc, area, MAXES, bots)?)
 }
 
+/// A world of these walls and amoebots in the same area.
+fn walled_of(alloc: Global, walls: &[Node], bots: &[Bot]) -> Result<World, Fail>
+    requires few_walls { length walls.now ≤ most_walls }
+    requires few { length bots.now ≤ most_bots }
+    requires plain { All IsBotInRange bots.now }
+    ensures { IfOk result (λ w. w
+        ≡ with_these (walled_frame (record { x0 = pos 0; y0 = pos 0; w = 8; h = 8 }) walls.now
+        (1 ∷ 0 ∷ 0 ∷ 0 ∷ 0 ∷ 0 ∷ 0 ∷ 0 ∷ [])) bots.now) }
+{
+    let area = Area::new(0, 0, 8, 8).ok_or("an area")?;
+    Ok(World::walled(alloc, area, walls, MAXES, bots)?)
+}
+
+/// What such a world is refused for.
+fn walled_refusal(alloc: Global, walls: &[Node], bots: &[Bot]) -> Option<WorldRefusal>
+    requires few_walls { length walls.now ≤ most_walls }
+    requires few { length bots.now ≤ most_bots }
+    requires plain { All IsBotInRange bots.now }
+{
+    let area = Area::new(0, 0, 8, 8)?;
+    World::walled(alloc, area, walls, MAXES, bots).err()
+}
+
 const fn port(end: End, dir: u8) -> Port {
     Port { end, dir }
 }
@@ -107,6 +130,56 @@ fn a_world_is_refused_for_its_first_fault(rt: HostRuntime) {
         Some(WorldRefusal::BadValue(0))
     );
     assert_eq!(rt; refusal(rt.alloc(), ALONE, BEHIND), None);
+}
+
+#[test]
+fn a_walled_world_is_refused_for_its_first_fault(rt: HostRuntime) {
+    let outside = Node { x: 8, y: 0 };
+    let torn = Bot {
+        head: Node { x: 4, y: 3 },
+        ..ALONE
+    };
+    assert_eq!(rt;
+        walled_refusal(rt.alloc(), &[NEXT, NEXT, outside], &[ALONE]),
+        Some(WorldRefusal::BadWall(1))
+    );
+    assert_eq!(rt;
+        walled_refusal(rt.alloc(), &[HERE, outside], &[ALONE]),
+        Some(WorldRefusal::BadWall(1))
+    );
+    assert_eq!(rt;
+        walled_refusal(rt.alloc(), &[HERE], &[torn]),
+        Some(WorldRefusal::NotAdjacent(0))
+    );
+    assert_eq!(rt;
+        walled_refusal(rt.alloc(), &[HERE], &[BEHIND, STRETCHED]),
+        Some(WorldRefusal::OnWall(1))
+    );
+    assert_eq!(rt; walled_refusal(rt.alloc(), &[NEXT], &[ALONE]), None);
+}
+
+#[test]
+fn walls_stay(rt: HostRuntime) -> Result<(), Fail> {
+    let far = Node { x: 7, y: 7 };
+    let world = walled_of(rt.alloc(), &[far, NEXT], &[ALONE, BEHIND])?;
+    let open = walled_of(rt.alloc(), &[far], &[ALONE, BEHIND])?;
+    let copy = world.copy(rt.alloc())?;
+    assert_eq!(rt; copy.same(&world), true);
+    assert_eq!(rt; copy.same(&open), false);
+    assert_eq!(rt; copy.is_wall(NEXT), true);
+    assert_eq!(rt; copy.is_wall(HERE), false);
+    assert_eq!(rt; copy.is_wall(Node { x: 8, y: 3 }), false);
+    assert_eq!(rt; copy.is_wall_number(63), true);
+    let found = copy.found(0);
+    assert_eq!(rt; found.bot(), 0);
+    assert_eq!(rt; found.behind(port(End::Head, 0)), Behind::Wall);
+    assert_eq!(rt; found.behind(port(End::Head, 1)), Behind::Empty);
+    assert_eq!(rt; found.behind(port(End::Head, 3)), Behind::Bot(1));
+    assert_eq!(rt; found.is_wall(NEXT), true);
+    assert_eq!(rt; found.is_wall(far), false);
+    assert_eq!(rt; found.walls().len(), 1);
+    assert_eq!(rt; found.cells().len(), 9);
+    Ok(())
 }
 
 #[test]
@@ -160,7 +233,7 @@ fn a_neighbourhood_is_made_of_its_cells(rt: HostRuntime) -> Result<(), Fail> {
         (CellName::Spot(Node { x: 6, y: 3 }), Cell::Spot(None)),
         (CellName::Spot(Node { x: 7, y: 2 }), Cell::Spot(None)),
     ];
-    let found = Found::make(world.area(), MAXES, 0, &cells);
+    let found = Found::make(world.area(), MAXES, 0, &cells, &[]);
     assert_eq!(rt; *found.own(), AT_EDGE);
     assert_eq!(rt; found.behind(port(End::Head, 0)), Behind::Edge);
     assert_eq!(rt; found.area(), world.area());

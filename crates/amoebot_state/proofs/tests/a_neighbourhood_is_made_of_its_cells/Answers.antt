@@ -5,8 +5,8 @@ use Rattle.amoebot_state.specs.Zones.{Shown, shown_with, shown}
 use Rattle.amoebot_state.proofs.ExampleLemmas.{edge, first}
 use Rattle.amoebot_state.proofs.tests.a_neighbourhood_is_made_of_its_cells.Goals as goal
 
-pub make-found-requires : goal.make-found-requires
-make-found-requires g c =
+pub make-found-requires-clause-shown : goal.make-found-requires-clause-shown
+make-found-requires-clause-shown g c =
     let is = c.in_ok-world.ensures in
     let within : Extent → Shown = λ a. shown_with (frame_of a (first 1)) 0 (shown edge 0).cells in (
       c.in_ok-world.world,
