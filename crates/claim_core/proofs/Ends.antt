@@ -49,7 +49,7 @@ same_bots c d area size ids values = ext_get_or None c.bots d.bots size (λ i in
 pub same_world : (g : Setup) (s : State) (world last : Config) → HasValues g s world → IsFramed g.world last → s.values ≡ values_of last → world ≡ last
 same_world g s world last has framed values =
     let area : world.area ≡ last.area = ap (λ (c : Config). c.area) has.rest ∙ sym (ap (λ (c : Config). c.area) framed.rest) in
-    same_config world last area (ap (λ (c : Config). c.maxes) has.rest ∙ sym (ap (λ (c : Config). c.maxes) framed.rest))
+    same_config world last area (ap (λ (c : Config). c.walls) has.rest ∙ sym (ap (λ (c : Config). c.walls) framed.rest)) (ap (λ (c : Config). c.maxes) has.rest ∙ sym (ap (λ (c : Config). c.maxes) framed.rest))
     (same_bots world last area (has.size ∙ sym framed.size) (λ i. has.ids i ∙ sym (framed.ids i)) (has.values ∙ values))
 
 pub state_has_one_report : StateHasOneReport
@@ -57,7 +57,8 @@ state_has_one_report g s one two first second =
     let area : one.world.area ≡ two.world.area = ap (λ (c : Config). c.area) first.world.rest ∙ sym (ap (λ (c : Config). c.area) second.world.rest) in
     let maxes : one.world.maxes ≡ two.world.maxes = ap (λ (c : Config). c.maxes) first.world.rest ∙ sym (ap (λ (c : Config). c.maxes) second.world.rest) in
     let bots = same_bots one.world two.world area (first.world.size ∙ sym second.world.size) (λ i. first.world.ids i ∙ sym (second.world.ids i)) (first.world.values ∙ sym second.world.values) in
-    (same_config one.world two.world area maxes bots, first.first ∙ sym second.first, first.entries ∙ sym second.entries, first.marks ∙ sym second.marks)
+    let walls : one.world.walls ≡ two.world.walls = ap (λ (c : Config). c.walls) first.world.rest ∙ sym (ap (λ (c : Config). c.walls) second.world.rest) in
+    (same_config one.world two.world area walls maxes bots, first.first ∙ sym second.first, first.entries ∙ sym second.entries, first.marks ∙ sym second.marks)
 
 -- a caller has at most as many marks as turns
 at_most : (turns t : ℕ) (p : Phase) → IsTurn turns p t → marked p t ≤ turns

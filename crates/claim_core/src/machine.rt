@@ -7,7 +7,7 @@ ghost use Rattle.std.specs.List.{All};
 ghost use Rattle.claim_core.specs.Tags.{tag_caller};
 ghost use Rattle.claim_core.specs.Cells.{held_by};
 ghost use Rattle.claim_core.specs.Machine.{phase_of_verdict, busy_mark, mark_of_look, next};
-ghost use Rattle.amoebot_state.specs.Configs.{bot_at, frame_of};
+ghost use Rattle.amoebot_state.specs.Configs.{bot_at};
 ghost use Rattle.claim_core.specs.Good.{Good};
 ghost use Rattle.claim_core.specs.Reached.{HaveEnded, IsReachedState, IsReportOf, Reached};
 ghost use Rattle.claim_core.specs.Soundness.{IsSetup, Sound};
@@ -32,7 +32,6 @@ use arrayvec::ArrayVec;
 use std::alloc::Global;
 use std::marker::Model;
 use std::mem::replace;
-use tri_lattice::Area;
 
 /// A caller: its turn, what it does next, what is known of its amoebot's zone while it claims, and the cells that it holds, in the
 /// order in which they were won, each with its value as it was recorded.
@@ -74,25 +73,18 @@ impl CoreCaller {
     }
 
     /// Goes on after a cell was won, of which all that is held is known: with the last one of the zone comes the decision.
-    fn go_on<D: Decider>(
-        &mut self,
-        decider: &D,
-        found: &mut Option<Found>,
-        area: Area,
-        maxes: [u8; 8],
-        bot: u16,
-    )
+    fn go_on<D: Decider>(&mut self, decider: &D, found: &mut Option<Found>, world: &World, bot: u16)
         requires claims { self.old.phase ≡ phase.Claim }
-        requires knows { self.old.zone ≡ reading area bot self.old.held.items }
-        requires whole { next_cell area bot self.old.held.items ≡ None
-            → IsShown (shown_with (frame_of area maxes) bot self.old.held.items) }
+        requires knows { self.old.zone ≡ reading world.now.area bot self.old.held.items }
+        requires whole { next_cell world.now.area bot self.old.held.items ≡ None
+            → IsShown (shown_with world.now bot self.old.held.items) }
         ensures { self.new ≡ record self.old {
-          phase = phase_after (D.verdict decider.now) (shown_with (frame_of area maxes) bot self.old.held.items)
-              (next_cell area bot self.old.held.items);
+          phase = phase_after (D.verdict decider.now) (shown_with world.now bot self.old.held.items)
+              (next_cell world.now.area bot self.old.held.items);
         } }
     {
         if self.zone.next(self.held.len()).is_none() {
-            seal(found, area, maxes, bot, &self.zone, self.held.as_slice());
+            seal(found, world, bot, &self.zone, self.held.as_slice());
             self.phase = decided(decider, found);
         }
     }
@@ -304,7 +296,7 @@ impl<'d, D: Decider> Core<'d, D> {
         let value = value_of(&self.world, name);
         seat.zone.push(&area, &value);
         seat.held.push((name, value));
-        seat.go_on(self.decider, &mut self.found, area, self.world.maxes(), bot);
+        seat.go_on(self.decider, &mut self.found, &self.world, bot);
     }
 
     /// Refusing, Looking and the end of Committing: the turn gets its mark.
@@ -506,19 +498,18 @@ fn next_known(zone: &mut KnownZone, bot: u16, held: &[(CellName, Cell)]) -> Opti
 /// Keeps what was found in the cells of a whole zone, of which all is known.
 fn seal(
     found: &mut Option<Found>,
-    area: Area,
-    maxes: [u8; 8],
+    world: &World,
     bot: u16,
     zone: &KnownZone,
     cells: &[(CellName, Cell)],
 )
-    requires known { zone.now ≡ reading area bot cells.now }
-    requires shown { IsShown (shown_with (frame_of area maxes) bot cells.now) }
-    ensures { found.new ≡ Some (shown_with (frame_of area maxes) bot cells.now) }
+    requires known { zone.now ≡ reading world.now.area bot cells.now }
+    requires shown { IsShown (shown_with world.now bot cells.now) }
+    ensures { found.new ≡ Some (shown_with world.now bot cells.now) }
 {
     match found {
-        Some(found) => found.renew(area, maxes, bot, zone, cells),
-        None => *found = Some(Found::make(area, maxes, bot, cells)),
+        Some(found) => world.renew_found(found, bot, zone, cells),
+        None => *found = Some(world.found_with(bot, cells)),
     }
 }
 

@@ -16,9 +16,6 @@ use Rattle.claim_core.specs.Cores.{phase_after, state_of}
 use Rattle.claim_core.proofs.MachineLemmas.{closes, kept, known as is_listed, looked, zones_past, zones_with, refusing_past, claim_next, few_held, claim_number, claim_cell, claim_refused, claim_push, claim_known, claim_reads, claim_shown, claim_won, seat_in, inside_in, phase_in}
 use Rattle.claim_core.proofs.machine.Core.claim.Goals as goal
 
-abbrev the_shown : Extent → List ℕ → ℕ → Pairs → Shown
-the_shown a m b cells = shown_with (frame_of a m) b cells
-
 pub index_mut-seat-requires : goal.index_mut-seat-requires
 index_mut-seat-requires g c = omega (arith, inside_in c.self.invariant c.self.view_is refl c.args.caller phase.Claim c.requires, c.from.ensures, c.self.inside.seats.ok.0)
 
@@ -126,7 +123,7 @@ go_on-requires-clause-knows g c =
     let held : c.push-2.new.self.items ≡ c.index_mut-seat.result.now.held.items ++ (c.in-Some.name, held_by c.self.inside.world c.in-Some.name) ∷ [] = c.push-2.ensures.items ∙ ap (λ x. c.index_mut-seat.result.now.held.items ++ (c.in-Some.name, x) ∷ []) c.value_of-value.ensures in
     let knows = claim_known c.self.invariant seat ph c.in-Some.name nx c.in-Some-cell_number.number at_n c.index-found.result.now c.index-found.ensures c.if-found-ne0.false c.next_known-next.new.zone c.area-area.result c.value_of-value.result c.area-area.ensures c.value_of-value.ensures known c.push.new.self c.push.ensures in
     let reads = claim_reads c.self.invariant seat ph c.in-Some.name nx c.in-Some-cell_number.number at_n c.index-found.result.now c.index-found.ensures c.if-found-ne0.false c.push.new.self knows in
-    λ ks below. reads ∙ (λ j. reading (sym c.area-area.ensures j) (sym c.bot-bot.ensures j) (sym held j))
+    λ ks below. reads ∙ (λ j. reading c.self.inside.world.area (sym c.bot-bot.ensures j) (sym held j))
 
 pub go_on-requires-clause-whole : goal.go_on-requires-clause-whole
 go_on-requires-clause-whole g c =
@@ -140,10 +137,10 @@ go_on-requires-clause-whole g c =
     let reads = claim_reads c.self.invariant seat ph c.in-Some.name nx c.in-Some-cell_number.number at_n c.index-found.result.now c.index-found.ensures c.if-found-ne0.false c.push.new.self knows in
     let own = bot_of_turn c.self.inside.lists c.args.caller c.index_mut-seat.result.now.turn in
     let more = c.index_mut-seat.result.now.held.items ++ (c.in-Some.name, held_by c.self.inside.world c.in-Some.name) ∷ [] in
-    let is_next : next_cell c.self.inside.world.area own more ≡ next_cell c.area-area.result c.bot-bot.result c.push-2.new.self.items = λ j. next_cell (sym c.area-area.ensures j) (sym c.bot-bot.ensures j) (sym held j) in
+    let is_next : next_cell c.self.inside.world.area own more ≡ next_cell c.self.inside.world.area c.bot-bot.result c.push-2.new.self.items = λ j. next_cell c.self.inside.world.area (sym c.bot-bot.ensures j) (sym held j) in
     λ ks below none.
     let shown = claim_shown c.self.invariant seat ph c.in-Some.name nx c.in-Some-cell_number.number at_n c.index-found.result.now c.index-found.ensures c.if-found-ne0.false (is_next ∙ none) in
-    subst IsShown (λ j. the_shown (sym c.area-area.ensures j) (sym c.maxes.ensures j) (sym c.bot-bot.ensures j) (sym held j)) shown
+    subst IsShown (λ j. shown_with c.self.inside.world (sym c.bot-bot.ensures j) (sym held j)) shown
 
 pub invariant_of-self-2 : goal.invariant_of-self-2
 invariant_of-self-2 g c =
@@ -157,8 +154,8 @@ invariant_of-self-2 g c =
     let reads = claim_reads c.self.invariant seat ph c.in-Some.name nx c.in-Some-cell_number.number at_n c.index-found.result.now c.index-found.ensures c.if-found-ne0.false c.push.new.self knows in
     let own = bot_of_turn c.self.inside.lists c.args.caller c.index_mut-seat.result.now.turn in
     let new = c.go_on.new.self in
-    let ph2 : new.phase ≡ phase_after (g.D.Decider.verdict c.self.inside.decider.now) (the_shown c.self.inside.world.area c.self.inside.world.maxes own (c.index_mut-seat.result.now.held.items ++ (c.in-Some.name, held_by c.self.inside.world c.in-Some.name) ∷ [])) (next_cell c.self.inside.world.area own (c.index_mut-seat.result.now.held.items ++ (c.in-Some.name, held_by c.self.inside.world c.in-Some.name) ∷ [])) =
-    ap (λ (s : CoreCaller). s.phase) c.go_on.ensures ∙ (λ j. phase_after (g.D.Decider.verdict c.self.inside.decider.now) (the_shown (c.area-area.ensures j) (c.maxes.ensures j) (c.bot-bot.ensures j) (held j)) (next_cell (c.area-area.ensures j) (c.bot-bot.ensures j) (held j))) in
+    let ph2 : new.phase ≡ phase_after (g.D.Decider.verdict c.self.inside.decider.now) (shown_with c.self.inside.world own (c.index_mut-seat.result.now.held.items ++ (c.in-Some.name, held_by c.self.inside.world c.in-Some.name) ∷ [])) (next_cell c.self.inside.world.area own (c.index_mut-seat.result.now.held.items ++ (c.in-Some.name, held_by c.self.inside.world c.in-Some.name) ∷ [])) =
+    ap (λ (s : CoreCaller). s.phase) c.go_on.ensures ∙ (λ j. phase_after (g.D.Decider.verdict c.self.inside.decider.now) (shown_with c.self.inside.world (c.bot-bot.ensures j) (held j)) (next_cell c.self.inside.world.area (c.bot-bot.ensures j) (held j))) in
     let kept_held = ap (λ (s : CoreCaller). s.held.items) c.go_on.ensures ∙ held in
     let won = claim_won c.self.invariant seat ph c.in-Some.name nx c.in-Some-cell_number.number at_n c.index-found.result.now c.index-found.ensures c.if-found-ne0.false new (ap (λ (s : CoreCaller). s.turn) c.go_on.ensures) kept_held ph2 in
     let tagged : c.tag.result ≡ tag c.args.caller c.index_mut-seat.result.now.turn own = c.tag.ensures ∙ ap (tag c.args.caller c.index_mut-seat.result.now.turn) c.bot-bot.ensures in
@@ -178,8 +175,8 @@ returns g c =
     let reads = claim_reads c.self.invariant seat ph c.in-Some.name nx c.in-Some-cell_number.number at_n c.index-found.result.now c.index-found.ensures c.if-found-ne0.false c.push.new.self knows in
     let own = bot_of_turn c.self.inside.lists c.args.caller c.index_mut-seat.result.now.turn in
     let new = c.go_on.new.self in
-    let ph2 : new.phase ≡ phase_after (g.D.Decider.verdict c.self.inside.decider.now) (the_shown c.self.inside.world.area c.self.inside.world.maxes own (c.index_mut-seat.result.now.held.items ++ (c.in-Some.name, held_by c.self.inside.world c.in-Some.name) ∷ [])) (next_cell c.self.inside.world.area own (c.index_mut-seat.result.now.held.items ++ (c.in-Some.name, held_by c.self.inside.world c.in-Some.name) ∷ [])) =
-    ap (λ (s : CoreCaller). s.phase) c.go_on.ensures ∙ (λ j. phase_after (g.D.Decider.verdict c.self.inside.decider.now) (the_shown (c.area-area.ensures j) (c.maxes.ensures j) (c.bot-bot.ensures j) (held j)) (next_cell (c.area-area.ensures j) (c.bot-bot.ensures j) (held j))) in
+    let ph2 : new.phase ≡ phase_after (g.D.Decider.verdict c.self.inside.decider.now) (shown_with c.self.inside.world own (c.index_mut-seat.result.now.held.items ++ (c.in-Some.name, held_by c.self.inside.world c.in-Some.name) ∷ [])) (next_cell c.self.inside.world.area own (c.index_mut-seat.result.now.held.items ++ (c.in-Some.name, held_by c.self.inside.world c.in-Some.name) ∷ [])) =
+    ap (λ (s : CoreCaller). s.phase) c.go_on.ensures ∙ (λ j. phase_after (g.D.Decider.verdict c.self.inside.decider.now) (shown_with c.self.inside.world (c.bot-bot.ensures j) (held j)) (next_cell c.self.inside.world.area (c.bot-bot.ensures j) (held j))) in
     let kept_held = ap (λ (s : CoreCaller). s.held.items) c.go_on.ensures ∙ held in
     let won = claim_won c.self.invariant seat ph c.in-Some.name nx c.in-Some-cell_number.number at_n c.index-found.result.now c.index-found.ensures c.if-found-ne0.false new (ap (λ (s : CoreCaller). s.turn) c.go_on.ensures) kept_held ph2 in
     let tagged : c.tag.result ≡ tag c.args.caller c.index_mut-seat.result.now.turn own = c.tag.ensures ∙ ap (tag c.args.caller c.index_mut-seat.result.now.turn) c.bot-bot.ensures in
