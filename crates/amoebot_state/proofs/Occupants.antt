@@ -10,7 +10,7 @@ use Rattle.std.proofs.lemmas.Option.{none-some}
 use Rattle.tri_lattice.specs.declared.node.Node.{Node}
 use Rattle.tri_lattice.specs.Extent.{Extent, IsArea, index_of, is_in}
 use Rattle.amoebot_state.specs.declared.bot.Bot.{Bot}
-use Rattle.amoebot_state.specs.Configs.{Config, IsValid, bot_at, occupant, covers}
+use Rattle.amoebot_state.specs.Configs.{Config, IsValid, bot_at, is_wall, occupant, covers}
 use Rattle.amoebot_state.specs.Refusals.{IsBotInRange}
 use Rattle.tri_lattice.proofs.Boxes.{near_in}
 use Rattle.amoebot_state.proofs.Options.{there_is, not_none}
@@ -124,3 +124,17 @@ plain_in a area b head tail rot eight = record { head = near_in a b.head area he
 
 pub plain_bot : (c : Config) → IsValid c → (i : ℕ) (b : Bot) → bot_at c i ≡ Some b → IsBotInRange b
 plain_bot c valid i b at = let fits = valid.each i b at in plain_in c.area valid.area b fits.head fits.tail fits.rot fits.eight
+
+-- nor is such a node a wall
+pub covered_open : (c : Config) → IsValid c → (i : ℕ) (v : Node) → covers (bot_at c i) v ≡ true → is_wall c v ≡ false
+covered_open c valid i v e =
+    let found = covered _ v e in
+    let fits = valid.each i found.0 found.1 in
+    elim (own_cases found.0 v found.2) [
+      | inl h ↦ ap (is_wall c) (sym h) ∙ fits.head_open
+      | inr h ↦ ap (is_wall c) (sym h) ∙ fits.tail_open
+    ]
+
+-- so a node with an occupant is none
+pub occupied_open : (c : Config) → IsValid c → (v : Node) (i : ℕ) → occupant c v ≡ Some i → is_wall c v ≡ false
+occupied_open c valid v i e = covered_open c valid i v (occupant_covers c v i e)
