@@ -5,7 +5,7 @@ use Rattle.std.specs.Result.{result_err}
 use Rattle.std.specs.declared.result.Result.TheVariants.{Ok}
 use Rattle.std.proofs.lemmas.Bool.{or_left, or_right}
 use Rattle.tri_lattice.specs.declared.node.Node.{Node}
-use Rattle.tri_lattice.specs.Extent.{is_in}
+use Rattle.tri_lattice.specs.Extent.{Extent, is_in}
 use Rattle.tri_lattice.specs.Lattice.{step, is_adjacent}
 use Rattle.tri_lattice.proofs.Steps.{Adjacent-is_adjacent}
 use Rattle.ring_guard.specs.Rings.{is_one_arc, ring_in}
@@ -16,7 +16,7 @@ use Rattle.amoebot_state.specs.declared.bot.Port.{Port}
 use Rattle.amoebot_state.specs.declared.verdict.Moved.{Moved}
 use Rattle.amoebot_state.specs.declared.verdict.Moved.TheVariants as moved
 use Rattle.amoebot_state.specs.Ports.{is_contracted, is_port, behind, end_node, is_beside}
-use Rattle.amoebot_state.specs.Configs.{Config, IsValid, bot_at, bot_of, blank, occupant}
+use Rattle.amoebot_state.specs.Configs.{Config, IsValid, bot_at, bot_of, blank, is_wall, occupant}
 use Rattle.amoebot_state.specs.Occupied.{occupied}
 use Rattle.amoebot_state.proofs.Directions.{port_leads_beside}
 use Rattle.model_ops.specs.Operations.{connected, is_free, is_free_node, owner, read, write, peer, seen_over, is_value, expand, contract, push, pull}
@@ -26,14 +26,16 @@ use Rattle.model_ops.specs.Laws.{AnswersAlike}
 use Rattle.model_ops.proofs.Told.{need_told, peer_told, ok_told}
 use Rattle.model_ops.proofs.Alike.{need_same, peer_same, then_same, need_alike, peer_alike, then_alike}
 
--- they have the same occupants of some nodes and the same amoebots of some ids: the amoebot's own id, the nodes beside it, and the
+-- they have the same area and maxima, the same walls and occupants of some nodes, and the same amoebots of some ids: the amoebot's own id, the nodes beside it, and the
 -- ids on such nodes are among these
 pub record Agrees (V : Node → Type 0) (B : ℕ → Type 0) (i : ℕ) (c d : Config) : Type 0 where
   pub valid : IsValid c
   pub valid_too : IsValid d
   pub there : bot_at c i ≡ Some (bot_of c i)
   pub there_too : bot_at d i ≡ Some (bot_of d i)
-  pub rest : d ≡ record c { bots = d.bots }
+  pub area : d.area ≡ c.area
+  pub maxes : d.maxes ≡ c.maxes
+  pub walls : (v : Node) → V v → is_wall d v ≡ is_wall c v
   pub spots : (v : Node) → V v → occupant d v ≡ occupant c v
   pub bots : (j : ℕ) → B j → bot_at d j ≡ bot_at c j
   pub own : B i
@@ -46,9 +48,6 @@ module _ (V : Node → Type 0) (B : ℕ → Type 0) (i : ℕ) (c d : Config) (ag
 
   pub same_own : bot_of d i ≡ bot_of c i
   same_own = same_bot i agree.own
-
-  same_maxes : d.maxes ≡ c.maxes
-  same_maxes = ap (λ (x : Config). x.maxes) agree.rest
 
   pub same_node : (p : Port) → behind (bot_of d i) p ≡ behind (bot_of c i) p
   same_node p = ap (λ b. behind b p) same_own
@@ -63,7 +62,10 @@ module _ (V : Node → Type 0) (B : ℕ → Type 0) (i : ℕ) (c d : Config) (ag
   held_behind p n by = agree.held (behind (bot_of c i) p) n (near_port p) by
 
   same_inside : (p : Port) → is_in d.area (behind (bot_of d i) p) ≡ is_in c.area (behind (bot_of c i) p)
-  same_inside p = ap (λ (x : Config). is_in x.area (behind (bot_of d i) p)) agree.rest ∙ ap (is_in c.area) (same_node p)
+  same_inside p = ap (λ (a : Extent). is_in a (behind (bot_of d i) p)) agree.area ∙ ap (is_in c.area) (same_node p)
+
+  same_wall : (p : Port) → is_wall d (behind (bot_of d i) p) ≡ is_wall c (behind (bot_of c i) p)
+  same_wall p = ap (is_wall d) (same_node p) ∙ agree.walls (behind (bot_of c i) p) (near_port p)
 
   same_port : (p : Port) → is_port (bot_of d i) p ≡ is_port (bot_of c i) p
   same_port p = ap (λ b. is_port b p) same_own
@@ -76,7 +78,7 @@ module _ (V : Node → Type 0) (B : ℕ → Type 0) (i : ℕ) (c d : Config) (ag
   connected_alike p = need_same _ _ _ (same_port p) (λ _. ap (λ o. Ok (is_some o)) (same_behind p))
 
   free_alike : (p : Port) → is_free d i p ≡ is_free c i p
-  free_alike p = need_same _ _ _ (same_port p) (λ _. (let both : is_free_node d (behind (bot_of d i) p) ≡ is_free_node c (behind (bot_of c i) p) = λ t. same_inside p t && is_none (same_behind p t) in ap Ok both))
+  free_alike p = need_same _ _ _ (same_port p) (λ _. (let both : is_free_node d (behind (bot_of d i) p) ≡ is_free_node c (behind (bot_of c i) p) = λ t. same_inside p t && not (same_wall p t) && is_none (same_behind p t) in ap Ok both))
 
   pub owner_alike : (p : Option Port) → owner d i p ≡ owner c i p
   owner_alike None = refl
@@ -99,14 +101,15 @@ module _ (V : Node → Type 0) (B : ℕ → Type 0) (i : ℕ) (c d : Config) (ag
   sight_alike = λ t. record { own = same_own t; connects = λ p. connected_alike p t; frees = λ p. free_alike p t; reads = λ p x. read_alike p x t; peers = λ p. peer_is_alike p t }
 
   write_alike : (p : Option Port) (x : ℕ) (s : ℤ) → result_err (write d i p x s) ≡ result_err (write c i p x s)
-  write_alike p x s = then_alike _ _ (owner_alike p) (λ n e. need_alike _ _ _ (ap (λ maxes. is_value maxes x s) same_maxes) (λ _. refl))
+  write_alike p x s = then_alike _ _ (owner_alike p) (λ n e. need_alike _ _ _ (ap (λ maxes. is_value maxes x s) agree.maxes) (λ _. refl))
 
   expand_alike : (p : Port) → result_err (expand d i p) ≡ result_err (expand c i p)
   expand_alike p =
       need_alike _ _ _ same_contracted (λ _.
       need_alike _ _ _ (same_port p) (λ _.
       need_alike _ _ _ (same_inside p) (λ _.
-      need_alike _ _ _ (ap is_none (same_behind p)) (λ _. refl))))
+      need_alike _ _ _ (ap not (same_wall p)) (λ _.
+      need_alike _ _ _ (ap is_none (same_behind p)) (λ _. refl)))))
 
   -- the ring of an own node
   near_ring : (e : End) (k : ℕ) → k < 6 → V (step (end_node (bot_of c i) e) k)

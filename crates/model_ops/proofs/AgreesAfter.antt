@@ -11,7 +11,7 @@ use Rattle.amoebot_state.specs.declared.bot.Port.{Port}
 use Rattle.amoebot_state.specs.declared.verdict.Moved.{Moved}
 use Rattle.amoebot_state.specs.declared.verdict.Moved.TheVariants as moved
 use Rattle.amoebot_state.specs.Ports.{is_own, behind, end_node, is_beside}
-use Rattle.amoebot_state.specs.Configs.{Config, bot_at, bot_of, blank, occupant, set_bot}
+use Rattle.amoebot_state.specs.Configs.{Config, bot_at, bot_of, blank, is_wall, occupant, set_bot}
 use Rattle.model_ops.specs.Operations.{write, with_value, with_head, contracted_in, other_node, grow, shrink}
 use Rattle.model_ops.specs.Reaches.{Writing, write_all, move}
 use Rattle.model_ops.proofs.Told.{then_told, ok_told}
@@ -128,7 +128,9 @@ module _ (V : Node → Type 0) (B : ℕ → Type 0) (i : ℕ) (c d : Config) (ag
         valid_too = second.valid;
         there = first.there;
         there_too = second.there;
-        rest = second.rest ∙ ap (λ (y : Config). let z : Config = record y { bots = d'.bots } in z) agree.rest ∙ sym (ap (λ (y : Config). let z : Config = record y { bots = d'.bots } in z) first.rest);
+        area = ap (λ (y : Config). y.area) second.rest ∙ agree.area ∙ sym (ap (λ (y : Config). y.area) first.rest);
+        maxes = ap (λ (y : Config). y.maxes) second.rest ∙ agree.maxes ∙ sym (ap (λ (y : Config). y.maxes) first.rest);
+        walls = λ v near. ap (λ (y : Config). is_wall y v) second.rest ∙ agree.walls v near ∙ sym (ap (λ (y : Config). is_wall y v) first.rest);
         spots = λ v near. second.spots v ∙ agree.spots v near ∙ sym (first.spots v);
         bots = λ j b. ap (λ y. bot_at y j) is_d ∙ set_alike n k x bot one.owns.there there j b ∙ sym (ap (λ y. bot_at y j) one.is);
         own = agree.own;

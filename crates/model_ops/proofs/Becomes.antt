@@ -58,6 +58,8 @@ module _ (c : Config) (i : ℕ) (a b : Bot) (may : MayBecome c i a b) where
   become_valid = record {
     area = may.valid.area;
     eight = may.valid.eight;
+    rising = may.valid.rising;
+    walled = may.valid.walled;
     each = λ j d e. elim (cases_eq j i) [
       | inl same ↦ let P : Bot → Type 0 = IsBot (frame c) in subst P (same_Some _ _ (sym (at_own c i a b may.there) ∙ ap (bot_at (set_bot c i b)) (sym same) ∙ e)) may.fits
       | inr ne ↦ may.valid.each j d (sym (at_other c i b j ne) ∙ e)

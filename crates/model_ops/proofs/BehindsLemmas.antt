@@ -1,6 +1,6 @@
 -- What is behind a pair answers what is asked of it, and writes do not change it.
 use Rattle.std.proofs.Common.{◌≡◌, ◌<◌, ◌≤◌, ℕ, zero, suc, List, [], ◌∷◌, map, Bool, true, false, ap, sym, ◌∙◌, refl, inl, inr, Option, Some, None, Ok, Err, Result, get_or, set, cond}
-use Rattle.std.specs.Prelude.{IfOk, IsSome, slice_get, unwrap_or, is_none, is_some, ◌&&◌, if◌then◌else◌}
+use Rattle.std.specs.Prelude.{IfOk, IsSome, slice_get, unwrap_or, is_none, is_some, ◌&&◌, not, if◌then◌else◌}
 use Rattle.std.specs.List.{position}
 use Rattle.std.specs.Option.{option_map}
 use Rattle.std.proofs.lemmas.Bool.{cases_lt, cases_eq}
@@ -12,7 +12,7 @@ use Rattle.amoebot_state.specs.declared.bot.Port.{Port}
 use Rattle.amoebot_state.specs.declared.verdict.Failure.{Failure}
 use Rattle.amoebot_state.specs.declared.verdict.Failure.TheVariants as failure
 use Rattle.amoebot_state.specs.Ports.{all_ports, behind, is_port, pair_place}
-use Rattle.amoebot_state.specs.Configs.{Config, bot_at, bot_of, blank, covers, occupant, set_bot}
+use Rattle.amoebot_state.specs.Configs.{Config, bot_at, bot_of, blank, covers, is_wall, occupant, set_bot}
 use Rattle.amoebot_state.specs.declared.found.Behind.{Behind}
 use Rattle.amoebot_state.specs.declared.found.Behind.TheVariants as there
 use Rattle.amoebot_state.specs.Around.{on_node, behind_pair, all_behind}
@@ -26,33 +26,37 @@ use Rattle.model_ops.proofs.Told.{bot_is, occupant_told}
 use Rattle.model_ops.specs.Operations.{need, with_peer, connected, is_free, owner}
 
 -- by the three facts of a pair
-connected_by : (holds inside : Bool) (o : Option ℕ) → connected_there (if holds then on_node inside o else there.NoPort) ≡ need holds failure.NoPort (Ok (is_some o))
-connected_by false inside o = refl
-connected_by true inside (Some n) = refl
-connected_by true true None = refl
-connected_by true false None = refl
+connected_by : (holds inside wall : Bool) (o : Option ℕ) → connected_there (if holds then on_node inside wall o else there.NoPort) ≡ need holds failure.NoPort (Ok (is_some o))
+connected_by false inside wall o = refl
+connected_by true inside wall (Some n) = refl
+connected_by true true true None = refl
+connected_by true true false None = refl
+connected_by true false wall None = refl
 
-free_by : (holds inside : Bool) (o : Option ℕ) → free_there (if holds then on_node inside o else there.NoPort) ≡ need holds failure.NoPort (Ok (inside && is_none o))
-free_by false inside o = refl
-free_by true true (Some n) = refl
-free_by true false (Some n) = refl
-free_by true true None = refl
-free_by true false None = refl
+free_by : (holds inside wall : Bool) (o : Option ℕ) → free_there (if holds then on_node inside wall o else there.NoPort) ≡ need holds failure.NoPort (Ok (inside && not wall && is_none o))
+free_by false inside wall o = refl
+free_by true true true (Some n) = refl
+free_by true true false (Some n) = refl
+free_by true false wall (Some n) = refl
+free_by true true true None = refl
+free_by true true false None = refl
+free_by true false wall None = refl
 
-owner_by : (holds inside : Bool) (o : Option ℕ) → owner_there (if holds then on_node inside o else there.NoPort) ≡ need holds failure.NoPort (with_peer o Ok)
-owner_by false inside o = refl
-owner_by true inside (Some n) = refl
-owner_by true true None = refl
-owner_by true false None = refl
+owner_by : (holds inside wall : Bool) (o : Option ℕ) → owner_there (if holds then on_node inside wall o else there.NoPort) ≡ need holds failure.NoPort (with_peer o Ok)
+owner_by false inside wall o = refl
+owner_by true inside wall (Some n) = refl
+owner_by true true true None = refl
+owner_by true true false None = refl
+owner_by true false wall None = refl
 
 pub connected_pair : (c : Config) (i : ℕ) (p : Port) → connected_there (behind_pair c i p) ≡ connected c i p
-connected_pair c i p = let b = bot_of c i in connected_by (is_port b p) (is_in c.area (behind b p)) (occupant c (behind b p))
+connected_pair c i p = let b = bot_of c i in connected_by (is_port b p) (is_in c.area (behind b p)) (is_wall c (behind b p)) (occupant c (behind b p))
 
 pub free_pair : (c : Config) (i : ℕ) (p : Port) → free_there (behind_pair c i p) ≡ is_free c i p
-free_pair c i p = let b = bot_of c i in free_by (is_port b p) (is_in c.area (behind b p)) (occupant c (behind b p))
+free_pair c i p = let b = bot_of c i in free_by (is_port b p) (is_in c.area (behind b p)) (is_wall c (behind b p)) (occupant c (behind b p))
 
 pub owner_pair : (c : Config) (i : ℕ) (p : Port) → owner_there (behind_pair c i p) ≡ owner c i (Some p)
-owner_pair c i p = let b = bot_of c i in owner_by (is_port b p) (is_in c.area (behind b p)) (occupant c (behind b p))
+owner_pair c i p = let b = bot_of c i in owner_by (is_port b p) (is_in c.area (behind b p)) (is_wall c (behind b p)) (occupant c (behind b p))
 
 -- the place of a pair has what is behind it
 pub pair_at : (c : Config) (i : ℕ) (p : Port) → p.dir < 6 → slice_get (all_behind c i) (pair_place p) ≡ Some (behind_pair c i p)
@@ -88,11 +92,11 @@ module _ (c : Config) (n : ℕ) (b : Bot) (m : List ℕ) (at : bot_at c n ≡ So
   spots_stay v = position_set (λ o. covers o v) c.bots n None (let b' : Bot = record b { mem = m } in Some b') (sym (ap (λ o. covers o v) at))
 
   pair_by : (a a' : Bot) (p : Port) → is_port a' p ≡ is_port a p → behind a' p ≡ behind a p
-      → (if is_port a' p then on_node (is_in c.area (behind a' p)) (occupant (with_memory c n b m) (behind a' p)) else there.NoPort) ≡ (if is_port a p then on_node (is_in c.area (behind a p)) (occupant c (behind a p)) else there.NoPort)
+      → (if is_port a' p then on_node (is_in c.area (behind a' p)) (is_wall c (behind a' p)) (occupant (with_memory c n b m) (behind a' p)) else there.NoPort) ≡ (if is_port a p then on_node (is_in c.area (behind a p)) (is_wall c (behind a p)) (occupant c (behind a p)) else there.NoPort)
   pair_by a a' p holds node =
-      ap (λ (t : Bool). if t then on_node (is_in c.area (behind a' p)) (occupant (with_memory c n b m) (behind a' p)) else there.NoPort) holds
-      ∙ ap (λ (v : Node). if is_port a p then on_node (is_in c.area v) (occupant (with_memory c n b m) v) else there.NoPort) node
-      ∙ ap (λ (o : Option ℕ). if is_port a p then on_node (is_in c.area (behind a p)) o else there.NoPort) (spots_stay (behind a p))
+      ap (λ (t : Bool). if t then on_node (is_in c.area (behind a' p)) (is_wall c (behind a' p)) (occupant (with_memory c n b m) (behind a' p)) else there.NoPort) holds
+      ∙ ap (λ (v : Node). if is_port a p then on_node (is_in c.area v) (is_wall c v) (occupant (with_memory c n b m) v) else there.NoPort) node
+      ∙ ap (λ (o : Option ℕ). if is_port a p then on_node (is_in c.area (behind a p)) (is_wall c (behind a p)) o else there.NoPort) (spots_stay (behind a p))
 
   pair_stays : (i : ℕ) (p : Port) → behind_pair (with_memory c n b m) i p ≡ behind_pair c i p
   pair_stays i p = elim (cases_eq i n) [

@@ -11,9 +11,9 @@ use Rattle.amoebot_state.specs.declared.bot.Bot.{Bot}
 use Rattle.amoebot_state.specs.declared.bot.End.{End}
 use Rattle.amoebot_state.specs.declared.bot.Port.{Port}
 use Rattle.amoebot_state.specs.Ports.{is_own, is_contracted, is_port, behind, end_node}
-use Rattle.amoebot_state.specs.Configs.{Config, IsValid, bot_at, bot_of, blank, occupant, covers}
+use Rattle.amoebot_state.specs.Configs.{Config, IsValid, bot_at, bot_of, blank, is_wall, occupant, covers}
 use Rattle.amoebot_state.proofs.Owns.{own_cases}
-use Rattle.amoebot_state.proofs.Occupants.{occupant_covers, covered_in}
+use Rattle.amoebot_state.proofs.Occupants.{occupant_covers, covered_in, covered_open}
 use Rattle.amoebot_state.proofs.Options.{none_if}
 use Rattle.model_ops.specs.Operations.{grow, shrink, may_leave, expand, contract, push, pull}
 use Rattle.model_ops.proofs.Told.{need_told, peer_told, ok_told, occupant_told}
@@ -35,10 +35,11 @@ expand_told c i p d valid at e =
     let (contracted, e) = need_told (is_contracted b) _ _ d e in
     let (port, e) = need_told (is_port b p) _ _ d e in
     let (inside, e) = need_told (is_in c.area (behind b p)) _ _ d e in
+    let (no_wall, e) = need_told (not (is_wall c (behind b p))) _ _ d e in
     let (empty, e) = need_told (is_none (occupant c (behind b p))) _ _ d e in
     record {
       port = port;
-      may = record { valid = valid; there = at; contracted = contracted; next = head_next b p contracted; inside = inside; empty = none_if (occupant c (behind b p)) (not-true _ empty) };
+      may = record { valid = valid; there = at; contracted = contracted; next = head_next b p contracted; inside = inside; no_wall = not-true _ no_wall; empty = none_if (occupant c (behind b p)) (not-true _ empty) };
       is = sym (ok_told e);
     }
 
@@ -81,6 +82,7 @@ passes c from to v leaves ne at contracted next inside =
         contracted = ap is_contracted same ∙ contracted;
         next = subst (λ (b : Bot). Adjacent b.head v) (sym same) next;
         inside = inside;
+        no_wall = covered_open c leaves.valid from v (ap (λ o. covers o v) leaves.there ∙ leaves.own);
         empty = shrunk_empty c from v leaves;
       };
       apart = ne;

@@ -15,7 +15,8 @@ use Rattle.amoebot_state.specs.declared.cell.CellName.{CellName}
 use Rattle.amoebot_state.specs.declared.cell.CellName.TheVariants as name
 use Rattle.amoebot_state.specs.declared.cell.Cell.{Cell}
 use Rattle.amoebot_state.specs.declared.cell.Cell.TheVariants as cell
-use Rattle.amoebot_state.specs.Configs.{Config, IsValid, frame, frame_of, bot_at, occupant, value}
+use Rattle.amoebot_state.specs.Configs.{Config, IsValid, frame, walled_frame, bot_at, occupant, value}
+use Rattle.amoebot_state.specs.Walls.{node_numbers}
 use Rattle.amoebot_state.specs.Laws.{is_body}
 use Rattle.amoebot_state.specs.Refusals.{IsBotInRange}
 use Rattle.amoebot_state.specs.Pairs.{Pairs, cell_of, cell_value}
@@ -88,17 +89,17 @@ module _ (c : Config) (i : ℕ) (b : Bot) (valid : IsValid c) (at : bot_at c i �
   abbrev those : List Member
   those = gathered (shown c i)
 
-  found_is : config_found c those ≡ shown_alone (shown c i)
+  found_is : config_found (shown_alone (shown c i)) those ≡ shown_alone (shown c i)
   found_is =
-      let made : List (Option Bot) → Config = λ os. record c { bots = os } in
+      let made : List (Option Bot) → Config = λ os. record (shown_alone (shown c i)) { bots = os } in
       ap made (spread_found (shown c i).cells)
 
-  now_is : config_now c those ≡ shown_alone (shown c i)
+  now_is : config_now (shown_alone (shown c i)) those ≡ shown_alone (shown c i)
   now_is =
-      let made : List (Option Bot) → Config = λ os. record c { bots = os } in
+      let made : List (Option Bot) → Config = λ os. record (shown_alone (shown c i)) { bots = os } in
       ap made (spread_now (shown c i).cells)
 
-  shows_is : shown (config_found c those) i ≡ shown c i
+  shows_is : shown (config_found (shown_alone (shown c i)) those) i ≡ shown c i
   shows_is = ap (λ (d : Config). shown d i) found_is ∙ alone_shows c i b valid at
 
   plain : (m : Member) → Has m those → IsBotInRange m.now
@@ -117,7 +118,7 @@ module _ (c : Config) (i : ℕ) (b : Bot) (valid : IsValid c) (at : bot_at c i �
   first =
       subst (λ (o : Option Bot). IsFirst i (filter_map taken (filter_map (shown_cell c) (zone_at c.area (occupant c) i o)))) (sym at) own_first
 
-  pub site_gathered : IsSite (frame c) i those
+  pub site_gathered : IsSite (frame (shown_alone (shown c i))) i those
   site_gathered = record {
     apart = apart_taken (shown c i).cells (subst Once (sym (shown_lists_zone c i)) (zone_once c i));
     first = first;
@@ -133,25 +134,26 @@ module _ (c : Config) (i : ℕ) (b : Bot) (valid : IsValid c) (at : bot_at c i �
     whole = ap shown_alone shows_is ∙ sym found_is;
   }
 
-  pub copy_gathered : copy_of (frame c) i those ≡ opened (shown c i)
+  pub copy_gathered : copy_of (frame (shown_alone (shown c i))) i those ≡ opened (shown c i)
   copy_gathered =
       let made : Shown → Config → WorkingCopy = λ s d. record { found = s; reached = d } in
-      ap (λ s. made s (config_now c those)) shows_is ∙ ap (made (shown c i)) now_is
+      ap (λ s. made s (config_now (shown_alone (shown c i)) those)) shows_is ∙ ap (made (shown c i)) now_is
 
 -- what is gathered of what is shown
-pub shown_opens : (s : Shown) → IsShown s → IsSite (frame_of s.area s.maxes) s.bot (gathered s) × (copy_of (frame_of s.area s.maxes) s.bot (gathered s) ≡ opened s)
+pub shown_opens : (s : Shown) → IsShown s → IsSite (frame (shown_alone s)) s.bot (gathered s) × (copy_of (frame (shown_alone s)) s.bot (gathered s) ≡ opened s)
 shown_opens s is =
     let c = is.0 in
     let i = s.bot in
     let b = there_is (bot_at c i) is.2 in
-    let P : Shown → Type 0 = λ t. IsSite (frame_of t.area t.maxes) i (gathered t) × (copy_of (frame_of t.area t.maxes) i (gathered t) ≡ opened t) in
+    let P : Shown → Type 0 = λ t. IsSite (frame (shown_alone t)) i (gathered t) × (copy_of (frame (shown_alone t)) i (gathered t) ≡ opened t) in
     subst P is.3 (site_gathered c i b.0 is.1 b.1, copy_gathered c i b.0 is.1 b.1)
 
 -- the same of fields that are equal to these
-pub opens : (s : Shown) (a : Extent) (maxes : List ℕ) (i : ℕ) (ms : List Member) → IsShown s → a ≡ s.area → maxes ≡ s.maxes → i ≡ s.bot → ms ≡ gathered s → IsSite (frame_of a maxes) i ms × (copy_of (frame_of a maxes) i ms ≡ opened s)
-opens s a maxes i ms is ea em ei es =
+pub opens : (s : Shown) (a : Extent) (walls : List Node) (maxes : List ℕ) (i : ℕ) (ms : List Member) → IsShown s → a ≡ s.area → node_numbers s.area walls ≡ s.walls → maxes ≡ s.maxes → i ≡ s.bot → ms ≡ gathered s → IsSite (walled_frame a walls maxes) i ms × (copy_of (walled_frame a walls maxes) i ms ≡ opened s)
+opens s a walls maxes i ms is ea ew em ei es =
     let P : Config × ℕ × List Member → Type 0 = λ f. IsSite f.0 f.1 f.2 × (copy_of f.0 f.1 f.2 ≡ opened s) in
-    subst P (λ t. (frame_of (sym ea t) (sym em t), sym ei t, sym es t)) (shown_opens s is)
+    let same : walled_frame a walls maxes ≡ frame (shown_alone s) = λ t. record { area = ea t; walls = (ap (λ (x : Extent). node_numbers x walls) ea ∙ ew) t; maxes = em t; bots = [] } in
+    subst P (λ t. (sym same t, sym ei t, sym es t)) (shown_opens s is)
 
 -- one more cell tells of one more member, or of none
 taken_more : (cells : Pairs) (k : ℕ) (d : CellName × Cell) → k < length cells → filter_map taken (take (k + 1) cells) ≡ filter_map taken (take k cells) ++ filter_map taken (get_or cells k d ∷ [])

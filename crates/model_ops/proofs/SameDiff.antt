@@ -28,7 +28,7 @@ use Rattle.model_ops.proofs.KeepsRest.{performed, keeps_rest, own_there}
 use Rattle.model_ops.proofs.Cells.{has_or_not, unchanged}
 use Rattle.model_ops.proofs.RisingRanks.{is_ordered}
 use Rattle.model_ops.proofs.AgreesAfter.{SameOn, writes_agree, move_same, same_on}
-use Rattle.model_ops.proofs.ShownAlike.{Seen, IsShownBot, agrees_at_first, acts_alike, same_rest}
+use Rattle.model_ops.proofs.ShownAlike.{Seen, IsShownBot, agrees_at_first, acts_alike, same_area}
 
 -- the difference leads to what was reached, and lists what differs
 leads : (c d : Config) (i : ℕ) → IsValid c → KeepsRest c i d → IsPatched c (diff c d) d × All (λ (p : CellName × Cell). value c (cell_of p) ≢ Some (cell_value p)) (diff c d)
@@ -122,7 +122,7 @@ module _ (c c' d d' : Config) (i : ℕ) (valid : IsValid c) (valid_too : IsValid
 
   -- a node of d's zone is one of c's
   spot_too : (v : Node) → Has (name.Spot v) (zone d i) → Has (name.Spot v) (zone c i)
-  spot_too v listed = spot_in_zone c i (bot_of c i) v at (subst (λ (a : Extent). Has v (zone_nodes a (bot_of c i))) (ap (λ (x : Config). x.area) (same_rest c d i valid valid_too has same)) (spot_node d i (bot_of c i) v own_too listed))
+  spot_too v listed = spot_in_zone c i (bot_of c i) v at (subst (λ (a : Extent). Has v (zone_nodes a (bot_of c i))) (same_area c d i valid valid_too has same) (spot_node d i (bot_of c i) v own_too listed))
 
   changed_alike : (n : CellName) → changed d d' n ≡ changed c c' n
   changed_alike (name.Spot v) = elim (has_or_not (name.Spot v) (zone c i)) [
@@ -137,7 +137,7 @@ module _ (c c' d d' : Config) (i : ℕ) (valid : IsValid c) (valid_too : IsValid
   ] refl
 
   pub diff_alike : diff d d' ≡ diff c c'
-  diff_alike = same_diff c c' d d' (ap (λ (x : Config). x.area) (same_rest c d i valid valid_too has same)) keeps.size keeps_too.size changed_alike
+  diff_alike = same_diff c c' d d' (same_area c d i valid valid_too has same) keeps.size keeps_too.size changed_alike
 
 pub reached_leads_also : ReachedLeadsAlso
 reached_leads_also c d i acts to valid valid_too has same e =

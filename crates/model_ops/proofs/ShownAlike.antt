@@ -6,12 +6,12 @@ use Rattle.std.proofs.lemmas.Bool.{cases_Bool}
 use Rattle.tri_lattice.specs.declared.node.Node.{Node}
 use Rattle.tri_lattice.specs.Extent.{Extent, index_of, is_in}
 use Rattle.amoebot_state.specs.declared.bot.Bot.{Bot}
-use Rattle.amoebot_state.specs.Configs.{Config, IsValid, bot_at, bot_of, occupant}
+use Rattle.amoebot_state.specs.Configs.{Config, IsValid, bot_at, bot_of, is_wall, occupant}
 use Rattle.amoebot_state.specs.Zones.{Shown, zone_nodes, shown, shown_alone}
 use Rattle.amoebot_state.proofs.Members.{Has}
 use Rattle.amoebot_state.proofs.Directions.{beside_in_zone}
-use Rattle.amoebot_state.proofs.ShownAlone.{alone_own, alone_has, alone_only, alone_occupant}
-use Rattle.amoebot_state.proofs.Zones.{body_in_zone}
+use Rattle.amoebot_state.proofs.ShownAlone.{alone_own, alone_has, alone_only, alone_occupant, alone_wall, no_wall_outside}
+use Rattle.amoebot_state.proofs.Zones.{body_in_zone, spot_in_zone}
 use Rattle.amoebot_state.proofs.Occupants.{covered_in, occupant_covers, outside_empty}
 use Rattle.amoebot_state.proofs.Options.{there_is, none_if}
 use Rattle.model_ops.specs.Reaches.{Writing, Acts, write_all, move, perform}
@@ -42,11 +42,18 @@ module _ (c d : Config) (i : ℕ) (valid : IsValid c) (valid_too : IsValid d) (h
   own_too : bot_at d i ≡ Some (bot_of c i)
   own_too = shown_too i (bot_of c i) (alone_own c i (bot_of c i) at)
 
-  same_area : d.area ≡ c.area
+  pub same_area : d.area ≡ c.area
   same_area = ap (λ (s : Shown). s.area) same
 
-  pub same_rest : d ≡ record c { bots = d.bots }
-  same_rest = λ t. record { area = (same t).area; maxes = (same t).maxes; bots = d.bots }
+  -- a node that can be seen is a wall in both or in neither
+  same_walls : (v : Node) → Seen c i v → is_wall d v ≡ is_wall c v
+  same_walls v seen = elim (cases_Bool (is_in c.area v)) [
+    | inl t ↦
+        let listed = seen t in
+        let of_d = alone_wall d i v (spot_in_zone d i (bot_of c i) v own_too (subst (λ (a : Extent). Has v (zone_nodes a (bot_of c i))) (sym same_area) listed)) in
+        sym of_d ∙ ap (λ s. is_wall (shown_alone s) v) same ∙ alone_wall c i v (spot_in_zone c i (bot_of c i) v at listed)
+    | inr f ↦ no_wall_outside d v (ap (λ a. is_in a v) same_area ∙ f) ∙ sym (no_wall_outside c v f)
+  ]
 
   same_spots : (v : Node) → Seen c i v → occupant d v ≡ occupant c v
   same_spots v seen = elim (cases_Bool (is_in c.area v)) [
@@ -68,7 +75,9 @@ module _ (c d : Config) (i : ℕ) (valid : IsValid c) (valid_too : IsValid d) (h
     valid_too = valid_too;
     there = at;
     there_too = own_too ∙ ap Some (sym (bot_is d i (bot_of c i) own_too));
-    rest = same_rest;
+    area = same_area;
+    maxes = ap (λ (s : Shown). s.maxes) same;
+    walls = same_walls;
     spots = same_spots;
     bots = same_bots;
     own = ap is_some (alone_own c i (bot_of c i) at);

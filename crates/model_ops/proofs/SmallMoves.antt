@@ -10,7 +10,7 @@ use Rattle.tri_lattice.proofs.Nodes.{node_eq-true, node_eq_same, eq-node_eq, cas
 use Rattle.tri_lattice.proofs.Steps.{Adjacent-is_adjacent}
 use Rattle.amoebot_state.specs.declared.bot.Bot.{Bot}
 use Rattle.amoebot_state.specs.Ports.{is_own, is_contracted}
-use Rattle.amoebot_state.specs.Configs.{Config, IsValid, IsBot, frame, bot_at, bot_of, occupant, set_bot}
+use Rattle.amoebot_state.specs.Configs.{Config, IsValid, IsBot, frame, bot_at, bot_of, is_wall, occupant, set_bot}
 use Rattle.amoebot_state.specs.Occupied.{occupied}
 use Rattle.amoebot_state.proofs.Owns.{own_cases, own_head, own_tail, not_own}
 use Rattle.model_ops.specs.Operations.{with_head, contracted_in, other_node, grow, shrink}
@@ -64,6 +64,10 @@ other_inside : (c : Config) (b : Bot) (v : Node) → IsBot (frame c) b → Other
 other_inside c b v fits (keeps_tail h e) = ap (is_in c.area) e ∙ fits.tail
 other_inside c b v fits (keeps_head h ne e) = ap (is_in c.area) e ∙ fits.head
 
+other_open : (c : Config) (b : Bot) (v : Node) → IsBot (frame c) b → Others b v → is_wall c (other_node b v) ≡ false
+other_open c b v fits (keeps_tail h e) = ap (is_wall c) e ∙ fits.tail_open
+other_open c b v fits (keeps_head h ne e) = ap (is_wall c) e ∙ fits.head_open
+
 -- the nodes of the contracted one
 in_other : (b : Bot) (o u : Node) → is_own (contracted_in b o) u ≡ true → o ≡ u
 in_other b o u own = elim (own_cases (contracted_in b o) u own) [ inl h ↦ h | inr h ↦ h ]
@@ -91,10 +95,11 @@ module _ (c : Config) (i : ℕ) (v : Node) (may : MayShrink c i v) where
       let which = others b v may.own in
       let fits = may.valid.each i b may.there in
       let inside = other_inside c b v fits which in
+      let no_wall = other_open c b v fits which in
       record {
         valid = may.valid;
         there = may.there;
-        fits = record { head = inside; tail = inside; close = or_left _ _ (node_eq_same o); rot = fits.rot; values = fits.values; eight = fits.eight };
+        fits = record { head = inside; tail = inside; head_open = no_wall; tail_open = no_wall; close = or_left _ _ (node_eq_same o); rot = fits.rot; values = fits.values; eight = fits.eight };
         free = λ u own. inl (ap (is_own b) (sym (in_other b o u own)) ∙ other_own b v which);
       }
 
@@ -120,6 +125,7 @@ pub record MayGrow (c : Config) (i : ℕ) (v : Node) : Type 0 where
   pub contracted : is_contracted (bot_of c i) ≡ true
   pub next : Adjacent (bot_of c i).head v
   pub inside : is_in c.area v ≡ true
+  pub no_wall : is_wall c v ≡ false
   pub empty : occupant c v ≡ None
 
 module _ (c : Config) (i : ℕ) (v : Node) (may : MayGrow c i v) where
@@ -133,7 +139,7 @@ module _ (c : Config) (i : ℕ) (v : Node) (may : MayGrow c i v) where
       record {
         valid = may.valid;
         there = may.there;
-        fits = record { head = may.inside; tail = fits.tail; close = or_right _ _ (Adjacent-is_adjacent v b.tail (Adjacent-sym b.tail v (subst (λ u. Adjacent u v) one_node may.next))); rot = fits.rot; values = fits.values; eight = fits.eight };
+        fits = record { head = may.inside; tail = fits.tail; head_open = may.no_wall; tail_open = fits.tail_open; close = or_right _ _ (Adjacent-is_adjacent v b.tail (Adjacent-sym b.tail v (subst (λ u. Adjacent u v) one_node may.next))); rot = fits.rot; values = fits.values; eight = fits.eight };
         free = λ u own. elim (own_cases (with_head b v) u own) [
           | inl h ↦ inr (ap (occupant c) (sym h) ∙ may.empty)
           | inr h ↦ inl (own_tail b u h)

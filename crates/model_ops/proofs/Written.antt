@@ -96,7 +96,7 @@ may_write c n x s valid at ok =
     record {
       valid = valid;
       there = at;
-      fits = record { head = fits.head; tail = fits.tail; close = fits.close; rot = fits.rot; values = value_fits c.maxes b.mem x (unsigned_abs s) fits.eight (number_fits c.maxes x s ok) fits.values; eight = length-set b.mem x (unsigned_abs s) ∙ fits.eight };
+      fits = record { head = fits.head; tail = fits.tail; head_open = fits.head_open; tail_open = fits.tail_open; close = fits.close; rot = fits.rot; values = value_fits c.maxes b.mem x (unsigned_abs s) fits.eight (number_fits c.maxes x s ok) fits.values; eight = length-set b.mem x (unsigned_abs s) ∙ fits.eight };
       free = λ v own. inl own;
     }
 

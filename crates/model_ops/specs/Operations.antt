@@ -14,9 +14,9 @@ use Rattle.amoebot_state.specs.declared.bot.Bot.{Bot}
 use Rattle.amoebot_state.specs.declared.bot.End.{End}
 use Rattle.amoebot_state.specs.declared.bot.Port.{Port}
 use Rattle.amoebot_state.specs.declared.verdict.Failure.{Failure}
-use Rattle.amoebot_state.specs.declared.verdict.Failure.TheVariants.{NoPort, NoNeighbour, OutOfRange, Occupied, NotContracted, NotExpanded, PeerNotExpanded, PeerNotContracted, Edge, WouldSplit}
+use Rattle.amoebot_state.specs.declared.verdict.Failure.TheVariants.{NoPort, NoNeighbour, OutOfRange, Occupied, NotContracted, NotExpanded, PeerNotExpanded, PeerNotContracted, Edge, WouldSplit, Blocked}
 use Rattle.amoebot_state.specs.Ports.{is_contracted, is_port, behind, end_node, global, local}
-use Rattle.amoebot_state.specs.Configs.{Config, occupant, bot_of, set_bot}
+use Rattle.amoebot_state.specs.Configs.{Config, is_wall, occupant, bot_of, set_bot}
 use Rattle.amoebot_state.specs.Occupied.{occupied}
 use Rattle.model_ops.specs.declared.peer.Peer.{Peer}
 
@@ -41,9 +41,9 @@ connected c i p =
     need (is_port b p) NoPort
     (Ok (occupied c (behind b p)))
 
--- the node can be entered: it lies in the area and has no occupant
+-- the node can be entered: it lies in the area, is no wall and has no occupant
 abbrev pub is_free_node : Config → Node → Bool
-is_free_node c v = is_in c.area v && is_none (occupant c v)
+is_free_node c v = is_in c.area v && not (is_wall c v) && is_none (occupant c v)
 
 -- Free: whether the node behind the port can be entered
 abbrev pub is_free : Config → ℕ → Port → Result Bool Failure
@@ -128,11 +128,12 @@ expand c i p =
     need (is_contracted b) NotContracted
     (need (is_port b p) NoPort
     (need (is_in c.area v) Edge
+    (need (not (is_wall c v)) Blocked
     (need (is_none (occupant c v)) Occupied
-    (Ok (grow c i v)))))
+    (Ok (grow c i v))))))
 
 -- the guard lets a node be left: it is off, or the occupied nodes round the node are one arc. An expanded amoebot's other node
--- is one of these, and no node outside the area is
+-- is one of these, and no node outside the area and no wall is
 abbrev pub may_leave : Config → Bool → Node → Bool
 may_leave c guard v = not guard || is_one_arc (ring_in (occupied c) v)
 

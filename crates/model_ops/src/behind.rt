@@ -49,18 +49,18 @@ pub(crate) fn connected_there(behind: Behind) -> Result<bool, Failure>
     match behind {
         Behind::NoPort => Err(Failure::NoPort),
         Behind::Bot(_) => Ok(true),
-        Behind::Edge | Behind::Empty => Ok(false),
+        Behind::Edge | Behind::Wall | Behind::Empty => Ok(false),
     }
 }
 
-/// Whether the node there is in the area and empty. NoPort, where the pair is none.
+/// Whether the node there is in the area, no wall and empty. NoPort, where the pair is none.
 pub(crate) fn free_there(behind: Behind) -> Result<bool, Failure>
     ensures { result ≡ free_there behind }
 {
     match behind {
         Behind::NoPort => Err(Failure::NoPort),
         Behind::Empty => Ok(true),
-        Behind::Edge | Behind::Bot(_) => Ok(false),
+        Behind::Edge | Behind::Wall | Behind::Bot(_) => Ok(false),
     }
 }
 
@@ -71,6 +71,6 @@ pub(crate) fn owner_there(behind: Behind) -> Result<u16, Failure>
     match behind {
         Behind::NoPort => Err(Failure::NoPort),
         Behind::Bot(id) => Ok(id),
-        Behind::Edge | Behind::Empty => Err(Failure::NoNeighbour),
+        Behind::Edge | Behind::Wall | Behind::Empty => Err(Failure::NoNeighbour),
     }
 }

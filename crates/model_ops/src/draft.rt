@@ -1,6 +1,7 @@
-ghost use Rattle.std.specs.Prelude.{◌≡◌, ◌<◌, ℕ, [], is_some, IsSome, IsTrue, IfOk, Some, None, true, unsigned_abs};
-ghost use Rattle.amoebot_state.specs.Limits.{most_vars};
-ghost use Rattle.amoebot_state.specs.Configs.{bot_at, occupant, set_bot};
+ghost use Rattle.std.specs.Prelude.{◌≡◌, ◌<◌, ◌≤◌, ℕ, [], length, is_some, IsSome, IsTrue, IfOk, Some, None, true, unsigned_abs};
+ghost use Rattle.amoebot_state.specs.Limits.{most_nodes, most_vars};
+ghost use Rattle.amoebot_state.specs.Configs.{bot_at, is_wall, occupant, set_bot};
+ghost use Rattle.amoebot_state.specs.Walls.{has_node};
 ghost use Rattle.amoebot_state.specs.Ports.{is_port, behind};
 ghost use Rattle.amoebot_state.specs.Refusals.{IsBotInRange};
 ghost use Rattle.tri_lattice.specs.Extent.{is_in};
@@ -24,25 +25,29 @@ use ring_guard::one_arc;
 use std::marker::Model;
 use tri_lattice::{Area, Node};
 
+/// The walls among the nodes of a zone.
+pub(crate) type Walls = ArrayVec<Node, 10>;
+
 /// A working copy that looks among its amoebots for each answer. The amoebot itself is the first of them.
 #[derive(Drop)]
 pub(crate) struct Draft {
     pub(crate) members: ArrayVec<Member, ROOM>,
+    pub(crate) walls: Walls,
     pub(crate) area: Area,
     pub(crate) maxes: [u8; 8],
     pub(crate) own: u16,
 }
 
 impl Model for Draft {
-    ghost use Rattle.amoebot_state.specs.Configs.{frame_of};
+    ghost use Rattle.amoebot_state.specs.Configs.{walled_frame};
     ghost use Rattle.model_ops.specs.WorkingCopies.{WorkingCopy};
     ghost use Rattle.model_ops.specs.Members.{copy_of, IsSite};
 
     ghost Value = { WorkingCopy };
 
-    ghost view = { λ s. copy_of (frame_of s.area s.maxes) s.own s.members.items };
+    ghost view = { λ s. copy_of (walled_frame s.area s.walls.items s.maxes) s.own s.members.items };
 
-    ghost invariant = { λ s. IsSite (frame_of s.area s.maxes) s.own s.members.items };
+    ghost invariant = { λ s. IsSite (walled_frame s.area s.walls.items s.maxes) s.own s.members.items };
 }
 
 impl Draft {
@@ -54,7 +59,7 @@ impl Draft {
         Ok(self.occupant(node).is_some())
     }
 
-    /// Whether the node behind a port is in the area and empty. NoPort, where it is none of the amoebot's.
+    /// Whether the node behind a port is in the area, no wall and empty. NoPort, where it is none of the amoebot's.
     pub fn is_free(&self, port: Port) -> Result<bool, Failure>
         ensures { result ≡ is_free self.now.reached (own_id self.now) port }
     {
@@ -97,7 +102,7 @@ impl Draft {
     }
 
     /// The amoebot's head enters the node behind a port, and its tail stays. NotContracted, it is expanded; NoPort; Edge, the
-    /// node is outside the area; Occupied.
+    /// node is outside the area; Blocked, it is a wall; Occupied.
     pub fn expand(&mut self, port: Port) -> Result<(), Failure>
         ensures value { result ≡ done (expand self.old.reached (own_id self.old) port) }
         ensures after { self.new ≡ copy_after self.old (expand self.old.reached (own_id self.old) port) }
@@ -109,6 +114,9 @@ impl Draft {
         let node = self.behind(port)?;
         if !self.is_in(node) {
             return Err(Failure::Edge);
+        }
+        if self.is_wall(node) {
+            return Err(Failure::Blocked);
         }
         if self.occupant(node).is_some() {
             return Err(Failure::Occupied);
@@ -221,7 +229,14 @@ impl Draft {
     fn is_free_node(&self, node: Node) -> bool
         ensures { result ≡ is_free_node self.now.reached node }
     {
-        self.is_in(node) && self.occupant(node).is_none()
+        self.is_in(node) && !self.is_wall(node) && self.occupant(node).is_none()
+    }
+
+    /// Whether the node is a wall.
+    fn is_wall(&self, node: Node) -> bool
+        ensures { result ≡ is_wall self.now.reached node }
+    {
+        has_node(self.walls.as_slice(), node) && self.area.index(node).is_some()
     }
 
     /// Whether the node lies in the area.
@@ -336,6 +351,25 @@ impl Draft {
     {
         let place = place_of(self.members.as_slice(), id);
         self.members[place].now = bot;
+    }
+}
+
+/// Whether one of the nodes is this one.
+fn has_node(nodes: &[Node], node: Node) -> bool
+    ensures { result ≡ has_node nodes.now node }
+{
+    nodes.iter().any(|other| *other == node)
+}
+
+/// Puts these nodes in the place of what the list has.
+pub(crate) fn copy_walls(copy: &mut Walls, nodes: &[Node])
+    requires { length nodes.now ≤ most_nodes }
+    ensures { copy.new.items ≡ nodes.now }
+{
+    copy.clear();
+    match copy.try_extend_from_slice(nodes) {
+        Ok(()) => {}
+        Err(_) => unreachable!(),
     }
 }
 

@@ -9,7 +9,7 @@ ghost use Rattle.model_ops.specs.WorkingCopies.{opened, own_id, copy_after, chan
 ghost use Rattle.model_ops.specs.Sites.{done};
 
 use crate::behind::{Around, around, behind_at, connected_there, free_there, owner_there};
-use crate::draft::Draft;
+use crate::draft::{Draft, copy_walls};
 use crate::member::gather;
 use crate::peer::Peer;
 use amoebot_state::{Bot, End, Failure, Found, Patch, Port};
@@ -49,9 +49,12 @@ impl Site {
     {
         let mut members = ArrayVec::new();
         gather(&mut members, found);
+        let mut walls = ArrayVec::new();
+        copy_walls(&mut walls, found.walls());
         Site {
             draft: Draft {
                 members,
+                walls,
                 area: found.area(),
                 maxes: found.maxes(),
                 own: found.bot(),

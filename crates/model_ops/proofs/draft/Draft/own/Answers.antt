@@ -1,6 +1,6 @@
 use Rattle.std.proofs.Common.{◌∙◌, ap, sym, get_or, List, Some}
 use Rattle.std.specs.Option.{option_map}
-use Rattle.amoebot_state.specs.Configs.{bot_at, frame_of}
+use Rattle.amoebot_state.specs.Configs.{bot_at, walled_frame}
 use Rattle.model_ops.specs.declared.member.Member.{Member}
 use Rattle.model_ops.specs.WorkingCopies.{WorkingCopy, own_id}
 use Rattle.model_ops.proofs.Members.{bot_by, find_first}
@@ -9,7 +9,7 @@ use Rattle.model_ops.proofs.draft.Draft.own.Goals as goal
 pub returns-clause-value : goal.returns-clause-value
 returns-clause-value c =
     let s = c.self.inside in
-    let frame = frame_of s.area s.maxes in
+    let frame = walled_frame s.area s.walls.items s.maxes in
     let ms = s.members.items in
     ap (λ (w : WorkingCopy). bot_at w.reached (own_id w)) (sym c.self.view_is)
     ∙ bot_by (λ (m : Member). m.now) frame ms s.own

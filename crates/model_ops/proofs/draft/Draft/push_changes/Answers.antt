@@ -1,5 +1,5 @@
 use Rattle.std.proofs.Common.{◌∙◌, ap, sym, subst, get_or, List}
-use Rattle.amoebot_state.specs.Configs.{frame_of}
+use Rattle.amoebot_state.specs.Configs.{walled_frame}
 use Rattle.amoebot_state.specs.Zones.{shown_alone}
 use Rattle.model_ops.specs.declared.member.Member.{Member}
 use Rattle.model_ops.specs.Members.{changed_cells}
@@ -11,7 +11,7 @@ use Rattle.model_ops.proofs.draft.Draft.push_changes.Goals as goal
 pub returns : goal.returns
 returns c =
     let s = c.self.inside in
-    let frame = frame_of s.area s.maxes in
+    let frame = walled_frame s.area s.walls.items s.maxes in
     let ms = s.members.items in
     let reaches = subst (λ (w : WorkingCopy). Reaches (shown_alone w.found) (own_id w) w.reached) (sym c.self.view_is) c.requires.reaches in
     c.push_changed.ensures
