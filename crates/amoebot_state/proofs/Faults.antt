@@ -12,7 +12,7 @@ use Rattle.tri_lattice.specs.declared.node.Node.{Node}
 use Rattle.tri_lattice.specs.Extent.{IsArea, is_in}
 use Rattle.amoebot_state.specs.declared.bot.Bot.{Bot}
 use Rattle.amoebot_state.specs.Ports.{is_own}
-use Rattle.amoebot_state.specs.Configs.{Config, frame, with_these, IsValid, blank, bot_at, is_wall, occupant, covers, is_close, has_values, walled_frame}
+use Rattle.amoebot_state.specs.Configs.{Config, frame, with_these, IsValid, blank, bot_at, is_wall, occupant, covers, is_close, has_values, open_frame, walled_frame}
 use Rattle.amoebot_state.specs.Refusals.{bot_fault, IsBotInRange, IsFaultless}
 use Rattle.amoebot_state.specs.Laws.{ValidIsFaultless, FaultlessIsValid, WalledFrameIsValid}
 use Rattle.amoebot_state.proofs.Added.{MayCome, no_fault, valid_with, these_push}
@@ -65,8 +65,8 @@ valid_is_faultless c bots valid j b lt there =
     })
 
 -- a frame of an area, of eight maxima and of walls in order is valid
-pub frame_valid : (c : Config) → IsArea c.area → length c.maxes ≡ 8 → IsStrictlyIncreasing c.walls → All (λ k. k < c.area.w * c.area.h) c.walls → IsValid (frame c)
-frame_valid c area eight rising walled = record {
+walled_valid : (c : Config) → IsArea c.area → length c.maxes ≡ 8 → IsStrictlyIncreasing c.walls → All (λ k. k < c.area.w * c.area.h) c.walls → IsValid (frame c)
+walled_valid c area eight rising walled = record {
   area = area;
   eight = eight;
   rising = rising;
@@ -77,7 +77,11 @@ frame_valid c area eight rising walled = record {
 
 pub walled_frame_is_valid : WalledFrameIsValid
 walled_frame_is_valid a walls maxes area eight =
-    frame_valid (walled_frame a walls maxes) area eight (numbers_rising (node_numbers a walls) (node_numbers_rise a walls)) (node_numbers_below a walls)
+    walled_valid (walled_frame a walls maxes) area eight (numbers_rising (node_numbers a walls) (node_numbers_rise a walls)) (node_numbers_below a walls)
+
+-- without walls too
+pub frame_valid : (c : Config) → IsArea c.area → length c.maxes ≡ 8 → IsValid (open_frame c)
+frame_valid c area eight = walled_frame_is_valid c.area [] c.maxes area eight
 
 -- one amoebot, and two, of which none has a fault
 pub valid_one : (c : Config) → IsValid (frame c) → (b : Bot) → IsBotInRange b → bot_fault (frame c) b ≡ None → IsValid (with_these c (b ∷ []))
