@@ -37,6 +37,12 @@ pub(crate) struct WrittenShape {
     bots: Vec<WrittenBot>,
 }
 
+/// The list of a shape that has what a world refuses.
+#[derive(Clone, Copy)]
+pub(crate) enum Listed {
+    Bots,
+}
+
 /// A side of an area, from 1 to 128.
 #[tactic(auto, unfolding(crate::specs::Readers::a_side, text_tokens::specs::Reading::numeral))]
 fn read_side(tokens: &mut Tokens<'_>) -> Result<u16, ReadRefusal>
@@ -161,26 +167,30 @@ fn bots_of(alloc: Global, written: &[WrittenBot]) -> Result<Vec<Bot>, ReadRefusa
     Ok(bots)
 }
 
-/// The amoebot that is refused, and for what; `None` where it was out of memory.
-fn blamed(refusal: WorldRefusal) -> Option<(u16, RefusalKind)>
-    ensures { result ≡ view.blamed_bot refusal }
+/// What is refused, by its list and its place there, and for what; `None` where it was out of memory.
+fn blamed(refusal: WorldRefusal) -> Option<(Listed, u32, RefusalKind)>
+    ensures { result ≡ view.blamed_at refusal }
 {
     match refusal {
-        WorldRefusal::OutOfBox(id) => Some((id, RefusalKind::OutOfBox)),
-        WorldRefusal::NotAdjacent(id) => Some((id, RefusalKind::NotAdjacent)),
-        WorldRefusal::Overlap(id) => Some((id, RefusalKind::Overlap)),
-        WorldRefusal::BadValue(id) => Some((id, RefusalKind::BadValue)),
+        WorldRefusal::OutOfBox(id) => Some((Listed::Bots, u32::from(id), RefusalKind::OutOfBox)),
+        WorldRefusal::NotAdjacent(id) => Some((
+            Listed::Bots,
+            u32::from(id),
+            RefusalKind::NotAdjacent,
+        )),
+        WorldRefusal::Overlap(id) => Some((Listed::Bots, u32::from(id), RefusalKind::Overlap)),
+        WorldRefusal::BadValue(id) => Some((Listed::Bots, u32::from(id), RefusalKind::BadValue)),
         WorldRefusal::NoMemory => None,
     }
 }
 
-/// The refusal of an amoebot of these at its word.
+/// The refusal of what stands at a place of these lists, at its word.
 fn refusal_of(refusal: WorldRefusal, bots: &[WrittenBot]) -> ReadRefusal
-    requires { IfSome (view.blamed_bot refusal) (λ b. b.0 < length bots.now) }
-    ensures { view.BlamedAs bots.now (view.blamed_bot refusal) result }
+    requires { view.HasPlace bots.now (view.blamed_at refusal) }
+    ensures { view.BlamedAs bots.now (view.blamed_at refusal) result }
 {
     match blamed(refusal) {
-        Some((id, kind)) => refused(bots[usize::from(id)].line, kind),
+        Some((Listed::Bots, place, kind)) => refused(bots[place as usize].line, kind),
         None => ReadRefusal::NoMemory,
     }
 }
