@@ -1,8 +1,6 @@
 -- The shapes of a document are those of worlds, and its lists are such as callers may have.
-use Rattle.std.proofs.Common.{◌≡◌, ℕ, ℤ, zero, suc, pos, ◌+◌, ◌-◌, ◌*◌, ◌<◌, ◌≤◌, Bool, true, false, cond, List, [], ◌∷◌, ◌++◌, length, map, replicate, Option, Some, None, codes, refl, sym, ap, subst, ◌∙◌, arith, length-append}
-use Rattle.std.specs.Prelude.{◌&&◌, ◌≤ℤ◌, ◌-ℤ◌, neg_ℤ, nat_lt, nat_le, if◌then◌else◌}
-use Rattle.std.specs.Option.{IfSome}
-use Rattle.std.specs.List.{All}
+use Rattle.std.proofs.Common.{◌≡◌, ℕ, ℤ, zero, suc, pos, ◌+◌, ◌-◌, ◌*◌, ◌<◌, ◌≤◌, Bool, true, false, cond, List, [], ◌∷◌, length, map, replicate, Option, Some, None, codes, refl, sym, ap, subst, ◌∙◌, arith, length-append}
+use Rattle.std.specs.Prelude.{◌&&◌, ◌≤ℤ◌, neg_ℤ, nat_lt, nat_le, if◌then◌else◌}
 use Rattle.std.proofs.lemmas.Bool.{and_parts, ltb-true, leb-true}
 use Rattle.std.proofs.lemmas.Bool.Decides.{nat_tests}
 use Rattle.std.proofs.lemmas.Int.{ints}
@@ -13,12 +11,11 @@ use Rattle.tri_lattice.specs.Extent.{Extent, IsArea, most_side, most_start}
 use Rattle.tri_lattice.specs.Lattice.{IsNear}
 use Rattle.text_tokens.specs.declared.refusal.RefusalKind.{RefusalKind}
 use Rattle.text_tokens.specs.declared.refusal.RefusalKind.TheVariants.{BadId, BadRange, TooMany}
-use Rattle.text_tokens.specs.Grammar.{Symbol, first_fault, Lang, Repeated, no_more, one_more, Times, IsNumeral}
-use Rattle.text_tokens.specs.Text.{Lexeme}
-use Rattle.text_tokens.specs.Reading.{lexeme_value, too_large}
+use Rattle.text_tokens.specs.Grammar.{Symbol, first_fault, Lang, Repeated, no_more, one_more, Times}
+use Rattle.text_tokens.specs.Reading.{lexeme_value}
 use Rattle.text_tokens.proofs.ListSplits.{fine-parts}
 use Rattle.amoebot_state.specs.declared.bot.Bot.{Bot}
-use Rattle.amoebot_state.specs.Configs.{Config, IsValid, bot_at}
+use Rattle.amoebot_state.specs.Configs.{Config}
 use Rattle.amoebot_state.specs.Limits.{most_bots, most_vars, most_value}
 use Rattle.amoebot_state.specs.Refusals.{IsBotInRange}
 use Rattle.amoebot_state.proofs.Faults.{frame_valid, faultless_is_valid}
@@ -26,19 +23,19 @@ use Rattle.amoebot_state.proofs.Options.{all_there}
 use Rattle.claim_core.specs.Limits.{most_callers, most_ids, most_turns}
 use Rattle.claim_core.specs.Turns.{CallerLists, AreFew, AreLists, IsList}
 use Rattle.action_tree.specs.Trees as tree
-use Rattle.action_check.specs.Maxes.{first_or_zero, maxes_of}
+use Rattle.action_check.specs.Maxes.{first_or_zero}
 use Rattle.node_text.specs.Limits.{most_coordinate}
-use Rattle.node_text.specs.Parts.{IsBotText, IsInt, IsNode, IsUpTo, IsValues, memory, negative}
-use Rattle.shape_text.specs.Shapes.{WrittenBot, WrittenShape, written_shape, written_amoebot, shape_frame, stands_for, outside, IsSide, IsAreaLine, IsBotLine, IsShapeUnder}
+use Rattle.node_text.specs.Parts.{IsBotText, IsInt, IsNode, IsUpTo, memory}
+use Rattle.node_text.proofs.Outside.{within}
+use Rattle.shape_text.specs.Shapes.{WrittenBot, WrittenShape, written_shape, written_amoebot, shape_frame, stands_for, IsSide, IsAreaLine, IsBotLine, IsShapeUnder}
 use Rattle.shape_text.proofs.JudgementsLemmas.{unrefused}
 use Rattle.schedule_text.specs.Lists.{IdsFrom, IsCallerList, IsId, IsLists}
 use Rattle.shape_files.specs.declared.section_kind.Section.{Section}
 use Rattle.shape_files.specs.declared.section_kind.Section.TheVariants as section
-use Rattle.shape_files.specs.declared.section_kind.Form.{Form}
 use Rattle.shape_files.specs.Frame.{Course, ends, needs, may, course_of}
-use Rattle.shape_files.specs.Documents.{Contents, nothing_yet, Body, var_count, maxes_in, bots_of, HasContents}
+use Rattle.shape_files.specs.Documents.{Contents, nothing_yet, Body, var_count, maxes_in, bots_of}
 use Rattle.shape_files.specs.Fitting.{IsWorldShape, IsSoundDocument, DocumentsAreSound}
-use Rattle.shape_files.proofs.Fine.{Fine, OfToken, both_of, made_of, closed_of, judged_of, nothing_of, either_of, one_of, numeral_of, all_of, counted_of}
+use Rattle.shape_files.proofs.Fine.{Fine, both_of, made_of, closed_of, judged_of, nothing_of, either_of, one_of, numeral_of, all_of, counted_of}
 use Rattle.shape_files.proofs.FittingLemmas.{There, program_fits, written_down}
 
 -- what passed a limit
@@ -69,13 +66,8 @@ int_within most x f = either_of
 side_within : (n : ℕ) → Fine IsSide n → (1 ≤ n) × (n ≤ most_side)
 side_within n f =
     let t = numeral_of f in
-    let both = by (nat_le 1 (lexeme_value t.t) && nat_le (lexeme_value t.t) most_side) t.within in
-    let parts = and_parts _ _ both in
-    (subst (λ m. 1 ≤ m) t.is (leb-true 1 (lexeme_value t.t) parts.0), subst (λ m. m ≤ most_side) t.is (leb-true (lexeme_value t.t) most_side parts.1))
-  where
-    by : (b : Bool) → (if b then None else Some BadRange) ≡ None → b ≡ true
-    by true e = refl
-    by false e = absurd cc
+    let parts = within 1 most_side t.t t.within in
+    (subst (λ m. 1 ≤ m) t.is parts.0, subst (λ m. m ≤ most_side) t.is parts.1)
 
 area_within : (a : Extent) → Fine IsAreaLine a → IsArea a
 area_within a f =
@@ -239,4 +231,5 @@ course_sound (may k c d) s a so f = either_of
 
 pub documents_are_sound : DocumentsAreSound
 documents_are_sound form bytes a holds =
-    (course_sound (course_of form) nothing_yet a (record { vars = omega arith; sound = record { world = tt; final_world = tt; lists = tt } }) (written_down form bytes a holds)).sound
+    let w = written_down form bytes a holds in
+    (course_sound (course_of form) (nothing_yet w.version) a (record { vars = omega arith; sound = record { world = tt; final_world = tt; lists = tt } }) w.sections).sound

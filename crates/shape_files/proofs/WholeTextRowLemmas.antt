@@ -95,6 +95,7 @@ whole_text_rows = record {
   program_text = refl;
   run_text = refl;
   program = record {
+    version = (omega arith, omega arith);
     sections = (refl, (refl, refl));
     recorded = record { last = tt; first = tt };
     no_lists = refl;
@@ -106,6 +107,7 @@ whole_text_rows = record {
     turns = tt;
   };
   run = record {
+    version = (omega arith, omega arith);
     sections = (refl, refl, refl, refl);
     recorded = record { last = refl; first = refl };
     no_lists = refl;

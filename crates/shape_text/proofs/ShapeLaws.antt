@@ -12,10 +12,10 @@ use Rattle.text_tokens.proofs.StartsLemmas.{starts_judged}
 use Rattle.text_tokens.proofs.RepeatedLemmas.{part_repeated}
 use Rattle.text_tokens.proofs.LexemeLemmas.{other_text, a_numeral}
 use Rattle.text_tokens.proofs.JoinedParts.{one_behind, into, starts_behind, starts_into}
-use Rattle.node_text.specs.Parts.{word, is_end, one_more, IsWord, IsBotText}
+use Rattle.node_text.specs.Parts.{word, is_end, outside, one_more, IsWord, IsBotText}
 use Rattle.node_text.specs.PartReaders.{a_word, a_bot}
 use Rattle.node_text.proofs.PartLaws.{up_to_end, starts_word, part_word, part_word_within, starts_word_within, part_int, part_bot}
-use Rattle.shape_text.specs.Shapes.{outside, IsSide, an_area_of, IsAreaLine, is_bot, written_bot, past_bots, IsBotWord, IsBotLine, AreBots, WrittenShape, written_shape, IsWrittenShape, shape_fault, stands_for, IsShapeUnder, IsShape, IsFinal}
+use Rattle.shape_text.specs.Shapes.{IsSide, an_area_of, IsAreaLine, is_bot, written_bot, past_bots, IsBotWord, IsBotLine, AreBots, WrittenShape, written_shape, IsWrittenShape, shape_fault, stands_for, IsShapeUnder, IsShape, IsFinal}
 use Rattle.shape_text.specs.Readers.{a_side, an_area, bot_word, a_bot_line, bots_from, a_drawing, a_written_shape, shape_under, a_shape, a_final}
 
 -- ---- the area
