@@ -66,8 +66,8 @@ program_fits p f =
 
 -- ---- shapes
 
-shape_fits : (text : List ℕ) (vars : ℕ) (maxes : List ℕ) (c : Config) → Fine (IsShapeUnder text vars maxes) c → c.maxes ≡ maxes
-shape_fits text vars maxes c f = sym (ap (λ (c : Config). c.maxes) (made_of f).same)
+shape_fits : (version : ℕ) (text : List ℕ) (vars : ℕ) (maxes : List ℕ) (c : Config) → Fine (IsShapeUnder version text vars maxes) c → c.maxes ≡ maxes
+shape_fits version text vars maxes c f = sym (ap (λ (c : Config). c.maxes) (made_of f).same)
 
 -- ---- numbers of what is known
 
@@ -223,7 +223,7 @@ module _ (version : ℕ) (right : IsVersion version) (p : tree.Program) (checked
       recorded l s t go f =
           let es = step_of f in
           let w = step_of es.behind in
-          let fits = and_record l s es.value w.value t (journal_fits (length c.bots) (length p.actions) (length p.vars) es.value es.before) (shape_fits (codes "final") (length p.vars) (maxes_in (Some p)) w.value w.before) in
+          let fits = and_record l s es.value w.value t (journal_fits (length c.bots) (length p.actions) (length p.vars) es.value es.before) (shape_fits version (codes "final") (length p.vars) (maxes_in (Some p)) w.value w.before) in
           go es.value w.value fits (turns_or (Whole l s es.value w.value) a w.behind)
 
     module _ (a : Contents) where
@@ -258,7 +258,7 @@ module _ (version : ℕ) (right : IsVersion version) (p : tree.Program) (checked
 
   -- a shape, and what stands behind it
   shaped : (rest : Course) (a : Contents) (G : Type 0) → ((c : Config) → c.maxes ≡ maxes_in (Some p) → There rest (At version (Some p) (Some c) None None None None) a → G) → There (needs section.Shape rest) (At version (Some p) None None None None None) a → G
-  shaped rest a G go f = let c = step_of f in go c.value (shape_fits (codes "shape") (length p.vars) (maxes_in (Some p)) c.value c.before) c.behind
+  shaped rest a G go f = let c = step_of f in go c.value (shape_fits version (codes "shape") (length p.vars) (maxes_in (Some p)) c.value c.before) c.behind
 
 abbrev behind_program : Form → Course
 behind_program Run = needs section.Shape (needs section.Lists (may_schedule ends))

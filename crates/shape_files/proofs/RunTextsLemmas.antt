@@ -115,8 +115,8 @@ module _ (a : Contents) (es : List Entry) (c : Config) (m : MarkLists) (k : Keep
   abbrev whole : Contents
   whole = with_last c
 
-  final_lines : RereadsLines (IsFinal vars (maxes_in a.checked)) (Is c) of_final
-  final_lines = subst (λ (maxes : List ℕ). RereadsLines (IsFinal vars maxes) (Is c) of_final) k.maxes (config_lines vars c k.last k.vars (codes "final") final_word)
+  final_lines : RereadsLines (IsFinal a.version vars (maxes_in a.checked)) (Is c) of_final
+  final_lines = subst (λ (maxes : List ℕ). RereadsLines (IsFinal a.version vars maxes) (Is c) of_final) k.maxes (config_lines a.version vars c k.last k.vars (codes "final") final_word)
 
   the_turns : RereadsLines (There (may Turns ends ends) whole) (Is whole) of_turns
   the_turns =

@@ -127,8 +127,8 @@ bot_room vars n w f = let word = made_of (both_of f).before in ltb-true n most_b
 line_in_range : (vars : ℕ) → vars ≤ most_vars → (n : ℕ) (w : WrittenBot) → Fine (IsBotLine vars n) w → IsBotInRange (written_amoebot w)
 line_in_range vars few n w f = let b = made_of (both_of f).behind in subst (λ (v : WrittenBot). IsBotInRange (written_amoebot v)) b.same (bot_in_range vars few b.value b.before)
 
-shape_drawn : (text : List ℕ) (vars : ℕ) (maxes : List ℕ) → vars ≤ most_vars → length maxes ≡ 8 → (c : Config) → Fine (IsShapeUnder text vars maxes) c → IsWorldShape c
-shape_drawn text vars maxes few_vars eight c f =
+shape_drawn : (version : ℕ) (text : List ℕ) (vars : ℕ) (maxes : List ℕ) → vars ≤ most_vars → length maxes ≡ 8 → (c : Config) → Fine (IsShapeUnder version text vars maxes) c → IsWorldShape c
+shape_drawn version text vars maxes few_vars eight c f =
     let whole = made_of f in
     let judged = judged_of whole.before in
     let word = both_of judged.0 in
@@ -215,11 +215,11 @@ record IsSoundSoFar (s : Contents) : Type 0 where
 
 section_sound : (k : Section) (s b : Contents) → IsSoundSoFar s → Fine (Body k s) b → IsSoundSoFar b
 section_sound section.Program s b so f = let p = made_of f in subst IsSoundSoFar p.same (record { vars = (program_fits p.value p.before).vars; sound = record { world = so.sound.world; final_world = so.sound.final_world; lists = so.sound.lists } })
-section_sound section.Shape s b so f = let c = made_of f in subst IsSoundSoFar c.same (record { vars = so.vars; sound = record { world = shape_drawn (codes "shape") (var_count s.checked) (maxes_in s.checked) so.vars (eight_maxes s.checked) c.value c.before; final_world = so.sound.final_world; lists = so.sound.lists } })
+section_sound section.Shape s b so f = let c = made_of f in subst IsSoundSoFar c.same (record { vars = so.vars; sound = record { world = shape_drawn s.version (codes "shape") (var_count s.checked) (maxes_in s.checked) so.vars (eight_maxes s.checked) c.value c.before; final_world = so.sound.final_world; lists = so.sound.lists } })
 section_sound section.Lists s b so f = let l = made_of f in subst IsSoundSoFar l.same (record { vars = so.vars; sound = record { world = so.sound.world; final_world = so.sound.final_world; lists = lists_sound (bots_of s.world) l.value l.before } })
 section_sound section.Schedule s b so f = let x = made_of f in subst IsSoundSoFar x.same (record { vars = so.vars; sound = record { world = so.sound.world; final_world = so.sound.final_world; lists = so.sound.lists } })
 section_sound section.Journal s b so f = let x = made_of f in subst IsSoundSoFar x.same (record { vars = so.vars; sound = record { world = so.sound.world; final_world = so.sound.final_world; lists = so.sound.lists } })
-section_sound section.Final s b so f = let c = made_of f in subst IsSoundSoFar c.same (record { vars = so.vars; sound = record { world = so.sound.world; final_world = shape_drawn (codes "final") (var_count s.checked) (maxes_in s.checked) so.vars (eight_maxes s.checked) c.value c.before; lists = so.sound.lists } })
+section_sound section.Final s b so f = let c = made_of f in subst IsSoundSoFar c.same (record { vars = so.vars; sound = record { world = so.sound.world; final_world = shape_drawn s.version (codes "final") (var_count s.checked) (maxes_in s.checked) so.vars (eight_maxes s.checked) c.value c.before; lists = so.sound.lists } })
 section_sound section.Turns s b so f = let x = made_of f in subst IsSoundSoFar x.same so
 
 course_sound : (c : Course) (s a : Contents) → IsSoundSoFar s → There c s a → IsSoundSoFar a

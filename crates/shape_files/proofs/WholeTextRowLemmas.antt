@@ -38,7 +38,7 @@ one_valid b plain fine =
       h_high = omega arith;
     }) refl) b plain fine
 
-one_written : (b : Bot) → b.mem ≡ zeros → IsValid (shape_of_one b) → IsWritableConfig 0 (shape_of_one b)
+one_written : (b : Bot) → b.mem ≡ zeros → IsValid (shape_of_one b) → IsWritableConfig 1 0 (shape_of_one b)
 one_written b e valid = record { valid = valid; few = omega arith; no_gaps = none; maxes = All-replicate (λ m. m ≤ most_value) 8 0 (omega arith); zeros = all }
   where
     none : (id : ℕ) → id < 1 → IsSome (bot_at (shape_of_one b) id)
@@ -52,10 +52,10 @@ one_written b e valid = record { valid = valid; few = omega arith; no_gaps = non
 abbrev contracted : Bot
 contracted = shape_bot (pos 2) (pos 3) (pos 2) (pos 3) 0 Plus []
 
-at_start : IsWritableConfig 0 (shape_of_one contracted)
+at_start : IsWritableConfig 1 0 (shape_of_one contracted)
 at_start = one_written contracted refl (one_valid contracted (plain contracted refl refl (omega arith) refl) refl)
 
-at_end : IsWritableConfig 0 (shape_of_one bot_after)
+at_end : IsWritableConfig 1 0 (shape_of_one bot_after)
 at_end = one_written bot_after refl (one_valid bot_after (plain bot_after refl refl (omega arith) refl) refl)
 
 the_program : IsWritableProgram out

@@ -213,10 +213,10 @@ module _ (version : ℕ) (right : IsVersion version) where
     vars_of = length p.vars
 
     -- a shape under this word
-    the_shape : (c : Config) → IsWritableConfig vars_of c → c.maxes ≡ maxes_of p → (text : List ℕ) → Rereads (IsWord text) Any (text ∷ []) → IsReread (IsShapeUnder text vars_of (maxes_of p)) (Is c) (shape_text text vars_of c)
+    the_shape : (c : Config) → IsWritableConfig version vars_of c → c.maxes ≡ maxes_of p → (text : List ℕ) → Rereads (IsWord text) Any (text ∷ []) → IsReread (IsShapeUnder version text vars_of (maxes_of p)) (Is c) (shape_text text vars_of c)
     the_shape c w m text first =
         let lines = section_lines text (area_words c.area ∷ map (bot_line vars_of) (present c.bots)) in
-        of_lines lines (subst (λ (maxes : List ℕ). RereadsLines (IsShapeUnder text vars_of maxes) (Is c) lines) m (config_lines vars_of c w (few_vars p k) text first))
+        of_lines lines (subst (λ (maxes : List ℕ). RereadsLines (IsShapeUnder version text vars_of maxes) (Is c) lines) m (config_lines version vars_of c w (few_vars p k) text first))
 
     the_journal : (bots : ℕ) → bots < 2 ^ 16 → (es : List Entry) → length es ≤ most_turns → All (KeepsLimits bots (length p.actions) vars_of) es → IsReread (IsJournal bots (length p.actions) vars_of) (Is es) (journal_text vars_of es)
     the_journal bots small es few each =
@@ -229,10 +229,10 @@ module _ (version : ℕ) (right : IsVersion version) where
     abbrev with : Option Config → Option (List Entry) → Option Config → Contents
     with world entries final_world = contents (Some q) world entries final_world
 
-    shape_as : (text : List ℕ) (c : Config) (words : Words) → Reads (IsShapeUnder text (length p.vars) (maxes_of p)) (Is c) words → Reads (IsShapeUnder text (length q.vars) (maxes_of q)) (Is c) words
+    shape_as : (text : List ℕ) (c : Config) (words : Words) → Reads (IsShapeUnder version text (length p.vars) (maxes_of p)) (Is c) words → Reads (IsShapeUnder version text (length q.vars) (maxes_of q)) (Is c) words
     shape_as text c words read ts s =
-        subst (λ (n : ℕ). Found (IsShapeUnder text n (maxes_of q)) (Is c) ts) (sym (as_many_vars q p same))
-        (subst (λ (maxes : List ℕ). Found (IsShapeUnder text (length p.vars) maxes) (Is c) ts) (sym (same_maxes q p same)) (read ts s))
+        subst (λ (n : ℕ). Found (IsShapeUnder version text n (maxes_of q)) (Is c) ts) (sym (as_many_vars q p same))
+        (subst (λ (maxes : List ℕ). Found (IsShapeUnder version text (length p.vars) maxes) (Is c) ts) (sym (same_maxes q p same)) (read ts s))
 
     journal_as : (bots : ℕ) (es : List Entry) (words : Words) → Reads (IsJournal bots (length p.actions) (length p.vars)) (Is es) words → Reads (IsJournal bots (length q.actions) (length q.vars)) (Is es) words
     journal_as bots es words read ts s =
@@ -240,13 +240,13 @@ module _ (version : ℕ) (right : IsVersion version) where
         (subst (λ (n : ℕ). Found (IsJournal bots n (length p.vars)) (Is es) ts) (sym (as_many_actions q p same)) (read ts s))
 
     -- a shape, and what stands behind it
-    shape_then : (c : Course) (R : Contents → Type 0) (w : Config) (us vs : Words) → Reads (IsShape (length p.vars) (maxes_of p)) (Is w) us → Reads (There c (with (Some w) None None)) R vs → Reads (Then (Body Shape (with None None None)) (λ b. There c b)) R (us ++ vs)
+    shape_then : (c : Course) (R : Contents → Type 0) (w : Config) (us vs : Words) → Reads (IsShape version (length p.vars) (maxes_of p)) (Is w) us → Reads (There c (with (Some w) None None)) R vs → Reads (Then (Body Shape (with None None None)) (λ b. There c b)) R (us ++ vs)
     shape_then c R w us vs read more =
         section_then Shape c (with None None None) (with (Some w) None None) R us vs
         (λ ts s. found_made (λ (d : Config). with (Some d) None None) (λ d e. ap (λ (d : Config). with (Some d) None None) e) ts (shape_as (codes "shape") w us read ts s)) more
 
     -- a journal, the last shape, and perhaps turns
-    record_then : (w d : Config) (es : List Entry) (us vs ws : Words) → Reads (IsJournal (length w.bots) (length p.actions) (length p.vars)) (Is es) us → Reads (IsFinal (length p.vars) (maxes_of p)) (Is d) vs → Reads (There (may Turns ends ends) (with (Some w) (Some es) (Some d))) (Is (with (Some w) (Some es) (Some d))) ws → Reads (There (needs Journal behind_journal) (with (Some w) None None)) (Is (with (Some w) (Some es) (Some d))) (us ++ (vs ++ ws))
+    record_then : (w d : Config) (es : List Entry) (us vs ws : Words) → Reads (IsJournal (length w.bots) (length p.actions) (length p.vars)) (Is es) us → Reads (IsFinal version (length p.vars) (maxes_of p)) (Is d) vs → Reads (There (may Turns ends ends) (with (Some w) (Some es) (Some d))) (Is (with (Some w) (Some es) (Some d))) ws → Reads (There (needs Journal behind_journal) (with (Some w) None None)) (Is (with (Some w) (Some es) (Some d))) (us ++ (vs ++ ws))
     record_then w d es us vs ws journal last turns =
         let all = with (Some w) (Some es) (Some d) in
         section_then Journal behind_journal (with (Some w) None None) (with (Some w) (Some es) None) (Is all) us (vs ++ ws)
@@ -278,8 +278,8 @@ module _ (version : ℕ) (right : IsVersion version) where
         (λ q same. bare p q same (may Shape (may_lists ends) ends) None None None []
         (left_out Shape (may_lists ends) ends (with p q same None None None) (Is (with p q same None None None)) [] (over (with p q same None None None)))))
 
-    module _ (c : Config) (w : IsWritableConfig (length p.vars) c) (m : c.maxes ≡ maxes_of p) where
-      abbrev of_shape : IsReread (IsShape (length p.vars) (maxes_of p)) (Is c) (shape_text (codes "shape") (length p.vars) c)
+    module _ (c : Config) (w : IsWritableConfig version (length p.vars) c) (m : c.maxes ≡ maxes_of p) where
+      abbrev of_shape : IsReread (IsShape version (length p.vars) (maxes_of p)) (Is c) (shape_text (codes "shape") (length p.vars) c)
       of_shape = the_shape p k c w m (codes "shape") shape_word
 
       abbrev unrecorded : Contents
@@ -314,14 +314,14 @@ module _ (version : ℕ) (right : IsVersion version) where
           (no_lists p q same behind all (Is all) [] (left_out Journal behind_journal ends all (Is all) [] (over all)))))))
 
       module _ (es : List Entry) (few : length es ≤ most_turns) (each : All (KeepsLimits (length c.bots) (length p.actions) (length p.vars)) es)
-          (d : Config) (v : IsWritableConfig (length p.vars) d) (n : d.maxes ≡ maxes_of p) (marks : Option MarkLists) (turns : TurnsAreRead marks) where
+          (d : Config) (v : IsWritableConfig version (length p.vars) d) (n : d.maxes ≡ maxes_of p) (marks : Option MarkLists) (turns : TurnsAreRead marks) where
         small_world : length c.bots < 2 ^ 16
         small_world = let most = w.few in omega arith
 
         abbrev of_journal : IsReread (IsJournal (length c.bots) (length p.actions) (length p.vars)) (Is es) (journal_text (length p.vars) es)
         of_journal = the_journal p k (length c.bots) small_world es few each
 
-        abbrev of_final : IsReread (IsFinal (length p.vars) (maxes_of p)) (Is d) (shape_text (codes "final") (length p.vars) d)
+        abbrev of_final : IsReread (IsFinal version (length p.vars) (maxes_of p)) (Is d) (shape_text (codes "final") (length p.vars) d)
         of_final = the_shape p k d v n (codes "final") final_word
 
         abbrev whole : Contents

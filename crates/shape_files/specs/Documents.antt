@@ -86,13 +86,13 @@ IsCheckedProgram = Judged IsProgram (λ p. first_in (faults p))
 
 abbrev pub Body : Section → Contents → Lang Contents
 Body Program s = Made IsCheckedProgram (λ p. record s { checked = Some p })
-Body Shape s = Made (IsShape (var_count s.checked) (maxes_in s.checked)) (λ c. record s { world = Some c })
+Body Shape s = Made (IsShape s.version (var_count s.checked) (maxes_in s.checked)) (λ c. record s { world = Some c })
 Body Lists s = Made (IsLists (bots_of s.world)) (λ l. record s { lists = Some l })
 Body Schedule s = Made (IsSchedule (callers_of s.lists)) (λ steps. record s { schedule = Some steps })
 Body Journal s =
     Made (IsJournal (bots_of s.world) (actions_of s.checked) (var_count s.checked))
     (λ es. record s { entries = Some es })
-Body Final s = Made (IsFinal (var_count s.checked) (maxes_in s.checked)) (λ c. record s { final_world = Some c })
+Body Final s = Made (IsFinal s.version (var_count s.checked) (maxes_in s.checked)) (λ c. record s { final_world = Some c })
 Body Turns s = Made IsTurns (λ u. s)
 
 -- ---- documents

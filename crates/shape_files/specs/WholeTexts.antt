@@ -55,7 +55,7 @@ pub record IsWritableProgram (p : tree.Program) : Type 0 where
 
 -- a configuration that a world has, with the maxima of the program
 pub record IsWritableShape (a : Contents) (c : Config) : Type 0 where
-  pub world : IsWritableConfig (var_count a.checked) c
+  pub world : IsWritableConfig a.version (var_count a.checked) c
   pub maxes : c.maxes ≡ maxes_in a.checked
 
 -- entries that break no limit, of the amoebots and actions that there are

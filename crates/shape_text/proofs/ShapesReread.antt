@@ -107,8 +107,8 @@ module _ (vars : ℕ) (le : vars ≤ 8) (c : Config) (bs : List Bot) (valid : Is
   same s is = ap (λ (x : Config). with_these x (map written_amoebot s.bots)) (framed s is) ∙ ap (with_these c) is.1
 
   -- in a section with this word
-  pub shape_lines : (text : List ℕ) → Rereads (IsWord text) Any (text ∷ []) → RereadsLines (IsShapeUnder text vars c.maxes) (Is (with_these c bs)) ((text ∷ []) ∷ the_lines ++ (codes "end" ∷ []) ∷ [])
-  shape_lines text first =
+  pub shape_lines : (version : ℕ) (text : List ℕ) → Rereads (IsWord text) Any (text ∷ []) → RereadsLines (IsShapeUnder version text vars c.maxes) (Is (with_these c bs)) ((text ∷ []) ∷ the_lines ++ (codes "end" ∷ []) ∷ [])
+  shape_lines version text first =
       let all = (text ∷ []) ∷ the_lines ++ (codes "end" ∷ []) ∷ [] in
       lines_made (stands_for c.maxes) all same (lines_judged (shape_fault c.maxes) all fine (lines_next ((text ∷ []) ∷ []) (the_lines ++ (codes "end" ∷ []) ∷ []) (reread_line (text ∷ []) first) closed_drawing))
 
@@ -120,7 +120,7 @@ all_present [] some = refl
 all_present (Some b ∷ os) some = ap (λ (rest : List (Option Bot)). Some b ∷ rest) (all_present os (λ i lt. some (suc i) (omega arith)))
 all_present (None ∷ os) some = absurd (let is = some zero (omega arith) in cc)
 
-module _ (vars : ℕ) (c : Config) (w : IsWritableConfig vars c) where
+module _ (version vars : ℕ) (c : Config) (w : IsWritableConfig version vars c) where
   abbrev bots : List Bot
   bots = present c.bots
 
@@ -148,12 +148,12 @@ module _ (vars : ℕ) (c : Config) (w : IsWritableConfig vars c) where
   few : length bots ≤ most_bots
   few = let size : length bots ≡ length c.bots = sym (length-map bots Some) ∙ ap length all in let most = w.few in omega arith
 
-  pub config_lines : vars ≤ 8 → (text : List ℕ) → Rereads (IsWord text) Any (text ∷ []) → RereadsLines (IsShapeUnder text vars c.maxes) (Is c) ((text ∷ []) ∷ (area_words c.area ∷ map (bot_line vars) bots) ++ (codes "end" ∷ []) ∷ [])
-  config_lines le text first = subst (λ (x : Config). RereadsLines (IsShapeUnder text vars c.maxes) (Is x) ((text ∷ []) ∷ (area_words c.area ∷ map (bot_line vars) bots) ++ (codes "end" ∷ []) ∷ [])) is
-      (shape_lines vars le c bots (subst IsValid (sym is) w.valid) few limits text first)
+  pub config_lines : vars ≤ 8 → (text : List ℕ) → Rereads (IsWord text) Any (text ∷ []) → RereadsLines (IsShapeUnder version text vars c.maxes) (Is c) ((text ∷ []) ∷ (area_words c.area ∷ map (bot_line vars) bots) ++ (codes "end" ∷ []) ∷ [])
+  config_lines le text first = subst (λ (x : Config). RereadsLines (IsShapeUnder version text vars c.maxes) (Is x) ((text ∷ []) ∷ (area_words c.area ∷ map (bot_line vars) bots) ++ (codes "end" ∷ []) ∷ [])) is
+      (shape_lines vars le c bots (subst IsValid (sym is) w.valid) few limits version text first)
 
-  says_it : vars ≤ 8 → (text : List ℕ) → Rereads (IsWord text) Any (text ∷ []) → Says (IsShapeUnder text vars c.maxes) (shape_text text vars c) (Ok c)
-  says_it le text first = lines_say (IsShapeUnder text vars c.maxes) c ((text ∷ []) ∷ (area_words c.area ∷ map (bot_line vars) bots) ++ (codes "end" ∷ []) ∷ []) (config_lines le text first)
+  says_it : vars ≤ 8 → (text : List ℕ) → Rereads (IsWord text) Any (text ∷ []) → Says (IsShapeUnder version text vars c.maxes) (shape_text text vars c) (Ok c)
+  says_it le text first = lines_say (IsShapeUnder version text vars c.maxes) c ((text ∷ []) ∷ (area_words c.area ∷ map (bot_line vars) bots) ++ (codes "end" ∷ []) ∷ []) (config_lines le text first)
 
 pub shape_word : Rereads (IsWord (codes "shape")) Any (codes "shape" ∷ [])
 shape_word = the_word _ _ refl refl (omega arith) refl
@@ -162,4 +162,4 @@ pub final_word : Rereads (IsWord (codes "final")) Any (codes "final" ∷ [])
 final_word = the_word _ _ refl refl (omega arith) refl
 
 pub shapes_reread : ShapesReadBack
-shapes_reread vars c le w = record { shape = says_it vars c w le (codes "shape") shape_word; final = says_it vars c w le (codes "final") final_word }
+shapes_reread version vars c le w = record { shape = says_it version vars c w le (codes "shape") shape_word; final = says_it version vars c w le (codes "final") final_word }

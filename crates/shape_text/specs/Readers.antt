@@ -41,8 +41,8 @@ a_written_shape text vars = a_word text >>= λ line. closed (a_drawing vars) is_
 unfoldable pub shape_under : List ℕ → ℕ → List ℕ → Reader Config
 shape_under text vars maxes = judged (a_written_shape text vars) (shape_fault maxes) >>= λ s. pure (stands_for maxes s)
 
-abbrev pub a_shape : ℕ → List ℕ → Reader Config
-a_shape = shape_under (codes "shape")
+abbrev pub a_shape : ℕ → ℕ → List ℕ → Reader Config
+a_shape version = shape_under (codes "shape")
 
-abbrev pub a_final : ℕ → List ℕ → Reader Config
-a_final = shape_under (codes "final")
+abbrev pub a_final : ℕ → ℕ → List ℕ → Reader Config
+a_final version = shape_under (codes "final")

@@ -115,12 +115,13 @@ module _ (maxes : List ℕ) where
   abbrev pub stands_for : WrittenShape → Config
   stands_for s = with_these (shape_frame s) (map written_amoebot s.bots)
 
--- a shape under this word, with the values of so many variables, and these maxima of all eight
-abbrev pub IsShapeUnder : List ℕ → ℕ → List ℕ → Lang Config
-IsShapeUnder text vars maxes = Made (Judged (IsWrittenShape text vars) (shape_fault maxes)) (stands_for maxes)
+-- A shape under this word, with the values of so many variables, and these maxima of all eight.
+-- The version is the document's. Each has the same shapes.
+abbrev pub IsShapeUnder : ℕ → List ℕ → ℕ → List ℕ → Lang Config
+IsShapeUnder version text vars maxes = Made (Judged (IsWrittenShape text vars) (shape_fault maxes)) (stands_for maxes)
 
-abbrev pub IsShape : ℕ → List ℕ → Lang Config
-IsShape = IsShapeUnder (codes "shape")
+abbrev pub IsShape : ℕ → ℕ → List ℕ → Lang Config
+IsShape version = IsShapeUnder version (codes "shape")
 
-abbrev pub IsFinal : ℕ → List ℕ → Lang Config
-IsFinal = IsShapeUnder (codes "final")
+abbrev pub IsFinal : ℕ → ℕ → List ℕ → Lang Config
+IsFinal version = IsShapeUnder version (codes "final")

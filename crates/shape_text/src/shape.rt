@@ -1,6 +1,6 @@
 //! The sections `shape` and `final` read.
 
-ghost use Rattle.std.specs.Prelude.{◌≡◌, ◌<◌, ◌≤◌, length, map, option_map, vec_len, IfOk, IfErr, IfSome};
+ghost use Rattle.std.specs.Prelude.{◌≡◌, ◌<◌, ◌≤◌, ℕ, length, map, option_map, vec_len, IfOk, IfErr, IfSome};
 ghost use Rattle.std.specs.List.{All};
 ghost use Rattle.text_tokens.specs.declared.refusal.ReadRefusal.TheVariants.{NoMemory};
 ghost use Rattle.text_tokens.specs.Steps.{Gives, ReadsOf, TellsOf, another};
@@ -226,7 +226,7 @@ fn read_under(
 }
 
 /// Reads the section `shape` up to its `end`: the world that it stands for, with values for so many variables, at most 8, and
-/// these maxima of all eight.
+/// these maxima of all eight. Documents of each version have the same shapes.
 pub fn read_shape(
     alloc: Global,
     tokens: &mut Tokens<'_>,
@@ -234,8 +234,8 @@ pub fn read_shape(
     maxes: [u8; 8],
 ) -> Result<World, ReadRefusal>
     requires { vars ≤ most_vars }
-    ensures tells { TellsOf (spec.IsShape vars maxes) (λ c. c) tokens.old result tokens.new }
-    ensures reads { ReadsOf (spec.IsShape vars maxes) (λ c. c) tokens.old result tokens.new }
+    ensures tells { (version : ℕ) → TellsOf (spec.IsShape version vars maxes) (λ c. c) tokens.old result tokens.new }
+    ensures reads { (version : ℕ) → ReadsOf (spec.IsShape version vars maxes) (λ c. c) tokens.old result tokens.new }
     ensures few { IfOk result (λ w. length w.bots ≤ most_bots) }
 {
     read_under(alloc, tokens, b"shape", vars, maxes)
@@ -249,8 +249,8 @@ pub fn read_final(
     maxes: [u8; 8],
 ) -> Result<World, ReadRefusal>
     requires { vars ≤ most_vars }
-    ensures tells { TellsOf (spec.IsFinal vars maxes) (λ c. c) tokens.old result tokens.new }
-    ensures reads { ReadsOf (spec.IsFinal vars maxes) (λ c. c) tokens.old result tokens.new }
+    ensures tells { (version : ℕ) → TellsOf (spec.IsFinal version vars maxes) (λ c. c) tokens.old result tokens.new }
+    ensures reads { (version : ℕ) → ReadsOf (spec.IsFinal version vars maxes) (λ c. c) tokens.old result tokens.new }
     ensures few { IfOk result (λ w. length w.bots ≤ most_bots) }
 {
     read_under(alloc, tokens, b"final", vars, maxes)
