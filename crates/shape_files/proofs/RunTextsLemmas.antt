@@ -120,7 +120,7 @@ module _ (a : Contents) (es : List Entry) (c : Config) (m : MarkLists) (k : Keep
 
   the_turns : RereadsLines (There (may Turns ends ends) whole) (Is whole) of_turns
   the_turns =
-      let t = lines_made (λ u. whole) of_turns (λ u e. refl) (turns_lines m k.callers k.marks) in
+      let t = lines_made (λ u. whole) of_turns (λ u e. refl) (turns_lines a.version m k.callers k.marks) in
       let behind = lines_then {Q = λ s. There ends s} of_turns [] whole t (lines_nothing whole is_nothing) in
       subst (λ (ls : List Words). RereadsLines (There (may Turns ends ends) whole) (Is whole) ls) (append-nil of_turns) (lines_into (of_turns ++ []) (λ xs s is. of_first is) behind)
 

@@ -82,12 +82,12 @@ pairs_fit = All-from_recursion (IsWritablePair 0) entry_made.patch (node_fits, (
 entry_fits : KeepsLimits 1 1 0 entry_made
 entry_fits = record { known = refl; movement = omega arith; few = omega arith; pairs = pairs_fit }
 
-marks_fit : All AreWritable two_marks.marks
+marks_fit : All (AreWritable 1) two_marks.marks
 marks_fit =
-    All-cons AreWritable (mark.Done 0 ∷ mark.Idle 1 ∷ []) [] (record {
+    All-cons (AreWritable 1) (mark.Done 0 ∷ mark.Idle 1 ∷ []) [] (record {
       few = omega arith;
-      each = All-cons IsWritableMark (mark.Done 0) (mark.Idle 1 ∷ []) (omega arith) (All-cons IsWritableMark (mark.Idle 1) [] (omega arith) (All-nil IsWritableMark));
-    }) (All-nil AreWritable)
+      each = All-cons (IsWritableMark 1) (mark.Done 0) (mark.Idle 1 ∷ []) (omega arith) (All-cons (IsWritableMark 1) (mark.Idle 1) [] (omega arith) (All-nil (IsWritableMark 1)));
+    }) (All-nil (AreWritable 1))
 
 pub whole_text_rows : WholeTextRows
 unfolding digits

@@ -34,7 +34,8 @@ use Rattle.action_check.specs.Faults.{faults}
 use Rattle.action_check.specs.Maxes.{maxes_of}
 use Rattle.journal_text.specs.Journals.{IsJournal}
 use Rattle.journal_text.specs.Texts.{entry_words, caller_lines, journal_text, turns_text}
-use Rattle.journal_text.specs.Rereading.{KeepsLimits}
+use Rattle.journal_text.specs.Turns.{IsTurns}
+use Rattle.journal_text.specs.Rereading.{KeepsLimits, AreWritable}
 use Rattle.node_text.specs.Parts.{outside, IsWord}
 use Rattle.node_text.proofs.Outside.{inside}
 use Rattle.shape_text.specs.Rereading.{IsWritableConfig}
@@ -194,16 +195,17 @@ module _ (version : ℕ) (right : IsVersion version) where
   record TurnsAreRead (marks : Option MarkLists) : Type 0 where
     pub words : Words
     pub spelt : IsSpelt (flat_map (λ text. text) (text_of_some turns_text marks)) words
-    pub read : (s : Contents) → Reads (There (may Turns ends ends) s) (Is s) words
+    pub read : (s : Contents) → s.version ≡ version → Reads (There (may Turns ends ends) s) (Is s) words
 
-  turns_read : (a : Contents) (marks : Option MarkLists) → IfSome marks (AreWritableMarks a) → TurnsAreRead marks
-  turns_read a None k = record { words = []; spelt = no_text; read = λ s. left_out Turns ends ends s (Is s) [] (over s) }
-  turns_read a (Some m) k =
-      let t = of_lines (section_lines (codes "turns") (flat_map caller_lines (enumerate_from 0 m.marks))) (turns_lines m k.callers k.each) in
+  turns_read : (a : Contents) → a.version ≡ version → (marks : Option MarkLists) → IfSome marks (AreWritableMarks a) → TurnsAreRead marks
+  turns_read a its None k = record { words = []; spelt = no_text; read = λ s e. left_out Turns ends ends s (Is s) [] (over s) }
+  turns_read a its (Some m) k =
+      let each : All (AreWritable version) m.marks = subst (λ (v : ℕ). All (AreWritable v) m.marks) its k.each in
+      let t = of_lines (section_lines (codes "turns") (flat_map caller_lines (enumerate_from 0 m.marks))) (turns_lines version m k.callers each) in
       record {
         words = t.words ++ [];
         spelt = text_then (turns_text m) [] t.words [] t.spelt no_text;
-        read = λ s. comes Turns ends ends s (Is s) (t.words ++ []) (section_then Turns ends s s (Is s) t.words [] (λ ts spelled. found_made (λ u. s) (λ u e. refl) ts (t.read ts spelled)) (over s));
+        read = λ s at. comes Turns ends ends s (Is s) (t.words ++ []) (section_then Turns ends s s (Is s) t.words [] (λ ts spelled. found_made (λ u. s) (λ u e. refl) ts (subst (λ (v : ℕ). Found (IsTurns v) (Is tt) ts) (sym at) (t.read ts spelled))) (over s));
       }
 
   -- ---- what is printed of a program
@@ -358,7 +360,7 @@ module _ (version : ℕ) (right : IsVersion version) where
             bare p q same (needs Shape (may_lists behind)) (Some c) (Some es) (Some d) (of_shape.words ++ last_words)
             (shape_then p q same (may_lists behind) (Is all) c of_shape.words last_words of_shape.read
             (no_lists p q same behind (with p q same (Some c) None None) (Is all) last_words
-            (into q same (record_then p q same c d es of_journal.words of_final.words turns.words of_journal.read of_final.read (turns.read all)))))))
+            (into q same (record_then p q same c d es of_journal.words of_final.words turns.words of_journal.read of_final.read (turns.read all refl)))))))
 
         replayed : HasBareContents Replay (document_text whole marks) whole
         replayed = read_back Replay whole all_texts all_words all_spelt (recorded_by (needs Journal behind_journal) (λ q same read. read))
@@ -388,7 +390,7 @@ module _ (version : ℕ) (right : IsVersion version) where
   of_form Replay (Some p) (Some c) None d marks k = absurd (let no = k.sections.2 in cc)
   of_form Replay (Some p) (Some c) (Some es) None marks k = absurd (let no = k.sections.3 in cc)
   of_form Replay (Some p) (Some c) (Some es) (Some d) marks k =
-      replayed p k.program c k.world.world k.world.maxes es k.entries.few k.entries.each d k.final_world.world k.final_world.maxes marks (turns_read _ marks k.turns)
+      replayed p k.program c k.world.world k.world.maxes es k.entries.few k.entries.each d k.final_world.world k.final_world.maxes marks (turns_read _ refl marks k.turns)
   of_form Measure None w es d marks k = absurd (let no = k.sections.0 in cc)
   of_form Measure (Some p) None es d marks k = absurd (let no = k.sections.1 in cc)
   of_form Measure (Some p) (Some c) (Some es) None marks k = absurd (let no = k.recorded.last in cc)
@@ -396,7 +398,7 @@ module _ (version : ℕ) (right : IsVersion version) where
   of_form Measure (Some p) (Some c) None None (Some m) k = absurd (let no = k.turns.behind in cc)
   of_form Measure (Some p) (Some c) None None None k = measured p k.program c k.world.world k.world.maxes
   of_form Measure (Some p) (Some c) (Some es) (Some d) marks k =
-      measured_record p k.program c k.world.world k.world.maxes es k.entries.few k.entries.each d k.final_world.world k.final_world.maxes marks (turns_read _ marks k.turns)
+      measured_record p k.program c k.world.world k.world.maxes es k.entries.few k.entries.each d k.final_world.world k.final_world.maxes marks (turns_read _ refl marks k.turns)
 
 pub documents_read_back : DocumentsReadBack
 documents_read_back form a marks k =

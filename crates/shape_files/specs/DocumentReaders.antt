@@ -26,7 +26,7 @@ body Journal s =
     journal (bots_of s.world) (actions_of s.checked) (var_count s.checked)
     >>= λ es. pure (record s { entries = Some es })
 body Final s = a_final s.version (var_count s.checked) (maxes_in s.checked) >>= λ c. pure (record s { final_world = Some c })
-body Turns s = the_turns >>= λ u. pure s
+body Turns s = the_turns s.version >>= λ u. pure s
 
 unfoldable pub document : Form → Reader Contents
 document form = in_frame body (course_of form) nothing_yet

@@ -93,7 +93,7 @@ Body Journal s =
     Made (IsJournal (bots_of s.world) (actions_of s.checked) (var_count s.checked))
     (λ es. record s { entries = Some es })
 Body Final s = Made (IsFinal s.version (var_count s.checked) (maxes_in s.checked)) (λ c. record s { final_world = Some c })
-Body Turns s = Made IsTurns (λ u. s)
+Body Turns s = Made (IsTurns s.version) (λ u. s)
 
 -- ---- documents
 

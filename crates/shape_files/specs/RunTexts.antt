@@ -29,7 +29,7 @@ pub record KeepsRunLimits (a : Contents) (es : List Entry) (c : Config) (m : Mar
   pub last : IsWritableConfig a.version (var_count a.checked) c
   pub maxes : c.maxes ≡ maxes_in a.checked
   pub callers : length m.marks ≤ most_callers
-  pub marks : All AreWritable m.marks
+  pub marks : All (AreWritable a.version) m.marks
 
 -- the last byte is a line feed
 abbrev pub EndsLine : List ℕ → Type 0

@@ -68,7 +68,7 @@ pub record AreWritableEntries (a : Contents) (es : List Entry) : Type 0 where
 pub record AreWritableMarks (a : Contents) (m : MarkLists) : Type 0 where
   pub behind : IsSome a.final_world
   pub callers : length m.marks ≤ most_callers
-  pub each : All AreWritable m.marks
+  pub each : All (AreWritable a.version) m.marks
 
 -- The version is one that there is.
 -- The sections are those of the form, without lists and a schedule, and each of them can be printed.
