@@ -43,10 +43,11 @@ as_run s b zs is = behind_section Program (needs Shape (needs Lists (needs Sched
 
 document_as_run : (a : Contents) (us : List Lexeme) → IsWhole (IsDocument Interleave) us a → IsWhole (IsDocument Run) us a
 document_as_run a us w =
-    let i = whole_in IsHeader (λ version. IsRest Body (course_of Interleave) nothing_yet) us a w in
-    let one = (plain Body are_sections.start (course_of Interleave) (forms_are_distinct Interleave) nothing_yet).into i.ws a i.second in
-    let other : IsWhole (There (course_of Run) nothing_yet) i.ws a = record { text = one.text; is = as_run nothing_yet a one.text one.is; parts = one.parts; fine = one.fine } in
-    whole_then i.vs i.ws us i.a a i.parts i.first ((plain Body are_sections.start (course_of Run) (forms_are_distinct Run) nothing_yet).back i.ws a other)
+    let i = whole_in IsHeader (λ version. IsRest Body (course_of Interleave) (nothing_yet version)) us a w in
+    let start = nothing_yet i.a in
+    let one = (plain Body are_sections.start (course_of Interleave) (forms_are_distinct Interleave) start).into i.ws a i.second in
+    let other : IsWhole (There (course_of Run) start) i.ws a = record { text = one.text; is = as_run start a one.text one.is; parts = one.parts; fine = one.fine } in
+    whole_then i.vs i.ws us i.a a i.parts i.first ((plain Body are_sections.start (course_of Run) (forms_are_distinct Run) start).back i.ws a other)
 
 pub interleaves_are_runs : (bytes : List ℕ) (a : Contents) → HasContents Interleave bytes a → HasContents Run bytes a
 interleaves_are_runs bytes a holds =

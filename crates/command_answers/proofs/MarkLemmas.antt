@@ -79,11 +79,11 @@ module _ (f : Shown → Verdict) (start : Config) (lists : CallerLists) (entries
   by_short : (caller turn bot : ℕ) → caller < length lists.ids → bot ≡ bot_of_turn lists caller turn → IsShort bot
   by_short caller turn bot inside same = subst IsShort (sym same) (id_short (list_of lists caller) _ (length start.bots) (bots caller [] inside) few)
 
-  mark_short : (caller turn : ℕ) (m : Mark) → TurnOk f start lists entries marks caller turn m → IsWritableMark m
-  mark_short caller turn (mark.Done place) ok = let within = slice_get_within entries place ok.0 ok.1 in omega arith
-  mark_short caller turn (mark.Idle place) ok = place_short place ok.0 ok.1
-  mark_short caller turn (mark.Failed why place) ok = place_short place ok.0 ok.1
-  mark_short caller turn (mark.Busy n by_caller by_turn by_bot place) ok =
+  mark_short : (version caller turn : ℕ) (m : Mark) → TurnOk f start lists entries marks caller turn m → IsWritableMark version m
+  mark_short version caller turn (mark.Done place) ok = let within = slice_get_within entries place ok.0 ok.1 in omega arith
+  mark_short version caller turn (mark.Idle place) ok = place_short place ok.0 ok.1
+  mark_short version caller turn (mark.Failed why place) ok = place_short place ok.0 ok.1
+  mark_short version caller turn (mark.Busy n by_caller by_turn by_bot place) ok =
       let held = ok.0 in
       let may = ok.1 in
       let turns = turns_few by_caller may.listed in
@@ -102,13 +102,13 @@ module _ (f : Shown → Verdict) (start : Config) (lists : CallerLists) (entries
     pub few_callers : length marks.marks ≤ most_callers
     few_callers = let callers = are.callers in let most = lists_few.at_most_16 in omega arith
 
-    own_writable : (caller : ℕ) (own : List Mark) → caller < length lists.ids → length own ≡ lists.turns → marks_of marks caller ≡ own → AreWritable own
-    own_writable caller own inside long is_own =
+    own_writable : (version caller : ℕ) (own : List Mark) → caller < length lists.ids → length own ≡ lists.turns → marks_of marks caller ≡ own → AreWritable version own
+    own_writable version caller own inside long is_own =
         let turns = turns_few caller inside in
         record {
           few = omega arith;
-          each = λ j e within. mark_short caller j (get_or own j e) (are.right caller j (get_or own j e) (ap (λ (ms : List Mark). slice_get ms j) is_own ∙ slice_get-get_or own j e within));
+          each = λ j e within. mark_short version caller j (get_or own j e) (are.right caller j (get_or own j e) (ap (λ (ms : List Mark). slice_get ms j) is_own ∙ slice_get-get_or own j e within));
         }
 
-    pub marks_writable : All AreWritable marks.marks
-    marks_writable k d inside = own_writable k (get_or marks.marks k d) (let callers = are.callers in omega arith) (are.turns k d inside) (get_or_default marks.marks k [] d inside)
+    pub marks_writable : (version : ℕ) → All (AreWritable version) marks.marks
+    marks_writable version k d inside = own_writable version k (get_or marks.marks k d) (let callers = are.callers in omega arith) (are.turns k d inside) (get_or_default marks.marks k [] d inside)

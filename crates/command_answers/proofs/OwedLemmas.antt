@@ -101,7 +101,7 @@ module _ (documents : DocumentsAreDecided) (runs : RunTextIsOne) (interleaves : 
   one_outcome bytes a c s t one two text other h (differing d place differs) (differing e there differ) =
       let same = same_place a d e place there differs differ in
       record { status = ap status.Differs same; report = λ _. tt; text = λ _. ap differs_line same }
-  one_outcome bytes a c s t one two text other h (of_check p its_program) (of_check q its_other) = record { status = refl; report = λ _. tt; text = λ _. ap check_text (one_at _ p q its_program its_other) }
+  one_outcome bytes a c s t one two text other h (of_check p its_program) (of_check q its_other) = record { status = refl; report = λ _. tt; text = λ _. ap (check_text a.version) (one_at _ p q its_program its_other) }
   one_outcome bytes a c s t one two text other h (of_measure last u its_last measured) (of_measure end v its_end measure) =
       record { status = refl; report = λ _. tt; text = λ _. measures last u v measured (subst (λ (w : Config). IsMeasureText w v) (one_at _ end last its_end its_last) measure) }
 

@@ -45,7 +45,7 @@ are_there a start lists fit its_shape its_lists no_gaps =
     λ i d inside j e within. no_gaps _ (bots i d inside j e within)
 
 -- a shipped program is shown
-pub shows : (p : Shipped) (text : List ℕ) (answer : Answer) → answer ≡ record { status = status.Done; report = None; text = text } → text ≡ check_text (tree_of p)
+pub shows : (p : Shipped) (text : List ℕ) (answer : Answer) → answer ≡ record { status = status.Done; report = None; text = text } → text ≡ check_text 1 (tree_of p)
     → IsOwed (Some (Show p)) nothing answer.status answer.report answer.text
 shows p text answer same is = subst (λ (x : Answer). IsOwed (Some (Show p)) nothing x.status x.report x.text) (sym same)
     (subst (λ (t : List ℕ). IsOwed (Some (Show p)) nothing status.Done None t) (sym is) (shown p))
@@ -67,9 +67,9 @@ module _ (a : Contents) (text : List ℕ) where
       subst (λ (line : List ℕ). IsOwed (Some (Document Replay)) (whole bytes) (status.Differs place) None line) (sym is)
       (served Replay bytes a (status.Differs place) None (differs_line place) h (differing (record { program = p; start = start; entries = entries; final = final; its_program = its_program; its_shape = its_shape; its_journal = its_journal; its_final = its_final }) place none))
 
-  pub is_checked : (p : Program) → a.checked ≡ Some p → text ≡ check_text p → IsAnswerTo Check a (record { status = status.Done; report = None; text = text })
+  pub is_checked : (p : Program) → a.checked ≡ Some p → text ≡ check_text a.version p → IsAnswerTo Check a (record { status = status.Done; report = None; text = text })
   is_checked p its_program is bytes h =
-      subst (λ (t : List ℕ). IsOwed (Some (Document Check)) (whole bytes) status.Done None t) (sym is) (served Check bytes a status.Done None (check_text p) h (of_check p its_program))
+      subst (λ (t : List ℕ). IsOwed (Some (Document Check)) (whole bytes) status.Done None t) (sym is) (served Check bytes a status.Done None (check_text a.version p) h (of_check p its_program))
 
   pub is_measured : (last : Config) → last_shape a ≡ Some last → IsMeasureText last text → IsAnswerTo Measure a (record { status = status.Done; report = None; text = text })
   is_measured last is measures bytes h = served Measure bytes a status.Done None text h (of_measure last text is measures)

@@ -115,10 +115,10 @@ module _ (laws : Laws) (bytes : List ℕ) (a : Contents) (p : Program) (start : 
     few = few_entries;
     entries = subst (λ (o : Option Config). All (KeepsLimits (bots_of o) (actions_of a.checked) (var_count a.checked)) report.journal.entries) (sym its_shape)
         (subst (λ (o : Option Program). All (KeepsLimits (length start.bots) (actions_of o) (var_count o)) report.journal.entries) (sym its_program) entries);
-    last = subst (λ (o : Option Program). shape.IsWritableConfig (var_count o) report.world) (sym its_program) (is_writable p start may report.world last);
+    last = subst (λ (o : Option Program). shape.IsWritableConfig a.version (var_count o) report.world) (sym its_program) (is_writable p start may report.world last a.version);
     maxes = subst (λ (o : Option Program). report.world.maxes ≡ maxes_in o) (sym its_program) (maxes_are p start may report.world last);
     callers = few_callers (verdict_shown p) start lists report.journal.entries report.turns first drawn.few bots_there few_lists few_entries good.marks;
-    marks = marks_writable (verdict_shown p) start lists report.journal.entries report.turns first drawn.few bots_there few_lists few_entries good.marks;
+    marks = marks_writable (verdict_shown p) start lists report.journal.entries report.turns first drawn.few bots_there few_lists few_entries good.marks a.version;
   }
 
   is_replayed : (text : List ℕ) → EndsLine bytes → text ≡ report_text (length p.vars) report → IsReplayed bytes a report text

@@ -147,7 +147,7 @@ module _ (laws : Exists) where
       let es = there_is a.entries has.2 in
       let last = there_is a.final_world has.3 in
       replay_outcome bytes a Replay h (record { program = p.0; start = w.0; entries = es.0; final = last.0; its_program = p.1; its_shape = w.1; its_journal = es.1; its_final = last.1 })
-  outcome Check bytes a h = let p = there_is a.checked (fits bytes a Check h).sections.0 in record { status = status.Done; report = None; text = check_text p.0; is = of_check p.0 p.1 }
+  outcome Check bytes a h = let p = there_is a.checked (fits bytes a Check h).sections.0 in record { status = status.Done; report = None; text = check_text a.version p.0; is = of_check p.0 p.1 }
   outcome Measure bytes a h = measure_outcome bytes a Measure h (fits bytes a Measure h).sections.1
 
   for_whole : (c : DocumentCommand) (bytes : List ℕ) → SomethingOwed (Some (Document c)) (whole bytes)
@@ -189,7 +189,7 @@ module _ (laws : Exists) where
     whole_input = for_whole;
     long_input = λ c got. record { status = status.Refused too_long; report = None; text = refusal_line too_long; owed = longer c got };
     failed_input = λ c got. record { status = status.ReadFault; report = None; text = read_fault_line; owed = read_fault c got };
-    show = λ program. record { status = status.Done; report = None; text = check_text (tree_of program); owed = shown program };
+    show = λ program. record { status = status.Done; report = None; text = check_text 1 (tree_of program); owed = shown program };
     sample = for_sample;
     no_command = record { status = status.Words; report = None; text = usage_line; owed = usage };
   }

@@ -73,8 +73,8 @@ module _ (p : Program) (start : Config) (may : MayRun p start) (c : Config) (is 
   pub has_limits : (i : ℕ) (b : Bot) → bot_at c i ≡ Some b → HasLimits (length p.vars) b
   has_limits i b at = limits_of (length p.vars) c may.vars is.valid.area is.valid.eight small none_past b (is.valid.each i b at)
 
-  pub is_writable : shape.IsWritableConfig (length p.vars) c
-  is_writable = record {
+  pub is_writable : (version : ℕ) → shape.IsWritableConfig version (length p.vars) c
+  is_writable version = record {
     valid = is.valid;
     few = (let size = is.size in let few = may.few in omega arith);
     no_gaps = λ id lt. is.ids id ∙ may.no_gaps id (let size = is.size in omega arith);

@@ -72,10 +72,10 @@ pub data IsOutcome (a : Contents) : DocumentCommand → Status → Option Report
   differing : (d : DocumentJournal a) (place : ℕ)
       → DiffersAt (verdict_shown d.program) d.start d.entries d.final place
       → IsOutcome a Replay (status.Differs place) None (differs_line place)
-  -- `check`: the canonical text of the program
+  -- `check`: the canonical text of the program, under the version of the document
   of_check : (program : Program)
       → a.checked ≡ Some program
-      → IsOutcome a Check status.Done None (check_text program)
+      → IsOutcome a Check status.Done None (check_text a.version program)
   -- `measure`: the measures of the last shape
   of_measure : (last : Config) (text : List ℕ)
       → last_shape a ≡ Some last

@@ -39,7 +39,7 @@ pub data IsOwed : Option Command → Read → Status → Option Report → List 
       → IsOutcome a c s report text
       → IsOwed (Some (Document c)) (whole bytes) s report text
   -- a shipped program is shown as `check` writes one; nothing is read
-  shown : (program : Shipped) → IsOwed (Some (Show program)) nothing status.Done None (check_text (tree_of program))
+  shown : (program : Shipped) → IsOwed (Some (Show program)) nothing status.Done None (check_text 1 (tree_of program))
   -- the sample of a number is run; nothing is read
   sampled : (seed : ℕ) (report : Report) (text : List ℕ)
       → IsTextOfSample seed report text

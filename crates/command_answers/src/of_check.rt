@@ -13,12 +13,13 @@ use command_words::DocumentCommand;
 use shape_files::Parts;
 use std::alloc::Global;
 
-/// The program is printed in its canonical form.
+/// The program is printed in its canonical form, under the version of its document.
 pub(crate) fn answer_check(alloc: Global, parts: Parts) -> Result<Answer, NoMemory>
     requires { Fits (form_of DocumentCommand.Check) (contents parts) }
     ensures { IfOk result (IsAnswerTo DocumentCommand.Check (contents parts)) }
 {
+    let version = parts.version();
     let Parts { checked, .. } = parts;
-    let text = print_check(alloc, checked.unwrap().program())?;
+    let text = print_check(alloc, version, checked.unwrap().program())?;
     Ok(done(text))
 }

@@ -11,11 +11,14 @@ use command_runs::print_check;
 use shipped_programs::Shipped;
 use std::alloc::Global;
 
+/// The version of the documents that are shown.
+const VERSION: u8 = 1;
+
 /// What is answered to `show`, which reads nothing.
 pub fn answer_show(alloc: Global, program: Shipped) -> Result<Answer, NoMemory>
     ensures { IfOk result (λ a. IsOwed (Some (Show program)) nothing a.status a.report a.text) }
 {
     let shipped = program.program(alloc)?;
-    let text = print_check(alloc, shipped.program())?;
+    let text = print_check(alloc, VERSION, shipped.program())?;
     Ok(done(text))
 }

@@ -79,7 +79,7 @@ pub record SmallCommands : Type 0 where
   pub differs : DiffersAt decides start (second_expansion ∷ second_expansion ∷ []) second_spread 1
   pub other_shape : DiffersAt decides start (second_expansion ∷ []) start 1
   pub agrees_line : agrees_line 12 ≡ codes "agrees 12\n"
-  pub check_text : check_text counting ≡ counting_checked
+  pub check_text : check_text 1 counting ≡ counting_checked
   pub differs_line : differs_line 0 ≡ codes "differs 0\n"
   pub measure : IsMeasureText nobody (codes "bots 0\nconnected yes\nhexagon no\n")
   pub hexagon : IsMeasureText one_alone (codes "bots 1\nconnected yes\nhexagon yes\n")

@@ -46,14 +46,12 @@ pub fn print_differs(alloc: Global, place: u32) -> Result<Text, NoMemory>
     Ok(lines.text())
 }
 
-/// The canonical text of a program, under the first line of a document.
-pub fn print_check(alloc: Global, program: &Program) -> Result<Text, NoMemory>
-    ensures { IfOk result (λ text. text ≡ check_text program.now) }
+/// The canonical text of a program, under the first line of a document of this version.
+pub fn print_check(alloc: Global, version: u8, program: &Program) -> Result<Text, NoMemory>
+    ensures { IfOk result (λ text. text ≡ check_text version program.now) }
 {
     let mut lines = Lines::new(alloc);
-    lines.begin("amoebot")?;
-    lines.word("1")?;
-    lines.end()?;
+    put_number(&mut lines, "amoebot", version)?;
     put_program(&mut lines, program)?;
     Ok(lines.text())
 }

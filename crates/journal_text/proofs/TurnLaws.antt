@@ -17,7 +17,7 @@ use Rattle.node_text.specs.Parts.{word, is_end, IsWord, IsNumber}
 use Rattle.journal_text.specs.Journals.{IsCellText}
 use Rattle.journal_text.specs.Turns.{Nothing, Unheeded, names_failure, is_failure, IsPlacedMark, IsFailed, IsClaimant, IsBusy, IsMark, is_turn, IsTurnLine, as_before, AreTurns, IsTurns}
 use Rattle.node_text.specs.PartReaders.{a_word, a_number}
-use Rattle.journal_text.specs.Readers.{unheeded, placed_mark, a_cell, a_failed, a_claimant, a_busy, a_mark, a_turn, turn_in, all_turn_lines, the_turns}
+use Rattle.journal_text.specs.Readers.{unheeded, placed_mark, a_cell, a_failed, a_claimant, a_busy, a_mark, a_turn, turn_in, all_turn_lines, whole_turns, the_turns}
 use Rattle.node_text.proofs.PartLaws.{up_to_end, starts_word, part_word, part_number}
 use Rattle.journal_text.proofs.JournalLaws.{part_cell}
 
@@ -125,9 +125,9 @@ part_turns : IsPart AreTurns all_turn_lines is_end
 unfolding all_turn_lines
 part_turns = part_repeated TurnIn turn_in as_before is_turn always is_end turn_elements tt
 
-pub part_the_turns : IsPart IsTurns the_turns always
-unfolding the_turns
-part_the_turns = one_behind (part_word (codes "turns") refl) (λ line. up_to_end (into (λ ts. tt) part_turns))
+pub part_the_turns : (version : ℕ) → IsPart (IsTurns version) (the_turns version) always
+unfolding whole_turns
+part_the_turns version = one_behind (part_word (codes "turns") refl) (λ line. up_to_end (into (λ ts. tt) part_turns))
 
-pub exact_turns : Exact IsTurns the_turns
-exact_turns = exact IsTurns the_turns part_the_turns.law
+pub exact_turns : (version : ℕ) → Exact (IsTurns version) (the_turns version)
+exact_turns version = exact (IsTurns version) (the_turns version) (part_the_turns version).law

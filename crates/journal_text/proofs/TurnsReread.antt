@@ -102,21 +102,21 @@ busy c a b n place h =
     (rereads_next (cell_words c) (codes "by" ∷ decimal a ∷ decimal b ∷ decimal n ∷ behind) (a_cell c h.cell)
     (rereads_next (codes "by" ∷ decimal a ∷ decimal b ∷ decimal n ∷ []) behind (a_claimant a b n h.caller h.turn h.bot) (placed (codes "place") (the_word _ _ refl refl (omega arith) refl) place h.at)))
 
-a_mark : (m : Mark) → IsWritableMark m → Rereads IsMark (Is tt) (mark_words m)
-a_mark (mark.Done n) h = rereads_first (codes "done" ∷ decimal n ∷ []) (placed (codes "done") (the_word _ _ refl refl (omega arith) refl) n h)
-a_mark (mark.Idle n) h = rereads_second (codes "idle" ∷ decimal n ∷ []) (rereads_first (codes "idle" ∷ decimal n ∷ []) (placed (codes "idle") (the_word _ _ refl refl (omega arith) refl) n h))
-a_mark (mark.Failed f n) h = let words = codes "failed" ∷ failure_word f ∷ decimal n ∷ [] in rereads_second words (rereads_second words (rereads_first words (failed f n h)))
-a_mark (mark.Busy c a b n place) h =
+a_mark : (version : ℕ) (m : Mark) → IsWritableMark version m → Rereads IsMark (Is tt) (mark_words m)
+a_mark version (mark.Done n) h = rereads_first (codes "done" ∷ decimal n ∷ []) (placed (codes "done") (the_word _ _ refl refl (omega arith) refl) n h)
+a_mark version (mark.Idle n) h = rereads_second (codes "idle" ∷ decimal n ∷ []) (rereads_first (codes "idle" ∷ decimal n ∷ []) (placed (codes "idle") (the_word _ _ refl refl (omega arith) refl) n h))
+a_mark version (mark.Failed f n) h = let words = codes "failed" ∷ failure_word f ∷ decimal n ∷ [] in rereads_second words (rereads_second words (rereads_first words (failed f n h)))
+a_mark version (mark.Busy c a b n place) h =
     let words = mark_words (mark.Busy c a b n place) in
     rereads_second words (rereads_second words (rereads_second words (busy c a b n place h)))
 
 -- ---- turns
 
-a_turn : (caller turn : ℕ) (m : Mark) → IsShort caller → IsShort turn → IsWritableMark m → Rereads IsTurnLine Any (turn_words caller (turn, m))
-a_turn caller turn m p q h =
+a_turn : (version caller turn : ℕ) (m : Mark) → IsShort caller → IsShort turn → IsWritableMark version m → Rereads IsTurnLine Any (turn_words caller (turn, m))
+a_turn version caller turn m p q h =
     rereads_next (codes "turn" ∷ []) (decimal caller ∷ decimal turn ∷ mark_words m) (the_word _ _ refl refl (omega arith) refl)
     (rereads_next (decimal caller ∷ []) (decimal turn ∷ mark_words m) (any_number caller p)
-    (rereads_next (decimal turn ∷ []) (mark_words m) (any_number turn q) (any_of (a_mark m h))))
+    (rereads_next (decimal turn ∷ []) (mark_words m) (any_number turn q) (any_of (a_mark version m h))))
   where
     any_of : Rereads IsMark (Is tt) (mark_words m) → Rereads IsMark Any (mark_words m)
     any_of r = record { spelled = r.spelled; printed = r.printed; read = λ ts s. (let f = r.read ts s in record { value = f.value; whole = f.whole; holds = tt }) }
@@ -126,32 +126,32 @@ one_more_turn words more p q =
     lines_into (words ∷ more) (more_of (λ s. IsTurnLine) as_before tt)
     (lines_behind_line (words ∷ []) more (reread_line words p) q.spelled q.printed (λ u x ts s. found_made (λ (rest : List Nothing). u ∷ rest) (λ rest y. tt) ts (q.read ts s)))
 
-callers_turns : (caller turn : ℕ) (marks : List Mark) → IsShort caller → turn + length marks ≤ 65536 → All IsWritableMark marks → (more : List Words) → RereadsLines AreTurns Any more → RereadsLines AreTurns Any (map (turn_words caller) (enumerate_from turn marks) ++ more)
-callers_turns caller turn [] p fit all more q = q
-callers_turns caller turn (m ∷ marks) p fit all more q =
-    one_more_turn (turn_words caller (turn, m)) (map (turn_words caller) (enumerate_from (turn + 1) marks) ++ more) (a_turn caller turn m p (omega arith) (All-head IsWritableMark m marks all))
-    (callers_turns caller (turn + 1) marks p (omega arith) (All-tail IsWritableMark m marks all) more q)
+callers_turns : (version caller turn : ℕ) (marks : List Mark) → IsShort caller → turn + length marks ≤ 65536 → All (IsWritableMark version) marks → (more : List Words) → RereadsLines AreTurns Any more → RereadsLines AreTurns Any (map (turn_words caller) (enumerate_from turn marks) ++ more)
+callers_turns version caller turn [] p fit all more q = q
+callers_turns version caller turn (m ∷ marks) p fit all more q =
+    one_more_turn (turn_words caller (turn, m)) (map (turn_words caller) (enumerate_from (turn + 1) marks) ++ more) (a_turn version caller turn m p (omega arith) (All-head (IsWritableMark version) m marks all))
+    (callers_turns version caller (turn + 1) marks p (omega arith) (All-tail (IsWritableMark version) m marks all) more q)
 
-all_turns : (caller : ℕ) (lists : List (List Mark)) → caller + length lists ≤ 16 → All AreWritable lists → RereadsLines AreTurns Any (flat_map caller_lines (enumerate_from caller lists))
-all_turns caller [] fit all = none
+all_turns : (version caller : ℕ) (lists : List (List Mark)) → caller + length lists ≤ 16 → All (AreWritable version) lists → RereadsLines AreTurns Any (flat_map caller_lines (enumerate_from caller lists))
+all_turns version caller [] fit all = none
   where
     none : RereadsLines AreTurns Any []
     none = let r = lines_nothing {P = AreTurns} [] no_more in record { spelled = r.spelled; printed = r.printed; read = λ ts s. (let f = r.read ts s in record { value = f.value; whole = f.whole; holds = tt }) }
-all_turns caller (marks ∷ lists) fit all =
-    let w = All-head AreWritable marks lists all in
-    callers_turns caller 0 marks (omega arith) (let few = w.few in omega arith) w.each (flat_map caller_lines (enumerate_from (caller + 1) lists)) (all_turns (caller + 1) lists (omega arith) (All-tail AreWritable marks lists all))
+all_turns version caller (marks ∷ lists) fit all =
+    let w = All-head (AreWritable version) marks lists all in
+    callers_turns version caller 0 marks (omega arith) (let few = w.few in omega arith) w.each (flat_map caller_lines (enumerate_from (caller + 1) lists)) (all_turns version (caller + 1) lists (omega arith) (All-tail (AreWritable version) marks lists all))
 
 the_first_word : Rereads (IsWord (codes "turns")) Any (codes "turns" ∷ [])
 the_first_word = the_word _ _ refl refl (omega arith) refl
 
-pub turns_lines : (m : MarkLists) → length m.marks ≤ 16 → All AreWritable m.marks → RereadsLines IsTurns (Is tt) ((codes "turns" ∷ []) ∷ flat_map caller_lines (enumerate_from 0 m.marks) ++ (codes "end" ∷ []) ∷ [])
-turns_lines m few all =
+pub turns_lines : (version : ℕ) (m : MarkLists) → length m.marks ≤ 16 → All (AreWritable version) m.marks → RereadsLines (IsTurns version) (Is tt) ((codes "turns" ∷ []) ∷ flat_map caller_lines (enumerate_from 0 m.marks) ++ (codes "end" ∷ []) ∷ [])
+turns_lines version m few all =
     let in_room : 0 + length m.marks ≤ 16 = omega (arith, few) in
     let lines = flat_map caller_lines (enumerate_from 0 m.marks) in
     let first = reread_line (codes "turns" ∷ []) the_first_word in
     let last = reread_line (codes "end" ∷ []) (rereads_made (λ line. tt) (codes "end" ∷ []) (λ line x. refl) the_last_word) in
     lines_next ((codes "turns" ∷ []) ∷ []) (lines ++ (codes "end" ∷ []) ∷ []) first
-    (lines_then lines ((codes "end" ∷ []) ∷ []) tt (lines_made (λ ts. tt) lines (λ ts x. refl) (all_turns 0 m.marks in_room all)) last)
+    (lines_then lines ((codes "end" ∷ []) ∷ []) tt (lines_made (λ ts. tt) lines (λ ts x. refl) (all_turns version 0 m.marks in_room all)) last)
 
 pub turns_reread : TurnsReadBack
-turns_reread m few all = lines_say IsTurns tt ((codes "turns" ∷ []) ∷ flat_map caller_lines (enumerate_from 0 m.marks) ++ (codes "end" ∷ []) ∷ []) (turns_lines m few all)
+turns_reread version m few all = lines_say (IsTurns version) tt ((codes "turns" ∷ []) ∷ flat_map caller_lines (enumerate_from 0 m.marks) ++ (codes "end" ∷ []) ∷ []) (turns_lines version m few all)

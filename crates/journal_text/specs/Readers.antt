@@ -128,5 +128,8 @@ turn_in s = a_turn
 unfoldable pub all_turn_lines : Reader (List Nothing)
 all_turn_lines = repeated is_turn turn_in as_before tt
 
-unfoldable pub the_turns : Reader Nothing
-the_turns = a_word (codes "turns") >>= λ line. closed (unheeded all_turn_lines) is_end
+unfoldable pub whole_turns : Reader Nothing
+whole_turns = a_word (codes "turns") >>= λ line. closed (unheeded all_turn_lines) is_end
+
+abbrev pub the_turns : ℕ → Reader Nothing
+the_turns version = whole_turns

@@ -65,17 +65,22 @@ pub record IsClaim (c : CellName) (by_caller by_turn by_bot place : ℕ) : Type 
   pub bot : IsShort by_bot
   pub at : IsShort place
 
--- a mark of such numbers, and of a node with coordinates in range
-abbrev pub IsWritableMark : Mark → Type 0
-IsWritableMark (mark.Done place) = IsShort place
-IsWritableMark (mark.Idle place) = IsShort place
-IsWritableMark (mark.Failed f place) = IsShort place
-IsWritableMark (mark.Busy c by_caller by_turn by_bot place) = IsClaim c by_caller by_turn by_bot place
+-- A mark of such numbers, and of a node with coordinates in range.
+-- It is the same for each version.
+abbrev pub IsWritableMark : ℕ → Mark → Type 0
+IsWritableMark version (mark.Done place) = IsShort place
+IsWritableMark version (mark.Idle place) = IsShort place
+IsWritableMark version (mark.Failed f place) = IsShort place
+IsWritableMark version (mark.Busy c by_caller by_turn by_bot place) = IsClaim c by_caller by_turn by_bot place
 
-pub record AreWritable (marks : List Mark) : Type 0 where
+pub record AreWritable (version : ℕ) (marks : List Mark) : Type 0 where
   pub few : length marks ≤ most_turns
-  pub each : All IsWritableMark marks
+  pub each : All (IsWritableMark version) marks
 
 -- the text of such marks, of at most 16 callers, is one of turns
 abbrev pub TurnsReadBack : Type 0
-TurnsReadBack = (m : MarkLists) → length m.marks ≤ most_callers → All AreWritable m.marks → Says IsTurns (turns_text m) (Ok tt)
+TurnsReadBack =
+    (version : ℕ) (m : MarkLists)
+    → length m.marks ≤ most_callers
+    → All (AreWritable version) m.marks
+    → Says (IsTurns version) (turns_text m) (Ok tt)

@@ -1,4 +1,4 @@
--- Some texts of turns, which are read, or have a first fault.
+-- Some texts of turns in version 1, which are read, or have a first fault.
 use Rattle.std.specs.Prelude.{ℕ, List, ◌++◌, Ok, Err, codes}
 use Rattle.text_tokens.specs.declared.refusal.RefusalKind.{RefusalKind}
 use Rattle.text_tokens.specs.declared.refusal.RefusalKind.TheVariants.{BadByte, WordTooLong, Unexpected, Truncated, BadRange, Trailing}
@@ -8,11 +8,11 @@ use Rattle.text_tokens.specs.Inputs.{Says}
 
 -- a text of turns
 abbrev pub YieldsTurns : List ℕ → Type 0
-YieldsTurns text = Says IsTurns text (Ok tt)
+YieldsTurns text = Says (IsTurns 1) text (Ok tt)
 
 -- a text with this first fault
 abbrev pub FailsAsTurns : List ℕ → ℕ → RefusalKind → Type 0
-FailsAsTurns text line kind = Says IsTurns text (Err (on_line line kind))
+FailsAsTurns text line kind = Says (IsTurns 1) text (Err (on_line line kind))
 
 -- the same of a text with a turn on line 2, and what follows
 abbrev pub FailsInTurns : List ℕ → ℕ → RefusalKind → Type 0

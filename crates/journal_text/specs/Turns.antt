@@ -68,5 +68,6 @@ as_before s u = s
 abbrev pub AreTurns : Lang (List Nothing)
 AreTurns = Repeated (λ s. IsTurnLine) as_before tt
 
-abbrev pub IsTurns : Lang Nothing
-IsTurns = Then (IsWord (codes "turns")) (λ line. Closed (Unheeded AreTurns) is_end)
+-- The version is the document's. Each has the same turns.
+abbrev pub IsTurns : ℕ → Lang Nothing
+IsTurns version = Then (IsWord (codes "turns")) (λ line. Closed (Unheeded AreTurns) is_end)

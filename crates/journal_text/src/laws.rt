@@ -19,8 +19,8 @@ pub fn journal_is_decided()
 
 /// So does that of turns.
 pub fn turns_are_decided()
-    ensures exact { Exact IsTurns the_turns }
-    ensures decided { IsDecided IsTurns }
+    ensures exact { (version : ℕ) → Exact (IsTurns version) (the_turns version) }
+    ensures decided { (version : ℕ) → IsDecided (IsTurns version) }
     ensures read { TurnsAreRead }
 {}
 

@@ -1,6 +1,6 @@
 //! The section `turns` read.
 
-ghost use Rattle.std.specs.Prelude.{◌≡◌, ◌≢◌, IfErr};
+ghost use Rattle.std.specs.Prelude.{◌≡◌, ◌≢◌, ℕ, IfErr};
 ghost use Rattle.std.specs.List.{list_any};
 ghost use Rattle.std.specs.Str.{bytes_eq};
 ghost use Rattle.text_tokens.specs.Reading as reading;
@@ -145,9 +145,9 @@ fn read_all_turns(tokens: &mut Tokens<'_>) -> Result<(), ReadRefusal>
     Ok(())
 }
 
-#[tactic(auto, unfolding(crate::specs::Readers::the_turns))]
+#[tactic(auto, unfolding(crate::specs::Readers::whole_turns))]
 fn read_whole(tokens: &mut Tokens<'_>) -> Result<(), ReadRefusal>
-    ensures reads { Gives (λ u. u) reader.the_turns tokens.old result tokens.new }
+    ensures reads { Gives (λ u. u) reader.whole_turns tokens.old result tokens.new }
     ensures sure { IfErr result (λ e. e ≢ NoMemory) }
 {
     read_word(tokens, b"turns")?;
@@ -156,10 +156,11 @@ fn read_whole(tokens: &mut Tokens<'_>) -> Result<(), ReadRefusal>
     Ok(())
 }
 
-/// Reads the section `turns` up to its `end`, by its grammar alone. It takes no memory, and never answers out of memory.
+/// Reads the section `turns` up to its `end`, by its grammar alone, which is the same for each version of documents. It takes no
+/// memory, and never answers out of memory.
 pub fn read_turns(tokens: &mut Tokens<'_>) -> Result<(), ReadRefusal>
-    ensures tells { TellsOf spec.IsTurns (λ u. u) tokens.old result tokens.new }
-    ensures reads { ReadsOf spec.IsTurns (λ u. u) tokens.old result tokens.new }
+    ensures tells { (version : ℕ) → TellsOf (spec.IsTurns version) (λ u. u) tokens.old result tokens.new }
+    ensures reads { (version : ℕ) → ReadsOf (spec.IsTurns version) (λ u. u) tokens.old result tokens.new }
     ensures sure { IfErr result (λ e. e ≢ NoMemory) }
 {
     read_whole(tokens)

@@ -1,3 +1,4 @@
 pub mod PartLaws
 pub mod PartsReread
 pub mod Meanings
+pub mod Outside

@@ -5,14 +5,14 @@
 --   amoebot := node node NUMBER ( "+" | "-" ) values
 --   values := as many NUMBERs as there are variables
 -- A coordinate farther than 9,999 from 0, a rotation or a direction above 5, and a value above 255 is a BadRange.
-use Rattle.std.specs.Prelude.{ℕ, suc, ℤ, pos, ◌-ℤ◌, ◌-◌, Bool, nat_lt, if◌then◌else◌, List, ◌++◌, length, replicate, Option, Some, None, codes}
+use Rattle.std.specs.Prelude.{ℕ, suc, ℤ, pos, ◌-ℤ◌, ◌-◌, Bool, ◌&&◌, nat_le, nat_lt, if◌then◌else◌, List, ◌++◌, length, replicate, Option, Some, None, codes}
 use Rattle.tri_lattice.specs.declared.node.Node.{Node}
 use Rattle.text_tokens.specs.declared.token.TokenKind.TheVariants.{Word, Sign}
 use Rattle.text_tokens.specs.declared.refusal.RefusalKind.{RefusalKind}
 use Rattle.text_tokens.specs.declared.refusal.RefusalKind.TheVariants.{TooMany, BadRange}
 use Rattle.text_tokens.specs.Text.{Lexeme}
 use Rattle.text_tokens.specs.Cursor.{is_the}
-use Rattle.text_tokens.specs.Reading.{no_limit, too_large}
+use Rattle.text_tokens.specs.Reading.{no_limit, too_large, lexeme_value}
 use Rattle.text_tokens.specs.Grammar.{Lang, Then, Made, IsThe, IsNumeral, Either, Times}
 use Rattle.amoebot_state.specs.declared.bot.Bot.{Bot}
 use Rattle.amoebot_state.specs.declared.bot.Chir.{Chir}
@@ -53,6 +53,10 @@ IsNumber = IsNumeral no_limit
 -- a number up to this one
 abbrev pub IsUpTo : ℕ → Lang ℕ
 IsUpTo most = IsNumeral (too_large most BadRange)
+
+-- a number that is below the least or above the greatest
+abbrev pub outside : ℕ → ℕ → Lexeme → Option RefusalKind
+outside least most t = if nat_le least (lexeme_value t) && nat_le (lexeme_value t) most then None else Some BadRange
 
 -- ---- counts
 

@@ -24,12 +24,13 @@ use Rattle.action_tree.specs.Trees as tree
 use Rattle.action_tree.specs.Limits.{most_actions}
 use Rattle.action_check.specs.Faults.{faults}
 use Rattle.journal_text.specs.Journals.{ids_of_entry, ids_of_pair, is_known, IsEntry, IsJournal}
+use Rattle.node_text.proofs.Outside.{within}
 use Rattle.shape_text.specs.Shapes.{IsShapeUnder}
 use Rattle.schedule_text.specs.Lists.{IsId, IsCallerList, IsLists}
 use Rattle.schedule_text.specs.Schedules.{most_steps, Stretch, steps_in, IsStretch, IsSchedule}
 use Rattle.shape_files.specs.declared.section_kind.Form.{Form}
 use Rattle.shape_files.specs.declared.section_kind.Form.TheVariants.{Run, Interleave, Replay, Check, Measure}
-use Rattle.shape_files.specs.Frame.{Course, ends, needs, may, may_schedule, may_lists, behind_journal, course_of, IsRest}
+use Rattle.shape_files.specs.Frame.{Course, ends, needs, may, may_schedule, may_lists, behind_journal, course_of, IsRest, least_version, greatest_version, IsVersion, IsHeader}
 use Rattle.shape_files.specs.declared.section_kind.Section.TheVariants as section
 use Rattle.shape_files.specs.FrameLaws.{IsStraight}
 use Rattle.shape_files.specs.Documents.{Contents, nothing_yet, maxes_in, first_in, IsCheckedProgram, Body, IsDocument, HasContents}
@@ -65,8 +66,8 @@ program_fits p f =
 
 -- ---- shapes
 
-shape_fits : (text : List ℕ) (vars : ℕ) (maxes : List ℕ) (c : Config) → Fine (IsShapeUnder text vars maxes) c → c.maxes ≡ maxes
-shape_fits text vars maxes c f = sym (ap (λ (c : Config). c.maxes) (made_of f).same)
+shape_fits : (version : ℕ) (text : List ℕ) (vars : ℕ) (maxes : List ℕ) (c : Config) → Fine (IsShapeUnder version text vars maxes) c → c.maxes ≡ maxes
+shape_fits version text vars maxes c f = sym (ap (λ (c : Config). c.maxes) (made_of f).same)
 
 -- ---- numbers of what is known
 
@@ -162,8 +163,8 @@ module _ (bots actions vars : ℕ) where
 
 -- ---- documents
 
-abbrev At : Option tree.Program → Option Config → Option CallerLists → Option (List ℕ) → Option (List Entry) → Option Config → Contents
-At p w l s e f = record { checked = p; world = w; lists = l; schedule = s; entries = e; final_world = f }
+abbrev At : ℕ → Option tree.Program → Option Config → Option CallerLists → Option (List ℕ) → Option (List Entry) → Option Config → Contents
+At version p w l s e f = record { version = version; checked = p; world = w; lists = l; schedule = s; entries = e; final_world = f }
 
 -- a course as it is written down, without a fault, which leads from one state to another
 abbrev pub There : Course → Contents → Contents → Type 0
@@ -179,28 +180,28 @@ turns_or s a f = either_of with_turns without f
     without : There ends s a → s ≡ a
     without g = nothing_of g
 
-module _ (p : tree.Program) (checked : IsChecked p) where
-  only_program : FitTogether (At (Some p) None None None None None)
-  only_program = record { checked = checked.checked; vars = checked.vars; actions = checked.actions; world = tt; final_world = tt; lists = tt; schedule = tt; entries = tt }
+module _ (version : ℕ) (right : IsVersion version) (p : tree.Program) (checked : IsChecked p) where
+  only_program : FitTogether (At version (Some p) None None None None None)
+  only_program = record { version = right; checked = checked.checked; vars = checked.vars; actions = checked.actions; world = tt; final_world = tt; lists = tt; schedule = tt; entries = tt }
 
   module _ (c : Config) (maxes : c.maxes ≡ maxes_in (Some p)) where
     abbrev Listed : Option CallerLists → Option (List ℕ) → Contents
-    Listed l s = At (Some p) (Some c) l s None None
+    Listed l s = At version (Some p) (Some c) l s None None
 
     abbrev Whole : Option CallerLists → Option (List ℕ) → List Entry → Config → Contents
-    Whole l s es w = At (Some p) (Some c) l s (Some es) (Some w)
+    Whole l s es w = At version (Some p) (Some c) l s (Some es) (Some w)
 
     and_shape : FitTogether (Listed None None)
-    and_shape = record { checked = checked.checked; vars = checked.vars; actions = checked.actions; world = maxes; final_world = tt; lists = tt; schedule = tt; entries = tt }
+    and_shape = record { version = right; checked = checked.checked; vars = checked.vars; actions = checked.actions; world = maxes; final_world = tt; lists = tt; schedule = tt; entries = tt }
 
     and_lists : (l : CallerLists) → HaveBots (length c.bots) l → FitTogether (Listed (Some l) None)
-    and_lists l bots = record { checked = checked.checked; vars = checked.vars; actions = checked.actions; world = maxes; final_world = tt; lists = (refl, bots); schedule = tt; entries = tt }
+    and_lists l bots = record { version = right; checked = checked.checked; vars = checked.vars; actions = checked.actions; world = maxes; final_world = tt; lists = (refl, bots); schedule = tt; entries = tt }
 
     and_schedule : (l : CallerLists) (steps : List ℕ) → HaveBots (length c.bots) l → All (λ caller. caller < length l.ids) steps → FitTogether (Listed (Some l) (Some steps))
-    and_schedule l steps bots callers = record { checked = checked.checked; vars = checked.vars; actions = checked.actions; world = maxes; final_world = tt; lists = (refl, bots); schedule = (refl, callers); entries = tt }
+    and_schedule l steps bots callers = record { version = right; checked = checked.checked; vars = checked.vars; actions = checked.actions; world = maxes; final_world = tt; lists = (refl, bots); schedule = (refl, callers); entries = tt }
 
     and_record : (l : Option CallerLists) (s : Option (List ℕ)) (es : List Entry) (w : Config) → FitTogether (Listed l s) → AreEntriesOf (length c.bots) (length p.actions) es → w.maxes ≡ maxes_in (Some p) → FitTogether (Whole l s es w)
-    and_record l s es w t entries last = record { checked = t.checked; vars = t.vars; actions = t.actions; world = t.world; final_world = last; lists = t.lists; schedule = t.schedule; entries = entries }
+    and_record l s es w t entries last = record { version = t.version; checked = t.checked; vars = t.vars; actions = t.actions; world = t.world; final_world = last; lists = t.lists; schedule = t.schedule; entries = entries }
 
     module _ (a : Contents) (G : Type 0) where
       -- a schedule, or none
@@ -222,7 +223,7 @@ module _ (p : tree.Program) (checked : IsChecked p) where
       recorded l s t go f =
           let es = step_of f in
           let w = step_of es.behind in
-          let fits = and_record l s es.value w.value t (journal_fits (length c.bots) (length p.actions) (length p.vars) es.value es.before) (shape_fits (codes "final") (length p.vars) (maxes_in (Some p)) w.value w.before) in
+          let fits = and_record l s es.value w.value t (journal_fits (length c.bots) (length p.actions) (length p.vars) es.value es.before) (shape_fits version (codes "final") (length p.vars) (maxes_in (Some p)) w.value w.before) in
           go es.value w.value fits (turns_or (Whole l s es.value w.value) a w.behind)
 
     module _ (a : Contents) where
@@ -256,8 +257,8 @@ module _ (p : tree.Program) (checked : IsChecked p) where
           without l s t h = subst (λ (a : Contents). Fits Measure a) (nothing_of h) (record { sections = (refl, refl); recorded = record { last = tt; first = tt }; together = t })
 
   -- a shape, and what stands behind it
-  shaped : (rest : Course) (a : Contents) (G : Type 0) → ((c : Config) → c.maxes ≡ maxes_in (Some p) → There rest (At (Some p) (Some c) None None None None) a → G) → There (needs section.Shape rest) (At (Some p) None None None None None) a → G
-  shaped rest a G go f = let c = step_of f in go c.value (shape_fits (codes "shape") (length p.vars) (maxes_in (Some p)) c.value c.before) c.behind
+  shaped : (rest : Course) (a : Contents) (G : Type 0) → ((c : Config) → c.maxes ≡ maxes_in (Some p) → There rest (At version (Some p) (Some c) None None None None) a → G) → There (needs section.Shape rest) (At version (Some p) None None None None None) a → G
+  shaped rest a G go f = let c = step_of f in go c.value (shape_fits version (codes "shape") (length p.vars) (maxes_in (Some p)) c.value c.before) c.behind
 
 abbrev behind_program : Form → Course
 behind_program Run = needs section.Shape (needs section.Lists (may_schedule ends))
@@ -273,36 +274,49 @@ program_first Check = refl
 program_first Replay = refl
 program_first Measure = refl
 
-module _ (p : tree.Program) (checked : IsChecked p) (a : Contents) where
-  no_shape : There ends (At (Some p) None None None None None) a → Fits Check a
-  no_shape g = subst (λ (a : Contents). Fits Check a) (nothing_of g) (record { sections = (refl, (refl, refl)); recorded = record { last = tt; first = tt }; together = only_program p checked })
+module _ (version : ℕ) (right : IsVersion version) (p : tree.Program) (checked : IsChecked p) (a : Contents) where
+  no_shape : There ends (At version (Some p) None None None None None) a → Fits Check a
+  no_shape g = subst (λ (a : Contents). Fits Check a) (nothing_of g) (record { sections = (refl, (refl, refl)); recorded = record { last = tt; first = tt }; together = only_program version right p checked })
 
-  a_shape : There (needs section.Shape (may_lists ends)) (At (Some p) None None None None None) a → Fits Check a
-  a_shape g = shaped p checked (may_lists ends) a (Fits Check a) (λ c m h. check_fits p checked c m a h) g
+  a_shape : There (needs section.Shape (may_lists ends)) (At version (Some p) None None None None None) a → Fits Check a
+  a_shape g = shaped version right p checked (may_lists ends) a (Fits Check a) (λ c m h. check_fits version right p checked c m a h) g
 
-  rest_fits : (form : Form) → There (behind_program form) (At (Some p) None None None None None) a → Fits form a
-  rest_fits Run f = shaped p checked (needs section.Lists (may_schedule ends)) a (Fits Run a) (λ c m g. run_fits p checked c m a g) f
-  rest_fits Interleave f = shaped p checked (needs section.Lists (needs section.Schedule ends)) a (Fits Interleave a) (λ c m g. interleave_fits p checked c m a g) f
+  rest_fits : (form : Form) → There (behind_program form) (At version (Some p) None None None None None) a → Fits form a
+  rest_fits Run f = shaped version right p checked (needs section.Lists (may_schedule ends)) a (Fits Run a) (λ c m g. run_fits version right p checked c m a g) f
+  rest_fits Interleave f = shaped version right p checked (needs section.Lists (needs section.Schedule ends)) a (Fits Interleave a) (λ c m g. interleave_fits version right p checked c m a g) f
   rest_fits Check f = either_of a_shape no_shape f
-  rest_fits Replay f = shaped p checked (may_lists (needs section.Journal behind_journal)) a (Fits Replay a) (λ c m g. replay_fits p checked c m a g) f
-  rest_fits Measure f = shaped p checked (may_lists (may section.Journal behind_journal ends)) a (Fits Measure a) (λ c m g. measure_fits p checked c m a g) f
+  rest_fits Replay f = shaped version right p checked (may_lists (needs section.Journal behind_journal)) a (Fits Replay a) (λ c m g. replay_fits version right p checked c m a g) f
+  rest_fits Measure f = shaped version right p checked (may_lists (may section.Journal behind_journal ends)) a (Fits Measure a) (λ c m g. measure_fits version right p checked c m a g) f
 
-form_fits : (form : Form) (a : Contents) → There (course_of form) nothing_yet a → Fits form a
-form_fits form a f =
-    let g : There (needs section.Program (behind_program form)) nothing_yet a = subst (λ (c : Course). There c nothing_yet a) (program_first form) f in
+form_fits : (form : Form) (version : ℕ) (a : Contents) → IsVersion version → There (course_of form) (nothing_yet version) a → Fits form a
+form_fits form version a right f =
+    let g : There (needs section.Program (behind_program form)) (nothing_yet version) a = subst (λ (c : Course). There c (nothing_yet version) a) (program_first form) f in
     let p = step_of g in
-    rest_fits p.value (program_fits p.value p.before) a form p.behind
+    rest_fits version right p.value (program_fits p.value p.before) a form p.behind
 
--- a document has a text, without a fault, of its form as the form is written down
-pub written_down : (form : Form) (bytes : List ℕ) (a : Contents) → HasContents form bytes a → There (course_of form) nothing_yet a
+-- a version that was read is one that there is
+version_within : (version : ℕ) → Fine IsHeader version → IsVersion version
+version_within version f =
+    let n = numeral_of (both_of f).behind in
+    subst IsVersion n.is (within least_version greatest_version n.t n.within)
+
+-- a document has a version, and behind it a text, without a fault, of its form as the form is written down
+pub record IsWrittenDown (form : Form) (a : Contents) : Type 0 where
+  pub version : ℕ
+  pub right : IsVersion version
+  pub sections : There (course_of form) (nothing_yet version) a
+
+pub written_down : (form : Form) (bytes : List ℕ) (a : Contents) → HasContents form bytes a → IsWrittenDown form a
 written_down form bytes a holds =
     let input : IsInput (IsDocument form) Trailing (last_of (point bytes 0)) (ahead_of (point bytes 0)) a = holds (ahead_of (point bytes 0)) (last_of (point bytes 0)) (tokens_of_text bytes) in
     let w = input.text.whole in
     let whole : Fine (IsDocument form) a = record { text = w.text; is = w.is; fine = w.fine } in
-    let rest = (both_of whole).behind in
-    let behind : IsWhole (IsRest Body (course_of form) nothing_yet) (tokens rest.text) a = record { text = rest.text; is = rest.is; parts = refl; fine = rest.fine } in
-    let straight = (plain Body are_sections.start (course_of form) (forms_are_distinct form) nothing_yet).into (tokens rest.text) a behind in
-    record { text = straight.text; is = straight.is; fine = straight.fine }
+    let both = both_of whole in
+    let rest = both.behind in
+    let version = both.value in
+    let behind : IsWhole (IsRest Body (course_of form) (nothing_yet version)) (tokens rest.text) a = record { text = rest.text; is = rest.is; parts = refl; fine = rest.fine } in
+    let straight = (plain Body are_sections.start (course_of form) (forms_are_distinct form) (nothing_yet version)).into (tokens rest.text) a behind in
+    record { version = version; right = version_within version both.before; sections = record { text = straight.text; is = straight.is; fine = straight.fine } }
 
 pub documents_fit : DocumentsFit
-documents_fit form bytes a holds = form_fits form a (written_down form bytes a holds)
+documents_fit form bytes a holds = let w = written_down form bytes a holds in form_fits form w.version a w.right w.sections

@@ -1,16 +1,11 @@
 -- The header, and the words of sections.
-use Rattle.std.proofs.Common.{◌≡◌, ℕ, Bool, true, false, cond, ◌||◌, List, [], ◌∷◌, Option, Some, None, refl, arith, ◌∙◌}
-use Rattle.std.specs.Prelude.{◌==◌}
-use Rattle.std.proofs.lemmas.Bool.Decides.{nat_tests}
-use Rattle.text_tokens.specs.declared.refusal.RefusalKind.{RefusalKind}
-use Rattle.text_tokens.specs.Reading.{lexeme_value}
-use Rattle.text_tokens.specs.declared.refusal.RefusalKind.TheVariants.{BadRange}
+use Rattle.std.proofs.Common.{◌≡◌, ◌||◌, List, [], ◌∷◌, refl}
 use Rattle.text_tokens.specs.Text.{Lexeme}
 use Rattle.text_tokens.specs.Cursor.{next_passes}
 use Rattle.text_tokens.specs.Lawful.{Exact}
 use Rattle.text_tokens.proofs.CombinatorLemmas.{exact_law}
 use Rattle.shape_files.specs.declared.section_kind.Section.TheVariants.{Program, Shape, Lists, Schedule, Journal, Final, Turns}
-use Rattle.shape_files.specs.Frame.{is_word_of_section, is_header_word, is_section_word, other_version, IsHeader}
+use Rattle.shape_files.specs.Frame.{is_word_of_section, is_header_word, is_section_word, IsHeader}
 use Rattle.shape_files.specs.FrameReaders.{header}
 use Rattle.shape_files.specs.FrameLaws.{HeaderIsDecided}
 use Rattle.shape_files.proofs.FrameLemmas.{part_header}
@@ -24,13 +19,3 @@ header_is_decided = let e = exact_law IsHeader header part_header.law in record 
 
 pub exact_header : Exact IsHeader header
 exact_header = header_is_decided.exact
-
-pub version_passes : (t : Lexeme) → lexeme_value t ≡ 1 → other_version t ≡ None
-version_passes t e = rw e refl
-
-pub version_fails : (t : Lexeme) (n : ℕ) → n ≡ lexeme_value t → (n ≡ 1 → ⊥) → other_version t ≡ Some BadRange
-version_fails t n same other = by (lexeme_value t == 1) refl
-  where
-    by : (b : Bool) → (lexeme_value t == 1) ≡ b → cond {A = Option RefusalKind} b None (Some BadRange) ≡ Some BadRange
-    by true e = let is : lexeme_value t ≡ 1 = grind (arith, nat_tests) in absurd (other (same ∙ is))
-    by false e = refl

@@ -70,19 +70,19 @@ module _ (a b : Contents) (ys : List Symbol) (record_is : There recorded a ys b)
   recorded_behind : (s : Contents) (zs : List Symbol) → There (course_of Run) s zs a → There (course_of Replay) s (zs ++ ys) b
   recorded_behind s zs is = behind_section Program (needs Shape (needs Lists (may_schedule ends))) (needs Shape (may_lists recorded)) ys b s a zs after_program is
 
-whole_behind : (a b : Contents) (us vs : List Lexeme) → IsWhole (There (course_of Run) nothing_yet) us a → IsWhole (There recorded a) vs b → IsWhole (There (course_of Replay) nothing_yet) (us ++ vs) b
-whole_behind a b us vs p q = record {
+whole_behind : (s a b : Contents) (us vs : List Lexeme) → IsWhole (There (course_of Run) s) us a → IsWhole (There recorded a) vs b → IsWhole (There (course_of Replay) s) (us ++ vs) b
+whole_behind s a b us vs p q = record {
   text = p.text ++ q.text;
-  is = recorded_behind a b q.text q.is nothing_yet p.text p.is;
+  is = recorded_behind a b q.text q.is s p.text p.is;
   parts = tokens-append p.text q.text ∙ ap (λ (ws : List Lexeme). ws ++ tokens q.text) p.parts ∙ ap (λ (ws : List Lexeme). us ++ ws) q.parts;
   fine = fine-append p.text q.text p.fine q.fine;
 }
 
 document_behind : (a b : Contents) (ts vs : List Lexeme) → IsWhole (IsDocument Run) ts a → IsWhole (There recorded a) vs b → IsWhole (IsDocument Replay) (ts ++ vs) b
 document_behind a b ts vs w q =
-    let i = whole_in IsHeader (λ version. IsRest Body (course_of Run) nothing_yet) ts a w in
-    let run = (plain Body are_sections.start (course_of Run) (forms_are_distinct Run) nothing_yet).into i.ws a i.second in
-    let rest = (plain Body are_sections.start (course_of Replay) (forms_are_distinct Replay) nothing_yet).back (i.ws ++ vs) b (whole_behind a b i.ws vs run q) in
+    let i = whole_in IsHeader (λ version. IsRest Body (course_of Run) (nothing_yet version)) ts a w in
+    let run = (plain Body are_sections.start (course_of Run) (forms_are_distinct Run) (nothing_yet i.a)).into i.ws a i.second in
+    let rest = (plain Body are_sections.start (course_of Replay) (forms_are_distinct Replay) (nothing_yet i.a)).back (i.ws ++ vs) b (whole_behind (nothing_yet i.a) a b i.ws vs run q) in
     whole_then i.vs (i.ws ++ vs) (ts ++ vs) i.a b (ap (λ (us : List Lexeme). us ++ vs) i.parts ∙ append_assoc i.vs i.ws vs) i.first rest
 
 -- ---- the text of a run
@@ -115,12 +115,12 @@ module _ (a : Contents) (es : List Entry) (c : Config) (m : MarkLists) (k : Keep
   abbrev whole : Contents
   whole = with_last c
 
-  final_lines : RereadsLines (IsFinal vars (maxes_in a.checked)) (Is c) of_final
-  final_lines = subst (λ (maxes : List ℕ). RereadsLines (IsFinal vars maxes) (Is c) of_final) k.maxes (config_lines vars c k.last k.vars (codes "final") final_word)
+  final_lines : RereadsLines (IsFinal a.version vars (maxes_in a.checked)) (Is c) of_final
+  final_lines = subst (λ (maxes : List ℕ). RereadsLines (IsFinal a.version vars maxes) (Is c) of_final) k.maxes (config_lines a.version vars c k.last k.vars (codes "final") final_word)
 
   the_turns : RereadsLines (There (may Turns ends ends) whole) (Is whole) of_turns
   the_turns =
-      let t = lines_made (λ u. whole) of_turns (λ u e. refl) (turns_lines m k.callers k.marks) in
+      let t = lines_made (λ u. whole) of_turns (λ u e. refl) (turns_lines a.version m k.callers k.marks) in
       let behind = lines_then {Q = λ s. There ends s} of_turns [] whole t (lines_nothing whole is_nothing) in
       subst (λ (ls : List Words). RereadsLines (There (may Turns ends ends) whole) (Is whole) ls) (append-nil of_turns) (lines_into (of_turns ++ []) (λ xs s is. of_first is) behind)
 

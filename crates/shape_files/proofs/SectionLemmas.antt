@@ -104,21 +104,21 @@ starts_checked = starts_judged IsProgram wrong (is_word_of_section Program) no_l
 part_of : (k : Section) (s : Contents) → IsPart (Body k s) (body k s) always
 unfolding body
 part_of Program s = part_made IsCheckedProgram (λ p. record s { checked = Some p }) a_checked_program always part_checked
-part_of Shape s = part_made _ (λ c. record s { world = Some c }) _ always (part_shape (var_count s.checked) (maxes_in s.checked))
+part_of Shape s = part_made _ (λ c. record s { world = Some c }) _ always (part_shape s.version (var_count s.checked) (maxes_in s.checked))
 part_of Lists s = part_made _ (λ l. record s { lists = Some l }) _ always (part_lists (bots_of s.world))
 part_of Schedule s = part_made _ (λ steps. record s { schedule = Some steps }) _ always (part_schedule (callers_of s.lists))
 part_of Journal s = part_made _ (λ es. record s { entries = Some es }) _ always (part_journal (bots_of s.world) (actions_of s.checked) (var_count s.checked))
-part_of Final s = part_made _ (λ c. record s { final_world = Some c }) _ always (part_final (var_count s.checked) (maxes_in s.checked))
-part_of Turns s = part_made _ (λ u. s) _ always part_the_turns
+part_of Final s = part_made _ (λ c. record s { final_world = Some c }) _ always (part_final s.version (var_count s.checked) (maxes_in s.checked))
+part_of Turns s = part_made _ (λ u. s) _ always (part_the_turns s.version)
 
 start_of : (k : Section) (s : Contents) → Starts (Body k s) (is_word_of_section k) no_limit
 start_of Program s = starts_made IsCheckedProgram (λ p. record s { checked = Some p }) (is_word_of_section Program) no_limit starts_checked
-start_of Shape s = starts_made _ (λ c. record s { world = Some c }) (is_word_of_section Shape) no_limit (starts_shape (var_count s.checked) (maxes_in s.checked))
+start_of Shape s = starts_made _ (λ c. record s { world = Some c }) (is_word_of_section Shape) no_limit (starts_shape s.version (var_count s.checked) (maxes_in s.checked))
 start_of Lists s = starts_made _ (λ l. record s { lists = Some l }) (is_word_of_section Lists) no_limit (starts_lists (bots_of s.world))
 start_of Schedule s = starts_made _ (λ steps. record s { schedule = Some steps }) (is_word_of_section Schedule) no_limit (starts_schedule (callers_of s.lists))
 start_of Journal s = starts_made _ (λ es. record s { entries = Some es }) (is_word_of_section Journal) no_limit (starts_behind (IsWord (codes "journal")) _ _ (is_word_of_section Journal) (starts_the (is_word_of_section Journal)) (part_journal (bots_of s.world) (actions_of s.checked) (var_count s.checked)))
-start_of Final s = starts_made _ (λ c. record s { final_world = Some c }) (is_word_of_section Final) no_limit (starts_final (var_count s.checked) (maxes_in s.checked))
-start_of Turns s = starts_made _ (λ u. s) (is_word_of_section Turns) no_limit (starts_behind (IsWord (codes "turns")) _ _ (is_word_of_section Turns) (starts_the (is_word_of_section Turns)) part_the_turns)
+start_of Final s = starts_made _ (λ c. record s { final_world = Some c }) (is_word_of_section Final) no_limit (starts_final s.version (var_count s.checked) (maxes_in s.checked))
+start_of Turns s = starts_made _ (λ u. s) (is_word_of_section Turns) no_limit (starts_behind (IsWord (codes "turns")) _ _ (is_word_of_section Turns) (starts_the (is_word_of_section Turns)) (part_the_turns s.version))
 
 pub are_sections : AreSections Body body
 are_sections = record { part = part_of; start = start_of }

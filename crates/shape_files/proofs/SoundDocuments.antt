@@ -1,8 +1,6 @@
 -- The shapes of a document are those of worlds, and its lists are such as callers may have.
-use Rattle.std.proofs.Common.{◌≡◌, ℕ, ℤ, zero, suc, pos, ◌+◌, ◌-◌, ◌*◌, ◌<◌, ◌≤◌, Bool, true, false, cond, List, [], ◌∷◌, ◌++◌, length, map, replicate, Option, Some, None, codes, refl, sym, ap, subst, ◌∙◌, arith, length-append}
-use Rattle.std.specs.Prelude.{◌&&◌, ◌≤ℤ◌, ◌-ℤ◌, neg_ℤ, nat_lt, nat_le, if◌then◌else◌}
-use Rattle.std.specs.Option.{IfSome}
-use Rattle.std.specs.List.{All}
+use Rattle.std.proofs.Common.{◌≡◌, ℕ, ℤ, zero, suc, pos, ◌+◌, ◌-◌, ◌*◌, ◌<◌, ◌≤◌, Bool, true, false, cond, List, [], ◌∷◌, length, map, replicate, Option, Some, None, codes, refl, sym, ap, subst, ◌∙◌, arith, length-append}
+use Rattle.std.specs.Prelude.{◌&&◌, ◌≤ℤ◌, neg_ℤ, nat_lt, nat_le, if◌then◌else◌}
 use Rattle.std.proofs.lemmas.Bool.{and_parts, ltb-true, leb-true}
 use Rattle.std.proofs.lemmas.Bool.Decides.{nat_tests}
 use Rattle.std.proofs.lemmas.Int.{ints}
@@ -13,12 +11,11 @@ use Rattle.tri_lattice.specs.Extent.{Extent, IsArea, most_side, most_start}
 use Rattle.tri_lattice.specs.Lattice.{IsNear}
 use Rattle.text_tokens.specs.declared.refusal.RefusalKind.{RefusalKind}
 use Rattle.text_tokens.specs.declared.refusal.RefusalKind.TheVariants.{BadId, BadRange, TooMany}
-use Rattle.text_tokens.specs.Grammar.{Symbol, first_fault, Lang, Repeated, no_more, one_more, Times, IsNumeral}
-use Rattle.text_tokens.specs.Text.{Lexeme}
-use Rattle.text_tokens.specs.Reading.{lexeme_value, too_large}
+use Rattle.text_tokens.specs.Grammar.{Symbol, first_fault, Lang, Repeated, no_more, one_more, Times}
+use Rattle.text_tokens.specs.Reading.{lexeme_value}
 use Rattle.text_tokens.proofs.ListSplits.{fine-parts}
 use Rattle.amoebot_state.specs.declared.bot.Bot.{Bot}
-use Rattle.amoebot_state.specs.Configs.{Config, IsValid, bot_at}
+use Rattle.amoebot_state.specs.Configs.{Config}
 use Rattle.amoebot_state.specs.Limits.{most_bots, most_vars, most_value}
 use Rattle.amoebot_state.specs.Refusals.{IsBotInRange}
 use Rattle.amoebot_state.proofs.Faults.{frame_valid, faultless_is_valid}
@@ -26,19 +23,19 @@ use Rattle.amoebot_state.proofs.Options.{all_there}
 use Rattle.claim_core.specs.Limits.{most_callers, most_ids, most_turns}
 use Rattle.claim_core.specs.Turns.{CallerLists, AreFew, AreLists, IsList}
 use Rattle.action_tree.specs.Trees as tree
-use Rattle.action_check.specs.Maxes.{first_or_zero, maxes_of}
+use Rattle.action_check.specs.Maxes.{first_or_zero}
 use Rattle.node_text.specs.Limits.{most_coordinate}
-use Rattle.node_text.specs.Parts.{IsBotText, IsInt, IsNode, IsUpTo, IsValues, memory, negative}
-use Rattle.shape_text.specs.Shapes.{WrittenBot, WrittenShape, written_shape, written_amoebot, shape_frame, stands_for, outside, IsSide, IsAreaLine, IsBotLine, IsShapeUnder}
+use Rattle.node_text.specs.Parts.{IsBotText, IsInt, IsNode, IsUpTo, memory}
+use Rattle.node_text.proofs.Outside.{within}
+use Rattle.shape_text.specs.Shapes.{WrittenBot, WrittenShape, written_shape, written_amoebot, shape_frame, stands_for, IsSide, IsAreaLine, IsBotLine, IsShapeUnder}
 use Rattle.shape_text.proofs.JudgementsLemmas.{unrefused}
 use Rattle.schedule_text.specs.Lists.{IdsFrom, IsCallerList, IsId, IsLists}
 use Rattle.shape_files.specs.declared.section_kind.Section.{Section}
 use Rattle.shape_files.specs.declared.section_kind.Section.TheVariants as section
-use Rattle.shape_files.specs.declared.section_kind.Form.{Form}
 use Rattle.shape_files.specs.Frame.{Course, ends, needs, may, course_of}
-use Rattle.shape_files.specs.Documents.{Contents, nothing_yet, Body, var_count, maxes_in, bots_of, HasContents}
+use Rattle.shape_files.specs.Documents.{Contents, nothing_yet, Body, var_count, maxes_in, bots_of}
 use Rattle.shape_files.specs.Fitting.{IsWorldShape, IsSoundDocument, DocumentsAreSound}
-use Rattle.shape_files.proofs.Fine.{Fine, OfToken, both_of, made_of, closed_of, judged_of, nothing_of, either_of, one_of, numeral_of, all_of, counted_of}
+use Rattle.shape_files.proofs.Fine.{Fine, both_of, made_of, closed_of, judged_of, nothing_of, either_of, one_of, numeral_of, all_of, counted_of}
 use Rattle.shape_files.proofs.FittingLemmas.{There, program_fits, written_down}
 
 -- what passed a limit
@@ -69,13 +66,8 @@ int_within most x f = either_of
 side_within : (n : ℕ) → Fine IsSide n → (1 ≤ n) × (n ≤ most_side)
 side_within n f =
     let t = numeral_of f in
-    let both = by (nat_le 1 (lexeme_value t.t) && nat_le (lexeme_value t.t) most_side) t.within in
-    let parts = and_parts _ _ both in
-    (subst (λ m. 1 ≤ m) t.is (leb-true 1 (lexeme_value t.t) parts.0), subst (λ m. m ≤ most_side) t.is (leb-true (lexeme_value t.t) most_side parts.1))
-  where
-    by : (b : Bool) → (if b then None else Some BadRange) ≡ None → b ≡ true
-    by true e = refl
-    by false e = absurd cc
+    let parts = within 1 most_side t.t t.within in
+    (subst (λ m. 1 ≤ m) t.is parts.0, subst (λ m. m ≤ most_side) t.is parts.1)
 
 area_within : (a : Extent) → Fine IsAreaLine a → IsArea a
 area_within a f =
@@ -135,8 +127,8 @@ bot_room vars n w f = let word = made_of (both_of f).before in ltb-true n most_b
 line_in_range : (vars : ℕ) → vars ≤ most_vars → (n : ℕ) (w : WrittenBot) → Fine (IsBotLine vars n) w → IsBotInRange (written_amoebot w)
 line_in_range vars few n w f = let b = made_of (both_of f).behind in subst (λ (v : WrittenBot). IsBotInRange (written_amoebot v)) b.same (bot_in_range vars few b.value b.before)
 
-shape_drawn : (text : List ℕ) (vars : ℕ) (maxes : List ℕ) → vars ≤ most_vars → length maxes ≡ 8 → (c : Config) → Fine (IsShapeUnder text vars maxes) c → IsWorldShape c
-shape_drawn text vars maxes few_vars eight c f =
+shape_drawn : (version : ℕ) (text : List ℕ) (vars : ℕ) (maxes : List ℕ) → vars ≤ most_vars → length maxes ≡ 8 → (c : Config) → Fine (IsShapeUnder version text vars maxes) c → IsWorldShape c
+shape_drawn version text vars maxes few_vars eight c f =
     let whole = made_of f in
     let judged = judged_of whole.before in
     let word = both_of judged.0 in
@@ -223,11 +215,11 @@ record IsSoundSoFar (s : Contents) : Type 0 where
 
 section_sound : (k : Section) (s b : Contents) → IsSoundSoFar s → Fine (Body k s) b → IsSoundSoFar b
 section_sound section.Program s b so f = let p = made_of f in subst IsSoundSoFar p.same (record { vars = (program_fits p.value p.before).vars; sound = record { world = so.sound.world; final_world = so.sound.final_world; lists = so.sound.lists } })
-section_sound section.Shape s b so f = let c = made_of f in subst IsSoundSoFar c.same (record { vars = so.vars; sound = record { world = shape_drawn (codes "shape") (var_count s.checked) (maxes_in s.checked) so.vars (eight_maxes s.checked) c.value c.before; final_world = so.sound.final_world; lists = so.sound.lists } })
+section_sound section.Shape s b so f = let c = made_of f in subst IsSoundSoFar c.same (record { vars = so.vars; sound = record { world = shape_drawn s.version (codes "shape") (var_count s.checked) (maxes_in s.checked) so.vars (eight_maxes s.checked) c.value c.before; final_world = so.sound.final_world; lists = so.sound.lists } })
 section_sound section.Lists s b so f = let l = made_of f in subst IsSoundSoFar l.same (record { vars = so.vars; sound = record { world = so.sound.world; final_world = so.sound.final_world; lists = lists_sound (bots_of s.world) l.value l.before } })
 section_sound section.Schedule s b so f = let x = made_of f in subst IsSoundSoFar x.same (record { vars = so.vars; sound = record { world = so.sound.world; final_world = so.sound.final_world; lists = so.sound.lists } })
 section_sound section.Journal s b so f = let x = made_of f in subst IsSoundSoFar x.same (record { vars = so.vars; sound = record { world = so.sound.world; final_world = so.sound.final_world; lists = so.sound.lists } })
-section_sound section.Final s b so f = let c = made_of f in subst IsSoundSoFar c.same (record { vars = so.vars; sound = record { world = so.sound.world; final_world = shape_drawn (codes "final") (var_count s.checked) (maxes_in s.checked) so.vars (eight_maxes s.checked) c.value c.before; lists = so.sound.lists } })
+section_sound section.Final s b so f = let c = made_of f in subst IsSoundSoFar c.same (record { vars = so.vars; sound = record { world = so.sound.world; final_world = shape_drawn s.version (codes "final") (var_count s.checked) (maxes_in s.checked) so.vars (eight_maxes s.checked) c.value c.before; lists = so.sound.lists } })
 section_sound section.Turns s b so f = let x = made_of f in subst IsSoundSoFar x.same so
 
 course_sound : (c : Course) (s a : Contents) → IsSoundSoFar s → There c s a → IsSoundSoFar a
@@ -239,4 +231,5 @@ course_sound (may k c d) s a so f = either_of
 
 pub documents_are_sound : DocumentsAreSound
 documents_are_sound form bytes a holds =
-    (course_sound (course_of form) nothing_yet a (record { vars = omega arith; sound = record { world = tt; final_world = tt; lists = tt } }) (written_down form bytes a holds)).sound
+    let w = written_down form bytes a holds in
+    (course_sound (course_of form) (nothing_yet w.version) a (record { vars = omega arith; sound = record { world = tt; final_world = tt; lists = tt } }) w.sections).sound

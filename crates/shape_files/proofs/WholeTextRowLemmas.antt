@@ -38,7 +38,7 @@ one_valid b plain fine =
       h_high = omega arith;
     }) refl) b plain fine
 
-one_written : (b : Bot) → b.mem ≡ zeros → IsValid (shape_of_one b) → IsWritableConfig 0 (shape_of_one b)
+one_written : (b : Bot) → b.mem ≡ zeros → IsValid (shape_of_one b) → IsWritableConfig 1 0 (shape_of_one b)
 one_written b e valid = record { valid = valid; few = omega arith; no_gaps = none; maxes = All-replicate (λ m. m ≤ most_value) 8 0 (omega arith); zeros = all }
   where
     none : (id : ℕ) → id < 1 → IsSome (bot_at (shape_of_one b) id)
@@ -52,10 +52,10 @@ one_written b e valid = record { valid = valid; few = omega arith; no_gaps = non
 abbrev contracted : Bot
 contracted = shape_bot (pos 2) (pos 3) (pos 2) (pos 3) 0 Plus []
 
-at_start : IsWritableConfig 0 (shape_of_one contracted)
+at_start : IsWritableConfig 1 0 (shape_of_one contracted)
 at_start = one_written contracted refl (one_valid contracted (plain contracted refl refl (omega arith) refl) refl)
 
-at_end : IsWritableConfig 0 (shape_of_one bot_after)
+at_end : IsWritableConfig 1 0 (shape_of_one bot_after)
 at_end = one_written bot_after refl (one_valid bot_after (plain bot_after refl refl (omega arith) refl) refl)
 
 the_program : IsWritableProgram out
@@ -82,12 +82,12 @@ pairs_fit = All-from_recursion (IsWritablePair 0) entry_made.patch (node_fits, (
 entry_fits : KeepsLimits 1 1 0 entry_made
 entry_fits = record { known = refl; movement = omega arith; few = omega arith; pairs = pairs_fit }
 
-marks_fit : All AreWritable two_marks.marks
+marks_fit : All (AreWritable 1) two_marks.marks
 marks_fit =
-    All-cons AreWritable (mark.Done 0 ∷ mark.Idle 1 ∷ []) [] (record {
+    All-cons (AreWritable 1) (mark.Done 0 ∷ mark.Idle 1 ∷ []) [] (record {
       few = omega arith;
-      each = All-cons IsWritableMark (mark.Done 0) (mark.Idle 1 ∷ []) (omega arith) (All-cons IsWritableMark (mark.Idle 1) [] (omega arith) (All-nil IsWritableMark));
-    }) (All-nil AreWritable)
+      each = All-cons (IsWritableMark 1) (mark.Done 0) (mark.Idle 1 ∷ []) (omega arith) (All-cons (IsWritableMark 1) (mark.Idle 1) [] (omega arith) (All-nil (IsWritableMark 1)));
+    }) (All-nil (AreWritable 1))
 
 pub whole_text_rows : WholeTextRows
 unfolding digits
@@ -95,6 +95,7 @@ whole_text_rows = record {
   program_text = refl;
   run_text = refl;
   program = record {
+    version = (omega arith, omega arith);
     sections = (refl, (refl, refl));
     recorded = record { last = tt; first = tt };
     no_lists = refl;
@@ -106,6 +107,7 @@ whole_text_rows = record {
     turns = tt;
   };
   run = record {
+    version = (omega arith, omega arith);
     sections = (refl, refl, refl, refl);
     recorded = record { last = refl; first = refl };
     no_lists = refl;

@@ -34,8 +34,10 @@ use Rattle.action_check.specs.Faults.{faults}
 use Rattle.action_check.specs.Maxes.{maxes_of}
 use Rattle.journal_text.specs.Journals.{IsJournal}
 use Rattle.journal_text.specs.Texts.{entry_words, caller_lines, journal_text, turns_text}
-use Rattle.journal_text.specs.Rereading.{KeepsLimits}
-use Rattle.node_text.specs.Parts.{IsWord}
+use Rattle.journal_text.specs.Turns.{IsTurns}
+use Rattle.journal_text.specs.Rereading.{KeepsLimits, AreWritable}
+use Rattle.node_text.specs.Parts.{outside, IsWord}
+use Rattle.node_text.proofs.Outside.{inside}
 use Rattle.shape_text.specs.Rereading.{IsWritableConfig}
 use Rattle.journal_text.proofs.JournalsReread.{journal_lines}
 use Rattle.journal_text.proofs.TurnsReread.{turns_lines}
@@ -46,11 +48,10 @@ use Rattle.shape_files.specs.declared.section_kind.Section.{Section}
 use Rattle.shape_files.specs.declared.section_kind.Section.TheVariants.{Program, Shape, Lists, Journal, Final, Turns}
 use Rattle.shape_files.specs.declared.section_kind.Form.{Form}
 use Rattle.shape_files.specs.declared.section_kind.Form.TheVariants.{Run, Interleave, Check, Replay, Measure}
-use Rattle.shape_files.specs.Frame.{Course, ends, needs, may, may_schedule, may_lists, behind_journal, course_of, IsRest, IsHeader, other_version}
+use Rattle.shape_files.specs.Frame.{Course, ends, needs, may, may_schedule, may_lists, behind_journal, course_of, IsRest, least_version, greatest_version, IsVersion, IsHeader}
 use Rattle.shape_files.specs.FrameLaws.{IsStraight}
 use Rattle.shape_files.specs.Documents.{Contents, nothing_yet, first_in, Body, IsDocument}
 use Rattle.shape_files.specs.WholeTexts.{header_line, text_of_some, document_text, IsWritableProgram, AreWritableMarks, IsWritableDocument, bare_contents, HasBareContents, DocumentsReadBack}
-use Rattle.shape_files.proofs.HeaderLemmas.{version_passes}
 use Rattle.shape_files.proofs.CheckedLemmas.{none_first}
 use Rattle.shape_files.proofs.BareParts.{still_faultless, as_many_vars, as_many_actions, same_maxes}
 use Rattle.shape_files.proofs.StraightForms.{plain, forms_are_distinct}
@@ -95,302 +96,314 @@ found_nothing a is ts no_tokens = record { value = a; whole = record { text = []
 
 -- ---- the document around its sections
 
-the_header : IsReread IsHeader (Is 1) (line_text header_line)
-the_header =
-    subst (λ (text : List ℕ). IsReread IsHeader (Is 1) text) (append-nil (line_text header_line)) (of_lines (header_line ∷ []) (reread_line header_line
-    (rereads_next (codes "amoebot" ∷ []) (decimal 1 ∷ []) (rereads_the Word (codes "amoebot") (word_is_token _ _ refl refl (omega arith)) refl refl)
-    (rereads_number 1 (omega arith) other_version (λ t e. version_passes t e)))))
+module _ (version : ℕ) (right : IsVersion version) where
+  abbrev first_line : List ℕ
+  first_line = line_text (header_line version)
 
-abbrev There : Course → Contents → Lang Contents
-There c s = IsStraight Body c s
+  the_header : IsReread IsHeader (Is version) first_line
+  the_header =
+      let low = right.0 in
+      let high = right.1 in
+      subst (λ (text : List ℕ). IsReread IsHeader (Is version) text) (append-nil first_line) (of_lines (header_line version ∷ []) (reread_line (header_line version)
+      (rereads_next (codes "amoebot" ∷ []) (decimal version ∷ []) (rereads_the Word (codes "amoebot") (word_is_token _ _ refl refl (omega arith)) refl refl)
+      (rereads_number version (omega arith) (outside least_version greatest_version) (λ t e. inside least_version greatest_version t (omega (arith, low, e)) (omega (arith, high, e)))))))
 
-module _ (form : Form) (R : Contents → Type 0) (words : Words) (read : Reads (There (course_of form) nothing_yet) R words) where
-  in_form : Reads (IsRest Body (course_of form) nothing_yet) R words
-  in_form ts s =
-      let f = read ts s in
-      record { value = f.value; whole = (plain Body are_sections.start (course_of form) (forms_are_distinct form) nothing_yet).back ts f.value f.whole; holds = f.holds }
+  -- nothing is read yet but the version
+  abbrev start : Contents
+  start = nothing_yet version
 
-  behind_header : Reads (IsDocument form) R (the_header.words ++ words)
-  behind_header ts s = behind_found the_header.words words the_header.read (λ version e us t. in_form us t) ts s
+  abbrev There : Course → Contents → Lang Contents
+  There c s = IsStraight Body c s
 
--- what is so read has what was read
-read_back : (form : Form) (a : Contents) (text : List ℕ) (words : Words) → IsSpelt text words → Reads (There (course_of form) nothing_yet) (λ b. bare_contents b ≡ bare_contents a) words → HasBareContents form (line_text header_line ++ text) a
-read_back form a text words spelt read =
-    let all = line_text header_line ++ text in
-    let ts = ahead_of (point all 0) in
-    let last = last_of (point all 0) in
-    let are = tokens_of_text all in
-    let s = spelled_tokens all (the_header.words ++ words) (its_spells all (the_header.words ++ words) (text_then (line_text header_line) text the_header.words words the_header.spelt spelt)) ts last are in
-    let f = behind_header form (λ b. bare_contents b ≡ bare_contents a) words read ts s.0 in
-    let input : IsInput (IsDocument form) Trailing last ts f.value = record { text = record { us = ts; parts = sym (append-nil ts); whole = f.whole; stops = none_stops (IsDocument form) ts }; ends = s.1 } in
-    record { contents = f.value; has = says_of form all (Ok f.value) ts last are input; same = f.holds }
+  module _ (form : Form) (R : Contents → Type 0) (words : Words) (read : Reads (There (course_of form) start) R words) where
+    in_form : Reads (IsRest Body (course_of form) start) R words
+    in_form ts s =
+        let f = read ts s in
+        record { value = f.value; whole = (plain Body are_sections.start (course_of form) (forms_are_distinct form) start).back ts f.value f.whole; holds = f.holds }
 
--- ---- what a document has, without lists and a schedule
+    behind_header : Reads (IsDocument form) R (the_header.words ++ words)
+    behind_header ts s = behind_found the_header.words words the_header.read (λ v e us t. subst (λ (u : ℕ). Found (IsRest Body (course_of form) (nothing_yet u)) R us) (sym e) (in_form us t)) ts s
 
-abbrev contents_of : Option tree.Program → Option Config → Option (List Entry) → Option Config → Contents
-contents_of checked world entries final_world = record { checked = checked; world = world; lists = None; schedule = None; entries = entries; final_world = final_world }
+  -- what is so read has what was read
+  read_back : (form : Form) (a : Contents) (text : List ℕ) (words : Words) → IsSpelt text words → Reads (There (course_of form) start) (λ b. bare_contents b ≡ bare_contents a) words → HasBareContents form (first_line ++ text) a
+  read_back form a text words spelt read =
+      let all = first_line ++ text in
+      let ts = ahead_of (point all 0) in
+      let last = last_of (point all 0) in
+      let are = tokens_of_text all in
+      let s = spelled_tokens all (the_header.words ++ words) (its_spells all (the_header.words ++ words) (text_then (first_line) text the_header.words words the_header.spelt spelt)) ts last are in
+      let f = behind_header form (λ b. bare_contents b ≡ bare_contents a) words read ts s.0 in
+      let input : IsInput (IsDocument form) Trailing last ts f.value = record { text = record { us = ts; parts = sym (append-nil ts); whole = f.whole; stops = none_stops (IsDocument form) ts }; ends = s.1 } in
+      record { contents = f.value; has = says_of form all (Ok f.value) ts last are input; same = f.holds }
 
-module _ (p : tree.Program) (k : IsWritableProgram p) where
-  abbrev vars : ℕ
-  vars = length p.vars
+  -- ---- what a document has, without lists and a schedule
 
-  few_vars : vars ≤ most_vars
-  few_vars = leb-true _ most_vars (left_of _ _ (left_of _ _ (left_of _ _ k.writable)))
+  abbrev contents : Option tree.Program → Option Config → Option (List Entry) → Option Config → Contents
+  contents checked world entries final_world = record { version = version; checked = checked; world = world; lists = None; schedule = None; entries = entries; final_world = final_world }
 
-  few_actions : length p.actions ≤ most_actions
-  few_actions = leb-true _ most_actions (right_of _ _ (left_of _ _ k.writable))
+  module _ (p : tree.Program) (k : IsWritableProgram p) where
+    abbrev vars : ℕ
+    vars = length p.vars
 
-  the_program : IsReread IsProgram (λ q. without_lines q ≡ without_lines p) (canon p)
-  the_program = of_lines (all_lines p) (canon_lines p k.writable)
+    few_vars : vars ≤ most_vars
+    few_vars = leb-true _ most_vars (left_of _ _ (left_of _ _ (left_of _ _ k.writable)))
 
-  abbrev IsReadProgram : Contents → Type 0
-  IsReadProgram s = (q : tree.Program) × (s ≡ contents_of (Some q) None None None) × (without_lines q ≡ without_lines p)
+    few_actions : length p.actions ≤ most_actions
+    few_actions = leb-true _ most_actions (right_of _ _ (left_of _ _ k.writable))
 
-  program_there : Reads (Body Program nothing_yet) IsReadProgram the_program.words
-  program_there ts s =
-      found_made (λ (q : tree.Program). record nothing_yet { checked = Some q }) (λ q same. (q, refl, same)) ts
-      (found_judged (λ (q : tree.Program). first_in (faults q)) (λ q same. none_first (faults q) (still_faultless q p same k.checked)) ts (the_program.read ts s))
+    the_program : IsReread IsProgram (λ q. without_lines q ≡ without_lines p) (canon p)
+    the_program = of_lines (all_lines p) (canon_lines p k.writable)
 
-  -- the program, and what stands behind it
-  program_then : (c : Course) (R : Contents → Type 0) (words : Words) → ((q : tree.Program) → without_lines q ≡ without_lines p → Reads (There c (contents_of (Some q) None None None)) R words) → Reads (There (needs Program c) nothing_yet) R (the_program.words ++ words)
-  program_then c R words read ts s = behind_found the_program.words words program_there behind ts s
-    where
-      behind : (b : Contents) → IsReadProgram b → Reads (There c b) R words
-      behind b (q, e, same) us t = subst (λ (x : Contents). Found (There c x) R us) (sym e) (read q same us t)
+    abbrev IsReadProgram : Contents → Type 0
+    IsReadProgram s = (q : tree.Program) × (s ≡ contents (Some q) None None None) × (without_lines q ≡ without_lines p)
 
--- ---- sections, one behind the other
+    program_there : Reads (Body Program start) IsReadProgram the_program.words
+    program_there ts s =
+        found_made (λ (q : tree.Program). record start { checked = Some q }) (λ q same. (q, refl, same)) ts
+        (found_judged (λ (q : tree.Program). first_in (faults q)) (λ q same. none_first (faults q) (still_faultless q p same k.checked)) ts (the_program.read ts s))
 
-module _ (k : Section) (c : Course) (s r : Contents) (R : Contents → Type 0) (us vs : Words) where
-  section_then : Reads (Body k s) (Is r) us → Reads (There c r) R vs → Reads (Then (Body k s) (λ b. There c b)) R (us ++ vs)
-  section_then p q ts spelled = behind_found us vs p (λ b e ws t. subst (λ (x : Contents). Found (There c x) R ws) (sym e) (q ws t)) ts spelled
+    -- the program, and what stands behind it
+    program_then : (c : Course) (R : Contents → Type 0) (words : Words) → ((q : tree.Program) → without_lines q ≡ without_lines p → Reads (There c (contents (Some q) None None None)) R words) → Reads (There (needs Program c) start) R (the_program.words ++ words)
+    program_then c R words read ts s = behind_found the_program.words words program_there behind ts s
+      where
+        behind : (b : Contents) → IsReadProgram b → Reads (There c b) R words
+        behind b (q, e, same) us t = subst (λ (x : Contents). Found (There c x) R us) (sym e) (read q same us t)
 
-module _ (k : Section) (c d : Course) (s : Contents) (R : Contents → Type 0) (words : Words) where
-  -- a section that may come
-  comes : Reads (Then (Body k s) (λ b. There c b)) R words → Reads (There (may k c d) s) R words
-  comes read ts spelled = found_by (λ b. b) (λ xs b is. of_first is) (λ b h. h) ts (read ts spelled)
+  -- ---- sections, one behind the other
 
-  -- what comes in its place
-  left_out : Reads (There d s) R words → Reads (There (may k c d) s) R words
-  left_out read ts spelled = found_by (λ b. b) (λ xs b is. of_second is) (λ b h. h) ts (read ts spelled)
+  module _ (k : Section) (c : Course) (s r : Contents) (R : Contents → Type 0) (us vs : Words) where
+    section_then : Reads (Body k s) (Is r) us → Reads (There c r) R vs → Reads (Then (Body k s) (λ b. There c b)) R (us ++ vs)
+    section_then p q ts spelled = behind_found us vs p (λ b e ws t. subst (λ (x : Contents). Found (There c x) R ws) (sym e) (q ws t)) ts spelled
 
-over : (s : Contents) → Reads (There ends s) (Is s) []
-over s = found_nothing s is_nothing
+  module _ (k : Section) (c d : Course) (s : Contents) (R : Contents → Type 0) (words : Words) where
+    -- a section that may come
+    comes : Reads (Then (Body k s) (λ b. There c b)) R words → Reads (There (may k c d) s) R words
+    comes read ts spelled = found_by (λ b. b) (λ xs b is. of_first is) (λ b h. h) ts (read ts spelled)
 
-abbrev section_lines : List ℕ → List Words → List Words
-section_lines text items = (text ∷ []) ∷ items ++ (codes "end" ∷ []) ∷ []
+    -- what comes in its place
+    left_out : Reads (There d s) R words → Reads (There (may k c d) s) R words
+    left_out read ts spelled = found_by (λ b. b) (λ xs b is. of_second is) (λ b h. h) ts (read ts spelled)
 
--- ---- turns, if there are some
+  over : (s : Contents) → Reads (There ends s) (Is s) []
+  over s = found_nothing s is_nothing
 
-record TurnsAreRead (marks : Option MarkLists) : Type 0 where
-  pub words : Words
-  pub spelt : IsSpelt (flat_map (λ text. text) (text_of_some turns_text marks)) words
-  pub read : (s : Contents) → Reads (There (may Turns ends ends) s) (Is s) words
+  abbrev section_lines : List ℕ → List Words → List Words
+  section_lines text items = (text ∷ []) ∷ items ++ (codes "end" ∷ []) ∷ []
 
-turns_read : (a : Contents) (marks : Option MarkLists) → IfSome marks (AreWritableMarks a) → TurnsAreRead marks
-turns_read a None k = record { words = []; spelt = no_text; read = λ s. left_out Turns ends ends s (Is s) [] (over s) }
-turns_read a (Some m) k =
-    let t = of_lines (section_lines (codes "turns") (flat_map caller_lines (enumerate_from 0 m.marks))) (turns_lines m k.callers k.each) in
-    record {
-      words = t.words ++ [];
-      spelt = text_then (turns_text m) [] t.words [] t.spelt no_text;
-      read = λ s. comes Turns ends ends s (Is s) (t.words ++ []) (section_then Turns ends s s (Is s) t.words [] (λ ts spelled. found_made (λ u. s) (λ u e. refl) ts (t.read ts spelled)) (over s));
-    }
+  -- ---- turns, if there are some
 
--- ---- what is printed of a program
+  record TurnsAreRead (marks : Option MarkLists) : Type 0 where
+    pub words : Words
+    pub spelt : IsSpelt (flat_map (λ text. text) (text_of_some turns_text marks)) words
+    pub read : (s : Contents) → s.version ≡ version → Reads (There (may Turns ends ends) s) (Is s) words
 
-module _ (p : tree.Program) (k : IsWritableProgram p) where
-  abbrev vars_of : ℕ
-  vars_of = length p.vars
+  turns_read : (a : Contents) → a.version ≡ version → (marks : Option MarkLists) → IfSome marks (AreWritableMarks a) → TurnsAreRead marks
+  turns_read a its None k = record { words = []; spelt = no_text; read = λ s e. left_out Turns ends ends s (Is s) [] (over s) }
+  turns_read a its (Some m) k =
+      let each : All (AreWritable version) m.marks = subst (λ (v : ℕ). All (AreWritable v) m.marks) its k.each in
+      let t = of_lines (section_lines (codes "turns") (flat_map caller_lines (enumerate_from 0 m.marks))) (turns_lines version m k.callers each) in
+      record {
+        words = t.words ++ [];
+        spelt = text_then (turns_text m) [] t.words [] t.spelt no_text;
+        read = λ s at. comes Turns ends ends s (Is s) (t.words ++ []) (section_then Turns ends s s (Is s) t.words [] (λ ts spelled. found_made (λ u. s) (λ u e. refl) ts (subst (λ (v : ℕ). Found (IsTurns v) (Is tt) ts) (sym at) (t.read ts spelled))) (over s));
+      }
 
-  -- a shape under this word
-  the_shape : (c : Config) → IsWritableConfig vars_of c → c.maxes ≡ maxes_of p → (text : List ℕ) → Rereads (IsWord text) Any (text ∷ []) → IsReread (IsShapeUnder text vars_of (maxes_of p)) (Is c) (shape_text text vars_of c)
-  the_shape c w m text first =
-      let lines = section_lines text (area_words c.area ∷ map (bot_line vars_of) (present c.bots)) in
-      of_lines lines (subst (λ (maxes : List ℕ). RereadsLines (IsShapeUnder text vars_of maxes) (Is c) lines) m (config_lines vars_of c w (few_vars p k) text first))
+  -- ---- what is printed of a program
 
-  the_journal : (bots : ℕ) → bots < 2 ^ 16 → (es : List Entry) → length es ≤ most_turns → All (KeepsLimits bots (length p.actions) vars_of) es → IsReread (IsJournal bots (length p.actions) vars_of) (Is es) (journal_text vars_of es)
-  the_journal bots small es few each =
-      let actions : length p.actions < 2 ^ 8 = (let most = few_actions p k in omega arith) in
-      of_lines (section_lines (codes "journal") (map (entry_words vars_of) (enumerate_from 0 es))) (journal_lines bots (length p.actions) vars_of small actions (few_vars p k) es few each)
+  module _ (p : tree.Program) (k : IsWritableProgram p) where
+    abbrev vars_of : ℕ
+    vars_of = length p.vars
 
--- ---- the sections as they are read behind a program that is the same without lines
+    -- a shape under this word
+    the_shape : (c : Config) → IsWritableConfig version vars_of c → c.maxes ≡ maxes_of p → (text : List ℕ) → Rereads (IsWord text) Any (text ∷ []) → IsReread (IsShapeUnder version text vars_of (maxes_of p)) (Is c) (shape_text text vars_of c)
+    the_shape c w m text first =
+        let lines = section_lines text (area_words c.area ∷ map (bot_line vars_of) (present c.bots)) in
+        of_lines lines (subst (λ (maxes : List ℕ). RereadsLines (IsShapeUnder version text vars_of maxes) (Is c) lines) m (config_lines version vars_of c w (few_vars p k) text first))
 
-module _ (p q : tree.Program) (same : without_lines q ≡ without_lines p) where
-  abbrev with : Option Config → Option (List Entry) → Option Config → Contents
-  with world entries final_world = contents_of (Some q) world entries final_world
+    the_journal : (bots : ℕ) → bots < 2 ^ 16 → (es : List Entry) → length es ≤ most_turns → All (KeepsLimits bots (length p.actions) vars_of) es → IsReread (IsJournal bots (length p.actions) vars_of) (Is es) (journal_text vars_of es)
+    the_journal bots small es few each =
+        let actions : length p.actions < 2 ^ 8 = (let most = few_actions p k in omega arith) in
+        of_lines (section_lines (codes "journal") (map (entry_words vars_of) (enumerate_from 0 es))) (journal_lines bots (length p.actions) vars_of small actions (few_vars p k) es few each)
 
-  shape_as : (text : List ℕ) (c : Config) (words : Words) → Reads (IsShapeUnder text (length p.vars) (maxes_of p)) (Is c) words → Reads (IsShapeUnder text (length q.vars) (maxes_of q)) (Is c) words
-  shape_as text c words read ts s =
-      subst (λ (n : ℕ). Found (IsShapeUnder text n (maxes_of q)) (Is c) ts) (sym (as_many_vars q p same))
-      (subst (λ (maxes : List ℕ). Found (IsShapeUnder text (length p.vars) maxes) (Is c) ts) (sym (same_maxes q p same)) (read ts s))
+  -- ---- the sections as they are read behind a program that is the same without lines
 
-  journal_as : (bots : ℕ) (es : List Entry) (words : Words) → Reads (IsJournal bots (length p.actions) (length p.vars)) (Is es) words → Reads (IsJournal bots (length q.actions) (length q.vars)) (Is es) words
-  journal_as bots es words read ts s =
-      subst (λ (n : ℕ). Found (IsJournal bots (length q.actions) n) (Is es) ts) (sym (as_many_vars q p same))
-      (subst (λ (n : ℕ). Found (IsJournal bots n (length p.vars)) (Is es) ts) (sym (as_many_actions q p same)) (read ts s))
+  module _ (p q : tree.Program) (same : without_lines q ≡ without_lines p) where
+    abbrev with : Option Config → Option (List Entry) → Option Config → Contents
+    with world entries final_world = contents (Some q) world entries final_world
 
-  -- a shape, and what stands behind it
-  shape_then : (c : Course) (R : Contents → Type 0) (w : Config) (us vs : Words) → Reads (IsShape (length p.vars) (maxes_of p)) (Is w) us → Reads (There c (with (Some w) None None)) R vs → Reads (Then (Body Shape (with None None None)) (λ b. There c b)) R (us ++ vs)
-  shape_then c R w us vs read more =
-      section_then Shape c (with None None None) (with (Some w) None None) R us vs
-      (λ ts s. found_made (λ (d : Config). with (Some d) None None) (λ d e. ap (λ (d : Config). with (Some d) None None) e) ts (shape_as (codes "shape") w us read ts s)) more
+    shape_as : (text : List ℕ) (c : Config) (words : Words) → Reads (IsShapeUnder version text (length p.vars) (maxes_of p)) (Is c) words → Reads (IsShapeUnder version text (length q.vars) (maxes_of q)) (Is c) words
+    shape_as text c words read ts s =
+        subst (λ (n : ℕ). Found (IsShapeUnder version text n (maxes_of q)) (Is c) ts) (sym (as_many_vars q p same))
+        (subst (λ (maxes : List ℕ). Found (IsShapeUnder version text (length p.vars) maxes) (Is c) ts) (sym (same_maxes q p same)) (read ts s))
 
-  -- a journal, the last shape, and perhaps turns
-  record_then : (w d : Config) (es : List Entry) (us vs ws : Words) → Reads (IsJournal (length w.bots) (length p.actions) (length p.vars)) (Is es) us → Reads (IsFinal (length p.vars) (maxes_of p)) (Is d) vs → Reads (There (may Turns ends ends) (with (Some w) (Some es) (Some d))) (Is (with (Some w) (Some es) (Some d))) ws → Reads (There (needs Journal behind_journal) (with (Some w) None None)) (Is (with (Some w) (Some es) (Some d))) (us ++ (vs ++ ws))
-  record_then w d es us vs ws journal last turns =
-      let all = with (Some w) (Some es) (Some d) in
-      section_then Journal behind_journal (with (Some w) None None) (with (Some w) (Some es) None) (Is all) us (vs ++ ws)
-      (λ ts s. found_made (λ (fs : List Entry). with (Some w) (Some fs) None) (λ fs e. ap (λ (fs : List Entry). with (Some w) (Some fs) None) e) ts (journal_as (length w.bots) es us journal ts s))
-      (section_then Final (may Turns ends ends) (with (Some w) (Some es) None) all (Is all) vs ws
-      (λ ts s. found_made (λ (c : Config). with (Some w) (Some es) (Some c)) (λ c e. ap (λ (c : Config). with (Some w) (Some es) (Some c)) e) ts (shape_as (codes "final") d vs last ts s)) turns)
+    journal_as : (bots : ℕ) (es : List Entry) (words : Words) → Reads (IsJournal bots (length p.actions) (length p.vars)) (Is es) words → Reads (IsJournal bots (length q.actions) (length q.vars)) (Is es) words
+    journal_as bots es words read ts s =
+        subst (λ (n : ℕ). Found (IsJournal bots (length q.actions) n) (Is es) ts) (sym (as_many_vars q p same))
+        (subst (λ (n : ℕ). Found (IsJournal bots n (length p.vars)) (Is es) ts) (sym (as_many_actions q p same)) (read ts s))
 
-  no_lists : (c : Course) (s : Contents) (R : Contents → Type 0) (words : Words) → Reads (There c s) R words → Reads (There (may_lists c) s) R words
-  no_lists c s R words read = left_out Lists (may_schedule c) c s R words read
+    -- a shape, and what stands behind it
+    shape_then : (c : Course) (R : Contents → Type 0) (w : Config) (us vs : Words) → Reads (IsShape version (length p.vars) (maxes_of p)) (Is w) us → Reads (There c (with (Some w) None None)) R vs → Reads (Then (Body Shape (with None None None)) (λ b. There c b)) R (us ++ vs)
+    shape_then c R w us vs read more =
+        section_then Shape c (with None None None) (with (Some w) None None) R us vs
+        (λ ts s. found_made (λ (d : Config). with (Some d) None None) (λ d e. ap (λ (d : Config). with (Some d) None None) e) ts (shape_as (codes "shape") w us read ts s)) more
 
-  -- with lines or without
-  bare : (c : Course) (world : Option Config) (entries : Option (List Entry)) (last : Option Config) (words : Words) → Reads (There c (with None None None)) (Is (with world entries last)) words → Reads (There c (with None None None)) (λ b. bare_contents b ≡ bare_contents (contents_of (Some p) world entries last)) words
-  bare c world entries last words read ts s =
-      found_by (λ b. b) (λ xs b is. is) (λ b e. ap bare_contents e ∙ ap (λ (r : tree.Program). contents_of (Some r) world entries last) same) ts (read ts s)
+    -- a journal, the last shape, and perhaps turns
+    record_then : (w d : Config) (es : List Entry) (us vs ws : Words) → Reads (IsJournal (length w.bots) (length p.actions) (length p.vars)) (Is es) us → Reads (IsFinal version (length p.vars) (maxes_of p)) (Is d) vs → Reads (There (may Turns ends ends) (with (Some w) (Some es) (Some d))) (Is (with (Some w) (Some es) (Some d))) ws → Reads (There (needs Journal behind_journal) (with (Some w) None None)) (Is (with (Some w) (Some es) (Some d))) (us ++ (vs ++ ws))
+    record_then w d es us vs ws journal last turns =
+        let all = with (Some w) (Some es) (Some d) in
+        section_then Journal behind_journal (with (Some w) None None) (with (Some w) (Some es) None) (Is all) us (vs ++ ws)
+        (λ ts s. found_made (λ (fs : List Entry). with (Some w) (Some fs) None) (λ fs e. ap (λ (fs : List Entry). with (Some w) (Some fs) None) e) ts (journal_as (length w.bots) es us journal ts s))
+        (section_then Final (may Turns ends ends) (with (Some w) (Some es) None) all (Is all) vs ws
+        (λ ts s. found_made (λ (c : Config). with (Some w) (Some es) (Some c)) (λ c e. ap (λ (c : Config). with (Some w) (Some es) (Some c)) e) ts (shape_as (codes "final") d vs last ts s)) turns)
 
--- ---- the forms
+    no_lists : (c : Course) (s : Contents) (R : Contents → Type 0) (words : Words) → Reads (There c s) R words → Reads (There (may_lists c) s) R words
+    no_lists c s R words read = left_out Lists (may_schedule c) c s R words read
 
-module _ (p : tree.Program) (k : IsWritableProgram p) where
-  abbrev of_program : Words
-  of_program = (the_program p k).words
+    -- with lines or without
+    bare : (c : Course) (world : Option Config) (entries : Option (List Entry)) (last : Option Config) (words : Words) → Reads (There c (with None None None)) (Is (with world entries last)) words → Reads (There c (with None None None)) (λ b. bare_contents b ≡ bare_contents (contents (Some p) world entries last)) words
+    bare c world entries last words read ts s =
+        found_by (λ b. b) (λ xs b is. is) (λ b e. ap bare_contents e ∙ ap (λ (r : tree.Program). contents (Some r) world entries last) same) ts (read ts s)
 
-  abbrev Same : Option Config → Option (List Entry) → Option Config → Contents → Type 0
-  Same world entries last b = bare_contents b ≡ bare_contents (contents_of (Some p) world entries last)
+  -- ---- the forms
 
-  only_program : HasBareContents Check (document_text (contents_of (Some p) None None None) None) (contents_of (Some p) None None None)
-  only_program =
-      read_back Check (contents_of (Some p) None None None) (canon p ++ []) (of_program ++ []) (text_then (canon p) [] of_program [] (the_program p k).spelt no_text)
-      (program_then p k (may Shape (may_lists ends) ends) (Same None None None) []
-      (λ q same. bare p q same (may Shape (may_lists ends) ends) None None None []
-      (left_out Shape (may_lists ends) ends (with p q same None None None) (Is (with p q same None None None)) [] (over (with p q same None None None)))))
+  module _ (p : tree.Program) (k : IsWritableProgram p) where
+    abbrev of_program : Words
+    of_program = (the_program p k).words
 
-  module _ (c : Config) (w : IsWritableConfig (length p.vars) c) (m : c.maxes ≡ maxes_of p) where
-    abbrev of_shape : IsReread (IsShape (length p.vars) (maxes_of p)) (Is c) (shape_text (codes "shape") (length p.vars) c)
-    of_shape = the_shape p k c w m (codes "shape") shape_word
+    abbrev Same : Option Config → Option (List Entry) → Option Config → Contents → Type 0
+    Same world entries last b = bare_contents b ≡ bare_contents (contents (Some p) world entries last)
 
-    abbrev unrecorded : Contents
-    unrecorded = contents_of (Some p) (Some c) None None
+    only_program : HasBareContents Check (document_text (contents (Some p) None None None) None) (contents (Some p) None None None)
+    only_program =
+        read_back Check (contents (Some p) None None None) (canon p ++ []) (of_program ++ []) (text_then (canon p) [] of_program [] (the_program p k).spelt no_text)
+        (program_then p k (may Shape (may_lists ends) ends) (Same None None None) []
+        (λ q same. bare p q same (may Shape (may_lists ends) ends) None None None []
+        (left_out Shape (may_lists ends) ends (with p q same None None None) (Is (with p q same None None None)) [] (over (with p q same None None None)))))
 
-    abbrev two_texts : List ℕ
-    two_texts = canon p ++ (shape_text (codes "shape") (length p.vars) c ++ [])
+    module _ (c : Config) (w : IsWritableConfig version (length p.vars) c) (m : c.maxes ≡ maxes_of p) where
+      abbrev of_shape : IsReread (IsShape version (length p.vars) (maxes_of p)) (Is c) (shape_text (codes "shape") (length p.vars) c)
+      of_shape = the_shape p k c w m (codes "shape") shape_word
 
-    abbrev two_words : Words
-    two_words = of_program ++ (of_shape.words ++ [])
+      abbrev unrecorded : Contents
+      unrecorded = contents (Some p) (Some c) None None
 
-    two_spelt : IsSpelt two_texts two_words
-    two_spelt = text_then (canon p) _ of_program _ (the_program p k).spelt (text_then (shape_text (codes "shape") (length p.vars) c) [] of_shape.words [] of_shape.spelt no_text)
+      abbrev two_texts : List ℕ
+      two_texts = canon p ++ (shape_text (codes "shape") (length p.vars) c ++ [])
 
-    with_shape : HasBareContents Check (document_text unrecorded None) unrecorded
-    with_shape =
-        read_back Check unrecorded two_texts two_words two_spelt
-        (program_then p k (may Shape (may_lists ends) ends) (Same (Some c) None None) (of_shape.words ++ [])
-        (λ q same. (let all = with p q same (Some c) None None in
-        bare p q same (may Shape (may_lists ends) ends) (Some c) None None (of_shape.words ++ [])
-        (comes Shape (may_lists ends) ends (with p q same None None None) (Is all) (of_shape.words ++ [])
-        (shape_then p q same (may_lists ends) (Is all) c of_shape.words [] of_shape.read (no_lists p q same ends all (Is all) [] (over all)))))))
+      abbrev two_words : Words
+      two_words = of_program ++ (of_shape.words ++ [])
 
-    measured : HasBareContents Measure (document_text unrecorded None) unrecorded
-    measured =
-        let behind = may Journal behind_journal ends in
-        read_back Measure unrecorded two_texts two_words two_spelt
-        (program_then p k (needs Shape (may_lists behind)) (Same (Some c) None None) (of_shape.words ++ [])
-        (λ q same. (let all = with p q same (Some c) None None in
-        bare p q same (needs Shape (may_lists behind)) (Some c) None None (of_shape.words ++ [])
-        (shape_then p q same (may_lists behind) (Is all) c of_shape.words [] of_shape.read
-        (no_lists p q same behind all (Is all) [] (left_out Journal behind_journal ends all (Is all) [] (over all)))))))
+      two_spelt : IsSpelt two_texts two_words
+      two_spelt = text_then (canon p) _ of_program _ (the_program p k).spelt (text_then (shape_text (codes "shape") (length p.vars) c) [] of_shape.words [] of_shape.spelt no_text)
 
-    module _ (es : List Entry) (few : length es ≤ most_turns) (each : All (KeepsLimits (length c.bots) (length p.actions) (length p.vars)) es)
-        (d : Config) (v : IsWritableConfig (length p.vars) d) (n : d.maxes ≡ maxes_of p) (marks : Option MarkLists) (turns : TurnsAreRead marks) where
-      small_world : length c.bots < 2 ^ 16
-      small_world = let most = w.few in omega arith
+      with_shape : HasBareContents Check (document_text unrecorded None) unrecorded
+      with_shape =
+          read_back Check unrecorded two_texts two_words two_spelt
+          (program_then p k (may Shape (may_lists ends) ends) (Same (Some c) None None) (of_shape.words ++ [])
+          (λ q same. (let all = with p q same (Some c) None None in
+          bare p q same (may Shape (may_lists ends) ends) (Some c) None None (of_shape.words ++ [])
+          (comes Shape (may_lists ends) ends (with p q same None None None) (Is all) (of_shape.words ++ [])
+          (shape_then p q same (may_lists ends) (Is all) c of_shape.words [] of_shape.read (no_lists p q same ends all (Is all) [] (over all)))))))
 
-      abbrev of_journal : IsReread (IsJournal (length c.bots) (length p.actions) (length p.vars)) (Is es) (journal_text (length p.vars) es)
-      of_journal = the_journal p k (length c.bots) small_world es few each
+      measured : HasBareContents Measure (document_text unrecorded None) unrecorded
+      measured =
+          let behind = may Journal behind_journal ends in
+          read_back Measure unrecorded two_texts two_words two_spelt
+          (program_then p k (needs Shape (may_lists behind)) (Same (Some c) None None) (of_shape.words ++ [])
+          (λ q same. (let all = with p q same (Some c) None None in
+          bare p q same (needs Shape (may_lists behind)) (Some c) None None (of_shape.words ++ [])
+          (shape_then p q same (may_lists behind) (Is all) c of_shape.words [] of_shape.read
+          (no_lists p q same behind all (Is all) [] (left_out Journal behind_journal ends all (Is all) [] (over all)))))))
 
-      abbrev of_final : IsReread (IsFinal (length p.vars) (maxes_of p)) (Is d) (shape_text (codes "final") (length p.vars) d)
-      of_final = the_shape p k d v n (codes "final") final_word
+      module _ (es : List Entry) (few : length es ≤ most_turns) (each : All (KeepsLimits (length c.bots) (length p.actions) (length p.vars)) es)
+          (d : Config) (v : IsWritableConfig version (length p.vars) d) (n : d.maxes ≡ maxes_of p) (marks : Option MarkLists) (turns : TurnsAreRead marks) where
+        small_world : length c.bots < 2 ^ 16
+        small_world = let most = w.few in omega arith
 
-      abbrev whole : Contents
-      whole = contents_of (Some p) (Some c) (Some es) (Some d)
+        abbrev of_journal : IsReread (IsJournal (length c.bots) (length p.actions) (length p.vars)) (Is es) (journal_text (length p.vars) es)
+        of_journal = the_journal p k (length c.bots) small_world es few each
 
-      abbrev last_words : Words
-      last_words = of_journal.words ++ (of_final.words ++ turns.words)
+        abbrev of_final : IsReread (IsFinal version (length p.vars) (maxes_of p)) (Is d) (shape_text (codes "final") (length p.vars) d)
+        of_final = the_shape p k d v n (codes "final") final_word
 
-      abbrev last_texts : List ℕ
-      last_texts = journal_text (length p.vars) es ++ (shape_text (codes "final") (length p.vars) d ++ flat_map (λ text. text) (text_of_some turns_text marks))
+        abbrev whole : Contents
+        whole = contents (Some p) (Some c) (Some es) (Some d)
 
-      abbrev all_words : Words
-      all_words = of_program ++ (of_shape.words ++ last_words)
+        abbrev last_words : Words
+        last_words = of_journal.words ++ (of_final.words ++ turns.words)
 
-      abbrev all_texts : List ℕ
-      all_texts = canon p ++ (shape_text (codes "shape") (length p.vars) c ++ last_texts)
+        abbrev last_texts : List ℕ
+        last_texts = journal_text (length p.vars) es ++ (shape_text (codes "final") (length p.vars) d ++ flat_map (λ text. text) (text_of_some turns_text marks))
 
-      all_spelt : IsSpelt all_texts all_words
-      all_spelt =
-          text_then (canon p) _ of_program _ (the_program p k).spelt
-          (text_then (shape_text (codes "shape") (length p.vars) c) _ of_shape.words _ of_shape.spelt
-          (text_then (journal_text (length p.vars) es) _ of_journal.words _ of_journal.spelt
-          (text_then (shape_text (codes "final") (length p.vars) d) _ of_final.words turns.words of_final.spelt turns.spelt)))
+        abbrev all_words : Words
+        all_words = of_program ++ (of_shape.words ++ last_words)
 
-      abbrev Recorded : (q : tree.Program) → without_lines q ≡ without_lines p → Contents
-      Recorded q same = with p q same (Some c) (Some es) (Some d)
+        abbrev all_texts : List ℕ
+        all_texts = canon p ++ (shape_text (codes "shape") (length p.vars) c ++ last_texts)
 
-      -- what stands behind the program, where a journal comes behind the shape
-      recorded_by : (behind : Course) → ((q : tree.Program) (same : without_lines q ≡ without_lines p) → Reads (There (needs Journal behind_journal) (with p q same (Some c) None None)) (Is (Recorded q same)) last_words → Reads (There behind (with p q same (Some c) None None)) (Is (Recorded q same)) last_words)
-          → Reads (There (needs Program (needs Shape (may_lists behind))) nothing_yet) (Same (Some c) (Some es) (Some d)) all_words
-      recorded_by behind into =
-          program_then p k (needs Shape (may_lists behind)) (Same (Some c) (Some es) (Some d)) (of_shape.words ++ last_words)
-          (λ q same. (let all = Recorded q same in
-          bare p q same (needs Shape (may_lists behind)) (Some c) (Some es) (Some d) (of_shape.words ++ last_words)
-          (shape_then p q same (may_lists behind) (Is all) c of_shape.words last_words of_shape.read
-          (no_lists p q same behind (with p q same (Some c) None None) (Is all) last_words
-          (into q same (record_then p q same c d es of_journal.words of_final.words turns.words of_journal.read of_final.read (turns.read all)))))))
+        all_spelt : IsSpelt all_texts all_words
+        all_spelt =
+            text_then (canon p) _ of_program _ (the_program p k).spelt
+            (text_then (shape_text (codes "shape") (length p.vars) c) _ of_shape.words _ of_shape.spelt
+            (text_then (journal_text (length p.vars) es) _ of_journal.words _ of_journal.spelt
+            (text_then (shape_text (codes "final") (length p.vars) d) _ of_final.words turns.words of_final.spelt turns.spelt)))
 
-      replayed : HasBareContents Replay (document_text whole marks) whole
-      replayed = read_back Replay whole all_texts all_words all_spelt (recorded_by (needs Journal behind_journal) (λ q same read. read))
+        abbrev Recorded : (q : tree.Program) → without_lines q ≡ without_lines p → Contents
+        Recorded q same = with p q same (Some c) (Some es) (Some d)
 
-      measured_record : HasBareContents Measure (document_text whole marks) whole
-      measured_record =
-          read_back Measure whole all_texts all_words all_spelt
-          (recorded_by (may Journal behind_journal ends) (λ q same read. comes Journal behind_journal ends (with p q same (Some c) None None) (Is (Recorded q same)) last_words read))
+        -- what stands behind the program, where a journal comes behind the shape
+        recorded_by : (behind : Course) → ((q : tree.Program) (same : without_lines q ≡ without_lines p) → Reads (There (needs Journal behind_journal) (with p q same (Some c) None None)) (Is (Recorded q same)) last_words → Reads (There behind (with p q same (Some c) None None)) (Is (Recorded q same)) last_words)
+            → Reads (There (needs Program (needs Shape (may_lists behind))) start) (Same (Some c) (Some es) (Some d)) all_words
+        recorded_by behind into =
+            program_then p k (needs Shape (may_lists behind)) (Same (Some c) (Some es) (Some d)) (of_shape.words ++ last_words)
+            (λ q same. (let all = Recorded q same in
+            bare p q same (needs Shape (may_lists behind)) (Some c) (Some es) (Some d) (of_shape.words ++ last_words)
+            (shape_then p q same (may_lists behind) (Is all) c of_shape.words last_words of_shape.read
+            (no_lists p q same behind (with p q same (Some c) None None) (Is all) last_words
+            (into q same (record_then p q same c d es of_journal.words of_final.words turns.words of_journal.read of_final.read (turns.read all refl)))))))
 
--- ---- the law
+        replayed : HasBareContents Replay (document_text whole marks) whole
+        replayed = read_back Replay whole all_texts all_words all_spelt (recorded_by (needs Journal behind_journal) (λ q same read. read))
 
-abbrev Law : Form → Option tree.Program → Option Config → Option (List Entry) → Option Config → Option MarkLists → Type 0
-Law form o w es d marks =
-    IsWritableDocument form (contents_of o w es d) marks → HasBareContents form (document_text (contents_of o w es d) marks) (contents_of o w es d)
+        measured_record : HasBareContents Measure (document_text whole marks) whole
+        measured_record =
+            read_back Measure whole all_texts all_words all_spelt
+            (recorded_by (may Journal behind_journal ends) (λ q same read. comes Journal behind_journal ends (with p q same (Some c) None None) (Is (Recorded q same)) last_words read))
 
-of_form : (form : Form) (o : Option tree.Program) (w : Option Config) (es : Option (List Entry)) (d : Option Config) (marks : Option MarkLists) → Law form o w es d marks
-of_form Run o w es d marks k = absurd (let no = k.sections.2 in cc)
-of_form Interleave o w es d marks k = absurd (let no = k.sections.2 in cc)
-of_form Check None w es d marks k = absurd (let no = k.sections.0 in cc)
-of_form Check (Some p) w (Some es) d marks k = absurd (let no = k.sections.1.0 in cc)
-of_form Check (Some p) w None (Some d) marks k = absurd (let no = k.sections.1.1 in cc)
-of_form Check (Some p) w None None (Some m) k = absurd (let no = k.turns.behind in cc)
-of_form Check (Some p) None None None None k = only_program p k.program
-of_form Check (Some p) (Some c) None None None k = with_shape p k.program c k.world.world k.world.maxes
-of_form Replay None w es d marks k = absurd (let no = k.sections.0 in cc)
-of_form Replay (Some p) None es d marks k = absurd (let no = k.sections.1 in cc)
-of_form Replay (Some p) (Some c) None d marks k = absurd (let no = k.sections.2 in cc)
-of_form Replay (Some p) (Some c) (Some es) None marks k = absurd (let no = k.sections.3 in cc)
-of_form Replay (Some p) (Some c) (Some es) (Some d) marks k =
-    replayed p k.program c k.world.world k.world.maxes es k.entries.few k.entries.each d k.final_world.world k.final_world.maxes marks (turns_read _ marks k.turns)
-of_form Measure None w es d marks k = absurd (let no = k.sections.0 in cc)
-of_form Measure (Some p) None es d marks k = absurd (let no = k.sections.1 in cc)
-of_form Measure (Some p) (Some c) (Some es) None marks k = absurd (let no = k.recorded.last in cc)
-of_form Measure (Some p) (Some c) None (Some d) marks k = absurd (let no = k.recorded.first in cc)
-of_form Measure (Some p) (Some c) None None (Some m) k = absurd (let no = k.turns.behind in cc)
-of_form Measure (Some p) (Some c) None None None k = measured p k.program c k.world.world k.world.maxes
-of_form Measure (Some p) (Some c) (Some es) (Some d) marks k =
-    measured_record p k.program c k.world.world k.world.maxes es k.entries.few k.entries.each d k.final_world.world k.final_world.maxes marks (turns_read _ marks k.turns)
+  -- ---- the law
+
+  abbrev Law : Form → Option tree.Program → Option Config → Option (List Entry) → Option Config → Option MarkLists → Type 0
+  Law form o w es d marks =
+      IsWritableDocument form (contents o w es d) marks → HasBareContents form (document_text (contents o w es d) marks) (contents o w es d)
+
+  of_form : (form : Form) (o : Option tree.Program) (w : Option Config) (es : Option (List Entry)) (d : Option Config) (marks : Option MarkLists) → Law form o w es d marks
+  of_form Run o w es d marks k = absurd (let no = k.sections.2 in cc)
+  of_form Interleave o w es d marks k = absurd (let no = k.sections.2 in cc)
+  of_form Check None w es d marks k = absurd (let no = k.sections.0 in cc)
+  of_form Check (Some p) w (Some es) d marks k = absurd (let no = k.sections.1.0 in cc)
+  of_form Check (Some p) w None (Some d) marks k = absurd (let no = k.sections.1.1 in cc)
+  of_form Check (Some p) w None None (Some m) k = absurd (let no = k.turns.behind in cc)
+  of_form Check (Some p) None None None None k = only_program p k.program
+  of_form Check (Some p) (Some c) None None None k = with_shape p k.program c k.world.world k.world.maxes
+  of_form Replay None w es d marks k = absurd (let no = k.sections.0 in cc)
+  of_form Replay (Some p) None es d marks k = absurd (let no = k.sections.1 in cc)
+  of_form Replay (Some p) (Some c) None d marks k = absurd (let no = k.sections.2 in cc)
+  of_form Replay (Some p) (Some c) (Some es) None marks k = absurd (let no = k.sections.3 in cc)
+  of_form Replay (Some p) (Some c) (Some es) (Some d) marks k =
+      replayed p k.program c k.world.world k.world.maxes es k.entries.few k.entries.each d k.final_world.world k.final_world.maxes marks (turns_read _ refl marks k.turns)
+  of_form Measure None w es d marks k = absurd (let no = k.sections.0 in cc)
+  of_form Measure (Some p) None es d marks k = absurd (let no = k.sections.1 in cc)
+  of_form Measure (Some p) (Some c) (Some es) None marks k = absurd (let no = k.recorded.last in cc)
+  of_form Measure (Some p) (Some c) None (Some d) marks k = absurd (let no = k.recorded.first in cc)
+  of_form Measure (Some p) (Some c) None None (Some m) k = absurd (let no = k.turns.behind in cc)
+  of_form Measure (Some p) (Some c) None None None k = measured p k.program c k.world.world k.world.maxes
+  of_form Measure (Some p) (Some c) (Some es) (Some d) marks k =
+      measured_record p k.program c k.world.world k.world.maxes es k.entries.few k.entries.each d k.final_world.world k.final_world.maxes marks (turns_read _ refl marks k.turns)
 
 pub documents_read_back : DocumentsReadBack
 documents_read_back form a marks k =
-    let is : a ≡ contents_of a.checked a.world a.entries a.final_world =
+    let bare : Contents = contents a.version k.version a.checked a.world a.entries a.final_world in
+    let is : a ≡ bare =
     ap (λ (lists : Option CallerLists). record a { lists = lists }) k.no_lists ∙ ap (λ (steps : Option (List ℕ)). record a { lists = None; schedule = steps }) k.no_schedule in
     subst (λ (b : Contents). HasBareContents form (document_text b marks) b) (sym is)
-    (of_form form a.checked a.world a.entries a.final_world marks (subst (λ (b : Contents). IsWritableDocument form b marks) is k))
+    (of_form a.version k.version form a.checked a.world a.entries a.final_world marks (subst (λ (b : Contents). IsWritableDocument form b marks) is k))

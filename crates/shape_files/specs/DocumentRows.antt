@@ -112,7 +112,7 @@ entry_made = record {
 }
 
 abbrev pub only_program : Contents
-only_program = record { checked = Some out; world = None; lists = None; schedule = None; entries = None; final_world = None }
+only_program = record { version = 1; checked = Some out; world = None; lists = None; schedule = None; entries = None; final_world = None }
 
 abbrev pub program_and_shape : Contents
 program_and_shape = record only_program { world = Some (shape_of_one (shape_bot (pos 2) (pos 3) (pos 2) (pos 3) 0 Plus [])) }

@@ -23,10 +23,11 @@ use Rattle.shape_files.specs.declared.section_kind.Form.{Form}
 use Rattle.shape_files.specs.Frame.{course_of, IsInFrame}
 use Rattle.shape_files.specs.FrameLaws.{SameTexts}
 
--- What a document has: its program, the configuration at the start, the lists, the steps of the schedule,
+-- What a document has: its version, its program, the configuration at the start, the lists, the steps of the schedule,
 -- the entries of the journal and the configuration at the end.
 -- Its turns are read by their grammar alone.
 pub record Contents : Type 0 where
+  pub version : ℕ
   pub checked : Option tree.Program
   pub world : Option Config
   pub lists : Option CallerLists
@@ -34,9 +35,18 @@ pub record Contents : Type 0 where
   pub entries : Option (List Entry)
   pub final_world : Option Config
 
--- nothing is read yet
-abbrev pub nothing_yet : Contents
-nothing_yet = record { checked = None; world = None; lists = None; schedule = None; entries = None; final_world = None }
+-- nothing is read yet but the version
+abbrev pub nothing_yet : ℕ → Contents
+nothing_yet version =
+    record {
+      version = version;
+      checked = None;
+      world = None;
+      lists = None;
+      schedule = None;
+      entries = None;
+      final_world = None;
+    }
 
 -- ---- what later sections have to know of earlier ones
 
@@ -76,14 +86,14 @@ IsCheckedProgram = Judged IsProgram (λ p. first_in (faults p))
 
 abbrev pub Body : Section → Contents → Lang Contents
 Body Program s = Made IsCheckedProgram (λ p. record s { checked = Some p })
-Body Shape s = Made (IsShape (var_count s.checked) (maxes_in s.checked)) (λ c. record s { world = Some c })
+Body Shape s = Made (IsShape s.version (var_count s.checked) (maxes_in s.checked)) (λ c. record s { world = Some c })
 Body Lists s = Made (IsLists (bots_of s.world)) (λ l. record s { lists = Some l })
 Body Schedule s = Made (IsSchedule (callers_of s.lists)) (λ steps. record s { schedule = Some steps })
 Body Journal s =
     Made (IsJournal (bots_of s.world) (actions_of s.checked) (var_count s.checked))
     (λ es. record s { entries = Some es })
-Body Final s = Made (IsFinal (var_count s.checked) (maxes_in s.checked)) (λ c. record s { final_world = Some c })
-Body Turns s = Made IsTurns (λ u. s)
+Body Final s = Made (IsFinal s.version (var_count s.checked) (maxes_in s.checked)) (λ c. record s { final_world = Some c })
+Body Turns s = Made (IsTurns s.version) (λ u. s)
 
 -- ---- documents
 
@@ -119,4 +129,4 @@ DocumentsAreDecided = (form : Form) → IsDecidedForm form
 
 -- The documents of each form, behind the header, are the form's sections one behind the other.
 abbrev pub FormsAreStraight : Type 0
-FormsAreStraight = (form : Form) → SameTexts Body (course_of form) nothing_yet
+FormsAreStraight = (form : Form) (version : ℕ) → SameTexts Body (course_of form) (nothing_yet version)

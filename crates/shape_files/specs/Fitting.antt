@@ -12,6 +12,7 @@ use Rattle.action_check.specs.Faults.{faults}
 use Rattle.journal_text.specs.Journals.{is_known}
 use Rattle.shape_files.specs.declared.section_kind.Form.{Form}
 use Rattle.shape_files.specs.declared.section_kind.Form.TheVariants.{Run, Interleave, Replay, Check, Measure}
+use Rattle.shape_files.specs.Frame.{IsVersion}
 use Rattle.shape_files.specs.Documents.{Contents, var_count, actions_of, maxes_in, bots_of, callers_of, HasContents}
 
 -- ---- which sections there are
@@ -42,6 +43,8 @@ pub record AreEntriesOf (bots actions : ℕ) (es : List Entry) : Type 0 where
   pub known : All (λ e. is_known bots actions e ≡ true) es
 
 pub record FitTogether (a : Contents) : Type 0 where
+  -- the version is one that there is
+  pub version : IsVersion a.version
   -- the program keeps the rules on names and ranges, and its limits
   pub checked : IfSome a.checked (λ p. faults p ≡ [])
   pub vars : var_count a.checked ≤ most_vars

@@ -1,17 +1,17 @@
 -- The frame of a document: a header, and then sections in the order of its form.
 --   document := "amoebot" NUMBER { section }
--- The NUMBER is the version, which is 1; another is a BadRange.
+-- The NUMBER is the version, from the least to the greatest that there is; another is a BadRange.
 -- A section begins with its word.
 -- Where a section is still needed, the word of a section that may not come there is a WrongSection.
 -- A token behind a complete document is Trailing, which is a fault of a whole input.
-use Rattle.std.specs.Prelude.{◌≡◌, ℕ, Bool, true, false, ◌||◌, ◌==◌, if◌then◌else◌, List, [], ◌∷◌, ◌++◌, Option, Some, None, codes}
+use Rattle.std.specs.Prelude.{◌≡◌, ◌≤◌, ℕ, Bool, true, false, ◌||◌, if◌then◌else◌, List, [], ◌∷◌, ◌++◌, Option, Some, None, codes}
 use Rattle.text_tokens.specs.declared.token.TokenKind.TheVariants.{Word}
-use Rattle.text_tokens.specs.declared.refusal.RefusalKind.{RefusalKind}
-use Rattle.text_tokens.specs.declared.refusal.RefusalKind.TheVariants.{BadRange, WrongSection}
+use Rattle.text_tokens.specs.declared.refusal.RefusalKind.TheVariants.{WrongSection}
 use Rattle.text_tokens.specs.Text.{Lexeme}
 use Rattle.text_tokens.specs.Cursor.{is_the}
-use Rattle.text_tokens.specs.Reading.{first, lexeme_value}
+use Rattle.text_tokens.specs.Reading.{first}
 use Rattle.text_tokens.specs.Grammar.{Symbol, symbol, tokens, Lang, Then, IsThe, IsNumeral}
+use Rattle.node_text.specs.Parts.{outside}
 use Rattle.shape_files.specs.declared.section_kind.Section.{Section}
 use Rattle.shape_files.specs.declared.section_kind.Section.TheVariants.{Program, Shape, Lists, Schedule, Journal, Final, Turns}
 use Rattle.shape_files.specs.declared.section_kind.Form.{Form}
@@ -114,12 +114,20 @@ pub data IsRest {S : Type 0} (Body : Section → S → Lang S) : Course → S �
       → is_section_word t ≡ true
       → IsRest Body c s (symbol t (Some WrongSection) ∷ []) s
 
--- the version is 1
-abbrev pub other_version : Lexeme → Option RefusalKind
-other_version t = if lexeme_value t == 1 then None else Some BadRange
+-- the least and the greatest version that there is
+abbrev pub least_version : ℕ
+least_version = 1
 
+abbrev pub greatest_version : ℕ
+greatest_version = 1
+
+abbrev pub IsVersion : ℕ → Type 0
+IsVersion version = (least_version ≤ version) × (version ≤ greatest_version)
+
+-- the word of documents and the version, for the version
 abbrev pub IsHeader : Lang ℕ
-IsHeader = Then (IsThe is_header_word) (λ line. IsNumeral other_version)
+IsHeader = Then (IsThe is_header_word) (λ line. IsNumeral (outside least_version greatest_version))
 
-abbrev pub IsInFrame : {S : Type 0} → (Section → S → Lang S) → Course → S → Lang S
-IsInFrame Body c s = Then IsHeader (λ version. IsRest Body c s)
+-- the sections, from the state on that the version gives
+abbrev pub IsInFrame : {S : Type 0} → (Section → S → Lang S) → Course → (ℕ → S) → Lang S
+IsInFrame Body c start = Then IsHeader (λ version. IsRest Body c (start version))

@@ -1,5 +1,5 @@
 -- What holds of the frame, whatever its sections are.
-use Rattle.std.specs.Prelude.{◌≡◌, true, List, None}
+use Rattle.std.specs.Prelude.{◌≡◌, ℕ, true, List, None}
 use Rattle.text_tokens.specs.declared.refusal.RefusalKind.TheVariants.{Trailing}
 use Rattle.text_tokens.specs.Text.{Lexeme}
 use Rattle.text_tokens.specs.Reading.{Reader, no_limit, whole_input}
@@ -29,7 +29,7 @@ pub record Framed {S : Type 0} (P : Lang S) (p : Reader S) : Type 0 where
   pub decided_input : IsDecidedInput P Trailing
 
 abbrev pub FrameLaw : {S : Type 0} → (Section → S → Lang S) → (Section → S → Reader S) → Type 0
-FrameLaw {S} Body body = AreSections Body body → (c : Course) (s : S) → Framed (IsInFrame Body c s) (in_frame body c s)
+FrameLaw {S} Body body = AreSections Body body → (c : Course) (start : ℕ → S) → Framed (IsInFrame Body c start) (in_frame body c start)
 
 -- ---- the forms as they are written down
 

@@ -3,8 +3,9 @@ use Rattle.std.specs.Prelude.{ℕ, if◌then◌else◌, Option}
 use Rattle.text_tokens.specs.declared.refusal.RefusalKind.TheVariants.{WrongSection}
 use Rattle.text_tokens.specs.Text.{Lexeme}
 use Rattle.text_tokens.specs.Reading.{Reader, starts_at, ◌>>=◌, pure, refuse, stop, choose, the_line, numeral}
+use Rattle.node_text.specs.Parts.{outside}
 use Rattle.shape_files.specs.declared.section_kind.Section.{Section}
-use Rattle.shape_files.specs.Frame.{Course, ends, needs, may, is_word_of_section, is_header_word, is_section_word, other_version}
+use Rattle.shape_files.specs.Frame.{Course, ends, needs, may, is_word_of_section, is_header_word, is_section_word, least_version, greatest_version}
 
 -- why the next token does not begin a section that is needed
 abbrev pub missing : {A : Type 0} → Option Lexeme → Reader A
@@ -23,7 +24,7 @@ module _ {S : Type 0} (body : Section → S → Reader S) where
   rest c s = choose (λ next. rest_at c s next)
 
 unfoldable pub header : Reader ℕ
-header = the_line is_header_word >>= λ line. numeral other_version
+header = the_line is_header_word >>= λ line. numeral (outside least_version greatest_version)
 
-unfoldable pub in_frame : {S : Type 0} → (Section → S → Reader S) → Course → S → Reader S
-in_frame body c s = header >>= λ version. rest body c s
+unfoldable pub in_frame : {S : Type 0} → (Section → S → Reader S) → Course → (ℕ → S) → Reader S
+in_frame body c start = header >>= λ version. rest body c (start version)

@@ -26,10 +26,10 @@ pub record KeepsRunLimits (a : Contents) (es : List Entry) (c : Config) (m : Mar
   pub bots : bots_of a.world < 2 ^ 16
   pub few : length es ≤ most_turns
   pub entries : All (KeepsLimits (bots_of a.world) (actions_of a.checked) (var_count a.checked)) es
-  pub last : IsWritableConfig (var_count a.checked) c
+  pub last : IsWritableConfig a.version (var_count a.checked) c
   pub maxes : c.maxes ≡ maxes_in a.checked
   pub callers : length m.marks ≤ most_callers
-  pub marks : All AreWritable m.marks
+  pub marks : All (AreWritable a.version) m.marks
 
 -- the last byte is a line feed
 abbrev pub EndsLine : List ℕ → Type 0

@@ -15,6 +15,7 @@ as_read (Err r) = Err (Refused r)
 abbrev pub contents : Parts → Contents
 contents p =
     record {
+      version = p.version;
       checked = p.checked;
       world = p.world;
       lists = p.lists;

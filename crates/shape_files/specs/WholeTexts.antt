@@ -17,14 +17,15 @@ use Rattle.journal_text.specs.Rereading.{KeepsLimits, AreWritable}
 use Rattle.shape_text.specs.Texts.{shape_text}
 use Rattle.shape_text.specs.Rereading.{IsWritableConfig}
 use Rattle.shape_files.specs.declared.section_kind.Form.{Form}
+use Rattle.shape_files.specs.Frame.{IsVersion}
 use Rattle.shape_files.specs.Documents.{Contents, var_count, actions_of, maxes_in, bots_of, HasContents}
 use Rattle.shape_files.specs.Fitting.{HasSections, AreTogether}
 
 -- ---- the text
 
 -- the first line: the word of documents, and the version
-abbrev pub header_line : Words
-header_line = codes "amoebot" ∷ decimal 1 ∷ []
+abbrev pub header_line : ℕ → Words
+header_line version = codes "amoebot" ∷ decimal version ∷ []
 
 -- the text of what is there
 abbrev pub text_of_some : {A : Type 0} → (A → List ℕ) → Option A → List (List ℕ)
@@ -43,7 +44,7 @@ section_texts a marks =
 
 -- the first line, and then the sections
 abbrev pub document_text : Contents → Option MarkLists → List ℕ
-document_text a marks = line_text header_line ++ flat_map (λ text. text) (section_texts a marks)
+document_text a marks = line_text (header_line a.version) ++ flat_map (λ text. text) (section_texts a marks)
 
 -- ---- what can be printed
 
@@ -54,7 +55,7 @@ pub record IsWritableProgram (p : tree.Program) : Type 0 where
 
 -- a configuration that a world has, with the maxima of the program
 pub record IsWritableShape (a : Contents) (c : Config) : Type 0 where
-  pub world : IsWritableConfig (var_count a.checked) c
+  pub world : IsWritableConfig a.version (var_count a.checked) c
   pub maxes : c.maxes ≡ maxes_in a.checked
 
 -- entries that break no limit, of the amoebots and actions that there are
@@ -67,10 +68,12 @@ pub record AreWritableEntries (a : Contents) (es : List Entry) : Type 0 where
 pub record AreWritableMarks (a : Contents) (m : MarkLists) : Type 0 where
   pub behind : IsSome a.final_world
   pub callers : length m.marks ≤ most_callers
-  pub each : All AreWritable m.marks
+  pub each : All (AreWritable a.version) m.marks
 
+-- The version is one that there is.
 -- The sections are those of the form, without lists and a schedule, and each of them can be printed.
 pub record IsWritableDocument (form : Form) (a : Contents) (marks : Option MarkLists) : Type 0 where
+  pub version : IsVersion a.version
   pub sections : HasSections form a
   pub recorded : AreTogether a
   pub no_lists : a.lists ≡ None

@@ -9,7 +9,7 @@ ghost use Rattle.shape_files.specs.Views.{contents};
 
 use crate::Form;
 use crate::forms::read_form;
-use crate::head::read_head;
+use crate::head::read_version;
 use crate::parts::{Parts, Sections};
 use std::alloc::Global;
 use text_tokens::{ReadRefusal, RefusalKind, Tokens};
@@ -30,8 +30,8 @@ pub fn read_sections(alloc: Global, bytes: &[u8], form: Form) -> Result<Sections
 fn read_document(alloc: Global, tokens: &mut Tokens<'_>, form: Form) -> Result<Parts, ReadRefusal>
     ensures { Gives contents (document form) tokens.old result tokens.new }
 {
-    read_head(tokens)?;
-    let mut parts = Parts::new();
+    let version = read_version(tokens)?;
+    let mut parts = Parts::new(version);
     read_form(alloc, tokens, &mut parts, form)?;
     Ok(parts)
 }

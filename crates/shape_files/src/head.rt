@@ -1,9 +1,9 @@
 //! The header of a document, and what stands where a section is to begin.
 
-ghost use Rattle.std.specs.Prelude.{◌≡◌};
+ghost use Rattle.std.specs.Prelude.{◌≡◌, ◌≤◌, IfOk};
 ghost use Rattle.text_tokens.specs.Cursor.{next_passes, refusal_at};
 ghost use Rattle.text_tokens.specs.Steps.{TellsOf, ReadsOf, Gives};
-ghost use Rattle.shape_files.specs.Frame.{IsHeader, is_word_of_section, is_section_word};
+ghost use Rattle.shape_files.specs.Frame.{IsHeader, least_version, greatest_version, is_word_of_section, is_section_word};
 ghost use Rattle.shape_files.specs.FrameReaders.{header};
 ghost use Rattle.shape_files.specs.Views.{as_read};
 ghost use Rattle.shape_files.specs.Straight.{missing_kind};
@@ -11,28 +11,35 @@ ghost use Rattle.shape_files.specs.Straight.{missing_kind};
 use crate::Section;
 use text_tokens::{Refusal, RefusalKind, TokenKind, Tokens};
 
-const VERSION: u32 = 1;
+const LEAST_VERSION: u32 = 1;
+
+const GREATEST_VERSION: u32 = 1;
 
 /// Reads the header: the word `amoebot` and the version, which is 1. Another version is a `BadRange`.
 pub fn read_head(tokens: &mut Tokens<'_>) -> Result<(), Refusal>
     ensures tells { TellsOf IsHeader (λ _. 1) tokens.old (as_read result) tokens.new }
     ensures reads { ReadsOf IsHeader (λ _. 1) tokens.old (as_read result) tokens.new }
 {
-    head(tokens)
+    read_version(tokens)?;
+    Ok(())
 }
 
-fn head(tokens: &mut Tokens<'_>) -> Result<(), Refusal>
-    ensures { Gives (λ _. 1) header tokens.old (as_read result) tokens.new }
+/// Reads the header, for the version.
+pub(crate) fn read_version(tokens: &mut Tokens<'_>) -> Result<u8, Refusal>
+    ensures reads { Gives (λ v. v) header tokens.old (as_read result) tokens.new }
+    ensures low { IfOk result (λ v. least_version ≤ v) }
+    ensures high { IfOk result (λ v. v ≤ greatest_version) }
 {
     tokens.take(TokenKind::Word, b"amoebot")?;
-    let version = tokens.take_kind(TokenKind::Number)?;
-    if tokens.number(&version) != VERSION {
+    let token = tokens.take_kind(TokenKind::Number)?;
+    let version = tokens.number(&token);
+    if version < LEAST_VERSION || version > GREATEST_VERSION {
         return Err(Refusal {
-            line: version.line,
+            line: token.line,
             kind: RefusalKind::BadRange,
         });
     }
-    Ok(())
+    Ok(version as u8)
 }
 
 /// Whether the word of this section comes.

@@ -16,6 +16,8 @@ use std::marker::Model;
 /// The sections of a document that stand for something, each `Some` exactly where the document has it.
 #[derive(Drop)]
 pub struct Parts {
+    /// The version of the document.
+    pub(crate) version: u8,
     /// The section `program`, whose names and numbers keep the rules.
     pub checked: Option<Checked>,
     /// The section `shape`.
@@ -29,11 +31,12 @@ pub struct Parts {
 }
 
 impl Parts {
-    /// Nothing was read yet.
-    pub(crate) fn new() -> Parts
-        ensures { contents result ≡ nothing_yet }
+    /// Nothing was read yet but the version.
+    pub(crate) fn new(version: u8) -> Parts
+        ensures { contents result ≡ nothing_yet version }
     {
         Parts {
+            version,
             checked: None,
             world: None,
             lists: None,
@@ -41,6 +44,13 @@ impl Parts {
             entries: None,
             final_world: None,
         }
+    }
+
+    /// The version of the document.
+    pub fn version(&self) -> u8
+        ensures { result ≡ (contents self.now).version }
+    {
+        self.version
     }
 
     /// How many variables the program has, and 0 where there is none.

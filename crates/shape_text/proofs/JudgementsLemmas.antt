@@ -16,11 +16,12 @@ use Rattle.amoebot_state.specs.declared.refusal.WorldRefusal.{WorldRefusal}
 use Rattle.amoebot_state.specs.declared.refusal.WorldRefusal.TheVariants as world
 use Rattle.amoebot_state.specs.Configs.{Config, frame, with_these, with_bot, occupant, is_close, has_values}
 use Rattle.amoebot_state.specs.Refusals.{bot_fault, IsBotInRange, IsFaultless, IsFirstFault}
+use Rattle.shape_text.specs.declared.shape.Listed.TheVariants as list
 use Rattle.shape_text.specs.declared.shape.WrittenBot as code_bot
 use Rattle.shape_text.specs.Shapes.{WrittenBot, WrittenShape, kind_of, broken, first_broken, written_amoebot, shape_frame, shape_fault}
 use Rattle.shape_text.specs.Judgements.{JudgedAsWorlds}
 use Rattle.shape_text.specs.Views as view
-use Rattle.shape_text.specs.Views.{blamed_bot}
+use Rattle.shape_text.specs.Views.{blamed_at}
 
 -- these amoebots behind those that are there
 abbrev with_bots : Config → List Bot → Config
@@ -66,7 +67,7 @@ one_broken c (v ∷ ws) (suc n) w r at fine e =
 -- the amoebot that is refused is the next one, and it is refused for the rule that it breaks
 pub record Blames (c : Config) (b : Bot) (e : WorldRefusal) : Type 0 where
   pub kind : RefusalKind
-  pub names : blamed_bot e ≡ Some (length c.bots, kind)
+  pub names : blamed_at e ≡ Some (list.Bots, length c.bots, kind)
   pub breaks : kind_of e ≡ Some kind
 
 blames : (c : Config) (b : Bot) (e : WorldRefusal) → bot_fault c b ≡ Some e → Blames c b e
@@ -150,7 +151,7 @@ module _ (c : Config) (ws : List Code) where
     pub kind : RefusalKind
     pub there : slice_get ws place ≡ Some one
     pub inside : place < length ws
-    pub names : blamed_bot e ≡ Some (place, kind)
+    pub names : blamed_at e ≡ Some (list.Bots, place, kind)
     pub first : first_broken start (map view.bot_view ws) ≡ Some (on_line one.line kind)
 
   pub refusing : (e : WorldRefusal) → IsFirstFault c Bots e → Refusing e
@@ -168,7 +169,7 @@ module _ (c : Config) (ws : List Code) where
         kind = b.kind;
         there = o.there;
         inside = slice_get_within ws f.place o.one o.there;
-        names = b.names ∙ ap (λ (n : ℕ). Some (n, b.kind)) size;
+        names = b.names ∙ ap (λ (n : ℕ). Some (list.Bots, n, b.kind)) size;
         first = one_broken start (map view.bot_view ws) f.place (view.bot_view o.one) (on_line o.one.line b.kind) (seen_at ws f.place o.one o.there) (fine_of f.place f.before) rule;
       }
 

@@ -12,10 +12,10 @@ use Rattle.text_tokens.proofs.StartsLemmas.{starts_judged}
 use Rattle.text_tokens.proofs.RepeatedLemmas.{part_repeated}
 use Rattle.text_tokens.proofs.LexemeLemmas.{other_text, a_numeral}
 use Rattle.text_tokens.proofs.JoinedParts.{one_behind, into, starts_behind, starts_into}
-use Rattle.node_text.specs.Parts.{word, is_end, one_more, IsWord, IsBotText}
+use Rattle.node_text.specs.Parts.{word, is_end, outside, one_more, IsWord, IsBotText}
 use Rattle.node_text.specs.PartReaders.{a_word, a_bot}
 use Rattle.node_text.proofs.PartLaws.{up_to_end, starts_word, part_word, part_word_within, starts_word_within, part_int, part_bot}
-use Rattle.shape_text.specs.Shapes.{outside, IsSide, an_area_of, IsAreaLine, is_bot, written_bot, past_bots, IsBotWord, IsBotLine, AreBots, WrittenShape, written_shape, IsWrittenShape, shape_fault, stands_for, IsShapeUnder, IsShape, IsFinal}
+use Rattle.shape_text.specs.Shapes.{IsSide, an_area_of, IsAreaLine, is_bot, written_bot, past_bots, IsBotWord, IsBotLine, AreBots, WrittenShape, written_shape, IsWrittenShape, shape_fault, stands_for, IsShapeUnder, IsShape, IsFinal}
 use Rattle.shape_text.specs.Readers.{a_side, an_area, bot_word, a_bot_line, bots_from, a_drawing, a_written_shape, shape_under, a_shape, a_final}
 
 -- ---- the area
@@ -70,12 +70,12 @@ module _ (vars : ℕ) where
     unfolding a_written_shape
     part_written = one_behind is (λ line. up_to_end part_drawing)
 
-    part_shape_under : (maxes : List ℕ) → IsPart (IsShapeUnder text vars maxes) (shape_under text vars maxes) always
+    part_shape_under : (version : ℕ) (maxes : List ℕ) → IsPart (IsShapeUnder version text vars maxes) (shape_under text vars maxes) always
     unfolding shape_under
-    part_shape_under maxes = part_made (Judged (IsWrittenShape text vars) (shape_fault maxes)) (stands_for maxes) _ always (part_judged (IsWrittenShape text vars) (a_written_shape text vars) (shape_fault maxes) always part_written)
+    part_shape_under version maxes = part_made (Judged (IsWrittenShape text vars) (shape_fault maxes)) (stands_for maxes) _ always (part_judged (IsWrittenShape text vars) (a_written_shape text vars) (shape_fault maxes) always part_written)
 
-  starts_shape_under : (text maxes : List ℕ) → Starts (IsShapeUnder text vars maxes) (word text) no_limit
-  starts_shape_under text maxes = starts_into (stands_for maxes) (starts_judged (IsWrittenShape text vars) (shape_fault maxes) (word text) no_limit (starts_word text (λ line. up_to_end part_drawing)))
+  starts_shape_under : (version : ℕ) (text maxes : List ℕ) → Starts (IsShapeUnder version text vars maxes) (word text) no_limit
+  starts_shape_under version text maxes = starts_into (stands_for maxes) (starts_judged (IsWrittenShape text vars) (shape_fault maxes) (word text) no_limit (starts_word text (λ line. up_to_end part_drawing)))
 
 abbrev shape_word : IsPart (IsWord (codes "shape")) (a_word (codes "shape")) always
 shape_word = part_word (codes "shape") refl
@@ -83,23 +83,23 @@ shape_word = part_word (codes "shape") refl
 abbrev final_word : IsPart (IsWord (codes "final")) (a_word (codes "final")) always
 final_word = part_word (codes "final") refl
 
-pub part_shape : (vars : ℕ) (maxes : List ℕ) → IsPart (IsShape vars maxes) (a_shape vars maxes) always
-part_shape vars maxes = part_shape_under vars (codes "shape") shape_word maxes
+pub part_shape : (version vars : ℕ) (maxes : List ℕ) → IsPart (IsShape version vars maxes) (a_shape version vars maxes) always
+part_shape version vars maxes = part_shape_under vars (codes "shape") shape_word version maxes
 
-pub part_final : (vars : ℕ) (maxes : List ℕ) → IsPart (IsFinal vars maxes) (a_final vars maxes) always
-part_final vars maxes = part_shape_under vars (codes "final") final_word maxes
+pub part_final : (version vars : ℕ) (maxes : List ℕ) → IsPart (IsFinal version vars maxes) (a_final version vars maxes) always
+part_final version vars maxes = part_shape_under vars (codes "final") final_word version maxes
 
-pub starts_shape : (vars : ℕ) (maxes : List ℕ) → Starts (IsShape vars maxes) (word (codes "shape")) no_limit
-starts_shape vars maxes = starts_shape_under vars (codes "shape") maxes
+pub starts_shape : (version vars : ℕ) (maxes : List ℕ) → Starts (IsShape version vars maxes) (word (codes "shape")) no_limit
+starts_shape version vars maxes = starts_shape_under vars version (codes "shape") maxes
 
-pub starts_final : (vars : ℕ) (maxes : List ℕ) → Starts (IsFinal vars maxes) (word (codes "final")) no_limit
-starts_final vars maxes = starts_shape_under vars (codes "final") maxes
+pub starts_final : (version vars : ℕ) (maxes : List ℕ) → Starts (IsFinal version vars maxes) (word (codes "final")) no_limit
+starts_final version vars maxes = starts_shape_under vars version (codes "final") maxes
 
-pub exact_shape : (vars : ℕ) (maxes : List ℕ) → Exact (IsShape vars maxes) (a_shape vars maxes)
-exact_shape vars maxes = exact (IsShape vars maxes) (a_shape vars maxes) (part_shape vars maxes).law
+pub exact_shape : (version vars : ℕ) (maxes : List ℕ) → Exact (IsShape version vars maxes) (a_shape version vars maxes)
+exact_shape version vars maxes = exact (IsShape version vars maxes) (a_shape version vars maxes) (part_shape version vars maxes).law
 
-pub exact_final : (vars : ℕ) (maxes : List ℕ) → Exact (IsFinal vars maxes) (a_final vars maxes)
-exact_final vars maxes = exact (IsFinal vars maxes) (a_final vars maxes) (part_final vars maxes).law
+pub exact_final : (version vars : ℕ) (maxes : List ℕ) → Exact (IsFinal version vars maxes) (a_final version vars maxes)
+exact_final version vars maxes = exact (IsFinal version vars maxes) (a_final version vars maxes) (part_final version vars maxes).law
 
 pub exact_bots : (vars before : ℕ) → Exact (AreBots vars before) (bots_from vars before)
 exact_bots vars before = exact (AreBots vars before) (bots_from vars before) (part_bots vars before).law

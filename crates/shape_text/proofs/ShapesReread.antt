@@ -1,33 +1,32 @@
 -- The text of a shape is read as its configuration.
-use Rattle.std.proofs.Common.{◌≡◌, ℕ, ℤ, pos, negsuc, zero, suc, ◌+◌, ◌<◌, ◌≤◌, true, List, [], ◌∷◌, ◌++◌, length, map, Option, Some, None, Ok, codes, refl, sym, ap, subst, ◌∙◌, arith}
-use Rattle.std.specs.Prelude.{◌≤ℤ◌, decimal, nat_le, slice_index_or}
+use Rattle.std.proofs.Common.{◌≡◌, ℕ, ℤ, pos, negsuc, zero, suc, ◌+◌, ◌<◌, ◌≤◌, List, [], ◌∷◌, ◌++◌, length, map, Option, Some, None, Ok, codes, refl, sym, ap, subst, ◌∙◌, arith}
+use Rattle.std.specs.Prelude.{◌≤ℤ◌, decimal, slice_index_or}
 use Rattle.std.specs.Fmt.{signed_decimal}
 use Rattle.std.specs.Option.{IsSome}
 use Rattle.std.specs.List.{All}
 use Rattle.std.proofs.lemmas.List.{get_or-map, length-map}
 use Rattle.std.proofs.lemmas.List.Elements.{All-head, All-tail}
-use Rattle.std.proofs.lemmas.Bool.{le-leb}
 use Rattle.std.proofs.lemmas.Int.{ints}
 use Rattle.tri_lattice.specs.Extent.{Extent, IsArea}
 use Rattle.text_tokens.specs.declared.token.TokenKind.TheVariants.{Word}
 use Rattle.text_tokens.specs.declared.refusal.Refusal.{Refusal}
 use Rattle.text_tokens.specs.Text.{Lexeme}
 use Rattle.text_tokens.specs.Lines.{Words}
-use Rattle.text_tokens.specs.Reading.{lexeme_value}
 use Rattle.text_tokens.specs.Grammar.{Lang, Closed, Judged, no_more}
 use Rattle.text_tokens.proofs.PrintedTokens.{word_is_token}
 use Rattle.amoebot_state.specs.declared.bot.Bot.{Bot}
 use Rattle.amoebot_state.specs.Configs.{Config, frame, frame_of, with_these, IsValid, bot_at}
 use Rattle.amoebot_state.specs.Limits.{most_bots}
 use Rattle.amoebot_state.proofs.Faults.{valid_is_faultless}
-use Rattle.node_text.specs.Parts.{is_end, one_more, IsWord}
+use Rattle.node_text.specs.Parts.{is_end, outside, one_more, IsWord}
 use Rattle.text_tokens.specs.Inputs.{Says}
 use Rattle.node_text.specs.PartLimits.{size, HasLimits}
 use Rattle.text_tokens.proofs.LinesLemmas.{Is, Any, Rereads, RereadsLines, rereads_then, rereads_next, rereads_made, rereads_as, rereads_number, rereads_behind, one_rereads, one_found, the_passes, found_judged, found_made, rereads_the, reread_line, lines_by, lines_into, lines_made, lines_then, lines_next, lines_behind_line, lines_nothing, more_of}
 use Rattle.text_tokens.proofs.StepsLemmas.{not_past}
 use Rattle.text_tokens.proofs.SaysLemmas.{lines_say}
+use Rattle.node_text.proofs.Outside.{inside}
 use Rattle.node_text.proofs.PartsReread.{the_word, an_int, a_bot}
-use Rattle.shape_text.specs.Shapes.{outside, IsSide, an_area_of, IsAreaLine, WrittenBot, written_bot, written_amoebot, IsBotWord, IsBotLine, AreBots, WrittenShape, written_shape, shape_frame, shape_fault, stands_for, IsShapeUnder}
+use Rattle.shape_text.specs.Shapes.{IsSide, an_area_of, IsAreaLine, WrittenBot, written_bot, written_amoebot, IsBotWord, IsBotLine, AreBots, WrittenShape, written_shape, shape_frame, shape_fault, stands_for, IsShapeUnder}
 use Rattle.shape_text.specs.Texts.{area_words, bot_line, present, shape_text}
 use Rattle.shape_text.specs.Rereading.{IsWritableConfig, ShapesReadBack}
 use Rattle.shape_text.proofs.JudgementsLemmas.{faultless_fits}
@@ -36,11 +35,8 @@ use Rattle.shape_text.proofs.WithinLimits.{has_coordinates, small_values}
 
 -- ---- the area
 
-inside : (n : ℕ) → 1 ≤ n → n ≤ 128 → (t : Lexeme) → lexeme_value t ≡ n → outside 1 128 t ≡ None
-inside n low high t e = let a : nat_le 1 n ≡ true = le-leb _ _ low in let b : nat_le n 128 ≡ true = le-leb _ _ high in rw (e, a, b) refl
-
 a_side : (n : ℕ) → 1 ≤ n → n ≤ 128 → Rereads IsSide (Is n) (decimal n ∷ [])
-a_side n low high = rereads_number n (omega arith) (outside 1 128) (inside n low high)
+a_side n low high = rereads_number n (omega arith) (outside 1 128) (λ t e. inside 1 128 t (omega (arith, low, e)) (omega (arith, high, e)))
 
 small_start : (z : ℤ) → negsuc 4095 ≤ℤ z → z ≤ℤ pos 4096 → size z ≤ 4096
 small_start (pos n) low high = omega (arith, ints)
@@ -111,8 +107,8 @@ module _ (vars : ℕ) (le : vars ≤ 8) (c : Config) (bs : List Bot) (valid : Is
   same s is = ap (λ (x : Config). with_these x (map written_amoebot s.bots)) (framed s is) ∙ ap (with_these c) is.1
 
   -- in a section with this word
-  pub shape_lines : (text : List ℕ) → Rereads (IsWord text) Any (text ∷ []) → RereadsLines (IsShapeUnder text vars c.maxes) (Is (with_these c bs)) ((text ∷ []) ∷ the_lines ++ (codes "end" ∷ []) ∷ [])
-  shape_lines text first =
+  pub shape_lines : (version : ℕ) (text : List ℕ) → Rereads (IsWord text) Any (text ∷ []) → RereadsLines (IsShapeUnder version text vars c.maxes) (Is (with_these c bs)) ((text ∷ []) ∷ the_lines ++ (codes "end" ∷ []) ∷ [])
+  shape_lines version text first =
       let all = (text ∷ []) ∷ the_lines ++ (codes "end" ∷ []) ∷ [] in
       lines_made (stands_for c.maxes) all same (lines_judged (shape_fault c.maxes) all fine (lines_next ((text ∷ []) ∷ []) (the_lines ++ (codes "end" ∷ []) ∷ []) (reread_line (text ∷ []) first) closed_drawing))
 
@@ -124,7 +120,7 @@ all_present [] some = refl
 all_present (Some b ∷ os) some = ap (λ (rest : List (Option Bot)). Some b ∷ rest) (all_present os (λ i lt. some (suc i) (omega arith)))
 all_present (None ∷ os) some = absurd (let is = some zero (omega arith) in cc)
 
-module _ (vars : ℕ) (c : Config) (w : IsWritableConfig vars c) where
+module _ (version vars : ℕ) (c : Config) (w : IsWritableConfig version vars c) where
   abbrev bots : List Bot
   bots = present c.bots
 
@@ -152,12 +148,12 @@ module _ (vars : ℕ) (c : Config) (w : IsWritableConfig vars c) where
   few : length bots ≤ most_bots
   few = let size : length bots ≡ length c.bots = sym (length-map bots Some) ∙ ap length all in let most = w.few in omega arith
 
-  pub config_lines : vars ≤ 8 → (text : List ℕ) → Rereads (IsWord text) Any (text ∷ []) → RereadsLines (IsShapeUnder text vars c.maxes) (Is c) ((text ∷ []) ∷ (area_words c.area ∷ map (bot_line vars) bots) ++ (codes "end" ∷ []) ∷ [])
-  config_lines le text first = subst (λ (x : Config). RereadsLines (IsShapeUnder text vars c.maxes) (Is x) ((text ∷ []) ∷ (area_words c.area ∷ map (bot_line vars) bots) ++ (codes "end" ∷ []) ∷ [])) is
-      (shape_lines vars le c bots (subst IsValid (sym is) w.valid) few limits text first)
+  pub config_lines : vars ≤ 8 → (text : List ℕ) → Rereads (IsWord text) Any (text ∷ []) → RereadsLines (IsShapeUnder version text vars c.maxes) (Is c) ((text ∷ []) ∷ (area_words c.area ∷ map (bot_line vars) bots) ++ (codes "end" ∷ []) ∷ [])
+  config_lines le text first = subst (λ (x : Config). RereadsLines (IsShapeUnder version text vars c.maxes) (Is x) ((text ∷ []) ∷ (area_words c.area ∷ map (bot_line vars) bots) ++ (codes "end" ∷ []) ∷ [])) is
+      (shape_lines vars le c bots (subst IsValid (sym is) w.valid) few limits version text first)
 
-  says_it : vars ≤ 8 → (text : List ℕ) → Rereads (IsWord text) Any (text ∷ []) → Says (IsShapeUnder text vars c.maxes) (shape_text text vars c) (Ok c)
-  says_it le text first = lines_say (IsShapeUnder text vars c.maxes) c ((text ∷ []) ∷ (area_words c.area ∷ map (bot_line vars) bots) ++ (codes "end" ∷ []) ∷ []) (config_lines le text first)
+  says_it : vars ≤ 8 → (text : List ℕ) → Rereads (IsWord text) Any (text ∷ []) → Says (IsShapeUnder version text vars c.maxes) (shape_text text vars c) (Ok c)
+  says_it le text first = lines_say (IsShapeUnder version text vars c.maxes) c ((text ∷ []) ∷ (area_words c.area ∷ map (bot_line vars) bots) ++ (codes "end" ∷ []) ∷ []) (config_lines le text first)
 
 pub shape_word : Rereads (IsWord (codes "shape")) Any (codes "shape" ∷ [])
 shape_word = the_word _ _ refl refl (omega arith) refl
@@ -166,4 +162,4 @@ pub final_word : Rereads (IsWord (codes "final")) Any (codes "final" ∷ [])
 final_word = the_word _ _ refl refl (omega arith) refl
 
 pub shapes_reread : ShapesReadBack
-shapes_reread vars c le w = record { shape = says_it vars c w le (codes "shape") shape_word; final = says_it vars c w le (codes "final") final_word }
+shapes_reread version vars c le w = record { shape = says_it version vars c w le (codes "shape") shape_word; final = says_it version vars c w le (codes "final") final_word }

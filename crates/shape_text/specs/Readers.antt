@@ -3,9 +3,9 @@ use Rattle.std.specs.Prelude.{ℕ, List, codes}
 use Rattle.tri_lattice.specs.Extent.{Extent, most_start, most_side}
 use Rattle.text_tokens.specs.Reading.{Reader, ◌>>=◌, pure, one_within, numeral, closed, judged, repeated}
 use Rattle.amoebot_state.specs.Configs.{Config}
-use Rattle.node_text.specs.Parts.{is_end, one_more}
+use Rattle.node_text.specs.Parts.{is_end, outside, one_more}
 use Rattle.node_text.specs.PartReaders.{a_word, an_int, a_bot}
-use Rattle.shape_text.specs.Shapes.{outside, an_area_of, is_bot, WrittenBot, written_bot, past_bots, WrittenShape, written_shape, shape_fault, stands_for}
+use Rattle.shape_text.specs.Shapes.{an_area_of, is_bot, WrittenBot, written_bot, past_bots, WrittenShape, written_shape, shape_fault, stands_for}
 
 unfoldable pub a_side : Reader ℕ
 a_side = numeral (outside 1 most_side)
@@ -41,8 +41,8 @@ a_written_shape text vars = a_word text >>= λ line. closed (a_drawing vars) is_
 unfoldable pub shape_under : List ℕ → ℕ → List ℕ → Reader Config
 shape_under text vars maxes = judged (a_written_shape text vars) (shape_fault maxes) >>= λ s. pure (stands_for maxes s)
 
-abbrev pub a_shape : ℕ → List ℕ → Reader Config
-a_shape = shape_under (codes "shape")
+abbrev pub a_shape : ℕ → ℕ → List ℕ → Reader Config
+a_shape version = shape_under (codes "shape")
 
-abbrev pub a_final : ℕ → List ℕ → Reader Config
-a_final = shape_under (codes "final")
+abbrev pub a_final : ℕ → ℕ → List ℕ → Reader Config
+a_final version = shape_under (codes "final")

@@ -11,7 +11,8 @@ use Rattle.shape_text.specs.Texts.{shape_text}
 
 -- What a world is: valid, with at most 4,096 amoebots, whose ids have no gaps.
 -- No maximum is above 255, and the amoebots have 0 past the variables.
-pub record IsWritableConfig (vars : ℕ) (c : Config) : Type 0 where
+-- It is the same for each version.
+pub record IsWritableConfig (version vars : ℕ) (c : Config) : Type 0 where
   pub valid : IsValid c
   pub few : length c.bots ≤ most_bots
   pub no_gaps : (id : ℕ) → id < length c.bots → IsSome (bot_at c id)
@@ -19,9 +20,9 @@ pub record IsWritableConfig (vars : ℕ) (c : Config) : Type 0 where
   pub zeros : (id : ℕ) (b : Bot) → bot_at c id ≡ Some b → drop vars b.mem ≡ replicate (most_vars - vars) 0
 
 -- such a configuration is read back, as the one section and as the other
-pub record ShapeReadsBack (vars : ℕ) (c : Config) : Type 0 where
-  pub shape : Says (IsShape vars c.maxes) (shape_text (codes "shape") vars c) (Ok c)
-  pub final : Says (IsFinal vars c.maxes) (shape_text (codes "final") vars c) (Ok c)
+pub record ShapeReadsBack (version vars : ℕ) (c : Config) : Type 0 where
+  pub shape : Says (IsShape version vars c.maxes) (shape_text (codes "shape") vars c) (Ok c)
+  pub final : Says (IsFinal version vars c.maxes) (shape_text (codes "final") vars c) (Ok c)
 
 abbrev pub ShapesReadBack : Type 0
-ShapesReadBack = (vars : ℕ) (c : Config) → vars ≤ most_vars → IsWritableConfig vars c → ShapeReadsBack vars c
+ShapesReadBack = (version vars : ℕ) (c : Config) → vars ≤ most_vars → IsWritableConfig version vars c → ShapeReadsBack version vars c

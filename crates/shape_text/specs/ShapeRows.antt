@@ -1,4 +1,4 @@
--- Some texts of shapes, with values for one variable of at most 3, with their configuration or their first fault.
+-- Some texts of shapes in version 1, with values for one variable of at most 3, with their configuration or their first fault.
 use Rattle.std.specs.Prelude.{ℕ, ℤ, pos, negsuc, List, [], ◌∷◌, ◌++◌, Ok, Err, codes}
 use Rattle.tri_lattice.specs.Extent.{Extent}
 use Rattle.text_tokens.specs.declared.refusal.RefusalKind.{RefusalKind}
@@ -26,11 +26,11 @@ shape_bot hx hy tx ty rot chir values = a_bot_of (a_node_of hx hy) (a_node_of tx
 
 -- a shape with this area and these amoebots
 abbrev pub YieldsShape : List ℕ → Extent → List Bot → Type 0
-YieldsShape text area bots = Says (IsShape 1 up_to_3) text (Ok (with_these (frame_of area up_to_3) bots))
+YieldsShape text area bots = Says (IsShape 1 1 up_to_3) text (Ok (with_these (frame_of area up_to_3) bots))
 
 -- a text with this first fault
 abbrev pub FailsAsShape : List ℕ → ℕ → RefusalKind → Type 0
-FailsAsShape text line kind = Says (IsShape 1 up_to_3) text (Err (on_line line kind))
+FailsAsShape text line kind = Says (IsShape 1 1 up_to_3) text (Err (on_line line kind))
 
 -- the same of a text with an area of 8 by 8 nodes from (0, 0) on, and from line 3 on what follows
 abbrev pub FailsInShape : List ℕ → ℕ → RefusalKind → Type 0
@@ -53,11 +53,11 @@ pub record ShapesAreRead : Type 0 where
       (an_area_of (pos 4096) (negsuc 4095) 1 128)
       (shape_bot (pos 4096) (negsuc 3968) (pos 4096) (negsuc 3968) 0 Plus (0 ∷ []) ∷ [])
   -- no variable, and eight
-  pub no_value : Says (IsShape 0 zeros) (codes "shape area 0 0 8 8 bot 2 3 2 3 0 + end")
+  pub no_value : Says (IsShape 1 0 zeros) (codes "shape area 0 0 8 8 bot 2 3 2 3 0 + end")
       (Ok (with_these (frame_of eight_by_eight zeros) (shape_bot (pos 2) (pos 3) (pos 2) (pos 3) 0 Plus [] ∷ [])))
-  pub eight_values : Says (IsShape 8 rising) (codes "shape area 0 0 8 8 bot 2 3 2 3 0 + 1 2 3 4 5 6 7 255 end")
+  pub eight_values : Says (IsShape 1 8 rising) (codes "shape area 0 0 8 8 bot 2 3 2 3 0 + 1 2 3 4 5 6 7 255 end")
       (Ok (with_these (frame_of eight_by_eight rising) (shape_bot (pos 2) (pos 3) (pos 2) (pos 3) 0 Plus rising ∷ [])))
-  pub last_shape : Says (IsFinal 1 up_to_3) (codes "final area 0 0 8 8 bot 2 3 2 3 0 + 1 end")
+  pub last_shape : Says (IsFinal 1 1 up_to_3) (codes "final area 0 0 8 8 bot 2 3 2 3 0 + 1 end")
       (Ok (with_these (frame_of eight_by_eight up_to_3) (shape_bot (pos 2) (pos 3) (pos 2) (pos 3) 0 Plus (1 ∷ []) ∷ [])))
   -- the last amoebot that a shape may have
   pub last_amoebot : Says (AreBots 0 4095) (codes "bot 0 0 0 0 0 +")
@@ -89,7 +89,7 @@ pub record ShapesAreRead : Type 0 where
   pub tail_on_tail : FailsInShape (codes "bot 3 3 2 3 0 + 0\nbot 2 4 2 3 0 + 0 end") 4 Overlap
   pub value_4 : FailsInShape (codes "bot\n2 3 2 3 0 +\n4 end") 3 BadValue
   -- no variable, and a value above 0
-  pub no_maximum : Says (IsShape 1 zeros) (codes "shape area 0 0 8 8\nbot 2 3 2 3 0 + 1 end") (Err (on_line 2 BadValue))
+  pub no_maximum : Says (IsShape 1 1 zeros) (codes "shape area 0 0 8 8\nbot 2 3 2 3 0 + 1 end") (Err (on_line 2 BadValue))
   -- ---- the first rule of an amoebot
   pub box_before_adjacent : FailsInShape (codes "bot 9 3 2 3 0 + 4 end") 3 OutOfBox
   pub adjacent_before_overlap : FailsInShape (codes "bot 2 3 2 3 0 + 0\nbot 2 3 4 3 0 + 4 end") 4 NotAdjacent
@@ -108,7 +108,7 @@ pub record ShapesAreRead : Type 0 where
   pub rule_before_byte : FailsInShape (codes "bot 9 3 9 3 0 + 0 end\n,") 3 OutOfBox
   -- ---- tokens that do not belong there
   pub other_word : FailsAsShape (codes "final area 0 0 8 8 end") 1 Unexpected
-  pub other_word_of_the_last : Says (IsFinal 1 up_to_3) (codes "shape area 0 0 8 8 end") (Err (on_line 1 Unexpected))
+  pub other_word_of_the_last : Says (IsFinal 1 1 up_to_3) (codes "shape area 0 0 8 8 end") (Err (on_line 1 Unexpected))
   pub no_area : FailsAsShape (codes "shape\nbot 2 3 2 3 0 + 0 end") 2 Unexpected
   pub three_numbers : FailsAsShape (codes "shape area 0 0 8\nend") 2 Unexpected
   pub five_numbers : FailsAsShape (codes "shape area 0 0 8 8\n8 end") 2 Unexpected

@@ -7,7 +7,7 @@
 -- A beginning farther than 4,096 from 0 and a side that is not 1 to 128 is a BadRange, and the 4,097th `bot` is TooMany.
 -- Behind `end` the amoebots are judged by rising id, as a world judges them.
 -- The first that breaks a rule is refused at its word, for the first rule that it breaks.
-use Rattle.std.specs.Prelude.{ℕ, ℤ, Bool, ◌&&◌, nat_le, if◌then◌else◌, List, [], ◌∷◌, Option, Some, None, map, codes}
+use Rattle.std.specs.Prelude.{ℕ, ℤ, Bool, List, [], ◌∷◌, Option, Some, None, map, codes}
 use Rattle.std.specs.Option.{option_map, option_and_then, option_or}
 use Rattle.tri_lattice.specs.Extent.{Extent, most_start, most_side}
 use Rattle.text_tokens.specs.declared.refusal.Refusal.{Refusal}
@@ -15,7 +15,6 @@ use Rattle.text_tokens.specs.declared.refusal.RefusalKind.{RefusalKind}
 use Rattle.text_tokens.specs.declared.refusal.RefusalKind.TheVariants as kind
 use Rattle.text_tokens.specs.Text.{Lexeme}
 use Rattle.text_tokens.specs.Cursor.{on_line}
-use Rattle.text_tokens.specs.Reading.{lexeme_value}
 use Rattle.text_tokens.specs.Grammar.{Lang, IsOne, Then, Made, IsNumeral, Closed, Judged, Repeated}
 use Rattle.amoebot_state.specs.declared.bot.Bot.{Bot}
 use Rattle.amoebot_state.specs.declared.refusal.WorldRefusal.{WorldRefusal}
@@ -23,12 +22,9 @@ use Rattle.amoebot_state.specs.declared.refusal.WorldRefusal.TheVariants as worl
 use Rattle.amoebot_state.specs.Configs.{Config, frame_of, with_these, with_bot}
 use Rattle.amoebot_state.specs.Limits.{most_bots}
 use Rattle.amoebot_state.specs.Refusals.{bot_fault}
-use Rattle.node_text.specs.Parts.{word, is_end, past_most, one_more, IsWord, IsInt, IsBotText}
+use Rattle.node_text.specs.Parts.{word, is_end, outside, past_most, one_more, IsWord, IsInt, IsBotText}
 
 -- ---- the area
-
-abbrev pub outside : ℕ → ℕ → Lexeme → Option RefusalKind
-outside least most t = if nat_le least (lexeme_value t) && nat_le (lexeme_value t) most then None else Some kind.BadRange
 
 -- a side of an area
 abbrev pub IsSide : Lang ℕ
@@ -119,12 +115,13 @@ module _ (maxes : List ℕ) where
   abbrev pub stands_for : WrittenShape → Config
   stands_for s = with_these (shape_frame s) (map written_amoebot s.bots)
 
--- a shape under this word, with the values of so many variables, and these maxima of all eight
-abbrev pub IsShapeUnder : List ℕ → ℕ → List ℕ → Lang Config
-IsShapeUnder text vars maxes = Made (Judged (IsWrittenShape text vars) (shape_fault maxes)) (stands_for maxes)
+-- A shape under this word, with the values of so many variables, and these maxima of all eight.
+-- The version is the document's. Each has the same shapes.
+abbrev pub IsShapeUnder : ℕ → List ℕ → ℕ → List ℕ → Lang Config
+IsShapeUnder version text vars maxes = Made (Judged (IsWrittenShape text vars) (shape_fault maxes)) (stands_for maxes)
 
-abbrev pub IsShape : ℕ → List ℕ → Lang Config
-IsShape = IsShapeUnder (codes "shape")
+abbrev pub IsShape : ℕ → ℕ → List ℕ → Lang Config
+IsShape version = IsShapeUnder version (codes "shape")
 
-abbrev pub IsFinal : ℕ → List ℕ → Lang Config
-IsFinal = IsShapeUnder (codes "final")
+abbrev pub IsFinal : ℕ → ℕ → List ℕ → Lang Config
+IsFinal version = IsShapeUnder version (codes "final")

@@ -1,5 +1,5 @@
 -- What the code reads, as what the grammars say that it stands for.
-use Rattle.std.specs.Prelude.{◌≡◌, ℕ, List, Option, Some, None, Result, Ok, Err, map, slice_get}
+use Rattle.std.specs.Prelude.{◌≡◌, ◌<◌, ℕ, List, length, Option, Some, None, Result, Ok, Err, map, slice_get}
 use Rattle.text_tokens.specs.declared.refusal.RefusalKind.{RefusalKind}
 use Rattle.text_tokens.specs.declared.refusal.RefusalKind.TheVariants as kind
 use Rattle.text_tokens.specs.declared.refusal.ReadRefusal.{ReadRefusal}
@@ -8,6 +8,8 @@ use Rattle.text_tokens.specs.Cursor.{on_line}
 use Rattle.amoebot_state.specs.declared.refusal.WorldRefusal.{WorldRefusal}
 use Rattle.amoebot_state.specs.declared.refusal.WorldRefusal.TheVariants as world
 use Rattle.amoebot_state.specs.Configs.{Config}
+use Rattle.shape_text.specs.declared.shape.Listed.{Listed}
+use Rattle.shape_text.specs.declared.shape.Listed.TheVariants as list
 use Rattle.shape_text.specs.declared.shape.WrittenBot as code_bot
 use Rattle.shape_text.specs.declared.shape.WrittenShape as code_shape
 use Rattle.shape_text.specs.Shapes.{WrittenBot, WrittenShape, written_bot, written_shape, shape_fault, stands_for}
@@ -18,13 +20,13 @@ bot_view b = written_bot b.line b.bot
 abbrev pub shape : code_shape.WrittenShape → WrittenShape
 shape s = written_shape s.area (map bot_view s.bots.items)
 
--- the amoebot that a world refuses, and for what
-abbrev pub blamed_bot : WorldRefusal → Option (ℕ × RefusalKind)
-blamed_bot (world.OutOfBox id) = Some (id, kind.OutOfBox)
-blamed_bot (world.NotAdjacent id) = Some (id, kind.NotAdjacent)
-blamed_bot (world.Overlap id) = Some (id, kind.Overlap)
-blamed_bot (world.BadValue id) = Some (id, kind.BadValue)
-blamed_bot world.NoMemory = None
+-- what a world refuses, by the list of the shape that has it and by its place there, and for what
+abbrev pub blamed_at : WorldRefusal → Option (Listed × ℕ × RefusalKind)
+blamed_at (world.OutOfBox id) = Some (list.Bots, id, kind.OutOfBox)
+blamed_at (world.NotAdjacent id) = Some (list.Bots, id, kind.NotAdjacent)
+blamed_at (world.Overlap id) = Some (list.Bots, id, kind.Overlap)
+blamed_at (world.BadValue id) = Some (list.Bots, id, kind.BadValue)
+blamed_at world.NoMemory = None
 
 -- the shape is refused for the first rule that it breaks, or it is this world; out of memory says nothing
 abbrev pub IsJudged : List ℕ → WrittenShape → Result Config ReadRefusal → Type 0
@@ -32,7 +34,12 @@ IsJudged maxes s (Ok w) = (shape_fault maxes s ≡ None) × (w ≡ stands_for ma
 IsJudged maxes s (Err NoMemory) = Unit {0}
 IsJudged maxes s (Err (Refused r)) = shape_fault maxes s ≡ Some r
 
--- the refusal names the line of that amoebot
-abbrev pub BlamedAs : List code_bot.WrittenBot → Option (ℕ × RefusalKind) → ReadRefusal → Type 0
+-- the list has that place
+abbrev pub HasPlace : List code_bot.WrittenBot → Option (Listed × ℕ × RefusalKind) → Type 0
+HasPlace bots None = Unit {0}
+HasPlace bots (Some (list.Bots, place, k)) = place < length bots
+
+-- the refusal names the line of what stands at that place
+abbrev pub BlamedAs : List code_bot.WrittenBot → Option (Listed × ℕ × RefusalKind) → ReadRefusal → Type 0
 BlamedAs bots None e = e ≡ NoMemory
-BlamedAs bots (Some (id, k)) e = (b : code_bot.WrittenBot) → slice_get bots id ≡ Some b → e ≡ Refused (on_line b.line k)
+BlamedAs bots (Some (list.Bots, place, k)) e = (b : code_bot.WrittenBot) → slice_get bots place ≡ Some b → e ≡ Refused (on_line b.line k)

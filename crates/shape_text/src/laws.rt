@@ -11,10 +11,10 @@ ghost use Rattle.shape_text.specs.TextRows.{ShapeTextsArePrinted};
 
 /// Of any tokens the grammar of a shape says one thing, and its reader answers that; and so does that of a last shape.
 pub fn shapes_are_decided()
-    ensures exact { (vars : ℕ) (maxes : List ℕ) → Exact (IsShape vars maxes) (a_shape vars maxes) }
-    ensures decided { (vars : ℕ) (maxes : List ℕ) → IsDecided (IsShape vars maxes) }
-    ensures exact_final { (vars : ℕ) (maxes : List ℕ) → Exact (IsFinal vars maxes) (a_final vars maxes) }
-    ensures decided_final { (vars : ℕ) (maxes : List ℕ) → IsDecided (IsFinal vars maxes) }
+    ensures exact { (version vars : ℕ) (maxes : List ℕ) → Exact (IsShape version vars maxes) (a_shape version vars maxes) }
+    ensures decided { (version vars : ℕ) (maxes : List ℕ) → IsDecided (IsShape version vars maxes) }
+    ensures exact_final { (version vars : ℕ) (maxes : List ℕ) → Exact (IsFinal version vars maxes) (a_final version vars maxes) }
+    ensures decided_final { (version vars : ℕ) (maxes : List ℕ) → IsDecided (IsFinal version vars maxes) }
     ensures read { ShapesAreRead }
 {}
 

@@ -1,6 +1,6 @@
 //! The sections `shape` and `final` read.
 
-ghost use Rattle.std.specs.Prelude.{◌≡◌, ◌<◌, ◌≤◌, length, map, option_map, vec_len, IfOk, IfErr, IfSome};
+ghost use Rattle.std.specs.Prelude.{◌≡◌, ◌<◌, ◌≤◌, ℕ, length, map, option_map, vec_len, IfOk, IfErr, IfSome};
 ghost use Rattle.std.specs.List.{All};
 ghost use Rattle.text_tokens.specs.declared.refusal.ReadRefusal.TheVariants.{NoMemory};
 ghost use Rattle.text_tokens.specs.Steps.{Gives, ReadsOf, TellsOf, another};
@@ -35,6 +35,12 @@ pub(crate) struct WrittenBot {
 pub(crate) struct WrittenShape {
     area: Area,
     bots: Vec<WrittenBot>,
+}
+
+/// The list of a shape that has what a world refuses.
+#[derive(Clone, Copy)]
+pub(crate) enum Listed {
+    Bots,
 }
 
 /// A side of an area, from 1 to 128.
@@ -161,26 +167,30 @@ fn bots_of(alloc: Global, written: &[WrittenBot]) -> Result<Vec<Bot>, ReadRefusa
     Ok(bots)
 }
 
-/// The amoebot that is refused, and for what; `None` where it was out of memory.
-fn blamed(refusal: WorldRefusal) -> Option<(u16, RefusalKind)>
-    ensures { result ≡ view.blamed_bot refusal }
+/// What is refused, by its list and its place there, and for what; `None` where it was out of memory.
+fn blamed(refusal: WorldRefusal) -> Option<(Listed, u32, RefusalKind)>
+    ensures { result ≡ view.blamed_at refusal }
 {
     match refusal {
-        WorldRefusal::OutOfBox(id) => Some((id, RefusalKind::OutOfBox)),
-        WorldRefusal::NotAdjacent(id) => Some((id, RefusalKind::NotAdjacent)),
-        WorldRefusal::Overlap(id) => Some((id, RefusalKind::Overlap)),
-        WorldRefusal::BadValue(id) => Some((id, RefusalKind::BadValue)),
+        WorldRefusal::OutOfBox(id) => Some((Listed::Bots, u32::from(id), RefusalKind::OutOfBox)),
+        WorldRefusal::NotAdjacent(id) => Some((
+            Listed::Bots,
+            u32::from(id),
+            RefusalKind::NotAdjacent,
+        )),
+        WorldRefusal::Overlap(id) => Some((Listed::Bots, u32::from(id), RefusalKind::Overlap)),
+        WorldRefusal::BadValue(id) => Some((Listed::Bots, u32::from(id), RefusalKind::BadValue)),
         WorldRefusal::NoMemory => None,
     }
 }
 
-/// The refusal of an amoebot of these at its word.
+/// The refusal of what stands at a place of these lists, at its word.
 fn refusal_of(refusal: WorldRefusal, bots: &[WrittenBot]) -> ReadRefusal
-    requires { IfSome (view.blamed_bot refusal) (λ b. b.0 < length bots.now) }
-    ensures { view.BlamedAs bots.now (view.blamed_bot refusal) result }
+    requires { view.HasPlace bots.now (view.blamed_at refusal) }
+    ensures { view.BlamedAs bots.now (view.blamed_at refusal) result }
 {
     match blamed(refusal) {
-        Some((id, kind)) => refused(bots[usize::from(id)].line, kind),
+        Some((Listed::Bots, place, kind)) => refused(bots[place as usize].line, kind),
         None => ReadRefusal::NoMemory,
     }
 }
@@ -216,7 +226,7 @@ fn read_under(
 }
 
 /// Reads the section `shape` up to its `end`: the world that it stands for, with values for so many variables, at most 8, and
-/// these maxima of all eight.
+/// these maxima of all eight. Documents of each version have the same shapes.
 pub fn read_shape(
     alloc: Global,
     tokens: &mut Tokens<'_>,
@@ -224,8 +234,8 @@ pub fn read_shape(
     maxes: [u8; 8],
 ) -> Result<World, ReadRefusal>
     requires { vars ≤ most_vars }
-    ensures tells { TellsOf (spec.IsShape vars maxes) (λ c. c) tokens.old result tokens.new }
-    ensures reads { ReadsOf (spec.IsShape vars maxes) (λ c. c) tokens.old result tokens.new }
+    ensures tells { (version : ℕ) → TellsOf (spec.IsShape version vars maxes) (λ c. c) tokens.old result tokens.new }
+    ensures reads { (version : ℕ) → ReadsOf (spec.IsShape version vars maxes) (λ c. c) tokens.old result tokens.new }
     ensures few { IfOk result (λ w. length w.bots ≤ most_bots) }
 {
     read_under(alloc, tokens, b"shape", vars, maxes)
@@ -239,8 +249,8 @@ pub fn read_final(
     maxes: [u8; 8],
 ) -> Result<World, ReadRefusal>
     requires { vars ≤ most_vars }
-    ensures tells { TellsOf (spec.IsFinal vars maxes) (λ c. c) tokens.old result tokens.new }
-    ensures reads { ReadsOf (spec.IsFinal vars maxes) (λ c. c) tokens.old result tokens.new }
+    ensures tells { (version : ℕ) → TellsOf (spec.IsFinal version vars maxes) (λ c. c) tokens.old result tokens.new }
+    ensures reads { (version : ℕ) → ReadsOf (spec.IsFinal version vars maxes) (λ c. c) tokens.old result tokens.new }
     ensures few { IfOk result (λ w. length w.bots ≤ most_bots) }
 {
     read_under(alloc, tokens, b"final", vars, maxes)

@@ -4,4 +4,4 @@ use Rattle.command_answers.proofs.OwedTexts.{shows}
 use Rattle.command_answers.proofs.of_show.answer_show.Goals as goal
 
 pub returns : goal.returns
-returns c = shows c.args.program c.in_ok-text.text c.done.result c.done.ensures (c.in_ok-text.ensures ∙ ap check_text (c.program-2.ensures.program ∙ c.in_ok-shipped.ensures))
+returns c = shows c.args.program c.in_ok-text.text c.done.result c.done.ensures (c.in_ok-text.ensures ∙ ap (check_text 1) (c.program-2.ensures.program ∙ c.in_ok-shipped.ensures))

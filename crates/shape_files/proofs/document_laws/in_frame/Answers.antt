@@ -2,4 +2,4 @@ use Rattle.shape_files.proofs.FrameLemmas.{framed}
 use Rattle.shape_files.proofs.document_laws.in_frame.Goals as goal
 
 pub returns : goal.returns
-returns g c = λ are form s. framed g.S.Sectioned.is g.S.Sectioned.reads are form s
+returns g c = λ are form start. framed g.S.Sectioned.is g.S.Sectioned.reads are form start

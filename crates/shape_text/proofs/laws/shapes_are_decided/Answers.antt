@@ -16,22 +16,22 @@ pub returns-clause-exact : goal.returns-clause-exact
 returns-clause-exact c = exact_shape
 
 pub returns-clause-decided : goal.returns-clause-decided
-returns-clause-decided c = λ vars maxes. (exact_law (IsShape vars maxes) (a_shape vars maxes) (part_shape vars maxes).law).1
+returns-clause-decided c = λ version vars maxes. (exact_law (IsShape version vars maxes) (a_shape version vars maxes) (part_shape version vars maxes).law).1
 
 pub returns-clause-exact_final : goal.returns-clause-exact_final
 returns-clause-exact_final c = exact_final
 
 pub returns-clause-decided_final : goal.returns-clause-decided_final
-returns-clause-decided_final c = λ vars maxes. (exact_law (IsFinal vars maxes) (a_final vars maxes) (part_final vars maxes).law).1
+returns-clause-decided_final c = λ version vars maxes. (exact_law (IsFinal version vars maxes) (a_final version vars maxes) (part_final version vars maxes).law).1
 
-shape_told : (vars : ℕ) (maxes : List ℕ) → IsSaid (IsShape vars maxes) (a_shape vars maxes)
-shape_told vars maxes = says (IsShape vars maxes) (a_shape vars maxes) (exact_shape vars maxes)
+shape_told : (vars : ℕ) (maxes : List ℕ) → IsSaid (IsShape 1 vars maxes) (a_shape 1 vars maxes)
+shape_told vars maxes = says (IsShape 1 vars maxes) (a_shape 1 vars maxes) (exact_shape 1 vars maxes)
 
-told : IsSaid (IsShape 1 up_to_3) (a_shape 1 up_to_3)
+told : IsSaid (IsShape 1 1 up_to_3) (a_shape 1 1 up_to_3)
 told = shape_told 1 up_to_3
 
-final_told : IsSaid (IsFinal 1 up_to_3) (a_final 1 up_to_3)
-final_told = says (IsFinal 1 up_to_3) (a_final 1 up_to_3) (exact_final 1 up_to_3)
+final_told : IsSaid (IsFinal 1 1 up_to_3) (a_final 1 1 up_to_3)
+final_told = says (IsFinal 1 1 up_to_3) (a_final 1 1 up_to_3) (exact_final 1 1 up_to_3)
 
 bots_told : (before : ℕ) → IsSaid (AreBots 0 before) (bots_from 0 before)
 bots_told before = says (AreBots 0 before) (bots_from 0 before) (exact_bots 0 before)

@@ -1,23 +1,12 @@
-use Rattle.std.proofs.Common.{◌≡◌, ◌<◌, ◌≤◌, ◌⊎◌, inl, inr, ℕ, true, false, Some, None, refl, sym, ◌∙◌}
-use Rattle.std.specs.Prelude.{nat_le}
-use Rattle.std.proofs.lemmas.Bool.{le-leb, lt-leb}
+use Rattle.std.proofs.Common.{sym, ◌∙◌}
 use Rattle.std.proofs.lemmas.Result.{err_from_is_err_and}
-use Rattle.text_tokens.specs.Text.{Lexeme}
 use Rattle.text_tokens.specs.declared.refusal.RefusalKind.TheVariants.{BadRange}
-use Rattle.text_tokens.specs.Reading.{lexeme_value}
 use Rattle.text_tokens.specs.Steps.{lexeme_of}
 use Rattle.text_tokens.proofs.TakenTokens.{number_missed, number_past, value_is, number_taken}
-use Rattle.shape_text.specs.Shapes.{outside}
+use Rattle.node_text.specs.Parts.{outside}
+use Rattle.node_text.proofs.Outside.{outlying, inside}
 use Rattle.shape_text.specs.Readers.{a_side}
 use Rattle.shape_text.proofs.shape.read_side.Goals as goal
-
-module _ (least most : ℕ) (t : Lexeme) where
-  outlying : (lexeme_value t < least) ⊎ ((least ≤ lexeme_value t) × (most < lexeme_value t)) → outside least most t ≡ Some BadRange
-  outlying (inl lt) = let b : nat_le least (lexeme_value t) ≡ false = lt-leb _ _ lt in rw b refl
-  outlying (inr both) = let a : nat_le least (lexeme_value t) ≡ true = le-leb _ _ both.0 in let b : nat_le (lexeme_value t) most ≡ false = lt-leb _ _ both.1 in rw (a, b) refl
-
-  inside : least ≤ lexeme_value t → lexeme_value t ≤ most → outside least most t ≡ None
-  inside low high = let a : nat_le least (lexeme_value t) ≡ true = le-leb _ _ low in let b : nat_le (lexeme_value t) most ≡ true = le-leb _ _ high in rw (a, b) refl
 
 pub returns-in_err-token-clause-reads : goal.returns-in_err-token-clause-reads
 unfolding a_side

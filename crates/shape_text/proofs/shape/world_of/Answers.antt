@@ -1,4 +1,4 @@
-use Rattle.std.proofs.Common.{◌≡◌, ◌<◌, ◌⊎◌, inl, inr, ℕ, List, length, map, IfSome, Ok, Err, sym, ap, subst, ◌∙◌}
+use Rattle.std.proofs.Common.{◌≡◌, ◌⊎◌, inl, inr, ℕ, List, length, map, Ok, Err, sym, ap, subst, ◌∙◌}
 use Rattle.std.specs.List.{All}
 use Rattle.text_tokens.specs.declared.refusal.ReadRefusal.{ReadRefusal}
 use Rattle.text_tokens.specs.declared.refusal.ReadRefusal.TheVariants.{Refused}
@@ -16,13 +16,13 @@ use Rattle.shape_text.proofs.JudgementsLemmas.{same_bots, plain_bots, is_faultle
 use Rattle.shape_text.proofs.shape.world_of.Goals as goal
 
 module _ (a : Extent) (maxes : List ℕ) (ws : List WrittenBot) (bots : List Bot) (are : bots ≡ map its_bot ws) where
-  named : (e : WorldRefusal) → (e ≡ world.NoMemory) ⊎ IsFirstFault (frame_of a maxes) bots e → IfSome (view.blamed_bot e) (λ b. b.0 < length ws)
+  named : (e : WorldRefusal) → (e ≡ world.NoMemory) ⊎ IsFirstFault (frame_of a maxes) bots e → view.HasPlace ws (view.blamed_at e)
   named e (inl none) = rw none tt
   named e (inr f) =
       let r = refusing (frame_of a maxes) ws e (subst (λ (bs : List Bot). IsFirstFault (frame_of a maxes) bs e) are f) in
       rw r.names r.inside
 
-  refused_as : (e : WorldRefusal) (result : ReadRefusal) → (e ≡ world.NoMemory) ⊎ IsFirstFault (frame_of a maxes) bots e → view.BlamedAs ws (view.blamed_bot e) result → view.IsJudged maxes (written_shape a (map view.bot_view ws)) (Err result)
+  refused_as : (e : WorldRefusal) (result : ReadRefusal) → (e ≡ world.NoMemory) ⊎ IsFirstFault (frame_of a maxes) bots e → view.BlamedAs ws (view.blamed_at e) result → view.IsJudged maxes (written_shape a (map view.bot_view ws)) (Err result)
   refused_as e result (inl none) as_blamed = rw ((rw none at as_blamed)) tt
   refused_as e result (inr f) as_blamed =
       let r = refusing (frame_of a maxes) ws e (subst (λ (bs : List Bot). IsFirstFault (frame_of a maxes) bs e) are f) in
@@ -44,11 +44,11 @@ returns-in-Ok-clause-judged c =
 pub refusal_of-requires : goal.refusal_of-requires
 refusal_of-requires c =
     let are = c.as_slice-2.ensures.value ∙ c.in_ok-bots.ensures.value ∙ ap (map its_bot) c.as_slice.ensures.value in
-    subst (λ (ws : List WrittenBot). IfSome (view.blamed_bot c.in-Err.refusal) (λ b. b.0 < length ws)) (sym c.as_slice-in-Err.ensures.value)
+    subst (λ (ws : List WrittenBot). view.HasPlace ws (view.blamed_at c.in-Err.refusal)) (sym c.as_slice-in-Err.ensures.value)
     (named c.args.written.now.area c.args.maxes c.args.written.now.bots.items c.as_slice-2.result.now are c.in-Err.refusal c.in-Err.ensures.fault)
 
 pub returns-clause-judged : goal.returns-clause-judged
 returns-clause-judged c =
     let are = c.as_slice-2.ensures.value ∙ c.in_ok-bots.ensures.value ∙ ap (map its_bot) c.as_slice.ensures.value in
     refused_as c.args.written.now.area c.args.maxes c.args.written.now.bots.items c.as_slice-2.result.now are c.in-Err.refusal c.refusal_of.result c.in-Err.ensures.fault
-    (subst (λ (ws : List WrittenBot). view.BlamedAs ws (view.blamed_bot c.in-Err.refusal) c.refusal_of.result) c.as_slice-in-Err.ensures.value c.refusal_of.ensures)
+    (subst (λ (ws : List WrittenBot). view.BlamedAs ws (view.blamed_at c.in-Err.refusal) c.refusal_of.result) c.as_slice-in-Err.ensures.value c.refusal_of.ensures)
