@@ -17,13 +17,13 @@ use Rattle.model_ops.specs.Reaches.{move}
 use Rattle.model_ops.specs.Laws.{OnlyWallsBlock}
 
 -- the other failures are others
-no_port : NoPort ≢ Blocked
+pub no_port : NoPort ≢ Blocked
 no_port e = cc
 
 not_contracted : NotContracted ≢ Blocked
 not_contracted e = cc
 
-not_expanded : NotExpanded ≢ Blocked
+pub not_expanded : NotExpanded ≢ Blocked
 not_expanded e = cc
 
 edge : Edge ≢ Blocked
@@ -41,7 +41,7 @@ peer_not_expanded e = cc
 peer_not_contracted : PeerNotContracted ≢ Blocked
 peer_not_contracted e = cc
 
-out_of_range : OutOfRange ≢ Blocked
+pub out_of_range : OutOfRange ≢ Blocked
 out_of_range e = cc
 
 past : {A : Type 0} (holds : Bool) (f : Failure) (r : Result A Failure) → f ≢ Blocked → need holds f r ≡ Err Blocked → r ≡ Err Blocked
@@ -56,10 +56,12 @@ then_past : {A B : Type 0} (r : Result A Failure) (next : A → Result B Failure
 then_past (Ok x) next ne e = (x, e)
 then_past (Err f) next ne e = absurd (ne (cc))
 
-fine : {A : Type 0} (x : A) → (let r : Result A Failure = Ok x in r) ≢ Err Blocked
+-- an answer is not blocked
+pub fine : {A : Type 0} (x : A) → (let r : Result A Failure = Ok x in r) ≢ Err Blocked
 fine x e = cc
 
-owners : (c : Config) (i : ℕ) (p : Option Port) → owner c i p ≢ Err Blocked
+-- nor is the search for an owner
+pub owners : (c : Config) (i : ℕ) (p : Option Port) → owner c i p ≢ Err Blocked
 owners c i None e = fine i e
 owners c i (Some p) e = let (n, rest) = peer_past (occupant c (behind (bot_of c i) p)) _ (past _ _ _ no_port e) in fine n rest
 
