@@ -1,4 +1,4 @@
--- What several sections have: numbers, nodes, ends, ports and amoebots.
+-- What several sections have: numbers, nodes, ends, ports and amoebots; and what the versions of documents have.
 --   int    := [ "-" ] NUMBER
 --   node   := int int
 --   port   := ( "head" | "tail" ) NUMBER
@@ -57,6 +57,12 @@ IsUpTo most = IsNumeral (too_large most BadRange)
 -- a number that is below the least or above the greatest
 abbrev pub outside : ℕ → ℕ → Lexeme → Option RefusalKind
 outside least most t = if nat_le least (lexeme_value t) && nat_le (lexeme_value t) most then None else Some BadRange
+
+-- ---- versions
+
+-- texts of the version may have walls
+abbrev pub may_have_walls : ℕ → Bool
+may_have_walls version = nat_le 2 version
 
 -- ---- counts
 

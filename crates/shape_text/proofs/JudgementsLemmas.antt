@@ -14,7 +14,7 @@ use Rattle.tri_lattice.specs.Extent.{is_in}
 use Rattle.amoebot_state.specs.declared.bot.Bot.{Bot}
 use Rattle.amoebot_state.specs.declared.refusal.WorldRefusal.{WorldRefusal}
 use Rattle.amoebot_state.specs.declared.refusal.WorldRefusal.TheVariants as world
-use Rattle.amoebot_state.specs.Configs.{Config, frame, with_these, with_bot, occupant, is_close, has_values}
+use Rattle.amoebot_state.specs.Configs.{Config, frame, with_these, with_bot, is_wall, occupant, is_close, has_values}
 use Rattle.amoebot_state.specs.Refusals.{bot_fault, IsBotInRange, IsFaultless, IsFirstFault}
 use Rattle.shape_text.specs.declared.shape.Listed.TheVariants as list
 use Rattle.shape_text.specs.declared.shape.WrittenBot as code_bot
@@ -71,7 +71,7 @@ pub record Blames (c : Config) (b : Bot) (e : WorldRefusal) : Type 0 where
   pub breaks : kind_of e ≡ Some kind
 
 blames : (c : Config) (b : Bot) (e : WorldRefusal) → bot_fault c b ≡ Some e → Blames c b e
-blames c b e f = by_box (not (is_in c.area b.head && is_in c.area b.tail)) (not (is_close b.head b.tail)) (is_some (occupant c b.head) || is_some (occupant c b.tail)) (not (has_values c.maxes b.mem)) f
+blames c b e f = by_box (not (is_in c.area b.head && is_in c.area b.tail)) (not (is_close b.head b.tail)) (is_wall c b.head || is_wall c b.tail) (is_some (occupant c b.head) || is_some (occupant c b.tail)) (not (has_values c.maxes b.mem)) f
   where
     n : ℕ
     n = length c.bots
@@ -87,13 +87,17 @@ blames c b e f = by_box (not (is_in c.area b.head && is_in c.area b.tail)) (not 
     by_overlap true v s = is_this (world.Overlap n) s (record { kind = kind.Overlap; names = refl; breaks = refl })
     by_overlap false v s = by_value v s
 
-    by_close : (a o v : Bool) → (if a then Some (world.NotAdjacent n) else if o then Some (world.Overlap n) else if v then Some (world.BadValue n) else None) ≡ Some e → Blames c b e
-    by_close true o v s = is_this (world.NotAdjacent n) s (record { kind = kind.NotAdjacent; names = refl; breaks = refl })
-    by_close false o v s = by_overlap o v s
+    by_wall : (w o v : Bool) → (if w then Some (world.OnWall n) else if o then Some (world.Overlap n) else if v then Some (world.BadValue n) else None) ≡ Some e → Blames c b e
+    by_wall true o v s = is_this (world.OnWall n) s (record { kind = kind.OnWall; names = refl; breaks = refl })
+    by_wall false o v s = by_overlap o v s
 
-    by_box : (x a o v : Bool) → (if x then Some (world.OutOfBox n) else if a then Some (world.NotAdjacent n) else if o then Some (world.Overlap n) else if v then Some (world.BadValue n) else None) ≡ Some e → Blames c b e
-    by_box true a o v s = is_this (world.OutOfBox n) s (record { kind = kind.OutOfBox; names = refl; breaks = refl })
-    by_box false a o v s = by_close a o v s
+    by_close : (a w o v : Bool) → (if a then Some (world.NotAdjacent n) else if w then Some (world.OnWall n) else if o then Some (world.Overlap n) else if v then Some (world.BadValue n) else None) ≡ Some e → Blames c b e
+    by_close true w o v s = is_this (world.NotAdjacent n) s (record { kind = kind.NotAdjacent; names = refl; breaks = refl })
+    by_close false w o v s = by_wall w o v s
+
+    by_box : (x a w o v : Bool) → (if x then Some (world.OutOfBox n) else if a then Some (world.NotAdjacent n) else if w then Some (world.OnWall n) else if o then Some (world.Overlap n) else if v then Some (world.BadValue n) else None) ≡ Some e → Blames c b e
+    by_box true a w o v s = is_this (world.OutOfBox n) s (record { kind = kind.OutOfBox; names = refl; breaks = refl })
+    by_box false a w o v s = by_close a w o v s
 
 breaks_it : (c : Config) (w : WrittenBot) (e : WorldRefusal) (k : RefusalKind) → bot_fault c w.bot ≡ Some e → kind_of e ≡ Some k → broken c w ≡ Some (on_line w.line k)
 breaks_it c w e k f g = rw (f, g) refl

@@ -1,5 +1,5 @@
 -- The text of a shape is read as its configuration.
-use Rattle.std.proofs.Common.{◌≡◌, ℕ, ℤ, pos, negsuc, zero, suc, ◌+◌, ◌<◌, ◌≤◌, List, [], ◌∷◌, ◌++◌, length, map, Option, Some, None, Ok, codes, refl, sym, ap, subst, ◌∙◌, arith}
+use Rattle.std.proofs.Common.{◌≡◌, ℕ, ℤ, pos, negsuc, zero, suc, ◌+◌, ◌<◌, ◌≤◌, false, List, [], ◌∷◌, ◌++◌, length, map, Option, Some, None, Ok, codes, refl, sym, ap, subst, ◌∙◌, arith}
 use Rattle.std.specs.Prelude.{◌≤ℤ◌, decimal, slice_index_or}
 use Rattle.std.specs.Fmt.{signed_decimal}
 use Rattle.std.specs.Option.{IsSome}
@@ -18,7 +18,7 @@ use Rattle.amoebot_state.specs.declared.bot.Bot.{Bot}
 use Rattle.amoebot_state.specs.Configs.{Config, frame, frame_of, with_these, IsValid, bot_at}
 use Rattle.amoebot_state.specs.Limits.{most_bots}
 use Rattle.amoebot_state.proofs.Faults.{valid_is_faultless}
-use Rattle.node_text.specs.Parts.{is_end, outside, one_more, IsWord}
+use Rattle.node_text.specs.Parts.{is_end, outside, may_have_walls, one_more, IsWord}
 use Rattle.text_tokens.specs.Inputs.{Says}
 use Rattle.node_text.specs.PartLimits.{size, HasLimits}
 use Rattle.text_tokens.proofs.LinesLemmas.{Is, Any, Rereads, RereadsLines, rereads_then, rereads_next, rereads_made, rereads_as, rereads_number, rereads_behind, one_rereads, one_found, the_passes, found_judged, found_made, rereads_the, reread_line, lines_by, lines_into, lines_made, lines_then, lines_next, lines_behind_line, lines_nothing, more_of}
@@ -82,7 +82,7 @@ module _ (vars : ℕ) (le : vars ≤ 8) where
 lines_judged : {A : Type 0} {P : Lang A} {R : A → Type 0} (judge : A → Option Refusal) (lines : List Words) → ((a : A) → R a → judge a ≡ None) → RereadsLines P R lines → RereadsLines (Judged P judge) R lines
 lines_judged judge lines none p = record { spelled = p.spelled; printed = p.printed; read = λ ts s. found_judged judge none ts (p.read ts s) }
 
-module _ (vars : ℕ) (le : vars ≤ 8) (c : Config) (bs : List Bot) (valid : IsValid (with_these c bs)) (few : length bs ≤ most_bots) (limits : All (HasLimits vars) bs) where
+module _ (vars : ℕ) (le : vars ≤ 8) (c : Config) (bs : List Bot) (valid : IsValid (with_these c bs)) (open_area : c.walls ≡ []) (few : length bs ≤ most_bots) (limits : All (HasLimits vars) bs) where
   abbrev IsThis : WrittenShape → Type 0
   IsThis s = (s.area ≡ c.area) × (map written_amoebot s.bots ≡ bs)
 
@@ -98,7 +98,7 @@ module _ (vars : ℕ) (le : vars ≤ 8) (c : Config) (bs : List Bot) (valid : Is
       lines_behind_line the_lines ((codes "end" ∷ []) ∷ []) drawing last.spelled last.printed (λ s is ts e. found_made (λ line. s) (λ line x. is) ts (last.read ts e))
 
   framed : (s : WrittenShape) → IsThis s → shape_frame c.maxes s ≡ frame c
-  framed s is = ap (λ (x : Extent). frame_of x c.maxes) is.0
+  framed s is = ap (λ (x : Extent). frame_of x c.maxes) is.0 ∙ ap (λ (ws : List ℕ). record (frame_of c.area c.maxes) { walls = ws }) (sym open_area)
 
   fine : (s : WrittenShape) → IsThis s → shape_fault c.maxes s ≡ None
   fine s is = faultless_fits c.maxes c bs (valid_is_faultless c bs valid) s (framed s is) is.1
@@ -148,12 +148,12 @@ module _ (version vars : ℕ) (c : Config) (w : IsWritableConfig version vars c)
   few : length bots ≤ most_bots
   few = let size : length bots ≡ length c.bots = sym (length-map bots Some) ∙ ap length all in let most = w.few in omega arith
 
-  pub config_lines : vars ≤ 8 → (text : List ℕ) → Rereads (IsWord text) Any (text ∷ []) → RereadsLines (IsShapeUnder version text vars c.maxes) (Is c) ((text ∷ []) ∷ (area_words c.area ∷ map (bot_line vars) bots) ++ (codes "end" ∷ []) ∷ [])
-  config_lines le text first = subst (λ (x : Config). RereadsLines (IsShapeUnder version text vars c.maxes) (Is x) ((text ∷ []) ∷ (area_words c.area ∷ map (bot_line vars) bots) ++ (codes "end" ∷ []) ∷ [])) is
-      (shape_lines vars le c bots (subst IsValid (sym is) w.valid) few limits version text first)
+  pub config_lines : may_have_walls version ≡ false → vars ≤ 8 → (text : List ℕ) → Rereads (IsWord text) Any (text ∷ []) → RereadsLines (IsShapeUnder version text vars c.maxes) (Is c) ((text ∷ []) ∷ (area_words c.area ∷ map (bot_line vars) bots) ++ (codes "end" ∷ []) ∷ [])
+  config_lines no_walls le text first = subst (λ (x : Config). RereadsLines (IsShapeUnder version text vars c.maxes) (Is x) ((text ∷ []) ∷ (area_words c.area ∷ map (bot_line vars) bots) ++ (codes "end" ∷ []) ∷ [])) is
+      (shape_lines vars le c bots (subst IsValid (sym is) w.valid) (w.walls no_walls) few limits version text first)
 
-  says_it : vars ≤ 8 → (text : List ℕ) → Rereads (IsWord text) Any (text ∷ []) → Says (IsShapeUnder version text vars c.maxes) (shape_text text vars c) (Ok c)
-  says_it le text first = lines_say (IsShapeUnder version text vars c.maxes) c ((text ∷ []) ∷ (area_words c.area ∷ map (bot_line vars) bots) ++ (codes "end" ∷ []) ∷ []) (config_lines le text first)
+  says_it : may_have_walls version ≡ false → vars ≤ 8 → (text : List ℕ) → Rereads (IsWord text) Any (text ∷ []) → Says (IsShapeUnder version text vars c.maxes) (shape_text text vars c) (Ok c)
+  says_it no_walls le text first = lines_say (IsShapeUnder version text vars c.maxes) c ((text ∷ []) ∷ (area_words c.area ∷ map (bot_line vars) bots) ++ (codes "end" ∷ []) ∷ []) (config_lines no_walls le text first)
 
 pub shape_word : Rereads (IsWord (codes "shape")) Any (codes "shape" ∷ [])
 shape_word = the_word _ _ refl refl (omega arith) refl
@@ -162,4 +162,4 @@ pub final_word : Rereads (IsWord (codes "final")) Any (codes "final" ∷ [])
 final_word = the_word _ _ refl refl (omega arith) refl
 
 pub shapes_reread : ShapesReadBack
-shapes_reread version vars c le w = record { shape = says_it version vars c w le (codes "shape") shape_word; final = says_it version vars c w le (codes "final") final_word }
+shapes_reread version vars c no_walls le w = record { shape = says_it version vars c w no_walls le (codes "shape") shape_word; final = says_it version vars c w no_walls le (codes "final") final_word }

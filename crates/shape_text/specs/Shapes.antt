@@ -68,12 +68,14 @@ AreBots vars before = Repeated (IsBotLine vars) one_more before
 
 -- ---- the rules on amoebots
 
--- as what an amoebot is refused that a world refuses
+-- as what a wall or an amoebot is refused that a world refuses
 abbrev pub kind_of : WorldRefusal → Option RefusalKind
 kind_of (world.OutOfBox id) = Some kind.OutOfBox
 kind_of (world.NotAdjacent id) = Some kind.NotAdjacent
 kind_of (world.Overlap id) = Some kind.Overlap
 kind_of (world.BadValue id) = Some kind.BadValue
+kind_of (world.BadWall place) = Some kind.BadWall
+kind_of (world.OnWall id) = Some kind.OnWall
 kind_of world.NoMemory = None
 
 -- the rule that the next amoebot breaks beside those that are there
@@ -116,7 +118,7 @@ module _ (maxes : List ℕ) where
   stands_for s = with_these (shape_frame s) (map written_amoebot s.bots)
 
 -- A shape under this word, with the values of so many variables, and these maxima of all eight.
--- The version is the document's. Each has the same shapes.
+-- The version is the document's. Each has the same shapes, and none has a wall.
 abbrev pub IsShapeUnder : ℕ → List ℕ → ℕ → List ℕ → Lang Config
 IsShapeUnder version text vars maxes = Made (Judged (IsWrittenShape text vars) (shape_fault maxes)) (stands_for maxes)
 

@@ -20,12 +20,14 @@ bot_view b = written_bot b.line b.bot
 abbrev pub shape : code_shape.WrittenShape → WrittenShape
 shape s = written_shape s.area (map bot_view s.bots.items)
 
--- what a world refuses, by the list of the shape that has it and by its place there, and for what
+-- What a world refuses, by the list of the shape that has it and by its place there, and for what. A shape has no list of walls.
 abbrev pub blamed_at : WorldRefusal → Option (Listed × ℕ × RefusalKind)
 blamed_at (world.OutOfBox id) = Some (list.Bots, id, kind.OutOfBox)
 blamed_at (world.NotAdjacent id) = Some (list.Bots, id, kind.NotAdjacent)
 blamed_at (world.Overlap id) = Some (list.Bots, id, kind.Overlap)
 blamed_at (world.BadValue id) = Some (list.Bots, id, kind.BadValue)
+blamed_at (world.BadWall place) = None
+blamed_at (world.OnWall id) = Some (list.Bots, id, kind.OnWall)
 blamed_at world.NoMemory = None
 
 -- the shape is refused for the first rule that it breaks, or it is this world; out of memory says nothing

@@ -167,7 +167,8 @@ fn bots_of(alloc: Global, written: &[WrittenBot]) -> Result<Vec<Bot>, ReadRefusa
     Ok(bots)
 }
 
-/// What is refused, by its list and its place there, and for what; `None` where it was out of memory.
+/// What is refused, by its list and its place there, and for what. It is `None` where it was out of memory; a shape has no walls, so
+/// none of them is refused.
 fn blamed(refusal: WorldRefusal) -> Option<(Listed, u32, RefusalKind)>
     ensures { result ≡ view.blamed_at refusal }
 {
@@ -180,7 +181,8 @@ fn blamed(refusal: WorldRefusal) -> Option<(Listed, u32, RefusalKind)>
         )),
         WorldRefusal::Overlap(id) => Some((Listed::Bots, u32::from(id), RefusalKind::Overlap)),
         WorldRefusal::BadValue(id) => Some((Listed::Bots, u32::from(id), RefusalKind::BadValue)),
-        WorldRefusal::NoMemory => None,
+        WorldRefusal::OnWall(id) => Some((Listed::Bots, u32::from(id), RefusalKind::OnWall)),
+        WorldRefusal::BadWall(_) | WorldRefusal::NoMemory => None,
     }
 }
 

@@ -24,6 +24,8 @@ kind_number kind.WrongSection = 17
 kind_number kind.BadEntry = 18
 kind_number kind.BadPlace = 19
 kind_number kind.TooLong = 20
+kind_number kind.BadWall = 22
+kind_number kind.OnWall = 23
 
 unfoldable pub name : RefusalKind → List ℕ
 name kind.BadByte = codes "BadByte"
@@ -46,3 +48,5 @@ name kind.WrongSection = codes "WrongSection"
 name kind.BadEntry = codes "BadEntry"
 name kind.BadPlace = codes "BadPlace"
 name kind.TooLong = codes "TooLong"
+name kind.BadWall = codes "BadWall"
+name kind.OnWall = codes "OnWall"

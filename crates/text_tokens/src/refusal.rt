@@ -49,6 +49,10 @@ pub enum RefusalKind {
     BadPlace,
     /// More bytes than are read.
     TooLong,
+    /// A wall outside the area, or one that stands there already.
+    BadWall,
+    /// An amoebot with its head or its tail on a wall.
+    OnWall,
 }
 
 impl RefusalKind {
@@ -78,6 +82,8 @@ impl RefusalKind {
             RefusalKind::BadEntry => 18,
             RefusalKind::BadPlace => 19,
             RefusalKind::TooLong => 20,
+            RefusalKind::BadWall => 22,
+            RefusalKind::OnWall => 23,
         }
     }
 
@@ -107,6 +113,8 @@ impl RefusalKind {
             RefusalKind::BadEntry => "BadEntry",
             RefusalKind::BadPlace => "BadPlace",
             RefusalKind::TooLong => "TooLong",
+            RefusalKind::BadWall => "BadWall",
+            RefusalKind::OnWall => "OnWall",
         }
     }
 }

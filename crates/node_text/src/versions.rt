@@ -1,0 +1,11 @@
+//! What the texts of a version may have.
+
+ghost use Rattle.std.specs.Prelude.{◌≡◌};
+ghost use Rattle.node_text.specs.Parts as spec;
+
+/// Whether texts of the version may have walls.
+pub fn may_have_walls(version: u8) -> bool
+    ensures { result ≡ spec.may_have_walls version }
+{
+    version >= 2
+}
