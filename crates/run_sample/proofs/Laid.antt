@@ -12,11 +12,12 @@ use Rattle.tri_lattice.proofs.Boxes.{within_in}
 use Rattle.tri_lattice.proofs.Nodes.{node_eq_same}
 use Rattle.tri_lattice.proofs.Paths.{putting_keeps, few_are_connected, same_keeps}
 use Rattle.amoebot_state.specs.declared.bot.Bot.{Bot}
-use Rattle.amoebot_state.specs.Configs.{with_these, IsValid, IsBot, occupant, has_values}
+use Rattle.amoebot_state.specs.Configs.{with_these, IsValid, IsBot, is_wall, occupant, has_values}
 use Rattle.amoebot_state.specs.Occupied.{occupied}
 use Rattle.amoebot_state.proofs.Added.{MayCome, valid_with, these_push}
 use Rattle.amoebot_state.proofs.Faults.{frame_valid}
 use Rattle.amoebot_state.proofs.Options.{none_if}
+use Rattle.amoebot_state.proofs.Walls.{nodes_are_their_numbers}
 use Rattle.rand_pcg.specs.Lcg.{Lcg}
 use Rattle.run_sample.specs.Sample.{AreSample, Placed, none, more, IsNextBot, in_square, beside, is_taken, bot_on, sample_memory, square_node, node_of, draw, drawn, sample_area, sample_maxes, sample_frame, IsInside}
 use Rattle.run_sample.proofs.Squares.{IsWithin, wider, within_inside, step_within, square_within, square_once, square_beside}
@@ -88,9 +89,12 @@ laid_with bots v rot few turns laid empty meets near row =
     let long : length (bots ++ b ∷ []) ≡ suc n = omega (arith, length_push bots b) in
     let inside : IsInside v = within_inside (suc n - 100) v (omega arith) near in
     let free : occupant (with_these sample_frame bots) v ≡ None = none_if _ (laid.same v ∙ empty) in
+    let no_wall : is_wall sample_frame v ≡ false = nodes_are_their_numbers sample_area [] v (inside_in v inside) in
     let fits : IsBot sample_frame b = record {
       head = inside_in v inside;
       tail = inside_in v inside;
+      head_open = no_wall;
+      tail_open = no_wall;
       close = or_left (node_eq v v) (is_adjacent v v) (node_eq_same v);
       rot = turns;
       values = memory_fits n;
