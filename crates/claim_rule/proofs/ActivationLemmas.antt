@@ -13,9 +13,11 @@ use Rattle.amoebot_state.specs.declared.cell.Cell.TheVariants as cell
 use Rattle.amoebot_state.specs.declared.verdict.Verdict.{Verdict}
 use Rattle.amoebot_state.specs.declared.verdict.Verdict.TheVariants as decision
 use Rattle.amoebot_state.specs.Configs.{Config}
-use Rattle.amoebot_state.specs.Pairs.{Pairs, cell_of}
+use Rattle.amoebot_state.specs.Pairs.{Pairs, cell_of, nodes_in}
 use Rattle.amoebot_state.proofs.Fronts.{slice_get_behind}
-use Rattle.amoebot_state.specs.Zones.{Shown, IsShown}
+use Rattle.amoebot_state.specs.Known.{walls_read}
+use Rattle.amoebot_state.specs.Walls.{node_numbers}
+use Rattle.amoebot_state.specs.Zones.{Shown, IsShown, shown_by, shown_with}
 use Rattle.claim_core.specs.declared.marks.Mark.{Mark}
 use Rattle.claim_core.specs.declared.state.Caller.{Caller}
 use Rattle.claim_core.specs.declared.state.Phase.{Phase}
@@ -25,9 +27,10 @@ use Rattle.claim_core.specs.Cells.{number}
 use Rattle.claim_core.specs.Good.{place_after}
 use Rattle.claim_core.specs.Limits.{most_turns}
 use Rattle.claim_rule.specs.Words.{node_word}
-use Rattle.claim_core.specs.Machine.{Setup, bot, own_tag, next_of, after_win, caller_with_cell, opening_phase, freeing_caller, phase_of_verdict}
+use Rattle.claim_core.specs.Machine.{Setup, bot, own_tag, found, next_of, after_win, caller_with_cell, opening_phase, freeing_caller, phase_of_verdict}
 use Rattle.claim_core.specs.Soundness.{IsSetup}
 use Rattle.amoebot_state.proofs.Occupants.{there_below}
+use Rattle.amoebot_state.proofs.Shows.{is_shown_with}
 use Rattle.claim_core.proofs.Frames.{own_there}
 use Rattle.claim_core.proofs.Nexts.{frees-marks, frees-held}
 use Rattle.claim_rule.specs.declared.views.Slot.{Slot}
@@ -38,7 +41,7 @@ use Rattle.tri_lattice.specs.declared.node.Node.{Node}
 use Rattle.claim_rule.specs.declared.views.Note.{Note}
 use Rattle.claim_rule.specs.Stands.{first_plain, slot_of}
 use Rattle.claim_rule.specs.Plays.{IsPlaced, IsKnown, IsOthers, IsToTry, IsToTryNode, IsToFree, Wins, IsRefusedAt, tried, IsToFreeNode, IsToRead, occ_in, but_first, but_last, mark_of_phase, marked_at, released_caller, with_node, about, bot_in}
-use Rattle.claim_rule.specs.Tokens.{AreOut, nodes_held, IsSeat, IsActivation, IsClaiming, IsStopped, HoldsWholeZone, HasMark, IsFreeing}
+use Rattle.claim_rule.specs.Tokens.{AreOut, IsSeat, IsActivation, IsClaiming, IsStopped, HoldsWholeZone, HasMark, IsFreeing}
 
 -- the last one is the first, the other way round
 pub last_first : (xs : Pairs) (x : CellName × Cell) → reverse (xs ++ x ∷ []) ≡ x ∷ reverse xs
@@ -55,7 +58,7 @@ tail_of [] = []
 tail_of (x ∷ xs) = xs
 
 -- there are no more nodes than cells
-nodes_few : (ps : Pairs) → length (nodes_held ps) ≤ length ps
+nodes_few : (ps : Pairs) → length (nodes_in ps) ≤ length ps
 nodes_few [] = omega arith
 nodes_few ((name.Spot v, x) ∷ ps) = let ih = nodes_few ps in omega (arith, ih)
 nodes_few ((name.Body i, x) ∷ ps) = let ih = nodes_few ps in omega (arith, ih)
@@ -168,7 +171,7 @@ module _ {D : Type 0} (verdict : D → Shown → Verdict) where
     HasPlace p = (i : ℕ) × IsPlaced g (cell_of p) i
 
     -- the seat with another record of the same caller, which holds these cells and has the slots of the bodies among them out
-    pub with_held : (u : Bool) (r : Record) (out : List (ℕ × Slot)) (cells : Pairs) (ws : List Note) → All (λ (w : Note). w.stamp ≤ most_turns) ws → r.number ≡ c → r.taken ≡ None → r.caller.held ≡ cells → All HasPlace cells → r.won ≡ ws → r.note ≡ None → map (λ (w : Note). w.node) ws ≡ nodes_held cells → AreOut u cells out
+    pub with_held : (u : Bool) (r : Record) (out : List (ℕ × Slot)) (cells : Pairs) (ws : List Note) → All (λ (w : Note). w.stamp ≤ most_turns) ws → r.number ≡ c → r.taken ≡ None → r.caller.held ≡ cells → All HasPlace cells → r.won ≡ ws → r.note ≡ None → map (λ (w : Note). w.node) ws ≡ nodes_in cells → AreOut u cells out
         → IsActivation verdict (like m.0 (r ∷ []), out) c t b u bare cells ws
     with_held u r out cells ws few number taken held placed won note nodes slots = record {
       alone = refl;
@@ -375,16 +378,34 @@ module _ {D : Type 0} (verdict : D → Shown → Verdict) where
         now : (own m.0).caller ≡ freeing_caller g t pairs (own m.0).caller.marks
         now = as_freed g (own m.0).caller t pairs wh.turn marked is.held (whole_some g b pairs wh.whole)
 
-    -- what was found in a whole zone is what some configuration shows
-    pub whole_is_shown : (found_cells : Pairs) → IsClaiming verdict m t b pairs → pairs ≡ reverse found_cells → next_of g (bot_in verdict m.0) (own m.0).caller.held ≡ None
-        → IsShown (record { area = bare.area; maxes = bare.maxes; bot = b; cells = found_cells })
-    whole_is_shown found_cells cl are none =
-        subst IsShown (λ i. let s : Shown = record { area = (sym is.world i).area; maxes = (sym is.world i).maxes; bot = b; cells = (ap reverse are ∙ reverse-reverse found_cells) i } in s) (cl.known.shown (sym (next_same cl.turn) ∙ none))
+    -- what is put together of the cells and of the walls among them is what was found
+    pub found_is : (found_cells : Pairs) (walls : List Node) → pairs ≡ reverse found_cells → walls ≡ walls_read g.world found_cells → shown_by bare.area bare.maxes b (node_numbers bare.area walls) found_cells ≡ found g b pairs
+    found_is found_cells walls are known =
+        is_shown_with g.world b bare.area bare.maxes found_cells walls is.run.valid (ap (λ (q : Config). q.area) is.world) (ap (λ (q : Config). q.maxes) is.world) known
+        ∙ ap (shown_with g.world b) (sym (ap reverse are ∙ reverse-reverse found_cells))
+
+    -- and that in a whole zone is what some configuration shows
+    pub whole_is_shown : (found_cells : Pairs) (walls : List Node) → IsClaiming verdict m t b pairs → pairs ≡ reverse found_cells → walls ≡ walls_read g.world found_cells → next_of g (bot_in verdict m.0) (own m.0).caller.held ≡ None
+        → IsShown (shown_by bare.area bare.maxes b (node_numbers bare.area walls) found_cells)
+    whole_is_shown found_cells walls cl are known none = subst IsShown (sym (found_is found_cells walls are known)) (cl.known.shown (sym (next_same cl.turn) ∙ none))
+
+    -- and it is what its turn decides on
+    pub whole_is_held : (found_cells : Pairs) (walls : List Node) (after : ℕ) → IsClaiming verdict m t b pairs → pairs ≡ reverse found_cells → walls ≡ walls_read g.world found_cells → next_of g (bot_in verdict m.0) (own m.0).caller.held ≡ None
+        → HoldsWholeZone verdict m t b pairs (shown_by bare.area bare.maxes b (node_numbers bare.area walls) found_cells) after
+    whole_is_held found_cells walls after cl are known none =
+        let all = sym (next_same cl.turn) ∙ none in
+        let told = found_is found_cells walls are known in
+        record {
+          turn = cl.turn;
+          whole = all;
+          shown = told;
+          phase = inl (cl.phase ∙ ap (after_win g b pairs) all ∙ ap (λ (s : Shown). phase_of_verdict (g.verdict s)) (sym told), cl.counted);
+        }
 
     -- there is room for one note more
     pub few_notes : (x : CellName × Cell) → IsKnown g (bot_in verdict m.0) (x ∷ (own m.0).caller.held) → length notes < 19
     few_notes x known =
-        let n : length notes ≡ length (nodes_held pairs) = sym (length-map notes (λ (w : Note). w.node)) ∙ ap length is.nodes in
+        let n : length notes ≡ length (nodes_in pairs) = sym (length-map notes (λ (w : Note). w.node)) ∙ ap length is.nodes in
         let few = known.few in
         let held = ap length is.held in
         let le = nodes_few pairs in
@@ -452,7 +473,7 @@ module _ {D : Type 0} (verdict : D → Shown → Verdict) where
       frees_node m2 view out = subst (λ q. IsActivation verdict q c t b s bare held ws × IsFreeing verdict q t held after) (λ j. (sym view j, sym out j)) (
         with_held s (record (own m.0) { caller = released_caller g (own m.0).caller; won = but_first (own m.0).won }) m.1 held ws (All-tail (λ (u : Note). u.stamp ≤ most_turns) w ws (subst (All (λ (u : Note). u.stamp ≤ most_turns)) notes_are is.few)) is.number is.taken
             (ap (λ (j : Caller). j.held) (k_is (name.Spot v) x held are after fr) ∙ frees-held g t held (own m.0).caller.marks) (rest_placed (name.Spot v) x held are after fr)
-            (ap but_first (is.won ∙ notes_are)) is.note (λ j. tail_of ((ap (map (λ (u : Note). u.node)) (sym notes_are) ∙ is.nodes ∙ ap nodes_held are) j)) (subst (λ (ps : Pairs). AreOut s ps m.1) are is.out),
+            (ap but_first (is.won ∙ notes_are)) is.note (λ j. tail_of ((ap (map (λ (u : Note). u.node)) (sym notes_are) ∙ is.nodes ∙ ap nodes_in are) j)) (subst (λ (ps : Pairs). AreOut s ps m.1) are is.out),
         freeing_still (name.Spot v) x held are after fr (record (own m.0) { caller = released_caller g (own m.0).caller; won = but_first (own m.0).won }) m.1 refl,
       )
 
@@ -474,7 +495,7 @@ module _ {D : Type 0} (verdict : D → Shown → Verdict) where
       pub frees_body : (m' m2 : Seated D) → m' ≡ (m.0, (i, slot.Cell x) ∷ rest m.1) → m2.0 ≡ goes_on m'.0 (released_caller (about verdict m'.0) (own m'.0).caller) → m2.1 ≡ rest m'.1 → IsActivation verdict m2 c t b s bare held notes × IsFreeing verdict m2 t held after
       frees_body m' m2 now view out = subst (λ q. IsActivation verdict q c t b s bare held notes × IsFreeing verdict q t held after) (sym is_now) (
         with_held s (record (own m.0) { caller = released_caller g (own m.0).caller }) (rest m.1) held notes is.few is.number is.taken
-            (ap (λ (j : Caller). j.held) (k_is (name.Body i) x held are after fr) ∙ frees-held g t held (own m.0).caller.marks) (rest_placed (name.Body i) x held are after fr) is.won is.note (is.nodes ∙ ap nodes_held are) (subst (AreOut s held) (sym (ap rest outs.2)) outs.4),
+            (ap (λ (j : Caller). j.held) (k_is (name.Body i) x held are after fr) ∙ frees-held g t held (own m.0).caller.marks) (rest_placed (name.Body i) x held are after fr) is.won is.note (is.nodes ∙ ap nodes_in are) (subst (AreOut s held) (sym (ap rest outs.2)) outs.4),
         freeing_still (name.Body i) x held are after fr (record (own m.0) { caller = released_caller g (own m.0).caller }) (rest m.1) refl,
       )
         where
@@ -494,7 +515,7 @@ module _ {D : Type 0} (verdict : D → Shown → Verdict) where
       counted = fr.marked.counted;
       rests = fr.caller ∙ ap (λ ps. freeing_caller g t ps (own m.0).caller.marks) none;
       taken = is.taken;
-      won = is.won ∙ none_of notes (is.nodes ∙ ap nodes_held none);
+      won = is.won ∙ none_of notes (is.nodes ∙ ap nodes_in none);
       note = is.note;
       out = subst (λ (ps : Pairs). AreOut s ps m.1) none is.out;
       world = is.world;

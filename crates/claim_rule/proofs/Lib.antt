@@ -24,6 +24,7 @@ pub mod Opens
 pub mod Deals
 pub mod GatheredRecords
 mod KnownTurns
+pub mod KnownWalls
 pub mod Closes
 pub mod Determined
 pub mod Ends

@@ -12,7 +12,7 @@ use Rattle.amoebot_state.specs.declared.cell.Cell.{Cell}
 use Rattle.amoebot_state.specs.declared.verdict.Change.{Change}
 use Rattle.amoebot_state.specs.declared.verdict.Entry.{Entry}
 use Rattle.amoebot_state.specs.declared.verdict.Verdict.{Verdict}
-use Rattle.amoebot_state.specs.Pairs.{Pairs, cell_of}
+use Rattle.amoebot_state.specs.Pairs.{Pairs, cell_of, nodes_in}
 use Rattle.amoebot_state.specs.Configs.{Config}
 use Rattle.amoebot_state.specs.Zones.{Shown}
 use Rattle.amoebot_state.proofs.Fronts.{slice_get_behind}
@@ -34,7 +34,7 @@ use Rattle.claim_rule.specs.Views.{Seated, own, like}
 use Rattle.claim_rule.specs.Stands.{journal_slot}
 use Rattle.claim_rule.specs.Plays.{IsPlaced, about}
 use Rattle.claim_rule.specs.Commits.{GotJournal, IsPushed, IsToCommit, Commits, with_journal, with_commit}
-use Rattle.claim_rule.specs.Tokens.{AreOut, nodes_held, IsActivation, HoldsWholeZone, IsFreeing}
+use Rattle.claim_rule.specs.Tokens.{AreOut, IsActivation, HoldsWholeZone, IsFreeing}
 use Rattle.claim_rule.specs.Settling.{untaken, IsTaken}
 use Rattle.claim_rule.proofs.ActivationLemmas.{with_held, stays, whole_some}
 
@@ -55,7 +55,7 @@ out_still s patch [] outs are = are
 out_still s patch ((name.Spot v, x) ∷ xs) outs are = out_still s patch xs outs are
 out_still s patch ((name.Body i, x) ∷ xs) outs are = (are.0, are.1, are.2, (λ e. cc), out_still s patch xs are.1 are.4)
 
-nodes_renewed : (patch xs : Pairs) → nodes_held (map (patched_pair patch) xs) ≡ nodes_held xs
+nodes_renewed : (patch xs : Pairs) → nodes_in (map (patched_pair patch) xs) ≡ nodes_in xs
 nodes_renewed patch [] = refl
 nodes_renewed patch ((name.Spot v, x) ∷ xs) = ap (λ (vs : List Node). v ∷ vs) (nodes_renewed patch xs)
 nodes_renewed patch ((name.Body i, x) ∷ xs) = nodes_renewed patch xs

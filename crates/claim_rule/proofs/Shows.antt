@@ -3,14 +3,14 @@ use Rattle.std.proofs.Common.{◌≡◌, ℕ, reverse, Some, ap, sym, ◌∙◌}
 use Rattle.std.specs.Prelude.{slice_get}
 use Rattle.amoebot_state.specs.declared.verdict.Verdict.{Verdict}
 use Rattle.amoebot_state.specs.Configs.{Config}
-use Rattle.amoebot_state.specs.Zones.{Shown, shown, zone}
+use Rattle.amoebot_state.specs.Zones.{Shown, shown, shown_with, zone}
 use Rattle.claim_core.specs.declared.state.Caller.{Caller}
 use Rattle.claim_core.specs.declared.state.Phase.{Phase}
 use Rattle.claim_core.specs.declared.state.Phase.TheVariants.{Claim, Refusing, Looking, Taking, Committing, Releasing, Ended}
 use Rattle.claim_core.specs.Machine.{Setup, State, bot, found, after}
 use Rattle.claim_core.specs.Soundness.{IsSetup, HasFront, CallerOk, Sound, names}
 use Rattle.claim_core.proofs.Fronts.{whole_shown}
-use Rattle.claim_core.proofs.HolderLemmas.{framed, same_area, valued}
+use Rattle.claim_core.proofs.HolderLemmas.{framed, valued}
 use Rattle.claim_core.proofs.Sounds.{always}
 use Rattle.claim_rule.specs.Views.{setup_of_terms}
 use Rattle.claim_rule.specs.Plays.{HoldsZone}
@@ -33,7 +33,7 @@ module _ (g : Setup) (ok : IsSetup g) (s : State) (sound : Sound g s) (c : ℕ) 
   pub shows : HoldsZone k.phase → found g b k.held ≡ shown sound.last b
   shows holds =
       let is : CallerOk g s sound.last c k = sound.each c k there in
-      (λ i. let a : Shown = record { area = sym (same_area g ok s sound) i; maxes = ap (λ (x : Config). x.maxes) (sym (framed g ok s sound).rest) i; bot = b; cells = reverse k.held } in a)
+      ap (λ (x : Config). shown_with x b (reverse k.held)) (sym (framed g ok s sound).rest)
       ∙ sym (whole_shown sound.last b k.held (valued g ok s sound c k is) (whole k.phase is.front holds))
 
 pub found_is_shown : {D : Type 0} (verdict : D → Shown → Verdict) → FoundIsShown verdict

@@ -3,11 +3,18 @@ use Rattle.std.specs.Prelude.{◌≡◌, ℕ, List, [], ◌∷◌, ◌++◌, tak
 use Rattle.std.specs.declared.option.Option.{Option}
 use Rattle.std.specs.declared.option.Option.TheVariants.{Some, None}
 use Rattle.atomic_table.specs.declared.shared.Seat.{Seat}
+use Rattle.amoebot_state.specs.Walls.{node_numbers}
+use Rattle.amoebot_state.specs.Zones.{Shown, shown_by}
+use Rattle.claim_rule.specs.declared.activation.Room.{Room}
 use Rattle.claim_rule.specs.declared.views.Slot.{Slot}
 use Rattle.claim_rule.specs.declared.views.Record.{Record}
 use Rattle.claim_rule.specs.declared.views.View.{View}
 use Rattle.claim_rule.specs.Views.{own, like, view_of}
 use Rattle.claim_rule.specs.Tokens.{FieldOf, Token, record_in, doing}
+
+-- what a room has of a zone: the cells that it holds, and the walls among them
+abbrev pub shown_in : Room → Shown
+shown_in r = shown_by r.area r.maxes r.bot (node_numbers r.area r.walls.items) r.cells
 
 module _ {D : Type 0} where
   -- the seat may step on this field: it is of the field's table, and has the record of one caller

@@ -9,9 +9,10 @@ use Rattle.amoebot_state.specs.declared.cell.CellName.{CellName}
 use Rattle.amoebot_state.specs.declared.cell.CellName.TheVariants as name
 use Rattle.amoebot_state.specs.declared.cell.Cell.{Cell}
 use Rattle.amoebot_state.specs.declared.verdict.Verdict.{Verdict}
-use Rattle.amoebot_state.specs.Pairs.{Pairs, cell_of}
-use Rattle.amoebot_state.specs.Configs.{Config, frame}
+use Rattle.amoebot_state.specs.Pairs.{Pairs, cell_of, nodes_in}
+use Rattle.amoebot_state.specs.Configs.{Config, open_frame}
 pub use Rattle.amoebot_state.specs.Configs.{frame_of}
+use Rattle.amoebot_state.specs.Known.{walls_read}
 use Rattle.amoebot_state.specs.Ways.{reading}
 use Rattle.amoebot_state.specs.Zones.{Shown}
 use Rattle.claim_core.specs.declared.marks.Mark.{Mark}
@@ -91,16 +92,14 @@ AreOut stale ((name.Spot v, x) ∷ held) outs = AreOut stale held outs
 AreOut stale ((name.Body i, x) ∷ held) outs =
     (y : Cell) × (more : List (ℕ × Slot)) × (outs ≡ (i, slot.Cell y) ∷ more) × (stale ≡ false → y ≡ x) × AreOut stale held more
 
--- the nodes that are held, in their order
-abbrev pub nodes_held : Pairs → List Node
-nodes_held [] = []
-nodes_held ((name.Spot v, x) ∷ held) = v ∷ nodes_held held
-nodes_held ((name.Body i, x) ∷ held) = nodes_held held
-
 -- what a caller knows of its turn while it claims: its tag, and the zone as far as the cells tell it that are held
 pub record KnowsTurn (r : Room) : Type 0 where
   pub tag : r.tag ≡ tag r.caller r.turn r.bot
   pub zone : r.zone ≡ reading r.area r.bot r.cells
+
+-- what it knows of walls then: those of the world among the nodes that it holds
+abbrev pub KnowsWalls : Config → Room → Type 0
+KnowsWalls w r = r.walls.items ≡ walls_read w r.cells
 
 module _ {D : Type 0} where
   -- the record of the seat's caller, the caller's number, and where it stands
@@ -174,7 +173,7 @@ module _ {D : Type 0} where
       pub won : (own m.0).won ≡ []
       pub note : (own m.0).note ≡ None
       pub out : m.1 ≡ []
-      pub world : w ≡ frame (setup_at verdict m.0.terms).world
+      pub world : w ≡ open_frame (setup_at verdict m.0.terms).world
 
     -- the next cell of the zone by the values that were recorded, what was found in the cells that are held, and the decision on it
     abbrev pub next_in : Token D → Option CellName
@@ -196,12 +195,12 @@ module _ {D : Type 0} where
       pub turn : t < (about verdict m.0).lists.turns
       pub bot : b ≡ bot (about verdict m.0) c t
       pub taken : (own m.0).taken ≡ None
-      pub world : w ≡ frame (about verdict m.0).world
+      pub world : w ≡ open_frame (about verdict m.0).world
       pub held : (own m.0).caller.held ≡ pairs
       pub placed : All (λ (p : CellName × Cell). (i : ℕ) × IsPlaced (about verdict m.0) (cell_of p) i) pairs
       pub won : (own m.0).won ≡ notes
       pub note : (own m.0).note ≡ None
-      pub nodes : map (λ (n : Note). n.node) notes ≡ nodes_held pairs
+      pub nodes : map (λ (n : Note). n.node) notes ≡ nodes_in pairs
       pub few : All (λ (n : Note). n.stamp ≤ most_turns) notes
       pub out : AreOut stale pairs m.1
 

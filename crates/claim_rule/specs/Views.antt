@@ -50,7 +50,7 @@ Seated D = table.Me Slot (View D)
 abbrev pub nowhere : Config
 nowhere =
     let a : Rattle.tri_lattice.specs.Extent.Extent = record { x0 = pos 0; y0 = pos 0; w = 0; h = 0 } in
-    record { area = a; maxes = []; bots = [] }
+    record { area = a; walls = []; maxes = []; bots = [] }
 
 module _ {D : Type 0} where
   abbrev pub field_terms : D → Config → CallerLists → Terms D

@@ -24,7 +24,8 @@ pub struct Held<D: Decider> {
 }
 
 impl<D: Decider> Model for Held<D> {
-    ghost use Rattle.claim_rule.specs.Tokens.{Token, IsClaiming, KeepsActivation, KnowsTurn, token_in, cells_in};
+    ghost use Rattle.claim_rule.specs.Plays.{about};
+    ghost use Rattle.claim_rule.specs.Tokens.{Token, IsClaiming, KeepsActivation, KnowsTurn, KnowsWalls, token_in, cells_in};
 
     ghost Value = { Token D };
 
@@ -32,7 +33,8 @@ impl<D: Decider> Model for Held<D> {
 
     ghost invariant = { λ h. KeepsActivation D.verdict h.activation
         × IsClaiming D.verdict h.activation.seat.me h.activation.room.value.turn h.activation.room.value.bot (cells_in h.activation)
-        × KnowsTurn h.activation.room.value };
+        × KnowsTurn h.activation.room.value
+        × KnowsWalls (about D.verdict h.activation.seat.me.0).world h.activation.room.value };
 }
 
 impl<D: Decider> Held<D> {
@@ -113,7 +115,7 @@ fn win_body<D: Decider>(
         return Err((Stopped { activation }, Tag { number: found }));
     }
     let value = field.cell_there(&mut activation.seat, usize::from(id));
-    activation.room.hold(CellName::Body(id), value);
+    activation.room.hold(CellName::Body(id), value, false);
     Ok(Held { activation })
 }
 

@@ -34,7 +34,8 @@ impl<D: Decider> Model for Noted<D> {
     ghost use Rattle.amoebot_state.specs.declared.cell.CellName.TheVariants as name;
     ghost use Rattle.claim_core.specs.Cells.{number};
     ghost use Rattle.claim_rule.specs.Words.{word_occ, word_stamp};
-    ghost use Rattle.claim_rule.specs.Tokens.{NotedOf, IsNoting, KnowsTurn, frame_of, token_in, cells_in, notes_in};
+    ghost use Rattle.claim_rule.specs.Plays.{about};
+    ghost use Rattle.claim_rule.specs.Tokens.{NotedOf, IsNoting, KnowsTurn, KnowsWalls, frame_of, token_in, cells_in, notes_in};
 
     ghost Value = { NotedOf D };
 
@@ -44,7 +45,8 @@ impl<D: Decider> Model for Noted<D> {
         n.activation.room.value.bot n.activation.room.value.stale
         (frame_of n.activation.room.value.area n.activation.room.value.maxes) (cells_in n.activation)
         (notes_in n.activation) n.node n.word × KnowsTurn n.activation.room.value
-        × (number n.activation.room.value.area (name.Spot n.node) ≡ Some n.index) };
+        × (number n.activation.room.value.area (name.Spot n.node) ≡ Some n.index)
+        × KnowsWalls (about D.verdict n.activation.seat.me.0).world n.activation.room.value };
 }
 
 impl<D: Decider> Noted<D> {
@@ -118,8 +120,9 @@ pub fn try_at<D: Decider>(
     let found = field.try_node(&mut activation.seat, index, word, word + tag);
     if found == word {
         let occ = word_occ(word);
+        let wall = field.world().is_wall_number(index as u32);
         let room = &mut *activation.room;
-        room.hold(CellName::Spot(node), Cell::Spot(occ));
+        room.hold(CellName::Spot(node), Cell::Spot(occ), wall);
         room.notes.push(node, word);
         return Ok(Held { activation });
     }

@@ -1,4 +1,4 @@
-use Rattle.std.proofs.Common.{◌<◌, ◌++◌, ◌∷◌, [], length, reverse, ap, sym, subst, ◌∙◌}
+use Rattle.std.proofs.Common.{◌<◌, ◌++◌, ◌∷◌, [], length, reverse, ap, sym, subst, refl, ◌∙◌}
 use Rattle.amoebot_state.specs.declared.cell.CellName.TheVariants as name
 use Rattle.amoebot_state.specs.Known.{AreReadInOrder}
 use Rattle.amoebot_state.specs.Limits.{most_cells}
@@ -8,9 +8,13 @@ use Rattle.claim_core.specs.Cells.{number}
 use Rattle.claim_core.specs.Tags.{tag}
 use Rattle.claim_rule.specs.declared.activation.Room.{Room}
 use Rattle.claim_rule.specs.declared.views.Slot.TheVariants as slot
-use Rattle.claim_rule.specs.Tokens.{IsActivation, IsClaiming, KeepsRoom, KnowsTurn, frame_of, next_in}
+use Rattle.claim_rule.specs.declared.views.View.{View}
+use Rattle.claim_rule.specs.Plays.{about}
+use Rattle.claim_rule.specs.Views.{Seated}
+use Rattle.claim_rule.specs.Tokens.{IsActivation, IsClaiming, KeepsRoom, KnowsTurn, KnowsWalls, frame_of, next_in}
 use Rattle.claim_rule.proofs.ActivationLemmas.{to_try_body, wins_plain, stops_plain, last_first}
 use Rattle.claim_rule.proofs.KnownTurns.{in_order, has_room}
+use Rattle.claim_rule.proofs.KnownWalls.{still_known}
 use Rattle.claim_rule.proofs.held.win_body.Goals as goal
 
 pub claim-found-requires-clause-next : goal.claim-found-requires-clause-next
@@ -62,8 +66,12 @@ invariant_of-result-2 g c =
     c.cell_there-value.ensures.stays in
     let r = a.room.value in
     let new = c.hold.new.self in
-    let now = c.hold.ensures.same ∙ ap (λ (q : Room). record q { zone = new.zone; cells = new.cells }) c.deref_mut.ensures.value in
+    let now = c.hold.ensures.same ∙ ap (λ (q : Room). record q { zone = new.zone; cells = new.cells; walls = new.walls }) c.deref_mut.ensures.value in
     let cells = ap reverse (c.hold.ensures.cells ∙ ap (λ (q : Room). q.cells ++ (name.Body c.args.id, v) ∷ []) c.deref_mut.ensures.value) ∙ last_first r.cells (name.Body c.args.id, v) in
     let with_cells = subst (λ (ps : Pairs). IsActivation g.D.Decider.verdict m r.caller r.turn r.bot r.stale (frame_of r.area r.maxes) ps (reverse r.notes) × IsClaiming g.D.Decider.verdict m r.turn r.bot ps) (sym cells) won in
     let all = subst (λ (q : Room). KeepsRoom g.D.Decider.verdict m q × IsClaiming g.D.Decider.verdict m q.turn q.bot (reverse q.cells)) (sym now) with_cells in
-    (all.0, all.1, c.hold.ensures.knows)
+    let won_of = c.claim-found.ensures.told.0 c.if-found-ne0.false in
+    let terms = ap (λ (q : Seated _). q.0.terms) c.cell_there-value.ensures.stays ∙ ap (λ (v : View _). v.terms) won_of.now in
+    let known = still_known g.D.Decider.verdict a.seat.me.0 m.0 r terms c.held.invariant.3 in
+    let w = (about g.D.Decider.verdict m.0).world in
+    (all.0, all.1, c.hold.ensures.knows, c.hold.ensures.walls w (subst (KnowsWalls w) (sym c.deref_mut.ensures.value) known) refl)

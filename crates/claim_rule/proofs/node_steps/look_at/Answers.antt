@@ -2,8 +2,10 @@ use Rattle.std.proofs.Common.{ap, sym, ◌∙◌}
 use Rattle.amoebot_state.specs.declared.cell.CellName.TheVariants as name
 use Rattle.claim_core.specs.Cells.{number}
 use Rattle.claim_rule.specs.declared.activation.Room.{Room}
+use Rattle.claim_rule.specs.declared.views.View.{View}
 use Rattle.claim_rule.specs.Tokens.{next_in}
 use Rattle.claim_rule.proofs.ActivationLemmas.{to_try, next_same}
+use Rattle.claim_rule.proofs.KnownWalls.{still_known}
 use Rattle.claim_rule.proofs.Winning.{noted, stopped}
 use Rattle.claim_rule.proofs.node_steps.look_at.Goals as goal
 
@@ -24,4 +26,6 @@ invariant_of-result-2 g c =
     let all = noted g.D.Decider.verdict _ _ _ _ _ _ _ c.args.node c.held.inside.activation.seat.me c.held.invariant.0 c.held.invariant.1
     (sym (next_same g.D.Decider.verdict c.held.inside.activation.seat.me _ _ _ _ _ _ _ c.held.invariant.0 c.held.invariant.1.turn) ∙ ap (next_in g.D.Decider.verdict) c.held.view_is ∙ c.requires.next)
     c.look_node-word.result c.look_node-word.new.seat.me free (c.look_node-word.ensures.told.0 free) in
-    (all.0, c.held.invariant.2, ap (λ (q : Room). number q.area (name.Spot c.args.node)) (sym c.deref.ensures) ∙ sym c.cell_number.ensures ∙ c.in-Some.is)
+    let m = c.held.inside.activation.seat.me in
+    let known = still_known g.D.Decider.verdict m.0 c.look_node-word.new.seat.me.0 c.held.inside.activation.room.value (ap (λ (v : View _). v.terms) all.1) c.held.invariant.3 in
+    (all.0, c.held.invariant.2, ap (λ (q : Room). number q.area (name.Spot c.args.node)) (sym c.deref.ensures) ∙ sym c.cell_number.ensures ∙ c.in-Some.is, known)
