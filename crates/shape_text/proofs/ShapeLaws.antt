@@ -172,3 +172,6 @@ exact_final version vars maxes = exact (IsFinal version vars maxes) (a_final ver
 
 pub exact_bots : (vars before : ℕ) → Exact (AreBots vars before) (bots_from vars before)
 exact_bots vars before = exact (AreBots vars before) (bots_from vars before) (part_bots vars before).law
+
+pub exact_walls : (before : ℕ) → Exact (AreWallLines true before) (walls_from true before)
+exact_walls before = exact (AreWallLines true before) (walls_from true before) (part_walls true before).law
