@@ -11,7 +11,7 @@ use amoebot_state::{ALL_PORTS, Bot, Failure, Port};
 use arrayvec::ArrayVec;
 use model_ops::Site;
 
-/// The ports of a set, in port order: the connected ones, or those whose node behind is in the area and empty.
+/// The ports of a set, in port order: the connected ones, or those whose node behind can be entered.
 pub fn ports_of(set: PortSet, site: &Site) -> ArrayVec<Port, 12>
     ensures { result.items ≡ spec.ports_of (sight_of site.now) set }
 {

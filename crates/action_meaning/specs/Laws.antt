@@ -1,10 +1,12 @@
 -- What holds of the verdict of every program.
-use Rattle.std.specs.Prelude.{◌≡◌, ℕ, true, List, IsSome, map}
+use Rattle.std.specs.Prelude.{◌≡◌, ◌≢◌, ℕ, true, List, [], IsSome, map}
 use Rattle.std.specs.declared.result.Result.TheVariants.{Ok}
 use Rattle.text_tokens.specs.declared.refusal.Refusal.{Refusal}
 use Rattle.text_tokens.specs.Text.{Lexeme, AreTokens}
 use Rattle.amoebot_state.specs.declared.verdict.Entry.{Entry}
+use Rattle.amoebot_state.specs.declared.verdict.Failure.TheVariants.{Blocked}
 use Rattle.amoebot_state.specs.declared.verdict.Verdict.{Verdict}
+use Rattle.amoebot_state.specs.declared.verdict.Verdict.TheVariants as verdict
 use Rattle.amoebot_state.specs.Configs.{Config, IsValid, bot_at}
 use Rattle.amoebot_state.specs.Zones.{Shown, shown}
 use Rattle.amoebot_state.specs.Steps.{Step, Run}
@@ -18,6 +20,7 @@ use Rattle.action_print.specs.ReadsBack.{AreReadAs}
 use Rattle.action_check.specs.Faults.{AreRulesKept}
 use Rattle.action_meaning.specs.Verdicts.{verdict_on, verdict_shown}
 use Rattle.action_meaning.specs.Rows.{guard_in_shape, guard_rows, compared_in_shape, compared_rows, sum_in_shape, sum_rows, verdict_in_shape, verdict_rows, verdict_in_queue, queue_rows, guarded_in_queue, guarded_rows}
+use Rattle.action_meaning.specs.Rows.{guard_beside_walls, walled_guard_rows, sum_beside_walls, walled_sum_rows, verdict_beside_walls, walled_verdict_rows, verdict_shut_in, shut_rows}
 
 -- on what a valid configuration shows to an amoebot of it, f decides the verdict of the program on that configuration; ids without an
 -- amoebot are allowed, and any greatest values
@@ -60,6 +63,10 @@ ProgramStepsStayConnected = (p : Program) → GuardedStepsStayConnected (verdict
 abbrev pub ProgramRunsStayConnected : Type 0
 ProgramRunsStayConnected = (p : Program) → GuardedRunsStayConnected (verdict_shown p) p
 
+-- a verdict of Blocked is one on a neighbourhood with a wall
+abbrev pub BlockedIsShown : Type 0
+BlockedIsShown = (p : Program) (s : Shown) → verdict_shown p s ≡ verdict.Failed Blocked → s.walls ≢ []
+
 -- programs that are equal without their lines have the same verdict
 abbrev pub VerdictIgnoresLines : Type 0
 VerdictIgnoresLines =
@@ -79,7 +86,7 @@ CanonMeansTheSame =
     × AreRulesKept read.program
     × ((c : Config) (i : ℕ) → verdict_on read.program c i ≡ verdict_on p c i)
 
--- expressions and programs on two configurations have the values and the verdicts of the tables
+-- expressions and programs on small configurations have the values and the verdicts of the tables
 pub record ValuesAreComputed : Type 0 where
   pub guards : map guard_in_shape guard_rows ≡ map (λ r. r.value) guard_rows
   pub compared : map (λ r. compared_in_shape r.0) compared_rows ≡ map (λ r. map Ok r.1) compared_rows
@@ -87,3 +94,7 @@ pub record ValuesAreComputed : Type 0 where
   pub verdicts : map verdict_in_shape verdict_rows ≡ map (λ r. r.verdict) verdict_rows
   pub unguarded : map verdict_in_queue queue_rows ≡ map (λ r. r.verdict) queue_rows
   pub guarded : map guarded_in_queue guarded_rows ≡ map (λ r. r.verdict) guarded_rows
+  pub walled_guards : map guard_beside_walls walled_guard_rows ≡ map (λ r. r.value) walled_guard_rows
+  pub walled_sums : map sum_beside_walls walled_sum_rows ≡ map (λ r. r.value) walled_sum_rows
+  pub walled_verdicts : map verdict_beside_walls walled_verdict_rows ≡ map (λ r. r.verdict) walled_verdict_rows
+  pub shut_in : map verdict_shut_in shut_rows ≡ map (λ r. r.verdict) shut_rows

@@ -1,4 +1,4 @@
--- Expressions and programs on two small configurations, each with its value or its failure, written out by hand.
+-- Expressions and programs on four small configurations, each with its value or its failure, written out by hand.
 use Rattle.std.specs.Prelude.{ℕ, ℤ, pos, negsuc, Bool, true, false, List, [], ◌∷◌, codes}
 use Rattle.std.specs.declared.option.Option.TheVariants.{Some, None}
 use Rattle.std.specs.declared.result.Result.{Result}
@@ -14,13 +14,13 @@ use Rattle.amoebot_state.specs.declared.cell.CellName.TheVariants as name
 use Rattle.amoebot_state.specs.declared.cell.Cell.{Cell}
 use Rattle.amoebot_state.specs.declared.cell.Cell.TheVariants as cell
 use Rattle.amoebot_state.specs.declared.verdict.Failure.{Failure}
-use Rattle.amoebot_state.specs.declared.verdict.Failure.TheVariants.{NoPort, NoNeighbour, OutOfRange, NotContracted, NotExpanded, PeerNotExpanded, PeerNotContracted, Occupied, Edge, WouldSplit, NoChoice}
+use Rattle.amoebot_state.specs.declared.verdict.Failure.TheVariants.{NoPort, NoNeighbour, OutOfRange, NotContracted, NotExpanded, PeerNotExpanded, PeerNotContracted, Occupied, Edge, WouldSplit, NoChoice, Blocked}
 use Rattle.amoebot_state.specs.declared.verdict.Moved.{Moved}
 use Rattle.amoebot_state.specs.declared.verdict.Moved.TheVariants as moved
 use Rattle.amoebot_state.specs.declared.verdict.Verdict.{Verdict}
 use Rattle.amoebot_state.specs.declared.verdict.Verdict.TheVariants as verdict
 use Rattle.amoebot_state.specs.Ports.{port}
-use Rattle.amoebot_state.specs.Configs.{Config, frame_of, with_these}
+use Rattle.amoebot_state.specs.Configs.{Config, frame_of, walled_frame, with_these}
 use Rattle.model_ops.specs.Sights.{sight}
 use Rattle.action_tree.specs.declared.expression.PortSet.{PortSet}
 use Rattle.action_tree.specs.declared.expression.PortSet.TheVariants.{Ports, Free}
@@ -58,8 +58,11 @@ two = body (node 2 3) (node 2 3) 2 chir.Minus 7 0
 abbrev three : Bot
 three = body (node 1 1) (node 0 1) 1 chir.Plus 0 0
 
+abbrev area : Extent
+area = record { x0 = pos 0; y0 = pos 0; w = 8; h = 8 }
+
 abbrev of_bots : List Bot → Config
-of_bots bots = let area : Extent = record { x0 = pos 0; y0 = pos 0; w = 8; h = 8 } in with_these (frame_of area (values 9 9)) bots
+of_bots bots = with_these (frame_of area (values 9 9)) bots
 
 abbrev shape : Config
 shape = of_bots (zero ∷ one ∷ two ∷ three ∷ [])
@@ -82,6 +85,19 @@ corner = body (node 7 7) (node 7 7) 0 chir.Plus 0 0
 
 abbrev queue : Config
 queue = of_bots (middle ∷ back ∷ front ∷ corner ∷ [])
+
+-- ---- two with walls, in the same area
+
+abbrev with_walls : List Node → List Bot → Config
+with_walls walls bots = with_these (walled_frame area walls (values 9 9)) bots
+
+-- behind the ports (head, 0) and (head, 1) of amoebot 0 are walls, and behind its port (head, 3) is amoebot 1, contracted
+abbrev walled : Config
+walled = with_walls (node 4 3 ∷ node 3 4 ∷ []) (zero ∷ two ∷ [])
+
+-- six walls round amoebot 0
+abbrev shut : Config
+shut = with_walls (node 4 3 ∷ node 3 4 ∷ node 2 4 ∷ node 2 3 ∷ node 3 2 ∷ node 4 2 ∷ []) (zero ∷ [])
 
 -- ---- parts of trees
 
@@ -173,6 +189,9 @@ names = record { vars = codes "x" ∷ codes "y" ∷ []; bound = [] }
 abbrev pub guard_in_shape : GuardRow → Result Bool Failure
 guard_in_shape a = guard_value (sight shape a.bot) names a.guard
 
+abbrev pub guard_beside_walls : GuardRow → Result Bool Failure
+guard_beside_walls a = guard_value (sight walled a.bot) names a.guard
+
 abbrev compares : ℕ → List Guard
 compares n =
     tree.comparison (sum (tree.own x)) Eq (sum (number n))
@@ -236,6 +255,17 @@ guard_rows =
     ∷ asked 0 (tree.comparison (sum (x_at (tail 0))) Eq (sum (x_at (head 1)))) (Err NoPort)
     ∷ []
 
+-- a wall is neither free nor linked
+abbrev pub walled_guard_rows : List GuardRow
+walled_guard_rows =
+    asked 0 (tree.tested tree.free (head 0)) (Ok false)
+    ∷ asked 0 (tree.tested tree.linked (head 0)) (Ok false)
+    ∷ asked 0 (tree.tested tree.free (head 2)) (Ok true)
+    ∷ asked 0 (tree.tested tree.free (head 3)) (Ok false)
+    ∷ asked 0 (tree.tested tree.linked (head 3)) (Ok true)
+    ∷ asked 0 (tree.tested tree.peer_expanded (head 0)) (Err NoNeighbour)
+    ∷ []
+
 abbrev pub compared_rows : List (ℕ × List Bool)
 compared_rows =
     (3, false ∷ true ∷ false ∷ false ∷ true ∷ true ∷ [])
@@ -294,6 +324,17 @@ sum_rows =
     ∷ added 0 (plus tree.inner ∷ plus (x_at (head 1)) ∷ []) (Err NotExpanded)
     ∷ []
 
+-- beside walls
+abbrev pub sum_beside_walls : SumRow → Result ℤ Failure
+sum_beside_walls a = sum_value (sight walled a.bot) names a.sum
+
+abbrev pub walled_sum_rows : List SumRow
+walled_sum_rows =
+    added 0 (plus (tree.count p Free yes) ∷ []) (Ok (pos 3))
+    ∷ added 0 (plus (tree.count p Ports yes) ∷ []) (Ok (pos 1))
+    ∷ added 0 (plus (dir (first_p Free yes)) ∷ []) (Ok (pos 2))
+    ∷ []
+
 -- ---- verdicts
 
 abbrev act : Guard → List Stmt → Move → Action
@@ -325,6 +366,12 @@ verdict_in_queue d = verdict_in queue false d
 
 abbrev pub guarded_in_queue : VerdictRow → Verdict
 guarded_in_queue d = verdict_in queue true d
+
+abbrev pub verdict_beside_walls : VerdictRow → Verdict
+verdict_beside_walls d = verdict_in walled false d
+
+abbrev pub verdict_shut_in : VerdictRow → Verdict
+verdict_shut_in d = verdict_in shut false d
 
 abbrev set_x : ℕ → Stmt
 set_x n = tree.put x (sum (number n))
@@ -451,4 +498,22 @@ guarded_rows =
     -- the edge is at the neighbour's tail, and at a contracted one's head
     ∷ decided 0 (act (tree.tested tree.peer_head (head 0)) [] tree.no_move ∷ act (tree.tested tree.peer_head (tail 3)) [] tree.no_move ∷ [])
     (change 1 [])
+    ∷ []
+
+-- a wall is not entered; what was written before is not either
+abbrev pub walled_verdict_rows : List VerdictRow
+walled_verdict_rows =
+    decided 0 (moves (tree.through tree.expand (head 0))) (verdict.Failed Blocked)
+    ∷ decided 0 (act yes (set_x 1 ∷ []) (tree.through tree.expand (head 1)) ∷ []) (verdict.Failed Blocked)
+    ∷ decided 0 (moves (tree.through tree.expand (head 3))) (verdict.Failed Occupied)
+    ∷ decided 0 (moves (tree.through tree.push (head 0))) (verdict.Failed NoNeighbour)
+    ∷ decided 0 (moves (tree.through tree.expand (first_p Free yes)))
+    (moving (moved.Expand (port Head 2)) ((name.Spot (node 2 4), cell.Spot (Some 0)) ∷ patched 0 (body (node 2 4) (node 3 3) 0 chir.Plus 4 6) ∷ []))
+    ∷ []
+
+-- no node to enter
+abbrev pub shut_rows : List VerdictRow
+shut_rows =
+    decided 0 (act (any_p Free yes) [] tree.no_move ∷ []) verdict.Idle
+    ∷ decided 0 (moves (tree.through tree.expand (first_p Free yes))) (verdict.Failed NoChoice)
     ∷ []

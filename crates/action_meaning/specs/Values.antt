@@ -25,7 +25,7 @@ use Rattle.action_tree.specs.Trees as tree
 use Rattle.action_meaning.specs.Names.{Names, var_number, port_named, bind}
 use Rattle.action_meaning.specs.Choices.{is_true, any_of_ports, all_of_ports, first_of_ports, count_of_ports}
 
--- the ports of a set, in port order: the connected ones, or those whose node behind is in the area and empty
+-- the ports of a set, in port order: the connected ones, or those whose node behind can be entered
 abbrev pub ports_of : Sight → PortSet → List Port
 ports_of s port_set.Ports = filter (λ p. is_true (s.connects p)) all_ports
 ports_of s port_set.Free = filter (λ p. is_true (s.frees p)) all_ports

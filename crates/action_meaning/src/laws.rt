@@ -2,7 +2,7 @@
 
 ghost use Rattle.action_meaning.specs.Laws.{VerdictIsShown, ProgramsDecideByActs, GuardedProgramsDecideGuarded};
 ghost use Rattle.action_meaning.specs.Laws.{ProgramStepsStayConnected, ProgramRunsStayConnected, ValuesAreComputed};
-ghost use Rattle.action_meaning.specs.Laws.{VerdictIgnoresLines, CanonMeansTheSame};
+ghost use Rattle.action_meaning.specs.Laws.{BlockedIsShown, VerdictIgnoresLines, CanonMeansTheSame};
 
 /// The verdict on what a valid configuration shows is the verdict on that configuration, ids without an amoebot allowed.
 #[tactic(auto, using(crate::proofs::Decided::verdict_is_shown))]
@@ -24,6 +24,12 @@ pub fn program_runs_stay_connected()
     ensures runs { ProgramRunsStayConnected }
 {}
 
+/// No program fails by Blocked on a neighbourhood without walls.
+#[tactic(auto, using(crate::proofs::BlockedLemmas::blocked_is_shown))]
+pub fn blocked_is_shown()
+    ensures { BlockedIsShown }
+{}
+
 /// Programs that are equal without their lines have the same verdict on each amoebot of each configuration.
 #[tactic(auto, using(crate::proofs::Lineless::verdict_ignores_lines))]
 pub fn verdict_ignores_lines()
@@ -35,7 +41,8 @@ pub fn canon_means_the_same()
     ensures { CanonMeansTheSame }
 {}
 
-/// Values, failures and verdicts of small expressions and programs on two configurations, of each form at least one.
+/// Values, failures and verdicts of small expressions and programs on four configurations, two of them with walls. Each form comes once
+/// at least.
 #[tactic(auto, using(crate::proofs::Computed::values_are_computed))]
 pub fn values_are_computed()
     ensures { ValuesAreComputed }

@@ -1,4 +1,5 @@
 pub mod JournalLaws
+pub mod FailureWords
 pub mod TurnLaws
 pub mod KnownBots
 pub mod JournalsReread

@@ -105,8 +105,8 @@ unheeded p = p >>= λ a. pure tt
 unfoldable pub placed_mark : List ℕ → Reader Nothing
 placed_mark text = a_word text >>= λ line. unheeded a_number
 
-unfoldable pub a_failed : Reader Nothing
-a_failed = a_word (codes "failed") >>= λ line. the_line is_failure >>= λ line. unheeded a_number
+unfoldable pub a_failed : ℕ → Reader Nothing
+a_failed version = a_word (codes "failed") >>= λ line. the_line (is_failure version) >>= λ line. unheeded a_number
 
 unfoldable pub a_claimant : Reader Nothing
 a_claimant = a_word (codes "by") >>= λ line. a_number >>= λ caller. a_number >>= λ turn. unheeded a_number
@@ -114,22 +114,19 @@ a_claimant = a_word (codes "by") >>= λ line. a_number >>= λ caller. a_number >
 unfoldable pub a_busy : Reader Nothing
 a_busy = a_word (codes "busy") >>= λ line. a_cell >>= λ c. a_claimant >>= λ u. placed_mark (codes "place")
 
-unfoldable pub a_mark : Reader Nothing
-a_mark =
+unfoldable pub a_mark : ℕ → Reader Nothing
+a_mark version =
     either (word (codes "done")) (placed_mark (codes "done"))
-    (either (word (codes "idle")) (placed_mark (codes "idle")) (either (word (codes "failed")) a_failed a_busy))
+    (either (word (codes "idle")) (placed_mark (codes "idle")) (either (word (codes "failed")) (a_failed version) a_busy))
 
-unfoldable pub a_turn : Reader Nothing
-a_turn = a_word (codes "turn") >>= λ line. a_number >>= λ caller. a_number >>= λ turn. a_mark
+unfoldable pub a_turn : ℕ → Reader Nothing
+a_turn version = a_word (codes "turn") >>= λ line. a_number >>= λ caller. a_number >>= λ turn. a_mark version
 
-abbrev pub turn_in : Nothing → Reader Nothing
-turn_in s = a_turn
+abbrev pub turn_in : ℕ → Nothing → Reader Nothing
+turn_in version s = a_turn version
 
-unfoldable pub all_turn_lines : Reader (List Nothing)
-all_turn_lines = repeated is_turn turn_in as_before tt
+unfoldable pub all_turn_lines : ℕ → Reader (List Nothing)
+all_turn_lines version = repeated is_turn (turn_in version) as_before tt
 
-unfoldable pub whole_turns : Reader Nothing
-whole_turns = a_word (codes "turns") >>= λ line. closed (unheeded all_turn_lines) is_end
-
-abbrev pub the_turns : ℕ → Reader Nothing
-the_turns version = whole_turns
+unfoldable pub the_turns : ℕ → Reader Nothing
+the_turns version = a_word (codes "turns") >>= λ line. closed (unheeded (all_turn_lines version)) is_end

@@ -1,5 +1,5 @@
 -- Entries that break no limit are read back from their text, and marks are read.
-use Rattle.std.specs.Prelude.{◌≡◌, ◌<◌, ◌≤◌, ◌^◌, ℕ, true, List, length, Ok}
+use Rattle.std.specs.Prelude.{◌≡◌, ◌≢◌, ◌<◌, ◌≤◌, ◌^◌, ℕ, true, false, List, length, Ok}
 use Rattle.std.specs.List.{All}
 use Rattle.text_tokens.specs.Cursor.{IsShort}
 use Rattle.amoebot_state.specs.declared.cell.CellName.{CellName}
@@ -7,6 +7,8 @@ use Rattle.amoebot_state.specs.declared.cell.CellName.TheVariants as name
 use Rattle.amoebot_state.specs.declared.cell.Cell.{Cell}
 use Rattle.amoebot_state.specs.declared.cell.Cell.TheVariants as cell
 use Rattle.amoebot_state.specs.declared.verdict.Entry.{Entry}
+use Rattle.amoebot_state.specs.declared.verdict.Failure.{Failure}
+use Rattle.amoebot_state.specs.declared.verdict.Failure.TheVariants as failure
 use Rattle.amoebot_state.specs.declared.verdict.Moved.{Moved}
 use Rattle.amoebot_state.specs.declared.verdict.Moved.TheVariants as moved
 use Rattle.amoebot_state.specs.Limits.{most_vars, most_pairs}
@@ -18,6 +20,7 @@ use Rattle.journal_text.specs.Turns.{IsTurns}
 use Rattle.journal_text.specs.Journals.{is_known, IsJournal}
 use Rattle.text_tokens.specs.Inputs.{Says}
 use Rattle.journal_text.specs.Texts.{journal_text, turns_text}
+use Rattle.node_text.specs.Parts.{may_have_walls}
 use Rattle.node_text.specs.PartLimits.{HasCoordinates, HasLimits}
 
 -- a node with its occupant, or a body with an amoebot
@@ -65,12 +68,15 @@ pub record IsClaim (c : CellName) (by_caller by_turn by_bot place : ℕ) : Type 
   pub bot : IsShort by_bot
   pub at : IsShort place
 
--- A mark of such numbers, and of a node with coordinates in range.
--- It is the same for each version.
+-- a failure that has a word in texts of the version: blocked only where there may be walls
+abbrev pub IsWritableFailure : ℕ → Failure → Type 0
+IsWritableFailure version f = may_have_walls version ≡ false → f ≢ failure.Blocked
+
+-- a mark of such numbers, of a node with coordinates in range, and of such a failure
 abbrev pub IsWritableMark : ℕ → Mark → Type 0
 IsWritableMark version (mark.Done place) = IsShort place
 IsWritableMark version (mark.Idle place) = IsShort place
-IsWritableMark version (mark.Failed f place) = IsShort place
+IsWritableMark version (mark.Failed f place) = IsShort place × IsWritableFailure version f
 IsWritableMark version (mark.Busy c by_caller by_turn by_bot place) = IsClaim c by_caller by_turn by_bot place
 
 pub record AreWritable (version : ℕ) (marks : List Mark) : Type 0 where

@@ -63,6 +63,7 @@ failure_word failure.PeerNotContracted = codes "peer_not_contracted"
 failure_word failure.Edge = codes "edge"
 failure_word failure.WouldSplit = codes "would_split"
 failure_word failure.NoChoice = codes "no_choice"
+failure_word failure.Blocked = codes "blocked"
 
 abbrev pub mark_words : Mark → Words
 mark_words (mark.Done place) = codes "done" ∷ decimal place ∷ []

@@ -2,9 +2,9 @@
 --   turns   := "turns" { "turn" NUMBER NUMBER mark } "end"
 --   mark    := "done" NUMBER | "idle" NUMBER | "failed" failure NUMBER | "busy" cell "by" NUMBER NUMBER NUMBER "place" NUMBER
 --   cell    := "spot" node | "body" NUMBER
---   failure := one of the words of failures
+--   failure := one of the words of failures; the last one, `blocked`, only where the version may have walls
 -- There is no rule on ranges but that on the coordinates of cells, and no limit on the number of turns.
-use Rattle.std.specs.Prelude.{ℕ, Bool, ◌&&◌, List, [], ◌∷◌, map, codes}
+use Rattle.std.specs.Prelude.{ℕ, Bool, ◌&&◌, if◌then◌else◌, List, [], ◌∷◌, take, map, codes}
 use Rattle.std.specs.List.{list_any}
 use Rattle.std.specs.Str.{bytes_eq}
 use Rattle.text_tokens.specs.declared.token.TokenKind.TheVariants.{Word}
@@ -12,7 +12,7 @@ use Rattle.text_tokens.specs.Text.{Lexeme}
 use Rattle.text_tokens.specs.Cursor.{is_kind}
 use Rattle.text_tokens.specs.Grammar.{Lang, Then, Made, IsThe, Closed, Either, Repeated}
 use Rattle.amoebot_state.specs.declared.verdict.Failure.TheVariants as failure
-use Rattle.node_text.specs.Parts.{word, is_end, IsWord, IsNumber}
+use Rattle.node_text.specs.Parts.{word, is_end, may_have_walls, IsWord, IsNumber}
 use Rattle.journal_text.specs.Journals.{IsCellText}
 use Rattle.journal_text.specs.Texts.{failure_word}
 
@@ -27,13 +27,17 @@ abbrev pub failure_words : List (List ℕ)
 failure_words =
     map failure_word (failure.NoPort ∷ failure.NoNeighbour ∷ failure.OutOfRange ∷ failure.Occupied
     ∷ failure.NotContracted ∷ failure.NotExpanded ∷ failure.PeerNotExpanded ∷ failure.PeerNotContracted
-    ∷ failure.Edge ∷ failure.WouldSplit ∷ failure.NoChoice ∷ [])
+    ∷ failure.Edge ∷ failure.WouldSplit ∷ failure.NoChoice ∷ failure.Blocked ∷ [])
 
-unfoldable pub names_failure : List ℕ → Bool
-names_failure text = list_any (λ word. bytes_eq word text) failure_words
+-- so many failures have words in texts of the version
+abbrev pub failure_count : ℕ → ℕ
+failure_count version = if may_have_walls version then 12 else 11
 
-abbrev pub is_failure : Lexeme → Bool
-is_failure t = is_kind Word t && names_failure t.text
+unfoldable pub names_failure : ℕ → List ℕ → Bool
+names_failure version text = list_any (λ word. bytes_eq word text) (take (failure_count version) failure_words)
+
+abbrev pub is_failure : ℕ → Lexeme → Bool
+is_failure version t = is_kind Word t && names_failure version t.text
 
 -- ---- marks
 
@@ -41,8 +45,8 @@ is_failure t = is_kind Word t && names_failure t.text
 abbrev pub IsPlacedMark : List ℕ → Lang Nothing
 IsPlacedMark text = Then (IsWord text) (λ line. Unheeded IsNumber)
 
-abbrev pub IsFailed : Lang Nothing
-IsFailed = Then (IsWord (codes "failed")) (λ line. Then (IsThe is_failure) (λ line. Unheeded IsNumber))
+abbrev pub IsFailed : ℕ → Lang Nothing
+IsFailed version = Then (IsWord (codes "failed")) (λ line. Then (IsThe (is_failure version)) (λ line. Unheeded IsNumber))
 
 -- the caller, the turn and the amoebot of a claim
 abbrev pub IsClaimant : Lang Nothing
@@ -51,23 +55,23 @@ IsClaimant = Then (IsWord (codes "by")) (λ line. Then IsNumber (λ caller. Then
 abbrev pub IsBusy : Lang Nothing
 IsBusy = Then (IsWord (codes "busy")) (λ line. Then IsCellText (λ c. Then IsClaimant (λ u. IsPlacedMark (codes "place"))))
 
-abbrev pub IsMark : Lang Nothing
-IsMark = Either (IsPlacedMark (codes "done")) (Either (IsPlacedMark (codes "idle")) (Either IsFailed IsBusy))
+abbrev pub IsMark : ℕ → Lang Nothing
+IsMark version = Either (IsPlacedMark (codes "done")) (Either (IsPlacedMark (codes "idle")) (Either (IsFailed version) IsBusy))
 
 -- ---- the section
 
 abbrev pub is_turn : Lexeme → Bool
 is_turn = word (codes "turn")
 
-abbrev pub IsTurnLine : Lang Nothing
-IsTurnLine = Then (IsWord (codes "turn")) (λ line. Then IsNumber (λ caller. Then IsNumber (λ turn. IsMark)))
+abbrev pub IsTurnLine : ℕ → Lang Nothing
+IsTurnLine version = Then (IsWord (codes "turn")) (λ line. Then IsNumber (λ caller. Then IsNumber (λ turn. IsMark version)))
 
 abbrev pub as_before : Nothing → Nothing → Nothing
 as_before s u = s
 
-abbrev pub AreTurns : Lang (List Nothing)
-AreTurns = Repeated (λ s. IsTurnLine) as_before tt
+abbrev pub AreTurns : ℕ → Lang (List Nothing)
+AreTurns version = Repeated (λ s. IsTurnLine version) as_before tt
 
--- The version is the document's. Each has the same turns.
+-- the version is the document's
 abbrev pub IsTurns : ℕ → Lang Nothing
-IsTurns version = Then (IsWord (codes "turns")) (λ line. Closed (Unheeded AreTurns) is_end)
+IsTurns version = Then (IsWord (codes "turns")) (λ line. Closed (Unheeded (AreTurns version)) is_end)

@@ -226,5 +226,6 @@ fn failure_word(failure: Failure) -> &'static str
         Failure::Edge => "edge",
         Failure::WouldSplit => "would_split",
         Failure::NoChoice => "no_choice",
+        Failure::Blocked => "blocked",
     }
 }

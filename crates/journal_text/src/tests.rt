@@ -375,13 +375,13 @@ fn a_journal_has_at_most_65536_entries(rt: HostRuntime) -> Result<(), Fail> {
     Ok(())
 }
 
-/// The first fault of a text of turns.
-fn turns_fault(text: &[u8]) -> Option<ReadRefusal> {
+/// The first fault of a text of turns in a document of the version.
+fn turns_fault(version: u8, text: &[u8]) -> Option<ReadRefusal> {
     if text.len() > MOST_BYTES {
         return Some(ReadRefusal::NoMemory);
     }
     let mut tokens = Tokens::new(text);
-    match read_turns(&mut tokens) {
+    match read_turns(&mut tokens, version) {
         Ok(()) => tokens.end(Trailing).err().map(ReadRefusal::Refused),
         Err(refusal) => Some(refusal),
     }
@@ -464,8 +464,16 @@ fn turns_are_read_or_refused(rt: HostRuntime) {
             Some((line, kind)) => at(line, kind),
             None => None,
         };
-        assert_eq!(rt; turns_fault(text), expected);
+        assert_eq!(rt; turns_fault(1, text), expected);
+        assert_eq!(rt; turns_fault(2, text), expected);
     }
+}
+
+#[test]
+fn only_a_version_with_walls_has_the_word_blocked(rt: HostRuntime) {
+    let text = b"turns turn 0 0 failed\nblocked 0 end".as_slice();
+    assert_eq!(rt; turns_fault(1, text), at(2, Unexpected));
+    assert!(rt; turns_fault(2, text).is_none());
 }
 
 #[test]
@@ -508,7 +516,7 @@ fn each_kind_of_mark_is_printed_and_read(rt: HostRuntime) -> Result<(), Fail> {
             turn 2 1 busy spot -4096 17 by 0 1 4095 place 1\nend\n"
             .as_slice()
     );
-    assert!(rt; turns_fault(text.bytes()).is_none());
+    assert!(rt; turns_fault(1, text.bytes()).is_none());
     Ok(())
 }
 

@@ -1,6 +1,6 @@
 //! The section `turns` read.
 
-ghost use Rattle.std.specs.Prelude.{◌≡◌, ◌≢◌, ℕ, IfErr};
+ghost use Rattle.std.specs.Prelude.{◌≡◌, ◌≢◌, IfErr};
 ghost use Rattle.std.specs.List.{list_any};
 ghost use Rattle.std.specs.Str.{bytes_eq};
 ghost use Rattle.text_tokens.specs.Reading as reading;
@@ -10,11 +10,11 @@ ghost use Rattle.journal_text.specs.Turns as spec;
 ghost use Rattle.journal_text.specs.Readers as reader;
 
 use crate::journal::read_cell;
-use node_text::read_word;
+use node_text::{may_have_walls, read_word};
 use text_tokens::{ReadRefusal, RefusalKind, TokenKind, Tokens, number, refused};
 
-/// The words of failures.
-const FAILURES: [&str; 11] = [
+/// The words of failures. The last one is for texts that may have walls.
+const FAILURES: [&str; 12] = [
     "no_port",
     "no_neighbour",
     "out_of_range",
@@ -26,12 +26,20 @@ const FAILURES: [&str; 11] = [
     "edge",
     "would_split",
     "no_choice",
+    "blocked",
 ];
 
-fn names_failure(word: &[u8]) -> bool
-    ensures { result ≡ spec.names_failure word.now }
+/// How many of them texts without walls may have.
+const WITHOUT_WALLS: usize = 11;
+
+fn names_failure(version: u8, word: &[u8]) -> bool
+    ensures { result ≡ spec.names_failure version word.now }
 {
-    is_one_of(word, &FAILURES)
+    if may_have_walls(version) {
+        is_one_of(word, &FAILURES)
+    } else {
+        is_one_of(word, &FAILURES[..WITHOUT_WALLS])
+    }
 }
 
 fn is_one_of(word: &[u8], words: &[&str]) -> bool
@@ -42,12 +50,12 @@ fn is_one_of(word: &[u8], words: &[&str]) -> bool
 
 /// The word of a failure, for its line.
 #[tactic(auto, unfolding(text_tokens::specs::Reading::the_line))]
-fn read_failure(tokens: &mut Tokens<'_>) -> Result<u32, ReadRefusal>
-    ensures reads { Gives (λ line. line) (reading.the_line spec.is_failure) tokens.old result tokens.new }
+fn read_failure(tokens: &mut Tokens<'_>, version: u8) -> Result<u32, ReadRefusal>
+    ensures reads { Gives (λ line. line) (reading.the_line (spec.is_failure version)) tokens.old result tokens.new }
     ensures sure { IfErr result (λ e. e ≢ NoMemory) }
 {
     let token = tokens.take_kind(TokenKind::Word)?;
-    if !names_failure(tokens.text(&token)) {
+    if !names_failure(version, tokens.text(&token)) {
         return Err(refused(token.line, RefusalKind::Unexpected));
     }
     Ok(token.line)
@@ -65,12 +73,12 @@ fn read_placed(tokens: &mut Tokens<'_>, text: &[u8]) -> Result<(), ReadRefusal>
 }
 
 #[tactic(auto, unfolding(crate::specs::Readers::a_failed))]
-fn read_failed(tokens: &mut Tokens<'_>) -> Result<(), ReadRefusal>
-    ensures reads { Gives (λ u. u) reader.a_failed tokens.old result tokens.new }
+fn read_failed(tokens: &mut Tokens<'_>, version: u8) -> Result<(), ReadRefusal>
+    ensures reads { Gives (λ u. u) (reader.a_failed version) tokens.old result tokens.new }
     ensures sure { IfErr result (λ e. e ≢ NoMemory) }
 {
     read_word(tokens, b"failed")?;
-    read_failure(tokens)?;
+    read_failure(tokens, version)?;
     number(tokens)?;
     Ok(())
 }
@@ -99,8 +107,8 @@ fn read_busy(tokens: &mut Tokens<'_>) -> Result<(), ReadRefusal>
     read_placed(tokens, b"place")
 }
 
-fn read_mark(tokens: &mut Tokens<'_>) -> Result<(), ReadRefusal>
-    ensures reads { Gives (λ u. u) reader.a_mark tokens.old result tokens.new }
+fn read_mark(tokens: &mut Tokens<'_>, version: u8) -> Result<(), ReadRefusal>
+    ensures reads { Gives (λ u. u) (reader.a_mark version) tokens.old result tokens.new }
     ensures sure { IfErr result (λ e. e ≢ NoMemory) }
 {
     if tokens.is_next(TokenKind::Word, b"done") {
@@ -108,60 +116,60 @@ fn read_mark(tokens: &mut Tokens<'_>) -> Result<(), ReadRefusal>
     } else if tokens.is_next(TokenKind::Word, b"idle") {
         read_placed(tokens, b"idle")
     } else if tokens.is_next(TokenKind::Word, b"failed") {
-        read_failed(tokens)
+        read_failed(tokens, version)
     } else {
         read_busy(tokens)
     }
 }
 
 #[tactic(auto, unfolding(crate::specs::Readers::a_turn))]
-fn read_turn(tokens: &mut Tokens<'_>) -> Result<(), ReadRefusal>
-    ensures reads { Gives (λ u. u) reader.a_turn tokens.old result tokens.new }
+fn read_turn(tokens: &mut Tokens<'_>, version: u8) -> Result<(), ReadRefusal>
+    ensures reads { Gives (λ u. u) (reader.a_turn version) tokens.old result tokens.new }
     ensures sure { IfErr result (λ e. e ≢ NoMemory) }
 {
     read_word(tokens, b"turn")?;
     number(tokens)?;
     number(tokens)?;
-    read_mark(tokens)
+    read_mark(tokens, version)
 }
 
 /// One more turn, if one comes.
-fn more_turn(tokens: &mut Tokens<'_>) -> Result<Option<()>, ReadRefusal>
-    ensures reads { Gives (λ o. o) (another spec.is_turn reader.a_turn) tokens.old result tokens.new }
+fn more_turn(tokens: &mut Tokens<'_>, version: u8) -> Result<Option<()>, ReadRefusal>
+    ensures reads { Gives (λ o. o) (another spec.is_turn (reader.a_turn version)) tokens.old result tokens.new }
     ensures sure { IfErr result (λ e. e ≢ NoMemory) }
 {
     if !tokens.is_next(TokenKind::Word, b"turn") {
         return Ok(None);
     }
-    read_turn(tokens)?;
+    read_turn(tokens, version)?;
     Ok(Some(()))
 }
 
-fn read_all_turns(tokens: &mut Tokens<'_>) -> Result<(), ReadRefusal>
-    ensures reads { Gives (λ u. u) (reader.unheeded reader.all_turn_lines) tokens.old result tokens.new }
+fn read_all_turns(tokens: &mut Tokens<'_>, version: u8) -> Result<(), ReadRefusal>
+    ensures reads { Gives (λ u. u) (reader.unheeded (reader.all_turn_lines version)) tokens.old result tokens.new }
     ensures sure { IfErr result (λ e. e ≢ NoMemory) }
 {
-    while let Some(()) = more_turn(tokens)? {}
+    while let Some(()) = more_turn(tokens, version)? {}
     Ok(())
 }
 
-#[tactic(auto, unfolding(crate::specs::Readers::whole_turns))]
-fn read_whole(tokens: &mut Tokens<'_>) -> Result<(), ReadRefusal>
-    ensures reads { Gives (λ u. u) reader.whole_turns tokens.old result tokens.new }
+#[tactic(auto, unfolding(crate::specs::Readers::the_turns))]
+fn read_whole(tokens: &mut Tokens<'_>, version: u8) -> Result<(), ReadRefusal>
+    ensures reads { Gives (λ u. u) (reader.the_turns version) tokens.old result tokens.new }
     ensures sure { IfErr result (λ e. e ≢ NoMemory) }
 {
     read_word(tokens, b"turns")?;
-    read_all_turns(tokens)?;
+    read_all_turns(tokens, version)?;
     read_word(tokens, b"end")?;
     Ok(())
 }
 
-/// Reads the section `turns` up to its `end`, by its grammar alone, which is the same for each version of documents. It takes no
-/// memory, and never answers out of memory.
-pub fn read_turns(tokens: &mut Tokens<'_>) -> Result<(), ReadRefusal>
-    ensures tells { (version : ℕ) → TellsOf (spec.IsTurns version) (λ u. u) tokens.old result tokens.new }
-    ensures reads { (version : ℕ) → ReadsOf (spec.IsTurns version) (λ u. u) tokens.old result tokens.new }
+/// Reads the section `turns` of a document of the version up to its `end`, by its grammar alone. It takes no memory, and never
+/// answers out of memory.
+pub fn read_turns(tokens: &mut Tokens<'_>, version: u8) -> Result<(), ReadRefusal>
+    ensures tells { TellsOf (spec.IsTurns version) (λ u. u) tokens.old result tokens.new }
+    ensures reads { ReadsOf (spec.IsTurns version) (λ u. u) tokens.old result tokens.new }
     ensures sure { IfErr result (λ e. e ≢ NoMemory) }
 {
-    read_whole(tokens)
+    read_whole(tokens, version)
 }

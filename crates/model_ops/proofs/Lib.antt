@@ -22,6 +22,7 @@ pub mod CopiesStand
 pub mod ActsDecide
 pub mod Members
 pub mod BehindsLemmas
+pub mod Blocked
 pub mod Answered
 pub mod Ranked
 pub mod Lowest

@@ -24,14 +24,13 @@ use Rattle.amoebot_state.proofs.Shows.{shown_valid}
 use Rattle.amoebot_state.proofs.Members.{Has, here, later, has_cases, not_in_none, Has-append_cases, Has-append_right, Has-map, map_has, Has-filter, filter_has, All-from_Has, Contains-from_Has}
 use Rattle.amoebot_state.proofs.Owns.{own_cases}
 use Rattle.amoebot_state.proofs.Values.{value_same, bot_eq-true, id_eq-true}
-use Rattle.amoebot_state.proofs.RisingLists.{Rising, none, more, Rising-append, Rising-weaker, Rising-map}
+use Rattle.amoebot_state.proofs.RisingLists.{Rising, none, more, Rising-append, Rising-weaker, Rising-map, increasing-from_Rising}
 use Rattle.model_ops.specs.declared.member.Member.{Member}
 use Rattle.model_ops.specs.Members.{AreApart, IsSite, ranked, has_id, changed_cells, body_now, config_found, config_now, id_found_on, id_on, has_changed, nodes_of, changed_spot, is_changed}
 use Rattle.model_ops.proofs.Members.{bot_by, find_first, occupant_of}
 use Rattle.model_ops.proofs.Ranked.{IsBelow, AreRising, ranked_has, Has-ranked, rising_ranked, apart_filter}
 use Rattle.model_ops.proofs.OneNode.{OneNode, one_node}
 use Rattle.model_ops.proofs.KeepsRest.{reached_keeps_rest}
-use Rattle.model_ops.proofs.RisingRanks.{increasing-from_Rising}
 use Rattle.model_ops.specs.Laws.{KeepsRest}
 use Rattle.model_ops.specs.Reaches.{Reaches}
 use Rattle.model_ops.proofs.Told.{bot_is}

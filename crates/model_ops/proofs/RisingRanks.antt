@@ -1,8 +1,7 @@
 -- A difference with at most one node is in the order of a patch.
-use Rattle.std.proofs.Common.{◌≡◌, ◌<◌, ◌+◌, ◌*◌, ℕ, zero, suc, List, [], ◌∷◌, ◌++◌, length, map, Bool, true, false, ap, sym, ◌∙◌, refl, subst, arith, Option, Some, None}
-use Rattle.std.specs.Prelude.{if◌then◌else◌, unwrap_or, slice_index}
+use Rattle.std.proofs.Common.{◌≡◌, ◌+◌, ◌*◌, ℕ, List, ◌++◌, length, map, Bool, true, false, ap, sym, ◌∙◌, refl, subst, arith, Option, Some, None}
+use Rattle.std.specs.Prelude.{if◌then◌else◌, unwrap_or}
 use Rattle.std.specs.List.{filter_map, range_with_len}
-use Rattle.std.specs.List.Sorted.{IsStrictlyIncreasing}
 use Rattle.std.specs.Option.{option_map}
 use Rattle.std.proofs.lemmas.List.Elements.{filter_map-append}
 use Rattle.std.proofs.lemmas.Option.{none-some, same_Some}
@@ -15,18 +14,8 @@ use Rattle.amoebot_state.specs.declared.cell.Cell.{Cell}
 use Rattle.amoebot_state.specs.Pairs.{cell_of}
 use Rattle.amoebot_state.specs.Configs.{Config, value}
 use Rattle.amoebot_state.specs.Patches.{IsOrdered, diff, changed, rank, same_value}
-use Rattle.amoebot_state.proofs.Members.{Has, here, map_has, filter_map_has, Has-append_left}
-use Rattle.amoebot_state.proofs.RisingLists.{Rising, none, more, Rising-append, Rising-map, Rising-filter_map, Rising-weaker, Rising-range, range_below}
-
--- numbers that rise do so from one to the next
-pub increasing-from_Rising : {A : Type 0} (key : A → ℕ) (xs : List A) → Rising key xs → IsStrictlyIncreasing (map key xs)
-increasing-from_Rising key [] none k lt = absurd (omega arith)
-increasing-from_Rising key (x ∷ []) (more below rest) k lt = absurd (omega arith)
-increasing-from_Rising key (x ∷ y ∷ ys) (more below rest) zero lt = below y here
-increasing-from_Rising key (x ∷ y ∷ ys) (more below rest) (suc k) lt =
-    let at : suc k + 1 ≡ suc (k + 1) = omega arith in
-    let P : ℕ → Type 0 = λ z. slice_index (map key (y ∷ ys)) k < slice_index (map key (x ∷ y ∷ ys)) z in
-    subst P (sym at) (increasing-from_Rising key (y ∷ ys) rest k (omega arith))
+use Rattle.amoebot_state.proofs.Members.{Has, map_has, filter_map_has, Has-append_left}
+use Rattle.amoebot_state.proofs.RisingLists.{Rising, Rising-append, Rising-map, Rising-filter_map, Rising-weaker, Rising-range, increasing-from_Rising, range_below}
 
 -- what a listed pair tells
 pair_told : (old new : Config) (n : CellName) (p : CellName × Cell) → changed old new n ≡ Some p → n ≡ cell_of p

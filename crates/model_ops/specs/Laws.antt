@@ -12,11 +12,12 @@ use Rattle.amoebot_state.specs.declared.bot.End.{End}
 use Rattle.amoebot_state.specs.declared.bot.Port.{Port}
 use Rattle.amoebot_state.specs.declared.cell.CellName.{CellName}
 use Rattle.amoebot_state.specs.declared.cell.Cell.{Cell}
-use Rattle.amoebot_state.specs.declared.verdict.Failure.TheVariants.{WouldSplit}
+use Rattle.amoebot_state.specs.declared.verdict.Failure.TheVariants.{Blocked, WouldSplit}
 use Rattle.amoebot_state.specs.declared.verdict.Moved.{Moved}
+use Rattle.amoebot_state.specs.declared.verdict.Moved.TheVariants as moved
 use Rattle.amoebot_state.specs.declared.verdict.Entry.{Entry}
 use Rattle.amoebot_state.specs.declared.verdict.Verdict.{Verdict}
-use Rattle.amoebot_state.specs.Configs.{Config, IsValid, bot_at, bot_of, occupant, value}
+use Rattle.amoebot_state.specs.Configs.{Config, IsValid, bot_at, bot_of, is_wall, occupant, value}
 use Rattle.amoebot_state.specs.Occupied.{occupied}
 use Rattle.amoebot_state.specs.Pairs.{cell_of, cell_value}
 use Rattle.amoebot_state.specs.Patches.{IsPatched, IsOrdered, diff}
@@ -24,7 +25,7 @@ use Rattle.amoebot_state.specs.Ports.{behind, end_node, global}
 use Rattle.amoebot_state.specs.Zones.{Shown, IsShown, zone, shown, shown_alone}
 use Rattle.amoebot_state.specs.Steps.{Step, TouchesZone, HasPatchedWorld, ListsDifferences}
 use Rattle.model_ops.specs.declared.peer.Peer.{Peer}
-use Rattle.model_ops.specs.Operations.{write, peer, expand, contract, push, pull}
+use Rattle.model_ops.specs.Operations.{connected, is_free, read, write, peer, expand, contract, push, pull}
 use Rattle.model_ops.specs.Reaches.{Writing, Acts, Reaches, write_all, move, perform}
 use Rattle.model_ops.specs.Sights.{sight}
 use Rattle.model_ops.specs.Deciders.{DecidesByActs, DecidesGuarded}
@@ -215,3 +216,14 @@ GuardedDecidersStayConnected =
     → IsValid old
     → Step f old e new
     → StaysConnected old new
+
+-- only an expansion to a wall is blocked
+pub record OnlyWallsBlock : Type 0 where
+  pub moves : (c : Config) (i : ℕ) (guard : Bool) (m : Moved)
+      → move c i guard m ≡ Err Blocked
+      → (p : Port) × (m ≡ moved.Expand p) × (is_wall c (behind (bot_of c i) p) ≡ true)
+  pub writes : (c : Config) (i : ℕ) (p : Option Port) (x : ℕ) (s : ℤ) → write c i p x s ≢ Err Blocked
+  pub connects : (c : Config) (i : ℕ) (p : Port) → connected c i p ≢ Err Blocked
+  pub frees : (c : Config) (i : ℕ) (p : Port) → is_free c i p ≢ Err Blocked
+  pub reads : (c : Config) (i : ℕ) (p : Option Port) (x : ℕ) → read c i p x ≢ Err Blocked
+  pub peers : (c : Config) (i : ℕ) (p : Port) → peer c i p ≢ Err Blocked

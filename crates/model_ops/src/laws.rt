@@ -1,7 +1,7 @@
 ghost use Rattle.model_ops.specs.Laws.{OneArcTestIsOneArc, ReachedKeepsRest, ReachedDiffIsExact, ReachedLeadsAlso};
 ghost use Rattle.model_ops.specs.Laws.{ShownMeetsTheSame, OperationsKeepConnected, ReachedStaysConnected};
 ghost use Rattle.model_ops.specs.Laws.{UnguardedSplits, PeerLooksBack, CopiesWork, CopyStandsForWorlds};
-ghost use Rattle.model_ops.specs.Laws.{ActsKeepDeciderLaws, GuardedDecidersStayConnected};
+ghost use Rattle.model_ops.specs.Laws.{ActsKeepDeciderLaws, GuardedDecidersStayConnected, OnlyWallsBlock};
 
 /// The test of one arc answers whether a ring is one arc.
 pub fn one_arc_test_is_one_arc()
@@ -58,4 +58,9 @@ pub fn copies_stand_for_worlds()
 pub fn acts_decide()
     ensures laws { ActsKeepDeciderLaws }
     ensures connected { GuardedDecidersStayConnected }
+{}
+
+/// Only an expansion to a wall is blocked.
+pub fn only_walls_block()
+    ensures { OnlyWallsBlock }
 {}

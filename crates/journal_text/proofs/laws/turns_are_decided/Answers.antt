@@ -6,7 +6,7 @@ use Rattle.text_tokens.proofs.CombinatorLemmas.{exact_law}
 use Rattle.text_tokens.proofs.SaysLemmas.{IsSaid, says}
 use Rattle.journal_text.specs.Turns.{names_failure, IsTurns}
 use Rattle.node_text.specs.PartReaders.{an_int, a_node}
-use Rattle.journal_text.specs.Readers.{a_cell, placed_mark, a_failed, a_claimant, a_busy, a_mark, a_turn, all_turn_lines, whole_turns, the_turns}
+use Rattle.journal_text.specs.Readers.{a_cell, placed_mark, a_failed, a_claimant, a_busy, a_mark, a_turn, all_turn_lines, the_turns}
 use Rattle.journal_text.proofs.TurnLaws.{part_the_turns, exact_turns}
 use Rattle.journal_text.proofs.laws.turns_are_decided.Goals as goal
 
@@ -20,7 +20,7 @@ told : IsSaid (IsTurns 1) (the_turns 1)
 told = says (IsTurns 1) (the_turns 1) (exact_turns 1)
 
 pub returns-clause-read : goal.returns-clause-read
-unfolding skip ready sign_len front scan scan_end ahead_of last_of same_kind one_within the_line numeral either limited times elements repeated names_failure an_int a_node a_cell placed_mark a_failed a_claimant a_busy a_mark a_turn all_turn_lines whole_turns
+unfolding skip ready sign_len front scan scan_end ahead_of last_of same_kind one_within the_line numeral either limited times elements repeated names_failure an_int a_node a_cell placed_mark a_failed a_claimant a_busy a_mark a_turn all_turn_lines the_turns
 returns-clause-read c = record {
   nothing = told _ _ refl;
   marks = told _ _ refl;

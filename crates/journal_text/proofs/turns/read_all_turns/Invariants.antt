@@ -7,7 +7,7 @@ use Rattle.journal_text.proofs.turns.read_all_turns.Given as goal
 
 -- some turns were read
 abbrev pub invariant-loop : goal.invariant-loop
-invariant-loop l = (found : List Nothing) × StillReads all_turn_lines l.fn.tokens found (repeated is_turn turn_in as_before tt) l.tokens
+invariant-loop l = (found : List Nothing) × StillReads (all_turn_lines l.fn.version) l.fn.tokens found (repeated is_turn (turn_in l.fn.version) as_before tt) l.tokens
 
 abbrev pub decreases-loop : goal.decreases-loop
 decreases-loop l = length l.tokens.ahead
