@@ -16,8 +16,8 @@ use std::marker::Model;
 /// The sections of a document that stand for something, each `Some` exactly where the document has it.
 #[derive(Drop)]
 pub struct Parts {
-    /// The version of the document.
-    pub(crate) version: u8,
+    /// The version of the document, 1 or 2.
+    pub version: u8,
     /// The section `program`, whose names and numbers keep the rules.
     pub checked: Option<Checked>,
     /// The section `shape`.
@@ -129,6 +129,13 @@ impl Sections {
         ensures { result ≡ contents parts }
     {
         Sections { parts }
+    }
+
+    /// The version of the document, 1 or 2.
+    pub fn version(&self) -> u8
+        ensures { result ≡ self.now.version }
+    {
+        self.parts.version
     }
 
     /// The program, which keeps the rules on names and ranges.
