@@ -46,13 +46,6 @@ impl Parts {
         }
     }
 
-    /// The version of the document.
-    pub fn version(&self) -> u8
-        ensures { result ≡ (contents self.now).version }
-    {
-        self.version
-    }
-
     /// How many variables the program has, and 0 where there is none.
     pub(crate) fn vars(&self) -> u8
         ensures value { result ≡ var_count self.now.checked }
