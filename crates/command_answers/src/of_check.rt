@@ -18,8 +18,7 @@ pub(crate) fn answer_check(alloc: Global, parts: Parts) -> Result<Answer, NoMemo
     requires { Fits (form_of DocumentCommand.Check) (contents parts) }
     ensures { IfOk result (IsAnswerTo DocumentCommand.Check (contents parts)) }
 {
-    let version = parts.version();
-    let Parts { checked, .. } = parts;
+    let Parts { version, checked, .. } = parts;
     let text = print_check(alloc, version, checked.unwrap().program())?;
     Ok(done(text))
 }

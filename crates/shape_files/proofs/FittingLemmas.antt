@@ -1,5 +1,5 @@
 -- What a document has fits together.
-use Rattle.std.proofs.Common.{◌≡◌, ℕ, ◌<◌, ◌≤◌, Bool, true, false, cond, List, [], ◌∷◌, length, Option, Some, None, codes, refl, sym, ap, subst}
+use Rattle.std.proofs.Common.{◌≡◌, ℕ, ◌<◌, ◌≤◌, Bool, true, false, cond, List, [], ◌∷◌, length, map, Option, Some, None, codes, refl, sym, ap, subst, ◌∙◌}
 use Rattle.std.specs.Prelude.{◌==◌, ◌&&◌, nat_lt, nat_le}
 use Rattle.std.specs.List.{All, flat_map, list_all}
 use Rattle.std.proofs.lemmas.Bool.{ltb-true, and_parts}
@@ -24,8 +24,10 @@ use Rattle.action_tree.specs.Trees as tree
 use Rattle.action_tree.specs.Limits.{most_actions}
 use Rattle.action_check.specs.Faults.{faults}
 use Rattle.journal_text.specs.Journals.{ids_of_entry, ids_of_pair, is_known, IsEntry, IsJournal}
+use Rattle.node_text.specs.Parts.{may_have_walls}
 use Rattle.node_text.proofs.Outside.{within}
-use Rattle.shape_text.specs.Shapes.{IsShapeUnder}
+use Rattle.shape_text.specs.Shapes.{WrittenWall, written_node, AreWallLines, written_shape, stands_for, IsShapeUnder}
+use Rattle.amoebot_state.specs.Walls.{node_numbers}
 use Rattle.schedule_text.specs.Lists.{IsId, IsCallerList, IsLists}
 use Rattle.schedule_text.specs.Schedules.{most_steps, Stretch, steps_in, IsStretch, IsSchedule}
 use Rattle.shape_files.specs.declared.section_kind.Form.{Form}
@@ -66,8 +68,28 @@ program_fits p f =
 
 -- ---- shapes
 
-shape_fits : (version : ℕ) (text : List ℕ) (vars : ℕ) (maxes : List ℕ) (c : Config) → Fine (IsShapeUnder version text vars maxes) c → c.maxes ≡ maxes
-shape_fits version text vars maxes c f = sym (ap (λ (c : Config). c.maxes) (made_of f).same)
+-- a shape of the version with these maxima
+record ShapeFits (version : ℕ) (maxes : List ℕ) (c : Config) : Type 0 where
+  pub maxes : c.maxes ≡ maxes
+  pub walls : may_have_walls version ≡ false → c.walls ≡ []
+
+-- a text that may have no walls has none
+no_walls : (may : Bool) (ws : List WrittenWall) → Fine (AreWallLines may 0) ws → may ≡ false → ws ≡ []
+no_walls true ws f e = absurd cc
+no_walls false ws f e = sym (nothing_of f)
+
+shape_fits : (version : ℕ) (text : List ℕ) (vars : ℕ) (maxes : List ℕ) (c : Config) → Fine (IsShapeUnder version text vars maxes) c → ShapeFits version maxes c
+shape_fits version text vars maxes c f =
+    let whole = made_of f in
+    let word = both_of (judged_of whole.before).0 in
+    let area = both_of (closed_of word.behind) in
+    let walls = both_of area.behind in
+    let bots = made_of walls.behind in
+    let drawn : stands_for maxes (written_shape area.value walls.value bots.value) ≡ c = ap (stands_for maxes) bots.same ∙ whole.same in
+    record {
+      maxes = sym (ap (λ (c : Config). c.maxes) whole.same);
+      walls = λ none. sym (ap (λ (c : Config). c.walls) drawn) ∙ ap (λ (ws : List WrittenWall). node_numbers area.value (map written_node ws)) (no_walls (may_have_walls version) walls.value walls.before none);
+    }
 
 -- ---- numbers of what is known
 
@@ -182,9 +204,9 @@ turns_or s a f = either_of with_turns without f
 
 module _ (version : ℕ) (right : IsVersion version) (p : tree.Program) (checked : IsChecked p) where
   only_program : FitTogether (At version (Some p) None None None None None)
-  only_program = record { version = right; checked = checked.checked; vars = checked.vars; actions = checked.actions; world = tt; final_world = tt; lists = tt; schedule = tt; entries = tt }
+  only_program = record { version = right; checked = checked.checked; vars = checked.vars; actions = checked.actions; world = tt; final_world = tt; walls = λ none. (tt, tt); lists = tt; schedule = tt; entries = tt }
 
-  module _ (c : Config) (maxes : c.maxes ≡ maxes_in (Some p)) where
+  module _ (c : Config) (shape : ShapeFits version (maxes_in (Some p)) c) where
     abbrev Listed : Option CallerLists → Option (List ℕ) → Contents
     Listed l s = At version (Some p) (Some c) l s None None
 
@@ -192,16 +214,16 @@ module _ (version : ℕ) (right : IsVersion version) (p : tree.Program) (checked
     Whole l s es w = At version (Some p) (Some c) l s (Some es) (Some w)
 
     and_shape : FitTogether (Listed None None)
-    and_shape = record { version = right; checked = checked.checked; vars = checked.vars; actions = checked.actions; world = maxes; final_world = tt; lists = tt; schedule = tt; entries = tt }
+    and_shape = record { version = right; checked = checked.checked; vars = checked.vars; actions = checked.actions; world = shape.maxes; final_world = tt; walls = λ none. (shape.walls none, tt); lists = tt; schedule = tt; entries = tt }
 
     and_lists : (l : CallerLists) → HaveBots (length c.bots) l → FitTogether (Listed (Some l) None)
-    and_lists l bots = record { version = right; checked = checked.checked; vars = checked.vars; actions = checked.actions; world = maxes; final_world = tt; lists = (refl, bots); schedule = tt; entries = tt }
+    and_lists l bots = record { version = right; checked = checked.checked; vars = checked.vars; actions = checked.actions; world = shape.maxes; final_world = tt; walls = λ none. (shape.walls none, tt); lists = (refl, bots); schedule = tt; entries = tt }
 
     and_schedule : (l : CallerLists) (steps : List ℕ) → HaveBots (length c.bots) l → All (λ caller. caller < length l.ids) steps → FitTogether (Listed (Some l) (Some steps))
-    and_schedule l steps bots callers = record { version = right; checked = checked.checked; vars = checked.vars; actions = checked.actions; world = maxes; final_world = tt; lists = (refl, bots); schedule = (refl, callers); entries = tt }
+    and_schedule l steps bots callers = record { version = right; checked = checked.checked; vars = checked.vars; actions = checked.actions; world = shape.maxes; final_world = tt; walls = λ none. (shape.walls none, tt); lists = (refl, bots); schedule = (refl, callers); entries = tt }
 
-    and_record : (l : Option CallerLists) (s : Option (List ℕ)) (es : List Entry) (w : Config) → FitTogether (Listed l s) → AreEntriesOf (length c.bots) (length p.actions) es → w.maxes ≡ maxes_in (Some p) → FitTogether (Whole l s es w)
-    and_record l s es w t entries last = record { version = t.version; checked = t.checked; vars = t.vars; actions = t.actions; world = t.world; final_world = last; lists = t.lists; schedule = t.schedule; entries = entries }
+    and_record : (l : Option CallerLists) (s : Option (List ℕ)) (es : List Entry) (w : Config) → FitTogether (Listed l s) → AreEntriesOf (length c.bots) (length p.actions) es → ShapeFits version (maxes_in (Some p)) w → FitTogether (Whole l s es w)
+    and_record l s es w t entries last = record { version = t.version; checked = t.checked; vars = t.vars; actions = t.actions; world = t.world; final_world = last.maxes; walls = λ none. (shape.walls none, last.walls none); lists = t.lists; schedule = t.schedule; entries = entries }
 
     module _ (a : Contents) (G : Type 0) where
       -- a schedule, or none
@@ -257,7 +279,7 @@ module _ (version : ℕ) (right : IsVersion version) (p : tree.Program) (checked
           without l s t h = subst (λ (a : Contents). Fits Measure a) (nothing_of h) (record { sections = (refl, refl); recorded = record { last = tt; first = tt }; together = t })
 
   -- a shape, and what stands behind it
-  shaped : (rest : Course) (a : Contents) (G : Type 0) → ((c : Config) → c.maxes ≡ maxes_in (Some p) → There rest (At version (Some p) (Some c) None None None None) a → G) → There (needs section.Shape rest) (At version (Some p) None None None None None) a → G
+  shaped : (rest : Course) (a : Contents) (G : Type 0) → ((c : Config) → ShapeFits version (maxes_in (Some p)) c → There rest (At version (Some p) (Some c) None None None None) a → G) → There (needs section.Shape rest) (At version (Some p) None None None None None) a → G
   shaped rest a G go f = let c = step_of f in go c.value (shape_fits version (codes "shape") (length p.vars) (maxes_in (Some p)) c.value c.before) c.behind
 
 abbrev behind_program : Form → Course

@@ -18,7 +18,7 @@ use Rattle.amoebot_state.specs.declared.bot.Bot.{Bot}
 use Rattle.amoebot_state.specs.Configs.{Config}
 use Rattle.amoebot_state.specs.Limits.{most_bots, most_vars, most_value}
 use Rattle.amoebot_state.specs.Refusals.{IsBotInRange}
-use Rattle.amoebot_state.proofs.Faults.{frame_valid, faultless_is_valid}
+use Rattle.amoebot_state.proofs.Faults.{walled_frame_is_valid, faultless_is_valid}
 use Rattle.amoebot_state.proofs.Options.{all_there}
 use Rattle.claim_core.specs.Limits.{most_callers, most_ids, most_turns}
 use Rattle.claim_core.specs.Turns.{CallerLists, AreFew, AreLists, IsList}
@@ -27,7 +27,7 @@ use Rattle.action_check.specs.Maxes.{first_or_zero}
 use Rattle.node_text.specs.Limits.{most_coordinate}
 use Rattle.node_text.specs.Parts.{IsBotText, IsInt, IsNode, IsUpTo, memory}
 use Rattle.node_text.proofs.Outside.{within}
-use Rattle.shape_text.specs.Shapes.{WrittenBot, WrittenShape, written_shape, written_amoebot, shape_frame, stands_for, IsSide, IsAreaLine, IsBotLine, IsShapeUnder}
+use Rattle.shape_text.specs.Shapes.{WrittenBot, WrittenShape, written_shape, written_node, written_amoebot, shape_frame, written_node, stands_for, IsSide, IsAreaLine, IsBotLine, IsShapeUnder}
 use Rattle.shape_text.proofs.JudgementsLemmas.{unrefused}
 use Rattle.schedule_text.specs.Lists.{IdsFrom, IsCallerList, IsId, IsLists}
 use Rattle.shape_files.specs.declared.section_kind.Section.{Section}
@@ -133,13 +133,14 @@ shape_drawn version text vars maxes few_vars eight c f =
     let judged = judged_of whole.before in
     let word = both_of judged.0 in
     let area = both_of (closed_of word.behind) in
-    let bots = made_of area.behind in
+    let walls = both_of area.behind in
+    let bots = made_of walls.behind in
     let few = counted_of (λ n. IsBotLine vars n) most_bots (bot_room vars) bots.value bots.before in
     let each = all_of (λ (w : WrittenBot). IsBotInRange (written_amoebot w)) (line_in_range vars few_vars) bots.before in
-    let shape : WrittenShape = written_shape area.value bots.value in
+    let shape : WrittenShape = written_shape area.value walls.value bots.value in
     let faultless = unrefused maxes shape (subst (λ (s : WrittenShape). Rattle.shape_text.specs.Shapes.shape_fault maxes s ≡ None) (sym bots.same) judged.1) in
     let drawn : IsWorldShape (stands_for maxes shape) = record {
-      valid = faultless_is_valid (shape_frame maxes shape) (map written_amoebot bots.value) (frame_valid (shape_frame maxes shape) (area_within area.value area.before) eight) (All-map IsBotInRange written_amoebot bots.value each) faultless;
+      valid = faultless_is_valid (shape_frame maxes shape) (map written_amoebot bots.value) (walled_frame_is_valid area.value (map written_node walls.value) maxes (area_within area.value area.before) eight) (All-map IsBotInRange written_amoebot bots.value each) faultless;
       few = (let one = length-map bots.value written_amoebot in let all = length-map (map written_amoebot bots.value) Some in omega arith);
       no_gaps = λ id lt. all_there (map written_amoebot bots.value) id lt;
     } in

@@ -42,7 +42,7 @@ use Rattle.shape_text.specs.Rereading.{IsWritableConfig}
 use Rattle.journal_text.proofs.JournalsReread.{journal_lines}
 use Rattle.journal_text.proofs.TurnsReread.{turns_lines}
 use Rattle.shape_text.specs.Shapes.{IsShape, IsFinal, IsShapeUnder}
-use Rattle.shape_text.specs.Texts.{area_words, bot_line, present, shape_text}
+use Rattle.shape_text.specs.Texts.{area_words, wall_lines, bot_line, present, shape_text}
 use Rattle.shape_text.proofs.ShapesReread.{config_lines, shape_word, final_word}
 use Rattle.shape_files.specs.declared.section_kind.Section.{Section}
 use Rattle.shape_files.specs.declared.section_kind.Section.TheVariants.{Program, Shape, Lists, Journal, Final, Turns}
@@ -217,7 +217,7 @@ module _ (version : ℕ) (right : IsVersion version) where
     -- a shape under this word
     the_shape : (c : Config) → IsWritableConfig version vars_of c → c.maxes ≡ maxes_of p → (text : List ℕ) → Rereads (IsWord text) Any (text ∷ []) → IsReread (IsShapeUnder version text vars_of (maxes_of p)) (Is c) (shape_text text vars_of c)
     the_shape c w m text first =
-        let lines = section_lines text (area_words c.area ∷ map (bot_line vars_of) (present c.bots)) in
+        let lines = section_lines text (area_words c.area ∷ wall_lines c.area c.walls ++ map (bot_line vars_of) (present c.bots)) in
         of_lines lines (subst (λ (maxes : List ℕ). RereadsLines (IsShapeUnder version text vars_of maxes) (Is c) lines) m (config_lines version vars_of c w (few_vars p k) text first))
 
     the_journal : (bots : ℕ) → bots < 2 ^ 16 → (es : List Entry) → length es ≤ most_turns → All (KeepsLimits bots (length p.actions) vars_of) es → IsReread (IsJournal bots (length p.actions) vars_of) (Is es) (journal_text vars_of es)

@@ -162,7 +162,7 @@ fault_rows =
     ∷ fails Run (codes "amoebot 1\nprogram\naction out when contracted\nmove expand p end shape") 4 UnknownName
     ∷ fails Replay (with_shape ++ codes "journal\nentry 1 0 0 0 0 none\nend\n" ++ final_text) 10 BadPlace
     -- the header
-    ∷ fails Run (codes "amoebot 2\nprogram") 1 BadRange
+    ∷ fails Run (codes "amoebot 3\nprogram") 1 BadRange
     ∷ fails Run (codes "amoebot 0\nprogram") 1 BadRange
     ∷ fails Run (codes "program") 1 Unexpected
     ∷ fails Run (codes "amoebot\nprogram") 2 Unexpected

@@ -13,15 +13,16 @@ use text_tokens::{Refusal, RefusalKind, TokenKind, Tokens};
 
 const LEAST_VERSION: u32 = 1;
 
-const GREATEST_VERSION: u32 = 1;
+const GREATEST_VERSION: u32 = 2;
 
-/// Reads the header: the word `amoebot` and the version, which is 1. Another version is a `BadRange`.
-pub fn read_head(tokens: &mut Tokens<'_>) -> Result<(), Refusal>
-    ensures tells { TellsOf IsHeader (λ _. 1) tokens.old (as_read result) tokens.new }
-    ensures reads { ReadsOf IsHeader (λ _. 1) tokens.old (as_read result) tokens.new }
+/// Reads the header: the word `amoebot` and the version, which is 1 or 2. Another version is a `BadRange`.
+pub fn read_head(tokens: &mut Tokens<'_>) -> Result<u8, Refusal>
+    ensures tells { TellsOf IsHeader (λ v. v) tokens.old (as_read result) tokens.new }
+    ensures reads { ReadsOf IsHeader (λ v. v) tokens.old (as_read result) tokens.new }
+    ensures low { IfOk result (λ v. least_version ≤ v) }
+    ensures high { IfOk result (λ v. v ≤ greatest_version) }
 {
-    read_version(tokens)?;
-    Ok(())
+    read_version(tokens)
 }
 
 /// Reads the header, for the version.

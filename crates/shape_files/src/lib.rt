@@ -40,3 +40,5 @@ mod runs;
 mod shapes;
 #[cfg(test)]
 mod tests;
+#[cfg(test)]
+mod walls;

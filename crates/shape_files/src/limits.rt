@@ -2,10 +2,33 @@
 
 use crate::Form::{Interleave, Measure, Replay, Run};
 use crate::pieces::{FINAL, HEAD, LISTS, Long, PROGRAM, SHAPE};
-use text_tokens::RefusalKind::{BadEntry, BadId, Overlap, TooMany, Unexpected};
+use text_tokens::RefusalKind::{BadEntry, BadId, BadWall, Overlap, TooMany, Unexpected};
 
 /// Limits on numbers, just kept and just passed.
-pub static LIMITS: [Long; 25] = [
+pub static LIMITS: [Long; 27] = [
+    (
+        Measure,
+        &[
+            ("amoebot 2\n", 1),
+            (PROGRAM, 1),
+            ("shape\narea 0 0 8 8\n", 1),
+            ("wall 3 3\n", 16384),
+            ("end\n", 1),
+        ],
+        Err((8, BadWall)),
+    ),
+    (
+        Measure,
+        &[
+            ("amoebot 2\n", 1),
+            (PROGRAM, 1),
+            ("shape\narea 0 0 8 8\n", 1),
+            ("wall 3 3\n", 16384),
+            ("wall 10000 0\n", 1),
+            ("end\n", 1),
+        ],
+        Err((16391, TooMany)),
+    ),
     (
         Measure,
         &[

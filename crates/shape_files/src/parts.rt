@@ -16,8 +16,8 @@ use std::marker::Model;
 /// The sections of a document that stand for something, each `Some` exactly where the document has it.
 #[derive(Drop)]
 pub struct Parts {
-    /// The version of the document.
-    pub(crate) version: u8,
+    /// The version of the document, 1 or 2.
+    pub version: u8,
     /// The section `program`, whose names and numbers keep the rules.
     pub checked: Option<Checked>,
     /// The section `shape`.
@@ -44,13 +44,6 @@ impl Parts {
             entries: None,
             final_world: None,
         }
-    }
-
-    /// The version of the document.
-    pub fn version(&self) -> u8
-        ensures { result ≡ (contents self.now).version }
-    {
-        self.version
     }
 
     /// How many variables the program has, and 0 where there is none.
@@ -129,6 +122,13 @@ impl Sections {
         ensures { result ≡ contents parts }
     {
         Sections { parts }
+    }
+
+    /// The version of the document, 1 or 2.
+    pub fn version(&self) -> u8
+        ensures { result ≡ self.now.version }
+    {
+        self.parts.version
     }
 
     /// The program, which keeps the rules on names and ranges.

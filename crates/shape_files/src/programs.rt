@@ -8,10 +8,20 @@ use text_tokens::RefusalKind::{
 };
 
 /// Headers, and programs with their rules.
-pub static HEADERS_AND_PROGRAMS: [Row; 32] = [
-    (Check, &["amoebot 2\n", PROGRAM], Err((1, BadRange))),
+pub static HEADERS_AND_PROGRAMS: [Row; 34] = [
+    (
+        Check,
+        &["amoebot 2\n", PROGRAM],
+        Ok([1, -1, -1, -1, -1, -1]),
+    ),
+    (
+        Check,
+        &["amoebot 02\n", PROGRAM],
+        Ok([1, -1, -1, -1, -1, -1]),
+    ),
+    (Check, &["amoebot 3\n", PROGRAM], Err((1, BadRange))),
     (Check, &["amoebot 0\n", PROGRAM], Err((1, BadRange))),
-    (Check, &["amoebot\n2\n", PROGRAM], Err((2, BadRange))),
+    (Check, &["amoebot\n3\n", PROGRAM], Err((2, BadRange))),
     (
         Check,
         &["amoebot\n1\n", PROGRAM],

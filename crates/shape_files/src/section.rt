@@ -34,7 +34,7 @@ pub(crate) fn read_section(
     match section {
         Section::Program => parts.checked = Some(read_program(alloc, tokens)?),
         Section::Shape => {
-            let world = read_shape(alloc, tokens, parts.vars(), parts.maxes())?;
+            let world = read_shape(alloc, tokens, parts.version, parts.vars(), parts.maxes())?;
             parts.world = Some(world);
         }
         Section::Lists => parts.lists = Some(read_lists(alloc, tokens, parts.bots())?),
@@ -46,10 +46,10 @@ pub(crate) fn read_section(
             parts.entries = Some(entries);
         }
         Section::Final => {
-            let world = read_final(alloc, tokens, parts.vars(), parts.maxes())?;
+            let world = read_final(alloc, tokens, parts.version, parts.vars(), parts.maxes())?;
             parts.final_world = Some(world);
         }
-        Section::Turns => read_turns(tokens)?,
+        Section::Turns => read_turns(tokens, parts.version)?,
     }
     Ok(())
 }

@@ -7,7 +7,9 @@ use crate::pieces::{Expected, FINAL, HEAD, LISTS, Long, PROGRAM, Row, SHAPE};
 use crate::programs::{HEADERS_AND_PROGRAMS, PROGRAM_LIMITS};
 use crate::runs::{CUTS, WORKED};
 use crate::shapes::SHAPES;
+use crate::walls::{WALLS, Walled};
 use crate::{Form, Sections, read_head, read_sections};
+use amoebot_state::World;
 use std::alloc::{AllocError, Global};
 use std::process::Abort;
 use std::test::Fail;
@@ -49,6 +51,43 @@ fn answer(alloc: Global, bytes: &[u8], form: Form) -> Result<Expected, AllocErro
     }
     match read_sections(alloc, bytes, form) {
         Ok(found) => Ok(Ok(counts(&found))),
+        Err(ReadRefusal::Refused(Refusal { line, kind })) => Ok(Err((line, kind))),
+        Err(ReadRefusal::NoMemory) => Err(AllocError),
+    }
+}
+
+/// How many nodes of a world are walls.
+fn walls_of(world: &World) -> i64 {
+    let mut walls = 0;
+    for number in 0..world.area().size() {
+        if walls < 20_000 && world.is_wall_number(number) {
+            walls += 1;
+        }
+    }
+    walls
+}
+
+/// How many amoebots and walls the shape of a document has, and how many walls its last shape; or its first fault.
+fn walled_answer(
+    alloc: Global,
+    bytes: &[u8],
+    form: Form,
+) -> Result<Result<[i64; 3], (u32, RefusalKind)>, AllocError> {
+    if bytes.len() > 100_000_000 {
+        return Ok(Err((0, RefusalKind::TooLong)));
+    }
+    match read_sections(alloc, bytes, form) {
+        Ok(found) => {
+            let (bots, walls) = match found.world() {
+                Some(world) => (i64::from(world.bots()), walls_of(world)),
+                None => (-1, -1),
+            };
+            let last = match found.final_world() {
+                Some(world) => walls_of(world),
+                None => -1,
+            };
+            Ok(Ok([bots, walls, last]))
+        }
         Err(ReadRefusal::Refused(Refusal { line, kind })) => Ok(Err((line, kind))),
         Err(ReadRefusal::NoMemory) => Err(AllocError),
     }
@@ -125,6 +164,40 @@ fn headers_and_programs_are_read(rt: HostRuntime) -> Result<(), Fail> {
 #[test]
 fn shapes_are_read(rt: HostRuntime) -> Result<(), Fail> {
     are_read(&rt, rt.alloc(), &SHAPES)?;
+    Ok(())
+}
+
+#[test]
+fn documents_with_walls_are_read(rt: HostRuntime) -> Result<(), Fail> {
+    let alloc = rt.alloc();
+    let table: &[Walled] = &WALLS;
+    for (form, pieces, expected) in table {
+        let text = joined(alloc, pieces)?;
+        let found = walled_answer(alloc, text.as_bytes(), *form)?;
+        assert_eq!(&rt; found, *expected, "{text}");
+    }
+    Ok(())
+}
+
+/// All 16,384 nodes of the largest area are walls.
+#[test]
+fn a_full_area_is_read(rt: HostRuntime) -> Result<(), Fail> {
+    let alloc = rt.alloc();
+    let mut text = joined(
+        alloc,
+        &["amoebot 2\n", PROGRAM, "shape\narea 0 0 128 128\n"],
+    )?;
+    for y in 0..128 {
+        for x in 0..128 {
+            let line = format!(in alloc; "wall {x} {y}\n")?;
+            text.push_str(&line)?;
+        }
+    }
+    text.push_str("end\n")?;
+    assert_eq!(&rt;
+        walled_answer(alloc, text.as_bytes(), Form::Measure)?,
+        Ok([0, 16384, -1])
+    );
     Ok(())
 }
 

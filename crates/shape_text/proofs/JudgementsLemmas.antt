@@ -10,18 +10,21 @@ use Rattle.text_tokens.specs.declared.refusal.Refusal.{Refusal}
 use Rattle.text_tokens.specs.declared.refusal.RefusalKind.{RefusalKind}
 use Rattle.text_tokens.specs.declared.refusal.RefusalKind.TheVariants as kind
 use Rattle.text_tokens.specs.Cursor.{on_line}
-use Rattle.tri_lattice.specs.Extent.{is_in}
+use Rattle.tri_lattice.specs.declared.node.Node.{Node}
+use Rattle.tri_lattice.specs.Extent.{Extent, is_in}
 use Rattle.amoebot_state.specs.declared.bot.Bot.{Bot}
 use Rattle.amoebot_state.specs.declared.refusal.WorldRefusal.{WorldRefusal}
 use Rattle.amoebot_state.specs.declared.refusal.WorldRefusal.TheVariants as world
 use Rattle.amoebot_state.specs.Configs.{Config, frame, with_these, with_bot, is_wall, occupant, is_close, has_values}
-use Rattle.amoebot_state.specs.Refusals.{bot_fault, IsBotInRange, IsFaultless, IsFirstFault}
+use Rattle.amoebot_state.specs.Refusals.{bot_fault, IsBotInRange, IsFaultless, IsFirstFault, is_bad_wall, AreWalls, IsFirstBadWall}
 use Rattle.shape_text.specs.declared.shape.Listed.TheVariants as list
+use Rattle.shape_text.specs.declared.shape.WrittenWall as code_wall
 use Rattle.shape_text.specs.declared.shape.WrittenBot as code_bot
-use Rattle.shape_text.specs.Shapes.{WrittenBot, WrittenShape, kind_of, broken, first_broken, written_amoebot, shape_frame, shape_fault}
-use Rattle.shape_text.specs.Judgements.{JudgedAsWorlds}
+use Rattle.shape_text.specs.Shapes.{WrittenWall, WrittenBot, WrittenShape, kind_of, first_bad_wall, broken, first_broken, written_node, written_amoebot, shape_frame, shape_fault}
+use Rattle.shape_text.specs.Judgements.{HasWalls, JudgedAsWorlds}
 use Rattle.shape_text.specs.Views as view
 use Rattle.shape_text.specs.Views.{blamed_at}
+use Rattle.shape_text.proofs.WallNumbers.{AreWallsBehind}
 
 -- these amoebots behind those that are there
 abbrev with_bots : Config → List Bot → Config
@@ -118,20 +121,18 @@ pub plain_bots : (ws : List Code) → All (λ (b : Code). IsBotInRange b.bot) ws
 plain_bots ws all = All-map IsBotInRange its_bot ws all
 
 -- the one of which an element of the image is
-record Of (f : Code → Bot) (ws : List Code) (n : ℕ) (b : Bot) : Type 0 where
-  pub one : Code
+record Of {A B : Type 0} (f : A → B) (ws : List A) (n : ℕ) (b : B) : Type 0 where
+  pub one : A
   pub there : slice_get ws n ≡ Some one
   pub is : f one ≡ b
 
-of_image : (f : Code → Bot) (ws : List Code) (n : ℕ) (b : Bot) → slice_get (map f ws) n ≡ Some b → Of f ws n b
+of_image : {A B : Type 0} (f : A → B) (ws : List A) (n : ℕ) (b : B) → slice_get (map f ws) n ≡ Some b → Of f ws n b
 of_image f [] n b at = absurd cc
 of_image f (w ∷ ws) zero b at = record { one = w; there = refl; is = cc }
 of_image f (w ∷ ws) (suc n) b at = let o = of_image f ws n b at in record { one = o.one; there = o.there; is = o.is }
 
-seen_at : (ws : List Code) (n : ℕ) (w : Code) → slice_get ws n ≡ Some w → slice_get (map view.bot_view ws) n ≡ Some (view.bot_view w)
-seen_at [] n w at = absurd cc
-seen_at (v ∷ ws) zero w at = let same : v ≡ w = cc in ap (λ (x : Code). Some (view.bot_view x)) same
-seen_at (v ∷ ws) (suc n) w at = seen_at ws n w at
+seen_at : {A B : Type 0} (f : A → B) (ws : List A) (n : ℕ) (w : A) → slice_get ws n ≡ Some w → slice_get (map f ws) n ≡ Some (f w)
+seen_at f ws n w at = slice_get-map f ws n ∙ ap (option_map f) at
 
 module _ (c : Config) (ws : List Code) where
   abbrev start : Config
@@ -174,28 +175,107 @@ module _ (c : Config) (ws : List Code) where
         there = o.there;
         inside = slice_get_within ws f.place o.one o.there;
         names = b.names ∙ ap (λ (n : ℕ). Some (list.Bots, n, b.kind)) size;
-        first = one_broken start (map view.bot_view ws) f.place (view.bot_view o.one) (on_line o.one.line b.kind) (seen_at ws f.place o.one o.there) (fine_of f.place f.before) rule;
+        first = one_broken start (map view.bot_view ws) f.place (view.bot_view o.one) (on_line o.one.line b.kind) (seen_at view.bot_view ws f.place o.one o.there) (fine_of f.place f.before) rule;
       }
 
--- a shape whose amoebots break no rule
-pub faultless_fits : (maxes : List ℕ) (c : Config) (bs : List Bot) → IsFaultless c bs (length bs) → (s : WrittenShape) → shape_frame maxes s ≡ frame c → map written_amoebot s.bots ≡ bs → shape_fault maxes s ≡ None
-faultless_fits maxes c bs fine s framed bots =
+-- ---- walls
+
+first_is : (a : Extent) (before : List Node) (v : Node) (walls : List Node) (n : ℕ) → AreWallsBehind a before (v ∷ walls) (suc n) → is_bad_wall a before v ≡ false
+first_is a before v walls n are = ap (λ (vs : List Node). is_bad_wall a vs v) (sym (append-nil before)) ∙ are zero v (omega arith) refl
+
+rest_are : (a : Extent) (before : List Node) (v : Node) (walls : List Node) (n : ℕ) → AreWallsBehind a before (v ∷ walls) (suc n) → AreWallsBehind a (before ++ v ∷ []) walls n
+rest_are a before v walls n are j u lt at = ap (λ (vs : List Node). is_bad_wall a vs u) (append_assoc before (v ∷ []) (take j walls)) ∙ are (suc j) u (omega arith) at
+
+-- behind walls that may stand there, those that follow are judged
+none_bad : (a : Extent) (before : List Node) (ws : List WrittenWall) → AreWallsBehind a before (map written_node ws) (length ws) → first_bad_wall a before ws ≡ None
+none_bad a before [] are = refl
+none_bad a before (w ∷ ws) are =
+    let one : is_bad_wall a before w.node ≡ false = first_is a before w.node (map written_node ws) (length ws) are in
+    rw one (none_bad a (before ++ w.node ∷ []) ws (rest_are a before w.node (map written_node ws) (length ws) are))
+
+one_bad : (a : Extent) (before : List Node) (ws : List WrittenWall) (n : ℕ) (w : WrittenWall) → slice_get ws n ≡ Some w → AreWallsBehind a before (map written_node ws) n → is_bad_wall a (before ++ take n (map written_node ws)) w.node ≡ true
+    → first_bad_wall a before ws ≡ Some (on_line w.line kind.BadWall)
+one_bad a before [] n w at are bad = absurd cc
+one_bad a before (v ∷ ws) zero w at are bad =
+    let same : v ≡ w = cc in
+    let one : is_bad_wall a before v.node ≡ true = ap (λ (vs : List Node). is_bad_wall a vs v.node) (sym (append-nil before)) ∙ ap (λ (x : WrittenWall). is_bad_wall a (before ++ []) x.node) same ∙ bad in
+    rw one (ap (λ (x : WrittenWall). Some (on_line x.line kind.BadWall)) same)
+one_bad a before (v ∷ ws) (suc n) w at are bad =
+    let one : is_bad_wall a before v.node ≡ false = first_is a before v.node (map written_node ws) n are in
+    rw one (one_bad a (before ++ v.node ∷ []) ws n w at (rest_are a before v.node (map written_node ws) n are) (ap (λ (vs : List Node). is_bad_wall a vs w.node) (append_assoc before (v.node ∷ []) (take n (map written_node ws))) ∙ bad))
+
+-- ---- the walls as the code has them
+
+abbrev CodeWall : Type 0
+CodeWall = code_wall.WrittenWall
+
+abbrev pub its_node : CodeWall → Node
+its_node w = w.node
+
+pub same_nodes : (ws : List CodeWall) → map written_node (map view.wall_view ws) ≡ map its_node ws
+same_nodes [] = refl
+same_nodes (w ∷ ws) = ap (λ (vs : List Node). w.node ∷ vs) (same_nodes ws)
+
+module _ (a : Extent) (ws : List CodeWall) where
+  abbrev Nodes : List Node
+  Nodes = map its_node ws
+
+  walls_fit : (n : ℕ) → AreWalls a Nodes n → AreWalls a (map written_node (map view.wall_view ws)) n
+  walls_fit n are = subst (λ (vs : List Node). AreWalls a vs n) (sym (same_nodes ws)) are
+
+  pub all_fit : AreWalls a Nodes (length Nodes) → AreWalls a (map written_node (map view.wall_view ws)) (length (map view.wall_view ws))
+  all_fit are =
+      let size : length Nodes ≡ length (map view.wall_view ws) = length-map ws its_node ∙ sym (length-map ws view.wall_view) in
+      subst (λ (n : ℕ). AreWalls a (map written_node (map view.wall_view ws)) n) size (walls_fit (length Nodes) are)
+
+  pub none_refused : AreWalls a Nodes (length Nodes) → first_bad_wall a [] (map view.wall_view ws) ≡ None
+  none_refused are = none_bad a [] (map view.wall_view ws) (all_fit are)
+
+  -- the wall that a world refuses, with its line
+  pub record RefusingWall (place : ℕ) : Type 0 where
+    pub one : CodeWall
+    pub there : slice_get ws place ≡ Some one
+    pub inside : place < length ws
+    pub first : first_bad_wall a [] (map view.wall_view ws) ≡ Some (on_line one.line kind.BadWall)
+
+  pub refusing_wall : (place : ℕ) → IsFirstBadWall a Nodes place → RefusingWall place
+  refusing_wall place f =
+      let o = of_image its_node ws place f.wall f.there in
+      let same = same_nodes ws in
+      let bad : is_bad_wall a (take place (map written_node (map view.wall_view ws))) o.one.node ≡ true =
+      ap (λ (vs : List Node). is_bad_wall a (take place vs) o.one.node) same ∙ ap (is_bad_wall a (take place Nodes)) o.is ∙ f.bad in
+      record {
+        one = o.one;
+        there = o.there;
+        inside = slice_get_within ws place o.one o.there;
+        first = one_bad a [] (map view.wall_view ws) place (view.wall_view o.one) (seen_at view.wall_view ws place o.one o.there) (walls_fit place f.before) bad;
+      }
+
+-- a shape none of whose walls and amoebots breaks a rule
+pub faultless_fits : (maxes : List ℕ) (c : Config) (bs : List Bot) → IsFaultless c bs (length bs) → (s : WrittenShape) → HasWalls s → shape_frame maxes s ≡ frame c → map written_amoebot s.bots ≡ bs → shape_fault maxes s ≡ None
+faultless_fits maxes c bs fine s walls framed bots =
     let size : length bs ≡ length s.bots = sym (ap length bots) ∙ length-map s.bots written_amoebot in
     let here : AreFine (frame c) bs (length bs) = λ j b lt at. fine j b lt at in
-    none_broken (shape_frame maxes s) s.bots
+    let none : first_broken (shape_frame maxes s) s.bots ≡ None = none_broken (shape_frame maxes s) s.bots
     (subst (λ (n : ℕ). AreFine (shape_frame maxes s) (map written_amoebot s.bots) n) size
     (subst (λ (cs : List Bot). AreFine (shape_frame maxes s) cs (length bs)) (sym bots)
-    (subst (λ (x : Config). AreFine x bs (length bs)) (sym framed) here)))
+    (subst (λ (x : Config). AreFine x bs (length bs)) (sym framed) here))) in
+    rw (none_bad s.area [] s.walls walls) none
 
 pub judged_as_worlds : JudgedAsWorlds
 judged_as_worlds = record {
-  fine = λ maxes s fine. faultless_fits maxes (shape_frame maxes s) (map written_amoebot s.bots) (subst (λ (n : ℕ). IsFaultless (shape_frame maxes s) (map written_amoebot s.bots) n) (sym (length-map s.bots written_amoebot)) fine) s refl refl;
-  first = λ maxes s e f w k at kind.
+  fine = λ maxes s walls fine. faultless_fits maxes (shape_frame maxes s) (map written_amoebot s.bots) (subst (λ (n : ℕ). IsFaultless (shape_frame maxes s) (map written_amoebot s.bots) n) (sym (length-map s.bots written_amoebot)) fine) s walls refl refl;
+  wall = λ maxes s place w f at.
+      let there : Some f.wall ≡ Some w.node = sym f.there ∙ slice_get-map written_node s.walls place ∙ ap (option_map written_node) at in
+      let same : f.wall ≡ w.node = cc in
+      let bad : is_bad_wall s.area (take place (map written_node s.walls)) w.node ≡ true = ap (is_bad_wall s.area (take place (map written_node s.walls))) (sym same) ∙ f.bad in
+      rw (one_bad s.area [] s.walls place w at f.before bad) refl;
+  first = λ maxes s e walls f w k at kind.
       let there : Some f.bot ≡ Some w.bot = sym f.there ∙ slice_get-map written_amoebot s.bots f.place ∙ ap (option_map written_amoebot) at in
       let same : f.bot ≡ w.bot = cc in
       let was = with_these (shape_frame maxes s) (take f.place (map written_amoebot s.bots)) in
       let fault : bot_fault was w.bot ≡ Some e = ap (bot_fault was) (sym same) ∙ f.fault in
-      one_broken (shape_frame maxes s) s.bots f.place w (on_line w.line k) at (λ j b lt seen. f.before j b lt seen) (breaks_it was w e k fault kind);
+      rw (none_bad s.area [] s.walls walls) (one_broken (shape_frame maxes s) s.bots f.place w (on_line w.line k) at (λ j b lt seen. f.before j b lt seen) (breaks_it was w e k fault kind));
 }
 
 -- ---- amoebots of which none breaks a rule
@@ -232,5 +312,6 @@ all_fine c (w ∷ ws) none (suc j) b lt at =
 -- a shape without a fault is one of which a world refuses nothing
 pub unrefused : (maxes : List ℕ) (s : WrittenShape) → shape_fault maxes s ≡ None → IsFaultless (shape_frame maxes s) (map written_amoebot s.bots) (length (map written_amoebot s.bots))
 unrefused maxes s none j b lt at =
+    let both = first_alone (first_bad_wall s.area [] s.walls) (first_broken (shape_frame maxes s) s.bots) none in
     let size : length (map written_amoebot s.bots) ≡ length s.bots = length-map s.bots written_amoebot in
-    all_fine (shape_frame maxes s) s.bots none j b (omega arith) at
+    all_fine (shape_frame maxes s) s.bots both.1 j b (omega arith) at

@@ -6,6 +6,7 @@ pub mod Shapes
 pub mod TextRows
 pub mod Texts
 pub mod Views
+pub mod WallRows
 pub use Rattle.amoebot_state.specs.Limits
 pub use Rattle.text_tokens.specs.Lawful
 pub use Rattle.text_tokens.specs.Steps

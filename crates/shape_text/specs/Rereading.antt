@@ -1,5 +1,5 @@
 -- A shape is read back from its text.
-use Rattle.std.specs.Prelude.{◌≡◌, ◌<◌, ◌≤◌, ◌-◌, ℕ, false, [], Some, length, drop, replicate, Ok, codes}
+use Rattle.std.specs.Prelude.{◌≡◌, ◌<◌, ◌≤◌, ◌-◌, ℕ, [], false, Some, length, drop, replicate, Ok, codes}
 use Rattle.std.specs.Option.{IsSome}
 use Rattle.std.specs.List.{All}
 use Rattle.amoebot_state.specs.declared.bot.Bot.{Bot}
@@ -12,7 +12,7 @@ use Rattle.shape_text.specs.Texts.{shape_text}
 
 -- What a world is: valid, with at most 4,096 amoebots, whose ids have no gaps.
 -- No maximum is above 255, and the amoebots have 0 past the variables.
--- It has walls only in a version that may have them.
+-- In a version that has no word for walls it has none.
 pub record IsWritableConfig (version vars : ℕ) (c : Config) : Type 0 where
   pub valid : IsValid c
   pub walls : may_have_walls version ≡ false → c.walls ≡ []
@@ -26,11 +26,5 @@ pub record ShapeReadsBack (version vars : ℕ) (c : Config) : Type 0 where
   pub shape : Says (IsShape version vars c.maxes) (shape_text (codes "shape") vars c) (Ok c)
   pub final : Says (IsFinal version vars c.maxes) (shape_text (codes "final") vars c) (Ok c)
 
--- in a version without walls, since a text of a shape has none
 abbrev pub ShapesReadBack : Type 0
-ShapesReadBack =
-    (version vars : ℕ) (c : Config)
-    → may_have_walls version ≡ false
-    → vars ≤ most_vars
-    → IsWritableConfig version vars c
-    → ShapeReadsBack version vars c
+ShapesReadBack = (version vars : ℕ) (c : Config) → vars ≤ most_vars → IsWritableConfig version vars c → ShapeReadsBack version vars c

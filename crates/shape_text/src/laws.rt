@@ -8,6 +8,7 @@ ghost use Rattle.shape_text.specs.Judgements.{JudgedAsWorlds};
 ghost use Rattle.shape_text.specs.Rereading.{ShapesReadBack};
 ghost use Rattle.shape_text.specs.ShapeRows.{ShapesAreRead};
 ghost use Rattle.shape_text.specs.TextRows.{ShapeTextsArePrinted};
+ghost use Rattle.shape_text.specs.WallRows.{WallsAreRead};
 
 /// Of any tokens the grammar of a shape says one thing, and its reader answers that; and so does that of a last shape.
 pub fn shapes_are_decided()
@@ -18,7 +19,12 @@ pub fn shapes_are_decided()
     ensures read { ShapesAreRead }
 {}
 
-/// A world whose amoebots have 0 past the variables is read back from its text.
+/// Small texts with walls, with what they are read as.
+pub fn walls_are_read()
+    ensures { WallsAreRead }
+{}
+
+/// A world whose amoebots have 0 past the variables is read back from its text, in a version whose texts may have its walls.
 pub fn shapes_read_back()
     ensures { ShapesReadBack }
 {}

@@ -27,7 +27,7 @@ fn read_text(alloc: Global, text: &[u8], vars: u8, maxes: [u8; 8]) -> Result<Wor
         return Err(ReadRefusal::NoMemory);
     }
     let mut tokens = Tokens::new(text);
-    let world = read_shape(alloc, &mut tokens, vars, maxes)?;
+    let world = read_shape(alloc, &mut tokens, 1, vars, maxes)?;
     tokens.end(Trailing)?;
     Ok(world)
 }
@@ -38,7 +38,7 @@ fn read_last(alloc: Global, text: &[u8]) -> Result<World, ReadRefusal> {
         return Err(ReadRefusal::NoMemory);
     }
     let mut tokens = Tokens::new(text);
-    let world = read_final(alloc, &mut tokens, 1, UP_TO_3)?;
+    let world = read_final(alloc, &mut tokens, 1, 1, UP_TO_3)?;
     tokens.end(Trailing)?;
     Ok(world)
 }

@@ -8,4 +8,4 @@ use Rattle.command_answers.proofs.of_check.answer_check.Goals as goal
 pub returns : goal.returns
 returns c = same_answer Check (contents c.args.parts) _ _ c.done.ensures
     (is_checked (contents c.args.parts) c.in_ok-text.text c.unwrap.result c.unwrap.ensures
-    (c.in_ok-text.ensures ∙ ap (λ (v : ℕ). check_text v c.program-2.result.now) c.version-version.ensures ∙ ap (check_text (contents c.args.parts).version) c.program-2.ensures.program))
+    (c.in_ok-text.ensures ∙ ap (check_text (contents c.args.parts).version) c.program-2.ensures.program))

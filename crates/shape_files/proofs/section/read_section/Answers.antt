@@ -43,7 +43,7 @@ returns-in_err-world-in-Shape c =
     let p = err_from_is_err_and c.from_residual-in_err-world-in-Shape.result c.from_residual-in_err-world-in-Shape.ensures.1 in
     let s = contents c.args.parts.now in
     let e = c.in_err-world-in-Shape.field-0.0 in
-    let f : Failed (a_shape s.version c.vars.result c.maxes.result >>= λ v. pure (record s { world = Some v })) e c.args.tokens.now c.read_shape.new.tokens = not_kept (IsShape s.version c.vars.result c.maxes.result) (a_shape s.version c.vars.result c.maxes.result) (exact_shape s.version c.vars.result c.maxes.result) (λ (v : Config). record s { world = Some v }) c.args.tokens.now c.read_shape.new.tokens e (c.in_err-world-in-Shape.ensures.tells s.version) in
+    let f : Failed (a_shape s.version c.vars.result c.maxes.result >>= λ v. pure (record s { world = Some v })) e c.args.tokens.now c.read_shape.new.tokens = not_kept (IsShape s.version c.vars.result c.maxes.result) (a_shape s.version c.vars.result c.maxes.result) (exact_shape s.version c.vars.result c.maxes.result) (λ (v : Config). record s { world = Some v }) c.args.tokens.now c.read_shape.new.tokens e c.in_err-world-in-Shape.ensures.tells in
     let g = rw (c.vars.ensures.value, c.maxes.ensures) at f in
     rw (c.in-Shape.is, p.1, p.2) g
 
@@ -51,7 +51,7 @@ pub returns-in_ok-world-in-Shape : goal.returns-in_ok-world-in-Shape
 unfolding body
 returns-in_ok-world-in-Shape c =
     let s = contents c.args.parts.now in
-    let f : Reached (a_shape s.version c.vars.result c.maxes.result >>= λ v. pure (record s { world = Some v })) c.args.tokens.now (record s { world = Some c.in_ok-world-in-Shape.world }) c.read_shape.new.tokens = kept (IsShape s.version c.vars.result c.maxes.result) (a_shape s.version c.vars.result c.maxes.result) (exact_shape s.version c.vars.result c.maxes.result) (λ (v : Config). record s { world = Some v }) c.args.tokens.now c.read_shape.new.tokens c.in_ok-world-in-Shape.world (c.in_ok-world-in-Shape.ensures.tells s.version) in
+    let f : Reached (a_shape s.version c.vars.result c.maxes.result >>= λ v. pure (record s { world = Some v })) c.args.tokens.now (record s { world = Some c.in_ok-world-in-Shape.world }) c.read_shape.new.tokens = kept (IsShape s.version c.vars.result c.maxes.result) (a_shape s.version c.vars.result c.maxes.result) (exact_shape s.version c.vars.result c.maxes.result) (λ (v : Config). record s { world = Some v }) c.args.tokens.now c.read_shape.new.tokens c.in_ok-world-in-Shape.world c.in_ok-world-in-Shape.ensures.tells in
     let g = rw (c.vars.ensures.value, c.maxes.ensures) at f in
     rw c.in-Shape.is g
 
@@ -115,7 +115,7 @@ returns-in_err-world-in-Final c =
     let p = err_from_is_err_and c.from_residual-in_err-world-in-Final.result c.from_residual-in_err-world-in-Final.ensures.1 in
     let s = contents c.args.parts.now in
     let e = c.in_err-world-in-Final.field-0.0 in
-    let f : Failed (a_final s.version c.vars-in-Final.result c.maxes-in-Final.result >>= λ v. pure (record s { final_world = Some v })) e c.args.tokens.now c.read_final.new.tokens = not_kept (IsFinal s.version c.vars-in-Final.result c.maxes-in-Final.result) (a_final s.version c.vars-in-Final.result c.maxes-in-Final.result) (exact_final s.version c.vars-in-Final.result c.maxes-in-Final.result) (λ (v : Config). record s { final_world = Some v }) c.args.tokens.now c.read_final.new.tokens e (c.in_err-world-in-Final.ensures.tells s.version) in
+    let f : Failed (a_final s.version c.vars-in-Final.result c.maxes-in-Final.result >>= λ v. pure (record s { final_world = Some v })) e c.args.tokens.now c.read_final.new.tokens = not_kept (IsFinal s.version c.vars-in-Final.result c.maxes-in-Final.result) (a_final s.version c.vars-in-Final.result c.maxes-in-Final.result) (exact_final s.version c.vars-in-Final.result c.maxes-in-Final.result) (λ (v : Config). record s { final_world = Some v }) c.args.tokens.now c.read_final.new.tokens e c.in_err-world-in-Final.ensures.tells in
     let g = rw (c.vars-in-Final.ensures.value, c.maxes-in-Final.ensures) at f in
     rw (c.in-Final.is, p.1, p.2) g
 
@@ -123,7 +123,7 @@ pub returns-in_ok-world-in-Final : goal.returns-in_ok-world-in-Final
 unfolding body
 returns-in_ok-world-in-Final c =
     let s = contents c.args.parts.now in
-    let f : Reached (a_final s.version c.vars-in-Final.result c.maxes-in-Final.result >>= λ v. pure (record s { final_world = Some v })) c.args.tokens.now (record s { final_world = Some c.in_ok-world-in-Final.world }) c.read_final.new.tokens = kept (IsFinal s.version c.vars-in-Final.result c.maxes-in-Final.result) (a_final s.version c.vars-in-Final.result c.maxes-in-Final.result) (exact_final s.version c.vars-in-Final.result c.maxes-in-Final.result) (λ (v : Config). record s { final_world = Some v }) c.args.tokens.now c.read_final.new.tokens c.in_ok-world-in-Final.world (c.in_ok-world-in-Final.ensures.tells s.version) in
+    let f : Reached (a_final s.version c.vars-in-Final.result c.maxes-in-Final.result >>= λ v. pure (record s { final_world = Some v })) c.args.tokens.now (record s { final_world = Some c.in_ok-world-in-Final.world }) c.read_final.new.tokens = kept (IsFinal s.version c.vars-in-Final.result c.maxes-in-Final.result) (a_final s.version c.vars-in-Final.result c.maxes-in-Final.result) (exact_final s.version c.vars-in-Final.result c.maxes-in-Final.result) (λ (v : Config). record s { final_world = Some v }) c.args.tokens.now c.read_final.new.tokens c.in_ok-world-in-Final.world c.in_ok-world-in-Final.ensures.tells in
     let g = rw (c.vars-in-Final.ensures.value, c.maxes-in-Final.ensures) at f in
     rw c.in-Final.is g
 
@@ -133,12 +133,12 @@ returns-in_err-read_turns-in-Turns c =
     let p = err_from_is_err_and c.from_residual-in_err-read_turns-in-Turns.result c.from_residual-in_err-read_turns-in-Turns.ensures.1 in
     let s = contents c.args.parts.now in
     let e = c.in_err-read_turns-in-Turns.field-0.0 in
-    let f : Failed (the_turns s.version >>= λ v. pure (s)) e c.args.tokens.now c.read_turns.new.tokens = not_kept (IsTurns s.version) (the_turns s.version) (exact_turns s.version) (λ (v : Unit {0}). s) c.args.tokens.now c.read_turns.new.tokens e (c.in_err-read_turns-in-Turns.ensures.tells s.version) in
+    let f : Failed (the_turns s.version >>= λ v. pure (s)) e c.args.tokens.now c.read_turns.new.tokens = not_kept (IsTurns s.version) (the_turns s.version) (exact_turns s.version) (λ (v : Unit {0}). s) c.args.tokens.now c.read_turns.new.tokens e c.in_err-read_turns-in-Turns.ensures.tells in
     rw (c.in-Turns.is, p.1, p.2) f
 
 pub returns-in_ok-read_turns-in-Turns : goal.returns-in_ok-read_turns-in-Turns
 unfolding body
 returns-in_ok-read_turns-in-Turns c =
     let s = contents c.args.parts.now in
-    let f : Reached (the_turns s.version >>= λ v. pure (s)) c.args.tokens.now (s) c.read_turns.new.tokens = kept (IsTurns s.version) (the_turns s.version) (exact_turns s.version) (λ (v : Unit {0}). s) c.args.tokens.now c.read_turns.new.tokens c.in_ok-read_turns-in-Turns.field-0 (c.in_ok-read_turns-in-Turns.ensures.tells s.version) in
+    let f : Reached (the_turns s.version >>= λ v. pure (s)) c.args.tokens.now (s) c.read_turns.new.tokens = kept (IsTurns s.version) (the_turns s.version) (exact_turns s.version) (λ (v : Unit {0}). s) c.args.tokens.now c.read_turns.new.tokens c.in_ok-read_turns-in-Turns.field-0 c.in_ok-read_turns-in-Turns.ensures.tells in
     rw c.in-Turns.is f

@@ -8,7 +8,7 @@ use Rattle.node_text.specs.PartReaders.{an_int, a_node, a_chirality, a_bot}
 use Rattle.text_tokens.proofs.SaysLemmas.{IsSaid, says}
 use Rattle.shape_text.specs.Shapes.{AreBots, IsShape, IsFinal}
 use Rattle.shape_text.specs.ShapeRows.{up_to_3, rising}
-use Rattle.shape_text.specs.Readers.{a_side, an_area, bot_word, a_bot_line, bots_from, a_drawing, a_written_shape, shape_under, a_shape, a_final}
+use Rattle.shape_text.specs.Readers.{a_side, an_area, wall_word, a_wall_line, walls_from, bot_word, a_bot_line, bots_from, a_drawing, a_written_shape, shape_under, a_shape, a_final}
 use Rattle.shape_text.proofs.ShapeLaws.{part_shape, part_final, exact_shape, exact_final, exact_bots}
 use Rattle.shape_text.proofs.laws.shapes_are_decided.Goals as goal
 
@@ -37,7 +37,7 @@ bots_told : (before : ℕ) → IsSaid (AreBots 0 before) (bots_from 0 before)
 bots_told before = says (AreBots 0 before) (bots_from 0 before) (exact_bots 0 before)
 
 pub returns-clause-read : goal.returns-clause-read
-unfolding skip ready sign_len front scan scan_end ahead_of last_of same_kind one_within the_line numeral either times elements repeated an_int a_node a_chirality a_bot a_side an_area bot_word a_bot_line bots_from a_drawing a_written_shape shape_under
+unfolding skip ready sign_len front scan scan_end ahead_of last_of same_kind one_within the_line numeral either times elements repeated an_int a_node a_chirality a_bot a_side an_area wall_word a_wall_line walls_from bot_word a_bot_line bots_from a_drawing a_written_shape shape_under
 returns-clause-read c = record {
   no_amoebot = told _ _ refl;
   long_and_round = told _ _ refl;

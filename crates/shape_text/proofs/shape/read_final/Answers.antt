@@ -6,7 +6,7 @@ use Rattle.shape_text.proofs.ShapeLaws.{exact_final}
 use Rattle.shape_text.proofs.shape.read_final.Goals as goal
 
 pub returns-clause-tells : goal.returns-clause-tells
-returns-clause-tells c = λ version. tells_of (IsFinal version c.args.vars c.args.maxes) (λ (w : Config). w) (a_final version c.args.vars c.args.maxes) (exact_final version c.args.vars c.args.maxes) c.args.tokens.now c.read_under.result c.read_under.new.tokens c.read_under.ensures.reads
+returns-clause-tells c = tells_of (IsFinal c.args.version c.args.vars c.args.maxes) (λ (w : Config). w) (a_final c.args.version c.args.vars c.args.maxes) (exact_final c.args.version c.args.vars c.args.maxes) c.args.tokens.now c.read_under.result c.read_under.new.tokens c.read_under.ensures.reads
 
 pub returns-clause-reads : goal.returns-clause-reads
-returns-clause-reads c = λ version. reads_of (IsFinal version c.args.vars c.args.maxes) (λ (w : Config). w) (a_final version c.args.vars c.args.maxes) (exact_final version c.args.vars c.args.maxes) c.args.tokens.now c.read_under.result c.read_under.new.tokens c.read_under.ensures.reads
+returns-clause-reads c = reads_of (IsFinal c.args.version c.args.vars c.args.maxes) (λ (w : Config). w) (a_final c.args.version c.args.vars c.args.maxes) (exact_final c.args.version c.args.vars c.args.maxes) c.args.tokens.now c.read_under.result c.read_under.new.tokens c.read_under.ensures.reads

@@ -6,7 +6,7 @@ use Rattle.shape_text.proofs.ShapeLaws.{exact_shape}
 use Rattle.shape_text.proofs.shape.read_shape.Goals as goal
 
 pub returns-clause-tells : goal.returns-clause-tells
-returns-clause-tells c = λ version. tells_of (IsShape version c.args.vars c.args.maxes) (λ (w : Config). w) (a_shape version c.args.vars c.args.maxes) (exact_shape version c.args.vars c.args.maxes) c.args.tokens.now c.read_under.result c.read_under.new.tokens c.read_under.ensures.reads
+returns-clause-tells c = tells_of (IsShape c.args.version c.args.vars c.args.maxes) (λ (w : Config). w) (a_shape c.args.version c.args.vars c.args.maxes) (exact_shape c.args.version c.args.vars c.args.maxes) c.args.tokens.now c.read_under.result c.read_under.new.tokens c.read_under.ensures.reads
 
 pub returns-clause-reads : goal.returns-clause-reads
-returns-clause-reads c = λ version. reads_of (IsShape version c.args.vars c.args.maxes) (λ (w : Config). w) (a_shape version c.args.vars c.args.maxes) (exact_shape version c.args.vars c.args.maxes) c.args.tokens.now c.read_under.result c.read_under.new.tokens c.read_under.ensures.reads
+returns-clause-reads c = reads_of (IsShape c.args.version c.args.vars c.args.maxes) (λ (w : Config). w) (a_shape c.args.version c.args.vars c.args.maxes) (exact_shape c.args.version c.args.vars c.args.maxes) c.args.tokens.now c.read_under.result c.read_under.new.tokens c.read_under.ensures.reads
