@@ -64,6 +64,7 @@ impl Draft {
 
     /// The value of a variable below 8: without a port the amoebot's own, with one that of the occupant behind it. NoPort;
     /// NoNeighbour, where that node has none.
+    #[inline(never)]
     pub fn read(&self, port: Option<Port>, var: u8) -> Result<u8, Failure>
         requires { var < most_vars }
         ensures { result ≡ read self.now.reached (own_id self.now) port var }

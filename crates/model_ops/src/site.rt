@@ -87,6 +87,9 @@ impl Site {
         requires { var < most_vars }
         ensures { result ≡ read self.now.reached (own_id self.now) port var }
     {
+        if self.around.is_none() {
+            return self.draft.read(port, var);
+        }
         let id = self.owner(port)?;
         let bot = self.draft.bot_near(id, likely_place(port));
         Ok(bot.mem[usize::from(var)])
