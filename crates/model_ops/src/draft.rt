@@ -69,6 +69,7 @@ impl Draft {
 
     /// The value of a variable below 8: without a port the amoebot's own, with one that of the occupant behind it. NoPort;
     /// NoNeighbour, where that node has none.
+    #[inline(never)]
     pub fn read(&self, port: Option<Port>, var: u8) -> Result<u8, Failure>
         requires { var < most_vars }
         ensures { result ≡ read self.now.reached (own_id self.now) port var }
@@ -208,7 +209,23 @@ impl Draft {
         &self.members[0].now
     }
 
+    /// The amoebot with an id, for which this place is tried before it is looked for.
+    #[inline(always)]
+    pub(crate) fn bot_near(&self, id: u16, place: usize) -> &Bot
+        requires { IsSome (bot_at self.now.reached id) }
+        ensures value { bot_at self.now.reached id ≡ Some result.now }
+        ensures plain { IsBotInRange result.now }
+    {
+        let members = self.members.as_slice();
+        if place < members.len() && members[place].id == id {
+            &members[place].now
+        } else {
+            self.bot(id)
+        }
+    }
+
     /// The amoebot with an id.
+    #[inline(never)]
     pub(crate) fn bot(&self, id: u16) -> &Bot
         requires { IsSome (bot_at self.now.reached id) }
         ensures value { bot_at self.now.reached id ≡ Some result.now }

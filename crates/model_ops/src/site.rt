@@ -85,12 +85,17 @@ impl Site {
 
     /// The value of a variable below 8: without a port the amoebot's own, with one that of the occupant behind it. NoPort;
     /// NoNeighbour, where that node has none.
+    #[inline(always)]
     pub fn read(&self, port: Option<Port>, var: u8) -> Result<u8, Failure>
         requires { var < most_vars }
         ensures { result ≡ read self.now.reached (own_id self.now) port var }
     {
+        if self.around.is_none() {
+            return self.draft.read(port, var);
+        }
         let id = self.owner(port)?;
-        Ok(self.draft.bot(id).mem[usize::from(var)])
+        let bot = self.draft.bot_near(id, likely_place(port));
+        Ok(bot.mem[usize::from(var)])
     }
 
     /// What is seen of the neighbour behind a port. NoPort; NoNeighbour.
@@ -170,6 +175,7 @@ impl Site {
     }
 
     /// Whose memory is meant: the amoebot's own, or that of the occupant behind a port.
+    #[inline(always)]
     fn owner(&self, port: Option<Port>) -> Result<u16, Failure>
         ensures value { result ≡ owner self.now.reached (own_id self.now) port }
         ensures there { IfOk result (λ id. IsSome (bot_at self.now.reached id)) }
@@ -181,5 +187,14 @@ impl Site {
             },
             None => Ok(self.draft.own_id()),
         }
+    }
+}
+
+/// Where the owner of a memory stands among the amoebots, if each node before is occupied by one more amoebot.
+#[inline(always)]
+fn likely_place(port: Option<Port>) -> usize {
+    match port {
+        Some(port) => 1 + usize::from(port.dir),
+        None => 0,
     }
 }
