@@ -1,5 +1,5 @@
 -- What the code reads, as what the grammars say that a text stands for.
-use Rattle.std.specs.Prelude.{map}
+use Rattle.std.specs.Prelude.{List, map}
 use Rattle.amoebot_state.specs.declared.cell.CellName.{CellName}
 use Rattle.amoebot_state.specs.declared.cell.CellName.TheVariants as name
 use Rattle.amoebot_state.specs.declared.cell.Cell.{Cell}
@@ -23,5 +23,6 @@ pair (written_pair.Body id b) = (name.Body id, value.Body b)
 abbrev pub numbers : code_numbers.Numbers → Numbers
 numbers n = numbers_of n.place n.caller n.turn n.bot n.action
 
-abbrev pub entry_view : code_written.Written → Written
-entry_view w = written_entry w.line (numbers w.numbers) w.moved (map pair w.pairs.items)
+-- with these pairs
+abbrev pub entry_view : code_written.Written → List WrittenPair → Written
+entry_view w pairs = written_entry w.line (numbers w.numbers) w.moved (map pair pairs)

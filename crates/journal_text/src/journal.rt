@@ -1,10 +1,11 @@
 //! The section `journal` read.
 
-ghost use Rattle.std.specs.Prelude.{◌≡◌, ◌≢◌, ◌<◌, ◌≤◌, length, map, option_map, nat_lt, if◌then◌else◌, IfErr, IfOk, IfSome, Some, None};
+ghost use Rattle.std.specs.Prelude.{◌≡◌, ◌≢◌, ◌<◌, ◌≤◌, length, map, option_map, nat_lt, if◌then◌else◌, IfErr, IfOk, IfSome, Ok, Err, Some, None};
 ghost use Rattle.std.specs.List.{flat_map, list_all};
 ghost use Rattle.text_tokens.specs.Cursor.{next_passes};
 ghost use Rattle.text_tokens.specs.Steps.{Gives, ReadsOf, TellsOf, another};
-ghost use Rattle.text_tokens.specs.declared.refusal.ReadRefusal.TheVariants.{NoMemory};
+ghost use Rattle.text_tokens.specs.declared.refusal.ReadRefusal.TheVariants.{NoMemory, Refused};
+ghost use Rattle.text_tokens.specs.declared.refusal.RefusalKind.TheVariants.{BadEntry};
 ghost use Rattle.amoebot_state.specs.declared.cell.Cell.TheVariants as cell;
 ghost use Rattle.amoebot_state.specs.Limits.{most_vars, most_pairs};
 ghost use Rattle.claim_core.specs.Limits.{most_turns};
@@ -84,13 +85,15 @@ struct Numbers {
     action: u32,
 }
 
-/// An entry as it is written, with the line of its word.
-#[derive(Drop)]
+/// The pairs of an entry as they are written. Each entry's fill the same room.
+type Pairs = ArrayVec<WrittenPair, MOST_PAIRS>;
+
+/// An entry as it is written, with the line of its word and without its pairs.
+#[derive(Clone, Copy)]
 struct Written {
     line: u32,
     numbers: Numbers,
     moved: Moved,
-    pairs: ArrayVec<WrittenPair, MOST_PAIRS>,
 }
 
 /// A port behind this word.
@@ -197,20 +200,18 @@ fn more_pair(
     Ok(Some(read_pair(tokens, vars)?))
 }
 
-fn read_pairs(
-    tokens: &mut Tokens<'_>,
-    vars: u8,
-) -> Result<ArrayVec<WrittenPair, MOST_PAIRS>, ReadRefusal>
+/// The pairs of an entry, in place of those of the entry before.
+fn read_pairs(tokens: &mut Tokens<'_>, vars: u8, found: &mut Pairs) -> Result<(), ReadRefusal>
     requires { vars ≤ most_vars }
-    ensures { Gives (λ v. map view.pair v.items) (reader.all_pairs vars) tokens.old result tokens.new }
+    ensures { Gives (λ u. map view.pair found.new.items) (reader.all_pairs vars) tokens.old result tokens.new }
 {
-    let mut found = ArrayVec::new();
+    found.clear();
     let mut room = MOST_PAIRS as u32;
     while let Some(pair) = more_pair(tokens, vars, room)? {
         found.push(pair);
         room -= 1;
     }
-    Ok(found)
+    Ok(())
 }
 
 #[tactic(auto, unfolding(crate::specs::Readers::the_numbers))]
@@ -232,20 +233,24 @@ fn read_numbers(tokens: &mut Tokens<'_>) -> Result<Numbers, ReadRefusal>
 }
 
 #[tactic(auto, unfolding(crate::specs::Readers::a_written_entry, crate::specs::Readers::entry_word))]
-fn read_written(tokens: &mut Tokens<'_>, vars: u8, before: u32) -> Result<Written, ReadRefusal>
+fn read_written(
+    tokens: &mut Tokens<'_>,
+    vars: u8,
+    before: u32,
+    pairs: &mut Pairs,
+) -> Result<Written, ReadRefusal>
     requires { vars ≤ most_vars }
-    ensures reads { Gives view.entry_view (reader.a_written_entry vars before) tokens.old result tokens.new }
+    ensures reads { Gives (λ w. view.entry_view w pairs.new.items) (reader.a_written_entry vars before) tokens.old result tokens.new }
     ensures room { IfOk result (λ _. before < most_turns) }
 {
     let line = read_word_within(tokens, b"entry", MOST_ENTRIES, before)?;
     let numbers = read_numbers(tokens)?;
     let moved = read_moved(tokens)?;
-    let pairs = read_pairs(tokens, vars)?;
+    read_pairs(tokens, vars, pairs)?;
     Ok(Written {
         line,
         numbers,
         moved,
-        pairs,
     })
 }
 
@@ -286,10 +291,18 @@ fn known_patch(pairs: &[WrittenPair], bots: u16) -> Option<Patch>
     Some(patch)
 }
 
-/// The entry, if its caller and turn are ones that there may be, and its action and amoebots some of so many.
-fn known_entry(written: &Written, bots: u16, actions: u8) -> Option<Entry>
-    ensures { result ≡ if spec.is_known bots actions (view.entry_view written.now).entry
-        then Some (view.entry_view written.now).entry else None }
+/// The entry with these pairs, if its caller and turn are ones that there may be, and its action and amoebots some of so many.
+/// Else it is refused on its line.
+fn known_entry(
+    written: &Written,
+    pairs: &[WrittenPair],
+    bots: u16,
+    actions: u8,
+) -> Result<Entry, ReadRefusal>
+    requires { length pairs.now ≤ most_pairs }
+    ensures { result ≡ if spec.is_known bots actions (view.entry_view written.now pairs.now).entry
+        then Ok (view.entry_view written.now pairs.now).entry
+        else Err (Refused (record { line = written.now.line; kind = BadEntry })) }
 {
     let Numbers {
         caller,
@@ -303,17 +316,19 @@ fn known_entry(written: &Written, bots: u16, actions: u8) -> Option<Entry>
         || action >= u32::from(actions)
         || bot >= u32::from(bots)
     {
-        return None;
+        return Err(refused(written.line, RefusalKind::BadEntry));
     }
-    let patch = known_patch(written.pairs.as_slice(), bots)?;
-    Some(Entry {
-        caller: caller as u8,
-        turn,
-        bot: bot as u16,
-        action: action as u8,
-        moved: written.moved,
-        patch,
-    })
+    match known_patch(pairs, bots) {
+        Some(patch) => Ok(Entry {
+            caller: caller as u8,
+            turn,
+            bot: bot as u16,
+            action: action as u8,
+            moved: written.moved,
+            patch,
+        }),
+        None => Err(refused(written.line, RefusalKind::BadEntry)),
+    }
 }
 
 /// An entry behind so many. It is judged once no further pair comes.
@@ -324,37 +339,17 @@ fn read_entry(
     actions: u8,
     vars: u8,
     before: u32,
+    pairs: &mut Pairs,
 ) -> Result<Entry, ReadRefusal>
     requires { vars ≤ most_vars }
     ensures reads { Gives (λ e. e) (reader.an_entry bots actions vars before) tokens.old result tokens.new }
     ensures room { IfOk result (λ _. before < most_turns) }
 {
-    let written = read_written(tokens, vars, before)?;
+    let written = read_written(tokens, vars, before, pairs)?;
     if written.numbers.place != before {
         return Err(refused(written.line, RefusalKind::BadPlace));
     }
-    match known_entry(&written, bots, actions) {
-        Some(entry) => Ok(entry),
-        None => Err(refused(written.line, RefusalKind::BadEntry)),
-    }
-}
-
-/// One more entry, if one comes.
-fn more_entry(
-    tokens: &mut Tokens<'_>,
-    bots: u16,
-    actions: u8,
-    vars: u8,
-    before: u32,
-) -> Result<Option<Entry>, ReadRefusal>
-    requires { vars ≤ most_vars }
-    ensures reads { Gives (λ o. o) (another spec.is_entry (reader.an_entry bots actions vars before)) tokens.old result tokens.new }
-    ensures room { IfOk result (λ o. IfSome o (λ _. before < most_turns)) }
-{
-    if !tokens.is_next(TokenKind::Word, b"entry") {
-        return Ok(None);
-    }
-    Ok(Some(read_entry(tokens, bots, actions, vars, before)?))
+    known_entry(&written, pairs.as_slice(), bots, actions)
 }
 
 fn read_entries(
@@ -368,8 +363,10 @@ fn read_entries(
     ensures { Gives (λ v. v.items) (reader.all_entries bots actions vars) tokens.old result tokens.new }
 {
     let mut found = Vec::new(alloc);
+    let mut pairs = ArrayVec::new();
     let mut before = 0;
-    while let Some(entry) = more_entry(tokens, bots, actions, vars, before)? {
+    while tokens.is_next(TokenKind::Word, b"entry") {
+        let entry = read_entry(tokens, bots, actions, vars, before, &mut pairs)?;
         found.push(entry)?;
         before += 1;
     }

@@ -175,6 +175,7 @@ fn sign(len: usize) -> Lead
 
 /// The token at the front, or what is wrong there.
 #[tactic(auto, unfolding(crate::specs::Scan::front))]
+#[inline(always)]
 fn front(bytes: &[u8]) -> Lead
     ensures is { piece_of result ≡ scan.front bytes.now }
     ensures stands { HasItsNumber bytes.now result }
@@ -182,10 +183,10 @@ fn front(bytes: &[u8]) -> Lead
     match bytes {
         [] => Lead::fault(RefusalKind::Truncated),
         [b, ..] => {
-            if is_letter(*b) {
-                word(word_len(bytes))
-            } else if is_digit(*b) {
+            if is_digit(*b) {
                 leading_number(bytes)
+            } else if is_letter(*b) {
+                word(word_len(bytes))
             } else {
                 sign(sign_len(bytes))
             }
@@ -209,6 +210,7 @@ fn comment_end(bytes: &[u8], from: usize) -> usize
 }
 
 /// How many bytes of blanks and comments stand at the front, and the line behind them.
+#[inline(always)]
 fn skip(bytes: &[u8], line: u32) -> (usize, u32)
     requires { line + length bytes.now < 2 ^ 32 }
     ensures skipped { (at : ℕ) → scan.skip false at line bytes.now
@@ -329,6 +331,7 @@ impl<'a> Tokens<'a> {
     }
 
     /// What `next` answers: it stays the same until a token is taken.
+    #[inline(always)]
     pub fn peek(&self) -> Result<Option<Token>, Refusal>
         ensures answer { result ≡ cursor.answer self.now }
         ensures spells { IfOk result (λ found. IfSome found (Spells self.now)) }
@@ -340,6 +343,7 @@ impl<'a> Tokens<'a> {
     }
 
     /// The next token, and `None` exactly where the text ends. A refusal, as `None`, changes nothing, so it comes again.
+    #[inline(always)]
     pub fn next(&mut self) -> Result<Option<Token>, Refusal>
         ensures answer { result ≡ cursor.answer self.old }
         ensures moves { self.new ≡ cursor.past_token self.old }
@@ -354,6 +358,7 @@ impl<'a> Tokens<'a> {
     }
 
     /// Moves behind the next token, if there is one.
+    #[inline(never)]
     fn skip_token(&mut self)
         ensures { self.new ≡ cursor.past_token self.old }
     {
@@ -454,6 +459,7 @@ impl<'a> Tokens<'a> {
 
     /// The next token, if it is this one, by its kind and its bytes. Else it is `Unexpected`, or what `refusal` says.
     /// An `Err` changes nothing.
+    #[inline(always)]
     pub fn take(&mut self, kind: TokenKind, text: &[u8]) -> Result<Token, Refusal>
         ensures answer { result ≡ expect (is_the kind text.now) self.old }
         ensures moves { OnOk result (self.new ≡ cursor.past_token self.old) }
@@ -468,6 +474,7 @@ impl<'a> Tokens<'a> {
 
     /// The next token, if it is of this kind. Else it is `Unexpected`, or what `refusal` says. An `Err` changes nothing. A number
     /// that was taken is one for `number`.
+    #[inline(always)]
     pub fn take_kind(&mut self, kind: TokenKind) -> Result<Token, Refusal>
         ensures answer { result ≡ expect (is_kind kind) self.old }
         ensures moves { OnOk result (self.new ≡ cursor.past_token self.old) }
@@ -482,6 +489,7 @@ impl<'a> Tokens<'a> {
     }
 
     /// The next token, whichever it is. Where there is none, it is refused as `refusal` says.
+    #[inline(always)]
     pub fn take_any(&mut self) -> Result<Token, Refusal>
         ensures answer { result ≡ expect (λ _. true) self.old }
         ensures moves { OnOk result (self.new ≡ cursor.past_token self.old) }

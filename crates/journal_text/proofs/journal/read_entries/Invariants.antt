@@ -7,8 +7,8 @@ use Rattle.journal_text.specs.Journals.{is_entry}
 use Rattle.journal_text.specs.Readers.{an_entry, all_entries}
 use Rattle.journal_text.proofs.journal.read_entries.Given as goal
 
-abbrev pub invariant-loop-found : goal.invariant-loop-found
-invariant-loop-found l = record { reads : StillReads (all_entries l.bots l.actions l.vars) l.fn.tokens l.found.items (repeated is_entry (an_entry l.bots l.actions l.vars) one_more l.before) l.tokens; few : l.before ≤ most_turns }
+abbrev pub invariant-loop-pairs : goal.invariant-loop-pairs
+invariant-loop-pairs l = record { reads : StillReads (all_entries l.bots l.actions l.vars) l.fn.tokens l.found.items (repeated is_entry (an_entry l.bots l.actions l.vars) one_more l.before) l.tokens; few : l.before ≤ most_turns }
 
-abbrev pub decreases-loop-found : goal.decreases-loop-found
-decreases-loop-found l = most_turns - l.before
+abbrev pub decreases-loop-pairs : goal.decreases-loop-pairs
+decreases-loop-pairs l = most_turns - l.before

@@ -13,7 +13,7 @@ use Rattle.journal_text.proofs.journal.read_pairs.Goals as goal
 
 pub loop-pair-init : goal.loop-pair-init
 unfolding all_pairs
-loop-pair-init c = record { reads = loop_begins (all_pairs c.args.vars) c.args.tokens.now (map view.pair c.new-found.result.items) (ap (λ (ps : List WrittenPair). map view.pair ps) c.new-found.ensures); room = rw c.new-found.ensures refl }
+loop-pair-init c = record { reads = loop_begins (all_pairs c.args.vars) c.args.tokens.now (map view.pair c.clear.new.self.items) (ap (λ (ps : List WrittenPair). map view.pair ps) c.clear.ensures); room = rw c.clear.ensures refl }
 
 pub returns-in_err-pair : goal.returns-in_err-pair
 returns-in_err-pair c =
