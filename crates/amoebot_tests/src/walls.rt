@@ -12,8 +12,8 @@ use std::test::Fail;
 use std::thread::Threads;
 use text_tokens::RefusalKind::{BadRange, BadWall, OnWall, Unexpected};
 
-/// One turn of amoebot 0: the program between its first word and its last; the walls by rising number, and the amoebots; how many entries there
-/// are, and the entry; the amoebots at the end; and the mark.
+/// One turn of amoebot 0: the program between its first word and its last; the walls by rising number, and the amoebots;
+/// how many entries there are, and the entry; the amoebots at the end; and the mark.
 type Turn = (
     &'static str,
     &'static str,
