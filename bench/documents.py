@@ -24,6 +24,11 @@ def spread(side):
     return [(x, y) for y in range(0, side, 2) for x in range(0, side, 2)]
 
 
+def between(side):
+    """Every node of the rows that `spread` leaves empty: half of the area."""
+    return [(x, y) for y in range(1, side, 2) for x in range(side)]
+
+
 def packed(side):
     """A square of half the side in the corner."""
     return [(x, y) for y in range(side // 2) for x in range(side // 2)]
@@ -37,17 +42,21 @@ def middle(side):
     return [centre, *(node for node in nodes if node != centre)]
 
 
-def document(side, program, nodes, values="", lists=None, turns=None, schedule=None):
-    """The text of a document with contracted amoebots on these nodes. `values` are the values of each, or a function that gives those of a number."""
+def document(side, program, nodes, values="", lists=None, turns=None, schedule=None, walls=()):
+    """The text of a document with contracted amoebots on these nodes. `values` are the values of each, or a function that gives those of a number.
+
+    With walls it is one of version 2.
+    """
     of = values if callable(values) else lambda number: values
     lists = [range(len(nodes))] if lists is None else lists
     lines = [
-        "amoebot 1",
+        "amoebot 2" if walls else "amoebot 1",
         "program",
         program,
         "end",
         "shape",
         f"area 0 0 {side} {side}",
+        *(f"wall {x} {y}" for x, y in walls),
         *(f"bot {x} {y} {x} {y} 0 + {of(number)}".rstrip() for number, (x, y) in enumerate(nodes)),
         "end",
         "lists",
@@ -72,6 +81,16 @@ def line(side):
     return document(side, program_of("line"), spread(side))
 
 
+def walled(side):
+    """The document `line` with walls on the rows between. The amoebots stay in their rows, so the entries are the same."""
+    return document(side, program_of("line"), spread(side), walls=between(side))
+
+
+def full_of_walls(side):
+    """Each node is a wall, so there is no amoebot."""
+    return document(side, MARK, [], lists=[], walls=[(x, y) for y in range(side) for x in range(side)])
+
+
 def mark(side):
     return document(side, MARK, middle(side), "0")
 
@@ -80,13 +99,14 @@ def expands(nodes):
     return lambda side: document(side, OUT, nodes(side))
 
 
-# For each name the document of a side of the area; the amoebots are a quarter of its nodes.
+# For each name the document of a side of the area; the amoebots are a quarter of its nodes. In `walled` the walls are half of them.
 RUNS = {
     "spread": expands(spread),
     "packed": expands(packed),
     "hexagon": hexagon,
     "erosion": erosion,
     "line": line,
+    "walled": walled,
     "mark": mark,
 }
 
@@ -104,18 +124,35 @@ def guarded_row():
     return text.replace("area 0 0 128 128\n", "area 0 0 128 21\n")
 
 
-def interleaved(side, callers, steps):
-    """Callers whose lists hold all ids, each from a place of its own on, and so many steps of callers that are drawn."""
-    nodes = middle(side)
-    count = len(nodes)
-    lists = [[(number + caller * count // callers) % count for number in range(count)] for caller in range(callers)]
+def shifted(count, callers):
+    """Lists of all ids, each from a place of its own on."""
+    return [[(number + caller * count // callers) % count for number in range(count)] for caller in range(callers)]
+
+
+def drawn_steps(callers, steps):
+    """So many steps of callers that are drawn."""
     drawn = random.Random(1)
     schedule, left = [], steps
     while left:
         times = min(left, drawn.randrange(1, 60))
         schedule.append(f"{drawn.randrange(callers)} times {times}")
         left -= times
-    return document(side, MARK, nodes, "0", lists, TURNS_OF_EACH * count // callers, schedule)
+    return schedule
+
+
+def interleaved(side, callers, steps):
+    """Callers whose lists hold all ids, and so many steps."""
+    nodes = middle(side)
+    count = len(nodes)
+    return document(side, MARK, nodes, "0", shifted(count, callers), TURNS_OF_EACH * count // callers, drawn_steps(callers, steps))
+
+
+def walled_interleaved(side, callers, steps):
+    """The same with the program, the amoebots and the walls of `walled`."""
+    nodes = spread(side)
+    count = len(nodes)
+    lists, turns = shifted(count, callers), TURNS_OF_EACH * count // callers
+    return document(side, program_of("line"), nodes, "", lists, turns, drawn_steps(callers, steps), between(side))
 
 
 def in_lists(text, callers):

@@ -32,7 +32,7 @@ syntax keyword amoebotConstant contained true false contracted expanded on off p
 syntax keyword amoebotMove contained none expand contract push pull
 
 " Words of a shape, of lists and of a schedule.
-syntax keyword amoebotPlace contained area bot
+syntax keyword amoebotPlace contained area wall bot
 syntax keyword amoebotList contained turns list
 syntax keyword amoebotTimes contained times
 
@@ -43,7 +43,7 @@ syntax keyword amoebotCell contained spot body empty
 syntax keyword amoebotTurn contained turn
 syntax keyword amoebotMark contained done idle failed busy by place
 syntax keyword amoebotFailure contained no_port no_neighbour out_of_range occupied not_contracted not_expanded
-syntax keyword amoebotFailure contained peer_not_expanded peer_not_contracted edge would_split no_choice
+syntax keyword amoebotFailure contained peer_not_expanded peer_not_contracted edge would_split no_choice blocked
 
 syntax match amoebotNumber '\<\d\+'
 syntax match amoebotSign ':=\|!=\|<=\|>=\|[=<>+.;-]'

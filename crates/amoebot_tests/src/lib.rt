@@ -23,3 +23,5 @@ mod runs;
 mod tampered;
 #[cfg(test)]
 mod tests;
+#[cfg(test)]
+mod walls;

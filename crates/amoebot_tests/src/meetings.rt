@@ -11,7 +11,7 @@ pub const ONE_FOR_SIXTEEN: &[&str] = &[
 ];
 
 /// Worlds with few amoebots whose zones meet, in the lists of two, four and sixteen callers.
-pub const MEETINGS: [&[&str]; 3] = [
+pub const MEETINGS: [&[&str]; 4] = [
     // A light spreads from one amoebot to the three others.
     &[
         "amoebot 1\nprogram\nvar lit 1\n\
@@ -27,6 +27,16 @@ pub const MEETINGS: [&[&str]; 3] = [
         "shape\narea 0 0 8 8\n",
         "bot 2 3 2 3 0 +\nbot 4 3 4 3 3 +\nbot 7 4 7 4 0 +\nbot 6 4 6 4 0 +\n",
         "end\nlists\nturns 6\nlist 0 2\nlist 1\nlist 3 0 1\nlist 2 3\nend\n",
+    ],
+    // Two amoebots go towards each other in a corridor of walls, which each caller claims too.
+    &[
+        "amoebot 2\nprogram\naction out when contracted move expand head 0\n\
+        action back when expanded move contract tail\nend\n",
+        "shape\narea 0 0 8 3\nwall 0 1\nwall 7 1\nwall 4 1\n",
+        "wall 1 0\nwall 2 0\nwall 3 0\nwall 4 0\nwall 5 0\nwall 6 0\n",
+        "wall 1 2\nwall 2 2\nwall 3 2\nwall 4 2\nwall 5 2\nwall 6 2\n",
+        "bot 1 1 1 1 0 +\nbot 6 1 6 1 3 +\n",
+        "end\nlists\nturns 8\nlist 0 1\nlist 1 0\nend\n",
     ],
     ONE_FOR_SIXTEEN,
 ];

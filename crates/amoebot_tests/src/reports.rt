@@ -71,7 +71,7 @@ fn is_report_of(alloc: Global, document: &str, report: &Report) -> Result<bool, 
     is_report(alloc, &runner, &world, &lists, report)
 }
 
-/// Sixty runs, of two, four and sixteen lists.
+/// Eighty runs, of two, four and sixteen lists.
 #[test]
 fn reports_where_zones_meet_pass_the_checker_and_agree(rt: HostRuntime) -> Result<(), Fail> {
     for pieces in MEETINGS {
