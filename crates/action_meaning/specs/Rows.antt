@@ -508,7 +508,8 @@ walled_verdict_rows =
     ∷ decided 0 (moves (tree.through tree.expand (head 3))) (verdict.Failed Occupied)
     ∷ decided 0 (moves (tree.through tree.push (head 0))) (verdict.Failed NoNeighbour)
     ∷ decided 0 (moves (tree.through tree.expand (first_p Free yes)))
-    (moving (moved.Expand (port Head 2)) ((name.Spot (node 2 4), cell.Spot (Some 0)) ∷ patched 0 (body (node 2 4) (node 3 3) 0 chir.Plus 4 6) ∷ []))
+    (moving (moved.Expand (port Head 2))
+    ((name.Spot (node 2 4), cell.Spot (Some 0)) ∷ patched 0 (body (node 2 4) (node 3 3) 0 chir.Plus 4 6) ∷ []))
     ∷ []
 
 -- no node to enter
