@@ -96,6 +96,8 @@ module _ (c : Config) (i : ℕ) (b : Bot) (m : Marking c i b) where
   after_valid = record {
     area = m.valid.area;
     eight = m.valid.eight;
+    rising = m.valid.rising;
+    walled = m.valid.walled;
     each = λ j a e. elim (cases_eq j i) [
       | inl same ↦
           let was = m.valid.each i b m.there in
@@ -103,6 +105,8 @@ module _ (c : Config) (i : ℕ) (b : Bot) (m : Marking c i b) where
           (record {
             head = was.head;
             tail = was.tail;
+            head_open = was.head_open;
+            tail_open = was.tail_open;
             close = was.close;
             rot = was.rot;
             values = fits c.maxes b.mem m.may was.values;
