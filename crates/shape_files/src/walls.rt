@@ -2,7 +2,7 @@
 
 use crate::Form;
 use crate::Form::{Check, Measure, Replay, Run};
-use crate::pieces::{HEAD, PROGRAM};
+use crate::pieces::{FINAL, HEAD, JOURNAL, PROGRAM, SHAPE};
 use text_tokens::RefusalKind;
 use text_tokens::RefusalKind::{
     BadByte, BadRange, BadWall, NotAdjacent, OnWall, OutOfBox, Overlap, Truncated, Unexpected,
@@ -137,7 +137,10 @@ pub static WALLS: [Walled; 54] = [
         &[
             HEAD_2,
             PROGRAM,
-            "shape\narea 0 0 8 8\nbot 2 3 2 3 0 +\nend\njournal\nend\nfinal\narea 0 0 8 8\nbot 2 3 2 3 0 +\nend\nturns\nturn 0 0 failed blocked 0\nend\n",
+            SHAPE,
+            JOURNAL,
+            FINAL,
+            "turns\nturn 0 0 failed blocked 0\nend\n",
         ],
         Ok([1, 0, 0]),
     ),
@@ -302,7 +305,10 @@ pub static WALLS: [Walled; 54] = [
         &[
             HEAD,
             PROGRAM,
-            "shape\narea 0 0 8 8\nbot 2 3 2 3 0 +\nend\njournal\nend\nfinal\narea 0 0 8 8\nbot 2 3 2 3 0 +\nend\nturns\nturn 0 0 failed\nblocked 0\nend\n",
+            SHAPE,
+            JOURNAL,
+            FINAL,
+            "turns\nturn 0 0 failed\nblocked 0\nend\n",
         ],
         Err((17, Unexpected)),
     ),

@@ -147,7 +147,8 @@ written_amoebot b = b.bot
 abbrev pub IsWrittenShape : Bool → List ℕ → ℕ → Lang WrittenShape
 IsWrittenShape may text vars =
     Then (IsWord text)
-    (λ line. Closed (Then IsAreaLine (λ area. Then (AreWallLines may 0) (λ walls. Made (AreBots vars 0) (λ bots. written_shape area walls bots)))) is_end)
+    (λ line. Closed (Then IsAreaLine (λ area. Then (AreWallLines may 0)
+    (λ walls. Made (AreBots vars 0) (λ bots. written_shape area walls bots)))) is_end)
 
 -- with these maxima of the variables: its frame, what is wrong with it, and the configuration that it stands for
 module _ (maxes : List ℕ) where

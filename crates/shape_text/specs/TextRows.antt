@@ -26,5 +26,7 @@ pub record ShapeTextsArePrinted : Type 0 where
       ≡ codes "shape\narea 0 0 8 8\nbot -3 0 -4 0 5 - 1 255 0 0 0 0 0 0\nend\n"
   -- walls by their numbers, before the amoebots
   pub walls : shape_text (codes "final") 0
-      (with_these (walled_frame eight_by_eight (a_node_of (pos 3) (pos 3) ∷ a_node_of (pos 7) (pos 0) ∷ a_node_of (pos 0) (pos 3) ∷ []) rising) (shape_bot (pos 2) (pos 3) (pos 2) (pos 3) 0 Plus [] ∷ []))
+      (with_these
+      (walled_frame eight_by_eight (a_node_of (pos 3) (pos 3) ∷ a_node_of (pos 7) (pos 0) ∷ a_node_of (pos 0) (pos 3) ∷ []) rising)
+      (shape_bot (pos 2) (pos 3) (pos 2) (pos 3) 0 Plus [] ∷ []))
       ≡ codes "final\narea 0 0 8 8\nwall 7 0\nwall 0 3\nwall 3 3\nbot 2 3 2 3 0 +\nend\n"
