@@ -69,8 +69,8 @@ program_fits p f =
 -- ---- shapes
 
 -- a shape of the version with these maxima
-record ShapeFits (version : ℕ) (maxes : List ℕ) (c : Config) : Type 0 where
-  pub maxes : c.maxes ≡ maxes
+record ShapeFits (version : ℕ) (most : List ℕ) (c : Config) : Type 0 where
+  pub maxes : c.maxes ≡ most
   pub walls : may_have_walls version ≡ false → c.walls ≡ []
 
 -- a text that may have no walls has none

@@ -26,7 +26,7 @@ use Rattle.text_tokens.proofs.LinesLemmas.{Found, Is, RereadsLines, lines_made, 
 use Rattle.journal_text.proofs.JournalsReread.{journal_lines}
 use Rattle.journal_text.proofs.TurnsReread.{turns_lines}
 use Rattle.shape_text.specs.Shapes.{IsFinal}
-use Rattle.shape_text.specs.Texts.{area_words, bot_line, present}
+use Rattle.shape_text.specs.Texts.{area_words, wall_lines, bot_line, present}
 use Rattle.shape_text.proofs.ShapesReread.{config_lines, final_word}
 use Rattle.shape_files.specs.declared.section_kind.Section.{Section}
 use Rattle.shape_files.specs.declared.section_kind.Section.TheVariants.{Program, Shape, Lists, Schedule, Journal, Turns}
@@ -98,7 +98,7 @@ module _ (a : Contents) (es : List Entry) (c : Config) (m : MarkLists) (k : Keep
   of_journal = (codes "journal" ∷ []) ∷ map (entry_words vars) (enumerate_from 0 es) ++ last_line ∷ []
 
   abbrev of_final : List Words
-  of_final = (codes "final" ∷ []) ∷ (area_words c.area ∷ map (bot_line vars) (present c.bots)) ++ last_line ∷ []
+  of_final = (codes "final" ∷ []) ∷ (area_words c.area ∷ wall_lines c.area c.walls ++ map (bot_line vars) (present c.bots)) ++ last_line ∷ []
 
   abbrev of_turns : List Words
   of_turns = (codes "turns" ∷ []) ∷ flat_map caller_lines (enumerate_from 0 m.marks) ++ last_line ∷ []
