@@ -5,7 +5,6 @@ use Rattle.std.proofs.Math.ListN.{drop_of_length-le}
 use Rattle.std.proofs.lemmas.Bool.{and_parts}
 use Rattle.amoebot_state.specs.declared.bot.Port.{Port}
 use Rattle.amoebot_state.specs.declared.verdict.Failure.{Failure}
-use Rattle.amoebot_state.specs.Ports.{all_ports}
 use Rattle.model_ops.specs.Sights.{Sight}
 use Rattle.action_tree.specs.declared.expression.Guard as code
 use Rattle.action_tree.specs.declared.expression.PortSet.{PortSet}
@@ -78,16 +77,16 @@ some_over s xs sc gs i left l = rw (drop_of_length-le gs l) at left.told
 
 -- ---- ports, with the number of those counted before
 
-pub count_next : (asked : Asked) (whole : Result ℕ Failure) (s : Sight) (set : PortSet) (i n : ℕ) (d : Port) → whole ≡ and_so_many n (count_of_ports asked (ports_from s set i)) → i < length all_ports → is_in_set s set (get_or all_ports i d) ≡ true → asked (get_or all_ports i d) ≡ Ok false → whole ≡ and_so_many n (count_of_ports asked (ports_from s set (i + 1)))
-count_next asked whole s set i n d left l is e = told_here (λ ps. and_so_many n (count_of_ports asked ps)) whole s set i d _ left l is (ap (and_so_many n) (count_goes_on asked _ _ e))
+pub count_next : (asked : Asked) (whole : Result ℕ Failure) (s : Sight) (set : PortSet) (ps : List Port) (i n : ℕ) (d : Port) → whole ≡ and_so_many n (count_of_ports asked (ports_from s set ps i)) → i < length ps → is_in_set s set (get_or ps i d) ≡ true → asked (get_or ps i d) ≡ Ok false → whole ≡ and_so_many n (count_of_ports asked (ports_from s set ps (i + 1)))
+count_next asked whole s set ps i n d left l is e = told_here (λ qs. and_so_many n (count_of_ports asked qs)) whole s set ps i d _ left l is (ap (and_so_many n) (count_goes_on asked _ _ e))
 
-pub count_here : (asked : Asked) (whole : Result ℕ Failure) (s : Sight) (set : PortSet) (i n : ℕ) (d : Port) → whole ≡ and_so_many n (count_of_ports asked (ports_from s set i)) → i < length all_ports → is_in_set s set (get_or all_ports i d) ≡ true → asked (get_or all_ports i d) ≡ Ok true → whole ≡ and_so_many (n + 1) (count_of_ports asked (ports_from s set (i + 1)))
-count_here asked whole s set i n d left l is e = told_here (λ ps. and_so_many n (count_of_ports asked ps)) whole s set i d _ left l is (ap (and_so_many n) (count_one_more asked _ _ e) ∙ sym (and_more n 1 (count_of_ports asked (ports_from s set (i + 1)))))
+pub count_here : (asked : Asked) (whole : Result ℕ Failure) (s : Sight) (set : PortSet) (ps : List Port) (i n : ℕ) (d : Port) → whole ≡ and_so_many n (count_of_ports asked (ports_from s set ps i)) → i < length ps → is_in_set s set (get_or ps i d) ≡ true → asked (get_or ps i d) ≡ Ok true → whole ≡ and_so_many (n + 1) (count_of_ports asked (ports_from s set ps (i + 1)))
+count_here asked whole s set ps i n d left l is e = told_here (λ qs. and_so_many n (count_of_ports asked qs)) whole s set ps i d _ left l is (ap (and_so_many n) (count_one_more asked _ _ e) ∙ sym (and_more n 1 (count_of_ports asked (ports_from s set ps (i + 1)))))
 
-pub count_stops : (asked : Asked) (whole : Result ℕ Failure) (s : Sight) (set : PortSet) (i n : ℕ) (d : Port) (f : Failure) → whole ≡ and_so_many n (count_of_ports asked (ports_from s set i)) → i < length all_ports → is_in_set s set (get_or all_ports i d) ≡ true → asked (get_or all_ports i d) ≡ Err f → whole ≡ Err f
-count_stops asked whole s set i n d f left l is e = told_here (λ ps. and_so_many n (count_of_ports asked ps)) whole s set i d _ left l is (ap (and_so_many n) (count_fails asked _ _ f e))
+pub count_stops : (asked : Asked) (whole : Result ℕ Failure) (s : Sight) (set : PortSet) (ps : List Port) (i n : ℕ) (d : Port) (f : Failure) → whole ≡ and_so_many n (count_of_ports asked (ports_from s set ps i)) → i < length ps → is_in_set s set (get_or ps i d) ≡ true → asked (get_or ps i d) ≡ Err f → whole ≡ Err f
+count_stops asked whole s set ps i n d f left l is e = told_here (λ qs. and_so_many n (count_of_ports asked qs)) whole s set ps i d _ left l is (ap (and_so_many n) (count_fails asked _ _ f e))
 
-pub count_over : (asked : Asked) (whole : Result ℕ Failure) (s : Sight) (set : PortSet) (i n : ℕ) → whole ≡ and_so_many n (count_of_ports asked (ports_from s set i)) → length all_ports ≤ i → whole ≡ Ok n
-count_over asked whole s set i n left l =
+pub count_over : (asked : Asked) (whole : Result ℕ Failure) (s : Sight) (set : PortSet) (ps : List Port) (i n : ℕ) → whole ≡ and_so_many n (count_of_ports asked (ports_from s set ps i)) → length ps ≤ i → whole ≡ Ok n
+count_over asked whole s set ps i n left l =
     let e : n + 0 ≡ n = omega arith in
-    told_over (λ ps. and_so_many n (count_of_ports asked ps)) whole s set i left l ∙ ap Ok e
+    told_over (λ qs. and_so_many n (count_of_ports asked qs)) whole s set ps i left l ∙ ap Ok e

@@ -15,9 +15,9 @@ pub all_in_set : (s : Sight) (set : PortSet) → filter (is_in_set s set) all_po
 all_in_set s Ports = refl
 all_in_set s Free = refl
 
--- the ports of a set from a pair on
-abbrev pub ports_from : Sight → PortSet → ℕ → List Port
-ports_from s set i = filter (is_in_set s set) (drop i all_ports)
+-- the ports of a set among some pairs, from one of them on
+abbrev pub ports_from : Sight → PortSet → List Port → ℕ → List Port
+ports_from s set ps i = filter (is_in_set s set) (drop i ps)
 
 passes : (test : Port → Bool) (p : Port) (ps : List Port) → test p ≡ true → filter test (p ∷ ps) ≡ p ∷ filter test ps
 passes test p ps e = rw e refl
@@ -26,17 +26,17 @@ stays_out : (test : Port → Bool) (p : Port) (ps : List Port) → test p ≡ fa
 stays_out test p ps e = rw e refl
 
 -- what comes of all ports comes of those from a pair on, of which the first one, where it is a port of the set, tells what that is
-pub told_here : {A : Type 0} (f : List Port → A) (whole : A) (s : Sight) (set : PortSet) (i : ℕ) (d : Port) (r : A) → whole ≡ f (ports_from s set i) → i < length all_ports → is_in_set s set (get_or all_ports i d) ≡ true → f (get_or all_ports i d ∷ ports_from s set (i + 1)) ≡ r → whole ≡ r
-told_here f whole s set i d r left l is e =
+pub told_here : {A : Type 0} (f : List Port → A) (whole : A) (s : Sight) (set : PortSet) (ps : List Port) (i : ℕ) (d : Port) (r : A) → whole ≡ f (ports_from s set ps i) → i < length ps → is_in_set s set (get_or ps i d) ≡ true → f (get_or ps i d ∷ ports_from s set ps (i + 1)) ≡ r → whole ≡ r
+told_here f whole s set ps i d r left l is e =
     let test = is_in_set s set in
-    left ∙ ap f (ap (filter test) (drop_more all_ports i d l) ∙ passes test (get_or all_ports i d) (drop (i + 1) all_ports) is) ∙ e
+    left ∙ ap f (ap (filter test) (drop_more ps i d l) ∙ passes test (get_or ps i d) (drop (i + 1) ps) is) ∙ e
 
 -- where it is none, the others tell
-pub told_behind : {A : Type 0} (f : List Port → A) (whole : A) (s : Sight) (set : PortSet) (i : ℕ) (d : Port) → whole ≡ f (ports_from s set i) → i < length all_ports → is_in_set s set (get_or all_ports i d) ≡ false → whole ≡ f (ports_from s set (i + 1))
-told_behind f whole s set i d left l is =
+pub told_behind : {A : Type 0} (f : List Port → A) (whole : A) (s : Sight) (set : PortSet) (ps : List Port) (i : ℕ) (d : Port) → whole ≡ f (ports_from s set ps i) → i < length ps → is_in_set s set (get_or ps i d) ≡ false → whole ≡ f (ports_from s set ps (i + 1))
+told_behind f whole s set ps i d left l is =
     let test = is_in_set s set in
-    left ∙ ap f (ap (filter test) (drop_more all_ports i d l) ∙ stays_out test (get_or all_ports i d) (drop (i + 1) all_ports) is)
+    left ∙ ap f (ap (filter test) (drop_more ps i d l) ∙ stays_out test (get_or ps i d) (drop (i + 1) ps) is)
 
 -- behind the last pair
-pub told_over : {A : Type 0} (f : List Port → A) (whole : A) (s : Sight) (set : PortSet) (i : ℕ) → whole ≡ f (ports_from s set i) → length all_ports ≤ i → whole ≡ f []
-told_over f whole s set i left l = left ∙ ap (λ ps. f (filter (is_in_set s set) ps)) (drop_of_length-le all_ports l)
+pub told_over : {A : Type 0} (f : List Port → A) (whole : A) (s : Sight) (set : PortSet) (ps : List Port) (i : ℕ) → whole ≡ f (ports_from s set ps i) → length ps ≤ i → whole ≡ f []
+told_over f whole s set ps i left l = left ∙ ap (λ qs. f (filter (is_in_set s set) qs)) (drop_of_length-le ps l)

@@ -1,6 +1,6 @@
 //! The ports of an amoebot, and its inner direction.
 
-ghost use Rattle.std.specs.Prelude.{◌≡◌, ◌<◌, IfOk, unwrap_or};
+ghost use Rattle.std.specs.Prelude.{◌≡◌, ◌<◌, ◌≤◌, IfOk, filter, length, unwrap_or};
 ghost use Rattle.amoebot_state.specs.Ports.{is_port};
 ghost use Rattle.amoebot_state.specs.Refusals.{IsBotInRange};
 ghost use Rattle.action_meaning.specs.Values as spec;
@@ -22,6 +22,19 @@ pub fn ports_of(set: PortSet, site: &Site) -> ArrayVec<Port, 12>
         }
     }
     ports
+}
+
+/// The pairs that may be ports, in port order: of a contracted amoebot those of its head alone.
+#[inline(always)]
+pub fn pairs(site: &Site) -> &'static [Port]
+    ensures whole { (set : PortSet) → spec.ports_of (sight_of site.now) set ≡ filter (is_in_set (sight_of site.now) set) result.now }
+    ensures few { length result.now ≤ 12 }
+{
+    if site.own().is_contracted() {
+        &ALL_PORTS[..6]
+    } else {
+        &ALL_PORTS[..]
+    }
 }
 
 /// Whether a pair is a port of the set.

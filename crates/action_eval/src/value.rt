@@ -17,9 +17,9 @@ ghost use Rattle.action_eval.specs.UnderNames.{MayAsk, guard_at};
 use crate::names::Names;
 use crate::number::{compare, signed};
 use crate::plain::{plain_comparison, plain_port};
-use crate::port::{inner_value, is_one_of, is_own_port};
+use crate::port::{inner_value, is_one_of, is_own_port, pairs};
 use action_tree::{DirTerm, Guard, PortExpr, PortSet, Sum, Term, Word};
-use amoebot_state::{ALL_PORTS, End, Failure, Port};
+use amoebot_state::{End, Failure, Port};
 use model_ops::Site;
 
 /// What is asked of one port.
@@ -47,7 +47,7 @@ pub fn guard_value<'p>(guard: &'p Guard, site: &Site, names: &Names<'p>) -> Resu
         Guard::Contracted => Ok(site.own().is_contracted()),
         Guard::Expanded => Ok(!site.own().is_contracted()),
         Guard::Not(guard) => {
-            let value = guard_value(guard, site, names)?;
+            let value = quick_value(guard, site, names)?;
             Ok(!value)
         }
         Guard::And(guards) => each_value(guards, site, names),
@@ -179,7 +179,7 @@ fn any_value<'p>(
         (spec.ports_of (sight_of site.now) set) }
 {
     let mut inner = names.bind(name, Port::default());
-    for port in ALL_PORTS.iter() {
+    for port in pairs(site) {
         if !is_one_of(set, site, *port) {
             continue;
         }
@@ -208,7 +208,7 @@ fn all_value<'p>(
         (spec.ports_of (sight_of site.now) set) }
 {
     let mut inner = names.bind(name, Port::default());
-    for port in ALL_PORTS.iter() {
+    for port in pairs(site) {
         if !is_one_of(set, site, *port) {
             continue;
         }
@@ -237,7 +237,7 @@ fn first_value<'p>(
         (spec.ports_of (sight_of site.now) set) }
 {
     let mut inner = names.bind(name, Port::default());
-    for port in ALL_PORTS.iter() {
+    for port in pairs(site) {
         if !is_one_of(set, site, *port) {
             continue;
         }
@@ -268,7 +268,7 @@ fn count_value<'p>(
 {
     let mut inner = names.bind(name, Port::default());
     let mut count = 0;
-    for port in ALL_PORTS.iter() {
+    for port in pairs(site) {
         if !is_one_of(set, site, *port) {
             continue;
         }

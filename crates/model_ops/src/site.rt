@@ -90,12 +90,17 @@ impl Site {
         requires { var < most_vars }
         ensures { result ≡ read self.now.reached (own_id self.now) port var }
     {
-        if self.around.is_none() {
-            return self.draft.read(port, var);
+        match port {
+            Some(port) => {
+                if self.around.is_none() {
+                    return self.draft.read(Some(port), var);
+                }
+                let id = self.owner(Some(port))?;
+                let bot = self.draft.bot_near(id, 1 + usize::from(port.dir));
+                Ok(bot.mem[usize::from(var)])
+            }
+            None => Ok(self.draft.own().mem[usize::from(var)]),
         }
-        let id = self.owner(port)?;
-        let bot = self.draft.bot_near(id, likely_place(port));
-        Ok(bot.mem[usize::from(var)])
     }
 
     /// What is seen of the neighbour behind a port. NoPort; NoNeighbour.
@@ -187,14 +192,5 @@ impl Site {
             },
             None => Ok(self.draft.own_id()),
         }
-    }
-}
-
-/// Where the owner of a memory stands among the amoebots, if each node before is occupied by one more amoebot.
-#[inline(always)]
-fn likely_place(port: Option<Port>) -> usize {
-    match port {
-        Some(port) => 1 + usize::from(port.dir),
-        None => 0,
     }
 }

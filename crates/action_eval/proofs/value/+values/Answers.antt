@@ -23,7 +23,7 @@ use Rattle.action_eval.proofs.UnderNamesLemmas.{has_last, kept_under, placed_und
 use Rattle.action_eval.proofs.RunningLemmas.{room_to_bind}
 use Rattle.action_eval.proofs.SumLoops.{TermsLeft, terms_fit, terms_start, term_kept, term_counted, terms_next, terms_fail, terms_over}
 use Rattle.action_eval.proofs.ChoicesLemmas.{and_none, and_so_many, any_goes_on, any_is_true, any_fails, all_goes_on, all_is_false, all_fails, first_goes_on, first_is_here, first_fails}
-use Rattle.action_eval.proofs.PortsOf.{all_in_set, told_here, told_behind, told_over}
+use Rattle.action_eval.proofs.PortsOf.{told_here, told_behind, told_over}
 use Rattle.action_eval.proofs.GuardLoops.{guard_kept, each_next, each_decided, each_fails, each_over, some_next, some_decided, some_fails, some_over, count_next, count_here, count_stops, count_over}
 use Rattle.action_eval.proofs.Nodes.{any_tree, all_tree, first_tree, count_tree, member_tree}
 use Rattle.action_tree.proofs.expression.Guard.TheLaws.{the_size}
@@ -41,7 +41,7 @@ any_value-bind-inner-requires t c = room_to_bind (known c.args.names.now) _ c.re
 pub any_value-loop-port-init : goal.any_value-loop-port-init
 any_value-loop-port-init t c =
     let asked = guard_at (sight_of c.args.site.now) (known c.args.names.now) c.args.name.now c.args.guard.now in
-    (record { port = _; bound = c.bind-inner.ensures }, ap (any_of_ports asked) (sym (all_in_set (sight_of c.args.site.now) c.args.set)))
+    (record { port = _; bound = c.bind-inner.ensures }, ap (any_of_ports asked) (c.pairs-port-items.ensures.whole c.args.set))
 
 pub any_value-set_last-requires : goal.any_value-set_last-requires
 any_value-set_last-requires t c = has_last _ _ _ c.loop-port.invariant.0
@@ -55,7 +55,7 @@ all_value-bind-inner-requires t c = room_to_bind (known c.args.names.now) _ c.re
 pub all_value-loop-port-init : goal.all_value-loop-port-init
 all_value-loop-port-init t c =
     let asked = guard_at (sight_of c.args.site.now) (known c.args.names.now) c.args.name.now c.args.guard.now in
-    (record { port = _; bound = c.bind-inner.ensures }, ap (all_of_ports asked) (sym (all_in_set (sight_of c.args.site.now) c.args.set)))
+    (record { port = _; bound = c.bind-inner.ensures }, ap (all_of_ports asked) (c.pairs-port-items.ensures.whole c.args.set))
 
 pub all_value-set_last-requires : goal.all_value-set_last-requires
 all_value-set_last-requires t c = has_last _ _ _ c.loop-port.invariant.0
@@ -69,7 +69,7 @@ first_value-bind-inner-requires t c = room_to_bind (known c.args.names.now) _ c.
 pub first_value-loop-port-init : goal.first_value-loop-port-init
 first_value-loop-port-init t c =
     let asked = guard_at (sight_of c.args.site.now) (known c.args.names.now) c.args.name.now c.args.guard.now in
-    (record { port = _; bound = c.bind-inner.ensures }, ap (first_of_ports asked) (sym (all_in_set (sight_of c.args.site.now) c.args.set)))
+    (record { port = _; bound = c.bind-inner.ensures }, ap (first_of_ports asked) (c.pairs-port-items.ensures.whole c.args.set))
 
 pub first_value-set_last-requires : goal.first_value-set_last-requires
 first_value-set_last-requires t c = has_last _ _ _ c.loop-port.invariant.0
@@ -83,7 +83,7 @@ count_value-bind-inner-requires t c = room_to_bind (known c.args.names.now) _ c.
 pub count_value-loop-port-init : goal.count_value-loop-port-init
 count_value-loop-port-init t c =
     let asked = guard_at (sight_of c.args.site.now) (known c.args.names.now) c.args.name.now c.args.guard.now in
-    (record { port = _; bound = c.bind-inner.ensures }, ap (count_of_ports asked) (sym (all_in_set (sight_of c.args.site.now) c.args.set)) ∙ and_none _, omega arith)
+    (record { port = _; bound = c.bind-inner.ensures }, ap (count_of_ports asked) (c.pairs-port-items.ensures.whole c.args.set) ∙ and_none _, omega arith, c.pairs-port-items.ensures.few)
 
 pub count_value-set_last-requires : goal.count_value-set_last-requires
 count_value-set_last-requires t c = has_last _ _ _ c.loop-port.invariant.0
@@ -94,91 +94,91 @@ count_value-quick_value-requires t c = (omega (arith, c.decreases), (kept_under 
 pub any_value-loop-port-preserved-then-not-is_one_of : goal.any_value-loop-port-preserved-then-not-is_one_of
 any_value-loop-port-preserved-then-not-is_one_of t c =
     let asked = guard_at (sight_of c.args.site.now) (known c.args.names.now) c.args.name.now c.args.guard.now in
-    (c.loop-port.invariant.0, told_behind (any_of_ports asked) _ (sight_of c.args.site.now) c.args.set _ (port Head 0) c.loop-port.invariant.1 c.loop-port-test.true (sym c.is_one_of.ensures ∙ c.if-not-is_one_of.true))
+    (c.loop-port.invariant.0, told_behind (any_of_ports asked) _ (sight_of c.args.site.now) c.args.set _ _ (port Head 0) c.loop-port.invariant.1 c.loop-port-test.true (sym c.is_one_of.ensures ∙ c.if-not-is_one_of.true))
 
 pub any_value-loop-port-preserved : goal.any_value-loop-port-preserved
 any_value-loop-port-preserved t c =
     let asked = guard_at (sight_of c.args.site.now) (known c.args.names.now) c.args.name.now c.args.guard.now in
     let under = c.set_last.ensures (known c.args.names.now) c.args.name.now c.loop-port.invariant.0 in
-    (record { port = _; bound = under }, told_here (any_of_ports asked) _ (sight_of c.args.site.now) c.args.set _ (port Head 0) _ c.loop-port.invariant.1 c.loop-port-test.true (sym c.is_one_of.ensures ∙ c.if-not-is_one_of.false) (any_goes_on asked _ _ (asked_at _ (known c.args.names.now) c.args.name.now c.args.guard.now _ _ _ under c.quick_value.ensures ∙ c.in-Ok-false.is ∙ ap Ok c.in-Ok-false.field-0-test)))
+    (record { port = _; bound = under }, told_here (any_of_ports asked) _ (sight_of c.args.site.now) c.args.set _ _ (port Head 0) _ c.loop-port.invariant.1 c.loop-port-test.true (sym c.is_one_of.ensures ∙ c.if-not-is_one_of.false) (any_goes_on asked _ _ (asked_at _ (known c.args.names.now) c.args.name.now c.args.guard.now _ _ _ under c.quick_value.ensures ∙ c.in-Ok-false.is ∙ ap Ok c.in-Ok-false.field-0-test)))
 
 pub any_value-returns-in-Ok-true : goal.any_value-returns-in-Ok-true
 any_value-returns-in-Ok-true t c =
     let asked = guard_at (sight_of c.args.site.now) (known c.args.names.now) c.args.name.now c.args.guard.now in
     let under = c.set_last.ensures (known c.args.names.now) c.args.name.now c.loop-port.invariant.0 in
-    sym (told_here (any_of_ports asked) _ (sight_of c.args.site.now) c.args.set _ (port Head 0) _ c.loop-port.invariant.1 c.loop-port-test.true (sym c.is_one_of.ensures ∙ c.if-not-is_one_of.false) (any_is_true asked _ _ (asked_at _ (known c.args.names.now) c.args.name.now c.args.guard.now _ _ _ under c.quick_value.ensures ∙ c.in-Ok-true.is ∙ ap Ok c.in-Ok-true.field-0-test)))
+    sym (told_here (any_of_ports asked) _ (sight_of c.args.site.now) c.args.set _ _ (port Head 0) _ c.loop-port.invariant.1 c.loop-port-test.true (sym c.is_one_of.ensures ∙ c.if-not-is_one_of.false) (any_is_true asked _ _ (asked_at _ (known c.args.names.now) c.args.name.now c.args.guard.now _ _ _ under c.quick_value.ensures ∙ c.in-Ok-true.is ∙ ap Ok c.in-Ok-true.field-0-test)))
 
 pub any_value-returns-in-Err : goal.any_value-returns-in-Err
 any_value-returns-in-Err t c =
     let asked = guard_at (sight_of c.args.site.now) (known c.args.names.now) c.args.name.now c.args.guard.now in
     let under = c.set_last.ensures (known c.args.names.now) c.args.name.now c.loop-port.invariant.0 in
-    sym (told_here (any_of_ports asked) _ (sight_of c.args.site.now) c.args.set _ (port Head 0) _ c.loop-port.invariant.1 c.loop-port-test.true (sym c.is_one_of.ensures ∙ c.if-not-is_one_of.false) (any_fails asked _ _ _ (asked_at _ (known c.args.names.now) c.args.name.now c.args.guard.now _ _ _ under c.quick_value.ensures ∙ c.in-Err.is)))
+    sym (told_here (any_of_ports asked) _ (sight_of c.args.site.now) c.args.set _ _ (port Head 0) _ c.loop-port.invariant.1 c.loop-port-test.true (sym c.is_one_of.ensures ∙ c.if-not-is_one_of.false) (any_fails asked _ _ _ (asked_at _ (known c.args.names.now) c.args.name.now c.args.guard.now _ _ _ under c.quick_value.ensures ∙ c.in-Err.is)))
 
 pub any_value-returns : goal.any_value-returns
 any_value-returns t c =
     let asked = guard_at (sight_of c.args.site.now) (known c.args.names.now) c.args.name.now c.args.guard.now in
-    sym (told_over (any_of_ports asked) _ (sight_of c.args.site.now) c.args.set _ c.loop-port.invariant.1 c.loop-port-test.false)
+    sym (told_over (any_of_ports asked) _ (sight_of c.args.site.now) c.args.set _ _ c.loop-port.invariant.1 c.loop-port-test.false)
 
 pub all_value-loop-port-preserved-then-not-is_one_of : goal.all_value-loop-port-preserved-then-not-is_one_of
 all_value-loop-port-preserved-then-not-is_one_of t c =
     let asked = guard_at (sight_of c.args.site.now) (known c.args.names.now) c.args.name.now c.args.guard.now in
-    (c.loop-port.invariant.0, told_behind (all_of_ports asked) _ (sight_of c.args.site.now) c.args.set _ (port Head 0) c.loop-port.invariant.1 c.loop-port-test.true (sym c.is_one_of.ensures ∙ c.if-not-is_one_of.true))
+    (c.loop-port.invariant.0, told_behind (all_of_ports asked) _ (sight_of c.args.site.now) c.args.set _ _ (port Head 0) c.loop-port.invariant.1 c.loop-port-test.true (sym c.is_one_of.ensures ∙ c.if-not-is_one_of.true))
 
 pub all_value-loop-port-preserved : goal.all_value-loop-port-preserved
 all_value-loop-port-preserved t c =
     let asked = guard_at (sight_of c.args.site.now) (known c.args.names.now) c.args.name.now c.args.guard.now in
     let under = c.set_last.ensures (known c.args.names.now) c.args.name.now c.loop-port.invariant.0 in
-    (record { port = _; bound = under }, told_here (all_of_ports asked) _ (sight_of c.args.site.now) c.args.set _ (port Head 0) _ c.loop-port.invariant.1 c.loop-port-test.true (sym c.is_one_of.ensures ∙ c.if-not-is_one_of.false) (all_goes_on asked _ _ (asked_at _ (known c.args.names.now) c.args.name.now c.args.guard.now _ _ _ under c.quick_value.ensures ∙ c.in-Ok-true.is ∙ ap Ok c.in-Ok-true.field-0-test)))
+    (record { port = _; bound = under }, told_here (all_of_ports asked) _ (sight_of c.args.site.now) c.args.set _ _ (port Head 0) _ c.loop-port.invariant.1 c.loop-port-test.true (sym c.is_one_of.ensures ∙ c.if-not-is_one_of.false) (all_goes_on asked _ _ (asked_at _ (known c.args.names.now) c.args.name.now c.args.guard.now _ _ _ under c.quick_value.ensures ∙ c.in-Ok-true.is ∙ ap Ok c.in-Ok-true.field-0-test)))
 
 pub all_value-returns-in-Ok-false : goal.all_value-returns-in-Ok-false
 all_value-returns-in-Ok-false t c =
     let asked = guard_at (sight_of c.args.site.now) (known c.args.names.now) c.args.name.now c.args.guard.now in
     let under = c.set_last.ensures (known c.args.names.now) c.args.name.now c.loop-port.invariant.0 in
-    sym (told_here (all_of_ports asked) _ (sight_of c.args.site.now) c.args.set _ (port Head 0) _ c.loop-port.invariant.1 c.loop-port-test.true (sym c.is_one_of.ensures ∙ c.if-not-is_one_of.false) (all_is_false asked _ _ (asked_at _ (known c.args.names.now) c.args.name.now c.args.guard.now _ _ _ under c.quick_value.ensures ∙ c.in-Ok-false.is ∙ ap Ok c.in-Ok-false.field-0-test)))
+    sym (told_here (all_of_ports asked) _ (sight_of c.args.site.now) c.args.set _ _ (port Head 0) _ c.loop-port.invariant.1 c.loop-port-test.true (sym c.is_one_of.ensures ∙ c.if-not-is_one_of.false) (all_is_false asked _ _ (asked_at _ (known c.args.names.now) c.args.name.now c.args.guard.now _ _ _ under c.quick_value.ensures ∙ c.in-Ok-false.is ∙ ap Ok c.in-Ok-false.field-0-test)))
 
 pub all_value-returns-in-Err : goal.all_value-returns-in-Err
 all_value-returns-in-Err t c =
     let asked = guard_at (sight_of c.args.site.now) (known c.args.names.now) c.args.name.now c.args.guard.now in
     let under = c.set_last.ensures (known c.args.names.now) c.args.name.now c.loop-port.invariant.0 in
-    sym (told_here (all_of_ports asked) _ (sight_of c.args.site.now) c.args.set _ (port Head 0) _ c.loop-port.invariant.1 c.loop-port-test.true (sym c.is_one_of.ensures ∙ c.if-not-is_one_of.false) (all_fails asked _ _ _ (asked_at _ (known c.args.names.now) c.args.name.now c.args.guard.now _ _ _ under c.quick_value.ensures ∙ c.in-Err.is)))
+    sym (told_here (all_of_ports asked) _ (sight_of c.args.site.now) c.args.set _ _ (port Head 0) _ c.loop-port.invariant.1 c.loop-port-test.true (sym c.is_one_of.ensures ∙ c.if-not-is_one_of.false) (all_fails asked _ _ _ (asked_at _ (known c.args.names.now) c.args.name.now c.args.guard.now _ _ _ under c.quick_value.ensures ∙ c.in-Err.is)))
 
 pub all_value-returns : goal.all_value-returns
 all_value-returns t c =
     let asked = guard_at (sight_of c.args.site.now) (known c.args.names.now) c.args.name.now c.args.guard.now in
-    sym (told_over (all_of_ports asked) _ (sight_of c.args.site.now) c.args.set _ c.loop-port.invariant.1 c.loop-port-test.false)
+    sym (told_over (all_of_ports asked) _ (sight_of c.args.site.now) c.args.set _ _ c.loop-port.invariant.1 c.loop-port-test.false)
 
 pub first_value-loop-port-preserved-then-not-is_one_of : goal.first_value-loop-port-preserved-then-not-is_one_of
 first_value-loop-port-preserved-then-not-is_one_of t c =
     let asked = guard_at (sight_of c.args.site.now) (known c.args.names.now) c.args.name.now c.args.guard.now in
-    (c.loop-port.invariant.0, told_behind (first_of_ports asked) _ (sight_of c.args.site.now) c.args.set _ (port Head 0) c.loop-port.invariant.1 c.loop-port-test.true (sym c.is_one_of.ensures ∙ c.if-not-is_one_of.true))
+    (c.loop-port.invariant.0, told_behind (first_of_ports asked) _ (sight_of c.args.site.now) c.args.set _ _ (port Head 0) c.loop-port.invariant.1 c.loop-port-test.true (sym c.is_one_of.ensures ∙ c.if-not-is_one_of.true))
 
 pub first_value-loop-port-preserved : goal.first_value-loop-port-preserved
 first_value-loop-port-preserved t c =
     let asked = guard_at (sight_of c.args.site.now) (known c.args.names.now) c.args.name.now c.args.guard.now in
     let under = c.set_last.ensures (known c.args.names.now) c.args.name.now c.loop-port.invariant.0 in
-    (record { port = _; bound = under }, told_here (first_of_ports asked) _ (sight_of c.args.site.now) c.args.set _ (port Head 0) _ c.loop-port.invariant.1 c.loop-port-test.true (sym c.is_one_of.ensures ∙ c.if-not-is_one_of.false) (first_goes_on asked _ _ (asked_at _ (known c.args.names.now) c.args.name.now c.args.guard.now _ _ _ under c.quick_value.ensures ∙ c.in-Ok-false.is ∙ ap Ok c.in-Ok-false.field-0-test)))
+    (record { port = _; bound = under }, told_here (first_of_ports asked) _ (sight_of c.args.site.now) c.args.set _ _ (port Head 0) _ c.loop-port.invariant.1 c.loop-port-test.true (sym c.is_one_of.ensures ∙ c.if-not-is_one_of.false) (first_goes_on asked _ _ (asked_at _ (known c.args.names.now) c.args.name.now c.args.guard.now _ _ _ under c.quick_value.ensures ∙ c.in-Ok-false.is ∙ ap Ok c.in-Ok-false.field-0-test)))
 
 pub first_value-returns-in-Ok-true : goal.first_value-returns-in-Ok-true
 first_value-returns-in-Ok-true t c =
     let asked = guard_at (sight_of c.args.site.now) (known c.args.names.now) c.args.name.now c.args.guard.now in
     let under = c.set_last.ensures (known c.args.names.now) c.args.name.now c.loop-port.invariant.0 in
-    sym (told_here (first_of_ports asked) _ (sight_of c.args.site.now) c.args.set _ (port Head 0) _ c.loop-port.invariant.1 c.loop-port-test.true (sym c.is_one_of.ensures ∙ c.if-not-is_one_of.false) (first_is_here asked _ _ (asked_at _ (known c.args.names.now) c.args.name.now c.args.guard.now _ _ _ under c.quick_value.ensures ∙ c.in-Ok-true.is ∙ ap Ok c.in-Ok-true.field-0-test)))
+    sym (told_here (first_of_ports asked) _ (sight_of c.args.site.now) c.args.set _ _ (port Head 0) _ c.loop-port.invariant.1 c.loop-port-test.true (sym c.is_one_of.ensures ∙ c.if-not-is_one_of.false) (first_is_here asked _ _ (asked_at _ (known c.args.names.now) c.args.name.now c.args.guard.now _ _ _ under c.quick_value.ensures ∙ c.in-Ok-true.is ∙ ap Ok c.in-Ok-true.field-0-test)))
 
 pub first_value-returns-in-Err : goal.first_value-returns-in-Err
 first_value-returns-in-Err t c =
     let asked = guard_at (sight_of c.args.site.now) (known c.args.names.now) c.args.name.now c.args.guard.now in
     let under = c.set_last.ensures (known c.args.names.now) c.args.name.now c.loop-port.invariant.0 in
-    sym (told_here (first_of_ports asked) _ (sight_of c.args.site.now) c.args.set _ (port Head 0) _ c.loop-port.invariant.1 c.loop-port-test.true (sym c.is_one_of.ensures ∙ c.if-not-is_one_of.false) (first_fails asked _ _ _ (asked_at _ (known c.args.names.now) c.args.name.now c.args.guard.now _ _ _ under c.quick_value.ensures ∙ c.in-Err.is)))
+    sym (told_here (first_of_ports asked) _ (sight_of c.args.site.now) c.args.set _ _ (port Head 0) _ c.loop-port.invariant.1 c.loop-port-test.true (sym c.is_one_of.ensures ∙ c.if-not-is_one_of.false) (first_fails asked _ _ _ (asked_at _ (known c.args.names.now) c.args.name.now c.args.guard.now _ _ _ under c.quick_value.ensures ∙ c.in-Err.is)))
 
 pub first_value-returns : goal.first_value-returns
 first_value-returns t c =
     let asked = guard_at (sight_of c.args.site.now) (known c.args.names.now) c.args.name.now c.args.guard.now in
-    sym (told_over (first_of_ports asked) _ (sight_of c.args.site.now) c.args.set _ c.loop-port.invariant.1 c.loop-port-test.false)
+    sym (told_over (first_of_ports asked) _ (sight_of c.args.site.now) c.args.set _ _ c.loop-port.invariant.1 c.loop-port-test.false)
 
 pub count_value-loop-port-preserved-then-not-is_one_of : goal.count_value-loop-port-preserved-then-not-is_one_of
 count_value-loop-port-preserved-then-not-is_one_of t c =
     let asked = guard_at (sight_of c.args.site.now) (known c.args.names.now) c.args.name.now c.args.guard.now in
-    (c.loop-port.invariant.0, told_behind (λ ps. and_so_many c.loop-port.count (count_of_ports asked ps)) _ (sight_of c.args.site.now) c.args.set _ (port Head 0) c.loop-port.invariant.1 c.loop-port-test.true (sym c.is_one_of.ensures ∙ c.if-not-is_one_of.true), omega arith)
+    (c.loop-port.invariant.0, told_behind (λ ps. and_so_many c.loop-port.count (count_of_ports asked ps)) _ (sight_of c.args.site.now) c.args.set _ _ (port Head 0) c.loop-port.invariant.1 c.loop-port-test.true (sym c.is_one_of.ensures ∙ c.if-not-is_one_of.true), omega arith, c.loop-port.invariant.3)
 
 pub count_value-loop-port-preserved : goal.count_value-loop-port-preserved
 count_value-loop-port-preserved t c =
@@ -187,20 +187,20 @@ count_value-loop-port-preserved t c =
     let e = asked_at _ (known c.args.names.now) c.args.name.now c.args.guard.now _ _ _ under c.quick_value.ensures ∙ c.in-Ok.is in
     let in_set = sym c.is_one_of.ensures ∙ c.if-not-is_one_of.false in
     elim c.if-is_one.branch [
-      | count_value-then-is_one w ↦ rw w.count-is (record { port = _; bound = under }, count_here asked _ (sight_of c.args.site.now) c.args.set _ _ (port Head 0) c.loop-port.invariant.1 c.loop-port-test.true in_set (e ∙ ap Ok w.if-is_one.true), omega arith)
-      | count_value-else-is_one w ↦ rw w.count-is (record { port = _; bound = under }, count_next asked _ (sight_of c.args.site.now) c.args.set _ _ (port Head 0) c.loop-port.invariant.1 c.loop-port-test.true in_set (e ∙ ap Ok w.if-is_one.false), omega arith)
+      | count_value-then-is_one w ↦ rw w.count-is (record { port = _; bound = under }, count_here asked _ (sight_of c.args.site.now) c.args.set _ _ _ (port Head 0) c.loop-port.invariant.1 c.loop-port-test.true in_set (e ∙ ap Ok w.if-is_one.true), omega arith, c.loop-port.invariant.3)
+      | count_value-else-is_one w ↦ rw w.count-is (record { port = _; bound = under }, count_next asked _ (sight_of c.args.site.now) c.args.set _ _ _ (port Head 0) c.loop-port.invariant.1 c.loop-port-test.true in_set (e ∙ ap Ok w.if-is_one.false), omega arith, c.loop-port.invariant.3)
     ]
 
 pub count_value-returns-in-Err-clause-value : goal.count_value-returns-in-Err-clause-value
 count_value-returns-in-Err-clause-value t c =
     let asked = guard_at (sight_of c.args.site.now) (known c.args.names.now) c.args.name.now c.args.guard.now in
     let under = c.set_last.ensures (known c.args.names.now) c.args.name.now c.loop-port.invariant.0 in
-    sym (count_stops asked _ (sight_of c.args.site.now) c.args.set _ _ (port Head 0) _ c.loop-port.invariant.1 c.loop-port-test.true (sym c.is_one_of.ensures ∙ c.if-not-is_one_of.false) (asked_at _ (known c.args.names.now) c.args.name.now c.args.guard.now _ _ _ under c.quick_value.ensures ∙ c.in-Err.is))
+    sym (count_stops asked _ (sight_of c.args.site.now) c.args.set _ _ _ (port Head 0) _ c.loop-port.invariant.1 c.loop-port-test.true (sym c.is_one_of.ensures ∙ c.if-not-is_one_of.false) (asked_at _ (known c.args.names.now) c.args.name.now c.args.guard.now _ _ _ under c.quick_value.ensures ∙ c.in-Err.is))
 
 pub count_value-returns-clause-value : goal.count_value-returns-clause-value
 count_value-returns-clause-value t c =
     let asked = guard_at (sight_of c.args.site.now) (known c.args.names.now) c.args.name.now c.args.guard.now in
-    sym (count_over asked _ (sight_of c.args.site.now) c.args.set _ _ c.loop-port.invariant.1 c.loop-port-test.false)
+    sym (count_over asked _ (sight_of c.args.site.now) c.args.set _ _ _ c.loop-port.invariant.1 c.loop-port-test.false)
 
 pub each_value-quick_value-requires : goal.each_value-quick_value-requires
 each_value-quick_value-requires t c =
