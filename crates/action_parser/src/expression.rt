@@ -26,6 +26,9 @@ use text_tokens::{ReadRefusal, Tokens};
 /// How many elements of an `and` or an `or`, or terms of a sum, may stand behind the first.
 const MORE: u32 = 63;
 
+/// How many terms of a sum have room at once: most sums have no more.
+const FEW: usize = 2;
+
 /// An expression: elements that `or` joins. One alone is itself.
 #[cycle(expression)]
 pub fn read_guard(
@@ -185,7 +188,7 @@ pub fn read_sum(
 {
     let minus = minus(tokens)?;
     let term = read_term(alloc, tokens, levels, names)?;
-    let mut parts = Vec::new(alloc);
+    let mut parts = Vec::with_capacity(alloc, FEW)?;
     parts.push(Part { minus, term })?;
     let mut room = MORE;
     while let Some(part) = more_part(alloc, tokens, levels, names, room)? {

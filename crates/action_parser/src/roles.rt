@@ -24,6 +24,7 @@ pub fn next_role(tokens: &Tokens<'_>) -> Option<Role>
 }
 
 /// Whether the next token has this role.
+#[inline(always)]
 pub fn is_next(tokens: &Tokens<'_>, role: Role) -> bool
     ensures { result ≡ next_passes (is_a role) tokens.now.ahead }
 {
@@ -38,6 +39,7 @@ pub fn unexpected(tokens: &Tokens<'_>) -> ReadRefusal
 }
 
 /// The next token, if it has this role. Any other is `Unexpected`.
+#[inline(always)]
 pub fn token(tokens: &mut Tokens<'_>, role: Role) -> Result<Token, ReadRefusal>
     ensures reads { Gives (lexeme_of tokens.old.source) (one (is_a role)) tokens.old result tokens.new }
     ensures spells { IfOk result (Spells tokens.old) }

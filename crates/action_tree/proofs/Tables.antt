@@ -1,6 +1,9 @@
 -- A table is searched from left to right, and only for entries that begin as the text does.
-use Rattle.std.proofs.Common.{◌≡◌, ◌<◌, ◌≤◌, ℕ, suc, Bool, true, false, List, [], ◌∷◌, map, drop, length, get_or, refl, ap, ◌∙◌, arith, drop-cons}
-use Rattle.std.specs.Prelude.{◌==◌, if◌then◌else◌}
+use Rattle.std.proofs.Common.{◌≡◌, ◌<◌, ◌≤◌, ℕ, suc, Bool, true, false, List, [], ◌∷◌, ◌++◌, map, drop, length, get_or, refl, ap, ◌∙◌, arith, drop-cons}
+use Rattle.std.proofs.lemmas.Bool.{and_parts}
+use Rattle.std.proofs.lemmas.Slice.Eq.{bytes_eq-Decides}
+use Rattle.std.specs.List.{list_all}
+use Rattle.std.specs.Prelude.{◌==◌, if◌then◌else◌, not}
 use Rattle.std.specs.Str.{bytes_eq}
 use Rattle.action_tree.specs.Roles.{Entry, look_up}
 
@@ -46,3 +49,31 @@ module _ {A : Type 0} (a : A) (b : ℕ) (rest : List ℕ) where
 pub agrees : {A : Type 0} (a : A) (es all : List (Entry A)) (text : List ℕ) → 1 ≤ length text → ((rest : List ℕ) → look_up a es (get_or text 0 0 ∷ rest) ≡ look_up a all (get_or text 0 0 ∷ rest)) → look_up a es text ≡ look_up a all text
 agrees a es all [] some same = absurd (omega arith)
 agrees a es all (b ∷ text) some same = same text
+
+-- ---- in another order
+
+module _ {A : Type 0} (a : A) (text : List ℕ) (e : Entry A) where
+  swapped_by : (f : Entry A) (es : List (Entry A)) (p q : Bool) → bytes_eq text e.text ≡ p → bytes_eq text f.text ≡ q → bytes_eq e.text f.text ≡ false
+      → look_up a (e ∷ f ∷ es) text ≡ look_up a (f ∷ e ∷ es) text
+  swapped_by f es true true is same other =
+      let one = (bytes_eq-Decides text e.text).0 is in
+      let no : bytes_eq text f.text ≡ false = ap (λ (t : List ℕ). bytes_eq t f.text) one ∙ other in
+      absurd cc
+  swapped_by f es true false is same other = rw (is, same) refl
+  swapped_by f es false true is same other = rw (is, same) refl
+  swapped_by f es false false is same other = rw (is, same) refl
+
+  abbrev pub is_apart : Entry A → Bool
+  is_apart f = not (bytes_eq e.text f.text)
+
+  not_no : (t : Bool) → not t ≡ true → t ≡ false
+  not_no true is = absurd cc
+  not_no false is = refl
+
+  -- an entry may stand before others that have another text
+  pub moved_first : (es fs : List (Entry A)) → list_all is_apart es ≡ true → look_up a (e ∷ (es ++ fs)) text ≡ look_up a (es ++ (e ∷ fs)) text
+  moved_first [] fs apart = refl
+  moved_first (f ∷ es) fs apart =
+      let parts = and_parts (is_apart f) (list_all is_apart es) apart in
+      swapped_by f (es ++ fs) (bytes_eq text e.text) (bytes_eq text f.text) refl refl (not_no (bytes_eq e.text f.text) parts.0)
+      ∙ ap (λ (x : A). if bytes_eq text f.text then f.value else x) (moved_first es fs parts.1)

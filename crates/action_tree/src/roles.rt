@@ -7,11 +7,12 @@ ghost use Rattle.action_tree.specs.declared.role.Role.TheVariants as role;
 use crate::role::Role;
 use text_tokens::{TokenKind, is_same};
 
-/// The reserved words, by their first letters. A word that is not among them is a name.
+/// The reserved words, by their first letters, and of one letter what stands most often first. A word that is not among them is a
+/// name.
 static WORDS: [(&str, Role); 48] = [
+    ("and", Role::AndWord),
     ("amoebot", Role::Foreign),
     ("action", Role::ActionWord),
-    ("and", Role::AndWord),
     ("any", Role::QuantifierWord),
     ("all", Role::QuantifierWord),
     ("at_head", Role::TestWord),
@@ -40,10 +41,10 @@ static WORDS: [(&str, Role); 48] = [
     ("mod6", Role::Mod6Word),
     ("not", Role::NotWord),
     ("none", Role::NoneWord),
+    ("or", Role::OrWord),
     ("on", Role::SwitchWord),
     ("off", Role::SwitchWord),
     ("od", Role::OdWord),
-    ("or", Role::OrWord),
     ("program", Role::ProgramWord),
     ("ports", Role::PortsWord),
     ("peer_dir", Role::SideWord),
@@ -51,10 +52,10 @@ static WORDS: [(&str, Role); 48] = [
     ("peer_expanded", Role::TestWord),
     ("push", Role::ThroughWord),
     ("pull", Role::ThroughWord),
+    ("turn", Role::TurnWord),
     ("then", Role::ThenWord),
     ("true", Role::AtomWord),
     ("tail", Role::EndWord),
-    ("turn", Role::TurnWord),
     ("var", Role::VarWord),
     ("when", Role::WhenWord),
 ];
@@ -118,7 +119,7 @@ fn word_role(text: &[u8]) -> Role
     ensures { result ≡ roles.look_up role.AName roles.words text.now }
 {
     match text {
-        [] => Role::AName,
+        [] | [_] => Role::AName,
         [letter, ..] => look_up(Role::AName, words_from(*letter), text),
     }
 }

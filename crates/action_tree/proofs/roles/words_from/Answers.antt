@@ -1,10 +1,12 @@
-use Rattle.action_tree.specs.Roles.{words}
-use Rattle.action_tree.specs.declared.role.Role.TheVariants.{AName}
-use Rattle.action_tree.proofs.Tables.{by_letter}
+use Rattle.std.proofs.Common.{◌∷◌, [], ◌∙◌, refl}
+use Rattle.std.specs.Prelude.{codes}
+use Rattle.action_tree.specs.Roles.{entry, words}
+use Rattle.action_tree.specs.declared.role.Role.TheVariants.{AName, Foreign, ActionWord, AndWord, QuantifierWord, TestWord, SwitchWord, OdWord, OrWord, ThenWord, AtomWord, EndWord, TurnWord}
+use Rattle.action_tree.proofs.Tables.{by_letter, moved_first}
 use Rattle.action_tree.proofs.roles.words_from.Goals as goal
 
 pub returns-in-97 : goal.returns-in-97
-returns-in-97 c = λ rest. rw c.in-97.is (by_letter AName 97 rest words)
+returns-in-97 c = λ rest. rw c.in-97.is (moved_first AName (97 ∷ rest) (entry (codes "and") AndWord) (entry (codes "amoebot") Foreign ∷ entry (codes "action") ActionWord ∷ []) (entry (codes "any") QuantifierWord ∷ entry (codes "all") QuantifierWord ∷ entry (codes "at_head") TestWord ∷ []) refl ∙ by_letter AName 97 rest words)
 
 pub returns-in-99 : goal.returns-in-99
 returns-in-99 c = λ rest. rw c.in-99.is (by_letter AName 99 rest words)
@@ -37,13 +39,13 @@ pub returns-in-110 : goal.returns-in-110
 returns-in-110 c = λ rest. rw c.in-110.is (by_letter AName 110 rest words)
 
 pub returns-in-111 : goal.returns-in-111
-returns-in-111 c = λ rest. rw c.in-111.is (by_letter AName 111 rest words)
+returns-in-111 c = λ rest. rw c.in-111.is (moved_first AName (111 ∷ rest) (entry (codes "or") OrWord) (entry (codes "on") SwitchWord ∷ entry (codes "off") SwitchWord ∷ entry (codes "od") OdWord ∷ []) ([]) refl ∙ by_letter AName 111 rest words)
 
 pub returns-in-112 : goal.returns-in-112
 returns-in-112 c = λ rest. rw c.in-112.is (by_letter AName 112 rest words)
 
 pub returns-in-116 : goal.returns-in-116
-returns-in-116 c = λ rest. rw c.in-116.is (by_letter AName 116 rest words)
+returns-in-116 c = λ rest. rw c.in-116.is (moved_first AName (116 ∷ rest) (entry (codes "turn") TurnWord) (entry (codes "then") ThenWord ∷ entry (codes "true") AtomWord ∷ entry (codes "tail") EndWord ∷ []) ([]) refl ∙ by_letter AName 116 rest words)
 
 pub returns-in-118 : goal.returns-in-118
 returns-in-118 c = λ rest. rw c.in-118.is (by_letter AName 118 rest words)
