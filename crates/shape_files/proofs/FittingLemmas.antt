@@ -24,6 +24,7 @@ use Rattle.action_tree.specs.Trees as tree
 use Rattle.action_tree.specs.Limits.{most_actions}
 use Rattle.action_check.specs.Faults.{faults}
 use Rattle.journal_text.specs.Journals.{ids_of_entry, ids_of_pair, is_known, IsEntry, IsJournal}
+use Rattle.node_text.specs.Parts.{may_have_walls}
 use Rattle.node_text.proofs.Outside.{within}
 use Rattle.shape_text.specs.Shapes.{IsShapeUnder}
 use Rattle.schedule_text.specs.Lists.{IsId, IsCallerList, IsLists}
@@ -66,8 +67,15 @@ program_fits p f =
 
 -- ---- shapes
 
-shape_fits : (version : ℕ) (text : List ℕ) (vars : ℕ) (maxes : List ℕ) (c : Config) → Fine (IsShapeUnder version text vars maxes) c → c.maxes ≡ maxes
-shape_fits version text vars maxes c f = sym (ap (λ (c : Config). c.maxes) (made_of f).same)
+-- a shape of the version with these maxima
+record ShapeFits (version : ℕ) (greatest : List ℕ) (c : Config) : Type 0 where
+  pub maxes : c.maxes ≡ greatest
+  pub walls : may_have_walls version ≡ false → c.walls ≡ []
+
+shape_fits : (version : ℕ) (text : List ℕ) (vars : ℕ) (maxes : List ℕ) (c : Config) → Fine (IsShapeUnder version text vars maxes) c → ShapeFits version maxes c
+shape_fits version text vars maxes c f =
+    let same = (made_of f).same in
+    record { maxes = sym (ap (λ (c : Config). c.maxes) same); walls = λ none. sym (ap (λ (c : Config). c.walls) same) }
 
 -- ---- numbers of what is known
 
@@ -182,9 +190,9 @@ turns_or s a f = either_of with_turns without f
 
 module _ (version : ℕ) (right : IsVersion version) (p : tree.Program) (checked : IsChecked p) where
   only_program : FitTogether (At version (Some p) None None None None None)
-  only_program = record { version = right; checked = checked.checked; vars = checked.vars; actions = checked.actions; world = tt; final_world = tt; lists = tt; schedule = tt; entries = tt }
+  only_program = record { version = right; checked = checked.checked; vars = checked.vars; actions = checked.actions; world = tt; final_world = tt; walls = λ none. (tt, tt); lists = tt; schedule = tt; entries = tt }
 
-  module _ (c : Config) (maxes : c.maxes ≡ maxes_in (Some p)) where
+  module _ (c : Config) (shape : ShapeFits version (maxes_in (Some p)) c) where
     abbrev Listed : Option CallerLists → Option (List ℕ) → Contents
     Listed l s = At version (Some p) (Some c) l s None None
 
@@ -192,16 +200,16 @@ module _ (version : ℕ) (right : IsVersion version) (p : tree.Program) (checked
     Whole l s es w = At version (Some p) (Some c) l s (Some es) (Some w)
 
     and_shape : FitTogether (Listed None None)
-    and_shape = record { version = right; checked = checked.checked; vars = checked.vars; actions = checked.actions; world = maxes; final_world = tt; lists = tt; schedule = tt; entries = tt }
+    and_shape = record { version = right; checked = checked.checked; vars = checked.vars; actions = checked.actions; world = shape.maxes; final_world = tt; walls = λ none. (shape.walls none, tt); lists = tt; schedule = tt; entries = tt }
 
     and_lists : (l : CallerLists) → HaveBots (length c.bots) l → FitTogether (Listed (Some l) None)
-    and_lists l bots = record { version = right; checked = checked.checked; vars = checked.vars; actions = checked.actions; world = maxes; final_world = tt; lists = (refl, bots); schedule = tt; entries = tt }
+    and_lists l bots = record { version = right; checked = checked.checked; vars = checked.vars; actions = checked.actions; world = shape.maxes; final_world = tt; walls = λ none. (shape.walls none, tt); lists = (refl, bots); schedule = tt; entries = tt }
 
     and_schedule : (l : CallerLists) (steps : List ℕ) → HaveBots (length c.bots) l → All (λ caller. caller < length l.ids) steps → FitTogether (Listed (Some l) (Some steps))
-    and_schedule l steps bots callers = record { version = right; checked = checked.checked; vars = checked.vars; actions = checked.actions; world = maxes; final_world = tt; lists = (refl, bots); schedule = (refl, callers); entries = tt }
+    and_schedule l steps bots callers = record { version = right; checked = checked.checked; vars = checked.vars; actions = checked.actions; world = shape.maxes; final_world = tt; walls = λ none. (shape.walls none, tt); lists = (refl, bots); schedule = (refl, callers); entries = tt }
 
-    and_record : (l : Option CallerLists) (s : Option (List ℕ)) (es : List Entry) (w : Config) → FitTogether (Listed l s) → AreEntriesOf (length c.bots) (length p.actions) es → w.maxes ≡ maxes_in (Some p) → FitTogether (Whole l s es w)
-    and_record l s es w t entries last = record { version = t.version; checked = t.checked; vars = t.vars; actions = t.actions; world = t.world; final_world = last; lists = t.lists; schedule = t.schedule; entries = entries }
+    and_record : (l : Option CallerLists) (s : Option (List ℕ)) (es : List Entry) (w : Config) → FitTogether (Listed l s) → AreEntriesOf (length c.bots) (length p.actions) es → ShapeFits version (maxes_in (Some p)) w → FitTogether (Whole l s es w)
+    and_record l s es w t entries last = record { version = t.version; checked = t.checked; vars = t.vars; actions = t.actions; world = t.world; final_world = last.maxes; walls = λ none. (shape.walls none, last.walls none); lists = t.lists; schedule = t.schedule; entries = entries }
 
     module _ (a : Contents) (G : Type 0) where
       -- a schedule, or none
@@ -257,7 +265,7 @@ module _ (version : ℕ) (right : IsVersion version) (p : tree.Program) (checked
           without l s t h = subst (λ (a : Contents). Fits Measure a) (nothing_of h) (record { sections = (refl, refl); recorded = record { last = tt; first = tt }; together = t })
 
   -- a shape, and what stands behind it
-  shaped : (rest : Course) (a : Contents) (G : Type 0) → ((c : Config) → c.maxes ≡ maxes_in (Some p) → There rest (At version (Some p) (Some c) None None None None) a → G) → There (needs section.Shape rest) (At version (Some p) None None None None None) a → G
+  shaped : (rest : Course) (a : Contents) (G : Type 0) → ((c : Config) → ShapeFits version (maxes_in (Some p)) c → There rest (At version (Some p) (Some c) None None None None) a → G) → There (needs section.Shape rest) (At version (Some p) None None None None None) a → G
   shaped rest a G go f = let c = step_of f in go c.value (shape_fits version (codes "shape") (length p.vars) (maxes_in (Some p)) c.value c.before) c.behind
 
 abbrev behind_program : Form → Course

@@ -39,7 +39,7 @@ one_valid b plain fine =
     }) refl) b plain fine
 
 one_written : (b : Bot) → b.mem ≡ zeros → IsValid (shape_of_one b) → IsWritableConfig 1 0 (shape_of_one b)
-one_written b e valid = record { valid = valid; few = omega arith; no_gaps = none; maxes = All-replicate (λ m. m ≤ most_value) 8 0 (omega arith); zeros = all }
+one_written b e valid = record { valid = valid; walls = λ none. refl; few = omega arith; no_gaps = none; maxes = All-replicate (λ m. m ≤ most_value) 8 0 (omega arith); zeros = all }
   where
     none : (id : ℕ) → id < 1 → IsSome (bot_at (shape_of_one b) id)
     none zero lt = refl

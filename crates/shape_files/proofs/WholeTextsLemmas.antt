@@ -52,6 +52,7 @@ use Rattle.shape_files.specs.Frame.{Course, ends, needs, may, may_schedule, may_
 use Rattle.shape_files.specs.FrameLaws.{IsStraight}
 use Rattle.shape_files.specs.Documents.{Contents, nothing_yet, first_in, Body, IsDocument}
 use Rattle.shape_files.specs.WholeTexts.{header_line, text_of_some, document_text, IsWritableProgram, AreWritableMarks, IsWritableDocument, bare_contents, HasBareContents, DocumentsReadBack}
+use Rattle.shape_files.proofs.Versions.{without_walls}
 use Rattle.shape_files.proofs.CheckedLemmas.{none_first}
 use Rattle.shape_files.proofs.BareParts.{still_faultless, as_many_vars, as_many_actions, same_maxes}
 use Rattle.shape_files.proofs.StraightForms.{plain, forms_are_distinct}
@@ -218,7 +219,7 @@ module _ (version : ℕ) (right : IsVersion version) where
     the_shape : (c : Config) → IsWritableConfig version vars_of c → c.maxes ≡ maxes_of p → (text : List ℕ) → Rereads (IsWord text) Any (text ∷ []) → IsReread (IsShapeUnder version text vars_of (maxes_of p)) (Is c) (shape_text text vars_of c)
     the_shape c w m text first =
         let lines = section_lines text (area_words c.area ∷ map (bot_line vars_of) (present c.bots)) in
-        of_lines lines (subst (λ (maxes : List ℕ). RereadsLines (IsShapeUnder version text vars_of maxes) (Is c) lines) m (config_lines version vars_of c w (few_vars p k) text first))
+        of_lines lines (subst (λ (maxes : List ℕ). RereadsLines (IsShapeUnder version text vars_of maxes) (Is c) lines) m (config_lines version vars_of c w (without_walls version right) (few_vars p k) text first))
 
     the_journal : (bots : ℕ) → bots < 2 ^ 16 → (es : List Entry) → length es ≤ most_turns → All (KeepsLimits bots (length p.actions) vars_of) es → IsReread (IsJournal bots (length p.actions) vars_of) (Is es) (journal_text vars_of es)
     the_journal bots small es few each =

@@ -1,5 +1,5 @@
 -- What a document has fits together: it has the sections of its form, and each section names only what the others have.
-use Rattle.std.specs.Prelude.{◌≡◌, ◌<◌, ◌≤◌, ℕ, true, List, [], None, length}
+use Rattle.std.specs.Prelude.{◌≡◌, ◌<◌, ◌≤◌, ℕ, true, false, List, [], None, length}
 use Rattle.std.specs.Option.{IfSome, IsSome}
 use Rattle.std.specs.List.{All}
 use Rattle.amoebot_state.specs.declared.verdict.Entry.{Entry}
@@ -9,6 +9,7 @@ use Rattle.claim_core.specs.Limits.{most_turns}
 use Rattle.claim_core.specs.Turns.{AreLists, HaveBots}
 use Rattle.action_tree.specs.Limits.{most_actions}
 use Rattle.action_check.specs.Faults.{faults}
+use Rattle.node_text.specs.Parts.{may_have_walls}
 use Rattle.journal_text.specs.Journals.{is_known}
 use Rattle.shape_files.specs.declared.section_kind.Form.{Form}
 use Rattle.shape_files.specs.declared.section_kind.Form.TheVariants.{Run, Interleave, Replay, Check, Measure}
@@ -52,6 +53,8 @@ pub record FitTogether (a : Contents) : Type 0 where
   -- the maxima of the variables are the program's
   pub world : IfSome a.world (λ c. c.maxes ≡ maxes_in a.checked)
   pub final_world : IfSome a.final_world (λ c. c.maxes ≡ maxes_in a.checked)
+  -- there are walls only in a version that may have them
+  pub walls : may_have_walls a.version ≡ false → IfSome a.world (λ c. c.walls ≡ []) × IfSome a.final_world (λ c. c.walls ≡ [])
   -- the amoebots of the lists are the shape's, and the callers of the schedule have lists
   pub lists : IfSome a.lists (λ l. IsSome a.world × HaveBots (bots_of a.world) l)
   pub schedule : IfSome a.schedule (λ steps. IsSome a.lists × All (λ caller. caller < callers_of a.lists) steps)

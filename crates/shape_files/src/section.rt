@@ -49,7 +49,7 @@ pub(crate) fn read_section(
             let world = read_final(alloc, tokens, parts.vars(), parts.maxes())?;
             parts.final_world = Some(world);
         }
-        Section::Turns => read_turns(tokens)?,
+        Section::Turns => read_turns(tokens, parts.version)?,
     }
     Ok(())
 }

@@ -133,12 +133,12 @@ returns-in_err-read_turns-in-Turns c =
     let p = err_from_is_err_and c.from_residual-in_err-read_turns-in-Turns.result c.from_residual-in_err-read_turns-in-Turns.ensures.1 in
     let s = contents c.args.parts.now in
     let e = c.in_err-read_turns-in-Turns.field-0.0 in
-    let f : Failed (the_turns s.version >>= λ v. pure (s)) e c.args.tokens.now c.read_turns.new.tokens = not_kept (IsTurns s.version) (the_turns s.version) (exact_turns s.version) (λ (v : Unit {0}). s) c.args.tokens.now c.read_turns.new.tokens e (c.in_err-read_turns-in-Turns.ensures.tells s.version) in
+    let f : Failed (the_turns s.version >>= λ v. pure (s)) e c.args.tokens.now c.read_turns.new.tokens = not_kept (IsTurns s.version) (the_turns s.version) (exact_turns s.version) (λ (v : Unit {0}). s) c.args.tokens.now c.read_turns.new.tokens e c.in_err-read_turns-in-Turns.ensures.tells in
     rw (c.in-Turns.is, p.1, p.2) f
 
 pub returns-in_ok-read_turns-in-Turns : goal.returns-in_ok-read_turns-in-Turns
 unfolding body
 returns-in_ok-read_turns-in-Turns c =
     let s = contents c.args.parts.now in
-    let f : Reached (the_turns s.version >>= λ v. pure (s)) c.args.tokens.now (s) c.read_turns.new.tokens = kept (IsTurns s.version) (the_turns s.version) (exact_turns s.version) (λ (v : Unit {0}). s) c.args.tokens.now c.read_turns.new.tokens c.in_ok-read_turns-in-Turns.field-0 (c.in_ok-read_turns-in-Turns.ensures.tells s.version) in
+    let f : Reached (the_turns s.version >>= λ v. pure (s)) c.args.tokens.now (s) c.read_turns.new.tokens = kept (IsTurns s.version) (the_turns s.version) (exact_turns s.version) (λ (v : Unit {0}). s) c.args.tokens.now c.read_turns.new.tokens c.in_ok-read_turns-in-Turns.field-0 c.in_ok-read_turns-in-Turns.ensures.tells in
     rw c.in-Turns.is f
