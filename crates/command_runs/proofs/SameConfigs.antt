@@ -56,11 +56,14 @@ extents_equal a b = elim (by_test (a.x0 ≡ b.x0) _ (Decides-int_eq a.x0 b.x0)) 
 pub configs_equal : (c d : Config) → (c ≡ d) ⊎ ¬ (c ≡ d)
 configs_equal c d = elim (extents_equal c.area d.area) [
   | inr other ↦ inr (λ e. other (ap (λ (x : Config). x.area) e))
-  | inl area ↦ elim (lists_equal cases_eq c.maxes d.maxes) [
-    | inr other ↦ inr (λ e. other (ap (λ (x : Config). x.maxes) e))
-    | inl maxes ↦ elim (lists_equal (options_equal bots_equal) c.bots d.bots) [
-      | inr other ↦ inr (λ e. other (ap (λ (x : Config). x.bots) e))
-      | inl bots ↦ inl (λ i. record { area = area i; maxes = maxes i; bots = bots i })
+  | inl area ↦ elim (lists_equal cases_eq c.walls d.walls) [
+    | inr other ↦ inr (λ e. other (ap (λ (x : Config). x.walls) e))
+    | inl walls ↦ elim (lists_equal cases_eq c.maxes d.maxes) [
+      | inr other ↦ inr (λ e. other (ap (λ (x : Config). x.maxes) e))
+      | inl maxes ↦ elim (lists_equal (options_equal bots_equal) c.bots d.bots) [
+        | inr other ↦ inr (λ e. other (ap (λ (x : Config). x.bots) e))
+        | inl bots ↦ inl (λ i. record { area = area i; walls = walls i; maxes = maxes i; bots = bots i })
+      ]
     ]
   ]
 ]
