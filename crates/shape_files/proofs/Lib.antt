@@ -1,3 +1,4 @@
+pub mod Versions
 pub mod HeaderLemmas
 pub mod ReaderLemmas
 pub mod StraightLemmas
