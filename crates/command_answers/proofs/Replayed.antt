@@ -1,5 +1,5 @@
 -- A document with the text of its run behind it is one of Replay, and the journal agrees.
-use Rattle.std.proofs.Common.{◌≡◌, ℕ, ◌^◌, ◌<◌, ◌≤◌, List, [], ◌++◌, length, Option, Some, None, codes, refl, sym, ap, subst, ◌∙◌, arith, append_assoc}
+use Rattle.std.proofs.Common.{◌≡◌, ℕ, ◌^◌, ◌<◌, ◌≤◌, false, List, [], ◌++◌, length, Option, Some, None, codes, refl, sym, ap, subst, ◌∙◌, arith, append_assoc}
 use Rattle.std.specs.Prelude.{IsSome}
 use Rattle.std.specs.Option.{IfSome}
 use Rattle.std.specs.List.{All}
@@ -10,6 +10,7 @@ use Rattle.claim_core.specs.declared.report.Report.{Report}
 use Rattle.claim_core.specs.Limits.{most_turns}
 use Rattle.claim_core.specs.Turns.{CallerLists, AreFew, AreLists, HaveBots}
 use Rattle.claim_core.specs.Good.{Good}
+use Rattle.node_text.specs.Parts.{may_have_walls}
 use Rattle.journal_text.specs.Rereading.{KeepsLimits}
 use Rattle.journal_text.specs.Texts.{journal_text, turns_text}
 use Rattle.shape_text.specs.Texts.{shape_text}
@@ -19,7 +20,7 @@ use Rattle.action_tree.specs.Trees.{Program}
 use Rattle.action_check.specs.Faults.{faults}
 use Rattle.action_check.specs.Maxes.{maxes_of}
 use Rattle.action_meaning.specs.Verdicts.{verdict_shown}
-use Rattle.action_meaning.specs.Laws.{ProgramsDecideByActs}
+use Rattle.action_meaning.specs.Laws.{ProgramsDecideByActs, BlockedIsShown}
 use Rattle.shape_files.specs.declared.section_kind.Form.TheVariants as form
 use Rattle.shape_files.specs.Documents.{Contents, var_count, actions_of, maxes_in, bots_of, HasContents}
 use Rattle.shape_files.specs.RunTexts.{run_text, KeepsRunLimits, EndsLine, RunsAreReplayed}
@@ -47,6 +48,7 @@ pub record Laws : Type 0 where
   pub replayed : RunsAreReplayed
   pub few : GoodIsFew
   pub acts : ProgramsDecideByActs
+  pub blocked : BlockedIsShown
   pub decide : ActsKeepDeciderLaws
   pub nine : ZoneHasAtMostNineBodies
 
@@ -78,6 +80,9 @@ module _ (laws : Laws) (bytes : List ℕ) (a : Contents) (p : Program) (start : 
   start_maxes =
       let of : start.maxes ≡ maxes_in a.checked = subst (λ (o : Option Config). IfSome o (λ c. c.maxes ≡ maxes_in a.checked)) its_shape fits.world in
       subst (λ (o : Option Program). start.maxes ≡ maxes_in o) its_program of
+
+  start_walls : may_have_walls a.version ≡ false → start.walls ≡ []
+  start_walls none = subst (λ (o : Option Config). IfSome o (λ c. c.walls ≡ [])) its_shape (fits.walls none).0
 
   may : MayRun p start
   may = record {
@@ -115,10 +120,10 @@ module _ (laws : Laws) (bytes : List ℕ) (a : Contents) (p : Program) (start : 
     few = few_entries;
     entries = subst (λ (o : Option Config). All (KeepsLimits (bots_of o) (actions_of a.checked) (var_count a.checked)) report.journal.entries) (sym its_shape)
         (subst (λ (o : Option Program). All (KeepsLimits (length start.bots) (actions_of o) (var_count o)) report.journal.entries) (sym its_program) entries);
-    last = subst (λ (o : Option Program). shape.IsWritableConfig a.version (var_count o) report.world) (sym its_program) (is_writable p start may report.world last a.version);
+    last = subst (λ (o : Option Program). shape.IsWritableConfig a.version (var_count o) report.world) (sym its_program) (is_writable p start may report.world last a.version start_walls);
     maxes = subst (λ (o : Option Program). report.world.maxes ≡ maxes_in o) (sym its_program) (maxes_are p start may report.world last);
     callers = few_callers (verdict_shown p) start lists report.journal.entries report.turns first drawn.few bots_there few_lists few_entries good.marks;
-    marks = marks_writable (verdict_shown p) start lists report.journal.entries report.turns first drawn.few bots_there few_lists few_entries good.marks a.version;
+    marks = marks_writable (verdict_shown p) start lists report.journal.entries report.turns first drawn.few bots_there few_lists few_entries a.version (laws.blocked p) start_walls good.marks;
   }
 
   is_replayed : (text : List ℕ) → EndsLine bytes → text ≡ report_text (length p.vars) report → IsReplayed bytes a report text

@@ -1,5 +1,5 @@
 -- The worlds of a run from a document's shape.
-use Rattle.std.proofs.Common.{◌≡◌, ℕ, zero, suc, ◌<◌, ◌≤◌, List, [], ◌∷◌, length, map, get_or, Some, refl, sym, ap, subst, ◌∙◌, arith}
+use Rattle.std.proofs.Common.{◌≡◌, ℕ, zero, suc, ◌<◌, ◌≤◌, false, List, [], ◌∷◌, length, map, get_or, Some, refl, sym, ap, subst, ◌∙◌, arith}
 use Rattle.std.specs.Prelude.{IsSome, slice_index}
 use Rattle.std.specs.List.{All}
 use Rattle.std.proofs.lemmas.List.{length-map}
@@ -10,6 +10,7 @@ use Rattle.amoebot_state.specs.declared.verdict.Verdict.{Verdict}
 use Rattle.amoebot_state.specs.Configs.{Config, bot_at}
 use Rattle.amoebot_state.specs.Zones.{Shown}
 use Rattle.amoebot_state.specs.Steps.{Step, Run}
+use Rattle.node_text.specs.Parts.{may_have_walls}
 use Rattle.node_text.specs.PartLimits.{HasLimits}
 use Rattle.shape_text.specs.Rereading as shape
 use Rattle.action_tree.specs.Trees.{Var, Program}
@@ -73,9 +74,10 @@ module _ (p : Program) (start : Config) (may : MayRun p start) (c : Config) (is 
   pub has_limits : (i : ℕ) (b : Bot) → bot_at c i ≡ Some b → HasLimits (length p.vars) b
   has_limits i b at = limits_of (length p.vars) c may.vars is.valid.area is.valid.eight small none_past b (is.valid.each i b at)
 
-  pub is_writable : (version : ℕ) → shape.IsWritableConfig version (length p.vars) c
-  is_writable version = record {
+  pub is_writable : (version : ℕ) → (may_have_walls version ≡ false → start.walls ≡ []) → shape.IsWritableConfig version (length p.vars) c
+  is_writable version walls = record {
     valid = is.valid;
+    walls = λ none. ap (λ (x : Config). x.walls) is.rest ∙ walls none;
     few = (let size = is.size in let few = may.few in omega arith);
     no_gaps = λ id lt. is.ids id ∙ may.no_gaps id (let size = is.size in omega arith);
     maxes = small;

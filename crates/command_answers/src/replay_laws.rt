@@ -2,7 +2,7 @@
 
 ghost use Rattle.command_answers.specs.ReplayLaws.{InterleaveTextsAreReplayed, RunTextsAreReplayed, WhatIsOwedIsReplayed};
 
-use action_meaning::changes_are_acts;
+use action_meaning::{blocked_is_shown, changes_are_acts};
 use amoebot_state::zone_has_at_most_nine_bodies;
 use command_runs::good_is_few;
 use model_ops::acts_decide;
@@ -20,6 +20,7 @@ pub fn run_texts_are_replayed()
     runs_are_replayed();
     good_is_few();
     changes_are_acts();
+    blocked_is_shown();
     acts_decide();
     zone_has_at_most_nine_bodies();
 }

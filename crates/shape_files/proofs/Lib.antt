@@ -1,4 +1,3 @@
-pub mod Versions
 pub mod HeaderLemmas
 pub mod ReaderLemmas
 pub mod StraightLemmas

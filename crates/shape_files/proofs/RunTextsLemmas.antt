@@ -1,5 +1,5 @@
 -- A document of the form Run, followed by the text of a run, is one of the form Replay.
-use Rattle.std.proofs.Common.{◌≡◌, ℕ, false, List, [], ◌∷◌, ◌++◌, length, Some, Ok, codes, refl, sym, ap, subst, ◌∙◌, arith, length-append, append_assoc, map}
+use Rattle.std.proofs.Common.{◌≡◌, ℕ, List, [], ◌∷◌, ◌++◌, length, Some, Ok, codes, refl, sym, ap, subst, ◌∙◌, arith, length-append, append_assoc, map}
 use Rattle.std.specs.List.{enumerate_from, flat_map}
 use Rattle.std.proofs.lemmas.List.{append-nil}
 use Rattle.std.proofs.Math.Seq.{drop-append_seam}
@@ -21,7 +21,6 @@ use Rattle.text_tokens.proofs.PromisesLemmas.{tokens_of_text}
 use Rattle.amoebot_state.specs.declared.verdict.Entry.{Entry}
 use Rattle.amoebot_state.specs.Configs.{Config}
 use Rattle.claim_core.specs.Turns.{MarkLists}
-use Rattle.node_text.specs.Parts.{may_have_walls}
 use Rattle.journal_text.specs.Texts.{entry_words, caller_lines}
 use Rattle.text_tokens.proofs.LinesLemmas.{Found, Is, RereadsLines, lines_made, lines_then, lines_into, lines_nothing}
 use Rattle.journal_text.proofs.JournalsReread.{journal_lines}
@@ -36,8 +35,6 @@ use Rattle.shape_files.specs.Frame.{Course, ends, needs, may, may_schedule, may_
 use Rattle.shape_files.specs.FrameLaws.{IsStraight}
 use Rattle.shape_files.specs.Documents.{Contents, nothing_yet, var_count, actions_of, maxes_in, bots_of, Body, IsDocument, HasContents}
 use Rattle.shape_files.specs.RunTexts.{run_text, KeepsRunLimits, RunsAreReplayed}
-use Rattle.shape_files.proofs.Versions.{without_walls}
-use Rattle.shape_files.proofs.FittingLemmas.{documents_fit}
 use Rattle.shape_files.proofs.StraightForms.{plain, forms_are_distinct}
 use Rattle.shape_files.proofs.ContinuedTexts.{feed_last, tokens_on, EndsInFeed}
 use Rattle.shape_files.proofs.SectionLemmas.{are_sections}
@@ -93,7 +90,7 @@ document_behind a b ts vs w q =
 abbrev last_line : Words
 last_line = codes "end" ∷ []
 
-module _ (a : Contents) (es : List Entry) (c : Config) (m : MarkLists) (k : KeepsRunLimits a es c m) (no_walls : may_have_walls a.version ≡ false) where
+module _ (a : Contents) (es : List Entry) (c : Config) (m : MarkLists) (k : KeepsRunLimits a es c m) where
   abbrev vars : ℕ
   vars = var_count a.checked
 
@@ -119,7 +116,7 @@ module _ (a : Contents) (es : List Entry) (c : Config) (m : MarkLists) (k : Keep
   whole = with_last c
 
   final_lines : RereadsLines (IsFinal a.version vars (maxes_in a.checked)) (Is c) of_final
-  final_lines = subst (λ (maxes : List ℕ). RereadsLines (IsFinal a.version vars maxes) (Is c) of_final) k.maxes (config_lines a.version vars c k.last no_walls k.vars (codes "final") final_word)
+  final_lines = subst (λ (maxes : List ℕ). RereadsLines (IsFinal a.version vars maxes) (Is c) of_final) k.maxes (config_lines a.version vars c k.last k.vars (codes "final") final_word)
 
   the_turns : RereadsLines (There (may Turns ends ends) whole) (Is whole) of_turns
   the_turns =
@@ -171,6 +168,4 @@ module _ (a : Contents) (es : List Entry) (c : Config) (m : MarkLists) (k : Keep
     replayed = subst (λ (text : List ℕ). HasContents Replay (bytes ++ text) whole) (sym text_is) replayed_lines
 
 pub runs_are_replayed : RunsAreReplayed
-runs_are_replayed bytes a es c m (front, e) holds k =
-    let fits = documents_fit Run bytes a holds in
-    replayed a es c m k (without_walls a.version fits.together.version) bytes (subst EndsInFeed (sym e) (feed_last front)) holds
+runs_are_replayed bytes a es c m (front, e) holds k = replayed a es c m k bytes (subst EndsInFeed (sym e) (feed_last front)) holds

@@ -9,6 +9,7 @@ returns c =
       replayed = c.runs_are_replayed.ensures;
       few = c.good_is_few.ensures;
       acts = c.changes_are_acts.ensures.acts;
+      blocked = c.blocked_is_shown.ensures;
       decide = c.acts_decide.ensures.laws;
       nine = c.zone_has_at_most_nine_bodies.ensures;
     } in
