@@ -18,7 +18,11 @@ pub(crate) fn answer_check(alloc: Global, parts: Parts) -> Result<Answer, NoMemo
     requires { Fits (form_of DocumentCommand.Check) (contents parts) }
     ensures { IfOk result (IsAnswerTo DocumentCommand.Check (contents parts)) }
 {
-    let Parts { version, checked, .. } = parts;
+    let Parts {
+        version,
+        checked,
+        ..
+    } = parts;
     let text = print_check(alloc, version, checked.unwrap().program())?;
     Ok(done(text))
 }
