@@ -73,6 +73,7 @@ static RENEWALS: [Renewal; 9] = [
             OUT_3,
             ONE,
             TWO_TURNS,
+            "schedule\n0 times 3\nend\n",
             EXPANDED_3,
             EXPANDED_FINAL,
             WORKED_TURNS,
@@ -173,7 +174,7 @@ static RENEWALS: [Renewal; 9] = [
 ];
 
 /// Journals that differ, which are not renewed.
-pub static DIFFERENT: [Row; 3] = [
+pub static DIFFERENT: [Row; 4] = [
     // An old value is another one.
     (
         "renew",
@@ -195,6 +196,19 @@ pub static DIFFERENT: [Row; 3] = [
             ONE,
             EXPANDED,
             "final\narea 0 0 8 8\nbot 2 3 2 3 0 +\nend\n",
+        ],
+        Differs(1),
+        None,
+        &["differs 1\n"],
+    ),
+    // The last shape lacks a wall.
+    (
+        "renew",
+        &[
+            OUT_3,
+            "shape\narea 0 0 8 8\nwall 5 5\nbot 2 3 2 3 0 +\nend\n",
+            EXPANDED_3,
+            EXPANDED_FINAL,
         ],
         Differs(1),
         None,
