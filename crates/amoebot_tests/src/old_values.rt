@@ -557,8 +557,40 @@ pub static COMPARED: [Row; 12] = [
     ),
 ];
 
-/// Version 3 under the other commands, which have no use for old values.
-static COMMANDS: [Row; 2] = [
+/// Version 3 has walls as version 2 does, and the other commands have no use for old values.
+static COMMANDS: [Row; 4] = [
+    (
+        "run",
+        &[
+            "amoebot 3\nprogram\naction a when true move push head 0\nend\n",
+            "shape\narea 0 0 8 8\nwall 3 2\nwall 2 4\nbot 2 3 2 3 0 +\nbot 3 3 4 3 0 +\nend\n",
+            ONE_TURN,
+        ],
+        Done,
+        Some(1),
+        &[
+            "journal\n\
+            entry 0 0 0 0 0 push head 0 spot 3 3 1 to 0 \
+            body 0 2 3 2 3 0 + to 3 3 2 3 0 + body 1 3 3 4 3 0 + to 4 3 4 3 0 +\nend\n",
+            "final\narea 0 0 8 8\nwall 3 2\nwall 2 4\nbot 3 3 2 3 0 +\nbot 4 3 4 3 0 +\nend\n",
+            DONE,
+        ],
+    ),
+    (
+        "run",
+        &[
+            OUT_3,
+            "shape\narea 0 0 8 8\nwall 3 3\nbot 2 3 2 3 0 +\nend\n",
+            ONE_TURN,
+        ],
+        Done,
+        Some(0),
+        &[
+            NO_ENTRY,
+            "final\narea 0 0 8 8\nwall 3 3\nbot 2 3 2 3 0 +\nend\n",
+            "turns\nturn 0 0 failed blocked 0\nend\n",
+        ],
+    ),
     (
         "check",
         &["amoebot 03 program action a when true end\n"],
@@ -722,7 +754,7 @@ fn old_values_that_were_tampered_with_differ(rt: HostRuntime) -> Result<(), Fail
 }
 
 #[test]
-fn other_commands_read_version_3_too(rt: HostRuntime) -> Result<(), Fail> {
+fn version_3_has_walls_and_serves_other_commands(rt: HostRuntime) -> Result<(), Fail> {
     check_rows(&rt, rt.alloc(), &COMMANDS)?;
     Ok(())
 }
