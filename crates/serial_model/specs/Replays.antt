@@ -9,18 +9,23 @@ use Rattle.amoebot_state.specs.Zones.{Shown}
 use Rattle.amoebot_state.specs.Steps.{Step, Run}
 
 -- entries so few that their number, and with it each of their places, is a number of 32 bits
-abbrev pub AreCountable : List Entry → Type 0
+abbrev pub AreCountable : {E : Type 0} → List E → Type 0
 AreCountable entries = length entries < 2 ^ 32
 
 -- no step of this entry leads anywhere from the configuration
 abbrev pub IsNoStep : (Shown → Verdict) → Config → Entry → Type 0
 IsNoStep f old e = (new : Config) → ¬ Step f old e new
 
--- the first place that is no step: there is an entry there, those before it are a run to some world, and from that world there is
--- no step of it
-pub record IsFirstNoStep (f : Shown → Verdict) (start : Config) (entries : List Entry) (place : ℕ) : Type 0 where
-  pub entry : Entry
+-- For steps of one kind, each told by an E, and runs of such steps: the first place that is no step. One is told there, those before
+-- it are a run to some world, and from that world there is no step of it
+pub record IsFirstStop {E : Type 0} (S : Config → E → Config → Type 0) (R : Config → List E → Config → Type 0)
+    (start : Config) (entries : List E) (place : ℕ) : Type 0 where
+  pub entry : E
   pub there : slice_get entries place ≡ Some entry
   pub world : Config
-  pub before : Run f start (take place entries) world
-  pub none : IsNoStep f world entry
+  pub before : R start (take place entries) world
+  pub none : (new : Config) → ¬ S world entry new
+
+-- so it is for the steps of a program
+abbrev pub IsFirstNoStep : (Shown → Verdict) → Config → List Entry → ℕ → Type 0
+IsFirstNoStep f = IsFirstStop (Step f) (Run f)
