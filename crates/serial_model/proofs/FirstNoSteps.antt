@@ -18,11 +18,11 @@ use Rattle.serial_model.proofs.SameChanges.{same_or_not}
 
 -- runs are steps one after another, and a step leads to one configuration
 pub record AreRuns {E : Type 0} (S : Config → E → Config → Type 0) (R : Config → List E → Config → Type 0) : Type 0 where
-  begin : (c : Config) → R c [] c
-  over : (c d : Config) → R c [] d → d ≡ c
-  cons : (c m d : Config) (e : E) (es : List E) → S c e m → R m es d → R c (e ∷ es) d
-  uncons : (c d : Config) (e : E) (es : List E) → R c (e ∷ es) d → (m : Config) × S c e m × R m es d
-  one : (c m n : Config) (e : E) → S c e m → S c e n → m ≡ n
+  pub begin : (c : Config) → R c [] c
+  pub over : (c d : Config) → R c [] d → d ≡ c
+  pub cons : (c m d : Config) (e : E) (es : List E) → S c e m → R m es d → R c (e ∷ es) d
+  pub uncons : (c d : Config) (e : E) (es : List E) → R c (e ∷ es) d → (m : Config) × S c e m × R m es d
+  pub one : (c m n : Config) (e : E) → S c e m → S c e n → m ≡ n
 
 module _ {E : Type 0} {S : Config → E → Config → Type 0} {R : Config → List E → Config → Type 0} (are : AreRuns S R) where
   -- behind a step, a first place that is no step is one place on
@@ -102,7 +102,7 @@ decided_or_not (verdict.Change other) change = elim (same_or_not other change) [
   | inr ne ↦ inr (λ e. let same : other ≡ change = cc in ne same)
 ]
 
-there_or_not : (o : Option Bot) → IsSome o ⊎ (IsSome o → ⊥)
+pub there_or_not : (o : Option Bot) → IsSome o ⊎ (IsSome o → ⊥)
 there_or_not None = inr false≢true
 there_or_not (Some b) = inl refl
 
