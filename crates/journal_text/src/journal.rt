@@ -1,6 +1,6 @@
 //! The section `journal` read.
 
-ghost use Rattle.std.specs.Prelude.{◌≡◌, ◌≢◌, ◌<◌, ◌≤◌, length, map, option_map, nat_lt, if◌then◌else◌, IfErr, IfOk, IfSome, Ok, Err, Some, None};
+ghost use Rattle.std.specs.Prelude.{◌≡◌, ◌≢◌, ◌<◌, ◌≤◌, false, length, map, option_map, nat_lt, if◌then◌else◌, IfErr, IfOk, IfSome, Ok, Err, Some, None};
 ghost use Rattle.std.specs.List.{flat_map, list_all};
 ghost use Rattle.text_tokens.specs.Cursor.{next_passes};
 ghost use Rattle.text_tokens.specs.Steps.{Gives, ReadsOf, TellsOf, another};
@@ -13,7 +13,7 @@ ghost use Rattle.journal_text.specs.Journals as spec;
 ghost use Rattle.journal_text.specs.Readers as reader;
 ghost use Rattle.journal_text.specs.Views as view;
 
-use amoebot_state::{Bot, Cell, CellName, End, Entry, MOST_PAIRS, Moved, Patch, Port};
+use amoebot_state::{Bot, Cell, CellName, End, Entry as PlainEntry, MOST_PAIRS, Moved, Patch as PlainPatch, Port};
 use arrayvec::ArrayVec;
 use node_text::{read_bot, read_end, read_node, read_port, read_word, read_word_within};
 use std::alloc::Global;
@@ -27,13 +27,13 @@ const LAST_CALLER: u32 = 15;
 
 const LAST_TURN: u32 = 65_535;
 
-/// The entries of a journal. They are seen as a list.
+/// The entries of a journal without old values. They are seen as a list.
 #[derive(Drop)]
-pub struct Entries {
-    entries: Vec<Entry>,
+pub struct PlainEntries {
+    entries: Vec<PlainEntry>,
 }
 
-impl Model for Entries {
+impl Model for PlainEntries {
     ghost use Rattle.std.specs.Prelude.{List};
     ghost use Rattle.amoebot_state.specs.declared.verdict.Entry.{Entry as EntryValue};
 
@@ -42,9 +42,9 @@ impl Model for Entries {
     ghost view = { λ e. e.entries.items };
 }
 
-impl Entries {
+impl PlainEntries {
     /// The entries in their order, at most 65,536.
-    pub fn entries(&self) -> &[Entry]
+    pub fn entries(&self) -> &[PlainEntry]
         ensures { result.now ≡ self.now }
     {
         self.entries.as_slice()
@@ -58,11 +58,19 @@ pub(crate) enum WrittenCell {
     Body(u32),
 }
 
-/// A cell with its new value, as they are written.
+/// A cell as it is written: with its value before, if the text has it, and its value after.
 #[derive(Clone, Copy, Debug, PartialEq, Eq)]
 enum WrittenPair {
-    Spot { node: Node, occupant: Option<u32> },
-    Body { id: u32, bot: Bot },
+    Spot {
+        node: Node,
+        before: Option<Option<u32>>,
+        occupant: Option<u32>,
+    },
+    Body {
+        id: u32,
+        before: Option<Bot>,
+        bot: Bot,
+    },
 }
 
 // The default fills the free places of a list of fixed size, and means nothing else.
@@ -70,6 +78,7 @@ impl Default for WrittenPair {
     fn default() -> Self {
         WrittenPair::Spot {
             node: Node { x: 0, y: 0 },
+            before: None,
             occupant: None,
         }
     }
@@ -157,18 +166,52 @@ fn read_occupant(tokens: &mut Tokens<'_>) -> Result<Option<u32>, ReadRefusal>
     }
 }
 
-#[tactic(auto, unfolding(crate::specs::Readers::a_pair, crate::specs::Readers::a_value))]
-fn read_pair(tokens: &mut Tokens<'_>, vars: u8) -> Result<WrittenPair, ReadRefusal>
+/// The occupant before and the word behind it, in texts with old values. Nothing is read in those without.
+fn read_old_occupant(
+    tokens: &mut Tokens<'_>,
+    old: bool,
+) -> Result<Option<Option<u32>>, ReadRefusal>
+    ensures { Gives (λ o. option_map cell.Spot o) (reader.an_old_value old reader.an_occupant) tokens.old result tokens.new }
+{
+    if !old {
+        return Ok(None);
+    }
+    let occupant = read_occupant(tokens)?;
+    read_word(tokens, b"to")?;
+    Ok(Some(occupant))
+}
+
+/// The same of the amoebot before.
+fn read_old_bot(
+    tokens: &mut Tokens<'_>,
+    old: bool,
+    vars: u8,
+) -> Result<Option<Bot>, ReadRefusal>
     requires { vars ≤ most_vars }
-    ensures { Gives view.pair (reader.a_pair vars) tokens.old result tokens.new }
+    ensures { Gives (λ o. option_map cell.Body o) (reader.an_old_value old (reader.a_bot_value vars)) tokens.old result tokens.new }
+{
+    if !old {
+        return Ok(None);
+    }
+    let bot = read_bot(tokens, vars)?;
+    read_word(tokens, b"to")?;
+    Ok(Some(bot))
+}
+
+#[tactic(auto, unfolding(crate::specs::Readers::a_pair, crate::specs::Readers::a_value))]
+fn read_pair(tokens: &mut Tokens<'_>, old: bool, vars: u8) -> Result<WrittenPair, ReadRefusal>
+    requires { vars ≤ most_vars }
+    ensures { Gives view.pair (reader.a_pair old vars) tokens.old result tokens.new }
 {
     match read_cell(tokens)? {
         WrittenCell::Spot(node) => Ok(WrittenPair::Spot {
             node,
+            before: read_old_occupant(tokens, old)?,
             occupant: read_occupant(tokens)?,
         }),
         WrittenCell::Body(id) => Ok(WrittenPair::Body {
             id,
+            before: read_old_bot(tokens, old, vars)?,
             bot: read_bot(tokens, vars)?,
         }),
     }
@@ -184,11 +227,12 @@ fn is_cell_next(tokens: &Tokens<'_>) -> bool
 /// One more pair, if one comes, where so many more may come.
 fn more_pair(
     tokens: &mut Tokens<'_>,
+    old: bool,
     vars: u8,
     room: u32,
 ) -> Result<Option<WrittenPair>, ReadRefusal>
     requires { vars ≤ most_vars }
-    ensures reads { Gives (λ o. option_map view.pair o) (another spec.is_cell (reader.pair_in vars room)) tokens.old result tokens.new }
+    ensures reads { Gives (λ o. option_map view.pair o) (another spec.is_cell (reader.pair_in old vars room)) tokens.old result tokens.new }
     ensures room { IfOk result (λ o. IfSome o (λ _. 0 < room)) }
 {
     if !is_cell_next(tokens) {
@@ -197,17 +241,22 @@ fn more_pair(
     if room == 0 {
         return Err(tokens.refusal(RefusalKind::TooMany).into());
     }
-    Ok(Some(read_pair(tokens, vars)?))
+    Ok(Some(read_pair(tokens, old, vars)?))
 }
 
 /// The pairs of an entry, in place of those of the entry before.
-fn read_pairs(tokens: &mut Tokens<'_>, vars: u8, found: &mut Pairs) -> Result<(), ReadRefusal>
+fn read_pairs(
+    tokens: &mut Tokens<'_>,
+    old: bool,
+    vars: u8,
+    found: &mut Pairs,
+) -> Result<(), ReadRefusal>
     requires { vars ≤ most_vars }
-    ensures { Gives (λ u. map view.pair found.new.items) (reader.all_pairs vars) tokens.old result tokens.new }
+    ensures { Gives (λ u. map view.pair found.new.items) (reader.all_pairs old vars) tokens.old result tokens.new }
 {
     found.clear();
     let mut room = MOST_PAIRS as u32;
-    while let Some(pair) = more_pair(tokens, vars, room)? {
+    while let Some(pair) = more_pair(tokens, old, vars, room)? {
         found.push(pair);
         room -= 1;
     }
@@ -235,18 +284,19 @@ fn read_numbers(tokens: &mut Tokens<'_>) -> Result<Numbers, ReadRefusal>
 #[tactic(auto, unfolding(crate::specs::Readers::a_written_entry, crate::specs::Readers::entry_word))]
 fn read_written(
     tokens: &mut Tokens<'_>,
+    old: bool,
     vars: u8,
     before: u32,
     pairs: &mut Pairs,
 ) -> Result<Written, ReadRefusal>
     requires { vars ≤ most_vars }
-    ensures reads { Gives (λ w. view.entry_view w pairs.new.items) (reader.a_written_entry vars before) tokens.old result tokens.new }
+    ensures reads { Gives (λ w. view.entry_view w pairs.new.items) (reader.a_written_entry old vars before) tokens.old result tokens.new }
     ensures room { IfOk result (λ _. before < most_turns) }
 {
     let line = read_word_within(tokens, b"entry", MOST_ENTRIES, before)?;
     let numbers = read_numbers(tokens)?;
     let moved = read_moved(tokens)?;
-    read_pairs(tokens, vars, pairs)?;
+    read_pairs(tokens, old, vars, pairs)?;
     Ok(Written {
         line,
         numbers,
@@ -254,54 +304,90 @@ fn read_written(
     })
 }
 
-/// The pair, if the amoebots that it names are some of so many.
-fn known_pair(pair: WrittenPair, bots: u16) -> Option<(CellName, Cell)>
-    ensures { result ≡ if list_all (λ id. nat_lt id bots) (spec.ids_of_pair (view.pair pair)) then Some (view.pair pair) else None }
+/// The occupant as a value, if it is one of so many amoebots or none.
+fn known_occupant(occupant: Option<u32>, bots: u16) -> Option<Cell>
+    ensures { result ≡ if list_all (λ id. nat_lt id bots) (spec.ids_of_value (cell.Spot occupant)) then Some (cell.Spot occupant) else None }
+{
+    match occupant {
+        None => Some(Cell::Spot(None)),
+        Some(id) if id < u32::from(bots) => Some(Cell::Spot(Some(id as u16))),
+        Some(_) => None,
+    }
+}
+
+/// The same of the occupant before, where it is written.
+fn known_old(before: Option<Option<u32>>, bots: u16) -> Option<Option<Cell>>
+    ensures { result
+        ≡ if list_all (λ id. nat_lt id bots) (spec.ids_of_old (option_map cell.Spot before))
+        then Some (option_map cell.Spot before)
+        else None }
+{
+    match before {
+        None => Some(None),
+        Some(occupant) => Some(Some(known_occupant(occupant, bots)?)),
+    }
+}
+
+/// The amoebot before as a value, where it is written.
+fn body_before(before: Option<Bot>) -> Option<Cell>
+    ensures { result ≡ option_map cell.Body before }
+{
+    match before {
+        None => None,
+        Some(bot) => Some(Cell::Body(bot)),
+    }
+}
+
+/// The cell with its values, if the amoebots that it names are some of so many.
+fn known_change(pair: WrittenPair, bots: u16) -> Option<(CellName, Option<Cell>, Cell)>
+    ensures { result ≡ if list_all (λ id. nat_lt id bots) (spec.ids_of_change (view.pair pair)) then Some (view.pair pair) else None }
 {
     match pair {
         WrittenPair::Spot {
             node,
-            occupant: None,
-        } => Some((CellName::Spot(node), Cell::Spot(None))),
-        WrittenPair::Spot {
-            node,
-            occupant: Some(id),
-        } if id < u32::from(bots) => Some((CellName::Spot(node), Cell::Spot(Some(id as u16)))),
-        WrittenPair::Body { id, bot } if id < u32::from(bots) => Some((
+            before,
+            occupant,
+        } => {
+            let old = known_old(before, bots)?;
+            let value = known_occupant(occupant, bots)?;
+            Some((CellName::Spot(node), old, value))
+        }
+        WrittenPair::Body { id, before, bot } if id < u32::from(bots) => Some((
             CellName::Body(id as u16),
+            body_before(before),
             Cell::Body(bot),
         )),
-        _ => None,
+        WrittenPair::Body { .. } => None,
     }
 }
 
-/// The pairs, at most 10, if the amoebots that they name are some of so many.
-fn known_patch(pairs: &[WrittenPair], bots: u16) -> Option<Patch>
+/// The cells with their values after, at most 10, if the amoebots that they name are some of so many.
+fn known_plain_patch(pairs: &[WrittenPair], bots: u16) -> Option<PlainPatch>
     requires { length pairs.now ≤ most_pairs }
     ensures { result
-        ≡ if list_all (λ id. nat_lt id bots) (flat_map spec.ids_of_pair (map view.pair pairs.now))
-        then Some (map view.pair pairs.now)
+        ≡ if list_all (λ id. nat_lt id bots) (flat_map spec.ids_of_change (map view.pair pairs.now))
+        then Some (map spec.plain_change (map view.pair pairs.now))
         else None }
 {
-    let mut patch = Patch::new();
+    let mut patch = PlainPatch::new();
     for pair in pairs {
-        let (name, cell) = known_pair(*pair, bots)?;
-        patch.push(name, cell);
+        let (name, _, value) = known_change(*pair, bots)?;
+        patch.push(name, value);
     }
     Some(patch)
 }
 
-/// The entry with these pairs, if its caller and turn are ones that there may be, and its action and amoebots some of so many.
-/// Else it is refused on its line.
-fn known_entry(
+/// The entry with these pairs and without old values, if its caller and turn are ones that there may be, and its action and
+/// amoebots some of so many. Else it is refused on its line.
+fn known_plain_entry(
     written: &Written,
     pairs: &[WrittenPair],
     bots: u16,
     actions: u8,
-) -> Result<Entry, ReadRefusal>
+) -> Result<PlainEntry, ReadRefusal>
     requires { length pairs.now ≤ most_pairs }
     ensures { result ≡ if spec.is_known bots actions (view.entry_view written.now pairs.now).entry
-        then Ok (view.entry_view written.now pairs.now).entry
+        then Ok (spec.plain_by (view.entry_view written.now pairs.now).entry)
         else Err (Refused (record { line = written.now.line; kind = BadEntry })) }
 {
     let Numbers {
@@ -318,8 +404,8 @@ fn known_entry(
     {
         return Err(refused(written.line, RefusalKind::BadEntry));
     }
-    match known_patch(pairs, bots) {
-        Some(patch) => Ok(Entry {
+    match known_plain_patch(pairs, bots) {
+        Some(patch) => Ok(PlainEntry {
             caller: caller as u8,
             turn,
             bot: bot as u16,
@@ -331,77 +417,77 @@ fn known_entry(
     }
 }
 
-/// An entry behind so many. It is judged once no further pair comes.
+/// An entry without old values, behind so many. It is judged once no further pair comes.
 #[tactic(auto, unfolding(crate::specs::Readers::an_entry))]
-fn read_entry(
+fn read_plain_entry(
     tokens: &mut Tokens<'_>,
     bots: u16,
     actions: u8,
     vars: u8,
     before: u32,
     pairs: &mut Pairs,
-) -> Result<Entry, ReadRefusal>
+) -> Result<PlainEntry, ReadRefusal>
     requires { vars ≤ most_vars }
-    ensures reads { Gives (λ e. e) (reader.an_entry bots actions vars before) tokens.old result tokens.new }
+    ensures reads { Gives (λ e. e) (reader.an_entry false spec.plain_by bots actions vars before) tokens.old result tokens.new }
     ensures room { IfOk result (λ _. before < most_turns) }
 {
-    let written = read_written(tokens, vars, before, pairs)?;
+    let written = read_written(tokens, false, vars, before, pairs)?;
     if written.numbers.place != before {
         return Err(refused(written.line, RefusalKind::BadPlace));
     }
-    known_entry(&written, pairs.as_slice(), bots, actions)
+    known_plain_entry(&written, pairs.as_slice(), bots, actions)
 }
 
-fn read_entries(
+fn read_plain_entries(
     alloc: Global,
     tokens: &mut Tokens<'_>,
     bots: u16,
     actions: u8,
     vars: u8,
-) -> Result<Vec<Entry>, ReadRefusal>
+) -> Result<Vec<PlainEntry>, ReadRefusal>
     requires { vars ≤ most_vars }
-    ensures { Gives (λ v. v.items) (reader.all_entries bots actions vars) tokens.old result tokens.new }
+    ensures { Gives (λ v. v.items) (reader.all_entries false spec.plain_by bots actions vars) tokens.old result tokens.new }
 {
     let mut found = Vec::new(alloc);
     let mut pairs = ArrayVec::new();
     let mut before = 0;
     while tokens.is_next(TokenKind::Word, b"entry") {
-        let entry = read_entry(tokens, bots, actions, vars, before, &mut pairs)?;
+        let entry = read_plain_entry(tokens, bots, actions, vars, before, &mut pairs)?;
         found.push(entry)?;
         before += 1;
     }
     Ok(found)
 }
 
-#[tactic(auto, unfolding(crate::specs::Readers::journal))]
-fn read_whole(
+#[tactic(auto, unfolding(crate::specs::Readers::journal_by))]
+fn read_whole_plain(
     alloc: Global,
     tokens: &mut Tokens<'_>,
     bots: u16,
     actions: u8,
     vars: u8,
-) -> Result<Entries, ReadRefusal>
+) -> Result<PlainEntries, ReadRefusal>
     requires { vars ≤ most_vars }
-    ensures { Gives (λ e. e) (reader.journal bots actions vars) tokens.old result tokens.new }
+    ensures { Gives (λ e. e) (reader.plain_journal bots actions vars) tokens.old result tokens.new }
 {
     read_word(tokens, b"journal")?;
-    let entries = read_entries(alloc, tokens, bots, actions, vars)?;
+    let entries = read_plain_entries(alloc, tokens, bots, actions, vars)?;
     read_word(tokens, b"end")?;
-    Ok(Entries { entries })
+    Ok(PlainEntries { entries })
 }
 
-/// Reads a journal up to its `end`, of a world of so many amoebots, a program of so many actions, and so many variables, at
-/// most 8.
-pub fn read_journal(
+/// Reads a journal without old values up to its `end`, of a world of so many amoebots, a program of so many actions, and so
+/// many variables, at most 8.
+pub fn read_plain(
     alloc: Global,
     tokens: &mut Tokens<'_>,
     bots: u16,
     actions: u8,
     vars: u8,
-) -> Result<Entries, ReadRefusal>
+) -> Result<PlainEntries, ReadRefusal>
     requires { vars ≤ most_vars }
-    ensures tells { TellsOf (spec.IsJournal bots actions vars) (λ e. e) tokens.old result tokens.new }
-    ensures reads { ReadsOf (spec.IsJournal bots actions vars) (λ e. e) tokens.old result tokens.new }
+    ensures tells { TellsOf (spec.IsPlainJournal bots actions vars) (λ e. e) tokens.old result tokens.new }
+    ensures reads { ReadsOf (spec.IsPlainJournal bots actions vars) (λ e. e) tokens.old result tokens.new }
 {
-    read_whole(alloc, tokens, bots, actions, vars)
+    read_whole_plain(alloc, tokens, bots, actions, vars)
 }

@@ -5,8 +5,8 @@ ghost use Rattle.std.specs.List.{enumerate_from, flat_map};
 ghost use Rattle.text_tokens.specs.Lines.{line_text, lines_text, spaced};
 ghost use Rattle.amoebot_state.specs.Limits.{most_vars};
 ghost use Rattle.journal_text.specs.Texts.{caller_lines, cell_words, entry_numbers};
-ghost use Rattle.journal_text.specs.Texts.{entry_words, failure_word, journal_text, mark_words, moved_words};
-ghost use Rattle.journal_text.specs.Texts.{pair_words, turn_words, turns_text, value_words};
+ghost use Rattle.journal_text.specs.Texts.{change_of_pair, change_words, entry_words, failure_word, mark_words, moved_words};
+ghost use Rattle.journal_text.specs.Texts.{plain_text, turn_words, turns_text, value_words, written_lines, written_plain};
 ghost use Rattle.claim_core.specs.Turns.{marks_of};
 
 use amoebot_state::{Cell, CellName, Entry, Failure, Moved, NoMemory};
@@ -16,12 +16,12 @@ use std::alloc::{AllocError, Global};
 use text_tokens::{Lines, Text};
 
 /// The section `journal`: the entries, numbered from 0, with the values of so many variables, at most 8.
-pub fn print_journal(alloc: Global, entries: &[Entry], vars: u8) -> Result<Text, NoMemory>
+pub fn print_plain(alloc: Global, entries: &[Entry], vars: u8) -> Result<Text, NoMemory>
     requires { vars ≤ most_vars }
-    ensures { IfOk result (λ text. text ≡ journal_text vars entries.now) }
+    ensures { IfOk result (λ text. text ≡ plain_text vars entries.now) }
 {
     let mut lines = Lines::new(alloc);
-    put_journal(&mut lines, entries, vars)?;
+    put_plain(&mut lines, entries, vars)?;
     Ok(lines.text())
 }
 
@@ -35,9 +35,9 @@ pub fn print_turns(alloc: Global, marks: &Marks) -> Result<Text, NoMemory>
 }
 
 /// Adds the section `journal` to a text.
-pub fn put_journal(lines: &mut Lines, entries: &[Entry], vars: u8) -> Result<(), AllocError>
+pub fn put_plain(lines: &mut Lines, entries: &[Entry], vars: u8) -> Result<(), AllocError>
     requires { vars ≤ most_vars }
-    ensures { OnOk result (lines.new ≡ lines.old ++ journal_text vars entries.now) }
+    ensures { OnOk result (lines.new ≡ lines.old ++ plain_text vars entries.now) }
 {
     lines.open_section("journal")?;
     put_entries(lines, entries, vars)?;
@@ -55,7 +55,7 @@ pub fn put_turns(lines: &mut Lines, marks: &Marks) -> Result<(), AllocError>
 
 fn put_entries(lines: &mut Lines, entries: &[Entry], vars: u8) -> Result<(), AllocError>
     requires { vars ≤ most_vars }
-    ensures { OnOk result (lines.new ≡ lines.old ++ lines_text (map (entry_words vars) (enumerate_from 0 entries.now))) }
+    ensures { OnOk result (lines.new ≡ lines.old ++ lines_text (written_lines vars (map written_plain entries.now))) }
 {
     for (place, entry) in entries.iter().enumerate() {
         put_entry(lines, place, entry, vars)?;
@@ -65,7 +65,7 @@ fn put_entries(lines: &mut Lines, entries: &[Entry], vars: u8) -> Result<(), All
 
 fn put_entry(lines: &mut Lines, place: usize, entry: &Entry, vars: u8) -> Result<(), AllocError>
     requires { vars ≤ most_vars }
-    ensures { OnOk result (lines.new ≡ lines.old ++ line_text (entry_words vars (place, entry.now))) }
+    ensures { OnOk result (lines.new ≡ lines.old ++ line_text (entry_words vars (place, written_plain entry.now))) }
 {
     lines.begin("entry")?;
     put_numbers(lines, place, entry)?;
@@ -76,7 +76,7 @@ fn put_entry(lines: &mut Lines, place: usize, entry: &Entry, vars: u8) -> Result
 
 /// The five numbers with which an entry begins.
 fn put_numbers(lines: &mut Lines, place: usize, entry: &Entry) -> Result<(), AllocError>
-    ensures { OnOk result (lines.new ≡ lines.old ++ spaced (entry_numbers place entry.now)) }
+    ensures { OnOk result (lines.new ≡ lines.old ++ spaced (entry_numbers place (written_plain entry.now))) }
 {
     lines.unsigned(place as u64)?;
     lines.unsigned(u64::from(entry.caller))?;
@@ -152,7 +152,7 @@ fn put_mark(lines: &mut Lines, mark: Mark) -> Result<(), AllocError>
 
 fn put_pairs(lines: &mut Lines, pairs: &[(CellName, Cell)], vars: u8) -> Result<(), AllocError>
     requires { vars ≤ most_vars }
-    ensures { OnOk result (lines.new ≡ lines.old ++ spaced (flat_map (pair_words vars) pairs.now)) }
+    ensures { OnOk result (lines.new ≡ lines.old ++ spaced (flat_map (change_words vars) (map change_of_pair pairs.now))) }
 {
     for (name, value) in pairs {
         put_cell(lines, *name)?;

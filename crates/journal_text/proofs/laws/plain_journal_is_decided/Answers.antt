@@ -1,37 +1,37 @@
-use Rattle.std.proofs.Common.{refl}
+use Rattle.std.proofs.Common.{false, refl}
 use Rattle.text_tokens.specs.Scan.{skip, ready, sign_len, front, scan, scan_end, ahead_of, last_of}
 use Rattle.text_tokens.specs.Cursor.{same_kind}
 use Rattle.text_tokens.specs.Reading.{one_within, the_line, numeral, either, limited, times, elements, repeated}
 use Rattle.text_tokens.proofs.CombinatorLemmas.{exact_law}
 use Rattle.text_tokens.proofs.SaysLemmas.{IsSaid, says}
-use Rattle.journal_text.specs.Journals.{AreEntries, IsJournal}
+use Rattle.journal_text.specs.Journals.{AreEntriesBy, plain_by, IsPlainJournal}
 use Rattle.node_text.specs.PartReaders.{an_int, a_node, an_end, a_chirality, a_port_text, a_bot}
-use Rattle.journal_text.specs.Readers.{port_behind, end_behind, a_movement, a_cell, an_occupant, a_value, a_pair, all_pairs, the_numbers, entry_word, a_written_entry, an_entry, entries_from, journal}
-use Rattle.journal_text.proofs.JournalLaws.{part_journal, exact_journal, exact_entries}
-use Rattle.journal_text.proofs.laws.journal_is_decided.Goals as goal
+use Rattle.journal_text.specs.Readers.{port_behind, end_behind, a_movement, a_cell, an_occupant, a_value, an_old_value, a_pair, all_pairs, the_numbers, entry_word, a_written_entry, an_entry, entries_from, journal_by, plain_journal}
+use Rattle.journal_text.proofs.JournalLaws.{part_journal_of, exact_plain_journal, exact_entries}
+use Rattle.journal_text.proofs.laws.plain_journal_is_decided.Goals as goal
 
 pub returns-clause-exact : goal.returns-clause-exact
-returns-clause-exact c = exact_journal
+returns-clause-exact c = exact_plain_journal
 
 pub returns-clause-decided : goal.returns-clause-decided
-returns-clause-decided c = λ bots actions vars. (exact_law (IsJournal bots actions vars) (journal bots actions vars) (part_journal bots actions vars).law).1
+returns-clause-decided c = λ bots actions vars. (exact_law (IsPlainJournal bots actions vars) (plain_journal bots actions vars) (part_journal_of false plain_by bots actions vars).law).1
 
-told : IsSaid (IsJournal 3 2 1) (journal 3 2 1)
-told = says (IsJournal 3 2 1) (journal 3 2 1) (exact_journal 3 2 1)
+told : IsSaid (IsPlainJournal 3 2 1) (plain_journal 3 2 1)
+told = says (IsPlainJournal 3 2 1) (plain_journal 3 2 1) (exact_plain_journal 3 2 1)
 
-told_behind : IsSaid (AreEntries 3 2 1 65535) (entries_from 3 2 1 65535)
-told_behind = says (AreEntries 3 2 1 65535) (entries_from 3 2 1 65535) (exact_entries 3 2 1 65535)
+told_behind : IsSaid (AreEntriesBy false plain_by 3 2 1 65535) (entries_from false plain_by 3 2 1 65535)
+told_behind = says (AreEntriesBy false plain_by 3 2 1 65535) (entries_from false plain_by 3 2 1 65535) (exact_entries false plain_by 3 2 1 65535)
 
 pub returns-clause-read : goal.returns-clause-read
-unfolding skip ready sign_len front scan scan_end ahead_of last_of same_kind one_within the_line numeral either limited times elements repeated an_int a_node an_end a_chirality a_port_text a_bot port_behind end_behind a_movement a_cell an_occupant a_value a_pair all_pairs the_numbers entry_word a_written_entry an_entry entries_from journal
+unfolding skip ready sign_len front scan scan_end ahead_of last_of same_kind one_within the_line numeral either limited times elements repeated an_int a_node an_end a_chirality a_port_text a_bot port_behind end_behind a_movement a_cell an_occupant a_value an_old_value a_pair all_pairs the_numbers entry_word a_written_entry an_entry entries_from journal_by
 returns-clause-read c = record {
   nothing = told _ _ refl;
   expand = told _ _ refl;
   largest = told _ _ refl;
   movements = told _ _ refl;
   ten_pairs = told _ _ refl;
-  no_value = says (IsJournal 3 2 0) (journal 3 2 0) (exact_journal 3 2 0) _ _ refl;
-  eight_values = says (IsJournal 3 2 8) (journal 3 2 8) (exact_journal 3 2 8) _ _ refl;
+  no_value = says (IsPlainJournal 3 2 0) (plain_journal 3 2 0) (exact_plain_journal 3 2 0) _ _ refl;
+  eight_values = says (IsPlainJournal 3 2 8) (plain_journal 3 2 8) (exact_plain_journal 3 2 8) _ _ refl;
   last_entry = told_behind _ _ refl;
   direction_6 = told _ _ refl;
   coordinate_10000 = told _ _ refl;
