@@ -20,19 +20,20 @@ use Rattle.amoebot_state.specs.declared.cell.CellName.{CellName}
 use Rattle.amoebot_state.specs.declared.cell.CellName.TheVariants as name
 use Rattle.amoebot_state.specs.declared.cell.Cell.{Cell}
 use Rattle.amoebot_state.specs.declared.cell.Cell.TheVariants as cell
-use Rattle.amoebot_state.specs.declared.verdict.Entry.{Entry as PlainEntry}
+use Rattle.amoebot_state.specs.declared.verdict.Entry.{Entry}
+use Rattle.amoebot_state.specs.declared.verdict.PlainEntry.{PlainEntry}
 use Rattle.amoebot_state.specs.declared.verdict.Moved.{Moved}
 use Rattle.amoebot_state.specs.declared.verdict.Moved.TheVariants as moved
-use Rattle.amoebot_state.specs.Pairs.{Pairs}
+use Rattle.amoebot_state.specs.Pairs.{Pairs, Triples}
 use Rattle.amoebot_state.specs.Ports.{end_word}
 use Rattle.claim_core.specs.Limits.{most_turns}
 use Rattle.node_text.specs.Parts.{word, is_end, one_more, IsWord}
-use Rattle.journal_text.specs.Journals.{IsPortBehind, IsMoved, IsCellText, IsValueOf, IsOldValue, WrittenChange, written_change, IsPair, Numbers, numbers_of, AreNumbers, WrittenEntry, Written, written_entry, IsEntryWord, IsWrittenEntry, ids_of_name, ids_of_value, ids_of_old, ids_of_change, named_ids, is_known, entry_fault, IsEntryBy, AreEntriesBy, IsJournalOf, plain_by, IsPlainJournal}
+use Rattle.journal_text.specs.Journals.{IsPortBehind, IsMoved, IsCellText, IsValueOf, IsOldValue, WrittenChange, written_change, IsPair, Numbers, numbers_of, AreNumbers, WrittenEntry, Written, written_entry, IsEntryWord, IsWrittenEntry, ids_of_name, ids_of_value, ids_of_old, ids_of_change, named_ids, is_known, entry_fault, IsEntryBy, AreEntriesBy, IsJournalOf, entry_by, IsJournal, plain_by, IsPlainJournal}
 use Rattle.text_tokens.specs.Inputs.{Says}
 use Rattle.node_text.specs.PartTexts.{node_words, port_words, bot_words}
-use Rattle.journal_text.specs.Texts.{cell_words, value_words, old_words, change_words, moved_words, entry_numbers, entry_words, written_lines, written_text, change_of_pair, written_plain, plain_text}
+use Rattle.journal_text.specs.Texts.{cell_words, value_words, old_words, change_words, moved_words, entry_numbers, entry_words, written_lines, change_in_full, written_full, change_of_pair, written_plain}
 use Rattle.node_text.specs.PartLimits.{HasCoordinates}
-use Rattle.journal_text.specs.Rereading.{IsWritablePair, IsWritableChange, IsPossible, KeepsLimits, PlainJournalsReadBack}
+use Rattle.journal_text.specs.Rereading.{IsWritablePair, IsWritableChange, IsPossible, KeepsLimits, JournalsReadBack, PlainJournalsReadBack}
 use Rattle.text_tokens.proofs.LinesLemmas.{Found, Is, Any, Rereads, RereadsLines, rereads_behind, rereads_then, rereads_next, rereads_made, rereads_as, rereads_first, rereads_second, rereads_judged, rereads_nothing, rereads_into, rereads_more, lines_more, lines_then, lines_next, lines_nothing, the_passes, one_found, one_rereads, reread_line}
 use Rattle.text_tokens.proofs.StepsLemmas.{not_past}
 use Rattle.text_tokens.proofs.SaysLemmas.{lines_say}
@@ -276,6 +277,17 @@ module _ (bots actions vars : ℕ) (few_bots : bots < 2 ^ 16) (few_actions : act
         subst (λ (ds : List E). RereadsLines (IsJournalOf old make bots actions vars) (Is ds) (section_lines (map written es))) (made_again es)
         (entry_lines old make (map written es) (omega (arith, same, few)) (are_fit es all))
 
+  -- ---- with old values
+
+  old_values : (e : Entry) → All (λ (t : WrittenChange). is_some t.1 ≡ true) (written_full e).changes
+  old_values e = All-map (λ (t : WrittenChange). is_some t.1 ≡ true) change_in_full e.patch (λ k d inside. refl)
+
+  full_again : (e : Entry) → entry_by (written_full e) ≡ e
+  full_again e = ap (λ (ts : Triples). record { caller = e.caller; turn = e.turn; bot = e.bot; action = e.action; moved = e.moved; patch = ts }) (map-map _ _ e.patch ∙ map-id e.patch)
+
+  pub journal_lines : (es : List Entry) → length es ≤ most_turns → All (λ e. KeepsLimits bots actions vars (written_full e)) es → RereadsLines (IsJournal bots actions vars) (Is es) (section_lines (map written_full es))
+  journal_lines = lines_read_back true entry_by written_full full_again old_values
+
   -- ---- without old values
 
   no_old_value : (e : PlainEntry) → All (λ (t : WrittenChange). is_some t.1 ≡ false) (written_plain e).changes
@@ -286,6 +298,10 @@ module _ (bots actions vars : ℕ) (few_bots : bots < 2 ^ 16) (few_actions : act
 
   pub plain_journal_lines : (es : List PlainEntry) → length es ≤ most_turns → All (λ e. KeepsLimits bots actions vars (written_plain e)) es → RereadsLines (IsPlainJournal bots actions vars) (Is es) (section_lines (map written_plain es))
   plain_journal_lines = lines_read_back false plain_by written_plain plain_again no_old_value
+
+pub journals_reread : JournalsReadBack
+journals_reread bots actions vars es few_bots few_actions le few all =
+    lines_say (IsJournal bots actions vars) es _ (journal_lines bots actions vars few_bots few_actions le es few all)
 
 pub plain_journals_reread : PlainJournalsReadBack
 plain_journals_reread bots actions vars es few_bots few_actions le few all =

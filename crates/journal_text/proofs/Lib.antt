@@ -5,4 +5,6 @@ pub mod KnownBots
 pub mod JournalsReread
 pub mod WrittenLines
 pub mod OldValues
+pub mod KeptLimits
+pub mod ChangeWords
 pub mod TurnsReread

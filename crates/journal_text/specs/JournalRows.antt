@@ -12,7 +12,7 @@ use Rattle.amoebot_state.specs.declared.cell.CellName.{CellName}
 use Rattle.amoebot_state.specs.declared.cell.CellName.TheVariants as name
 use Rattle.amoebot_state.specs.declared.cell.Cell.{Cell}
 use Rattle.amoebot_state.specs.declared.cell.Cell.TheVariants as cell
-use Rattle.amoebot_state.specs.declared.verdict.Entry.{Entry as PlainEntry}
+use Rattle.amoebot_state.specs.declared.verdict.PlainEntry.{PlainEntry}
 use Rattle.amoebot_state.specs.declared.verdict.Moved.{Moved}
 use Rattle.amoebot_state.specs.declared.verdict.Moved.TheVariants as moved
 use Rattle.amoebot_state.specs.Pairs.{Pairs}
@@ -142,6 +142,14 @@ pub record PlainJournalsAreRead : Type 0 where
   pub value_missing : FailsInJournal (codes "none body 0 3 3 2 3 0 +\nend") 3 Unexpected
   pub value_too_many : FailsInJournal (codes "none body 0 3 3 2 3 0 + 1\n2 end") 3 Unexpected
   pub section_word : FailsInJournal (codes "none\nfinal") 3 Unexpected
+  -- ---- no old values: an entry is over at the word between two, and is judged there
+  pub to_word : FailsInJournal (codes "none spot 3 3 empty\nto 0 end") 3 Unexpected
+  pub entry_before_to : FailsInJournal (codes "none spot 3 3 3\nto 0 end") 2 BadEntry
+  pub place_before_to : FailsAsJournal (codes "journal\nentry 1 0 0 0 0 none spot 1 1 1\nto 1 end") 2 BadPlace
+  pub place_behind_value : FailsAsJournal (codes "journal\nentry 1 0 0 0 0 none spot 3 3 1\nend") 2 BadPlace
+  pub ends_behind_value : FailsAsJournal (codes "journal\nentry 1 0 0 0 0 none spot 3 3 1\n") 2 BadPlace
+  pub byte_behind_value : FailsInJournal (codes "none spot 3 3 3\n$") 2 BadEntry
+  pub ten_and_to : FailsInJournal (codes "none " ++ nine_spots ++ codes "spot 1 1 empty\nto end") 3 Unexpected
   -- ---- what is no token, and the end
   pub bad_byte : FailsInJournal (codes "none\n, end") 3 BadByte
   pub long_number : FailsInJournal (codes "expand head\n0000000001 end") 3 WordTooLong

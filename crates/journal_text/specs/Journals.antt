@@ -11,6 +11,7 @@
 -- Its caller has to be at most 15, its turn at most 65,535, its action one of the program's
 -- and each amoebot that it names one of the world's (else BadEntry).
 use Rattle.std.specs.Prelude.{ℕ, Bool, true, false, ◌&&◌, ◌||◌, ◌==◌, nat_le, nat_lt, if◌then◌else◌, List, [], ◌∷◌, ◌++◌, map, Option, Some, None, codes}
+use Rattle.std.specs.Option.{unwrap_or}
 use Rattle.std.specs.List.{list_all, flat_map}
 use Rattle.text_tokens.specs.declared.refusal.Refusal.{Refusal}
 use Rattle.text_tokens.specs.declared.refusal.RefusalKind.{RefusalKind}
@@ -23,10 +24,12 @@ use Rattle.amoebot_state.specs.declared.cell.CellName.{CellName}
 use Rattle.amoebot_state.specs.declared.cell.CellName.TheVariants as name
 use Rattle.amoebot_state.specs.declared.cell.Cell.{Cell}
 use Rattle.amoebot_state.specs.declared.cell.Cell.TheVariants as cell
-use Rattle.amoebot_state.specs.declared.verdict.Entry.{Entry as PlainEntry}
+use Rattle.amoebot_state.specs.declared.verdict.Entry.{Entry}
+use Rattle.amoebot_state.specs.declared.verdict.PlainEntry.{PlainEntry}
 use Rattle.amoebot_state.specs.declared.verdict.Moved.{Moved}
 use Rattle.amoebot_state.specs.declared.verdict.Moved.TheVariants as moved
 use Rattle.amoebot_state.specs.Limits.{most_pairs}
+use Rattle.amoebot_state.specs.Pairs.{CellChange}
 use Rattle.claim_core.specs.Limits.{most_turns}
 use Rattle.journal_text.specs.Limits.{last_caller, last_turn}
 use Rattle.node_text.specs.Parts.{word, is_end, past_most, one_more, IsWord, Means, IsNumber, IsNode, IsEnd, IsPortText, IsBotText}
@@ -208,6 +211,27 @@ module _ {E : Type 0} (old : Bool) (make : WrittenEntry → E) (bots actions var
 
   abbrev pub IsJournalOf : Lang (List E)
   IsJournalOf = Then (IsWord (codes "journal")) (λ line. Closed (AreEntriesBy 0) is_end)
+
+-- ---- with old values
+
+-- the cell with both values; each text with old values has the one before
+abbrev pub full_change : WrittenChange → CellChange
+full_change t = (t.0, unwrap_or t.1 t.2, t.2)
+
+abbrev pub entry_by : WrittenEntry → Entry
+entry_by w =
+    record {
+      caller = w.caller;
+      turn = w.turn;
+      bot = w.bot;
+      action = w.action;
+      moved = w.moved;
+      patch = map full_change w.changes;
+    }
+
+-- that of version 3
+abbrev pub IsJournal : ℕ → ℕ → ℕ → Lang (List Entry)
+IsJournal = IsJournalOf true entry_by
 
 -- ---- without old values
 

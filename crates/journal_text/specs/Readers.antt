@@ -7,12 +7,13 @@ use Rattle.amoebot_state.specs.declared.cell.CellName.{CellName}
 use Rattle.amoebot_state.specs.declared.cell.CellName.TheVariants as name
 use Rattle.amoebot_state.specs.declared.cell.Cell.{Cell}
 use Rattle.amoebot_state.specs.declared.cell.Cell.TheVariants as cell
-use Rattle.amoebot_state.specs.declared.verdict.Entry.{Entry as PlainEntry}
+use Rattle.amoebot_state.specs.declared.verdict.Entry.{Entry}
+use Rattle.amoebot_state.specs.declared.verdict.PlainEntry.{PlainEntry}
 use Rattle.amoebot_state.specs.declared.verdict.Moved.{Moved}
 use Rattle.amoebot_state.specs.declared.verdict.Moved.TheVariants as moved
 use Rattle.amoebot_state.specs.Limits.{most_pairs}
 use Rattle.node_text.specs.Parts.{word, is_end, one_more}
-use Rattle.journal_text.specs.Journals.{is_spot_word, is_cell, WrittenChange, written_change, is_entry, Numbers, numbers_of, WrittenEntry, Written, written_entry, past_entries, entry_fault, plain_by}
+use Rattle.journal_text.specs.Journals.{is_spot_word, is_cell, WrittenChange, written_change, is_entry, Numbers, numbers_of, WrittenEntry, Written, written_entry, past_entries, entry_fault, entry_by, plain_by}
 use Rattle.journal_text.specs.Turns.{Nothing, is_failure, is_turn, as_before}
 use Rattle.node_text.specs.PartReaders.{a_word, means, a_number, a_node, an_end, a_port_text, a_bot}
 
@@ -103,6 +104,10 @@ module _ {E : Type 0} (old : Bool) (make : WrittenEntry → E) (bots actions var
 
   unfoldable pub journal_by : Reader (List E)
   journal_by = a_word (codes "journal") >>= λ line. closed all_entries is_end
+
+-- with old values
+abbrev pub journal : ℕ → ℕ → ℕ → Reader (List Entry)
+journal = journal_by true entry_by
 
 -- and without
 abbrev pub plain_journal : ℕ → ℕ → ℕ → Reader (List PlainEntry)

@@ -6,20 +6,22 @@ use Rattle.amoebot_state.specs.declared.cell.CellName.{CellName}
 use Rattle.amoebot_state.specs.declared.cell.CellName.TheVariants as name
 use Rattle.amoebot_state.specs.declared.cell.Cell.{Cell}
 use Rattle.amoebot_state.specs.declared.cell.Cell.TheVariants as cell
-use Rattle.amoebot_state.specs.declared.verdict.Entry.{Entry as PlainEntry}
+use Rattle.amoebot_state.specs.declared.verdict.Entry.{Entry}
+use Rattle.amoebot_state.specs.declared.verdict.PlainEntry.{PlainEntry}
 use Rattle.amoebot_state.specs.declared.verdict.Failure.{Failure}
 use Rattle.amoebot_state.specs.declared.verdict.Failure.TheVariants as failure
 use Rattle.amoebot_state.specs.declared.verdict.Moved.{Moved}
 use Rattle.amoebot_state.specs.declared.verdict.Moved.TheVariants as moved
 use Rattle.amoebot_state.specs.Limits.{most_vars, most_pairs}
+use Rattle.amoebot_state.specs.Steps.{plain_entry}
 use Rattle.claim_core.specs.declared.marks.Mark.{Mark}
 use Rattle.claim_core.specs.declared.marks.Mark.TheVariants as mark
 use Rattle.claim_core.specs.Limits.{most_callers, most_turns}
 use Rattle.claim_core.specs.Turns.{MarkLists}
 use Rattle.journal_text.specs.Turns.{IsTurns}
-use Rattle.journal_text.specs.Journals.{WrittenChange, WrittenEntry, is_known, IsPlainJournal}
+use Rattle.journal_text.specs.Journals.{WrittenChange, WrittenEntry, is_known, IsJournal, IsPlainJournal}
 use Rattle.text_tokens.specs.Inputs.{Says}
-use Rattle.journal_text.specs.Texts.{written_plain, plain_text, turns_text}
+use Rattle.journal_text.specs.Texts.{written_full, written_plain, journal_text, plain_text, turns_text}
 use Rattle.node_text.specs.Parts.{may_have_walls}
 use Rattle.node_text.specs.PartLimits.{HasCoordinates, HasLimits}
 
@@ -48,6 +50,17 @@ pub record KeepsLimits (bots actions vars : ℕ) (w : WrittenEntry) : Type 0 whe
   pub few : length w.changes ≤ most_pairs
   pub pairs : All (IsWritableChange vars) w.changes
 
+-- such entries, at most so many, are read back from their text, in a world of so many amoebots, with a program of so many actions
+abbrev pub JournalsReadBack : Type 0
+JournalsReadBack =
+    (bots actions vars : ℕ) (entries : List Entry)
+    → bots < 2 ^ 16
+    → actions < 2 ^ 8
+    → vars ≤ most_vars
+    → length entries ≤ most_turns
+    → All (λ e. KeepsLimits bots actions vars (written_full e)) entries
+    → Says (IsJournal bots actions vars) (journal_text vars entries) (Ok entries)
+
 -- so are those without old values
 abbrev pub PlainJournalsReadBack : Type 0
 PlainJournalsReadBack =
@@ -58,6 +71,13 @@ PlainJournalsReadBack =
     → length entries ≤ most_turns
     → All (λ e. KeepsLimits bots actions vars (written_plain e)) entries
     → Says (IsPlainJournal bots actions vars) (plain_text vars entries) (Ok entries)
+
+-- an entry that breaks no limit breaks none without its old values
+abbrev pub PlainKeepsLimits : Type 0
+PlainKeepsLimits =
+    (bots actions vars : ℕ) (e : Entry)
+    → KeepsLimits bots actions vars (written_full e)
+    → KeepsLimits bots actions vars (written_plain (plain_entry e))
 
 -- ---- marks
 

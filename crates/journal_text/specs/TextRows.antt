@@ -1,7 +1,7 @@
 -- Texts of small journals and turns.
 use Rattle.std.specs.Prelude.{◌≡◌, pos, negsuc, [], ◌∷◌, ◌++◌, Some, None, codes}
 use Rattle.amoebot_state.specs.declared.bot.Bot.{Bot}
-use Rattle.amoebot_state.specs.declared.bot.Chir.TheVariants.{Minus}
+use Rattle.amoebot_state.specs.declared.bot.Chir.TheVariants.{Plus, Minus}
 use Rattle.amoebot_state.specs.declared.bot.End.TheVariants.{Head, Tail}
 use Rattle.amoebot_state.specs.declared.cell.CellName.TheVariants as name
 use Rattle.amoebot_state.specs.declared.verdict.Failure.TheVariants as failure
@@ -10,7 +10,8 @@ use Rattle.amoebot_state.specs.Ports.{port}
 use Rattle.claim_core.specs.declared.marks.Mark.TheVariants as mark
 use Rattle.node_text.specs.Parts.{a_node_of}
 use Rattle.journal_text.specs.JournalRows.{act, spot, body_pair, long}
-use Rattle.journal_text.specs.Texts.{plain_text, turns_text}
+use Rattle.journal_text.specs.OldValueRows.{change_act, spot_change, body_change_of, expansion_made}
+use Rattle.journal_text.specs.Texts.{journal_text, plain_text, turns_text}
 
 -- an amoebot with two values
 abbrev pub journal_bot : Bot
@@ -33,6 +34,13 @@ pub record TextsArePrinted : Type 0 where
       ≡ codes "journal\nentry 0 0 0 0 0 none body 0 3 3 2 3 5 -\nend\n"
   pub eight_values : plain_text 8 (act 0 0 0 0 moved.None (body_pair 0 journal_bot ∷ []) ∷ [])
       ≡ codes "journal\nentry 0 0 0 0 0 none body 0 3 3 2 3 5 - 1 255 0 0 0 0 0 0\nend\n"
+  -- with old values
+  pub no_change : journal_text 0 [] ≡ codes "journal\nend\n"
+  pub expansion : journal_text 0 (expansion_made [] ∷ [])
+      ≡ codes "journal\nentry 0 0 0 0 0 expand head 0 spot 3 3 empty to 0 body 0 2 3 2 3 0 + to 3 3 2 3 0 +\nend\n"
+  pub two_values : journal_text 2
+      (change_act moved.None (body_change_of 10 (long 0 Plus (7 ∷ [])) journal_bot ∷ spot_change (negsuc 0) (pos 3) (Some 0) None ∷ []) ∷ [])
+      ≡ codes "journal\nentry 0 0 0 0 0 none body 10 3 3 2 3 0 + 7 0 to 3 3 2 3 5 - 1 255 spot -1 3 0 to empty\nend\n"
   pub no_turn : turns_text (record { turns = 0; marks = [] }) ≡ codes "turns\nend\n"
   -- by rising caller and then by rising turn
   pub turns : turns_text

@@ -1,6 +1,6 @@
 -- The texts of the sections `journal`, with old values or without them, and `turns`. An entry and a turn each have a line, whose
 -- tokens have one space between them.
-use Rattle.std.specs.Prelude.{ℕ, List, [], ◌∷◌, ◌++◌, Option, codes, decimal, map}
+use Rattle.std.specs.Prelude.{ℕ, Bool, if◌then◌else◌, List, [], ◌∷◌, ◌++◌, Option, codes, decimal, map}
 use Rattle.std.specs.List.{flat_map, enumerate_from}
 use Rattle.std.specs.declared.option.Option.TheVariants.{Some, None}
 use Rattle.text_tokens.specs.Lines.{Words, section_text}
@@ -8,16 +8,19 @@ use Rattle.amoebot_state.specs.declared.cell.CellName.{CellName}
 use Rattle.amoebot_state.specs.declared.cell.CellName.TheVariants as name
 use Rattle.amoebot_state.specs.declared.cell.Cell.{Cell}
 use Rattle.amoebot_state.specs.declared.cell.Cell.TheVariants as cell
-use Rattle.amoebot_state.specs.declared.verdict.Entry.{Entry as PlainEntry}
+use Rattle.amoebot_state.specs.declared.verdict.Entry.{Entry}
+use Rattle.amoebot_state.specs.declared.verdict.PlainEntry.{PlainEntry}
 use Rattle.amoebot_state.specs.declared.verdict.Failure.{Failure}
 use Rattle.amoebot_state.specs.declared.verdict.Failure.TheVariants as failure
 use Rattle.amoebot_state.specs.declared.verdict.Moved.{Moved}
 use Rattle.amoebot_state.specs.declared.verdict.Moved.TheVariants as moved
-use Rattle.amoebot_state.specs.Pairs.{cell_of, cell_value}
+use Rattle.amoebot_state.specs.Pairs.{CellChange, cell_of, cell_value}
 use Rattle.amoebot_state.specs.Ports.{end_word}
+use Rattle.amoebot_state.specs.Steps.{plain_entry}
 use Rattle.claim_core.specs.declared.marks.Mark.{Mark}
 use Rattle.claim_core.specs.declared.marks.Mark.TheVariants as mark
 use Rattle.claim_core.specs.Turns.{MarkLists}
+use Rattle.node_text.specs.Parts.{has_old_values}
 use Rattle.node_text.specs.PartTexts.{node_words, port_words, bot_words}
 use Rattle.journal_text.specs.Journals.{WrittenChange, WrittenEntry}
 
@@ -62,6 +65,25 @@ written_lines vars ws = map (entry_words vars) (enumerate_from 0 ws)
 abbrev pub written_text : ℕ → List WrittenEntry → List ℕ
 written_text vars ws = section_text (codes "journal") (written_lines vars ws)
 
+-- ---- with old values, as in version 3
+
+abbrev pub change_in_full : CellChange → WrittenChange
+change_in_full t = (t.0, Some t.1, t.2)
+
+abbrev pub written_full : Entry → WrittenEntry
+written_full e =
+    record {
+      caller = e.caller;
+      turn = e.turn;
+      bot = e.bot;
+      action = e.action;
+      moved = e.moved;
+      changes = map change_in_full e.patch;
+    }
+
+abbrev pub journal_text : ℕ → List Entry → List ℕ
+journal_text vars entries = written_text vars (map written_full entries)
+
 -- ---- without old values, as in versions 1 and 2
 
 abbrev pub change_of_pair : CellName × Cell → WrittenChange
@@ -80,6 +102,21 @@ written_plain p =
 
 abbrev pub plain_text : ℕ → List PlainEntry → List ℕ
 plain_text vars entries = written_text vars (map written_plain entries)
+
+-- ---- both
+
+-- a cell as it is written, with its value before or without it
+abbrev pub change_by : Bool → CellChange → WrittenChange
+change_by old t = (t.0, if old then Some t.1 else None, t.2)
+
+-- how an entry is written, with its old values or without them
+abbrev pub written_by : Bool → Entry → WrittenEntry
+written_by old e = if old then written_full e else written_plain (plain_entry e)
+
+-- the entries of a run in texts of the version
+abbrev pub journal_of_version : ℕ → ℕ → List Entry → List ℕ
+journal_of_version version vars entries =
+    if has_old_values version then journal_text vars entries else plain_text vars (map plain_entry entries)
 
 -- ---- turns
 

@@ -1,6 +1,6 @@
 //! The section `journal` read.
 
-ghost use Rattle.std.specs.Prelude.{◌≡◌, ◌≢◌, ◌<◌, ◌≤◌, false, length, map, option_map, nat_lt, if◌then◌else◌, IfErr, IfOk, IfSome, Ok, Err, Some, None};
+ghost use Rattle.std.specs.Prelude.{◌≡◌, ◌≢◌, ◌<◌, ◌≤◌, true, false, length, map, option_map, nat_lt, if◌then◌else◌, IfErr, IfOk, IfSome, Ok, Err, Some, None};
 ghost use Rattle.std.specs.List.{flat_map, list_all};
 ghost use Rattle.text_tokens.specs.Cursor.{next_passes};
 ghost use Rattle.text_tokens.specs.Steps.{Gives, ReadsOf, TellsOf, another};
@@ -13,7 +13,9 @@ ghost use Rattle.journal_text.specs.Journals as spec;
 ghost use Rattle.journal_text.specs.Readers as reader;
 ghost use Rattle.journal_text.specs.Views as view;
 
-use amoebot_state::{Bot, Cell, CellName, End, Entry as PlainEntry, MOST_PAIRS, Moved, Patch as PlainPatch, Port};
+use amoebot_state::{
+    Bot, Cell, CellName, End, Entry, MOST_PAIRS, Moved, Patch, PlainEntry, PlainPatch, Port,
+};
 use arrayvec::ArrayVec;
 use node_text::{read_bot, read_end, read_node, read_port, read_word, read_word_within};
 use std::alloc::Global;
@@ -27,6 +29,30 @@ const LAST_CALLER: u32 = 15;
 
 const LAST_TURN: u32 = 65_535;
 
+/// The entries of a journal with old values. They are seen as a list.
+#[derive(Drop)]
+pub struct Entries {
+    entries: Vec<Entry>,
+}
+
+impl Model for Entries {
+    ghost use Rattle.std.specs.Prelude.{List};
+    ghost use Rattle.amoebot_state.specs.declared.verdict.Entry.{Entry as EntryValue};
+
+    ghost Value = { List EntryValue };
+
+    ghost view = { λ e. e.entries.items };
+}
+
+impl Entries {
+    /// The entries in their order, at most 65,536.
+    pub fn entries(&self) -> &[Entry]
+        ensures { result.now ≡ self.now }
+    {
+        self.entries.as_slice()
+    }
+}
+
 /// The entries of a journal without old values. They are seen as a list.
 #[derive(Drop)]
 pub struct PlainEntries {
@@ -35,7 +61,7 @@ pub struct PlainEntries {
 
 impl Model for PlainEntries {
     ghost use Rattle.std.specs.Prelude.{List};
-    ghost use Rattle.amoebot_state.specs.declared.verdict.Entry.{Entry as EntryValue};
+    ghost use Rattle.amoebot_state.specs.declared.verdict.PlainEntry.{PlainEntry as EntryValue};
 
     ghost Value = { List EntryValue };
 
@@ -361,6 +387,22 @@ fn known_change(pair: WrittenPair, bots: u16) -> Option<(CellName, Option<Cell>,
     }
 }
 
+/// The cells with both values, at most 10, if the amoebots that they name are some of so many.
+fn known_patch(pairs: &[WrittenPair], bots: u16) -> Option<Patch>
+    requires { length pairs.now ≤ most_pairs }
+    ensures { result
+        ≡ if list_all (λ id. nat_lt id bots) (flat_map spec.ids_of_change (map view.pair pairs.now))
+        then Some (map spec.full_change (map view.pair pairs.now))
+        else None }
+{
+    let mut patch = Patch::new();
+    for pair in pairs {
+        let (name, before, value) = known_change(*pair, bots)?;
+        patch.push(name, before.unwrap_or(value), value);
+    }
+    Some(patch)
+}
+
 /// The cells with their values after, at most 10, if the amoebots that they name are some of so many.
 fn known_plain_patch(pairs: &[WrittenPair], bots: u16) -> Option<PlainPatch>
     requires { length pairs.now ≤ most_pairs }
@@ -377,8 +419,47 @@ fn known_plain_patch(pairs: &[WrittenPair], bots: u16) -> Option<PlainPatch>
     Some(patch)
 }
 
-/// The entry with these pairs and without old values, if its caller and turn are ones that there may be, and its action and
-/// amoebots some of so many. Else it is refused on its line.
+/// The entry with these pairs, if its caller and turn are ones that there may be, and its action and amoebots some of so many.
+/// Else it is refused on its line.
+fn known_entry(
+    written: &Written,
+    pairs: &[WrittenPair],
+    bots: u16,
+    actions: u8,
+) -> Result<Entry, ReadRefusal>
+    requires { length pairs.now ≤ most_pairs }
+    ensures { result ≡ if spec.is_known bots actions (view.entry_view written.now pairs.now).entry
+        then Ok (spec.entry_by (view.entry_view written.now pairs.now).entry)
+        else Err (Refused (record { line = written.now.line; kind = BadEntry })) }
+{
+    let Numbers {
+        caller,
+        turn,
+        bot,
+        action,
+        ..
+    } = written.numbers;
+    if caller > LAST_CALLER
+        || turn > LAST_TURN
+        || action >= u32::from(actions)
+        || bot >= u32::from(bots)
+    {
+        return Err(refused(written.line, RefusalKind::BadEntry));
+    }
+    match known_patch(pairs, bots) {
+        Some(patch) => Ok(Entry {
+            caller: caller as u8,
+            turn,
+            bot: bot as u16,
+            action: action as u8,
+            moved: written.moved,
+            patch,
+        }),
+        None => Err(refused(written.line, RefusalKind::BadEntry)),
+    }
+}
+
+/// The same without old values.
 fn known_plain_entry(
     written: &Written,
     pairs: &[WrittenPair],
@@ -417,7 +498,28 @@ fn known_plain_entry(
     }
 }
 
-/// An entry without old values, behind so many. It is judged once no further pair comes.
+/// An entry with old values, behind so many. It is judged once no further pair comes.
+#[tactic(auto, unfolding(crate::specs::Readers::an_entry))]
+fn read_entry(
+    tokens: &mut Tokens<'_>,
+    bots: u16,
+    actions: u8,
+    vars: u8,
+    before: u32,
+    pairs: &mut Pairs,
+) -> Result<Entry, ReadRefusal>
+    requires { vars ≤ most_vars }
+    ensures reads { Gives (λ e. e) (reader.an_entry true spec.entry_by bots actions vars before) tokens.old result tokens.new }
+    ensures room { IfOk result (λ _. before < most_turns) }
+{
+    let written = read_written(tokens, true, vars, before, pairs)?;
+    if written.numbers.place != before {
+        return Err(refused(written.line, RefusalKind::BadPlace));
+    }
+    known_entry(&written, pairs.as_slice(), bots, actions)
+}
+
+/// The same without old values.
 #[tactic(auto, unfolding(crate::specs::Readers::an_entry))]
 fn read_plain_entry(
     tokens: &mut Tokens<'_>,
@@ -436,6 +538,27 @@ fn read_plain_entry(
         return Err(refused(written.line, RefusalKind::BadPlace));
     }
     known_plain_entry(&written, pairs.as_slice(), bots, actions)
+}
+
+fn read_entries(
+    alloc: Global,
+    tokens: &mut Tokens<'_>,
+    bots: u16,
+    actions: u8,
+    vars: u8,
+) -> Result<Vec<Entry>, ReadRefusal>
+    requires { vars ≤ most_vars }
+    ensures { Gives (λ v. v.items) (reader.all_entries true spec.entry_by bots actions vars) tokens.old result tokens.new }
+{
+    let mut found = Vec::new(alloc);
+    let mut pairs = ArrayVec::new();
+    let mut before = 0;
+    while tokens.is_next(TokenKind::Word, b"entry") {
+        let entry = read_entry(tokens, bots, actions, vars, before, &mut pairs)?;
+        found.push(entry)?;
+        before += 1;
+    }
+    Ok(found)
 }
 
 fn read_plain_entries(
@@ -460,6 +583,39 @@ fn read_plain_entries(
 }
 
 #[tactic(auto, unfolding(crate::specs::Readers::journal_by))]
+fn read_whole(
+    alloc: Global,
+    tokens: &mut Tokens<'_>,
+    bots: u16,
+    actions: u8,
+    vars: u8,
+) -> Result<Entries, ReadRefusal>
+    requires { vars ≤ most_vars }
+    ensures { Gives (λ e. e) (reader.journal bots actions vars) tokens.old result tokens.new }
+{
+    read_word(tokens, b"journal")?;
+    let entries = read_entries(alloc, tokens, bots, actions, vars)?;
+    read_word(tokens, b"end")?;
+    Ok(Entries { entries })
+}
+
+/// Reads a journal with old values up to its `end`, of a world of so many amoebots, a program of so many actions, and so many
+/// variables, at most 8.
+pub fn read_journal(
+    alloc: Global,
+    tokens: &mut Tokens<'_>,
+    bots: u16,
+    actions: u8,
+    vars: u8,
+) -> Result<Entries, ReadRefusal>
+    requires { vars ≤ most_vars }
+    ensures tells { TellsOf (spec.IsJournal bots actions vars) (λ e. e) tokens.old result tokens.new }
+    ensures reads { ReadsOf (spec.IsJournal bots actions vars) (λ e. e) tokens.old result tokens.new }
+{
+    read_whole(alloc, tokens, bots, actions, vars)
+}
+
+#[tactic(auto, unfolding(crate::specs::Readers::journal_by))]
 fn read_whole_plain(
     alloc: Global,
     tokens: &mut Tokens<'_>,
@@ -476,8 +632,7 @@ fn read_whole_plain(
     Ok(PlainEntries { entries })
 }
 
-/// Reads a journal without old values up to its `end`, of a world of so many amoebots, a program of so many actions, and so
-/// many variables, at most 8.
+/// The same of a journal without old values.
 pub fn read_plain(
     alloc: Global,
     tokens: &mut Tokens<'_>,

@@ -1,6 +1,6 @@
 use Rattle.std.proofs.Common.{List}
 use Rattle.text_tokens.proofs.ExactReaders.{tells_of, reads_of}
-use Rattle.amoebot_state.specs.declared.verdict.Entry.{Entry as PlainEntry}
+use Rattle.amoebot_state.specs.declared.verdict.PlainEntry.{PlainEntry}
 use Rattle.journal_text.specs.Journals.{IsPlainJournal}
 use Rattle.journal_text.specs.Readers.{plain_journal}
 use Rattle.journal_text.proofs.JournalLaws.{exact_plain_journal}
