@@ -1,5 +1,5 @@
 -- The reader of a journal, with old values or without them, is a part for its grammar.
-use Rattle.std.proofs.Common.{ℕ, Bool, true, false, List, Option, Some, None, refl}
+use Rattle.std.proofs.Common.{ℕ, Bool, true, false, List, Some, None, refl}
 use Rattle.std.specs.Prelude.{codes, not, ◌||◌}
 use Rattle.std.proofs.lemmas.Bool.{not-true}
 use Rattle.text_tokens.specs.declared.token.TokenKind.TheVariants.{Word}

@@ -1,5 +1,5 @@
 -- The text of a journal, with old values or without them, is read as its entries.
-use Rattle.std.proofs.Common.{◌≡◌, ℕ, zero, suc, ◌+◌, ◌<◌, ◌≤◌, Bool, true, false, List, [], ◌∷◌, ◌++◌, length, map, Option, Some, None, Ok, codes, refl, sym, ap, subst, ◌∙◌, arith}
+use Rattle.std.proofs.Common.{◌≡◌, ℕ, zero, suc, ◌+◌, ◌<◌, ◌≤◌, Bool, true, false, List, [], ◌∷◌, ◌++◌, length, map, Option, Some, None, codes, refl, sym, ap, subst, ◌∙◌, arith}
 use Rattle.std.specs.Prelude.{◌&&◌, ◌^◌, ◌==◌, decimal, nat_lt, nat_le, is_some, IfSome}
 use Rattle.std.specs.List.{All, list_all, flat_map, enumerate_from}
 use Rattle.std.proofs.lemmas.List.Folds.{list_all-append}
@@ -13,7 +13,7 @@ use Rattle.text_tokens.specs.declared.token.TokenKind.TheVariants.{Word}
 use Rattle.text_tokens.specs.Text.{Lexeme}
 use Rattle.text_tokens.specs.Lines.{Words}
 use Rattle.text_tokens.specs.Reading.{less}
-use Rattle.text_tokens.specs.Grammar.{Symbol, Lang, Then, then, Made, made, IsNothing, is_nothing, IsThe, Limited, in_limit, Repeated, no_more, AtMost}
+use Rattle.text_tokens.specs.Grammar.{Symbol, Lang, Then, then, Made, made, is_nothing, IsThe, Limited, in_limit, Repeated, no_more, AtMost}
 use Rattle.text_tokens.proofs.PrintedTokens.{kind_of, IsOneToken, word_is_token}
 use Rattle.amoebot_state.specs.declared.bot.Port.{Port}
 use Rattle.amoebot_state.specs.declared.cell.CellName.{CellName}
@@ -29,7 +29,6 @@ use Rattle.amoebot_state.specs.Ports.{end_word}
 use Rattle.claim_core.specs.Limits.{most_turns}
 use Rattle.node_text.specs.Parts.{word, is_end, one_more, IsWord}
 use Rattle.journal_text.specs.Journals.{IsPortBehind, IsMoved, IsCellText, IsValueOf, IsOldValue, WrittenChange, written_change, IsPair, Numbers, numbers_of, AreNumbers, WrittenEntry, Written, written_entry, IsEntryWord, IsWrittenEntry, ids_of_name, ids_of_value, ids_of_old, ids_of_change, named_ids, is_known, entry_fault, IsEntryBy, AreEntriesBy, IsJournalOf, entry_by, IsJournal, plain_by, IsPlainJournal}
-use Rattle.text_tokens.specs.Inputs.{Says}
 use Rattle.node_text.specs.PartTexts.{node_words, port_words, bot_words}
 use Rattle.journal_text.specs.Texts.{cell_words, value_words, old_words, change_words, moved_words, entry_numbers, entry_words, written_lines, change_in_full, written_full, change_of_pair, written_plain}
 use Rattle.node_text.specs.PartLimits.{HasCoordinates}

@@ -1,5 +1,5 @@
 -- What is known of an entry stays known of how it is written again, and without its old values.
-use Rattle.std.proofs.Common.{◌≡◌, ◌≤◌, ℕ, Bool, true, false, List, [], ◌∷◌, ◌++◌, length, map, Some, None, refl, sym, ap, subst, ◌∙◌}
+use Rattle.std.proofs.Common.{◌≡◌, ◌≤◌, ℕ, Bool, true, false, List, [], ◌∷◌, ◌++◌, map, Some, None, refl, sym, ap, subst, ◌∙◌}
 use Rattle.std.specs.Prelude.{◌&&◌, nat_le, nat_lt}
 use Rattle.std.specs.List.{All, list_all, flat_map}
 use Rattle.std.proofs.lemmas.Bool.{and_parts}
@@ -14,19 +14,19 @@ use Rattle.amoebot_state.specs.Steps.{plain_entry}
 use Rattle.journal_text.specs.Limits.{last_caller, last_turn}
 use Rattle.journal_text.specs.Journals.{WrittenChange, WrittenEntry, ids_of_name, ids_of_old, ids_of_value, ids_of_change, is_known, full_change, entry_by, plain_change, plain_by}
 use Rattle.journal_text.specs.Texts.{change_in_full, written_full, change_of_pair, written_plain}
-use Rattle.journal_text.specs.Rereading.{IsWritableChange, KeepsLimits, PlainKeepsLimits}
+use Rattle.journal_text.specs.Rereading.{IsWritableChange, PlainKeepsLimits}
 
 module _ (bots : ℕ) where
-  are_there : List ℕ → Bool
+  abbrev are_there : List ℕ → Bool
   are_there ids = list_all (λ id. nat_lt id bots) ids
 
   -- where those of each cell stay there, those of all do
   module _ {A : Type 0} (f g : A → WrittenChange) (one : (a : A) → are_there (ids_of_change (f a)) ≡ true → are_there (ids_of_change (g a)) ≡ true) where
-    all_stay : (as : List A) → are_there (flat_map ids_of_change (map f as)) ≡ true → are_there (flat_map ids_of_change (map g as)) ≡ true
+    all_stay : (xs : List A) → are_there (flat_map ids_of_change (map f xs)) ≡ true → are_there (flat_map ids_of_change (map g xs)) ≡ true
     all_stay [] e = refl
-    all_stay (a ∷ as) e =
-        let both = and_parts (are_there (ids_of_change (f a))) (are_there (flat_map ids_of_change (map f as))) (sym (list_all-append (λ id. nat_lt id bots) (ids_of_change (f a)) (flat_map ids_of_change (map f as))) ∙ e) in
-        list_all-append (λ id. nat_lt id bots) (ids_of_change (g a)) (flat_map ids_of_change (map g as)) ∙ ap (λ b. b && are_there (flat_map ids_of_change (map g as))) (one a both.0) ∙ all_stay as both.1
+    all_stay (a ∷ xs) e =
+        let both = and_parts (are_there (ids_of_change (f a))) (are_there (flat_map ids_of_change (map f xs))) (sym (list_all-append (λ id. nat_lt id bots) (ids_of_change (f a)) (flat_map ids_of_change (map f xs))) ∙ e) in
+        list_all-append (λ id. nat_lt id bots) (ids_of_change (g a)) (flat_map ids_of_change (map g xs)) ∙ ap (λ b. b && are_there (flat_map ids_of_change (map g xs))) (one a both.0) ∙ all_stay xs both.1
 
   -- the three parts of the amoebots of a cell
   parts_of : (xs ys zs : List ℕ) → are_there (xs ++ (ys ++ zs)) ≡ true → (are_there xs ≡ true) × (are_there ys ≡ true) × (are_there zs ≡ true)

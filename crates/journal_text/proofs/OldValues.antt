@@ -1,5 +1,5 @@
 -- The reader of the value before, where texts have it and where they have not.
-use Rattle.std.proofs.Common.{◌≡◌, Bool, true, false, List, Option, Some, None, codes, refl}
+use Rattle.std.proofs.Common.{◌≡◌, Bool, true, false, Option, Some, None, codes, refl}
 use Rattle.text_tokens.specs.Cursor.{Cursor}
 use Rattle.text_tokens.specs.Reading.{Reader, ◌>>=◌, pure}
 use Rattle.text_tokens.proofs.StepsLemmas.{Reached, stays}

@@ -2,7 +2,6 @@
 use Rattle.std.specs.Prelude.{List, map, option_map}
 use Rattle.amoebot_state.specs.declared.cell.CellName.{CellName}
 use Rattle.amoebot_state.specs.declared.cell.CellName.TheVariants as name
-use Rattle.amoebot_state.specs.declared.cell.Cell.{Cell}
 use Rattle.amoebot_state.specs.declared.cell.Cell.TheVariants as value
 use Rattle.journal_text.specs.declared.journal.WrittenCell.{WrittenCell}
 use Rattle.journal_text.specs.declared.journal.WrittenCell.TheVariants as written_cell

@@ -193,10 +193,7 @@ fn read_occupant(tokens: &mut Tokens<'_>) -> Result<Option<u32>, ReadRefusal>
 }
 
 /// The occupant before and the word behind it, in texts with old values. Nothing is read in those without.
-fn read_old_occupant(
-    tokens: &mut Tokens<'_>,
-    old: bool,
-) -> Result<Option<Option<u32>>, ReadRefusal>
+fn read_old_occupant(tokens: &mut Tokens<'_>, old: bool) -> Result<Option<Option<u32>>, ReadRefusal>
     ensures { Gives (λ o. option_map cell.Spot o) (reader.an_old_value old reader.an_occupant) tokens.old result tokens.new }
 {
     if !old {
@@ -208,11 +205,7 @@ fn read_old_occupant(
 }
 
 /// The same of the amoebot before.
-fn read_old_bot(
-    tokens: &mut Tokens<'_>,
-    old: bool,
-    vars: u8,
-) -> Result<Option<Bot>, ReadRefusal>
+fn read_old_bot(tokens: &mut Tokens<'_>, old: bool, vars: u8) -> Result<Option<Bot>, ReadRefusal>
     requires { vars ≤ most_vars }
     ensures { Gives (λ o. option_map cell.Body o) (reader.an_old_value old (reader.a_bot_value vars)) tokens.old result tokens.new }
 {

@@ -14,5 +14,5 @@ pub use laws::{
 pub use printing::{print_journal, print_plain, print_turns, put_journal, put_plain, put_turns};
 pub use turns::read_turns;
 
-//T#[cfg(test)]
-//Tmod tests;
+#[cfg(test)]
+mod tests;

@@ -70,12 +70,7 @@ pub fn put_turns(lines: &mut Lines, marks: &Marks) -> Result<(), AllocError>
     lines.close_section()
 }
 
-fn put_section(
-    lines: &mut Lines,
-    entries: &[Entry],
-    vars: u8,
-    old: bool,
-) -> Result<(), AllocError>
+fn put_section(lines: &mut Lines, entries: &[Entry], vars: u8, old: bool) -> Result<(), AllocError>
     requires { vars ≤ most_vars }
     ensures { OnOk result (lines.new ≡ lines.old ++ written_text vars (map (written_by old) entries.now)) }
 {
@@ -84,12 +79,7 @@ fn put_section(
     lines.close_section()
 }
 
-fn put_entries(
-    lines: &mut Lines,
-    entries: &[Entry],
-    vars: u8,
-    old: bool,
-) -> Result<(), AllocError>
+fn put_entries(lines: &mut Lines, entries: &[Entry], vars: u8, old: bool) -> Result<(), AllocError>
     requires { vars ≤ most_vars }
     ensures { OnOk result (lines.new ≡ lines.old ++ lines_text (written_lines vars (map (written_by old) entries.now))) }
 {
@@ -211,12 +201,7 @@ fn put_changes(
 }
 
 /// The value before and the word behind it, in texts with old values.
-fn put_old_value(
-    lines: &mut Lines,
-    before: &Cell,
-    vars: u8,
-    old: bool,
-) -> Result<(), AllocError>
+fn put_old_value(lines: &mut Lines, before: &Cell, vars: u8, old: bool) -> Result<(), AllocError>
     requires { vars ≤ most_vars }
     ensures { OnOk result (lines.new ≡ lines.old ++ spaced (old_words vars (if old then Some before.now else None))) }
 {

@@ -18,9 +18,9 @@ loop-pair-preserved c =
     let gave = gave_some _ _ _ c.known_change.result c.known_change.ensures c.in_ok-name.was in
     record {
       patch =
-        c.push.ensures
-        ∙ ap (λ qs. qs ++ (c.in_ok-name.name, c.in_ok-name.value) ∷ []) c.loop-pair.invariant.patch
-        ∙ ap (λ (t : WrittenChange). map plain_change (map view.pair (take i ps)) ++ plain_change t ∷ []) (sym gave.1)
-        ∙ sym (made_next plain_change ps i _ at);
+          c.push.ensures
+          ∙ ap (λ qs. qs ++ (c.in_ok-name.name, c.in_ok-name.value) ∷ []) c.loop-pair.invariant.patch
+          ∙ ap (λ (t : WrittenChange). map plain_change (map view.pair (take i ps)) ++ plain_change t ∷ []) (sym gave.1)
+          ∙ sym (made_next plain_change ps i _ at);
       known = all_there_next c.args.bots ps i _ at c.loop-pair.invariant.known gave.0;
     }

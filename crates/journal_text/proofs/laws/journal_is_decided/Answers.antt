@@ -62,4 +62,5 @@ returns-clause-read c = record {
   long_number_after = told _ _ refl;
   eleventh_change = told _ _ refl;
   entry_too_many = told_behind _ _ refl;
-  ends_behind_to = told _ _ refl;}
+  ends_behind_to = told _ _ refl;
+}
