@@ -5,6 +5,7 @@ use Rattle.atomic_table.specs.Table.{Step, rest}
 use Rattle.amoebot_state.specs.declared.verdict.Change.{Change}
 use Rattle.amoebot_state.specs.declared.verdict.Entry.{Entry}
 use Rattle.amoebot_state.specs.declared.verdict.Verdict.{Verdict}
+use Rattle.amoebot_state.specs.Pairs.{plain_patch}
 use Rattle.amoebot_state.specs.Zones.{Shown}
 use Rattle.claim_core.specs.declared.marks.Mark.TheVariants as mark
 use Rattle.claim_core.specs.declared.state.Committed.{Committed}
@@ -38,14 +39,14 @@ commit_at g r change place = record {
 abbrev pub with_journal : Record → Change → Kept → Record
 with_journal r change j = record r { caller = record r.caller { phase = Committing change }; taken = Some j }
 
--- the record of a caller that has committed this change at a place: the entry joins its own, its cells have the values of the patch,
+-- the record of a caller that has committed this change at a place: the entry joins its own, its cells have the new values of the patch,
 -- the turn has its mark, and the journal is gone
 abbrev pub with_commit : Setup → Record → Change → ℕ → Record
 with_commit g r change place = record {
   number = r.number;
   won = r.won;
   note = r.note;
-  caller = freeing_caller g r.caller.turn (map (patched_pair change.patch) r.caller.held) (r.caller.marks ++ mark.Done place ∷ []);
+  caller = freeing_caller g r.caller.turn (map (patched_pair (plain_patch change.patch)) r.caller.held) (r.caller.marks ++ mark.Done place ∷ []);
   committed = r.committed ++ commit_at g r change place ∷ [];
   taken = None;
 }
