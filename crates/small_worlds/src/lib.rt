@@ -2,6 +2,8 @@
 //! row of three nodes, computed.
 #![tactic(auto)]
 
+#[cfg(test)]
+mod following;
 mod laws;
 mod programs;
 #[cfg(test)]

@@ -6,7 +6,7 @@ ghost use Rattle.amoebot_state.specs.Refusals.{IsBotInRange};
 use crate::programs::{AtEdge, Marker};
 use crate::worlds::{standing, world_of};
 use amoebot_state::{Bot, Cell, CellName, End, Entry, Failure, Moved, Patch, World};
-use serial_model::{Serial, Turned, replay};
+use serial_model::{Serial, Turned, replay, replay_plain};
 use std::alloc::Global;
 use std::test::Fail;
 
@@ -31,13 +31,17 @@ fn row(alloc: Global, values: [u8; 4]) -> Result<World, Fail>
     world_of(alloc, &bots)
 }
 
-/// The body of an amoebot with a value of variable 0.
-fn body(id: u16, value: u8) -> Patch
+/// The body of an amoebot, with the values of variable 0 before and after.
+fn body(id: u16, was: u8, value: u8) -> Patch
     requires { id < 4 }
     ensures { length result ≡ 1 }
 {
     let mut patch = Patch::new();
-    patch.push(CellName::Body(id), Cell::Body(in_row(id, value)));
+    patch.push(
+        CellName::Body(id),
+        Cell::Body(in_row(id, was)),
+        Cell::Body(in_row(id, value)),
+    );
     patch
 }
 
@@ -52,7 +56,7 @@ fn step(id: u16) -> Entry
         bot: id,
         action: 0,
         moved: Moved::None,
-        patch: body(id, 1),
+        patch: body(id, 0, 1),
     }
 }
 
@@ -66,7 +70,19 @@ enum Mistake {
     PairOfAnother,
     OtherValue,
     IdleAmoebot,
+    OldValue,
 }
+
+/// Those that show without the old values too.
+const WAYS: [Mistake; 7] = [
+    Mistake::Action,
+    Mistake::Movement,
+    Mistake::PairMore,
+    Mistake::PairLess,
+    Mistake::PairOfAnother,
+    Mistake::OtherValue,
+    Mistake::IdleAmoebot,
+];
 
 fn wrong(id: u16, way: Mistake) -> Entry
     requires { id < 3 }
@@ -80,8 +96,9 @@ fn wrong(id: u16, way: Mistake) -> Entry
             ..right
         },
         Mistake::PairMore => {
-            let mut patch = body(id, 1);
-            patch.push(CellName::Spot(in_row(id, 1).head), Cell::Spot(Some(id)));
+            let mut patch = body(id, 0, 1);
+            let own = Cell::Spot(Some(id));
+            patch.push(CellName::Spot(in_row(id, 1).head), own, own);
             Entry { patch, ..right }
         }
         Mistake::PairLess => Entry {
@@ -89,14 +106,18 @@ fn wrong(id: u16, way: Mistake) -> Entry
             ..right
         },
         Mistake::PairOfAnother => Entry {
-            patch: body(3, 1),
+            patch: body(3, 0, 1),
             ..right
         },
         Mistake::OtherValue => Entry {
-            patch: body(id, 0),
+            patch: body(id, 0, 0),
             ..right
         },
         Mistake::IdleAmoebot => step(3),
+        Mistake::OldValue => Entry {
+            patch: body(id, 1, 1),
+            ..right
+        },
     }
 }
 
@@ -139,27 +160,62 @@ fn entries_that_are_steps_agree(rt: HostRuntime) -> Result<(), Fail> {
 }
 
 #[test]
+fn entries_without_old_values_that_are_steps_agree(rt: HostRuntime) -> Result<(), Fail> {
+    let entries = [step(1).plain(), step(0).plain(), step(2).plain()];
+    let last = replay_plain(&Marker, row(rt.alloc(), [0, 0, 0, 1])?, &entries)?;
+    assert!(rt; last.same(&row(rt.alloc(), [1, 1, 1, 1])?));
+    let start = replay_plain(&Marker, row(rt.alloc(), [0, 1, 0, 1])?, &[])?;
+    assert!(rt; start.same(&row(rt.alloc(), [0, 1, 0, 1])?));
+    Ok(())
+}
+
+#[test]
 fn the_first_entry_that_is_no_step_is_told(rt: HostRuntime) -> Result<(), Fail> {
-    let ways = [
-        Mistake::Action,
-        Mistake::Movement,
-        Mistake::PairMore,
-        Mistake::PairLess,
-        Mistake::PairOfAnother,
-        Mistake::OtherValue,
-        Mistake::IdleAmoebot,
-    ];
-    for way in ways {
+    for way in WAYS {
         for place in 0..3 {
-            let entries = [
-                entry_at(0, place, way),
-                entry_at(1, place, way),
-                entry_at(2, place, way),
-            ];
-            let replayed = replay(&Marker, row(rt.alloc(), [0, 0, 0, 1])?, &entries);
-            let differs = replayed.err().ok_or("a run")?;
-            assert_eq!(rt; differs.place, u32::from(place));
+            assert_eq!(rt; place_of(rt.alloc(), way, place)?, Some(u32::from(place)));
+            assert_eq!(rt;
+                plain_place_of(rt.alloc(), way, place)?,
+                Some(u32::from(place))
+            );
         }
     }
     Ok(())
+}
+
+/// An old value shows where it is compared, and nowhere else.
+#[test]
+fn another_old_value_is_no_step(rt: HostRuntime) -> Result<(), Fail> {
+    for place in 0..3 {
+        let way = Mistake::OldValue;
+        assert_eq!(rt; place_of(rt.alloc(), way, place)?, Some(u32::from(place)));
+        assert_eq!(rt; plain_place_of(rt.alloc(), way, place)?, None);
+    }
+    Ok(())
+}
+
+/// Where three entries, of which the one at the place has this mistake, stop to be a run.
+fn place_of(alloc: Global, way: Mistake, place: u16) -> Result<Option<u32>, Fail> {
+    let entries = [
+        entry_at(0, place, way),
+        entry_at(1, place, way),
+        entry_at(2, place, way),
+    ];
+    match replay(&Marker, row(alloc, [0, 0, 0, 1])?, &entries) {
+        Ok(_) => Ok(None),
+        Err(differs) => Ok(Some(differs.place)),
+    }
+}
+
+/// Where they do so without their old values.
+fn plain_place_of(alloc: Global, way: Mistake, place: u16) -> Result<Option<u32>, Fail> {
+    let entries = [
+        entry_at(0, place, way).plain(),
+        entry_at(1, place, way).plain(),
+        entry_at(2, place, way).plain(),
+    ];
+    match replay_plain(&Marker, row(alloc, [0, 0, 0, 1])?, &entries) {
+        Ok(_) => Ok(None),
+        Err(differs) => Ok(Some(differs.place)),
+    }
 }
