@@ -25,8 +25,9 @@ use Rattle.action_tree.specs.ProgramReaders.{a_program}
 use Rattle.action_tree.proofs.ProgramLaws.{part_program}
 use Rattle.action_tree.proofs.NameLemmas.{lacking}
 use Rattle.action_check.specs.Faults.{faults}
-use Rattle.node_text.specs.Parts.{IsWord}
-use Rattle.journal_text.proofs.JournalLaws.{part_journal}
+use Rattle.node_text.specs.Parts.{IsWord, has_old_values}
+use Rattle.journal_text.specs.Journals.{entry_by, plain_by}
+use Rattle.journal_text.proofs.JournalLaws.{part_journal_of}
 use Rattle.journal_text.proofs.TurnLaws.{part_the_turns}
 use Rattle.shape_text.proofs.ShapeLaws.{part_shape, part_final, starts_shape, starts_final}
 use Rattle.schedule_text.proofs.ListLaws.{part_lists, starts_lists}
@@ -35,8 +36,8 @@ use Rattle.shape_files.specs.declared.section_kind.Section.{Section}
 use Rattle.shape_files.specs.declared.section_kind.Section.TheVariants.{Program, Shape, Lists, Schedule, Journal, Final, Turns}
 use Rattle.shape_files.specs.Frame.{is_word_of_section}
 use Rattle.shape_files.specs.FrameLaws.{AreSections}
-use Rattle.shape_files.specs.Documents.{Contents, var_count, actions_of, maxes_in, bots_of, callers_of, first_in, IsCheckedProgram, Body}
-use Rattle.shape_files.specs.DocumentReaders.{a_checked_program, body}
+use Rattle.shape_files.specs.Documents.{Contents, var_count, actions_of, maxes_in, bots_of, callers_of, first_in, IsCheckedProgram, JournalBody, Body}
+use Rattle.shape_files.specs.DocumentReaders.{a_checked_program, journal_body, body}
 
 -- ---- the word of a program
 
@@ -101,22 +102,35 @@ part_checked = part_judged IsProgram a_program wrong always part_program
 starts_checked : Starts IsCheckedProgram (is_word_of_section Program) no_limit
 starts_checked = starts_judged IsProgram wrong (is_word_of_section Program) no_limit starts_program
 
+part_of_journal : (old : Bool) (s : Contents) → IsPart (JournalBody old s) (journal_body old s) always
+unfolding journal_body
+part_of_journal true s = part_made _ (λ es. record s { entries = Some es }) _ always (part_journal_of true entry_by (bots_of s.world) (actions_of s.checked) (var_count s.checked))
+part_of_journal false s = part_made _ (λ ps. record s { plain = Some ps }) _ always (part_journal_of false plain_by (bots_of s.world) (actions_of s.checked) (var_count s.checked))
+
 part_of : (k : Section) (s : Contents) → IsPart (Body k s) (body k s) always
 unfolding body
 part_of Program s = part_made IsCheckedProgram (λ p. record s { checked = Some p }) a_checked_program always part_checked
 part_of Shape s = part_made _ (λ c. record s { world = Some c }) _ always (part_shape s.version (var_count s.checked) (maxes_in s.checked))
 part_of Lists s = part_made _ (λ l. record s { lists = Some l }) _ always (part_lists (bots_of s.world))
 part_of Schedule s = part_made _ (λ steps. record s { schedule = Some steps }) _ always (part_schedule (callers_of s.lists))
-part_of Journal s = part_made _ (λ es. record s { entries = Some es }) _ always (part_journal (bots_of s.world) (actions_of s.checked) (var_count s.checked))
+part_of Journal s = part_of_journal (has_old_values s.version) s
 part_of Final s = part_made _ (λ c. record s { final_world = Some c }) _ always (part_final s.version (var_count s.checked) (maxes_in s.checked))
 part_of Turns s = part_made _ (λ u. s) _ always (part_the_turns s.version)
+
+start_of_journal : (old : Bool) (s : Contents) → Starts (JournalBody old s) (is_word_of_section Journal) no_limit
+start_of_journal true s =
+    starts_made _ (λ es. record s { entries = Some es }) (is_word_of_section Journal) no_limit
+    (starts_behind (IsWord (codes "journal")) _ _ (is_word_of_section Journal) (starts_the (is_word_of_section Journal)) (part_journal_of true entry_by (bots_of s.world) (actions_of s.checked) (var_count s.checked)))
+start_of_journal false s =
+    starts_made _ (λ ps. record s { plain = Some ps }) (is_word_of_section Journal) no_limit
+    (starts_behind (IsWord (codes "journal")) _ _ (is_word_of_section Journal) (starts_the (is_word_of_section Journal)) (part_journal_of false plain_by (bots_of s.world) (actions_of s.checked) (var_count s.checked)))
 
 start_of : (k : Section) (s : Contents) → Starts (Body k s) (is_word_of_section k) no_limit
 start_of Program s = starts_made IsCheckedProgram (λ p. record s { checked = Some p }) (is_word_of_section Program) no_limit starts_checked
 start_of Shape s = starts_made _ (λ c. record s { world = Some c }) (is_word_of_section Shape) no_limit (starts_shape s.version (var_count s.checked) (maxes_in s.checked))
 start_of Lists s = starts_made _ (λ l. record s { lists = Some l }) (is_word_of_section Lists) no_limit (starts_lists (bots_of s.world))
 start_of Schedule s = starts_made _ (λ steps. record s { schedule = Some steps }) (is_word_of_section Schedule) no_limit (starts_schedule (callers_of s.lists))
-start_of Journal s = starts_made _ (λ es. record s { entries = Some es }) (is_word_of_section Journal) no_limit (starts_behind (IsWord (codes "journal")) _ _ (is_word_of_section Journal) (starts_the (is_word_of_section Journal)) (part_journal (bots_of s.world) (actions_of s.checked) (var_count s.checked)))
+start_of Journal s = start_of_journal (has_old_values s.version) s
 start_of Final s = starts_made _ (λ c. record s { final_world = Some c }) (is_word_of_section Final) no_limit (starts_final s.version (var_count s.checked) (maxes_in s.checked))
 start_of Turns s = starts_made _ (λ u. s) (is_word_of_section Turns) no_limit (starts_behind (IsWord (codes "turns")) _ _ (is_word_of_section Turns) (starts_the (is_word_of_section Turns)) (part_the_turns s.version))
 

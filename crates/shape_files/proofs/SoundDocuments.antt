@@ -1,6 +1,7 @@
 -- The shapes of a document are those of worlds, and its lists are such as callers may have.
 use Rattle.std.proofs.Common.{◌≡◌, ℕ, ℤ, zero, suc, pos, ◌+◌, ◌-◌, ◌*◌, ◌<◌, ◌≤◌, Bool, true, false, cond, List, [], ◌∷◌, length, map, replicate, Option, Some, None, codes, refl, sym, ap, subst, ◌∙◌, arith, length-append}
 use Rattle.std.specs.Prelude.{◌&&◌, ◌≤ℤ◌, neg_ℤ, nat_lt, nat_le, if◌then◌else◌}
+use Rattle.std.specs.Option.{IfSome}
 use Rattle.std.proofs.lemmas.Bool.{and_parts, ltb-true, leb-true}
 use Rattle.std.proofs.lemmas.Bool.Decides.{nat_tests}
 use Rattle.std.proofs.lemmas.Int.{ints}
@@ -25,7 +26,7 @@ use Rattle.claim_core.specs.Turns.{CallerLists, AreFew, AreLists, IsList}
 use Rattle.action_tree.specs.Trees as tree
 use Rattle.action_check.specs.Maxes.{first_or_zero}
 use Rattle.node_text.specs.Limits.{most_coordinate}
-use Rattle.node_text.specs.Parts.{IsBotText, IsInt, IsNode, IsUpTo, memory}
+use Rattle.node_text.specs.Parts.{IsBotText, IsInt, IsNode, IsUpTo, memory, has_old_values}
 use Rattle.node_text.proofs.Outside.{within}
 use Rattle.shape_text.specs.Shapes.{WrittenBot, WrittenShape, written_shape, written_node, written_amoebot, shape_frame, written_node, stands_for, IsSide, IsAreaLine, IsBotLine, IsShapeUnder}
 use Rattle.shape_text.proofs.JudgementsLemmas.{unrefused}
@@ -33,10 +34,11 @@ use Rattle.schedule_text.specs.Lists.{IdsFrom, IsCallerList, IsId, IsLists}
 use Rattle.shape_files.specs.declared.section_kind.Section.{Section}
 use Rattle.shape_files.specs.declared.section_kind.Section.TheVariants as section
 use Rattle.shape_files.specs.Frame.{Course, ends, needs, may, course_of}
-use Rattle.shape_files.specs.Documents.{Contents, nothing_yet, Body, var_count, maxes_in, bots_of}
-use Rattle.shape_files.specs.Fitting.{IsWorldShape, IsSoundDocument, DocumentsAreSound}
+use Rattle.shape_files.specs.Documents.{Contents, nothing_yet, JournalBody, Body, var_count, maxes_in, bots_of}
+use Rattle.shape_files.specs.Fitting.{IsWorldShape, DocumentsAreSound}
 use Rattle.shape_files.proofs.Fine.{Fine, both_of, made_of, closed_of, judged_of, nothing_of, either_of, one_of, numeral_of, all_of, counted_of}
 use Rattle.shape_files.proofs.FittingLemmas.{There, program_fits, written_down}
+use Rattle.shape_files.proofs.WritablePrograms.{program_written}
 
 -- what passed a limit
 passed : (a : Bool) → cond {A = Option RefusalKind} a None (Some TooMany) ≡ None → a ≡ true
@@ -212,15 +214,21 @@ eight_maxes (Some p) = length-first_or_zero most_vars (map (λ v. v.max.value) p
 -- what each section keeps
 record IsSoundSoFar (s : Contents) : Type 0 where
   vars : var_count s.checked ≤ most_vars
-  sound : IsSoundDocument s
+  world : IfSome s.world IsWorldShape
+  final_world : IfSome s.final_world IsWorldShape
+  lists : IfSome s.lists AreLists
+
+journal_sound : (old : Bool) (s b : Contents) → IsSoundSoFar s → Fine (JournalBody old s) b → IsSoundSoFar b
+journal_sound true s b so f = let x = made_of f in subst IsSoundSoFar x.same (record { vars = so.vars; world = so.world; final_world = so.final_world; lists = so.lists })
+journal_sound false s b so f = let x = made_of f in subst IsSoundSoFar x.same (record { vars = so.vars; world = so.world; final_world = so.final_world; lists = so.lists })
 
 section_sound : (k : Section) (s b : Contents) → IsSoundSoFar s → Fine (Body k s) b → IsSoundSoFar b
-section_sound section.Program s b so f = let p = made_of f in subst IsSoundSoFar p.same (record { vars = (program_fits p.value p.before).vars; sound = record { world = so.sound.world; final_world = so.sound.final_world; lists = so.sound.lists } })
-section_sound section.Shape s b so f = let c = made_of f in subst IsSoundSoFar c.same (record { vars = so.vars; sound = record { world = shape_drawn s.version (codes "shape") (var_count s.checked) (maxes_in s.checked) so.vars (eight_maxes s.checked) c.value c.before; final_world = so.sound.final_world; lists = so.sound.lists } })
-section_sound section.Lists s b so f = let l = made_of f in subst IsSoundSoFar l.same (record { vars = so.vars; sound = record { world = so.sound.world; final_world = so.sound.final_world; lists = lists_sound (bots_of s.world) l.value l.before } })
-section_sound section.Schedule s b so f = let x = made_of f in subst IsSoundSoFar x.same (record { vars = so.vars; sound = record { world = so.sound.world; final_world = so.sound.final_world; lists = so.sound.lists } })
-section_sound section.Journal s b so f = let x = made_of f in subst IsSoundSoFar x.same (record { vars = so.vars; sound = record { world = so.sound.world; final_world = so.sound.final_world; lists = so.sound.lists } })
-section_sound section.Final s b so f = let c = made_of f in subst IsSoundSoFar c.same (record { vars = so.vars; sound = record { world = so.sound.world; final_world = shape_drawn s.version (codes "final") (var_count s.checked) (maxes_in s.checked) so.vars (eight_maxes s.checked) c.value c.before; lists = so.sound.lists } })
+section_sound section.Program s b so f = let p = made_of f in subst IsSoundSoFar p.same (record { vars = (program_fits p.value p.before).vars; world = so.world; final_world = so.final_world; lists = so.lists })
+section_sound section.Shape s b so f = let c = made_of f in subst IsSoundSoFar c.same (record { vars = so.vars; world = shape_drawn s.version (codes "shape") (var_count s.checked) (maxes_in s.checked) so.vars (eight_maxes s.checked) c.value c.before; final_world = so.final_world; lists = so.lists })
+section_sound section.Lists s b so f = let l = made_of f in subst IsSoundSoFar l.same (record { vars = so.vars; world = so.world; final_world = so.final_world; lists = lists_sound (bots_of s.world) l.value l.before })
+section_sound section.Schedule s b so f = let x = made_of f in subst IsSoundSoFar x.same (record { vars = so.vars; world = so.world; final_world = so.final_world; lists = so.lists })
+section_sound section.Journal s b so f = journal_sound (has_old_values s.version) s b so f
+section_sound section.Final s b so f = let c = made_of f in subst IsSoundSoFar c.same (record { vars = so.vars; world = so.world; final_world = shape_drawn s.version (codes "final") (var_count s.checked) (maxes_in s.checked) so.vars (eight_maxes s.checked) c.value c.before; lists = so.lists })
 section_sound section.Turns s b so f = let x = made_of f in subst IsSoundSoFar x.same so
 
 course_sound : (c : Course) (s a : Contents) → IsSoundSoFar s → There c s a → IsSoundSoFar a
@@ -233,4 +241,5 @@ course_sound (may k c d) s a so f = either_of
 pub documents_are_sound : DocumentsAreSound
 documents_are_sound form bytes a holds =
     let w = written_down form bytes a holds in
-    (course_sound (course_of form) (nothing_yet w.version) a (record { vars = omega arith; sound = record { world = tt; final_world = tt; lists = tt } }) w.sections).sound
+    let sound = course_sound (course_of form) (nothing_yet w.version) a (record { vars = omega arith; world = tt; final_world = tt; lists = tt }) w.sections in
+    record { program = program_written form bytes a holds; world = sound.world; final_world = sound.final_world; lists = sound.lists }

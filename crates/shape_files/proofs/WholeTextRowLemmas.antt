@@ -1,4 +1,4 @@
--- Two small documents as they are printed whole.
+-- Small documents as they are printed whole.
 use Rattle.std.proofs.Common.{◌≡◌, ℕ, zero, suc, ◌<◌, ◌≤◌, [], ◌∷◌, pos, Some, None, refl, arith}
 use Rattle.std.specs.Fmt.{digits}
 use Rattle.std.specs.List.{All}
@@ -6,21 +6,21 @@ use Rattle.std.specs.Option.{IsSome}
 use Rattle.std.proofs.lemmas.Int.{ints}
 use Rattle.std.proofs.lemmas.List.Elements.{All-nil, All-cons, All-replicate, All-from_recursion}
 use Rattle.amoebot_state.specs.declared.bot.Bot.{Bot}
-use Rattle.amoebot_state.specs.declared.bot.Chir.TheVariants.{Plus}
 use Rattle.amoebot_state.specs.Configs.{IsValid, frame_of, bot_at}
 use Rattle.amoebot_state.specs.Refusals.{IsBotInRange, bot_fault}
 use Rattle.amoebot_state.specs.Limits.{most_value}
 use Rattle.amoebot_state.specs.Examples.{eight_by_eight, zeros}
 use Rattle.amoebot_state.proofs.Faults.{frame_valid, valid_one}
 use Rattle.amoebot_state.proofs.StepExamples.{plain}
+use Rattle.claim_core.specs.declared.marks.Mark.{Mark}
 use Rattle.claim_core.specs.declared.marks.Mark.TheVariants as mark
 use Rattle.node_text.specs.Parts.{a_node_of}
 use Rattle.node_text.specs.PartLimits.{HasCoordinates, HasLimits}
-use Rattle.journal_text.specs.Rereading.{KeepsLimits, IsWritableMark, AreWritable, IsWritablePair}
-use Rattle.shape_text.specs.ShapeRows.{shape_bot}
+use Rattle.journal_text.specs.Texts.{written_full, written_plain}
+use Rattle.journal_text.specs.Rereading.{KeepsLimits, IsWritableMark, AreWritable, IsWritableChange}
 use Rattle.shape_text.specs.Rereading.{IsWritableConfig}
-use Rattle.shape_files.specs.DocumentRows.{out, bot_after, entry_made, shape_of_one}
-use Rattle.shape_files.specs.WholeTexts.{IsWritableProgram}
+use Rattle.shape_files.specs.DocumentRows.{out, bot_before, bot_after, entry_made, plain_made, shape_of_one}
+use Rattle.shape_files.specs.Fitting.{IsWritableProgram}
 use Rattle.shape_files.specs.WholeTextRows.{two_marks, WholeTextRows}
 
 -- ---- one amoebot
@@ -38,8 +38,8 @@ one_valid b plain fine =
       h_high = omega arith;
     }) refl) b plain fine
 
-one_written : (b : Bot) → b.mem ≡ zeros → IsValid (shape_of_one b) → IsWritableConfig 1 0 (shape_of_one b)
-one_written b e valid = record { valid = valid; walls = λ none. refl; few = omega arith; no_gaps = none; maxes = All-replicate (λ m. m ≤ most_value) 8 0 (omega arith); zeros = all }
+one_written : (version : ℕ) (b : Bot) → b.mem ≡ zeros → IsValid (shape_of_one b) → IsWritableConfig version 0 (shape_of_one b)
+one_written version b e valid = record { valid = valid; walls = λ none. refl; few = omega arith; no_gaps = none; maxes = All-replicate (λ m. m ≤ most_value) 8 0 (omega arith); zeros = all }
   where
     none : (id : ℕ) → id < 1 → IsSome (bot_at (shape_of_one b) id)
     none zero lt = refl
@@ -49,14 +49,11 @@ one_written b e valid = record { valid = valid; walls = λ none. refl; few = ome
     all zero d at = let same : b ≡ d = cc in cc
     all (suc id) d at = absurd cc
 
-abbrev contracted : Bot
-contracted = shape_bot (pos 2) (pos 3) (pos 2) (pos 3) 0 Plus []
+at_start : (version : ℕ) → IsWritableConfig version 0 (shape_of_one bot_before)
+at_start version = one_written version bot_before refl (one_valid bot_before (plain bot_before refl refl (omega arith) refl) refl)
 
-at_start : IsWritableConfig 1 0 (shape_of_one contracted)
-at_start = one_written contracted refl (one_valid contracted (plain contracted refl refl (omega arith) refl) refl)
-
-at_end : IsWritableConfig 1 0 (shape_of_one bot_after)
-at_end = one_written bot_after refl (one_valid bot_after (plain bot_after refl refl (omega arith) refl) refl)
+at_end : (version : ℕ) → IsWritableConfig version 0 (shape_of_one bot_after)
+at_end version = one_written version bot_after refl (one_valid bot_after (plain bot_after refl refl (omega arith) refl) refl)
 
 the_program : IsWritableProgram out
 the_program = record { writable = refl; checked = refl }
@@ -66,8 +63,18 @@ the_program = record { writable = refl; checked = refl }
 node_fits : HasCoordinates (a_node_of (pos 3) (pos 3))
 node_fits = record { x = omega arith; y = omega arith }
 
-bot_fits : HasLimits 0 bot_after
-bot_fits = record {
+before_fits : HasLimits 0 bot_before
+before_fits = record {
+  head = record { x = omega arith; y = omega arith };
+  tail = record { x = omega arith; y = omega arith };
+  rot = omega arith;
+  eight = refl;
+  values = All-replicate (λ v. v ≤ most_value) 8 0 (omega arith);
+  zeros = refl;
+}
+
+after_fits : HasLimits 0 bot_after
+after_fits = record {
   head = node_fits;
   tail = record { x = omega arith; y = omega arith };
   rot = omega arith;
@@ -76,46 +83,76 @@ bot_fits = record {
   zeros = refl;
 }
 
-pairs_fit : All (IsWritablePair 0) entry_made.patch
-pairs_fit = All-from_recursion (IsWritablePair 0) entry_made.patch (node_fits, (bot_fits, tt))
+entry_fits : KeepsLimits 1 1 0 (written_full entry_made)
+entry_fits = record {
+  known = refl;
+  movement = omega arith;
+  few = omega arith;
+  pairs = All-from_recursion (IsWritableChange 0) (written_full entry_made).changes ((node_fits, node_fits), ((before_fits, after_fits), tt));
+}
 
-entry_fits : KeepsLimits 1 1 0 entry_made
-entry_fits = record { known = refl; movement = omega arith; few = omega arith; pairs = pairs_fit }
+plain_fits : KeepsLimits 1 1 0 (written_plain plain_made)
+plain_fits = record {
+  known = refl;
+  movement = omega arith;
+  few = omega arith;
+  pairs = All-from_recursion (IsWritableChange 0) (written_plain plain_made).changes ((tt, node_fits), ((tt, after_fits), tt));
+}
 
-marks_fit : All (AreWritable 1) two_marks.marks
-marks_fit =
-    All-cons (AreWritable 1) (mark.Done 0 ∷ mark.Idle 1 ∷ []) [] (record {
+marks_fit : (version : ℕ) → All (AreWritable version) two_marks.marks
+marks_fit version =
+    let is : Mark → Type 0 = IsWritableMark version in
+    All-cons (AreWritable version) (mark.Done 0 ∷ mark.Idle 1 ∷ []) [] (record {
       few = omega arith;
-      each = All-cons (IsWritableMark 1) (mark.Done 0) (mark.Idle 1 ∷ []) (omega arith) (All-cons (IsWritableMark 1) (mark.Idle 1) [] (omega arith) (All-nil (IsWritableMark 1)));
-    }) (All-nil (AreWritable 1))
+      each = All-cons is (mark.Done 0) (mark.Idle 1 ∷ []) (omega arith) (All-cons is (mark.Idle 1) [] (omega arith) (All-nil is));
+    }) (All-nil (AreWritable version))
 
 pub whole_text_rows : WholeTextRows
 unfolding digits
 whole_text_rows = record {
   program_text = refl;
   run_text = refl;
+  full_text = refl;
   program = record {
     version = (omega arith, omega arith);
-    sections = (refl, (refl, refl));
-    recorded = record { last = tt; first = tt };
+    sections = (refl, (refl, refl, refl));
+    recorded = record { last = tt; last_plain = tt; first = tt };
     no_lists = refl;
     no_schedule = refl;
     program = the_program;
     world = tt;
     entries = tt;
+    plain = tt;
+    by_version = (λ old. refl, λ none. refl);
     final_world = tt;
     turns = tt;
   };
   run = record {
     version = (omega arith, omega arith);
     sections = (refl, refl, refl, refl);
-    recorded = record { last = refl; first = refl };
+    recorded = record { last = tt; last_plain = refl; first = refl };
     no_lists = refl;
     no_schedule = refl;
     program = the_program;
-    world = record { world = at_start; maxes = refl };
-    entries = record { few = omega arith; each = All-cons (KeepsLimits 1 1 0) entry_made [] entry_fits (All-nil (KeepsLimits 1 1 0)) };
-    final_world = record { world = at_end; maxes = refl };
-    turns = record { behind = refl; callers = omega arith; each = marks_fit };
+    world = record { world = at_start 1; maxes = refl };
+    entries = tt;
+    plain = record { few = omega arith; each = All-cons (λ e. KeepsLimits 1 1 0 (written_plain e)) plain_made [] plain_fits (All-nil (λ e. KeepsLimits 1 1 0 (written_plain e))) };
+    by_version = (λ old. absurd cc, λ none. refl);
+    final_world = record { world = at_end 1; maxes = refl };
+    turns = record { behind = refl; callers = omega arith; each = marks_fit 1 };
+  };
+  full = record {
+    version = (omega arith, omega arith);
+    sections = (refl, refl, refl, refl);
+    recorded = record { last = refl; last_plain = tt; first = refl };
+    no_lists = refl;
+    no_schedule = refl;
+    program = the_program;
+    world = record { world = at_start 3; maxes = refl };
+    entries = record { few = omega arith; each = All-cons (λ e. KeepsLimits 1 1 0 (written_full e)) entry_made [] entry_fits (All-nil (λ e. KeepsLimits 1 1 0 (written_full e))) };
+    plain = tt;
+    by_version = (λ old. refl, λ none. absurd cc);
+    final_world = record { world = at_end 3; maxes = refl };
+    turns = record { behind = refl; callers = omega arith; each = marks_fit 3 };
   };
 }

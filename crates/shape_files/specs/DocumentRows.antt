@@ -7,18 +7,22 @@ use Rattle.text_tokens.specs.Cursor.{on_line}
 use Rattle.amoebot_state.specs.declared.bot.Bot.{Bot}
 use Rattle.amoebot_state.specs.declared.bot.Chir.TheVariants.{Plus}
 use Rattle.amoebot_state.specs.declared.bot.End.TheVariants.{Head}
+use Rattle.amoebot_state.specs.declared.cell.CellName.{CellName}
 use Rattle.amoebot_state.specs.declared.cell.CellName.TheVariants as name
+use Rattle.amoebot_state.specs.declared.cell.Cell.{Cell}
 use Rattle.amoebot_state.specs.declared.cell.Cell.TheVariants as cell
 use Rattle.amoebot_state.specs.declared.verdict.Entry.{Entry}
+use Rattle.amoebot_state.specs.declared.verdict.PlainEntry.{PlainEntry}
 use Rattle.amoebot_state.specs.declared.verdict.Moved.TheVariants as moved
 use Rattle.amoebot_state.specs.Configs.{Config, frame_of, with_these}
+use Rattle.amoebot_state.specs.Pairs.{CellChange}
 use Rattle.amoebot_state.specs.Ports.{port}
+use Rattle.amoebot_state.specs.Steps.{plain_entry}
 use Rattle.amoebot_state.specs.Examples.{eight_by_eight, zeros}
 use Rattle.action_tree.specs.Trees as tree
 use Rattle.action_tree.specs.Trees.{Name, Literal, atom, through, expand, at_end, fixed, no_stmts}
 use Rattle.action_tree.specs.Programs.{parsed_program}
 use Rattle.node_text.specs.Parts.{a_node_of}
-use Rattle.journal_text.specs.Journals.{a_pair_of}
 use Rattle.shape_text.specs.ShapeRows.{shape_bot}
 use Rattle.schedule_text.specs.Lists.{lists_of}
 use Rattle.shape_files.specs.declared.section_kind.Form.{Form}
@@ -44,9 +48,12 @@ AreRead (r ∷ rs) = FormSays r.form r.text r.answer × AreRead rs
 
 -- ---- an amoebot expands
 
--- lines 1 to 4, 5 to 8 and 9 to 12
+-- lines 2 to 4, behind the header; 5 to 8 and 9 to 12
+abbrev code_text : List ℕ
+code_text = codes "program\naction out when contracted move expand head 0\nend\n"
+
 abbrev pub program_text : List ℕ
-program_text = codes "amoebot 1\nprogram\naction out when contracted move expand head 0\nend\n"
+program_text = codes "amoebot 1\n" ++ code_text
 
 abbrev shape_text : List ℕ
 shape_text = codes "shape\narea 0 0 8 8\nbot 2 3 2 3 0 +\nend\n"
@@ -59,6 +66,10 @@ schedule_text = codes "schedule 0 times 2 end\n"
 
 abbrev journal_text : List ℕ
 journal_text = codes "journal\nentry 0 0 0 0 0 expand head 0 spot 3 3 0 body 0 3 3 2 3 0 +\nend\n"
+
+-- with old values
+abbrev full_journal : List ℕ
+full_journal = codes "journal\nentry 0 0 0 0 0 expand head 0 spot 3 3 empty to 0 body 0 2 3 2 3 0 + to 3 3 2 3 0 +\nend\n"
 
 abbrev final_text : List ℕ
 final_text = codes "final\narea 0 0 8 8\nbot 3 3 2 3 0 +\nend\n"
@@ -74,6 +85,10 @@ with_lists = with_shape ++ lists_text
 
 abbrev record_text : List ℕ
 record_text = journal_text ++ final_text
+
+-- the program and the shape in a document of version 3
+abbrev with_shape_3 : List ℕ
+with_shape_3 = codes "amoebot 3\n" ++ code_text ++ shape_text
 
 -- the same with this line of an amoebot
 abbrev with_bot : List ℕ → List ℕ
@@ -93,11 +108,17 @@ out =
       moved = through expand (at_end Head (fixed direction));
     } ∷ [])
 
+abbrev pub bot_before : Bot
+bot_before = shape_bot (pos 2) (pos 3) (pos 2) (pos 3) 0 Plus []
+
 abbrev pub bot_after : Bot
 bot_after = shape_bot (pos 3) (pos 3) (pos 2) (pos 3) 0 Plus []
 
 abbrev pub shape_of_one : Bot → Config
 shape_of_one b = with_these (frame_of eight_by_eight zeros) (b ∷ [])
+
+abbrev from_to : CellName → Cell → Cell → CellChange
+from_to n before after = (n, before, after)
 
 abbrev pub entry_made : Entry
 entry_made = record {
@@ -107,15 +128,18 @@ entry_made = record {
   action = 0;
   moved = moved.Expand (port Head 0);
   patch =
-      a_pair_of (name.Spot (a_node_of (pos 3) (pos 3))) (cell.Spot (Some 0))
-      ∷ a_pair_of (name.Body 0) (cell.Body bot_after) ∷ [];
+      from_to (name.Spot (a_node_of (pos 3) (pos 3))) (cell.Spot None) (cell.Spot (Some 0))
+      ∷ from_to (name.Body 0) (cell.Body bot_before) (cell.Body bot_after) ∷ [];
 }
 
+abbrev pub plain_made : PlainEntry
+plain_made = plain_entry entry_made
+
 abbrev pub only_program : Contents
-only_program = record { version = 1; checked = Some out; world = None; lists = None; schedule = None; entries = None; final_world = None }
+only_program = record { version = 1; checked = Some out; world = None; lists = None; schedule = None; entries = None; plain = None; final_world = None }
 
 abbrev pub program_and_shape : Contents
-program_and_shape = record only_program { world = Some (shape_of_one (shape_bot (pos 2) (pos 3) (pos 2) (pos 3) 0 Plus [])) }
+program_and_shape = record only_program { world = Some (shape_of_one bot_before) }
 
 abbrev and_lists : Contents
 and_lists = record program_and_shape { lists = Some (lists_of 2 ((0 ∷ []) ∷ [])) }
@@ -124,7 +148,11 @@ abbrev and_schedule : Contents
 and_schedule = record and_lists { schedule = Some (0 ∷ 0 ∷ []) }
 
 abbrev pub with_record : Contents → Contents
-with_record a = record a { entries = Some (entry_made ∷ []); final_world = Some (shape_of_one bot_after) }
+with_record a = record a { plain = Some (plain_made ∷ []); final_world = Some (shape_of_one bot_after) }
+
+-- the same with old values
+abbrev pub with_full_record : Contents → Contents
+with_full_record a = record a { version = 3; entries = Some (entry_made ∷ []); final_world = Some (shape_of_one bot_after) }
 
 -- ---- documents
 
@@ -140,11 +168,13 @@ document_rows =
     ∷ has Replay (with_shape ++ record_text) (with_record program_and_shape)
     ∷ has Replay (with_lists ++ record_text ++ turns_section) (with_record and_lists)
     ∷ has Replay (with_lists ++ schedule_text ++ record_text ++ turns_section) (with_record and_schedule)
+    ∷ has Replay (with_shape_3 ++ full_journal ++ final_text) (with_full_record program_and_shape)
     ∷ has Measure with_shape program_and_shape
     ∷ has Measure with_lists and_lists
     ∷ has Measure (with_lists ++ schedule_text) and_schedule
     ∷ has Measure (with_shape ++ record_text) (with_record program_and_shape)
     ∷ has Measure (with_lists ++ record_text ++ turns_section) (with_record and_lists)
+    ∷ has Measure with_shape_3 (record program_and_shape { version = 3 })
     ∷ []
 
 -- ---- texts that are none
@@ -161,8 +191,11 @@ fault_rows =
     ∷ fails Run (with_lists ++ codes "schedule\n1 end") 14 BadId
     ∷ fails Run (codes "amoebot 1\nprogram\naction out when contracted\nmove expand p end shape") 4 UnknownName
     ∷ fails Replay (with_shape ++ codes "journal\nentry 1 0 0 0 0 none\nend\n" ++ final_text) 10 BadPlace
+    -- old values in a version without them, and none in one with them
+    ∷ fails Replay (with_shape ++ full_journal ++ final_text) 10 Unexpected
+    ∷ fails Replay (with_shape_3 ++ journal_text ++ final_text) 10 Unexpected
     -- the header
-    ∷ fails Run (codes "amoebot 3\nprogram") 1 BadRange
+    ∷ fails Run (codes "amoebot 4\nprogram") 1 BadRange
     ∷ fails Run (codes "amoebot 0\nprogram") 1 BadRange
     ∷ fails Run (codes "program") 1 Unexpected
     ∷ fails Run (codes "amoebot\nprogram") 2 Unexpected

@@ -1,18 +1,20 @@
 -- Documents: what each section is, in the state that those before it gave, and what a document of a form has.
-use Rattle.std.specs.Prelude.{◌≡◌, ℕ, List, [], ◌∷◌, Option, Some, None, Result, Ok, Err, length}
+use Rattle.std.specs.Prelude.{◌≡◌, ℕ, Bool, true, false, List, [], ◌∷◌, Option, Some, None, Result, Ok, Err, length}
 use Rattle.text_tokens.specs.declared.refusal.Refusal.{Refusal}
 use Rattle.text_tokens.specs.declared.refusal.RefusalKind.TheVariants.{Trailing}
 use Rattle.text_tokens.specs.Text.{Lexeme, AreTokens}
 use Rattle.text_tokens.specs.Grammar.{Lang, Made, Judged}
 use Rattle.text_tokens.specs.Inputs.{IsInput, IsInputFault}
 use Rattle.amoebot_state.specs.declared.verdict.Entry.{Entry}
+use Rattle.amoebot_state.specs.declared.verdict.PlainEntry.{PlainEntry}
 use Rattle.amoebot_state.specs.Configs.{Config}
 use Rattle.claim_core.specs.Turns.{CallerLists}
 use Rattle.action_tree.specs.Trees as tree
 use Rattle.action_tree.specs.Programs.{IsProgram}
 use Rattle.action_check.specs.Faults.{faults}
 use Rattle.action_check.specs.Maxes.{maxes_of}
-use Rattle.journal_text.specs.Journals.{IsJournal}
+use Rattle.node_text.specs.Parts.{has_old_values}
+use Rattle.journal_text.specs.Journals.{IsJournal, IsPlainJournal}
 use Rattle.journal_text.specs.Turns.{IsTurns}
 use Rattle.shape_text.specs.Shapes.{IsShape, IsFinal}
 use Rattle.schedule_text.specs.Lists.{IsLists}
@@ -24,7 +26,7 @@ use Rattle.shape_files.specs.Frame.{course_of, IsInFrame}
 use Rattle.shape_files.specs.FrameLaws.{SameTexts}
 
 -- What a document has: its version, its program, the configuration at the start, the lists, the steps of the schedule,
--- the entries of the journal and the configuration at the end.
+-- the entries of the journal with old values or without, and the configuration at the end.
 -- Its turns are read by their grammar alone.
 pub record Contents : Type 0 where
   pub version : ℕ
@@ -33,6 +35,7 @@ pub record Contents : Type 0 where
   pub lists : Option CallerLists
   pub schedule : Option (List ℕ)
   pub entries : Option (List Entry)
+  pub plain : Option (List PlainEntry)
   pub final_world : Option Config
 
 -- nothing is read yet but the version
@@ -45,6 +48,7 @@ nothing_yet version =
       lists = None;
       schedule = None;
       entries = None;
+      plain = None;
       final_world = None;
     }
 
@@ -84,14 +88,21 @@ first_in (r ∷ rs) = Some r
 abbrev pub IsCheckedProgram : Lang tree.Program
 IsCheckedProgram = Judged IsProgram (λ p. first_in (faults p))
 
+-- a journal, with old values or without
+abbrev pub JournalBody : Bool → Contents → Lang Contents
+JournalBody true s =
+    Made (IsJournal (bots_of s.world) (actions_of s.checked) (var_count s.checked))
+    (λ es. record s { entries = Some es })
+JournalBody false s =
+    Made (IsPlainJournal (bots_of s.world) (actions_of s.checked) (var_count s.checked))
+    (λ ps. record s { plain = Some ps })
+
 abbrev pub Body : Section → Contents → Lang Contents
 Body Program s = Made IsCheckedProgram (λ p. record s { checked = Some p })
 Body Shape s = Made (IsShape s.version (var_count s.checked) (maxes_in s.checked)) (λ c. record s { world = Some c })
 Body Lists s = Made (IsLists (bots_of s.world)) (λ l. record s { lists = Some l })
 Body Schedule s = Made (IsSchedule (callers_of s.lists)) (λ steps. record s { schedule = Some steps })
-Body Journal s =
-    Made (IsJournal (bots_of s.world) (actions_of s.checked) (var_count s.checked))
-    (λ es. record s { entries = Some es })
+Body Journal s = JournalBody (has_old_values s.version) s
 Body Final s = Made (IsFinal s.version (var_count s.checked) (maxes_in s.checked)) (λ c. record s { final_world = Some c })
 Body Turns s = Made (IsTurns s.version) (λ u. s)
 

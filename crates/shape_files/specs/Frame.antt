@@ -119,7 +119,7 @@ abbrev pub least_version : ℕ
 least_version = 1
 
 abbrev pub greatest_version : ℕ
-greatest_version = 2
+greatest_version = 3
 
 abbrev pub IsVersion : ℕ → Type 0
 IsVersion version = (least_version ≤ version) × (version ≤ greatest_version)

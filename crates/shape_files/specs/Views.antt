@@ -21,5 +21,6 @@ contents p =
       lists = p.lists;
       schedule = p.schedule;
       entries = p.entries;
+      plain = p.plain;
       final_world = p.final_world;
     }

@@ -1,25 +1,22 @@
 -- Documents that are printed whole. Such a document has what was printed, lines of the program aside.
-use Rattle.std.specs.Prelude.{◌≡◌, ◌≤◌, ℕ, true, List, [], ◌∷◌, ◌++◌, Option, Some, None, length, codes, decimal}
+use Rattle.std.specs.Prelude.{◌≡◌, ◌≤◌, ℕ, List, [], ◌∷◌, ◌++◌, Option, Some, None, length, codes, decimal}
 use Rattle.std.specs.Option.{option_map, IfSome, IsSome}
 use Rattle.std.specs.List.{All, flat_map}
 use Rattle.text_tokens.specs.Lines.{Words, line_text}
-use Rattle.amoebot_state.specs.declared.verdict.Entry.{Entry}
 use Rattle.amoebot_state.specs.Configs.{Config}
 use Rattle.claim_core.specs.Limits.{most_callers, most_turns}
 use Rattle.claim_core.specs.Turns.{MarkLists}
-use Rattle.action_tree.specs.Trees as tree
 use Rattle.action_tree.specs.Lines.{without_lines}
-use Rattle.action_tree.specs.Writable.{is_writable}
 use Rattle.action_print.specs.Canon.{canon}
-use Rattle.action_check.specs.Faults.{faults}
-use Rattle.journal_text.specs.Texts.{journal_text, turns_text}
+use Rattle.journal_text.specs.Journals.{WrittenEntry}
+use Rattle.journal_text.specs.Texts.{written_full, written_plain, journal_text, plain_text, turns_text}
 use Rattle.journal_text.specs.Rereading.{KeepsLimits, AreWritable}
 use Rattle.shape_text.specs.Texts.{shape_text}
 use Rattle.shape_text.specs.Rereading.{IsWritableConfig}
 use Rattle.shape_files.specs.declared.section_kind.Form.{Form}
 use Rattle.shape_files.specs.Frame.{IsVersion}
 use Rattle.shape_files.specs.Documents.{Contents, var_count, actions_of, maxes_in, bots_of, HasContents}
-use Rattle.shape_files.specs.Fitting.{HasSections, AreTogether}
+use Rattle.shape_files.specs.Fitting.{HasSections, AreTogether, IsByVersion, IsWritableProgram}
 
 -- ---- the text
 
@@ -39,6 +36,7 @@ section_texts a marks =
     text_of_some canon a.checked
     ++ text_of_some (shape_text (codes "shape") (var_count a.checked)) a.world
     ++ text_of_some (journal_text (var_count a.checked)) a.entries
+    ++ text_of_some (plain_text (var_count a.checked)) a.plain
     ++ text_of_some (shape_text (codes "final") (var_count a.checked)) a.final_world
     ++ text_of_some turns_text marks
 
@@ -48,20 +46,15 @@ document_text a marks = line_text (header_line a.version) ++ flat_map (λ text. 
 
 -- ---- what can be printed
 
--- a program that keeps its limits, and the rules on names and ranges
-pub record IsWritableProgram (p : tree.Program) : Type 0 where
-  pub writable : is_writable p ≡ true
-  pub checked : faults p ≡ []
-
 -- a configuration that a world has, with the maxima of the program
 pub record IsWritableShape (a : Contents) (c : Config) : Type 0 where
   pub world : IsWritableConfig a.version (var_count a.checked) c
   pub maxes : c.maxes ≡ maxes_in a.checked
 
--- entries that break no limit, of the amoebots and actions that there are
-pub record AreWritableEntries (a : Contents) (es : List Entry) : Type 0 where
+-- entries that break no limit, of the amoebots and actions that there are, where each is written so
+pub record AreWritableEntries {E : Type 0} (written : E → WrittenEntry) (a : Contents) (es : List E) : Type 0 where
   pub few : length es ≤ most_turns
-  pub each : All (KeepsLimits (bots_of a.world) (actions_of a.checked) (var_count a.checked)) es
+  pub each : All (λ e. KeepsLimits (bots_of a.world) (actions_of a.checked) (var_count a.checked) (written e)) es
 
 -- Marks of such numbers as a text can hold.
 -- They stand behind a last shape.
@@ -80,7 +73,9 @@ pub record IsWritableDocument (form : Form) (a : Contents) (marks : Option MarkL
   pub no_schedule : a.schedule ≡ None
   pub program : IfSome a.checked IsWritableProgram
   pub world : IfSome a.world (IsWritableShape a)
-  pub entries : IfSome a.entries (AreWritableEntries a)
+  pub entries : IfSome a.entries (AreWritableEntries written_full a)
+  pub plain : IfSome a.plain (AreWritableEntries written_plain a)
+  pub by_version : IsByVersion a
   pub final_world : IfSome a.final_world (IsWritableShape a)
   pub turns : IfSome marks (AreWritableMarks a)
 

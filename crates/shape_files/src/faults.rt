@@ -13,11 +13,11 @@ use text_tokens::RefusalKind::{
 pub static TWO_FAULTS: [Row; 46] = [
     (
         Run,
-        &["amoebot 3\n", "program\nvar m 256\nend\n"],
+        &["amoebot 4\n", "program\nvar m 256\nend\n"],
         Err((1, BadRange)),
     ),
-    (Run, &["amoebot 3\n", SHAPE], Err((1, BadRange))),
-    (Run, &["amoebot 3\n", "$"], Err((1, BadRange))),
+    (Run, &["amoebot 4\n", SHAPE], Err((1, BadRange))),
+    (Run, &["amoebot 4\n", "$"], Err((1, BadRange))),
     (Run, &["amoebot $ 2\n", SHAPE], Err((1, BadByte))),
     (Run, &[HEAD, PROGRAM, LISTS, "$"], Err((5, WrongSection))),
     (Run, &[HEAD, PROGRAM, "$", LISTS], Err((5, BadByte))),

@@ -13,9 +13,9 @@ use text_tokens::{Refusal, RefusalKind, TokenKind, Tokens};
 
 const LEAST_VERSION: u32 = 1;
 
-const GREATEST_VERSION: u32 = 2;
+const GREATEST_VERSION: u32 = 3;
 
-/// Reads the header: the word `amoebot` and the version, which is 1 or 2. Another version is a `BadRange`.
+/// Reads the header: the word `amoebot` and the version, which is 1, 2 or 3. Another version is a `BadRange`.
 pub fn read_head(tokens: &mut Tokens<'_>) -> Result<u8, Refusal>
     ensures tells { TellsOf IsHeader (λ v. v) tokens.old (as_read result) tokens.new }
     ensures reads { ReadsOf IsHeader (λ v. v) tokens.old (as_read result) tokens.new }

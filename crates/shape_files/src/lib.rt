@@ -31,6 +31,8 @@ mod limits;
 #[cfg(test)]
 mod lists;
 #[cfg(test)]
+mod old_values;
+#[cfg(test)]
 mod pieces;
 #[cfg(test)]
 mod programs;

@@ -9,14 +9,14 @@ ghost use Rattle.shape_files.specs.Documents.{nothing_yet, var_count, maxes_in, 
 use action_check::Checked;
 use amoebot_state::World;
 use claim_core::Lists;
-use journal_text::Entries;
+use journal_text::{Entries, PlainEntries};
 use schedule_text::Schedule;
 use std::marker::Model;
 
 /// The sections of a document that stand for something, each `Some` exactly where the document has it.
 #[derive(Drop)]
 pub struct Parts {
-    /// The version of the document, 1 or 2.
+    /// The version of the document, 1 to 3.
     pub version: u8,
     /// The section `program`, whose names and numbers keep the rules.
     pub checked: Option<Checked>,
@@ -24,8 +24,10 @@ pub struct Parts {
     pub world: Option<World>,
     pub lists: Option<Lists>,
     pub schedule: Option<Schedule>,
-    /// The section `journal`.
+    /// The section `journal` with old values, as version 3 has it.
     pub entries: Option<Entries>,
+    /// The section `journal` without old values, as versions 1 and 2 have it.
+    pub plain: Option<PlainEntries>,
     /// The section `final`.
     pub final_world: Option<World>,
 }
@@ -42,6 +44,7 @@ impl Parts {
             lists: None,
             schedule: None,
             entries: None,
+            plain: None,
             final_world: None,
         }
     }
@@ -124,7 +127,7 @@ impl Sections {
         Sections { parts }
     }
 
-    /// The version of the document, 1 or 2.
+    /// The version of the document, 1 to 3.
     pub fn version(&self) -> u8
         ensures { result ≡ self.now.version }
     {
@@ -159,11 +162,18 @@ impl Sections {
         self.parts.schedule.as_ref()
     }
 
-    /// The entries of the journal.
+    /// The entries of a journal with old values.
     pub fn entries(&self) -> Option<&Entries>
         ensures { option_map (λ e. e.now) result ≡ self.now.entries }
     {
         self.parts.entries.as_ref()
+    }
+
+    /// The entries of a journal without old values.
+    pub fn plain(&self) -> Option<&PlainEntries>
+        ensures { option_map (λ e. e.now) result ≡ self.now.plain }
+    {
+        self.parts.plain.as_ref()
     }
 
     /// The world at the end.

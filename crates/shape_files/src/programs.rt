@@ -19,7 +19,7 @@ pub static HEADERS_AND_PROGRAMS: [Row; 34] = [
         &["amoebot 02\n", PROGRAM],
         Ok([1, -1, -1, -1, -1, -1]),
     ),
-    (Check, &["amoebot 3\n", PROGRAM], Err((1, BadRange))),
+    (Check, &["amoebot 4\n", PROGRAM], Err((1, BadRange))),
     (Check, &["amoebot 0\n", PROGRAM], Err((1, BadRange))),
     (Check, &["amoebot\n3\n", PROGRAM], Err((2, BadRange))),
     (

@@ -1,14 +1,16 @@
 //! Each section, in the state that those before it gave.
 
 ghost use Rattle.text_tokens.specs.Steps.{Gives};
-ghost use Rattle.shape_files.specs.DocumentReaders.{a_checked_program, body};
+ghost use Rattle.node_text.specs.Parts as part;
+ghost use Rattle.shape_files.specs.DocumentReaders.{a_checked_program, body, journal_body};
 ghost use Rattle.shape_files.specs.Views.{contents};
 
 use crate::Section;
 use crate::parts::Parts;
 use action_check::{Checked, check};
 use action_parser::parse_program;
-use journal_text::{read_journal, read_turns};
+use journal_text::{read_journal, read_plain, read_turns};
+use node_text::has_old_values;
 use schedule_text::{read_lists, read_schedule};
 use shape_text::{read_final, read_shape};
 use std::alloc::Global;
@@ -20,6 +22,25 @@ fn read_program(alloc: Global, tokens: &mut Tokens<'_>) -> Result<Checked, ReadR
 {
     let program = parse_program(alloc, tokens)?;
     check(alloc, program)
+}
+
+/// Reads a journal, with old values or without, and keeps its entries.
+fn read_entries(
+    alloc: Global,
+    tokens: &mut Tokens<'_>,
+    parts: &mut Parts,
+) -> Result<(), ReadRefusal>
+    ensures { Gives (λ _. contents parts.new) (journal_body (part.has_old_values (contents parts.old).version) (contents parts.old)) tokens.old result tokens.new }
+{
+    let bots = parts.bots();
+    let actions = parts.actions();
+    let vars = parts.vars();
+    if has_old_values(parts.version) {
+        parts.entries = Some(read_journal(alloc, tokens, bots, actions, vars)?);
+    } else {
+        parts.plain = Some(read_plain(alloc, tokens, bots, actions, vars)?);
+    }
+    Ok(())
 }
 
 /// Reads a section, and keeps what it stands for. The section `turns` stands for nothing.
@@ -41,10 +62,7 @@ pub(crate) fn read_section(
         Section::Schedule => {
             parts.schedule = Some(read_schedule(alloc, tokens, parts.callers())?);
         }
-        Section::Journal => {
-            let entries = read_journal(alloc, tokens, parts.bots(), parts.actions(), parts.vars())?;
-            parts.entries = Some(entries);
-        }
+        Section::Journal => read_entries(alloc, tokens, parts)?,
         Section::Final => {
             let world = read_final(alloc, tokens, parts.version, parts.vars(), parts.maxes())?;
             parts.final_world = Some(world);

@@ -3,6 +3,7 @@ use crate::form_tables::{OTHER_FORMS, REPLAY_FORMS, RUN_FORMS};
 use crate::journals::{JOURNALS, Journal, LONG_JOURNALS};
 use crate::limits::LIMITS;
 use crate::lists::LISTS_AND_SCHEDULES;
+use crate::old_values::{HEAD_3, OLD_VALUES, Valued};
 use crate::pieces::{Expected, FINAL, HEAD, LISTS, Long, PROGRAM, Row, SHAPE};
 use crate::programs::{HEADERS_AND_PROGRAMS, PROGRAM_LIMITS};
 use crate::runs::{CUTS, WORKED};
@@ -14,6 +15,19 @@ use std::alloc::{AllocError, Global};
 use std::process::Abort;
 use std::test::Fail;
 use text_tokens::{ReadRefusal, Refusal, RefusalKind, TokenKind, Tokens};
+
+/// How many entries with old values a document has, and how many without, each -1 where it has no such journal.
+fn entries_of(found: &Sections) -> [i64; 2] {
+    let full = match found.entries() {
+        Some(entries) => entries.entries().len() as i64,
+        None => -1,
+    };
+    let plain = match found.plain() {
+        Some(entries) => entries.entries().len() as i64,
+        None => -1,
+    };
+    [full, plain]
+}
 
 /// Counts in the order of `Expected`.
 fn counts(found: &Sections) -> [i64; 6] {
@@ -33,15 +47,12 @@ fn counts(found: &Sections) -> [i64; 6] {
         Some(schedule) => i64::from(schedule.steps()),
         None => -1,
     };
-    let entries = match found.entries() {
-        Some(entries) => entries.entries().len() as i64,
-        None => -1,
-    };
+    let [full, plain] = entries_of(found);
     let last = match found.final_world() {
         Some(world) => i64::from(world.bots()),
         None => -1,
     };
-    [actions, bots, callers, steps, entries, last]
+    [actions, bots, callers, steps, full.max(plain), last]
 }
 
 /// What a document has, or its first fault.
@@ -51,6 +62,22 @@ fn answer(alloc: Global, bytes: &[u8], form: Form) -> Result<Expected, AllocErro
     }
     match read_sections(alloc, bytes, form) {
         Ok(found) => Ok(Ok(counts(&found))),
+        Err(ReadRefusal::Refused(Refusal { line, kind })) => Ok(Err((line, kind))),
+        Err(ReadRefusal::NoMemory) => Err(AllocError),
+    }
+}
+
+/// How many entries of each kind a document has, or its first fault.
+fn valued_answer(
+    alloc: Global,
+    bytes: &[u8],
+    form: Form,
+) -> Result<Result<[i64; 2], (u32, RefusalKind)>, AllocError> {
+    if bytes.len() > 100_000_000 {
+        return Ok(Err((0, RefusalKind::TooLong)));
+    }
+    match read_sections(alloc, bytes, form) {
+        Ok(found) => Ok(Ok(entries_of(&found))),
         Err(ReadRefusal::Refused(Refusal { line, kind })) => Ok(Err((line, kind))),
         Err(ReadRefusal::NoMemory) => Err(AllocError),
     }
@@ -214,6 +241,18 @@ fn journals_are_read(rt: HostRuntime) -> Result<(), Fail> {
 }
 
 #[test]
+fn journals_are_read_by_their_version(rt: HostRuntime) -> Result<(), Fail> {
+    let alloc = rt.alloc();
+    let table: &[Valued] = &OLD_VALUES;
+    for (form, pieces, expected) in table {
+        let text = joined(alloc, pieces)?;
+        let found = valued_answer(alloc, text.as_bytes(), *form)?;
+        assert_eq!(&rt; found, *expected, "{text}");
+    }
+    Ok(())
+}
+
+#[test]
 fn a_run_and_its_changes_are_read(rt: HostRuntime) -> Result<(), Fail> {
     are_read(&rt, rt.alloc(), &WORKED)?;
     Ok(())
@@ -237,9 +276,14 @@ fn limits_of_programs_are_kept_exactly(rt: HostRuntime) -> Result<(), Fail> {
     Ok(())
 }
 
-/// The text of a document with so many entries that do nothing, and this behind them.
-fn with_entries(alloc: Global, entries: u32, behind: &str) -> Result<String, AllocError> {
-    let mut text = joined(alloc, &[HEAD, PROGRAM, SHAPE, "journal\n"])?;
+/// The text of a document with this header, so many entries that do nothing, and this behind them.
+fn with_entries(
+    alloc: Global,
+    head: &str,
+    entries: u32,
+    behind: &str,
+) -> Result<String, AllocError> {
+    let mut text = joined(alloc, &[head, PROGRAM, SHAPE, "journal\n"])?;
     for place in 0..entries {
         let entry = format!(in alloc; "entry {place} 0 0 0 0 none\n")?;
         text.push_str(&entry)?;
@@ -249,9 +293,14 @@ fn with_entries(alloc: Global, entries: u32, behind: &str) -> Result<String, All
     Ok(text)
 }
 
-fn have_entries(rt: &impl Abort, alloc: Global, table: &[Journal]) -> Result<(), AllocError> {
+fn have_entries(
+    rt: &impl Abort,
+    alloc: Global,
+    head: &str,
+    table: &[Journal],
+) -> Result<(), AllocError> {
     for (entries, behind, expected) in table {
-        let text = with_entries(alloc, *entries, behind)?;
+        let text = with_entries(alloc, head, *entries, behind)?;
         let found = answer(alloc, text.as_bytes(), Form::Replay)?;
         assert_eq!(rt; found, *expected, "{behind}");
     }
@@ -260,7 +309,8 @@ fn have_entries(rt: &impl Abort, alloc: Global, table: &[Journal]) -> Result<(),
 
 #[test]
 fn a_document_has_at_most_65536_entries(rt: HostRuntime) -> Result<(), Fail> {
-    have_entries(&rt, rt.alloc(), &LONG_JOURNALS)?;
+    have_entries(&rt, rt.alloc(), HEAD, &LONG_JOURNALS)?;
+    have_entries(&rt, rt.alloc(), HEAD_3, &LONG_JOURNALS)?;
     Ok(())
 }
 
@@ -311,6 +361,7 @@ fn a_document_gives_its_parts(rt: HostRuntime) -> Result<(), Fail> {
     assert!(rt; parts.lists.is_some());
     assert!(rt; parts.schedule.is_none());
     assert!(rt; parts.entries.is_none());
+    assert!(rt; parts.plain.is_none());
     assert!(rt; parts.final_world.is_none());
     Ok(())
 }

@@ -2,13 +2,10 @@ use Rattle.std.proofs.Common.{ℕ, List, Some}
 use Rattle.std.proofs.lemmas.Result.{err_from_is_err_and}
 use Rattle.text_tokens.specs.Reading.{◌>>=◌, pure}
 use Rattle.text_tokens.proofs.StepsLemmas.{Reached, Failed, fails, on_made}
-use Rattle.amoebot_state.specs.declared.verdict.Entry.{Entry}
 use Rattle.amoebot_state.specs.Configs.{Config}
 use Rattle.claim_core.specs.Turns.{CallerLists}
-use Rattle.journal_text.specs.Journals.{IsJournal}
 use Rattle.journal_text.specs.Turns.{IsTurns}
-use Rattle.journal_text.specs.Readers.{journal, the_turns}
-use Rattle.journal_text.proofs.JournalLaws.{exact_journal}
+use Rattle.journal_text.specs.Readers.{the_turns}
 use Rattle.journal_text.proofs.TurnLaws.{exact_turns}
 use Rattle.shape_text.specs.Shapes.{IsShape, IsFinal}
 use Rattle.shape_text.specs.Readers.{a_shape, a_final}
@@ -91,23 +88,15 @@ returns-in_ok-read_schedule-in-Schedule c =
     let g = rw (c.callers.ensures) at f in
     rw c.in-Schedule.is g
 
-pub returns-in_err-entries-in-Journal : goal.returns-in_err-entries-in-Journal
+pub returns-in_err-read_entries-in-Journal : goal.returns-in_err-read_entries-in-Journal
 unfolding body
-returns-in_err-entries-in-Journal c =
-    let p = err_from_is_err_and c.from_residual-in_err-entries-in-Journal.result c.from_residual-in_err-entries-in-Journal.ensures.1 in
-    let s = contents c.args.parts.now in
-    let e = c.in_err-entries-in-Journal.field-0.0 in
-    let f : Failed (journal c.bots-in-Journal.result c.actions.result c.vars-in-Journal.result >>= λ v. pure (record s { entries = Some v })) e c.args.tokens.now c.read_journal.new.tokens = not_kept (IsJournal c.bots-in-Journal.result c.actions.result c.vars-in-Journal.result) (journal c.bots-in-Journal.result c.actions.result c.vars-in-Journal.result) (exact_journal c.bots-in-Journal.result c.actions.result c.vars-in-Journal.result) (λ (v : List Entry). record s { entries = Some v }) c.args.tokens.now c.read_journal.new.tokens e c.in_err-entries-in-Journal.ensures.tells in
-    let g = rw (c.bots-in-Journal.ensures, c.actions.ensures, c.vars-in-Journal.ensures.value) at f in
-    rw (c.in-Journal.is, p.1, p.2) g
+returns-in_err-read_entries-in-Journal c =
+    let p = err_from_is_err_and c.from_residual-in_err-read_entries-in-Journal.result c.from_residual-in_err-read_entries-in-Journal.ensures.1 in
+    rw (c.in-Journal.is, p.1, p.2) c.in_err-read_entries-in-Journal.ensures
 
-pub returns-in_ok-entries-in-Journal : goal.returns-in_ok-entries-in-Journal
+pub returns-in_ok-read_entries-in-Journal : goal.returns-in_ok-read_entries-in-Journal
 unfolding body
-returns-in_ok-entries-in-Journal c =
-    let s = contents c.args.parts.now in
-    let f : Reached (journal c.bots-in-Journal.result c.actions.result c.vars-in-Journal.result >>= λ v. pure (record s { entries = Some v })) c.args.tokens.now (record s { entries = Some c.in_ok-entries-in-Journal.entries }) c.read_journal.new.tokens = kept (IsJournal c.bots-in-Journal.result c.actions.result c.vars-in-Journal.result) (journal c.bots-in-Journal.result c.actions.result c.vars-in-Journal.result) (exact_journal c.bots-in-Journal.result c.actions.result c.vars-in-Journal.result) (λ (v : List Entry). record s { entries = Some v }) c.args.tokens.now c.read_journal.new.tokens c.in_ok-entries-in-Journal.entries c.in_ok-entries-in-Journal.ensures.tells in
-    let g = rw (c.bots-in-Journal.ensures, c.actions.ensures, c.vars-in-Journal.ensures.value) at f in
-    rw c.in-Journal.is g
+returns-in_ok-read_entries-in-Journal c = rw c.in-Journal.is c.in_ok-read_entries-in-Journal.ensures
 
 pub returns-in_err-world-in-Final : goal.returns-in_err-world-in-Final
 unfolding body
