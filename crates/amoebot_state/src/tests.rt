@@ -6,8 +6,8 @@ ghost use Rattle.amoebot_state.specs.Known.{AreReadInOrder};
 ghost use Rattle.amoebot_state.specs.Refusals.{IsBotInRange};
 
 use crate::{
-    Behind, Bot, Cell, CellName, Chir, End, Found, KnownZone, Patch, Port, World, WorldRefusal,
-    next_cell,
+    Behind, Bot, Cell, CellName, Chir, End, Entry, Found, KnownZone, Moved, Patch, Port, World,
+    WorldRefusal, next_cell,
 };
 use std::alloc::Global;
 use std::test::Fail;
@@ -219,6 +219,60 @@ fn an_expansion_is_applied(rt: HostRuntime) -> Result<(), Fail> {
     assert_eq!(rt; world.occupant(NEXT), Some(0));
     assert_eq!(rt; world.occupant(HERE), Some(0));
     Ok(())
+}
+
+/// An entry with a patch.
+fn entry_of(patch: Patch) -> Entry {
+    Entry {
+        caller: 3,
+        turn: 9,
+        bot: 7,
+        action: 2,
+        moved: Moved::Expand(port(End::Head, 4)),
+        patch,
+    }
+}
+
+#[test]
+fn a_patch_has_the_values_before_and_after(rt: HostRuntime) {
+    let mut patch = Patch::new();
+    assert_eq!(rt; patch.triples().len(), 0);
+    let spot = (CellName::Spot(NEXT), Cell::Spot(None), Cell::Spot(Some(0)));
+    let body = (CellName::Body(0), Cell::Body(ALONE), Cell::Body(STRETCHED));
+    patch.push(spot.0, spot.1, spot.2);
+    patch.push(body.0, body.1, body.2);
+    assert_eq!(rt; patch.triples(), [spot, body].as_slice());
+}
+
+#[test]
+fn a_plain_entry_has_the_values_after(rt: HostRuntime) {
+    let mut patch = Patch::new();
+    patch.push(
+        CellName::Spot(NEXT),
+        Cell::Spot(Some(1)),
+        Cell::Spot(Some(0)),
+    );
+    for id in 0..9 {
+        patch.push(CellName::Body(id), Cell::Body(ALONE), Cell::Body(STRETCHED));
+    }
+    let plain = entry_of(patch).plain();
+    assert_eq!(rt; plain.caller, 3);
+    assert_eq!(rt; plain.turn, 9);
+    assert_eq!(rt; plain.bot, 7);
+    assert_eq!(rt; plain.action, 2);
+    assert_eq!(rt; plain.moved, Moved::Expand(port(End::Head, 4)));
+    let mut pairs = [(CellName::Spot(NEXT), Cell::Spot(Some(0))); 10];
+    for id in 0..9 {
+        pairs[1 + usize::from(id)] = (CellName::Body(id), Cell::Body(STRETCHED));
+    }
+    assert_eq!(rt; plain.patch.pairs(), pairs.as_slice());
+}
+
+#[test]
+fn a_plain_entry_without_a_change_has_no_cells(rt: HostRuntime) {
+    let plain = entry_of(Patch::new()).plain();
+    assert_eq!(rt; plain.caller, 3);
+    assert_eq!(rt; plain.patch.pairs().len(), 0);
 }
 
 #[test]

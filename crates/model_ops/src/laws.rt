@@ -53,7 +53,7 @@ pub fn copies_stand_for_worlds()
     ensures stand { CopyStandsForWorlds }
 {}
 
-/// A decider whose changes are the differences that acts make keeps the three laws of deciders; where the acts have the guard on, its
+/// A decider whose changes are the differences that acts make keeps the laws of deciders; where the acts have the guard on, its
 /// steps leave connected occupied nodes connected.
 pub fn acts_decide()
     ensures laws { ActsKeepDeciderLaws }

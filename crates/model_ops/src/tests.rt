@@ -104,12 +104,19 @@ fn carry_out(site: &mut Site, moved: Moved, guard: bool) -> Result<(), Failure>
     }
 }
 
-fn spot(at: (u8, u8), occupant: Option<u16>) -> (CellName, Cell) {
-    (CellName::Spot(node(at)), Cell::Spot(occupant))
+/// What becomes of a cell: its name, its value before and its value after.
+type Triple = (CellName, Cell, Cell);
+
+fn spot(at: (u8, u8), before: Option<u16>, after: Option<u16>) -> Triple {
+    (
+        CellName::Spot(node(at)),
+        Cell::Spot(before),
+        Cell::Spot(after),
+    )
 }
 
-fn body(id: u16, bot: Bot) -> (CellName, Cell) {
-    (CellName::Body(id), Cell::Body(bot))
+fn body(id: u16, before: Bot, after: Bot) -> Triple {
+    (CellName::Body(id), Cell::Body(before), Cell::Body(after))
 }
 
 /// The amoebot with another value of the first variable.
@@ -121,11 +128,11 @@ fn valued(bot: Bot, value: u8) -> Bot {
 }
 
 /// That the activation changes these cells.
-fn expect_changes(rt: &impl Abort, found: &Found, moved: Moved, cells: &[(CellName, Cell)]) {
+fn expect_changes(rt: &impl Abort, found: &Found, moved: Moved, cells: &[Triple]) {
     let patch = activation(found, &[], moved, false).ok();
     assert!(rt; patch.is_some());
     if let Some(patch) = patch {
-        assert_eq!(rt; patch.pairs(), cells);
+        assert_eq!(rt; patch.triples(), cells);
     }
 }
 
@@ -146,9 +153,9 @@ fn writes_are_undone_with_a_movement_that_fails(rt: HostRuntime) -> Result<(), F
 fn a_push_takes_a_node_of_an_expanded_neighbour(rt: HostRuntime) -> Result<(), Fail> {
     let shown = found(rt.alloc(), &[bot((2, 3), (2, 3)), bot((3, 3), (4, 3))])?;
     let cells = [
-        spot((3, 3), Some(0)),
-        body(0, bot((3, 3), (2, 3))),
-        body(1, bot((4, 3), (4, 3))),
+        spot((3, 3), Some(1), Some(0)),
+        body(0, bot((2, 3), (2, 3)), bot((3, 3), (2, 3))),
+        body(1, bot((3, 3), (4, 3)), bot((4, 3), (4, 3))),
     ];
     expect_changes(&rt, &shown, Moved::Push(head(0)), &cells);
     Ok(())
@@ -158,9 +165,9 @@ fn a_push_takes_a_node_of_an_expanded_neighbour(rt: HostRuntime) -> Result<(), F
 fn a_pull_hands_a_node_to_a_contracted_neighbour(rt: HostRuntime) -> Result<(), Fail> {
     let shown = found(rt.alloc(), &[bot((3, 3), (2, 3)), bot((1, 3), (1, 3))])?;
     let cells = [
-        spot((2, 3), Some(1)),
-        body(0, bot((3, 3), (3, 3))),
-        body(1, bot((2, 3), (1, 3))),
+        spot((2, 3), Some(0), Some(1)),
+        body(0, bot((3, 3), (2, 3)), bot((3, 3), (3, 3))),
+        body(1, bot((1, 3), (1, 3)), bot((2, 3), (1, 3))),
     ];
     expect_changes(&rt, &shown, Moved::Pull(tail(3)), &cells);
     Ok(())
@@ -171,7 +178,10 @@ fn the_guard_holds_a_node_between_two(rt: HostRuntime) -> Result<(), Fail> {
     let shown = found(rt.alloc(), &[bot((3, 3), (2, 3)), bot((1, 3), (1, 3))])?;
     let leaves = Moved::Contract(End::Tail);
     assert_eq!(rt; failure(&shown, leaves, true), Some(Failure::WouldSplit));
-    let cells = [spot((2, 3), None), body(0, bot((3, 3), (3, 3)))];
+    let cells = [
+        spot((2, 3), Some(0), None),
+        body(0, bot((3, 3), (2, 3)), bot((3, 3), (3, 3))),
+    ];
     expect_changes(&rt, &shown, leaves, &cells);
     Ok(())
 }
@@ -187,7 +197,10 @@ fn two_ports_lead_to_one_neighbour(rt: HostRuntime) -> Result<(), Fail> {
     assert_eq!(rt; site.peer(tail(1))?.dir, 4);
     let writes = [(Some(head(2)), 1), (Some(tail(1)), 2)];
     let patch = activation(&shown, &writes, Moved::None, false)?;
-    assert_eq!(rt; patch.pairs(), [body(1, valued(other, 2))].as_slice());
+    assert_eq!(rt;
+        patch.triples(),
+        [body(1, other, valued(other, 2))].as_slice()
+    );
     Ok(())
 }
 
@@ -196,7 +209,7 @@ fn what_stays_as_it_was_found_is_not_listed(rt: HostRuntime) -> Result<(), Fail>
     let shown = found(rt.alloc(), &[bot((3, 3), (3, 3)), bot((2, 4), (2, 4))])?;
     let there_and_back = [(None, 3), (Some(head(2)), 0), (None, 0)];
     let patch = activation(&shown, &there_and_back, Moved::None, false)?;
-    assert_eq!(rt; patch.pairs().len(), 0);
+    assert_eq!(rt; patch.triples().len(), 0);
     Ok(())
 }
 
@@ -218,9 +231,9 @@ fn a_neighbour_is_expanded_across_two_ports(rt: HostRuntime) -> Result<(), Fail>
     assert_eq!(rt; site.peer(head(0))?, at_head);
     assert_eq!(rt; site.peer(head(1))?, at_tail);
     let cells = [
-        spot((3, 4), Some(0)),
-        body(0, bot((3, 4), (3, 3))),
-        body(1, turned_bot((4, 3), (4, 3), 2, Chir::Minus)),
+        spot((3, 4), Some(1), Some(0)),
+        body(0, bot((3, 3), (3, 3)), bot((3, 4), (3, 3))),
+        body(1, other, turned_bot((4, 3), (4, 3), 2, Chir::Minus)),
     ];
     expect_changes(&rt, &shown, Moved::Push(head(1)), &cells);
     Ok(())
@@ -247,9 +260,9 @@ fn pushes_go_by_local_directions(rt: HostRuntime) -> Result<(), Fail> {
             let own = turned_bot((3, 3), (3, 3), rot, chir);
             let shown = found(rt.alloc(), &[own, bot(next, far)])?;
             let cells = [
-                spot(next, Some(0)),
-                body(0, turned_bot(next, (3, 3), rot, chir)),
-                body(1, bot(far, far)),
+                spot(next, Some(1), Some(0)),
+                body(0, own, turned_bot(next, (3, 3), rot, chir)),
+                body(1, bot(next, far), bot(far, far)),
             ];
             expect_changes(&rt, &shown, Moved::Push(head(locals[dir])), &cells);
         }
@@ -265,9 +278,9 @@ fn pulls_go_by_local_directions(rt: HostRuntime) -> Result<(), Fail> {
             let own = turned_bot((3, 3), next, rot, chir);
             let shown = found(rt.alloc(), &[own, bot(far, far)])?;
             let cells = [
-                spot(next, Some(1)),
-                body(0, turned_bot((3, 3), (3, 3), rot, chir)),
-                body(1, bot(next, far)),
+                spot(next, Some(0), Some(1)),
+                body(0, own, turned_bot((3, 3), (3, 3), rot, chir)),
+                body(1, bot(far, far), bot(next, far)),
             ];
             expect_changes(&rt, &shown, Moved::Pull(tail(locals[dir])), &cells);
         }
