@@ -153,6 +153,10 @@ module _ (old : Bool) (vars : ℕ) where
     holds = (ap (λ (s : Rest). (written_with line s).place) f.holds, ap (λ (s : Rest). (written_with line s).entry) f.holds);
   }
 
+-- the lines of the section
+abbrev pub the_section : ℕ → List WrittenEntry → List Words
+the_section vars ws = (codes "journal" ∷ []) ∷ written_lines vars ws ++ (codes "end" ∷ []) ∷ []
+
 same_number : (n : ℕ) → (n == n) ≡ true
 same_number n = grind (arith, nat_tests)
 
@@ -173,10 +177,6 @@ module _ (bots actions vars : ℕ) (few_bots : bots < 2 ^ 16) (few_actions : act
       let c = and_parts (nat_le w.caller 15) (nat_le w.turn 65535) b.0 in
       let d = and_parts (nat_lt w.bot bots) (list_all (λ id. nat_lt id bots) (flat_map ids_of_change w.changes)) a.1 in
       record { caller = leb-true w.caller 15 c.0; turn = leb-true w.turn 65535 c.1; action = ltb-true w.action actions b.1; bot = ltb-true w.bot bots d.0; ids = d.1 }
-
-  -- the lines of the section
-  abbrev pub section_lines : List WrittenEntry → List Words
-  section_lines ws = (codes "journal" ∷ []) ∷ written_lines vars ws ++ (codes "end" ∷ []) ∷ []
 
   module _ (old : Bool) where
     -- an entry that a text can hold, which has values before exactly where the text has them
@@ -247,7 +247,7 @@ module _ (bots actions vars : ℕ) (few_bots : bots < 2 ^ 16) (few_actions : act
       the_first_word : Rereads (IsWord (codes "journal")) Any (codes "journal" ∷ [])
       the_first_word = the_word _ _ refl refl (omega arith) refl
 
-      entry_lines : (ws : List WrittenEntry) → length ws ≤ most_turns → All IsFit ws → RereadsLines (IsJournalOf old make bots actions vars) (Is (map make ws)) (section_lines ws)
+      entry_lines : (ws : List WrittenEntry) → length ws ≤ most_turns → All IsFit ws → RereadsLines (IsJournalOf old make bots actions vars) (Is (map make ws)) (the_section vars ws)
       entry_lines ws room all =
           let in_room : 0 + length ws ≤ most_turns = omega (arith, room) in
           let lines = written_lines vars ws in
@@ -270,10 +270,10 @@ module _ (bots actions vars : ℕ) (few_bots : bots < 2 ^ 16) (few_actions : act
         All-cons (IsFit old) (written e) (map written es) (record { keeps = All-head (λ e. KeepsLimits bots actions vars (written e)) e es all; marked = marked e })
         (are_fit es (All-tail (λ e. KeepsLimits bots actions vars (written e)) e es all))
 
-    lines_read_back : (es : List E) → length es ≤ most_turns → All (λ e. KeepsLimits bots actions vars (written e)) es → RereadsLines (IsJournalOf old make bots actions vars) (Is es) (section_lines (map written es))
+    lines_read_back : (es : List E) → length es ≤ most_turns → All (λ e. KeepsLimits bots actions vars (written e)) es → RereadsLines (IsJournalOf old make bots actions vars) (Is es) (the_section vars (map written es))
     lines_read_back es few all =
         let same : length (map written es) ≡ length es = length-map es written in
-        subst (λ (ds : List E). RereadsLines (IsJournalOf old make bots actions vars) (Is ds) (section_lines (map written es))) (made_again es)
+        subst (λ (ds : List E). RereadsLines (IsJournalOf old make bots actions vars) (Is ds) (the_section vars (map written es))) (made_again es)
         (entry_lines old make (map written es) (omega (arith, same, few)) (are_fit es all))
 
   -- ---- with old values
@@ -284,7 +284,7 @@ module _ (bots actions vars : ℕ) (few_bots : bots < 2 ^ 16) (few_actions : act
   full_again : (e : Entry) → entry_by (written_full e) ≡ e
   full_again e = ap (λ (ts : Triples). record { caller = e.caller; turn = e.turn; bot = e.bot; action = e.action; moved = e.moved; patch = ts }) (map-map _ _ e.patch ∙ map-id e.patch)
 
-  pub journal_lines : (es : List Entry) → length es ≤ most_turns → All (λ e. KeepsLimits bots actions vars (written_full e)) es → RereadsLines (IsJournal bots actions vars) (Is es) (section_lines (map written_full es))
+  pub journal_lines : (es : List Entry) → length es ≤ most_turns → All (λ e. KeepsLimits bots actions vars (written_full e)) es → RereadsLines (IsJournal bots actions vars) (Is es) (the_section vars (map written_full es))
   journal_lines = lines_read_back true entry_by written_full full_again old_values
 
   -- ---- without old values
@@ -295,7 +295,7 @@ module _ (bots actions vars : ℕ) (few_bots : bots < 2 ^ 16) (few_actions : act
   plain_again : (e : PlainEntry) → plain_by (written_plain e) ≡ e
   plain_again e = ap (λ (ps : Pairs). record { caller = e.caller; turn = e.turn; bot = e.bot; action = e.action; moved = e.moved; patch = ps }) (map-map _ _ e.patch ∙ map-id e.patch)
 
-  pub plain_journal_lines : (es : List PlainEntry) → length es ≤ most_turns → All (λ e. KeepsLimits bots actions vars (written_plain e)) es → RereadsLines (IsPlainJournal bots actions vars) (Is es) (section_lines (map written_plain es))
+  pub plain_journal_lines : (es : List PlainEntry) → length es ≤ most_turns → All (λ e. KeepsLimits bots actions vars (written_plain e)) es → RereadsLines (IsPlainJournal bots actions vars) (Is es) (the_section vars (map written_plain es))
   plain_journal_lines = lines_read_back false plain_by written_plain plain_again no_old_value
 
 pub journals_reread : JournalsReadBack

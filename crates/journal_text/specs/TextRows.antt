@@ -39,7 +39,8 @@ pub record TextsArePrinted : Type 0 where
   pub expansion : journal_text 0 (expansion_made [] ∷ [])
       ≡ codes "journal\nentry 0 0 0 0 0 expand head 0 spot 3 3 empty to 0 body 0 2 3 2 3 0 + to 3 3 2 3 0 +\nend\n"
   pub two_values : journal_text 2
-      (change_act moved.None (body_change_of 10 (long 0 Plus (7 ∷ [])) journal_bot ∷ spot_change (negsuc 0) (pos 3) (Some 0) None ∷ []) ∷ [])
+      (change_act moved.None
+      (body_change_of 10 (long 0 Plus (7 ∷ [])) journal_bot ∷ spot_change (negsuc 0) (pos 3) (Some 0) None ∷ []) ∷ [])
       ≡ codes "journal\nentry 0 0 0 0 0 none body 10 3 3 2 3 0 + 7 0 to 3 3 2 3 5 - 1 255 spot -1 3 0 to empty\nend\n"
   pub no_turn : turns_text (record { turns = 0; marks = [] }) ≡ codes "turns\nend\n"
   -- by rising caller and then by rising turn

@@ -325,7 +325,10 @@ fn read_written(
 
 /// The occupant as a value, if it is one of so many amoebots or none.
 fn known_occupant(occupant: Option<u32>, bots: u16) -> Option<Cell>
-    ensures { result ≡ if list_all (λ id. nat_lt id bots) (spec.ids_of_value (cell.Spot occupant)) then Some (cell.Spot occupant) else None }
+    ensures { result
+        ≡ if list_all (λ id. nat_lt id bots) (spec.ids_of_value (cell.Spot occupant))
+        then Some (cell.Spot occupant)
+        else None }
 {
     match occupant {
         None => Some(Cell::Spot(None)),

@@ -15,4 +15,6 @@ pub use printing::{print_journal, print_plain, print_turns, put_journal, put_pla
 pub use turns::read_turns;
 
 #[cfg(test)]
+mod journal_tests;
+#[cfg(test)]
 mod tests;
