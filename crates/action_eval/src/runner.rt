@@ -75,11 +75,7 @@ impl Decider for Runner {
         }
     }
 
-    ghost touches_zone = { λ p. (acts_keep_decider_laws (verdict_shown p) (programs_decide_by_acts p)).0 };
-
-    ghost has_next = { λ p. (acts_keep_decider_laws (verdict_shown p) (programs_decide_by_acts p)).1 };
-
-    ghost is_exact = { λ p. (acts_keep_decider_laws (verdict_shown p) (programs_decide_by_acts p)).2 };
+    ghost is_lawful = { λ p. acts_keep_decider_laws (verdict_shown p) (programs_decide_by_acts p) };
 }
 
 /// The actions in the order of the text: the first whose guard is not false decides. Where it is made, the working copy has come to what

@@ -93,7 +93,7 @@ module _ (g : Setup) (ok : IsSetup g) where
           now_sound.last,
           fr.valid,
           own_stays g ok c k.turn known now_sound.last fr,
-          whole_shown now_sound.last (bot g c k.turn) more (valued g ok new now_sound c (caller_with_cell g c k n x) mine) whole ∙ ap (λ (d : Config). shown_with d (bot g c k.turn) (reverse more)) fr.rest,
+          whole_shown now_sound.last (bot g c k.turn) more (valued g ok new now_sound c (caller_with_cell g c k n x) mine) whole ∙ ap (λ (d : Config). shown_with d (bot g c k.turn) (reverse more)) fr.same.rest,
         )
 
     rest_by : (v : Verdict) → HasFront g new now_sound.last c (caller_with_cell g c k n x) (phase_of_verdict v) → (rest : List CellName) × (names more ++ rest ≡ zone now_sound.last (bot g c k.turn))

@@ -206,4 +206,4 @@ module _ (g : Setup) (ok : IsSetup g) (old : State) (s : Sound g old) (c : ℕ) 
           whole = ends front.0 (sym next_more ∙ e) front_more
 
           same_frame : shown_with s.last own (reverse more) ≡ found g own more
-          same_frame = ap (λ (d : Config). shown_with d own (reverse more)) (framed g ok old s).rest
+          same_frame = ap (λ (d : Config). shown_with d own (reverse more)) (framed g ok old s).same.rest

@@ -171,7 +171,7 @@ committed_is_shown g ok c (d ∷ steps) =
           let by = subst (HasFront g s sound.last d k) some.2.phase is.front in
           let fr = framed g ok s sound in
           let shows : found g (bot g d k.turn) k.held ≡ shown sound.last (bot g d k.turn) =
-          ap (λ (x : Config). shown_with x (bot g d k.turn) (reverse k.held)) (sym fr.rest)
+          ap (λ (x : Config). shown_with x (bot g d k.turn) (reverse k.held)) (sym fr.same.rest)
           ∙ sym (whole_shown sound.last (bot g d k.turn) k.held (valued g ok s sound d k is) by.whole) in
           let at : IsWorldAt g.verdict g.world (next g d s).journal (length s.journal) sound.last =
           subst (λ es. IsWorldAt g.verdict g.world es (length s.journal) sound.last) (sym grown) (IsWorldAt-append g.verdict g.world sound.last s.journal (map entry_in (commit_by g d s (slice_get s.callers d))) (length s.journal) (world_last g.verdict g.world sound.last s.journal sound.run)) in

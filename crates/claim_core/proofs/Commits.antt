@@ -11,7 +11,7 @@ use Rattle.amoebot_state.specs.declared.cell.Cell.{Cell}
 use Rattle.amoebot_state.specs.declared.verdict.Change.{Change}
 use Rattle.amoebot_state.specs.declared.verdict.Entry.{Entry}
 use Rattle.amoebot_state.specs.declared.verdict.Verdict.TheVariants as verdict
-use Rattle.amoebot_state.specs.Pairs.{Pairs, cell_of, cell_value}
+use Rattle.amoebot_state.specs.Pairs.{Pairs, cell_of, cell_value, plain_patch}
 use Rattle.amoebot_state.specs.Configs.{Config, bot_at}
 use Rattle.amoebot_state.specs.Zones.{zone}
 use Rattle.amoebot_state.specs.Patches.{IsPatched}
@@ -103,20 +103,20 @@ module _ (g : Setup) (ok : IsSetup g) (old : State) (s : Sound g old) (c : ℕ) 
     changes : DecidesChange g.verdict s.last own change
     changes = record { valid = (framed g ok old s).valid; there = own_at; decided = is_decided.verdict }
 
-    leads : (last : Config) × IsPatched s.last change.patch last
+    leads : (last : Config) × IsPatched s.last (plain_patch change.patch) last
     leads = ok.leads s.last own change changes
 
     abbrev last : Config
     last = leads.0
 
-    is_patched : IsPatched s.last change.patch last
+    is_patched : IsPatched s.last (plain_patch change.patch) last
     is_patched = leads.1
 
     abbrev e : Entry
     e = entry g c k.turn change
 
     abbrev cells : Pairs
-    cells = map (patched_pair change.patch) k.held
+    cells = map (patched_pair (plain_patch change.patch)) k.held
 
     abbrev done : Mark
     done = mark.Done (length old.journal)
@@ -146,7 +146,7 @@ module _ (g : Setup) (ok : IsSetup g) (old : State) (s : Sound g old) (c : ℕ) 
     more_here = Rattle.claim_core.proofs.Stays.IsWorldAt-append g.verdict g.world s.last old.journal (e ∷ []) (length old.journal) here_now
 
     same_names : names cells ≡ names k.held
-    same_names = names-renewed change.patch k.held
+    same_names = names-renewed (plain_patch change.patch) k.held
 
     keeps_names : (n : CellName) → Contains (names k.held) n → Contains (names next.held) n
     keeps_names n h = subst (λ ps. Contains (names ps) n) (sym (frees-held g k.turn cells more)) (subst (λ ns. Contains ns n) (sym same_names) h)
@@ -166,10 +166,10 @@ module _ (g : Setup) (ok : IsSetup g) (old : State) (s : Sound g old) (c : ℕ) 
     new_framed = run_framed g.verdict g.world last new.journal s.valid run
 
     -- a cell that another caller holds is not in the patch
-    untouched : (d : ℕ) (j : Caller) → d ≢ c → slice_get old.callers d ≡ Some j → (q : CellName × Cell) → Has q j.held → All (λ (r : CellName × Cell). cell_of r ≢ cell_of q) change.patch
+    untouched : (d : ℕ) (j : Caller) → d ≢ c → slice_get old.callers d ≡ Some j → (q : CellName × Cell) → Has q j.held → All (λ (r : CellName × Cell). cell_of r ≢ cell_of q) (plain_patch change.patch)
     untouched d j ne found q has = All-weaker (λ (r : CellName × Cell). Contains (zone s.last own) (cell_of r)) (λ (r : CellName × Cell). cell_of r ≢ cell_of q)
         (λ r in_zone same. ne (one_owner g ok old s d c j k found there (cell_of q) (held_named j.held q has) (subst (Contains (names k.held)) same (subst (λ ns. Contains ns (cell_of r)) (sym is_decided.whole) in_zone))))
-        change.patch (ok.touches s.last own change changes)
+        (plain_patch change.patch) (ok.touches s.last own change changes)
 
     others_held : (d : ℕ) (j : Caller) → d ≢ c → slice_get old.callers d ≡ Some j → All (IsHeld g new last d j.turn) j.held
     others_held d j ne found = All-from_Has (IsHeld g new last d j.turn) j.held (λ q has.
@@ -177,8 +177,8 @@ module _ (g : Setup) (ok : IsSetup g) (old : State) (s : Sound g old) (c : ℕ) 
         record { tag = was.tag; value = is_patched.kept (cell_of q) (untouched d j ne found q has) ∙ was.value })
 
     own_held : All (IsHeld g new last c k.turn) cells
-    own_held = All-map (IsHeld g new last c k.turn) (patched_pair change.patch) k.held (All-weaker (IsHeld g old s.last c k.turn) (λ q. IsHeld g new last c k.turn (patched_pair change.patch q))
-        (λ q was. record { tag = was.tag; value = value_patched s.last last change.patch is_patched (cell_of q) (cell_value q) was.value }) k.held is.held)
+    own_held = All-map (IsHeld g new last c k.turn) (patched_pair (plain_patch change.patch)) k.held (All-weaker (IsHeld g old s.last c k.turn) (λ q. IsHeld g new last c k.turn (patched_pair (plain_patch change.patch) q))
+        (λ q was. record { tag = was.tag; value = value_patched s.last last (plain_patch change.patch) is_patched (cell_of q) (cell_value q) was.value }) k.held is.held)
 
     marked_now : Marked g new last c k.turn cells more
     marked_now = record {
@@ -220,11 +220,11 @@ module _ (g : Setup) (ok : IsSetup g) (old : State) (s : Sound g old) (c : ℕ) 
     ]
 
     values_now : new.values ≡ values_of last
-    values_now = (λ i. patched (sym (same_area g ok old s) i) change.patch (s.values i)) ∙ values-patched s.last last change.patch is_patched
+    values_now = (λ i. patched (sym (same_area g ok old s) i) (plain_patch change.patch) (s.values i)) ∙ values-patched s.last last (plain_patch change.patch) is_patched
 
     pub commits_sound : Sound g (commits g c old k change)
     commits_sound =
-        moved g old new c k next mv ok s last new_framed run values_now (s.tagged ∙ sym (length-patched g.world.area change.patch old.values)) order committed
+        moved g old new c k next mv ok s last new_framed run values_now (s.tagged ∙ sym (length-patched g.world.area (plain_patch change.patch) old.values)) order committed
         (frees_ok g ok new last new_framed c k.turn cells more marked_now)
         (λ d j ne found o. (others_held d j ne found, λ h. absurd (ne (same_Some d c (sym h ∙ is.holder (subst IsCommitting (sym p) tt))))))
         (λ n u has some. inr (has, keeps_names n))

@@ -48,16 +48,16 @@ same_bots c d area size ids values = ext_get_or None c.bots d.bots size (λ i in
 
 pub same_world : (g : Setup) (s : State) (world last : Config) → HasValues g s world → IsFramed g.world last → s.values ≡ values_of last → world ≡ last
 same_world g s world last has framed values =
-    let area : world.area ≡ last.area = ap (λ (c : Config). c.area) has.rest ∙ sym (ap (λ (c : Config). c.area) framed.rest) in
-    same_config world last area (ap (λ (c : Config). c.walls) has.rest ∙ sym (ap (λ (c : Config). c.walls) framed.rest)) (ap (λ (c : Config). c.maxes) has.rest ∙ sym (ap (λ (c : Config). c.maxes) framed.rest))
-    (same_bots world last area (has.size ∙ sym framed.size) (λ i. has.ids i ∙ sym (framed.ids i)) (has.values ∙ values))
+    let area : world.area ≡ last.area = ap (λ (c : Config). c.area) has.same.rest ∙ sym (ap (λ (c : Config). c.area) framed.same.rest) in
+    same_config world last area (ap (λ (c : Config). c.walls) has.same.rest ∙ sym (ap (λ (c : Config). c.walls) framed.same.rest)) (ap (λ (c : Config). c.maxes) has.same.rest ∙ sym (ap (λ (c : Config). c.maxes) framed.same.rest))
+    (same_bots world last area (has.same.size ∙ sym framed.same.size) (λ i. has.same.ids i ∙ sym (framed.same.ids i)) (has.values ∙ values))
 
 pub state_has_one_report : StateHasOneReport
 state_has_one_report g s one two first second =
-    let area : one.world.area ≡ two.world.area = ap (λ (c : Config). c.area) first.world.rest ∙ sym (ap (λ (c : Config). c.area) second.world.rest) in
-    let maxes : one.world.maxes ≡ two.world.maxes = ap (λ (c : Config). c.maxes) first.world.rest ∙ sym (ap (λ (c : Config). c.maxes) second.world.rest) in
-    let bots = same_bots one.world two.world area (first.world.size ∙ sym second.world.size) (λ i. first.world.ids i ∙ sym (second.world.ids i)) (first.world.values ∙ sym second.world.values) in
-    let walls : one.world.walls ≡ two.world.walls = ap (λ (c : Config). c.walls) first.world.rest ∙ sym (ap (λ (c : Config). c.walls) second.world.rest) in
+    let area : one.world.area ≡ two.world.area = ap (λ (c : Config). c.area) first.world.same.rest ∙ sym (ap (λ (c : Config). c.area) second.world.same.rest) in
+    let maxes : one.world.maxes ≡ two.world.maxes = ap (λ (c : Config). c.maxes) first.world.same.rest ∙ sym (ap (λ (c : Config). c.maxes) second.world.same.rest) in
+    let bots = same_bots one.world two.world area (first.world.same.size ∙ sym second.world.same.size) (λ i. first.world.same.ids i ∙ sym (second.world.same.ids i)) (first.world.values ∙ sym second.world.values) in
+    let walls : one.world.walls ≡ two.world.walls = ap (λ (c : Config). c.walls) first.world.same.rest ∙ sym (ap (λ (c : Config). c.walls) second.world.same.rest) in
     (same_config one.world two.world area walls maxes bots, first.first ∙ sym second.first, first.entries ∙ sym second.entries, first.marks ∙ sym second.marks)
 
 -- a caller has at most as many marks as turns

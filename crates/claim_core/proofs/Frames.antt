@@ -1,10 +1,11 @@
 -- What a run leaves of a configuration: its area, its maxima and its ids; and that the lists' amoebots are there.
 use Rattle.std.proofs.Common.{◌≡◌, ℕ, ◌*◌, ◌%◌, ◌<◌, ◌≤◌, List, [], ◌∷◌, length, ap, sym, refl, subst, ◌∙◌, arith}
-use Rattle.std.specs.Prelude.{IsSome, is_some}
+use Rattle.std.specs.Prelude.{IsSome}
 use Rattle.amoebot_state.specs.declared.verdict.Entry.{Entry}
 use Rattle.amoebot_state.specs.declared.verdict.Verdict.{Verdict}
 use Rattle.amoebot_state.specs.Configs.{Config, IsValid, bot_at}
 use Rattle.amoebot_state.specs.Zones.{Shown}
+use Rattle.amoebot_state.specs.Patches.{HasSameIds}
 use Rattle.amoebot_state.specs.Steps.{Step, Run}
 use Rattle.amoebot_state.proofs.Occupants.{there_below}
 use Rattle.claim_core.specs.Turns.{list_of}
@@ -14,13 +15,11 @@ use Rattle.claim_core.specs.Soundness.{IsSetup}
 -- a valid configuration that differs in its amoebots at most, and has the same ids
 pub record IsFramed (old new : Config) : Type 0 where
   pub valid : IsValid new
-  pub rest : new ≡ record old { bots = new.bots }
-  pub size : length new.bots ≡ length old.bots
-  pub ids : (i : ℕ) → is_some (bot_at new i) ≡ is_some (bot_at old i)
+  pub same : HasSameIds old new
 
 -- it is so of itself
 pub framed_first : (old : Config) → IsValid old → IsFramed old old
-framed_first old valid = record { valid = valid; rest = refl; size = refl; ids = λ i. refl }
+framed_first old valid = record { valid = valid; same = record { rest = refl; size = refl; ids = λ i. refl } }
 
 module _ (f : Shown → Verdict) (old : Config) where
   -- a step leaves such a configuration
@@ -29,9 +28,11 @@ module _ (f : Shown → Verdict) (old : Config) where
       let is = step.patched in
       record {
         valid = is.valid;
-        rest = is.rest ∙ ap (λ (c : Config). let d : Config = record c { bots = new.bots } in d) framed.rest;
-        size = is.size ∙ framed.size;
-        ids = λ i. is.ids i ∙ framed.ids i;
+        same = record {
+          rest = is.same.rest ∙ ap (λ (c : Config). let d : Config = record c { bots = new.bots } in d) framed.same.rest;
+          size = is.same.size ∙ framed.same.size;
+          ids = λ i. is.same.ids i ∙ framed.same.ids i;
+        };
       }
 
   -- and so does a run from one
@@ -52,7 +53,7 @@ module _ (g : Setup) (ok : IsSetup g) (c t : ℕ) (known : c < length g.lists.id
       ok.bots c [] known (t % length ids) 0 (omega (arith))
 
   pub own_stays : (new : Config) → IsFramed g.world new → IsSome (bot_at new (bot g c t))
-  own_stays new framed = framed.ids (bot g c t) ∙ own_there
+  own_stays new framed = framed.same.ids (bot g c t) ∙ own_there
 
   -- and its number is small
   pub own_small : bot g c t < 4096

@@ -27,7 +27,7 @@ module _ (g : Setup) (ok : IsSetup g) (old : State) (s : Sound g old) where
   framed = run_framed g.verdict g.world s.last old.journal s.valid s.run
 
   pub same_area : s.last.area ≡ g.world.area
-  same_area = ap (λ (c : Config). c.area) framed.rest
+  same_area = ap (λ (c : Config). c.area) framed.same.rest
 
   pub is_known : (c : ℕ) (k : Caller) → slice_get old.callers c ≡ Some k → c < length g.lists.ids
   is_known c k there = let inside = slice_get_within old.callers c k there in omega (arith, s.callers)

@@ -15,7 +15,7 @@ use Rattle.amoebot_state.specs.declared.verdict.Change.{Change}
 use Rattle.amoebot_state.specs.declared.verdict.Entry.{Entry}
 use Rattle.amoebot_state.specs.declared.verdict.Verdict.{Verdict}
 use Rattle.amoebot_state.specs.declared.verdict.Verdict.TheVariants as decision
-use Rattle.amoebot_state.specs.Pairs.{Pairs}
+use Rattle.amoebot_state.specs.Pairs.{Pairs, plain_patch}
 use Rattle.amoebot_state.specs.declared.cell.Cell.TheVariants as cell
 use Rattle.amoebot_state.specs.Configs.{Config, IsValid, bot_at, value}
 use Rattle.amoebot_state.specs.Patches.{IsPatched, HasPatched}
@@ -117,7 +117,7 @@ module _ {verdict : Shown → Verdict} {lists : CallerLists} {tags : List ℕ} {
 
   -- the world has the first one's area
   pub same_extent : world.area ≡ journal.first.area
-  same_extent = ap (λ (w : Config). w.area) (run_framed verdict journal.first world journal.entries is.setup.valid is.run).rest
+  same_extent = ap (λ (w : Config). w.area) (run_framed verdict journal.first world journal.entries is.setup.valid is.run).same.rest
 
   -- the callers that contracts see
   pub seen : {D : Type 0} (now : Running D) (r : Running D) → r ≡ now → r.state ≡ old → (c : ℕ) (p : Phase) → HasPhase now.state.callers c p → HasPhase old.callers c p
@@ -346,7 +346,7 @@ module _ {verdict : Shown → Verdict} {lists : CallerLists} {tags : List ℕ} {
             claim_reads new known = known ∙ ap (λ a. reading a own more) (sym same_extent)
 
             frame : shown_with journal.first own more ≡ shown_with world own more
-            frame = ap (λ (w : Config). shown_with w own more) (sym (run_framed verdict journal.first world journal.entries is.setup.valid is.run).rest)
+            frame = ap (λ (w : Config). shown_with w own more) (sym (run_framed verdict journal.first world journal.entries is.setup.valid is.run).same.rest)
 
             next_more : next_of g own ((n, held_by world n) ∷ k.held) ≡ next_cell world.area own more
             next_more = ap (next_cell journal.first.area own) turned ∙ ap (λ a. next_cell a own more) (sym same_extent)
@@ -392,7 +392,7 @@ module _ {verdict : Shown → Verdict} {lists : CallerLists} {tags : List ℕ} {
       says : verdict (shown world own) ≡ decision.Change change
       says = ap (λ w. verdict (shown w own)) (sym same_world) ∙ by_verdict.verdict
 
-      pub committing_leads : HasPatched world change.patch
+      pub committing_leads : HasPatched world (plain_patch change.patch)
       committing_leads = is.setup.leads world own change (record { valid = valid_world; there = own_at; decided = says })
 
       held_valued : All (Valued world) seat.held.items
@@ -410,12 +410,12 @@ module _ {verdict : Shown → Verdict} {lists : CallerLists} {tags : List ℕ} {
             | inr le ↦ absurd (none-some x (ap (option_map cell.Body) (sym (get_or_past world.bots j None le)) ∙ e))
           ]
 
-      module _ (world' : Config) (is_patched : IsPatched world change.patch world') where
+      module _ (world' : Config) (is_patched : IsPatched world (plain_patch change.patch) world') where
         -- what is recorded again is what the patch gives
-        again : (ps : Pairs) → All (Valued world) ps → map (λ (p : CellName × Cell). (p.0, held_by world' p.0)) ps ≡ map (patched_pair change.patch) ps
+        again : (ps : Pairs) → All (Valued world) ps → map (λ (p : CellName × Cell). (p.0, held_by world' p.0)) ps ≡ map (patched_pair (plain_patch change.patch)) ps
         again [] all = refl
         again (p ∷ ps) all =
-            let new = value_held world' p.0 _ (value_patched world world' change.patch is_patched p.0 p.1 (All-head (Valued world) p ps all)) in
+            let new = value_held world' p.0 _ (value_patched world world' (plain_patch change.patch) is_patched p.0 p.1 (All-head (Valued world) p ps all)) in
             λ j. (p.0, new j) ∷ again ps (All-tail (Valued world) p ps all) j
 
         pub committing_run : (e : Entry) → e ≡ entry g c seat.turn change → Run verdict journal.first (journal.entries ++ e ∷ []) world'
@@ -423,11 +423,11 @@ module _ {verdict : Shown → Verdict} {lists : CallerLists} {tags : List ℕ} {
 
         pub committed : (left new : CoreCaller) (journal' : Kept) (marks' : MarkLists) (e : Entry) → left.turn ≡ seat.turn → left.held.items ≡ map (λ (p : CellName × Cell). (p.0, held_by world' p.0)) seat.held.items → Frees lists.turns left new → e ≡ entry g c seat.turn change → journal'.entries ≡ journal.entries ++ e ∷ [] → marks'.marks ≡ set marks.marks c (own_marks ++ mark.Done (length journal.entries) ∷ []) → state_of tags world' journal' None (set seats i new) marks' ≡ next g c old
         committed left new journal' marks' e turn held freed same_e entries added =
-            let renewed_held : reverse left.held.items ≡ map (patched_pair change.patch) (reverse seat.held.items) = ap reverse (held ∙ again seat.held.items held_valued) ∙ reverse-map (patched_pair change.patch) seat.held.items in
-            let callers : callers_with (set seats i new) marks'.marks ≡ slice_set old.callers c (freeing_caller g seat.turn (map (patched_pair change.patch) (reverse seat.held.items)) (own_marks ++ mark.Done (length journal.entries) ∷ [])) =
+            let renewed_held : reverse left.held.items ≡ map (patched_pair (plain_patch change.patch)) (reverse seat.held.items) = ap reverse (held ∙ again seat.held.items held_valued) ∙ reverse-map (patched_pair (plain_patch change.patch)) seat.held.items in
+            let callers : callers_with (set seats i new) marks'.marks ≡ slice_set old.callers c (freeing_caller g seat.turn (map (patched_pair (plain_patch change.patch)) (reverse seat.held.items)) (own_marks ++ mark.Done (length journal.entries) ∷ [])) =
             (λ j. callers_with (set seats (here.same j) new) (added j)) ∙ callers-set_both seats marks.marks c new (own_marks ++ mark.Done (length journal.entries) ∷ []) is.each
             ∙ ap (slice_set old.callers c) (frees-is g left new (own_marks ++ mark.Done (length journal.entries) ∷ []) freed ∙ (λ j. freeing_caller g (turn j) (renewed_held j) (own_marks ++ mark.Done (length journal.entries) ∷ []))) in
-            let values : values_of world' ≡ patched journal.first.area change.patch (values_of world) = sym (values-patched world world' change.patch is_patched) ∙ ap (λ a. patched a change.patch (values_of world)) same_extent in
+            let values : values_of world' ≡ patched journal.first.area (plain_patch change.patch) (values_of world) = sym (values-patched world world' (plain_patch change.patch) is_patched) ∙ ap (λ a. patched a (plain_patch change.patch) (values_of world)) same_extent in
             (λ j. record { tags = tags; values = values j; journal = (entries ∙ ap (λ x. journal.entries ++ x ∷ []) same_e) j; holder = None; callers = callers j }) ∙ sym (next_in (phase.Committing change) ph)
 
     -- what the code sees of a seat is true of the caller

@@ -141,7 +141,7 @@ module _ (g : Setup) (old new : State) (c : ℕ) (k next : Caller) (mv : Moves g
     was_framed = run_framed g.verdict g.world s.last old.journal s.valid s.run
 
     same_area : last.area ≡ s.last.area
-    same_area = ap (λ (c : Config). c.area) framed.rest ∙ sym (ap (λ (c : Config). c.area) was_framed.rest)
+    same_area = ap (λ (c : Config). c.area) framed.same.rest ∙ sym (ap (λ (c : Config). c.area) was_framed.same.rest)
 
     -- what another caller holds is as before
     module _ (d : ℕ) (j : Caller) (known : d < length g.lists.ids) (was : All (Valued s.last) j.held) (is : All (Valued last) j.held) where
@@ -162,7 +162,7 @@ module _ (g : Setup) (old new : State) (c : ℕ) (k next : Caller) (mv : Moves g
           let whole = whole_kept s.last last own j.held same_area (own_stays g ok d j.turn known s.last was_framed) (own_stays g ok d j.turn known last framed) was is by.whole in
           record {
             whole = whole;
-            verdict = ap g.verdict (whole_shown last own j.held is whole ∙ ap (λ (x : Config). shown_with x own (Rattle.std.proofs.Common.reverse j.held)) framed.rest ∙ ap (λ (x : Config). shown_with x own (Rattle.std.proofs.Common.reverse j.held)) (sym was_framed.rest) ∙ sym (whole_shown s.last own j.held was by.whole)) ∙ by.verdict;
+            verdict = ap g.verdict (whole_shown last own j.held is whole ∙ ap (λ (x : Config). shown_with x own (Rattle.std.proofs.Common.reverse j.held)) framed.same.rest ∙ ap (λ (x : Config). shown_with x own (Rattle.std.proofs.Common.reverse j.held)) (sym was_framed.same.rest) ∙ sym (whole_shown s.last own j.held was by.whole)) ∙ by.verdict;
           }
 
       front_stays : (p : Phase) → HasFront g old s.last d j p → HasFront g new last d j p

@@ -197,7 +197,7 @@ same_cells old new rest size =
 -- the patch in the values leads to those of the patched configuration
 pub values-patched : (old new : Config) (ps : Pairs) → IsPatched old ps new → patched old.area ps (values_of old) ≡ values_of new
 values-patched old new ps is =
-    let cells = same_cells old new is.rest is.size in
+    let cells = same_cells old new is.same.rest is.same.size in
     same_by_get (patched old.area ps (values_of old)) (values_of new)
     (length-patched old.area ps (values_of old) ∙ length-map (all_cells old) (held_by old) ∙ ap length (sym cells) ∙ sym (length-map (all_cells new) (held_by new)))
     (λ k y e. by k y (slice_get (all_cells old) k) refl (sym (slice_get-map (held_by new) (all_cells old) k) ∙ ap (λ ns. slice_get (map (held_by new) ns) k) (sym cells) ∙ e))

@@ -17,7 +17,7 @@ use Rattle.amoebot_state.specs.declared.cell.Cell.TheVariants as cell
 use Rattle.amoebot_state.specs.declared.verdict.Change.{Change}
 use Rattle.amoebot_state.specs.declared.verdict.Verdict.{Verdict}
 use Rattle.amoebot_state.specs.declared.verdict.Verdict.TheVariants as verdict
-use Rattle.amoebot_state.specs.Pairs.{Pairs}
+use Rattle.amoebot_state.specs.Pairs.{Pairs, plain_patch}
 use Rattle.amoebot_state.specs.Configs.{Config, IsValid, bot_at}
 use Rattle.amoebot_state.specs.Zones.{zone}
 use Rattle.amoebot_state.specs.Laws.{is_spot, is_body}
@@ -215,8 +215,8 @@ module _ (g : Setup) where
         taken None e = inl (lowers (record k { phase = Committing change }) (omega (arith, rank_in (Taking change) p)))
         taken (Some d) e = inr (refl, waits k change d there p e)
     by_kind (Committing change) p =
-        inl (lowers (freeing_caller g k.turn (map (patched_pair change.patch) k.held) (k.marks ++ mark.Done (length s.journal) ∷ []))
-        (omega (arith, rank_in (Committing change) p, frees-rank k.turn (map (patched_pair change.patch) k.held) (k.marks ++ mark.Done (length s.journal) ∷ []) (turns (Committing change) p), length-map k.held (patched_pair change.patch))))
+        inl (lowers (freeing_caller g k.turn (map (patched_pair (plain_patch change.patch)) k.held) (k.marks ++ mark.Done (length s.journal) ∷ []))
+        (omega (arith, rank_in (Committing change) p, frees-rank k.turn (map (patched_pair (plain_patch change.patch)) k.held) (k.marks ++ mark.Done (length s.journal) ∷ []) (turns (Committing change) p), length-map k.held (patched_pair (plain_patch change.patch)))))
     by_kind Releasing p = freed k.held refl
       where
         freeing : HasFront g s sound.last c k Releasing

@@ -28,7 +28,7 @@ module _ (verdict : Shown → Verdict) (lists : CallerLists) (tags : List ℕ) (
       record {
         first = refl;
         entries = refl;
-        world = record { rest = framed.rest; size = framed.size; ids = framed.ids; values = refl };
+        world = record { same = framed.same; values = refl };
         marks = λ i. record { turns = is.turns i; marks = sym (callers-marks seats marks.marks is.each) i };
       }
 

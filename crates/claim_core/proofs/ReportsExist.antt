@@ -76,7 +76,7 @@ module _ (g : Setup) where
   has_report s sound =
       let framed = run_framed g.verdict g.world sound.last s.journal sound.valid sound.run in
       let report : Report = record { world = sound.last; journal = record { first = g.world; entries = s.journal; spare = 0 }; turns = marks_so_far g s } in
-      (report, record { first = refl; entries = refl; world = record { rest = framed.rest; size = framed.size; ids = framed.ids; values = sym sound.values }; marks = refl })
+      (report, record { first = refl; entries = refl; world = record { same = framed.same; values = sym sound.values }; marks = refl })
 
 pub rounds_leave_a_report : RoundsLeaveAReport
 rounds_leave_a_report g ok steps =

@@ -8,7 +8,7 @@ use Rattle.amoebot_state.specs.declared.verdict.Change.{Change}
 use Rattle.amoebot_state.specs.declared.verdict.Entry.{Entry}
 use Rattle.amoebot_state.specs.declared.verdict.Verdict.{Verdict}
 use Rattle.amoebot_state.specs.declared.verdict.Verdict.TheVariants as verdict
-use Rattle.amoebot_state.specs.Pairs.{Pairs, cell_of, cell_value}
+use Rattle.amoebot_state.specs.Pairs.{Pairs, cell_of, cell_value, plain_patch}
 use Rattle.amoebot_state.specs.Configs.{Config}
 use Rattle.amoebot_state.specs.Zones.{Shown, shown_with}
 use Rattle.amoebot_state.specs.Known.{next_cell}
@@ -145,12 +145,12 @@ module _ (g : Setup) where
   abbrev pub commits : ℕ → State → Caller → Change → State
   commits c s k change = record {
     tags = s.tags;
-    values = patched g.world.area change.patch s.values;
+    values = patched g.world.area (plain_patch change.patch) s.values;
     journal = s.journal ++ entry c k.turn change ∷ [];
     holder = None;
     callers =
         slice_set s.callers c
-        (freeing_caller k.turn (map (patched_pair change.patch) k.held) (k.marks ++ mark.Done (length s.journal) ∷ []));
+        (freeing_caller k.turn (map (patched_pair (plain_patch change.patch)) k.held) (k.marks ++ mark.Done (length s.journal) ∷ []));
   }
 
   -- the release of the cell that was won last

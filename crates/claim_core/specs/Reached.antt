@@ -1,9 +1,10 @@
 -- What a report says of the state that callers have ended in.
-use Rattle.std.specs.Prelude.{◌≡◌, ℕ, ◌+◌, List, [], ◌∷◌, length, is_some, nat_eq, if◌then◌else◌}
+use Rattle.std.specs.Prelude.{◌≡◌, ℕ, ◌+◌, List, [], ◌∷◌, nat_eq, if◌then◌else◌}
 use Rattle.std.specs.List.{All}
 use Rattle.amoebot_state.specs.declared.verdict.Entry.{Entry}
-use Rattle.amoebot_state.specs.Configs.{Config, bot_at}
+use Rattle.amoebot_state.specs.Configs.{Config}
 use Rattle.amoebot_state.specs.Zones.{shown}
+use Rattle.amoebot_state.specs.Patches.{HasSameIds}
 use Rattle.claim_core.specs.declared.report.Report.{Report}
 use Rattle.claim_core.specs.declared.state.Phase.TheVariants.{Ended}
 use Rattle.claim_core.specs.declared.state.Caller.{Caller}
@@ -19,9 +20,7 @@ HaveEnded s = All (λ (k : Caller). k.phase ≡ Ended) s.callers
 
 -- the configuration has the area, the maxima and the ids of the first one, and its cells have these values
 pub record HasValues (g : Setup) (s : State) (world : Config) : Type 0 where
-  pub rest : world ≡ record g.world { bots = world.bots }
-  pub size : length world.bots ≡ length g.world.bots
-  pub ids : (i : ℕ) → is_some (bot_at world i) ≡ is_some (bot_at g.world i)
+  pub same : HasSameIds g.world world
   pub values : values_of world ≡ s.values
 
 -- the report has the first world, and the state's journal, values and marks

@@ -12,6 +12,7 @@ use Rattle.atomic_table.specs.Table.{Final, Seen}
 use Rattle.amoebot_state.specs.declared.verdict.Entry.{Entry}
 use Rattle.amoebot_state.specs.declared.verdict.Verdict.{Verdict}
 use Rattle.amoebot_state.specs.Configs.{Config}
+use Rattle.amoebot_state.specs.Pairs.{plain_patch}
 use Rattle.amoebot_state.specs.Patches.{IsPatched}
 use Rattle.amoebot_state.specs.Steps.{Run}
 use Rattle.amoebot_state.specs.Zones.{Shown}
@@ -34,10 +35,10 @@ use Rattle.claim_rule.specs.Closing.{ClosesAs, HoldNothing}
 use Rattle.claim_rule.specs.Internal.{HaveAll}
 
 -- the entries after the one whose patch was applied lead on to the same last world
-pub follows : (f : Shown → Verdict) (now next last : Config) (es : List Entry) (k : ℕ) (e : Entry) → slice_get es k ≡ Some e → Run f now (drop k es) last → IsPatched now e.patch next → Run f next (drop (k + 1) es) last
+pub follows : (f : Shown → Verdict) (now next last : Config) (es : List Entry) (k : ℕ) (e : Entry) → slice_get es k ≡ Some e → Run f now (drop k es) last → IsPatched now (plain_patch e.patch) next → Run f next (drop (k + 1) es) last
 follows f now next last es k e there run patched =
     let rest = subst (λ xs. Run f now xs last) (drop_more es k e (slice_get_within es k e there) ∙ ap (λ x. x ∷ drop (k + 1) es) (get_or_from_slice_get es k e e there)) run in
-    subst (λ c. Run f c (drop (k + 1) es) last) (patched_is_unique now rest.0 next e.patch rest.1.patched patched) rest.2
+    subst (λ c. Run f c (drop (k + 1) es) last) (patched_is_unique now rest.0 next (plain_patch e.patch) rest.1.patched patched) rest.2
 
 -- each of these places has a seat
 pub some_there : {A : Type 0} (xs : List (Option A)) (c : ℕ) → c < length xs → All (λ o. IsSome o) xs → (x : A) × (slice_get xs c ≡ Some (Some x))
@@ -99,7 +100,7 @@ module _ {D : Type 0} (verdict : D → Shown → Verdict) (z : Terms D) (ok : Is
           let is = its_journal j e in
           let same : sound.last ≡ world = run_has_one_last g.verdict g.world core.journal sound.last world sound.run (subst (λ es. Run g.verdict g.world es world) is.entries run) in
           let fr = framed g ok core sound in
-          let last_has : HasValues g core sound.last = record { rest = fr.rest; size = fr.size; ids = fr.ids; values = sym sound.values } in
+          let last_has : HasValues g core sound.last = record { same = fr.same; values = sym sound.values } in
           record { steps = steps; callers = λ c t e. (number c t e, its c t e); first = is.first; entries = is.entries; values = subst (HasValues g core) same last_has }
 
 module _ {D : Type 0} (verdict : D → Shown → Verdict) (f : FieldOf D) (rest : Seated D) (table : TableId) (items : List (Option (Token D))) (are : AreSeats rest table items) (s : SeatsOf D)

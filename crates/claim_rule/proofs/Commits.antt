@@ -15,7 +15,7 @@ use Rattle.amoebot_state.specs.declared.verdict.Change.{Change}
 use Rattle.amoebot_state.specs.declared.verdict.Entry.{Entry}
 use Rattle.amoebot_state.specs.declared.verdict.Verdict.{Verdict}
 use Rattle.amoebot_state.specs.declared.verdict.Verdict.TheVariants as decision
-use Rattle.amoebot_state.specs.Pairs.{Pairs, cell_of}
+use Rattle.amoebot_state.specs.Pairs.{Pairs, cell_of, plain_patch}
 use Rattle.amoebot_state.specs.Steps.{DecidesChange}
 use Rattle.amoebot_state.specs.Zones.{Shown, zone}
 use Rattle.amoebot_state.proofs.Members.{Has-from_Contains, Contains-from_Has}
@@ -107,7 +107,7 @@ module _ {D : Type 0} {verdict : D → Shown → Verdict} {z : Terms D} {s : Con
     leads = sym (ap (acts g r.number core) (caller_at table) ∙ ap (by_phase g r.number core r.caller) to.phase)
 
     callers : new.callers ≡ set core.callers r.number k'
-    callers = ap (λ n. set core.callers r.number (freeing_caller g r.caller.turn (map (patched_pair change.patch) r.caller.held) (r.caller.marks ++ mark.Done n ∷ []))) (sym place_is)
+    callers = ap (λ n. set core.callers r.number (freeing_caller g r.caller.turn (map (patched_pair (plain_patch change.patch)) r.caller.held) (r.caller.marks ++ mark.Done n ∷ []))) (sym place_is)
 
     -- one turn more has its mark
     counted : length r.caller.marks < g.lists.turns
@@ -118,7 +118,7 @@ module _ {D : Type 0} {verdict : D → Shown → Verdict} {z : Terms D} {s : Con
         omega (arith, turn, counts)
 
     more : length k'.marks ≡ length r.caller.marks + 1
-    more = ap (λ (ms : List Mark). length ms) (frees-marks g r.caller.turn (map (patched_pair change.patch) r.caller.held) (r.caller.marks ++ mark.Done place ∷ [])) ∙ length-append r.caller.marks (mark.Done place ∷ [])
+    more = ap (λ (ms : List Mark). length ms) (frees-marks g r.caller.turn (map (patched_pair (plain_patch change.patch)) r.caller.held) (r.caller.marks ++ mark.Done place ∷ [])) ∙ length-append r.caller.marks (mark.Done place ∷ [])
 
     fewer : turns_left g new + 1 ≡ turns_left g core
     fewer = ap (λ (ks : List Caller). Rattle.claim_core.specs.Cores.unmarked g.lists.turns (map (λ (j : Caller). j.marks) ks) + 1) callers ∙ one_fewer g.lists.turns core.callers r.number r.caller k' (caller_at table) counted more
@@ -143,9 +143,9 @@ module _ {D : Type 0} {verdict : D → Shown → Verdict} {z : Terms D} {s : Con
         tag-positive r.number r.caller.turn (bot g r.number r.caller.turn) (same_Some _ 0 (sym is.tag ∙ ap (λ m. at core.tags (number z.world.area m)) (sym p.2) ∙ ap (at core.tags) same ∙ free))
 
     free_stays : (i : ℕ) → slice_get core.tags i ≡ Some 0 → slice_get new.values i ≡ slice_get core.values i
-    free_stays i free = patched_else z.world.area change.patch core.values i
+    free_stays i free = patched_else z.world.area (plain_patch change.patch) core.values i
         (All-weaker (λ (p : CellName × Cell). Contains (zone (sound table).last (bot g r.number r.caller.turn)) (cell_of p)) (λ (p : CellName × Cell). number z.world.area (cell_of p) ≢ Some i)
-        (λ p in_zone. not_held i free (cell_of p) (subst (λ ns. Contains ns (cell_of p)) (sym decided.whole) in_zone)) change.patch (table.run.touches (sound table).last (bot g r.number r.caller.turn) change changes))
+        (λ p in_zone. not_held i free (cell_of p) (subst (λ ns. Contains ns (cell_of p)) (sym decided.whole) in_zone)) (plain_patch change.patch) (table.run.touches (sound table).last (bot g r.number r.caller.turn) change changes))
 
     free_value : (k : ℕ) → cell_tag core k ≡ 0 → slice_get new.values k ≡ slice_get core.values k
     free_value k none = by (slice_get core.tags k) refl
@@ -158,7 +158,7 @@ module _ {D : Type 0} {verdict : D → Shown → Verdict} {z : Terms D} {s : Con
             sized le = omega (arith, le, (counts table).0, (counts table).1)
 
             by_length : slice_get core.values k ≡ None → slice_get new.values k ≡ slice_get core.values k
-            by_length n = slice_get_past new.values k (let le = sized (past core.tags k q) in let same = length-patched z.world.area change.patch core.values in omega (arith, le, same)) ∙ sym n
+            by_length n = slice_get_past new.values k (let le = sized (past core.tags k q) in let same = length-patched z.world.area (plain_patch change.patch) core.values in omega (arith, le, same)) ∙ sym n
 
     words : AreWords g new (set s.words last x)
     words = journal_written g core new s.words x table.stands.words refl free_value (omega (arith, longer)) (to.word ∙ ap (λ (es : List Entry). 2 * length es) next_is ∙ (let q : 2 * length new.journal ≡ 2 * length new.journal + 0 = omega arith in q))
@@ -223,8 +223,8 @@ module _ {D : Type 0} {verdict : D → Shown → Verdict} {z : Terms D} {s : Con
     -- the turn has committed: each node that it holds has a stamp of at most the place
     stamped : IsStamped g (set s.words last x) (with_commit g r change place)
     stamped = record {
-      won = frees_won g (set s.words last x) r.caller.turn (map (patched_pair change.patch) r.caller.held) (r.caller.marks ++ mark.Done place ∷ []) r.won
-          (won_renewed change.patch (IsHeld g core (sound table).last r.number r.caller.turn) (IsWon g s.words r.caller.turn r.caller.marks) (IsWon g (set s.words last x) r.caller.turn (r.caller.marks ++ mark.Done place ∷ []))
+      won = frees_won g (set s.words last x) r.caller.turn (map (patched_pair (plain_patch change.patch)) r.caller.held) (r.caller.marks ++ mark.Done place ∷ []) r.won
+          (won_renewed (plain_patch change.patch) (IsHeld g core (sound table).last r.number r.caller.turn) (IsWon g s.words r.caller.turn r.caller.marks) (IsWon g (set s.words last x) r.caller.turn (r.caller.marks ++ mark.Done place ∷ []))
           (λ v y y' w held is. settled_now g core s.words (set s.words last x) table.stands.words same (sound table).last r.number r.caller.turn r.caller.marks count (mark.Done place) place_is v y y' w (λ _. inr (place, ap (slice_get (r.caller.marks ++ mark.Done place ∷ [])) (sym count) ∙ slice_get_behind r.caller.marks (mark.Done place) [])) held is)
           r.caller.held r.won ((sound table).each r.number r.caller (caller_at table)).held (my_stamps table).won);
       noted = λ m q. (stamps_stay r (my_stamps table)).noted m q;

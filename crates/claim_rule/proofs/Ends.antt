@@ -8,6 +8,8 @@ use Rattle.amoebot_state.specs.declared.verdict.Entry.{Entry}
 use Rattle.amoebot_state.specs.declared.verdict.Verdict.{Verdict}
 use Rattle.amoebot_state.specs.declared.verdict.Verdict.TheVariants as verdict
 use Rattle.amoebot_state.specs.Configs.{Config}
+use Rattle.amoebot_state.specs.Pairs.{plain_patch}
+use Rattle.amoebot_state.specs.Patches.{IsPatched}
 use Rattle.amoebot_state.specs.Steps.{Run, Step, change_of}
 use Rattle.amoebot_state.specs.Zones.{Shown, shown}
 use Rattle.amoebot_state.proofs.Patched.{patched_is_unique, run_has_one_last}
@@ -59,7 +61,7 @@ same_runs v w (e ∷ es) (f ∷ fs) one two first second there back =
     let g = there 0 e refl in
     let of = subst (AreOfOneTurn e) (sym (same_Some f g.0 g.1)) g.2 in
     let heads : e ≡ f = same_step v w e f first.0 second.0 of first.1 second.1 in
-    let mid : second.0 ≡ first.0 = patched_is_unique w second.0 first.0 f.patch second.1.patched (subst (λ (x : Entry). Rattle.amoebot_state.specs.Patches.IsPatched w x.patch first.0) heads first.1.patched) in
+    let mid : second.0 ≡ first.0 = patched_is_unique w second.0 first.0 (plain_patch f.patch) second.1.patched (subst (λ (x : Entry). IsPatched w (plain_patch x.patch) first.0) heads first.1.patched) in
     let tails : es ≡ fs = same_runs v first.0 es fs one two first.2 (subst (λ c. Run v c fs two) mid second.2) (λ k x at. there (suc k) x at) (λ k x at. back (suc k) x at) in
     λ i. heads i ∷ tails i
 

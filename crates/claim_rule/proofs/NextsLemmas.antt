@@ -29,7 +29,7 @@ pub tags_count : (g : Setup) → IsSetup g → (s : State) → Sound g s → (le
 tags_count g ok s sound =
     let fr = framed g ok s sound in
     let all : length s.values ≡ cells sound.last = ap (λ (xs : List Cell). length xs) sound.values ∙ length-values sound.last in
-    let same : cells sound.last ≡ cells g.world = (λ i. let c : Config = record { area = (ap (λ (d : Config). d.area) fr.rest) i; walls = []; maxes = []; bots = sound.last.bots } in cells c) ∙ ap (λ n. g.world.area.w * g.world.area.h + n) fr.size in
+    let same : cells sound.last ≡ cells g.world = (λ i. let c : Config = record { area = (ap (λ (d : Config). d.area) fr.same.rest) i; walls = []; maxes = []; bots = sound.last.bots } in cells c) ∙ ap (λ n. g.world.area.w * g.world.area.h + n) fr.same.size in
     (sound.tagged ∙ all ∙ same, all ∙ same)
 
 -- the turns that have no mark are as many, where the caller's marks are the same

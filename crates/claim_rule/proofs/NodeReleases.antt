@@ -129,7 +129,7 @@ module _ {D : Type 0} {verdict : D → Shown → Verdict} {z : Terms D} {s : Con
     is_spot = sym (same_Some (cell.Spot (occupant (sound table).last to.node)) y (All-head (IsHeld g core (sound table).last r.number t) (n, y) to.held all_held).value) ∙ ap cell.Spot occupied
 
     small : occ_number occ < 2 ^ 13
-    small = subst (λ o. occ_number o < 2 ^ 13) occupied (small_occ (sound table).last (let size = (framed g table.run core (sound table)).size in let few = table.run.few in omega (arith, size, few)) to.node)
+    small = subst (λ o. occ_number o < 2 ^ 13) occupied (small_occ (sound table).last (let size = (framed g table.run core (sound table)).same.size in let few = table.run.few in omega (arith, size, few)) to.node)
 
     value_there : slice_get core.values i ≡ Some y
     value_there =

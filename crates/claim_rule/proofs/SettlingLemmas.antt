@@ -12,7 +12,7 @@ use Rattle.amoebot_state.specs.declared.cell.Cell.{Cell}
 use Rattle.amoebot_state.specs.declared.verdict.Change.{Change}
 use Rattle.amoebot_state.specs.declared.verdict.Entry.{Entry}
 use Rattle.amoebot_state.specs.declared.verdict.Verdict.{Verdict}
-use Rattle.amoebot_state.specs.Pairs.{Pairs, cell_of, nodes_in}
+use Rattle.amoebot_state.specs.Pairs.{Pairs, cell_of, nodes_in, plain_patch}
 use Rattle.amoebot_state.specs.Configs.{Config}
 use Rattle.amoebot_state.specs.Zones.{Shown}
 use Rattle.amoebot_state.proofs.Fronts.{slice_get_behind}
@@ -127,7 +127,7 @@ module _ {D : Type 0} (verdict : D → Shown → Verdict) (m : Seated D) (c t b 
     })
 
     -- and afterwards it is
-    pub has_stored : (place : ℕ) (next : Kept) (m' m2 : Seated D) (news : Pairs) → m' ≡ (m.0, (i, slot.Journal next) ∷ rest m.1) → (n : ℕ) × Commits verdict m'.0 m2.0 n → m2.1 ≡ rest m'.1 → place ≡ length j.entries → news ≡ map (patched_pair change.patch) pairs
+    pub has_stored : (place : ℕ) (next : Kept) (m' m2 : Seated D) (news : Pairs) → m' ≡ (m.0, (i, slot.Journal next) ∷ rest m.1) → (n : ℕ) × Commits verdict m'.0 m2.0 n → m2.1 ≡ rest m'.1 → place ≡ length j.entries → news ≡ map (patched_pair (plain_patch change.patch)) pairs
         → IsActivation verdict m2 c t b true bare news notes × IsFreeing verdict m2 t news (place + 1) × (0 < length news) × (m2.0 ≡ like m.0 (with_commit g (own m.0) change place ∷ []))
     has_stored place next m' m2 news now told out place_is news_are = (
       subst (λ (q : Seated D × Pairs). IsActivation verdict q.0 c t b true bare q.1 notes) (λ p. (sym now2 p, sym news_are p)) after,
@@ -137,7 +137,7 @@ module _ {D : Type 0} (verdict : D → Shown → Verdict) (m : Seated D) (c t b 
     )
       where
         ps : Pairs
-        ps = map (patched_pair change.patch) pairs
+        ps = map (patched_pair (plain_patch change.patch)) pairs
 
         did : Commits verdict m.0 m2.0 told.0
         did = subst (λ (q : Seated D). Commits verdict q.0 m2.0 told.0) now told.1
@@ -158,15 +158,15 @@ module _ {D : Type 0} (verdict : D → Shown → Verdict) (m : Seated D) (c t b 
         ms = (own m.0).caller.marks ++ mark.Done place ∷ []
 
         k_is : r.caller ≡ freeing_caller g t ps ms
-        k_is = λ p. freeing_caller g (tk.turn p) (map (patched_pair change.patch) (tk.activation.held p)) ms
+        k_is = λ p. freeing_caller g (tk.turn p) (map (patched_pair (plain_patch change.patch)) (tk.activation.held p)) ms
 
         some : 0 < length ps
-        some = let one = whole_some g b pairs tk.whole in omega (arith, one, length-map pairs (patched_pair change.patch))
+        some = let one = whole_some g b pairs tk.whole in omega (arith, one, length-map pairs (patched_pair (plain_patch change.patch)))
 
         after : IsActivation verdict (like m.0 (r ∷ []), rest m.1) c t b true bare ps notes
         after = with_held verdict (untaken m) c t b s bare pairs notes tk.activation true r (rest m.1) ps notes tk.activation.few tk.activation.number refl (ap (λ (q : Caller). q.held) k_is ∙ frees-held g t ps ms)
-            (All-map (λ (p : CellName × Cell). (n : ℕ) × IsPlaced g (cell_of p) n) (patched_pair change.patch) pairs tk.activation.placed) tk.activation.won tk.activation.note
-            (tk.activation.nodes ∙ sym (nodes_renewed change.patch pairs)) (out_still s change.patch pairs (rest m.1) tk.activation.out)
+            (All-map (λ (p : CellName × Cell). (n : ℕ) × IsPlaced g (cell_of p) n) (patched_pair (plain_patch change.patch)) pairs tk.activation.placed) tk.activation.won tk.activation.note
+            (tk.activation.nodes ∙ sym (nodes_renewed (plain_patch change.patch) pairs)) (out_still s (plain_patch change.patch) pairs (rest m.1) tk.activation.out)
 
         marks_are : r.caller.marks ≡ ms
         marks_are = ap (λ (q : Caller). q.marks) k_is ∙ frees-marks g t ps ms

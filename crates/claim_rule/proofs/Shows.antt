@@ -33,7 +33,7 @@ module _ (g : Setup) (ok : IsSetup g) (s : State) (sound : Sound g s) (c : ℕ) 
   pub shows : HoldsZone k.phase → found g b k.held ≡ shown sound.last b
   shows holds =
       let is : CallerOk g s sound.last c k = sound.each c k there in
-      ap (λ (x : Config). shown_with x b (reverse k.held)) (sym (framed g ok s sound).rest)
+      ap (λ (x : Config). shown_with x b (reverse k.held)) (sym (framed g ok s sound).same.rest)
       ∙ sym (whole_shown sound.last b k.held (valued g ok s sound c k is) (whole k.phase is.front holds))
 
 pub found_is_shown : {D : Type 0} (verdict : D → Shown → Verdict) → FoundIsShown verdict

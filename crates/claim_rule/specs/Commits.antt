@@ -5,6 +5,7 @@ use Rattle.atomic_table.specs.Table.{Step, rest}
 use Rattle.amoebot_state.specs.declared.verdict.Change.{Change}
 use Rattle.amoebot_state.specs.declared.verdict.Entry.{Entry}
 use Rattle.amoebot_state.specs.declared.verdict.Verdict.{Verdict}
+use Rattle.amoebot_state.specs.Pairs.{plain_patch}
 use Rattle.amoebot_state.specs.Zones.{Shown}
 use Rattle.claim_core.specs.declared.marks.Mark.TheVariants as mark
 use Rattle.claim_core.specs.declared.state.Committed.{Committed}
@@ -45,7 +46,7 @@ with_commit g r change place = record {
   number = r.number;
   won = r.won;
   note = r.note;
-  caller = freeing_caller g r.caller.turn (map (patched_pair change.patch) r.caller.held) (r.caller.marks ++ mark.Done place ∷ []);
+  caller = freeing_caller g r.caller.turn (map (patched_pair (plain_patch change.patch)) r.caller.held) (r.caller.marks ++ mark.Done place ∷ []);
   committed = r.committed ++ commit_at g r change place ∷ [];
   taken = None;
 }

@@ -6,7 +6,7 @@ use Rattle.amoebot_state.specs.declared.verdict.Change.{Change}
 use Rattle.amoebot_state.specs.declared.verdict.Entry.{Entry}
 use Rattle.amoebot_state.specs.declared.verdict.Verdict.{Verdict}
 use Rattle.amoebot_state.specs.Configs.{Config}
-use Rattle.amoebot_state.specs.Pairs.{Pairs}
+use Rattle.amoebot_state.specs.Pairs.{Pairs, plain_patch}
 use Rattle.amoebot_state.specs.Steps.{change_of, entry_of}
 use Rattle.amoebot_state.specs.Zones.{Shown}
 use Rattle.claim_core.specs.declared.state.Phase.TheVariants.{Taking, Committing}
@@ -23,10 +23,10 @@ use Rattle.claim_rule.specs.Plays.{about}
 use Rattle.claim_rule.specs.Tokens.{Token, PlacedTurn, IsActivation, placed_turn, record_in, number_in, doing}
 use Rattle.claim_rule.specs.Commits.{HasRoomForEntry, with_journal, with_commit}
 
--- the entry is that of the room's turn, and the room has a copy of its patch
+-- the entry is that of the room's turn, and the room has its patch without the values before
 pub record IsReadyEntry (r : Room) (e : Entry) : Type 0 where
   pub entry : e ≡ entry_of r.caller r.turn r.bot (change_of e)
-  pub changes : r.changes.items ≡ e.patch
+  pub changes : r.changes.items ≡ plain_patch e.patch
 
 module _ {D : Type 0} where
   -- the seat where its caller's record has changed

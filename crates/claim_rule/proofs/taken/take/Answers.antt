@@ -1,6 +1,7 @@
 use Rattle.std.proofs.Common.{reverse, ap, sym, subst, ◌∙◌}
 use Rattle.amoebot_state.specs.declared.verdict.Change.{Change}
 use Rattle.amoebot_state.specs.declared.verdict.Entry.{Entry}
+use Rattle.amoebot_state.specs.Pairs.{plain_patch}
 use Rattle.amoebot_state.specs.Steps.{change_of, entry_of}
 use Rattle.claim_rule.specs.declared.activation.Room.{Room}
 use Rattle.claim_rule.specs.Views.{Seated, setup_at}
@@ -36,6 +37,6 @@ invariant_of-result-2 g c =
     let taken = subst (λ (q : Room × Change). IsTaken g.D.Decider.verdict m q.0.caller q.0.turn q.0.bot q.0.stale (frame_of q.0.area q.0.maxes) (reverse q.0.cells) (reverse q.0.notes) q.1) (λ i. (sym now i, sym change i)) got.0 in
     let ready = subst (λ (q : Room). IsReadyEntry q c.ready-entry.result) (sym now) (record {
       entry = entry ∙ ap (entry_of r.caller r.turn r.bot) (sym change);
-      changes = c.ready-entry.ensures.changes ∙ sym (ap (λ (e : Entry). e.patch) entry);
+      changes = c.ready-entry.ensures.changes ∙ sym (ap (λ (e : Entry). plain_patch e.patch) entry);
     }) in
     (taken, ready)

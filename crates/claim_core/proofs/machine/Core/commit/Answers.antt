@@ -43,7 +43,7 @@ pub record_again-requires : goal.record_again-requires
 record_again-requires g c =
     let seat = seat_in c.self.invariant c.self.view_is refl c.args.caller (phase.Committing c.requires.0) c.requires.1 c.from.result c.index_mut-seat.result.now c.from.ensures c.index_mut-seat.ensures.value in
     let ph : c.index_mut-seat.result.now.phase ≡ phase.Committing c.in-Committing.change = sym c.replace.ensures.value ∙ c.in-Committing.is in
-    let all = committing_cells c.self.invariant seat c.in-Committing.change ph (length c.apply.new.self.bots) c.apply.ensures.size in
+    let all = committing_cells c.self.invariant seat c.in-Committing.change ph (length c.apply.new.self.bots) c.apply.ensures.same.size in
     subst (All (λ (p : CellName × Cell). IsCell (length c.apply.new.self.bots) p.0)) (sym c.as_mut_slice.ensures.value) all
 
 pub push-requires : goal.push-requires
