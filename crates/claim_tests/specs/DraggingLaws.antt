@@ -12,7 +12,7 @@ use Rattle.amoebot_state.specs.declared.verdict.Verdict.TheVariants as verdict
 use Rattle.amoebot_state.specs.Ports.{is_contracted}
 use Rattle.amoebot_state.specs.Configs.{Config, bot_of}
 use Rattle.amoebot_state.specs.Zones.{Shown, shown_alone}
-use Rattle.amoebot_state.specs.Steps.{TouchesZone, HasPatchedWorld, ListsDifferences}
+use Rattle.amoebot_state.specs.Steps.{IsLawful}
 use Rattle.model_ops.specs.declared.peer.Peer.{Peer}
 use Rattle.model_ops.specs.Operations.{and_then, connected, peer, pull, write}
 use Rattle.model_ops.specs.Reaches.{Acts}
@@ -65,11 +65,5 @@ dragging_made p s = chosen (is_contracted (bot_of (shown_alone s) s.bot))
 pub dragging_decides_by_acts : (p : Port) → DecidesByActs (dragging_shown p)
 dragging_decides_by_acts p s change is e = subst (MadeByActs s) e (dragging_made p s)
 
-pub dragging_touches_zone : (p : Port) → TouchesZone (dragging_shown p)
-dragging_touches_zone p = (acts_keep_decider_laws (dragging_shown p) (dragging_decides_by_acts p)).0
-
-pub dragging_has_next : (p : Port) → HasPatchedWorld (dragging_shown p)
-dragging_has_next p = (acts_keep_decider_laws (dragging_shown p) (dragging_decides_by_acts p)).1
-
-pub dragging_is_exact : (p : Port) → ListsDifferences (dragging_shown p)
-dragging_is_exact p = (acts_keep_decider_laws (dragging_shown p) (dragging_decides_by_acts p)).2
+pub dragging_is_lawful : (p : Port) → IsLawful (dragging_shown p)
+dragging_is_lawful p = acts_keep_decider_laws (dragging_shown p) (dragging_decides_by_acts p)

@@ -228,7 +228,7 @@ fn makes<D: Decider>(decider: &D, serial: &mut Serial, entry: &Entry) -> bool {
         Turned::Done(made) => {
             made.action == entry.action
                 && made.moved == entry.moved
-                && made.patch.pairs() == entry.patch.pairs()
+                && made.patch.triples() == entry.patch.triples()
         }
         Turned::Idle | Turned::Failed(_) => false,
     }

@@ -22,7 +22,7 @@ pub struct Dragger {
 
 impl Decider for Dragger {
     ghost use Rattle.claim_tests.specs.Dragging.{dragging_shown};
-    ghost use Rattle.claim_tests.specs.DraggingLaws.{dragging_touches_zone, dragging_has_next, dragging_is_exact};
+    ghost use Rattle.claim_tests.specs.DraggingLaws.{dragging_is_lawful};
 
     ghost verdict = { λ d. dragging_shown d.port };
 
@@ -34,11 +34,7 @@ impl Decider for Dragger {
         by_link(found, self.port, site.connected(self.port))
     }
 
-    ghost touches_zone = { λ d. dragging_touches_zone d.port };
-
-    ghost has_next = { λ d. dragging_has_next d.port };
-
-    ghost is_exact = { λ d. dragging_is_exact d.port };
+    ghost is_lawful = { λ d. dragging_is_lawful d.port };
 }
 
 /// What is decided where there is such a neighbour, or none.

@@ -199,7 +199,7 @@ fn cell_at(area: &Area, number: usize) -> CellName {
     }
 }
 
-/// An entry by its parts.
+/// An entry by its parts, with the new values of its patch.
 #[derive(Clone, Copy)]
 pub struct Told<'a> {
     pub caller: u8,
@@ -285,12 +285,13 @@ fn are_entries(entries: &[Entry], told: &[Told<'_>]) -> bool {
 }
 
 fn is_entry(entry: &Entry, told: &Told<'_>) -> bool {
-    entry.caller == told.caller
-        && entry.turn == told.turn
-        && entry.bot == told.bot
-        && entry.action == told.action
-        && entry.moved == told.moved
-        && entry.patch.pairs() == told.pairs
+    let plain = entry.plain();
+    plain.caller == told.caller
+        && plain.turn == told.turn
+        && plain.bot == told.bot
+        && plain.action == told.action
+        && plain.moved == told.moved
+        && plain.patch.pairs() == told.pairs
 }
 
 fn are_marks(turns: &Marks, marks: &[&[Mark]]) -> bool {

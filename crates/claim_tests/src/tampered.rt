@@ -32,6 +32,8 @@ enum Entries {
     First,
     /// Both, where the second has the amoebot of the first.
     OneBot,
+    /// Both, where the second has another value before.
+    Misread,
 }
 
 /// A report of callers 0 and 1 with the lists 0 1 and 1 and two turns each, in the world of two amoebots side by side whose variable is 0:
@@ -70,7 +72,7 @@ static RIGHT: [Case; 2] = [
 ];
 
 /// Each differs from one of those in one thing.
-static WRONG: [Case; 18] = [
+static WRONG: [Case; 19] = [
     // 0: a Busy with a cell that is far from its amoebot
     Case(
         Entries::Both,
@@ -251,6 +253,16 @@ static WRONG: [Case; 18] = [
         1,
         0,
     ),
+    // 18: an entry with another value before than the amoebot had
+    Case(
+        Entries::Misread,
+        Done(0),
+        Done(1),
+        Busy(AT_1, 0, 0, 0, 0),
+        Idle(2),
+        1,
+        1,
+    ),
 ];
 
 fn mark_of(said: Said) -> Mark {
@@ -271,15 +283,15 @@ fn mark_of(said: Said) -> Mark {
     }
 }
 
-/// The entry of a turn of caller 0 in which an amoebot sets its variable.
-fn entry(turn: u32, bot: u16) -> Entry {
-    let set = if bot == 0 {
-        standing(2, 3, 1)
-    } else {
-        standing(3, 3, 1)
-    };
+/// The entry of a turn of caller 0 in which an amoebot sets its variable, which had this value before.
+fn entry(turn: u32, bot: u16, before: u8) -> Entry {
+    let x = if bot == 0 { 2 } else { 3 };
     let mut patch = Patch::new();
-    patch.push(CellName::Body(bot), Cell::Body(set));
+    patch.push(
+        CellName::Body(bot),
+        Cell::Body(standing(x, 3, before)),
+        Cell::Body(standing(x, 3, 1)),
+    );
     Entry {
         caller: 0,
         turn,
@@ -298,16 +310,17 @@ fn append(alloc: Global, journal: &mut Journal, entry: Entry) -> Result<(), Fail
 
 fn journal_of(alloc: Global, first: &World, entries: Entries) -> Result<Journal, Fail> {
     let mut journal = Journal::make(alloc, first).ok().ok_or("no journal")?;
-    let turns: &[(u32, u16)] = match entries {
-        Entries::Both => &[(0, 0), (1, 1)],
-        Entries::Twice => &[(0, 0), (0, 0), (1, 1)],
-        Entries::Exchanged => &[(1, 1), (0, 0)],
-        Entries::Second => &[(1, 1)],
-        Entries::First => &[(0, 0)],
-        Entries::OneBot => &[(0, 0), (1, 0)],
+    let turns: &[(u32, u16, u8)] = match entries {
+        Entries::Both => &[(0, 0, 0), (1, 1, 0)],
+        Entries::Twice => &[(0, 0, 0), (0, 0, 0), (1, 1, 0)],
+        Entries::Exchanged => &[(1, 1, 0), (0, 0, 0)],
+        Entries::Second => &[(1, 1, 0)],
+        Entries::First => &[(0, 0, 0)],
+        Entries::OneBot => &[(0, 0, 0), (1, 0, 0)],
+        Entries::Misread => &[(0, 0, 0), (1, 1, 1)],
     };
-    for (turn, bot) in turns {
-        append(alloc, &mut journal, entry(*turn, *bot))?;
+    for (turn, bot, before) in turns {
+        append(alloc, &mut journal, entry(*turn, *bot, *before))?;
     }
     Ok(journal)
 }

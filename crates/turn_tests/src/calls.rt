@@ -48,15 +48,7 @@ impl Decider for Watching {
 
     ghost verdict = { λ _ _. verdict.Idle };
 
-    ghost touches_zone = { λ _ c i change h.
-        let Stays : Verdict → Type 0 = λ v. elim v [ verdict.Idle ↦ Unit {0} | verdict.Failed _ ↦ Unit {0} | verdict.Change _ ↦ ⊥ ] in
-        absurd (subst Stays h.decided tt) };
-
-    ghost has_next = { λ _ c i change h.
-        let Stays : Verdict → Type 0 = λ v. elim v [ verdict.Idle ↦ Unit {0} | verdict.Failed _ ↦ Unit {0} | verdict.Change _ ↦ ⊥ ] in
-        absurd (subst Stays h.decided tt) };
-
-    ghost is_exact = { λ _ c i change h.
+    ghost is_lawful = { λ _ c i change h.
         let Stays : Verdict → Type 0 = λ v. elim v [ verdict.Idle ↦ Unit {0} | verdict.Failed _ ↦ Unit {0} | verdict.Change _ ↦ ⊥ ] in
         absurd (subst Stays h.decided tt) };
 

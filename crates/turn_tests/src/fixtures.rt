@@ -58,5 +58,5 @@ pub fn turn_of<R: Wait, D: Decider, G: Gate>(
 /// An entry of a turn, which sets variable 0 of the amoebot.
 pub fn is_entry(rt: &impl Abort, entry: &Entry, caller: u8, turn: u32, bot: u16) {
     assert_eq!(rt; (entry.caller, entry.turn, entry.bot), (caller, turn, bot));
-    assert_eq!(rt; (entry.action, entry.patch.pairs().len()), (0, 1));
+    assert_eq!(rt; (entry.action, entry.patch.triples().len()), (0, 1));
 }

@@ -76,5 +76,5 @@ fn is_same(rt: &impl Abort, entry: &Entry, expected: &Entry) {
         (entry.action, entry.moved),
         (expected.action, expected.moved)
     );
-    assert!(rt; entry.patch.pairs() == expected.patch.pairs());
+    assert!(rt; entry.patch.triples() == expected.patch.triples());
 }
