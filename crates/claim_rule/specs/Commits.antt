@@ -39,7 +39,7 @@ commit_at g r change place = record {
 abbrev pub with_journal : Record → Change → Kept → Record
 with_journal r change j = record r { caller = record r.caller { phase = Committing change }; taken = Some j }
 
--- the record of a caller that has committed this change at a place: the entry joins its own, its cells have the values of the patch,
+-- the record of a caller that has committed this change at a place: the entry joins its own, its cells have the new values of the patch,
 -- the turn has its mark, and the journal is gone
 abbrev pub with_commit : Setup → Record → Change → ℕ → Record
 with_commit g r change place = record {
