@@ -15,10 +15,9 @@ use Rattle.amoebot_state.specs.declared.cell.CellName.{CellName}
 use Rattle.amoebot_state.specs.declared.cell.CellName.TheVariants as name
 use Rattle.amoebot_state.specs.declared.cell.Cell.{Cell}
 use Rattle.amoebot_state.specs.declared.cell.Cell.TheVariants as cell
-use Rattle.amoebot_state.specs.Pairs.{cell_of, cell_value}
+use Rattle.amoebot_state.specs.Pairs.{Pairs, cell_of, cell_value}
 use Rattle.amoebot_state.specs.Configs.{Config, IsValid, bot_at, value}
-use Rattle.amoebot_state.specs.Patches.{same_value, changed, all_cells, diff, rank}
-use Rattle.amoebot_state.specs.Laws.{DiffLeads, OrderedPatchIsDiff}
+use Rattle.amoebot_state.specs.Patches.{HasSameIds, IsOrdered, IsPatched, same_value, changed, all_cells, plain_diff, rank}
 use Rattle.amoebot_state.proofs.Members.{Has, here, later, Has-append_left, Has-append_right, Has-map, map_has, Has-filter_map, filter_map_has, All-from_Has, Contains-from_Has, Has-from_Contains}
 use Rattle.amoebot_state.proofs.Options.{none_if, is_some-option_map}
 use Rattle.amoebot_state.proofs.Occupants.{outside_empty}
@@ -54,45 +53,48 @@ changed_differs old new n p e =
     let is = told (same_value (value old n) (value new n)) n (value new n) p e in
     (ap (value new) (sym is.1) ∙ is.2, λ was. both_ways _ is.0 (ap (same_value (value old n)) (is.2 ∙ sym (ap (value old) is.1 ∙ was)) ∙ value_same (value old n)))
 
-listed_differs : (old new : Config) (p : CellName × Cell) → Has p (diff old new) → (value new (cell_of p) ≡ Some (cell_value p)) × (value old (cell_of p) ≢ Some (cell_value p))
+pub listed_differs : (old new : Config) (p : CellName × Cell) → Has p (plain_diff old new) → (value new (cell_of p) ≡ Some (cell_value p)) × (value old (cell_of p) ≢ Some (cell_value p))
 listed_differs old new p has = let found = filter_map_has (changed old new) (all_cells old) has in changed_differs old new found.0 p found.2
 
 -- one of all cells that the difference does not list stays
-stays : (old new : Config) (n : CellName) → Has n (all_cells old) → is_some (value new n) ≡ is_some (value old n) → All (λ (p : CellName × Cell). cell_of p ≢ n) (diff old new) → value new n ≡ value old n
+stays : (old new : Config) (n : CellName) → Has n (all_cells old) → is_some (value new n) ≡ is_some (value old n) → All (λ (p : CellName × Cell). cell_of p ≢ n) (plain_diff old new) → value new n ≡ value old n
 stays old new n has alike none = elim (cases_Bool (same_value (value old n) (value new n))) [
   | inl t ↦ sym (value_same-true (value old n) (value new n) t)
   | inr f ↦ elim (value new n) as (λ o. value new n ≡ o → value new n ≡ value old n) [
     | None ↦ λ e. e ∙ sym (none_if (value old n) (sym alike ∙ ap is_some e))
     | Some x ↦ λ e.
         let now : changed old new n ≡ Some (n, x) = ap (λ t. if t then None else option_map (λ z. (n, z)) (value new n)) f ∙ ap (option_map (λ z. (n, z))) e in
-        absurd (All-contains (λ (p : CellName × Cell). cell_of p ≢ n) (diff old new) (n, x) none (Contains-from_Has (diff old new) (Has-filter_map (changed old new) (all_cells old) has now)) refl)
+        absurd (All-contains (λ (p : CellName × Cell). cell_of p ≢ n) (plain_diff old new) (n, x) none (Contains-from_Has (plain_diff old new) (Has-filter_map (changed old new) (all_cells old) has now)) refl)
   ] refl
 ]
 
+-- with the same ids each cell has a value in both configurations, or in none
+pub has_value : (old new : Config) → HasSameIds old new → (n : CellName) → is_some (value new n) ≡ is_some (value old n)
+has_value old new same (name.Spot v) = refl
+has_value old new same (name.Body i) = is_some-option_map cell.Body (bot_at new i) ∙ same.ids i ∙ sym (is_some-option_map cell.Body (bot_at old i))
+
 -- a cell that the difference does not list stays: what is none of all cells holds nothing in either
-kept : (old new : Config) → IsValid old → IsValid new → new.area ≡ old.area → length new.bots ≡ length old.bots → ((i : ℕ) → is_some (bot_at new i) ≡ is_some (bot_at old i)) → (n : CellName) → All (λ (p : CellName × Cell). cell_of p ≢ n) (diff old new) → value new n ≡ value old n
-kept old new was is area size ids (name.Spot v) none = elim (index_of old.area v) as (λ o. index_of old.area v ≡ o → value new (name.Spot v) ≡ value old (name.Spot v)) [
-  | None ↦ λ e. ap (λ o. Some (cell.Spot o)) (sym (outside_empty new is v (ap (λ (a : Extent). index_of a v) area ∙ e)) ∙ outside_empty old was v e)
+kept : (old new : Config) → IsValid old → IsValid new → HasSameIds old new → (n : CellName) → All (λ (p : CellName × Cell). cell_of p ≢ n) (plain_diff old new) → value new n ≡ value old n
+kept old new was is same (name.Spot v) none = elim (index_of old.area v) as (λ o. index_of old.area v ≡ o → value new (name.Spot v) ≡ value old (name.Spot v)) [
+  | None ↦ λ e. ap (λ o. Some (cell.Spot o)) (sym (outside_empty new is v (ap (λ (c : Config). index_of c.area v) same.rest ∙ e)) ∙ outside_empty old was v e)
   | Some k ↦ λ e. stays old new (name.Spot v) (spot_in_all old v k e) refl none
 ] refl
-kept old new was is area size ids (name.Body i) none = elim (cases_lt i (length old.bots)) [
-  | inl lt ↦ stays old new (name.Body i) (body_in_all old i lt) (is_some-option_map cell.Body (bot_at new i) ∙ ids i ∙ sym (is_some-option_map cell.Body (bot_at old i))) none
-  | inr ge ↦ ap (option_map cell.Body) (get_or_past new.bots i None (omega arith) ∙ sym (get_or_past old.bots i None (omega arith)))
+kept old new was is same (name.Body i) none = elim (cases_lt i (length old.bots)) [
+  | inl lt ↦ stays old new (name.Body i) (body_in_all old i lt) (has_value old new same (name.Body i)) none
+  | inr ge ↦ ap (option_map cell.Body) (get_or_past new.bots i None (omega (arith, same.size, ge)) ∙ sym (get_or_past old.bots i None (omega arith)))
 ]
 
-pub diff_leads : DiffLeads
-diff_leads old new was is rest size ids =
+pub plain_leads : (old new : Config) → IsValid old → IsValid new → HasSameIds old new → IsPatched old (plain_diff old new) new × All (λ (p : CellName × Cell). value old (cell_of p) ≢ Some (cell_value p)) (plain_diff old new)
+plain_leads old new was is same =
     let Given : CellName × Cell → Type 0 = λ p. value new (cell_of p) ≡ Some (cell_value p) in
     let Differs : CellName × Cell → Type 0 = λ p. value old (cell_of p) ≢ Some (cell_value p) in (
       record {
         valid = is;
-        rest = rest;
-        size = size;
-        ids = ids;
-        given = All-from_Has Given (diff old new) (λ p has. (listed_differs old new p has).0);
-        kept = kept old new was is (ap (λ (c : Config). c.area) rest) size ids;
+        same = same;
+        given = All-from_Has Given (plain_diff old new) (λ p has. (listed_differs old new p has).0);
+        kept = kept old new was is same;
       },
-      All-from_Has Differs (diff old new) (λ p has. (listed_differs old new p has).1),
+      All-from_Has Differs (plain_diff old new) (λ p has. (listed_differs old new p has).1),
     )
 
 -- ---- the difference is the one ordered patch that leads from the old configuration to the new one and lists what differs
@@ -122,7 +124,7 @@ all_cells_rise c =
     omega (arith, below, ap (place_in c.area) ex, at k hk, ap (place_in c.area) ey))
 
 -- and so does the difference
-diff_rises : (old new : Config) → Rising (pair_place old.area) (diff old new)
+diff_rises : (old new : Config) → Rising (pair_place old.area) (plain_diff old new)
 diff_rises old new = Rising-filter_map (place_in old.area) (pair_place old.area) (changed old new) (λ n p e. ap (place_in old.area) (sym (told (same_value (value old n) (value new n)) n (value new n) p e).1)) (all_cells_rise old)
 
 -- a node whose value differs lies in the area
@@ -151,14 +153,14 @@ differs_listed old new was is area size (name.Body i) x e differs = elim (cases_
   | inr ge ↦ absurd (none-some x (sym (ap (option_map cell.Body) (get_or_past new.bots i None (omega arith))) ∙ e))
 ]
 
-pub ordered_patch_is_diff : OrderedPatchIsDiff
-ordered_patch_is_diff old new ps was patched ordered differ =
-    let area : new.area ≡ old.area = ap (λ (c : Config). c.area) patched.rest in
+pub ordered_is_plain_diff : (old new : Config) (ps : Pairs) → IsValid old → IsPatched old ps new → IsOrdered ps → All (λ (p : CellName × Cell). value old (cell_of p) ≢ Some (cell_value p)) ps → ps ≡ plain_diff old new
+ordered_is_plain_diff old new ps was patched ordered differ =
+    let area : new.area ≡ old.area = ap (λ (c : Config). c.area) patched.same.rest in
     let given : (p : CellName × Cell) → Has p ps → value new (cell_of p) ≡ Some (cell_value p) = λ p has. All-contains (λ (q : CellName × Cell). value new (cell_of q) ≡ Some (cell_value q)) ps p patched.given (Contains-from_Has ps has) in
     let differs : (p : CellName × Cell) → Has p ps → value new (cell_of p) ≢ value old (cell_of p) = λ p has e. All-contains (λ (q : CellName × Cell). value old (cell_of q) ≢ Some (cell_value q)) ps p differ (Contains-from_Has ps has) (sym e ∙ given p has) in
     let rises : Rising (pair_place old.area) ps = Rising-weaker (λ (p : CellName × Cell). rank (cell_of p)) (pair_place old.area) (λ p q hp hq lt. before_is_lower old new was patched.valid area (cell_of p) (cell_of q) (differs p hp) lt) (Rising-from_increasing (λ (p : CellName × Cell). rank (cell_of p)) ps (AllPairs-from_increasing (map (λ (p : CellName × Cell). rank (cell_of p)) ps) ordered)) in
     Rising-same (pair_place old.area) rises (diff_rises old new)
-    (λ p has. Has-filter_map (changed old new) (all_cells old) (differs_listed old new was patched.valid area patched.size (cell_of p) (cell_value p) (given p has) (differs p has)) (changed_is old new p (given p has) (differs p has)))
+    (λ p has. Has-filter_map (changed old new) (all_cells old) (differs_listed old new was patched.valid area patched.same.size (cell_of p) (cell_value p) (given p has) (differs p has)) (changed_is old new p (given p has) (differs p has)))
     (λ p has.
     let (now, not_was) = listed_differs old new p has in
     let (q, hq, e) = map_has cell_of ps (Has-from_Contains (map cell_of ps) (patch_lists_what_differs old new ps patched (cell_of p) (λ e. not_was (sym e ∙ now)))) in

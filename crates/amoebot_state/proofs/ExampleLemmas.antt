@@ -16,13 +16,14 @@ use Rattle.amoebot_state.specs.declared.cell.Cell.TheVariants as cell
 use Rattle.amoebot_state.specs.declared.refusal.WorldRefusal.{WorldRefusal}
 use Rattle.amoebot_state.specs.declared.refusal.WorldRefusal.TheVariants.{OutOfBox, NotAdjacent, OnWall, Overlap, BadValue}
 use Rattle.amoebot_state.specs.declared.found.Behind.TheVariants as there
+use Rattle.amoebot_state.specs.Pairs.{CellChange, Triples, plain_patch}
 use Rattle.amoebot_state.specs.Ports.{port, ports, global, local}
 use Rattle.amoebot_state.specs.Configs.{Config, with_bot, IsValid, frame, frame_of, is_wall, walled_frame, with_these, bot_at, value}
 use Rattle.amoebot_state.specs.Walls.{node_numbers, true_places}
 use Rattle.amoebot_state.specs.Around.{behind_pair}
 use Rattle.amoebot_state.specs.Zones.{Shown, is_number_among, zone, shown_with, shown, shown_alone}
 use Rattle.amoebot_state.specs.Known.{known_zone, next_cell}
-use Rattle.amoebot_state.specs.Patches.{IsPatched, diff}
+use Rattle.amoebot_state.specs.Patches.{HasOldValues, IsPatched, diff}
 use Rattle.std.specs.Option.{option_or}
 use Rattle.amoebot_state.specs.Refusals.{bot_fault}
 use Rattle.amoebot_state.specs.Examples.{eight_by_eight}
@@ -45,6 +46,16 @@ free x y = (spot x y, cell.Spot None)
 
 abbrev pub with_body : ℕ → Bot → CellName × Cell
 with_body i b = (body i, cell.Body b)
+
+-- what becomes of cells: an empty node that is entered, a node that another amoebot gets, and an amoebot
+abbrev pub entered : ℕ → ℕ → ℕ → CellChange
+entered x y i = (spot x y, cell.Spot None, cell.Spot (Some i))
+
+abbrev pub handed_over : ℕ → ℕ → ℕ → ℕ → CellChange
+handed_over x y i j = (spot x y, cell.Spot (Some i), cell.Spot (Some j))
+
+abbrev pub body_changed : ℕ → Bot → Bot → CellChange
+body_changed i was now = (body i, cell.Body was, cell.Body now)
 
 -- eight variables, of which the first has this value
 abbrev pub first : ℕ → List ℕ
@@ -92,21 +103,23 @@ alone_is_shown = refl
 abbrev pub alone_out : Config
 alone_out = world (expanded (at 3 3) (at 2 3) ∷ [])
 
-abbrev pub going_out : List (CellName × Cell)
-going_out = held 3 3 0 ∷ with_body 0 (expanded (at 3 3) (at 2 3)) ∷ []
+abbrev pub going_out : Triples
+going_out = entered 3 3 0 ∷ body_changed 0 (contracted (at 2 3)) (expanded (at 3 3) (at 2 3)) ∷ []
 
 alone_changes : diff alone alone_out ≡ going_out
 alone_changes = refl
 
+-- its body was not on both nodes before
+alone_is_not_out : ¬ HasOldValues alone_out going_out
+alone_is_not_out found = let e = (recursion_from_All (λ (t : CellChange). value alone_out t.0 ≡ Some t.1) going_out found).0 in absurd (cc)
+
 -- these values lead there
-pub alone_patched : IsValid alone_out → IsPatched alone going_out alone_out
+pub alone_patched : IsValid alone_out → IsPatched alone (plain_patch going_out) alone_out
 alone_patched valid = record {
   valid = valid;
-  rest = refl;
-  size = refl;
-  ids = same_ids;
-  given = All-from_recursion (λ (p : CellName × Cell). value alone_out p.0 ≡ Some p.1) going_out (refl, (refl, tt));
-  kept = λ n none. kept n (recursion_from_All (λ (p : CellName × Cell). p.0 ≢ n) going_out none);
+  same = record { rest = refl; size = refl; ids = same_ids };
+  given = All-from_recursion (λ (p : CellName × Cell). value alone_out p.0 ≡ Some p.1) (plain_patch going_out) (refl, (refl, tt));
+  kept = λ n none. kept n (recursion_from_All (λ (p : CellName × Cell). p.0 ≢ n) (plain_patch going_out) none);
 }
   where
     same_ids : (i : ℕ) → is_some (bot_at alone_out i) ≡ is_some (bot_at alone i)
@@ -148,7 +161,7 @@ shown_turned = refl
 abbrev pub turned_out : Bot
 turned_out = record { head = at 2 2; tail = at 2 3; rot = 5; chir = Minus; mem = first 0 }
 
-turned_changes : diff turned (world (turned_out ∷ [])) ≡ held 2 2 0 ∷ with_body 0 turned_out ∷ []
+turned_changes : diff turned (world (turned_out ∷ [])) ≡ entered 2 2 0 ∷ body_changed 0 (against 5 (at 2 3)) turned_out ∷ []
 turned_changes = refl
 
 -- two neighbours: nine cells each
@@ -171,7 +184,7 @@ shown_pair_1 = refl
 abbrev pub marked : Bot
 marked = record { head = at 2 3; tail = at 2 3; rot = 0; chir = Plus; mem = first 1 }
 
-marking_changes : diff pair (world (marked ∷ contracted (at 3 3) ∷ [])) ≡ with_body 0 marked ∷ []
+marking_changes : diff pair (world (marked ∷ contracted (at 3 3) ∷ [])) ≡ body_changed 0 (contracted (at 2 3)) marked ∷ []
 marking_changes = refl
 
 -- an expanded amoebot, with a neighbour behind its tail: ten ports lead to eight nodes, and the zone has twelve cells
@@ -219,7 +232,7 @@ shown_train_1 = refl
 abbrev pub pulled : Config
 pulled = world (contracted (at 3 3) ∷ expanded (at 2 3) (at 1 3) ∷ [])
 
-pulling_changes : diff train pulled ≡ held 2 3 1 ∷ with_body 0 (contracted (at 3 3)) ∷ with_body 1 (expanded (at 2 3) (at 1 3)) ∷ []
+pulling_changes : diff train pulled ≡ handed_over 2 3 0 1 ∷ body_changed 0 stretched (contracted (at 3 3)) ∷ body_changed 1 (contracted (at 1 3)) (expanded (at 2 3) (at 1 3)) ∷ []
 pulling_changes = refl
 
 zone_pulled_0 : zone pulled 0 ≡ body 0 ∷ spot 3 3 ∷ spot 4 3 ∷ spot 3 4 ∷ spot 2 4 ∷ spot 2 3 ∷ spot 3 2 ∷ spot 4 2 ∷ body 1 ∷ []
@@ -335,7 +348,7 @@ walls_told = refl
 behind_walls : map (behind_pair beside_walls 0) (port Head 0 ∷ port Head 1 ∷ port Tail 0 ∷ []) ≡ there.Wall ∷ there.Empty ∷ there.NoPort ∷ []
 behind_walls = refl
 
-walls_stay : diff beside_walls (with_bot (frame beside_walls) (too_high (at 2 3) (at 2 3))) ≡ with_body 0 (too_high (at 2 3) (at 2 3)) ∷ []
+walls_stay : diff beside_walls (with_bot (frame beside_walls) (too_high (at 2 3) (at 2 3))) ≡ body_changed 0 (contracted (at 2 3)) (too_high (at 2 3) (at 2 3)) ∷ []
 walls_stay = refl
 
 -- head or tail on a wall, behind what is torn and before what overlaps

@@ -13,6 +13,7 @@ pub mod Known
 pub mod Members
 pub mod Occupants
 pub mod Occupied
+pub mod OldValues
 pub mod Once
 pub mod Options
 pub mod Owns

@@ -14,6 +14,7 @@ use Rattle.amoebot_state.specs.declared.cell.CellName.{CellName}
 use Rattle.amoebot_state.specs.declared.cell.CellName.TheVariants as name
 use Rattle.amoebot_state.specs.declared.cell.Cell.{Cell}
 use Rattle.amoebot_state.specs.declared.cell.Cell.TheVariants as cell
+use Rattle.amoebot_state.specs.Pairs.{plain_patch}
 use Rattle.amoebot_state.specs.Configs.{Config, IsValid, IsGrid, IsWorld, with_these, bot_at, occupant, value}
 use Rattle.amoebot_state.specs.Patches.{IsPatched}
 use Rattle.amoebot_state.specs.Steps.{Run}
@@ -97,7 +98,7 @@ pub bots_patched : (c : Config) (bs : List Bot) (ps : List (CellName × Cell)) (
 unfolding BotRight
 bots_patched c bs ps new patched =
     let long : length (map Some (put_bots bs ps)) ≡ length bs = length-map (put_bots bs ps) Some ∙ length_puts ps bs in
-    let size : length new.bots ≡ length bs = patched.size ∙ length-map bs Some in
+    let size : length new.bots ≡ length bs = patched.same.size ∙ length-map bs Some in
     ext_get_or None _ _ (long ∙ sym size) (λ i below.
     let lt : i < length bs = omega arith in
     settles (λ cs (p : CellName × Cell). put_bot cs p.0 p.1) (BotRight new (length bs) i) (λ (p : CellName × Cell). value new p.0 ≡ Some p.1) (λ (p : CellName × Cell). p.0 ≡ name.Body i)
@@ -185,7 +186,7 @@ same_config a b x w y z = λ i. record { area = x i; walls = w i; maxes = y i; b
 
 -- the fields after the patch are those of the patched configuration
 pub is_patched : (c : Config) (bs : List Bot) (ps : List (CellName × Cell)) (new : Config) → IsPatched (with_these c bs) ps new → new ≡ with_these c (put_bots bs ps)
-is_patched c bs ps new patched = patched.rest ∙ ap (λ (os : List (Option Bot)). let d : Config = record c { bots = os } in d) (sym (bots_patched c bs ps new patched))
+is_patched c bs ps new patched = patched.same.rest ∙ ap (λ (os : List (Option Bot)). let d : Config = record c { bots = os } in d) (sym (bots_patched c bs ps new patched))
 
 -- a world stays one
 pub world_patched : (c : Config) (bs : List Bot) (g : List (Option ℕ)) (ps : List (CellName × Cell)) (new : Config) → IsWorld (with_these c bs) g → IsPatched (with_these c bs) ps new → IsWorld (with_these c (put_bots bs ps)) (put_spots c.area g ps)
@@ -195,7 +196,7 @@ world_patched c bs g ps new world patched =
       valid = subst IsValid same patched.valid;
       kept =
           let P : Config → Type 0 = λ d. IsGrid d (put_spots d.area g ps) in
-          subst P same (grid_patched (with_these c bs) new g ps world.kept patched (ap (λ (d : Config). d.area) patched.rest));
+          subst P same (grid_patched (with_these c bs) new g ps world.kept patched (ap (λ (d : Config). d.area) patched.same.rest));
       few =
           let e : length (map Some (put_bots bs ps)) ≡ length (map Some bs) = length-map (put_bots bs ps) Some ∙ length_puts ps bs ∙ sym (length-map bs Some) in
           let f = world.few in omega arith;
@@ -236,11 +237,11 @@ values_alike old one two ps first second n = elim (listed_or_not n (decide_name 
 
 pub patched_is_unique : PatchedIsUnique
 patched_is_unique old one two ps first second =
-    same_config one two (ap (λ (c : Config). c.area) first.rest ∙ sym (ap (λ (c : Config). c.area) second.rest)) (ap (λ (c : Config). c.walls) first.rest ∙ sym (ap (λ (c : Config). c.walls) second.rest)) (ap (λ (c : Config). c.maxes) first.rest ∙ sym (ap (λ (c : Config). c.maxes) second.rest))
-    (ext_get_or None one.bots two.bots (first.size ∙ sym second.size) (λ i below. body_alike _ _ (values_alike old one two ps first second (name.Body i))))
+    same_config one two (ap (λ (c : Config). c.area) first.same.rest ∙ sym (ap (λ (c : Config). c.area) second.same.rest)) (ap (λ (c : Config). c.walls) first.same.rest ∙ sym (ap (λ (c : Config). c.walls) second.same.rest)) (ap (λ (c : Config). c.maxes) first.same.rest ∙ sym (ap (λ (c : Config). c.maxes) second.same.rest))
+    (ext_get_or None one.bots two.bots (first.same.size ∙ sym second.same.size) (λ i below. body_alike _ _ (values_alike old one two ps first second (name.Body i))))
 
 pub step_has_one_result : StepHasOneResult
-step_has_one_result f old e one two first second = patched_is_unique old one two e.patch first.patched second.patched
+step_has_one_result f old e one two first second = patched_is_unique old one two (plain_patch e.patch) first.patched second.patched
 
 pub run_has_one_last : RunHasOneLast
 run_has_one_last f old [] one two first second = first ∙ sym second

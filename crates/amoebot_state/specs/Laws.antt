@@ -1,5 +1,5 @@
 -- What follows from the definitions alone.
-use Rattle.std.specs.Prelude.{◌≡◌, ◌≢◌, ◌↔◌, ◌⊎◌, ◌<◌, ◌≤◌, ℕ, List, [], ◌∷◌, ◌++◌, IsSome, Bool, true, false, map, length, is_some, slice_get, IsTrue}
+use Rattle.std.specs.Prelude.{◌≡◌, ◌≢◌, ◌↔◌, ◌⊎◌, ◌<◌, ◌≤◌, ℕ, List, [], ◌∷◌, ◌++◌, IsSome, Bool, true, false, map, length, slice_get, IsTrue}
 use Rattle.std.specs.List.{All, AllPairs, Contains, count_by}
 use Rattle.std.specs.declared.option.Option.{Option}
 use Rattle.std.specs.declared.option.Option.TheVariants.{Some, None}
@@ -14,13 +14,13 @@ use Rattle.amoebot_state.specs.declared.cell.Cell.{Cell}
 use Rattle.amoebot_state.specs.declared.refusal.WorldRefusal.{WorldRefusal}
 use Rattle.amoebot_state.specs.declared.verdict.Entry.{Entry}
 use Rattle.amoebot_state.specs.declared.verdict.Verdict.{Verdict}
-use Rattle.amoebot_state.specs.Pairs.{Pairs, cell_of, cell_value}
+use Rattle.amoebot_state.specs.Pairs.{Pairs, Triples, cell_of, cell_value, plain_patch}
 use Rattle.amoebot_state.specs.Ports.{global, local, is_port, ports, behind, is_beside}
 use Rattle.amoebot_state.specs.Walls.{has_node, has_number, node_numbers}
 use Rattle.amoebot_state.specs.Configs.{Config, IsValid, bot_at, is_wall, occupant, value, frame, walled_frame, with_these}
 use Rattle.amoebot_state.specs.Zones.{Shown, IsShown, distinct, zone_nodes, zone_at, zone, shown, shown_alone}
 use Rattle.amoebot_state.specs.Known.{IsFront, known_zone, next_cell}
-use Rattle.amoebot_state.specs.Patches.{IsPatched, IsOrdered, same_value, diff}
+use Rattle.amoebot_state.specs.Patches.{HasSameIds, IsPatched, IsOrdered, HasOldValues, same_value, diff}
 use Rattle.amoebot_state.specs.Refusals.{IsBotInRange, IsFaultless, IsFirstFault, IsFirstRefusal}
 use Rattle.amoebot_state.specs.Occupied.{occupied}
 use Rattle.amoebot_state.specs.Steps.{Step, Run}
@@ -211,27 +211,37 @@ abbrev pub SameValueIsEquality : Type 0
 SameValueIsEquality = (x y : Option Cell) → IsTrue (same_value x y) ↔ (x ≡ y)
 
 -- the difference of two valid configurations that differ in their amoebots at most and have the same ids leads from the old
--- one to the new one, and each cell that it lists differs
+-- one to the new one; each cell that it lists differs, and its old values are those of the old one
 abbrev pub DiffLeads : Type 0
 DiffLeads =
     (old new : Config)
     → IsValid old
     → IsValid new
-    → new ≡ record old { bots = new.bots }
-    → length new.bots ≡ length old.bots
-    → ((i : ℕ) → is_some (bot_at new i) ≡ is_some (bot_at old i))
-    → IsPatched old (diff old new) new
-    × All (λ (p : CellName × Cell). value old (cell_of p) ≢ Some (cell_value p)) (diff old new)
+    → HasSameIds old new
+    → IsPatched old (plain_patch (diff old new)) new
+    × All (λ (p : CellName × Cell). value old (cell_of p) ≢ Some (cell_value p)) (plain_patch (diff old new))
+    × HasOldValues old (diff old new)
 
--- an ordered patch that leads from one valid configuration to another, and each of whose pairs differs, is their difference
+-- an ordered patch that leads from one valid configuration to another, each of whose cells differs, and whose old values are
+-- those of the first one, is their difference
 abbrev pub OrderedPatchIsDiff : Type 0
 OrderedPatchIsDiff =
-    (old new : Config) (ps : Pairs)
+    (old new : Config) (ps : Triples)
     → IsValid old
-    → IsPatched old ps new
-    → IsOrdered ps
-    → All (λ (p : CellName × Cell). value old (cell_of p) ≢ Some (cell_value p)) ps
+    → IsPatched old (plain_patch ps) new
+    → IsOrdered (plain_patch ps)
+    → All (λ (p : CellName × Cell). value old (cell_of p) ≢ Some (cell_value p)) (plain_patch ps)
+    → HasOldValues old ps
     → ps ≡ diff old new
+
+-- patches with the same cells and new values, and with the old values of one configuration, are one
+abbrev pub OldValuesAreOne : Type 0
+OldValuesAreOne =
+    (c : Config) (ps qs : Triples)
+    → HasOldValues c ps
+    → HasOldValues c qs
+    → plain_patch ps ≡ plain_patch qs
+    → ps ≡ qs
 
 -- no amoebot of a valid configuration is refused
 abbrev pub ValidIsFaultless : Type 0

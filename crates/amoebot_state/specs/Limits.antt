@@ -17,7 +17,7 @@ most_vars = 8
 abbrev pub most_value : ℕ
 most_value = 255
 
--- the most pairs of a patch
+-- the most cells of a patch
 abbrev pub most_pairs : ℕ
 most_pairs = 10
 

@@ -1,6 +1,6 @@
--- Patches: cells with new values, the configuration that a patch leads to, and the difference of two configurations. All of it is
--- this project's profile: the paper tells what an activation changes by its operations.
-use Rattle.std.specs.Prelude.{◌≡◌, ◌≢◌, ℕ, ◌+◌, ◌*◌, List, ◌++◌, Bool, true, false, ◌&&◌, map, length, is_some, nat_eq, if◌then◌else◌}
+-- Patches: cells with their values before and after, the configuration that the new values lead to, and the difference of two
+-- configurations. All of it is this project's profile: the paper tells what an activation changes by its operations.
+use Rattle.std.specs.Prelude.{◌≡◌, ◌≢◌, ℕ, ◌+◌, ◌*◌, List, ◌++◌, Bool, true, false, ◌&&◌, map, length, is_some, unwrap_or, nat_eq, if◌then◌else◌}
 use Rattle.std.specs.List.{All, filter_map, range_with_len}
 use Rattle.std.specs.Cmp.Lexicographic.{pointwise}
 use Rattle.std.specs.List.Sorted.{IsStrictlyIncreasing}
@@ -15,17 +15,21 @@ use Rattle.amoebot_state.specs.declared.cell.CellName.{CellName}
 use Rattle.amoebot_state.specs.declared.cell.CellName.TheVariants as name
 use Rattle.amoebot_state.specs.declared.cell.Cell.{Cell}
 use Rattle.amoebot_state.specs.declared.cell.Cell.TheVariants as cell
-use Rattle.amoebot_state.specs.Pairs.{Pairs, cell_of, cell_value}
+use Rattle.amoebot_state.specs.Pairs.{CellChange, Pairs, Triples, cell_of, cell_value}
 use Rattle.amoebot_state.specs.Configs.{Config, IsValid, bot_at, value}
 use Rattle.amoebot_state.specs.Zones.{shown_cell}
 
--- new is the configuration with the values of the patch: it is valid, differs from the old one in its amoebots at most, has
--- the same ids, the patch's values in the patch's cells, and the old values in all others (this project's profile)
-pub record IsPatched (old : Config) (patch : Pairs) (new : Config) : Type 0 where
-  pub valid : IsValid new
+-- the new configuration differs from the old one in its amoebots at most, and has the same ids
+pub record HasSameIds (old new : Config) : Type 0 where
   pub rest : new ≡ record old { bots = new.bots }
   pub size : length new.bots ≡ length old.bots
   pub ids : (i : ℕ) → is_some (bot_at new i) ≡ is_some (bot_at old i)
+
+-- new is the configuration with the new values of these cells: it is valid, differs from the old one in its amoebots at most, has
+-- the same ids, the new values in these cells, and the old values in all others (this project's profile)
+pub record IsPatched (old : Config) (patch : Pairs) (new : Config) : Type 0 where
+  pub valid : IsValid new
+  pub same : HasSameIds old new
   pub given : All (λ (p : CellName × Cell). value new (cell_of p) ≡ Some (cell_value p)) patch
   pub kept : (n : CellName) → All (λ (p : CellName × Cell). cell_of p ≢ n) patch → value new n ≡ value old n
 
@@ -87,5 +91,17 @@ all_cells c =
     ++ map name.Body (range_with_len 0 (length c.bots))
 
 -- the cells whose value differs, with their new values: first the nodes, then the bodies in rising id
-abbrev pub diff : Config → Config → Pairs
-diff old new = filter_map (changed old new) (all_cells old)
+abbrev pub plain_diff : Config → Config → Pairs
+plain_diff old new = filter_map (changed old new) (all_cells old)
+
+-- a cell with its new value, and before that the value that it has in the old configuration
+abbrev pub with_old : Config → CellName × Cell → CellChange
+with_old old p = (cell_of p, unwrap_or (value old (cell_of p)) (cell_value p), cell_value p)
+
+-- the difference: the cells whose value differs, each with its value in the old and in the new configuration
+abbrev pub diff : Config → Config → Triples
+diff old new = map (with_old old) (plain_diff old new)
+
+-- the values before are those that the configuration has
+abbrev pub HasOldValues : Config → Triples → Type 0
+HasOldValues c ts = All (λ (t : CellChange). value c t.0 ≡ Some t.1) ts

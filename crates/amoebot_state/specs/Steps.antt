@@ -9,10 +9,11 @@ use Rattle.amoebot_state.specs.declared.verdict.Verdict.{Verdict}
 use Rattle.amoebot_state.specs.declared.verdict.Verdict.TheVariants as verdict
 use Rattle.amoebot_state.specs.declared.verdict.Change.{Change}
 use Rattle.amoebot_state.specs.declared.verdict.Entry.{Entry}
-use Rattle.amoebot_state.specs.Pairs.{cell_of, cell_value}
+use Rattle.amoebot_state.specs.declared.verdict.PlainEntry.{PlainEntry}
+use Rattle.amoebot_state.specs.Pairs.{Triples, cell_of, cell_value, plain_patch}
 use Rattle.amoebot_state.specs.Configs.{Config, IsValid, bot_at, value}
 use Rattle.amoebot_state.specs.Zones.{Shown, shown, zone}
-use Rattle.amoebot_state.specs.Patches.{IsPatched, HasPatched, IsOrdered}
+use Rattle.amoebot_state.specs.Patches.{IsPatched, HasPatched, HasOldValues, IsOrdered}
 
 -- f decides this change on what a valid configuration shows to an amoebot of its own
 pub record DecidesChange (f : Shown → Verdict) (c : Config) (i : ℕ) (change : Change) : Type 0 where
@@ -20,24 +21,48 @@ pub record DecidesChange (f : Shown → Verdict) (c : Config) (i : ℕ) (change 
   pub there : IsSome (bot_at c i)
   pub decided : f (shown c i) ≡ verdict.Change change
 
+-- what a decider promises of a change on an amoebot of a configuration
+pub record IsLawfulPatch (c : Config) (i : ℕ) (patch : Triples) : Type 0 where
+  -- it touches cells of the zone alone
+  pub touches : All (λ (p : CellName × Cell). Contains (zone c i) (cell_of p)) (plain_patch patch)
+  -- it leads to a configuration
+  pub leads : HasPatched c (plain_patch patch)
+  -- it is in its order, and holds exactly the cells whose value differs: each that it lists differs, and that each other cell
+  -- stays is a part of `IsPatched`
+  pub ordered : IsOrdered (plain_patch patch)
+  pub differs : All (λ (p : CellName × Cell). value c (cell_of p) ≢ Some (cell_value p)) (plain_patch patch)
+  -- its old values are those found
+  pub found : HasOldValues c patch
+
+-- so it is with each change that f decides on what a valid configuration shows
+abbrev pub IsLawful : (Shown → Verdict) → Type 0
+IsLawful f =
+    (c : Config) (i : ℕ) (change : Change) → DecidesChange f c i change → IsLawfulPatch c i change.patch
+
 -- a patch touches cells of the zone alone
 abbrev pub TouchesZone : (Shown → Verdict) → Type 0
 TouchesZone f =
     (c : Config) (i : ℕ) (change : Change)
     → DecidesChange f c i change
-    → All (λ (p : CellName × Cell). Contains (zone c i) (cell_of p)) change.patch
+    → All (λ (p : CellName × Cell). Contains (zone c i) (cell_of p)) (plain_patch change.patch)
 
 -- each valid configuration that shows what was found has one that the patch leads to
 abbrev pub HasPatchedWorld : (Shown → Verdict) → Type 0
-HasPatchedWorld f = (c : Config) (i : ℕ) (change : Change) → DecidesChange f c i change → HasPatched c change.patch
+HasPatchedWorld f =
+    (c : Config) (i : ℕ) (change : Change) → DecidesChange f c i change → HasPatched c (plain_patch change.patch)
 
--- a patch is in its order, and holds exactly the cells whose value differs: each that it lists differs, and that each other
--- cell stays is a part of `IsPatched`
+-- a patch is in its order, and each cell that it lists differs
 abbrev pub ListsDifferences : (Shown → Verdict) → Type 0
 ListsDifferences f =
     (c : Config) (i : ℕ) (change : Change)
     → DecidesChange f c i change
-    → IsOrdered change.patch × All (λ (p : CellName × Cell). value c (cell_of p) ≢ Some (cell_value p)) change.patch
+    → IsOrdered (plain_patch change.patch)
+    × All (λ (p : CellName × Cell). value c (cell_of p) ≢ Some (cell_value p)) (plain_patch change.patch)
+
+-- the old values of a patch are those found
+abbrev pub OldValuesAreFound : (Shown → Verdict) → Type 0
+OldValuesAreFound f =
+    (c : Config) (i : ℕ) (change : Change) → DecidesChange f c i change → HasOldValues c change.patch
 
 -- the change that an entry tells
 abbrev pub change_of : Entry → Change
@@ -55,12 +80,24 @@ entry_of caller turn bot change =
       patch = change.patch;
     }
 
+-- an entry without the old values of its patch
+abbrev pub plain_entry : Entry → PlainEntry
+plain_entry e =
+    record {
+      caller = e.caller;
+      turn = e.turn;
+      bot = e.bot;
+      action = e.action;
+      moved = e.moved;
+      patch = plain_patch e.patch;
+    }
+
 -- an activation of the model, whole in one step: f decides the entry's change on what the old configuration shows to the entry's
--- amoebot, which is there, and its patch leads from the old configuration to the new one
+-- amoebot, which is there, and the new values of its patch lead from the old configuration to the new one
 pub record Step (f : Shown → Verdict) (old : Config) (e : Entry) (new : Config) : Type 0 where
   pub there : IsSome (bot_at old e.bot)
   pub decided : f (shown old e.bot) ≡ verdict.Change (change_of e)
-  pub patched : IsPatched old e.patch new
+  pub patched : IsPatched old (plain_patch e.patch) new
 
 -- the entries, one after another, are steps that lead from old to last
 abbrev pub Run : (Shown → Verdict) → Config → List Entry → Config → Type 0

@@ -1,6 +1,6 @@
-ghost use Rattle.std.specs.Prelude.{◌≡◌, ◌<◌, ◌≤◌, ◌∷◌, ◌++◌, [], length, IsTrue, None};
+ghost use Rattle.std.specs.Prelude.{◌≡◌, ◌<◌, ◌≤◌, ◌∷◌, ◌++◌, ◌&&◌, [], length, IsTrue, None};
 ghost use Rattle.amoebot_state.specs.Limits.{most_pairs};
-ghost use Rattle.amoebot_state.specs.Pairs.{is_alike, are_alike};
+ghost use Rattle.amoebot_state.specs.Pairs.{is_alike, are_alike, triples_alike, plain_patch};
 
 use crate::bot::Bot;
 use arrayvec::ArrayVec;
@@ -38,7 +38,7 @@ impl Default for Cell {
     }
 }
 
-/// The most pairs of a patch.
+/// The most cells of a patch.
 pub const MOST_PAIRS: usize = 10;
 
 /// The most cells of a zone.
@@ -50,13 +50,71 @@ pub(crate) type Cells = ArrayVec<(CellName, Cell), CELL_ROOM>;
 /// Room for the cells of a zone.
 pub const CELL_ROOM: usize = 30;
 
-/// Cells with their new values: a list of at most 10 pairs, in each of which both parts are `Spot` or both are `Body`.
+/// Cells with their values before and after: a list of at most 10 triples, in each of which all parts are `Spot` or all are `Body`.
 #[derive(Drop)]
 pub struct Patch {
-    pairs: ArrayVec<(CellName, Cell), MOST_PAIRS>,
+    triples: ArrayVec<(CellName, Cell, Cell), MOST_PAIRS>,
 }
 
 impl Model for Patch {
+    ghost use Rattle.amoebot_state.specs.Pairs.{triples_alike, Triples};
+
+    ghost Value = { Triples };
+
+    ghost view = { λ p. p.triples.items };
+
+    ghost invariant = { λ p. triples_alike p.triples.items };
+}
+
+impl Patch {
+    /// No cell.
+    #[inline(always)]
+    pub fn new() -> Patch
+        ensures { result ≡ [] }
+    {
+        Patch {
+            triples: ArrayVec::new(),
+        }
+    }
+
+    /// Adds a cell last, with its value before and its value after.
+    #[inline(always)]
+    pub fn push(&mut self, name: CellName, before: Cell, after: Cell)
+        requires room { length self.old < most_pairs }
+        requires alike { IsTrue (is_alike name before && is_alike name after) }
+        ensures { self.new ≡ self.old ++ (name, before, after) ∷ [] }
+    {
+        self.triples.push((name, before, after));
+    }
+
+    /// The list of the triples.
+    pub fn triples(&self) -> &[(CellName, Cell, Cell)]
+        ensures value { result.now ≡ self.now }
+        ensures few { length self.now ≤ most_pairs }
+        ensures alike { triples_alike self.now }
+    {
+        self.triples.as_slice()
+    }
+
+    /// The cells with their values after.
+    pub fn plain(&self) -> PlainPatch
+        ensures { result ≡ plain_patch self.now }
+    {
+        let mut plain = PlainPatch::new();
+        for (name, _, after) in self.triples() {
+            plain.push(*name, *after);
+        }
+        plain
+    }
+}
+
+/// A patch without the values before: a list of at most 10 pairs, in each of which both parts are `Spot` or both are `Body`.
+#[derive(Drop)]
+pub struct PlainPatch {
+    pairs: ArrayVec<(CellName, Cell), MOST_PAIRS>,
+}
+
+impl Model for PlainPatch {
     ghost use Rattle.amoebot_state.specs.Pairs.{are_alike, Pairs};
 
     ghost Value = { Pairs };
@@ -66,12 +124,12 @@ impl Model for Patch {
     ghost invariant = { λ p. are_alike p.pairs.items };
 }
 
-impl Patch {
+impl PlainPatch {
     /// No pair.
-    pub fn new() -> Patch
+    pub fn new() -> PlainPatch
         ensures { result ≡ [] }
     {
-        Patch {
+        PlainPatch {
             pairs: ArrayVec::new(),
         }
     }

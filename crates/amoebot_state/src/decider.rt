@@ -1,6 +1,6 @@
 ghost use Rattle.std.specs.Prelude.{◌≡◌};
 ghost use Rattle.amoebot_state.specs.Zones.{Shown};
-ghost use Rattle.amoebot_state.specs.Steps.{TouchesZone, HasPatchedWorld, ListsDifferences};
+ghost use Rattle.amoebot_state.specs.Steps.{IsLawful, TouchesZone, HasPatchedWorld, ListsDifferences, OldValuesAreFound};
 ghost use Rattle.amoebot_state.specs.declared.verdict.Verdict.{Verdict};
 
 use crate::found::Found;
@@ -14,14 +14,9 @@ pub trait Decider: Sync {
     fn decide(&self, found: &Found) -> Verdict
         ensures { result ≡ verdict self.now found.now };
 
-    /// A patch touches cells of the zone alone.
-    ghost touches_zone: { (decider : Self) → TouchesZone (verdict decider) };
-
-    /// Each valid configuration that shows what was found has one that the patch leads to.
-    ghost has_next: { (decider : Self) → HasPatchedWorld (verdict decider) };
-
-    /// A patch is in its order, and holds only cells whose value differs.
-    ghost is_exact: { (decider : Self) → ListsDifferences (verdict decider) };
+    /// A patch touches cells of the zone alone; each valid configuration that shows what was found has one that the patch leads to; a
+    /// patch is in its order, and holds only cells whose value differs; its old values are those found.
+    ghost is_lawful: { (decider : Self) → IsLawful (verdict decider) };
 }
 
 /// The first law of a decider, for a caller that needs it: its patches touch cells of the zone alone.
@@ -37,4 +32,9 @@ pub fn has_next<D: Decider>(_decider: &D)
 /// The third law: its patches are in their order, and hold only cells whose value differs.
 pub fn is_exact<D: Decider>(_decider: &D)
     ensures { ListsDifferences (D.verdict _decider.now) }
+{}
+
+/// The fourth law: the old values of its patches are those found.
+pub fn old_values_are_found<D: Decider>(_decider: &D)
+    ensures { OldValuesAreFound (D.verdict _decider.now) }
 {}

@@ -1,6 +1,7 @@
 ghost use Rattle.std.specs.Prelude.{◌≡◌, ◌∷◌, ◌++◌, [], OnOk, OnErr};
 ghost use Rattle.amoebot_state.specs.Configs.{is_close, has_values};
 ghost use Rattle.amoebot_state.specs.Storage.{put_at, put_bot, put_spot, put_bots, put_spots};
+ghost use Rattle.amoebot_state.specs.Pairs.{plain_patch};
 ghost use Rattle.tri_lattice.specs.Lattice.{IsNear};
 ghost use Rattle.tri_lattice.specs.Extent.{index_of};
 
@@ -63,18 +64,18 @@ fn put_at(occupants: &mut Vec<Option<u16>>, number: Option<u32>, occupant: Optio
     }
 }
 
-/// Gives the cells of a patch their values.
+/// Gives the cells of a patch their new values.
 pub(crate) fn put_all(
     area: &Area,
     amoebots: &mut Vec<Bot>,
     occupants: &mut Vec<Option<u16>>,
-    pairs: &[(CellName, Cell)],
+    triples: &[(CellName, Cell, Cell)],
 )
-    ensures bots { amoebots.new.items ≡ put_bots amoebots.old.items pairs.now }
-    ensures grid { occupants.new.items ≡ put_spots area.now occupants.old.items pairs.now }
+    ensures bots { amoebots.new.items ≡ put_bots amoebots.old.items (plain_patch triples.now) }
+    ensures grid { occupants.new.items ≡ put_spots area.now occupants.old.items (plain_patch triples.now) }
 {
-    for pair in pairs {
-        put(area, amoebots, occupants, pair.0, pair.1);
+    for triple in triples {
+        put(area, amoebots, occupants, triple.0, triple.2);
     }
 }
 

@@ -6,7 +6,7 @@ ghost use Rattle.amoebot_state.specs.Laws.{ZoneListsEachCellOnce, ZoneHasAtMostT
 ghost use Rattle.amoebot_state.specs.Laws.{NodeBehindPortIsInZone, OccupantBehindPortIsInZone};
 ghost use Rattle.amoebot_state.specs.Laws.{ShownAloneShowsTheSame, PatchedIsUnique, PatchListsWhatDiffers};
 ghost use Rattle.amoebot_state.specs.Laws.{StepHasOneResult, RunHasOneLast, SameValueIsEquality, DiffLeads};
-ghost use Rattle.amoebot_state.specs.Laws.{OrderedPatchIsDiff, ValidIsFaultless, FaultlessIsValid};
+ghost use Rattle.amoebot_state.specs.Laws.{OrderedPatchIsDiff, OldValuesAreOne, ValidIsFaultless, FaultlessIsValid};
 ghost use Rattle.amoebot_state.specs.Laws.{FirstFaultIsUnique, FaultlessHasNoFault, ShownAloneIsValid};
 ghost use Rattle.amoebot_state.specs.Laws.{ShownAloneHoldsTheSame, OccupiedIsOccupant, PortLeadsBeside};
 ghost use Rattle.amoebot_state.specs.Laws.{ShownAloneHasTheZone, NoneIsOutsideTheZone, BesideHoldsTheSame};
@@ -151,14 +151,20 @@ pub fn same_value_is_equality()
 {}
 
 /// The difference of two valid configurations with the same area, the same greatest values and the same ids leads from
-/// the old one to the new one, and each cell that it lists differs.
+/// the old one to the new one; each cell that it lists differs, and its old values are those of the old one.
 pub fn diff_leads()
     ensures { DiffLeads }
 {}
 
-/// An ordered patch that leads from one valid configuration to another, and each of whose pairs differs, is their difference.
+/// An ordered patch that leads from one valid configuration to another, each of whose cells differs, and whose old values are
+/// those of the first one, is their difference.
 pub fn ordered_patch_is_diff()
     ensures { OrderedPatchIsDiff }
+{}
+
+/// Patches with the same cells and new values, and with the old values of one configuration, are one.
+pub fn old_values_are_one()
+    ensures { OldValuesAreOne }
 {}
 
 /// No amoebot of a valid configuration is refused.

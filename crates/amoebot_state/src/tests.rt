@@ -209,9 +209,9 @@ fn an_expansion_is_applied(rt: HostRuntime) -> Result<(), Fail> {
     let goal = world_of(rt.alloc(), &[STRETCHED])?;
     assert_eq!(rt; goal.found(0).bot(), 0);
     let mut patch = Patch::new();
-    patch.push(CellName::Spot(NEXT), Cell::Spot(Some(0)));
-    patch.push(CellName::Body(0), Cell::Body(STRETCHED));
-    assert_eq!(rt; patch.pairs().len(), 2);
+    patch.push(CellName::Spot(NEXT), Cell::Spot(None), Cell::Spot(Some(0)));
+    patch.push(CellName::Body(0), Cell::Body(ALONE), Cell::Body(STRETCHED));
+    assert_eq!(rt; patch.triples().len(), 2);
     assert_eq!(rt; world.same(&goal), false);
     world.apply(&patch);
     assert_eq!(rt; world.same(&goal), true);

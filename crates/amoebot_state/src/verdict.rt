@@ -1,5 +1,8 @@
+ghost use Rattle.std.specs.Prelude.{◌≡◌};
+ghost use Rattle.amoebot_state.specs.Steps.{plain_entry};
+
 use crate::bot::{End, Port};
-use crate::cell::Patch;
+use crate::cell::{Patch, PlainPatch};
 
 /// Why an activation failed. A failed activation changes nothing (this project's profile).
 #[derive(Clone, Copy, Debug, Drop, PartialEq, Eq)]
@@ -65,6 +68,33 @@ pub struct Entry {
     pub action: u8,
     pub moved: Moved,
     pub patch: Patch,
+}
+
+/// A committed activation, without the values that its cells had before.
+#[derive(Drop)]
+pub struct PlainEntry {
+    pub caller: u8,
+    pub turn: u32,
+    pub bot: u16,
+    pub action: u8,
+    pub moved: Moved,
+    pub patch: PlainPatch,
+}
+
+impl Entry {
+    /// The entry without the old values of its patch.
+    pub fn plain(&self) -> PlainEntry
+        ensures { result ≡ plain_entry self.now }
+    {
+        PlainEntry {
+            caller: self.caller,
+            turn: self.turn,
+            bot: self.bot,
+            action: self.action,
+            moved: self.moved,
+            patch: self.patch.plain(),
+        }
+    }
 }
 
 /// What a turn did: an entry for the journal, or nothing.

@@ -5,7 +5,7 @@ ghost use Rattle.amoebot_state.specs.Configs.{Config, IsValid, bot_at, is_wall, 
 ghost use Rattle.amoebot_state.specs.Zones.{IsShown, shown, shown_cell, shown_with, zone, zone_nodes, others};
 ghost use Rattle.amoebot_state.specs.Known.{walls_read};
 ghost use Rattle.amoebot_state.specs.Ways.{reading};
-ghost use Rattle.amoebot_state.specs.Pairs.{nodes_in};
+ghost use Rattle.amoebot_state.specs.Pairs.{nodes_in, plain_patch};
 ghost use Rattle.tri_lattice.specs.Extent.{index_of};
 ghost use Rattle.amoebot_state.specs.Patches.{IsPatched, HasPatched};
 ghost use Rattle.amoebot_state.specs.Refusals.{AreWalls, IsBotInRange, IsFaultless, IsFirstFault, IsFirstRefusal, bot_fault};
@@ -383,16 +383,16 @@ impl World {
         }
     }
 
-    /// Gives the cells of the patch their values, which have to lead to a valid world with the same ids.
+    /// Gives the cells of the patch their new values, which have to lead to a valid world with the same ids.
     pub fn apply(&mut self, patch: &Patch)
-        requires { HasPatched self.old patch.now }
-        ensures { IsPatched self.old patch.now self.new }
+        requires { HasPatched self.old (plain_patch patch.now) }
+        ensures { IsPatched self.old (plain_patch patch.now) self.new }
     {
         put_all(
             self.frame.area(),
             &mut self.amoebots,
             &mut self.occupants,
-            patch.pairs(),
+            patch.triples(),
         );
     }
 }
