@@ -1,5 +1,5 @@
 -- What a run leaves of a configuration: its area, its maxima and its ids; and that the lists' amoebots are there.
-use Rattle.std.proofs.Common.{◌≡◌, ℕ, ◌*◌, ◌%◌, ◌<◌, ◌≤◌, List, [], ◌∷◌, length, ap, sym, refl, subst, ◌∙◌, arith}
+use Rattle.std.proofs.Common.{ℕ, ◌*◌, ◌%◌, ◌<◌, ◌≤◌, List, [], ◌∷◌, length, ap, sym, refl, subst, ◌∙◌, arith}
 use Rattle.std.specs.Prelude.{IsSome}
 use Rattle.amoebot_state.specs.declared.verdict.Entry.{Entry}
 use Rattle.amoebot_state.specs.declared.verdict.Verdict.{Verdict}

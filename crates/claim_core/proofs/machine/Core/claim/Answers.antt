@@ -1,12 +1,9 @@
-use Rattle.std.proofs.Common.{◌≡◌, ◌++◌, ◌∷◌, [], refl, sym, ap, ◌∙◌, subst, arith, List, ℕ, set}
+use Rattle.std.proofs.Common.{◌≡◌, ◌++◌, ◌∷◌, [], refl, sym, ap, ◌∙◌, subst, arith, set}
 use Rattle.std.proofs.Math.ListN.{length-set}
 use Rattle.std.proofs.lemmas.Option.{none-some, same_Some}
-use Rattle.tri_lattice.specs.Extent.{Extent}
-use Rattle.amoebot_state.specs.Configs.{frame_of}
-use Rattle.amoebot_state.specs.Pairs.{Pairs}
 use Rattle.amoebot_state.specs.Known.{next_cell}
 use Rattle.amoebot_state.specs.Ways.{reading}
-use Rattle.amoebot_state.specs.Zones.{Shown, IsShown, shown_with}
+use Rattle.amoebot_state.specs.Zones.{IsShown, shown_with}
 use Rattle.claim_core.specs.declared.machine.CoreCaller.{CoreCaller}
 use Rattle.claim_core.specs.declared.state.Phase.TheVariants as phase
 use Rattle.claim_core.specs.Turns.{bot_of_turn}
