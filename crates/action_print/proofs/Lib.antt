@@ -4,3 +4,4 @@ pub mod Leaves
 pub mod ExpressionsRead
 pub mod StatementsRead
 pub mod ProgramsRead
+pub mod Lineless

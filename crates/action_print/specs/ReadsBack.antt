@@ -34,3 +34,7 @@ CanonIsRead =
     → (ts : List Lexeme) (last : Refusal)
     → AreTokens (canon p) 0 ts last
     → (q : Program) × (a_program last ts ≡ Ok (q, [])) × (without_lines q ≡ without_lines p)
+
+-- programs that are equal without their lines have one canonical text
+abbrev pub CanonIgnoresLines : Type 0
+CanonIgnoresLines = (p q : Program) → without_lines p ≡ without_lines q → canon p ≡ canon q

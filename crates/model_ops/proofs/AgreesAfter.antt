@@ -128,9 +128,9 @@ module _ (V : Node → Type 0) (B : ℕ → Type 0) (i : ℕ) (c d : Config) (ag
         valid_too = second.valid;
         there = first.there;
         there_too = second.there;
-        area = ap (λ (y : Config). y.area) second.rest ∙ agree.area ∙ sym (ap (λ (y : Config). y.area) first.rest);
-        maxes = ap (λ (y : Config). y.maxes) second.rest ∙ agree.maxes ∙ sym (ap (λ (y : Config). y.maxes) first.rest);
-        walls = λ v near. ap (λ (y : Config). is_wall y v) second.rest ∙ agree.walls v near ∙ sym (ap (λ (y : Config). is_wall y v) first.rest);
+        area = ap (λ (y : Config). y.area) second.same.rest ∙ agree.area ∙ sym (ap (λ (y : Config). y.area) first.same.rest);
+        maxes = ap (λ (y : Config). y.maxes) second.same.rest ∙ agree.maxes ∙ sym (ap (λ (y : Config). y.maxes) first.same.rest);
+        walls = λ v near. ap (λ (y : Config). is_wall y v) second.same.rest ∙ agree.walls v near ∙ sym (ap (λ (y : Config). is_wall y v) first.same.rest);
         spots = λ v near. second.spots v ∙ agree.spots v near ∙ sym (first.spots v);
         bots = λ j b. ap (λ y. bot_at y j) is_d ∙ set_alike n k x bot one.owns.there there j b ∙ sym (ap (λ y. bot_at y j) one.is);
         own = agree.own;

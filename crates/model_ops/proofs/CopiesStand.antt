@@ -6,6 +6,7 @@ use Rattle.std.specs.declared.result.Result.TheVariants.{Ok}
 use Rattle.amoebot_state.specs.declared.verdict.Failure.{Failure}
 use Rattle.amoebot_state.specs.declared.verdict.Moved.TheVariants as moved
 use Rattle.amoebot_state.specs.Configs.{Config, bot_at}
+use Rattle.amoebot_state.specs.Pairs.{plain_patch}
 use Rattle.amoebot_state.specs.Zones.{Shown, IsShown, shown, shown_alone}
 use Rattle.amoebot_state.proofs.ShownAlone.{shown_alone_shows_the_same, alone_own}
 use Rattle.amoebot_state.proofs.Patched.{patched_is_unique}
@@ -65,7 +66,7 @@ copy_stands_for_worlds w d works valid same =
     let also = reached_leads_also c d i first w.reached valid_c valid there shows e in
     let same_acts : (acts : Acts) → perform c i acts ≡ Ok w.reached → perform d i acts ≡ Ok also.reached = λ acts f.
     let more = reached_leads_also c d i acts w.reached valid_c valid there shows f in
-    more.performed ∙ ap Ok (patched_is_unique d more.reached also.reached (changes w) more.patched also.patched) in
+    more.performed ∙ ap Ok (patched_is_unique d more.reached also.reached (plain_patch (changes w)) more.patched also.patched) in
     record {
       reached = also.reached;
       same_acts = same_acts;

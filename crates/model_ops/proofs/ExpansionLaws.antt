@@ -6,7 +6,7 @@ use Rattle.amoebot_state.specs.declared.verdict.Moved.TheVariants as moved
 use Rattle.amoebot_state.specs.declared.verdict.Verdict.TheVariants as verdict
 use Rattle.amoebot_state.specs.Ports.{is_contracted}
 use Rattle.amoebot_state.specs.Configs.{bot_of}
-use Rattle.amoebot_state.specs.Steps.{TouchesZone, HasPatchedWorld, ListsDifferences}
+use Rattle.amoebot_state.specs.Steps.{IsLawful}
 use Rattle.amoebot_state.specs.Zones.{Shown, shown_alone}
 use Rattle.model_ops.specs.Deciders.{DecidesByActs}
 use Rattle.model_ops.specs.Expansion.{verdict_by, expansion_verdict_shown}
@@ -29,11 +29,5 @@ expansion_made p s = chosen (is_contracted (bot_of (shown_alone s) s.bot))
 expansion_decides_by_acts : (p : Port) → DecidesByActs (expansion_verdict_shown p)
 expansion_decides_by_acts p s change is e = subst (MadeByActs s) e (expansion_made p s)
 
-pub expansion_touches_zone : (p : Port) → TouchesZone (expansion_verdict_shown p)
-expansion_touches_zone p = (acts_keep_decider_laws (expansion_verdict_shown p) (expansion_decides_by_acts p)).0
-
-pub expansion_has_next : (p : Port) → HasPatchedWorld (expansion_verdict_shown p)
-expansion_has_next p = (acts_keep_decider_laws (expansion_verdict_shown p) (expansion_decides_by_acts p)).1
-
-pub expansion_is_exact : (p : Port) → ListsDifferences (expansion_verdict_shown p)
-expansion_is_exact p = (acts_keep_decider_laws (expansion_verdict_shown p) (expansion_decides_by_acts p)).2
+pub expansion_is_lawful : (p : Port) → IsLawful (expansion_verdict_shown p)
+expansion_is_lawful p = acts_keep_decider_laws (expansion_verdict_shown p) (expansion_decides_by_acts p)

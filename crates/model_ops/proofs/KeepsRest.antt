@@ -13,6 +13,7 @@ use Rattle.amoebot_state.proofs.Options.{there_is}
 use Rattle.model_ops.specs.Laws.{KeepsRest, ReachedKeepsRest}
 use Rattle.model_ops.specs.Reaches.{Acts, write_all, move, perform}
 use Rattle.model_ops.proofs.Told.{then_told, bot_is}
+use Rattle.model_ops.proofs.SameIds.{both_same}
 use Rattle.model_ops.proofs.Moved.{Moves, movement}
 use Rattle.model_ops.proofs.Written.{Writes, all_written}
 
@@ -50,9 +51,7 @@ keeps_rest c i acts d done =
     let moves = done.moves in
     record {
       valid = moves.valid;
-      rest = moves.rest ∙ ap (λ (x : Config). let y : Config = record x { bots = d.bots } in y) writes.rest;
-      size = moves.size ∙ writes.size;
-      ids = λ j. moves.ids j ∙ writes.ids j;
+      same = both_same c done.between d writes.same moves.same;
       beyond = λ n lacks. beyond c done.between d i writes moves n (λ has. lacks (Contains-from_Has (zone c i) has));
     }
 

@@ -2,6 +2,7 @@ mod OperationExamples
 pub mod Told
 pub mod Becomes
 pub mod OneArcs
+pub mod SameIds
 pub mod SmallMoves
 pub mod Neighbours
 pub mod Movements

@@ -1,6 +1,5 @@
 -- What a movement that succeeds changes: at most one node and two bodies, all of them of the zone.
-use Rattle.std.proofs.Common.{◌≡◌, ◌≢◌, ℕ, length, Bool, true, ap, sym, ◌∙◌, refl, subst, Some}
-use Rattle.std.specs.Prelude.{is_some}
+use Rattle.std.proofs.Common.{◌≡◌, ◌≢◌, ℕ, Bool, true, ap, sym, ◌∙◌, refl, subst, Some}
 use Rattle.std.specs.declared.result.Result.TheVariants.{Ok}
 use Rattle.std.proofs.lemmas.Bool.{or_left}
 use Rattle.tri_lattice.specs.declared.node.Node.{Node}
@@ -11,6 +10,7 @@ use Rattle.amoebot_state.specs.declared.verdict.Moved.{Moved}
 use Rattle.amoebot_state.specs.declared.verdict.Moved.TheVariants as moved
 use Rattle.amoebot_state.specs.Ports.{is_own, behind, end_node, is_beside}
 use Rattle.amoebot_state.specs.Configs.{Config, IsValid, bot_at, bot_of, occupant, covers}
+use Rattle.amoebot_state.specs.Patches.{HasSameIds}
 use Rattle.amoebot_state.specs.Zones.{zone}
 use Rattle.amoebot_state.proofs.Members.{Has}
 use Rattle.amoebot_state.proofs.Directions.{beside_in_zone, port_leads_beside}
@@ -20,6 +20,7 @@ use Rattle.model_ops.specs.Operations.{grow, shrink}
 use Rattle.model_ops.specs.Reaches.{move}
 use Rattle.model_ops.proofs.Told.{ok_told}
 use Rattle.model_ops.proofs.Neighbours.{end_own}
+use Rattle.model_ops.proofs.SameIds.{still_same, both_same}
 use Rattle.model_ops.proofs.SmallMoves.{SmallMove, shrunk, grown}
 use Rattle.model_ops.proofs.Movements.{Passes, expand_told, contract_told, push_told, pull_told}
 
@@ -28,9 +29,7 @@ pub record Moves (c : Config) (i : ℕ) (d : Config) : Type 0 where
   pub node : Node
   pub peer : ℕ
   pub valid : IsValid d
-  pub rest : d ≡ record c { bots = d.bots }
-  pub size : length d.bots ≡ length c.bots
-  pub ids : (j : ℕ) → is_some (bot_at d j) ≡ is_some (bot_at c j)
+  pub same : HasSameIds c d
   pub spots : (u : Node) → u ≢ node → occupant d u ≡ occupant c u
   pub bots : (j : ℕ) → j ≢ i → j ≢ peer → bot_at d j ≡ bot_at c j
   pub node_listed : Has (name.Spot node) (zone c i)
@@ -53,9 +52,7 @@ module _ (c : Config) (i : ℕ) (valid : IsValid c) (at : bot_at c i ≡ Some (b
     node = v;
     peer = i;
     valid = done.valid;
-    rest = done.rest;
-    size = done.size;
-    ids = done.ids;
+    same = done.same;
     spots = done.spots;
     bots = λ j ne _. done.bots j ne;
     node_listed = listed;
@@ -72,9 +69,7 @@ module _ (c : Config) (i : ℕ) (valid : IsValid c) (at : bot_at c i ≡ Some (b
         node = v;
         peer = peer;
         valid = second.valid;
-        rest = refl;
-        size = second.size ∙ first.size;
-        ids = λ j. second.ids j ∙ first.ids j;
+        same = both_same c (shrink c one v) (grow (shrink c one v) two v) first.same second.same;
         spots = λ u ne. second.spots u ne ∙ first.spots u ne;
         bots = λ j ne other. let both = apart j ne other in second.bots j both.1 ∙ first.bots j both.0;
         node_listed = listed;
@@ -87,9 +82,7 @@ module _ (c : Config) (i : ℕ) (valid : IsValid c) (at : bot_at c i ≡ Some (b
     node = (bot_of c i).head;
     peer = i;
     valid = valid;
-    rest = refl;
-    size = refl;
-    ids = λ j. refl;
+    same = still_same c;
     spots = λ u ne. refl;
     bots = λ j ne other. refl;
     own_listed = own_in_zone c i (bot_of c i) at;

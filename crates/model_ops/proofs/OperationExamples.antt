@@ -1,17 +1,16 @@
 -- The operations at small values, computed: what is expected was written out by hand.
-use Rattle.std.proofs.Common.{◌≡◌, ℕ, List, pos, negsuc, [], ◌∷◌, refl, true, false, None, Some}
+use Rattle.std.proofs.Common.{◌≡◌, ℕ, List, pos, negsuc, [], ◌∷◌, refl, true, false, None, Some, Option}
 use Rattle.std.specs.declared.result.Result.TheVariants.{Ok, Err}
 use Rattle.tri_lattice.specs.declared.node.Node.{Node}
 use Rattle.tri_lattice.specs.Extent.{Extent}
 use Rattle.amoebot_state.specs.declared.bot.Bot.{Bot}
 use Rattle.amoebot_state.specs.declared.bot.Chir.TheVariants.{Plus, Minus}
 use Rattle.amoebot_state.specs.declared.bot.End.TheVariants.{Head, Tail}
-use Rattle.amoebot_state.specs.declared.cell.CellName.{CellName}
 use Rattle.amoebot_state.specs.declared.cell.CellName.TheVariants as name
-use Rattle.amoebot_state.specs.declared.cell.Cell.{Cell}
 use Rattle.amoebot_state.specs.declared.cell.Cell.TheVariants as cell
 use Rattle.amoebot_state.specs.declared.verdict.Failure.TheVariants.{NoPort, NoNeighbour, OutOfRange, Occupied, NotContracted, NotExpanded, PeerNotExpanded, PeerNotContracted, Edge, WouldSplit}
 use Rattle.amoebot_state.specs.declared.verdict.Moved.TheVariants as moved
+use Rattle.amoebot_state.specs.Pairs.{CellChange}
 use Rattle.amoebot_state.specs.Ports.{port}
 use Rattle.amoebot_state.specs.Configs.{Config, frame_of, with_these}
 use Rattle.amoebot_state.specs.Zones.{shown, shown_alone}
@@ -35,15 +34,12 @@ bot head tail m = record { head = head; tail = tail; rot = 0; chir = Plus; mem =
 abbrev world : ℕ → List Bot → Config
 world max bots = let area : Extent = record { x0 = pos 0; y0 = pos 0; w = 8; h = 8 } in with_these (frame_of area (first max)) bots
 
--- pairs of a patch: a node with its occupant, a node without one, a body
-abbrev held : ℕ → ℕ → ℕ → CellName × Cell
-held x y i = (name.Spot (at x y), cell.Spot (Some i))
+-- what becomes of cells: a node with its occupants, if it has them, and a body
+abbrev spot : ℕ → ℕ → Option ℕ → Option ℕ → CellChange
+spot x y was now = (name.Spot (at x y), cell.Spot was, cell.Spot now)
 
-abbrev empty : ℕ → ℕ → CellName × Cell
-empty x y = (name.Spot (at x y), cell.Spot None)
-
-abbrev body : ℕ → Bot → CellName × Cell
-body i b = (name.Body i, cell.Body b)
+abbrev body : ℕ → Bot → Bot → CellChange
+body i was now = (name.Body i, cell.Body was, cell.Body now)
 
 -- two neighbours: a write succeeds, and the movement after it fails
 abbrev neighbours : Config
@@ -68,7 +64,7 @@ alone_out = world 0 (bot (at 3 3) (at 2 3) 0 ∷ [])
 expands : expand alone 0 (port Head 0) ≡ Ok alone_out
 expands = refl
 
-expansion_changes : diff alone alone_out ≡ held 3 3 0 ∷ body 0 (bot (at 3 3) (at 2 3) 0) ∷ []
+expansion_changes : diff alone alone_out ≡ spot 3 3 None (Some 0) ∷ body 0 (bot (at 2 3) (at 2 3) 0) (bot (at 3 3) (at 2 3) 0) ∷ []
 expansion_changes = refl
 
 -- it does not expand once more, nor through what is no port of it, nor into another amoebot
@@ -98,7 +94,7 @@ after_push = world 0 (bot (at 3 3) (at 2 3) 0 ∷ bot (at 4 3) (at 4 3) 0 ∷ []
 pushes : push before_push 0 (port Head 0) ≡ Ok after_push
 pushes = refl
 
-push_changes : diff before_push after_push ≡ held 3 3 0 ∷ body 0 (bot (at 3 3) (at 2 3) 0) ∷ body 1 (bot (at 4 3) (at 4 3) 0) ∷ []
+push_changes : diff before_push after_push ≡ spot 3 3 (Some 1) (Some 0) ∷ body 0 (bot (at 2 3) (at 2 3) 0) (bot (at 3 3) (at 2 3) 0) ∷ body 1 (bot (at 3 3) (at 4 3) 0) (bot (at 4 3) (at 4 3) 0) ∷ []
 push_changes = refl
 
 contracted_is_not_pushed : push neighbours 0 (port Head 0) ≡ Err PeerNotExpanded
@@ -114,7 +110,7 @@ pulled = world 0 (bot (at 3 3) (at 3 3) 0 ∷ bot (at 2 3) (at 1 3) 0 ∷ [])
 pulls : pull train 0 (port Tail 3) ≡ Ok pulled
 pulls = refl
 
-pull_changes : diff train pulled ≡ held 2 3 1 ∷ body 0 (bot (at 3 3) (at 3 3) 0) ∷ body 1 (bot (at 2 3) (at 1 3) 0) ∷ []
+pull_changes : diff train pulled ≡ spot 2 3 (Some 0) (Some 1) ∷ body 0 (bot (at 3 3) (at 2 3) 0) (bot (at 3 3) (at 3 3) 0) ∷ body 1 (bot (at 1 3) (at 1 3) 0) (bot (at 2 3) (at 1 3) 0) ∷ []
 pull_changes = refl
 
 -- the node between the two may not be left with the guard on
@@ -127,7 +123,7 @@ parted = world 0 (bot (at 3 3) (at 3 3) 0 ∷ bot (at 1 3) (at 1 3) 0 ∷ [])
 unguarded_parts : contract train 0 false Tail ≡ Ok parted
 unguarded_parts = refl
 
-parting_changes : diff train parted ≡ empty 2 3 ∷ body 0 (bot (at 3 3) (at 3 3) 0) ∷ []
+parting_changes : diff train parted ≡ spot 2 3 (Some 0) None ∷ body 0 (bot (at 3 3) (at 2 3) 0) (bot (at 3 3) (at 3 3) 0) ∷ []
 parting_changes = refl
 
 -- two ports that lead to one neighbour, whose memory is written through both
@@ -140,7 +136,7 @@ both_ports = refl
 between_the_writes : read (world 3 (bot (at 3 3) (at 2 3) 0 ∷ bot (at 2 4) (at 2 4) 1 ∷ [])) 0 (Some (port Head 2)) 0 ≡ Ok 1
 between_the_writes = refl
 
-both_ports_change : diff under (world 3 (bot (at 3 3) (at 2 3) 0 ∷ bot (at 2 4) (at 2 4) 2 ∷ [])) ≡ body 1 (bot (at 2 4) (at 2 4) 2) ∷ []
+both_ports_change : diff under (world 3 (bot (at 3 3) (at 2 3) 0 ∷ bot (at 2 4) (at 2 4) 2 ∷ [])) ≡ body 1 (bot (at 2 4) (at 2 4) 0) (bot (at 2 4) (at 2 4) 2) ∷ []
 both_ports_change = refl
 
 -- a value above its maximum, or below 0
@@ -202,5 +198,5 @@ push_in_gap = refl
 push_far : push far 1 (port Head 0) ≡ Ok (world 0 (bot (at 7 7) (at 7 7) 0 ∷ bot (at 3 3) (at 2 3) 0 ∷ bot (at 4 3) (at 4 3) 0 ∷ bot (at 0 7) (at 0 7) 0 ∷ []))
 push_far = refl
 
-push_changes_in_gap : changes (record { found = shown far 1; reached = gap_pushed }) ≡ held 3 3 1 ∷ body 1 (bot (at 3 3) (at 2 3) 0) ∷ body 2 (bot (at 4 3) (at 4 3) 0) ∷ []
+push_changes_in_gap : changes (record { found = shown far 1; reached = gap_pushed }) ≡ spot 3 3 (Some 2) (Some 1) ∷ body 1 (bot (at 2 3) (at 2 3) 0) (bot (at 3 3) (at 2 3) 0) ∷ body 2 (bot (at 3 3) (at 4 3) 0) (bot (at 4 3) (at 4 3) 0) ∷ []
 push_changes_in_gap = refl

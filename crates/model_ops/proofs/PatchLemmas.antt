@@ -4,9 +4,11 @@ use Rattle.std.specs.List.{All, find}
 use Rattle.std.specs.Prelude.{IsSome, is_some}
 use Rattle.std.specs.Option.{option_map}
 use Rattle.std.proofs.lemmas.Bool.{cases_Bool, both_ways, eqb-true, eq-eqb, false≢true, not-false, not-true}
+use Rattle.std.proofs.lemmas.List.{map-append}
+use Rattle.std.proofs.lemmas.Simd.{map-map}
 use Rattle.std.proofs.lemmas.Option.{none-some, same_Some}
 use Rattle.std.proofs.Math.Bool.{or-true}
-use Rattle.std.proofs.lemmas.List.Elements.{All-head, All-contains}
+use Rattle.std.proofs.lemmas.List.Elements.{All-nil, All-cons, All-head, All-append, All-map, All-contains}
 use Rattle.amoebot_state.specs.declared.cell.CellName.{CellName}
 use Rattle.amoebot_state.specs.declared.cell.CellName.TheVariants as name
 use Rattle.amoebot_state.specs.declared.cell.Cell.{Cell}
@@ -15,18 +17,18 @@ use Rattle.tri_lattice.specs.declared.node.Node.{Node}
 use Rattle.tri_lattice.proofs.Nodes.{cases_node}
 use Rattle.amoebot_state.specs.declared.bot.Bot.{Bot}
 use Rattle.amoebot_state.specs.Ports.{is_own}
-use Rattle.amoebot_state.specs.Pairs.{cell_of, cell_value}
+use Rattle.amoebot_state.specs.Pairs.{CellChange, Pairs, cell_of, cell_value, plain_triple, plain_patch}
 use Rattle.amoebot_state.specs.Configs.{Config, IsValid, bot_at, bot_of, occupant, value}
-use Rattle.amoebot_state.specs.Patches.{IsOrdered, bot_eq, id_eq, rank, diff}
+use Rattle.amoebot_state.specs.Patches.{IsOrdered, IsPatched, HasOldValues, bot_eq, id_eq, rank, diff}
 use Rattle.amoebot_state.specs.Zones.{shown, shown_alone}
-use Rattle.amoebot_state.proofs.Differences.{ordered_patch_is_diff}
+use Rattle.amoebot_state.proofs.OldValues.{ordered_patch_is_diff}
 use Rattle.amoebot_state.proofs.Shows.{shown_valid}
 use Rattle.amoebot_state.proofs.Members.{Has, here, later, has_cases, not_in_none, Has-append_cases, Has-append_right, Has-map, map_has, Has-filter, filter_has, All-from_Has, Contains-from_Has}
 use Rattle.amoebot_state.proofs.Owns.{own_cases}
 use Rattle.amoebot_state.proofs.Values.{value_same, bot_eq-true, id_eq-true}
 use Rattle.amoebot_state.proofs.RisingLists.{Rising, none, more, Rising-append, Rising-weaker, Rising-map, increasing-from_Rising}
 use Rattle.model_ops.specs.declared.member.Member.{Member}
-use Rattle.model_ops.specs.Members.{AreApart, IsSite, ranked, has_id, changed_cells, body_now, config_found, config_now, id_found_on, id_on, has_changed, nodes_of, changed_spot, is_changed}
+use Rattle.model_ops.specs.Members.{AreApart, IsSite, ranked, has_id, changed_cells, body_change, body_now, config_found, config_now, id_found_on, id_on, has_changed, nodes_of, changed_spot, is_changed}
 use Rattle.model_ops.proofs.Members.{bot_by, find_first, occupant_of}
 use Rattle.model_ops.proofs.Ranked.{IsBelow, AreRising, ranked_has, Has-ranked, rising_ranked, apart_filter}
 use Rattle.model_ops.proofs.OneNode.{OneNode, one_node}
@@ -142,12 +144,12 @@ module _ (c : Config) (own : ℕ) (ms : List Member) (m : Member) (apart : AreAp
 
   -- the pairs that are listed
   abbrev spots : List (CellName × Cell)
-  spots = changed_spot ms (find (has_changed ms) (nodes_of m))
+  spots = plain_patch (changed_spot ms (find (has_changed ms) (nodes_of m)))
 
   abbrev bodies : List (CellName × Cell)
   bodies = map body_now (ranked (filter is_changed ms))
 
-  spot_told : (p : CellName × Cell) (o : Option Node) → find (has_changed ms) (nodes_of m) ≡ o → Has p (changed_spot ms o) → (v : Node) × (has_changed ms v ≡ true) × (p ≡ (name.Spot v, cell.Spot (id_on ms v)))
+  spot_told : (p : CellName × Cell) (o : Option Node) → find (has_changed ms) (nodes_of m) ≡ o → Has p (plain_patch (changed_spot ms o)) → (v : Node) × (has_changed ms v ≡ true) × (p ≡ (name.Spot v, cell.Spot (id_on ms v)))
   spot_told p None e has = absurd (not_in_none has)
   spot_told p (Some v) e has = elim (has_cases has) [
     | inl same ↦ (v, (find_told (has_changed ms) (nodes_of m) v e).1, same)
@@ -194,7 +196,7 @@ module _ (c : Config) (own : ℕ) (ms : List Member) (m : Member) (apart : AreAp
             absurd (lacking (name.Body j) (body_now n) lacks (Has-append_right spots pair) (ap name.Body (eqb-true n.id j t)))
       ]
 
-  spot_kept : (v : Node) (o : Option Node) → find (has_changed ms) (nodes_of m) ≡ o → All (λ (q : CellName × Cell). cell_of q ≢ name.Spot v) (changed_spot ms o ++ bodies) → occupant new v ≡ occupant old v
+  spot_kept : (v : Node) (o : Option Node) → find (has_changed ms) (nodes_of m) ≡ o → All (λ (q : CellName × Cell). cell_of q ≢ name.Spot v) (plain_patch (changed_spot ms o) ++ bodies) → occupant new v ≡ occupant old v
   spot_kept v None e lacks = elim (cases_node v one.node) [
     | inl same ↦ spot_same v (ap (has_changed ms) same ∙ find_none (has_changed ms) (nodes_of m) one.node e node_listed)
     | inr ne ↦ one.spots v ne
@@ -213,7 +215,7 @@ module _ (c : Config) (own : ℕ) (ms : List Member) (m : Member) (apart : AreAp
   abbrev key : CellName × Cell → ℕ
   key p = rank (cell_of p)
 
-  spots_rise : (o : Option Node) → Rising key (changed_spot ms o)
+  spots_rise : (o : Option Node) → Rising key (plain_patch (changed_spot ms o))
   spots_rise None = none
   spots_rise (Some v) = more (λ y has. absurd (not_in_none has)) none
 
@@ -226,16 +228,39 @@ module _ (c : Config) (own : ℕ) (ms : List Member) (m : Member) (apart : AreAp
       let (n, listed, f, ne) = body_told q hq in
       omega (arith, ap key e, ap key f)))
 
+  -- these are the pairs of the cells that have changed
+  plain_is : plain_patch (changed_cells ms m) ≡ spots ++ bodies
+  plain_is =
+      let members = ranked (filter is_changed ms) in
+      map-append plain_triple (changed_spot ms (find (has_changed ms) (nodes_of m))) (map body_change members)
+      ∙ ap (λ (ps : Pairs). spots ++ ps) (map-map plain_triple body_change members)
+
+  -- whose old values are those found
+  abbrev Found : CellChange → Type 0
+  Found t = value old t.0 ≡ Some t.1
+
+  spots_found : (o : Option Node) → HasOldValues old (changed_spot ms o)
+  spots_found None = All-nil Found
+  spots_found (Some v) = All-cons Found (name.Spot v, cell.Spot (id_found_on ms v), cell.Spot (id_on ms v)) [] (ap (λ o. Some (cell.Spot o)) (sym (occupants v).0)) (All-nil Found)
+
+  bodies_found : HasOldValues old (map body_change (ranked (filter is_changed ms)))
+  bodies_found =
+      let Was : Member → Type 0 = λ n. Found (body_change n) in
+      let members = ranked (filter is_changed ms) in
+      All-map Found body_change members (All-from_Has Was members (λ n has. ap (option_map cell.Body) (was n (filter_has is_changed ms (ranked_has (filter is_changed ms) n has)).0)))
+
+  cells_found : HasOldValues old (changed_cells ms m)
+  cells_found = All-append Found (changed_spot ms (find (has_changed ms) (nodes_of m))) (map body_change (ranked (filter is_changed ms))) (spots_found (find (has_changed ms) (nodes_of m))) bodies_found
+
   -- so they are the difference
   pub difference : IsValid old → KeepsRest old own new → changed_cells ms m ≡ diff old new
-  difference valid keeps = ordered_patch_is_diff old new (spots ++ bodies) valid (record {
-    valid = keeps.valid;
-    rest = keeps.rest;
-    size = keeps.size;
-    ids = keeps.ids;
-    given = All-from_Has (λ (p : CellName × Cell). value new (cell_of p) ≡ Some (cell_value p)) (spots ++ bodies) given;
-    kept = kept;
-  }) ordered (All-from_Has (λ (p : CellName × Cell). value old (cell_of p) ≢ Some (cell_value p)) (spots ++ bodies) differs)
+  difference valid keeps =
+      let Given : CellName × Cell → Type 0 = λ p. value new (cell_of p) ≡ Some (cell_value p) in
+      let Differs : CellName × Cell → Type 0 = λ p. value old (cell_of p) ≢ Some (cell_value p) in
+      let P : Pairs → Type 0 = λ ps. IsPatched old ps new in
+      let patched : P (spots ++ bodies) = record { valid = keeps.valid; same = keeps.same; given = All-from_Has Given (spots ++ bodies) given; kept = kept } in
+      let back = sym plain_is in
+      ordered_patch_is_diff old new (changed_cells ms m) valid (subst P back patched) (subst IsOrdered back ordered) (subst (All Differs) back (All-from_Has Differs (spots ++ bodies) differs)) cells_found
 
 -- what a site gives as its patch, where an activation reaches its configuration
 pub patches : (c : Config) (own : ℕ) (ms : List Member) (d : Member) → IsSite c own ms → Reaches (shown_alone (shown (config_found c ms) own)) own (config_now c ms) → changed_cells ms (get_or ms 0 d) ≡ diff (shown_alone (shown (config_found c ms) own)) (config_now c ms)

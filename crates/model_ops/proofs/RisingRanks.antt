@@ -13,7 +13,7 @@ use Rattle.amoebot_state.specs.declared.cell.CellName.TheVariants as name
 use Rattle.amoebot_state.specs.declared.cell.Cell.{Cell}
 use Rattle.amoebot_state.specs.Pairs.{cell_of}
 use Rattle.amoebot_state.specs.Configs.{Config, value}
-use Rattle.amoebot_state.specs.Patches.{IsOrdered, diff, changed, rank, same_value}
+use Rattle.amoebot_state.specs.Patches.{IsOrdered, plain_diff, changed, rank, same_value}
 use Rattle.amoebot_state.proofs.Members.{Has, map_has, filter_map_has, Has-append_left}
 use Rattle.amoebot_state.proofs.RisingLists.{Rising, Rising-append, Rising-map, Rising-filter_map, Rising-weaker, Rising-range, increasing-from_Rising, range_below}
 
@@ -31,7 +31,7 @@ abbrev place : Extent → CellName → ℕ
 place a (name.Spot v) = unwrap_or (index_of a v) 0
 place a (name.Body i) = 0
 
-module _ (old new : Config) (node : Node) (one : (p : CellName × Cell) (v : Node) → Has p (diff old new) → cell_of p ≡ name.Spot v → v ≡ node) where
+module _ (old new : Config) (node : Node) (one : (p : CellName × Cell) (v : Node) → Has p (plain_diff old new) → cell_of p ≡ name.Spot v → v ≡ node) where
   abbrev size : ℕ
   size = old.area.w * old.area.h
 
@@ -44,7 +44,7 @@ module _ (old new : Config) (node : Node) (one : (p : CellName × Cell) (v : Nod
   abbrev bodies : List (CellName × Cell)
   bodies = filter_map (changed old new) (map name.Body (range_with_len 0 (length old.bots)))
 
-  parts : diff old new ≡ spots ++ bodies
+  parts : plain_diff old new ≡ spots ++ bodies
   parts = filter_map-append (changed old new) (map spot (range_with_len 0 size)) (map name.Body (range_with_len 0 (length old.bots)))
 
   abbrev key : CellName × Cell → ℕ
@@ -71,7 +71,7 @@ module _ (old new : Config) (node : Node) (one : (p : CellName × Cell) (v : Nod
   at_most_one = Rising-weaker (λ p. place old.area (cell_of p)) key (λ p q hp hq lt.
       let (u, eu) = spot_told p hp in
       let (v, ev) = spot_told q hq in
-      let all : (r : CellName × Cell) → Has r spots → Has r (diff old new) = λ r has. subst (Has r) (sym parts) (Has-append_left bodies has) in
+      let all : (r : CellName × Cell) → Has r spots → Has r (plain_diff old new) = λ r has. subst (Has r) (sym parts) (Has-append_left bodies has) in
       let same : place old.area (cell_of p) ≡ place old.area (cell_of q) = ap (place old.area) (eu ∙ ap name.Spot (one p u (all p hp) eu ∙ sym (one q v (all q hq) ev)) ∙ sym ev) in
       absurd (omega (arith, lt, same))) spots_rise
 
@@ -79,10 +79,10 @@ module _ (old new : Config) (node : Node) (one : (p : CellName × Cell) (v : Nod
   bodies_rise = Rising-filter_map rank key (changed old new) (λ n p e. ap rank (sym (pair_told old new n p e)))
       (Rising-map (λ i. i + 1) rank name.Body (λ i has. refl) (Rising-weaker (λ i. i) (λ i. i + 1) (λ i j hi hj lt. omega (arith, lt)) (Rising-range 0 (length old.bots))))
 
-  pub is_ordered : IsOrdered (diff old new)
+  pub is_ordered : IsOrdered (plain_diff old new)
   is_ordered =
       let all : Rising key (spots ++ bodies) = Rising-append key at_most_one bodies_rise (λ p q hp hq.
       let (u, eu) = spot_told p hp in
       let (j, ej) = body_told q hq in
       omega (arith, ap rank eu, ap rank ej)) in
-      increasing-from_Rising key (diff old new) (subst (Rising key) (sym parts) all)
+      increasing-from_Rising key (plain_diff old new) (subst (Rising key) (sym parts) all)

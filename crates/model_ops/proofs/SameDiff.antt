@@ -1,6 +1,6 @@
 -- The difference that an activation makes is exact, and is the same on each configuration that shows the same.
 use Rattle.std.proofs.Common.{◌≡◌, ◌≢◌, ◌≤◌, ◌+◌, ◌*◌, ℕ, zero, suc, List, [], ◌∷◌, ◌++◌, length, map, ap, sym, ◌∙◌, refl, subst, inl, inr, arith, Option, Some, None}
-use Rattle.std.specs.Prelude.{is_some, IsSome, if◌then◌else◌}
+use Rattle.std.specs.Prelude.{is_some, IsSome, unwrap_or, if◌then◌else◌}
 use Rattle.std.specs.Option.{option_map}
 use Rattle.std.specs.List.{All, Contains, filter_map, cons_option, range_with_len}
 use Rattle.std.proofs.lemmas.List.{get_or_past}
@@ -12,12 +12,13 @@ use Rattle.amoebot_state.specs.declared.cell.CellName.{CellName}
 use Rattle.amoebot_state.specs.declared.cell.CellName.TheVariants as name
 use Rattle.amoebot_state.specs.declared.cell.Cell.{Cell}
 use Rattle.amoebot_state.specs.declared.cell.Cell.TheVariants as cell
-use Rattle.amoebot_state.specs.Pairs.{Pairs, cell_of, cell_value}
+use Rattle.amoebot_state.specs.Pairs.{Pairs, cell_of, cell_value, plain_patch}
 use Rattle.amoebot_state.specs.Configs.{Config, IsValid, bot_at, bot_of, value}
 use Rattle.amoebot_state.specs.Zones.{zone, zone_nodes, shown, shown_alone}
-use Rattle.amoebot_state.specs.Patches.{IsPatched, diff, changed, same_value}
-use Rattle.amoebot_state.proofs.Members.{Has, All-from_Has, Contains-from_Has, Has-from_Contains, filter_map-same}
-use Rattle.amoebot_state.proofs.Differences.{diff_leads}
+use Rattle.amoebot_state.specs.Patches.{IsOrdered, IsPatched, with_old, plain_diff, diff, changed, same_value}
+use Rattle.amoebot_state.proofs.Members.{Has, here, later, All-from_Has, Contains-from_Has, Has-from_Contains, filter_map-same}
+use Rattle.amoebot_state.proofs.Differences.{plain_leads}
+use Rattle.amoebot_state.proofs.OldValues.{plain_is, old_of_diff}
 use Rattle.amoebot_state.proofs.ShownAlone.{alone_has}
 use Rattle.amoebot_state.proofs.Zones.{spot_node, spot_in_zone}
 use Rattle.amoebot_state.proofs.Options.{none_if}
@@ -31,32 +32,36 @@ use Rattle.model_ops.proofs.AgreesAfter.{SameOn, writes_agree, move_same, same_o
 use Rattle.model_ops.proofs.ShownAlike.{Seen, IsShownBot, agrees_at_first, acts_alike, same_area}
 
 -- the difference leads to what was reached, and lists what differs
-leads : (c d : Config) (i : ℕ) → IsValid c → KeepsRest c i d → IsPatched c (diff c d) d × All (λ (p : CellName × Cell). value c (cell_of p) ≢ Some (cell_value p)) (diff c d)
-leads c d i valid keeps = diff_leads c d valid keeps.valid keeps.rest keeps.size keeps.ids
+leads : (c d : Config) (i : ℕ) → IsValid c → KeepsRest c i d → IsPatched c (plain_diff c d) d × All (λ (p : CellName × Cell). value c (cell_of p) ≢ Some (cell_value p)) (plain_diff c d)
+leads c d i valid keeps = plain_leads c d valid keeps.valid keeps.same
 
 -- a pair of the difference
-listed : (c d : Config) (i : ℕ) → IsValid c → KeepsRest c i d → (p : CellName × Cell) → Has p (diff c d) → value d (cell_of p) ≢ value c (cell_of p)
+listed : (c d : Config) (i : ℕ) → IsValid c → KeepsRest c i d → (p : CellName × Cell) → Has p (plain_diff c d) → value d (cell_of p) ≢ value c (cell_of p)
 listed c d i valid keeps p has same =
     let (patched, differs) = leads c d i valid keeps in
-    let in' = Contains-from_Has (diff c d) has in
-    All-contains (λ (q : CellName × Cell). value c (cell_of q) ≢ Some (cell_value q)) (diff c d) p differs in' (sym same ∙ All-contains (λ (q : CellName × Cell). value d (cell_of q) ≡ Some (cell_value q)) (diff c d) p patched.given in')
+    let in' = Contains-from_Has (plain_diff c d) has in
+    All-contains (λ (q : CellName × Cell). value c (cell_of q) ≢ Some (cell_value q)) (plain_diff c d) p differs in' (sym same ∙ All-contains (λ (q : CellName × Cell). value d (cell_of q) ≡ Some (cell_value q)) (plain_diff c d) p patched.given in')
 
 pub reached_diff_is_exact : ReachedDiffIsExact
 reached_diff_is_exact c i d valid there (acts, e) =
     let done = performed c i acts d valid (own_there c i there) e in
     let keeps = keeps_rest c i acts d done in
     let node = done.moves.node in
-    let one : (p : CellName × Cell) (v : Node) → Has p (diff c d) → cell_of p ≡ name.Spot v → v ≡ node = λ p v has is. elim (cases_node v node) [
+    let one : (p : CellName × Cell) (v : Node) → Has p (plain_diff c d) → cell_of p ≡ name.Spot v → v ≡ node = λ p v has is. elim (cases_node v node) [
       | inl same ↦ same
       | inr ne ↦ absurd (listed c d i valid keeps p has (ap (value d) is ∙ ap (λ o. Some (cell.Spot o)) (done.moves.spots v ne ∙ done.writes.spots v) ∙ sym (ap (value c) is)))
     ] in
+    let Differs : CellName × Cell → Type 0 = λ p. value c (cell_of p) ≢ Some (cell_value p) in
+    let Listed : CellName × Cell → Type 0 = λ p. Contains (zone c i) (cell_of p) in
+    let back = sym (plain_is c d) in
     record {
-      ordered = is_ordered c d node one;
-      differs = (leads c d i valid keeps).1;
-      listed = All-from_Has (λ (p : CellName × Cell). Contains (zone c i) (cell_of p)) (diff c d) (λ p has. elim (has_or_not (cell_of p) (zone c i)) [
+      ordered = subst IsOrdered back (is_ordered c d node one);
+      differs = subst (All Differs) back (leads c d i valid keeps).1;
+      listed = subst (All Listed) back (All-from_Has Listed (plain_diff c d) (λ p has. elim (has_or_not (cell_of p) (zone c i)) [
         | inl in' ↦ Contains-from_Has (zone c i) in'
         | inr out ↦ absurd (listed c d i valid keeps p has (keeps_out c d i keeps (cell_of p) out))
-      ]);
+      ]));
+      found = old_of_diff c d keeps.same;
     }
   where
     keeps_out : (c d : Config) (i : ℕ) → KeepsRest c i d → (n : CellName) → (Has n (zone c i) → ⊥) → value d n ≡ value c n
@@ -76,8 +81,13 @@ filter_map_map : {X Y Z : Type 0} (h : Y → Option Z) (f : X → Y) (xs : List 
 filter_map_map h f [] = refl
 filter_map_map h f (x ∷ xs) = ap (cons_option (h (f x))) (filter_map_map h f xs)
 
+-- functions that are alike on the elements give the same
+map-same : {X Y : Type 0} (g h : X → Y) (xs : List X) → ((x : X) → Has x xs → g x ≡ h x) → map g xs ≡ map h xs
+map-same g h [] alike = refl
+map-same g h (x ∷ xs) alike = λ i. alike x here i ∷ map-same g h xs (λ y has. alike y (later has)) i
+
 -- differences in which each cell changed alike are the same
-same_diff : (c c' d d' : Config) → d.area ≡ c.area → length c'.bots ≡ length c.bots → length d'.bots ≡ length d.bots → ((n : CellName) → changed d d' n ≡ changed c c' n) → diff d d' ≡ diff c c'
+same_diff : (c c' d d' : Config) → d.area ≡ c.area → length c'.bots ≡ length c.bots → length d'.bots ≡ length d.bots → ((n : CellName) → changed d d' n ≡ changed c c' n) → plain_diff d d' ≡ plain_diff c c'
 same_diff c c' d d' area size_c size_d alike =
     let h = changed c c' in
     let spots : Extent → List CellName = λ a. map (λ k. name.Spot (node_at a k)) (range_with_len 0 (a.w * a.h)) in
@@ -98,7 +108,7 @@ unshown_stays : (c c' : Config) (i j : ℕ) → KeepsRest c i c' → bot_at (sho
 unshown_stays c c' i j keeps none = elim (has_or_not (name.Body j) (zone c i)) [
   | inl has ↦
       let gone : bot_at c j ≡ None = sym (alone_has c i j has) ∙ none in
-      ap (option_map cell.Body) (none_if (bot_at c' j) (keeps.ids j ∙ ap is_some gone) ∙ sym gone)
+      ap (option_map cell.Body) (none_if (bot_at c' j) (keeps.same.ids j ∙ ap is_some gone) ∙ sym gone)
   | inr out ↦ keeps.beyond (name.Body j) (λ has. out (Has-from_Contains (zone c i) has))
 ]
 
@@ -136,8 +146,24 @@ module _ (c c' d d' : Config) (i : ℕ) (valid : IsValid c) (valid_too : IsValid
     | Some b ↦ λ e. let shown : IsShownBot c i j = ap is_some e in same_values (name.Body j) (ap (option_map cell.Body) (agree.bots j shown)) (ap (option_map cell.Body) (after.bots j shown))
   ] refl
 
+  plain_alike : plain_diff d d' ≡ plain_diff c c'
+  plain_alike = same_diff c c' d d' (same_area c d i valid valid_too has same) keeps.same.size keeps_too.same.size changed_alike
+
+  -- a cell that changed held the same in both
+  old_alike : (n : CellName) → value c' n ≢ value c n → value d n ≡ value c n
+  old_alike (name.Spot v) differs = elim (has_or_not (name.Spot v) (zone c i)) [
+    | inl listed ↦ ap (λ o. Some (cell.Spot o)) (agree.spots v (λ _. spot_node c i (bot_of c i) v at listed))
+    | inr out ↦ absurd (differs (keeps.beyond (name.Spot v) (λ h. out (Has-from_Contains (zone c i) h))))
+  ]
+  old_alike (name.Body j) differs = elim (bot_at (shown_alone (shown c i)) j) as (λ o. bot_at (shown_alone (shown c i)) j ≡ o → value d (name.Body j) ≡ value c (name.Body j)) [
+    | None ↦ λ e. absurd (differs (unshown_stays c c' i j keeps e))
+    | Some b ↦ λ e. ap (option_map cell.Body) (agree.bots j (ap is_some e))
+  ] refl
+
   pub diff_alike : diff d d' ≡ diff c c'
-  diff_alike = same_diff c c' d d' (same_area c d i valid valid_too has same) keeps.size keeps_too.size changed_alike
+  diff_alike =
+      ap (map (with_old d)) plain_alike
+      ∙ map-same (with_old d) (with_old c) (plain_diff c c') (λ p has. ap (λ o. (cell_of p, unwrap_or o (cell_value p), cell_value p)) (old_alike (cell_of p) (listed c c' i valid keeps p has)))
 
 pub reached_leads_also : ReachedLeadsAlso
 reached_leads_also c d i acts to valid valid_too has same e =
@@ -153,4 +179,4 @@ reached_leads_also c d i acts to valid valid_too has same e =
     let after = move_same V B i one.between two.between between acts.guard acts.moved to d' one.moved two.moved in
     let is = diff_alike c to d d' i valid valid_too has same keeps keeps_too after in
     let P : Pairs → Type 0 = λ ps. IsPatched d ps d' in
-    record { reached = d'; performed = f; patched = subst P is (leads d d' i valid_too keeps_too).0; same = is }
+    record { reached = d'; performed = f; patched = subst P (sym (plain_is d d') ∙ ap plain_patch is) (leads d d' i valid_too keeps_too).0; same = is }

@@ -1,5 +1,5 @@
 -- The two small movements: one amoebot leaves a node, or enters one.
-use Rattle.std.proofs.Common.{◌≡◌, ◌≢◌, ℕ, length, true, false, ap, sym, ◌∙◌, refl, subst, inl, inr, Some, None}
+use Rattle.std.proofs.Common.{◌≡◌, ◌≢◌, ℕ, true, false, ap, sym, ◌∙◌, refl, subst, inl, inr, Some, None}
 use Rattle.std.specs.Prelude.{is_some, if◌then◌else◌}
 use Rattle.std.proofs.lemmas.Bool.{cases_Bool, both_ways, or_left, or_right}
 use Rattle.tri_lattice.specs.declared.node.Node.{Node}
@@ -12,6 +12,7 @@ use Rattle.amoebot_state.specs.declared.bot.Bot.{Bot}
 use Rattle.amoebot_state.specs.Ports.{is_own, is_contracted}
 use Rattle.amoebot_state.specs.Configs.{Config, IsValid, IsBot, frame, bot_at, bot_of, is_wall, occupant, set_bot}
 use Rattle.amoebot_state.specs.Occupied.{occupied}
+use Rattle.amoebot_state.specs.Patches.{HasSameIds}
 use Rattle.amoebot_state.proofs.Owns.{own_cases, own_head, own_tail, not_own}
 use Rattle.model_ops.specs.Operations.{with_head, contracted_in, other_node, grow, shrink}
 use Rattle.model_ops.proofs.Becomes.{MayBecome, become_valid, become_same, become_occupant, left_empty, occupant_then, same_ids, same_size, at_other}
@@ -19,18 +20,14 @@ use Rattle.model_ops.proofs.Becomes.{MayBecome, become_valid, become_same, becom
 -- what a small movement of one amoebot at one node leaves as it was
 pub record SmallMove (c : Config) (i : ℕ) (v : Node) (d : Config) : Type 0 where
   pub valid : IsValid d
-  pub rest : d ≡ record c { bots = d.bots }
-  pub size : length d.bots ≡ length c.bots
-  pub ids : (j : ℕ) → is_some (bot_at d j) ≡ is_some (bot_at c j)
+  pub same : HasSameIds c d
   pub spots : (u : Node) → u ≢ v → occupant d u ≡ occupant c u
   pub bots : (j : ℕ) → j ≢ i → bot_at d j ≡ bot_at c j
 
 small : (c : Config) (i : ℕ) (v : Node) (b : Bot) → MayBecome c i (bot_of c i) b → ((u : Node) → u ≢ v → is_own b u ≡ is_own (bot_of c i) u) → SmallMove c i v (set_bot c i b)
 small c i v b may same = record {
   valid = become_valid c i (bot_of c i) b may;
-  rest = refl;
-  size = same_size c i b;
-  ids = same_ids c i (bot_of c i) b may.there;
+  same = record { rest = refl; size = same_size c i b; ids = same_ids c i (bot_of c i) b may.there };
   spots = λ u ne. become_same c i (bot_of c i) b may u (same u ne);
   bots = at_other c i b;
 }

@@ -1,6 +1,6 @@
 -- What writes change: the memory of amoebots of the zone. Positions stay, so the zone does.
 use Rattle.std.proofs.Common.{◌≡◌, ◌<◌, ℕ, ℤ, pos, negsuc, List, [], ◌∷◌, ◌++◌, length, map, get_or, set, true, ap, sym, ◌∙◌, refl, subst, inl, inr, arith, Option, Some, None, filter, nat_eq}
-use Rattle.std.specs.Prelude.{is_some, not, unsigned_abs, nat_le, slice_index, slice_set, unwrap_or}
+use Rattle.std.specs.Prelude.{not, unsigned_abs, nat_le, slice_index, slice_set, unwrap_or}
 use Rattle.std.specs.List.{filter_map}
 use Rattle.std.specs.declared.result.Result.TheVariants.{Ok}
 use Rattle.std.proofs.lemmas.Bool.{cases_eq, and_parts, and_from}
@@ -13,6 +13,7 @@ use Rattle.amoebot_state.specs.declared.cell.CellName.{CellName}
 use Rattle.amoebot_state.specs.declared.cell.CellName.TheVariants as name
 use Rattle.amoebot_state.specs.Ports.{is_port, behind}
 use Rattle.amoebot_state.specs.Configs.{Config, IsValid, bot_at, bot_of, blank, occupant, set_bot, has_values}
+use Rattle.amoebot_state.specs.Patches.{HasSameIds}
 use Rattle.amoebot_state.specs.Zones.{zone, zone_nodes, distinct}
 use Rattle.amoebot_state.proofs.Directions.{port_leads_beside}
 use Rattle.amoebot_state.proofs.Zones.{own_in_zone, zone_is}
@@ -21,6 +22,7 @@ use Rattle.model_ops.specs.Operations.{owner, write, with_value, is_value}
 use Rattle.model_ops.specs.Reaches.{Writing, write_all}
 use Rattle.model_ops.proofs.Told.{need_told, peer_told, then_told, ok_told, occupant_told, bot_is}
 use Rattle.model_ops.proofs.Becomes.{MayBecome, become_valid, become_same, at_own, at_other, same_ids, same_size}
+use Rattle.model_ops.proofs.SameIds.{still_same, both_same}
 use Rattle.model_ops.proofs.Movements.{kept_there}
 use Rattle.model_ops.proofs.Moved.{body_listed}
 
@@ -32,24 +34,20 @@ bare b = record b { mem = [] }
 pub record Writes (c : Config) (i : ℕ) (d : Config) : Type 0 where
   pub valid : IsValid d
   pub there : bot_at d i ≡ Some (bot_of d i)
-  pub rest : d ≡ record c { bots = d.bots }
-  pub size : length d.bots ≡ length c.bots
-  pub ids : (j : ℕ) → is_some (bot_at d j) ≡ is_some (bot_at c j)
+  pub same : HasSameIds c d
   pub own : bare (bot_of d i) ≡ bare (bot_of c i)
   pub spots : (v : Node) → occupant d v ≡ occupant c v
   pub zone_stays : zone d i ≡ zone c i
   pub kept : (j : ℕ) → (Has (name.Body j) (zone c i) → ⊥) → bot_at d j ≡ bot_at c j
 
 pub none_written : (c : Config) (i : ℕ) → IsValid c → bot_at c i ≡ Some (bot_of c i) → Writes c i c
-none_written c i valid at = record { valid = valid; there = at; rest = refl; size = refl; ids = λ j. refl; own = refl; spots = λ v. refl; zone_stays = refl; kept = λ j lacks. refl }
+none_written c i valid at = record { valid = valid; there = at; same = still_same c; own = refl; spots = λ v. refl; zone_stays = refl; kept = λ j lacks. refl }
 
 pub both_written : (c m d : Config) (i : ℕ) → Writes c i m → Writes m i d → Writes c i d
 both_written c m d i one two = record {
   valid = two.valid;
   there = two.there;
-  rest = two.rest ∙ ap (λ (x : Config). let y : Config = record x { bots = d.bots } in y) one.rest;
-  size = two.size ∙ one.size;
-  ids = λ j. two.ids j ∙ one.ids j;
+  same = both_same c m d one.same two.same;
   own = two.own ∙ one.own;
   spots = λ v. two.spots v ∙ one.spots v;
   zone_stays = two.zone_stays ∙ one.zone_stays;
@@ -118,9 +116,7 @@ set_written c i n x s valid at there ok listed =
     record {
       valid = become_valid c n b w may;
       there = own.0;
-      rest = refl;
-      size = same_size c n w;
-      ids = same_ids c n b w there;
+      same = record { rest = refl; size = same_size c n w; ids = same_ids c n b w there };
       own = own.1;
       spots = spots;
       zone_stays = zone_same c d i (bot_of c i) (bot_of d i) at own.0 own.1 refl spots;

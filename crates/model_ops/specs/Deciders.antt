@@ -5,13 +5,13 @@ use Rattle.amoebot_state.specs.declared.verdict.Change.{Change}
 use Rattle.amoebot_state.specs.declared.verdict.Verdict.{Verdict}
 use Rattle.amoebot_state.specs.declared.verdict.Verdict.TheVariants as verdict
 use Rattle.amoebot_state.specs.Configs.{Config}
-use Rattle.amoebot_state.specs.Pairs.{Pairs}
+use Rattle.amoebot_state.specs.Pairs.{Triples}
 use Rattle.amoebot_state.specs.Patches.{diff}
 use Rattle.amoebot_state.specs.Zones.{Shown, IsShown, shown_alone}
 use Rattle.model_ops.specs.Reaches.{Acts, perform}
 
 -- acts that lead somewhere from the configuration that has what is shown and no other amoebot; the patch is their difference
-pub record ActsFor (s : Shown) (patch : Pairs) : Type 0 where
+pub record ActsFor (s : Shown) (patch : Triples) : Type 0 where
   pub acts : Acts
   pub reached : Config
   pub performed : perform (shown_alone s) s.bot acts ≡ Ok reached

@@ -1,5 +1,5 @@
 -- What follows from the definitions alone.
-use Rattle.std.specs.Prelude.{◌≡◌, ◌≢◌, ◌↔◌, ◌<◌, ℕ, ℤ, length, is_some, Bool, true, false, List, IsSome, IsTrue}
+use Rattle.std.specs.Prelude.{◌≡◌, ◌≢◌, ◌↔◌, ◌<◌, ℕ, ℤ, Bool, true, false, List, IsSome, IsTrue}
 use Rattle.std.specs.List.{All, Contains}
 use Rattle.std.specs.Result.{result_err}
 use Rattle.std.specs.declared.option.Option.{Option}
@@ -19,11 +19,11 @@ use Rattle.amoebot_state.specs.declared.verdict.Entry.{Entry}
 use Rattle.amoebot_state.specs.declared.verdict.Verdict.{Verdict}
 use Rattle.amoebot_state.specs.Configs.{Config, IsValid, bot_at, bot_of, is_wall, occupant, value}
 use Rattle.amoebot_state.specs.Occupied.{occupied}
-use Rattle.amoebot_state.specs.Pairs.{cell_of, cell_value}
-use Rattle.amoebot_state.specs.Patches.{IsPatched, IsOrdered, diff}
+use Rattle.amoebot_state.specs.Pairs.{cell_of, cell_value, plain_patch}
+use Rattle.amoebot_state.specs.Patches.{HasSameIds, HasOldValues, IsPatched, IsOrdered, diff}
 use Rattle.amoebot_state.specs.Ports.{behind, end_node, global}
 use Rattle.amoebot_state.specs.Zones.{Shown, IsShown, zone, shown, shown_alone}
-use Rattle.amoebot_state.specs.Steps.{Step, TouchesZone, HasPatchedWorld, ListsDifferences}
+use Rattle.amoebot_state.specs.Steps.{Step, IsLawful}
 use Rattle.model_ops.specs.declared.peer.Peer.{Peer}
 use Rattle.model_ops.specs.Operations.{connected, is_free, read, write, peer, expand, contract, push, pull}
 use Rattle.model_ops.specs.Reaches.{Writing, Acts, Reaches, write_all, move, perform}
@@ -60,9 +60,7 @@ PeerLooksBack =
 -- zone of i
 pub record KeepsRest (c : Config) (i : ℕ) (d : Config) : Type 0 where
   pub valid : IsValid d
-  pub rest : d ≡ record c { bots = d.bots }
-  pub size : length d.bots ≡ length c.bots
-  pub ids : (j : ℕ) → is_some (bot_at d j) ≡ is_some (bot_at c j)
+  pub same : HasSameIds c d
   pub beyond : (n : CellName) → (Contains (zone c i) n → ⊥) → value d n ≡ value c n
 
 -- so it is with what an activation reaches from a valid configuration
@@ -146,11 +144,12 @@ ShownMeetsTheSame =
     (c d : Config) (i : ℕ) → IsValid c → IsValid d → IsSome (bot_at c i) → shown d i ≡ shown c i → MeetsTheSame i c d
 
 -- the difference of d to c is in the order of a patch, with at most one node; each cell that it lists differs, and is one of the zone
--- of i
+-- of i; its old values are those of c
 pub record DiffIsExact (c : Config) (i : ℕ) (d : Config) : Type 0 where
-  pub ordered : IsOrdered (diff c d)
-  pub differs : All (λ (p : CellName × Cell). value c (cell_of p) ≢ Some (cell_value p)) (diff c d)
-  pub listed : All (λ (p : CellName × Cell). Contains (zone c i) (cell_of p)) (diff c d)
+  pub ordered : IsOrdered (plain_patch (diff c d))
+  pub differs : All (λ (p : CellName × Cell). value c (cell_of p) ≢ Some (cell_value p)) (plain_patch (diff c d))
+  pub listed : All (λ (p : CellName × Cell). Contains (zone c i) (cell_of p)) (plain_patch (diff c d))
+  pub found : HasOldValues c (diff c d)
 
 -- so it is with what an activation reaches from a valid configuration
 abbrev pub ReachedDiffIsExact : Type 0
@@ -161,7 +160,7 @@ ReachedDiffIsExact = (c : Config) (i : ℕ) (d : Config) → IsValid c → IsSom
 pub record LeadsAlso (c : Config) (i : ℕ) (acts : Acts) (to d : Config) : Type 0 where
   pub reached : Config
   pub performed : perform d i acts ≡ Ok reached
-  pub patched : IsPatched d (diff c to) reached
+  pub patched : IsPatched d (plain_patch (diff c to)) reached
   pub same : diff d reached ≡ diff c to
 
 -- so it is with each valid configuration that shows the same
@@ -196,7 +195,7 @@ pub record StandsFor (w : WorkingCopy) (d : Config) : Type 0 where
   pub same_acts : (acts : Acts)
       → perform (shown_alone w.found) (own_id w) acts ≡ Ok w.reached
       → perform d (own_id w) acts ≡ Ok reached
-  pub patched : IsPatched d (changes w) reached
+  pub patched : IsPatched d (plain_patch (changes w)) reached
   pub same_changes : diff d reached ≡ changes w
   pub alike : IsUnmoved w → AnswersAlike (own_id w) w.reached reached
 
@@ -204,9 +203,9 @@ pub record StandsFor (w : WorkingCopy) (d : Config) : Type 0 where
 abbrev pub CopyStandsForWorlds : Type 0
 CopyStandsForWorlds = (w : WorkingCopy) (d : Config) → IsWorking w → IsValid d → shown d (own_id w) ≡ w.found → StandsFor w d
 
--- what decides by acts keeps the three laws of deciders
+-- what decides by acts keeps the laws of deciders
 abbrev pub ActsKeepDeciderLaws : Type 0
-ActsKeepDeciderLaws = (f : Shown → Verdict) → DecidesByActs f → TouchesZone f × HasPatchedWorld f × ListsDifferences f
+ActsKeepDeciderLaws = (f : Shown → Verdict) → DecidesByActs f → IsLawful f
 
 -- and with the guard on, a step from a valid configuration leaves the occupied nodes connected
 abbrev pub GuardedDecidersStayConnected : Type 0

@@ -11,6 +11,7 @@ use Rattle.amoebot_state.specs.declared.cell.Cell.TheVariants as cell
 use Rattle.amoebot_state.specs.declared.bot.Bot.{Bot}
 use Rattle.amoebot_state.specs.Ports.{is_own}
 use Rattle.amoebot_state.specs.Configs.{Config, bot_at}
+use Rattle.amoebot_state.specs.Pairs.{CellChange, Triples}
 use Rattle.amoebot_state.specs.Patches.{id_eq, bot_eq}
 use Rattle.amoebot_state.specs.Refusals.{IsBotInRange}
 use Rattle.amoebot_state.specs.Zones.{Shown, IsShown, spread, shown, shown_alone}
@@ -117,15 +118,19 @@ has_changed ms v = not (id_eq (id_found_on ms v) (id_on ms v))
 abbrev pub nodes_of : Member → List Node
 nodes_of m = m.now.head ∷ m.found.tail ∷ m.found.head ∷ m.now.tail ∷ []
 
--- a node with its new occupant, if there is one
-abbrev pub changed_spot : List Member → Option Node → List (CellName × Cell)
+-- a member's body, as it was found and as it is now
+abbrev pub body_change : Member → CellChange
+body_change m = (name.Body m.id, cell.Body m.found, cell.Body m.now)
+
+-- a node with its occupant as it was found and as it is now, if there is one
+abbrev pub changed_spot : List Member → Option Node → Triples
 changed_spot ms None = []
-changed_spot ms (Some v) = (name.Spot v, cell.Spot (id_on ms v)) ∷ []
+changed_spot ms (Some v) = (name.Spot v, cell.Spot (id_found_on ms v), cell.Spot (id_on ms v)) ∷ []
 
 -- the member has another amoebot than it was found with
 abbrev pub is_changed : Member → Bool
 is_changed m = not (bot_eq m.found m.now)
 
 -- the first node of a member whose occupant has changed, and then the bodies that have, in rising id
-abbrev pub changed_cells : List Member → Member → List (CellName × Cell)
-changed_cells ms m = changed_spot ms (find (has_changed ms) (nodes_of m)) ++ map body_now (ranked (filter is_changed ms))
+abbrev pub changed_cells : List Member → Member → Triples
+changed_cells ms m = changed_spot ms (find (has_changed ms) (nodes_of m)) ++ map body_change (ranked (filter is_changed ms))

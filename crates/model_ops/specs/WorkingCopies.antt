@@ -3,7 +3,7 @@ use Rattle.std.specs.Prelude.{ℕ}
 use Rattle.std.specs.declared.result.Result.{Result}
 use Rattle.std.specs.declared.result.Result.TheVariants.{Ok, Err}
 use Rattle.amoebot_state.specs.declared.verdict.Failure.{Failure}
-use Rattle.amoebot_state.specs.Pairs.{Pairs}
+use Rattle.amoebot_state.specs.Pairs.{Triples}
 use Rattle.amoebot_state.specs.Configs.{Config, bot_of}
 use Rattle.amoebot_state.specs.declared.bot.Bot.{Bot}
 use Rattle.amoebot_state.specs.Zones.{Shown, IsShown, shown_alone}
@@ -36,8 +36,8 @@ pub record IsWorking (w : WorkingCopy) : Type 0 where
 abbrev pub IsUnmoved : WorkingCopy → Type 0
 IsUnmoved w = ReachesUnmoved (shown_alone w.found) w.found.bot w.reached
 
--- the cells that differ from what was found, with their values now
-abbrev pub changes : WorkingCopy → Pairs
+-- the cells that differ from what was found, with their values then and now
+abbrev pub changes : WorkingCopy → Triples
 changes w = diff (shown_alone w.found) w.reached
 
 -- the copy after an operation on it: where that succeeds, its configuration is reached; a failure leaves the copy as it is

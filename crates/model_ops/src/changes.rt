@@ -2,7 +2,7 @@ ghost use Rattle.std.specs.Prelude.{◌≡◌, ◌+◌, ◌<◌, ◌≤◌, ◌+
 ghost use Rattle.std.specs.List.{find};
 ghost use Rattle.amoebot_state.specs.Limits.{most_pairs};
 ghost use Rattle.amoebot_state.specs.Patches.{bot_eq};
-ghost use Rattle.model_ops.specs.Members.{body_now, changed_cells, changed_spot, has_changed, is_changed, most_members, nodes_of, ranked};
+ghost use Rattle.model_ops.specs.Members.{body_change, changed_cells, changed_spot, has_changed, is_changed, most_members, nodes_of, ranked};
 
 use crate::member::{Member, ROOM, add, id_found_on, id_on};
 use amoebot_state::{Bot, Cell, CellName, Patch};
@@ -11,6 +11,7 @@ use tri_lattice::Node;
 
 /// Adds the cells that differ from what was found, of whose nodes at most one does, which is one of the own ones: that node first,
 /// and then the bodies in rising id.
+#[inline(always)]
 pub(crate) fn push_changed(patch: &mut Patch, members: &[Member], own: &Member)
     requires none { patch.old ≡ [] }
     requires few { length members.now ≤ most_members }
@@ -29,7 +30,9 @@ fn push_node(patch: &mut Patch, members: &[Member], own: &Member)
 {
     let nodes = [own.now.head, own.found.tail, own.found.head, own.now.tail];
     if let Some(node) = changed_node(members, &nodes) {
-        patch.push(CellName::Spot(node), Cell::Spot(id_on(members, node)));
+        let before = id_found_on(members, node);
+        let after = id_on(members, node);
+        patch.push(CellName::Spot(node), Cell::Spot(before), Cell::Spot(after));
     }
 }
 
@@ -79,9 +82,13 @@ fn is_same(a: &Bot, b: &Bot) -> bool
 /// Adds the bodies of members.
 fn push_bodies(patch: &mut Patch, members: &[Member])
     requires { length patch.old + length members.now ≤ most_pairs }
-    ensures { patch.new ≡ patch.old ++ map body_now members.now }
+    ensures { patch.new ≡ patch.old ++ map body_change members.now }
 {
     for member in members {
-        patch.push(CellName::Body(member.id), Cell::Body(member.now));
+        patch.push(
+            CellName::Body(member.id),
+            Cell::Body(member.found),
+            Cell::Body(member.now),
+        );
     }
 }

@@ -183,7 +183,7 @@ impl Draft {
         Ok(())
     }
 
-    /// Adds the cells that differ from what was found, with their values now, to an empty patch: at most one node, which stands
+    /// Adds the cells that differ from what was found, with their values then and now, to an empty patch: at most one node, which stands
     /// first, and the bodies in rising id. What the copy has reached is reached by writes and then at most one movement.
     pub fn push_changes(&self, patch: &mut Patch)
         requires none { patch.old ≡ [] }

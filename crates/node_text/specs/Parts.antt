@@ -64,6 +64,10 @@ outside least most t = if nat_le least (lexeme_value t) && nat_le (lexeme_value 
 abbrev pub may_have_walls : ℕ → Bool
 may_have_walls version = nat_le 2 version
 
+-- the journal of texts of the version has old values
+abbrev pub has_old_values : ℕ → Bool
+has_old_values version = nat_le 3 version
+
 -- ---- counts
 
 -- one too many, where so many may come, behind so many

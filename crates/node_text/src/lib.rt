@@ -10,4 +10,4 @@ pub use parts::{
     read_word_within,
 };
 pub use printing::{put_bot, put_node, put_port};
-pub use versions::may_have_walls;
+pub use versions::{has_old_values, may_have_walls};

@@ -9,3 +9,10 @@ pub fn may_have_walls(version: u8) -> bool
 {
     version >= 2
 }
+
+/// Whether the journal of texts of the version has old values.
+pub fn has_old_values(version: u8) -> bool
+    ensures { result ≡ spec.has_old_values version }
+{
+    version >= 3
+}

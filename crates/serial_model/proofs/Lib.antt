@@ -1,2 +1,3 @@
 pub mod FirstNoSteps
+pub mod PlainRuns
 pub mod SameChanges

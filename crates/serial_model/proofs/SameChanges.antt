@@ -1,5 +1,6 @@
 -- When changes are the same: `==` at each part says so.
-use Rattle.std.proofs.Common.{rules, ◌≡◌, Bool, ◌&&◌, ◌⊎◌, inl, inr, ap, refl}
+use Rattle.std.proofs.Common.{rules, ◌≡◌, Bool, true, false, ◌&&◌, ◌⊎◌, inl, inr, ap, sym, ◌∙◌, refl}
+use Rattle.std.specs.Prelude.{nat_eq}
 use Rattle.std.specs.Bool.{Decides}
 use Rattle.std.specs.Cmp.Lexicographic.{pointwise}
 use Rattle.std.proofs.lemmas.Bool.{cases_Bool, both_ways, eqb-true, eq-eqb, and_parts, and_from}
@@ -9,10 +10,12 @@ use Rattle.amoebot_state.specs.declared.cell.Cell.{Cell}
 use Rattle.amoebot_state.specs.declared.cell.Cell.TheVariants as cell
 use Rattle.amoebot_state.specs.declared.verdict.Moved.{Moved}
 use Rattle.amoebot_state.specs.declared.verdict.Change.{Change}
+use Rattle.amoebot_state.specs.declared.verdict.PlainEntry.{PlainEntry}
 use Rattle.amoebot_state.specs.contracts.cell.CellNamePartialEq.TheImpl as same_name
 use Rattle.amoebot_state.specs.contracts.cell.CellPartialEq.TheImpl as same_cell
 use Rattle.amoebot_state.specs.contracts.verdict.MovedPartialEq.TheImpl as same_moved
-use Rattle.amoebot_state.specs.Pairs.{Pairs}
+use Rattle.amoebot_state.specs.Pairs.{CellChange, Pairs, Triples, plain_patch}
+use Rattle.serial_model.specs.Replays.{IsToldBy}
 use Rattle.amoebot_state.proofs.Values.{fields_decide, chirs_decide}
 
 -- two tests in a row
@@ -36,9 +39,42 @@ cells_decide (cell.Body a) (cell.Body b) =
 pairs_decide : (p q : CellName × Cell) → Decides (same_name.eq-value.it p.0 q.0 && same_cell.eq-value.it p.1 q.1) (p ≡ q)
 pairs_decide p q = both_decide (names_decide p.0 q.0) (cells_decide p.1 q.1) (λ n x. λ i. (n i, x i)) (ap (λ (x : CellName × Cell). x.0)) (ap (λ (x : CellName × Cell). x.1))
 
+triples_decide : (s t : CellChange) → Decides ((same_name.eq-value.it s.0 t.0 && same_cell.eq-value.it s.1 t.1) && same_cell.eq-value.it s.2 t.2) (s ≡ t)
+triples_decide s t =
+    let first = both_decide {R = (s.0 ≡ t.0) × (s.1 ≡ t.1)} (names_decide s.0 t.0) (cells_decide s.1 t.1) (λ n x. (n, x)) (λ r. r.0) (λ r. r.1) in
+    both_decide first (cells_decide s.2 t.2) (λ r y. λ i. (r.0 i, r.1 i, y i)) (λ e. (ap (λ (x : CellChange). x.0) e, ap (λ (x : CellChange). x.1) e)) (ap (λ (x : CellChange). x.2))
+
 -- `==` of two patches
-pub patches_decide : (ps qs : Pairs) (r : Bool) → r ≡ pointwise (λ (p q : CellName × Cell). same_name.eq-value.it p.0 q.0 && same_cell.eq-value.it p.1 q.1) ps qs → Decides r (ps ≡ qs)
-patches_decide = slice_eq-Decides pairs_decide
+pub patches_decide : (ss ts : Triples) (r : Bool) → r ≡ pointwise (λ (s t : CellChange). (same_name.eq-value.it s.0 t.0 && same_cell.eq-value.it s.1 t.1) && same_cell.eq-value.it s.2 t.2) ss ts → Decides r (ss ≡ ts)
+patches_decide = slice_eq-Decides triples_decide
+
+-- a pair is another where its cell is; else its value says so
+pub by_value : (p q : CellName × Cell) (one two : Bool) → one ≡ same_name.eq-value.it p.0 q.0 → two ≡ same_cell.eq-value.it p.1 q.1 → one ≡ true → Decides two (p ≡ q)
+by_value p q one two names values t =
+    let same = (names_decide p.0 q.0).0 (sym names ∙ t) in
+    (λ u. λ i. (same i, (cells_decide p.1 q.1).0 (sym values ∙ u) i), λ e. values ∙ (cells_decide p.1 q.1).1 (ap (λ (x : CellName × Cell). x.1) e))
+
+pub by_name : (p q : CellName × Cell) (one : Bool) → one ≡ same_name.eq-value.it p.0 q.0 → one ≡ false → Decides one (p ≡ q)
+by_name p q one names f = (λ t. absurd (both_ways _ f t), λ e. names ∙ (names_decide p.0 q.0).1 (ap (λ (x : CellName × Cell). x.0) e))
+
+-- pairs are those of a patch or are not
+plain_decide : (ps : Pairs) (ts : Triples) → Decides (pointwise (λ (p q : CellName × Cell). same_name.eq-value.it p.0 q.0 && same_cell.eq-value.it p.1 q.1) ps (plain_patch ts)) (ps ≡ plain_patch ts)
+plain_decide ps ts = slice_eq-Decides pairs_decide ps (plain_patch ts) _ refl
+
+-- an entry without old values tells a change, or does not
+told_decides : (p : PlainEntry) (change : Change) → Decides (nat_eq p.action change.action && (same_moved.eq-value.it p.moved change.moved && pointwise (λ (p q : CellName × Cell). same_name.eq-value.it p.0 q.0 && same_cell.eq-value.it p.1 q.1) p.patch (plain_patch change.patch))) (IsToldBy p change)
+told_decides p change =
+    let rest = both_decide {R = (p.moved ≡ change.moved) × (p.patch ≡ plain_patch change.patch)} (movements_decide p.moved change.moved) (plain_decide p.patch change.patch) (λ m q. (m, q)) (λ r. r.0) (λ r. r.1) in
+    both_decide {R = IsToldBy p change} (eqb-true p.action change.action, eq-eqb p.action change.action) rest
+    (λ a r. λ i. record { caller = p.caller; turn = p.turn; bot = p.bot; action = sym a i; moved = sym r.0 i; patch = sym r.1 i })
+    (λ e. sym (ap (λ (q : PlainEntry). q.action) e))
+    (λ e. (sym (ap (λ (q : PlainEntry). q.moved) e), sym (ap (λ (q : PlainEntry). q.patch) e)))
+
+pub told_or_not : (p : PlainEntry) (change : Change) → IsToldBy p change ⊎ (IsToldBy p change → ⊥)
+told_or_not p change = elim (cases_Bool _) [
+  | inl t ↦ inl ((told_decides p change).0 t)
+  | inr f ↦ inr (λ told. both_ways _ f ((told_decides p change).1 told))
+]
 
 -- two changes are the same or are not
 pub same_or_not : (one two : Change) → (one ≡ two) ⊎ (one ≡ two → ⊥)

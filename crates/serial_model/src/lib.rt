@@ -1,18 +1,23 @@
 //! The model's runs, one activation at a time.
 #![tactic(auto)]
 
-ghost use Rattle.std.specs.Prelude.{◌≡◌, ◌<◌, length};
+ghost use Rattle.std.specs.Prelude.{◌≡◌, ◌<◌, length, IfNone, IfSome};
 ghost use Rattle.amoebot_state.specs.SerialTurns.{SerialTurn};
+ghost use Rattle.amoebot_state.specs.Steps.{Step, plain_entry};
+ghost use Rattle.serial_model.specs.Replays.{IsNoPlainStep};
 
 mod laws;
 mod replays;
 
 pub use amoebot_state::{Turned, serial_turn_is_unique};
-use amoebot_state::{Decider, Entry, Verdict, World, has_next};
+use amoebot_state::{Decider, Entry, PlainEntry, Verdict, World, has_next};
 pub use laws::{
-    first_no_step_is_unique, no_step_is_another_verdict, run_has_only_steps, run_or_first_no_step,
+    first_no_plain_step_is_unique, first_no_step_is_unique, no_plain_step_is_another_verdict,
+    no_step_is_another_verdict, plain_run_has_only_steps, plain_run_is_run, plain_run_is_unique,
+    plain_run_or_first, plain_step_is_unique, run_has_only_steps, run_or_first_no_step,
 };
-pub use replays::{Differs, replay};
+use replays::make_told;
+pub use replays::{Differs, replay, replay_plain};
 use std::marker::Model;
 
 /// A world that is changed one activation at a time.
@@ -61,6 +66,29 @@ impl Serial {
                 })
             }
         }
+    }
+
+    /// One turn whose entry is this one, apart from the old values of its patch, and whose amoebot is one of the world's: the whole
+    /// entry, if there is such a turn. Where there is none, the world stays.
+    pub fn follow<D: Decider>(&mut self, decider: &D, plain: &PlainEntry) -> Option<Entry>
+        requires { plain.now.bot < length self.old.bots }
+        ensures told { IfSome result (λ e. plain_entry e ≡ plain.now) }
+        ensures step { IfSome result (λ e. Step (D.verdict decider.now) self.old e self.new) }
+        ensures none { IfNone result (IsNoPlainStep (D.verdict decider.now) self.old plain.now) }
+        ensures stays { IfNone result (self.new ≡ self.old) }
+        ensures size { length self.new.bots ≡ length self.old.bots }
+    {
+        let Some(change) = make_told(decider, &mut self.world, plain) else {
+            return None;
+        };
+        Some(Entry {
+            caller: plain.caller,
+            turn: plain.turn,
+            bot: plain.bot,
+            action: change.action,
+            moved: change.moved,
+            patch: change.patch,
+        })
     }
 
     /// The world that was reached.

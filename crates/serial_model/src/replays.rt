@@ -1,10 +1,14 @@
-ghost use Rattle.std.specs.Prelude.{◌≡◌, ◌<◌, length, Decides, IfOk, IfErr};
+ghost use Rattle.std.specs.Prelude.{◌≡◌, ◌<◌, length, Decides, IfNone, IfSome, IfOk, IfErr};
 ghost use Rattle.std.specs.Bool.{OnTrue, OnFalse};
 ghost use Rattle.std.specs.List.{All};
+ghost use Rattle.amoebot_state.specs.Pairs.{plain_patch, plain_triple};
 ghost use Rattle.amoebot_state.specs.Steps.{Run, Step, change_of};
 ghost use Rattle.serial_model.specs.Replays.{AreCountable, IsNoStep, IsFirstNoStep};
+ghost use Rattle.serial_model.specs.Replays.{IsFirstNoPlainStep, IsNoPlainStep, IsToldBy, PlainRun, PlainStep, entry_for};
 
-use amoebot_state::{Change, Decider, Entry, Patch, Verdict, World, has_next};
+use amoebot_state::{
+    Cell, CellName, Change, Decider, Entry, Patch, PlainEntry, PlainPatch, Verdict, World, has_next,
+};
 
 /// The entries are no run: the one at `place`, counted from 0, is the first that is no step.
 #[derive(Clone, Copy, Debug, Drop, PartialEq, Eq)]
@@ -64,5 +68,100 @@ fn tells(entry: &Entry, change: &Change) -> bool
 fn same_patch(patch: &Patch, other: &Patch) -> bool
     ensures { Decides result (patch.now ≡ other.now) }
 {
-    patch.pairs() == other.pairs()
+    patch.triples() == other.triples()
+}
+
+/// Whether the entries, whose amoebots are the world's, are those of a run of the model from the start, apart from their old values:
+/// Ok gives the world that it leads to. Differs gives the first place that is no step; the start is dropped then. It takes no memory.
+pub fn replay_plain<D: Decider>(
+    decider: &D,
+    start: World,
+    entries: &[PlainEntry],
+) -> Result<World, Differs>
+    requires there { All (λ p. p.bot < length start.bots) entries.now }
+    requires few { AreCountable entries.now }
+    ensures run { IfOk result (λ world. PlainRun (D.verdict decider.now) start entries.now world) }
+    ensures differs { IfErr result (λ e. IsFirstNoPlainStep (D.verdict decider.now) start entries.now e.place) }
+{
+    let mut world = start;
+    for (number, plain) in entries.iter().enumerate() {
+        if !makes_plain_step(decider, &mut world, plain) {
+            return Err(Differs {
+                place: number as u32,
+            });
+        }
+    }
+    Ok(world)
+}
+
+/// Makes the step of an entry without old values, if there is one.
+fn makes_plain_step<D: Decider>(decider: &D, world: &mut World, plain: &PlainEntry) -> bool
+    requires { plain.now.bot < length world.old.bots }
+    ensures step { OnTrue result (PlainStep (D.verdict decider.now) world.old plain.now world.new) }
+    ensures none { OnFalse result (IsNoPlainStep (D.verdict decider.now) world.old plain.now) }
+    ensures size { length world.new.bots ≡ length world.old.bots }
+{
+    make_told(decider, world, plain).is_some()
+}
+
+/// Makes the step of an entry without old values, if there is one: the change that was decided.
+#[inline(always)]
+pub(crate) fn make_told<D: Decider>(
+    decider: &D,
+    world: &mut World,
+    plain: &PlainEntry,
+) -> Option<Change>
+    requires { plain.now.bot < length world.old.bots }
+    ensures told { IfSome result (λ change. IsToldBy plain.now change) }
+    ensures step { IfSome result (λ change. Step (D.verdict decider.now) world.old (entry_for plain.now change) world.new) }
+    ensures none { IfNone result (IsNoPlainStep (D.verdict decider.now) world.old plain.now) }
+    ensures stays { IfNone result (world.new ≡ world.old) }
+    ensures size { length world.new.bots ≡ length world.old.bots }
+{
+    let found = world.found(plain.bot);
+    has_next(decider);
+    match decider.decide(&found) {
+        Verdict::Change(change) => {
+            if !tells_plain(plain, &change) {
+                return None;
+            }
+            world.apply(&change.patch);
+            Some(change)
+        }
+        Verdict::Idle | Verdict::Failed(_) => None,
+    }
+}
+
+/// Whether the entry without old values tells this change.
+fn tells_plain(plain: &PlainEntry, change: &Change) -> bool
+    ensures { Decides result (IsToldBy plain.now change.now) }
+{
+    plain.action == change.action
+        && plain.moved == change.moved
+        && same_plain(&plain.patch, &change.patch)
+}
+
+/// Whether this is the patch without its old values.
+fn same_plain(plain: &PlainPatch, patch: &Patch) -> bool
+    ensures { Decides result (plain.now ≡ plain_patch patch.now) }
+{
+    let pairs = plain.pairs();
+    let triples = patch.triples();
+    if pairs.len() != triples.len() {
+        return false;
+    }
+    for (place, pair) in pairs.iter().enumerate() {
+        if !same_pair(pair, &triples[place]) {
+            return false;
+        }
+    }
+    true
+}
+
+/// Whether the pair is the triple without its old value.
+#[inline(always)]
+fn same_pair(pair: &(CellName, Cell), triple: &(CellName, Cell, Cell)) -> bool
+    ensures { Decides result (pair.now ≡ plain_triple triple.now) }
+{
+    pair.0 == triple.0 && pair.1 == triple.2
 }
