@@ -163,6 +163,28 @@ def in_lists(text, callers):
     return front + "\n".join(["lists", f"turns {turns // callers}", *lists, "end"]) + "\n"
 
 
+def full_journal(version):
+    """A run whose text is nearly as long as one can be: an expanded amoebot writes each value of its eight neighbours and of itself, in 65,536 turns.
+
+    Numbers have as many digits as they can have. The nodes lie at the left end of the coordinates, and all other amoebots are far away.
+    """
+    x, y = -4050, -4050
+    near = {(x + end + dx, y + dy) for end in (0, -1) for dx, dy in ((1, 0), (0, 1), (-1, 1), (-1, 0), (0, -1), (1, -1))} - {(x, y), (x - 1, y)}
+    far = [(-4096 + column, -4040 + row) for row in range(32) for column in range(128)][:4096 - len(near) - 1]
+    names = "abcdefgh"
+    actions = []
+    for old, new in ((200, 255), (255, 200)):
+        others, own = (" ; ".join(f"{port}{name} := {new}" for name in names) for port in ("p . ", ""))
+        actions.append(f"action from_{old} when a = {old} do for p in ports ( true ) do {others} od ; {own}")
+    values = " ".join(["200"] * len(names))
+    bots = [f"bot {a} {b} {a} {b} 5 + {values}" for a, b in [*far, *sorted(near)]]
+    return "\n".join([
+        f"amoebot {version}", "program", *(f"var {name} 255" for name in names), *actions, "end",
+        "shape", "area -4096 -4096 128 128", *bots, f"bot {x} {y} {x - 1} {y} 5 + {values}", "end",
+        "lists", "turns 65536", f"list {len(bots)}", "end", "",
+    ])
+
+
 def filled(size=1_048_576):
     """A small document of one mebibyte, nearly all of it comments and blanks."""
     text = document(8, OUT, [(2, 3)])

@@ -39,7 +39,7 @@ syntax keyword amoebotTimes contained times
 " Words of a journal and of marks.
 syntax keyword amoebotEntry contained entry
 syntax keyword amoebotEnd contained head tail
-syntax keyword amoebotCell contained spot body empty
+syntax keyword amoebotCell contained spot body empty to
 syntax keyword amoebotTurn contained turn
 syntax keyword amoebotMark contained done idle failed busy by place
 syntax keyword amoebotFailure contained no_port no_neighbour out_of_range occupied not_contracted not_expanded

@@ -68,7 +68,7 @@ pub static SHOWN: [(&str, &str); 3] = [
 ];
 
 /// Words that are no command.
-pub static NO_COMMANDS: [&[&str]; 46] = [
+pub static NO_COMMANDS: [&[&str]; 53] = [
     &[],
     &[""],
     &["Run"],
@@ -115,6 +115,13 @@ pub static NO_COMMANDS: [&[&str]; 46] = [
     &["sample", "-1"],
     &["sample", "12345678901"],
     &["sample", "1", "2"],
+    &["Renew"],
+    &["RENEW"],
+    &["renewed"],
+    &["-renew"],
+    &["renew", "x"],
+    &["renew", "-1"],
+    &["renew", "renew"],
 ];
 
 /// Steps of two callers by schedules.

@@ -2,6 +2,7 @@
 
 use crate::commands::{COMPARED_AND_CHECKED, INTERLEAVINGS, MEASURED, SHOWN};
 use crate::pieces::{Row, WORKED};
+use crate::renewals::{DIFFERENT, RENEWED};
 use crate::tests::{call, joined};
 use amoebot_run::Status;
 use outer_io::{Failed, MemSink, MemSource, Source, SureSink, SureSource};
@@ -168,6 +169,12 @@ fn each_failing_call_of_a_measure_gives_its_status(rt: HostRuntime) -> Result<()
     check_each_call(&rt, rt.alloc(), &MEASURED[3])
 }
 
+#[test]
+fn each_failing_call_of_a_renewal_gives_its_status(rt: HostRuntime) -> Result<(), Fail> {
+    check_each_call(&rt, rt.alloc(), &RENEWED[0])?;
+    check_each_call(&rt, rt.alloc(), &DIFFERENT[0])
+}
+
 /// The text of a shipped program is its own canonical text.
 #[test]
 fn each_failing_call_of_a_check_gives_its_status(rt: HostRuntime) -> Result<(), Fail> {
@@ -207,11 +214,12 @@ fn the_third_read_fails_and_then_the_second_write(rt: HostRuntime) -> Result<(),
 /// A line that says what is wrong fails as a text does.
 #[test]
 fn a_line_that_is_not_written_is_a_write_fault(rt: HostRuntime) -> Result<(), Fail> {
-    let lines: [(&[&str], &str, &[u32], &str); 4] = [
+    let lines: [(&[&str], &str, &[u32], &str); 5] = [
         (&["walk"], "", &[], "usage: run / interle"),
         (&["run"], "", &[], "refused 1 Truncated\n"),
         (&["run"], "amoebot 1", &[0], "read fault"),
-        (&["replay"], DIFFERENT, &[], "differs 1\n"),
+        (&["replay"], OTHER_SHAPE, &[], "differs 1\n"),
+        (&["renew"], OTHER_SHAPE, &[], "differs 1\n"),
     ];
     for (words, document, failing, line) in lines {
         let mut input = MemSource::new(rt.alloc(), document.as_bytes(), PIECE, failing)?;
@@ -226,7 +234,7 @@ fn a_line_that_is_not_written_is_a_write_fault(rt: HostRuntime) -> Result<(), Fa
 }
 
 /// A journal whose last shape is that of the start.
-const DIFFERENT: &str = "amoebot 1 program action out when contracted move expand head 0 end \
+const OTHER_SHAPE: &str = "amoebot 1 program action out when contracted move expand head 0 end \
     shape area 0 0 8 8 bot 2 3 2 3 0 + end \
     journal entry 0 0 0 0 0 expand head 0 spot 3 3 0 body 0 3 3 2 3 0 + end \
     final area 0 0 8 8 bot 2 3 2 3 0 + end";

@@ -6,6 +6,7 @@
 
 use crate::commands::{COMPARED_AND_CHECKED, INTERLEAVINGS, MEASURED, SHOWN};
 use crate::pieces::{Row, WORKED};
+use crate::renewals::RENEWED;
 use crate::tests::{check, joined};
 use amoebot_run::Status;
 use std::alloc::{AllocError, Global};
@@ -241,6 +242,13 @@ fn fronts_of_an_interleaving_end_in_its_schedule(rt: HostRuntime) -> Result<(), 
 #[test]
 fn fronts_of_a_journal_end_before_its_last_shape(rt: HostRuntime) -> Result<(), Fail> {
     check_row(&rt, rt.alloc(), &COMPARED_AND_CHECKED[2], 4)?;
+    Ok(())
+}
+
+/// The document has old values in its journal.
+#[test]
+fn fronts_of_a_renewed_document_end_before_its_last_shape(rt: HostRuntime) -> Result<(), Fail> {
+    check_row(&rt, rt.alloc(), &RENEWED[1], 4)?;
     Ok(())
 }
 

@@ -14,7 +14,11 @@ mod gates;
 #[cfg(test)]
 mod meetings;
 #[cfg(test)]
+mod old_values;
+#[cfg(test)]
 mod pieces;
+#[cfg(test)]
+mod renewals;
 #[cfg(test)]
 mod reports;
 #[cfg(test)]

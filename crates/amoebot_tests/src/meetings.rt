@@ -20,9 +20,9 @@ pub const MEETINGS: [&[&str]; 4] = [
         "bot 2 3 2 3 0 + 1\nbot 3 3 3 3 0 + 0\nbot 4 3 4 3 0 + 0\nbot 4 2 4 2 0 + 0\n",
         "end\nlists\nturns 6\nlist 3 2 1\nlist 1 2 3\nend\n",
     ],
-    // Two amoebots want one node, one has the border before it, and one has that one before it.
+    // Two amoebots want one node, one has the border before it, and one has that one before it. The journal has old values.
     &[
-        "amoebot 1\nprogram\naction out when contracted move expand head 0\n\
+        "amoebot 3\nprogram\naction out when contracted move expand head 0\n\
         action back when expanded move contract tail\nend\n",
         "shape\narea 0 0 8 8\n",
         "bot 2 3 2 3 0 +\nbot 4 3 4 3 3 +\nbot 7 4 7 4 0 +\nbot 6 4 6 4 0 +\n",

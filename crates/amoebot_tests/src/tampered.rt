@@ -10,11 +10,11 @@ use text_tokens::RefusalKind::{BadEntry, BadPlace};
 const ENTRY: &str = "entry 0 0 0 0 0 expand head 0 spot 3 3 0 body 0 3 3 2 3 0 +\n";
 
 /// What stands behind the entries.
-const REST: &str = "end\nfinal\narea 0 0 8 8\nbot 3 3 2 3 0 +\nend\n\
+pub const REST: &str = "end\nfinal\narea 0 0 8 8\nbot 3 3 2 3 0 +\nend\n\
     turns\nturn 0 0 done 0\nturn 0 1 idle 1\nend\n";
 
 /// Entries that name what is not there, or stand at another place.
-static REFUSED: [Fault; 4] = [
+pub static REFUSED: [Fault; 4] = [
     (
         "replay",
         &[
@@ -74,7 +74,7 @@ static REFUSED: [Fault; 4] = [
 ];
 
 /// Entries that are compared with the run.
-static COMPARED: [Row; 7] = [
+pub static COMPARED: [Row; 7] = [
     (
         "replay",
         &[OUT, ONE, TWO_TURNS, "journal\n", ENTRY, REST],

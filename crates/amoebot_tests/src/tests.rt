@@ -195,18 +195,20 @@ fn looks_at_no_document_above_the_limit(rt: HostRuntime) -> Result<(), Fail> {
         }
         blanks.push(b' ')?;
     }
-    check(
-        &rt,
-        rt.alloc(),
-        &["replay"],
-        blanks.as_slice(),
-        Status::Refused(Refusal {
-            line: 1,
-            kind: RefusalKind::Truncated,
-        }),
-        None,
-        "refused 1 Truncated\n",
-    )?;
+    for word in ["replay", "renew"] {
+        check(
+            &rt,
+            rt.alloc(),
+            &[word],
+            blanks.as_slice(),
+            Status::Refused(Refusal {
+                line: 1,
+                kind: RefusalKind::Truncated,
+            }),
+            None,
+            "refused 1 Truncated\n",
+        )?;
+    }
     Ok(())
 }
 
@@ -264,7 +266,8 @@ impl Sink for FailingSink {
 
 #[test]
 fn judges_the_words_before_it_reads(rt: HostRuntime) -> Result<(), Fail> {
-    let usage = "usage: run / interleave / replay / check / measure / show NAME / sample NUMBER\n";
+    let usage =
+        "usage: run / interleave / replay / check / measure / show NAME / sample NUMBER / renew\n";
     for texts in &NO_COMMANDS {
         let mut input = unread(rt.alloc())?;
         check_line(&rt, rt.alloc(), texts, &mut input, Status::Words, usage)?;

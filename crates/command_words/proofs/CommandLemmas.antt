@@ -18,7 +18,7 @@ use Rattle.shipped_programs.specs.declared.shipped.Shipped.TheVariants.{Hexagon,
 use Rattle.command_words.specs.declared.command.Command.{Command}
 use Rattle.command_words.specs.declared.command.DocumentCommand.{DocumentCommand}
 use Rattle.command_words.specs.declared.command.Command.TheVariants.{Sample}
-use Rattle.command_words.specs.declared.command.DocumentCommand.TheVariants.{Run, Interleave, Replay, Check, Measure}
+use Rattle.command_words.specs.declared.command.DocumentCommand.TheVariants.{Run, Interleave, Replay, Check, Measure, Renew}
 use Rattle.command_words.specs.Words.{AreWordsOf, command_of, of_two_words, numbered_by, shipped, show_in, word_of}
 use Rattle.command_words.specs.Syntax.{begins_with_dash, of_subcommand, words_syntax}
 use Rattle.command_words.proofs.WordsLemmas.{same_word, command_is_its_words}
@@ -38,14 +38,14 @@ pub data First (word : Text) : Type 0 where
   other : subcommand_met names idle word ≡ None → ((words : List Text) → command_of (word ∷ words) ≡ None) → First word
 
 module _ (word : Text) (run : bytes_eq (codes "run") word ≡ false) (interleave : bytes_eq (codes "interleave") word ≡ false) (replay : bytes_eq (codes "replay") word ≡ false)
-    (check : bytes_eq (codes "check") word ≡ false) (measure : bytes_eq (codes "measure") word ≡ false)
+    (check : bytes_eq (codes "check") word ≡ false) (measure : bytes_eq (codes "measure") word ≡ false) (renew : bytes_eq (codes "renew") word ≡ false)
     (is_no_show : bytes_eq (codes "show") word ≡ false) (is_no_sample : bytes_eq (codes "sample") word ≡ false) where
   names_none : subcommand_met names idle word ≡ None
-  names_none = rw (run, interleave, replay, check, measure, is_no_show, is_no_sample) refl
+  names_none = rw (run, interleave, replay, check, measure, renew, is_no_show, is_no_sample) refl
 
   begins_none : (words : List Text) → command_of (word ∷ words) ≡ None
   unfolding of_two_words
-  begins_none [] = rw (run, interleave, replay, check, measure) refl
+  begins_none [] = rw (run, interleave, replay, check, measure, renew) refl
   begins_none (x ∷ []) = rw (is_no_show, is_no_sample) refl
   begins_none (x ∷ y ∷ words) = refl
 
@@ -60,11 +60,14 @@ first_of_words word = elim (cases_Bool (bytes_eq (codes "run") word)) [
         | inl e ↦ document Check (sym (same_word (codes "check") word e))
         | inr check ↦ elim (cases_Bool (bytes_eq (codes "measure") word)) [
           | inl e ↦ document Measure (sym (same_word (codes "measure") word e))
-          | inr measure ↦ elim (cases_Bool (bytes_eq (codes "show") word)) [
-            | inl e ↦ show (sym (same_word (codes "show") word e))
-            | inr is_no_show ↦ elim (cases_Bool (bytes_eq (codes "sample") word)) [
-              | inl e ↦ sample (sym (same_word (codes "sample") word e))
-              | inr is_no_sample ↦ other (names_none word run interleave replay check measure is_no_show is_no_sample) (begins_none word run interleave replay check measure is_no_show is_no_sample)
+          | inr measure ↦ elim (cases_Bool (bytes_eq (codes "renew") word)) [
+            | inl e ↦ document Renew (sym (same_word (codes "renew") word e))
+            | inr renew ↦ elim (cases_Bool (bytes_eq (codes "show") word)) [
+              | inl e ↦ show (sym (same_word (codes "show") word e))
+              | inr is_no_show ↦ elim (cases_Bool (bytes_eq (codes "sample") word)) [
+                | inl e ↦ sample (sym (same_word (codes "sample") word e))
+                | inr is_no_sample ↦ other (names_none word run interleave replay check measure renew is_no_show is_no_sample) (begins_none word run interleave replay check measure renew is_no_show is_no_sample)
+              ]
             ]
           ]
         ]
@@ -87,6 +90,7 @@ document_in_words Interleave rest = fault_in (codes "interleave") (leaf (codes "
 document_in_words Replay rest = fault_in (codes "replay") (leaf (codes "replay") []) refl refl refl rest
 document_in_words Check rest = fault_in (codes "check") (leaf (codes "check") []) refl refl refl rest
 document_in_words Measure rest = fault_in (codes "measure") (leaf (codes "measure") []) refl refl refl rest
+document_in_words Renew rest = fault_in (codes "renew") (leaf (codes "renew") []) refl refl refl rest
 
 document_read : (c : DocumentCommand) → of_subcommand (read (word_of c ∷ [])) ≡ command_of (word_of c ∷ [])
 unfolding clap_on_literals
@@ -95,6 +99,7 @@ document_read Interleave = refl
 document_read Replay = refl
 document_read Check = refl
 document_read Measure = refl
+document_read Renew = refl
 
 document_well : (c : DocumentCommand) → fault (word_of c ∷ []) ≡ []
 unfolding clap_on_literals
@@ -103,6 +108,7 @@ document_well Interleave = refl
 document_well Replay = refl
 document_well Check = refl
 document_well Measure = refl
+document_well Renew = refl
 
 document_alone : (c : DocumentCommand) (x : Text) (words : List Text) → command_of (word_of c ∷ x ∷ words) ≡ None
 unfolding of_two_words
@@ -111,6 +117,7 @@ document_alone Interleave x [] = refl
 document_alone Replay x [] = refl
 document_alone Check x [] = refl
 document_alone Measure x [] = refl
+document_alone Renew x [] = refl
 document_alone c x (y ∷ words) = refl
 
 plain_first : (x : Text) (words : List Text) → list_any begins_with_dash (x ∷ words) ≡ false → begins_with_dash x ≡ false
@@ -181,6 +188,7 @@ words_plain c words (AreWordsOf.document Interleave) = refl
 words_plain c words (AreWordsOf.document Replay) = refl
 words_plain c words (AreWordsOf.document Check) = refl
 words_plain c words (AreWordsOf.document Measure) = refl
+words_plain c words (AreWordsOf.document Renew) = refl
 words_plain c words (AreWordsOf.show Hexagon) = refl
 words_plain c words (AreWordsOf.show Erosion) = refl
 words_plain c words (AreWordsOf.show Line) = refl

@@ -10,13 +10,20 @@ use Rattle.shipped_programs.specs.Shipped.{shipped_name}
 use Rattle.command_words.specs.declared.command.Command.{Command}
 use Rattle.command_words.specs.declared.command.Command.TheVariants.{Document, Show, Sample}
 use Rattle.command_words.specs.declared.command.DocumentCommand.{DocumentCommand}
-use Rattle.command_words.specs.declared.command.DocumentCommand.TheVariants.{Run, Interleave, Replay, Check, Measure}
+use Rattle.command_words.specs.declared.command.DocumentCommand.TheVariants.{Run, Interleave, Replay, Check, Measure, Renew}
 use Rattle.command_words.specs.Words.{AreWordsOf, IsNumberWord, word_of, document_in, documents, show_in, shipped, is_number_word, numbered_by, of_two_words, command_of}
 use Rattle.command_words.specs.Laws.{CommandIsItsWords, SmallWords}
 use Rattle.command_words.proofs.NumberWords.{decides_seed}
 
 pub same_word : (one two : List ℕ) → bytes_eq one two ≡ true → one ≡ two
 same_word one two = (bytes_eq-Decides one two).0
+
+pub other_word : (one two : List ℕ) → (two ≡ one → ⊥) → bytes_eq one two ≡ false
+other_word one two other = by (bytes_eq one two) refl
+  where
+    by : (b : Bool) → bytes_eq one two ≡ b → b ≡ false
+    by true is = absurd (other (sym (same_word one two is)))
+    by false is = refl
 
 -- what a choice gives is what one of its sides gives
 module _ (b : Bool) (one other : Option Command) (c : Command) where
@@ -71,6 +78,7 @@ own_word Interleave = refl
 own_word Replay = refl
 own_word Check = refl
 own_word Measure = refl
+own_word Renew = refl
 
 pub own_name : (program : Shipped) → show_in shipped (shipped_name program) ≡ Some (Show program)
 own_name Hexagon = refl

@@ -12,7 +12,7 @@ use Rattle.shipped_programs.specs.Shipped.{shipped_name}
 use Rattle.command_words.specs.declared.command.Command.{Command}
 use Rattle.command_words.specs.declared.command.Command.TheVariants.{Document, Show, Sample}
 use Rattle.command_words.specs.declared.command.DocumentCommand.{DocumentCommand}
-use Rattle.command_words.specs.declared.command.DocumentCommand.TheVariants.{Run, Interleave, Replay, Check, Measure}
+use Rattle.command_words.specs.declared.command.DocumentCommand.TheVariants.{Run, Interleave, Replay, Check, Measure, Renew}
 
 -- ---- when words are those of a command
 
@@ -23,6 +23,7 @@ word_of Interleave = codes "interleave"
 word_of Replay = codes "replay"
 word_of Check = codes "check"
 word_of Measure = codes "measure"
+word_of Renew = codes "renew"
 
 -- a word that is a number: one digit to ten, which write one below 2^32
 pub record IsNumberWord (digits : List ℕ) (number : ℕ) : Type 0 where
@@ -46,7 +47,7 @@ document_in [] word = None
 document_in (c ∷ cs) word = if bytes_eq (word_of c) word then Some (Document c) else document_in cs word
 
 abbrev pub documents : List DocumentCommand
-documents = Run ∷ Interleave ∷ Replay ∷ Check ∷ Measure ∷ []
+documents = Run ∷ Interleave ∷ Replay ∷ Check ∷ Measure ∷ Renew ∷ []
 
 -- the first of some programs whose name this is
 abbrev pub show_in : List Shipped → List ℕ → Option Command

@@ -38,6 +38,8 @@ pub enum DocumentCommand {
     Check,
     /// Writes the measures of its last shape.
     Measure,
+    /// Writes its journal anew, with the old values of each cell.
+    Renew,
 }
 
 /// The most digits of the number of a sample.
@@ -123,6 +125,7 @@ fn of_word(word: &str) -> Option<Command>
         "replay" => DocumentCommand::Replay,
         "check" => DocumentCommand::Check,
         "measure" => DocumentCommand::Measure,
+        "renew" => DocumentCommand::Renew,
         _ => return None,
     };
     Some(Command::Document(command))

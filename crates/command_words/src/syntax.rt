@@ -18,6 +18,7 @@ pub(crate) fn words_syntax<'a>(alloc: Global) -> Result<Command<'a>, AllocError>
         .subcommand(Command::new(alloc, "replay"))?
         .subcommand(Command::new(alloc, "check"))?
         .subcommand(Command::new(alloc, "measure"))?
+        .subcommand(Command::new(alloc, "renew"))?
         .subcommand(with_argument(alloc, "show", "NAME")?)?
         .subcommand(with_argument(alloc, "sample", "NUMBER")?)
 }

@@ -15,7 +15,7 @@ fn judged(alloc: Global, texts: &[&str]) -> Result<Option<Command>, NoMemory> {
 
 #[test]
 fn each_command_has_its_words(rt: HostRuntime) -> Result<(), Fail> {
-    let commands: [(&[&str], Command); 12] = [
+    let commands: [(&[&str], Command); 13] = [
         (&["run"], Command::Document(DocumentCommand::Run)),
         (
             &["interleave"],
@@ -24,6 +24,7 @@ fn each_command_has_its_words(rt: HostRuntime) -> Result<(), Fail> {
         (&["replay"], Command::Document(DocumentCommand::Replay)),
         (&["check"], Command::Document(DocumentCommand::Check)),
         (&["measure"], Command::Document(DocumentCommand::Measure)),
+        (&["renew"], Command::Document(DocumentCommand::Renew)),
         (&["show", "hexagon"], Command::Show(Shipped::Hexagon)),
         (&["show", "erosion"], Command::Show(Shipped::Erosion)),
         (&["show", "line"], Command::Show(Shipped::Line)),
@@ -39,7 +40,7 @@ fn each_command_has_its_words(rt: HostRuntime) -> Result<(), Fail> {
 }
 
 /// No command has these words.
-const NONE: [&[&str]; 46] = [
+const NONE: [&[&str]; 49] = [
     &[],
     &[""],
     &["", "run"],
@@ -64,6 +65,9 @@ const NONE: [&[&str]; 46] = [
     &["replay", "replay"],
     &["check", "-"],
     &["measure", "1"],
+    &["renew", "x"],
+    &["Renew"],
+    &["renew", "-1"],
     &["show"],
     &["show", "Hexagon"],
     &["show", "hexagons"],

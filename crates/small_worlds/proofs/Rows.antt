@@ -9,7 +9,7 @@ use Rattle.amoebot_state.specs.declared.cell.CellName.TheVariants as name
 use Rattle.amoebot_state.specs.Configs.{Config, IsValid, bot_at}
 use Rattle.amoebot_state.proofs.Faults.{frame_valid, valid_two}
 use Rattle.amoebot_state.proofs.Occupants.{plain_in}
-use Rattle.model_ops.proofs.ExpansionLaws.{expansion_touches_zone, expansion_has_next}
+use Rattle.model_ops.proofs.ExpansionLaws.{expansion_is_lawful}
 use Rattle.claim_core.specs.declared.marks.Mark.TheVariants as mark
 use Rattle.claim_core.specs.Turns.{IsList}
 use Rattle.claim_core.specs.declared.state.Phase.TheVariants.{Ended}
@@ -54,8 +54,8 @@ may_run = record {
   few = omega arith;
   lists = record { few = record { at_most_16 = omega arith; in_all = omega arith }; each = both IsList (0 ∷ []) (1 ∷ []) (one_id 0) (one_id 1) };
   bots = both (All IsThere) (0 ∷ []) (1 ∷ []) (All-cons IsThere 0 [] refl (All-nil IsThere)) (All-cons IsThere 1 [] refl (All-nil IsThere));
-  touches = expansion_touches_zone to_the_right;
-  leads = expansion_has_next to_the_right;
+  touches = λ c i change by. (expansion_is_lawful to_the_right c i change by).touches;
+  leads = λ c i change by. (expansion_is_lawful to_the_right c i change by).leads;
 }
 
 pub same_ids : (i : ℕ) → is_some (bot_at one_refused.world i) ≡ is_some (bot_at two_beside.world i)
@@ -84,7 +84,7 @@ ended : HaveEnded (after two_beside (reverse interleaving))
 ended = two_have_ended (after two_beside (reverse interleaving)) one other refl refl refl
 
 left : IsReportOf two_beside (after two_beside (reverse interleaving)) one_refused
-left = record { first = refl; entries = refl; world = record { rest = refl; size = refl; ids = same_ids; values = refl }; marks = refl }
+left = record { first = refl; entries = refl; world = record { same = record { rest = refl; size = refl; ids = same_ids }; values = refl }; marks = refl }
 
 pub reached : Reached two_beside one_refused
 reached = record { steps = reverse interleaving; ended = ended; left = left }

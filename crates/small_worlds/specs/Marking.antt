@@ -19,11 +19,11 @@ use Rattle.amoebot_state.specs.declared.verdict.Change.{Change}
 use Rattle.amoebot_state.specs.declared.verdict.Moved.TheVariants as moved
 use Rattle.amoebot_state.specs.declared.verdict.Verdict.{Verdict}
 use Rattle.amoebot_state.specs.declared.verdict.Verdict.TheVariants as verdict
-use Rattle.amoebot_state.specs.Pairs.{Pairs, cell_of, cell_value}
+use Rattle.amoebot_state.specs.Pairs.{CellChange, Triples, cell_of, cell_value, plain_patch}
 use Rattle.amoebot_state.specs.Configs.{Config, IsValid, IsBot, frame, bot_at, covers, value, set_bot, has_values}
 use Rattle.amoebot_state.specs.Zones.{Shown, zone, shown_alone}
-use Rattle.amoebot_state.specs.Patches.{IsPatched, HasPatched, IsOrdered}
-use Rattle.amoebot_state.specs.Steps.{DecidesChange, TouchesZone, HasPatchedWorld, ListsDifferences}
+use Rattle.amoebot_state.specs.Patches.{HasOldValues, IsPatched, IsOrdered}
+use Rattle.amoebot_state.specs.Steps.{DecidesChange, IsLawful, IsLawfulPatch}
 use Rattle.amoebot_state.proofs.ShownAlone.{alone_own}
 use Rattle.amoebot_state.proofs.Members.{Contains-from_Has}
 use Rattle.amoebot_state.proofs.Occupants.{occupant_same, id_below}
@@ -34,8 +34,8 @@ use Rattle.amoebot_state.proofs.Zones.{own_in_zone}
 abbrev pub marked_bot : Bot → Bot
 marked_bot b = record b { mem = slice_set b.mem 0 1 }
 
-abbrev pub marks : ℕ → Bot → Pairs
-marks i b = (name.Body i, cell.Body (marked_bot b)) ∷ []
+abbrev pub marks : ℕ → Bot → Triples
+marks i b = (name.Body i, cell.Body b, cell.Body (marked_bot b)) ∷ []
 
 -- variable 0 is 0 and may be 1
 abbrev pub may_mark : List ℕ → Bot → Bool
@@ -123,15 +123,17 @@ module _ (c : Config) (i : ℕ) (b : Bot) (m : Marking c i b) where
   stays (name.Body j) ne = ap (option_map cell.Body) (at_other j (λ e. ne (ap name.Body e)))
 
   -- so the patch leads there
-  patched : IsPatched c (marks i b) (after c i b)
+  patched : IsPatched c (plain_patch (marks i b)) (after c i b)
   patched = record {
     valid = after_valid;
-    rest = refl;
-    size = length-set c.bots i (Some (marked_bot b));
-    ids = λ j. elim (cases_eq j i) [
-      | inl e ↦ ap is_some (ap (bot_at (after c i b)) e ∙ at_own) ∙ sym (ap is_some (ap (bot_at c) e ∙ m.there))
-      | inr ne ↦ ap is_some (at_other j ne)
-    ];
+    same = record {
+      rest = refl;
+      size = length-set c.bots i (Some (marked_bot b));
+      ids = λ j. elim (cases_eq j i) [
+        | inl e ↦ ap is_some (ap (bot_at (after c i b)) e ∙ at_own) ∙ sym (ap is_some (ap (bot_at c) e ∙ m.there))
+        | inr ne ↦ ap is_some (at_other j ne)
+      ];
+    };
     given =
         let P : CellName × Cell → Type 0 = λ p. value (after c i b) p.0 ≡ Some p.1 in
         All-cons P (name.Body i, cell.Body (marked_bot b)) [] (ap (option_map cell.Body) at_own) (All-nil P);
@@ -140,12 +142,12 @@ module _ (c : Config) (i : ℕ) (b : Bot) (m : Marking c i b) where
         stays n (λ e. All-head P (name.Body i, cell.Body (marked_bot b)) [] none (sym e));
   }
 
-  -- it lists one cell, which differs and is in the zone
-  ordered : IsOrdered (marks i b)
+  -- it lists one cell, which differs and is in the zone,
+  ordered : IsOrdered (plain_patch (marks i b))
   ordered zero lt = absurd (omega arith)
   ordered (suc k) lt = absurd (omega arith)
 
-  differs : All (λ (p : CellName × Cell). value c (cell_of p) ≢ Some (cell_value p)) (marks i b)
+  differs : All (λ (p : CellName × Cell). value c (cell_of p) ≢ Some (cell_value p)) (plain_patch (marks i b))
   differs =
       let P : CellName × Cell → Type 0 = λ p. value c (cell_of p) ≢ Some (cell_value p) in
       All-cons P (name.Body i, cell.Body (marked_bot b)) []
@@ -155,11 +157,26 @@ module _ (c : Config) (i : ℕ) (b : Bot) (m : Marking c i b) where
       body_of : {a d : Bot} → Some (cell.Body a) ≡ Some (cell.Body d) → a ≡ d
       body_of e = let f = same_Some _ _ e in cc
 
-  touches : All (λ (p : CellName × Cell). Contains (zone c i) (cell_of p)) (marks i b)
+  touches : All (λ (p : CellName × Cell). Contains (zone c i) (cell_of p)) (plain_patch (marks i b))
   touches =
       let P : CellName × Cell → Type 0 = λ p. Contains (zone c i) p.0 in
       All-cons P (name.Body i, cell.Body (marked_bot b)) []
       (Contains-from_Has (zone c i) (own_in_zone c i b m.there)) (All-nil P)
+
+  -- and its value before is the one found
+  found : HasOldValues c (marks i b)
+  found =
+      let P : CellChange → Type 0 = λ t. value c t.0 ≡ Some t.1 in
+      All-cons P (name.Body i, cell.Body b, cell.Body (marked_bot b)) [] (ap (option_map cell.Body) m.there) (All-nil P)
+
+  lawful : IsLawfulPatch c i (marks i b)
+  lawful = record {
+    touches = touches;
+    leads = (after c i b, patched);
+    ordered = ordered;
+    differs = differs;
+    found = found;
+  }
 
 -- where it decides a change, it may, and the change's patch is this one
 change_is : (i : ℕ) (b : Bot) (t : Bool) (change : Change)
@@ -168,7 +185,7 @@ change_is : (i : ℕ) (b : Bot) (t : Bool) (change : Change)
     → (t ≡ true) × (marks i b ≡ change.patch)
 change_is i b true change e = (refl, ap patch_of e)
   where
-    patch_of : Verdict → Pairs
+    patch_of : Verdict → Triples
     patch_of verdict.Idle = []
     patch_of (verdict.Failed f) = []
     patch_of (verdict.Change change) = change.patch
@@ -189,18 +206,7 @@ is_marking c i change changes =
     record { bot = b; by = record { valid = changes.valid; there = own.1; was = eqb-true _ _ parts.0; may = parts.1 }; patch = told.1 }
 
 -- it keeps the laws of deciders
-pub marking_touches_zone : TouchesZone marking
-marking_touches_zone c i change changes =
+pub marking_is_lawful : IsLawful marking
+marking_is_lawful c i change changes =
     let m = is_marking c i change changes in
-    subst (All (λ (p : CellName × Cell). Contains (zone c i) (cell_of p))) m.patch (touches c i m.bot m.by)
-
-pub marking_has_next : HasPatchedWorld marking
-marking_has_next c i change changes =
-    let m = is_marking c i change changes in
-    subst (HasPatched c) m.patch (after c i m.bot, patched c i m.bot m.by)
-
-pub marking_is_exact : ListsDifferences marking
-marking_is_exact c i change changes =
-    let m = is_marking c i change changes in
-    let P : Pairs → Type 0 = λ ps. IsOrdered ps × All (λ (p : CellName × Cell). value c (cell_of p) ≢ Some (cell_value p)) ps in
-    subst P m.patch (ordered c i m.bot m.by, differs c i m.bot m.by)
+    subst (IsLawfulPatch c i) m.patch (lawful c i m.bot m.by)

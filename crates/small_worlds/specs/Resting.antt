@@ -5,7 +5,7 @@ use Rattle.amoebot_state.specs.declared.verdict.Failure.TheVariants.{Edge}
 use Rattle.amoebot_state.specs.declared.verdict.Verdict.{Verdict}
 use Rattle.amoebot_state.specs.declared.verdict.Verdict.TheVariants as verdict
 use Rattle.amoebot_state.specs.Zones.{Shown}
-use Rattle.amoebot_state.specs.Steps.{TouchesZone, HasPatchedWorld, ListsDifferences}
+use Rattle.amoebot_state.specs.Steps.{IsLawful}
 
 abbrev pub idle : Shown → Verdict
 idle s = verdict.Idle
@@ -29,11 +29,5 @@ pub edge_rests : Rests at_the_edge
 edge_rests s = tt
 
 -- such a program keeps the laws of deciders
-pub resting_touches_zone : (f : Shown → Verdict) → Rests f → TouchesZone f
-resting_touches_zone f rests c i change changes = absurd (subst IsNoChange changes.decided (rests _))
-
-pub resting_has_next : (f : Shown → Verdict) → Rests f → HasPatchedWorld f
-resting_has_next f rests c i change changes = absurd (subst IsNoChange changes.decided (rests _))
-
-pub resting_is_exact : (f : Shown → Verdict) → Rests f → ListsDifferences f
-resting_is_exact f rests c i change changes = absurd (subst IsNoChange changes.decided (rests _))
+pub resting_is_lawful : (f : Shown → Verdict) → Rests f → IsLawful f
+resting_is_lawful f rests c i change changes = absurd (subst IsNoChange changes.decided (rests _))

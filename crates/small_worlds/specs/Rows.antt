@@ -1,6 +1,6 @@
 -- A row of three nodes with two amoebots side by side, each of which is to expand to the right in a turn of its own caller.
 use Rattle.std.specs.Prelude.{ℕ, List, [], ◌∷◌, pos, reverse}
-use Rattle.std.specs.declared.option.Option.TheVariants.{Some}
+use Rattle.std.specs.declared.option.Option.TheVariants.{None, Some}
 use Rattle.tri_lattice.specs.declared.node.Node.{Node}
 use Rattle.tri_lattice.specs.Extent.{Extent}
 use Rattle.amoebot_state.specs.declared.bot.Bot.{Bot}
@@ -63,7 +63,9 @@ expanded =
       bot = 1;
       action = 0;
       moved = moved.Expand to_the_right;
-      patch = (name.Spot (node 2), cell.Spot (Some 1)) ∷ (name.Body 1, cell.Body (bot_in_row 2 1)) ∷ [];
+      patch = (name.Spot (node 2), cell.Spot None, cell.Spot (Some 1))
+          ∷ (name.Body 1, cell.Body (bot_in_row 1 1), cell.Body (bot_in_row 2 1))
+          ∷ [];
     }
 
 abbrev pub one_refused : Report

@@ -7,7 +7,7 @@ use model_ops::Site;
 pub struct Marker;
 
 impl Decider for Marker {
-    ghost use Rattle.small_worlds.specs.Marking.{marking, marking_touches_zone, marking_has_next, marking_is_exact};
+    ghost use Rattle.small_worlds.specs.Marking.{marking, marking_is_lawful};
 
     ghost verdict = { λ _. marking };
 
@@ -17,7 +17,11 @@ impl Decider for Marker {
             let mut marked = own;
             marked.mem[0] = 1;
             let mut patch = Patch::new();
-            patch.push(CellName::Body(found.bot()), Cell::Body(marked));
+            patch.push(
+                CellName::Body(found.bot()),
+                Cell::Body(own),
+                Cell::Body(marked),
+            );
             return Verdict::Change(Change {
                 action: 0,
                 moved: Moved::None,
@@ -27,11 +31,7 @@ impl Decider for Marker {
         Verdict::Idle
     }
 
-    ghost touches_zone = { λ _. marking_touches_zone };
-
-    ghost has_next = { λ _. marking_has_next };
-
-    ghost is_exact = { λ _. marking_is_exact };
+    ghost is_lawful = { λ _. marking_is_lawful };
 }
 
 /// The program of one action, whose guard is that the amoebot is contracted, and which expands it through a port.
@@ -41,7 +41,7 @@ pub struct Expander {
 
 impl Decider for Expander {
     ghost use Rattle.model_ops.specs.Expansion.{expansion_verdict_shown};
-    ghost use Rattle.model_ops.proofs.ExpansionLaws.{expansion_touches_zone, expansion_has_next, expansion_is_exact};
+    ghost use Rattle.model_ops.proofs.ExpansionLaws.{expansion_is_lawful};
 
     ghost verdict = { λ d. expansion_verdict_shown d.port };
 
@@ -60,26 +60,18 @@ impl Decider for Expander {
         }
     }
 
-    ghost touches_zone = { λ d. expansion_touches_zone d.port };
-
-    ghost has_next = { λ d. expansion_has_next d.port };
-
-    ghost is_exact = { λ d. expansion_is_exact d.port };
+    ghost is_lawful = { λ d. expansion_is_lawful d.port };
 }
 
 /// The program without actions.
 pub struct Idler;
 
 impl Decider for Idler {
-    ghost use Rattle.small_worlds.specs.Resting.{idle, idle_rests, resting_touches_zone, resting_has_next, resting_is_exact};
+    ghost use Rattle.small_worlds.specs.Resting.{idle, idle_rests, resting_is_lawful};
 
     ghost verdict = { λ _. idle };
 
-    ghost touches_zone = { λ _. resting_touches_zone idle idle_rests };
-
-    ghost has_next = { λ _. resting_has_next idle idle_rests };
-
-    ghost is_exact = { λ _. resting_is_exact idle idle_rests };
+    ghost is_lawful = { λ _. resting_is_lawful idle idle_rests };
 
     fn decide(&self, _found: &Found) -> Verdict {
         Verdict::Idle
@@ -90,15 +82,11 @@ impl Decider for Idler {
 pub struct AtEdge;
 
 impl Decider for AtEdge {
-    ghost use Rattle.small_worlds.specs.Resting.{at_the_edge, edge_rests, resting_touches_zone, resting_has_next, resting_is_exact};
+    ghost use Rattle.small_worlds.specs.Resting.{at_the_edge, edge_rests, resting_is_lawful};
 
     ghost verdict = { λ _. at_the_edge };
 
-    ghost touches_zone = { λ _. resting_touches_zone at_the_edge edge_rests };
-
-    ghost has_next = { λ _. resting_has_next at_the_edge edge_rests };
-
-    ghost is_exact = { λ _. resting_is_exact at_the_edge edge_rests };
+    ghost is_lawful = { λ _. resting_is_lawful at_the_edge edge_rests };
 
     fn decide(&self, _found: &Found) -> Verdict {
         Verdict::Failed(Failure::Edge)

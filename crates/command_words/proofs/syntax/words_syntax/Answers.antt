@@ -13,5 +13,6 @@ returns c =
     let three = c.in_ok-subcommand-3.ensures.shape c.new-3.ensures.local ∙ ap₂ with_subcommand two (top c.new-3.ensures.app) in
     let four = c.in_ok-subcommand-4.ensures.shape c.new-4.ensures.local ∙ ap₂ with_subcommand three (top c.new-4.ensures.app) in
     let five = c.in_ok-subcommand-5.ensures.shape c.new-5.ensures.local ∙ ap₂ with_subcommand four (top c.new-5.ensures.app) in
-    let six = c.in_ok-subcommand-6.ensures.shape c.in_ok-with_argument.ensures.local ∙ ap₂ with_subcommand five c.in_ok-with_argument.ensures.shape in
-    IfOk-weaker c.subcommand-7.result _ _ (λ r adds. adds.shape c.in_ok-with_argument-2.ensures.local ∙ ap₂ with_subcommand six c.in_ok-with_argument-2.ensures.shape) c.subcommand-7.ensures
+    let six = c.in_ok-subcommand-6.ensures.shape c.new-6.ensures.local ∙ ap₂ with_subcommand five (top c.new-6.ensures.app) in
+    let seven = c.in_ok-subcommand-7.ensures.shape c.in_ok-with_argument.ensures.local ∙ ap₂ with_subcommand six c.in_ok-with_argument.ensures.shape in
+    IfOk-weaker c.subcommand-8.result _ _ (λ r adds. adds.shape c.in_ok-with_argument-2.ensures.local ∙ ap₂ with_subcommand seven c.in_ok-with_argument-2.ensures.shape) c.subcommand-8.ensures

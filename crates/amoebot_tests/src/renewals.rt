@@ -1,0 +1,351 @@
+//! Documents that are renewed: in version 3, with the program in its canonical form and the old values in the journal.
+
+use crate::old_values::{DRAGGED_JOURNAL_3, EXPANDED_3, FAR_EXCHANGED_3, OUT_3};
+use crate::pieces::{
+    DRAG, DRAGGED_EXCHANGED, DRAGGED_FINAL, DRAGGED_JOURNAL, EXPANDED, FAR, FAR_EXCHANGED,
+    FAR_FINAL, Fault, NO_ENTRY, ONE, ONE_EACH, OUT, Row, TRAILED_0, TWO_TURNS,
+};
+use crate::tests::{check, check_rows, joined};
+use crate::{old_values, tampered};
+use amoebot_run::Status::{self, Differs, Done};
+use std::alloc::{AllocError, Global};
+use std::process::Abort;
+use std::sync::Wait;
+use std::test::Fail;
+use std::thread::Threads;
+use text_tokens::Refusal;
+use text_tokens::RefusalKind::{OutOfBox, Trailing, Truncated, Unexpected, WrongSection};
+
+/// A document on which the journal agrees, in pieces; what `replay` says of it; and what `renew` writes of it.
+type Renewal = (
+    &'static [&'static str],
+    &'static str,
+    &'static [&'static str],
+);
+
+/// The header and the program of the worked example, as they are renewed.
+const OUT_RENEWED: &str =
+    "amoebot 3\nprogram\nguard off\naction out\nwhen contracted\nmove expand head 0\nend\n";
+
+const EXPANDED_FINAL: &str = "final\narea 0 0 8 8\nbot 3 3 2 3 0 +\nend\n";
+
+const WORKED_TURNS: &str = "turns\nturn 0 0 done 0\nturn 0 1 idle 1\nend\n";
+
+/// The worked example is renewed, and so is what comes of that.
+pub static RENEWED: [Row; 2] = [
+    (
+        "renew",
+        &[OUT, ONE, TWO_TURNS, EXPANDED, EXPANDED_FINAL, WORKED_TURNS],
+        Done,
+        None,
+        &[OUT_RENEWED, ONE, EXPANDED_3, EXPANDED_FINAL],
+    ),
+    (
+        "renew",
+        &[OUT_RENEWED, ONE, EXPANDED_3, EXPANDED_FINAL],
+        Done,
+        None,
+        &[OUT_RENEWED, ONE, EXPANDED_3, EXPANDED_FINAL],
+    ),
+];
+
+static RENEWALS: [Renewal; 9] = [
+    (
+        &[OUT, ONE, TWO_TURNS, EXPANDED, EXPANDED_FINAL, WORKED_TURNS],
+        "agrees 1\n",
+        &[OUT_RENEWED, ONE, EXPANDED_3, EXPANDED_FINAL],
+    ),
+    // From the other versions comes the same.
+    (
+        &[
+            "amoebot 2\nprogram\naction out when contracted move expand head 0\nend\n",
+            ONE,
+            TWO_TURNS,
+            EXPANDED,
+            EXPANDED_FINAL,
+            WORKED_TURNS,
+        ],
+        "agrees 1\n",
+        &[OUT_RENEWED, ONE, EXPANDED_3, EXPANDED_FINAL],
+    ),
+    (
+        &[
+            OUT_3,
+            ONE,
+            TWO_TURNS,
+            "schedule\n0 times 3\nend\n",
+            EXPANDED_3,
+            EXPANDED_FINAL,
+            WORKED_TURNS,
+        ],
+        "agrees 1\n",
+        &[OUT_RENEWED, ONE, EXPANDED_3, EXPANDED_FINAL],
+    ),
+    // The caller and the turn of an entry stay, even if no list has them.
+    (
+        &[
+            OUT,
+            ONE,
+            "journal\nentry 0 3 9 0 0 expand head 0 spot 3 3 0 body 0 3 3 2 3 0 +\nend\n",
+            EXPANDED_FINAL,
+        ],
+        "agrees 1\n",
+        &[
+            OUT_RENEWED,
+            ONE,
+            "journal\n\
+            entry 0 3 9 0 0 expand head 0 spot 3 3 empty to 0 body 0 2 3 2 3 0 + to 3 3 2 3 0 +\n\
+            end\n",
+            EXPANDED_FINAL,
+        ],
+    ),
+    // The old value of the second entry is the new one of the first.
+    (
+        &[DRAG, TRAILED_0, DRAGGED_JOURNAL, DRAGGED_FINAL],
+        "agrees 2\n",
+        &[
+            "amoebot 3\nprogram\nguard off\nvar m 1\n\
+            action drag\nwhen expanded and linked tail 3 and not peer_expanded tail 3\n\
+            move pull tail 3\n\
+            action note\nwhen expanded\ndo m := 1\nmove none\nend\n",
+            TRAILED_0,
+            DRAGGED_JOURNAL_3,
+            DRAGGED_FINAL,
+        ],
+    ),
+    // What is far apart may happen in either order.
+    (
+        &[OUT, FAR, ONE_EACH, FAR_EXCHANGED, FAR_FINAL],
+        "agrees 2\n",
+        &[OUT_RENEWED, FAR, FAR_EXCHANGED_3, FAR_FINAL],
+    ),
+    // Walls are printed row by row. There is no entry.
+    (
+        &[
+            "amoebot 2\nprogram\naction out when contracted move expand head 0\nend\n",
+            "shape\narea 0 0 8 8\nwall 3 3\nwall 5 2\nbot 2 3 2 3 0 +\nend\n",
+            NO_ENTRY,
+            "final\narea 0 0 8 8\nwall 5 2\nwall 3 3\nbot 2 3 2 3 0 +\nend\n",
+            "turns\nturn 0 0 failed blocked 0\nend\n",
+        ],
+        "agrees 0\n",
+        &[
+            OUT_RENEWED,
+            "shape\narea 0 0 8 8\nwall 5 2\nwall 3 3\nbot 2 3 2 3 0 +\nend\n",
+            NO_ENTRY,
+            "final\narea 0 0 8 8\nwall 5 2\nwall 3 3\nbot 2 3 2 3 0 +\nend\n",
+        ],
+    ),
+    // An action that changes nothing.
+    (
+        &[
+            "amoebot 1\nprogram\nvar m 1\naction a when true do m := 1 ; m := 0\nend\n",
+            "shape\narea 0 0 8 8\nbot 2 3 2 3 0 + 0\nend\n",
+            "journal\nentry 0 0 0 0 0 none\nend\n",
+            "final\narea 0 0 8 8\nbot 2 3 2 3 0 + 0\nend\n",
+        ],
+        "agrees 1\n",
+        &[
+            "amoebot 3\nprogram\nguard off\nvar m 1\n\
+            action a\nwhen true\ndo m := 1 ; m := 0\nmove none\nend\n",
+            "shape\narea 0 0 8 8\nbot 2 3 2 3 0 + 0\nend\n",
+            "journal\nentry 0 0 0 0 0 none\nend\n",
+            "final\narea 0 0 8 8\nbot 2 3 2 3 0 + 0\nend\n",
+        ],
+    ),
+    // Comments, sections on one line, parentheses, zeros before numbers, lists, a schedule and turns are left out.
+    (
+        &[
+            "# An amoebot writes.\namoebot 01 program # no guard\nvar m 03 action a ",
+            "when ( ( m = 00 ) ) do m := 1 ; m := m + 1 end shape area 0 -0 008 8 ",
+            "bot 2 3 2 3 0 + 0 end lists turns 1 list 0 end schedule 0 times 3 end journal\n",
+            "entry 0 0 0 0 0 none body 0 2 3 02 3 0 + 2 # done\nend final area 0 0 8 8\n",
+            "bot 2 3 2 3 0 + 2 end turns turn 0 0 done 0 end",
+        ],
+        "agrees 1\n",
+        &[
+            "amoebot 3\nprogram\nguard off\nvar m 3\n\
+            action a\nwhen m = 0\ndo m := 1 ; m := m + 1\nmove none\nend\n",
+            "shape\narea 0 0 8 8\nbot 2 3 2 3 0 + 0\nend\n",
+            "journal\nentry 0 0 0 0 0 none body 0 2 3 2 3 0 + 0 to 2 3 2 3 0 + 2\nend\n",
+            "final\narea 0 0 8 8\nbot 2 3 2 3 0 + 2\nend\n",
+        ],
+    ),
+];
+
+/// Journals that differ, which are not renewed.
+pub static DIFFERENT: [Row; 4] = [
+    // An old value is another one.
+    (
+        "renew",
+        &[
+            OUT_RENEWED,
+            ONE,
+            "journal\nentry 0 0 0 0 0 expand head 0 spot 3 3 empty to 0 body 0 2 3 2 3 1 + to 3 3 2 3 0 +\nend\n",
+            EXPANDED_FINAL,
+        ],
+        Differs(0),
+        None,
+        &["differs 0\n"],
+    ),
+    // Each entry is a step, and the last shape is that of the start.
+    (
+        "renew",
+        &[
+            OUT,
+            ONE,
+            EXPANDED,
+            "final\narea 0 0 8 8\nbot 2 3 2 3 0 +\nend\n",
+        ],
+        Differs(1),
+        None,
+        &["differs 1\n"],
+    ),
+    // The last shape lacks a wall.
+    (
+        "renew",
+        &[
+            OUT_3,
+            "shape\narea 0 0 8 8\nwall 5 5\nbot 2 3 2 3 0 +\nend\n",
+            EXPANDED_3,
+            EXPANDED_FINAL,
+        ],
+        Differs(1),
+        None,
+        &["differs 1\n"],
+    ),
+    // The two entries, the other way round.
+    (
+        "renew",
+        &[DRAG, TRAILED_0, DRAGGED_EXCHANGED, DRAGGED_FINAL],
+        Differs(0),
+        None,
+        &["differs 0\n"],
+    ),
+];
+
+/// Documents that are none of the form Replay.
+static REFUSED: [Fault; 5] = [
+    // There is no journal.
+    (
+        "replay",
+        &[OUT, ONE, TWO_TURNS],
+        13,
+        Truncated,
+        "refused 13 Truncated\n",
+    ),
+    (
+        "replay",
+        &[OUT, ONE, EXPANDED, EXPANDED_FINAL, "more\n"],
+        16,
+        Trailing,
+        "refused 16 Trailing\n",
+    ),
+    (
+        "replay",
+        &[OUT, ONE, EXPANDED_FINAL],
+        9,
+        WrongSection,
+        "refused 9 WrongSection\n",
+    ),
+    (
+        "replay",
+        &[OUT, "shape\narea 0 0 8 8\nbot 9 3 9 3 0 +\nend\n"],
+        7,
+        OutOfBox,
+        "refused 7 OutOfBox\n",
+    ),
+    (
+        "replay",
+        &["amoebot 3\nprogram\naction a when true move none do m := 0\nend\n"],
+        3,
+        Unexpected,
+        "refused 3 Unexpected\n",
+    ),
+];
+
+/// The document is renewed, and what comes of that is renewed to itself. `replay` says the same of both.
+fn check_renewal<R: Abort + Threads + Wait + Sync>(
+    rt: &R,
+    alloc: Global,
+    renewal: &Renewal,
+) -> Result<(), AllocError> {
+    let (pieces, agrees, texts) = renewal;
+    let document = joined(alloc, pieces)?;
+    let text = joined(alloc, texts)?;
+    for bytes in [document.as_bytes(), text.as_bytes()] {
+        check(rt, alloc, &["replay"], bytes, Done, None, agrees)?;
+        check(rt, alloc, &["renew"], bytes, Done, None, text.as_str())?;
+    }
+    Ok(())
+}
+
+/// `renew` and `replay` refuse each document as its row says.
+fn check_refused<R: Abort + Threads + Wait + Sync>(
+    rt: &R,
+    alloc: Global,
+    faults: &[Fault],
+) -> Result<(), AllocError> {
+    for (_, pieces, line, kind, text) in faults {
+        let document = joined(alloc, pieces)?;
+        for word in ["replay", "renew"] {
+            let status = Status::Refused(Refusal {
+                line: *line,
+                kind: *kind,
+            });
+            check(rt, alloc, &[word], document.as_bytes(), status, None, text)?;
+        }
+    }
+    Ok(())
+}
+
+/// `renew` and `replay` say the same of each journal that differs.
+fn check_different<R: Abort + Threads + Wait + Sync>(
+    rt: &R,
+    alloc: Global,
+    rows: &[Row],
+) -> Result<(), AllocError> {
+    for (_, pieces, status, entries, texts) in rows {
+        let document = joined(alloc, pieces)?;
+        let text = joined(alloc, texts)?;
+        if *status != Done {
+            for word in ["replay", "renew"] {
+                check(
+                    rt,
+                    alloc,
+                    &[word],
+                    document.as_bytes(),
+                    *status,
+                    *entries,
+                    text.as_str(),
+                )?;
+            }
+        }
+    }
+    Ok(())
+}
+
+#[test]
+fn a_document_is_renewed_once_and_then_stays(rt: HostRuntime) -> Result<(), Fail> {
+    check_rows(&rt, rt.alloc(), &RENEWED)?;
+    for renewal in &RENEWALS {
+        check_renewal(&rt, rt.alloc(), renewal)?;
+    }
+    Ok(())
+}
+
+#[test]
+fn a_journal_that_differs_is_not_renewed(rt: HostRuntime) -> Result<(), Fail> {
+    check_different(&rt, rt.alloc(), &DIFFERENT)?;
+    check_different(&rt, rt.alloc(), &old_values::COMPARED)?;
+    check_different(&rt, rt.alloc(), &tampered::COMPARED)?;
+    Ok(())
+}
+
+#[test]
+fn renew_refuses_what_replay_refuses(rt: HostRuntime) -> Result<(), Fail> {
+    check_refused(&rt, rt.alloc(), &REFUSED)?;
+    check_refused(&rt, rt.alloc(), &old_values::REFUSED)?;
+    check_refused(&rt, rt.alloc(), &tampered::REFUSED)?;
+    Ok(())
+}
