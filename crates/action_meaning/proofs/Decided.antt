@@ -11,7 +11,7 @@ use Rattle.amoebot_state.specs.declared.verdict.Verdict.{Verdict}
 use Rattle.amoebot_state.specs.declared.verdict.Verdict.TheVariants as verdict
 use Rattle.amoebot_state.specs.declared.verdict.Change.{Change}
 use Rattle.amoebot_state.specs.Configs.{Config, IsValid, bot_at}
-use Rattle.amoebot_state.specs.Pairs.{Pairs}
+use Rattle.amoebot_state.specs.Pairs.{Triples}
 use Rattle.amoebot_state.specs.Patches.{diff}
 use Rattle.amoebot_state.specs.Zones.{Shown, IsShown, shown, shown_alone}
 use Rattle.amoebot_state.proofs.ShownAlone.{shown_alone_shows_the_same}
@@ -102,7 +102,7 @@ module _ (V : Node → Type 0) (B : ℕ → Type 0) (i : ℕ) (first other : Con
   change_told : (a b : Change) → verdict.Change a ≡ verdict.Change b → a.patch ≡ b.patch
   change_told a b e = ap patch_of e
     where
-      patch_of : Verdict → Pairs
+      patch_of : Verdict → Triples
       patch_of (verdict.Change change) = change.patch
       patch_of verdict.Idle = []
       patch_of (verdict.Failed f) = []

@@ -1,5 +1,6 @@
 -- Expressions and programs on four small configurations, each with its value or its failure, written out by hand.
 use Rattle.std.specs.Prelude.{ℕ, ℤ, pos, negsuc, Bool, true, false, List, [], ◌∷◌, codes}
+use Rattle.std.specs.declared.option.Option.{Option}
 use Rattle.std.specs.declared.option.Option.TheVariants.{Some, None}
 use Rattle.std.specs.declared.result.Result.{Result}
 use Rattle.std.specs.declared.result.Result.TheVariants.{Ok, Err}
@@ -9,9 +10,7 @@ use Rattle.amoebot_state.specs.declared.bot.Bot.{Bot}
 use Rattle.amoebot_state.specs.declared.bot.Chir.{Chir}
 use Rattle.amoebot_state.specs.declared.bot.Chir.TheVariants as chir
 use Rattle.amoebot_state.specs.declared.bot.End.TheVariants.{Head, Tail}
-use Rattle.amoebot_state.specs.declared.cell.CellName.{CellName}
 use Rattle.amoebot_state.specs.declared.cell.CellName.TheVariants as name
-use Rattle.amoebot_state.specs.declared.cell.Cell.{Cell}
 use Rattle.amoebot_state.specs.declared.cell.Cell.TheVariants as cell
 use Rattle.amoebot_state.specs.declared.verdict.Failure.{Failure}
 use Rattle.amoebot_state.specs.declared.verdict.Failure.TheVariants.{NoPort, NoNeighbour, OutOfRange, NotContracted, NotExpanded, PeerNotExpanded, PeerNotContracted, Occupied, Edge, WouldSplit, NoChoice, Blocked}
@@ -19,6 +18,7 @@ use Rattle.amoebot_state.specs.declared.verdict.Moved.{Moved}
 use Rattle.amoebot_state.specs.declared.verdict.Moved.TheVariants as moved
 use Rattle.amoebot_state.specs.declared.verdict.Verdict.{Verdict}
 use Rattle.amoebot_state.specs.declared.verdict.Verdict.TheVariants as verdict
+use Rattle.amoebot_state.specs.Pairs.{CellChange, Triples}
 use Rattle.amoebot_state.specs.Ports.{port}
 use Rattle.amoebot_state.specs.Configs.{Config, frame_of, walled_frame, with_these}
 use Rattle.model_ops.specs.Sights.{sight}
@@ -376,14 +376,19 @@ verdict_shut_in d = verdict_in shut false d
 abbrev set_x : ℕ → Stmt
 set_x n = tree.put x (sum (number n))
 
-abbrev patched : ℕ → Bot → CellName × Cell
-patched i b = (name.Body i, cell.Body b)
+-- an amoebot that is changed, as it was and as it is
+abbrev patched : ℕ → Bot → Bot → CellChange
+patched i was b = (name.Body i, cell.Body was, cell.Body b)
 
-abbrev change : ℕ → List (CellName × Cell) → Verdict
+-- a node that is changed, with its occupant before and now
+abbrev moved_on : Node → Option ℕ → Option ℕ → CellChange
+moved_on v was now = (name.Spot v, cell.Spot was, cell.Spot now)
+
+abbrev change : ℕ → Triples → Verdict
 change action cells = verdict.Change (record { action = action; moved = moved.None; patch = cells })
 
 -- of the one action, with a movement
-abbrev moving : Moved → List (CellName × Cell) → Verdict
+abbrev moving : Moved → Triples → Verdict
 moving by cells = verdict.Change (record { action = 0; moved = by; patch = cells })
 
 abbrev moves : Move → List Action
@@ -395,7 +400,7 @@ verdict_rows =
     ∷ decided 0 (act no [] tree.no_move ∷ []) verdict.Idle
     -- the first action whose guard is not false
     ∷ decided 0 (act no (set_x 1 ∷ []) tree.no_move ∷ act yes (set_x 2 ∷ []) tree.no_move
-    ∷ act yes (set_x 3 ∷ []) tree.no_move ∷ []) (change 1 (patched 0 (record zero { mem = values 2 6 }) ∷ []))
+    ∷ act yes (set_x 3 ∷ []) tree.no_move ∷ []) (change 1 (patched 0 zero (record zero { mem = values 2 6 }) ∷ []))
     ∷ decided 0 (act no [] tree.no_move ∷ act (is (x_at (head 1)) 0) [] tree.no_move ∷ act yes [] tree.no_move ∷ [])
     (verdict.Failed NoNeighbour)
     -- a value that stands there makes no pair, and a change may have none
@@ -410,7 +415,7 @@ verdict_rows =
     ∷ decided 0 (act yes (tree.put_of (first_p Ports no) x (sum tree.inner) ∷ []) tree.no_move ∷ [])
     (verdict.Failed NoChoice)
     ∷ decided 0 (act yes (tree.put_of (head 3) y (sum (tree.own x)) ∷ []) tree.no_move ∷ [])
-    (change 0 (patched 2 (record two { mem = values 7 4 }) ∷ []))
+    (change 0 (patched 2 two (record two { mem = values 7 4 }) ∷ []))
     -- a name of `let` stands for the port that was evaluated at its statement, and is in force in the movement
     ∷ decided 0 (act yes
     (tree.let_be q (tree.at_end Head (tree.held x)) ∷ set_x 5 ∷ tree.put y (sum (dir (tree.bound q))) ∷ [])
@@ -418,19 +423,19 @@ verdict_rows =
     (verdict.Change (record {
       action = 0;
       moved = moved.Expand (port Head 4);
-      patch = (name.Spot (node 3 2), cell.Spot (Some 0)) ∷ patched 0 (body (node 3 2) (node 3 3) 0 chir.Plus 5 4) ∷ [];
+      patch = moved_on (node 3 2) None (Some 0) ∷ patched 0 zero (body (node 3 2) (node 3 3) 0 chir.Plus 5 4) ∷ [];
     }))
     ∷ decided 0 (act yes (tree.if_then yes (stmts (set_x 1 ∷ [])) (stmts (set_x 2 ∷ [])) ∷ []) tree.no_move ∷ [])
-    (change 0 (patched 0 (record zero { mem = values 1 6 }) ∷ []))
+    (change 0 (patched 0 zero (record zero { mem = values 1 6 }) ∷ []))
     ∷ decided 0 (act yes (tree.if_then no (stmts (set_x 1 ∷ [])) (stmts (set_x 2 ∷ [])) ∷ []) tree.no_move ∷ [])
-    (change 0 (patched 0 (record zero { mem = values 2 6 }) ∷ []))
+    (change 0 (patched 0 zero (record zero { mem = values 2 6 }) ∷ []))
     ∷ decided 0 (act yes (tree.if_then no (stmts (set_x 1 ∷ [])) tree.no_stmts ∷ []) tree.no_move ∷ []) (change 0 [])
     -- each condition of a `for` is asked in what was reached: what is done for the first port makes it false for the second
     ∷ decided 0 (act yes (tree.for_each p Ports (is (tree.own x) 4)
     (stmts (set_x 5 ∷ tree.put_of port_p y (sum (number 1)) ∷ [])) ∷ []) tree.no_move ∷ [])
-    (change 0 (patched 0 (record zero { mem = values 5 6 }) ∷ patched 1 (record one { mem = values 2 1 }) ∷ []))
+    (change 0 (patched 0 zero (record zero { mem = values 5 6 }) ∷ patched 1 one (record one { mem = values 2 1 }) ∷ []))
     ∷ decided 0 (act yes (tree.for_each p Ports yes (stmts (tree.put_of port_p y (sum (dir port_p)) ∷ [])) ∷ [])
-    tree.no_move ∷ []) (change 0 (patched 2 (record two { mem = values 7 3 }) ∷ []))
+    tree.no_move ∷ []) (change 0 (patched 2 two (record two { mem = values 7 3 }) ∷ []))
     -- the port of a movement comes before the movement's own conditions
     ∷ decided 3 (act yes [] (tree.through tree.expand (tree.at_end Head (tree.held y))) ∷ []) (verdict.Failed NotContracted)
     ∷ decided 0 (act yes [] (tree.through tree.pull (tree.at_end Head (tree.held y))) ∷ []) (verdict.Failed NoPort)
@@ -448,14 +453,14 @@ verdict_rows =
       action = 0;
       moved = moved.Push (port Head 0);
       patch =
-          (name.Spot (node 4 3), cell.Spot (Some 0)) ∷ patched 0 (body (node 4 3) (node 3 3) 0 chir.Plus 4 6)
-          ∷ patched 1 (body (node 5 3) (node 5 3) 0 chir.Plus 2 0) ∷ [];
+          moved_on (node 4 3) (Some 1) (Some 0) ∷ patched 0 zero (body (node 4 3) (node 3 3) 0 chir.Plus 4 6)
+          ∷ patched 1 one (body (node 5 3) (node 5 3) 0 chir.Plus 2 0) ∷ [];
     }))
     ∷ decided 3 (act yes [] (tree.contract Head) ∷ [])
     (verdict.Change (record {
       action = 0;
       moved = moved.Contract Head;
-      patch = (name.Spot (node 1 1), cell.Spot None) ∷ patched 3 (body (node 0 1) (node 0 1) 1 chir.Plus 0 0) ∷ [];
+      patch = moved_on (node 1 1) (Some 3) None ∷ patched 3 three (body (node 0 1) (node 0 1) 1 chir.Plus 0 0) ∷ [];
     }))
     ∷ []
 
@@ -463,17 +468,17 @@ verdict_rows =
 abbrev pub queue_rows : List VerdictRow
 queue_rows =
     decided 0 (moves (tree.contract Tail))
-    (moving (moved.Contract Tail) ((name.Spot (node 2 3), cell.Spot None) ∷ patched 0 (body (node 3 3) (node 3 3) 0 chir.Plus 4 6) ∷ []))
+    (moving (moved.Contract Tail) (moved_on (node 2 3) (Some 0) None ∷ patched 0 middle (body (node 3 3) (node 3 3) 0 chir.Plus 4 6) ∷ []))
     ∷ decided 0 (moves (tree.contract Head))
-    (moving (moved.Contract Head) ((name.Spot (node 3 3), cell.Spot None) ∷ patched 0 (body (node 2 3) (node 2 3) 0 chir.Plus 4 6) ∷ []))
+    (moving (moved.Contract Head) (moved_on (node 3 3) (Some 0) None ∷ patched 0 middle (body (node 2 3) (node 2 3) 0 chir.Plus 4 6) ∷ []))
     ∷ []
 
 -- amoebot 0 leaves the node of its tail, and amoebot 1 enters it
 abbrev pulled : Verdict
 pulled =
     moving (moved.Pull (port Tail 3))
-    ((name.Spot (node 2 3), cell.Spot (Some 1)) ∷ patched 0 (body (node 3 3) (node 3 3) 0 chir.Plus 4 6)
-    ∷ patched 1 (body (node 2 3) (node 1 3) 2 chir.Minus 2 0) ∷ [])
+    (moved_on (node 2 3) (Some 0) (Some 1) ∷ patched 0 middle (body (node 3 3) (node 3 3) 0 chir.Plus 4 6)
+    ∷ patched 1 back (body (node 2 3) (node 1 3) 2 chir.Minus 2 0) ∷ [])
 
 -- with the guard on, it does not
 abbrev pub guarded_rows : List VerdictRow
@@ -483,7 +488,7 @@ guarded_rows =
     ∷ decided 0 (act yes (set_x 1 ∷ []) (tree.contract Head) ∷ []) (verdict.Failed WouldSplit)
     -- on one side alone
     ∷ decided 2 (moves (tree.contract Head))
-    (moving (moved.Contract Head) ((name.Spot (node 5 3), cell.Spot None) ∷ patched 2 (body (node 4 3) (node 4 3) 0 chir.Plus 7 0) ∷ []))
+    (moving (moved.Contract Head) (moved_on (node 5 3) (Some 2) None ∷ patched 2 front (body (node 4 3) (node 4 3) 0 chir.Plus 7 0) ∷ []))
     ∷ decided 1 (moves (tree.contract Head)) (verdict.Failed NotExpanded)
     -- a pull, which the guard lets pass
     ∷ decided 0 (moves (tree.through tree.pull (tail 3))) pulled
@@ -494,7 +499,7 @@ guarded_rows =
     -- the ports of an expanded amoebot: those of the head, then those of the tail
     ∷ decided 0 (moves (tree.through tree.pull (first_p Ports (tree.negation (tree.tested tree.peer_expanded port_p))))) pulled
     ∷ decided 0 (act yes (tree.for_each p Ports yes (stmts (tree.put_of port_p y (sum (dir port_p)) ∷ set_x 1 ∷ [])) ∷ [])
-    tree.no_move ∷ []) (change 0 (patched 0 (record middle { mem = values 1 6 }) ∷ patched 1 (record back { mem = values 2 3 }) ∷ []))
+    tree.no_move ∷ []) (change 0 (patched 0 middle (record middle { mem = values 1 6 }) ∷ patched 1 back (record back { mem = values 2 3 }) ∷ []))
     -- the edge is at the neighbour's tail, and at a contracted one's head
     ∷ decided 0 (act (tree.tested tree.peer_head (head 0)) [] tree.no_move ∷ act (tree.tested tree.peer_head (tail 3)) [] tree.no_move ∷ [])
     (change 1 [])
@@ -509,7 +514,7 @@ walled_verdict_rows =
     ∷ decided 0 (moves (tree.through tree.push (head 0))) (verdict.Failed NoNeighbour)
     ∷ decided 0 (moves (tree.through tree.expand (first_p Free yes)))
     (moving (moved.Expand (port Head 2))
-    ((name.Spot (node 2 4), cell.Spot (Some 0)) ∷ patched 0 (body (node 2 4) (node 3 3) 0 chir.Plus 4 6) ∷ []))
+    (moved_on (node 2 4) None (Some 0) ∷ patched 0 zero (body (node 2 4) (node 3 3) 0 chir.Plus 4 6) ∷ []))
     ∷ []
 
 -- no node to enter

@@ -1,5 +1,5 @@
--- The reader of a journal is a part for its grammar.
-use Rattle.std.proofs.Common.{ℕ, Bool, List, Some, None, refl}
+-- The reader of a journal, with old values or without them, is a part for its grammar.
+use Rattle.std.proofs.Common.{ℕ, Bool, true, false, List, Some, None, refl}
 use Rattle.std.specs.Prelude.{codes, not, ◌||◌}
 use Rattle.std.proofs.lemmas.Bool.{not-true}
 use Rattle.text_tokens.specs.declared.token.TokenKind.TheVariants.{Word}
@@ -9,7 +9,7 @@ use Rattle.text_tokens.specs.Grammar.{Lang, Then, Made, Judged, Either, Limited,
 use Rattle.text_tokens.specs.Lawful.{Exact, IsPart, always, Starts, AreElements}
 use Rattle.text_tokens.proofs.Exactness.{exact}
 use Rattle.text_tokens.proofs.CarriedTexts.{part_made}
-use Rattle.text_tokens.proofs.Parts.{part_judged}
+use Rattle.text_tokens.proofs.Parts.{part_nothing, part_judged}
 use Rattle.text_tokens.proofs.StartsLemmas.{starts_judged, starts_either}
 use Rattle.text_tokens.proofs.RepeatedLemmas.{at_most_elements, part_repeated}
 use Rattle.text_tokens.proofs.LexemeLemmas.{other_text, starts_numeral, not_either}
@@ -22,9 +22,9 @@ use Rattle.amoebot_state.specs.declared.cell.Cell.TheVariants as cell
 use Rattle.amoebot_state.specs.declared.verdict.Moved.{Moved}
 use Rattle.amoebot_state.specs.declared.verdict.Moved.TheVariants as moved
 use Rattle.node_text.specs.Parts.{word, is_end, one_more, IsWord, IsNumber, IsNode}
-use Rattle.journal_text.specs.Journals.{IsPortBehind, IsEndBehind, IsMovedBy, IsContracted, IsMoved, is_spot_word, is_body_word, is_cell, IsCellText, IsOccupant, IsValueOf, a_pair_of, IsPair, is_entry, numbers_of, AreNumbers, Written, written_entry, past_entries, IsEntryWord, IsWrittenEntry, entry_fault, IsEntry, AreEntries, IsJournal}
+use Rattle.journal_text.specs.Journals.{IsPortBehind, IsEndBehind, IsMovedBy, IsContracted, IsMoved, is_spot_word, is_body_word, is_cell, IsCellText, IsOccupant, IsValueOf, IsOldValue, WrittenChange, written_change, IsPair, is_entry, numbers_of, AreNumbers, WrittenEntry, Written, written_entry, past_entries, IsEntryWord, IsWrittenEntry, entry_fault, IsEntryBy, AreEntriesBy, IsJournalOf, entry_by, IsJournal, plain_by, IsPlainJournal}
 use Rattle.node_text.specs.PartReaders.{a_word}
-use Rattle.journal_text.specs.Readers.{port_behind, end_behind, moved_by, a_contraction, a_movement, a_cell, an_occupant, a_value, a_pair, pair_in, all_pairs, the_numbers, entry_word, a_written_entry, an_entry, entries_from, journal}
+use Rattle.journal_text.specs.Readers.{port_behind, end_behind, moved_by, a_contraction, a_movement, a_cell, an_occupant, a_value, an_old_value, a_pair, pair_in, all_pairs, the_numbers, entry_word, a_written_entry, an_entry, entries_from, journal_by, journal, plain_journal}
 use Rattle.node_text.proofs.PartLaws.{up_to_end, starts_word, part_word, part_word_within, starts_word_within, part_number, starts_means, number_no_word, part_end, part_node, part_port, part_bot}
 
 -- ---- movements
@@ -138,36 +138,47 @@ part_occupant = one_of_two (starts_means (word (codes "empty")) (cell.Spot None)
     (into (λ line. cell.Spot None) (part_word (codes "empty") refl))
     (into (λ id. cell.Spot (Some id)) part_number)
 
-module _ (vars : ℕ) where
+part_old_value : (old : Bool) {P : Lang Cell} {p : Reader Cell} → IsPart P p always → IsPart (IsOldValue old P) (an_old_value old p) always
+unfolding an_old_value
+part_old_value false part = part_nothing None
+part_old_value true part = one_behind part (λ x. into (λ line. Some x) (part_word (codes "to") refl))
+
+module _ (old : Bool) (vars : ℕ) where
   part_value : (c : CellName) → IsPart (IsValueOf vars c) (a_value vars c) always
   unfolding a_value
   part_value (name.Spot v) = part_occupant
   part_value (name.Body id) = into (λ b. cell.Body b) (part_bot vars)
 
-  part_made_pair : (c : CellName) → IsPart (Made (IsValueOf vars c) (λ x. a_pair_of c x)) (a_value vars c >>= λ x. pure (a_pair_of c x)) always
-  part_made_pair c = into (λ x. a_pair_of c x) (part_value c)
+  abbrev ValuesOf : CellName → Lang WrittenChange
+  ValuesOf c = Then (IsOldValue old (IsValueOf vars c)) (λ before. Made (IsValueOf vars c) (λ x. written_change c before x))
 
-  part_pair : IsPart (IsPair vars) (a_pair vars) always
+  abbrev the_values : CellName → Reader WrittenChange
+  the_values c = an_old_value old (a_value vars c) >>= λ before. a_value vars c >>= λ x. pure (written_change c before x)
+
+  part_values : (c : CellName) → IsPart (ValuesOf c) (the_values c) always
+  part_values c = one_behind (part_old_value old (part_value c)) (λ before. into (λ x. written_change c before x) (part_value c))
+
+  part_pair : IsPart (IsPair old vars) (a_pair old vars) always
   unfolding a_pair
-  part_pair = one_behind part_cell part_made_pair
+  part_pair = one_behind part_cell part_values
 
-  starts_pair : Starts (IsPair vars) is_cell no_limit
-  starts_pair = starts_behind starts_cell part_made_pair
+  starts_pair : Starts (IsPair old vars) is_cell no_limit
+  starts_pair = starts_behind starts_cell part_values
 
-  abbrev pub PairIn : ℕ → Lang (CellName × Cell)
-  PairIn room = Limited (IsPair vars) room
+  abbrev pub PairIn : ℕ → Lang WrittenChange
+  PairIn room = Limited (IsPair old vars) room
 
   -- nothing but a pair goes on behind the pairs of an entry
   pub no_pair : Lexeme → Bool
   no_pair t = not (is_cell t)
 
-  pub pair_elements : AreElements PairIn (pair_in vars) is_cell always no_pair
+  pub pair_elements : AreElements PairIn (pair_in old vars) is_cell always no_pair
   unfolding no_pair
-  pair_elements = at_most_elements (IsPair vars) (a_pair vars) is_cell no_limit always no_pair starts_pair part_pair (λ t e. refl) (λ t e. refl) (λ t e. not-true (is_cell t) e)
+  pair_elements = at_most_elements (IsPair old vars) (a_pair old vars) is_cell no_limit always no_pair starts_pair part_pair (λ t e. refl) (λ t e. refl) (λ t e. not-true (is_cell t) e)
 
-  part_pairs : IsPart (AtMost 10 (IsPair vars)) (all_pairs vars) no_pair
+  part_pairs : IsPart (AtMost 10 (IsPair old vars)) (all_pairs old vars) no_pair
   unfolding all_pairs
-  part_pairs = part_repeated PairIn (pair_in vars) (λ room a. less room) is_cell always no_pair pair_elements 10
+  part_pairs = part_repeated PairIn (pair_in old vars) (λ room a. less room) is_cell always no_pair pair_elements 10
 
   -- ---- entries
 
@@ -176,10 +187,10 @@ module _ (vars : ℕ) where
   part_numbers = one_behind part_number (λ place. one_behind part_number (λ caller. one_behind part_number (λ turn. one_behind part_number (λ bot. into (λ action. numbers_of place caller turn bot action) part_number))))
 
   abbrev pub BehindWord : ℕ → Lang Written
-  BehindWord line = Then AreNumbers (λ n. Then IsMoved (λ m. Made (AtMost 10 (IsPair vars)) (λ pairs. written_entry line n m pairs)))
+  BehindWord line = Then AreNumbers (λ n. Then IsMoved (λ m. Made (AtMost 10 (IsPair old vars)) (λ pairs. written_entry line n m pairs)))
 
   abbrev behind_word : ℕ → Reader Written
-  behind_word line = the_numbers >>= λ n. a_movement >>= λ m. all_pairs vars >>= λ pairs. pure (written_entry line n m pairs)
+  behind_word line = the_numbers >>= λ n. a_movement >>= λ m. all_pairs old vars >>= λ pairs. pure (written_entry line n m pairs)
 
   part_behind_word : (line : ℕ) → IsPart (BehindWord line) (behind_word line) no_pair
   part_behind_word line = one_behind part_numbers (λ n. one_behind part_movement (λ m. into (λ pairs. written_entry line n m pairs) part_pairs))
@@ -188,39 +199,54 @@ module _ (vars : ℕ) where
   unfolding entry_word
   part_entry_word before = part_word_within (codes "entry") (past_entries before) refl
 
-  part_written : (before : ℕ) → IsPart (IsWrittenEntry vars before) (a_written_entry vars before) no_pair
+  part_written : (before : ℕ) → IsPart (IsWrittenEntry old vars before) (a_written_entry old vars before) no_pair
   unfolding a_written_entry
   part_written before = one_behind (part_entry_word before) part_behind_word
 
-  starts_written : (before : ℕ) → Starts (IsWrittenEntry vars before) is_entry (past_entries before)
+  starts_written : (before : ℕ) → Starts (IsWrittenEntry old vars before) is_entry (past_entries before)
   starts_written before = starts_behind (starts_word_within (codes "entry") (past_entries before)) part_behind_word
 
-  module _ (bots actions : ℕ) where
-    part_entry : (before : ℕ) → IsPart (IsEntry bots actions vars before) (an_entry bots actions vars before) no_pair
-    unfolding an_entry
-    part_entry before = part_made (Judged (IsWrittenEntry vars before) (entry_fault bots actions before)) (λ w. w.entry) _ no_pair (part_judged (IsWrittenEntry vars before) (a_written_entry vars before) (entry_fault bots actions before) no_pair (part_written before))
+  module _ {E : Type 0} (make : WrittenEntry → E) (bots actions : ℕ) where
+    abbrev EntryIn : ℕ → Lang E
+    EntryIn = IsEntryBy old make bots actions vars
 
-    pub entry_elements : AreElements (IsEntry bots actions vars) (an_entry bots actions vars) is_entry no_pair is_end
+    abbrev entry_in : ℕ → Reader E
+    entry_in = an_entry old make bots actions vars
+
+    part_entry : (before : ℕ) → IsPart (EntryIn before) (entry_in before) no_pair
+    unfolding an_entry
+    part_entry before = part_made (Judged (IsWrittenEntry old vars before) (entry_fault bots actions before)) (λ w. make w.entry) _ no_pair (part_judged (IsWrittenEntry old vars before) (a_written_entry old vars before) (entry_fault bots actions before) no_pair (part_written before))
+
+    pub entry_elements : AreElements EntryIn entry_in is_entry no_pair is_end
     unfolding no_pair
     entry_elements = record {
       over = past_entries;
-      start = λ before. starts_into (λ w. w.entry) (starts_judged (IsWrittenEntry vars before) (entry_fault bots actions before) is_entry (past_entries before) (starts_written before));
+      start = λ before. starts_into (λ w. make w.entry) (starts_judged (IsWrittenEntry old vars before) (entry_fault bots actions before) is_entry (past_entries before) (starts_written before));
       part = part_entry;
       again = λ t e. rw (other_text Word (codes "entry") (codes "spot") t refl e, other_text Word (codes "entry") (codes "body") t refl e) refl;
       ends = λ t e. rw (other_text Word (codes "end") (codes "spot") t refl e, other_text Word (codes "end") (codes "body") t refl e) refl;
       differ = λ t e. other_text Word (codes "end") (codes "entry") t refl e;
     }
 
-    part_entries : (before : ℕ) → IsPart (AreEntries bots actions vars before) (entries_from bots actions vars before) is_end
+    part_entries : (before : ℕ) → IsPart (AreEntriesBy old make bots actions vars before) (entries_from old make bots actions vars before) is_end
     unfolding entries_from
-    part_entries before = part_repeated (IsEntry bots actions vars) (an_entry bots actions vars) one_more is_entry no_pair is_end entry_elements before
+    part_entries before = part_repeated EntryIn entry_in one_more is_entry no_pair is_end entry_elements before
 
-pub part_journal : (bots actions vars : ℕ) → IsPart (IsJournal bots actions vars) (journal bots actions vars) always
-unfolding journal
-part_journal bots actions vars = one_behind (part_word (codes "journal") refl) (λ line. up_to_end (part_entries vars bots actions 0))
+-- ---- the section
+
+module _ {E : Type 0} (old : Bool) (make : WrittenEntry → E) (bots actions vars : ℕ) where
+  pub part_journal_of : IsPart (IsJournalOf old make bots actions vars) (journal_by old make bots actions vars) always
+  unfolding journal_by
+  part_journal_of = one_behind (part_word (codes "journal") refl) (λ line. up_to_end (part_entries old vars make bots actions 0))
+
+  pub exact_journal_of : Exact (IsJournalOf old make bots actions vars) (journal_by old make bots actions vars)
+  exact_journal_of = exact (IsJournalOf old make bots actions vars) (journal_by old make bots actions vars) part_journal_of.law
+
+  pub exact_entries : (before : ℕ) → Exact (AreEntriesBy old make bots actions vars before) (entries_from old make bots actions vars before)
+  exact_entries before = exact (AreEntriesBy old make bots actions vars before) (entries_from old make bots actions vars before) (part_entries old vars make bots actions before).law
 
 pub exact_journal : (bots actions vars : ℕ) → Exact (IsJournal bots actions vars) (journal bots actions vars)
-exact_journal bots actions vars = exact (IsJournal bots actions vars) (journal bots actions vars) (part_journal bots actions vars).law
+exact_journal = exact_journal_of true entry_by
 
-pub exact_entries : (bots actions vars before : ℕ) → Exact (AreEntries bots actions vars before) (entries_from bots actions vars before)
-exact_entries bots actions vars before = exact (AreEntries bots actions vars before) (entries_from bots actions vars before) (part_entries vars bots actions before).law
+pub exact_plain_journal : (bots actions vars : ℕ) → Exact (IsPlainJournal bots actions vars) (plain_journal bots actions vars)
+exact_plain_journal = exact_journal_of false plain_by

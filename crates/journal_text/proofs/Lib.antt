@@ -3,4 +3,8 @@ pub mod FailureWords
 pub mod TurnLaws
 pub mod KnownBots
 pub mod JournalsReread
+pub mod WrittenLines
+pub mod OldValues
+pub mod KeptLimits
+pub mod ChangeWords
 pub mod TurnsReread

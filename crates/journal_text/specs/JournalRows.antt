@@ -1,5 +1,6 @@
--- Some texts of journals, of a world of 3 amoebots, a program of 2 actions and 1 variable, with their entries or their first fault.
-use Rattle.std.specs.Prelude.{ℕ, ℤ, pos, negsuc, List, [], ◌∷◌, ◌++◌, Option, Some, None, Ok, Err, codes}
+-- Some texts of journals without old values, of a world of 3 amoebots, a program of 2 actions and 1 variable, with their entries
+-- or their first fault.
+use Rattle.std.specs.Prelude.{ℕ, ℤ, pos, negsuc, false, List, [], ◌∷◌, ◌++◌, Option, Some, None, Ok, Err, codes}
 use Rattle.text_tokens.specs.declared.refusal.RefusalKind.{RefusalKind}
 use Rattle.text_tokens.specs.declared.refusal.RefusalKind.TheVariants.{BadByte, WordTooLong, Unexpected, TooMany, Truncated, BadRange, BadEntry, BadPlace, Trailing}
 use Rattle.text_tokens.specs.Cursor.{on_line}
@@ -11,29 +12,29 @@ use Rattle.amoebot_state.specs.declared.cell.CellName.{CellName}
 use Rattle.amoebot_state.specs.declared.cell.CellName.TheVariants as name
 use Rattle.amoebot_state.specs.declared.cell.Cell.{Cell}
 use Rattle.amoebot_state.specs.declared.cell.Cell.TheVariants as cell
-use Rattle.amoebot_state.specs.declared.verdict.Entry.{Entry}
+use Rattle.amoebot_state.specs.declared.verdict.PlainEntry.{PlainEntry}
 use Rattle.amoebot_state.specs.declared.verdict.Moved.{Moved}
 use Rattle.amoebot_state.specs.declared.verdict.Moved.TheVariants as moved
 use Rattle.amoebot_state.specs.Pairs.{Pairs}
 use Rattle.amoebot_state.specs.Ports.{port}
 use Rattle.node_text.specs.Parts.{a_node_of, a_bot_of}
-use Rattle.journal_text.specs.Journals.{AreEntries, IsJournal}
+use Rattle.journal_text.specs.Journals.{AreEntriesBy, plain_by, IsPlainJournal}
 use Rattle.text_tokens.specs.Inputs.{Says}
 
 -- a journal with these entries
-abbrev pub YieldsEntries : List ℕ → List Entry → Type 0
-YieldsEntries text entries = Says (IsJournal 3 2 1) text (Ok entries)
+abbrev pub YieldsEntries : List ℕ → List PlainEntry → Type 0
+YieldsEntries text entries = Says (IsPlainJournal 3 2 1) text (Ok entries)
 
 -- a text with this first fault
 abbrev pub FailsAsJournal : List ℕ → ℕ → RefusalKind → Type 0
-FailsAsJournal text line kind = Says (IsJournal 3 2 1) text (Err (on_line line kind))
+FailsAsJournal text line kind = Says (IsPlainJournal 3 2 1) text (Err (on_line line kind))
 
 -- the same of a text with an entry on line 2, of the amoebot 0, of which all but its place, its movement and its pairs is 0,
 -- and what follows
 abbrev pub FailsInJournal : List ℕ → ℕ → RefusalKind → Type 0
 FailsInJournal text line kind = FailsAsJournal (codes "journal\nentry 0 0 0 0 0 " ++ text) line kind
 
-abbrev pub act : ℕ → ℕ → ℕ → ℕ → Moved → Pairs → Entry
+abbrev pub act : ℕ → ℕ → ℕ → ℕ → Moved → Pairs → PlainEntry
 act caller turn bot action moved pairs = record { caller = caller; turn = turn; bot = bot; action = action; moved = moved; patch = pairs }
 
 abbrev pub spot : ℤ → ℤ → Option ℕ → CellName × Cell
@@ -60,7 +61,7 @@ ten_empty_spots =
     empty_spot ∷ empty_spot ∷ empty_spot ∷ empty_spot ∷ empty_spot ∷ empty_spot ∷ empty_spot ∷ empty_spot ∷ empty_spot
     ∷ empty_spot ∷ []
 
-pub record JournalsAreRead : Type 0 where
+pub record PlainJournalsAreRead : Type 0 where
   -- ---- texts
   pub nothing : YieldsEntries (codes "journal end") []
   pub expand : YieldsEntries (codes "journal\nentry 0 0 0 0 0 expand head 5 spot 3 3 0 body 0 3 3 2 3 5 + 255\nend\n")
@@ -80,13 +81,13 @@ pub record JournalsAreRead : Type 0 where
   pub ten_pairs : YieldsEntries (codes "journal entry 0 0 0 0 0 none " ++ nine_spots ++ codes "spot 1 1 empty end")
       (act 0 0 0 0 moved.None ten_empty_spots ∷ [])
   -- no variable, and eight
-  pub no_value : Says (IsJournal 3 2 0) (codes "journal entry 0 0 0 0 0 none body 0 3 3 2 3 0 + end")
+  pub no_value : Says (IsPlainJournal 3 2 0) (codes "journal entry 0 0 0 0 0 none body 0 3 3 2 3 0 + end")
       (Ok (act 0 0 0 0 moved.None (body_pair 0 (long 0 Plus []) ∷ []) ∷ []))
-  pub eight_values : Says (IsJournal 3 2 8)
+  pub eight_values : Says (IsPlainJournal 3 2 8)
       (codes "journal entry 0 0 0 0 0 none body 0 3 3 2 3 0 + 1 2 3 4 5 6 7 8 end")
       (Ok (act 0 0 0 0 moved.None (body_pair 0 (long 0 Plus (1 ∷ 2 ∷ 3 ∷ 4 ∷ 5 ∷ 6 ∷ 7 ∷ 8 ∷ [])) ∷ []) ∷ []))
   -- the last entry that a journal may have
-  pub last_entry : Says (AreEntries 3 2 1 65535) (codes "entry 65535 0 0 0 0 none") (Ok (act 0 0 0 0 moved.None [] ∷ []))
+  pub last_entry : Says (AreEntriesBy false plain_by 3 2 1 65535) (codes "entry 65535 0 0 0 0 none") (Ok (act 0 0 0 0 moved.None [] ∷ []))
   -- ---- numbers past their bounds
   pub direction_6 : FailsInJournal (codes "expand head\n6 end") 3 BadRange
   pub coordinate_10000 : FailsInJournal (codes "none spot 0\n10000 empty end") 3 BadRange
@@ -96,7 +97,7 @@ pub record JournalsAreRead : Type 0 where
   pub value_256 : FailsInJournal (codes "none body 0 3 3 2 3 0 +\n256 end") 3 BadRange
   pub eleventh_pair : FailsInJournal (codes "none " ++ nine_spots ++ codes "spot 1 1 empty\nspot 1 1 empty end") 3 TooMany
   pub eleventh_body : FailsInJournal (codes "none " ++ nine_spots ++ codes "spot 1 1 empty\nbody 0 3 3 2 3 0 + 0 end") 3 TooMany
-  pub one_entry_too_many : Says (AreEntries 3 2 1 65535) (codes "entry 65535 0 0 0 0 none\nentry 65536 0 0 0 0 none")
+  pub one_entry_too_many : Says (AreEntriesBy false plain_by 3 2 1 65535) (codes "entry 65535 0 0 0 0 none\nentry 65536 0 0 0 0 none")
       (Err (on_line 2 TooMany))
   -- ---- entries that are judged
   pub first_place : FailsAsJournal (codes "journal\nentry\n1 0 0 0 0 none end") 2 BadPlace
@@ -125,7 +126,7 @@ pub record JournalsAreRead : Type 0 where
   pub entry_before_end : FailsAsJournal (codes "journal\nentry 0 16 0 0 0 none\n") 2 BadEntry
   -- and before a further entry, which may be one too many
   pub entry_before_entry : FailsAsJournal (codes "journal\nentry 0 16 0 0 0 none\nentry 0 0 0 0 0 none end") 2 BadEntry
-  pub place_before_too_many : Says (AreEntries 3 2 1 65535) (codes "entry 0 0 0 0 0 none\nentry 65536 0 0 0 0 none")
+  pub place_before_too_many : Says (AreEntriesBy false plain_by 3 2 1 65535) (codes "entry 0 0 0 0 0 none\nentry 65536 0 0 0 0 none")
       (Err (on_line 1 BadPlace))
   -- but a further pair comes first
   pub pair_behind_place : FailsAsJournal (codes "journal\nentry 1 0 0 0 0 none\nspot 10000 0 empty end") 3 BadRange
@@ -141,6 +142,14 @@ pub record JournalsAreRead : Type 0 where
   pub value_missing : FailsInJournal (codes "none body 0 3 3 2 3 0 +\nend") 3 Unexpected
   pub value_too_many : FailsInJournal (codes "none body 0 3 3 2 3 0 + 1\n2 end") 3 Unexpected
   pub section_word : FailsInJournal (codes "none\nfinal") 3 Unexpected
+  -- ---- no old values: an entry is over at the word between two, and is judged there
+  pub to_word : FailsInJournal (codes "none spot 3 3 empty\nto 0 end") 3 Unexpected
+  pub entry_before_to : FailsInJournal (codes "none spot 3 3 3\nto 0 end") 2 BadEntry
+  pub place_before_to : FailsAsJournal (codes "journal\nentry 1 0 0 0 0 none spot 1 1 1\nto 1 end") 2 BadPlace
+  pub place_behind_value : FailsAsJournal (codes "journal\nentry 1 0 0 0 0 none spot 3 3 1\nend") 2 BadPlace
+  pub ends_behind_value : FailsAsJournal (codes "journal\nentry 1 0 0 0 0 none spot 3 3 1\n") 2 BadPlace
+  pub byte_behind_value : FailsInJournal (codes "none spot 3 3 3\n$") 2 BadEntry
+  pub ten_and_to : FailsInJournal (codes "none " ++ nine_spots ++ codes "spot 1 1 empty\nto end") 3 Unexpected
   -- ---- what is no token, and the end
   pub bad_byte : FailsInJournal (codes "none\n, end") 3 BadByte
   pub long_number : FailsInJournal (codes "expand head\n0000000001 end") 3 WordTooLong

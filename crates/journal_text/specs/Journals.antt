@@ -1,20 +1,23 @@
--- The section `journal`.
+-- The section `journal`, with old values or without them.
 --   journal := "journal" { entry } "end"
 --   entry   := "entry" place caller turn bot action moved { pair }      five NUMBERs
 --   moved   := "none" | "expand" port | "contract" ( "head" | "tail" ) | "push" port | "pull" port
---   pair    := "spot" node ( NUMBER | "empty" ) | "body" NUMBER amoebot
+--   pair    := "spot" node occ | "body" NUMBER amoebot                              without old values
+--   pair    := "spot" node occ "to" occ | "body" NUMBER amoebot "to" amoebot        with old values
+--   occ     := NUMBER | "empty"
 -- The 65,537th entry and the 11th pair of an entry are TooMany.
 -- Once no further pair comes, an entry is judged, and blamed at its word.
 -- Its place has to be the number of entries before it (else BadPlace).
 -- Its caller has to be at most 15, its turn at most 65,535, its action one of the program's
 -- and each amoebot that it names one of the world's (else BadEntry).
-use Rattle.std.specs.Prelude.{ℕ, Bool, ◌&&◌, ◌||◌, ◌==◌, nat_le, nat_lt, if◌then◌else◌, List, [], ◌∷◌, ◌++◌, Option, Some, None, codes}
+use Rattle.std.specs.Prelude.{ℕ, Bool, true, false, ◌&&◌, ◌||◌, ◌==◌, nat_le, nat_lt, if◌then◌else◌, List, [], ◌∷◌, ◌++◌, map, Option, Some, None, codes}
+use Rattle.std.specs.Option.{unwrap_or}
 use Rattle.std.specs.List.{list_all, flat_map}
 use Rattle.text_tokens.specs.declared.refusal.Refusal.{Refusal}
 use Rattle.text_tokens.specs.declared.refusal.RefusalKind.{RefusalKind}
 use Rattle.text_tokens.specs.declared.refusal.RefusalKind.TheVariants.{BadEntry, BadPlace}
 use Rattle.text_tokens.specs.Text.{Lexeme}
-use Rattle.text_tokens.specs.Grammar.{Lang, IsOne, Then, Made, Closed, Judged, Either, Repeated, AtMost}
+use Rattle.text_tokens.specs.Grammar.{Lang, IsOne, Then, Made, IsNothing, Closed, Judged, Either, Repeated, AtMost}
 use Rattle.amoebot_state.specs.declared.bot.End.{End}
 use Rattle.amoebot_state.specs.declared.bot.Port.{Port}
 use Rattle.amoebot_state.specs.declared.cell.CellName.{CellName}
@@ -22,10 +25,11 @@ use Rattle.amoebot_state.specs.declared.cell.CellName.TheVariants as name
 use Rattle.amoebot_state.specs.declared.cell.Cell.{Cell}
 use Rattle.amoebot_state.specs.declared.cell.Cell.TheVariants as cell
 use Rattle.amoebot_state.specs.declared.verdict.Entry.{Entry}
+use Rattle.amoebot_state.specs.declared.verdict.PlainEntry.{PlainEntry}
 use Rattle.amoebot_state.specs.declared.verdict.Moved.{Moved}
 use Rattle.amoebot_state.specs.declared.verdict.Moved.TheVariants as moved
 use Rattle.amoebot_state.specs.Limits.{most_pairs}
-use Rattle.amoebot_state.specs.Pairs.{Pairs, cell_of, cell_value}
+use Rattle.amoebot_state.specs.Pairs.{CellChange}
 use Rattle.claim_core.specs.Limits.{most_turns}
 use Rattle.journal_text.specs.Limits.{last_caller, last_turn}
 use Rattle.node_text.specs.Parts.{word, is_end, past_most, one_more, IsWord, Means, IsNumber, IsNode, IsEnd, IsPortText, IsBotText}
@@ -51,7 +55,7 @@ IsMoved =
     (Either (IsMovedBy (codes "expand") moved.Expand)
     (Either IsContracted (Either (IsMovedBy (codes "push") moved.Push) (IsMovedBy (codes "pull") moved.Pull))))
 
--- ---- pairs
+-- ---- cells with their values
 
 abbrev pub is_spot_word : Lexeme → Bool
 is_spot_word = word (codes "spot")
@@ -76,11 +80,23 @@ abbrev pub IsValueOf : ℕ → CellName → Lang Cell
 IsValueOf vars (name.Spot v) = IsOccupant
 IsValueOf vars (name.Body id) = Made (IsBotText vars) (λ b. cell.Body b)
 
-abbrev pub a_pair_of : CellName → Cell → CellName × Cell
-a_pair_of c x = (c, x)
+-- the value before and the word behind it, in texts with old values; nothing in those without
+abbrev pub IsOldValue : Bool → Lang Cell → Lang (Option Cell)
+IsOldValue false P = IsNothing None
+IsOldValue true P = Then P (λ x. Made (IsWord (codes "to")) (λ line. Some x))
 
-abbrev pub IsPair : ℕ → Lang (CellName × Cell)
-IsPair vars = Then IsCellText (λ c. Made (IsValueOf vars c) (λ x. a_pair_of c x))
+-- a cell as it is written: with its value before, if the text has it, and its value after
+abbrev pub WrittenChange : Type 0
+WrittenChange = CellName × Option Cell × Cell
+
+abbrev pub written_change : CellName → Option Cell → Cell → WrittenChange
+written_change c before x = (c, before, x)
+
+-- in texts with old values or in those without
+abbrev pub IsPair : Bool → ℕ → Lang WrittenChange
+IsPair old vars =
+    Then IsCellText (λ c. Then (IsOldValue old (IsValueOf vars c)) (λ before.
+    Made (IsValueOf vars c) (λ x. written_change c before x)))
 
 -- ---- entries
 
@@ -103,14 +119,23 @@ AreNumbers =
     Then IsNumber (λ place. Then IsNumber (λ caller. Then IsNumber (λ turn. Then IsNumber (λ bot.
     Made IsNumber (λ action. numbers_of place caller turn bot action)))))
 
--- an entry as it is written, with the line of its word and its place
+-- an entry as it is written
+pub record WrittenEntry : Type 0 where
+  pub caller : ℕ
+  pub turn : ℕ
+  pub bot : ℕ
+  pub action : ℕ
+  pub moved : Moved
+  pub changes : List WrittenChange
+
+-- with the line of its word and its place
 pub record Written : Type 0 where
   pub line : ℕ
   pub place : ℕ
-  pub entry : Entry
+  pub entry : WrittenEntry
 
-abbrev pub written_entry : ℕ → Numbers → Moved → Pairs → Written
-written_entry line n moved pairs =
+abbrev pub written_entry : ℕ → Numbers → Moved → List WrittenChange → Written
+written_entry line n moved changes =
     record {
       line = line;
       place = n.place;
@@ -120,7 +145,7 @@ written_entry line n moved pairs =
         bot = n.bot;
         action = n.action;
         moved = moved;
-        patch = pairs;
+        changes = changes;
       };
     }
 
@@ -132,14 +157,14 @@ past_entries before t = past_most most_turns before t
 abbrev pub IsEntryWord : ℕ → Lang ℕ
 IsEntryWord before = Made (IsOne is_entry (past_entries before)) (λ t. t.line)
 
-abbrev pub IsWrittenEntry : ℕ → ℕ → Lang Written
-IsWrittenEntry vars before =
+abbrev pub IsWrittenEntry : Bool → ℕ → ℕ → Lang Written
+IsWrittenEntry old vars before =
     Then (IsEntryWord before) (λ line. Then AreNumbers (λ n. Then IsMoved (λ m.
-    Made (AtMost most_pairs (IsPair vars)) (λ pairs. written_entry line n m pairs))))
+    Made (AtMost most_pairs (IsPair old vars)) (λ changes. written_entry line n m changes))))
 
 -- ---- judgements
 
--- the amoebots that a pair names
+-- the amoebots that a cell names: its body, its occupant before and its occupant after
 abbrev pub ids_of_name : CellName → List ℕ
 ids_of_name (name.Spot v) = []
 ids_of_name (name.Body id) = id ∷ []
@@ -149,18 +174,22 @@ ids_of_value (cell.Spot None) = []
 ids_of_value (cell.Spot (Some id)) = id ∷ []
 ids_of_value (cell.Body b) = []
 
-abbrev pub ids_of_pair : CellName × Cell → List ℕ
-ids_of_pair p = ids_of_name (cell_of p) ++ ids_of_value (cell_value p)
+abbrev pub ids_of_old : Option Cell → List ℕ
+ids_of_old None = []
+ids_of_old (Some x) = ids_of_value x
+
+abbrev pub ids_of_change : WrittenChange → List ℕ
+ids_of_change t = ids_of_name t.0 ++ (ids_of_old t.1 ++ ids_of_value t.2)
 
 -- all amoebots that an entry names
-abbrev pub ids_of_entry : Entry → List ℕ
-ids_of_entry e = e.bot ∷ flat_map ids_of_pair e.patch
+abbrev pub named_ids : WrittenEntry → List ℕ
+named_ids w = w.bot ∷ flat_map ids_of_change w.changes
 
 -- the caller and the turn are ones that there may be, and there are such an action and such amoebots
-abbrev pub is_known : ℕ → ℕ → Entry → Bool
-is_known bots actions e =
-    nat_le e.caller last_caller && nat_le e.turn last_turn && nat_lt e.action actions
-    && list_all (λ id. nat_lt id bots) (ids_of_entry e)
+abbrev pub is_known : ℕ → ℕ → WrittenEntry → Bool
+is_known bots actions w =
+    nat_le w.caller last_caller && nat_le w.turn last_turn && nat_lt w.action actions
+    && list_all (λ id. nat_lt id bots) (named_ids w)
 
 -- what is wrong with an entry behind so many
 abbrev pub entry_fault : ℕ → ℕ → ℕ → Written → Option Refusal
@@ -171,13 +200,55 @@ entry_fault bots actions before w =
 
 -- ---- the section, of a world of so many amoebots, a program of so many actions, and so many variables
 
-module _ (bots actions vars : ℕ) where
+-- An entry as it is written stands for what is made of it.
+module _ {E : Type 0} (old : Bool) (make : WrittenEntry → E) (bots actions vars : ℕ) where
   -- an entry, behind so many
-  abbrev pub IsEntry : ℕ → Lang Entry
-  IsEntry before = Made (Judged (IsWrittenEntry vars before) (entry_fault bots actions before)) (λ w. w.entry)
+  abbrev pub IsEntryBy : ℕ → Lang E
+  IsEntryBy before = Made (Judged (IsWrittenEntry old vars before) (entry_fault bots actions before)) (λ w. make w.entry)
 
-  abbrev pub AreEntries : ℕ → Lang (List Entry)
-  AreEntries before = Repeated IsEntry one_more before
+  abbrev pub AreEntriesBy : ℕ → Lang (List E)
+  AreEntriesBy before = Repeated IsEntryBy one_more before
 
-  abbrev pub IsJournal : Lang (List Entry)
-  IsJournal = Then (IsWord (codes "journal")) (λ line. Closed (AreEntries 0) is_end)
+  abbrev pub IsJournalOf : Lang (List E)
+  IsJournalOf = Then (IsWord (codes "journal")) (λ line. Closed (AreEntriesBy 0) is_end)
+
+-- ---- with old values
+
+-- the cell with both values; each text with old values has the one before
+abbrev pub full_change : WrittenChange → CellChange
+full_change t = (t.0, unwrap_or t.1 t.2, t.2)
+
+abbrev pub entry_by : WrittenEntry → Entry
+entry_by w =
+    record {
+      caller = w.caller;
+      turn = w.turn;
+      bot = w.bot;
+      action = w.action;
+      moved = w.moved;
+      patch = map full_change w.changes;
+    }
+
+-- that of version 3
+abbrev pub IsJournal : ℕ → ℕ → ℕ → Lang (List Entry)
+IsJournal = IsJournalOf true entry_by
+
+-- ---- without old values
+
+abbrev pub plain_change : WrittenChange → CellName × Cell
+plain_change t = (t.0, t.2)
+
+abbrev pub plain_by : WrittenEntry → PlainEntry
+plain_by w =
+    record {
+      caller = w.caller;
+      turn = w.turn;
+      bot = w.bot;
+      action = w.action;
+      moved = w.moved;
+      patch = map plain_change w.changes;
+    }
+
+-- that of versions 1 and 2
+abbrev pub IsPlainJournal : ℕ → ℕ → ℕ → Lang (List PlainEntry)
+IsPlainJournal = IsJournalOf false plain_by

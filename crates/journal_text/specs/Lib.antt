@@ -1,6 +1,7 @@
 pub mod JournalRows
 pub mod Journals
 pub mod Limits
+pub mod OldValueRows
 pub mod Readers
 pub mod Rereading
 pub mod Texts

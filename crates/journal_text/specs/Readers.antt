@@ -1,5 +1,5 @@
 -- The grammars of the sections as readers, put together as the grammars are.
-use Rattle.std.specs.Prelude.{ℕ, List, Some, None, codes}
+use Rattle.std.specs.Prelude.{ℕ, Bool, true, false, List, Option, Some, None, codes}
 use Rattle.text_tokens.specs.Reading.{Reader, ◌>>=◌, pure, one_within, the_line, no_limit, closed, judged, either, limited, repeated, at_most}
 use Rattle.amoebot_state.specs.declared.bot.End.{End}
 use Rattle.amoebot_state.specs.declared.bot.Port.{Port}
@@ -8,12 +8,12 @@ use Rattle.amoebot_state.specs.declared.cell.CellName.TheVariants as name
 use Rattle.amoebot_state.specs.declared.cell.Cell.{Cell}
 use Rattle.amoebot_state.specs.declared.cell.Cell.TheVariants as cell
 use Rattle.amoebot_state.specs.declared.verdict.Entry.{Entry}
+use Rattle.amoebot_state.specs.declared.verdict.PlainEntry.{PlainEntry}
 use Rattle.amoebot_state.specs.declared.verdict.Moved.{Moved}
 use Rattle.amoebot_state.specs.declared.verdict.Moved.TheVariants as moved
 use Rattle.amoebot_state.specs.Limits.{most_pairs}
-use Rattle.amoebot_state.specs.Pairs.{Pairs}
 use Rattle.node_text.specs.Parts.{word, is_end, one_more}
-use Rattle.journal_text.specs.Journals.{is_spot_word, is_cell, a_pair_of, is_entry, Numbers, numbers_of, Written, written_entry, past_entries, entry_fault}
+use Rattle.journal_text.specs.Journals.{is_spot_word, is_cell, WrittenChange, written_change, is_entry, Numbers, numbers_of, WrittenEntry, Written, written_entry, past_entries, entry_fault, entry_by, plain_by}
 use Rattle.journal_text.specs.Turns.{Nothing, is_failure, is_turn, as_before}
 use Rattle.node_text.specs.PartReaders.{a_word, means, a_number, a_node, an_end, a_port_text, a_bot}
 
@@ -38,7 +38,7 @@ a_movement =
     (either (word (codes "contract")) a_contraction
     (either (word (codes "push")) (moved_by (codes "push") moved.Push) (moved_by (codes "pull") moved.Pull))))
 
--- ---- pairs
+-- ---- cells with their values
 
 unfoldable pub a_cell : Reader CellName
 a_cell =
@@ -48,18 +48,26 @@ a_cell =
 unfoldable pub an_occupant : Reader Cell
 an_occupant = either (word (codes "empty")) (means (word (codes "empty")) (cell.Spot None)) (a_number >>= λ id. pure (cell.Spot (Some id)))
 
+abbrev pub a_bot_value : ℕ → Reader Cell
+a_bot_value vars = a_bot vars >>= λ b. pure (cell.Body b)
+
 unfoldable pub a_value : ℕ → CellName → Reader Cell
 a_value vars (name.Spot v) = an_occupant
-a_value vars (name.Body id) = a_bot vars >>= λ b. pure (cell.Body b)
+a_value vars (name.Body id) = a_bot_value vars
 
-unfoldable pub a_pair : ℕ → Reader (CellName × Cell)
-a_pair vars = a_cell >>= λ c. a_value vars c >>= λ x. pure (a_pair_of c x)
+unfoldable pub an_old_value : Bool → Reader Cell → Reader (Option Cell)
+an_old_value false p = pure None
+an_old_value true p = p >>= λ x. a_word (codes "to") >>= λ line. pure (Some x)
 
-abbrev pub pair_in : ℕ → ℕ → Reader (CellName × Cell)
-pair_in vars room = limited is_cell no_limit room (a_pair vars)
+unfoldable pub a_pair : Bool → ℕ → Reader WrittenChange
+a_pair old vars =
+    a_cell >>= λ c. an_old_value old (a_value vars c) >>= λ before. a_value vars c >>= λ x. pure (written_change c before x)
 
-unfoldable pub all_pairs : ℕ → Reader Pairs
-all_pairs vars = at_most is_cell no_limit most_pairs (a_pair vars)
+abbrev pub pair_in : Bool → ℕ → ℕ → Reader WrittenChange
+pair_in old vars room = limited is_cell no_limit room (a_pair old vars)
+
+unfoldable pub all_pairs : Bool → ℕ → Reader (List WrittenChange)
+all_pairs old vars = at_most is_cell no_limit most_pairs (a_pair old vars)
 
 -- ---- the journal
 
@@ -75,27 +83,35 @@ the_numbers = do
 unfoldable pub entry_word : ℕ → Reader ℕ
 entry_word before = one_within is_entry (past_entries before) >>= λ t. pure t.line
 
-unfoldable pub a_written_entry : ℕ → ℕ → Reader Written
-a_written_entry vars before = do
+unfoldable pub a_written_entry : Bool → ℕ → ℕ → Reader Written
+a_written_entry old vars before = do
   line ← entry_word before
   n ← the_numbers
   m ← a_movement
-  pairs ← all_pairs vars
-  pure (written_entry line n m pairs)
+  changes ← all_pairs old vars
+  pure (written_entry line n m changes)
 
-module _ (bots actions vars : ℕ) where
-  unfoldable pub an_entry : ℕ → Reader Entry
-  an_entry before = judged (a_written_entry vars before) (entry_fault bots actions before) >>= λ w. pure w.entry
+module _ {E : Type 0} (old : Bool) (make : WrittenEntry → E) (bots actions vars : ℕ) where
+  unfoldable pub an_entry : ℕ → Reader E
+  an_entry before = judged (a_written_entry old vars before) (entry_fault bots actions before) >>= λ w. pure (make w.entry)
 
   -- entries behind so many
-  unfoldable pub entries_from : ℕ → Reader (List Entry)
+  unfoldable pub entries_from : ℕ → Reader (List E)
   entries_from before = repeated is_entry an_entry one_more before
 
-  abbrev pub all_entries : Reader (List Entry)
+  abbrev pub all_entries : Reader (List E)
   all_entries = entries_from 0
 
-  unfoldable pub journal : Reader (List Entry)
-  journal = a_word (codes "journal") >>= λ line. closed all_entries is_end
+  unfoldable pub journal_by : Reader (List E)
+  journal_by = a_word (codes "journal") >>= λ line. closed all_entries is_end
+
+-- with old values
+abbrev pub journal : ℕ → ℕ → ℕ → Reader (List Entry)
+journal = journal_by true entry_by
+
+-- and without
+abbrev pub plain_journal : ℕ → ℕ → ℕ → Reader (List PlainEntry)
+plain_journal = journal_by false plain_by
 
 -- ---- the turns
 

@@ -1,5 +1,5 @@
 -- Entries that break no limit are read back from their text, and marks are read.
-use Rattle.std.specs.Prelude.{◌≡◌, ◌≢◌, ◌<◌, ◌≤◌, ◌^◌, ℕ, true, false, List, length, Ok}
+use Rattle.std.specs.Prelude.{◌≡◌, ◌≢◌, ◌<◌, ◌≤◌, ◌^◌, ℕ, true, false, List, length, IfSome, Ok}
 use Rattle.std.specs.List.{All}
 use Rattle.text_tokens.specs.Cursor.{IsShort}
 use Rattle.amoebot_state.specs.declared.cell.CellName.{CellName}
@@ -7,19 +7,21 @@ use Rattle.amoebot_state.specs.declared.cell.CellName.TheVariants as name
 use Rattle.amoebot_state.specs.declared.cell.Cell.{Cell}
 use Rattle.amoebot_state.specs.declared.cell.Cell.TheVariants as cell
 use Rattle.amoebot_state.specs.declared.verdict.Entry.{Entry}
+use Rattle.amoebot_state.specs.declared.verdict.PlainEntry.{PlainEntry}
 use Rattle.amoebot_state.specs.declared.verdict.Failure.{Failure}
 use Rattle.amoebot_state.specs.declared.verdict.Failure.TheVariants as failure
 use Rattle.amoebot_state.specs.declared.verdict.Moved.{Moved}
 use Rattle.amoebot_state.specs.declared.verdict.Moved.TheVariants as moved
 use Rattle.amoebot_state.specs.Limits.{most_vars, most_pairs}
+use Rattle.amoebot_state.specs.Steps.{plain_entry}
 use Rattle.claim_core.specs.declared.marks.Mark.{Mark}
 use Rattle.claim_core.specs.declared.marks.Mark.TheVariants as mark
 use Rattle.claim_core.specs.Limits.{most_callers, most_turns}
 use Rattle.claim_core.specs.Turns.{MarkLists}
 use Rattle.journal_text.specs.Turns.{IsTurns}
-use Rattle.journal_text.specs.Journals.{is_known, IsJournal}
+use Rattle.journal_text.specs.Journals.{WrittenChange, WrittenEntry, is_known, IsJournal, IsPlainJournal}
 use Rattle.text_tokens.specs.Inputs.{Says}
-use Rattle.journal_text.specs.Texts.{journal_text, turns_text}
+use Rattle.journal_text.specs.Texts.{written_full, written_plain, journal_text, plain_text, turns_text}
 use Rattle.node_text.specs.Parts.{may_have_walls}
 use Rattle.node_text.specs.PartLimits.{HasCoordinates, HasLimits}
 
@@ -30,6 +32,10 @@ IsWritablePair vars (name.Spot v, cell.Body b) = ⊥
 IsWritablePair vars (name.Body i, cell.Spot o) = ⊥
 IsWritablePair vars (name.Body i, cell.Body b) = HasLimits vars b
 
+-- the value before is such a one too, where it is written
+abbrev pub IsWritableChange : ℕ → WrittenChange → Type 0
+IsWritableChange vars t = IfSome t.1 (λ x. IsWritablePair vars (t.0, x)) × IsWritablePair vars (t.0, t.2)
+
 abbrev pub IsPossible : Moved → Type 0
 IsPossible moved.None = Unit {0}
 IsPossible (moved.Expand p) = p.dir ≤ 5
@@ -38,11 +44,11 @@ IsPossible (moved.Push p) = p.dir ≤ 5
 IsPossible (moved.Pull p) = p.dir ≤ 5
 
 -- an entry that breaks no limit
-pub record KeepsLimits (bots actions vars : ℕ) (e : Entry) : Type 0 where
-  pub known : is_known bots actions e ≡ true
-  pub movement : IsPossible e.moved
-  pub few : length e.patch ≤ most_pairs
-  pub pairs : All (IsWritablePair vars) e.patch
+pub record KeepsLimits (bots actions vars : ℕ) (w : WrittenEntry) : Type 0 where
+  pub known : is_known bots actions w ≡ true
+  pub movement : IsPossible w.moved
+  pub few : length w.changes ≤ most_pairs
+  pub pairs : All (IsWritableChange vars) w.changes
 
 -- such entries, at most so many, are read back from their text, in a world of so many amoebots, with a program of so many actions
 abbrev pub JournalsReadBack : Type 0
@@ -52,8 +58,26 @@ JournalsReadBack =
     → actions < 2 ^ 8
     → vars ≤ most_vars
     → length entries ≤ most_turns
-    → All (KeepsLimits bots actions vars) entries
+    → All (λ e. KeepsLimits bots actions vars (written_full e)) entries
     → Says (IsJournal bots actions vars) (journal_text vars entries) (Ok entries)
+
+-- so are those without old values
+abbrev pub PlainJournalsReadBack : Type 0
+PlainJournalsReadBack =
+    (bots actions vars : ℕ) (entries : List PlainEntry)
+    → bots < 2 ^ 16
+    → actions < 2 ^ 8
+    → vars ≤ most_vars
+    → length entries ≤ most_turns
+    → All (λ e. KeepsLimits bots actions vars (written_plain e)) entries
+    → Says (IsPlainJournal bots actions vars) (plain_text vars entries) (Ok entries)
+
+-- an entry that breaks no limit breaks none without its old values
+abbrev pub PlainKeepsLimits : Type 0
+PlainKeepsLimits =
+    (bots actions vars : ℕ) (e : Entry)
+    → KeepsLimits bots actions vars (written_full e)
+    → KeepsLimits bots actions vars (written_plain (plain_entry e))
 
 -- ---- marks
 

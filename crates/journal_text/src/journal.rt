@@ -1,6 +1,6 @@
 //! The section `journal` read.
 
-ghost use Rattle.std.specs.Prelude.{◌≡◌, ◌≢◌, ◌<◌, ◌≤◌, length, map, option_map, nat_lt, if◌then◌else◌, IfErr, IfOk, IfSome, Ok, Err, Some, None};
+ghost use Rattle.std.specs.Prelude.{◌≡◌, ◌≢◌, ◌<◌, ◌≤◌, true, false, length, map, option_map, nat_lt, if◌then◌else◌, IfErr, IfOk, IfSome, Ok, Err, Some, None};
 ghost use Rattle.std.specs.List.{flat_map, list_all};
 ghost use Rattle.text_tokens.specs.Cursor.{next_passes};
 ghost use Rattle.text_tokens.specs.Steps.{Gives, ReadsOf, TellsOf, another};
@@ -13,7 +13,9 @@ ghost use Rattle.journal_text.specs.Journals as spec;
 ghost use Rattle.journal_text.specs.Readers as reader;
 ghost use Rattle.journal_text.specs.Views as view;
 
-use amoebot_state::{Bot, Cell, CellName, End, Entry, MOST_PAIRS, Moved, Patch, Port};
+use amoebot_state::{
+    Bot, Cell, CellName, End, Entry, MOST_PAIRS, Moved, Patch, PlainEntry, PlainPatch, Port,
+};
 use arrayvec::ArrayVec;
 use node_text::{read_bot, read_end, read_node, read_port, read_word, read_word_within};
 use std::alloc::Global;
@@ -27,7 +29,7 @@ const LAST_CALLER: u32 = 15;
 
 const LAST_TURN: u32 = 65_535;
 
-/// The entries of a journal. They are seen as a list.
+/// The entries of a journal with old values. They are seen as a list.
 #[derive(Drop)]
 pub struct Entries {
     entries: Vec<Entry>,
@@ -51,6 +53,30 @@ impl Entries {
     }
 }
 
+/// The entries of a journal without old values. They are seen as a list.
+#[derive(Drop)]
+pub struct PlainEntries {
+    entries: Vec<PlainEntry>,
+}
+
+impl Model for PlainEntries {
+    ghost use Rattle.std.specs.Prelude.{List};
+    ghost use Rattle.amoebot_state.specs.declared.verdict.PlainEntry.{PlainEntry as EntryValue};
+
+    ghost Value = { List EntryValue };
+
+    ghost view = { λ e. e.entries.items };
+}
+
+impl PlainEntries {
+    /// The entries in their order, at most 65,536.
+    pub fn entries(&self) -> &[PlainEntry]
+        ensures { result.now ≡ self.now }
+    {
+        self.entries.as_slice()
+    }
+}
+
 /// A cell as it is written: the number of an amoebot may be any.
 #[derive(Clone, Copy, Debug, PartialEq, Eq)]
 pub(crate) enum WrittenCell {
@@ -58,11 +84,19 @@ pub(crate) enum WrittenCell {
     Body(u32),
 }
 
-/// A cell with its new value, as they are written.
+/// A cell as it is written: with its value before, if the text has it, and its value after.
 #[derive(Clone, Copy, Debug, PartialEq, Eq)]
 enum WrittenPair {
-    Spot { node: Node, occupant: Option<u32> },
-    Body { id: u32, bot: Bot },
+    Spot {
+        node: Node,
+        before: Option<Option<u32>>,
+        occupant: Option<u32>,
+    },
+    Body {
+        id: u32,
+        before: Option<Bot>,
+        bot: Bot,
+    },
 }
 
 // The default fills the free places of a list of fixed size, and means nothing else.
@@ -70,6 +104,7 @@ impl Default for WrittenPair {
     fn default() -> Self {
         WrittenPair::Spot {
             node: Node { x: 0, y: 0 },
+            before: None,
             occupant: None,
         }
     }
@@ -157,18 +192,45 @@ fn read_occupant(tokens: &mut Tokens<'_>) -> Result<Option<u32>, ReadRefusal>
     }
 }
 
-#[tactic(auto, unfolding(crate::specs::Readers::a_pair, crate::specs::Readers::a_value))]
-fn read_pair(tokens: &mut Tokens<'_>, vars: u8) -> Result<WrittenPair, ReadRefusal>
+/// The occupant before and the word behind it, in texts with old values. Nothing is read in those without.
+fn read_old_occupant(tokens: &mut Tokens<'_>, old: bool) -> Result<Option<Option<u32>>, ReadRefusal>
+    ensures { Gives (λ o. option_map cell.Spot o) (reader.an_old_value old reader.an_occupant) tokens.old result tokens.new }
+{
+    if !old {
+        return Ok(None);
+    }
+    let occupant = read_occupant(tokens)?;
+    read_word(tokens, b"to")?;
+    Ok(Some(occupant))
+}
+
+/// The same of the amoebot before.
+fn read_old_bot(tokens: &mut Tokens<'_>, old: bool, vars: u8) -> Result<Option<Bot>, ReadRefusal>
     requires { vars ≤ most_vars }
-    ensures { Gives view.pair (reader.a_pair vars) tokens.old result tokens.new }
+    ensures { Gives (λ o. option_map cell.Body o) (reader.an_old_value old (reader.a_bot_value vars)) tokens.old result tokens.new }
+{
+    if !old {
+        return Ok(None);
+    }
+    let bot = read_bot(tokens, vars)?;
+    read_word(tokens, b"to")?;
+    Ok(Some(bot))
+}
+
+#[tactic(auto, unfolding(crate::specs::Readers::a_pair, crate::specs::Readers::a_value))]
+fn read_pair(tokens: &mut Tokens<'_>, old: bool, vars: u8) -> Result<WrittenPair, ReadRefusal>
+    requires { vars ≤ most_vars }
+    ensures { Gives view.pair (reader.a_pair old vars) tokens.old result tokens.new }
 {
     match read_cell(tokens)? {
         WrittenCell::Spot(node) => Ok(WrittenPair::Spot {
             node,
+            before: read_old_occupant(tokens, old)?,
             occupant: read_occupant(tokens)?,
         }),
         WrittenCell::Body(id) => Ok(WrittenPair::Body {
             id,
+            before: read_old_bot(tokens, old, vars)?,
             bot: read_bot(tokens, vars)?,
         }),
     }
@@ -184,11 +246,12 @@ fn is_cell_next(tokens: &Tokens<'_>) -> bool
 /// One more pair, if one comes, where so many more may come.
 fn more_pair(
     tokens: &mut Tokens<'_>,
+    old: bool,
     vars: u8,
     room: u32,
 ) -> Result<Option<WrittenPair>, ReadRefusal>
     requires { vars ≤ most_vars }
-    ensures reads { Gives (λ o. option_map view.pair o) (another spec.is_cell (reader.pair_in vars room)) tokens.old result tokens.new }
+    ensures reads { Gives (λ o. option_map view.pair o) (another spec.is_cell (reader.pair_in old vars room)) tokens.old result tokens.new }
     ensures room { IfOk result (λ o. IfSome o (λ _. 0 < room)) }
 {
     if !is_cell_next(tokens) {
@@ -197,17 +260,22 @@ fn more_pair(
     if room == 0 {
         return Err(tokens.refusal(RefusalKind::TooMany).into());
     }
-    Ok(Some(read_pair(tokens, vars)?))
+    Ok(Some(read_pair(tokens, old, vars)?))
 }
 
 /// The pairs of an entry, in place of those of the entry before.
-fn read_pairs(tokens: &mut Tokens<'_>, vars: u8, found: &mut Pairs) -> Result<(), ReadRefusal>
+fn read_pairs(
+    tokens: &mut Tokens<'_>,
+    old: bool,
+    vars: u8,
+    found: &mut Pairs,
+) -> Result<(), ReadRefusal>
     requires { vars ≤ most_vars }
-    ensures { Gives (λ u. map view.pair found.new.items) (reader.all_pairs vars) tokens.old result tokens.new }
+    ensures { Gives (λ u. map view.pair found.new.items) (reader.all_pairs old vars) tokens.old result tokens.new }
 {
     found.clear();
     let mut room = MOST_PAIRS as u32;
-    while let Some(pair) = more_pair(tokens, vars, room)? {
+    while let Some(pair) = more_pair(tokens, old, vars, room)? {
         found.push(pair);
         room -= 1;
     }
@@ -235,18 +303,19 @@ fn read_numbers(tokens: &mut Tokens<'_>) -> Result<Numbers, ReadRefusal>
 #[tactic(auto, unfolding(crate::specs::Readers::a_written_entry, crate::specs::Readers::entry_word))]
 fn read_written(
     tokens: &mut Tokens<'_>,
+    old: bool,
     vars: u8,
     before: u32,
     pairs: &mut Pairs,
 ) -> Result<Written, ReadRefusal>
     requires { vars ≤ most_vars }
-    ensures reads { Gives (λ w. view.entry_view w pairs.new.items) (reader.a_written_entry vars before) tokens.old result tokens.new }
+    ensures reads { Gives (λ w. view.entry_view w pairs.new.items) (reader.a_written_entry old vars before) tokens.old result tokens.new }
     ensures room { IfOk result (λ _. before < most_turns) }
 {
     let line = read_word_within(tokens, b"entry", MOST_ENTRIES, before)?;
     let numbers = read_numbers(tokens)?;
     let moved = read_moved(tokens)?;
-    read_pairs(tokens, vars, pairs)?;
+    read_pairs(tokens, old, vars, pairs)?;
     Ok(Written {
         line,
         numbers,
@@ -254,39 +323,91 @@ fn read_written(
     })
 }
 
-/// The pair, if the amoebots that it names are some of so many.
-fn known_pair(pair: WrittenPair, bots: u16) -> Option<(CellName, Cell)>
-    ensures { result ≡ if list_all (λ id. nat_lt id bots) (spec.ids_of_pair (view.pair pair)) then Some (view.pair pair) else None }
+/// The occupant as a value, if it is one of so many amoebots or none.
+fn known_occupant(occupant: Option<u32>, bots: u16) -> Option<Cell>
+    ensures { result ≡ if list_all (λ id. nat_lt id bots) (spec.ids_of_value (cell.Spot occupant)) then Some (cell.Spot occupant) else None }
+{
+    match occupant {
+        None => Some(Cell::Spot(None)),
+        Some(id) if id < u32::from(bots) => Some(Cell::Spot(Some(id as u16))),
+        Some(_) => None,
+    }
+}
+
+/// The same of the occupant before, where it is written.
+fn known_old(before: Option<Option<u32>>, bots: u16) -> Option<Option<Cell>>
+    ensures { result
+        ≡ if list_all (λ id. nat_lt id bots) (spec.ids_of_old (option_map cell.Spot before))
+        then Some (option_map cell.Spot before)
+        else None }
+{
+    match before {
+        None => Some(None),
+        Some(occupant) => Some(Some(known_occupant(occupant, bots)?)),
+    }
+}
+
+/// The amoebot before as a value, where it is written.
+fn body_before(before: Option<Bot>) -> Option<Cell>
+    ensures { result ≡ option_map cell.Body before }
+{
+    match before {
+        None => None,
+        Some(bot) => Some(Cell::Body(bot)),
+    }
+}
+
+/// The cell with its values, if the amoebots that it names are some of so many.
+fn known_change(pair: WrittenPair, bots: u16) -> Option<(CellName, Option<Cell>, Cell)>
+    ensures { result ≡ if list_all (λ id. nat_lt id bots) (spec.ids_of_change (view.pair pair)) then Some (view.pair pair) else None }
 {
     match pair {
         WrittenPair::Spot {
             node,
-            occupant: None,
-        } => Some((CellName::Spot(node), Cell::Spot(None))),
-        WrittenPair::Spot {
-            node,
-            occupant: Some(id),
-        } if id < u32::from(bots) => Some((CellName::Spot(node), Cell::Spot(Some(id as u16)))),
-        WrittenPair::Body { id, bot } if id < u32::from(bots) => Some((
+            before,
+            occupant,
+        } => {
+            let old = known_old(before, bots)?;
+            let value = known_occupant(occupant, bots)?;
+            Some((CellName::Spot(node), old, value))
+        }
+        WrittenPair::Body { id, before, bot } if id < u32::from(bots) => Some((
             CellName::Body(id as u16),
+            body_before(before),
             Cell::Body(bot),
         )),
-        _ => None,
+        WrittenPair::Body { .. } => None,
     }
 }
 
-/// The pairs, at most 10, if the amoebots that they name are some of so many.
+/// The cells with both values, at most 10, if the amoebots that they name are some of so many.
 fn known_patch(pairs: &[WrittenPair], bots: u16) -> Option<Patch>
     requires { length pairs.now ≤ most_pairs }
     ensures { result
-        ≡ if list_all (λ id. nat_lt id bots) (flat_map spec.ids_of_pair (map view.pair pairs.now))
-        then Some (map view.pair pairs.now)
+        ≡ if list_all (λ id. nat_lt id bots) (flat_map spec.ids_of_change (map view.pair pairs.now))
+        then Some (map spec.full_change (map view.pair pairs.now))
         else None }
 {
     let mut patch = Patch::new();
     for pair in pairs {
-        let (name, cell) = known_pair(*pair, bots)?;
-        patch.push(name, cell);
+        let (name, before, value) = known_change(*pair, bots)?;
+        patch.push(name, before.unwrap_or(value), value);
+    }
+    Some(patch)
+}
+
+/// The cells with their values after, at most 10, if the amoebots that they name are some of so many.
+fn known_plain_patch(pairs: &[WrittenPair], bots: u16) -> Option<PlainPatch>
+    requires { length pairs.now ≤ most_pairs }
+    ensures { result
+        ≡ if list_all (λ id. nat_lt id bots) (flat_map spec.ids_of_change (map view.pair pairs.now))
+        then Some (map spec.plain_change (map view.pair pairs.now))
+        else None }
+{
+    let mut patch = PlainPatch::new();
+    for pair in pairs {
+        let (name, _, value) = known_change(*pair, bots)?;
+        patch.push(name, value);
     }
     Some(patch)
 }
@@ -301,7 +422,7 @@ fn known_entry(
 ) -> Result<Entry, ReadRefusal>
     requires { length pairs.now ≤ most_pairs }
     ensures { result ≡ if spec.is_known bots actions (view.entry_view written.now pairs.now).entry
-        then Ok (view.entry_view written.now pairs.now).entry
+        then Ok (spec.entry_by (view.entry_view written.now pairs.now).entry)
         else Err (Refused (record { line = written.now.line; kind = BadEntry })) }
 {
     let Numbers {
@@ -331,7 +452,46 @@ fn known_entry(
     }
 }
 
-/// An entry behind so many. It is judged once no further pair comes.
+/// The same without old values.
+fn known_plain_entry(
+    written: &Written,
+    pairs: &[WrittenPair],
+    bots: u16,
+    actions: u8,
+) -> Result<PlainEntry, ReadRefusal>
+    requires { length pairs.now ≤ most_pairs }
+    ensures { result ≡ if spec.is_known bots actions (view.entry_view written.now pairs.now).entry
+        then Ok (spec.plain_by (view.entry_view written.now pairs.now).entry)
+        else Err (Refused (record { line = written.now.line; kind = BadEntry })) }
+{
+    let Numbers {
+        caller,
+        turn,
+        bot,
+        action,
+        ..
+    } = written.numbers;
+    if caller > LAST_CALLER
+        || turn > LAST_TURN
+        || action >= u32::from(actions)
+        || bot >= u32::from(bots)
+    {
+        return Err(refused(written.line, RefusalKind::BadEntry));
+    }
+    match known_plain_patch(pairs, bots) {
+        Some(patch) => Ok(PlainEntry {
+            caller: caller as u8,
+            turn,
+            bot: bot as u16,
+            action: action as u8,
+            moved: written.moved,
+            patch,
+        }),
+        None => Err(refused(written.line, RefusalKind::BadEntry)),
+    }
+}
+
+/// An entry with old values, behind so many. It is judged once no further pair comes.
 #[tactic(auto, unfolding(crate::specs::Readers::an_entry))]
 fn read_entry(
     tokens: &mut Tokens<'_>,
@@ -342,14 +502,35 @@ fn read_entry(
     pairs: &mut Pairs,
 ) -> Result<Entry, ReadRefusal>
     requires { vars ≤ most_vars }
-    ensures reads { Gives (λ e. e) (reader.an_entry bots actions vars before) tokens.old result tokens.new }
+    ensures reads { Gives (λ e. e) (reader.an_entry true spec.entry_by bots actions vars before) tokens.old result tokens.new }
     ensures room { IfOk result (λ _. before < most_turns) }
 {
-    let written = read_written(tokens, vars, before, pairs)?;
+    let written = read_written(tokens, true, vars, before, pairs)?;
     if written.numbers.place != before {
         return Err(refused(written.line, RefusalKind::BadPlace));
     }
     known_entry(&written, pairs.as_slice(), bots, actions)
+}
+
+/// The same without old values.
+#[tactic(auto, unfolding(crate::specs::Readers::an_entry))]
+fn read_plain_entry(
+    tokens: &mut Tokens<'_>,
+    bots: u16,
+    actions: u8,
+    vars: u8,
+    before: u32,
+    pairs: &mut Pairs,
+) -> Result<PlainEntry, ReadRefusal>
+    requires { vars ≤ most_vars }
+    ensures reads { Gives (λ e. e) (reader.an_entry false spec.plain_by bots actions vars before) tokens.old result tokens.new }
+    ensures room { IfOk result (λ _. before < most_turns) }
+{
+    let written = read_written(tokens, false, vars, before, pairs)?;
+    if written.numbers.place != before {
+        return Err(refused(written.line, RefusalKind::BadPlace));
+    }
+    known_plain_entry(&written, pairs.as_slice(), bots, actions)
 }
 
 fn read_entries(
@@ -360,7 +541,7 @@ fn read_entries(
     vars: u8,
 ) -> Result<Vec<Entry>, ReadRefusal>
     requires { vars ≤ most_vars }
-    ensures { Gives (λ v. v.items) (reader.all_entries bots actions vars) tokens.old result tokens.new }
+    ensures { Gives (λ v. v.items) (reader.all_entries true spec.entry_by bots actions vars) tokens.old result tokens.new }
 {
     let mut found = Vec::new(alloc);
     let mut pairs = ArrayVec::new();
@@ -373,7 +554,28 @@ fn read_entries(
     Ok(found)
 }
 
-#[tactic(auto, unfolding(crate::specs::Readers::journal))]
+fn read_plain_entries(
+    alloc: Global,
+    tokens: &mut Tokens<'_>,
+    bots: u16,
+    actions: u8,
+    vars: u8,
+) -> Result<Vec<PlainEntry>, ReadRefusal>
+    requires { vars ≤ most_vars }
+    ensures { Gives (λ v. v.items) (reader.all_entries false spec.plain_by bots actions vars) tokens.old result tokens.new }
+{
+    let mut found = Vec::new(alloc);
+    let mut pairs = ArrayVec::new();
+    let mut before = 0;
+    while tokens.is_next(TokenKind::Word, b"entry") {
+        let entry = read_plain_entry(tokens, bots, actions, vars, before, &mut pairs)?;
+        found.push(entry)?;
+        before += 1;
+    }
+    Ok(found)
+}
+
+#[tactic(auto, unfolding(crate::specs::Readers::journal_by))]
 fn read_whole(
     alloc: Global,
     tokens: &mut Tokens<'_>,
@@ -390,8 +592,8 @@ fn read_whole(
     Ok(Entries { entries })
 }
 
-/// Reads a journal up to its `end`, of a world of so many amoebots, a program of so many actions, and so many variables, at
-/// most 8.
+/// Reads a journal with old values up to its `end`, of a world of so many amoebots, a program of so many actions, and so many
+/// variables, at most 8.
 pub fn read_journal(
     alloc: Global,
     tokens: &mut Tokens<'_>,
@@ -404,4 +606,36 @@ pub fn read_journal(
     ensures reads { ReadsOf (spec.IsJournal bots actions vars) (λ e. e) tokens.old result tokens.new }
 {
     read_whole(alloc, tokens, bots, actions, vars)
+}
+
+#[tactic(auto, unfolding(crate::specs::Readers::journal_by))]
+fn read_whole_plain(
+    alloc: Global,
+    tokens: &mut Tokens<'_>,
+    bots: u16,
+    actions: u8,
+    vars: u8,
+) -> Result<PlainEntries, ReadRefusal>
+    requires { vars ≤ most_vars }
+    ensures { Gives (λ e. e) (reader.plain_journal bots actions vars) tokens.old result tokens.new }
+{
+    read_word(tokens, b"journal")?;
+    let entries = read_plain_entries(alloc, tokens, bots, actions, vars)?;
+    read_word(tokens, b"end")?;
+    Ok(PlainEntries { entries })
+}
+
+/// The same of a journal without old values.
+pub fn read_plain(
+    alloc: Global,
+    tokens: &mut Tokens<'_>,
+    bots: u16,
+    actions: u8,
+    vars: u8,
+) -> Result<PlainEntries, ReadRefusal>
+    requires { vars ≤ most_vars }
+    ensures tells { TellsOf (spec.IsPlainJournal bots actions vars) (λ e. e) tokens.old result tokens.new }
+    ensures reads { ReadsOf (spec.IsPlainJournal bots actions vars) (λ e. e) tokens.old result tokens.new }
+{
+    read_whole_plain(alloc, tokens, bots, actions, vars)
 }

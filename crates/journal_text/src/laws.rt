@@ -2,19 +2,27 @@
 
 ghost use Rattle.std.specs.Prelude.{ℕ};
 ghost use Rattle.text_tokens.specs.Lawful.{Exact, IsDecided};
-ghost use Rattle.journal_text.specs.Journals.{IsJournal};
-ghost use Rattle.journal_text.specs.JournalRows.{JournalsAreRead};
+ghost use Rattle.journal_text.specs.Journals.{IsJournal, IsPlainJournal};
+ghost use Rattle.journal_text.specs.JournalRows.{PlainJournalsAreRead};
+ghost use Rattle.journal_text.specs.OldValueRows.{JournalsAreRead};
 ghost use Rattle.journal_text.specs.Turns.{IsTurns};
 ghost use Rattle.journal_text.specs.TurnRows.{TurnsAreRead};
-ghost use Rattle.journal_text.specs.Rereading.{JournalsReadBack, TurnsReadBack};
+ghost use Rattle.journal_text.specs.Rereading.{JournalsReadBack, PlainJournalsReadBack, PlainKeepsLimits, TurnsReadBack};
 ghost use Rattle.journal_text.specs.TextRows.{TextsArePrinted};
-ghost use Rattle.journal_text.specs.Readers.{journal, the_turns};
+ghost use Rattle.journal_text.specs.Readers.{journal, plain_journal, the_turns};
 
-/// Of any tokens the grammar of a journal says one thing, and its reader answers that.
+/// Of any tokens the grammar of a journal with old values says one thing, and its reader answers that.
 pub fn journal_is_decided()
     ensures exact { (bots actions vars : ℕ) → Exact (IsJournal bots actions vars) (journal bots actions vars) }
     ensures decided { (bots actions vars : ℕ) → IsDecided (IsJournal bots actions vars) }
     ensures read { JournalsAreRead }
+{}
+
+/// So does that of a journal without them.
+pub fn plain_journal_is_decided()
+    ensures exact { (bots actions vars : ℕ) → Exact (IsPlainJournal bots actions vars) (plain_journal bots actions vars) }
+    ensures decided { (bots actions vars : ℕ) → IsDecided (IsPlainJournal bots actions vars) }
+    ensures read { PlainJournalsAreRead }
 {}
 
 /// So does that of turns.
@@ -32,6 +40,16 @@ pub fn texts_are_printed()
 /// Entries that break no limit are read back from their text.
 pub fn journals_read_back()
     ensures { JournalsReadBack }
+{}
+
+/// So are those without old values.
+pub fn plain_journals_read_back()
+    ensures { PlainJournalsReadBack }
+{}
+
+/// An entry that breaks no limit breaks none without its old values.
+pub fn plain_keeps_limits()
+    ensures { PlainKeepsLimits }
 {}
 
 /// The text of marks is one of turns.

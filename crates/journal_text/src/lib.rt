@@ -6,11 +6,12 @@ mod laws;
 mod printing;
 mod turns;
 
-pub use journal::{Entries, read_journal};
+pub use journal::{Entries, PlainEntries, read_journal, read_plain};
 pub use laws::{
-    journal_is_decided, journals_read_back, texts_are_printed, turns_are_decided, turns_read_back,
+    journal_is_decided, journals_read_back, plain_journal_is_decided, plain_journals_read_back,
+    plain_keeps_limits, texts_are_printed, turns_are_decided, turns_read_back,
 };
-pub use printing::{print_journal, print_turns, put_journal, put_turns};
+pub use printing::{print_journal, print_plain, print_turns, put_journal, put_plain, put_turns};
 pub use turns::read_turns;
 
 #[cfg(test)]

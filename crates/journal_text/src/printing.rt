@@ -1,12 +1,13 @@
 //! The sections `journal` and `turns` printed.
 
-ghost use Rattle.std.specs.Prelude.{◌≡◌, ◌<◌, ◌≤◌, ◌++◌, length, map, IfOk, OnOk};
+ghost use Rattle.std.specs.Prelude.{◌≡◌, ◌<◌, ◌≤◌, ◌++◌, length, map, if◌then◌else◌, IfOk, OnOk, Some, None};
 ghost use Rattle.std.specs.List.{enumerate_from, flat_map};
 ghost use Rattle.text_tokens.specs.Lines.{line_text, lines_text, spaced};
 ghost use Rattle.amoebot_state.specs.Limits.{most_vars};
-ghost use Rattle.journal_text.specs.Texts.{caller_lines, cell_words, entry_numbers};
-ghost use Rattle.journal_text.specs.Texts.{entry_words, failure_word, journal_text, mark_words, moved_words};
-ghost use Rattle.journal_text.specs.Texts.{pair_words, turn_words, turns_text, value_words};
+ghost use Rattle.amoebot_state.specs.Steps.{plain_entry};
+ghost use Rattle.journal_text.specs.Texts.{caller_lines, cell_words, change_by, change_words, entry_numbers, entry_words};
+ghost use Rattle.journal_text.specs.Texts.{failure_word, journal_text, mark_words, moved_words, old_words, plain_text};
+ghost use Rattle.journal_text.specs.Texts.{turn_words, turns_text, value_words, written_by, written_full, written_lines, written_text};
 ghost use Rattle.claim_core.specs.Turns.{marks_of};
 
 use amoebot_state::{Cell, CellName, Entry, Failure, Moved, NoMemory};
@@ -15,13 +16,23 @@ use node_text::{put_bot, put_node, put_port};
 use std::alloc::{AllocError, Global};
 use text_tokens::{Lines, Text};
 
-/// The section `journal`: the entries, numbered from 0, with the values of so many variables, at most 8.
+/// The section `journal` with old values: the entries, numbered from 0, with the values of so many variables, at most 8.
 pub fn print_journal(alloc: Global, entries: &[Entry], vars: u8) -> Result<Text, NoMemory>
     requires { vars ≤ most_vars }
     ensures { IfOk result (λ text. text ≡ journal_text vars entries.now) }
 {
     let mut lines = Lines::new(alloc);
     put_journal(&mut lines, entries, vars)?;
+    Ok(lines.text())
+}
+
+/// The same without old values.
+pub fn print_plain(alloc: Global, entries: &[Entry], vars: u8) -> Result<Text, NoMemory>
+    requires { vars ≤ most_vars }
+    ensures { IfOk result (λ text. text ≡ plain_text vars (map plain_entry entries.now)) }
+{
+    let mut lines = Lines::new(alloc);
+    put_plain(&mut lines, entries, vars)?;
     Ok(lines.text())
 }
 
@@ -34,14 +45,20 @@ pub fn print_turns(alloc: Global, marks: &Marks) -> Result<Text, NoMemory>
     Ok(lines.text())
 }
 
-/// Adds the section `journal` to a text.
+/// Adds the section `journal` with old values to a text.
 pub fn put_journal(lines: &mut Lines, entries: &[Entry], vars: u8) -> Result<(), AllocError>
     requires { vars ≤ most_vars }
     ensures { OnOk result (lines.new ≡ lines.old ++ journal_text vars entries.now) }
 {
-    lines.open_section("journal")?;
-    put_entries(lines, entries, vars)?;
-    lines.close_section()
+    put_section(lines, entries, vars, true)
+}
+
+/// The same without old values.
+pub fn put_plain(lines: &mut Lines, entries: &[Entry], vars: u8) -> Result<(), AllocError>
+    requires { vars ≤ most_vars }
+    ensures { OnOk result (lines.new ≡ lines.old ++ plain_text vars (map plain_entry entries.now)) }
+{
+    put_section(lines, entries, vars, false)
 }
 
 /// Adds the section `turns` to a text.
@@ -53,30 +70,45 @@ pub fn put_turns(lines: &mut Lines, marks: &Marks) -> Result<(), AllocError>
     lines.close_section()
 }
 
-fn put_entries(lines: &mut Lines, entries: &[Entry], vars: u8) -> Result<(), AllocError>
+fn put_section(lines: &mut Lines, entries: &[Entry], vars: u8, old: bool) -> Result<(), AllocError>
     requires { vars ≤ most_vars }
-    ensures { OnOk result (lines.new ≡ lines.old ++ lines_text (map (entry_words vars) (enumerate_from 0 entries.now))) }
+    ensures { OnOk result (lines.new ≡ lines.old ++ written_text vars (map (written_by old) entries.now)) }
+{
+    lines.open_section("journal")?;
+    put_entries(lines, entries, vars, old)?;
+    lines.close_section()
+}
+
+fn put_entries(lines: &mut Lines, entries: &[Entry], vars: u8, old: bool) -> Result<(), AllocError>
+    requires { vars ≤ most_vars }
+    ensures { OnOk result (lines.new ≡ lines.old ++ lines_text (written_lines vars (map (written_by old) entries.now))) }
 {
     for (place, entry) in entries.iter().enumerate() {
-        put_entry(lines, place, entry, vars)?;
+        put_entry(lines, place, entry, vars, old)?;
     }
     Ok(())
 }
 
-fn put_entry(lines: &mut Lines, place: usize, entry: &Entry, vars: u8) -> Result<(), AllocError>
+fn put_entry(
+    lines: &mut Lines,
+    place: usize,
+    entry: &Entry,
+    vars: u8,
+    old: bool,
+) -> Result<(), AllocError>
     requires { vars ≤ most_vars }
-    ensures { OnOk result (lines.new ≡ lines.old ++ line_text (entry_words vars (place, entry.now))) }
+    ensures { OnOk result (lines.new ≡ lines.old ++ line_text (entry_words vars (place, written_by old entry.now))) }
 {
     lines.begin("entry")?;
     put_numbers(lines, place, entry)?;
     put_moved(lines, entry.moved)?;
-    put_pairs(lines, entry.patch.pairs(), vars)?;
+    put_changes(lines, entry.patch.triples(), vars, old)?;
     lines.end()
 }
 
 /// The five numbers with which an entry begins.
 fn put_numbers(lines: &mut Lines, place: usize, entry: &Entry) -> Result<(), AllocError>
-    ensures { OnOk result (lines.new ≡ lines.old ++ spaced (entry_numbers place entry.now)) }
+    ensures { OnOk result (lines.new ≡ lines.old ++ spaced (entry_numbers place (written_full entry.now))) }
 {
     lines.unsigned(place as u64)?;
     lines.unsigned(u64::from(entry.caller))?;
@@ -150,13 +182,32 @@ fn put_mark(lines: &mut Lines, mark: Mark) -> Result<(), AllocError>
     }
 }
 
-fn put_pairs(lines: &mut Lines, pairs: &[(CellName, Cell)], vars: u8) -> Result<(), AllocError>
+/// The cells with their values, with those before or without them.
+fn put_changes(
+    lines: &mut Lines,
+    changes: &[(CellName, Cell, Cell)],
+    vars: u8,
+    old: bool,
+) -> Result<(), AllocError>
     requires { vars ≤ most_vars }
-    ensures { OnOk result (lines.new ≡ lines.old ++ spaced (flat_map (pair_words vars) pairs.now)) }
+    ensures { OnOk result (lines.new ≡ lines.old ++ spaced (flat_map (change_words vars) (map (change_by old) changes.now))) }
 {
-    for (name, value) in pairs {
+    for (name, before, after) in changes {
         put_cell(lines, *name)?;
-        put_value(lines, value, vars)?;
+        put_old_value(lines, before, vars, old)?;
+        put_value(lines, after, vars)?;
+    }
+    Ok(())
+}
+
+/// The value before and the word behind it, in texts with old values.
+fn put_old_value(lines: &mut Lines, before: &Cell, vars: u8, old: bool) -> Result<(), AllocError>
+    requires { vars ≤ most_vars }
+    ensures { OnOk result (lines.new ≡ lines.old ++ spaced (old_words vars (if old then Some before.now else None))) }
+{
+    if old {
+        put_value(lines, before, vars)?;
+        lines.word("to")?;
     }
     Ok(())
 }

@@ -13,30 +13,30 @@ use Rattle.journal_text.proofs.journal.read_pairs.Goals as goal
 
 pub loop-pair-init : goal.loop-pair-init
 unfolding all_pairs
-loop-pair-init c = record { reads = loop_begins (all_pairs c.args.vars) c.args.tokens.now (map view.pair c.clear.new.self.items) (ap (λ (ps : List WrittenPair). map view.pair ps) c.clear.ensures); room = rw c.clear.ensures refl }
+loop-pair-init c = record { reads = loop_begins (all_pairs c.args.old c.args.vars) c.args.tokens.now (map view.pair c.clear.new.self.items) (ap (λ (ps : List WrittenPair). map view.pair ps) c.clear.ensures); room = rw c.clear.ensures refl }
 
 pub returns-in_err-pair : goal.returns-in_err-pair
 returns-in_err-pair c =
     let p = err_from_is_err_and c.from_residual.result c.from_residual.ensures.1 in
-    let vars = c.args.vars in
-    rw (p.1, p.2) (loop_fails (PairIn vars) (pair_in vars) (λ room n. less room) is_cell always (no_pair vars) (pair_elements vars) (all_pairs vars) c.args.tokens.now (map view.pair c.loop-pair.found.items) c.loop-pair.room c.loop-pair.tokens c.loop-pair.invariant.reads
+    let old = c.args.old in let vars = c.args.vars in
+    rw (p.1, p.2) (loop_fails (PairIn old vars) (pair_in old vars) (λ room n. less room) is_cell always (no_pair old vars) (pair_elements old vars) (all_pairs old vars) c.args.tokens.now (map view.pair c.loop-pair.found.items) c.loop-pair.room c.loop-pair.tokens c.loop-pair.invariant.reads
     c.in_err-pair.field-0.0 c.more_pair.new.tokens c.in_err-pair.ensures.reads)
 
 pub loop-pair-preserved : goal.loop-pair-preserved
 loop-pair-preserved c =
-    let vars = c.args.vars in
+    let old = c.args.old in let vars = c.args.vars in
     let next = rw c.in-Some.is at c.in_ok-pair.ensures.reads in
     let pushed : map view.pair c.push.new.self.items ≡ map view.pair c.loop-pair.found.items ++ view.pair c.in-Some.pair ∷ [] = rw c.push.ensures.items (map_push view.pair c.loop-pair.found.items c.in-Some.pair) in
-    let more = loop_goes_on (PairIn vars) (pair_in vars) (λ room n. less room) is_cell always (no_pair vars) (pair_elements vars) (all_pairs vars) c.args.tokens.now (map view.pair c.loop-pair.found.items) c.loop-pair.room c.loop-pair.tokens c.loop-pair.invariant.reads
+    let more = loop_goes_on (PairIn old vars) (pair_in old vars) (λ room n. less room) is_cell always (no_pair old vars) (pair_elements old vars) (all_pairs old vars) c.args.tokens.now (map view.pair c.loop-pair.found.items) c.loop-pair.room c.loop-pair.tokens c.loop-pair.invariant.reads
     (view.pair c.in-Some.pair) c.more_pair.new.tokens next (map view.pair c.push.new.self.items) pushed in
     let some : 0 < c.loop-pair.room = rw c.in-Some.is at c.in_ok-pair.ensures.room in
     record {
-      reads = subst (λ (room : ℕ). StillReads (all_pairs vars) c.args.tokens.now (map view.pair c.push.new.self.items) (repeated is_cell (pair_in vars) (λ room n. less room) room) c.more_pair.new.tokens) (less_is c.loop-pair.room) more;
+      reads = subst (λ (room : ℕ). StillReads (all_pairs old vars) c.args.tokens.now (map view.pair c.push.new.self.items) (repeated is_cell (pair_in old vars) (λ room n. less room) room) c.more_pair.new.tokens) (less_is c.loop-pair.room) more;
       room = omega (arith, some, c.push.ensures.len, c.loop-pair.invariant.room);
     }
 
 pub returns : goal.returns
 returns c =
-    let vars = c.args.vars in
-    loop_is_over (PairIn vars) (pair_in vars) (λ room n. less room) is_cell always (no_pair vars) (pair_elements vars) (all_pairs vars) c.args.tokens.now (map view.pair c.loop-pair.found.items) c.loop-pair.room c.loop-pair.tokens c.loop-pair.invariant.reads
+    let old = c.args.old in let vars = c.args.vars in
+    loop_is_over (PairIn old vars) (pair_in old vars) (λ room n. less room) is_cell always (no_pair old vars) (pair_elements old vars) (all_pairs old vars) c.args.tokens.now (map view.pair c.loop-pair.found.items) c.loop-pair.room c.loop-pair.tokens c.loop-pair.invariant.reads
     c.more_pair.new.tokens (rw c.in_default.is at c.in_ok-pair.ensures.reads)

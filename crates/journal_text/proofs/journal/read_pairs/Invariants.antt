@@ -7,7 +7,7 @@ use Rattle.journal_text.specs.Views as view
 use Rattle.journal_text.proofs.journal.read_pairs.Given as goal
 
 abbrev pub invariant-loop-pair : goal.invariant-loop-pair
-invariant-loop-pair l = record { reads : StillReads (all_pairs l.vars) l.fn.tokens (map view.pair l.found.items) (repeated is_cell (pair_in l.vars) (λ room n. less room) l.room) l.tokens; room : length l.found.items + l.room ≡ 10 }
+invariant-loop-pair l = record { reads : StillReads (all_pairs l.old l.vars) l.fn.tokens (map view.pair l.found.items) (repeated is_cell (pair_in l.old l.vars) (λ room n. less room) l.room) l.tokens; room : length l.found.items + l.room ≡ 10 }
 
 abbrev pub decreases-loop-pair : goal.decreases-loop-pair
 decreases-loop-pair l = l.room
