@@ -18,7 +18,7 @@ bots_there : (f : Shown → Verdict) (old new : Config) (es : List Entry) → Ru
 bots_there f old new [] run = All-nil _
 bots_there f old new (e ∷ es) run =
     let rest = bots_there f run.0 new es run.2 in
-    All-cons (λ (x : Entry). x.bot < length old.bots) e es (there_below old e.bot run.1.there) (subst (λ (n : ℕ). All (λ (x : Entry). x.bot < n) es) run.1.patched.size rest)
+    All-cons (λ (x : Entry). x.bot < length old.bots) e es (there_below old e.bot run.1.there) (subst (λ (n : ℕ). All (λ (x : Entry). x.bot < n) es) run.1.patched.same.size rest)
 
 -- a turn of one of the callers, of whose turns so many may have been told
 record IsAbove (turns : ℕ) (told : List ℕ) (e : Entry) : Type 0 where

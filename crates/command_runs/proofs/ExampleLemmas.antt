@@ -1,11 +1,19 @@
 -- The commands on a small shape, step by step.
-use Rattle.std.proofs.Common.{◌≡◌, ◌<◌, ℕ, zero, suc, List, [], ◌∷◌, true, length, replicate, get_or, refl, ap, sym, subst, arith}
+use Rattle.std.proofs.Common.{◌≡◌, ◌<◌, ℕ, zero, suc, List, [], ◌∷◌, true, Some, None, length, replicate, get_or, refl, ap, sym, ◌∙◌, subst, arith}
 use Rattle.std.specs.Prelude.{codes}
 use Rattle.std.specs.Fmt.{digits}
 use Rattle.std.specs.List.{All}
 use Rattle.std.proofs.lemmas.List.Elements.{All-nil, All-cons}
 use Rattle.amoebot_state.specs.Configs.{Config, occupant}
-use Rattle.amoebot_state.specs.Steps.{Step, Run}
+use Rattle.amoebot_state.specs.declared.cell.CellName.TheVariants as name
+use Rattle.amoebot_state.specs.declared.cell.Cell.TheVariants as cell
+use Rattle.amoebot_state.specs.declared.verdict.PlainEntry.{PlainEntry}
+use Rattle.amoebot_state.specs.declared.verdict.Verdict.{Verdict}
+use Rattle.amoebot_state.specs.declared.verdict.Verdict.TheVariants as verdict
+use Rattle.amoebot_state.specs.Pairs.{Triples}
+use Rattle.amoebot_state.specs.Zones.{shown}
+use Rattle.amoebot_state.specs.Steps.{Step, Run, change_of, plain_entry}
+use Rattle.serial_model.specs.Replays.{PlainStep, PlainRun}
 use Rattle.claim_core.specs.declared.marks.Mark.TheVariants as mark
 use Rattle.claim_core.specs.declared.state.Caller.{Caller}
 use Rattle.claim_core.specs.declared.state.Phase.TheVariants.{Releasing, Ended}
@@ -20,10 +28,10 @@ use Rattle.small_worlds.specs.Rows.{node, two_beside, expanded, one_refused}
 use Rattle.small_worlds.proofs.Rows.{IsThereIn, one_id, may_run, valid, same_ids, one_has_ended, two_have_ended, reached, good}
 use Rattle.command_runs.specs.Run.{IsRunReport}
 use Rattle.command_runs.specs.Interleave.{at_round, IsScheduled}
-use Rattle.command_runs.specs.Replay.{DiffersAt, at_entry, at_end}
+use Rattle.command_runs.specs.Replay.{DiffersAt, PlainDiffersAt, at_entry, at_end}
 use Rattle.command_runs.specs.Sample.{IsSampleText}
 use Rattle.command_runs.proofs.Measures.{nobody_is_measured, one_is_measured, two_are_measured, spread_is_connected}
-use Rattle.command_runs.specs.Examples.{start, second_spread, decides, second_list, second_expansion, one_expanded, two_caller_schedule, SmallCommands}
+use Rattle.command_runs.specs.Examples.{start, second_spread, decides, second_list, second_expansion, other_old_value, one_expanded, two_caller_schedule, SmallCommands}
 
 -- the second amoebot expands
 step : Step decides start second_expansion second_spread
@@ -56,7 +64,7 @@ one_reached : Reached (setup decides start second_list) one_expanded
 one_reached = record {
   steps = steps;
   ended = one_has_ended (after (setup decides start second_list) steps) last_caller refl refl;
-  left = record { first = refl; entries = refl; world = record { rest = refl; size = refl; ids = same_ids; values = refl }; marks = refl };
+  left = record { first = refl; entries = refl; world = record { same = record { rest = refl; size = refl; ids = same_ids }; values = refl }; marks = refl };
 }
 
 -- where the second caller frees its cells, not all have ended
@@ -77,13 +85,48 @@ ended : HaveEnded (at_round two_beside two_caller_schedule 4)
 ended = two_have_ended (at_round two_beside two_caller_schedule 4) _ _ refl refl refl
 
 left : IsReportOf two_beside (at_round two_beside two_caller_schedule 4) one_refused
-left = record { first = refl; entries = refl; world = record { rest = refl; size = refl; ids = same_ids; values = refl }; marks = refl }
+left = record { first = refl; entries = refl; world = record { same = record { rest = refl; size = refl; ids = same_ids }; values = refl }; marks = refl }
 
 scheduled : IsScheduled two_beside two_caller_schedule one_refused
 scheduled = record { count = 4; ended = ended; first = first_round; left = left }
 
 no_step : DiffersAt decides start (second_expansion ∷ second_expansion ∷ []) second_spread 1
 no_step = at_entry 1 (record { entry = second_expansion; there = refl; world = second_spread; before = run; none = λ new s. let d = s.decided in cc })
+
+-- ---- without old values
+
+plain_step : PlainStep decides start (plain_entry second_expansion) second_spread
+plain_step = record { entry = second_expansion; plain = refl; step = step }
+
+plain_run : PlainRun decides start (plain_entry second_expansion ∷ []) second_spread
+plain_run = (second_spread, plain_step, refl)
+
+no_plain_step : PlainDiffersAt decides start (plain_entry second_expansion ∷ plain_entry second_expansion ∷ []) second_spread 1
+no_plain_step = at_entry 1 (record {
+  entry = plain_entry second_expansion;
+  there = refl;
+  world = second_spread;
+  before = plain_run;
+  none = λ new s. let d = subst (λ (i : ℕ). decides (shown second_spread i) ≡ verdict.Change (change_of s.entry)) (ap (λ (p : PlainEntry). p.bot) s.plain) s.step.decided in cc;
+})
+
+-- the change that is decided has the old values that were found
+abbrev changes_of : Verdict → Triples
+changes_of verdict.Idle = []
+changes_of (verdict.Failed f) = []
+changes_of (verdict.Change change) = change.patch
+
+other_old : DiffersAt decides start (other_old_value ∷ []) second_spread 0
+other_old = at_entry 0 (record {
+  entry = other_old_value;
+  there = refl;
+  world = start;
+  before = refl;
+  none = λ new s.
+      let same : second_expansion.patch ≡ other_old_value.patch = ap changes_of (sym step.decided ∙ s.decided) in
+      let first : cell.Spot None ≡ cell.Spot (Some 0) = ap (λ (ts : Triples). (get_or ts 0 (name.Body 0, cell.Spot None, cell.Spot None)).1) same in
+      cc;
+})
 
 other_shape : DiffersAt decides start (second_expansion ∷ []) start 1
 other_shape = at_end second_spread run (λ same. let e = ap (λ (c : Config). occupant c (node 2)) same in cc)
@@ -110,12 +153,18 @@ small_commands goods serials connected one = record {
   run = reported goods serials (setup decides start second_list) one_expanded one_may_run one_reached;
   two_lists = reported goods serials two_beside one_refused may_run reached;
   text = refl;
+  text_in_full = refl;
   interleave = record { good = good; reached = reached; scheduled = scheduled };
   agrees = run;
   differs = no_step;
   other_shape = other_shape;
+  plain_agrees = plain_run;
+  plain_differs = no_plain_step;
+  other_old = other_old;
+  no_old = plain_run;
   agrees_line = refl;
   check_text = refl;
+  renewed = refl;
   differs_line = refl;
   measure = nobody_is_measured;
   hexagon = one_is_measured connected one;

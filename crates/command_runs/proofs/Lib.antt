@@ -1,7 +1,9 @@
 pub mod Entries
+pub mod Followed
 pub mod Interleavings
 pub mod Replays
 pub mod SameConfigs
+pub mod RenewedTexts
 pub mod Reported
 pub mod SampleTexts
 pub mod ExampleLemmas

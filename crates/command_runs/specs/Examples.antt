@@ -1,20 +1,25 @@
 -- What the commands leave of two amoebots that stand side by side on a row of three nodes, where the program expands a contracted
 -- amoebot to the right.
 use Rattle.std.specs.Prelude.{◌≡◌, ℕ, List, [], ◌∷◌, ◌++◌, codes}
+use Rattle.std.specs.declared.option.Option.TheVariants.{Some}
+use Rattle.amoebot_state.specs.declared.cell.CellName.TheVariants as name
+use Rattle.amoebot_state.specs.declared.cell.Cell.TheVariants as cell
 use Rattle.amoebot_state.specs.declared.verdict.Entry.{Entry}
 use Rattle.amoebot_state.specs.declared.verdict.Verdict.{Verdict}
 use Rattle.amoebot_state.specs.Configs.{Config, with_these}
 use Rattle.amoebot_state.specs.Zones.{Shown}
+use Rattle.amoebot_state.specs.Steps.{plain_entry}
 use Rattle.claim_core.specs.declared.marks.Mark.TheVariants as mark
 use Rattle.claim_core.specs.declared.report.Report.{Report}
 use Rattle.claim_core.specs.Turns.{CallerLists}
-use Rattle.small_worlds.specs.Rows.{row_frame, row_with, bot_in_row, two_beside, expanded, one_refused}
+use Rattle.small_worlds.specs.Rows.{node, row_frame, row_with, bot_in_row, two_beside, expanded, one_refused}
 use Rattle.action_print.specs.Pins.{counting}
 use Rattle.command_runs.specs.Check.{check_text}
 use Rattle.command_runs.specs.Reports.{report_text}
 use Rattle.command_runs.specs.Run.{IsRunReport}
 use Rattle.command_runs.specs.Interleave.{IsInterleaveReport}
-use Rattle.command_runs.specs.Replay.{Agrees, DiffersAt, agrees_line, differs_line}
+use Rattle.command_runs.specs.Renew.{renewed_text}
+use Rattle.command_runs.specs.Replay.{Agrees, DiffersAt, PlainAgrees, PlainDiffersAt, agrees_line, differs_line}
 use Rattle.command_runs.specs.Measure.{IsMeasureText}
 use Rattle.command_runs.specs.Sample.{IsSampleText}
 
@@ -35,6 +40,15 @@ second_list = record { turns = 2; ids = (1 ∷ []) ∷ [] }
 abbrev pub second_expansion : Entry
 second_expansion = record expanded { caller = 0 }
 
+-- the same with an old value that is another: the node was no amoebot's
+abbrev pub other_old_value : Entry
+other_old_value =
+    record second_expansion {
+      patch = (name.Spot (node 2), cell.Spot (Some 0), cell.Spot (Some 1))
+          ∷ (name.Body 1, cell.Body (bot_in_row 1 1), cell.Body (bot_in_row 2 1))
+          ∷ [];
+    }
+
 abbrev pub one_expanded : Report
 one_expanded = record {
   world = second_spread;
@@ -42,20 +56,34 @@ one_expanded = record {
   turns = record { turns = 2; marks = (mark.Done 0 ∷ mark.Idle 1 ∷ []) ∷ [] };
 }
 
-abbrev pub its_text : List ℕ
-its_text =
-    codes "journal\nentry 0 0 0 1 0 expand head 0 spot 2 0 1 body 1 2 0 1 0 0 +\nend\n"
-    ++ codes "final\narea 0 0 3 1\nbot 0 0 0 0 0 +\nbot 2 0 1 0 0 +\nend\nturns\nturn 0 0 done 0\nturn 0 1 idle 1\nend\n"
+-- its journal in versions 1 and 2, and in version 3; and what stands behind it
+abbrev pub its_plain_journal : List ℕ
+its_plain_journal = codes "journal\nentry 0 0 0 1 0 expand head 0 spot 2 0 1 body 1 2 0 1 0 0 +\nend\n"
+
+abbrev pub its_journal : List ℕ
+its_journal =
+    codes "journal\nentry 0 0 0 1 0 expand head 0 spot 2 0 empty to 1 body 1 1 0 1 0 0 + to 2 0 1 0 0 +\nend\n"
+
+abbrev pub its_end : List ℕ
+its_end = codes "final\narea 0 0 3 1\nbot 0 0 0 0 0 +\nbot 2 0 1 0 0 +\nend\nturns\nturn 0 0 done 0\nturn 0 1 idle 1\nend\n"
 
 -- Two lists of one turn. Caller 0 finds a node of caller 1 held and gives up.
 -- Caller 1 goes on until it has committed and freed a cell. The rounds free its other four.
 abbrev pub two_caller_schedule : List ℕ
 two_caller_schedule = 1 ∷ 1 ∷ 0 ∷ 0 ∷ 0 ∷ 1 ∷ 0 ∷ 0 ∷ 0 ∷ 1 ∷ 1 ∷ 1 ∷ 1 ∷ 1 ∷ []
 
-abbrev pub counting_checked : List ℕ
-counting_checked =
-    codes "amoebot 1\nprogram\nguard off\nvar m 3\naction a\nwhen ( m = 0 or m = 1 ) and not contracted\n"
+abbrev pub counting_program : List ℕ
+counting_program =
+    codes "program\nguard off\nvar m 3\naction a\nwhen ( m = 0 or m = 1 ) and not contracted\n"
     ++ codes "do m := m + 1 ; if m > 2 then m := 0 fi\nmove contract tail\nend\n"
+
+-- a document of another program, which has a variable, written anew with that expansion
+abbrev pub counting_renewed : List ℕ
+counting_renewed =
+    codes "amoebot 3\n" ++ counting_program
+    ++ codes "shape\narea 0 0 3 1\nbot 0 0 0 0 0 + 0\nbot 1 0 1 0 0 + 0\nend\n"
+    ++ codes "journal\nentry 0 0 0 1 0 expand head 0 spot 2 0 empty to 1 body 1 1 0 1 0 0 + 0 to 2 0 1 0 0 + 0\nend\n"
+    ++ codes "final\narea 0 0 3 1\nbot 0 0 0 0 0 + 0\nbot 2 0 1 0 0 + 0\nend\n"
 
 -- the row without an amoebot
 abbrev pub nobody : Config
@@ -72,14 +100,22 @@ pub record SmallCommands : Type 0 where
   pub run : IsRunReport decides start second_list one_expanded
   -- a run of two lists may leave what an interleaving of them leaves
   pub two_lists : IsRunReport decides start two_beside.lists one_refused
-  pub text : report_text 0 one_expanded ≡ its_text
+  pub text : report_text 2 0 one_expanded ≡ its_plain_journal ++ its_end
+  pub text_in_full : report_text 3 0 one_expanded ≡ its_journal ++ its_end
   pub interleave : IsInterleaveReport decides start two_beside.lists two_caller_schedule one_refused
   pub agrees : Agrees decides start (second_expansion ∷ []) second_spread
   -- the amoebot is expanded when it is to expand again
   pub differs : DiffersAt decides start (second_expansion ∷ second_expansion ∷ []) second_spread 1
   pub other_shape : DiffersAt decides start (second_expansion ∷ []) start 1
+  -- the same entries without their old values
+  pub plain_agrees : PlainAgrees decides start (plain_entry second_expansion ∷ []) second_spread
+  pub plain_differs : PlainDiffersAt decides start (plain_entry second_expansion ∷ plain_entry second_expansion ∷ []) second_spread 1
+  -- with another old value the entry is no step; without it, that does not show
+  pub other_old : DiffersAt decides start (other_old_value ∷ []) second_spread 0
+  pub no_old : PlainAgrees decides start (plain_entry other_old_value ∷ []) second_spread
   pub agrees_line : agrees_line 12 ≡ codes "agrees 12\n"
-  pub check_text : check_text 1 counting ≡ counting_checked
+  pub check_text : check_text 1 counting ≡ codes "amoebot 1\n" ++ counting_program
+  pub renewed : renewed_text counting start (second_expansion ∷ []) second_spread ≡ counting_renewed
   pub differs_line : differs_line 0 ≡ codes "differs 0\n"
   pub measure : IsMeasureText nobody (codes "bots 0\nconnected yes\nhexagon no\n")
   pub hexagon : IsMeasureText one_alone (codes "bots 1\nconnected yes\nhexagon yes\n")

@@ -32,8 +32,9 @@ pub record IsInterleaveReport (f : Shown → Verdict) (start : Config) (lists : 
   pub reached : Reached (setup f start lists) report
   pub scheduled : IsScheduled (setup f start lists) schedule report
 
--- what the command writes where a document has this program, this shape, these lists and this schedule: the text of such a report
-pub record IsInterleaveText (p : Program) (start : Config) (lists : CallerLists) (schedule : List ℕ)
-    (report : Report) (text : List ℕ) : Type 0 where
+-- what the command writes where a document of this version has this program, this shape, these lists and this schedule: the text of
+-- such a report
+pub record IsInterleaveText (version : ℕ) (p : Program) (start : Config) (lists : CallerLists)
+    (schedule : List ℕ) (report : Report) (text : List ℕ) : Type 0 where
   pub run : IsInterleaveReport (verdict_shown p) start lists schedule report
-  pub whole : text ≡ report_text (length p.vars) report
+  pub whole : text ≡ report_text version (length p.vars) report

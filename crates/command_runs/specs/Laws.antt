@@ -3,6 +3,7 @@ use Rattle.std.specs.Prelude.{◌≡◌, ◌<◌, ◌≤◌, ◌*◌, ◌⊎◌,
 use Rattle.std.specs.List.{All}
 use Rattle.tri_lattice.specs.Sets.{IsConnected}
 use Rattle.amoebot_state.specs.declared.verdict.Entry.{Entry}
+use Rattle.amoebot_state.specs.declared.verdict.PlainEntry.{PlainEntry}
 use Rattle.amoebot_state.specs.declared.verdict.Verdict.{Verdict}
 use Rattle.amoebot_state.specs.Configs.{Config, IsValid}
 use Rattle.amoebot_state.specs.Steps.{HasPatchedWorld}
@@ -16,7 +17,7 @@ use Rattle.action_tree.specs.Trees.{Program}
 use Rattle.action_meaning.specs.Verdicts.{verdict_shown}
 use Rattle.command_runs.specs.Run.{IsRunText}
 use Rattle.command_runs.specs.Interleave.{IsScheduled, IsInterleaveText}
-use Rattle.command_runs.specs.Replay.{Agrees, DiffersAt}
+use Rattle.command_runs.specs.Replay.{Agrees, DiffersAt, PlainAgrees, PlainDiffersAt}
 use Rattle.command_runs.specs.Measure.{IsMeasureText}
 use Rattle.command_runs.specs.Sample.{IsSampleText}
 
@@ -29,10 +30,10 @@ pub record SameReport (one two : Report) : Type 0 where
 -- a document of `run` with at most one list has at most one text
 abbrev pub RunTextIsOne : Type 0
 RunTextIsOne =
-    (p : Program) (start : Config) (lists : CallerLists) (one two : Report) (text other : List ℕ)
+    (version : ℕ) (p : Program) (start : Config) (lists : CallerLists) (one two : Report) (text other : List ℕ)
     → length lists.ids ≤ 1
-    → IsRunText p start lists one text
-    → IsRunText p start lists two other
+    → IsRunText version p start lists one text
+    → IsRunText version p start lists two other
     → SameReport one two × (text ≡ other)
 
 -- a schedule gives at most one report
@@ -46,13 +47,15 @@ ScheduleHasOneReport =
 -- so a document of `interleave` has at most one text
 abbrev pub InterleaveTextIsOne : Type 0
 InterleaveTextIsOne =
-    (p : Program) (start : Config) (lists : CallerLists) (schedule : List ℕ) (one two : Report) (text other : List ℕ)
-    → IsInterleaveText p start lists schedule one text
-    → IsInterleaveText p start lists schedule two other
+    (version : ℕ) (p : Program) (start : Config) (lists : CallerLists) (schedule : List ℕ) (one two : Report)
+    (text other : List ℕ)
+    → IsInterleaveText version p start lists schedule one text
+    → IsInterleaveText version p start lists schedule two other
     → SameReport one two × (text ≡ other)
 
 -- what agrees differs nowhere, and what differs does so at one place;
--- and where each change that is decided leads somewhere, a journal from a valid shape agrees or differs
+-- and where each change that is decided leads somewhere, a journal from a valid shape agrees or differs.
+-- So it is of entries with their old values, and of those without
 pub record ReplayIsDecided : Type 0 where
   pub exclusive : (f : Shown → Verdict) (start final : Config) (entries : List Entry) (place : ℕ)
       → Agrees f start entries final
@@ -65,6 +68,17 @@ pub record ReplayIsDecided : Type 0 where
       → HasPatchedWorld f
       → IsValid start
       → Agrees f start entries final ⊎ ((place : ℕ) × DiffersAt f start entries final place)
+  pub plain_exclusive : (f : Shown → Verdict) (start final : Config) (entries : List PlainEntry) (place : ℕ)
+      → PlainAgrees f start entries final
+      → ¬ PlainDiffersAt f start entries final place
+  pub plain_one_place : (f : Shown → Verdict) (start final : Config) (entries : List PlainEntry) (one two : ℕ)
+      → PlainDiffersAt f start entries final one
+      → PlainDiffersAt f start entries final two
+      → one ≡ two
+  pub plain_some : (f : Shown → Verdict) (start final : Config) (entries : List PlainEntry)
+      → HasPatchedWorld f
+      → IsValid start
+      → PlainAgrees f start entries final ⊎ ((place : ℕ) × PlainDiffersAt f start entries final place)
 
 -- with the guard on and a connected shape at the start, the shape is connected in each world of the run
 abbrev pub StaysConnectedIn : Program → Config → List Entry → Type 0

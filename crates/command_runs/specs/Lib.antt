@@ -2,6 +2,7 @@ pub mod Check
 pub mod Interleave
 pub mod Laws
 pub mod Measure
+pub mod Renew
 pub mod Replay
 pub mod Reports
 pub mod Run

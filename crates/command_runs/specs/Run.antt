@@ -20,7 +20,7 @@ pub record IsRunReport (f : Shown → Verdict) (start : Config) (lists : CallerL
   pub reached : Reached (setup f start lists) report
   pub serial : length lists.ids ≤ 1 → SerialRun f start lists (all_turns lists) (left_by report)
 
--- what the command writes where a document has this program, this shape and these lists: the text of such a report
-pub record IsRunText (p : Program) (start : Config) (lists : CallerLists) (report : Report) (text : List ℕ) : Type 0 where
+-- what the command writes where a document of this version has this program, this shape and these lists: the text of such a report
+pub record IsRunText (version : ℕ) (p : Program) (start : Config) (lists : CallerLists) (report : Report) (text : List ℕ) : Type 0 where
   pub run : IsRunReport (verdict_shown p) start lists report
-  pub whole : text ≡ report_text (length p.vars) report
+  pub whole : text ≡ report_text version (length p.vars) report

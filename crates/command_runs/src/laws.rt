@@ -9,7 +9,11 @@ use amoebot_state::run_has_one_last;
 use claim_core::{
     one_list_is_serial, reached_is_good, serial_run_is_determined, state_has_one_report,
 };
-use serial_model::{first_no_step_is_unique, run_has_only_steps, run_or_first_no_step};
+use serial_model::{
+    first_no_plain_step_is_unique, first_no_step_is_unique, plain_run_has_only_steps,
+    plain_run_is_run, plain_run_is_unique, plain_run_or_first, run_has_only_steps,
+    run_or_first_no_step,
+};
 use shape_checks::hexagon_laws;
 
 /// A document of `run` with at most one list has at most one report, and one text.
@@ -28,6 +32,7 @@ pub fn interleave_text_is_one()
 }
 
 /// A journal that agrees differs nowhere, and one that differs does so at one place. From a valid shape each journal does one of both.
+/// So it is of entries without old values.
 pub fn replay_is_decided()
     ensures { ReplayIsDecided }
 {
@@ -35,6 +40,11 @@ pub fn replay_is_decided()
     run_has_only_steps();
     run_has_one_last();
     run_or_first_no_step();
+    first_no_plain_step_is_unique();
+    plain_run_has_only_steps();
+    plain_run_is_run();
+    plain_run_is_unique();
+    plain_run_or_first();
 }
 
 /// A shape has one text of its measures.

@@ -1,10 +1,11 @@
-//! What the commands do for a document, over what was read of it: they run, compare, measure and print.
+//! What the commands do for a document, over what was read of it: they run, compare, renew, measure and print.
 //! None of them reads or writes a byte.
 #![tactic(auto)]
 
 mod interleaving;
 mod laws;
 mod measuring;
+mod renewing;
 mod replaying;
 mod sampling;
 mod texts;
@@ -15,9 +16,10 @@ pub use laws::{
     replay_is_decided, run_text_is_one, sample_text_is_one, small_commands,
 };
 pub use measuring::print_measures;
-pub use replaying::compare;
+pub use renewing::follow_all;
+pub use replaying::{compare, compare_plain};
 pub use sampling::print_sample;
-pub use texts::{print_agrees, print_check, print_differs, print_report};
+pub use texts::{print_agrees, print_check, print_differs, print_renewed, print_report};
 
 #[cfg(test)]
 mod tests;

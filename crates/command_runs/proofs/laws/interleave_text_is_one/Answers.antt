@@ -9,6 +9,6 @@ pub returns-clause-report : goal.returns-clause-report
 returns-clause-report c = schedule_has_one_report c.state_has_one_report.ensures
 
 pub returns-clause-text : goal.returns-clause-text
-returns-clause-text c = λ p start lists schedule one two text other x y.
+returns-clause-text c = λ version p start lists schedule one two text other x y.
     let same = schedule_has_one_report c.state_has_one_report.ensures (setup (verdict_shown p) start lists) schedule one two x.run.scheduled y.run.scheduled in
-    (same, x.whole ∙ same_text (length p.vars) one two same ∙ sym y.whole)
+    (same, x.whole ∙ same_text version (length p.vars) one two same ∙ sym y.whole)

@@ -1,0 +1,30 @@
+use Rattle.std.proofs.Common.{◌≡◌, ◌<◌, length, map, take, arith, ap, sym, ◌∙◌, subst}
+use Rattle.std.proofs.lemmas.Bool.{false≢true}
+use Rattle.std.proofs.Math.Seq.{take-length}
+use Rattle.amoebot_state.specs.Steps.{Run, plain_entry}
+use Rattle.amoebot_state.proofs.Runs.{run_push}
+use Rattle.command_runs.proofs.Followed.{told_more, stops, leads_elsewhere}
+use Rattle.command_runs.proofs.renewing.follow_all.Goals as goal
+
+pub returns-in-None : goal.returns-in-None
+returns-in-None g c =
+    let below : c.loop-place.place < length c.args.entries.now = omega arith in
+    stops c.plain_run_is_run.ensures (g.D.Decider.verdict c.args.decider.now) c.args.start c.loop-place.serial c.args.last.now c.args.entries.now c.loop-place.followed.items c.index-entries-place.result c.loop-place.place below c.index-entries-place.is c.loop-place.invariant.told c.loop-place.invariant.run c.in-None.ensures.none
+
+pub loop-place-preserved : goal.loop-place-preserved
+loop-place-preserved g c =
+    let f = g.D.Decider.verdict c.args.decider.now in
+    let below : c.loop-place.place < length c.args.entries.now = omega arith in
+    let es = c.loop-place.followed.items in
+    let items = c.in_ok-push-in-Some.ensures.items in
+    record {
+      told = ap (map plain_entry) items ∙ told_more c.args.entries.now es c.in-Some.entry c.index-entries-place.result c.loop-place.place below c.index-entries-place.is c.loop-place.invariant.told c.in-Some.ensures.told;
+      run = subst (λ ds. Run f c.args.start ds c.follow.new.self) (sym items) (run_push f c.args.start c.loop-place.serial c.follow.new.self es c.in-Some.entry c.loop-place.invariant.run c.in-Some.ensures.step);
+      size = c.follow.ensures.size ∙ c.loop-place.invariant.size;
+    }
+
+pub returns-else-same : goal.returns-else-same
+returns-else-same g c =
+    let end : c.loop-place.place ≡ length c.args.entries.now = omega arith in
+    let told = c.loop-place.invariant.told ∙ ap (λ n. take n c.args.entries.now) end ∙ take-length c.args.entries.now in
+    leads_elsewhere c.plain_run_is_run.ensures (g.D.Decider.verdict c.args.decider.now) c.args.start c.loop-place.serial c.args.last.now c.args.entries.now c.loop-place.followed.items told c.loop-place.invariant.run (λ same. false≢true (sym c.if-same.false ∙ c.same.ensures.1 (c.world.ensures ∙ same)))
