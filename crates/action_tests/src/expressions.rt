@@ -425,7 +425,7 @@ fn is_valued(rt: &impl Abort, alloc: Global, world: &World, asked: &Asked) -> Re
     match (runner.decide(&world.found(bot)), value) {
         (Verdict::Change(change), True) => {
             assert!(rt;
-                change.moved == Moved::None && change.patch.pairs().is_empty(),
+                change.moved == Moved::None && change.patch.triples().is_empty(),
                 "{expression}"
             );
         }

@@ -7,7 +7,7 @@ use action_check::check;
 use action_eval::Runner;
 use action_parser::parse_program;
 use amoebot_state::{Bot, Chir, Entry, Failure, World};
-use journal_text::print_journal;
+use journal_text::print_plain;
 use serial_model::{Serial, Turned};
 use std::alloc::Global;
 use std::process::Abort;
@@ -119,7 +119,7 @@ fn is_entry(
     )?;
     let mut entries = Vec::new(alloc);
     entries.push(entry)?;
-    let printed = print_journal(alloc, &entries, vars).ok().ok_or("no text")?;
+    let printed = print_plain(alloc, &entries, vars).ok().ok_or("no text")?;
     assert!(rt; printed.bytes() == text.as_bytes(), "{text}");
     Ok(())
 }
