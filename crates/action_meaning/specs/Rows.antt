@@ -499,7 +499,8 @@ guarded_rows =
     -- the ports of an expanded amoebot: those of the head, then those of the tail
     ∷ decided 0 (moves (tree.through tree.pull (first_p Ports (tree.negation (tree.tested tree.peer_expanded port_p))))) pulled
     ∷ decided 0 (act yes (tree.for_each p Ports yes (stmts (tree.put_of port_p y (sum (dir port_p)) ∷ set_x 1 ∷ [])) ∷ [])
-    tree.no_move ∷ []) (change 0 (patched 0 middle (record middle { mem = values 1 6 }) ∷ patched 1 back (record back { mem = values 2 3 }) ∷ []))
+    tree.no_move ∷ [])
+    (change 0 (patched 0 middle (record middle { mem = values 1 6 }) ∷ patched 1 back (record back { mem = values 2 3 }) ∷ []))
     -- the edge is at the neighbour's tail, and at a contracted one's head
     ∷ decided 0 (act (tree.tested tree.peer_head (head 0)) [] tree.no_move ∷ act (tree.tested tree.peer_head (tail 3)) [] tree.no_move ∷ [])
     (change 1 [])

@@ -46,7 +46,8 @@ with_commit g r change place = record {
   number = r.number;
   won = r.won;
   note = r.note;
-  caller = freeing_caller g r.caller.turn (map (patched_pair (plain_patch change.patch)) r.caller.held) (r.caller.marks ++ mark.Done place ∷ []);
+  caller =
+      freeing_caller g r.caller.turn (map (patched_pair (plain_patch change.patch)) r.caller.held) (r.caller.marks ++ mark.Done place ∷ []);
   committed = r.committed ++ commit_at g r change place ∷ [];
   taken = None;
 }
