@@ -2,6 +2,7 @@
 
 use crate::Form;
 use crate::Form::{Check, Interleave, Measure, Replay, Run};
+use crate::journals::Journal;
 use crate::pieces::{FINAL, HEAD, LISTS, OUT, PROGRAM, SCHEDULE, SHAPE};
 use text_tokens::RefusalKind;
 use text_tokens::RefusalKind::{
@@ -55,6 +56,9 @@ pub type Valued = (
     &'static [&'static str],
     Result<[i64; 2], (u32, RefusalKind)>,
 );
+
+/// One entry more than a journal may have.
+pub static ONE_ENTRY_TOO_MANY: [Journal; 1] = [(65_537, "end\n", Err((65_546, TooMany)))];
 
 /// Their program stands on lines 2 to 4, their shape on lines 5 to 8, and their first entry on line 10; with a variable all is one
 /// line lower.
