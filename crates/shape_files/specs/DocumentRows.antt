@@ -136,7 +136,16 @@ abbrev pub plain_made : PlainEntry
 plain_made = plain_entry entry_made
 
 abbrev pub only_program : Contents
-only_program = record { version = 1; checked = Some out; world = None; lists = None; schedule = None; entries = None; plain = None; final_world = None }
+only_program = record {
+  version = 1;
+  checked = Some out;
+  world = None;
+  lists = None;
+  schedule = None;
+  entries = None;
+  plain = None;
+  final_world = None;
+}
 
 abbrev pub program_and_shape : Contents
 program_and_shape = record only_program { world = Some (shape_of_one bot_before) }

@@ -28,14 +28,16 @@ recorded_with a entries last =
     else record a { plain = Some (map plain_entry entries); final_world = Some last }
 
 -- What a run of a document leaves breaks no limit.
--- Its entries, as texts of the version have them, are known and few enough, and its last configuration is one that a world has, with the maxima of the program.
+-- Its entries, as texts of the version have them, are known and few enough.
+-- Its last configuration is one that a world has, with the maxima of the program.
 -- Its marks have numbers of at most nine digits.
 pub record KeepsRunLimits (a : Contents) (es : List Entry) (c : Config) (m : MarkLists) : Type 0 where
   pub vars : var_count a.checked ≤ most_vars
   pub actions : actions_of a.checked < 2 ^ 8
   pub bots : bots_of a.world < 2 ^ 16
   pub few : length es ≤ most_turns
-  pub entries : All (λ e. KeepsLimits (bots_of a.world) (actions_of a.checked) (var_count a.checked) (written_by (has_old_values a.version) e)) es
+  pub entries : All (λ e. KeepsLimits (bots_of a.world) (actions_of a.checked) (var_count a.checked)
+      (written_by (has_old_values a.version) e)) es
   pub last : IsWritableConfig a.version (var_count a.checked) c
   pub maxes : c.maxes ≡ maxes_in a.checked
   pub callers : length m.marks ≤ most_callers

@@ -21,7 +21,7 @@ pub static HEADERS_AND_PROGRAMS: [Row; 34] = [
     ),
     (Check, &["amoebot 4\n", PROGRAM], Err((1, BadRange))),
     (Check, &["amoebot 0\n", PROGRAM], Err((1, BadRange))),
-    (Check, &["amoebot\n3\n", PROGRAM], Err((2, BadRange))),
+    (Check, &["amoebot\n4\n", PROGRAM], Err((2, BadRange))),
     (
         Check,
         &["amoebot\n1\n", PROGRAM],

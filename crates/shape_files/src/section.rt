@@ -30,7 +30,8 @@ fn read_entries(
     tokens: &mut Tokens<'_>,
     parts: &mut Parts,
 ) -> Result<(), ReadRefusal>
-    ensures { Gives (λ _. contents parts.new) (journal_body (part.has_old_values (contents parts.old).version) (contents parts.old)) tokens.old result tokens.new }
+    ensures { Gives (λ _. contents parts.new) (journal_body (part.has_old_values (contents parts.old).version) (contents parts.old))
+        tokens.old result tokens.new }
 {
     let bots = parts.bots();
     let actions = parts.actions();

@@ -3,7 +3,7 @@ use crate::form_tables::{OTHER_FORMS, REPLAY_FORMS, RUN_FORMS};
 use crate::journals::{JOURNALS, Journal, LONG_JOURNALS};
 use crate::limits::LIMITS;
 use crate::lists::LISTS_AND_SCHEDULES;
-use crate::old_values::{HEAD_3, OLD_VALUES, Valued};
+use crate::old_values::{HEAD_3, OLD_VALUES, ONE_ENTRY_TOO_MANY, Valued};
 use crate::pieces::{Expected, FINAL, HEAD, LISTS, Long, PROGRAM, Row, SHAPE};
 use crate::programs::{HEADERS_AND_PROGRAMS, PROGRAM_LIMITS};
 use crate::runs::{CUTS, WORKED};
@@ -310,7 +310,12 @@ fn have_entries(
 #[test]
 fn a_document_has_at_most_65536_entries(rt: HostRuntime) -> Result<(), Fail> {
     have_entries(&rt, rt.alloc(), HEAD, &LONG_JOURNALS)?;
-    have_entries(&rt, rt.alloc(), HEAD_3, &LONG_JOURNALS)?;
+    Ok(())
+}
+
+#[test]
+fn a_journal_with_old_values_has_no_more(rt: HostRuntime) -> Result<(), Fail> {
+    have_entries(&rt, rt.alloc(), HEAD_3, &ONE_ENTRY_TOO_MANY)?;
     Ok(())
 }
 
