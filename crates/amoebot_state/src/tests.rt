@@ -244,8 +244,8 @@ fn a_patch_has_the_values_before_and_after(rt: HostRuntime) {
     assert_eq!(rt; patch.triples(), [spot, body].as_slice());
 }
 
-#[test]
-fn a_plain_entry_has_the_values_after(rt: HostRuntime) {
+/// A patch of as many cells as there may be: a node and nine bodies.
+fn full_patch() -> Patch {
     let mut patch = Patch::new();
     patch.push(
         CellName::Spot(NEXT),
@@ -255,17 +255,22 @@ fn a_plain_entry_has_the_values_after(rt: HostRuntime) {
     for id in 0..9 {
         patch.push(CellName::Body(id), Cell::Body(ALONE), Cell::Body(STRETCHED));
     }
-    let plain = entry_of(patch).plain();
-    assert_eq!(rt; plain.caller, 3);
-    assert_eq!(rt; plain.turn, 9);
-    assert_eq!(rt; plain.bot, 7);
-    assert_eq!(rt; plain.action, 2);
+    patch
+}
+
+#[test]
+fn a_plain_entry_has_the_values_after(rt: HostRuntime) {
+    let plain = entry_of(full_patch()).plain();
+    assert_eq!(rt;
+        (plain.caller, plain.turn, plain.bot, plain.action),
+        (3, 9, 7, 2)
+    );
     assert_eq!(rt; plain.moved, Moved::Expand(port(End::Head, 4)));
-    let mut pairs = [(CellName::Spot(NEXT), Cell::Spot(Some(0))); 10];
-    for id in 0..9 {
-        pairs[1 + usize::from(id)] = (CellName::Body(id), Cell::Body(STRETCHED));
-    }
-    assert_eq!(rt; plain.patch.pairs(), pairs.as_slice());
+    assert_eq!(rt; plain.patch.pairs().len(), 10);
+    let spot = (CellName::Spot(NEXT), Cell::Spot(Some(0)));
+    assert_eq!(rt; plain.patch.pairs().first().copied(), Some(spot));
+    let body = (CellName::Body(8), Cell::Body(STRETCHED));
+    assert_eq!(rt; plain.patch.pairs().last().copied(), Some(body));
 }
 
 #[test]
