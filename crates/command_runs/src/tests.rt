@@ -5,8 +5,10 @@ ghost use Rattle.std.specs.List.{All};
 ghost use Rattle.amoebot_state.specs.Limits.{most_bots, most_vars};
 ghost use Rattle.amoebot_state.specs.Refusals.{IsBotInRange};
 
-use crate::{compare, print_agrees, print_differs, print_report, run_interleaved};
-use amoebot_state::{Bot, Decider, End, Entry, Port, World};
+use crate::{
+    compare, compare_plain, follow_all, print_agrees, print_differs, print_report, run_interleaved,
+};
+use amoebot_state::{Bot, Decider, End, Entry, PlainEntry, Port, World};
 use claim_core::Report;
 use schedule_text::{Schedule, read_schedule};
 use small_worlds::{Expander, Marker, lists_of, standing, world_of};
@@ -50,7 +52,7 @@ fn interleaved<D: Decider>(
     Ok(run_interleaved(alloc, decider, world, &lists, &schedule)?)
 }
 
-/// The text of that report.
+/// The text of that report in versions 1 and 2.
 fn text_of<D: Decider>(
     alloc: Global,
     decider: &D,
@@ -65,7 +67,7 @@ fn text_of<D: Decider>(
     requires text { length schedule.now < 1000 }
 {
     let report = interleaved(alloc, decider, bots, lists, schedule)?;
-    Ok(print_report(alloc, &report, vars)?)
+    Ok(print_report(alloc, 2, &report, vars)?)
 }
 
 /// Caller 0 has its body and seven nodes when caller 1 wins its body and finds (3, 3) held.
@@ -153,6 +155,41 @@ fn the_schedule_says_who_commits_first(rt: HostRuntime) -> Result<(), Fail> {
     Ok(())
 }
 
+/// The same journal in version 3.
+const FAR_IN_FULL: &str = "journal\n\
+    entry 0 1 0 1 0 expand head 0 spot 7 6 empty to 1 body 1 6 6 6 6 0 + to 7 6 6 6 0 +\n\
+    entry 1 0 0 0 0 expand head 0 spot 2 1 empty to 0 body 0 1 1 1 1 0 + to 2 1 1 1 0 +\n\
+    end\n\
+    final\n\
+    area 0 0 8 8\n\
+    bot 2 1 1 1 0 +\n\
+    bot 7 6 6 6 0 +\n\
+    end\n\
+    turns\n\
+    turn 0 0 done 1\n\
+    turn 1 0 done 0\n\
+    end\n";
+
+#[test]
+fn the_version_says_whether_the_old_values_are_written(rt: HostRuntime) -> Result<(), Fail> {
+    let report = interleaved(
+        rt.alloc(),
+        &EXPANDER,
+        &[standing(1, 1, 0), standing(6, 6, 0)],
+        (1, &[&[0], &[1]]),
+        "schedule 1 times 10 end",
+    )?;
+    assert_eq!(rt;
+        print_report(rt.alloc(), 1, &report, 0)?.bytes(),
+        FAR.as_bytes()
+    );
+    assert_eq!(rt;
+        print_report(rt.alloc(), 3, &report, 0)?.bytes(),
+        FAR_IN_FULL.as_bytes()
+    );
+    Ok(())
+}
+
 /// The place at which entries differ from a run to the last world, if they do.
 fn place_of<D: Decider>(
     alloc: Global,
@@ -206,5 +243,81 @@ fn a_journal_agrees_or_differs(rt: HostRuntime) -> Result<(), Fail> {
         print_differs(rt.alloc(), 0)?.bytes(),
         b"differs 0\n".as_slice()
     );
+    Ok(())
+}
+
+/// The entries of the run that these tell without their old values; or the place at which they differ.
+fn followed<D: Decider>(
+    alloc: Global,
+    decider: &D,
+    start: &World,
+    entries: &[PlainEntry],
+    last: &World,
+) -> Result<Result<Vec<Entry>, u32>, Fail> {
+    let bots = start.bots();
+    if entries.len() > 4096 || !entries.iter().all(|entry| entry.bot < bots) {
+        Err("entries")?;
+    }
+    match follow_all(alloc, decider, start.copy(alloc)?, entries, last)? {
+        Ok(entries) => Ok(Ok(entries)),
+        Err(differs) => Ok(Err(differs.place)),
+    }
+}
+
+/// The place at which they differ, by the call that keeps no entry.
+fn plain_place_of<D: Decider>(
+    alloc: Global,
+    decider: &D,
+    start: &World,
+    entries: &[PlainEntry],
+    last: &World,
+) -> Result<Option<u32>, Fail> {
+    let bots = start.bots();
+    if entries.len() > 4096 || !entries.iter().all(|entry| entry.bot < bots) {
+        Err("entries")?;
+    }
+    match compare_plain(decider, start.copy(alloc)?, entries, last) {
+        Ok(()) => Ok(None),
+        Err(differs) => Ok(Some(differs.place)),
+    }
+}
+
+#[test]
+fn a_journal_without_old_values_is_followed_or_differs(rt: HostRuntime) -> Result<(), Fail> {
+    let bots = [standing(1, 1, 0), standing(6, 6, 0)];
+    let report = interleaved(
+        rt.alloc(),
+        &EXPANDER,
+        &bots,
+        (1, &[&[0], &[1]]),
+        "schedule 1 times 10 end",
+    )?;
+    let start = world_of(rt.alloc(), &bots)?;
+    let last = &report.world;
+    let entries = report.journal.entries();
+    let mut plain = Vec::new(rt.alloc());
+    for entry in entries {
+        plain.push(entry.plain())?;
+    }
+    // The old values are those of the run.
+    let made = followed(rt.alloc(), &EXPANDER, &start, &plain, last)?;
+    let made = made.ok().ok_or("a run")?;
+    assert_eq!(rt; made.len(), 2);
+    for (one, entry) in made.iter().zip(entries) {
+        assert_eq!(rt; one.patch.triples(), entry.patch.triples());
+    }
+    assert_eq!(rt;
+        plain_place_of(rt.alloc(), &EXPANDER, &start, &plain, last)?,
+        None
+    );
+    // To another shape they differ at their number, and from another one at the first that is no step.
+    for (from, to, place) in [(&start, &start, 2), (last, last, 0)] {
+        let other = followed(rt.alloc(), &EXPANDER, from, &plain, to)?;
+        assert_eq!(rt; other.err(), Some(place));
+        assert_eq!(rt;
+            plain_place_of(rt.alloc(), &EXPANDER, from, &plain, to)?,
+            Some(place)
+        );
+    }
     Ok(())
 }
