@@ -1,11 +1,13 @@
 -- The answers of the samples: the steps of the schedule are computed, and what they leave is also what the turns leave.
-use Rattle.std.proofs.Common.{◌≡◌, ℕ, List, replicate, [], ◌∷◌, ◌++◌, Some, None, Ok, Err, zero, suc, refl, ap, arith, codes, subst, sym}
+use Rattle.std.proofs.Common.{◌≡◌, ℕ, List, replicate, [], ◌∷◌, ◌++◌, Some, None, inr, Ok, Err, zero, suc, refl, ap, arith, codes, subst, sym}
 use Rattle.std.specs.Prelude.{is_some, reverse}
 use Rattle.std.specs.Fmt.{digits}
 use Rattle.std.specs.List.{All}
 use Rattle.std.proofs.lemmas.List.Elements.{All-nil, All-cons}
 use Rattle.text_tokens.specs.Kinds.{name}
 use Rattle.amoebot_state.specs.Configs.{Config, IsValid, bot_at, occupant}
+use Rattle.amoebot_state.specs.Steps.{plain_entry}
+use Rattle.serial_model.specs.Replays.{PlainRun}
 use Rattle.amoebot_state.proofs.Faults.{frame_valid, valid_one}
 use Rattle.amoebot_state.proofs.Occupants.{plain_in}
 use Rattle.model_ops.proofs.ActsDecide.{acts_keep_decider_laws}
@@ -28,16 +30,16 @@ use Rattle.command_runs.specs.Examples.{nobody, one_alone}
 use Rattle.command_runs.proofs.Measures.{nobody_is_measured}
 use Rattle.small_worlds.proofs.Rows.{is_area, one_id, IsThereIn, one_has_ended, two_have_ended}
 use Rattle.shipped_programs.specs.declared.shipped.Shipped.TheVariants.{Line}
-use Rattle.command_words.specs.declared.command.DocumentCommand.TheVariants.{Run, Interleave, Replay, Check, Measure}
+use Rattle.command_words.specs.declared.command.DocumentCommand.TheVariants.{Run, Interleave, Replay, Check, Measure, Renew}
 use Rattle.command_words.specs.declared.command.Command.TheVariants.{Document}
 use Rattle.command_answers.specs.declared.answer.Telling.TheVariants as telling
 use Rattle.command_answers.specs.declared.status.Status.TheVariants as status
 use Rattle.command_answers.specs.Reads.{whole}
-use Rattle.command_answers.specs.Outcomes.{DocumentLists, DocumentJournal, of_run, of_interleave, agreeing, differing, of_check, of_measure}
+use Rattle.command_answers.specs.Outcomes.{DocumentLists, DocumentRecord, JournalAgrees, JournalDiffers, in_plain, of_run, of_interleave, agreeing, differing, of_check, of_measure, renewing, renew_differing}
 use Rattle.command_answers.specs.Owed.{IsOwed, usage, read_fault, longer, refused, served, shown}
 use Rattle.command_answers.specs.Answers.{of_document}
 use Rattle.command_words.specs.Words.{is_number_word, of_two_words, numbered_by}
-use Rattle.command_answers.specs.Examples.{with_shape, with_nobody, with_list, with_two_lists, with_schedule, expansion_journal, spread_text, still_text, spread_config, one_list, two_lists, schedule, expansion, and_nobody, and_list, and_two_lists, and_schedule, and_journal, expansion_report, expansion_report_text, two_callers_report, both_text, empty_refused, SmallAnswers}
+use Rattle.command_answers.specs.Examples.{with_shape, with_nobody, with_list, with_two_lists, with_schedule, expansion_journal, spread_text, still_text, spread_config, one_list, two_lists, schedule, expansion, and_nobody, and_list, and_two_lists, and_schedule, and_journal, expansion_report, expansion_report_text, renewed_expansion, two_callers_report, both_text, empty_refused, SmallAnswers}
 use Rattle.command_answers.proofs.SmallDocuments.{says, are_answered}
 
 abbrev g : Setup
@@ -55,8 +57,8 @@ may_run = record {
   few = omega arith;
   lists = record { few = record { at_most_16 = omega arith; in_all = omega arith }; each = All-cons IsList (0 ∷ []) [] (one_id 0) (All-nil IsList) };
   bots = All-cons (All (IsThereIn one_alone)) (0 ∷ []) [] only_bot (All-nil (All (IsThereIn one_alone)));
-  touches = (acts_keep_decider_laws (verdict_shown out) (programs_decide_by_acts out)).0;
-  leads = (acts_keep_decider_laws (verdict_shown out) (programs_decide_by_acts out)).1;
+  touches = λ c i change d. (acts_keep_decider_laws (verdict_shown out) (programs_decide_by_acts out) c i change d).touches;
+  leads = λ c i change d. (acts_keep_decider_laws (verdict_shown out) (programs_decide_by_acts out) c i change d).leads;
 }
 
 ended : HaveEnded (after g (reverse schedule))
@@ -67,7 +69,7 @@ same_ids zero = refl
 same_ids (suc i) = refl
 
 left : IsReportOf g (after g (reverse schedule)) expansion_report
-left = record { first = refl; entries = refl; world = record { rest = refl; size = refl; ids = same_ids; values = refl }; marks = refl }
+left = record { first = refl; entries = refl; world = record { same = record { rest = refl; size = refl; ids = same_ids }; values = refl }; marks = refl }
 
 reached : Reached g expansion_report
 reached = record { steps = reverse schedule; ended = ended; left = left }
@@ -93,7 +95,7 @@ both_ended : HaveEnded (after both steps_of_both)
 both_ended = two_have_ended (after both steps_of_both) _ _ refl refl refl
 
 both_reached : Reached both two_callers_report
-both_reached = record { steps = steps_of_both; ended = both_ended; left = record { first = refl; entries = refl; world = record { rest = refl; size = refl; ids = same_ids; values = refl }; marks = refl } }
+both_reached = record { steps = steps_of_both; ended = both_ended; left = record { first = refl; entries = refl; world = record { same = record { rest = refl; size = refl; ids = same_ids }; values = refl }; marks = refl } }
 
 scheduled : IsScheduled g schedule expansion_report
 scheduled = record { count = 0; ended = ended; first = λ n lt. absurd (omega arith); left = left }
@@ -108,8 +110,8 @@ its_two_lists = record { program = out; start = one_alone; lists = two_lists; it
 abbrev its_schedule : DocumentLists and_schedule
 its_schedule = record { program = out; start = one_alone; lists = one_list; its_program = refl; its_shape = refl; its_lists = refl }
 
-abbrev its_journal : (final : Config) → DocumentJournal (and_journal final)
-its_journal final = record { program = out; start = one_alone; entries = expansion ∷ []; final = final; its_program = refl; its_shape = refl; its_journal = refl; its_final = refl }
+abbrev its_record : (final : Config) → DocumentRecord (and_journal final)
+its_record final = record { program = out; start = one_alone; final = final; its_program = refl; its_shape = refl; its_final = refl }
 
 module _ (goods : ReachedIsGood) (serials : OneListIsSerial) where
   good : Good (verdict_shown out) one_alone one_list expansion_report
@@ -118,9 +120,19 @@ module _ (goods : ReachedIsGood) (serials : OneListIsSerial) where
   both_good : Good (verdict_shown out) one_alone two_lists two_callers_report
   both_good = goods both both_may_run two_callers_report both_reached
 
+  -- its entry without its old values is a step of the same kind
+  plain_run : PlainRun (verdict_shown out) one_alone (plain_entry expansion ∷ []) spread_config
+  plain_run = let run = good.run in (run.0, record { entry = expansion; plain = refl; step = run.1 }, run.2)
+
+  its_journal_agrees : JournalAgrees (and_journal spread_config) (its_record spread_config) (expansion ∷ [])
+  its_journal_agrees = record { told = inr refl; agrees = good.run }
+
+  its_journal_differs : JournalDiffers (and_journal one_alone) (its_record one_alone) 1
+  its_journal_differs = in_plain (plain_entry expansion ∷ []) 1 refl (at_end spread_config plain_run (λ same. let e = ap (λ (c : Config). occupant c (node 2)) same in cc))
+
   -- each good report that an interleaving gives is owed
-  owes_report : (report : Report) → Good (verdict_shown out) one_alone one_list report → Reached g report → IsOwed (Some (Document Run)) (whole with_list) status.Done (Some report) (report_text 0 report)
-  owes_report report its_good its_reached = served Run with_list and_list status.Done (Some report) (report_text 0 report) (says form.Run with_list (Ok and_list) are_answered.list)
+  owes_report : (report : Report) → Good (verdict_shown out) one_alone one_list report → Reached g report → IsOwed (Some (Document Run)) (whole with_list) status.Done (Some report) (report_text 1 0 report)
+  owes_report report its_good its_reached = served Run with_list and_list status.Done (Some report) (report_text 1 0 report) (says form.Run with_list (Ok and_list) are_answered.list)
       (of_run its_lists report its_good its_reached (λ few. serials (verdict_shown out) one_alone one_list report few its_good))
 
   pub small_answers : SmallAnswers
@@ -136,8 +148,10 @@ module _ (goods : ReachedIsGood) (serials : OneListIsSerial) where
     run = owes_report expansion_report good reached;
     two_lists = served Run with_two_lists and_two_lists status.Done (Some two_callers_report) both_text (says form.Run with_two_lists (Ok and_two_lists) are_answered.two_lists) (of_run its_two_lists two_callers_report both_good both_reached (λ few. absurd (omega arith)));
     interleave = served Interleave with_schedule and_schedule status.Done (Some expansion_report) expansion_report_text (says form.Interleave with_schedule (Ok and_schedule) are_answered.schedule) (of_interleave its_schedule schedule expansion_report refl good reached scheduled);
-    agrees = served Replay (with_shape ++ expansion_journal ++ spread_text) (and_journal spread_config) status.Done None (codes "agrees 1\n") (says form.Replay (with_shape ++ expansion_journal ++ spread_text) (Ok (and_journal spread_config)) are_answered.journal) (agreeing (its_journal spread_config) good.run);
-    differs = served Replay (with_shape ++ expansion_journal ++ still_text) (and_journal one_alone) (status.Differs 1) None (codes "differs 1\n") (says form.Replay (with_shape ++ expansion_journal ++ still_text) (Ok (and_journal one_alone)) are_answered.other_final) (differing (its_journal one_alone) 1 (at_end spread_config good.run (λ same. let e = ap (λ (c : Config). occupant c (node 2)) same in cc)));
+    agrees = served Replay (with_shape ++ expansion_journal ++ spread_text) (and_journal spread_config) status.Done None (codes "agrees 1\n") (says form.Replay (with_shape ++ expansion_journal ++ spread_text) (Ok (and_journal spread_config)) are_answered.journal) (agreeing (its_record spread_config) (expansion ∷ []) its_journal_agrees);
+    differs = served Replay (with_shape ++ expansion_journal ++ still_text) (and_journal one_alone) (status.Differs 1) None (codes "differs 1\n") (says form.Replay (with_shape ++ expansion_journal ++ still_text) (Ok (and_journal one_alone)) are_answered.other_final) (differing (its_record one_alone) 1 its_journal_differs);
+    renew = served Renew (with_shape ++ expansion_journal ++ spread_text) (and_journal spread_config) status.Done None renewed_expansion (says form.Replay (with_shape ++ expansion_journal ++ spread_text) (Ok (and_journal spread_config)) are_answered.journal) (renewing (its_record spread_config) (expansion ∷ []) its_journal_agrees);
+    renew_differs = served Renew (with_shape ++ expansion_journal ++ still_text) (and_journal one_alone) (status.Differs 1) None (codes "differs 1\n") (says form.Replay (with_shape ++ expansion_journal ++ still_text) (Ok (and_journal one_alone)) are_answered.other_final) (renew_differing (its_record one_alone) 1 its_journal_differs);
     check = served Check program_text only_program status.Done None _ (says form.Check program_text (Ok only_program) are_answered.program) (of_check out refl);
     show = shown Line;
     measure = served Measure with_nobody and_nobody status.Done None _ (says form.Measure with_nobody (Ok and_nobody) are_answered.nobody) (of_measure nobody _ refl nobody_is_measured);

@@ -11,7 +11,9 @@ pub mod Bodies
 pub mod PatchLemmas
 pub mod ActionLemmas
 pub mod Worlds
+pub mod DocumentWorlds
 pub mod Entries
 pub mod MarkLemmas
 pub mod Interleaved
 pub mod Replayed
+pub mod Renewed

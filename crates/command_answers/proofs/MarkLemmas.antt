@@ -85,7 +85,7 @@ module _ (f : Shown → Verdict) (start : Config) (lists : CallerLists) (entries
   cell_short : (place bot : ℕ) (n : CellName) → HasInZone f start entries place bot n → IsWritableCell n
   cell_short place bot n (world, at, there) =
       let of = framed_on f start start world (take place entries) is at.reached in
-      zone_cell world bot n of.valid (let size = of.size in omega arith) (Has-from_Contains (zone world bot) there)
+      zone_cell world bot n of.valid (let size = of.same.size in omega arith) (Has-from_Contains (zone world bot) there)
 
   turns_few : (caller : ℕ) → caller < length lists.ids → lists.turns ≤ most_turns
   turns_few caller inside = one_of_many (length lists.ids) lists.turns (omega arith) lists_few.in_all
@@ -97,7 +97,7 @@ module _ (f : Shown → Verdict) (start : Config) (lists : CallerLists) (entries
   failure_fits : (version place bot : ℕ) (why : Failure) → HasVerdict f start entries place bot (verdict.Failed why) → IsBlockedByWalls f → (may_have_walls version ≡ false → start.walls ≡ []) → IsWritableFailure version why
   failure_fits version place bot why (world, at, decided) by_walls walls none e =
       let of = framed_on f start start world (take place entries) is at.reached in
-      let open_world : world.walls ≡ [] = ap (λ (c : Config). c.walls) of.rest ∙ walls none in
+      let open_world : world.walls ≡ [] = ap (λ (c : Config). c.walls) of.same.rest ∙ walls none in
       by_walls (shown world bot) (decided ∙ ap verdict.Failed e) (none_shown world bot open_world)
 
   module _ (version : ℕ) (by_walls : IsBlockedByWalls f) (walls : may_have_walls version ≡ false → start.walls ≡ []) where

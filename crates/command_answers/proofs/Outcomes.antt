@@ -13,7 +13,7 @@ use Rattle.command_words.specs.declared.command.DocumentCommand.{DocumentCommand
 use Rattle.command_answers.specs.declared.status.Status.{Status}
 use Rattle.command_answers.specs.declared.status.Status.TheVariants as status
 use Rattle.command_answers.specs.Commands.{IsWorked, MakesTurns, form_of}
-use Rattle.command_answers.specs.Outcomes.{IsOutcome, of_run, of_interleave, agreeing, differing, of_check, of_measure}
+use Rattle.command_answers.specs.Outcomes.{IsOutcome, of_run, of_interleave, agreeing, differing, of_check, of_measure, renewing, renew_differing}
 use Rattle.command_answers.specs.Owed.{usage, read_fault, longer, refused, served, shown, sampled}
 use Rattle.command_answers.specs.Headline.{IsRunOfDocument}
 use Rattle.command_answers.specs.Laws.{DocumentsHaveOutcomes, ReportsAreOfTurns, ReportsAreOfDocuments, ReportsAreOfSamples}
@@ -28,20 +28,24 @@ documents_have_outcomes documents c bytes a s report text h (served d same b t t
 pub worked_is_done : (a : Contents) (c : DocumentCommand) (s : Status) (report : Option Report) (text : List ℕ) → IsWorked (Some (Document c)) → IsOutcome a c s report text → s ≡ status.Done
 worked_is_done a c s report text worked (of_run d r good reached serial) = refl
 worked_is_done a c s report text worked (of_interleave d schedule r its_schedule good reached scheduled) = refl
-worked_is_done a c s report text worked (agreeing d agrees) = refl
+worked_is_done a c s report text worked (agreeing d es agrees) = refl
 worked_is_done a c s report text worked (differing d place differs) = absurd worked
 worked_is_done a c s report text worked (of_check program its_program) = refl
 worked_is_done a c s report text worked (of_measure last t its_last measures) = refl
+worked_is_done a c s report text worked (renewing d es agrees) = refl
+worked_is_done a c s report text worked (renew_differing d place differs) = absurd worked
 
 -- ---- by whom a report is owed
 
 outcomes_are_of_turns : (a : Contents) (c : DocumentCommand) (s : Status) (report : Option Report) (text : List ℕ) → IsOutcome a c s report text → IsSome report ↔ ((s ≡ status.Done) × MakesTurns (Some (Document c)))
 outcomes_are_of_turns a c s report text (of_run d r good reached serial) = (λ some. (refl, tt), λ both. refl)
 outcomes_are_of_turns a c s report text (of_interleave d schedule r its_schedule good reached scheduled) = (λ some. (refl, tt), λ both. refl)
-outcomes_are_of_turns a c s report text (agreeing d agrees) = (λ some. absurd (false≢true some), λ (is, makes). absurd makes)
+outcomes_are_of_turns a c s report text (agreeing d es agrees) = (λ some. absurd (false≢true some), λ (is, makes). absurd makes)
 outcomes_are_of_turns a c s report text (differing d place differs) = (λ some. absurd (false≢true some), λ (is, makes). absurd makes)
 outcomes_are_of_turns a c s report text (of_check program its_program) = (λ some. absurd (false≢true some), λ (is, makes). absurd makes)
 outcomes_are_of_turns a c s report text (of_measure last t its_last measures) = (λ some. absurd (false≢true some), λ (is, makes). absurd makes)
+outcomes_are_of_turns a c s report text (renewing d es agrees) = (λ some. absurd (false≢true some), λ (is, makes). absurd makes)
+outcomes_are_of_turns a c s report text (renew_differing d place differs) = (λ some. absurd (false≢true some), λ (is, makes). absurd makes)
 
 pub reports_are_of_turns : ReportsAreOfTurns
 reports_are_of_turns c read s report text usage = (λ some. absurd (false≢true some), λ (is, makes). cc)

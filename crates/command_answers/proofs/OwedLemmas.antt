@@ -1,20 +1,28 @@
 -- One thing is owed.
-use Rattle.std.proofs.Common.{◌≡◌, ◌≤◌, ℕ, List, length, Option, Some, Result, Ok, Err, ap, sym, subst, refl, ◌∙◌}
+use Rattle.std.proofs.Common.{◌≡◌, ◌≤◌, ℕ, List, length, map, Option, Some, None, Result, Ok, Err, inl, inr, ap, sym, subst, refl, ◌∙◌}
 use Rattle.std.specs.Prelude.{IfSome}
+use Rattle.std.proofs.lemmas.Bool.{cases_Bool}
+use Rattle.std.proofs.lemmas.Option.{none-some}
 use Rattle.text_tokens.specs.declared.refusal.Refusal.{Refusal}
 use Rattle.amoebot_state.specs.declared.verdict.Entry.{Entry}
+use Rattle.amoebot_state.specs.declared.verdict.PlainEntry.{PlainEntry}
 use Rattle.amoebot_state.specs.Configs.{Config}
+use Rattle.amoebot_state.specs.Steps.{plain_entry}
+use Rattle.serial_model.specs.Laws.{PlainRunIsRun, PlainRunIsUnique}
 use Rattle.claim_core.specs.declared.report.Report.{Report}
 use Rattle.claim_core.specs.Turns.{CallerLists}
 use Rattle.claim_core.proofs.Places.{one_at}
 use Rattle.action_tree.specs.Trees.{Program}
 use Rattle.action_meaning.specs.Verdicts.{verdict_shown}
 use Rattle.shape_files.specs.declared.section_kind.Form.{Form}
+use Rattle.node_text.specs.Parts.{has_old_values}
 use Rattle.shape_files.specs.Documents.{Contents, HasContents, IsDocumentFault, DocumentsAreDecided}
+use Rattle.shape_files.specs.Fitting.{FitTogether, DocumentsFit}
 use Rattle.run_sample.specs.Laws.{SampleIsFit}
 use Rattle.command_runs.specs.Run.{IsRunReport, IsRunText}
 use Rattle.command_runs.specs.Interleave.{IsInterleaveReport, IsInterleaveText}
-use Rattle.command_runs.specs.Replay.{agrees_line, differs_line, Agrees, DiffersAt}
+use Rattle.command_runs.specs.Replay.{agrees_line, differs_line, Agrees, DiffersAt, PlainDiffersAt}
+use Rattle.command_runs.specs.Renew.{renewed_text}
 use Rattle.command_runs.specs.Reports.{report_text}
 use Rattle.command_runs.specs.Check.{check_text}
 use Rattle.command_runs.specs.Measure.{IsMeasureText}
@@ -24,7 +32,7 @@ use Rattle.command_words.specs.declared.command.DocumentCommand.{DocumentCommand
 use Rattle.command_answers.specs.declared.status.Status.{Status}
 use Rattle.command_answers.specs.declared.status.Status.TheVariants as status
 use Rattle.command_answers.specs.Lines.{refusal_line}
-use Rattle.command_answers.specs.Outcomes.{DocumentLists, DocumentJournal, IsOutcome, of_run, of_interleave, agreeing, differing, of_check, of_measure}
+use Rattle.command_answers.specs.Outcomes.{DocumentLists, DocumentRecord, TellsEntries, JournalAgrees, JournalDiffers, in_full, in_plain, IsOutcome, of_run, of_interleave, agreeing, differing, of_check, of_measure, renewing, renew_differing}
 use Rattle.command_answers.specs.Commands.{form_of}
 use Rattle.command_answers.specs.Owed.{usage, read_fault, longer, refused, served, shown, sampled}
 use Rattle.command_answers.specs.Reads.{whole}
@@ -41,7 +49,7 @@ module _ (documents : DocumentsAreDecided) where
   pub not_both : (form : Form) (bytes : List ℕ) (a : Contents) (r : Refusal) → HasContents form bytes a → IsDocumentFault form bytes r → ⊥
   not_both form bytes a r x y = let o : Result Contents Refusal = Ok a in let p : Result Contents Refusal = Err r in let e : o ≡ p = (documents form).one bytes o p x y in cc
 
--- the lists of a document, and its journal, are one
+-- the lists of a document are one, and so are its program and its shapes
 one_lists : (a : Contents) (d e : DocumentLists a) → ◌≡◌ {A = Program × Config × CallerLists} (e.program, e.start, e.lists) (d.program, d.start, d.lists)
 one_lists a d e =
     let program = one_at _ e.program d.program e.its_program d.its_program in
@@ -49,42 +57,83 @@ one_lists a d e =
     let lists = one_at _ e.lists d.lists e.its_lists d.its_lists in
     λ i. (program i, shape i, lists i)
 
-one_journal : (a : Contents) (d e : DocumentJournal a) → ◌≡◌ {A = Program × Config × List Entry × Config} (e.program, e.start, e.entries, e.final) (d.program, d.start, d.entries, d.final)
-one_journal a d e =
+one_record : (a : Contents) (d e : DocumentRecord a) → ◌≡◌ {A = Program × Config × Config} (e.program, e.start, e.final) (d.program, d.start, d.final)
+one_record a d e =
     let program = one_at _ e.program d.program e.its_program d.its_program in
     let shape = one_at _ e.start d.start e.its_shape d.its_shape in
-    let entries = one_at _ e.entries d.entries e.its_journal d.its_journal in
     let final = one_at _ e.final d.final e.its_final d.its_final in
-    λ i. (program i, shape i, entries i, final i)
+    λ i. (program i, shape i, final i)
 
-module _ (documents : DocumentsAreDecided) (runs : RunTextIsOne) (interleaves : InterleaveTextIsOne) (replays : ReplayIsDecided) (measures : MeasureTextIsOne) (stays : GoodStaysConnected) (fit : SampleIsFit) where
+-- ---- the journal of a document
+
+-- it has old values or none, by the version
+not_in_both : (a : Contents) (es : List Entry) (ps : List PlainEntry) → FitTogether a → a.entries ≡ Some es → a.plain ≡ Some ps → ⊥
+not_in_both a es ps fit full plain = elim (cases_Bool (has_old_values a.version)) [
+  | inl is ↦ none-some ps (sym (fit.by_version.0 is) ∙ plain)
+  | inr without ↦ none-some es (sym (fit.by_version.1 without) ∙ full)
+]
+
+-- what is said of it is said of one program, one shape and one final shape
+agrees_as : (a : Contents) (d e : DocumentRecord a) (es : List Entry) → JournalAgrees a e es → JournalAgrees a d es
+agrees_as a d e es x = record { told = x.told; agrees = subst (λ (z : Program × Config × Config). Agrees (verdict_shown z.0) z.1 es z.2) (one_record a d e) x.agrees }
+
+differs_as : (a : Contents) (d e : DocumentRecord a) (place : ℕ) → JournalDiffers a e place → JournalDiffers a d place
+differs_as a d e place (in_full es there its by) = in_full es there its (subst (λ (z : Program × Config × Config). DiffersAt (verdict_shown z.0) z.1 es z.2 there) (one_record a d e) by)
+differs_as a d e place (in_plain ps there its by) = in_plain ps there its (subst (λ (z : Program × Config × Config). PlainDiffersAt (verdict_shown z.0) z.1 ps z.2 there) (one_record a d e) by)
+
+module _ (replays : ReplayIsDecided) (is_run : PlainRunIsRun) (unique : PlainRunIsUnique) (a : Contents) (fit : FitTogether a) (d : DocumentRecord a) where
+  -- it agrees by the entries of one run
+  same_entries : (es ds : List Entry) → JournalAgrees a d es → JournalAgrees a d ds → es ≡ ds
+  same_entries es ds x y = by x.told y.told
+    where
+      by : TellsEntries a es → TellsEntries a ds → es ≡ ds
+      by (inl one) (inl two) = one_at _ es ds one two
+      by (inl one) (inr two) = absurd (not_in_both a es (map plain_entry ds) fit one two)
+      by (inr one) (inl two) = absurd (not_in_both a ds (map plain_entry es) fit two one)
+      by (inr one) (inr two) = (unique (verdict_shown d.program) d.start d.final d.final es ds x.agrees y.agrees (one_at _ (map plain_entry es) (map plain_entry ds) one two)).0
+
+  -- where it differs it does not agree, and it differs at one place
+  not_agreeing : (es : List Entry) (place : ℕ) → JournalAgrees a d es → JournalDiffers a d place → ⊥
+  not_agreeing es place x (in_full ds there its by) = elim x.told [
+    | inl one ↦ replays.exclusive (verdict_shown d.program) d.start d.final es there x.agrees (subst (λ (zs : List Entry). DiffersAt (verdict_shown d.program) d.start zs d.final there) (one_at _ ds es its one) by)
+    | inr one ↦ not_in_both a ds (map plain_entry es) fit its one
+  ]
+  not_agreeing es place x (in_plain ps there its by) = elim x.told [
+    | inl one ↦ not_in_both a es ps fit one its
+    | inr one ↦ replays.plain_exclusive (verdict_shown d.program) d.start d.final ps there ((is_run (verdict_shown d.program) d.start d.final ps).1 (es, one_at _ (map plain_entry es) ps one its, x.agrees)) by
+  ]
+
+  same_place : (one two : ℕ) → JournalDiffers a d one → JournalDiffers a d two → one ≡ two
+  same_place one two (in_full es here its by) (in_full ds there other differ) =
+      replays.one_place (verdict_shown d.program) d.start d.final es here there by (subst (λ (zs : List Entry). DiffersAt (verdict_shown d.program) d.start zs d.final there) (one_at _ ds es other its) differ)
+  same_place one two (in_full es here its by) (in_plain ps there other differ) = absurd (not_in_both a es ps fit its other)
+  same_place one two (in_plain ps here its by) (in_full es there other differ) = absurd (not_in_both a es ps fit other its)
+  same_place one two (in_plain ps here its by) (in_plain qs there other differ) =
+      replays.plain_one_place (verdict_shown d.program) d.start d.final ps here there by (subst (λ (zs : List PlainEntry). PlainDiffersAt (verdict_shown d.program) d.start zs d.final there) (one_at _ qs ps other its) differ)
+
+-- ---- outcomes
+
+module _ (documents : DocumentsAreDecided) (runs : RunTextIsOne) (interleaves : InterleaveTextIsOne) (replays : ReplayIsDecided) (is_run : PlainRunIsRun) (unique : PlainRunIsUnique) (together : DocumentsFit) (measures : MeasureTextIsOne) (stays : GoodStaysConnected) (fit : SampleIsFit) where
   run_is_one : (a : Contents) (d e : DocumentLists a) (one two : Report) → IfSome a.lists (λ lists. length lists.ids ≤ 1)
       → IsRunReport (verdict_shown d.program) d.start d.lists one → IsRunReport (verdict_shown e.program) e.start e.lists two
-      → SameReport one two × (report_text (length d.program.vars) one ≡ report_text (length e.program.vars) two)
+      → SameReport one two × (report_text a.version (length d.program.vars) one ≡ report_text a.version (length e.program.vars) two)
   run_is_one a d e one two few x y =
-      let writes = subst (λ (z : Program × Config × CallerLists). IsRunText z.0 z.1 z.2 two (report_text (length e.program.vars) two)) (one_lists a d e) (record { run = y; whole = refl }) in
-      let by = runs d.program d.start d.lists one two _ _ (subst (λ ls. IfSome ls (λ lists. length lists.ids ≤ 1)) d.its_lists few) (record { run = x; whole = refl }) writes in
+      let writes = subst (λ (z : Program × Config × CallerLists). IsRunText a.version z.0 z.1 z.2 two (report_text a.version (length e.program.vars) two)) (one_lists a d e) (record { run = y; whole = refl }) in
+      let by = runs a.version d.program d.start d.lists one two _ _ (subst (λ ls. IfSome ls (λ lists. length lists.ids ≤ 1)) d.its_lists few) (record { run = x; whole = refl }) writes in
       (by.0, by.1)
 
   interleave_is_one : (a : Contents) (d e : DocumentLists a) (schedule other : List ℕ) (one two : Report) → a.schedule ≡ Some schedule → a.schedule ≡ Some other
       → IsInterleaveReport (verdict_shown d.program) d.start d.lists schedule one → IsInterleaveReport (verdict_shown e.program) e.start e.lists other two
-      → SameReport one two × (report_text (length d.program.vars) one ≡ report_text (length e.program.vars) two)
+      → SameReport one two × (report_text a.version (length d.program.vars) one ≡ report_text a.version (length e.program.vars) two)
   interleave_is_one a d e schedule other one two first second x y =
       let lists = one_lists a d e in
       let schedules = one_at _ other schedule second first in
-      let writes = subst (λ (z : (Program × Config × CallerLists) × List ℕ). IsInterleaveText z.0.0 z.0.1 z.0.2 z.1 two (report_text (length e.program.vars) two)) (λ i. (lists i, schedules i)) (record { run = y; whole = refl }) in
-      let by = interleaves d.program d.start d.lists schedule one two _ _ (record { run = x; whole = refl }) writes in
+      let writes = subst (λ (z : (Program × Config × CallerLists) × List ℕ). IsInterleaveText a.version z.0.0 z.0.1 z.0.2 z.1 two (report_text a.version (length e.program.vars) two)) (λ i. (lists i, schedules i)) (record { run = y; whole = refl }) in
+      let by = interleaves a.version d.program d.start d.lists schedule one two _ _ (record { run = x; whole = refl }) writes in
       (by.0, by.1)
 
-  -- a journal that differs does not agree, and it differs at one place
-  other_differs : (a : Contents) (d e : DocumentJournal a) (place : ℕ) → DiffersAt (verdict_shown e.program) e.start e.entries e.final place → DiffersAt (verdict_shown d.program) d.start d.entries d.final place
-  other_differs a d e place differs = subst (λ (z : Program × Config × List Entry × Config). DiffersAt (verdict_shown z.0) z.1 z.2 z.3 place) (one_journal a d e) differs
-
-  not_agreeing : (a : Contents) (d e : DocumentJournal a) (place : ℕ) → Agrees (verdict_shown d.program) d.start d.entries d.final → DiffersAt (verdict_shown e.program) e.start e.entries e.final place → ⊥
-  not_agreeing a d e place agrees differs = replays.exclusive (verdict_shown d.program) d.start d.final d.entries place agrees (other_differs a d e place differs)
-
-  same_place : (a : Contents) (d e : DocumentJournal a) (one two : ℕ) → DiffersAt (verdict_shown d.program) d.start d.entries d.final one → DiffersAt (verdict_shown e.program) e.start e.entries e.final two → one ≡ two
-  same_place a d e one two x y = replays.one_place (verdict_shown d.program) d.start d.final d.entries one two x (other_differs a d e two y)
+  fits : (bytes : List ℕ) (a : Contents) (c : DocumentCommand) → HasContents (form_of c) bytes a → FitTogether a
+  fits bytes a c h = (together (form_of c) bytes a h).together
 
   one_outcome : (bytes : List ℕ) (a : Contents) (c : DocumentCommand) (s t : Status) (one two : Option Report) (text other : List ℕ) → HasContents (form_of c) bytes a
       → IsOutcome a c s one text → IsOutcome a c t two other → SameOwed (Some (Document c)) (whole bytes) s t one two text other
@@ -94,12 +143,22 @@ module _ (documents : DocumentsAreDecided) (runs : RunTextIsOne) (interleaves : 
   one_outcome bytes a c s t one two text other h (of_interleave d schedule r its_schedule good reached scheduled) (of_interleave e steps q its_steps fine comes follows) =
       let same = interleave_is_one a d e schedule steps r q its_schedule its_steps (record { good = good; reached = reached; scheduled = scheduled }) (record { good = fine; reached = comes; scheduled = follows }) in
       record { status = refl; report = λ _. same.0; text = λ _. same.1 }
-  one_outcome bytes a c s t one two text other h (agreeing d agrees) (agreeing e agree) =
-      record { status = refl; report = λ _. tt; text = λ _. ap (λ (es : List Entry). agrees_line (length es)) (one_at _ d.entries e.entries d.its_journal e.its_journal) }
-  one_outcome bytes a c s t one two text other h (agreeing d agrees) (differing e place differs) = absurd (not_agreeing a d e place agrees differs)
-  one_outcome bytes a c s t one two text other h (differing d place differs) (agreeing e agrees) = absurd (not_agreeing a e d place agrees differs)
+  one_outcome bytes a c s t one two text other h (agreeing d es agrees) (agreeing e ds agree) =
+      let same = same_entries replays is_run unique a (fits bytes a c h) d es ds agrees (agrees_as a d e ds agree) in
+      record { status = refl; report = λ _. tt; text = λ _. ap (λ (zs : List Entry). agrees_line (length zs)) same }
+  one_outcome bytes a c s t one two text other h (agreeing d es agrees) (differing e place differs) = absurd (not_agreeing replays is_run unique a (fits bytes a c h) d es place agrees (differs_as a d e place differs))
+  one_outcome bytes a c s t one two text other h (differing d place differs) (agreeing e es agrees) = absurd (not_agreeing replays is_run unique a (fits bytes a c h) e es place agrees (differs_as a e d place differs))
   one_outcome bytes a c s t one two text other h (differing d place differs) (differing e there differ) =
-      let same = same_place a d e place there differs differ in
+      let same = same_place replays is_run unique a (fits bytes a c h) d place there differs (differs_as a d e there differ) in
+      record { status = ap status.Differs same; report = λ _. tt; text = λ _. ap differs_line same }
+  one_outcome bytes a c s t one two text other h (renewing d es agrees) (renewing e ds agree) =
+      let same = same_entries replays is_run unique a (fits bytes a c h) d es ds agrees (agrees_as a d e ds agree) in
+      let parts = sym (one_record a d e) in
+      record { status = refl; report = λ _. tt; text = λ _ i. renewed_text (parts i).0 (parts i).1 (same i) (parts i).2 }
+  one_outcome bytes a c s t one two text other h (renewing d es agrees) (renew_differing e place differs) = absurd (not_agreeing replays is_run unique a (fits bytes a c h) d es place agrees (differs_as a d e place differs))
+  one_outcome bytes a c s t one two text other h (renew_differing d place differs) (renewing e es agrees) = absurd (not_agreeing replays is_run unique a (fits bytes a c h) e es place agrees (differs_as a e d place differs))
+  one_outcome bytes a c s t one two text other h (renew_differing d place differs) (renew_differing e there differ) =
+      let same = same_place replays is_run unique a (fits bytes a c h) d place there differs (differs_as a d e there differ) in
       record { status = ap status.Differs same; report = λ _. tt; text = λ _. ap differs_line same }
   one_outcome bytes a c s t one two text other h (of_check p its_program) (of_check q its_other) = record { status = refl; report = λ _. tt; text = λ _. ap (check_text a.version) (one_at _ p q its_program its_other) }
   one_outcome bytes a c s t one two text other h (of_measure last u its_last measured) (of_measure end v its_end measure) =

@@ -1,34 +1,41 @@
 -- What the commands answer is what they owe.
-use Rattle.std.proofs.Common.{◌≡◌, ◌<◌, ℕ, List, length, Option, Some, None, refl, sym, subst}
+use Rattle.std.proofs.Common.{◌≡◌, ◌<◌, ℕ, Bool, true, false, List, length, Option, Some, None, inl, inr, ap, refl, sym, subst, ◌∙◌}
 use Rattle.std.specs.Prelude.{IsSome, IfSome}
 use Rattle.std.specs.List.{All}
+use Rattle.std.proofs.lemmas.List.{length-map}
 use Rattle.text_tokens.specs.declared.refusal.Refusal.{Refusal}
 use Rattle.amoebot_state.specs.declared.verdict.Entry.{Entry}
+use Rattle.amoebot_state.specs.declared.verdict.PlainEntry.{PlainEntry}
 use Rattle.amoebot_state.specs.Configs.{Config, bot_at}
+use Rattle.amoebot_state.specs.Steps.{plain_entry}
+use Rattle.amoebot_state.proofs.Options.{not_none}
+use Rattle.node_text.specs.Parts.{has_old_values}
+use Rattle.serial_model.specs.Laws.{PlainRunIsRun}
 use Rattle.claim_core.specs.declared.report.Report.{Report}
 use Rattle.claim_core.specs.Turns.{CallerLists, HaveBots}
 use Rattle.action_tree.specs.Trees.{Program}
 use Rattle.action_meaning.specs.Verdicts.{verdict_shown}
 use Rattle.shape_files.specs.Documents.{Contents, HasContents, IsDocumentFault, bots_of}
-use Rattle.shape_files.specs.Fitting.{FitTogether}
+use Rattle.shape_files.specs.Fitting.{FitTogether, HasJournal, HasJournalBy}
 use Rattle.shipped_programs.specs.declared.shipped.Shipped.{Shipped}
 use Rattle.shipped_programs.specs.Shipped.{tree_of}
 use Rattle.command_runs.specs.Interleave.{IsInterleaveReport}
-use Rattle.command_runs.specs.Replay.{Agrees, DiffersAt, agrees_line, differs_line}
+use Rattle.command_runs.specs.Replay.{PlainAgrees, agrees_line, differs_line}
+use Rattle.command_runs.specs.Renew.{renewed_text}
 use Rattle.command_runs.specs.Check.{check_text}
 use Rattle.command_runs.specs.Measure.{IsMeasureText}
 use Rattle.command_runs.specs.Reports.{report_text}
 use Rattle.command_words.specs.declared.command.Command.TheVariants.{Document, Show}
 use Rattle.command_words.specs.declared.command.DocumentCommand.{DocumentCommand}
-use Rattle.command_words.specs.declared.command.DocumentCommand.TheVariants.{Interleave, Replay, Check, Measure}
+use Rattle.command_words.specs.declared.command.DocumentCommand.TheVariants.{Interleave, Replay, Check, Measure, Renew}
 use Rattle.command_answers.specs.declared.answer.Answer.{Answer}
 use Rattle.command_answers.specs.declared.answer.Task.TheVariants as task
 use Rattle.command_answers.specs.declared.status.Status.TheVariants as status
 use Rattle.command_answers.specs.Commands.{form_of}
 use Rattle.command_answers.specs.Reads.{nothing, whole}
-use Rattle.command_answers.specs.Outcomes.{last_shape, of_interleave, agreeing, differing, of_check, of_measure}
+use Rattle.command_answers.specs.Outcomes.{DocumentRecord, JournalAgrees, JournalDiffers, last_shape, of_interleave, agreeing, differing, of_check, of_measure, renewing, renew_differing}
 use Rattle.command_answers.specs.Owed.{IsOwed, refused, served, shown}
-use Rattle.command_answers.specs.Answers.{IsAnswerTo, IsTaskOf, done_with, refused_with}
+use Rattle.command_answers.specs.Answers.{IsAnswerTo, IsTaskOf, agrees_with, differs_with, done_with, refused_with, renewed_with}
 
 -- an answer that is another one
 pub same_answer : (c : DocumentCommand) (a : Contents) (one two : Answer) → one ≡ two → IsAnswerTo c a two → IsAnswerTo c a one
@@ -51,22 +58,52 @@ shows p text answer same is = subst (λ (x : Answer). IsOwed (Some (Show p)) not
     (subst (λ (t : List ℕ). IsOwed (Some (Show p)) nothing status.Done None t) (sym is) (shown p))
 
 module _ (a : Contents) (answer : Answer) where
-  pub interleaves : (p : Program) (start : Config) (lists : CallerLists) (schedule : List ℕ) (report : Report) → a.checked ≡ Some p → a.world ≡ Some start → a.lists ≡ Some lists → a.schedule ≡ Some schedule → IsInterleaveReport (verdict_shown p) start lists schedule report → answer ≡ done_with (length p.vars) report → IsAnswerTo Interleave a answer
-  interleaves p start lists schedule report its_program its_shape its_lists its_schedule run is = same_answer Interleave a answer (done_with (length p.vars) report) is (λ bytes h.
-      served Interleave bytes a status.Done (Some report) (report_text (length p.vars) report) h
+  pub interleaves : (p : Program) (start : Config) (lists : CallerLists) (schedule : List ℕ) (report : Report) → a.checked ≡ Some p → a.world ≡ Some start → a.lists ≡ Some lists → a.schedule ≡ Some schedule → IsInterleaveReport (verdict_shown p) start lists schedule report → answer ≡ done_with a.version (length p.vars) report → IsAnswerTo Interleave a answer
+  interleaves p start lists schedule report its_program its_shape its_lists its_schedule run is = same_answer Interleave a answer (done_with a.version (length p.vars) report) is (λ bytes h.
+      served Interleave bytes a status.Done (Some report) (report_text a.version (length p.vars) report) h
       (of_interleave (record { program = p; start = start; lists = lists; its_program = its_program; its_shape = its_shape; its_lists = its_lists }) schedule report its_schedule run.good run.reached run.scheduled))
 
+-- ---- journals
+
+abbrev pub record_of : (a : Contents) (p : Program) (start final : Config) → a.checked ≡ Some p → a.world ≡ Some start → a.final_world ≡ Some final → DocumentRecord a
+record_of a p start final its_program its_shape its_final = record { program = p; start = start; final = final; its_program = its_program; its_shape = its_shape; its_final = its_final }
+
+-- where no journal with old values is there, one without is
+pub plain_is_there : (a : Contents) → HasJournal a → a.entries ≡ None → IsSome a.plain
+plain_is_there a has none = by (has_old_values a.version) has
+  where
+    by : (old : Bool) → HasJournalBy old a → IsSome a.plain
+    by true some = absurd (not_none a.entries none some)
+    by false some = some
+
+module _ (a : Contents) (d : DocumentRecord a) where
+  -- a plain journal that agrees is told by the entries of a run
+  pub plain_agrees : PlainRunIsRun → (ps : List PlainEntry) → a.plain ≡ Some ps → PlainAgrees (verdict_shown d.program) d.start ps d.final
+      → (es : List Entry) × (length es ≡ length ps) × JournalAgrees a d es
+  plain_agrees law ps its_journal run =
+      let (es, same, by) = (law (verdict_shown d.program) d.start d.final ps).0 run in
+      (es, sym (length-map es plain_entry) ∙ ap (λ (qs : List PlainEntry). length qs) same, record { told = inr (its_journal ∙ ap Some (sym same)); agrees = by })
+
+  pub agrees : (es : List Entry) → JournalAgrees a d es → IsAnswerTo Replay a (agrees_with (length es))
+  agrees es is bytes h = served Replay bytes a status.Done None (agrees_line (length es)) h (agreeing d es is)
+
+  pub agrees_plainly : PlainRunIsRun → (ps : List PlainEntry) → a.plain ≡ Some ps → PlainAgrees (verdict_shown d.program) d.start ps d.final → IsAnswerTo Replay a (agrees_with (length ps))
+  agrees_plainly law ps its_journal run =
+      let (es, long, is) = plain_agrees law ps its_journal run in
+      subst (λ (count : ℕ). IsAnswerTo Replay a (agrees_with count)) long (agrees es is)
+
+  pub differs_at : (place : ℕ) → JournalDiffers a d place → IsAnswerTo Replay a (differs_with place)
+  differs_at place is bytes h = served Replay bytes a (status.Differs place) None (differs_line place) h (differing d place is)
+
+  pub renews : (es : List Entry) → JournalAgrees a d es → IsAnswerTo Renew a (renewed_with d.program d.start es d.final)
+  renews es is bytes h = served Renew bytes a status.Done None (renewed_text d.program d.start es d.final) h (renewing d es is)
+
+  pub renew_differs_at : (place : ℕ) → JournalDiffers a d place → IsAnswerTo Renew a (differs_with place)
+  renew_differs_at place is bytes h = served Renew bytes a (status.Differs place) None (differs_line place) h (renew_differing d place is)
+
+-- ---- programs and measures
+
 module _ (a : Contents) (text : List ℕ) where
-  pub agrees : (p : Program) (start : Config) (entries : List Entry) (final : Config) → a.checked ≡ Some p → a.world ≡ Some start → a.entries ≡ Some entries → a.final_world ≡ Some final → Agrees (verdict_shown p) start entries final → text ≡ agrees_line (length entries) → IsAnswerTo Replay a (record { status = status.Done; report = None; text = text })
-  agrees p start entries final its_program its_shape its_journal its_final run is bytes h =
-      subst (λ (line : List ℕ). IsOwed (Some (Document Replay)) (whole bytes) status.Done None line) (sym is)
-      (served Replay bytes a status.Done None (agrees_line (length entries)) h (agreeing (record { program = p; start = start; entries = entries; final = final; its_program = its_program; its_shape = its_shape; its_journal = its_journal; its_final = its_final }) run))
-
-  pub differs_at : (p : Program) (start : Config) (entries : List Entry) (final : Config) (place : ℕ) → a.checked ≡ Some p → a.world ≡ Some start → a.entries ≡ Some entries → a.final_world ≡ Some final → DiffersAt (verdict_shown p) start entries final place → text ≡ differs_line place → IsAnswerTo Replay a (record { status = status.Differs place; report = None; text = text })
-  differs_at p start entries final place its_program its_shape its_journal its_final none is bytes h =
-      subst (λ (line : List ℕ). IsOwed (Some (Document Replay)) (whole bytes) (status.Differs place) None line) (sym is)
-      (served Replay bytes a (status.Differs place) None (differs_line place) h (differing (record { program = p; start = start; entries = entries; final = final; its_program = its_program; its_shape = its_shape; its_journal = its_journal; its_final = its_final }) place none))
-
   pub is_checked : (p : Program) → a.checked ≡ Some p → text ≡ check_text a.version p → IsAnswerTo Check a (record { status = status.Done; report = None; text = text })
   is_checked p its_program is bytes h =
       subst (λ (t : List ℕ). IsOwed (Some (Document Check)) (whole bytes) status.Done None t) (sym is) (served Check bytes a status.Done None (check_text a.version p) h (of_check p its_program))

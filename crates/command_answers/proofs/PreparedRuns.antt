@@ -34,7 +34,7 @@ use Rattle.command_answers.specs.Owed.{IsOwed, served, sampled}
 use Rattle.command_answers.specs.Answers.{IsCounted, IsPrepared, TellsReport, Tells, of_document, of_number, done_with}
 
 -- the run of a document
-pub prepares : OneListIsSerial → (a : Contents) (bytes : List ℕ) (run : Prepared) → HasContents (form_of Run) bytes a → a.checked ≡ Some run.runner → a.world ≡ Some run.world → a.lists ≡ Some run.lists → run.telling ≡ telling.Report
+pub prepares : OneListIsSerial → (a : Contents) (bytes : List ℕ) (run : Prepared) → HasContents (form_of Run) bytes a → a.checked ≡ Some run.runner → a.world ≡ Some run.world → a.lists ≡ Some run.lists → run.telling ≡ telling.Report a.version
     → All (All (λ (id : ℕ). IsSome (bot_at run.world id))) run.lists.ids → IsPrepared (Some (Document Run)) (whole bytes) run
 prepares serials a bytes run h its_program its_shape its_lists its_telling there = record {
   by_workers = tt;
@@ -42,9 +42,9 @@ prepares serials a bytes run h its_program its_shape its_lists its_telling there
   there = there;
   few = λ report good. subst (λ (t : Telling). IsCounted t report) (sym its_telling) tt;
   owed = λ report text good reached tells.
-      let whole_text : text ≡ report_text (length run.runner.vars) report = subst (λ (t : Telling). Tells t run.runner run.lists report text) its_telling tells in
+      let whole_text : text ≡ report_text a.version (length run.runner.vars) report = subst (λ (t : Telling). Tells t run.runner run.lists report text) its_telling tells in
       subst (λ (t : List ℕ). IsOwed (Some (Document Run)) (whole bytes) status.Done (Some report) t) (sym whole_text)
-      (served Run bytes a status.Done (Some report) (report_text (length run.runner.vars) report) h
+      (served Run bytes a status.Done (Some report) (report_text a.version (length run.runner.vars) report) h
       (of_run (record { program = run.runner; start = run.world; lists = run.lists; its_program = its_program; its_shape = its_shape; its_lists = its_lists }) report good reached
       (λ few. serials (verdict_shown run.runner) run.world run.lists report few good)));
 }
@@ -84,12 +84,12 @@ pub few_vars : (p : Program) → is_writable p ≡ true → length p.vars ≤ mo
 few_vars p f = leb-true (length p.vars) most_vars (left_of _ _ (left_of _ _ (left_of _ _ f)))
 
 -- with another name for their number
-pub done_with_all : {E : Type 0} (vars number : ℕ) (report : Report) (r : Result Answer E) → vars ≡ number → IfOk r (λ (a : Answer). a ≡ done_with vars report) → IfOk r (λ (a : Answer). a ≡ done_with number report)
-done_with_all vars number report r e ok = subst (λ (v : ℕ). IfOk r (λ (a : Answer). a ≡ done_with v report)) e ok
+pub done_with_all : {E : Type 0} (version vars number : ℕ) (report : Report) (r : Result Answer E) → vars ≡ number → IfOk r (λ (a : Answer). a ≡ done_with version vars report) → IfOk r (λ (a : Answer). a ≡ done_with version number report)
+done_with_all version vars number report r e ok = subst (λ (v : ℕ). IfOk r (λ (a : Answer). a ≡ done_with version v report)) e ok
 
 -- an answer with the report's own text tells it
-pub report_told : (p : Program) (lists : CallerLists) (report : Report) (t : Telling) (answer : Answer) → t ≡ telling.Report → answer ≡ done_with (length p.vars) report → TellsReport t p lists report answer
-report_told p lists report t answer is same = subst (λ (t : Telling). TellsReport t p lists report answer) (sym is) (record {
+pub report_told : (version : ℕ) (p : Program) (lists : CallerLists) (report : Report) (t : Telling) (answer : Answer) → t ≡ telling.Report version → answer ≡ done_with version (length p.vars) report → TellsReport t p lists report answer
+report_told version p lists report t answer is same = subst (λ (t : Telling). TellsReport t p lists report answer) (sym is) (record {
   done = ap (λ (a : Answer). a.status) same;
   its_report = ap (λ (a : Answer). a.report) same;
   text = ap (λ (a : Answer). a.text) same;

@@ -22,7 +22,7 @@ use Rattle.shape_files.specs.declared.section_kind.Form.TheVariants as form
 use Rattle.shape_files.specs.FrameReaders.{rest_at, header, in_frame}
 use Rattle.shape_files.specs.Documents.{Contents, IsDocument, FormSays}
 use Rattle.shape_files.specs.DocumentRows.{program_text, only_program}
-use Rattle.shape_files.specs.DocumentReaders.{a_checked_program, body, document}
+use Rattle.shape_files.specs.DocumentReaders.{a_checked_program, journal_body, body, document}
 use Rattle.shape_files.proofs.DocumentsLemmas.{document_framed, says_of}
 use Rattle.command_runs.specs.Examples.{one_alone}
 use Rattle.command_answers.specs.Examples.{with_shape, with_nobody, with_list, with_two_lists, with_schedule, expansion_journal, spread_text, still_text, spread_config, and_nobody, and_list, and_two_lists, and_schedule, and_journal, empty_refused}
@@ -47,5 +47,5 @@ pub record AreAnswered : Type 0 where
   pub nobody : answer_of form.Measure with_nobody ≡ Ok and_nobody
 
 pub are_answered : AreAnswered
-unfolding same_kind same_role role scan.skip scan.ready scan.sign_len scan.front scan.scan scan.scan_end scan.ahead_of scan.last_of one_within the_line numeral either by_role limited times elements repeated a_selection a_port a_term a_minus a_sum a_unit a_conj an_expr inside an_if a_for a_stmt all_stmts stmts_inside a_move an_action a_var a_guarded a_program part.an_int part.a_node part.an_end part.a_chirality part.a_port_text part.a_bot journal.port_behind journal.end_behind journal.a_movement journal.a_cell journal.an_occupant journal.a_value journal.a_pair journal.all_pairs journal.the_numbers journal.entry_word journal.a_written_entry journal.an_entry journal.entries_from journal.journal shape.a_side shape.an_area shape.wall_word shape.a_wall_line shape.walls_from shape.bot_word shape.a_bot_line shape.bots_from shape.a_drawing shape.a_written_shape shape.shape_under schedule.an_id schedule.ids_from schedule.all_ids schedule.list_word schedule.a_list schedule.lists_from schedule.all_lists schedule.some_turns schedule.the_lists schedule.a_caller schedule.number_of_times schedule.its_times schedule.any_times schedule.a_stretch schedule.stretches_from schedule.all_steps schedule.a_schedule a_checked_program body document rest_at header in_frame
+unfolding same_kind same_role role scan.skip scan.ready scan.sign_len scan.front scan.scan scan.scan_end scan.ahead_of scan.last_of one_within the_line numeral either by_role limited times elements repeated a_selection a_port a_term a_minus a_sum a_unit a_conj an_expr inside an_if a_for a_stmt all_stmts stmts_inside a_move an_action a_var a_guarded a_program part.an_int part.a_node part.an_end part.a_chirality part.a_port_text part.a_bot journal.port_behind journal.end_behind journal.a_movement journal.a_cell journal.an_occupant journal.a_value journal.an_old_value journal.a_pair journal.all_pairs journal.the_numbers journal.entry_word journal.a_written_entry journal.an_entry journal.entries_from journal.journal_by shape.a_side shape.an_area shape.wall_word shape.a_wall_line shape.walls_from shape.bot_word shape.a_bot_line shape.bots_from shape.a_drawing shape.a_written_shape shape.shape_under schedule.an_id schedule.ids_from schedule.all_ids schedule.list_word schedule.a_list schedule.lists_from schedule.all_lists schedule.some_turns schedule.the_lists schedule.a_caller schedule.number_of_times schedule.its_times schedule.any_times schedule.a_stretch schedule.stretches_from schedule.all_steps schedule.a_schedule a_checked_program journal_body body document rest_at header in_frame
 are_answered = record { empty = refl; list = refl; two_lists = refl; schedule = refl; journal = refl; other_final = refl; program = refl; nobody = refl }

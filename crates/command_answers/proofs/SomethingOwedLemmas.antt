@@ -1,12 +1,16 @@
 -- Something is owed.
-use Rattle.std.proofs.Common.{◌≡◌, ◌<◌, ◌≤◌, ◌*◌, ℕ, List, [], length, true, Option, Some, None, Result, Ok, Err, inl, inr, refl, ap, sym, subst, arith}
+use Rattle.std.proofs.Common.{◌≡◌, ◌<◌, ◌≤◌, ◌*◌, ◌⊎◌, ℕ, Bool, List, [], length, map, true, Option, Some, None, Result, Ok, Err, inl, inr, refl, ap, sym, subst, ◌∙◌, arith}
 use Rattle.std.specs.Prelude.{IsSome, IfSome, reverse}
 use Rattle.std.specs.List.{All}
 use Rattle.std.specs.Option.{option_or}
+use Rattle.std.proofs.lemmas.Bool.{cases_Bool}
 use Rattle.text_tokens.specs.declared.refusal.Refusal.{Refusal}
 use Rattle.amoebot_state.specs.declared.verdict.Entry.{Entry}
+use Rattle.amoebot_state.specs.declared.verdict.PlainEntry.{PlainEntry}
 use Rattle.amoebot_state.specs.Configs.{Config, IsValid, bot_at}
 use Rattle.amoebot_state.specs.Limits.{most_bots}
+use Rattle.serial_model.specs.Laws.{PlainRunIsRun}
+use Rattle.node_text.specs.Parts.{has_old_values}
 use Rattle.amoebot_state.specs.Steps.{HasPatchedWorld}
 use Rattle.amoebot_state.proofs.Options.{there_is}
 use Rattle.model_ops.specs.Laws.{ActsKeepDeciderLaws}
@@ -22,26 +26,27 @@ use Rattle.action_meaning.specs.Verdicts.{verdict_shown}
 use Rattle.shape_checks.specs.Laws.{MeasuresAreDecided}
 use Rattle.shape_files.specs.declared.section_kind.Form.TheVariants as form
 use Rattle.shape_files.specs.Documents.{Contents, HasContents, DocumentsAreDecided, FormSays}
-use Rattle.shape_files.specs.Fitting.{DocumentsAreSound, DocumentsFit, Fits, IsWorldShape, IsSoundDocument}
+use Rattle.shape_files.specs.Fitting.{DocumentsAreSound, DocumentsFit, Fits, HasJournal, HasJournalBy, HasSections, IsWorldShape, IsSoundDocument}
 use Rattle.run_sample.specs.Laws.{SampleIsFit, SampleIsSome}
 use Rattle.command_runs.specs.Check.{check_text}
 use Rattle.command_runs.specs.Laws.{GoodStaysConnected, ReplayIsDecided}
 use Rattle.command_runs.specs.Measure.{measure_text}
+use Rattle.command_runs.specs.Renew.{renewed_text}
 use Rattle.command_runs.specs.Replay.{agrees_line, differs_line}
 use Rattle.command_runs.specs.Reports.{report_text}
 use Rattle.command_runs.specs.Sample.{sample_text}
 use Rattle.command_words.specs.declared.command.Command.TheVariants.{Document, Sample}
 use Rattle.command_words.specs.declared.command.DocumentCommand.{DocumentCommand}
-use Rattle.command_words.specs.declared.command.DocumentCommand.TheVariants.{Run, Interleave, Replay, Check, Measure}
+use Rattle.command_words.specs.declared.command.DocumentCommand.TheVariants.{Run, Interleave, Replay, Check, Measure, Renew}
 use Rattle.command_answers.specs.declared.status.Status.{Status}
 use Rattle.command_answers.specs.declared.status.Status.TheVariants as status
 use Rattle.command_answers.specs.Commands.{form_of}
 use Rattle.command_answers.specs.Lines.{read_fault_line, refusal_line, too_long, usage_line}
-use Rattle.command_answers.specs.Outcomes.{DocumentJournal, DocumentLists, IsOutcome, last_shape, of_run, of_interleave, agreeing, differing, of_check, of_measure}
+use Rattle.command_answers.specs.Outcomes.{DocumentRecord, DocumentLists, JournalAgrees, JournalDiffers, in_full, in_plain, IsOutcome, last_shape, of_run, of_interleave, agreeing, differing, of_check, of_measure, renewing, renew_differing}
 use Rattle.command_answers.specs.Owed.{usage, read_fault, longer, refused, served, shown, sampled}
 use Rattle.command_answers.specs.Reads.{nothing, whole}
 use Rattle.command_answers.specs.Laws.{OwedIsSome, SomethingOwed}
-use Rattle.command_answers.proofs.OwedTexts.{are_there}
+use Rattle.command_answers.proofs.OwedTexts.{are_there, plain_agrees}
 use Rattle.shipped_programs.specs.Shipped.{tree_of}
 
 -- what the laws of lower crates say
@@ -53,6 +58,7 @@ pub record Exists : Type 0 where
   pub goods : ReachedIsGood
   pub serials : OneListIsSerial
   pub replays : ReplayIsDecided
+  pub plain_runs : PlainRunIsRun
   pub measures : MeasuresAreDecided
   pub stays : GoodStaysConnected
   pub samples : SampleIsSome
@@ -73,7 +79,7 @@ module _ (laws : Exists) where
   may_run : (p : Program) (start : Config) (lists : CallerLists) → IsValid start → length start.bots ≤ most_bots → AreLists lists → All (All (λ (id : ℕ). IsSome (bot_at start id))) lists.ids → IsSetup (setup (verdict_shown p) start lists)
   may_run p start lists valid few listed there =
       let keep = laws.decide (verdict_shown p) (laws.acts p) in
-      record { valid = valid; few = few; lists = listed; bots = there; touches = keep.0; leads = keep.1 }
+      record { valid = valid; few = few; lists = listed; bots = there; touches = λ c i change d. (keep c i change d).touches; leads = λ c i change d. (keep c i change d).leads }
 
   module _ (bytes : List ℕ) (a : Contents) (c : DocumentCommand) (h : HasContents (form_of c) bytes a) where
     fits : Fits (form_of c) a
@@ -104,7 +110,7 @@ module _ (laws : Exists) where
         let g = setup (verdict_shown d.program) d.start d.lists in
         let end = laws.rounds g (runs d) [] in
         let good : Good (verdict_shown d.program) d.start d.lists end.report = laws.goods g (runs d) end.report end.reached in
-        record { status = status.Done; report = Some end.report; text = report_text (length d.program.vars) end.report; is = of_run d end.report good end.reached (λ few. laws.serials (verdict_shown d.program) d.start d.lists end.report few good) }
+        record { status = status.Done; report = Some end.report; text = report_text a.version (length d.program.vars) end.report; is = of_run d end.report good end.reached (λ few. laws.serials (verdict_shown d.program) d.start d.lists end.report few good) }
 
     interleave_outcome : DocumentLists a → IsSome a.schedule → HasOutcome a Interleave
     interleave_outcome d scheduled =
@@ -112,17 +118,53 @@ module _ (laws : Exists) where
         let g = setup (verdict_shown d.program) d.start d.lists in
         let end = laws.rounds g (runs d) (reverse schedule.0) in
         let good : Good (verdict_shown d.program) d.start d.lists end.report = laws.goods g (runs d) end.report end.reached in
-        record { status = status.Done; report = Some end.report; text = report_text (length d.program.vars) end.report; is = of_interleave d schedule.0 end.report schedule.1 good end.reached (record { count = end.count; ended = end.ended; first = end.first; left = end.left }) }
+        record { status = status.Done; report = Some end.report; text = report_text a.version (length d.program.vars) end.report; is = of_interleave d schedule.0 end.report schedule.1 good end.reached (record { count = end.count; ended = end.ended; first = end.first; left = end.left }) }
 
     -- ---- journals and measures
 
-    replay_outcome : (d : DocumentJournal a) → HasOutcome a Replay
-    replay_outcome d =
-        let keep = laws.decide (verdict_shown d.program) (laws.acts d.program) in
-        elim (laws.replays.some (verdict_shown d.program) d.start d.final d.entries keep.1 (drawn d.start d.its_shape).valid) [
-          | inl agrees ↦ record { status = status.Done; report = None; text = agrees_line (length d.entries); is = agreeing d agrees }
-          | inr by ↦ record { status = status.Differs by.0; report = None; text = differs_line by.0; is = differing d by.0 by.1 }
-        ]
+    -- a journal agrees or differs
+    abbrev Ends : DocumentRecord a → Type 0
+    Ends d = ((es : List Entry) × JournalAgrees a d es) ⊎ ((place : ℕ) × JournalDiffers a d place)
+
+    leads : (p : Program) → HasPatchedWorld (verdict_shown p)
+    leads p b i change by = (laws.decide (verdict_shown p) (laws.acts p) b i change by).leads
+
+    ends_in_full : (d : DocumentRecord a) (es : List Entry) → a.entries ≡ Some es → Ends d
+    ends_in_full d es its_journal = elim (laws.replays.some (verdict_shown d.program) d.start d.final es (leads d.program) (drawn d.start d.its_shape).valid) [
+      | inl run ↦ inl (es, record { told = inl its_journal; agrees = run })
+      | inr by ↦ inr (by.0, in_full es by.0 its_journal by.1)
+    ]
+
+    ends_in_plain : (d : DocumentRecord a) (ps : List PlainEntry) → a.plain ≡ Some ps → Ends d
+    ends_in_plain d ps its_journal = elim (laws.replays.plain_some (verdict_shown d.program) d.start d.final ps (leads d.program) (drawn d.start d.its_shape).valid) [
+      | inl run ↦ let (es, long, is) = plain_agrees a d laws.plain_runs ps its_journal run in inl (es, is)
+      | inr by ↦ inr (by.0, in_plain ps by.0 its_journal by.1)
+    ]
+
+    ends : (d : DocumentRecord a) → HasJournal a → Ends d
+    ends d has = elim (cases_Bool (has_old_values a.version)) [
+      | inl is ↦ let es = there_is a.entries (subst (λ (b : Bool). HasJournalBy b a) is has) in ends_in_full d es.0 es.1
+      | inr without ↦ let ps = there_is a.plain (subst (λ (b : Bool). HasJournalBy b a) without has) in ends_in_plain d ps.0 ps.1
+    ]
+
+    record_of : HasSections form.Replay a → DocumentRecord a
+    record_of has =
+        let p = there_is a.checked has.0 in
+        let w = there_is a.world has.1 in
+        let last = there_is a.final_world has.3 in
+        record { program = p.0; start = w.0; final = last.0; its_program = p.1; its_shape = w.1; its_final = last.1 }
+
+    replay_outcome : HasSections form.Replay a → HasOutcome a Replay
+    replay_outcome has = let d = record_of has in elim (ends d has.2) [
+      | inl by ↦ record { status = status.Done; report = None; text = agrees_line (length by.0); is = agreeing d by.0 by.1 }
+      | inr by ↦ record { status = status.Differs by.0; report = None; text = differs_line by.0; is = differing d by.0 by.1 }
+    ]
+
+    renew_outcome : HasSections form.Replay a → HasOutcome a Renew
+    renew_outcome has = let d = record_of has in elim (ends d has.2) [
+      | inl by ↦ record { status = status.Done; report = None; text = renewed_text d.program d.start by.0 d.final; is = renewing d by.0 by.1 }
+      | inr by ↦ record { status = status.Differs by.0; report = None; text = differs_line by.0; is = renew_differing d by.0 by.1 }
+    ]
 
     measured : (last : Config) → last_shape a ≡ Some last → IsValid last → HasOutcome a Measure
     measured last e valid =
@@ -140,15 +182,10 @@ module _ (laws : Exists) where
   outcome : (c : DocumentCommand) (bytes : List ℕ) (a : Contents) → HasContents (form_of c) bytes a → HasOutcome a c
   outcome Run bytes a h = let has = (fits bytes a Run h).sections in run_outcome bytes a Run h (lists_of bytes a Run h has.0 has.1 has.2)
   outcome Interleave bytes a h = let has = (fits bytes a Interleave h).sections in interleave_outcome bytes a Interleave h (lists_of bytes a Interleave h has.0 has.1 has.2) has.3
-  outcome Replay bytes a h =
-      let has = (fits bytes a Replay h).sections in
-      let p = there_is a.checked has.0 in
-      let w = there_is a.world has.1 in
-      let es = there_is a.entries has.2 in
-      let last = there_is a.final_world has.3 in
-      replay_outcome bytes a Replay h (record { program = p.0; start = w.0; entries = es.0; final = last.0; its_program = p.1; its_shape = w.1; its_journal = es.1; its_final = last.1 })
+  outcome Replay bytes a h = replay_outcome bytes a Replay h (fits bytes a Replay h).sections
   outcome Check bytes a h = let p = there_is a.checked (fits bytes a Check h).sections.0 in record { status = status.Done; report = None; text = check_text a.version p.0; is = of_check p.0 p.1 }
   outcome Measure bytes a h = measure_outcome bytes a Measure h (fits bytes a Measure h).sections.1
+  outcome Renew bytes a h = renew_outcome bytes a Renew h (fits bytes a Renew h).sections
 
   for_whole : (c : DocumentCommand) (bytes : List ℕ) → SomethingOwed (Some (Document c)) (whole bytes)
   for_whole c bytes = let by = (laws.documents (form_of c)).some bytes in said by.0 by.1

@@ -12,7 +12,7 @@ use Rattle.command_runs.specs.Replay.{differs_line}
 use Rattle.command_words.specs.declared.command.Command.{Command}
 use Rattle.command_words.specs.declared.command.Command.TheVariants.{Document}
 use Rattle.command_words.specs.declared.command.DocumentCommand.{DocumentCommand}
-use Rattle.command_words.specs.declared.command.DocumentCommand.TheVariants.{Run, Interleave, Replay, Check, Measure}
+use Rattle.command_words.specs.declared.command.DocumentCommand.TheVariants.{Run, Interleave, Replay, Check, Measure, Renew}
 use Rattle.command_answers.specs.declared.answer.Answer.{Answer}
 use Rattle.command_answers.specs.declared.answer.Prepared.{Prepared}
 use Rattle.command_answers.specs.declared.answer.Task.TheVariants as task
@@ -24,7 +24,7 @@ use Rattle.command_answers.specs.Commands.{IsWorked, form_of}
 use Rattle.command_answers.specs.Lines.{usage_line, read_fault_line, refusal_line}
 use Rattle.command_answers.specs.Reads.{Read, whole}
 use Rattle.command_answers.specs.Owed.{IsOwed, usage, read_fault, longer, refused, served, shown, sampled}
-use Rattle.command_answers.specs.Outcomes.{IsOutcome, of_run, of_interleave, agreeing, differing, of_check, of_measure}
+use Rattle.command_answers.specs.Outcomes.{IsOutcome, of_run, of_interleave, agreeing, differing, of_check, of_measure, renewing, renew_differing}
 use Rattle.command_answers.specs.Answers.{IsRunFor, IsTaskOf, Tells, of_document, of_number}
 use Rattle.command_answers.specs.Laws.{SameIfAny, SameTask, OwedIsOne, PreparedIsOne, TaskIsOne, TellingIsOne}
 use Rattle.command_answers.proofs.Outcomes.{documents_have_outcomes, worked_is_done}
@@ -44,10 +44,12 @@ line_of (status.Differs place) = differs_line place
 unserved : (a : Contents) (c : DocumentCommand) (s : Status) (report : Option Report) (text : List ℕ) → IsOutcome a c s report text → s ≢ status.Done → (report ≡ None) × (text ≡ line_of s)
 unserved a c s report text (of_run d r good reached serial) other = absurd (other refl)
 unserved a c s report text (of_interleave d schedule r its_schedule good reached scheduled) other = absurd (other refl)
-unserved a c s report text (agreeing d agrees) other = absurd (other refl)
+unserved a c s report text (agreeing d es agrees) other = absurd (other refl)
 unserved a c s report text (differing d place differs) other = (refl, refl)
 unserved a c s report text (of_check p its_program) other = absurd (other refl)
 unserved a c s report text (of_measure last t its_last measures) other = absurd (other refl)
+unserved a c s report text (renewing d es agrees) other = absurd (other refl)
+unserved a c s report text (renew_differing d place differs) other = (refl, refl)
 
 untold : (c : Option Command) (read : Read) (s : Status) (report : Option Report) (text : List ℕ) → IsOwed c read s report text → s ≢ status.Done → (report ≡ None) × (text ≡ line_of s)
 untold c read s report text usage other = (refl, refl)
@@ -69,6 +71,7 @@ module _ (documents : DocumentsAreDecided) (owed : OwedIsOne) where
   both_answered Replay bytes one two x y = let same = owed (Some (Document Replay)) (whole bytes) one.status two.status one.report two.report one.text two.text x.0 y.0 in (same.status, same.report tt, same.text tt)
   both_answered Check bytes one two x y = let same = owed (Some (Document Check)) (whole bytes) one.status two.status one.report two.report one.text two.text x.0 y.0 in (same.status, same.report tt, same.text tt)
   both_answered Measure bytes one two x y = let same = owed (Some (Document Measure)) (whole bytes) one.status two.status one.report two.report one.text two.text x.0 y.0 in (same.status, same.report tt, same.text tt)
+  both_answered Renew bytes one two x y = let same = owed (Some (Document Renew)) (whole bytes) one.status two.status one.report two.report one.text two.text x.0 y.0 in (same.status, same.report tt, same.text tt)
 
   -- for a document whose lists workers are to run nothing but Done is an outcome
   not_answered : (c : DocumentCommand) (bytes : List ℕ) (answer : Answer) (run : Prepared) → IsTaskOf c bytes (task.Answered answer) → IsWorked (Some (Document c)) → IsRunFor run (Some (Document c)) (whole bytes) → ⊥
@@ -81,7 +84,7 @@ module _ (documents : DocumentsAreDecided) (owed : OwedIsOne) where
       let program = one_at _ one.runner two.runner its_program (ap (λ (x : Contents). x.checked) (sym contents) ∙ other_program) in
       let shape = one_at _ one.world two.world its_shape (ap (λ (x : Contents). x.world) (sym contents) ∙ other_shape) in
       let lists = one_at _ one.lists two.lists its_lists (ap (λ (x : Contents). x.lists) (sym contents) ∙ other_lists) in
-      let telling = its_telling ∙ sym other_telling in
+      let telling = its_telling ∙ ap (λ (x : Contents). telling.Report x.version) (sym contents) ∙ sym other_telling in
       λ i. record { runner = program i; world = shape i; lists = lists i; telling = telling i }
 
   pub task_is_one : TaskIsOne
@@ -98,7 +101,7 @@ prepared_is_one documents unique command read one two (of_document c bytes a h i
     let program = one_at _ one.runner two.runner its_program (ap (λ (x : Contents). x.checked) (sym contents) ∙ other_program) in
     let shape = one_at _ one.world two.world its_shape (ap (λ (x : Contents). x.world) (sym contents) ∙ other_shape) in
     let lists = one_at _ one.lists two.lists its_lists (ap (λ (x : Contents). x.lists) (sym contents) ∙ other_lists) in
-    let telling = its_telling ∙ sym other_telling in
+    let telling = its_telling ∙ ap (λ (x : Contents). telling.Report x.version) (sym contents) ∙ sym other_telling in
     λ i. record { runner = program i; world = shape i; lists = lists i; telling = telling i }
 prepared_is_one documents unique command read one two (of_number seed is its_telling) (of_number same other other_telling) =
     let by = unique seed _ _ is other in
@@ -107,7 +110,7 @@ prepared_is_one documents unique command read one two (of_number seed is its_tel
 
 -- two texts of a report
 one_text : SampleTextIsOne → (t : Telling) (p : Program) (lists : CallerLists) (report : Report) (text other : List ℕ) → Tells t p lists report text → Tells t p lists report other → text ≡ other
-one_text law telling.Report p lists report text other x y = x ∙ sym y
+one_text law (telling.Report version) p lists report text other x y = x ∙ sym y
 one_text law (telling.Sample seed) p lists report text other x y = law (verdict_shown p) report.journal.first lists seed report text other x y
 
 pub telling_is_one : SampleTextIsOne → TellingIsOne

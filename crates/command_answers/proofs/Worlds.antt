@@ -63,7 +63,7 @@ pub record MayRun (p : Program) (start : Config) : Type 0 where
 
 module _ (p : Program) (start : Config) (may : MayRun p start) (c : Config) (is : IsFramed start c) where
   pub maxes_are : c.maxes ≡ maxes_of p
-  maxes_are = ap (λ (x : Config). x.maxes) is.rest ∙ may.maxes
+  maxes_are = ap (λ (x : Config). x.maxes) is.same.rest ∙ may.maxes
 
   small : All (λ m. m ≤ most_value) c.maxes
   small = subst (λ (ms : List ℕ). All (λ m. m ≤ most_value) ms) (sym maxes_are) (small_maxes_of p may.checked)
@@ -77,9 +77,9 @@ module _ (p : Program) (start : Config) (may : MayRun p start) (c : Config) (is 
   pub is_writable : (version : ℕ) → (may_have_walls version ≡ false → start.walls ≡ []) → shape.IsWritableConfig version (length p.vars) c
   is_writable version walls = record {
     valid = is.valid;
-    walls = λ none. ap (λ (x : Config). x.walls) is.rest ∙ walls none;
-    few = (let size = is.size in let few = may.few in omega arith);
-    no_gaps = λ id lt. is.ids id ∙ may.no_gaps id (let size = is.size in omega arith);
+    walls = λ none. ap (λ (x : Config). x.walls) is.same.rest ∙ walls none;
+    few = (let size = is.same.size in let few = may.few in omega arith);
+    no_gaps = λ id lt. is.same.ids id ∙ may.no_gaps id (let size = is.same.size in omega arith);
     maxes = small;
     zeros = λ i b at. (has_limits i b at).zeros;
   }

@@ -4,7 +4,8 @@ use Rattle.std.specs.List.{All}
 use Rattle.std.specs.declared.option.Option.{Option}
 use Rattle.std.specs.declared.option.Option.TheVariants.{Some, None}
 use Rattle.text_tokens.specs.declared.refusal.Refusal.{Refusal}
-use Rattle.amoebot_state.specs.Configs.{bot_at}
+use Rattle.amoebot_state.specs.declared.verdict.Entry.{Entry}
+use Rattle.amoebot_state.specs.Configs.{Config, bot_at}
 use Rattle.serial_model.specs.Replays.{AreCountable}
 use Rattle.claim_core.specs.declared.report.Report.{Report}
 use Rattle.claim_core.specs.Turns.{CallerLists}
@@ -15,6 +16,8 @@ use Rattle.action_tree.specs.Trees.{Program}
 use Rattle.action_meaning.specs.Verdicts.{verdict_shown}
 use Rattle.shape_files.specs.Documents.{Contents, HasContents}
 use Rattle.run_sample.specs.Whole.{IsSample}
+use Rattle.command_runs.specs.Renew.{renewed_text}
+use Rattle.command_runs.specs.Replay.{agrees_line, differs_line}
 use Rattle.command_runs.specs.Reports.{report_text}
 use Rattle.command_runs.specs.Sample.{IsSampleText}
 use Rattle.command_words.specs.declared.command.Command.{Command}
@@ -43,15 +46,27 @@ IsAnswerTo c a answer = (bytes : List ℕ) → HasContents (form_of c) bytes a
 abbrev pub refused_with : Refusal → Answer
 refused_with r = record { status = status.Refused r; report = None; text = refusal_line r }
 
--- the text of a report, where an amoebot has the values of so many variables
-abbrev pub done_with : ℕ → Report → Answer
-done_with vars report = record { status = status.Done; report = Some report; text = report_text vars report }
+-- the text of a report in a version, where an amoebot has the values of so many variables
+abbrev pub done_with : ℕ → ℕ → Report → Answer
+done_with version vars report = record { status = status.Done; report = Some report; text = report_text version vars report }
+
+-- the line of a journal that agrees, of so many entries
+abbrev pub agrees_with : ℕ → Answer
+agrees_with count = record { status = status.Done; report = None; text = agrees_line count }
+
+-- and of one that differs at a place
+abbrev pub differs_with : ℕ → Answer
+differs_with place = record { status = status.Differs place; report = None; text = differs_line place }
+
+-- the document that has a journal anew
+abbrev pub renewed_with : Program → Config → List Entry → Config → Answer
+renewed_with p start es last = record { status = status.Done; report = None; text = renewed_text p start es last }
 
 -- ---- runs that workers make
 
--- a text that tells a report: the report's own, or the lines of a sample's number
+-- a text that tells a report: the report's own in a version, or the lines of a sample's number
 abbrev pub Tells : Telling → Program → CallerLists → Report → List ℕ → Type 0
-Tells telling.Report p lists report text = text ≡ report_text (length p.vars) report
+Tells (telling.Report version) p lists report text = text ≡ report_text version (length p.vars) report
 Tells (telling.Sample seed) p lists report text = IsSampleText (verdict_shown p) report.journal.first lists seed report text
 
 -- an answer is done with a report, and its text tells it
@@ -62,18 +77,18 @@ pub record TellsReport (t : Telling) (p : Program) (lists : CallerLists) (report
 
 -- a report that gets the lines of a sample has few entries
 abbrev pub IsCounted : Telling → Report → Type 0
-IsCounted telling.Report report = ⊤
+IsCounted (telling.Report version) report = ⊤
 IsCounted (telling.Sample seed) report = AreCountable report.journal.entries
 
 -- whose lists are to be run, under which program and from which shape on, and which text the run gets
 pub data IsRunFor (run : Prepared) : Option Command → Read → Type 0 where
-  -- those of a document; it gets the text of its report
+  -- those of a document; it gets the text of its report in the document's version
   of_document : (c : DocumentCommand) (bytes : List ℕ) (a : Contents)
       → HasContents (form_of c) bytes a
       → a.checked ≡ Some run.runner
       → a.world ≡ Some run.world
       → a.lists ≡ Some run.lists
-      → run.telling ≡ telling.Report
+      → run.telling ≡ telling.Report a.version
       → IsRunFor run (Some (Document c)) (whole bytes)
   -- those of a number's sample; it gets the six lines
   of_number : (seed : ℕ)

@@ -7,7 +7,7 @@ use Rattle.shape_files.specs.declared.section_kind.Form.TheVariants as form
 use Rattle.command_words.specs.declared.command.Command.{Command}
 use Rattle.command_words.specs.declared.command.Command.TheVariants.{Document, Show, Sample}
 use Rattle.command_words.specs.declared.command.DocumentCommand.{DocumentCommand}
-use Rattle.command_words.specs.declared.command.DocumentCommand.TheVariants.{Run, Interleave, Replay, Check, Measure}
+use Rattle.command_words.specs.declared.command.DocumentCommand.TheVariants.{Run, Interleave, Replay, Check, Measure, Renew}
 use Rattle.command_answers.specs.declared.status.Status.{Status}
 use Rattle.command_answers.specs.declared.status.Status.TheVariants as status
 
@@ -42,6 +42,7 @@ row_of Interleave = record { form = form.Interleave; limit = mebibyte; maker = t
 row_of Replay = record { form = form.Replay; limit = many_mebibytes; maker = no_maker }
 row_of Check = record { form = form.Check; limit = mebibyte; maker = no_maker }
 row_of Measure = record { form = form.Measure; limit = many_mebibytes; maker = no_maker }
+row_of Renew = record { form = form.Replay; limit = many_mebibytes; maker = no_maker }
 
 -- the form of a command's document
 abbrev pub form_of : DocumentCommand → Form

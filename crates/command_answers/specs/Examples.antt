@@ -10,6 +10,7 @@ use Rattle.amoebot_state.specs.declared.cell.Cell.TheVariants as cell
 use Rattle.amoebot_state.specs.declared.verdict.Entry.{Entry}
 use Rattle.amoebot_state.specs.declared.verdict.Moved.TheVariants as moved
 use Rattle.amoebot_state.specs.Configs.{Config, with_these}
+use Rattle.amoebot_state.specs.Steps.{plain_entry}
 use Rattle.claim_core.specs.declared.marks.Mark.TheVariants as mark
 use Rattle.claim_core.specs.declared.report.Report.{Report}
 use Rattle.claim_core.specs.Turns.{CallerLists}
@@ -82,7 +83,10 @@ expansion = record {
   bot = 0;
   action = 0;
   moved = moved.Expand to_the_right;
-  patch = (name.Spot (node 2), cell.Spot (Some 0)) ∷ (name.Body 0, cell.Body (bot_in_row 2 1)) ∷ [];
+  patch =
+      (name.Spot (node 2), cell.Spot None, cell.Spot (Some 0))
+      ∷ (name.Body 0, cell.Body (bot_in_row 1 1), cell.Body (bot_in_row 2 1))
+      ∷ [];
 }
 
 abbrev pub and_shape : Contents
@@ -101,7 +105,7 @@ abbrev pub and_schedule : Contents
 and_schedule = record and_list { schedule = Some schedule }
 
 abbrev pub and_journal : Config → Contents
-and_journal final = record and_shape { entries = Some (expansion ∷ []); final_world = Some final }
+and_journal final = record and_shape { plain = Some (plain_entry expansion ∷ []); final_world = Some final }
 
 -- ---- what is owed
 
@@ -131,6 +135,14 @@ shown_line =
     codes "amoebot 1\nprogram\nguard off\naction out\nwhen contracted and free head 0\nmove expand head 0\n"
     ++ codes "action follow_up\nwhen expanded\nmove contract tail\nend\n"
 
+-- the document of the expansion, with the values before
+abbrev pub renewed_expansion : List ℕ
+renewed_expansion =
+    codes "amoebot 3\nprogram\nguard off\naction out\nwhen contracted\nmove expand head 0\nend\n"
+    ++ codes "shape\narea 0 0 3 1\nbot 1 0 1 0 0 +\nend\n"
+    ++ codes "journal\nentry 0 0 0 0 0 expand head 0 spot 2 0 empty to 0 body 0 1 0 1 0 0 + to 2 0 1 0 0 +\nend\n"
+    ++ spread_text
+
 -- the end of an empty input is where the header is needed
 abbrev pub empty_refused : Refusal
 empty_refused = record { line = 1; kind = kind.Truncated }
@@ -154,10 +166,15 @@ pub record SmallAnswers : Type 0 where
   -- the final shape is that of the start
   pub differs : IsOwed (command_of (codes "replay" ∷ [])) (whole (with_shape ++ expansion_journal ++ still_text))
       (status.Differs 1) None (codes "differs 1\n")
+  pub renew : IsOwed (command_of (codes "renew" ∷ [])) (whole (with_shape ++ expansion_journal ++ spread_text))
+      status.Done None renewed_expansion
+  pub renew_differs : IsOwed (command_of (codes "renew" ∷ [])) (whole (with_shape ++ expansion_journal ++ still_text))
+      (status.Differs 1) None (codes "differs 1\n")
   pub check : IsOwed (command_of (codes "check" ∷ [])) (whole program_text) status.Done None checked_text
   pub measure : IsOwed (command_of (codes "measure" ∷ [])) (whole with_nobody)
       status.Done None (codes "bots 0\nconnected yes\nhexagon no\n")
   pub show : IsOwed (command_of (codes "show" ∷ codes "line" ∷ [])) nothing status.Done None shown_line
   -- what is to be done for an input that is refused at once, and for a document of `run`
   pub refused_task : IsTaskOf Interleave [] (task.Answered (refused_with empty_refused))
-  pub run_task : IsTaskOf Run with_list (task.Run (record { runner = out; world = one_alone; lists = one_list; telling = telling.Report }))
+  pub run_task : IsTaskOf Run with_list
+      (task.Run (record { runner = out; world = one_alone; lists = one_list; telling = telling.Report 1 }))

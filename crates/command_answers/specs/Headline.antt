@@ -38,7 +38,7 @@ pub record IsRunOfDocument (c : DocumentCommand) (bytes : List ℕ) (report : Re
   pub reached : Reached (setup (verdict_shown program) start lists) report
   pub serial : length lists.ids ≤ 1 → SerialRun (verdict_shown program) start lists (all_turns lists) (left_by report)
   pub connected : StaysConnectedIn program start report.journal.entries
-  pub writes : text ≡ report_text (length program.vars) report
+  pub writes : text ≡ report_text contents.version (length program.vars) report
 
 -- The report is a good one of the turns of the number's sample, and an interleaving gives it. The shape is connected in each world of
 -- the run. The text is the six lines that tell so.

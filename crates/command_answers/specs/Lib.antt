@@ -9,6 +9,7 @@ pub mod Owed
 pub mod Reads
 pub mod Examples
 pub mod ReplayLaws
+pub mod RenewLaws
 pub use Rattle.action_meaning.specs.Verdicts
 pub use Rattle.amoebot_state.specs.Limits
 pub use Rattle.claim_core.specs.Good

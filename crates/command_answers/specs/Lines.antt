@@ -6,7 +6,7 @@ use Rattle.text_tokens.specs.Kinds.{name}
 use Rattle.text_tokens.specs.Lines.{line_text}
 
 abbrev pub usage_line : List ℕ
-usage_line = codes "usage: run / interleave / replay / check / measure / show NAME / sample NUMBER\n"
+usage_line = codes "usage: run / interleave / replay / check / measure / show NAME / sample NUMBER / renew\n"
 
 abbrev pub read_fault_line : List ℕ
 read_fault_line = codes "read fault\n"

@@ -1,10 +1,12 @@
 -- How a command may end for a document of its form. Each command has its cases.
-use Rattle.std.specs.Prelude.{◌≡◌, ◌≤◌, ℕ, List, length}
+use Rattle.std.specs.Prelude.{◌≡◌, ◌≤◌, ◌⊎◌, ℕ, List, length, map}
 use Rattle.std.specs.declared.option.Option.{Option}
 use Rattle.std.specs.declared.option.Option.TheVariants.{Some, None}
 use Rattle.std.specs.Option.{option_or}
 use Rattle.amoebot_state.specs.declared.verdict.Entry.{Entry}
+use Rattle.amoebot_state.specs.declared.verdict.PlainEntry.{PlainEntry}
 use Rattle.amoebot_state.specs.Configs.{Config}
+use Rattle.amoebot_state.specs.Steps.{plain_entry}
 use Rattle.claim_core.specs.declared.report.Report.{Report}
 use Rattle.claim_core.specs.Turns.{CallerLists}
 use Rattle.claim_core.specs.Machine.{setup}
@@ -17,10 +19,11 @@ use Rattle.shape_files.specs.Documents.{Contents}
 use Rattle.command_runs.specs.Check.{check_text}
 use Rattle.command_runs.specs.Interleave.{IsScheduled}
 use Rattle.command_runs.specs.Measure.{IsMeasureText}
-use Rattle.command_runs.specs.Replay.{Agrees, DiffersAt, agrees_line, differs_line}
+use Rattle.command_runs.specs.Replay.{Agrees, DiffersAt, PlainDiffersAt, agrees_line, differs_line}
+use Rattle.command_runs.specs.Renew.{renewed_text}
 use Rattle.command_runs.specs.Reports.{report_text}
 use Rattle.command_words.specs.declared.command.DocumentCommand.{DocumentCommand}
-use Rattle.command_words.specs.declared.command.DocumentCommand.TheVariants.{Run, Interleave, Replay, Check, Measure}
+use Rattle.command_words.specs.declared.command.DocumentCommand.TheVariants.{Run, Interleave, Replay, Check, Measure, Renew}
 use Rattle.command_answers.specs.declared.status.Status.{Status}
 use Rattle.command_answers.specs.declared.status.Status.TheVariants as status
 
@@ -33,16 +36,34 @@ pub record DocumentLists (a : Contents) : Type 0 where
   pub its_shape : a.world ≡ Some start
   pub its_lists : a.lists ≡ Some lists
 
--- the journal of a document, with its program, its shape and its final shape
-pub record DocumentJournal (a : Contents) : Type 0 where
+-- the program of a document, its shape and its final shape
+pub record DocumentRecord (a : Contents) : Type 0 where
   pub program : Program
   pub start : Config
-  pub entries : List Entry
   pub final : Config
   pub its_program : a.checked ≡ Some program
   pub its_shape : a.world ≡ Some start
-  pub its_journal : a.entries ≡ Some entries
   pub its_final : a.final_world ≡ Some final
+
+-- the journal of a document has these entries: with the old values of their patches, or without
+abbrev pub TellsEntries : Contents → List Entry → Type 0
+TellsEntries a es = (a.entries ≡ Some es) ⊎ (a.plain ≡ Some (map plain_entry es))
+
+-- they are a run from the shape to the final shape
+pub record JournalAgrees (a : Contents) (d : DocumentRecord a) (es : List Entry) : Type 0 where
+  pub told : TellsEntries a es
+  pub agrees : Agrees (verdict_shown d.program) d.start es d.final
+
+-- or the journal differs at a place, by what it has of each entry
+pub data JournalDiffers (a : Contents) (d : DocumentRecord a) : ℕ → Type 0 where
+  in_full : (es : List Entry) (place : ℕ)
+      → a.entries ≡ Some es
+      → DiffersAt (verdict_shown d.program) d.start es d.final place
+      → JournalDiffers a d place
+  in_plain : (ps : List PlainEntry) (place : ℕ)
+      → a.plain ≡ Some ps
+      → PlainDiffersAt (verdict_shown d.program) d.start ps d.final place
+      → JournalDiffers a d place
 
 -- the last shape of a document: the one at the end, if it has that, else the one at the start
 abbrev pub last_shape : Contents → Option Config
@@ -56,21 +77,21 @@ pub data IsOutcome (a : Contents) : DocumentCommand → Status → Option Report
       → Good (verdict_shown d.program) d.start d.lists report
       → Reached (setup (verdict_shown d.program) d.start d.lists) report
       → (length d.lists.ids ≤ 1 → SerialRun (verdict_shown d.program) d.start d.lists (all_turns d.lists) (left_by report))
-      → IsOutcome a Run status.Done (Some report) (report_text (length d.program.vars) report)
+      → IsOutcome a Run status.Done (Some report) (report_text a.version (length d.program.vars) report)
   -- `interleave`: the report is a good one too, and the interleaving of the schedule gives it
   of_interleave : (d : DocumentLists a) (schedule : List ℕ) (report : Report)
       → a.schedule ≡ Some schedule
       → Good (verdict_shown d.program) d.start d.lists report
       → Reached (setup (verdict_shown d.program) d.start d.lists) report
       → IsScheduled (setup (verdict_shown d.program) d.start d.lists) schedule report
-      → IsOutcome a Interleave status.Done (Some report) (report_text (length d.program.vars) report)
+      → IsOutcome a Interleave status.Done (Some report) (report_text a.version (length d.program.vars) report)
   -- `replay`: the journal is a run from the shape to the final shape
-  agreeing : (d : DocumentJournal a)
-      → Agrees (verdict_shown d.program) d.start d.entries d.final
-      → IsOutcome a Replay status.Done None (agrees_line (length d.entries))
+  agreeing : (d : DocumentRecord a) (es : List Entry)
+      → JournalAgrees a d es
+      → IsOutcome a Replay status.Done None (agrees_line (length es))
   -- or it differs at a place
-  differing : (d : DocumentJournal a) (place : ℕ)
-      → DiffersAt (verdict_shown d.program) d.start d.entries d.final place
+  differing : (d : DocumentRecord a) (place : ℕ)
+      → JournalDiffers a d place
       → IsOutcome a Replay (status.Differs place) None (differs_line place)
   -- `check`: the canonical text of the program, under the version of the document
   of_check : (program : Program)
@@ -81,3 +102,11 @@ pub data IsOutcome (a : Contents) : DocumentCommand → Status → Option Report
       → last_shape a ≡ Some last
       → IsMeasureText last text
       → IsOutcome a Measure status.Done None text
+  -- `renew`: the journal is such a run, and is written with the old values
+  renewing : (d : DocumentRecord a) (es : List Entry)
+      → JournalAgrees a d es
+      → IsOutcome a Renew status.Done None (renewed_text d.program d.start es d.final)
+  -- or it differs, as for `replay`
+  renew_differing : (d : DocumentRecord a) (place : ℕ)
+      → JournalDiffers a d place
+      → IsOutcome a Renew (status.Differs place) None (differs_line place)

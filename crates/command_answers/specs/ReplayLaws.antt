@@ -4,7 +4,7 @@ use Rattle.std.specs.declared.option.Option.TheVariants.{Some, None}
 use Rattle.claim_core.specs.declared.report.Report.{Report}
 use Rattle.shape_files.specs.declared.section_kind.Form.TheVariants as form
 use Rattle.shape_files.specs.Documents.{Contents, HasContents}
-use Rattle.shape_files.specs.RunTexts.{EndsLine}
+use Rattle.shape_files.specs.RunTexts.{EndsLine, recorded_with}
 use Rattle.command_runs.specs.Replay.{agrees_line}
 use Rattle.command_words.specs.declared.command.Command.TheVariants.{Document}
 use Rattle.command_words.specs.declared.command.DocumentCommand.{DocumentCommand}
@@ -14,19 +14,15 @@ use Rattle.command_answers.specs.Reads.{whole}
 use Rattle.command_answers.specs.Outcomes.{IsOutcome}
 use Rattle.command_answers.specs.Owed.{IsOwed}
 
--- what a document has, and the entries and the last world of a report
-abbrev pub with_report : Contents → Report → Contents
-with_report a report = record a { entries = Some report.journal.entries; final_world = Some report.world }
-
 -- what `replay` owes for the bytes: that the journal agrees, with the number of its entries
 abbrev pub IsAgreed : List ℕ → Report → Type 0
 IsAgreed bytes report =
     IsOwed (Some (Document Replay)) (whole bytes) status.Done None (agrees_line (length report.journal.entries))
 
 -- The bytes with the text behind them are a document of Replay, which has what the bytes have, and the report's entries
--- and last world. For it is owed that the journal agrees.
+-- and last world, as its version has them. For it is owed that the journal agrees.
 pub record IsReplayed (bytes : List ℕ) (a : Contents) (report : Report) (text : List ℕ) : Type 0 where
-  pub document : HasContents form.Replay (bytes ++ text) (with_report a report)
+  pub document : HasContents form.Replay (bytes ++ text) (recorded_with a report.journal.entries report.world)
   pub agrees : IsAgreed (bytes ++ text) report
 
 -- so it is with each text of a report of `run` for a document whose last byte is a line feed

@@ -1,12 +1,13 @@
 //! What is answered, and what is prepared for workers.
 
 ghost use Rattle.std.specs.Prelude.{◌≡◌, IfOk, None};
-ghost use Rattle.command_answers.specs.Answers.{refused_with};
+ghost use Rattle.command_answers.specs.Answers.{agrees_with, differs_with, refused_with};
 
 use crate::status::Status;
 use action_eval::Runner;
 use amoebot_state::{NoMemory, World};
 use claim_core::{Lists, Report};
+use command_runs::{print_agrees, print_differs};
 use std::alloc::Global;
 use text_tokens::{Lines, Refusal, Text};
 
@@ -21,8 +22,8 @@ pub struct Answer {
 /// Which text a run that workers made gets.
 #[derive(Clone, Copy, Debug, PartialEq, Eq)]
 pub enum Telling {
-    /// Its report.
-    Report,
+    /// Its report, in the version of its document.
+    Report(u8),
     /// The lines of the sample of this number.
     Sample(u32),
 }
@@ -69,5 +70,25 @@ pub(crate) fn refuse(alloc: Global, refusal: Refusal) -> Result<Answer, NoMemory
         status: Status::Refused(refusal),
         report: None,
         text: lines.text(),
+    })
+}
+
+/// The answer that a journal of so many entries agrees.
+pub(crate) fn agree(alloc: Global, entries: usize) -> Result<Answer, NoMemory>
+    ensures { IfOk result (λ a. a ≡ agrees_with entries) }
+{
+    let text = print_agrees(alloc, entries)?;
+    Ok(done(text))
+}
+
+/// The answer that a journal differs at a place.
+pub(crate) fn differ(alloc: Global, place: u32) -> Result<Answer, NoMemory>
+    ensures { IfOk result (λ a. a ≡ differs_with place) }
+{
+    let text = print_differs(alloc, place)?;
+    Ok(Answer {
+        status: Status::Differs(place),
+        report: None,
+        text,
     })
 }

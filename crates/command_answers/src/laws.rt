@@ -12,6 +12,7 @@ use command_runs::{
 };
 use model_ops::acts_decide;
 use run_sample::{sample_is_fit, sample_is_some, sample_is_unique};
+use serial_model::{plain_run_is_run, plain_run_is_unique};
 use shape_checks::measures_are_decided;
 use shape_files::{documents_are_decided, documents_are_sound, documents_fit};
 
@@ -25,6 +26,9 @@ pub fn owed_is_one()
     run_text_is_one();
     interleave_text_is_one();
     replay_is_decided();
+    plain_run_is_run();
+    plain_run_is_unique();
+    documents_fit();
     measure_text_is_one();
     good_stays_connected();
     sample_is_fit();
@@ -41,6 +45,7 @@ pub fn owed_is_some()
     reached_is_good();
     one_list_is_serial();
     replay_is_decided();
+    plain_run_is_run();
     measures_are_decided();
     good_stays_connected();
     sample_is_fit();
@@ -68,7 +73,7 @@ pub fn prepared_is_one()
     sample_text_is_one();
 }
 
-/// For a document of the command's form it is done; or, for `replay`, the journal differs.
+/// For a document of the command's form it is done; or, for `replay` and `renew`, the journal differs.
 pub fn documents_have_outcomes()
     ensures { DocumentsHaveOutcomes }
 {

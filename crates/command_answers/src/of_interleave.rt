@@ -21,6 +21,7 @@ pub(crate) fn answer_interleave(alloc: Global, parts: Parts) -> Result<Answer, N
     ensures { IfOk result (IsAnswerTo DocumentCommand.Interleave (contents parts)) }
 {
     let Parts {
+        version,
         checked,
         world,
         lists,
@@ -33,5 +34,5 @@ pub(crate) fn answer_interleave(alloc: Global, parts: Parts) -> Result<Answer, N
     let vars = checked.vars();
     let runner = Runner::new(checked);
     let report = run_interleaved(alloc, &runner, world.unwrap(), &lists, &schedule)?;
-    answer_report(alloc, report, vars)
+    answer_report(alloc, version, report, vars)
 }

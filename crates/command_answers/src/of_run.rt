@@ -12,13 +12,14 @@ use claim_core::one_list_is_serial;
 use command_words::DocumentCommand;
 use shape_files::Parts;
 
-/// The run of a document's lists is prepared; it gets the text of its report.
+/// The run of a document's lists is prepared; it gets the text of its report in the document's version.
 pub(crate) fn prepare(parts: Parts) -> Prepared
     requires { Fits (form_of DocumentCommand.Run) (contents parts) }
     ensures { IsTaskTo DocumentCommand.Run (contents parts) (Task.Run result) }
 {
     one_list_is_serial();
     let Parts {
+        version,
         checked,
         world,
         lists,
@@ -33,6 +34,6 @@ pub(crate) fn prepare(parts: Parts) -> Prepared
         runner,
         world,
         lists,
-        telling: Telling::Report,
+        telling: Telling::Report(version),
     }
 }

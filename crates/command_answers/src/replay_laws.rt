@@ -5,6 +5,7 @@ ghost use Rattle.command_answers.specs.ReplayLaws.{InterleaveTextsAreReplayed, R
 use action_meaning::{blocked_is_shown, changes_are_acts};
 use amoebot_state::zone_has_at_most_nine_bodies;
 use command_runs::good_is_few;
+use journal_text::plain_keeps_limits;
 use model_ops::acts_decide;
 use shape_files::{documents_are_sound, documents_fit, runs_are_replayed};
 
@@ -23,4 +24,5 @@ pub fn run_texts_are_replayed()
     blocked_is_shown();
     acts_decide();
     zone_has_at_most_nine_bodies();
+    plain_keeps_limits();
 }

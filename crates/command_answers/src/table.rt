@@ -31,6 +31,7 @@ pub fn row_of(command: DocumentCommand) -> Row
         DocumentCommand::Replay => (Form::Replay, MANY_MEBIBYTES),
         DocumentCommand::Check => (Form::Check, MEBIBYTE),
         DocumentCommand::Measure => (Form::Measure, MANY_MEBIBYTES),
+        DocumentCommand::Renew => (Form::Replay, MANY_MEBIBYTES),
     };
     Row { form, limit }
 }

@@ -1,7 +1,10 @@
 //! What is to be done for a whole input of a command that reads a document.
 
 ghost use Rattle.std.specs.Prelude.{IfOk};
+ghost use Rattle.text_tokens.specs.declared.refusal.RefusalKind.TheVariants.{Trailing};
+ghost use Rattle.text_tokens.specs.Steps.{ReadsInput};
 ghost use Rattle.text_tokens.specs.Text.{IsCountable};
+ghost use Rattle.shape_files.specs.Documents.{IsDocument};
 ghost use Rattle.shape_files.specs.Fitting.{Fits};
 ghost use Rattle.shape_files.specs.Views.{contents};
 ghost use Rattle.command_answers.specs.Answers.{IsTaskOf, IsTaskTo};
@@ -11,22 +14,30 @@ use crate::answer::{Task, refuse};
 use crate::of_check::answer_check;
 use crate::of_interleave::answer_interleave;
 use crate::of_measure::answer_measure;
+use crate::of_renew::answer_renew;
 use crate::of_replay::answer_replay;
 use crate::of_run::prepare;
 use crate::table::row_of;
 use amoebot_state::NoMemory;
 use command_words::DocumentCommand;
-use shape_files::{Parts, documents_fit, read_sections};
+use outer_io::Document;
+use shape_files::{Form, Parts, Sections, documents_fit, read_sections};
 use std::alloc::Global;
 use text_tokens::ReadRefusal;
 
 /// What is to be done for a whole input of a command. Without enough memory that is not known.
-pub fn task_of(alloc: Global, command: DocumentCommand, bytes: &[u8]) -> Result<Task, NoMemory>
-    requires { IsCountable bytes.now }
-    ensures { IfOk result (IsTaskOf command bytes.now) }
+///
+/// The input is dropped as soon as it is read, so that it takes no memory beside the answer.
+pub fn task_of(
+    alloc: Global,
+    command: DocumentCommand,
+    document: Document,
+) -> Result<Task, NoMemory>
+    requires { IsCountable document }
+    ensures { IfOk result (IsTaskOf command document) }
 {
     documents_fit();
-    match read_sections(alloc, bytes, row_of(command).form) {
+    match read_whole(alloc, document, row_of(command).form) {
         Ok(sections) => task_of_document(alloc, command, sections.into_parts()),
         Err(ReadRefusal::Refused(refusal)) => {
             let answer = refuse(alloc, refusal)?;
@@ -34,6 +45,14 @@ pub fn task_of(alloc: Global, command: DocumentCommand, bytes: &[u8]) -> Result<
         }
         Err(ReadRefusal::NoMemory) => Err(NoMemory),
     }
+}
+
+/// The sections of a whole input, which is dropped then.
+fn read_whole(alloc: Global, document: Document, form: Form) -> Result<Sections, ReadRefusal>
+    requires { IsCountable document }
+    ensures { ReadsInput (IsDocument form) Trailing (λ s. s) document result }
+{
+    read_sections(alloc, document.bytes(), form)
 }
 
 /// What is to be done for a document of the command's form.
@@ -47,5 +66,6 @@ fn task_of_document(alloc: Global, command: DocumentCommand, parts: Parts) -> Re
         DocumentCommand::Replay => Ok(Task::Answered(answer_replay(alloc, parts)?)),
         DocumentCommand::Check => Ok(Task::Answered(answer_check(alloc, parts)?)),
         DocumentCommand::Measure => Ok(Task::Answered(answer_measure(alloc, parts)?)),
+        DocumentCommand::Renew => Ok(Task::Answered(answer_renew(alloc, parts)?)),
     }
 }

@@ -27,26 +27,36 @@ pub fn tell(
     ensures { IfOk result (TellsReport telling runner.now lists.now report) }
 {
     match telling {
-        Telling::Report => tell_report(alloc, runner, report),
+        Telling::Report(version) => tell_report(alloc, version, runner, report),
         Telling::Sample(seed) => tell_sample(alloc, seed, runner, lists, report),
     }
 }
 
-/// The answer that tells a report of a program's run.
-fn tell_report(alloc: Global, runner: &Runner, report: Report) -> Result<Answer, NoMemory>
-    ensures { IfOk result (λ a. a ≡ done_with (length runner.now.vars) report) }
+/// The answer that tells a report of a program's run in a version.
+fn tell_report(
+    alloc: Global,
+    version: u8,
+    runner: &Runner,
+    report: Report,
+) -> Result<Answer, NoMemory>
+    ensures { IfOk result (λ a. a ≡ done_with version (length runner.now.vars) report) }
 {
     let checked = runner.checked();
     checked.program();
-    answer_report(alloc, report, checked.vars())
+    answer_report(alloc, version, report, checked.vars())
 }
 
-/// The answer that tells a report, where an amoebot has the values of so many variables.
-pub(crate) fn answer_report(alloc: Global, report: Report, vars: u8) -> Result<Answer, NoMemory>
+/// The answer that tells a report in a version, where an amoebot has the values of so many variables.
+pub(crate) fn answer_report(
+    alloc: Global,
+    version: u8,
+    report: Report,
+    vars: u8,
+) -> Result<Answer, NoMemory>
     requires { vars ≤ most_vars }
-    ensures { IfOk result (λ a. a ≡ done_with vars report) }
+    ensures { IfOk result (λ a. a ≡ done_with version vars report) }
 {
-    let text = print_report(alloc, &report, vars)?;
+    let text = print_report(alloc, version, &report, vars)?;
     Ok(Answer {
         status: Status::Done,
         report: Some(report),

@@ -11,6 +11,7 @@ returns c =
       goods = c.reached_is_good.ensures;
       serials = c.one_list_is_serial.ensures;
       replays = c.replay_is_decided.ensures;
+      plain_runs = c.plain_run_is_run.ensures;
       measures = c.measures_are_decided.ensures;
       stays = c.good_stays_connected.ensures;
       samples = c.sample_is_some.ensures;

@@ -14,4 +14,4 @@ pub returns : goal.returns
 returns c = IfOk-weaker _ _ _ (λ answer is.
     interleaves (contents c.args.parts) answer c.new-runner.result c.unwrap.result c.unwrap-lists.result c.unwrap-schedule.result c.in_ok-report.report
     (c.unwrap-checked.ensures ∙ ap Some (sym c.new-runner.ensures)) c.unwrap.ensures c.unwrap-lists.ensures c.unwrap-schedule.ensures c.in_ok-report.ensures
-    (is ∙ ap (λ (vars : ℕ). done_with vars c.in_ok-report.report) (c.vars-vars.ensures ∙ ap (λ (p : Program). length p.vars) (sym c.new-runner.ensures)))) c.answer_report.ensures
+    (is ∙ ap (λ (vars : ℕ). done_with (contents c.args.parts).version vars c.in_ok-report.report) (c.vars-vars.ensures ∙ ap (λ (p : Program). length p.vars) (sym c.new-runner.ensures)))) c.answer_report.ensures

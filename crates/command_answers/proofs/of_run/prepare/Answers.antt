@@ -7,6 +7,6 @@ use Rattle.command_answers.proofs.of_run.prepare.Goals as goal
 
 pub returns : goal.returns
 returns c = λ bytes h. prepares c.one_list_is_serial.ensures (contents c.args.parts) bytes
-    (record { runner = c.new-runner.result; world = c.unwrap-world.result; lists = c.unwrap-lists.result; telling = telling.Report }) h
+    (record { runner = c.new-runner.result; world = c.unwrap-world.result; lists = c.unwrap-lists.result; telling = telling.Report (contents c.args.parts).version }) h
     (c.unwrap-checked.ensures ∙ ap Some (sym c.new-runner.ensures)) c.unwrap-world.ensures c.unwrap-lists.ensures refl
     (are_there (contents c.args.parts) c.unwrap-world.result c.unwrap-lists.result c.requires.together c.unwrap-world.ensures c.unwrap-lists.ensures c.keeps.ensures.no_gaps)

@@ -12,5 +12,6 @@ returns c =
       blocked = c.blocked_is_shown.ensures;
       decide = c.acts_decide.ensures.laws;
       nine = c.zone_has_at_most_nine_bodies.ensures;
+      plain_limits = c.plain_keeps_limits.ensures;
     } in
     record { run = run_texts_are_replayed laws; interleave = interleave_texts_are_replayed laws; owed = what_is_owed_is_replayed laws }

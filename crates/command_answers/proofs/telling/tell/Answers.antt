@@ -6,7 +6,7 @@ use Rattle.command_answers.proofs.PreparedRuns.{report_told}
 use Rattle.command_answers.proofs.telling.tell.Goals as goal
 
 pub returns-in-Report : goal.returns-in-Report
-returns-in-Report c = IfOk-weaker _ _ _ (λ answer is. report_told c.args.runner.now c.args.lists.now c.args.report c.args.telling answer c.in-Report.is is) c.tell_report.ensures
+returns-in-Report c = IfOk-weaker _ _ _ (λ answer is. report_told c.in-Report.version c.args.runner.now c.args.lists.now c.args.report c.args.telling answer c.in-Report.is is) c.tell_report.ensures
 
 pub tell_sample-requires-clause-few : goal.tell_sample-requires-clause-few
 tell_sample-requires-clause-few c = subst (λ (t : Telling). IsCounted t c.args.report) c.in-Sample.is c.requires.few

@@ -7,4 +7,4 @@ pub answer_report-requires : goal.answer_report-requires
 answer_report-requires c = subst (λ vars. vars ≤ most_vars) (sym c.vars.ensures) (few_vars c.checked-checked.result.now c.program.ensures.writable)
 
 pub returns : goal.returns
-returns c = done_with_all _ _ c.args.report _ (c.vars.ensures ∙ ap (λ p. length p.vars) c.checked-checked.ensures) c.answer_report.ensures
+returns c = done_with_all c.args.version _ _ c.args.report _ (c.vars.ensures ∙ ap (λ p. length p.vars) c.checked-checked.ensures) c.answer_report.ensures
