@@ -19,7 +19,7 @@ use Rattle.text_tokens.specs.Kinds.{name}
 use Rattle.command_answers.specs.Lines.{refusal_line, too_long}
 use Rattle.command_answers.specs.Laws.{OwedIsOne, SameOwed, DocumentsHaveOutcomes, ReportsAreOfTurns, ReportsAreOfDocuments, ReportsAreOfSamples}
 use Rattle.command_answers.specs.Reads.{Read, nothing, whole, above, up_to_fault, some}
-use Rattle.command_answers.specs.Outcomes.{IsOutcome, of_run, of_interleave, agreeing, differing, of_check, of_measure}
+use Rattle.command_answers.specs.Outcomes.{IsOutcome, of_run, of_interleave, agreeing, differing, of_check, of_measure, renewing, renew_differing}
 use Rattle.command_answers.specs.Owed.{IsOwed, usage, read_fault, longer, refused, served, shown, sampled}
 use Rattle.amoebot_run.specs.declared.ended.Ended.{Ended}
 use Rattle.amoebot_run.specs.Clauses.{WroteAll, WroteFront}
@@ -194,10 +194,12 @@ Cause command read s = ⊤
 cause_of_outcome : (a : Contents) (c : DocumentCommand) (bytes : List ℕ) (s : Status) (report : Option Report) (text : List ℕ) → IsOutcome a c s report text → Cause (Some (Document c)) (whole bytes) s
 cause_of_outcome a c bytes s report text (of_run d r good reached serial) = tt
 cause_of_outcome a c bytes s report text (of_interleave d schedule r its_schedule good reached scheduled) = tt
-cause_of_outcome a c bytes s report text (agreeing d agrees) = tt
+cause_of_outcome a c bytes s report text (agreeing d es agrees) = tt
 cause_of_outcome a c bytes s report text (differing d place differs) = tt
 cause_of_outcome a c bytes s report text (of_check p its_program) = tt
 cause_of_outcome a c bytes s report text (of_measure last t its_last measures) = tt
+cause_of_outcome a c bytes s report text (renewing d es agrees) = tt
+cause_of_outcome a c bytes s report text (renew_differing d place differs) = tt
 
 cause_of : (command : Option Command) (read : Read) (s : Status) (report : Option Report) (text : List ℕ) → IsOwed command read s report text → Cause command read s
 cause_of command read s report text usage = refl

@@ -33,7 +33,7 @@ pub enum Begun {
 
 /// What is written where the words are no command.
 const USAGE: &str =
-    "usage: run / interleave / replay / check / measure / show NAME / sample NUMBER\n";
+    "usage: run / interleave / replay / check / measure / show NAME / sample NUMBER / renew\n";
 
 /// What is written where a read failed.
 const READ_FAULT: &str = "read fault\n";
@@ -96,7 +96,7 @@ fn begin_document<S: Source, K: Sink>(
         }
         Err(ReadError::NoMemory) => return Begun::Ended(end_with(Status::NoMemory)),
     };
-    let task = match task_of(alloc, command, document.bytes()) {
+    let task = match task_of(alloc, command, document) {
         Ok(task) => task,
         Err(NoMemory) => return Begun::Ended(end_with(Status::NoMemory)),
     };

@@ -33,13 +33,13 @@ returns-in-Err-NoMemory g c =
 pub returns-in-Answered : goal.returns-in-Answered
 returns-in-Answered g c =
     let reads = subst (λ (limit : ℕ). ReadsWhole g.S.Source.left g.S.Source.gives limit c.args.input.now c.read_document.new.source c.in-Ok.document) c.row_of.ensures.limit c.in-Ok.ensures.whole in
-    let is = subst (IsTaskOf c.args.command c.in-Ok.document) c.in-Answered.is (subst (λ bytes. IsTaskOf c.args.command bytes c.in-Ok-task_of.task) c.bytes.ensures c.in-Ok-task_of.ensures) in
+    let is = subst (IsTaskOf c.args.command c.in-Ok.document) c.in-Answered.is c.in-Ok-task_of.ensures in
     answer_begun c.args.command c.in-Ok.document c.in-Answered.answer _ reads is c.end_with_answer.ensures
 
-pub returns : goal.returns
-returns g c =
+pub returns-in-Run : goal.returns-in-Run
+returns-in-Run g c =
     let reads = subst (λ (limit : ℕ). ReadsWhole g.S.Source.left g.S.Source.gives limit c.args.input.now c.read_document.new.source c.in-Ok.document) c.row_of.ensures.limit c.in-Ok.ensures.whole in
-    let is = subst (IsTaskOf c.args.command c.in-Ok.document) c.in-Run.is (subst (λ bytes. IsTaskOf c.args.command bytes c.in-Ok-task_of.task) c.bytes.ensures c.in-Ok-task_of.ensures) in
+    let is = subst (IsTaskOf c.args.command c.in-Ok.document) c.in-Run.is c.in-Ok-task_of.ensures in
     is_to_run c.in-Run.prepared (whole c.in-Ok.document) refl reads tt is
 
 pub returns-in-Err : goal.returns-in-Err
