@@ -695,24 +695,43 @@ fn are_same(one: &PlainEntry, other: &PlainEntry) -> bool {
         && one.patch.pairs() == other.patch.pairs()
 }
 
+fn all_same(one: &[PlainEntry], other: &[PlainEntry]) -> bool {
+    one.len() == other.len()
+        && one
+            .iter()
+            .zip(other)
+            .all(|(one, other)| are_same(one, other))
+}
+
+fn all_plain(plain: &[PlainEntry], entries: &[Entry]) -> bool {
+    plain.len() == entries.len()
+        && plain
+            .iter()
+            .zip(entries)
+            .all(|(plain, entry)| is_plain(plain, entry))
+}
+
+/// Whether two documents have these entries without their old values, and the third has them with them.
+fn have_one_journal(first: &Parts, second: &Parts, third: &Parts, many: usize) -> bool {
+    if first.entries.is_some() || second.entries.is_some() || third.plain.is_some() {
+        return false;
+    }
+    match (&first.plain, &second.plain, &third.entries) {
+        (Some(one), Some(other), Some(full)) => {
+            one.entries().len() == many
+                && all_same(one.entries(), other.entries())
+                && all_plain(one.entries(), full.entries())
+        }
+        _ => false,
+    }
+}
+
 /// Versions 1 and 2 give the entries of version 3, without their old values.
 fn check_entries<R: Abort>(rt: &R, alloc: Global, run: &Run) -> Result<(), Fail> {
     let first = parts_in(alloc, "amoebot 1", run)?;
     let second = parts_in(alloc, "amoebot 2", run)?;
     let third = parts_in(alloc, "amoebot 3", run)?;
-    assert!(rt; first.entries.is_none() && second.entries.is_none() && third.plain.is_none());
-    let first = first.plain.ok_or("a journal")?;
-    let second = second.plain.ok_or("a journal")?;
-    let third = third.entries.ok_or("a journal")?;
-    assert_eq!(rt; first.entries().len(), run.2);
-    assert_eq!(rt; second.entries().len(), run.2);
-    assert_eq!(rt; third.entries().len(), run.2);
-    for (one, other) in first.entries().iter().zip(second.entries()) {
-        assert!(rt; are_same(one, other));
-    }
-    for (plain, entry) in first.entries().iter().zip(third.entries()) {
-        assert!(rt; is_plain(plain, entry));
-    }
+    assert!(rt; have_one_journal(&first, &second, &third, run.2));
     Ok(())
 }
 
