@@ -77,7 +77,7 @@ plain_is_there a has none = by (has_old_values a.version) has
     by false some = some
 
 module _ (a : Contents) (d : DocumentRecord a) where
-  -- a plain journal that agrees is told by the entries of a run
+  -- a plain journal that agrees has the entries of a run, without their old values
   pub plain_agrees : PlainRunIsRun → (ps : List PlainEntry) → a.plain ≡ Some ps → PlainAgrees (verdict_shown d.program) d.start ps d.final
       → (es : List Entry) × (length es ≡ length ps) × JournalAgrees a d es
   plain_agrees law ps its_journal run =

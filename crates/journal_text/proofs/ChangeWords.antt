@@ -8,7 +8,7 @@ use Rattle.amoebot_state.specs.Steps.{plain_entry}
 use Rattle.journal_text.specs.Journals.{WrittenChange}
 use Rattle.journal_text.specs.Texts.{change_words, moved_words, entry_numbers, entry_words, written_full, change_of_pair, written_plain, change_by, written_by, written_text, plain_text}
 
--- the words of an entry by its parts, which are the same in both but for the cells
+-- the words of an entry by its parts, which are the same in both forms except the cells
 abbrev pub words_of_parts : ℕ → ℕ → Entry → List WrittenChange → Words
 words_of_parts vars place e ts = codes "entry" ∷ entry_numbers place (written_full e) ++ (moved_words e.moved ++ flat_map (change_words vars) ts)
 
