@@ -30,7 +30,7 @@ reading_of left gives fails limit old new bytes is (some got) reads = tt
 pub has_text : TextIsKeptAsOnePiece → (old new : KeptBytes) (text : List ℕ) → WritesAll written_of KeepsPiece old new text → HasText old new text
 has_text law old new text writes = (law old new text writes.writes, writes.told)
 
--- of the three failures want of memory alone is left
+-- of the three failures, out of memory alone is left
 pub memory_alone : (s : Status) → (s ≡ status.ReadFault → ⊥) → (s ≡ status.WriteFault → ⊥) → IsOutsideFault s → s ≡ status.NoMemory
 memory_alone status.ReadFault read write fails = absurd (read refl)
 memory_alone status.WriteFault read write fails = absurd (write refl)

@@ -24,7 +24,7 @@ use Rattle.model_ops.proofs.SameIds.{still_same, both_same}
 use Rattle.model_ops.proofs.SmallMoves.{SmallMove, shrunk, grown}
 use Rattle.model_ops.proofs.Movements.{Passes, expand_told, contract_told, push_told, pull_told}
 
--- d is c but for the occupant of one node and for two bodies
+-- d is c except for the occupant of one node and two bodies
 pub record Moves (c : Config) (i : ℕ) (d : Config) : Type 0 where
   pub node : Node
   pub peer : ℕ

@@ -30,7 +30,7 @@ use Rattle.model_ops.proofs.Moved.{body_listed}
 abbrev pub bare : Bot → Bot
 bare b = record b { mem = [] }
 
--- d is c but for the memory of amoebots of the zone
+-- d is c except for the memory of amoebots of the zone
 pub record Writes (c : Config) (i : ℕ) (d : Config) : Type 0 where
   pub valid : IsValid d
   pub there : bot_at d i ≡ Some (bot_of d i)
