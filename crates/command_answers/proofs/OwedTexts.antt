@@ -1,5 +1,5 @@
 -- What the commands answer is what they owe.
-use Rattle.std.proofs.Common.{◌≡◌, ◌<◌, ℕ, Bool, true, false, List, length, Option, Some, None, inl, inr, ap, refl, sym, subst, ◌∙◌}
+use Rattle.std.proofs.Common.{◌≡◌, ◌<◌, ℕ, List, length, Option, Some, None, inl, inr, ap, refl, sym, subst, ◌∙◌}
 use Rattle.std.specs.Prelude.{IsSome, IfSome}
 use Rattle.std.specs.List.{All}
 use Rattle.std.proofs.lemmas.List.{length-map}
@@ -8,15 +8,13 @@ use Rattle.amoebot_state.specs.declared.verdict.Entry.{Entry}
 use Rattle.amoebot_state.specs.declared.verdict.PlainEntry.{PlainEntry}
 use Rattle.amoebot_state.specs.Configs.{Config, bot_at}
 use Rattle.amoebot_state.specs.Steps.{plain_entry}
-use Rattle.amoebot_state.proofs.Options.{not_none}
-use Rattle.node_text.specs.Parts.{has_old_values}
 use Rattle.serial_model.specs.Laws.{PlainRunIsRun}
 use Rattle.claim_core.specs.declared.report.Report.{Report}
 use Rattle.claim_core.specs.Turns.{CallerLists, HaveBots}
 use Rattle.action_tree.specs.Trees.{Program}
 use Rattle.action_meaning.specs.Verdicts.{verdict_shown}
 use Rattle.shape_files.specs.Documents.{Contents, HasContents, IsDocumentFault, bots_of}
-use Rattle.shape_files.specs.Fitting.{FitTogether, HasJournal, HasJournalBy}
+use Rattle.shape_files.specs.Fitting.{FitTogether}
 use Rattle.shipped_programs.specs.declared.shipped.Shipped.{Shipped}
 use Rattle.shipped_programs.specs.Shipped.{tree_of}
 use Rattle.command_runs.specs.Interleave.{IsInterleaveReport}
@@ -67,14 +65,6 @@ module _ (a : Contents) (answer : Answer) where
 
 abbrev pub record_of : (a : Contents) (p : Program) (start final : Config) → a.checked ≡ Some p → a.world ≡ Some start → a.final_world ≡ Some final → DocumentRecord a
 record_of a p start final its_program its_shape its_final = record { program = p; start = start; final = final; its_program = its_program; its_shape = its_shape; its_final = its_final }
-
--- where no journal with old values is there, one without is
-pub plain_is_there : (a : Contents) → HasJournal a → a.entries ≡ None → IsSome a.plain
-plain_is_there a has none = by (has_old_values a.version) has
-  where
-    by : (old : Bool) → HasJournalBy old a → IsSome a.plain
-    by true some = absurd (not_none a.entries none some)
-    by false some = some
 
 module _ (a : Contents) (d : DocumentRecord a) where
   -- a plain journal that agrees has the entries of a run, without their old values
