@@ -185,6 +185,13 @@ def full_journal(version):
     ])
 
 
+def crowd(side):
+    """Of amoebots in the middle the first one writes in each turn, and all others rest: each entry is a round."""
+    program = "var m 1\nvar acts 1\naction set when acts = 1 and m = 0 do m := 1\naction clear when acts = 1 and m = 1 do m := 0"
+    nodes = middle(side)
+    return document(side, program, nodes, lambda number: "0 0" if number else "0 1", [[0]], TURNS_OF_EACH * len(nodes))
+
+
 def filled(size=1_048_576):
     """A small document of one mebibyte, nearly all of it comments and blanks."""
     text = document(8, OUT, [(2, 3)])

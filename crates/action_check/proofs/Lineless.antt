@@ -10,7 +10,8 @@ use Rattle.action_tree.specs.Lines.{bare_name, bare_literal, bare_dirterm, bare_
 use Rattle.action_check.specs.Limits.{most_literal, most_direction}
 use Rattle.action_tree.specs.Scopes.{Scope, is_among, scope_with, scope_after, scope_after_all}
 use Rattle.action_check.specs.Faults.{blamed, var_faults, bound_faults, binding_faults, declared_faults, range_faults, dirterm_faults, guard_faults, guards_faults, sum_faults, term_faults, port_faults, stmt_faults, stmts_faults, move_faults, vars_faults, action_faults, actions_faults, faults}
-use Rattle.action_tree.specs.Scopes.{names_of_vars, at_start}
+use Rattle.action_tree.specs.Scopes.{at_start}
+use Rattle.action_tree.proofs.BareLemmas.{vars_named}
 use Rattle.action_check.specs.Laws.{FaultsIgnoreLines, RulesIgnoreLines}
 
 abbrev kinds : List Refusal → List RefusalKind
@@ -146,10 +147,6 @@ action_bare sc a =
 actions_bare : (sc : Scope) (earlier : List (List ℕ)) (actions : List Action) → Alike (actions_faults sc earlier (map bare_action actions)) (actions_faults sc earlier actions)
 actions_bare sc earlier [] = same []
 actions_bare sc earlier (a ∷ more) = both (declared_bare earlier a.name) (both (action_bare sc a) (actions_bare sc (earlier ++ a.name.text ∷ []) more))
-
-pub vars_named : (vs : List Var) → names_of_vars vs ≡ names_of_vars (map bare_var vs)
-vars_named [] = refl
-vars_named (v ∷ vs) = ap (λ names. v.name.text ∷ names) (vars_named vs)
 
 start_bare : (p : Program) → at_start p ≡ at_start (without_lines p)
 start_bare p = ap (λ names. record { vars = names; bound = [] }) (vars_named p.vars)

@@ -11,14 +11,13 @@ use Rattle.model_ops.specs.Reaches.{move}
 use Rattle.model_ops.specs.Sights.{Sight, sight}
 use Rattle.action_tree.specs.Trees as tree
 use Rattle.action_tree.specs.Lines.{bare_dirterm, bare_guard, bare_guards, bare_sum, bare_term, bare_port, bare_stmt, bare_stmts, bare_move, bare_action, without_lines}
-use Rattle.action_print.proofs.ProgramsRead.{canon_reads_back}
-use Rattle.action_check.proofs.Lineless.{vars_named, rules_ignore_lines}
+use Rattle.action_tree.proofs.BareLemmas.{vars_named}
 use Rattle.action_meaning.specs.Names.{Names, var_number, bind}
 use Rattle.action_meaning.specs.Choices.{any_of_ports, all_of_ports, first_of_ports, count_of_ports}
 use Rattle.action_meaning.specs.Values.{ports_of, test_value, side_value, compare, signed, whole, dirterm_value, guard_value, each_value, some_value, sum_value, term_value, port_value}
 use Rattle.action_meaning.specs.Effects.{Moment, moment, reaching, leaving, for_ports, stmt_effect, stmts_effect}
 use Rattle.action_meaning.specs.Verdicts.{moved_through, move_value, action_effect, verdict_of_result, decided_by_guard, actions_verdict, names_at_start, verdict_on}
-use Rattle.action_meaning.specs.Laws.{VerdictIgnoresLines, CanonMeansTheSame}
+use Rattle.action_meaning.specs.Laws.{VerdictIgnoresLines}
 
 -- ---- guards, sums and ports
 
@@ -100,8 +99,3 @@ program_bare p c id = ap (λ xs. actions_verdict p.guard xs c id zero (map bare_
 
 pub verdict_ignores_lines : VerdictIgnoresLines
 verdict_ignores_lines p q e c id = sym (program_bare p c id) ∙ ap (λ r. verdict_on r c id) e ∙ program_bare q c id
-
-pub canon_means_the_same : CanonMeansTheSame
-canon_means_the_same p ts last writable kept are =
-    let read = canon_reads_back p writable ts last are in
-    (read, rules_ignore_lines p read.program (sym read.same) kept, verdict_ignores_lines read.program p read.same)

@@ -1,8 +1,6 @@
 -- What holds of the verdict of every program.
 use Rattle.std.specs.Prelude.{◌≡◌, ◌≢◌, ℕ, true, List, [], IsSome, map}
 use Rattle.std.specs.declared.result.Result.TheVariants.{Ok}
-use Rattle.text_tokens.specs.declared.refusal.Refusal.{Refusal}
-use Rattle.text_tokens.specs.Text.{Lexeme, AreTokens}
 use Rattle.amoebot_state.specs.declared.verdict.Entry.{Entry}
 use Rattle.amoebot_state.specs.declared.verdict.Failure.TheVariants.{Blocked}
 use Rattle.amoebot_state.specs.declared.verdict.Verdict.{Verdict}
@@ -14,10 +12,6 @@ use Rattle.model_ops.specs.Deciders.{DecidesByActs, DecidesGuarded}
 use Rattle.model_ops.specs.Laws.{StaysConnected}
 use Rattle.action_tree.specs.Trees.{Program}
 use Rattle.action_tree.specs.Lines.{without_lines}
-use Rattle.action_tree.specs.Writable.{is_writable}
-use Rattle.action_print.specs.Canon.{canon}
-use Rattle.action_print.specs.ReadsBack.{AreReadAs}
-use Rattle.action_check.specs.Faults.{AreRulesKept}
 use Rattle.action_meaning.specs.Verdicts.{verdict_on, verdict_shown}
 use Rattle.action_meaning.specs.Rows.{guard_in_shape, guard_rows, compared_in_shape, compared_rows, sum_in_shape, sum_rows, verdict_in_shape, verdict_rows, verdict_in_queue, queue_rows, guarded_in_queue, guarded_rows}
 use Rattle.action_meaning.specs.Rows.{guard_beside_walls, walled_guard_rows, sum_beside_walls, walled_sum_rows, verdict_beside_walls, walled_verdict_rows, verdict_shut_in, shut_rows}
@@ -74,17 +68,6 @@ VerdictIgnoresLines =
     → without_lines p ≡ without_lines q
     → (c : Config) (i : ℕ)
     → verdict_on p c i ≡ verdict_on q c i
-
--- the canonical text of a program that keeps the rules is read as a program that keeps them too, and has the same verdict
-abbrev pub CanonMeansTheSame : Type 0
-CanonMeansTheSame =
-    (p : Program) (ts : List Lexeme) (last : Refusal)
-    → is_writable p ≡ true
-    → AreRulesKept p
-    → AreTokens (canon p) 0 ts last
-    → (read : AreReadAs p ts last)
-    × AreRulesKept read.program
-    × ((c : Config) (i : ℕ) → verdict_on read.program c i ≡ verdict_on p c i)
 
 -- expressions and programs on small configurations have the values and the verdicts of the tables
 pub record ValuesAreComputed : Type 0 where

@@ -2,7 +2,7 @@
 
 ghost use Rattle.action_meaning.specs.Laws.{VerdictIsShown, ProgramsDecideByActs, GuardedProgramsDecideGuarded};
 ghost use Rattle.action_meaning.specs.Laws.{ProgramStepsStayConnected, ProgramRunsStayConnected, ValuesAreComputed};
-ghost use Rattle.action_meaning.specs.Laws.{BlockedIsShown, VerdictIgnoresLines, CanonMeansTheSame};
+ghost use Rattle.action_meaning.specs.Laws.{BlockedIsShown, VerdictIgnoresLines};
 
 /// The verdict on what a valid configuration shows is the verdict on that configuration, ids without an amoebot allowed.
 #[tactic(auto, using(crate::proofs::Decided::verdict_is_shown))]
@@ -34,11 +34,6 @@ pub fn blocked_is_shown()
 #[tactic(auto, using(crate::proofs::Lineless::verdict_ignores_lines))]
 pub fn verdict_ignores_lines()
     ensures { VerdictIgnoresLines }
-{}
-
-/// The canonical text of a program that keeps the rules is read as a program that keeps them too, and has the same verdict.
-pub fn canon_means_the_same()
-    ensures { CanonMeansTheSame }
 {}
 
 /// Values, failures and verdicts of small expressions and programs on four configurations, two of them with walls. Each form comes once

@@ -4,6 +4,6 @@
 mod laws;
 
 pub use laws::{
-    blocked_is_shown, canon_means_the_same, changes_are_acts, program_runs_stay_connected,
-    values_are_computed, verdict_ignores_lines, verdict_is_shown,
+    blocked_is_shown, changes_are_acts, program_runs_stay_connected, values_are_computed,
+    verdict_ignores_lines, verdict_is_shown,
 };

@@ -20,3 +20,4 @@ pub mod ExamplesLemmas
 pub mod Tables
 pub mod Rooms
 pub mod PlacesLemmas
+pub mod BareLemmas

@@ -5,7 +5,7 @@ use Rattle.std.specs.Fmt.{digits}
 use Rattle.std.proofs.lemmas.Bool.{false≢true}
 use Rattle.outer_io.specs.declared.writing.Sink.{Ghosts as SinkOf}
 use Rattle.claim_core.specs.declared.report.Report.{Report}
-use Rattle.shape_files.specs.Documents.{Contents, HasContents}
+use Rattle.shape_files.specs.Documents.{Contents}
 use Rattle.activation.specs.declared.turn.Turn.{Turn}
 use Rattle.shipped_programs.specs.declared.shipped.Shipped.{Shipped}
 use Rattle.command_words.specs.declared.command.Command.{Command}
@@ -13,13 +13,13 @@ use Rattle.command_words.specs.declared.command.Command.TheVariants.{Document, S
 use Rattle.command_words.specs.declared.command.DocumentCommand.{DocumentCommand}
 use Rattle.command_answers.specs.declared.status.Status.{Status}
 use Rattle.command_answers.specs.declared.status.Status.TheVariants as status
-use Rattle.command_answers.specs.Commands.{MakesTurns, ReadsNothing, form_of}
+use Rattle.command_answers.specs.Commands.{IsDocumentOf, MakesTurns, ReadsNothing}
 use Rattle.command_answers.specs.OfSample.{six_lines}
 use Rattle.text_tokens.specs.Kinds.{name}
 use Rattle.command_answers.specs.Lines.{refusal_line, too_long}
 use Rattle.command_answers.specs.Laws.{OwedIsOne, SameOwed, DocumentsHaveOutcomes, ReportsAreOfTurns, ReportsAreOfDocuments, ReportsAreOfSamples}
 use Rattle.command_answers.specs.Reads.{Read, nothing, whole, above, up_to_fault, some}
-use Rattle.command_answers.specs.Outcomes.{IsOutcome, of_run, of_interleave, agreeing, differing, of_check, of_measure, renewing, renew_differing}
+use Rattle.command_answers.specs.Outcomes.{IsOutcome, of_run, of_interleave, agreeing, differing, of_check, of_measure, renewing, renew_differing, no_place, unwound, not_unwound, rounded, not_rounded, no_erosion, not_ready, not_elected, elected}
 use Rattle.command_answers.specs.Owed.{IsOwed, usage, read_fault, longer, refused, served, shown, sampled}
 use Rattle.amoebot_run.specs.declared.ended.Ended.{Ended}
 use Rattle.amoebot_run.specs.Clauses.{WroteAll, WroteFront}
@@ -168,7 +168,7 @@ six_lines_written law seed Writes command _ _ is (wanting read reads within unto
 
 -- a document is served
 module _ (law : DocumentsHaveOutcomes) (document : List ℕ) (a : Contents) (Writes : List ℕ → Type 0) where
-  serves_owed : (c : DocumentCommand) (read : Read) (s : Status) (report : Option Report) (text : List ℕ) → IsAll document read → HasContents (form_of c) document a → Writes text → IsOwed (Some (Document c)) read s report text → IsServed a c Writes s report ⊎ IsOutsideFault s
+  serves_owed : (c : DocumentCommand) (read : Read) (s : Status) (report : Option Report) (text : List ℕ) → IsAll document read → IsDocumentOf c document a → Writes text → IsOwed (Some (Document c)) read s report text → IsServed a c Writes s report ⊎ IsOutsideFault s
   serves_owed c (whole bytes) s report text same holds writes owes = inl (text, law c document a s report text holds (subst (λ b. IsOwed (Some (Document c)) (whole b) s report text) same owes), writes)
   serves_owed c (above got) s report text same holds writes owes = absurd same
   serves_owed c (up_to_fault got) s report text same holds writes (read_fault d more) = inr tt
@@ -176,7 +176,7 @@ module _ (law : DocumentsHaveOutcomes) (document : List ℕ) (a : Contents) (Wri
   serves_owed c (some got) s report text same holds writes owes = elim owes [ ]
 
   pub serves : {Reads : Read → Type 0} {Cuts : List ℕ → Type 0} {Untouched : Type 0} → ((r : Read) → Reads r → IsAll document r) → (c : DocumentCommand) (command : Option Command) (s : Status) (report : Option Report)
-      → command ≡ Some (Document c) → HasContents (form_of c) document a → IsEnding command Reads Writes Cuts Untouched s report → IsServed a c Writes s report ⊎ IsOutsideFault s
+      → command ≡ Some (Document c) → IsDocumentOf c document a → IsEnding command Reads Writes Cuts Untouched s report → IsServed a c Writes s report ⊎ IsOutsideFault s
   serves is_all c command _ _ is holds (written read s report text reads x writes) = serves_owed c read s report text (is_all read reads) holds writes (subst (λ o. IsOwed o read s report text) is x)
   serves is_all c command _ _ is holds (cut read s report text reads x cuts) = inr tt
   serves is_all c command _ _ is holds (wanting read reads within untouched) = inr tt
@@ -200,6 +200,15 @@ cause_of_outcome a c bytes s report text (of_check p its_program) = tt
 cause_of_outcome a c bytes s report text (of_measure last t its_last measures) = tt
 cause_of_outcome a c bytes s report text (renewing d es agrees) = tt
 cause_of_outcome a c bytes s report text (renew_differing d place differs) = tt
+cause_of_outcome a c bytes s report text (no_place d es place its_journal past) = tt
+cause_of_outcome a c bytes s report text (unwound d es place world its_journal within is) = tt
+cause_of_outcome a c bytes s report text (not_unwound d es place k its_journal within is) = tt
+cause_of_outcome a c bytes s report text (rounded d es rounds waiting agrees is) = tt
+cause_of_outcome a c bytes s report text (not_rounded d place differs) = tt
+cause_of_outcome a c bytes s report text (no_erosion d other) = tt
+cause_of_outcome a c bytes s report text (not_ready d is other) = tt
+cause_of_outcome a c bytes s report text (not_elected d place is ready differs) = tt
+cause_of_outcome a c bytes s report text (elected d es is ready agrees) = tt
 
 cause_of : (command : Option Command) (read : Read) (s : Status) (report : Option Report) (text : List ℕ) → IsOwed command read s report text → Cause command read s
 cause_of command read s report text usage = refl

@@ -33,7 +33,7 @@ pub enum Begun {
 
 /// What is written where the words are no command.
 const USAGE: &str =
-    "usage: run / interleave / replay / check / measure / show NAME / sample NUMBER / renew\n";
+    "usage: run / interleave / replay / check / measure / show NAME / sample NUMBER / renew / rewind NUMBER / rounds / elect\n";
 
 /// What is written where a read failed.
 const READ_FAULT: &str = "read fault\n";

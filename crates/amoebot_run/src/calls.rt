@@ -5,12 +5,12 @@ ghost use Rattle.std.specs.List.{list_any};
 ghost use Rattle.std.specs.String.{string_bytes};
 ghost use Rattle.outer_io.specs.Told.{Rose};
 ghost use Rattle.claim_core.specs.declared.report.Report.{Report as ReportValue};
-ghost use Rattle.shape_files.specs.Documents.{Contents, HasContents};
+ghost use Rattle.shape_files.specs.Documents.{Contents};
 ghost use Rattle.command_words.specs.declared.command.Command.{Command as CommandValue};
 ghost use Rattle.command_words.specs.declared.command.DocumentCommand.{DocumentCommand as DocumentCommandValue};
 ghost use Rattle.command_answers.specs.declared.status.Status.{Status as StatusValue};
 ghost use Rattle.command_words.specs.Syntax.{begins_with_dash};
-ghost use Rattle.command_answers.specs.Commands.{MakesTurns, ReadsNothing, form_of, limit_for};
+ghost use Rattle.command_answers.specs.Commands.{IsDocumentOf, MakesTurns, ReadsNothing, limit_for};
 ghost use Rattle.command_answers.specs.Reads.{nothing, whole};
 ghost use Rattle.command_answers.specs.Owed.{IsOwed};
 ghost use Rattle.command_answers.specs.OfSample.{six_lines};
@@ -104,7 +104,7 @@ pub fn run<R: Threads + Wait + Sync, S: Source, K: Sink, G: Gate>(
     // Of `sample` the six lines are written.
     ensures complete { (c : DocumentCommandValue) (document : List ℕ) (a : Contents)
         → asked words.now ≡ Some (Command.Document c) → S.left input.old ≡ Some document
-        → length document ≤ limit_for (Some (Command.Document c)) → HasContents (form_of c) document a
+        → length document ≤ limit_for (Some (Command.Document c)) → IsDocumentOf c document a
         → IsServed a c (WroteAll K.Sink out.old out.new) result.status result.report ⊎ IsOutsideFault result.status }
     ensures complete_unread { (c : CommandValue) → asked words.now ≡ Some c → ReadsNothing (Some c)
         → (result.status ≡ Status.Done) ⊎ IsUnwritten result.status }
@@ -177,7 +177,7 @@ pub fn run_text<R: Threads + Wait + Sync>(
     // Of `sample` the six lines are written.
     ensures complete { (c : DocumentCommandValue) (a : Contents)
         → asked words.now ≡ Some (Command.Document c)
-        → length bytes.now ≤ limit_for (Some (Command.Document c)) → HasContents (form_of c) bytes.now a
+        → length bytes.now ≤ limit_for (Some (Command.Document c)) → IsDocumentOf c bytes.now a
         → IsServed a c (HasText out.old out.new) result.status result.report ⊎ (result.status ≡ Status.NoMemory) }
     ensures complete_unread { (c : CommandValue) → asked words.now ≡ Some c → ReadsNothing (Some c)
         → (result.status ≡ Status.Done) ⊎ (result.status ≡ Status.NoMemory) }

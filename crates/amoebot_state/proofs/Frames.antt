@@ -11,10 +11,10 @@ use Rattle.tri_lattice.specs.Extent.{Extent, IsArea, index_of, is_in}
 use Rattle.tri_lattice.specs.Lattice.{node_eq}
 use Rattle.tri_lattice.proofs.Boxes.{index_once}
 use Rattle.tri_lattice.proofs.Nodes.{node_eq-true}
-use Rattle.amoebot_state.specs.Configs.{Config, IsValid, frame, is_wall, walled_frame}
+use Rattle.amoebot_state.specs.Configs.{Config, IsValid, is_wall, walled_frame}
 use Rattle.amoebot_state.specs.Refusals.{AreWalls, IsFirstBadWall, is_bad_wall}
 use Rattle.amoebot_state.specs.Storage.{IsFrame, IsMarked, gridded_frame}
-use Rattle.amoebot_state.specs.Walls.{has_node, has_number, node_numbers}
+use Rattle.amoebot_state.specs.Walls.{has_node, has_number, node_numbers, true_places}
 use Rattle.amoebot_state.proofs.Faults.{walled_frame_is_valid}
 use Rattle.amoebot_state.proofs.Members.{Has, here, Has-append_right, one_everywhere}
 use Rattle.amoebot_state.proofs.Options.{none_if}
@@ -95,13 +95,13 @@ frame_kept a maxes walls g area eight marked = record {
   size = marked.size;
 }
 
--- frames are equal exactly where their grids are, if the rest is
-pub frames_same : (a b : Extent) (m n : List ℕ) (g h : List Bool) (r : Bool) → IsFrame (gridded_frame a m g) g → IsFrame (gridded_frame b n h) h → a ≡ b → m ≡ n → Decides r (g ≡ h) → Decides r (frame (gridded_frame a m g) ≡ frame (gridded_frame b n h))
-frames_same a b m n g h r one two areas maxes decides = (
-  λ t. let grids = decides.0 t in λ i. frame (gridded_frame (areas i) (maxes i) (grids i)),
-  λ e.
-      let size : length g ≡ length h = one.size ∙ ap (λ (x : Extent). x.w * x.h) areas ∙ sym two.size in
-      decides.1 (true_places_same g h size (ap (λ (c : Config). c.walls) e)),
+-- walls of one area are the same exactly where their grids are
+pub walls_same : (a b : Extent) (m n : List ℕ) (g h : List Bool) (r : Bool)
+    → IsFrame (gridded_frame a m g) g → IsFrame (gridded_frame b n h) h → a ≡ b → Decides r (g ≡ h)
+    → Decides r ((a ≡ b) × (true_places g ≡ true_places h))
+walls_same a b m n g h r one two areas decides = (
+  λ t. (areas, ap true_places (decides.0 t)),
+  λ e. decides.1 (true_places_same g h (one.size ∙ ap (λ (x : Extent). x.w * x.h) areas ∙ sym two.size) e.1),
 )
 
 -- a node is a wall exactly where it is one of these and lies in the area

@@ -7,6 +7,7 @@ pub mod Distinct
 pub mod Faults
 pub mod FirstFaults
 pub mod Frames
+pub mod Fits
 pub mod Fronts
 pub mod ShownAlone
 pub mod Known
@@ -19,6 +20,7 @@ pub mod Options
 pub mod Owns
 pub mod Patched
 pub mod ReadInOrder
+pub mod Reversed
 pub mod RisingLists
 pub mod Runs
 mod Counterexamples

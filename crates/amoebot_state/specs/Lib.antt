@@ -8,6 +8,8 @@ pub mod Known
 pub mod Ways
 pub mod Around
 pub mod Patches
+pub mod Reversals
+pub mod Fitting
 pub mod Refusals
 pub mod Steps
 pub mod Storage

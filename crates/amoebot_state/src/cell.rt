@@ -1,6 +1,7 @@
 ghost use Rattle.std.specs.Prelude.{◌≡◌, ◌<◌, ◌≤◌, ◌∷◌, ◌++◌, ◌&&◌, [], length, IsTrue, None};
 ghost use Rattle.amoebot_state.specs.Limits.{most_pairs};
 ghost use Rattle.amoebot_state.specs.Pairs.{is_alike, are_alike, triples_alike, plain_patch};
+ghost use Rattle.amoebot_state.specs.Reversals.{reversed_patch};
 
 use crate::bot::Bot;
 use arrayvec::ArrayVec;
@@ -105,6 +106,17 @@ impl Patch {
             plain.push(*name, *after);
         }
         plain
+    }
+
+    /// The patch the other way round: each value before exchanged with the value after.
+    pub fn reversed(&self) -> Patch
+        ensures { result ≡ reversed_patch self.now }
+    {
+        let mut back = Patch::new();
+        for (name, before, after) in self.triples() {
+            back.push(*name, *after, *before);
+        }
+        back
     }
 }
 

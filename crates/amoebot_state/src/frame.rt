@@ -97,9 +97,14 @@ impl Frame {
     pub(crate) fn same(&self, other: &Frame) -> bool
         ensures { Decides result (frame self.now ≡ frame other.now) }
     {
-        self.area == other.area
-            && self.maxes == other.maxes
-            && self.walls.as_slice() == other.walls.as_slice()
+        self.has_area_and_walls_of(other) && self.maxes == other.maxes
+    }
+
+    /// Whether area and walls are those of the other frame.
+    pub(crate) fn has_area_and_walls_of(&self, other: &Frame) -> bool
+        ensures { Decides result ((self.now.area ≡ other.now.area) × (self.now.walls ≡ other.now.walls)) }
+    {
+        self.area == other.area && self.walls.as_slice() == other.walls.as_slice()
     }
 
     pub(crate) fn copy(&self, alloc: Global) -> Result<Frame, NoMemory>

@@ -12,6 +12,7 @@ ghost use Rattle.amoebot_state.specs.Laws.{ShownAloneHoldsTheSame, OccupiedIsOcc
 ghost use Rattle.amoebot_state.specs.Laws.{ShownAloneHasTheZone, NoneIsOutsideTheZone, BesideHoldsTheSame};
 ghost use Rattle.amoebot_state.specs.Laws.{FirstRefusalIsUnique, WalledFrameIsValid, NodesAreTheirNumbers};
 ghost use Rattle.amoebot_state.specs.Laws.{ShownHasTheWalls, BesideHasTheSameWalls};
+ghost use Rattle.amoebot_state.specs.Reversals.{ReversedLeadsBack};
 ghost use Rattle.amoebot_state.specs.Examples.{SmallFaults, SmallRefusals};
 ghost use Rattle.amoebot_state.specs.Laws.{SerialTurnIsUnique};
 
@@ -255,4 +256,9 @@ pub fn occupied_is_occupant()
 /// A turn has at most one answer, and leaves at most one configuration.
 pub fn serial_turn_is_unique()
     ensures { SerialTurnIsUnique }
+{}
+
+/// Where the values before are those of a valid configuration, the patch the other way round leads back to it.
+pub fn reversed_leads_back()
+    ensures { ReversedLeadsBack }
 {}

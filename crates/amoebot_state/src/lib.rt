@@ -4,6 +4,7 @@
 mod bot;
 mod cell;
 mod decider;
+mod fitting;
 mod found;
 mod frame;
 mod grid;
@@ -28,12 +29,13 @@ pub use laws::{
     node_behind_port_is_in_zone, nodes_are_their_numbers, none_is_outside_the_zone,
     occupant_behind_port_is_in_zone, occupied_is_occupant, old_values_are_one,
     ordered_patch_is_diff, patch_lists_what_differs, patched_is_unique, port_leads_beside,
-    run_has_one_last, same_value_is_equality, serial_turn_is_unique, shown_alone_has_the_zone,
-    shown_alone_holds_the_same, shown_alone_is_valid, shown_alone_shows_the_same,
-    shown_has_the_walls, shown_holds_values, shown_lists_zone, six_ports_lead_to_six_nodes,
-    small_faults, small_refusals, step_has_one_result, ten_ports_lead_to_eight_nodes,
-    valid_is_faultless, walled_frame_is_valid, whole_zone_is_shown, zone_has_at_most_nine_bodies,
-    zone_has_at_most_ten_nodes, zone_is_determined, zone_lists_each_cell_once,
+    reversed_leads_back, run_has_one_last, same_value_is_equality, serial_turn_is_unique,
+    shown_alone_has_the_zone, shown_alone_holds_the_same, shown_alone_is_valid,
+    shown_alone_shows_the_same, shown_has_the_walls, shown_holds_values, shown_lists_zone,
+    six_ports_lead_to_six_nodes, small_faults, small_refusals, step_has_one_result,
+    ten_ports_lead_to_eight_nodes, valid_is_faultless, walled_frame_is_valid, whole_zone_is_shown,
+    zone_has_at_most_nine_bodies, zone_has_at_most_ten_nodes, zone_is_determined,
+    zone_lists_each_cell_once,
 };
 pub use next::next_cell;
 pub use reading::KnownZone;

@@ -1,7 +1,7 @@
 ghost use Rattle.std.specs.Prelude.{ℕ, ◌≡◌, ◌⊎◌, ◌+◌, ◌++◌, ◌∷◌, ◌<◌, ◌≤◌, [], OnOk, IfOk, IfErr, length, map, IsSome, Decides};
 ghost use Rattle.std.specs.List.{All, filter_map};
 ghost use Rattle.amoebot_state.specs.Limits.{most_bots, most_nodes, most_walls, node_room, cell_room};
-ghost use Rattle.amoebot_state.specs.Configs.{Config, IsValid, bot_at, is_wall, occupant, frame_of, walled_frame, with_these, with_bot};
+ghost use Rattle.amoebot_state.specs.Configs.{Config, IsValid, bot_at, frame, is_wall, occupant, frame_of, walled_frame, with_these, with_bot};
 ghost use Rattle.amoebot_state.specs.Zones.{IsShown, shown, shown_cell, shown_with, zone, zone_nodes, others};
 ghost use Rattle.amoebot_state.specs.Known.{walls_read};
 ghost use Rattle.amoebot_state.specs.Ways.{reading};
@@ -237,6 +237,13 @@ impl World {
     {
         self.frame.same(&other.frame)
             && same_bots(self.amoebots.as_slice(), other.amoebots.as_slice())
+    }
+
+    /// Whether area and walls are those of the other world.
+    pub fn has_area_and_walls_of(&self, other: &World) -> bool
+        ensures { Decides result ((self.now.area ≡ other.now.area) × (self.now.walls ≡ other.now.walls)) }
+    {
+        self.frame.has_area_and_walls_of(&other.frame)
     }
 
     /// The same world once more.

@@ -68,7 +68,7 @@ pub static SHOWN: [(&str, &str); 3] = [
 ];
 
 /// Words that are no command.
-pub static NO_COMMANDS: [&[&str]; 53] = [
+pub static NO_COMMANDS: [&[&str]; 61] = [
     &[],
     &[""],
     &["Run"],
@@ -122,6 +122,14 @@ pub static NO_COMMANDS: [&[&str]; 53] = [
     &["renew", "x"],
     &["renew", "-1"],
     &["renew", "renew"],
+    &["Rounds"],
+    &["round"],
+    &["rounds", "1"],
+    &["-rounds"],
+    &["Elect"],
+    &["elects"],
+    &["elect", "erosion"],
+    &["elect", "elect"],
 ];
 
 /// Steps of two callers by schedules.

@@ -1,8 +1,10 @@
 //! Reads and writes that fail: each one of a call in turn, and what stands then.
 
 use crate::commands::{COMPARED_AND_CHECKED, INTERLEAVINGS, MEASURED, SHOWN};
+use crate::electing::OLD_VALUES;
 use crate::pieces::{Row, WORKED};
 use crate::renewals::{DIFFERENT, RENEWED};
+use crate::rounding::COUNTED;
 use crate::tests::{call, joined};
 use amoebot_run::Status;
 use outer_io::{Failed, MemSink, MemSource, Source, SureSink, SureSource};
@@ -175,6 +177,18 @@ fn each_failing_call_of_a_renewal_gives_its_status(rt: HostRuntime) -> Result<()
     check_each_call(&rt, rt.alloc(), &DIFFERENT[0])
 }
 
+#[test]
+fn each_failing_call_of_a_count_of_rounds_gives_its_status(rt: HostRuntime) -> Result<(), Fail> {
+    check_each_call(&rt, rt.alloc(), &COUNTED[0])?;
+    check_each_call(&rt, rt.alloc(), &COUNTED[1])
+}
+
+#[test]
+fn each_failing_call_of_an_election_gives_its_status(rt: HostRuntime) -> Result<(), Fail> {
+    check_each_call(&rt, rt.alloc(), &OLD_VALUES[0])?;
+    check_each_call(&rt, rt.alloc(), &OLD_VALUES[1])
+}
+
 /// The text of a shipped program is its own canonical text.
 #[test]
 fn each_failing_call_of_a_check_gives_its_status(rt: HostRuntime) -> Result<(), Fail> {
@@ -214,12 +228,14 @@ fn the_third_read_fails_and_then_the_second_write(rt: HostRuntime) -> Result<(),
 /// A line that says what is wrong fails as a text does.
 #[test]
 fn a_line_that_is_not_written_is_a_write_fault(rt: HostRuntime) -> Result<(), Fail> {
-    let lines: [(&[&str], &str, &[u32], &str); 5] = [
+    let lines: [(&[&str], &str, &[u32], &str); 7] = [
         (&["walk"], "", &[], "usage: run / interle"),
         (&["run"], "", &[], "refused 1 Truncated\n"),
         (&["run"], "amoebot 1", &[0], "read fault"),
         (&["replay"], OTHER_SHAPE, &[], "differs 1\n"),
         (&["renew"], OTHER_SHAPE, &[], "differs 1\n"),
+        (&["rounds"], OTHER_SHAPE, &[], "differs 1\n"),
+        (&["elect"], OTHER_SHAPE, &[], "refused 0 NotErosion\n"),
     ];
     for (words, document, failing, line) in lines {
         let mut input = MemSource::new(rt.alloc(), document.as_bytes(), PIECE, failing)?;

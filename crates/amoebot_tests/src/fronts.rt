@@ -5,8 +5,10 @@
 //! name may stand. Else that token is at fault.
 
 use crate::commands::{COMPARED_AND_CHECKED, INTERLEAVINGS, MEASURED, SHOWN};
+use crate::electing::OLD_VALUES;
 use crate::pieces::{Row, WORKED};
 use crate::renewals::RENEWED;
+use crate::rounding::COUNTED;
 use crate::tests::{check, joined};
 use amoebot_run::Status;
 use std::alloc::{AllocError, Global};
@@ -249,6 +251,19 @@ fn fronts_of_a_journal_end_before_its_last_shape(rt: HostRuntime) -> Result<(), 
 #[test]
 fn fronts_of_a_renewed_document_end_before_its_last_shape(rt: HostRuntime) -> Result<(), Fail> {
     check_row(&rt, rt.alloc(), &RENEWED[1], 4)?;
+    Ok(())
+}
+
+#[test]
+fn fronts_of_a_counted_journal_end_before_its_last_shape(rt: HostRuntime) -> Result<(), Fail> {
+    check_row(&rt, rt.alloc(), &COUNTED[0], 4)?;
+    Ok(())
+}
+
+/// The document has old values in its journal.
+#[test]
+fn fronts_of_an_election_end_before_its_last_shape(rt: HostRuntime) -> Result<(), Fail> {
+    check_row(&rt, rt.alloc(), &OLD_VALUES[0], 4)?;
     Ok(())
 }
 

@@ -4,6 +4,8 @@
 #[cfg(test)]
 mod commands;
 #[cfg(test)]
+mod electing;
+#[cfg(test)]
 mod failing;
 #[cfg(test)]
 mod faults;
@@ -18,9 +20,17 @@ mod old_values;
 #[cfg(test)]
 mod pieces;
 #[cfg(test)]
+mod plain_rounds;
+#[cfg(test)]
 mod renewals;
 #[cfg(test)]
 mod reports;
+#[cfg(test)]
+mod rewind_faults;
+#[cfg(test)]
+mod rewinding;
+#[cfg(test)]
+mod rounding;
 #[cfg(test)]
 mod runs;
 #[cfg(test)]

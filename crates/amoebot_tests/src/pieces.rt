@@ -12,6 +12,9 @@ pub type Row = (
     &'static [&'static str],
 );
 
+/// A document of version 1 in pieces, and what a command writes of it.
+pub type Told = (&'static [&'static str], &'static str);
+
 /// The word of a command, its document in pieces, and the line and the kind of the refusal, with its text.
 pub type Fault = (
     &'static str,
@@ -45,6 +48,12 @@ pub const PUSH: &str = "amoebot 1\nprogram\naction a when true move push head 0\
 
 pub const PULL: &str = "amoebot 1\nprogram\naction a when true move pull tail 3\nend\n";
 
+/// The leader election of the shipped programs, line by line.
+pub const ERODE: &str = "amoebot 1\nprogram\nguard off\nvar cand 1\nvar leader 1\naction lead\n\
+    when cand = 1 and leader = 0 and not any p in ports ( p . cand = 1 )\ndo leader := 1\n\
+    action erode\nwhen cand = 1 and count p in ports ( p . cand = 1\n \
+    and not ( linked turn p 1 and turn p 1 . cand = 1 ) ) = 1\ndo cand := 0\nend\n";
+
 // ---- shapes, of four lines where there is one amoebot
 
 pub const ONE: &str = "shape\narea 0 0 8 8\nbot 2 3 2 3 0 +\nend\n";
@@ -59,6 +68,16 @@ pub const FAR: &str = "shape\narea 0 0 8 8\nbot 1 1 1 1 0 +\nbot 6 6 6 6 0 +\nen
 pub const TRAILED: &str = "shape\narea 0 0 8 8\nbot 3 3 2 3 0 +\nbot 1 3 1 3 0 +\nend\n";
 
 pub const TRAILED_0: &str = "shape\narea 0 0 8 8\nbot 3 3 2 3 0 + 0\nbot 1 3 1 3 0 + 0\nend\n";
+
+/// A ring of six candidates round an empty node.
+pub const SIX: &str = "shape\narea 0 0 8 8\n\
+    bot 4 3 4 3 0 + 1 0\nbot 3 4 3 4 0 + 1 0\nbot 2 4 2 4 0 + 1 0\n\
+    bot 2 3 2 3 0 + 1 0\nbot 3 2 3 2 0 + 1 0\nbot 4 2 4 2 0 + 1 0\nend\n";
+
+/// A candidate, and the ring of six round it.
+pub const SEVEN: &str = "shape\narea 0 0 8 8\nbot 3 3 3 3 0 + 1 0\n\
+    bot 4 3 4 3 0 + 1 0\nbot 3 4 3 4 0 + 1 0\nbot 2 4 2 4 0 + 1 0\n\
+    bot 2 3 2 3 0 + 1 0\nbot 3 2 3 2 0 + 1 0\nbot 4 2 4 2 0 + 1 0\nend\n";
 
 // ---- lists
 
@@ -107,6 +126,24 @@ pub const DRAGGED_EXCHANGED: &str = "journal\n\
     end\n";
 
 pub const DRAGGED_FINAL: &str = "final\narea 0 0 8 8\nbot 3 3 3 3 0 + 0\nbot 2 3 1 3 0 + 1\nend\n";
+
+pub const SIX_FINAL: &str = "final\narea 0 0 8 8\n\
+    bot 4 3 4 3 0 + 1 0\nbot 3 4 3 4 0 + 1 0\nbot 2 4 2 4 0 + 1 0\n\
+    bot 2 3 2 3 0 + 1 0\nbot 3 2 3 2 0 + 1 0\nbot 4 2 4 2 0 + 1 0\nend\n";
+
+/// Each of the ring gives up, and then the one in the middle leads.
+pub const SEVEN_JOURNAL: &str = "journal\n\
+    entry 0 0 1 1 1 none body 1 4 3 4 3 0 + 0 0\n\
+    entry 1 0 2 2 1 none body 2 3 4 3 4 0 + 0 0\n\
+    entry 2 0 3 3 1 none body 3 2 4 2 4 0 + 0 0\n\
+    entry 3 0 4 4 1 none body 4 2 3 2 3 0 + 0 0\n\
+    entry 4 0 5 5 1 none body 5 3 2 3 2 0 + 0 0\n\
+    entry 5 0 6 6 1 none body 6 4 2 4 2 0 + 0 0\n\
+    entry 6 0 7 0 0 none body 0 3 3 3 3 0 + 1 1\nend\n";
+
+pub const SEVEN_FINAL: &str = "final\narea 0 0 8 8\nbot 3 3 3 3 0 + 1 1\n\
+    bot 4 3 4 3 0 + 0 0\nbot 3 4 3 4 0 + 0 0\nbot 2 4 2 4 0 + 0 0\n\
+    bot 2 3 2 3 0 + 0 0\nbot 3 2 3 2 0 + 0 0\nbot 4 2 4 2 0 + 0 0\nend\n";
 
 /// The worked example: an amoebot expands, and then it is idle.
 pub const WORKED: Row = (

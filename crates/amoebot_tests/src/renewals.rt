@@ -17,17 +17,19 @@ use text_tokens::Refusal;
 use text_tokens::RefusalKind::{OutOfBox, Trailing, Truncated, Unexpected, WrongSection};
 
 /// A document on which the journal agrees, in pieces; what `replay` says of it; and what `renew` writes of it.
-type Renewal = (
+pub type Renewal = (
     &'static [&'static str],
     &'static str,
     &'static [&'static str],
 );
 
+const BOTH: [&str; 2] = ["replay", "renew"];
+
 /// The header and the program of the worked example, as they are renewed.
-const OUT_RENEWED: &str =
+pub const OUT_RENEWED: &str =
     "amoebot 3\nprogram\nguard off\naction out\nwhen contracted\nmove expand head 0\nend\n";
 
-const EXPANDED_FINAL: &str = "final\narea 0 0 8 8\nbot 3 3 2 3 0 +\nend\n";
+pub const EXPANDED_FINAL: &str = "final\narea 0 0 8 8\nbot 3 3 2 3 0 +\nend\n";
 
 const WORKED_TURNS: &str = "turns\nturn 0 0 done 0\nturn 0 1 idle 1\nend\n";
 
@@ -49,7 +51,7 @@ pub static RENEWED: [Row; 2] = [
     ),
 ];
 
-static RENEWALS: [Renewal; 9] = [
+pub static RENEWALS: [Renewal; 9] = [
     (
         &[OUT, ONE, TWO_TURNS, EXPANDED, EXPANDED_FINAL, WORKED_TURNS],
         "agrees 1\n",
@@ -225,7 +227,7 @@ pub static DIFFERENT: [Row; 4] = [
 ];
 
 /// Documents that are none of the form Replay.
-static REFUSED: [Fault; 5] = [
+pub static REFUSED: [Fault; 5] = [
     // There is no journal.
     (
         "replay",
@@ -280,15 +282,16 @@ fn check_renewal<R: Abort + Threads + Wait + Sync>(
     Ok(())
 }
 
-/// `renew` and `replay` refuse each document as its row says.
-fn check_refused<R: Abort + Threads + Wait + Sync>(
+/// Each of the commands refuses each document as its row says.
+pub(crate) fn check_refused<R: Abort + Threads + Wait + Sync>(
     rt: &R,
     alloc: Global,
+    commands: &[&str],
     faults: &[Fault],
 ) -> Result<(), AllocError> {
     for (_, pieces, line, kind, text) in faults {
         let document = joined(alloc, pieces)?;
-        for word in ["replay", "renew"] {
+        for word in commands {
             let status = Status::Refused(Refusal {
                 line: *line,
                 kind: *kind,
@@ -299,17 +302,18 @@ fn check_refused<R: Abort + Threads + Wait + Sync>(
     Ok(())
 }
 
-/// `renew` and `replay` say the same of each journal that differs.
-fn check_different<R: Abort + Threads + Wait + Sync>(
+/// Each of the commands says of each journal that differs what its row says.
+pub(crate) fn check_different<R: Abort + Threads + Wait + Sync>(
     rt: &R,
     alloc: Global,
+    commands: &[&str],
     rows: &[Row],
 ) -> Result<(), AllocError> {
     for (_, pieces, status, entries, texts) in rows {
         let document = joined(alloc, pieces)?;
         let text = joined(alloc, texts)?;
         if *status != Done {
-            for word in ["replay", "renew"] {
+            for word in commands {
                 check(
                     rt,
                     alloc,
@@ -336,16 +340,16 @@ fn a_document_is_renewed_once_and_then_stays(rt: HostRuntime) -> Result<(), Fail
 
 #[test]
 fn a_journal_that_differs_is_not_renewed(rt: HostRuntime) -> Result<(), Fail> {
-    check_different(&rt, rt.alloc(), &DIFFERENT)?;
-    check_different(&rt, rt.alloc(), &old_values::COMPARED)?;
-    check_different(&rt, rt.alloc(), &tampered::COMPARED)?;
+    check_different(&rt, rt.alloc(), &BOTH, &DIFFERENT)?;
+    check_different(&rt, rt.alloc(), &BOTH, &old_values::COMPARED)?;
+    check_different(&rt, rt.alloc(), &BOTH, &tampered::COMPARED)?;
     Ok(())
 }
 
 #[test]
 fn renew_refuses_what_replay_refuses(rt: HostRuntime) -> Result<(), Fail> {
-    check_refused(&rt, rt.alloc(), &REFUSED)?;
-    check_refused(&rt, rt.alloc(), &old_values::REFUSED)?;
-    check_refused(&rt, rt.alloc(), &tampered::REFUSED)?;
+    check_refused(&rt, rt.alloc(), &BOTH, &REFUSED)?;
+    check_refused(&rt, rt.alloc(), &BOTH, &old_values::REFUSED)?;
+    check_refused(&rt, rt.alloc(), &BOTH, &tampered::REFUSED)?;
     Ok(())
 }

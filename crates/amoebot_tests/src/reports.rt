@@ -19,13 +19,13 @@ use std::thread::Threads;
 
 /// What a run leaves: its report, and the document with the text behind it.
 #[derive(Drop)]
-struct Replayed {
-    report: Report,
-    whole: Vec<u8>,
+pub(crate) struct Replayed {
+    pub(crate) report: Report,
+    pub(crate) whole: Vec<u8>,
 }
 
 /// Runs the document, whose last byte is LF, and compares what `replay` says of it with the text behind it.
-fn run_and_replay<R: Abort + Threads + Wait + Sync>(
+pub(crate) fn run_and_replay<R: Abort + Threads + Wait + Sync>(
     rt: &R,
     alloc: Global,
     document: &str,

@@ -195,7 +195,7 @@ fn looks_at_no_document_above_the_limit(rt: HostRuntime) -> Result<(), Fail> {
         }
         blanks.push(b' ')?;
     }
-    for word in ["replay", "renew"] {
+    for word in ["replay", "renew", "rounds", "elect"] {
         check(
             &rt,
             rt.alloc(),
@@ -267,7 +267,7 @@ impl Sink for FailingSink {
 #[test]
 fn judges_the_words_before_it_reads(rt: HostRuntime) -> Result<(), Fail> {
     let usage =
-        "usage: run / interleave / replay / check / measure / show NAME / sample NUMBER / renew\n";
+        "usage: run / interleave / replay / check / measure / show NAME / sample NUMBER / renew / rewind NUMBER / rounds / elect\n";
     for texts in &NO_COMMANDS {
         let mut input = unread(rt.alloc())?;
         check_line(&rt, rt.alloc(), texts, &mut input, Status::Words, usage)?;

@@ -38,14 +38,14 @@ use Rattle.command_answers.specs.Reads.{whole}
 use Rattle.command_answers.specs.Outcomes.{DocumentLists, DocumentRecord, JournalAgrees, JournalDiffers, in_plain, of_run, of_interleave, agreeing, differing, of_check, of_measure, renewing, renew_differing}
 use Rattle.command_answers.specs.Owed.{IsOwed, usage, read_fault, longer, refused, served, shown}
 use Rattle.command_answers.specs.Answers.{of_document}
-use Rattle.command_words.specs.Words.{is_number_word, of_two_words, numbered_by}
+use Rattle.command_words.specs.Words.{is_number_word, of_two_words, number_of}
 use Rattle.command_answers.specs.Examples.{with_shape, with_nobody, with_list, with_two_lists, with_schedule, expansion_journal, spread_text, still_text, spread_config, one_list, two_lists, schedule, expansion, and_nobody, and_list, and_two_lists, and_schedule, and_journal, expansion_report, expansion_report_text, renewed_expansion, two_callers_report, both_text, empty_refused, SmallAnswers}
 use Rattle.command_answers.proofs.SmallDocuments.{says, are_answered}
 
 abbrev g : Setup
 g = setup (verdict_shown out) one_alone one_list
 
-valid : IsValid one_alone
+pub valid : IsValid one_alone
 valid = valid_one row_frame (frame_valid row_frame is_area refl) (bot_in_row 1 1) (plain_in row_area is_area (bot_in_row 1 1) refl refl (omega arith) refl) refl
 
 only_bot : All (IsThereIn one_alone) (0 ∷ [])
@@ -110,12 +110,16 @@ its_two_lists = record { program = out; start = one_alone; lists = two_lists; it
 abbrev its_schedule : DocumentLists and_schedule
 its_schedule = record { program = out; start = one_alone; lists = one_list; its_program = refl; its_shape = refl; its_lists = refl }
 
-abbrev its_record : (final : Config) → DocumentRecord (and_journal final)
+abbrev pub its_record : (final : Config) → DocumentRecord (and_journal final)
 its_record final = record { program = out; start = one_alone; final = final; its_program = refl; its_shape = refl; its_final = refl }
 
-module _ (goods : ReachedIsGood) (serials : OneListIsSerial) where
-  good : Good (verdict_shown out) one_alone one_list expansion_report
+module _ (goods : ReachedIsGood) where
+  pub good : Good (verdict_shown out) one_alone one_list expansion_report
   good = goods g may_run expansion_report reached
+
+  -- the last world of a run is valid
+  pub spread_is_valid : IsValid spread_config
+  spread_is_valid = subst IsValid (sym good.run.2) good.run.1.patched.valid
 
   both_good : Good (verdict_shown out) one_alone two_lists two_callers_report
   both_good = goods both both_may_run two_callers_report both_reached
@@ -127,16 +131,17 @@ module _ (goods : ReachedIsGood) (serials : OneListIsSerial) where
   its_journal_agrees : JournalAgrees (and_journal spread_config) (its_record spread_config) (expansion ∷ [])
   its_journal_agrees = record { told = inr refl; agrees = good.run }
 
-  its_journal_differs : JournalDiffers (and_journal one_alone) (its_record one_alone) 1
+  pub its_journal_differs : JournalDiffers (and_journal one_alone) (its_record one_alone) 1
   its_journal_differs = in_plain (plain_entry expansion ∷ []) 1 refl (at_end spread_config plain_run (λ same. let e = ap (λ (c : Config). occupant c (node 2)) same in cc))
 
+module _ (goods : ReachedIsGood) (serials : OneListIsSerial) where
   -- each good report that an interleaving gives is owed
   owes_report : (report : Report) → Good (verdict_shown out) one_alone one_list report → Reached g report → IsOwed (Some (Document Run)) (whole with_list) status.Done (Some report) (report_text 1 0 report)
   owes_report report its_good its_reached = served Run with_list and_list status.Done (Some report) (report_text 1 0 report) (says form.Run with_list (Ok and_list) are_answered.list)
       (of_run its_lists report its_good its_reached (λ few. serials (verdict_shown out) one_alone one_list report few its_good))
 
   pub small_answers : SmallAnswers
-  unfolding digits name of_two_words numbered_by is_number_word
+  unfolding digits name of_two_words number_of is_number_word
   small_answers = record {
     no_words = usage;
     two_words = usage;
@@ -145,13 +150,13 @@ module _ (goods : ReachedIsGood) (serials : OneListIsSerial) where
     fails = read_fault Run (codes "amoe");
     long = λ bytes. longer Check bytes;
     empty = refused Interleave [] empty_refused (says form.Interleave [] (Err empty_refused) are_answered.empty);
-    run = owes_report expansion_report good reached;
-    two_lists = served Run with_two_lists and_two_lists status.Done (Some two_callers_report) both_text (says form.Run with_two_lists (Ok and_two_lists) are_answered.two_lists) (of_run its_two_lists two_callers_report both_good both_reached (λ few. absurd (omega arith)));
-    interleave = served Interleave with_schedule and_schedule status.Done (Some expansion_report) expansion_report_text (says form.Interleave with_schedule (Ok and_schedule) are_answered.schedule) (of_interleave its_schedule schedule expansion_report refl good reached scheduled);
-    agrees = served Replay (with_shape ++ expansion_journal ++ spread_text) (and_journal spread_config) status.Done None (codes "agrees 1\n") (says form.Replay (with_shape ++ expansion_journal ++ spread_text) (Ok (and_journal spread_config)) are_answered.journal) (agreeing (its_record spread_config) (expansion ∷ []) its_journal_agrees);
-    differs = served Replay (with_shape ++ expansion_journal ++ still_text) (and_journal one_alone) (status.Differs 1) None (codes "differs 1\n") (says form.Replay (with_shape ++ expansion_journal ++ still_text) (Ok (and_journal one_alone)) are_answered.other_final) (differing (its_record one_alone) 1 its_journal_differs);
-    renew = served Renew (with_shape ++ expansion_journal ++ spread_text) (and_journal spread_config) status.Done None renewed_expansion (says form.Replay (with_shape ++ expansion_journal ++ spread_text) (Ok (and_journal spread_config)) are_answered.journal) (renewing (its_record spread_config) (expansion ∷ []) its_journal_agrees);
-    renew_differs = served Renew (with_shape ++ expansion_journal ++ still_text) (and_journal one_alone) (status.Differs 1) None (codes "differs 1\n") (says form.Replay (with_shape ++ expansion_journal ++ still_text) (Ok (and_journal one_alone)) are_answered.other_final) (renew_differing (its_record one_alone) 1 its_journal_differs);
+    run = owes_report expansion_report (good goods) reached;
+    two_lists = served Run with_two_lists and_two_lists status.Done (Some two_callers_report) both_text (says form.Run with_two_lists (Ok and_two_lists) are_answered.two_lists) (of_run its_two_lists two_callers_report (both_good goods) both_reached (λ few. absurd (omega arith)));
+    interleave = served Interleave with_schedule and_schedule status.Done (Some expansion_report) expansion_report_text (says form.Interleave with_schedule (Ok and_schedule) are_answered.schedule) (of_interleave its_schedule schedule expansion_report refl (good goods) reached scheduled);
+    agrees = served Replay (with_shape ++ expansion_journal ++ spread_text) (and_journal spread_config) status.Done None (codes "agrees 1\n") (says form.Replay (with_shape ++ expansion_journal ++ spread_text) (Ok (and_journal spread_config)) are_answered.journal) (agreeing (its_record spread_config) (expansion ∷ []) (its_journal_agrees goods));
+    differs = served Replay (with_shape ++ expansion_journal ++ still_text) (and_journal one_alone) (status.Differs 1) None (codes "differs 1\n") (says form.Replay (with_shape ++ expansion_journal ++ still_text) (Ok (and_journal one_alone)) are_answered.other_final) (differing (its_record one_alone) 1 (its_journal_differs goods));
+    renew = served Renew (with_shape ++ expansion_journal ++ spread_text) (and_journal spread_config) status.Done None renewed_expansion (says form.Replay (with_shape ++ expansion_journal ++ spread_text) (Ok (and_journal spread_config)) are_answered.journal) (renewing (its_record spread_config) (expansion ∷ []) (its_journal_agrees goods));
+    renew_differs = served Renew (with_shape ++ expansion_journal ++ still_text) (and_journal one_alone) (status.Differs 1) None (codes "differs 1\n") (says form.Replay (with_shape ++ expansion_journal ++ still_text) (Ok (and_journal one_alone)) are_answered.other_final) (renew_differing (its_record one_alone) 1 (its_journal_differs goods));
     check = served Check program_text only_program status.Done None _ (says form.Check program_text (Ok only_program) are_answered.program) (of_check out refl);
     show = shown Line;
     measure = served Measure with_nobody and_nobody status.Done None _ (says form.Measure with_nobody (Ok and_nobody) are_answered.nobody) (of_measure nobody _ refl nobody_is_measured);

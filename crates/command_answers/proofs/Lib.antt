@@ -5,6 +5,7 @@ pub mod OwedLemmas
 pub mod SampleLemmas
 pub mod SomethingOwedLemmas
 pub mod ExampleLemmas
+pub mod ExplainExampleLemmas
 pub mod SmallDocuments
 pub mod TaskLemmas
 pub mod Bodies
@@ -17,3 +18,9 @@ pub mod MarkLemmas
 pub mod Interleaved
 pub mod Replayed
 pub mod Renewed
+pub mod ElectSteps
+pub mod ElectLemmas
+pub mod CommandDocuments
+pub mod RewindLemmas
+pub mod RoundsLemmas
+pub mod RoundsEnds

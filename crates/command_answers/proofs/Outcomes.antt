@@ -5,24 +5,25 @@ use Rattle.std.proofs.lemmas.Bool.{false≢true}
 use Rattle.claim_core.specs.declared.report.Report.{Report}
 use Rattle.claim_core.specs.Laws.{OneListIsSerial}
 use Rattle.action_meaning.specs.Verdicts.{verdict_shown}
-use Rattle.shape_files.specs.Documents.{Contents, HasContents, DocumentsAreDecided}
+use Rattle.shape_files.specs.Documents.{Contents}
+use Rattle.shape_files.specs.LeastVersions.{DecidedFromEach}
 use Rattle.run_sample.specs.Laws.{SampleIsFit}
 use Rattle.command_runs.specs.Laws.{GoodStaysConnected}
 use Rattle.command_words.specs.declared.command.Command.TheVariants.{Document}
 use Rattle.command_words.specs.declared.command.DocumentCommand.{DocumentCommand}
 use Rattle.command_answers.specs.declared.status.Status.{Status}
 use Rattle.command_answers.specs.declared.status.Status.TheVariants as status
-use Rattle.command_answers.specs.Commands.{IsWorked, MakesTurns, form_of}
-use Rattle.command_answers.specs.Outcomes.{IsOutcome, of_run, of_interleave, agreeing, differing, of_check, of_measure, renewing, renew_differing}
+use Rattle.command_answers.specs.Commands.{IsDocumentOf, IsWorked, MakesTurns}
+use Rattle.command_answers.specs.Outcomes.{IsOutcome, of_run, of_interleave, agreeing, differing, of_check, of_measure, renewing, renew_differing, no_place, unwound, not_unwound, rounded, not_rounded, no_erosion, not_ready, not_elected, elected}
 use Rattle.command_answers.specs.Owed.{usage, read_fault, longer, refused, served, shown, sampled}
 use Rattle.command_answers.specs.Headline.{IsRunOfDocument}
 use Rattle.command_answers.specs.Laws.{DocumentsHaveOutcomes, ReportsAreOfTurns, ReportsAreOfDocuments, ReportsAreOfSamples}
 use Rattle.command_answers.proofs.SampleLemmas.{told_by_sample}
 use Rattle.command_answers.proofs.OwedLemmas.{same_contents, not_both}
 
-pub documents_have_outcomes : DocumentsAreDecided → DocumentsHaveOutcomes
-documents_have_outcomes documents c bytes a s report text h (refused d same r x) = absurd (not_both documents (form_of c) bytes a r h x)
-documents_have_outcomes documents c bytes a s report text h (served d same b t told v x is) = subst (λ (k : Contents). IsOutcome k c s report text) (same_contents documents (form_of c) bytes b a x h) is
+pub documents_have_outcomes : DecidedFromEach → DocumentsHaveOutcomes
+documents_have_outcomes documents c bytes a s report text h (refused d same r x) = absurd (not_both documents c bytes a r h x)
+documents_have_outcomes documents c bytes a s report text h (served d same b t told v x is) = subst (λ (k : Contents). IsOutcome k c s report text) (same_contents documents c bytes b a x h) is
 
 -- a command whose turns workers make has no other outcome than that it is done
 pub worked_is_done : (a : Contents) (c : DocumentCommand) (s : Status) (report : Option Report) (text : List ℕ) → IsWorked (Some (Document c)) → IsOutcome a c s report text → s ≡ status.Done
@@ -34,6 +35,15 @@ worked_is_done a c s report text worked (of_check program its_program) = refl
 worked_is_done a c s report text worked (of_measure last t its_last measures) = refl
 worked_is_done a c s report text worked (renewing d es agrees) = refl
 worked_is_done a c s report text worked (renew_differing d place differs) = absurd worked
+worked_is_done a c s report text worked (no_place d es place its_journal above) = absurd worked
+worked_is_done a c s report text worked (unwound d es place world its_journal within is) = refl
+worked_is_done a c s report text worked (not_unwound d es place k its_journal within is) = absurd worked
+worked_is_done a c s report text worked (rounded d es rounds waiting agrees is) = refl
+worked_is_done a c s report text worked (not_rounded d place differs) = absurd worked
+worked_is_done a c s report text worked (no_erosion d other) = absurd worked
+worked_is_done a c s report text worked (not_ready d is other) = absurd worked
+worked_is_done a c s report text worked (not_elected d place is ready differs) = absurd worked
+worked_is_done a c s report text worked (elected d es is ready agrees) = refl
 
 -- ---- by whom a report is owed
 
@@ -46,6 +56,15 @@ outcomes_are_of_turns a c s report text (of_check program its_program) = (λ som
 outcomes_are_of_turns a c s report text (of_measure last t its_last measures) = (λ some. absurd (false≢true some), λ (is, makes). absurd makes)
 outcomes_are_of_turns a c s report text (renewing d es agrees) = (λ some. absurd (false≢true some), λ (is, makes). absurd makes)
 outcomes_are_of_turns a c s report text (renew_differing d place differs) = (λ some. absurd (false≢true some), λ (is, makes). absurd makes)
+outcomes_are_of_turns a c s report text (no_place d es place its_journal above) = (λ some. absurd (false≢true some), λ (is, makes). absurd makes)
+outcomes_are_of_turns a c s report text (unwound d es place world its_journal within is) = (λ some. absurd (false≢true some), λ (is, makes). absurd makes)
+outcomes_are_of_turns a c s report text (not_unwound d es place k its_journal within is) = (λ some. absurd (false≢true some), λ (is, makes). absurd makes)
+outcomes_are_of_turns a c s report text (rounded d es rounds waiting agrees is) = (λ some. absurd (false≢true some), λ (is, makes). absurd makes)
+outcomes_are_of_turns a c s report text (not_rounded d place differs) = (λ some. absurd (false≢true some), λ (is, makes). absurd makes)
+outcomes_are_of_turns a c s report text (no_erosion d other) = (λ some. absurd (false≢true some), λ (is, makes). absurd makes)
+outcomes_are_of_turns a c s report text (not_ready d is other) = (λ some. absurd (false≢true some), λ (is, makes). absurd makes)
+outcomes_are_of_turns a c s report text (not_elected d place is ready differs) = (λ some. absurd (false≢true some), λ (is, makes). absurd makes)
+outcomes_are_of_turns a c s report text (elected d es is ready agrees) = (λ some. absurd (false≢true some), λ (is, makes). absurd makes)
 
 pub reports_are_of_turns : ReportsAreOfTurns
 reports_are_of_turns c read s report text usage = (λ some. absurd (false≢true some), λ (is, makes). cc)
@@ -57,7 +76,7 @@ reports_are_of_turns c read s report text (shown p) = (λ some. absurd (false≢
 reports_are_of_turns c read s report text (sampled seed told v x) = (λ some. (refl, tt), λ both. refl)
 
 module _ (stays : GoodStaysConnected) (serials : OneListIsSerial) where
-  told_by_outcome : (c : DocumentCommand) (bytes : List ℕ) (a : Contents) (s : Status) (report : Report) (text : List ℕ) → HasContents (form_of c) bytes a → IsOutcome a c s (Some report) text → IsRunOfDocument c bytes report text
+  told_by_outcome : (c : DocumentCommand) (bytes : List ℕ) (a : Contents) (s : Status) (report : Report) (text : List ℕ) → IsDocumentOf c bytes a → IsOutcome a c s (Some report) text → IsRunOfDocument c bytes report text
   told_by_outcome c bytes a s report text h (of_run d r good reached serial) = record {
     contents = a;
     program = d.program;

@@ -1,5 +1,5 @@
 -- One thing is owed.
-use Rattle.std.proofs.Common.{◌≡◌, ◌≤◌, ℕ, List, length, map, Option, Some, None, Result, Ok, Err, inl, inr, ap, sym, subst, refl, ◌∙◌}
+use Rattle.std.proofs.Common.{◌≡◌, ◌<◌, ◌≤◌, ℕ, List, length, map, codes, Option, Some, None, Result, Ok, Err, inl, inr, ap, sym, subst, refl, ◌∙◌, arith}
 use Rattle.std.specs.Prelude.{IfSome}
 use Rattle.std.proofs.lemmas.Bool.{cases_Bool}
 use Rattle.std.proofs.lemmas.Option.{none-some}
@@ -7,20 +7,31 @@ use Rattle.text_tokens.specs.declared.refusal.Refusal.{Refusal}
 use Rattle.amoebot_state.specs.declared.verdict.Entry.{Entry}
 use Rattle.amoebot_state.specs.declared.verdict.PlainEntry.{PlainEntry}
 use Rattle.amoebot_state.specs.Configs.{Config}
-use Rattle.amoebot_state.specs.Steps.{plain_entry}
+use Rattle.amoebot_state.specs.Steps.{OldValuesAreFound, plain_entry}
+use Rattle.model_ops.specs.Laws.{ActsKeepDeciderLaws}
 use Rattle.serial_model.specs.Laws.{PlainRunIsRun, PlainRunIsUnique}
 use Rattle.claim_core.specs.declared.report.Report.{Report}
 use Rattle.claim_core.specs.Turns.{CallerLists}
 use Rattle.claim_core.proofs.Places.{one_at}
+use Rattle.rewind_log.specs.Laws.{UnwoundIsUnique}
+use Rattle.rewind_log.specs.Unwinding.{IsUnwound}
+use Rattle.round_meter.specs.Laws.{RoundsAreUnique}
+use Rattle.round_meter.specs.Rounds.{IsRounded}
+use Rattle.shape_checks.specs.Values.{value_count}
 use Rattle.action_tree.specs.Trees.{Program}
+use Rattle.action_meaning.specs.Laws.{ProgramsDecideByActs}
 use Rattle.action_meaning.specs.Verdicts.{verdict_shown}
-use Rattle.shape_files.specs.declared.section_kind.Form.{Form}
 use Rattle.node_text.specs.Parts.{has_old_values}
-use Rattle.shape_files.specs.Documents.{Contents, HasContents, IsDocumentFault, DocumentsAreDecided}
+use Rattle.shape_text.specs.Texts.{shape_text}
+use Rattle.shape_files.specs.Documents.{Contents}
+use Rattle.shape_files.specs.LeastVersions.{DecidedFromEach, LaterIsDocument}
 use Rattle.shape_files.specs.Fitting.{FitTogether, DocumentsFit}
+use Rattle.election_law.specs.Elections.{IsErosion, IsReadyStart, cand_var, leader_of}
 use Rattle.run_sample.specs.Laws.{SampleIsFit}
 use Rattle.command_runs.specs.Run.{IsRunReport, IsRunText}
 use Rattle.command_runs.specs.Interleave.{IsInterleaveReport, IsInterleaveText}
+use Rattle.command_runs.specs.Elect.{election_text}
+use Rattle.command_runs.specs.Rounds.{rounds_text}
 use Rattle.command_runs.specs.Replay.{agrees_line, differs_line, Agrees, DiffersAt, PlainDiffersAt}
 use Rattle.command_runs.specs.Renew.{renewed_text}
 use Rattle.command_runs.specs.Reports.{report_text}
@@ -32,22 +43,23 @@ use Rattle.command_words.specs.declared.command.DocumentCommand.{DocumentCommand
 use Rattle.command_answers.specs.declared.status.Status.{Status}
 use Rattle.command_answers.specs.declared.status.Status.TheVariants as status
 use Rattle.command_answers.specs.Lines.{refusal_line}
-use Rattle.command_answers.specs.Outcomes.{DocumentLists, DocumentRecord, TellsEntries, JournalAgrees, JournalDiffers, in_full, in_plain, IsOutcome, of_run, of_interleave, agreeing, differing, of_check, of_measure, renewing, renew_differing}
-use Rattle.command_answers.specs.Commands.{form_of}
+use Rattle.command_answers.specs.Outcomes.{DocumentLists, DocumentRecord, TellsEntries, JournalAgrees, JournalDiffers, in_full, in_plain, IsOutcome, of_run, of_interleave, agreeing, differing, of_check, of_measure, renewing, renew_differing, no_place, unwound, not_unwound, rounded, not_rounded, no_erosion, not_ready, not_elected, elected}
+use Rattle.command_answers.specs.Commands.{form_of, least_for, IsDocumentOf, IsDocumentFaultOf}
 use Rattle.command_answers.specs.Owed.{usage, read_fault, longer, refused, served, shown, sampled}
 use Rattle.command_answers.specs.Reads.{whole}
 use Rattle.command_answers.specs.Laws.{SameOwed, OwedIsOne}
+use Rattle.command_answers.proofs.CommandDocuments.{of_form}
 use Rattle.command_answers.proofs.SampleLemmas.{text_is_six_lines}
 
-module _ (documents : DocumentsAreDecided) where
-  pub same_contents : (form : Form) (bytes : List ℕ) (a b : Contents) → HasContents form bytes a → HasContents form bytes b → a ≡ b
-  same_contents form bytes a b x y = let r : Result Contents Refusal = Ok a in let q : Result Contents Refusal = Ok b in let e : r ≡ q = (documents form).one bytes r q x y in cc
+module _ (documents : DecidedFromEach) where
+  pub same_contents : (c : DocumentCommand) (bytes : List ℕ) (a b : Contents) → IsDocumentOf c bytes a → IsDocumentOf c bytes b → a ≡ b
+  same_contents c bytes a b x y = let r : Result Contents Refusal = Ok a in let q : Result Contents Refusal = Ok b in let e : r ≡ q = (documents (least_for c) (form_of c)).one bytes r q x y in cc
 
-  pub same_fault : (form : Form) (bytes : List ℕ) (r q : Refusal) → IsDocumentFault form bytes r → IsDocumentFault form bytes q → r ≡ q
-  same_fault form bytes r q x y = let o : Result Contents Refusal = Err r in let p : Result Contents Refusal = Err q in let e : o ≡ p = (documents form).one bytes o p x y in cc
+  pub same_fault : (c : DocumentCommand) (bytes : List ℕ) (r q : Refusal) → IsDocumentFaultOf c bytes r → IsDocumentFaultOf c bytes q → r ≡ q
+  same_fault c bytes r q x y = let o : Result Contents Refusal = Err r in let p : Result Contents Refusal = Err q in let e : o ≡ p = (documents (least_for c) (form_of c)).one bytes o p x y in cc
 
-  pub not_both : (form : Form) (bytes : List ℕ) (a : Contents) (r : Refusal) → HasContents form bytes a → IsDocumentFault form bytes r → ⊥
-  not_both form bytes a r x y = let o : Result Contents Refusal = Ok a in let p : Result Contents Refusal = Err r in let e : o ≡ p = (documents form).one bytes o p x y in cc
+  pub not_both : (c : DocumentCommand) (bytes : List ℕ) (a : Contents) (r : Refusal) → IsDocumentOf c bytes a → IsDocumentFaultOf c bytes r → ⊥
+  not_both c bytes a r x y = let o : Result Contents Refusal = Ok a in let p : Result Contents Refusal = Err r in let e : o ≡ p = (documents (least_for c) (form_of c)).one bytes o p x y in cc
 
 -- the lists of a document are one, and so are its program and its shapes
 one_lists : (a : Contents) (d e : DocumentLists a) → ◌≡◌ {A = Program × Config × CallerLists} (e.program, e.start, e.lists) (d.program, d.start, d.lists)
@@ -111,15 +123,66 @@ module _ (replays : ReplayIsDecided) (is_run : PlainRunIsRun) (unique : PlainRun
   same_place one two (in_plain ps here its by) (in_plain qs there other differ) =
       replays.plain_one_place (verdict_shown d.program) d.start d.final ps here there by (subst (λ (zs : List PlainEntry). PlainDiffersAt (verdict_shown d.program) d.start zs d.final there) (one_at _ qs ps other its) differ)
 
+-- ---- ways back, rounds and elections
+
+-- the ways back of a document are of one program, one shape, one final shape and one journal
+back_as : (a : Contents) (d e : DocumentRecord a) (es ds : List Entry) (place : ℕ) (r : Result Config ℕ) → a.entries ≡ Some es → a.entries ≡ Some ds
+    → IsUnwound (verdict_shown e.program) e.start e.final ds place r → IsUnwound (verdict_shown d.program) d.start d.final es place r
+back_as a d e es ds place r its other is =
+    let parts = one_record a d e in
+    let same = one_at _ ds es other its in
+    subst (λ (z : (Program × Config × Config) × List Entry). IsUnwound (verdict_shown z.0.0) z.0.1 z.0.2 z.1 place r) (λ i. (parts i, same i)) is
+
+not_past : (a : Contents) (es ds : List Entry) (place : ℕ) → a.entries ≡ Some es → a.entries ≡ Some ds → length es < place → place ≤ length ds → ⊥
+not_past a es ds place its other above within = let same : length ds ≡ length es = ap (λ (zs : List Entry). length zs) (one_at _ ds es other its) in omega arith
+
+one_world : (w v : Config) → ◌≡◌ {A = Result Config ℕ} (Ok w) (Ok v) → w ≡ v
+one_world w v e = cc
+
+one_end : (k m : ℕ) → ◌≡◌ {A = Result Config ℕ} (Err k) (Err m) → k ≡ m
+one_end k m e = cc
+
+no_world : (w : Config) (k : ℕ) → ◌≡◌ {A = Result Config ℕ} (Ok w) (Err k) → ⊥
+no_world w k e = cc
+
+rounded_as : (a : Contents) (d e : DocumentRecord a) (es ds : List Entry) (rounds waiting : ℕ) → ds ≡ es → IsRounded (verdict_shown e.program) e.start ds rounds waiting → IsRounded (verdict_shown d.program) d.start es rounds waiting
+rounded_as a d e es ds rounds waiting same is =
+    let parts = one_record a d e in
+    subst (λ (z : (Program × Config × Config) × List Entry). IsRounded (verdict_shown z.0.0) z.0.1 z.1 rounds waiting) (λ i. (parts i, same i)) is
+
+erosion_as : (a : Contents) (d e : DocumentRecord a) → IsErosion e.program → IsErosion d.program
+erosion_as a d e is = subst IsErosion (one_at _ e.program d.program e.its_program d.its_program) is
+
+ready_as : (a : Contents) (d e : DocumentRecord a) → IsReadyStart e.start → IsReadyStart d.start
+ready_as a d e is = subst IsReadyStart (one_at _ e.start d.start e.its_shape d.its_shape) is
+
 -- ---- outcomes
 
-module _ (documents : DocumentsAreDecided) (runs : RunTextIsOne) (interleaves : InterleaveTextIsOne) (replays : ReplayIsDecided) (is_run : PlainRunIsRun) (unique : PlainRunIsUnique) (together : DocumentsFit) (measures : MeasureTextIsOne) (stays : GoodStaysConnected) (fit : SampleIsFit) where
+-- what the laws of lower crates say
+pub record OneOfEach : Type 0 where
+  pub documents : DecidedFromEach
+  pub later : LaterIsDocument
+  pub together : DocumentsFit
+  pub runs : RunTextIsOne
+  pub interleaves : InterleaveTextIsOne
+  pub replays : ReplayIsDecided
+  pub is_run : PlainRunIsRun
+  pub unique : PlainRunIsUnique
+  pub measures : MeasureTextIsOne
+  pub stays : GoodStaysConnected
+  pub fit : SampleIsFit
+  pub acts : ProgramsDecideByActs
+  pub decide : ActsKeepDeciderLaws
+  pub backs : UnwoundIsUnique
+  pub counts : RoundsAreUnique
+
+module _ (laws : OneOfEach) where
   run_is_one : (a : Contents) (d e : DocumentLists a) (one two : Report) → IfSome a.lists (λ lists. length lists.ids ≤ 1)
       → IsRunReport (verdict_shown d.program) d.start d.lists one → IsRunReport (verdict_shown e.program) e.start e.lists two
       → SameReport one two × (report_text a.version (length d.program.vars) one ≡ report_text a.version (length e.program.vars) two)
   run_is_one a d e one two few x y =
       let writes = subst (λ (z : Program × Config × CallerLists). IsRunText a.version z.0 z.1 z.2 two (report_text a.version (length e.program.vars) two)) (one_lists a d e) (record { run = y; whole = refl }) in
-      let by = runs a.version d.program d.start d.lists one two _ _ (subst (λ ls. IfSome ls (λ lists. length lists.ids ≤ 1)) d.its_lists few) (record { run = x; whole = refl }) writes in
+      let by = laws.runs a.version d.program d.start d.lists one two _ _ (subst (λ ls. IfSome ls (λ lists. length lists.ids ≤ 1)) d.its_lists few) (record { run = x; whole = refl }) writes in
       (by.0, by.1)
 
   interleave_is_one : (a : Contents) (d e : DocumentLists a) (schedule other : List ℕ) (one two : Report) → a.schedule ≡ Some schedule → a.schedule ≡ Some other
@@ -129,13 +192,31 @@ module _ (documents : DocumentsAreDecided) (runs : RunTextIsOne) (interleaves : 
       let lists = one_lists a d e in
       let schedules = one_at _ other schedule second first in
       let writes = subst (λ (z : (Program × Config × CallerLists) × List ℕ). IsInterleaveText a.version z.0.0 z.0.1 z.0.2 z.1 two (report_text a.version (length e.program.vars) two)) (λ i. (lists i, schedules i)) (record { run = y; whole = refl }) in
-      let by = interleaves a.version d.program d.start d.lists schedule one two _ _ (record { run = x; whole = refl }) writes in
+      let by = laws.interleaves a.version d.program d.start d.lists schedule one two _ _ (record { run = x; whole = refl }) writes in
       (by.0, by.1)
 
-  fits : (bytes : List ℕ) (a : Contents) (c : DocumentCommand) → HasContents (form_of c) bytes a → FitTogether a
-  fits bytes a c h = (together (form_of c) bytes a h).together
+  fits : (bytes : List ℕ) (a : Contents) (c : DocumentCommand) → IsDocumentOf c bytes a → FitTogether a
+  fits bytes a c h = (laws.together (form_of c) bytes a (of_form laws.later c bytes a h)).together
 
-  one_outcome : (bytes : List ℕ) (a : Contents) (c : DocumentCommand) (s t : Status) (one two : Option Report) (text other : List ℕ) → HasContents (form_of c) bytes a
+  -- what is told of the journal
+  module _ (bytes : List ℕ) (a : Contents) (c : DocumentCommand) (h : IsDocumentOf c bytes a) (d e : DocumentRecord a) where
+    same_run : (es ds : List Entry) → JournalAgrees a d es → JournalAgrees a e ds → es ≡ ds
+    same_run es ds x y = same_entries laws.replays laws.is_run laws.unique a (fits bytes a c h) d es ds x (agrees_as a d e ds y)
+
+    no_run : (es : List Entry) (place : ℕ) → JournalAgrees a d es → JournalDiffers a e place → ⊥
+    no_run es place x y = not_agreeing laws.replays laws.is_run laws.unique a (fits bytes a c h) d es place x (differs_as a d e place y)
+
+    same_end : (one two : ℕ) → JournalDiffers a d one → JournalDiffers a e two → one ≡ two
+    same_end one two x y = same_place laws.replays laws.is_run laws.unique a (fits bytes a c h) d one two x (differs_as a d e two y)
+
+  found : (p : Program) → OldValuesAreFound (verdict_shown p)
+  found p b i change by = (laws.decide (verdict_shown p) (laws.acts p) b i change by).found
+
+  one_way : (a : Contents) (d e : DocumentRecord a) (es ds : List Entry) (place : ℕ) (r q : Result Config ℕ) → a.entries ≡ Some es → a.entries ≡ Some ds
+      → IsUnwound (verdict_shown d.program) d.start d.final es place r → IsUnwound (verdict_shown e.program) e.start e.final ds place q → r ≡ q
+  one_way a d e es ds place r q its other x y = laws.backs (verdict_shown d.program) d.start d.final es place r q (found d.program) x (back_as a d e es ds place q its other y)
+
+  one_outcome : (bytes : List ℕ) (a : Contents) (c : DocumentCommand) (s t : Status) (one two : Option Report) (text other : List ℕ) → IsDocumentOf c bytes a
       → IsOutcome a c s one text → IsOutcome a c t two other → SameOwed (Some (Document c)) (whole bytes) s t one two text other
   one_outcome bytes a c s t one two text other h (of_run d r good reached serial) (of_run e q fine comes serially) =
       let same = λ (decided : IfSome a.lists (λ lists. length lists.ids ≤ 1)). run_is_one a d e r q decided (record { good = good; reached = reached; serial = serial }) (record { good = fine; reached = comes; serial = serially }) in
@@ -144,34 +225,76 @@ module _ (documents : DocumentsAreDecided) (runs : RunTextIsOne) (interleaves : 
       let same = interleave_is_one a d e schedule steps r q its_schedule its_steps (record { good = good; reached = reached; scheduled = scheduled }) (record { good = fine; reached = comes; scheduled = follows }) in
       record { status = refl; report = λ _. same.0; text = λ _. same.1 }
   one_outcome bytes a c s t one two text other h (agreeing d es agrees) (agreeing e ds agree) =
-      let same = same_entries replays is_run unique a (fits bytes a c h) d es ds agrees (agrees_as a d e ds agree) in
+      let same = same_run bytes a c h d e es ds agrees agree in
       record { status = refl; report = λ _. tt; text = λ _. ap (λ (zs : List Entry). agrees_line (length zs)) same }
-  one_outcome bytes a c s t one two text other h (agreeing d es agrees) (differing e place differs) = absurd (not_agreeing replays is_run unique a (fits bytes a c h) d es place agrees (differs_as a d e place differs))
-  one_outcome bytes a c s t one two text other h (differing d place differs) (agreeing e es agrees) = absurd (not_agreeing replays is_run unique a (fits bytes a c h) e es place agrees (differs_as a e d place differs))
+  one_outcome bytes a c s t one two text other h (agreeing d es agrees) (differing e place differs) = absurd (no_run bytes a c h d e es place agrees differs)
+  one_outcome bytes a c s t one two text other h (differing d place differs) (agreeing e es agrees) = absurd (no_run bytes a c h e d es place agrees differs)
   one_outcome bytes a c s t one two text other h (differing d place differs) (differing e there differ) =
-      let same = same_place replays is_run unique a (fits bytes a c h) d place there differs (differs_as a d e there differ) in
+      let same = same_end bytes a c h d e place there differs differ in
       record { status = ap status.Differs same; report = λ _. tt; text = λ _. ap differs_line same }
   one_outcome bytes a c s t one two text other h (renewing d es agrees) (renewing e ds agree) =
-      let same = same_entries replays is_run unique a (fits bytes a c h) d es ds agrees (agrees_as a d e ds agree) in
+      let same = same_run bytes a c h d e es ds agrees agree in
       let parts = sym (one_record a d e) in
       record { status = refl; report = λ _. tt; text = λ _ i. renewed_text (parts i).0 (parts i).1 (same i) (parts i).2 }
-  one_outcome bytes a c s t one two text other h (renewing d es agrees) (renew_differing e place differs) = absurd (not_agreeing replays is_run unique a (fits bytes a c h) d es place agrees (differs_as a d e place differs))
-  one_outcome bytes a c s t one two text other h (renew_differing d place differs) (renewing e es agrees) = absurd (not_agreeing replays is_run unique a (fits bytes a c h) e es place agrees (differs_as a e d place differs))
+  one_outcome bytes a c s t one two text other h (renewing d es agrees) (renew_differing e place differs) = absurd (no_run bytes a c h d e es place agrees differs)
+  one_outcome bytes a c s t one two text other h (renew_differing d place differs) (renewing e es agrees) = absurd (no_run bytes a c h e d es place agrees differs)
   one_outcome bytes a c s t one two text other h (renew_differing d place differs) (renew_differing e there differ) =
-      let same = same_place replays is_run unique a (fits bytes a c h) d place there differs (differs_as a d e there differ) in
+      let same = same_end bytes a c h d e place there differs differ in
       record { status = ap status.Differs same; report = λ _. tt; text = λ _. ap differs_line same }
   one_outcome bytes a c s t one two text other h (of_check p its_program) (of_check q its_other) = record { status = refl; report = λ _. tt; text = λ _. ap (check_text a.version) (one_at _ p q its_program its_other) }
   one_outcome bytes a c s t one two text other h (of_measure last u its_last measured) (of_measure end v its_end measure) =
-      record { status = refl; report = λ _. tt; text = λ _. measures last u v measured (subst (λ (w : Config). IsMeasureText w v) (one_at _ end last its_end its_last) measure) }
+      record { status = refl; report = λ _. tt; text = λ _. laws.measures last u v measured (subst (λ (w : Config). IsMeasureText w v) (one_at _ end last its_end its_last) measure) }
+  one_outcome bytes a c s t one two text other h (no_place d es place its above) (no_place e ds same yours beyond) = record { status = refl; report = λ _. tt; text = λ _. refl }
+  one_outcome bytes a c s t one two text other h (no_place d es place its above) (unwound e ds same w yours within is) = absurd (not_past a es ds place its yours above within)
+  one_outcome bytes a c s t one two text other h (no_place d es place its above) (not_unwound e ds same k yours within is) = absurd (not_past a es ds place its yours above within)
+  one_outcome bytes a c s t one two text other h (unwound d es place w its within is) (no_place e ds same yours above) = absurd (not_past a ds es place yours its above within)
+  one_outcome bytes a c s t one two text other h (unwound d es place w its within is) (unwound e ds same v yours inside so) =
+      let worlds = one_world w v (one_way a d e es ds place (Ok w) (Ok v) its yours is so) in
+      let parts = sym (one_record a d e) in
+      record { status = refl; report = λ _. tt; text = λ _ i. shape_text (codes "shape") (length (parts i).0.vars) (worlds i) }
+  one_outcome bytes a c s t one two text other h (unwound d es place w its within is) (not_unwound e ds same k yours inside so) = absurd (no_world w k (one_way a d e es ds place (Ok w) (Err k) its yours is so))
+  one_outcome bytes a c s t one two text other h (not_unwound d es place k its within is) (no_place e ds same yours above) = absurd (not_past a ds es place yours its above within)
+  one_outcome bytes a c s t one two text other h (not_unwound d es place k its within is) (unwound e ds same w yours inside so) = absurd (no_world w k (sym (one_way a d e es ds place (Err k) (Ok w) its yours is so)))
+  one_outcome bytes a c s t one two text other h (not_unwound d es place k its within is) (not_unwound e ds same m yours inside so) =
+      let ends = one_end k m (one_way a d e es ds place (Err k) (Err m) its yours is so) in
+      record { status = ap status.Differs ends; report = λ _. tt; text = λ _. ap differs_line ends }
+  one_outcome bytes a c s t one two text other h (rounded d es rounds waiting agrees is) (rounded e ds others still agree so) =
+      let same = same_run bytes a c h d e es ds agrees agree in
+      let by = laws.counts (verdict_shown d.program) d.start es rounds waiting others still is (rounded_as a d e es ds others still (sym same) so) in
+      record { status = refl; report = λ _. tt; text = λ _ i. rounds_text (by.0 i) (by.1 i) }
+  one_outcome bytes a c s t one two text other h (rounded d es rounds waiting agrees is) (not_rounded e place differs) = absurd (no_run bytes a c h d e es place agrees differs)
+  one_outcome bytes a c s t one two text other h (not_rounded d place differs) (rounded e es rounds waiting agrees is) = absurd (no_run bytes a c h e d es place agrees differs)
+  one_outcome bytes a c s t one two text other h (not_rounded d place differs) (not_rounded e there differ) =
+      let same = same_end bytes a c h d e place there differs differ in
+      record { status = ap status.Differs same; report = λ _. tt; text = λ _. ap differs_line same }
+  one_outcome bytes a c s t one two text other h (no_erosion d not) (no_erosion e none) = record { status = refl; report = λ _. tt; text = λ _. refl }
+  one_outcome bytes a c s t one two text other h (no_erosion d not) (not_ready e is none) = absurd (not (erosion_as a d e is))
+  one_outcome bytes a c s t one two text other h (no_erosion d not) (not_elected e place is ready differs) = absurd (not (erosion_as a d e is))
+  one_outcome bytes a c s t one two text other h (no_erosion d not) (elected e es is ready agrees) = absurd (not (erosion_as a d e is))
+  one_outcome bytes a c s t one two text other h (not_ready d is not) (no_erosion e none) = absurd (none (erosion_as a e d is))
+  one_outcome bytes a c s t one two text other h (not_ready d is not) (not_ready e so none) = record { status = refl; report = λ _. tt; text = λ _. refl }
+  one_outcome bytes a c s t one two text other h (not_ready d is not) (not_elected e place so ready differs) = absurd (not (ready_as a d e ready))
+  one_outcome bytes a c s t one two text other h (not_ready d is not) (elected e es so ready agrees) = absurd (not (ready_as a d e ready))
+  one_outcome bytes a c s t one two text other h (not_elected d place is ready differs) (no_erosion e none) = absurd (none (erosion_as a e d is))
+  one_outcome bytes a c s t one two text other h (not_elected d place is ready differs) (not_ready e so none) = absurd (none (ready_as a e d ready))
+  one_outcome bytes a c s t one two text other h (not_elected d place is ready differs) (not_elected e there so steady differ) =
+      let same = same_end bytes a c h d e place there differs differ in
+      record { status = ap status.Differs same; report = λ _. tt; text = λ _. ap differs_line same }
+  one_outcome bytes a c s t one two text other h (not_elected d place is ready differs) (elected e es so steady agrees) = absurd (no_run bytes a c h e d es place agrees differs)
+  one_outcome bytes a c s t one two text other h (elected d es is ready agrees) (no_erosion e none) = absurd (none (erosion_as a e d is))
+  one_outcome bytes a c s t one two text other h (elected d es is ready agrees) (not_ready e so none) = absurd (none (ready_as a e d ready))
+  one_outcome bytes a c s t one two text other h (elected d es is ready agrees) (not_elected e place so steady differs) = absurd (no_run bytes a c h d e es place agrees differs)
+  one_outcome bytes a c s t one two text other h (elected d es is ready agrees) (elected e ds so steady agree) =
+      record { status = refl; report = λ _. tt; text = λ _. ap (λ (w : Config). election_text (value_count w cand_var 1) (leader_of w)) (one_at _ d.final e.final d.its_final e.its_final) }
 
   pub owed_is_one : OwedIsOne
   owed_is_one c read s t one two text other usage usage = record { status = refl; report = λ _. tt; text = λ _. refl }
   owed_is_one c read s t one two text other (read_fault d got) (read_fault e more) = record { status = refl; report = λ _. tt; text = λ _. refl }
   owed_is_one c read s t one two text other (longer d got) (longer e more) = record { status = refl; report = λ _. tt; text = λ _. refl }
-  owed_is_one c read s t one two text other (refused d bytes r x) (refused e same q y) = let by = same_fault documents (form_of d) bytes r q x y in record { status = ap status.Refused by; report = λ _. tt; text = λ _. ap refusal_line by }
-  owed_is_one c read s t one two text other (refused d bytes r x) (served e same a u q v y is) = absurd (not_both documents (form_of d) bytes a r y x)
-  owed_is_one c read s t one two text other (served d bytes a u q v x is) (refused e same r y) = absurd (not_both documents (form_of d) bytes a r x y)
+  owed_is_one c read s t one two text other (refused d bytes r x) (refused e same q y) = let by = same_fault laws.documents d bytes r q x y in record { status = ap status.Refused by; report = λ _. tt; text = λ _. ap refusal_line by }
+  owed_is_one c read s t one two text other (refused d bytes r x) (served e same a u q v y is) = absurd (not_both laws.documents d bytes a r y x)
+  owed_is_one c read s t one two text other (served d bytes a u q v x is) (refused e same r y) = absurd (not_both laws.documents d bytes a r x y)
   owed_is_one c read s t one two text other (served d bytes a u q v x is) (served e same b w r z y other_is) =
-      one_outcome bytes a d s t one two text other x is (subst (λ (k : Contents). IsOutcome k d t two other) (same_contents documents (form_of d) bytes b a y x) other_is)
+      one_outcome bytes a d s t one two text other x is (subst (λ (k : Contents). IsOutcome k d t two other) (same_contents laws.documents d bytes b a y x) other_is)
   owed_is_one c read s t one two text other (shown p) (shown q) = record { status = refl; report = λ _. tt; text = λ _. refl }
-  owed_is_one c read s t one two text other (sampled seed r v x) (sampled same q u y) = record { status = refl; report = λ decided. absurd decided; text = λ _. text_is_six_lines stays fit seed r v x ∙ sym (text_is_six_lines stays fit seed q u y) }
+  owed_is_one c read s t one two text other (sampled seed r v x) (sampled same q u y) = record { status = refl; report = λ decided. absurd decided; text = λ _. text_is_six_lines laws.stays laws.fit seed r v x ∙ sym (text_is_six_lines laws.stays laws.fit seed q u y) }

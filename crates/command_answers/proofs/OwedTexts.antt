@@ -13,7 +13,7 @@ use Rattle.claim_core.specs.declared.report.Report.{Report}
 use Rattle.claim_core.specs.Turns.{CallerLists, HaveBots}
 use Rattle.action_tree.specs.Trees.{Program}
 use Rattle.action_meaning.specs.Verdicts.{verdict_shown}
-use Rattle.shape_files.specs.Documents.{Contents, HasContents, IsDocumentFault, bots_of}
+use Rattle.shape_files.specs.Documents.{Contents, bots_of}
 use Rattle.shape_files.specs.Fitting.{FitTogether}
 use Rattle.shipped_programs.specs.declared.shipped.Shipped.{Shipped}
 use Rattle.shipped_programs.specs.Shipped.{tree_of}
@@ -29,7 +29,7 @@ use Rattle.command_words.specs.declared.command.DocumentCommand.TheVariants.{Int
 use Rattle.command_answers.specs.declared.answer.Answer.{Answer}
 use Rattle.command_answers.specs.declared.answer.Task.TheVariants as task
 use Rattle.command_answers.specs.declared.status.Status.TheVariants as status
-use Rattle.command_answers.specs.Commands.{form_of}
+use Rattle.command_answers.specs.Commands.{IsDocumentFaultOf}
 use Rattle.command_answers.specs.Reads.{nothing, whole}
 use Rattle.command_answers.specs.Outcomes.{DocumentRecord, JournalAgrees, JournalDiffers, last_shape, of_interleave, agreeing, differing, of_check, of_measure, renewing, renew_differing}
 use Rattle.command_answers.specs.Owed.{IsOwed, refused, served, shown}
@@ -39,7 +39,7 @@ use Rattle.command_answers.specs.Answers.{IsAnswerTo, IsTaskOf, agrees_with, dif
 pub same_answer : (c : DocumentCommand) (a : Contents) (one two : Answer) → one ≡ two → IsAnswerTo c a two → IsAnswerTo c a one
 same_answer c a one two same is bytes h = subst (λ (x : Answer). IsOwed (Some (Document c)) (whole bytes) x.status x.report x.text) (sym same) (is bytes h)
 
-pub refuses : (c : DocumentCommand) (bytes : List ℕ) (r : Refusal) (answer : Answer) → IsDocumentFault (form_of c) bytes r → answer ≡ refused_with r → IsTaskOf c bytes (task.Answered answer)
+pub refuses : (c : DocumentCommand) (bytes : List ℕ) (r : Refusal) (answer : Answer) → IsDocumentFaultOf c bytes r → answer ≡ refused_with r → IsTaskOf c bytes (task.Answered answer)
 refuses c bytes r answer fault is = subst (λ (x : Answer). IsTaskOf c bytes (task.Answered x)) (sym is) (refused c bytes r fault, λ run done. cc)
 
 -- the amoebots of a document's lists are there

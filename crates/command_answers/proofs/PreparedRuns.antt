@@ -13,7 +13,7 @@ use Rattle.claim_core.specs.Laws.{OneListIsSerial}
 use Rattle.action_tree.specs.Trees.{Program}
 use Rattle.action_tree.specs.Writable.{is_writable}
 use Rattle.action_meaning.specs.Verdicts.{verdict_shown}
-use Rattle.shape_files.specs.Documents.{Contents, HasContents}
+use Rattle.shape_files.specs.Documents.{Contents}
 use Rattle.run_sample.specs.Callers.{sample_lists}
 use Rattle.run_sample.specs.Laws.{SampleIsFit}
 use Rattle.run_sample.specs.Whole.{IsSample}
@@ -27,14 +27,14 @@ use Rattle.command_answers.specs.declared.answer.Prepared.{Prepared}
 use Rattle.command_answers.specs.declared.answer.Telling.{Telling}
 use Rattle.command_answers.specs.declared.answer.Telling.TheVariants as telling
 use Rattle.command_answers.specs.declared.status.Status.TheVariants as status
-use Rattle.command_answers.specs.Commands.{form_of}
+use Rattle.command_answers.specs.Commands.{IsDocumentOf}
 use Rattle.command_answers.specs.Reads.{nothing, whole}
 use Rattle.command_answers.specs.Outcomes.{of_run}
 use Rattle.command_answers.specs.Owed.{IsOwed, served, sampled}
 use Rattle.command_answers.specs.Answers.{IsCounted, IsPrepared, TellsReport, Tells, of_document, of_number, done_with}
 
 -- the run of a document
-pub prepares : OneListIsSerial → (a : Contents) (bytes : List ℕ) (run : Prepared) → HasContents (form_of Run) bytes a → a.checked ≡ Some run.runner → a.world ≡ Some run.world → a.lists ≡ Some run.lists → run.telling ≡ telling.Report a.version
+pub prepares : OneListIsSerial → (a : Contents) (bytes : List ℕ) (run : Prepared) → IsDocumentOf Run bytes a → a.checked ≡ Some run.runner → a.world ≡ Some run.world → a.lists ≡ Some run.lists → run.telling ≡ telling.Report a.version
     → All (All (λ (id : ℕ). IsSome (bot_at run.world id))) run.lists.ids → IsPrepared (Some (Document Run)) (whole bytes) run
 prepares serials a bytes run h its_program its_shape its_lists its_telling there = record {
   by_workers = tt;

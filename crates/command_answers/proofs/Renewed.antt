@@ -31,7 +31,8 @@ use Rattle.action_print.specs.ReadsBack.{CanonIgnoresLines}
 use Rattle.action_meaning.specs.Laws.{ProgramsDecideByActs, VerdictIgnoresLines}
 use Rattle.action_meaning.specs.Verdicts.{verdict_shown}
 use Rattle.shape_files.specs.declared.section_kind.Form.TheVariants as form
-use Rattle.shape_files.specs.Documents.{Contents, actions_of, bots_of, DocumentsAreDecided, HasContents}
+use Rattle.shape_files.specs.Documents.{Contents, actions_of, bots_of, HasContents}
+use Rattle.shape_files.specs.LeastVersions.{DecidedFromEach}
 use Rattle.shape_files.specs.Fitting.{AreEntriesOf, DocumentsAreSound, DocumentsFit, FitTogether, IsSoundDocument, IsWorldShape, IsWritableProgram}
 use Rattle.shape_files.specs.WholeTexts.{DocumentsReadBack, HasBareContents, IsWritableDocument, IsWritableShape, bare_contents, document_text}
 use Rattle.command_runs.specs.Renew.{renewed_text}
@@ -238,7 +239,7 @@ module _ (rules : RenewRules) (bytes : List ℕ) (a : Contents) (h : HasContents
 renewed_outcome : RenewRules → (bytes : List ℕ) (a : Contents) (text : List ℕ) → HasContents form.Replay bytes a → IsOutcome a Renew status.Done None text → IsRenewed a text
 renewed_outcome rules bytes a text h (renewing d es is) = is_renewed rules bytes a h d es is
 
-pub renewed_is_replayed : RenewRules → DocumentsAreDecided → RenewedIsReplayed
+pub renewed_is_replayed : RenewRules → DecidedFromEach → RenewedIsReplayed
 renewed_is_replayed rules documents bytes text a h owed within = renewed_outcome rules bytes a text h (documents_have_outcomes documents Renew bytes a status.Done None text h owed)
 
 outcome_stays : RenewRules → (bytes : List ℕ) (a : Contents) (text : List ℕ) → HasContents form.Replay bytes a → IsOutcome a Renew status.Done None text → IsOwedFor Renew (whole text) status.Done text

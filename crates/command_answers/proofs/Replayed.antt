@@ -28,9 +28,9 @@ use Rattle.command_runs.specs.Reports.{report_text}
 use Rattle.command_runs.specs.Replay.{agrees_line}
 use Rattle.command_runs.specs.Laws.{GoodIsFew}
 use Rattle.command_words.specs.declared.command.DocumentCommand.{DocumentCommand}
-use Rattle.command_words.specs.declared.command.DocumentCommand.TheVariants.{Run, Interleave, Replay, Check, Measure, Renew}
+use Rattle.command_words.specs.declared.command.DocumentCommand.TheVariants.{Run, Interleave, Replay, Check, Measure, Renew, Rewind, Rounds, Elect}
 use Rattle.command_answers.specs.declared.status.Status.TheVariants as status
-use Rattle.command_answers.specs.Commands.{form_of}
+use Rattle.command_answers.specs.Commands.{IsDocumentOf}
 use Rattle.command_answers.specs.Outcomes.{TellsEntries, IsOutcome, of_run, of_interleave, agreeing}
 use Rattle.command_answers.specs.Owed.{served}
 use Rattle.command_answers.specs.ReplayLaws.{IsReplayed, RunTextsAreReplayed, InterleaveTextsAreReplayed, WhatIsOwedIsReplayed}
@@ -167,13 +167,16 @@ module _ (laws : Laws) where
   pub interleave_texts_are_replayed : InterleaveTextsAreReplayed
   interleave_texts_are_replayed = record { is_run = interleaves_are_runs; replayed = interleave_text_is_replayed }
 
-  outcome_is_replayed : (c : DocumentCommand) (bytes : List ℕ) (a : Contents) (report : Report) (text : List ℕ) → EndsLine bytes → HasContents (form_of c) bytes a → IsOutcome a c status.Done (Some report) text → IsReplayed bytes a report text
+  outcome_is_replayed : (c : DocumentCommand) (bytes : List ℕ) (a : Contents) (report : Report) (text : List ℕ) → EndsLine bytes → IsDocumentOf c bytes a → IsOutcome a c status.Done (Some report) text → IsReplayed bytes a report text
   outcome_is_replayed Run bytes a report text line holds is = run_texts_are_replayed bytes a report text line holds is
   outcome_is_replayed Interleave bytes a report text line holds is = interleave_text_is_replayed bytes a report text line (interleaves_are_runs bytes a holds) is
   outcome_is_replayed Replay bytes a report text line holds is = elim is [ ]
   outcome_is_replayed Check bytes a report text line holds is = elim is [ ]
   outcome_is_replayed Measure bytes a report text line holds is = elim is [ ]
   outcome_is_replayed Renew bytes a report text line holds is = elim is [ ]
+  outcome_is_replayed (Rewind place) bytes a report text line holds is = elim is [ ]
+  outcome_is_replayed Rounds bytes a report text line holds is = elim is [ ]
+  outcome_is_replayed Elect bytes a report text line holds is = elim is [ ]
 
   pub what_is_owed_is_replayed : WhatIsOwedIsReplayed
   what_is_owed_is_replayed c bytes report text line (served d same a s told v holds is) = (outcome_is_replayed c bytes a report text line holds is).agrees

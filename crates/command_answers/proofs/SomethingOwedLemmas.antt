@@ -1,9 +1,9 @@
 -- Something is owed.
-use Rattle.std.proofs.Common.{◌≡◌, ◌<◌, ◌≤◌, ◌*◌, ◌⊎◌, ℕ, Bool, List, [], length, map, true, Option, Some, None, Result, Ok, Err, inl, inr, refl, ap, sym, subst, ◌∙◌, arith}
+use Rattle.std.proofs.Common.{◌≡◌, ◌<◌, ◌≤◌, ◌*◌, ◌⊎◌, ℕ, Bool, List, [], length, map, codes, true, Option, Some, None, Result, Ok, Err, inl, inr, refl, ap, sym, subst, ◌∙◌, arith}
 use Rattle.std.specs.Prelude.{IsSome, IfSome, reverse}
 use Rattle.std.specs.List.{All}
 use Rattle.std.specs.Option.{option_or}
-use Rattle.std.proofs.lemmas.Bool.{cases_Bool}
+use Rattle.std.proofs.lemmas.Bool.{cases_Bool, cases_lt}
 use Rattle.text_tokens.specs.declared.refusal.Refusal.{Refusal}
 use Rattle.amoebot_state.specs.declared.verdict.Entry.{Entry}
 use Rattle.amoebot_state.specs.declared.verdict.PlainEntry.{PlainEntry}
@@ -11,7 +11,7 @@ use Rattle.amoebot_state.specs.Configs.{Config, IsValid, bot_at}
 use Rattle.amoebot_state.specs.Limits.{most_bots}
 use Rattle.serial_model.specs.Laws.{PlainRunIsRun}
 use Rattle.node_text.specs.Parts.{has_old_values}
-use Rattle.amoebot_state.specs.Steps.{HasPatchedWorld}
+use Rattle.amoebot_state.specs.Steps.{HasPatchedWorld, OldValuesAreFound}
 use Rattle.amoebot_state.proofs.Options.{there_is}
 use Rattle.model_ops.specs.Laws.{ActsKeepDeciderLaws}
 use Rattle.claim_core.specs.Turns.{AreLists, CallerLists}
@@ -20,38 +20,51 @@ use Rattle.claim_core.specs.Machine.{Setup, setup}
 use Rattle.claim_core.specs.Soundness.{IsSetup}
 use Rattle.claim_core.specs.Laws.{OneListIsSerial, ReachedIsGood, RoundsLeaveAReport}
 use Rattle.claim_core.proofs.Stays.{world_last}
+use Rattle.rewind_log.specs.Laws.{UnwoundIsSome}
+use Rattle.rewind_log.specs.Unwinding.{IsUnwound}
+use Rattle.round_meter.specs.Laws.{EachRunIsRounded}
 use Rattle.action_tree.specs.Trees.{Program}
 use Rattle.action_meaning.specs.Laws.{ProgramsDecideByActs}
 use Rattle.action_meaning.specs.Verdicts.{verdict_shown}
 use Rattle.shape_checks.specs.Laws.{MeasuresAreDecided}
+use Rattle.shape_checks.specs.Values.{value_count}
+use Rattle.shape_text.specs.Texts.{shape_text}
 use Rattle.shape_files.specs.declared.section_kind.Form.TheVariants as form
-use Rattle.shape_files.specs.Documents.{Contents, HasContents, DocumentsAreDecided, FormSays}
+use Rattle.shape_files.specs.Documents.{Contents, FormSaysFrom}
+use Rattle.shape_files.specs.LeastVersions.{DecidedFromEach, LaterIsDocument, LaterHasOldValues}
 use Rattle.shape_files.specs.Fitting.{DocumentsAreSound, DocumentsFit, Fits, HasJournal, HasJournalBy, HasSections, IsWorldShape, IsSoundDocument}
+use Rattle.election_law.specs.Elections.{IsErosion, IsReadyStart, cand_var, leader_of}
+use Rattle.election_law.specs.Laws.{ErosionOrNot, ReadyHasNone, ReadyOrUnready}
 use Rattle.run_sample.specs.Laws.{SampleIsFit, SampleIsSome}
 use Rattle.command_runs.specs.Check.{check_text}
+use Rattle.command_runs.specs.Elect.{election_text}
 use Rattle.command_runs.specs.Laws.{GoodStaysConnected, ReplayIsDecided}
 use Rattle.command_runs.specs.Measure.{measure_text}
 use Rattle.command_runs.specs.Renew.{renewed_text}
 use Rattle.command_runs.specs.Replay.{agrees_line, differs_line}
 use Rattle.command_runs.specs.Reports.{report_text}
+use Rattle.command_runs.specs.Rounds.{rounds_text}
 use Rattle.command_runs.specs.Sample.{sample_text}
 use Rattle.command_words.specs.declared.command.Command.TheVariants.{Document, Sample}
 use Rattle.command_words.specs.declared.command.DocumentCommand.{DocumentCommand}
-use Rattle.command_words.specs.declared.command.DocumentCommand.TheVariants.{Run, Interleave, Replay, Check, Measure, Renew}
+use Rattle.command_words.specs.declared.command.DocumentCommand.TheVariants.{Run, Interleave, Replay, Check, Measure, Renew, Rewind, Rounds, Elect}
 use Rattle.command_answers.specs.declared.status.Status.{Status}
 use Rattle.command_answers.specs.declared.status.Status.TheVariants as status
-use Rattle.command_answers.specs.Commands.{form_of}
-use Rattle.command_answers.specs.Lines.{read_fault_line, refusal_line, too_long, usage_line}
-use Rattle.command_answers.specs.Outcomes.{DocumentRecord, DocumentLists, JournalAgrees, JournalDiffers, in_full, in_plain, IsOutcome, last_shape, of_run, of_interleave, agreeing, differing, of_check, of_measure, renewing, renew_differing}
+use Rattle.command_answers.specs.Commands.{form_of, least_for, with_old_values, IsDocumentOf}
+use Rattle.command_answers.specs.Lines.{read_fault_line, refusal_line, too_long, usage_line, no_such_place, not_erosion, bad_start}
+use Rattle.command_answers.specs.Outcomes.{DocumentRecord, DocumentLists, JournalAgrees, JournalDiffers, in_full, in_plain, IsOutcome, last_shape, of_run, of_interleave, agreeing, differing, of_check, of_measure, renewing, renew_differing, no_place, unwound, not_unwound, rounded, not_rounded, no_erosion, not_ready, not_elected, elected}
 use Rattle.command_answers.specs.Owed.{usage, read_fault, longer, refused, served, shown, sampled}
 use Rattle.command_answers.specs.Reads.{nothing, whole}
 use Rattle.command_answers.specs.Laws.{OwedIsSome, SomethingOwed}
+use Rattle.command_answers.proofs.CommandDocuments.{of_form}
 use Rattle.command_answers.proofs.OwedTexts.{are_there, plain_agrees}
 use Rattle.shipped_programs.specs.Shipped.{tree_of}
 
 -- what the laws of lower crates say
 pub record Exists : Type 0 where
-  pub documents : DocumentsAreDecided
+  pub documents : DecidedFromEach
+  pub later : LaterIsDocument
+  pub values : LaterHasOldValues
   pub fit : DocumentsFit
   pub sound : DocumentsAreSound
   pub rounds : RoundsLeaveAReport
@@ -65,6 +78,11 @@ pub record Exists : Type 0 where
   pub fits : SampleIsFit
   pub acts : ProgramsDecideByActs
   pub decide : ActsKeepDeciderLaws
+  pub backs : UnwoundIsSome
+  pub counts : EachRunIsRounded
+  pub erosions : ErosionOrNot
+  pub starts : ReadyOrUnready
+  pub ready : ReadyHasNone
 
 -- an outcome of a document
 record HasOutcome (a : Contents) (c : DocumentCommand) : Type 0 where
@@ -81,12 +99,12 @@ module _ (laws : Exists) where
       let keep = laws.decide (verdict_shown p) (laws.acts p) in
       record { valid = valid; few = few; lists = listed; bots = there; touches = λ c i change d. (keep c i change d).touches; leads = λ c i change d. (keep c i change d).leads }
 
-  module _ (bytes : List ℕ) (a : Contents) (c : DocumentCommand) (h : HasContents (form_of c) bytes a) where
+  module _ (bytes : List ℕ) (a : Contents) (c : DocumentCommand) (h : IsDocumentOf c bytes a) where
     fits : Fits (form_of c) a
-    fits = laws.fit (form_of c) bytes a h
+    fits = laws.fit (form_of c) bytes a (of_form laws.later c bytes a h)
 
     sound : IsSoundDocument a
-    sound = laws.sound (form_of c) bytes a h
+    sound = laws.sound (form_of c) bytes a (of_form laws.later c bytes a h)
 
     drawn : (start : Config) → a.world ≡ Some start → IsWorldShape start
     drawn start e = subst (λ (o : Option Config). IfSome o IsWorldShape) e sound.world
@@ -166,6 +184,54 @@ module _ (laws : Exists) where
       | inr by ↦ record { status = status.Differs by.0; report = None; text = differs_line by.0; is = renew_differing d by.0 by.1 }
     ]
 
+    drawn_last : (last : Config) → a.final_world ≡ Some last → IsWorldShape last
+    drawn_last last e = subst (λ (o : Option Config). IfSome o IsWorldShape) e sound.final_world
+
+    -- ---- ways back, rounds and elections
+
+    found : (p : Program) → OldValuesAreFound (verdict_shown p)
+    found p b i change by = (laws.decide (verdict_shown p) (laws.acts p) b i change by).found
+
+    back_outcome : (d : DocumentRecord a) (es : List Entry) (place : ℕ) → a.entries ≡ Some es → place ≤ length es → HasOutcome a (Rewind place)
+    back_outcome d es place its within = by end.0 end.1
+      where
+        end : (r : Result Config ℕ) × IsUnwound (verdict_shown d.program) d.start d.final es place r
+        end = laws.backs (verdict_shown d.program) d.start d.final es place (found d.program) (drawn_last d.final d.its_final).valid within
+
+        by : (r : Result Config ℕ) → IsUnwound (verdict_shown d.program) d.start d.final es place r → HasOutcome a (Rewind place)
+        by (Ok world) is = record { status = status.Done; report = None; text = shape_text (codes "shape") (length d.program.vars) world; is = unwound d es place world its within is }
+        by (Err k) is = record { status = status.Differs k; report = None; text = differs_line k; is = not_unwound d es place k its within is }
+
+    rewind_outcome : (place : ℕ) → IsSome a.entries → HasSections form.Replay a → HasOutcome a (Rewind place)
+    rewind_outcome place some has =
+        let es = there_is a.entries some in
+        elim (cases_lt (length es.0) place) [
+          | inl past ↦ record { status = status.Refused no_such_place; report = None; text = refusal_line no_such_place; is = no_place (record_of has) es.0 place es.1 past }
+          | inr within ↦ back_outcome (record_of has) es.0 place es.1 within
+        ]
+
+    rounds_outcome : HasSections form.Replay a → HasOutcome a Rounds
+    rounds_outcome has = let d = record_of has in elim (ends d has.2) [
+      | inl by ↦
+          let first = drawn d.start d.its_shape in
+          let (rounds, waiting, is) = laws.counts (verdict_shown d.program) d.start d.final by.0 first.valid first.no_gaps by.1.agrees in
+          record { status = status.Done; report = None; text = rounds_text rounds waiting; is = rounded d by.0 rounds waiting by.1 is }
+      | inr by ↦ record { status = status.Differs by.0; report = None; text = differs_line by.0; is = not_rounded d by.0 by.1 }
+    ]
+
+    election_outcome : (d : DocumentRecord a) → IsErosion d.program → IsReadyStart d.start → Ends d → HasOutcome a Elect
+    election_outcome d is ready (inl by) = record { status = status.Done; report = None; text = election_text (value_count d.final cand_var 1) (leader_of d.final); is = elected d by.0 is ready by.1 }
+    election_outcome d is ready (inr by) = record { status = status.Differs by.0; report = None; text = differs_line by.0; is = not_elected d by.0 is ready by.1 }
+
+    elect_outcome : HasSections form.Replay a → HasOutcome a Elect
+    elect_outcome has = let d = record_of has in elim (laws.erosions d.program) [
+      | inl is ↦ elim (laws.starts d.start (drawn d.start d.its_shape).valid) [
+        | inl ready ↦ election_outcome d is ready (ends d has.2)
+        | inr by ↦ record { status = status.Refused bad_start; report = None; text = refusal_line bad_start; is = not_ready d is (λ ready. laws.ready d.start by.0 ready by.1) }
+      ]
+      | inr other ↦ record { status = status.Refused not_erosion; report = None; text = refusal_line not_erosion; is = no_erosion d other }
+    ]
+
     measured : (last : Config) → last_shape a ≡ Some last → IsValid last → HasOutcome a Measure
     measured last e valid =
         let by = laws.measures last valid in
@@ -176,21 +242,24 @@ module _ (laws : Exists) where
     measure_outcome some = by a.final_world refl
       where
         by : (o : Option Config) → a.final_world ≡ o → HasOutcome a Measure
-        by (Some last) e = measured last (ap (λ (o : Option Config). option_or o a.world) e) (subst (λ (o : Option Config). IfSome o IsWorldShape) e sound.final_world).valid
+        by (Some last) e = measured last (ap (λ (o : Option Config). option_or o a.world) e) (drawn_last last e).valid
         by None e = let w = there_is a.world some in measured w.0 (subst (λ (o : Option Config). option_or o a.world ≡ Some w.0) (sym e) w.1) (drawn w.0 w.1).valid
 
-  outcome : (c : DocumentCommand) (bytes : List ℕ) (a : Contents) → HasContents (form_of c) bytes a → HasOutcome a c
+  outcome : (c : DocumentCommand) (bytes : List ℕ) (a : Contents) → IsDocumentOf c bytes a → HasOutcome a c
   outcome Run bytes a h = let has = (fits bytes a Run h).sections in run_outcome bytes a Run h (lists_of bytes a Run h has.0 has.1 has.2)
   outcome Interleave bytes a h = let has = (fits bytes a Interleave h).sections in interleave_outcome bytes a Interleave h (lists_of bytes a Interleave h has.0 has.1 has.2) has.3
   outcome Replay bytes a h = replay_outcome bytes a Replay h (fits bytes a Replay h).sections
   outcome Check bytes a h = let p = there_is a.checked (fits bytes a Check h).sections.0 in record { status = status.Done; report = None; text = check_text a.version p.0; is = of_check p.0 p.1 }
   outcome Measure bytes a h = measure_outcome bytes a Measure h (fits bytes a Measure h).sections.1
   outcome Renew bytes a h = renew_outcome bytes a Renew h (fits bytes a Renew h).sections
+  outcome (Rewind place) bytes a h = rewind_outcome bytes a (Rewind place) h place (laws.values with_old_values bytes a refl h) (fits bytes a (Rewind place) h).sections
+  outcome Rounds bytes a h = rounds_outcome bytes a Rounds h (fits bytes a Rounds h).sections
+  outcome Elect bytes a h = elect_outcome bytes a Elect h (fits bytes a Elect h).sections
 
   for_whole : (c : DocumentCommand) (bytes : List ℕ) → SomethingOwed (Some (Document c)) (whole bytes)
-  for_whole c bytes = let by = (laws.documents (form_of c)).some bytes in said by.0 by.1
+  for_whole c bytes = let by = (laws.documents (least_for c) (form_of c)).some bytes in said by.0 by.1
     where
-      said : (r : Result Contents Refusal) → FormSays (form_of c) bytes r → SomethingOwed (Some (Document c)) (whole bytes)
+      said : (r : Result Contents Refusal) → FormSaysFrom (least_for c) (form_of c) bytes r → SomethingOwed (Some (Document c)) (whole bytes)
       said (Err r) is = record { status = status.Refused r; report = None; text = refusal_line r; owed = refused c bytes r is }
       said (Ok a) is = let o = outcome c bytes a is in record { status = o.status; report = o.report; text = o.text; owed = served c bytes a o.status o.report o.text is o.is }
 

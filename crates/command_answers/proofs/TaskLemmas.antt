@@ -5,14 +5,15 @@ use Rattle.claim_core.specs.Turns.{CallerLists}
 use Rattle.claim_core.proofs.Places.{one_at}
 use Rattle.action_tree.specs.Trees.{Program}
 use Rattle.action_meaning.specs.Verdicts.{verdict_shown}
-use Rattle.shape_files.specs.Documents.{Contents, HasContents, DocumentsAreDecided}
+use Rattle.shape_files.specs.Documents.{Contents}
+use Rattle.shape_files.specs.LeastVersions.{DecidedFromEach}
 use Rattle.run_sample.specs.Laws.{SampleIsUnique}
 use Rattle.command_runs.specs.Laws.{SampleTextIsOne}
 use Rattle.command_runs.specs.Replay.{differs_line}
 use Rattle.command_words.specs.declared.command.Command.{Command}
 use Rattle.command_words.specs.declared.command.Command.TheVariants.{Document}
 use Rattle.command_words.specs.declared.command.DocumentCommand.{DocumentCommand}
-use Rattle.command_words.specs.declared.command.DocumentCommand.TheVariants.{Run, Interleave, Replay, Check, Measure, Renew}
+use Rattle.command_words.specs.declared.command.DocumentCommand.TheVariants.{Run, Interleave, Replay, Check, Measure, Renew, Rewind, Rounds, Elect}
 use Rattle.command_answers.specs.declared.answer.Answer.{Answer}
 use Rattle.command_answers.specs.declared.answer.Prepared.{Prepared}
 use Rattle.command_answers.specs.declared.answer.Task.TheVariants as task
@@ -20,11 +21,11 @@ use Rattle.command_answers.specs.declared.answer.Telling.{Telling}
 use Rattle.command_answers.specs.declared.answer.Telling.TheVariants as telling
 use Rattle.command_answers.specs.declared.status.Status.{Status}
 use Rattle.command_answers.specs.declared.status.Status.TheVariants as status
-use Rattle.command_answers.specs.Commands.{IsWorked, form_of}
+use Rattle.command_answers.specs.Commands.{IsWorked}
 use Rattle.command_answers.specs.Lines.{usage_line, read_fault_line, refusal_line}
 use Rattle.command_answers.specs.Reads.{Read, whole}
 use Rattle.command_answers.specs.Owed.{IsOwed, usage, read_fault, longer, refused, served, shown, sampled}
-use Rattle.command_answers.specs.Outcomes.{IsOutcome, of_run, of_interleave, agreeing, differing, of_check, of_measure, renewing, renew_differing}
+use Rattle.command_answers.specs.Outcomes.{IsOutcome, of_run, of_interleave, agreeing, differing, of_check, of_measure, renewing, renew_differing, no_place, unwound, not_unwound, rounded, not_rounded, no_erosion, not_ready, not_elected, elected}
 use Rattle.command_answers.specs.Answers.{IsRunFor, IsTaskOf, Tells, of_document, of_number}
 use Rattle.command_answers.specs.Laws.{SameIfAny, SameTask, OwedIsOne, PreparedIsOne, TaskIsOne, TellingIsOne}
 use Rattle.command_answers.proofs.Outcomes.{documents_have_outcomes, worked_is_done}
@@ -50,6 +51,15 @@ unserved a c s report text (of_check p its_program) other = absurd (other refl)
 unserved a c s report text (of_measure last t its_last measures) other = absurd (other refl)
 unserved a c s report text (renewing d es agrees) other = absurd (other refl)
 unserved a c s report text (renew_differing d place differs) other = (refl, refl)
+unserved a c s report text (no_place d es place its_journal above) other = (refl, refl)
+unserved a c s report text (unwound d es place world its_journal within is) other = absurd (other refl)
+unserved a c s report text (not_unwound d es place k its_journal within is) other = (refl, refl)
+unserved a c s report text (rounded d es rounds waiting agrees is) other = absurd (other refl)
+unserved a c s report text (not_rounded d place differs) other = (refl, refl)
+unserved a c s report text (no_erosion d another) other = (refl, refl)
+unserved a c s report text (not_ready d is another) other = (refl, refl)
+unserved a c s report text (not_elected d place is ready differs) other = (refl, refl)
+unserved a c s report text (elected d es is ready agrees) other = absurd (other refl)
 
 untold : (c : Option Command) (read : Read) (s : Status) (report : Option Report) (text : List ℕ) → IsOwed c read s report text → s ≢ status.Done → (report ≡ None) × (text ≡ line_of s)
 untold c read s report text usage other = (refl, refl)
@@ -60,7 +70,7 @@ untold c read s report text (served d bytes a t told v x is) other = unserved a 
 untold c read s report text (shown p) other = absurd (other refl)
 untold c read s report text (sampled seed told v x) other = absurd (other refl)
 
-module _ (documents : DocumentsAreDecided) (owed : OwedIsOne) where
+module _ (documents : DecidedFromEach) (owed : OwedIsOne) where
   both_answered : (c : DocumentCommand) (bytes : List ℕ) (one two : Answer) → IsTaskOf c bytes (task.Answered one) → IsTaskOf c bytes (task.Answered two) → SameTask (task.Answered one) (task.Answered two)
   both_answered Run bytes one two x y =
       let first = untold (Some (Document Run)) (whole bytes) one.status one.report one.text x.0 (x.1 tt) in
@@ -72,6 +82,9 @@ module _ (documents : DocumentsAreDecided) (owed : OwedIsOne) where
   both_answered Check bytes one two x y = let same = owed (Some (Document Check)) (whole bytes) one.status two.status one.report two.report one.text two.text x.0 y.0 in (same.status, same.report tt, same.text tt)
   both_answered Measure bytes one two x y = let same = owed (Some (Document Measure)) (whole bytes) one.status two.status one.report two.report one.text two.text x.0 y.0 in (same.status, same.report tt, same.text tt)
   both_answered Renew bytes one two x y = let same = owed (Some (Document Renew)) (whole bytes) one.status two.status one.report two.report one.text two.text x.0 y.0 in (same.status, same.report tt, same.text tt)
+  both_answered (Rewind place) bytes one two x y = let same = owed (Some (Document (Rewind place))) (whole bytes) one.status two.status one.report two.report one.text two.text x.0 y.0 in (same.status, same.report tt, same.text tt)
+  both_answered Rounds bytes one two x y = let same = owed (Some (Document Rounds)) (whole bytes) one.status two.status one.report two.report one.text two.text x.0 y.0 in (same.status, same.report tt, same.text tt)
+  both_answered Elect bytes one two x y = let same = owed (Some (Document Elect)) (whole bytes) one.status two.status one.report two.report one.text two.text x.0 y.0 in (same.status, same.report tt, same.text tt)
 
   -- for a document whose lists workers are to run nothing but Done is an outcome
   not_answered : (c : DocumentCommand) (bytes : List ℕ) (answer : Answer) (run : Prepared) → IsTaskOf c bytes (task.Answered answer) → IsWorked (Some (Document c)) → IsRunFor run (Some (Document c)) (whole bytes) → ⊥
@@ -80,7 +93,7 @@ module _ (documents : DocumentsAreDecided) (owed : OwedIsOne) where
 
   both_run : (c : DocumentCommand) (bytes : List ℕ) (one two : Prepared) → IsRunFor one (Some (Document c)) (whole bytes) → IsRunFor two (Some (Document c)) (whole bytes) → one ≡ two
   both_run c bytes one two (of_document d same a h its_program its_shape its_lists its_telling) (of_document e equal b k other_program other_shape other_lists other_telling) =
-      let contents : b ≡ a = same_contents documents (form_of c) bytes b a k h in
+      let contents : b ≡ a = same_contents documents c bytes b a k h in
       let program = one_at _ one.runner two.runner its_program (ap (λ (x : Contents). x.checked) (sym contents) ∙ other_program) in
       let shape = one_at _ one.world two.world its_shape (ap (λ (x : Contents). x.world) (sym contents) ∙ other_shape) in
       let lists = one_at _ one.lists two.lists its_lists (ap (λ (x : Contents). x.lists) (sym contents) ∙ other_lists) in
@@ -95,9 +108,9 @@ module _ (documents : DocumentsAreDecided) (owed : OwedIsOne) where
 
 -- ---- runs that are prepared, and the texts of their reports
 
-pub prepared_is_one : DocumentsAreDecided → SampleIsUnique → PreparedIsOne
+pub prepared_is_one : DecidedFromEach → SampleIsUnique → PreparedIsOne
 prepared_is_one documents unique command read one two (of_document c bytes a h its_program its_shape its_lists its_telling) (of_document e same b k other_program other_shape other_lists other_telling) =
-    let contents : b ≡ a = same_contents documents (form_of c) bytes b a k h in
+    let contents : b ≡ a = same_contents documents c bytes b a k h in
     let program = one_at _ one.runner two.runner its_program (ap (λ (x : Contents). x.checked) (sym contents) ∙ other_program) in
     let shape = one_at _ one.world two.world its_shape (ap (λ (x : Contents). x.world) (sym contents) ∙ other_shape) in
     let lists = one_at _ one.lists two.lists its_lists (ap (λ (x : Contents). x.lists) (sym contents) ∙ other_lists) in

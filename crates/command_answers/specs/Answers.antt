@@ -1,5 +1,5 @@
 -- What the code answers, and what it prepares for workers.
-use Rattle.std.specs.Prelude.{◌≡◌, ◌≢◌, ℕ, List, length, IsSome, ⊤}
+use Rattle.std.specs.Prelude.{◌≡◌, ◌≢◌, ℕ, List, length, codes, IsSome, ⊤}
 use Rattle.std.specs.List.{All}
 use Rattle.std.specs.declared.option.Option.{Option}
 use Rattle.std.specs.declared.option.Option.TheVariants.{Some, None}
@@ -14,11 +14,14 @@ use Rattle.claim_core.specs.Good.{Good}
 use Rattle.claim_core.specs.Reached.{Reached}
 use Rattle.action_tree.specs.Trees.{Program}
 use Rattle.action_meaning.specs.Verdicts.{verdict_shown}
-use Rattle.shape_files.specs.Documents.{Contents, HasContents}
+use Rattle.shape_files.specs.Documents.{Contents}
 use Rattle.run_sample.specs.Whole.{IsSample}
+use Rattle.shape_text.specs.Texts.{shape_text}
+use Rattle.command_runs.specs.Elect.{election_text}
 use Rattle.command_runs.specs.Renew.{renewed_text}
 use Rattle.command_runs.specs.Replay.{agrees_line, differs_line}
 use Rattle.command_runs.specs.Reports.{report_text}
+use Rattle.command_runs.specs.Rounds.{rounds_text}
 use Rattle.command_runs.specs.Sample.{IsSampleText}
 use Rattle.command_words.specs.declared.command.Command.{Command}
 use Rattle.command_words.specs.declared.command.Command.TheVariants.{Document, Sample}
@@ -30,7 +33,7 @@ use Rattle.command_answers.specs.declared.answer.Task.TheVariants as task
 use Rattle.command_answers.specs.declared.answer.Telling.{Telling}
 use Rattle.command_answers.specs.declared.answer.Telling.TheVariants as telling
 use Rattle.command_answers.specs.declared.status.Status.TheVariants as status
-use Rattle.command_answers.specs.Commands.{IsWorked, form_of}
+use Rattle.command_answers.specs.Commands.{IsDocumentOf, IsWorked}
 use Rattle.command_answers.specs.Lines.{refusal_line}
 use Rattle.command_answers.specs.Reads.{Read, nothing, whole}
 use Rattle.command_answers.specs.Owed.{IsOwed}
@@ -39,7 +42,7 @@ use Rattle.command_answers.specs.Owed.{IsOwed}
 
 -- it is what the command owes for each whole input that is a document with these contents
 abbrev pub IsAnswerTo : DocumentCommand → Contents → Answer → Type 0
-IsAnswerTo c a answer = (bytes : List ℕ) → HasContents (form_of c) bytes a
+IsAnswerTo c a answer = (bytes : List ℕ) → IsDocumentOf c bytes a
     → IsOwed (Some (Document c)) (whole bytes) answer.status answer.report answer.text
 
 -- the line of a refusal
@@ -57,6 +60,18 @@ agrees_with count = record { status = status.Done; report = None; text = agrees_
 -- and of one that differs at a place
 abbrev pub differs_with : ℕ → Answer
 differs_with place = record { status = status.Differs place; report = None; text = differs_line place }
+
+-- the section of a shape, where an amoebot has the values of so many variables
+abbrev pub unwound_with : ℕ → Config → Answer
+unwound_with vars world = record { status = status.Done; report = None; text = shape_text (codes "shape") vars world }
+
+-- the lines of so many rounds that have ended, and of so many amoebots that wait
+abbrev pub rounded_with : ℕ → ℕ → Answer
+rounded_with rounds waiting = record { status = status.Done; report = None; text = rounds_text rounds waiting }
+
+-- the lines of so many candidates, and of the leader, if there is one
+abbrev pub elected_with : ℕ → Option ℕ → Answer
+elected_with candidates leader = record { status = status.Done; report = None; text = election_text candidates leader }
 
 -- the document that has a journal anew
 abbrev pub renewed_with : Program → Config → List Entry → Config → Answer
@@ -84,7 +99,7 @@ IsCounted (telling.Sample seed) report = AreCountable report.journal.entries
 pub data IsRunFor (run : Prepared) : Option Command → Read → Type 0 where
   -- those of a document; it gets the text of its report in the document's version
   of_document : (c : DocumentCommand) (bytes : List ℕ) (a : Contents)
-      → HasContents (form_of c) bytes a
+      → IsDocumentOf c bytes a
       → a.checked ≡ Some run.runner
       → a.world ≡ Some run.world
       → a.lists ≡ Some run.lists
@@ -121,4 +136,4 @@ IsTaskOf c bytes (task.Run run) = IsPrepared (Some (Document c)) (whole bytes) r
 
 -- the same for each whole input that is a document with these contents
 abbrev pub IsTaskTo : DocumentCommand → Contents → Task → Type 0
-IsTaskTo c a t = (bytes : List ℕ) → HasContents (form_of c) bytes a → IsTaskOf c bytes t
+IsTaskTo c a t = (bytes : List ℕ) → IsDocumentOf c bytes a → IsTaskOf c bytes t

@@ -1,13 +1,16 @@
--- The table of the commands, and the numbers of the statuses.
-use Rattle.std.specs.Prelude.{ℕ, ⊤}
+-- The table of the commands, the documents of a command, and the numbers of the statuses.
+use Rattle.std.specs.Prelude.{ℕ, List, ⊤}
 use Rattle.std.specs.declared.option.Option.{Option}
 use Rattle.std.specs.declared.option.Option.TheVariants.{Some, None}
 use Rattle.shape_files.specs.declared.section_kind.Form.{Form}
 use Rattle.shape_files.specs.declared.section_kind.Form.TheVariants as form
+use Rattle.shape_files.specs.Documents.{Contents, HasContentsFrom, IsDocumentFaultFrom}
+use Rattle.shape_files.specs.Frame.{least_version}
+use Rattle.text_tokens.specs.declared.refusal.Refusal.{Refusal}
 use Rattle.command_words.specs.declared.command.Command.{Command}
 use Rattle.command_words.specs.declared.command.Command.TheVariants.{Document, Show, Sample}
 use Rattle.command_words.specs.declared.command.DocumentCommand.{DocumentCommand}
-use Rattle.command_words.specs.declared.command.DocumentCommand.TheVariants.{Run, Interleave, Replay, Check, Measure, Renew}
+use Rattle.command_words.specs.declared.command.DocumentCommand.TheVariants.{Run, Interleave, Replay, Check, Measure, Renew, Rewind, Rounds, Elect}
 use Rattle.command_answers.specs.declared.status.Status.{Status}
 use Rattle.command_answers.specs.declared.status.Status.TheVariants as status
 
@@ -24,6 +27,8 @@ pub data TurnMaker : Type 0 where
 pub record CommandRow : Type 0 where
   -- the form of its document
   pub form : Form
+  -- the least version of its document
+  pub least : ℕ
   -- the most bytes that its document may have
   pub limit : ℕ
   pub maker : TurnMaker
@@ -35,18 +40,37 @@ mebibyte = 1048576
 abbrev pub many_mebibytes : ℕ
 many_mebibytes = 134217728
 
+-- the least version whose journals have old values
+abbrev pub with_old_values : ℕ
+with_old_values = 3
+
 -- the table
 abbrev pub row_of : DocumentCommand → CommandRow
-row_of Run = record { form = form.Run; limit = mebibyte; maker = the_workers }
-row_of Interleave = record { form = form.Interleave; limit = mebibyte; maker = the_schedule }
-row_of Replay = record { form = form.Replay; limit = many_mebibytes; maker = no_maker }
-row_of Check = record { form = form.Check; limit = mebibyte; maker = no_maker }
-row_of Measure = record { form = form.Measure; limit = many_mebibytes; maker = no_maker }
-row_of Renew = record { form = form.Replay; limit = many_mebibytes; maker = no_maker }
+row_of Run = record { form = form.Run; least = least_version; limit = mebibyte; maker = the_workers }
+row_of Interleave = record { form = form.Interleave; least = least_version; limit = mebibyte; maker = the_schedule }
+row_of Replay = record { form = form.Replay; least = least_version; limit = many_mebibytes; maker = no_maker }
+row_of Check = record { form = form.Check; least = least_version; limit = mebibyte; maker = no_maker }
+row_of Measure = record { form = form.Measure; least = least_version; limit = many_mebibytes; maker = no_maker }
+row_of Renew = record { form = form.Replay; least = least_version; limit = many_mebibytes; maker = no_maker }
+row_of (Rewind place) = record { form = form.Replay; least = with_old_values; limit = many_mebibytes; maker = no_maker }
+row_of Rounds = record { form = form.Replay; least = least_version; limit = many_mebibytes; maker = no_maker }
+row_of Elect = record { form = form.Replay; least = least_version; limit = many_mebibytes; maker = no_maker }
 
 -- the form of a command's document
 abbrev pub form_of : DocumentCommand → Form
 form_of c = (row_of c).form
+
+-- and the least version that it may have
+abbrev pub least_for : DocumentCommand → ℕ
+least_for c = (row_of c).least
+
+-- the bytes are a document of the command, in its form and of a version that it may have, and the document has this
+abbrev pub IsDocumentOf : DocumentCommand → List ℕ → Contents → Type 0
+IsDocumentOf c bytes a = HasContentsFrom (least_for c) (form_of c) bytes a
+
+-- they are none, and this is their first fault
+abbrev pub IsDocumentFaultOf : DocumentCommand → List ℕ → Refusal → Type 0
+IsDocumentFaultOf c bytes r = IsDocumentFaultFrom (least_for c) (form_of c) bytes r
 
 -- the most bytes that are read for a command
 abbrev pub limit_for : Option Command → ℕ

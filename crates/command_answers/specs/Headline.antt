@@ -13,15 +13,15 @@ use Rattle.action_tree.specs.Trees.{Program}
 use Rattle.action_meaning.specs.Verdicts.{verdict_shown}
 use Rattle.run_sample.specs.declared.whole.Sample.{Sample as SampleValue}
 use Rattle.run_sample.specs.Whole.{IsSample}
-use Rattle.shape_files.specs.Documents.{Contents, HasContents}
+use Rattle.shape_files.specs.Documents.{Contents}
 use Rattle.command_runs.specs.Laws.{StaysConnectedIn}
 use Rattle.claim_core.specs.Machine.{setup}
 use Rattle.command_runs.specs.Reports.{report_text}
 use Rattle.command_words.specs.declared.command.DocumentCommand.{DocumentCommand}
-use Rattle.command_answers.specs.Commands.{form_of}
+use Rattle.command_answers.specs.Commands.{IsDocumentOf}
 use Rattle.command_answers.specs.OfSample.{six_lines}
 
--- The bytes are a document of the command's form, which has a program, a shape and lists.
+-- The bytes are a document of the command, which has a program, a shape and lists.
 -- The report is a good one of the lists' turns under the program, from the shape on, and an interleaving gives it.
 -- With at most one list it is what the turns leave, one after another, none of them Busy.
 -- If the guard is on and the shape is connected, then it is so in each world of the run. The text is the report's.
@@ -30,7 +30,7 @@ pub record IsRunOfDocument (c : DocumentCommand) (bytes : List ℕ) (report : Re
   pub program : Program
   pub start : Config
   pub lists : CallerLists
-  pub document : HasContents (form_of c) bytes contents
+  pub document : IsDocumentOf c bytes contents
   pub its_program : contents.checked ≡ Some program
   pub its_shape : contents.world ≡ Some start
   pub its_lists : contents.lists ≡ Some lists

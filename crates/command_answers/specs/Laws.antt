@@ -20,7 +20,7 @@ use Rattle.command_answers.specs.declared.answer.Task.TheVariants as task
 use Rattle.command_answers.specs.declared.answer.Telling.{Telling}
 use Rattle.command_answers.specs.declared.status.Status.{Status}
 use Rattle.command_answers.specs.declared.status.Status.TheVariants as status
-use Rattle.command_answers.specs.Commands.{form_of, MakesTurns}
+use Rattle.command_answers.specs.Commands.{IsDocumentOf, MakesTurns}
 use Rattle.command_answers.specs.Reads.{Read, nothing, whole, above, up_to_fault}
 use Rattle.command_answers.specs.Owed.{IsOwed}
 use Rattle.command_answers.specs.Answers.{IsRunFor, IsTaskOf, TellsReport}
@@ -81,10 +81,10 @@ TellingIsOne =
     → TellsReport t p lists report two
     → one ≡ two
 
--- what is owed for a document of the command's form is an outcome of it
+-- what is owed for a document of the command is an outcome of it
 abbrev pub DocumentsHaveOutcomes : Type 0
 DocumentsHaveOutcomes = (c : DocumentCommand) (bytes : List ℕ) (a : Contents) (s : Status) (report : Option Report) (text : List ℕ)
-    → HasContents (form_of c) bytes a → IsOwed (Some (Document c)) (whole bytes) s report text
+    → IsDocumentOf c bytes a → IsOwed (Some (Document c)) (whole bytes) s report text
     → IsOutcome a c s report text
 
 -- a report is owed exactly where a command that makes turns is done

@@ -1,5 +1,6 @@
 pub mod Answers
 pub mod Commands
+pub mod Counts
 pub mod Headline
 pub mod Laws
 pub mod Lines
@@ -8,8 +9,12 @@ pub mod Outcomes
 pub mod Owed
 pub mod Reads
 pub mod Examples
+pub mod ExplainExamples
 pub mod ReplayLaws
 pub mod RenewLaws
+pub mod RewindLaws
+pub mod ElectLaws
+pub mod RoundsLaws
 pub use Rattle.action_meaning.specs.Verdicts
 pub use Rattle.amoebot_state.specs.Limits
 pub use Rattle.claim_core.specs.Good

@@ -6,7 +6,8 @@ use Rattle.text_tokens.specs.Kinds.{name}
 use Rattle.text_tokens.specs.Lines.{line_text}
 
 abbrev pub usage_line : List ℕ
-usage_line = codes "usage: run / interleave / replay / check / measure / show NAME / sample NUMBER / renew\n"
+usage_line =
+    codes "usage: run / interleave / replay / check / measure / show NAME / sample NUMBER / renew / rewind NUMBER / rounds / elect\n"
 
 abbrev pub read_fault_line : List ℕ
 read_fault_line = codes "read fault\n"
@@ -18,3 +19,15 @@ refusal_line r = line_text (codes "refused" ∷ decimal r.line ∷ name r.kind �
 -- a document with more bytes than the limit, at which nobody looked
 abbrev pub too_long : Refusal
 too_long = record { line = 0; kind = kind.TooLong }
+
+-- a document whose journal has no such place
+abbrev pub no_such_place : Refusal
+no_such_place = record { line = 0; kind = kind.BadPlace }
+
+-- one whose program is not `erosion`
+abbrev pub not_erosion : Refusal
+not_erosion = record { line = 0; kind = kind.NotErosion }
+
+-- one from whose shape `erosion` may not start
+abbrev pub bad_start : Refusal
+bad_start = record { line = 0; kind = kind.BadStart }

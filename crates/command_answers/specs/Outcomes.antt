@@ -1,7 +1,8 @@
 -- How a command may end for a document of its form. Each command has its cases.
-use Rattle.std.specs.Prelude.{◌≡◌, ◌≤◌, ◌⊎◌, ℕ, List, length, map}
+use Rattle.std.specs.Prelude.{◌≡◌, ◌<◌, ◌≤◌, ◌⊎◌, ℕ, List, length, map, codes}
 use Rattle.std.specs.declared.option.Option.{Option}
 use Rattle.std.specs.declared.option.Option.TheVariants.{Some, None}
+use Rattle.std.specs.declared.result.Result.TheVariants.{Ok, Err}
 use Rattle.std.specs.Option.{option_or}
 use Rattle.amoebot_state.specs.declared.verdict.Entry.{Entry}
 use Rattle.amoebot_state.specs.declared.verdict.PlainEntry.{PlainEntry}
@@ -13,19 +14,27 @@ use Rattle.claim_core.specs.Machine.{setup}
 use Rattle.claim_core.specs.Good.{Good}
 use Rattle.claim_core.specs.Reached.{Reached}
 use Rattle.claim_core.specs.SerialRuns.{SerialRun, all_turns, left_by}
+use Rattle.rewind_log.specs.Unwinding.{IsUnwound}
+use Rattle.round_meter.specs.Rounds.{IsRounded}
+use Rattle.shape_checks.specs.Values.{value_count}
 use Rattle.action_tree.specs.Trees.{Program}
 use Rattle.action_meaning.specs.Verdicts.{verdict_shown}
+use Rattle.shape_text.specs.Texts.{shape_text}
 use Rattle.shape_files.specs.Documents.{Contents}
+use Rattle.election_law.specs.Elections.{IsErosion, IsReadyStart, cand_var, leader_of}
 use Rattle.command_runs.specs.Check.{check_text}
+use Rattle.command_runs.specs.Elect.{election_text}
 use Rattle.command_runs.specs.Interleave.{IsScheduled}
 use Rattle.command_runs.specs.Measure.{IsMeasureText}
 use Rattle.command_runs.specs.Replay.{Agrees, DiffersAt, PlainDiffersAt, agrees_line, differs_line}
 use Rattle.command_runs.specs.Renew.{renewed_text}
 use Rattle.command_runs.specs.Reports.{report_text}
+use Rattle.command_runs.specs.Rounds.{rounds_text}
 use Rattle.command_words.specs.declared.command.DocumentCommand.{DocumentCommand}
-use Rattle.command_words.specs.declared.command.DocumentCommand.TheVariants.{Run, Interleave, Replay, Check, Measure, Renew}
+use Rattle.command_words.specs.declared.command.DocumentCommand.TheVariants.{Run, Interleave, Replay, Check, Measure, Renew, Rewind, Rounds, Elect}
 use Rattle.command_answers.specs.declared.status.Status.{Status}
 use Rattle.command_answers.specs.declared.status.Status.TheVariants as status
+use Rattle.command_answers.specs.Lines.{refusal_line, no_such_place, not_erosion, bad_start}
 
 -- the lists of a document, with its program and its shape
 pub record DocumentLists (a : Contents) : Type 0 where
@@ -110,3 +119,50 @@ pub data IsOutcome (a : Contents) : DocumentCommand → Status → Option Report
   renew_differing : (d : DocumentRecord a) (place : ℕ)
       → JournalDiffers a d place
       → IsOutcome a Renew (status.Differs place) None (differs_line place)
+  -- `rewind`: the journal has no such place
+  no_place : (d : DocumentRecord a) (es : List Entry) (place : ℕ)
+      → a.entries ≡ Some es
+      → length es < place
+      → IsOutcome a (Rewind place) (status.Refused no_such_place) None (refusal_line no_such_place)
+  -- the shape at the place, seen from the final shape
+  unwound : (d : DocumentRecord a) (es : List Entry) (place : ℕ) (world : Config)
+      → a.entries ≡ Some es
+      → place ≤ length es
+      → IsUnwound (verdict_shown d.program) d.start d.final es place (Ok world)
+      → IsOutcome a (Rewind place) status.Done None (shape_text (codes "shape") (length d.program.vars) world)
+  -- or no way leads back to the place, and this is where it ends
+  not_unwound : (d : DocumentRecord a) (es : List Entry) (place k : ℕ)
+      → a.entries ≡ Some es
+      → place ≤ length es
+      → IsUnwound (verdict_shown d.program) d.start d.final es place (Err k)
+      → IsOutcome a (Rewind place) (status.Differs k) None (differs_line k)
+  -- `rounds`: the journal is such a run, and has so many rounds
+  rounded : (d : DocumentRecord a) (es : List Entry) (rounds waiting : ℕ)
+      → JournalAgrees a d es
+      → IsRounded (verdict_shown d.program) d.start es rounds waiting
+      → IsOutcome a Rounds status.Done None (rounds_text rounds waiting)
+  -- or it differs, as for `replay`
+  not_rounded : (d : DocumentRecord a) (place : ℕ)
+      → JournalDiffers a d place
+      → IsOutcome a Rounds (status.Differs place) None (differs_line place)
+  -- `elect`: the program is another than `erosion`
+  no_erosion : (d : DocumentRecord a)
+      → ¬ IsErosion d.program
+      → IsOutcome a Elect (status.Refused not_erosion) None (refusal_line not_erosion)
+  -- or it may not start from the shape
+  not_ready : (d : DocumentRecord a)
+      → IsErosion d.program
+      → ¬ IsReadyStart d.start
+      → IsOutcome a Elect (status.Refused bad_start) None (refusal_line bad_start)
+  -- or the journal differs, as for `replay`
+  not_elected : (d : DocumentRecord a) (place : ℕ)
+      → IsErosion d.program
+      → IsReadyStart d.start
+      → JournalDiffers a d place
+      → IsOutcome a Elect (status.Differs place) None (differs_line place)
+  -- or it is such a run, and these are the candidates and the leader of its last world
+  elected : (d : DocumentRecord a) (es : List Entry)
+      → IsErosion d.program
+      → IsReadyStart d.start
+      → JournalAgrees a d es
+      → IsOutcome a Elect status.Done None (election_text (value_count d.final cand_var 1) (leader_of d.final))

@@ -4,7 +4,7 @@ use Rattle.std.specs.declared.option.Option.{Option}
 use Rattle.std.specs.declared.option.Option.TheVariants.{Some, None}
 use Rattle.text_tokens.specs.declared.refusal.Refusal.{Refusal}
 use Rattle.claim_core.specs.declared.report.Report.{Report}
-use Rattle.shape_files.specs.Documents.{Contents, HasContents, IsDocumentFault}
+use Rattle.shape_files.specs.Documents.{Contents}
 use Rattle.shipped_programs.specs.declared.shipped.Shipped.{Shipped}
 use Rattle.shipped_programs.specs.Shipped.{tree_of}
 use Rattle.command_runs.specs.Check.{check_text}
@@ -13,7 +13,7 @@ use Rattle.command_words.specs.declared.command.Command.TheVariants.{Document, S
 use Rattle.command_words.specs.declared.command.DocumentCommand.{DocumentCommand}
 use Rattle.command_answers.specs.declared.status.Status.{Status}
 use Rattle.command_answers.specs.declared.status.Status.TheVariants as status
-use Rattle.command_answers.specs.Commands.{form_of}
+use Rattle.command_answers.specs.Commands.{IsDocumentOf, IsDocumentFaultOf}
 use Rattle.command_answers.specs.Lines.{usage_line, read_fault_line, refusal_line, too_long}
 use Rattle.command_answers.specs.Reads.{Read, nothing, whole, above, up_to_fault}
 use Rattle.command_answers.specs.Outcomes.{IsOutcome}
@@ -29,13 +29,13 @@ pub data IsOwed : Option Command → Read → Status → Option Report → List 
   -- the input is longer than a document of the command may be
   longer : (c : DocumentCommand) (got : List ℕ)
       → IsOwed (Some (Document c)) (above got) (status.Refused too_long) None (refusal_line too_long)
-  -- the whole input is no document of the command's form, and this is its first fault
+  -- the whole input is no document of the command, and this is its first fault
   refused : (c : DocumentCommand) (bytes : List ℕ) (r : Refusal)
-      → IsDocumentFault (form_of c) bytes r
+      → IsDocumentFaultOf c bytes r
       → IsOwed (Some (Document c)) (whole bytes) (status.Refused r) None (refusal_line r)
-  -- it is a document of that form, and this is an outcome of it
+  -- it is a document of the command, and this is an outcome of it
   served : (c : DocumentCommand) (bytes : List ℕ) (a : Contents) (s : Status) (report : Option Report) (text : List ℕ)
-      → HasContents (form_of c) bytes a
+      → IsDocumentOf c bytes a
       → IsOutcome a c s report text
       → IsOwed (Some (Document c)) (whole bytes) s report text
   -- a shipped program is shown as `check` writes one; nothing is read

@@ -57,11 +57,11 @@ RenewedStays =
 
 -- ---- how it ends
 
--- `renew` is done where `replay` is done, which is where the journal agrees. With each other status it ends as `replay` does.
-pub record EndsAsReplay (read : Read) : Type 0 where
-  pub done : ((text : List ℕ) × IsOwedFor Renew read status.Done text) ↔ ((text : List ℕ) × IsOwedFor Replay read status.Done text)
-  pub other : (s : Status) (text : List ℕ) → s ≢ status.Done → IsOwedFor Renew read s text ↔ IsOwedFor Replay read s text
+-- A command is done where `replay` is done, which is where the journal agrees. With each other status it ends as `replay` does.
+pub record EndsAsReplay (c : DocumentCommand) (read : Read) : Type 0 where
+  pub done : ((text : List ℕ) × IsOwedFor c read status.Done text) ↔ ((text : List ℕ) × IsOwedFor Replay read status.Done text)
+  pub other : (s : Status) (text : List ℕ) → s ≢ status.Done → IsOwedFor c read s text ↔ IsOwedFor Replay read s text
 
--- so it is whatever the input came to
+-- so it is with `renew`, whatever the input came to
 abbrev pub RenewEndsAsReplay : Type 0
-RenewEndsAsReplay = (read : Read) → EndsAsReplay read
+RenewEndsAsReplay = (read : Read) → EndsAsReplay Renew read

@@ -3,6 +3,7 @@
 ghost use Rattle.command_answers.specs.Laws.{DocumentsHaveOutcomes, OwedIsOne, OwedIsSome, PreparedIsOne, TaskIsOne, TellingIsOne};
 ghost use Rattle.command_answers.specs.Laws.{ReportsAreOfDocuments, ReportsAreOfSamples, ReportsAreOfTurns};
 ghost use Rattle.command_answers.specs.Examples.{SmallAnswers};
+ghost use Rattle.command_answers.specs.ExplainExamples.{SmallExplanations};
 
 use action_meaning::changes_are_acts;
 use claim_core::{one_list_is_serial, reached_is_good, rounds_leave_a_report};
@@ -10,11 +11,14 @@ use command_runs::{
     good_stays_connected, interleave_text_is_one, measure_text_is_one, replay_is_decided,
     run_text_is_one, sample_text_is_one,
 };
+use election_law::{election_laws, start_laws};
 use model_ops::acts_decide;
+use rewind_log::{unwound_is_some, unwound_is_unique};
+use round_meter::{each_run_is_rounded, rounds_are_unique};
 use run_sample::{sample_is_fit, sample_is_some, sample_is_unique};
 use serial_model::{plain_run_is_run, plain_run_is_unique};
 use shape_checks::measures_are_decided;
-use shape_files::{documents_are_decided, documents_are_sound, documents_fit};
+use shape_files::{documents_are_sound, documents_fit, least_versions_are_kept};
 
 /// For a command and what the input came to, at most one status is owed.
 /// At most one report is owed, except for `run` of two lists or more and for `sample`.
@@ -22,7 +26,7 @@ use shape_files::{documents_are_decided, documents_are_sound, documents_fit};
 pub fn owed_is_one()
     ensures { OwedIsOne }
 {
-    documents_are_decided();
+    least_versions_are_kept();
     run_text_is_one();
     interleave_text_is_one();
     replay_is_decided();
@@ -32,13 +36,17 @@ pub fn owed_is_one()
     measure_text_is_one();
     good_stays_connected();
     sample_is_fit();
+    changes_are_acts();
+    acts_decide();
+    unwound_is_unique();
+    rounds_are_unique();
 }
 
 /// For a command and what the input came to, a status, a report or none, and a text are owed.
 pub fn owed_is_some()
     ensures { OwedIsSome }
 {
-    documents_are_decided();
+    least_versions_are_kept();
     documents_fit();
     documents_are_sound();
     rounds_leave_a_report();
@@ -52,6 +60,10 @@ pub fn owed_is_some()
     sample_is_some();
     changes_are_acts();
     acts_decide();
+    unwound_is_some();
+    each_run_is_rounded();
+    election_laws();
+    start_laws();
 }
 
 /// For a whole input of a command at most one task is to be done.
@@ -59,7 +71,7 @@ pub fn owed_is_some()
 pub fn task_is_one()
     ensures { TaskIsOne }
 {
-    documents_are_decided();
+    least_versions_are_kept();
     owed_is_one();
 }
 
@@ -68,16 +80,16 @@ pub fn prepared_is_one()
     ensures run { PreparedIsOne }
     ensures text { TellingIsOne }
 {
-    documents_are_decided();
+    least_versions_are_kept();
     sample_is_unique();
     sample_text_is_one();
 }
 
-/// For a document of the command's form it is done; or, for `replay` and `renew`, the journal differs.
+/// What is owed for a document of the command is an outcome of it. It is done; or the journal differs; or `rewind` or `elect` refuses it.
 pub fn documents_have_outcomes()
     ensures { DocumentsHaveOutcomes }
 {
-    documents_are_decided();
+    least_versions_are_kept();
 }
 
 /// A report is owed exactly where `run`, `interleave` or `sample` is done. Then it is a good one of the turns of a document's lists under
@@ -98,4 +110,11 @@ pub fn small_answers()
 {
     reached_is_good();
     one_list_is_serial();
+}
+
+/// For `rewind`, `rounds` and `elect`, calls and what they owe.
+pub fn small_explanations()
+    ensures { SmallExplanations }
+{
+    reached_is_good();
 }

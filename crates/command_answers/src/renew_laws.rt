@@ -6,7 +6,9 @@ use action_meaning::{changes_are_acts, verdict_ignores_lines};
 use action_print::canon_ignores_lines;
 use amoebot_state::zone_has_at_most_nine_bodies;
 use model_ops::acts_decide;
-use shape_files::{documents_are_decided, documents_are_sound, documents_fit, documents_read_back};
+use shape_files::{
+    documents_are_sound, documents_fit, documents_read_back, least_versions_are_kept,
+};
 
 /// What `renew` writes is a document of `replay` in version 3, with what its document has and the entries that the journal tells.
 /// `replay` agrees on it, and to renew it again gives the same text. That is said of texts within the limit of `replay`.
@@ -16,7 +18,7 @@ pub fn renewed_is_replayed()
     ensures stays { RenewedStays }
     ensures ends { RenewEndsAsReplay }
 {
-    documents_are_decided();
+    least_versions_are_kept();
     documents_fit();
     documents_are_sound();
     documents_read_back();

@@ -1,6 +1,6 @@
 ghost use Rattle.std.specs.Prelude.{◌≡◌, Some};
 ghost use Rattle.command_words.specs.declared.command.Command.TheVariants.{Document};
-ghost use Rattle.command_answers.specs.Commands.{form_of, limit_for};
+ghost use Rattle.command_answers.specs.Commands.{form_of, least_for, limit_for};
 
 use command_words::DocumentCommand;
 use shape_files::Form;
@@ -10,6 +10,8 @@ use shape_files::Form;
 pub struct Row {
     /// Its form.
     pub form: Form,
+    /// The least version that it may have.
+    pub least: u8,
     /// The most bytes that it may have.
     pub limit: u32,
 }
@@ -20,18 +22,28 @@ const MEBIBYTE: u32 = 1_048_576;
 /// The most bytes of a document that may have a journal.
 const MANY_MEBIBYTES: u32 = 134_217_728;
 
+/// The least version that there is.
+const LEAST_VERSION: u8 = 1;
+
+/// The least version whose journals have old values.
+const WITH_OLD_VALUES: u8 = 3;
+
 /// The row of a command that reads a document.
 pub fn row_of(command: DocumentCommand) -> Row
     ensures form { result.form ≡ form_of command }
+    ensures least { result.least ≡ least_for command }
     ensures limit { result.limit ≡ limit_for (Some (Document command)) }
 {
-    let (form, limit) = match command {
-        DocumentCommand::Run => (Form::Run, MEBIBYTE),
-        DocumentCommand::Interleave => (Form::Interleave, MEBIBYTE),
-        DocumentCommand::Replay => (Form::Replay, MANY_MEBIBYTES),
-        DocumentCommand::Check => (Form::Check, MEBIBYTE),
-        DocumentCommand::Measure => (Form::Measure, MANY_MEBIBYTES),
-        DocumentCommand::Renew => (Form::Replay, MANY_MEBIBYTES),
+    let (form, least, limit) = match command {
+        DocumentCommand::Run => (Form::Run, LEAST_VERSION, MEBIBYTE),
+        DocumentCommand::Interleave => (Form::Interleave, LEAST_VERSION, MEBIBYTE),
+        DocumentCommand::Replay => (Form::Replay, LEAST_VERSION, MANY_MEBIBYTES),
+        DocumentCommand::Check => (Form::Check, LEAST_VERSION, MEBIBYTE),
+        DocumentCommand::Measure => (Form::Measure, LEAST_VERSION, MANY_MEBIBYTES),
+        DocumentCommand::Renew => (Form::Replay, LEAST_VERSION, MANY_MEBIBYTES),
+        DocumentCommand::Rewind(_) => (Form::Replay, WITH_OLD_VALUES, MANY_MEBIBYTES),
+        DocumentCommand::Rounds => (Form::Replay, LEAST_VERSION, MANY_MEBIBYTES),
+        DocumentCommand::Elect => (Form::Replay, LEAST_VERSION, MANY_MEBIBYTES),
     };
-    Row { form, limit }
+    Row { form, least, limit }
 }

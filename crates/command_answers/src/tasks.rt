@@ -1,27 +1,31 @@
 //! What is to be done for a whole input of a command that reads a document.
 
-ghost use Rattle.std.specs.Prelude.{IfOk};
+ghost use Rattle.std.specs.Prelude.{◌≤◌, IfOk};
 ghost use Rattle.text_tokens.specs.declared.refusal.RefusalKind.TheVariants.{Trailing};
 ghost use Rattle.text_tokens.specs.Steps.{ReadsInput};
 ghost use Rattle.text_tokens.specs.Text.{IsCountable};
-ghost use Rattle.shape_files.specs.Documents.{IsDocument};
+ghost use Rattle.shape_files.specs.Documents.{IsDocumentFrom};
 ghost use Rattle.shape_files.specs.Fitting.{Fits};
+ghost use Rattle.shape_files.specs.Frame.{least_version};
 ghost use Rattle.shape_files.specs.Views.{contents};
 ghost use Rattle.command_answers.specs.Answers.{IsTaskOf, IsTaskTo};
-ghost use Rattle.command_answers.specs.Commands.{form_of};
+ghost use Rattle.command_answers.specs.Commands.{form_of, least_for};
 
 use crate::answer::{Task, refuse};
 use crate::of_check::answer_check;
+use crate::of_elect::answer_elect;
 use crate::of_interleave::answer_interleave;
 use crate::of_measure::answer_measure;
 use crate::of_renew::answer_renew;
 use crate::of_replay::answer_replay;
+use crate::of_rewind::answer_rewind;
+use crate::of_rounds::answer_rounds;
 use crate::of_run::prepare;
-use crate::table::row_of;
+use crate::table::{Row, row_of};
 use amoebot_state::NoMemory;
 use command_words::DocumentCommand;
 use outer_io::Document;
-use shape_files::{Form, Parts, Sections, documents_fit, read_sections};
+use shape_files::{Parts, Sections, documents_fit, least_versions_are_kept, read_sections_from};
 use std::alloc::Global;
 use text_tokens::ReadRefusal;
 
@@ -37,7 +41,8 @@ pub fn task_of(
     ensures { IfOk result (IsTaskOf command document) }
 {
     documents_fit();
-    match read_whole(alloc, document, row_of(command).form) {
+    least_versions_are_kept();
+    match read_whole(alloc, document, row_of(command)) {
         Ok(sections) => task_of_document(alloc, command, sections.into_parts()),
         Err(ReadRefusal::Refused(refusal)) => {
             let answer = refuse(alloc, refusal)?;
@@ -48,16 +53,18 @@ pub fn task_of(
 }
 
 /// The sections of a whole input, which is dropped then.
-fn read_whole(alloc: Global, document: Document, form: Form) -> Result<Sections, ReadRefusal>
-    requires { IsCountable document }
-    ensures { ReadsInput (IsDocument form) Trailing (λ s. s) document result }
+fn read_whole(alloc: Global, document: Document, row: Row) -> Result<Sections, ReadRefusal>
+    requires countable { IsCountable document }
+    requires least { least_version ≤ row.least }
+    ensures { ReadsInput (IsDocumentFrom row.least row.form) Trailing (λ s. s) document result }
 {
-    read_sections(alloc, document.bytes(), form)
+    read_sections_from(alloc, document.bytes(), row.form, row.least)
 }
 
-/// What is to be done for a document of the command's form.
+/// What is to be done for a document of the command.
 fn task_of_document(alloc: Global, command: DocumentCommand, parts: Parts) -> Result<Task, NoMemory>
-    requires { Fits (form_of command) (contents parts) }
+    requires fits { Fits (form_of command) (contents parts) }
+    requires least { least_for command ≤ (contents parts).version }
     ensures { IfOk result (IsTaskTo command (contents parts)) }
 {
     match command {
@@ -67,5 +74,8 @@ fn task_of_document(alloc: Global, command: DocumentCommand, parts: Parts) -> Re
         DocumentCommand::Check => Ok(Task::Answered(answer_check(alloc, parts)?)),
         DocumentCommand::Measure => Ok(Task::Answered(answer_measure(alloc, parts)?)),
         DocumentCommand::Renew => Ok(Task::Answered(answer_renew(alloc, parts)?)),
+        DocumentCommand::Rewind(place) => Ok(Task::Answered(answer_rewind(alloc, place, parts)?)),
+        DocumentCommand::Rounds => Ok(Task::Answered(answer_rounds(alloc, parts)?)),
+        DocumentCommand::Elect => Ok(Task::Answered(answer_elect(alloc, parts)?)),
     }
 }

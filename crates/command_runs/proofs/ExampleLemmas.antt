@@ -30,6 +30,7 @@ use Rattle.command_runs.specs.Run.{IsRunReport}
 use Rattle.command_runs.specs.Interleave.{at_round, IsScheduled}
 use Rattle.command_runs.specs.Replay.{DiffersAt, PlainDiffersAt, at_entry, at_end}
 use Rattle.command_runs.specs.Sample.{IsSampleText}
+use Rattle.command_runs.proofs.CountedRounds.{one_round}
 use Rattle.command_runs.proofs.Measures.{nobody_is_measured, one_is_measured, two_are_measured, spread_is_connected}
 use Rattle.command_runs.specs.Examples.{start, second_spread, decides, second_list, second_expansion, other_old_value, one_expanded, two_caller_schedule, SmallCommands}
 
@@ -158,6 +159,7 @@ small_commands goods serials connected one = record {
   agrees = run;
   differs = no_step;
   other_shape = other_shape;
+  one_round = one_round run;
   plain_agrees = plain_run;
   plain_differs = no_plain_step;
   other_old = other_old;
@@ -166,6 +168,9 @@ small_commands goods serials connected one = record {
   check_text = refl;
   renewed = refl;
   differs_line = refl;
+  rounds_lines = refl;
+  led = refl;
+  no_leader = refl;
   measure = nobody_is_measured;
   hexagon = one_is_measured connected one;
   apart = two_are_measured connected;

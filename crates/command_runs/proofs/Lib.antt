@@ -1,4 +1,7 @@
+pub mod Canonical
+pub mod CountedRounds
 pub mod Entries
+pub mod FedMeters
 pub mod Followed
 pub mod Interleavings
 pub mod Replays

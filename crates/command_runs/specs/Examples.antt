@@ -1,7 +1,7 @@
 -- What the commands leave of two amoebots that stand side by side on a row of three nodes, where the program expands a contracted
 -- amoebot to the right.
 use Rattle.std.specs.Prelude.{◌≡◌, ℕ, List, [], ◌∷◌, ◌++◌, codes}
-use Rattle.std.specs.declared.option.Option.TheVariants.{Some}
+use Rattle.std.specs.declared.option.Option.TheVariants.{Some, None}
 use Rattle.amoebot_state.specs.declared.cell.CellName.TheVariants as name
 use Rattle.amoebot_state.specs.declared.cell.Cell.TheVariants as cell
 use Rattle.amoebot_state.specs.declared.verdict.Entry.{Entry}
@@ -15,12 +15,14 @@ use Rattle.claim_core.specs.Turns.{CallerLists}
 use Rattle.small_worlds.specs.Rows.{node, row_frame, row_with, bot_in_row, two_beside, expanded, one_refused}
 use Rattle.action_print.specs.Pins.{counting}
 use Rattle.command_runs.specs.Check.{check_text}
+use Rattle.command_runs.specs.Elect.{election_text}
 use Rattle.command_runs.specs.Reports.{report_text}
 use Rattle.command_runs.specs.Run.{IsRunReport}
 use Rattle.command_runs.specs.Interleave.{IsInterleaveReport}
 use Rattle.command_runs.specs.Renew.{renewed_text}
 use Rattle.command_runs.specs.Replay.{Agrees, DiffersAt, PlainAgrees, PlainDiffersAt, agrees_line, differs_line}
 use Rattle.command_runs.specs.Measure.{IsMeasureText}
+use Rattle.command_runs.specs.Rounds.{AgreesInRounds, rounds_text}
 use Rattle.command_runs.specs.Sample.{IsSampleText}
 
 -- the shape at the start, and the one in which the second amoebot has expanded
@@ -107,6 +109,8 @@ pub record SmallCommands : Type 0 where
   -- the amoebot is expanded when it is to expand again
   pub differs : DiffersAt decides start (second_expansion ∷ second_expansion ∷ []) second_spread 1
   pub other_shape : DiffersAt decides start (second_expansion ∷ []) start 1
+  -- the first amoebot rests, since the second one stands before it, and the second one acts: a round, after which both rest
+  pub one_round : AgreesInRounds decides start (second_expansion ∷ []) second_spread 1 0
   -- the same entries without their old values
   pub plain_agrees : PlainAgrees decides start (plain_entry second_expansion ∷ []) second_spread
   pub plain_differs : PlainDiffersAt decides start (plain_entry second_expansion ∷ plain_entry second_expansion ∷ []) second_spread 1
@@ -117,6 +121,9 @@ pub record SmallCommands : Type 0 where
   pub check_text : check_text 1 counting ≡ codes "amoebot 1\n" ++ counting_program
   pub renewed : renewed_text counting start (second_expansion ∷ []) second_spread ≡ counting_renewed
   pub differs_line : differs_line 0 ≡ codes "differs 0\n"
+  pub rounds_lines : rounds_text 2 10 ≡ codes "rounds 2\nwaiting 10\n"
+  pub led : election_text 1 (Some 0) ≡ codes "candidates 1\nleader 0\n"
+  pub no_leader : election_text 6 None ≡ codes "candidates 6\nleader none\n"
   pub measure : IsMeasureText nobody (codes "bots 0\nconnected yes\nhexagon no\n")
   pub hexagon : IsMeasureText one_alone (codes "bots 1\nconnected yes\nhexagon yes\n")
   pub apart : IsMeasureText two_apart (codes "bots 2\nconnected no\nhexagon no\n")

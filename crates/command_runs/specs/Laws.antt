@@ -13,8 +13,14 @@ use Rattle.claim_core.specs.declared.report.Report.{Report}
 use Rattle.claim_core.specs.Turns.{CallerLists}
 use Rattle.claim_core.specs.Good.{Good, IsWorldAt}
 use Rattle.claim_core.specs.Machine.{Setup}
+use Rattle.text_tokens.specs.declared.refusal.Refusal.{Refusal}
+use Rattle.text_tokens.specs.Text.{Lexeme, AreTokens}
 use Rattle.action_tree.specs.Trees.{Program}
-use Rattle.action_meaning.specs.Verdicts.{verdict_shown}
+use Rattle.action_tree.specs.Writable.{is_writable}
+use Rattle.action_print.specs.Canon.{canon}
+use Rattle.action_print.specs.ReadsBack.{AreReadAs}
+use Rattle.action_check.specs.Faults.{AreRulesKept}
+use Rattle.action_meaning.specs.Verdicts.{verdict_on, verdict_shown}
 use Rattle.command_runs.specs.Run.{IsRunText}
 use Rattle.command_runs.specs.Interleave.{IsScheduled, IsInterleaveText}
 use Rattle.command_runs.specs.Replay.{Agrees, DiffersAt, PlainAgrees, PlainDiffersAt}
@@ -106,6 +112,17 @@ GoodIsFew =
     (f : Shown → Verdict) (start : Config) (lists : CallerLists) (report : Report)
     → Good f start lists report
     → IsFew start lists report.journal.entries
+
+-- the canonical text of a program that keeps the rules is read as a program that keeps them too, and has the same verdict
+abbrev pub CanonMeansTheSame : Type 0
+CanonMeansTheSame =
+    (p : Program) (ts : List Lexeme) (last : Refusal)
+    → is_writable p ≡ true
+    → AreRulesKept p
+    → AreTokens (canon p) 0 ts last
+    → (read : AreReadAs p ts last)
+    × AreRulesKept read.program
+    × ((c : Config) (i : ℕ) → verdict_on read.program c i ≡ verdict_on p c i)
 
 -- a shape has one text of its measures
 abbrev pub MeasureTextIsOne : Type 0

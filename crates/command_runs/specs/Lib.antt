@@ -1,10 +1,12 @@
 pub mod Check
+pub mod Elect
 pub mod Interleave
 pub mod Laws
 pub mod Measure
 pub mod Renew
 pub mod Replay
 pub mod Reports
+pub mod Rounds
 pub mod Run
 pub mod Sample
 pub mod Examples

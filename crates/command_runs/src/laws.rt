@@ -1,6 +1,6 @@
 //! What holds of the commands. The functions do nothing: their clauses are the laws.
 
-ghost use Rattle.command_runs.specs.Laws.{GoodIsFew, GoodStaysConnected, InterleaveTextIsOne, MeasureTextIsOne};
+ghost use Rattle.command_runs.specs.Laws.{CanonMeansTheSame, GoodIsFew, GoodStaysConnected, InterleaveTextIsOne, MeasureTextIsOne};
 ghost use Rattle.command_runs.specs.Laws.{ReplayIsDecided, RunTextIsOne, SampleTextIsOne, ScheduleHasOneReport};
 ghost use Rattle.command_runs.specs.Examples.{SmallCommands};
 
@@ -50,6 +50,11 @@ pub fn replay_is_decided()
 /// A shape has one text of its measures.
 pub fn measure_text_is_one()
     ensures { MeasureTextIsOne }
+{}
+
+/// The canonical text of a program that keeps the rules is read as a program that keeps them too, and has the same verdict.
+pub fn canon_means_the_same()
+    ensures { CanonMeansTheSame }
 {}
 
 /// A good report's journal has at most one entry for each turn, and each is of an amoebot that is there.

@@ -2,6 +2,8 @@
 //! None of them reads or writes a byte.
 #![tactic(auto)]
 
+mod counting;
+mod explaining;
 mod interleaving;
 mod laws;
 mod measuring;
@@ -10,10 +12,12 @@ mod replaying;
 mod sampling;
 mod texts;
 
+pub use counting::{RoundCount, count_rounds};
+pub use explaining::{print_election, print_rounds};
 pub use interleaving::run_interleaved;
 pub use laws::{
-    good_is_few, good_stays_connected, interleave_text_is_one, measure_text_is_one,
-    replay_is_decided, run_text_is_one, sample_text_is_one, small_commands,
+    canon_means_the_same, good_is_few, good_stays_connected, interleave_text_is_one,
+    measure_text_is_one, replay_is_decided, run_text_is_one, sample_text_is_one, small_commands,
 };
 pub use measuring::print_measures;
 pub use renewing::follow_all;

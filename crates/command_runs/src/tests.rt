@@ -6,12 +6,13 @@ ghost use Rattle.amoebot_state.specs.Limits.{most_bots, most_vars};
 ghost use Rattle.amoebot_state.specs.Refusals.{IsBotInRange};
 
 use crate::{
-    compare, compare_plain, follow_all, print_agrees, print_differs, print_report, run_interleaved,
+    compare, compare_plain, count_rounds, follow_all, print_agrees, print_differs, print_election,
+    print_report, print_rounds, run_interleaved,
 };
 use amoebot_state::{Bot, Decider, End, Entry, PlainEntry, Port, World};
 use claim_core::Report;
 use schedule_text::{Schedule, read_schedule};
-use small_worlds::{Expander, Marker, lists_of, standing, world_of};
+use small_worlds::{Expander, Marker, lists_of, spread, standing, world_of};
 use std::alloc::Global;
 use std::test::Fail;
 use text_tokens::Tokens;
@@ -319,5 +320,67 @@ fn a_journal_without_old_values_is_followed_or_differs(rt: HostRuntime) -> Resul
             Some(place)
         );
     }
+    Ok(())
+}
+
+/// The rounds of entries and the amoebots that wait; or the place at which they differ.
+fn counted<D: Decider>(
+    alloc: Global,
+    decider: &D,
+    start: &World,
+    entries: &[Entry],
+    last: &World,
+) -> Result<Result<(u32, u32), u32>, Fail> {
+    let bots = start.bots();
+    if entries.len() > 4096 || !entries.iter().all(|entry| entry.bot < bots) {
+        Err("entries")?;
+    }
+    match count_rounds(alloc, decider, start.copy(alloc)?, entries, last)? {
+        Ok(count) => Ok(Ok((count.rounds, count.waiting))),
+        Err(differs) => Ok(Err(differs.place)),
+    }
+}
+
+/// The program that expands an amoebot is enabled on contracted ones alone. The second amoebot acts first.
+#[test]
+fn the_rounds_of_a_journal_are_counted(rt: HostRuntime) -> Result<(), Fail> {
+    let alloc = rt.alloc();
+    let bots = [standing(1, 1, 0), standing(6, 6, 0)];
+    let lists: (u32, &[&[u16]]) = (1, &[&[0], &[1]]);
+    let report = interleaved(alloc, &EXPANDER, &bots, lists, "schedule 1 times 10 end")?;
+    let start = world_of(alloc, &bots)?;
+    let half = world_of(alloc, &[standing(1, 1, 0), spread((7, 6), (6, 6), 0)])?;
+    let last = &report.world;
+    let entries = report.journal.entries();
+    // Both have acted, and both rest at the end.
+    assert_eq!(rt;
+        counted(alloc, &EXPANDER, &start, entries, last)?,
+        Ok((1, 0))
+    );
+    // The first amoebot has not acted yet.
+    assert_eq!(rt;
+        counted(alloc, &EXPANDER, &start, &entries[..1], &half)?,
+        Ok((0, 1))
+    );
+    // Without entries no round ends, and both wait.
+    assert_eq!(rt; counted(alloc, &EXPANDER, &start, &[], &start)?, Ok((0, 2)));
+    // Another last shape, and another first one.
+    assert_eq!(rt; counted(alloc, &EXPANDER, &start, entries, &half)?, Err(2));
+    assert_eq!(rt; counted(alloc, &EXPANDER, last, entries, last)?, Err(0));
+    Ok(())
+}
+
+#[test]
+fn rounds_and_elections_have_two_lines(rt: HostRuntime) -> Result<(), Fail> {
+    let alloc = rt.alloc();
+    let rounds = print_rounds(alloc, 4294967295, 10)?;
+    assert_eq!(rt;
+        rounds.bytes(),
+        b"rounds 4294967295\nwaiting 10\n".as_slice()
+    );
+    let led = print_election(alloc, 1, Some(65535))?;
+    assert_eq!(rt; led.bytes(), b"candidates 1\nleader 65535\n".as_slice());
+    let open = print_election(alloc, 6, None)?;
+    assert_eq!(rt; open.bytes(), b"candidates 6\nleader none\n".as_slice());
     Ok(())
 }

@@ -119,7 +119,7 @@ pub(crate) fn put_answer(lines: &mut Lines, word: &str, is_so: bool) -> Result<(
 }
 
 /// The line of two words.
-fn put_word(lines: &mut Lines, word: &str, other: &str) -> Result<(), AllocError>
+pub(crate) fn put_word(lines: &mut Lines, word: &str, other: &str) -> Result<(), AllocError>
     ensures { OnOk result (lines.new ≡ lines.old ++ line_text (word.now ∷ other.now ∷ [])) }
 {
     lines.begin(word)?;

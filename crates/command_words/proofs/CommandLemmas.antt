@@ -4,7 +4,7 @@ use Rattle.std.specs.Prelude.{◌==◌, option_and_then}
 use Rattle.std.specs.List.{find, list_all, list_any}
 use Rattle.std.specs.Char.{is_ascii_digit}
 use Rattle.std.specs.Str.{bytes_eq}
-use Rattle.std.proofs.lemmas.Bool.{and_parts, cases_Bool, or_parts}
+use Rattle.std.proofs.lemmas.Bool.{and_parts, cases_Bool, false≢true, or_parts}
 use Rattle.clap.specs.Walk.{Row, Text, answers_to, first_of, idle, is_empty, nothing_held, subcommand_met}
 use Rattle.clap.specs.Simple.{App, HasMatchesOf, Shape, built, is_simple, label_of, rows_at, subcommand_of, subcommand_rows_of}
 use Rattle.clap.specs.Kinds.{HasKind, IsAmong, Kinds, or_else}
@@ -18,8 +18,8 @@ use Rattle.shipped_programs.specs.declared.shipped.Shipped.TheVariants.{Hexagon,
 use Rattle.command_words.specs.declared.command.Command.{Command}
 use Rattle.command_words.specs.declared.command.DocumentCommand.{DocumentCommand}
 use Rattle.command_words.specs.declared.command.Command.TheVariants.{Sample}
-use Rattle.command_words.specs.declared.command.DocumentCommand.TheVariants.{Run, Interleave, Replay, Check, Measure, Renew}
-use Rattle.command_words.specs.Words.{AreWordsOf, command_of, of_two_words, numbered_by, shipped, show_in, word_of}
+use Rattle.command_words.specs.declared.command.DocumentCommand.TheVariants.{Run, Interleave, Replay, Check, Measure, Renew, Rewind, Rounds, Elect}
+use Rattle.command_words.specs.Words.{AreWordsOf, command_of, is_one_word, of_two_words, numbered_by, rewind_to, shipped, show_in, word_of}
 use Rattle.command_words.specs.Syntax.{begins_with_dash, of_subcommand, words_syntax}
 use Rattle.command_words.proofs.WordsLemmas.{same_word, command_is_its_words}
 use Rattle.command_words.proofs.SyntaxLemmas.{argument, fault_in, is_free_syntax, is_simple_syntax, leaf, names, none_wanted, one_read, one_too_many, one_wanted, read_in, strange_word}
@@ -32,41 +32,52 @@ pub data Judged (words : List Text) : Type 0 where
 -- ---- which subcommand a word names
 
 pub data First (word : Text) : Type 0 where
-  document : (c : DocumentCommand) → word ≡ word_of c → First word
+  document : (c : DocumentCommand) → is_one_word c ≡ true → word ≡ word_of c → First word
   show : word ≡ codes "show" → First word
   sample : word ≡ codes "sample" → First word
+  rewind : word ≡ codes "rewind" → First word
   other : subcommand_met names idle word ≡ None → ((words : List Text) → command_of (word ∷ words) ≡ None) → First word
 
 module _ (word : Text) (run : bytes_eq (codes "run") word ≡ false) (interleave : bytes_eq (codes "interleave") word ≡ false) (replay : bytes_eq (codes "replay") word ≡ false)
     (check : bytes_eq (codes "check") word ≡ false) (measure : bytes_eq (codes "measure") word ≡ false) (renew : bytes_eq (codes "renew") word ≡ false)
-    (is_no_show : bytes_eq (codes "show") word ≡ false) (is_no_sample : bytes_eq (codes "sample") word ≡ false) where
+    (rounds : bytes_eq (codes "rounds") word ≡ false) (elect : bytes_eq (codes "elect") word ≡ false)
+    (is_no_show : bytes_eq (codes "show") word ≡ false) (is_no_sample : bytes_eq (codes "sample") word ≡ false) (is_no_rewind : bytes_eq (codes "rewind") word ≡ false) where
   names_none : subcommand_met names idle word ≡ None
-  names_none = rw (run, interleave, replay, check, measure, renew, is_no_show, is_no_sample) refl
+  names_none = rw (run, interleave, replay, check, measure, renew, rounds, elect, is_no_show, is_no_sample, is_no_rewind) refl
 
   begins_none : (words : List Text) → command_of (word ∷ words) ≡ None
   unfolding of_two_words
-  begins_none [] = rw (run, interleave, replay, check, measure, renew) refl
-  begins_none (x ∷ []) = rw (is_no_show, is_no_sample) refl
+  begins_none [] = rw (run, interleave, replay, check, measure, renew, rounds, elect) refl
+  begins_none (x ∷ []) = rw (is_no_show, is_no_sample, is_no_rewind) refl
   begins_none (x ∷ y ∷ words) = refl
 
 first_of_words : (word : Text) → First word
 first_of_words word = elim (cases_Bool (bytes_eq (codes "run") word)) [
-  | inl e ↦ document Run (sym (same_word (codes "run") word e))
+  | inl e ↦ document Run refl (sym (same_word (codes "run") word e))
   | inr run ↦ elim (cases_Bool (bytes_eq (codes "interleave") word)) [
-    | inl e ↦ document Interleave (sym (same_word (codes "interleave") word e))
+    | inl e ↦ document Interleave refl (sym (same_word (codes "interleave") word e))
     | inr interleave ↦ elim (cases_Bool (bytes_eq (codes "replay") word)) [
-      | inl e ↦ document Replay (sym (same_word (codes "replay") word e))
+      | inl e ↦ document Replay refl (sym (same_word (codes "replay") word e))
       | inr replay ↦ elim (cases_Bool (bytes_eq (codes "check") word)) [
-        | inl e ↦ document Check (sym (same_word (codes "check") word e))
+        | inl e ↦ document Check refl (sym (same_word (codes "check") word e))
         | inr check ↦ elim (cases_Bool (bytes_eq (codes "measure") word)) [
-          | inl e ↦ document Measure (sym (same_word (codes "measure") word e))
+          | inl e ↦ document Measure refl (sym (same_word (codes "measure") word e))
           | inr measure ↦ elim (cases_Bool (bytes_eq (codes "renew") word)) [
-            | inl e ↦ document Renew (sym (same_word (codes "renew") word e))
-            | inr renew ↦ elim (cases_Bool (bytes_eq (codes "show") word)) [
-              | inl e ↦ show (sym (same_word (codes "show") word e))
-              | inr is_no_show ↦ elim (cases_Bool (bytes_eq (codes "sample") word)) [
-                | inl e ↦ sample (sym (same_word (codes "sample") word e))
-                | inr is_no_sample ↦ other (names_none word run interleave replay check measure renew is_no_show is_no_sample) (begins_none word run interleave replay check measure renew is_no_show is_no_sample)
+            | inl e ↦ document Renew refl (sym (same_word (codes "renew") word e))
+            | inr renew ↦ elim (cases_Bool (bytes_eq (codes "rounds") word)) [
+              | inl e ↦ document Rounds refl (sym (same_word (codes "rounds") word e))
+              | inr rounds ↦ elim (cases_Bool (bytes_eq (codes "elect") word)) [
+                | inl e ↦ document Elect refl (sym (same_word (codes "elect") word e))
+                | inr elect ↦ elim (cases_Bool (bytes_eq (codes "show") word)) [
+                  | inl e ↦ show (sym (same_word (codes "show") word e))
+                  | inr is_no_show ↦ elim (cases_Bool (bytes_eq (codes "sample") word)) [
+                    | inl e ↦ sample (sym (same_word (codes "sample") word e))
+                    | inr is_no_sample ↦ elim (cases_Bool (bytes_eq (codes "rewind") word)) [
+                      | inl e ↦ rewind (sym (same_word (codes "rewind") word e))
+                      | inr is_no_rewind ↦ other (names_none word run interleave replay check measure renew rounds elect is_no_show is_no_sample is_no_rewind) (begins_none word run interleave replay check measure renew rounds elect is_no_show is_no_sample is_no_rewind)
+                    ]
+                  ]
+                ]
               ]
             ]
           ]
@@ -84,49 +95,61 @@ fault = fault_of words_syntax
 abbrev read : List Text → Option (Text × List Row)
 read = subcommand_of words_syntax
 
-document_in_words : (c : DocumentCommand) (rest : List Text) → fault (word_of c ∷ rest) ≡ or_else (level_fault (leaf (word_of c) []) [] nothing_held rest false []) []
-document_in_words Run rest = fault_in (codes "run") (leaf (codes "run") []) refl refl refl rest
-document_in_words Interleave rest = fault_in (codes "interleave") (leaf (codes "interleave") []) refl refl refl rest
-document_in_words Replay rest = fault_in (codes "replay") (leaf (codes "replay") []) refl refl refl rest
-document_in_words Check rest = fault_in (codes "check") (leaf (codes "check") []) refl refl refl rest
-document_in_words Measure rest = fault_in (codes "measure") (leaf (codes "measure") []) refl refl refl rest
-document_in_words Renew rest = fault_in (codes "renew") (leaf (codes "renew") []) refl refl refl rest
+document_in_words : (c : DocumentCommand) → is_one_word c ≡ true → (rest : List Text) → fault (word_of c ∷ rest) ≡ or_else (level_fault (leaf (word_of c) []) [] nothing_held rest false []) []
+document_in_words Run one rest = fault_in (codes "run") (leaf (codes "run") []) refl refl refl rest
+document_in_words Interleave one rest = fault_in (codes "interleave") (leaf (codes "interleave") []) refl refl refl rest
+document_in_words Replay one rest = fault_in (codes "replay") (leaf (codes "replay") []) refl refl refl rest
+document_in_words Check one rest = fault_in (codes "check") (leaf (codes "check") []) refl refl refl rest
+document_in_words Measure one rest = fault_in (codes "measure") (leaf (codes "measure") []) refl refl refl rest
+document_in_words Renew one rest = fault_in (codes "renew") (leaf (codes "renew") []) refl refl refl rest
+document_in_words (Rewind place) one rest = absurd (false≢true one)
+document_in_words Rounds one rest = fault_in (codes "rounds") (leaf (codes "rounds") []) refl refl refl rest
+document_in_words Elect one rest = fault_in (codes "elect") (leaf (codes "elect") []) refl refl refl rest
 
-document_read : (c : DocumentCommand) → of_subcommand (read (word_of c ∷ [])) ≡ command_of (word_of c ∷ [])
+document_read : (c : DocumentCommand) → is_one_word c ≡ true → of_subcommand (read (word_of c ∷ [])) ≡ command_of (word_of c ∷ [])
 unfolding clap_on_literals
-document_read Run = refl
-document_read Interleave = refl
-document_read Replay = refl
-document_read Check = refl
-document_read Measure = refl
-document_read Renew = refl
+document_read Run one = refl
+document_read Interleave one = refl
+document_read Replay one = refl
+document_read Check one = refl
+document_read Measure one = refl
+document_read Renew one = refl
+document_read (Rewind place) one = absurd (false≢true one)
+document_read Rounds one = refl
+document_read Elect one = refl
 
-document_well : (c : DocumentCommand) → fault (word_of c ∷ []) ≡ []
+document_well : (c : DocumentCommand) → is_one_word c ≡ true → fault (word_of c ∷ []) ≡ []
 unfolding clap_on_literals
-document_well Run = refl
-document_well Interleave = refl
-document_well Replay = refl
-document_well Check = refl
-document_well Measure = refl
-document_well Renew = refl
+document_well Run one = refl
+document_well Interleave one = refl
+document_well Replay one = refl
+document_well Check one = refl
+document_well Measure one = refl
+document_well Renew one = refl
+document_well (Rewind place) one = absurd (false≢true one)
+document_well Rounds one = refl
+document_well Elect one = refl
 
-document_alone : (c : DocumentCommand) (x : Text) (words : List Text) → command_of (word_of c ∷ x ∷ words) ≡ None
+document_alone : (c : DocumentCommand) → is_one_word c ≡ true → (x : Text) (words : List Text) → command_of (word_of c ∷ x ∷ words) ≡ None
 unfolding of_two_words
-document_alone Run x [] = refl
-document_alone Interleave x [] = refl
-document_alone Replay x [] = refl
-document_alone Check x [] = refl
-document_alone Measure x [] = refl
-document_alone Renew x [] = refl
-document_alone c x (y ∷ words) = refl
+document_alone Run one x [] = refl
+document_alone Interleave one x [] = refl
+document_alone Replay one x [] = refl
+document_alone Check one x [] = refl
+document_alone Measure one x [] = refl
+document_alone Renew one x [] = refl
+document_alone (Rewind place) one x [] = absurd (false≢true one)
+document_alone Rounds one x [] = refl
+document_alone Elect one x [] = refl
+document_alone c one x (y ∷ words) = refl
 
 plain_first : (x : Text) (words : List Text) → list_any begins_with_dash (x ∷ words) ≡ false → begins_with_dash x ≡ false
 plain_first x words e = (or_parts (begins_with_dash x) (list_any begins_with_dash words) e).0
 
-judged_document : (c : DocumentCommand) (rest : List Text) → list_any begins_with_dash rest ≡ false → Judged (word_of c ∷ rest)
-judged_document c [] plain = taken (document_well c) (document_read c)
-judged_document c (x ∷ words) plain =
-    refused (ap is_empty (document_in_words c (x ∷ words) ∙ ap (λ ks. or_else ks []) (none_wanted (word_of c) x (plain_first x words plain) words))) (document_alone c x words)
+judged_document : (c : DocumentCommand) → is_one_word c ≡ true → (rest : List Text) → list_any begins_with_dash rest ≡ false → Judged (word_of c ∷ rest)
+judged_document c one [] plain = taken (document_well c one) (document_read c one)
+judged_document c one (x ∷ words) plain =
+    refused (ap is_empty (document_in_words c one (x ∷ words) ∙ ap (λ ks. or_else ks []) (none_wanted (word_of c) x (plain_first x words plain) words))) (document_alone c one x words)
 
 -- a subcommand with one argument, whose command is found by `gives`
 module _ (name id : Text) (gives : Text → Option Command) (is_met : subcommand_met names idle name ≡ Some name) (no_help : bytes_eq name (codes "help") ≡ false)
@@ -155,6 +178,10 @@ judged_sample : (rest : List Text) → list_any begins_with_dash rest ≡ false 
 unfolding clap_on_literals of_two_words
 judged_sample = judged_with (codes "sample") (codes "NUMBER") (numbered_by Sample) refl refl refl refl (λ rows. refl) (λ x. refl) (refused refl refl)
 
+judged_rewind : (rest : List Text) → list_any begins_with_dash rest ≡ false → Judged (codes "rewind" ∷ rest)
+unfolding clap_on_literals of_two_words
+judged_rewind = judged_with (codes "rewind") (codes "NUMBER") (numbered_by rewind_to) refl refl refl refl (λ rows. refl) (λ x. refl) (refused refl refl)
+
 judged_nothing : Judged []
 unfolding clap_on_literals
 judged_nothing = refused refl refl
@@ -162,9 +189,10 @@ judged_nothing = refused refl refl
 pub judged : (words : List Text) → list_any begins_with_dash words ≡ false → Judged words
 judged [] plain = judged_nothing
 judged (word ∷ rest) plain = elim (first_of_words word) [
-  | document c is ↦ subst (λ (w : Text). Judged (w ∷ rest)) (sym is) (judged_document c rest parts.1)
+  | document c one is ↦ subst (λ (w : Text). Judged (w ∷ rest)) (sym is) (judged_document c one rest parts.1)
   | show is ↦ subst (λ (w : Text). Judged (w ∷ rest)) (sym is) (judged_show rest parts.1)
   | sample is ↦ subst (λ (w : Text). Judged (w ∷ rest)) (sym is) (judged_sample rest parts.1)
+  | rewind is ↦ subst (λ (w : Text). Judged (w ∷ rest)) (sym is) (judged_rewind rest parts.1)
   | other none is_none ↦ refused (ap is_empty (strange_word word parts.0 none rest)) (is_none rest)
 ]
   where
@@ -183,12 +211,16 @@ no_digit (d ∷ digits) e = by (d == 45) refl
 
 -- no word of a command begins so
 words_plain : (c : Command) (words : List Text) → AreWordsOf c words → list_any begins_with_dash words ≡ false
-words_plain c words (AreWordsOf.document Run) = refl
-words_plain c words (AreWordsOf.document Interleave) = refl
-words_plain c words (AreWordsOf.document Replay) = refl
-words_plain c words (AreWordsOf.document Check) = refl
-words_plain c words (AreWordsOf.document Measure) = refl
-words_plain c words (AreWordsOf.document Renew) = refl
+words_plain c words (AreWordsOf.document Run one) = refl
+words_plain c words (AreWordsOf.document Interleave one) = refl
+words_plain c words (AreWordsOf.document Replay one) = refl
+words_plain c words (AreWordsOf.document Check one) = refl
+words_plain c words (AreWordsOf.document Measure one) = refl
+words_plain c words (AreWordsOf.document Renew one) = refl
+words_plain c words (AreWordsOf.document (Rewind place) one) = refl
+words_plain c words (AreWordsOf.document Rounds one) = refl
+words_plain c words (AreWordsOf.document Elect one) = refl
+words_plain c words (AreWordsOf.rewind digits place s) = rw (no_digit digits s.all) refl
 words_plain c words (AreWordsOf.show Hexagon) = refl
 words_plain c words (AreWordsOf.show Erosion) = refl
 words_plain c words (AreWordsOf.show Line) = refl

@@ -1,4 +1,4 @@
--- The number of a sample.
+-- The number that a word writes.
 use Rattle.std.proofs.Common.{◌≡◌, ℕ, ◌^◌, ◌<◌, ◌≤◌, ◌&&◌, List, [], ◌∷◌, Bool, true, false, Some, None, length, get_or, true≢false, refl, ap, sym, subst, ◌∙◌, arith}
 use Rattle.std.specs.Prelude.{if◌then◌else◌, nat_le, nat_lt, Decides}
 use Rattle.std.specs.List.{list_all}
@@ -8,16 +8,15 @@ use Rattle.std.specs.Char.{is_ascii_digit}
 use Rattle.std.specs.Str.Parse.{IsNumeral, digits_value, without_leading_plus}
 use Rattle.std.proofs.lemmas.Str.Parse.{IsNumeralModel, numerals_by_value, tells_all_ascii_digits, without_leading_plus_none}
 use Rattle.std.proofs.lemmas.Bool.{and_parts}
-use Rattle.command_words.specs.declared.command.Command.TheVariants.{Sample}
-use Rattle.command_words.specs.Words.{IsNumberWord, are_few_digits, is_number_word, numbered_by}
+use Rattle.command_words.specs.Words.{IsNumberWord, are_few_digits, is_number_word, number_of}
 
 decides_le : (a b : ℕ) → Decides (nat_le a b) (a ≤ b)
 decides_le a b = ((λ e. grind (arith, nat_tests)), (λ le. grind (arith, nat_tests)))
 
 -- the tests say that it is one
-pub decides_seed : (digits : List ℕ) → Decides (is_number_word digits) (IsNumberWord digits (digits_value 10 digits))
+pub decides_number : (digits : List ℕ) → Decides (is_number_word digits) (IsNumberWord digits (digits_value 10 digits))
 unfolding is_number_word
-decides_seed digits = (to, back)
+decides_number digits = (to, back)
   where
     Few : Type 0
     Few = (length digits ≤ 10) × (list_all is_ascii_digit digits ≡ true)
@@ -44,16 +43,16 @@ not_digits : (digits : List ℕ) → are_few_digits digits ≡ false → is_numb
 unfolding is_number_word
 not_digits digits e = ap (λ (b : Bool). b && (nat_le 1 (length digits) && nat_lt (digits_value 10 digits) (2 ^ 32))) e
 
-is_sample : (digits : List ℕ) → is_number_word digits ≡ true → numbered_by Sample digits ≡ Some (Sample (digits_value 10 digits))
-unfolding numbered_by
-is_sample digits e = ap (λ (b : Bool). if b then Some (Sample (digits_value 10 digits)) else None) e
+pub is_number : (digits : List ℕ) → is_number_word digits ≡ true → number_of digits ≡ Some (digits_value 10 digits)
+unfolding number_of
+is_number digits e = ap (λ (b : Bool). if b then Some (digits_value 10 digits) else None) e
 
-no_sample : (digits : List ℕ) → is_number_word digits ≡ false → numbered_by Sample digits ≡ None
-unfolding numbered_by
-no_sample digits e = ap (λ (b : Bool). if b then Some (Sample (digits_value 10 digits)) else None) e
+pub is_no_number : (digits : List ℕ) → is_number_word digits ≡ false → number_of digits ≡ None
+unfolding number_of
+is_no_number digits e = ap (λ (b : Bool). if b then Some (digits_value 10 digits) else None) e
 
-pub many_are_none : (digits : List ℕ) → are_few_digits digits ≡ false → numbered_by Sample digits ≡ None
-many_are_none digits e = no_sample digits (not_digits digits e)
+pub many_are_none : (digits : List ℕ) → are_few_digits digits ≡ false → number_of digits ≡ None
+many_are_none digits e = is_no_number digits (not_digits digits e)
 
 as_told : (digits : List ℕ) → all_ascii_digits digits ≡ list_all is_ascii_digit digits
 as_told [] = refl
@@ -74,19 +73,19 @@ module _ (digits : List ℕ) (few : are_few_digits digits ≡ true) where
       by [] e p = absurd (cc)
       by (d ∷ ds) e p = let digit : is_ascii_digit d ≡ true = (and_parts (is_ascii_digit d) (list_all is_ascii_digit ds) e).0 in absurd (true≢false (sym digit ∙ ap is_ascii_digit p))
 
-  pub as_number : (seed : ℕ) → (IsNumeral 10 (without_leading_plus digits) × (digits_value 10 (without_leading_plus digits) < 2 ^ 32)) × (seed ≡ digits_value 10 (without_leading_plus digits)) → numbered_by Sample digits ≡ Some (Sample seed)
-  as_number seed r =
-      let is : seed ≡ digits_value 10 digits = r.1 ∙ ap (digits_value 10) no_plus in
+  pub as_number : (number : ℕ) → (IsNumeral 10 (without_leading_plus digits) × (digits_value 10 (without_leading_plus digits) < 2 ^ 32)) × (number ≡ digits_value 10 (without_leading_plus digits)) → number_of digits ≡ Some number
+  as_number number r =
+      let is : number ≡ digits_value 10 digits = r.1 ∙ ap (digits_value 10) no_plus in
       let numeral : IsNumeral 10 digits = subst (IsNumeral 10) no_plus r.0.0 in
       let small : digits_value 10 digits < 2 ^ 32 = subst (λ ds. digits_value 10 ds < 2 ^ 32) no_plus r.0.1 in
-      is_sample digits ((decides_seed digits).1 (record { some = numeral.0; few = parts.0; all = parts.1; value = refl; small = small })) ∙ ap (λ (n : ℕ). Some (Sample n)) (sym is)
+      is_number digits ((decides_number digits).1 (record { some = numeral.0; few = parts.0; all = parts.1; value = refl; small = small })) ∙ ap Some (sym is)
 
-  pub as_none : ¬ (IsNumeral 10 (without_leading_plus digits) × (digits_value 10 (without_leading_plus digits) < 2 ^ 32)) → numbered_by Sample digits ≡ None
-  as_none none = no_sample digits (by (is_number_word digits) refl)
+  pub as_none : ¬ (IsNumeral 10 (without_leading_plus digits) × (digits_value 10 (without_leading_plus digits) < 2 ^ 32)) → number_of digits ≡ None
+  as_none none = is_no_number digits (by (is_number_word digits) refl)
     where
       by : (b : Bool) → is_number_word digits ≡ b → is_number_word digits ≡ false
       by true e =
-          let s = (decides_seed digits).0 e in
+          let s = (decides_number digits).0 e in
           let read : IsNumeral 10 digits × (digits_value 10 digits < 2 ^ 32) = ((s.some, numerals.to digits (as_told digits ∙ s.all)), s.small) in
           absurd (none (subst (λ ds. IsNumeral 10 ds × (digits_value 10 ds < 2 ^ 32)) (sym no_plus) read))
       by false e = e

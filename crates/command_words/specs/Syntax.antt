@@ -6,7 +6,7 @@ use Rattle.clap.specs.Simple.{App, Shape, new_app, new_rule, on_top, with_rule, 
 use Rattle.command_words.specs.declared.command.Command.{Command}
 use Rattle.command_words.specs.declared.command.Command.TheVariants.{Sample}
 use Rattle.command_words.specs.declared.command.DocumentCommand.{DocumentCommand}
-use Rattle.command_words.specs.Words.{document_in, documents, numbered_by, shipped, show_in, word_of}
+use Rattle.command_words.specs.Words.{document_in, documents, numbered_by, rewind_to, shipped, show_in, word_of}
 
 -- the word begins with `-` (45)
 abbrev pub begins_with_dash : List ℕ → Bool
@@ -40,7 +40,9 @@ bare = on_top (λ s. record s {
 -- and the subcommands
 abbrev pub words_syntax : App
 words_syntax = fold with_subcommand bare
-    (map without_argument documents ++ with_argument (codes "show") (codes "NAME") ∷ with_argument (codes "sample") (codes "NUMBER") ∷ [])
+    (map without_argument documents
+    ++ with_argument (codes "show") (codes "NAME") ∷ with_argument (codes "sample") (codes "NUMBER")
+    ∷ with_argument (codes "rewind") (codes "NUMBER") ∷ [])
 
 -- ---- what was read by it
 
@@ -50,4 +52,5 @@ of_subcommand None = None
 of_subcommand (Some (word, arguments)) =
     if bytes_eq (codes "show") word then option_and_then (show_in shipped) (first_of (codes "NAME") arguments)
     else if bytes_eq (codes "sample") word then option_and_then (numbered_by Sample) (first_of (codes "NUMBER") arguments)
+    else if bytes_eq (codes "rewind") word then option_and_then (numbered_by rewind_to) (first_of (codes "NUMBER") arguments)
     else document_in documents word

@@ -2,8 +2,7 @@ ghost use Rattle.std.specs.Prelude.{◌≡◌, map, codes, option_and_then, true
 ghost use Rattle.std.specs.Char.{is_ascii_digit};
 ghost use Rattle.std.specs.List.{list_all, list_any};
 ghost use Rattle.std.specs.String.{string_bytes};
-ghost use Rattle.command_words.specs.declared.command.Command.TheVariants.{Sample};
-ghost use Rattle.command_words.specs.Words.{are_few_digits, command_of, document_in, documents, numbered_by, shipped, show_in};
+ghost use Rattle.command_words.specs.Words.{are_few_digits, command_of, document_in, documents, number_of, rewind_to, shipped, show_in};
 ghost use Rattle.command_words.specs.Syntax.{begins_with_dash, of_subcommand};
 ghost use Rattle.clap.specs.Words.{first_of, found_of, kind_of, rows_of, subcommand_rows_of};
 
@@ -40,14 +39,20 @@ pub enum DocumentCommand {
     Measure,
     /// Writes its journal anew, with the old values of each cell.
     Renew,
+    /// Goes back from its final shape to this place of its journal, counted from 0, and writes the shape there.
+    Rewind(u32),
+    /// Counts the rounds of its journal.
+    Rounds,
+    /// Counts the candidates at the end of an election, and tells the leader.
+    Elect,
 }
 
-/// The most digits of the number of a sample.
+/// The most digits of a number.
 const MOST_DIGITS: usize = 10;
 
 /// The command that the words are, if they are one: the word of a command that reads a document; `show` and the name of a program;
-/// or `sample` and a number, 1 to 10 digits that write a number below 2^32. `NoMemory` may come in place of it, but where a word
-/// begins with `-`: such words are no command, and that takes no memory.
+/// or `sample` or `rewind` and a number, 1 to 10 digits that write a number below 2^32. `NoMemory` may come in place of it, except
+/// where a word begins with `-`: such words are no command, and that takes no memory.
 pub fn command_of(alloc: Global, words: &[String]) -> Result<Option<Command>, NoMemory>
     ensures command { IfOk result (λ c. c ≡ command_of (map string_bytes words.now)) }
     ensures dash { list_any (λ word. begins_with_dash (string_bytes word)) words.now ≡ true → result ≡ Ok None }
@@ -99,7 +104,8 @@ fn of_subcommand(word: &str, arguments: &ArgMatches<'_>) -> Option<Command>
 {
     match word {
         "show" => of_name_in(arguments),
-        "sample" => of_number_in(arguments),
+        "sample" => Some(Command::Sample(number_in(arguments)?)),
+        "rewind" => Some(rewind_to(number_in(arguments)?)),
         _ => of_word(word),
     }
 }
@@ -110,10 +116,16 @@ fn of_name_in(arguments: &ArgMatches<'_>) -> Option<Command>
     of_name(arguments.get_str("NAME")?)
 }
 
-fn of_number_in(arguments: &ArgMatches<'_>) -> Option<Command>
-    ensures { result ≡ option_and_then (numbered_by Sample) (first_of (codes "NUMBER") (rows_of (found_of arguments.now))) }
+fn number_in(arguments: &ArgMatches<'_>) -> Option<u32>
+    ensures { result ≡ option_and_then number_of (first_of (codes "NUMBER") (rows_of (found_of arguments.now))) }
 {
-    of_number(arguments.get_str("NUMBER")?)
+    number_of(arguments.get_str("NUMBER")?)
+}
+
+fn rewind_to(place: u32) -> Command
+    ensures { result ≡ rewind_to place }
+{
+    Command::Document(DocumentCommand::Rewind(place))
 }
 
 fn of_word(word: &str) -> Option<Command>
@@ -126,6 +138,8 @@ fn of_word(word: &str) -> Option<Command>
         "check" => DocumentCommand::Check,
         "measure" => DocumentCommand::Measure,
         "renew" => DocumentCommand::Renew,
+        "rounds" => DocumentCommand::Rounds,
+        "elect" => DocumentCommand::Elect,
         _ => return None,
     };
     Some(Command::Document(command))
@@ -140,14 +154,14 @@ fn of_name(name: &str) -> Option<Command>
     }
 }
 
-fn of_number(digits: &str) -> Option<Command>
-    ensures { result ≡ numbered_by Sample digits.now }
+fn number_of(digits: &str) -> Option<u32>
+    ensures { result ≡ number_of digits.now }
 {
     if !are_few_digits(digits.as_bytes()) {
         return None;
     }
     match digits.parse::<u32>() {
-        Ok(seed) => Some(Command::Sample(seed)),
+        Ok(number) => Some(number),
         Err(_) => None,
     }
 }

@@ -19,8 +19,11 @@ pub(crate) fn words_syntax<'a>(alloc: Global) -> Result<Command<'a>, AllocError>
         .subcommand(Command::new(alloc, "check"))?
         .subcommand(Command::new(alloc, "measure"))?
         .subcommand(Command::new(alloc, "renew"))?
+        .subcommand(Command::new(alloc, "rounds"))?
+        .subcommand(Command::new(alloc, "elect"))?
         .subcommand(with_argument(alloc, "show", "NAME")?)?
-        .subcommand(with_argument(alloc, "sample", "NUMBER")?)
+        .subcommand(with_argument(alloc, "sample", "NUMBER")?)?
+        .subcommand(with_argument(alloc, "rewind", "NUMBER")?)
 }
 
 /// A command without help, whose words are all of the caller's and begin with a subcommand.

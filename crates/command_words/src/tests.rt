@@ -15,7 +15,7 @@ fn judged(alloc: Global, texts: &[&str]) -> Result<Option<Command>, NoMemory> {
 
 #[test]
 fn each_command_has_its_words(rt: HostRuntime) -> Result<(), Fail> {
-    let commands: [(&[&str], Command); 13] = [
+    let commands: [(&[&str], Command); 19] = [
         (&["run"], Command::Document(DocumentCommand::Run)),
         (
             &["interleave"],
@@ -25,6 +25,24 @@ fn each_command_has_its_words(rt: HostRuntime) -> Result<(), Fail> {
         (&["check"], Command::Document(DocumentCommand::Check)),
         (&["measure"], Command::Document(DocumentCommand::Measure)),
         (&["renew"], Command::Document(DocumentCommand::Renew)),
+        (&["rounds"], Command::Document(DocumentCommand::Rounds)),
+        (&["elect"], Command::Document(DocumentCommand::Elect)),
+        (
+            &["rewind", "0"],
+            Command::Document(DocumentCommand::Rewind(0)),
+        ),
+        (
+            &["rewind", "17"],
+            Command::Document(DocumentCommand::Rewind(17)),
+        ),
+        (
+            &["rewind", "0000000001"],
+            Command::Document(DocumentCommand::Rewind(1)),
+        ),
+        (
+            &["rewind", "4294967295"],
+            Command::Document(DocumentCommand::Rewind(4_294_967_295)),
+        ),
         (&["show", "hexagon"], Command::Show(Shipped::Hexagon)),
         (&["show", "erosion"], Command::Show(Shipped::Erosion)),
         (&["show", "line"], Command::Show(Shipped::Line)),
@@ -40,7 +58,7 @@ fn each_command_has_its_words(rt: HostRuntime) -> Result<(), Fail> {
 }
 
 /// No command has these words.
-const NONE: [&[&str]; 49] = [
+const NONE: [&[&str]; 65] = [
     &[],
     &[""],
     &["", "run"],
@@ -68,6 +86,22 @@ const NONE: [&[&str]; 49] = [
     &["renew", "x"],
     &["Renew"],
     &["renew", "-1"],
+    &["rounds", "1"],
+    &["Rounds"],
+    &["round"],
+    &["elect", "line"],
+    &["Elect"],
+    &["election"],
+    &["rewind"],
+    &["rewind", ""],
+    &["rewind", "-1"],
+    &["rewind", "+1"],
+    &["rewind", "1 "],
+    &["rewind", "4294967296"],
+    &["rewind", "00000000001"],
+    &["rewind", "0", "0"],
+    &["Rewind", "0"],
+    &["rewind", "NUMBER"],
     &["show"],
     &["show", "Hexagon"],
     &["show", "hexagons"],

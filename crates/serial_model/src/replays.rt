@@ -2,6 +2,7 @@ ghost use Rattle.std.specs.Prelude.{◌≡◌, ◌<◌, length, Decides, IfNone,
 ghost use Rattle.std.specs.Bool.{OnTrue, OnFalse};
 ghost use Rattle.std.specs.List.{All};
 ghost use Rattle.amoebot_state.specs.Pairs.{plain_patch, plain_triple};
+ghost use Rattle.amoebot_state.specs.Zones.{shown};
 ghost use Rattle.amoebot_state.specs.Steps.{Run, Step, change_of};
 ghost use Rattle.serial_model.specs.Replays.{AreCountable, IsNoStep, IsFirstNoStep};
 ghost use Rattle.serial_model.specs.Replays.{IsFirstNoPlainStep, IsNoPlainStep, IsToldBy, PlainRun, PlainStep, entry_for};
@@ -26,7 +27,7 @@ pub fn replay<D: Decider>(decider: &D, start: World, entries: &[Entry]) -> Resul
 {
     let mut world = start;
     for (place, entry) in entries.iter().enumerate() {
-        if !makes_step(decider, &mut world, entry) {
+        if !make_step(decider, &mut world, entry) {
             return Err(Differs {
                 place: place as u32,
             });
@@ -35,23 +36,32 @@ pub fn replay<D: Decider>(decider: &D, start: World, entries: &[Entry]) -> Resul
     Ok(world)
 }
 
-/// Makes the step of an entry, if there is one.
-fn makes_step<D: Decider>(decider: &D, world: &mut World, entry: &Entry) -> bool
+/// Makes the step of an entry, if there is one. Where there is none, the world stays.
+pub fn make_step<D: Decider>(decider: &D, world: &mut World, entry: &Entry) -> bool
     requires { entry.now.bot < length world.old.bots }
     ensures step { OnTrue result (Step (D.verdict decider.now) world.old entry.now world.new) }
     ensures none { OnFalse result (IsNoStep (D.verdict decider.now) world.old entry.now) }
+    ensures stays { OnFalse result (world.new ≡ world.old) }
     ensures size { length world.new.bots ≡ length world.old.bots }
 {
-    let found = world.found(entry.bot);
+    if !decides_entry(decider, world, entry) {
+        return false;
+    }
     has_next(decider);
+    world.keeps();
+    world.apply(&entry.patch);
+    true
+}
+
+/// Whether the decision on the entry's amoebot, which is one of the world's, is the change that the entry tells.
+pub fn decides_entry<D: Decider>(decider: &D, world: &World, entry: &Entry) -> bool
+    requires { entry.now.bot < length world.now.bots }
+    ensures { Decides result
+        (D.verdict decider.now (shown world.now entry.now.bot) ≡ Verdict.Change (change_of entry.now)) }
+{
+    let found = world.found(entry.bot);
     match decider.decide(&found) {
-        Verdict::Change(change) => {
-            if !tells(entry, &change) {
-                return false;
-            }
-            world.apply(&entry.patch);
-            true
-        }
+        Verdict::Change(change) => tells(entry, &change),
         Verdict::Idle | Verdict::Failed(_) => false,
     }
 }

@@ -85,7 +85,7 @@ either_of {A} {P} {Q} {a} {G} one other f = by f.text a f.is f.fine one other
 
 -- ---- tokens
 
-none_passed : (t : Lexeme) (o : Option RefusalKind) → first_fault (symbol t o ∷ []) ≡ None → o ≡ None
+pub none_passed : (t : Lexeme) (o : Option RefusalKind) → first_fault (symbol t o ∷ []) ≡ None → o ≡ None
 none_passed t None e = refl
 none_passed t (Some k) e = absurd cc
 

@@ -36,7 +36,7 @@ use Rattle.schedule_text.specs.Lists.{IsId, IsCallerList, IsLists}
 use Rattle.schedule_text.specs.Schedules.{most_steps, Stretch, steps_in, IsStretch, IsSchedule}
 use Rattle.shape_files.specs.declared.section_kind.Form.{Form}
 use Rattle.shape_files.specs.declared.section_kind.Form.TheVariants.{Run, Interleave, Replay, Check, Measure}
-use Rattle.shape_files.specs.Frame.{Course, ends, needs, may, may_schedule, may_lists, behind_journal, course_of, IsRest, least_version, greatest_version, IsVersion, IsHeader}
+use Rattle.shape_files.specs.Frame.{Course, ends, needs, may, may_schedule, may_lists, behind_journal, course_of, IsRest, least_version, greatest_version, IsVersion, IsHeaderFrom}
 use Rattle.shape_files.specs.declared.section_kind.Section.TheVariants as section
 use Rattle.shape_files.specs.FrameLaws.{IsStraight}
 use Rattle.shape_files.specs.Documents.{Contents, nothing_yet, maxes_in, first_in, IsCheckedProgram, JournalBody, Body, IsDocument, HasContents}
@@ -369,11 +369,11 @@ form_fits form version a right f =
     let p = step_of g in
     rest_fits version right p.value (program_fits p.value p.before) a form p.behind
 
--- a version that was read is one that there is
-version_within : (version : ℕ) → Fine IsHeader version → IsVersion version
-version_within version f =
+-- a version that was read is not below the least one, and is one that there is
+pub version_within : (least version : ℕ) → Fine (IsHeaderFrom least) version → (least ≤ version) × (version ≤ greatest_version)
+version_within least version f =
     let n = numeral_of (both_of f).behind in
-    subst IsVersion n.is (within least_version greatest_version n.t n.within)
+    subst (λ (v : ℕ). (least ≤ v) × (v ≤ greatest_version)) n.is (within least greatest_version n.t n.within)
 
 -- a document has a version, and behind it a text, without a fault, of its form as the form is written down
 pub record IsWrittenDown (form : Form) (a : Contents) : Type 0 where
@@ -391,7 +391,7 @@ written_down form bytes a holds =
     let version = both.value in
     let behind : IsWhole (IsRest Body (course_of form) (nothing_yet version)) (tokens rest.text) a = record { text = rest.text; is = rest.is; parts = refl; fine = rest.fine } in
     let straight = (plain Body are_sections.start (course_of form) (forms_are_distinct form) (nothing_yet version)).into (tokens rest.text) a behind in
-    record { version = version; right = version_within version both.before; sections = record { text = straight.text; is = straight.is; fine = straight.fine } }
+    record { version = version; right = version_within least_version version both.before; sections = record { text = straight.text; is = straight.is; fine = straight.fine } }
 
 pub documents_fit : DocumentsFit
 documents_fit form bytes a holds = let w = written_down form bytes a holds in form_fits form w.version a w.right w.sections

@@ -21,8 +21,8 @@ use Rattle.text_tokens.proofs.CombinatorLemmas.{exact_law, input_law}
 use Rattle.node_text.specs.Parts.{outside}
 use Rattle.shape_files.specs.declared.section_kind.Section.{Section}
 use Rattle.shape_files.specs.declared.section_kind.Section.TheVariants.{Program, Shape, Lists, Schedule, Journal, Final, Turns}
-use Rattle.shape_files.specs.Frame.{word_of_section, is_word_of_section, is_header_word, is_section_word, Course, ends, needs, may, NextSection, next_section, comes, may_end, IsRest, section, finished, wrong, least_version, greatest_version, IsHeader, IsInFrame}
-use Rattle.shape_files.specs.FrameReaders.{missing, rest_at, rest, header, in_frame}
+use Rattle.shape_files.specs.Frame.{word_of_section, is_word_of_section, is_header_word, is_section_word, Course, ends, needs, may, NextSection, next_section, comes, may_end, IsRest, section, finished, wrong, greatest_version, IsHeaderFrom, IsInFrameFrom}
+use Rattle.shape_files.specs.FrameReaders.{missing, rest_at, rest, header_from, in_frame_from}
 use Rattle.shape_files.specs.FrameLaws.{AreSections, Framed}
 
 -- ---- words
@@ -68,9 +68,9 @@ never_comes (may k c d) = rw (no_word k) (never_comes d)
 
 -- ---- the header
 
-pub part_header : IsPart IsHeader header always
-unfolding header
-part_header = part_behind (IsThe is_header_word) (the_line is_header_word) (λ line. IsNumeral (outside least_version greatest_version)) (λ line. numeral (outside least_version greatest_version)) always (a_token Word (codes "amoebot") refl) (λ line. a_numeral (outside least_version greatest_version))
+pub part_header : (least : ℕ) → IsPart (IsHeaderFrom least) (header_from least) always
+unfolding header_from
+part_header least = part_behind (IsThe is_header_word) (the_line is_header_word) (λ line. IsNumeral (outside least greatest_version)) (λ line. numeral (outside least greatest_version)) always (a_token Word (codes "amoebot") refl) (λ line. a_numeral (outside least greatest_version))
 
 module _ {S : Type 0} (Body : Section → S → Lang S) (body : Section → S → Reader S) (are : AreSections Body body) where
   -- ---- texts
@@ -251,13 +251,13 @@ module _ {S : Type 0} (Body : Section → S → Lang S) (body : Section → S �
 
   -- ---- the document
 
-  pub law_frame : (c : Course) (start : ℕ → S) → Lawful (IsInFrame Body c start) (in_frame body c start)
-  unfolding in_frame
-  law_frame c start = law_then IsHeader (λ version. IsRest Body c (start version)) (λ xs v is. some_rest c (start v)) header (λ version. rest body c (start version)) part_header.law (λ xs v is fine. law_rest c (start v)) (λ xs ys v b t p q e g. part_header.halts xs v t p refl g)
+  pub law_frame : (least : ℕ) (c : Course) (start : ℕ → S) → Lawful (IsInFrameFrom least Body c start) (in_frame_from least body c start)
+  unfolding in_frame_from
+  law_frame least c start = law_then (IsHeaderFrom least) (λ version. IsRest Body c (start version)) (λ xs v is. some_rest c (start v)) (header_from least) (λ version. rest body c (start version)) (part_header least).law (λ xs v is fine. law_rest c (start v)) (λ xs ys v b t p q e g. (part_header least).halts xs v t p refl g)
 
-  pub framed : (c : Course) (start : ℕ → S) → Framed (IsInFrame Body c start) (in_frame body c start)
-  framed c start =
-      let law = law_frame c start in
-      let e = exact_law (IsInFrame Body c start) (in_frame body c start) law in
-      let i = input_law (IsInFrame Body c start) (in_frame body c start) Trailing law in
+  pub framed : (least : ℕ) (c : Course) (start : ℕ → S) → Framed (IsInFrameFrom least Body c start) (in_frame_from least body c start)
+  framed least c start =
+      let law = law_frame least c start in
+      let e = exact_law (IsInFrameFrom least Body c start) (in_frame_from least body c start) law in
+      let i = input_law (IsInFrameFrom least Body c start) (in_frame_from least body c start) Trailing law in
       record { exact = e.0; decided = e.1; exact_input = i.0; decided_input = i.1 }

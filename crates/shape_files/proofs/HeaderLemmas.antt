@@ -5,7 +5,7 @@ use Rattle.text_tokens.specs.Cursor.{next_passes}
 use Rattle.text_tokens.specs.Lawful.{Exact}
 use Rattle.text_tokens.proofs.CombinatorLemmas.{exact_law}
 use Rattle.shape_files.specs.declared.section_kind.Section.TheVariants.{Program, Shape, Lists, Schedule, Journal, Final, Turns}
-use Rattle.shape_files.specs.Frame.{is_word_of_section, is_header_word, is_section_word, IsHeader}
+use Rattle.shape_files.specs.Frame.{is_word_of_section, is_header_word, is_section_word, least_version, IsHeader}
 use Rattle.shape_files.specs.FrameReaders.{header}
 use Rattle.shape_files.specs.FrameLaws.{HeaderIsDecided}
 use Rattle.shape_files.proofs.FrameLemmas.{part_header}
@@ -15,7 +15,7 @@ section_words [] = refl
 section_words (t ∷ ts) = refl
 
 pub header_is_decided : HeaderIsDecided
-header_is_decided = let e = exact_law IsHeader header part_header.law in record { exact = e.0; decided = e.1 }
+header_is_decided = let e = exact_law IsHeader header (part_header least_version).law in record { exact = e.0; decided = e.1 }
 
 pub exact_header : Exact IsHeader header
 exact_header = header_is_decided.exact

@@ -10,6 +10,7 @@ pub mod DocumentsLemmas
 pub mod DocumentRowLemmas
 pub mod Fine
 pub mod FittingLemmas
+pub mod LeastVersionsLemmas
 pub mod WritablePrograms
 pub mod SoundDocuments
 pub mod RunTextsLemmas

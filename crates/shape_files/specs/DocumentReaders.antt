@@ -1,5 +1,5 @@
 -- The sections as readers, and documents.
-use Rattle.std.specs.Prelude.{Bool, true, false, Some}
+use Rattle.std.specs.Prelude.{ℕ, Bool, true, false, Some}
 use Rattle.text_tokens.specs.Reading.{Reader, ◌>>=◌, pure, judged}
 use Rattle.action_tree.specs.Trees as tree
 use Rattle.action_tree.specs.ProgramReaders.{a_program}
@@ -11,8 +11,8 @@ use Rattle.schedule_text.specs.Readers.{the_lists, a_schedule}
 use Rattle.shape_files.specs.declared.section_kind.Section.{Section}
 use Rattle.shape_files.specs.declared.section_kind.Section.TheVariants.{Program, Shape, Lists, Schedule, Journal, Final, Turns}
 use Rattle.shape_files.specs.declared.section_kind.Form.{Form}
-use Rattle.shape_files.specs.Frame.{course_of}
-use Rattle.shape_files.specs.FrameReaders.{in_frame}
+use Rattle.shape_files.specs.Frame.{course_of, least_version}
+use Rattle.shape_files.specs.FrameReaders.{in_frame_from}
 use Rattle.shape_files.specs.Documents.{Contents, nothing_yet, var_count, actions_of, maxes_in, bots_of, callers_of, first_in}
 
 unfoldable pub a_checked_program : Reader tree.Program
@@ -36,5 +36,8 @@ body Journal s = journal_body (has_old_values s.version) s
 body Final s = a_final s.version (var_count s.checked) (maxes_in s.checked) >>= λ c. pure (record s { final_world = Some c })
 body Turns s = the_turns s.version >>= λ u. pure s
 
-unfoldable pub document : Form → Reader Contents
-document form = in_frame body (course_of form) nothing_yet
+unfoldable pub document_from : ℕ → Form → Reader Contents
+document_from least form = in_frame_from least body (course_of form) nothing_yet
+
+abbrev pub document : Form → Reader Contents
+document form = document_from least_version form

@@ -22,7 +22,7 @@ use Rattle.schedule_text.specs.Schedules.{IsSchedule}
 use Rattle.shape_files.specs.declared.section_kind.Section.{Section}
 use Rattle.shape_files.specs.declared.section_kind.Section.TheVariants.{Program, Shape, Lists, Schedule, Journal, Final, Turns}
 use Rattle.shape_files.specs.declared.section_kind.Form.{Form}
-use Rattle.shape_files.specs.Frame.{course_of, IsInFrame}
+use Rattle.shape_files.specs.Frame.{course_of, least_version, IsInFrameFrom}
 use Rattle.shape_files.specs.FrameLaws.{SameTexts}
 
 -- What a document has: its version, its program, the configuration at the start, the lists, the steps of the schedule,
@@ -108,32 +108,53 @@ Body Turns s = Made (IsTurns s.version) (λ u. s)
 
 -- ---- documents
 
--- the tokens of a document of a form, with what it has
-abbrev pub IsDocument : Form → Lang Contents
-IsDocument form = IsInFrame Body (course_of form) nothing_yet
+-- the tokens of a document of a form whose version is not below a least one, with what it has
+abbrev pub IsDocumentFrom : ℕ → Form → Lang Contents
+IsDocumentFrom least form = IsInFrameFrom least Body (course_of form) nothing_yet
 
--- the bytes are a document of the form that has this
+-- the same for each version that there is
+abbrev pub IsDocument : Form → Lang Contents
+IsDocument form = IsDocumentFrom least_version form
+
+-- the bytes are a document of the form that has this, of a version that is not below a least one
+abbrev pub HasContentsFrom : ℕ → Form → List ℕ → Contents → Type 0
+HasContentsFrom least form bytes a =
+    (ts : List Lexeme) (last : Refusal) → AreTokens bytes 0 ts last → IsInput (IsDocumentFrom least form) Trailing last ts a
+
+-- the same for each version that there is
 abbrev pub HasContents : Form → List ℕ → Contents → Type 0
-HasContents form bytes a =
-    (ts : List Lexeme) (last : Refusal) → AreTokens bytes 0 ts last → IsInput (IsDocument form) Trailing last ts a
+HasContents form bytes a = HasContentsFrom least_version form bytes a
 
 -- they are none, and this is their first fault
-abbrev pub IsDocumentFault : Form → List ℕ → Refusal → Type 0
-IsDocumentFault form bytes r =
+abbrev pub IsDocumentFaultFrom : ℕ → Form → List ℕ → Refusal → Type 0
+IsDocumentFaultFrom least form bytes r =
     (ts : List Lexeme) (last : Refusal)
     → AreTokens bytes 0 ts last
-    → IsInputFault (IsDocument form) Trailing last ts r
+    → IsInputFault (IsDocumentFrom least form) Trailing last ts r
+
+-- the same for each version that there is
+abbrev pub IsDocumentFault : Form → List ℕ → Refusal → Type 0
+IsDocumentFault form bytes r = IsDocumentFaultFrom least_version form bytes r
 
 -- ---- laws
 
 -- Of any bytes one thing holds: they are a document of the form, which has one thing, or they have one first fault.
-abbrev pub FormSays : Form → List ℕ → Result Contents Refusal → Type 0
-FormSays form bytes (Ok a) = HasContents form bytes a
-FormSays form bytes (Err r) = IsDocumentFault form bytes r
+abbrev pub FormSaysFrom : ℕ → Form → List ℕ → Result Contents Refusal → Type 0
+FormSaysFrom least form bytes (Ok a) = HasContentsFrom least form bytes a
+FormSaysFrom least form bytes (Err r) = IsDocumentFaultFrom least form bytes r
 
-pub record IsDecidedForm (form : Form) : Type 0 where
-  pub some : (bytes : List ℕ) → (r : Result Contents Refusal) × FormSays form bytes r
-  pub one : (bytes : List ℕ) (r s : Result Contents Refusal) → FormSays form bytes r → FormSays form bytes s → r ≡ s
+abbrev pub FormSays : Form → List ℕ → Result Contents Refusal → Type 0
+FormSays form bytes r = FormSaysFrom least_version form bytes r
+
+pub record IsDecidedFrom (least : ℕ) (form : Form) : Type 0 where
+  pub some : (bytes : List ℕ) → (r : Result Contents Refusal) × FormSaysFrom least form bytes r
+  pub one : (bytes : List ℕ) (r s : Result Contents Refusal)
+      → FormSaysFrom least form bytes r
+      → FormSaysFrom least form bytes s
+      → r ≡ s
+
+abbrev pub IsDecidedForm : Form → Type 0
+IsDecidedForm form = IsDecidedFrom least_version form
 
 abbrev pub DocumentsAreDecided : Type 0
 DocumentsAreDecided = (form : Form) → IsDecidedForm form

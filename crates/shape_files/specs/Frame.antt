@@ -1,6 +1,7 @@
 -- The frame of a document: a header, and then sections in the order of its form.
 --   document := "amoebot" NUMBER { section }
 -- The NUMBER is the version, from the least to the greatest that there is; another is a BadRange.
+-- Some documents are to be of a later version: then one below that is a BadRange, too.
 -- A section begins with its word.
 -- Where a section is still needed, the word of a section that may not come there is a WrongSection.
 -- A token behind a complete document is Trailing, which is a fault of a whole input.
@@ -124,10 +125,18 @@ greatest_version = 3
 abbrev pub IsVersion : ℕ → Type 0
 IsVersion version = (least_version ≤ version) × (version ≤ greatest_version)
 
--- the word of documents and the version, for the version
-abbrev pub IsHeader : Lang ℕ
-IsHeader = Then (IsThe is_header_word) (λ line. IsNumeral (outside least_version greatest_version))
+-- the word of documents and a version that is not below a least one, for the version
+abbrev pub IsHeaderFrom : ℕ → Lang ℕ
+IsHeaderFrom least = Then (IsThe is_header_word) (λ line. IsNumeral (outside least greatest_version))
 
--- the sections, from the state on that the version gives
+-- the same for each version that there is
+abbrev pub IsHeader : Lang ℕ
+IsHeader = IsHeaderFrom least_version
+
+-- the sections, from the state on that the version gives, which is not below a least one
+abbrev pub IsInFrameFrom : {S : Type 0} → ℕ → (Section → S → Lang S) → Course → (ℕ → S) → Lang S
+IsInFrameFrom least Body c start = Then (IsHeaderFrom least) (λ version. IsRest Body c (start version))
+
+-- the same for each version that there is
 abbrev pub IsInFrame : {S : Type 0} → (Section → S → Lang S) → Course → (ℕ → S) → Lang S
-IsInFrame Body c start = Then IsHeader (λ version. IsRest Body c (start version))
+IsInFrame Body c start = IsInFrameFrom least_version Body c start

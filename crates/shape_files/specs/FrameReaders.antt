@@ -23,8 +23,14 @@ module _ {S : Type 0} (body : Section → S → Reader S) where
   abbrev pub rest : Course → S → Reader S
   rest c s = choose (λ next. rest_at c s next)
 
-unfoldable pub header : Reader ℕ
-header = the_line is_header_word >>= λ line. numeral (outside least_version greatest_version)
+unfoldable pub header_from : ℕ → Reader ℕ
+header_from least = the_line is_header_word >>= λ line. numeral (outside least greatest_version)
 
-unfoldable pub in_frame : {S : Type 0} → (Section → S → Reader S) → Course → (ℕ → S) → Reader S
-in_frame body c start = header >>= λ version. rest body c (start version)
+abbrev pub header : Reader ℕ
+header = header_from least_version
+
+unfoldable pub in_frame_from : {S : Type 0} → ℕ → (Section → S → Reader S) → Course → (ℕ → S) → Reader S
+in_frame_from least body c start = header_from least >>= λ version. rest body c (start version)
+
+abbrev pub in_frame : {S : Type 0} → (Section → S → Reader S) → Course → (ℕ → S) → Reader S
+in_frame body c start = in_frame_from least_version body c start

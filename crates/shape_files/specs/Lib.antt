@@ -8,6 +8,7 @@ pub mod DocumentReaders
 pub mod RunTexts
 pub mod WholeTexts
 pub mod Fitting
+pub mod LeastVersions
 pub mod DocumentRows
 pub mod WholeTextRows
 pub use Rattle.action_tree.specs.Stored

@@ -11,6 +11,7 @@ ghost use Rattle.shape_files.specs.RunTexts.{RunsAreReplayed};
 ghost use Rattle.shape_files.specs.WholeTexts.{DocumentsReadBack};
 ghost use Rattle.shape_files.specs.WholeTextRows.{WholeTextRows};
 ghost use Rattle.shape_files.specs.Fitting.{DocumentsAreSound, DocumentsFit};
+ghost use Rattle.shape_files.specs.LeastVersions.{DecidedFromEach, EarlierIsBadRange, LaterIsDocument, DocumentIsLater, LaterHasOldValues};
 ghost use Rattle.shape_files.specs.FrameLaws.{AreSections, FrameLaw, HeaderIsDecided, StraightLaw, FormsAreDistinct};
 
 /// The sections of a document, each in the state that those before it gave, with what it makes of the state.
@@ -40,6 +41,18 @@ pub fn documents_are_decided()
     ensures sections { AreSections Body body }
     ensures plain { FormsAreStraight }
     ensures read { DocumentsAreRead }
+{}
+
+/// From a least version on, documents are those of the form whose version is not below the least.
+///
+/// A text is one in one way, or has one first fault, and never both. A version below the least is a `BadRange` at its number,
+/// whatever comes behind it. From version 3 on a journal has old values.
+pub fn least_versions_are_kept()
+    ensures decided { DecidedFromEach }
+    ensures earlier { EarlierIsBadRange }
+    ensures document { LaterIsDocument }
+    ensures later { DocumentIsLater }
+    ensures values { LaterHasOldValues }
 {}
 
 /// A document of the form Run whose last byte is a line feed, followed by the text of a run, is one of the form Replay, with the

@@ -4,14 +4,15 @@ ghost use Rattle.std.specs.Prelude.{◌≡◌, ◌≤◌, IfOk};
 ghost use Rattle.text_tokens.specs.Cursor.{next_passes, refusal_at};
 ghost use Rattle.text_tokens.specs.Steps.{TellsOf, ReadsOf, Gives};
 ghost use Rattle.shape_files.specs.Frame.{IsHeader, least_version, greatest_version, is_word_of_section, is_section_word};
-ghost use Rattle.shape_files.specs.FrameReaders.{header};
+ghost use Rattle.shape_files.specs.FrameReaders.{header_from};
 ghost use Rattle.shape_files.specs.Views.{as_read};
 ghost use Rattle.shape_files.specs.Straight.{missing_kind};
 
 use crate::Section;
 use text_tokens::{Refusal, RefusalKind, TokenKind, Tokens};
 
-const LEAST_VERSION: u32 = 1;
+/// The least version that there is.
+pub(crate) const LEAST_VERSION: u8 = 1;
 
 const GREATEST_VERSION: u32 = 3;
 
@@ -22,19 +23,19 @@ pub fn read_head(tokens: &mut Tokens<'_>) -> Result<u8, Refusal>
     ensures low { IfOk result (λ v. least_version ≤ v) }
     ensures high { IfOk result (λ v. v ≤ greatest_version) }
 {
-    read_version(tokens)
+    read_version(tokens, LEAST_VERSION)
 }
 
-/// Reads the header, for the version.
-pub(crate) fn read_version(tokens: &mut Tokens<'_>) -> Result<u8, Refusal>
-    ensures reads { Gives (λ v. v) header tokens.old (as_read result) tokens.new }
-    ensures low { IfOk result (λ v. least_version ≤ v) }
+/// Reads the header, for the version, which is not below the least. Another version is a `BadRange`.
+pub(crate) fn read_version(tokens: &mut Tokens<'_>, least: u8) -> Result<u8, Refusal>
+    ensures reads { Gives (λ v. v) (header_from least) tokens.old (as_read result) tokens.new }
+    ensures low { IfOk result (λ v. least ≤ v) }
     ensures high { IfOk result (λ v. v ≤ greatest_version) }
 {
     tokens.take(TokenKind::Word, b"amoebot")?;
     let token = tokens.take_kind(TokenKind::Number)?;
     let version = tokens.number(&token);
-    if version < LEAST_VERSION || version > GREATEST_VERSION {
+    if version < u32::from(least) || version > GREATEST_VERSION {
         return Err(Refusal {
             line: token.line,
             kind: RefusalKind::BadRange,

@@ -9,10 +9,10 @@ mod parts;
 mod section;
 mod section_kind;
 
-pub use document::read_sections;
+pub use document::{read_sections, read_sections_from};
 pub use document_laws::{
     Sectioned, documents_are_decided, documents_are_sound, documents_fit, documents_read_back,
-    forms_are_straight, in_frame, runs_are_replayed,
+    forms_are_straight, in_frame, least_versions_are_kept, runs_are_replayed,
 };
 pub use head::read_head;
 pub use parts::{Parts, Sections};
@@ -26,6 +26,8 @@ mod faults;
 mod form_tables;
 #[cfg(test)]
 mod journals;
+#[cfg(test)]
+mod least_versions;
 #[cfg(test)]
 mod limits;
 #[cfg(test)]

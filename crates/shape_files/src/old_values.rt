@@ -9,7 +9,7 @@ use text_tokens::RefusalKind::{
     BadByte, BadEntry, BadPlace, BadRange, TooMany, Truncated, Unexpected, WordTooLong,
 };
 
-const HEAD_2: &str = "amoebot 2\n";
+pub const HEAD_2: &str = "amoebot 2\n";
 
 pub const HEAD_3: &str = "amoebot 3\n";
 

@@ -1,6 +1,7 @@
 use crate::faults::{BAD_BYTES, TWO_FAULTS};
 use crate::form_tables::{OTHER_FORMS, REPLAY_FORMS, RUN_FORMS};
 use crate::journals::{JOURNALS, Journal, LONG_JOURNALS};
+use crate::least_versions::{LEAST_VERSIONS, LeastRow};
 use crate::limits::LIMITS;
 use crate::lists::LISTS_AND_SCHEDULES;
 use crate::old_values::{HEAD_3, OLD_VALUES, ONE_ENTRY_TOO_MANY, Valued};
@@ -9,7 +10,7 @@ use crate::programs::{HEADERS_AND_PROGRAMS, PROGRAM_LIMITS};
 use crate::runs::{CUTS, WORKED};
 use crate::shapes::SHAPES;
 use crate::walls::{WALLS, Walled};
-use crate::{Form, Sections, read_head, read_sections};
+use crate::{Form, Sections, read_head, read_sections, read_sections_from};
 use amoebot_state::World;
 use std::alloc::{AllocError, Global};
 use std::process::Abort;
@@ -67,16 +68,29 @@ fn answer(alloc: Global, bytes: &[u8], form: Form) -> Result<Expected, AllocErro
     }
 }
 
-/// How many entries of each kind a document has, or its first fault.
+/// The same where the document is to be of a least version.
+fn answer_from(alloc: Global, bytes: &[u8], form: Form, least: u8) -> Result<Expected, AllocError> {
+    if bytes.len() > 100_000_000 || least == 0 {
+        return Ok(Err((0, RefusalKind::TooLong)));
+    }
+    match read_sections_from(alloc, bytes, form, least) {
+        Ok(found) => Ok(Ok(counts(&found))),
+        Err(ReadRefusal::Refused(Refusal { line, kind })) => Ok(Err((line, kind))),
+        Err(ReadRefusal::NoMemory) => Err(AllocError),
+    }
+}
+
+/// How many entries of each kind a document has, or its first fault, where it is to be of a least version.
 fn valued_answer(
     alloc: Global,
     bytes: &[u8],
     form: Form,
+    least: u8,
 ) -> Result<Result<[i64; 2], (u32, RefusalKind)>, AllocError> {
-    if bytes.len() > 100_000_000 {
+    if bytes.len() > 100_000_000 || least == 0 {
         return Ok(Err((0, RefusalKind::TooLong)));
     }
-    match read_sections(alloc, bytes, form) {
+    match read_sections_from(alloc, bytes, form, least) {
         Ok(found) => Ok(Ok(entries_of(&found))),
         Err(ReadRefusal::Refused(Refusal { line, kind })) => Ok(Err((line, kind))),
         Err(ReadRefusal::NoMemory) => Err(AllocError),
@@ -246,8 +260,42 @@ fn journals_are_read_by_their_version(rt: HostRuntime) -> Result<(), Fail> {
     let table: &[Valued] = &OLD_VALUES;
     for (form, pieces, expected) in table {
         let text = joined(alloc, pieces)?;
-        let found = valued_answer(alloc, text.as_bytes(), *form)?;
+        let found = valued_answer(alloc, text.as_bytes(), *form, 1)?;
         assert_eq!(&rt; found, *expected, "{text}");
+    }
+    Ok(())
+}
+
+#[test]
+fn documents_before_the_least_version_are_refused(rt: HostRuntime) -> Result<(), Fail> {
+    let alloc = rt.alloc();
+    let table: &[LeastRow] = &LEAST_VERSIONS;
+    for (least, form, pieces, expected) in table {
+        let text = joined(alloc, pieces)?;
+        let found = answer_from(alloc, text.as_bytes(), *form, *least)?;
+        assert_eq!(&rt; found, *expected, "{text}");
+    }
+    Ok(())
+}
+
+/// Whether the text has the header of version 3.
+fn is_of_version_3(text: &str) -> bool {
+    text.starts_with("amoebot 3\n") || text.starts_with("amoebot 03\n")
+}
+
+#[test]
+fn only_journals_with_old_values_are_read_from_version_3_on(rt: HostRuntime) -> Result<(), Fail> {
+    let alloc = rt.alloc();
+    let table: &[Valued] = &OLD_VALUES;
+    for (form, pieces, expected) in table {
+        let text = joined(alloc, pieces)?;
+        let expected = if is_of_version_3(text.as_str()) {
+            *expected
+        } else {
+            Err((1, RefusalKind::BadRange))
+        };
+        let found = valued_answer(alloc, text.as_bytes(), *form, 3)?;
+        assert_eq!(&rt; found, expected, "{text}");
     }
     Ok(())
 }

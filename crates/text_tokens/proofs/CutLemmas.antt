@@ -83,7 +83,7 @@ letter_front : (b : ℕ) (text : List ℕ) → is_letter b ≡ true → front (b
 unfolding front
 letter_front b text e = ap (λ (t : Bool). cond t (sized Word (prefix_len is_word_byte (b ∷ text))) (cond (is_digit b) (sized Number (prefix_len is_digit (b ∷ text))) (sign_of (sign_len (b ∷ text))))) e
 
-digit_front : (b : ℕ) (text : List ℕ) → is_digit b ≡ true → front (b ∷ text) ≡ sized Number (prefix_len is_digit (b ∷ text))
+pub digit_front : (b : ℕ) (text : List ℕ) → is_digit b ≡ true → front (b ∷ text) ≡ sized Number (prefix_len is_digit (b ∷ text))
 unfolding front
 digit_front b text e =
     ap (λ (t : Bool). cond t (sized Word (prefix_len is_word_byte (b ∷ text))) (cond (is_digit b) (sized Number (prefix_len is_digit (b ∷ text))) (sign_of (sign_len (b ∷ text))))) (digit_no_letter b e)

@@ -2,7 +2,7 @@
 use Rattle.std.proofs.Common.{◌≡◌, ℕ, zero, suc, Bool, List, [], ◌∷◌, Result, Ok, Err, refl, sym, ap, subst, ◌∙◌}
 use Rattle.text_tokens.specs.declared.refusal.Refusal.{Refusal}
 use Rattle.text_tokens.specs.declared.refusal.RefusalKind.{RefusalKind}
-use Rattle.text_tokens.specs.declared.refusal.RefusalKind.TheVariants.{BadByte, WordTooLong, Unexpected, TooDeep, TooMany, Truncated, UnknownName, TwiceNamed, WrongType, BadRange, BadId, OutOfBox, Overlap, NotAdjacent, BadValue, Trailing, WrongSection, BadEntry, BadPlace, TooLong, BadWall, OnWall}
+use Rattle.text_tokens.specs.declared.refusal.RefusalKind.TheVariants.{BadByte, WordTooLong, Unexpected, TooDeep, TooMany, Truncated, UnknownName, TwiceNamed, WrongType, BadRange, BadId, OutOfBox, Overlap, NotAdjacent, BadValue, Trailing, WrongSection, BadEntry, BadPlace, TooLong, BadWall, OnWall, NotErosion, BadStart}
 use Rattle.text_tokens.specs.Text.{Lexeme}
 use Rattle.text_tokens.specs.Cursor.{end_by, at_end}
 use Rattle.text_tokens.specs.Reading.{Answer, Reader, refuse, by_levels, and_end, end_of_input, whole_input}
@@ -48,6 +48,8 @@ at_which last BadPlace = not_there (λ e. absurd cc) refl
 at_which last TooLong = not_there (λ e. absurd cc) refl
 at_which last BadWall = not_there (λ e. absurd cc) refl
 at_which last OnWall = not_there (λ e. absurd cc) refl
+at_which last NotErosion = not_there (λ e. absurd cc) refl
+at_which last BadStart = not_there (λ e. absurd cc) refl
 
 module _ {A : Type 0} (P : Lang A) (kind : RefusalKind) where
   pub ends_by : (last : Refusal) (ts : List Lexeme) (a : A) (rest : List Lexeme) → IsText P ts a rest → TellsInput P kind last ts (and_end a (at_end kind last rest))

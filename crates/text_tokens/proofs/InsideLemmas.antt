@@ -1,5 +1,5 @@
 -- What a `Tokens` that is ready shows.
-use Rattle.std.proofs.Common.{◌≡◌, ℕ, ◌+◌, ◌-◌, ◌<◌, ◌≤◌, ◌^◌, Bool, true, false, cond, rules, List, [], ◌∷◌, length, take, drop, Some, Result, Ok, Err, refl, sym, ap, subst, ◌∙◌, arith, length-drop}
+use Rattle.std.proofs.Common.{◌≡◌, inr, ℕ, suc, ◌+◌, ◌-◌, ◌<◌, ◌≤◌, ◌^◌, Bool, true, false, cond, rules, List, [], ◌∷◌, length, get_or, take, drop, Some, Result, Ok, Err, refl, sym, ap, subst, ◌∙◌, arith, drop-cons, length-drop}
 use Rattle.std.proofs.lemmas.List.{drop-drop, length-take-le}
 use Rattle.text_tokens.specs.declared.token.Token.{Token}
 use denote.Enum.Bare.{same_true}
@@ -9,14 +9,16 @@ use Rattle.text_tokens.specs.declared.token.TokenKind.TheVariants.{Number}
 use Rattle.text_tokens.specs.declared.refusal.Refusal.{Refusal}
 use Rattle.text_tokens.specs.declared.refusal.RefusalKind.{RefusalKind}
 use Rattle.text_tokens.specs.declared.refusal.RefusalKind.TheVariants.{Truncated, Unexpected}
+use Rattle.std.specs.List.{prefix_len}
 use Rattle.std.specs.Prelude.{IfOk, IfSome}
 use Rattle.text_tokens.specs.declared.tokens.Tokens.TheInside.{Inside}
-use Rattle.text_tokens.specs.Text.{Lexeme}
-use Rattle.text_tokens.specs.Scan.{Piece, Input, skip, ready, front, lexeme, input_past, ahead_of}
+use Rattle.text_tokens.specs.Text.{Lexeme, is_digit}
+use Rattle.text_tokens.specs.Scan.{Piece, Input, skip, ready, sized, front, lexeme, input_past, ahead_of}
 use Rattle.text_tokens.specs.Cursor.{token_of, end_or, answer, past_token, refusal_at, line_of, next_passes, Spells, at_input, at_place, expect, expect_by, is_kind, same_kind, number_value, slice}
 use Rattle.text_tokens.specs.Inside.{input_of, cursor_of, piece_by, IsReady}
-use Rattle.text_tokens.proofs.CutLemmas.{Found, front_found}
-use Rattle.text_tokens.proofs.ScanLemmas.{ready_twice, front_fits, ahead_ok, ahead_err, last_ok, last_err, ahead_ready, last_ready}
+use Rattle.text_tokens.proofs.CutLemmas.{Found, digit_front, front_found}
+use Rattle.text_tokens.proofs.Decimal.{digit_range}
+use Rattle.text_tokens.proofs.ScanLemmas.{blank_at, start_at, ready_twice, front_fits, ahead_ok, ahead_err, last_ok, last_err, ahead_ready, last_ready}
 
 -- no token stands behind the last one
 pub no_token : (P : Token → Type 0) (last : Refusal) (k : RefusalKind) → IfOk (end_or last k) (λ found. IfSome found P)
@@ -40,6 +42,18 @@ unfolding ready
 is_ready source at line blanks to e =
     let is : skip false at line (drop at source) ≡ record { text = drop (at + blanks) source; at = at + blanks; line = to } = e ∙ ap (λ (text : List ℕ). record { text = text; at = at + blanks; line = to }) (drop-drop blanks at source) in
     subst (λ (i : Input). ready i ≡ i) is (ready_twice (record { text = drop at source; at = at; line = line }))
+
+-- one blank at a place, and a digit behind it
+module _ (source : List ℕ) (at line : ℕ) (lt : at + 1 < length source) (blank : get_or source at 0 ≡ 32) (digit : is_digit (get_or source (at + 1) 0) ≡ true) where
+  pub blank_skipped : skip false at line (drop at source) ≡ record { text = drop 1 (drop at source); at = at + 1; line = line }
+  blank_skipped =
+      let d = digit_range (get_or source (at + 1) 0) digit in
+      blank_at at line source at (omega arith) (inr (inr blank))
+      ∙ start_at (at + 1) line source (at + 1) lt (λ e. omega arith) (λ e. omega arith) (λ e. omega arith) (λ e. omega arith) (λ e. omega arith)
+      ∙ ap (λ (text : List ℕ). record { text = text; at = at + 1; line = line }) (sym (drop-drop 1 at source))
+
+  pub number_behind : front (drop (at + 1) source) ≡ sized Number (prefix_len is_digit (drop (at + 1) source))
+  number_behind = rw (drop-cons source (at + 1) 0 lt) (digit_front (get_or source (at + 1) 0) (drop (suc (at + 1)) source) digit)
 
 module _ (t : Inside) (h : IsReady t) where
   -- at a token

@@ -26,6 +26,8 @@ kind_number kind.BadPlace = 19
 kind_number kind.TooLong = 20
 kind_number kind.BadWall = 22
 kind_number kind.OnWall = 23
+kind_number kind.NotErosion = 24
+kind_number kind.BadStart = 25
 
 unfoldable pub name : RefusalKind → List ℕ
 name kind.BadByte = codes "BadByte"
@@ -50,3 +52,5 @@ name kind.BadPlace = codes "BadPlace"
 name kind.TooLong = codes "TooLong"
 name kind.BadWall = codes "BadWall"
 name kind.OnWall = codes "OnWall"
+name kind.NotErosion = codes "NotErosion"
+name kind.BadStart = codes "BadStart"

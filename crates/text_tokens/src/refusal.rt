@@ -53,6 +53,10 @@ pub enum RefusalKind {
     BadWall,
     /// An amoebot with its head or its tail on a wall.
     OnWall,
+    /// A program that is not the erosion program.
+    NotErosion,
+    /// A shape from which erosion may not start.
+    BadStart,
 }
 
 impl RefusalKind {
@@ -84,6 +88,8 @@ impl RefusalKind {
             RefusalKind::TooLong => 20,
             RefusalKind::BadWall => 22,
             RefusalKind::OnWall => 23,
+            RefusalKind::NotErosion => 24,
+            RefusalKind::BadStart => 25,
         }
     }
 
@@ -115,6 +121,8 @@ impl RefusalKind {
             RefusalKind::TooLong => "TooLong",
             RefusalKind::BadWall => "BadWall",
             RefusalKind::OnWall => "OnWall",
+            RefusalKind::NotErosion => "NotErosion",
+            RefusalKind::BadStart => "BadStart",
         }
     }
 }

@@ -1,6 +1,6 @@
 //! A cursor over the tokens of a text, which cuts each as it is reached.
 
-ghost use Rattle.std.specs.Prelude.{◌≡◌, ◌<◌, ◌≤◌, ◌+◌, ◌^◌, ℕ, length, take, drop, IfOk, IfSome, OnOk, OnErr, List, Ok, Err, true, false};
+ghost use Rattle.std.specs.Prelude.{◌≡◌, ◌<◌, ◌≤◌, ◌+◌, ◌^◌, ℕ, get_or, length, take, drop, IfOk, IfSome, OnOk, OnErr, List, Ok, Err, true, false};
 ghost use Rattle.std.specs.List.{list_all, prefix_len};
 ghost use Rattle.std.specs.Str.{bytes_eq};
 ghost use Rattle.text_tokens.specs.declared.token.TokenKind.TheVariants.{Number, Word};
@@ -21,8 +21,8 @@ use std::marker::Model;
 #[derive(Clone, Copy)]
 struct Lead {
     kind: Result<TokenKind, RefusalKind>,
-    len: usize,
     value: u32,
+    len: usize,
 }
 
 impl Lead {
@@ -76,8 +76,8 @@ fn is_digit(b: u8) -> bool
 fn is_word_byte(b: u8) -> bool
     ensures { result ≡ text.is_word_byte b }
 {
-    if b >= b'a' {
-        b <= b'z'
+    if b.is_ascii_lowercase() {
+        true
     } else if b >= b'A' {
         b <= b'Z' || b == b'_'
     } else {
@@ -138,19 +138,19 @@ fn word(len: usize) -> Lead
 }
 
 /// The number at the front, with what it stands for.
+#[inline(always)]
 fn leading_number(bytes: &[u8]) -> Lead
     ensures is { piece_of result ≡ scan.sized Number (prefix_len text.is_digit bytes.now) }
     ensures stands { HasItsNumber bytes.now result }
 {
-    let end = bytes.len().min(most_bytes(TokenKind::Number));
     let mut len = 0;
     let mut value: u32 = 0;
-    while len < end && is_digit(bytes[len]) {
+    while len < bytes.len() && is_digit(bytes[len]) {
+        if len == most_bytes(TokenKind::Number) {
+            return Lead::fault(RefusalKind::WordTooLong);
+        }
         value = 10 * value + (bytes[len] - b'0') as u32;
         len += 1;
-    }
-    if len < bytes.len() && is_digit(bytes[len]) {
-        return Lead::fault(RefusalKind::WordTooLong);
     }
     Lead {
         kind: Ok(TokenKind::Number),
@@ -183,10 +183,10 @@ fn front(bytes: &[u8]) -> Lead
     match bytes {
         [] => Lead::fault(RefusalKind::Truncated),
         [b, ..] => {
-            if is_digit(*b) {
-                leading_number(bytes)
-            } else if is_letter(*b) {
+            if is_letter(*b) {
                 word(word_len(bytes))
+            } else if is_digit(*b) {
+                leading_number(bytes)
             } else {
                 sign(sign_len(bytes))
             }
@@ -239,6 +239,17 @@ fn skip(bytes: &[u8], line: u32) -> (usize, u32)
         }
     }
     (at, line_now)
+}
+
+/// Whether one blank stands at this place, and a digit behind it.
+#[inline(always)]
+fn has_number_behind_blank(source: &[u8], at: usize) -> bool
+    requires { at < 2 ^ 32 }
+    ensures within { result ≡ true → at + 1 < length source.now }
+    ensures blank { result ≡ true → get_or source.now at 0 ≡ 32 }
+    ensures digit { result ≡ true → text.is_digit (get_or source.now (at + 1) 0) ≡ true }
+{
+    at + 1 < source.len() && source[at] == b' ' && is_digit(source[at + 1])
 }
 
 /// What digits stand for.
@@ -357,14 +368,32 @@ impl<'a> Tokens<'a> {
         Ok(found)
     }
 
-    /// Moves behind the next token, if there is one.
+    /// Moves behind the next token, if there is one. Most tokens have one blank and a number behind them.
     #[inline(never)]
     fn skip_token(&mut self)
         ensures { self.new ≡ cursor.past_token self.old }
     {
         if let Ok(_kind) = self.front.kind {
-            *self = Tokens::at_next(self.source, self.at + self.front.len, self.line);
+            let at = self.at + self.front.len;
+            let line = self.line;
+            if has_number_behind_blank(self.source, at) {
+                self.at = at + 1;
+                self.front = leading_number(&self.source[at + 1..]);
+            } else {
+                self.move_to(at, line);
+            }
         }
+    }
+
+    /// Moves to the first token or fault from a place on, which lies on this line.
+    #[inline(never)]
+    fn move_to(&mut self, at: usize, line: u32)
+        requires within { at ≤ length self.old.source }
+        requires line { line ≤ at + 1 }
+        requires small { text.IsCountable self.old.source }
+        ensures { self.new ≡ cursor.at_place self.old.source at line }
+    {
+        *self = Tokens::at_next(self.source, at, line);
     }
 
     /// The line of the next token, or else the line of the fault or of the end, where the text ends or goes on with a fault.

@@ -1,5 +1,23 @@
-use Rattle.command_answers.proofs.OwedLemmas.{owed_is_one}
+use Rattle.command_answers.proofs.OwedLemmas.{OneOfEach, owed_is_one}
 use Rattle.command_answers.proofs.laws.owed_is_one.Goals as goal
 
 pub returns : goal.returns
-returns c = owed_is_one c.documents_are_decided.ensures.decided c.run_text_is_one.ensures c.interleave_text_is_one.ensures.text c.replay_is_decided.ensures c.plain_run_is_run.ensures c.plain_run_is_unique.ensures c.documents_fit.ensures c.measure_text_is_one.ensures c.good_stays_connected.ensures c.sample_is_fit.ensures
+returns c =
+    let laws : OneOfEach = record {
+      documents = c.least_versions_are_kept.ensures.decided;
+      later = c.least_versions_are_kept.ensures.document;
+      together = c.documents_fit.ensures;
+      runs = c.run_text_is_one.ensures;
+      interleaves = c.interleave_text_is_one.ensures.text;
+      replays = c.replay_is_decided.ensures;
+      is_run = c.plain_run_is_run.ensures;
+      unique = c.plain_run_is_unique.ensures;
+      measures = c.measure_text_is_one.ensures;
+      stays = c.good_stays_connected.ensures;
+      fit = c.sample_is_fit.ensures;
+      acts = c.changes_are_acts.ensures.acts;
+      decide = c.acts_decide.ensures.laws;
+      backs = c.unwound_is_unique.ensures;
+      counts = c.rounds_are_unique.ensures;
+    } in
+    owed_is_one laws

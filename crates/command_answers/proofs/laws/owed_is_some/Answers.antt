@@ -4,7 +4,9 @@ use Rattle.command_answers.proofs.laws.owed_is_some.Goals as goal
 pub returns : goal.returns
 returns c =
     let laws : Exists = record {
-      documents = c.documents_are_decided.ensures.decided;
+      documents = c.least_versions_are_kept.ensures.decided;
+      later = c.least_versions_are_kept.ensures.document;
+      values = c.least_versions_are_kept.ensures.values;
       fit = c.documents_fit.ensures;
       sound = c.documents_are_sound.ensures;
       rounds = c.rounds_leave_a_report.ensures;
@@ -18,5 +20,10 @@ returns c =
       fits = c.sample_is_fit.ensures;
       acts = c.changes_are_acts.ensures.acts;
       decide = c.acts_decide.ensures.laws;
+      backs = c.unwound_is_some.ensures;
+      counts = c.each_run_is_rounded.ensures;
+      erosions = c.election_laws.ensures.decided;
+      starts = c.start_laws.ensures.decided;
+      ready = c.start_laws.ensures.ready;
     } in
     owed_is_some laws

@@ -13,4 +13,4 @@ returns c =
       verdicts = c.verdict_ignores_lines.ensures;
       canons = c.canon_ignores_lines.ensures;
     } in
-    record { replayed = renewed_is_replayed rules c.documents_are_decided.ensures.decided; stays = renewed_stays rules; ends = renew_ends_as_replay }
+    record { replayed = renewed_is_replayed rules c.least_versions_are_kept.ensures.decided; stays = renewed_stays rules; ends = renew_ends_as_replay }

@@ -25,3 +25,6 @@ loop-len-preserved c =
       small = small_step c.loop-len.value _ c.loop-len.len c.loop-len.invariant.small (omega arith);
       within = omega arith;
     }
+
+pub returns-then-len-most_bytes-clause-stands : goal.returns-then-len-most_bytes-clause-stands
+returns-then-len-most_bytes-clause-stands c = c.fault.ensures.stands c.args.bytes.now

@@ -10,7 +10,7 @@ invariant-loop-len l = record {
   rest : l.len + prefix_len is_digit (drop l.len l.bytes) ≡ prefix_len is_digit l.bytes;
   value : l.value ≡ number_value (take l.len l.bytes);
   small : l.value < 10 ^ l.len;
-  within : l.len ≤ l.end;
+  within : l.len ≤ 9;
 }
 
 abbrev pub decreases-loop-len : goal.decreases-loop-len

@@ -2,7 +2,7 @@ use Rattle.std.proofs.Common.{◌≡◌, List, [], ◌∷◌, Some, Err, Ok, ref
 use Rattle.text_tokens.specs.declared.token.Token.{Token}
 use Rattle.text_tokens.specs.declared.refusal.Refusal.{Refusal}
 use Rattle.text_tokens.specs.declared.refusal.RefusalKind.{RefusalKind}
-use Rattle.text_tokens.specs.declared.refusal.RefusalKind.TheVariants.{BadByte, WordTooLong, Unexpected, TooDeep, TooMany, Truncated, UnknownName, TwiceNamed, WrongType, BadRange, BadId, OutOfBox, Overlap, NotAdjacent, BadValue, Trailing, WrongSection, BadEntry, BadPlace, TooLong, BadWall, OnWall}
+use Rattle.text_tokens.specs.declared.refusal.RefusalKind.TheVariants.{BadByte, WordTooLong, Unexpected, TooDeep, TooMany, Truncated, UnknownName, TwiceNamed, WrongType, BadRange, BadId, OutOfBox, Overlap, NotAdjacent, BadValue, Trailing, WrongSection, BadEntry, BadPlace, TooLong, BadWall, OnWall, NotErosion, BadStart}
 use Rattle.text_tokens.specs.Text.{Lexeme}
 use Rattle.text_tokens.specs.Cursor.{end_or, answer_by, refusal_at, at_end}
 use Rattle.text_tokens.proofs.tokens.Tokens.end.Goals as goal
@@ -31,6 +31,8 @@ no_token last t BadPlace e = absurd cc
 no_token last t TooLong e = absurd cc
 no_token last t BadWall e = absurd cc
 no_token last t OnWall e = absurd cc
+no_token last t NotErosion e = absurd cc
+no_token last t BadStart e = absurd cc
 
 token_left : (kind : RefusalKind) (last : Refusal) (ts : List Lexeme) (t : Token) → answer_by ts last ≡ Ok (Some t) → at_end kind last ts ≡ Err (refusal_at last kind ts)
 token_left kind last [] t e = absurd (no_token last t last.kind e)

@@ -1,0 +1,184 @@
+-- What `elect` answers is what it owes, each world of its run is elected, and it ends as `replay` does.
+use Rattle.std.proofs.Common.{◌≡◌, ◌≢◌, ◌⊎◌, ◌<◌, ℕ, Bool, List, length, Option, Some, None, Result, Ok, Err, inl, inr, ap, refl, sym, subst, ◌∙◌}
+use Rattle.std.specs.Prelude.{IfErr, IfSome, IsSome, MatchResult, OnOk, ⊤}
+use Rattle.std.proofs.lemmas.Option.{same_Some}
+use Rattle.amoebot_state.specs.declared.verdict.Entry.{Entry}
+use Rattle.amoebot_state.specs.declared.verdict.PlainEntry.{PlainEntry}
+use Rattle.amoebot_state.proofs.Options.{not_none}
+use Rattle.node_text.specs.Parts.{has_old_values}
+use Rattle.journal_text.specs.Texts.{written_full, written_plain}
+use Rattle.std.specs.List.{All}
+use Rattle.std.proofs.lemmas.Bool.{cases_Bool}
+use Rattle.amoebot_state.specs.Configs.{Config, IsValid}
+use Rattle.serial_model.specs.declared.replays.Differs.{Differs}
+use Rattle.shape_checks.specs.Values.{value_count}
+use Rattle.action_meaning.specs.Verdicts.{verdict_shown}
+use Rattle.election_law.specs.Elections.{IsErosion, IsReadyStart, cand_var, leader_of}
+use Rattle.election_law.specs.declared.refusal.ElectRefusal.{ElectRefusal}
+use Rattle.election_law.specs.declared.refusal.ElectRefusal.TheVariants.{NoMemory}
+use Rattle.election_law.specs.Starts.{AreBotsReady, IsFirstUnready}
+use Rattle.election_law.specs.States.{ElectionState}
+use Rattle.election_law.specs.Laws.{ErosionElects, ErosionOrNot, ReadyHasNone, ReadyOrUnready}
+use Rattle.shape_files.specs.declared.section_kind.Form.TheVariants as form
+use Rattle.shape_files.specs.Documents.{Contents, HasContents, actions_of, bots_of}
+use Rattle.shape_files.specs.LeastVersions.{DecidedFromEach}
+use Rattle.shape_files.specs.Fitting.{AreEntriesOf, DocumentsAreSound, FitTogether, HasJournal, HasJournalBy, IsWorldShape}
+use Rattle.command_runs.specs.Elect.{election_text}
+use Rattle.command_runs.specs.Replay.{Agrees, DiffersAt, agrees_line, differs_line}
+use Rattle.command_words.specs.declared.command.DocumentCommand.TheVariants.{Elect, Replay}
+use Rattle.command_answers.specs.declared.answer.Answer.{Answer}
+use Rattle.command_answers.specs.declared.status.Status.{Status}
+use Rattle.command_answers.specs.declared.status.Status.TheVariants as status
+use Rattle.command_answers.specs.Answers.{IsAnswerTo, differs_with, elected_with, refused_with}
+use Rattle.command_answers.specs.Commands.{IsDocumentOf}
+use Rattle.command_answers.specs.ElectLaws.{ElectEndsAsReplay, ElectionsAreWon, IsWonElection}
+use Rattle.command_answers.specs.Lines.{bad_start, not_erosion, refusal_line}
+use Rattle.command_answers.specs.Outcomes.{DocumentRecord, IsOutcome, JournalAgrees, JournalDiffers, TellsEntries, agreeing, differing, no_erosion, not_ready, not_elected, elected}
+use Rattle.command_answers.specs.Owed.{served}
+use Rattle.command_answers.specs.Reads.{whole}
+use Rattle.command_answers.specs.RenewLaws.{IsOwedFor}
+use Rattle.command_answers.proofs.Outcomes.{documents_have_outcomes}
+use Rattle.command_answers.proofs.OwedTexts.{same_answer}
+
+-- ---- what is answered
+
+module _ (a : Contents) (d : DocumentRecord a) (answer : Answer) where
+  pub tells_no_erosion : (IsErosion d.program → ⊥) → answer ≡ refused_with not_erosion → IsAnswerTo Elect a answer
+  tells_no_erosion other is = same_answer Elect a answer (refused_with not_erosion) is (λ bytes h.
+      served Elect bytes a (status.Refused not_erosion) None (refusal_line not_erosion) h (no_erosion d other))
+
+  pub tells_bad_start : IsErosion d.program → (IsReadyStart d.start → ⊥) → answer ≡ refused_with bad_start → IsAnswerTo Elect a answer
+  tells_bad_start erodes unready is = same_answer Elect a answer (refused_with bad_start) is (λ bytes h.
+      served Elect bytes a (status.Refused bad_start) None (refusal_line bad_start) h (not_ready d erodes unready))
+
+  pub tells_difference : IsErosion d.program → IsReadyStart d.start → (place : ℕ) → JournalDiffers a d place → answer ≡ differs_with place → IsAnswerTo Elect a answer
+  tells_difference erodes ready place differs is = same_answer Elect a answer (differs_with place) is (λ bytes h.
+      served Elect bytes a (status.Differs place) None (differs_line place) h (not_elected d place erodes ready differs))
+
+  pub tells_election : IsErosion d.program → IsReadyStart d.start → (es : List Entry) → JournalAgrees a d es → answer ≡ elected_with (value_count d.final cand_var 1) (leader_of d.final) → IsAnswerTo Elect a answer
+  tells_election erodes ready es agrees is = same_answer Elect a answer (elected_with (value_count d.final cand_var 1) (leader_of d.final)) is (λ bytes h.
+      served Elect bytes a status.Done None (election_text (value_count d.final cand_var 1) (leader_of d.final)) h (elected d es erodes ready agrees))
+
+  -- what is told of the steps of an election that began
+  pub tells_steps : IsErosion d.program → IsReadyStart d.start → (e : ElectionState) → e ≡ record { program = d.program; world = d.start; steps = 0 }
+      → (es : List Entry) → TellsEntries a es
+      → ((place : ℕ) → DiffersAt (verdict_shown d.program) d.start es d.final place → JournalDiffers a d place)
+      → (made : Result ⊤ Differs) (world : Config)
+      → OnOk made (Agrees (verdict_shown e.program) e.world es d.final)
+      → OnOk made (world ≡ d.final)
+      → IfErr made (λ x. DiffersAt (verdict_shown e.program) e.world es d.final x.place)
+      → MatchResult made (λ _. answer ≡ elected_with (value_count world cand_var 1) (leader_of world)) (λ x. answer ≡ differs_with x.place)
+      → IsAnswerTo Elect a answer
+  tells_steps erodes ready e began es told journal (Ok u) world agrees reached differs is =
+      let run = subst (λ (x : ElectionState). Agrees (verdict_shown x.program) x.world es d.final) began agrees in
+      tells_election erodes ready es (record { told = told; agrees = run }) (is ∙ ap (λ (c : Config). elected_with (value_count c cand_var 1) (leader_of c)) reached)
+  tells_steps erodes ready e began es told journal (Err x) world agrees reached differs is =
+      let by = subst (λ (z : ElectionState). DiffersAt (verdict_shown z.program) z.world es d.final x.place) began differs in
+      tells_difference erodes ready x.place (journal x.place by) is
+
+  -- a start that is refused for something else than memory
+  pub tells_refusal : IsErosion d.program → ReadyHasNone → (e : ElectRefusal) → IsFirstUnready d.start e ⊎ ((e ≡ NoMemory) × AreBotsReady d.start)
+      → (e ≢ NoMemory) × (answer ≡ refused_with bad_start) → IsAnswerTo Elect a answer
+  tells_refusal erodes none e (inl first) is = tells_bad_start erodes (λ ready. none d.start e ready first) is.1
+  tells_refusal erodes none e (inr short) is = absurd (is.0 short.0)
+
+-- ---- the journal
+
+-- a journal without old values is there where one with them is not
+pub plain_there : (a : Contents) → HasJournal a → a.entries ≡ None → IsSome a.plain
+plain_there a has none = elim (cases_Bool (has_old_values a.version)) [
+  | inl is ↦ absurd (not_none a.entries none (subst (λ (b : Bool). HasJournalBy b a) is has))
+  | inr without ↦ subst (λ (b : Bool). HasJournalBy b a) without has
+]
+
+-- the amoebots of its entries are the shape's
+pub full_bots : (a : Contents) (start world : Config) (es : List Entry) → FitTogether a → a.world ≡ Some start → a.entries ≡ Some es → world ≡ start → All (λ (e : Entry). e.bot < length world.bots) es
+full_bots a start world es fits its_shape its same =
+    let are = subst (λ (o : Option (List Entry)). IfSome o (AreEntriesOf written_full (bots_of a.world) (actions_of a.checked))) its fits.entries in
+    let there = subst (λ (o : Option Config). All (λ (e : Entry). e.bot < bots_of o) es) its_shape are.there in
+    subst (λ (c : Config). All (λ (e : Entry). e.bot < length c.bots) es) (sym same) there
+
+pub plain_bots : (a : Contents) (start world : Config) (ps : List PlainEntry) → FitTogether a → a.world ≡ Some start → a.plain ≡ Some ps → world ≡ start → All (λ (p : PlainEntry). p.bot < length world.bots) ps
+plain_bots a start world ps fits its_shape its same =
+    let are = subst (λ (o : Option (List PlainEntry)). IfSome o (AreEntriesOf written_plain (bots_of a.world) (actions_of a.checked))) its fits.plain in
+    let there = subst (λ (o : Option Config). All (λ (p : PlainEntry). p.bot < bots_of o) ps) its_shape are.there in
+    subst (λ (c : Config). All (λ (p : PlainEntry). p.bot < length c.bots) ps) (sym same) there
+
+-- ---- something is told
+
+-- a document is refused, or its journal is told
+pub some_election : ErosionOrNot → ReadyOrUnready → ReadyHasNone → (a : Contents) (d : DocumentRecord a) → IsValid d.start
+    → ((es : List Entry) × JournalAgrees a d es) ⊎ ((place : ℕ) × JournalDiffers a d place)
+    → (s : Status) × (text : List ℕ) × IsOutcome a Elect s None text
+some_election programs starts none a d valid journal = elim (programs d.program) [
+  | inr other ↦ (status.Refused not_erosion, refusal_line not_erosion, no_erosion d other)
+  | inl erodes ↦ elim (starts d.start valid) [
+    | inr first ↦ (status.Refused bad_start, refusal_line bad_start, not_ready d erodes (λ ready. none d.start first.0 ready first.1))
+    | inl ready ↦ elim journal [
+      | inl by ↦ (status.Done, election_text (value_count d.final cand_var 1) (leader_of d.final), elected d by.0 erodes ready by.1)
+      | inr by ↦ (status.Differs by.0, differs_line by.0, not_elected d by.0 erodes ready by.1)
+    ]
+  ]
+]
+
+-- ---- elections are won
+
+same_program : (a : Contents) (d e : DocumentRecord a) → e.program ≡ d.program
+same_program a d e = same_Some _ _ (sym e.its_program ∙ d.its_program)
+
+same_start : (a : Contents) (d e : DocumentRecord a) → e.start ≡ d.start
+same_start a d e = same_Some _ _ (sym e.its_shape ∙ d.its_shape)
+
+valid_start : DocumentsAreSound → (bytes : List ℕ) (a : Contents) (d : DocumentRecord a) → HasContents form.Replay bytes a → IsValid d.start
+valid_start sound bytes a d h =
+    let stands : IsWorldShape d.start = subst (λ (o : Option Config). IfSome o IsWorldShape) d.its_shape (sound form.Replay bytes a h).world in
+    stands.valid
+
+won : ErosionElects → DocumentsAreSound → (bytes : List ℕ) (a : Contents) (text : List ℕ) → HasContents form.Replay bytes a → IsOutcome a Elect status.Done None text → IsWonElection a text
+won law sound bytes a text h (elected d es erodes ready agrees) = record {
+  document = d;
+  entries = es;
+  agrees = agrees;
+  elected = λ place world at. law d.program d.start es place world erodes (valid_start sound bytes a d h) ready at;
+  writes = refl;
+}
+
+pub elections_are_won : DecidedFromEach → DocumentsAreSound → ErosionElects → ElectionsAreWon
+elections_are_won documents sound law bytes text a h owed = won law sound bytes a text h (documents_have_outcomes documents Elect bytes a status.Done None text h owed)
+
+-- ---- it ends as `replay`
+
+module _ (bytes : List ℕ) (a : Contents) (d : DocumentRecord a) (h : HasContents form.Replay bytes a) (erodes : IsErosion d.program) (ready : IsReadyStart d.start) where
+  erodes_too : (e : DocumentRecord a) → IsErosion e.program
+  erodes_too e = subst IsErosion (same_program a e d) erodes
+
+  ready_too : (e : DocumentRecord a) → IsReadyStart e.start
+  ready_too e = subst IsReadyStart (same_start a e d) ready
+
+  to_replay : (s : Status) (text : List ℕ) → s ≢ status.Done → IsOutcome a Elect s None text → IsOwedFor Replay (whole bytes) s text
+  to_replay s text other (no_erosion e none) = absurd (none (erodes_too e))
+  to_replay s text other (not_ready e is none) = absurd (none (ready_too e))
+  to_replay s text other (not_elected e place is starts differs) = served Replay bytes a (status.Differs place) None (differs_line place) h (differing e place differs)
+  to_replay s text other (elected e es is starts agrees) = absurd (other refl)
+
+  to_elect : (s : Status) (text : List ℕ) → s ≢ status.Done → IsOutcome a Replay s None text → IsOwedFor Elect (whole bytes) s text
+  to_elect s text other (agreeing e es agrees) = absurd (other refl)
+  to_elect s text other (differing e place differs) =
+      served Elect bytes a (status.Differs place) None (differs_line place) h (not_elected e place (erodes_too e) (ready_too e) differs)
+
+  done_by_replay : (text : List ℕ) → IsOutcome a Elect status.Done None text → (line : List ℕ) × IsOwedFor Replay (whole bytes) status.Done line
+  done_by_replay text (elected e es is starts agrees) = (agrees_line (length es), served Replay bytes a status.Done None (agrees_line (length es)) h (agreeing e es agrees))
+
+  done_by_elect : (line : List ℕ) → IsOutcome a Replay status.Done None line → (text : List ℕ) × IsOwedFor Elect (whole bytes) status.Done text
+  done_by_elect line (agreeing e es agrees) =
+      let text = election_text (value_count e.final cand_var 1) (leader_of e.final) in
+      (text, served Elect bytes a status.Done None text h (elected e es (erodes_too e) (ready_too e) agrees))
+
+pub elect_ends_as_replay : DecidedFromEach → ElectEndsAsReplay
+elect_ends_as_replay documents bytes a d h erodes ready =
+    let of_elect = λ (s : Status) (text : List ℕ) (owed : IsOwedFor Elect (whole bytes) s text). documents_have_outcomes documents Elect bytes a s None text h owed in
+    let of_replay = λ (s : Status) (text : List ℕ) (owed : IsOwedFor Replay (whole bytes) s text). documents_have_outcomes documents Replay bytes a s None text h owed in
+    record {
+      done = (λ owed. done_by_replay bytes a d h erodes ready owed.0 (of_elect status.Done owed.0 owed.1), λ owed. done_by_elect bytes a d h erodes ready owed.0 (of_replay status.Done owed.0 owed.1));
+      other = λ s text not_done. (λ owed. to_replay bytes a d h erodes ready s text not_done (of_elect s text owed), λ owed. to_elect bytes a d h erodes ready s text not_done (of_replay s text owed));
+    }

@@ -1,0 +1,143 @@
+//! The command `elect`: the candidates and the leader at the end of an election.
+
+ghost use Rattle.std.specs.Prelude.{◌≡◌, ◌≢◌, ◌<◌, length, IfOk, IfErr, IfSome, MatchResult, OnOk};
+ghost use Rattle.std.specs.List.{All};
+ghost use Rattle.serial_model.specs.Replays.{AreCountable};
+ghost use Rattle.shape_checks.specs.Values.{value_count};
+ghost use Rattle.action_meaning.specs.Verdicts.{verdict_shown};
+ghost use Rattle.election_law.specs.Elections.{cand_var, leader_of};
+ghost use Rattle.shape_files.specs.Fitting.{Fits};
+ghost use Rattle.shape_files.specs.Views.{contents};
+ghost use Rattle.command_runs.specs.Replay.{Agrees, DiffersAt};
+ghost use Rattle.command_answers.specs.Answers.{IsAnswerTo, differs_with, elected_with, refused_with};
+ghost use Rattle.command_answers.specs.Commands.{form_of};
+ghost use Rattle.command_answers.specs.Lines.{bad_start};
+
+use crate::answer::{Answer, differ, done, refuse};
+use action_eval::Runner;
+use amoebot_state::{Entry, NoMemory, World};
+use command_runs::{follow_all, print_election, replay_is_decided};
+use command_words::DocumentCommand;
+use election_law::{ElectRefusal, Election, is_erosion, start_laws};
+use serial_model::Differs;
+use shape_files::Parts;
+use std::alloc::Global;
+use text_tokens::{Refusal, RefusalKind};
+
+/// The program is judged, then the shape at the start. Then the journal is compared as for `replay`, and its last world is told.
+pub(crate) fn answer_elect(alloc: Global, parts: Parts) -> Result<Answer, NoMemory>
+    requires { Fits (form_of DocumentCommand.Elect) (contents parts) }
+    ensures { IfOk result (IsAnswerTo DocumentCommand.Elect (contents parts)) }
+{
+    start_laws();
+    replay_is_decided();
+    let Parts {
+        checked,
+        world,
+        entries,
+        plain,
+        final_world,
+        ..
+    } = parts;
+    let runner = Runner::new(checked.unwrap());
+    let start = world.unwrap();
+    let last = final_world.unwrap();
+    if !is_erosion(runner.checked().program()) {
+        return refuse(alloc, whole_document(RefusalKind::NotErosion));
+    }
+    let mut election = match Election::open(alloc, runner, start) {
+        Ok(election) => election,
+        Err(refusal) => return refuse_start(alloc, refusal),
+    };
+    match entries {
+        Some(journal) => {
+            let made = make_steps(&mut election, journal.entries(), &last);
+            tell_election(alloc, &election, made)
+        }
+        None => {
+            let journal = plain.unwrap();
+            let taken = election.world().copy(alloc)?;
+            let followed = follow_all(alloc, election.runner(), taken, journal.entries(), &last)?;
+            drop(journal);
+            match followed {
+                Ok(entries) => {
+                    let made = make_steps(&mut election, entries.as_slice(), &last);
+                    tell_election(alloc, &election, made)
+                }
+                Err(differs) => differ(alloc, differs.place),
+            }
+        }
+    }
+}
+
+/// The refusal of a document as a whole, which names no line.
+fn whole_document(kind: RefusalKind) -> Refusal
+    ensures { result ≡ record { line = 0; kind = kind } }
+{
+    Refusal { line: 0, kind }
+}
+
+/// The answer to a start that is refused, except where there was not enough memory to judge it.
+fn refuse_start(alloc: Global, refusal: ElectRefusal) -> Result<Answer, NoMemory>
+    ensures { IfOk result (λ answer. (refusal ≢ ElectRefusal.NoMemory) × (answer ≡ refused_with bad_start)) }
+{
+    match start_fault(refusal) {
+        Some(fault) => refuse(alloc, fault),
+        None => Err(NoMemory),
+    }
+}
+
+/// What the document is refused for; None where there was not enough memory.
+fn start_fault(refusal: ElectRefusal) -> Option<Refusal>
+    ensures { IfSome result (λ fault. (refusal ≢ ElectRefusal.NoMemory) × (fault ≡ bad_start)) }
+{
+    match refusal {
+        ElectRefusal::NoMemory => None,
+        ElectRefusal::Empty
+        | ElectRefusal::NotContracted(_)
+        | ElectRefusal::NotReady(_)
+        | ElectRefusal::NotConnected => Some(whole_document(RefusalKind::BadStart)),
+    }
+}
+
+/// The answer that is the candidates and the leader of an election whose steps are made, or that its journal differs.
+fn tell_election(
+    alloc: Global,
+    election: &Election,
+    made: Result<(), Differs>,
+) -> Result<Answer, NoMemory>
+    ensures { let world = election.now.world in
+        IfOk result (λ answer. MatchResult made
+        (λ _. answer ≡ elected_with (value_count world cand_var 1) (leader_of world))
+        (λ e. answer ≡ differs_with e.place)) }
+{
+    match made {
+        Ok(()) => {
+            let text = print_election(alloc, election.candidates(), election.leader())?;
+            Ok(done(text))
+        }
+        Err(differs) => differ(alloc, differs.place),
+    }
+}
+
+/// Makes the entries' steps, which lead to the last world. Otherwise it returns the first place that is no step; or the number of
+/// entries, where they lead to another world.
+fn make_steps(election: &mut Election, entries: &[Entry], last: &World) -> Result<(), Differs>
+    requires there { All (λ e. e.bot < length election.old.world.bots) entries.now }
+    requires few { AreCountable entries.now }
+    requires begun { election.old.steps ≡ 0 }
+    ensures agrees { OnOk result (Agrees (verdict_shown election.old.program) election.old.world entries.now last.now) }
+    ensures reached { OnOk result (election.new.world ≡ last.now) }
+    ensures differs { IfErr result (λ e. DiffersAt (verdict_shown election.old.program) election.old.world entries.now last.now e.place) }
+{
+    for entry in entries {
+        election.step(entry)?;
+    }
+    if election.world().same(last) {
+        Ok(())
+    } else {
+        Err(Differs {
+            place: entries.len() as u32,
+        })
+    }
+}

@@ -1,0 +1,66 @@
+//! The command `rewind`: the shape at a place of a journal, seen from the final shape.
+
+ghost use Rattle.std.specs.Prelude.{◌≡◌, ◌≤◌, IfOk, length};
+ghost use Rattle.shape_files.specs.Fitting.{Fits};
+ghost use Rattle.shape_files.specs.Views.{contents};
+ghost use Rattle.command_answers.specs.Answers.{IsAnswerTo, unwound_with};
+ghost use Rattle.command_answers.specs.Commands.{form_of, least_for};
+ghost use Rattle.command_answers.specs.Lines.{no_such_place};
+
+use crate::answer::{Answer, differ, done, refuse};
+use action_eval::Runner;
+use amoebot_state::{NoMemory, World};
+use command_words::DocumentCommand;
+use rewind_log::unwind;
+use shape_files::Parts;
+use shape_text::print_shape;
+use std::alloc::Global;
+use text_tokens::{Refusal, RefusalKind};
+
+/// The shape at the place, to which the entries behind it are gone back over. Of the first shape the area, the walls and the number
+/// of amoebots count alone.
+pub(crate) fn answer_rewind(alloc: Global, place: u32, parts: Parts) -> Result<Answer, NoMemory>
+    requires fits { Fits (form_of (DocumentCommand.Rewind place)) (contents parts) }
+    requires least { least_for (DocumentCommand.Rewind place) ≤ (contents parts).version }
+    ensures { IfOk result (IsAnswerTo (DocumentCommand.Rewind place) (contents parts)) }
+{
+    let Parts {
+        checked,
+        world,
+        entries,
+        final_world,
+        ..
+    } = parts;
+    let runner = Runner::new(checked.unwrap());
+    let start = world.unwrap();
+    let last = final_world.unwrap();
+    let journal = entries.unwrap();
+    let entries = journal.entries();
+    if (place as usize) > entries.len() {
+        return refuse(alloc, bad_place());
+    }
+    match unwind(&runner, &start, last, entries, place) {
+        Ok(shape) => show_shape(alloc, &runner, &shape),
+        Err(differs) => differ(alloc, differs.place),
+    }
+}
+
+/// The journal has no such place.
+fn bad_place() -> Refusal
+    ensures { result ≡ no_such_place }
+{
+    Refusal {
+        line: 0,
+        kind: RefusalKind::BadPlace,
+    }
+}
+
+/// The answer that is the section of a shape.
+fn show_shape(alloc: Global, runner: &Runner, shape: &World) -> Result<Answer, NoMemory>
+    ensures { IfOk result (λ a. a ≡ unwound_with (length runner.now.vars) shape.now) }
+{
+    let checked = runner.checked();
+    checked.program();
+    let text = print_shape(alloc, "shape", shape, checked.vars())?;
+    Ok(done(text))
+}

@@ -1,0 +1,11 @@
+pub mod Aside
+pub mod StartLemmas
+pub mod EndsTable
+pub mod Counts
+pub mod Guards
+pub mod Rings
+pub mod Told
+pub mod Elected
+pub mod LeaderLemmas
+pub mod TreesDecided
+pub mod Lengths

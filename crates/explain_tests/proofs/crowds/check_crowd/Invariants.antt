@@ -1,0 +1,8 @@
+use Rattle.std.proofs.Common.{◌≤◌}
+use Rattle.explain_tests.proofs.crowds.check_crowd.Given as goal
+
+abbrev pub invariant-loop-bot : goal.invariant-loop-bot
+invariant-loop-bot g l = record {
+  fed : l.meter.state.fed ≤ l.bot;
+  few : l.entries ≤ l.bot;
+}

@@ -1,0 +1,3 @@
+pub mod StepBacks
+pub mod Backs
+pub mod Unwound

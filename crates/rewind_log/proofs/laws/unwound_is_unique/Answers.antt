@@ -1,0 +1,5 @@
+use Rattle.rewind_log.proofs.Unwound.{unwound_is_unique}
+use Rattle.rewind_log.proofs.laws.unwound_is_unique.Goals as goal
+
+pub returns : goal.returns
+returns c = unwound_is_unique

@@ -1,0 +1,282 @@
+-- A meter that stands for a run stands for it with one more entry, and tells its rounds.
+use Rattle.std.proofs.Common.{◌≡◌, ◌∙◌, ◌<◌, ◌≤◌, ◌+◌, ◌⊎◌, ◌&&◌, ◌++◌, ℕ, zero, suc, List, [], ◌∷◌, length, map, Bool, true, false, not, cond, nat_eq, inl, inr, ap, sym, subst, refl, arith, append_assoc, append-nil}
+use Rattle.std.specs.Prelude.{Decides, slice_set, IsSome}
+use Rattle.std.specs.List.{count_by, fold, range_with_len}
+use Rattle.std.proofs.lemmas.Bool.{false≢true, cases_Bool, cases_eq, not-true, eqb-true, eqb-false, eq-eqb, cond-true, cond-false}
+use Rattle.std.proofs.lemmas.List.{length-append, length-map, get_or-map}
+use Rattle.std.proofs.lemmas.List.Elements.{All-get_or, All-map, All-weaker}
+use Rattle.std.proofs.lemmas.List.FromFn.{get_or-map-range_with_len, length-range_with_len}
+use Rattle.std.proofs.lemmas.List.Sums.{sum_by-cons}
+use Rattle.amoebot_state.specs.declared.verdict.Entry.{Entry}
+use Rattle.amoebot_state.specs.declared.verdict.Verdict.{Verdict}
+use Rattle.amoebot_state.specs.Configs.{Config, IsValid, bot_at}
+use Rattle.amoebot_state.specs.Zones.{Shown}
+use Rattle.amoebot_state.specs.Steps.{Step, Run}
+use Rattle.amoebot_state.proofs.Members.{Has, here, later}
+use Rattle.amoebot_state.proofs.Runs.{run_push}
+use Rattle.round_meter.specs.declared.standing.Standing.{Standing}
+use Rattle.round_meter.specs.Rounds.{IsSettled, AllSettled, RoundsTo, no_round, one_more, enabled_in, is_change}
+use Rattle.round_meter.specs.Meters.{Metered, IsMetered, AreStamped, unsettled, standing_of, this_round, waiting_of, waits_in}
+use Rattle.round_meter.specs.Asking.{after_entry, asked_again, ids_asked, new_pairs, next_standings, next_metered, first_standing, first_standings, first_metered}
+use Rattle.round_meter.specs.Tallies.{Tallied, IsInStep, metered, waiting_in, with_round_ended}
+use Rattle.round_meter.specs.Laws.{EachRunIsRounded, MeterTellsRounds}
+use Rattle.round_meter.proofs.AskingLemmas.{number_kept, unasked_is_shown}
+use Rattle.round_meter.proofs.SettledLemmas.{settled_next, next_settled, settled_here, here_settled}
+use Rattle.round_meter.proofs.RoundsLemmas.{rounds_grow, ends_now, unended}
+use Rattle.round_meter.proofs.StandingsLemmas.{count_none, count_some, waits_later, length-next, next_stamped, next_standing}
+
+-- it waits no more exactly where it waited no more before, or it acted, or it is not enabled now
+three : (x q now : Bool) → not ((x && not q) && now) ≡ true → (not x ≡ true) ⊎ ((q ≡ true) ⊎ (now ≡ false))
+three false q now t = inl refl
+three true true now t = inr (inl refl)
+three true false false t = inr (inr refl)
+three true false true t = absurd (false≢true t)
+
+of_three : (x q now : Bool) → (not x ≡ true) ⊎ ((q ≡ true) ⊎ (now ≡ false)) → not ((x && not q) && now) ≡ true
+of_three false q now one = refl
+of_three true true now one = refl
+of_three true false false one = refl
+of_three true false true one = elim one [ inl e ↦ absurd (false≢true e) | inr r ↦ elim r [ inl e ↦ absurd (false≢true e) | inr e ↦ absurd (false≢true (sym e)) ] ]
+
+count_not : {X : Type 0} (p : X → Bool) (xs : List X) → count_by p xs ≡ count_by not (map (λ x. not (p x)) xs)
+count_not p [] = refl
+count_not p (x ∷ xs) =
+    sum_by-cons (λ y. cond {A = ℕ} (p y) 1 0) x xs
+    ∙ ap (λ n. cond {A = ℕ} (p x) 1 0 + n) (count_not p xs)
+    ∙ ap (λ b. cond {A = ℕ} b 1 0 + count_by not (map (λ y. not (p y)) xs)) (twice (p x))
+    ∙ sym (sum_by-cons (λ b. cond {A = ℕ} (not b) 1 0) (not (p x)) (map (λ y. not (p y)) xs))
+  where
+    twice : (b : Bool) → b ≡ not (not b)
+    twice true = refl
+    twice false = refl
+
+pub meter_tells_rounds : MeterTellsRounds
+meter_tells_rounds f first es m is =
+    let flag = λ (s : Standing). not (waits_in (this_round m) s) in
+    record {
+      start = is.start;
+      ended = is.ended;
+      unended = unended f first es is.start is.going;
+      waits = record {
+        settled = map flag m.standings;
+        each = length-map m.standings flag ∙ is.size;
+        told = λ b lt.
+            let below : b < length m.standings = omega (arith, lt, is.size) in
+            subst (λ t. Decides t (IsSettled f first es b is.start (length es))) (sym (get_or-map flag m.standings b unsettled false below)) (is.settled b lt);
+        count = count_not (waits_in (this_round m)) m.standings;
+      };
+    }
+
+-- ---- at the start of a run
+
+pub length-first : (f : Shown → Verdict) (c : Config) (n : ℕ) → length (first_standings f c n) ≡ n
+length-first f c n = length-map (range_with_len 0 n) (first_standing f c) ∙ length-range_with_len 0 n
+
+pub first_is_metered : (f : Shown → Verdict) (first : Config) → IsValid first → ((b : ℕ) → b < length first.bots → IsSome (bot_at first b)) → IsMetered f first [] (first_metered f first)
+first_is_metered f first valid no_gaps =
+    let n = length first.bots in
+    let at : (b : ℕ) → b < n → standing_of (first_standings f first n) b ≡ first_standing f first b = λ b lt. get_or-map-range_with_len (first_standing f first) 0 n b b unsettled lt (omega arith) in
+    record {
+      valid = valid;
+      no_gaps = no_gaps;
+      run = refl;
+      fed = refl;
+      size = length-first f first n;
+      stamped = All-from_first n;
+      start = 0;
+      began = omega arith;
+      ended = no_round;
+      going = λ lt all. omega (arith, lt);
+      right = λ b lt. ap (λ (s : Standing). s.enabled) (at b lt);
+      settled = λ b lt.
+          let is = ap (λ (s : Standing). not (waits_in 1 s)) (at b lt) ∙ ap not (waits_later 0 (first_standing f first b) (omega arith)) in (
+            (λ t. here_settled f first [] first b refl (not-true (enabled_in f first b) (sym is ∙ t))),
+            (λ settled. is ∙ ap not (settled_here f first [] first b refl settled)),
+          );
+    }
+  where
+    All-from_first : (n : ℕ) → AreStamped 1 (first_standings f first n)
+    All-from_first n = All-map (λ (s : Standing). s.settled_in ≤ 1) (first_standing f first) (range_with_len 0 n) (λ k d lt. omega arith)
+
+-- ---- one more entry
+
+-- what is kept by one entry, if those that were not asked again are enabled or not as before
+module _ (f : Shown → Verdict) (first : Config) (es : List Entry) (m : Metered) (is : IsMetered f first es m) (e : Entry) (next : Config) (step : Step f m.world e next) (ids : List ℕ)
+    (same : (b : ℕ) → b < length first.bots → (Has b ids → ⊥) → enabled_in f next b ≡ enabled_in f m.world b) where
+  round : ℕ
+  round = this_round m
+
+  mid : Metered
+  mid = record { world = next; standings = next_standings f next (this_round m) e.bot ids m.standings; fed = m.fed + 1; rounds = m.rounds }
+
+  run : Run f first (es ++ e ∷ []) next
+  run = run_push f first m.world next es e is.run step
+
+  longer : length (es ++ e ∷ []) ≡ length es + 1
+  longer = length-append es (e ∷ [])
+
+  stands : (b : ℕ) → b < length first.bots
+      → let t = standing_of (next_standings f next (this_round m) e.bot ids m.standings) b in
+      (t.enabled ≡ enabled_in f next b) × (waits_in (this_round m) t ≡ ((waits_in (this_round m) (standing_of m.standings b) && not (nat_eq e.bot b)) && enabled_in f next b))
+  stands b lt = next_standing f next (this_round m) e.bot ids m.standings b (omega (arith, lt, is.size)) (λ lacks. is.right b lt ∙ sym (same b lt lacks))
+
+  -- an amoebot waits no more exactly where it is settled
+  settles : (b : ℕ) → b < length first.bots → Decides (not (waits_in (this_round m) (standing_of (next_standings f next (this_round m) e.bot ids m.standings) b))) (IsSettled f first (es ++ e ∷ []) b is.start (length es + 1))
+  settles b lt =
+      let x = waits_in (this_round m) (standing_of m.standings b) in
+      let waits = ap not (stands b lt).1 in
+      let was = is.settled b lt in (
+        (λ t. next_settled f first es e next b is.start run is.began (elim (three x (nat_eq e.bot b) (enabled_in f next b) (sym waits ∙ t)) [
+          | inl before ↦ inl (was.0 before)
+          | inr r ↦ elim r [ inl its ↦ inr (inl (eqb-true e.bot b its)) | inr rests ↦ inr (inr rests) ]
+        ])),
+        (λ settled. waits ∙ of_three x (nat_eq e.bot b) (enabled_in f next b) (elim (settled_next f first es e next b is.start run settled) [
+          | inl before ↦ inl (was.1 before)
+          | inr r ↦ elim r [ inl its ↦ inr (inl (eq-eqb e.bot b its)) | inr rests ↦ inr (inr rests) ]
+        ])),
+      )
+
+  size : length (next_standings f next (this_round m) e.bot ids m.standings) ≡ length first.bots
+  size = length-next f next (this_round m) e.bot ids m.standings ∙ is.size
+
+  stamped : AreStamped (this_round m) (next_standings f next (this_round m) e.bot ids m.standings)
+  stamped = next_stamped f next (this_round m) e.bot ids m.standings is.stamped
+
+  -- where nobody waits, each amoebot is settled
+  all_settled : waiting_of mid ≡ 0 → AllSettled f first (es ++ e ∷ []) is.start (length es + 1)
+  unfolding mid
+  all_settled none b lt = (settles b lt).0 (ap not (count_none (waits_in (this_round m)) (next_standings f next (this_round m) e.bot ids m.standings) none b unsettled (omega (arith, lt, size))))
+
+  goes_on : (waiting_of mid ≡ 0 → ⊥) → IsMetered f first (es ++ e ∷ []) mid
+  unfolding mid
+  goes_on some = record {
+    valid = is.valid;
+    no_gaps = is.no_gaps;
+    run = run;
+    fed = omega (arith, is.fed, longer);
+    size = size;
+    stamped = stamped;
+    start = is.start;
+    began = omega (arith, is.began, longer);
+    ended = rounds_grow f first es (e ∷ []) m.rounds is.start is.ended;
+    going = λ lt all.
+        let one = count_some (waits_in (this_round m)) (next_standings f next (this_round m) e.bot ids m.standings) unsettled some in
+        let below : one.0 < length first.bots = (let lt = one.1 in omega (arith, lt, size)) in
+        let settled = subst (λ k. IsSettled f first (es ++ e ∷ []) one.0 is.start k) longer (all one.0 below) in
+        false≢true (ap not (sym one.2) ∙ (settles one.0 below).1 settled);
+    right = λ b lt. (stands b lt).0;
+    settled = λ b lt. subst (λ k. Decides (not (waits_in (this_round m) (standing_of (next_standings f next (this_round m) e.bot ids m.standings) b))) (IsSettled f first (es ++ e ∷ []) b is.start k)) (sym longer) (settles b lt);
+  }
+
+  ends : waiting_of mid ≡ 0 → IsMetered f first (es ++ e ∷ []) (record mid { rounds = m.rounds + 1 })
+  unfolding mid
+  ends none =
+      let ended = one_more m.rounds is.start (length es + 1) (rounds_grow f first es (e ∷ []) m.rounds is.start is.ended) (ends_now f first es e is.start is.began is.going (all_settled none)) in
+      let counted : suc m.rounds ≡ m.rounds + 1 = omega arith in
+      record {
+        valid = is.valid;
+        no_gaps = is.no_gaps;
+        run = run;
+        fed = omega (arith, is.fed, longer);
+        size = size;
+        stamped = All-weaker (λ (s : Standing). s.settled_in ≤ m.rounds + 1) (λ (s : Standing). s.settled_in ≤ m.rounds + 1 + 1) (λ s le. omega (arith, le)) (next_standings f next (this_round m) e.bot ids m.standings) stamped;
+        start = length (es ++ e ∷ []);
+        began = omega arith;
+        ended = subst (λ n. RoundsTo f first (es ++ e ∷ []) n (length (es ++ e ∷ []))) counted (subst (λ k. RoundsTo f first (es ++ e ∷ []) (suc m.rounds) k) (sym longer) ended);
+        going = λ lt all. omega (arith, lt);
+        right = λ b lt. (stands b lt).0;
+        settled = λ b lt.
+            let t = standing_of (next_standings f next (this_round m) e.bot ids m.standings) b in
+            let le = All-get_or (λ (s : Standing). s.settled_in ≤ m.rounds + 1) (next_standings f next (this_round m) e.bot ids m.standings) b unsettled (omega (arith, lt, size)) stamped in
+            let flag = ap not (waits_later (m.rounds + 1) t le ∙ (stands b lt).0) in (
+              (λ waits. here_settled f first (es ++ e ∷ []) next b run (not-true (enabled_in f next b) (sym flag ∙ waits))),
+              (λ settled. flag ∙ ap not (settled_here f first (es ++ e ∷ []) next b run settled)),
+            );
+      }
+
+  pub metered_next : IsMetered f first (es ++ e ∷ []) (next_metered f m e next ids)
+  unfolding mid
+  metered_next =
+      let tally : Tallied = record { standings = next_standings f next (this_round m) e.bot ids m.standings; rounds = m.rounds } in
+      let P : Tallied → Type 0 = λ t. IsMetered f first (es ++ e ∷ []) (metered next t (m.fed + 1)) in
+      elim (cases_Bool (nat_eq (waiting_in tally) 0)) [
+        | inl t ↦ subst P (sym (cond-true (nat_eq (waiting_in tally) 0) (record tally { rounds = m.rounds + 1 }) tally t)) (ends (eqb-true (waiting_in tally) 0 t))
+        | inr some ↦ subst P (sym (cond-false (nat_eq (waiting_in tally) 0) (record tally { rounds = m.rounds + 1 }) tally some)) (goes_on (eqb-false (waiting_in tally) 0 some))
+      ]
+
+-- ---- a step, once those on and round the nodes of its changed cells were asked again
+
+-- the parts of a meter after a step that is taken of its parts before it
+pub record IsStepped (f : Shown → Verdict) (world : Config) (tally : Tallied) (e : Entry) (next : Config) (stepped : Tallied) : Type 0 where
+  pub valid : IsValid world
+  pub no_gaps : (b : ℕ) → b < length world.bots → IsSome (bot_at world b)
+  pub size : length tally.standings ≡ length world.bots
+  pub step : Step f world e next
+  pub ended : stepped ≡ with_round_ended (record { standings = next_standings f next (tally.rounds + 1) e.bot (ids_asked world (new_pairs e.patch)) tally.standings; rounds = tally.rounds })
+
+-- such a step, as its parts are taken one after another
+pub is_stepped : (f : Shown → Verdict) (world next : Config) (tally entered asked stepped : Tallied) (e : Entry) (ids : List ℕ)
+    → IsValid world → ((b : ℕ) → b < length world.bots → IsSome (bot_at world b)) → length tally.standings ≡ length world.bots → Step f world e next
+    → entered ≡ record tally { standings = slice_set tally.standings e.bot (after_entry (tally.rounds + 1) (standing_of tally.standings e.bot)) }
+    → asked ≡ record entered { standings = fold (asked_again f next (entered.rounds + 1)) entered.standings ids }
+    → ids ≡ ids_asked world (new_pairs e.patch) → stepped ≡ with_round_ended asked → IsStepped f world tally e next stepped
+is_stepped f world next tally entered asked stepped e ids valid no_gaps size step first then these last =
+    let ask : Tallied → List ℕ → Tallied = λ t is. record { standings = fold (asked_again f next (t.rounds + 1)) t.standings is; rounds = t.rounds } in
+    let own : Tallied = record tally { standings = slice_set tally.standings e.bot (after_entry (tally.rounds + 1) (standing_of tally.standings e.bot)) } in
+    record {
+      valid = valid;
+      no_gaps = no_gaps;
+      size = size;
+      step = step;
+      ended = last ∙ ap with_round_ended (then ∙ ap (λ t. ask t ids) first ∙ ap (ask own) these);
+    }
+
+pub metered_step : (f : Shown → Verdict) (first world next : Config) (es : List Entry) (tally stepped : Tallied) (fed : ℕ) (e : Entry)
+    → IsStepped f world tally e next stepped → IsMetered f first es (metered world tally fed) → IsMetered f first (es ++ e ∷ []) (metered next stepped (fed + 1))
+metered_step f first world next es tally stepped fed e by is =
+    subst (λ t. IsMetered f first (es ++ e ∷ []) (metered next t (fed + 1))) (sym by.ended) (metered_next f first es (metered world tally fed) is e next by.step (ids_asked world (new_pairs e.patch)) (λ b lt lacks.
+    let there = by.no_gaps b (omega (arith, lt, by.size, is.size)) in
+    ap (λ s. is_change (f s)) (unasked_is_shown world next (new_pairs e.patch) b by.valid by.step.patched there lacks)))
+
+-- the parts are in step
+pub stepped_in_step : (f : Shown → Verdict) (world next : Config) (tally stepped : Tallied) (fed : ℕ) (e : Entry) → IsStepped f world tally e next stepped → tally.rounds ≤ fed → IsInStep next stepped (fed + 1)
+stepped_in_step f world next tally stepped fed e by le =
+    let mid : Tallied = record { standings = next_standings f next (tally.rounds + 1) e.bot (ids_asked world (new_pairs e.patch)) tally.standings; rounds = tally.rounds } in
+    let same = size_ended (nat_eq (waiting_in mid) 0) mid in
+    let at = length-next f next (tally.rounds + 1) e.bot (ids_asked world (new_pairs e.patch)) tally.standings in
+    record {
+      size = ap (λ (t : Tallied). length t.standings) by.ended ∙ same.0 ∙ at ∙ by.size ∙ sym (number_kept world next (new_pairs e.patch) by.step.patched);
+      ended = (let rounds = ap (λ (t : Tallied). t.rounds) by.ended in let most = same.1 in omega (arith, rounds, most, le));
+    }
+  where
+    size_ended : (b : Bool) (t : Tallied) → let u : Tallied = cond b (record t { rounds = t.rounds + 1 }) t in (length u.standings ≡ length t.standings) × (u.rounds ≤ t.rounds + 1)
+    size_ended true t = (refl, omega arith)
+    size_ended false t = (refl, omega arith)
+
+-- ---- a whole run
+
+-- all numbers below one
+below : ℕ → List ℕ
+below zero = []
+below (suc n) = n ∷ below n
+
+has_below : (n b : ℕ) → b < n → Has b (below n)
+unfolding below
+has_below zero b lt = absurd (omega (arith, lt))
+has_below (suc n) b lt = elim (cases_eq b n) [
+  | inl e ↦ subst (λ k. Has b (k ∷ below n)) e here
+  | inr ne ↦ later (has_below n b (omega (arith, lt, ne)))
+]
+
+metered_run : (f : Shown → Verdict) (first last : Config) (es more : List Entry) (m : Metered) → IsMetered f first es m → Run f m.world more last → (n : Metered) × IsMetered f first (es ++ more) n
+metered_run f first last es [] m is steps = (m, subst (λ xs. IsMetered f first xs m) (sym (append-nil es)) is)
+metered_run f first last es (e ∷ more) m is steps =
+    let ids = below (length first.bots) in
+    let one : IsMetered f first (es ++ e ∷ []) (next_metered f m e steps.0 ids) = metered_next f first es m is e steps.0 steps.1 ids (λ b lt lacks. absurd (lacks (has_below (length first.bots) b lt))) in
+    let rest = metered_run f first last (es ++ e ∷ []) more (next_metered f m e steps.0 ids) one steps.2 in
+    (rest.0, subst (λ xs. IsMetered f first xs rest.0) (append_assoc es (e ∷ []) more) rest.1)
+
+pub each_run_is_rounded : EachRunIsRounded
+each_run_is_rounded f first last es valid no_gaps run =
+    let all = metered_run f first last [] es (first_metered f first) (first_is_metered f first valid no_gaps) run in
+    (all.0.rounds, waiting_of all.0, meter_tells_rounds f first es all.0 all.1)
