@@ -17,7 +17,7 @@ pub use laws::{
     plain_run_or_first, plain_step_is_unique, run_has_only_steps, run_or_first_no_step,
 };
 use replays::make_told;
-pub use replays::{Differs, decides_entry, make_step, replay, replay_plain};
+pub use replays::{Differs, decides_entry, decides_on, make_step, replay, replay_plain};
 use std::marker::Model;
 
 /// A world that is changed one activation at a time.
