@@ -4,16 +4,16 @@ ghost use Rattle.amoebot_state.specs.declared.verdict.Verdict.TheVariants as ver
 ghost use Rattle.amoebot_state.specs.Configs.{Config};
 ghost use Rattle.amoebot_state.specs.Zones.{shown};
 ghost use Rattle.amoebot_state.specs.Steps.{Step, change_of};
-ghost use Rattle.serial_model.specs.Replays.{IsNoStep};
-ghost use Rattle.round_meter.specs.Meters.{IsMetered, waiting_of};
+ghost use Rattle.serial_model.specs.Replays.{IsNoStep, IsNoPlainStep};
+ghost use Rattle.round_meter.specs.Meters.{GoesOnBy, IsMetered, waiting_of};
 ghost use Rattle.round_meter.specs.Asking.{asked_each, first_tallied};
 ghost use Rattle.round_meter.specs.Tallies.{with_standings};
 
 use crate::enabled::is_enabled;
 use crate::near::ids_near;
 use crate::tally::Tally;
-use amoebot_state::{Decider, Entry, Found, NoMemory, World, has_next, touches_zone};
-use serial_model::{Differs, decides_on};
+use amoebot_state::{Decider, Entry, Found, NoMemory, PlainEntry, World, has_next, touches_zone};
+use serial_model::{Differs, decides_on, told_on};
 use std::alloc::Global;
 use std::marker::Model;
 
@@ -75,6 +75,35 @@ impl<'d, D: Decider> Meter<'d, D> {
             return Err(Differs { place: self.fed });
         }
         self.enter(entry, &mut found);
+        Ok(())
+    }
+
+    /// Goes on by an entry without old values, of one of the world's amoebots: by the entry that it tells. Differs tells that it is no step
+    /// from the world that was reached, with the number of entries fed; the meter is unchanged then. It takes no memory.
+    pub fn follow(&mut self, plain: &PlainEntry) -> Result<(), Differs>
+        requires there { plain.now.bot < length self.old.state.world.bots }
+        requires few { self.old.state.fed + 1 < 2 ^ 32 }
+        ensures goes_on { OnOk result (GoesOnBy (D.verdict self.old.decider) plain.now self.old.state self.new.state) }
+        ensures fed { OnOk result (self.new.state.fed ≡ self.old.state.fed + 1) }
+        ensures size { length self.new.state.world.bots ≡ length self.old.state.world.bots }
+        ensures differs { IfErr result (λ e. (e.place ≡ self.old.state.fed)
+            × IsNoPlainStep (D.verdict self.old.decider) self.old.state.world plain.now
+            × (self.new ≡ self.old)) }
+        ensures decider { self.new.decider ≡ self.old.decider }
+    {
+        let mut found = self.world.found(plain.bot);
+        let Some(change) = told_on(self.decider, &found, plain) else {
+            return Err(Differs { place: self.fed });
+        };
+        let entry = Entry {
+            caller: plain.caller,
+            turn: plain.turn,
+            bot: plain.bot,
+            action: change.action,
+            moved: change.moved,
+            patch: change.patch,
+        };
+        self.enter(&entry, &mut found);
         Ok(())
     }
 

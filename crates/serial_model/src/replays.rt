@@ -1,4 +1,4 @@
-ghost use Rattle.std.specs.Prelude.{◌≡◌, ◌<◌, length, Decides, IfNone, IfSome, IfOk, IfErr};
+ghost use Rattle.std.specs.Prelude.{◌≡◌, ◌≢◌, ◌<◌, length, Decides, IfNone, IfSome, IfOk, IfErr};
 ghost use Rattle.std.specs.Bool.{OnTrue, OnFalse};
 ghost use Rattle.std.specs.List.{All};
 ghost use Rattle.amoebot_state.specs.Pairs.{plain_patch, plain_triple};
@@ -150,27 +150,9 @@ fn makes_plain_step<D: Decider>(
     make_told_on(decider, world, plain, found).is_some()
 }
 
-/// Makes the step of an entry without old values, if there is one: the change that was decided.
+/// Makes the step of an entry without old values, if there is one, where this is what its amoebot is shown: the change that was decided.
 #[inline(always)]
-pub(crate) fn make_told<D: Decider>(
-    decider: &D,
-    world: &mut World,
-    plain: &PlainEntry,
-) -> Option<Change>
-    requires { plain.now.bot < length world.old.bots }
-    ensures told { IfSome result (λ change. IsToldBy plain.now change) }
-    ensures step { IfSome result (λ change. Step (D.verdict decider.now) world.old (entry_for plain.now change) world.new) }
-    ensures none { IfNone result (IsNoPlainStep (D.verdict decider.now) world.old plain.now) }
-    ensures stays { IfNone result (world.new ≡ world.old) }
-    ensures size { length world.new.bots ≡ length world.old.bots }
-{
-    let found = world.found(plain.bot);
-    make_told_on(decider, world, plain, &found)
-}
-
-/// The same, where this is what the entry's amoebot is shown.
-#[inline(always)]
-fn make_told_on<D: Decider>(
+pub(crate) fn make_told_on<D: Decider>(
     decider: &D,
     world: &mut World,
     plain: &PlainEntry,
@@ -186,13 +168,29 @@ fn make_told_on<D: Decider>(
 {
     has_next(decider);
     world.keeps();
-    match decider.decide(found) {
-        Verdict::Change(change) => {
-            if !tells_plain(plain, &change) {
-                return None;
-            }
+    match told_on(decider, found, plain) {
+        Some(change) => {
             world.apply(&change.patch);
             Some(change)
+        }
+        None => None,
+    }
+}
+
+/// The change that is decided on what was found, if it is the one that the entry without old values tells.
+#[inline(always)]
+pub fn told_on<D: Decider>(decider: &D, found: &Found, plain: &PlainEntry) -> Option<Change>
+    ensures decided { IfSome result (λ change. D.verdict decider.now found.now ≡ Verdict.Change change) }
+    ensures told { IfSome result (λ change. IsToldBy plain.now change) }
+    ensures none { IfNone result ((change : Change) → IsToldBy plain.now change → D.verdict decider.now found.now ≢ Verdict.Change change) }
+{
+    match decider.decide(found) {
+        Verdict::Change(change) => {
+            if tells_plain(plain, &change) {
+                Some(change)
+            } else {
+                None
+            }
         }
         Verdict::Idle | Verdict::Failed(_) => None,
     }
