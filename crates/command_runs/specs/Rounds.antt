@@ -16,7 +16,8 @@ pub record AgreesInRounds (f : Shown → Verdict) (start : Config) (entries : Li
   pub counted : IsRounded f start entries rounds waiting
 
 -- entries without old values are those of such a run
-pub record PlainAgreesInRounds (f : Shown → Verdict) (start : Config) (plains : List PlainEntry) (final : Config) (rounds waiting : ℕ) : Type 0 where
+pub record PlainAgreesInRounds (f : Shown → Verdict) (start : Config) (plains : List PlainEntry) (final : Config)
+    (rounds waiting : ℕ) : Type 0 where
   pub entries : List Entry
   pub told : map plain_entry entries ≡ plains
   pub counted : AgreesInRounds f start entries final rounds waiting
