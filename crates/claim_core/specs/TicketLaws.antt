@@ -1,5 +1,5 @@
 -- What follows of commits that wait for nobody, and of the merge.
-use Rattle.std.specs.Prelude.{◌≡◌, ◌≢◌, ◌×◌, ℕ, ◌*◌, ◌≤◌, List, [], ◌∷◌, length, nat_eq, slice_get}
+use Rattle.std.specs.Prelude.{◌≡◌, ◌≢◌, ℕ, ◌*◌, ◌≤◌, List, [], ◌∷◌, length, nat_eq, slice_get}
 use Rattle.std.specs.List.{count_by}
 use Rattle.std.specs.declared.option.Option.TheVariants.{Some, None}
 use Rattle.amoebot_state.specs.declared.verdict.Entry.{Entry}
