@@ -14,6 +14,7 @@ pub mod Nexts
 pub mod Numbers
 pub mod OneList
 pub mod OpeningLemmas
+pub mod Orders
 pub mod OwnEntries
 pub mod Places
 pub mod Ranks

@@ -1,5 +1,5 @@
 -- Each step of a caller that draws tickets takes it nearer to its end, unless it has ended: it waits for nobody.
-use Rattle.std.proofs.Common.{◌≡◌, ◌≢◌, ◌⊎◌, ℕ, zero, suc, ◌+◌, ◌*◌, ◌<◌, ◌≤◌, Bool, true, false, List, [], ◌∷◌, length, set, Option, Some, None, inl, inr, ap, sym, refl, subst, ◌∙◌, arith, eq-eqb, ne_eqb}
+use Rattle.std.proofs.Common.{◌≡◌, ◌≢◌, ◌⊎◌, ℕ, zero, suc, ◌+◌, ◌*◌, ◌<◌, ◌≤◌, Bool, true, false, List, [], ◌∷◌, set, Option, Some, None, inl, inr, ap, sym, refl, subst, ◌∙◌, arith, eq-eqb, ne_eqb}
 use Rattle.std.specs.Prelude.{slice_get, nat_eq, if◌then◌else◌}
 use Rattle.std.specs.List.{All, count_by}
 use Rattle.std.proofs.lemmas.Bool.{cases_eq}
@@ -9,21 +9,20 @@ use Rattle.std.proofs.lemmas.Option.{same_Some, none-some, slice_get_within}
 use Rattle.amoebot_state.specs.declared.cell.CellName.{CellName}
 use Rattle.amoebot_state.specs.declared.cell.Cell.{Cell}
 use Rattle.amoebot_state.specs.Pairs.{Pairs}
-use Rattle.claim_core.specs.declared.report.Report.{Report}
 use Rattle.claim_core.specs.declared.state.Phase.{Phase}
 use Rattle.claim_core.specs.declared.state.Phase.TheVariants.{Claim, Refusing, Looking, Taking, Committing, Releasing, Ended}
 use Rattle.claim_core.specs.declared.state.Caller.{Caller}
 use Rattle.claim_core.specs.Cells.{number, at}
-use Rattle.claim_core.specs.Machine.{Setup, State, bot, next_of, fresh, opening, with_caller, wins, claims, finds, tries, takes, releases, by_phase, next}
+use Rattle.claim_core.specs.Machine.{Setup, State, bot, next_of, fresh, opening, with_caller, wins, finds, tries, releases, next}
 use Rattle.claim_core.specs.Soundness.{IsSetup, Sound}
-use Rattle.claim_core.specs.Reached.{HaveEnded, IsReportOf}
-use Rattle.claim_core.specs.Tickets.{ticket_by_phase, ticket_acts, ticket_next, ticket_after, TicketReached}
+use Rattle.claim_core.specs.Reached.{HaveEnded}
+use Rattle.claim_core.specs.Tickets.{ticket_by_phase, ticket_acts, ticket_next, ticket_after}
 use Rattle.claim_core.specs.TicketLaws.{TicketsWaitForNobody, TicketsLeaveAReport}
-use Rattle.claim_core.proofs.Places.{get-set_here, get-set_else, map-get, same_by_get}
+use Rattle.claim_core.proofs.Places.{get-set_here, get-set_else, map-get}
 use Rattle.claim_core.proofs.Ranks.{rank, ranks, total, ranks-set, free_lowers, step_keeps, fresh_rank}
 use Rattle.claim_core.proofs.ReportsExist.{HasEnded, phase_has_ended, has_report}
 use Rattle.claim_core.proofs.Sounds.{one_step}
-use Rattle.claim_core.proofs.Unfolding.{one_or_two, ticket_sound, tickets_free, tickets_are_sound}
+use Rattle.claim_core.proofs.Unfolding.{one_or_two, tickets_free, tickets_are_sound}
 
 module _ (g : Setup) where
   -- a step of a caller changes at most its own record

@@ -12,11 +12,11 @@ use Rattle.claim_core.specs.declared.state.Phase.{Phase}
 use Rattle.claim_core.specs.declared.state.Phase.TheVariants.{Claim, Refusing, Looking, Taking, Committing, Releasing, Ended}
 use Rattle.claim_core.specs.declared.state.Caller.{Caller}
 use Rattle.claim_core.specs.Cells.{number, at}
-use Rattle.claim_core.specs.Machine.{Setup, State, bot, next_of, patched_pair, freeing_caller, with_caller, wins, claims, finds, tries, takes, commits, releases, by_phase, acts, next, after}
+use Rattle.claim_core.specs.Machine.{Setup, State, bot, next_of, patched_pair, freeing_caller, with_caller, wins, claims, finds, tries, takes, commits, releases, by_phase, acts, next}
 use Rattle.claim_core.specs.Soundness.{IsSetup, Sound}
 use Rattle.claim_core.specs.Reached.{HaveEnded, IsReportOf}
 use Rattle.claim_core.specs.Tickets.{ticket_by_phase, ticket_acts, ticket_next, ticket_after}
-use Rattle.claim_core.specs.TicketLaws.{NobodyHolds, IsTicketStep, TicketsAreSound, TicketsHoldNoJournal, TicketStepsAreEvents, TicketsAreClaims, TicketReachedIsReached, TicketReachedIsGood}
+use Rattle.claim_core.specs.TicketLaws.{IsTicketStep, TicketsAreSound, TicketsHoldNoJournal, TicketStepsAreEvents, TicketsAreClaims, TicketReachedIsReached, TicketReachedIsGood}
 use Rattle.claim_core.proofs.Places.{get-set_here}
 use Rattle.claim_core.proofs.Sounds.{one_step, always}
 use Rattle.claim_core.proofs.Ends.{reached_is_good}

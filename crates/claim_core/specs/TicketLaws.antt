@@ -1,5 +1,5 @@
 -- What follows of commits that wait for nobody, and of the merge.
-use Rattle.std.specs.Prelude.{◌≡◌, ◌≢◌, ℕ, ◌*◌, ◌≤◌, List, [], ◌∷◌, length, nat_eq, slice_get}
+use Rattle.std.specs.Prelude.{◌≡◌, ◌≢◌, ℕ, ◌*◌, ◌≤◌, List, [], ◌∷◌, nat_eq, slice_get}
 use Rattle.std.specs.List.{count_by}
 use Rattle.std.specs.declared.option.Option.TheVariants.{Some, None}
 use Rattle.amoebot_state.specs.declared.verdict.Entry.{Entry}
@@ -26,7 +26,7 @@ pub record NobodyHolds (s : State) : Type 0 where
 abbrev pub TicketsHoldNoJournal : Type 0
 TicketsHoldNoJournal = (g : Setup) → IsSetup g → (steps : List ℕ) → NobodyHolds (ticket_after g steps)
 
--- what the step of a caller in a phase is: its commit, which is two steps of the claims' machine; and in each other phase its one step there
+-- what the step of a caller in a phase is: its commit, which is two steps of the claims' machine; else its one step there
 abbrev pub IsTicketStep : Setup → ℕ → State → Caller → Phase → Type 0
 IsTicketStep g c s k (Taking change) = (ticket_next g c s ≡ commits g c s k change) × (ticket_next g c s ≡ next g c (next g c s))
 IsTicketStep g c s k phase = ticket_next g c s ≡ next g c s

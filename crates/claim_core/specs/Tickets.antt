@@ -1,6 +1,6 @@
 -- Commits that wait for nobody: the machine of the claim protocol with one other row. A caller that has decided on a change draws its
 -- place and commits there in one step, and nobody ever holds the journal: a caller in Taking commits next, and Committing never comes.
-use Rattle.std.specs.Prelude.{◌≡◌, ℕ, List, [], ◌∷◌, ◌++◌, map, length, nat_eq, if◌then◌else◌, slice_get}
+use Rattle.std.specs.Prelude.{ℕ, List, [], ◌∷◌, ◌++◌, map, length, nat_eq, if◌then◌else◌, slice_get}
 use Rattle.std.specs.List.{range_with_len}
 use Rattle.std.specs.declared.option.Option.{Option}
 use Rattle.std.specs.declared.option.Option.TheVariants.{Some, None}
