@@ -1,5 +1,5 @@
 -- Two commits with tickets on the long row, computed: the report that they leave is good.
-use Rattle.std.proofs.Common.{◌≡◌, ℕ, zero, suc, List, [], ◌∷◌, sym, refl, subst, arith}
+use Rattle.std.proofs.Common.{◌≡◌, ℕ, zero, suc, List, [], ◌∷◌, refl, subst, arith}
 use Rattle.std.specs.Prelude.{is_some, reverse}
 use Rattle.std.specs.List.{All}
 use Rattle.std.proofs.lemmas.Int.{ints}
@@ -12,9 +12,7 @@ use Rattle.amoebot_state.proofs.Occupants.{plain_in}
 use Rattle.model_ops.proofs.ExpansionLaws.{expansion_is_lawful}
 use Rattle.claim_core.specs.declared.marks.Mark.TheVariants as mark
 use Rattle.claim_core.specs.declared.state.Phase.TheVariants.{Ended}
-use Rattle.claim_core.specs.declared.state.Caller.{Caller}
 use Rattle.claim_core.specs.Turns.{IsList}
-use Rattle.claim_core.specs.Good.{Good}
 use Rattle.claim_core.specs.Machine.{caller}
 use Rattle.claim_core.specs.Merges.{IsMerge}
 use Rattle.claim_core.specs.Reached.{HaveEnded, IsReportOf}
