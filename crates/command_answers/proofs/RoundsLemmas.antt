@@ -19,7 +19,7 @@ use Rattle.command_words.specs.declared.command.DocumentCommand.TheVariants.{Rou
 use Rattle.command_answers.specs.declared.answer.Answer.{Answer}
 use Rattle.command_answers.specs.declared.status.Status.TheVariants as status
 use Rattle.command_answers.specs.Answers.{IsAnswerTo, differs_with, rounded_with}
-use Rattle.command_answers.specs.Counts.{TellsCount, in_rounds, with_difference}
+use Rattle.command_answers.specs.Counts.{TellsCount, TellsPlainCount, in_rounds, with_difference, plain_in_rounds, plain_with_difference}
 use Rattle.command_answers.specs.Outcomes.{DocumentRecord, JournalAgrees, JournalDiffers, TellsEntries, in_full, IsOutcome, rounded, not_rounded}
 use Rattle.command_answers.specs.Owed.{served}
 use Rattle.command_answers.proofs.OwedTexts.{same_answer}
@@ -40,11 +40,10 @@ module _ (a : Contents) (d : DocumentRecord a) (answer : Answer) where
   tells_full es its (in_rounds rounds waiting is same) = tells_rounds es rounds waiting (inl its) is same
   tells_full es its (with_difference place differs same) = rounds_differ place (in_full es place its differs) same
 
-  -- or of those that were followed, which are a run
-  pub tells_followed : ReplayIsDecided → (es : List Entry) → a.plain ≡ Some (map plain_entry es) → Agrees (verdict_shown d.program) d.start es d.final
-      → TellsCount d.program d.start es d.final answer → IsAnswerTo Rounds a answer
-  tells_followed decided es its run (in_rounds rounds waiting is same) = tells_rounds es rounds waiting (inr its) is same
-  tells_followed decided es its run (with_difference place differs same) = absurd (decided.exclusive (verdict_shown d.program) d.start d.final es place run differs)
+  -- or of those without old values
+  pub tells_plain : (plains : List PlainEntry) → a.plain ≡ Some plains → TellsPlainCount d.program d.start plains d.final answer → IsAnswerTo Rounds a answer
+  tells_plain plains its (plain_in_rounds rounds waiting is same) = tells_rounds is.entries rounds waiting (inr (its ∙ ap Some (sym is.told))) is.counted same
+  tells_plain plains its (plain_with_difference place differs same) = rounds_differ place (in_plain plains place its differs) same
 
 -- the rounds of a journal that agrees are there
 pub count_of : EachRunIsRounded → (a : Contents) (d : DocumentRecord a) (es : List Entry) → IsWorldShape d.start → JournalAgrees a d es

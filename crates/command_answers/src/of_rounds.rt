@@ -7,12 +7,12 @@ ghost use Rattle.shape_files.specs.Fitting.{Fits};
 ghost use Rattle.shape_files.specs.Views.{contents};
 ghost use Rattle.command_answers.specs.Answers.{IsAnswerTo};
 ghost use Rattle.command_answers.specs.Commands.{form_of};
-ghost use Rattle.command_answers.specs.Counts.{TellsCount};
+ghost use Rattle.command_answers.specs.Counts.{TellsCount, TellsPlainCount};
 
 use crate::answer::{Answer, differ, done};
 use action_eval::Runner;
-use amoebot_state::{Entry, NoMemory, World};
-use command_runs::{count_rounds, follow_all, print_rounds, replay_is_decided};
+use amoebot_state::{Entry, NoMemory, PlainEntry, World};
+use command_runs::{count_plain_rounds, count_rounds, print_rounds};
 use command_words::DocumentCommand;
 use shape_files::Parts;
 use std::alloc::Global;
@@ -22,7 +22,6 @@ pub(crate) fn answer_rounds(alloc: Global, parts: Parts) -> Result<Answer, NoMem
     requires { Fits (form_of DocumentCommand.Rounds) (contents parts) }
     ensures { IfOk result (IsAnswerTo DocumentCommand.Rounds (contents parts)) }
 {
-    replay_is_decided();
     let Parts {
         checked,
         world,
@@ -38,13 +37,7 @@ pub(crate) fn answer_rounds(alloc: Global, parts: Parts) -> Result<Answer, NoMem
         Some(journal) => tell_count(alloc, &runner, start, journal.entries(), &last),
         None => {
             let journal = plain.unwrap();
-            let taken = start.copy(alloc)?;
-            let followed = follow_all(alloc, &runner, taken, journal.entries(), &last)?;
-            drop(journal);
-            match followed {
-                Ok(entries) => tell_count(alloc, &runner, start, entries.as_slice(), &last),
-                Err(differs) => differ(alloc, differs.place),
-            }
+            tell_plain_count(alloc, &runner, start, journal.entries(), &last)
         }
     }
 }
@@ -62,6 +55,27 @@ fn tell_count(
     ensures { IfOk result (TellsCount runner.now start entries.now last.now) }
 {
     match count_rounds(alloc, runner, start, entries, last)? {
+        Ok(count) => {
+            let text = print_rounds(alloc, count.rounds, count.waiting)?;
+            Ok(done(text))
+        }
+        Err(differs) => differ(alloc, differs.place),
+    }
+}
+
+/// The same for entries without old values.
+fn tell_plain_count(
+    alloc: Global,
+    runner: &Runner,
+    start: World,
+    entries: &[PlainEntry],
+    last: &World,
+) -> Result<Answer, NoMemory>
+    requires there { All (λ p. p.bot < length start.bots) entries.now }
+    requires few { AreCountable entries.now }
+    ensures { IfOk result (TellsPlainCount runner.now start entries.now last.now) }
+{
+    match count_plain_rounds(alloc, runner, start, entries, last)? {
         Ok(count) => {
             let text = print_rounds(alloc, count.rounds, count.waiting)?;
             Ok(done(text))
