@@ -4,7 +4,7 @@ use Rattle.amoebot_state.specs.declared.cell.CellName.TheVariants as name
 use Rattle.amoebot_state.specs.declared.cell.Cell.TheVariants as cell
 use Rattle.amoebot_state.specs.Zones.{shown_cell}
 use Rattle.amoebot_state.proofs.Members.{more_kept}
-use Rattle.amoebot_state.proofs.world.World.add_bodies.Goals as goal
+use Rattle.amoebot_state.proofs.world.World.put_bodies.Goals as goal
 
 pub loop-id-preserved : goal.loop-id-preserved
 loop-id-preserved c = (
