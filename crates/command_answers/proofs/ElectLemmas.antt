@@ -18,7 +18,7 @@ use Rattle.election_law.specs.declared.refusal.ElectRefusal.{ElectRefusal}
 use Rattle.election_law.specs.declared.refusal.ElectRefusal.TheVariants.{NoMemory}
 use Rattle.election_law.specs.Starts.{AreBotsReady, IsFirstUnready}
 use Rattle.election_law.specs.States.{ElectionState}
-use Rattle.election_law.specs.Laws.{ErosionElects, ReadyHasNone}
+use Rattle.election_law.specs.Laws.{ErosionElects, ErosionOrNot, ReadyHasNone, ReadyOrUnready}
 use Rattle.shape_files.specs.declared.section_kind.Form.TheVariants as form
 use Rattle.shape_files.specs.Documents.{Contents, HasContents, actions_of, bots_of}
 use Rattle.shape_files.specs.LeastVersions.{DecidedFromEach}
@@ -103,6 +103,23 @@ plain_bots a start world ps fits its_shape its same =
     let are = subst (λ (o : Option (List PlainEntry)). IfSome o (AreEntriesOf written_plain (bots_of a.world) (actions_of a.checked))) its fits.plain in
     let there = subst (λ (o : Option Config). All (λ (p : PlainEntry). p.bot < bots_of o) ps) its_shape are.there in
     subst (λ (c : Config). All (λ (p : PlainEntry). p.bot < length c.bots) ps) (sym same) there
+
+-- ---- something is told
+
+-- a document is refused, or its journal is told
+pub some_election : ErosionOrNot → ReadyOrUnready → ReadyHasNone → (a : Contents) (d : DocumentRecord a) → IsValid d.start
+    → ((es : List Entry) × JournalAgrees a d es) ⊎ ((place : ℕ) × JournalDiffers a d place)
+    → (s : Status) × (text : List ℕ) × IsOutcome a Elect s None text
+some_election programs starts none a d valid journal = elim (programs d.program) [
+  | inr other ↦ (status.Refused not_erosion, refusal_line not_erosion, no_erosion d other)
+  | inl erodes ↦ elim (starts d.start valid) [
+    | inr first ↦ (status.Refused bad_start, refusal_line bad_start, not_ready d erodes (λ ready. none d.start first.0 ready first.1))
+    | inl ready ↦ elim journal [
+      | inl by ↦ (status.Done, election_text (value_count d.final cand_var 1) (leader_of d.final), elected d by.0 erodes ready by.1)
+      | inr by ↦ (status.Differs by.0, differs_line by.0, not_elected d by.0 erodes ready by.1)
+    ]
+  ]
+]
 
 -- ---- elections are won
 
