@@ -129,10 +129,11 @@ fn check_place(
     if place > entries.len() || entries.len() > 4096 || !entries.iter().all(|e| e.bot < bots) {
         Err("a long journal")?;
     }
-    match rewind(runner, last.copy(alloc)?, entries, place as u32) {
-        Ok(world) if world.same(there) => Ok(()),
-        Ok(_) => Err(Fail::from("another world")),
-        Err(_) => Err(Fail::from("no way back")),
+    let world = rewind(runner, last.copy(alloc)?, entries, place as u32)?;
+    if world.same(there) {
+        Ok(())
+    } else {
+        Err(Fail::from("another world"))
     }
 }
 

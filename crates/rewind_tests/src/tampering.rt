@@ -60,7 +60,7 @@ static TAMPERED: [(&str, Before); 16] = [
         (Some(0), (2, 3), (2, 3), 0, Plus, 0),
     ),
     (
-        "the node was nobody's whom there is",
+        "the node was that of an amoebot that is not there",
         (Some(3), (2, 3), (2, 3), 0, Plus, 0),
     ),
 ];
