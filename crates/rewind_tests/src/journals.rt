@@ -137,31 +137,27 @@ fn check_place(
     }
 }
 
-/// Goes back to each place of the run of so many rounds. How many entries it has.
-fn check_places(alloc: Global, runner: &Runner, start: World, rounds: u32) -> Result<usize, Fail> {
-    let (entries, last) = journal_from(alloc, runner, start.copy(alloc)?, rounds)?;
+/// Goes back to each place of the entries from this start, beside a run of the same turns.
+fn check_along(
+    alloc: Global,
+    runner: &Runner,
+    start: World,
+    last: &World,
+    entries: &[Entry],
+) -> Result<(), Fail> {
     let mut serial = Serial::new(start);
     for (place, entry) in entries.iter().enumerate() {
-        check_place(
-            alloc,
-            runner,
-            &last,
-            entries.as_slice(),
-            place,
-            serial.world(),
-        )?;
+        check_place(alloc, runner, last, entries, place, serial.world())?;
         let _entry = turn_of(&mut serial, runner, entry.bot);
     }
-    let behind = entries.len();
-    check_place(
-        alloc,
-        runner,
-        &last,
-        entries.as_slice(),
-        behind,
-        serial.world(),
-    )?;
-    Ok(behind)
+    check_place(alloc, runner, last, entries, entries.len(), serial.world())
+}
+
+/// Goes back to each place of the run of so many rounds. How many entries it has.
+fn check_run(alloc: Global, runner: &Runner, start: World, rounds: u32) -> Result<usize, Fail> {
+    let (entries, last) = journal_from(alloc, runner, start.copy(alloc)?, rounds)?;
+    check_along(alloc, runner, start, &last, entries.as_slice())?;
+    Ok(entries.len())
 }
 
 /// Each of the 22 beside the seed first finds its place in the tree.
@@ -169,7 +165,7 @@ fn check_places(alloc: Global, runner: &Runner, start: World, rounds: u32) -> Re
 fn each_place_of_a_hexagon_is_reached(rt: HostRuntime) -> Result<(), Fail> {
     let runner = Runner::new(Shipped::Hexagon.program(rt.alloc())?);
     let start = world_for(rt.alloc(), &runner, 14, &SEEDED)?;
-    assert!(rt; check_places(rt.alloc(), &runner, start, 12)? > 22);
+    assert!(rt; check_run(rt.alloc(), &runner, start, 12)? > 22);
     Ok(())
 }
 
@@ -179,6 +175,6 @@ fn each_place_of_a_hexagon_is_reached(rt: HostRuntime) -> Result<(), Fail> {
 fn each_place_of_a_line_is_reached(rt: HostRuntime) -> Result<(), Fail> {
     let runner = Runner::new(Shipped::Line.program(rt.alloc())?);
     let start = world_for(rt.alloc(), &runner, 8, &SCATTERED)?;
-    assert_eq!(rt; check_places(rt.alloc(), &runner, start, 16)?, 72);
+    assert_eq!(rt; check_run(rt.alloc(), &runner, start, 16)?, 72);
     Ok(())
 }
