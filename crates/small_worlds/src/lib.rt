@@ -2,12 +2,8 @@
 //! three or five nodes, computed.
 #![tactic(auto)]
 
-#[cfg(test)]
-mod following;
 mod laws;
 mod programs;
-#[cfg(test)]
-mod serial;
 mod worlds;
 
 pub use laws::{small_interleaving, small_serial_turns, small_tickets};
