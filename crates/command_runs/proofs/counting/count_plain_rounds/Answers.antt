@@ -1,9 +1,8 @@
-use Rattle.std.proofs.Common.{◌≡◌, ◌++◌, ◌∷◌, [], length, map, take, ap, arith, sym, ◌∙◌, subst}
+use Rattle.std.proofs.Common.{◌≡◌, ◌++◌, ◌∷◌, [], length, take, ap, arith, sym, ◌∙◌, subst}
 use Rattle.std.proofs.lemmas.Bool.{false≢true}
 use Rattle.std.proofs.Math.Seq.{take-length}
-use Rattle.amoebot_state.specs.Steps.{plain_entry}
 use Rattle.serial_model.specs.Replays.{IsNoPlainStep}
-use Rattle.round_meter.specs.Meters.{GoesOnBy, IsMetered}
+use Rattle.round_meter.specs.Meters.{GoesOnBy}
 use Rattle.command_runs.specs.Replay.{PlainDiffersAt}
 use Rattle.command_runs.proofs.FedMeters.{fed_place, fed_whole}
 use Rattle.command_runs.proofs.Followed.{told_more, stops, leads_elsewhere}
