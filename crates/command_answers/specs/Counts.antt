@@ -1,12 +1,11 @@
 -- What an answer of `rounds` tells of a journal's entries.
 use Rattle.std.specs.Prelude.{◌≡◌, ℕ, List}
 use Rattle.amoebot_state.specs.declared.verdict.Entry.{Entry}
-use Rattle.amoebot_state.specs.declared.verdict.PlainEntry.{PlainEntry}
 use Rattle.amoebot_state.specs.Configs.{Config}
 use Rattle.action_tree.specs.Trees.{Program}
 use Rattle.action_meaning.specs.Verdicts.{verdict_shown}
-use Rattle.command_runs.specs.Replay.{DiffersAt, PlainDiffersAt}
-use Rattle.command_runs.specs.Rounds.{AgreesInRounds, PlainAgreesInRounds}
+use Rattle.command_runs.specs.Replay.{DiffersAt}
+use Rattle.command_runs.specs.Rounds.{AgreesInRounds}
 use Rattle.command_answers.specs.declared.answer.Answer.{Answer}
 use Rattle.command_answers.specs.Answers.{differs_with, rounded_with}
 
@@ -20,14 +19,3 @@ pub data TellsCount (p : Program) (start : Config) (es : List Entry) (final : Co
       → DiffersAt (verdict_shown p) start es final place
       → answer ≡ differs_with place
       → TellsCount p start es final answer
-
--- the same of entries without old values
-pub data TellsPlainCount (p : Program) (start : Config) (plains : List PlainEntry) (final : Config) (answer : Answer) : Type 0 where
-  plain_in_rounds : (rounds waiting : ℕ)
-      → PlainAgreesInRounds (verdict_shown p) start plains final rounds waiting
-      → answer ≡ rounded_with rounds waiting
-      → TellsPlainCount p start plains final answer
-  plain_with_difference : (place : ℕ)
-      → PlainDiffersAt (verdict_shown p) start plains final place
-      → answer ≡ differs_with place
-      → TellsPlainCount p start plains final answer

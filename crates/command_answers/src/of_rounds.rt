@@ -7,13 +7,16 @@ ghost use Rattle.shape_files.specs.Fitting.{Fits};
 ghost use Rattle.shape_files.specs.Views.{contents};
 ghost use Rattle.command_answers.specs.Answers.{IsAnswerTo};
 ghost use Rattle.command_answers.specs.Commands.{form_of};
-ghost use Rattle.command_answers.specs.Counts.{TellsCount, TellsPlainCount};
+ghost use Rattle.command_answers.specs.Counts.{TellsCount};
+ghost use Rattle.command_answers.specs.Told.{TellsPlainRun};
 
 use crate::answer::{Answer, differ, done};
+use crate::recorded::{Recorded, follow, recorded_in};
 use action_eval::Runner;
-use amoebot_state::{Entry, NoMemory, PlainEntry, World};
-use command_runs::{count_plain_rounds, count_rounds, print_rounds};
+use amoebot_state::{Entry, NoMemory, World};
+use command_runs::{count_rounds, print_rounds, replay_is_decided};
 use command_words::DocumentCommand;
+use journal_text::PlainEntries;
 use shape_files::Parts;
 use std::alloc::Global;
 
@@ -22,23 +25,36 @@ pub(crate) fn answer_rounds(alloc: Global, parts: Parts) -> Result<Answer, NoMem
     requires { Fits (form_of DocumentCommand.Rounds) (contents parts) }
     ensures { IfOk result (IsAnswerTo DocumentCommand.Rounds (contents parts)) }
 {
-    let Parts {
-        checked,
-        world,
+    replay_is_decided();
+    let Recorded {
+        runner,
+        start,
+        last,
         entries,
         plain,
-        final_world,
-        ..
-    } = parts;
-    let runner = Runner::new(checked.unwrap());
-    let start = world.unwrap();
-    let last = final_world.unwrap();
+    } = recorded_in(parts);
     match entries {
         Some(journal) => tell_count(alloc, &runner, start, journal.entries(), &last),
-        None => {
-            let journal = plain.unwrap();
-            tell_plain_count(alloc, &runner, start, journal.entries(), &last)
-        }
+        None => count_plain(alloc, &runner, start, plain.unwrap(), &last),
+    }
+}
+
+/// The answer to a journal without old values, whose amoebots are the start's.
+fn count_plain(
+    alloc: Global,
+    runner: &Runner,
+    start: World,
+    journal: PlainEntries,
+    last: &World,
+) -> Result<Answer, NoMemory>
+    requires there { All (λ p. p.bot < length start.bots) journal }
+    requires few { AreCountable journal }
+    ensures { IfOk result (TellsPlainRun runner.now start journal last.now (λ es. TellsCount runner.now start es last.now)) }
+{
+    let followed = follow(alloc, runner, &start, journal, last)?;
+    match followed {
+        Ok(entries) => tell_count(alloc, runner, start, entries.as_slice(), last),
+        Err(differs) => differ(alloc, differs.place),
     }
 }
 
@@ -55,27 +71,6 @@ fn tell_count(
     ensures { IfOk result (TellsCount runner.now start entries.now last.now) }
 {
     match count_rounds(alloc, runner, start, entries, last)? {
-        Ok(count) => {
-            let text = print_rounds(alloc, count.rounds, count.waiting)?;
-            Ok(done(text))
-        }
-        Err(differs) => differ(alloc, differs.place),
-    }
-}
-
-/// The same for entries without old values.
-fn tell_plain_count(
-    alloc: Global,
-    runner: &Runner,
-    start: World,
-    entries: &[PlainEntry],
-    last: &World,
-) -> Result<Answer, NoMemory>
-    requires there { All (λ p. p.bot < length start.bots) entries.now }
-    requires few { AreCountable entries.now }
-    ensures { IfOk result (TellsPlainCount runner.now start entries.now last.now) }
-{
-    match count_plain_rounds(alloc, runner, start, entries, last)? {
         Ok(count) => {
             let text = print_rounds(alloc, count.rounds, count.waiting)?;
             Ok(done(text))
