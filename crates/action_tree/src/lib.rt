@@ -26,6 +26,3 @@ pub use role::Role;
 pub use roles::role_of;
 pub use statement::{Move, Stmt};
 pub use word::{Lit, MOST_NAMES, NameText, Word};
-
-#[cfg(test)]
-mod tests;

@@ -6,7 +6,7 @@ use Rattle.std.proofs.lemmas.List.Sums.{length-filter}
 use Rattle.std.specs.Option.{option_map, option_copied}
 use Rattle.std.proofs.lemmas.Bool.{cases_Bool, both_ways}
 use Rattle.std.proofs.lemmas.List.Elements.{filter_map-append}
-use Rattle.std.proofs.lemmas.List.{length-append, length-map}
+use Rattle.std.proofs.lemmas.List.{append-nil, length-append, length-map}
 use Rattle.std.proofs.lemmas.Option.{same_Some}
 use Rattle.tri_lattice.specs.declared.node.Node.{Node}
 use Rattle.tri_lattice.specs.Lattice.{node_eq}
@@ -33,7 +33,7 @@ use Rattle.amoebot_state.proofs.Options.{there_is, none_if}
 use Rattle.amoebot_state.proofs.Occupants.{plain_bot, outside_empty}
 use Rattle.amoebot_state.proofs.Directions.{beside_in_zone}
 use Rattle.amoebot_state.proofs.ShownAlone.{spread_at, body_shown, alone_own, alone_valid, alone_occupant, alone_has, alone_only, alone_wall, no_wall_outside}
-use Rattle.amoebot_state.proofs.WallsRead.{walls_are}
+use Rattle.amoebot_state.proofs.WallsRead.{nodes_in-append, walls_are}
 use Rattle.amoebot_state.proofs.Zones.{zone_is, own_in_zone, spot_in_zone, zone_inside}
 
 -- the cells of nodes and of bodies
@@ -59,6 +59,25 @@ cells_made c i own nodes ids cells at ns is made =
     ∙ ap (λ xs. first ∷ xs) (sym (filter_map-append (shown_cell c) (map name.Spot (zone_nodes c.area own)) (map name.Body (others (occupant c) i (zone_nodes c.area own)))))
     ∙ ap (λ o. cons_option (option_map (λ y. (name.Body i, y)) (option_map cell.Body o)) (filter_map (shown_cell c) (map name.Spot (zone_nodes c.area own) ++ map name.Body (others (occupant c) i (zone_nodes c.area own))))) (sym at)
     ∙ ap (filter_map (shown_cell c)) (sym (zone_is c i own at))
+
+-- their nodes are those of the zone
+pub zone_cells_nodes : (c : Config) (i : ℕ) (x : Cell) (vs : List Node) (is : List ℕ) → nodes_in (((name.Body i, x) ∷ map (λ v. (name.Spot v, cell.Spot (occupant c v))) vs) ++ filter_map (λ j. shown_cell c (name.Body j)) is) ≡ vs
+zone_cells_nodes c i x vs is =
+    nodes_in-append (map (λ v. (name.Spot v, cell.Spot (occupant c v))) vs) (filter_map (λ j. shown_cell c (name.Body j)) is)
+    ∙ ap (λ us. us ++ nodes_in (filter_map (λ j. shown_cell c (name.Body j)) is)) (spots vs)
+    ∙ ap (λ us. vs ++ us) (bodies is)
+    ∙ append-nil vs
+  where
+    spots : (us : List Node) → nodes_in (map (λ v. (name.Spot v, cell.Spot (occupant c v))) us) ≡ us
+    spots [] = refl
+    spots (u ∷ us) = ap (λ ws. u ∷ ws) (spots us)
+
+    bodies : (js : List ℕ) → nodes_in (filter_map (λ j. shown_cell c (name.Body j)) js) ≡ []
+    bodies [] = refl
+    bodies (j ∷ js) = elim (bot_at c j) as (λ o. bot_at c j ≡ o → nodes_in (filter_map (λ k. shown_cell c (name.Body k)) (j ∷ js)) ≡ []) [
+      | None ↦ λ e. rw e (bodies js)
+      | Some b ↦ λ e. rw e (bodies js)
+    ] refl
 
 -- what is shown alone is valid
 pub shown_valid : (s : Shown) → IsShown s → IsValid (shown_alone s)

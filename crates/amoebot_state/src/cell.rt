@@ -45,9 +45,6 @@ pub const MOST_PAIRS: usize = 10;
 /// The most cells of a zone.
 pub const MOST_CELLS: usize = 19;
 
-/// The cells of a zone with what they hold.
-pub(crate) type Cells = ArrayVec<(CellName, Cell), CELL_ROOM>;
-
 /// Room for the cells of a zone.
 pub const CELL_ROOM: usize = 30;
 

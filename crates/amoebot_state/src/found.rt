@@ -8,20 +8,21 @@ ghost use Rattle.amoebot_state.specs.Refusals.{IsBotInRange};
 ghost use Rattle.amoebot_state.specs.declared.bot.Bot.{Bot};
 ghost use Rattle.amoebot_state.specs.Ways.{reading, ways_of};
 ghost use Rattle.amoebot_state.specs.Walls.{has_node, node_numbers};
-ghost use Rattle.amoebot_state.specs.Zones.{IsShown, shown_alone, shown_by, zone_nodes};
+ghost use Rattle.amoebot_state.specs.Zones.{IsShown, shown, shown_alone, shown_by, zone_nodes};
 ghost use Rattle.tri_lattice.specs.declared.node.Node.{Node};
 ghost use Rattle.amoebot_state.specs.Pairs.{body_at, body_in, spot_at, spot_in};
 
 use crate::bot::{Bot, Port};
 use crate::cell::{Cell, CellName, MOST_CELLS};
 use crate::reading::KnownZone;
-use crate::way::{FewNodes, Way, Ways, ways_of};
+use crate::way::{FewNodes, Way, Ways, push_nodes, ways_of};
+use crate::world::World;
 use arrayvec::ArrayVec;
 use std::marker::Model;
 use tri_lattice::{Area, Node};
 
 /// The cells of a zone with what they hold.
-type Cells = ArrayVec<(CellName, Cell), MOST_CELLS>;
+pub(crate) type ZoneCells = ArrayVec<(CellName, Cell), MOST_CELLS>;
 
 /// What is behind a pair of an end and a direction.
 #[derive(Clone, Copy, Debug, Default, Drop, PartialEq, Eq)]
@@ -48,7 +49,7 @@ pub struct Found {
     bot: u16,
     own: Bot,
     ways: Ways,
-    cells: Cells,
+    cells: ZoneCells,
     walls: FewNodes,
 }
 
@@ -107,6 +108,32 @@ impl Found {
         }
     }
 
+    /// The closed neighbourhood of this amoebot, whose pairs lead so, with these cells and walls.
+    pub(crate) fn of_parts(
+        area: Area,
+        maxes: [u8; 8],
+        bot: u16,
+        own: Bot,
+        ways: Ways,
+        cells: ZoneCells,
+        walls: FewNodes,
+    ) -> Found
+        requires shown { IsShown (shown_by area maxes bot (node_numbers area walls.items) cells.items) }
+        requires own { Some own ≡ body_in cells.items bot }
+        requires known { ways ≡ ways_of area own }
+        ensures { result ≡ shown_by area maxes bot (node_numbers area walls.items) cells.items }
+    {
+        Found {
+            area,
+            maxes,
+            bot,
+            own,
+            ways,
+            cells,
+            walls,
+        }
+    }
+
     /// The same in the place of what was found before, of a zone of which all is known.
     pub fn renew(
         &mut self,
@@ -129,6 +156,31 @@ impl Found {
         self.ways = zone.ways();
         copy_all(&mut self.cells, cells);
         copy_nodes(&mut self.walls, walls);
+    }
+
+    /// What a world shows to this amoebot, in the place of what was found before.
+    pub(crate) fn show(&mut self, world: &World, bot: u16)
+        requires { bot < length world.now.bots }
+        ensures { self.new ≡ shown world.now bot }
+    {
+        world.keeps();
+        let own = *world.bot(bot);
+        let area = world.area();
+        let mut nodes = ArrayVec::new();
+        self.ways = push_nodes(&mut nodes, &area, &own);
+        self.area = area;
+        self.maxes = world.maxes();
+        self.bot = bot;
+        self.own = own;
+        self.cells.clear();
+        self.walls.clear();
+        world.put_zone(
+            &mut self.cells,
+            &mut self.walls,
+            bot,
+            &own,
+            nodes.as_slice(),
+        );
     }
 
     /// The id of the amoebot that is shown this.
@@ -257,7 +309,7 @@ fn own_in(cells: &[(CellName, Cell)], bot: u16) -> Bot
     }
 }
 
-fn copied(cells: &[(CellName, Cell)]) -> Cells
+fn copied(cells: &[(CellName, Cell)]) -> ZoneCells
     requires { length cells.now ≤ most_cells }
     ensures { result.items ≡ cells.now }
 {
@@ -267,7 +319,7 @@ fn copied(cells: &[(CellName, Cell)]) -> Cells
 }
 
 /// Puts these cells in the place of what the list has.
-fn copy_all(copy: &mut Cells, cells: &[(CellName, Cell)])
+fn copy_all(copy: &mut ZoneCells, cells: &[(CellName, Cell)])
     requires { length cells.now ≤ most_cells }
     ensures { copy.new.items ≡ cells.now }
 {

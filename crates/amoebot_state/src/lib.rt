@@ -42,6 +42,3 @@ pub use reading::KnownZone;
 pub use refusal::{NoMemory, WorldRefusal};
 pub use verdict::{Change, Entry, Failure, Moved, PlainEntry, Turned, Verdict};
 pub use world::World;
-
-#[cfg(test)]
-mod tests;

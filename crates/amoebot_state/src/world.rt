@@ -1,6 +1,6 @@
-ghost use Rattle.std.specs.Prelude.{ℕ, ◌≡◌, ◌⊎◌, ◌+◌, ◌++◌, ◌∷◌, ◌<◌, ◌≤◌, [], OnOk, IfOk, IfErr, length, map, IsSome, Decides};
+ghost use Rattle.std.specs.Prelude.{ℕ, ◌≡◌, ◌⊎◌, ◌+◌, ◌++◌, ◌∷◌, ◌<◌, ◌≤◌, [], OnOk, IfOk, IfErr, filter, length, map, IsSome, Decides, if◌then◌else◌};
 ghost use Rattle.std.specs.List.{All, filter_map};
-ghost use Rattle.amoebot_state.specs.Limits.{most_bots, most_nodes, most_walls, node_room, cell_room};
+ghost use Rattle.amoebot_state.specs.Limits.{most_bots, most_cells, most_nodes, most_walls};
 ghost use Rattle.amoebot_state.specs.Configs.{Config, IsValid, bot_at, frame, is_wall, occupant, frame_of, walled_frame, with_these, with_bot};
 ghost use Rattle.amoebot_state.specs.Zones.{IsShown, shown, shown_cell, shown_with, zone, zone_nodes, others};
 ghost use Rattle.amoebot_state.specs.Known.{walls_read};
@@ -12,8 +12,8 @@ ghost use Rattle.amoebot_state.specs.Refusals.{AreWalls, IsBotInRange, IsFaultle
 ghost use Rattle.arrayvec.specs.ArrayVec.{array_vec_len};
 
 use crate::bot::Bot;
-use crate::cell::{Cell, CellName, Cells, Patch};
-use crate::found::Found;
+use crate::cell::{Cell, CellName, Patch};
+use crate::found::{Found, ZoneCells};
 use crate::frame::Frame;
 use crate::grid::{has_values, is_close, put_all, put_new};
 use crate::reading::KnownZone;
@@ -272,9 +272,18 @@ impl World {
         let maxes = self.maxes();
         let mut nodes = ArrayVec::new();
         let ways = push_nodes(&mut nodes, &area, &own);
-        let cells = self.zone_cells(bot, &own, nodes.as_slice());
-        let walls = self.walls_in(cells.as_slice());
-        Found::with_ways(area, maxes, bot, cells.as_slice(), walls.as_slice(), ways)
+        let mut cells = ArrayVec::new();
+        let mut walls: FewNodes = ArrayVec::new();
+        self.put_zone(&mut cells, &mut walls, bot, &own, nodes.as_slice());
+        Found::of_parts(area, maxes, bot, own, ways, cells, walls)
+    }
+
+    /// The same in the place of what was found before, of this world or of another one.
+    pub fn show(&self, bot: u16, found: &mut Found)
+        requires { bot < length self.now.bots }
+        ensures { found.new ≡ shown self.now bot }
+    {
+        found.show(self, bot);
     }
 
     /// What an amoebot is shown, where these are the cells that it is shown.
@@ -334,19 +343,62 @@ impl World {
         }
     }
 
-    /// The cells of an amoebot's zone, which has these nodes, with what they hold.
-    fn zone_cells(&self, bot: u16, own: &Bot, nodes: &[Node]) -> Cells
+    /// Adds the cells of an amoebot's zone, which has these nodes, with what they hold, and the walls among them.
+    pub(crate) fn put_zone(
+        &self,
+        cells: &mut ZoneCells,
+        walls: &mut FewNodes,
+        bot: u16,
+        own: &Bot,
+        nodes: &[Node],
+    )
         requires there { bot_at self.now bot ≡ Some own.now }
         requires nodes { nodes.now ≡ zone_nodes self.now.area own.now }
-        requires few { length nodes.now ≤ node_room }
-        ensures { result.items ≡ filter_map (shown_cell self.now) (zone self.now bot) }
+        requires no_cells { cells.old.items ≡ [] }
+        requires no_walls { walls.old.items ≡ [] }
+        ensures cells { cells.new.items ≡ filter_map (shown_cell self.now) (zone self.now bot) }
+        ensures walls { walls.new.items ≡ walls_read self.now cells.new.items }
     {
-        let ids = self.others(bot, nodes);
-        let mut cells = ArrayVec::new();
+        let _frame = &self.frame;
         cells.push((CellName::Body(bot), Cell::Body(*own)));
-        self.add_spots(&mut cells, nodes);
-        self.add_bodies(&mut cells, ids.as_slice());
-        cells
+        let ids = self.put_nodes(cells, walls, bot, nodes);
+        self.put_bodies(cells, ids.as_slice());
+    }
+
+    /// Adds the cells of these nodes and the walls among them, and tells the other amoebots on them.
+    fn put_nodes(
+        &self,
+        cells: &mut ZoneCells,
+        walls: &mut FewNodes,
+        bot: u16,
+        nodes: &[Node],
+    ) -> Ids
+        requires room { array_vec_len cells.old + length nodes.now ≤ most_cells }
+        requires few { length nodes.now ≤ most_nodes }
+        requires no_walls { walls.old.items ≡ [] }
+        ensures cells { cells.new.items ≡ cells.old.items ++ map (λ v. (CellName.Spot v, Cell.Spot (occupant self.now v))) nodes.now }
+        ensures walls { walls.new.items ≡ filter (is_wall self.now) nodes.now }
+        ensures others { result.items ≡ others (occupant self.now) bot nodes.now }
+    {
+        let mut ids = ArrayVec::new();
+        for node in nodes {
+            let (occupant, wall) = self.on_node(*node);
+            cells.push((CellName::Spot(*node), Cell::Spot(occupant)));
+            push_other(&mut ids, bot, occupant);
+            push_if(walls, *node, wall);
+        }
+        ids
+    }
+
+    /// The occupant of a node, and whether it is a wall.
+    fn on_node(&self, node: Node) -> (Option<u16>, bool)
+        ensures occupant { result.0 ≡ occupant self.now node }
+        ensures wall { result.1 ≡ is_wall self.now node }
+    {
+        match self.frame.area().index(node) {
+            Some(number) => (self.occupants[number as usize], self.is_wall_number(number)),
+            None => (None, false),
+        }
     }
 
     fn own(&self, id: u16) -> Bot
@@ -358,30 +410,8 @@ impl World {
         *self.bot(id)
     }
 
-    /// The other amoebots on the nodes.
-    fn others(&self, id: u16, nodes: &[Node]) -> Ids
-        requires { length nodes.now ≤ node_room }
-        ensures value { result.items ≡ others (occupant self.now) id nodes.now }
-        ensures few { array_vec_len result ≤ node_room }
-    {
-        let mut ids = ArrayVec::new();
-        for node in nodes {
-            push_other(&mut ids, id, self.occupant(*node));
-        }
-        ids
-    }
-
-    fn add_spots(&self, cells: &mut Cells, nodes: &[Node])
-        requires { array_vec_len cells.old + length nodes.now ≤ cell_room }
-        ensures { cells.new.items ≡ cells.old.items ++ map (λ v. (CellName.Spot v, Cell.Spot (occupant self.now v))) nodes.now }
-    {
-        for node in nodes {
-            cells.push((CellName::Spot(*node), Cell::Spot(self.occupant(*node))));
-        }
-    }
-
-    fn add_bodies(&self, cells: &mut Cells, ids: &[u16])
-        requires room { array_vec_len cells.old + length ids.now ≤ cell_room }
+    fn put_bodies(&self, cells: &mut ZoneCells, ids: &[u16])
+        requires room { array_vec_len cells.old + length ids.now ≤ most_cells }
         requires there { All (λ i. i < length self.now.bots) ids.now }
         ensures { cells.new.items ≡ cells.old.items ++ filter_map (λ i. shown_cell self.now (CellName.Body i)) ids.now }
     {
@@ -408,4 +438,15 @@ fn same_bots(bots: &[Bot], others: &[Bot]) -> bool
     ensures { Decides result (bots.now ≡ others.now) }
 {
     bots == others
+}
+
+/// Adds a node where it is a wall.
+fn push_if(walls: &mut FewNodes, node: Node, wall: bool)
+    requires { array_vec_len walls.old < most_nodes }
+    ensures items { walls.new.items ≡ walls.old.items ++ (if wall then node ∷ [] else []) }
+    ensures few { array_vec_len walls.new ≤ array_vec_len walls.old + 1 }
+{
+    if wall {
+        walls.push(node);
+    }
 }

@@ -4,12 +4,9 @@ ghost use Rattle.amoebot_state.specs.Configs.{bot_at};
 ghost use Rattle.amoebot_state.specs.Zones.{shown_alone};
 ghost use Rattle.claim_tests.specs.Dragging.{drag, note, by_peer, by_link};
 
-use amoebot_state::{
-    Bot, Cell, CellName, Change, Decider, Failure, Found, Moved, Port, Verdict, World,
-};
+use amoebot_state::{Change, Decider, Failure, Found, Moved, Port, Verdict, World};
 use claim_core::{Core, Lists};
 use model_ops::{Peer, Site};
-use small_worlds::node;
 use std::alloc::Global;
 use std::test::Fail;
 use tri_lattice::Area;
@@ -93,16 +90,6 @@ fn note(found: &Found) -> Verdict
         }),
         Err(failure) => Verdict::Failed(failure),
     }
-}
-
-/// A node with its occupant.
-pub fn spot(x: u8, y: u8, occupant: Option<u16>) -> (CellName, Cell) {
-    (CellName::Spot(node(x, y)), Cell::Spot(occupant))
-}
-
-/// An amoebot by its id.
-pub fn body(id: u16, bot: Bot) -> (CellName, Cell) {
-    (CellName::Body(id), Cell::Body(bot))
 }
 
 /// The area of all worlds here.

@@ -19,8 +19,6 @@ mod overtaken;
 #[cfg(test)]
 mod parts;
 #[cfg(test)]
-mod pulled;
-#[cfg(test)]
 mod schedules;
 #[cfg(test)]
 mod seats;

@@ -1,12 +1,13 @@
-ghost use Rattle.std.specs.Prelude.{◌≡◌, ◌<◌, ◌≤◌, length};
+ghost use Rattle.std.specs.Prelude.{◌≡◌, ◌<◌, length, IfOk, IsSome};
 ghost use Rattle.std.specs.List.{All};
-ghost use Rattle.amoebot_state.specs.Limits.{most_bots};
+ghost use Rattle.amoebot_state.specs.Configs.{bot_at};
 ghost use Rattle.amoebot_state.specs.Refusals.{IsBotInRange};
 
+use crate::checker::is_report;
 use crate::core_fixtures::{core_of, the_area};
 use amoebot_state::{Bot, Cell, CellName, Decider, Entry, Moved, World};
-use claim_core::{Core, Look, Mark, Marks, Phase, Report};
-use small_worlds::{lists_of, world_of};
+use claim_core::{Core, Lists, Look, Mark, Marks, Phase, Report};
+use small_worlds::{lists_of, node, spread, world_of};
 use std::alloc::Global;
 use std::process::Abort;
 use std::test::Fail;
@@ -39,13 +40,48 @@ pub struct Steps(
     pub u8,
 );
 
+/// An amoebot by its head, its tail and its value of variable 0.
+pub type Place = ((u8, u8), (u8, u8), u8);
+
+fn bot_of(place: &Place) -> Bot
+    ensures { IsBotInRange result }
+{
+    spread(place.0, place.1, place.2)
+}
+
+fn bots_of(alloc: Global, places: &[Place]) -> Result<Vec<Bot>, Fail>
+    ensures { IfOk result (λ bots. All IsBotInRange bots.items) }
+{
+    let mut bots = Vec::new(alloc);
+    for place in places {
+        bots.push(bot_of(place))?;
+    }
+    Ok(bots)
+}
+
+/// A cell with its value: a node by its coordinates, or an amoebot by its id.
+#[derive(Clone, Copy)]
+pub enum Seen {
+    Spot(u8, u8, Option<u16>),
+    Body(u16, Place),
+}
+
+impl Seen {
+    fn pair(&self) -> (CellName, Cell) {
+        match self {
+            Seen::Spot(x, y, occupant) => (CellName::Spot(node(*x, *y)), Cell::Spot(*occupant)),
+            Seen::Body(id, place) => (CellName::Body(*id), Cell::Body(bot_of(place))),
+        }
+    }
+}
+
 /// How a caller stands.
 #[derive(Clone, Copy)]
 struct Stand<'a> {
     turn: u32,
     bot: u16,
     doing: Doing,
-    cells: &'a [(CellName, Cell)],
+    cells: &'a [Seen],
     held: usize,
 }
 
@@ -76,7 +112,7 @@ impl<'a> Stands<'a> {
         rt: &impl Abort,
         core: &mut Core<'_, D>,
         callers: u8,
-        zones: &[&'a [(CellName, Cell)]],
+        zones: &[&'a [Seen]],
         table: &[Steps],
     )
         requires { length core.old.state.callers ≡ callers }
@@ -151,7 +187,7 @@ impl Stand<'_> {
             return false;
         }
         for (pair, cell) in held.iter().zip(self.cells) {
-            if pair != cell {
+            if *pair != cell.pair() {
                 return false;
             }
         }
@@ -160,8 +196,8 @@ impl Stand<'_> {
 
     /// Whether the cell is held.
     fn has(&self, cell: CellName) -> bool {
-        for (place, pair) in self.cells.iter().enumerate() {
-            if place < self.held && pair.0 == cell {
+        for (place, seen) in self.cells.iter().enumerate() {
+            if place < self.held && seen.pair().0 == cell {
                 return true;
             }
         }
@@ -199,80 +235,77 @@ fn cell_at(area: &Area, number: usize) -> CellName {
     }
 }
 
-/// An entry by its parts, with the new values of its patch.
+/// An entry: its caller, turn, amoebot, action and movement, and the new values of its patch.
 #[derive(Clone, Copy)]
-pub struct Told<'a> {
-    pub caller: u8,
-    pub turn: u32,
-    pub bot: u16,
-    pub action: u8,
-    pub moved: Moved,
-    pub pairs: &'a [(CellName, Cell)],
+pub struct Told(
+    pub u8,
+    pub u32,
+    pub u16,
+    pub u8,
+    pub Moved,
+    pub &'static [Seen],
+);
+
+/// A run, and what it leaves.
+pub struct Case {
+    pub bots: &'static [Place],
+    pub turns: u32,
+    pub ids: &'static [&'static [u16]],
+    /// The zones that the steps name.
+    pub zones: &'static [&'static [Seen]],
+    pub steps: &'static [Steps],
+    pub entries: &'static [Told],
+    pub marks: &'static [&'static [Mark]],
+    pub last: &'static [Place],
 }
 
-/// An entry of action 0, of a turn of a caller on an amoebot.
-pub fn entry_of<'a>(
-    caller: u8,
-    turn: u32,
-    bot: u16,
-    moved: Moved,
-    pairs: &'a [(CellName, Cell)],
-) -> Told<'a> {
-    Told {
-        caller,
-        turn,
-        bot,
-        action: 0,
-        moved,
-        pairs,
-    }
-}
-
-/// What callers of these lists leave over a world of these amoebots, by the steps of the table and then the rounds of `finish`; after each
-/// of those steps the core is compared with the table. A step of a caller that has ended then changes nothing more.
-pub fn run<D: Decider>(
+/// The callers of the case make the steps of its table and then the rounds of `finish`. After each of those steps the core is compared
+/// with the table, and at the end the report with the case. A step of a caller that has ended then changes nothing more.
+pub fn check_case<D: Decider>(
     rt: &impl Abort,
     alloc: Global,
     decider: &D,
-    bots: &[Bot],
-    lists: (u32, &[&[u16]]),
-    zones: &[&[(CellName, Cell)]],
-    table: &[Steps],
+    case: &Case,
+) -> Result<(), Fail> {
+    let bots = bots_of(alloc, case.bots)?;
+    if bots.len() > 4096 {
+        Err("few amoebots")?;
+    }
+    let first = world_of(alloc, bots.as_slice())?;
+    let lists = lists_of(alloc, case.turns, &first, case.ids)?;
+    let report = report_of(rt, alloc, decider, &first, &lists, case)?;
+    assert!(rt; are_entries(report.journal.entries(), case.entries));
+    assert!(rt; are_marks(&report.turns, case.marks));
+    assert!(rt; are_bots(&report.world, case.last));
+    assert!(rt; is_report(alloc, decider, &first, &lists, &report)?);
+    Ok(())
+}
+
+fn report_of<D: Decider>(
+    rt: &impl Abort,
+    alloc: Global,
+    decider: &D,
+    first: &World,
+    lists: &Lists,
+    case: &Case,
 ) -> Result<Report, Fail>
-    requires few { length bots.now ≤ most_bots }
-    requires plain { All IsBotInRange bots.now }
+    requires { All (All (λ id. IsSome (bot_at first.now id))) lists.now.ids }
 {
-    let (turns, ids) = lists;
-    let world = world_of(alloc, bots)?;
-    let lists = lists_of(alloc, turns, &world, ids)?;
-    let mut core = core_of(alloc, decider, world, &lists)?;
+    let mut core = core_of(alloc, decider, first.copy(alloc)?, lists)?;
     let callers = lists.callers();
-    let mut stands = Stands::all(if turns == 0 {
+    let mut stands = Stands::all(if case.turns == 0 {
         Doing::Ended
     } else {
         Doing::Claims
     });
     assert!(rt; stands.are_of(&core, callers));
-    stands.follow(rt, &mut core, callers, zones, table);
+    stands.follow(rt, &mut core, callers, case.zones, case.steps);
     core.finish();
     assert!(rt; core.ended());
     Ok(core.report())
 }
 
-/// That the report has these entries, these marks of each caller, and a last world of these amoebots.
-pub fn see_report(
-    rt: &impl Abort,
-    report: &Report,
-    entries: &[Told<'_>],
-    marks: &[&[Mark]],
-    bots: &[Bot],
-) {
-    assert!(rt; are_entries(report.journal.entries(), entries));
-    assert!(rt; are_marks(&report.turns, marks));
-    assert!(rt; are_bots(&report.world, bots));
-}
-
-fn are_entries(entries: &[Entry], told: &[Told<'_>]) -> bool {
+fn are_entries(entries: &[Entry], told: &[Told]) -> bool {
     if entries.len() != told.len() {
         return false;
     }
@@ -284,14 +317,27 @@ fn are_entries(entries: &[Entry], told: &[Told<'_>]) -> bool {
     true
 }
 
-fn is_entry(entry: &Entry, told: &Told<'_>) -> bool {
+fn is_entry(entry: &Entry, told: &Told) -> bool {
+    let Told(caller, turn, bot, action, moved, seen) = *told;
     let plain = entry.plain();
-    plain.caller == told.caller
-        && plain.turn == told.turn
-        && plain.bot == told.bot
-        && plain.action == told.action
-        && plain.moved == told.moved
-        && plain.patch.pairs() == told.pairs
+    plain.caller == caller
+        && plain.turn == turn
+        && plain.bot == bot
+        && plain.action == action
+        && plain.moved == moved
+        && are_pairs(plain.patch.pairs(), seen)
+}
+
+fn are_pairs(pairs: &[(CellName, Cell)], seen: &[Seen]) -> bool {
+    if pairs.len() != seen.len() {
+        return false;
+    }
+    for (pair, cell) in pairs.iter().zip(seen) {
+        if *pair != cell.pair() {
+            return false;
+        }
+    }
+    true
 }
 
 fn are_marks(turns: &Marks, marks: &[&[Mark]]) -> bool {
@@ -318,12 +364,12 @@ fn are_own_marks(turns: &Marks, caller: u8, marks: &[Mark]) -> bool {
     true
 }
 
-fn are_bots(world: &World, bots: &[Bot]) -> bool {
-    if usize::from(world.bots()) != bots.len() {
+fn are_bots(world: &World, places: &[Place]) -> bool {
+    if usize::from(world.bots()) != places.len() {
         return false;
     }
-    for (id, bot) in bots.iter().enumerate() {
-        if *world.bot(id as u16) != *bot {
+    for (id, place) in places.iter().enumerate() {
+        if *world.bot(id as u16) != bot_of(place) {
             return false;
         }
     }

@@ -1,6 +1,7 @@
 //! The section `journal` read.
 
-ghost use Rattle.std.specs.Prelude.{◌≡◌, ◌≢◌, ◌<◌, ◌≤◌, true, false, length, map, option_map, nat_lt, if◌then◌else◌, IfErr, IfOk, IfSome, Ok, Err, Some, None};
+ghost use Rattle.std.specs.Prelude.{◌≡◌, ◌≢◌, ◌<◌, ◌≤◌, [], true, false, length, map, option_map, nat_lt, if◌then◌else◌, IfErr, IfOk, IfSome, Ok, Err, Some, None};
+ghost use Rattle.std.specs.Bool.{OnTrue};
 ghost use Rattle.std.specs.List.{flat_map, list_all};
 ghost use Rattle.text_tokens.specs.Cursor.{next_passes};
 ghost use Rattle.text_tokens.specs.Steps.{Gives, ReadsOf, TellsOf, another};
@@ -383,36 +384,38 @@ fn known_change(pair: WrittenPair, bots: u16) -> Option<(CellName, Option<Cell>,
     }
 }
 
-/// The cells with both values, at most 10, if the amoebots that they name are some of so many.
-fn known_patch(pairs: &[WrittenPair], bots: u16) -> Option<Patch>
-    requires { length pairs.now ≤ most_pairs }
-    ensures { result
-        ≡ if list_all (λ id. nat_lt id bots) (flat_map spec.ids_of_change (map view.pair pairs.now))
-        then Some (map spec.full_change (map view.pair pairs.now))
-        else None }
+/// Adds the cells with both values, at most 10, to an empty patch, if the amoebots that they name are some of so many.
+#[inline(never)]
+fn put_known(pairs: &[WrittenPair], bots: u16, patch: &mut Patch) -> bool
+    requires few { length pairs.now ≤ most_pairs }
+    requires empty { patch.old ≡ [] }
+    ensures known { result ≡ list_all (λ id. nat_lt id bots) (flat_map spec.ids_of_change (map view.pair pairs.now)) }
+    ensures made { OnTrue result (patch.new ≡ map spec.full_change (map view.pair pairs.now)) }
 {
-    let mut patch = Patch::new();
     for pair in pairs {
-        let (name, before, value) = known_change(*pair, bots)?;
+        let Some((name, before, value)) = known_change(*pair, bots) else {
+            return false;
+        };
         patch.push(name, before.unwrap_or(value), value);
     }
-    Some(patch)
+    true
 }
 
-/// The cells with their values after, at most 10, if the amoebots that they name are some of so many.
-fn known_plain_patch(pairs: &[WrittenPair], bots: u16) -> Option<PlainPatch>
-    requires { length pairs.now ≤ most_pairs }
-    ensures { result
-        ≡ if list_all (λ id. nat_lt id bots) (flat_map spec.ids_of_change (map view.pair pairs.now))
-        then Some (map spec.plain_change (map view.pair pairs.now))
-        else None }
+/// Adds the cells with their values after, at most 10, to an empty patch, if the amoebots that they name are some of so many.
+#[inline(never)]
+fn put_known_plain(pairs: &[WrittenPair], bots: u16, patch: &mut PlainPatch) -> bool
+    requires few { length pairs.now ≤ most_pairs }
+    requires empty { patch.old ≡ [] }
+    ensures known { result ≡ list_all (λ id. nat_lt id bots) (flat_map spec.ids_of_change (map view.pair pairs.now)) }
+    ensures made { OnTrue result (patch.new ≡ map spec.plain_change (map view.pair pairs.now)) }
 {
-    let mut patch = PlainPatch::new();
     for pair in pairs {
-        let (name, _, value) = known_change(*pair, bots)?;
+        let Some((name, _, value)) = known_change(*pair, bots) else {
+            return false;
+        };
         patch.push(name, value);
     }
-    Some(patch)
+    true
 }
 
 /// The entry with these pairs, if its caller and turn are ones that there may be, and its action and amoebots some of so many.
@@ -442,17 +445,18 @@ fn known_entry(
     {
         return Err(refused(written.line, RefusalKind::BadEntry));
     }
-    match known_patch(pairs, bots) {
-        Some(patch) => Ok(Entry {
-            caller: caller as u8,
-            turn,
-            bot: bot as u16,
-            action: action as u8,
-            moved: written.moved,
-            patch,
-        }),
-        None => Err(refused(written.line, RefusalKind::BadEntry)),
+    let mut entry = Entry {
+        caller: caller as u8,
+        turn,
+        bot: bot as u16,
+        action: action as u8,
+        moved: written.moved,
+        patch: Patch::new(),
+    };
+    if !put_known(pairs, bots, &mut entry.patch) {
+        return Err(refused(written.line, RefusalKind::BadEntry));
     }
+    Ok(entry)
 }
 
 /// The same without old values.
@@ -481,17 +485,18 @@ fn known_plain_entry(
     {
         return Err(refused(written.line, RefusalKind::BadEntry));
     }
-    match known_plain_patch(pairs, bots) {
-        Some(patch) => Ok(PlainEntry {
-            caller: caller as u8,
-            turn,
-            bot: bot as u16,
-            action: action as u8,
-            moved: written.moved,
-            patch,
-        }),
-        None => Err(refused(written.line, RefusalKind::BadEntry)),
+    let mut entry = PlainEntry {
+        caller: caller as u8,
+        turn,
+        bot: bot as u16,
+        action: action as u8,
+        moved: written.moved,
+        patch: PlainPatch::new(),
+    };
+    if !put_known_plain(pairs, bots, &mut entry.patch) {
+        return Err(refused(written.line, RefusalKind::BadEntry));
     }
+    Ok(entry)
 }
 
 /// An entry with old values, behind so many. It is judged once no further pair comes.

@@ -13,8 +13,3 @@ pub use laws::{
 };
 pub use printing::{print_journal, print_plain, print_turns, put_journal, put_plain, put_turns};
 pub use turns::read_turns;
-
-#[cfg(test)]
-mod journal_tests;
-#[cfg(test)]
-mod tests;

@@ -16,6 +16,3 @@ pub use laws::{
 };
 pub use peer::Peer;
 pub use site::Site;
-
-#[cfg(test)]
-mod tests;

@@ -42,6 +42,3 @@ pub fn arc_laws()
 pub fn gap_law()
     ensures { GapSplits }
 {}
-
-#[cfg(test)]
-mod tests;

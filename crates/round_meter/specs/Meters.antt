@@ -1,11 +1,12 @@
 -- What a meter keeps of a run, and when that is right: for each amoebot whether it is enabled, and in which round it was last settled.
-use Rattle.std.specs.Prelude.{◌≡◌, ℕ, ◌+◌, ◌<◌, ◌≤◌, List, length, slice_index_or, Bool, false, not, ◌&&◌, nat_eq, Decides, IsSome}
+use Rattle.std.specs.Prelude.{◌≡◌, ℕ, ◌+◌, ◌<◌, ◌≤◌, List, [], ◌∷◌, ◌++◌, length, slice_index_or, Bool, false, not, ◌&&◌, nat_eq, Decides, IsSome}
 use Rattle.std.specs.List.{All, count_by}
 use Rattle.amoebot_state.specs.declared.verdict.Entry.{Entry}
+use Rattle.amoebot_state.specs.declared.verdict.PlainEntry.{PlainEntry}
 use Rattle.amoebot_state.specs.declared.verdict.Verdict.{Verdict}
 use Rattle.amoebot_state.specs.Configs.{Config, IsValid, bot_at}
 use Rattle.amoebot_state.specs.Zones.{Shown}
-use Rattle.amoebot_state.specs.Steps.{Run}
+use Rattle.amoebot_state.specs.Steps.{Run, Step, plain_entry}
 use Rattle.round_meter.specs.declared.standing.Standing.{Standing}
 use Rattle.round_meter.specs.Rounds.{IsSettled, AllSettled, RoundsTo, enabled_in}
 
@@ -66,3 +67,12 @@ pub record IsMetered (f : Shown → Verdict) (first : Config) (entries : List En
   pub settled : (b : ℕ)
       → b < length first.bots
       → Decides (not (waits_in (this_round m) (standing_of m.standings b))) (IsSettled f first entries b start (length entries))
+
+-- a meter goes on by the entry that one without old values tells: that is a step, and the meter stands for each run of before with it
+pub record GoesOnBy (f : Shown → Verdict) (p : PlainEntry) (old new : Metered) : Type 0 where
+  pub entry : Entry
+  pub plain : plain_entry entry ≡ p
+  pub step : Step f old.world entry new.world
+  pub metered : (first : Config) (entries : List Entry)
+      → IsMetered f first entries old
+      → IsMetered f first (entries ++ entry ∷ []) new

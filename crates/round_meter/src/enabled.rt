@@ -1,14 +1,13 @@
-ghost use Rattle.std.specs.Prelude.{◌≡◌, ◌<◌, length};
-ghost use Rattle.round_meter.specs.Rounds.{enabled_in};
+ghost use Rattle.std.specs.Prelude.{◌≡◌};
+ghost use Rattle.round_meter.specs.Rounds.{is_change};
 
-use amoebot_state::{Decider, Verdict, World};
+use amoebot_state::{Decider, Found, Verdict};
 
-/// Whether an amoebot is enabled in a world.
-pub(crate) fn is_enabled<D: Decider>(decider: &D, world: &World, bot: u16) -> bool
-    requires { bot < length world.now.bots }
-    ensures { result ≡ enabled_in (D.verdict decider.now) world.now bot }
+/// Whether an amoebot that is shown this is enabled.
+pub(crate) fn is_enabled<D: Decider>(decider: &D, found: &Found) -> bool
+    ensures { result ≡ is_change (D.verdict decider.now found.now) }
 {
-    match decider.decide(&world.found(bot)) {
+    match decider.decide(found) {
         Verdict::Change(_) => true,
         Verdict::Idle | Verdict::Failed(_) => false,
     }

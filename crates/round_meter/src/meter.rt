@@ -4,16 +4,16 @@ ghost use Rattle.amoebot_state.specs.declared.verdict.Verdict.TheVariants as ver
 ghost use Rattle.amoebot_state.specs.Configs.{Config};
 ghost use Rattle.amoebot_state.specs.Zones.{shown};
 ghost use Rattle.amoebot_state.specs.Steps.{Step, change_of};
-ghost use Rattle.serial_model.specs.Replays.{IsNoStep};
-ghost use Rattle.round_meter.specs.Meters.{IsMetered, waiting_of};
+ghost use Rattle.serial_model.specs.Replays.{IsNoStep, IsNoPlainStep};
+ghost use Rattle.round_meter.specs.Meters.{GoesOnBy, IsMetered, waiting_of};
 ghost use Rattle.round_meter.specs.Asking.{asked_each, first_tallied};
 ghost use Rattle.round_meter.specs.Tallies.{with_standings};
 
 use crate::enabled::is_enabled;
 use crate::near::ids_near;
 use crate::tally::Tally;
-use amoebot_state::{Decider, Entry, NoMemory, World, has_next, touches_zone};
-use serial_model::{Differs, decides_entry};
+use amoebot_state::{Decider, Entry, Found, NoMemory, PlainEntry, World, has_next, touches_zone};
+use serial_model::{Differs, decides_on, told_on};
 use std::alloc::Global;
 use std::marker::Model;
 
@@ -70,15 +70,45 @@ impl<'d, D: Decider> Meter<'d, D> {
             × (self.new ≡ self.old)) }
         ensures decider { self.new.decider ≡ self.old.decider }
     {
-        if !decides_entry(self.decider, &self.world, entry) {
+        let mut found = self.world.found(entry.bot);
+        if !decides_on(self.decider, &found, entry) {
             return Err(Differs { place: self.fed });
         }
-        self.enter(entry);
+        self.enter(entry, &mut found);
         Ok(())
     }
 
-    /// Goes on by an entry that is decided.
-    fn enter(&mut self, entry: &Entry)
+    /// Goes on by an entry without old values, of one of the world's amoebots: by the entry that it tells. Differs tells that it is no step
+    /// from the world that was reached, with the number of entries fed; the meter is unchanged then. It takes no memory.
+    pub fn follow(&mut self, plain: &PlainEntry) -> Result<(), Differs>
+        requires there { plain.now.bot < length self.old.state.world.bots }
+        requires few { self.old.state.fed + 1 < 2 ^ 32 }
+        ensures goes_on { OnOk result (GoesOnBy (D.verdict self.old.decider) plain.now self.old.state self.new.state) }
+        ensures fed { OnOk result (self.new.state.fed ≡ self.old.state.fed + 1) }
+        ensures size { length self.new.state.world.bots ≡ length self.old.state.world.bots }
+        ensures differs { IfErr result (λ e. (e.place ≡ self.old.state.fed)
+            × IsNoPlainStep (D.verdict self.old.decider) self.old.state.world plain.now
+            × (self.new ≡ self.old)) }
+        ensures decider { self.new.decider ≡ self.old.decider }
+    {
+        let mut found = self.world.found(plain.bot);
+        let Some(change) = told_on(self.decider, &found, plain) else {
+            return Err(Differs { place: self.fed });
+        };
+        let entry = Entry {
+            caller: plain.caller,
+            turn: plain.turn,
+            bot: plain.bot,
+            action: change.action,
+            moved: change.moved,
+            patch: change.patch,
+        };
+        self.enter(&entry, &mut found);
+        Ok(())
+    }
+
+    /// Goes on by an entry that is decided. `found` is room for what amoebots are shown.
+    fn enter(&mut self, entry: &Entry, found: &mut Found)
         requires there { entry.now.bot < length self.old.state.world.bots }
         requires few { self.old.state.fed + 1 < 2 ^ 32 }
         requires decided { D.verdict self.old.decider (shown self.old.state.world entry.now.bot) ≡ verdict.Change (change_of entry.now) }
@@ -96,7 +126,13 @@ impl<'d, D: Decider> Meter<'d, D> {
         let near = ids_near(&self.world, plain.pairs());
         self.world.apply(&entry.patch);
         self.tally.enter(entry.bot);
-        ask_each(&mut self.tally, self.decider, &self.world, near.as_slice());
+        ask_each(
+            &mut self.tally,
+            self.decider,
+            &self.world,
+            near.as_slice(),
+            found,
+        );
         self.tally.end_round();
         self.fed += 1;
     }
@@ -129,13 +165,19 @@ fn first_tally<D: Decider>(alloc: Global, decider: &D, world: &World) -> Result<
 {
     let mut tally = Tally::new(alloc);
     for bot in 0..world.bots() {
-        tally.push(is_enabled(decider, world, bot))?;
+        tally.push(is_enabled(decider, &world.found(bot)))?;
     }
     Ok(tally)
 }
 
-/// Asks these amoebots of the world again.
-fn ask_each<D: Decider>(tally: &mut Tally, decider: &D, world: &World, ids: &[u16])
+/// Asks these amoebots of the world again. What each is shown takes the place of what was found before.
+fn ask_each<D: Decider>(
+    tally: &mut Tally,
+    decider: &D,
+    world: &World,
+    ids: &[u16],
+    found: &mut Found,
+)
     requires there { All (λ i. i < length world.now.bots) ids.now }
     requires size { length tally.old.standings ≡ length world.now.bots }
     requires few { tally.old.rounds + 1 < 2 ^ 32 }
@@ -143,6 +185,7 @@ fn ask_each<D: Decider>(tally: &mut Tally, decider: &D, world: &World, ids: &[u1
         (asked_each (D.verdict decider.now) world.now (tally.old.rounds + 1) tally.old.standings ids.now) }
 {
     for id in ids {
-        tally.note(*id, is_enabled(decider, world, *id));
+        world.show(*id, found);
+        tally.note(*id, is_enabled(decider, found));
     }
 }

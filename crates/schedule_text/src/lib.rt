@@ -9,6 +9,3 @@ mod schedule;
 pub use laws::{lists_are_decided, schedules_are_decided};
 pub use lists::read_lists;
 pub use schedule::{Schedule, read_schedule};
-
-#[cfg(test)]
-mod tests;

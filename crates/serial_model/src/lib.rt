@@ -4,26 +4,28 @@
 ghost use Rattle.std.specs.Prelude.{◌≡◌, ◌<◌, length, IfNone, IfSome};
 ghost use Rattle.amoebot_state.specs.SerialTurns.{SerialTurn};
 ghost use Rattle.amoebot_state.specs.Steps.{Step, plain_entry};
-ghost use Rattle.serial_model.specs.Replays.{IsNoPlainStep};
+ghost use Rattle.serial_model.specs.Replays.{IsNoPlainStep, IsToldBy, entry_for};
 
 mod laws;
 mod replays;
 
 pub use amoebot_state::{Turned, serial_turn_is_unique};
-use amoebot_state::{Decider, Entry, PlainEntry, Verdict, World, has_next};
+use amoebot_state::{Change, Decider, Entry, Found, PlainEntry, Verdict, World, has_next};
 pub use laws::{
     first_no_plain_step_is_unique, first_no_step_is_unique, no_plain_step_is_another_verdict,
     no_step_is_another_verdict, plain_run_has_only_steps, plain_run_is_run, plain_run_is_unique,
     plain_run_or_first, plain_step_is_unique, run_has_only_steps, run_or_first_no_step,
 };
-use replays::make_told;
-pub use replays::{Differs, decides_entry, make_step, replay, replay_plain};
+use replays::make_told_on;
+pub use replays::{Differs, decides_entry, decides_on, make_step, replay, replay_plain, told_on};
 use std::marker::Model;
 
 /// A world that is changed one activation at a time.
 #[derive(Drop)]
 pub struct Serial {
     world: World,
+    /// Room for what amoebots are shown, if the world has one.
+    found: Option<Found>,
 }
 
 impl Model for Serial {
@@ -39,7 +41,12 @@ impl Serial {
     pub fn new(world: World) -> Serial
         ensures { result ≡ world }
     {
-        Serial { world }
+        let found = if world.bots() > 0 {
+            Some(world.found(0))
+        } else {
+            None
+        };
+        Serial { world, found }
     }
 
     /// One turn of a caller on an amoebot, which is one of the world's: what the amoebot is shown is decided on, and a change
@@ -78,7 +85,7 @@ impl Serial {
         ensures stays { IfNone result (self.new ≡ self.old) }
         ensures size { length self.new.bots ≡ length self.old.bots }
     {
-        let Some(change) = make_told(decider, &mut self.world, plain) else {
+        let Some(change) = self.make_told(decider, plain) else {
             return None;
         };
         Some(Entry {
@@ -89,6 +96,27 @@ impl Serial {
             moved: change.moved,
             patch: change.patch,
         })
+    }
+
+    /// Makes the step of an entry without old values, if there is one: the change that was decided.
+    fn make_told<D: Decider>(&mut self, decider: &D, plain: &PlainEntry) -> Option<Change>
+        requires { plain.now.bot < length self.old.bots }
+        ensures told { IfSome result (λ change. IsToldBy plain.now change) }
+        ensures step { IfSome result (λ change. Step (D.verdict decider.now) self.old (entry_for plain.now change) self.new) }
+        ensures none { IfNone result (IsNoPlainStep (D.verdict decider.now) self.old plain.now) }
+        ensures stays { IfNone result (self.new ≡ self.old) }
+        ensures size { length self.new.bots ≡ length self.old.bots }
+    {
+        match &mut self.found {
+            Some(found) => {
+                self.world.show(plain.bot, found);
+                make_told_on(decider, &mut self.world, plain, found)
+            }
+            None => {
+                let found = self.world.found(plain.bot);
+                make_told_on(decider, &mut self.world, plain, &found)
+            }
+        }
     }
 
     /// The world that was reached.
@@ -102,7 +130,7 @@ impl Serial {
     pub fn into_world(self) -> World
         ensures { result ≡ self }
     {
-        let Serial { world } = self;
+        let Serial { world, .. } = self;
         world
     }
 }

@@ -1,4 +1,4 @@
-ghost use Rattle.std.specs.Prelude.{◌≡◌, ◌<◌, length, Decides, IfNone, IfSome, IfOk, IfErr};
+ghost use Rattle.std.specs.Prelude.{◌≡◌, ◌≢◌, ◌<◌, length, Decides, IfNone, IfSome, IfOk, IfErr};
 ghost use Rattle.std.specs.Bool.{OnTrue, OnFalse};
 ghost use Rattle.std.specs.List.{All};
 ghost use Rattle.amoebot_state.specs.Pairs.{plain_patch, plain_triple};
@@ -8,7 +8,8 @@ ghost use Rattle.serial_model.specs.Replays.{AreCountable, IsNoStep, IsFirstNoSt
 ghost use Rattle.serial_model.specs.Replays.{IsFirstNoPlainStep, IsNoPlainStep, IsToldBy, PlainRun, PlainStep, entry_for};
 
 use amoebot_state::{
-    Cell, CellName, Change, Decider, Entry, Patch, PlainEntry, PlainPatch, Verdict, World, has_next,
+    Cell, CellName, Change, Decider, Entry, Found, Patch, PlainEntry, PlainPatch, Verdict, World,
+    has_next,
 };
 
 /// The entries are no run: the one at `place`, counted from 0, is the first that is no step.
@@ -25,9 +26,14 @@ pub fn replay<D: Decider>(decider: &D, start: World, entries: &[Entry]) -> Resul
     ensures run { IfOk result (λ world. Run (D.verdict decider.now) start entries.now world) }
     ensures differs { IfErr result (λ e. IsFirstNoStep (D.verdict decider.now) start entries.now e.place) }
 {
+    if entries.is_empty() {
+        return Ok(start);
+    }
+    let mut found = start.found(entries[0].bot);
     let mut world = start;
     for (place, entry) in entries.iter().enumerate() {
-        if !make_step(decider, &mut world, entry) {
+        world.show(entry.bot, &mut found);
+        if !make_step_on(decider, &mut world, entry, &found) {
             return Err(Differs {
                 place: place as u32,
             });
@@ -44,7 +50,20 @@ pub fn make_step<D: Decider>(decider: &D, world: &mut World, entry: &Entry) -> b
     ensures stays { OnFalse result (world.new ≡ world.old) }
     ensures size { length world.new.bots ≡ length world.old.bots }
 {
-    if !decides_entry(decider, world, entry) {
+    let found = world.found(entry.bot);
+    make_step_on(decider, world, entry, &found)
+}
+
+/// The same, where this is what the entry's amoebot is shown.
+fn make_step_on<D: Decider>(decider: &D, world: &mut World, entry: &Entry, found: &Found) -> bool
+    requires there { entry.now.bot < length world.old.bots }
+    requires found { found.now ≡ shown world.old entry.now.bot }
+    ensures step { OnTrue result (Step (D.verdict decider.now) world.old entry.now world.new) }
+    ensures none { OnFalse result (IsNoStep (D.verdict decider.now) world.old entry.now) }
+    ensures stays { OnFalse result (world.new ≡ world.old) }
+    ensures size { length world.new.bots ≡ length world.old.bots }
+{
+    if !decides_on(decider, found, entry) {
         return false;
     }
     has_next(decider);
@@ -59,8 +78,14 @@ pub fn decides_entry<D: Decider>(decider: &D, world: &World, entry: &Entry) -> b
     ensures { Decides result
         (D.verdict decider.now (shown world.now entry.now.bot) ≡ Verdict.Change (change_of entry.now)) }
 {
-    let found = world.found(entry.bot);
-    match decider.decide(&found) {
+    decides_on(decider, &world.found(entry.bot), entry)
+}
+
+/// Whether the decision on what was found is the change that the entry tells.
+pub fn decides_on<D: Decider>(decider: &D, found: &Found, entry: &Entry) -> bool
+    ensures { Decides result (D.verdict decider.now found.now ≡ Verdict.Change (change_of entry.now)) }
+{
+    match decider.decide(found) {
         Verdict::Change(change) => tells(entry, &change),
         Verdict::Idle | Verdict::Failed(_) => false,
     }
@@ -93,9 +118,14 @@ pub fn replay_plain<D: Decider>(
     ensures run { IfOk result (λ world. PlainRun (D.verdict decider.now) start entries.now world) }
     ensures differs { IfErr result (λ e. IsFirstNoPlainStep (D.verdict decider.now) start entries.now e.place) }
 {
+    if entries.is_empty() {
+        return Ok(start);
+    }
+    let mut found = start.found(entries[0].bot);
     let mut world = start;
     for (number, plain) in entries.iter().enumerate() {
-        if !makes_plain_step(decider, &mut world, plain) {
+        world.show(plain.bot, &mut found);
+        if !makes_plain_step(decider, &mut world, plain, &found) {
             return Err(Differs {
                 place: number as u32,
             });
@@ -104,39 +134,63 @@ pub fn replay_plain<D: Decider>(
     Ok(world)
 }
 
-/// Makes the step of an entry without old values, if there is one.
-fn makes_plain_step<D: Decider>(decider: &D, world: &mut World, plain: &PlainEntry) -> bool
-    requires { plain.now.bot < length world.old.bots }
+/// Makes the step of an entry without old values, if there is one, where this is what its amoebot is shown.
+fn makes_plain_step<D: Decider>(
+    decider: &D,
+    world: &mut World,
+    plain: &PlainEntry,
+    found: &Found,
+) -> bool
+    requires there { plain.now.bot < length world.old.bots }
+    requires found { found.now ≡ shown world.old plain.now.bot }
     ensures step { OnTrue result (PlainStep (D.verdict decider.now) world.old plain.now world.new) }
     ensures none { OnFalse result (IsNoPlainStep (D.verdict decider.now) world.old plain.now) }
     ensures size { length world.new.bots ≡ length world.old.bots }
 {
-    make_told(decider, world, plain).is_some()
+    make_told_on(decider, world, plain, found).is_some()
 }
 
-/// Makes the step of an entry without old values, if there is one: the change that was decided.
+/// Makes the step of an entry without old values, if there is one, where this is what its amoebot is shown: the change that was decided.
 #[inline(always)]
-pub(crate) fn make_told<D: Decider>(
+pub(crate) fn make_told_on<D: Decider>(
     decider: &D,
     world: &mut World,
     plain: &PlainEntry,
+    found: &Found,
 ) -> Option<Change>
-    requires { plain.now.bot < length world.old.bots }
+    requires there { plain.now.bot < length world.old.bots }
+    requires found { found.now ≡ shown world.old plain.now.bot }
     ensures told { IfSome result (λ change. IsToldBy plain.now change) }
     ensures step { IfSome result (λ change. Step (D.verdict decider.now) world.old (entry_for plain.now change) world.new) }
     ensures none { IfNone result (IsNoPlainStep (D.verdict decider.now) world.old plain.now) }
     ensures stays { IfNone result (world.new ≡ world.old) }
     ensures size { length world.new.bots ≡ length world.old.bots }
 {
-    let found = world.found(plain.bot);
     has_next(decider);
-    match decider.decide(&found) {
-        Verdict::Change(change) => {
-            if !tells_plain(plain, &change) {
-                return None;
-            }
+    world.keeps();
+    match told_on(decider, found, plain) {
+        Some(change) => {
             world.apply(&change.patch);
             Some(change)
+        }
+        None => None,
+    }
+}
+
+/// The change that is decided on what was found, if it is the one that the entry without old values tells.
+#[inline(always)]
+pub fn told_on<D: Decider>(decider: &D, found: &Found, plain: &PlainEntry) -> Option<Change>
+    ensures decided { IfSome result (λ change. D.verdict decider.now found.now ≡ Verdict.Change change) }
+    ensures told { IfSome result (λ change. IsToldBy plain.now change) }
+    ensures none { IfNone result ((change : Change) → IsToldBy plain.now change → D.verdict decider.now found.now ≢ Verdict.Change change) }
+{
+    match decider.decide(found) {
+        Verdict::Change(change) => {
+            if tells_plain(plain, &change) {
+                Some(change)
+            } else {
+                None
+            }
         }
         Verdict::Idle | Verdict::Failed(_) => None,
     }

@@ -12,10 +12,3 @@ pub use connected::is_connected;
 pub use hexagon::is_hexagon;
 pub use laws::{hexagon_laws, measures_are_decided, ring_laws};
 pub use values::count_value;
-
-#[cfg(test)]
-mod by_definition;
-#[cfg(test)]
-mod drawings;
-#[cfg(test)]
-mod tests;

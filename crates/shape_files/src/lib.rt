@@ -19,30 +19,3 @@ pub use parts::{Parts, Sections};
 pub use schedule_text::Schedule;
 pub use section_kind::{Form, Section};
 pub use shape_text::print_shape;
-
-#[cfg(test)]
-mod faults;
-#[cfg(test)]
-mod form_tables;
-#[cfg(test)]
-mod journals;
-#[cfg(test)]
-mod least_versions;
-#[cfg(test)]
-mod limits;
-#[cfg(test)]
-mod lists;
-#[cfg(test)]
-mod old_values;
-#[cfg(test)]
-mod pieces;
-#[cfg(test)]
-mod programs;
-#[cfg(test)]
-mod runs;
-#[cfg(test)]
-mod shapes;
-#[cfg(test)]
-mod tests;
-#[cfg(test)]
-mod walls;

@@ -10,6 +10,3 @@ pub use laws::{
 };
 pub use printing::{print_shape, put_shape};
 pub use shape::{read_final, read_shape};
-
-#[cfg(test)]
-mod tests;

@@ -1,6 +1,6 @@
 //! The parts of programs, all on line 0.
 
-ghost use Rattle.std.specs.Prelude.{◌≡◌, ◌∷◌, [], false, codes, IfOk};
+ghost use Rattle.std.specs.Prelude.{◌≡◌, ◌∷◌, [], false, codes, map, IfOk};
 ghost use Rattle.action_tree.specs.Trees as tree;
 ghost use Rattle.action_tree.specs.Views.{name_of, literal_of, guard_of, port_of, term_of, sum_of, stmt_of, stmts_of};
 ghost use Rattle.action_tree.specs.Views.{move_of, var_of, action_of};
@@ -39,12 +39,19 @@ pub(crate) fn one(alloc: Global, term: Term) -> Result<Sum, AllocError>
     })
 }
 
+/// A sum that is a number.
+pub(crate) fn number(alloc: Global, value: u32) -> Result<Sum, AllocError>
+    ensures { IfOk result (λ s. sum_of s ≡ sample.sum_of_term (tree.number (sample.literal value))) }
+{
+    one(alloc, Term::Number(literal(value)))
+}
+
 /// `TERM = NUMBER`
 pub(crate) fn is(alloc: Global, term: Term, value: u32) -> Result<Guard, AllocError>
     ensures { IfOk result (λ g. guard_of g ≡ sample.equals (term_of term) (tree.number (sample.literal value))) }
 {
-    let right = one(alloc, Term::Number(literal(value)))?;
-    Ok(Guard::Compare(one(alloc, term)?, Cmp::Eq, right))
+    let left = one(alloc, term)?;
+    Ok(Guard::Compare(left, Cmp::Eq, number(alloc, value)?))
 }
 
 /// `not GUARD`
@@ -66,6 +73,32 @@ pub(crate) fn either(alloc: Global, one: Guard, two: Guard) -> Result<Guard, All
     ensures { IfOk result (λ g. guard_of g ≡ sample.or (guard_of one ∷ guard_of two ∷ [])) }
 {
     Ok(Guard::Or(vec![in alloc; one, two]?))
+}
+
+/// `GUARD and GUARD and GUARD`
+pub(crate) fn all_three(
+    alloc: Global,
+    one: Guard,
+    two: Guard,
+    three: Guard,
+) -> Result<Guard, AllocError>
+    ensures { IfOk result (λ g. guard_of g ≡ sample.and (guard_of one ∷ guard_of two ∷ guard_of three ∷ [])) }
+{
+    Ok(Guard::And(vec![in alloc; one, two, three]?))
+}
+
+/// `GUARD and GUARD and GUARD and GUARD`
+pub(crate) fn all_four(
+    alloc: Global,
+    one: Guard,
+    two: Guard,
+    three: Guard,
+    four: Guard,
+) -> Result<Guard, AllocError>
+    ensures { IfOk result (λ g.
+        guard_of g ≡ sample.and (guard_of one ∷ guard_of two ∷ guard_of three ∷ guard_of four ∷ [])) }
+{
+    Ok(Guard::And(vec![in alloc; one, two, three, four]?))
 }
 
 /// `any p in ports ( GUARD )`
@@ -91,18 +124,30 @@ pub(crate) fn turned(alloc: Global, port: PortExpr, by: u32) -> Result<PortExpr,
     Ok(PortExpr::Turn(Box::new(alloc, port)?, literal(by)))
 }
 
-/// `NAME := TERM`
-pub(crate) fn put(alloc: Global, name: Word, term: Term) -> Result<Stmt, AllocError>
-    ensures { IfOk result (λ s. stmt_of s ≡ tree.put (name_of name) (sample.sum_of_term (term_of term))) }
-{
-    Ok(Stmt::Put(name, one(alloc, term)?))
-}
-
 /// `NAME := NUMBER`
 pub(crate) fn set_to(alloc: Global, name: Word, value: u32) -> Result<Stmt, AllocError>
     ensures { IfOk result (λ s. stmt_of s ≡ tree.put (name_of name) (sample.sum_of_term (tree.number (sample.literal value)))) }
 {
-    put(alloc, name, Term::Number(literal(value)))
+    Ok(Stmt::Put(name, number(alloc, value)?))
+}
+
+/// `STATEMENT ; STATEMENT`
+pub(crate) fn two_stmts(alloc: Global, one: Stmt, two: Stmt) -> Result<Vec<Stmt>, AllocError>
+    ensures { IfOk result (λ ss. map stmt_of ss.items ≡ stmt_of one ∷ stmt_of two ∷ []) }
+{
+    Ok(vec![in alloc; one, two]?)
+}
+
+/// `STATEMENT ; STATEMENT ; STATEMENT`
+pub(crate) fn three_stmts(
+    alloc: Global,
+    one: Stmt,
+    two: Stmt,
+    three: Stmt,
+) -> Result<Vec<Stmt>, AllocError>
+    ensures { IfOk result (λ ss. map stmt_of ss.items ≡ stmt_of one ∷ stmt_of two ∷ stmt_of three ∷ []) }
+{
+    Ok(vec![in alloc; one, two, three]?)
 }
 
 /// `var NAME NUMBER`

@@ -7,7 +7,7 @@ ghost use Rattle.action_tree.specs.declared.expression.PortSet.TheVariants.{Port
 ghost use Rattle.action_tree.specs.Shipped as sample;
 ghost use Rattle.shipped_programs.specs.Shipped.{run_ends, erode_guard, erode_body};
 
-use crate::build::{action, both, is, not, p, set_to, some_port, turned, var};
+use crate::build::{action, all_three, both, is, not, p, set_to, some_port, turned, var};
 use action_tree::{Action, Guard, Move, PortExpr, PortSet, Program, Stmt, Term, Var, Word};
 use std::alloc::{AllocError, Global};
 
@@ -52,14 +52,39 @@ fn is_candidate(alloc: Global, port: PortExpr) -> Result<Guard, AllocError>
 fn lead(alloc: Global) -> Result<Action, AllocError>
     ensures { IfOk result (λ a. action_of a ∷ [] ≡ take 1 sample.erosion.actions) }
 {
-    let others = some_port(alloc, is_candidate(alloc, p())?)?;
-    let guard = Guard::And(vec![in alloc;
-        is(alloc, Term::Own(cand()), 1)?,
-        is(alloc, Term::Own(leader()), 0)?,
-        not(alloc, others)?,
-    ]?);
-    let body = vec![in alloc; set_to(alloc, leader(), 1)?]?;
+    let guard = lead_guard(alloc)?;
+    let body = lead_body(alloc)?;
     Ok(action(Word::new(b"lead", 0), guard, body, Move::None))
+}
+
+fn lead_body(alloc: Global) -> Result<Vec<Stmt>, AllocError>
+    ensures { IfOk result (λ ss.
+        map stmt_of ss.items
+        ≡ tree.put (sample.example_name (codes "leader")) (sample.sum_of_term (tree.number (sample.literal 1))) ∷ []) }
+{
+    Ok(vec![in alloc; set_to(alloc, leader(), 1)?]?)
+}
+
+/// `cand = 1 and leader = 0 and not any p in ports ( p . cand = 1 )`
+fn lead_guard(alloc: Global) -> Result<Guard, AllocError>
+    ensures { IfOk result (λ g.
+        guard_of g
+        ≡ sample.and (sample.own_is (codes "cand") 1 ∷ sample.own_is (codes "leader") 0
+        ∷ tree.negation (sample.some_port (sample.there_is sample.p (codes "cand") 1)) ∷ [])) }
+{
+    let alone = no_other(alloc)?;
+    let candidate = is(alloc, Term::Own(cand()), 1)?;
+    let no_leader = is(alloc, Term::Own(leader()), 0)?;
+    all_three(alloc, candidate, no_leader, alone)
+}
+
+/// `not any p in ports ( p . cand = 1 )`
+fn no_other(alloc: Global) -> Result<Guard, AllocError>
+    ensures { IfOk result (λ g.
+        guard_of g ≡ tree.negation (sample.some_port (sample.there_is sample.p (codes "cand") 1))) }
+{
+    let other = is_candidate(alloc, p())?;
+    not(alloc, some_port(alloc, other)?)
 }
 
 fn erode(alloc: Global) -> Result<Action, AllocError>
@@ -76,11 +101,9 @@ fn erode(alloc: Global) -> Result<Action, AllocError>
 fn erode_guard(alloc: Global) -> Result<Guard, AllocError>
     ensures { IfOk result (λ g. guard_of g ≡ erode_guard) }
 {
-    both(
-        alloc,
-        is(alloc, Term::Own(cand()), 1)?,
-        is(alloc, ends(alloc)?, 1)?,
-    )
+    let once = is(alloc, ends(alloc)?, 1)?;
+    let candidate = is(alloc, Term::Own(cand()), 1)?;
+    both(alloc, candidate, once)
 }
 
 fn erode_body(alloc: Global) -> Result<Vec<Stmt>, AllocError>
@@ -101,7 +124,19 @@ fn ends(alloc: Global) -> Result<Term, AllocError>
 fn ends_a_run(alloc: Global) -> Result<Guard, AllocError>
     ensures { IfOk result (λ g. guard_of g ≡ run_ends) }
 {
-    let linked = Guard::Linked(turned(alloc, p(), 1)?);
-    let next = both(alloc, linked, is_candidate(alloc, turned(alloc, p(), 1)?)?)?;
-    both(alloc, is_candidate(alloc, p())?, not(alloc, next)?)
+    let last = not(alloc, candidate_follows(alloc)?)?;
+    let candidate = is_candidate(alloc, p())?;
+    both(alloc, candidate, last)
+}
+
+/// `linked turn p 1 and turn p 1 . cand = 1`
+fn candidate_follows(alloc: Global) -> Result<Guard, AllocError>
+    ensures { IfOk result (λ g.
+        guard_of g
+        ≡ sample.and (tree.tested tree.linked (tree.turned sample.p (sample.literal 1))
+        ∷ sample.there_is (tree.turned sample.p (sample.literal 1)) (codes "cand") 1 ∷ [])) }
+{
+    let port = turned(alloc, p(), 1)?;
+    let next = is_candidate(alloc, turned(alloc, p(), 1)?)?;
+    both(alloc, Guard::Linked(port), next)
 }

@@ -7,12 +7,12 @@ ghost use Rattle.action_tree.specs.Shipped as sample;
 ghost use Rattle.amoebot_state.specs.declared.bot.End.TheVariants.{Tail};
 ghost use Rattle.shipped_programs.specs.Shipped.{root_guard, root_body, follow_guard, follow_body, retire_guard};
 ghost use Rattle.shipped_programs.specs.Shipped.{retire_body, aimed_at, last_retired, next_is_still, go_guard, room};
-ghost use Rattle.shipped_programs.specs.Shipped.{drag_guard, drag_body, tail_follower, follower_turned, parent_turned};
+ghost use Rattle.shipped_programs.specs.Shipped.{drag_guard, drag_body, tail_follower, follower_turned};
 ghost use Rattle.shipped_programs.specs.Shipped.{rest_guard, waits, head_follower};
 
 use crate::build::{
-    action, both, either, first_port, is, literal, not, one, p, put, q, set_to, some_port, turned,
-    var,
+    action, all_four, all_three, both, either, first_port, is, literal, not, number, one, p, q,
+    some_port, three_stmts, turned, two_stmts, var,
 };
 use action_tree::{Action, Cmp, Guard, Move, Part, PortExpr, Program, Stmt, Sum, Term, Var, Word};
 use amoebot_state::End;
@@ -76,11 +76,26 @@ fn p_is(alloc: Global, one: u32, two: u32) -> Result<Guard, AllocError>
         ≡ sample.or (sample.there_is sample.p (codes "state") one
         ∷ sample.there_is sample.p (codes "state") two ∷ [])) }
 {
-    either(
-        alloc,
-        state_is(alloc, p(), one)?,
-        state_is(alloc, p(), two)?,
-    )
+    let one = state_is(alloc, p(), one)?;
+    let two = state_is(alloc, p(), two)?;
+    either(alloc, one, two)
+}
+
+/// `any p in ports ( p . state = NUMBER or p . state = NUMBER )`
+fn some_p_is(alloc: Global, one: u32, two: u32) -> Result<Guard, AllocError>
+    ensures { IfOk result (λ g.
+        guard_of g
+        ≡ sample.some_port (sample.or (sample.there_is sample.p (codes "state") one
+        ∷ sample.there_is sample.p (codes "state") two ∷ []))) }
+{
+    some_port(alloc, p_is(alloc, one, two)?)
+}
+
+/// `state = NUMBER`
+fn own_state_is(alloc: Global, value: u32) -> Result<Guard, AllocError>
+    ensures { IfOk result (λ g. guard_of g ≡ sample.own_is (codes "state") value) }
+{
+    is(alloc, Term::Own(state()), value)
 }
 
 /// `state = NUMBER or state = NUMBER`
@@ -88,8 +103,8 @@ fn in_state(alloc: Global, one: u32, two: u32) -> Result<Guard, AllocError>
     ensures { IfOk result (λ g.
         guard_of g ≡ sample.or (sample.own_is (codes "state") one ∷ sample.own_is (codes "state") two ∷ [])) }
 {
-    let one = is(alloc, Term::Own(state()), one)?;
-    let two = is(alloc, Term::Own(state()), two)?;
+    let one = own_state_is(alloc, one)?;
+    let two = own_state_is(alloc, two)?;
     either(alloc, one, two)
 }
 
@@ -105,15 +120,29 @@ fn points_here(alloc: Global, name: Word) -> Result<Guard, AllocError>
 fn root(alloc: Global) -> Result<Action, AllocError>
     ensures { IfOk result (λ a. action_of a ≡ sample.action (codes "root") root_guard root_body tree.no_move) }
 {
-    let body = vec![in alloc; set_to(alloc, parent(), 6)?, set_to(alloc, state(), 3)?]?;
-    Ok(action(Word::new(b"root", 0), root_guard(alloc)?, body, Move::None))
+    let guard = root_guard(alloc)?;
+    let body = root_body(alloc)?;
+    Ok(action(Word::new(b"root", 0), guard, body, Move::None))
 }
 
 fn root_guard(alloc: Global) -> Result<Guard, AllocError>
     ensures { IfOk result (λ g. guard_of g ≡ root_guard) }
 {
-    let beside = some_port(alloc, p_is(alloc, 1, 4)?)?;
-    Ok(Guard::And(vec![in alloc; Guard::Contracted, in_state(alloc, 0, 2)?, beside]?))
+    let waiting = in_state(alloc, 0, 2)?;
+    let beside = some_p_is(alloc, 1, 4)?;
+    all_three(alloc, Guard::Contracted, waiting, beside)
+}
+
+fn root_body(alloc: Global) -> Result<Vec<Stmt>, AllocError>
+    ensures { IfOk result (λ ss. map stmt_of ss.items ≡ root_body) }
+{
+    let no_port = number(alloc, 6)?;
+    let root = number(alloc, 3)?;
+    two_stmts(
+        alloc,
+        Stmt::Put(parent(), no_port),
+        Stmt::Put(state(), root),
+    )
 }
 
 fn follow(alloc: Global) -> Result<Action, AllocError>
@@ -130,17 +159,40 @@ fn follow(alloc: Global) -> Result<Action, AllocError>
 fn follow_guard(alloc: Global) -> Result<Guard, AllocError>
     ensures { IfOk result (λ g. guard_of g ≡ follow_guard) }
 {
-    let idle = is(alloc, Term::Own(state()), 0)?;
-    let beside = some_port(alloc, p_is(alloc, 2, 3)?)?;
-    Ok(Guard::And(vec![in alloc; Guard::Contracted, idle, beside]?))
+    let idle = own_state_is(alloc, 0)?;
+    let beside = some_p_is(alloc, 2, 3)?;
+    all_three(alloc, Guard::Contracted, idle, beside)
 }
 
 fn follow_body(alloc: Global) -> Result<Vec<Stmt>, AllocError>
     ensures { IfOk result (λ ss. map stmt_of ss.items ≡ follow_body) }
 {
-    let first = let_q(alloc, p_is(alloc, 2, 3)?)?;
-    let turned = put(alloc, parent(), Term::Dir(q()))?;
-    Ok(vec![in alloc; first, turned, set_to(alloc, state(), 2)?]?)
+    let_and_put(alloc, p_is(alloc, 2, 3)?, parent(), Term::Dir(q()), 2)
+}
+
+/// `let q := first p in ports ( GUARD ) ; NAME := TERM ; state := NUMBER`
+fn let_and_put(
+    alloc: Global,
+    guard: Guard,
+    name: Word,
+    term: Term,
+    next: u32,
+) -> Result<Vec<Stmt>, AllocError>
+    ensures { IfOk result (λ ss.
+        map stmt_of ss.items
+        ≡ tree.let_be (sample.example_name (codes "q")) (sample.first_port (guard_of guard))
+        ∷ tree.put (name_of name) (sample.sum_of_term (term_of term))
+        ∷ tree.put (sample.example_name (codes "state")) (sample.sum_of_term (tree.number (sample.literal next))) ∷ []) }
+{
+    let value = one(alloc, term)?;
+    let next = number(alloc, next)?;
+    let first = let_q(alloc, guard)?;
+    three_stmts(
+        alloc,
+        first,
+        Stmt::Put(name, value),
+        Stmt::Put(state(), next),
+    )
 }
 
 /// `let q := first p in ports ( GUARD )`
@@ -164,45 +216,71 @@ fn retire(alloc: Global) -> Result<Action, AllocError>
 fn retire_guard(alloc: Global) -> Result<Guard, AllocError>
     ensures { IfOk result (λ g. guard_of g ≡ retire_guard) }
 {
-    let root = is(alloc, Term::Own(state()), 3)?;
-    let beside = some_port(alloc, aimed_at(alloc)?)?;
-    Ok(Guard::And(vec![in alloc; Guard::Contracted, root, beside]?))
+    root_beside(alloc, aimed_at(alloc)?)
+}
+
+/// `contracted and state = 3 and any p in ports ( GUARD )`
+fn root_beside(alloc: Global, asked: Guard) -> Result<Guard, AllocError>
+    ensures { IfOk result (λ g.
+        guard_of g
+        ≡ sample.and (tree.atom tree.contracted ∷ sample.own_is (codes "state") 3 ∷ sample.some_port (guard_of asked) ∷ [])) }
+{
+    let beside = some_port(alloc, asked)?;
+    let root = own_state_is(alloc, 3)?;
+    all_three(alloc, Guard::Contracted, root, beside)
 }
 
 /// `( p . state = 1 or p . state = 4 ) and p . aim = peer_dir p`
 fn aimed_at(alloc: Global) -> Result<Guard, AllocError>
     ensures { IfOk result (λ g. guard_of g ≡ aimed_at) }
 {
-    both(alloc, p_is(alloc, 1, 4)?, points_here(alloc, aim())?)
+    let still = p_is(alloc, 1, 4)?;
+    let here = points_here(alloc, aim())?;
+    both(alloc, still, here)
 }
 
 fn retire_body(alloc: Global) -> Result<Vec<Stmt>, AllocError>
     ensures { IfOk result (λ ss. map stmt_of ss.items ≡ retire_body) }
 {
-    let first = let_q(alloc, last_retired(alloc)?)?;
-    let aimed = put(alloc, aim(), Term::Dir(turned(alloc, q(), 5)?))?;
-    Ok(vec![in alloc; first, aimed, set_to(alloc, state(), 4)?]?)
+    let last = last_retired(alloc)?;
+    let port = turned(alloc, q(), 5)?;
+    let_and_put(alloc, last, aim(), Term::Dir(port), 4)
 }
 
 /// `( p . state = 1 or p . state = 4 ) and not ( linked turn p 5 and ( turn p 5 . state = 1 or turn p 5 . state = 4 ) )`
 fn last_retired(alloc: Global) -> Result<Guard, AllocError>
     ensures { IfOk result (λ g. guard_of g ≡ last_retired) }
 {
-    let beside = both(
-        alloc,
-        Guard::Linked(turned(alloc, p(), 5)?),
-        next_is_still(alloc)?,
-    )?;
-    both(alloc, p_is(alloc, 1, 4)?, not(alloc, beside)?)
+    let last = not(alloc, still_follows(alloc)?)?;
+    let still = p_is(alloc, 1, 4)?;
+    both(alloc, still, last)
+}
+
+/// `linked turn p 5 and ( turn p 5 . state = 1 or turn p 5 . state = 4 )`
+fn still_follows(alloc: Global) -> Result<Guard, AllocError>
+    ensures { IfOk result (λ g.
+        guard_of g ≡ sample.and (tree.tested tree.linked (tree.turned sample.p (sample.literal 5)) ∷ next_is_still ∷ [])) }
+{
+    let port = turned(alloc, p(), 5)?;
+    let still = next_is_still(alloc)?;
+    both(alloc, Guard::Linked(port), still)
 }
 
 /// `turn p 5 . state = 1 or turn p 5 . state = 4`
 fn next_is_still(alloc: Global) -> Result<Guard, AllocError>
     ensures { IfOk result (λ g. guard_of g ≡ next_is_still) }
 {
-    let seed = state_is(alloc, turned(alloc, p(), 5)?, 1)?;
-    let retired = state_is(alloc, turned(alloc, p(), 5)?, 4)?;
+    let seed = next_is(alloc, 1)?;
+    let retired = next_is(alloc, 4)?;
     either(alloc, seed, retired)
+}
+
+/// `turn p 5 . state = NUMBER`
+fn next_is(alloc: Global, value: u32) -> Result<Guard, AllocError>
+    ensures { IfOk result (λ g.
+        guard_of g ≡ sample.there_is (tree.turned sample.p (sample.literal 5)) (codes "state") value) }
+{
+    state_is(alloc, turned(alloc, p(), 5)?, value)
 }
 
 fn go(alloc: Global) -> Result<Action, AllocError>
@@ -223,9 +301,7 @@ fn go(alloc: Global) -> Result<Action, AllocError>
 fn go_guard(alloc: Global) -> Result<Guard, AllocError>
     ensures { IfOk result (λ g. guard_of g ≡ go_guard) }
 {
-    let root = is(alloc, Term::Own(state()), 3)?;
-    let beside = some_port(alloc, room(alloc)?)?;
-    Ok(Guard::And(vec![in alloc; Guard::Contracted, root, beside]?))
+    root_beside(alloc, room(alloc)?)
 }
 
 /// `( p . state = 1 or p . state = 4 ) and free turn p 1`
@@ -256,40 +332,64 @@ fn drag(alloc: Global) -> Result<Action, AllocError>
 fn drag_guard(alloc: Global) -> Result<Guard, AllocError>
     ensures { IfOk result (λ g. guard_of g ≡ drag_guard) }
 {
-    let idle = some_port(alloc, state_is(alloc, p(), 0)?)?;
-    let none_idle = not(alloc, idle)?;
-    let behind = some_port(alloc, tail_follower(alloc)?)?;
-    Ok(Guard::And(vec![in alloc; Guard::Expanded, in_state(alloc, 2, 3)?, none_idle, behind]?))
+    let moving = in_state(alloc, 2, 3)?;
+    let alone = none_is_idle(alloc)?;
+    let behind = some_follower(alloc)?;
+    all_four(alloc, Guard::Expanded, moving, alone, behind)
+}
+
+/// `not any p in ports ( p . state = 0 )`
+fn none_is_idle(alloc: Global) -> Result<Guard, AllocError>
+    ensures { IfOk result (λ g.
+        guard_of g ≡ tree.negation (sample.some_port (sample.there_is sample.p (codes "state") 0))) }
+{
+    let idle = state_is(alloc, p(), 0)?;
+    not(alloc, some_port(alloc, idle)?)
+}
+
+/// A contracted follower of the tail is beside it.
+fn some_follower(alloc: Global) -> Result<Guard, AllocError>
+    ensures { IfOk result (λ g. guard_of g ≡ sample.some_port tail_follower) }
+{
+    some_port(alloc, tail_follower(alloc)?)
 }
 
 /// `not at_head p and p . state = 2 and not peer_expanded p and p . parent = peer_dir p`
 fn tail_follower(alloc: Global) -> Result<Guard, AllocError>
     ensures { IfOk result (λ g. guard_of g ≡ tail_follower) }
 {
-    let at_tail = not(alloc, Guard::AtHead(p()))?;
     let contracted = not(alloc, Guard::PeerExpanded(p()))?;
+    follower_at_tail(alloc, contracted)
+}
+
+/// `not at_head p and p . state = 2 and GUARD and p . parent = peer_dir p`
+fn follower_at_tail(alloc: Global, asked: Guard) -> Result<Guard, AllocError>
+    ensures { IfOk result (λ g.
+        guard_of g
+        ≡ sample.and (tree.negation (tree.tested tree.at_head sample.p) ∷ sample.there_is sample.p (codes "state") 2
+        ∷ guard_of asked
+        ∷ sample.equals (tree.of_port sample.p (sample.example_name (codes "parent"))) (tree.direction tree.peer_side sample.p)
+        ∷ [])) }
+{
+    let at_tail = not(alloc, Guard::AtHead(p()))?;
     let follower = state_is(alloc, p(), 2)?;
-    Ok(Guard::And(vec![in alloc;
-        at_tail,
-        follower,
-        contracted,
-        points_here(alloc, parent())?,
-    ]?))
+    let here = points_here(alloc, parent())?;
+    all_four(alloc, at_tail, follower, asked, here)
 }
 
 fn drag_body(alloc: Global) -> Result<Vec<Stmt>, AllocError>
     ensures { IfOk result (λ ss. map stmt_of ss.items ≡ drag_body) }
 {
+    let turned = parent_turned(alloc)?;
     let first = let_q(alloc, tail_follower(alloc)?)?;
-    Ok(vec![in alloc; first, parent_turned(alloc)?]?)
+    two_stmts(alloc, first, Stmt::PutOf(q(), parent(), turned))
 }
 
-/// `q . parent := mod6 ( inner - dir q + peer_dir q + 3 )`
-fn parent_turned(alloc: Global) -> Result<Stmt, AllocError>
-    ensures { IfOk result (λ s. stmt_of s ≡ parent_turned) }
+/// `mod6 ( inner - dir q + peer_dir q + 3 )`
+fn parent_turned(alloc: Global) -> Result<Sum, AllocError>
+    ensures { IfOk result (λ s. sum_of s ≡ sample.sum_of_term (tree.mod6 follower_turned)) }
 {
-    let turned = one(alloc, Term::Mod6(follower_turned(alloc)?))?;
-    Ok(Stmt::PutOf(q(), parent(), turned))
+    one(alloc, Term::Mod6(follower_turned(alloc)?))
 }
 
 /// `inner - dir q + peer_dir q + 3`
@@ -327,27 +427,22 @@ fn rest_guard(alloc: Global) -> Result<Guard, AllocError>
     ensures { IfOk result (λ g. guard_of g ≡ rest_guard) }
 {
     let free = not(alloc, waits(alloc)?)?;
-    Ok(Guard::And(vec![in alloc; Guard::Expanded, in_state(alloc, 2, 3)?, free]?))
+    let moving = in_state(alloc, 2, 3)?;
+    all_three(alloc, Guard::Expanded, moving, free)
 }
 
 /// There is an idle neighbour, or a follower of the tail.
 fn waits(alloc: Global) -> Result<Guard, AllocError>
     ensures { IfOk result (λ g. guard_of g ≡ waits) }
 {
-    let idle_or_follower = either(alloc, state_is(alloc, p(), 0)?, head_follower(alloc)?)?;
-    some_port(alloc, idle_or_follower)
+    let idle = state_is(alloc, p(), 0)?;
+    let follower = head_follower(alloc)?;
+    some_port(alloc, either(alloc, idle, follower)?)
 }
 
 /// `not at_head p and p . state = 2 and peer_head p and p . parent = peer_dir p`
 fn head_follower(alloc: Global) -> Result<Guard, AllocError>
     ensures { IfOk result (λ g. guard_of g ≡ head_follower) }
 {
-    let at_tail = not(alloc, Guard::AtHead(p()))?;
-    let follower = state_is(alloc, p(), 2)?;
-    Ok(Guard::And(vec![in alloc;
-        at_tail,
-        follower,
-        Guard::PeerHead(p()),
-        points_here(alloc, parent())?,
-    ]?))
+    follower_at_tail(alloc, Guard::PeerHead(p()))
 }

@@ -25,6 +25,3 @@ pub use refusal::{ReadRefusal, Refusal, RefusalKind};
 pub use terminals::{number, number_up_to, refused, the_line, this_token};
 pub use token::{Token, TokenKind};
 pub use tokens::{Tokens, is_same};
-
-#[cfg(test)]
-mod tests;

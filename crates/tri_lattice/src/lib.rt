@@ -13,6 +13,3 @@ pub use area::Area;
 pub use dir::Dir;
 pub use laws::{area_laws, connected_laws, lattice_laws};
 pub use node::{Node, adjacent, distance};
-
-#[cfg(test)]
-mod tests;

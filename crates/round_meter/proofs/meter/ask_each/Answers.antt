@@ -1,6 +1,7 @@
 use Rattle.std.proofs.Common.{◌∙◌, ◌+◌, length, take, get_or, ap, sym, arith}
 use Rattle.std.specs.Prelude.{slice_set}
 use Rattle.std.proofs.lemmas.List.Sums.{fold_more}
+use Rattle.round_meter.specs.Rounds.{is_change}
 use Rattle.round_meter.specs.Meters.{standing_of}
 use Rattle.round_meter.specs.Tallies.{Tallied}
 use Rattle.round_meter.specs.Asking.{after_asking, asked_again}
@@ -26,7 +27,7 @@ loop-id-preserved g c =
     record {
       standings =
           ap (λ (t : Tallied). t.standings) c.note.ensures
-          ∙ ap (λ now. slice_set was.standings id (after_asking (was.rounds + 1) now (standing_of was.standings id))) c.is_enabled.ensures
+          ∙ ap (λ now. slice_set was.standings id (after_asking (was.rounds + 1) now (standing_of was.standings id))) (c.is_enabled.ensures ∙ ap (λ s. is_change (f s)) c.show.ensures)
           ∙ ap (λ r. asked_again f world (r + 1) was.standings id) c.loop-id.invariant.rounds
           ∙ ap (λ ss. asked_again f world round ss id) c.loop-id.invariant.standings
           ∙ sym (fold_more (asked_again f world round) c.args.tally.now.standings c.args.ids.now c.loop-id.id-index 0 c.loop-id-test.true);

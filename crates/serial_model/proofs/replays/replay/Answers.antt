@@ -11,8 +11,8 @@ loop-place-preserved g c =
     let before = take c.loop-place.place c.args.entries.now in
     let below : c.loop-place.place < length c.args.entries.now = omega arith in
     record {
-      run = subst (λ es. Run f c.args.start es c.make_step.new.world)
+      run = subst (λ es. Run f c.args.start es c.make_step_on.new.world)
           (ap (λ e. before ++ e ∷ []) c.index-entries-place.is ∙ sym (take_more c.args.entries.now c.loop-place.place entry below))
-          (run_push f c.args.start c.loop-place.world c.make_step.new.world before entry c.loop-place.invariant.run c.if-not-make_step.ensures.step);
-      size = c.make_step.ensures.size ∙ c.loop-place.invariant.size;
+          (run_push f c.args.start c.loop-place.world c.make_step_on.new.world before entry c.loop-place.invariant.run c.if-not-make_step_on.ensures.step);
+      size = c.make_step_on.ensures.size ∙ c.loop-place.invariant.size;
     }
