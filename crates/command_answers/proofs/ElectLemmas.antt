@@ -1,16 +1,12 @@
 -- What `elect` answers is what it owes, each world of its run is elected, and it ends as `replay` does.
-use Rattle.std.proofs.Common.{◌≡◌, ◌≢◌, ◌⊎◌, ◌<◌, ℕ, Bool, List, length, Option, Some, None, Result, Ok, Err, inl, inr, ap, refl, sym, subst, ◌∙◌}
-use Rattle.std.specs.Prelude.{IfErr, IfSome, IsSome, MatchResult, OnOk, ⊤}
+use Rattle.std.proofs.Common.{◌≡◌, ◌≢◌, ◌⊎◌, ℕ, List, length, Option, Some, None, Result, Ok, Err, inl, inr, ap, refl, sym, subst, ◌∙◌}
+use Rattle.std.specs.Prelude.{IfErr, IfSome, MatchResult, OnOk, ⊤}
 use Rattle.std.proofs.lemmas.Option.{same_Some}
 use Rattle.amoebot_state.specs.declared.verdict.Entry.{Entry}
 use Rattle.amoebot_state.specs.declared.verdict.PlainEntry.{PlainEntry}
-use Rattle.amoebot_state.proofs.Options.{not_none}
-use Rattle.node_text.specs.Parts.{has_old_values}
-use Rattle.journal_text.specs.Texts.{written_full, written_plain}
-use Rattle.std.specs.List.{All}
-use Rattle.std.proofs.lemmas.Bool.{cases_Bool}
 use Rattle.amoebot_state.specs.Configs.{Config, IsValid}
 use Rattle.serial_model.specs.declared.replays.Differs.{Differs}
+use Rattle.action_tree.specs.Trees.{Program}
 use Rattle.shape_checks.specs.Values.{value_count}
 use Rattle.action_meaning.specs.Verdicts.{verdict_shown}
 use Rattle.election_law.specs.Elections.{IsErosion, IsReadyStart, cand_var, leader_of}
@@ -18,12 +14,13 @@ use Rattle.election_law.specs.declared.refusal.ElectRefusal.{ElectRefusal}
 use Rattle.election_law.specs.declared.refusal.ElectRefusal.TheVariants.{NoMemory}
 use Rattle.election_law.specs.Starts.{AreBotsReady, IsFirstUnready}
 use Rattle.election_law.specs.States.{ElectionState}
-use Rattle.election_law.specs.Laws.{ErosionElects, ErosionOrNot, ReadyHasNone, ReadyOrUnready}
+use Rattle.election_law.specs.Laws.{ErosionElects, ReadyHasNone}
 use Rattle.shape_files.specs.declared.section_kind.Form.TheVariants as form
-use Rattle.shape_files.specs.Documents.{Contents, HasContents, actions_of, bots_of}
+use Rattle.shape_files.specs.Documents.{Contents, HasContents}
 use Rattle.shape_files.specs.LeastVersions.{DecidedFromEach}
-use Rattle.shape_files.specs.Fitting.{AreEntriesOf, DocumentsAreSound, FitTogether, HasJournal, HasJournalBy, IsWorldShape}
+use Rattle.shape_files.specs.Fitting.{DocumentsAreSound, IsWorldShape}
 use Rattle.command_runs.specs.Elect.{election_text}
+use Rattle.command_runs.specs.Laws.{ReplayIsDecided}
 use Rattle.command_runs.specs.Replay.{Agrees, DiffersAt, agrees_line, differs_line}
 use Rattle.command_words.specs.declared.command.DocumentCommand.TheVariants.{Elect, Replay}
 use Rattle.command_answers.specs.declared.answer.Answer.{Answer}
@@ -33,12 +30,14 @@ use Rattle.command_answers.specs.Answers.{IsAnswerTo, differs_with, elected_with
 use Rattle.command_answers.specs.Commands.{IsDocumentOf}
 use Rattle.command_answers.specs.ElectLaws.{ElectEndsAsReplay, ElectionsAreWon, IsWonElection}
 use Rattle.command_answers.specs.Lines.{bad_start, not_erosion, refusal_line}
-use Rattle.command_answers.specs.Outcomes.{DocumentRecord, IsOutcome, JournalAgrees, JournalDiffers, TellsEntries, agreeing, differing, no_erosion, not_ready, not_elected, elected}
+use Rattle.command_answers.specs.Outcomes.{DocumentRecord, IsOutcome, JournalAgrees, JournalDiffers, in_full, in_plain, agreeing, differing, no_erosion, not_ready, not_elected, elected}
 use Rattle.command_answers.specs.Owed.{served}
 use Rattle.command_answers.specs.Reads.{whole}
 use Rattle.command_answers.specs.RenewLaws.{IsOwedFor}
+use Rattle.command_answers.specs.Told.{TellsElection, TellsJournal, TellsPlainElection, of_agreeing, of_differing, of_following, of_straying}
 use Rattle.command_answers.proofs.Outcomes.{documents_have_outcomes}
 use Rattle.command_answers.proofs.OwedTexts.{same_answer}
+use Rattle.command_answers.proofs.RecordedLemmas.{of_journal}
 
 -- ---- what is answered
 
@@ -59,22 +58,22 @@ module _ (a : Contents) (d : DocumentRecord a) (answer : Answer) where
   tells_election erodes ready es agrees is = same_answer Elect a answer (elected_with (value_count d.final cand_var 1) (leader_of d.final)) is (λ bytes h.
       served Elect bytes a status.Done None (election_text (value_count d.final cand_var 1) (leader_of d.final)) h (elected d es erodes ready agrees))
 
-  -- what is told of the steps of an election that began
-  pub tells_steps : IsErosion d.program → IsReadyStart d.start → (e : ElectionState) → e ≡ record { program = d.program; world = d.start; steps = 0 }
-      → (es : List Entry) → TellsEntries a es
-      → ((place : ℕ) → DiffersAt (verdict_shown d.program) d.start es d.final place → JournalDiffers a d place)
-      → (made : Result ⊤ Differs) (world : Config)
-      → OnOk made (Agrees (verdict_shown e.program) e.world es d.final)
-      → OnOk made (world ≡ d.final)
-      → IfErr made (λ x. DiffersAt (verdict_shown e.program) e.world es d.final x.place)
-      → MatchResult made (λ _. answer ≡ elected_with (value_count world cand_var 1) (leader_of world)) (λ x. answer ≡ differs_with x.place)
-      → IsAnswerTo Elect a answer
-  tells_steps erodes ready e began es told journal (Ok u) world agrees reached differs is =
-      let run = subst (λ (x : ElectionState). Agrees (verdict_shown x.program) x.world es d.final) began agrees in
-      tells_election erodes ready es (record { told = told; agrees = run }) (is ∙ ap (λ (c : Config). elected_with (value_count c cand_var 1) (leader_of c)) reached)
-  tells_steps erodes ready e began es told journal (Err x) world agrees reached differs is =
-      let by = subst (λ (z : ElectionState). DiffersAt (verdict_shown z.program) z.world es d.final x.place) began differs in
-      tells_difference erodes ready x.place (journal x.place by) is
+  -- what is told of the journal of an election that began
+  tells_full : IsErosion d.program → IsReadyStart d.start → (es : List Entry) → a.entries ≡ Some es → TellsElection d.program d.start d.final es answer → IsAnswerTo Elect a answer
+  tells_full erodes ready es its (of_agreeing run is) = tells_election erodes ready es (record { told = inl its; agrees = run }) is
+  tells_full erodes ready es its (of_differing place differs is) = tells_difference erodes ready place (in_full es place its differs) is
+
+  tells_plain : ReplayIsDecided → IsErosion d.program → IsReadyStart d.start → (ps : List PlainEntry) → a.plain ≡ Some ps → TellsPlainElection d.program d.start d.final ps answer → IsAnswerTo Elect a answer
+  tells_plain decided erodes ready ps its (of_following es same run (of_agreeing agrees is)) = tells_election erodes ready es (record { told = inr (its ∙ ap Some (sym same)); agrees = run }) is
+  tells_plain decided erodes ready ps its (of_following es same run (of_differing place differs is)) = absurd (decided.exclusive (verdict_shown d.program) d.start d.final es place run differs)
+  tells_plain decided erodes ready ps its (of_straying place differs is) = tells_difference erodes ready place (in_plain ps place its differs) is
+
+  pub tells_journal : ReplayIsDecided → IsErosion d.program → IsReadyStart d.start → (e : ElectionState) → e ≡ record { program = d.program; world = d.start; steps = 0 }
+      → TellsJournal (TellsElection e.program e.world d.final) (TellsPlainElection e.program e.world d.final) a.entries a.plain answer → IsAnswerTo Elect a answer
+  tells_journal decided erodes ready e began told =
+      of_journal (TellsElection d.program d.start d.final) (TellsPlainElection d.program d.start d.final) (IsAnswerTo Elect a answer) answer a.entries a.plain
+      (tells_full erodes ready) (tells_plain decided erodes ready)
+      (subst (λ (x : ElectionState). TellsJournal (TellsElection x.program x.world d.final) (TellsPlainElection x.program x.world d.final) a.entries a.plain answer) began told)
 
   -- a start that is refused for something else than memory
   pub tells_refusal : IsErosion d.program → ReadyHasNone → (e : ElectRefusal) → IsFirstUnready d.start e ⊎ ((e ≡ NoMemory) × AreBotsReady d.start)
@@ -82,44 +81,15 @@ module _ (a : Contents) (d : DocumentRecord a) (answer : Answer) where
   tells_refusal erodes none e (inl first) is = tells_bad_start erodes (λ ready. none d.start e ready first) is.1
   tells_refusal erodes none e (inr short) is = absurd (is.0 short.0)
 
--- ---- the journal
-
--- a journal without old values is there where one with them is not
-pub plain_there : (a : Contents) → HasJournal a → a.entries ≡ None → IsSome a.plain
-plain_there a has none = elim (cases_Bool (has_old_values a.version)) [
-  | inl is ↦ absurd (not_none a.entries none (subst (λ (b : Bool). HasJournalBy b a) is has))
-  | inr without ↦ subst (λ (b : Bool). HasJournalBy b a) without has
-]
-
--- the amoebots of its entries are the shape's
-pub full_bots : (a : Contents) (start world : Config) (es : List Entry) → FitTogether a → a.world ≡ Some start → a.entries ≡ Some es → world ≡ start → All (λ (e : Entry). e.bot < length world.bots) es
-full_bots a start world es fits its_shape its same =
-    let are = subst (λ (o : Option (List Entry)). IfSome o (AreEntriesOf written_full (bots_of a.world) (actions_of a.checked))) its fits.entries in
-    let there = subst (λ (o : Option Config). All (λ (e : Entry). e.bot < bots_of o) es) its_shape are.there in
-    subst (λ (c : Config). All (λ (e : Entry). e.bot < length c.bots) es) (sym same) there
-
-pub plain_bots : (a : Contents) (start world : Config) (ps : List PlainEntry) → FitTogether a → a.world ≡ Some start → a.plain ≡ Some ps → world ≡ start → All (λ (p : PlainEntry). p.bot < length world.bots) ps
-plain_bots a start world ps fits its_shape its same =
-    let are = subst (λ (o : Option (List PlainEntry)). IfSome o (AreEntriesOf written_plain (bots_of a.world) (actions_of a.checked))) its fits.plain in
-    let there = subst (λ (o : Option Config). All (λ (p : PlainEntry). p.bot < bots_of o) ps) its_shape are.there in
-    subst (λ (c : Config). All (λ (p : PlainEntry). p.bot < length c.bots) ps) (sym same) there
-
--- ---- something is told
-
--- a document is refused, or its journal is told
-pub some_election : ErosionOrNot → ReadyOrUnready → ReadyHasNone → (a : Contents) (d : DocumentRecord a) → IsValid d.start
-    → ((es : List Entry) × JournalAgrees a d es) ⊎ ((place : ℕ) × JournalDiffers a d place)
-    → (s : Status) × (text : List ℕ) × IsOutcome a Elect s None text
-some_election programs starts none a d valid journal = elim (programs d.program) [
-  | inr other ↦ (status.Refused not_erosion, refusal_line not_erosion, no_erosion d other)
-  | inl erodes ↦ elim (starts d.start valid) [
-    | inr first ↦ (status.Refused bad_start, refusal_line bad_start, not_ready d erodes (λ ready. none d.start first.0 ready first.1))
-    | inl ready ↦ elim journal [
-      | inl by ↦ (status.Done, election_text (value_count d.final cand_var 1) (leader_of d.final), elected d by.0 erodes ready by.1)
-      | inr by ↦ (status.Differs by.0, differs_line by.0, not_elected d by.0 erodes ready by.1)
-    ]
-  ]
-]
+-- what is told of the steps of its entries
+pub tells_steps : (p : Program) (start : Config) (es : List Entry) (final : Config) (answer : Answer) (made : Result ⊤ Differs) (world : Config)
+    → OnOk made (Agrees (verdict_shown p) start es final)
+    → OnOk made (world ≡ final)
+    → IfErr made (λ x. DiffersAt (verdict_shown p) start es final x.place)
+    → MatchResult made (λ _. answer ≡ elected_with (value_count world cand_var 1) (leader_of world)) (λ x. answer ≡ differs_with x.place)
+    → TellsElection p start final es answer
+tells_steps p start es final answer (Ok u) world agrees reached differs is = of_agreeing agrees (is ∙ ap (λ (c : Config). elected_with (value_count c cand_var 1) (leader_of c)) reached)
+tells_steps p start es final answer (Err x) world agrees reached differs is = of_differing x.place differs is
 
 -- ---- elections are won
 

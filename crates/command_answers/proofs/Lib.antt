@@ -18,6 +18,8 @@ pub mod MarkLemmas
 pub mod Interleaved
 pub mod Replayed
 pub mod Renewed
+pub mod RecordedLemmas
+pub mod Told
 pub mod ElectSteps
 pub mod ElectLemmas
 pub mod CommandDocuments

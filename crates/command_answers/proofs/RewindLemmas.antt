@@ -13,13 +13,16 @@ use Rattle.shape_files.specs.LeastVersions.{LaterIsDocument}
 use Rattle.shape_text.specs.Texts.{shape_text}
 use Rattle.command_runs.specs.Replay.{differs_line}
 use Rattle.command_words.specs.declared.command.DocumentCommand.TheVariants.{Rewind}
+use Rattle.command_answers.specs.declared.answer.Answer.{Answer}
 use Rattle.command_answers.specs.declared.status.Status.TheVariants as status
 use Rattle.command_answers.specs.Lines.{no_such_place, refusal_line}
 use Rattle.command_answers.specs.Owed.{served}
 use Rattle.command_answers.specs.Outcomes.{DocumentRecord, no_place, unwound, not_unwound}
 use Rattle.command_answers.specs.Answers.{IsAnswerTo, differs_with, refused_with, unwound_with}
 use Rattle.command_answers.specs.RewindLaws.{RewindUndoesReplay}
+use Rattle.command_answers.specs.Told.{TellsBack, of_way_back, of_way_ended}
 use Rattle.command_answers.proofs.CommandDocuments.{of_form}
+use Rattle.command_answers.proofs.OwedTexts.{same_answer}
 
 module _ (a : Contents) (d : DocumentRecord a) (es : List Entry) (place : ℕ) (its_journal : a.entries ≡ Some es) where
   pub has_no_place : length es < place → IsAnswerTo (Rewind place) a (refused_with no_such_place)
@@ -32,10 +35,14 @@ module _ (a : Contents) (d : DocumentRecord a) (es : List Entry) (place : ℕ) (
       served (Rewind place) bytes a status.Done None (shape_text (codes "shape") (length d.program.vars) world) h
       (unwound d es place world its_journal within is)
 
-  pub unwinds_not : place ≤ length es → (k : ℕ) → IsUnwound (verdict_shown d.program) d.start d.final es place (Err k)
+  unwinds_not : place ≤ length es → (k : ℕ) → IsUnwound (verdict_shown d.program) d.start d.final es place (Err k)
       → IsAnswerTo (Rewind place) a (differs_with k)
   unwinds_not within k is bytes h =
       served (Rewind place) bytes a (status.Differs k) None (differs_line k) h (not_unwound d es place k its_journal within is)
+
+  pub tells_back : (answer : Answer) → place ≤ length es → TellsBack d.program d.start d.final es place answer → IsAnswerTo (Rewind place) a answer
+  tells_back answer within (of_way_back world is same) = same_answer (Rewind place) a answer _ same (unwinds within world is)
+  tells_back answer within (of_way_ended k is same) = same_answer (Rewind place) a answer _ same (unwinds_not within k is)
 
 pub rewind_undoes_replay : LaterIsDocument → DocumentsAreSound → RewindUndoesReplay
 rewind_undoes_replay later sound bytes a d es place world h its_journal run there =

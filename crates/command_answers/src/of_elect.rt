@@ -1,6 +1,6 @@
 //! The command `elect`: the candidates and the leader at the end of an election.
 
-ghost use Rattle.std.specs.Prelude.{◌≡◌, ◌≢◌, ◌<◌, length, IfOk, IfErr, IfSome, MatchResult, OnOk};
+ghost use Rattle.std.specs.Prelude.{◌≡◌, ◌≢◌, ◌<◌, None, length, IfOk, IfErr, IfSome, IsSome, MatchResult, OnOk};
 ghost use Rattle.std.specs.List.{All};
 ghost use Rattle.serial_model.specs.Replays.{AreCountable};
 ghost use Rattle.shape_checks.specs.Values.{value_count};
@@ -12,13 +12,15 @@ ghost use Rattle.command_runs.specs.Replay.{Agrees, DiffersAt};
 ghost use Rattle.command_answers.specs.Answers.{IsAnswerTo, differs_with, elected_with, refused_with};
 ghost use Rattle.command_answers.specs.Commands.{form_of};
 ghost use Rattle.command_answers.specs.Lines.{bad_start};
+ghost use Rattle.command_answers.specs.Told.{TellsElection, TellsJournal, TellsPlainElection};
 
 use crate::answer::{Answer, differ, done, refuse};
-use action_eval::Runner;
+use crate::recorded::{Recorded, follow, recorded_in};
 use amoebot_state::{Entry, NoMemory, World};
-use command_runs::{follow_all, print_election, replay_is_decided};
+use command_runs::{print_election, replay_is_decided};
 use command_words::DocumentCommand;
 use election_law::{ElectRefusal, Election, is_erosion, start_laws};
+use journal_text::{Entries, PlainEntries};
 use serial_model::Differs;
 use shape_files::Parts;
 use std::alloc::Global;
@@ -31,42 +33,76 @@ pub(crate) fn answer_elect(alloc: Global, parts: Parts) -> Result<Answer, NoMemo
 {
     start_laws();
     replay_is_decided();
-    let Parts {
-        checked,
-        world,
+    let Recorded {
+        runner,
+        start,
+        last,
         entries,
         plain,
-        final_world,
-        ..
-    } = parts;
-    let runner = Runner::new(checked.unwrap());
-    let start = world.unwrap();
-    let last = final_world.unwrap();
+    } = recorded_in(parts);
     if !is_erosion(runner.checked().program()) {
         return refuse(alloc, whole_document(RefusalKind::NotErosion));
     }
-    let mut election = match Election::open(alloc, runner, start) {
-        Ok(election) => election,
-        Err(refusal) => return refuse_start(alloc, refusal),
-    };
+    match Election::open(alloc, runner, start) {
+        Ok(election) => elect(alloc, election, entries, plain, &last),
+        Err(refusal) => refuse_start(alloc, refusal),
+    }
+}
+
+/// The answer to the journal of an election that begins, whose amoebots are those of its world.
+fn elect(
+    alloc: Global,
+    election: Election,
+    entries: Option<Entries>,
+    plain: Option<PlainEntries>,
+    last: &World,
+) -> Result<Answer, NoMemory>
+    requires full { IfSome entries (λ es. All (λ e. e.bot < length election.world.bots) es × AreCountable es) }
+    requires told { IfSome plain (λ ps. All (λ p. p.bot < length election.world.bots) ps × AreCountable ps) }
+    requires one { entries ≡ None → IsSome plain }
+    requires begun { election.steps ≡ 0 }
+    ensures { IfOk result (TellsJournal
+        (TellsElection election.program election.world last.now)
+        (TellsPlainElection election.program election.world last.now) entries plain) }
+{
     match entries {
-        Some(journal) => {
-            let made = make_steps(&mut election, journal.entries(), &last);
-            tell_election(alloc, &election, made)
-        }
-        None => {
-            let journal = plain.unwrap();
-            let taken = election.world().copy(alloc)?;
-            let followed = follow_all(alloc, election.runner(), taken, journal.entries(), &last)?;
-            drop(journal);
-            match followed {
-                Ok(entries) => {
-                    let made = make_steps(&mut election, entries.as_slice(), &last);
-                    tell_election(alloc, &election, made)
-                }
-                Err(differs) => differ(alloc, differs.place),
-            }
-        }
+        Some(journal) => elect_full(alloc, election, journal.entries(), last),
+        None => elect_plain(alloc, election, plain.unwrap(), last),
+    }
+}
+
+/// The answer to entries with their old values.
+fn elect_full(
+    alloc: Global,
+    mut election: Election,
+    entries: &[Entry],
+    last: &World,
+) -> Result<Answer, NoMemory>
+    requires there { All (λ e. e.bot < length election.world.bots) entries.now }
+    requires few { AreCountable entries.now }
+    requires begun { election.steps ≡ 0 }
+    ensures { IfOk result (TellsElection election.program election.world last.now entries.now) }
+{
+    let made = make_steps(&mut election, entries, last);
+    tell_election(alloc, &election, made)
+}
+
+/// The answer to a journal without old values.
+fn elect_plain(
+    alloc: Global,
+    election: Election,
+    journal: PlainEntries,
+    last: &World,
+) -> Result<Answer, NoMemory>
+    requires there { All (λ p. p.bot < length election.world.bots) journal }
+    requires few { AreCountable journal }
+    requires begun { election.steps ≡ 0 }
+    ensures { IfOk result (TellsPlainElection election.program election.world last.now journal) }
+{
+    let followed = follow(alloc, election.runner(), election.world(), journal, last)?;
+    match followed {
+        Ok(entries) => elect_full(alloc, election, entries.as_slice(), last),
+        Err(differs) => differ(alloc, differs.place),
     }
 }
 

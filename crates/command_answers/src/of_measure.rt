@@ -19,14 +19,23 @@ pub(crate) fn answer_measure(alloc: Global, parts: Parts) -> Result<Answer, NoMe
     requires { Fits (form_of DocumentCommand.Measure) (contents parts) }
     ensures { IfOk result (IsAnswerTo DocumentCommand.Measure (contents parts)) }
 {
+    let (world, final_world) = shapes_of(parts);
+    let last = last_shape(world, final_world);
+    let text = print_measures(alloc, &last)?;
+    Ok(done(text))
+}
+
+/// The shape at the start, and the one at the end.
+fn shapes_of(parts: Parts) -> (Option<World>, Option<World>)
+    ensures first { (contents parts).world ≡ result.0 }
+    ensures last { (contents parts).final_world ≡ result.1 }
+{
     let Parts {
         world,
         final_world,
         ..
     } = parts;
-    let last = last_shape(world, final_world);
-    let text = print_measures(alloc, &last)?;
-    Ok(done(text))
+    (world, final_world)
 }
 
 /// The shape at the end, if there is one, and else the one at the start.

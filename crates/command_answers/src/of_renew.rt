@@ -1,16 +1,21 @@
 //! The command `renew`: the journal of a document is written with the old values.
 
-ghost use Rattle.std.specs.Prelude.{◌≡◌, IfOk};
+ghost use Rattle.std.specs.Prelude.{◌≡◌, ◌<◌, length, IfOk};
+ghost use Rattle.std.specs.List.{All};
+ghost use Rattle.serial_model.specs.Replays.{AreCountable};
 ghost use Rattle.shape_files.specs.Fitting.{Fits};
 ghost use Rattle.shape_files.specs.Views.{contents};
 ghost use Rattle.command_answers.specs.Answers.{IsAnswerTo, renewed_with};
 ghost use Rattle.command_answers.specs.Commands.{form_of};
+ghost use Rattle.command_answers.specs.Told.{TellsRun, TellsPlainRun};
 
 use crate::answer::{Answer, differ, done};
+use crate::recorded::{Recorded, follow, recorded_in};
 use action_eval::Runner;
 use amoebot_state::{Entry, NoMemory, World};
-use command_runs::{compare, follow_all, print_renewed};
+use command_runs::{compare, print_renewed};
 use command_words::DocumentCommand;
+use journal_text::PlainEntries;
 use shape_files::Parts;
 use std::alloc::Global;
 
@@ -19,35 +24,56 @@ pub(crate) fn answer_renew(alloc: Global, parts: Parts) -> Result<Answer, NoMemo
     requires { Fits (form_of DocumentCommand.Renew) (contents parts) }
     ensures { IfOk result (IsAnswerTo DocumentCommand.Renew (contents parts)) }
 {
-    let Parts {
-        checked,
-        world,
+    let Recorded {
+        runner,
+        start,
+        last,
         entries,
         plain,
-        final_world,
-        ..
-    } = parts;
-    let runner = Runner::new(checked.unwrap());
-    let start = world.unwrap();
-    let last = final_world.unwrap();
-    let taken = start.copy(alloc)?;
+    } = recorded_in(parts);
     match entries {
-        Some(journal) => {
-            let entries = journal.entries();
-            match compare(&runner, taken, entries, &last) {
-                Ok(()) => renew(alloc, &runner, &start, entries, &last),
-                Err(differs) => differ(alloc, differs.place),
-            }
-        }
-        None => {
-            let journal = plain.unwrap();
-            let followed = follow_all(alloc, &runner, taken, journal.entries(), &last)?;
-            drop(journal);
-            match followed {
-                Ok(entries) => renew(alloc, &runner, &start, entries.as_slice(), &last),
-                Err(differs) => differ(alloc, differs.place),
-            }
-        }
+        Some(journal) => renew_full(alloc, &runner, &start, journal.entries(), &last),
+        None => renew_plain(alloc, &runner, &start, plain.unwrap(), &last),
+    }
+}
+
+/// The answer to entries with their old values, whose amoebots are the start's.
+fn renew_full(
+    alloc: Global,
+    runner: &Runner,
+    start: &World,
+    entries: &[Entry],
+    last: &World,
+) -> Result<Answer, NoMemory>
+    requires there { All (λ e. e.bot < length start.now.bots) entries.now }
+    requires few { AreCountable entries.now }
+    ensures { IfOk result (TellsRun runner.now start.now entries.now last.now
+        (λ a. a ≡ renewed_with runner.now start.now entries.now last.now)) }
+{
+    let taken = start.copy(alloc)?;
+    match compare(runner, taken, entries, last) {
+        Ok(()) => renew(alloc, runner, start, entries, last),
+        Err(differs) => differ(alloc, differs.place),
+    }
+}
+
+/// The answer to a journal without old values, whose amoebots are the start's.
+fn renew_plain(
+    alloc: Global,
+    runner: &Runner,
+    start: &World,
+    journal: PlainEntries,
+    last: &World,
+) -> Result<Answer, NoMemory>
+    requires there { All (λ p. p.bot < length start.now.bots) journal }
+    requires few { AreCountable journal }
+    ensures { IfOk result (TellsPlainRun runner.now start.now journal last.now
+        (λ es a. a ≡ renewed_with runner.now start.now es last.now)) }
+{
+    let followed = follow(alloc, runner, start, journal, last)?;
+    match followed {
+        Ok(entries) => renew(alloc, runner, start, entries.as_slice(), last),
+        Err(differs) => differ(alloc, differs.place),
     }
 }
 

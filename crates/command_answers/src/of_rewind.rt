@@ -1,15 +1,19 @@
 //! The command `rewind`: the shape at a place of a journal, seen from the final shape.
 
-ghost use Rattle.std.specs.Prelude.{◌≡◌, ◌≤◌, IfOk, length};
+ghost use Rattle.std.specs.Prelude.{◌≡◌, ◌<◌, ◌≤◌, IfOk, length};
+ghost use Rattle.std.specs.List.{All};
+ghost use Rattle.serial_model.specs.Replays.{AreCountable};
 ghost use Rattle.shape_files.specs.Fitting.{Fits};
 ghost use Rattle.shape_files.specs.Views.{contents};
 ghost use Rattle.command_answers.specs.Answers.{IsAnswerTo, unwound_with};
 ghost use Rattle.command_answers.specs.Commands.{form_of, least_for};
 ghost use Rattle.command_answers.specs.Lines.{no_such_place};
+ghost use Rattle.command_answers.specs.Told.{TellsBack};
 
 use crate::answer::{Answer, differ, done, refuse};
+use crate::recorded::{Recorded, recorded_in};
 use action_eval::Runner;
-use amoebot_state::{NoMemory, World};
+use amoebot_state::{Entry, NoMemory, World};
 use command_words::DocumentCommand;
 use rewind_log::unwind;
 use shape_files::Parts;
@@ -24,23 +28,37 @@ pub(crate) fn answer_rewind(alloc: Global, place: u32, parts: Parts) -> Result<A
     requires least { least_for (DocumentCommand.Rewind place) ≤ (contents parts).version }
     ensures { IfOk result (IsAnswerTo (DocumentCommand.Rewind place) (contents parts)) }
 {
-    let Parts {
-        checked,
-        world,
+    let Recorded {
+        runner,
+        start,
+        last,
         entries,
-        final_world,
         ..
-    } = parts;
-    let runner = Runner::new(checked.unwrap());
-    let start = world.unwrap();
-    let last = final_world.unwrap();
+    } = recorded_in(parts);
     let journal = entries.unwrap();
     let entries = journal.entries();
     if (place as usize) > entries.len() {
         return refuse(alloc, bad_place());
     }
-    match unwind(&runner, &start, last, entries, place) {
-        Ok(shape) => show_shape(alloc, &runner, &shape),
+    rewind_to(alloc, &runner, &start, last, entries, place)
+}
+
+/// The answer to a place that the journal has.
+fn rewind_to(
+    alloc: Global,
+    runner: &Runner,
+    start: &World,
+    last: World,
+    entries: &[Entry],
+    place: u32,
+) -> Result<Answer, NoMemory>
+    requires there { All (λ e. e.bot < length start.now.bots) entries.now }
+    requires few { AreCountable entries.now }
+    requires within { place ≤ length entries.now }
+    ensures { IfOk result (TellsBack runner.now start.now last entries.now place) }
+{
+    match unwind(runner, start, last, entries, place) {
+        Ok(shape) => show_shape(alloc, runner, &shape),
         Err(differs) => differ(alloc, differs.place),
     }
 }

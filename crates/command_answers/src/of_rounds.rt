@@ -8,12 +8,15 @@ ghost use Rattle.shape_files.specs.Views.{contents};
 ghost use Rattle.command_answers.specs.Answers.{IsAnswerTo};
 ghost use Rattle.command_answers.specs.Commands.{form_of};
 ghost use Rattle.command_answers.specs.Counts.{TellsCount};
+ghost use Rattle.command_answers.specs.Told.{TellsPlainRun};
 
 use crate::answer::{Answer, differ, done};
+use crate::recorded::{Recorded, follow, recorded_in};
 use action_eval::Runner;
 use amoebot_state::{Entry, NoMemory, World};
-use command_runs::{count_rounds, follow_all, print_rounds, replay_is_decided};
+use command_runs::{count_rounds, print_rounds, replay_is_decided};
 use command_words::DocumentCommand;
+use journal_text::PlainEntries;
 use shape_files::Parts;
 use std::alloc::Global;
 
@@ -23,29 +26,35 @@ pub(crate) fn answer_rounds(alloc: Global, parts: Parts) -> Result<Answer, NoMem
     ensures { IfOk result (IsAnswerTo DocumentCommand.Rounds (contents parts)) }
 {
     replay_is_decided();
-    let Parts {
-        checked,
-        world,
+    let Recorded {
+        runner,
+        start,
+        last,
         entries,
         plain,
-        final_world,
-        ..
-    } = parts;
-    let runner = Runner::new(checked.unwrap());
-    let start = world.unwrap();
-    let last = final_world.unwrap();
+    } = recorded_in(parts);
     match entries {
         Some(journal) => tell_count(alloc, &runner, start, journal.entries(), &last),
-        None => {
-            let journal = plain.unwrap();
-            let taken = start.copy(alloc)?;
-            let followed = follow_all(alloc, &runner, taken, journal.entries(), &last)?;
-            drop(journal);
-            match followed {
-                Ok(entries) => tell_count(alloc, &runner, start, entries.as_slice(), &last),
-                Err(differs) => differ(alloc, differs.place),
-            }
-        }
+        None => count_plain(alloc, &runner, start, plain.unwrap(), &last),
+    }
+}
+
+/// The answer to a journal without old values, whose amoebots are the start's.
+fn count_plain(
+    alloc: Global,
+    runner: &Runner,
+    start: World,
+    journal: PlainEntries,
+    last: &World,
+) -> Result<Answer, NoMemory>
+    requires there { All (λ p. p.bot < length start.bots) journal }
+    requires few { AreCountable journal }
+    ensures { IfOk result (TellsPlainRun runner.now start journal last.now (λ es. TellsCount runner.now start es last.now)) }
+{
+    let followed = follow(alloc, runner, &start, journal, last)?;
+    match followed {
+        Ok(entries) => tell_count(alloc, runner, start, entries.as_slice(), last),
+        Err(differs) => differ(alloc, differs.place),
     }
 }
 

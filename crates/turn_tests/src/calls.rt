@@ -6,7 +6,7 @@ use crate::fixtures::turn_of;
 use crate::runs::{check_turns, worked};
 use activation::Gate;
 use amoebot_state::{Decider, Found, Verdict};
-use claim_core::{Lists, Mark};
+use claim_core::{Lists, Mark, Marks};
 use claim_rule::{Field, Seat};
 use claim_tests::{field_of, seat_of};
 use small_worlds::{Idler, Marker, lists_of, standing, world_in};
@@ -179,13 +179,9 @@ impl Gate for Register {
     }
 }
 
-/// In twenty runs of four workers on three amoebots in a row, each turn that is not Busy comes to the gate, and no other does.
-#[test]
-fn each_turn_that_is_not_busy_comes_to_the_gate_once(rt: HostRuntime) -> Result<(), Fail> {
-    let bots = [standing(2, 3, 0), standing(3, 3, 0), standing(4, 3, 0)];
-    let ids: &[&[u16]] = &[&[0, 1, 2], &[1, 2], &[2, 0, 1], &[1]];
-    for _run in 0..20 {
-        let gate = Register {
+impl Register {
+    fn new() -> Register {
+        Register {
             calls: AtomicU64::new(0),
             came: [
                 AtomicU64::new(0),
@@ -193,25 +189,46 @@ fn each_turn_that_is_not_busy_comes_to_the_gate_once(rt: HostRuntime) -> Result<
                 AtomicU64::new(0),
                 AtomicU64::new(0),
             ],
-        };
-        let worked = worked(&rt, rt.alloc(), &Marker, &bots, 12, ids, &gate)?;
-        let marks = &worked.report.turns;
-        assert_eq!(rt; marks.callers(), 4);
+        }
+    }
+
+    /// Whether this turn came.
+    fn has(&self, caller: u8, turn: u32) -> bool {
+        match self.came.get(usize::from(caller)) {
+            Some(turns) => (turns.load(Ordering::SeqCst) >> (turn % 64)) % 2 == 1,
+            None => false,
+        }
+    }
+
+    /// Each turn that is not Busy came, of twelve for each caller, and no other did.
+    fn is_of(&self, marks: &Marks) -> bool {
         let mut calls: u64 = 0;
         for caller in 0..marks.callers() {
-            let turns = gate.came.get(usize::from(caller)).ok_or("a caller")?;
-            let came = turns.load(Ordering::SeqCst);
-            assert_eq!(rt; marks.count(caller), 12);
+            if marks.count(caller) != 12 {
+                return false;
+            }
             for turn in 0..marks.count(caller) {
                 let is_busy = matches!(marks.mark(caller, turn), Mark::Busy { .. });
-                let has_come = (came >> (turn % 64)) % 2 == 1;
-                assert!(rt; has_come != is_busy);
-                if has_come {
-                    calls = calls.wrapping_add(1);
+                if self.has(caller, turn) == is_busy {
+                    return false;
                 }
+                calls = calls.saturating_add(u64::from(!is_busy));
             }
         }
-        assert_eq!(rt; gate.calls.load(Ordering::SeqCst), calls);
+        self.calls.load(Ordering::SeqCst) == calls
+    }
+}
+
+/// In twenty runs of four workers on three amoebots in a row, each turn that is not Busy comes to the gate, and no other does.
+#[test]
+fn each_turn_that_is_not_busy_comes_to_the_gate_once(rt: HostRuntime) -> Result<(), Fail> {
+    let bots = [standing(2, 3, 0), standing(3, 3, 0), standing(4, 3, 0)];
+    let ids: &[&[u16]] = &[&[0, 1, 2], &[1, 2], &[2, 0, 1], &[1]];
+    for _run in 0..20 {
+        let gate = Register::new();
+        let worked = worked(&rt, rt.alloc(), &Marker, &bots, 12, ids, &gate)?;
+        let marks = &worked.report.turns;
+        assert!(rt; marks.callers() == 4 && gate.is_of(marks));
         check_turns(&rt, &worked)?;
     }
     Ok(())

@@ -1,8 +1,8 @@
 //! Workers that wait for one another in each turn.
 use crate::runs::{check_turns, work_over, worked};
 use activation::{Gate, NoGate};
-use amoebot_state::{CellName, Decider, End, Found, Port, Verdict, World};
-use claim_core::Mark;
+use amoebot_state::{CellName, Decider, End, Failure, Found, Port, Verdict, World};
+use claim_core::{Mark, Marks, Report};
 use small_worlds::{Expander, Marker, lists_of, standing};
 use std::alloc::Global;
 use std::sync::atomic::{AtomicBool, Ordering};
@@ -19,27 +19,52 @@ const EXPANDER: Expander = Expander {
     },
 };
 
+/// Whether each caller has these marks.
+fn have_marks(marks: &Marks, wanted: &[&[Mark]]) -> bool {
+    if usize::from(marks.callers()) != wanted.len() {
+        return false;
+    }
+    for (caller, own) in wanted.iter().enumerate() {
+        if !has_marks(marks, caller as u8, own) {
+            return false;
+        }
+    }
+    true
+}
+
+fn has_marks(marks: &Marks, caller: u8, wanted: &[Mark]) -> bool {
+    if caller >= marks.callers() || marks.count(caller) as usize != wanted.len() {
+        return false;
+    }
+    for (turn, mark) in wanted.iter().enumerate() {
+        if marks.mark(caller, turn as u32) != *mark {
+            return false;
+        }
+    }
+    true
+}
+
+const DONE_0: Mark = Mark::Done { place: 0 };
+
+const DONE_1: Mark = Mark::Done { place: 1 };
+
+const IDLE_1: Mark = Mark::Idle { place: 1 };
+
+const IDLE_2: Mark = Mark::Idle { place: 2 };
+
+/// Each expands in its first turn, in either order, and then rests. They meet in each turn, so both have expanded before a second turn.
+static EITHER_FIRST: [[&[Mark]; 2]; 2] = [
+    [&[DONE_0, IDLE_2, IDLE_2], &[DONE_1, IDLE_2, IDLE_2]],
+    [&[DONE_1, IDLE_2, IDLE_2], &[DONE_0, IDLE_2, IDLE_2]],
+];
+
 #[test]
 fn two_workers_far_from_each_other_meet_in_each_turn(rt: HostRuntime) -> Result<(), Fail> {
     let gate = MeetGate::new(2, 50_000_000);
     let bots = [standing(1, 1, 0), standing(6, 6, 0)];
     let worked = worked(&rt, rt.alloc(), &EXPANDER, &bots, 3, &[&[0], &[1]], &gate)?;
-    assert!(rt; gate.met());
     let marks = &worked.report.turns;
-    assert_eq!(rt; marks.callers(), 2);
-    for caller in 0..marks.callers() {
-        assert_eq!(rt; marks.count(caller), 3);
-        for turn in 0..marks.count(caller) {
-            let mark = marks.mark(caller, turn);
-            let is_right = match mark {
-                Mark::Done { .. } => turn == 0,
-                Mark::Idle { .. } => turn == 1 || turn == 2,
-                _ => false,
-            };
-            assert!(rt; is_right);
-        }
-    }
-    assert_eq!(rt; worked.report.journal.entries().len(), 2);
+    assert!(rt; gate.met() && EITHER_FIRST.iter().any(|wanted| have_marks(marks, wanted)));
     check_turns(&rt, &worked)
 }
 
@@ -76,6 +101,22 @@ impl Gate for Holding {
     }
 }
 
+/// Caller 1 is refused the amoebot of caller 0 behind its own first entry, and caller 0 commits later.
+static ONE_IS_HELD: [&[Mark]; 2] = [
+    &[DONE_1, IDLE_2, IDLE_2],
+    &[
+        DONE_0,
+        Mark::Busy {
+            cell: CellName::Body(0),
+            by_caller: 0,
+            by_turn: 0,
+            by_bot: 0,
+            place: 1,
+        },
+        IDLE_1,
+    ],
+];
+
 #[test]
 fn a_turn_is_busy_while_another_worker_holds_its_amoebot(rt: HostRuntime) -> Result<(), Fail> {
     let gate = Holding {
@@ -83,43 +124,9 @@ fn a_turn_is_busy_while_another_worker_holds_its_amoebot(rt: HostRuntime) -> Res
         passed: AtomicBool::new(false),
     };
     let bots = [standing(1, 1, 0), standing(6, 6, 0)];
-    let worked = worked(
-        &rt,
-        rt.alloc(),
-        &EXPANDER,
-        &bots,
-        3,
-        &[&[0], &[1, 0, 1]],
-        &gate,
-    )?;
-    let wanted = [
-        [
-            Mark::Done { place: 1 },
-            Mark::Idle { place: 2 },
-            Mark::Idle { place: 2 },
-        ],
-        [
-            Mark::Done { place: 0 },
-            Mark::Busy {
-                cell: CellName::Body(0),
-                by_caller: 0,
-                by_turn: 0,
-                by_bot: 0,
-                place: 1,
-            },
-            Mark::Idle { place: 1 },
-        ],
-    ];
-    let marks = &worked.report.turns;
-    assert_eq!(rt; marks.callers(), 2);
-    for caller in 0..marks.callers() {
-        assert_eq!(rt; marks.count(caller), 3);
-        for turn in 0..marks.count(caller) {
-            let row = wanted.get(usize::from(caller)).ok_or("a row")?;
-            let mark = row.get(turn as usize).ok_or("a mark")?;
-            assert!(rt; marks.mark(caller, turn) == *mark);
-        }
-    }
+    let lists: &[&[u16]] = &[&[0], &[1, 0, 1]];
+    let worked = worked(&rt, rt.alloc(), &EXPANDER, &bots, 3, lists, &gate)?;
+    assert!(rt; have_marks(&worked.report.turns, &ONE_IS_HELD));
     check_turns(&rt, &worked)
 }
 
@@ -167,91 +174,74 @@ fn scattered(alloc: Global) -> Result<World, Fail> {
     Ok(World::new(alloc, area, [1, 0, 0, 0, 0, 0, 0, 0], bots.as_slice())?)
 }
 
+/// A list for each of sixteen callers.
+static SIXTEEN: [&[u16]; 16] = [
+    &[0],
+    &[1],
+    &[2],
+    &[3],
+    &[4],
+    &[5],
+    &[6],
+    &[7],
+    &[8],
+    &[9],
+    &[10],
+    &[11],
+    &[12],
+    &[13],
+    &[14],
+    &[15],
+];
+
 #[test]
 fn sixteen_workers_meet_in_each_turn(rt: HostRuntime) -> Result<(), Fail> {
     let gate = MeetGate::new(16, 50_000_000);
     let world = scattered(rt.alloc())?;
-    let lists = lists_of(
-        rt.alloc(),
-        2,
-        &world,
-        &[
-            &[0],
-            &[1],
-            &[2],
-            &[3],
-            &[4],
-            &[5],
-            &[6],
-            &[7],
-            &[8],
-            &[9],
-            &[10],
-            &[11],
-            &[12],
-            &[13],
-            &[14],
-            &[15],
-        ],
-    )?;
+    let lists = lists_of(rt.alloc(), 2, &world, &SIXTEEN)?;
     let worked = work_over(&rt, rt.alloc(), &Marker, world, &lists, &gate)?;
-    assert!(rt; gate.met());
-    assert_eq!(rt; worked.report.journal.entries().len(), 16);
+    assert!(rt; gate.met() && worked.report.journal.entries().len() == 16);
     check_turns(&rt, &worked)
 }
 
+/// How many turns there are, and the lists, where nobody has a turn; and no list or no turn is left.
+static NO_TURNS: [(u32, &[&[u16]], &[&[Mark]]); 2] = [
+    (3, &[], &[]),
+    (0, &[&[0], &[0]], &[&[], &[]]),
+];
+
 #[test]
-fn without_a_list_the_world_stays_and_nobody_has_a_turn(rt: HostRuntime) -> Result<(), Fail> {
-    let worked = worked(
-        &rt,
-        rt.alloc(),
-        &EXPANDER,
-        &[standing(1, 1, 0)],
-        3,
-        &[],
-        &NoGate,
-    )?;
-    assert_eq!(rt; worked.report.turns.callers(), 0);
-    assert!(rt; worked.report.journal.entries().is_empty());
-    assert!(rt; worked.report.world.same(worked.report.journal.first()));
+fn without_a_list_or_a_turn_the_world_stays(rt: HostRuntime) -> Result<(), Fail> {
+    for (turns, ids, wanted) in &NO_TURNS {
+        let bots = [standing(1, 1, 0)];
+        let worked = worked(&rt, rt.alloc(), &EXPANDER, &bots, *turns, ids, &NoGate)?;
+        assert!(rt; stays(&worked.report) && have_marks(&worked.report.turns, wanted));
+    }
     Ok(())
 }
 
-#[test]
-fn without_a_turn_the_world_stays(rt: HostRuntime) -> Result<(), Fail> {
-    let worked = worked(
-        &rt,
-        rt.alloc(),
-        &EXPANDER,
-        &[standing(1, 1, 0)],
-        0,
-        &[&[0], &[0]],
-        &NoGate,
-    )?;
-    assert_eq!(rt; worked.report.turns.callers(), 2);
-    assert!(rt; worked.report.journal.entries().is_empty());
-    assert!(rt; worked.report.world.same(worked.report.journal.first()));
-    check_turns(&rt, &worked)
+fn stays(report: &Report) -> bool {
+    report.journal.entries().is_empty() && report.world.same(report.journal.first())
 }
+
+/// The first stands behind the second, and fails twice; the second expands, and then it is idle.
+static ONE_CALLER: [&[Mark]; 1] = [&[
+    Mark::Failed {
+        failure: Failure::Occupied,
+        place: 0,
+    },
+    DONE_0,
+    Mark::Failed {
+        failure: Failure::Occupied,
+        place: 1,
+    },
+    IDLE_1,
+]];
 
 #[test]
 fn a_caller_alone_is_never_busy(rt: HostRuntime) -> Result<(), Fail> {
     let bots = [standing(1, 1, 0), standing(2, 1, 0)];
     let worked = worked(&rt, rt.alloc(), &EXPANDER, &bots, 4, &[&[0, 1]], &NoGate)?;
-    let marks = &worked.report.turns;
-    assert_eq!(rt; marks.callers(), 1);
-    for caller in 0..marks.callers() {
-        assert_eq!(rt; marks.count(caller), 4);
-        for turn in 0..marks.count(caller) {
-            // The first stands behind the second, and fails twice; the second expands, and then it is idle.
-            let is_right = match marks.mark(caller, turn) {
-                Mark::Done { place } => turn == 1 && place == 0,
-                Mark::Idle { place } => turn == 3 && place == 1,
-                Mark::Failed { .. } => turn == 0 || turn == 2,
-                Mark::Busy { .. } => false,
-            };
-            assert!(rt; is_right);
-        }
-    }
+    assert!(rt; have_marks(&worked.report.turns, &ONE_CALLER));
     check_turns(&rt, &worked)
 }

@@ -7,5 +7,5 @@ use Rattle.command_answers.proofs.of_check.answer_check.Goals as goal
 
 pub returns : goal.returns
 returns c = same_answer Check (contents c.args.parts) _ _ c.done.ensures
-    (is_checked (contents c.args.parts) c.in_ok-text.text c.unwrap.result c.unwrap.ensures
-    (c.in_ok-text.ensures ∙ ap (check_text (contents c.args.parts).version) c.program-2.ensures.program))
+    (is_checked (contents c.args.parts) c.in_ok-text.text c.checked_of-checked.result c.checked_of-checked.ensures
+    (c.in_ok-text.ensures ∙ ap (check_text (contents c.args.parts).version) c.program.ensures.program))
