@@ -11,10 +11,10 @@ ghost use Rattle.command_answers.specs.Counts.{TellsCount};
 ghost use Rattle.command_answers.specs.Told.{TellsPlainRun};
 
 use crate::answer::{Answer, differ, done};
-use crate::recorded::{Recorded, follow, recorded_in};
+use crate::recorded::{Recorded, recorded_in};
 use action_eval::Runner;
 use amoebot_state::{Entry, NoMemory, World};
-use command_runs::{count_rounds, print_rounds, replay_is_decided};
+use command_runs::{count_plain_rounds, count_rounds, print_rounds, replay_is_decided};
 use command_words::DocumentCommand;
 use journal_text::PlainEntries;
 use shape_files::Parts;
@@ -51,9 +51,11 @@ fn count_plain(
     requires few { AreCountable journal }
     ensures { IfOk result (TellsPlainRun runner.now start journal last.now (λ es. TellsCount runner.now start es last.now)) }
 {
-    let followed = follow(alloc, runner, &start, journal, last)?;
-    match followed {
-        Ok(entries) => tell_count(alloc, runner, start, entries.as_slice(), last),
+    match count_plain_rounds(alloc, runner, start, journal.entries(), last)? {
+        Ok(count) => {
+            let text = print_rounds(alloc, count.rounds, count.waiting)?;
+            Ok(done(text))
+        }
         Err(differs) => differ(alloc, differs.place),
     }
 }

@@ -1,19 +1,33 @@
 -- A meter that was fed the first entries of a journal.
-use Rattle.std.proofs.Common.{◌≡◌, ◌≢◌, ◌<◌, ◌≤◌, ◌+◌, ◌++◌, ◌∷◌, [], ℕ, List, length, take, get_or, Some, ap, sym, subst, ◌∙◌, arith}
-use Rattle.std.proofs.lemmas.List.{length-take-le, take_more}
+use Rattle.std.proofs.Common.{◌≡◌, ◌≢◌, ◌<◌, ◌≤◌, ◌+◌, ◌++◌, ◌∷◌, [], ℕ, List, length, map, take, get_or, Some, ap, sym, subst, ◌∙◌, arith}
+use Rattle.std.proofs.lemmas.List.{length-map, length-take-le, take_more}
 use Rattle.std.proofs.lemmas.Option.{slice_get-get_or}
 use Rattle.std.proofs.Math.Seq.{take-length}
 use Rattle.amoebot_state.specs.declared.verdict.Entry.{Entry}
+use Rattle.amoebot_state.specs.declared.verdict.PlainEntry.{PlainEntry}
 use Rattle.amoebot_state.specs.declared.verdict.Verdict.{Verdict}
 use Rattle.amoebot_state.specs.Configs.{Config}
 use Rattle.amoebot_state.specs.Zones.{Shown}
-use Rattle.amoebot_state.specs.Steps.{Run}
+use Rattle.amoebot_state.specs.Steps.{Run, plain_entry}
 use Rattle.serial_model.specs.Replays.{IsNoStep}
 use Rattle.round_meter.specs.Rounds.{IsRounded}
 use Rattle.round_meter.specs.Meters.{Metered, IsMetered, waiting_of}
 use Rattle.round_meter.specs.Laws.{MeterTellsRounds}
 use Rattle.command_runs.specs.Replay.{DiffersAt, at_entry, at_end}
 use Rattle.command_runs.specs.Rounds.{AgreesInRounds}
+
+-- a meter that was fed them all, and has come to the last world
+pub fed_whole : (f : Shown → Verdict) (start : Config) (entries : List Entry) (m : Metered) → IsMetered f start entries m → MeterTellsRounds → (final : Config) (rounds waiting : ℕ) → m.world ≡ final → rounds ≡ m.rounds → waiting ≡ waiting_of m → AgreesInRounds f start entries final rounds waiting
+fed_whole f start entries m fed law final rounds waiting same counted told = record {
+  agrees = subst (λ (c : Config). Run f start entries c) same fed.run;
+  counted = subst (λ (z : ℕ × ℕ). IsRounded f start entries z.0 z.1) (λ i. (sym counted i, sym told i)) (law f start entries m fed);
+}
+
+-- a meter that was fed so many of the entries that these tell
+pub fed_place : (f : Shown → Verdict) (start : Config) (plains : List PlainEntry) (entries : List Entry) (m : Metered) (place at : ℕ) → place < length plains → map plain_entry entries ≡ take place plains → IsMetered f start entries m → at ≡ m.fed → at ≡ place
+fed_place f start plains entries m place at below told metered is =
+    let many = length-take-le place plains (omega (arith, below)) in
+    omega (arith, is, metered.fed, length-map entries plain_entry, ap length told, many)
 
 module _ (f : Shown → Verdict) (start : Config) (entries : List Entry) (m : Metered) where
   -- it is fed one more
@@ -39,10 +53,7 @@ module _ (f : Shown → Verdict) (start : Config) (entries : List Entry) (m : Me
 
     -- all were steps to the last world
     pub fed_all : MeterTellsRounds → (final : Config) (rounds waiting : ℕ) → m.world ≡ final → rounds ≡ m.rounds → waiting ≡ waiting_of m → AgreesInRounds f start entries final rounds waiting
-    fed_all law final rounds waiting same counted told = record {
-      agrees = subst (λ (c : Config). Run f start entries c) same whole.run;
-      counted = subst (λ (z : ℕ × ℕ). IsRounded f start entries z.0 z.1) (λ i. (sym counted i, sym told i)) (law f start entries m whole);
-    }
+    fed_all = fed_whole f start entries m whole
 
     -- or to another one
     pub fed_elsewhere : (final : Config) → m.world ≢ final → DiffersAt f start entries final (length entries)

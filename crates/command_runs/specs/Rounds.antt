@@ -1,10 +1,12 @@
 -- The command `rounds`: how many asynchronous rounds of a run have ended, and how many amoebots wait.
-use Rattle.std.specs.Prelude.{ℕ, List, [], ◌∷◌, ◌++◌, codes, decimal}
+use Rattle.std.specs.Prelude.{◌≡◌, ℕ, List, [], ◌∷◌, ◌++◌, codes, decimal, map}
 use Rattle.text_tokens.specs.Lines.{line_text}
 use Rattle.amoebot_state.specs.declared.verdict.Entry.{Entry}
+use Rattle.amoebot_state.specs.declared.verdict.PlainEntry.{PlainEntry}
 use Rattle.amoebot_state.specs.declared.verdict.Verdict.{Verdict}
 use Rattle.amoebot_state.specs.Configs.{Config}
 use Rattle.amoebot_state.specs.Zones.{Shown}
+use Rattle.amoebot_state.specs.Steps.{plain_entry}
 use Rattle.round_meter.specs.Rounds.{IsRounded}
 use Rattle.command_runs.specs.Replay.{Agrees}
 
@@ -12,6 +14,13 @@ use Rattle.command_runs.specs.Replay.{Agrees}
 pub record AgreesInRounds (f : Shown → Verdict) (start : Config) (entries : List Entry) (final : Config) (rounds waiting : ℕ) : Type 0 where
   pub agrees : Agrees f start entries final
   pub counted : IsRounded f start entries rounds waiting
+
+-- entries without old values are those of such a run
+pub record PlainAgreesInRounds (f : Shown → Verdict) (start : Config) (plains : List PlainEntry) (final : Config)
+    (rounds waiting : ℕ) : Type 0 where
+  pub entries : List Entry
+  pub told : map plain_entry entries ≡ plains
+  pub counted : AgreesInRounds f start entries final rounds waiting
 
 abbrev pub rounds_text : ℕ → ℕ → List ℕ
 rounds_text rounds waiting =

@@ -12,7 +12,7 @@ mod replaying;
 mod sampling;
 mod texts;
 
-pub use counting::{RoundCount, count_rounds};
+pub use counting::{RoundCount, count_plain_rounds, count_rounds};
 pub use explaining::{print_election, print_rounds};
 pub use interleaving::run_interleaved;
 pub use laws::{
