@@ -1,14 +1,13 @@
 ghost use Rattle.std.specs.Prelude.{◌≡◌, ◌<◌};
 ghost use Rattle.claim_rule.specs.Plays.{about, bot_in};
 ghost use Rattle.claim_rule.specs.Tokens.{IsOf, doing};
-ghost use Rattle.activation.specs.Answers.{HasAnswered};
+ghost use Rattle.node_claims.specs.Answers.{HasAnswered};
 
 use crate::gate::Gate;
-use crate::turn::Turn;
 use amoebot_state::{Decider, Verdict};
 use claim_rule::{Field, Seat};
 use commit_journal::commit;
-use node_claims::{place, release, release_settled, try_claim};
+use node_claims::{Turn, place, release, release_settled, try_claim};
 use std::sync::Wait;
 
 /// The caller's next turn, whole: it claims the zone of its amoebot, calls the gate, decides on what it found, commits a change, and frees

@@ -3,10 +3,7 @@
 
 mod activating;
 mod gate;
-mod laws;
-mod turn;
 
 pub use activating::activate;
 pub use gate::{Gate, NoGate};
-pub use laws::answer_is_unique;
-pub use turn::Turn;
+pub use node_claims::{Turn, answer_is_unique};

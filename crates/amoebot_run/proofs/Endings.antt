@@ -6,7 +6,7 @@ use Rattle.std.proofs.lemmas.Bool.{false≢true}
 use Rattle.outer_io.specs.declared.writing.Sink.{Ghosts as SinkOf}
 use Rattle.claim_core.specs.declared.report.Report.{Report}
 use Rattle.shape_files.specs.Documents.{Contents}
-use Rattle.activation.specs.declared.turn.Turn.{Turn}
+use Rattle.node_claims.specs.declared.turn.Turn.{Turn}
 use Rattle.shipped_programs.specs.declared.shipped.Shipped.{Shipped}
 use Rattle.command_words.specs.declared.command.Command.{Command}
 use Rattle.command_words.specs.declared.command.Command.TheVariants.{Document, Show, Sample}

@@ -3,7 +3,7 @@ use Rattle.std.proofs.Common.{◌≡◌, ℕ, List, Option, Some, None, refl, sy
 use Rattle.std.proofs.lemmas.Bool.{false≢true}
 use Rattle.claim_core.specs.declared.report.Report.{Report}
 use Rattle.outer_io.specs.declared.writing.Sink.{Ghosts as SinkOf}
-use Rattle.activation.specs.declared.turn.Turn.{Turn}
+use Rattle.node_claims.specs.declared.turn.Turn.{Turn}
 use Rattle.command_words.specs.declared.command.Command.{Command}
 use Rattle.command_answers.specs.declared.status.Status.{Status}
 use Rattle.command_answers.specs.declared.status.Status.TheVariants as status

@@ -3,7 +3,7 @@ use Rattle.std.specs.Prelude.{◌≡◌, ◌↔◌, List, IsSome, IfSome}
 use Rattle.std.specs.declared.option.Option.{Option}
 use Rattle.std.specs.declared.option.Option.TheVariants.{Some}
 use Rattle.claim_core.specs.declared.report.Report.{Report}
-use Rattle.activation.specs.declared.turn.Turn.{Turn}
+use Rattle.node_claims.specs.declared.turn.Turn.{Turn}
 use Rattle.turn_workers.specs.Turns.{AreTurnsOf}
 use Rattle.command_words.specs.declared.command.Command.{Command}
 use Rattle.command_answers.specs.Commands.{IsWorked}

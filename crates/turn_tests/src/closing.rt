@@ -6,11 +6,11 @@ ghost use Rattle.claim_core.specs.Turns.{MarkLists};
 ghost use Rattle.claim_rule.specs.Seating.{AreOf};
 ghost use Rattle.claim_rule.specs.Tokens.{IsOf, number_in};
 
-use crate::fixtures::{is_entry, turn_of};
+use crate::fixtures::{Counter, are_entries, turn_of};
 use crate::machine::{is_left, is_marked, machine_leaves};
-use activation::NoGate;
+use crate::meeting::have_marks;
 use amoebot_state::{Decider, World};
-use claim_core::{Journal, Lists, Marks};
+use claim_core::{Journal, Lists, Mark, Marks};
 use claim_rule::{Field, Seat, Seats};
 use claim_tests::field_of;
 use small_worlds::{Marker, lists_of, standing, world_in};
@@ -19,7 +19,7 @@ use std::process::Abort;
 use std::sync::Wait;
 use std::test::Fail;
 
-/// Makes all turns of the seat, with the marks that are expected.
+/// Makes all turns of the seat, with the marks that are expected. In each the gate is called.
 fn turns_of<R: Wait + Abort, D: Decider>(
     rt: &R,
     field: &Field<'_, D>,
@@ -32,12 +32,16 @@ fn turns_of<R: Wait + Abort, D: Decider>(
     ensures of { IfOk result (λ after. IsOf field.now after) }
     ensures same { IfOk result (λ after. number_in after ≡ number_in seat) }
 {
+    let gate = Counter::new();
     for _turn in 0..lists.turns() {
-        let (after, answer) = turn_of(rt, field, lists, &NoGate, seat)?;
+        let (after, answer) = turn_of(rt, field, lists, &gate, seat)?;
         is_marked(rt, expected, &answer)?;
         seat = after;
     }
-    assert_eq!(rt; seat.next_turn(), lists.turns());
+    assert_eq!(rt;
+        (seat.next_turn(), gate.calls()),
+        (lists.turns(), u64::from(lists.turns()))
+    );
     Ok(seat)
 }
 
@@ -91,45 +95,54 @@ fn closed<R: Wait + Abort, D: Decider>(
     Ok(field.close(seats))
 }
 
-/// Four callers, of which so many make all their turns: the field leaves so many entries then, and what the machine leaves by the same
+/// The lists of four callers.
+static LISTS: [&[u16]; 4] = [&[0], &[1, 0], &[0, 2], &[2]];
+
+/// How many steps each of them makes in all.
+static STEPS: [(u8, u8); 4] = [(0, 39), (1, 39), (2, 39), (3, 38)];
+
+/// Their marks, where one makes its turns after another.
+static MARKS: [&[Mark]; 4] = [
+    &[Mark::Done { place: 0 }, Mark::Idle { place: 1 }],
+    &[Mark::Done { place: 1 }, Mark::Idle { place: 2 }],
+    &[Mark::Idle { place: 2 }, Mark::Done { place: 2 }],
+    &[Mark::Idle { place: 3 }, Mark::Idle { place: 3 }],
+];
+
+/// Four callers, of which so many make all their turns: the field leaves these entries then, and what the machine leaves by the same
 /// steps once all have made them.
 fn closes_after<R: Wait + Abort>(
     rt: &R,
     alloc: Global,
     callers: u8,
-    entries: usize,
-) -> Result<Journal, Fail> {
+    entries: &[(u8, u32, u16)],
+) -> Result<(), Fail> {
     let bots = &[standing(2, 3, 0), standing(3, 3, 0), standing(6, 6, 0)];
     let world = world_in(alloc, 10, 10, bots)?;
-    let ids: &[&[u16]] = &[&[0], &[1, 0], &[0, 2], &[2]];
-    let lists = lists_of(alloc, 2, &world, ids)?;
-    let steps = &[(0, 39), (1, 39), (2, 39), (3, 38)];
-    let report = machine_leaves(alloc, &Marker, &world, &lists, steps)?;
+    let lists = lists_of(alloc, 2, &world, &LISTS)?;
+    let report = machine_leaves(alloc, &Marker, &world, &lists, &STEPS)?;
+    assert!(rt; have_marks(&report.turns, &MARKS));
     let (field, seats) = field_of(alloc, &Marker, world, &lists)?;
     let (last, journal) = closed(rt, field, &lists, &report.turns, seats, callers)?;
-    assert_eq!(rt; journal.entries().len(), entries);
-    if callers == lists.callers() {
+    are_entries(rt, &journal, entries);
+    if callers == 4 {
         is_left(rt, &report, &last, &journal);
-    }
-    Ok(journal)
-}
-
-#[test]
-fn a_field_is_closed_after_the_turns_of_each_caller(rt: HostRuntime) -> Result<(), Fail> {
-    for (callers, entries) in [(0, 0), (1, 1), (2, 2), (3, 3)] {
-        closes_after(&rt, rt.alloc(), callers, entries)?;
     }
     Ok(())
 }
 
+static ENTRIES: [(u8, &[(u8, u32, u16)]); 5] = [
+    (0, &[]),
+    (1, &[(0, 0, 0)]),
+    (2, &[(0, 0, 0), (1, 0, 1)]),
+    (3, &[(0, 0, 0), (1, 0, 1), (2, 1, 2)]),
+    (4, &[(0, 0, 0), (1, 0, 1), (2, 1, 2)]),
+];
+
 #[test]
-fn four_callers_leave_what_the_machine_does_by_the_same_steps(rt: HostRuntime) -> Result<(), Fail> {
-    let journal = closes_after(&rt, rt.alloc(), 4, 3)?;
-    let [one, two, three] = journal.entries() else {
-        return Err(Fail::from("three entries"));
-    };
-    is_entry(&rt, one, 0, 0, 0);
-    is_entry(&rt, two, 1, 0, 1);
-    is_entry(&rt, three, 2, 1, 2);
+fn a_field_is_closed_after_the_turns_of_each_caller(rt: HostRuntime) -> Result<(), Fail> {
+    for (callers, entries) in &ENTRIES {
+        closes_after(&rt, rt.alloc(), *callers, entries)?;
+    }
     Ok(())
 }

@@ -2,8 +2,8 @@ ghost use Rattle.std.specs.Prelude.{◌≡◌, IfOk};
 ghost use Rattle.claim_rule.specs.Tokens.{IsOf, number_in};
 
 use activation::{Gate, Turn, activate};
-use amoebot_state::{Decider, Entry};
-use claim_core::Lists;
+use amoebot_state::Decider;
+use claim_core::{Journal, Lists};
 use claim_rule::{Field, Seat};
 use std::process::Abort;
 use std::sync::Wait;
@@ -55,8 +55,12 @@ pub fn turn_of<R: Wait, D: Decider, G: Gate>(
     Ok(activate(rt, field, seat, gate, turn, lists.bot(caller, turn)))
 }
 
-/// An entry of a turn, which sets variable 0 of the amoebot.
-pub fn is_entry(rt: &impl Abort, entry: &Entry, caller: u8, turn: u32, bot: u16) {
-    assert_eq!(rt; (entry.caller, entry.turn, entry.bot), (caller, turn, bot));
-    assert_eq!(rt; (entry.action, entry.patch.triples().len()), (0, 1));
+/// The entries are of these callers, turns and amoebots, and each sets variable 0 of its amoebot.
+pub fn are_entries(rt: &impl Abort, journal: &Journal, expected: &[(u8, u32, u16)]) {
+    let entries = journal.entries();
+    assert_eq!(rt; entries.len(), expected.len());
+    for (entry, turn) in entries.iter().zip(expected) {
+        assert_eq!(rt; (entry.caller, entry.turn, entry.bot), *turn);
+        assert_eq!(rt; (entry.action, entry.patch.triples().len()), (0, 1));
+    }
 }

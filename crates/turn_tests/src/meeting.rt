@@ -20,7 +20,7 @@ const EXPANDER: Expander = Expander {
 };
 
 /// Whether each caller has these marks.
-fn have_marks(marks: &Marks, wanted: &[&[Mark]]) -> bool {
+pub fn have_marks(marks: &Marks, wanted: &[&[Mark]]) -> bool {
     if usize::from(marks.callers()) != wanted.len() {
         return false;
     }

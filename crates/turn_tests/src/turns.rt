@@ -4,7 +4,7 @@ ghost use Rattle.claim_rule.specs.Seating.{AreOf};
 ghost use Rattle.claim_rule.specs.Tokens.{IsOf, number_in};
 ghost use Rattle.claim_rule.specs.Settling.{IsToTake};
 
-use crate::fixtures::{Counter, is_entry, turn_of};
+use crate::fixtures::{Counter, are_entries, turn_of};
 use crate::machine::{is_left, is_marked, machine_leaves};
 use activation::Gate;
 use amoebot_state::{CellName, Change, Decider, Failure, World};
@@ -40,15 +40,6 @@ fn marked<R: Wait + Abort, D: Decider, G: Gate>(
     Ok(after)
 }
 
-/// How two callers make their two turns each.
-#[derive(Clone, Copy)]
-enum Order {
-    /// One turn after another.
-    InTurn,
-    /// The first turn of caller 1 lies inside that of caller 0.
-    Inside,
-}
-
 /// Each of the two seats makes its next turn, with these marks.
 fn one_each<R: Wait + Abort>(
     rt: &R,
@@ -69,31 +60,6 @@ fn one_each<R: Wait + Abort>(
     let first = marked(rt, field, lists, expected, gate, first, marks.0)?;
     let second = marked(rt, field, lists, expected, gate, second, marks.1)?;
     Ok((first, second))
-}
-
-/// One turn after another. The gate is called in each.
-fn in_turn<R: Wait + Abort>(
-    rt: &R,
-    field: &Field<'_, Marker>,
-    lists: &Lists,
-    expected: &Marks,
-    zero: Seat<Marker>,
-    one: Seat<Marker>,
-) -> Result<(Seat<Marker>, Seat<Marker>), Fail>
-    requires zero { IsOf field.now zero }
-    requires one { IsOf field.now one }
-    requires lists { field.now.terms.lists ≡ lists.now }
-    ensures zero { IfOk result (λ after. IsOf field.now after.0 × (number_in after.0 ≡ number_in zero)) }
-    ensures one { IfOk result (λ after. IsOf field.now after.1 × (number_in after.1 ≡ number_in one)) }
-{
-    let gate = Counter::new();
-    let done = (Mark::Done { place: 0 }, Mark::Done { place: 1 });
-    let idle = (Mark::Idle { place: 2 }, Mark::Idle { place: 2 });
-    let seats = one_each(rt, field, lists, expected, &gate, (zero, one), done)?;
-    let (zero, one) = one_each(rt, field, lists, expected, &gate, seats, idle)?;
-    assert_eq!(rt; gate.calls(), 4);
-    assert_eq!(rt; (zero.next_turn(), one.next_turn()), (2, 2));
-    Ok((zero, one))
 }
 
 /// Commits the change of the first turn of caller 0, which is the first one of the journal, and frees the zone.
@@ -170,34 +136,12 @@ fn inside<R: Wait + Abort>(
     Ok((zero, one))
 }
 
-fn by_order<R: Wait + Abort>(
-    rt: &R,
-    field: &Field<'_, Marker>,
-    lists: &Lists,
-    expected: &Marks,
-    order: Order,
-    zero: Seat<Marker>,
-    one: Seat<Marker>,
-) -> Result<(Seat<Marker>, Seat<Marker>), Fail>
-    requires zero { IsOf field.now zero }
-    requires one { IsOf field.now one }
-    requires lists { field.now.terms.lists ≡ lists.now }
-    ensures zero { IfOk result (λ after. IsOf field.now after.0 × (number_in after.0 ≡ number_in zero)) }
-    ensures one { IfOk result (λ after. IsOf field.now after.1 × (number_in after.1 ≡ number_in one)) }
-{
-    match order {
-        Order::InTurn => in_turn(rt, field, lists, expected, zero, one),
-        Order::Inside => inside(rt, field, lists, expected, zero, one),
-    }
-}
-
 /// Both seats are taken, make their turns, and are given back.
 fn with_both_seats<R: Wait + Abort>(
     rt: &R,
     field: &Field<'_, Marker>,
     lists: &Lists,
     expected: &Marks,
-    order: Order,
     seats: &mut Seats<Marker>,
 ) -> Result<(), Fail>
     requires of { AreOf field.now seats.old }
@@ -207,7 +151,7 @@ fn with_both_seats<R: Wait + Abort>(
 {
     let zero = seat_of(field, seats, 0)?;
     let one = seat_of(field, seats, 1)?;
-    let (zero_after, one_after) = by_order(rt, field, lists, expected, order, zero, one)?;
+    let (zero_after, one_after) = inside(rt, field, lists, expected, zero, one)?;
     seats.give(one_after);
     seats.give(zero_after);
     Ok(())
@@ -219,57 +163,37 @@ fn closed<R: Wait + Abort>(
     field: Field<'_, Marker>,
     lists: &Lists,
     expected: &Marks,
-    order: Order,
     mut seats: Seats<Marker>,
 ) -> Result<(World, Journal), Fail>
     requires of { AreOf field seats }
     requires lists { field.terms.lists ≡ lists.now }
     requires all { All (λ seat. IsSome seat) seats.seats }
 {
-    with_both_seats(rt, &field, lists, expected, order, &mut seats)?;
+    with_both_seats(rt, &field, lists, expected, &mut seats)?;
     Ok(field.close(seats))
 }
 
-/// Two neighbours, each with a caller of two turns, end with variable 0 at 1, as the machine leaves them by these steps; and what the
-/// journal is.
-fn both_marked<R: Wait + Abort>(
-    rt: &R,
-    alloc: Global,
-    order: Order,
-    steps: &[(u8, u8)],
-) -> Result<Journal, Fail> {
+/// What the journal is of two neighbours, each with a caller of two turns. They end with variable 0 at 1, as the machine leaves them by
+/// the same steps.
+fn both_marked<R: Wait + Abort>(rt: &R, alloc: Global) -> Result<Journal, Fail> {
     let world = world_in(alloc, 8, 8, &[standing(2, 3, 0), standing(3, 3, 0)])?;
     let lists = lists_of(alloc, 2, &world, &[&[0], &[1]])?;
-    let report = machine_leaves(alloc, &Marker, &world, &lists, steps)?;
+    let report = machine_leaves(alloc, &Marker, &world, &lists, &INSIDE)?;
     let (field, seats) = field_of(alloc, &Marker, world, &lists)?;
-    let (last, journal) = closed(rt, field, &lists, &report.turns, order, seats)?;
+    let (last, journal) = closed(rt, field, &lists, &report.turns, seats)?;
     is_left(rt, &report, &last, &journal);
     let bots = &[standing(2, 3, 1), standing(3, 3, 1)];
     assert!(rt; last.same(&world_in(alloc, 8, 8, bots)?));
     Ok(journal)
 }
 
-#[test]
-fn two_callers_commit_one_after_the_other_and_then_are_idle(rt: HostRuntime) -> Result<(), Fail> {
-    let steps = &[(0, 20), (1, 20), (0, 19), (1, 19)];
-    let journal = both_marked(&rt, rt.alloc(), Order::InTurn, steps)?;
-    let [first, second] = journal.entries() else {
-        return Err(Fail::from("two entries"));
-    };
-    is_entry(&rt, first, 0, 0, 0);
-    is_entry(&rt, second, 1, 0, 1);
-    Ok(())
-}
+/// Nine steps of caller 0, in which it decides; the first turn of caller 1; and then one turn after another.
+static INSIDE: [(u8, u8); 5] = [(0, 9), (1, 2), (0, 11), (1, 20), (0, 19)];
 
 #[test]
 fn a_second_caller_is_busy_while_the_zone_is_held(rt: HostRuntime) -> Result<(), Fail> {
-    let steps = &[(0, 9), (1, 2), (0, 11), (1, 20), (0, 19)];
-    let journal = both_marked(&rt, rt.alloc(), Order::Inside, steps)?;
-    let [first, second] = journal.entries() else {
-        return Err(Fail::from("two entries"));
-    };
-    is_entry(&rt, first, 0, 0, 0);
-    is_entry(&rt, second, 1, 1, 1);
+    let journal = both_marked(&rt, rt.alloc())?;
+    are_entries(&rt, &journal, &[(0, 0, 0), (1, 1, 1)]);
     Ok(())
 }
 

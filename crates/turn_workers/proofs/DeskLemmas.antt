@@ -14,8 +14,8 @@ use Rattle.claim_core.proofs.Places.{get-append_right}
 use Rattle.claim_core.proofs.MachineLemmas.{reverse-map}
 use Rattle.claim_rule.specs.Tokens.{Token, number_in}
 use Rattle.claim_rule.specs.Seating.{SeatsOf, IsFirst}
-use Rattle.activation.specs.declared.turn.Turn.{Turn}
-use Rattle.activation.specs.Answers.{mark_of}
+use Rattle.node_claims.specs.declared.turn.Turn.{Turn}
+use Rattle.node_claims.specs.Answers.{mark_of}
 use Rattle.turn_workers.specs.declared.workers.Desk.{Desk}
 use Rattle.turn_workers.specs.Turns.{marks_in}
 use Rattle.turn_workers.specs.Workers.{IsClear, AreClear, AreTaken, seat_at, turns_at, with_marks}

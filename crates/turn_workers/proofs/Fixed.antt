@@ -2,9 +2,9 @@
 use Rattle.std.proofs.Common.{◌≡◌, ℕ, zero, suc, ◌+◌, List, [], ◌∷◌, map, Some, ap, sym, subst, refl, ◌∙◌, arith}
 use Rattle.std.specs.Prelude.{slice_get}
 use Rattle.std.proofs.lemmas.Option.{same_Some}
-use Rattle.activation.specs.declared.turn.Turn.{Turn}
-use Rattle.activation.specs.Answers.{caller_of, turn_of, mark_of}
-use Rattle.activation.proofs.Answered.{one_turn}
+use Rattle.node_claims.specs.declared.turn.Turn.{Turn}
+use Rattle.node_claims.specs.Answers.{caller_of, turn_of, mark_of}
+use Rattle.node_claims.proofs.Answered.{one_turn}
 use Rattle.turn_workers.specs.Turns.{marks_in, turn_at}
 use Rattle.turn_workers.specs.Laws.{TurnsAreOne, SmallTurns, small_turns}
 

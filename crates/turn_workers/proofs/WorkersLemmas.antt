@@ -10,8 +10,8 @@ use Rattle.claim_rule.specs.Views.{setup_of_terms, setup_at}
 use Rattle.claim_rule.specs.Plays.{about}
 use Rattle.claim_rule.specs.Tokens.{FieldOf, Token, IsOf, number_in, doing}
 use Rattle.node_claims.specs.Claims.{at_next}
-use Rattle.activation.specs.declared.turn.Turn.{Turn}
-use Rattle.activation.specs.Answers.{HasAnswered, caller_of, turn_of, mark_of}
+use Rattle.node_claims.specs.declared.turn.Turn.{Turn}
+use Rattle.node_claims.specs.Answers.{HasAnswered, caller_of, turn_of, mark_of}
 use Rattle.turn_workers.specs.declared.workers.Desk.{Desk}
 use Rattle.turn_workers.specs.Turns.{marks_in}
 use Rattle.turn_workers.specs.Workers.{HasMade, caller_between_turns}

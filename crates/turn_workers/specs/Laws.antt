@@ -6,8 +6,8 @@ use Rattle.claim_core.specs.declared.marks.Mark.TheVariants as mark
 use Rattle.claim_core.specs.Turns.{MarkLists}
 use Rattle.claim_core.specs.Tags.{tag}
 use Rattle.claim_rule.specs.Tokens.{refused_of, placed_turn}
-use Rattle.activation.specs.declared.turn.Turn.{Turn}
-use Rattle.activation.specs.declared.turn.Turn.TheVariants as turn
+use Rattle.node_claims.specs.declared.turn.Turn.{Turn}
+use Rattle.node_claims.specs.declared.turn.Turn.TheVariants as turn
 use Rattle.turn_workers.specs.Turns.{AreTurnsOf}
 
 -- marks have at most one list of turns

@@ -4,8 +4,8 @@ use Rattle.std.specs.declared.option.Option.{Option}
 use Rattle.std.specs.declared.option.Option.TheVariants.{Some}
 use Rattle.claim_core.specs.declared.marks.Mark.{Mark}
 use Rattle.claim_core.specs.Turns.{MarkLists}
-use Rattle.activation.specs.declared.turn.Turn.{Turn}
-use Rattle.activation.specs.Answers.{caller_of, turn_of, mark_of}
+use Rattle.node_claims.specs.declared.turn.Turn.{Turn}
+use Rattle.node_claims.specs.Answers.{caller_of, turn_of, mark_of}
 
 -- what became of a caller's turns, and of one of them, if the caller has it
 abbrev pub turns_of : List (List Turn) → ℕ → List Turn

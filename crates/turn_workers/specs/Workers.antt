@@ -12,8 +12,8 @@ use Rattle.claim_core.specs.Machine.{Setup, caller, opening_phase}
 use Rattle.claim_rule.specs.Views.{setup_of_terms}
 use Rattle.claim_rule.specs.Tokens.{FieldOf, Token, IsOf, number_in, doing}
 use Rattle.claim_rule.specs.Seating.{SeatsOf}
-use Rattle.activation.specs.declared.turn.Turn.{Turn}
-use Rattle.activation.specs.Answers.{caller_of, turn_of}
+use Rattle.node_claims.specs.declared.turn.Turn.{Turn}
+use Rattle.node_claims.specs.Answers.{caller_of, turn_of}
 use Rattle.turn_workers.specs.declared.workers.Desk.{Desk}
 use Rattle.turn_workers.specs.Turns.{marks_in}
 

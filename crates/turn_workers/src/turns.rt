@@ -12,7 +12,7 @@ pub struct Turns {
 
 impl Model for Turns {
     ghost use Rattle.std.specs.Prelude.{List, map};
-    ghost use Rattle.activation.specs.declared.turn.Turn.{Turn};
+    ghost use Rattle.node_claims.specs.declared.turn.Turn.{Turn};
 
     ghost Value = { List (List Turn) };
 

@@ -1,7 +1,7 @@
 use Rattle.std.proofs.Common.{◌≡◌, ◌<◌, [], List, length, get_or, map, refl, subst, arith, ap, sym, ◌∙◌}
 use Rattle.std.proofs.lemmas.List.{length-map}
 use Rattle.claim_core.proofs.Inner.{lists-at}
-use Rattle.activation.specs.declared.turn.Turn.{Turn}
+use Rattle.node_claims.specs.declared.turn.Turn.{Turn}
 use Rattle.turn_workers.proofs.DeskLemmas.{first_filled, has_room, next_filled}
 use Rattle.turn_workers.proofs.working.copy_marks.Goals as goal
 

@@ -8,7 +8,7 @@ use Rattle.claim_core.specs.Soundness.{IsSetup}
 use Rattle.claim_rule.specs.Views.{setup_of_terms, field_terms}
 use Rattle.claim_rule.specs.declared.views.Terms.{Terms}
 use Rattle.claim_rule.specs.Seating.{SeatsOf}
-use Rattle.activation.specs.declared.turn.Turn.{Turn}
+use Rattle.node_claims.specs.declared.turn.Turn.{Turn}
 use Rattle.turn_workers.specs.declared.workers.Desk.{Desk}
 use Rattle.turn_workers.specs.Turns.{AreTurnsOf, marks_in}
 use Rattle.turn_workers.specs.Workers.{AreClear, AreTaken, HaveMade, seat_at, turns_at}

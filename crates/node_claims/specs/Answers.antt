@@ -14,8 +14,8 @@ use Rattle.claim_rule.specs.Plays.{about, bot_in}
 use Rattle.claim_rule.specs.Tokens.{Token, record_in, number_in, doing, goes}
 use Rattle.claim_rule.specs.Settling.{with_record}
 use Rattle.node_claims.specs.Claims.{AreInOrder, WasRefused, at_next}
-use Rattle.activation.specs.declared.turn.Turn.{Turn}
-use Rattle.activation.specs.declared.turn.Turn.TheVariants as turn
+use Rattle.node_claims.specs.declared.turn.Turn.{Turn}
+use Rattle.node_claims.specs.declared.turn.Turn.TheVariants as turn
 
 -- whose turn it was, which one, and its mark
 abbrev pub caller_of : Turn → ℕ

@@ -1,5 +1,5 @@
 //! What holds of answers. The function does nothing: its clause is the law.
-ghost use Rattle.activation.specs.Laws.{AnswerIsUnique};
+ghost use Rattle.node_claims.specs.Laws.{AnswerIsUnique};
 
 use amoebot_state::Decider;
 

@@ -1,5 +1,5 @@
 ghost use Rattle.std.specs.Prelude.{◌≡◌};
-ghost use Rattle.activation.specs.Answers.{caller_of, turn_of, mark_of};
+ghost use Rattle.node_claims.specs.Answers.{caller_of, turn_of, mark_of};
 
 use amoebot_state::Failure;
 use claim_core::Mark;

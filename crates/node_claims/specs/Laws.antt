@@ -3,8 +3,8 @@ use Rattle.std.specs.Prelude.{◌≡◌}
 use Rattle.amoebot_state.specs.declared.verdict.Verdict.{Verdict}
 use Rattle.amoebot_state.specs.Zones.{Shown}
 use Rattle.claim_rule.specs.Tokens.{Token}
-use Rattle.activation.specs.declared.turn.Turn.{Turn}
-use Rattle.activation.specs.Answers.{HasAnswered}
+use Rattle.node_claims.specs.declared.turn.Turn.{Turn}
+use Rattle.node_claims.specs.Answers.{HasAnswered}
 
 -- from one seat to another there is at most one answer: so Done, Idle, Failed and Busy exclude each other
 abbrev pub AnswerIsUnique : {D : Type 0} → (D → Shown → Verdict) → Type 0

@@ -10,10 +10,10 @@ use Rattle.claim_core.specs.declared.marks.Mark.TheVariants as mark
 use Rattle.claim_core.specs.declared.state.Caller.{Caller}
 use Rattle.claim_core.specs.Good.{place_of}
 use Rattle.claim_rule.specs.Tokens.{doing}
-use Rattle.activation.specs.declared.turn.Turn.{Turn}
-use Rattle.activation.specs.declared.turn.Turn.TheVariants as turn
-use Rattle.activation.specs.Answers.{caller_of, turn_of, mark_of}
-use Rattle.activation.specs.Laws.{AnswerIsUnique}
+use Rattle.node_claims.specs.declared.turn.Turn.{Turn}
+use Rattle.node_claims.specs.declared.turn.Turn.TheVariants as turn
+use Rattle.node_claims.specs.Answers.{caller_of, turn_of, mark_of}
+use Rattle.node_claims.specs.Laws.{AnswerIsUnique}
 
 -- what a mark has beside its place
 abbrev why_in : Failure → Mark → Failure

@@ -1,5 +1,0 @@
-use Rattle.activation.proofs.Answered.{answer_is_unique}
-use Rattle.activation.proofs.laws.answer_is_unique.Goals as goal
-
-pub returns : goal.returns
-returns g c = answer_is_unique g.D.Decider.verdict
