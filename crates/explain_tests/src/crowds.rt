@@ -1,5 +1,5 @@
 //! How often the meter asks among 1,000 amoebots.
-ghost use Rattle.std.specs.Prelude.{IfOk, OnOk};
+ghost use Rattle.std.specs.Prelude.{◌≡◌, ◌≤◌, ◌<◌, ◌+◌, ◌^◌, IfOk, OnOk};
 ghost use Rattle.std.specs.List.{All};
 ghost use Rattle.amoebot_state.specs.Refusals.{IsBotInRange};
 
@@ -14,8 +14,68 @@ use std::alloc::Global;
 use std::process::Abort;
 use std::test::Fail;
 
-/// Each amoebot in turn acts once in a world of this width and height, if it can. The start takes a decision for each, and each entry at
-/// most so many. How many entries there were.
+/// A turn of an amoebot. Whether it has an entry, for which the meter takes at most so many decisions.
+fn take_turn<R: Abort, D: Decider>(
+    rt: &R,
+    decider: &Counting<D>,
+    meter: &mut Meter<'_, Counting<D>>,
+    serial: &mut Serial,
+    bot: u16,
+    most: u64,
+) -> Result<bool, Fail>
+    requires { meter.old.state.fed < 2 ^ 31 }
+    ensures { OnOk result (meter.new.state.fed ≤ meter.old.state.fed + 1) }
+{
+    if bot >= serial.world().bots() {
+        Err("no amoebot")?;
+    }
+    let Turned::Done(entry) = serial.activate(decider, 0, 0, bot) else {
+        return Ok(false);
+    };
+    let _before = decider.taken();
+    feed(meter, &entry)?;
+    assert!(rt; decider.taken() <= most);
+    Ok(true)
+}
+
+/// A turn of each of 1,000 amoebots. How many entries there are.
+fn take_turns<R: Abort, D: Decider>(
+    rt: &R,
+    decider: &Counting<D>,
+    meter: &mut Meter<'_, Counting<D>>,
+    serial: &mut Serial,
+    most: u64,
+) -> Result<u64, Fail>
+    requires { meter.old.state.fed ≡ 0 }
+{
+    let mut entries = 0;
+    for bot in 0..1000 {
+        if take_turn(rt, decider, meter, serial, bot, most)? {
+            entries += 1;
+        }
+    }
+    Ok(entries)
+}
+
+/// The start took a decision for each. Each amoebot in turn acts once, if it can, and each entry takes at most so many decisions. There are
+/// so many entries.
+fn check_turns<R: Abort, D: Decider>(
+    rt: &R,
+    decider: &Counting<D>,
+    meter: &mut Meter<'_, Counting<D>>,
+    serial: &mut Serial,
+    most: u64,
+    number: u64,
+) -> Result<(), Fail>
+    requires { meter.old.state.fed ≡ 0 }
+{
+    assert_eq!(rt; decider.taken(), 1000);
+    assert_eq!(rt; take_turns(rt, decider, meter, serial, most)?, number);
+    assert!(rt; meter.world().same(serial.world()));
+    Ok(())
+}
+
+/// The same in a world of this width and height.
 fn check_crowd<R: Abort, D: Decider>(
     rt: &R,
     alloc: Global,
@@ -23,7 +83,8 @@ fn check_crowd<R: Abort, D: Decider>(
     size: (u16, u16),
     bots: &[Bot],
     most: u64,
-) -> Result<u64, Fail>
+    number: u64,
+) -> Result<(), Fail>
     requires { All IsBotInRange bots.now }
 {
     if bots.len() > 4096 {
@@ -31,24 +92,7 @@ fn check_crowd<R: Abort, D: Decider>(
     }
     let mut serial = Serial::new(world_in(alloc, size.0, size.1, bots)?);
     let mut meter = Meter::make(alloc, decider, world_in(alloc, size.0, size.1, bots)?)?;
-    assert_eq!(rt; decider.taken(), 1000);
-    let mut entries = 0;
-    for bot in 0..1000 {
-        if bot >= serial.world().bots() {
-            Err("no amoebot")?;
-        }
-        match serial.activate(decider, 0, 0, bot) {
-            Turned::Done(entry) => {
-                let _before = decider.taken();
-                feed(&mut meter, &entry)?;
-                assert!(rt; decider.taken() <= most);
-                entries += 1;
-            }
-            Turned::Idle | Turned::Failed(_) => {}
-        }
-    }
-    assert!(rt; meter.world().same(serial.world()));
-    Ok(entries)
+    check_turns(rt, decider, &mut meter, &mut serial, most, number)
 }
 
 /// The same of a program's text.
@@ -59,11 +103,12 @@ fn check_text<R: Abort>(
     size: (u16, u16),
     bots: &[Bot],
     most: u64,
-) -> Result<u64, Fail>
+    number: u64,
+) -> Result<(), Fail>
     requires { All IsBotInRange bots.now }
 {
     let decider = Counting::new(runner_of(alloc, text)?);
-    check_crowd(rt, alloc, &decider, size, bots, most)
+    check_crowd(rt, alloc, &decider, size, bots, most, number)
 }
 
 /// Adds an amoebot.
@@ -76,66 +121,78 @@ pub fn add(bots: &mut Vec<Bot>, bot: Bot) -> Result<(), Fail>
     Ok(())
 }
 
-/// The amoebots of 25 rows of 40, of which the first has a mark.
-fn contracted(alloc: Global) -> Result<Vec<Bot>, Fail>
+/// Amoebots in 25 rows. In each row those of the pattern come so many times, each by the places of its head and its tail in the pattern,
+/// which is so wide. The first amoebot has this value of variable 0.
+fn crowd(
+    alloc: Global,
+    times: u8,
+    width: u8,
+    pattern: &[(u8, u8)],
+    first: u8,
+) -> Result<Vec<Bot>, Fail>
     ensures { IfOk result (λ bots. All IsBotInRange bots.items) }
 {
-    let mut bots = Vec::new(alloc);
+    let mut bots: Vec<Bot> = Vec::new(alloc);
     for y in 0..25 {
-        for x in 0..40 {
-            let value = if x == 0 && y == 0 { 1 } else { 0 };
-            bots.push(standing(x, y, value))?;
+        for time in 0..times {
+            let x = time.saturating_mul(width);
+            for (head, tail) in pattern {
+                let value = if bots.is_empty() { first } else { 0 };
+                let head = (x.saturating_add(*head), y);
+                let tail = (x.saturating_add(*tail), y);
+                add(&mut bots, spread(head, tail, value))?;
+            }
         }
     }
     Ok(bots)
 }
 
-/// Each has six neighbours at most. So an entry takes the decision on its own amoebot, and then that of it and of six.
+/// Contracted amoebots in rows of 40, of which the first has a mark. Each has six neighbours at most. So an entry takes the decision on
+/// its own amoebot, and then that of it and of six.
 #[test]
 fn eight_decisions_are_enough_among_contracted_ones(rt: HostRuntime) -> Result<(), Fail> {
-    let bots = contracted(rt.alloc())?;
-    let entries = check_text(&rt, rt.alloc(), PASS, (40, 25), bots.as_slice(), 8)?;
-    assert_eq!(rt; entries, 999);
-    Ok(())
+    let bots = crowd(rt.alloc(), 40, 1, &[(0, 0)], 1)?;
+    check_text(&rt, rt.alloc(), PASS, (40, 25), bots.as_slice(), 8, 999)
 }
 
-/// Expanded amoebots in 25 rows of 40, with no node between them.
-fn expanded(alloc: Global) -> Result<Vec<Bot>, Fail>
-    ensures { IfOk result (λ bots. All IsBotInRange bots.items) }
-{
-    let mut bots = Vec::new(alloc);
-    for y in 0..25 {
-        for x in 0..40 {
-            bots.push(spread((2 * x + 1, y), (2 * x, y), 0))?;
-        }
-    }
-    Ok(bots)
-}
-
-/// Each contracts in turn. There are eight nodes round an expanded amoebot, so an entry takes the decision on its own amoebot, and then
-/// that of it and of eight.
+/// Expanded amoebots in rows of 40, with no node between them. Each contracts in turn. There are eight nodes round an expanded amoebot, so
+/// an entry takes the decision on its own amoebot, and then that of it and of eight.
 #[test]
 fn ten_decisions_are_enough_where_expanded_ones_contract(rt: HostRuntime) -> Result<(), Fail> {
-    let bots = expanded(rt.alloc())?;
-    let entries = check_text(&rt, rt.alloc(), BACK, (80, 25), bots.as_slice(), 10)?;
-    assert_eq!(rt; entries, 1000);
-    Ok(())
+    let bots = crowd(rt.alloc(), 40, 2, &[(1, 0)], 0)?;
+    check_text(&rt, rt.alloc(), BACK, (80, 25), bots.as_slice(), 10, 1000)
 }
 
-/// An expanded amoebot whose eight neighbours are expanded too, and 991 contracted ones in rows below them.
+/// In each row twenty expanded amoebots, each with a contracted one behind its tail. Each expanded amoebot takes the one behind it along,
+/// and that one makes a note when its turn comes. There are ten nodes round three in a row, so an entry takes the decision on its own
+/// amoebot, and then those of at most twelve.
+#[test]
+fn thirteen_decisions_are_enough_where_one_pulls_another(rt: HostRuntime) -> Result<(), Fail> {
+    let bots = crowd(rt.alloc(), 20, 3, &[(2, 1), (0, 0)], 0)?;
+    check_text(&rt, rt.alloc(), DRAG, (60, 25), bots.as_slice(), 13, 1000)
+}
+
+/// An expanded amoebot by its head and tail, and its eight neighbours, which are expanded too.
+static NINE: [((u8, u8), (u8, u8)); 9] = [
+    ((11, 10), (10, 10)),
+    ((13, 10), (12, 10)),
+    ((11, 12), (11, 11)),
+    ((10, 12), (10, 11)),
+    ((8, 12), (9, 11)),
+    ((8, 10), (9, 10)),
+    ((10, 8), (10, 9)),
+    ((11, 8), (11, 9)),
+    ((13, 8), (12, 9)),
+];
+
+/// These nine, and 991 contracted ones in rows below them.
 fn surrounded(alloc: Global) -> Result<Vec<Bot>, Fail>
     ensures { IfOk result (λ bots. All IsBotInRange bots.items) }
 {
-    let mut bots = Vec::new(alloc);
-    add(&mut bots, spread((11, 10), (10, 10), 0))?;
-    add(&mut bots, spread((13, 10), (12, 10), 0))?;
-    add(&mut bots, spread((11, 12), (11, 11), 0))?;
-    add(&mut bots, spread((10, 12), (10, 11), 0))?;
-    add(&mut bots, spread((8, 12), (9, 11), 0))?;
-    add(&mut bots, spread((8, 10), (9, 10), 0))?;
-    add(&mut bots, spread((10, 8), (10, 9), 0))?;
-    add(&mut bots, spread((11, 8), (11, 9), 0))?;
-    add(&mut bots, spread((13, 8), (12, 9), 0))?;
+    let mut bots: Vec<Bot> = Vec::new(alloc);
+    for (head, tail) in &NINE {
+        add(&mut bots, spread(*head, *tail, 0))?;
+    }
     for y in 20..45 {
         for x in 0..40 {
             if bots.len() < 1000 {
@@ -149,31 +206,5 @@ fn surrounded(alloc: Global) -> Result<Vec<Bot>, Fail>
 #[test]
 fn ten_decisions_are_enough_where_one_has_eight_neighbours(rt: HostRuntime) -> Result<(), Fail> {
     let bots = surrounded(rt.alloc())?;
-    let entries = check_text(&rt, rt.alloc(), BACK, (40, 45), bots.as_slice(), 10)?;
-    assert_eq!(rt; entries, 9);
-    Ok(())
-}
-
-/// In each of 25 rows twenty expanded amoebots, each with a contracted one behind its tail.
-fn pairs(alloc: Global) -> Result<Vec<Bot>, Fail>
-    ensures { IfOk result (λ bots. All IsBotInRange bots.items) }
-{
-    let mut bots = Vec::new(alloc);
-    for y in 0..25 {
-        for x in 0..20 {
-            add(&mut bots, spread((3 * x + 2, y), (3 * x + 1, y), 0))?;
-            add(&mut bots, standing(3 * x, y, 0))?;
-        }
-    }
-    Ok(bots)
-}
-
-/// Each expanded amoebot takes the one behind it along, and that one makes a note when its turn comes. There are ten nodes round three
-/// in a row, so an entry takes the decision on its own amoebot, and then those of at most twelve.
-#[test]
-fn thirteen_decisions_are_enough_where_one_pulls_another(rt: HostRuntime) -> Result<(), Fail> {
-    let bots = pairs(rt.alloc())?;
-    let entries = check_text(&rt, rt.alloc(), DRAG, (60, 25), bots.as_slice(), 13)?;
-    assert_eq!(rt; entries, 1000);
-    Ok(())
+    check_text(&rt, rt.alloc(), BACK, (40, 45), bots.as_slice(), 10, 9)
 }

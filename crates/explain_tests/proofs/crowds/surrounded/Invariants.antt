@@ -2,6 +2,9 @@ use Rattle.std.specs.List.{All}
 use Rattle.amoebot_state.specs.Refusals.{IsBotInRange}
 use Rattle.explain_tests.proofs.crowds.surrounded.Given as goal
 
+abbrev pub invariant-loop-head : goal.invariant-loop-head
+invariant-loop-head l = record { plain : All IsBotInRange l.bots.items }
+
 abbrev pub invariant-loop-y : goal.invariant-loop-y
 invariant-loop-y l = record { plain : All IsBotInRange l.bots.items }
 

@@ -1,5 +1,5 @@
 use Rattle.std.proofs.Common.{◌≤◌}
-use Rattle.explain_tests.proofs.crowds.check_crowd.Given as goal
+use Rattle.explain_tests.proofs.crowds.take_turns.Given as goal
 
 abbrev pub invariant-loop-bot : goal.invariant-loop-bot
 invariant-loop-bot g l = record {

@@ -1,9 +1,0 @@
-use Rattle.std.specs.List.{All}
-use Rattle.amoebot_state.specs.Refusals.{IsBotInRange}
-use Rattle.explain_tests.proofs.crowds.pairs.Given as goal
-
-abbrev pub invariant-loop-y : goal.invariant-loop-y
-invariant-loop-y l = record { plain : All IsBotInRange l.bots.items }
-
-abbrev pub invariant-loop-x : goal.invariant-loop-x
-invariant-loop-x l = record { plain : All IsBotInRange l.bots.items }
