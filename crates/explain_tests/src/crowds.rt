@@ -57,8 +57,25 @@ fn take_turns<R: Abort, D: Decider>(
     Ok(entries)
 }
 
-/// Each amoebot in turn acts once in a world of this width and height, if it can. The start takes a decision for each, and each entry at
-/// most so many. There are so many entries.
+/// The start took a decision for each. Each amoebot in turn acts once, if it can, and each entry takes at most so many decisions. There are
+/// so many entries.
+fn check_turns<R: Abort, D: Decider>(
+    rt: &R,
+    decider: &Counting<D>,
+    meter: &mut Meter<'_, Counting<D>>,
+    serial: &mut Serial,
+    most: u64,
+    number: u64,
+) -> Result<(), Fail>
+    requires { meter.old.state.fed ≡ 0 }
+{
+    assert_eq!(rt; decider.taken(), 1000);
+    assert_eq!(rt; take_turns(rt, decider, meter, serial, most)?, number);
+    assert!(rt; meter.world().same(serial.world()));
+    Ok(())
+}
+
+/// The same in a world of this width and height.
 fn check_crowd<R: Abort, D: Decider>(
     rt: &R,
     alloc: Global,
@@ -75,11 +92,7 @@ fn check_crowd<R: Abort, D: Decider>(
     }
     let mut serial = Serial::new(world_in(alloc, size.0, size.1, bots)?);
     let mut meter = Meter::make(alloc, decider, world_in(alloc, size.0, size.1, bots)?)?;
-    assert_eq!(rt; decider.taken(), 1000);
-    let entries = take_turns(rt, decider, &mut meter, &mut serial, most)?;
-    let is_same = meter.world().same(serial.world());
-    assert_eq!(rt; (entries, is_same), (number, true));
-    Ok(())
+    check_turns(rt, decider, &mut meter, &mut serial, most, number)
 }
 
 /// The same of a program's text.

@@ -1,19 +1,17 @@
 //! Runs of small worlds that are made from numbers: after each entry the meter has the numbers of the plain count.
-ghost use Rattle.std.specs.Prelude.{◌≤◌, ◌<◌, IfOk};
+ghost use Rattle.std.specs.Prelude.{◌≡◌, ◌≤◌, ◌<◌, IfOk};
 ghost use Rattle.std.specs.List.{All};
 ghost use Rattle.tri_lattice.specs.Lattice.{IsNear};
 ghost use Rattle.amoebot_state.specs.Refusals.{IsBotInRange};
 
 use crate::crowds::add;
-use crate::plain::History;
 use crate::programs::{MARK, OUT, PASS, SHOVE, runner_of};
-use crate::rounds::{feed, numbers};
+use crate::rounds::{Reference, take_turn};
 use amoebot_state::{Bot, Chir, Decider, World};
 use rand_core::SeedableRng;
 use rand_core::utils::NextWord;
 use rand_pcg::Pcg32;
 use round_meter::Meter;
-use serial_model::{Serial, Turned};
 use shipped_programs::{EROSION, LINE};
 use small_worlds::{node, standing};
 use std::alloc::Global;
@@ -122,8 +120,33 @@ fn draw_world(alloc: Global, generator: &mut Pcg32, maxes: [u8; 8]) -> Result<Wo
     Ok(World::walled(alloc, area, walls.as_slice(), maxes, bots.as_slice())?)
 }
 
-/// Up to 40 turns from a world, of amoebots that are drawn. After each entry the meter has the numbers of the plain count, and the world
-/// that was reached. How many entries there were.
+/// Up to 40 turns of amoebots that are drawn. After each entry the meter agrees. How many entries there were.
+fn take_turns<R: Abort, D: Decider>(
+    rt: &R,
+    alloc: Global,
+    decider: &D,
+    generator: &mut Pcg32,
+    meter: &mut Meter<'_, D>,
+    reference: &mut Reference,
+) -> Result<u64, Fail>
+    requires { meter.old.state.fed ≡ 0 }
+    ensures { IfOk result (λ entries. entries ≤ 40) }
+{
+    let mut entries = 0;
+    for _ in 0..40_u32 {
+        let bots = reference.world().bots();
+        if bots == 0 {
+            Err("no amoebot")?;
+        }
+        let bot = draw(generator, u32::from(bots)) as u16;
+        if take_turn(rt, alloc, decider, meter, reference, bot)? {
+            entries += 1;
+        }
+    }
+    Ok(entries)
+}
+
+/// Such a run from a world that is drawn.
 fn check_run<R: Abort, D: Decider>(
     rt: &R,
     alloc: Global,
@@ -134,29 +157,10 @@ fn check_run<R: Abort, D: Decider>(
     ensures { IfOk result (λ entries. entries ≤ 40) }
 {
     let start = draw_world(alloc, generator, maxes)?;
-    let mut serial = Serial::new(start.copy(alloc)?);
-    let mut history = History::new(alloc, decider, &start)?;
+    let mut reference = Reference::new(alloc, decider, start.copy(alloc)?)?;
     let mut meter = Meter::make(alloc, decider, start)?;
-    assert_eq!(rt; numbers(&meter), history.rounds());
-    let mut entries = 0;
-    for turn in 0..40 {
-        let bots = serial.world().bots();
-        if bots == 0 {
-            Err("no amoebot")?;
-        }
-        let bot = draw(generator, u32::from(bots)) as u16;
-        match serial.activate(decider, 0, turn, bot) {
-            Turned::Done(entry) => {
-                feed(&mut meter, &entry)?;
-                history.push(alloc, decider, bot, serial.world())?;
-                assert!(rt; meter.world().same(serial.world()));
-                assert_eq!(rt; numbers(&meter), history.rounds());
-                entries += 1;
-            }
-            Turned::Idle | Turned::Failed(_) => {}
-        }
-    }
-    Ok(entries)
+    reference.check(rt, &meter);
+    take_turns(rt, alloc, decider, generator, &mut meter, &mut reference)
 }
 
 /// Thirty-six such runs of a program from as many worlds. How many entries there were.
