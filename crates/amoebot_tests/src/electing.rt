@@ -312,7 +312,7 @@ static NOT_ELECTED: [Fault; 11] = [
 
 /// Changes of the document of seven, and what `elect` says of it then.
 static CHANGED: [(Change, Status, &str); 6] = [
-    // In `shape` an amoebot is no candidate. This is told before what the journal lacks.
+    // In `shape` an amoebot is no candidate. This refusal comes before what the journal lacks.
     (
         ("bot 2 4 2 4 0 + 1 0\n", "bot 2 4 2 4 0 + 0 0\n", 1),
         Status::Refused(Refusal {

@@ -62,7 +62,7 @@ const NOTED_BEFORE: &str = "journal\n\
     entry 1 1 1 1 1 none body 1 2 3 1 3 0 + 1 to 2 3 1 3 0 + 1\n\
     end\n";
 
-/// The pull is told as the other action.
+/// The entry names the other action for the pull.
 const PULLED_BY_NOTE: &str = "journal\n\
     entry 0 0 0 0 1 pull tail 3 spot 2 3 0 to 1 \
     body 0 3 3 2 3 0 + 0 to 3 3 3 3 0 + 0 body 1 1 3 1 3 0 + 0 to 2 3 1 3 0 + 0\n\
@@ -372,7 +372,7 @@ static REWOUND: [Rewinding; 29] = [
     ),
 ];
 
-/// The greatest place from which there is no step is told, if it is not below the place that is asked for.
+/// The answer is the greatest place from which there is no step, if it is not below the place that is asked for.
 static FAULTY: [Rewinding; 8] = [
     (
         "0",

@@ -20,7 +20,7 @@ record IsAbove (turns : ℕ) (told : List ℕ) (e : Entry) : Type 0 where
 abbrev Rises : Entry → Entry → Type 0
 Rises one later = one.caller ≡ later.caller → one.turn < later.turn
 
--- once a turn is told, a later one of the same caller is above it
+-- behind an entry, a later one of the same caller is above it
 above_next : (turns : ℕ) (told : List ℕ) (e x : Entry) → IsAbove turns told e → IsAbove turns told x → Rises e x → IsAbove turns (set told e.caller (suc e.turn)) x
 above_next turns told e x is of rises = record {
   caller = (let long = length-set told e.caller (suc e.turn) in let inside = of.caller in omega arith);
