@@ -15,45 +15,20 @@ pub(crate) type Around = [Behind; 12];
 pub(crate) fn around(found: &Found) -> Around
     ensures { result ≡ all_behind (shown_alone found.now) found.now.bot }
 {
-    let head = [
+    [
         found.behind(ALL_PORTS[0]),
         found.behind(ALL_PORTS[1]),
         found.behind(ALL_PORTS[2]),
         found.behind(ALL_PORTS[3]),
         found.behind(ALL_PORTS[4]),
         found.behind(ALL_PORTS[5]),
-    ];
-    if found.own().is_contracted() {
-        [
-            head[0],
-            head[1],
-            head[2],
-            head[3],
-            head[4],
-            head[5],
-            Behind::NoPort,
-            Behind::NoPort,
-            Behind::NoPort,
-            Behind::NoPort,
-            Behind::NoPort,
-            Behind::NoPort,
-        ]
-    } else {
-        [
-            head[0],
-            head[1],
-            head[2],
-            head[3],
-            head[4],
-            head[5],
-            found.behind(ALL_PORTS[6]),
-            found.behind(ALL_PORTS[7]),
-            found.behind(ALL_PORTS[8]),
-            found.behind(ALL_PORTS[9]),
-            found.behind(ALL_PORTS[10]),
-            found.behind(ALL_PORTS[11]),
-        ]
-    }
+        found.behind(ALL_PORTS[6]),
+        found.behind(ALL_PORTS[7]),
+        found.behind(ALL_PORTS[8]),
+        found.behind(ALL_PORTS[9]),
+        found.behind(ALL_PORTS[10]),
+        found.behind(ALL_PORTS[11]),
+    ]
 }
 
 /// What is behind a pair, of what is behind all of them.

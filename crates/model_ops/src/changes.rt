@@ -1,8 +1,8 @@
-ghost use Rattle.std.specs.Prelude.{◌≡◌, ◌+◌, ◌<◌, ◌≤◌, ◌++◌, ◌∷◌, [], IfSome, filter, length, map};
+ghost use Rattle.std.specs.Prelude.{◌≡◌, ◌+◌, ◌<◌, ◌≤◌, ◌++◌, ◌∷◌, [], IfSome, Some, filter, if◌then◌else◌, length, map};
 ghost use Rattle.std.specs.List.{find};
 ghost use Rattle.amoebot_state.specs.Limits.{most_pairs};
 ghost use Rattle.amoebot_state.specs.Patches.{bot_eq};
-ghost use Rattle.model_ops.specs.Members.{body_change, changed_cells, changed_spot, has_changed, has_moved, is_changed, most_members, nodes_of, ranked};
+ghost use Rattle.model_ops.specs.Members.{body_change, changed_cells, changed_spot, has_changed, is_changed, is_crossed, most_members, nodes_of, ranked};
 
 use crate::member::{Member, ROOM, add, id_found_on, id_on};
 use amoebot_state::{Bot, Cell, CellName, Patch};
@@ -45,28 +45,34 @@ fn push_only(patch: &mut Patch, members: &[Member], own: &Member, only: &Member)
     requires alone { filter is_changed members.now ≡ only.now ∷ [] }
     ensures { patch.new ≡ changed_cells members.now own.entry.now }
 {
-    push_node_moved(patch, members, own, only);
+    push_crossed(patch, members, &nodes_of(own), only);
     push_body(patch, only);
 }
 
-/// Adds the own node whose occupant has changed, where this member alone has changed. If it has not moved, no node has.
-fn push_node_moved(patch: &mut Patch, members: &[Member], own: &Member, only: &Member)
+/// Adds the first of some nodes whose occupant has changed, where this member alone has changed. It is one that the member entered or
+/// left.
+fn push_crossed(patch: &mut Patch, members: &[Member], nodes: &[Node], only: &Member)
     requires room { length patch.old < most_pairs }
     requires alone { filter is_changed members.now ≡ only.now ∷ [] }
-    ensures value { patch.new ≡ patch.old ++ changed_spot members.now (find (has_changed members.now) (nodes_of own.entry.now)) }
+    ensures value { patch.new ≡ patch.old ++ changed_spot members.now (find (has_changed members.now) nodes.now) }
     ensures few { length patch.new ≤ length patch.old + 1 }
 {
-    if !has_moved(only) {
-        return;
+    for node in nodes {
+        if is_crossed(only, *node) {
+            if push_changed_node(patch, members, *node) {
+                return;
+            }
+        }
     }
-    push_node(patch, members, own);
 }
 
-/// Whether the member has another head or another tail than it was found with.
-fn has_moved(member: &Member) -> bool
-    ensures { result ≡ has_moved member.entry.now }
+/// Whether the member entered or left the node.
+fn is_crossed(member: &Member, node: Node) -> bool
+    ensures { result ≡ is_crossed member.entry.now node }
 {
-    member.found.head != member.now.head || member.found.tail != member.now.tail
+    let before = member.found.is_own(node);
+    let after = member.now.is_own(node);
+    (before && !after) || (after && !before)
 }
 
 /// Adds what differs, however many have changed.
@@ -76,40 +82,50 @@ fn push_several(patch: &mut Patch, members: &[Member], own: &Member)
     requires few { length members.now ≤ most_members }
     ensures { patch.new ≡ changed_cells members.now own.entry.now }
 {
-    push_node(patch, members, own);
+    push_node(patch, members, &nodes_of(own));
     let mut changed = ArrayVec::new();
     add_changed(&mut changed, members);
     push_bodies(patch, changed.as_slice());
 }
 
-fn push_node(patch: &mut Patch, members: &[Member], own: &Member)
+/// Adds the first of some nodes whose occupant has changed.
+fn push_node(patch: &mut Patch, members: &[Member], nodes: &[Node])
     requires { length patch.old < most_pairs }
-    ensures value { patch.new ≡ patch.old ++ changed_spot members.now (find (has_changed members.now) (nodes_of own.entry.now)) }
+    ensures value { patch.new ≡ patch.old ++ changed_spot members.now (find (has_changed members.now) nodes.now) }
     ensures few { length patch.new ≤ length patch.old + 1 }
 {
-    let nodes = [own.now.head, own.found.tail, own.found.head, own.now.tail];
-    if let Some(node) = changed_node(members, &nodes) {
-        let before = id_found_on(members, node);
-        let after = id_on(members, node);
-        patch.push(CellName::Spot(node), Cell::Spot(before), Cell::Spot(after));
-    }
-}
-
-fn changed_node(members: &[Member], nodes: &[Node]) -> Option<Node>
-    ensures { result ≡ find (has_changed members.now) nodes.now }
-{
     for node in nodes {
-        if has_changed(members, *node) {
-            return Some(*node);
+        if push_changed_node(patch, members, *node) {
+            return;
         }
     }
-    None
 }
 
-fn has_changed(members: &[Member], node: Node) -> bool
-    ensures { result ≡ has_changed members.now node }
+/// The nodes of a member, as it is now and as it was found.
+fn nodes_of(member: &Member) -> [Node; 4]
+    ensures { result ≡ nodes_of member.entry.now }
 {
-    id_found_on(members, node) != id_on(members, node)
+    [
+        member.now.head,
+        member.found.tail,
+        member.found.head,
+        member.now.tail,
+    ]
+}
+
+/// Adds a node if its occupant has changed, and tells whether it has.
+fn push_changed_node(patch: &mut Patch, members: &[Member], node: Node) -> bool
+    requires { length patch.old < most_pairs }
+    ensures told { result ≡ has_changed members.now node }
+    ensures value { patch.new ≡ patch.old ++ (if result then changed_spot members.now (Some node) else []) }
+{
+    let before = id_found_on(members, node);
+    let after = id_on(members, node);
+    if before == after {
+        return false;
+    }
+    patch.push(CellName::Spot(node), Cell::Spot(before), Cell::Spot(after));
+    true
 }
 
 /// Adds the members that have changed, in rising id.
