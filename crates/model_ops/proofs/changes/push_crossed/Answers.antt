@@ -13,12 +13,14 @@ loop-node-preserved c =
     let i = c.loop-node.node-index in
     let lt = c.loop-node-test.true in
     elim c.if-is_crossed.branch [
-      | then-is_crossed+else-push_changed_node w ↦
-          ( w.patch-is ∙ w.push_changed_node.ensures.value
+      | then-is_crossed+else-push_changed_node w ↦ (
+        w.patch-is ∙ w.push_changed_node.ensures.value
             ∙ ap (λ t. c.loop-node.patch ++ (if t then changed_spot ms (Some _) else [])) w.if-push_changed_node.false
-            ∙ append-nil c.loop-node.patch ∙ c.loop-node.invariant.0
-          , c.loop-node.invariant.1 ∙ passed ms vs i _ lt (sym w.push_changed_node.ensures.told ∙ w.if-push_changed_node.false) )
-      | else-is_crossed w ↦
-          ( w.patch-is ∙ c.loop-node.invariant.0
-          , c.loop-node.invariant.1 ∙ passed ms vs i _ lt (uncrossed_unchanged ms c.args.only.now _ (sym c.is_crossed.ensures ∙ w.if-is_crossed.false) c.requires.alone) )
+            ∙ append-nil c.loop-node.patch ∙ c.loop-node.invariant.0,
+        c.loop-node.invariant.1 ∙ passed ms vs i _ lt (sym w.push_changed_node.ensures.told ∙ w.if-push_changed_node.false),
+      )
+      | else-is_crossed w ↦ (
+        w.patch-is ∙ c.loop-node.invariant.0,
+        c.loop-node.invariant.1 ∙ passed ms vs i _ lt (uncrossed_unchanged ms c.args.only.now _ (sym c.is_crossed.ensures ∙ w.if-is_crossed.false) c.requires.alone),
+      )
     ]
