@@ -67,6 +67,7 @@ impl Decider for Runner {
     fn decide(&self, found: &Found) -> Verdict {
         let program = self.checked.program();
         let names = Names::new(program.vars());
+        // Borrowed where it was made: a working copy with a name of its own would be moved once more.
         let site = &mut Site::new(found);
         match actions_decide(program.actions(), program.guard(), site, names) {
             Ok(Some((action, moved))) => change_made(action, moved, site),
