@@ -1,0 +1,3 @@
+pub mod DrawnLists
+pub mod MergeSteps
+pub mod OwnMerges

@@ -1,0 +1,3 @@
+pub mod OwnLists
+pub use Rattle.claim_core.specs.Merges
+pub use Rattle.claim_core.specs.Turns
