@@ -122,9 +122,9 @@ read_place Ended place reads = absurd reads
 module _ {D : Type 0} (verdict : D → Shown → Verdict) where
   -- the caller's next turn begins
   pub begun : (m : Seated D) (c u t b : ℕ) (bare : Config) (pairs : Pairs) (notes : List Note) → IsSeat verdict m c u bare → t ≡ (own m.0).caller.turn → t < (about verdict m.0).lists.turns → b ≡ bot_in verdict m.0 → pairs ≡ [] → notes ≡ []
-      → IsActivation verdict m c t b false bare pairs notes × IsClaiming verdict m t b pairs
+      → IsActivation verdict way m c t b false bare pairs notes × IsClaiming verdict m t b pairs
   begun m c u t b bare pairs notes is turn lt of none no_notes =
-      subst (λ (q : Pairs × List Note). IsActivation verdict m c t b false bare q.0 q.1 × IsClaiming verdict m t b q.0) (λ i. (sym none i, sym no_notes i)) (
+      subst (λ (q : Pairs × List Note). IsActivation verdict way m c t b false bare q.0 q.1 × IsClaiming verdict m t b q.0) (λ i. (sym none i, sym no_notes i)) (
         record {
           alone = is.alone;
           run = is.run;
@@ -156,7 +156,7 @@ module _ {D : Type 0} (verdict : D → Shown → Verdict) where
       amoebot : b ≡ bot g c t
       amoebot = of ∙ (λ i. bot g (is.number i) (sym turn i))
 
-  module _ (m : Seated D) (c t b : ℕ) (s : Bool) (bare : Config) (pairs : Pairs) (notes : List Note) (is : IsActivation verdict m c t b s bare pairs notes) where
+  module _ (m : Seated D) (c t b : ℕ) (s : Bool) (bare : Config) (pairs : Pairs) (notes : List Note) (is : IsActivation verdict way m c t b s bare pairs notes) where
     abbrev g : Setup
     g = about verdict m.0
 
@@ -172,7 +172,7 @@ module _ {D : Type 0} (verdict : D → Shown → Verdict) where
 
     -- the seat with another record of the same caller, which holds these cells and has the slots of the bodies among them out
     pub with_held : (u : Bool) (r : Record) (out : List (ℕ × Slot)) (cells : Pairs) (ws : List Note) → All (λ (w : Note). w.stamp ≤ most_turns) ws → r.number ≡ c → r.taken ≡ None → r.caller.held ≡ cells → All HasPlace cells → r.won ≡ ws → r.note ≡ None → map (λ (w : Note). w.node) ws ≡ nodes_in cells → AreOut u cells out
-        → IsActivation verdict (like m.0 (r ∷ []), out) c t b u bare cells ws
+        → IsActivation verdict way (like m.0 (r ∷ []), out) c t b u bare cells ws
     with_held u r out cells ws few number taken held placed won note nodes slots = record {
       alone = refl;
       run = is.run;
@@ -192,17 +192,17 @@ module _ {D : Type 0} (verdict : D → Shown → Verdict) where
     }
 
     -- the seat after a step that leaves it what it has out of slots
-    pub stays : (m' : Seated D) (k : Caller) → m'.0 ≡ goes_on m.0 k → k.held ≡ (own m.0).caller.held → m'.1 ≡ m.1 → IsActivation verdict m' c t b s bare pairs notes
+    pub stays : (m' : Seated D) (k : Caller) → m'.0 ≡ goes_on m.0 k → k.held ≡ (own m.0).caller.held → m'.1 ≡ m.1 → IsActivation verdict way m' c t b s bare pairs notes
     stays m' k view held out =
-        subst (λ q. IsActivation verdict q c t b s bare pairs notes) (λ i. (sym view i, sym out i))
+        subst (λ q. IsActivation verdict way q c t b s bare pairs notes) (λ i. (sym view i, sym out i))
         (with_held s (record (own m.0) { caller = k }) m.1 pairs notes is.few is.number is.taken (held ∙ is.held) is.placed is.won is.note is.nodes is.out)
 
     -- a body was won, and its value read
     pub wins_body : (m' m2 : Seated D) (i : ℕ) (x v : Cell) → IsClaiming verdict m t b pairs → next_of g (bot_in verdict m.0) (own m.0).caller.held ≡ Some (name.Body i)
         → m'.0 ≡ goes_on m.0 (caller_with_cell g (own m.0).number (own m.0).caller (name.Body i) x) → m'.1 ≡ (i, slot.Cell x) ∷ m.1 → IsKnown g (bot_in verdict m.0) ((name.Body i, x) ∷ (own m.0).caller.held)
         → m'.1 ≡ (i, slot.Cell v) ∷ rest m'.1 → m2 ≡ m'
-        → IsActivation verdict m2 c t b s bare ((name.Body i, v) ∷ pairs) notes × IsClaiming verdict m2 t b ((name.Body i, v) ∷ pairs)
-    wins_body m' m2 i x v cl next view out known read stays = subst (λ q. IsActivation verdict q c t b s bare ((name.Body i, v) ∷ pairs) notes × IsClaiming verdict q t b ((name.Body i, v) ∷ pairs)) (sym now) (after, claiming)
+        → IsActivation verdict way m2 c t b s bare ((name.Body i, v) ∷ pairs) notes × IsClaiming verdict m2 t b ((name.Body i, v) ∷ pairs)
+    wins_body m' m2 i x v cl next view out known read stays = subst (λ q. IsActivation verdict way q c t b s bare ((name.Body i, v) ∷ pairs) notes × IsClaiming verdict q t b ((name.Body i, v) ∷ pairs)) (sym now) (after, claiming)
       where
         k : Caller
         k = caller_with_cell g (own m.0).number (own m.0).caller (name.Body i) x
@@ -219,7 +219,7 @@ module _ {D : Type 0} (verdict : D → Shown → Verdict) where
         place : (j : ℕ) × IsPlaced g (name.Body i) j
         place = cl.known.placed (name.Body i) (sym (next_same cl.turn) ∙ next)
 
-        after : IsActivation verdict (goes_on m.0 k, (i, slot.Cell x) ∷ m.1) c t b s bare ((name.Body i, v) ∷ pairs) notes
+        after : IsActivation verdict way (goes_on m.0 k, (i, slot.Cell x) ∷ m.1) c t b s bare ((name.Body i, v) ∷ pairs) notes
         after = with_held s (record (own m.0) { caller = k }) ((i, slot.Cell x) ∷ m.1) ((name.Body i, v) ∷ pairs) notes is.few is.number is.taken pairs_are (All-cons HasPlace (name.Body i, v) pairs place is.placed) is.won is.note is.nodes (x, m.1, refl, (λ e. sym same), is.out)
 
         claiming : IsClaiming verdict (goes_on m.0 k, (i, slot.Cell x) ∷ m.1) t b ((name.Body i, v) ∷ pairs)
@@ -231,8 +231,8 @@ module _ {D : Type 0} (verdict : D → Shown → Verdict) where
         }
 
     -- so it is after a try that won it
-    pub wins_plain : (m' m2 : Seated D) (i : ℕ) (v : Cell) → IsClaiming verdict m t b pairs → next_of g (bot_in verdict m.0) (own m.0).caller.held ≡ Some (name.Body i) → Wins verdict m m' → m'.1 ≡ (i, slot.Cell v) ∷ rest m'.1 → m2 ≡ m'
-        → IsActivation verdict m2 c t b s bare ((name.Body i, v) ∷ pairs) notes × IsClaiming verdict m2 t b ((name.Body i, v) ∷ pairs)
+    pub wins_plain : (m' m2 : Seated D) (i : ℕ) (v : Cell) → IsClaiming verdict m t b pairs → next_of g (bot_in verdict m.0) (own m.0).caller.held ≡ Some (name.Body i) → Wins verdict way m m' → m'.1 ≡ (i, slot.Cell v) ∷ rest m'.1 → m2 ≡ m'
+        → IsActivation verdict way m2 c t b s bare ((name.Body i, v) ∷ pairs) notes × IsClaiming verdict m2 t b ((name.Body i, v) ∷ pairs)
     wins_plain m' m2 i v cl next won read stays =
         wins_body m' m2 i won.value v cl next
         (won.now ∙ ap (λ n. goes_on m.0 (caller_with_cell g (own m.0).number (own m.0).caller n won.value)) is_i)
@@ -245,8 +245,8 @@ module _ {D : Type 0} (verdict : D → Shown → Verdict) where
     -- a node was won, with what its word said
     pub wins_node : (m' : Seated D) (v : Node) (w : Note) → w.node ≡ v → w.stamp ≤ most_turns → IsClaiming verdict m t b pairs → next_of g (bot_in verdict m.0) (own m.0).caller.held ≡ Some (name.Spot v)
         → m'.0 ≡ like m.0 (with_node g (own m.0) w ∷ []) → m'.1 ≡ m.1 → IsKnown g (bot_in verdict m.0) ((name.Spot w.node, cell.Spot w.occ) ∷ (own m.0).caller.held)
-        → IsActivation verdict m' c t b s bare ((name.Spot v, cell.Spot w.occ) ∷ pairs) (w ∷ notes) × IsClaiming verdict m' t b ((name.Spot v, cell.Spot w.occ) ∷ pairs)
-    wins_node m' v w of small cl next view out known = subst (λ q. IsActivation verdict q c t b s bare ((name.Spot v, cell.Spot w.occ) ∷ pairs) (w ∷ notes) × IsClaiming verdict q t b ((name.Spot v, cell.Spot w.occ) ∷ pairs)) (λ j. (sym view j, sym out j)) (after, claiming)
+        → IsActivation verdict way m' c t b s bare ((name.Spot v, cell.Spot w.occ) ∷ pairs) (w ∷ notes) × IsClaiming verdict m' t b ((name.Spot v, cell.Spot w.occ) ∷ pairs)
+    wins_node m' v w of small cl next view out known = subst (λ q. IsActivation verdict way q c t b s bare ((name.Spot v, cell.Spot w.occ) ∷ pairs) (w ∷ notes) × IsClaiming verdict q t b ((name.Spot v, cell.Spot w.occ) ∷ pairs)) (λ j. (sym view j, sym out j)) (after, claiming)
       where
         r : Record
         r = with_node g (own m.0) w
@@ -257,7 +257,7 @@ module _ {D : Type 0} (verdict : D → Shown → Verdict) where
         place : (j : ℕ) × IsPlaced g (name.Spot v) j
         place = cl.known.placed (name.Spot v) (sym (next_same cl.turn) ∙ next)
 
-        after : IsActivation verdict (like m.0 (r ∷ []), m.1) c t b s bare ((name.Spot v, cell.Spot w.occ) ∷ pairs) (w ∷ notes)
+        after : IsActivation verdict way (like m.0 (r ∷ []), m.1) c t b s bare ((name.Spot v, cell.Spot w.occ) ∷ pairs) (w ∷ notes)
         after = with_held s r m.1 ((name.Spot v, cell.Spot w.occ) ∷ pairs) (w ∷ notes) (All-cons (λ (u : Note). u.stamp ≤ most_turns) w notes small is.few) is.number is.taken pairs_are (All-cons HasPlace (name.Spot v, cell.Spot w.occ) pairs place is.placed) (λ j. w ∷ is.won j) refl (λ j. of j ∷ is.nodes j) is.out
 
         claiming : IsClaiming verdict (like m.0 (r ∷ []), m.1) t b ((name.Spot v, cell.Spot w.occ) ∷ pairs)
@@ -270,8 +270,8 @@ module _ {D : Type 0} (verdict : D → Shown → Verdict) where
 
     -- another caller's tag was found
     pub stops : (m' : Seated D) (n : CellName) (tag : ℕ) → IsClaiming verdict m t b pairs → next_of g (bot_in verdict m.0) (own m.0).caller.held ≡ Some n
-        → m'.0 ≡ like m.0 (record (own m.0) { caller = record (own m.0).caller { phase = Refusing n tag }; note = None } ∷ []) → m'.1 ≡ m.1 → IsOthers g (own m.0).number tag → IsActivation verdict m' c t b s bare pairs notes × IsStopped verdict m' c t b pairs
-    stops m' n tag cl next view out other = subst (λ (q : Seated D). IsActivation verdict q c t b s bare pairs notes × IsStopped verdict q c t b pairs) (λ j. (sym view j, sym out j)) (
+        → m'.0 ≡ like m.0 (record (own m.0) { caller = record (own m.0).caller { phase = Refusing n tag }; note = None } ∷ []) → m'.1 ≡ m.1 → IsOthers g (own m.0).number tag → IsActivation verdict way m' c t b s bare pairs notes × IsStopped verdict m' c t b pairs
+    stops m' n tag cl next view out other = subst (λ (q : Seated D). IsActivation verdict way q c t b s bare pairs notes × IsStopped verdict q c t b pairs) (λ j. (sym view j, sym out j)) (
       with_held s (record (own m.0) { caller = record (own m.0).caller { phase = Refusing n tag }; note = None }) m.1 pairs notes is.few is.number is.taken is.held is.placed is.won refl is.nodes is.out,
       record {
         turn = cl.turn;
@@ -285,13 +285,13 @@ module _ {D : Type 0} (verdict : D → Shown → Verdict) where
     )
 
     -- so it is after a try of a plain cell
-    pub stops_plain : (m' : Seated D) (i tag : ℕ) → IsClaiming verdict m t b pairs → next_of g (bot_in verdict m.0) (own m.0).caller.held ≡ Some (name.Body i) → IsRefusedAt verdict tag m m' → IsActivation verdict m' c t b s bare pairs notes × IsStopped verdict m' c t b pairs
+    pub stops_plain : (m' : Seated D) (i tag : ℕ) → IsClaiming verdict m t b pairs → next_of g (bot_in verdict m.0) (own m.0).caller.held ≡ Some (name.Body i) → IsRefusedAt verdict tag m m' → IsActivation verdict way m' c t b s bare pairs notes × IsStopped verdict m' c t b pairs
     stops_plain m' i tag cl next by =
         stops m' (name.Body i) tag cl next
         (by.now ∙ (λ j. like m.0 (record (own m.0) { caller = record (own m.0).caller { phase = Refusing (ap (λ o. unwrap_or o (name.Body 0)) next j) tag }; note = is.note j } ∷ []))) by.out by.other
 
     -- the body is tried next
-    pub to_try_body : (i j tag : ℕ) → IsClaiming verdict m t b pairs → next_of g (bot_in verdict m.0) (own m.0).caller.held ≡ Some (name.Body i) → number bare.area (name.Body i) ≡ Some j → tag ≡ own_tag g c t → IsToTry verdict j tag m.0
+    pub to_try_body : (i j tag : ℕ) → IsClaiming verdict m t b pairs → next_of g (bot_in verdict m.0) (own m.0).caller.held ≡ Some (name.Body i) → number bare.area (name.Body i) ≡ Some j → tag ≡ own_tag g c t → IsToTry verdict way j tag m.0
     to_try_body i j tag cl next at_j mine =
         let nx = sym (next_same cl.turn) ∙ next in
         let is_i : tried verdict m.0 ≡ name.Body i = ap (λ o. unwrap_or o (name.Body 0)) next in
@@ -302,7 +302,7 @@ module _ {D : Type 0} (verdict : D → Shown → Verdict) where
           phase = cl.phase ∙ ap (after_win g b pairs) nx;
           next = next ∙ ap (λ n. Some n) (sym is_i);
           placed = subst (λ n. IsPlaced g n j) (sym is_i) placed;
-          plain = (let e = same_Some (first_plain g.world + i) j placed.0 in omega (arith, e));
+          plain = (let e = same_Some (first_plain way g.world + i) j placed.0 in omega (arith, e));
           tag = mine ∙ (λ k. own_tag g (sym is.number k) (sym cl.turn k));
         }
 
@@ -331,7 +331,7 @@ module _ {D : Type 0} (verdict : D → Shown → Verdict) where
     }
 
     pub marks : (m' : Seated D) (place : ℕ) → (own m.0).caller.turn ≡ t → length (own m.0).caller.marks ≡ t → IsToRead (own m.0).caller.phase → place ≤ most_turns → m'.0 ≡ goes_on m.0 (marked_at g (own m.0).caller place) → m'.1 ≡ m.1
-        → IsActivation verdict m' c t b s bare pairs notes × IsFreeing verdict m' t pairs place
+        → IsActivation verdict way m' c t b s bare pairs notes × IsFreeing verdict m' t pairs place
     marks m' place turn counted reads few view out = (
       stays m' (marked_at g (own m.0).caller place) view (frees-held g (own m.0).caller.turn (own m.0).caller.held _) out,
       subst (λ q. IsFreeing verdict q t pairs place) (λ i. (sym view i, sym out i)) (record { caller = now; marked = has_mark place counted reads few t }),
@@ -342,7 +342,7 @@ module _ {D : Type 0} (verdict : D → Shown → Verdict) where
 
     -- the turn of a whole zone has its mark
     pub looked : (m' : Seated D) (place after : ℕ) (told : Shown) → HoldsWholeZone verdict m t b pairs told after → IsToRead (own m.0).caller.phase → place ≤ most_turns → m'.0 ≡ goes_on m.0 (marked_at g (own m.0).caller place) → m'.1 ≡ m.1
-        → IsActivation verdict m' c t b s bare pairs notes × HoldsWholeZone verdict m' t b pairs told place
+        → IsActivation verdict way m' c t b s bare pairs notes × HoldsWholeZone verdict m' t b pairs told place
     looked m' place after told wh reads few view out = (
       stays m' (marked_at g (own m.0).caller place) view (frees-held g (own m.0).caller.turn (own m.0).caller.held _) out,
       subst (λ q. HoldsWholeZone verdict q t b pairs told place) (λ i. (sym view i, sym out i)) now,
@@ -469,8 +469,8 @@ module _ {D : Type 0} (verdict : D → Shown → Verdict) where
         word = refl;
       }
 
-      pub frees_node : (m2 : Seated D) → m2.0 ≡ like m.0 (record (own m.0) { caller = released_caller g (own m.0).caller; won = but_first (own m.0).won } ∷ []) → m2.1 ≡ m.1 → IsActivation verdict m2 c t b s bare held ws × IsFreeing verdict m2 t held after
-      frees_node m2 view out = subst (λ q. IsActivation verdict q c t b s bare held ws × IsFreeing verdict q t held after) (λ j. (sym view j, sym out j)) (
+      pub frees_node : (m2 : Seated D) → m2.0 ≡ like m.0 (record (own m.0) { caller = released_caller g (own m.0).caller; won = but_first (own m.0).won } ∷ []) → m2.1 ≡ m.1 → IsActivation verdict way m2 c t b s bare held ws × IsFreeing verdict m2 t held after
+      frees_node m2 view out = subst (λ q. IsActivation verdict way q c t b s bare held ws × IsFreeing verdict q t held after) (λ j. (sym view j, sym out j)) (
         with_held s (record (own m.0) { caller = released_caller g (own m.0).caller; won = but_first (own m.0).won }) m.1 held ws (All-tail (λ (u : Note). u.stamp ≤ most_turns) w ws (subst (All (λ (u : Note). u.stamp ≤ most_turns)) notes_are is.few)) is.number is.taken
             (ap (λ (j : Caller). j.held) (k_is (name.Spot v) x held are after fr) ∙ frees-held g t held (own m.0).caller.marks) (rest_placed (name.Spot v) x held are after fr)
             (ap but_first (is.won ∙ notes_are)) is.note (λ j. tail_of ((ap (map (λ (u : Note). u.node)) (sym notes_are) ∙ is.nodes ∙ ap nodes_in are) j)) (subst (λ (ps : Pairs). AreOut s ps m.1) are is.out),
@@ -482,18 +482,18 @@ module _ {D : Type 0} (verdict : D → Shown → Verdict) where
       outs : AreOut s ((name.Body i, x) ∷ held) m.1
       outs = subst (λ (ps : Pairs). AreOut s ps m.1) are is.out
 
-      pub to_free : (m' : Seated D) (j : ℕ) → number bare.area (name.Body i) ≡ Some j → m' ≡ (m.0, (i, slot.Cell x) ∷ rest m.1) → IsToFree verdict j m'
+      pub to_free : (m' : Seated D) (j : ℕ) → number bare.area (name.Body i) ≡ Some j → m' ≡ (m.0, (i, slot.Cell x) ∷ rest m.1) → IsToFree verdict way j m'
       to_free m' j at_n now =
           let placed = last_number (name.Body i) x held are after fr j at_n in
-          subst (IsToFree verdict j) (sym now) (record {
+          subst (IsToFree verdict way j) (sym now) (record {
             phase = phase_is (name.Body i) x held are after fr;
             inside = placed.1;
-            plain = (let e = same_Some (first_plain g.world + i) j placed.0 in omega (arith, e));
+            plain = (let e = same_Some (first_plain way g.world + i) j placed.0 in omega (arith, e));
             last = (name.Body i, x, held, rest m.1, is.held ∙ are, placed.0, refl);
           })
 
-      pub frees_body : (m' m2 : Seated D) → m' ≡ (m.0, (i, slot.Cell x) ∷ rest m.1) → m2.0 ≡ goes_on m'.0 (released_caller (about verdict m'.0) (own m'.0).caller) → m2.1 ≡ rest m'.1 → IsActivation verdict m2 c t b s bare held notes × IsFreeing verdict m2 t held after
-      frees_body m' m2 now view out = subst (λ q. IsActivation verdict q c t b s bare held notes × IsFreeing verdict q t held after) (sym is_now) (
+      pub frees_body : (m' m2 : Seated D) → m' ≡ (m.0, (i, slot.Cell x) ∷ rest m.1) → m2.0 ≡ goes_on m'.0 (released_caller (about verdict m'.0) (own m'.0).caller) → m2.1 ≡ rest m'.1 → IsActivation verdict way m2 c t b s bare held notes × IsFreeing verdict m2 t held after
+      frees_body m' m2 now view out = subst (λ q. IsActivation verdict way q c t b s bare held notes × IsFreeing verdict q t held after) (sym is_now) (
         with_held s (record (own m.0) { caller = released_caller g (own m.0).caller }) (rest m.1) held notes is.few is.number is.taken
             (ap (λ (j : Caller). j.held) (k_is (name.Body i) x held are after fr) ∙ frees-held g t held (own m.0).caller.marks) (rest_placed (name.Body i) x held are after fr) is.won is.note (is.nodes ∙ ap nodes_in are) (subst (AreOut s held) (sym (ap rest outs.2)) outs.4),
         freeing_still (name.Body i) x held are after fr (record (own m.0) { caller = released_caller g (own m.0).caller }) (rest m.1) refl,

@@ -73,7 +73,7 @@ patched_else a (p ∷ ps) xs i all =
     at-put_else (patched a ps xs) (number a (cell_of p)) (Some i) p.1 (λ e. All-head (λ (q : CellName × Cell). number a (cell_of q) ≢ Some i) p ps all (sym e))
     ∙ patched_else a ps xs i (All-tail (λ (q : CellName × Cell). number a (cell_of q) ≢ Some i) p ps all)
 
-module _ {D : Type 0} {verdict : D → Shown → Verdict} {z : Terms D} {s : Content D} {core : State} {seat : ℕ} {r : Record} (table : IsAt verdict z s core seat r) where
+module _ {D : Type 0} {verdict : D → Shown → Verdict} {z : Terms D} {s : Content D} {core : State} {seat : ℕ} {r : Record} (table : IsAt verdict z by_journal s core seat r) where
   abbrev g : Setup
   g = setup_of_terms verdict z
 
@@ -160,16 +160,16 @@ module _ {D : Type 0} {verdict : D → Shown → Verdict} {z : Terms D} {s : Con
             by_length : slice_get core.values k ≡ None → slice_get new.values k ≡ slice_get core.values k
             by_length n = slice_get_past new.values k (let le = sized (past core.tags k q) in let same = length-patched z.world.area (plain_patch change.patch) core.values in omega (arith, le, same)) ∙ sym n
 
-    words : AreWords g new (set s.words last x)
+    words : AreWords by_journal g new (set s.words last x)
     words = journal_written g core new s.words x table.stands.words refl free_value (omega (arith, longer)) (to.word ∙ ap (λ (es : List Entry). 2 * length es) next_is ∙ (let q : 2 * length new.journal ≡ 2 * length new.journal + 0 = omega arith in q))
 
     journal_is : IsCoreJournal g new to.next
     journal_is = record { first = to.pushed.first ∙ has_taken.1.first; entries = next_is; room = omega (arith, fewer, to.pushed.spare, has_taken.1.room) }
 
-    homes : AreHomes g new (put_back s.homes carried)
-    homes = subst (AreHomes g new) (sym (ap (put_back s.homes) to.out)) (record {
+    homes : AreHomes by_journal g new (put_back s.homes carried)
+    homes = subst (AreHomes by_journal g new) (sym (ap (put_back s.homes) to.out)) (record {
       count = length-set s.homes (journal_slot z.world) (home.some (slot.Journal to.next)) ∙ table.stands.homes.count;
-      cell = λ i y free value. set_else s.homes (journal_slot z.world) i (home.some (slot.Journal to.next)) (λ q. let lt = slice_get_within core.tags (first_plain z.world + i) 0 free in omega (arith, q, lt, (counts table).0)) ∙ table.stands.homes.cell i y free (sym (free_stays (first_plain z.world + i) free) ∙ value);
+      cell = λ i y free value. set_else s.homes (journal_slot z.world) i (home.some (slot.Journal to.next)) (λ q. let lt = slice_get_within core.tags (first_plain by_journal z.world + i) 0 free in omega (arith, q, lt, (counts table).0)) ∙ table.stands.homes.cell i y free (sym (free_stays (first_plain by_journal z.world + i) free) ∙ value);
       journal = λ none. (to.next, set_here s.homes (journal_slot z.world) (home.some (slot.Journal to.next)) (omega (arith, table.stands.homes.count)), journal_is);
     })
 
@@ -211,7 +211,7 @@ module _ {D : Type 0} {verdict : D → Shown → Verdict} {z : Terms D} {s : Con
       taken = λ h. none-some r.number h;
     }
 
-    same : (k : ℕ) → k < first_plain z.world → slice_index (set s.words last x) k ≡ slice_index s.words k
+    same : (k : ℕ) → k < first_plain by_journal z.world → slice_index (set s.words last x) k ≡ slice_index s.words k
     same = journal_else g s.words x
 
     stamps_stay : (q : Record) → IsStamped g s.words q → IsStamped g (set s.words last x) q
@@ -230,7 +230,7 @@ module _ {D : Type 0} {verdict : D → Shown → Verdict} {z : Terms D} {s : Con
       noted = λ m q. (stamps_stay r (my_stamps table)).noted m q;
     }
 
-    pub commit_goes : (slots : ℕ) → GoesTo verdict z s (next g r.number core) last seat (view_of z (r ∷ []), carried) (λ _. stored verdict (step slots last x 0 home.none) (view_of z (r ∷ []), carried) x) x
+    pub commit_goes : (slots : ℕ) → GoesTo verdict z by_journal s (next g r.number core) last seat (view_of z (r ∷ []), carried) (λ _. stored verdict (step slots last x 0 home.none) (view_of z (r ∷ []), carried) x) x
     commit_goes slots = (
       view_of z (with_commit g r change place ∷ []),
       gives,
@@ -240,7 +240,7 @@ module _ {D : Type 0} {verdict : D → Shown → Verdict} {z : Terms D} {s : Con
     )
 
 module _ {D : Type 0} (verdict : D → Shown → Verdict) (z : Terms D) (ok : IsSetup (setup_of_terms verdict z)) where
-  pub commit_allowed : (slots seat : ℕ) (me : Seated D) (x : ℕ) → me.0 ≡ view_of z (own me.0 ∷ []) → IsToCommit verdict (journal_slot z.world) x me → Allows (KeepsRule verdict z) slots seat me (cells z.world) (λ _. x) (λ _. stored verdict (step slots (cells z.world) x 0 home.none) me x)
+  pub commit_allowed : (slots seat : ℕ) (me : Seated D) (x : ℕ) → me.0 ≡ view_of z (own me.0 ∷ []) → IsToCommit verdict (journal_slot z.world) x me → Allows (KeepsRule verdict z by_journal) slots seat me (cells z.world) (λ _. x) (λ _. stored verdict (step slots (cells z.world) x 0 home.none) me x)
   commit_allowed slots seat me x one to =
-      allowed verdict z ok slots seat me (cells z.world) (λ _. x) (IsToCommit verdict (journal_slot z.world) x) (λ m _. stored verdict (step slots (cells z.world) x 0 home.none) m x) one to
+      allowed verdict z by_journal ok slots seat me (cells z.world) (λ _. x) (IsToCommit verdict (journal_slot z.world) x) (λ m _. stored verdict (step slots (cells z.world) x 0 home.none) m x) one to
       (λ s core r table fact. inl (commit_goes table x me.1 fact slots))

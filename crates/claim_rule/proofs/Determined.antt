@@ -92,7 +92,7 @@ module _ {D : Type 0} (verdict : D → Shown → Verdict) (z : Terms D) (s s' : 
   listed one sound = All-weaker (IsListed z.lists) (λ (e : Entry). e.caller < length z.lists.ids) (λ e is. is.caller) one.journal sound.order.listed
 
   -- the records of callers determine the journal,
-  pub same_journal : (one two : State) → Sound g one → Sound g two → Stands verdict z s one → Stands verdict z s' two → HasTwins AreAlike s.views s'.views → one.journal ≡ two.journal
+  pub same_journal : (one two : State) → Sound g one → Sound g two → Stands verdict z way s one → Stands verdict z way s' two → HasTwins AreAlike s.views s'.views → one.journal ≡ two.journal
   same_journal one two sound sound' st st' twins = same_entries (length z.lists.ids) 0 one.journal two.journal (listed one sound) (listed two sound') own
     where
       own : (c : ℕ) → c < length z.lists.ids → entries_of c 0 one.journal ≡ entries_of c 0 two.journal
@@ -109,14 +109,14 @@ module _ {D : Type 0} (verdict : D → Shown → Verdict) (z : Terms D) (s s' : 
   same_last one two sound sound' same = run_has_one_last g.verdict g.world one.journal sound.last sound'.last sound.run (subst (λ es. Run g.verdict g.world es sound'.last) (sym same) sound'.run)
 
   -- a word has one tag,
-  same_tag : (one two : State) → Stands verdict z s one → Stands verdict z s' two → s.words ≡ s'.words → (k : ℕ) → k < cells z.world → cell_tag one k ≡ cell_tag two k
-  same_tag one two st st' words k inside = elim (cases_lt k (first_plain z.world)) [
+  same_tag : (one two : State) → Stands verdict z way s one → Stands verdict z way s' two → s.words ≡ s'.words → (k : ℕ) → k < cells z.world → cell_tag one k ≡ cell_tag two k
+  same_tag one two st st' words k inside = elim (cases_lt k (first_plain way z.world)) [
     | inl lt ↦ sym (st.words.node k lt).tag ∙ ap (λ (ws : List ℕ). word_tag (slice_index ws k)) words ∙ (st'.words.node k lt).tag
     | inr le ↦ sym (st.words.plain k le inside) ∙ ap (λ (ws : List ℕ). slice_index ws k) words ∙ st'.words.plain k le inside
   ]
 
   -- with the words they determine the state
-  pub same_state : (one two : State) → Sound g one → Sound g two → Stands verdict z s one → Stands verdict z s' two → s.words ≡ s'.words → HasTwins SayTheSame s.views s'.views → one ≡ two
+  pub same_state : (one two : State) → Sound g one → Sound g two → Stands verdict z way s one → Stands verdict z way s' two → s.words ≡ s'.words → HasTwins SayTheSame s.views s'.views → one ≡ two
   same_state one two sound sound' st st' words twins = λ i. record { tags = tags i; values = values i; journal = journal i; holder = holder i; callers = callers i }
     where
       same_callers : (c : ℕ) → c < length z.lists.ids → slice_get one.callers c ≡ slice_get two.callers c
@@ -169,4 +169,4 @@ module _ {D : Type 0} (verdict : D → Shown → Verdict) (z : Terms D) (s s' : 
 pub state_is_determined : {D : Type 0} (verdict : D → Shown → Verdict) → StateIsDetermined verdict
 state_is_determined verdict z s one two ok st st' =
     let g = setup_of_terms verdict z in
-    same_state verdict z s s ok (after g one) (after g two) (always g ok one) (always g ok two) st st' refl (λ d j r has. (d, j, r, has, itself r))
+    same_state verdict z s s ok (after_by way g one) (after_by way g two) (sound_by g way ok one) (sound_by g way ok two) st st' refl (λ d j r has. (d, j, r, has, itself r))

@@ -104,13 +104,13 @@ module _ {D : Type 0} (verdict : D → Shown → Verdict) (z : Terms D) (seats :
   last_is : (s : State) (world : Config) (sound : Sound g s) → HasValues g s world → world ≡ sound.last
   last_is s world sound has = same_world g s world sound.last has (framed g ok s sound) sound.values
 
-  pub ends_one_way : (w v : Config) (i j : Kept) → ClosesAs verdict z seats w i → ClosesAs verdict z seats v j → (w ≡ v) × (i.first ≡ j.first) × (i.entries ≡ j.entries)
+  pub ends_one_way : (w v : Config) (i j : Kept) → ClosesAs way verdict z seats w i → ClosesAs way verdict z seats v j → (w ≡ v) × (i.first ≡ j.first) × (i.entries ≡ j.entries)
   ends_one_way w v i j one two =
-      let sound = always g ok one.steps in
-      let sound' = always g ok two.steps in
-      let same = same_journals (after g one.steps) (after g two.steps) sound sound' (same_callers (after g one.steps) (after g two.steps) sound sound' (known (after g one.steps) one.callers) (known (after g two.steps) two.callers)) in
-      let last = run_has_one_last g.verdict g.world (after g one.steps).journal sound.last sound'.last sound.run (subst (λ es. Run g.verdict g.world es sound'.last) (sym same) sound'.run) in
-      (last_is (after g one.steps) w sound one.values ∙ last ∙ sym (last_is (after g two.steps) v sound' two.values), one.first ∙ sym two.first, one.entries ∙ same ∙ sym two.entries)
+      let sound = sound_by g way ok one.steps in
+      let sound' = sound_by g way ok two.steps in
+      let same = same_journals (after_by way g one.steps) (after_by way g two.steps) sound sound' (same_callers (after_by way g one.steps) (after_by way g two.steps) sound sound' (known (after_by way g one.steps) one.callers) (known (after_by way g two.steps) two.callers)) in
+      let last = run_has_one_last g.verdict g.world (after_by way g one.steps).journal sound.last sound'.last sound.run (subst (λ es. Run g.verdict g.world es sound'.last) (sym same) sound'.run) in
+      (last_is (after_by way g one.steps) w sound one.values ∙ last ∙ sym (last_is (after_by way g two.steps) v sound' two.values), one.first ∙ sym two.first, one.entries ∙ same ∙ sym two.entries)
 
 pub field_ends_one_way : {D : Type 0} (verdict : D → Shown → Verdict) → FieldEndsOneWay verdict
 field_ends_one_way verdict z seats w v i j ok count full one two = ends_one_way verdict z seats ok count full w v i j one two

@@ -28,15 +28,15 @@ use Rattle.claim_rule.specs.Closing.{ClosesAs, HoldNothing, EndsRight, marks_at_
 use Rattle.claim_rule.specs.Laws.{FieldEndsSound, FieldEndsRight, EndedFieldIsReached}
 use Rattle.claim_rule.proofs.Closes.{some_there}
 
-module _ {D : Type 0} (verdict : D → Shown → Verdict) (z : Terms D) (seats : List (Option (Token D))) (world : Config) (journal : Kept) (ok : IsSetup (setup_of_terms verdict z)) (ends : ClosesAs verdict z seats world journal) where
+module _ {D : Type 0} (verdict : D → Shown → Verdict) (z : Terms D) (seats : List (Option (Token D))) (world : Config) (journal : Kept) (ok : IsSetup (setup_of_terms verdict z)) (ends : ClosesAs way verdict z seats world journal) where
   abbrev g : Setup
   g = setup_of_terms verdict z
 
   abbrev s : State
-  s = after g ends.steps
+  s = after_by way g ends.steps
 
   sound : Sound g s
-  sound = always g ok ends.steps
+  sound = sound_by g way ok ends.steps
 
   -- what a seat knows is so of its caller
   knows : (c : ℕ) (t : Token D) → slice_get seats c ≡ Some (Some t) → slice_get s.callers c ≡ Some (doing t)
@@ -80,7 +80,7 @@ module _ {D : Type 0} (verdict : D → Shown → Verdict) (z : Terms D) (seats :
       };
     }
 
-module _ {D : Type 0} (verdict : D → Shown → Verdict) (z : Terms D) (seats : List (Option (Token D))) (world : Config) (journal : Kept) (ok : IsSetup (setup_of_terms verdict z)) (ends : ClosesAs verdict z seats world journal)
+module _ {D : Type 0} (verdict : D → Shown → Verdict) (z : Terms D) (seats : List (Option (Token D))) (world : Config) (journal : Kept) (ok : IsSetup (setup_of_terms verdict z)) (ends : ClosesAs way verdict z seats world journal)
     (count : length seats ≡ length z.lists.ids) (full : All (λ o. IsSome o) seats) (rest : HoldNothing seats) where
   abbrev its_setup : Setup
   its_setup = setup_of_terms verdict z

@@ -57,19 +57,19 @@ looks_so g s c k (Committing change) reads = absurd reads
 looks_so g s c k Releasing reads = absurd reads
 looks_so g s c k Ended reads = absurd reads
 
-module _ {D : Type 0} {verdict : D → Shown → Verdict} {z : Terms D} {s : Content D} {core : State} {seat : ℕ} {r : Record} (table : IsAt verdict z s core seat r) where
+module _ {D : Type 0} {verdict : D → Shown → Verdict} {z : Terms D} {way : CommitWay} {s : Content D} {core : State} {seat : ℕ} {r : Record} (table : IsAt verdict z way s core seat r) where
   abbrev g : Setup
   g = setup_of_terms verdict z
 
   abbrev last : ℕ
   last = cells z.world
 
-  pub look_goes : (slots : ℕ) (carried : List (ℕ × Slot)) → IsToRead r.caller.phase → GoesTo verdict z s (next g r.number core) last seat (view_of z (r ∷ []), carried) (ReadsLength verdict (step slots last 0 0 home.none) (view_of z (r ∷ []), carried)) (slice_index s.words last)
+  pub look_goes : (slots : ℕ) (carried : List (ℕ × Slot)) → IsToRead r.caller.phase → GoesTo verdict z way s (next_by way g r.number core) last seat (view_of z (r ∷ []), carried) (ReadsLength verdict way (step slots last 0 0 home.none) (view_of z (r ∷ []), carried)) (slice_index s.words last)
   look_goes slots carried reads = (
     view_of z (record r { caller = k' } ∷ []),
     keeps,
     tt,
-    moves table new (next g r.number core) (on table) k' r.won r.note (set s.words last (slice_index s.words last)) s.homes leads refl refl refl fewer words homes (λ q apart rec st. still q st) stamped,
+    moves table new (next_by way g r.number core) (on table) k' r.won r.note (set s.words last (slice_index s.words last)) s.homes leads refl refl refl fewer words homes (λ q apart rec st. still q st) stamped,
     (ap (λ n. view_of z (record r { caller = marked_at g r.caller n } ∷ [])) (sym length_is), refl, omega (arith, table.stands.few, length_is)),
   )
     where
@@ -82,7 +82,7 @@ module _ {D : Type 0} {verdict : D → Shown → Verdict} {z : Terms D} {s : Con
       new : State
       new = looks g r.number core r.caller (mark_of_phase r.caller.phase (length core.journal))
 
-      leads : new ≡ next g r.number core
+      leads : new ≡ next_by way g r.number core
       leads = sym (ap (acts g r.number core) (caller_at table) ∙ looks_so g core r.number r.caller r.caller.phase reads)
 
       more : length r.caller.marks ≤ length k'.marks
@@ -91,16 +91,16 @@ module _ {D : Type 0} {verdict : D → Shown → Verdict} {z : Terms D} {s : Con
       fewer : turns_left g new ≤ turns_left g core
       fewer = turns_fewer g.lists.turns core.callers r.number r.caller k' (caller_at table) more
 
-      words : AreWords g new (set s.words last (slice_index s.words last))
+      words : AreWords way g new (set s.words last (slice_index s.words last))
       words = journal_written g core new s.words (slice_index s.words last) table.stands.words refl (λ k none. refl) (omega arith) table.stands.words.journal
 
-      homes : AreHomes g new s.homes
+      homes : AreHomes way g new s.homes
       homes = homes_same g core new s.homes table.stands.homes (λ k le. refl) refl refl (journal_stays g core new refl fewer)
 
-      same : (k : ℕ) → k < first_plain z.world → slice_index (set s.words last (slice_index s.words last)) k ≡ slice_index s.words k
+      same : (k : ℕ) → k < first_plain way z.world → slice_index (set s.words last (slice_index s.words last)) k ≡ slice_index s.words k
       same = journal_else g s.words (slice_index s.words last)
 
-      alike : (k : ℕ) → k < first_plain z.world → Alike (slice_index s.words k) (slice_index (set s.words last (slice_index s.words last)) k)
+      alike : (k : ℕ) → k < first_plain way z.world → Alike (slice_index s.words k) (slice_index (set s.words last (slice_index s.words last)) k)
       alike k lt = (ap word_occ (same k lt), ap word_stamp (same k lt))
 
       still : (q : Record) → IsStamped g s.words q → IsStamped g (set s.words last (slice_index s.words last)) q
@@ -148,7 +148,7 @@ module _ {D : Type 0} {verdict : D → Shown → Verdict} {z : Terms D} {s : Con
       }
 
 module _ {D : Type 0} (verdict : D → Shown → Verdict) (z : Terms D) (ok : IsSetup (setup_of_terms verdict z)) where
-  pub look_allowed : (slots seat : ℕ) (me : Seated D) → me.0 ≡ view_of z (own me.0 ∷ []) → IsToRead (own me.0).caller.phase → Allows (KeepsRule verdict z) slots seat me (cells z.world) (λ x. x) (ReadsLength verdict (step slots (cells z.world) 0 0 home.none) me)
+  pub look_allowed : (slots seat : ℕ) (me : Seated D) → me.0 ≡ view_of z (own me.0 ∷ []) → IsToRead (own me.0).caller.phase → Allows (KeepsRule verdict z way) slots seat me (cells z.world) (λ x. x) (ReadsLength verdict way (step slots (cells z.world) 0 0 home.none) me)
   look_allowed slots seat me one reads =
-      allowed verdict z ok slots seat me (cells z.world) (λ x. x) (λ m. IsToRead (own m.0).caller.phase) (ReadsLength verdict (step slots (cells z.world) 0 0 home.none)) one reads
+      allowed verdict z way ok slots seat me (cells z.world) (λ x. x) (λ m. IsToRead (own m.0).caller.phase) (ReadsLength verdict way (step slots (cells z.world) 0 0 home.none)) one reads
       (λ s core r table fact. inl (look_goes table slots me.1 fact))

@@ -58,7 +58,7 @@ same_spot u v e = cc
 alike : (r : Record) → AreAlike r r
 alike r = record { number = refl; committed = refl }
 
-module _ {D : Type 0} {verdict : D → Shown → Verdict} {z : Terms D} {s : Content D} {core : State} {seat : ℕ} {r : Record} (table : IsAt verdict z s core seat r) where
+module _ {D : Type 0} {verdict : D → Shown → Verdict} {z : Terms D} {way : CommitWay} {s : Content D} {core : State} {seat : ℕ} {r : Record} (table : IsAt verdict z way s core seat r) where
   abbrev g : Setup
   g = setup_of_terms verdict z
 
@@ -66,7 +66,7 @@ module _ {D : Type 0} {verdict : D → Shown → Verdict} {z : Terms D} {s : Con
   last = cells z.world
 
   abbrev end : State
-  end = next g r.number core
+  end = next_by way g r.number core
 
   -- the table after a step with which the seat has this view, or this record alone
   abbrev left : List ℕ → List (home.Option Slot) → View D → Content D
@@ -85,39 +85,39 @@ module _ {D : Type 0} {verdict : D → Shown → Verdict} {z : Terms D} {s : Con
   ]
 
   -- a table that keeps the rule stands for the same state as another, where the seat's records say the same
-  stands_too : (end : State) → Sound g end → (words : List ℕ) (homes homes' : List (home.Option Slot)) (p q : Record) → Stands verdict z (given words homes' q) end
-      → ((other : List ℕ) → Stands verdict z (given words homes p) (after g other) → SayTheSame p q) → KeepsRule verdict z (given words homes p) → Stands verdict z (given words homes p) end
+  stands_too : (end : State) → Sound g end → (words : List ℕ) (homes homes' : List (home.Option Slot)) (p q : Record) → Stands verdict z way (given words homes' q) end
+      → ((other : List ℕ) → Stands verdict z way (given words homes p) (after_by way g other) → SayTheSame p q) → KeepsRule verdict z way (given words homes p) → Stands verdict z way (given words homes p) end
   stands_too end ends words homes homes' p q st says rule =
-      subst (Stands verdict z (given words homes p))
-      (same_state verdict z (given words homes p) (given words homes' q) table.run (after g rule.0) end (always g table.run rule.0) ends rule.1 st refl (twins SayTheSame itself p q (says rule.0 rule.1))) rule.1
+      subst (Stands verdict z way (given words homes p))
+      (same_state verdict z (given words homes p) (given words homes' q) table.run (after_by way g rule.0) end (sound_by g way table.run rule.0) ends rule.1 st refl (twins SayTheSame itself p q (says rule.0 rule.1))) rule.1
 
-  by_view : (end : State) → Sound g end → (words : List ℕ) (homes homes' : List (home.Option Slot)) (w v : View D) (p q : Record) → w ≡ view_of z (p ∷ []) → v ≡ view_of z (q ∷ []) → Stands verdict z (left words homes' v) end
-      → ((other : List ℕ) → Stands verdict z (given words homes p) (after g other) → SayTheSame p q) → KeepsRule verdict z (left words homes w) → Stands verdict z (left words homes w) end
+  by_view : (end : State) → Sound g end → (words : List ℕ) (homes homes' : List (home.Option Slot)) (w v : View D) (p q : Record) → w ≡ view_of z (p ∷ []) → v ≡ view_of z (q ∷ []) → Stands verdict z way (left words homes' v) end
+      → ((other : List ℕ) → Stands verdict z way (given words homes p) (after_by way g other) → SayTheSame p q) → KeepsRule verdict z way (left words homes w) → Stands verdict z way (left words homes w) end
   by_view end ends words homes homes' w v p q w_is v_is st says rule =
-      subst (λ y. Stands verdict z (left words homes y) end) (sym w_is)
-      (stands_too end ends words homes homes' p q (subst (λ y. Stands verdict z (left words homes' y) end) v_is st) says (subst (λ y. KeepsRule verdict z (left words homes y)) w_is rule))
+      subst (λ y. Stands verdict z way (left words homes y) end) (sym w_is)
+      (stands_too end ends words homes homes' p q (subst (λ y. Stands verdict z way (left words homes' y) end) v_is st) says (subst (λ y. KeepsRule verdict z way (left words homes y)) w_is rule))
 
   -- the value of a cell that was won is determined, since the journal is
   module _ (n : CellName) where
     abbrev won : Cell → Record
     won x = record r { caller = caller_with_cell g r.number r.caller n x }
 
-    value_in : (end : State) (sound : Sound g end) (words : List ℕ) (homes : List (home.Option Slot)) (x : Cell) → Stands verdict z (given words homes (won x)) end → value sound.last n ≡ Some x
+    value_in : (end : State) (sound : Sound g end) (words : List ℕ) (homes : List (home.Option Slot)) (x : Cell) → Stands verdict z way (given words homes (won x)) end → value sound.last n ≡ Some x
     value_in end sound words homes x st =
         let there = (st.views.each seat 0 (won x) (here (won x))).caller in
         (All-head (IsHeld g end sound.last r.number r.caller.turn) (n, x) r.caller.held (sound.each r.number (won x).caller there).held).value
 
-    same_won : (words : List ℕ) (homes homes' : List (home.Option Slot)) (x y : Cell) → Stands verdict z (given words homes' (won y)) end → (other : List ℕ) → Stands verdict z (given words homes (won x)) (after g other) → SayTheSame (won x) (won y)
+    same_won : (words : List ℕ) (homes homes' : List (home.Option Slot)) (x y : Cell) → Stands verdict z way (given words homes' (won y)) end → (other : List ℕ) → Stands verdict z way (given words homes (won x)) (after_by way g other) → SayTheSame (won x) (won y)
     same_won words homes homes' x y st other st' =
-        let one = always g table.run other in
+        let one = sound_by g way table.run other in
         let two = on table in
-        let journal = same_journal verdict z (given words homes (won x)) (given words homes' (won y)) table.run (after g other) end one two st' st (twins AreAlike alike (won x) (won y) (record { number = refl; committed = refl })) in
-        let last_is = same_last verdict z (given words homes (won x)) (given words homes' (won y)) table.run (after g other) end one two journal in
-        let same : x ≡ y = same_Some x y (sym (value_in (after g other) one words homes x st') ∙ ap (λ (c : Config). value c n) last_is ∙ value_in end two words homes' y st) in
+        let journal = same_journal verdict z (given words homes (won x)) (given words homes' (won y)) table.run (after_by way g other) end one two st' st (twins AreAlike alike (won x) (won y) (record { number = refl; committed = refl })) in
+        let last_is = same_last verdict z (given words homes (won x)) (given words homes' (won y)) table.run (after_by way g other) end one two journal in
+        let same : x ≡ y = same_Some x y (sym (value_in (after_by way g other) one words homes x st') ∙ ap (λ (c : Config). value c n) last_is ∙ value_in end two words homes' y st) in
         record { alike = record { number = refl; committed = refl }; caller = ap (λ v. caller_with_cell g r.number r.caller n v) same; taken = refl }
 
-  claim_each : (i t slots : ℕ) (out : List (ℕ × Slot)) → IsToTry verdict i t (view_of z (r ∷ [])) → IsEachStep verdict z s end i seat (view_of z (r ∷ []), out)
-      (Claims verdict (step slots i 0 t home.none) (view_of z (r ∷ []), out)) (either (eqb (slice_index s.words i) 0) t (slice_index s.words i))
+  claim_each : (i t slots : ℕ) (out : List (ℕ × Slot)) → IsToTry verdict way i t (view_of z (r ∷ [])) → IsEachStep verdict z way s end i seat (view_of z (r ∷ []), out)
+      (Claims verdict way (step slots i 0 t home.none) (view_of z (r ∷ []), out)) (either (eqb (slice_index s.words i) 0) t (slice_index s.words i))
   claim_each i t slots out to w a rule told =
       let goes = claim_goes table i t slots out to in
       let n = tried verdict (view_of z (r ∷ [])) in
@@ -129,25 +129,25 @@ module _ {D : Type 0} {verdict : D → Shown → Verdict} {z : Terms D} {s : Con
             let one = told.0 free in
             let two = goes.4.0 free in
             by_view end (on table) words homes homes' w goes.0 (won n one.value) (won n two.value) one.now two.now goes.3
-            (same_won n words homes homes' one.value two.value (subst (λ y. Stands verdict z (left words homes' y) end) two.now goes.3)) rule
+            (same_won n words homes homes' one.value two.value (subst (λ y. Stands verdict z way (left words homes' y) end) two.now goes.3)) rule
         | inr held ↦
             let p = record r { caller = record r.caller { phase = Refusing n (slice_index s.words i) } } in
             by_view end (on table) words homes homes' w goes.0 p p (told.1 held).now (goes.4.1 held).now goes.3 (λ _ _. itself p) rule
       ]
 
-  release_each : (i slots : ℕ) (out : List (ℕ × Slot)) → IsToFree verdict i (view_of z (r ∷ []), out) → IsEachStep verdict z s end i seat (view_of z (r ∷ []), out) (λ _. Releases verdict (step slots i 0 0 home.none) (view_of z (r ∷ []), out) 0) 0
+  release_each : (i slots : ℕ) (out : List (ℕ × Slot)) → IsToFree verdict way i (view_of z (r ∷ []), out) → IsEachStep verdict z way s end i seat (view_of z (r ∷ []), out) (λ _. Releases verdict (step slots i 0 0 home.none) (view_of z (r ∷ []), out) 0) 0
   release_each i slots out to w a rule told =
       let goes = release_goes table i slots out to in
       let p = record r { caller = released_caller g r.caller } in
       by_view end (on table) (set s.words i 0) (homes_after s.homes out a) (homes_after s.homes out goes.1) w goes.0 p p told.0 goes.4.0 goes.3 (λ _ _. itself p) rule
 
-  look_each : (slots : ℕ) (out : List (ℕ × Slot)) → IsToRead r.caller.phase → IsEachStep verdict z s end last seat (view_of z (r ∷ []), out) (ReadsLength verdict (step slots last 0 0 home.none) (view_of z (r ∷ []), out)) (slice_index s.words last)
+  look_each : (slots : ℕ) (out : List (ℕ × Slot)) → IsToRead r.caller.phase → IsEachStep verdict z way s end last seat (view_of z (r ∷ []), out) (ReadsLength verdict way (step slots last 0 0 home.none) (view_of z (r ∷ []), out)) (slice_index s.words last)
   look_each slots out to w a rule told =
       let goes = look_goes table slots out to in
       let p = record r { caller = marked_at g r.caller (slice_index s.words last / 2) } in
       by_view end (on table) (set s.words last (slice_index s.words last)) (homes_after s.homes out a) (homes_after s.homes out goes.1) w goes.0 p p told.0 goes.4.0 goes.3 (λ _ _. itself p) rule
 
-  take_each : (slots : ℕ) (out : List (ℕ × Slot)) → Takes r.caller.phase → IsEachStep verdict z s end last seat (view_of z (r ∷ []), out) (took verdict (step slots last 1 0 home.none) (view_of z (r ∷ []), out)) (bit_or (slice_index s.words last) 1)
+  take_each : (slots : ℕ) (out : List (ℕ × Slot)) → Takes r.caller.phase → IsEachStep verdict z way s end last seat (view_of z (r ∷ []), out) (took verdict (step slots last 1 0 home.none) (view_of z (r ∷ []), out)) (bit_or (slice_index s.words last) 1)
   take_each slots out to w a rule told =
       let goes = take_goes table to slots out in
       let words = set s.words last (bit_or (slice_index s.words last) 1) in
@@ -163,7 +163,7 @@ module _ {D : Type 0} {verdict : D → Shown → Verdict} {z : Terms D} {s : Con
             (λ _ _. itself r) rule
       ]
 
-  commit_each : (x slots : ℕ) (out : List (ℕ × Slot)) → IsToCommit verdict (journal_slot z.world) x (view_of z (r ∷ []), out) → IsEachStep verdict z s end last seat (view_of z (r ∷ []), out) (λ _. stored verdict (step slots last x 0 home.none) (view_of z (r ∷ []), out) x) x
+  commit_each : (x slots : ℕ) (out : List (ℕ × Slot)) → IsToCommit verdict (journal_slot z.world) x (view_of z (r ∷ []), out) → IsEachStep verdict z way s end last seat (view_of z (r ∷ []), out) (λ _. stored verdict (step slots last x 0 home.none) (view_of z (r ∷ []), out) x) x
   commit_each x slots out to w a rule told =
       let goes = commit_goes table x out to slots in
       let one = told.0 in
@@ -178,29 +178,29 @@ module _ {D : Type 0} {verdict : D → Shown → Verdict} {z : Terms D} {s : Con
   same_node u v e f = same_spot u v (same_Some (name.Spot u) (name.Spot v) (sym e ∙ f))
 
   stops_alike : (t i : ℕ) (words : List ℕ) (out : List (ℕ × Slot)) (homes homes' : List (home.Option Slot)) (w v : View D) (m m' : List (ℕ × Slot)) → StopsAt verdict (view_of z (r ∷ []), out) t (w, m) → StopsAt verdict (view_of z (r ∷ []), out) t (v, m')
-      → Stands verdict z (left words homes' v) end → KeepsRule verdict z (left words homes w) → Stands verdict z (left words homes w) end
+      → Stands verdict z way (left words homes' v) end → KeepsRule verdict z way (left words homes w) → Stands verdict z way (left words homes w) end
   stops_alike t i words out homes homes' w v m m' one two st rule =
       let node = same_node one.node two.node one.next two.next in
       by_view end (on table) words homes homes' w v (refused_at r one.node (word_tag t)) (refused_at r two.node (word_tag t)) one.now two.now st
       (λ _ _. record { alike = record { number = refl; committed = refl }; caller = ap (λ u. record r.caller { phase = Refusing (name.Spot u) (word_tag t) }) node; taken = refl }) rule
 
   notes_alike : (t i : ℕ) (words : List ℕ) (out : List (ℕ × Slot)) (homes homes' : List (home.Option Slot)) (w v : View D) (m m' : List (ℕ × Slot)) → NotesWord verdict (view_of z (r ∷ []), out) t (w, m) → NotesWord verdict (view_of z (r ∷ []), out) t (v, m')
-      → Stands verdict z (left words homes' v) core → KeepsRule verdict z (left words homes w) → Stands verdict z (left words homes w) core
+      → Stands verdict z way (left words homes' v) core → KeepsRule verdict z way (left words homes w) → Stands verdict z way (left words homes w) core
   notes_alike t i words out homes homes' w v m m' one two st rule =
       by_view core (sound table) words homes homes' w v (with_note r (Some (note_of one.node t))) (with_note r (Some (note_of two.node t))) one.now two.now st
       (λ _ _. record { alike = record { number = refl; committed = refl }; caller = refl; taken = refl }) rule
 
-  node_look_stops : (i slots : ℕ) (out : List (ℕ × Slot)) (to : IsToTryNode verdict i (view_of z (r ∷ []))) → word_tag (slice_index s.words i) ≢ 0 → IsEachStep verdict z s end i seat (view_of z (r ∷ []), out) (LooksAt verdict (step slots i 0 0 home.none) (view_of z (r ∷ []), out)) (slice_index s.words i)
+  node_look_stops : (i slots : ℕ) (out : List (ℕ × Slot)) (to : IsToTryNode verdict i (view_of z (r ∷ []))) → word_tag (slice_index s.words i) ≢ 0 → IsEachStep verdict z way s end i seat (view_of z (r ∷ []), out) (LooksAt verdict (step slots i 0 0 home.none) (view_of z (r ∷ []), out)) (slice_index s.words i)
   node_look_stops i slots out to held w a rule told =
       let goes = look_stops table i slots out to held in
       stops_alike (slice_index s.words i) i (set s.words i (slice_index s.words i)) out (homes_after s.homes out a) (homes_after s.homes out goes.1) w goes.0 _ _ (told.1 held) (goes.4.1 held) goes.3 rule
 
-  node_look_notes : (i slots : ℕ) (out : List (ℕ × Slot)) (to : IsToTryNode verdict i (view_of z (r ∷ []))) → word_tag (slice_index s.words i) ≡ 0 → IsEachStep verdict z s core i seat (view_of z (r ∷ []), out) (LooksAt verdict (step slots i 0 0 home.none) (view_of z (r ∷ []), out)) (slice_index s.words i)
+  node_look_notes : (i slots : ℕ) (out : List (ℕ × Slot)) (to : IsToTryNode verdict i (view_of z (r ∷ []))) → word_tag (slice_index s.words i) ≡ 0 → IsEachStep verdict z way s core i seat (view_of z (r ∷ []), out) (LooksAt verdict (step slots i 0 0 home.none) (view_of z (r ∷ []), out)) (slice_index s.words i)
   node_look_notes i slots out to free w a rule told =
       let goes = look_notes table i slots out to free in
       notes_alike (slice_index s.words i) i (set s.words i (slice_index s.words i)) out (homes_after s.homes out a) (homes_after s.homes out goes.1) w goes.0 _ _ (told.0 free) (goes.4.0 free) goes.3 rule
 
-  node_try_wins : (i old put slots : ℕ) (out : List (ℕ × Slot)) (to : IsToWin verdict i old put (view_of z (r ∷ []))) → slice_index s.words i ≡ old → IsEachStep verdict z s end i seat (view_of z (r ∷ []), out) (TriesNode verdict (step slots i old put home.none) (view_of z (r ∷ []), out)) put
+  node_try_wins : (i old put slots : ℕ) (out : List (ℕ × Slot)) (to : IsToWin verdict i old put (view_of z (r ∷ []))) → slice_index s.words i ≡ old → IsEachStep verdict z way s end i seat (view_of z (r ∷ []), out) (TriesNode verdict (step slots i old put home.none) (view_of z (r ∷ []), out)) put
   node_try_wins i old put slots out to hit w a rule told =
       let goes = try_wins table i old put slots out to hit in
       let one = told.0 hit in
@@ -209,19 +209,19 @@ module _ {D : Type 0} {verdict : D → Shown → Verdict} {z : Terms D} {s : Con
       by_view end (on table) (set s.words i put) (homes_after s.homes out a) (homes_after s.homes out goes.1) w goes.0 (with_node g r one.note) (with_node g r two.note) one.now two.now goes.3
       (λ _ _. record { alike = record { number = refl; committed = refl }; caller = ap (λ (n : Note). caller_with_cell g r.number r.caller (name.Spot n.node) (cell.Spot n.occ)) note; taken = refl }) rule
 
-  node_try_stops : (i old put slots : ℕ) (out : List (ℕ × Slot)) (to : IsToWin verdict i old put (view_of z (r ∷ []))) → word_tag (slice_index s.words i) ≢ 0 → IsEachStep verdict z s end i seat (view_of z (r ∷ []), out) (TriesNode verdict (step slots i old put home.none) (view_of z (r ∷ []), out)) (slice_index s.words i)
+  node_try_stops : (i old put slots : ℕ) (out : List (ℕ × Slot)) (to : IsToWin verdict i old put (view_of z (r ∷ []))) → word_tag (slice_index s.words i) ≢ 0 → IsEachStep verdict z way s end i seat (view_of z (r ∷ []), out) (TriesNode verdict (step slots i old put home.none) (view_of z (r ∷ []), out)) (slice_index s.words i)
   node_try_stops i old put slots out to held w a rule told =
       let goes = try_stops table i old put slots out to held in
       stops_alike (slice_index s.words i) i (set s.words i (slice_index s.words i)) out (homes_after s.homes out a) (homes_after s.homes out goes.1) w goes.0 _ _ (told.1 held) (goes.4.1 held) goes.3 rule
 
   node_try_notes : (i old put slots : ℕ) (out : List (ℕ × Slot)) (to : IsToWin verdict i old put (view_of z (r ∷ []))) → word_tag (slice_index s.words i) ≡ 0 → slice_index s.words i ≢ old
-      → IsEachStep verdict z s core i seat (view_of z (r ∷ []), out) (TriesNode verdict (step slots i old put home.none) (view_of z (r ∷ []), out)) (slice_index s.words i)
+      → IsEachStep verdict z way s core i seat (view_of z (r ∷ []), out) (TriesNode verdict (step slots i old put home.none) (view_of z (r ∷ []), out)) (slice_index s.words i)
   node_try_notes i old put slots out to free other w a rule told =
       let goes = try_notes table i old put slots out to free other in
       notes_alike (slice_index s.words i) i (set s.words i (slice_index s.words i)) out (homes_after s.homes out a) (homes_after s.homes out goes.1) w goes.0 _ _ (told.2 free other).0 (goes.4.2 free other).0 goes.3 rule
 
   -- the release of a node
-  node_release_each : (i x slots : ℕ) (out : List (ℕ × Slot)) → IsToFreeNode verdict i x (view_of z (r ∷ [])) → IsEachStep verdict z s end i seat (view_of z (r ∷ []), out) (λ _. ReleasesNode verdict (step slots i x 0 home.none) (view_of z (r ∷ []), out) x) x
+  node_release_each : (i x slots : ℕ) (out : List (ℕ × Slot)) → IsToFreeNode verdict i x (view_of z (r ∷ [])) → IsEachStep verdict z way s end i seat (view_of z (r ∷ []), out) (λ _. ReleasesNode verdict (step slots i x 0 home.none) (view_of z (r ∷ []), out) x) x
   node_release_each i x slots out to w a rule told =
       let goes = node_release_goes table i x slots out to in
       let p = record r { caller = released_caller g r.caller; won = but_first r.won } in

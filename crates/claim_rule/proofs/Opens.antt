@@ -122,7 +122,7 @@ module _ {D : Type 0} (verdict : D → Shown → Verdict) (z : Terms D) where
   in_first seat place r has = let one = one_view seat has.0 has.1 in (one.0, subst (λ (v : View D). slice_get v.records place ≡ Some r) (sym one.1) has.2)
 
   -- a table that begins like this stands for the opening,
-  pub opening_stands : IsSetup g → (words : List ℕ) (slots : List Slot) → words ≡ first_words z.world → AreFirstSlots z.world z.lists slots → Stands verdict z (opening words slots (first_view verdict z)) start
+  pub opening_stands : IsSetup g → (words : List ℕ) (slots : List Slot) → words ≡ first_words z.world → AreFirstSlots z.world z.lists slots → Stands verdict z by_journal (opening words slots (first_view verdict z)) start
   opening_stands ok words slots made first = record {
     words = record {
       count = ap (λ (ws : List ℕ). length ws) made ∙ words_count z.world;
@@ -135,9 +135,9 @@ module _ {D : Type 0} (verdict : D → Shown → Verdict) (z : Terms D) where
             stamp = (let n = says.2 in omega (arith, n));
           });
       plain = λ k le lt.
-          let few : k - first_plain z.world < length z.world.bots = omega (arith, le, lt) in
-          let is : k ≡ first_plain z.world + (k - first_plain z.world) = omega (arith, le) in
-          word_at k (held_by z.world (name.Body (k - first_plain z.world))) (ap (slice_get (values_of z.world)) is ∙ value_of_body z.world (k - first_plain z.world) few) ∙ sym (zero_of (values_of z.world) k);
+          let few : k - first_plain by_journal z.world < length z.world.bots = omega (arith, le, lt) in
+          let is : k ≡ first_plain by_journal z.world + (k - first_plain by_journal z.world) = omega (arith, le) in
+          word_at k (held_by z.world (name.Body (k - first_plain by_journal z.world))) (ap (slice_get (values_of z.world)) is ∙ value_of_body z.world (k - first_plain by_journal z.world) few) ∙ sym (zero_of (values_of z.world) k);
       journal =
           ap (λ ws. slice_index ws (cells z.world)) made
           ∙ get_or_from_slice_get (first_words z.world) (cells z.world) 0 0 (get-append_right (map first_word (values_of z.world)) (0 ∷ []) 0 (cells z.world) (let n = length-map (values_of z.world) first_word in let m = length-values z.world in omega (arith, n, m)));
@@ -145,7 +145,7 @@ module _ {D : Type 0} (verdict : D → Shown → Verdict) (z : Terms D) where
     homes = record {
       count = length-map slots (λ x. home.some x) ∙ many;
       cell = λ i x free value.
-          let within = slice_get_within (values_of z.world) (first_plain z.world + i) x value in
+          let within = slice_get_within (values_of z.world) (first_plain by_journal z.world + i) x value in
           let few : i < length z.world.bots = (let n = length-values z.world in omega (arith, n, within)) in
           let is : held_by z.world (name.Body i) ≡ x = same_Some _ x (sym (value_of_body z.world i few) ∙ value) in
           at_map (λ y. home.some y) slots i (slot.Cell x) (subst (λ (xs : List Slot). get_elem? xs i ≡ home.some (slot.Cell x)) (sym first.are)
@@ -195,11 +195,11 @@ module _ {D : Type 0} (verdict : D → Shown → Verdict) (z : Terms D) where
       tagged (Some k) t e = zero_there (values_of z.world) k t e
 
   -- to which no step leads
-  pub opens : IsSetup g → (words : List ℕ) (slots : List Slot) → words ≡ first_words z.world → AreFirstSlots z.world z.lists slots → KeepsRule verdict z (opening words slots (first_view verdict z))
+  pub opens : IsSetup g → (words : List ℕ) (slots : List Slot) → words ≡ first_words z.world → AreFirstSlots z.world z.lists slots → KeepsRule verdict z by_journal (opening words slots (first_view verdict z))
   opens ok words slots made first = ([], opening_stands ok words slots made first)
 
   -- a field with these terms keeps what a field keeps
-  pub is_field : (f : FieldOf D) → f.terms ≡ z → IsSetup g → f.table.words ≡ cells z.world + 1 → f.table.slots ≡ journal_slot z.world + 1 → IsField verdict f z.decider z.world
+  pub is_field : (f : FieldOf D) → f.terms ≡ z → IsSetup g → f.table.words ≡ cells z.world + 1 → f.table.slots ≡ journal_slot z.world + 1 → IsField verdict by_journal f z.decider z.world
   is_field f same ok words slots = record {
     run = subst (λ t. IsSetup (setup_of_terms verdict t)) (sym same) ok;
     words = words ∙ ap (λ (t : Terms D). cells t.world + 1) (sym same);

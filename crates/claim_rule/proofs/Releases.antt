@@ -36,16 +36,16 @@ use Rattle.claim_core.specs.declared.state.Caller.{Caller}
 use Rattle.claim_rule.proofs.Moves.{sound, on, caller_at, counts, moves, my_stamps, journal_stays}
 use Rattle.claim_rule.proofs.NextsLemmas.{turns_same, allowed}
 
-module _ {D : Type 0} {verdict : D → Shown → Verdict} {z : Terms D} {s : Content D} {core : State} {seat : ℕ} {r : Record} (table : IsAt verdict z s core seat r) where
+module _ {D : Type 0} {verdict : D → Shown → Verdict} {z : Terms D} {way : CommitWay} {s : Content D} {core : State} {seat : ℕ} {r : Record} (table : IsAt verdict z way s core seat r) where
   abbrev g : Setup
   g = setup_of_terms verdict z
 
-  pub release_goes : (i slots : ℕ) (carried : List (ℕ × Slot)) → IsToFree verdict i (view_of z (r ∷ []), carried) → GoesTo verdict z s (next g r.number core) i seat (view_of z (r ∷ []), carried) (λ _. Releases verdict (step slots i 0 0 home.none) (view_of z (r ∷ []), carried) 0) 0
+  pub release_goes : (i slots : ℕ) (carried : List (ℕ × Slot)) → IsToFree verdict way i (view_of z (r ∷ []), carried) → GoesTo verdict z way s (next_by way g r.number core) i seat (view_of z (r ∷ []), carried) (λ _. Releases verdict (step slots i 0 0 home.none) (view_of z (r ∷ []), carried) 0) 0
   release_goes i slots carried to = (
     view_of z (record r { caller = released_caller g r.caller } ∷ []),
     gives,
     tt,
-    moves table new (next g r.number core) (on table) (released_caller g r.caller) r.won r.note (set s.words i 0) (put_back s.homes carried) leads callers refl refl fewer words homes (λ q apart rec st. still q st) mine,
+    moves table new (next_by way g r.number core) (on table) (released_caller g r.caller) r.won r.note (set s.words i 0) (put_back s.homes carried) leads callers refl refl fewer words homes (λ q apart rec st. still q st) mine,
     (refl, refl),
   )
     where
@@ -67,7 +67,7 @@ module _ {D : Type 0} {verdict : D → Shown → Verdict} {z : Terms D} {s : Con
       at_slot : ℕ
       at_slot = slot_of n
 
-      is_i : first_plain z.world + at_slot ≡ i
+      is_i : first_plain way z.world + at_slot ≡ i
       is_i = slot_is g n i numbered to.plain
 
       slot_few : at_slot < journal_slot z.world
@@ -82,7 +82,7 @@ module _ {D : Type 0} {verdict : D → Shown → Verdict} {z : Terms D} {s : Con
       new : State
       new = releases g r.number core r.caller ((n, x) ∷ held)
 
-      leads : new ≡ next g r.number core
+      leads : new ≡ next_by way g r.number core
       leads = sym (ap (acts g r.number core) (caller_at table) ∙ ap (by_phase g r.number core r.caller) to.phase ∙ ap (releases g r.number core r.caller) is_held)
 
       same : released_caller g r.caller ≡ freeing_caller g r.caller.turn held r.caller.marks
@@ -104,7 +104,7 @@ module _ {D : Type 0} {verdict : D → Shown → Verdict} {z : Terms D} {s : Con
       tags : new.tags ≡ set core.tags i 0
       tags = ap (λ o. put_at core.tags o 0) numbered
 
-      words : AreWords g new (set s.words i 0)
+      words : AreWords way g new (set s.words i 0)
       words = plain_written g core new s.words i 0 table.stands.words to.plain to.inside inside tags refl refl refl
 
       -- the value that the cell has in the state is the one that was recorded
@@ -117,21 +117,21 @@ module _ {D : Type 0} {verdict : D → Shown → Verdict} {z : Terms D} {s : Con
       put_is : put_back s.homes carried ≡ set s.homes at_slot (home.some (slot.Cell x))
       put_is = ap (put_back s.homes) to.last.6
 
-      homes : AreHomes g new (put_back s.homes carried)
-      homes = subst (AreHomes g new) (sym put_is) (record {
+      homes : AreHomes way g new (put_back s.homes carried)
+      homes = subst (AreHomes way g new) (sym put_is) (record {
         count = length-set s.homes at_slot (home.some (slot.Cell x)) ∙ table.stands.homes.count;
-        cell = λ j y e v. elim (get-set_cases core.tags i (first_plain z.world + j) 0 0 (ap (λ ts. slice_get ts (first_plain z.world + j)) (sym tags) ∙ e)) [
+        cell = λ j y e v. elim (get-set_cases core.tags i (first_plain way z.world + j) 0 0 (ap (λ ts. slice_get ts (first_plain way z.world + j)) (sym tags) ∙ e)) [
           | inl here ↦
               let same_j : at_slot ≡ j = (let p = here.0 in let q = is_i in omega (arith, p, q)) in
               subst (λ (q : ℕ × Cell). get_elem? (set s.homes at_slot (home.some (slot.Cell x))) q.0 ≡ home.some (home.some (slot.Cell q.1))) (λ l. (same_j l, value y (ap (at core.values) numbered ∙ ap (slice_get core.values) (sym here.0) ∙ v) l))
               (set_here s.homes at_slot (home.some (slot.Cell x)) (omega (arith, slot_few, table.stands.homes.count)))
-          | inr was ↦ set_else s.homes at_slot j (home.some (slot.Cell x)) (λ q. was.0 (ap (λ m. first_plain z.world + m) q ∙ is_i)) ∙ table.stands.homes.cell j y was.1 v
+          | inr was ↦ set_else s.homes at_slot j (home.some (slot.Cell x)) (λ q. was.0 (ap (λ m. first_plain way z.world + m) q ∙ is_i)) ∙ table.stands.homes.cell j y was.1 v
         ];
         journal = λ none. let was = table.stands.homes.journal none in (was.0, set_else s.homes at_slot (journal_slot z.world) (home.some (slot.Cell x)) (λ q. omega (arith, q, slot_few)) ∙ was.1, journal_stays g core new refl fewer was.0 was.2);
       })
 
 module _ {D : Type 0} (verdict : D → Shown → Verdict) (z : Terms D) (ok : IsSetup (setup_of_terms verdict z)) where
-  pub release_allowed : (slots seat : ℕ) (me : Seated D) (i : ℕ) → me.0 ≡ view_of z (own me.0 ∷ []) → IsToFree verdict i me → Allows (KeepsRule verdict z) slots seat me i (λ _. 0) (λ _. Releases verdict (step slots i 0 0 home.none) me 0)
+  pub release_allowed : (slots seat : ℕ) (me : Seated D) (i : ℕ) → me.0 ≡ view_of z (own me.0 ∷ []) → IsToFree verdict way i me → Allows (KeepsRule verdict z way) slots seat me i (λ _. 0) (λ _. Releases verdict (step slots i 0 0 home.none) me 0)
   release_allowed slots seat me i one to =
-      allowed verdict z ok slots seat me i (λ _. 0) (IsToFree verdict i) (λ m _. Releases verdict (step slots i 0 0 home.none) m 0) one to
+      allowed verdict z way ok slots seat me i (λ _. 0) (IsToFree verdict way i) (λ m _. Releases verdict (step slots i 0 0 home.none) m 0) one to
       (λ s core r table fact. inl (release_goes table i slots me.1 fact))

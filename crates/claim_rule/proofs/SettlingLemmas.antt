@@ -68,7 +68,7 @@ module _ {D : Type 0} (verdict : D → Shown → Verdict) (m : Seated D) (c t b 
   g = about verdict m.0
 
   -- the journal was got
-  pub got_it : (told : Shown) (after : ℕ) (change : Change) (i : ℕ) (m' : Seated D) → IsActivation verdict m c t b s bare pairs notes → HoldsWholeZone verdict m t b pairs told after → (own m.0).caller.phase ≡ Taking change → i ≡ journal_slot g.world
+  pub got_it : (told : Shown) (after : ℕ) (change : Change) (i : ℕ) (m' : Seated D) → IsActivation verdict by_journal m c t b s bare pairs notes → HoldsWholeZone verdict m t b pairs told after → (own m.0).caller.phase ≡ Taking change → i ≡ journal_slot g.world
       → (got : GotJournal i m m') → IsTaken verdict m' c t b s bare pairs notes change × (m'.0 ≡ like m.0 (with_journal (own m.0) change got.journal ∷ []))
   got_it told after_mark change i m' is wh phase at_i got = (subst (λ q. IsTaken verdict q c t b s bare pairs notes change) (sym now) after, ap (λ (q : Seated D). q.0) now)
     where
@@ -128,9 +128,9 @@ module _ {D : Type 0} (verdict : D → Shown → Verdict) (m : Seated D) (c t b 
 
     -- and afterwards it is
     pub has_stored : (place : ℕ) (next : Kept) (m' m2 : Seated D) (news : Pairs) → m' ≡ (m.0, (i, slot.Journal next) ∷ rest m.1) → (n : ℕ) × Commits verdict m'.0 m2.0 n → m2.1 ≡ rest m'.1 → place ≡ length j.entries → news ≡ map (patched_pair (plain_patch change.patch)) pairs
-        → IsActivation verdict m2 c t b true bare news notes × IsFreeing verdict m2 t news (place + 1) × (0 < length news) × (m2.0 ≡ like m.0 (with_commit g (own m.0) change place ∷ []))
+        → IsActivation verdict by_journal m2 c t b true bare news notes × IsFreeing verdict m2 t news (place + 1) × (0 < length news) × (m2.0 ≡ like m.0 (with_commit g (own m.0) change place ∷ []))
     has_stored place next m' m2 news now told out place_is news_are = (
-      subst (λ (q : Seated D × Pairs). IsActivation verdict q.0 c t b true bare q.1 notes) (λ p. (sym now2 p, sym news_are p)) after,
+      subst (λ (q : Seated D × Pairs). IsActivation verdict by_journal q.0 c t b true bare q.1 notes) (λ p. (sym now2 p, sym news_are p)) after,
       subst (λ (q : Seated D × Pairs). IsFreeing verdict q.0 t q.1 (place + 1)) (λ p. (sym now2 p, sym news_are p)) freeing,
       subst (λ (ps : Pairs). 0 < length ps) (sym news_are) some,
       ap (λ (q : Seated D). q.0) now2,
@@ -163,7 +163,7 @@ module _ {D : Type 0} (verdict : D → Shown → Verdict) (m : Seated D) (c t b 
         some : 0 < length ps
         some = let one = whole_some g b pairs tk.whole in omega (arith, one, length-map pairs (patched_pair (plain_patch change.patch)))
 
-        after : IsActivation verdict (like m.0 (r ∷ []), rest m.1) c t b true bare ps notes
+        after : IsActivation verdict by_journal (like m.0 (r ∷ []), rest m.1) c t b true bare ps notes
         after = with_held verdict (untaken m) c t b s bare pairs notes tk.activation true r (rest m.1) ps notes tk.activation.few tk.activation.number refl (ap (λ (q : Caller). q.held) k_is ∙ frees-held g t ps ms)
             (All-map (λ (p : CellName × Cell). (n : ℕ) × IsPlaced g (cell_of p) n) (patched_pair (plain_patch change.patch)) pairs tk.activation.placed) tk.activation.won tk.activation.note
             (tk.activation.nodes ∙ sym (nodes_renewed (plain_patch change.patch) pairs)) (out_still s (plain_patch change.patch) pairs (rest m.1) tk.activation.out)

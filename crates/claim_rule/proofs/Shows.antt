@@ -39,5 +39,5 @@ module _ (g : Setup) (ok : IsSetup g) (s : State) (sound : Sound g s) (c : ℕ) 
 pub found_is_shown : {D : Type 0} (verdict : D → Shown → Verdict) → FoundIsShown verdict
 found_is_shown verdict z s steps seat place r ok st has holds =
     let g = setup_of_terms verdict z in
-    let sound = always g ok steps in
-    (sound.last, sound.run, shows g ok (after g steps) sound r.number r.caller (st.views.each seat place r has).caller holds)
+    let sound = sound_by g way ok steps in
+    (sound.last, sound.run, shows g ok (after_by way g steps) sound r.number r.caller (st.views.each seat place r has).caller holds)

@@ -1,5 +1,7 @@
 pub mod Words
 pub mod Views
+pub mod Tickets
+pub mod Manners
 pub mod Stands
 pub mod Plays
 pub mod Commits
