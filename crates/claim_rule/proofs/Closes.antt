@@ -28,6 +28,7 @@ use Rattle.claim_rule.specs.declared.views.Slot.TheVariants as slot
 use Rattle.claim_rule.specs.declared.views.Record.{Record}
 use Rattle.claim_rule.specs.declared.views.Terms.{Terms}
 use Rattle.claim_rule.specs.Views.{Content, Seated, view_of, setup_of_terms}
+use Rattle.claim_rule.specs.Manners.{by_journal}
 use Rattle.claim_rule.specs.Stands.{journal_slot, IsCoreJournal, HasTaken, IsRecord, Stands, KeepsRule}
 use Rattle.claim_rule.specs.Tokens.{FieldOf, Token, number_in, record_in, doing}
 use Rattle.claim_rule.specs.Seating.{SeatsOf, AreOf, AreSeats}
@@ -60,11 +61,11 @@ module _ {D : Type 0} (verdict : D → Shown → Verdict) (z : Terms D) (ok : Is
   abbrev g : Setup
   g = setup_of_terms verdict z
 
-  module _ (s : Content D) (steps : List ℕ) (st : Stands verdict z way s (after_by way g steps)) (id : ℕ) (rs : List Record) (mine : get_elem? s.views id ≡ home.some (view_of z rs))
+  module _ (s : Content D) (steps : List ℕ) (st : Stands verdict z by_journal s (after g steps)) (id : ℕ) (rs : List Record) (mine : get_elem? s.views id ≡ home.some (view_of z rs))
       (seats : List (Option (Token D))) (count : length seats ≡ length z.lists.ids) (full : All (λ o. IsSome o) seats)
       (number : (c : ℕ) (t : Token D) → slice_get seats c ≡ Some (Some t) → number_in t ≡ c) (have : HaveAll seats rs) where
     abbrev core : State
-    core = after_by way g steps
+    core = after g steps
 
     its : (c : ℕ) (t : Token D) → slice_get seats c ≡ Some (Some t) → IsRecord g core (record_in t)
     its c t e = let there = have c t e in st.views.each id there.0 (record_in t) (view_of z rs, mine, there.1)
@@ -75,7 +76,7 @@ module _ {D : Type 0} (verdict : D → Shown → Verdict) (z : Terms D) (ok : Is
     nobody : (o : Option ℕ) → core.holder ≡ o → o ≡ None
     nobody None e = refl
     nobody (Some c) e =
-        let sound = sound_by g way ok steps in
+        let sound = always g ok steps in
         let k = sound.holder c e in
         let inside : c < length seats = (let n = slice_get_within core.callers c k.0 k.1 in omega (arith, n, sound.callers, count)) in
         let t = some_there seats c inside full in
@@ -92,11 +93,11 @@ module _ {D : Type 0} (verdict : D → Shown → Verdict) (z : Terms D) (ok : Is
       its_journal j e = subst (IsCoreJournal g core) (same_journal xs (journal_slot z.world) journal_in.0 j journal_in.1 e) journal_in.2
 
       runs : (j : Kept) → get_elem? xs (journal_slot z.world) ≡ home.some (slot.Journal j) → (last : Config) × Run g.verdict g.world j.entries last
-      runs j e = let sound = sound_by g way ok steps in (sound.last, subst (λ es. Run g.verdict g.world es sound.last) (sym (its_journal j e).entries) sound.run)
+      runs j e = let sound = always g ok steps in (sound.last, subst (λ es. Run g.verdict g.world es sound.last) (sym (its_journal j e).entries) sound.run)
 
-      closed : (j : Kept) (world : Config) → get_elem? xs (journal_slot z.world) ≡ home.some (slot.Journal j) → Run g.verdict g.world j.entries world → ClosesAs way verdict z seats world j
+      closed : (j : Kept) (world : Config) → get_elem? xs (journal_slot z.world) ≡ home.some (slot.Journal j) → Run g.verdict g.world j.entries world → ClosesAs by_journal verdict z seats world j
       closed j world e run =
-          let sound = sound_by g way ok steps in
+          let sound = always g ok steps in
           let is = its_journal j e in
           let same : sound.last ≡ world = run_has_one_last g.verdict g.world core.journal sound.last world sound.run (subst (λ es. Run g.verdict g.world es world) is.entries run) in
           let fr = framed g ok core sound in
@@ -113,7 +114,7 @@ module _ {D : Type 0} (verdict : D → Shown → Verdict) (f : FieldOf D) (rest 
   seats_of c t e = let is = are.each c t e in (is.0 ∙ ap (λ (u : SeatsOf D). u.table) s_is ∙ of.table, is.1 ∙ ap (λ (y : Terms D). Some y) same_terms)
 
   module _ (ok : IsSetup (setup_of_terms verdict f.terms)) (full : All (λ o. IsSome o) s.seats) (id : ℕ) (m : Seated D) (gathered : (rs : List Record) × (m ≡ (view_of f.terms rs, [])) × HaveAll items rs)
-      (words : List ℕ) (xs : List Slot) (end : Final (Seen (KeepsRule verdict f.terms way) id m.0) words xs) where
+      (words : List ℕ) (xs : List Slot) (end : Final (Seen (KeepsRule verdict f.terms by_journal) id m.0) words xs) where
     mine : get_elem? end.0.views id ≡ home.some (view_of f.terms gathered.0)
     mine = end.1.1 ∙ ap (λ (k : Seated D). home.some k.0) gathered.1
 
@@ -150,7 +151,7 @@ module _ {D : Type 0} (verdict : D → Shown → Verdict) (f : FieldOf D) (rest 
         subst (λ o. IfSome o (λ token. (doing token).held ≡ [])) (sym (get_or_from_slice_get items c (Some t.0) d t.1)) (gathered.2 c t.0 t.1).3)
 
     -- and with its last world the field has ended as it does
-    pub closes : (j : Kept) (world : Config) → get_elem? xs (journal_slot f.terms.world) ≡ home.some (slot.Journal j) → Run (verdict f.terms.decider) f.terms.world j.entries world → ClosesAs way verdict f.terms s.seats world j
+    pub closes : (j : Kept) (world : Config) → get_elem? xs (journal_slot f.terms.world) ≡ home.some (slot.Journal j) → Run (verdict f.terms.decider) f.terms.world j.entries world → ClosesAs by_journal verdict f.terms s.seats world j
     closes j world e run =
-        subst (λ os. ClosesAs way verdict f.terms os world j) items_are
+        subst (λ os. ClosesAs by_journal verdict f.terms os world j) items_are
         (closed verdict f.terms ok end.0 end.1.0.0 end.1.0.1 id gathered.0 mine items count all_there number gathered.2 xs end.4 j world e run)

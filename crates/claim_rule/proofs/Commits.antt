@@ -40,7 +40,8 @@ use Rattle.claim_rule.specs.declared.views.Slot.TheVariants as slot
 use Rattle.claim_rule.specs.declared.views.Record.{Record}
 use Rattle.claim_rule.specs.declared.views.Terms.{Terms}
 use Rattle.claim_rule.specs.Views.{Content, Seated, view_of, own, setup_of_terms}
-use Rattle.claim_rule.specs.Stands.{cell_tag, first_plain, journal_slot, IsWon, IsStamped, turns_left, IsCoreJournal, HasTaken, HasCommitted, AreWords, AreHomes, KeepsRule}
+use Rattle.claim_rule.specs.Manners.{by_journal, first_plain}
+use Rattle.claim_rule.specs.Stands.{cell_tag, journal_slot, IsWon, IsStamped, turns_left, IsCoreJournal, HasTaken, HasCommitted, AreWords, AreHomes, KeepsRule}
 use Rattle.claim_rule.specs.Plays.{HoldsZone}
 use Rattle.claim_rule.specs.Commits.{commit_at, with_commit, IsToCommit, stored}
 use Rattle.claim_rule.specs.Nexts.{GoesTo, IsAt}
@@ -161,7 +162,7 @@ module _ {D : Type 0} {verdict : D → Shown → Verdict} {z : Terms D} {s : Con
             by_length n = slice_get_past new.values k (let le = sized (past core.tags k q) in let same = length-patched z.world.area (plain_patch change.patch) core.values in omega (arith, le, same)) ∙ sym n
 
     words : AreWords by_journal g new (set s.words last x)
-    words = journal_written g core new s.words x table.stands.words refl free_value (omega (arith, longer)) (to.word ∙ ap (λ (es : List Entry). 2 * length es) next_is ∙ (let q : 2 * length new.journal ≡ 2 * length new.journal + 0 = omega arith in q))
+    words = journal_written by_journal g core new s.words x table.stands.words refl free_value (omega (arith, longer)) (to.word ∙ ap (λ (es : List Entry). 2 * length es) next_is ∙ (let q : 2 * length new.journal ≡ 2 * length new.journal + 0 = omega arith in q))
 
     journal_is : IsCoreJournal g new to.next
     journal_is = record { first = to.pushed.first ∙ has_taken.1.first; entries = next_is; room = omega (arith, fewer, to.pushed.spare, has_taken.1.room) }
@@ -212,7 +213,7 @@ module _ {D : Type 0} {verdict : D → Shown → Verdict} {z : Terms D} {s : Con
     }
 
     same : (k : ℕ) → k < first_plain by_journal z.world → slice_index (set s.words last x) k ≡ slice_index s.words k
-    same = journal_else g s.words x
+    same = journal_else by_journal g s.words x
 
     stamps_stay : (q : Record) → IsStamped g s.words q → IsStamped g (set s.words last x) q
     stamps_stay = stamped_alike g s.words (set s.words last x) (λ k lt. (ap word_occ (same k lt), ap word_stamp (same k lt)))

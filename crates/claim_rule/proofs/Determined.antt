@@ -14,19 +14,20 @@ use Rattle.amoebot_state.proofs.Patched.{run_has_one_last}
 use Rattle.claim_core.specs.Turns.{Kept}
 use Rattle.claim_core.specs.Cells.{values_of, cells}
 use Rattle.claim_core.specs.Good.{IsListed}
-use Rattle.claim_core.specs.Machine.{Setup, State, after}
+use Rattle.claim_core.specs.Machine.{Setup, State}
 use Rattle.claim_core.specs.Reached.{entries_of}
 use Rattle.claim_core.specs.Soundness.{IsSetup, Sound}
 use Rattle.claim_core.proofs.Places.{same_by_get}
-use Rattle.claim_core.proofs.Sounds.{always}
 use Rattle.claim_rule.specs.declared.views.Record.{Record}
 use Rattle.claim_rule.specs.declared.views.Terms.{Terms}
 use Rattle.claim_rule.specs.declared.views.View.{View}
 use Rattle.claim_rule.specs.Words.{word_tag}
 use Rattle.claim_rule.specs.Views.{Content, setup_of_terms}
-use Rattle.claim_rule.specs.Stands.{cell_tag, first_plain, HasTaken, HasRecord, Stands}
+use Rattle.claim_rule.specs.Manners.{CommitWay, by_journal, after_by, first_plain}
+use Rattle.claim_rule.specs.Stands.{cell_tag, HasTaken, HasRecord, Stands}
 use Rattle.claim_rule.specs.Laws.{StateIsDetermined}
 use Rattle.claim_rule.proofs.NextsLemmas.{tags_count}
+use Rattle.claim_rule.proofs.WayLemmas.{sound_by}
 
 -- the entries of a caller where the first entry is its own, and where it is not
 own_first : (c p : ℕ) (e : Entry) (es : List Entry) → e.caller ≡ c → entries_of c p (e ∷ es) ≡ (p, e) ∷ entries_of c (p + 1) es
@@ -84,7 +85,7 @@ itself r = record { alike = record { number = refl; committed = refl }; caller =
 abbrev pub HasTwins : {D : Type 0} → (Record → Record → Type 0) → List (View D) → List (View D) → Type 0
 HasTwins Twin views others = (seat place : ℕ) (r : Record) → HasRecord views seat place r → (seat' place' : ℕ) × (q : Record) × HasRecord others seat' place' q × Twin r q
 
-module _ {D : Type 0} (verdict : D → Shown → Verdict) (z : Terms D) (s s' : Content D) (ok : IsSetup (setup_of_terms verdict z)) where
+module _ {D : Type 0} (verdict : D → Shown → Verdict) (z : Terms D) (way : CommitWay) (s s' : Content D) (ok : IsSetup (setup_of_terms verdict z)) where
   abbrev g : Setup
   g = setup_of_terms verdict z
 
@@ -166,7 +167,7 @@ module _ {D : Type 0} (verdict : D → Shown → Verdict) (z : Terms D) (s s' : 
       values : one.values ≡ two.values
       values = sound.values ∙ ap values_of (same_last one two sound sound' journal) ∙ sym sound'.values
 
-pub state_is_determined : {D : Type 0} (verdict : D → Shown → Verdict) → StateIsDetermined verdict
-state_is_determined verdict z s one two ok st st' =
+pub state_is_determined : {D : Type 0} (way : CommitWay) (verdict : D → Shown → Verdict) → StateIsDetermined way verdict
+state_is_determined way verdict z s one two ok st st' =
     let g = setup_of_terms verdict z in
-    same_state verdict z s s ok (after_by way g one) (after_by way g two) (sound_by g way ok one) (sound_by g way ok two) st st' refl (λ d j r has. (d, j, r, has, itself r))
+    same_state verdict z way s s ok (after_by way g one) (after_by way g two) (sound_by g way ok one) (sound_by g way ok two) st st' refl (λ d j r has. (d, j, r, has, itself r))

@@ -13,6 +13,7 @@ use Rattle.claim_core.proofs.Places.{get-map}
 use Rattle.claim_rule.specs.declared.views.Slot.{Slot}
 use Rattle.claim_rule.specs.declared.views.Slot.TheVariants as slot
 use Rattle.claim_rule.specs.Words.{node_word}
+use Rattle.claim_rule.specs.Manners.{by_journal}
 use Rattle.claim_rule.specs.Opened.{first_word}
 
 -- the words of so many nodes, and of so many amoebots
@@ -35,13 +36,13 @@ one_more_zero xs n = ap (λ ys. xs ++ ys) (map-range_with_len_more (λ _. 0) 0 n
 pub one_more_body : (w : Config) (n : ℕ) → bodies_so_far w (n + 1) ≡ bodies_so_far w n ++ slot.Cell (cell.Body (bot_of w n)) ∷ []
 one_more_body w n = map-range_with_len_more (λ i. slot.Cell (cell.Body (bot_of w i))) 0 n n (omega arith)
 
-word_parts : (w : Config) (ks is : List ℕ) → map first_word (map (held_by w) (map (λ k. name.Spot (node_at w.area k)) ks ++ map name.Body is)) ≡ map (λ k. node_word 0 (occupant w (node_at w.area k)) 0) ks ++ map (λ _. 0) is
+word_parts : (w : Config) (ks is : List ℕ) → map (first_word by_journal) (map (held_by w) (map (λ k. name.Spot (node_at w.area k)) ks ++ map name.Body is)) ≡ map (λ k. node_word 0 (occupant w (node_at w.area k)) 0) ks ++ map (λ _. 0) is
 word_parts w [] [] = refl
 word_parts w [] (i ∷ is) = ap (λ (ys : List ℕ). 0 ∷ ys) (word_parts w [] is)
 word_parts w (k ∷ ks) is = ap (λ (ys : List ℕ). node_word 0 (occupant w (node_at w.area k)) 0 ∷ ys) (word_parts w ks is)
 
 -- all of them are those of what the cells hold
-pub all_words : (w : Config) → map first_word (values_of w) ≡ node_words w (w.area.w * w.area.h) ++ zeros (length w.bots)
+pub all_words : (w : Config) → map (first_word by_journal) (values_of w) ≡ node_words w (w.area.w * w.area.h) ++ zeros (length w.bots)
 all_words w = word_parts w (range_with_len 0 (w.area.w * w.area.h)) (range_with_len 0 (length w.bots))
 
 -- what the cell of a node holds, and that of a body

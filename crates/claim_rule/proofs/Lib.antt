@@ -1,3 +1,5 @@
+mod Unfolding
+pub mod WayLemmas
 pub mod Stamping
 pub mod Tables
 pub mod Moves

@@ -35,7 +35,8 @@ use Rattle.claim_rule.specs.declared.views.Record.{Record}
 use Rattle.claim_rule.specs.declared.views.Terms.{Terms}
 use Rattle.claim_rule.specs.Words.{word_tag, word_occ, word_stamp}
 use Rattle.claim_rule.specs.Views.{Content, Seated, view_of, own, with_note, setup_of_terms}
-use Rattle.claim_rule.specs.Stands.{cell_tag, first_plain, turns_left, IsNodeWord, IsWon, AreWon, IsNoted, IsStamped, IsRecord, AreWords, AreHomes, KeepsRule}
+use Rattle.claim_rule.specs.Manners.{by_journal, first_plain}
+use Rattle.claim_rule.specs.Stands.{cell_tag, turns_left, IsNodeWord, IsWon, AreWon, IsNoted, IsStamped, IsRecord, AreWords, AreHomes, KeepsRule}
 use Rattle.claim_rule.specs.Plays.{IsPlaced, IsKnown, IsOthers, IsToTryNode, IsToWin, with_node, refused_at, note_of, LooksAt, TriesNode}
 use Rattle.claim_rule.specs.Nexts.{GoesTo, IsAt}
 use Rattle.claim_rule.proofs.Stamping.{tag_in, free_same}
@@ -132,10 +133,10 @@ module _ {D : Type 0} {verdict : D → Shown → Verdict} {z : Terms D} {s : Con
         fewer = turns_same g core new r.number r.caller k' (caller_at table) refl refl
 
         words : AreWords by_journal g new (set s.words i w)
-        words = word_again g core new s.words i table.stands.words (omega (arith, at_i.1)) refl refl refl refl
+        words = word_again by_journal g core new s.words i table.stands.words (omega (arith, at_i.1)) refl refl refl refl
 
         homes : AreHomes by_journal g new s.homes
-        homes = homes_same g core new s.homes table.stands.homes (λ k le. refl) refl refl (journal_stays g core new refl fewer)
+        homes = homes_same by_journal g core new s.homes table.stands.homes (λ k le. refl) refl refl (journal_stays g core new refl fewer)
 
         mine : IsStamped g (set s.words i w) (record r { caller = k'; won = r.won; note = None })
         mine = record { won = (again r (my_stamps table)).won; noted = λ m e. absurd (none-some m e) }
@@ -143,7 +144,7 @@ module _ {D : Type 0} {verdict : D → Shown → Verdict} {z : Terms D} {s : Con
     -- a free word was found, and is noted
     pub stands_noted : Rattle.claim_rule.specs.Stands.Stands verdict z by_journal (record { words = set s.words i w; homes = s.homes; views = set s.views seat (view_of z (with_note r (Some (note_of v w)) ∷ [])) }) core
     stands_noted = moves table core core (sound table) r.caller r.won (Some (note_of v w)) (set s.words i w) s.homes refl same_callers refl refl (omega arith)
-        (word_again g core core s.words i table.stands.words (omega (arith, at_i.1)) refl refl refl refl) table.stands.homes (λ q apart rec st. again q st) mine
+        (word_again by_journal g core core s.words i table.stands.words (omega (arith, at_i.1)) refl refl refl refl) table.stands.homes (λ q apart rec st. again q st) mine
       where
         same_callers : core.callers ≡ set core.callers r.number r.caller
         same_callers = sym (set_back core.callers r.number r.caller r.caller (caller_at table)) ∙ set-set core.callers r.number r.caller r.caller
@@ -205,10 +206,10 @@ module _ {D : Type 0} {verdict : D → Shown → Verdict} {z : Terms D} {s : Con
           }
 
       words : AreWords by_journal g new (set s.words i put)
-      words = node_written g core new s.words i t put table.stands.words in_nodes inside tags refl refl refl here
+      words = node_written by_journal g core new s.words i t put table.stands.words in_nodes inside tags refl refl refl here
 
       homes : AreHomes by_journal g new s.homes
-      homes = homes_same g core new s.homes table.stands.homes (λ k le. ap (λ ts. slice_get ts k) tags ∙ get-set_else core.tags i k t (λ e. omega (arith, e, le, in_nodes))) refl refl (journal_stays g core new refl fewer)
+      homes = homes_same by_journal g core new s.homes table.stands.homes (λ k le. ap (λ ts. slice_get ts k) tags ∙ get-set_else core.tags i k t (λ e. omega (arith, e, le, in_nodes))) refl refl (journal_stays g core new refl fewer)
 
       alike : (k : ℕ) → k < first_plain by_journal z.world → Alike (slice_index s.words k) (slice_index (set s.words i put) k)
       alike = alike_written g s.words i put in_words (says.1, says.2)

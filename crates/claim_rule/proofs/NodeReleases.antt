@@ -36,7 +36,8 @@ use Rattle.claim_rule.specs.declared.views.Record.{Record}
 use Rattle.claim_rule.specs.declared.views.Terms.{Terms}
 use Rattle.claim_rule.specs.Words.{occ_number, word_tag, word_occ, word_stamp}
 use Rattle.claim_rule.specs.Views.{Content, Seated, view_of, own, setup_of_terms}
-use Rattle.claim_rule.specs.Stands.{first_plain, turns_left, IsNodeWord, IsWon, AreWon, IsStamped, IsRecord, AreWords, AreHomes, KeepsRule}
+use Rattle.claim_rule.specs.Manners.{by_journal, first_plain}
+use Rattle.claim_rule.specs.Stands.{turns_left, IsNodeWord, IsWon, AreWon, IsStamped, IsRecord, AreWords, AreHomes, KeepsRule}
 use Rattle.claim_rule.specs.Plays.{but_last, released_caller, but_first, occ_in, IsToFreeNode, ReleasesNode}
 use Rattle.claim_rule.specs.Nexts.{GoesTo, IsAt}
 use Rattle.claim_rule.proofs.Stamping.{occ_cases, made_of, small_occ}
@@ -194,10 +195,10 @@ module _ {D : Type 0} {verdict : D → Shown → Verdict} {z : Terms D} {s : Con
     }
 
     words : AreWords by_journal g new (set s.words i x)
-    words = node_written g core new s.words i 0 x table.stands.words in_nodes inside tags values journal (λ j. 2 * length (journal j) + Rattle.std.specs.Option.option_len (holder j)) here
+    words = node_written by_journal g core new s.words i 0 x table.stands.words in_nodes inside tags values journal (λ j. 2 * length (journal j) + Rattle.std.specs.Option.option_len (holder j)) here
 
     homes : AreHomes by_journal g new s.homes
-    homes = homes_same g core new s.homes table.stands.homes (λ k le. ap (λ ts. slice_get ts k) tags ∙ get-set_else core.tags i k 0 (λ e. omega (arith, e, le, in_nodes))) values holder (journal_stays g core new journal fewer)
+    homes = homes_same by_journal g core new s.homes table.stands.homes (λ k le. ap (λ ts. slice_get ts k) tags ∙ get-set_else core.tags i k 0 (λ e. omega (arith, e, le, in_nodes))) values holder (journal_stays g core new journal fewer)
 
     -- a cell with another number
     kept : (p : CellName × Cell) → cell_of p ≢ n → Keeps g s.words (set s.words i x) p

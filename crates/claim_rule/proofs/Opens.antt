@@ -35,7 +35,8 @@ use Rattle.claim_rule.specs.declared.views.Record.{Record}
 use Rattle.claim_rule.specs.declared.views.Terms.{Terms}
 use Rattle.claim_rule.specs.declared.views.View.{View}
 use Rattle.claim_rule.specs.Views.{record_of, setup_of_terms}
-use Rattle.claim_rule.specs.Stands.{first_plain, journal_slot, IsNodeWord, IsWon, AreWon, IsStamped, HasCommitted, IsRecord, HasRecord, Stands, KeepsRule, records_from, first_view}
+use Rattle.claim_rule.specs.Manners.{by_journal, first_plain}
+use Rattle.claim_rule.specs.Stands.{journal_slot, IsNodeWord, IsWon, AreWon, IsStamped, HasCommitted, IsRecord, HasRecord, Stands, KeepsRule, records_from, first_view}
 use Rattle.claim_rule.specs.Tokens.{FieldOf, IsField}
 use Rattle.claim_rule.specs.Opened.{AreFirstSlots, first_word, first_words}
 use Rattle.claim_rule.specs.Laws.{OpeningStands}
@@ -59,8 +60,8 @@ by_either (y ∷ ys) zero x e = ap home.some (same_Some y x e)
 by_either (y ∷ ys) (suc k) x e = by_either ys k x e
 
 -- there is a word for each cell, and one more
-pub words_count : (w : Config) → length (first_words w) ≡ cells w + 1
-words_count w = length-append (map first_word (values_of w)) (0 ∷ []) ∙ (let n = length-map (values_of w) first_word in let m = length-values w in omega (arith, n, m))
+pub words_count : (w : Config) → length (first_words by_journal w) ≡ cells w + 1
+words_count w = length-append (map (first_word by_journal) (values_of w)) (0 ∷ []) ∙ (let n = length-map (values_of w) (first_word by_journal) in let m = length-values w in omega (arith, n, m))
 
 module _ {D : Type 0} (verdict : D → Shown → Verdict) (z : Terms D) where
   abbrev g : machine.Setup
@@ -122,7 +123,7 @@ module _ {D : Type 0} (verdict : D → Shown → Verdict) (z : Terms D) where
   in_first seat place r has = let one = one_view seat has.0 has.1 in (one.0, subst (λ (v : View D). slice_get v.records place ≡ Some r) (sym one.1) has.2)
 
   -- a table that begins like this stands for the opening,
-  pub opening_stands : IsSetup g → (words : List ℕ) (slots : List Slot) → words ≡ first_words z.world → AreFirstSlots z.world z.lists slots → Stands verdict z by_journal (opening words slots (first_view verdict z)) start
+  pub opening_stands : IsSetup g → (words : List ℕ) (slots : List Slot) → words ≡ first_words by_journal z.world → AreFirstSlots z.world z.lists slots → Stands verdict z by_journal (opening words slots (first_view verdict z)) start
   opening_stands ok words slots made first = record {
     words = record {
       count = ap (λ (ws : List ℕ). length ws) made ∙ words_count z.world;
@@ -140,7 +141,7 @@ module _ {D : Type 0} (verdict : D → Shown → Verdict) (z : Terms D) where
           word_at k (held_by z.world (name.Body (k - first_plain by_journal z.world))) (ap (slice_get (values_of z.world)) is ∙ value_of_body z.world (k - first_plain by_journal z.world) few) ∙ sym (zero_of (values_of z.world) k);
       journal =
           ap (λ ws. slice_index ws (cells z.world)) made
-          ∙ get_or_from_slice_get (first_words z.world) (cells z.world) 0 0 (get-append_right (map first_word (values_of z.world)) (0 ∷ []) 0 (cells z.world) (let n = length-map (values_of z.world) first_word in let m = length-values z.world in omega (arith, n, m)));
+          ∙ get_or_from_slice_get (first_words by_journal z.world) (cells z.world) 0 0 (get-append_right (map (first_word by_journal) (values_of z.world)) (0 ∷ []) 0 (cells z.world) (let n = length-map (values_of z.world) (first_word by_journal) in let m = length-values z.world in omega (arith, n, m)));
     };
     homes = record {
       count = length-map slots (λ x. home.some x) ∙ many;
@@ -185,17 +186,17 @@ module _ {D : Type 0} (verdict : D → Shown → Verdict) (z : Terms D) where
       many : length slots ≡ journal_slot z.world + 1
       many = ap (λ (xs : List Slot). length xs) first.are ∙ length-append bodies (slot.Journal first.journal ∷ []) ∙ (let s = size in omega (arith, s))
 
-      word_at : (k : ℕ) (x : Cell) → slice_get (values_of z.world) k ≡ Some x → slice_index words k ≡ first_word x
+      word_at : (k : ℕ) (x : Cell) → slice_get (values_of z.world) k ≡ Some x → slice_index words k ≡ first_word by_journal x
       word_at k x e =
           ap (λ ws. slice_index ws k) made
-          ∙ get_or_from_slice_get (first_words z.world) k (first_word x) 0 (get-append_left (map first_word (values_of z.world)) (0 ∷ []) k (first_word x) (get-map first_word (values_of z.world) k x e))
+          ∙ get_or_from_slice_get (first_words by_journal z.world) k (first_word by_journal x) 0 (get-append_left (map (first_word by_journal) (values_of z.world)) (0 ∷ []) k (first_word by_journal x) (get-map (first_word by_journal) (values_of z.world) k x e))
 
       tagged : (o : Option ℕ) (t : ℕ) → at start.tags o ≡ Some t → t ≡ 0
       tagged None t e = absurd (none-some t e)
       tagged (Some k) t e = zero_there (values_of z.world) k t e
 
   -- to which no step leads
-  pub opens : IsSetup g → (words : List ℕ) (slots : List Slot) → words ≡ first_words z.world → AreFirstSlots z.world z.lists slots → KeepsRule verdict z by_journal (opening words slots (first_view verdict z))
+  pub opens : IsSetup g → (words : List ℕ) (slots : List Slot) → words ≡ first_words by_journal z.world → AreFirstSlots z.world z.lists slots → KeepsRule verdict z by_journal (opening words slots (first_view verdict z))
   opens ok words slots made first = ([], opening_stands ok words slots made first)
 
   -- a field with these terms keeps what a field keeps
@@ -214,5 +215,5 @@ module _ {D : Type 0} (verdict : D → Shown → Verdict) (z : Terms D) where
       ap (λ (xs : List Slot). length xs) first.are ∙ length-append _ (slot.Journal first.journal ∷ [])
       ∙ (let s = length-map-range_with_len (λ i. slot.Cell (held_by z.world (name.Body i))) 0 (length z.world.bots) in omega (arith, s))
 
-pub opening_is : {D : Type 0} (verdict : D → Shown → Verdict) → OpeningStands verdict
-opening_is verdict z slots ok first = opening_stands verdict z ok (first_words z.world) slots refl first
+pub opening_is : {D : Type 0} (verdict : D → Shown → Verdict) → OpeningStands by_journal verdict
+opening_is verdict z slots ok first = opening_stands verdict z ok (first_words by_journal z.world) slots refl first

@@ -9,12 +9,13 @@ use Rattle.atomic_table.specs.Table.{Splits, Joins}
 use Rattle.atomic_table.proofs.Lists.{at_set, set_here, set_else, at_longer, at_last}
 use Rattle.amoebot_state.specs.declared.verdict.Verdict.{Verdict}
 use Rattle.amoebot_state.specs.Zones.{Shown}
-use Rattle.claim_core.specs.Machine.{State, after}
+use Rattle.claim_core.specs.Machine.{State}
 use Rattle.claim_core.proofs.Places.{get-append_left, get-append_right}
 use Rattle.claim_rule.specs.declared.views.Record.{Record}
 use Rattle.claim_rule.specs.declared.views.Terms.{Terms}
 use Rattle.claim_rule.specs.declared.views.View.{View}
 use Rattle.claim_rule.specs.Views.{Content, view_of, setup_of_terms}
+use Rattle.claim_rule.specs.Manners.{CommitWay, after_by}
 use Rattle.claim_rule.specs.Stands.{HasRecord, Stands, KeepsRule}
 use Rattle.claim_rule.specs.Seating.{spent}
 use Rattle.claim_rule.specs.Internal.{dealt, left_view, joined_view}
@@ -47,7 +48,7 @@ in_either (x ∷ xs) ys (suc j) y e = elim (in_either xs ys j y e) [
 none_there : {D : Type 0} (v : View D) (j : ℕ) (q : Record) → v.records ≡ [] → slice_get v.records j ≡ Some q → ⊥
 none_there v j q none e = none-some q (ap (λ (rs : List Record). slice_get rs j) (sym none) ∙ e)
 
-module _ {D : Type 0} (verdict : D → Shown → Verdict) (z : Terms D) where
+module _ {D : Type 0} (verdict : D → Shown → Verdict) (z : Terms D) (way : CommitWay) where
   -- other views that have the same records, each once
   reseated : (s : Content D) (core : State) (views : List (View D)) → Stands verdict z way s core
       → ((d j : ℕ) (v : View D) (q : Record) → get_elem? views d ≡ home.some v → slice_get v.records j ≡ Some q → v.terms ≡ Some z)
@@ -141,7 +142,7 @@ module _ {D : Type 0} (verdict : D → Shown → Verdict) (z : Terms D) where
 
   -- and the rule is kept
   pub splits : (seat : ℕ) (r : Record) (rs : List Record) → Splits (KeepsRule verdict z way) seat (view_of z (r ∷ rs)) (view_of z rs) (view_of z (r ∷ []))
-  splits seat r rs s h there = (h.0, same_split (after (setup_of_terms verdict z) h.0) seat r rs s h.1 there)
+  splits seat r rs s h there = (h.0, same_split (after_by way (setup_of_terms verdict z) h.0) seat r rs s h.1 there)
 
   -- the records of another seat come in behind the own
   module _ (s : Content D) (core : State) (st : Stands verdict z way s core) (seat other : ℕ) (rs qs : List Record) (there : get_elem? s.views seat ≡ home.some (view_of z rs)) (apart : ¬ (other ≡ seat)) (there' : get_elem? s.views other ≡ home.some (view_of z qs)) where
@@ -217,7 +218,7 @@ module _ {D : Type 0} (verdict : D → Shown → Verdict) (z : Terms D) where
       (join_one s core st seat other rs qs there apart was)
 
   pub joins : (seat other : ℕ) (rs qs : List Record) → Joins (KeepsRule verdict z way) seat (view_of z rs) other (view_of z qs) (view_of z (rs ++ qs)) spent
-  joins seat other rs qs s h there apart there' = (h.0, same_join (after (setup_of_terms verdict z) h.0) seat other rs qs s h.1 there apart there')
+  joins seat other rs qs s h there apart there' = (h.0, same_join (after_by way (setup_of_terms verdict z) h.0) seat other rs qs s h.1 there apart there')
 
   -- the same of a view that is one with such records
   pub splits_view : (seat : ℕ) (v : View D) (r : Record) (rs : List Record) → v ≡ view_of z (r ∷ rs) → Splits (KeepsRule verdict z way) seat v (left_view v) (dealt v)

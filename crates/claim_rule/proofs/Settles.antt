@@ -20,7 +20,8 @@ use Rattle.claim_core.specs.Soundness.{IsHeld}
 use Rattle.claim_core.proofs.Stays.{slice_get-pushed}
 use Rattle.claim_rule.specs.declared.views.Note.{Note}
 use Rattle.claim_rule.specs.Words.{word_occ, word_stamp}
-use Rattle.claim_rule.specs.Stands.{first_plain, IsWon, AreWon, AreWords}
+use Rattle.claim_rule.specs.Manners.{by_journal, first_plain}
+use Rattle.claim_rule.specs.Stands.{IsWon, AreWon, AreWords}
 use Rattle.claim_rule.proofs.Tables.{node_number}
 
 -- nodes that are won stay so with the values of a patch

@@ -12,7 +12,7 @@ use Rattle.amoebot_state.specs.declared.cell.Cell.{Cell}
 use Rattle.amoebot_state.specs.declared.verdict.Change.{Change}
 use Rattle.amoebot_state.specs.declared.verdict.Entry.{Entry}
 use Rattle.amoebot_state.specs.declared.verdict.Verdict.{Verdict}
-use Rattle.amoebot_state.specs.Pairs.{Pairs, cell_of, nodes_in, plain_patch}
+use Rattle.amoebot_state.specs.Pairs.{Pairs, cell_of, plain_patch}
 use Rattle.amoebot_state.specs.Configs.{Config}
 use Rattle.amoebot_state.specs.Zones.{Shown}
 use Rattle.amoebot_state.proofs.Fronts.{slice_get_behind}
@@ -31,6 +31,8 @@ use Rattle.claim_rule.specs.declared.views.Note.{Note}
 use Rattle.claim_rule.specs.declared.views.Record.{Record}
 use Rattle.claim_rule.specs.declared.views.View.{View}
 use Rattle.claim_rule.specs.Views.{Seated, own, like}
+use Rattle.tri_lattice.specs.Extent.{Extent}
+use Rattle.claim_rule.specs.Manners.{CommitWay, by_journal, by_ticket, noted_nodes}
 use Rattle.claim_rule.specs.Stands.{journal_slot}
 use Rattle.claim_rule.specs.Plays.{IsPlaced, about}
 use Rattle.claim_rule.specs.Commits.{GotJournal, IsPushed, IsToCommit, Commits, with_journal, with_commit}
@@ -50,15 +52,18 @@ journal_or d ((i, slot.Cell x) ∷ out) = d
 journal_or d ((i, slot.Journal j) ∷ out) = j
 
 -- new values leave the cells, and their slots, which are stale then
-out_still : (s : Bool) (patch xs : Pairs) (outs : List (ℕ × Slot)) → AreOut s xs outs → AreOut true (map (patched_pair patch) xs) outs
-out_still s patch [] outs are = are
-out_still s patch ((name.Spot v, x) ∷ xs) outs are = out_still s patch xs outs are
-out_still s patch ((name.Body i, x) ∷ xs) outs are = (are.0, are.1, are.2, (λ e. cc), out_still s patch xs are.1 are.4)
+pub out_still : (way : CommitWay) (a : Extent) (s : Bool) (patch xs : Pairs) (outs : List (ℕ × Slot)) → AreOut way a s xs outs → AreOut way a true (map (patched_pair patch) xs) outs
+out_still by_journal a s patch [] outs are = are
+out_still by_journal a s patch ((name.Spot v, x) ∷ xs) outs are = out_still by_journal a s patch xs outs are
+out_still by_journal a s patch ((name.Body i, x) ∷ xs) outs are = (are.0, are.1, are.2, (λ e. cc), out_still by_journal a s patch xs are.1 are.4)
+out_still by_ticket a s patch [] outs are = are
+out_still by_ticket a s patch ((n, x) ∷ xs) outs are = (are.0, are.1, are.2, (λ e. cc), out_still by_ticket a s patch xs are.1 are.4)
 
-nodes_renewed : (patch xs : Pairs) → nodes_in (map (patched_pair patch) xs) ≡ nodes_in xs
-nodes_renewed patch [] = refl
-nodes_renewed patch ((name.Spot v, x) ∷ xs) = ap (λ (vs : List Node). v ∷ vs) (nodes_renewed patch xs)
-nodes_renewed patch ((name.Body i, x) ∷ xs) = nodes_renewed patch xs
+pub nodes_renewed : (way : CommitWay) (patch xs : Pairs) → noted_nodes way (map (patched_pair patch) xs) ≡ noted_nodes way xs
+nodes_renewed by_journal patch [] = refl
+nodes_renewed by_journal patch ((name.Spot v, x) ∷ xs) = ap (λ (vs : List Node). v ∷ vs) (nodes_renewed by_journal patch xs)
+nodes_renewed by_journal patch ((name.Body i, x) ∷ xs) = nodes_renewed by_journal patch xs
+nodes_renewed by_ticket patch xs = refl
 
 not_released : (change : Change) → Taking change ≡ Releasing → ⊥
 not_released change e = cc
@@ -93,7 +98,7 @@ module _ {D : Type 0} (verdict : D → Shown → Verdict) (m : Seated D) (c t b 
       after : IsTaken verdict (v, (journal_slot g.world, slot.Journal got.journal) ∷ m.1) c t b s bare pairs notes change
       after = record {
         alone = refl;
-        activation = stays verdict m c t b s bare pairs notes is (untaken (v, (journal_slot g.world, slot.Journal got.journal) ∷ m.1)) k (λ p. like m.0 (record (own m.0) { caller = k; taken = sym is.taken p } ∷ [])) refl refl;
+        activation = stays verdict by_journal m c t b s bare pairs notes is (untaken (v, (journal_slot g.world, slot.Journal got.journal) ∷ m.1)) k (λ p. like m.0 (record (own m.0) { caller = k; taken = sym is.taken p } ∷ [])) refl refl;
         turn = wh.turn;
         counted = counted;
         whole = wh.whole;
@@ -164,9 +169,9 @@ module _ {D : Type 0} (verdict : D → Shown → Verdict) (m : Seated D) (c t b 
         some = let one = whole_some g b pairs tk.whole in omega (arith, one, length-map pairs (patched_pair (plain_patch change.patch)))
 
         after : IsActivation verdict by_journal (like m.0 (r ∷ []), rest m.1) c t b true bare ps notes
-        after = with_held verdict (untaken m) c t b s bare pairs notes tk.activation true r (rest m.1) ps notes tk.activation.few tk.activation.number refl (ap (λ (q : Caller). q.held) k_is ∙ frees-held g t ps ms)
+        after = with_held verdict by_journal (untaken m) c t b s bare pairs notes tk.activation true r (rest m.1) ps notes tk.activation.few tk.activation.number refl (ap (λ (q : Caller). q.held) k_is ∙ frees-held g t ps ms)
             (All-map (λ (p : CellName × Cell). (n : ℕ) × IsPlaced g (cell_of p) n) (patched_pair (plain_patch change.patch)) pairs tk.activation.placed) tk.activation.won tk.activation.note
-            (tk.activation.nodes ∙ sym (nodes_renewed (plain_patch change.patch) pairs)) (out_still s (plain_patch change.patch) pairs (rest m.1) tk.activation.out)
+            (tk.activation.nodes ∙ sym (nodes_renewed by_journal (plain_patch change.patch) pairs)) (out_still by_journal bare.area s (plain_patch change.patch) pairs (rest m.1) tk.activation.out)
 
         marks_are : r.caller.marks ≡ ms
         marks_are = ap (λ (q : Caller). q.marks) k_is ∙ frees-marks g t ps ms

@@ -26,7 +26,8 @@ use Rattle.claim_rule.specs.declared.views.Slot.TheVariants as slot
 use Rattle.claim_rule.specs.declared.views.Record.{Record}
 use Rattle.claim_rule.specs.declared.views.Terms.{Terms}
 use Rattle.claim_rule.specs.Views.{Content, Seated, view_of, own, setup_of_terms}
-use Rattle.claim_rule.specs.Stands.{first_plain, journal_slot, turns_left, IsCoreJournal, HasCommitted, AreWords, AreHomes, KeepsRule}
+use Rattle.claim_rule.specs.Manners.{by_journal, first_plain}
+use Rattle.claim_rule.specs.Stands.{journal_slot, turns_left, IsCoreJournal, HasCommitted, AreWords, AreHomes, KeepsRule}
 use Rattle.claim_rule.specs.Commits.{Takes, HasRoomForEntry, IsTakenElsewhere, with_journal, took}
 use Rattle.claim_rule.specs.Nexts.{GoesTo, IsAt}
 use Rattle.claim_rule.proofs.Tables.{journal_written, journal_else, stamped_alike}
@@ -67,7 +68,7 @@ module _ {D : Type 0} {verdict : D → Shown → Verdict} {z : Terms D} {s : Con
   Goes = (slots : ℕ) (carried : List (ℕ × Slot)) → GoesTo verdict z by_journal s (next g r.number core) last seat (view_of z (r ∷ []), carried) (took verdict (step slots last 1 0 home.none) (view_of z (r ∷ []), carried)) (bit_or old 1)
 
   still : (x : ℕ) (q : Record) → IsStamped g s.words q → IsStamped g (set s.words last x) q
-  still x q = stamped_alike g s.words (set s.words last x) (λ k lt. (ap word_occ (journal_else g s.words x k lt), ap word_stamp (journal_else g s.words x k lt))) q
+  still x q = stamped_alike g s.words (set s.words last x) (λ k lt. (ap word_occ (journal_else by_journal g s.words x k lt), ap word_stamp (journal_else by_journal g s.words x k lt))) q
 
   module _ (change : Change) (p : r.caller.phase ≡ Taking change) where
     leads_by : (o : Option ℕ) → core.holder ≡ o → next g r.number core ≡ machine.takes g r.number core r.caller change o
@@ -102,7 +103,7 @@ module _ {D : Type 0} {verdict : D → Shown → Verdict} {z : Terms D} {s : Con
         word_stays = ap (λ x. bit_or x 1) (word_is (Some d) e) ∙ made_odd (length core.journal) (Some d) ∙ sym (word_is (Some d) e)
 
         words : AreWords by_journal g core (set s.words last (bit_or old 1))
-        words = journal_written g core core s.words (bit_or old 1) table.stands.words refl (λ k none. refl) (omega arith) (word_stays ∙ table.stands.words.journal)
+        words = journal_written by_journal g core core s.words (bit_or old 1) table.stands.words refl (λ k none. refl) (omega arith) (word_stays ∙ table.stands.words.journal)
 
     -- nobody has it
     hits : core.holder ≡ None → Goes
@@ -137,7 +138,7 @@ module _ {D : Type 0} {verdict : D → Shown → Verdict} {z : Terms D} {s : Con
         room = record { some = omega (arith, left, has.2.room); few = omega (arith, left, table.stands.few, ap (λ (es : List _). length es) has.2.entries) }
 
         words : AreWords by_journal g new (set s.words last (bit_or old 1))
-        words = journal_written g core new s.words (bit_or old 1) table.stands.words refl (λ k none. refl) (omega arith) (ap (λ x. bit_or x 1) (word_is None e) ∙ made_odd (length core.journal) None)
+        words = journal_written by_journal g core new s.words (bit_or old 1) table.stands.words refl (λ k none. refl) (omega arith) (ap (λ x. bit_or x 1) (word_is None e) ∙ made_odd (length core.journal) None)
 
         homes : AreHomes by_journal g new (set s.homes (journal_slot z.world) home.none)
         homes = record {

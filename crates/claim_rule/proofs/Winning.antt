@@ -17,6 +17,7 @@ use Rattle.claim_rule.specs.declared.views.Note.{Note}
 use Rattle.claim_rule.specs.Words.{word_tag, word_occ, word_stamp}
 use Rattle.claim_rule.specs.Views.{Seated, own, like, with_note, seen}
 use Rattle.claim_rule.specs.Plays.{IsKnown, IsOthers, IsToTryNode, IsToWin, LooksAt, TriesNode, StopsAt, NotesWord, WinsNode, about, bot_in, note_of, with_node, refused_at}
+use Rattle.claim_rule.specs.Manners.{by_journal}
 use Rattle.claim_rule.specs.Tokens.{unnoted, IsActivation, IsClaiming, IsNoting, IsStopped}
 use Rattle.claim_rule.proofs.ActivationLemmas.{bot_same, next_same, with_held, stops, wins_node, to_try}
 
@@ -29,7 +30,7 @@ module _ {D : Type 0} (verdict : D → Shown → Verdict) (c t b : ℕ) (s : Boo
     g = about verdict m.0
 
     its_next : next_of g (bot_in verdict m.0) (own m.0).caller.held ≡ Some (name.Spot v)
-    its_next = next_same verdict m c t b s bare pairs notes is cl.turn ∙ nx
+    its_next = next_same verdict by_journal m c t b s bare pairs notes is cl.turn ∙ nx
 
     is_node : (u : Node) → next_of g (bot_in verdict m.0) (own m.0).caller.held ≡ Some (name.Spot u) → u ≡ v
     is_node u e = same_spot u v (same_Some (name.Spot u) (name.Spot v) (sym e ∙ its_next))
@@ -48,7 +49,7 @@ module _ {D : Type 0} (verdict : D → Shown → Verdict) (c t b : ℕ) (s : Boo
         noting : IsNoting verdict (with w) c t b s bare pairs notes v w
         noting = record {
           alone = refl;
-          activation = with_held verdict m c t b s bare pairs notes is s (with_note (own m.0) None) m.1 pairs notes is.few is.number is.taken is.held is.placed is.won refl is.nodes is.out;
+          activation = with_held verdict by_journal m c t b s bare pairs notes is s (with_note (own m.0) None) m.1 pairs notes is.few is.number is.taken is.held is.placed is.won refl is.nodes is.out;
           claiming = record { turn = cl.turn; counted = cl.counted; phase = cl.phase; known = cl.known };
           note = refl;
           next = nx;
@@ -58,7 +59,7 @@ module _ {D : Type 0} (verdict : D → Shown → Verdict) (c t b : ℕ) (s : Boo
 
     -- another caller's tag was found
     pub stopped : (w : ℕ) (m' : Seated D) → StopsAt verdict m w m' → IsActivation verdict by_journal m' c t b s bare pairs notes × IsStopped verdict m' c t b pairs
-    stopped w m' n = stops verdict m c t b s bare pairs notes is m' (name.Spot n.node) (word_tag w) cl n.next n.now n.out n.other
+    stopped w m' n = stops verdict by_journal m c t b s bare pairs notes is m' (name.Spot n.node) (word_tag w) cl n.next n.now n.out n.other
 
     -- and contracts see the refusal at this node
     pub seen_stopped : (w : ℕ) (m' : Seated D) → StopsAt verdict m w m' → seen m'.0 ≡ seen (like m.0 (refused_at (own m.0) v (word_tag w) ∷ []))

@@ -57,13 +57,14 @@ pub struct Claimed<D: Decider> {
 }
 
 impl<D: Decider> Model for Claimed<D> {
+    ghost use Rattle.claim_rule.specs.Manners.{by_journal};
     ghost use Rattle.claim_rule.specs.Tokens.{Token, KeepsActivation, KeepsFound, token_in};
 
     ghost Value = { Token D };
 
     ghost view = { λ c. token_in c.activation };
 
-    ghost invariant = { λ c. KeepsActivation D.verdict c.activation
+    ghost invariant = { λ c. KeepsActivation D.verdict by_journal c.activation
         × KeepsFound D.verdict c.activation.seat.me c.activation.room.value };
 }
 

@@ -7,6 +7,7 @@ ghost use mathlib.Core.Option.{some};
 ghost use Rattle.amoebot_state.specs.Configs.{Config};
 ghost use Rattle.amoebot_state.specs.Steps.{Run};
 ghost use Rattle.claim_core.specs.Turns.{Kept};
+ghost use Rattle.claim_rule.specs.Manners.{by_journal};
 ghost use Rattle.claim_rule.specs.declared.views.Record.{Record};
 ghost use Rattle.claim_rule.specs.declared.views.Slot.TheVariants as slot;
 ghost use Rattle.claim_rule.specs.Views.{view_of};
@@ -30,7 +31,7 @@ impl<'d, D: Decider> Field<'d, D> {
     pub fn close(self, seats: Seats<D>) -> (World, Journal)
         requires field { AreOf self seats }
         requires all { All (λ seat. IsSome seat) seats.seats }
-        ensures closes { ClosesAs D.verdict self.entry.terms seats.seats result.0 result.1 }
+        ensures closes { ClosesAs by_journal D.verdict self.entry.terms seats.seats result.0 result.1 }
         ensures rests { HoldNothing seats.seats }
         ensures right { EndsRight D.verdict self.entry.terms seats.seats result.0 result.1 }
     {

@@ -5,6 +5,7 @@ ghost use Rattle.std.specs.Prelude.{◌≡◌, ◌+◌, [], IfOk};
 ghost use Rattle.std.specs.Slots.{slots_items, slots_len, IsFull};
 ghost use Rattle.atomic_table.specs.Table.{Final, Seen};
 ghost use Rattle.claim_core.specs.Soundness.{IsSetup};
+ghost use Rattle.claim_rule.specs.Manners.{by_journal};
 ghost use Rattle.claim_rule.specs.Views.{field_terms, setup_of_terms};
 ghost use Rattle.claim_rule.specs.Stands.{KeepsRule, first_view, journal_slot};
 ghost use Rattle.claim_rule.specs.Opened.{AreFirstSlots, first_words};
@@ -32,6 +33,7 @@ pub struct Field<'d, D: Decider> {
 }
 
 impl<'d, D: Decider> Model for Field<'d, D> {
+    ghost use Rattle.claim_rule.specs.Manners.{by_journal};
     ghost use Rattle.claim_rule.specs.Tokens.{FieldOf, IsField};
     ghost use Rattle.claim_rule.specs.Views.{field_terms};
 
@@ -42,7 +44,7 @@ impl<'d, D: Decider> Model for Field<'d, D> {
       terms = field_terms f.table.shared.key.decider.now f.table.shared.key.world f.table.shared.key.lists.now;
     } };
 
-    ghost invariant = { λ f. IsField D.verdict (record {
+    ghost invariant = { λ f. IsField D.verdict by_journal (record {
       table = f.table.shared.table_id;
       terms = field_terms f.table.shared.key.decider.now f.table.shared.key.world f.table.shared.key.lists.now;
     }) f.decider.now f.world };
@@ -74,7 +76,7 @@ impl<'d, D: Decider> Field<'d, D> {
         slots: Vec<Slot>,
     ) -> Result<(Field<'d, D>, TableSeat<Slot, View<D>>), NoMemory>
         requires run { IsSetup (setup_of_terms D.verdict (field_terms decider.now world lists.now)) }
-        requires words { words.items ≡ first_words world }
+        requires words { words.items ≡ first_words by_journal world }
         requires slots { AreFirstSlots world lists.now slots.items }
         ensures terms { IfOk result (λ made. made.0.terms ≡ field_terms decider.now world lists.now) }
         ensures seat { IfOk result (λ made. (made.1.table_id ≡ made.0.table) × (made.1.me ≡ (first_view D.verdict made.0.terms, []))) }
@@ -111,7 +113,7 @@ impl<'d, D: Decider> Field<'d, D> {
         ensures run { IsSetup (setup_of_terms D.verdict self.entry.terms) }
         ensures count { slots_len result.0.slots ≡ journal_slot self.entry.terms.world + 1 }
         ensures full { IsFull result.0.slots }
-        ensures ends { Final (Seen (KeepsRule D.verdict self.entry.terms) last.id last.me.0)
+        ensures ends { Final (Seen (KeepsRule D.verdict self.entry.terms by_journal) last.id last.me.0)
             (slots_items result.0.words) (slots_items result.0.slots) }
         ensures decider { result.1.now ≡ self.entry.terms.decider }
         ensures world { result.2 ≡ self.entry.terms.world }

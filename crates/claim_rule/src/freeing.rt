@@ -19,13 +19,14 @@ pub struct Freeing<D: Decider> {
 }
 
 impl<D: Decider> Model for Freeing<D> {
+    ghost use Rattle.claim_rule.specs.Manners.{by_journal};
     ghost use Rattle.claim_rule.specs.Tokens.{Token, IsFreeing, KeepsActivation, token_in, cells_in};
 
     ghost Value = { Token D };
 
     ghost view = { λ f. token_in f.activation };
 
-    ghost invariant = { λ f. KeepsActivation D.verdict f.activation
+    ghost invariant = { λ f. KeepsActivation D.verdict by_journal f.activation
         × IsFreeing D.verdict f.activation.seat.me f.activation.room.value.turn (cells_in f.activation) f.activation.room.value.after };
 }
 

@@ -25,13 +25,14 @@ pub struct Held<D: Decider> {
 
 impl<D: Decider> Model for Held<D> {
     ghost use Rattle.claim_rule.specs.Plays.{about};
+    ghost use Rattle.claim_rule.specs.Manners.{by_journal};
     ghost use Rattle.claim_rule.specs.Tokens.{Token, IsClaiming, KeepsActivation, KnowsTurn, KnowsWalls, token_in, cells_in};
 
     ghost Value = { Token D };
 
     ghost view = { λ h. token_in h.activation };
 
-    ghost invariant = { λ h. KeepsActivation D.verdict h.activation
+    ghost invariant = { λ h. KeepsActivation D.verdict by_journal h.activation
         × IsClaiming D.verdict h.activation.seat.me h.activation.room.value.turn h.activation.room.value.bot (cells_in h.activation)
         × KnowsTurn h.activation.room.value
         × KnowsWalls (about D.verdict h.activation.seat.me.0).world h.activation.room.value };

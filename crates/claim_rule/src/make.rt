@@ -2,6 +2,7 @@
 ghost use Rattle.std.specs.Prelude.{◌≡◌, ◌≤◌, [], length, IfOk, IsSome};
 ghost use Rattle.std.specs.List.{All};
 ghost use Rattle.amoebot_state.specs.Configs.{bot_at};
+ghost use Rattle.claim_rule.specs.Manners.{by_journal};
 ghost use Rattle.claim_rule.specs.Views.{field_terms};
 ghost use Rattle.claim_rule.specs.Stands.{first_view};
 ghost use Rattle.claim_rule.specs.Opened.{AreFirstSlots, first_seats, first_words};
@@ -85,7 +86,7 @@ fn deal_all<'d, D: Decider>(
 
 /// The words at the start: each node's has its occupant, and all others are 0.
 fn words_at_first(alloc: Global, world: &World) -> Result<Vec<u64>, NoMemory>
-    ensures { IfOk result (λ words. words.items ≡ first_words world.now) }
+    ensures { IfOk result (λ words. words.items ≡ first_words by_journal world.now) }
 {
     let area = world.area();
     let mut words = Vec::new(alloc);

@@ -1,4 +1,5 @@
 //! The rule, and what each step tells the seat that makes it. These types are for the proofs alone.
+ghost use Rattle.claim_rule.specs.Manners.{by_journal};
 ghost use Rattle.claim_rule.specs.Views.{field_terms};
 ghost use Rattle.claim_rule.specs.Stands.{KeepsRule, first_view};
 ghost use Rattle.claim_rule.specs.Plays.{Claims, Releases, LooksAt, TriesNode, ReleasesNode, ReadsLength};
@@ -12,7 +13,7 @@ use atomic_table::{Play, TableRule};
 pub struct ClaimRule;
 
 impl<'d, D: Decider> TableRule<Slot, View<D>, Key<'d, D>> for ClaimRule {
-    ghost holds = { λ key. KeepsRule D.verdict (field_terms key.decider.now key.world key.lists.now) };
+    ghost holds = { λ key. KeepsRule D.verdict (field_terms key.decider.now key.world key.lists.now) by_journal };
 
     ghost first = { λ key. first_view D.verdict (field_terms key.decider.now key.world key.lists.now) };
 }
@@ -42,7 +43,7 @@ impl<D: Decider> Play<Slot, View<D>> for FreeNode {
 pub(crate) struct Claim;
 
 impl<D: Decider> Play<Slot, View<D>> for Claim {
-    ghost then = { Claims D.verdict };
+    ghost then = { Claims D.verdict by_journal };
 }
 
 /// The release of the body that was won last.
@@ -56,7 +57,7 @@ impl<D: Decider> Play<Slot, View<D>> for Free {
 pub(crate) struct Read;
 
 impl<D: Decider> Play<Slot, View<D>> for Read {
-    ghost then = { ReadsLength D.verdict };
+    ghost then = { ReadsLength D.verdict by_journal };
 }
 
 /// A try to take the journal.

@@ -53,13 +53,14 @@ pub struct Settled<D: Decider> {
 
 impl<D: Decider> Model for Settled<D> {
     ghost use Rattle.std.specs.Prelude.{◌<◌, length};
+    ghost use Rattle.claim_rule.specs.Manners.{by_journal};
     ghost use Rattle.claim_rule.specs.Tokens.{Token, IsFreeing, KeepsActivation, token_in, cells_in};
 
     ghost Value = { Token D };
 
     ghost view = { λ s. token_in s.activation };
 
-    ghost invariant = { λ s. KeepsActivation D.verdict s.activation
+    ghost invariant = { λ s. KeepsActivation D.verdict by_journal s.activation
         × IsFreeing D.verdict s.activation.seat.me s.activation.room.value.turn (cells_in s.activation) s.activation.room.value.after
         × (0 < length (cells_in s.activation)) };
 }

@@ -138,13 +138,14 @@ pub struct Stopped<D: Decider> {
 }
 
 impl<D: Decider> Model for Stopped<D> {
+    ghost use Rattle.claim_rule.specs.Manners.{by_journal};
     ghost use Rattle.claim_rule.specs.Tokens.{Token, IsStopped, KeepsActivation, token_in, cells_in};
 
     ghost Value = { Token D };
 
     ghost view = { λ s. token_in s.activation };
 
-    ghost invariant = { λ s. KeepsActivation D.verdict s.activation
+    ghost invariant = { λ s. KeepsActivation D.verdict by_journal s.activation
         × IsStopped D.verdict s.activation.seat.me s.activation.room.value.caller s.activation.room.value.turn
         s.activation.room.value.bot (cells_in s.activation) };
 }

@@ -4,6 +4,7 @@ ghost use mathlib.Core.Option.{none};
 ghost use Rattle.atomic_table.specs.Table.{step};
 ghost use Rattle.claim_core.specs.Cells.{cells};
 ghost use Rattle.claim_core.specs.Limits.{most_turns};
+ghost use Rattle.claim_rule.specs.Manners.{by_journal};
 ghost use Rattle.claim_rule.specs.Views.{own, goes_on};
 ghost use Rattle.claim_rule.specs.Stands.{journal_slot};
 ghost use Rattle.claim_rule.specs.Plays.{IsToTry, IsToFree, IsToRead, about, marked_at, Claims, Releases, ReadsLength};
@@ -21,9 +22,9 @@ impl<'d, D: Decider> Field<'d, D> {
     /// One try to claim the body with this number. It returns the tag that was found, 0 where the body is won.
     pub(crate) fn claim(&self, seat: &mut Seat<Slot, View<D>>, cell: usize, tag: u64) -> u64
         requires may { MayStep self.now seat.old }
-        requires next { IsToTry D.verdict cell tag seat.old.me.0 }
+        requires next { IsToTry D.verdict by_journal cell tag seat.old.me.0 }
         ensures same { IsSameSeat seat.old seat.new }
-        ensures told { Claims D.verdict (step self.now.table.slots cell 0 tag none) seat.old.me result seat.new.me }
+        ensures told { Claims D.verdict by_journal (step self.now.table.slots cell 0 tag none) seat.old.me result seat.new.me }
     {
         self.table
             .shared
@@ -33,7 +34,7 @@ impl<'d, D: Decider> Field<'d, D> {
     /// One release, of the body with this number, which was won last.
     pub(crate) fn free(&self, seat: &mut Seat<Slot, View<D>>, cell: usize)
         requires may { MayStep self.now seat.old }
-        requires last { IsToFree D.verdict cell seat.old.me }
+        requires last { IsToFree D.verdict by_journal cell seat.old.me }
         ensures same { IsSameSeat seat.old seat.new }
         ensures told { Releases D.verdict (step self.now.table.slots cell 0 0 none) seat.old.me 0 seat.new.me }
     {
@@ -45,7 +46,7 @@ impl<'d, D: Decider> Field<'d, D> {
         requires may { MayStep self.now seat.old }
         requires reads { IsToRead (own seat.old.me.0).caller.phase }
         ensures same { IsSameSeat seat.old seat.new }
-        ensures told { ReadsLength D.verdict (step self.now.table.slots (cells self.now.terms.world) 0 0 none)
+        ensures told { ReadsLength D.verdict by_journal (step self.now.table.slots (cells self.now.terms.world) 0 0 none)
             seat.old.me result seat.new.me }
     {
         let journal = self.journal_number();

@@ -1,4 +1,5 @@
 use Rattle.std.proofs.Common.{ap, ◌∙◌}
+use Rattle.claim_rule.specs.Manners.{by_journal}
 use Rattle.claim_rule.specs.Tokens.{Token, doing}
 use Rattle.claim_rule.proofs.ActivationLemmas.{unsealed}
 use Rattle.claim_rule.proofs.claimed.unseal.Goals as goal
@@ -6,5 +7,5 @@ use Rattle.claim_rule.proofs.claimed.unseal.Goals as goal
 pub invariant_of-result : goal.invariant_of-result
 invariant_of-result g c = (
   c.claimed.invariant.0,
-  (unsealed g.D.Decider.verdict c.claimed.inside.activation.seat.me _ _ _ _ _ _ _ c.claimed.invariant.0 c.claimed.invariant.1.told _ c.claimed.invariant.1.whole (ap (λ (t : Token _). (doing t).phase) c.claimed.view_is ∙ c.requires.looked)).0,
+  (unsealed g.D.Decider.verdict by_journal c.claimed.inside.activation.seat.me _ _ _ _ _ _ _ c.claimed.invariant.0 c.claimed.invariant.1.told _ c.claimed.invariant.1.whole (ap (λ (t : Token _). (doing t).phase) c.claimed.view_is ∙ c.requires.looked)).0,
 )

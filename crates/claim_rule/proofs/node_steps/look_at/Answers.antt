@@ -1,6 +1,7 @@
 use Rattle.std.proofs.Common.{ap, sym, ◌∙◌}
 use Rattle.amoebot_state.specs.declared.cell.CellName.TheVariants as name
 use Rattle.claim_core.specs.Cells.{number}
+use Rattle.claim_rule.specs.Manners.{by_journal}
 use Rattle.claim_rule.specs.declared.activation.Room.{Room}
 use Rattle.claim_rule.specs.declared.views.View.{View}
 use Rattle.claim_rule.specs.Tokens.{next_in}
@@ -17,14 +18,14 @@ look_node-word-requires-clause-next g c κs within =
 pub invariant_of-result : goal.invariant_of-result
 invariant_of-result g c =
     stopped g.D.Decider.verdict _ _ _ _ _ _ _ c.args.node c.held.inside.activation.seat.me c.held.invariant.0 c.held.invariant.1
-    (sym (next_same g.D.Decider.verdict c.held.inside.activation.seat.me _ _ _ _ _ _ _ c.held.invariant.0 c.held.invariant.1.turn) ∙ ap (next_in g.D.Decider.verdict) c.held.view_is ∙ c.requires.next)
+    (sym (next_same g.D.Decider.verdict by_journal c.held.inside.activation.seat.me _ _ _ _ _ _ _ c.held.invariant.0 c.held.invariant.1.turn) ∙ ap (next_in g.D.Decider.verdict) c.held.view_is ∙ c.requires.next)
     c.look_node-word.result c.look_node-word.new.seat.me (c.look_node-word.ensures.told.1 (λ e. c.if-by-ne0.true (c.word_tag-by.ensures ∙ e)))
 
 pub invariant_of-result-2 : goal.invariant_of-result-2
 invariant_of-result-2 g c =
     let free = sym c.word_tag-by.ensures ∙ c.if-by-ne0.false in
     let all = noted g.D.Decider.verdict _ _ _ _ _ _ _ c.args.node c.held.inside.activation.seat.me c.held.invariant.0 c.held.invariant.1
-    (sym (next_same g.D.Decider.verdict c.held.inside.activation.seat.me _ _ _ _ _ _ _ c.held.invariant.0 c.held.invariant.1.turn) ∙ ap (next_in g.D.Decider.verdict) c.held.view_is ∙ c.requires.next)
+    (sym (next_same g.D.Decider.verdict by_journal c.held.inside.activation.seat.me _ _ _ _ _ _ _ c.held.invariant.0 c.held.invariant.1.turn) ∙ ap (next_in g.D.Decider.verdict) c.held.view_is ∙ c.requires.next)
     c.look_node-word.result c.look_node-word.new.seat.me free (c.look_node-word.ensures.told.0 free) in
     let m = c.held.inside.activation.seat.me in
     let known = still_known g.D.Decider.verdict m.0 c.look_node-word.new.seat.me.0 c.held.inside.activation.room.value (ap (λ (v : View _). v.terms) all.1) c.held.invariant.3 in

@@ -8,6 +8,7 @@ use Rattle.amoebot_state.specs.Known.{AreReadInOrder}
 use Rattle.amoebot_state.specs.Limits.{most_cells, most_nodes}
 use Rattle.amoebot_state.specs.Pairs.{Pairs}
 use Rattle.claim_core.specs.Tags.{tag}
+use Rattle.claim_rule.specs.Manners.{by_journal}
 use Rattle.claim_rule.specs.declared.activation.Room.{Room}
 use Rattle.claim_rule.specs.declared.views.Note.{Note}
 use Rattle.claim_rule.specs.declared.views.View.{View}
@@ -80,8 +81,8 @@ invariant_of-result g c =
     let now = c.hold.ensures.same ∙ ap (λ (q : Room). record q { zone = new.zone; cells = new.cells; walls = new.walls }) c.deref_mut-room.ensures.value in
     let cells = ap reverse (c.hold.ensures.cells ∙ ap (λ (q : Room). q.cells ++ (name.Spot node, cell.Spot c.word_occ-occ.result) ∷ []) c.deref_mut-room.ensures.value) ∙ last_first r.cells (name.Spot node, cell.Spot c.word_occ-occ.result) ∙ ap (λ o. (name.Spot node, cell.Spot o) ∷ reverse r.cells) c.word_occ-occ.ensures in
     let notes = ap reverse c.push.ensures ∙ reverse-append new.notes _ ∙ ap (λ (q : Room). note_of node c.noted.inside.word ∷ reverse q.notes) now in
-    let with_cell = subst (λ (q : Pairs × List Note). IsActivation g.D.Decider.verdict m r.caller r.turn r.bot r.stale (frame_of r.area r.maxes) q.0 q.1 × IsClaiming g.D.Decider.verdict m r.turn r.bot q.0) (λ i. (sym cells i, sym notes i)) won in
-    let all = subst (λ (q : Room). IsActivation g.D.Decider.verdict m q.caller q.turn q.bot q.stale (frame_of q.area q.maxes) (reverse q.cells) (reverse c.push.new.self) × IsClaiming g.D.Decider.verdict m q.turn q.bot (reverse q.cells)) (sym now) with_cell in
+    let with_cell = subst (λ (q : Pairs × List Note). IsActivation g.D.Decider.verdict by_journal m r.caller r.turn r.bot r.stale (frame_of r.area r.maxes) q.0 q.1 × IsClaiming g.D.Decider.verdict m r.turn r.bot q.0) (λ i. (sym cells i, sym notes i)) won in
+    let all = subst (λ (q : Room). IsActivation g.D.Decider.verdict by_journal m q.caller q.turn q.bot q.stale (frame_of q.area q.maxes) (reverse q.cells) (reverse c.push.new.self) × IsClaiming g.D.Decider.verdict m q.turn q.bot (reverse q.cells)) (sym now) with_cell in
     let terms = ap (λ (v : View _). v.terms) (seen_won g.D.Decider.verdict _ _ _ _ _ _ _ _ a.seat.me _ c.noted.invariant.0 c.noted.inside.index (c.noted.inside.word + c.deref.result.now.tag) c.args.field.now.table.slots c.try_node-found.result m c.try_node-found.ensures.told c.if-found-word.true) in
     let known = still_known g.D.Decider.verdict a.seat.me.0 m.0 r terms c.noted.invariant.3 in
     let w = (about g.D.Decider.verdict m.0).world in

@@ -5,6 +5,7 @@ use Rattle.std.specs.Slots.{slots_items}
 use Rattle.amoebot_state.specs.declared.verdict.Entry.{Entry}
 use Rattle.amoebot_state.specs.Configs.{Config}
 use Rattle.amoebot_state.specs.Steps.{Run}
+use Rattle.claim_rule.specs.Manners.{by_journal}
 use Rattle.claim_rule.specs.declared.views.Slot.TheVariants as slot
 use Rattle.claim_rule.specs.Stands.{journal_slot}
 use Rattle.claim_rule.specs.Closing.{ClosesAs, HoldNothing}
@@ -41,7 +42,7 @@ apply_all-requires-after_bounds g c = λ κs within.
     (run.0, subst (λ (q : g.row.D.Denot × Config × List Entry). Run (g.D.Decider.verdict q.0) q.1 q.2 run.0) (λ i. (sym back.decider i, sym back.world i, sym c.entries.ensures i)) run.1)
 
 -- what the field leaves
-ends : (g : Over) (c : After-apply_all g) → ClosesAs g.D.Decider.verdict c.args.self.terms c.args.seats.seats c.apply_all.new.world c.journal_of-journal.result
+ends : (g : Over) (c : After-apply_all g) → ClosesAs by_journal g.D.Decider.verdict c.args.self.terms c.args.seats.seats c.apply_all.new.world c.journal_of-journal.result
 ends g c =
     let back = c.give_back-closed.ensures in
     closes g.D.Decider.verdict c.args.self c.seats.inside.rest.me c.seats.inside.rest.table_id c.seats.inside.seats.items c.seats.invariant c.args.seats c.seats.view_is c.requires.field
