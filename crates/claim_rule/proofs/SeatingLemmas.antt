@@ -227,8 +227,8 @@ module _ {D : Type 0} (verdict : D → Shown → Verdict) (z : Terms D) (way : C
   pub joins_views : (seat other : ℕ) (v w : View D) (rs qs : List Record) → v ≡ view_of z rs → w ≡ view_of z qs → Joins (KeepsRule verdict z way) seat v other w (joined_view v w) spent
   joins_views seat other v w rs qs is is' = subst (λ (a : View D). Joins (KeepsRule verdict z way) seat a other w (joined_view a w) spent) (sym is) (subst (λ (b : View D). Joins (KeepsRule verdict z way) seat (view_of z rs) other b (joined_view (view_of z rs) b) spent) (sym is') (joins seat other rs qs))
 
-pub split_changes_nothing : {D : Type 0} (verdict : D → Shown → Verdict) → SplitChangesNothing verdict
-split_changes_nothing verdict z core seat r rs s st there = same_split verdict z core seat r rs s st there
+pub split_changes_nothing : {D : Type 0} (way : CommitWay) (verdict : D → Shown → Verdict) → SplitChangesNothing way verdict
+split_changes_nothing way verdict z core seat r rs s st there = same_split verdict z way core seat r rs s st there
 
-pub join_changes_nothing : {D : Type 0} (verdict : D → Shown → Verdict) → JoinChangesNothing verdict
-join_changes_nothing verdict z core seat other rs qs s st there apart there' = same_join verdict z core seat other rs qs s st there apart there'
+pub join_changes_nothing : {D : Type 0} (way : CommitWay) (verdict : D → Shown → Verdict) → JoinChangesNothing way verdict
+join_changes_nothing way verdict z core seat other rs qs s st there apart there' = same_join verdict z way core seat other rs qs s st there apart there'
