@@ -1,5 +1,5 @@
 -- Each step of a caller that draws tickets is one step of the claims' machine, or two of them: the journal is taken, and then the commit.
-use Rattle.std.proofs.Common.{◌≡◌, ◌×◌, ◌⊎◌, inl, inr, ℕ, List, [], ◌∷◌, ◌++◌, map, length, Bool, true, false, Option, Some, None, ap, sym, refl, subst, ◌∙◌}
+use Rattle.std.proofs.Common.{◌≡◌, ◌⊎◌, inl, inr, ℕ, List, [], ◌∷◌, ◌++◌, map, length, Bool, true, false, Option, Some, None, ap, sym, refl, subst, ◌∙◌}
 use Rattle.std.specs.Prelude.{slice_get, slice_set, nat_eq, if◌then◌else◌}
 use Rattle.std.proofs.lemmas.List.{set-set}
 use Rattle.std.proofs.lemmas.Option.{none-some, slice_get_within}
