@@ -14,9 +14,9 @@ use Rattle.claim_core.specs.Cells.{number, cells}
 use Rattle.claim_core.specs.Machine.{Setup, State, by_phase, acts}
 use Rattle.claim_core.specs.Soundness.{IsSetup, Sound}
 use Rattle.claim_core.proofs.Sounds.{always, one_step}
-use Rattle.claim_rule.specs.Tickets.{ticket_by_phase, ticket_acts}
+use Rattle.claim_core.proofs.Unfolding.{ticket_sound, tickets_are_sound}
+use Rattle.claim_core.specs.Tickets.{ticket_by_phase, ticket_acts}
 use Rattle.claim_rule.specs.Manners.{CommitWay, by_journal, by_ticket, next_by, after_by, length_word, length_in, first_plain, slot_of, slot_count}
-use Rattle.claim_rule.proofs.Unfolding.{ticket_sound, tickets_free, tickets_are_sound}
 
 -- a step that both ways make alike
 abbrev pub IsShared : Phase → Type 0
