@@ -16,6 +16,7 @@ pub mod MarkLemmas
 pub mod SeatsLemmas
 pub mod Places
 pub mod Takings
+pub mod CommitLemmas
 pub mod Commits
 pub mod ActivationLemmas
 pub mod SettlingLemmas
