@@ -18,6 +18,7 @@ pub mod Places
 pub mod Takings
 pub mod CommitLemmas
 pub mod Commits
+pub mod Draws
 pub mod ActivationLemmas
 pub mod SettlingLemmas
 pub mod SeatingLemmas

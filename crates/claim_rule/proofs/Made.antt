@@ -1,5 +1,5 @@
 -- Whatever view and act a seat has taken by a step, the table stands for the state to which the step leads.
-use Rattle.std.proofs.Common.{◌≡◌, ◌≢◌, ℕ, ◌%◌, ◌/◌, List, [], ◌∷◌, length, set, Some, inl, inr, ap, sym, refl, subst, ◌∙◌, eqb, bit_or}
+use Rattle.std.proofs.Common.{◌≡◌, ◌≢◌, ℕ, ◌+◌, ◌%◌, ◌^◌, List, [], ◌∷◌, length, set, Some, inl, inr, ap, sym, refl, subst, ◌∙◌, eqb, bit_or}
 use Rattle.std.specs.Prelude.{slice_index}
 use Rattle.std.proofs.lemmas.Bool.{cases_eq}
 use Rattle.std.proofs.lemmas.List.Elements.{All-head}
@@ -29,12 +29,12 @@ use Rattle.claim_rule.specs.declared.views.Terms.{Terms}
 use Rattle.claim_rule.specs.declared.views.View.{View}
 use Rattle.claim_rule.specs.Views.{Content, view_of, with_note, setup_of_terms}
 use Rattle.claim_rule.specs.Words.{word_tag}
-use Rattle.claim_rule.specs.Manners.{CommitWay, by_journal, next_by, after_by, length_in}
+use Rattle.claim_rule.specs.Manners.{CommitWay, by_journal, by_ticket, next_by, after_by, length_in}
 use Rattle.claim_rule.specs.Stands.{HasRecord, Stands, KeepsRule, journal_slot}
 use Rattle.claim_rule.specs.Plays.{IsToTry, IsToFree, IsToRead, Claims, Releases, ReadsLength, tried, marked_at, released_caller}
 use Rattle.claim_rule.specs.Plays.{IsToTryNode, IsToWin, IsToFreeNode, LooksAt, TriesNode, ReleasesNode, StopsAt, NotesWord, note_of, with_node, refused_at, but_first}
-use Rattle.claim_rule.specs.Commits.{Takes, IsToCommit, with_commit, with_journal, took, stored}
-use Rattle.claim_rule.specs.Nexts.{IsAt, IsEachStep, ClaimIsNext, ReleaseIsNext, NodeLookIsNext, NodeClaimIsNext, NodeReleaseIsNext, LookIsNext, TakeIsNext, CommitIsNext}
+use Rattle.claim_rule.specs.Commits.{Takes, IsToCommit, with_commit, with_journal, took, stored, drew}
+use Rattle.claim_rule.specs.Nexts.{IsAt, IsEachStep, ClaimIsNext, ReleaseIsNext, NodeLookIsNext, NodeClaimIsNext, NodeReleaseIsNext, LookIsNext, TakeIsNext, CommitIsNext, DrawIsNext}
 use Rattle.claim_rule.proofs.Tables.{cases, at_home}
 use Rattle.claim_rule.proofs.Determined.{AreAlike, SayTheSame, HasTwins, itself, same_journal, same_last, same_state}
 use Rattle.claim_rule.proofs.Moves.{sound, on}
@@ -45,6 +45,7 @@ use Rattle.claim_rule.proofs.Releases.{release_goes}
 use Rattle.claim_rule.proofs.Looks.{look_goes}
 use Rattle.claim_rule.proofs.Takings.{take_goes}
 use Rattle.claim_rule.proofs.Commits.{commit_goes}
+use Rattle.claim_rule.proofs.Draws.{draw_goes}
 use Rattle.claim_rule.proofs.WayLemmas.{sound_by}
 
 same_taking : (a b : Change) → Taking a ≡ Taking b → a ≡ b
@@ -239,6 +240,18 @@ module _ {D : Type 0} {verdict : D → Shown → Verdict} {z : Terms D} {s : Con
       let p = record r { caller = released_caller setup_here r.caller; won = but_first r.won } in
       by_view table next_state (on table) (set s.words i x) (homes_after s.homes out a) (homes_after s.homes out goes.1) w goes.0 p p told.0 goes.4.0 goes.3 (λ _ _. itself p) rule
 
+-- and of a commit that draws its place
+module _ {D : Type 0} {verdict : D → Shown → Verdict} {z : Terms D} {s : Content D} {core : State} {seat : ℕ} {r : Record} (table : IsAt verdict z by_ticket s core seat r) where
+  draw_each : (slots : ℕ) (out : List (ℕ × Slot)) → Takes r.caller.phase → IsEachStep verdict z by_ticket s (next_by by_ticket (setup_of_terms verdict z) r.number core) (cells z.world) seat (view_of z (r ∷ []), out) (drew verdict (step slots (cells z.world) 1 0 home.none) (view_of z (r ∷ []), out)) ((slice_index s.words (cells z.world) + 1) % 2 ^ 64)
+  draw_each slots out to w a rule told =
+      let goes = draw_goes table to.0 to.1 slots out in
+      let one = told.0 in
+      let two = goes.4.0 in
+      let place = slice_index s.words (cells z.world) in
+      let change = same_taking one.change two.change (sym one.phase ∙ two.phase) in
+      by_view table (next_by by_ticket (setup_of_terms verdict z) r.number core) (on table) (set s.words (cells z.world) ((place + 1) % 2 ^ 64)) (homes_after s.homes out a) (homes_after s.homes out goes.1) w goes.0 (with_commit (setup_of_terms verdict z) r one.change place) (with_commit (setup_of_terms verdict z) r two.change place) one.now two.now goes.3
+      (λ _ _. subst (SayTheSame (with_commit (setup_of_terms verdict z) r one.change place)) (λ i. with_commit (setup_of_terms verdict z) r (change i) place) (itself (with_commit (setup_of_terms verdict z) r one.change place))) rule
+
 pub claim_is_next : {D : Type 0} (verdict : D → Shown → Verdict) (z : Terms D) (way : CommitWay) → ClaimIsNext verdict z way
 claim_is_next verdict z way s core seat i t slots r out is to = record { some = claim_goes is i t slots out to; each = claim_each is i t slots out to }
 
@@ -269,3 +282,6 @@ take_is_next verdict z s core seat slots r out is to = record { some = take_goes
 
 pub commit_is_next : {D : Type 0} (verdict : D → Shown → Verdict) (z : Terms D) → CommitIsNext verdict z
 commit_is_next verdict z s core seat x slots r out is to = record { some = commit_goes is x out to slots; each = commit_each is x slots out to }
+
+pub draw_is_next : {D : Type 0} (verdict : D → Shown → Verdict) (z : Terms D) → DrawIsNext verdict z
+draw_is_next verdict z s core seat slots r out is to = record { some = draw_goes is to.0 to.1 slots out; each = draw_each is slots out to }

@@ -1,5 +1,5 @@
 -- That each step of a seat is its caller's next step of the machine, or leaves the machine as it is.
-use Rattle.std.specs.Prelude.{◌≡◌, ◌≢◌, ℕ, ◌==◌, List, [], ◌∷◌, slice_index, bit_or}
+use Rattle.std.specs.Prelude.{◌≡◌, ◌≢◌, ℕ, ◌+◌, ◌%◌, ◌^◌, ◌==◌, List, [], ◌∷◌, slice_index, bit_or}
 use mathlib.Core.Option.{none, some}
 use lib.ListN.{get_elem?}
 use prog.Atomic.{either}
@@ -15,11 +15,11 @@ use Rattle.claim_rule.specs.declared.views.Terms.{Terms}
 use Rattle.claim_rule.specs.declared.views.View.{View}
 use Rattle.claim_rule.specs.Words.{word_tag}
 use Rattle.claim_rule.specs.Views.{Content, Seated, view_of, setup_of_terms}
-use Rattle.claim_rule.specs.Manners.{CommitWay, by_journal, next_by}
+use Rattle.claim_rule.specs.Manners.{CommitWay, by_journal, by_ticket, next_by}
 use Rattle.claim_rule.specs.Stands.{Stands, KeepsRule, journal_slot}
 use Rattle.claim_rule.specs.Plays.{IsToTry, IsToFree, IsToRead, Claims, Releases, ReadsLength}
 use Rattle.claim_rule.specs.Plays.{IsToTryNode, IsToWin, IsToFreeNode, LooksAt, TriesNode, ReleasesNode}
-use Rattle.claim_rule.specs.Commits.{Takes, IsToCommit, took, stored}
+use Rattle.claim_rule.specs.Commits.{Takes, IsToCommit, took, stored, drew}
 
 module _ {D : Type 0} (verdict : D → Shown → Verdict) (z : Terms D) (way : CommitWay) where
   -- Once x is put in the word i, the table stands for this state.
@@ -138,3 +138,13 @@ module _ {D : Type 0} (verdict : D → Shown → Verdict) (z : Terms D) where
       → IsToCommit verdict (journal_slot z.world) x (view_of z (r ∷ []), out)
       → LeadsTo verdict z by_journal s (stepped_on verdict z by_journal core r) (cells z.world) seat (view_of z (r ∷ []), out)
       (λ _. stored verdict (step slots (cells z.world) x 0 none) (view_of z (r ∷ []), out) x) x
+
+  -- a commit that draws its place: the word of the length is one more
+  abbrev pub DrawIsNext : Type 0
+  DrawIsNext =
+      (s : Content D) (core : State) (seat slots : ℕ) (r : Record) (out : List (ℕ × Slot))
+      → IsAt verdict z by_ticket s core seat r
+      → Takes r.caller.phase
+      → LeadsTo verdict z by_ticket s (stepped_on verdict z by_ticket core r) (cells z.world) seat (view_of z (r ∷ []), out)
+      (drew verdict (step slots (cells z.world) 1 0 none) (view_of z (r ∷ []), out))
+      ((slice_index s.words (cells z.world) + 1) % 2 ^ 64)

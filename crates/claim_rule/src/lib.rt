@@ -39,7 +39,7 @@ pub use seat::Seat;
 pub use seats::Seats;
 pub use settled::{Receipt, Settled, unsettle};
 pub use step_laws::{
-    claim_is_next, commit_is_next, look_is_next, node_claim_is_next, node_look_is_next,
+    claim_is_next, commit_is_next, draw_is_next, look_is_next, node_claim_is_next, node_look_is_next,
     node_release_is_next, release_is_next, take_is_next,
 };
 pub use stopped::{Refused, Stopped, Tag, refuse};
