@@ -17,15 +17,17 @@ use Rattle.claim_core.specs.Good.{Order, AreMarksSoFar}
 use Rattle.claim_core.specs.Machine.{Setup, State}
 use Rattle.claim_core.specs.Reached.{Reached, HaveEnded, IsReportOf}
 use Rattle.claim_core.specs.Soundness.{IsSetup, Sound}
+use Rattle.claim_core.specs.Tickets.{TicketReached}
+use Rattle.claim_core.proofs.Unfolding.{ticket_reached_is_reached, ticket_reached_is_good}
 use Rattle.claim_core.proofs.Ends.{are_marks_so_far, reached_is_good, same_world}
 use Rattle.claim_core.proofs.HolderLemmas.{framed}
 use Rattle.claim_core.proofs.Places.{get-map, same_by_get}
 use Rattle.claim_rule.specs.declared.views.Terms.{Terms}
 use Rattle.claim_rule.specs.Views.{setup_of_terms}
 use Rattle.claim_rule.specs.Tokens.{Token, doing}
-use Rattle.claim_rule.specs.Manners.{CommitWay, by_journal, after_by}
+use Rattle.claim_rule.specs.Manners.{CommitWay, by_journal, by_ticket, after_by}
 use Rattle.claim_rule.specs.Closing.{ClosesAs, HoldNothing, EndsRight, marks_at_seat, report_of}
-use Rattle.claim_rule.specs.Laws.{FieldEndsSound, FieldEndsRight, EndedFieldIsReached}
+use Rattle.claim_rule.specs.Laws.{FieldEndsSound, FieldEndsRight, EndedFieldIsReached, EndedTicketsAreReached}
 use Rattle.claim_rule.proofs.Closes.{some_there}
 use Rattle.claim_rule.proofs.WayLemmas.{sound_by}
 
@@ -123,3 +125,14 @@ ended_field_is_reached verdict z seats world journal ok count full over ends =
       left = is_report verdict z by_journal seats world journal ok ends count full;
     } in
     (reached, reached_is_good (setup_of_terms verdict z) ok (report_of z seats world journal) reached)
+
+pub ended_tickets_are_reached : {D : Type 0} (verdict : D → Shown → Verdict) → EndedTicketsAreReached verdict
+ended_tickets_are_reached verdict z seats world journal ok count full over ends =
+    let g = setup_of_terms verdict z in
+    let reached : TicketReached g (report_of z seats world journal) =
+    record {
+      steps = ends.steps;
+      ended = have_ended verdict z by_ticket seats world journal ok ends count full over;
+      left = is_report verdict z by_ticket seats world journal ok ends count full;
+    } in
+    (reached, ticket_reached_is_reached g (report_of z seats world journal) reached, ticket_reached_is_good g ok (report_of z seats world journal) reached)

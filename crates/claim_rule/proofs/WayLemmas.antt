@@ -11,7 +11,7 @@ use Rattle.claim_core.specs.declared.state.Caller.{Caller}
 use Rattle.claim_core.specs.declared.state.Phase.{Phase}
 use Rattle.claim_core.specs.declared.state.Phase.TheVariants.{Claim, Refusing, Looking, Taking, Committing, Releasing, Ended}
 use Rattle.claim_core.specs.Cells.{number, cells}
-use Rattle.claim_core.specs.Machine.{Setup, State, by_phase, acts}
+use Rattle.claim_core.specs.Machine.{Setup, State, by_phase, acts, opening}
 use Rattle.claim_core.specs.Soundness.{IsSetup, Sound}
 use Rattle.claim_core.proofs.Sounds.{always, one_step}
 use Rattle.claim_core.proofs.Unfolding.{ticket_sound, tickets_are_sound}
@@ -34,6 +34,11 @@ NobodyHolds by_journal s = Unit {0}
 NobodyHolds by_ticket s = s.holder ≡ None
 
 module _ (g : Setup) where
+  -- after no step it is the opening
+  pub after_none : (way : CommitWay) → after_by way g [] ≡ opening g
+  after_none by_journal = refl
+  after_none by_ticket = refl
+
   -- a step more stands first
   pub after_more : (way : CommitWay) (c : ℕ) (steps : List ℕ) → after_by way g (c ∷ steps) ≡ next_by way g c (after_by way g steps)
   after_more by_journal c steps = refl

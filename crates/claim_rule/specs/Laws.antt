@@ -14,13 +14,14 @@ use Rattle.claim_core.specs.declared.marks.Mark.{Mark}
 use Rattle.claim_core.specs.declared.state.Phase.TheVariants.{Ended}
 use Rattle.claim_core.specs.Good.{Order, Good}
 use Rattle.claim_core.specs.Reached.{Reached}
+use Rattle.claim_core.specs.Tickets.{TicketReached}
 use Rattle.claim_core.specs.Machine.{State, bot, found, opening}
 use Rattle.claim_core.specs.Soundness.{IsSetup, TurnOkSoFar}
 use Rattle.claim_rule.specs.declared.views.Slot.{Slot}
 use Rattle.claim_rule.specs.declared.views.Record.{Record}
 use Rattle.claim_rule.specs.declared.views.Terms.{Terms}
 use Rattle.claim_rule.specs.Views.{Content, view_of, setup_of_terms}
-use Rattle.claim_rule.specs.Manners.{CommitWay, by_journal, after_by}
+use Rattle.claim_rule.specs.Manners.{CommitWay, by_journal, by_ticket, after_by}
 use Rattle.claim_rule.specs.Stands.{HasRecord, Stands, first_view}
 use Rattle.claim_rule.specs.Plays.{HoldsZone}
 use Rattle.claim_rule.specs.Tokens.{Token, doing}
@@ -121,4 +122,17 @@ EndedFieldIsReached {D} verdict =
     → All (λ o. IfSome o (λ token. (doing token).phase ≡ Ended)) seats
     → ClosesAs by_journal verdict z seats world journal
     → Reached (setup_of_terms verdict z) (report_of z seats world journal)
+    × Good (verdict z.decider) z.world z.lists (report_of z seats world journal)
+
+-- by tickets too, and it is a report that steps which draw their places give
+abbrev pub EndedTicketsAreReached : {D : Type 0} → (D → Shown → Verdict) → Type 0
+EndedTicketsAreReached {D} verdict =
+    (z : Terms D) (seats : List (Option (Token D))) (world : Config) (journal : Kept)
+    → IsSetup (setup_of_terms verdict z)
+    → length seats ≡ length z.lists.ids
+    → All (λ o. IsSome o) seats
+    → All (λ o. IfSome o (λ token. (doing token).phase ≡ Ended)) seats
+    → ClosesAs by_ticket verdict z seats world journal
+    → TicketReached (setup_of_terms verdict z) (report_of z seats world journal)
+    × Reached (setup_of_terms verdict z) (report_of z seats world journal)
     × Good (verdict z.decider) z.world z.lists (report_of z seats world journal)

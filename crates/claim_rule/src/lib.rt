@@ -30,7 +30,7 @@ pub use freeing::{Freeing, end, free_last};
 pub use held::{Held, begin, win};
 pub use journal_box::JournalBox;
 pub use laws::{
-    ended_field_is_reached, field_ends_one_way, field_ends_sound, found_is_shown,
+    ended_field_is_reached, ended_tickets_are_reached, field_ends_one_way, field_ends_sound, found_is_shown,
     join_changes_nothing, opening_stands, split_changes_nothing, state_is_determined,
 };
 pub use node_steps::{Noted, look_at, try_at};
