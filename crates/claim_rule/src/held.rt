@@ -9,6 +9,7 @@ ghost use Rattle.claim_rule.specs.Tokens.{IsOf, number_in, doing, goes, next_in}
 
 use crate::activation::Activation;
 use crate::field::Field;
+use crate::manner::{ByJournal, Manner};
 use crate::node_steps::{look_at, try_at};
 use crate::seat::Seat;
 use crate::stopped::{Stopped, Tag};
@@ -19,29 +20,28 @@ use tri_lattice::Node;
 
 /// A caller that claims the zone of its turn's amoebot, or that holds it whole.
 #[derive(Drop)]
-pub struct Held<D: Decider> {
-    pub(crate) activation: Activation<D>,
+pub struct Held<D: Decider, W: Manner = ByJournal> {
+    pub(crate) activation: Activation<D, W>,
 }
 
-impl<D: Decider> Model for Held<D> {
+impl<D: Decider, W: Manner> Model for Held<D, W> {
     ghost use Rattle.claim_rule.specs.Plays.{about};
-    ghost use Rattle.claim_rule.specs.Manners.{by_journal};
     ghost use Rattle.claim_rule.specs.Tokens.{Token, IsClaiming, KeepsActivation, KnowsTurn, KnowsWalls, token_in, cells_in};
 
     ghost Value = { Token D };
 
     ghost view = { λ h. token_in h.activation };
 
-    ghost invariant = { λ h. KeepsActivation D.verdict by_journal h.activation
+    ghost invariant = { λ h. KeepsActivation D.verdict W.way h.activation
         × IsClaiming D.verdict h.activation.seat.me h.activation.room.value.turn h.activation.room.value.bot (cells_in h.activation)
         × KnowsTurn h.activation.room.value
         × KnowsWalls (about D.verdict h.activation.seat.me.0).world h.activation.room.value };
 }
 
-impl<D: Decider> Held<D> {
+impl<D: Decider, W: Manner> Held<D, W> {
     /// The next cell of the zone by the values that were recorded; None exactly where the whole zone is held. A zone has at most 19
     /// cells.
-    pub fn next(&self, _field: &Field<'_, D>) -> Option<CellName>
+    pub fn next(&self, _field: &Field<'_, D, W>) -> Option<CellName>
         requires { IsOf _field.now self.now }
         ensures next { result ≡ next_in D.verdict self.now }
         ensures few { length (doing self.now).held ≤ most_cells }
@@ -59,16 +59,16 @@ impl<D: Decider> Held<D> {
 }
 
 /// The caller's next turn begins, on its list's amoebot.
-pub fn begin<D: Decider>(seat: Seat<D>, turn: u32, bot: u16) -> Held<D>
+pub fn begin<D: Decider, W: Manner>(seat: Seat<D, W>, turn: u32, bot: u16) -> Held<D, W>
     requires turn { (turn ≡ (doing seat).turn) × (turn < (about D.verdict seat.view).lists.turns) }
     requires bot { bot ≡ bot_in D.verdict seat.view }
     ensures same { result ≡ seat }
     ensures one { result ≡ goes seat (doing seat) }
 {
-    let Seat { seat, mut room } = seat;
+    let Seat { seat, mut room, of } = seat;
     room.begin(turn, bot);
     Held {
-        activation: Activation { seat, room },
+        activation: Activation { seat, room, of },
     }
 }
 
