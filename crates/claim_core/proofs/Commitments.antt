@@ -33,7 +33,7 @@ entry_in p = p.entry
 
 module _ (g : Setup) where
   -- the journal grows by what is committed
-  journal-by_phase : (c : ℕ) (s : State) (k : Caller) (p : Phase) → (by_phase g c s k p).journal ≡ s.journal ++ map entry_in (commit_of g c s k p)
+  pub journal-by_phase : (c : ℕ) (s : State) (k : Caller) (p : Phase) → (by_phase g c s k p).journal ≡ s.journal ++ map entry_in (commit_of g c s k p)
   journal-by_phase c s k Claim = tried (next_of g (bot g c k.turn) k.held) ∙ sym (append-nil s.journal)
     where
       won : (n : CellName) (o : Option Cell) → (wins g c s k n o).journal ≡ s.journal

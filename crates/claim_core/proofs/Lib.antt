@@ -14,6 +14,8 @@ pub mod Nexts
 pub mod Numbers
 pub mod OneList
 pub mod OpeningLemmas
+pub mod Orders
+pub mod OwnEntries
 pub mod Places
 pub mod Ranks
 pub mod ReportLemmas
@@ -23,4 +25,8 @@ pub mod Sounds
 pub mod Stays
 pub mod Steady
 pub mod MachineLemmas
+pub mod Merging
 pub mod Tags
+pub mod TicketLists
+pub mod TicketRanks
+pub mod Unfolding

@@ -83,17 +83,17 @@ number_in_world c i (name.Body j) valid there has = (c.area.w * c.area.h + j, re
 
 module _ (g : Setup) where
   -- the steps that a caller still has, at most
-  abbrev rank : Caller → ℕ
+  abbrev pub rank : Caller → ℕ
   rank k = in_turn k.phase (length k.held) + 40 * (g.lists.turns - (k.turn + 1))
 
-  abbrev ranks : List Caller → ℕ
+  abbrev pub ranks : List Caller → ℕ
   ranks [] = 0
   ranks (k ∷ ks) = rank k + ranks ks
 
   abbrev pub total : State → ℕ
   total s = ranks s.callers
 
-  ranks-set : (ks : List Caller) (c : ℕ) (k next : Caller) → slice_get ks c ≡ Some k → ranks (set ks c next) + rank k ≡ ranks ks + rank next
+  pub ranks-set : (ks : List Caller) (c : ℕ) (k next : Caller) → slice_get ks c ≡ Some k → ranks (set ks c next) + rank k ≡ ranks ks + rank next
   ranks-set [] c k next e = absurd (none-some k e)
   ranks-set (x ∷ ks) zero k next e = let same : rank x ≡ rank k = ap rank (same_Some x k e) in omega arith
   ranks-set (x ∷ ks) (suc c) k next e = let ih = ranks-set ks c k next e in omega arith
@@ -235,6 +235,15 @@ module _ (g : Setup) where
       by None e = inr (refl, nobody e)
       by (Some k) e = by_kind ok s sound c k e k.phase refl
 
+  -- where nobody holds the journal, it lowers the total unless its caller has ended
+  not_idle : (s : State) (c : ℕ) (k : Caller) → slice_get s.callers c ≡ Some k → s.holder ≡ None → ¬ (k.phase ≡ Ended) → IsIdle s c → ⊥
+  not_idle s c k there none goes_on (nobody e) = none-some k (sym e ∙ there)
+  not_idle s c k there none goes_on (ended j e p) = goes_on (ap (λ (x : Caller). x.phase) (same_Some k j (sym there ∙ e)) ∙ p)
+  not_idle s c k there none goes_on (waits j change d e p h) = none-some d (sym none ∙ h)
+
+  pub free_lowers : IsSetup g → (s : State) → Sound g s → (c : ℕ) (k : Caller) → slice_get s.callers c ≡ Some k → s.holder ≡ None → ¬ (k.phase ≡ Ended) → total (next g c s) < total s
+  free_lowers ok s sound c k there none goes_on = elim (step_lowers ok s sound c) [ inl lt ↦ lt | inr same ↦ absurd (not_idle s c k there none goes_on same.1) ]
+
   pub step_keeps : IsSetup g → (s : State) → Sound g s → (c : ℕ) → total (next g c s) ≤ total s
   step_keeps ok s sound c = elim (step_lowers ok s sound c) [ inl lt ↦ omega arith | inr same ↦ let e : total (next g c s) ≡ total s = ap total same.0 in omega arith ]
 
@@ -309,7 +318,7 @@ module _ (g : Setup) where
   ]
 
   -- before the first step
-  fresh_rank : rank (fresh g) ≤ 40 * g.lists.turns
+  pub fresh_rank : rank (fresh g) ≤ 40 * g.lists.turns
   fresh_rank = by (nat_lt 0 g.lists.turns) refl
     where
       by : (b : Bool) → nat_lt 0 g.lists.turns ≡ b → rank (Rattle.claim_core.specs.Machine.caller 0 (if b then Claim else Ended) [] []) ≤ 40 * g.lists.turns

@@ -18,7 +18,7 @@ use Rattle.claim_core.proofs.Sounds.{always}
 
 -- ---- whether all callers have ended
 
-phase_has_ended : (p : Phase) → (p ≡ Ended) ⊎ ¬ (p ≡ Ended)
+pub phase_has_ended : (p : Phase) → (p ≡ Ended) ⊎ ¬ (p ≡ Ended)
 phase_has_ended Ended = inl refl
 phase_has_ended Claim = inr (λ e. cc)
 phase_has_ended (Refusing n t) = inr (λ e. cc)
@@ -27,7 +27,7 @@ phase_has_ended (Taking change) = inr (λ e. cc)
 phase_has_ended (Committing change) = inr (λ e. cc)
 phase_has_ended Releasing = inr (λ e. cc)
 
-abbrev HasEnded : Caller → Type 0
+abbrev pub HasEnded : Caller → Type 0
 HasEnded k = k.phase ≡ Ended
 
 all_have_ended : (ks : List Caller) → All HasEnded ks ⊎ ¬ All HasEnded ks
@@ -72,7 +72,7 @@ module _ (g : Setup) where
       let below = below_are_steps (length g.lists.ids) by.0 in
       (below.0, ap (steps_below g (length g.lists.ids)) by.1 ∙ below.1)
 
-  has_report : (s : State) → Sound g s → (report : Report) × IsReportOf g s report
+  pub has_report : (s : State) → Sound g s → (report : Report) × IsReportOf g s report
   has_report s sound =
       let framed = run_framed g.verdict g.world sound.last s.journal sound.valid sound.run in
       let report : Report = record { world = sound.last; journal = record { first = g.world; entries = s.journal; spare = 0 }; turns = marks_so_far g s } in

@@ -4,11 +4,14 @@ pub mod Good
 pub mod Laws
 pub mod Limits
 pub mod Machine
+pub mod Merges
 pub mod Reached
 pub mod Rooms
 pub mod StepRounds
 pub mod SerialRuns
 pub mod Soundness
 pub mod Tags
+pub mod TicketLaws
+pub mod Tickets
 pub mod Turns
 pub use Rattle.amoebot_state.specs.Configs

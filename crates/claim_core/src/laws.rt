@@ -1,6 +1,9 @@
 ghost use Rattle.claim_core.specs.Laws.{TagTellsItsOwner, IsAlwaysSound, ReachedIsGood, StateHasOneReport};
 ghost use Rattle.claim_core.specs.Laws.{EntryIsDecided, CommittedIsJournal, CommittedIsShown, OneListIsNeverBusy};
 ghost use Rattle.claim_core.specs.Laws.{OneListIsSerial, EndedStays, HoldsNothingHasNoTag, HeldByOne, RoundsEnd, RoundsLeaveAReport};
+ghost use Rattle.claim_core.specs.TicketLaws.{TicketsAreSound, TicketsHoldNoJournal, TicketStepsAreEvents, TicketsAreClaims};
+ghost use Rattle.claim_core.specs.TicketLaws.{TicketReachedIsReached, TicketReachedIsGood, TicketsWaitForNobody, TicketsLeaveAReport};
+ghost use Rattle.claim_core.specs.TicketLaws.{JournalIsMerge, MergeIsOne, NextIsFirst, NoPlaceNoEntry, SmallMerge};
 ghost use Rattle.claim_core.specs.SerialRuns.{SerialRunIsDetermined, SerialReportIsDetermined};
 
 use amoebot_state::step_has_one_result;
@@ -82,4 +85,62 @@ pub fn rounds_are_enough()
 /// After any steps, some number of rounds is the first with which all callers have ended, and then there is a report.
 pub fn rounds_leave_a_report()
     ensures { RoundsLeaveAReport }
+{}
+
+/// Where commits draw tickets, after any list of steps the state is sound.
+pub fn tickets_are_sound()
+    ensures { TicketsAreSound }
+{}
+
+/// Nobody ever holds the journal there.
+pub fn tickets_hold_no_journal()
+    ensures { TicketsHoldNoJournal }
+{}
+
+/// Each step is its event: a commit is the journal taken and the commit behind it, and each other step is that of the claims' machine.
+pub fn ticket_steps_are_events()
+    ensures { TicketStepsAreEvents }
+{}
+
+/// After any list of steps the state is one to which steps of the claims' machine lead.
+pub fn tickets_are_claims()
+    ensures { TicketsAreClaims }
+{}
+
+/// So a report that commits with tickets give is one that some interleaving of the claims' machine gives.
+pub fn ticket_reached_is_reached()
+    ensures { TicketReachedIsReached }
+{}
+
+/// And it is a good one.
+pub fn ticket_reached_is_good()
+    ensures { TicketReachedIsGood }
+{}
+
+/// A caller has ended after 40 steps of its own for each turn, whatever the others do: it waits for nobody.
+pub fn tickets_wait_for_nobody()
+    ensures { TicketsWaitForNobody }
+{}
+
+/// There is a report for each run that may be made.
+pub fn tickets_leave_a_report()
+    ensures { TicketsLeaveAReport }
+{}
+
+/// After any list of steps the journal is the merge of the callers' own lists by place.
+pub fn journal_is_merge()
+    ensures { JournalIsMerge }
+{}
+
+/// Lists have at most one merge. Three small ones have one.
+pub fn merge_is_one()
+    ensures one { MergeIsOne }
+    ensures example { SmallMerge }
+{}
+
+/// A merge is made entry by entry: the next one stands first in one list, found by its place, and without it the rest is left.
+/// Where no list begins with the place, none is left.
+pub fn next_is_first()
+    ensures first { NextIsFirst }
+    ensures end { NoPlaceNoEntry }
 {}

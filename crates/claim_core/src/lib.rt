@@ -16,9 +16,11 @@ pub use cells::{cell_number, cells_of};
 pub use journal::Journal;
 pub use laws::{
     committed_is_journal, committed_is_shown, ended_stays, entry_is_decided, held_by_one,
-    holds_nothing_has_no_tag, is_always_sound, one_list_is_never_busy, one_list_is_serial,
-    reached_is_good, rounds_are_enough, rounds_leave_a_report, serial_run_is_determined,
-    state_has_one_report, tag_tells_its_owner,
+    holds_nothing_has_no_tag, is_always_sound, journal_is_merge, merge_is_one, next_is_first,
+    one_list_is_never_busy, one_list_is_serial, reached_is_good, rounds_are_enough,
+    rounds_leave_a_report, serial_run_is_determined, state_has_one_report, tag_tells_its_owner,
+    ticket_reached_is_good, ticket_reached_is_reached, ticket_steps_are_events, tickets_are_claims,
+    tickets_are_sound, tickets_hold_no_journal, tickets_leave_a_report, tickets_wait_for_nobody,
 };
 pub use lists::Lists;
 pub use machine::Core;

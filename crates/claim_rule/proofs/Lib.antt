@@ -1,4 +1,3 @@
-mod Unfolding
 pub mod WayLemmas
 pub mod Stamping
 pub mod Tables

@@ -160,12 +160,12 @@ module _ (g : Setup) where
 
   pub noted_on : (words later : List ℕ) → ((k : ℕ) → k < first_plain by_journal g.world → Grows (slice_index words k) (slice_index later k)) → (m : Note) → IsNoted g words m → IsNoted g later m
   noted_on words later grows m n = record {
-    least = λ i e. let a = n.least i e in let b = (grows i (node_number m.node i e)).0 in omega (arith, a, b);
+    least = λ i e. let a = n.least i e in let b = (grows i (node_number g m.node i e)).0 in omega (arith, a, b);
     same = λ i e q.
         let a = n.least i e in
-        let b = (grows i (node_number m.node i e)).0 in
+        let b = (grows i (node_number g m.node i e)).0 in
         let same_stamp : word_stamp (slice_index later i) ≡ word_stamp (slice_index words i) = omega (arith, a, b, q) in
-        (grows i (node_number m.node i e)).1 same_stamp ∙ n.same i e (sym same_stamp ∙ q);
+        (grows i (node_number g m.node i e)).1 same_stamp ∙ n.same i e (sym same_stamp ∙ q);
   }
 
   pub stamped_on : (words later : List ℕ) → ((k : ℕ) → k < first_plain by_journal g.world → Grows (slice_index words k) (slice_index later k)) → (r : Record) → All (Keeps words later) r.caller.held → IsStamped g words r → IsStamped g later r
@@ -182,7 +182,7 @@ module _ (g : Setup) where
 
   -- so it is where each word says the same
   pub stamped_alike : (words later : List ℕ) → ((k : ℕ) → k < first_plain by_journal g.world → Alike (slice_index words k) (slice_index later k)) → (r : Record) → IsStamped g words r → IsStamped g later r
-  stamped_alike words later alike r is = stamped_on words later (λ k lt. alike_grows _ _ (alike k lt)) r (All-from_Has (Keeps words later) r.caller.held (λ p has v k e n. alike k (node_number v k n))) is
+  stamped_alike words later alike r is = stamped_on words later (λ k lt. alike_grows _ _ (alike k lt)) r (All-from_Has (Keeps words later) r.caller.held (λ p has v k e n. alike k (node_number g v k n))) is
 
   -- where one was written
   pub alike_written : (words : List ℕ) (i x : ℕ) → i < length words → Alike (slice_index words i) x → (k : ℕ) → k < first_plain by_journal g.world → Alike (slice_index words k) (slice_index (set words i x) k)

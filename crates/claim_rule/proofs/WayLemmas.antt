@@ -1,8 +1,8 @@
 -- What holds of both ways of committing.
-use Rattle.std.proofs.Common.{◌≡◌, ℕ, ◌+◌, ◌*◌, ◌/◌, ◌<◌, ◌≤◌, List, [], ◌∷◌, length, Bool, true, false, Option, Some, None, ap, sym, refl, subst, ◌∙◌, arith, suc-ne-zero}
-use Rattle.std.specs.Prelude.{slice_get}
-use Rattle.std.proofs.lemmas.Bool.{false≢true}
-use Rattle.std.proofs.lemmas.Option.{same_Some}
+use Rattle.std.proofs.Common.{◌≡◌, ℕ, ◌+◌, ◌*◌, ◌/◌, ◌<◌, ◌≤◌, List, [], ◌∷◌, Option, Some, None, ap, refl, ◌∙◌, arith}
+use Rattle.std.specs.Prelude.{slice_get, unwrap_or}
+use Rattle.std.proofs.lemmas.Option.{none-some, same_Some}
+use Rattle.std.specs.Option.{option_len}
 use Rattle.tri_lattice.proofs.Boxes.{index_below}
 use Rattle.amoebot_state.specs.declared.cell.CellName.{CellName}
 use Rattle.amoebot_state.specs.declared.cell.CellName.TheVariants as name
@@ -14,9 +14,9 @@ use Rattle.claim_core.specs.Cells.{number, cells}
 use Rattle.claim_core.specs.Machine.{Setup, State, by_phase, acts}
 use Rattle.claim_core.specs.Soundness.{IsSetup, Sound}
 use Rattle.claim_core.proofs.Sounds.{always, one_step}
-use Rattle.claim_rule.specs.Tickets.{ticket_by_phase, ticket_acts}
+use Rattle.claim_core.proofs.Unfolding.{ticket_sound, tickets_are_sound}
+use Rattle.claim_core.specs.Tickets.{ticket_by_phase, ticket_acts}
 use Rattle.claim_rule.specs.Manners.{CommitWay, by_journal, by_ticket, next_by, after_by, length_word, length_in, first_plain, slot_of, slot_count}
-use Rattle.claim_rule.proofs.Unfolding.{ticket_sound, tickets_free, tickets_are_sound}
 
 -- a step that both ways make alike
 abbrev pub IsShared : Phase → Type 0
@@ -61,7 +61,7 @@ module _ (g : Setup) where
       by Ended is = refl
 
 -- half of the journal's word is its length
-half : (n : ℕ) (o : Option ℕ) → (2 * n + Rattle.std.specs.Option.option_len o) / 2 ≡ n
+half : (n : ℕ) (o : Option ℕ) → (2 * n + option_len o) / 2 ≡ n
 half n None = omega arith
 half n (Some c) = omega arith
 
@@ -74,16 +74,16 @@ length_is by_ticket n o = refl
 pub slot_is : (way : CommitWay) (c : Config) (n : CellName) (i : ℕ) → number c.area n ≡ Some i → first_plain way c ≤ i → first_plain way c + slot_of way c.area n ≡ i
 slot_is by_journal c (name.Spot v) i e le = (let lt = index_below c.area v i e in absurd (omega (arith, lt, le)))
 slot_is by_journal c (name.Body b) i e le = same_Some (first_plain by_journal c + b) i e
-slot_is by_ticket c n i e le = by (number c.area n) e
+slot_is by_ticket c n i e le = (let f = by (number c.area n) e in omega (arith, f))
   where
-    by : (o : Option ℕ) → o ≡ Some i → Rattle.std.specs.Prelude.unwrap_or o 0 ≡ i
-    by None f = absurd (Rattle.std.proofs.lemmas.Option.none-some i f)
+    by : (o : Option ℕ) → o ≡ Some i → unwrap_or o 0 ≡ i
+    by None f = absurd (none-some i f)
     by (Some k) f = same_Some k i f
 
 -- and there is a slot for each plain cell
 pub slot_few : (way : CommitWay) (c : Config) (k : ℕ) → first_plain way c + k < cells c → k < slot_count way c
 slot_few by_journal c k lt = omega (arith, lt)
-slot_few by_ticket c k lt = lt
+slot_few by_ticket c k lt = omega (arith, lt)
 
 -- the plain cells are behind the nodes
 pub plain_few : (way : CommitWay) (c : Config) → first_plain way c ≤ cells c

@@ -1,6 +1,5 @@
 pub mod Words
 pub mod Views
-pub mod Tickets
 pub mod Manners
 pub mod Stands
 pub mod Plays

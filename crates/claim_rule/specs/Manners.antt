@@ -11,7 +11,7 @@ use Rattle.amoebot_state.specs.Configs.{Config}
 use Rattle.amoebot_state.specs.Pairs.{Pairs, nodes_in}
 use Rattle.claim_core.specs.Cells.{number, cells}
 use Rattle.claim_core.specs.Machine.{Setup, State, next, after}
-use Rattle.claim_rule.specs.Tickets.{ticket_next, ticket_after}
+use Rattle.claim_core.specs.Tickets.{ticket_next, ticket_after}
 
 pub data CommitWay : Type 0 where
   by_journal : CommitWay

@@ -45,7 +45,7 @@ IsThereIn c i = IsSome (bot_at c i)
 abbrev IsThere : ℕ → Type 0
 IsThere = IsThereIn two_beside.world
 
-both : {X : Type 0} (P : X → Type 0) (x y : X) → P x → P y → All P (x ∷ y ∷ [])
+pub both : {X : Type 0} (P : X → Type 0) (x y : X) → P x → P y → All P (x ∷ y ∷ [])
 both P x y first second = All-cons P x (y ∷ []) first (All-cons P y [] second (All-nil P))
 
 pub may_run : IsSetup two_beside

@@ -1,6 +1,7 @@
 pub mod Marking
 pub mod Resting
 pub mod Rows
+pub mod Tickets
 pub mod Turns
 pub use Rattle.amoebot_state.specs.Configs
 pub use Rattle.amoebot_state.specs.Limits

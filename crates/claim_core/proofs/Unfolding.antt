@@ -1,5 +1,5 @@
 -- Each step of a caller that draws tickets is one step of the claims' machine, or two of them: the journal is taken, and then the commit.
-use Rattle.std.proofs.Common.{◌≡◌, ◌×◌, ◌⊎◌, inl, inr, ℕ, List, [], ◌∷◌, ◌++◌, map, length, Bool, true, false, Option, Some, None, ap, sym, refl, subst, ◌∙◌}
+use Rattle.std.proofs.Common.{◌≡◌, ◌⊎◌, inl, inr, ℕ, List, [], ◌∷◌, ◌++◌, map, length, Bool, true, false, Option, Some, None, ap, sym, refl, subst, ◌∙◌}
 use Rattle.std.specs.Prelude.{slice_get, slice_set, nat_eq, if◌then◌else◌}
 use Rattle.std.proofs.lemmas.List.{set-set}
 use Rattle.std.proofs.lemmas.Option.{none-some, slice_get_within}
@@ -12,15 +12,14 @@ use Rattle.claim_core.specs.declared.state.Phase.{Phase}
 use Rattle.claim_core.specs.declared.state.Phase.TheVariants.{Claim, Refusing, Looking, Taking, Committing, Releasing, Ended}
 use Rattle.claim_core.specs.declared.state.Caller.{Caller}
 use Rattle.claim_core.specs.Cells.{number, at}
-use Rattle.claim_core.specs.Machine.{Setup, State, bot, next_of, patched_pair, freeing_caller, with_caller, wins, claims, finds, tries, takes, commits, releases, by_phase, acts, next, after}
+use Rattle.claim_core.specs.Machine.{Setup, State, bot, next_of, patched_pair, freeing_caller, with_caller, wins, claims, finds, tries, takes, commits, releases, by_phase, acts, next}
 use Rattle.claim_core.specs.Soundness.{IsSetup, Sound}
-use Rattle.claim_rule.specs.Tickets.{ticket_by_phase, ticket_acts, ticket_next, ticket_after}
+use Rattle.claim_core.specs.Reached.{HaveEnded, IsReportOf}
+use Rattle.claim_core.specs.Tickets.{ticket_by_phase, ticket_acts, ticket_next, ticket_after}
+use Rattle.claim_core.specs.TicketLaws.{IsTicketStep, TicketsAreSound, TicketsHoldNoJournal, TicketStepsAreEvents, TicketsAreClaims, TicketReachedIsReached, TicketReachedIsGood}
 use Rattle.claim_core.proofs.Places.{get-set_here}
 use Rattle.claim_core.proofs.Sounds.{one_step, always}
-
-abbrev IsTicketStep : Setup → ℕ → State → Caller → Phase → Type 0
-IsTicketStep g c s k (Taking change) = (ticket_next g c s ≡ commits g c s k change) × (ticket_next g c s ≡ next g c (next g c s))
-IsTicketStep g c s k phase = ticket_next g c s ≡ next g c s
+use Rattle.claim_core.proofs.Ends.{reached_is_good}
 
 module _ (g : Setup) where
   -- a claim and a release leave the holder
@@ -124,7 +123,10 @@ module _ (g : Setup) where
   tickets_free [] = refl
   tickets_free (c ∷ steps) = ticket_free c (ticket_after g steps) (tickets_free steps)
 
-pub tickets_are_claims : (g : Setup) (steps : List ℕ) → (more : List ℕ) × (ticket_after g steps ≡ after g more)
+pub ticket_steps_are_events : TicketStepsAreEvents
+ticket_steps_are_events g c s k none there = (step_by g c s k none there k.phase refl).1
+
+pub tickets_are_claims : TicketsAreClaims
 tickets_are_claims g [] = ([], refl)
 tickets_are_claims g (c ∷ steps) =
     let was = tickets_are_claims g steps in
@@ -133,5 +135,19 @@ tickets_are_claims g (c ∷ steps) =
       | inr two ↦ (c ∷ c ∷ was.0, two ∙ ap (λ s. next g c (next g c s)) was.1)
     ]
 
-pub tickets_are_sound : (g : Setup) → IsSetup g → (steps : List ℕ) → Sound g (ticket_after g steps)
+pub tickets_are_sound : TicketsAreSound
 tickets_are_sound g ok steps = let by = tickets_are_claims g steps in subst (Sound g) (sym by.1) (always g ok by.0)
+
+pub tickets_hold_no_journal : TicketsHoldNoJournal
+tickets_hold_no_journal g ok steps = record {
+  holder = tickets_free g steps;
+  callers = λ c k there committing. none-some c (sym (tickets_free g steps) ∙ ((tickets_are_sound g ok steps).each c k there).holder committing);
+}
+
+pub ticket_reached_is_reached : TicketReachedIsReached
+ticket_reached_is_reached g report is =
+    let by = tickets_are_claims g is.steps in
+    record { steps = by.0; ended = subst HaveEnded by.1 is.ended; left = subst (λ s. IsReportOf g s report) by.1 is.left }
+
+pub ticket_reached_is_good : TicketReachedIsGood
+ticket_reached_is_good g ok report is = reached_is_good g ok report (ticket_reached_is_reached g report is)
