@@ -9,7 +9,7 @@ use crate::field::Field;
 use crate::manner::{ByJournal, Manner};
 use crate::seat::Seat;
 use crate::words::{node_word, word_occ};
-use amoebot_state::{Cell, CellName, Decider};
+use amoebot_state::{Cell, Decider};
 use claim_core::cell_number;
 use std::marker::Model;
 
@@ -40,7 +40,10 @@ impl<D: Decider, W: Manner> Freeing<D, W> {
 }
 
 /// Frees the cell that was won last.
-pub fn free_last<D: Decider>(freeing: Freeing<D>, field: &Field<'_, D>) -> Freeing<D>
+pub fn free_last<D: Decider, W: Manner>(
+    freeing: Freeing<D, W>,
+    field: &Field<'_, D, W>,
+) -> Freeing<D, W>
     requires field { IsOf field.now freeing }
     requires some { 0 < length (doing freeing).held }
     ensures { result ≡ goes freeing (released_caller (about D.verdict freeing.view) (doing freeing)) }
@@ -51,20 +54,18 @@ pub fn free_last<D: Decider>(freeing: Freeing<D>, field: &Field<'_, D>) -> Freei
     let Some(number) = cell_number(&room.area, *cell) else {
         unreachable!()
     };
-    match cell {
-        CellName::Body(id) => {
-            field.put_there(&mut activation.seat, usize::from(*id), value, room.stale);
-            field.free(&mut activation.seat, number);
-            room.cells.drop_last();
-            Freeing { activation }
-        }
-        CellName::Spot(_) => {
-            let occ = occupant_in(value);
-            let word = word_left(room.notes.pop(), occ, room.after);
-            field.free_node(&mut activation.seat, number, word);
-            room.cells.drop_last();
-            Freeing { activation }
-        }
+    if W::has_slot(*cell) {
+        let slot = W::slot(*cell, number);
+        field.put_there(&mut activation.seat, slot, value, room.stale);
+        field.free(&mut activation.seat, number);
+        room.cells.drop_last();
+        Freeing { activation }
+    } else {
+        let occ = occupant_in(value);
+        let word = word_left(room.notes.pop(), occ, room.after);
+        field.free_node(&mut activation.seat, number, word);
+        room.cells.drop_last();
+        Freeing { activation }
     }
 }
 

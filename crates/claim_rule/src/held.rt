@@ -1,9 +1,9 @@
-ghost use Rattle.std.specs.Prelude.{◌≡◌, ◌<◌, ◌≤◌, length, Some, IfOk, IfErr};
+ghost use Rattle.std.specs.Prelude.{◌≡◌, ◌<◌, ◌≤◌, length, true, false, Some, IfOk, IfErr};
 ghost use Rattle.amoebot_state.specs.declared.cell.Cell.{Cell};
-ghost use Rattle.amoebot_state.specs.declared.cell.CellName.TheVariants as name;
 ghost use Rattle.amoebot_state.specs.Limits.{most_cells};
 ghost use Rattle.claim_core.specs.declared.state.Phase.TheVariants.{Refusing};
 ghost use Rattle.claim_core.specs.Machine.{caller_with_cell};
+ghost use Rattle.claim_rule.specs.Manners.{has_slot};
 ghost use Rattle.claim_rule.specs.Plays.{IsOthers, about, bot_in};
 ghost use Rattle.claim_rule.specs.Tokens.{IsOf, number_in, doing, goes, next_in};
 
@@ -16,7 +16,6 @@ use crate::stopped::{Stopped, Tag};
 use amoebot_state::{CellName, Decider};
 use claim_core::cell_number;
 use std::marker::Model;
-use tri_lattice::Node;
 
 /// A caller that claims the zone of its turn's amoebot, or that holds it whole.
 #[derive(Drop)]
@@ -73,13 +72,13 @@ pub fn begin<D: Decider, W: Manner>(seat: Seat<D, W>, turn: u32, bot: u16) -> He
 }
 
 /// The claim of the next cell of the zone. It is won with its value where nobody held it; else another caller's tag was found, and the
-/// turn claims no more. A body is claimed by one try. The word of a node is looked at, and tried while it is found free and changed:
+/// turn claims no more. A plain cell is claimed by one try. The word of a node is looked at, and tried while it is found free and changed:
 /// each such try finds a greater stamp.
-pub fn win<D: Decider>(
-    held: Held<D>,
-    field: &Field<'_, D>,
+pub fn win<D: Decider, W: Manner>(
+    held: Held<D, W>,
+    field: &Field<'_, D, W>,
     cell: CellName,
-) -> Result<Held<D>, (Stopped<D>, Tag)>
+) -> Result<Held<D, W>, (Stopped<D, W>, Tag)>
     requires field { IsOf field.now held }
     requires next { next_in D.verdict held ≡ Some cell }
     ensures won { IfOk result (λ more. (x : Cell)
@@ -87,52 +86,59 @@ pub fn win<D: Decider>(
     ensures refused { IfErr result (λ by. (by.0 ≡ goes held (record (doing held) { phase = Refusing cell by.1 }))
         × IsOthers (about D.verdict held.view) (number_in held) by.1) }
 {
-    match cell {
-        CellName::Body(id) => win_body(held, field, id),
-        CellName::Spot(node) => win_node(held, field, node),
+    if W::has_slot(cell) {
+        win_plain(held, field, cell)
+    } else {
+        win_node(held, field, cell)
     }
 }
 
-/// One try to claim a body, which is the next cell.
-fn win_body<D: Decider>(
-    held: Held<D>,
-    field: &Field<'_, D>,
-    id: u16,
-) -> Result<Held<D>, (Stopped<D>, Tag)>
+/// One try to claim a plain cell, which is the next one.
+fn win_plain<D: Decider, W: Manner>(
+    held: Held<D, W>,
+    field: &Field<'_, D, W>,
+    cell: CellName,
+) -> Result<Held<D, W>, (Stopped<D, W>, Tag)>
     requires field { IsOf field.now held }
-    requires next { next_in D.verdict held ≡ Some (name.Body id) }
+    requires next { next_in D.verdict held ≡ Some cell }
+    requires plain { has_slot W.way cell ≡ true }
     ensures won { IfOk result (λ more. (x : Cell)
-        × (more ≡ goes held (caller_with_cell (about D.verdict held.view) (number_in held) (doing held) (name.Body id) x))) }
-    ensures refused { IfErr result (λ by. (by.0 ≡ goes held (record (doing held) { phase = Refusing (name.Body id) by.1 }))
+        × (more ≡ goes held (caller_with_cell (about D.verdict held.view) (number_in held) (doing held) cell x))) }
+    ensures refused { IfErr result (λ by. (by.0 ≡ goes held (record (doing held) { phase = Refusing cell by.1 }))
         × IsOthers (about D.verdict held.view) (number_in held) by.1) }
 {
     let Held { mut activation } = held;
     let room = &*activation.room;
-    let Some(number) = cell_number(&room.area, CellName::Body(id)) else {
+    let Some(number) = cell_number(&room.area, cell) else {
         unreachable!()
     };
     let found = field.claim(&mut activation.seat, number, room.tag);
     if found != 0 {
         return Err((Stopped { activation }, Tag { number: found }));
     }
-    let value = field.cell_there(&mut activation.seat, usize::from(id));
-    activation.room.hold(CellName::Body(id), value, false);
+    let value = field.cell_there(&mut activation.seat, W::slot(cell, number));
+    let wall = field.is_wall(cell, number);
+    activation.room.hold(cell, value, wall);
     Ok(Held { activation })
 }
 
-/// The claim of a node, which is the next cell: a look at its word, and tries while it is found free.
-fn win_node<D: Decider>(
-    held: Held<D>,
-    field: &Field<'_, D>,
-    node: Node,
-) -> Result<Held<D>, (Stopped<D>, Tag)>
+/// The claim of a node with a word of its own kind, which is the next cell: a look at the word, and tries while it is found free.
+fn win_node<D: Decider, W: Manner>(
+    held: Held<D, W>,
+    field: &Field<'_, D, W>,
+    cell: CellName,
+) -> Result<Held<D, W>, (Stopped<D, W>, Tag)>
     requires field { IsOf field.now held }
-    requires next { next_in D.verdict held ≡ Some (name.Spot node) }
+    requires next { next_in D.verdict held ≡ Some cell }
+    requires plain { has_slot W.way cell ≡ false }
     ensures won { IfOk result (λ more. (x : Cell)
-        × (more ≡ goes held (caller_with_cell (about D.verdict held.view) (number_in held) (doing held) (name.Spot node) x))) }
-    ensures refused { IfErr result (λ by. (by.0 ≡ goes held (record (doing held) { phase = Refusing (name.Spot node) by.1 }))
+        × (more ≡ goes held (caller_with_cell (about D.verdict held.view) (number_in held) (doing held) cell x))) }
+    ensures refused { IfErr result (λ by. (by.0 ≡ goes held (record (doing held) { phase = Refusing cell by.1 }))
         × IsOthers (about D.verdict held.view) (number_in held) by.1) }
 {
+    let CellName::Spot(node) = cell else {
+        unreachable!()
+    };
     let mut noted = look_at(held, field, node)?;
     loop {
         match try_at(noted, field) {
