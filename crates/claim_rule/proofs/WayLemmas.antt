@@ -97,6 +97,10 @@ pub words_of_nodes : (way : CommitWay) (n : CellName) → has_slot way n ≡ fal
 words_of_nodes by_journal n none = refl
 words_of_nodes by_ticket n none = absurd (false≢true (sym none))
 
+pub body_has_slot : (way : CommitWay) (i : ℕ) → has_slot way (name.Body i) ≡ true
+body_has_slot by_journal i = refl
+body_has_slot by_ticket i = refl
+
 pub node_of : (way : CommitWay) (n : CellName) → has_slot way n ≡ false → (v : Node) × (n ≡ name.Spot v)
 node_of by_journal (name.Spot v) none = (v, refl)
 node_of by_journal (name.Body i) none = absurd (false≢true (sym none))

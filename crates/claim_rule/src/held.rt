@@ -1,9 +1,10 @@
-ghost use Rattle.std.specs.Prelude.{◌≡◌, ◌<◌, ◌≤◌, length, true, false, Some, IfOk, IfErr};
+ghost use Rattle.std.specs.Prelude.{◌≡◌, ◌<◌, ◌≤◌, length, true, Some, IfOk, IfErr};
 ghost use Rattle.amoebot_state.specs.declared.cell.Cell.{Cell};
+ghost use Rattle.amoebot_state.specs.declared.cell.CellName.TheVariants as name;
 ghost use Rattle.amoebot_state.specs.Limits.{most_cells};
 ghost use Rattle.claim_core.specs.declared.state.Phase.TheVariants.{Refusing};
 ghost use Rattle.claim_core.specs.Machine.{caller_with_cell};
-ghost use Rattle.claim_rule.specs.Manners.{has_slot};
+ghost use Rattle.claim_rule.specs.Manners.{by_journal, has_slot};
 ghost use Rattle.claim_rule.specs.Plays.{IsOthers, about, bot_in};
 ghost use Rattle.claim_rule.specs.Tokens.{IsOf, number_in, doing, goes, next_in};
 
@@ -16,6 +17,7 @@ use crate::stopped::{Stopped, Tag};
 use amoebot_state::{CellName, Decider};
 use claim_core::cell_number;
 use std::marker::Model;
+use tri_lattice::Node;
 
 /// A caller that claims the zone of its turn's amoebot, or that holds it whole.
 #[derive(Drop)]
@@ -87,10 +89,12 @@ pub fn win<D: Decider, W: Manner>(
         × IsOthers (about D.verdict held.view) (number_in held) by.1) }
 {
     if W::has_slot(cell) {
-        win_plain(held, field, cell)
-    } else {
-        win_node(held, field, cell)
+        return win_plain(held, field, cell);
     }
+    let CellName::Spot(node) = cell else {
+        unreachable!()
+    };
+    win_node(held, field, node)
 }
 
 /// One try to claim a plain cell, which is the next one.
@@ -122,23 +126,20 @@ fn win_plain<D: Decider, W: Manner>(
     Ok(Held { activation })
 }
 
-/// The claim of a node with a word of its own kind, which is the next cell: a look at the word, and tries while it is found free.
+/// The claim of a node, which is the next cell, by its word: a look at it, and tries while it is found free.
 fn win_node<D: Decider, W: Manner>(
     held: Held<D, W>,
     field: &Field<'_, D, W>,
-    cell: CellName,
+    node: Node,
 ) -> Result<Held<D, W>, (Stopped<D, W>, Tag)>
     requires field { IsOf field.now held }
-    requires next { next_in D.verdict held ≡ Some cell }
-    requires plain { has_slot W.way cell ≡ false }
+    requires next { next_in D.verdict held ≡ Some (name.Spot node) }
+    requires words { W.way ≡ by_journal }
     ensures won { IfOk result (λ more. (x : Cell)
-        × (more ≡ goes held (caller_with_cell (about D.verdict held.view) (number_in held) (doing held) cell x))) }
-    ensures refused { IfErr result (λ by. (by.0 ≡ goes held (record (doing held) { phase = Refusing cell by.1 }))
+        × (more ≡ goes held (caller_with_cell (about D.verdict held.view) (number_in held) (doing held) (name.Spot node) x))) }
+    ensures refused { IfErr result (λ by. (by.0 ≡ goes held (record (doing held) { phase = Refusing (name.Spot node) by.1 }))
         × IsOthers (about D.verdict held.view) (number_in held) by.1) }
 {
-    let CellName::Spot(node) = cell else {
-        unreachable!()
-    };
     let mut noted = look_at(held, field, node)?;
     loop {
         match try_at(noted, field) {
