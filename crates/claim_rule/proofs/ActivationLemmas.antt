@@ -276,13 +276,21 @@ module _ {D : Type 0} (verdict : D → Shown → Verdict) (way : CommitWay) wher
       is_tried = ap (λ o. unwrap_or o (name.Body 0)) next
 
       -- so it is after a try that won it
-      pub wins_plain : (m' m2 : Seated D) (v : Cell) → Wins verdict way m m' → m'.1 ≡ (slot_of way g.world.area n, slot.Cell v) ∷ rest m'.1 → m2 ≡ m'
+      pub wins_plain : (m' m2 : Seated D) (v : Cell) (k : ℕ) → Wins verdict way m m' → k ≡ slot_of way bare.area n → m'.1 ≡ (k, slot.Cell v) ∷ rest m'.1 → m2 ≡ m'
           → IsActivation verdict way m2 c t b s bare ((n, v) ∷ pairs) notes × IsClaiming verdict m2 t b ((n, v) ∷ pairs)
-      wins_plain m' m2 v won read stays =
+      wins_plain m' m2 v k won at_k read stays =
           wins_it m' m2 won.value v
           (won.now ∙ ap (λ q. goes_on m.0 (caller_with_cell g (own m.0).number (own m.0).caller q won.value)) is_tried)
           (won.out ∙ ap (λ q. (slot_of way g.world.area q, slot.Cell won.value) ∷ m.1) is_tried)
-          (subst (λ q. IsKnown g (bot_in verdict m.0) ((q, won.value) ∷ (own m.0).caller.held)) is_tried won.known) read stays
+          (subst (λ q. IsKnown g (bot_in verdict m.0) ((q, won.value) ∷ (own m.0).caller.held)) is_tried won.known)
+          (read ∙ ap (λ q. (q, slot.Cell v) ∷ rest m'.1) (at_k ∙ ap (λ (q : Config). slot_of way q.area n) is.world)) stays
+
+      -- its slot is out then
+      pub its_value : (m' : Seated D) (k : ℕ) → Wins verdict way m m' → k ≡ slot_of way bare.area n → (x : Cell) × (m'.1 ≡ (k, slot.Cell x) ∷ rest m'.1)
+      its_value m' k won at_k =
+          let here : k ≡ slot_of way g.world.area n = at_k ∙ ap (λ (q : Config). slot_of way q.area n) is.world in
+          let out : m'.1 ≡ (k, slot.Cell won.value) ∷ m.1 = won.out ∙ ap (λ q. (slot_of way g.world.area q, slot.Cell won.value) ∷ m.1) is_tried ∙ ap (λ q. (q, slot.Cell won.value) ∷ m.1) (sym here) in
+          (won.value, out ∙ ap (λ (more : List (ℕ × Slot)). (k, slot.Cell won.value) ∷ more) (sym (ap rest out)))
 
       -- the plain cell is tried next
       pub to_try_plain : (j tag : ℕ) → number bare.area n ≡ Some j → tag ≡ own_tag g c t → IsToTry verdict way j tag m.0

@@ -35,7 +35,7 @@ use Rattle.claim_rule.specs.declared.views.Record.{Record}
 use Rattle.claim_rule.specs.declared.views.Terms.{Terms}
 use Rattle.claim_rule.specs.Words.{word_tag, word_occ, word_stamp}
 use Rattle.claim_rule.specs.Views.{Content, Seated, view_of, own, with_note, setup_of_terms}
-use Rattle.claim_rule.specs.Manners.{by_journal, first_plain}
+use Rattle.claim_rule.specs.Manners.{CommitWay, by_journal, first_plain}
 use Rattle.claim_rule.specs.Stands.{cell_tag, turns_left, IsNodeWord, IsWon, AreWon, IsNoted, IsStamped, IsRecord, AreWords, AreHomes, KeepsRule}
 use Rattle.claim_rule.specs.Plays.{IsPlaced, IsKnown, IsOthers, IsToTryNode, IsToWin, with_node, refused_at, note_of, LooksAt, TriesNode}
 use Rattle.claim_rule.specs.Nexts.{GoesTo, IsAt}
@@ -340,16 +340,16 @@ module _ {D : Type 0} {verdict : D → Shown → Verdict} {z : Terms D} {s : Con
     )
 
 module _ {D : Type 0} (verdict : D → Shown → Verdict) (z : Terms D) (ok : IsSetup (setup_of_terms verdict z)) where
-  pub look_allowed : (slots seat : ℕ) (me : Seated D) (i : ℕ) → me.0 ≡ view_of z (own me.0 ∷ []) → IsToTryNode verdict i me.0 → Allows (KeepsRule verdict z by_journal) slots seat me i (λ x. x) (LooksAt verdict (step slots i 0 0 home.none) me)
-  look_allowed slots seat me i one to =
+  look_by_journal : (slots seat : ℕ) (me : Seated D) (i : ℕ) → me.0 ≡ view_of z (own me.0 ∷ []) → IsToTryNode verdict i me.0 → Allows (KeepsRule verdict z by_journal) slots seat me i (λ x. x) (LooksAt verdict (step slots i 0 0 home.none) me)
+  look_by_journal slots seat me i one to =
       allowed verdict z by_journal ok slots seat me i (λ x. x) (λ m. IsToTryNode verdict i m.0) (LooksAt verdict (step slots i 0 0 home.none)) one to
       (λ s core r table fact. elim (cases_eq (word_tag (slice_index s.words i)) 0) [
         | inl free ↦ inr (look_notes table i slots me.1 fact free)
         | inr held ↦ inl (look_stops table i slots me.1 fact held)
       ])
 
-  pub try_allowed : (slots seat : ℕ) (me : Seated D) (i old put : ℕ) → me.0 ≡ view_of z (own me.0 ∷ []) → IsToWin verdict i old put me.0 → Allows (KeepsRule verdict z by_journal) slots seat me i (λ x. either (eqb x old) put x) (TriesNode verdict (step slots i old put home.none) me)
-  try_allowed slots seat me i old put one to =
+  try_by_journal : (slots seat : ℕ) (me : Seated D) (i old put : ℕ) → me.0 ≡ view_of z (own me.0 ∷ []) → IsToWin verdict i old put me.0 → Allows (KeepsRule verdict z by_journal) slots seat me i (λ x. either (eqb x old) put x) (TriesNode verdict (step slots i old put home.none) me)
+  try_by_journal slots seat me i old put one to =
       allowed verdict z by_journal ok slots seat me i (λ x. either (eqb x old) put x) (λ m. IsToWin verdict i old put m.0) (TriesNode verdict (step slots i old put home.none)) one to
       (λ s core r table fact. exchanged (slice_index s.words i) old put (λ q. Goes verdict z by_journal ok s core r.number i seat (view_of z (r ∷ []), me.1) (TriesNode verdict (step slots i old put home.none) (view_of z (r ∷ []), me.1)) q)
       (λ hit. inl (try_wins table i old put slots me.1 fact hit))
@@ -357,3 +357,10 @@ module _ {D : Type 0} (verdict : D → Shown → Verdict) (z : Terms D) (ok : Is
         | inl free ↦ inr (try_notes table i old put slots me.1 fact free other)
         | inr held ↦ inl (try_stops table i old put slots me.1 fact held)
       ]))
+
+  -- so they are allowed where nodes have words
+  pub look_allowed : (way : CommitWay) → way ≡ by_journal → (slots seat : ℕ) (me : Seated D) (i : ℕ) → me.0 ≡ view_of z (own me.0 ∷ []) → IsToTryNode verdict i me.0 → Allows (KeepsRule verdict z way) slots seat me i (λ x. x) (LooksAt verdict (step slots i 0 0 home.none) me)
+  look_allowed way words slots seat me i one to = subst (λ w. Allows (KeepsRule verdict z w) slots seat me i (λ x. x) (LooksAt verdict (step slots i 0 0 home.none) me)) (sym words) (look_by_journal slots seat me i one to)
+
+  pub try_allowed : (way : CommitWay) → way ≡ by_journal → (slots seat : ℕ) (me : Seated D) (i old put : ℕ) → me.0 ≡ view_of z (own me.0 ∷ []) → IsToWin verdict i old put me.0 → Allows (KeepsRule verdict z way) slots seat me i (λ x. either (eqb x old) put x) (TriesNode verdict (step slots i old put home.none) me)
+  try_allowed way words slots seat me i old put one to = subst (λ w. Allows (KeepsRule verdict z w) slots seat me i (λ x. either (eqb x old) put x) (TriesNode verdict (step slots i old put home.none) me)) (sym words) (try_by_journal slots seat me i old put one to)

@@ -36,7 +36,7 @@ use Rattle.claim_rule.specs.declared.views.Record.{Record}
 use Rattle.claim_rule.specs.declared.views.Terms.{Terms}
 use Rattle.claim_rule.specs.Words.{occ_number, word_tag, word_occ, word_stamp}
 use Rattle.claim_rule.specs.Views.{Content, Seated, view_of, own, setup_of_terms}
-use Rattle.claim_rule.specs.Manners.{by_journal, first_plain}
+use Rattle.claim_rule.specs.Manners.{CommitWay, by_journal, first_plain}
 use Rattle.claim_rule.specs.Stands.{turns_left, IsNodeWord, IsWon, AreWon, IsStamped, IsRecord, AreWords, AreHomes, KeepsRule}
 use Rattle.claim_rule.specs.Plays.{but_last, released_caller, but_first, occ_in, IsToFreeNode, ReleasesNode}
 use Rattle.claim_rule.specs.Nexts.{GoesTo, IsAt}
@@ -251,7 +251,11 @@ module _ {D : Type 0} {verdict : D → Shown → Verdict} {z : Terms D} {s : Con
     )
 
 module _ {D : Type 0} (verdict : D → Shown → Verdict) (z : Terms D) (ok : IsSetup (setup_of_terms verdict z)) where
-  pub node_release_allowed : (slots seat : ℕ) (me : Seated D) (i x : ℕ) → me.0 ≡ view_of z (own me.0 ∷ []) → IsToFreeNode verdict i x me.0 → Allows (KeepsRule verdict z by_journal) slots seat me i (λ _. x) (λ _. ReleasesNode verdict (step slots i x 0 home.none) me x)
-  node_release_allowed slots seat me i x one to =
+  release_by_journal : (slots seat : ℕ) (me : Seated D) (i x : ℕ) → me.0 ≡ view_of z (own me.0 ∷ []) → IsToFreeNode verdict i x me.0 → Allows (KeepsRule verdict z by_journal) slots seat me i (λ _. x) (λ _. ReleasesNode verdict (step slots i x 0 home.none) me x)
+  release_by_journal slots seat me i x one to =
       allowed verdict z by_journal ok slots seat me i (λ _. x) (λ m. IsToFreeNode verdict i x m.0) (λ m _. ReleasesNode verdict (step slots i x 0 home.none) m x) one to
       (λ s core r table fact. inl (node_release_goes table i x slots me.1 fact))
+
+  -- so it is allowed where nodes have words
+  pub node_release_allowed : (way : CommitWay) → way ≡ by_journal → (slots seat : ℕ) (me : Seated D) (i x : ℕ) → me.0 ≡ view_of z (own me.0 ∷ []) → IsToFreeNode verdict i x me.0 → Allows (KeepsRule verdict z way) slots seat me i (λ _. x) (λ _. ReleasesNode verdict (step slots i x 0 home.none) me x)
+  node_release_allowed way words slots seat me i x one to = subst (λ w. Allows (KeepsRule verdict z w) slots seat me i (λ _. x) (λ _. ReleasesNode verdict (step slots i x 0 home.none) me x)) (sym words) (release_by_journal slots seat me i x one to)

@@ -1,8 +1,10 @@
 -- What holds of both ways of committing.
-use Rattle.std.proofs.Common.{◌≡◌, ℕ, ◌+◌, ◌*◌, ◌/◌, ◌<◌, ◌≤◌, List, [], ◌∷◌, Option, Some, None, ap, refl, ◌∙◌, arith}
+use Rattle.std.proofs.Common.{◌≡◌, ℕ, ◌+◌, ◌*◌, ◌/◌, ◌<◌, ◌≤◌, List, [], ◌∷◌, Option, Some, None, ap, sym, refl, ◌∙◌, arith, Bool, true, false}
 use Rattle.std.specs.Prelude.{slice_get, unwrap_or}
+use Rattle.std.proofs.lemmas.Bool.{false≢true}
 use Rattle.std.proofs.lemmas.Option.{none-some, same_Some}
 use Rattle.std.specs.Option.{option_len}
+use Rattle.tri_lattice.specs.declared.node.Node.{Node}
 use Rattle.tri_lattice.proofs.Boxes.{index_below}
 use Rattle.amoebot_state.specs.declared.cell.CellName.{CellName}
 use Rattle.amoebot_state.specs.declared.cell.CellName.TheVariants as name
@@ -16,7 +18,7 @@ use Rattle.claim_core.specs.Soundness.{IsSetup, Sound}
 use Rattle.claim_core.proofs.Sounds.{always, one_step}
 use Rattle.claim_core.proofs.Unfolding.{ticket_sound, tickets_are_sound}
 use Rattle.claim_core.specs.Tickets.{ticket_by_phase, ticket_acts}
-use Rattle.claim_rule.specs.Manners.{CommitWay, by_journal, by_ticket, next_by, after_by, length_word, length_in, first_plain, slot_of, slot_count}
+use Rattle.claim_rule.specs.Manners.{CommitWay, by_journal, by_ticket, next_by, after_by, length_word, length_in, first_plain, has_slot, slot_of, slot_count}
 
 -- a step that both ways make alike
 abbrev pub IsShared : Phase → Type 0
@@ -94,3 +96,17 @@ slot_few by_ticket c k lt = omega (arith, lt)
 pub plain_few : (way : CommitWay) (c : Config) → first_plain way c ≤ cells c
 plain_few by_journal c = omega arith
 plain_few by_ticket c = omega arith
+
+-- a cell without a slot is a node with a word of its own kind, and such words are there by journal alone
+pub words_of_nodes : (way : CommitWay) (n : CellName) → has_slot way n ≡ false → way ≡ by_journal
+words_of_nodes by_journal n none = refl
+words_of_nodes by_ticket n none = absurd (false≢true (sym none))
+
+pub body_has_slot : (way : CommitWay) (i : ℕ) → has_slot way (name.Body i) ≡ true
+body_has_slot by_journal i = refl
+body_has_slot by_ticket i = refl
+
+pub node_of : (way : CommitWay) (n : CellName) → has_slot way n ≡ false → (v : Node) × (n ≡ name.Spot v)
+node_of by_journal (name.Spot v) none = (v, refl)
+node_of by_journal (name.Body i) none = absurd (false≢true (sym none))
+node_of by_ticket n none = absurd (false≢true (sym none))

@@ -122,13 +122,13 @@ module _ {D : Type 0} where
   goes t k = record t { view = goes_on t.view k }
 
   -- an activation as its seat's token, and the cells that it holds, the one won last at the front
-  abbrev pub token_in : Activation D → Token D
+  abbrev pub token_in : {W : Type 0} → Activation D W → Token D
   token_in a = record { table = a.seat.table_id; view = seen a.seat.me.0 }
 
-  abbrev pub cells_in : Activation D → Pairs
+  abbrev pub cells_in : {W : Type 0} → Activation D W → Pairs
   cells_in a = reverse a.room.value.cells
 
-  abbrev pub notes_in : Activation D → List Note
+  abbrev pub notes_in : {W : Type 0} → Activation D W → List Note
   notes_in a = reverse a.room.value.notes
 
   -- the seat without its note
@@ -214,7 +214,7 @@ module _ {D : Type 0} where
     abbrev pub KeepsRoom : CommitWay → Seated D → Room → Type 0
     KeepsRoom way m r = IsActivation way m r.caller r.turn r.bot r.stale (frame_of r.area r.maxes) (reverse r.cells) (reverse r.notes)
 
-    abbrev pub KeepsActivation : CommitWay → Activation D → Type 0
+    abbrev pub KeepsActivation : {W : Type 0} → CommitWay → Activation D W → Type 0
     KeepsActivation way a = KeepsRoom way a.seat.me a.room.value
 
     -- it claims, or holds its whole zone

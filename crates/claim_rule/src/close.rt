@@ -17,6 +17,7 @@ ghost use Rattle.claim_rule.specs.Closing.{ClosesAs, HoldNothing, EndsRight};
 ghost use Rattle.claim_rule.specs.Internal.{HaveAll};
 
 use crate::field::Field;
+use crate::manner::Manner;
 use crate::seat::Seat;
 use crate::seats::Seats;
 use crate::views::{Slot, View};
@@ -46,10 +47,10 @@ impl<'d, D: Decider> Field<'d, D> {
 }
 
 /// All records come back to the first seat.
-pub(crate) fn gather_all<'d, D: Decider>(
-    field: &Field<'d, D>,
+pub(crate) fn gather_all<'d, D: Decider, W: Manner>(
+    field: &Field<'d, D, W>,
     mut rest: TableSeat<Slot, View<D>>,
-    mut seats: Vec<Option<Seat<D>>>,
+    mut seats: Vec<Option<Seat<D, W>>>,
 ) -> TableSeat<Slot, View<D>>
     requires field { (rest.table_id ≡ field.now.table) × (rest.me ≡ (view_of field.now.terms [], [])) }
     requires seats { (c : ℕ) (t : Token D) → slice_get seats.items c ≡ Some (Some t)

@@ -11,6 +11,7 @@ mod held;
 mod journal_box;
 mod laws;
 mod make;
+mod manner;
 mod node_steps;
 mod notes;
 mod renewal;
@@ -33,6 +34,7 @@ pub use laws::{
     ended_field_is_reached, ended_tickets_are_reached, field_ends_one_way, field_ends_sound, found_is_shown,
     join_changes_nothing, opening_stands, split_changes_nothing, state_is_determined,
 };
+pub use manner::{ByJournal, ByTicket, Manner};
 pub use node_steps::{Noted, look_at, try_at};
 pub use rule::ClaimRule;
 pub use seat::Seat;

@@ -10,6 +10,7 @@ ghost use Rattle.claim_rule.specs.Opened.{AreFirstSlots, first_seats, first_word
 use crate::activation::Room;
 use crate::field::Field;
 use crate::journal_box::JournalBox;
+use crate::manner::Manner;
 use crate::seat::Seat;
 use crate::seats::Seats;
 use crate::views::{Slot, View};
@@ -18,6 +19,7 @@ use amoebot_state::{Cell, Decider, NoMemory, World, has_next, touches_zone};
 use atomic_table::Seat as TableSeat;
 use claim_core::{Journal, Lists};
 use std::alloc::Global;
+use std::marker::PhantomData;
 
 impl<'d, D: Decider> Field<'d, D> {
     /// A field over a world, for callers with these lists of ids of amoebots of it, and a seat for each caller. It takes all memory
@@ -61,12 +63,12 @@ fn open<'d, D: Decider>(
 }
 
 /// Deals the records of all callers to seats.
-fn deal_all<'d, D: Decider>(
+fn deal_all<'d, D: Decider, W: Manner>(
     alloc: Global,
-    field: &Field<'d, D>,
+    field: &Field<'d, D, W>,
     mut rest: TableSeat<Slot, View<D>>,
     callers: u8,
-) -> Result<Seats<D>, NoMemory>
+) -> Result<Seats<D, W>, NoMemory>
     requires field { rest.table_id ≡ field.now.table }
     requires all { rest.me ≡ (first_view D.verdict field.now.terms, []) }
     requires callers { callers ≡ length field.now.terms.lists.ids }
@@ -79,7 +81,11 @@ fn deal_all<'d, D: Decider>(
     for caller in 0..callers {
         let room = Box::new(alloc, Room::new(caller, area, maxes))?;
         let seat = field.deal(&mut rest);
-        seats.push(Some(Seat { seat, room }))?;
+        seats.push(Some(Seat {
+            seat,
+            room,
+            of: PhantomData,
+        }))?;
     }
     Ok(Seats { rest, seats })
 }

@@ -1,19 +1,22 @@
 //! The rule, and what each step tells the seat that makes it. These types are for the proofs alone.
-ghost use Rattle.claim_rule.specs.Manners.{by_journal};
 ghost use Rattle.claim_rule.specs.Views.{field_terms};
 ghost use Rattle.claim_rule.specs.Stands.{KeepsRule, first_view};
 ghost use Rattle.claim_rule.specs.Plays.{Claims, Releases, LooksAt, TriesNode, ReleasesNode, ReadsLength};
 ghost use Rattle.claim_rule.specs.Commits.{took, stored};
 
+use crate::manner::{ByJournal, Manner};
 use crate::views::{Key, Slot, View};
 use amoebot_state::Decider;
 use atomic_table::{Play, TableRule};
+use std::marker::PhantomData;
 
 /// Between any two steps, words, values at home and views stand for a state that steps of the callers lead to.
-pub struct ClaimRule;
+pub struct ClaimRule<W = ByJournal> {
+    marker: PhantomData<W>,
+}
 
-impl<'d, D: Decider> TableRule<Slot, View<D>, Key<'d, D>> for ClaimRule {
-    ghost holds = { λ key. KeepsRule D.verdict (field_terms key.decider.now key.world key.lists.now) by_journal };
+impl<'d, D: Decider, W: Manner> TableRule<Slot, View<D>, Key<'d, D>> for ClaimRule<W> {
+    ghost holds = { λ key. KeepsRule D.verdict (field_terms key.decider.now key.world key.lists.now) W.way };
 
     ghost first = { λ key. first_view D.verdict (field_terms key.decider.now key.world key.lists.now) };
 }
@@ -39,14 +42,16 @@ impl<D: Decider> Play<Slot, View<D>> for FreeNode {
     ghost then = { ReleasesNode D.verdict };
 }
 
-/// A try to claim a body.
-pub(crate) struct Claim;
-
-impl<D: Decider> Play<Slot, View<D>> for Claim {
-    ghost then = { Claims D.verdict by_journal };
+/// A try to claim a plain cell.
+pub(crate) struct Claim<W> {
+    marker: PhantomData<W>,
 }
 
-/// The release of the body that was won last.
+impl<D: Decider, W: Manner> Play<Slot, View<D>> for Claim<W> {
+    ghost then = { Claims D.verdict W.way };
+}
+
+/// The release of the plain cell that was won last.
 pub(crate) struct Free;
 
 impl<D: Decider> Play<Slot, View<D>> for Free {
@@ -54,10 +59,12 @@ impl<D: Decider> Play<Slot, View<D>> for Free {
 }
 
 /// A look at the journal's length.
-pub(crate) struct Read;
+pub(crate) struct Read<W> {
+    marker: PhantomData<W>,
+}
 
-impl<D: Decider> Play<Slot, View<D>> for Read {
-    ghost then = { ReadsLength D.verdict by_journal };
+impl<D: Decider, W: Manner> Play<Slot, View<D>> for Read<W> {
+    ghost then = { ReadsLength D.verdict W.way };
 }
 
 /// A try to take the journal.
