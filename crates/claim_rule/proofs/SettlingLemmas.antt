@@ -1,5 +1,5 @@
 -- What a caller keeps that takes the journal, and that commits.
-use Rattle.std.proofs.Common.{◌≡◌, ℕ, ◌+◌, ◌*◌, ◌<◌, List, [], ◌∷◌, ◌++◌, map, length, inl, inr, ap, sym, refl, subst, ◌∙◌, arith, length-append, Bool, true}
+use Rattle.std.proofs.Common.{◌≡◌, ℕ, ◌+◌, ◌*◌, ◌<◌, ◌≤◌, List, [], ◌∷◌, ◌++◌, map, length, inl, inr, ap, sym, refl, subst, ◌∙◌, arith, length-append, Bool, true}
 use Rattle.std.specs.Prelude.{slice_get}
 use Rattle.std.proofs.lemmas.List.{length-map}
 use Rattle.std.proofs.lemmas.List.Elements.{All-map}
@@ -22,6 +22,7 @@ use Rattle.claim_core.specs.declared.marks.Mark.TheVariants as mark
 use Rattle.claim_core.specs.declared.state.Caller.{Caller}
 use Rattle.claim_core.specs.declared.state.Phase.{Phase}
 use Rattle.claim_core.specs.declared.state.Phase.TheVariants.{Taking, Committing, Releasing}
+use Rattle.claim_core.specs.Limits.{most_turns}
 use Rattle.claim_core.specs.Turns.{Kept}
 use Rattle.claim_core.specs.Machine.{Setup, entry, freeing_caller, patched_pair}
 use Rattle.claim_core.proofs.Nexts.{frees-marks, frees-held}
@@ -35,7 +36,7 @@ use Rattle.tri_lattice.specs.Extent.{Extent}
 use Rattle.claim_rule.specs.Manners.{CommitWay, by_journal, by_ticket, noted_nodes}
 use Rattle.claim_rule.specs.Stands.{journal_slot}
 use Rattle.claim_rule.specs.Plays.{IsPlaced, about}
-use Rattle.claim_rule.specs.Commits.{GotJournal, IsPushed, IsToCommit, Commits, with_journal, with_commit}
+use Rattle.claim_rule.specs.Commits.{GotJournal, IsPushed, IsToCommit, Commits, Draws, with_journal, with_commit}
 use Rattle.claim_rule.specs.Tokens.{AreOut, IsActivation, HoldsWholeZone, IsFreeing}
 use Rattle.claim_rule.specs.Settling.{untaken, IsTaken}
 use Rattle.claim_rule.proofs.ActivationLemmas.{with_held, stays, whole_some}
@@ -187,3 +188,61 @@ module _ {D : Type 0} (verdict : D → Shown → Verdict) (m : Seated D) (c t b 
             few = (let e = place_is ∙ ap (λ (q : Kept). length q.entries) same_journal in let f = tk.room.few in omega (arith, e, f));
           };
         }
+
+  -- the change was committed at the place that was drawn
+  pub drawn_is : (way : CommitWay) (told : Shown) (after : ℕ) (change : Change) (place : ℕ) (m2 : Seated D) (news : Pairs) → IsActivation verdict way m c t b s bare pairs notes → HoldsWholeZone verdict m t b pairs told after → (own m.0).caller.phase ≡ Taking change
+      → Draws verdict m.0 m2.0 place → m2.1 ≡ m.1 → place < most_turns → news ≡ map (patched_pair (plain_patch change.patch)) pairs
+      → IsActivation verdict way m2 c t b true bare news notes × IsFreeing verdict m2 t news (place + 1) × (0 < length news) × (m2.0 ≡ like m.0 (with_commit g (own m.0) change place ∷ []))
+  drawn_is way told after change place m2 news is wh phase did out few news_are = (
+    subst (λ (q : Seated D × Pairs). IsActivation verdict way q.0 c t b true bare q.1 notes) (λ p. (sym now p, sym news_are p)) acts,
+    subst (λ (q : Seated D × Pairs). IsFreeing verdict q.0 t q.1 (place + 1)) (λ p. (sym now p, sym news_are p)) freeing,
+    subst (λ (ps : Pairs). 0 < length ps) (sym news_are) some,
+    ap (λ (q : Seated D). q.0) now,
+  )
+    where
+      ps : Pairs
+      ps = map (patched_pair (plain_patch change.patch)) pairs
+
+      same_change : did.change ≡ change
+      same_change = ap (change_or change) (sym did.phase ∙ phase)
+
+      r : Record
+      r = with_commit g (own m.0) change place
+
+      now : m2 ≡ (like m.0 (r ∷ []), m.1)
+      now = λ p. ((did.now ∙ (λ q. like m.0 (with_commit g (own m.0) (same_change q) place ∷ []))) p, out p)
+
+      ms : List Mark
+      ms = (own m.0).caller.marks ++ mark.Done place ∷ []
+
+      k_is : r.caller ≡ freeing_caller g t ps ms
+      k_is = λ p. freeing_caller g (wh.turn p) (map (patched_pair (plain_patch change.patch)) (is.held p)) ms
+
+      some : 0 < length ps
+      some = let one = whole_some g b pairs wh.whole in omega (arith, one, length-map pairs (patched_pair (plain_patch change.patch)))
+
+      counted : length (own m.0).caller.marks ≡ t
+      counted = elim wh.phase [
+        | inl decided ↦ decided.1
+        | inr released ↦ absurd (not_released change (sym phase ∙ released.0))
+      ]
+
+      acts : IsActivation verdict way (like m.0 (r ∷ []), m.1) c t b true bare ps notes
+      acts = with_held verdict way m c t b s bare pairs notes is true r m.1 ps notes is.few is.number refl (ap (λ (q : Caller). q.held) k_is ∙ frees-held g t ps ms)
+          (All-map (λ (p : CellName × Cell). (n : ℕ) × IsPlaced g (cell_of p) n) (patched_pair (plain_patch change.patch)) pairs is.placed) is.won is.note
+          (is.nodes ∙ sym (nodes_renewed way (plain_patch change.patch) pairs)) (out_still way bare.area s (plain_patch change.patch) pairs m.1 is.out)
+
+      marks_are : r.caller.marks ≡ ms
+      marks_are = ap (λ (q : Caller). q.marks) k_is ∙ frees-marks g t ps ms
+
+      freeing : IsFreeing verdict (like m.0 (r ∷ []), m.1) t ps (place + 1)
+      freeing = record {
+        caller = k_is ∙ ap (freeing_caller g t ps) (sym marks_are);
+        marked = record {
+          mark = mark.Done place;
+          counted = ap (λ (q : List Mark). length q) marks_are ∙ length-append (own m.0).caller.marks (mark.Done place ∷ []) ∙ ap (λ n. n + 1) counted;
+          there = ap (λ q. slice_get q t) marks_are ∙ ap (slice_get ms) (sym counted) ∙ slice_get_behind (own m.0).caller.marks (mark.Done place) [];
+          stamp = refl;
+          few = (let f = few in omega (arith, f));
+        };
+      }

@@ -7,10 +7,10 @@ ghost use Rattle.atomic_table.specs.Table.{Final, Seen};
 ghost use Rattle.amoebot_state.specs.Known.{is_wall_cell};
 ghost use Rattle.claim_core.specs.Cells.{number};
 ghost use Rattle.claim_core.specs.Soundness.{IsSetup};
-ghost use Rattle.claim_rule.specs.Manners.{by_journal, slot_count};
+ghost use Rattle.claim_rule.specs.Manners.{slot_count};
 ghost use Rattle.claim_rule.specs.Views.{field_terms, setup_of_terms};
 ghost use Rattle.claim_rule.specs.Stands.{KeepsRule, first_view};
-ghost use Rattle.claim_rule.specs.Opened.{AreFirstSlots, first_words};
+ghost use Rattle.claim_rule.specs.Opened.{AreSlotsAtFirst, first_words};
 
 mod nodes;
 mod seating;
@@ -79,30 +79,6 @@ impl<'d, D: Decider, W: Manner> Field<'d, D, W> {
         }
     }
 
-    /// The slots as they are at the end, with what the last seat knows, and the first world.
-    pub(crate) fn give_back(
-        self,
-        last: TableSeat<Slot, View<D>>,
-    ) -> (Closed<Slot, Global>, &'d D, World)
-        requires { last.table_id ≡ self.table }
-        ensures run { IsSetup (setup_of_terms D.verdict self.entry.terms) }
-        ensures count { slots_len result.0.slots ≡ slot_count W.way self.entry.terms.world }
-        ensures full { IsFull result.0.slots }
-        ensures ends { Final (Seen (KeepsRule D.verdict self.entry.terms W.way) last.id last.me.0)
-            (slots_items result.0.words) (slots_items result.0.slots) }
-        ensures decider { result.1.now ≡ self.entry.terms.decider }
-        ensures world { result.2 ≡ self.entry.terms.world }
-    {
-        let Field {
-            table,
-            decider,
-            world,
-        } = self;
-        (table.close_with(last), decider, world)
-    }
-}
-
-impl<'d, D: Decider> Field<'d, D> {
     /// A field with these words, and whose slots hold these values, with all records at one seat.
     pub(crate) fn lay_out(
         alloc: Global,
@@ -111,10 +87,10 @@ impl<'d, D: Decider> Field<'d, D> {
         lists: &'d Lists,
         words: Vec<u64>,
         slots: Vec<Slot>,
-    ) -> Result<(Field<'d, D>, TableSeat<Slot, View<D>>), NoMemory>
+    ) -> Result<(Field<'d, D, W>, TableSeat<Slot, View<D>>), NoMemory>
         requires run { IsSetup (setup_of_terms D.verdict (field_terms decider.now world lists.now)) }
-        requires words { words.items ≡ first_words by_journal world }
-        requires slots { AreFirstSlots world lists.now slots.items }
+        requires words { words.items ≡ first_words W.way world }
+        requires slots { AreSlotsAtFirst W.way world lists.now slots.items }
         ensures terms { IfOk result (λ made. made.0.terms ≡ field_terms decider.now world lists.now) }
         ensures seat { IfOk result (λ made. (made.1.table_id ≡ made.0.table) × (made.1.me ≡ (first_view D.verdict made.0.terms, []))) }
     {
@@ -139,5 +115,27 @@ impl<'d, D: Decider> Field<'d, D> {
             }
             Err(_) => Err(NoMemory),
         }
+    }
+
+    /// The slots as they are at the end, with what the last seat knows, and the first world.
+    pub(crate) fn give_back(
+        self,
+        last: TableSeat<Slot, View<D>>,
+    ) -> (Closed<Slot, Global>, &'d D, World)
+        requires { last.table_id ≡ self.table }
+        ensures run { IsSetup (setup_of_terms D.verdict self.entry.terms) }
+        ensures count { slots_len result.0.slots ≡ slot_count W.way self.entry.terms.world }
+        ensures full { IsFull result.0.slots }
+        ensures ends { Final (Seen (KeepsRule D.verdict self.entry.terms W.way) last.id last.me.0)
+            (slots_items result.0.words) (slots_items result.0.slots) }
+        ensures decider { result.1.now ≡ self.entry.terms.decider }
+        ensures world { result.2 ≡ self.entry.terms.world }
+    {
+        let Field {
+            table,
+            decider,
+            world,
+        } = self;
+        (table.close_with(last), decider, world)
     }
 }

@@ -5,6 +5,7 @@ mod activation;
 mod cells;
 mod claimed;
 mod close;
+mod drawing;
 mod field;
 mod freeing;
 mod held;
@@ -26,6 +27,8 @@ mod views;
 mod words;
 
 pub use claimed::{Claimed, Seen, look, seal, unseal};
+pub use close::apply_entries;
+pub use drawing::draw;
 pub use field::Field;
 pub use freeing::{Freeing, end, free_last};
 pub use held::{Held, begin, win};

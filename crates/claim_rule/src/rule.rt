@@ -2,7 +2,7 @@
 ghost use Rattle.claim_rule.specs.Views.{field_terms};
 ghost use Rattle.claim_rule.specs.Stands.{KeepsRule, first_view};
 ghost use Rattle.claim_rule.specs.Plays.{Claims, Releases, LooksAt, TriesNode, ReleasesNode, ReadsLength};
-ghost use Rattle.claim_rule.specs.Commits.{took, stored};
+ghost use Rattle.claim_rule.specs.Commits.{took, stored, drew};
 
 use crate::manner::{ByJournal, Manner};
 use crate::views::{Key, Slot, View};
@@ -79,4 +79,11 @@ pub(crate) struct Commit;
 
 impl<D: Decider> Play<Slot, View<D>> for Commit {
     ghost then = { stored D.verdict };
+}
+
+/// A commit that draws its place.
+pub(crate) struct Draw;
+
+impl<D: Decider> Play<Slot, View<D>> for Draw {
+    ghost then = { drew D.verdict };
 }

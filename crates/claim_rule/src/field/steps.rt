@@ -7,12 +7,12 @@ ghost use Rattle.claim_core.specs.Limits.{most_turns};
 ghost use Rattle.claim_rule.specs.Views.{own, goes_on};
 ghost use Rattle.claim_rule.specs.Stands.{journal_slot};
 ghost use Rattle.claim_rule.specs.Plays.{IsToTry, IsToFree, IsToRead, about, marked_at, Claims, Releases, ReadsLength};
-ghost use Rattle.claim_rule.specs.Commits.{Takes, IsToCommit, took, stored};
+ghost use Rattle.claim_rule.specs.Commits.{Takes, IsToCommit, took, stored, drew};
 ghost use Rattle.claim_rule.specs.Internal.{MayStep, IsSameSeat};
 
 use crate::field::Field;
-use crate::manner::Manner;
-use crate::rule::{Claim, Commit, Free, Read, Take};
+use crate::manner::{ByTicket, Manner};
+use crate::rule::{Claim, Commit, Draw, Free, Read, Take};
 use crate::views::{Slot, View};
 use amoebot_state::Decider;
 use atomic_table::Seat;
@@ -111,5 +111,18 @@ impl<'d, D: Decider> Field<'d, D> {
         ensures { result ≡ journal_slot self.now.terms.world }
     {
         usize::from(self.world.bots())
+    }
+}
+
+impl<'d, D: Decider> Field<'d, D, ByTicket> {
+    /// Draws the place of a commit: the number of entries before it.
+    pub(crate) fn draw_place(&self, seat: &mut Seat<Slot, View<D>>) -> u64
+        requires may { MayStep self.now seat.old }
+        requires takes { Takes (own seat.old.me.0).caller.phase }
+        ensures same { IsSameSeat seat.old seat.new }
+        ensures told { drew D.verdict (step self.now.table.slots (cells self.now.terms.world) 1 0 none) seat.old.me result seat.new.me }
+    {
+        let last = self.journal_number();
+        self.table.shared.fetch_add::<Draw>(seat, last, 1)
     }
 }
