@@ -1,23 +1,26 @@
 //! How a field begins.
-ghost use Rattle.std.specs.Prelude.{◌≡◌, ◌≤◌, [], length, IfOk, IsSome};
+ghost use Rattle.std.specs.Prelude.{◌≡◌, ◌≤◌, ◌∷◌, ◌++◌, [], map, length, IfOk, IsSome};
 ghost use Rattle.std.specs.List.{All};
 ghost use Rattle.amoebot_state.specs.Configs.{bot_at};
 ghost use Rattle.claim_rule.specs.Manners.{by_journal};
+ghost use Rattle.claim_core.specs.Cells.{values_of};
+ghost use Rattle.claim_rule.specs.declared.views.Slot.TheVariants as filling;
 ghost use Rattle.claim_rule.specs.Views.{field_terms};
 ghost use Rattle.claim_rule.specs.Stands.{first_view};
+ghost use Rattle.claim_rule.specs.Internal.{zeros};
 ghost use Rattle.claim_rule.specs.Opened.{AreFirstSlots, first_seats, first_words};
 
 use crate::activation::Room;
 use crate::field::Field;
 use crate::journal_box::JournalBox;
-use crate::manner::Manner;
+use crate::manner::{ByTicket, Manner};
 use crate::seat::Seat;
 use crate::seats::Seats;
 use crate::views::{Slot, View};
 use crate::words::node_word;
 use amoebot_state::{Cell, Decider, NoMemory, World, has_next, touches_zone};
 use atomic_table::Seat as TableSeat;
-use claim_core::{Journal, Lists};
+use claim_core::{Journal, Lists, cells_of};
 use std::alloc::Global;
 use std::marker::PhantomData;
 
@@ -42,6 +45,27 @@ impl<'d, D: Decider> Field<'d, D> {
     }
 }
 
+impl<'d, D: Decider> Field<'d, D, ByTicket> {
+    /// The same, of a field whose commits draw their places. It takes all memory that the callers' steps need; the entries are with the
+    /// callers.
+    pub fn make_tickets(
+        alloc: Global,
+        decider: &'d D,
+        world: World,
+        lists: &'d Lists,
+    ) -> Result<(Field<'d, D, ByTicket>, Seats<D, ByTicket>), NoMemory>
+        requires some { 1 ≤ length lists.now.ids }
+        requires bots { All (All (λ id. IsSome (bot_at world id))) lists.now.ids }
+        ensures terms { IfOk result (λ made. made.0.terms ≡ field_terms decider.now world lists.now) }
+        ensures seats { IfOk result (λ made. made.1 ≡ first_seats D.verdict made.0) }
+        ensures all { IfOk result (λ made. All (λ seat. IsSome seat) made.1.seats) }
+    {
+        let (field, rest) = open_tickets(alloc, decider, world, lists)?;
+        let seats = deal_all(alloc, &field, rest, lists.callers())?;
+        Ok((field, seats))
+    }
+}
+
 /// A field with all records at one seat.
 fn open<'d, D: Decider>(
     alloc: Global,
@@ -59,6 +83,26 @@ fn open<'d, D: Decider>(
     let _callers = lists.callers();
     let words = words_at_first(alloc, &world)?;
     let slots = first_slots(alloc, &world, lists)?;
+    Field::lay_out(alloc, decider, world, lists, words, slots)
+}
+
+/// A field whose commits draw their places, with all records at one seat.
+fn open_tickets<'d, D: Decider>(
+    alloc: Global,
+    decider: &'d D,
+    world: World,
+    lists: &'d Lists,
+) -> Result<(Field<'d, D, ByTicket>, TableSeat<Slot, View<D>>), NoMemory>
+    requires bots { All (All (λ id. IsSome (bot_at world id))) lists.now.ids }
+    ensures terms { IfOk result (λ made. made.0.terms ≡ field_terms decider.now world lists.now) }
+    ensures seat { IfOk result (λ made. (made.1.table_id ≡ made.0.table) × (made.1.me ≡ (first_view D.verdict made.0.terms, []))) }
+{
+    world.keeps();
+    touches_zone(decider);
+    has_next(decider);
+    let _callers = lists.callers();
+    let words = zeros(alloc, cells_of(&world))?;
+    let slots = cell_slots(alloc, &world)?;
     Field::lay_out(alloc, decider, world, lists, words, slots)
 }
 
@@ -119,5 +163,33 @@ fn first_slots(alloc: Global, world: &World, lists: &Lists) -> Result<Vec<Slot>,
     journal.reserve(alloc, lists.all_turns())?;
     let boxed = JournalBox::make(alloc, journal)?;
     slots.push(Slot::Journal(boxed))?;
+    Ok(slots)
+}
+
+/// A word of 0 for each of so many cells, and one for the length.
+fn zeros(alloc: Global, count: usize) -> Result<Vec<u64>, NoMemory>
+    ensures { IfOk result (λ words. words.items ≡ zeros count ++ 0 ∷ []) }
+{
+    let mut words = Vec::new(alloc);
+    for _cell in 0..count {
+        words.push(0)?;
+    }
+    words.push(0)?;
+    Ok(words)
+}
+
+/// What the slots of all cells hold at the start, by the cells' numbers.
+fn cell_slots(alloc: Global, world: &World) -> Result<Vec<Slot>, NoMemory>
+    ensures { IfOk result (λ slots. slots.items ≡ map (λ x. filling.Cell x) (values_of world.now)) }
+{
+    let area = world.area();
+    let mut slots = Vec::new(alloc);
+    for number in 0..area.size() {
+        let node = area.node(number);
+        slots.push(Slot::Cell(Cell::Spot(world.occupant(node))))?;
+    }
+    for id in 0..world.bots() {
+        slots.push(Slot::Cell(Cell::Body(*world.bot(id))))?;
+    }
     Ok(slots)
 }

@@ -1,0 +1,12 @@
+use Rattle.std.proofs.Common.{◌≡◌, ◌++◌, ◌∷◌, [], List, ℕ, ap, sym, ◌∙◌, arith}
+use Rattle.claim_rule.specs.Internal.{zeros}
+use Rattle.claim_rule.proofs.FirstSlots.{one_more_zero}
+use Rattle.claim_rule.proofs.make.zeros.Goals as goal
+
+pub loop-_cell-preserved : goal.loop-_cell-preserved
+loop-_cell-preserved c = c.in_ok-push.ensures.items ∙ ap (λ (ns : List ℕ). ns ++ 0 ∷ []) c.loop-_cell.invariant ∙ sym (one_more_zero [] c.loop-_cell._cell)
+
+pub returns : goal.returns
+returns c =
+    let all : c.loop-_cell._cell ≡ c.args.count = omega (arith, c.loop-_cell-test.false, c.loop-_cell.auto._cell-end) in
+    c.in_ok-push-2.ensures.items ∙ ap (λ (ns : List ℕ). ns ++ 0 ∷ []) (c.loop-_cell.invariant ∙ ap zeros all)
