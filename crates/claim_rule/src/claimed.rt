@@ -93,10 +93,7 @@ pub fn seal<D: Decider, W: Manner>(held: Held<D, W>) -> Claimed<D, W>
 }
 
 /// The turn of a claim that decides Idle or Failed gets its mark: it reads the journal's length.
-pub fn look<D: Decider, W: Manner>(
-    claimed: &mut Claimed<D, W>,
-    field: &Field<'_, D, W>,
-) -> Seen<W>
+pub fn look<D: Decider, W: Manner>(claimed: &mut Claimed<D, W>, field: &Field<'_, D, W>) -> Seen<W>
     requires field { IsOf field.now claimed.old }
     requires looks { IsToLook claimed.old }
     ensures marked { claimed.new ≡ goes claimed.old (marked_at (about D.verdict claimed.old.view) (doing claimed.old) result.place) }
