@@ -114,7 +114,7 @@ pub field_ends_right : {D : Type 0} (way : CommitWay) (verdict : D → Shown →
 field_ends_right way verdict z seats world journal ok count full rest ends = ends_right verdict z way seats world journal ok ends count full rest
 
 pub field_ends_sound : {D : Type 0} (way : CommitWay) (verdict : D → Shown → Verdict) → FieldEndsSound way verdict
-field_ends_sound way verdict z way seats world journal ok ends = (is_run verdict z way seats world journal ok ends, is_order verdict z way seats world journal ok ends, is_right verdict z way seats world journal ok ends)
+field_ends_sound way verdict z seats world journal ok ends = (is_run verdict z way seats world journal ok ends, is_order verdict z way seats world journal ok ends, is_right verdict z way seats world journal ok ends)
 
 pub ended_field_is_reached : {D : Type 0} (verdict : D → Shown → Verdict) → EndedFieldIsReached verdict
 ended_field_is_reached verdict z seats world journal ok count full over ends =
