@@ -16,12 +16,14 @@ use Rattle.claim_rule.specs.declared.views.Slot.{Slot}
 use Rattle.claim_rule.specs.declared.views.Slot.TheVariants as slot
 use Rattle.claim_rule.specs.Words.{node_word}
 use Rattle.claim_rule.specs.Manners.{by_journal, by_ticket}
-use Rattle.claim_rule.specs.Internal.{zeros}
 use Rattle.claim_rule.specs.Opened.{first_word}
 
--- the words of so many nodes
+-- the words of so many nodes, and so many words of 0
 abbrev pub node_words : Config → ℕ → List ℕ
 node_words w n = map (λ k. node_word 0 (occupant w (node_at w.area k)) 0) (range_with_len 0 n)
+
+abbrev pub zeros : ℕ → List ℕ
+zeros n = map (λ _. 0) (range_with_len 0 n)
 
 -- the slots of so many amoebots
 abbrev pub bodies_so_far : Config → ℕ → List Slot

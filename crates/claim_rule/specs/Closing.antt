@@ -30,7 +30,8 @@ pub record ClosesAs {D : Type 0} (way : CommitWay) (verdict : D → Shown → Ve
   pub values : HasValues (setup_of_terms verdict z) (after_by way (setup_of_terms verdict z) steps) world
 
 -- steps of the callers lead from the opening to a state in which what each seat knows is so
-pub record LeavesAs {D : Type 0} (way : CommitWay) (verdict : D → Shown → Verdict) (z : Terms D) (seats : List (Option (Token D))) : Type 0 where
+pub record LeavesAs {D : Type 0} (way : CommitWay) (verdict : D → Shown → Verdict) (z : Terms D)
+    (seats : List (Option (Token D))) : Type 0 where
   pub steps : List ℕ
   pub callers : (c : ℕ) (t : Token D) → slice_get seats c ≡ Some (Some t)
       → (number_in t ≡ c) × IsRecord (setup_of_terms verdict z) (after_by way (setup_of_terms verdict z) steps) (record_in t)

@@ -1,6 +1,5 @@
 -- Definitions that serve private functions alone. No clause of a public call cites them.
-use Rattle.std.specs.Prelude.{◌≡◌, ℕ, List, [], ◌∷◌, ◌++◌, map, take, drop, slice_get}
-use Rattle.std.specs.List.{range_with_len}
+use Rattle.std.specs.Prelude.{◌≡◌, ℕ, List, [], ◌∷◌, ◌++◌, take, drop, slice_get}
 use Rattle.std.specs.declared.option.Option.{Option}
 use Rattle.std.specs.declared.option.Option.TheVariants.{Some, None}
 use Rattle.atomic_table.specs.declared.shared.Seat.{Seat}
@@ -16,10 +15,6 @@ use Rattle.claim_rule.specs.Tokens.{FieldOf, Token, record_in, doing}
 -- what a room has of a zone: the cells that it holds, and the walls among them
 abbrev pub shown_in : Room → Shown
 shown_in r = shown_by r.area r.maxes r.bot (node_numbers r.area r.walls.items) r.cells
-
--- so many words of 0
-abbrev pub zeros : ℕ → List ℕ
-zeros n = map (λ _. 0) (range_with_len 0 n)
 
 module _ {D : Type 0} where
   -- the seat may step on this field: it is of the field's table, and has the record of one caller

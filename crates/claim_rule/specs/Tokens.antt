@@ -193,7 +193,8 @@ module _ {D : Type 0} where
     -- what every activation keeps: the seat has the record of one caller in this turn of its list, which holds these cells, with
     -- their values, and won the nodes among them that have words with what these notes say; the slots of the plain cells among them are
     -- out, and stale or not
-    pub record IsActivation (way : CommitWay) (m : Seated D) (c t b : ℕ) (stale : Bool) (w : Config) (pairs : Pairs) (notes : List Note) : Type 0 where
+    pub record IsActivation (way : CommitWay) (m : Seated D) (c t b : ℕ) (stale : Bool) (w : Config) (pairs : Pairs)
+        (notes : List Note) : Type 0 where
       pub alone : m.0.records ≡ own m.0 ∷ []
       pub run : IsSetup (about verdict m.0)
       pub number : (own m.0).number ≡ c

@@ -1,13 +1,12 @@
 //! How a field begins.
-ghost use Rattle.std.specs.Prelude.{◌≡◌, ◌≤◌, ◌∷◌, ◌++◌, [], map, length, IfOk, IsSome};
+ghost use Rattle.std.specs.Prelude.{◌≡◌, ◌≤◌, [], map, length, IfOk, IsSome};
 ghost use Rattle.std.specs.List.{All};
 ghost use Rattle.amoebot_state.specs.Configs.{bot_at};
-ghost use Rattle.claim_rule.specs.Manners.{by_journal};
+ghost use Rattle.claim_rule.specs.Manners.{by_journal, by_ticket};
 ghost use Rattle.claim_core.specs.Cells.{values_of};
 ghost use Rattle.claim_rule.specs.declared.views.Slot.TheVariants as filling;
 ghost use Rattle.claim_rule.specs.Views.{field_terms};
 ghost use Rattle.claim_rule.specs.Stands.{first_view};
-ghost use Rattle.claim_rule.specs.Internal.{zeros};
 ghost use Rattle.claim_rule.specs.Opened.{AreFirstSlots, first_seats, first_words};
 
 use crate::activation::Room;
@@ -101,8 +100,8 @@ fn open_tickets<'d, D: Decider>(
     touches_zone(decider);
     has_next(decider);
     let _callers = lists.callers();
-    let words = zeros(alloc, cells_of(&world))?;
-    let slots = cell_slots(alloc, &world)?;
+    let words = ticket_words(alloc, &world)?;
+    let slots = ticket_slots(alloc, &world)?;
     Field::lay_out(alloc, decider, world, lists, words, slots)
 }
 
@@ -166,20 +165,20 @@ fn first_slots(alloc: Global, world: &World, lists: &Lists) -> Result<Vec<Slot>,
     Ok(slots)
 }
 
-/// A word of 0 for each of so many cells, and one for the length.
-fn zeros(alloc: Global, count: usize) -> Result<Vec<u64>, NoMemory>
-    ensures { IfOk result (λ words. words.items ≡ zeros count ++ 0 ∷ []) }
+/// The words at the start where commits draw their places: all are 0.
+fn ticket_words(alloc: Global, world: &World) -> Result<Vec<u64>, NoMemory>
+    ensures { IfOk result (λ words. words.items ≡ first_words by_ticket world.now) }
 {
     let mut words = Vec::new(alloc);
-    for _cell in 0..count {
+    for _cell in 0..cells_of(world) {
         words.push(0)?;
     }
     words.push(0)?;
     Ok(words)
 }
 
-/// What the slots of all cells hold at the start, by the cells' numbers.
-fn cell_slots(alloc: Global, world: &World) -> Result<Vec<Slot>, NoMemory>
+/// What the slots hold at the start where commits draw their places: what each cell holds, by the cells' numbers.
+fn ticket_slots(alloc: Global, world: &World) -> Result<Vec<Slot>, NoMemory>
     ensures { IfOk result (λ slots. slots.items ≡ map (λ x. filling.Cell x) (values_of world.now)) }
 {
     let area = world.area();

@@ -7,7 +7,7 @@ use Rattle.amoebot_state.specs.Configs.{blank, occupant}
 use Rattle.claim_rule.specs.declared.views.Slot.{Slot}
 use Rattle.claim_rule.specs.declared.views.Slot.TheVariants as slot
 use Rattle.claim_rule.proofs.FirstSlots.{node_slots, bodies_so_far, one_more_slot, one_more_body, all_slots}
-use Rattle.claim_rule.proofs.make.cell_slots.Goals as goal
+use Rattle.claim_rule.proofs.make.ticket_slots.Goals as goal
 
 pub loop-number-preserved : goal.loop-number-preserved
 loop-number-preserved c =

@@ -1,6 +1,6 @@
 use Rattle.std.proofs.Common.{◌≡◌, ◌*◌, ◌++◌}
 use Rattle.claim_rule.proofs.FirstSlots.{node_slots, bodies_so_far}
-use Rattle.claim_rule.proofs.make.cell_slots.Given as goal
+use Rattle.claim_rule.proofs.make.ticket_slots.Given as goal
 
 abbrev pub invariant-loop-number : goal.invariant-loop-number
 invariant-loop-number l = (l.area ≡ l.world.area) × (l.slots.items ≡ node_slots l.world l.number)
