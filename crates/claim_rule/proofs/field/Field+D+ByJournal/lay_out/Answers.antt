@@ -2,7 +2,7 @@ use Rattle.std.proofs.Common.{◌∙◌, List, length, ap}
 use Rattle.claim_rule.specs.Views.{field_terms}
 use Rattle.claim_rule.specs.Manners.{by_journal}
 use Rattle.claim_rule.proofs.Opens.{opens, is_field, words_count, slots_count}
-use Rattle.claim_rule.proofs.field.Field+D+ByJournal.lay_out.Goals as goal
+use Rattle.claim_rule.proofs.field.Field+D.lay_out.Goals as goal
 
 -- src/field.rt
 pub new-requires : goal.new-requires

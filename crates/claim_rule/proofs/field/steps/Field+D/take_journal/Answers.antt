@@ -7,7 +7,7 @@ use Rattle.claim_rule.specs.Stands.{KeepsRule}
 use Rattle.claim_rule.specs.Commits.{took}
 use Rattle.claim_rule.proofs.Takings.{take_allowed}
 use Rattle.claim_rule.proofs.TokensLemmas.{alone_of, on_journal}
-use Rattle.claim_rule.proofs.field.steps.Field+D+ByJournal.take_journal.Goals as goal
+use Rattle.claim_rule.proofs.field.steps.Field+D.take_journal.Goals as goal
 
 pub fetch_or-requires : goal.fetch_or-requires
 fetch_or-requires g c =

@@ -11,9 +11,9 @@ use Rattle.claim_rule.specs.Stands.{journal_slot}
 use Rattle.claim_rule.specs.Closing.{ClosesAs, HoldNothing}
 use Rattle.claim_rule.proofs.Closes.{seats_of, journal_there, entries_run, listed, rests, closes}
 use Rattle.claim_rule.proofs.Leaves.{field_ends_right}
-use Rattle.claim_rule.proofs.close.Field+D+ByJournal.close.Given.{Over}
-use Rattle.claim_rule.proofs.close.Field+D+ByJournal.close.Goals.{After-from-bodies, After-entries, After-apply_entries}
-use Rattle.claim_rule.proofs.close.Field+D+ByJournal.close.Goals as goal
+use Rattle.claim_rule.proofs.close.Field+D.close.Given.{Over}
+use Rattle.claim_rule.proofs.close.Field+D.close.Goals.{After-from-bodies, After-entries, After-apply_entries}
+use Rattle.claim_rule.proofs.close.Field+D.close.Goals as goal
 
 -- src/close.rt
 pub gather_all-rest-requires-clause-seats : goal.gather_all-rest-requires-clause-seats

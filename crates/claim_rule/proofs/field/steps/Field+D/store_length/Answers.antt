@@ -8,7 +8,7 @@ use Rattle.claim_rule.specs.Stands.{KeepsRule, journal_slot}
 use Rattle.claim_rule.specs.Commits.{IsToCommit, stored}
 use Rattle.claim_rule.proofs.Commits.{commit_allowed}
 use Rattle.claim_rule.proofs.TokensLemmas.{alone_of, on_journal}
-use Rattle.claim_rule.proofs.field.steps.Field+D+ByJournal.store_length.Goals as goal
+use Rattle.claim_rule.proofs.field.steps.Field+D.store_length.Goals as goal
 
 pub store-requires : goal.store-requires
 store-requires g c =
