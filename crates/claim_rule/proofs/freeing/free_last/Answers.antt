@@ -23,7 +23,7 @@ unreachable-requires g c =
     none-some at_n.0 (sym c.in_default.is ∙ c.cell_number.ensures ∙ ap (λ (q : Room). number q.area c.last.result.now.0) c.deref_mut-room.ensures.value ∙ ap (λ (q : Config). number q.area c.last.result.now.0) is.world ∙ at_n.1.0)
 
 pub put_there-requires-clause-won : goal.put_there-requires-clause-won
-put_there-requires-clause-won g c =
+put_there-requires-clause-won g c = λ κs lives.
     let r = c.freeing.inside.activation.room.value in
     let m = c.freeing.inside.activation.seat.me in
     let n = c.last.result.now.0 in
@@ -67,8 +67,8 @@ free_node-requires-clause-last g c κs within =
     (ap (number r.area) (sym node.1) ∙ ap (λ (q : Room). number q.area n) (sym c.deref_mut-room.ensures.value) ∙ sym c.cell_number.ensures ∙ c.in-Some.is)
     (λ e. left.2 (c.occupant_in-occ.ensures ∙ e)) (λ ne. left.3 (λ e. ne (sym c.occupant_in-occ.ensures ∙ e)) ∙ ap (λ (q : Room). q.after) c.deref_mut-room.ensures.value))
 
-pub invariant_of-result-then-has_slot : goal.invariant_of-result-then-has_slot
-invariant_of-result-then-has_slot g c =
+pub invariant_of-t-20 : goal.invariant_of-t-20
+invariant_of-t-20 g c =
     let value = c.last.result.now.1 in
     let n = c.last.result.now.0 in
     let r = c.freeing.inside.activation.room.value in
@@ -97,7 +97,7 @@ invariant_of-result g c =
     let note = note_of c.pop.ensures.last.0 c.pop.result in
     let notes_are = ap (λ (q : Room). reverse q.notes) (sym c.deref_mut-room.ensures.value) ∙ ap reverse c.pop.ensures.last.1 ∙ reverse-append c.pop.new.self (note ∷ []) in
     let m = c.free_node.new.seat.me in
-    let gone = ap reverse (c.drop_last-2.ensures c.last.ensures.0 c.last.result.now c.last.ensures.1) in
+    let gone = ap reverse (c.drop_last-else-has_slot.ensures c.last.ensures.0 c.last.result.now c.last.ensures.1) in
     let now = frees_node g.D.Decider.verdict was _ _ _ _ _ _ _ is node.0 value _ are note _ notes_are r.after c.freeing.invariant.1 m c.free_node.ensures.told.0 c.free_node.ensures.told.1 in
     subst (λ (q : Room × Pairs). IsActivation g.D.Decider.verdict g.W.Manner.way m q.0.caller q.0.turn q.0.bot q.0.stale (frame_of q.0.area q.0.maxes) q.1 (reverse c.pop.new.self) × IsFreeing g.D.Decider.verdict m q.0.turn q.1 q.0.after) (λ j. (sym c.deref_mut-room.ensures.value j, sym gone j))
     (subst (λ w. IsActivation g.D.Decider.verdict w m r.caller r.turn r.bot r.stale (frame_of r.area r.maxes) (reverse c.last.ensures.0) (reverse c.pop.new.self)) (sym words) now.0, now.1)
