@@ -16,6 +16,7 @@ abbrev pub AreOfReport : Option Report → List (List (Turn ByJournal)) → Type
 AreOfReport report turns = (told : Report) × (report ≡ Some told) × AreTurnsOf told.turns turns
 
 -- what became of the turns comes exactly where workers made them and the command is done; then it is that of the report's turns
-pub record HasTurns (c : Option Command) (s : Status) (report : Option Report) (turns : Option (List (List (Turn ByJournal)))) : Type 0 where
+pub record HasTurns (c : Option Command) (s : Status) (report : Option Report)
+    (turns : Option (List (List (Turn ByJournal)))) : Type 0 where
   pub exactly : IsSome turns ↔ ((s ≡ status.Done) × IsWorked c)
   pub marked : IfSome turns (AreOfReport report)
