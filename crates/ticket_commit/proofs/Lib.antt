@@ -1,3 +1,6 @@
 pub mod DrawnLists
 pub mod MergeSteps
 pub mod OwnMerges
+pub mod OwnLemmas
+pub mod MarkedTurns
+pub mod TicketEnds

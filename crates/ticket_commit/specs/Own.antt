@@ -2,15 +2,16 @@
 use Rattle.std.specs.Prelude.{◌≡◌, ℕ, ◌+◌, ◌-◌, ◌≤◌, List, [], Vec, map, length, slice_get, vec_capacity}
 use Rattle.std.specs.declared.alloc.Global.{Global}
 use Rattle.std.specs.declared.collections.VecDeque.{VecDeque}
-use Rattle.std.specs.declared.option.Option.{Option}
 use Rattle.std.specs.declared.option.Option.TheVariants.{Some}
 use Rattle.amoebot_state.specs.declared.verdict.Verdict.{Verdict}
 use Rattle.amoebot_state.specs.Zones.{Shown}
 use Rattle.claim_core.specs.Turns.{Kept}
 use Rattle.claim_core.specs.Reached.{placed}
 use Rattle.claim_core.specs.SerialRuns.{all_turns}
+use Rattle.claim_rule.specs.declared.views.Terms.{Terms}
 use Rattle.claim_rule.specs.Plays.{about}
 use Rattle.claim_rule.specs.Tokens.{FieldOf, Token, record_in, doing}
+use Rattle.claim_rule.specs.Seating.{SeatsOf}
 use Rattle.ticket_commit.specs.declared.merging.Drawn.{Drawn}
 use Rattle.ticket_commit.specs.OwnLists.{drawn_pair}
 
@@ -26,11 +27,12 @@ module _ {D : Type 0} (verdict : D → Shown → Verdict) where
   abbrev pub KeepsOwn : Token D → List Drawn → ℕ → Type 0
   KeepsOwn t own capacity = IsOwnList t (about verdict t.view).lists.turns own capacity
 
-  -- beside each seat that is there lies its own list, by the callers' numbers
-  pub record AreOwnLists (seats : List (Option (Token D))) (lists : List (Vec Drawn Global)) : Type 0 where
-    pub count : length lists ≡ length seats
+  -- there are as many seats as the field has callers, and beside each seat that is there lies its own list, by the callers' numbers
+  pub record AreOwnLists (seats : SeatsOf D) (lists : List (Vec Drawn Global)) : Type 0 where
+    pub count : length lists ≡ length seats.seats
+    pub listed : (z : Terms D) → seats.terms ≡ Some z → length seats.seats ≡ length z.lists.ids
     pub each : (c : ℕ) (t : Token D) (own : Vec Drawn Global)
-        → slice_get seats c ≡ Some (Some t)
+        → slice_get seats.seats c ≡ Some (Some t)
         → slice_get lists c ≡ Some own
         → KeepsOwn t own.items (vec_capacity own)
 

@@ -27,7 +27,7 @@ impl<D: Decider> Model for TicketSeats<D> {
 
     ghost view = { λ s. s.seats };
 
-    ghost invariant = { λ s. AreOwnLists D.verdict s.seats.seats s.own.items };
+    ghost invariant = { λ s. AreOwnLists D.verdict s.seats s.own.items };
 }
 
 impl<D: Decider> TicketSeats<D> {
