@@ -1,12 +1,13 @@
 -- The own lists in queues: what stands first in one, and what is left once it is taken.
-use Rattle.std.proofs.Common.{◌≡◌, ℕ, ◌<◌, List, [], ◌∷◌, map, length, drop, set, get_or, nat_eq, Global, Some, None, ap, sym, refl, ◌∙◌, arith, eq-eqb}
+use Rattle.std.proofs.Common.{◌≡◌, ℕ, ◌<◌, List, [], ◌∷◌, ◌++◌, map, reverse, length, drop, set, get_or, nat_eq, Vec, Global, Some, None, ap, sym, refl, ◌∙◌, arith, eq-eqb}
 use Rattle.std.specs.Prelude.{slice_get, IsTrue}
 use Rattle.std.specs.declared.option.Option.{Option}
 use Rattle.std.specs.declared.collections.VecDeque.{VecDeque}
 use Rattle.std.proofs.lemmas.Bool.{eqb-true}
-use Rattle.std.proofs.lemmas.List.{get_or-map, map-set}
+use Rattle.std.proofs.lemmas.List.{get_or-map, map-set, map-append, append_assoc, reverse-append, nil_from_length}
 use Rattle.std.proofs.lemmas.Option.{same_Some, none-some}
 use Rattle.amoebot_state.specs.declared.verdict.Entry.{Entry}
+use Rattle.claim_core.proofs.MachineLemmas.{reverse-map}
 use Rattle.claim_core.specs.Merges.{own_of}
 use Rattle.ticket_commit.specs.declared.merging.Drawn.{Drawn}
 use Rattle.ticket_commit.specs.OwnLists.{drawn_pair, BeginsAt}
@@ -46,3 +47,24 @@ pub own_less : (queues : List (VecDeque Drawn Global)) (c : ℕ) (own new : VecD
 own_less queues c own new inside is less =
     map-set (λ (q : VecDeque Drawn Global). map drawn_pair q.items) queues c new
     ∙ ap (set (lists_in queues) c) (ap (map drawn_pair) less ∙ map-drop_one own.items ∙ ap (drop 1) (sym (own_is queues c own inside is)))
+
+-- the own lists that vectors have
+abbrev pub pairs_in : List (Vec Drawn Global) → List (List (ℕ × Entry))
+pairs_in lists = map (λ (own : Vec Drawn Global). map drawn_pair own.items) lists
+
+-- one list more is a queue: the queues have the lists from the back
+pub one_queued : (whole : List (List (ℕ × Entry))) (lists rest : List (Vec Drawn Global)) (own : Vec Drawn Global) (queues new : List (VecDeque Drawn Global)) (queue : VecDeque Drawn Global)
+    → lists ≡ rest ++ own ∷ [] → new ≡ queues ++ queue ∷ [] → queue.items ≡ own.items → pairs_in lists ++ reverse (lists_in queues) ≡ whole → pairs_in rest ++ reverse (lists_in new) ≡ whole
+one_queued whole lists rest own queues new queue pops pushes same is =
+    ap (λ xs. pairs_in rest ++ reverse xs) (ap lists_in pushes ∙ map-append (λ (q : VecDeque Drawn Global). map drawn_pair q.items) queues (queue ∷ []))
+    ∙ ap (λ xs. pairs_in rest ++ xs) (reverse-append (lists_in queues) (map drawn_pair queue.items ∷ []))
+    ∙ sym (append_assoc (pairs_in rest) (map drawn_pair queue.items ∷ []) (reverse (lists_in queues)))
+    ∙ ap (λ xs. xs ++ reverse (lists_in queues))
+        ((λ i. pairs_in rest ++ map drawn_pair (same i) ∷ []) ∙ sym (map-append (λ (v : Vec Drawn Global). map drawn_pair v.items) rest (own ∷ [])) ∙ sym (ap pairs_in pops))
+    ∙ is
+
+-- until all are
+pub all_queued : (whole : List (List (ℕ × Entry))) (lists : List (Vec Drawn Global)) (queues new : List (VecDeque Drawn Global)) → length lists ≡ 0 → new ≡ reverse queues → pairs_in lists ++ reverse (lists_in queues) ≡ whole → lists_in new ≡ whole
+all_queued whole lists queues new none back is =
+    ap lists_in back ∙ sym (reverse-map (λ (q : VecDeque Drawn Global). map drawn_pair q.items) queues)
+    ∙ ap (λ (vs : List (Vec Drawn Global)). pairs_in vs ++ reverse (lists_in queues)) (sym (nil_from_length lists none)) ∙ is

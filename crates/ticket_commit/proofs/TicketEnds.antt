@@ -30,6 +30,7 @@ use Rattle.claim_rule.proofs.Closes.{some_there}
 use Rattle.ticket_commit.specs.declared.merging.Drawn.{Drawn}
 use Rattle.ticket_commit.specs.OwnLists.{drawn_pair, HasMerge}
 use Rattle.ticket_commit.specs.Own.{AreOwnLists}
+use Rattle.ticket_commit.proofs.DrawnLists.{pairs_in}
 use Rattle.ticket_commit.proofs.OwnMerges.{own_lists_are, own_lists_merge}
 
 -- what stands at a place
@@ -37,10 +38,6 @@ at_place : {A : Type 0} (xs : List A) (c : ℕ) → c < length xs → (x : A) ×
 at_place [] c lt = absurd (omega (arith, lt))
 at_place (x ∷ xs) zero lt = (x, refl)
 at_place (x ∷ xs) (suc c) lt = at_place xs c (omega (arith, lt))
-
--- the own lists as pairs
-abbrev pub pairs_in : List (Vec Drawn Global) → List (List (ℕ × Entry))
-pairs_in lists = map (λ own. map drawn_pair own.items) lists
 
 module _ {D : Type 0} (verdict : D → Shown → Verdict) (z : Terms D) (ok : IsSetup (setup_of_terms verdict z)) (seats : SeatsOf D) (its : seats.terms ≡ Some z) (all : All (λ seat. IsSome seat) seats.seats)
     (leaves : LeavesAs by_ticket verdict z seats.seats) (lists : List (Vec Drawn Global)) (are : AreOwnLists verdict seats lists) where

@@ -1,18 +1,17 @@
 //! How a field ends on which commits draw their places.
-ghost use Rattle.std.specs.Prelude.{◌≡◌, ◌≤◌, [], map, IsSome, vec_len, vec_capacity};
+ghost use Rattle.std.specs.Prelude.{IsSome};
 ghost use Rattle.std.specs.List.{All};
 ghost use Rattle.claim_rule.specs.Manners.{by_ticket};
 ghost use Rattle.claim_rule.specs.Seating.{AreOf};
 ghost use Rattle.claim_rule.specs.Closing.{ClosesAs, HoldNothing, EndsRight};
-ghost use Rattle.ticket_commit.specs.OwnLists.{drawn_pair};
 
 use crate::field::TicketField;
-use crate::merging::{Drawn, merge};
+use crate::merging::merge;
+use crate::own::queue_all;
 use crate::seats::TicketSeats;
 use amoebot_state::{Decider, World};
 use claim_core::Journal;
 use claim_rule::apply_entries;
-use std::collections::VecDeque;
 
 impl<'d, D: Decider> TicketField<'d, D> {
     /// The world after all that was committed, and the journal, once all seats are back: the merge of the own lists by place. The callers
@@ -36,17 +35,4 @@ impl<'d, D: Decider> TicketField<'d, D> {
         apply_entries(decider, &mut world, journal.entries());
         (world, journal)
     }
-}
-
-/// The own lists as queues, for which there is room. It takes no memory.
-fn queue_all(mut lists: Vec<Vec<Drawn>>, mut queues: Vec<VecDeque<Drawn>>) -> Vec<VecDeque<Drawn>>
-    requires none { queues.items ≡ [] }
-    requires room { vec_len lists ≤ vec_capacity queues }
-    ensures { map (λ own. map drawn_pair own.items) result.items ≡ map (λ own. map drawn_pair own.items) lists.entry.items }
-{
-    while let Some(own) = lists.pop() {
-        queues.push_reserved(VecDeque::from_vec(own));
-    }
-    queues.reverse();
-    queues
 }

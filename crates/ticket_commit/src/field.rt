@@ -1,10 +1,11 @@
-ghost use Rattle.std.specs.Prelude.{◌≡◌, ◌≤◌, [], length, IfOk, IsSome, vec_capacity};
+ghost use Rattle.std.specs.Prelude.{◌≡◌, ◌≤◌, length, IfOk, IsSome};
 ghost use Rattle.std.specs.List.{All};
 ghost use Rattle.amoebot_state.specs.Configs.{bot_at};
 ghost use Rattle.claim_rule.specs.Views.{field_terms};
 ghost use Rattle.claim_rule.specs.Opened.{first_seats};
 
 use crate::merging::Drawn;
+use crate::own::own_lists;
 use crate::seats::TicketSeats;
 use amoebot_state::{Decider, NoMemory, World};
 use claim_core::{Journal, Lists};
@@ -70,17 +71,4 @@ impl<'d, D: Decider> TicketField<'d, D> {
     {
         self.field.decider()
     }
-}
-
-/// An own list for each caller, with no entry and room for those of so many turns.
-fn own_lists(alloc: Global, callers: u8, turns: u32) -> Result<Vec<Vec<Drawn>>, NoMemory>
-    ensures count { IfOk result (λ lists. length lists.items ≡ callers) }
-    ensures each { IfOk result (λ lists. All (λ own. (own.items ≡ []) × (turns ≤ vec_capacity own)) lists.items) }
-{
-    let mut lists = Vec::new(alloc);
-    for _caller in 0..callers {
-        let own: Vec<Drawn> = Vec::with_capacity(alloc, turns as usize)?;
-        lists.push(own)?;
-    }
-    Ok(lists)
 }

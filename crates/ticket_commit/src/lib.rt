@@ -7,6 +7,7 @@ mod desks;
 mod field;
 mod laws;
 mod merging;
+mod own;
 mod seat;
 mod seats;
 mod turning;

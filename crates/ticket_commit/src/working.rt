@@ -7,11 +7,9 @@ ghost use Rattle.claim_core.specs.Tickets.{TicketReached};
 ghost use Rattle.claim_rule.specs.Views.{setup_of_terms, field_terms};
 ghost use Rattle.turn_desks.specs.Turns.{AreTurnsOf};
 
-use crate::activating::activate_ticket;
 use crate::desks::{clear, seat_all};
 use crate::field::TicketField;
-use crate::seat::TicketSeat;
-use crate::turning::ByTickets;
+use crate::turning::{ByTickets, activate_all};
 use crate::turns::TicketTurns;
 use activation::Gate;
 use amoebot_state::{Decider, NoMemory, World, has_next, touches_zone};
@@ -20,7 +18,7 @@ use claim_rule::ended_tickets_are_reached;
 use std::alloc::Global;
 use std::sync::Wait;
 use std::thread::Threads;
-use turn_desks::{copy_marks, make_all};
+use turn_desks::copy_marks;
 
 /// What the workers leave: the report, and for each turn what its activation answered.
 #[derive(Drop)]
@@ -56,11 +54,9 @@ pub fn work_tickets<R: Threads + Wait + Sync, D: Decider, G: Gate>(
     let room = Vec::with_capacity(alloc, usize::from(lists.callers()))?;
     let (field, mut seats) = TicketField::make(alloc, decider, world, lists)?;
     let mut desks = seat_all(alloc, lists.callers(), lists.turns(), &mut seats)?;
-    let by = ByTickets { field: &field };
-    let make = |turn: u32, bot: u16, seat: TicketSeat<D>| activate_ticket(&field, seat, gate, turn, bot);
-    make_all(rt, &by, &make, lists, desks.as_mut_slice());
+    activate_all(rt, &field, lists, gate, desks.as_mut_slice());
     let turns = clear(&mut seats, desks, room);
-    copy_marks(&by, &mut marks, turns.as_slice());
+    copy_marks(&ByTickets { field: &field }, &mut marks, turns.as_slice());
     let (world, journal) = field.close(seats);
     Ok(TicketWorked {
         report: Report {

@@ -1,6 +1,6 @@
 use Rattle.std.proofs.Common.{◌≡◌, ◌+◌, ◌≤◌, ◌++◌, map, length, reverse, vec_capacity}
 use Rattle.ticket_commit.specs.OwnLists.{drawn_pair}
-use Rattle.ticket_commit.proofs.close.queue_all.Given as goal
+use Rattle.ticket_commit.proofs.own.queue_all.Given as goal
 
 -- the queues have the lists from the back
 abbrev pub invariant-loop-own : goal.invariant-loop-own
