@@ -143,13 +143,6 @@ seats_count verdict f = length-map (first_records verdict f.terms) (λ r. Some (
     count b [] = refl
     count b (k ∷ ks) = let e = count (b + 1) ks in omega (arith, e)
 
--- and all are there
-pub first_there : {D : Type 0} (verdict : D → Shown → Verdict) (f : FieldOf D) → All (λ seat. IsSome seat) (first_seats verdict f).seats
-first_there verdict f c d lt =
-    let seats = (first_seats verdict f).seats in
-    let m = map-get (λ r. Some (seat_with f r)) (first_records verdict f.terms) c (get_or seats c d) (slice_get-get_or seats c d lt) in
-    subst (λ o. IsSome o) m.2 (is_there (seat_with f m.0))
-
 -- so there are as many desks as callers, where these seats are at them
 pub as_many : {D S A : Type 0} (verdict : D → Shown → Verdict) (token : S → Token D) (f : FieldOf D) (turns : ℕ) (given : SeatsOf D) (desks : List (Desk S A)) → AreClear token turns given.seats desks → given ≡ first_seats verdict f → length desks ≡ length f.terms.lists.ids
 as_many {D} verdict token f turns given desks clear are = sym (length-map desks (seat_at token)) ∙ ap length (clear.seats ∙ ap (λ (s : SeatsOf D). s.seats) are) ∙ seats_count verdict f

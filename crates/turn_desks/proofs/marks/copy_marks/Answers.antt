@@ -1,5 +1,6 @@
 use Rattle.std.proofs.Common.{◌≡◌, ◌<◌, ◌≤◌, [], length, get_or, map, refl, arith, ap, sym, ◌∙◌}
 use Rattle.std.proofs.lemmas.List.{length-map}
+use Rattle.claim_core.specs.Turns.{no_marks}
 use Rattle.claim_core.proofs.Inner.{lists-at}
 use Rattle.node_claims.specs.Answers.{mark_of}
 use Rattle.turn_desks.proofs.MarkCopies.{first_filled, has_room, next_filled, all_filled, lengths_told}
@@ -10,7 +11,7 @@ use Rattle.turn_desks.proofs.marks.copy_marks.Goals as goal
 pub loop-own-init : goal.loop-own-init
 loop-own-init g c =
     first_filled (λ answer. mark_of (g.T.Turning.told answer)) (map (λ v. v.items) c.args.turns.now) c.args.marks.now
-    (c.requires.none ∙ ap (λ n. Rattle.claim_core.specs.Turns.no_marks n c.args.marks.now.turns) (sym (length-map c.args.turns.now (λ v. v.items))))
+    (c.requires.none ∙ ap (λ n. no_marks n c.args.marks.now.turns) (sym (length-map c.args.turns.now (λ v. v.items))))
 
 pub copy_own-requires-clause-room : goal.copy_own-requires-clause-room
 copy_own-requires-clause-room g c κs within =
