@@ -79,16 +79,16 @@ module _ {D S A : Type 0} (token : S → Token D) (turns : ℕ) (old : SeatsOf D
           let count : length old.seats ≡ length (map (seat_at token) desks ++ o ∷ others) = ap (λ (xs : List (Option (Token D))). length xs) (are.all ∙ ap (λ (os : List (Option (Token D))). map (seat_at token) desks ++ os) is) in
           absurd (omega (arith, le, count, length-append (map (seat_at token) desks) (o ∷ others), length-map desks (seat_at token)))
 
-module _ {D S A : Type 0} (token : S → Token D) (told : A → Turn) where
+module _ {D S A W : Type 0} (token : S → Token D) (told : A → Turn W) where
   -- desks are cleared from the back, and their seats are given back
-  pub record AreCleared (whole left : List (Desk S A)) (old now : SeatsOf D) (kept : List (List Turn)) : Type 0 where
+  pub record AreCleared (whole left : List (Desk S A)) (old now : SeatsOf D) (kept : List (List (Turn W))) : Type 0 where
     pub given : List (Desk S A)
     pub all : whole ≡ left ++ given
     pub back : now ≡ record old { seats = out_before (map (seat_at token) left) (map (seat_at token) given) }
     pub turns : kept ≡ reverse (map (turns_at told) given)
 
-module _ {D S A : Type 0} (token : S → Token D) (told : A → Turn) (whole : List (Desk S A)) (old : SeatsOf D) (taken : AreTaken token old whole) where
-  pub none_cleared : (kept : List (List Turn)) → kept ≡ [] → AreCleared token told whole whole old old kept
+module _ {D S A W : Type 0} (token : S → Token D) (told : A → Turn W) (whole : List (Desk S A)) (old : SeatsOf D) (taken : AreTaken token old whole) where
+  pub none_cleared : (kept : List (List (Turn W))) → kept ≡ [] → AreCleared token told whole whole old old kept
   none_cleared kept none = record {
     given = [];
     all = sym (append-nil whole);
@@ -96,7 +96,7 @@ module _ {D S A : Type 0} (token : S → Token D) (told : A → Turn) (whole : L
     turns = none;
   }
 
-  module _ (left rest : List (Desk S A)) (desk : Desk S A) (now : SeatsOf D) (kept : List (List Turn)) (are : AreCleared token told whole left old now kept) (pops : left ≡ rest ++ desk ∷ []) where
+  module _ (left rest : List (Desk S A)) (desk : Desk S A) (now : SeatsOf D) (kept : List (List (Turn W))) (are : AreCleared token told whole left old now kept) (pops : left ≡ rest ++ desk ∷ []) where
     all : whole ≡ rest ++ desk ∷ are.given
     all = are.all ∙ ap (λ ds. ds ++ are.given) pops ∙ append_assoc rest (desk ∷ []) are.given
 

@@ -36,7 +36,7 @@ maps_agree f g (x ∷ xs) (y ∷ ys) same each = λ i. each zero x y refl refl i
 is_there : {A : Type 0} (x : A) → IsSome (Some x)
 is_there x = refl
 
-module _ {D S A : Type 0} (verdict : D → Shown → Verdict) (token : S → Token D) (told : A → Turn) (f : FieldOf D) where
+module _ {D S A W : Type 0} (verdict : D → Shown → Verdict) (token : S → Token D) (told : A → Turn W) (f : FieldOf D) where
   -- before the first turn
   pub first_have : (desks : List (Desk S A)) → AreClear token f.terms.lists.turns ((first_seats verdict f).seats) desks → HaveMade verdict token told f 0 desks
   first_have desks clear c d lt =
@@ -110,7 +110,7 @@ module _ {D S A : Type 0} (verdict : D → Shown → Verdict) (token : S → Tok
     }
 
     -- so all turns are made, once the seats are given back and the marks are copied
-    pub are_made : (s : SeatsOf D) → AreOf f s → s.seats ≡ map (seat_at token) desks → length desks ≡ length f.terms.lists.ids → (marks : MarkLists) (turns : List (List Turn)) → turns ≡ map (turns_at told) desks
+    pub are_made : (s : SeatsOf D) → AreOf f s → s.seats ≡ map (seat_at token) desks → length desks ≡ length f.terms.lists.ids → (marks : MarkLists) (turns : List (List (Turn W))) → turns ≡ map (turns_at told) desks
         → marks ≡ record { turns = f.terms.lists.turns; marks = map marks_in turns } → AreAllMade f s marks turns
     are_made s of seats count marks turns is copied = record {
       of = of;
@@ -122,7 +122,7 @@ module _ {D S A : Type 0} (verdict : D → Shown → Verdict) (token : S → Tok
     }
 
 -- the marks of the answers are those of what became of the turns
-pub marks_told : {A : Type 0} (told : A → Turn) (answers : List (Vec A Global)) → map (map (λ a. mark_of (told a))) (map (λ own. own.items) answers) ≡ map marks_in (lists_told told answers)
+pub marks_told : {A W : Type 0} (told : A → Turn W) (answers : List (Vec A Global)) → map (map (λ a. mark_of (told a))) (map (λ own. own.items) answers) ≡ map marks_in (lists_told told answers)
 marks_told told [] = refl
 marks_told told (own ∷ answers) = λ i. sym (map-map mark_of told own.items) i ∷ marks_told told answers i
 

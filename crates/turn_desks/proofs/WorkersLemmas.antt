@@ -23,7 +23,7 @@ pushed_at P [] x each last (suc k) y e = absurd (none-some y e)
 pushed_at P (z ∷ xs) x each last zero y e = each zero y e
 pushed_at P (z ∷ xs) x each last (suc k) y e = pushed_at (λ n. P (suc n)) xs x (λ n w h. each (suc n) w h) last k y e
 
-module _ {D S A : Type 0} (verdict : D → Shown → Verdict) (token : S → Token D) (told : A → Turn) (f : FieldOf D) (c t : ℕ) (old : Desk S A) (before : HasMade verdict token told f c t old) (seat : S) (there : old.seat ≡ Some seat) where
+module _ {D S A W : Type 0} (verdict : D → Shown → Verdict) (token : S → Token D) (told : A → Turn W) (f : FieldOf D) (c t : ℕ) (old : Desk S A) (before : HasMade verdict token told f c t old) (seat : S) (there : old.seat ≡ Some seat) where
   same : before.seat ≡ token seat
   same = same_Some before.seat (token seat) (sym before.there ∙ ap (token_there token) there)
 

@@ -40,9 +40,9 @@ module _ {D S : Type 0} (token : S → Token D) where
   token_there None = None
   token_there (Some seat) = Some (token seat)
 
-module _ {S A : Type 0} (told : A → Turn) where
+module _ {S A W : Type 0} (told : A → Turn W) where
   -- what became of the turns of a desk
-  abbrev pub turns_at : Desk S A → List Turn
+  abbrev pub turns_at : Desk S A → List (Turn W)
   turns_at desk = map told desk.turns.items
 
 module _ {D S A : Type 0} (token : S → Token D) where
@@ -71,7 +71,7 @@ module _ {D S : Type 0} (verdict : D → Shown → Verdict) (token : S → Token
     pub left : turn < (about verdict (token seat).view).lists.turns
     pub its_bot : bot ≡ bot_in verdict (token seat).view
 
-module _ {D S A : Type 0} (verdict : D → Shown → Verdict) (token : S → Token D) (told : A → Turn) (f : FieldOf D) where
+module _ {D S A W : Type 0} (verdict : D → Shown → Verdict) (token : S → Token D) (told : A → Turn W) (f : FieldOf D) where
   -- this is what a turn leaves of the seat, and its answer
   pub record IsTurnMade (seat : S) (made : S × A) : Type 0 where
     pub answer : HasAnswered verdict (token seat) (token made.0) (told made.1)
@@ -95,7 +95,7 @@ module _ {D S A : Type 0} (verdict : D → Shown → Verdict) (token : S → Tok
     pub doing : doing seat ≡ caller_between_turns (setup_of_terms verdict f.terms) t (marks_in (turns_at told desk))
     pub count : length (turns_at told desk) ≡ t
     pub room : f.terms.lists.turns ≤ vec_capacity desk.turns
-    pub each : (turn : ℕ) (answer : Turn)
+    pub each : (turn : ℕ) (answer : Turn W)
         → slice_get (turns_at told desk) turn ≡ Some answer
         → (caller_of answer ≡ c) × (turn_of answer ≡ turn)
 
@@ -103,10 +103,10 @@ module _ {D S A : Type 0} (verdict : D → Shown → Verdict) (token : S → Tok
   abbrev pub HaveMade : ℕ → List (Desk S A) → Type 0
   HaveMade t desks = (c : ℕ) (d : Desk S A) → c < length desks → HasMade c t (slice_index_or desks c d)
 
-module _ {D : Type 0} (f : FieldOf D) where
+module _ {D W : Type 0} (f : FieldOf D) where
   -- All turns are made: the seats of all callers are there and have ended.
   -- The marks are those of the seats, and those of the turns, each with its caller and its number.
-  pub record AreAllMade (seats : SeatsOf D) (told : MarkLists) (made : List (List Turn)) : Type 0 where
+  pub record AreAllMade (seats : SeatsOf D) (told : MarkLists) (made : List (List (Turn W))) : Type 0 where
     pub of : AreOf f seats
     pub count : length seats.seats ≡ length f.terms.lists.ids
     pub there : All (λ seat. IsSome seat) seats.seats

@@ -10,7 +10,7 @@ use amoebot_state::Decider;
 use claim_core::Marks;
 
 /// Copies the marks of all turns, for which there is room. It takes no memory.
-pub fn copy_marks<D: Decider, T: Turning<D>>(
+pub fn copy_marks<D: Decider, W, T: Turning<D, W>>(
     turning: &T,
     marks: &mut Marks,
     turns: &[Vec<T::Answer>],
@@ -28,7 +28,7 @@ pub fn copy_marks<D: Decider, T: Turning<D>>(
 }
 
 /// Copies the marks of one caller's turns, behind those that the caller has.
-fn copy_own<D: Decider, T: Turning<D>>(
+fn copy_own<D: Decider, W, T: Turning<D, W>>(
     turning: &T,
     marks: &mut Marks,
     caller: u8,

@@ -6,8 +6,8 @@ ghost use Rattle.node_claims.specs.Answers.{mark_of};
 use amoebot_state::Decider;
 use claim_core::Mark;
 
-/// What turns on a field are made of. A caller's seat may hold more than its token, and an answer more than what became of the turn.
-pub trait Turning<D: Decider>: Sync {
+/// What turns on a field are made of, all of one way of committing. A caller's seat may hold more than its token, and an answer more than what became of the turn.
+pub trait Turning<D: Decider, W>: Sync {
     /// What a caller has between two turns.
     type Seat: Send + Drop;
 
@@ -21,7 +21,7 @@ pub trait Turning<D: Decider>: Sync {
     ghost token: { Self.Seat → Token D };
 
     /// What became of the turn.
-    ghost told: { Self.Answer → Turn };
+    ghost told: { Self.Answer → Turn W };
 
     /// The mark of a turn with this answer.
     fn mark(&self, answer: &Self::Answer) -> Mark

@@ -27,7 +27,8 @@ const WORKERS: usize = 16;
 pub fn make_all<
     R: Threads + Wait + Sync,
     D: Decider,
-    T: Turning<D>,
+    W,
+    T: Turning<D, W>,
     F: Fn(u32, u16, T::Seat) -> (T::Seat, T::Answer) + Sync,
 >(
     rt: &R,
@@ -59,7 +60,8 @@ pub fn make_all<
 fn make_turns<
     R: Wait,
     D: Decider,
-    T: Turning<D>,
+    W,
+    T: Turning<D, W>,
     F: Fn(u32, u16, T::Seat) -> (T::Seat, T::Answer),
 >(
     rt: &R,
@@ -93,7 +95,8 @@ fn make_turns<
 fn make_turn<
     R: Wait,
     D: Decider,
-    T: Turning<D>,
+    W,
+    T: Turning<D, W>,
     F: Fn(u32, u16, T::Seat) -> (T::Seat, T::Answer),
 >(
     _rt: &R,

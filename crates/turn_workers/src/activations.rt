@@ -5,7 +5,7 @@ ghost use Rattle.turn_desks.specs.Desks.{HaveMade, IsNextTurn, IsTurnMade};
 use activation::{Gate, activate};
 use amoebot_state::Decider;
 use claim_core::{Lists, Mark};
-use claim_rule::{Field, Seat};
+use claim_rule::{ByJournal, Field, Seat};
 use node_claims::Turn;
 use std::sync::Wait;
 use std::thread::Threads;
@@ -17,7 +17,7 @@ pub struct ByActivation<'a, 'd, D: Decider> {
     pub field: &'a Field<'d, D>,
 }
 
-impl<'a, 'd, D: Decider> Turning<D> for ByActivation<'a, 'd, D> {
+impl<'a, 'd, D: Decider> Turning<D, ByJournal> for ByActivation<'a, 'd, D> {
     type Seat = Seat<D>;
 
     type Answer = Turn;

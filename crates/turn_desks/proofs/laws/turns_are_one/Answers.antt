@@ -3,7 +3,7 @@ use Rattle.turn_desks.proofs.laws.turns_are_one.Goals as goal
 
 -- src/laws.rt
 pub returns-clause-one : goal.returns-clause-one
-returns-clause-one c = turns_are_one
+returns-clause-one g c = turns_are_one
 
 pub returns-clause-example : goal.returns-clause-example
-returns-clause-example c = small_example
+returns-clause-example g c = small_example

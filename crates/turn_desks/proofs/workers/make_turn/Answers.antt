@@ -7,7 +7,7 @@ use Rattle.turn_desks.proofs.workers.make_turn.Goals as goal
 -- src/workers.rt
 
 -- the seat at the desk is to make this turn next
-next : (g : _) (c : After-bot-bot g) → IsNextTurn g.D.Decider.verdict g.T.Turning.token g.T.Turning.told (g.T.Turning.field c.args.turning.now) c.args.turn c.bot-bot.result c.in-Some.seat
+next : (g : _) (c : After-bot-bot g) → IsNextTurn g.D.Decider.verdict g.T.Turning.token (g.T.Turning.field c.args.turning.now) c.args.turn c.bot-bot.result c.in-Some.seat
 next g c =
     let f = g.T.Turning.field c.args.turning.now in
     let there = sym c.take.ensures.value ∙ c.in-Some.is in

@@ -9,6 +9,7 @@ use Rattle.claim_rule.specs.declared.views.Terms.{Terms}
 use Rattle.claim_rule.specs.Seating.{SeatsOf}
 use Rattle.claim_rule.specs.Tokens.{Token}
 use Rattle.claim_rule.specs.Views.{setup_of_terms, field_terms}
+use Rattle.claim_rule.specs.declared.manner.ByJournal.{ByJournal}
 use Rattle.node_claims.specs.declared.turn.Turn.{Turn}
 use Rattle.turn_desks.specs.Turns.{AreTurnsOf, lists_told, marks_in}
 use Rattle.turn_desks.specs.Desks.{AreClear, AreTaken, AreAllMade, HaveMade, seat_at, turns_at}
@@ -23,7 +24,7 @@ use Rattle.turn_workers.proofs.working.work.Goals as goal
 abbrev itself : (g : Over) → Token g.row.D.Denot → Token g.row.D.Denot
 itself g seat = seat
 
-abbrev turn_itself : Turn → Turn
+abbrev turn_itself : Turn ByJournal → Turn ByJournal
 turn_itself turn = turn
 
 -- once all turns are made: the terms of the field, and the desks, as many as callers, each as its last turn left it
@@ -46,14 +47,14 @@ of_marks : (g : Over) (c : After-activate_all g) → c.in_ok-marks.marks.turns �
 of_marks g c = ap (λ (m : MarkLists). m.turns) c.in_ok-marks.ensures ∙ c.turns.ensures
 
 -- what became of the turns is what is kept of the desks
-kept : (g : Over) (c : After-activate_all g) (turns : List (List Turn)) → turns ≡ map (turns_at turn_itself) (take c.in_ok-desks.desks.len (c.activate_all.new.desks ++ drop (length c.activate_all.new.desks) c.in_ok-desks.desks.items))
+kept : (g : Over) (c : After-activate_all g) (turns : List (List (Turn ByJournal))) → turns ≡ map (turns_at turn_itself) (take c.in_ok-desks.desks.len (c.activate_all.new.desks ++ drop (length c.activate_all.new.desks) c.in_ok-desks.desks.items))
     → turns ≡ map (turns_at turn_itself) c.activate_all.new.desks
 kept g c turns are = are ∙ ap (map (turns_at turn_itself)) (whole g c)
 
 -- of as many callers as there are
-number : (g : Over) (c : After-activate_all g) (answers : List (Vec Turn Global)) → lists_told turn_itself answers ≡ map (turns_at turn_itself) c.activate_all.new.desks → length answers ≡ length c.args.lists.now.ids
+number : (g : Over) (c : After-activate_all g) (answers : List (Vec (Turn ByJournal) Global)) → lists_told turn_itself answers ≡ map (turns_at turn_itself) c.activate_all.new.desks → length answers ≡ length c.args.lists.now.ids
 number g c answers are =
-    sym (length-map answers (λ own. map turn_itself own.items)) ∙ ap (λ (ts : List (List Turn)). length ts) are
+    sym (length-map answers (λ own. map turn_itself own.items)) ∙ ap (λ (ts : List (List (Turn ByJournal))). length ts) are
     ∙ length-map c.activate_all.new.desks (turns_at turn_itself) ∙ callers g c ∙ ap (λ (z : Terms g.row.D.Denot). length z.lists.ids) (terms g c)
 
 pub activate_all-requires-clause-before : goal.activate_all-requires-clause-before
@@ -86,7 +87,7 @@ pub copy_marks-requires-clause-all : goal.copy_marks-requires-clause-all
 copy_marks-requires-clause-all g c κs within =
     let at = (goal.at.copy_marks-requires-clause-all g c).After-activate_all in
     let made = ap (lists_told turn_itself) c.as_slice.ensures.value ∙ kept g at (lists_told turn_itself c.clear-turns.result.items) c.clear-turns.ensures.turns in
-    subst (λ (p : ℕ × List (List Turn)). All (λ own. length own ≡ p.0) p.1) (λ i. (sym (of_marks g at) i, sym made i))
+    subst (λ (p : ℕ × List (List (Turn ByJournal))). All (λ own. length own ≡ p.0) p.1) (λ i. (sym (of_marks g at) i, sym made i))
     (all_turns g.D.Decider.verdict (itself g) turn_itself c.in_ok-field.field c.args.lists.now.turns (turns_are g at) c.activate_all.new.desks c.activate_all.ensures.after)
 
 pub copy_marks-requires-clause-none : goal.copy_marks-requires-clause-none
