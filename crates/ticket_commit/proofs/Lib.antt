@@ -4,3 +4,4 @@ pub mod OwnMerges
 pub mod OwnLemmas
 pub mod MarkedTurns
 pub mod TicketEnds
+pub mod TicketReports
