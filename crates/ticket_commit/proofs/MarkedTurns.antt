@@ -1,7 +1,8 @@
--- What a turn leaves of its seat, from the steps that it was made of.
-use Rattle.std.proofs.Common.{◌≡◌, ℕ, ◌+◌, List, [], ◌∷◌, ◌++◌, Bool, true, false, Some, None, ap, sym, refl, ◌∙◌}
+-- What a turn leaves of its seat, from the steps that it was made of, and of the own list beside it.
+use Rattle.std.proofs.Common.{◌≡◌, ℕ, ◌+◌, ◌-◌, ◌<◌, ◌≤◌, List, [], ◌∷◌, ◌++◌, map, length, Bool, true, false, Some, None, ap, sym, refl, ◌∙◌, arith, length-append}
 use Rattle.std.specs.Prelude.{nat_lt, if◌then◌else◌}
 use Rattle.std.proofs.lemmas.Bool.{false≢true}
+use Rattle.std.proofs.lemmas.List.{map-append}
 use Rattle.std.proofs.lemmas.Option.{none-some}
 use Rattle.amoebot_state.specs.declared.cell.CellName.TheVariants as name
 use Rattle.amoebot_state.specs.declared.verdict.Change.{Change}
@@ -12,6 +13,7 @@ use Rattle.amoebot_state.specs.Steps.{entry_of}
 use Rattle.amoebot_state.specs.Zones.{Shown}
 use Rattle.claim_core.specs.declared.marks.Mark.{Mark}
 use Rattle.claim_core.specs.declared.marks.Mark.TheVariants as mark
+use Rattle.claim_core.specs.declared.state.Committed.{Committed}
 use Rattle.claim_core.specs.declared.state.Look.{Look}
 use Rattle.claim_core.specs.declared.state.Phase.{Phase}
 use Rattle.claim_core.specs.declared.state.Phase.TheVariants.{Claim, Refusing, Looking, Taking, Committing, Releasing, Ended}
@@ -25,6 +27,7 @@ use Rattle.node_claims.specs.Claims.{IsClaimed, at_next}
 use Rattle.node_claims.specs.Answers.{marked_by, committed_by, commit_in}
 use Rattle.ticket_commit.specs.declared.merging.Drawn.{Drawn}
 use Rattle.ticket_commit.specs.OwnLists.{drawn_pair}
+use Rattle.ticket_commit.specs.Own.{KeepsOwn}
 
 -- a turn does not begin with freeing
 abbrev is_freeing : Phase → Bool
@@ -76,3 +79,28 @@ module _ {D : Type 0} (verdict : D → Shown → Verdict) (seat claimed : Token 
   pub entry_is : (change : Change) (place : ℕ) (e : Entry) → e ≡ entry_of (number_in claimed) (doing claimed).turn (bot_in verdict claimed.view) change
       → drawn_pair (record { place = place; entry = e }) ≡ placed (commit_in verdict seat is.held change place)
   entry_is change place e entry = ap (λ (x : Entry). (place, x)) (entry ∙ ap (λ (u : Token D). entry_of (number_in u) (doing u).turn (bot_in verdict u.view) change) is.now)
+
+module _ {D : Type 0} (verdict : D → Shown → Verdict) where
+  -- one mark more, and no entry
+  module _ (t : Token D) (own : List Drawn) (capacity : ℕ) (keeps : KeepsOwn verdict t own capacity) where
+    one_more : (m : Mark) → length ((doing t).marks ++ m ∷ []) ≡ length (doing t).marks + 1
+    one_more m = length-append (doing t).marks (m ∷ [])
+
+    pub own_stays : (m : Mark) → KeepsOwn verdict (marked_by verdict t m) own capacity
+    own_stays m = record {
+      entries = keeps.entries;
+      counted = (let counted = keeps.counted in let more = one_more m in omega (arith, counted, more));
+      room = (let room = keeps.room in let more = one_more m in omega (arith, room, more));
+    }
+
+    -- there is a place for one more
+    pub own_has_room : (doing t).turn < (about verdict t.view).lists.turns → length own < capacity
+    own_has_room lt = let room = keeps.room in let counted = keeps.counted in omega (arith, lt, room, counted)
+
+    -- one mark more, and its entry
+    pub own_grows : (doing t).turn < (about verdict t.view).lists.turns → (m : Mark) (p : Committed) (d : Drawn) → drawn_pair d ≡ placed p → KeepsOwn verdict (committed_by verdict t m p) (own ++ d ∷ []) capacity
+    own_grows lt m p d same = record {
+      entries = map-append drawn_pair own (d ∷ []) ∙ (λ i. keeps.entries i ++ same i ∷ []) ∙ sym (map-append placed (record_in t).committed (p ∷ []));
+      counted = (let counted = keeps.counted in let more = one_more m in omega (arith, counted, more));
+      room = (let room = keeps.room in let counted = keeps.counted in let more = one_more m in let grown = length-append own (d ∷ []) in omega (arith, lt, room, counted, more, grown));
+    }

@@ -1,31 +1,25 @@
 -- The own list beside a seat: there is one at most; it is empty before the first turn; it goes out and comes back with its seat.
-use Rattle.std.proofs.Common.{◌≡◌, ℕ, ◌+◌, ◌-◌, ◌<◌, ◌≤◌, List, [], ◌∷◌, ◌++◌, map, length, set, get_or, Vec, Global, vec_capacity, Option, Some, None, inl, inr, ap, sym, refl, subst, ◌∙◌, arith, length-append, length-set}
+use Rattle.std.proofs.Common.{◌≡◌, ℕ, ◌+◌, ◌-◌, ◌<◌, ◌≤◌, List, [], ◌∷◌, map, length, set, get_or, Vec, Global, vec_capacity, Option, Some, None, inl, inr, ap, sym, refl, subst, ◌∙◌, arith, length-set}
 use Rattle.std.specs.Prelude.{slice_get}
 use Rattle.std.specs.List.{All}
-use Rattle.std.proofs.lemmas.List.{map-append}
 use Rattle.std.proofs.lemmas.Option.{none-some, same_Some, slice_get_within, slice_get_read, get_or_from_slice_get}
 use Rattle.amoebot_state.specs.declared.verdict.Entry.{Entry}
 use Rattle.amoebot_state.specs.declared.verdict.Verdict.{Verdict}
 use Rattle.amoebot_state.specs.Zones.{Shown}
-use Rattle.claim_core.specs.declared.marks.Mark.{Mark}
 use Rattle.claim_core.specs.declared.state.Caller.{Caller}
-use Rattle.claim_core.specs.declared.state.Committed.{Committed}
 use Rattle.claim_core.specs.Machine.{fresh}
 use Rattle.claim_core.specs.Reached.{placed}
 use Rattle.claim_core.proofs.Places.{map-get, get-set_here, get-set_else, get-set_cases}
-use Rattle.claim_rule.specs.declared.views.Record.{Record}
 use Rattle.claim_rule.specs.declared.views.Terms.{Terms}
 use Rattle.claim_rule.specs.Views.{setup_of_terms}
-use Rattle.claim_rule.specs.Plays.{about}
-use Rattle.claim_rule.specs.Tokens.{FieldOf, Token, record_in, doing, number_in}
+use Rattle.claim_rule.specs.Tokens.{FieldOf, Token}
 use Rattle.claim_rule.specs.Seating.{SeatsOf}
 use Rattle.claim_rule.specs.Opened.{first_records, first_seats, seat_with}
 use Rattle.claim_rule.proofs.Opens.{from}
-use Rattle.node_claims.specs.Answers.{marked_by, committed_by}
 use Rattle.turn_desks.proofs.MadeTurns.{seats_count}
 use Rattle.ticket_commit.specs.declared.merging.Drawn.{Drawn}
 use Rattle.ticket_commit.specs.OwnLists.{drawn_pair}
-use Rattle.ticket_commit.specs.Own.{IsOwnList, KeepsOwn, AreOwnLists}
+use Rattle.ticket_commit.specs.Own.{KeepsOwn, AreOwnLists}
 use Rattle.ticket_commit.specs.Laws.{OwnListIsOne, SmallOwn}
 
 -- the entry that a pair has drawn
@@ -62,30 +56,6 @@ module _ {D : Type 0} (verdict : D → Shown → Verdict) where
         counted = no_marks ∙ sym no_turn;
         room = (let le : length own + (z.lists.turns - length m.0.caller.marks) ≤ capacity = omega (arith, nothing, no_marks, room) in le);
       })
-
-  -- one mark more, and no entry
-  module _ (t : Token D) (own : List Drawn) (capacity : ℕ) (keeps : KeepsOwn verdict t own capacity) where
-    one_more : (m : Mark) → length ((doing t).marks ++ m ∷ []) ≡ length (doing t).marks + 1
-    one_more m = length-append (doing t).marks (m ∷ [])
-
-    pub own_stays : (m : Mark) → KeepsOwn verdict (marked_by verdict t m) own capacity
-    own_stays m = record {
-      entries = keeps.entries;
-      counted = (let counted = keeps.counted in let more = one_more m in omega (arith, counted, more));
-      room = (let room = keeps.room in let more = one_more m in omega (arith, room, more));
-    }
-
-    -- there is a place for one more
-    pub own_has_room : (doing t).turn < (about verdict t.view).lists.turns → length own < capacity
-    own_has_room lt = let room = keeps.room in let counted = keeps.counted in omega (arith, lt, room, counted)
-
-    -- one mark more, and its entry
-    pub own_grows : (doing t).turn < (about verdict t.view).lists.turns → (m : Mark) (p : Committed) (d : Drawn) → drawn_pair d ≡ placed p → KeepsOwn verdict (committed_by verdict t m p) (own ++ d ∷ []) capacity
-    own_grows lt m p d same = record {
-      entries = map-append drawn_pair own (d ∷ []) ∙ (λ i. keeps.entries i ++ same i ∷ []) ∙ sym (map-append placed (record_in t).committed (p ∷ []));
-      counted = (let counted = keeps.counted in let more = one_more m in omega (arith, counted, more));
-      room = (let room = keeps.room in let counted = keeps.counted in let more = one_more m in let grown = length-append own (d ∷ []) in omega (arith, lt, room, counted, more, grown));
-    }
 
   module _ (seats : SeatsOf D) (lists : List (Vec Drawn Global)) (are : AreOwnLists verdict seats lists) where
     -- where a seat is, there is a list,
