@@ -1,6 +1,5 @@
 use Rattle.std.proofs.Common.{◌+◌, ◌<◌, ap, sym, subst, map, reverse, length, ◌∙◌, true}
 use Rattle.amoebot_state.specs.Pairs.{Pairs, plain_patch}
-use Rattle.amoebot_state.specs.Steps.{entry_of}
 use Rattle.claim_core.specs.Machine.{patched_pair}
 use Rattle.claim_core.proofs.MachineLemmas.{reverse-map}
 use Rattle.claim_rule.specs.declared.activation.Room.{Room}

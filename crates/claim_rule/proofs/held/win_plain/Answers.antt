@@ -1,4 +1,4 @@
-use Rattle.std.proofs.Common.{◌≡◌, ◌<◌, ◌++◌, ◌∷◌, [], Some, length, reverse, ap, sym, subst, ◌∙◌}
+use Rattle.std.proofs.Common.{◌<◌, ◌++◌, ◌∷◌, [], length, reverse, ap, sym, subst, ◌∙◌}
 use Rattle.amoebot_state.specs.Configs.{Config}
 use Rattle.amoebot_state.specs.Known.{AreReadInOrder, is_wall_cell}
 use Rattle.amoebot_state.specs.Limits.{most_cells, most_nodes}
