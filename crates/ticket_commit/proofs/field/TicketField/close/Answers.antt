@@ -15,7 +15,7 @@ use Rattle.ticket_commit.specs.OwnLists.{HasMerge}
 use Rattle.ticket_commit.proofs.DrawnLists.{lists_in, pairs_in}
 use Rattle.ticket_commit.proofs.TicketEnds.{count, merge_is, has_merge, runs, closes}
 use Rattle.ticket_commit.proofs.field.TicketField.close.Given.{Over}
-use Rattle.ticket_commit.proofs.field.TicketField.close.Goals.{After-as_mut_slice, After-entries, After-apply_entries}
+use Rattle.ticket_commit.proofs.field.TicketField.close.Goals.{After-as_mut_slice, After-entries, After-drop-queues}
 use Rattle.ticket_commit.proofs.field.TicketField.close.Goals as goal
 
 -- src/close.rt
@@ -57,7 +57,7 @@ apply_entries-requires-after_bounds g c = λ κs within.
     (run.0, subst (λ (q : g.row.D.Denot × Config × List Entry). Run (g.D.Decider.verdict q.0) q.1 q.2 run.0) (λ i. (sym end.decider i, sym end.world i, sym c.entries.ensures i)) run.1)
 
 -- what the field leaves
-ends : (g : Over) (c : After-apply_entries g) → ClosesAs by_ticket g.D.Decider.verdict c.self.inside.field.terms c.seats.inside.seats.seats c.apply_entries.new.world c.merge.new.journal
+ends : (g : Over) (c : After-drop-queues g) → ClosesAs by_ticket g.D.Decider.verdict c.self.inside.field.terms c.seats.inside.seats.seats c.apply_entries.new.world c.merge.new.journal
 ends g c =
     let now = (goal.at.returns-clause-closes g c).After-entries in
     let at = (goal.at.returns-clause-closes g c).After-as_mut_slice in
@@ -68,13 +68,12 @@ ends g c =
 pub returns-clause-closes : goal.returns-clause-closes
 returns-clause-closes g c =
     subst (λ (p : FieldOf g.row.D.Denot × SeatsOf g.row.D.Denot). ClosesAs by_ticket g.D.Decider.verdict p.0.terms p.1.seats c.apply_entries.new.world c.merge.new.journal) (λ i. (c.self.view_is i, c.seats.view_is i))
-    (ends g (goal.at.returns-clause-closes g c).After-apply_entries)
+    (ends g c)
 
 pub returns-clause-right : goal.returns-clause-right
 returns-clause-right g c =
-    let now = (goal.at.returns-clause-right g c).After-apply_entries in
     let at = (goal.at.returns-clause-right g c).After-as_mut_slice in
     let end = c.end_tickets-world.ensures in
     let many = count g.D.Decider.verdict c.self.inside.field.terms end.run c.seats.inside.seats (its g at) (all g at) end.leaves c.seats.inside.own.items c.seats.invariant in
     subst (λ (p : FieldOf g.row.D.Denot × SeatsOf g.row.D.Denot). EndsRight g.D.Decider.verdict p.0.terms p.1.seats c.apply_entries.new.world c.merge.new.journal) (λ i. (c.self.view_is i, c.seats.view_is i))
-    (field_ends_right by_ticket g.D.Decider.verdict c.self.inside.field.terms c.seats.inside.seats.seats c.apply_entries.new.world c.merge.new.journal end.run many (all g at) end.rests (ends g now))
+    (field_ends_right by_ticket g.D.Decider.verdict c.self.inside.field.terms c.seats.inside.seats.seats c.apply_entries.new.world c.merge.new.journal end.run many (all g at) end.rests (ends g c))
