@@ -1,6 +1,5 @@
-use Rattle.std.proofs.Common.{Some, set, ap, sym, subst, ◌∙◌}
-use Rattle.claim_rule.specs.Tokens.{Token, number_in}
-use Rattle.claim_rule.specs.Seating.{SeatsOf}
+use Rattle.std.proofs.Common.{set, sym, subst, ◌∙◌}
+use Rattle.claim_rule.specs.Tokens.{number_in}
 use Rattle.ticket_commit.specs.Own.{AreOwnLists}
 use Rattle.ticket_commit.proofs.OwnLemmas.{list_comes}
 use Rattle.ticket_commit.proofs.seats.TicketSeats.give.Goals as goal

@@ -1,10 +1,8 @@
-use Rattle.std.proofs.Common.{ap, sym, subst, ◌∙◌}
-use Rattle.std.specs.declared.alloc.Global.{Global}
+use Rattle.std.proofs.Common.{sym, subst, ◌∙◌}
 use Rattle.claim_rule.specs.Tokens.{number_in}
-use Rattle.ticket_commit.specs.Own.{KeepsOwn, AreOwnLists}
-use Rattle.ticket_commit.specs.declared.merging.Drawn.{Drawn}
+use Rattle.ticket_commit.specs.Own.{AreOwnLists}
 use Rattle.ticket_commit.proofs.OwnLemmas.{its_list, list_goes}
-use Rattle.std.proofs.Common.{Vec, vec_capacity, get_or, set}
+use Rattle.std.proofs.Common.{get_or, set}
 use Rattle.ticket_commit.proofs.seats.TicketSeats.take.Goals as goal
 
 -- src/seats.rt
