@@ -20,6 +20,4 @@ mod reports;
 #[cfg(test)]
 mod runs;
 #[cfg(test)]
-mod tickets;
-#[cfg(test)]
 mod turns;
