@@ -5,7 +5,7 @@ use Rattle.claim_core.specs.declared.report.Report.{Report}
 use Rattle.claim_core.specs.Turns.{CallerLists}
 use Rattle.claim_core.specs.Good.{Good}
 use Rattle.claim_core.specs.Reached.{Reached}
-use Rattle.claim_core.specs.Machine.{setup}
+use Rattle.claim_core.specs.Machine.{Setup, setup}
 use Rattle.amoebot_state.specs.Configs.{Config}
 use Rattle.action_tree.specs.Trees.{Program}
 use Rattle.action_meaning.specs.Verdicts.{verdict_shown}
@@ -15,14 +15,17 @@ use Rattle.command_words.specs.declared.command.Command.{Command}
 use Rattle.command_words.specs.declared.command.Command.TheVariants.{Document}
 use Rattle.command_words.specs.declared.command.DocumentCommand.{DocumentCommand}
 use Rattle.command_answers.specs.declared.answer.Answer.{Answer}
+use Rattle.command_answers.specs.declared.answer.Maker.{Maker}
+use Rattle.command_answers.specs.declared.answer.Maker.TheVariants as maker
 use Rattle.command_answers.specs.declared.answer.Prepared.{Prepared}
 use Rattle.command_answers.specs.declared.answer.Task.TheVariants as task
 use Rattle.command_answers.specs.declared.answer.Telling.{Telling}
 use Rattle.command_answers.specs.declared.status.Status.{Status}
 use Rattle.command_answers.specs.declared.status.Status.TheVariants as status
-use Rattle.command_answers.specs.Answers.{IsPrepared, IsTaskOf, TellsReport, Tells}
+use Rattle.command_answers.specs.Answers.{IsPrepared, IsTaskOf, ReachedBy, TellsReport, Tells}
 use Rattle.command_answers.specs.Owed.{IsOwed}
 use Rattle.command_answers.specs.Reads.{Read, whole}
+use Rattle.command_answers.proofs.TaskLemmas.{worked_by}
 use Rattle.amoebot_run.specs.declared.begin.Begun.{Begun}
 use Rattle.amoebot_run.specs.declared.begin.Begun.TheVariants as begun
 use Rattle.amoebot_run.specs.declared.ended.Ended.{Ended}
@@ -105,8 +108,12 @@ untold_by {sink = sink} {old = old} {new = new} Text report turns ended same is 
 pub from_first : (run : Prepared) (report : Report) → Good (verdict_shown run.runner) run.world run.lists report → Good (verdict_shown run.runner) report.journal.first run.lists report
 from_first run report good = subst (λ (start : Config). Good (verdict_shown run.runner) start run.lists report) (sym good.first) good
 
+-- what an interleaving gives, workers leave
+pub left_by_workers : (m : Maker) (g : Setup) (report : Report) → m ≡ maker.Workers → Reached g report → ReachedBy m g report
+left_by_workers m g report is reached = subst (λ (n : Maker). ReachedBy n g report) (sym is) reached
+
 module _ {K : Type 0} (sink : SinkOf K) {Reads : Read → Type 0} (command : Option Command) (old mid new : K) (run : Prepared) (ready : IsReady command Reads (mid ≡ old) run)
-    (report : Report) (turns : List (List Turn)) (good : Good (verdict_shown run.runner) run.world run.lists report) (reached : Reached (setup (verdict_shown run.runner) run.world run.lists) report) (marked : AreTurnsOf report.turns turns) where
+    (report : Report) (turns : List (List Turn)) (good : Good (verdict_shown run.runner) run.world run.lists report) (reached : ReachedBy run.maker (setup (verdict_shown run.runner) run.world run.lists) report) (marked : AreTurnsOf report.turns turns) where
   finished_at : (ended : Ended) → IsEndedRun sink old new (Tells run.telling run.runner run.lists report) report turns ended
       → IsEnding command Reads (WroteAll sink old new) (WroteFront sink old new) (new ≡ old) ended.status ended.report
   finished_at _ (told text ended tells writes) = ending_of ready.read status.Done (Some report) (Some turns) text ended ready.reads (ready.prepared.owed report text good reached tells) writes
@@ -119,7 +126,7 @@ module _ {K : Type 0} (sink : SinkOf K) {Reads : Read → Type 0} (command : Opt
 
   -- and which turns it has
   pub finished_turns : (ended : Ended) → IsEndedRun sink mid new (Tells run.telling run.runner run.lists report) report turns ended → HasTurns command ended.status ended.report ended.turns
-  finished_turns _ (told text ended tells writes) = turns_of command status.Done (Some report) (Some turns) text ended (record { exactly = ((λ some. (refl, ready.prepared.by_workers)), λ both. refl); marked = (report, refl, marked) }) writes
+  finished_turns _ (told text ended tells writes) = turns_of command status.Done (Some report) (Some turns) text ended (record { exactly = ((λ some. (refl, worked_by command run.maker ready.prepared.its_maker)), λ both. refl); marked = (report, refl, marked) }) writes
   finished_turns _ (untold same) = no_turns command status.NoMemory None (λ done worked. cc)
 
 -- how it ends, where workers were out of memory

@@ -25,7 +25,7 @@ use crate::finish::finish;
 use activation::{Gate, NoGate};
 use amoebot_state::NoMemory;
 use command_answers::{
-    Prepared, Status, documents_have_outcomes, owed_is_one, reports_are_of_runs,
+    Maker, Prepared, Status, documents_have_outcomes, owed_is_one, reports_are_of_runs,
 };
 use command_words::Command;
 use outer_io::{Sink, Source, SureSink, SureSource, text_is_kept_as_one_piece};
@@ -123,10 +123,13 @@ pub fn run<R: Threads + Wait + Sync, S: Source, K: Sink, G: Gate>(
         world,
         lists,
         telling,
+        maker,
     } = prepared;
-    match work(rt, alloc, &runner, world, &lists, gate) {
-        Ok(worked) => finish(alloc, out, telling, &runner, &lists, worked),
-        Err(NoMemory) => end_with(Status::NoMemory),
+    match maker {
+        Maker::Workers => match work(rt, alloc, &runner, world, &lists, gate) {
+            Ok(worked) => finish(alloc, out, telling, &runner, &lists, worked),
+            Err(NoMemory) => end_with(Status::NoMemory),
+        },
     }
 }
 

@@ -162,8 +162,8 @@ module _ (goods : ReachedIsGood) (serials : OneListIsSerial) where
     measure = served Measure with_nobody and_nobody status.Done None _ (says form.Measure with_nobody (Ok and_nobody) are_answered.nobody) (of_measure nobody _ refl nobody_is_measured);
     refused_task = (refused Interleave [] empty_refused (says form.Interleave [] (Err empty_refused) are_answered.empty), λ worked. absurd worked);
     run_task = record {
-      by_workers = tt;
-      its_lists = of_document Run with_list and_list (says form.Run with_list (Ok and_list) are_answered.list) refl refl refl refl;
+      its_maker = refl;
+      its_lists = of_document Run with_list and_list (says form.Run with_list (Ok and_list) are_answered.list) refl refl refl refl refl;
       there = may_run.bots;
       few = λ report its_good. tt;
       owed = λ report text its_good its_reached tells. subst (λ (t : List ℕ). IsOwed (Some (Document Run)) (whole with_list) status.Done (Some report) t) (sym tells) (owes_report report its_good its_reached);

@@ -15,18 +15,20 @@ use Rattle.command_words.specs.declared.command.Command.TheVariants.{Document}
 use Rattle.command_words.specs.declared.command.DocumentCommand.{DocumentCommand}
 use Rattle.command_words.specs.declared.command.DocumentCommand.TheVariants.{Run, Interleave, Replay, Check, Measure, Renew, Rewind, Rounds, Elect}
 use Rattle.command_answers.specs.declared.answer.Answer.{Answer}
+use Rattle.command_answers.specs.declared.answer.Maker.{Maker}
+use Rattle.command_answers.specs.declared.answer.Maker.TheVariants as maker
 use Rattle.command_answers.specs.declared.answer.Prepared.{Prepared}
 use Rattle.command_answers.specs.declared.answer.Task.TheVariants as task
 use Rattle.command_answers.specs.declared.answer.Telling.{Telling}
 use Rattle.command_answers.specs.declared.answer.Telling.TheVariants as telling
 use Rattle.command_answers.specs.declared.status.Status.{Status}
 use Rattle.command_answers.specs.declared.status.Status.TheVariants as status
-use Rattle.command_answers.specs.Commands.{IsWorked}
+use Rattle.command_answers.specs.Commands.{AreWorkers, IsWorked, maker_of}
 use Rattle.command_answers.specs.Lines.{usage_line, read_fault_line, refusal_line}
 use Rattle.command_answers.specs.Reads.{Read, whole}
 use Rattle.command_answers.specs.Owed.{IsOwed, usage, read_fault, longer, refused, served, shown, sampled}
 use Rattle.command_answers.specs.Outcomes.{IsOutcome, of_run, of_interleave, agreeing, differing, of_check, of_measure, renewing, renew_differing, no_place, unwound, not_unwound, rounded, not_rounded, no_erosion, not_ready, not_elected, elected}
-use Rattle.command_answers.specs.Answers.{IsRunFor, IsTaskOf, Tells, of_document, of_number}
+use Rattle.command_answers.specs.Answers.{IsRunFor, IsTaskOf, Tells, of_document, of_number, turn_maker}
 use Rattle.command_answers.specs.Laws.{SameIfAny, SameTask, OwedIsOne, PreparedIsOne, TaskIsOne, TellingIsOne}
 use Rattle.command_answers.proofs.Outcomes.{documents_have_outcomes, worked_is_done}
 use Rattle.command_answers.proofs.OwedLemmas.{same_contents}
@@ -70,6 +72,13 @@ untold c read s report text (served d bytes a t told v x is) other = unserved a 
 untold c read s report text (shown p) other = absurd (other refl)
 untold c read s report text (sampled seed told v x) other = absurd (other refl)
 
+-- who is to make turns that are prepared are workers
+are_workers : (m : Maker) → AreWorkers (turn_maker m)
+are_workers maker.Workers = tt
+
+pub worked_by : (c : Option Command) (m : Maker) → maker_of c ≡ turn_maker m → IsWorked c
+worked_by c m its = subst AreWorkers (sym its) (are_workers m)
+
 module _ (documents : DecidedFromEach) (owed : OwedIsOne) where
   both_answered : (c : DocumentCommand) (bytes : List ℕ) (one two : Answer) → IsTaskOf c bytes (task.Answered one) → IsTaskOf c bytes (task.Answered two) → SameTask (task.Answered one) (task.Answered two)
   both_answered Run bytes one two x y =
@@ -88,38 +97,41 @@ module _ (documents : DecidedFromEach) (owed : OwedIsOne) where
 
   -- for a document whose lists workers are to run nothing but Done is an outcome
   not_answered : (c : DocumentCommand) (bytes : List ℕ) (answer : Answer) (run : Prepared) → IsTaskOf c bytes (task.Answered answer) → IsWorked (Some (Document c)) → IsRunFor run (Some (Document c)) (whole bytes) → ⊥
-  not_answered c bytes answer run x worked (of_document d same a h its_program its_shape its_lists its_telling) =
+  not_answered c bytes answer run x worked (of_document d same a h its_program its_shape its_lists its_telling its_maker) =
       x.1 worked (worked_is_done a c answer.status answer.report answer.text worked (documents_have_outcomes documents c bytes a answer.status answer.report answer.text h x.0))
 
   both_run : (c : DocumentCommand) (bytes : List ℕ) (one two : Prepared) → IsRunFor one (Some (Document c)) (whole bytes) → IsRunFor two (Some (Document c)) (whole bytes) → one ≡ two
-  both_run c bytes one two (of_document d same a h its_program its_shape its_lists its_telling) (of_document e equal b k other_program other_shape other_lists other_telling) =
+  both_run c bytes one two (of_document d same a h its_program its_shape its_lists its_telling its_maker) (of_document e equal b k other_program other_shape other_lists other_telling other_maker) =
       let contents : b ≡ a = same_contents documents c bytes b a k h in
       let program = one_at _ one.runner two.runner its_program (ap (λ (x : Contents). x.checked) (sym contents) ∙ other_program) in
       let shape = one_at _ one.world two.world its_shape (ap (λ (x : Contents). x.world) (sym contents) ∙ other_shape) in
       let lists = one_at _ one.lists two.lists its_lists (ap (λ (x : Contents). x.lists) (sym contents) ∙ other_lists) in
       let telling = its_telling ∙ ap (λ (x : Contents). telling.Report x.version) (sym contents) ∙ sym other_telling in
-      λ i. record { runner = program i; world = shape i; lists = lists i; telling = telling i }
+      let maker = its_maker ∙ sym other_maker in
+      λ i. record { runner = program i; world = shape i; lists = lists i; telling = telling i; maker = maker i }
 
   pub task_is_one : TaskIsOne
   task_is_one c bytes (task.Answered one) (task.Answered two) x y = both_answered c bytes one two x y
-  task_is_one c bytes (task.Answered one) (task.Run two) x y = not_answered c bytes one two x y.by_workers y.its_lists
-  task_is_one c bytes (task.Run one) (task.Answered two) x y = not_answered c bytes two one y x.by_workers x.its_lists
+  task_is_one c bytes (task.Answered one) (task.Run two) x y = not_answered c bytes one two x (worked_by (Some (Document c)) two.maker y.its_maker) y.its_lists
+  task_is_one c bytes (task.Run one) (task.Answered two) x y = not_answered c bytes two one y (worked_by (Some (Document c)) one.maker x.its_maker) x.its_lists
   task_is_one c bytes (task.Run one) (task.Run two) x y = both_run c bytes one two x.its_lists y.its_lists
 
 -- ---- runs that are prepared, and the texts of their reports
 
 pub prepared_is_one : DecidedFromEach → SampleIsUnique → PreparedIsOne
-prepared_is_one documents unique command read one two (of_document c bytes a h its_program its_shape its_lists its_telling) (of_document e same b k other_program other_shape other_lists other_telling) =
+prepared_is_one documents unique command read one two (of_document c bytes a h its_program its_shape its_lists its_telling its_maker) (of_document e same b k other_program other_shape other_lists other_telling other_maker) =
     let contents : b ≡ a = same_contents documents c bytes b a k h in
     let program = one_at _ one.runner two.runner its_program (ap (λ (x : Contents). x.checked) (sym contents) ∙ other_program) in
     let shape = one_at _ one.world two.world its_shape (ap (λ (x : Contents). x.world) (sym contents) ∙ other_shape) in
     let lists = one_at _ one.lists two.lists its_lists (ap (λ (x : Contents). x.lists) (sym contents) ∙ other_lists) in
     let telling = its_telling ∙ ap (λ (x : Contents). telling.Report x.version) (sym contents) ∙ sym other_telling in
-    λ i. record { runner = program i; world = shape i; lists = lists i; telling = telling i }
-prepared_is_one documents unique command read one two (of_number seed is its_telling) (of_number same other other_telling) =
+    let maker = its_maker ∙ sym other_maker in
+    λ i. record { runner = program i; world = shape i; lists = lists i; telling = telling i; maker = maker i }
+prepared_is_one documents unique command read one two (of_number seed is its_telling its_maker) (of_number same other other_telling other_maker) =
     let by = unique seed _ _ is other in
     let telling = its_telling ∙ sym other_telling in
-    λ i. record { runner = by.0 i; world = by.1 i; lists = by.2 i; telling = telling i }
+    let maker = its_maker ∙ sym other_maker in
+    λ i. record { runner = by.0 i; world = by.1 i; lists = by.2 i; telling = telling i; maker = maker i }
 
 -- two texts of a report
 one_text : SampleTextIsOne → (t : Telling) (p : Program) (lists : CallerLists) (report : Report) (text other : List ℕ) → Tells t p lists report text → Tells t p lists report other → text ≡ other

@@ -25,6 +25,7 @@ use Rattle.command_answers.specs.Lines.{usage_line, too_long}
 use Rattle.command_answers.specs.Reads.{nothing, whole, above, up_to_fault}
 use Rattle.command_answers.specs.Owed.{IsOwed}
 use Rattle.command_answers.specs.declared.answer.Task.TheVariants as task
+use Rattle.command_answers.specs.declared.answer.Maker.TheVariants as maker
 use Rattle.command_answers.specs.declared.answer.Telling.TheVariants as telling
 use Rattle.command_answers.specs.Answers.{IsTaskOf, refused_with}
 use Rattle.command_words.specs.declared.command.DocumentCommand.TheVariants.{Run, Interleave}
@@ -177,4 +178,4 @@ pub record SmallAnswers : Type 0 where
   -- what is to be done for an input that is refused at once, and for a document of `run`
   pub refused_task : IsTaskOf Interleave [] (task.Answered (refused_with empty_refused))
   pub run_task : IsTaskOf Run with_list
-      (task.Run (record { runner = out; world = one_alone; lists = one_list; telling = telling.Report 1 }))
+      (task.Run (record { runner = out; world = one_alone; lists = one_list; telling = telling.Report 1; maker = maker.Workers }))

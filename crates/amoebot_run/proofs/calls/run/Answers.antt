@@ -3,7 +3,7 @@ use Rattle.action_eval.proofs.SharedRunner.{runner_sync}
 use Rattle.command_answers.specs.Commands.{limit_for}
 use Rattle.amoebot_run.proofs.Endings.{reported, told, one, one_unread, serves, served_unread, six_lines_written, no_command, no_command_at, at_read_fault, at_write_fault, without_memory}
 use Rattle.amoebot_run.proofs.Fronts.{reads_all}
-use Rattle.amoebot_run.proofs.Parts.{ended_of, its_turns, ready_of, finished, finished_turns, from_first, unworked}
+use Rattle.amoebot_run.proofs.Parts.{ended_of, its_turns, ready_of, finished, finished_turns, from_first, left_by_workers, unworked}
 use Rattle.amoebot_run.proofs.calls.run.Goals as goal
 
 -- ---- the call has ended at once
@@ -62,10 +62,10 @@ pub finish-requires-clause-few : goal.finish-requires-clause-few
 finish-requires-clause-few g c = (ready_of _ c.in-Run.ensures.begun).prepared.few c.in-Ok.worked.report c.in-Ok.ensures.good
 
 pub returns-in-Ok-clause-ending : goal.returns-in-Ok-clause-ending
-returns-in-Ok-clause-ending g c = finished g.K.Sink _ _ _ _ c.in-Run.prepared (ready_of _ c.in-Run.ensures.begun) c.in-Ok.worked.report c.in-Ok.worked.turns c.in-Ok.ensures.good c.in-Ok.ensures.reached c.in-Ok.ensures.turns _ c.finish.ensures
+returns-in-Ok-clause-ending g c = finished g.K.Sink _ _ _ _ c.in-Run.prepared (ready_of _ c.in-Run.ensures.begun) c.in-Ok.worked.report c.in-Ok.worked.turns c.in-Ok.ensures.good (left_by_workers _ _ _ c.in-Workers.is c.in-Ok.ensures.reached) c.in-Ok.ensures.turns _ c.finish.ensures
 
 pub returns-in-Ok-clause-turns : goal.returns-in-Ok-clause-turns
-returns-in-Ok-clause-turns g c = finished_turns g.K.Sink _ _ _ _ c.in-Run.prepared (ready_of _ c.in-Run.ensures.begun) c.in-Ok.worked.report c.in-Ok.worked.turns c.in-Ok.ensures.good c.in-Ok.ensures.reached c.in-Ok.ensures.turns _ c.finish.ensures
+returns-in-Ok-clause-turns g c = finished_turns g.K.Sink _ _ _ _ c.in-Run.prepared (ready_of _ c.in-Run.ensures.begun) c.in-Ok.worked.report c.in-Ok.worked.turns c.in-Ok.ensures.good (left_by_workers _ _ _ c.in-Workers.is c.in-Ok.ensures.reached) c.in-Ok.ensures.turns _ c.finish.ensures
 
 pub returns-in-Ok-clause-report : goal.returns-in-Ok-clause-report
 returns-in-Ok-clause-report g c = reported c.reports_are_of_runs.ensures.exactly _ _ _ (returns-in-Ok-clause-ending g c)
