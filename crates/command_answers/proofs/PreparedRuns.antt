@@ -23,7 +23,7 @@ use Rattle.command_runs.specs.Laws.{GoodIsFew}
 use Rattle.command_runs.specs.Reports.{report_text}
 use Rattle.command_runs.specs.Sample.{IsSampleText}
 use Rattle.command_words.specs.declared.command.Command.TheVariants.{Document, Sample}
-use Rattle.command_words.specs.declared.command.DocumentCommand.TheVariants.{Run}
+use Rattle.command_words.specs.declared.command.DocumentCommand.TheVariants.{Run, Tickets}
 use Rattle.command_answers.specs.declared.answer.Answer.{Answer}
 use Rattle.command_answers.specs.declared.answer.Maker.{Maker}
 use Rattle.command_answers.specs.declared.answer.Maker.TheVariants as maker
@@ -33,9 +33,9 @@ use Rattle.command_answers.specs.declared.answer.Telling.TheVariants as telling
 use Rattle.command_answers.specs.declared.status.Status.TheVariants as status
 use Rattle.command_answers.specs.Commands.{IsDocumentOf}
 use Rattle.command_answers.specs.Reads.{nothing, whole}
-use Rattle.command_answers.specs.Outcomes.{of_run}
+use Rattle.command_answers.specs.Outcomes.{of_run, of_tickets}
 use Rattle.command_answers.specs.Owed.{IsOwed, served, sampled}
-use Rattle.command_answers.specs.Answers.{IsCounted, IsPrepared, ReachedBy, TellsReport, Tells, of_document, of_number, done_with, turn_maker}
+use Rattle.command_answers.specs.Answers.{IsCounted, IsPrepared, IsRunFor, ReachedBy, TellsReport, Tells, of_document, of_number, done_with, turn_maker}
 
 -- what workers leave, an interleaving gives
 reached_by : (m : Maker) (g : Setup) (report : Report) → m ≡ maker.Workers → ReachedBy m g report → Reached g report
@@ -57,6 +57,28 @@ prepares serials a bytes run h its_program its_shape its_lists its_telling its_m
       (reached_by run.maker (setup (verdict_shown run.runner) run.world run.lists) report its_maker reached)
       (λ few. serials (verdict_shown run.runner) run.world run.lists report few good)));
 }
+
+-- the same run, whose commits draw their places
+abbrev pub with_tickets : Prepared → Prepared
+with_tickets run = record run { maker = maker.Tickets }
+
+module _ (serials : OneListIsSerial) (bytes : List ℕ) (run : Prepared) (prepared : IsPrepared (Some (Document Run)) (whole bytes) run) where
+  tickets_from : IsRunFor run (Some (Document Run)) (whole bytes) → IsPrepared (Some (Document Tickets)) (whole bytes) (with_tickets run)
+  tickets_from (of_document _ _ a h its_program its_shape its_lists its_telling its_maker) = record {
+    its_maker = refl;
+    its_lists = of_document Tickets bytes a h its_program its_shape its_lists its_telling refl;
+    there = prepared.there;
+    few = prepared.few;
+    owed = λ report text good reached tells.
+        let whole_text : text ≡ report_text a.version (length run.runner.vars) report = subst (λ (t : Telling). Tells t run.runner run.lists report text) its_telling tells in
+        subst (λ (t : List ℕ). IsOwed (Some (Document Tickets)) (whole bytes) status.Done (Some report) t) (sym whole_text)
+        (served Tickets bytes a status.Done (Some report) (report_text a.version (length run.runner.vars) report) h
+        (of_tickets (record { program = run.runner; start = run.world; lists = run.lists; its_program = its_program; its_shape = its_shape; its_lists = its_lists }) report good reached
+        (λ few. serials (verdict_shown run.runner) run.world run.lists report few good)));
+  }
+
+  pub prepares_tickets : IsPrepared (Some (Document Tickets)) (whole bytes) (with_tickets run)
+  prepares_tickets = tickets_from prepared.its_lists
 
 -- the run of a number's sample, whose report has few entries
 few_of_sample : GoodIsFew → (run : Prepared) (report : Report) → run.lists ≡ sample_lists → Good (verdict_shown run.runner) run.world run.lists report → AreCountable report.journal.entries

@@ -12,6 +12,7 @@ use Rattle.claim_core.specs.Turns.{CallerLists}
 use Rattle.claim_core.specs.Machine.{Setup, setup}
 use Rattle.claim_core.specs.Good.{Good}
 use Rattle.claim_core.specs.Reached.{Reached}
+use Rattle.claim_core.specs.Tickets.{TicketReached}
 use Rattle.action_tree.specs.Trees.{Program}
 use Rattle.action_meaning.specs.Verdicts.{verdict_shown}
 use Rattle.shape_files.specs.Documents.{Contents}
@@ -26,6 +27,7 @@ use Rattle.command_runs.specs.Sample.{IsSampleText}
 use Rattle.command_words.specs.declared.command.Command.{Command}
 use Rattle.command_words.specs.declared.command.Command.TheVariants.{Document, Sample}
 use Rattle.command_words.specs.declared.command.DocumentCommand.{DocumentCommand}
+use Rattle.command_words.specs.declared.command.DocumentCommand.TheVariants.{Tickets}
 use Rattle.command_answers.specs.declared.answer.Answer.{Answer}
 use Rattle.command_answers.specs.declared.answer.Maker.{Maker}
 use Rattle.command_answers.specs.declared.answer.Maker.TheVariants as maker
@@ -35,7 +37,7 @@ use Rattle.command_answers.specs.declared.answer.Task.TheVariants as task
 use Rattle.command_answers.specs.declared.answer.Telling.{Telling}
 use Rattle.command_answers.specs.declared.answer.Telling.TheVariants as telling
 use Rattle.command_answers.specs.declared.status.Status.TheVariants as status
-use Rattle.command_answers.specs.Commands.{IsDocumentOf, IsWorked, TurnMaker, maker_of, the_workers}
+use Rattle.command_answers.specs.Commands.{IsDocumentOf, NeedsWorkers, TurnMaker, maker_of, the_tickets, the_workers}
 use Rattle.command_answers.specs.Lines.{refusal_line}
 use Rattle.command_answers.specs.Reads.{Read, nothing, whole}
 use Rattle.command_answers.specs.Owed.{IsOwed}
@@ -100,14 +102,17 @@ IsCounted (telling.Sample seed) report = AreCountable report.journal.entries
 -- what the table calls those who are to make turns
 abbrev pub turn_maker : Maker → TurnMaker
 turn_maker maker.Workers = the_workers
+turn_maker maker.Tickets = the_tickets
 
 -- who is to make the turns of the lists of a document
 abbrev pub maker_for : DocumentCommand → Maker
+maker_for Tickets = maker.Tickets
 maker_for c = maker.Workers
 
 -- their steps give the report
 abbrev pub ReachedBy : Maker → Setup → Report → Type 0
 ReachedBy maker.Workers g report = Reached g report
+ReachedBy maker.Tickets g report = TicketReached g report
 
 -- whose lists are to be run, under which program and from which shape on, which text the run gets, and who makes its turns
 pub data IsRunFor (run : Prepared) : Option Command → Read → Type 0 where
@@ -147,7 +152,7 @@ pub record IsPrepared (command : Option Command) (read : Read) (run : Prepared) 
 abbrev pub IsTaskOf : DocumentCommand → List ℕ → Task → Type 0
 IsTaskOf c bytes (task.Answered answer) =
     IsOwed (Some (Document c)) (whole bytes) answer.status answer.report answer.text
-    × (IsWorked (Some (Document c)) → answer.status ≢ status.Done)
+    × (NeedsWorkers (Some (Document c)) → answer.status ≢ status.Done)
 IsTaskOf c bytes (task.Run run) = IsPrepared (Some (Document c)) (whole bytes) run
 
 -- the same for each whole input that is a document with these contents

@@ -33,6 +33,8 @@ pub enum Telling {
 pub enum Maker {
     /// A worker for each list.
     Workers,
+    /// A worker for each list, whose commits draw their places.
+    Tickets,
 }
 
 /// A run that is prepared: its decider, the world at its start, its callers' lists, which text it gets, and who makes its turns.

@@ -15,6 +15,7 @@ mod of_rounds;
 mod of_run;
 mod of_sample;
 mod of_show;
+mod of_tickets;
 mod recorded;
 mod renew_laws;
 mod replay_laws;
