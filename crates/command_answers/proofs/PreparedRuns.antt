@@ -64,7 +64,7 @@ with_tickets run = record run { maker = maker.Tickets }
 
 module _ (serials : OneListIsSerial) (bytes : List ℕ) (run : Prepared) (prepared : IsPrepared (Some (Document Run)) (whole bytes) run) where
   tickets_from : IsRunFor run (Some (Document Run)) (whole bytes) → IsPrepared (Some (Document Tickets)) (whole bytes) (with_tickets run)
-  tickets_from (of_document _ _ a h its_program its_shape its_lists its_telling its_maker) = record {
+  tickets_from (of_document c same a h its_program its_shape its_lists its_telling its_maker) = record {
     its_maker = refl;
     its_lists = of_document Tickets bytes a h its_program its_shape its_lists its_telling refl;
     there = prepared.there;
