@@ -14,6 +14,10 @@ mod fronts;
 #[cfg(test)]
 mod gates;
 #[cfg(test)]
+mod generated;
+#[cfg(test)]
+mod holding;
+#[cfg(test)]
 mod meetings;
 #[cfg(test)]
 mod old_values;

@@ -44,6 +44,15 @@ pub const MEETINGS: [&[&str]; 4] = [
 /// Two amoebots far from each other, each in the list of one caller.
 pub const TWO_APART: &[&str] = &[OUT, FAR, "lists\nturns 3\nlist 0\nlist 1\nend\n"];
 
+/// Four amoebots that are eight columns apart. In each turn each of them goes out or comes back.
+pub const FOUR_APART: &[&str] = &[
+    "amoebot 1\nprogram\naction out when contracted move expand head 0\n\
+    action back when expanded move contract head\nend\n",
+    "shape\narea 0 0 32 8\n",
+    "bot 3 3 3 3 0 +\nbot 11 3 11 3 0 +\nbot 19 3 19 3 0 +\nbot 27 3 27 3 0 +\n",
+    "end\nlists\nturns 64\nlist 0\nlist 1\nlist 2\nlist 3\nend\n",
+];
+
 /// Sixteen amoebots in a square of four by four that mark themselves, in this order in the list of each of sixteen callers.
 pub const SIXTEEN_FOR_SIXTEEN: &[&str] = &[
     MARK,

@@ -24,6 +24,9 @@ pub type Fault = (
     &'static str,
 );
 
+/// The words that make the turns of each list by a worker of its own.
+pub static ON_THREADS: [&str; 1] = ["run"];
+
 // ---- programs
 
 /// A contracted amoebot expands. Four lines.

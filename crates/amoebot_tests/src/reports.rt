@@ -24,14 +24,15 @@ pub(crate) struct Replayed {
     pub(crate) whole: Vec<u8>,
 }
 
-/// Runs the document, whose last byte is LF, and compares what `replay` says of it with the text behind it.
+/// Runs the document, whose last byte is LF, by a word, and compares what `replay` says of it with the text behind it.
 pub(crate) fn run_and_replay<R: Abort + Threads + Wait + Sync>(
     rt: &R,
     alloc: Global,
+    word: &str,
     document: &str,
 ) -> Result<Replayed, Fail> {
     let mut out = SureSink::new(alloc, 4_000_000)?;
-    let words = words(alloc, &["run"])?;
+    let words = words(alloc, &[word])?;
     let Ended {
         status,
         report,
@@ -57,7 +58,7 @@ pub(crate) fn run_and_replay<R: Abort + Threads + Wait + Sync>(
 }
 
 /// Whether the report is one of the document's run, by the checker.
-fn is_report_of(alloc: Global, document: &str, report: &Report) -> Result<bool, Fail> {
+pub(crate) fn is_report_of(alloc: Global, document: &str, report: &Report) -> Result<bool, Fail> {
     if document.len() > 1_000_000 {
         return Ok(false);
     }
@@ -77,7 +78,7 @@ fn reports_where_zones_meet_pass_the_checker_and_agree(rt: HostRuntime) -> Resul
     for pieces in MEETINGS {
         let document = joined(rt.alloc(), pieces)?;
         for _time in 0..20 {
-            let replayed = run_and_replay(&rt, rt.alloc(), document.as_str())?;
+            let replayed = run_and_replay(&rt, rt.alloc(), "run", document.as_str())?;
             let passes = is_report_of(rt.alloc(), document.as_str(), &replayed.report)?;
             assert!(rt; passes);
         }
@@ -88,7 +89,7 @@ fn reports_where_zones_meet_pass_the_checker_and_agree(rt: HostRuntime) -> Resul
 #[test]
 fn one_of_sixteen_callers_marks_the_amoebot(rt: HostRuntime) -> Result<(), Fail> {
     let document = joined(rt.alloc(), ONE_FOR_SIXTEEN)?;
-    let replayed = run_and_replay(&rt, rt.alloc(), document.as_str())?;
+    let replayed = run_and_replay(&rt, rt.alloc(), "run", document.as_str())?;
     assert_eq!(rt; replayed.report.journal.entries().len(), 1);
     assert_eq!(rt; replayed.report.turns.callers(), 16);
     Ok(())
@@ -97,7 +98,7 @@ fn one_of_sixteen_callers_marks_the_amoebot(rt: HostRuntime) -> Result<(), Fail>
 #[test]
 fn sixteen_callers_mark_each_amoebot_at_most_once(rt: HostRuntime) -> Result<(), Fail> {
     let document = joined(rt.alloc(), SIXTEEN_FOR_SIXTEEN)?;
-    let replayed = run_and_replay(&rt, rt.alloc(), document.as_str())?;
+    let replayed = run_and_replay(&rt, rt.alloc(), "run", document.as_str())?;
     assert!(rt; replayed.report.journal.entries().len() <= 16);
     let passes = is_report_of(rt.alloc(), document.as_str(), &replayed.report)?;
     assert!(rt; passes);
@@ -129,7 +130,7 @@ fn row_of_100(alloc: Global) -> Result<String, AllocError> {
 #[test]
 fn a_guarded_row_of_100_stays_connected(rt: HostRuntime) -> Result<(), Fail> {
     let document = row_of_100(rt.alloc())?;
-    let replayed = run_and_replay(&rt, rt.alloc(), document.as_str())?;
+    let replayed = run_and_replay(&rt, rt.alloc(), "run", document.as_str())?;
     assert_eq!(rt; replayed.report.turns.callers(), 4);
     let words = words(rt.alloc(), &["measure"])?;
     let mut out = SureSink::new(rt.alloc(), 4096)?;

@@ -3,7 +3,6 @@ ghost use Rattle.std.specs.declared.option.Option.{Option};
 use crate::commands::{COMPARED_AND_CHECKED, INTERLEAVINGS, MEASURED, NO_COMMANDS, SHOWN};
 use crate::failing::{is_unread, unread};
 use crate::faults::FAULTS;
-use crate::meetings::TWO_APART;
 use crate::pieces::{Fault, Row};
 use crate::runs::{RUNS, WHOLE_PROGRAMS};
 use activation::NoGate;
@@ -16,7 +15,6 @@ use std::sync::Wait;
 use std::test::Fail;
 use std::thread::Threads;
 use text_tokens::{Refusal, RefusalKind};
-use turn_workers::MeetGate;
 
 /// The worked example on one line.
 const ON_ONE_LINE: &str =
@@ -322,28 +320,6 @@ fn a_sample_is_told_in_six_lines_and_nothing_is_read(rt: HostRuntime) -> Result<
         }
         assert!(rt; !report.journal.entries().is_empty());
     }
-    Ok(())
-}
-
-/// Each turn waits in the gate, once it has claimed its zone, until both callers have come to that turn.
-/// One after another they would not meet.
-#[test]
-fn two_callers_meet_in_each_turn(rt: HostRuntime) -> Result<(), Fail> {
-    let document = joined(rt.alloc(), TWO_APART)?;
-    let words = words(rt.alloc(), &["run"])?;
-    let mut input = SureSource::new(rt.alloc(), document.as_bytes())?;
-    let mut out = SureSink::new(rt.alloc(), 4096)?;
-    let gate = MeetGate::new(2, 50_000_000);
-    let ended = run(
-        &rt,
-        rt.alloc(),
-        words.as_slice(),
-        &mut input,
-        &mut out,
-        &gate,
-    );
-    assert_eq!(rt; ended.status, Status::Done);
-    assert!(rt; gate.met());
     Ok(())
 }
 

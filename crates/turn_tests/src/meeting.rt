@@ -165,7 +165,7 @@ fn workers_decide_beside_each_other(rt: HostRuntime) -> Result<(), Fail> {
 }
 
 /// Sixteen contracted amoebots of which no two have a node of their zones in common.
-fn scattered(alloc: Global) -> Result<World, Fail> {
+pub fn scattered(alloc: Global) -> Result<World, Fail> {
     let mut bots = Vec::new(alloc);
     for number in 0..16u8 {
         bots.push(standing(3 * (number % 4) + 1, 3 * (number / 4) + 1, 0))?;
