@@ -14,6 +14,7 @@ use Rattle.claim_core.proofs.Places.{get-append_right}
 use Rattle.claim_core.proofs.MachineLemmas.{reverse-map}
 use Rattle.claim_rule.specs.Tokens.{Token, number_in}
 use Rattle.claim_rule.specs.Seating.{SeatsOf, IsFirst}
+use Rattle.claim_rule.specs.declared.manner.ByJournal.{ByJournal}
 use Rattle.node_claims.specs.declared.turn.Turn.{Turn}
 use Rattle.node_claims.specs.Answers.{mark_of}
 use Rattle.turn_workers.specs.declared.workers.Desk.{Desk}
@@ -30,7 +31,7 @@ module _ {D : Type 0} where
     pub clear : All (IsClear turns) desks
 
   -- desks are cleared from the back, and their seats are given back
-  pub record AreCleared (whole left : List (Desk D)) (old now : SeatsOf D) (kept : List (List Turn)) : Type 0 where
+  pub record AreCleared (whole left : List (Desk D)) (old now : SeatsOf D) (kept : List (List (Turn ByJournal))) : Type 0 where
     pub given : List (Desk D)
     pub all : whole ≡ left ++ given
     pub back : now ≡ record old { seats = out_before (map seat_at left) (map seat_at given) }
@@ -80,7 +81,7 @@ module _ {D : Type 0} (turns : ℕ) (old : SeatsOf D) where
           absurd (omega (arith, le, count, length-append (map seat_at desks) (o ∷ others), length-map desks seat_at))
 
 module _ {D : Type 0} (whole : List (Desk D)) (old : SeatsOf D) (taken : AreTaken old whole) where
-  pub none_cleared : (kept : List (List Turn)) → kept ≡ [] → AreCleared whole whole old old kept
+  pub none_cleared : (kept : List (List (Turn ByJournal))) → kept ≡ [] → AreCleared whole whole old old kept
   none_cleared kept none = record {
     given = [];
     all = sym (append-nil whole);
@@ -88,7 +89,7 @@ module _ {D : Type 0} (whole : List (Desk D)) (old : SeatsOf D) (taken : AreTake
     turns = none;
   }
 
-  module _ (left rest : List (Desk D)) (desk : Desk D) (now : SeatsOf D) (kept : List (List Turn)) (are : AreCleared whole left old now kept) (pops : left ≡ rest ++ desk ∷ []) where
+  module _ (left rest : List (Desk D)) (desk : Desk D) (now : SeatsOf D) (kept : List (List (Turn ByJournal))) (are : AreCleared whole left old now kept) (pops : left ≡ rest ++ desk ∷ []) where
     all : whole ≡ rest ++ desk ∷ are.given
     all = are.all ∙ ap (λ ds. ds ++ are.given) pops ∙ append_assoc rest (desk ∷ []) are.given
 
@@ -126,23 +127,23 @@ module _ {D : Type 0} (whole : List (Desk D)) (old : SeatsOf D) (taken : AreTake
         turns = ap (λ ks. ks ++ turns_at desk ∷ []) are.turns ∙ sym (reverse-append (turns_at desk ∷ []) (map turns_at are.given));
       }
 
-  pub all_cleared : (left : List (Desk D)) (now : SeatsOf D) (turns back : List (Vec Turn Global)) → AreCleared whole left old now (map (λ v. v.items) turns) → length left ≡ 0 → back ≡ reverse turns → map (λ v. v.items) back ≡ map turns_at whole
+  pub all_cleared : (left : List (Desk D)) (now : SeatsOf D) (turns back : List (Vec (Turn ByJournal) Global)) → AreCleared whole left old now (map (λ v. v.items) turns) → length left ≡ 0 → back ≡ reverse turns → map (λ v. v.items) back ≡ map turns_at whole
   all_cleared left now turns back are none is =
       ap (map (λ v. v.items)) is ∙ sym (reverse-map (λ v. v.items) turns) ∙ ap reverse are.turns ∙ reverse-reverse (map turns_at are.given) ∙ ap (map turns_at) (sym (are.all ∙ ap (λ ds. ds ++ are.given) (nil_from_length left none)))
 
 -- ---- marks
 
 -- the marks of the callers up to one are there, and the others have none
-abbrev pub filled_up_to : List (List Turn) → List (List Turn) → List (List Mark)
+abbrev pub filled_up_to : List (List (Turn ByJournal)) → List (List (Turn ByJournal)) → List (List Mark)
 filled_up_to done others = map marks_in done ++ map (λ _. []) others
 
 -- so many callers that have none
-pub none_filled : (turns : List (List Turn)) → replicate (length turns) [] ≡ filled_up_to [] turns
+pub none_filled : (turns : List (List (Turn ByJournal))) → replicate (length turns) [] ≡ filled_up_to [] turns
 none_filled [] = refl
 none_filled (t ∷ turns) = ap (λ zs. [] ∷ zs) (none_filled turns)
 
 -- the next caller's turns
-pub next_own : (whole done others : List (List Turn)) (d : List Turn) → whole ≡ done ++ others → length done < length whole → (rest : List (List Turn)) × (others ≡ get_or whole (length done) d ∷ rest)
+pub next_own : (whole done others : List (List (Turn ByJournal))) (d : List (Turn ByJournal)) → whole ≡ done ++ others → length done < length whole → (rest : List (List (Turn ByJournal))) × (others ≡ get_or whole (length done) d ∷ rest)
 next_own whole done [] d is lt = absurd (omega (arith, lt, ap length (is ∙ append-nil done)))
 next_own whole done (o ∷ others) d is lt = (others, ap (λ own. own ∷ others) (sym (get_or_from_slice_get whole (length done) o d (ap (λ xs. slice_get xs (length done)) is ∙ get-append_right done (o ∷ others) 0 (length done) (omega arith)))))
 
@@ -153,16 +154,16 @@ copied_one [] c own m lt = absurd (omega (arith, lt))
 copied_one (x ∷ ms) zero own m lt = ap (λ z. z ∷ ms) (append_assoc x own (m ∷ []))
 copied_one (x ∷ ms) (suc c) own m lt = ap (λ zs. x ∷ zs) (copied_one ms c own m (omega (arith, lt)))
 
-pub one_filled : (done others : List (List Turn)) (own : List Turn) → set (filled_up_to done (own ∷ others)) (length done) (get_or (filled_up_to done (own ∷ others)) (length done) [] ++ marks_in own) ≡ filled_up_to (done ++ own ∷ []) others
+pub one_filled : (done others : List (List (Turn ByJournal))) (own : List (Turn ByJournal)) → set (filled_up_to done (own ∷ others)) (length done) (get_or (filled_up_to done (own ∷ others)) (length done) [] ++ marks_in own) ≡ filled_up_to (done ++ own ∷ []) others
 one_filled [] others own = refl
 one_filled (d ∷ done) others own = ap (λ zs. marks_in d ∷ zs) (one_filled done others own)
 
-pub none_yet : (done others : List (List Turn)) (own : List Turn) → get_or (filled_up_to done (own ∷ others)) (length done) [] ≡ []
+pub none_yet : (done others : List (List (Turn ByJournal))) (own : List (Turn ByJournal)) → get_or (filled_up_to done (own ∷ others)) (length done) [] ≡ []
 none_yet [] others own = refl
 none_yet (d ∷ done) others own = none_yet done others own
 
 -- the marks of one more turn
-pub one_more : (old now new : MarkLists) (c : ℕ) (own : List Turn) (k : ℕ) (turn : Turn) (m : Mark) → c < length old.marks → k < length own → now ≡ with_marks old c (marks_in (take k own)) → turn ≡ get_or own k turn → m ≡ mark_of turn
+pub one_more : (old now new : MarkLists) (c : ℕ) (own : List (Turn ByJournal)) (k : ℕ) (turn : Turn ByJournal) (m : Mark) → c < length old.marks → k < length own → now ≡ with_marks old c (marks_in (take k own)) → turn ≡ get_or own k turn → m ≡ mark_of turn
     → new ≡ record { turns = now.turns; marks = set now.marks c (marks_of now c ++ m ∷ []) } → new ≡ with_marks old c (marks_in (take (k + 1) own))
 one_more old now new c own k turn m lt inside is read marked added =
     let next : take (suc k) own ≡ take k own ++ turn ∷ [] = take-suc own k turn inside ∙ ap (λ t. take k own ++ t ∷ []) (sym read) in
@@ -171,19 +172,19 @@ one_more old now new c own k turn m lt inside is read marked added =
     ∙ ap (with_marks old c) (sym (map-append mark_of (take k own) (turn ∷ [])) ∙ ap marks_in (sym next) ∙ ap (λ n. marks_in (take n own)) after)
 
 -- the marks of the first so many callers are copied
-pub record AreFilled (whole : List (List Turn)) (old now : MarkLists) (k c : ℕ) : Type 0 where
-  pub done : List (List Turn)
-  pub others : List (List Turn)
+pub record AreFilled (whole : List (List (Turn ByJournal))) (old now : MarkLists) (k c : ℕ) : Type 0 where
+  pub done : List (List (Turn ByJournal))
+  pub others : List (List (Turn ByJournal))
   pub all : whole ≡ done ++ others
   pub at : length done ≡ k
   pub caller : c ≡ k
   pub marks : now ≡ record old { marks = filled_up_to done others }
 
-pub first_filled : (whole : List (List Turn)) (old : MarkLists) → old ≡ record { turns = old.turns; marks = replicate (length whole) [] } → AreFilled whole old old 0 0
+pub first_filled : (whole : List (List (Turn ByJournal))) (old : MarkLists) → old ≡ record { turns = old.turns; marks = replicate (length whole) [] } → AreFilled whole old old 0 0
 first_filled whole old none = record { done = []; others = whole; all = refl; at = refl; caller = refl; marks = none ∙ ap (λ ms. record old { marks = ms }) (none_filled whole) }
 
-module _ (whole : List (List Turn)) (old now : MarkLists) (k c : ℕ) (are : AreFilled whole old now k c) (inside : k < length whole) (own : List Turn) (is : own ≡ get_or whole k []) where
-  abbrev next : (rest : List (List Turn)) × (are.others ≡ get_or whole (length are.done) [] ∷ rest)
+module _ (whole : List (List (Turn ByJournal))) (old now : MarkLists) (k c : ℕ) (are : AreFilled whole old now k c) (inside : k < length whole) (own : List (Turn ByJournal)) (is : own ≡ get_or whole k []) where
+  abbrev next : (rest : List (List (Turn ByJournal))) × (are.others ≡ get_or whole (length are.done) [] ∷ rest)
   next = next_own whole are.done are.others [] are.all (omega (arith, inside, are.at))
 
   others_are : are.others ≡ own ∷ next.0
@@ -201,7 +202,7 @@ module _ (whole : List (List Turn)) (old now : MarkLists) (k c : ℕ) (are : Are
   pub has_room : All (λ o. length o ≡ old.turns) whole → length (marks_of now c) + length own ≤ now.turns
   has_room all =
       let none : length (marks_of now c) ≡ 0 = ap (λ (ms : List Mark). length ms) has_none in
-      let full : length own ≡ old.turns = ap (λ (o : List Turn). length o) is ∙ all k [] inside in
+      let full : length own ≡ old.turns = ap (λ (o : List (Turn ByJournal)). length o) is ∙ all k [] inside in
       let turns : now.turns ≡ old.turns = ap (λ (m : MarkLists). m.turns) are.marks in
       omega (arith, none, full, turns)
 

@@ -2,6 +2,7 @@
 use Rattle.std.proofs.Common.{◌≡◌, ℕ, zero, suc, ◌+◌, List, [], ◌∷◌, map, Some, ap, sym, subst, refl, ◌∙◌, arith}
 use Rattle.std.specs.Prelude.{slice_get}
 use Rattle.std.proofs.lemmas.Option.{same_Some}
+use Rattle.claim_rule.specs.declared.manner.ByJournal.{ByJournal}
 use Rattle.node_claims.specs.declared.turn.Turn.{Turn}
 use Rattle.node_claims.specs.Answers.{caller_of, turn_of, mark_of}
 use Rattle.node_claims.proofs.Answered.{one_turn}
@@ -17,7 +18,7 @@ without_first [] = []
 without_first (x ∷ xs) = xs
 
 -- turns in a row
-some_turns : (one two : List Turn) (c from : ℕ) → map mark_of one ≡ map mark_of two → ((k : ℕ) (a : Turn) → slice_get one k ≡ Some a → (caller_of a ≡ c) × (turn_of a ≡ from + k)) → ((k : ℕ) (a : Turn) → slice_get two k ≡ Some a → (caller_of a ≡ c) × (turn_of a ≡ from + k)) → one ≡ two
+some_turns : (one two : List (Turn ByJournal)) (c from : ℕ) → map mark_of one ≡ map mark_of two → ((k : ℕ) (a : Turn ByJournal) → slice_get one k ≡ Some a → (caller_of a ≡ c) × (turn_of a ≡ from + k)) → ((k : ℕ) (a : Turn ByJournal) → slice_get two k ≡ Some a → (caller_of a ≡ c) × (turn_of a ≡ from + k)) → one ≡ two
 some_turns [] [] c from m f g = refl
 some_turns [] (b ∷ two) c from m f g = absurd (cc)
 some_turns (a ∷ one) [] c from m f g = absurd (cc)
@@ -27,7 +28,7 @@ some_turns (a ∷ one) (b ∷ two) c from m f g =
     λ i. one_turn a b (one_is.0 ∙ sym two_is.0) (one_is.1 ∙ sym two_is.1) (ap (first (mark_of a)) m) i ∷ some_turns one two c (from + 1) (ap without_first m)
     (λ k x e. ((f (suc k) x e).0, (let n = (f (suc k) x e).1 in omega (arith, n)))) (λ k x e. ((g (suc k) x e).0, (let n = (g (suc k) x e).1 in omega (arith, n)))) i
 
-all_turns : (one two : List (List Turn)) (from : ℕ) → map marks_in one ≡ map marks_in two → ((c k : ℕ) (a : Turn) → turn_at one c k ≡ Some a → (caller_of a ≡ from + c) × (turn_of a ≡ k)) → ((c k : ℕ) (a : Turn) → turn_at two c k ≡ Some a → (caller_of a ≡ from + c) × (turn_of a ≡ k)) → one ≡ two
+all_turns : (one two : List (List (Turn ByJournal))) (from : ℕ) → map marks_in one ≡ map marks_in two → ((c k : ℕ) (a : Turn ByJournal) → turn_at one c k ≡ Some a → (caller_of a ≡ from + c) × (turn_of a ≡ k)) → ((c k : ℕ) (a : Turn ByJournal) → turn_at two c k ≡ Some a → (caller_of a ≡ from + c) × (turn_of a ≡ k)) → one ≡ two
 all_turns [] [] from m f g = refl
 all_turns [] (b ∷ two) from m f g = absurd (cc)
 all_turns (a ∷ one) [] from m f g = absurd (cc)
@@ -42,12 +43,12 @@ turns_are_one told one two are other =
 
 -- ---- an example
 
-small_each : (caller turn : ℕ) (answer : Turn) → turn_at small_turns caller turn ≡ Some answer → (caller_of answer ≡ caller) × (turn_of answer ≡ turn)
-small_each zero zero a e = subst (λ (x : Turn). (caller_of x ≡ 0) × (turn_of x ≡ 0)) (same_Some _ a e) (refl, refl)
-small_each zero (suc zero) a e = subst (λ (x : Turn). (caller_of x ≡ 0) × (turn_of x ≡ 1)) (same_Some _ a e) (refl, refl)
+small_each : (caller turn : ℕ) (answer : Turn ByJournal) → turn_at small_turns caller turn ≡ Some answer → (caller_of answer ≡ caller) × (turn_of answer ≡ turn)
+small_each zero zero a e = subst (λ (x : Turn ByJournal). (caller_of x ≡ 0) × (turn_of x ≡ 0)) (same_Some _ a e) (refl, refl)
+small_each zero (suc zero) a e = subst (λ (x : Turn ByJournal). (caller_of x ≡ 0) × (turn_of x ≡ 1)) (same_Some _ a e) (refl, refl)
 small_each zero (suc (suc k)) a e = absurd (cc)
-small_each (suc zero) zero a e = subst (λ (x : Turn). (caller_of x ≡ 1) × (turn_of x ≡ 0)) (same_Some _ a e) (refl, refl)
-small_each (suc zero) (suc zero) a e = subst (λ (x : Turn). (caller_of x ≡ 1) × (turn_of x ≡ 1)) (same_Some _ a e) (refl, refl)
+small_each (suc zero) zero a e = subst (λ (x : Turn ByJournal). (caller_of x ≡ 1) × (turn_of x ≡ 0)) (same_Some _ a e) (refl, refl)
+small_each (suc zero) (suc zero) a e = subst (λ (x : Turn ByJournal). (caller_of x ≡ 1) × (turn_of x ≡ 1)) (same_Some _ a e) (refl, refl)
 small_each (suc zero) (suc (suc k)) a e = absurd (cc)
 small_each (suc (suc c)) k a e = absurd (cc)
 

@@ -21,6 +21,7 @@ use Rattle.claim_rule.specs.Views.{setup_of_terms}
 use Rattle.claim_rule.specs.Tokens.{FieldOf, Token, number_in, doing}
 use Rattle.claim_rule.specs.declared.views.Terms.{Terms}
 use Rattle.claim_rule.specs.Seating.{SeatsOf}
+use Rattle.claim_rule.specs.Manners.{by_journal}
 use Rattle.claim_rule.specs.Stands.{records_from}
 use Rattle.claim_rule.specs.Closing.{ClosesAs, marks_at_seat}
 use Rattle.claim_rule.specs.Opened.{first_records, first_seats, seat_with}
@@ -114,11 +115,11 @@ module _ {D : Type 0} (verdict : D → Shown → Verdict) (f : FieldOf D) where
 
     -- once the field is closed, they are a report that some interleaving gives
     pub is_report : (z : Terms D) → f.terms ≡ z → laws.EndedFieldIsReached verdict → IsSetup (setup_of_terms verdict z) → length desks ≡ length z.lists.ids
-        → (seats : List (Option (Token D))) → seats ≡ map seat_at desks → (world : Config) (journal : Kept) → ClosesAs verdict f.terms seats world journal
+        → (seats : List (Option (Token D))) → seats ≡ map seat_at desks → (world : Config) (journal : Kept) → ClosesAs by_journal verdict f.terms seats world journal
         → (marks : MarkLists) → marks ≡ record { turns = z.lists.turns; marks = map marks_in (map turns_at desks) }
         → Reached (setup_of_terms verdict z) (record { world = world; journal = journal; turns = marks }) × Good (verdict z.decider) z.world z.lists (record { world = world; journal = journal; turns = marks })
     is_report z terms law run count seats are world journal closes marks told =
-        let report = law z (map seat_at desks) world journal run (length-map desks seat_at ∙ count) all_there all_ended (subst (λ (p : Terms D × List (Option (Token D))). ClosesAs verdict p.0 p.1 world journal) (λ i. (terms i, are i)) closes) in
+        let report = law z (map seat_at desks) world journal run (length-map desks seat_at ∙ count) all_there all_ended (subst (λ (p : Terms D × List (Option (Token D))). ClosesAs by_journal verdict p.0 p.1 world journal) (λ i. (terms i, are i)) closes) in
         let same : record { turns = z.lists.turns; marks = map marks_at_seat (map seat_at desks) } ≡ marks = ap (λ ms. record { turns = z.lists.turns; marks = ms }) marks_are ∙ sym told in
         subst (λ (ms : MarkLists). Reached (setup_of_terms verdict z) (record { world = world; journal = journal; turns = ms }) × Good (verdict z.decider) z.world z.lists (record { world = world; journal = journal; turns = ms })) same report
 

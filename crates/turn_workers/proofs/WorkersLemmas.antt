@@ -9,6 +9,7 @@ use Rattle.claim_core.specs.declared.state.Caller.{Caller}
 use Rattle.claim_rule.specs.Views.{setup_of_terms, setup_at}
 use Rattle.claim_rule.specs.Plays.{about}
 use Rattle.claim_rule.specs.Tokens.{FieldOf, Token, IsOf, number_in, doing}
+use Rattle.claim_rule.specs.declared.manner.ByJournal.{ByJournal}
 use Rattle.node_claims.specs.Claims.{at_next}
 use Rattle.node_claims.specs.declared.turn.Turn.{Turn}
 use Rattle.node_claims.specs.Answers.{HasAnswered, caller_of, turn_of, mark_of}
@@ -44,7 +45,7 @@ module _ {D : Type 0} (verdict : D → Shown → Verdict) (f : FieldOf D) (c t :
   is_next = sym (ap (λ (k : Caller). k.turn) stands)
 
   -- the turn is made
-  pub one_made : (new : Token D) (answer : Turn) (now : Desk D) → HasAnswered verdict seat new answer → IsOf f new → now.seat ≡ Some new → now.turns.items ≡ old.turns.items ++ answer ∷ [] → f.terms.lists.turns ≤ vec_capacity now.turns → HasMade verdict f c (t + 1) now
+  pub one_made : (new : Token D) (answer : Turn ByJournal) (now : Desk D) → HasAnswered verdict seat new answer → IsOf f new → now.seat ≡ Some new → now.turns.items ≡ old.turns.items ++ answer ∷ [] → f.terms.lists.turns ≤ vec_capacity now.turns → HasMade verdict f c (t + 1) now
   one_made new answer now answered of put pushed room = record {
     seat = new;
     there = put;

@@ -4,23 +4,24 @@ use Rattle.std.specs.declared.option.Option.{Option}
 use Rattle.std.specs.declared.option.Option.TheVariants.{Some}
 use Rattle.claim_core.specs.declared.marks.Mark.{Mark}
 use Rattle.claim_core.specs.Turns.{MarkLists}
+use Rattle.claim_rule.specs.declared.manner.ByJournal.{ByJournal}
 use Rattle.node_claims.specs.declared.turn.Turn.{Turn}
 use Rattle.node_claims.specs.Answers.{caller_of, turn_of, mark_of}
 
 -- what became of a caller's turns, and of one of them, if the caller has it
-abbrev pub turns_of : List (List Turn) → ℕ → List Turn
+abbrev pub turns_of : List (List (Turn ByJournal)) → ℕ → List (Turn ByJournal)
 turns_of turns caller = slice_index_or turns caller []
 
-abbrev pub turn_at : List (List Turn) → ℕ → ℕ → Option Turn
+abbrev pub turn_at : List (List (Turn ByJournal)) → ℕ → ℕ → Option (Turn ByJournal)
 turn_at turns caller turn = slice_get (turns_of turns caller) turn
 
 -- the marks of some turns
-abbrev pub marks_in : List Turn → List Mark
+abbrev pub marks_in : List (Turn ByJournal) → List Mark
 marks_in turns = map mark_of turns
 
 -- the turns of each caller, each with this caller and its number, have the caller's marks in their order, and there are no others
-pub record AreTurnsOf (told : MarkLists) (turns : List (List Turn)) : Type 0 where
+pub record AreTurnsOf (told : MarkLists) (turns : List (List (Turn ByJournal))) : Type 0 where
   pub marks : told.marks ≡ map marks_in turns
-  pub each : (caller turn : ℕ) (answer : Turn)
+  pub each : (caller turn : ℕ) (answer : Turn ByJournal)
       → turn_at turns caller turn ≡ Some answer
       → (caller_of answer ≡ caller) × (turn_of answer ≡ turn)

@@ -12,6 +12,7 @@ use Rattle.claim_core.specs.Machine.{Setup, caller, opening_phase}
 use Rattle.claim_rule.specs.Views.{setup_of_terms}
 use Rattle.claim_rule.specs.Tokens.{FieldOf, Token, IsOf, number_in, doing}
 use Rattle.claim_rule.specs.Seating.{SeatsOf}
+use Rattle.claim_rule.specs.declared.manner.ByJournal.{ByJournal}
 use Rattle.node_claims.specs.declared.turn.Turn.{Turn}
 use Rattle.node_claims.specs.Answers.{caller_of, turn_of}
 use Rattle.turn_workers.specs.declared.workers.Desk.{Desk}
@@ -29,7 +30,7 @@ module _ {D : Type 0} where
   abbrev pub seat_at : Desk D → Option (Token D)
   seat_at desk = desk.seat
 
-  abbrev pub turns_at : Desk D → List Turn
+  abbrev pub turns_at : Desk D → List (Turn ByJournal)
   turns_at desk = desk.turns.items
 
   -- a desk at which no turn was made, with room for so many
@@ -61,7 +62,7 @@ module _ {D : Type 0} where
       pub doing : doing seat ≡ caller_between_turns (setup_of_terms verdict f.terms) t (marks_in desk.turns.items)
       pub count : length desk.turns.items ≡ t
       pub room : f.terms.lists.turns ≤ vec_capacity desk.turns
-      pub each : (turn : ℕ) (answer : Turn)
+      pub each : (turn : ℕ) (answer : Turn ByJournal)
           → slice_get desk.turns.items turn ≡ Some answer
           → (caller_of answer ≡ c) × (turn_of answer ≡ turn)
 

@@ -12,9 +12,10 @@ pub struct Turns {
 
 impl Model for Turns {
     ghost use Rattle.std.specs.Prelude.{List, map};
+    ghost use Rattle.claim_rule.specs.declared.manner.ByJournal.{ByJournal};
     ghost use Rattle.node_claims.specs.declared.turn.Turn.{Turn};
 
-    ghost Value = { List (List Turn) };
+    ghost Value = { List (List (Turn ByJournal)) };
 
     ghost view = { λ t. map (λ v. v.items) t.turns.items };
 }

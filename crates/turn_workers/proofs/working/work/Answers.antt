@@ -8,6 +8,7 @@ use Rattle.claim_core.specs.Soundness.{IsSetup}
 use Rattle.claim_rule.specs.Views.{setup_of_terms, field_terms}
 use Rattle.claim_rule.specs.declared.views.Terms.{Terms}
 use Rattle.claim_rule.specs.Seating.{SeatsOf}
+use Rattle.claim_rule.specs.declared.manner.ByJournal.{ByJournal}
 use Rattle.node_claims.specs.declared.turn.Turn.{Turn}
 use Rattle.turn_workers.specs.declared.workers.Desk.{Desk}
 use Rattle.turn_workers.specs.Turns.{AreTurnsOf, marks_in}
@@ -48,7 +49,7 @@ of_marks : (g : Over) (c : After-make_all g) → c.in_ok-marks.marks.turns ≡ c
 of_marks g c = ap (λ (m : MarkLists). m.turns) c.in_ok-marks.ensures ∙ c.turns.ensures
 
 -- the turns that are kept of the desks
-kept : (g : Over) (c : After-make_all g) (turns : List (List Turn)) → turns ≡ map turns_at (take c.in_ok-desks.desks.len (c.make_all.new.desks ++ drop (length c.make_all.new.desks) c.in_ok-desks.desks.items)) → turns ≡ map turns_at c.make_all.new.desks
+kept : (g : Over) (c : After-make_all g) (turns : List (List (Turn ByJournal))) → turns ≡ map turns_at (take c.in_ok-desks.desks.len (c.make_all.new.desks ++ drop (length c.make_all.new.desks) c.in_ok-desks.desks.items)) → turns ≡ map turns_at c.make_all.new.desks
 kept g c turns are = are ∙ ap (map turns_at) (whole g c)
 
 -- the field is closed, and what is left is a report
@@ -86,14 +87,14 @@ close-world-requires-clause-all g c κs within =
 pub copy_marks-requires-clause-few : goal.copy_marks-requires-clause-few
 copy_marks-requires-clause-few g c =
     let at = (goal.at.copy_marks-requires-clause-few g c).After-make_all in
-    let number : length c.clear-turns.result ≡ length c.args.lists.now.ids = ap (λ (ts : List (List Turn)). length ts) (kept g at c.clear-turns.result c.clear-turns.ensures.turns) ∙ length-map c.make_all.new.desks turns_at ∙ callers g at in
+    let number : length c.clear-turns.result ≡ length c.args.lists.now.ids = ap (λ (ts : List (List (Turn ByJournal))). length ts) (kept g at c.clear-turns.result c.clear-turns.ensures.turns) ∙ length-map c.make_all.new.desks turns_at ∙ callers g at in
     subst (λ (p : ℕ × ℕ). AreFew p.0 p.1) (λ i. (sym number i, sym (of_marks g at) i)) c.callers.ensures.lists.few
 
 pub copy_marks-requires-clause-all : goal.copy_marks-requires-clause-all
 copy_marks-requires-clause-all g c =
     let at = (goal.at.copy_marks-requires-clause-all g c).After-make_all in
     let made = kept g at c.clear-turns.result c.clear-turns.ensures.turns in
-    subst (λ (p : ℕ × List (List Turn)). All (λ own. length own ≡ p.0) p.1) (λ i. (sym (of_marks g at) i, sym made i)) (all_turns g.D.Decider.verdict c.in_ok-field.field c.args.lists.now.turns (turns_are g at) c.make_all.new.desks c.make_all.ensures.after)
+    subst (λ (p : ℕ × List (List (Turn ByJournal))). All (λ own. length own ≡ p.0) p.1) (λ i. (sym (of_marks g at) i, sym made i)) (all_turns g.D.Decider.verdict c.in_ok-field.field c.args.lists.now.turns (turns_are g at) c.make_all.new.desks c.make_all.ensures.after)
 
 pub returns-clause-reached : goal.returns-clause-reached
 returns-clause-reached g c = (report g c).0

@@ -1,7 +1,7 @@
 use Rattle.std.proofs.Common.{drop}
 use Rattle.amoebot_state.specs.Configs.{Config}
 use Rattle.amoebot_state.specs.Steps.{Run}
-use Rattle.claim_rule.proofs.close.apply_all.Given as goal
+use Rattle.claim_rule.proofs.close.apply_entries.Given as goal
 
 -- the entries that are left lead on to the last world of all
 abbrev pub invariant-loop-entry : goal.invariant-loop-entry

@@ -2,7 +2,7 @@ use Rattle.std.proofs.Common.{Some, ap, sym, ◌∙◌}
 use Rattle.std.proofs.lemmas.Option.{slice_get-get_or}
 use Rattle.amoebot_state.specs.declared.verdict.Entry.{Entry}
 use Rattle.claim_rule.proofs.Closes.{follows}
-use Rattle.claim_rule.proofs.close.apply_all.Goals as goal
+use Rattle.claim_rule.proofs.close.apply_entries.Goals as goal
 
 -- src/close.rt
 pub loop-entry-preserved : goal.loop-entry-preserved

@@ -3,7 +3,7 @@ use Rattle.std.specs.Prelude.{IsSome}
 use Rattle.std.specs.List.{All}
 use Rattle.claim_rule.specs.Seating.{SeatsOf}
 use Rattle.claim_rule.proofs.Deals.{first_are_there}
-use Rattle.claim_rule.proofs.field.Field.make.Goals as goal
+use Rattle.claim_rule.proofs.make.Field+D.make.Goals as goal
 
 -- src/make.rt
 pub returns-clause-all : goal.returns-clause-all
