@@ -117,6 +117,7 @@ fn workers_of_a_sample_meet_and_come_to_the_gate(rt: HostRuntime) -> Result<(), 
         status,
         report,
         turns: _,
+        tickets: _,
     } = run(
         &rt,
         rt.alloc(),

@@ -4,7 +4,7 @@
 ghost use Rattle.std.specs.Prelude.{◌≡◌, ◌≤◌, ◌<◌, IfOk};
 
 use crate::pieces::ON_THREADS;
-use crate::reports::{is_report_of, run_and_replay};
+use crate::reports::right_report;
 use crate::tests::words;
 use amoebot_run::{Status, run_text};
 use outer_io::SureSink;
@@ -240,27 +240,15 @@ fn each_word_writes_one_text_of_one_list(rt: HostRuntime) -> Result<(), Fail> {
     Ok(())
 }
 
-/// By each word the report of the document passes the checker, and its text agrees.
-fn leave_right_reports<R: Abort + Threads + Wait + Sync>(
-    rt: &R,
-    alloc: Global,
-    document: &str,
-) -> Result<(), Fail> {
-    for word in ON_THREADS {
-        let replayed = run_and_replay(rt, alloc, word, document)?;
-        let passes = is_report_of(alloc, document, &replayed.report)?;
-        assert!(rt; passes, "{word} of {document}");
-    }
-    Ok(())
-}
-
-/// A hundred documents of two to sixteen lists.
+/// A hundred documents of two to sixteen lists, by each word.
 #[test]
 fn each_word_leaves_right_reports_of_several_lists(rt: HostRuntime) -> Result<(), Fail> {
     for seed in 101..201u64 {
         let lists = 2 + (seed % 15) as u32;
         let document = generated(rt.alloc(), seed, lists)?;
-        leave_right_reports(&rt, rt.alloc(), document.as_str())?;
+        for word in ON_THREADS {
+            right_report(&rt, rt.alloc(), word, document.as_str())?;
+        }
     }
     Ok(())
 }

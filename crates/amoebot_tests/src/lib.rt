@@ -42,4 +42,6 @@ mod tampered;
 #[cfg(test)]
 mod tests;
 #[cfg(test)]
+mod tickets;
+#[cfg(test)]
 mod walls;

@@ -1,8 +1,9 @@
-//! Reports of `run` on threads, by programs from their texts.
+//! Reports of `run` and of `tickets` on threads, by programs from their texts.
 //! Each is judged by a plain checker that knows the model and nothing of claims.
 //! Its text, behind the document, agrees under `replay`.
 
-use crate::meetings::{MEETINGS, ONE_FOR_SIXTEEN, SIXTEEN_FOR_SIXTEEN};
+use crate::meetings::{MEETINGS, ONE_FOR_SIXTEEN, SIXTEEN_APART, SIXTEEN_FOR_SIXTEEN};
+use crate::pieces::ON_THREADS;
 use crate::tests::{check, joined, words};
 use action_eval::Runner;
 use amoebot_run::{Ended, Status, run_text};
@@ -37,9 +38,10 @@ pub(crate) fn run_and_replay<R: Abort + Threads + Wait + Sync>(
         status,
         report,
         turns,
+        tickets,
     } = run_text(rt, alloc, words.as_slice(), document.as_bytes(), &mut out);
     assert_eq!(rt; status, Status::Done);
-    assert!(rt; turns.is_some());
+    assert!(rt; turns.is_some() == (word == "run") && tickets.is_some() == (word == "tickets"));
     let report = report.ok_or("a report")?;
     let mut whole: Vec<u8> = Vec::new(alloc);
     whole.extend_from_slice(document.as_bytes())?;
@@ -72,36 +74,67 @@ pub(crate) fn is_report_of(alloc: Global, document: &str, report: &Report) -> Re
     is_report(alloc, &runner, &world, &lists, report)
 }
 
-/// Eighty runs, of two, four and sixteen lists.
+/// Runs the document by a word. The report passes the checker, and the text behind the document agrees.
+pub(crate) fn right_report<R: Abort + Threads + Wait + Sync>(
+    rt: &R,
+    alloc: Global,
+    word: &str,
+    document: &str,
+) -> Result<Report, Fail> {
+    let Replayed { report, whole: _ } = run_and_replay(rt, alloc, word, document)?;
+    let passes = is_report_of(alloc, document, &report)?;
+    assert!(rt; passes, "{word} of {document}");
+    Ok(report)
+}
+
+/// Eighty runs by each word, of two, four and sixteen lists.
 #[test]
 fn reports_where_zones_meet_pass_the_checker_and_agree(rt: HostRuntime) -> Result<(), Fail> {
     for pieces in MEETINGS {
         let document = joined(rt.alloc(), pieces)?;
         for _time in 0..20 {
-            let replayed = run_and_replay(&rt, rt.alloc(), "run", document.as_str())?;
-            let passes = is_report_of(rt.alloc(), document.as_str(), &replayed.report)?;
-            assert!(rt; passes);
+            for word in ON_THREADS {
+                right_report(&rt, rt.alloc(), word, document.as_str())?;
+            }
         }
     }
     Ok(())
 }
 
-#[test]
-fn one_of_sixteen_callers_marks_the_amoebot(rt: HostRuntime) -> Result<(), Fail> {
-    let document = joined(rt.alloc(), ONE_FOR_SIXTEEN)?;
-    let replayed = run_and_replay(&rt, rt.alloc(), "run", document.as_str())?;
-    assert_eq!(rt; replayed.report.journal.entries().len(), 1);
-    assert_eq!(rt; replayed.report.turns.callers(), 16);
+/// Documents of sixteen callers, and how many entries there are at least and at most.
+static FOR_SIXTEEN: [(&[&str], usize, usize); 3] = [
+    // One of them marks the amoebot.
+    (ONE_FOR_SIXTEEN, 1, 1),
+    // They mark each amoebot at most once.
+    (SIXTEEN_FOR_SIXTEEN, 0, 16),
+    // Their zones never meet, and each of their turns commits.
+    (SIXTEEN_APART, 256, 256),
+];
+
+/// By this word the sixteen callers leave so many entries.
+fn check_sixteen<R: Abort + Threads + Wait + Sync>(
+    rt: &R,
+    alloc: Global,
+    word: &str,
+) -> Result<(), Fail> {
+    for (pieces, least, most) in &FOR_SIXTEEN {
+        let document = joined(alloc, pieces)?;
+        let report = right_report(rt, alloc, word, document.as_str())?;
+        let entries = report.journal.entries().len();
+        assert!(rt;
+            *least <= entries && entries <= *most,
+            "{entries} by {word}"
+        );
+        assert_eq!(rt; report.turns.callers(), 16);
+    }
     Ok(())
 }
 
 #[test]
-fn sixteen_callers_mark_each_amoebot_at_most_once(rt: HostRuntime) -> Result<(), Fail> {
-    let document = joined(rt.alloc(), SIXTEEN_FOR_SIXTEEN)?;
-    let replayed = run_and_replay(&rt, rt.alloc(), "run", document.as_str())?;
-    assert!(rt; replayed.report.journal.entries().len() <= 16);
-    let passes = is_report_of(rt.alloc(), document.as_str(), &replayed.report)?;
-    assert!(rt; passes);
+fn sixteen_callers_leave_right_reports(rt: HostRuntime) -> Result<(), Fail> {
+    for word in ON_THREADS {
+        check_sixteen(&rt, rt.alloc(), word)?;
+    }
     Ok(())
 }
 
@@ -127,24 +160,30 @@ fn row_of_100(alloc: Global) -> Result<String, AllocError> {
     Ok(text)
 }
 
+/// By this word the row is as it was in number, and connected.
+fn check_row<R: Abort + Threads + Wait + Sync>(
+    rt: &R,
+    alloc: Global,
+    word: &str,
+    document: &str,
+) -> Result<(), Fail> {
+    let replayed = run_and_replay(rt, alloc, word, document)?;
+    assert_eq!(rt; replayed.report.turns.callers(), 4);
+    let words = words(alloc, &["measure"])?;
+    let mut out = SureSink::new(alloc, 4096)?;
+    let whole = replayed.whole.as_slice();
+    let ended = run_text(rt, alloc, words.as_slice(), whole, &mut out);
+    assert_eq!(rt; ended.status, Status::Done);
+    let text = "bots 100\nconnected yes\n";
+    assert!(rt; out.bytes().starts_with(text.as_bytes()));
+    Ok(())
+}
+
 #[test]
 fn a_guarded_row_of_100_stays_connected(rt: HostRuntime) -> Result<(), Fail> {
     let document = row_of_100(rt.alloc())?;
-    let replayed = run_and_replay(&rt, rt.alloc(), "run", document.as_str())?;
-    assert_eq!(rt; replayed.report.turns.callers(), 4);
-    let words = words(rt.alloc(), &["measure"])?;
-    let mut out = SureSink::new(rt.alloc(), 4096)?;
-    let ended = run_text(
-        &rt,
-        rt.alloc(),
-        words.as_slice(),
-        replayed.whole.as_slice(),
-        &mut out,
-    );
-    assert_eq!(rt; ended.status, Status::Done);
-    assert!(rt;
-        out.bytes()
-            .starts_with("bots 100\nconnected yes\n".as_bytes())
-    );
+    for word in ON_THREADS {
+        check_row(&rt, rt.alloc(), word, document.as_str())?;
+    }
     Ok(())
 }

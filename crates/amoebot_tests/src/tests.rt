@@ -129,7 +129,7 @@ fn check_line<R: Abort + Threads + Wait + Sync, S: Source>(
     let ended = call(rt, alloc, texts, input, &mut out)?;
     assert_eq!(rt; ended.status, status);
     assert!(rt; ended.report.is_none());
-    assert!(rt; ended.turns.is_none());
+    assert!(rt; ended.turns.is_none() && ended.tickets.is_none());
     assert_eq!(rt; out.bytes(), line.as_bytes());
     assert!(rt; out.whole());
     Ok(())
@@ -180,7 +180,7 @@ fn looks_at_no_document_above_the_limit(rt: HostRuntime) -> Result<(), Fail> {
         (0, RefusalKind::TooLong, "refused 0 TooLong\n"),
     ] {
         let status = Status::Refused(Refusal { line, kind });
-        for word in ["run", "interleave", "check"] {
+        for word in ["run", "tickets", "interleave", "check"] {
             check(
                 &rt,
                 rt.alloc(),
@@ -265,7 +265,7 @@ impl Sink for FailingSink {
 #[test]
 fn judges_the_words_before_it_reads(rt: HostRuntime) -> Result<(), Fail> {
     let usage =
-        "usage: run / interleave / replay / check / measure / show NAME / sample NUMBER / renew / rewind NUMBER / rounds / elect\n";
+        "usage: run / interleave / replay / check / measure / show NAME / sample NUMBER / renew / rewind NUMBER / rounds / elect / tickets\n";
     for texts in &NO_COMMANDS {
         let mut input = unread(rt.alloc())?;
         check_line(&rt, rt.alloc(), texts, &mut input, Status::Words, usage)?;
@@ -300,6 +300,7 @@ fn a_sample_is_told_in_six_lines_and_nothing_is_read(rt: HostRuntime) -> Result<
             status,
             report,
             turns,
+            tickets,
         } = call(&rt, rt.alloc(), &["sample", number], &mut input, &mut out)?;
         assert_eq!(rt; status, Status::Done);
         let lines = joined(
@@ -311,7 +312,7 @@ fn a_sample_is_told_in_six_lines_and_nothing_is_read(rt: HostRuntime) -> Result<
         )?;
         assert_eq!(rt; out.bytes(), lines.as_bytes());
         assert!(rt; is_unread(&mut input));
-        assert!(rt; turns.is_some());
+        assert!(rt; turns.is_some() && tickets.is_none());
         let report = report.ok_or("a report")?;
         assert_eq!(rt; report.world.bots(), 150);
         assert_eq!(rt; report.turns.callers(), 4);
